@@ -70,9 +70,10 @@ static const unsigned char f_static_28[9] = {96, 134, 72, 1, 101, 3, 4, 2, 2};
 static const unsigned char f_static_29[9] = {96, 134, 72, 1, 101, 3, 4, 2, 3};
 static const unsigned char f_static_30[9] = {42, 134, 72, 134, 247, 13, 1, 1, 8};
 static const unsigned char f_static_31[5] = {43, 14, 3, 2, 26};
-static const unsigned char f_static_33[9] = {42, 134, 72, 134, 247, 13, 1, 1, 10};
+static const unsigned char f_static_32[18] = {2, 1, 0, 48, 13, 6, 9, 42, 134, 72, 134, 247, 13, 1, 1, 1, 5, 0};
+static const unsigned char f_static_34[9] = {42, 134, 72, 134, 247, 13, 1, 1, 10};
 static const u64 f_switch_table_pkcs1_c_status_text[22] = {9u, 23u, 72u, 47u, 57u, 98u, 92u, 102u, 83u, 52u, 101u, 90u, 70u, 102u, 107u, 42u, 25u, 20u, 14u, 14u, 14u, 49u};
-static const P f_switch_table_pkcs1_c_status_text_169[22] = {(P)f_static_2, (P)f_static_3, (P)f_static_4, (P)f_static_5, (P)f_static_6, (P)f_static_7, (P)f_static_8, (P)f_static_9, (P)f_static_10, (P)f_static_11, (P)f_static_12, (P)f_static_13, (P)f_static_14, (P)f_static_15, (P)f_static_16, (P)f_static_17, (P)f_static_18, (P)f_static_19, (P)f_static_21, (P)f_static_21, (P)f_static_21, (P)f_static_20};
+static const P f_switch_table_pkcs1_c_status_text_170[22] = {(P)f_static_2, (P)f_static_3, (P)f_static_4, (P)f_static_5, (P)f_static_6, (P)f_static_7, (P)f_static_8, (P)f_static_9, (P)f_static_10, (P)f_static_11, (P)f_static_12, (P)f_static_13, (P)f_static_14, (P)f_static_15, (P)f_static_16, (P)f_static_17, (P)f_static_18, (P)f_static_19, (P)f_static_21, (P)f_static_21, (P)f_static_21, (P)f_static_20};
 static u1 f_core_cmp_slices_groups_equal_i8_31_core_cmp_number(P v_a0, u64 v_a1, P v_a2);
 static void f_pkcs1_params_algorithm_AnyFromAlgorithm_from_algor(P v_a0, P v_a1, u64 v_a2);
 static u1 f_spki_core_object_identifier_has_no_80(P v_a0, u64 v_a1);
@@ -17809,7 +17810,7 @@ L_join_5_i_preheader_i:;
     v_r20_i_3_i = (u1)(((u32)(v_r20_i_2_i) | (u32)(v_r7_i_i_i_3_i)) & 1);
     if (v_r20_i_3_i) { goto L_then_1_i1099; } else { goto L_core_cmp_PartialEq_ne_4f69ed2539eb7fe9_exit; }
 L_core_cmp_PartialEq_ne_4f69ed2539eb7fe9_exit:;
-    v_r83_i_i2362 = f_core_cmp_slices_groups_equal_i8_31_core_cmp_number(v_r6_i15_sroa_0_33518, v_r3_i25_i_i1604, (P)f_static_33);
+    v_r83_i_i2362 = f_core_cmp_slices_groups_equal_i8_31_core_cmp_number(v_r6_i15_sroa_0_33518, v_r3_i25_i_i1604, (P)f_static_34);
     if (v_r83_i_i2362) { goto L_join_3_i1059; } else { goto L_then_1_i1099; }
 L_then_1_i1099:;
     fill(v_r0_sroa_31_sroa_55, 0u, 6u);
@@ -27736,7 +27737,7 @@ L_switch_lookup:;
     v_switch_gep = (P)f_switch_table_pkcs1_c_status_text + (int64_t)(v_1 * 8);
     v_switch_load = get_u64(v_switch_gep);
     v_2 = (u64)v_a0;
-    v_switch_gep1 = (P)f_switch_table_pkcs1_c_status_text_169 + (int64_t)(v_2 * 8);
+    v_switch_gep1 = (P)f_switch_table_pkcs1_c_status_text_170 + (int64_t)(v_2 * 8);
     v_switch_load2 = get_P(v_switch_gep1);
     { p_v_r1_sroa_22_0_i_i = v_switch_load; p_v_r1_sroa_0_0_i_i = v_switch_load2; goto L_pkcs1_c_status_pkcs1_c_status_text_exit; }
 L_pkcs1_c_status_pkcs1_c_status_text_exit:;
@@ -30064,84 +30065,106 @@ L_pkcs1_c_private_key_pkcs1_c_private_key_decode_exi:;
     return v_r8_0_i;
 }
 u32 pkcs1_c_private_key_info_decode(P v_a0, u64 v_a1, P v_a2, P v_a3, P v_a4, u64 v_a5) {
+    ALIGNED(1) unsigned char m_v_r3_i2949_i_i[39];
+    ALIGNED(1) unsigned char m_v_r0_i1015_sroa_0_i_sroa_13_i[30];
+    ALIGNED(1) unsigned char m_v_r8_i1011_sroa_0_i_sroa_13_i[30];
+    ALIGNED(1) unsigned char m_v_r13_i349_sroa_0_sroa_0_i_sroa_14_i[30];
+    ALIGNED(1) unsigned char m_v_r30_i83_sroa_15_sroa_0_i_sroa_14_i[30];
+    ALIGNED(1) unsigned char m_v_r0_i49_sroa_27_sroa_0_i_sroa_14_i[30];
+    ALIGNED(1) unsigned char m_v_r9_i10_sroa_11_sroa_0_i_sroa_14_i[30];
+    ALIGNED(1) unsigned char m_v_r13_sroa_17_sroa_0_sroa_0_i_sroa_13_i[30];
     ALIGNED(1) unsigned char m_v_r2_i_i_i_i_i[40];
     ALIGNED(8) unsigned char m_v_r0_i_i_i[184];
-    ALIGNED(1) unsigned char m_v_r3_i2949_i_i_i_i[39];
-    ALIGNED(1) unsigned char m_v_r0_i1015_sroa_0_i_i_i_i[39];
-    ALIGNED(1) unsigned char m_v_r8_i1011_sroa_0_i_i_i_i[39];
-    ALIGNED(8) unsigned char m_v_r13_i349_sroa_0_sroa_0_i_i_i_i[39];
-    ALIGNED(4) unsigned char m_v_r30_i83_sroa_15_sroa_0_i_i_i_i[43];
-    ALIGNED(4) unsigned char m_v_r0_i49_sroa_27_sroa_0_i_i_i_i[43];
-    ALIGNED(4) unsigned char m_v_r9_i10_sroa_11_sroa_0_i_i_i_i[43];
-    ALIGNED(4) unsigned char m_v_r13_sroa_17_sroa_0_sroa_0_i_i_i_i[43];
-    ALIGNED(4) unsigned char m_v_r8_i65_sroa_16_i_i_i[43];
-    ALIGNED(4) unsigned char m_v_r30_i23_sroa_15_sroa_0_sroa_0_i_i_i[43];
-    ALIGNED(4) unsigned char m_v_r0_i1_sroa_27_sroa_0_sroa_0_i_i_i[43];
-    ALIGNED(4) unsigned char m_v_r15_i_sroa_11_sroa_0_sroa_0_i_i_i[43];
-    ALIGNED(4) unsigned char m_v_r0_sroa_21_sroa_0_i_i_i[43];
+    ALIGNED(1) unsigned char m_v_r8_i651_i_i_sroa_29_i[30];
+    ALIGNED(1) unsigned char m_v_r15_i175_sroa_11_sroa_0_sroa_13_i_i_i[30];
     ALIGNED(8) unsigned char m_v_r3_i25_i[112];
-    ALIGNED(4) unsigned char m_v_r10_sroa_9_i_i[43];
+    ALIGNED(1) unsigned char m_v_r10_sroa_29_i_i[30];
     ALIGNED(1) unsigned char m_v_r13_sroa_16_i_sroa_24_i[16];
     ALIGNED(8) unsigned char m_v_r5_i_i[24];
     ALIGNED(1) unsigned char m_v_r8_sroa_17_sroa_25_i[16];
-    u64 p_v_r4_i_sroa_12_2917_i_i_i;
-    P p_v_r4_i_sroa_0_2915_i_i_i;
+    u64 p_v_r4_i_sroa_12_22588_i_i_i;
+    P p_v_r4_i_sroa_0_22586_i_i_i;
     u64 p_v_r12_sroa_10_0_i_i_i_i;
-    P p_v_r13_sroa_0_0_copyload_i_i1760_i_i_i_i;
-    u64 p_v_r36_i_i1757_i_i_i_i;
-    u32 p_v_r12_sroa_10_0_i_i_i_i_i;
-    P p_v_r13_sroa_0_0_copyload_i_i2074_i_i_i_i;
-    u64 p_v_r36_i_i2071_i_i_i_i;
-    u64 p_v_r12_sroa_10_0_i2009_i_i_i_i;
-    u64 p_v_r6_i71_sroa_23_34821_i_i_i_i;
-    P p_v_r6_i71_sroa_0_34819_i_i_i_i;
-    u32 p_v_r12_sroa_10_0_i2280_i_i_i_i;
-    u64 p_v_r6_i71_sroa_23_95003_i_i_i_i;
-    P p_v_r6_i71_sroa_0_95001_i_i_i_i;
-    u64 p_v_r12_sroa_10_0_i2687_i_i_i_i;
-    u8 p_v_r10_i348_sroa_7_0_ph_i_i_i_i;
-    u64 p_v_r6_i593_sroa_28_sroa_0_0_i_i_i_i;
-    P p_v_r6_i593_sroa_28_sroa_8_0_i_i_i_i;
-    u64 p_v_r6_i593_sroa_28_sroa_12_0_i_i_i_i;
-    u64 p_v_r6_i593_sroa_234029_sroa_0_0_i_i_i_i;
-    P p_v_r13_sroa_0_0_copyload_i_i3235_i_i_i_i;
-    u64 p_v_r36_i_i3232_i_i_i_i;
-    u64 p_v_r12_sroa_10_0_i3170_i_i_i_i;
-    P p_v_r13_sroa_0_0_copyload_i_i333_i_i_i_i_i;
-    u64 p_v_r36_i_i330_i_i_i_i_i;
-    u64 p_v_r12_sroa_10_0_i_i_i_i_i_i;
-    u8 p_v_r0_i49_sroa_9_0_ph_i_i_i_i;
-    u8 p_v_r13_sroa_5_0_ph_i_i_i_i;
-    u64 p_v_spec_select1093_i_i_i;
+    P p_v_r5_sroa_28_sroa_0_0_i_i_i;
+    u64 p_v_r5_sroa_28_sroa_10_0_i_i_i;
+    u64 p_v_r5_sroa_19_sroa_0_0_i_i_i;
+    u8 p_v_r29_i1128_i_i_i;
+    u64 p_v_r19_i_i_i1175_i_i331337349_i;
+    P p_v_r16_i_i_i1174_i_i330338348_i;
+    u1 p_v_r8_i22_i416_i184189_i329339347_i;
+    u8 p_v_r29_i1176_i_i327340346_i;
+    u64 p_v_r12_sroa_10_0_i1289_i_i352_i;
+    P p_v_r4_i164_sroa_0_22772_i_i351_i;
+    u64 p_v_r4_i164_sroa_12_22774_i_i350_i;
+    P p_v_r13_sroa_0_0_copyload_i_i1760_i_i;
+    u64 p_v_r36_i_i1757_i_i;
+    u32 p_v_r12_sroa_10_0_i_i_i;
+    P p_v_r13_sroa_0_0_copyload_i_i2074_i_i;
+    u64 p_v_r36_i_i2071_i_i;
+    u64 p_v_r12_sroa_10_0_i2009_i_i;
+    u64 p_v_r6_i71_sroa_23_34821_i_i;
+    P p_v_r6_i71_sroa_0_34819_i_i;
+    u32 p_v_r12_sroa_10_0_i2280_i_i;
+    u64 p_v_r6_i71_sroa_23_95003_i_i;
+    P p_v_r6_i71_sroa_0_95001_i_i;
+    u64 p_v_r12_sroa_10_0_i2687_i_i;
+    u8 p_v_r10_i348_sroa_7_0_ph_i_i;
+    u64 p_v_r6_i593_sroa_28_sroa_0_0_i_i;
+    P p_v_r6_i593_sroa_28_sroa_8_0_i_i;
+    u64 p_v_r6_i593_sroa_28_sroa_12_0_i_i;
+    u64 p_v_r6_i593_sroa_234029_sroa_0_0_i_i;
+    P p_v_r13_sroa_0_0_copyload_i_i3235_i_i;
+    u64 p_v_r36_i_i3232_i_i;
+    u64 p_v_r12_sroa_10_0_i3170_i_i;
+    P p_v_r13_sroa_0_0_copyload_i_i333_i_i_i;
+    u64 p_v_r36_i_i330_i_i_i;
+    u64 p_v_r12_sroa_10_0_i_i_i93_i;
+    u8 p_v_r0_i49_sroa_9_0_ph_i_i;
+    u8 p_v_r13_sroa_5_0_ph_i_i;
     P p_v_spec_select_i_i_i;
-    u64 p_v_r7_i1501_sroa_174338_sroa_0_0_ph5456_i_i_i_i;
-    u8 p_v_r8_i65_sroa_0_sroa_7_0_ph_i_i_i;
-    u8 p_v_r0_i1_sroa_9_0_ph_i_i_i;
+    u64 p_v_spec_select2992_i_i_i;
+    u64 p_v_r7_i1501_sroa_174338_sroa_0_0_ph5456_i_i;
+    u8 p_v_r8_i651_i_i_sroa_0_sroa_8_0_ph_i;
+    u64 p_v_r0_sroa_49_sroa_8_0_sink_i94_i_i;
+    P p_v_r0_sroa_49_sroa_0_0_sink_i93_i_i;
+    u64 p_v_r0_sroa_48_0_sink_i92_i_i;
+    u64 p_v_r0_sroa_47_sroa_8_0_sink_i91_i_i;
+    P p_v_r0_sroa_47_sroa_0_0_sink_i90_i_i;
+    u64 p_v_r0_sroa_46_0_sink_i89_i_i;
+    P p_v_r0_sroa_45_0_sink_i88_i_i;
+    u64 p_v_r0_sroa_44_0_sink_i87_i_i;
+    u64 p_v_r0_sroa_43_0_sink_i86_i_i;
+    u8 p_v_r0_sroa_42_0_sink_i85_i_i;
+    u8 p_v_r10_sroa_27_084_i_i;
+    u8 p_v_r10_sroa_25_083_i_i;
+    u8 p_v_r10_sroa_23_082_i_i;
+    u8 p_v_r10_sroa_21_081_i_i;
+    u8 p_v_r10_sroa_19_080_i_i;
+    u8 p_v_r10_sroa_17_079_i_i;
+    u8 p_v_r10_sroa_15_078_i_i;
+    u8 p_v_r10_sroa_13_077_i_i;
+    u8 p_v_r10_sroa_1029_076_i_i;
     u8 p_v_r9_sroa_4_0_i_ph_i_i_i;
-    P p_v_r0_sroa_21_sroa_0_i_4_i_4_r38_i_sroa_idx_sink_i_i;
-    u8 p_v_r0_sroa_6_0_i_ph_i_i;
+    u8 p_v_r0_sroa_8_0_i_ph_i_i;
     u64 p_v_r3_i_sroa_5_0_copyload_i;
     P p_v_static_27_sink_i_i;
-    u8 p_v_r8_sroa_8_0_ph159_ph_i;
-    u8 p_v_r8_sroa_8_0_ph159_i;
+    u8 p_v_r8_sroa_8_0_ph314_ph_i;
+    u8 p_v_r8_sroa_8_0_ph314_i;
     u32 p_v_r9_0_i;
+    P v_r3_i2949_i_i;
+    P v_r0_i1015_sroa_0_i_sroa_13_i;
+    P v_r8_i1011_sroa_0_i_sroa_13_i;
+    P v_r13_i349_sroa_0_sroa_0_i_sroa_14_i;
+    P v_r30_i83_sroa_15_sroa_0_i_sroa_14_i;
+    P v_r0_i49_sroa_27_sroa_0_i_sroa_14_i;
+    P v_r9_i10_sroa_11_sroa_0_i_sroa_14_i;
+    P v_r13_sroa_17_sroa_0_sroa_0_i_sroa_13_i;
     P v_r2_i_i_i_i_i;
     P v_r0_i_i_i;
-    P v_r3_i2949_i_i_i_i;
-    P v_r0_i1015_sroa_0_i_i_i_i;
-    P v_r8_i1011_sroa_0_i_i_i_i;
-    P v_r13_i349_sroa_0_sroa_0_i_i_i_i;
-    P v_r30_i83_sroa_15_sroa_0_i_i_i_i;
-    P v_r0_i49_sroa_27_sroa_0_i_i_i_i;
-    P v_r9_i10_sroa_11_sroa_0_i_i_i_i;
-    P v_r13_sroa_17_sroa_0_sroa_0_i_i_i_i;
-    P v_r8_i65_sroa_16_i_i_i;
-    P v_r30_i23_sroa_15_sroa_0_sroa_0_i_i_i;
-    P v_r0_i1_sroa_27_sroa_0_sroa_0_i_i_i;
-    P v_r15_i_sroa_11_sroa_0_sroa_0_i_i_i;
-    P v_r0_sroa_21_sroa_0_i_i_i;
+    P v_r8_i651_i_i_sroa_29_i;
+    P v_r15_i175_sroa_11_sroa_0_sroa_13_i_i_i;
     P v_r3_i25_i;
-    P v_r10_sroa_9_i_i;
+    P v_r10_sroa_29_i_i;
     P v_r13_sroa_16_i_sroa_24_i;
     P v_r5_i_i;
     P v_r8_sroa_17_sroa_25_i;
@@ -30151,33 +30174,89 @@ u32 pkcs1_c_private_key_info_decode(P v_a0, u64 v_a1, P v_a2, P v_a3, P v_a4, u6
     u1 v_r10;
     u64 v_r12;
     P v_r13;
-    u1 v_r16_i91_i_i_i;
-    u1 v_r39_i_i105_i_i_i;
+    u1 v_r31_i13_i_i_i;
+    P v_r40_i15_i_i_i;
+    P v_r42_i16_i_i_i;
+    P v_r44_i17_i_i_i;
+    u64 v_r47_i18_i_i_i;
+    u8 v_r57_i19_i_i_i;
+    u1 v_r59_i20_i_i_i;
+    P v_r38_i27_i_i_i;
+    u8 v_r64_i28_i_i_i;
+    u1 v_r66_i29_i_i_i;
+    u8 v_r74_i31_i_i_i;
+    u1 v_r76_not_i32_i_i_i;
+    u64 v_r1_i_i_i_i;
+    u64 v_r88_i35_i_i_i;
+    u8 v_r90_i36_i_i_i;
+    u64 v_r1_i681_i_i_i;
+    u64 v_r95_i38_i_i_i;
+    u1 v_r7_i688_not_i_i_i;
+    P v_r16_i689_i_i_i;
+    u8 v_r16_val_i_i_i_i_i_i;
+    u1 v_r7_i_i_i_i_i_i_i;
+    P v_r16_i_i_1_i_i_i_i;
+    u8 v_r16_val_i_i_1_i_i_i_i;
+    u1 v_r7_i_i_i_1_i_i_i_i;
+    u1 v_r20_i_1_i_i_i_i;
+    P v_r16_i_i_2_i_i_i_i;
+    u8 v_r16_val_i_i_2_i_i_i_i;
+    u1 v_r7_i_i_i_2_i_i_i_i;
+    u1 v_r20_i_2_i_i_i_i;
+    P v_r16_i_i_3_i_i_i_i;
+    u8 v_r16_val_i_i_3_i_i_i_i;
+    u1 v_r7_i_i_i_3_i_i_i_i;
+    u1 v_r20_i_3_i_i_i_i;
+    u1 v_r83_i_i693_i_i_i;
+    P v_r40_i3_i_i_i;
+    P v_r42_i_i_i_i;
+    P v_r44_i_i_i_i;
+    u64 v_r47_i4_i_i_i;
+    u8 v_r57_i_i_i_i;
+    u1 v_r59_i_i_i_i;
+    P v_r38_i8_i_i_i;
+    u8 v_r64_i9_i_i_i;
+    u1 v_r66_i10_i_i_i;
+    u8 v_r74_i_i_i_i;
+    u1 v_r76_not_i_i_i_i;
+    u64 v_r1_i694_i_i_i;
+    u64 v_r88_i_i_i_i;
+    u8 v_r90_i_i_i_i;
+    u64 v_r1_i695_i_i_i;
+    u64 v_r95_i_i_i_i;
+    u1 v_r15_i696_i_i_i;
+    u1 v_r7_i732_i_i_i;
+    P v_r29_i698_i_i_i;
     P v_r16_i_i_i_i_i_i;
-    u8 v_r29_i107_i_i_i;
+    u64 v_0;
+    u64 v_r19_i_i_i_i_i_i;
+    u8 v_r29_i751_i_i_i;
     u1 v_r8_i22_i_i_i_i;
-    u8 v_r9_i120_i_i_i;
-    u1 v_r11_i121_i_i_i;
-    u8 v_0;
-    u1 v_1;
-    u1 v_r2_0_in_i_not_i_i_i;
-    u1 v_r39_i_i137_i_i_i;
-    P v_r16_i_i_i140_i_i_i;
-    u64 v_r19_i_i_i141_i_i_i;
-    u8 v_r29_i142_i_i_i;
+    u8 v_r9_i766_i_i_i;
+    u1 v_r11_i767_i_i_i;
+    u8 v_1;
+    u1 v_2;
+    u1 v_r2_0_in_i_not_not2997_i_i_i;
+    u1 v_r39_i_i783_i_i_i;
+    u1 v_or_cond2993_i_i_i;
+    u1 v_r39_i_i783_old_i_i_i;
+    P v_r16_i_i_i786_i_i_i;
+    u64 v_r19_i_i_i787_i_i_i;
+    u8 v_r29_i788_i_i_i;
     u1 v_r51_i62_i_i_i_i;
     u64 v_r56_i73_i_i_i_i;
     u1 v_r68_i64_i_i_i_i;
     u1 v_r87_i_i_i_i_i;
+    u1 v_or_cond_i_i_i;
     u8 v_r106_i_i_i_i_i;
     u64 v_r3_i25_i_i_i_i;
-    u1 v_r39_i185_i_i_i;
-    P v_r16_i_i187_i_i_i;
-    u64 v_r19_i_i188_i_i_i;
-    u8 v_r36_i219_i_i_i;
-    u1 v_r38_i220_i_i_i;
-    u8 v_r28_i216_i_i_i;
-    u1 v_r30_i217_i_i_i;
+    u1 v_r39_i832_i_i_i;
+    P v_r16_i_i834_i_i_i;
+    u64 v_r19_i_i835_i_i_i;
+    u8 v_r36_i866_i_i_i;
+    u1 v_r38_i867_i_i_i;
+    u8 v_r28_i863_i_i_i;
+    u1 v_r30_i864_i_i_i;
     u64 v_r71_i_i_i_i_i;
     u1 v_r74_i83_i_i_i_i;
     P v_r81_i107_i_i_i_i;
@@ -30215,467 +30294,570 @@ u32 pkcs1_c_private_key_info_decode(P v_a0, u64 v_a1, P v_a2, P v_a3, P v_a4, u6
     u8 v_r177_i_i_i_i_i;
     u64 v_r179_i_i_i_i_i;
     u64 v_r182_i_i_i_i_i;
-    u64 v_r4_i_sroa_12_2917_i_i_i;
-    P v_r4_i_sroa_0_2915_i_i_i;
+    u64 v_r4_i_sroa_12_22588_i_i_i;
+    P v_r4_i_sroa_0_22586_i_i_i;
     u64 v_r12_sroa_10_0_i_i_i_i;
-    u1 v_r39_i_i299_i_i_i;
-    u1 v_r39_i_i1568_i_i_i_i;
-    P v_r16_i_i_i1570_i_i_i_i;
-    u8 v_r29_i1572_i_i_i_i;
-    u1 v_r8_i22_i_i_i_i_i;
-    u8 v_r9_i1584_i_i_i_i;
-    u1 v_r11_i1585_i_i_i_i;
-    u8 v_2;
-    u1 v_3;
-    u1 v_r2_0_in_i_not_i_i_i_i;
-    u1 v_r39_i_i1601_i_i_i_i;
-    P v_r16_i_i_i1604_i_i_i_i;
-    u64 v_r19_i_i_i1605_i_i_i_i;
-    u8 v_r29_i1606_i_i_i_i;
-    u1 v_r51_i62_i_i_i_i_i;
-    u32 v_r56_i73_i_i_i_i_i;
-    u1 v_r68_i64_i_i_i_i_i;
-    u1 v_r87_i_i_i_i_i_i;
-    u8 v_r106_i_i_i_i_i_i;
-    u64 v_r3_i25_i_i336_i_i_i;
-    u1 v_r39_i1650_i_i_i_i;
-    P v_r16_i_i1652_i_i_i_i;
-    u64 v_r19_i_i1653_i_i_i_i;
-    u8 v_r36_i1677_i_i_i_i;
-    u1 v_r38_i1678_i_i_i_i;
-    u8 v_r28_i1674_i_i_i_i;
-    u1 v_r30_i1675_i_i_i_i;
-    u32 v_r71_i_i_i_i_i_i;
-    u1 v_r74_i83_i_i_i_i_i;
-    P v_r81_i107_i_i_i_i_i;
-    u32 v_r87_i109_i_i_i_i_i;
-    u32 v_r89_i_i_i_i_i_i;
-    u8 v_r91_i_i_i_i_i_i;
-    u32 v_r93_i110_i_i_i_i_i;
-    u32 v_r96_i111_i_i_i_i_i;
-    u1 v_r99_i85_i_i_i_i_i;
-    P v_r106_i96_i_i_i_i_i;
-    P v_r108_i97_i_i_i_i_i;
-    u32 v_r115_i99_i_i_i_i_i;
-    u32 v_r117_i100_i_i_i_i_i;
-    u8 v_r119_i101_i_i_i_i_i;
-    u32 v_r121_i102_i_i_i_i_i;
-    u32 v_r123_i103_i_i_i_i_i;
-    u32 v_r126_i104_i_i_i_i_i;
-    u8 v_r128_i_i_i_i_i_i;
-    u32 v_r130_i105_i_i_i_i_i;
-    u32 v_r133_i_i_i_i_i_i;
-    u1 v_r136_i87_i_i_i_i_i;
-    P v_r143_i88_i_i_i_i_i;
-    P v_r145_i89_i_i_i_i_i;
-    P v_r147_i90_i_i_i_i_i;
-    u32 v_r155_i92_i_i_i_i_i;
-    u32 v_r157_i93_i_i_i_i_i;
-    u8 v_r159_i94_i_i_i_i_i;
-    u32 v_r161_i_i_i_i_i_i;
-    u32 v_r163_i_i_i_i_i_i;
-    u32 v_r166_i_i_i_i_i_i;
-    u8 v_r168_i_i_i_i_i_i;
-    u32 v_r170_i_i_i_i_i_i;
-    u32 v_r172_i_i_i_i_i_i;
-    u32 v_r175_i_i_i_i_i_i;
-    u8 v_r177_i_i_i_i_i_i;
-    u32 v_r179_i_i_i_i_i_i;
-    u32 v_r182_i_i_i_i_i_i;
-    P v_r13_sroa_0_0_copyload_i_i1760_i_i_i_i;
-    u64 v_r36_i_i1757_i_i_i_i;
-    u32 v_r12_sroa_10_0_i_i_i_i_i;
-    u64 v_r3_i25_i_i_i_i_i_i;
-    u1 v_r39_i_i1758_i_i_i_i;
-    P v_r16_i_i_i1761_i_i_i_i;
-    u64 v_r19_i_i_i1762_i_i_i_i;
-    u1 v_r7_i_i_i_i_i_i_i_i;
-    u8 v_r60_i_i_i1797_i_i_i_i;
-    u1 v_r62_i_i_i1798_i_i_i_i;
-    u1 v_r74_i_i_i1799_i_i_i_i;
-    u1 v_cond_i_i_i_i_i_i_i;
-    u1 v_or_cond_i_i_i_i_i_i_i;
-    P v_r84_i_i_i1809_i_i_i_i;
-    u8 v_r87_i_i_i1810_i_i_i_i;
-    u1 v_r89_i_i_i1811_i_i_i_i;
-    u8 v_spec_select_i_i_i_i;
-    u1 v_r42_i_not_i_i_i_i_i;
-    u1 v_brmerge_not_i_i_i_i;
-    u1 v_r39_i_i1843_i_i_i_i;
-    P v_r16_i_i_i1846_i_i_i_i;
-    u8 v_r29_i1848_i_i_i_i;
-    u1 v_r8_i23_i_i_i_i_i;
-    u8 v_r9_i1870_i_i_i_i;
-    u1 v_r11_i1871_i_i_i_i;
-    u8 v_4;
-    u1 v_5;
-    u1 v_r2_0_in_i1872_not_i_i_i_i;
-    u1 v_r39_i_i1891_i_i_i_i;
-    P v_r16_i_i_i1894_i_i_i_i;
-    u64 v_r19_i_i_i1895_i_i_i_i;
-    u8 v_r29_i1896_i_i_i_i;
-    u1 v_r51_i63_i_i_i_i_i;
-    u64 v_r56_i74_i_i_i_i_i;
-    u1 v_r68_i65_i_i_i_i_i;
-    u1 v_r87_i_i254_i_i_i_i;
-    u8 v_r106_i_i256_i_i_i_i;
-    u64 v_r3_i25_i1938_i_i_i_i;
-    u1 v_r39_i1941_i_i_i_i;
-    P v_r16_i_i1945_i_i_i_i;
-    u64 v_r19_i_i1946_i_i_i_i;
-    u8 v_r36_i1983_i_i_i_i;
-    u1 v_r38_i1984_i_i_i_i;
-    u8 v_r28_i1979_i_i_i_i;
-    u1 v_r30_i1980_i_i_i_i;
-    u64 v_r71_i_i279_i_i_i_i;
-    u1 v_r74_i84_i_i_i_i_i;
-    P v_r81_i108_i_i_i_i_i;
-    u64 v_r87_i110_i_i_i_i_i;
-    u64 v_r89_i_i304_i_i_i_i;
-    u8 v_r91_i_i305_i_i_i_i;
-    u64 v_r93_i111_i_i_i_i_i;
-    u64 v_r96_i112_i_i_i_i_i;
-    u1 v_r99_i86_i_i_i_i_i;
-    P v_r106_i97_i_i_i_i_i;
-    P v_r108_i98_i_i_i_i_i;
-    u64 v_r115_i100_i_i_i_i_i;
-    u64 v_r117_i101_i_i_i_i_i;
-    u8 v_r119_i102_i_i_i_i_i;
-    u64 v_r121_i103_i_i_i_i_i;
-    u64 v_r123_i104_i_i_i_i_i;
-    u64 v_r126_i105_i_i_i_i_i;
-    u8 v_r128_i_i302_i_i_i_i;
-    u64 v_r130_i106_i_i_i_i_i;
-    u64 v_r133_i_i303_i_i_i_i;
-    u1 v_r136_i88_i_i_i_i_i;
-    P v_r143_i89_i_i_i_i_i;
-    P v_r145_i90_i_i_i_i_i;
-    P v_r147_i91_i_i_i_i_i;
-    u64 v_r155_i93_i_i_i_i_i;
-    u64 v_r157_i94_i_i_i_i_i;
-    u8 v_r159_i95_i_i_i_i_i;
-    u64 v_r161_i_i292_i_i_i_i;
-    u64 v_r163_i_i293_i_i_i_i;
-    u64 v_r166_i_i294_i_i_i_i;
-    u8 v_r168_i_i295_i_i_i_i;
-    u64 v_r170_i_i296_i_i_i_i;
-    u64 v_r172_i_i297_i_i_i_i;
-    u64 v_r175_i_i298_i_i_i_i;
-    u8 v_r177_i_i299_i_i_i_i;
-    u64 v_r179_i_i300_i_i_i_i;
-    u64 v_r182_i_i301_i_i_i_i;
-    P v_r13_sroa_0_0_copyload_i_i2074_i_i_i_i;
-    u64 v_r36_i_i2071_i_i_i_i;
-    u64 v_r12_sroa_10_0_i2009_i_i_i_i;
-    u1 v_r39_i_i2072_i_i_i_i;
-    P v_r16_i_i_i2075_i_i_i_i;
-    u64 v_r19_i_i_i2076_i_i_i_i;
-    u1 v_r39_i_i2114_i_i_i_i;
-    P v_r16_i_i_i2117_i_i_i_i;
-    u8 v_r29_i2119_i_i_i_i;
-    u1 v_r8_i22_i_i_i_i_i_i;
-    u8 v_r9_i2141_i_i_i_i;
-    u1 v_r11_i2142_i_i_i_i;
+    u1 v_r7_i_i1042_i_i_i;
+    u1 v_or_cond2996_i_i_i;
+    P v_r5_sroa_28_sroa_0_0_i_i_i;
+    u64 v_r5_sroa_28_sroa_10_0_i_i_i;
+    u64 v_r5_sroa_19_sroa_0_0_i_i_i;
+    u1 v_r16_i1091_i_i_i;
+    u64 v_r19_i_i_i1175_i_i325_i;
+    u1 v_r39_i_i1123_i_i_i;
+    u8 v_r29_i1128_i_pre_i_i;
+    u8 v_r29_i1128_i_i_i;
+    u1 v_r8_i22_i416_i_i_i;
+    u8 v_r9_i1150_i_i_i;
+    u1 v_r11_i1151_i_i_i;
+    u8 v_3;
+    u1 v_4;
+    u1 v_r2_0_in_i1152_not_i_i_i;
+    u1 v_r39_i_i1171_i_i_i;
+    P v_r16_i_i_i1126_i183190_i_phi_trans_insert_i;
+    u8 v_r29_i1176_i_i_pre_i;
+    P v_r16_i_i_i1174_i_i_i;
+    u64 v_r19_i_i_i1175_i_i_i;
+    u1 v_r51_i62_i506_i_i_i;
+    u1 v_r68_i64_i508_i_i_i;
+    u1 v_r87_i_i510_i_i_i;
+    u64 v_r19_i_i_i1175_i_i331337349_i;
+    P v_r16_i_i_i1174_i_i330338348_i;
+    u1 v_r8_i22_i416_i184189_i329339347_i;
+    u8 v_r29_i1176_i_i327340346_i;
+    u8 v_r106_i_i512_i_i_i;
+    u64 v_r3_i25_i1218_i_i_i;
+    u1 v_r39_i1221_i_i_i;
+    P v_5;
+    P v_r16_i_i1225_i_i_i;
+    u64 v_r19_i_i1226_i_i_i;
+    u8 v_r36_i1263_i_i_i;
+    u1 v_r38_i1264_i_i_i;
+    u8 v_r28_i1259_i_i_i;
+    u1 v_r30_i1260_i_i_i;
+    u64 v_r71_i_i538_i_i_i;
+    u1 v_r74_i83_i550_i_i_i;
+    P v_r81_i107_i588_i_i_i;
+    u64 v_r87_i109_i590_i_i_i;
+    u64 v_r89_i_i591_i_i_i;
+    u8 v_r91_i_i592_i_i_i;
+    u64 v_r93_i110_i593_i_i_i;
+    u64 v_r96_i111_i594_i_i_i;
+    u1 v_r99_i85_i552_i_i_i;
+    P v_r106_i96_i575_i_i_i;
+    P v_r108_i97_i576_i_i_i;
+    u64 v_r115_i99_i578_i_i_i;
+    u64 v_r117_i100_i579_i_i_i;
+    u8 v_r119_i101_i580_i_i_i;
+    u64 v_r121_i102_i581_i_i_i;
+    u64 v_r123_i103_i582_i_i_i;
+    u64 v_r126_i104_i583_i_i_i;
+    u8 v_r128_i_i584_i_i_i;
+    u64 v_r130_i105_i585_i_i_i;
+    u64 v_r133_i_i586_i_i_i;
+    u1 v_r136_i87_i554_i_i_i;
+    P v_r143_i88_i557_i_i_i;
+    P v_r145_i89_i558_i_i_i;
+    P v_r147_i90_i559_i_i_i;
+    u64 v_r155_i92_i561_i_i_i;
+    u64 v_r157_i93_i562_i_i_i;
+    u8 v_r159_i94_i563_i_i_i;
+    u64 v_r161_i_i564_i_i_i;
+    u64 v_r163_i_i565_i_i_i;
+    u64 v_r166_i_i566_i_i_i;
+    u8 v_r168_i_i567_i_i_i;
+    u64 v_r170_i_i568_i_i_i;
+    u64 v_r172_i_i569_i_i_i;
+    u64 v_r175_i_i570_i_i_i;
+    u8 v_r177_i_i571_i_i_i;
+    u64 v_r179_i_i572_i_i_i;
+    u64 v_r182_i_i573_i_i_i;
+    u64 v_r56_i73_i635_i_i_i;
+    u64 v_r12_sroa_10_0_i1289_i_i352_i;
+    P v_r4_i164_sroa_0_22772_i_i351_i;
+    u64 v_r4_i164_sroa_12_22774_i_i350_i;
+    u1 v_r39_i_i1352_i_i_i;
+    u1 v_r39_i_i1568_i_i;
+    P v_r16_i_i_i1570_i_i;
+    u8 v_r29_i1572_i_i;
+    u1 v_r8_i22_i_i_i;
+    u8 v_r9_i1584_i_i;
+    u1 v_r11_i1585_i_i;
     u8 v_6;
     u1 v_7;
-    u1 v_r2_0_in_i2143_not_i_i_i_i;
-    u1 v_r39_i_i2162_i_i_i_i;
-    P v_r16_i_i_i2165_i_i_i_i;
-    u64 v_r19_i_i_i2166_i_i_i_i;
-    u8 v_r29_i2167_i_i_i_i;
-    u1 v_r51_i62_i_i_i_i_i_i;
-    u32 v_r56_i73_i_i_i_i_i_i;
-    u1 v_r68_i64_i_i_i_i_i_i;
-    u1 v_r87_i_i_i_i_i_i_i;
-    u8 v_r106_i_i_i_i_i_i_i;
-    u64 v_r3_i25_i2209_i_i_i_i;
-    u1 v_r39_i2212_i_i_i_i;
-    P v_r16_i_i2216_i_i_i_i;
-    u64 v_r19_i_i2217_i_i_i_i;
-    u8 v_r36_i2254_i_i_i_i;
-    u1 v_r38_i2255_i_i_i_i;
-    u8 v_r28_i2250_i_i_i_i;
-    u1 v_r30_i2251_i_i_i_i;
-    u32 v_r71_i_i_i_i_i_i_i;
-    u1 v_r74_i83_i_i_i_i_i_i;
-    P v_r81_i107_i_i_i_i_i_i;
-    u32 v_r87_i109_i_i_i_i_i_i;
-    u32 v_r89_i_i_i_i_i_i_i;
-    u8 v_r91_i_i_i_i_i_i_i;
-    u32 v_r93_i110_i_i_i_i_i_i;
-    u32 v_r96_i111_i_i_i_i_i_i;
-    u1 v_r99_i85_i_i_i_i_i_i;
-    P v_r106_i96_i_i_i_i_i_i;
-    P v_r108_i97_i_i_i_i_i_i;
-    u32 v_r115_i99_i_i_i_i_i_i;
-    u32 v_r117_i100_i_i_i_i_i_i;
-    u8 v_r119_i101_i_i_i_i_i_i;
-    u32 v_r121_i102_i_i_i_i_i_i;
-    u32 v_r123_i103_i_i_i_i_i_i;
-    u32 v_r126_i104_i_i_i_i_i_i;
-    u8 v_r128_i_i_i_i_i_i_i;
-    u32 v_r130_i105_i_i_i_i_i_i;
-    u32 v_r133_i_i_i_i_i_i_i;
-    u1 v_r136_i87_i_i_i_i_i_i;
-    P v_r143_i88_i_i_i_i_i_i;
-    P v_r145_i89_i_i_i_i_i_i;
-    P v_r147_i90_i_i_i_i_i_i;
-    u32 v_r155_i92_i_i_i_i_i_i;
-    u32 v_r157_i93_i_i_i_i_i_i;
-    u8 v_r159_i94_i_i_i_i_i_i;
-    u32 v_r161_i_i_i_i_i_i_i;
-    u32 v_r163_i_i_i_i_i_i_i;
-    u32 v_r166_i_i_i_i_i_i_i;
-    u8 v_r168_i_i_i_i_i_i_i;
-    u32 v_r170_i_i_i_i_i_i_i;
-    u32 v_r172_i_i_i_i_i_i_i;
-    u32 v_r175_i_i_i_i_i_i_i;
-    u8 v_r177_i_i_i_i_i_i_i;
-    u32 v_r179_i_i_i_i_i_i_i;
-    u32 v_r182_i_i_i_i_i_i_i;
-    u64 v_r6_i71_sroa_23_34821_i_i_i_i;
-    P v_r6_i71_sroa_0_34819_i_i_i_i;
-    u32 v_r12_sroa_10_0_i2280_i_i_i_i;
-    u64 v_r3_i25_i_i2340_i_i_i_i;
-    u1 v_r39_i_i2343_i_i_i_i;
-    P v_r16_i_i_i2346_i_i_i_i;
-    u1 v_r15_i_i_i_i_i_i;
-    u64 v_r22_i_i_i_i_i_i;
-    P v_r25_i58_i_i_i_i_i;
-    u8 v_r35_i59_i_i_i_i_i;
-    u1 v_r37_i60_i_i_i_i_i;
-    u1 v_r44_i62_i_i_i_i_i;
-    u1 v_r16_i57_i_i_i_i_i;
-    u1 v_r21_i54_i_i_i_i_i;
-    u1 v_r12_i_i_i_not_i_i_i_i_i;
-    P v_r16_i_i_i2524_i_i_i_i;
-    u64 v_8;
-    u64 v_r19_i_i_i2525_i_i_i_i;
-    u8 v_r29_i2526_i_i_i_i;
-    u1 v_r8_i8_i_i_i_i_i_i;
-    u8 v_r9_i2548_i_i_i_i;
-    u1 v_r11_i2549_i_i_i_i;
-    u8 v_9;
-    u1 v_10;
-    u1 v_r2_0_in_i2550_not_i_i_i_i;
-    u1 v_r39_i_i2569_i_i_i_i;
-    P v_r16_i_i_i2572_i_i_i_i;
-    u64 v_r19_i_i_i2573_i_i_i_i;
-    u8 v_r29_i2574_i_i_i_i;
-    u1 v_r51_i48_i_i_i_i_i_i;
-    u64 v_r56_i59_i_i_i_i_i_i;
-    u1 v_r68_i50_i_i_i_i_i_i;
-    u1 v_r87_i_i_i919_i_i_i_i;
-    u8 v_r106_i_i_i921_i_i_i_i;
-    u64 v_r3_i25_i2616_i_i_i_i;
-    u1 v_r39_i2619_i_i_i_i;
-    P v_r16_i_i2623_i_i_i_i;
-    u64 v_r19_i_i2624_i_i_i_i;
-    u8 v_r36_i2661_i_i_i_i;
-    u1 v_r38_i2662_i_i_i_i;
-    u8 v_r28_i2657_i_i_i_i;
-    u1 v_r30_i2658_i_i_i_i;
-    u64 v_r71_i_i_i944_i_i_i_i;
-    u1 v_r74_i69_i_i_i_i_i_i;
-    P v_r81_i93_i_i_i_i_i_i;
-    u64 v_r87_i95_i_i_i_i_i_i;
-    u64 v_r89_i_i_i969_i_i_i_i;
-    u8 v_r91_i_i_i970_i_i_i_i;
-    u64 v_r93_i96_i_i_i_i_i_i;
-    u64 v_r96_i97_i_i_i_i_i_i;
-    u1 v_r99_i71_i_i_i_i_i_i;
-    P v_r106_i82_i_i_i_i_i_i;
-    P v_r108_i83_i_i_i_i_i_i;
-    u64 v_r115_i85_i_i_i_i_i_i;
-    u64 v_r117_i86_i_i_i_i_i_i;
-    u8 v_r119_i87_i_i_i_i_i_i;
-    u64 v_r121_i88_i_i_i_i_i_i;
-    u64 v_r123_i89_i_i_i_i_i_i;
-    u64 v_r126_i90_i_i_i_i_i_i;
-    u8 v_r128_i_i_i967_i_i_i_i;
-    u64 v_r130_i91_i_i_i_i_i_i;
-    u64 v_r133_i_i_i968_i_i_i_i;
-    u1 v_r136_i73_i_i_i_i_i_i;
-    P v_r143_i74_i_i_i_i_i_i;
-    P v_r145_i75_i_i_i_i_i_i;
-    P v_r147_i76_i_i_i_i_i_i;
-    u64 v_r155_i78_i_i_i_i_i_i;
-    u64 v_r157_i79_i_i_i_i_i_i;
-    u8 v_r159_i80_i_i_i_i_i_i;
-    u64 v_r161_i_i_i957_i_i_i_i;
-    u64 v_r163_i_i_i958_i_i_i_i;
-    u64 v_r166_i_i_i959_i_i_i_i;
-    u8 v_r168_i_i_i960_i_i_i_i;
-    u64 v_r170_i_i_i961_i_i_i_i;
-    u64 v_r172_i_i_i962_i_i_i_i;
-    u64 v_r175_i_i_i963_i_i_i_i;
-    u8 v_r177_i_i_i964_i_i_i_i;
-    u64 v_r179_i_i_i965_i_i_i_i;
-    u64 v_r182_i_i_i966_i_i_i_i;
-    u64 v_r6_i71_sroa_23_95003_i_i_i_i;
-    P v_r6_i71_sroa_0_95001_i_i_i_i;
-    u64 v_r12_sroa_10_0_i2687_i_i_i_i;
-    u1 v_r39_i2738_i_i_i_i;
-    u64 v_r7_i18_i_i_i_i_i;
-    u1 v_r7_i_i2812_i_i_i_i;
-    u8 v_r10_i348_sroa_7_0_ph_i_i_i_i;
-    u64 v_r6_i593_sroa_28_sroa_0_0_i_i_i_i;
-    P v_r6_i593_sroa_28_sroa_8_0_i_i_i_i;
-    u64 v_r6_i593_sroa_28_sroa_12_0_i_i_i_i;
-    u64 v_r6_i593_sroa_234029_sroa_0_0_i_i_i_i;
-    u8 v_r24_i2950_i_i_i_i;
-    P v_r30_i83_sroa_15_sroa_0_4_r84_i390_sroa_idx_i_i_i_i;
-    P v_r0_i49_sroa_27_sroa_0_4_r164_i_sroa_idx_i_i_i_i;
-    P v_r9_i10_sroa_11_sroa_0_4_r10_i56_sroa_idx_i_i_i_i;
-    u1 v_r39_i_i3004_i_i_i_i;
-    P v_r16_i_i_i3007_i_i_i_i;
-    u8 v_r29_i3009_i_i_i_i;
-    u1 v_r8_i22_i1267_i_i_i_i;
-    u8 v_r9_i3031_i_i_i_i;
-    u1 v_r11_i3032_i_i_i_i;
-    u8 v_11;
-    u1 v_12;
-    u1 v_r2_0_in_i3033_not_i_i_i_i;
-    u1 v_r39_i_i3052_i_i_i_i;
-    P v_r16_i_i_i3055_i_i_i_i;
-    u64 v_r19_i_i_i3056_i_i_i_i;
-    u8 v_r29_i3057_i_i_i_i;
-    u1 v_r51_i62_i1357_i_i_i_i;
-    u64 v_r56_i73_i1486_i_i_i_i;
-    u1 v_r68_i64_i1359_i_i_i_i;
-    u1 v_r87_i_i1361_i_i_i_i;
-    u8 v_r106_i_i1363_i_i_i_i;
-    u64 v_r3_i25_i3099_i_i_i_i;
-    u1 v_r39_i3102_i_i_i_i;
-    P v_r16_i_i3106_i_i_i_i;
-    u64 v_r19_i_i3107_i_i_i_i;
-    u8 v_r36_i3144_i_i_i_i;
-    u1 v_r38_i3145_i_i_i_i;
-    u8 v_r28_i3140_i_i_i_i;
-    u1 v_r30_i3141_i_i_i_i;
-    u64 v_r71_i_i1389_i_i_i_i;
-    u1 v_r74_i83_i1401_i_i_i_i;
-    P v_r81_i107_i1439_i_i_i_i;
-    u64 v_r87_i109_i1441_i_i_i_i;
-    u64 v_r89_i_i1442_i_i_i_i;
-    u8 v_r91_i_i1443_i_i_i_i;
-    u64 v_r93_i110_i1444_i_i_i_i;
-    u64 v_r96_i111_i1445_i_i_i_i;
-    u1 v_r99_i85_i1403_i_i_i_i;
-    P v_r106_i96_i1426_i_i_i_i;
-    P v_r108_i97_i1427_i_i_i_i;
-    u64 v_r115_i99_i1429_i_i_i_i;
-    u64 v_r117_i100_i1430_i_i_i_i;
-    u8 v_r119_i101_i1431_i_i_i_i;
-    u64 v_r121_i102_i1432_i_i_i_i;
-    u64 v_r123_i103_i1433_i_i_i_i;
-    u64 v_r126_i104_i1434_i_i_i_i;
-    u8 v_r128_i_i1435_i_i_i_i;
-    u64 v_r130_i105_i1436_i_i_i_i;
-    u64 v_r133_i_i1437_i_i_i_i;
-    u1 v_r136_i87_i1405_i_i_i_i;
-    P v_r143_i88_i1408_i_i_i_i;
-    P v_r145_i89_i1409_i_i_i_i;
-    P v_r147_i90_i1410_i_i_i_i;
-    u64 v_r155_i92_i1412_i_i_i_i;
-    u64 v_r157_i93_i1413_i_i_i_i;
-    u8 v_r159_i94_i1414_i_i_i_i;
-    u64 v_r161_i_i1415_i_i_i_i;
-    u64 v_r163_i_i1416_i_i_i_i;
-    u64 v_r166_i_i1417_i_i_i_i;
-    u8 v_r168_i_i1418_i_i_i_i;
-    u64 v_r170_i_i1419_i_i_i_i;
-    u64 v_r172_i_i1420_i_i_i_i;
-    u64 v_r175_i_i1421_i_i_i_i;
-    u8 v_r177_i_i1422_i_i_i_i;
-    u64 v_r179_i_i1423_i_i_i_i;
-    u64 v_r182_i_i1424_i_i_i_i;
-    P v_r13_sroa_0_0_copyload_i_i3235_i_i_i_i;
-    u64 v_r36_i_i3232_i_i_i_i;
-    u64 v_r12_sroa_10_0_i3170_i_i_i_i;
-    u1 v_r39_i_i3233_i_i_i_i;
-    P v_r16_i_i_i3236_i_i_i_i;
-    u64 v_r19_i_i_i3237_i_i_i_i;
-    u1 v_r12_i_i_i_not_i_i_i_not_i_i_i;
-    u8 v_r18_i_i99_i_i_i_i_i;
-    u1 v_r7_i_i103_i_i_i_i_i;
-    u1 v_r39_i_i164_i_i_i_i_i;
-    P v_r16_i_i_i_i_i_i_i_i;
-    P v_r16_i_i_i167_i_i_i_i_i;
-    u64 v_r19_i_i_i168_i_i_i_i_i;
-    u8 v_r29_i169_i_i_i_i_i;
-    u1 v_r51_i62_i_i3336_i_i_i_i;
-    u64 v_r56_i73_i_i3394_i_i_i_i;
-    u1 v_r68_i64_i_i3338_i_i_i_i;
-    u1 v_r87_i_i_i3340_i_i_i_i;
-    u8 v_r106_i_i_i3341_i_i_i_i;
-    u64 v_r3_i25_i_i3342_i_i_i_i;
-    u1 v_r39_i213_i_i_i_i_i;
-    P v_r16_i_i216_i_i_i_i_i;
-    u64 v_r19_i_i217_i_i_i_i_i;
-    u8 v_r36_i251_i_i_i_i_i;
-    u1 v_r38_i_i3349_i_i_i_i;
-    u8 v_r28_i249_i_i_i_i_i;
-    u1 v_r30_i_i3344_i_i_i_i;
-    u64 v_r71_i_i_i3346_i_i_i_i;
-    u1 v_r74_i83_i_i3351_i_i_i_i;
-    P v_r81_i107_i_i3387_i_i_i_i;
-    u64 v_r87_i109_i_i3388_i_i_i_i;
-    u64 v_r89_i_i_i3389_i_i_i_i;
-    u8 v_r91_i_i_i3390_i_i_i_i;
-    u64 v_r93_i110_i_i3391_i_i_i_i;
-    u64 v_r96_i111_i_i3392_i_i_i_i;
-    u1 v_r99_i85_i_i3353_i_i_i_i;
-    P v_r106_i96_i_i3375_i_i_i_i;
-    P v_r108_i97_i_i3376_i_i_i_i;
-    u64 v_r115_i99_i_i3377_i_i_i_i;
-    u64 v_r117_i100_i_i3378_i_i_i_i;
-    u8 v_r119_i101_i_i3379_i_i_i_i;
-    u64 v_r121_i102_i_i3380_i_i_i_i;
-    u64 v_r123_i103_i_i3381_i_i_i_i;
-    u64 v_r126_i104_i_i3382_i_i_i_i;
-    u8 v_r128_i_i_i3383_i_i_i_i;
-    u64 v_r130_i105_i_i3384_i_i_i_i;
-    u64 v_r133_i_i_i3385_i_i_i_i;
-    u1 v_r136_i87_i_i3355_i_i_i_i;
-    P v_r143_i88_i_i3358_i_i_i_i;
-    P v_r145_i89_i_i3359_i_i_i_i;
-    P v_r147_i90_i_i3360_i_i_i_i;
-    u64 v_r155_i92_i_i3361_i_i_i_i;
-    u64 v_r157_i93_i_i3362_i_i_i_i;
-    u8 v_r159_i94_i_i3363_i_i_i_i;
-    u64 v_r161_i_i_i3364_i_i_i_i;
-    u64 v_r163_i_i_i3365_i_i_i_i;
-    u64 v_r166_i_i_i3366_i_i_i_i;
-    u8 v_r168_i_i_i3367_i_i_i_i;
-    u64 v_r170_i_i_i3368_i_i_i_i;
-    u64 v_r172_i_i_i3369_i_i_i_i;
-    u64 v_r175_i_i_i3370_i_i_i_i;
-    u8 v_r177_i_i_i3371_i_i_i_i;
-    u64 v_r179_i_i_i3372_i_i_i_i;
-    u64 v_r182_i_i_i3373_i_i_i_i;
-    P v_r13_sroa_0_0_copyload_i_i333_i_i_i_i_i;
-    u64 v_r36_i_i330_i_i_i_i_i;
-    u64 v_r12_sroa_10_0_i_i_i_i_i_i;
-    u1 v_r39_i_i331_i_i_i_i_i;
-    u1 v_13;
-    u8 v_r0_i49_sroa_9_0_ph_i_i_i_i;
-    u8 v_r13_sroa_5_0_ph_i_i_i_i;
-    u64 v_spec_select1093_i_i_i;
+    u1 v_r2_0_in_i_not_i_i;
+    u1 v_r39_i_i1601_i_i;
+    P v_r16_i_i_i1604_i_i;
+    u64 v_r19_i_i_i1605_i_i;
+    u8 v_r29_i1606_i_i;
+    u1 v_r51_i62_i_i_i;
+    u32 v_r56_i73_i_i_i;
+    u1 v_r68_i64_i_i_i;
+    u1 v_r87_i_i_i_i;
+    u8 v_r106_i_i_i_i;
+    u64 v_r3_i25_i_i_i;
+    u1 v_r39_i1650_i_i;
+    P v_r16_i_i1652_i_i;
+    u64 v_r19_i_i1653_i_i;
+    u8 v_r36_i1677_i_i;
+    u1 v_r38_i1678_i_i;
+    u8 v_r28_i1674_i_i;
+    u1 v_r30_i1675_i_i;
+    u32 v_r71_i_i_i_i;
+    u1 v_r74_i83_i_i_i;
+    P v_r81_i107_i_i_i;
+    u32 v_r87_i109_i_i_i;
+    u32 v_r89_i_i_i_i;
+    u8 v_r91_i_i_i_i;
+    u32 v_r93_i110_i_i_i;
+    u32 v_r96_i111_i_i_i;
+    u1 v_r99_i85_i_i_i;
+    P v_r106_i96_i_i_i;
+    P v_r108_i97_i_i_i;
+    u32 v_r115_i99_i_i_i;
+    u32 v_r117_i100_i_i_i;
+    u8 v_r119_i101_i_i_i;
+    u32 v_r121_i102_i_i_i;
+    u32 v_r123_i103_i_i_i;
+    u32 v_r126_i104_i_i_i;
+    u8 v_r128_i_i_i_i;
+    u32 v_r130_i105_i_i_i;
+    u32 v_r133_i_i_i_i;
+    u1 v_r136_i87_i_i_i;
+    P v_r143_i88_i_i_i;
+    P v_r145_i89_i_i_i;
+    P v_r147_i90_i_i_i;
+    u32 v_r155_i92_i_i_i;
+    u32 v_r157_i93_i_i_i;
+    u8 v_r159_i94_i_i_i;
+    u32 v_r161_i_i_i_i;
+    u32 v_r163_i_i_i_i;
+    u32 v_r166_i_i_i_i;
+    u8 v_r168_i_i_i_i;
+    u32 v_r170_i_i_i_i;
+    u32 v_r172_i_i_i_i;
+    u32 v_r175_i_i_i_i;
+    u8 v_r177_i_i_i_i;
+    u32 v_r179_i_i_i_i;
+    u32 v_r182_i_i_i_i;
+    P v_r13_sroa_0_0_copyload_i_i1760_i_i;
+    u64 v_r36_i_i1757_i_i;
+    u32 v_r12_sroa_10_0_i_i_i;
+    u64 v_r3_i25_i_i_i75_i;
+    u1 v_r39_i_i1758_i_i;
+    P v_r16_i_i_i1761_i_i;
+    u64 v_r19_i_i_i1762_i_i;
+    u1 v_r7_i_i_i_i_i_i;
+    u8 v_r60_i_i_i1797_i_i;
+    u1 v_r62_i_i_i1798_i_i;
+    u1 v_r74_i_i_i1799_i_i;
+    u1 v_cond_i_i_i_i_i;
+    u1 v_or_cond_i_i_i_i_i;
+    P v_r84_i_i_i1809_i_i;
+    u8 v_r87_i_i_i1810_i_i;
+    u1 v_r89_i_i_i1811_i_i;
+    u8 v_spec_select_i_i;
+    u1 v_r42_i_not_i_i_i;
+    u1 v_brmerge_not_i_i;
+    u1 v_r39_i_i1843_i_i;
+    P v_r16_i_i_i1846_i_i;
+    u8 v_r29_i1848_i_i;
+    u1 v_r8_i23_i_i_i;
+    u8 v_r9_i1870_i_i;
+    u1 v_r11_i1871_i_i;
+    u8 v_8;
+    u1 v_9;
+    u1 v_r2_0_in_i1872_not_i_i;
+    u1 v_r39_i_i1891_i_i;
+    P v_r16_i_i_i1894_i_i;
+    u64 v_r19_i_i_i1895_i_i;
+    u8 v_r29_i1896_i_i;
+    u1 v_r51_i63_i_i_i;
+    u64 v_r56_i74_i_i_i;
+    u1 v_r68_i65_i_i_i;
+    u1 v_r87_i_i254_i_i;
+    u8 v_r106_i_i256_i_i;
+    u64 v_r3_i25_i1938_i_i;
+    u1 v_r39_i1941_i_i;
+    P v_r16_i_i1945_i_i;
+    u64 v_r19_i_i1946_i_i;
+    u8 v_r36_i1983_i_i;
+    u1 v_r38_i1984_i_i;
+    u8 v_r28_i1979_i_i;
+    u1 v_r30_i1980_i_i;
+    u64 v_r71_i_i279_i_i;
+    u1 v_r74_i84_i_i_i;
+    P v_r81_i108_i_i_i;
+    u64 v_r87_i110_i_i_i;
+    u64 v_r89_i_i304_i_i;
+    u8 v_r91_i_i305_i_i;
+    u64 v_r93_i111_i_i_i;
+    u64 v_r96_i112_i_i_i;
+    u1 v_r99_i86_i_i_i;
+    P v_r106_i97_i_i_i;
+    P v_r108_i98_i_i_i;
+    u64 v_r115_i100_i_i_i;
+    u64 v_r117_i101_i_i_i;
+    u8 v_r119_i102_i_i_i;
+    u64 v_r121_i103_i_i_i;
+    u64 v_r123_i104_i_i_i;
+    u64 v_r126_i105_i_i_i;
+    u8 v_r128_i_i302_i_i;
+    u64 v_r130_i106_i_i_i;
+    u64 v_r133_i_i303_i_i;
+    u1 v_r136_i88_i_i_i;
+    P v_r143_i89_i_i_i;
+    P v_r145_i90_i_i_i;
+    P v_r147_i91_i_i_i;
+    u64 v_r155_i93_i_i_i;
+    u64 v_r157_i94_i_i_i;
+    u8 v_r159_i95_i_i_i;
+    u64 v_r161_i_i292_i_i;
+    u64 v_r163_i_i293_i_i;
+    u64 v_r166_i_i294_i_i;
+    u8 v_r168_i_i295_i_i;
+    u64 v_r170_i_i296_i_i;
+    u64 v_r172_i_i297_i_i;
+    u64 v_r175_i_i298_i_i;
+    u8 v_r177_i_i299_i_i;
+    u64 v_r179_i_i300_i_i;
+    u64 v_r182_i_i301_i_i;
+    P v_r13_sroa_0_0_copyload_i_i2074_i_i;
+    u64 v_r36_i_i2071_i_i;
+    u64 v_r12_sroa_10_0_i2009_i_i;
+    u1 v_r39_i_i2072_i_i;
+    P v_r16_i_i_i2075_i_i;
+    u64 v_r19_i_i_i2076_i_i;
+    u1 v_r39_i_i2114_i_i;
+    P v_r16_i_i_i2117_i_i;
+    u8 v_r29_i2119_i_i;
+    u1 v_r8_i22_i_i_i79_i;
+    u8 v_r9_i2141_i_i;
+    u1 v_r11_i2142_i_i;
+    u8 v_10;
+    u1 v_11;
+    u1 v_r2_0_in_i2143_not_i_i;
+    u1 v_r39_i_i2162_i_i;
+    P v_r16_i_i_i2165_i_i;
+    u64 v_r19_i_i_i2166_i_i;
+    u8 v_r29_i2167_i_i;
+    u1 v_r51_i62_i_i_i82_i;
+    u32 v_r56_i73_i_i_i140_i;
+    u1 v_r68_i64_i_i_i84_i;
+    u1 v_r87_i_i_i_i85_i;
+    u8 v_r106_i_i_i_i86_i;
+    u64 v_r3_i25_i2209_i_i;
+    u1 v_r39_i2212_i_i;
+    P v_r16_i_i2216_i_i;
+    u64 v_r19_i_i2217_i_i;
+    u8 v_r36_i2254_i_i;
+    u1 v_r38_i2255_i_i;
+    u8 v_r28_i2250_i_i;
+    u1 v_r30_i2251_i_i;
+    u32 v_r71_i_i_i_i89_i;
+    u1 v_r74_i83_i_i_i97_i;
+    P v_r81_i107_i_i_i133_i;
+    u32 v_r87_i109_i_i_i134_i;
+    u32 v_r89_i_i_i_i135_i;
+    u8 v_r91_i_i_i_i136_i;
+    u32 v_r93_i110_i_i_i137_i;
+    u32 v_r96_i111_i_i_i138_i;
+    u1 v_r99_i85_i_i_i99_i;
+    P v_r106_i96_i_i_i121_i;
+    P v_r108_i97_i_i_i122_i;
+    u32 v_r115_i99_i_i_i123_i;
+    u32 v_r117_i100_i_i_i124_i;
+    u8 v_r119_i101_i_i_i125_i;
+    u32 v_r121_i102_i_i_i126_i;
+    u32 v_r123_i103_i_i_i127_i;
+    u32 v_r126_i104_i_i_i128_i;
+    u8 v_r128_i_i_i_i129_i;
+    u32 v_r130_i105_i_i_i130_i;
+    u32 v_r133_i_i_i_i131_i;
+    u1 v_r136_i87_i_i_i101_i;
+    P v_r143_i88_i_i_i104_i;
+    P v_r145_i89_i_i_i105_i;
+    P v_r147_i90_i_i_i106_i;
+    u32 v_r155_i92_i_i_i107_i;
+    u32 v_r157_i93_i_i_i108_i;
+    u8 v_r159_i94_i_i_i109_i;
+    u32 v_r161_i_i_i_i110_i;
+    u32 v_r163_i_i_i_i111_i;
+    u32 v_r166_i_i_i_i112_i;
+    u8 v_r168_i_i_i_i113_i;
+    u32 v_r170_i_i_i_i114_i;
+    u32 v_r172_i_i_i_i115_i;
+    u32 v_r175_i_i_i_i116_i;
+    u8 v_r177_i_i_i_i117_i;
+    u32 v_r179_i_i_i_i118_i;
+    u32 v_r182_i_i_i_i119_i;
+    u64 v_r6_i71_sroa_23_34821_i_i;
+    P v_r6_i71_sroa_0_34819_i_i;
+    u32 v_r12_sroa_10_0_i2280_i_i;
+    u64 v_r3_i25_i_i2340_i_i;
+    u1 v_r39_i_i2343_i_i;
+    P v_r16_i_i_i2346_i_i;
+    u1 v_r15_i_i_i_i;
+    u64 v_r22_i_i_i_i;
+    P v_r25_i58_i_i_i;
+    u8 v_r35_i59_i_i_i;
+    u1 v_r37_i60_i_i_i;
+    u1 v_r44_i62_i_i_i;
+    u1 v_r16_i57_i_i_i;
+    u1 v_r21_i54_i_i_i;
+    u1 v_r12_i_i_i_not_i_i_i;
+    P v_r16_i_i_i2524_i_i;
+    u64 v_12;
+    u64 v_r19_i_i_i2525_i_i;
+    u8 v_r29_i2526_i_i;
+    u1 v_r8_i8_i_i_i_i;
+    u8 v_r9_i2548_i_i;
+    u1 v_r11_i2549_i_i;
+    u8 v_13;
+    u1 v_14;
+    u1 v_r2_0_in_i2550_not_i_i;
+    u1 v_r39_i_i2569_i_i;
+    P v_r16_i_i_i2572_i_i;
+    u64 v_r19_i_i_i2573_i_i;
+    u8 v_r29_i2574_i_i;
+    u1 v_r51_i48_i_i_i_i;
+    u64 v_r56_i59_i_i_i_i;
+    u1 v_r68_i50_i_i_i_i;
+    u1 v_r87_i_i_i919_i_i;
+    u8 v_r106_i_i_i921_i_i;
+    u64 v_r3_i25_i2616_i_i;
+    u1 v_r39_i2619_i_i;
+    P v_r16_i_i2623_i_i;
+    u64 v_r19_i_i2624_i_i;
+    u8 v_r36_i2661_i_i;
+    u1 v_r38_i2662_i_i;
+    u8 v_r28_i2657_i_i;
+    u1 v_r30_i2658_i_i;
+    u64 v_r71_i_i_i944_i_i;
+    u1 v_r74_i69_i_i_i_i;
+    P v_r81_i93_i_i_i_i;
+    u64 v_r87_i95_i_i_i_i;
+    u64 v_r89_i_i_i969_i_i;
+    u8 v_r91_i_i_i970_i_i;
+    u64 v_r93_i96_i_i_i_i;
+    u64 v_r96_i97_i_i_i_i;
+    u1 v_r99_i71_i_i_i_i;
+    P v_r106_i82_i_i_i_i;
+    P v_r108_i83_i_i_i_i;
+    u64 v_r115_i85_i_i_i_i;
+    u64 v_r117_i86_i_i_i_i;
+    u8 v_r119_i87_i_i_i_i;
+    u64 v_r121_i88_i_i_i_i;
+    u64 v_r123_i89_i_i_i_i;
+    u64 v_r126_i90_i_i_i_i;
+    u8 v_r128_i_i_i967_i_i;
+    u64 v_r130_i91_i_i_i_i;
+    u64 v_r133_i_i_i968_i_i;
+    u1 v_r136_i73_i_i_i_i;
+    P v_r143_i74_i_i_i_i;
+    P v_r145_i75_i_i_i_i;
+    P v_r147_i76_i_i_i_i;
+    u64 v_r155_i78_i_i_i_i;
+    u64 v_r157_i79_i_i_i_i;
+    u8 v_r159_i80_i_i_i_i;
+    u64 v_r161_i_i_i957_i_i;
+    u64 v_r163_i_i_i958_i_i;
+    u64 v_r166_i_i_i959_i_i;
+    u8 v_r168_i_i_i960_i_i;
+    u64 v_r170_i_i_i961_i_i;
+    u64 v_r172_i_i_i962_i_i;
+    u64 v_r175_i_i_i963_i_i;
+    u8 v_r177_i_i_i964_i_i;
+    u64 v_r179_i_i_i965_i_i;
+    u64 v_r182_i_i_i966_i_i;
+    u64 v_r6_i71_sroa_23_95003_i_i;
+    P v_r6_i71_sroa_0_95001_i_i;
+    u64 v_r12_sroa_10_0_i2687_i_i;
+    u1 v_r39_i2738_i_i;
+    u64 v_r7_i18_i_i_i;
+    u1 v_r7_i_i2812_i_i;
+    u8 v_r10_i348_sroa_7_0_ph_i_i;
+    u64 v_r6_i593_sroa_28_sroa_0_0_i_i;
+    P v_r6_i593_sroa_28_sroa_8_0_i_i;
+    u64 v_r6_i593_sroa_28_sroa_12_0_i_i;
+    u64 v_r6_i593_sroa_234029_sroa_0_0_i_i;
+    u8 v_r24_i2950_i_i;
+    u8 v_r3_i2949_i_i_0_r3_i2949_i_i_0_r3_i2949_i_i_0_r3_i2;
+    P v_r3_i2949_i_i_1_r3_i2949_i_i_1_r3_i2949_i_i_1_r3_i2;
+    u8 v_r3_i2949_i_i_1_r3_i2949_i_i_1_r3_i2949_i_i_1_r3_i2__2;
+    P v_r3_i2949_i_i_2_r3_i2949_i_i_2_r3_i2949_i_i_2_r3_i2;
+    u8 v_r3_i2949_i_i_2_r3_i2949_i_i_2_r3_i2949_i_i_2_r3_i2__2;
+    P v_r3_i2949_i_i_3_r3_i2949_i_i_3_r3_i2949_i_i_3_r3_i2;
+    u8 v_r3_i2949_i_i_3_r3_i2949_i_i_3_r3_i2949_i_i_3_r3_i2__2;
+    P v_r3_i2949_i_i_4_r3_i2949_i_i_4_r3_i2949_i_i_4_r3_i2;
+    u8 v_r3_i2949_i_i_4_r3_i2949_i_i_4_r3_i2949_i_i_4_r3_i2__2;
+    P v_r3_i2949_i_i_5_r3_i2949_i_i_5_r3_i2949_i_i_5_r3_i2;
+    u8 v_r3_i2949_i_i_5_r3_i2949_i_i_5_r3_i2949_i_i_5_r3_i2__2;
+    P v_r3_i2949_i_i_6_r3_i2949_i_i_6_r3_i2949_i_i_6_r3_i2;
+    u8 v_r3_i2949_i_i_6_r3_i2949_i_i_6_r3_i2949_i_i_6_r3_i2__2;
+    P v_r3_i2949_i_i_7_r3_i2949_i_i_7_r3_i2949_i_i_7_r3_i2;
+    u8 v_r3_i2949_i_i_7_r3_i2949_i_i_7_r3_i2949_i_i_7_r3_i2__2;
+    P v_r3_i2949_i_i_8_r3_i2949_i_i_8_r3_i2949_i_i_8_r3_i2;
+    u8 v_r3_i2949_i_i_8_r3_i2949_i_i_8_r3_i2949_i_i_8_r3_i2__2;
+    P v_r0_i1015_sroa_0_i_sroa_13_0_r3_i2949_i_sroa_idx_i;
+    u1 v_r39_i_i3004_i_i;
+    P v_r16_i_i_i3007_i_i;
+    u8 v_r29_i3009_i_i;
+    u1 v_r8_i22_i1267_i_i;
+    u8 v_r9_i3031_i_i;
+    u1 v_r11_i3032_i_i;
+    u8 v_15;
+    u1 v_16;
+    u1 v_r2_0_in_i3033_not_i_i;
+    u1 v_r39_i_i3052_i_i;
+    P v_r16_i_i_i3055_i_i;
+    u64 v_r19_i_i_i3056_i_i;
+    u8 v_r29_i3057_i_i;
+    u1 v_r51_i62_i1357_i_i;
+    u64 v_r56_i73_i1486_i_i;
+    u1 v_r68_i64_i1359_i_i;
+    u1 v_r87_i_i1361_i_i;
+    u8 v_r106_i_i1363_i_i;
+    u64 v_r3_i25_i3099_i_i;
+    u1 v_r39_i3102_i_i;
+    P v_r16_i_i3106_i_i;
+    u64 v_r19_i_i3107_i_i;
+    u8 v_r36_i3144_i_i;
+    u1 v_r38_i3145_i_i;
+    u8 v_r28_i3140_i_i;
+    u1 v_r30_i3141_i_i;
+    u64 v_r71_i_i1389_i_i;
+    u1 v_r74_i83_i1401_i_i;
+    P v_r81_i107_i1439_i_i;
+    u64 v_r87_i109_i1441_i_i;
+    u64 v_r89_i_i1442_i_i;
+    u8 v_r91_i_i1443_i_i;
+    u64 v_r93_i110_i1444_i_i;
+    u64 v_r96_i111_i1445_i_i;
+    u1 v_r99_i85_i1403_i_i;
+    P v_r106_i96_i1426_i_i;
+    P v_r108_i97_i1427_i_i;
+    u64 v_r115_i99_i1429_i_i;
+    u64 v_r117_i100_i1430_i_i;
+    u8 v_r119_i101_i1431_i_i;
+    u64 v_r121_i102_i1432_i_i;
+    u64 v_r123_i103_i1433_i_i;
+    u64 v_r126_i104_i1434_i_i;
+    u8 v_r128_i_i1435_i_i;
+    u64 v_r130_i105_i1436_i_i;
+    u64 v_r133_i_i1437_i_i;
+    u1 v_r136_i87_i1405_i_i;
+    P v_r143_i88_i1408_i_i;
+    P v_r145_i89_i1409_i_i;
+    P v_r147_i90_i1410_i_i;
+    u64 v_r155_i92_i1412_i_i;
+    u64 v_r157_i93_i1413_i_i;
+    u8 v_r159_i94_i1414_i_i;
+    u64 v_r161_i_i1415_i_i;
+    u64 v_r163_i_i1416_i_i;
+    u64 v_r166_i_i1417_i_i;
+    u8 v_r168_i_i1418_i_i;
+    u64 v_r170_i_i1419_i_i;
+    u64 v_r172_i_i1420_i_i;
+    u64 v_r175_i_i1421_i_i;
+    u8 v_r177_i_i1422_i_i;
+    u64 v_r179_i_i1423_i_i;
+    u64 v_r182_i_i1424_i_i;
+    P v_r13_sroa_0_0_copyload_i_i3235_i_i;
+    u64 v_r36_i_i3232_i_i;
+    u64 v_r12_sroa_10_0_i3170_i_i;
+    u1 v_r39_i_i3233_i_i;
+    P v_r16_i_i_i3236_i_i;
+    u64 v_r19_i_i_i3237_i_i;
+    u1 v_r12_i_i_i_not_i_i_i_not_i;
+    u8 v_r18_i_i99_i_i_i;
+    u1 v_r7_i_i103_i_i_i;
+    u1 v_r39_i_i164_i_i_i;
+    P v_r16_i_i_i_i_i90_i;
+    P v_r16_i_i_i167_i_i_i;
+    u64 v_r19_i_i_i168_i_i_i;
+    u8 v_r29_i169_i_i_i;
+    u1 v_r51_i62_i_i3336_i_i;
+    u64 v_r56_i73_i_i3394_i_i;
+    u1 v_r68_i64_i_i3338_i_i;
+    u1 v_r87_i_i_i3340_i_i;
+    u8 v_r106_i_i_i3341_i_i;
+    u64 v_r3_i25_i_i3342_i_i;
+    u1 v_r39_i213_i_i_i;
+    P v_r16_i_i216_i_i_i;
+    u64 v_r19_i_i217_i_i_i;
+    u8 v_r36_i251_i_i_i;
+    u1 v_r38_i_i3349_i_i;
+    u8 v_r28_i249_i_i_i;
+    u1 v_r30_i_i3344_i_i;
+    u64 v_r71_i_i_i3346_i_i;
+    u1 v_r74_i83_i_i3351_i_i;
+    P v_r81_i107_i_i3387_i_i;
+    u64 v_r87_i109_i_i3388_i_i;
+    u64 v_r89_i_i_i3389_i_i;
+    u8 v_r91_i_i_i3390_i_i;
+    u64 v_r93_i110_i_i3391_i_i;
+    u64 v_r96_i111_i_i3392_i_i;
+    u1 v_r99_i85_i_i3353_i_i;
+    P v_r106_i96_i_i3375_i_i;
+    P v_r108_i97_i_i3376_i_i;
+    u64 v_r115_i99_i_i3377_i_i;
+    u64 v_r117_i100_i_i3378_i_i;
+    u8 v_r119_i101_i_i3379_i_i;
+    u64 v_r121_i102_i_i3380_i_i;
+    u64 v_r123_i103_i_i3381_i_i;
+    u64 v_r126_i104_i_i3382_i_i;
+    u8 v_r128_i_i_i3383_i_i;
+    u64 v_r130_i105_i_i3384_i_i;
+    u64 v_r133_i_i_i3385_i_i;
+    u1 v_r136_i87_i_i3355_i_i;
+    P v_r143_i88_i_i3358_i_i;
+    P v_r145_i89_i_i3359_i_i;
+    P v_r147_i90_i_i3360_i_i;
+    u64 v_r155_i92_i_i3361_i_i;
+    u64 v_r157_i93_i_i3362_i_i;
+    u8 v_r159_i94_i_i3363_i_i;
+    u64 v_r161_i_i_i3364_i_i;
+    u64 v_r163_i_i_i3365_i_i;
+    u64 v_r166_i_i_i3366_i_i;
+    u8 v_r168_i_i_i3367_i_i;
+    u64 v_r170_i_i_i3368_i_i;
+    u64 v_r172_i_i_i3369_i_i;
+    u64 v_r175_i_i_i3370_i_i;
+    u8 v_r177_i_i_i3371_i_i;
+    u64 v_r179_i_i_i3372_i_i;
+    u64 v_r182_i_i_i3373_i_i;
+    P v_r13_sroa_0_0_copyload_i_i333_i_i_i;
+    u64 v_r36_i_i330_i_i_i;
+    u64 v_r12_sroa_10_0_i_i_i93_i;
+    u1 v_r39_i_i331_i_i_i;
+    u1 v_17;
+    u8 v_r0_i49_sroa_9_0_ph_i_i;
+    u8 v_r13_sroa_5_0_ph_i_i;
     P v_spec_select_i_i_i;
-    u64 v_r7_i1501_sroa_174338_sroa_0_0_ph5456_i_i_i_i;
-    P v_r13_sroa_17_sroa_0_sroa_0_4_r119_i_sroa_idx_i_i_i_;
-    P v_r8_i65_sroa_16_8_r58_i346_sroa_idx_i_i_i;
-    P v_r30_i23_sroa_15_sroa_0_sroa_0_4_r36_i90_sroa_idx_i;
-    P v_r0_i1_sroa_27_sroa_0_sroa_0_4_r122_i_sroa_idx_i_i_;
-    P v_r15_i_sroa_11_sroa_0_sroa_0_4_r10_i8_sroa_idx_i_i_;
-    u1 v_r7_i_i419_i_i_i;
-    P v_r0_sroa_21_sroa_0_4_r79_i_sroa_idx_i_i_i;
-    u8 v_r8_i65_sroa_0_sroa_7_0_ph_i_i_i;
-    P v_r0_sroa_21_sroa_0_i_4_i_4_r38_i_sroa_idx_i_i;
-    u8 v_r0_i1_sroa_9_0_ph_i_i_i;
-    P v_r0_sroa_21_sroa_0_i_4_i_4_r54_i_sroa_idx_i_i;
-    P v_r10_sroa_9_8_r13_i_sroa_idx_i_i;
+    u64 v_spec_select2992_i_i_i;
+    u64 v_r7_i1501_sroa_174338_sroa_0_0_ph5456_i_i;
+    u1 v_r7_i_i1465_i_i_i;
+    u8 v_r8_i651_i_i_sroa_0_sroa_8_0_ph_i;
+    u64 v_r0_sroa_49_sroa_8_0_sink_i94_i_i;
+    P v_r0_sroa_49_sroa_0_0_sink_i93_i_i;
+    u64 v_r0_sroa_48_0_sink_i92_i_i;
+    u64 v_r0_sroa_47_sroa_8_0_sink_i91_i_i;
+    P v_r0_sroa_47_sroa_0_0_sink_i90_i_i;
+    u64 v_r0_sroa_46_0_sink_i89_i_i;
+    P v_r0_sroa_45_0_sink_i88_i_i;
+    u64 v_r0_sroa_44_0_sink_i87_i_i;
+    u64 v_r0_sroa_43_0_sink_i86_i_i;
+    u8 v_r0_sroa_42_0_sink_i85_i_i;
+    u8 v_r10_sroa_27_084_i_i;
+    u8 v_r10_sroa_25_083_i_i;
+    u8 v_r10_sroa_23_082_i_i;
+    u8 v_r10_sroa_21_081_i_i;
+    u8 v_r10_sroa_19_080_i_i;
+    u8 v_r10_sroa_17_079_i_i;
+    u8 v_r10_sroa_15_078_i_i;
+    u8 v_r10_sroa_13_077_i_i;
+    u8 v_r10_sroa_1029_076_i_i;
     P v_r11_sroa_3_0_r3_sroa_idx_i_i;
     P v_r11_sroa_4_0_r3_sroa_idx_i_i;
     P v_r11_sroa_5_0_r3_sroa_idx_i_i;
@@ -30686,6 +30868,15 @@ u32 pkcs1_c_private_key_info_decode(P v_a0, u64 v_a1, P v_a2, P v_a3, P v_a4, u6
     P v_r11_sroa_10_0_r3_sroa_idx_i_i;
     P v_r11_sroa_11_0_r3_sroa_idx_i_i;
     P v_r11_sroa_12_0_r3_sroa_idx_i_i;
+    P v_r11_sroa_13_0_r3_sroa_idx_i_i;
+    P v_r11_sroa_14_0_r3_sroa_idx_i_i;
+    P v_r11_sroa_15_0_r3_sroa_idx_i_i;
+    P v_r11_sroa_16_0_r3_sroa_idx_i_i;
+    P v_r11_sroa_17_0_r3_sroa_idx_i_i;
+    P v_r11_sroa_18_0_r3_sroa_idx_i_i;
+    P v_r11_sroa_19_0_r3_sroa_idx_i_i;
+    P v_r11_sroa_20_0_r3_sroa_idx_i_i;
+    P v_r11_sroa_21_0_r3_sroa_idx_i_i;
     P v_r10_sroa_0_sroa_3_0_r2_i_sroa_idx_i_i_i_i;
     P v_r10_sroa_0_sroa_4_0_r2_i_sroa_idx_i_i_i_i;
     P v_r10_sroa_0_sroa_5_0_r2_i_sroa_idx_i_i_i_i;
@@ -30696,33 +30887,26 @@ u32 pkcs1_c_private_key_info_decode(P v_a0, u64 v_a1, P v_a2, P v_a3, P v_a4, u6
     P v_r10_sroa_0_sroa_10_0_r2_i_sroa_idx_i_i_i_i;
     P v_r10_sroa_0_sroa_11_0_r2_i_sroa_idx_i_i_i_i;
     P v_r10_sroa_3_0_r2_i_sroa_idx_i_i_i_i;
-    u32 v_r24_i2950_i_i_mask_i_i;
-    u64 v_r7_i_i_i_i_i_i_i;
+    u64 v_r7_i_i_i_i_i4_i_i;
     u1 v_r21_not_i_i_i_i_i_i_i;
-    u8 v_r16_val_i_i_i_i_i_i_i_i;
     u1 v_r7_i_i_i_i_i_i_i_i_i;
-    P v_r16_i_i_1_i_i_i_i_i_i;
-    u8 v_r16_val_i_i_1_i_i_i_i_i_i;
     u1 v_r7_i_i_i_1_i_i_i_i_i_i;
     u1 v_r20_i_1_i_i_i_i_i_i;
-    P v_r16_i_i_2_i_i_i_i_i_i;
-    u8 v_r16_val_i_i_2_i_i_i_i_i_i;
     u1 v_r7_i_i_i_2_i_i_i_i_i_i;
     u1 v_r20_i_2_i_i_i_i_i_i;
-    P v_r16_i_i_3_i_i_i_i_i_i;
-    u8 v_r16_val_i_i_3_i_i_i_i_i_i;
     u1 v_r7_i_i_i_3_i_i_i_i_i_i;
     u1 v_r20_i_3_i_i_i_i_i_i;
     u1 v_r83_i_i_i_i_i_i_i;
-    u1 v_r7_i_i_i17_not_i_i_i_i;
-    u1 v_r7_i23_i_i_i_i;
+    u1 v_18;
+    u1 v_r7_i_i_i16_not_i_i_i_i;
+    u1 v_r7_i22_i_i_i_i;
     u1 v_or_cond_i;
     u8 v_r9_sroa_4_0_i_ph_i_i_i;
-    u8 v_14;
+    u8 v_19;
     P v_r35_i_i_i;
-    u8 v_15;
+    u8 v_20;
     P v_r37_i_i_i;
-    u8 v_16;
+    u8 v_21;
     P v_r13_sroa_16_i_sroa_5_3_r43_i_i_sroa_idx_i;
     P v_r13_sroa_16_i_sroa_5_3_copyload_i;
     P v_r13_sroa_16_i_sroa_6_3_r43_i_i_sroa_idx_i;
@@ -30760,23 +30944,22 @@ u32 pkcs1_c_private_key_info_decode(P v_a0, u64 v_a1, P v_a2, P v_a3, P v_a4, u6
     P v_r13_sroa_16_i_sroa_23_3_r43_i_i_sroa_idx_i;
     P v_r13_sroa_16_i_sroa_23_3_copyload_i;
     P v_r13_sroa_16_i_sroa_24_3_r43_i_i_sroa_idx_i;
-    u1 v_17;
-    P v_r0_sroa_21_sroa_0_i_4_i_4_r38_i_sroa_idx_sink_i_i;
-    u8 v_r0_sroa_6_0_i_ph_i_i;
+    u1 v_22;
+    u8 v_r0_sroa_8_0_i_ph_i_i;
     P v_r18_i_sroa_5_0_copyload_i;
     u64 v_r18_i_sroa_6_0_copyload_i;
     u8 v_r18_i_sroa_7_0_copyload_i;
     P v_r18_i_sroa_9_0_copyload_i;
     u64 v_r18_i_sroa_10_0_copyload_i;
-    u1 v_18;
+    u1 v_23;
     P v_spec_select_i;
-    u64 v_spec_select166_i;
+    u64 v_spec_select319_i;
     P v_r10_sroa_3_0_a2_sroa_idx_i;
     P v_r10_sroa_4_0_a2_sroa_idx_i;
     P v_r10_sroa_5_0_a2_sroa_idx_i;
     P v_r10_sroa_6_0_a2_sroa_idx_i;
     P v_r10_sroa_7_0_a2_sroa_idx_i;
-    u1 v_19;
+    u1 v_24;
     P v_r0_sroa_5_0_a0_sroa_idx_i41_i;
     P v_r3_i_sroa_5_0_r5_i_sroa_idx_phi_trans_insert_i;
     u64 v_r3_i_sroa_5_0_copyload_pre_i;
@@ -30798,28 +30981,25 @@ u32 pkcs1_c_private_key_info_decode(P v_a0, u64 v_a1, P v_a2, P v_a3, P v_a4, u6
     P v_r12_sroa_16_0_a3_sroa_idx_i;
     P v_r12_sroa_17_0_a3_sroa_idx_i;
     P v_r12_sroa_18_0_a3_sroa_idx_i;
-    u8 v_r8_sroa_8_0_ph159_ph_i;
-    u8 v_r8_sroa_8_0_ph159_i;
+    u8 v_r8_sroa_8_0_ph314_ph_i;
+    u8 v_r8_sroa_8_0_ph314_i;
     u32 v_switch_idx_cast_i_i_i;
     u32 v_switch_offset_i_i_i;
     u32 v_r9_0_i;
+    v_r3_i2949_i_i = m_v_r3_i2949_i_i;
+    v_r0_i1015_sroa_0_i_sroa_13_i = m_v_r0_i1015_sroa_0_i_sroa_13_i;
+    v_r8_i1011_sroa_0_i_sroa_13_i = m_v_r8_i1011_sroa_0_i_sroa_13_i;
+    v_r13_i349_sroa_0_sroa_0_i_sroa_14_i = m_v_r13_i349_sroa_0_sroa_0_i_sroa_14_i;
+    v_r30_i83_sroa_15_sroa_0_i_sroa_14_i = m_v_r30_i83_sroa_15_sroa_0_i_sroa_14_i;
+    v_r0_i49_sroa_27_sroa_0_i_sroa_14_i = m_v_r0_i49_sroa_27_sroa_0_i_sroa_14_i;
+    v_r9_i10_sroa_11_sroa_0_i_sroa_14_i = m_v_r9_i10_sroa_11_sroa_0_i_sroa_14_i;
+    v_r13_sroa_17_sroa_0_sroa_0_i_sroa_13_i = m_v_r13_sroa_17_sroa_0_sroa_0_i_sroa_13_i;
     v_r2_i_i_i_i_i = m_v_r2_i_i_i_i_i;
     v_r0_i_i_i = m_v_r0_i_i_i;
-    v_r3_i2949_i_i_i_i = m_v_r3_i2949_i_i_i_i;
-    v_r0_i1015_sroa_0_i_i_i_i = m_v_r0_i1015_sroa_0_i_i_i_i;
-    v_r8_i1011_sroa_0_i_i_i_i = m_v_r8_i1011_sroa_0_i_i_i_i;
-    v_r13_i349_sroa_0_sroa_0_i_i_i_i = m_v_r13_i349_sroa_0_sroa_0_i_i_i_i;
-    v_r30_i83_sroa_15_sroa_0_i_i_i_i = m_v_r30_i83_sroa_15_sroa_0_i_i_i_i;
-    v_r0_i49_sroa_27_sroa_0_i_i_i_i = m_v_r0_i49_sroa_27_sroa_0_i_i_i_i;
-    v_r9_i10_sroa_11_sroa_0_i_i_i_i = m_v_r9_i10_sroa_11_sroa_0_i_i_i_i;
-    v_r13_sroa_17_sroa_0_sroa_0_i_i_i_i = m_v_r13_sroa_17_sroa_0_sroa_0_i_i_i_i;
-    v_r8_i65_sroa_16_i_i_i = m_v_r8_i65_sroa_16_i_i_i;
-    v_r30_i23_sroa_15_sroa_0_sroa_0_i_i_i = m_v_r30_i23_sroa_15_sroa_0_sroa_0_i_i_i;
-    v_r0_i1_sroa_27_sroa_0_sroa_0_i_i_i = m_v_r0_i1_sroa_27_sroa_0_sroa_0_i_i_i;
-    v_r15_i_sroa_11_sroa_0_sroa_0_i_i_i = m_v_r15_i_sroa_11_sroa_0_sroa_0_i_i_i;
-    v_r0_sroa_21_sroa_0_i_i_i = m_v_r0_sroa_21_sroa_0_i_i_i;
+    v_r8_i651_i_i_sroa_29_i = m_v_r8_i651_i_i_sroa_29_i;
+    v_r15_i175_sroa_11_sroa_0_sroa_13_i_i_i = m_v_r15_i175_sroa_11_sroa_0_sroa_13_i_i_i;
     v_r3_i25_i = m_v_r3_i25_i;
-    v_r10_sroa_9_i_i = m_v_r10_sroa_9_i_i;
+    v_r10_sroa_29_i_i = m_v_r10_sroa_29_i_i;
     v_r13_sroa_16_i_sroa_24_i = m_v_r13_sroa_16_i_sroa_24_i;
     v_r5_i_i = m_v_r5_i_i;
     v_r8_sroa_17_sroa_25_i = m_v_r8_sroa_17_sroa_25_i;
@@ -30831,89 +31011,158 @@ u32 pkcs1_c_private_key_info_decode(P v_a0, u64 v_a1, P v_a2, P v_a3, P v_a4, u6
     v_r13 = (P)((uintptr_t)v_a4 + (u64)(v_r12));
     fill(v_r8_sroa_17_sroa_25_i, 0u, 16u);
     fill(v_r3_i25_i, 0u, 112u);
-    fill(v_r10_sroa_9_i_i, 0u, 43u);
     fill(v_r13_sroa_16_i_sroa_24_i, 0u, 16u);
-    fill(v_r0_sroa_21_sroa_0_i_i_i, 0u, 43u);
-    fill(v_r15_i_sroa_11_sroa_0_sroa_0_i_i_i, 0u, 43u);
-    v_r16_i91_i_i_i = v_a1 < 4294967296ull;
-    if (v_r16_i91_i_i_i) { goto L_join_3_i_i_i_i_i; } else { goto L_arm_2_i_i_i_i; }
-L_join_3_i_i_i_i_i:;
-    fill(v_r0_i1_sroa_27_sroa_0_sroa_0_i_i_i, 0u, 43u);
-    fill(v_r30_i23_sroa_15_sroa_0_sroa_0_i_i_i, 0u, 43u);
-    v_r39_i_i105_i_i_i = v_a1 == 0u;
-    if (v_r39_i_i105_i_i_i) { p_v_r0_i1_sroa_9_0_ph_i_i_i = 1u; goto L_arm_6_i_i_i_i; } else { goto L_arm_1_i_i_i_i_i; }
+    v_r31_i13_i_i_i = v_a1 < 4u;
+    if (v_r31_i13_i_i_i) { goto L_join_3_i_i1120_i_i_i; } else { goto L_join_5_i14_i_i_i; }
+L_join_5_i14_i_i_i:;
+    v_r40_i15_i_i_i = v_r4 + 2;
+    v_r42_i16_i_i_i = v_r4 + 3;
+    v_r44_i17_i_i_i = v_r4 + 4;
+    v_r47_i18_i_i_i = (u64)((u64)(v_a1) + (u64)(18446744073709551612ull));
+    v_r57_i19_i_i_i = get_u8(v_r4);
+    v_r59_i20_i_i_i = v_r57_i19_i_i_i == 48u;
+    if (v_r59_i20_i_i_i) { goto L_then_6_i26_i_i_i; } else { goto L_join_4_i_i_i; }
+L_then_6_i26_i_i_i:;
+    v_r38_i27_i_i_i = v_r4 + 1;
+    v_r64_i28_i_i_i = get_u8(v_r38_i27_i_i_i);
+    v_r66_i29_i_i_i = v_r64_i28_i_i_i == 130u;
+    if (v_r66_i29_i_i_i) { goto L_then_9_i30_i_i_i; } else { goto L_join_4_i_i_i; }
+L_then_9_i30_i_i_i:;
+    v_r74_i31_i_i_i = get_u8(v_r40_i15_i_i_i);
+    v_r76_not_i32_i_i_i = v_r74_i31_i_i_i == 0u;
+    if (v_r76_not_i32_i_i_i) { goto L_join_4_i_i_i; } else { goto L_then_12_i33_i_i_i; }
+L_then_12_i33_i_i_i:;
+    v_r1_i_i_i_i = (u64)v_r74_i31_i_i_i;
+    v_r88_i35_i_i_i = (u64)((u64)(v_r1_i_i_i_i) << (u64)((8u & 63)));
+    v_r90_i36_i_i_i = get_u8(v_r42_i16_i_i_i);
+    v_r1_i681_i_i_i = (u64)v_r90_i36_i_i_i;
+    v_r95_i38_i_i_i = (u64)((u64)(v_r88_i35_i_i_i) | (u64)(v_r1_i681_i_i_i));
+    v_r7_i688_not_i_i_i = v_r47_i18_i_i_i == v_r95_i38_i_i_i;
+    if (v_r7_i688_not_i_i_i) { goto L_join_5_i_preheader_i_i_i_i; } else { goto L_join_4_i_i_i; }
+L_join_5_i_preheader_i_i_i_i:;
+    v_r16_i689_i_i_i = v_r4 + 22;
+    v_r16_val_i_i_i_i_i_i = get_u8(v_r44_i17_i_i_i);
+    v_r7_i_i_i_i_i_i_i = v_r16_val_i_i_i_i_i_i != 2u;
+    v_r16_i_i_1_i_i_i_i = v_r4 + 5;
+    v_r16_val_i_i_1_i_i_i_i = get_u8(v_r16_i_i_1_i_i_i_i);
+    v_r7_i_i_i_1_i_i_i_i = v_r16_val_i_i_1_i_i_i_i != 1u;
+    v_r20_i_1_i_i_i_i = (u1)(((u32)(v_r7_i_i_i_i_i_i_i) | (u32)(v_r7_i_i_i_1_i_i_i_i)) & 1);
+    v_r16_i_i_2_i_i_i_i = v_r4 + 6;
+    v_r16_val_i_i_2_i_i_i_i = get_u8(v_r16_i_i_2_i_i_i_i);
+    v_r7_i_i_i_2_i_i_i_i = v_r16_val_i_i_2_i_i_i_i != 0u;
+    v_r20_i_2_i_i_i_i = (u1)(((u32)(v_r20_i_1_i_i_i_i) | (u32)(v_r7_i_i_i_2_i_i_i_i)) & 1);
+    v_r16_i_i_3_i_i_i_i = v_r4 + 7;
+    v_r16_val_i_i_3_i_i_i_i = get_u8(v_r16_i_i_3_i_i_i_i);
+    v_r7_i_i_i_3_i_i_i_i = v_r16_val_i_i_3_i_i_i_i != 48u;
+    v_r20_i_3_i_i_i_i = (u1)(((u32)(v_r20_i_2_i_i_i_i) | (u32)(v_r7_i_i_i_3_i_i_i_i)) & 1);
+    if (v_r20_i_3_i_i_i_i) { goto L_join_10_i_i509_i_i_thread_i; } else { goto L_core_cmp_PartialEq_ne_4f69ed2539eb7fe9_exit_i_i_i; }
+L_core_cmp_PartialEq_ne_4f69ed2539eb7fe9_exit_i_i_i:;
+    v_r83_i_i693_i_i_i = f_core_cmp_slices_groups_equal_i8_31_core_cmp_number(v_r44_i17_i_i_i, 18u, (P)f_static_32);
+    if (v_r83_i_i693_i_i_i) { goto L_join_5_i_i_i_i; } else { goto L_join_10_i_i509_i_i_thread_i; }
+L_join_5_i_i_i_i:;
+    v_r40_i3_i_i_i = v_r4 + 24;
+    v_r42_i_i_i_i = v_r4 + 25;
+    v_r44_i_i_i_i = v_r4 + 26;
+    v_r47_i4_i_i_i = (u64)((u64)(v_a1) + (u64)(18446744073709551590ull));
+    v_r57_i_i_i_i = get_u8(v_r16_i689_i_i_i);
+    v_r59_i_i_i_i = v_r57_i_i_i_i == 4u;
+    if (v_r59_i_i_i_i) { goto L_then_6_i_i_i_i; } else { goto L_join_10_i_i509_i_i_thread_i; }
+L_then_6_i_i_i_i:;
+    v_r38_i8_i_i_i = v_r4 + 23;
+    v_r64_i9_i_i_i = get_u8(v_r38_i8_i_i_i);
+    v_r66_i10_i_i_i = v_r64_i9_i_i_i == 130u;
+    if (v_r66_i10_i_i_i) { goto L_then_9_i_i_i_i; } else { goto L_join_10_i_i509_i_i_thread_i; }
+L_then_9_i_i_i_i:;
+    v_r74_i_i_i_i = get_u8(v_r40_i3_i_i_i);
+    v_r76_not_i_i_i_i = v_r74_i_i_i_i == 0u;
+    if (v_r76_not_i_i_i_i) { goto L_join_10_i_i509_i_i_thread_i; } else { goto L_then_12_i_i_i_i; }
+L_then_12_i_i_i_i:;
+    v_r1_i694_i_i_i = (u64)v_r74_i_i_i_i;
+    v_r88_i_i_i_i = (u64)((u64)(v_r1_i694_i_i_i) << (u64)((8u & 63)));
+    v_r90_i_i_i_i = get_u8(v_r42_i_i_i_i);
+    v_r1_i695_i_i_i = (u64)v_r90_i_i_i_i;
+    v_r95_i_i_i_i = (u64)((u64)(v_r88_i_i_i_i) | (u64)(v_r1_i695_i_i_i));
+    v_r15_i696_i_i_i = v_r47_i4_i_i_i < v_r95_i_i_i_i;
+    if (v_r15_i696_i_i_i) { goto L_join_10_i_i509_i_i_thread_i; } else { goto L_arm_21_i_i_i_i; }
+L_arm_21_i_i_i_i:;
+    v_r7_i732_i_i_i = v_r47_i4_i_i_i == v_r95_i_i_i_i;
+    if (v_r7_i732_i_i_i) { p_v_r5_sroa_28_sroa_0_0_i_i_i = (P)0; p_v_r5_sroa_28_sroa_10_0_i_i_i = 0u; p_v_r5_sroa_19_sroa_0_0_i_i_i = 0u; goto L_pkcs8_core_info_PrivateKeyInfoRefTryFromRefSliceU8; } else { goto L_arm_1_i_i_i_i_i; }
 L_arm_1_i_i_i_i_i:;
-    v_r16_i_i_i_i_i_i = v_r4 + 1;
-    v_r29_i107_i_i_i = get_u8(v_r4);
-    v_r8_i22_i_i_i_i = v_r29_i107_i_i_i == 48u;
-    if (v_r8_i22_i_i_i_i) { goto L_join_3_i_i134_i_i_i; } else { goto L_der_core_header_tag_of_exit_i_i_i_i; }
+    v_r29_i698_i_i_i = (P)((uintptr_t)v_r44_i_i_i_i + (u64)(v_r95_i_i_i_i));
+    v_r16_i_i_i_i_i_i = v_r29_i698_i_i_i + 1;
+    v_0 = (u64)((u64)(v_r95_i_i_i_i) ^ (u64)(18446744073709551615ull));
+    v_r19_i_i_i_i_i_i = (u64)((u64)(v_r47_i4_i_i_i) + (u64)(v_0));
+    v_r29_i751_i_i_i = get_u8(v_r29_i698_i_i_i);
+    v_r8_i22_i_i_i_i = v_r29_i751_i_i_i == 160u;
+    if (v_r8_i22_i_i_i_i) { goto L_join_3_i_i780_i_i_i; } else { goto L_der_core_header_tag_of_exit_i_i_i_i; }
 L_der_core_header_tag_of_exit_i_i_i_i:;
-    v_r9_i120_i_i_i = (u8)((u32)(v_r29_i107_i_i_i) & (u32)(31u));
-    v_r11_i121_i_i_i = v_r9_i120_i_i_i != 31u;
-    v_0 = (u8)((u32)(v_r29_i107_i_i_i) & (u32)(223u));
-    v_1 = v_0 != 0u;
-    v_r2_0_in_i_not_i_i_i = (u1)(((u32)(v_r11_i121_i_i_i) & (u32)(v_1)) & 1);
-    if (v_r2_0_in_i_not_i_i_i) { goto L_join_3_i_i134_i_i_i; } else { p_v_r0_i1_sroa_9_0_ph_i_i_i = 11u; goto L_arm_6_i_i_i_i; }
-L_join_3_i_i134_i_i_i:;
-    v_r39_i_i137_i_i_i = v_a1 == 1u;
-    if (v_r39_i_i137_i_i_i) { p_v_r0_i1_sroa_9_0_ph_i_i_i = 1u; goto L_arm_6_i_i_i_i; } else { goto L_arm_1_i59_i_i_i_i; }
+    v_r9_i766_i_i_i = (u8)((u32)(v_r29_i751_i_i_i) & (u32)(31u));
+    v_r11_i767_i_i_i = v_r9_i766_i_i_i == 31u;
+    v_1 = (u8)((u32)(v_r29_i751_i_i_i) & (u32)(223u));
+    v_2 = v_1 == 0u;
+    v_r2_0_in_i_not_not2997_i_i_i = (u1)(((u32)(v_r11_i767_i_i_i) | (u32)(v_2)) & 1);
+    v_r39_i_i783_i_i_i = v_r19_i_i_i_i_i_i == 0u;
+    v_or_cond2993_i_i_i = v_r2_0_in_i_not_not2997_i_i_i ? 1u : v_r39_i_i783_i_i_i;
+    if (v_or_cond2993_i_i_i) { goto L_join_10_i_i509_i_i_thread_i; } else { goto L_arm_1_i59_i_i_i_i; }
+L_join_3_i_i780_i_i_i:;
+    v_r39_i_i783_old_i_i_i = v_r19_i_i_i_i_i_i == 0u;
+    if (v_r39_i_i783_old_i_i_i) { goto L_join_10_i_i509_i_i_thread_i; } else { goto L_arm_1_i59_i_i_i_i; }
 L_arm_1_i59_i_i_i_i:;
-    v_r16_i_i_i140_i_i_i = v_r4 + 2;
-    v_r19_i_i_i141_i_i_i = (u64)((u64)(v_a1) + (u64)(18446744073709551614ull));
-    v_r29_i142_i_i_i = get_u8(v_r16_i_i_i_i_i_i);
-    v_r51_i62_i_i_i_i = (u8)(v_r29_i142_i_i_i ^ ((u8)1 << 7)) > (u8)(255u ^ ((u8)1 << 7));
+    v_r16_i_i_i786_i_i_i = v_r29_i698_i_i_i + 2;
+    v_r19_i_i_i787_i_i_i = (u64)((u64)(v_r19_i_i_i_i_i_i) + (u64)(18446744073709551615ull));
+    v_r29_i788_i_i_i = get_u8(v_r16_i_i_i_i_i_i);
+    v_r51_i62_i_i_i_i = (u8)(v_r29_i788_i_i_i ^ ((u8)1 << 7)) > (u8)(255u ^ ((u8)1 << 7));
     if (v_r51_i62_i_i_i_i) { goto L_then_5_i_i_i_i_i; } else { goto L_join_7_i63_i_i_i_i; }
 L_then_5_i_i_i_i_i:;
-    v_r56_i73_i_i_i_i = (u64)v_r29_i142_i_i_i;
-    { p_v_r4_i_sroa_12_2917_i_i_i = v_r19_i_i_i141_i_i_i; p_v_r4_i_sroa_0_2915_i_i_i = v_r16_i_i_i140_i_i_i; p_v_r12_sroa_10_0_i_i_i_i = v_r56_i73_i_i_i_i; goto L_arm_1_i42_i_i_i; }
+    v_r56_i73_i_i_i_i = (u64)v_r29_i788_i_i_i;
+    { p_v_r4_i_sroa_12_22588_i_i_i = v_r19_i_i_i787_i_i_i; p_v_r4_i_sroa_0_22586_i_i_i = v_r16_i_i_i786_i_i_i; p_v_r12_sroa_10_0_i_i_i_i = v_r56_i73_i_i_i_i; goto L_arm_1_i118_i_i_i; }
 L_join_7_i63_i_i_i_i:;
-    v_r68_i64_i_i_i_i = v_r29_i142_i_i_i == 128u;
-    if (v_r68_i64_i_i_i_i) { p_v_r0_i1_sroa_9_0_ph_i_i_i = 2u; goto L_arm_6_i_i_i_i; } else { goto L_join_10_i_i_i_i_i; }
-L_join_10_i_i_i_i_i:;
-    v_r87_i_i_i_i_i = v_r29_i142_i_i_i > 132u;
-    if (v_r87_i_i_i_i_i) { p_v_r0_i1_sroa_9_0_ph_i_i_i = 7u; goto L_arm_6_i_i_i_i; } else { goto L_join_3_i_i_i_i; }
-L_join_3_i_i_i_i:;
-    v_r106_i_i_i_i_i = (u8)((u32)(v_r29_i142_i_i_i) & (u32)(127u));
+    v_r68_i64_i_i_i_i = v_r29_i788_i_i_i == 128u;
+    v_r87_i_i_i_i_i = v_r29_i788_i_i_i > 132u;
+    v_or_cond_i_i_i = (u1)(((u32)(v_r68_i64_i_i_i_i) | (u32)(v_r87_i_i_i_i_i)) & 1);
+    if (v_or_cond_i_i_i) { goto L_join_10_i_i509_i_i_thread_i; } else { goto L_join_3_i829_i_i_i; }
+L_join_3_i829_i_i_i:;
+    v_r106_i_i_i_i_i = (u8)((u32)(v_r29_i788_i_i_i) & (u32)(127u));
     v_r3_i25_i_i_i_i = (u64)v_r106_i_i_i_i_i;
-    v_r39_i185_i_i_i = v_r19_i_i_i141_i_i_i < v_r3_i25_i_i_i_i;
-    if (v_r39_i185_i_i_i) { p_v_r0_i1_sroa_9_0_ph_i_i_i = 1u; goto L_arm_6_i_i_i_i; } else { goto L_arm_14_i_i_i_i_i; }
+    v_r39_i832_i_i_i = v_r19_i_i_i787_i_i_i < v_r3_i25_i_i_i_i;
+    if (v_r39_i832_i_i_i) { goto L_join_10_i_i509_i_i_thread_i; } else { goto L_arm_14_i_i_i_i_i; }
 L_arm_14_i_i_i_i_i:;
-    v_r16_i_i187_i_i_i = (P)((uintptr_t)v_r16_i_i_i140_i_i_i + (u64)(v_r3_i25_i_i_i_i));
-    v_r19_i_i188_i_i_i = (u64)((u64)(v_r19_i_i_i141_i_i_i) - (u64)(v_r3_i25_i_i_i_i));
+    v_r16_i_i834_i_i_i = (P)((uintptr_t)v_r16_i_i_i786_i_i_i + (u64)(v_r3_i25_i_i_i_i));
+    v_r19_i_i835_i_i_i = (u64)((u64)(v_r19_i_i_i787_i_i_i) - (u64)(v_r3_i25_i_i_i_i));
     switch (v_r106_i_i_i_i_i) {
-    case 0u: { p_v_r0_i1_sroa_9_0_ph_i_i_i = 8u; goto L_arm_6_i_i_i_i; }
+    case 0u: { goto L_join_10_i_i509_i_i_thread_i; }
     case 1u: { goto L_der_core_length_is_overlong_exit_i_i_i; }
-    default: { goto L_join_7_i218_i_i_i; }
+    default: { goto L_join_7_i865_i_i_i; }
     }
-L_join_7_i218_i_i_i:;
-    v_r36_i219_i_i_i = get_u8(v_r16_i_i_i140_i_i_i);
-    v_r38_i220_i_i_i = v_r36_i219_i_i_i == 0u;
-    if (v_r38_i220_i_i_i) { p_v_r0_i1_sroa_9_0_ph_i_i_i = 8u; goto L_arm_6_i_i_i_i; } else { goto L_join_7_i82_i_i_i_i; }
+L_join_7_i865_i_i_i:;
+    v_r36_i866_i_i_i = get_u8(v_r16_i_i_i786_i_i_i);
+    v_r38_i867_i_i_i = v_r36_i866_i_i_i == 0u;
+    if (v_r38_i867_i_i_i) { goto L_join_10_i_i509_i_i_thread_i; } else { goto L_join_7_i82_i_i_i_i; }
 L_der_core_length_is_overlong_exit_i_i_i:;
-    v_r28_i216_i_i_i = get_u8(v_r16_i_i_i140_i_i_i);
-    v_r30_i217_i_i_i = (u8)(v_r28_i216_i_i_i ^ ((u8)1 << 7)) > (u8)(255u ^ ((u8)1 << 7));
-    if (v_r30_i217_i_i_i) { p_v_r0_i1_sroa_9_0_ph_i_i_i = 8u; goto L_arm_6_i_i_i_i; } else { goto L_then_5_i80_i_i_i_i; }
+    v_r28_i863_i_i_i = get_u8(v_r16_i_i_i786_i_i_i);
+    v_r30_i864_i_i_i = (u8)(v_r28_i863_i_i_i ^ ((u8)1 << 7)) > (u8)(255u ^ ((u8)1 << 7));
+    if (v_r30_i864_i_i_i) { goto L_join_10_i_i509_i_i_thread_i; } else { goto L_then_5_i80_i_i_i_i; }
 L_then_5_i80_i_i_i_i:;
-    v_r71_i_i_i_i_i = (u64)v_r28_i216_i_i_i;
-    { p_v_r4_i_sroa_12_2917_i_i_i = v_r19_i_i188_i_i_i; p_v_r4_i_sroa_0_2915_i_i_i = v_r16_i_i187_i_i_i; p_v_r12_sroa_10_0_i_i_i_i = v_r71_i_i_i_i_i; goto L_arm_1_i42_i_i_i; }
+    v_r71_i_i_i_i_i = (u64)v_r28_i863_i_i_i;
+    { p_v_r4_i_sroa_12_22588_i_i_i = v_r19_i_i835_i_i_i; p_v_r4_i_sroa_0_22586_i_i_i = v_r16_i_i834_i_i_i; p_v_r12_sroa_10_0_i_i_i_i = v_r71_i_i_i_i_i; goto L_arm_1_i118_i_i_i; }
 L_join_7_i82_i_i_i_i:;
     v_r74_i83_i_i_i_i = v_r106_i_i_i_i_i < 3u;
     if (v_r74_i83_i_i_i_i) { goto L_then_8_i106_i_i_i_i; } else { goto L_join_10_i84_i_i_i_i; }
 L_then_8_i106_i_i_i_i:;
-    v_r81_i107_i_i_i_i = v_r4 + 3;
-    v_r87_i109_i_i_i_i = (u64)v_r36_i219_i_i_i;
+    v_r81_i107_i_i_i_i = v_r29_i698_i_i_i + 3;
+    v_r87_i109_i_i_i_i = (u64)v_r36_i866_i_i_i;
     v_r89_i_i_i_i_i = (u64)((u64)(v_r87_i109_i_i_i_i) << (u64)((8u & 63)));
     v_r91_i_i_i_i_i = get_u8(v_r81_i107_i_i_i_i);
     v_r93_i110_i_i_i_i = (u64)v_r91_i_i_i_i_i;
     v_r96_i111_i_i_i_i = (u64)((u64)(v_r89_i_i_i_i_i) | (u64)(v_r93_i110_i_i_i_i));
-    { p_v_r4_i_sroa_12_2917_i_i_i = v_r19_i_i188_i_i_i; p_v_r4_i_sroa_0_2915_i_i_i = v_r16_i_i187_i_i_i; p_v_r12_sroa_10_0_i_i_i_i = v_r96_i111_i_i_i_i; goto L_arm_1_i42_i_i_i; }
+    { p_v_r4_i_sroa_12_22588_i_i_i = v_r19_i_i835_i_i_i; p_v_r4_i_sroa_0_22586_i_i_i = v_r16_i_i834_i_i_i; p_v_r12_sroa_10_0_i_i_i_i = v_r96_i111_i_i_i_i; goto L_arm_1_i118_i_i_i; }
 L_join_10_i84_i_i_i_i:;
     v_r99_i85_i_i_i_i = v_r106_i_i_i_i_i == 3u;
     if (v_r99_i85_i_i_i_i) { goto L_then_11_i95_i_i_i_i; } else { goto L_join_13_i86_i_i_i_i; }
 L_then_11_i95_i_i_i_i:;
-    v_r106_i96_i_i_i_i = v_r4 + 3;
-    v_r108_i97_i_i_i_i = v_r4 + 4;
-    v_r115_i99_i_i_i_i = (u64)v_r36_i219_i_i_i;
+    v_r106_i96_i_i_i_i = v_r29_i698_i_i_i + 3;
+    v_r108_i97_i_i_i_i = v_r29_i698_i_i_i + 4;
+    v_r115_i99_i_i_i_i = (u64)v_r36_i866_i_i_i;
     v_r117_i100_i_i_i_i = (u64)((u64)(v_r115_i99_i_i_i_i) << (u64)((16u & 63)));
     v_r119_i101_i_i_i_i = get_u8(v_r106_i96_i_i_i_i);
     v_r121_i102_i_i_i_i = (u64)v_r119_i101_i_i_i_i;
@@ -30922,15 +31171,15 @@ L_then_11_i95_i_i_i_i:;
     v_r128_i_i_i_i_i = get_u8(v_r108_i97_i_i_i_i);
     v_r130_i105_i_i_i_i = (u64)v_r128_i_i_i_i_i;
     v_r133_i_i_i_i_i = (u64)((u64)(v_r126_i104_i_i_i_i) | (u64)(v_r130_i105_i_i_i_i));
-    { p_v_r4_i_sroa_12_2917_i_i_i = v_r19_i_i188_i_i_i; p_v_r4_i_sroa_0_2915_i_i_i = v_r16_i_i187_i_i_i; p_v_r12_sroa_10_0_i_i_i_i = v_r133_i_i_i_i_i; goto L_arm_1_i42_i_i_i; }
+    { p_v_r4_i_sroa_12_22588_i_i_i = v_r19_i_i835_i_i_i; p_v_r4_i_sroa_0_22586_i_i_i = v_r16_i_i834_i_i_i; p_v_r12_sroa_10_0_i_i_i_i = v_r133_i_i_i_i_i; goto L_arm_1_i118_i_i_i; }
 L_join_13_i86_i_i_i_i:;
     v_r136_i87_i_i_i_i = v_r106_i_i_i_i_i < 5u;
     if (v_r136_i87_i_i_i_i) { goto L_then_14_i_i_i_i_i; } else { goto L_join_16_i_i_i_i_i; }
 L_then_14_i_i_i_i_i:;
-    v_r143_i88_i_i_i_i = v_r4 + 3;
-    v_r145_i89_i_i_i_i = v_r4 + 4;
-    v_r147_i90_i_i_i_i = v_r4 + 5;
-    v_r155_i92_i_i_i_i = (u64)v_r36_i219_i_i_i;
+    v_r143_i88_i_i_i_i = v_r29_i698_i_i_i + 3;
+    v_r145_i89_i_i_i_i = v_r29_i698_i_i_i + 4;
+    v_r147_i90_i_i_i_i = v_r29_i698_i_i_i + 5;
+    v_r155_i92_i_i_i_i = (u64)v_r36_i866_i_i_i;
     v_r157_i93_i_i_i_i = (u64)((u64)(v_r155_i92_i_i_i_i) << (u64)((24u & 63)));
     v_r159_i94_i_i_i_i = get_u8(v_r143_i88_i_i_i_i);
     v_r161_i_i_i_i_i = (u64)v_r159_i94_i_i_i_i;
@@ -30943,846 +31192,1016 @@ L_then_14_i_i_i_i_i:;
     v_r177_i_i_i_i_i = get_u8(v_r147_i90_i_i_i_i);
     v_r179_i_i_i_i_i = (u64)v_r177_i_i_i_i_i;
     v_r182_i_i_i_i_i = (u64)((u64)(v_r175_i_i_i_i_i) | (u64)(v_r179_i_i_i_i_i));
-    { p_v_r4_i_sroa_12_2917_i_i_i = v_r19_i_i188_i_i_i; p_v_r4_i_sroa_0_2915_i_i_i = v_r16_i_i187_i_i_i; p_v_r12_sroa_10_0_i_i_i_i = v_r182_i_i_i_i_i; goto L_arm_1_i42_i_i_i; }
+    { p_v_r4_i_sroa_12_22588_i_i_i = v_r19_i_i835_i_i_i; p_v_r4_i_sroa_0_22586_i_i_i = v_r16_i_i834_i_i_i; p_v_r12_sroa_10_0_i_i_i_i = v_r182_i_i_i_i_i; goto L_arm_1_i118_i_i_i; }
 L_join_16_i_i_i_i_i:;
     __builtin_trap();
     __builtin_trap();
-L_arm_1_i42_i_i_i:;
-    v_r4_i_sroa_12_2917_i_i_i = p_v_r4_i_sroa_12_2917_i_i_i;
-    v_r4_i_sroa_0_2915_i_i_i = p_v_r4_i_sroa_0_2915_i_i_i;
+L_arm_1_i118_i_i_i:;
+    v_r4_i_sroa_12_22588_i_i_i = p_v_r4_i_sroa_12_22588_i_i_i;
+    v_r4_i_sroa_0_22586_i_i_i = p_v_r4_i_sroa_0_22586_i_i_i;
     v_r12_sroa_10_0_i_i_i_i = p_v_r12_sroa_10_0_i_i_i_i;
-    if (v_r8_i22_i_i_i_i) { goto L_join_3_i_i296_i_i_i; } else { p_v_r0_i1_sroa_9_0_ph_i_i_i = 10u; goto L_arm_6_i_i_i_i; }
-L_join_3_i_i296_i_i_i:;
-    v_r39_i_i299_i_i_i = v_r4_i_sroa_12_2917_i_i_i < v_r12_sroa_10_0_i_i_i_i;
-    if (v_r39_i_i299_i_i_i) { p_v_r0_i1_sroa_9_0_ph_i_i_i = 1u; goto L_arm_6_i_i_i_i; } else { goto L_join_3_i_i1565_i_i_i_i; }
-L_join_3_i_i1565_i_i_i_i:;
-    fill(v_r8_i65_sroa_16_i_i_i, 0u, 43u);
-    fill(v_r13_sroa_17_sroa_0_sroa_0_i_i_i_i, 0u, 43u);
-    v_r39_i_i1568_i_i_i_i = v_r12_sroa_10_0_i_i_i_i == 0u;
-    if (v_r39_i_i1568_i_i_i_i) { p_v_r8_i65_sroa_0_sroa_7_0_ph_i_i_i = 1u; goto L_arm_12_i_i_i_i; } else { goto L_arm_1_i_i_i_i_i_i; }
-L_arm_1_i_i_i_i_i_i:;
-    v_r16_i_i_i1570_i_i_i_i = v_r4_i_sroa_0_2915_i_i_i + 1;
-    v_r29_i1572_i_i_i_i = get_u8(v_r4_i_sroa_0_2915_i_i_i);
-    v_r8_i22_i_i_i_i_i = v_r29_i1572_i_i_i_i == 2u;
-    if (v_r8_i22_i_i_i_i_i) { goto L_join_3_i_i1598_i_i_i_i; } else { goto L_der_core_header_tag_of_exit_i_i_i_i_i; }
-L_der_core_header_tag_of_exit_i_i_i_i_i:;
-    v_r9_i1584_i_i_i_i = (u8)((u32)(v_r29_i1572_i_i_i_i) & (u32)(31u));
-    v_r11_i1585_i_i_i_i = v_r9_i1584_i_i_i_i != 31u;
-    v_2 = (u8)((u32)(v_r29_i1572_i_i_i_i) & (u32)(223u));
-    v_3 = v_2 != 0u;
-    v_r2_0_in_i_not_i_i_i_i = (u1)(((u32)(v_r11_i1585_i_i_i_i) & (u32)(v_3)) & 1);
-    if (v_r2_0_in_i_not_i_i_i_i) { goto L_join_3_i_i1598_i_i_i_i; } else { p_v_r8_i65_sroa_0_sroa_7_0_ph_i_i_i = 11u; goto L_arm_12_i_i_i_i; }
-L_join_3_i_i1598_i_i_i_i:;
-    v_r39_i_i1601_i_i_i_i = v_r12_sroa_10_0_i_i_i_i == 1u;
-    if (v_r39_i_i1601_i_i_i_i) { p_v_r8_i65_sroa_0_sroa_7_0_ph_i_i_i = 1u; goto L_arm_12_i_i_i_i; } else { goto L_arm_1_i59_i_i_i_i_i; }
-L_arm_1_i59_i_i_i_i_i:;
-    v_r16_i_i_i1604_i_i_i_i = v_r4_i_sroa_0_2915_i_i_i + 2;
-    v_r19_i_i_i1605_i_i_i_i = (u64)((u64)(v_r12_sroa_10_0_i_i_i_i) + (u64)(18446744073709551614ull));
-    v_r29_i1606_i_i_i_i = get_u8(v_r16_i_i_i1570_i_i_i_i);
-    v_r51_i62_i_i_i_i_i = (u8)(v_r29_i1606_i_i_i_i ^ ((u8)1 << 7)) > (u8)(255u ^ ((u8)1 << 7));
-    if (v_r51_i62_i_i_i_i_i) { goto L_then_5_i_i_i_i_i_i; } else { goto L_join_7_i63_i_i_i_i_i; }
-L_then_5_i_i_i_i_i_i:;
-    v_r56_i73_i_i_i_i_i = (u32)v_r29_i1606_i_i_i_i;
-    { p_v_r13_sroa_0_0_copyload_i_i1760_i_i_i_i = v_r16_i_i_i1604_i_i_i_i; p_v_r36_i_i1757_i_i_i_i = v_r19_i_i_i1605_i_i_i_i; p_v_r12_sroa_10_0_i_i_i_i_i = v_r56_i73_i_i_i_i_i; goto L_arm_1_i_i337_i_i_i; }
-L_join_7_i63_i_i_i_i_i:;
-    v_r68_i64_i_i_i_i_i = v_r29_i1606_i_i_i_i == 128u;
-    if (v_r68_i64_i_i_i_i_i) { p_v_r8_i65_sroa_0_sroa_7_0_ph_i_i_i = 2u; goto L_arm_12_i_i_i_i; } else { goto L_join_10_i_i_i_i_i_i; }
-L_join_10_i_i_i_i_i_i:;
-    v_r87_i_i_i_i_i_i = v_r29_i1606_i_i_i_i > 132u;
-    if (v_r87_i_i_i_i_i_i) { p_v_r8_i65_sroa_0_sroa_7_0_ph_i_i_i = 7u; goto L_arm_12_i_i_i_i; } else { goto L_join_3_i1647_i_i_i_i; }
-L_join_3_i1647_i_i_i_i:;
-    v_r106_i_i_i_i_i_i = (u8)((u32)(v_r29_i1606_i_i_i_i) & (u32)(127u));
-    v_r3_i25_i_i336_i_i_i = (u64)v_r106_i_i_i_i_i_i;
-    v_r39_i1650_i_i_i_i = v_r19_i_i_i1605_i_i_i_i < v_r3_i25_i_i336_i_i_i;
-    if (v_r39_i1650_i_i_i_i) { p_v_r8_i65_sroa_0_sroa_7_0_ph_i_i_i = 1u; goto L_arm_12_i_i_i_i; } else { goto L_arm_14_i_i_i_i_i_i; }
-L_arm_14_i_i_i_i_i_i:;
-    v_r16_i_i1652_i_i_i_i = (P)((uintptr_t)v_r16_i_i_i1604_i_i_i_i + (u64)(v_r3_i25_i_i336_i_i_i));
-    v_r19_i_i1653_i_i_i_i = (u64)((u64)(v_r19_i_i_i1605_i_i_i_i) - (u64)(v_r3_i25_i_i336_i_i_i));
-    switch (v_r106_i_i_i_i_i_i) {
-    case 0u: { p_v_r8_i65_sroa_0_sroa_7_0_ph_i_i_i = 8u; goto L_arm_12_i_i_i_i; }
-    case 1u: { goto L_der_core_length_is_overlong_exit_i_i_i_i; }
-    default: { goto L_join_7_i1676_i_i_i_i; }
+    v_r7_i_i1042_i_i_i = v_r4_i_sroa_12_22588_i_i_i == v_r12_sroa_10_0_i_i_i_i;
+    v_or_cond2996_i_i_i = v_r8_i22_i_i_i_i ? v_r7_i_i1042_i_i_i : 0u;
+    if (v_or_cond2996_i_i_i) { p_v_r5_sroa_28_sroa_0_0_i_i_i = v_r4_i_sroa_0_22586_i_i_i; p_v_r5_sroa_28_sroa_10_0_i_i_i = v_r4_i_sroa_12_22588_i_i_i; p_v_r5_sroa_19_sroa_0_0_i_i_i = 1u; goto L_pkcs8_core_info_PrivateKeyInfoRefTryFromRefSliceU8; } else { goto L_join_10_i_i509_i_i_thread_i; }
+L_pkcs8_core_info_PrivateKeyInfoRefTryFromRefSliceU8:;
+    v_r5_sroa_28_sroa_0_0_i_i_i = p_v_r5_sroa_28_sroa_0_0_i_i_i;
+    v_r5_sroa_28_sroa_10_0_i_i_i = p_v_r5_sroa_28_sroa_10_0_i_i_i;
+    v_r5_sroa_19_sroa_0_0_i_i_i = p_v_r5_sroa_19_sroa_0_0_i_i_i;
+    fill(v_r10_sroa_29_i_i, 0u, 30u);
+    { p_v_r0_sroa_49_sroa_8_0_sink_i94_i_i = v_r5_sroa_28_sroa_10_0_i_i_i; p_v_r0_sroa_49_sroa_0_0_sink_i93_i_i = v_r5_sroa_28_sroa_0_0_i_i_i; p_v_r0_sroa_48_0_sink_i92_i_i = v_r5_sroa_19_sroa_0_0_i_i_i; p_v_r0_sroa_47_sroa_8_0_sink_i91_i_i = v_r95_i_i_i_i; p_v_r0_sroa_47_sroa_0_0_sink_i90_i_i = v_r44_i_i_i_i; p_v_r0_sroa_46_0_sink_i89_i_i = 0u; p_v_r0_sroa_45_0_sink_i88_i_i = (P)f_static_27; p_v_r0_sroa_44_0_sink_i87_i_i = 5u; p_v_r0_sroa_43_0_sink_i86_i_i = 1u; p_v_r0_sroa_42_0_sink_i85_i_i = 9u; p_v_r10_sroa_27_084_i_i = 1u; p_v_r10_sroa_25_083_i_i = 1u; p_v_r10_sroa_23_082_i_i = 1u; p_v_r10_sroa_21_081_i_i = 13u; p_v_r10_sroa_19_080_i_i = 247u; p_v_r10_sroa_17_079_i_i = 134u; p_v_r10_sroa_15_078_i_i = 72u; p_v_r10_sroa_13_077_i_i = 134u; p_v_r10_sroa_1029_076_i_i = 42u; goto L_arm_1_i_i; }
+L_join_4_i_i_i:;
+    v_r16_i1091_i_i_i = v_a1 < 4294967296ull;
+    if (v_r16_i1091_i_i_i) { p_v_r29_i1128_i_i_i = v_r57_i19_i_i_i; goto L_arm_1_i_i412_i_i_i; } else { p_v_r0_sroa_8_0_i_ph_i_i = 7u; goto L_arm_2_thread_i; }
+L_join_10_i_i509_i_i_thread_i:;
+    v_r19_i_i_i1175_i_i325_i = (u64)((u64)(v_a1) + (u64)(18446744073709551614ull));
+    { p_v_r19_i_i_i1175_i_i331337349_i = v_r19_i_i_i1175_i_i325_i; p_v_r16_i_i_i1174_i_i330338348_i = v_r40_i15_i_i_i; p_v_r8_i22_i416_i184189_i329339347_i = 1u; p_v_r29_i1176_i_i327340346_i = 130u; goto L_join_3_i1217_i_i_i; }
+L_join_3_i_i1120_i_i_i:;
+    v_r39_i_i1123_i_i_i = v_a1 == 0u;
+    if (v_r39_i_i1123_i_i_i) { p_v_r0_sroa_8_0_i_ph_i_i = 1u; goto L_arm_2_thread_i; } else { goto L_join_3_i_i1120_i_arm_1_i_i412_i_crit_edge_i_i; }
+L_join_3_i_i1120_i_arm_1_i_i412_i_crit_edge_i_i:;
+    v_r29_i1128_i_pre_i_i = get_u8(v_r4);
+    { p_v_r29_i1128_i_i_i = v_r29_i1128_i_pre_i_i; goto L_arm_1_i_i412_i_i_i; }
+L_arm_1_i_i412_i_i_i:;
+    v_r29_i1128_i_i_i = p_v_r29_i1128_i_i_i;
+    v_r8_i22_i416_i_i_i = v_r29_i1128_i_i_i == 48u;
+    if (v_r8_i22_i416_i_i_i) { goto L_join_3_i_i1168_i_i_i; } else { goto L_der_core_header_tag_of_exit_i418_i_i_i; }
+L_der_core_header_tag_of_exit_i418_i_i_i:;
+    v_r9_i1150_i_i_i = (u8)((u32)(v_r29_i1128_i_i_i) & (u32)(31u));
+    v_r11_i1151_i_i_i = v_r9_i1150_i_i_i != 31u;
+    v_3 = (u8)((u32)(v_r29_i1128_i_i_i) & (u32)(223u));
+    v_4 = v_3 != 0u;
+    v_r2_0_in_i1152_not_i_i_i = (u1)(((u32)(v_r11_i1151_i_i_i) & (u32)(v_4)) & 1);
+    if (v_r2_0_in_i1152_not_i_i_i) { goto L_join_3_i_i1168_i_i_i; } else { p_v_r0_sroa_8_0_i_ph_i_i = 11u; goto L_arm_2_thread_i; }
+L_join_3_i_i1168_i_i_i:;
+    v_r39_i_i1171_i_i_i = v_a1 == 1u;
+    if (v_r39_i_i1171_i_i_i) { p_v_r0_sroa_8_0_i_ph_i_i = 1u; goto L_arm_2_thread_i; } else { goto L_arm_1_i59_i503_i_i_i; }
+L_arm_1_i59_i503_i_i_i:;
+    v_r16_i_i_i1126_i183190_i_phi_trans_insert_i = v_r4 + 1;
+    v_r29_i1176_i_i_pre_i = get_u8(v_r16_i_i_i1126_i183190_i_phi_trans_insert_i);
+    v_r16_i_i_i1174_i_i_i = v_r4 + 2;
+    v_r19_i_i_i1175_i_i_i = (u64)((u64)(v_a1) + (u64)(18446744073709551614ull));
+    v_r51_i62_i506_i_i_i = (u8)(v_r29_i1176_i_i_pre_i ^ ((u8)1 << 7)) > (u8)(255u ^ ((u8)1 << 7));
+    if (v_r51_i62_i506_i_i_i) { goto L_arm_1_i336_i_i_i; } else { goto L_join_7_i63_i507_i_i_i; }
+L_join_7_i63_i507_i_i_i:;
+    v_r68_i64_i508_i_i_i = v_r29_i1176_i_i_pre_i == 128u;
+    if (v_r68_i64_i508_i_i_i) { p_v_r0_sroa_8_0_i_ph_i_i = 2u; goto L_arm_2_thread_i; } else { goto L_join_10_i_i509_i_i_i; }
+L_join_10_i_i509_i_i_i:;
+    v_r87_i_i510_i_i_i = v_r29_i1176_i_i_pre_i > 132u;
+    if (v_r87_i_i510_i_i_i) { p_v_r0_sroa_8_0_i_ph_i_i = 7u; goto L_arm_2_thread_i; } else { p_v_r19_i_i_i1175_i_i331337349_i = v_r19_i_i_i1175_i_i_i; p_v_r16_i_i_i1174_i_i330338348_i = v_r16_i_i_i1174_i_i_i; p_v_r8_i22_i416_i184189_i329339347_i = v_r8_i22_i416_i_i_i; p_v_r29_i1176_i_i327340346_i = v_r29_i1176_i_i_pre_i; goto L_join_3_i1217_i_i_i; }
+L_join_3_i1217_i_i_i:;
+    v_r19_i_i_i1175_i_i331337349_i = p_v_r19_i_i_i1175_i_i331337349_i;
+    v_r16_i_i_i1174_i_i330338348_i = p_v_r16_i_i_i1174_i_i330338348_i;
+    v_r8_i22_i416_i184189_i329339347_i = p_v_r8_i22_i416_i184189_i329339347_i;
+    v_r29_i1176_i_i327340346_i = p_v_r29_i1176_i_i327340346_i;
+    v_r106_i_i512_i_i_i = (u8)((u32)(v_r29_i1176_i_i327340346_i) & (u32)(127u));
+    v_r3_i25_i1218_i_i_i = (u64)v_r106_i_i512_i_i_i;
+    v_r39_i1221_i_i_i = v_r19_i_i_i1175_i_i331337349_i < v_r3_i25_i1218_i_i_i;
+    if (v_r39_i1221_i_i_i) { p_v_r0_sroa_8_0_i_ph_i_i = 1u; goto L_arm_2_thread_i; } else { goto L_arm_14_i_i529_i_i_i; }
+L_arm_14_i_i529_i_i_i:;
+    v_5 = v_r4 + 2;
+    v_r16_i_i1225_i_i_i = (P)((uintptr_t)v_5 + (u64)(v_r3_i25_i1218_i_i_i));
+    v_r19_i_i1226_i_i_i = (u64)((u64)(v_r19_i_i_i1175_i_i331337349_i) - (u64)(v_r3_i25_i1218_i_i_i));
+    switch (v_r106_i_i512_i_i_i) {
+    case 0u: { p_v_r0_sroa_8_0_i_ph_i_i = 8u; goto L_arm_2_thread_i; }
+    case 1u: { goto L_der_core_length_is_overlong_exit1265_i_i_i; }
+    default: { goto L_join_7_i1262_i_i_i; }
     }
-L_join_7_i1676_i_i_i_i:;
-    v_r36_i1677_i_i_i_i = get_u8(v_r16_i_i_i1604_i_i_i_i);
-    v_r38_i1678_i_i_i_i = v_r36_i1677_i_i_i_i == 0u;
-    if (v_r38_i1678_i_i_i_i) { p_v_r8_i65_sroa_0_sroa_7_0_ph_i_i_i = 8u; goto L_arm_12_i_i_i_i; } else { goto L_join_7_i82_i_i_i_i_i; }
-L_der_core_length_is_overlong_exit_i_i_i_i:;
-    v_r28_i1674_i_i_i_i = get_u8(v_r16_i_i_i1604_i_i_i_i);
-    v_r30_i1675_i_i_i_i = (u8)(v_r28_i1674_i_i_i_i ^ ((u8)1 << 7)) > (u8)(255u ^ ((u8)1 << 7));
-    if (v_r30_i1675_i_i_i_i) { p_v_r8_i65_sroa_0_sroa_7_0_ph_i_i_i = 8u; goto L_arm_12_i_i_i_i; } else { goto L_then_5_i80_i_i_i_i_i; }
-L_then_5_i80_i_i_i_i_i:;
-    v_r71_i_i_i_i_i_i = (u32)v_r28_i1674_i_i_i_i;
-    { p_v_r13_sroa_0_0_copyload_i_i1760_i_i_i_i = v_r16_i_i1652_i_i_i_i; p_v_r36_i_i1757_i_i_i_i = v_r19_i_i1653_i_i_i_i; p_v_r12_sroa_10_0_i_i_i_i_i = v_r71_i_i_i_i_i_i; goto L_arm_1_i_i337_i_i_i; }
-L_join_7_i82_i_i_i_i_i:;
-    v_r74_i83_i_i_i_i_i = v_r106_i_i_i_i_i_i < 3u;
-    if (v_r74_i83_i_i_i_i_i) { goto L_then_8_i106_i_i_i_i_i; } else { goto L_join_10_i84_i_i_i_i_i; }
-L_then_8_i106_i_i_i_i_i:;
-    v_r81_i107_i_i_i_i_i = v_r4_i_sroa_0_2915_i_i_i + 3;
-    v_r87_i109_i_i_i_i_i = (u32)v_r36_i1677_i_i_i_i;
-    v_r89_i_i_i_i_i_i = (u32)((u32)(v_r87_i109_i_i_i_i_i) << (u32)((8u & 31)));
-    v_r91_i_i_i_i_i_i = get_u8(v_r81_i107_i_i_i_i_i);
-    v_r93_i110_i_i_i_i_i = (u32)v_r91_i_i_i_i_i_i;
-    v_r96_i111_i_i_i_i_i = (u32)((u32)(v_r89_i_i_i_i_i_i) | (u32)(v_r93_i110_i_i_i_i_i));
-    { p_v_r13_sroa_0_0_copyload_i_i1760_i_i_i_i = v_r16_i_i1652_i_i_i_i; p_v_r36_i_i1757_i_i_i_i = v_r19_i_i1653_i_i_i_i; p_v_r12_sroa_10_0_i_i_i_i_i = v_r96_i111_i_i_i_i_i; goto L_arm_1_i_i337_i_i_i; }
-L_join_10_i84_i_i_i_i_i:;
-    v_r99_i85_i_i_i_i_i = v_r106_i_i_i_i_i_i == 3u;
-    if (v_r99_i85_i_i_i_i_i) { goto L_then_11_i95_i_i_i_i_i; } else { goto L_join_13_i86_i_i_i_i_i; }
-L_then_11_i95_i_i_i_i_i:;
-    v_r106_i96_i_i_i_i_i = v_r4_i_sroa_0_2915_i_i_i + 3;
-    v_r108_i97_i_i_i_i_i = v_r4_i_sroa_0_2915_i_i_i + 4;
-    v_r115_i99_i_i_i_i_i = (u32)v_r36_i1677_i_i_i_i;
-    v_r117_i100_i_i_i_i_i = (u32)((u32)(v_r115_i99_i_i_i_i_i) << (u32)((16u & 31)));
-    v_r119_i101_i_i_i_i_i = get_u8(v_r106_i96_i_i_i_i_i);
-    v_r121_i102_i_i_i_i_i = (u32)v_r119_i101_i_i_i_i_i;
-    v_r123_i103_i_i_i_i_i = (u32)((u32)(v_r121_i102_i_i_i_i_i) << (u32)((8u & 31)));
-    v_r126_i104_i_i_i_i_i = (u32)((u32)(v_r123_i103_i_i_i_i_i) | (u32)(v_r117_i100_i_i_i_i_i));
-    v_r128_i_i_i_i_i_i = get_u8(v_r108_i97_i_i_i_i_i);
-    v_r130_i105_i_i_i_i_i = (u32)v_r128_i_i_i_i_i_i;
-    v_r133_i_i_i_i_i_i = (u32)((u32)(v_r126_i104_i_i_i_i_i) | (u32)(v_r130_i105_i_i_i_i_i));
-    { p_v_r13_sroa_0_0_copyload_i_i1760_i_i_i_i = v_r16_i_i1652_i_i_i_i; p_v_r36_i_i1757_i_i_i_i = v_r19_i_i1653_i_i_i_i; p_v_r12_sroa_10_0_i_i_i_i_i = v_r133_i_i_i_i_i_i; goto L_arm_1_i_i337_i_i_i; }
-L_join_13_i86_i_i_i_i_i:;
-    v_r136_i87_i_i_i_i_i = v_r106_i_i_i_i_i_i < 5u;
-    if (v_r136_i87_i_i_i_i_i) { goto L_then_14_i_i_i_i_i_i; } else { goto L_join_16_i_i_i_i_i_i; }
-L_then_14_i_i_i_i_i_i:;
-    v_r143_i88_i_i_i_i_i = v_r4_i_sroa_0_2915_i_i_i + 3;
-    v_r145_i89_i_i_i_i_i = v_r4_i_sroa_0_2915_i_i_i + 4;
-    v_r147_i90_i_i_i_i_i = v_r4_i_sroa_0_2915_i_i_i + 5;
-    v_r155_i92_i_i_i_i_i = (u32)v_r36_i1677_i_i_i_i;
-    v_r157_i93_i_i_i_i_i = (u32)((u32)(v_r155_i92_i_i_i_i_i) << (u32)((24u & 31)));
-    v_r159_i94_i_i_i_i_i = get_u8(v_r143_i88_i_i_i_i_i);
-    v_r161_i_i_i_i_i_i = (u32)v_r159_i94_i_i_i_i_i;
-    v_r163_i_i_i_i_i_i = (u32)((u32)(v_r161_i_i_i_i_i_i) << (u32)((16u & 31)));
-    v_r166_i_i_i_i_i_i = (u32)((u32)(v_r163_i_i_i_i_i_i) | (u32)(v_r157_i93_i_i_i_i_i));
-    v_r168_i_i_i_i_i_i = get_u8(v_r145_i89_i_i_i_i_i);
-    v_r170_i_i_i_i_i_i = (u32)v_r168_i_i_i_i_i_i;
-    v_r172_i_i_i_i_i_i = (u32)((u32)(v_r170_i_i_i_i_i_i) << (u32)((8u & 31)));
-    v_r175_i_i_i_i_i_i = (u32)((u32)(v_r166_i_i_i_i_i_i) | (u32)(v_r172_i_i_i_i_i_i));
-    v_r177_i_i_i_i_i_i = get_u8(v_r147_i90_i_i_i_i_i);
-    v_r179_i_i_i_i_i_i = (u32)v_r177_i_i_i_i_i_i;
-    v_r182_i_i_i_i_i_i = (u32)((u32)(v_r175_i_i_i_i_i_i) | (u32)(v_r179_i_i_i_i_i_i));
-    { p_v_r13_sroa_0_0_copyload_i_i1760_i_i_i_i = v_r16_i_i1652_i_i_i_i; p_v_r36_i_i1757_i_i_i_i = v_r19_i_i1653_i_i_i_i; p_v_r12_sroa_10_0_i_i_i_i_i = v_r182_i_i_i_i_i_i; goto L_arm_1_i_i337_i_i_i; }
-L_join_16_i_i_i_i_i_i:;
+L_join_7_i1262_i_i_i:;
+    v_r36_i1263_i_i_i = get_u8(v_r16_i_i_i1174_i_i330338348_i);
+    v_r38_i1264_i_i_i = v_r36_i1263_i_i_i == 0u;
+    if (v_r38_i1264_i_i_i) { p_v_r0_sroa_8_0_i_ph_i_i = 8u; goto L_arm_2_thread_i; } else { goto L_join_7_i82_i549_i_i_i; }
+L_der_core_length_is_overlong_exit1265_i_i_i:;
+    v_r28_i1259_i_i_i = get_u8(v_r16_i_i_i1174_i_i330338348_i);
+    v_r30_i1260_i_i_i = (u8)(v_r28_i1259_i_i_i ^ ((u8)1 << 7)) > (u8)(255u ^ ((u8)1 << 7));
+    if (v_r30_i1260_i_i_i) { p_v_r0_sroa_8_0_i_ph_i_i = 8u; goto L_arm_2_thread_i; } else { goto L_then_5_i80_i536_i_i_i; }
+L_then_5_i80_i536_i_i_i:;
+    v_r71_i_i538_i_i_i = (u64)v_r28_i1259_i_i_i;
+    if (v_r8_i22_i416_i184189_i329339347_i) { p_v_r12_sroa_10_0_i1289_i_i352_i = v_r71_i_i538_i_i_i; p_v_r4_i164_sroa_0_22772_i_i351_i = v_r16_i_i1225_i_i_i; p_v_r4_i164_sroa_12_22774_i_i350_i = v_r19_i_i1226_i_i_i; goto L_join_3_i_i1348_i_i_i; } else { p_v_r0_sroa_8_0_i_ph_i_i = 10u; goto L_arm_2_thread_i; }
+L_join_7_i82_i549_i_i_i:;
+    v_r74_i83_i550_i_i_i = v_r106_i_i512_i_i_i < 3u;
+    if (v_r74_i83_i550_i_i_i) { goto L_then_8_i106_i587_i_i_i; } else { goto L_join_10_i84_i551_i_i_i; }
+L_then_8_i106_i587_i_i_i:;
+    v_r81_i107_i588_i_i_i = v_r4 + 3;
+    v_r87_i109_i590_i_i_i = (u64)v_r36_i1263_i_i_i;
+    v_r89_i_i591_i_i_i = (u64)((u64)(v_r87_i109_i590_i_i_i) << (u64)((8u & 63)));
+    v_r91_i_i592_i_i_i = get_u8(v_r81_i107_i588_i_i_i);
+    v_r93_i110_i593_i_i_i = (u64)v_r91_i_i592_i_i_i;
+    v_r96_i111_i594_i_i_i = (u64)((u64)(v_r89_i_i591_i_i_i) | (u64)(v_r93_i110_i593_i_i_i));
+    if (v_r8_i22_i416_i184189_i329339347_i) { p_v_r12_sroa_10_0_i1289_i_i352_i = v_r96_i111_i594_i_i_i; p_v_r4_i164_sroa_0_22772_i_i351_i = v_r16_i_i1225_i_i_i; p_v_r4_i164_sroa_12_22774_i_i350_i = v_r19_i_i1226_i_i_i; goto L_join_3_i_i1348_i_i_i; } else { p_v_r0_sroa_8_0_i_ph_i_i = 10u; goto L_arm_2_thread_i; }
+L_join_10_i84_i551_i_i_i:;
+    v_r99_i85_i552_i_i_i = v_r106_i_i512_i_i_i == 3u;
+    if (v_r99_i85_i552_i_i_i) { goto L_then_11_i95_i574_i_i_i; } else { goto L_join_13_i86_i553_i_i_i; }
+L_then_11_i95_i574_i_i_i:;
+    v_r106_i96_i575_i_i_i = v_r4 + 3;
+    v_r108_i97_i576_i_i_i = v_r4 + 4;
+    v_r115_i99_i578_i_i_i = (u64)v_r36_i1263_i_i_i;
+    v_r117_i100_i579_i_i_i = (u64)((u64)(v_r115_i99_i578_i_i_i) << (u64)((16u & 63)));
+    v_r119_i101_i580_i_i_i = get_u8(v_r106_i96_i575_i_i_i);
+    v_r121_i102_i581_i_i_i = (u64)v_r119_i101_i580_i_i_i;
+    v_r123_i103_i582_i_i_i = (u64)((u64)(v_r121_i102_i581_i_i_i) << (u64)((8u & 63)));
+    v_r126_i104_i583_i_i_i = (u64)((u64)(v_r123_i103_i582_i_i_i) | (u64)(v_r117_i100_i579_i_i_i));
+    v_r128_i_i584_i_i_i = get_u8(v_r108_i97_i576_i_i_i);
+    v_r130_i105_i585_i_i_i = (u64)v_r128_i_i584_i_i_i;
+    v_r133_i_i586_i_i_i = (u64)((u64)(v_r126_i104_i583_i_i_i) | (u64)(v_r130_i105_i585_i_i_i));
+    if (v_r8_i22_i416_i184189_i329339347_i) { p_v_r12_sroa_10_0_i1289_i_i352_i = v_r133_i_i586_i_i_i; p_v_r4_i164_sroa_0_22772_i_i351_i = v_r16_i_i1225_i_i_i; p_v_r4_i164_sroa_12_22774_i_i350_i = v_r19_i_i1226_i_i_i; goto L_join_3_i_i1348_i_i_i; } else { p_v_r0_sroa_8_0_i_ph_i_i = 10u; goto L_arm_2_thread_i; }
+L_join_13_i86_i553_i_i_i:;
+    v_r136_i87_i554_i_i_i = v_r106_i_i512_i_i_i < 5u;
+    if (v_r136_i87_i554_i_i_i) { goto L_then_14_i_i556_i_i_i; } else { goto L_join_16_i_i555_i_i_i; }
+L_then_14_i_i556_i_i_i:;
+    v_r143_i88_i557_i_i_i = v_r4 + 3;
+    v_r145_i89_i558_i_i_i = v_r4 + 4;
+    v_r147_i90_i559_i_i_i = v_r4 + 5;
+    v_r155_i92_i561_i_i_i = (u64)v_r36_i1263_i_i_i;
+    v_r157_i93_i562_i_i_i = (u64)((u64)(v_r155_i92_i561_i_i_i) << (u64)((24u & 63)));
+    v_r159_i94_i563_i_i_i = get_u8(v_r143_i88_i557_i_i_i);
+    v_r161_i_i564_i_i_i = (u64)v_r159_i94_i563_i_i_i;
+    v_r163_i_i565_i_i_i = (u64)((u64)(v_r161_i_i564_i_i_i) << (u64)((16u & 63)));
+    v_r166_i_i566_i_i_i = (u64)((u64)(v_r163_i_i565_i_i_i) | (u64)(v_r157_i93_i562_i_i_i));
+    v_r168_i_i567_i_i_i = get_u8(v_r145_i89_i558_i_i_i);
+    v_r170_i_i568_i_i_i = (u64)v_r168_i_i567_i_i_i;
+    v_r172_i_i569_i_i_i = (u64)((u64)(v_r170_i_i568_i_i_i) << (u64)((8u & 63)));
+    v_r175_i_i570_i_i_i = (u64)((u64)(v_r166_i_i566_i_i_i) | (u64)(v_r172_i_i569_i_i_i));
+    v_r177_i_i571_i_i_i = get_u8(v_r147_i90_i559_i_i_i);
+    v_r179_i_i572_i_i_i = (u64)v_r177_i_i571_i_i_i;
+    v_r182_i_i573_i_i_i = (u64)((u64)(v_r175_i_i570_i_i_i) | (u64)(v_r179_i_i572_i_i_i));
+    if (v_r8_i22_i416_i184189_i329339347_i) { p_v_r12_sroa_10_0_i1289_i_i352_i = v_r182_i_i573_i_i_i; p_v_r4_i164_sroa_0_22772_i_i351_i = v_r16_i_i1225_i_i_i; p_v_r4_i164_sroa_12_22774_i_i350_i = v_r19_i_i1226_i_i_i; goto L_join_3_i_i1348_i_i_i; } else { p_v_r0_sroa_8_0_i_ph_i_i = 10u; goto L_arm_2_thread_i; }
+L_join_16_i_i555_i_i_i:;
     __builtin_trap();
     __builtin_trap();
-L_arm_1_i_i337_i_i_i:;
-    v_r13_sroa_0_0_copyload_i_i1760_i_i_i_i = p_v_r13_sroa_0_0_copyload_i_i1760_i_i_i_i;
-    v_r36_i_i1757_i_i_i_i = p_v_r36_i_i1757_i_i_i_i;
-    v_r12_sroa_10_0_i_i_i_i_i = p_v_r12_sroa_10_0_i_i_i_i_i;
-    if (v_r8_i22_i_i_i_i_i) { goto L_join_3_i_i1755_i_i_i_i; } else { p_v_r8_i65_sroa_0_sroa_7_0_ph_i_i_i = 10u; goto L_arm_12_i_i_i_i; }
-L_join_3_i_i1755_i_i_i_i:;
-    v_r3_i25_i_i_i_i_i_i = (u64)v_r12_sroa_10_0_i_i_i_i_i;
-    v_r39_i_i1758_i_i_i_i = v_r36_i_i1757_i_i_i_i < v_r3_i25_i_i_i_i_i_i;
-    if (v_r39_i_i1758_i_i_i_i) { p_v_r8_i65_sroa_0_sroa_7_0_ph_i_i_i = 1u; goto L_arm_12_i_i_i_i; } else { goto L_join_3_i_i1790_i_i_i_i; }
-L_join_3_i_i1790_i_i_i_i:;
-    v_r16_i_i_i1761_i_i_i_i = (P)((uintptr_t)v_r13_sroa_0_0_copyload_i_i1760_i_i_i_i + (u64)(v_r3_i25_i_i_i_i_i_i));
-    v_r19_i_i_i1762_i_i_i_i = (u64)((u64)(v_r36_i_i1757_i_i_i_i) - (u64)(v_r3_i25_i_i_i_i_i_i));
-    v_r7_i_i_i_i_i_i_i_i = v_r12_sroa_10_0_i_i_i_i_i == 0u;
-    if (v_r7_i_i_i_i_i_i_i_i) { p_v_r8_i65_sroa_0_sroa_7_0_ph_i_i_i = 3u; goto L_arm_12_i_i_i_i; } else { goto L_join_8_i_i_i_i_i_i_i; }
-L_join_8_i_i_i_i_i_i_i:;
-    v_r60_i_i_i1797_i_i_i_i = get_u8(v_r13_sroa_0_0_copyload_i_i1760_i_i_i_i);
-    v_r62_i_i_i1798_i_i_i_i = (u8)(v_r60_i_i_i1797_i_i_i_i ^ ((u8)1 << 7)) < (u8)(0u ^ ((u8)1 << 7));
-    if (v_r62_i_i_i1798_i_i_i_i) { p_v_r8_i65_sroa_0_sroa_7_0_ph_i_i_i = 13u; goto L_arm_12_i_i_i_i; } else { goto L_join_11_i_i_i_i_i_i_i; }
-L_join_11_i_i_i_i_i_i_i:;
-    v_r74_i_i_i1799_i_i_i_i = v_r12_sroa_10_0_i_i_i_i_i != 1u;
-    v_cond_i_i_i_i_i_i_i = v_r60_i_i_i1797_i_i_i_i == 0u;
-    v_or_cond_i_i_i_i_i_i_i = (u1)(((u32)(v_r74_i_i_i1799_i_i_i_i) & (u32)(v_cond_i_i_i_i_i_i_i)) & 1);
-    if (v_or_cond_i_i_i_i_i_i_i) { goto L_arm_15_i_i_i1808_i_i_i_i; } else { goto L_arm_1_i18_i_i_i_i_i; }
-L_arm_15_i_i_i1808_i_i_i_i:;
-    v_r84_i_i_i1809_i_i_i_i = v_r13_sroa_0_0_copyload_i_i1760_i_i_i_i + 1;
-    v_r87_i_i_i1810_i_i_i_i = get_u8(v_r84_i_i_i1809_i_i_i_i);
-    v_r89_i_i_i1811_i_i_i_i = (u8)(v_r87_i_i_i1810_i_i_i_i ^ ((u8)1 << 7)) > (u8)(255u ^ ((u8)1 << 7));
-    v_spec_select_i_i_i_i = v_r89_i_i_i1811_i_i_i_i ? 4u : 13u;
-    { p_v_r8_i65_sroa_0_sroa_7_0_ph_i_i_i = v_spec_select_i_i_i_i; goto L_arm_12_i_i_i_i; }
-L_arm_1_i18_i_i_i_i_i:;
-    v_r42_i_not_i_i_i_i_i = v_r12_sroa_10_0_i_i_i_i_i == 1u;
-    v_brmerge_not_i_i_i_i = (u1)(((u32)(v_r42_i_not_i_i_i_i_i) & (u32)(v_cond_i_i_i_i_i_i_i)) & 1);
-    if (v_brmerge_not_i_i_i_i) { goto L_join_3_i_i1840_i_i_i_i; } else { p_v_r8_i65_sroa_0_sroa_7_0_ph_i_i_i = 13u; goto L_arm_12_i_i_i_i; }
-L_join_3_i_i1840_i_i_i_i:;
-    fill(v_r9_i10_sroa_11_sroa_0_i_i_i_i, 0u, 43u);
-    fill(v_r0_i49_sroa_27_sroa_0_i_i_i_i, 0u, 43u);
-    fill(v_r30_i83_sroa_15_sroa_0_i_i_i_i, 0u, 43u);
-    v_r39_i_i1843_i_i_i_i = v_r36_i_i1757_i_i_i_i == v_r3_i25_i_i_i_i_i_i;
-    if (v_r39_i_i1843_i_i_i_i) { p_v_r0_i49_sroa_9_0_ph_i_i_i_i = 1u; goto L_arm_2_i13_i_i_i_i; } else { goto L_arm_1_i_i186_i_i_i_i; }
-L_arm_1_i_i186_i_i_i_i:;
-    v_r16_i_i_i1846_i_i_i_i = v_r16_i_i_i1761_i_i_i_i + 1;
-    v_r29_i1848_i_i_i_i = get_u8(v_r16_i_i_i1761_i_i_i_i);
-    v_r8_i23_i_i_i_i_i = v_r29_i1848_i_i_i_i == 48u;
-    if (v_r8_i23_i_i_i_i_i) { goto L_join_3_i_i1888_i_i_i_i; } else { goto L_der_core_header_tag_of_exit_i190_i_i_i_i; }
-L_der_core_header_tag_of_exit_i190_i_i_i_i:;
-    v_r9_i1870_i_i_i_i = (u8)((u32)(v_r29_i1848_i_i_i_i) & (u32)(31u));
-    v_r11_i1871_i_i_i_i = v_r9_i1870_i_i_i_i != 31u;
-    v_4 = (u8)((u32)(v_r29_i1848_i_i_i_i) & (u32)(223u));
-    v_5 = v_4 != 0u;
-    v_r2_0_in_i1872_not_i_i_i_i = (u1)(((u32)(v_r11_i1871_i_i_i_i) & (u32)(v_5)) & 1);
-    if (v_r2_0_in_i1872_not_i_i_i_i) { goto L_join_3_i_i1888_i_i_i_i; } else { p_v_r0_i49_sroa_9_0_ph_i_i_i_i = 11u; goto L_arm_2_i13_i_i_i_i; }
-L_join_3_i_i1888_i_i_i_i:;
-    v_r39_i_i1891_i_i_i_i = v_r19_i_i_i1762_i_i_i_i == 1u;
-    if (v_r39_i_i1891_i_i_i_i) { p_v_r0_i49_sroa_9_0_ph_i_i_i_i = 1u; goto L_arm_2_i13_i_i_i_i; } else { goto L_arm_1_i60_i_i_i_i_i; }
-L_arm_1_i60_i_i_i_i_i:;
-    v_r16_i_i_i1894_i_i_i_i = v_r16_i_i_i1761_i_i_i_i + 2;
-    v_r19_i_i_i1895_i_i_i_i = (u64)((u64)(v_r19_i_i_i1762_i_i_i_i) + (u64)(18446744073709551614ull));
-    v_r29_i1896_i_i_i_i = get_u8(v_r16_i_i_i1846_i_i_i_i);
-    v_r51_i63_i_i_i_i_i = (u8)(v_r29_i1896_i_i_i_i ^ ((u8)1 << 7)) > (u8)(255u ^ ((u8)1 << 7));
-    if (v_r51_i63_i_i_i_i_i) { goto L_then_5_i_i338_i_i_i_i; } else { goto L_join_7_i64_i_i_i_i_i; }
-L_then_5_i_i338_i_i_i_i:;
-    v_r56_i74_i_i_i_i_i = (u64)v_r29_i1896_i_i_i_i;
-    { p_v_r13_sroa_0_0_copyload_i_i2074_i_i_i_i = v_r16_i_i_i1894_i_i_i_i; p_v_r36_i_i2071_i_i_i_i = v_r19_i_i_i1895_i_i_i_i; p_v_r12_sroa_10_0_i2009_i_i_i_i = v_r56_i74_i_i_i_i_i; goto L_arm_1_i132_i_i_i_i; }
-L_join_7_i64_i_i_i_i_i:;
-    v_r68_i65_i_i_i_i_i = v_r29_i1896_i_i_i_i == 128u;
-    if (v_r68_i65_i_i_i_i_i) { p_v_r0_i49_sroa_9_0_ph_i_i_i_i = 2u; goto L_arm_2_i13_i_i_i_i; } else { goto L_join_10_i_i253_i_i_i_i; }
-L_join_10_i_i253_i_i_i_i:;
-    v_r87_i_i254_i_i_i_i = v_r29_i1896_i_i_i_i > 132u;
-    if (v_r87_i_i254_i_i_i_i) { p_v_r0_i49_sroa_9_0_ph_i_i_i_i = 7u; goto L_arm_2_i13_i_i_i_i; } else { goto L_join_3_i1937_i_i_i_i; }
-L_join_3_i1937_i_i_i_i:;
-    v_r106_i_i256_i_i_i_i = (u8)((u32)(v_r29_i1896_i_i_i_i) & (u32)(127u));
-    v_r3_i25_i1938_i_i_i_i = (u64)v_r106_i_i256_i_i_i_i;
-    v_r39_i1941_i_i_i_i = v_r19_i_i_i1895_i_i_i_i < v_r3_i25_i1938_i_i_i_i;
-    if (v_r39_i1941_i_i_i_i) { p_v_r0_i49_sroa_9_0_ph_i_i_i_i = 1u; goto L_arm_2_i13_i_i_i_i; } else { goto L_arm_14_i_i273_i_i_i_i; }
-L_arm_14_i_i273_i_i_i_i:;
-    v_r16_i_i1945_i_i_i_i = (P)((uintptr_t)v_r16_i_i_i1894_i_i_i_i + (u64)(v_r3_i25_i1938_i_i_i_i));
-    v_r19_i_i1946_i_i_i_i = (u64)((u64)(v_r19_i_i_i1895_i_i_i_i) - (u64)(v_r3_i25_i1938_i_i_i_i));
-    switch (v_r106_i_i256_i_i_i_i) {
-    case 0u: { p_v_r0_i49_sroa_9_0_ph_i_i_i_i = 8u; goto L_arm_2_i13_i_i_i_i; }
-    case 1u: { goto L_der_core_length_is_overlong_exit1985_i_i_i_i; }
-    default: { goto L_join_7_i1982_i_i_i_i; }
-    }
-L_join_7_i1982_i_i_i_i:;
-    v_r36_i1983_i_i_i_i = get_u8(v_r16_i_i_i1894_i_i_i_i);
-    v_r38_i1984_i_i_i_i = v_r36_i1983_i_i_i_i == 0u;
-    if (v_r38_i1984_i_i_i_i) { p_v_r0_i49_sroa_9_0_ph_i_i_i_i = 8u; goto L_arm_2_i13_i_i_i_i; } else { goto L_join_7_i83_i_i_i_i_i; }
-L_der_core_length_is_overlong_exit1985_i_i_i_i:;
-    v_r28_i1979_i_i_i_i = get_u8(v_r16_i_i_i1894_i_i_i_i);
-    v_r30_i1980_i_i_i_i = (u8)(v_r28_i1979_i_i_i_i ^ ((u8)1 << 7)) > (u8)(255u ^ ((u8)1 << 7));
-    if (v_r30_i1980_i_i_i_i) { p_v_r0_i49_sroa_9_0_ph_i_i_i_i = 8u; goto L_arm_2_i13_i_i_i_i; } else { goto L_then_5_i81_i_i_i_i_i; }
-L_then_5_i81_i_i_i_i_i:;
-    v_r71_i_i279_i_i_i_i = (u64)v_r28_i1979_i_i_i_i;
-    { p_v_r13_sroa_0_0_copyload_i_i2074_i_i_i_i = v_r16_i_i1945_i_i_i_i; p_v_r36_i_i2071_i_i_i_i = v_r19_i_i1946_i_i_i_i; p_v_r12_sroa_10_0_i2009_i_i_i_i = v_r71_i_i279_i_i_i_i; goto L_arm_1_i132_i_i_i_i; }
-L_join_7_i83_i_i_i_i_i:;
-    v_r74_i84_i_i_i_i_i = v_r106_i_i256_i_i_i_i < 3u;
-    if (v_r74_i84_i_i_i_i_i) { goto L_then_8_i107_i_i_i_i_i; } else { goto L_join_10_i85_i_i_i_i_i; }
-L_then_8_i107_i_i_i_i_i:;
-    v_r81_i108_i_i_i_i_i = v_r16_i_i_i1761_i_i_i_i + 3;
-    v_r87_i110_i_i_i_i_i = (u64)v_r36_i1983_i_i_i_i;
-    v_r89_i_i304_i_i_i_i = (u64)((u64)(v_r87_i110_i_i_i_i_i) << (u64)((8u & 63)));
-    v_r91_i_i305_i_i_i_i = get_u8(v_r81_i108_i_i_i_i_i);
-    v_r93_i111_i_i_i_i_i = (u64)v_r91_i_i305_i_i_i_i;
-    v_r96_i112_i_i_i_i_i = (u64)((u64)(v_r89_i_i304_i_i_i_i) | (u64)(v_r93_i111_i_i_i_i_i));
-    { p_v_r13_sroa_0_0_copyload_i_i2074_i_i_i_i = v_r16_i_i1945_i_i_i_i; p_v_r36_i_i2071_i_i_i_i = v_r19_i_i1946_i_i_i_i; p_v_r12_sroa_10_0_i2009_i_i_i_i = v_r96_i112_i_i_i_i_i; goto L_arm_1_i132_i_i_i_i; }
-L_join_10_i85_i_i_i_i_i:;
-    v_r99_i86_i_i_i_i_i = v_r106_i_i256_i_i_i_i == 3u;
-    if (v_r99_i86_i_i_i_i_i) { goto L_then_11_i96_i_i_i_i_i; } else { goto L_join_13_i87_i_i_i_i_i; }
-L_then_11_i96_i_i_i_i_i:;
-    v_r106_i97_i_i_i_i_i = v_r16_i_i_i1761_i_i_i_i + 3;
-    v_r108_i98_i_i_i_i_i = v_r16_i_i_i1761_i_i_i_i + 4;
-    v_r115_i100_i_i_i_i_i = (u64)v_r36_i1983_i_i_i_i;
-    v_r117_i101_i_i_i_i_i = (u64)((u64)(v_r115_i100_i_i_i_i_i) << (u64)((16u & 63)));
-    v_r119_i102_i_i_i_i_i = get_u8(v_r106_i97_i_i_i_i_i);
-    v_r121_i103_i_i_i_i_i = (u64)v_r119_i102_i_i_i_i_i;
-    v_r123_i104_i_i_i_i_i = (u64)((u64)(v_r121_i103_i_i_i_i_i) << (u64)((8u & 63)));
-    v_r126_i105_i_i_i_i_i = (u64)((u64)(v_r123_i104_i_i_i_i_i) | (u64)(v_r117_i101_i_i_i_i_i));
-    v_r128_i_i302_i_i_i_i = get_u8(v_r108_i98_i_i_i_i_i);
-    v_r130_i106_i_i_i_i_i = (u64)v_r128_i_i302_i_i_i_i;
-    v_r133_i_i303_i_i_i_i = (u64)((u64)(v_r126_i105_i_i_i_i_i) | (u64)(v_r130_i106_i_i_i_i_i));
-    { p_v_r13_sroa_0_0_copyload_i_i2074_i_i_i_i = v_r16_i_i1945_i_i_i_i; p_v_r36_i_i2071_i_i_i_i = v_r19_i_i1946_i_i_i_i; p_v_r12_sroa_10_0_i2009_i_i_i_i = v_r133_i_i303_i_i_i_i; goto L_arm_1_i132_i_i_i_i; }
-L_join_13_i87_i_i_i_i_i:;
-    v_r136_i88_i_i_i_i_i = v_r106_i_i256_i_i_i_i < 5u;
-    if (v_r136_i88_i_i_i_i_i) { goto L_then_14_i_i291_i_i_i_i; } else { goto L_join_16_i_i290_i_i_i_i; }
-L_then_14_i_i291_i_i_i_i:;
-    v_r143_i89_i_i_i_i_i = v_r16_i_i_i1761_i_i_i_i + 3;
-    v_r145_i90_i_i_i_i_i = v_r16_i_i_i1761_i_i_i_i + 4;
-    v_r147_i91_i_i_i_i_i = v_r16_i_i_i1761_i_i_i_i + 5;
-    v_r155_i93_i_i_i_i_i = (u64)v_r36_i1983_i_i_i_i;
-    v_r157_i94_i_i_i_i_i = (u64)((u64)(v_r155_i93_i_i_i_i_i) << (u64)((24u & 63)));
-    v_r159_i95_i_i_i_i_i = get_u8(v_r143_i89_i_i_i_i_i);
-    v_r161_i_i292_i_i_i_i = (u64)v_r159_i95_i_i_i_i_i;
-    v_r163_i_i293_i_i_i_i = (u64)((u64)(v_r161_i_i292_i_i_i_i) << (u64)((16u & 63)));
-    v_r166_i_i294_i_i_i_i = (u64)((u64)(v_r163_i_i293_i_i_i_i) | (u64)(v_r157_i94_i_i_i_i_i));
-    v_r168_i_i295_i_i_i_i = get_u8(v_r145_i90_i_i_i_i_i);
-    v_r170_i_i296_i_i_i_i = (u64)v_r168_i_i295_i_i_i_i;
-    v_r172_i_i297_i_i_i_i = (u64)((u64)(v_r170_i_i296_i_i_i_i) << (u64)((8u & 63)));
-    v_r175_i_i298_i_i_i_i = (u64)((u64)(v_r166_i_i294_i_i_i_i) | (u64)(v_r172_i_i297_i_i_i_i));
-    v_r177_i_i299_i_i_i_i = get_u8(v_r147_i91_i_i_i_i_i);
-    v_r179_i_i300_i_i_i_i = (u64)v_r177_i_i299_i_i_i_i;
-    v_r182_i_i301_i_i_i_i = (u64)((u64)(v_r175_i_i298_i_i_i_i) | (u64)(v_r179_i_i300_i_i_i_i));
-    { p_v_r13_sroa_0_0_copyload_i_i2074_i_i_i_i = v_r16_i_i1945_i_i_i_i; p_v_r36_i_i2071_i_i_i_i = v_r19_i_i1946_i_i_i_i; p_v_r12_sroa_10_0_i2009_i_i_i_i = v_r182_i_i301_i_i_i_i; goto L_arm_1_i132_i_i_i_i; }
-L_join_16_i_i290_i_i_i_i:;
-    __builtin_trap();
-    __builtin_trap();
-L_arm_1_i132_i_i_i_i:;
-    v_r13_sroa_0_0_copyload_i_i2074_i_i_i_i = p_v_r13_sroa_0_0_copyload_i_i2074_i_i_i_i;
-    v_r36_i_i2071_i_i_i_i = p_v_r36_i_i2071_i_i_i_i;
-    v_r12_sroa_10_0_i2009_i_i_i_i = p_v_r12_sroa_10_0_i2009_i_i_i_i;
-    if (v_r8_i23_i_i_i_i_i) { goto L_join_3_i_i2068_i_i_i_i; } else { p_v_r0_i49_sroa_9_0_ph_i_i_i_i = 10u; goto L_arm_2_i13_i_i_i_i; }
-L_join_3_i_i2068_i_i_i_i:;
-    v_r39_i_i2072_i_i_i_i = v_r36_i_i2071_i_i_i_i < v_r12_sroa_10_0_i2009_i_i_i_i;
-    if (v_r39_i_i2072_i_i_i_i) { p_v_r0_i49_sroa_9_0_ph_i_i_i_i = 1u; goto L_arm_2_i13_i_i_i_i; } else { goto L_join_3_i_i2111_i_i_i_i; }
-L_join_3_i_i2111_i_i_i_i:;
-    v_r16_i_i_i2075_i_i_i_i = (P)((uintptr_t)v_r13_sroa_0_0_copyload_i_i2074_i_i_i_i + (u64)(v_r12_sroa_10_0_i2009_i_i_i_i));
-    v_r19_i_i_i2076_i_i_i_i = (u64)((u64)(v_r36_i_i2071_i_i_i_i) - (u64)(v_r12_sroa_10_0_i2009_i_i_i_i));
-    fill(v_r13_i349_sroa_0_sroa_0_i_i_i_i, 0u, 39u);
-    v_r39_i_i2114_i_i_i_i = v_r12_sroa_10_0_i2009_i_i_i_i == 0u;
-    if (v_r39_i_i2114_i_i_i_i) { p_v_r10_i348_sroa_7_0_ph_i_i_i_i = 1u; goto L_arm_12_i156_i_i_i_i; } else { goto L_arm_1_i_i_i_i_i_i_i; }
-L_arm_1_i_i_i_i_i_i_i:;
-    v_r16_i_i_i2117_i_i_i_i = v_r13_sroa_0_0_copyload_i_i2074_i_i_i_i + 1;
-    v_r29_i2119_i_i_i_i = get_u8(v_r13_sroa_0_0_copyload_i_i2074_i_i_i_i);
-    v_r8_i22_i_i_i_i_i_i = v_r29_i2119_i_i_i_i == 6u;
-    if (v_r8_i22_i_i_i_i_i_i) { goto L_join_3_i_i2159_i_i_i_i; } else { goto L_der_core_header_tag_of_exit_i_i_i_i_i_i; }
-L_der_core_header_tag_of_exit_i_i_i_i_i_i:;
-    v_r9_i2141_i_i_i_i = (u8)((u32)(v_r29_i2119_i_i_i_i) & (u32)(31u));
-    v_r11_i2142_i_i_i_i = v_r9_i2141_i_i_i_i != 31u;
-    v_6 = (u8)((u32)(v_r29_i2119_i_i_i_i) & (u32)(223u));
+L_arm_1_i336_i_i_i:;
+    v_r56_i73_i635_i_i_i = (u64)v_r29_i1176_i_i_pre_i;
+    if (v_r8_i22_i416_i_i_i) { p_v_r12_sroa_10_0_i1289_i_i352_i = v_r56_i73_i635_i_i_i; p_v_r4_i164_sroa_0_22772_i_i351_i = v_r16_i_i_i1174_i_i_i; p_v_r4_i164_sroa_12_22774_i_i350_i = v_r19_i_i_i1175_i_i_i; goto L_join_3_i_i1348_i_i_i; } else { p_v_r0_sroa_8_0_i_ph_i_i = 10u; goto L_arm_2_thread_i; }
+L_join_3_i_i1348_i_i_i:;
+    v_r12_sroa_10_0_i1289_i_i352_i = p_v_r12_sroa_10_0_i1289_i_i352_i;
+    v_r4_i164_sroa_0_22772_i_i351_i = p_v_r4_i164_sroa_0_22772_i_i351_i;
+    v_r4_i164_sroa_12_22774_i_i350_i = p_v_r4_i164_sroa_12_22774_i_i350_i;
+    v_r39_i_i1352_i_i_i = v_r4_i164_sroa_12_22774_i_i350_i < v_r12_sroa_10_0_i1289_i_i352_i;
+    if (v_r39_i_i1352_i_i_i) { p_v_r0_sroa_8_0_i_ph_i_i = 1u; goto L_arm_2_thread_i; } else { goto L_join_3_i_i1565_i_i; }
+L_join_3_i_i1565_i_i:;
+    fill(v_r8_i651_i_i_sroa_29_i, 0u, 30u);
+    fill(v_r13_sroa_17_sroa_0_sroa_0_i_sroa_13_i, 0u, 30u);
+    v_r39_i_i1568_i_i = v_r12_sroa_10_0_i1289_i_i352_i == 0u;
+    if (v_r39_i_i1568_i_i) { p_v_r8_i651_i_i_sroa_0_sroa_8_0_ph_i = 1u; goto L_arm_12_i364_i_i_i; } else { goto L_arm_1_i_i_i69_i; }
+L_arm_1_i_i_i69_i:;
+    v_r16_i_i_i1570_i_i = v_r4_i164_sroa_0_22772_i_i351_i + 1;
+    v_r29_i1572_i_i = get_u8(v_r4_i164_sroa_0_22772_i_i351_i);
+    v_r8_i22_i_i_i = v_r29_i1572_i_i == 2u;
+    if (v_r8_i22_i_i_i) { goto L_join_3_i_i1598_i_i; } else { goto L_der_core_header_tag_of_exit_i_i_i; }
+L_der_core_header_tag_of_exit_i_i_i:;
+    v_r9_i1584_i_i = (u8)((u32)(v_r29_i1572_i_i) & (u32)(31u));
+    v_r11_i1585_i_i = v_r9_i1584_i_i != 31u;
+    v_6 = (u8)((u32)(v_r29_i1572_i_i) & (u32)(223u));
     v_7 = v_6 != 0u;
-    v_r2_0_in_i2143_not_i_i_i_i = (u1)(((u32)(v_r11_i2142_i_i_i_i) & (u32)(v_7)) & 1);
-    if (v_r2_0_in_i2143_not_i_i_i_i) { goto L_join_3_i_i2159_i_i_i_i; } else { p_v_r10_i348_sroa_7_0_ph_i_i_i_i = 11u; goto L_arm_12_i156_i_i_i_i; }
-L_join_3_i_i2159_i_i_i_i:;
-    v_r39_i_i2162_i_i_i_i = v_r12_sroa_10_0_i2009_i_i_i_i == 1u;
-    if (v_r39_i_i2162_i_i_i_i) { p_v_r10_i348_sroa_7_0_ph_i_i_i_i = 1u; goto L_arm_12_i156_i_i_i_i; } else { goto L_arm_1_i59_i_i_i_i_i_i; }
-L_arm_1_i59_i_i_i_i_i_i:;
-    v_r16_i_i_i2165_i_i_i_i = v_r13_sroa_0_0_copyload_i_i2074_i_i_i_i + 2;
-    v_r19_i_i_i2166_i_i_i_i = (u64)((u64)(v_r12_sroa_10_0_i2009_i_i_i_i) + (u64)(18446744073709551614ull));
-    v_r29_i2167_i_i_i_i = get_u8(v_r16_i_i_i2117_i_i_i_i);
-    v_r51_i62_i_i_i_i_i_i = (u8)(v_r29_i2167_i_i_i_i ^ ((u8)1 << 7)) > (u8)(255u ^ ((u8)1 << 7));
-    if (v_r51_i62_i_i_i_i_i_i) { goto L_then_5_i_i_i_i_i_i_i; } else { goto L_join_7_i63_i_i_i_i_i_i; }
-L_then_5_i_i_i_i_i_i_i:;
-    v_r56_i73_i_i_i_i_i_i = (u32)v_r29_i2167_i_i_i_i;
-    { p_v_r6_i71_sroa_23_34821_i_i_i_i = v_r19_i_i_i2166_i_i_i_i; p_v_r6_i71_sroa_0_34819_i_i_i_i = v_r16_i_i_i2165_i_i_i_i; p_v_r12_sroa_10_0_i2280_i_i_i_i = v_r56_i73_i_i_i_i_i_i; goto L_arm_1_i_i507_i_i_i_i; }
-L_join_7_i63_i_i_i_i_i_i:;
-    v_r68_i64_i_i_i_i_i_i = v_r29_i2167_i_i_i_i == 128u;
-    if (v_r68_i64_i_i_i_i_i_i) { p_v_r10_i348_sroa_7_0_ph_i_i_i_i = 2u; goto L_arm_12_i156_i_i_i_i; } else { goto L_join_10_i_i_i_i_i_i_i; }
-L_join_10_i_i_i_i_i_i_i:;
-    v_r87_i_i_i_i_i_i_i = v_r29_i2167_i_i_i_i > 132u;
-    if (v_r87_i_i_i_i_i_i_i) { p_v_r10_i348_sroa_7_0_ph_i_i_i_i = 7u; goto L_arm_12_i156_i_i_i_i; } else { goto L_join_3_i2208_i_i_i_i; }
-L_join_3_i2208_i_i_i_i:;
-    v_r106_i_i_i_i_i_i_i = (u8)((u32)(v_r29_i2167_i_i_i_i) & (u32)(127u));
-    v_r3_i25_i2209_i_i_i_i = (u64)v_r106_i_i_i_i_i_i_i;
-    v_r39_i2212_i_i_i_i = v_r19_i_i_i2166_i_i_i_i < v_r3_i25_i2209_i_i_i_i;
-    if (v_r39_i2212_i_i_i_i) { p_v_r10_i348_sroa_7_0_ph_i_i_i_i = 1u; goto L_arm_12_i156_i_i_i_i; } else { goto L_arm_14_i_i_i_i_i_i_i; }
-L_arm_14_i_i_i_i_i_i_i:;
-    v_r16_i_i2216_i_i_i_i = (P)((uintptr_t)v_r16_i_i_i2165_i_i_i_i + (u64)(v_r3_i25_i2209_i_i_i_i));
-    v_r19_i_i2217_i_i_i_i = (u64)((u64)(v_r19_i_i_i2166_i_i_i_i) - (u64)(v_r3_i25_i2209_i_i_i_i));
-    switch (v_r106_i_i_i_i_i_i_i) {
-    case 0u: { p_v_r10_i348_sroa_7_0_ph_i_i_i_i = 8u; goto L_arm_12_i156_i_i_i_i; }
-    case 1u: { goto L_der_core_length_is_overlong_exit2256_i_i_i_i; }
-    default: { goto L_join_7_i2253_i_i_i_i; }
+    v_r2_0_in_i_not_i_i = (u1)(((u32)(v_r11_i1585_i_i) & (u32)(v_7)) & 1);
+    if (v_r2_0_in_i_not_i_i) { goto L_join_3_i_i1598_i_i; } else { p_v_r8_i651_i_i_sroa_0_sroa_8_0_ph_i = 11u; goto L_arm_12_i364_i_i_i; }
+L_join_3_i_i1598_i_i:;
+    v_r39_i_i1601_i_i = v_r12_sroa_10_0_i1289_i_i352_i == 1u;
+    if (v_r39_i_i1601_i_i) { p_v_r8_i651_i_i_sroa_0_sroa_8_0_ph_i = 1u; goto L_arm_12_i364_i_i_i; } else { goto L_arm_1_i59_i_i_i; }
+L_arm_1_i59_i_i_i:;
+    v_r16_i_i_i1604_i_i = v_r4_i164_sroa_0_22772_i_i351_i + 2;
+    v_r19_i_i_i1605_i_i = (u64)((u64)(v_r12_sroa_10_0_i1289_i_i352_i) + (u64)(18446744073709551614ull));
+    v_r29_i1606_i_i = get_u8(v_r16_i_i_i1570_i_i);
+    v_r51_i62_i_i_i = (u8)(v_r29_i1606_i_i ^ ((u8)1 << 7)) > (u8)(255u ^ ((u8)1 << 7));
+    if (v_r51_i62_i_i_i) { goto L_then_5_i_i_i_i; } else { goto L_join_7_i63_i_i_i; }
+L_then_5_i_i_i_i:;
+    v_r56_i73_i_i_i = (u32)v_r29_i1606_i_i;
+    { p_v_r13_sroa_0_0_copyload_i_i1760_i_i = v_r16_i_i_i1604_i_i; p_v_r36_i_i1757_i_i = v_r19_i_i_i1605_i_i; p_v_r12_sroa_10_0_i_i_i = v_r56_i73_i_i_i; goto L_arm_1_i_i_i; }
+L_join_7_i63_i_i_i:;
+    v_r68_i64_i_i_i = v_r29_i1606_i_i == 128u;
+    if (v_r68_i64_i_i_i) { p_v_r8_i651_i_i_sroa_0_sroa_8_0_ph_i = 2u; goto L_arm_12_i364_i_i_i; } else { goto L_join_10_i_i_i_i; }
+L_join_10_i_i_i_i:;
+    v_r87_i_i_i_i = v_r29_i1606_i_i > 132u;
+    if (v_r87_i_i_i_i) { p_v_r8_i651_i_i_sroa_0_sroa_8_0_ph_i = 7u; goto L_arm_12_i364_i_i_i; } else { goto L_join_3_i1647_i_i; }
+L_join_3_i1647_i_i:;
+    v_r106_i_i_i_i = (u8)((u32)(v_r29_i1606_i_i) & (u32)(127u));
+    v_r3_i25_i_i_i = (u64)v_r106_i_i_i_i;
+    v_r39_i1650_i_i = v_r19_i_i_i1605_i_i < v_r3_i25_i_i_i;
+    if (v_r39_i1650_i_i) { p_v_r8_i651_i_i_sroa_0_sroa_8_0_ph_i = 1u; goto L_arm_12_i364_i_i_i; } else { goto L_arm_14_i_i_i_i; }
+L_arm_14_i_i_i_i:;
+    v_r16_i_i1652_i_i = (P)((uintptr_t)v_r16_i_i_i1604_i_i + (u64)(v_r3_i25_i_i_i));
+    v_r19_i_i1653_i_i = (u64)((u64)(v_r19_i_i_i1605_i_i) - (u64)(v_r3_i25_i_i_i));
+    switch (v_r106_i_i_i_i) {
+    case 0u: { p_v_r8_i651_i_i_sroa_0_sroa_8_0_ph_i = 8u; goto L_arm_12_i364_i_i_i; }
+    case 1u: { goto L_der_core_length_is_overlong_exit_i_i; }
+    default: { goto L_join_7_i1676_i_i; }
     }
-L_join_7_i2253_i_i_i_i:;
-    v_r36_i2254_i_i_i_i = get_u8(v_r16_i_i_i2165_i_i_i_i);
-    v_r38_i2255_i_i_i_i = v_r36_i2254_i_i_i_i == 0u;
-    if (v_r38_i2255_i_i_i_i) { p_v_r10_i348_sroa_7_0_ph_i_i_i_i = 8u; goto L_arm_12_i156_i_i_i_i; } else { goto L_join_7_i82_i_i_i_i_i_i; }
-L_der_core_length_is_overlong_exit2256_i_i_i_i:;
-    v_r28_i2250_i_i_i_i = get_u8(v_r16_i_i_i2165_i_i_i_i);
-    v_r30_i2251_i_i_i_i = (u8)(v_r28_i2250_i_i_i_i ^ ((u8)1 << 7)) > (u8)(255u ^ ((u8)1 << 7));
-    if (v_r30_i2251_i_i_i_i) { p_v_r10_i348_sroa_7_0_ph_i_i_i_i = 8u; goto L_arm_12_i156_i_i_i_i; } else { goto L_then_5_i80_i_i_i_i_i_i; }
-L_then_5_i80_i_i_i_i_i_i:;
-    v_r71_i_i_i_i_i_i_i = (u32)v_r28_i2250_i_i_i_i;
-    { p_v_r6_i71_sroa_23_34821_i_i_i_i = v_r19_i_i2217_i_i_i_i; p_v_r6_i71_sroa_0_34819_i_i_i_i = v_r16_i_i2216_i_i_i_i; p_v_r12_sroa_10_0_i2280_i_i_i_i = v_r71_i_i_i_i_i_i_i; goto L_arm_1_i_i507_i_i_i_i; }
-L_join_7_i82_i_i_i_i_i_i:;
-    v_r74_i83_i_i_i_i_i_i = v_r106_i_i_i_i_i_i_i < 3u;
-    if (v_r74_i83_i_i_i_i_i_i) { goto L_then_8_i106_i_i_i_i_i_i; } else { goto L_join_10_i84_i_i_i_i_i_i; }
-L_then_8_i106_i_i_i_i_i_i:;
-    v_r81_i107_i_i_i_i_i_i = v_r13_sroa_0_0_copyload_i_i2074_i_i_i_i + 3;
-    v_r87_i109_i_i_i_i_i_i = (u32)v_r36_i2254_i_i_i_i;
-    v_r89_i_i_i_i_i_i_i = (u32)((u32)(v_r87_i109_i_i_i_i_i_i) << (u32)((8u & 31)));
-    v_r91_i_i_i_i_i_i_i = get_u8(v_r81_i107_i_i_i_i_i_i);
-    v_r93_i110_i_i_i_i_i_i = (u32)v_r91_i_i_i_i_i_i_i;
-    v_r96_i111_i_i_i_i_i_i = (u32)((u32)(v_r89_i_i_i_i_i_i_i) | (u32)(v_r93_i110_i_i_i_i_i_i));
-    { p_v_r6_i71_sroa_23_34821_i_i_i_i = v_r19_i_i2217_i_i_i_i; p_v_r6_i71_sroa_0_34819_i_i_i_i = v_r16_i_i2216_i_i_i_i; p_v_r12_sroa_10_0_i2280_i_i_i_i = v_r96_i111_i_i_i_i_i_i; goto L_arm_1_i_i507_i_i_i_i; }
-L_join_10_i84_i_i_i_i_i_i:;
-    v_r99_i85_i_i_i_i_i_i = v_r106_i_i_i_i_i_i_i == 3u;
-    if (v_r99_i85_i_i_i_i_i_i) { goto L_then_11_i95_i_i_i_i_i_i; } else { goto L_join_13_i86_i_i_i_i_i_i; }
-L_then_11_i95_i_i_i_i_i_i:;
-    v_r106_i96_i_i_i_i_i_i = v_r13_sroa_0_0_copyload_i_i2074_i_i_i_i + 3;
-    v_r108_i97_i_i_i_i_i_i = v_r13_sroa_0_0_copyload_i_i2074_i_i_i_i + 4;
-    v_r115_i99_i_i_i_i_i_i = (u32)v_r36_i2254_i_i_i_i;
-    v_r117_i100_i_i_i_i_i_i = (u32)((u32)(v_r115_i99_i_i_i_i_i_i) << (u32)((16u & 31)));
-    v_r119_i101_i_i_i_i_i_i = get_u8(v_r106_i96_i_i_i_i_i_i);
-    v_r121_i102_i_i_i_i_i_i = (u32)v_r119_i101_i_i_i_i_i_i;
-    v_r123_i103_i_i_i_i_i_i = (u32)((u32)(v_r121_i102_i_i_i_i_i_i) << (u32)((8u & 31)));
-    v_r126_i104_i_i_i_i_i_i = (u32)((u32)(v_r123_i103_i_i_i_i_i_i) | (u32)(v_r117_i100_i_i_i_i_i_i));
-    v_r128_i_i_i_i_i_i_i = get_u8(v_r108_i97_i_i_i_i_i_i);
-    v_r130_i105_i_i_i_i_i_i = (u32)v_r128_i_i_i_i_i_i_i;
-    v_r133_i_i_i_i_i_i_i = (u32)((u32)(v_r126_i104_i_i_i_i_i_i) | (u32)(v_r130_i105_i_i_i_i_i_i));
-    { p_v_r6_i71_sroa_23_34821_i_i_i_i = v_r19_i_i2217_i_i_i_i; p_v_r6_i71_sroa_0_34819_i_i_i_i = v_r16_i_i2216_i_i_i_i; p_v_r12_sroa_10_0_i2280_i_i_i_i = v_r133_i_i_i_i_i_i_i; goto L_arm_1_i_i507_i_i_i_i; }
-L_join_13_i86_i_i_i_i_i_i:;
-    v_r136_i87_i_i_i_i_i_i = v_r106_i_i_i_i_i_i_i < 5u;
-    if (v_r136_i87_i_i_i_i_i_i) { goto L_then_14_i_i_i_i_i_i_i; } else { goto L_join_16_i_i_i_i_i_i_i; }
-L_then_14_i_i_i_i_i_i_i:;
-    v_r143_i88_i_i_i_i_i_i = v_r13_sroa_0_0_copyload_i_i2074_i_i_i_i + 3;
-    v_r145_i89_i_i_i_i_i_i = v_r13_sroa_0_0_copyload_i_i2074_i_i_i_i + 4;
-    v_r147_i90_i_i_i_i_i_i = v_r13_sroa_0_0_copyload_i_i2074_i_i_i_i + 5;
-    v_r155_i92_i_i_i_i_i_i = (u32)v_r36_i2254_i_i_i_i;
-    v_r157_i93_i_i_i_i_i_i = (u32)((u32)(v_r155_i92_i_i_i_i_i_i) << (u32)((24u & 31)));
-    v_r159_i94_i_i_i_i_i_i = get_u8(v_r143_i88_i_i_i_i_i_i);
-    v_r161_i_i_i_i_i_i_i = (u32)v_r159_i94_i_i_i_i_i_i;
-    v_r163_i_i_i_i_i_i_i = (u32)((u32)(v_r161_i_i_i_i_i_i_i) << (u32)((16u & 31)));
-    v_r166_i_i_i_i_i_i_i = (u32)((u32)(v_r163_i_i_i_i_i_i_i) | (u32)(v_r157_i93_i_i_i_i_i_i));
-    v_r168_i_i_i_i_i_i_i = get_u8(v_r145_i89_i_i_i_i_i_i);
-    v_r170_i_i_i_i_i_i_i = (u32)v_r168_i_i_i_i_i_i_i;
-    v_r172_i_i_i_i_i_i_i = (u32)((u32)(v_r170_i_i_i_i_i_i_i) << (u32)((8u & 31)));
-    v_r175_i_i_i_i_i_i_i = (u32)((u32)(v_r166_i_i_i_i_i_i_i) | (u32)(v_r172_i_i_i_i_i_i_i));
-    v_r177_i_i_i_i_i_i_i = get_u8(v_r147_i90_i_i_i_i_i_i);
-    v_r179_i_i_i_i_i_i_i = (u32)v_r177_i_i_i_i_i_i_i;
-    v_r182_i_i_i_i_i_i_i = (u32)((u32)(v_r175_i_i_i_i_i_i_i) | (u32)(v_r179_i_i_i_i_i_i_i));
-    { p_v_r6_i71_sroa_23_34821_i_i_i_i = v_r19_i_i2217_i_i_i_i; p_v_r6_i71_sroa_0_34819_i_i_i_i = v_r16_i_i2216_i_i_i_i; p_v_r12_sroa_10_0_i2280_i_i_i_i = v_r182_i_i_i_i_i_i_i; goto L_arm_1_i_i507_i_i_i_i; }
-L_join_16_i_i_i_i_i_i_i:;
+L_join_7_i1676_i_i:;
+    v_r36_i1677_i_i = get_u8(v_r16_i_i_i1604_i_i);
+    v_r38_i1678_i_i = v_r36_i1677_i_i == 0u;
+    if (v_r38_i1678_i_i) { p_v_r8_i651_i_i_sroa_0_sroa_8_0_ph_i = 8u; goto L_arm_12_i364_i_i_i; } else { goto L_join_7_i82_i_i_i; }
+L_der_core_length_is_overlong_exit_i_i:;
+    v_r28_i1674_i_i = get_u8(v_r16_i_i_i1604_i_i);
+    v_r30_i1675_i_i = (u8)(v_r28_i1674_i_i ^ ((u8)1 << 7)) > (u8)(255u ^ ((u8)1 << 7));
+    if (v_r30_i1675_i_i) { p_v_r8_i651_i_i_sroa_0_sroa_8_0_ph_i = 8u; goto L_arm_12_i364_i_i_i; } else { goto L_then_5_i80_i_i_i; }
+L_then_5_i80_i_i_i:;
+    v_r71_i_i_i_i = (u32)v_r28_i1674_i_i;
+    { p_v_r13_sroa_0_0_copyload_i_i1760_i_i = v_r16_i_i1652_i_i; p_v_r36_i_i1757_i_i = v_r19_i_i1653_i_i; p_v_r12_sroa_10_0_i_i_i = v_r71_i_i_i_i; goto L_arm_1_i_i_i; }
+L_join_7_i82_i_i_i:;
+    v_r74_i83_i_i_i = v_r106_i_i_i_i < 3u;
+    if (v_r74_i83_i_i_i) { goto L_then_8_i106_i_i_i; } else { goto L_join_10_i84_i_i_i; }
+L_then_8_i106_i_i_i:;
+    v_r81_i107_i_i_i = v_r4_i164_sroa_0_22772_i_i351_i + 3;
+    v_r87_i109_i_i_i = (u32)v_r36_i1677_i_i;
+    v_r89_i_i_i_i = (u32)((u32)(v_r87_i109_i_i_i) << (u32)((8u & 31)));
+    v_r91_i_i_i_i = get_u8(v_r81_i107_i_i_i);
+    v_r93_i110_i_i_i = (u32)v_r91_i_i_i_i;
+    v_r96_i111_i_i_i = (u32)((u32)(v_r89_i_i_i_i) | (u32)(v_r93_i110_i_i_i));
+    { p_v_r13_sroa_0_0_copyload_i_i1760_i_i = v_r16_i_i1652_i_i; p_v_r36_i_i1757_i_i = v_r19_i_i1653_i_i; p_v_r12_sroa_10_0_i_i_i = v_r96_i111_i_i_i; goto L_arm_1_i_i_i; }
+L_join_10_i84_i_i_i:;
+    v_r99_i85_i_i_i = v_r106_i_i_i_i == 3u;
+    if (v_r99_i85_i_i_i) { goto L_then_11_i95_i_i_i; } else { goto L_join_13_i86_i_i_i; }
+L_then_11_i95_i_i_i:;
+    v_r106_i96_i_i_i = v_r4_i164_sroa_0_22772_i_i351_i + 3;
+    v_r108_i97_i_i_i = v_r4_i164_sroa_0_22772_i_i351_i + 4;
+    v_r115_i99_i_i_i = (u32)v_r36_i1677_i_i;
+    v_r117_i100_i_i_i = (u32)((u32)(v_r115_i99_i_i_i) << (u32)((16u & 31)));
+    v_r119_i101_i_i_i = get_u8(v_r106_i96_i_i_i);
+    v_r121_i102_i_i_i = (u32)v_r119_i101_i_i_i;
+    v_r123_i103_i_i_i = (u32)((u32)(v_r121_i102_i_i_i) << (u32)((8u & 31)));
+    v_r126_i104_i_i_i = (u32)((u32)(v_r123_i103_i_i_i) | (u32)(v_r117_i100_i_i_i));
+    v_r128_i_i_i_i = get_u8(v_r108_i97_i_i_i);
+    v_r130_i105_i_i_i = (u32)v_r128_i_i_i_i;
+    v_r133_i_i_i_i = (u32)((u32)(v_r126_i104_i_i_i) | (u32)(v_r130_i105_i_i_i));
+    { p_v_r13_sroa_0_0_copyload_i_i1760_i_i = v_r16_i_i1652_i_i; p_v_r36_i_i1757_i_i = v_r19_i_i1653_i_i; p_v_r12_sroa_10_0_i_i_i = v_r133_i_i_i_i; goto L_arm_1_i_i_i; }
+L_join_13_i86_i_i_i:;
+    v_r136_i87_i_i_i = v_r106_i_i_i_i < 5u;
+    if (v_r136_i87_i_i_i) { goto L_then_14_i_i_i_i; } else { goto L_join_16_i_i_i_i; }
+L_then_14_i_i_i_i:;
+    v_r143_i88_i_i_i = v_r4_i164_sroa_0_22772_i_i351_i + 3;
+    v_r145_i89_i_i_i = v_r4_i164_sroa_0_22772_i_i351_i + 4;
+    v_r147_i90_i_i_i = v_r4_i164_sroa_0_22772_i_i351_i + 5;
+    v_r155_i92_i_i_i = (u32)v_r36_i1677_i_i;
+    v_r157_i93_i_i_i = (u32)((u32)(v_r155_i92_i_i_i) << (u32)((24u & 31)));
+    v_r159_i94_i_i_i = get_u8(v_r143_i88_i_i_i);
+    v_r161_i_i_i_i = (u32)v_r159_i94_i_i_i;
+    v_r163_i_i_i_i = (u32)((u32)(v_r161_i_i_i_i) << (u32)((16u & 31)));
+    v_r166_i_i_i_i = (u32)((u32)(v_r163_i_i_i_i) | (u32)(v_r157_i93_i_i_i));
+    v_r168_i_i_i_i = get_u8(v_r145_i89_i_i_i);
+    v_r170_i_i_i_i = (u32)v_r168_i_i_i_i;
+    v_r172_i_i_i_i = (u32)((u32)(v_r170_i_i_i_i) << (u32)((8u & 31)));
+    v_r175_i_i_i_i = (u32)((u32)(v_r166_i_i_i_i) | (u32)(v_r172_i_i_i_i));
+    v_r177_i_i_i_i = get_u8(v_r147_i90_i_i_i);
+    v_r179_i_i_i_i = (u32)v_r177_i_i_i_i;
+    v_r182_i_i_i_i = (u32)((u32)(v_r175_i_i_i_i) | (u32)(v_r179_i_i_i_i));
+    { p_v_r13_sroa_0_0_copyload_i_i1760_i_i = v_r16_i_i1652_i_i; p_v_r36_i_i1757_i_i = v_r19_i_i1653_i_i; p_v_r12_sroa_10_0_i_i_i = v_r182_i_i_i_i; goto L_arm_1_i_i_i; }
+L_join_16_i_i_i_i:;
     __builtin_trap();
     __builtin_trap();
-L_arm_1_i_i507_i_i_i_i:;
-    v_r6_i71_sroa_23_34821_i_i_i_i = p_v_r6_i71_sroa_23_34821_i_i_i_i;
-    v_r6_i71_sroa_0_34819_i_i_i_i = p_v_r6_i71_sroa_0_34819_i_i_i_i;
-    v_r12_sroa_10_0_i2280_i_i_i_i = p_v_r12_sroa_10_0_i2280_i_i_i_i;
-    if (v_r8_i22_i_i_i_i_i_i) { goto L_join_3_i_i2339_i_i_i_i; } else { p_v_r10_i348_sroa_7_0_ph_i_i_i_i = 10u; goto L_arm_12_i156_i_i_i_i; }
-L_join_3_i_i2339_i_i_i_i:;
-    v_r3_i25_i_i2340_i_i_i_i = (u64)v_r12_sroa_10_0_i2280_i_i_i_i;
-    v_r39_i_i2343_i_i_i_i = v_r6_i71_sroa_23_34821_i_i_i_i < v_r3_i25_i_i2340_i_i_i_i;
-    if (v_r39_i_i2343_i_i_i_i) { p_v_r10_i348_sroa_7_0_ph_i_i_i_i = 1u; goto L_arm_12_i156_i_i_i_i; } else { goto L_join_3_i2382_i_i_i_i; }
-L_join_3_i2382_i_i_i_i:;
-    v_r16_i_i_i2346_i_i_i_i = (P)((uintptr_t)v_r6_i71_sroa_0_34819_i_i_i_i + (u64)(v_r3_i25_i_i2340_i_i_i_i));
-    v_r15_i_i_i_i_i_i = v_r12_sroa_10_0_i2280_i_i_i_i == 0u;
-    if (v_r15_i_i_i_i_i_i) { goto L_spki_core_object_identifier_is_identifier_exit_i_i; } else { goto L_join_4_i_i_i_i_i_i; }
-L_join_4_i_i_i_i_i_i:;
-    v_r22_i_i_i_i_i_i = (u64)((u64)(v_r3_i25_i_i2340_i_i_i_i) + (u64)(18446744073709551615ull));
-    v_r25_i58_i_i_i_i_i = (P)((uintptr_t)v_r6_i71_sroa_0_34819_i_i_i_i + (u64)(v_r22_i_i_i_i_i_i));
-    v_r35_i59_i_i_i_i_i = get_u8(v_r25_i58_i_i_i_i_i);
-    v_r37_i60_i_i_i_i_i = (u8)(v_r35_i59_i_i_i_i_i ^ ((u8)1 << 7)) > (u8)(255u ^ ((u8)1 << 7));
-    if (v_r37_i60_i_i_i_i_i) { goto L_spki_core_object_identifier_ends_plainly_exit_i_i_; } else { goto L_spki_core_object_identifier_is_identifier_exit_i_i; }
+L_arm_1_i_i_i:;
+    v_r13_sroa_0_0_copyload_i_i1760_i_i = p_v_r13_sroa_0_0_copyload_i_i1760_i_i;
+    v_r36_i_i1757_i_i = p_v_r36_i_i1757_i_i;
+    v_r12_sroa_10_0_i_i_i = p_v_r12_sroa_10_0_i_i_i;
+    if (v_r8_i22_i_i_i) { goto L_join_3_i_i1755_i_i; } else { p_v_r8_i651_i_i_sroa_0_sroa_8_0_ph_i = 10u; goto L_arm_12_i364_i_i_i; }
+L_join_3_i_i1755_i_i:;
+    v_r3_i25_i_i_i75_i = (u64)v_r12_sroa_10_0_i_i_i;
+    v_r39_i_i1758_i_i = v_r36_i_i1757_i_i < v_r3_i25_i_i_i75_i;
+    if (v_r39_i_i1758_i_i) { p_v_r8_i651_i_i_sroa_0_sroa_8_0_ph_i = 1u; goto L_arm_12_i364_i_i_i; } else { goto L_join_3_i_i1790_i_i; }
+L_join_3_i_i1790_i_i:;
+    v_r16_i_i_i1761_i_i = (P)((uintptr_t)v_r13_sroa_0_0_copyload_i_i1760_i_i + (u64)(v_r3_i25_i_i_i75_i));
+    v_r19_i_i_i1762_i_i = (u64)((u64)(v_r36_i_i1757_i_i) - (u64)(v_r3_i25_i_i_i75_i));
+    v_r7_i_i_i_i_i_i = v_r12_sroa_10_0_i_i_i == 0u;
+    if (v_r7_i_i_i_i_i_i) { p_v_r8_i651_i_i_sroa_0_sroa_8_0_ph_i = 3u; goto L_arm_12_i364_i_i_i; } else { goto L_join_8_i_i_i_i_i; }
+L_join_8_i_i_i_i_i:;
+    v_r60_i_i_i1797_i_i = get_u8(v_r13_sroa_0_0_copyload_i_i1760_i_i);
+    v_r62_i_i_i1798_i_i = (u8)(v_r60_i_i_i1797_i_i ^ ((u8)1 << 7)) < (u8)(0u ^ ((u8)1 << 7));
+    if (v_r62_i_i_i1798_i_i) { p_v_r8_i651_i_i_sroa_0_sroa_8_0_ph_i = 13u; goto L_arm_12_i364_i_i_i; } else { goto L_join_11_i_i_i_i_i; }
+L_join_11_i_i_i_i_i:;
+    v_r74_i_i_i1799_i_i = v_r12_sroa_10_0_i_i_i != 1u;
+    v_cond_i_i_i_i_i = v_r60_i_i_i1797_i_i == 0u;
+    v_or_cond_i_i_i_i_i = (u1)(((u32)(v_r74_i_i_i1799_i_i) & (u32)(v_cond_i_i_i_i_i)) & 1);
+    if (v_or_cond_i_i_i_i_i) { goto L_arm_15_i_i_i1808_i_i; } else { goto L_arm_1_i18_i_i_i; }
+L_arm_15_i_i_i1808_i_i:;
+    v_r84_i_i_i1809_i_i = v_r13_sroa_0_0_copyload_i_i1760_i_i + 1;
+    v_r87_i_i_i1810_i_i = get_u8(v_r84_i_i_i1809_i_i);
+    v_r89_i_i_i1811_i_i = (u8)(v_r87_i_i_i1810_i_i ^ ((u8)1 << 7)) > (u8)(255u ^ ((u8)1 << 7));
+    v_spec_select_i_i = v_r89_i_i_i1811_i_i ? 4u : 13u;
+    { p_v_r8_i651_i_i_sroa_0_sroa_8_0_ph_i = v_spec_select_i_i; goto L_arm_12_i364_i_i_i; }
+L_arm_1_i18_i_i_i:;
+    v_r42_i_not_i_i_i = v_r12_sroa_10_0_i_i_i == 1u;
+    v_brmerge_not_i_i = (u1)(((u32)(v_r42_i_not_i_i_i) & (u32)(v_cond_i_i_i_i_i)) & 1);
+    if (v_brmerge_not_i_i) { goto L_join_3_i_i1840_i_i; } else { p_v_r8_i651_i_i_sroa_0_sroa_8_0_ph_i = 13u; goto L_arm_12_i364_i_i_i; }
+L_join_3_i_i1840_i_i:;
+    fill(v_r9_i10_sroa_11_sroa_0_i_sroa_14_i, 0u, 30u);
+    fill(v_r0_i49_sroa_27_sroa_0_i_sroa_14_i, 0u, 30u);
+    fill(v_r30_i83_sroa_15_sroa_0_i_sroa_14_i, 0u, 30u);
+    v_r39_i_i1843_i_i = v_r36_i_i1757_i_i == v_r3_i25_i_i_i75_i;
+    if (v_r39_i_i1843_i_i) { p_v_r0_i49_sroa_9_0_ph_i_i = 1u; goto L_arm_2_i13_i_i; } else { goto L_arm_1_i_i186_i_i; }
+L_arm_1_i_i186_i_i:;
+    v_r16_i_i_i1846_i_i = v_r16_i_i_i1761_i_i + 1;
+    v_r29_i1848_i_i = get_u8(v_r16_i_i_i1761_i_i);
+    v_r8_i23_i_i_i = v_r29_i1848_i_i == 48u;
+    if (v_r8_i23_i_i_i) { goto L_join_3_i_i1888_i_i; } else { goto L_der_core_header_tag_of_exit_i190_i_i; }
+L_der_core_header_tag_of_exit_i190_i_i:;
+    v_r9_i1870_i_i = (u8)((u32)(v_r29_i1848_i_i) & (u32)(31u));
+    v_r11_i1871_i_i = v_r9_i1870_i_i != 31u;
+    v_8 = (u8)((u32)(v_r29_i1848_i_i) & (u32)(223u));
+    v_9 = v_8 != 0u;
+    v_r2_0_in_i1872_not_i_i = (u1)(((u32)(v_r11_i1871_i_i) & (u32)(v_9)) & 1);
+    if (v_r2_0_in_i1872_not_i_i) { goto L_join_3_i_i1888_i_i; } else { p_v_r0_i49_sroa_9_0_ph_i_i = 11u; goto L_arm_2_i13_i_i; }
+L_join_3_i_i1888_i_i:;
+    v_r39_i_i1891_i_i = v_r19_i_i_i1762_i_i == 1u;
+    if (v_r39_i_i1891_i_i) { p_v_r0_i49_sroa_9_0_ph_i_i = 1u; goto L_arm_2_i13_i_i; } else { goto L_arm_1_i60_i_i_i; }
+L_arm_1_i60_i_i_i:;
+    v_r16_i_i_i1894_i_i = v_r16_i_i_i1761_i_i + 2;
+    v_r19_i_i_i1895_i_i = (u64)((u64)(v_r19_i_i_i1762_i_i) + (u64)(18446744073709551614ull));
+    v_r29_i1896_i_i = get_u8(v_r16_i_i_i1846_i_i);
+    v_r51_i63_i_i_i = (u8)(v_r29_i1896_i_i ^ ((u8)1 << 7)) > (u8)(255u ^ ((u8)1 << 7));
+    if (v_r51_i63_i_i_i) { goto L_then_5_i_i338_i_i; } else { goto L_join_7_i64_i_i_i; }
+L_then_5_i_i338_i_i:;
+    v_r56_i74_i_i_i = (u64)v_r29_i1896_i_i;
+    { p_v_r13_sroa_0_0_copyload_i_i2074_i_i = v_r16_i_i_i1894_i_i; p_v_r36_i_i2071_i_i = v_r19_i_i_i1895_i_i; p_v_r12_sroa_10_0_i2009_i_i = v_r56_i74_i_i_i; goto L_arm_1_i132_i_i; }
+L_join_7_i64_i_i_i:;
+    v_r68_i65_i_i_i = v_r29_i1896_i_i == 128u;
+    if (v_r68_i65_i_i_i) { p_v_r0_i49_sroa_9_0_ph_i_i = 2u; goto L_arm_2_i13_i_i; } else { goto L_join_10_i_i253_i_i; }
+L_join_10_i_i253_i_i:;
+    v_r87_i_i254_i_i = v_r29_i1896_i_i > 132u;
+    if (v_r87_i_i254_i_i) { p_v_r0_i49_sroa_9_0_ph_i_i = 7u; goto L_arm_2_i13_i_i; } else { goto L_join_3_i1937_i_i; }
+L_join_3_i1937_i_i:;
+    v_r106_i_i256_i_i = (u8)((u32)(v_r29_i1896_i_i) & (u32)(127u));
+    v_r3_i25_i1938_i_i = (u64)v_r106_i_i256_i_i;
+    v_r39_i1941_i_i = v_r19_i_i_i1895_i_i < v_r3_i25_i1938_i_i;
+    if (v_r39_i1941_i_i) { p_v_r0_i49_sroa_9_0_ph_i_i = 1u; goto L_arm_2_i13_i_i; } else { goto L_arm_14_i_i273_i_i; }
+L_arm_14_i_i273_i_i:;
+    v_r16_i_i1945_i_i = (P)((uintptr_t)v_r16_i_i_i1894_i_i + (u64)(v_r3_i25_i1938_i_i));
+    v_r19_i_i1946_i_i = (u64)((u64)(v_r19_i_i_i1895_i_i) - (u64)(v_r3_i25_i1938_i_i));
+    switch (v_r106_i_i256_i_i) {
+    case 0u: { p_v_r0_i49_sroa_9_0_ph_i_i = 8u; goto L_arm_2_i13_i_i; }
+    case 1u: { goto L_der_core_length_is_overlong_exit1985_i_i; }
+    default: { goto L_join_7_i1982_i_i; }
+    }
+L_join_7_i1982_i_i:;
+    v_r36_i1983_i_i = get_u8(v_r16_i_i_i1894_i_i);
+    v_r38_i1984_i_i = v_r36_i1983_i_i == 0u;
+    if (v_r38_i1984_i_i) { p_v_r0_i49_sroa_9_0_ph_i_i = 8u; goto L_arm_2_i13_i_i; } else { goto L_join_7_i83_i_i_i; }
+L_der_core_length_is_overlong_exit1985_i_i:;
+    v_r28_i1979_i_i = get_u8(v_r16_i_i_i1894_i_i);
+    v_r30_i1980_i_i = (u8)(v_r28_i1979_i_i ^ ((u8)1 << 7)) > (u8)(255u ^ ((u8)1 << 7));
+    if (v_r30_i1980_i_i) { p_v_r0_i49_sroa_9_0_ph_i_i = 8u; goto L_arm_2_i13_i_i; } else { goto L_then_5_i81_i_i_i; }
+L_then_5_i81_i_i_i:;
+    v_r71_i_i279_i_i = (u64)v_r28_i1979_i_i;
+    { p_v_r13_sroa_0_0_copyload_i_i2074_i_i = v_r16_i_i1945_i_i; p_v_r36_i_i2071_i_i = v_r19_i_i1946_i_i; p_v_r12_sroa_10_0_i2009_i_i = v_r71_i_i279_i_i; goto L_arm_1_i132_i_i; }
+L_join_7_i83_i_i_i:;
+    v_r74_i84_i_i_i = v_r106_i_i256_i_i < 3u;
+    if (v_r74_i84_i_i_i) { goto L_then_8_i107_i_i_i; } else { goto L_join_10_i85_i_i_i; }
+L_then_8_i107_i_i_i:;
+    v_r81_i108_i_i_i = v_r16_i_i_i1761_i_i + 3;
+    v_r87_i110_i_i_i = (u64)v_r36_i1983_i_i;
+    v_r89_i_i304_i_i = (u64)((u64)(v_r87_i110_i_i_i) << (u64)((8u & 63)));
+    v_r91_i_i305_i_i = get_u8(v_r81_i108_i_i_i);
+    v_r93_i111_i_i_i = (u64)v_r91_i_i305_i_i;
+    v_r96_i112_i_i_i = (u64)((u64)(v_r89_i_i304_i_i) | (u64)(v_r93_i111_i_i_i));
+    { p_v_r13_sroa_0_0_copyload_i_i2074_i_i = v_r16_i_i1945_i_i; p_v_r36_i_i2071_i_i = v_r19_i_i1946_i_i; p_v_r12_sroa_10_0_i2009_i_i = v_r96_i112_i_i_i; goto L_arm_1_i132_i_i; }
+L_join_10_i85_i_i_i:;
+    v_r99_i86_i_i_i = v_r106_i_i256_i_i == 3u;
+    if (v_r99_i86_i_i_i) { goto L_then_11_i96_i_i_i; } else { goto L_join_13_i87_i_i_i; }
+L_then_11_i96_i_i_i:;
+    v_r106_i97_i_i_i = v_r16_i_i_i1761_i_i + 3;
+    v_r108_i98_i_i_i = v_r16_i_i_i1761_i_i + 4;
+    v_r115_i100_i_i_i = (u64)v_r36_i1983_i_i;
+    v_r117_i101_i_i_i = (u64)((u64)(v_r115_i100_i_i_i) << (u64)((16u & 63)));
+    v_r119_i102_i_i_i = get_u8(v_r106_i97_i_i_i);
+    v_r121_i103_i_i_i = (u64)v_r119_i102_i_i_i;
+    v_r123_i104_i_i_i = (u64)((u64)(v_r121_i103_i_i_i) << (u64)((8u & 63)));
+    v_r126_i105_i_i_i = (u64)((u64)(v_r123_i104_i_i_i) | (u64)(v_r117_i101_i_i_i));
+    v_r128_i_i302_i_i = get_u8(v_r108_i98_i_i_i);
+    v_r130_i106_i_i_i = (u64)v_r128_i_i302_i_i;
+    v_r133_i_i303_i_i = (u64)((u64)(v_r126_i105_i_i_i) | (u64)(v_r130_i106_i_i_i));
+    { p_v_r13_sroa_0_0_copyload_i_i2074_i_i = v_r16_i_i1945_i_i; p_v_r36_i_i2071_i_i = v_r19_i_i1946_i_i; p_v_r12_sroa_10_0_i2009_i_i = v_r133_i_i303_i_i; goto L_arm_1_i132_i_i; }
+L_join_13_i87_i_i_i:;
+    v_r136_i88_i_i_i = v_r106_i_i256_i_i < 5u;
+    if (v_r136_i88_i_i_i) { goto L_then_14_i_i291_i_i; } else { goto L_join_16_i_i290_i_i; }
+L_then_14_i_i291_i_i:;
+    v_r143_i89_i_i_i = v_r16_i_i_i1761_i_i + 3;
+    v_r145_i90_i_i_i = v_r16_i_i_i1761_i_i + 4;
+    v_r147_i91_i_i_i = v_r16_i_i_i1761_i_i + 5;
+    v_r155_i93_i_i_i = (u64)v_r36_i1983_i_i;
+    v_r157_i94_i_i_i = (u64)((u64)(v_r155_i93_i_i_i) << (u64)((24u & 63)));
+    v_r159_i95_i_i_i = get_u8(v_r143_i89_i_i_i);
+    v_r161_i_i292_i_i = (u64)v_r159_i95_i_i_i;
+    v_r163_i_i293_i_i = (u64)((u64)(v_r161_i_i292_i_i) << (u64)((16u & 63)));
+    v_r166_i_i294_i_i = (u64)((u64)(v_r163_i_i293_i_i) | (u64)(v_r157_i94_i_i_i));
+    v_r168_i_i295_i_i = get_u8(v_r145_i90_i_i_i);
+    v_r170_i_i296_i_i = (u64)v_r168_i_i295_i_i;
+    v_r172_i_i297_i_i = (u64)((u64)(v_r170_i_i296_i_i) << (u64)((8u & 63)));
+    v_r175_i_i298_i_i = (u64)((u64)(v_r166_i_i294_i_i) | (u64)(v_r172_i_i297_i_i));
+    v_r177_i_i299_i_i = get_u8(v_r147_i91_i_i_i);
+    v_r179_i_i300_i_i = (u64)v_r177_i_i299_i_i;
+    v_r182_i_i301_i_i = (u64)((u64)(v_r175_i_i298_i_i) | (u64)(v_r179_i_i300_i_i));
+    { p_v_r13_sroa_0_0_copyload_i_i2074_i_i = v_r16_i_i1945_i_i; p_v_r36_i_i2071_i_i = v_r19_i_i1946_i_i; p_v_r12_sroa_10_0_i2009_i_i = v_r182_i_i301_i_i; goto L_arm_1_i132_i_i; }
+L_join_16_i_i290_i_i:;
+    __builtin_trap();
+    __builtin_trap();
+L_arm_1_i132_i_i:;
+    v_r13_sroa_0_0_copyload_i_i2074_i_i = p_v_r13_sroa_0_0_copyload_i_i2074_i_i;
+    v_r36_i_i2071_i_i = p_v_r36_i_i2071_i_i;
+    v_r12_sroa_10_0_i2009_i_i = p_v_r12_sroa_10_0_i2009_i_i;
+    if (v_r8_i23_i_i_i) { goto L_join_3_i_i2068_i_i; } else { p_v_r0_i49_sroa_9_0_ph_i_i = 10u; goto L_arm_2_i13_i_i; }
+L_join_3_i_i2068_i_i:;
+    v_r39_i_i2072_i_i = v_r36_i_i2071_i_i < v_r12_sroa_10_0_i2009_i_i;
+    if (v_r39_i_i2072_i_i) { p_v_r0_i49_sroa_9_0_ph_i_i = 1u; goto L_arm_2_i13_i_i; } else { goto L_join_3_i_i2111_i_i; }
+L_join_3_i_i2111_i_i:;
+    v_r16_i_i_i2075_i_i = (P)((uintptr_t)v_r13_sroa_0_0_copyload_i_i2074_i_i + (u64)(v_r12_sroa_10_0_i2009_i_i));
+    v_r19_i_i_i2076_i_i = (u64)((u64)(v_r36_i_i2071_i_i) - (u64)(v_r12_sroa_10_0_i2009_i_i));
+    fill(v_r13_i349_sroa_0_sroa_0_i_sroa_14_i, 0u, 30u);
+    v_r39_i_i2114_i_i = v_r12_sroa_10_0_i2009_i_i == 0u;
+    if (v_r39_i_i2114_i_i) { p_v_r10_i348_sroa_7_0_ph_i_i = 1u; goto L_arm_12_i156_i_i; } else { goto L_arm_1_i_i_i_i78_i; }
+L_arm_1_i_i_i_i78_i:;
+    v_r16_i_i_i2117_i_i = v_r13_sroa_0_0_copyload_i_i2074_i_i + 1;
+    v_r29_i2119_i_i = get_u8(v_r13_sroa_0_0_copyload_i_i2074_i_i);
+    v_r8_i22_i_i_i79_i = v_r29_i2119_i_i == 6u;
+    if (v_r8_i22_i_i_i79_i) { goto L_join_3_i_i2159_i_i; } else { goto L_der_core_header_tag_of_exit_i_i_i80_i; }
+L_der_core_header_tag_of_exit_i_i_i80_i:;
+    v_r9_i2141_i_i = (u8)((u32)(v_r29_i2119_i_i) & (u32)(31u));
+    v_r11_i2142_i_i = v_r9_i2141_i_i != 31u;
+    v_10 = (u8)((u32)(v_r29_i2119_i_i) & (u32)(223u));
+    v_11 = v_10 != 0u;
+    v_r2_0_in_i2143_not_i_i = (u1)(((u32)(v_r11_i2142_i_i) & (u32)(v_11)) & 1);
+    if (v_r2_0_in_i2143_not_i_i) { goto L_join_3_i_i2159_i_i; } else { p_v_r10_i348_sroa_7_0_ph_i_i = 11u; goto L_arm_12_i156_i_i; }
+L_join_3_i_i2159_i_i:;
+    v_r39_i_i2162_i_i = v_r12_sroa_10_0_i2009_i_i == 1u;
+    if (v_r39_i_i2162_i_i) { p_v_r10_i348_sroa_7_0_ph_i_i = 1u; goto L_arm_12_i156_i_i; } else { goto L_arm_1_i59_i_i_i81_i; }
+L_arm_1_i59_i_i_i81_i:;
+    v_r16_i_i_i2165_i_i = v_r13_sroa_0_0_copyload_i_i2074_i_i + 2;
+    v_r19_i_i_i2166_i_i = (u64)((u64)(v_r12_sroa_10_0_i2009_i_i) + (u64)(18446744073709551614ull));
+    v_r29_i2167_i_i = get_u8(v_r16_i_i_i2117_i_i);
+    v_r51_i62_i_i_i82_i = (u8)(v_r29_i2167_i_i ^ ((u8)1 << 7)) > (u8)(255u ^ ((u8)1 << 7));
+    if (v_r51_i62_i_i_i82_i) { goto L_then_5_i_i_i_i139_i; } else { goto L_join_7_i63_i_i_i83_i; }
+L_then_5_i_i_i_i139_i:;
+    v_r56_i73_i_i_i140_i = (u32)v_r29_i2167_i_i;
+    { p_v_r6_i71_sroa_23_34821_i_i = v_r19_i_i_i2166_i_i; p_v_r6_i71_sroa_0_34819_i_i = v_r16_i_i_i2165_i_i; p_v_r12_sroa_10_0_i2280_i_i = v_r56_i73_i_i_i140_i; goto L_arm_1_i_i507_i_i; }
+L_join_7_i63_i_i_i83_i:;
+    v_r68_i64_i_i_i84_i = v_r29_i2167_i_i == 128u;
+    if (v_r68_i64_i_i_i84_i) { p_v_r10_i348_sroa_7_0_ph_i_i = 2u; goto L_arm_12_i156_i_i; } else { goto L_join_10_i_i_i_i_i; }
+L_join_10_i_i_i_i_i:;
+    v_r87_i_i_i_i85_i = v_r29_i2167_i_i > 132u;
+    if (v_r87_i_i_i_i85_i) { p_v_r10_i348_sroa_7_0_ph_i_i = 7u; goto L_arm_12_i156_i_i; } else { goto L_join_3_i2208_i_i; }
+L_join_3_i2208_i_i:;
+    v_r106_i_i_i_i86_i = (u8)((u32)(v_r29_i2167_i_i) & (u32)(127u));
+    v_r3_i25_i2209_i_i = (u64)v_r106_i_i_i_i86_i;
+    v_r39_i2212_i_i = v_r19_i_i_i2166_i_i < v_r3_i25_i2209_i_i;
+    if (v_r39_i2212_i_i) { p_v_r10_i348_sroa_7_0_ph_i_i = 1u; goto L_arm_12_i156_i_i; } else { goto L_arm_14_i_i_i_i87_i; }
+L_arm_14_i_i_i_i87_i:;
+    v_r16_i_i2216_i_i = (P)((uintptr_t)v_r16_i_i_i2165_i_i + (u64)(v_r3_i25_i2209_i_i));
+    v_r19_i_i2217_i_i = (u64)((u64)(v_r19_i_i_i2166_i_i) - (u64)(v_r3_i25_i2209_i_i));
+    switch (v_r106_i_i_i_i86_i) {
+    case 0u: { p_v_r10_i348_sroa_7_0_ph_i_i = 8u; goto L_arm_12_i156_i_i; }
+    case 1u: { goto L_der_core_length_is_overlong_exit2256_i_i; }
+    default: { goto L_join_7_i2253_i_i; }
+    }
+L_join_7_i2253_i_i:;
+    v_r36_i2254_i_i = get_u8(v_r16_i_i_i2165_i_i);
+    v_r38_i2255_i_i = v_r36_i2254_i_i == 0u;
+    if (v_r38_i2255_i_i) { p_v_r10_i348_sroa_7_0_ph_i_i = 8u; goto L_arm_12_i156_i_i; } else { goto L_join_7_i82_i_i_i96_i; }
+L_der_core_length_is_overlong_exit2256_i_i:;
+    v_r28_i2250_i_i = get_u8(v_r16_i_i_i2165_i_i);
+    v_r30_i2251_i_i = (u8)(v_r28_i2250_i_i ^ ((u8)1 << 7)) > (u8)(255u ^ ((u8)1 << 7));
+    if (v_r30_i2251_i_i) { p_v_r10_i348_sroa_7_0_ph_i_i = 8u; goto L_arm_12_i156_i_i; } else { goto L_then_5_i80_i_i_i88_i; }
+L_then_5_i80_i_i_i88_i:;
+    v_r71_i_i_i_i89_i = (u32)v_r28_i2250_i_i;
+    { p_v_r6_i71_sroa_23_34821_i_i = v_r19_i_i2217_i_i; p_v_r6_i71_sroa_0_34819_i_i = v_r16_i_i2216_i_i; p_v_r12_sroa_10_0_i2280_i_i = v_r71_i_i_i_i89_i; goto L_arm_1_i_i507_i_i; }
+L_join_7_i82_i_i_i96_i:;
+    v_r74_i83_i_i_i97_i = v_r106_i_i_i_i86_i < 3u;
+    if (v_r74_i83_i_i_i97_i) { goto L_then_8_i106_i_i_i132_i; } else { goto L_join_10_i84_i_i_i98_i; }
+L_then_8_i106_i_i_i132_i:;
+    v_r81_i107_i_i_i133_i = v_r13_sroa_0_0_copyload_i_i2074_i_i + 3;
+    v_r87_i109_i_i_i134_i = (u32)v_r36_i2254_i_i;
+    v_r89_i_i_i_i135_i = (u32)((u32)(v_r87_i109_i_i_i134_i) << (u32)((8u & 31)));
+    v_r91_i_i_i_i136_i = get_u8(v_r81_i107_i_i_i133_i);
+    v_r93_i110_i_i_i137_i = (u32)v_r91_i_i_i_i136_i;
+    v_r96_i111_i_i_i138_i = (u32)((u32)(v_r89_i_i_i_i135_i) | (u32)(v_r93_i110_i_i_i137_i));
+    { p_v_r6_i71_sroa_23_34821_i_i = v_r19_i_i2217_i_i; p_v_r6_i71_sroa_0_34819_i_i = v_r16_i_i2216_i_i; p_v_r12_sroa_10_0_i2280_i_i = v_r96_i111_i_i_i138_i; goto L_arm_1_i_i507_i_i; }
+L_join_10_i84_i_i_i98_i:;
+    v_r99_i85_i_i_i99_i = v_r106_i_i_i_i86_i == 3u;
+    if (v_r99_i85_i_i_i99_i) { goto L_then_11_i95_i_i_i120_i; } else { goto L_join_13_i86_i_i_i100_i; }
+L_then_11_i95_i_i_i120_i:;
+    v_r106_i96_i_i_i121_i = v_r13_sroa_0_0_copyload_i_i2074_i_i + 3;
+    v_r108_i97_i_i_i122_i = v_r13_sroa_0_0_copyload_i_i2074_i_i + 4;
+    v_r115_i99_i_i_i123_i = (u32)v_r36_i2254_i_i;
+    v_r117_i100_i_i_i124_i = (u32)((u32)(v_r115_i99_i_i_i123_i) << (u32)((16u & 31)));
+    v_r119_i101_i_i_i125_i = get_u8(v_r106_i96_i_i_i121_i);
+    v_r121_i102_i_i_i126_i = (u32)v_r119_i101_i_i_i125_i;
+    v_r123_i103_i_i_i127_i = (u32)((u32)(v_r121_i102_i_i_i126_i) << (u32)((8u & 31)));
+    v_r126_i104_i_i_i128_i = (u32)((u32)(v_r123_i103_i_i_i127_i) | (u32)(v_r117_i100_i_i_i124_i));
+    v_r128_i_i_i_i129_i = get_u8(v_r108_i97_i_i_i122_i);
+    v_r130_i105_i_i_i130_i = (u32)v_r128_i_i_i_i129_i;
+    v_r133_i_i_i_i131_i = (u32)((u32)(v_r126_i104_i_i_i128_i) | (u32)(v_r130_i105_i_i_i130_i));
+    { p_v_r6_i71_sroa_23_34821_i_i = v_r19_i_i2217_i_i; p_v_r6_i71_sroa_0_34819_i_i = v_r16_i_i2216_i_i; p_v_r12_sroa_10_0_i2280_i_i = v_r133_i_i_i_i131_i; goto L_arm_1_i_i507_i_i; }
+L_join_13_i86_i_i_i100_i:;
+    v_r136_i87_i_i_i101_i = v_r106_i_i_i_i86_i < 5u;
+    if (v_r136_i87_i_i_i101_i) { goto L_then_14_i_i_i_i103_i; } else { goto L_join_16_i_i_i_i102_i; }
+L_then_14_i_i_i_i103_i:;
+    v_r143_i88_i_i_i104_i = v_r13_sroa_0_0_copyload_i_i2074_i_i + 3;
+    v_r145_i89_i_i_i105_i = v_r13_sroa_0_0_copyload_i_i2074_i_i + 4;
+    v_r147_i90_i_i_i106_i = v_r13_sroa_0_0_copyload_i_i2074_i_i + 5;
+    v_r155_i92_i_i_i107_i = (u32)v_r36_i2254_i_i;
+    v_r157_i93_i_i_i108_i = (u32)((u32)(v_r155_i92_i_i_i107_i) << (u32)((24u & 31)));
+    v_r159_i94_i_i_i109_i = get_u8(v_r143_i88_i_i_i104_i);
+    v_r161_i_i_i_i110_i = (u32)v_r159_i94_i_i_i109_i;
+    v_r163_i_i_i_i111_i = (u32)((u32)(v_r161_i_i_i_i110_i) << (u32)((16u & 31)));
+    v_r166_i_i_i_i112_i = (u32)((u32)(v_r163_i_i_i_i111_i) | (u32)(v_r157_i93_i_i_i108_i));
+    v_r168_i_i_i_i113_i = get_u8(v_r145_i89_i_i_i105_i);
+    v_r170_i_i_i_i114_i = (u32)v_r168_i_i_i_i113_i;
+    v_r172_i_i_i_i115_i = (u32)((u32)(v_r170_i_i_i_i114_i) << (u32)((8u & 31)));
+    v_r175_i_i_i_i116_i = (u32)((u32)(v_r166_i_i_i_i112_i) | (u32)(v_r172_i_i_i_i115_i));
+    v_r177_i_i_i_i117_i = get_u8(v_r147_i90_i_i_i106_i);
+    v_r179_i_i_i_i118_i = (u32)v_r177_i_i_i_i117_i;
+    v_r182_i_i_i_i119_i = (u32)((u32)(v_r175_i_i_i_i116_i) | (u32)(v_r179_i_i_i_i118_i));
+    { p_v_r6_i71_sroa_23_34821_i_i = v_r19_i_i2217_i_i; p_v_r6_i71_sroa_0_34819_i_i = v_r16_i_i2216_i_i; p_v_r12_sroa_10_0_i2280_i_i = v_r182_i_i_i_i119_i; goto L_arm_1_i_i507_i_i; }
+L_join_16_i_i_i_i102_i:;
+    __builtin_trap();
+    __builtin_trap();
+L_arm_1_i_i507_i_i:;
+    v_r6_i71_sroa_23_34821_i_i = p_v_r6_i71_sroa_23_34821_i_i;
+    v_r6_i71_sroa_0_34819_i_i = p_v_r6_i71_sroa_0_34819_i_i;
+    v_r12_sroa_10_0_i2280_i_i = p_v_r12_sroa_10_0_i2280_i_i;
+    if (v_r8_i22_i_i_i79_i) { goto L_join_3_i_i2339_i_i; } else { p_v_r10_i348_sroa_7_0_ph_i_i = 10u; goto L_arm_12_i156_i_i; }
+L_join_3_i_i2339_i_i:;
+    v_r3_i25_i_i2340_i_i = (u64)v_r12_sroa_10_0_i2280_i_i;
+    v_r39_i_i2343_i_i = v_r6_i71_sroa_23_34821_i_i < v_r3_i25_i_i2340_i_i;
+    if (v_r39_i_i2343_i_i) { p_v_r10_i348_sroa_7_0_ph_i_i = 1u; goto L_arm_12_i156_i_i; } else { goto L_join_3_i2382_i_i; }
+L_join_3_i2382_i_i:;
+    v_r16_i_i_i2346_i_i = (P)((uintptr_t)v_r6_i71_sroa_0_34819_i_i + (u64)(v_r3_i25_i_i2340_i_i));
+    v_r15_i_i_i_i = v_r12_sroa_10_0_i2280_i_i == 0u;
+    if (v_r15_i_i_i_i) { goto L_spki_core_object_identifier_is_identifier_exit_i_i; } else { goto L_join_4_i_i_i_i; }
+L_join_4_i_i_i_i:;
+    v_r22_i_i_i_i = (u64)((u64)(v_r3_i25_i_i2340_i_i) + (u64)(18446744073709551615ull));
+    v_r25_i58_i_i_i = (P)((uintptr_t)v_r6_i71_sroa_0_34819_i_i + (u64)(v_r22_i_i_i_i));
+    v_r35_i59_i_i_i = get_u8(v_r25_i58_i_i_i);
+    v_r37_i60_i_i_i = (u8)(v_r35_i59_i_i_i ^ ((u8)1 << 7)) > (u8)(255u ^ ((u8)1 << 7));
+    if (v_r37_i60_i_i_i) { goto L_spki_core_object_identifier_ends_plainly_exit_i_i_; } else { goto L_spki_core_object_identifier_is_identifier_exit_i_i; }
 L_spki_core_object_identifier_ends_plainly_exit_i_i_:;
-    v_r44_i62_i_i_i_i_i = f_spki_core_object_identifier_has_no_80(v_r6_i71_sroa_0_34819_i_i_i_i, v_r22_i_i_i_i_i_i);
-    if (v_r44_i62_i_i_i_i_i) { goto L_then_1_i56_i_i_i_i_i; } else { goto L_spki_core_object_identifier_is_identifier_exit_i_i; }
-L_then_1_i56_i_i_i_i_i:;
-    v_r16_i57_i_i_i_i_i = v_r12_sroa_10_0_i2280_i_i_i_i < 40u;
-    if (v_r16_i57_i_i_i_i_i) { goto L_else_2_i_i343_i_i_i; } else { p_v_r10_i348_sroa_7_0_ph_i_i_i_i = 5u; goto L_arm_12_i156_i_i_i_i; }
+    v_r44_i62_i_i_i = f_spki_core_object_identifier_has_no_80(v_r6_i71_sroa_0_34819_i_i, v_r22_i_i_i_i);
+    if (v_r44_i62_i_i_i) { goto L_then_1_i56_i_i_i; } else { goto L_spki_core_object_identifier_is_identifier_exit_i_i; }
+L_then_1_i56_i_i_i:;
+    v_r16_i57_i_i_i = v_r12_sroa_10_0_i2280_i_i < 40u;
+    if (v_r16_i57_i_i_i) { goto L_else_2_i_i_i; } else { p_v_r10_i348_sroa_7_0_ph_i_i = 5u; goto L_arm_12_i156_i_i; }
 L_spki_core_object_identifier_is_identifier_exit_i_i:;
-    v_r21_i54_i_i_i_i_i = f_spki_core_object_identifier_is_identifier_by_octet(v_r6_i71_sroa_0_34819_i_i_i_i, v_r3_i25_i_i2340_i_i_i_i);
-    if (v_r21_i54_i_i_i_i_i) { goto L_else_2_i_i343_i_i_i; } else { p_v_r10_i348_sroa_7_0_ph_i_i_i_i = 5u; goto L_arm_12_i156_i_i_i_i; }
-L_else_2_i_i343_i_i_i:;
-    v_r12_i_i_i_not_i_i_i_i_i = v_r6_i71_sroa_23_34821_i_i_i_i == v_r3_i25_i_i2340_i_i_i_i;
-    if (v_r12_i_i_i_not_i_i_i_i_i) { p_v_r6_i593_sroa_28_sroa_0_0_i_i_i_i = 0u; p_v_r6_i593_sroa_28_sroa_8_0_i_i_i_i = (P)0; p_v_r6_i593_sroa_28_sroa_12_0_i_i_i_i = 0u; p_v_r6_i593_sroa_234029_sroa_0_0_i_i_i_i = 0u; goto L_join_3_i_i3001_i_i_i_i; } else { goto L_arm_1_i_i_i851_i_i_i_i; }
-L_arm_1_i_i_i851_i_i_i_i:;
-    v_r16_i_i_i2524_i_i_i_i = v_r16_i_i_i2346_i_i_i_i + 1;
-    v_8 = (u64)((u64)(v_r3_i25_i_i2340_i_i_i_i) ^ (u64)(18446744073709551615ull));
-    v_r19_i_i_i2525_i_i_i_i = (u64)((u64)(v_r6_i71_sroa_23_34821_i_i_i_i) + (u64)(v_8));
-    v_r29_i2526_i_i_i_i = get_u8(v_r16_i_i_i2346_i_i_i_i);
-    v_r8_i8_i_i_i_i_i_i = v_r29_i2526_i_i_i_i == 5u;
-    if (v_r8_i8_i_i_i_i_i_i) { goto L_join_3_i_i2566_i_i_i_i; } else { goto L_der_core_header_tag_of_exit_i_i855_i_i_i_i; }
-L_der_core_header_tag_of_exit_i_i855_i_i_i_i:;
-    v_r9_i2548_i_i_i_i = (u8)((u32)(v_r29_i2526_i_i_i_i) & (u32)(31u));
-    v_r11_i2549_i_i_i_i = v_r9_i2548_i_i_i_i != 31u;
-    v_9 = (u8)((u32)(v_r29_i2526_i_i_i_i) & (u32)(223u));
-    v_10 = v_9 != 0u;
-    v_r2_0_in_i2550_not_i_i_i_i = (u1)(((u32)(v_r11_i2549_i_i_i_i) & (u32)(v_10)) & 1);
-    if (v_r2_0_in_i2550_not_i_i_i_i) { goto L_join_3_i_i2566_i_i_i_i; } else { p_v_r10_i348_sroa_7_0_ph_i_i_i_i = 11u; goto L_arm_12_i156_i_i_i_i; }
-L_join_3_i_i2566_i_i_i_i:;
-    v_r39_i_i2569_i_i_i_i = v_r19_i_i_i2525_i_i_i_i == 0u;
-    if (v_r39_i_i2569_i_i_i_i) { p_v_r10_i348_sroa_7_0_ph_i_i_i_i = 1u; goto L_arm_12_i156_i_i_i_i; } else { goto L_arm_1_i45_i_i_i_i_i_i; }
-L_arm_1_i45_i_i_i_i_i_i:;
-    v_r16_i_i_i2572_i_i_i_i = v_r16_i_i_i2346_i_i_i_i + 2;
-    v_r19_i_i_i2573_i_i_i_i = (u64)((u64)(v_r19_i_i_i2525_i_i_i_i) + (u64)(18446744073709551615ull));
-    v_r29_i2574_i_i_i_i = get_u8(v_r16_i_i_i2524_i_i_i_i);
-    v_r51_i48_i_i_i_i_i_i = (u8)(v_r29_i2574_i_i_i_i ^ ((u8)1 << 7)) > (u8)(255u ^ ((u8)1 << 7));
-    if (v_r51_i48_i_i_i_i_i_i) { goto L_then_5_i_i_i1003_i_i_i_i; } else { goto L_join_7_i49_i_i_i_i_i_i; }
-L_then_5_i_i_i1003_i_i_i_i:;
-    v_r56_i59_i_i_i_i_i_i = (u64)v_r29_i2574_i_i_i_i;
-    { p_v_r6_i71_sroa_23_95003_i_i_i_i = v_r19_i_i_i2573_i_i_i_i; p_v_r6_i71_sroa_0_95001_i_i_i_i = v_r16_i_i_i2572_i_i_i_i; p_v_r12_sroa_10_0_i2687_i_i_i_i = v_r56_i59_i_i_i_i_i_i; goto L_join_3_i2734_i_i_i_i; }
-L_join_7_i49_i_i_i_i_i_i:;
-    v_r68_i50_i_i_i_i_i_i = v_r29_i2574_i_i_i_i == 128u;
-    if (v_r68_i50_i_i_i_i_i_i) { p_v_r10_i348_sroa_7_0_ph_i_i_i_i = 2u; goto L_arm_12_i156_i_i_i_i; } else { goto L_join_10_i_i_i918_i_i_i_i; }
-L_join_10_i_i_i918_i_i_i_i:;
-    v_r87_i_i_i919_i_i_i_i = v_r29_i2574_i_i_i_i > 132u;
-    if (v_r87_i_i_i919_i_i_i_i) { p_v_r10_i348_sroa_7_0_ph_i_i_i_i = 7u; goto L_arm_12_i156_i_i_i_i; } else { goto L_join_3_i2615_i_i_i_i; }
-L_join_3_i2615_i_i_i_i:;
-    v_r106_i_i_i921_i_i_i_i = (u8)((u32)(v_r29_i2574_i_i_i_i) & (u32)(127u));
-    v_r3_i25_i2616_i_i_i_i = (u64)v_r106_i_i_i921_i_i_i_i;
-    v_r39_i2619_i_i_i_i = v_r19_i_i_i2573_i_i_i_i < v_r3_i25_i2616_i_i_i_i;
-    if (v_r39_i2619_i_i_i_i) { p_v_r10_i348_sroa_7_0_ph_i_i_i_i = 1u; goto L_arm_12_i156_i_i_i_i; } else { goto L_arm_14_i_i_i938_i_i_i_i; }
-L_arm_14_i_i_i938_i_i_i_i:;
-    v_r16_i_i2623_i_i_i_i = (P)((uintptr_t)v_r16_i_i_i2572_i_i_i_i + (u64)(v_r3_i25_i2616_i_i_i_i));
-    v_r19_i_i2624_i_i_i_i = (u64)((u64)(v_r19_i_i_i2573_i_i_i_i) - (u64)(v_r3_i25_i2616_i_i_i_i));
-    switch (v_r106_i_i_i921_i_i_i_i) {
-    case 0u: { p_v_r10_i348_sroa_7_0_ph_i_i_i_i = 8u; goto L_arm_12_i156_i_i_i_i; }
-    case 1u: { goto L_der_core_length_is_overlong_exit2663_i_i_i_i; }
-    default: { goto L_join_7_i2660_i_i_i_i; }
+    v_r21_i54_i_i_i = f_spki_core_object_identifier_is_identifier_by_octet(v_r6_i71_sroa_0_34819_i_i, v_r3_i25_i_i2340_i_i);
+    if (v_r21_i54_i_i_i) { goto L_else_2_i_i_i; } else { p_v_r10_i348_sroa_7_0_ph_i_i = 5u; goto L_arm_12_i156_i_i; }
+L_else_2_i_i_i:;
+    v_r12_i_i_i_not_i_i_i = v_r6_i71_sroa_23_34821_i_i == v_r3_i25_i_i2340_i_i;
+    if (v_r12_i_i_i_not_i_i_i) { p_v_r6_i593_sroa_28_sroa_0_0_i_i = 0u; p_v_r6_i593_sroa_28_sroa_8_0_i_i = (P)0; p_v_r6_i593_sroa_28_sroa_12_0_i_i = 0u; p_v_r6_i593_sroa_234029_sroa_0_0_i_i = 0u; goto L_join_3_i_i3001_i_i; } else { goto L_arm_1_i_i_i851_i_i; }
+L_arm_1_i_i_i851_i_i:;
+    v_r16_i_i_i2524_i_i = v_r16_i_i_i2346_i_i + 1;
+    v_12 = (u64)((u64)(v_r3_i25_i_i2340_i_i) ^ (u64)(18446744073709551615ull));
+    v_r19_i_i_i2525_i_i = (u64)((u64)(v_r6_i71_sroa_23_34821_i_i) + (u64)(v_12));
+    v_r29_i2526_i_i = get_u8(v_r16_i_i_i2346_i_i);
+    v_r8_i8_i_i_i_i = v_r29_i2526_i_i == 5u;
+    if (v_r8_i8_i_i_i_i) { goto L_join_3_i_i2566_i_i; } else { goto L_der_core_header_tag_of_exit_i_i855_i_i; }
+L_der_core_header_tag_of_exit_i_i855_i_i:;
+    v_r9_i2548_i_i = (u8)((u32)(v_r29_i2526_i_i) & (u32)(31u));
+    v_r11_i2549_i_i = v_r9_i2548_i_i != 31u;
+    v_13 = (u8)((u32)(v_r29_i2526_i_i) & (u32)(223u));
+    v_14 = v_13 != 0u;
+    v_r2_0_in_i2550_not_i_i = (u1)(((u32)(v_r11_i2549_i_i) & (u32)(v_14)) & 1);
+    if (v_r2_0_in_i2550_not_i_i) { goto L_join_3_i_i2566_i_i; } else { p_v_r10_i348_sroa_7_0_ph_i_i = 11u; goto L_arm_12_i156_i_i; }
+L_join_3_i_i2566_i_i:;
+    v_r39_i_i2569_i_i = v_r19_i_i_i2525_i_i == 0u;
+    if (v_r39_i_i2569_i_i) { p_v_r10_i348_sroa_7_0_ph_i_i = 1u; goto L_arm_12_i156_i_i; } else { goto L_arm_1_i45_i_i_i_i; }
+L_arm_1_i45_i_i_i_i:;
+    v_r16_i_i_i2572_i_i = v_r16_i_i_i2346_i_i + 2;
+    v_r19_i_i_i2573_i_i = (u64)((u64)(v_r19_i_i_i2525_i_i) + (u64)(18446744073709551615ull));
+    v_r29_i2574_i_i = get_u8(v_r16_i_i_i2524_i_i);
+    v_r51_i48_i_i_i_i = (u8)(v_r29_i2574_i_i ^ ((u8)1 << 7)) > (u8)(255u ^ ((u8)1 << 7));
+    if (v_r51_i48_i_i_i_i) { goto L_then_5_i_i_i1003_i_i; } else { goto L_join_7_i49_i_i_i_i; }
+L_then_5_i_i_i1003_i_i:;
+    v_r56_i59_i_i_i_i = (u64)v_r29_i2574_i_i;
+    { p_v_r6_i71_sroa_23_95003_i_i = v_r19_i_i_i2573_i_i; p_v_r6_i71_sroa_0_95001_i_i = v_r16_i_i_i2572_i_i; p_v_r12_sroa_10_0_i2687_i_i = v_r56_i59_i_i_i_i; goto L_join_3_i2734_i_i; }
+L_join_7_i49_i_i_i_i:;
+    v_r68_i50_i_i_i_i = v_r29_i2574_i_i == 128u;
+    if (v_r68_i50_i_i_i_i) { p_v_r10_i348_sroa_7_0_ph_i_i = 2u; goto L_arm_12_i156_i_i; } else { goto L_join_10_i_i_i918_i_i; }
+L_join_10_i_i_i918_i_i:;
+    v_r87_i_i_i919_i_i = v_r29_i2574_i_i > 132u;
+    if (v_r87_i_i_i919_i_i) { p_v_r10_i348_sroa_7_0_ph_i_i = 7u; goto L_arm_12_i156_i_i; } else { goto L_join_3_i2615_i_i; }
+L_join_3_i2615_i_i:;
+    v_r106_i_i_i921_i_i = (u8)((u32)(v_r29_i2574_i_i) & (u32)(127u));
+    v_r3_i25_i2616_i_i = (u64)v_r106_i_i_i921_i_i;
+    v_r39_i2619_i_i = v_r19_i_i_i2573_i_i < v_r3_i25_i2616_i_i;
+    if (v_r39_i2619_i_i) { p_v_r10_i348_sroa_7_0_ph_i_i = 1u; goto L_arm_12_i156_i_i; } else { goto L_arm_14_i_i_i938_i_i; }
+L_arm_14_i_i_i938_i_i:;
+    v_r16_i_i2623_i_i = (P)((uintptr_t)v_r16_i_i_i2572_i_i + (u64)(v_r3_i25_i2616_i_i));
+    v_r19_i_i2624_i_i = (u64)((u64)(v_r19_i_i_i2573_i_i) - (u64)(v_r3_i25_i2616_i_i));
+    switch (v_r106_i_i_i921_i_i) {
+    case 0u: { p_v_r10_i348_sroa_7_0_ph_i_i = 8u; goto L_arm_12_i156_i_i; }
+    case 1u: { goto L_der_core_length_is_overlong_exit2663_i_i; }
+    default: { goto L_join_7_i2660_i_i; }
     }
-L_join_7_i2660_i_i_i_i:;
-    v_r36_i2661_i_i_i_i = get_u8(v_r16_i_i_i2572_i_i_i_i);
-    v_r38_i2662_i_i_i_i = v_r36_i2661_i_i_i_i == 0u;
-    if (v_r38_i2662_i_i_i_i) { p_v_r10_i348_sroa_7_0_ph_i_i_i_i = 8u; goto L_arm_12_i156_i_i_i_i; } else { goto L_join_7_i68_i_i_i_i_i_i; }
-L_der_core_length_is_overlong_exit2663_i_i_i_i:;
-    v_r28_i2657_i_i_i_i = get_u8(v_r16_i_i_i2572_i_i_i_i);
-    v_r30_i2658_i_i_i_i = (u8)(v_r28_i2657_i_i_i_i ^ ((u8)1 << 7)) > (u8)(255u ^ ((u8)1 << 7));
-    if (v_r30_i2658_i_i_i_i) { p_v_r10_i348_sroa_7_0_ph_i_i_i_i = 8u; goto L_arm_12_i156_i_i_i_i; } else { goto L_then_5_i66_i_i_i_i_i_i; }
-L_then_5_i66_i_i_i_i_i_i:;
-    v_r71_i_i_i944_i_i_i_i = (u64)v_r28_i2657_i_i_i_i;
-    { p_v_r6_i71_sroa_23_95003_i_i_i_i = v_r19_i_i2624_i_i_i_i; p_v_r6_i71_sroa_0_95001_i_i_i_i = v_r16_i_i2623_i_i_i_i; p_v_r12_sroa_10_0_i2687_i_i_i_i = v_r71_i_i_i944_i_i_i_i; goto L_join_3_i2734_i_i_i_i; }
-L_join_7_i68_i_i_i_i_i_i:;
-    v_r74_i69_i_i_i_i_i_i = v_r106_i_i_i921_i_i_i_i < 3u;
-    if (v_r74_i69_i_i_i_i_i_i) { goto L_then_8_i92_i_i_i_i_i_i; } else { goto L_join_10_i70_i_i_i_i_i_i; }
-L_then_8_i92_i_i_i_i_i_i:;
-    v_r81_i93_i_i_i_i_i_i = v_r16_i_i_i2346_i_i_i_i + 3;
-    v_r87_i95_i_i_i_i_i_i = (u64)v_r36_i2661_i_i_i_i;
-    v_r89_i_i_i969_i_i_i_i = (u64)((u64)(v_r87_i95_i_i_i_i_i_i) << (u64)((8u & 63)));
-    v_r91_i_i_i970_i_i_i_i = get_u8(v_r81_i93_i_i_i_i_i_i);
-    v_r93_i96_i_i_i_i_i_i = (u64)v_r91_i_i_i970_i_i_i_i;
-    v_r96_i97_i_i_i_i_i_i = (u64)((u64)(v_r89_i_i_i969_i_i_i_i) | (u64)(v_r93_i96_i_i_i_i_i_i));
-    { p_v_r6_i71_sroa_23_95003_i_i_i_i = v_r19_i_i2624_i_i_i_i; p_v_r6_i71_sroa_0_95001_i_i_i_i = v_r16_i_i2623_i_i_i_i; p_v_r12_sroa_10_0_i2687_i_i_i_i = v_r96_i97_i_i_i_i_i_i; goto L_join_3_i2734_i_i_i_i; }
-L_join_10_i70_i_i_i_i_i_i:;
-    v_r99_i71_i_i_i_i_i_i = v_r106_i_i_i921_i_i_i_i == 3u;
-    if (v_r99_i71_i_i_i_i_i_i) { goto L_then_11_i81_i_i_i_i_i_i; } else { goto L_join_13_i72_i_i_i_i_i_i; }
-L_then_11_i81_i_i_i_i_i_i:;
-    v_r106_i82_i_i_i_i_i_i = v_r16_i_i_i2346_i_i_i_i + 3;
-    v_r108_i83_i_i_i_i_i_i = v_r16_i_i_i2346_i_i_i_i + 4;
-    v_r115_i85_i_i_i_i_i_i = (u64)v_r36_i2661_i_i_i_i;
-    v_r117_i86_i_i_i_i_i_i = (u64)((u64)(v_r115_i85_i_i_i_i_i_i) << (u64)((16u & 63)));
-    v_r119_i87_i_i_i_i_i_i = get_u8(v_r106_i82_i_i_i_i_i_i);
-    v_r121_i88_i_i_i_i_i_i = (u64)v_r119_i87_i_i_i_i_i_i;
-    v_r123_i89_i_i_i_i_i_i = (u64)((u64)(v_r121_i88_i_i_i_i_i_i) << (u64)((8u & 63)));
-    v_r126_i90_i_i_i_i_i_i = (u64)((u64)(v_r123_i89_i_i_i_i_i_i) | (u64)(v_r117_i86_i_i_i_i_i_i));
-    v_r128_i_i_i967_i_i_i_i = get_u8(v_r108_i83_i_i_i_i_i_i);
-    v_r130_i91_i_i_i_i_i_i = (u64)v_r128_i_i_i967_i_i_i_i;
-    v_r133_i_i_i968_i_i_i_i = (u64)((u64)(v_r126_i90_i_i_i_i_i_i) | (u64)(v_r130_i91_i_i_i_i_i_i));
-    { p_v_r6_i71_sroa_23_95003_i_i_i_i = v_r19_i_i2624_i_i_i_i; p_v_r6_i71_sroa_0_95001_i_i_i_i = v_r16_i_i2623_i_i_i_i; p_v_r12_sroa_10_0_i2687_i_i_i_i = v_r133_i_i_i968_i_i_i_i; goto L_join_3_i2734_i_i_i_i; }
-L_join_13_i72_i_i_i_i_i_i:;
-    v_r136_i73_i_i_i_i_i_i = v_r106_i_i_i921_i_i_i_i < 5u;
-    if (v_r136_i73_i_i_i_i_i_i) { goto L_then_14_i_i_i956_i_i_i_i; } else { goto L_join_16_i_i_i955_i_i_i_i; }
-L_then_14_i_i_i956_i_i_i_i:;
-    v_r143_i74_i_i_i_i_i_i = v_r16_i_i_i2346_i_i_i_i + 3;
-    v_r145_i75_i_i_i_i_i_i = v_r16_i_i_i2346_i_i_i_i + 4;
-    v_r147_i76_i_i_i_i_i_i = v_r16_i_i_i2346_i_i_i_i + 5;
-    v_r155_i78_i_i_i_i_i_i = (u64)v_r36_i2661_i_i_i_i;
-    v_r157_i79_i_i_i_i_i_i = (u64)((u64)(v_r155_i78_i_i_i_i_i_i) << (u64)((24u & 63)));
-    v_r159_i80_i_i_i_i_i_i = get_u8(v_r143_i74_i_i_i_i_i_i);
-    v_r161_i_i_i957_i_i_i_i = (u64)v_r159_i80_i_i_i_i_i_i;
-    v_r163_i_i_i958_i_i_i_i = (u64)((u64)(v_r161_i_i_i957_i_i_i_i) << (u64)((16u & 63)));
-    v_r166_i_i_i959_i_i_i_i = (u64)((u64)(v_r163_i_i_i958_i_i_i_i) | (u64)(v_r157_i79_i_i_i_i_i_i));
-    v_r168_i_i_i960_i_i_i_i = get_u8(v_r145_i75_i_i_i_i_i_i);
-    v_r170_i_i_i961_i_i_i_i = (u64)v_r168_i_i_i960_i_i_i_i;
-    v_r172_i_i_i962_i_i_i_i = (u64)((u64)(v_r170_i_i_i961_i_i_i_i) << (u64)((8u & 63)));
-    v_r175_i_i_i963_i_i_i_i = (u64)((u64)(v_r166_i_i_i959_i_i_i_i) | (u64)(v_r172_i_i_i962_i_i_i_i));
-    v_r177_i_i_i964_i_i_i_i = get_u8(v_r147_i76_i_i_i_i_i_i);
-    v_r179_i_i_i965_i_i_i_i = (u64)v_r177_i_i_i964_i_i_i_i;
-    v_r182_i_i_i966_i_i_i_i = (u64)((u64)(v_r175_i_i_i963_i_i_i_i) | (u64)(v_r179_i_i_i965_i_i_i_i));
-    { p_v_r6_i71_sroa_23_95003_i_i_i_i = v_r19_i_i2624_i_i_i_i; p_v_r6_i71_sroa_0_95001_i_i_i_i = v_r16_i_i2623_i_i_i_i; p_v_r12_sroa_10_0_i2687_i_i_i_i = v_r182_i_i_i966_i_i_i_i; goto L_join_3_i2734_i_i_i_i; }
-L_join_16_i_i_i955_i_i_i_i:;
+L_join_7_i2660_i_i:;
+    v_r36_i2661_i_i = get_u8(v_r16_i_i_i2572_i_i);
+    v_r38_i2662_i_i = v_r36_i2661_i_i == 0u;
+    if (v_r38_i2662_i_i) { p_v_r10_i348_sroa_7_0_ph_i_i = 8u; goto L_arm_12_i156_i_i; } else { goto L_join_7_i68_i_i_i_i; }
+L_der_core_length_is_overlong_exit2663_i_i:;
+    v_r28_i2657_i_i = get_u8(v_r16_i_i_i2572_i_i);
+    v_r30_i2658_i_i = (u8)(v_r28_i2657_i_i ^ ((u8)1 << 7)) > (u8)(255u ^ ((u8)1 << 7));
+    if (v_r30_i2658_i_i) { p_v_r10_i348_sroa_7_0_ph_i_i = 8u; goto L_arm_12_i156_i_i; } else { goto L_then_5_i66_i_i_i_i; }
+L_then_5_i66_i_i_i_i:;
+    v_r71_i_i_i944_i_i = (u64)v_r28_i2657_i_i;
+    { p_v_r6_i71_sroa_23_95003_i_i = v_r19_i_i2624_i_i; p_v_r6_i71_sroa_0_95001_i_i = v_r16_i_i2623_i_i; p_v_r12_sroa_10_0_i2687_i_i = v_r71_i_i_i944_i_i; goto L_join_3_i2734_i_i; }
+L_join_7_i68_i_i_i_i:;
+    v_r74_i69_i_i_i_i = v_r106_i_i_i921_i_i < 3u;
+    if (v_r74_i69_i_i_i_i) { goto L_then_8_i92_i_i_i_i; } else { goto L_join_10_i70_i_i_i_i; }
+L_then_8_i92_i_i_i_i:;
+    v_r81_i93_i_i_i_i = v_r16_i_i_i2346_i_i + 3;
+    v_r87_i95_i_i_i_i = (u64)v_r36_i2661_i_i;
+    v_r89_i_i_i969_i_i = (u64)((u64)(v_r87_i95_i_i_i_i) << (u64)((8u & 63)));
+    v_r91_i_i_i970_i_i = get_u8(v_r81_i93_i_i_i_i);
+    v_r93_i96_i_i_i_i = (u64)v_r91_i_i_i970_i_i;
+    v_r96_i97_i_i_i_i = (u64)((u64)(v_r89_i_i_i969_i_i) | (u64)(v_r93_i96_i_i_i_i));
+    { p_v_r6_i71_sroa_23_95003_i_i = v_r19_i_i2624_i_i; p_v_r6_i71_sroa_0_95001_i_i = v_r16_i_i2623_i_i; p_v_r12_sroa_10_0_i2687_i_i = v_r96_i97_i_i_i_i; goto L_join_3_i2734_i_i; }
+L_join_10_i70_i_i_i_i:;
+    v_r99_i71_i_i_i_i = v_r106_i_i_i921_i_i == 3u;
+    if (v_r99_i71_i_i_i_i) { goto L_then_11_i81_i_i_i_i; } else { goto L_join_13_i72_i_i_i_i; }
+L_then_11_i81_i_i_i_i:;
+    v_r106_i82_i_i_i_i = v_r16_i_i_i2346_i_i + 3;
+    v_r108_i83_i_i_i_i = v_r16_i_i_i2346_i_i + 4;
+    v_r115_i85_i_i_i_i = (u64)v_r36_i2661_i_i;
+    v_r117_i86_i_i_i_i = (u64)((u64)(v_r115_i85_i_i_i_i) << (u64)((16u & 63)));
+    v_r119_i87_i_i_i_i = get_u8(v_r106_i82_i_i_i_i);
+    v_r121_i88_i_i_i_i = (u64)v_r119_i87_i_i_i_i;
+    v_r123_i89_i_i_i_i = (u64)((u64)(v_r121_i88_i_i_i_i) << (u64)((8u & 63)));
+    v_r126_i90_i_i_i_i = (u64)((u64)(v_r123_i89_i_i_i_i) | (u64)(v_r117_i86_i_i_i_i));
+    v_r128_i_i_i967_i_i = get_u8(v_r108_i83_i_i_i_i);
+    v_r130_i91_i_i_i_i = (u64)v_r128_i_i_i967_i_i;
+    v_r133_i_i_i968_i_i = (u64)((u64)(v_r126_i90_i_i_i_i) | (u64)(v_r130_i91_i_i_i_i));
+    { p_v_r6_i71_sroa_23_95003_i_i = v_r19_i_i2624_i_i; p_v_r6_i71_sroa_0_95001_i_i = v_r16_i_i2623_i_i; p_v_r12_sroa_10_0_i2687_i_i = v_r133_i_i_i968_i_i; goto L_join_3_i2734_i_i; }
+L_join_13_i72_i_i_i_i:;
+    v_r136_i73_i_i_i_i = v_r106_i_i_i921_i_i < 5u;
+    if (v_r136_i73_i_i_i_i) { goto L_then_14_i_i_i956_i_i; } else { goto L_join_16_i_i_i955_i_i; }
+L_then_14_i_i_i956_i_i:;
+    v_r143_i74_i_i_i_i = v_r16_i_i_i2346_i_i + 3;
+    v_r145_i75_i_i_i_i = v_r16_i_i_i2346_i_i + 4;
+    v_r147_i76_i_i_i_i = v_r16_i_i_i2346_i_i + 5;
+    v_r155_i78_i_i_i_i = (u64)v_r36_i2661_i_i;
+    v_r157_i79_i_i_i_i = (u64)((u64)(v_r155_i78_i_i_i_i) << (u64)((24u & 63)));
+    v_r159_i80_i_i_i_i = get_u8(v_r143_i74_i_i_i_i);
+    v_r161_i_i_i957_i_i = (u64)v_r159_i80_i_i_i_i;
+    v_r163_i_i_i958_i_i = (u64)((u64)(v_r161_i_i_i957_i_i) << (u64)((16u & 63)));
+    v_r166_i_i_i959_i_i = (u64)((u64)(v_r163_i_i_i958_i_i) | (u64)(v_r157_i79_i_i_i_i));
+    v_r168_i_i_i960_i_i = get_u8(v_r145_i75_i_i_i_i);
+    v_r170_i_i_i961_i_i = (u64)v_r168_i_i_i960_i_i;
+    v_r172_i_i_i962_i_i = (u64)((u64)(v_r170_i_i_i961_i_i) << (u64)((8u & 63)));
+    v_r175_i_i_i963_i_i = (u64)((u64)(v_r166_i_i_i959_i_i) | (u64)(v_r172_i_i_i962_i_i));
+    v_r177_i_i_i964_i_i = get_u8(v_r147_i76_i_i_i_i);
+    v_r179_i_i_i965_i_i = (u64)v_r177_i_i_i964_i_i;
+    v_r182_i_i_i966_i_i = (u64)((u64)(v_r175_i_i_i963_i_i) | (u64)(v_r179_i_i_i965_i_i));
+    { p_v_r6_i71_sroa_23_95003_i_i = v_r19_i_i2624_i_i; p_v_r6_i71_sroa_0_95001_i_i = v_r16_i_i2623_i_i; p_v_r12_sroa_10_0_i2687_i_i = v_r182_i_i_i966_i_i; goto L_join_3_i2734_i_i; }
+L_join_16_i_i_i955_i_i:;
     __builtin_trap();
     __builtin_trap();
-L_join_3_i2734_i_i_i_i:;
-    v_r6_i71_sroa_23_95003_i_i_i_i = p_v_r6_i71_sroa_23_95003_i_i_i_i;
-    v_r6_i71_sroa_0_95001_i_i_i_i = p_v_r6_i71_sroa_0_95001_i_i_i_i;
-    v_r12_sroa_10_0_i2687_i_i_i_i = p_v_r12_sroa_10_0_i2687_i_i_i_i;
-    v_r39_i2738_i_i_i_i = v_r6_i71_sroa_23_95003_i_i_i_i < v_r12_sroa_10_0_i2687_i_i_i_i;
-    if (v_r39_i2738_i_i_i_i) { p_v_r10_i348_sroa_7_0_ph_i_i_i_i = 1u; goto L_arm_12_i156_i_i_i_i; } else { goto L_join_3_i2809_i_i_i_i; }
-L_join_3_i2809_i_i_i_i:;
-    v_r7_i18_i_i_i_i_i = (u64)v_r29_i2526_i_i_i_i;
-    v_r7_i_i2812_i_i_i_i = v_r6_i71_sroa_23_95003_i_i_i_i == v_r12_sroa_10_0_i2687_i_i_i_i;
-    if (v_r7_i_i2812_i_i_i_i) { p_v_r6_i593_sroa_28_sroa_0_0_i_i_i_i = v_r7_i18_i_i_i_i_i; p_v_r6_i593_sroa_28_sroa_8_0_i_i_i_i = v_r6_i71_sroa_0_95001_i_i_i_i; p_v_r6_i593_sroa_28_sroa_12_0_i_i_i_i = v_r6_i71_sroa_23_95003_i_i_i_i; p_v_r6_i593_sroa_234029_sroa_0_0_i_i_i_i = 1u; goto L_join_3_i_i3001_i_i_i_i; } else { p_v_r10_i348_sroa_7_0_ph_i_i_i_i = 12u; goto L_arm_12_i156_i_i_i_i; }
-L_arm_12_i156_i_i_i_i:;
-    v_r10_i348_sroa_7_0_ph_i_i_i_i = p_v_r10_i348_sroa_7_0_ph_i_i_i_i;
-    { p_v_r0_i49_sroa_9_0_ph_i_i_i_i = v_r10_i348_sroa_7_0_ph_i_i_i_i; goto L_arm_2_i13_i_i_i_i; }
-L_join_3_i_i3001_i_i_i_i:;
-    v_r6_i593_sroa_28_sroa_0_0_i_i_i_i = p_v_r6_i593_sroa_28_sroa_0_0_i_i_i_i;
-    v_r6_i593_sroa_28_sroa_8_0_i_i_i_i = p_v_r6_i593_sroa_28_sroa_8_0_i_i_i_i;
-    v_r6_i593_sroa_28_sroa_12_0_i_i_i_i = p_v_r6_i593_sroa_28_sroa_12_0_i_i_i_i;
-    v_r6_i593_sroa_234029_sroa_0_0_i_i_i_i = p_v_r6_i593_sroa_234029_sroa_0_0_i_i_i_i;
-    fill(v_r8_i1011_sroa_0_i_i_i_i, 0u, 39u);
-    fill(v_r0_i1015_sroa_0_i_i_i_i, 0u, 39u);
-    fill(v_r3_i2949_i_i_i_i, 0u, 39u);
-    copy(v_r3_i2949_i_i_i_i, v_r6_i71_sroa_0_34819_i_i_i_i, v_r3_i25_i_i2340_i_i_i_i);
-    v_r24_i2950_i_i_i_i = (u8)(v_r12_sroa_10_0_i2280_i_i_i_i);
-    copy(v_r0_i1015_sroa_0_i_i_i_i, v_r3_i2949_i_i_i_i, 39u);
-    copy(v_r8_i1011_sroa_0_i_i_i_i, v_r0_i1015_sroa_0_i_i_i_i, 39u);
-    copy(v_r13_i349_sroa_0_sroa_0_i_i_i_i, v_r8_i1011_sroa_0_i_i_i_i, 39u);
-    v_r30_i83_sroa_15_sroa_0_4_r84_i390_sroa_idx_i_i_i_i = v_r30_i83_sroa_15_sroa_0_i_i_i_i + 4;
-    copy(v_r30_i83_sroa_15_sroa_0_4_r84_i390_sroa_idx_i_i_i_i, v_r13_i349_sroa_0_sroa_0_i_i_i_i, 39u);
-    v_r0_i49_sroa_27_sroa_0_4_r164_i_sroa_idx_i_i_i_i = v_r0_i49_sroa_27_sroa_0_i_i_i_i + 4;
-    copy(v_r0_i49_sroa_27_sroa_0_4_r164_i_sroa_idx_i_i_i_i, v_r30_i83_sroa_15_sroa_0_4_r84_i390_sroa_idx_i_i_i_i, 39u);
-    v_r9_i10_sroa_11_sroa_0_4_r10_i56_sroa_idx_i_i_i_i = v_r9_i10_sroa_11_sroa_0_i_i_i_i + 4;
-    copy(v_r9_i10_sroa_11_sroa_0_4_r10_i56_sroa_idx_i_i_i_i, v_r0_i49_sroa_27_sroa_0_4_r164_i_sroa_idx_i_i_i_i, 39u);
-    v_r39_i_i3004_i_i_i_i = v_r36_i_i2071_i_i_i_i == v_r12_sroa_10_0_i2009_i_i_i_i;
-    if (v_r39_i_i3004_i_i_i_i) { p_v_r13_sroa_5_0_ph_i_i_i_i = 1u; goto L_arm_6_i338_i_i_i; } else { goto L_arm_1_i_i1263_i_i_i_i; }
-L_arm_1_i_i1263_i_i_i_i:;
-    v_r16_i_i_i3007_i_i_i_i = v_r16_i_i_i2075_i_i_i_i + 1;
-    v_r29_i3009_i_i_i_i = get_u8(v_r16_i_i_i2075_i_i_i_i);
-    v_r8_i22_i1267_i_i_i_i = v_r29_i3009_i_i_i_i == 4u;
-    if (v_r8_i22_i1267_i_i_i_i) { goto L_join_3_i_i3049_i_i_i_i; } else { goto L_der_core_header_tag_of_exit_i1269_i_i_i_i; }
-L_der_core_header_tag_of_exit_i1269_i_i_i_i:;
-    v_r9_i3031_i_i_i_i = (u8)((u32)(v_r29_i3009_i_i_i_i) & (u32)(31u));
-    v_r11_i3032_i_i_i_i = v_r9_i3031_i_i_i_i != 31u;
-    v_11 = (u8)((u32)(v_r29_i3009_i_i_i_i) & (u32)(223u));
-    v_12 = v_11 != 0u;
-    v_r2_0_in_i3033_not_i_i_i_i = (u1)(((u32)(v_r11_i3032_i_i_i_i) & (u32)(v_12)) & 1);
-    if (v_r2_0_in_i3033_not_i_i_i_i) { goto L_join_3_i_i3049_i_i_i_i; } else { p_v_r13_sroa_5_0_ph_i_i_i_i = 11u; goto L_arm_6_i338_i_i_i; }
-L_join_3_i_i3049_i_i_i_i:;
-    v_r39_i_i3052_i_i_i_i = v_r19_i_i_i2076_i_i_i_i == 1u;
-    if (v_r39_i_i3052_i_i_i_i) { p_v_r13_sroa_5_0_ph_i_i_i_i = 1u; goto L_arm_6_i338_i_i_i; } else { goto L_arm_1_i59_i1354_i_i_i_i; }
-L_arm_1_i59_i1354_i_i_i_i:;
-    v_r16_i_i_i3055_i_i_i_i = v_r16_i_i_i2075_i_i_i_i + 2;
-    v_r19_i_i_i3056_i_i_i_i = (u64)((u64)(v_r19_i_i_i2076_i_i_i_i) + (u64)(18446744073709551614ull));
-    v_r29_i3057_i_i_i_i = get_u8(v_r16_i_i_i3007_i_i_i_i);
-    v_r51_i62_i1357_i_i_i_i = (u8)(v_r29_i3057_i_i_i_i ^ ((u8)1 << 7)) > (u8)(255u ^ ((u8)1 << 7));
-    if (v_r51_i62_i1357_i_i_i_i) { goto L_then_5_i_i1485_i_i_i_i; } else { goto L_join_7_i63_i1358_i_i_i_i; }
-L_then_5_i_i1485_i_i_i_i:;
-    v_r56_i73_i1486_i_i_i_i = (u64)v_r29_i3057_i_i_i_i;
-    { p_v_r13_sroa_0_0_copyload_i_i3235_i_i_i_i = v_r16_i_i_i3055_i_i_i_i; p_v_r36_i_i3232_i_i_i_i = v_r19_i_i_i3056_i_i_i_i; p_v_r12_sroa_10_0_i3170_i_i_i_i = v_r56_i73_i1486_i_i_i_i; goto L_arm_1_i1196_i_i_i_i; }
-L_join_7_i63_i1358_i_i_i_i:;
-    v_r68_i64_i1359_i_i_i_i = v_r29_i3057_i_i_i_i == 128u;
-    if (v_r68_i64_i1359_i_i_i_i) { p_v_r13_sroa_5_0_ph_i_i_i_i = 2u; goto L_arm_6_i338_i_i_i; } else { goto L_join_10_i_i1360_i_i_i_i; }
-L_join_10_i_i1360_i_i_i_i:;
-    v_r87_i_i1361_i_i_i_i = v_r29_i3057_i_i_i_i > 132u;
-    if (v_r87_i_i1361_i_i_i_i) { p_v_r13_sroa_5_0_ph_i_i_i_i = 7u; goto L_arm_6_i338_i_i_i; } else { goto L_join_3_i3098_i_i_i_i; }
-L_join_3_i3098_i_i_i_i:;
-    v_r106_i_i1363_i_i_i_i = (u8)((u32)(v_r29_i3057_i_i_i_i) & (u32)(127u));
-    v_r3_i25_i3099_i_i_i_i = (u64)v_r106_i_i1363_i_i_i_i;
-    v_r39_i3102_i_i_i_i = v_r19_i_i_i3056_i_i_i_i < v_r3_i25_i3099_i_i_i_i;
-    if (v_r39_i3102_i_i_i_i) { p_v_r13_sroa_5_0_ph_i_i_i_i = 1u; goto L_arm_6_i338_i_i_i; } else { goto L_arm_14_i_i1380_i_i_i_i; }
-L_arm_14_i_i1380_i_i_i_i:;
-    v_r16_i_i3106_i_i_i_i = (P)((uintptr_t)v_r16_i_i_i3055_i_i_i_i + (u64)(v_r3_i25_i3099_i_i_i_i));
-    v_r19_i_i3107_i_i_i_i = (u64)((u64)(v_r19_i_i_i3056_i_i_i_i) - (u64)(v_r3_i25_i3099_i_i_i_i));
-    switch (v_r106_i_i1363_i_i_i_i) {
-    case 0u: { p_v_r13_sroa_5_0_ph_i_i_i_i = 8u; goto L_arm_6_i338_i_i_i; }
-    case 1u: { goto L_der_core_length_is_overlong_exit3146_i_i_i_i; }
-    default: { goto L_join_7_i3143_i_i_i_i; }
+L_join_3_i2734_i_i:;
+    v_r6_i71_sroa_23_95003_i_i = p_v_r6_i71_sroa_23_95003_i_i;
+    v_r6_i71_sroa_0_95001_i_i = p_v_r6_i71_sroa_0_95001_i_i;
+    v_r12_sroa_10_0_i2687_i_i = p_v_r12_sroa_10_0_i2687_i_i;
+    v_r39_i2738_i_i = v_r6_i71_sroa_23_95003_i_i < v_r12_sroa_10_0_i2687_i_i;
+    if (v_r39_i2738_i_i) { p_v_r10_i348_sroa_7_0_ph_i_i = 1u; goto L_arm_12_i156_i_i; } else { goto L_join_3_i2809_i_i; }
+L_join_3_i2809_i_i:;
+    v_r7_i18_i_i_i = (u64)v_r29_i2526_i_i;
+    v_r7_i_i2812_i_i = v_r6_i71_sroa_23_95003_i_i == v_r12_sroa_10_0_i2687_i_i;
+    if (v_r7_i_i2812_i_i) { p_v_r6_i593_sroa_28_sroa_0_0_i_i = v_r7_i18_i_i_i; p_v_r6_i593_sroa_28_sroa_8_0_i_i = v_r6_i71_sroa_0_95001_i_i; p_v_r6_i593_sroa_28_sroa_12_0_i_i = v_r6_i71_sroa_23_95003_i_i; p_v_r6_i593_sroa_234029_sroa_0_0_i_i = 1u; goto L_join_3_i_i3001_i_i; } else { p_v_r10_i348_sroa_7_0_ph_i_i = 12u; goto L_arm_12_i156_i_i; }
+L_arm_12_i156_i_i:;
+    v_r10_i348_sroa_7_0_ph_i_i = p_v_r10_i348_sroa_7_0_ph_i_i;
+    { p_v_r0_i49_sroa_9_0_ph_i_i = v_r10_i348_sroa_7_0_ph_i_i; goto L_arm_2_i13_i_i; }
+L_join_3_i_i3001_i_i:;
+    v_r6_i593_sroa_28_sroa_0_0_i_i = p_v_r6_i593_sroa_28_sroa_0_0_i_i;
+    v_r6_i593_sroa_28_sroa_8_0_i_i = p_v_r6_i593_sroa_28_sroa_8_0_i_i;
+    v_r6_i593_sroa_28_sroa_12_0_i_i = p_v_r6_i593_sroa_28_sroa_12_0_i_i;
+    v_r6_i593_sroa_234029_sroa_0_0_i_i = p_v_r6_i593_sroa_234029_sroa_0_0_i_i;
+    fill(v_r8_i1011_sroa_0_i_sroa_13_i, 0u, 30u);
+    fill(v_r0_i1015_sroa_0_i_sroa_13_i, 0u, 30u);
+    fill(v_r3_i2949_i_i, 0u, 39u);
+    copy(v_r3_i2949_i_i, v_r6_i71_sroa_0_34819_i_i, v_r3_i25_i_i2340_i_i);
+    v_r24_i2950_i_i = (u8)(v_r12_sroa_10_0_i2280_i_i);
+    v_r3_i2949_i_i_0_r3_i2949_i_i_0_r3_i2949_i_i_0_r3_i2 = get_u8(v_r3_i2949_i_i);
+    v_r3_i2949_i_i_1_r3_i2949_i_i_1_r3_i2949_i_i_1_r3_i2 = v_r3_i2949_i_i + 1;
+    v_r3_i2949_i_i_1_r3_i2949_i_i_1_r3_i2949_i_i_1_r3_i2__2 = get_u8(v_r3_i2949_i_i_1_r3_i2949_i_i_1_r3_i2949_i_i_1_r3_i2);
+    v_r3_i2949_i_i_2_r3_i2949_i_i_2_r3_i2949_i_i_2_r3_i2 = v_r3_i2949_i_i + 2;
+    v_r3_i2949_i_i_2_r3_i2949_i_i_2_r3_i2949_i_i_2_r3_i2__2 = get_u8(v_r3_i2949_i_i_2_r3_i2949_i_i_2_r3_i2949_i_i_2_r3_i2);
+    v_r3_i2949_i_i_3_r3_i2949_i_i_3_r3_i2949_i_i_3_r3_i2 = v_r3_i2949_i_i + 3;
+    v_r3_i2949_i_i_3_r3_i2949_i_i_3_r3_i2949_i_i_3_r3_i2__2 = get_u8(v_r3_i2949_i_i_3_r3_i2949_i_i_3_r3_i2949_i_i_3_r3_i2);
+    v_r3_i2949_i_i_4_r3_i2949_i_i_4_r3_i2949_i_i_4_r3_i2 = v_r3_i2949_i_i + 4;
+    v_r3_i2949_i_i_4_r3_i2949_i_i_4_r3_i2949_i_i_4_r3_i2__2 = get_u8(v_r3_i2949_i_i_4_r3_i2949_i_i_4_r3_i2949_i_i_4_r3_i2);
+    v_r3_i2949_i_i_5_r3_i2949_i_i_5_r3_i2949_i_i_5_r3_i2 = v_r3_i2949_i_i + 5;
+    v_r3_i2949_i_i_5_r3_i2949_i_i_5_r3_i2949_i_i_5_r3_i2__2 = get_u8(v_r3_i2949_i_i_5_r3_i2949_i_i_5_r3_i2949_i_i_5_r3_i2);
+    v_r3_i2949_i_i_6_r3_i2949_i_i_6_r3_i2949_i_i_6_r3_i2 = v_r3_i2949_i_i + 6;
+    v_r3_i2949_i_i_6_r3_i2949_i_i_6_r3_i2949_i_i_6_r3_i2__2 = get_u8(v_r3_i2949_i_i_6_r3_i2949_i_i_6_r3_i2949_i_i_6_r3_i2);
+    v_r3_i2949_i_i_7_r3_i2949_i_i_7_r3_i2949_i_i_7_r3_i2 = v_r3_i2949_i_i + 7;
+    v_r3_i2949_i_i_7_r3_i2949_i_i_7_r3_i2949_i_i_7_r3_i2__2 = get_u8(v_r3_i2949_i_i_7_r3_i2949_i_i_7_r3_i2949_i_i_7_r3_i2);
+    v_r3_i2949_i_i_8_r3_i2949_i_i_8_r3_i2949_i_i_8_r3_i2 = v_r3_i2949_i_i + 8;
+    v_r3_i2949_i_i_8_r3_i2949_i_i_8_r3_i2949_i_i_8_r3_i2__2 = get_u8(v_r3_i2949_i_i_8_r3_i2949_i_i_8_r3_i2949_i_i_8_r3_i2);
+    v_r0_i1015_sroa_0_i_sroa_13_0_r3_i2949_i_sroa_idx_i = v_r3_i2949_i_i + 9;
+    copy(v_r0_i1015_sroa_0_i_sroa_13_i, v_r0_i1015_sroa_0_i_sroa_13_0_r3_i2949_i_sroa_idx_i, 30u);
+    copy(v_r8_i1011_sroa_0_i_sroa_13_i, v_r0_i1015_sroa_0_i_sroa_13_i, 30u);
+    copy(v_r13_i349_sroa_0_sroa_0_i_sroa_14_i, v_r8_i1011_sroa_0_i_sroa_13_i, 30u);
+    copy(v_r30_i83_sroa_15_sroa_0_i_sroa_14_i, v_r13_i349_sroa_0_sroa_0_i_sroa_14_i, 30u);
+    copy(v_r0_i49_sroa_27_sroa_0_i_sroa_14_i, v_r30_i83_sroa_15_sroa_0_i_sroa_14_i, 30u);
+    copy(v_r9_i10_sroa_11_sroa_0_i_sroa_14_i, v_r0_i49_sroa_27_sroa_0_i_sroa_14_i, 30u);
+    v_r39_i_i3004_i_i = v_r36_i_i2071_i_i == v_r12_sroa_10_0_i2009_i_i;
+    if (v_r39_i_i3004_i_i) { p_v_r13_sroa_5_0_ph_i_i = 1u; goto L_arm_6_i76_i; } else { goto L_arm_1_i_i1263_i_i; }
+L_arm_1_i_i1263_i_i:;
+    v_r16_i_i_i3007_i_i = v_r16_i_i_i2075_i_i + 1;
+    v_r29_i3009_i_i = get_u8(v_r16_i_i_i2075_i_i);
+    v_r8_i22_i1267_i_i = v_r29_i3009_i_i == 4u;
+    if (v_r8_i22_i1267_i_i) { goto L_join_3_i_i3049_i_i; } else { goto L_der_core_header_tag_of_exit_i1269_i_i; }
+L_der_core_header_tag_of_exit_i1269_i_i:;
+    v_r9_i3031_i_i = (u8)((u32)(v_r29_i3009_i_i) & (u32)(31u));
+    v_r11_i3032_i_i = v_r9_i3031_i_i != 31u;
+    v_15 = (u8)((u32)(v_r29_i3009_i_i) & (u32)(223u));
+    v_16 = v_15 != 0u;
+    v_r2_0_in_i3033_not_i_i = (u1)(((u32)(v_r11_i3032_i_i) & (u32)(v_16)) & 1);
+    if (v_r2_0_in_i3033_not_i_i) { goto L_join_3_i_i3049_i_i; } else { p_v_r13_sroa_5_0_ph_i_i = 11u; goto L_arm_6_i76_i; }
+L_join_3_i_i3049_i_i:;
+    v_r39_i_i3052_i_i = v_r19_i_i_i2076_i_i == 1u;
+    if (v_r39_i_i3052_i_i) { p_v_r13_sroa_5_0_ph_i_i = 1u; goto L_arm_6_i76_i; } else { goto L_arm_1_i59_i1354_i_i; }
+L_arm_1_i59_i1354_i_i:;
+    v_r16_i_i_i3055_i_i = v_r16_i_i_i2075_i_i + 2;
+    v_r19_i_i_i3056_i_i = (u64)((u64)(v_r19_i_i_i2076_i_i) + (u64)(18446744073709551614ull));
+    v_r29_i3057_i_i = get_u8(v_r16_i_i_i3007_i_i);
+    v_r51_i62_i1357_i_i = (u8)(v_r29_i3057_i_i ^ ((u8)1 << 7)) > (u8)(255u ^ ((u8)1 << 7));
+    if (v_r51_i62_i1357_i_i) { goto L_then_5_i_i1485_i_i; } else { goto L_join_7_i63_i1358_i_i; }
+L_then_5_i_i1485_i_i:;
+    v_r56_i73_i1486_i_i = (u64)v_r29_i3057_i_i;
+    { p_v_r13_sroa_0_0_copyload_i_i3235_i_i = v_r16_i_i_i3055_i_i; p_v_r36_i_i3232_i_i = v_r19_i_i_i3056_i_i; p_v_r12_sroa_10_0_i3170_i_i = v_r56_i73_i1486_i_i; goto L_arm_1_i1196_i_i; }
+L_join_7_i63_i1358_i_i:;
+    v_r68_i64_i1359_i_i = v_r29_i3057_i_i == 128u;
+    if (v_r68_i64_i1359_i_i) { p_v_r13_sroa_5_0_ph_i_i = 2u; goto L_arm_6_i76_i; } else { goto L_join_10_i_i1360_i_i; }
+L_join_10_i_i1360_i_i:;
+    v_r87_i_i1361_i_i = v_r29_i3057_i_i > 132u;
+    if (v_r87_i_i1361_i_i) { p_v_r13_sroa_5_0_ph_i_i = 7u; goto L_arm_6_i76_i; } else { goto L_join_3_i3098_i_i; }
+L_join_3_i3098_i_i:;
+    v_r106_i_i1363_i_i = (u8)((u32)(v_r29_i3057_i_i) & (u32)(127u));
+    v_r3_i25_i3099_i_i = (u64)v_r106_i_i1363_i_i;
+    v_r39_i3102_i_i = v_r19_i_i_i3056_i_i < v_r3_i25_i3099_i_i;
+    if (v_r39_i3102_i_i) { p_v_r13_sroa_5_0_ph_i_i = 1u; goto L_arm_6_i76_i; } else { goto L_arm_14_i_i1380_i_i; }
+L_arm_14_i_i1380_i_i:;
+    v_r16_i_i3106_i_i = (P)((uintptr_t)v_r16_i_i_i3055_i_i + (u64)(v_r3_i25_i3099_i_i));
+    v_r19_i_i3107_i_i = (u64)((u64)(v_r19_i_i_i3056_i_i) - (u64)(v_r3_i25_i3099_i_i));
+    switch (v_r106_i_i1363_i_i) {
+    case 0u: { p_v_r13_sroa_5_0_ph_i_i = 8u; goto L_arm_6_i76_i; }
+    case 1u: { goto L_der_core_length_is_overlong_exit3146_i_i; }
+    default: { goto L_join_7_i3143_i_i; }
     }
-L_join_7_i3143_i_i_i_i:;
-    v_r36_i3144_i_i_i_i = get_u8(v_r16_i_i_i3055_i_i_i_i);
-    v_r38_i3145_i_i_i_i = v_r36_i3144_i_i_i_i == 0u;
-    if (v_r38_i3145_i_i_i_i) { p_v_r13_sroa_5_0_ph_i_i_i_i = 8u; goto L_arm_6_i338_i_i_i; } else { goto L_join_7_i82_i1400_i_i_i_i; }
-L_der_core_length_is_overlong_exit3146_i_i_i_i:;
-    v_r28_i3140_i_i_i_i = get_u8(v_r16_i_i_i3055_i_i_i_i);
-    v_r30_i3141_i_i_i_i = (u8)(v_r28_i3140_i_i_i_i ^ ((u8)1 << 7)) > (u8)(255u ^ ((u8)1 << 7));
-    if (v_r30_i3141_i_i_i_i) { p_v_r13_sroa_5_0_ph_i_i_i_i = 8u; goto L_arm_6_i338_i_i_i; } else { goto L_then_5_i80_i1387_i_i_i_i; }
-L_then_5_i80_i1387_i_i_i_i:;
-    v_r71_i_i1389_i_i_i_i = (u64)v_r28_i3140_i_i_i_i;
-    { p_v_r13_sroa_0_0_copyload_i_i3235_i_i_i_i = v_r16_i_i3106_i_i_i_i; p_v_r36_i_i3232_i_i_i_i = v_r19_i_i3107_i_i_i_i; p_v_r12_sroa_10_0_i3170_i_i_i_i = v_r71_i_i1389_i_i_i_i; goto L_arm_1_i1196_i_i_i_i; }
-L_join_7_i82_i1400_i_i_i_i:;
-    v_r74_i83_i1401_i_i_i_i = v_r106_i_i1363_i_i_i_i < 3u;
-    if (v_r74_i83_i1401_i_i_i_i) { goto L_then_8_i106_i1438_i_i_i_i; } else { goto L_join_10_i84_i1402_i_i_i_i; }
-L_then_8_i106_i1438_i_i_i_i:;
-    v_r81_i107_i1439_i_i_i_i = v_r16_i_i_i2075_i_i_i_i + 3;
-    v_r87_i109_i1441_i_i_i_i = (u64)v_r36_i3144_i_i_i_i;
-    v_r89_i_i1442_i_i_i_i = (u64)((u64)(v_r87_i109_i1441_i_i_i_i) << (u64)((8u & 63)));
-    v_r91_i_i1443_i_i_i_i = get_u8(v_r81_i107_i1439_i_i_i_i);
-    v_r93_i110_i1444_i_i_i_i = (u64)v_r91_i_i1443_i_i_i_i;
-    v_r96_i111_i1445_i_i_i_i = (u64)((u64)(v_r89_i_i1442_i_i_i_i) | (u64)(v_r93_i110_i1444_i_i_i_i));
-    { p_v_r13_sroa_0_0_copyload_i_i3235_i_i_i_i = v_r16_i_i3106_i_i_i_i; p_v_r36_i_i3232_i_i_i_i = v_r19_i_i3107_i_i_i_i; p_v_r12_sroa_10_0_i3170_i_i_i_i = v_r96_i111_i1445_i_i_i_i; goto L_arm_1_i1196_i_i_i_i; }
-L_join_10_i84_i1402_i_i_i_i:;
-    v_r99_i85_i1403_i_i_i_i = v_r106_i_i1363_i_i_i_i == 3u;
-    if (v_r99_i85_i1403_i_i_i_i) { goto L_then_11_i95_i1425_i_i_i_i; } else { goto L_join_13_i86_i1404_i_i_i_i; }
-L_then_11_i95_i1425_i_i_i_i:;
-    v_r106_i96_i1426_i_i_i_i = v_r16_i_i_i2075_i_i_i_i + 3;
-    v_r108_i97_i1427_i_i_i_i = v_r16_i_i_i2075_i_i_i_i + 4;
-    v_r115_i99_i1429_i_i_i_i = (u64)v_r36_i3144_i_i_i_i;
-    v_r117_i100_i1430_i_i_i_i = (u64)((u64)(v_r115_i99_i1429_i_i_i_i) << (u64)((16u & 63)));
-    v_r119_i101_i1431_i_i_i_i = get_u8(v_r106_i96_i1426_i_i_i_i);
-    v_r121_i102_i1432_i_i_i_i = (u64)v_r119_i101_i1431_i_i_i_i;
-    v_r123_i103_i1433_i_i_i_i = (u64)((u64)(v_r121_i102_i1432_i_i_i_i) << (u64)((8u & 63)));
-    v_r126_i104_i1434_i_i_i_i = (u64)((u64)(v_r123_i103_i1433_i_i_i_i) | (u64)(v_r117_i100_i1430_i_i_i_i));
-    v_r128_i_i1435_i_i_i_i = get_u8(v_r108_i97_i1427_i_i_i_i);
-    v_r130_i105_i1436_i_i_i_i = (u64)v_r128_i_i1435_i_i_i_i;
-    v_r133_i_i1437_i_i_i_i = (u64)((u64)(v_r126_i104_i1434_i_i_i_i) | (u64)(v_r130_i105_i1436_i_i_i_i));
-    { p_v_r13_sroa_0_0_copyload_i_i3235_i_i_i_i = v_r16_i_i3106_i_i_i_i; p_v_r36_i_i3232_i_i_i_i = v_r19_i_i3107_i_i_i_i; p_v_r12_sroa_10_0_i3170_i_i_i_i = v_r133_i_i1437_i_i_i_i; goto L_arm_1_i1196_i_i_i_i; }
-L_join_13_i86_i1404_i_i_i_i:;
-    v_r136_i87_i1405_i_i_i_i = v_r106_i_i1363_i_i_i_i < 5u;
-    if (v_r136_i87_i1405_i_i_i_i) { goto L_then_14_i_i1407_i_i_i_i; } else { goto L_join_16_i_i1406_i_i_i_i; }
-L_then_14_i_i1407_i_i_i_i:;
-    v_r143_i88_i1408_i_i_i_i = v_r16_i_i_i2075_i_i_i_i + 3;
-    v_r145_i89_i1409_i_i_i_i = v_r16_i_i_i2075_i_i_i_i + 4;
-    v_r147_i90_i1410_i_i_i_i = v_r16_i_i_i2075_i_i_i_i + 5;
-    v_r155_i92_i1412_i_i_i_i = (u64)v_r36_i3144_i_i_i_i;
-    v_r157_i93_i1413_i_i_i_i = (u64)((u64)(v_r155_i92_i1412_i_i_i_i) << (u64)((24u & 63)));
-    v_r159_i94_i1414_i_i_i_i = get_u8(v_r143_i88_i1408_i_i_i_i);
-    v_r161_i_i1415_i_i_i_i = (u64)v_r159_i94_i1414_i_i_i_i;
-    v_r163_i_i1416_i_i_i_i = (u64)((u64)(v_r161_i_i1415_i_i_i_i) << (u64)((16u & 63)));
-    v_r166_i_i1417_i_i_i_i = (u64)((u64)(v_r163_i_i1416_i_i_i_i) | (u64)(v_r157_i93_i1413_i_i_i_i));
-    v_r168_i_i1418_i_i_i_i = get_u8(v_r145_i89_i1409_i_i_i_i);
-    v_r170_i_i1419_i_i_i_i = (u64)v_r168_i_i1418_i_i_i_i;
-    v_r172_i_i1420_i_i_i_i = (u64)((u64)(v_r170_i_i1419_i_i_i_i) << (u64)((8u & 63)));
-    v_r175_i_i1421_i_i_i_i = (u64)((u64)(v_r166_i_i1417_i_i_i_i) | (u64)(v_r172_i_i1420_i_i_i_i));
-    v_r177_i_i1422_i_i_i_i = get_u8(v_r147_i90_i1410_i_i_i_i);
-    v_r179_i_i1423_i_i_i_i = (u64)v_r177_i_i1422_i_i_i_i;
-    v_r182_i_i1424_i_i_i_i = (u64)((u64)(v_r175_i_i1421_i_i_i_i) | (u64)(v_r179_i_i1423_i_i_i_i));
-    { p_v_r13_sroa_0_0_copyload_i_i3235_i_i_i_i = v_r16_i_i3106_i_i_i_i; p_v_r36_i_i3232_i_i_i_i = v_r19_i_i3107_i_i_i_i; p_v_r12_sroa_10_0_i3170_i_i_i_i = v_r182_i_i1424_i_i_i_i; goto L_arm_1_i1196_i_i_i_i; }
-L_join_16_i_i1406_i_i_i_i:;
+L_join_7_i3143_i_i:;
+    v_r36_i3144_i_i = get_u8(v_r16_i_i_i3055_i_i);
+    v_r38_i3145_i_i = v_r36_i3144_i_i == 0u;
+    if (v_r38_i3145_i_i) { p_v_r13_sroa_5_0_ph_i_i = 8u; goto L_arm_6_i76_i; } else { goto L_join_7_i82_i1400_i_i; }
+L_der_core_length_is_overlong_exit3146_i_i:;
+    v_r28_i3140_i_i = get_u8(v_r16_i_i_i3055_i_i);
+    v_r30_i3141_i_i = (u8)(v_r28_i3140_i_i ^ ((u8)1 << 7)) > (u8)(255u ^ ((u8)1 << 7));
+    if (v_r30_i3141_i_i) { p_v_r13_sroa_5_0_ph_i_i = 8u; goto L_arm_6_i76_i; } else { goto L_then_5_i80_i1387_i_i; }
+L_then_5_i80_i1387_i_i:;
+    v_r71_i_i1389_i_i = (u64)v_r28_i3140_i_i;
+    { p_v_r13_sroa_0_0_copyload_i_i3235_i_i = v_r16_i_i3106_i_i; p_v_r36_i_i3232_i_i = v_r19_i_i3107_i_i; p_v_r12_sroa_10_0_i3170_i_i = v_r71_i_i1389_i_i; goto L_arm_1_i1196_i_i; }
+L_join_7_i82_i1400_i_i:;
+    v_r74_i83_i1401_i_i = v_r106_i_i1363_i_i < 3u;
+    if (v_r74_i83_i1401_i_i) { goto L_then_8_i106_i1438_i_i; } else { goto L_join_10_i84_i1402_i_i; }
+L_then_8_i106_i1438_i_i:;
+    v_r81_i107_i1439_i_i = v_r16_i_i_i2075_i_i + 3;
+    v_r87_i109_i1441_i_i = (u64)v_r36_i3144_i_i;
+    v_r89_i_i1442_i_i = (u64)((u64)(v_r87_i109_i1441_i_i) << (u64)((8u & 63)));
+    v_r91_i_i1443_i_i = get_u8(v_r81_i107_i1439_i_i);
+    v_r93_i110_i1444_i_i = (u64)v_r91_i_i1443_i_i;
+    v_r96_i111_i1445_i_i = (u64)((u64)(v_r89_i_i1442_i_i) | (u64)(v_r93_i110_i1444_i_i));
+    { p_v_r13_sroa_0_0_copyload_i_i3235_i_i = v_r16_i_i3106_i_i; p_v_r36_i_i3232_i_i = v_r19_i_i3107_i_i; p_v_r12_sroa_10_0_i3170_i_i = v_r96_i111_i1445_i_i; goto L_arm_1_i1196_i_i; }
+L_join_10_i84_i1402_i_i:;
+    v_r99_i85_i1403_i_i = v_r106_i_i1363_i_i == 3u;
+    if (v_r99_i85_i1403_i_i) { goto L_then_11_i95_i1425_i_i; } else { goto L_join_13_i86_i1404_i_i; }
+L_then_11_i95_i1425_i_i:;
+    v_r106_i96_i1426_i_i = v_r16_i_i_i2075_i_i + 3;
+    v_r108_i97_i1427_i_i = v_r16_i_i_i2075_i_i + 4;
+    v_r115_i99_i1429_i_i = (u64)v_r36_i3144_i_i;
+    v_r117_i100_i1430_i_i = (u64)((u64)(v_r115_i99_i1429_i_i) << (u64)((16u & 63)));
+    v_r119_i101_i1431_i_i = get_u8(v_r106_i96_i1426_i_i);
+    v_r121_i102_i1432_i_i = (u64)v_r119_i101_i1431_i_i;
+    v_r123_i103_i1433_i_i = (u64)((u64)(v_r121_i102_i1432_i_i) << (u64)((8u & 63)));
+    v_r126_i104_i1434_i_i = (u64)((u64)(v_r123_i103_i1433_i_i) | (u64)(v_r117_i100_i1430_i_i));
+    v_r128_i_i1435_i_i = get_u8(v_r108_i97_i1427_i_i);
+    v_r130_i105_i1436_i_i = (u64)v_r128_i_i1435_i_i;
+    v_r133_i_i1437_i_i = (u64)((u64)(v_r126_i104_i1434_i_i) | (u64)(v_r130_i105_i1436_i_i));
+    { p_v_r13_sroa_0_0_copyload_i_i3235_i_i = v_r16_i_i3106_i_i; p_v_r36_i_i3232_i_i = v_r19_i_i3107_i_i; p_v_r12_sroa_10_0_i3170_i_i = v_r133_i_i1437_i_i; goto L_arm_1_i1196_i_i; }
+L_join_13_i86_i1404_i_i:;
+    v_r136_i87_i1405_i_i = v_r106_i_i1363_i_i < 5u;
+    if (v_r136_i87_i1405_i_i) { goto L_then_14_i_i1407_i_i; } else { goto L_join_16_i_i1406_i_i; }
+L_then_14_i_i1407_i_i:;
+    v_r143_i88_i1408_i_i = v_r16_i_i_i2075_i_i + 3;
+    v_r145_i89_i1409_i_i = v_r16_i_i_i2075_i_i + 4;
+    v_r147_i90_i1410_i_i = v_r16_i_i_i2075_i_i + 5;
+    v_r155_i92_i1412_i_i = (u64)v_r36_i3144_i_i;
+    v_r157_i93_i1413_i_i = (u64)((u64)(v_r155_i92_i1412_i_i) << (u64)((24u & 63)));
+    v_r159_i94_i1414_i_i = get_u8(v_r143_i88_i1408_i_i);
+    v_r161_i_i1415_i_i = (u64)v_r159_i94_i1414_i_i;
+    v_r163_i_i1416_i_i = (u64)((u64)(v_r161_i_i1415_i_i) << (u64)((16u & 63)));
+    v_r166_i_i1417_i_i = (u64)((u64)(v_r163_i_i1416_i_i) | (u64)(v_r157_i93_i1413_i_i));
+    v_r168_i_i1418_i_i = get_u8(v_r145_i89_i1409_i_i);
+    v_r170_i_i1419_i_i = (u64)v_r168_i_i1418_i_i;
+    v_r172_i_i1420_i_i = (u64)((u64)(v_r170_i_i1419_i_i) << (u64)((8u & 63)));
+    v_r175_i_i1421_i_i = (u64)((u64)(v_r166_i_i1417_i_i) | (u64)(v_r172_i_i1420_i_i));
+    v_r177_i_i1422_i_i = get_u8(v_r147_i90_i1410_i_i);
+    v_r179_i_i1423_i_i = (u64)v_r177_i_i1422_i_i;
+    v_r182_i_i1424_i_i = (u64)((u64)(v_r175_i_i1421_i_i) | (u64)(v_r179_i_i1423_i_i));
+    { p_v_r13_sroa_0_0_copyload_i_i3235_i_i = v_r16_i_i3106_i_i; p_v_r36_i_i3232_i_i = v_r19_i_i3107_i_i; p_v_r12_sroa_10_0_i3170_i_i = v_r182_i_i1424_i_i; goto L_arm_1_i1196_i_i; }
+L_join_16_i_i1406_i_i:;
     __builtin_trap();
     __builtin_trap();
-L_arm_1_i1196_i_i_i_i:;
-    v_r13_sroa_0_0_copyload_i_i3235_i_i_i_i = p_v_r13_sroa_0_0_copyload_i_i3235_i_i_i_i;
-    v_r36_i_i3232_i_i_i_i = p_v_r36_i_i3232_i_i_i_i;
-    v_r12_sroa_10_0_i3170_i_i_i_i = p_v_r12_sroa_10_0_i3170_i_i_i_i;
-    if (v_r8_i22_i1267_i_i_i_i) { goto L_join_3_i_i3229_i_i_i_i; } else { p_v_r13_sroa_5_0_ph_i_i_i_i = 10u; goto L_arm_6_i338_i_i_i; }
-L_join_3_i_i3229_i_i_i_i:;
-    v_r39_i_i3233_i_i_i_i = v_r36_i_i3232_i_i_i_i < v_r12_sroa_10_0_i3170_i_i_i_i;
-    if (v_r39_i_i3233_i_i_i_i) { p_v_r13_sroa_5_0_ph_i_i_i_i = 1u; goto L_arm_6_i338_i_i_i; } else { goto L_else_2_i_i3323_i_i_i_i; }
-L_else_2_i_i3323_i_i_i_i:;
-    v_r16_i_i_i3236_i_i_i_i = (P)((uintptr_t)v_r13_sroa_0_0_copyload_i_i3235_i_i_i_i + (u64)(v_r12_sroa_10_0_i3170_i_i_i_i));
-    v_r19_i_i_i3237_i_i_i_i = (u64)((u64)(v_r36_i_i3232_i_i_i_i) - (u64)(v_r12_sroa_10_0_i3170_i_i_i_i));
-    v_r12_i_i_i_not_i_i_i_not_i_i_i = v_r36_i_i3232_i_i_i_i == v_r12_sroa_10_0_i3170_i_i_i_i;
-    if (v_r12_i_i_i_not_i_i_i_not_i_i_i) { p_v_spec_select1093_i_i_i = 0u; p_v_spec_select_i_i_i = (P)0; p_v_r7_i1501_sroa_174338_sroa_0_0_ph5456_i_i_i_i = 0u; goto L_arm_1_i81_i_i_i; } else { goto L_arm_1_i3324_i_i_i_i; }
-L_arm_1_i3324_i_i_i_i:;
-    v_r18_i_i99_i_i_i_i_i = get_u8(v_r16_i_i_i3236_i_i_i_i);
-    v_r7_i_i103_i_i_i_i_i = v_r18_i_i99_i_i_i_i_i == 160u;
-    if (v_r7_i_i103_i_i_i_i_i) { goto L_join_3_i_i161_i_i_i_i_i; } else { p_v_r13_sroa_5_0_ph_i_i_i_i = 12u; goto L_arm_6_i338_i_i_i; }
-L_join_3_i_i161_i_i_i_i_i:;
-    v_r39_i_i164_i_i_i_i_i = v_r19_i_i_i3237_i_i_i_i == 1u;
-    if (v_r39_i_i164_i_i_i_i_i) { p_v_r13_sroa_5_0_ph_i_i_i_i = 1u; goto L_arm_6_i338_i_i_i; } else { goto L_arm_1_i59_i_i3335_i_i_i_i; }
-L_arm_1_i59_i_i3335_i_i_i_i:;
-    v_r16_i_i_i_i_i_i_i_i = v_r16_i_i_i3236_i_i_i_i + 1;
-    v_r16_i_i_i167_i_i_i_i_i = v_r16_i_i_i3236_i_i_i_i + 2;
-    v_r19_i_i_i168_i_i_i_i_i = (u64)((u64)(v_r19_i_i_i3237_i_i_i_i) + (u64)(18446744073709551614ull));
-    v_r29_i169_i_i_i_i_i = get_u8(v_r16_i_i_i_i_i_i_i_i);
-    v_r51_i62_i_i3336_i_i_i_i = (u8)(v_r29_i169_i_i_i_i_i ^ ((u8)1 << 7)) > (u8)(255u ^ ((u8)1 << 7));
-    if (v_r51_i62_i_i3336_i_i_i_i) { goto L_then_5_i_i_i3393_i_i_i_i; } else { goto L_join_7_i63_i_i3337_i_i_i_i; }
-L_then_5_i_i_i3393_i_i_i_i:;
-    v_r56_i73_i_i3394_i_i_i_i = (u64)v_r29_i169_i_i_i_i_i;
-    { p_v_r13_sroa_0_0_copyload_i_i333_i_i_i_i_i = v_r16_i_i_i167_i_i_i_i_i; p_v_r36_i_i330_i_i_i_i_i = v_r19_i_i_i168_i_i_i_i_i; p_v_r12_sroa_10_0_i_i_i_i_i_i = v_r56_i73_i_i3394_i_i_i_i; goto L_join_3_i_i328_i_i_i_i_i; }
-L_join_7_i63_i_i3337_i_i_i_i:;
-    v_r68_i64_i_i3338_i_i_i_i = v_r29_i169_i_i_i_i_i == 128u;
-    if (v_r68_i64_i_i3338_i_i_i_i) { p_v_r13_sroa_5_0_ph_i_i_i_i = 2u; goto L_arm_6_i338_i_i_i; } else { goto L_join_10_i_i_i3339_i_i_i_i; }
-L_join_10_i_i_i3339_i_i_i_i:;
-    v_r87_i_i_i3340_i_i_i_i = v_r29_i169_i_i_i_i_i > 132u;
-    if (v_r87_i_i_i3340_i_i_i_i) { p_v_r13_sroa_5_0_ph_i_i_i_i = 7u; goto L_arm_6_i338_i_i_i; } else { goto L_join_3_i210_i_i_i_i_i; }
-L_join_3_i210_i_i_i_i_i:;
-    v_r106_i_i_i3341_i_i_i_i = (u8)((u32)(v_r29_i169_i_i_i_i_i) & (u32)(127u));
-    v_r3_i25_i_i3342_i_i_i_i = (u64)v_r106_i_i_i3341_i_i_i_i;
-    v_r39_i213_i_i_i_i_i = v_r19_i_i_i168_i_i_i_i_i < v_r3_i25_i_i3342_i_i_i_i;
-    if (v_r39_i213_i_i_i_i_i) { p_v_r13_sroa_5_0_ph_i_i_i_i = 1u; goto L_arm_6_i338_i_i_i; } else { goto L_arm_14_i_i_i3343_i_i_i_i; }
-L_arm_14_i_i_i3343_i_i_i_i:;
-    v_r16_i_i216_i_i_i_i_i = (P)((uintptr_t)v_r16_i_i_i167_i_i_i_i_i + (u64)(v_r3_i25_i_i3342_i_i_i_i));
-    v_r19_i_i217_i_i_i_i_i = (u64)((u64)(v_r19_i_i_i168_i_i_i_i_i) - (u64)(v_r3_i25_i_i3342_i_i_i_i));
-    switch (v_r106_i_i_i3341_i_i_i_i) {
-    case 0u: { p_v_r13_sroa_5_0_ph_i_i_i_i = 8u; goto L_arm_6_i338_i_i_i; }
-    case 1u: { goto L_der_core_length_is_overlong_exit_i_i_i_i_i; }
-    default: { goto L_join_7_i250_i_i_i_i_i; }
+L_arm_1_i1196_i_i:;
+    v_r13_sroa_0_0_copyload_i_i3235_i_i = p_v_r13_sroa_0_0_copyload_i_i3235_i_i;
+    v_r36_i_i3232_i_i = p_v_r36_i_i3232_i_i;
+    v_r12_sroa_10_0_i3170_i_i = p_v_r12_sroa_10_0_i3170_i_i;
+    if (v_r8_i22_i1267_i_i) { goto L_join_3_i_i3229_i_i; } else { p_v_r13_sroa_5_0_ph_i_i = 10u; goto L_arm_6_i76_i; }
+L_join_3_i_i3229_i_i:;
+    v_r39_i_i3233_i_i = v_r36_i_i3232_i_i < v_r12_sroa_10_0_i3170_i_i;
+    if (v_r39_i_i3233_i_i) { p_v_r13_sroa_5_0_ph_i_i = 1u; goto L_arm_6_i76_i; } else { goto L_else_2_i_i3323_i_i; }
+L_else_2_i_i3323_i_i:;
+    v_r16_i_i_i3236_i_i = (P)((uintptr_t)v_r13_sroa_0_0_copyload_i_i3235_i_i + (u64)(v_r12_sroa_10_0_i3170_i_i));
+    v_r19_i_i_i3237_i_i = (u64)((u64)(v_r36_i_i3232_i_i) - (u64)(v_r12_sroa_10_0_i3170_i_i));
+    v_r12_i_i_i_not_i_i_i_not_i = v_r36_i_i3232_i_i == v_r12_sroa_10_0_i3170_i_i;
+    if (v_r12_i_i_i_not_i_i_i_not_i) { p_v_spec_select_i_i_i = (P)0; p_v_spec_select2992_i_i_i = 0u; p_v_r7_i1501_sroa_174338_sroa_0_0_ph5456_i_i = 0u; goto L_arm_1_i669_i_i_i; } else { goto L_arm_1_i3324_i_i; }
+L_arm_1_i3324_i_i:;
+    v_r18_i_i99_i_i_i = get_u8(v_r16_i_i_i3236_i_i);
+    v_r7_i_i103_i_i_i = v_r18_i_i99_i_i_i == 160u;
+    if (v_r7_i_i103_i_i_i) { goto L_join_3_i_i161_i_i_i; } else { p_v_r13_sroa_5_0_ph_i_i = 12u; goto L_arm_6_i76_i; }
+L_join_3_i_i161_i_i_i:;
+    v_r39_i_i164_i_i_i = v_r19_i_i_i3237_i_i == 1u;
+    if (v_r39_i_i164_i_i_i) { p_v_r13_sroa_5_0_ph_i_i = 1u; goto L_arm_6_i76_i; } else { goto L_arm_1_i59_i_i3335_i_i; }
+L_arm_1_i59_i_i3335_i_i:;
+    v_r16_i_i_i_i_i90_i = v_r16_i_i_i3236_i_i + 1;
+    v_r16_i_i_i167_i_i_i = v_r16_i_i_i3236_i_i + 2;
+    v_r19_i_i_i168_i_i_i = (u64)((u64)(v_r19_i_i_i3237_i_i) + (u64)(18446744073709551614ull));
+    v_r29_i169_i_i_i = get_u8(v_r16_i_i_i_i_i90_i);
+    v_r51_i62_i_i3336_i_i = (u8)(v_r29_i169_i_i_i ^ ((u8)1 << 7)) > (u8)(255u ^ ((u8)1 << 7));
+    if (v_r51_i62_i_i3336_i_i) { goto L_then_5_i_i_i3393_i_i; } else { goto L_join_7_i63_i_i3337_i_i; }
+L_then_5_i_i_i3393_i_i:;
+    v_r56_i73_i_i3394_i_i = (u64)v_r29_i169_i_i_i;
+    { p_v_r13_sroa_0_0_copyload_i_i333_i_i_i = v_r16_i_i_i167_i_i_i; p_v_r36_i_i330_i_i_i = v_r19_i_i_i168_i_i_i; p_v_r12_sroa_10_0_i_i_i93_i = v_r56_i73_i_i3394_i_i; goto L_join_3_i_i328_i_i_i; }
+L_join_7_i63_i_i3337_i_i:;
+    v_r68_i64_i_i3338_i_i = v_r29_i169_i_i_i == 128u;
+    if (v_r68_i64_i_i3338_i_i) { p_v_r13_sroa_5_0_ph_i_i = 2u; goto L_arm_6_i76_i; } else { goto L_join_10_i_i_i3339_i_i; }
+L_join_10_i_i_i3339_i_i:;
+    v_r87_i_i_i3340_i_i = v_r29_i169_i_i_i > 132u;
+    if (v_r87_i_i_i3340_i_i) { p_v_r13_sroa_5_0_ph_i_i = 7u; goto L_arm_6_i76_i; } else { goto L_join_3_i210_i_i_i; }
+L_join_3_i210_i_i_i:;
+    v_r106_i_i_i3341_i_i = (u8)((u32)(v_r29_i169_i_i_i) & (u32)(127u));
+    v_r3_i25_i_i3342_i_i = (u64)v_r106_i_i_i3341_i_i;
+    v_r39_i213_i_i_i = v_r19_i_i_i168_i_i_i < v_r3_i25_i_i3342_i_i;
+    if (v_r39_i213_i_i_i) { p_v_r13_sroa_5_0_ph_i_i = 1u; goto L_arm_6_i76_i; } else { goto L_arm_14_i_i_i3343_i_i; }
+L_arm_14_i_i_i3343_i_i:;
+    v_r16_i_i216_i_i_i = (P)((uintptr_t)v_r16_i_i_i167_i_i_i + (u64)(v_r3_i25_i_i3342_i_i));
+    v_r19_i_i217_i_i_i = (u64)((u64)(v_r19_i_i_i168_i_i_i) - (u64)(v_r3_i25_i_i3342_i_i));
+    switch (v_r106_i_i_i3341_i_i) {
+    case 0u: { p_v_r13_sroa_5_0_ph_i_i = 8u; goto L_arm_6_i76_i; }
+    case 1u: { goto L_der_core_length_is_overlong_exit_i_i92_i; }
+    default: { goto L_join_7_i250_i_i_i; }
     }
-L_join_7_i250_i_i_i_i_i:;
-    v_r36_i251_i_i_i_i_i = get_u8(v_r16_i_i_i167_i_i_i_i_i);
-    v_r38_i_i3349_i_i_i_i = v_r36_i251_i_i_i_i_i == 0u;
-    if (v_r38_i_i3349_i_i_i_i) { p_v_r13_sroa_5_0_ph_i_i_i_i = 8u; goto L_arm_6_i338_i_i_i; } else { goto L_join_7_i82_i_i3350_i_i_i_i; }
-L_der_core_length_is_overlong_exit_i_i_i_i_i:;
-    v_r28_i249_i_i_i_i_i = get_u8(v_r16_i_i_i167_i_i_i_i_i);
-    v_r30_i_i3344_i_i_i_i = (u8)(v_r28_i249_i_i_i_i_i ^ ((u8)1 << 7)) > (u8)(255u ^ ((u8)1 << 7));
-    if (v_r30_i_i3344_i_i_i_i) { p_v_r13_sroa_5_0_ph_i_i_i_i = 8u; goto L_arm_6_i338_i_i_i; } else { goto L_then_5_i80_i_i3345_i_i_i_i; }
-L_then_5_i80_i_i3345_i_i_i_i:;
-    v_r71_i_i_i3346_i_i_i_i = (u64)v_r28_i249_i_i_i_i_i;
-    { p_v_r13_sroa_0_0_copyload_i_i333_i_i_i_i_i = v_r16_i_i216_i_i_i_i_i; p_v_r36_i_i330_i_i_i_i_i = v_r19_i_i217_i_i_i_i_i; p_v_r12_sroa_10_0_i_i_i_i_i_i = v_r71_i_i_i3346_i_i_i_i; goto L_join_3_i_i328_i_i_i_i_i; }
-L_join_7_i82_i_i3350_i_i_i_i:;
-    v_r74_i83_i_i3351_i_i_i_i = v_r106_i_i_i3341_i_i_i_i < 3u;
-    if (v_r74_i83_i_i3351_i_i_i_i) { goto L_then_8_i106_i_i3386_i_i_i_i; } else { goto L_join_10_i84_i_i3352_i_i_i_i; }
-L_then_8_i106_i_i3386_i_i_i_i:;
-    v_r81_i107_i_i3387_i_i_i_i = v_r16_i_i_i3236_i_i_i_i + 3;
-    v_r87_i109_i_i3388_i_i_i_i = (u64)v_r36_i251_i_i_i_i_i;
-    v_r89_i_i_i3389_i_i_i_i = (u64)((u64)(v_r87_i109_i_i3388_i_i_i_i) << (u64)((8u & 63)));
-    v_r91_i_i_i3390_i_i_i_i = get_u8(v_r81_i107_i_i3387_i_i_i_i);
-    v_r93_i110_i_i3391_i_i_i_i = (u64)v_r91_i_i_i3390_i_i_i_i;
-    v_r96_i111_i_i3392_i_i_i_i = (u64)((u64)(v_r89_i_i_i3389_i_i_i_i) | (u64)(v_r93_i110_i_i3391_i_i_i_i));
-    { p_v_r13_sroa_0_0_copyload_i_i333_i_i_i_i_i = v_r16_i_i216_i_i_i_i_i; p_v_r36_i_i330_i_i_i_i_i = v_r19_i_i217_i_i_i_i_i; p_v_r12_sroa_10_0_i_i_i_i_i_i = v_r96_i111_i_i3392_i_i_i_i; goto L_join_3_i_i328_i_i_i_i_i; }
-L_join_10_i84_i_i3352_i_i_i_i:;
-    v_r99_i85_i_i3353_i_i_i_i = v_r106_i_i_i3341_i_i_i_i == 3u;
-    if (v_r99_i85_i_i3353_i_i_i_i) { goto L_then_11_i95_i_i3374_i_i_i_i; } else { goto L_join_13_i86_i_i3354_i_i_i_i; }
-L_then_11_i95_i_i3374_i_i_i_i:;
-    v_r106_i96_i_i3375_i_i_i_i = v_r16_i_i_i3236_i_i_i_i + 3;
-    v_r108_i97_i_i3376_i_i_i_i = v_r16_i_i_i3236_i_i_i_i + 4;
-    v_r115_i99_i_i3377_i_i_i_i = (u64)v_r36_i251_i_i_i_i_i;
-    v_r117_i100_i_i3378_i_i_i_i = (u64)((u64)(v_r115_i99_i_i3377_i_i_i_i) << (u64)((16u & 63)));
-    v_r119_i101_i_i3379_i_i_i_i = get_u8(v_r106_i96_i_i3375_i_i_i_i);
-    v_r121_i102_i_i3380_i_i_i_i = (u64)v_r119_i101_i_i3379_i_i_i_i;
-    v_r123_i103_i_i3381_i_i_i_i = (u64)((u64)(v_r121_i102_i_i3380_i_i_i_i) << (u64)((8u & 63)));
-    v_r126_i104_i_i3382_i_i_i_i = (u64)((u64)(v_r123_i103_i_i3381_i_i_i_i) | (u64)(v_r117_i100_i_i3378_i_i_i_i));
-    v_r128_i_i_i3383_i_i_i_i = get_u8(v_r108_i97_i_i3376_i_i_i_i);
-    v_r130_i105_i_i3384_i_i_i_i = (u64)v_r128_i_i_i3383_i_i_i_i;
-    v_r133_i_i_i3385_i_i_i_i = (u64)((u64)(v_r126_i104_i_i3382_i_i_i_i) | (u64)(v_r130_i105_i_i3384_i_i_i_i));
-    { p_v_r13_sroa_0_0_copyload_i_i333_i_i_i_i_i = v_r16_i_i216_i_i_i_i_i; p_v_r36_i_i330_i_i_i_i_i = v_r19_i_i217_i_i_i_i_i; p_v_r12_sroa_10_0_i_i_i_i_i_i = v_r133_i_i_i3385_i_i_i_i; goto L_join_3_i_i328_i_i_i_i_i; }
-L_join_13_i86_i_i3354_i_i_i_i:;
-    v_r136_i87_i_i3355_i_i_i_i = v_r106_i_i_i3341_i_i_i_i < 5u;
-    if (v_r136_i87_i_i3355_i_i_i_i) { goto L_then_14_i_i_i3357_i_i_i_i; } else { goto L_join_16_i_i_i3356_i_i_i_i; }
-L_then_14_i_i_i3357_i_i_i_i:;
-    v_r143_i88_i_i3358_i_i_i_i = v_r16_i_i_i3236_i_i_i_i + 3;
-    v_r145_i89_i_i3359_i_i_i_i = v_r16_i_i_i3236_i_i_i_i + 4;
-    v_r147_i90_i_i3360_i_i_i_i = v_r16_i_i_i3236_i_i_i_i + 5;
-    v_r155_i92_i_i3361_i_i_i_i = (u64)v_r36_i251_i_i_i_i_i;
-    v_r157_i93_i_i3362_i_i_i_i = (u64)((u64)(v_r155_i92_i_i3361_i_i_i_i) << (u64)((24u & 63)));
-    v_r159_i94_i_i3363_i_i_i_i = get_u8(v_r143_i88_i_i3358_i_i_i_i);
-    v_r161_i_i_i3364_i_i_i_i = (u64)v_r159_i94_i_i3363_i_i_i_i;
-    v_r163_i_i_i3365_i_i_i_i = (u64)((u64)(v_r161_i_i_i3364_i_i_i_i) << (u64)((16u & 63)));
-    v_r166_i_i_i3366_i_i_i_i = (u64)((u64)(v_r163_i_i_i3365_i_i_i_i) | (u64)(v_r157_i93_i_i3362_i_i_i_i));
-    v_r168_i_i_i3367_i_i_i_i = get_u8(v_r145_i89_i_i3359_i_i_i_i);
-    v_r170_i_i_i3368_i_i_i_i = (u64)v_r168_i_i_i3367_i_i_i_i;
-    v_r172_i_i_i3369_i_i_i_i = (u64)((u64)(v_r170_i_i_i3368_i_i_i_i) << (u64)((8u & 63)));
-    v_r175_i_i_i3370_i_i_i_i = (u64)((u64)(v_r166_i_i_i3366_i_i_i_i) | (u64)(v_r172_i_i_i3369_i_i_i_i));
-    v_r177_i_i_i3371_i_i_i_i = get_u8(v_r147_i90_i_i3360_i_i_i_i);
-    v_r179_i_i_i3372_i_i_i_i = (u64)v_r177_i_i_i3371_i_i_i_i;
-    v_r182_i_i_i3373_i_i_i_i = (u64)((u64)(v_r175_i_i_i3370_i_i_i_i) | (u64)(v_r179_i_i_i3372_i_i_i_i));
-    { p_v_r13_sroa_0_0_copyload_i_i333_i_i_i_i_i = v_r16_i_i216_i_i_i_i_i; p_v_r36_i_i330_i_i_i_i_i = v_r19_i_i217_i_i_i_i_i; p_v_r12_sroa_10_0_i_i_i_i_i_i = v_r182_i_i_i3373_i_i_i_i; goto L_join_3_i_i328_i_i_i_i_i; }
-L_join_16_i_i_i3356_i_i_i_i:;
+L_join_7_i250_i_i_i:;
+    v_r36_i251_i_i_i = get_u8(v_r16_i_i_i167_i_i_i);
+    v_r38_i_i3349_i_i = v_r36_i251_i_i_i == 0u;
+    if (v_r38_i_i3349_i_i) { p_v_r13_sroa_5_0_ph_i_i = 8u; goto L_arm_6_i76_i; } else { goto L_join_7_i82_i_i3350_i_i; }
+L_der_core_length_is_overlong_exit_i_i92_i:;
+    v_r28_i249_i_i_i = get_u8(v_r16_i_i_i167_i_i_i);
+    v_r30_i_i3344_i_i = (u8)(v_r28_i249_i_i_i ^ ((u8)1 << 7)) > (u8)(255u ^ ((u8)1 << 7));
+    if (v_r30_i_i3344_i_i) { p_v_r13_sroa_5_0_ph_i_i = 8u; goto L_arm_6_i76_i; } else { goto L_then_5_i80_i_i3345_i_i; }
+L_then_5_i80_i_i3345_i_i:;
+    v_r71_i_i_i3346_i_i = (u64)v_r28_i249_i_i_i;
+    { p_v_r13_sroa_0_0_copyload_i_i333_i_i_i = v_r16_i_i216_i_i_i; p_v_r36_i_i330_i_i_i = v_r19_i_i217_i_i_i; p_v_r12_sroa_10_0_i_i_i93_i = v_r71_i_i_i3346_i_i; goto L_join_3_i_i328_i_i_i; }
+L_join_7_i82_i_i3350_i_i:;
+    v_r74_i83_i_i3351_i_i = v_r106_i_i_i3341_i_i < 3u;
+    if (v_r74_i83_i_i3351_i_i) { goto L_then_8_i106_i_i3386_i_i; } else { goto L_join_10_i84_i_i3352_i_i; }
+L_then_8_i106_i_i3386_i_i:;
+    v_r81_i107_i_i3387_i_i = v_r16_i_i_i3236_i_i + 3;
+    v_r87_i109_i_i3388_i_i = (u64)v_r36_i251_i_i_i;
+    v_r89_i_i_i3389_i_i = (u64)((u64)(v_r87_i109_i_i3388_i_i) << (u64)((8u & 63)));
+    v_r91_i_i_i3390_i_i = get_u8(v_r81_i107_i_i3387_i_i);
+    v_r93_i110_i_i3391_i_i = (u64)v_r91_i_i_i3390_i_i;
+    v_r96_i111_i_i3392_i_i = (u64)((u64)(v_r89_i_i_i3389_i_i) | (u64)(v_r93_i110_i_i3391_i_i));
+    { p_v_r13_sroa_0_0_copyload_i_i333_i_i_i = v_r16_i_i216_i_i_i; p_v_r36_i_i330_i_i_i = v_r19_i_i217_i_i_i; p_v_r12_sroa_10_0_i_i_i93_i = v_r96_i111_i_i3392_i_i; goto L_join_3_i_i328_i_i_i; }
+L_join_10_i84_i_i3352_i_i:;
+    v_r99_i85_i_i3353_i_i = v_r106_i_i_i3341_i_i == 3u;
+    if (v_r99_i85_i_i3353_i_i) { goto L_then_11_i95_i_i3374_i_i; } else { goto L_join_13_i86_i_i3354_i_i; }
+L_then_11_i95_i_i3374_i_i:;
+    v_r106_i96_i_i3375_i_i = v_r16_i_i_i3236_i_i + 3;
+    v_r108_i97_i_i3376_i_i = v_r16_i_i_i3236_i_i + 4;
+    v_r115_i99_i_i3377_i_i = (u64)v_r36_i251_i_i_i;
+    v_r117_i100_i_i3378_i_i = (u64)((u64)(v_r115_i99_i_i3377_i_i) << (u64)((16u & 63)));
+    v_r119_i101_i_i3379_i_i = get_u8(v_r106_i96_i_i3375_i_i);
+    v_r121_i102_i_i3380_i_i = (u64)v_r119_i101_i_i3379_i_i;
+    v_r123_i103_i_i3381_i_i = (u64)((u64)(v_r121_i102_i_i3380_i_i) << (u64)((8u & 63)));
+    v_r126_i104_i_i3382_i_i = (u64)((u64)(v_r123_i103_i_i3381_i_i) | (u64)(v_r117_i100_i_i3378_i_i));
+    v_r128_i_i_i3383_i_i = get_u8(v_r108_i97_i_i3376_i_i);
+    v_r130_i105_i_i3384_i_i = (u64)v_r128_i_i_i3383_i_i;
+    v_r133_i_i_i3385_i_i = (u64)((u64)(v_r126_i104_i_i3382_i_i) | (u64)(v_r130_i105_i_i3384_i_i));
+    { p_v_r13_sroa_0_0_copyload_i_i333_i_i_i = v_r16_i_i216_i_i_i; p_v_r36_i_i330_i_i_i = v_r19_i_i217_i_i_i; p_v_r12_sroa_10_0_i_i_i93_i = v_r133_i_i_i3385_i_i; goto L_join_3_i_i328_i_i_i; }
+L_join_13_i86_i_i3354_i_i:;
+    v_r136_i87_i_i3355_i_i = v_r106_i_i_i3341_i_i < 5u;
+    if (v_r136_i87_i_i3355_i_i) { goto L_then_14_i_i_i3357_i_i; } else { goto L_join_16_i_i_i3356_i_i; }
+L_then_14_i_i_i3357_i_i:;
+    v_r143_i88_i_i3358_i_i = v_r16_i_i_i3236_i_i + 3;
+    v_r145_i89_i_i3359_i_i = v_r16_i_i_i3236_i_i + 4;
+    v_r147_i90_i_i3360_i_i = v_r16_i_i_i3236_i_i + 5;
+    v_r155_i92_i_i3361_i_i = (u64)v_r36_i251_i_i_i;
+    v_r157_i93_i_i3362_i_i = (u64)((u64)(v_r155_i92_i_i3361_i_i) << (u64)((24u & 63)));
+    v_r159_i94_i_i3363_i_i = get_u8(v_r143_i88_i_i3358_i_i);
+    v_r161_i_i_i3364_i_i = (u64)v_r159_i94_i_i3363_i_i;
+    v_r163_i_i_i3365_i_i = (u64)((u64)(v_r161_i_i_i3364_i_i) << (u64)((16u & 63)));
+    v_r166_i_i_i3366_i_i = (u64)((u64)(v_r163_i_i_i3365_i_i) | (u64)(v_r157_i93_i_i3362_i_i));
+    v_r168_i_i_i3367_i_i = get_u8(v_r145_i89_i_i3359_i_i);
+    v_r170_i_i_i3368_i_i = (u64)v_r168_i_i_i3367_i_i;
+    v_r172_i_i_i3369_i_i = (u64)((u64)(v_r170_i_i_i3368_i_i) << (u64)((8u & 63)));
+    v_r175_i_i_i3370_i_i = (u64)((u64)(v_r166_i_i_i3366_i_i) | (u64)(v_r172_i_i_i3369_i_i));
+    v_r177_i_i_i3371_i_i = get_u8(v_r147_i90_i_i3360_i_i);
+    v_r179_i_i_i3372_i_i = (u64)v_r177_i_i_i3371_i_i;
+    v_r182_i_i_i3373_i_i = (u64)((u64)(v_r175_i_i_i3370_i_i) | (u64)(v_r179_i_i_i3372_i_i));
+    { p_v_r13_sroa_0_0_copyload_i_i333_i_i_i = v_r16_i_i216_i_i_i; p_v_r36_i_i330_i_i_i = v_r19_i_i217_i_i_i; p_v_r12_sroa_10_0_i_i_i93_i = v_r182_i_i_i3373_i_i; goto L_join_3_i_i328_i_i_i; }
+L_join_16_i_i_i3356_i_i:;
     __builtin_trap();
     __builtin_trap();
-L_join_3_i_i328_i_i_i_i_i:;
-    v_r13_sroa_0_0_copyload_i_i333_i_i_i_i_i = p_v_r13_sroa_0_0_copyload_i_i333_i_i_i_i_i;
-    v_r36_i_i330_i_i_i_i_i = p_v_r36_i_i330_i_i_i_i_i;
-    v_r12_sroa_10_0_i_i_i_i_i_i = p_v_r12_sroa_10_0_i_i_i_i_i_i;
-    v_r39_i_i331_i_i_i_i_i = v_r36_i_i330_i_i_i_i_i < v_r12_sroa_10_0_i_i_i_i_i_i;
-    if (v_r39_i_i331_i_i_i_i_i) { p_v_r13_sroa_5_0_ph_i_i_i_i = 1u; goto L_arm_6_i338_i_i_i; } else { goto L_join_3_i3424_i_i_i_i; }
-L_join_3_i3424_i_i_i_i:;
-    v_13 = v_r36_i_i330_i_i_i_i_i == v_r12_sroa_10_0_i_i_i_i_i_i;
-    if (v_13) { p_v_spec_select1093_i_i_i = v_r36_i_i330_i_i_i_i_i; p_v_spec_select_i_i_i = v_r13_sroa_0_0_copyload_i_i333_i_i_i_i_i; p_v_r7_i1501_sroa_174338_sroa_0_0_ph5456_i_i_i_i = 1u; goto L_arm_1_i81_i_i_i; } else { p_v_r13_sroa_5_0_ph_i_i_i_i = 12u; goto L_arm_6_i338_i_i_i; }
-L_arm_2_i13_i_i_i_i:;
-    v_r0_i49_sroa_9_0_ph_i_i_i_i = p_v_r0_i49_sroa_9_0_ph_i_i_i_i;
-    { p_v_r13_sroa_5_0_ph_i_i_i_i = v_r0_i49_sroa_9_0_ph_i_i_i_i; goto L_arm_6_i338_i_i_i; }
-L_arm_6_i338_i_i_i:;
-    v_r13_sroa_5_0_ph_i_i_i_i = p_v_r13_sroa_5_0_ph_i_i_i_i;
-    { p_v_r8_i65_sroa_0_sroa_7_0_ph_i_i_i = v_r13_sroa_5_0_ph_i_i_i_i; goto L_arm_12_i_i_i_i; }
-L_arm_1_i81_i_i_i:;
-    v_spec_select1093_i_i_i = p_v_spec_select1093_i_i_i;
+L_join_3_i_i328_i_i_i:;
+    v_r13_sroa_0_0_copyload_i_i333_i_i_i = p_v_r13_sroa_0_0_copyload_i_i333_i_i_i;
+    v_r36_i_i330_i_i_i = p_v_r36_i_i330_i_i_i;
+    v_r12_sroa_10_0_i_i_i93_i = p_v_r12_sroa_10_0_i_i_i93_i;
+    v_r39_i_i331_i_i_i = v_r36_i_i330_i_i_i < v_r12_sroa_10_0_i_i_i93_i;
+    if (v_r39_i_i331_i_i_i) { p_v_r13_sroa_5_0_ph_i_i = 1u; goto L_arm_6_i76_i; } else { goto L_join_3_i3424_i_i; }
+L_join_3_i3424_i_i:;
+    v_17 = v_r36_i_i330_i_i_i == v_r12_sroa_10_0_i_i_i93_i;
+    if (v_17) { p_v_spec_select_i_i_i = v_r13_sroa_0_0_copyload_i_i333_i_i_i; p_v_spec_select2992_i_i_i = v_r36_i_i330_i_i_i; p_v_r7_i1501_sroa_174338_sroa_0_0_ph5456_i_i = 1u; goto L_arm_1_i669_i_i_i; } else { p_v_r13_sroa_5_0_ph_i_i = 12u; goto L_arm_6_i76_i; }
+L_arm_2_i13_i_i:;
+    v_r0_i49_sroa_9_0_ph_i_i = p_v_r0_i49_sroa_9_0_ph_i_i;
+    { p_v_r13_sroa_5_0_ph_i_i = v_r0_i49_sroa_9_0_ph_i_i; goto L_arm_6_i76_i; }
+L_arm_6_i76_i:;
+    v_r13_sroa_5_0_ph_i_i = p_v_r13_sroa_5_0_ph_i_i;
+    { p_v_r8_i651_i_i_sroa_0_sroa_8_0_ph_i = v_r13_sroa_5_0_ph_i_i; goto L_arm_12_i364_i_i_i; }
+L_arm_1_i669_i_i_i:;
     v_spec_select_i_i_i = p_v_spec_select_i_i_i;
-    v_r7_i1501_sroa_174338_sroa_0_0_ph5456_i_i_i_i = p_v_r7_i1501_sroa_174338_sroa_0_0_ph5456_i_i_i_i;
-    v_r13_sroa_17_sroa_0_sroa_0_4_r119_i_sroa_idx_i_i_i_ = v_r13_sroa_17_sroa_0_sroa_0_i_i_i_i + 4;
-    copy(v_r13_sroa_17_sroa_0_sroa_0_4_r119_i_sroa_idx_i_i_i_, v_r9_i10_sroa_11_sroa_0_4_r10_i56_sroa_idx_i_i_i_i, 39u);
-    v_r8_i65_sroa_16_8_r58_i346_sroa_idx_i_i_i = v_r8_i65_sroa_16_i_i_i + 4;
-    copy(v_r8_i65_sroa_16_8_r58_i346_sroa_idx_i_i_i, v_r13_sroa_17_sroa_0_sroa_0_4_r119_i_sroa_idx_i_i_i_, 39u);
-    v_r30_i23_sroa_15_sroa_0_sroa_0_4_r36_i90_sroa_idx_i = v_r30_i23_sroa_15_sroa_0_sroa_0_i_i_i + 4;
-    copy(v_r30_i23_sroa_15_sroa_0_sroa_0_4_r36_i90_sroa_idx_i, v_r8_i65_sroa_16_8_r58_i346_sroa_idx_i_i_i, 39u);
-    v_r0_i1_sroa_27_sroa_0_sroa_0_4_r122_i_sroa_idx_i_i_ = v_r0_i1_sroa_27_sroa_0_sroa_0_i_i_i + 4;
-    copy(v_r0_i1_sroa_27_sroa_0_sroa_0_4_r122_i_sroa_idx_i_i_, v_r30_i23_sroa_15_sroa_0_sroa_0_4_r36_i90_sroa_idx_i, 39u);
-    v_r15_i_sroa_11_sroa_0_sroa_0_4_r10_i8_sroa_idx_i_i_ = v_r15_i_sroa_11_sroa_0_sroa_0_i_i_i + 4;
-    copy(v_r15_i_sroa_11_sroa_0_sroa_0_4_r10_i8_sroa_idx_i_i_, v_r0_i1_sroa_27_sroa_0_sroa_0_4_r122_i_sroa_idx_i_i_, 39u);
-    v_r7_i_i419_i_i_i = v_r4_i_sroa_12_2917_i_i_i == v_r12_sroa_10_0_i_i_i_i;
-    v_r0_sroa_21_sroa_0_4_r79_i_sroa_idx_i_i_i = v_r0_sroa_21_sroa_0_i_i_i + 4;
-    if (v_r7_i_i419_i_i_i) { goto L_arm_1_i_i; } else { p_v_r0_sroa_21_sroa_0_i_4_i_4_r38_i_sroa_idx_sink_i_i = v_r0_sroa_21_sroa_0_4_r79_i_sroa_idx_i_i_i; p_v_r0_sroa_6_0_i_ph_i_i = 12u; goto L_arm_2_thread_i; }
-L_arm_12_i_i_i_i:;
-    v_r8_i65_sroa_0_sroa_7_0_ph_i_i_i = p_v_r8_i65_sroa_0_sroa_7_0_ph_i_i_i;
-    { p_v_r0_i1_sroa_9_0_ph_i_i_i = v_r8_i65_sroa_0_sroa_7_0_ph_i_i_i; goto L_arm_6_i_i_i_i; }
-L_arm_2_i_i_i_i:;
-    v_r0_sroa_21_sroa_0_i_4_i_4_r38_i_sroa_idx_i_i = v_r0_sroa_21_sroa_0_i_i_i + 4;
-    { p_v_r0_sroa_21_sroa_0_i_4_i_4_r38_i_sroa_idx_sink_i_i = v_r0_sroa_21_sroa_0_i_4_i_4_r38_i_sroa_idx_i_i; p_v_r0_sroa_6_0_i_ph_i_i = 7u; goto L_arm_2_thread_i; }
-L_arm_6_i_i_i_i:;
-    v_r0_i1_sroa_9_0_ph_i_i_i = p_v_r0_i1_sroa_9_0_ph_i_i_i;
-    v_r0_sroa_21_sroa_0_i_4_i_4_r54_i_sroa_idx_i_i = v_r0_sroa_21_sroa_0_i_i_i + 4;
-    { p_v_r0_sroa_21_sroa_0_i_4_i_4_r38_i_sroa_idx_sink_i_i = v_r0_sroa_21_sroa_0_i_4_i_4_r54_i_sroa_idx_i_i; p_v_r0_sroa_6_0_i_ph_i_i = v_r0_i1_sroa_9_0_ph_i_i_i; goto L_arm_2_thread_i; }
+    v_spec_select2992_i_i_i = p_v_spec_select2992_i_i_i;
+    v_r7_i1501_sroa_174338_sroa_0_0_ph5456_i_i = p_v_r7_i1501_sroa_174338_sroa_0_0_ph5456_i_i;
+    copy(v_r13_sroa_17_sroa_0_sroa_0_i_sroa_13_i, v_r9_i10_sroa_11_sroa_0_i_sroa_14_i, 30u);
+    copy(v_r8_i651_i_i_sroa_29_i, v_r13_sroa_17_sroa_0_sroa_0_i_sroa_13_i, 30u);
+    copy(v_r15_i175_sroa_11_sroa_0_sroa_13_i_i_i, v_r8_i651_i_i_sroa_29_i, 30u);
+    v_r7_i_i1465_i_i_i = v_r4_i164_sroa_12_22774_i_i350_i == v_r12_sroa_10_0_i1289_i_i352_i;
+    if (v_r7_i_i1465_i_i_i) { goto L_pkcs8_core_info_PrivateKeyInfoRefTryFromRefSliceU8__2; } else { p_v_r0_sroa_8_0_i_ph_i_i = 12u; goto L_arm_2_thread_i; }
+L_arm_12_i364_i_i_i:;
+    v_r8_i651_i_i_sroa_0_sroa_8_0_ph_i = p_v_r8_i651_i_i_sroa_0_sroa_8_0_ph_i;
+    { p_v_r0_sroa_8_0_i_ph_i_i = v_r8_i651_i_i_sroa_0_sroa_8_0_ph_i; goto L_arm_2_thread_i; }
+L_pkcs8_core_info_PrivateKeyInfoRefTryFromRefSliceU8__2:;
+    copy(v_r10_sroa_29_i_i, v_r15_i175_sroa_11_sroa_0_sroa_13_i_i_i, 30u);
+    { p_v_r0_sroa_49_sroa_8_0_sink_i94_i_i = v_spec_select2992_i_i_i; p_v_r0_sroa_49_sroa_0_0_sink_i93_i_i = v_spec_select_i_i_i; p_v_r0_sroa_48_0_sink_i92_i_i = v_r7_i1501_sroa_174338_sroa_0_0_ph5456_i_i; p_v_r0_sroa_47_sroa_8_0_sink_i91_i_i = v_r12_sroa_10_0_i3170_i_i; p_v_r0_sroa_47_sroa_0_0_sink_i90_i_i = v_r13_sroa_0_0_copyload_i_i3235_i_i; p_v_r0_sroa_46_0_sink_i89_i_i = v_r6_i593_sroa_28_sroa_12_0_i_i; p_v_r0_sroa_45_0_sink_i88_i_i = v_r6_i593_sroa_28_sroa_8_0_i_i; p_v_r0_sroa_44_0_sink_i87_i_i = v_r6_i593_sroa_28_sroa_0_0_i_i; p_v_r0_sroa_43_0_sink_i86_i_i = v_r6_i593_sroa_234029_sroa_0_0_i_i; p_v_r0_sroa_42_0_sink_i85_i_i = v_r24_i2950_i_i; p_v_r10_sroa_27_084_i_i = v_r3_i2949_i_i_8_r3_i2949_i_i_8_r3_i2949_i_i_8_r3_i2__2; p_v_r10_sroa_25_083_i_i = v_r3_i2949_i_i_7_r3_i2949_i_i_7_r3_i2949_i_i_7_r3_i2__2; p_v_r10_sroa_23_082_i_i = v_r3_i2949_i_i_6_r3_i2949_i_i_6_r3_i2949_i_i_6_r3_i2__2; p_v_r10_sroa_21_081_i_i = v_r3_i2949_i_i_5_r3_i2949_i_i_5_r3_i2949_i_i_5_r3_i2__2; p_v_r10_sroa_19_080_i_i = v_r3_i2949_i_i_4_r3_i2949_i_i_4_r3_i2949_i_i_4_r3_i2__2; p_v_r10_sroa_17_079_i_i = v_r3_i2949_i_i_3_r3_i2949_i_i_3_r3_i2949_i_i_3_r3_i2__2; p_v_r10_sroa_15_078_i_i = v_r3_i2949_i_i_2_r3_i2949_i_i_2_r3_i2949_i_i_2_r3_i2__2; p_v_r10_sroa_13_077_i_i = v_r3_i2949_i_i_1_r3_i2949_i_i_1_r3_i2949_i_i_1_r3_i2__2; p_v_r10_sroa_1029_076_i_i = v_r3_i2949_i_i_0_r3_i2949_i_i_0_r3_i2949_i_i_0_r3_i2; goto L_arm_1_i_i; }
 L_arm_1_i_i:;
-    copy(v_r0_sroa_21_sroa_0_4_r79_i_sroa_idx_i_i_i, v_r15_i_sroa_11_sroa_0_sroa_0_4_r10_i8_sroa_idx_i_i_, 39u);
-    v_r10_sroa_9_8_r13_i_sroa_idx_i_i = v_r10_sroa_9_i_i + 4;
-    copy(v_r10_sroa_9_8_r13_i_sroa_idx_i_i, v_r0_sroa_21_sroa_0_4_r79_i_sroa_idx_i_i_i, 39u);
-    copy(v_r3_i25_i, v_r10_sroa_9_8_r13_i_sroa_idx_i_i, 39u);
-    v_r11_sroa_3_0_r3_sroa_idx_i_i = v_r3_i25_i + 39;
-    put_u8(v_r11_sroa_3_0_r3_sroa_idx_i_i, v_r24_i2950_i_i_i_i);
-    v_r11_sroa_4_0_r3_sroa_idx_i_i = v_r3_i25_i + 40;
-    put_u64(v_r11_sroa_4_0_r3_sroa_idx_i_i, v_r6_i593_sroa_234029_sroa_0_0_i_i_i_i);
-    v_r11_sroa_5_0_r3_sroa_idx_i_i = v_r3_i25_i + 48;
-    put_u64(v_r11_sroa_5_0_r3_sroa_idx_i_i, v_r6_i593_sroa_28_sroa_0_0_i_i_i_i);
-    v_r11_sroa_6_0_r3_sroa_idx_i_i = v_r3_i25_i + 56;
-    put_P(v_r11_sroa_6_0_r3_sroa_idx_i_i, v_r6_i593_sroa_28_sroa_8_0_i_i_i_i);
-    v_r11_sroa_7_0_r3_sroa_idx_i_i = v_r3_i25_i + 64;
-    put_u64(v_r11_sroa_7_0_r3_sroa_idx_i_i, v_r6_i593_sroa_28_sroa_12_0_i_i_i_i);
-    v_r11_sroa_8_0_r3_sroa_idx_i_i = v_r3_i25_i + 72;
-    put_P(v_r11_sroa_8_0_r3_sroa_idx_i_i, v_r13_sroa_0_0_copyload_i_i3235_i_i_i_i);
-    v_r11_sroa_9_0_r3_sroa_idx_i_i = v_r3_i25_i + 80;
-    put_u64(v_r11_sroa_9_0_r3_sroa_idx_i_i, v_r12_sroa_10_0_i3170_i_i_i_i);
-    v_r11_sroa_10_0_r3_sroa_idx_i_i = v_r3_i25_i + 88;
-    put_u64(v_r11_sroa_10_0_r3_sroa_idx_i_i, v_r7_i1501_sroa_174338_sroa_0_0_ph5456_i_i_i_i);
-    v_r11_sroa_11_0_r3_sroa_idx_i_i = v_r3_i25_i + 96;
-    put_P(v_r11_sroa_11_0_r3_sroa_idx_i_i, v_spec_select_i_i_i);
-    v_r11_sroa_12_0_r3_sroa_idx_i_i = v_r3_i25_i + 104;
-    put_u64(v_r11_sroa_12_0_r3_sroa_idx_i_i, v_spec_select1093_i_i_i);
+    v_r0_sroa_49_sroa_8_0_sink_i94_i_i = p_v_r0_sroa_49_sroa_8_0_sink_i94_i_i;
+    v_r0_sroa_49_sroa_0_0_sink_i93_i_i = p_v_r0_sroa_49_sroa_0_0_sink_i93_i_i;
+    v_r0_sroa_48_0_sink_i92_i_i = p_v_r0_sroa_48_0_sink_i92_i_i;
+    v_r0_sroa_47_sroa_8_0_sink_i91_i_i = p_v_r0_sroa_47_sroa_8_0_sink_i91_i_i;
+    v_r0_sroa_47_sroa_0_0_sink_i90_i_i = p_v_r0_sroa_47_sroa_0_0_sink_i90_i_i;
+    v_r0_sroa_46_0_sink_i89_i_i = p_v_r0_sroa_46_0_sink_i89_i_i;
+    v_r0_sroa_45_0_sink_i88_i_i = p_v_r0_sroa_45_0_sink_i88_i_i;
+    v_r0_sroa_44_0_sink_i87_i_i = p_v_r0_sroa_44_0_sink_i87_i_i;
+    v_r0_sroa_43_0_sink_i86_i_i = p_v_r0_sroa_43_0_sink_i86_i_i;
+    v_r0_sroa_42_0_sink_i85_i_i = p_v_r0_sroa_42_0_sink_i85_i_i;
+    v_r10_sroa_27_084_i_i = p_v_r10_sroa_27_084_i_i;
+    v_r10_sroa_25_083_i_i = p_v_r10_sroa_25_083_i_i;
+    v_r10_sroa_23_082_i_i = p_v_r10_sroa_23_082_i_i;
+    v_r10_sroa_21_081_i_i = p_v_r10_sroa_21_081_i_i;
+    v_r10_sroa_19_080_i_i = p_v_r10_sroa_19_080_i_i;
+    v_r10_sroa_17_079_i_i = p_v_r10_sroa_17_079_i_i;
+    v_r10_sroa_15_078_i_i = p_v_r10_sroa_15_078_i_i;
+    v_r10_sroa_13_077_i_i = p_v_r10_sroa_13_077_i_i;
+    v_r10_sroa_1029_076_i_i = p_v_r10_sroa_1029_076_i_i;
+    put_u8(v_r3_i25_i, v_r10_sroa_1029_076_i_i);
+    v_r11_sroa_3_0_r3_sroa_idx_i_i = v_r3_i25_i + 1;
+    put_u8(v_r11_sroa_3_0_r3_sroa_idx_i_i, v_r10_sroa_13_077_i_i);
+    v_r11_sroa_4_0_r3_sroa_idx_i_i = v_r3_i25_i + 2;
+    put_u8(v_r11_sroa_4_0_r3_sroa_idx_i_i, v_r10_sroa_15_078_i_i);
+    v_r11_sroa_5_0_r3_sroa_idx_i_i = v_r3_i25_i + 3;
+    put_u8(v_r11_sroa_5_0_r3_sroa_idx_i_i, v_r10_sroa_17_079_i_i);
+    v_r11_sroa_6_0_r3_sroa_idx_i_i = v_r3_i25_i + 4;
+    put_u8(v_r11_sroa_6_0_r3_sroa_idx_i_i, v_r10_sroa_19_080_i_i);
+    v_r11_sroa_7_0_r3_sroa_idx_i_i = v_r3_i25_i + 5;
+    put_u8(v_r11_sroa_7_0_r3_sroa_idx_i_i, v_r10_sroa_21_081_i_i);
+    v_r11_sroa_8_0_r3_sroa_idx_i_i = v_r3_i25_i + 6;
+    put_u8(v_r11_sroa_8_0_r3_sroa_idx_i_i, v_r10_sroa_23_082_i_i);
+    v_r11_sroa_9_0_r3_sroa_idx_i_i = v_r3_i25_i + 7;
+    put_u8(v_r11_sroa_9_0_r3_sroa_idx_i_i, v_r10_sroa_25_083_i_i);
+    v_r11_sroa_10_0_r3_sroa_idx_i_i = v_r3_i25_i + 8;
+    put_u8(v_r11_sroa_10_0_r3_sroa_idx_i_i, v_r10_sroa_27_084_i_i);
+    v_r11_sroa_11_0_r3_sroa_idx_i_i = v_r3_i25_i + 9;
+    copy(v_r11_sroa_11_0_r3_sroa_idx_i_i, v_r10_sroa_29_i_i, 30u);
+    v_r11_sroa_12_0_r3_sroa_idx_i_i = v_r3_i25_i + 39;
+    put_u8(v_r11_sroa_12_0_r3_sroa_idx_i_i, v_r0_sroa_42_0_sink_i85_i_i);
+    v_r11_sroa_13_0_r3_sroa_idx_i_i = v_r3_i25_i + 40;
+    put_u64(v_r11_sroa_13_0_r3_sroa_idx_i_i, v_r0_sroa_43_0_sink_i86_i_i);
+    v_r11_sroa_14_0_r3_sroa_idx_i_i = v_r3_i25_i + 48;
+    put_u64(v_r11_sroa_14_0_r3_sroa_idx_i_i, v_r0_sroa_44_0_sink_i87_i_i);
+    v_r11_sroa_15_0_r3_sroa_idx_i_i = v_r3_i25_i + 56;
+    put_P(v_r11_sroa_15_0_r3_sroa_idx_i_i, v_r0_sroa_45_0_sink_i88_i_i);
+    v_r11_sroa_16_0_r3_sroa_idx_i_i = v_r3_i25_i + 64;
+    put_u64(v_r11_sroa_16_0_r3_sroa_idx_i_i, v_r0_sroa_46_0_sink_i89_i_i);
+    v_r11_sroa_17_0_r3_sroa_idx_i_i = v_r3_i25_i + 72;
+    put_P(v_r11_sroa_17_0_r3_sroa_idx_i_i, v_r0_sroa_47_sroa_0_0_sink_i90_i_i);
+    v_r11_sroa_18_0_r3_sroa_idx_i_i = v_r3_i25_i + 80;
+    put_u64(v_r11_sroa_18_0_r3_sroa_idx_i_i, v_r0_sroa_47_sroa_8_0_sink_i91_i_i);
+    v_r11_sroa_19_0_r3_sroa_idx_i_i = v_r3_i25_i + 88;
+    put_u64(v_r11_sroa_19_0_r3_sroa_idx_i_i, v_r0_sroa_48_0_sink_i92_i_i);
+    v_r11_sroa_20_0_r3_sroa_idx_i_i = v_r3_i25_i + 96;
+    put_P(v_r11_sroa_20_0_r3_sroa_idx_i_i, v_r0_sroa_49_sroa_0_0_sink_i93_i_i);
+    v_r11_sroa_21_0_r3_sroa_idx_i_i = v_r3_i25_i + 104;
+    put_u64(v_r11_sroa_21_0_r3_sroa_idx_i_i, v_r0_sroa_49_sroa_8_0_sink_i94_i_i);
     fill(v_r0_i_i_i, 0u, 184u);
     put_u8(v_r2_i_i_i_i_i, 42u);
     v_r10_sroa_0_sroa_3_0_r2_i_sroa_idx_i_i_i_i = v_r2_i_i_i_i_i + 1;
@@ -31805,48 +32224,41 @@ L_arm_1_i_i:;
     v_r10_sroa_3_0_r2_i_sroa_idx_i_i_i_i = v_r2_i_i_i_i_i + 39;
     fill(v_r10_sroa_0_sroa_11_0_r2_i_sroa_idx_i_i_i_i, 0u, 30u);
     put_u8(v_r10_sroa_3_0_r2_i_sroa_idx_i_i_i_i, 9u);
-    v_r24_i2950_i_i_mask_i_i = (u32)((u32)(v_r12_sroa_10_0_i2280_i_i_i_i) & (u32)(255u));
-    v_r7_i_i_i_i_i_i_i = (u64)v_r24_i2950_i_i_mask_i_i;
-    v_r21_not_i_i_i_i_i_i_i = v_r24_i2950_i_i_i_i == 9u;
-    if (v_r21_not_i_i_i_i_i_i_i) { goto L_join_5_i_preheader_i_i_i_i_i_i; } else { goto L_arm_2_i_i3_i_i; }
+    v_r7_i_i_i_i_i4_i_i = (u64)v_r0_sroa_42_0_sink_i85_i_i;
+    v_r21_not_i_i_i_i_i_i_i = v_r0_sroa_42_0_sink_i85_i_i == 9u;
+    if (v_r21_not_i_i_i_i_i_i_i) { goto L_join_5_i_preheader_i_i_i_i_i_i; } else { goto L_arm_2_i_i_i_i; }
 L_join_5_i_preheader_i_i_i_i_i_i:;
-    v_r16_val_i_i_i_i_i_i_i_i = get_u8(v_r3_i25_i);
-    v_r7_i_i_i_i_i_i_i_i_i = v_r16_val_i_i_i_i_i_i_i_i != 42u;
-    v_r16_i_i_1_i_i_i_i_i_i = v_r3_i25_i + 1;
-    v_r16_val_i_i_1_i_i_i_i_i_i = get_u8(v_r16_i_i_1_i_i_i_i_i_i);
-    v_r7_i_i_i_1_i_i_i_i_i_i = v_r16_val_i_i_1_i_i_i_i_i_i != 134u;
-    v_r20_i_1_i_i_i_i_i_i = (u1)(((u32)(v_r7_i_i_i_i_i_i_i_i_i) | (u32)(v_r7_i_i_i_1_i_i_i_i_i_i)) & 1);
-    v_r16_i_i_2_i_i_i_i_i_i = v_r3_i25_i + 2;
-    v_r16_val_i_i_2_i_i_i_i_i_i = get_u8(v_r16_i_i_2_i_i_i_i_i_i);
-    v_r7_i_i_i_2_i_i_i_i_i_i = v_r16_val_i_i_2_i_i_i_i_i_i != 72u;
-    v_r20_i_2_i_i_i_i_i_i = (u1)(((u32)(v_r20_i_1_i_i_i_i_i_i) | (u32)(v_r7_i_i_i_2_i_i_i_i_i_i)) & 1);
-    v_r16_i_i_3_i_i_i_i_i_i = v_r3_i25_i + 3;
-    v_r16_val_i_i_3_i_i_i_i_i_i = get_u8(v_r16_i_i_3_i_i_i_i_i_i);
-    v_r7_i_i_i_3_i_i_i_i_i_i = v_r16_val_i_i_3_i_i_i_i_i_i != 134u;
-    v_r20_i_3_i_i_i_i_i_i = (u1)(((u32)(v_r20_i_2_i_i_i_i_i_i) | (u32)(v_r7_i_i_i_3_i_i_i_i_i_i)) & 1);
-    if (v_r20_i_3_i_i_i_i_i_i) { goto L_arm_2_i_i3_i_i; } else { goto L_spki_core_object_identifier_ObjectIdentifierPartia; }
+    v_r7_i_i_i_i_i_i_i_i_i = v_r10_sroa_1029_076_i_i != 42u;
+    v_r7_i_i_i_1_i_i_i_i_i_i = v_r10_sroa_13_077_i_i != 134u;
+    v_r20_i_1_i_i_i_i_i_i = (u1)(((u32)(v_r7_i_i_i_1_i_i_i_i_i_i) | (u32)(v_r7_i_i_i_i_i_i_i_i_i)) & 1);
+    v_r7_i_i_i_2_i_i_i_i_i_i = v_r10_sroa_15_078_i_i != 72u;
+    v_r20_i_2_i_i_i_i_i_i = (u1)(((u32)(v_r7_i_i_i_2_i_i_i_i_i_i) | (u32)(v_r20_i_1_i_i_i_i_i_i)) & 1);
+    v_r7_i_i_i_3_i_i_i_i_i_i = v_r10_sroa_17_079_i_i != 134u;
+    v_r20_i_3_i_i_i_i_i_i = (u1)(((u32)(v_r7_i_i_i_3_i_i_i_i_i_i) | (u32)(v_r20_i_2_i_i_i_i_i_i)) & 1);
+    if (v_r20_i_3_i_i_i_i_i_i) { goto L_arm_2_i_i_i_i; } else { goto L_spki_core_object_identifier_ObjectIdentifierPartia; }
 L_spki_core_object_identifier_ObjectIdentifierPartia:;
-    v_r83_i_i_i_i_i_i_i = f_core_cmp_slices_groups_equal_i8_31_core_cmp_number(v_r3_i25_i, v_r7_i_i_i_i_i_i_i, v_r2_i_i_i_i_i);
-    if (v_r83_i_i_i_i_i_i_i) { goto L_arm_1_i_i_i_i; } else { goto L_arm_2_i_i3_i_i; }
+    v_r83_i_i_i_i_i_i_i = f_core_cmp_slices_groups_equal_i8_31_core_cmp_number(v_r3_i25_i, v_r7_i_i_i_i_i4_i_i, v_r2_i_i_i_i_i);
+    if (v_r83_i_i_i_i_i_i_i) { goto L_arm_1_i_i_i_i; } else { goto L_arm_2_i_i_i_i; }
 L_arm_1_i_i_i_i:;
-    if (v_r12_i_i_i_not_i_i_i_i_i) { p_v_r9_sroa_4_0_i_ph_i_i_i = 9u; goto L_arm_2_thread160_i; } else { goto L_arm_5_i_i_i_i; }
-L_arm_2_i_i3_i_i:;
-    { p_v_r9_sroa_4_0_i_ph_i_i_i = 6u; goto L_arm_2_thread160_i; }
+    v_18 = v_r0_sroa_43_0_sink_i86_i_i == 1u;
+    if (v_18) { goto L_arm_5_i_i_i_i; } else { p_v_r9_sroa_4_0_i_ph_i_i_i = 9u; goto L_arm_2_thread315_i; }
+L_arm_2_i_i_i_i:;
+    { p_v_r9_sroa_4_0_i_ph_i_i_i = 6u; goto L_arm_2_thread315_i; }
 L_arm_5_i_i_i_i:;
-    v_r7_i_i_i17_not_i_i_i_i = v_r6_i593_sroa_28_sroa_0_0_i_i_i_i == 5u;
-    v_r7_i23_i_i_i_i = v_r6_i593_sroa_28_sroa_12_0_i_i_i_i == 0u;
-    v_or_cond_i = (u1)(((u32)(v_r7_i_i_i17_not_i_i_i_i) & (u32)(v_r7_i23_i_i_i_i)) & 1);
-    if (v_or_cond_i) { goto L_pkcs8_core_info_PrivateKeyInfoRef_rsa_view_exit_i_; } else { p_v_r9_sroa_4_0_i_ph_i_i_i = 13u; goto L_arm_2_thread160_i; }
-L_arm_2_thread160_i:;
+    v_r7_i_i_i16_not_i_i_i_i = v_r0_sroa_44_0_sink_i87_i_i == 5u;
+    v_r7_i22_i_i_i_i = v_r0_sroa_46_0_sink_i89_i_i == 0u;
+    v_or_cond_i = (u1)(((u32)(v_r7_i22_i_i_i_i) & (u32)(v_r7_i_i_i16_not_i_i_i_i)) & 1);
+    if (v_or_cond_i) { goto L_pkcs8_core_info_PrivateKeyInfoRef_rsa_view_exit_i_; } else { p_v_r9_sroa_4_0_i_ph_i_i_i = 13u; goto L_arm_2_thread315_i; }
+L_arm_2_thread315_i:;
     v_r9_sroa_4_0_i_ph_i_i_i = p_v_r9_sroa_4_0_i_ph_i_i_i;
-    { p_v_r8_sroa_8_0_ph159_ph_i = v_r9_sroa_4_0_i_ph_i_i_i; goto L_arm_1_i68_sink_split_i; }
+    { p_v_r8_sroa_8_0_ph314_ph_i = v_r9_sroa_4_0_i_ph_i_i_i; goto L_arm_1_i68_sink_split_i; }
 L_pkcs8_core_info_PrivateKeyInfoRef_rsa_view_exit_i_:;
-    f_pkcs1_view_RsaPrivateKeyViewTryFromRefSliceU8_try_(v_r0_i_i_i, v_r13_sroa_0_0_copyload_i_i3235_i_i_i_i, v_r12_sroa_10_0_i3170_i_i_i_i);
-    v_14 = get_u8(v_r0_i_i_i);
+    f_pkcs1_view_RsaPrivateKeyViewTryFromRefSliceU8_try_(v_r0_i_i_i, v_r0_sroa_47_sroa_0_0_sink_i90_i_i, v_r0_sroa_47_sroa_8_0_sink_i91_i_i);
+    v_19 = get_u8(v_r0_i_i_i);
     v_r35_i_i_i = v_r0_i_i_i + 1;
-    v_15 = get_u8(v_r35_i_i_i);
+    v_20 = get_u8(v_r35_i_i_i);
     v_r37_i_i_i = v_r0_i_i_i + 2;
-    v_16 = get_u8(v_r37_i_i_i);
+    v_21 = get_u8(v_r37_i_i_i);
     v_r13_sroa_16_i_sroa_5_3_r43_i_i_sroa_idx_i = v_r0_i_i_i + 24;
     v_r13_sroa_16_i_sroa_5_3_copyload_i = get_P(v_r13_sroa_16_i_sroa_5_3_r43_i_i_sroa_idx_i);
     v_r13_sroa_16_i_sroa_6_3_r43_i_i_sroa_idx_i = v_r0_i_i_i + 32;
@@ -31885,23 +32297,21 @@ L_pkcs8_core_info_PrivateKeyInfoRef_rsa_view_exit_i_:;
     v_r13_sroa_16_i_sroa_23_3_copyload_i = get_P(v_r13_sroa_16_i_sroa_23_3_r43_i_i_sroa_idx_i);
     v_r13_sroa_16_i_sroa_24_3_r43_i_i_sroa_idx_i = v_r0_i_i_i + 168;
     copy(v_r13_sroa_16_i_sroa_24_i, v_r13_sroa_16_i_sroa_24_3_r43_i_i_sroa_idx_i, 16u);
-    v_17 = v_14 == 0u;
-    if (v_17) { goto L_arm_1_i; } else { goto L_arm_2_i; }
+    v_22 = v_19 == 0u;
+    if (v_22) { goto L_arm_1_i; } else { goto L_arm_2_i; }
 L_arm_2_thread_i:;
-    v_r0_sroa_21_sroa_0_i_4_i_4_r38_i_sroa_idx_sink_i_i = p_v_r0_sroa_21_sroa_0_i_4_i_4_r38_i_sroa_idx_sink_i_i;
-    v_r0_sroa_6_0_i_ph_i_i = p_v_r0_sroa_6_0_i_ph_i_i;
-    fill(v_r0_sroa_21_sroa_0_i_4_i_4_r38_i_sroa_idx_sink_i_i, 0u, 39u);
-    { p_v_r8_sroa_8_0_ph159_ph_i = v_r0_sroa_6_0_i_ph_i_i; goto L_arm_1_i68_sink_split_i; }
+    v_r0_sroa_8_0_i_ph_i_i = p_v_r0_sroa_8_0_i_ph_i_i;
+    { p_v_r8_sroa_8_0_ph314_ph_i = v_r0_sroa_8_0_i_ph_i_i; goto L_arm_1_i68_sink_split_i; }
 L_arm_1_i:;
-    v_r18_i_sroa_5_0_copyload_i = get_P(v_r11_sroa_8_0_r3_sroa_idx_i_i);
-    v_r18_i_sroa_6_0_copyload_i = get_u64(v_r11_sroa_9_0_r3_sroa_idx_i_i);
-    v_r18_i_sroa_7_0_copyload_i = get_u8(v_r11_sroa_10_0_r3_sroa_idx_i_i);
-    v_r18_i_sroa_9_0_copyload_i = get_P(v_r11_sroa_11_0_r3_sroa_idx_i_i);
-    v_r18_i_sroa_10_0_copyload_i = get_u64(v_r11_sroa_12_0_r3_sroa_idx_i_i);
+    v_r18_i_sroa_5_0_copyload_i = get_P(v_r11_sroa_17_0_r3_sroa_idx_i_i);
+    v_r18_i_sroa_6_0_copyload_i = get_u64(v_r11_sroa_18_0_r3_sroa_idx_i_i);
+    v_r18_i_sroa_7_0_copyload_i = get_u8(v_r11_sroa_19_0_r3_sroa_idx_i_i);
+    v_r18_i_sroa_9_0_copyload_i = get_P(v_r11_sroa_20_0_r3_sroa_idx_i_i);
+    v_r18_i_sroa_10_0_copyload_i = get_u64(v_r11_sroa_21_0_r3_sroa_idx_i_i);
     copy(v_r8_sroa_17_sroa_25_i, v_r13_sroa_16_i_sroa_24_i, 16u);
-    v_18 = v_r18_i_sroa_7_0_copyload_i == 1u;
-    v_spec_select_i = v_18 ? v_r18_i_sroa_9_0_copyload_i : (P)f_static_27;
-    v_spec_select166_i = v_18 ? v_r18_i_sroa_10_0_copyload_i : 0u;
+    v_23 = v_r18_i_sroa_7_0_copyload_i == 1u;
+    v_spec_select_i = v_23 ? v_r18_i_sroa_9_0_copyload_i : (P)f_static_27;
+    v_spec_select319_i = v_23 ? v_r18_i_sroa_10_0_copyload_i : 0u;
     put_P(v_a2, v_r18_i_sroa_5_0_copyload_i);
     v_r10_sroa_3_0_a2_sroa_idx_i = v_a2 + 8;
     put_u64(v_r10_sroa_3_0_a2_sroa_idx_i, v_r18_i_sroa_6_0_copyload_i);
@@ -31912,11 +32322,11 @@ L_arm_1_i:;
     v_r10_sroa_6_0_a2_sroa_idx_i = v_a2 + 24;
     put_P(v_r10_sroa_6_0_a2_sroa_idx_i, v_spec_select_i);
     v_r10_sroa_7_0_a2_sroa_idx_i = v_a2 + 32;
-    put_u64(v_r10_sroa_7_0_a2_sroa_idx_i, v_spec_select166_i);
+    put_u64(v_r10_sroa_7_0_a2_sroa_idx_i, v_spec_select319_i);
     fill(v_r5_i_i, 0u, 24u);
-    v_19 = v_r13_sroa_16_i_sroa_21_3_copyload_i == 1u;
+    v_24 = v_r13_sroa_16_i_sroa_21_3_copyload_i == 1u;
     v_r0_sroa_5_0_a0_sroa_idx_i41_i = v_r5_i_i + 8;
-    if (v_19) { goto L_arm_1_i40_i; } else { goto L_join_4_i_i; }
+    if (v_24) { goto L_arm_1_i40_i; } else { goto L_join_4_i_i; }
 L_arm_1_i40_i:;
     copy(v_r0_sroa_5_0_a0_sroa_idx_i41_i, v_r8_sroa_17_sroa_25_i, 16u);
     v_r3_i_sroa_5_0_r5_i_sroa_idx_phi_trans_insert_i = v_r5_i_i + 16;
@@ -31965,19 +32375,19 @@ L_pkcs1_view_RsaPrivateKeyView_other_primes_exit_i:;
     put_u64(v_r12_sroa_18_0_a3_sroa_idx_i, v_r3_i_sroa_5_0_copyload_i);
     { p_v_r9_0_i = 0u; goto L_pkcs1_c_container_pkcs1_c_private_key_info_decode_; }
 L_arm_2_i:;
-    switch (v_15) {
-    case 0u: { p_v_r8_sroa_8_0_ph159_i = v_16; goto L_arm_1_i68_i; }
+    switch (v_20) {
+    case 0u: { p_v_r8_sroa_8_0_ph314_i = v_21; goto L_arm_1_i68_i; }
     case 1u: { p_v_r9_0_i = 18u; goto L_pkcs1_c_container_pkcs1_c_private_key_info_decode_; }
     case 2u: { goto L_arm_3_i_i; }
     case 3u: { goto L_arm_4_i_i; }
     default: { goto L_noarm_5_i_i; }
     }
 L_arm_1_i68_sink_split_i:;
-    v_r8_sroa_8_0_ph159_ph_i = p_v_r8_sroa_8_0_ph159_ph_i;
-    { p_v_r8_sroa_8_0_ph159_i = v_r8_sroa_8_0_ph159_ph_i; goto L_arm_1_i68_i; }
+    v_r8_sroa_8_0_ph314_ph_i = p_v_r8_sroa_8_0_ph314_ph_i;
+    { p_v_r8_sroa_8_0_ph314_i = v_r8_sroa_8_0_ph314_ph_i; goto L_arm_1_i68_i; }
 L_arm_1_i68_i:;
-    v_r8_sroa_8_0_ph159_i = p_v_r8_sroa_8_0_ph159_i;
-    v_switch_idx_cast_i_i_i = (u32)v_r8_sroa_8_0_ph159_i;
+    v_r8_sroa_8_0_ph314_i = p_v_r8_sroa_8_0_ph314_i;
+    v_switch_idx_cast_i_i_i = (u32)v_r8_sroa_8_0_ph314_i;
     v_switch_offset_i_i_i = (u32)((u32)(v_switch_idx_cast_i_i_i) + (u32)(1u));
     { p_v_r9_0_i = v_switch_offset_i_i_i; goto L_pkcs1_c_container_pkcs1_c_private_key_info_decode_; }
 L_arm_3_i_i:;
@@ -42796,7 +43206,7 @@ L_der_core_last_part_LastEncodeValue_prepend_value_0:;
     v_17 = (P)((uintptr_t)v_r20_i_i11_i_i_i_i_i + (u64)(v_a1_val6_i_i_i_i_i));
     v_r26_i_i_i_i_i_i_i = (P)((uintptr_t)v_17 + (u64)(-9));
     v_r8_i_i_i_i_i_i_i_i_i_i_i_i_i = (u64)((uintptr_t)v_r26_i_i_i_i_i_i_i);
-    v_r10_i_i_i_i_i_i_i_i_i_i_i_i_i = (u64)((u64)(v_r8_i_i_i_i_i_i_i_i_i_i_i_i_i) - (u64)((u64)(uintptr_t)(P)f_static_33));
+    v_r10_i_i_i_i_i_i_i_i_i_i_i_i_i = (u64)((u64)(v_r8_i_i_i_i_i_i_i_i_i_i_i_i_i) - (u64)((u64)(uintptr_t)(P)f_static_34));
     v_r11_i_i_i_i_i_i_i_i_i_i_i_i_i = v_r10_i_i_i_i_i_i_i_i_i_i_i_i_i < 9u;
     if (v_r11_i_i_i_i_i_i_i_i_i_i_i_i_i) { goto L_join_7_i_i_i_i_i_i_i_i_i_i_i_preheader_i_i; } else { goto L_apart_2_i_i_i_i_i_i_i_i_i_i_i_i_i; }
 L_join_7_i_i_i_i_i_i_i_i_i_i_i_preheader_i_i:;
@@ -42819,7 +43229,7 @@ L_join_7_i_i_i_i_i_i_i_i_i_i_i_preheader_i_i:;
     put_u8(v_r20_i_i_i_i_i_i_i_i_i_i_i_8_i_i, 10u);
     { goto L_der_core_back_writer_BackWriter_prepend_header_exi__3; }
 L_apart_2_i_i_i_i_i_i_i_i_i_i_i_i_i:;
-    copy(v_r26_i_i_i_i_i_i_i, (P)f_static_33, 9u);
+    copy(v_r26_i_i_i_i_i_i_i, (P)f_static_34, 9u);
     { goto L_der_core_back_writer_BackWriter_prepend_header_exi__3; }
 L_der_core_back_writer_BackWriter_prepend_header_exi__3:;
     v_r17_i_i97_i_i_i_i = (u64)((u64)(v_a1_val6_i_i_i_i_i) + (u64)(18446744073709551605ull));
