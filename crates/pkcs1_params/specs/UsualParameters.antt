@@ -15,7 +15,12 @@ abbrev pub fields_with_hash : List ℕ → List ℕ
 fields_with_hash oid =
     0xa0 ∷ 0x0f ∷ hash_with_null oid ++ 0xa1 ∷ 0x1c ∷ 0x30 ∷ 0x1a ∷ 0x06 ∷ 0x09 ∷ id_mgf1 ++ hash_with_null oid
 
--- The hash function is one of the three, and the octets are those of the two fields with it.
+-- The octets are those of the two fields with one of the three hash functions.
+abbrev pub HaveUsualHash : List ℕ → Type 0
+HaveUsualHash fields =
+    (oid : List ℕ) × ((oid ≡ id_sha256) ⊎ ((oid ≡ id_sha384) ⊎ (oid ≡ id_sha512))) × (fields ≡ fields_with_hash oid)
+
+-- The same, with the hash function itself.
 abbrev pub AreUsual : Algorithm TagAndContents → List ℕ → Type 0
 AreUsual hash fields =
     (oid : List ℕ) × ((oid ≡ id_sha256) ⊎ ((oid ≡ id_sha384) ⊎ (oid ≡ id_sha512)))

@@ -1,19 +1,17 @@
 //! Parameters that begin with SHA-256, SHA-384 or SHA-512, with NULL, and MGF1 with the same hash function. Most do, so
 //! their octets are compared before they are read field by field.
-ghost use Rattle.std.specs.Prelude.{◌≡◌, ◌<◌, ◌∷◌, [], IfSome};
+ghost use Rattle.std.specs.Prelude.{◌≡◌, ◌<◌, ◌∷◌, [], IfSome, IsTrue};
 ghost use Rattle.der_core.specs.Words.{sequence_tag};
-ghost use Rattle.spki_core.specs.Words.{any_of, viewed_with};
-ghost use Rattle.pkcs1_params.specs.Words.{AreUsual, IsUsualOaep, IsUsualOaepEncoding, IsUsualPss, IsUsualPssEncoding};
-ghost use Rattle.pkcs1_params.specs.Words.{oaep_viewed, pss_viewed};
+ghost use Rattle.spki_core.specs.Words.{any_of, mask_in, octets_of, viewed_with};
+ghost use Rattle.pkcs1_params.specs.Words.{AreUsual, HaveUsualHash, IsUsualOaep, IsUsualOaepEncoding, IsUsualPss};
+ghost use Rattle.pkcs1_params.specs.Words.{IsUsualPssEncoding, id_mgf1, oaep_viewed, pss_viewed, with_parameters};
 
-use crate::hash_fields::with_null;
-use crate::hash_functions::{Mgf1, Sha256, Sha384, Sha512};
 use crate::oaep::RsaOaepParamsView;
 use crate::p_source::empty_source;
 use crate::pss::RsaPssParamsView;
 use crate::trailer_field::TrailerField;
-use der_core::NoMemory;
-use spki_core::{AlgorithmView, AnyRef, IdentifierValue, IdentifierView};
+use der_core::{NoMemory, Tag};
+use spki_core::{AlgorithmView, AnyRef, IdentifierView};
 
 /// hashAlgorithm and maskGenAlgorithm with SHA-256.
 const SHA256_FIELDS: &[u8] = &[
@@ -36,16 +34,48 @@ const SHA512_FIELDS: &[u8] = &[
     0x30, 0x0d, 0x06, 0x09, 0x60, 0x86, 0x48, 0x01, 0x65, 0x03, 0x04, 0x02, 0x03, 0x05, 0x00,
 ];
 
-/// The hash function of both fields, if these are their octets.
-fn usual_hash<'a>(fields: &[u8]) -> Option<AlgorithmView<'a, AnyRef<'a>>>
-    ensures { IfSome result (λ hash. AreUsual (viewed_with any_of hash) fields.now) }
+/// Whether these are the octets of both fields with one of the three hash functions.
+#[inline(always)]
+fn have_usual_hash(fields: &[u8]) -> bool
+    ensures { IsTrue result → HaveUsualHash fields.now }
 {
     match fields.get(14).copied() {
-        Some(1) if fields == SHA256_FIELDS => Some(with_null::<Sha256, _, _, _>(NoMemory)),
-        Some(2) if fields == SHA384_FIELDS => Some(with_null::<Sha384, _, _, _>(NoMemory)),
-        Some(3) if fields == SHA512_FIELDS => Some(with_null::<Sha512, _, _, _>(NoMemory)),
-        _ => None,
+        Some(1) => fields == SHA256_FIELDS,
+        Some(2) => fields == SHA384_FIELDS,
+        Some(3) => fields == SHA512_FIELDS,
+        _ => false,
     }
+}
+
+/// Both algorithms over the octets of their fields.
+#[derive(Clone, Copy, Drop)]
+struct UsualAlgorithms<'a> {
+    hash: AlgorithmView<'a, AnyRef<'a>>,
+    mask_gen: AlgorithmView<'a, AlgorithmView<'a, AnyRef<'a>>>,
+}
+
+/// The algorithms in these octets of both fields, if the hash function is one of the three.
+fn usual_algorithms(fields: &[u8]) -> Option<UsualAlgorithms<'_>>
+    ensures hash { IfSome result (λ it. AreUsual (viewed_with any_of it.hash) fields.now) }
+    ensures mask_gen { IfSome result (λ it. mask_in octets_of any_of it.mask_gen
+        ≡ with_parameters id_mgf1 (viewed_with any_of it.hash)) }
+{
+    if !have_usual_hash(fields) {
+        return None;
+    }
+    let hash = AlgorithmView {
+        oid: IdentifierView::over(&fields[6..15]),
+        parameters: Some(AnyRef::new(Tag::NULL, &fields[17..17]).ok()?),
+    };
+    let under = AlgorithmView {
+        oid: IdentifierView::over(&fields[36..45]),
+        parameters: Some(AnyRef::new(Tag::NULL, &fields[47..47]).ok()?),
+    };
+    let mask_gen = AlgorithmView {
+        oid: IdentifierView::over(&fields[23..32]),
+        parameters: Some(under),
+    };
+    Some(UsualAlgorithms { hash, mask_gen })
 }
 
 /// The salt length in these octets of its field, if it is below 128.
@@ -61,7 +91,7 @@ fn usual_salt(field: &[u8]) -> Option<u8>
 
 /// The parameters with these contents octets, if they are the two fields and a salt length below 128.
 #[inline(always)]
-pub(crate) fn usual_pss<'a>(contents: &[u8]) -> Option<RsaPssParamsView<'a>>
+pub(crate) fn usual_pss(contents: &[u8]) -> Option<RsaPssParamsView<'_>>
     ensures { IfSome result (λ v. IsUsualPss (pss_viewed v) contents.now) }
 {
     if contents.len() != 52 {
@@ -69,13 +99,10 @@ pub(crate) fn usual_pss<'a>(contents: &[u8]) -> Option<RsaPssParamsView<'a>>
     }
     let (fields, field) = contents.split_at(47);
     let salt_len = usual_salt(field)?;
-    let hash = usual_hash(fields)?;
+    let algorithms = usual_algorithms(fields)?;
     Some(RsaPssParamsView {
-        hash,
-        mask_gen: AlgorithmView {
-            oid: IdentifierView::named::<Mgf1>(),
-            parameters: Some(hash),
-        },
+        hash: algorithms.hash,
+        mask_gen: algorithms.mask_gen,
         salt_len,
         trailer_field: TrailerField::BC,
     })
@@ -83,16 +110,13 @@ pub(crate) fn usual_pss<'a>(contents: &[u8]) -> Option<RsaPssParamsView<'a>>
 
 /// The parameters with these contents octets, if they are the two fields.
 #[inline(always)]
-pub(crate) fn usual_oaep<'a>(contents: &[u8]) -> Option<RsaOaepParamsView<'a>>
+pub(crate) fn usual_oaep(contents: &[u8]) -> Option<RsaOaepParamsView<'_>>
     ensures { IfSome result (λ v. IsUsualOaep (oaep_viewed v) contents.now) }
 {
-    let hash = usual_hash(contents)?;
+    let algorithms = usual_algorithms(contents)?;
     Some(RsaOaepParamsView {
-        hash,
-        mask_gen: AlgorithmView {
-            oid: IdentifierView::named::<Mgf1>(),
-            parameters: Some(hash),
-        },
+        hash: algorithms.hash,
+        mask_gen: algorithms.mask_gen,
         p_source: empty_source(NoMemory),
     })
 }
@@ -112,7 +136,7 @@ fn behind_header(bytes: &[u8], length: u8) -> Option<&[u8]>
 
 /// The parameters with this encoding, as of `usual_pss`.
 #[inline(always)]
-pub(crate) fn usual_pss_encoding<'a>(bytes: &[u8]) -> Option<RsaPssParamsView<'a>>
+pub(crate) fn usual_pss_encoding(bytes: &[u8]) -> Option<RsaPssParamsView<'_>>
     ensures { IfSome result (λ v. IsUsualPssEncoding (pss_viewed v) bytes.now) }
 {
     usual_pss(behind_header(bytes, 52)?)
@@ -120,7 +144,7 @@ pub(crate) fn usual_pss_encoding<'a>(bytes: &[u8]) -> Option<RsaPssParamsView<'a
 
 /// The parameters with this encoding, as of `usual_oaep`.
 #[inline(always)]
-pub(crate) fn usual_oaep_encoding<'a>(bytes: &[u8]) -> Option<RsaOaepParamsView<'a>>
+pub(crate) fn usual_oaep_encoding(bytes: &[u8]) -> Option<RsaOaepParamsView<'_>>
     ensures { IfSome result (λ v. IsUsualOaepEncoding (oaep_viewed v) bytes.now) }
 {
     usual_oaep(behind_header(bytes, 47)?)

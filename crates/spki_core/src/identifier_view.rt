@@ -27,9 +27,9 @@ pub struct IdentifierView<'a> {
 impl<'a> IdentifierView<'a> {
     ghost use Rattle.spki_core.specs.ObjectIdentifierValue.{own_octets_of, octets_of};
 
-    /// The octets are known to be valid.
+    /// The identifier with these contents octets, which are known to be one. `from_bytes` tests them.
     #[inline(always)]
-    pub(crate) fn over(octets: &'a [u8]) -> IdentifierView<'a>
+    pub fn over(octets: &'a [u8]) -> IdentifierView<'a>
         requires { IsTrue (specs.is_identifier octets.now) }
         ensures { octets_of result ≡ octets.now }
     {
