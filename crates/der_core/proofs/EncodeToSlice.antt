@@ -1,6 +1,6 @@
 -- What a call leaves in the slice that it answers the front of, from what the calls in it say.
 use Rattle.std.proofs.Common.{◌≡◌, ℕ, ◌≤◌, ◌++◌, List, [], ◌∷◌, length, take, drop, sym, ap, subst, arith, ◌∙◌, Result}
-use Rattle.std.proofs.Common.{Ok, Err, IfOk, IfErr, OnOk, OnErr, MatchResult, length-append}
+use Rattle.std.proofs.Common.{Ok, Err, IfOk, IfErr, OnOk, OnErr, MatchResult, length-append, length-take}
 use Rattle.std.proofs.Math.Seq.{take-append_seam}
 use Rattle.std.specs.Bool.{⊤}
 use Rattle.std.specs.Borrow.{Bor, MutBor, u8, Array}
@@ -54,6 +54,13 @@ module _ {E : Type 0} (encoding xs ys : List ℕ) where
   on_front H P f (Ok n) (Err e) w h a = absurd a
   on_front H P f (Err e) (Ok front) w h a = absurd a
   on_front H P f (Err e) (Err e') w h a = tt
+
+  pub within : length ys ≡ length xs → (r : Result ℕ E) (t : Result (Bor (List ℕ)) E) → IsFront ys r t
+      → IfOk t (λ front. length front.now ≤ length xs)
+  within l (Ok n) (Ok front) a = rw a (omega (arith, length-take n ys))
+  within l (Ok n) (Err e) a = absurd a
+  within l (Err e) (Ok front) a = absurd a
+  within l (Err e) (Err e') a = tt
 
 pub on_error : {E : Type 0} (ys : List ℕ) (Q : E → Type 0) (r : Result ℕ E) (t : Result (Bor (List ℕ)) E) → IfErr r Q
     → IsFront ys r t → IfErr t Q

@@ -7,6 +7,7 @@ pub mod Documents
 pub mod DocumentRows
 pub mod ItemReads
 pub mod ReadSteps
+pub mod BitLength
 pub mod Counting
 pub mod Encodings
 pub mod FrontParts

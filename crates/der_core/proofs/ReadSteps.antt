@@ -263,6 +263,7 @@ module _ {X V : Type 0} (value : X → V) {encoding : V → List ℕ → Type 0}
 
   pub reads_all : (may : List ℕ → Type 0) (r : Result X Error) → AreBytes b
       → Returns value (whole at b) (AllocatesIn may b) r → ReadsAll value encoding may r b
-  reads_all may (Ok x) bytes p = law.gives b (value x) bytes p
+  reads_all may (Ok x) bytes p =
+      (law.gives b (value x) bytes p, λ w m. let same : Ok w ≡ Ok (value x) = sym (law.takes b w m.0 m) ∙ p in cc)
   reads_all may (Err e) bytes (inl w) = inl w
   reads_all may (Err e) bytes (inr p) = inr (law.tells b e.kind p, none_meant p)

@@ -139,6 +139,12 @@ pub record ReadsContents {V : Type 0} (contents : V → List ℕ → Type 0) (re
   pub takes : (c : List ℕ) (v : V) → length c ≤ limit → contents v c → read c ≡ Ok v
   pub tells : (c : List ℕ) (k : ErrorKind) → read c ≡ Err k → TellsOfBytes k
 
+-- The function gives what the relation says of the bytes, of the value and of what is left behind it, and nothing else.
+pub record ReadsBy {V : Type 0} (Read : List ℕ → V → List ℕ → Type 0) (at : FrontReading V) : Type 0 where
+  pub gives : (i rest : List ℕ) (v : V) → AreBytes i → at i ≡ Ok (v, rest) → Read i v rest
+  pub takes : (i rest : List ℕ) (v : V) → length i ≤ limit → Read i v rest → at i ≡ Ok (v, rest)
+  pub tells : (i : List ℕ) (k : ErrorKind) → at i ≡ Err k → TellsOfBytes k
+
 -- The same of encodings at the front.
 pub record ReadsFronts {V : Type 0} (encoding : V → List ℕ → Type 0) (at : FrontReading V) : Type 0 where
   pub gives : (i rest : List ℕ) (v : V) → AreBytes i → at i ≡ Ok (v, rest)

@@ -11,20 +11,21 @@ pub use Rattle.der_core.specs.ErrorText.{kind_text}
 pub use Rattle.der_core.specs.Files.{FileFault, FileGives, FileRefuses, FileTakes, Obtains}
 pub use Rattle.der_core.specs.Headers.{HeaderEncoding, LengthEncoding}
 pub use Rattle.der_core.specs.Input.{Input, Reads, end_of, front_of, header_at, inner_of, left_in, length_at, octet_at}
-pub use Rattle.der_core.specs.Integer.{Integer, IntegerContents, IsCanonical, SmallContents, integer_contents}
+pub use Rattle.der_core.specs.Integer.{Integer, IntegerContents, IsBitLength, IsCanonical, SmallContents}
+pub use Rattle.der_core.specs.Integer.{integer_contents}
 pub use Rattle.der_core.specs.IntegerReading.{Answers, integer_of, small_of}
 pub use Rattle.der_core.specs.Length.{IsLength, length_octets, limit, tlv_len}
 pub use Rattle.der_core.specs.OctetString.{OctetContents}
 pub use Rattle.der_core.specs.OctetStringRefValue.{octets_of}
-pub use Rattle.der_core.specs.Optional.{HasOptional, Optional, written_optional}
+pub use Rattle.der_core.specs.Optional.{HasOptional, IsNext, Optional, OptionalRead, written_optional}
 pub use Rattle.der_core.specs.Parts.{AllocatesInFront, AllocatesInParts, HaveParts, IsToldApart, LastContents, NoParts}
 pub use Rattle.der_core.specs.Parts.{PartsContents, written_parts}
 pub use Rattle.der_core.specs.Reading.{AllocatesForItems, AllocatesIn, AllocatesLast, FaultOrMemory, HoldsBytes, NoneIn}
 pub use Rattle.der_core.specs.Reading.{ReadsAll, ReadsEncoding, ReadsFront, ReadsRow, ReadsWhole, NoValueOrMemory, Returns}
 pub use Rattle.der_core.specs.Reading.{TellsNext, TellsOfBytes}
-pub use Rattle.der_core.specs.Readings.{FrontReading, Reading, ReadsContents, ReadsFronts, alone, expected, front_done}
-pub use Rattle.der_core.specs.Readings.{front_made, front_parts, items, last, made, no_parts, optional, parts, such}
-pub use Rattle.der_core.specs.Readings.{tagged, whole, ◌>>=◌}
+pub use Rattle.der_core.specs.Readings.{FrontReading, Reading, ReadsBy, ReadsContents, ReadsFronts, alone, expected}
+pub use Rattle.der_core.specs.Readings.{front_done, front_made, front_parts, items, last, made, no_parts, optional}
+pub use Rattle.der_core.specs.Readings.{parts, such, tagged, whole, ◌>>=◌}
 pub use Rattle.der_core.specs.SequenceOf.{AllHave, ItemsContents, all_encodings}
 pub use Rattle.der_core.specs.SliceReaders.{left_of}
 pub use Rattle.der_core.specs.SourcesSinks.{AppendsFront, CountsFailure, GivesAll, GivesMore, GivesSome, OneFailed}

@@ -112,6 +112,7 @@ pub trait Encode: Encoding {
         ensures* leaves { sem 𝓛 (LeavesRest out.entry (Self.written_encoding (Self.value self.now)) result) }
         ensures ok { IfOk result (λ s. s.now ≡ Self.written_encoding (Self.value self.now)) }
         ensures shortest { IfOk result (λ s. IsShortest Self.encoding (Self.value self.now) s.now) }
+        ensures room { IfOk result (λ s. length s.now ≤ length out.old) }
         ensures err { let v = Self.value self.now in
             IfErr result (λ e. WhyNotWritten (Self.has_encoding v) Self.encoding v (length out.old)
             (encode_error e.kind)) }

@@ -2,7 +2,8 @@
 ghost use Rattle.std.specs.Prelude.{◌≡◌, ℕ, true, false};
 ghost use Rattle.std.specs.Bool.{Decides};
 ghost use Rattle.std.specs.Ordering.{nat_cmp};
-ghost use Rattle.der_core.specs.Words.{encoding_of, ReadsContents, ReadsFronts, octets_of};
+ghost use Rattle.der_core.specs.Words.{encoding_of, octets_of, LastContents, OptionalRead, Tlv};
+ghost use Rattle.der_core.specs.Words.{ReadsBy, ReadsContents, ReadsFronts, alone, last, optional, tagged};
 ghost use Rattle.der_core.specs.Words.{integer, sequence, bytes_of};
 ghost use Rattle.der_core.specs.declared.document.DocumentOf as documents;
 ghost use Rattle.der_core.specs.declared.document.Open as marks;
@@ -16,7 +17,7 @@ ghost use Rattle.der_core.specs.declared.tag.TagNumber as tags;
 
 use crate::document::{DocumentOf, Open};
 use crate::error::{Error, ErrorKind};
-use crate::grammar::{Contents, Encoding};
+use crate::grammar::{Contents, Encoding, FixedTag};
 use crate::header::Header;
 use crate::integer::UintRef;
 use crate::length::Length;
@@ -71,4 +72,16 @@ pub fn lemma_contents_are_read<T: Contents>()
 /// A type's function reads the encodings of its grammar and no others, and its faults are about the bytes.
 pub fn lemma_encodings_are_read<T: Encoding>()
     ensures { ReadsFronts T.encoding T.read_front }
+{}
+
+/// What `decode_whole` reads is one encoding, what `decode_last` reads one or none.
+pub fn lemma_last_parts_are_read<T: Encoding>()
+    ensures whole { ReadsContents T.encoding (alone T.read_front) }
+    ensures last { ReadsContents (LastContents T.encoding) (last T.read_front) }
+{}
+
+/// What `decode_optional` reads is an encoding, or nothing where the octet of the tag isn't next.
+pub fn lemma_optional_parts_are_read<T: Contents + FixedTag>()
+    ensures { ReadsBy (OptionalRead T.TAG.octet (λ v. Tlv T.TAG.octet (T.contents v)))
+        (optional T.TAG.octet (tagged T.TAG T.read)) }
 {}

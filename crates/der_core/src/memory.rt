@@ -5,7 +5,7 @@ ghost use Rattle.der_core.specs.declared.error.ErrorKind.{ErrorKind};
 use crate::error::Result;
 use std::alloc::Global;
 
-/// The memory that a reading call may allocate from: `NoMemory` or `Global`.
+/// The memory that a reading call may allocate from, as `NoMemory` or `Global`.
 pub trait Memory: Copy + Drop {}
 
 /// Nothing is allocated. Types that borrow from the input need no more.

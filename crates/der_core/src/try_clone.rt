@@ -8,19 +8,19 @@ use std::alloc::Global;
 
 /// A type whose values are copied into allocated memory.
 pub trait TryClone: Encoding + Sized + Drop {
-    /// The values that are copied without allocating.
-    ghost allocates_nothing: { Self → Type 0 };
+    /// The values whose copying never returns `OutOfMemory`.
+    ghost never_out_of_memory: { Self → Type 0 };
 
-    /// Returns a copy that means the same value, or `OutOfMemory`, which only values that need an allocation return.
+    /// Returns a copy that means the same value, or `OutOfMemory`.
     fn try_clone(&self, alloc: Global) -> Result<Self>
         ensures ok { IfOk result (λ copy. Self.value copy ≡ Self.value self.now) }
         ensures err { IfErr result (λ e. e.kind ≡ ErrorKind.OutOfMemory) }
-        ensures may_allocate { allocates_nothing self.now → IsOk result };
+        ensures may_allocate { never_out_of_memory self.now → IsOk result };
 }
 
 /// Copies each item, in order.
 impl<T: TryClone> TryClone for Vec<T> {
-    ghost allocates_nothing = { λ items. length items.items ≡ 0 };
+    ghost never_out_of_memory = { λ items. length items.items ≡ 0 };
 
     fn try_clone(&self, alloc: Global) -> Result<Vec<T>> {
         let mut copies = Vec::new(alloc);

@@ -48,8 +48,8 @@ fn clone_four<U: TryClone>(a: &U, b: &U, c: &U, d: &U, alloc: Global) -> Result<
     ensures ok { IfOk result (λ copies. (U.value copies.0 ≡ U.value a.now) × (U.value copies.1 ≡ U.value b.now)
         × (U.value copies.2 ≡ U.value c.now) × (U.value copies.3 ≡ U.value d.now)) }
     ensures err { IfErr result (λ e. e.kind ≡ ErrorKind.OutOfMemory) }
-    ensures may_allocate { U.allocates_nothing a.now → U.allocates_nothing b.now
-        → U.allocates_nothing c.now → U.allocates_nothing d.now → IsOk result }
+    ensures may_allocate { U.never_out_of_memory a.now → U.never_out_of_memory b.now
+        → U.never_out_of_memory c.now → U.never_out_of_memory d.now → IsOk result }
 {
     Ok((
         a.try_clone(alloc)?,
@@ -62,9 +62,9 @@ fn clone_four<U: TryClone>(a: &U, b: &U, c: &U, d: &U, alloc: Global) -> Result<
 impl<U: TryClone> TryClone for RsaPrivateKey<U> {
     ghost use Rattle.std.specs.Prelude.{None};
 
-    ghost allocates_nothing = { λ key. U.allocates_nothing key.modulus × U.allocates_nothing key.public_exponent
-        × U.allocates_nothing key.private_exponent × U.allocates_nothing key.prime1 × U.allocates_nothing key.prime2
-        × U.allocates_nothing key.exponent1 × U.allocates_nothing key.exponent2 × U.allocates_nothing key.coefficient
+    ghost never_out_of_memory = { λ key. U.never_out_of_memory key.modulus × U.never_out_of_memory key.public_exponent
+        × U.never_out_of_memory key.private_exponent × U.never_out_of_memory key.prime1 × U.never_out_of_memory key.prime2
+        × U.never_out_of_memory key.exponent1 × U.never_out_of_memory key.exponent2 × U.never_out_of_memory key.coefficient
         × (key.other_prime_infos ≡ None) };
 
     fn try_clone(&self, alloc: Global) -> Result<RsaPrivateKey<U>> {

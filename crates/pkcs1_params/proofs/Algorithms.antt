@@ -8,8 +8,10 @@ use Rattle.std.proofs.lemmas.Slice.Eq.{bytes_eq-Decides}
 use Rattle.der_core.specs.Document.{Means, HasEncoding, IsShortest, WhyNotWritten, EncodeError, no_encoding, too_long}
 use Rattle.der_core.specs.Document.{no_room, another}
 use Rattle.der_core.specs.Encodings.{Is, IsOfBytes, MeansOne, Then}
-use Rattle.der_core.specs.Laws.Encodings.{tlv_of_bytes, tlv_split, joins_last, tlv_relates}
+use Rattle.der_core.specs.Laws.Encodings.{tlv_of_bytes, tlv_split, joins_last, last_holds, tlv_relates}
+use Rattle.der_core.specs.declared.error.ErrorKind.{ErrorKind}
 use Rattle.der_core.proofs.Encodings.{tlv_made, tlv_length}
+use Rattle.der_core.proofs.ContentsShorter.{contents_shorter}
 use Rattle.der_core.proofs.FrontsAreUnique.{front_is}
 use Rattle.der_core.specs.Laws.ContentsShorter.{tlv_recast}
 use Rattle.der_core.specs.Laws.Length.{length_octets-short}
@@ -18,7 +20,7 @@ use Rattle.der_core.proofs.Readings.{whole_reads}
 use Rattle.der_core.specs.Laws.ShortEncodings.{tlv_short}
 use Rattle.der_core.specs.Laws.Shortest.{means_one}
 use Rattle.der_core.specs.Laws.TaggedReadings.{tagged_reads}
-use Rattle.der_core.specs.Length.{length_octets}
+use Rattle.der_core.specs.Length.{length_octets, limit}
 use Rattle.der_core.specs.Reading.{AllocatesIn}
 use Rattle.der_core.specs.Readings.{Reading, ReadsContents, ◌>>=◌, octets_of_all}
 use Rattle.der_core.specs.Tag.{sequence_tag}
@@ -34,16 +36,18 @@ use Rattle.spki_core.specs.Laws.FieldEncodings.{fields_of_bytes as joins_of_byte
 use Rattle.spki_core.specs.Laws.Readings.{oid_reads}
 use Rattle.spki_core.specs.ObjectIdentifier.{IsIdentifier, ObjectIdentifier}
 use Rattle.spki_core.specs.StrictFields.{first_default, unless_found}
-use Rattle.pkcs1_params.specs.Algorithms.{AlgorithmOf, Identifies, encoded_parameters}
-use Rattle.pkcs1_params.specs.Algorithms.{strict_algorithm}
-use Rattle.pkcs1_params.proofs.AlgorithmsLaws.{algorithm_of_plain, plain_of_algorithm, same_parameters}
+use Rattle.pkcs1_params.specs.Algorithms.{AlgorithmOf, Identifies, NamesFirstDefaultIn, encoded_parameters, identified}
+use Rattle.pkcs1_params.specs.Algorithms.{strict_algorithm, whole_algorithm}
+use Rattle.pkcs1_params.proofs.AlgorithmsLaws.{algorithm_of_plain, plain_of_algorithm, same_parameters, with_encoded}
 use Rattle.pkcs1_params.proofs.AlgorithmsLaws.{parameters_shorter, parameters_in, shortest_of}
+use Rattle.pkcs1_params.proofs.StrictParameters.{first_named}
+use Rattle.pkcs1_params.specs.Laws.ParameterReadings.{plain_reads}
 use Rattle.pkcs1_params.proofs.FaultsTold.{errs_behind}
 use Rattle.pkcs1_params.specs.Laws.FieldValues.{fields_of_bytes}
 use Rattle.pkcs1_params.specs.MaskedValues.{FieldContents}
 use Rattle.pkcs1_params.specs.Meanings.{ErrsAs, IsNoSentence, IsTheMeaning, IsTheOnly}
 use Rattle.pkcs1_params.specs.Parameters.{with_parameters}
-use Rattle.pkcs1_params.specs.Parts.{FieldValue, Fielded, fields_with}
+use Rattle.pkcs1_params.specs.Parts.{AreNumbered, FieldValue, Fielded, defaults_with, fields_with}
 use Rattle.pkcs1_params.specs.declared.error.Error.{Error}
 
 -- Reading an identifier with borrowed parameters never asks for memory.
@@ -157,6 +161,38 @@ pub encoded_is : (oid y b : List ℕ) → Means (AlgorithmOf oid Is) b y → enc
 encoded_is oid y b m =
     let q = m.1.holds in
     encoded_reads.takes b y m.0 (m.0, tlv_recast b m.1 (oid, (q.0, q.1, q.2, joins_last q.1 q.3, q.4)))
+
+-- An identifier of this algorithm is read, as its parameters are.
+pub algorithm_taken : {V : Type 0} {contents : V → List ℕ → Type 0} {read : Reading V} → ReadsContents contents read
+    → IsOfBytes contents → (oid : List ℕ) (v : V) (b : List ℕ)
+    → Means (AlgorithmOf oid (λ (v : V) c. Tlv 48 (contents v) c)) b v → whole_algorithm oid read b ≡ Ok v
+algorithm_taken {read = read} law bytes oid v b m =
+    let q = m.1.holds in
+    let p = joins_last q.1 q.3 in
+    let any : TagAndContents = record { tag = sequence_tag; contents = p.contents } in
+    let there : Any any q.1 = ((sequence.allowed, bytes v p.contents p.holds), tlv_recast q.1 p refl) in
+    let plain : PlainAlgorithm (with_parameters oid any) b =
+    tlv_recast b m.1 (q.0, q.1, q.2, last_holds q.1 there, q.4) in
+    let few : length p.contents ≤ limit =
+    omega (arith, m.0, contents_shorter b m.1, contents_shorter q.1 p, ap length q.4, length-append q.0 q.1) in
+    let same : bytes_eq oid oid ≡ true = (bytes_eq-Decides oid oid).1 refl in
+    ap (λ r. r >>= identified oid read) ((whole_reads plain_reads).takes b (with_parameters oid any) m.0 (m.0, plain))
+    ∙ rw same (law.takes p.contents v few p.holds)
+
+-- Where the first default that is written stands in the parameters.
+module _ {V : Type 0} (values : V → List FieldValue) (numbered : (v : V) → AreNumbered 0 (values v))
+    {read : Reading V} (law : ReadsContents (FieldContents values) read) (oid : List ℕ) where
+  pub first_named_in : NamesFirstDefaultIn oid (fields_with values)
+      (strict_algorithm (defaults_with values) (whole_algorithm oid read))
+  first_named_in v n tag parameters encoding stands few fields writes is =
+      let holds = with_encoded (Fielded values) oid v parameters encoding fields stands in
+      let within : length parameters ≤ limit = omega (arith, few, parameters_shorter oid parameters encoding stands) in
+      let found : V → List ℕ → Result V ErrorKind =
+      λ v parameters. unless_found (first_default (defaults_with values v) parameters) v in
+      ap (λ r. r >>= λ v. encoded_parameters encoding >>= found v)
+      (algorithm_taken law (fields_are_bytes values) oid v encoding (few, holds))
+      ∙ ap (λ r. r >>= found v) (encoded_is oid parameters encoding (few, stands))
+      ∙ first_named values numbered v parameters (within, fields) n tag writes is
 
 -- Strict reading: a default may be written in the encoding of the parameters.
 pub strict_behind : {V X : Type 0} (marks : V → List Bool) (read : Reading V) (oid b y : List ℕ) (v : V)

@@ -1,9 +1,14 @@
 -- Strict reading of parameters.
-use Rattle.std.proofs.Common.{ℕ, Bool, true, false, List, [], ◌∷◌, ◌≡◌, ◌+◌, refl, sym, Some, None, Option}
+use Rattle.std.proofs.Common.{ℕ, Bool, true, false, List, [], ◌∷◌, ◌≡◌, ◌+◌, ◌∙◌, refl, sym, ap, Some, None}
+use Rattle.std.proofs.Common.{Option, Err}
+use Rattle.der_core.specs.declared.error.ErrorKind.TheVariants.{Noncanonical}
+use Rattle.der_core.specs.declared.tag.Tag.{Tag}
 use Rattle.der_core.specs.Document.{Means, IsShortest}
 use Rattle.der_core.specs.Input.{header_at, length_at}
-use Rattle.spki_core.specs.StrictFields.{first_default, walked}
-use Rattle.spki_core.proofs.StrictWalk.{FoundIn, encoding_finds, none_found, found_longer}
+use Rattle.der_core.specs.Tag.{context_tag}
+use Rattle.spki_core.specs.StrictFields.{WritesDefault, first_default, unless_found, walked}
+use Rattle.spki_core.proofs.StrictWalk.{FoundIn, encoding_finds, found_first, found_longer, noncanonical_is}
+use Rattle.spki_core.proofs.StrictWalk.{none_found}
 use Rattle.pkcs1_params.specs.Laws.FieldValues.{fields_of_bytes, in_order, marked}
 use Rattle.pkcs1_params.proofs.FieldValues.{ordered}
 use Rattle.pkcs1_params.specs.Laws.Parts.{parts_counted}
@@ -42,3 +47,11 @@ module _ {V : Type 0} (values : V → List FieldValue) (numbered : (v : V) → A
       let k =
       parts_counted (parts_of (values v)) in
       none_found (fields_with values) (ordered values numbered) v k.0 encoding k.1 means.0 (found_is None is)
+
+  pub first_named : (n : ℕ) (tag : Tag) → WritesDefault (fields_with values v) n encoding → tag.octet ≡ context_tag n
+      → unless_found (first_default (defaults_with values v) encoding) v ≡ Err (Noncanonical tag)
+  first_named n tag writes is =
+      let k = parts_counted (parts_of (values v)) in
+      let found = found_first (fields_with values v) (ordered values numbered v) k.0 n encoding _ k.1
+      (found_is _ refl) writes in
+      ap (λ o. unless_found o v) found ∙ ap (λ k. Err k) (noncanonical_is n tag is)

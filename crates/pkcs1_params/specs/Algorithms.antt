@@ -4,19 +4,20 @@ use Rattle.std.specs.Prelude.{ℕ, Bool, List, [], ◌∷◌, ◌≡◌, ◌≤�
 use Rattle.std.specs.Prelude.{if◌then◌else◌}
 use Rattle.std.specs.Str.{bytes_eq}
 use Rattle.der_core.specs.declared.error.ErrorKind.{ErrorKind}
-use Rattle.der_core.specs.declared.error.ErrorKind.TheVariants.{OidUnknown, ParametersMissing}
+use Rattle.der_core.specs.declared.error.ErrorKind.TheVariants.{Noncanonical, OidUnknown, ParametersMissing}
 use Rattle.der_core.specs.Document.{Spellings}
 use Rattle.der_core.specs.Encodings.{Is}
 use Rattle.der_core.specs.Length.{limit}
 use Rattle.der_core.specs.Members.{HasMembers}
 use Rattle.der_core.specs.Readings.{Reading, ◌>>=◌, chain, octets_of_all, tagged, whole}
-use Rattle.der_core.specs.Tag.{sequence_tag}
+use Rattle.der_core.specs.Tag.{context_tag, sequence_tag}
+use Rattle.der_core.specs.declared.tag.Tag.{Tag}
 use Rattle.der_core.specs.Tags.{object_identifier, sequence}
 use Rattle.spki_core.specs.AlgorithmIdentifier.{Algorithm, AlgorithmIdentifier}
 use Rattle.spki_core.specs.Any.{TagAndContents}
 use Rattle.spki_core.specs.Explicit.{Field, FieldSequence, HaveDefaults, AllExplicit}
 use Rattle.spki_core.specs.Readings.{any_as, identifier_read}
-use Rattle.spki_core.specs.StrictFields.{first_default, unless_found}
+use Rattle.spki_core.specs.StrictFields.{WritesDefault, first_default, unless_found}
 use Rattle.pkcs1_params.specs.ParameterReadings.{oaep_read, plain_front, pss_read}
 use Rattle.pkcs1_params.specs.Parameters.{with_parameters, PssParameters, RsaPssParams}
 use Rattle.pkcs1_params.specs.Parameters.{OaepParameters, RsaOaepParams}
@@ -88,3 +89,14 @@ AreCountedIn {V} oid fields =
     AlgorithmOf oid Is all encoding →
     length encoding ≤ limit →
     HasMembers (Spellings (AlgorithmOf oid (λ w. FieldSequence (fields w))) v) (2 ^ k)
+
+-- What reads shortest identifiers alone gives the tag of the first default that is written in the parameters.
+abbrev pub NamesFirstDefaultIn : {V : Type 0} → List ℕ → (V → List Field) → Reading V → Type 0
+NamesFirstDefaultIn {V} oid fields strictly =
+    (v : V) (n : ℕ) (tag : Tag) (parameters encoding : List ℕ) →
+    AlgorithmOf oid Is parameters encoding →
+    length encoding ≤ limit →
+    FieldSequence (fields v) parameters →
+    WritesDefault (fields v) n parameters →
+    tag.octet ≡ context_tag n →
+    strictly encoding ≡ Err (Noncanonical tag)

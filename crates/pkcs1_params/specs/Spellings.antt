@@ -1,15 +1,19 @@
 -- The encodings of a SEQUENCE of fields with defaults: one under each mask, the shortest under mask 0.
 use Rattle.std.specs.Global.{Vec}
-use Rattle.std.specs.Prelude.{ℕ, List, [], ◌≡◌, ◌<◌, ◌≤◌, ◌^◌, ◌↔◌, ◌⊎◌, length, map, slice_index_or}
+use Rattle.std.specs.Prelude.{ℕ, List, [], ◌≡◌, ◌<◌, ◌≤◌, ◌^◌, ◌↔◌, ◌⊎◌, Err, length, map, slice_index_or}
 use Rattle.der_core.specs.Length.{limit}
 use Rattle.der_core.specs.Document.{Spellings, IsShortest, EncodeError, no_encoding, too_long, no_room, another}
 use Rattle.der_core.specs.declared.error.ErrorKind.{ErrorKind}
 use Rattle.der_core.specs.declared.error.ErrorKind.TheVariants as kind
 use Rattle.der_core.specs.Writing.{encode_error}
 use Rattle.der_core.specs.Members.{AreTheMembers, HasMembers}
+use Rattle.der_core.specs.Readings.{Reading}
+use Rattle.der_core.specs.Tag.{context_tag}
+use Rattle.der_core.specs.declared.tag.Tag.{Tag}
 use Rattle.pkcs1_params.specs.declared.error.Error.{Error}
 use Rattle.pkcs1_params.specs.Errors.{IsAsn1}
 use Rattle.spki_core.specs.Explicit.{Field, FieldSequence, HaveDefaults, Masked, AllExplicit}
+use Rattle.spki_core.specs.StrictFields.{WritesDefault}
 
 -- The spelling under a mask.
 abbrev pub IsSpelling : List Field → ℕ → List ℕ → Type 0
@@ -126,3 +130,12 @@ WhyNotListed fields e = ((e ≡ kind.OutOfMemory) × AllFit fields) ⊎ ((e ≡ 
 
 abbrev pub IsListingError : List Field → Error → Type 0
 IsListingError fields = IsAsn1 (λ e. WhyNotListed fields e.kind)
+
+-- What reads shortest encodings alone gives the tag of the first default that is written, in an encoding of a value.
+abbrev pub NamesFirstDefault : {V : Type 0} → (V → List Field) → Reading V → Type 0
+NamesFirstDefault {V} fields strictly =
+    (v : V) (n : ℕ) (tag : Tag) (encoding : List ℕ) →
+    Spellings (λ w. FieldSequence (fields w)) v encoding →
+    WritesDefault (fields v) n encoding →
+    tag.octet ≡ context_tag n →
+    strictly encoding ≡ Err (kind.Noncanonical tag)

@@ -2,7 +2,7 @@
 pub use Rattle.pkcs1_params.specs.Algorithms.{AlgorithmOf, AreCountedIn, Identifies, RsaOaepAlgorithm}
 pub use Rattle.pkcs1_params.specs.Algorithms.{RsaPssAlgorithm, id_rsaes_oaep, id_rsassa_pss, identified}
 pub use Rattle.pkcs1_params.specs.Algorithms.{rsa_oaep_algorithm, rsa_pss_algorithm, strict_algorithm}
-pub use Rattle.pkcs1_params.specs.Algorithms.{strict_oaep_algorithm, strict_pss_algorithm, whole_algorithm}
+pub use Rattle.pkcs1_params.specs.Algorithms.{NamesFirstDefaultIn, strict_oaep_algorithm, strict_pss_algorithm, whole_algorithm}
 pub use Rattle.pkcs1_params.specs.Allocating.{HasOctets, HasParameters, HashesHaveOctets, OaepAllocates}
 pub use Rattle.pkcs1_params.specs.Allocating.{OwnedOaepAllocates, OwnedPssAllocates, PssAllocates}
 pub use Rattle.pkcs1_params.specs.DefaultBits.{bit_of, bits_of}
@@ -21,8 +21,8 @@ pub use Rattle.pkcs1_params.specs.OaepValue.{oaep_in, oaep_of, oaep_viewed, oaep
 pub use Rattle.pkcs1_params.specs.ParameterReadings.{oaep_read, pss_read, rsa_oaep_params}
 pub use Rattle.pkcs1_params.specs.ParameterReadings.{rsa_pss_params, strict_oaep_params, strict_pss_params}
 pub use Rattle.pkcs1_params.specs.ParameterReadings.{trailer_read}
-pub use Rattle.pkcs1_params.specs.UsualParameters.{AreUsual, IsUsualOaep, IsUsualOaepEncoding, IsUsualPss}
-pub use Rattle.pkcs1_params.specs.UsualParameters.{IsUsualPssEncoding}
+pub use Rattle.pkcs1_params.specs.UsualParameters.{AreUsual, HaveUsualHash, IsUsualOaep, IsUsualOaepEncoding}
+pub use Rattle.pkcs1_params.specs.UsualParameters.{IsUsualPss, IsUsualPssEncoding}
 pub use Rattle.pkcs1_params.specs.Parameters.{OaepContents, OaepParameters, PssContents, PssParameters, RsaOaepParams}
 pub use Rattle.pkcs1_params.specs.Parameters.{RsaPssParams, TrailerContents, empty_label, id_mgf1, id_p_specified}
 pub use Rattle.pkcs1_params.specs.Parameters.{id_rsa_encryption, id_sha1, mgf1_sha1, oaep_fields, octets_value}

@@ -1,5 +1,5 @@
 //! The fields and the spellings of RSAES-OAEP parameters.
-ghost use Rattle.std.specs.Prelude.{length, OnOk, IfOk, IfErr};
+ghost use Rattle.std.specs.Prelude.{◌≤◌, length, OnOk, IfOk, IfErr};
 ghost use Rattle.spki_core.specs.Words.{HaveDefaults};
 ghost use Rattle.pkcs1_params.specs.Words.{oaep_means_one, oaep_in, oaep_numbered, oaep_read, OaepParameters};
 ghost use Rattle.pkcs1_params.specs.Words.{oaep_reads};
@@ -87,6 +87,7 @@ impl<O: IdentifierValue, P: AnyValue> OaepParamsOf<O, P> {
         requires { IsMask (oaep_fields (oaep_in O.octets P.any self.now)) mask }
         ensures stands { IfOk result (λ encoding. StandsUnder oaep_fields (oaep_in O.octets P.any self.now) mask
             encoding.now) }
+        ensures room { IfOk result (λ encoding. length encoding.now ≤ length out.old) }
         ensures err { let fields = oaep_fields (oaep_in O.octets P.any self.now) in
             IfErr result (IsSpellingError fields mask (length out.old)) }
     {

@@ -155,10 +155,26 @@ impl<P: AnyValue> EqualByValue for RsaPssParams<P> {
 impl<P: AnyValue + TryClone> TryClone for RsaPssParams<P> {
     ghost use Rattle.std.specs.Prelude.{IfSome};
 
-    ghost allocates_nothing = { λ p. IfSome p.hash.parameters P.allocates_nothing
-        × IfSome p.mask_gen.parameters (λ hash. IfSome hash.parameters P.allocates_nothing) };
+    ghost never_out_of_memory = { λ p. IfSome p.hash.parameters P.never_out_of_memory
+        × IfSome p.mask_gen.parameters (λ hash. IfSome hash.parameters P.never_out_of_memory) };
 
     fn try_clone(&self, alloc: Global) -> der_core::Result<RsaPssParams<P>> {
+        self.try_clone(alloc)
+    }
+}
+
+impl<P: AnyValue + TryClone> RsaPssParams<P> {
+    ghost use Rattle.std.specs.Prelude.{IfErr, IfOk, IfSome, IsOk};
+    ghost use Rattle.der_core.specs.declared.error.ErrorKind.{ErrorKind};
+
+    /// The same parameters, or `OutOfMemory`.
+    pub fn try_clone(&self, alloc: Global) -> der_core::Result<RsaPssParams<P>>
+        ensures ok { IfOk result (λ copy. pss_with P.any copy ≡ pss_with P.any self.now) }
+        ensures err { IfErr result (λ e. e.kind ≡ ErrorKind.OutOfMemory) }
+        ensures may_allocate { IfSome self.now.hash.parameters P.never_out_of_memory
+            × IfSome self.now.mask_gen.parameters (λ hash. IfSome hash.parameters P.never_out_of_memory)
+            → IsOk result }
+    {
         Ok(RsaPssParams {
             hash: self.hash.try_clone(alloc)?,
             mask_gen: self.mask_gen.try_clone(alloc)?,

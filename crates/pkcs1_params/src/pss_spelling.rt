@@ -1,5 +1,5 @@
 //! The fields and the spellings of RSASSA-PSS parameters.
-ghost use Rattle.std.specs.Prelude.{length, OnOk, IfOk, IfErr};
+ghost use Rattle.std.specs.Prelude.{◌≤◌, length, OnOk, IfOk, IfErr};
 ghost use Rattle.spki_core.specs.Words.{HaveDefaults};
 ghost use Rattle.pkcs1_params.specs.Words.{pss_means_one, pss_in, pss_numbered, pss_read, pss_reads, PssParameters};
 ghost use Rattle.pkcs1_params.specs.Words.{pss_fields, pss_values, IsMask, StandsUnder, IsSpellingError, AllFit};
@@ -91,6 +91,7 @@ impl<O: IdentifierValue, P: AnyValue> PssParamsOf<O, P> {
         requires { IsMask (pss_fields (pss_in O.octets P.any self.now)) mask }
         ensures stands { let params = pss_in O.octets P.any self.now in
             IfOk result (λ encoding. StandsUnder pss_fields params mask encoding.now) }
+        ensures room { IfOk result (λ encoding. length encoding.now ≤ length out.old) }
         ensures err { let fields = pss_fields (pss_in O.octets P.any self.now) in
             IfErr result (IsSpellingError fields mask (length out.old)) }
     {

@@ -6,7 +6,9 @@ use Rattle.der_core.specs.Encodings.{Is, IsDelimited, AtMostOne, Joins, Then}
 use Rattle.der_core.specs.Laws.Lists.{same_cons}
 use Rattle.der_core.specs.Laws.Shortest.{means_one}
 use Rattle.der_core.specs.Laws.Encodings.{tlv_split, tlv_at_most_one, tlv_not_empty}
-use Rattle.spki_core.specs.Explicit.{Field, field, Explicit, Defaultable, IsNext, HaveDefaults, MaskedField}
+use Rattle.der_core.specs.Optional.{IsNext}
+use Rattle.der_core.specs.Tag.{context_tag}
+use Rattle.spki_core.specs.Explicit.{Field, field, Explicit, Defaultable, HaveDefaults, MaskedField}
 use Rattle.spki_core.specs.Explicit.{left_out, written, forced, MaskedContents}
 use Rattle.spki_core.specs.Laws.FieldEncodings.{AreLater, explicit_starts, not_later}
 use Rattle.spki_core.specs.Laws.Fields.{AreInOrder}
@@ -179,7 +181,7 @@ defaults_same (f ∷ fields) j k (inr (n, p)) (inr (n', q)) = defaults_same fiel
 
 -- If a field's octet isn't next, every splitting leaves the field out.
 pub absent_step : {V : Type 0} (n : ℕ) (Grammar : V → List ℕ → Type 0) (default w : V) (gs : List Field) (c : List ℕ)
-    → (IsNext n c → ⊥) → Joins (map Defaultable (field n Grammar default w ∷ gs)) c
+    → (IsNext (context_tag n) c → ⊥) → Joins (map Defaultable (field n Grammar default w ∷ gs)) c
     → (w ≡ default) × Joins (map Defaultable gs) c
 absent_step n Grammar default w gs c h (x, y, inl p, j, e) = let a : c ≡ y = rw p.0 at e in (p.1, rw a j)
 absent_step n Grammar default w gs c h (x, y, inr p, j, e) =

@@ -24,7 +24,8 @@ use Rattle.der_core.specs.Laws.TaggedReadings.{checked_as}
 use Rattle.der_core.specs.Laws.Tags.{same_tag}
 use Rattle.der_core.specs.Readings.{is_next}
 use Rattle.der_core.specs.Tag.{context_tag, is_allowed}
-use Rattle.spki_core.specs.Laws.Readings.{any_reads, next_from, next_is}
+use Rattle.der_core.specs.Laws.OptionalReadings.{next_from, next_is}
+use Rattle.spki_core.specs.Laws.Readings.{any_reads}
 use Rattle.spki_core.specs.Readings.{any}
 use Rattle.spki_core.specs.StrictFields.{Short, FirstWritten, WritesDefault, behind_any, first_default}
 use Rattle.spki_core.specs.StrictFields.{noncanonical, walked}
@@ -71,12 +72,12 @@ walk_finds (f ∷ fields) n (true ∷ ds) c o b m within (x, y, inl q, j, e) =
     walk_finds fields (n + 1) ds y o.2 b.2 m.2 (omega (arith, within, ap length same)) j in
     found_if (f ∷ fields) c (is_next (context_tag n) c) (Some n) (walked (n + 1) ds c)
     (λ yes.
-    let next = next_from n c yes in
+    let next = next_from (context_tag n) c yes in
     absurd (not_later f.number fields y next.0 o.1 j (rw m.0 (sym same ∙ next.1))))
     (λ no. found_step f fields c x y (walked (n + 1) ds c) (inl q) e (rw same later))
 walk_finds (f ∷ fields) n (true ∷ ds) c o b m within (x, y, inr q, j, e) =
     let s = explicit_starts f x y c q e in
-    let here : is_next (context_tag n) c ≡ true = next_is n c (s.0, rw (← m.0) s.1) in
+    let here : is_next (context_tag n) c ≡ true = next_is (context_tag n) c (s.0, rw (← m.0) s.1) in
     found_if (f ∷ fields) c (is_next (context_tag n) c) (Some n) (walked (n + 1) ds c)
     (λ yes. inl (sym m.0, m.1.0 refl, (x, y, q, j, e))) (λ no. let never = sym here ∙ no in cc)
 walk_finds (f ∷ fields) n (false ∷ ds) c o b m within (x, y, inl q, j, e) =
@@ -159,6 +160,18 @@ encoding_finds fields ds encoding o b m fits p =
     omega (arith, fits, ap length p.written, length-append p.octets p.contents) in
     rw taken (found_in fields encoding p (walked 0 ds p.contents) (walk_finds fields 0 ds p.contents o b m few p.holds))
 
+-- The first default that is written is the one that is found.
+pub found_first : (fields : List Field) → AreInOrder fields → (k n : ℕ) (encoding : List ℕ) (found : Option ℕ)
+    → HaveDefaults fields k → FoundIn fields encoding found → WritesDefault fields n encoding → found ≡ Some n
+found_first fields o k n encoding None h zero p =
+    let both = tlv_split encoding [] encoding [] zero p refl in
+    let m = first_masked fields k n both.3 h both.5 in
+    let same : 0 ≡ m.0 = mask_same fields 0 m.0 both.3 o both.4 m.1 in
+    absurd (omega (arith, m.2))
+found_first fields o k n encoding (Some m) h q p =
+    let both = tlv_split encoding [] encoding [] q p refl in
+    ap Some (first_one fields o m n both.3 both.4 both.5)
+
 -- The error for a number is the one that names its tag.
 pub noncanonical_is : (n : ℕ) (tag : Tag) → tag.octet ≡ context_tag n → noncanonical n ≡ Noncanonical tag
 noncanonical_is n tag is =
@@ -178,7 +191,5 @@ module _ {V : Type 0} (fields : V → List Field) (ordered : (v : V) → AreInOr
       → WritesDefault (fields v) n encoding → IsShortest (λ w. FieldSequence (fields w)) v encoding → ⊥
   found_longer v k n encoding h p s =
       let zero = shortest_zero fields ordered v k encoding h s in
-      let both = tlv_split encoding [] encoding [] zero p refl in
-      let m = first_masked (fields v) k n both.3 h both.5 in
-      let same : 0 ≡ m.0 = mask_same (fields v) 0 m.0 both.3 (ordered v) both.4 m.1 in
-      omega (arith, m.2)
+      let none : None ≡ Some n = found_first (fields v) (ordered v) k n encoding None h zero p in
+      cc

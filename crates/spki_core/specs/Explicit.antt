@@ -2,6 +2,7 @@
 use Rattle.std.specs.Prelude.{ℕ, suc, List, [], ◌∷◌, ◌≡◌, ◌+◌, ◌*◌, ◌⊎◌, map}
 use Rattle.der_core.specs.Tag.{context_tag, sequence_tag}
 use Rattle.der_core.specs.Encodings.{Is, Then, Joins}
+use Rattle.der_core.specs.Optional.{IsNext}
 use Rattle.der_core.specs.Tlv.{Tlv}
 
 -- A field with its value: the number, the encodings of the value, and whether the value is the default.
@@ -51,19 +52,15 @@ Masked fields mask encoding = Tlv sequence_tag (MaskedContents fields mask) enco
 abbrev pub AllExplicit : List Field → List ℕ → Type 0
 AllExplicit fields encoding = Tlv sequence_tag (Joins (map Explicit fields)) encoding
 
--- The octet of the field [number] is next.
-abbrev pub IsNext : ℕ → List ℕ → Type 0
-IsNext number bytes = (rest : List ℕ) × (bytes ≡ (context_tag number) ∷ rest)
-
 -- What reading a field with a default gives: its value, and the bytes after it. The field is left out exactly if its
 -- octet isn't next.
 abbrev pub FieldRead : {V : Type 0} → ℕ → (V → List ℕ → Type 0) → V → List ℕ → V → List ℕ → Type 0
 FieldRead number Grammar default bytes value rest =
-    ((IsNext number bytes → ⊥) × (value ≡ default) × (rest ≡ bytes)) ⊎
+    ((IsNext (context_tag number) bytes → ⊥) × (value ≡ default) × (rest ≡ bytes)) ⊎
     Then (Tlv (context_tag number) (Grammar value)) (Is rest) bytes
 
 -- Its octet is next, but no encoding of the field.
 abbrev pub FieldRejected : {V : Type 0} → ℕ → (V → List ℕ → Type 0) → List ℕ → Type 0
 FieldRejected {V} number Grammar bytes =
-    IsNext number bytes × ((value : V) (rest : List ℕ) → Then (Tlv (context_tag number) (Grammar value)) (Is rest) bytes
-    → ⊥)
+    IsNext (context_tag number) bytes
+    × ((value : V) (rest : List ℕ) → Then (Tlv (context_tag number) (Grammar value)) (Is rest) bytes → ⊥)

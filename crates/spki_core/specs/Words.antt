@@ -7,14 +7,15 @@ pub use Rattle.spki_core.specs.Allocating.{AllocatesForParameters, FieldAllocate
 pub use Rattle.spki_core.specs.Any.{Any, TagAndContents, null_value}
 pub use Rattle.spki_core.specs.AnyRefValue.{any_of}
 pub use Rattle.spki_core.specs.ContextSpecific.{ContextSpecific, HasNumbered, Numbered, written_numbered}
-pub use Rattle.spki_core.specs.Explicit.{Field, HaveDefaults, Masked}
+pub use Rattle.spki_core.specs.Explicit.{Field, FieldRead, HaveDefaults, Masked}
 pub use Rattle.spki_core.specs.Readings.{algorithm_read, any, any_as, defaulted, explicit, identifier_read, numbered}
 pub use Rattle.spki_core.specs.FieldWriting.{HasField, written_field}
 pub use Rattle.spki_core.specs.HashAlgorithms.{IsHash}
 pub use Rattle.spki_core.specs.Masks.{out_under, rest_under}
 pub use Rattle.spki_core.specs.ObjectIdentifierValue.{octets_of, own_octets_of}
 pub use Rattle.spki_core.specs.OwnedAnyValue.{own_any_of}
-pub use Rattle.spki_core.specs.StrictFields.{first_default, noncanonical, number_in, strict, unless_found, walked}
+pub use Rattle.spki_core.specs.StrictFields.{WritesDefault, first_default, noncanonical, number_in, strict}
+pub use Rattle.spki_core.specs.StrictFields.{unless_found, walked}
 pub use Rattle.spki_core.specs.Laws.Algorithms.{algorithm_decides, algorithm_means_one, algorithm_of_bytes}
 pub use Rattle.spki_core.specs.Laws.Algorithms.{algorithm_relates, algorithm_shortest}
 pub use Rattle.spki_core.specs.Laws.AnyEncodings.{any_delimited}

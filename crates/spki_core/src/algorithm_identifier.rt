@@ -1,5 +1,5 @@
 //! Algorithm identifiers (RFC 5280 4.1.1.2).
-ghost use Rattle.std.specs.Prelude.{◌≡◌, ◌≢◌, refl, IfOk, IfErr, IfSome};
+ghost use Rattle.std.specs.Prelude.{◌≡◌, ◌≢◌, refl, IfOk, IfErr, IfSome, IsOk};
 ghost use Rattle.std.specs.Option.{option_map};
 ghost use Rattle.spki_core.specs.Words.{AllocatesForParameters, NothingAskedAlone, TagAndContents, Algorithm};
 ghost use Rattle.spki_core.specs.Words.{AlgorithmContents, HasAlgorithm, written_algorithm, algorithm_means_one};
@@ -135,9 +135,22 @@ impl<O: IdentifierValue, P: Encode> EncodeValue for AlgorithmIdentifierOf<O, P> 
 }
 
 impl<P: TryClone> TryClone for AlgorithmIdentifier<P> {
-    ghost allocates_nothing = { λ algorithm. IfSome algorithm.parameters P.allocates_nothing };
+    ghost never_out_of_memory = { λ algorithm. IfSome algorithm.parameters P.never_out_of_memory };
 
     fn try_clone(&self, alloc: Global) -> Result<AlgorithmIdentifier<P>> {
+        self.try_clone(alloc)
+    }
+}
+
+impl<P: TryClone> AlgorithmIdentifier<P> {
+    ghost use Rattle.spki_core.specs.Words.{algorithm_with};
+
+    /// The same identifier with a copy of the parameters, or `OutOfMemory`.
+    pub fn try_clone(&self, alloc: Global) -> Result<AlgorithmIdentifier<P>>
+        ensures ok { IfOk result (λ copy. algorithm_with P.value copy ≡ algorithm_with P.value self.now) }
+        ensures err { IfErr result (λ e. e.kind ≡ ErrorKind.OutOfMemory) }
+        ensures may_allocate { IfSome self.now.parameters P.never_out_of_memory → IsOk result }
+    {
         let parameters = match &self.parameters {
             Some(parameters) => Some(parameters.try_clone(alloc)?),
             None => None,

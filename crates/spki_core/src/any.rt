@@ -221,9 +221,9 @@ impl Encode for AnyRef<'_> {
 impl<'a> TryClone for AnyRef<'a> {
     ghost use Rattle.spki_core.specs.AnyRefValue.{any_of};
 
-    ghost allocates_nothing = { λ _. ⊤ };
+    ghost never_out_of_memory = { λ _. ⊤ };
 
-    /// The same tag, over the same contents. Nothing is allocated.
+    /// The same tag, over the same contents. Never `OutOfMemory`.
     fn try_clone(&self, _alloc: Global) -> Result<AnyRef<'a>>
         ensures ok { IfOk result (λ copy. any_of copy ≡ any_of self.now) }
         ensures err { IfErr result (λ e. e.kind ≡ ErrorKind.OutOfMemory) }

@@ -1,7 +1,8 @@
 //! Explicit fields with defaults (X.690 8.14.2, 11.5).
-ghost use Rattle.std.specs.Prelude.{◌≤◌, ◌+◌, length};
+ghost use Rattle.std.specs.Prelude.{◌≤◌, ◌+◌, ℕ, length};
 ghost use Rattle.der_core.specs.Words.{limit, free_of, Prepends, Counts, Appends, context_tag, tlv, ReadsFront};
-ghost use Rattle.spki_core.specs.Words.{FieldAllocates, defaulted, HasField, written_field};
+ghost use Rattle.der_core.specs.Words.{OptionalRead, ReadsBy, ReadsFronts, Tlv, optional};
+ghost use Rattle.spki_core.specs.Words.{FieldAllocates, FieldRead, defaulted, explicit, HasField, written_field};
 
 use crate::context_specific::{ContextSpecificRef, is_field_next, read_explicit};
 use der_core::{
@@ -66,3 +67,15 @@ pub fn prepend_field<T: Encode>(tag_number: TagNumber, value: &T, writer: &mut B
 {
     ContextSpecificRef { tag_number, value }.prepend(writer);
 }
+
+/// What `read_explicit` reads is a tag with one encoding inside, what `read_context_specific` reads is that, or nothing
+/// where the octet of the tag isn't next. In place of nothing, `read_field` gives the default.
+pub fn lemma_fields_are_read<T: Encoding>()
+    ensures explicit { (n : ℕ) → n ≤ 30
+        → ReadsFronts (λ v. Tlv (context_tag n) (T.encoding v)) (explicit n T.read_front) }
+    ensures optional { (n : ℕ) → n ≤ 30
+        → ReadsBy (OptionalRead (context_tag n) (λ v. Tlv (context_tag n) (T.encoding v)))
+        (optional (context_tag n) (explicit n T.read_front)) }
+    ensures default { (n : ℕ) (default : T.Value) → n ≤ 30
+        → ReadsBy (FieldRead n T.encoding default) (defaulted n T.read_front default) }
+{}

@@ -18,7 +18,7 @@ pub use any::{AnyParams, AnyRef, AnyValue};
 pub use context_specific::{
     ContextSpecificRef, is_field_next, read_context_specific, read_explicit,
 };
-pub use field::{encode_field, field_len, prepend_field, read_field};
+pub use field::{encode_field, field_len, lemma_fields_are_read, prepend_field, read_field};
 pub use identifier_view::{IdentifierValue, IdentifierView};
 pub use object_identifier::{AssociatedOid, ObjectIdentifier, ObjectIdentifierTag};
 pub use owned_any::Any;

@@ -1,5 +1,7 @@
 //! Object identifiers.
-ghost use Rattle.std.specs.Prelude.{◌≡◌, ℕ, ◌≤◌, ◌<◌, List, length, take, slice_index, IsTrue, IfOk, IfErr, true};
+ghost use Rattle.std.specs.Prelude.{◌≡◌, ◌-◌, ℕ, ◌≤◌, ◌<◌, List, length, take, drop, slice_index};
+ghost use Rattle.std.specs.Prelude.{IsTrue, IfOk, IfErr, true};
+ghost use Rattle.std.proofs.Math.ListN.{replicate};
 ghost use Rattle.spki_core.specs.IdentifierTest as specs;
 ghost use Rattle.spki_core.specs.ObjectIdentifier.{IsIdentifier, IdentifierContents};
 ghost use Rattle.der_core.specs.Words.{Answers};
@@ -116,10 +118,22 @@ pub trait AssociatedOid {
     /// `OID` with zeros behind it. A constant in its place saves copying a number of octets that is known only at run
     /// time.
     fn padded() -> [u8; 39]
-        ensures { take (length contents) result ≡ contents }
+        ensures octets { take (length contents) result ≡ contents }
+        ensures zeros { drop (length contents) result ≡ replicate (39 - length contents) 0 }
     {
-        ObjectIdentifier::new(Self::octets()).octets
+        with_zeros(Self::octets())
     }
+}
+
+/// The octets with zeros behind them.
+fn with_zeros(octets: &[u8]) -> [u8; 39]
+    requires { length octets.now ≤ 39 }
+    ensures octets { take (length octets.now) result ≡ octets.now }
+    ensures zeros { drop (length octets.now) result ≡ replicate (39 - length octets.now) 0 }
+{
+    let mut padded = [0; 39];
+    padded[..octets.len()].copy_from_slice(octets);
+    padded
 }
 
 impl ObjectIdentifier {
@@ -130,10 +144,8 @@ impl ObjectIdentifier {
         requires { IsTrue (specs.is_identifier bytes.now) }
         ensures { own_octets_of result ≡ bytes.now }
     {
-        let mut octets = [0; 39];
-        octets[..bytes.len()].copy_from_slice(bytes);
         ObjectIdentifier {
-            octets,
+            octets: with_zeros(bytes),
             length: bytes.len() as u8,
         }
     }

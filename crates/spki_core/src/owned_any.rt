@@ -41,6 +41,14 @@ impl Any {
         Any::copy_of(alloc, tag, contents)
     }
 
+    /// The same encoding, or `OutOfMemory`.
+    pub fn try_clone(&self, alloc: Global) -> Result<Any>
+        ensures ok { IfOk result (λ copy. own_any_of copy ≡ own_any_of self.now) }
+        ensures err { IfErr result (λ e. e.kind ≡ ErrorKind.OutOfMemory) }
+    {
+        Any::copy_of(alloc, self.tag, self.contents.as_slice())
+    }
+
     /// Copies the contents.
     fn copy_of(alloc: Global, tag: Tag, contents: &[u8]) -> Result<Any>
         requires { length contents.now ≤ limit }
@@ -149,9 +157,9 @@ impl AnyParams<Global> for Any {
 }
 
 impl TryClone for Any {
-    ghost allocates_nothing = { λ _. ⊥ };
+    ghost never_out_of_memory = { λ _. ⊥ };
 
     fn try_clone(&self, alloc: Global) -> Result<Any> {
-        Any::copy_of(alloc, self.tag, self.contents.as_slice())
+        self.try_clone(alloc)
     }
 }

@@ -248,7 +248,7 @@ pub fn is_equal<T: Stated + EqualByValue>(a: &T, b: &T) -> bool
 /// A copy means the same. Memory doesn't run out where nothing is allocated.
 pub fn try_clone<T: Stated + TryClone>(alloc: Global, value: &T) -> Result<T, AllocError>
     ensures same { IfOk result (λ copy. T.meaning copy ≡ T.meaning value.now) }
-    ensures memory { T.allocates_nothing value.now → IsOk result }
+    ensures memory { T.never_out_of_memory value.now → IsOk result }
 {
     T::lemma_same();
     match value.try_clone(alloc) {

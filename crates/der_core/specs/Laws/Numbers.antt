@@ -23,7 +23,7 @@ same_after m n (a ∷ x) (b ∷ y) p q l e =
     (s.0, cons_path s.1 r.1)
 
 -- Digits put behind a number make it no less than that number times a power of the base.
-after_ge : (m : ℕ) (x : List ℕ) → m * 256 ^ length x ≤ number_from_digits_after 256 m x
+pub after_ge : (m : ℕ) (x : List ℕ) → m * 256 ^ length x ≤ number_from_digits_after 256 m x
 after_ge m [] = omega arith
 after_ge m (a ∷ x) =
     let ih : (m * 256 + a) * 256 ^ length x ≤ number_from_digits_after 256 (m * 256 + a) x = after_ge (m * 256 + a) x in

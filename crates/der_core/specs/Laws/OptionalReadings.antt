@@ -1,22 +1,49 @@
 -- Reading by functions: a part that is there if its tag is next.
-use Rattle.std.proofs.Common.{ℕ, true, List, [], ◌++◌, ◌≡◌, ◌⊎◌, ◌≤◌, length, refl, sym, ap, ◌∙◌, arith, inl, inr}
-use Rattle.std.proofs.Common.{⊎_elim, append-nil, Ok, Err, Option, Some, None}
+use Rattle.std.proofs.Common.{ℕ, true, false, List, [], ◌∷◌, ◌++◌, ◌≡◌, ◌==◌, ◌⊎◌, ◌≤◌, length, refl, sym, ap, subst, ◌∙◌}
+use Rattle.std.proofs.Common.{arith, inl, inr, ⊎_elim, append-nil, append_assoc, Ok, Err, Option, Some, None}
 use Rattle.std.proofs.lemmas.Bool.Decides.{nat_tests}
 use Rattle.der_core.specs.declared.error.ErrorKind.{ErrorKind}
 use Rattle.der_core.specs.declared.tag.Tag.{Tag}
 use Rattle.der_core.specs.Laws.Encodings.{joins_last, last_holds}
 use Rattle.der_core.specs.Laws.Input.{ok_pair}
 use Rattle.der_core.specs.Laws.LengthReading.{chosen}
+use Rattle.der_core.specs.Laws.Lists.{same_cons}
 use Rattle.der_core.specs.Laws.Readings.{bind_err, bind_ok, carry, ended_is, ended_tells}
 use Rattle.der_core.specs.Laws.TaggedReadings.{tagged_reads}
 use Rattle.der_core.specs.Length.{limit}
-use Rattle.der_core.specs.Optional.{Optional}
+use Rattle.der_core.specs.Encodings.{AreBytes}
+use Rattle.der_core.specs.Optional.{IsNext, Optional, OptionalRead}
 use Rattle.der_core.specs.Parts.{LastContents}
 use Rattle.der_core.specs.Reading.{TellsOfBytes}
-use Rattle.der_core.specs.Readings.{Reading, FrontReading, ReadsContents, ReadsFronts, ◌>>=◌, alone, ended, is_next}
+use Rattle.der_core.specs.Readings.{Reading, FrontReading, ReadsBy, ReadsContents, ReadsFronts, ◌>>=◌, alone, ended}
+use Rattle.der_core.specs.Readings.{is_next}
 use Rattle.der_core.specs.Readings.{optional}
 use Rattle.der_core.specs.Readings.{tagged}
 use Rattle.der_core.specs.Tlv.{Tlv}
+
+-- The octet that is next.
+pub next_is : (t : ℕ) (i : List ℕ) → IsNext t i → is_next t i ≡ true
+next_is t [] (rest, e) = cc
+next_is t (x ∷ xs) (rest, e) = let same : x ≡ t = (same_cons e).0 in grind (arith, nat_tests, same)
+
+pub next_from : (t : ℕ) (i : List ℕ) → is_next t i ≡ true → IsNext t i
+next_from t [] e = cc
+next_from t (x ∷ xs) e = let same : x ≡ t = grind (arith, nat_tests, e) in (xs, ap (λ z. z ∷ xs) same)
+
+pub isnt_next : (t : ℕ) (i : List ℕ) → (IsNext t i → ⊥) → is_next t i ≡ false
+isnt_next t [] other = refl
+isnt_next t (x ∷ xs) other =
+    ⊎_elim (λ w. let same : x ≡ t = grind (arith, nat_tests, w.0) in absurd (other (xs, ap (λ z. z ∷ xs) same)))
+    (λ w. w.0) (chosen (x == t) true false _ refl)
+
+pub next_isnt : (t : ℕ) (i : List ℕ) → is_next t i ≡ false → IsNext t i → ⊥
+next_isnt t i isnt next = let yes = next_is t i next in let never : true ≡ false = sym yes ∙ isnt in cc
+
+pub front_next : (t : ℕ) {P : List ℕ → Type 0} (b rest i : List ℕ) → Tlv t P b → i ≡ b ++ rest → IsNext t i
+front_next t b rest i p is = (
+  p.octets ++ (p.contents ++ rest),
+  is ∙ ap (λ x. x ++ rest) p.written ∙ append_assoc (t ∷ p.octets) p.contents rest,
+)
 
 module _ {V : Type 0} (t : ℕ) (at : FrontReading V) (i : List ℕ) where
   pub optional_is : (o : Option V) (rest : List ℕ) → optional t at i ≡ Ok (o, rest)
@@ -39,6 +66,37 @@ module _ {V : Type 0} (t : ℕ) (at : FrontReading V) (i : List ℕ) where
   optional_tells tells k e =
       ⊎_elim (λ w. ⊎_elim (tells k) (λ s. let no = s.2 in cc) (bind_err (at i) _ w.1)) (λ w. let no = w.1 in cc)
       (chosen (is_next t i) _ _ _ e)
+
+-- A part that is known by its first octet, and what is behind it.
+module _ {V : Type 0} (t : ℕ) {encoding : V → List ℕ → Type 0} {at : FrontReading V} (law : ReadsFronts encoding at)
+    (starts : (v : V) (b rest i : List ℕ) → encoding v b → i ≡ b ++ rest → IsNext t i) where
+  abbrev Read : List ℕ → Option V → List ℕ → Type 0
+  Read = OptionalRead t encoding
+
+  read_gives : (i rest : List ℕ) (o : Option V) → AreBytes i → optional t at i ≡ Ok (o, rest) → Read i o rest
+  read_gives i rest o b e =
+      ⊎_elim
+      (λ w.
+      let s = bind_ok (at i) _ w.1 in
+      let q = ok_pair (Some s.0.0) o s.0.1 rest s.2 in
+      let x = law.gives i s.0.1 s.0.0 b s.1 in
+      subst (λ o. Read i o rest) q.0 (x.0, rest, x.2, refl, x.1 ∙ ap (λ r. x.0 ++ r) q.1))
+      (λ w. let q = ok_pair None o i rest w.1 in subst (λ o. Read i o rest) q.0 (next_isnt t i w.0, sym q.1))
+      (chosen (is_next t i) _ _ _ e)
+
+  read_takes : (i rest : List ℕ) (o : Option V) → length i ≤ limit → Read i o rest → optional t at i ≡ Ok (o, rest)
+  read_takes i rest None within (not_next, same) =
+      let no : is_next t i ≡ false = isnt_next t i not_next in rw (no, same) refl
+  read_takes i rest (Some v) within (b, more, p, same, split) =
+      let yes : is_next t i ≡ true = next_is t i (starts v b more i p split) in
+      optional_takes t at i v rest yes (law.takes i b rest v within (split ∙ ap (λ r. b ++ r) same) p)
+
+  pub optional_reads : ReadsBy (OptionalRead t encoding) (optional t at)
+  optional_reads = record {
+    gives = read_gives;
+    takes = read_takes;
+    tells = λ i k e. optional_tells t at i (law.tells i) k e;
+  }
 
 -- The last part that is known by its tag.
 module _ {V : Type 0} (tag : Tag) {contents : V → List ℕ → Type 0} {read : Reading V}

@@ -53,6 +53,14 @@ impl Uint {
         self.bytes.as_slice()
     }
 
+    /// The same number, or `OutOfMemory`.
+    pub fn try_clone(&self, alloc: Global) -> Result<Uint>
+        ensures ok { IfOk result (λ copy. own_bytes_of copy ≡ own_bytes_of self.now) }
+        ensures err { IfErr result (λ e. e.kind ≡ ErrorKind.OutOfMemory) }
+    {
+        Uint::copy(alloc, self.as_uint_ref())
+    }
+
     /// Copies a number.
     fn copy(alloc: Global, number: UintRef<'_>) -> Result<Uint>
         ensures ok { IfOk result (λ copy. own_bytes_of copy ≡ bytes_of number.entry) }
@@ -75,10 +83,10 @@ impl AsUintRef for Uint {
 }
 
 impl TryClone for Uint {
-    ghost allocates_nothing = { λ _. ⊥ };
+    ghost never_out_of_memory = { λ _. ⊥ };
 
     fn try_clone(&self, alloc: Global) -> Result<Uint> {
-        Uint::copy(alloc, self.as_uint_ref())
+        self.try_clone(alloc)
     }
 }
 

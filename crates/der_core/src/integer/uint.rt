@@ -3,7 +3,8 @@ ghost use Rattle.std.specs.Prelude.{◌≡◌, ◌≤◌, ◌<◌, ℕ, List, le
 ghost use Rattle.std.specs.Int.Digits.{number_from_digits};
 ghost use Rattle.der_core.specs.Length.{limit};
 ghost use Rattle.der_core.specs.Laws.Readings.{integer_reads};
-ghost use Rattle.der_core.specs.Integer.{HoldsNumber, IsCanonical, AreCanonicalOf, IntegerContents, integer_contents};
+ghost use Rattle.der_core.specs.Integer.{HoldsNumber, IsCanonical, AreCanonicalOf, IntegerContents, IsBitLength};
+ghost use Rattle.der_core.specs.Integer.{integer_contents};
 ghost use Rattle.der_core.specs.IntegerReading.{integer_of, Answers, WhyNoNumber};
 ghost use Rattle.der_core.specs.Laws.Integer.{integer_means_one, integer_of_bytes, integer_relates, integer_shortest};
 ghost use Rattle.der_core.specs.Tags.{integer};
@@ -103,6 +104,14 @@ impl<'a> UintRef<'a> {
     {
         self.bytes
     }
+
+    #[tactic(auto, using(crate::proofs::BitLength::bit_length))]
+    /// The bit length of the number, as 2048 of the modulus of an RSA-2048 key. It is 0 of 0.
+    pub fn bit_len(&self) -> u64
+        ensures { IsBitLength (number_from_digits 256 (bytes_of self.now)) result }
+    {
+        8 * self.bytes.len() as u64 - self.bytes[0].leading_zeros() as u64
+    }
 }
 
 /// The number with these contents octets.
@@ -128,9 +137,9 @@ pub(crate) fn integer(contents: &[u8]) -> Result<UintRef<'_>>
 impl<'a> TryClone for UintRef<'a> {
     ghost use Rattle.der_core.specs.UintRefValue.{bytes_of};
 
-    ghost allocates_nothing = { λ _. ⊤ };
+    ghost never_out_of_memory = { λ _. ⊤ };
 
-    /// The same number, over the same bytes. Nothing is allocated.
+    /// The same number, over the same bytes. Never `OutOfMemory`.
     fn try_clone(&self, _alloc: Global) -> Result<UintRef<'a>>
         ensures ok { IfOk result (λ copy. bytes_of copy ≡ bytes_of self.now) }
         ensures err { IfErr result (λ e. e.kind ≡ ErrorKind.OutOfMemory) }

@@ -82,8 +82,8 @@ impl<'a, U> Sequence<'a> for OtherPrimeInfo<U> {
 }
 
 impl<U: TryClone> TryClone for OtherPrimeInfo<U> {
-    ghost allocates_nothing = { λ other. U.allocates_nothing other.prime × U.allocates_nothing other.exponent
-        × U.allocates_nothing other.coefficient };
+    ghost never_out_of_memory = { λ other. U.never_out_of_memory other.prime × U.never_out_of_memory other.exponent
+        × U.never_out_of_memory other.coefficient };
 
     fn try_clone(&self, alloc: Global) -> Result<OtherPrimeInfo<U>> {
         Ok(OtherPrimeInfo {

@@ -3,6 +3,7 @@ use Rattle.std.proofs.Common.{ℕ, true, false, Bool, List, [], ◌∷◌, ◌�
 use Rattle.std.proofs.Common.{sym, ap, ◌∙◌, arith, inl, inr}
 use Rattle.std.specs.Prelude.{if◌then◌else◌}
 use Rattle.der_core.specs.Encodings.{Joins}
+use Rattle.der_core.specs.Laws.OptionalReadings.{next_from, next_is}
 use Rattle.der_core.specs.Laws.Readings.{behind_within, no_parts_read}
 use Rattle.der_core.specs.Length.{limit}
 use Rattle.der_core.specs.Readings.{ReadsContents, ReadsFronts, is_next}
@@ -12,7 +13,7 @@ use Rattle.spki_core.specs.Laws.ContextSpecific.{number_allowed}
 use Rattle.spki_core.specs.Laws.FieldEncodings.{AreLater, AreOfBytes, explicit_starts, not_later}
 use Rattle.spki_core.specs.Laws.FieldReadings.{field_then_reads}
 use Rattle.spki_core.specs.Laws.Fields.{AreInOrder}
-use Rattle.spki_core.specs.Laws.Readings.{any_reads, next_from, next_is}
+use Rattle.spki_core.specs.Laws.Readings.{any_reads}
 use Rattle.spki_core.specs.Laws.StrictWalk.{Marked, explicit_any}
 use Rattle.pkcs1_params.specs.FieldReadings.{FieldKind, KindContents, ValuesOf, fields_at, fields_read, mask_in}
 
@@ -57,12 +58,12 @@ mask_finds (f ∷ fields) n (true ∷ ds) c o b m within (x, y, inl q, j, e) =
     mask_finds fields (n + 1) ds y o.2 b.2 m.2 (omega (arith, within, ap length same)) j in
     mask_step f fields (is_next (context_tag n) c) c x y _ _ q.1
     (λ yes.
-    let next = next_from n c yes in
+    let next = next_from (context_tag n) c yes in
     absurd (not_later f.number fields y next.0 o.1 j (rw m.0 (sym same ∙ next.1))))
     (λ no. (mask_in (n + 1) ds c, (x, y, left_out q.1 refl q.0, rw same later, e)))
 mask_finds (f ∷ fields) n (true ∷ ds) c o b m within (x, y, inr q, j, e) =
     let s = explicit_starts f x y c q e in
-    let here : is_next (context_tag n) c ≡ true = next_is n c (s.0, rw (← m.0) s.1) in
+    let here : is_next (context_tag n) c ≡ true = next_is (context_tag n) c (s.0, rw (← m.0) s.1) in
     let default = m.1.0 refl in
     let taken = any_reads.takes c x y _ within e (explicit_any f x b.0 b.1 q) in
     let later = mask_finds fields (n + 1) ds y o.2 b.2 m.2 (behind_within x y e within) j in

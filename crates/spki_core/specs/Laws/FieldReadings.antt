@@ -4,8 +4,9 @@ use Rattle.der_core.specs.declared.tag.Tag.{Tag}
 use Rattle.der_core.specs.Encodings.{AreBytes, Then}
 use Rattle.der_core.specs.Laws.Readings.{behind_bytes, behind_within, bind_err, bind_ok, carry, made_tells, ok_same}
 use Rattle.der_core.specs.Readings.{FrontReading, Reading, ReadsContents, ReadsFronts, ◌>>=◌, parts}
+use Rattle.der_core.specs.Optional.{IsNext}
 use Rattle.der_core.specs.Tag.{context_tag}
-use Rattle.spki_core.specs.Explicit.{Defaultable, FieldRead, IsNext, field}
+use Rattle.spki_core.specs.Explicit.{Defaultable, FieldRead, field}
 use Rattle.spki_core.specs.Laws.Fields.{read_then}
 use Rattle.spki_core.specs.Laws.Readings.{defaulted_gives, defaulted_takes, defaulted_tells}
 use Rattle.spki_core.specs.Readings.{defaulted}
@@ -18,7 +19,7 @@ rest_bytes n encoding default v c rest (inr (x, y, t, same, e)) b = rw same at (
 -- The field of the number n, whose octet never begins what follows it.
 module _ {V W : Type 0} {encoding : V → List ℕ → Type 0} {at : FrontReading V} (law : ReadsFronts encoding at) (n : ℕ)
     (tag : Tag) (is : tag.octet ≡ context_tag n) (default : V) {Rest : W → List ℕ → Type 0} {rest : Reading W}
-    (behind : ReadsContents Rest rest) (later : (w : W) (c : List ℕ) → Rest w c → IsNext n c → ⊥) where
+    (behind : ReadsContents Rest rest) (later : (w : W) (c : List ℕ) → Rest w c → IsNext (context_tag n) c → ⊥) where
   abbrev Fields : V × W → List ℕ → Type 0
   Fields v c = Then (Defaultable (field n encoding default v.0)) (Rest v.1) c
 

@@ -10,7 +10,7 @@ use Rattle.der_core.specs.Encodings.{AreBytes, IsDelimited}
 use Rattle.der_core.specs.Laws.ContentsShorter.{tlv_recast}
 use Rattle.der_core.specs.Laws.Input.{ok_pair}
 use Rattle.der_core.specs.Laws.LengthReading.{chosen}
-use Rattle.der_core.specs.Laws.Lists.{same_cons}
+use Rattle.der_core.specs.Laws.OptionalReadings.{front_next, isnt_next, next_is, next_isnt}
 use Rattle.der_core.specs.Laws.Readings.{alone_reads, bind_ok, carry, fronts_as, last_reads, made_reads, made_tells}
 use Rattle.der_core.specs.Laws.Readings.{ok_same, parts_read}
 use Rattle.der_core.specs.Laws.TaggedReadings.{by_tag_reads, checked_as, tagged_reads}
@@ -24,7 +24,7 @@ use Rattle.der_core.specs.Tlv.{Tlv}
 use Rattle.spki_core.specs.AlgorithmIdentifier.{AlgorithmContents}
 use Rattle.spki_core.specs.Any.{Any, IsAny, TagAndContents}
 use Rattle.spki_core.specs.ContextSpecific.{ContextSpecific, Numbered}
-use Rattle.spki_core.specs.Explicit.{FieldRead, IsNext}
+use Rattle.spki_core.specs.Explicit.{FieldRead}
 use Rattle.spki_core.specs.IdentifierTest.{is_identifier}
 use Rattle.spki_core.specs.Laws.ContextSpecific.{number_allowed}
 use Rattle.spki_core.specs.Laws.IdentifierTest.{is_identifier-sound, is_identifier-complete}
@@ -74,28 +74,7 @@ any_reads =
     (by_tag_reads (λ (v : TagAndContents). v.tag) Opaque opaque opaque_reads (λ t c k e. cc) (λ v c p. p.0.0))
     (λ v b t. (t.holds.0, tlv_recast b t t.holds.1)) (λ v b p. tlv_recast b p.1 (p.0, p.1.holds))
 
--- The octet of a field.
-pub next_is : (n : ℕ) (i : List ℕ) → IsNext n i → is_next (context_tag n) i ≡ true
-next_is n [] (rest, e) = cc
-next_is n (x ∷ xs) (rest, e) = let same : x ≡ context_tag n = (same_cons e).0 in grind (arith, nat_tests, same)
-
-pub next_from : (n : ℕ) (i : List ℕ) → is_next (context_tag n) i ≡ true → IsNext n i
-next_from n [] e = cc
-next_from n (x ∷ xs) e = let same : x ≡ context_tag n = grind (arith, nat_tests, e) in (xs, ap (λ z. z ∷ xs) same)
-
-pub isnt_next : (n : ℕ) (i : List ℕ) → (IsNext n i → ⊥) → is_next (context_tag n) i ≡ false
-isnt_next n [] other = refl
-isnt_next n (x ∷ xs) other =
-    ⊎_elim
-    (λ w. let same : x ≡ context_tag n = grind (arith, nat_tests, w.0) in absurd (other (xs, ap (λ z. z ∷ xs) same)))
-    (λ w. w.0) (chosen (x == context_tag n) true false _ refl)
-
-front_next : (n : ℕ) {P : List ℕ → Type 0} (b rest i : List ℕ) → Tlv (context_tag n) P b → i ≡ b ++ rest → IsNext n i
-front_next n b rest i p is = (
-  p.octets ++ (p.contents ++ rest),
-  is ∙ ap (λ x. x ++ rest) p.written ∙ append_assoc (context_tag n ∷ p.octets) p.contents rest,
-)
-
+-- Fields.
 pub explicit_is : {V : Type 0} (at : FrontReading V) (n : ℕ) (tag : Tag) (bytes : List ℕ) → tag.octet ≡ context_tag n
     → explicit n at bytes ≡ tagged tag (alone at) bytes
 explicit_is at n tag bytes is =
@@ -164,20 +143,17 @@ module _ {V : Type 0} {encoding : V → List ℕ → Type 0} {at : FrontReading 
     defaulted_gives default i rest v b e =
         ⊎_elim
         (λ w. let s = explicit_reads.gives i rest v b w.1 in inr (s.0, rest, s.2, refl, s.1))
-        (λ w. let p = ok_pair default v i rest w.1 in inl (λ next. next_not i next w.0, sym p.0, sym p.1))
+        (λ w. let p = ok_pair default v i rest w.1 in inl (next_isnt (context_tag n) i w.0, sym p.0, sym p.1))
         (chosen (is_next (context_tag n) i) _ _ _ e)
-      where
-        next_not : (i : List ℕ) → IsNext n i → is_next (context_tag n) i ≡ false → ⊥
-        next_not i next isnt = let yes = next_is n i next in let never : true ≡ false = sym yes ∙ isnt in cc
 
     pub defaulted_takes : (default : V) (i rest : List ℕ) (v : V) → length i ≤ limit
         → FieldRead n encoding default i v rest
         → defaulted n at default i ≡ Ok (v, rest)
     defaulted_takes default i rest v w (inl (not_next, value, same)) =
-        let no : is_next (context_tag n) i ≡ false = isnt_next n i not_next in
+        let no : is_next (context_tag n) i ≡ false = isnt_next (context_tag n) i not_next in
         rw no (λ j. Ok (sym value j, sym same j))
     defaulted_takes default i rest v w (inr (b, more, p, same, split)) =
-        let yes : is_next (context_tag n) i ≡ true = next_is n i (front_next n b more i p split) in
+        let yes : is_next (context_tag n) i ≡ true = next_is (context_tag n) i (front_next (context_tag n) b more i p split) in
         rw yes (explicit_reads.takes i b rest v w (split ∙ ap (λ r. b ++ r) same) p)
 
     pub defaulted_tells : (default : V) (i : List ℕ) (k : ErrorKind) → defaulted n at default i ≡ Err k → TellsOfBytes k

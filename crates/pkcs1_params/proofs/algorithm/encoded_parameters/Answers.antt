@@ -15,5 +15,5 @@ returns-in-Ok g c =
     let m = c.requires in
     let oid = g.T.Oid.AssociatedOid.contents in
     let p = parameters_in (Fielded g.T.AlgorithmParams.values) oid m.0 _ m.1.1 in
-    let rest = behind oid c.in-Ok.any.contents.now p.0 c.args.identifier.now c.in-Ok.ensures.encoding.1.1 p.2 in
+    let rest = behind oid c.in-Ok.any.contents.now p.0 c.args.identifier.now c.in-Ok.ensures.encoding.0.1.1 p.2 in
     rw (c.behind.ensures, c.octets.ensures, c.value.ensures.contents, rest) (m.1.0, p.2)

@@ -7,6 +7,8 @@ use Rattle.pkcs1_params.specs.Parameters.{RsaPssParams, RsaOaepParams, pss_field
 use Rattle.pkcs1_params.specs.Algorithms.{rsa_oaep_algorithm, rsa_pss_algorithm}
 use Rattle.pkcs1_params.specs.Laws.ParameterReadings.{oaep_reads, pss_reads}
 use Rattle.pkcs1_params.specs.Parts.{defaults_with, oaep_values, pss_values}
+use Rattle.pkcs1_params.proofs.Algorithms.{first_named_in}
+use Rattle.pkcs1_params.specs.Laws.Parameters.{oaep_numbered, pss_numbered}
 use Rattle.pkcs1_params.proofs.FaultsTell.{strict_algorithm_tells, whole_algorithm_tells}
 use Rattle.pkcs1_params.proofs.laws.lemma_algorithms.Goals as goal
 
@@ -36,3 +38,9 @@ pub returns-clause-faults_oaep : goal.returns-clause-faults_oaep
 returns-clause-faults_oaep c =
     strict_algorithm_tells (defaults_with oaep_values) rsa_oaep_algorithm
     (whole_algorithm_tells oaep_reads id_rsaes_oaep)
+
+pub returns-clause-first_pss : goal.returns-clause-first_pss
+returns-clause-first_pss c = first_named_in pss_values pss_numbered pss_reads id_rsassa_pss
+
+pub returns-clause-first_oaep : goal.returns-clause-first_oaep
+returns-clause-first_oaep c = first_named_in oaep_values oaep_numbered oaep_reads id_rsaes_oaep

@@ -1,3 +1,6 @@
+use Rattle.std.proofs.Common.{ap, ◌∙◌}
+use Rattle.der_core.specs.Readings.{◌>>=◌}
+use Rattle.spki_core.specs.StrictFields.{first_default, unless_found}
 use Rattle.der_core.proofs.Shortest.{same_by_shortest}
 use Rattle.spki_core.proofs.Fields.{defaults_same}
 use Rattle.spki_core.proofs.Spellings.{masks_are_members}
@@ -11,6 +14,8 @@ use Rattle.pkcs1_params.proofs.ParameterReadings.{rsa_pss_params_reads}
 use Rattle.pkcs1_params.specs.ParameterReadings.{rsa_pss_params}
 use Rattle.pkcs1_params.specs.Parts.{defaults_with, pss_values}
 use Rattle.pkcs1_params.proofs.FaultsTell.{strict_tells}
+use Rattle.pkcs1_params.specs.Laws.Parameters.{pss_numbered}
+use Rattle.pkcs1_params.proofs.StrictParameters.{first_named}
 use Rattle.pkcs1_params.proofs.laws.lemma_pss_spellings.Goals as goal
 
 pub returns-clause-defaults : goal.returns-clause-defaults
@@ -36,3 +41,9 @@ returns-clause-same c = same_by_shortest pss_delimited
 
 pub returns-clause-faults : goal.returns-clause-faults
 returns-clause-faults c = strict_tells (defaults_with pss_values) rsa_pss_params rsa_pss_params_reads.tells
+
+pub returns-clause-first : goal.returns-clause-first
+returns-clause-first c v n tag encoding means writes is =
+    ap (λ r. r >>= λ v. unless_found (first_default (defaults_with pss_values v) encoding) v)
+    (rsa_pss_params_reads.takes encoding v means.0 means)
+    ∙ first_named pss_values pss_numbered v encoding means n tag writes is

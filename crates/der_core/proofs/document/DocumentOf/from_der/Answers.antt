@@ -16,4 +16,4 @@ returns-in_err-from_der-clause-exact g c =
 
 pub invariant_of-result : goal.invariant_of-result
 invariant_of-result g c =
-    record { whole = subst IsDocument (sym c.in_ok-copy_of.ensures.ok) c.in_ok-from_der.ensures.encoding }
+    record { whole = subst IsDocument (sym c.in_ok-copy_of.ensures.ok) c.in_ok-from_der.ensures.encoding.0 }

@@ -15,4 +15,4 @@ returns-in_err-from_der g c =
     ))
 
 pub invariant_of-result : goal.invariant_of-result
-invariant_of-result g c = record { whole = subst IsDocument c.as_slice.ensures.value c.in_ok-from_der.ensures.encoding }
+invariant_of-result g c = record { whole = subst IsDocument c.as_slice.ensures.value c.in_ok-from_der.ensures.encoding.0 }

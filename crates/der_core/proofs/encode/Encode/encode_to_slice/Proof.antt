@@ -42,7 +42,7 @@ use Rattle.der_core.specs.contracts.encode.Encode.encode_into as g
 use Rattle.der_core.proofs.encode.Encode.encode_into.Met.{met as writes}
 use Rattle.der_core.specs.contracts.encode.front as h
 use Rattle.der_core.specs.EncodeToSlice.{IsFront, LeavesRest}
-use Rattle.der_core.proofs.EncodeToSlice.{rests, Wrote, fits, leaves_rest, on_front, on_error}
+use Rattle.der_core.proofs.EncodeToSlice.{rests, Wrote, fits, leaves_rest, on_front, on_error, within}
 use Rattle.std.proofs.result.Result.TheLaws.{the_row_laws as result_laws}
 use denote.Param.Laws.{Laws, of_field}
 use denote.Param.Shared.{copy_shared}
@@ -200,11 +200,13 @@ encode_to_slice_spec 𝓤 𝓛 𝓜 𝓡 wired W L gh d gt dt met of_encoding =
     join ! $ move ! (2 ∷ []) $
     let F₁ : Type 0 =
     IfOk t (λ front. front.now ≡ encoding) in let F₂ : Type 0 =
-    IfOk t (λ front. IsShortest gt.encoding value front.now) in let F₃ : Type 0 = IfErr t Rejected in
+    IfOk t (λ front. IsShortest gt.encoding value front.now) in let F₃ : Type 0 =
+    IfOk t (λ front. length front.now ≤ length xs) in let F₄ : Type 0 = IfErr t Rejected in
     use1 𝓛 (‵ (LeavesRest out encoding t))
     (rests 𝓛 out ys (λ end. MatchResult t (λ _. end ≡ encoding ++ list-drop (length encoding) xs) (λ _. end ≡ xs))
     (leaves_rest encoding xs ys r t wrote kept answered)) $
-    use0 𝓛 (raw (fact 𝓤 F₃)) (fact_i 𝓤 F₃ (emp 𝓤) (on_error ys Rejected r t rejected answered)) $
+    use0 𝓛 (raw (fact 𝓤 F₄)) (fact_i 𝓤 F₄ (emp 𝓤) (on_error ys Rejected r t rejected answered)) $
+    use0 𝓛 (raw (fact 𝓤 F₃)) (fact_i 𝓤 F₃ (emp 𝓤) (within encoding xs ys long r t answered)) $ join ! $
     use0 𝓛 (raw (fact 𝓤 F₂)) (fact_i 𝓤 F₂ (emp 𝓤)
     (on_front encoding xs ys (IsShortest gt.encoding value encoding) (λ x. IsShortest gt.encoding value x) (λ k. k)
     r t wrote least answered)) $ join ! $

@@ -16,10 +16,10 @@ pub returns-clause-ok : goal.returns-clause-ok
 returns-clause-ok g c =
     let t =
     g.T.AlgorithmParams in slice_ok t.params (FieldContents t.values) (fields_are_bytes t.values)
-    g.T.Oid.AssociatedOid.contents _ _ c.in_ok-algorithm.ensures.encoding _ c.from_identifier.ensures.ok
+    g.T.Oid.AssociatedOid.contents _ _ c.in_ok-algorithm.ensures.encoding.0 _ c.from_identifier.ensures.ok
 
 pub returns-clause-err : goal.returns-clause-err
 returns-clause-err g c =
     let t =
     g.T.AlgorithmParams in slice_err t.params (FieldContents t.values) (fields_are_bytes t.values)
-    g.T.Oid.AssociatedOid.contents _ _ c.in_ok-algorithm.ensures.encoding _ c.from_identifier.ensures.err
+    g.T.Oid.AssociatedOid.contents _ _ c.in_ok-algorithm.ensures.encoding.0 _ c.from_identifier.ensures.err

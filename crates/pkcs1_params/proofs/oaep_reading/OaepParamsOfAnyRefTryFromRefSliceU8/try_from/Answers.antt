@@ -19,7 +19,7 @@ returns-then-is_empty_sequence-clause-exact g c =
     rsa_oaep_params_reads.takes _ _ means.0 means
 
 pub returns-clause-ok : goal.returns-clause-ok
-returns-clause-ok g c = rw c.oaep_from_view-2.ensures (the_meaning oaep_delimited _ _ c.in_ok-view.ensures.encoding)
+returns-clause-ok g c = rw c.oaep_from_view-2.ensures c.in_ok-view.ensures.encoding
 
 pub returns-in-Some-clause-ok : goal.returns-in-Some-clause-ok
 returns-in-Some-clause-ok g c =

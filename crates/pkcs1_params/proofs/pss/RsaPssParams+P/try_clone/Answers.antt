@@ -2,7 +2,7 @@ use Rattle.std.proofs.Common.{◌≡◌}
 use Rattle.spki_core.specs.Laws.MappedValues.{same_carried}
 use Rattle.spki_core.proofs.MappedValues.{algorithm_carried}
 use Rattle.spki_core.specs.AlgorithmValue.{algorithm_with}
-use Rattle.pkcs1_params.proofs.pss.RsaPssParamsTryClone.try_clone.Goals as goal
+use Rattle.pkcs1_params.proofs.pss.RsaPssParams+P.try_clone.Goals as goal
 
 pub returns-clause-ok : goal.returns-clause-ok
 returns-clause-ok g c =

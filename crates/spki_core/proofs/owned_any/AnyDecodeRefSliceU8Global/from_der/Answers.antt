@@ -11,13 +11,13 @@ use Rattle.spki_core.proofs.owned_any.AnyDecodeRefSliceU8Global.from_der.Goals a
 
 pub returns-clause-exact : goal.returns-clause-exact
 returns-clause-exact c =
-    copy_returns own_any_of Any _ c.args.bytes.now (any_of c.in_ok-any.any) c.in_ok-any.ensures.encoding
+    copy_returns own_any_of Any _ c.args.bytes.now (any_of c.in_ok-any.any) c.in_ok-any.ensures.encoding.0
     c.in_ok-any.ensures.exact c.copy_of.result (rw (c.tag.ensures, c.value.ensures.contents) at c.copy_of.ensures.ok)
     c.copy_of.ensures.err
 
 pub returns-clause-encoding : goal.returns-clause-encoding
 returns-clause-encoding c =
     reads_all own_any_of any _ (whole_reads any_reads) _ _ (are_bytes _ (λ i. omega (arith, c.type_inv.bytes i)))
-    (copy_returns own_any_of Any _ c.args.bytes.now (any_of c.in_ok-any.any) c.in_ok-any.ensures.encoding
+    (copy_returns own_any_of Any _ c.args.bytes.now (any_of c.in_ok-any.any) c.in_ok-any.ensures.encoding.0
     c.in_ok-any.ensures.exact c.copy_of.result (rw (c.tag.ensures, c.value.ensures.contents) at c.copy_of.ensures.ok)
     c.copy_of.ensures.err)
