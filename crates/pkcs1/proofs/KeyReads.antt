@@ -1,9 +1,10 @@
 -- Reading a private key: what is in front of its other primes, and these.
 use Rattle.std.proofs.Common.{◌≡◌, ℕ, List, [], refl, ap, ◌∙◌, inl, inr, ⊎_elim, Option, Some, None, Ok}
+use Rattle.std.proofs.Common.{Err}
 use Rattle.der_core.specs.declared.error.ErrorKind.{ErrorKind}
 use Rattle.der_core.specs.Encodings.{AreBytes, IsDelimited}
 use Rattle.der_core.specs.Input.{Input, left_in, read_from}
-use Rattle.der_core.specs.Reading.{HoldsBytes}
+use Rattle.der_core.specs.Reading.{Asks, HoldsBytes}
 use Rattle.der_core.specs.Readings.{FrontReading, ReadsFronts, ◌>>=◌, made}
 use Rattle.der_core.proofs.ReadSteps.{Fails}
 use Rattle.pkcs1.specs.Allocating.{AllocatesInKey}
@@ -25,7 +26,7 @@ module _ {V : Type 0} {encoding : V → List ℕ → Type 0} {at : FrontReading 
   -- The version and the eight numbers were in front of what is left now.
   abbrev pub FrontGives : ℕ × Eight V (Unit {0}) → Input → Input → Type 0
   FrontGives front before after =
-      (before ≡ None → after ≡ None)
+      (before ≡ None → (after ≡ None) × (front_read at [] ≡ Ok (front, [])))
       × ((i : List ℕ) → before ≡ Some i
       → (rest : List ℕ) × (front_read at i ≡ Ok (front, rest)) × (after ≡ Some rest))
 
@@ -41,6 +42,27 @@ module _ {V : Type 0} {encoding : V → List ℕ → Type 0} {at : FrontReading 
         others.1,
       )
 
+  others_fault : (e : ErrorKind) (front : ℕ × Eight V (Unit {0})) (i : List ℕ) (mid : Input)
+      → FrontGives front (Some i) mid → read_from mid (others_read at front.0) ≡ Err e
+      → private_key_read at i ≡ Err e
+  others_fault e front i mid gives fault =
+      let g = gives.1 i refl in
+      ap (λ r. r >>= λ q. made (key_from q.0.1) (others_read at q.0.0) q.1) g.1
+      ∙ ap (λ r. r >>= λ o. Ok (key_from front.1 o)) (rw g.2 at fault)
+
+  none_asked : (i : Input) → Asks (λ _. ⊥) i → ⊥
+  none_asked None asked = asked
+  none_asked (Some i) asked = asked
+
+  -- The same where no memory is asked for.
+  pub key_others_fault : (e : ErrorKind) (front : ℕ × Eight V (Unit {0})) (before mid after : Input) (n : ℕ)
+      → HoldsBytes before n → FrontGives front before mid → Fails (others_read at front.0) (λ _. ⊥) e mid after
+      → Fails (private_key_read at) (λ _. ⊥) e before after
+  key_others_fault e front None mid after n holds gives fails = absurd holds
+  key_others_fault e front (Some i) mid after n holds gives (failed, inl w) = absurd (none_asked mid w.1)
+  key_others_fault e front (Some i) mid after n holds gives (failed, inr f) =
+      (failed, inr (others_fault e front i mid gives f))
+
   module _ (may wants : List ℕ → Type 0) (e : ErrorKind) where
     abbrev pub KeyFails : Input → Input → Type 0
     KeyFails = Fails (private_key_read at) (AllocatesInKey encoding may wants) e
@@ -54,8 +76,5 @@ module _ {V : Type 0} {encoding : V → List ℕ → Type 0} {at : FrontReading 
         let s = (front_reads law d).gives i g.0 front bytes g.1 in (
           fails.0,
           ⊎_elim (λ w. inl (w.0, inr (front, (s.0, g.0, s.2, rw g.2 at w.1, s.1))))
-              (λ f. inr
-              (ap (λ r. r >>= λ q. made (key_from q.0.1) (others_read at q.0.0) q.1) g.1
-              ∙ ap (λ r. r >>= λ o. Ok (key_from front.1 o)) (rw g.2 at f)))
-              fails.1,
+              (λ f. inr (others_fault e front i mid gives f)) fails.1,
         )

@@ -68,6 +68,25 @@ impl<U: TryClone> TryClone for RsaPrivateKey<U> {
         × (key.other_prime_infos ≡ None) };
 
     fn try_clone(&self, alloc: Global) -> Result<RsaPrivateKey<U>> {
+        self.try_clone(alloc)
+    }
+}
+
+impl<U: TryClone> RsaPrivateKey<U> {
+    ghost use Rattle.std.specs.Prelude.{None};
+    ghost use Rattle.pkcs1.specs.Words.{private_key_with};
+
+    /// The same key, or `OutOfMemory`.
+    pub fn try_clone(&self, alloc: Global) -> Result<RsaPrivateKey<U>>
+        ensures ok { IfOk result (λ copy. private_key_with U.value copy ≡ private_key_with U.value self.now) }
+        ensures err { IfErr result (λ e. e.kind ≡ ErrorKind.OutOfMemory) }
+        ensures may_allocate { let key = self.now in
+            U.never_out_of_memory key.modulus → U.never_out_of_memory key.public_exponent
+            → U.never_out_of_memory key.private_exponent → U.never_out_of_memory key.prime1
+            → U.never_out_of_memory key.prime2 → U.never_out_of_memory key.exponent1
+            → U.never_out_of_memory key.exponent2 → U.never_out_of_memory key.coefficient
+            → key.other_prime_infos ≡ None → IsOk result }
+    {
         let key = self;
         let (modulus, public_exponent, private_exponent, prime1) = clone_four(
             &key.modulus,

@@ -116,6 +116,21 @@ impl<U: TryClone> TryClone for RsaPublicKey<U> {
     ghost never_out_of_memory = { λ key. U.never_out_of_memory key.modulus × U.never_out_of_memory key.public_exponent };
 
     fn try_clone(&self, alloc: Global) -> der_core::Result<RsaPublicKey<U>> {
+        self.try_clone(alloc)
+    }
+}
+
+impl<U: TryClone> RsaPublicKey<U> {
+    ghost use Rattle.std.specs.Prelude.{◌≡◌, IfErr, IfOk, IsOk};
+    ghost use Rattle.der_core.specs.declared.error.ErrorKind.{ErrorKind};
+
+    /// The same key, or `OutOfMemory`.
+    pub fn try_clone(&self, alloc: Global) -> der_core::Result<RsaPublicKey<U>>
+        ensures ok { IfOk result (λ copy. public_key_with U.value copy ≡ public_key_with U.value self.now) }
+        ensures err { IfErr result (λ e. e.kind ≡ ErrorKind.OutOfMemory) }
+        ensures may_allocate { U.never_out_of_memory self.now.modulus
+            → U.never_out_of_memory self.now.public_exponent → IsOk result }
+    {
         Ok(RsaPublicKey {
             modulus: self.modulus.try_clone(alloc)?,
             public_exponent: self.public_exponent.try_clone(alloc)?,

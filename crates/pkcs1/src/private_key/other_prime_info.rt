@@ -86,6 +86,18 @@ impl<U: TryClone> TryClone for OtherPrimeInfo<U> {
         × U.never_out_of_memory other.coefficient };
 
     fn try_clone(&self, alloc: Global) -> Result<OtherPrimeInfo<U>> {
+        self.try_clone(alloc)
+    }
+}
+
+impl<U: TryClone> OtherPrimeInfo<U> {
+    /// The same numbers, or `OutOfMemory`.
+    pub fn try_clone(&self, alloc: Global) -> Result<OtherPrimeInfo<U>>
+        ensures ok { IfOk result (λ copy. other_of U.value copy ≡ other_of U.value self.now) }
+        ensures err { IfErr result (λ e. e.kind ≡ ErrorKind.OutOfMemory) }
+        ensures may_allocate { U.never_out_of_memory self.now.prime → U.never_out_of_memory self.now.exponent
+            → U.never_out_of_memory self.now.coefficient → IsOk result }
+    {
         Ok(OtherPrimeInfo {
             prime: self.prime.try_clone(alloc)?,
             exponent: self.exponent.try_clone(alloc)?,

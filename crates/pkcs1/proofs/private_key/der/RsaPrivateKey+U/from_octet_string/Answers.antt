@@ -1,16 +1,9 @@
 use Rattle.std.proofs.lemmas.Result.{err_from_is_err_and}
 use Rattle.pkcs1.proofs.KeyMemory.{two_primes_rejected}
-use Rattle.der_core.specs.Laws.Encodings.{tlv_delimited}
-use Rattle.pkcs1.specs.Keys.{PrivateKeyContents}
-use Rattle.pkcs1.specs.Laws.PrivateKey.{private_means_one}
-use Rattle.pkcs1_params.proofs.FaultsTold.{the_meaning}
 use Rattle.pkcs1.proofs.private_key.der.RsaPrivateKey+U.from_octet_string.Goals as goal
 
 pub returns-clause-ok : goal.returns-clause-ok
-returns-clause-ok g c =
-    rw (← c.as_bytes.ensures.octets)
-    (the_meaning (tlv_delimited 48 (PrivateKeyContents g.U.Encoding.encoding)
-    (private_means_one g.U.Encoding.delimited)) _ _ c.in_ok-from_der.ensures.encoding)
+returns-clause-ok g c = rw (← c.as_bytes.ensures.octets) c.in_ok-from_der.ensures.encoding
 
 pub returns-in_err-from_der-clause-err : goal.returns-in_err-from_der-clause-err
 returns-in_err-from_der-clause-err g c =

@@ -1,11 +1,6 @@
 use Rattle.std.proofs.lemmas.Result.{err_from_is_err_and}
 use Rattle.pkcs1.proofs.KeyMemory.{rejects_as, faulty_as, owned_key_asks}
-use Rattle.pkcs1.proofs.PrivateKeys.{private_delimited}
-use Rattle.pkcs1_params.proofs.FaultsTold.{the_meaning}
 use Rattle.pkcs1.proofs.private_key.der.RsaPrivateKey+Uint.decode_owned_key.Goals as goal
-
-pub returns-clause-ok : goal.returns-clause-ok
-returns-clause-ok c = the_meaning private_delimited _ _ c.in_ok-from_der.ensures.encoding
 
 pub returns-in_err-from_der-clause-err : goal.returns-in_err-from_der-clause-err
 returns-in_err-from_der-clause-err c =
