@@ -3,12 +3,7 @@ use Rattle.std.proofs.Common.{◌≡◌, ℕ, List, ⊎_elim, inl, inr, subst, s
 use Rattle.der_core.specs.Readings.{◌>>=◌}
 use Rattle.std.specs.Prelude.{Result, Ok, Err, IfOk, IfErr, OnErr}
 use Rattle.der_core.specs.Document.{Means}
-use Rattle.der_core.specs.Reading.{ReadsAll, NoValueOrMemory}
-use Rattle.der_core.specs.declared.error.Error as der
-use Rattle.pkcs1_params.proofs.FaultsTold.{the_meaning}
-use Rattle.pkcs8_core.specs.ContainerValue.{info_of}
-use Rattle.pkcs8_core.proofs.Container.{info_delimited}
-use Rattle.pkcs8_core.specs.declared.info.PrivateKeyInfoRef.{PrivateKeyInfoRef}
+use Rattle.der_core.specs.Reading.{NoValueOrMemory}
 use Rattle.pkcs1.specs.Allocating.{MayAllocate}
 use Rattle.pkcs1.specs.KeyReadings.{rsa_private_key}
 use Rattle.pkcs1.specs.Keys.{PrivateKey, RsaPrivateKey}
@@ -45,12 +40,6 @@ module _ (info : Info) (q : List ℕ) (same : q ≡ info.private_key) (agrees : 
   pub read_held : rsa_held info ≡ rsa_private_key q
   read_held =
       ap (λ a. rsa_only a >>= λ _. rsa_private_key info.private_key) agrees ∙ ap rsa_private_key (sym same)
-
--- A whole slice that was read means the container.
-pub container_meant : (may : List ℕ → Type 0) (bytes : List ℕ) (r : Result PrivateKeyInfoRef der.Error)
-    → ReadsAll info_of PrivateKeyInfo may r bytes → IfOk r (λ info. IsTheMeaning PrivateKeyInfo bytes (info_of info))
-container_meant may bytes (Ok x) means = the_meaning info_delimited (info_of x) bytes means
-container_meant may bytes (Err e) none = tt
 
 -- What is said of the container that an encoding means, is said of the encoding.
 module _ (encoding : List ℕ) (info : Info) (is : IsTheMeaning PrivateKeyInfo encoding info) where

@@ -157,7 +157,7 @@ ok_given P (Err f) x e p = cc
 
 pub attributes_given : (may : List ℕ → Type 0) (b : List ℕ) (r : Result Attributes Error) (x : Attributes)
     → result_ok r ≡ Some x → ReadsAll attributes_of AttributesEncoding may r b → AttributesEncoding (attributes_of x) b
-attributes_given may b (Ok y) x e p = let same : y ≡ x = cc in subst (λ a. AttributesEncoding (attributes_of a) b) same p.1
+attributes_given may b (Ok y) x e p = let same : y ≡ x = cc in subst (λ a. AttributesEncoding (attributes_of a) b) same p.0.1
 attributes_given may b (Err f) x e p = cc
 
 pub no_octets : (xs : List ℕ) → true ≡ eqb (length xs) 0 → xs ≡ []

@@ -1,11 +1,7 @@
 use Rattle.pkcs1_params.proofs.FaultsTold.{the_meaning}
 use Rattle.pkcs8_core.proofs.Container.{info_delimited}
 use Rattle.pkcs8_core.proofs.ContainerReadings.{private_key_info_reads}
-use Rattle.pkcs8_core.proofs.RsaHeld.{container_meant}
 use Rattle.pkcs8_core.proofs.info.PrivateKeyInfoRefTryFromRefSliceU8.try_from.Goals as goal
-
-pub returns-clause-ok : goal.returns-clause-ok
-returns-clause-ok c = container_meant _ c.args.bytes.now _ c.from_der.ensures.encoding
 
 pub returns-in-Some-clause-ok : goal.returns-in-Some-clause-ok
 returns-in-Some-clause-ok c = rw c.algorithm_id.ensures (the_meaning info_delimited _ _ c.in-Some.ensures)
