@@ -1,4 +1,4 @@
-# Builds libpkcs1 and pkcs1_tool with a C compiler, from what ffi/generated holds of the proved code.
+# Builds libpkcs1 and pkcs1_tool with a C compiler, from what ffi/rust/generated holds of the proved code.
 #
 #     make              out/libpkcs1.a, out/libpkcs1.so and, where there is assembly for the machine, out/pkcs1_tool
 #     make check        tests them, and with cargo the crate for Rust over them
@@ -40,7 +40,7 @@ endif
 endif
 export CC CFLAGS LDFLAGS AR OBJCOPY NM READELF RUN
 
-generated := ffi/generated
+generated := ffi/rust/generated
 CODE ?= $(if $(filter other,$(machine)),c,assembly)
 code := $(generated)/$(if $(filter c,$(CODE)),pkcs1_c.c,$(machine)/pkcs1_c.s)
 ifneq ($(machine),)
@@ -70,7 +70,7 @@ $(OUT)/tool.o: $(generated)/$(machine)/pkcs1_tool.s $(OUT)/settings
 	$(assemble)
 $(OUT)/calls.o: ffi/c/pkcs1.c ffi/include/pkcs1.h ffi/include/pkcs1_c.h $(OUT)/settings
 	$(compile)
-$(OUT)/heap.o: ffi/c/heap.c $(OUT)/settings
+$(OUT)/heap.o: ffi/rust/c/heap.c $(OUT)/settings
 	$(compile)
 $(OUT)/os.o: ffi/c/os.c $(OUT)/settings
 	$(compile)

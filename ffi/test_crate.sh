@@ -35,9 +35,9 @@ linked() {
         stop "the crate isn't linked with the library in $1"
 }
 
-# The crate as cargo packages it, with nothing beside it.
-"$here/package_crate.sh" "$room/packed"
-tar xzf "$room"/packed/*.crate -C "$room"
+# The crate as cargo packages it, which builds the package, with nothing beside it.
+runs package --offline --allow-dirty --manifest-path "$here/rust/Cargo.toml"
+tar xzf "$room"/target/package/*.crate -C "$room"
 cd "$room"/pkcs1-proved-*
 for file in LICENSE-APACHE LICENSE-MIT README.md generated/PROVENANCE; do
     [ -s $file ] || stop "the crate's package lacks $file"

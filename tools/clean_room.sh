@@ -63,14 +63,24 @@ c_program() {
     make uninstall PREFIX="$prefix"
     [ -z "$(find "$prefix" ! -type d)" ] || stop "uninstall leaves files"
 }
-# A program that depends on the crate by its path.
-rust_program() {
-    mkdir -p "$room/program/src"
-    printf '%s\n' '[package]' 'name = "program"' 'edition = "2021"' '[dependencies]' \
-        "pkcs1-proved = { path = \"$PWD/ffi/rust\" }" > "$room/program/Cargo.toml"
+# depends_by WORDS: a program in $room/program that depends on the crate by these words.
+depends_by() {
+    rm -rf "$room/program"
+    mkdir -p "$room/program/src" "$room/program/.cargo"
+    printf '%s\n' '[package]' 'name = "program"' 'edition = "2021"' '[dependencies]' "pkcs1-proved = { $1 }" \
+        > "$room/program/Cargo.toml"
     cp ffi/rust/examples/modulus.rs "$room/program/src/main.rs"
+}
+rust_program() {
+    depends_by "path = \"$PWD/ffi/rust\""
     prints cargo run --offline --quiet --manifest-path "$room/program/Cargo.toml" --
-    rm -r "$room/program"
+}
+# Built of what cargo vendor takes out of the repository, which is the crate's package alone.
+vendored_program() {
+    depends_by "git = \"file://$PWD\""
+    cd "$room/program"
+    CARGO_HOME=$room/cargo CARGO_NET_OFFLINE=false cargo vendor > .cargo/config.toml
+    CARGO_HOME=$room/empty prints cargo run --locked --quiet --
 }
 # use WHAT: this folder, as users would.
 use() {
@@ -80,6 +90,10 @@ use() {
 }
 crate_tests() {
     (cd ffi/rust && cargo test --offline --quiet)
+}
+# Made in another folder, of sources that can't be written.
+read_only() {
+    unshare --mount sh -euc 'mount --bind -o ro . .; cd "$PWD"; make check OUT="$1" CODE=c' sh "$room/c"
 }
 release() {
     tools/release.sh "$room/release"
@@ -107,7 +121,8 @@ inside() {
     use tree
     [ "$2" = all ] || return 0
     step "tree: the crate's tests" crate_tests
-    step "tree: make check CODE=c" make check OUT=out/c CODE=c
+    step "tree: a program in Rust with the crate vendored" vendored_program
+    step "tree: make check CODE=c, of sources that can't be written" read_only
     step "a release" release
     cd "$room/unpacked"
     use release
@@ -152,7 +167,7 @@ if [ $# = 0 ]; then
     enter "$room" all
 else
     mkdir "$room/tree"
-    tar c -C "$1" --exclude=./.git --exclude=out --exclude=target --exclude=Cargo.lock . | tar x -C "$room/tree"
+    tar c -C "$1" --exclude=./.git --exclude=out --exclude=target . | tar x -C "$room/tree"
     enter "$room" half
 fi
 echo "clean room: all of it works, after $SECONDS s"

@@ -1,18 +1,18 @@
 #!/usr/bin/env bash
-# Makes ffi/generated, from which those who have no toolchain build the library and the tool: the assembly that the
-# proved crates compile to, and C. It needs rt, python3 and GNU binutils for x86-64 and aarch64; no network.
+# Makes ffi/rust/generated, from which those who have no toolchain build the library and the tool: the assembly that
+# the proved crates compile to, and C. It needs rt, python3 and GNU binutils for x86-64 and aarch64; no network.
 #
 #     tools/generate.sh            makes it, over the libraries that rt ci proved and left in crates/*/out/rlib
 #     tools/generate.sh --check    makes it in another folder, and compares the two; then tests it (generate/test.sh)
-#     tools/generate.sh --fresh    compares the hash of the sources alone with that in ffi/generated/PROVENANCE
+#     tools/generate.sh --fresh    compares the hash of the sources alone with that in ffi/rust/generated/PROVENANCE
 #
 # CRATES=FOLDER: another folder of the same crates, with their libraries. JOBS: how many proofs run at a time.
 # The status is 1 if files differ or a crate isn't proved, and 2 if something is missing or the kit is another one.
-# ffi/generated is replaced in the end, and stays as it is if anything fails.
+# ffi/rust/generated is replaced in the end, and stays as it is if anything fails.
 set -eu
 cd "$(dirname "$0")/.."
 parts=tools/generate
-generated=ffi/generated
+generated=ffi/rust/generated
 crates=$(realpath "${CRATES:-crates}")
 jobs=${JOBS:-$(nproc)}
 export PYTHONDONTWRITEBYTECODE=1
@@ -36,7 +36,7 @@ fresh() {
     local made
     made=$(sed -n 's/^sources: //p' $generated/PROVENANCE 2> /dev/null) || true
     [ "$made" = "$("$parts/sources.py" hash "$kit_version")" ] ||
-        stop 1 "ffi/generated isn't made of these sources and $kit_version: run  rt ci && tools/generate.sh"
+        stop 1 "ffi/rust/generated isn't made of these sources and $kit_version: run  rt ci && tools/generate.sh"
 }
 
 # libraries_are_proved CRATE: whether all that it is built over is proved, from the sources that are here.
@@ -151,10 +151,10 @@ make_all
 if [ "${1-}" = --check ]; then
     diff -r "$generated" "$room/generated" > "$room/differ" || {
         head -c 2000 "$room/differ" >&2
-        stop 1 "ffi/generated isn't what the proved build makes: run tools/generate.sh"
+        stop 1 "ffi/rust/generated isn't what the proved build makes: run tools/generate.sh"
     }
     $parts/test.sh
-    say "ffi/generated is what the proved build makes"
+    say "ffi/rust/generated is what the proved build makes"
 else
     rm -rf $generated.new
     cp -r "$room/generated" $generated.new

@@ -1,8 +1,8 @@
 //! Builds `libpkcs1.a` with the C compiler (CC, else `cc`) and `ar`: from the assembly in `generated`, where there is
-//! some for the target, else from the C there. In the repository `generated` and `c` stand beside the crate. Or it takes an installed library of this version: the one in the folder
+//! some for the target, else from the C there. Or it takes an installed library of this version: the one in the folder
 //! that PKCS1_LIB names, else the one that pkg-config finds.
 use std::env;
-use std::path::{Path, PathBuf};
+use std::path::PathBuf;
 use std::process::{exit, Command};
 
 const NAME: &str = "libpkcs1.a";
@@ -91,15 +91,14 @@ fn default_compiler() -> String {
 
 /// Builds the library in cargo's folder, which is returned.
 fn built() -> PathBuf {
-    let at = if Path::new("generated").is_dir() { "" } else { "../" };
-    let sources = [code(), "c/heap.c"].map(|file| format!("{at}{file}"));
+    let sources = [code(), "c/heap.c"];
     let cc = words_of("CC").unwrap_or_else(|| vec![default_compiler()]);
     let ar = words_of("AR").unwrap_or_else(|| vec![run(&cc, &["-print-prog-name=ar"])]);
     let options = words_of("CFLAGS").unwrap_or_default();
     let out = PathBuf::from(told("OUT_DIR"));
     let archive = out.join(NAME).display().to_string();
     let mut words = vec!["rcs".to_string(), archive.clone()];
-    for file in &sources {
+    for file in sources {
         println!("cargo::rerun-if-changed={file}");
         let object = out.join(file.replace('/', "_")).with_extension("o").display().to_string();
         let mut compile: Vec<&str> = options.iter().map(String::as_str).collect();

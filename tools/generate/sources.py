@@ -1,5 +1,5 @@
 #!/usr/bin/env python3
-"""What ffi/generated is made of.
+"""What ffi/rust/generated is made of.
 
     sources.py libraries CRATE      the crates that crates.txt names for this one, in a line
     sources.py hash KIT             the hash of the sources, of what makes the files, and of what `rt version` says

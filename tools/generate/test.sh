@@ -1,11 +1,11 @@
 #!/usr/bin/env bash
-# Tests ffi/generated, and the translation to C: the objects are such that they link with anything, the C passes the
-# test of the library as the assembly does, and what the translation doesn't know it refuses. It needs gcc, clang,
+# Tests ffi/rust/generated, and the translation to C: the objects are such that they link with anything, the C passes
+# the test of the library as the assembly does, and what the translation doesn't know it refuses. It needs gcc, clang,
 # binutils and python3; for the other processor its gcc and qemu, and to compare instructions the kit.
 set -eu
 here=$(cd "$(dirname "$0")" && pwd)
 ffi=$here/../../ffi
-generated=$ffi/generated
+generated=$ffi/rust/generated
 room=$(mktemp -d)
 trap 'rm -rf "$room"' EXIT
 ulimit -t 300 # no test runs forever
@@ -76,7 +76,7 @@ objects_are_right() {
 # The library's test, over the assembly and over the C.
 library_passes() {
     local compiler flags
-    local files=("-I$ffi/include" "$ffi/c/test.c" "$ffi/c/pkcs1.c" "$ffi/c/heap.c")
+    local files=("-I$ffi/include" "$ffi/c/test.c" "$ffi/c/pkcs1.c" "$ffi/rust/c/heap.c")
     gcc -O1 "${files[@]}" "$generated/$(uname -m)/pkcs1_c.s" -o "$room/test"
     "$room/test" "$ffi/rust/tests/statuses" > /dev/null
     for compiler in gcc clang; do

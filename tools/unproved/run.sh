@@ -156,7 +156,7 @@ needs rt python3 tar > "$room/log" || stop "$(cat "$room/log")"
 page=$(rt doc) || stop "rt doesn't run"
 kit=$(dirname "$page")
 mkdir "$tree"
-tar c --exclude=./.git --exclude=out --exclude=target --exclude=Cargo.lock . | tar x -C "$tree"
+tar c --exclude=./.git --exclude=out --exclude=target . | tar x -C "$tree"
 lanes=$(nproc)
 while read -r part crate; do
     while (($(jobs -rp | wc -l) >= (lanes < 4 ? lanes : 4))); do
