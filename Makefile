@@ -10,8 +10,10 @@
 # CROSS, RUN                for another machine: CROSS=aarch64-linux-gnu- RUN=qemu-aarch64 make check
 # CODE=c                    the generated C in place of the assembly for this machine
 # OUT                       the folder for what is made
+# GENERATED                 the folder of the generated files
 PREFIX ?= /usr/local
 OUT ?= out
+GENERATED ?= ffi/rust/generated
 CFLAGS ?= -O2
 ifeq ($(origin CC),default)
 CC := $(CROSS)gcc
@@ -40,9 +42,8 @@ endif
 endif
 export CC CFLAGS LDFLAGS AR OBJCOPY NM READELF RUN
 
-generated := ffi/rust/generated
 CODE ?= $(if $(filter other,$(machine)),c,assembly)
-code := $(generated)/$(if $(filter c,$(CODE)),pkcs1_c.c,$(machine)/pkcs1_c.s)
+code := $(GENERATED)/$(if $(filter c,$(CODE)),pkcs1_c.c,$(machine)/pkcs1_c.s)
 ifneq ($(machine),)
 $(if $(and $(filter c assembly,$(CODE)),$(wildcard $(code))),,$(error CODE is c or, on x86_64 and aarch64, assembly))
 endif
@@ -66,7 +67,7 @@ $(OUT)/settings: FORCE
 
 $(OUT)/code.o: $(code) $(OUT)/settings
 	$(if $(filter c,$(CODE)),$(compile) -fno-strict-aliasing,$(assemble))
-$(OUT)/tool.o: $(generated)/$(machine)/pkcs1_tool.s $(OUT)/settings
+$(OUT)/tool.o: $(GENERATED)/$(machine)/pkcs1_tool.s $(OUT)/settings
 	$(assemble)
 $(OUT)/calls.o: ffi/c/pkcs1.c ffi/include/pkcs1.h ffi/include/pkcs1_c.h $(OUT)/settings
 	$(compile)

@@ -3,11 +3,12 @@
 # the proved crates compile to, and C. It needs rt, python3 and GNU binutils for x86-64 and aarch64; no network.
 #
 #     tools/generate.sh            makes it, over the libraries that rt ci proved and left in crates/*/out/rlib
-#     tools/generate.sh --check    makes it in another folder, and compares the two; then tests it (generate/test.sh)
-#     tools/generate.sh --fresh    compares the hash of the sources alone with that in ffi/rust/generated/PROVENANCE
+#     tools/generate.sh --check    makes it in another folder, compares the two (generate/compare.sh), and tests what it
+#                                  made (generate/test.sh, make check)
+#     tools/generate.sh --fresh    whether it is made of the sources that are here (fresh.sh), in a second
 #
 # CRATES=FOLDER: another folder of the same crates, with their libraries. JOBS: how many proofs run at a time.
-# The status is 1 if files differ or a crate isn't proved, and 2 if something is missing or the kit is another one.
+# The status is 1 if files differ or a crate isn't proved, and 2 if something is missing or the kit isn't known.
 # ffi/rust/generated is replaced in the end, and stays as it is if anything fails.
 set -eu
 cd "$(dirname "$0")/.."
@@ -29,14 +30,6 @@ needs() {
     for tool; do
         command -v "$tool" > /dev/null || stop 2 "$tool isn't installed, and is needed"
     done
-}
-
-# The one command that --fresh names.
-fresh() {
-    local made
-    made=$(sed -n 's/^sources: //p' $generated/PROVENANCE 2> /dev/null) || true
-    [ "$made" = "$("$parts/sources.py" hash "$kit_version")" ] ||
-        stop 1 "ffi/rust/generated isn't made of these sources and $kit_version: run  rt ci && tools/generate.sh"
 }
 
 # libraries_are_proved CRATE: whether all that it is built over is proved, from the sources that are here.
@@ -119,8 +112,11 @@ translate() {
     say "C"
 }
 
-make_all() {
+# make_in FOLDER: makes all, in generated/ of this folder.
+make_in() {
     local version
+    room=$1
+    mkdir "$room"
     libraries_are_proved pkcs1_c
     libraries_are_proved pkcs1_tool
     build pkcs1_c src/lib.rt --crate-type staticlib &
@@ -128,37 +124,39 @@ make_all() {
     wait $!
     translate
     version=$("$kit/toolchain/bin/clang" --version | sed -n 's/^clang version //p')
-    $parts/provenance.py "$kit_version" "$($parts/sources.py hash "$kit_version")" "$version" \
+    $parts/provenance.py "$kit_version" "$($parts/sources.py hash)" "$version" \
         "$room/pkcs1_c.x86_64/kept/0/tables.ll" "$room/pkcs1_tool.x86_64/kept/0/tables.ll" \
         > "$room/generated/PROVENANCE"
 }
-
-needs rt python3
-kit_version=$(rt version) || stop 2 "rt doesn't run"
-kit=$(dirname "$(rt doc)")
-case "$#:${1-}" in
-    1:--fresh)
-        fresh
-        exit 0
-        ;;
-    0: | 1:--check) ;;
-    *) stop 2 "it takes --check, --fresh or nothing" ;;
-esac
-needs ar objdump aarch64-linux-gnu-objdump
-room=$(mktemp -d)
-trap 'wait; rm -rf "$room"' EXIT
-make_all
-if [ "${1-}" = --check ]; then
-    diff -r "$generated" "$room/generated" > "$room/differ" || {
-        head -c 2000 "$room/differ" >&2
-        stop 1 "ffi/rust/generated isn't what the proved build makes: run tools/generate.sh"
-    }
-    $parts/test.sh
-    say "ffi/rust/generated is what the proved build makes"
-else
+check() {
+    make_in "$rooms/checked"
+    $parts/compare.sh "$room/generated" || stop 1 "rt ci && tools/generate.sh makes it again"
+    $parts/test.sh "$room/generated"
+    make check OUT="$room/out" GENERATED="$room/generated"
+    say "what was made is tested"
+}
+replace() {
+    make_in "$rooms/only"
     rm -rf $generated.new
     cp -r "$room/generated" $generated.new
     rm -rf $generated
     mv $generated.new $generated
     say $generated
-fi
+}
+
+needs python3
+case "$#:${1-}" in
+    1:--fresh) exec tools/fresh.sh ;;
+    0:) action=replace ;;
+    1:--check)
+        action=check
+        tools/fresh.sh || exit 1
+        ;;
+    *) stop 2 "it takes --check, --fresh or nothing" ;;
+esac
+needs rt ar objdump aarch64-linux-gnu-objdump
+kit_version=$(rt version) || stop 2 "rt doesn't run"
+kit=$(dirname "$(rt doc)")
+rooms=$(mktemp -d)
+trap 'wait; rm -rf "$rooms"' EXIT
+$action

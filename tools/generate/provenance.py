@@ -21,7 +21,9 @@ and the assembly, assembled by it, is the code that the proved build made. To se
 these sources, with that kit:
 
     rt ci                          proves the crates, an hour
-    tools/generate.sh --check      makes the files again elsewhere, and compares
+    tools/generate.sh --check      makes the files again elsewhere, compares and tests them
+
+Another build of the kit may compile otherwise. Then the files that it makes are tested.
 
 Licences. Functions that each module has, by the crate that they come from:
 

@@ -2,10 +2,10 @@
 """What ffi/rust/generated is made of.
 
     sources.py libraries CRATE      the crates that crates.txt names for this one, in a line
-    sources.py hash KIT             the hash of the sources, of what makes the files, and of what `rt version` says
+    sources.py hash                 the hash of the sources, and of what makes the files
 
-Comments, contracts, ghosts and tests make no code that is kept: they are left out, so that a change of them alone makes
-no new files.
+The build of the toolchain isn't in the hash, but named beside it. Comments, contracts, ghosts and tests make no code
+that is kept: they are left out, so that a change of them alone makes no new files.
 """
 import glob
 import hashlib
@@ -47,10 +47,10 @@ def code(text):
     return "\n".join(made)
 
 
-def sources_hash(kit):
-    """The hash of the kit's version, the crates' lines and code, and the makers."""
+def sources_hash():
+    """The hash of the crates' lines and code, and of the makers."""
     known = crates()
-    made = hashlib.sha256(kit.encode())
+    made = hashlib.sha256()
     for name in sorted(below("pkcs1_c", known) | below("pkcs1_tool", known)):
         made.update(repr(known[name]).encode())
         for path in sorted(glob.glob(f"crates/{name}/src/**/*.rt", recursive=True)):
@@ -69,7 +69,7 @@ def main():
     if sys.argv[1] == "libraries":
         print(*crates()[sys.argv[2]][1])
     else:
-        print(sources_hash(sys.argv[2]))
+        print(sources_hash())
 
 
 main()

@@ -1,11 +1,12 @@
 #!/usr/bin/env bash
-# Tests ffi/rust/generated, and the translation to C: the objects are such that they link with anything, the C passes
-# the test of the library as the assembly does, and what the translation doesn't know it refuses. It needs gcc, clang,
-# binutils and python3; for the other processor its gcc and qemu, and to compare instructions the kit.
+# test.sh [FOLDER]: tests the files that generate.sh made there, else in ffi/rust/generated: the objects are such that
+# they link with anything, and the C passes the test of the library as the assembly does. And what makes and compares
+# them: what the translation to C doesn't know it refuses. It needs gcc, clang, binutils and python3; for the other
+# processor its gcc and qemu, and to compare instructions the kit.
 set -eu
 here=$(cd "$(dirname "$0")" && pwd)
 ffi=$here/../../ffi
-generated=$ffi/rust/generated
+generated=$(realpath "${1:-$ffi/rust/generated}")
 room=$(mktemp -d)
 trap 'rm -rf "$room"' EXIT
 ulimit -t 300 # no test runs forever
@@ -140,17 +141,50 @@ another_kit_is_refused() {
 # hash_after EDIT: the hash of the sources if der_core/src/length.rt is edited so.
 hash_after() {
     sed "$1" "$here/../../crates/der_core/src/length.rt" > "$room/tree/crates/der_core/src/length.rt"
-    "$room/tree/tools/generate/sources.py" hash kit
+    "$room/tree/tools/generate/sources.py" hash
 }
 hash_is_of_code() {
     local hash edit
     mkdir "$room/tree"
-    (cd "$here/../.." && tar c crates.txt crates/*/src tools/generate.sh tools/generate) | tar x -C "$room/tree"
+    (cd "$here/../.." && tar c crates.txt crates/*/src tools/{generate,fresh}.sh tools/generate) | tar x -C "$room/tree"
     hash=$(hash_after '')
     for edit in 's,^//,// Or:,' 's/^\( *ensures .*{\)/\1 1 ≡ 1 ×/' '/^ghost use/d' '/tactic/d'; do
         [ "$(hash_after "$edit")" = "$hash" ] || stop "the hash changes with $edit"
     done
     [ "$(hash_after 's/0x84/0x85/')" != "$hash" ] || stop "the hash doesn't change with the code"
+}
+
+# passes_if FOLDER TEXT and fails_if FOLDER TEXT: compare.sh, in the copy, has this status, and one line has this text.
+passes_if() {
+    "$room/tree/tools/generate/compare.sh" "$1" > "$room/said" || stop "compare.sh fails, and not: $2"
+    grep -q "$2" "$room/said" || stop "compare.sh says $(cat "$room/said"), not: $2"
+}
+fails_if() {
+    "$room/tree/tools/generate/compare.sh" "$1" 2> "$room/said" && stop "compare.sh passes, and not: $2"
+    grep -q "$2" "$room/said" || stop "compare.sh says $(cat "$room/said"), not: $2"
+}
+# What the build that PROVENANCE names makes has to be the same; what another one makes is told. And whether the files
+# are fresh doesn't depend on the build. A stand-in for rt calls itself another build.
+other_builds_are_told() {
+    local tree=$room/tree made=$room/other_build another=$room/bin:$PATH
+    mkdir -p "$tree/ffi/rust" "$room/bin"
+    printf '#!/bin/sh\n[ "$*" != version ] || exec echo another\nexec %s "$@"\n' "$(command -v rt)" > "$room/bin/rt"
+    chmod +x "$room/bin/rt"
+    cp -r "$generated" "$tree/ffi/rust/generated"
+    cp -r "$generated" "$made"
+    passes_if "$made" 'is what the proved build makes'
+    sed -i '100s/.*/another/' "$made/pkcs1_c.c"
+    fails_if "$made" "isn't what the proved build makes"
+    sed -i "s/^kit: .*/kit: $(PATH=$another rt version)/" "$made/PROVENANCE"
+    passes_if "$made" 'another other files: 2 lines are in one of them only$'
+    sed -i 's/^sources: .*/sources: others/' "$made/PROVENANCE"
+    fails_if "$made" 'of other sources'
+
+    sed -i "s/^sources: .*/sources: $(hash_after '')/" "$tree/ffi/rust/generated/PROVENANCE"
+    PATH=$another "$tree/tools/generate.sh" --fresh || stop "the files aren't fresh for another build"
+    hash_after 's/0x84/0x85/' > "$room/hash"
+    PATH=$another "$tree/tools/generate.sh" --fresh 2> "$room/said" && stop "the files are fresh for other sources"
+    grep -q 'made of other sources' "$room/said" || stop "other sources are told otherwise: $(cat "$room/said")"
 }
 
 # What differs from the code of an object is told: an instruction, a constant, a name.
@@ -173,9 +207,10 @@ other_machines_are_refused
 unknown_is_refused
 another_kit_is_refused
 hash_is_of_code
+other_builds_are_told
 if command -v rt > /dev/null; then
     clang=$(dirname "$(rt doc)")/toolchain/bin/clang
     "$here/test_opcodes.py" "$clang" "$room"
     other_code_is_told "$clang"
 fi
-echo "generated: the objects, the library's test over assembly and C, the translation"
+echo "generated: the objects, the library's test over assembly and C, the translation, other builds"

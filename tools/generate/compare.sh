@@ -1,0 +1,30 @@
+#!/usr/bin/env bash
+# compare.sh MADE: are the files in this folder, made of the sources that are here, those of ffi/rust/generated? They
+# must be if the build of the kit is the one that PROVENANCE names. Another build may compile otherwise, and then one
+# line says how many lines differ. The status is 1 if the files aren't as they must be.
+set -eu
+made=$(realpath "$1")
+cd "$(dirname "$0")/../.."
+generated=ffi/rust/generated
+
+stop() {
+    printf 'tools/generate.sh: %s\n' "$*" >&2
+    exit 1
+}
+# says FOLDER WORD: what PROVENANCE there says behind this word.
+says() {
+    sed -n "s/^$2: //p" "$1/PROVENANCE"
+}
+
+[ "$(says "$made" sources)" = "$(says $generated sources)" ] || stop "$generated is made of other sources"
+if [ "$(says "$made" kit)" = "$(says $generated kit)" ]; then
+    diff -r $generated "$made" > /dev/null || {
+        diff -r $generated "$made" | head -c 2000 >&2
+        stop "$generated isn't what the proved build makes"
+    }
+    echo "generate: $generated is what the proved build makes"
+else
+    lines=$(diff -ar -x PROVENANCE $generated "$made" | grep -c '^[<>]') || true
+    echo "generate: $(says $generated kit) made $generated, and $(says "$made" kit) other files:" \
+        "$lines lines are in one of them only"
+fi
