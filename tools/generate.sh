@@ -4,7 +4,7 @@
 #
 #     tools/generate.sh            makes it, over the libraries that rt ci proved and left in crates/*/out/rlib
 #     tools/generate.sh --check    makes it in another folder, compares the two (generate/compare.sh), and tests what it
-#                                  made (generate/test.sh, make check)
+#                                  made (generate/test.sh, make check). If they differ, it is made once more
 #     tools/generate.sh --fresh    whether it is made of the sources that are here (fresh.sh), in a second
 #
 # CRATES=FOLDER: another folder of the same crates, with their libraries. JOBS: how many proofs run at a time.
@@ -43,6 +43,13 @@ libraries_are_proved() {
         [ -z "$(find "$crates/$library/src" -newermc "$proved")" ] ||
             say "note: a file of $library is newer than its proof; if rt ci wasn't run since, run it"
     done
+}
+# library_files: the files of these libraries, as they are now.
+library_files() {
+    local library
+    for library in $("$parts/sources.py" libraries pkcs1_c; "$parts/sources.py" libraries pkcs1_tool); do
+        [ ! -d "crates/$library" ] || find "$crates/$library/out/rlib" -type f -printf '%p %i %T@\n'
+    done | sort -u
 }
 
 # toolchain FOLDER: a toolchain that keeps what clang is given.
@@ -119,6 +126,7 @@ make_in() {
     mkdir "$room"
     libraries_are_proved pkcs1_c
     libraries_are_proved pkcs1_tool
+    library_files > "$room/libraries"
     build pkcs1_c src/lib.rt --crate-type staticlib &
     build pkcs1_tool src/main.rt
     wait $!
@@ -127,10 +135,20 @@ make_in() {
     $parts/provenance.py "$kit_version" "$($parts/sources.py hash)" "$version" \
         "$room/pkcs1_c.x86_64/kept/0/tables.ll" "$room/pkcs1_tool.x86_64/kept/0/tables.ll" \
         > "$room/generated/PROVENANCE"
+    library_files | cmp -s - "$room/libraries" || stop 1 "libraries were proved again meanwhile: let rt ci end first"
 }
+# One making in many came out otherwise. So it is two makings that have to agree: that in the tree, and one of two here.
 check() {
-    make_in "$rooms/checked"
-    $parts/compare.sh "$room/generated" || stop 1 "rt ci && tools/generate.sh makes it again"
+    local it
+    make_in "$rooms/first"
+    $parts/compare.sh "$room/generated" || {
+        say "all is made once more"
+        make_in "$rooms/second"
+        for it in "$rooms"/first/*/kept; do
+            diff -rq -x words "$it" "$room/${it#"$rooms/first/"}" || true
+        done
+        $parts/compare.sh "$room/generated" || stop 1 "twice it isn't: rt ci && tools/generate.sh makes it again"
+    }
     $parts/test.sh "$room/generated"
     make check OUT="$room/out" GENERATED="$room/generated"
     say "what was made is tested"

@@ -209,8 +209,9 @@ another_kit_is_refused
 hash_is_of_code
 other_builds_are_told
 if command -v rt > /dev/null; then
-    clang=$(dirname "$(rt doc)")/toolchain/bin/clang
-    "$here/test_opcodes.py" "$clang" "$room"
-    other_code_is_told "$clang"
+    kit=$(dirname "$(rt doc)")
+    "$here/test_opcodes.py" "$kit/toolchain/bin/clang" "$room"
+    other_code_is_told "$kit/toolchain/bin/clang"
+    "$here/test_making.sh" "$kit"
 fi
 echo "generated: the objects, the library's test over assembly and C, the translation, other builds"
