@@ -81,7 +81,7 @@ $(OUT)/proved.o: $(OUT)/code.o $(OUT)/heap.o
 $(OUT)/libpkcs1.a: $(OUT)/proved.o $(OUT)/calls.o ffi/link.sh
 	ffi/link.sh $(OUT)
 $(OUT)/pkcs1_tool: $(OUT)/tool.o $(OUT)/os.o $(OUT)/heap.o
-	$(CC) $(CFLAGS) -fno-lto $(LDFLAGS) -o $@ $^
+	$(CC) $(CFLAGS) -fno-lto $(LDFLAGS) -Wl,-z,relro,-z,now -o $@ $^
 
 check: all
 	ffi/check.sh $(OUT)

@@ -19,6 +19,16 @@ c_test() {
     $CC ${CFLAGS-} -std=c99 -Iffi/include ffi/c/test.c "$@" -o "$tests/$name"
     ${RUN-} "$tests/$name" ffi/rust/tests/statuses
 }
+# The C test in a program with functions of the proved calls' names, but for those that it calls itself: the shared
+# library calls its own.
+clash() {
+    own=$(grep -o 'pkcs1_c_[a-z0-9_]*(' ffi/c/test.c | tr -d '(')
+    {
+        echo '#include <stdlib.h>'
+        grep '^pkcs1_c_' "$out/declared" | grep -vxF "$own" | sed 's/.*/void &(void);\nvoid &(void) { abort(); }/'
+    } > "$tests/clash.c"
+    c_test clash "$tests/clash.c" "-L$out" -lpkcs1 "-Wl,-rpath,$out"
+}
 # The tool's rows, and what else can be seen of it from outside.
 tool() {
     program=$out/pkcs1_tool
@@ -51,6 +61,7 @@ crate() {
 ffi/check_object.sh "$out"
 c_test static "$out/libpkcs1.a"
 c_test shared "-L$out" -lpkcs1 "-Wl,-rpath,$out"
+clash
 say "the C test, with the static and the shared library"
 [ ! -x "$out/pkcs1_tool" ] || tool
 [ -n "${RUN-}" ] || crate

@@ -1,7 +1,7 @@
 #!/bin/sh
 # link.sh OUT: links OUT/proved.o, the proved calls, and OUT/calls.o, those of pkcs1.h over them, into libpkcs1.a and
-# libpkcs1.so.VERSION, in which only what the headers declare is global. The Makefile and build.sh call it. CC, CFLAGS,
-# LDFLAGS, AR, OBJCOPY and NM are as in the Makefile.
+# libpkcs1.so.VERSION, in which only what the headers declare is global. No other definition of a proved call takes its
+# place there. The Makefile and build.sh call it. CC, CFLAGS, LDFLAGS, AR, OBJCOPY and NM are as in the Makefile.
 set -eu
 out=$1
 headers=$(dirname "$0")/include
@@ -18,7 +18,7 @@ rm -f "$out"/libpkcs1.*
 # Else a C library's own start files, as those of musl, may add names.
 printf '{ global: %s local: *; };\n' "$(sed 's/$/;/' "$out/declared")" > "$out/exports.map"
 $CC ${CFLAGS-} -fno-lto -shared ${LDFLAGS-} -o "$out/libpkcs1.so.$version" -Wl,-soname,libpkcs1.so.0 \
-    -Wl,--version-script="$out/exports.map" "$out/pkcs1.o"
+    -Wl,--version-script="$out/exports.map" -Wl,-Bsymbolic,-z,relro,-z,now "$out/pkcs1.o"
 # Copies, since rt ci takes no tree with links.
 cp "$out/libpkcs1.so.$version" "$out/libpkcs1.so.0"
 cp "$out/libpkcs1.so.$version" "$out/libpkcs1.so"

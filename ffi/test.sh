@@ -70,12 +70,12 @@ fi
 version=$("$room/test" --version)
 word=install${UNPROVED:+-unproved}
 export LIBDIR=$room/c/lib64
-(umask 077 && CFLAGS=-DNDEBUG LDFLAGS=-Wl,-z,now "$here/build.sh" $word "$room/c" > /dev/null)
+(umask 077 && CFLAGS=-DNDEBUG LDFLAGS=-Wl,-z,nodelete "$here/build.sh" $word "$room/c" > /dev/null)
 cp "$room/modulus" "$room/pkcs1_tool"
 "$here/install.sh" add "$room/c" "$version" "$out" "$room/pkcs1_tool" > /dev/null
 [ -z "$(find "$room/c" -type d ! -perm 755 -o -type f ! -perm 644 ! -path "*/bin/*")" ] ||
     stop "others can't read what is installed"
-readelf -d "$LIBDIR/libpkcs1.so" | grep -q BIND_NOW || stop "LDFLAGS aren't used"
+readelf -d "$LIBDIR/libpkcs1.so" | grep -q NODELETE || stop "LDFLAGS aren't used"
 if have pkg-config "LIBDIR isn't tested"; then
     "$CC" "$here/c/modulus.c" $(PKG_CONFIG_PATH=$LIBDIR/pkgconfig pkg-config --cflags --libs libpkcs1) -o "$room/shared"
 fi
