@@ -24,6 +24,7 @@ doc=${DESTDIR-}$prefix/share/doc/libpkcs1
 bin=${DESTDIR-}$prefix/bin
 man=${DESTDIR-}$prefix/share/man/man1
 file_version=${version%%-*}
+soname=libpkcs1.so.${version%%.*}
 
 # put MODE FILE FOLDER: replaces the file of this name in one step. A program that maps the old one goes on with it.
 put() {
@@ -42,8 +43,8 @@ add() {
     put 644 "$here/include/pkcs1_c.h" "$include"
     put 644 "$built/libpkcs1.a" "$lib"
     put 644 "$built/libpkcs1.so.$file_version" "$lib"
-    link "libpkcs1.so.$file_version" libpkcs1.so.0 "$lib"
-    link libpkcs1.so.0 libpkcs1.so "$lib"
+    link "libpkcs1.so.$file_version" "$soname" "$lib"
+    link "$soname" libpkcs1.so "$lib"
     to_prefix=$(realpath -sm --relative-to="$libdir/pkgconfig" "$prefix")
     text=$(< "$here/libpkcs1.pc.in")
     text=${text//@version@/"$version"}
@@ -65,8 +66,9 @@ remove() {
         echo "ffi/install.sh: libpkcs1 isn't installed below ${DESTDIR-}$prefix" >&2
         exit 1
     }
-    rm -f "$include/pkcs1.h" "$include/pkcs1_c.h" "$lib"/libpkcs1.{a,so,so.0} "$lib/libpkcs1.so.$file_version" \
-        "$lib/pkgconfig/libpkcs1.pc" "$bin/pkcs1_tool" "$man/pkcs1_tool.1" "$doc"/LICENSE-{APACHE,MIT}
+    rm -f "$include/pkcs1.h" "$include/pkcs1_c.h" "$lib"/libpkcs1.{a,so} "$lib/$soname" \
+        "$lib/libpkcs1.so.$file_version" "$lib/pkgconfig/libpkcs1.pc" "$bin/pkcs1_tool" "$man/pkcs1_tool.1" \
+        "$doc"/LICENSE-{APACHE,MIT}
     rmdir --ignore-fail-on-non-empty "$doc"
 }
 case $action in

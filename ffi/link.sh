@@ -6,6 +6,7 @@ set -eu
 out=$1
 headers=$(dirname "$0")/include
 version=$(sed -n 's/^#define PKCS1_VERSION_[A-Z]* //p' "$headers/pkcs1.h" | paste -s -d .)
+soname=libpkcs1.so.${version%%.*}
 export LC_ALL=C
 
 {
@@ -17,10 +18,10 @@ ${OBJCOPY:-objcopy} --keep-global-symbols="$out/declared" "$out/pkcs1.o"
 rm -f "$out"/libpkcs1.*
 # Else a C library's own start files, as those of musl, may add names.
 printf '{ global: %s local: *; };\n' "$(sed 's/$/;/' "$out/declared")" > "$out/exports.map"
-$CC ${CFLAGS-} -fno-lto -shared ${LDFLAGS-} -o "$out/libpkcs1.so.$version" -Wl,-soname,libpkcs1.so.0 \
-    -Wl,--version-script="$out/exports.map" -Wl,-Bsymbolic,-z,relro,-z,now "$out/pkcs1.o"
+$CC ${CFLAGS-} -fno-lto -shared ${LDFLAGS-} -o "$out/libpkcs1.so.$version" -Wl,-soname,"$soname" \
+    -Wl,--version-script="$out/exports.map" -Wl,-Bsymbolic,-z,relro,-z,now,-z,defs "$out/pkcs1.o"
 # Copies, since rt ci takes no tree with links.
-cp "$out/libpkcs1.so.$version" "$out/libpkcs1.so.0"
+cp "$out/libpkcs1.so.$version" "$out/$soname"
 cp "$out/libpkcs1.so.$version" "$out/libpkcs1.so"
 ${AR:-ar} rcs "$out/libpkcs1.a" "$out/pkcs1.o"
 

@@ -88,6 +88,20 @@ use() {
     step "$1: a program in C" c_program
     step "$1: a program in Rust" rust_program
 }
+# The shared library has its number from the header, and all that it calls from itself and the C library.
+shared_library() {
+    local prefix=$room/seven
+    git clone --quiet . "$room/other"
+    sed -i 's/^\(#define PKCS1_VERSION_MAJOR\) .*/\1 7/' "$room/other/ffi/include/pkcs1.h"
+    make -C "$room/other" install PREFIX="$prefix"
+    readelf -d "$prefix/lib/libpkcs1.so" | grep -q 'SONAME.*\.so\.7\]' || stop "the soname has another number"
+    [ "$(readlink "$prefix/lib/libpkcs1.so")" = libpkcs1.so.7 ] || stop "the library is installed by another number"
+    make -C "$room/other" uninstall PREFIX="$prefix"
+    [ -z "$(find "$prefix" ! -type d)" ] || stop "uninstall leaves a library of another number"
+    objcopy --redefine-sym calloc=call_of_none "$room/other/out/calls.o"
+    ! CC=cc ffi/link.sh "$room/other/out" 2> "$room/printed" || stop "a call that isn't defined is linked"
+    grep -q call_of_none "$room/printed" || stop "a call that isn't defined isn't named"
+}
 crate_tests() {
     (cd ffi/rust && cargo test --offline --quiet)
 }
@@ -123,6 +137,7 @@ inside() {
     step "tree: the crate's tests" crate_tests
     step "tree: a program in Rust with the crate vendored" vendored_program
     step "tree: make check CODE=c, of sources that can't be written" read_only
+    step "tree: the shared library" shared_library
     step "a release" release
     cd "$room/unpacked"
     use release
