@@ -76,7 +76,7 @@ $(OUT)/heap.o: ffi/rust/c/heap.c $(OUT)/settings
 $(OUT)/os.o: ffi/c/os.c $(OUT)/settings
 	$(compile)
 $(OUT)/proved.o: $(OUT)/code.o $(OUT)/heap.o
-	$(CC) $(CFLAGS) -fno-lto -r -nostdlib -o $@ $^
+	$(CC) $(CFLAGS) -fno-lto -fno-sanitize=all -r -nostdlib -o $@ $^
 	$(OBJCOPY) --wildcard --keep-global-symbol='pkcs1_c_*' $@
 $(OUT)/libpkcs1.a: $(OUT)/proved.o $(OUT)/calls.o ffi/link.sh
 	ffi/link.sh $(OUT)

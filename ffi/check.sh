@@ -40,6 +40,12 @@ tool() {
     PROGRAMS=$program EMULATED=${RUN-} crates/pkcs1_tool/run_built.sh
 }
 crate() {
+    case "$CC ${CFLAGS-}" in
+        *-fsanitize=*)
+            say "the library is built with a sanitizer: the crate for Rust isn't tested"
+            return
+            ;;
+    esac
     command -v cargo > /dev/null || {
         say "cargo isn't installed: the crate for Rust isn't tested"
         return

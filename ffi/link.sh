@@ -13,13 +13,16 @@ export LC_ALL=C
     grep -oh 'pkcs1_[a-z0-9_]*(' "$headers/pkcs1.h" "$headers/pkcs1_c.h" | tr -d '('
     grep -h '^extern const' "$headers/pkcs1.h" "$headers/pkcs1_c.h" | grep -o 'pkcs1_oid_[a-z0-9_]*'
 } | sort -u > "$out/declared"
-$CC ${CFLAGS-} -fno-lto -r -nostdlib -o "$out/pkcs1.o" "$out/proved.o" "$out/calls.o"
+$CC ${CFLAGS-} -fno-lto -fno-sanitize=all -r -nostdlib -o "$out/pkcs1.o" "$out/proved.o" "$out/calls.o"
 ${OBJCOPY:-objcopy} --keep-global-symbols="$out/declared" "$out/pkcs1.o"
 rm -f "$out"/libpkcs1.*
 # Else a C library's own start files, as those of musl, may add names.
 printf '{ global: %s local: *; };\n' "$(sed 's/$/;/' "$out/declared")" > "$out/exports.map"
+# A sanitizer's calls are in the program that is linked with it.
+hardened=-Wl,-Bsymbolic,-z,relro,-z,now
+case "$CC ${CFLAGS-}" in *-fsanitize=*) ;; *) hardened=$hardened,-z,defs ;; esac
 $CC ${CFLAGS-} -fno-lto -shared ${LDFLAGS-} -o "$out/libpkcs1.so.$version" -Wl,-soname,"$soname" \
-    -Wl,--version-script="$out/exports.map" -Wl,-Bsymbolic,-z,relro,-z,now,-z,defs "$out/pkcs1.o"
+    -Wl,--version-script="$out/exports.map" $hardened "$out/pkcs1.o"
 # Copies, since rt ci takes no tree with links.
 cp "$out/libpkcs1.so.$version" "$out/$soname"
 cp "$out/libpkcs1.so.$version" "$out/libpkcs1.so"

@@ -1,7 +1,8 @@
 #!/usr/bin/env bash
 # Does what README says to users work for one who has a C compiler and cargo, and nothing of the toolchain? Here the
 # toolchain's folders are empty, and there is no network. A clone is built, tested, installed and used as README and
-# docs/USING.md say, then a release alike, then the library is built for other machines and tested under qemu.
+# docs/USING.md say, and with sanitizers, then a release alike, then the library is built for
+# other machines and tested under qemu.
 #
 #     tools/clean_room.sh             all of this
 #     tools/clean_room.sh FOLDER      the first half of it, of a copy of this folder: README's commands, and programs
@@ -88,6 +89,11 @@ use() {
     step "$1: a program in C" c_program
     step "$1: a program in Rust" rust_program
 }
+# By clang, whose sanitizers stop at what they find.
+sanitized() {
+    make check OUT=out/sanitized CODE=c CC=clang \
+        CFLAGS='-O1 -g -fsanitize=address,undefined -fno-sanitize-recover=all'
+}
 # The shared library has its number from the header, and all that it calls from itself and the C library.
 shared_library() {
     local prefix=$room/seven
@@ -137,6 +143,7 @@ inside() {
     step "tree: the crate's tests" crate_tests
     step "tree: a program in Rust with the crate vendored" vendored_program
     step "tree: make check CODE=c, of sources that can't be written" read_only
+    step "tree: make check CODE=c, with sanitizers" sanitized
     step "tree: the shared library" shared_library
     step "a release" release
     cd "$room/unpacked"
@@ -164,19 +171,22 @@ enter() {
     inside "$2" "$3"
     exit
 }
+room=$(mktemp -d)
+trap 'rm -rf "$room"' EXIT
 needs unshare make cc ar objcopy readelf pkg-config cargo
 case $#:${1-} in
     0: | 1:--needs)
         for machine in $others; do
             needs "$machine-linux-gnu-gcc" "qemu-$machine"
         done
-        needs git
+        needs git clang
+        echo 'int main(void) { return 0; }' > "$room/empty.c"
+        clang -fsanitize=address,undefined "$room/empty.c" -o "$room/empty" 2> /dev/null ||
+            stop "clang's sanitizers (libclang-rt-14-dev) aren't installed, and are needed"
         ;;
     1:-*) stop "there is no $1" ;;
 esac
 [ "${1-}" != --needs ] || exit 0
-room=$(mktemp -d)
-trap 'rm -rf "$room"' EXIT
 if [ $# = 0 ]; then
     git clone --quiet "$here/.." "$room/tree"
     enter "$room" all
