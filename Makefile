@@ -1,7 +1,7 @@
 # Builds libpkcs1 and pkcs1_tool with a C compiler, from what ffi/rust/generated holds of the proved code.
 #
 #     make              out/libpkcs1.a, out/libpkcs1.so and, where there is assembly for the machine, out/pkcs1_tool
-#     make check        tests them, and with cargo the crate for Rust over them
+#     make check        tests them, and with cargo the crate for Rust over them; make test does the same
 #     make install      below PREFIX; make uninstall removes it
 #     make clean
 #
@@ -17,6 +17,9 @@ GENERATED ?= ffi/rust/generated
 CFLAGS ?= -O2
 ifeq ($(origin CC),default)
 CC := $(CROSS)gcc
+endif
+ifneq ($(word 2,$(OUT)),)
+$(error OUT can't have a space: name another folder than $(OUT))
 endif
 version := $(shell sed -n 's/^.define PKCS1_VERSION_[A-Z]* //p' ffi/include/pkcs1.h | paste -s -d .)
 
@@ -83,7 +86,7 @@ $(OUT)/libpkcs1.a: $(OUT)/proved.o $(OUT)/calls.o ffi/link.sh
 $(OUT)/pkcs1_tool: $(OUT)/tool.o $(OUT)/os.o $(OUT)/heap.o
 	$(CC) $(CFLAGS) -fno-lto $(LDFLAGS) -Wl,-z,relro,-z,now -o $@ $^
 
-check: all
+check test: all
 	ffi/check.sh $(OUT)
 
 install: all
@@ -93,6 +96,10 @@ uninstall:
 
 clean:
 	rm -rf $(OUT)
+# What is made along with it is made behind it.
+ifneq ($(filter clean,$(MAKECMDGOALS)),)
+.NOTPARALLEL:
+endif
 
-.PHONY: all fresh check install uninstall clean FORCE
+.PHONY: all fresh check test install uninstall clean FORCE
 .DELETE_ON_ERROR:

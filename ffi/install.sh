@@ -57,8 +57,8 @@ add() {
         put 755 "$tool" "$bin"
         put 644 "$top/crates/pkcs1_tool/pkcs1_tool.1" "$man"
     fi
-    # What the loader keeps of its own folders names the library only then.
-    case ${DESTDIR-}$libdir in /usr/*) ldconfig 2> /dev/null || true ;; esac
+    # What the loader keeps of its own folders names the library only then. A root's PATH may lack ldconfig's folder.
+    case ${DESTDIR-}$libdir in /usr/*) PATH=$PATH:/usr/sbin:/sbin ldconfig 2> /dev/null || true ;; esac
     echo "installed below ${DESTDIR-}$prefix: libpkcs1${tool:+, pkcs1_tool and its man page}"
 }
 remove() {

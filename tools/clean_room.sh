@@ -1,7 +1,7 @@
 #!/usr/bin/env bash
 # Does what README says to users work for one who has a C compiler and cargo, and nothing of the toolchain? Here the
 # toolchain's folders are empty, and there is no network. A clone is built, tested, installed and used as README and
-# docs/USING.md say, and with sanitizers, then a release alike, then the library is built for
+# docs/USING.md say, where users may have it and with their options, then a release alike, then the library is built for
 # other machines and tested under qemu.
 #
 #     tools/clean_room.sh             all of this
@@ -89,10 +89,29 @@ use() {
     step "$1: a program in C" c_program
     step "$1: a program in Rust" rust_program
 }
+# From a source that can't be written to, in a folder elsewhere.
 # By clang, whose sanitizers stop at what they find.
 sanitized() {
     make check OUT=out/sanitized CODE=c CC=clang \
         CFLAGS='-O1 -g -fsanitize=address,undefined -fno-sanitize-recover=all'
+}
+# A folder with a space is refused, in one line, before anything is made. `clean` is through before the others begin.
+goals() {
+    local before
+    before=$(ls -A)
+    ! make OUT="$room/out put" > "$room/printed" 2>&1 || stop "make takes a folder with a space"
+    grep -q "OUT can't have a space" "$room/printed" || stop "make doesn't say that OUT has a space"
+    [ "$(wc -l < "$room/printed")" = 1 ] || stop "make says more than that OUT has a space"
+    [ "$(ls -A)" = "$before" ] || stop "make leaves something where OUT has a space"
+    mkdir "$room/slow"
+    printf '#!/bin/sh\nsleep 1\nexec %s "$@"\n' "$(command -v rm)" > "$room/slow/rm"
+    chmod +x "$room/slow/rm"
+    make OUT=out/again
+    PATH=$room/slow:$PATH make -j8 OUT=out/again clean all
+    [ -e out/again/libpkcs1.a ] || stop "make -j clean all removes what it makes"
+    make -n test | grep -q ffi/check.sh || stop "make test runs no tests"
+    ! PROGRAMS=none crates/pkcs1_tool/run_built.sh > "$room/printed" || stop "a tool that isn't there passes its tests"
+    ! grep -w rt "$room/printed" || stop "users are told to use the toolchain"
 }
 # The shared library has its number from the header, and all that it calls from itself and the C library.
 shared_library() {
@@ -107,6 +126,20 @@ shared_library() {
     objcopy --redefine-sym calloc=call_of_none "$room/other/out/calls.o"
     ! CC=cc ffi/link.sh "$room/other/out" 2> "$room/printed" || stop "a call that isn't defined is linked"
     grep -q call_of_none "$room/printed" || stop "a call that isn't defined isn't named"
+}
+# plain_program KEY: installed by a root whose PATH lacks the folder of ldconfig, the library is found by a program that
+# prints the modulus. What is written goes away with the mounts.
+plain_program() {
+    mkdir "$room/etc"
+    cp -r /etc/alternatives /etc/ld.so.conf* "$room/etc"
+    unshare --mount sh -euc '
+        mount -t tmpfs none /usr/local
+        mount -t tmpfs none /var/cache
+        mount --bind "$1" /etc
+        PATH=/usr/bin:/bin
+        make install > "$1/log"
+        cc ffi/c/modulus.c -lpkcs1 -o "$1/plain"
+        "$1/plain" "$2"' sh "$room/etc" "$1"
 }
 crate_tests() {
     (cd ffi/rust && cargo test --offline --quiet)
@@ -137,14 +170,16 @@ inside() {
     room=$1
     ! command -v rt > /dev/null || stop "the toolchain can be reached, as $(command -v rt)"
     ! grep : /proc/net/dev | grep -qv ' lo:' || stop "the network can be reached"
-    cd "$room/tree"
+    cd "$room/the tree"
     use tree
     [ "$2" = all ] || return 0
     step "tree: the crate's tests" crate_tests
     step "tree: a program in Rust with the crate vendored" vendored_program
     step "tree: make check CODE=c, of sources that can't be written" read_only
     step "tree: make check CODE=c, with sanitizers" sanitized
+    step "tree: goals of make" goals
     step "tree: the shared library" shared_library
+    step "tree: make install, without a prefix" prints plain_program
     step "a release" release
     cd "$room/unpacked"
     use release
@@ -188,11 +223,11 @@ case $#:${1-} in
 esac
 [ "${1-}" != --needs ] || exit 0
 if [ $# = 0 ]; then
-    git clone --quiet "$here/.." "$room/tree"
+    git clone --quiet "$here/.." "$room/the tree"
     enter "$room" all
 else
-    mkdir "$room/tree"
-    tar c -C "$1" --exclude=./.git --exclude=out --exclude=target . | tar x -C "$room/tree"
+    mkdir "$room/the tree"
+    tar c -C "$1" --exclude=./.git --exclude=out --exclude=target . | tar x -C "$room/the tree"
     enter "$room" half
 fi
 echo "clean room: all of it works, after $SECONDS s"

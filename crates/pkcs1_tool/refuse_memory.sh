@@ -11,8 +11,7 @@ trap 'rm -rf "$room"' EXIT
 requests=0
 failed=0
 built=("$PWD/out/pkcs1_tool" "$PWD/out/pkcs1_tool.by-rattle")
-# shellcheck disable=SC2206
-built=(${PROGRAMS:-"${built[@]}"})
+[ -z "${PROGRAMS-}" ] || mapfile -t built <<< "$PROGRAMS"
 [ -x "${built[0]}" ] || {
     echo "refuse_memory: ${built[0]} isn't there: rt run builds it" >&2
     exit 1

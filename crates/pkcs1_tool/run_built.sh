@@ -1,7 +1,7 @@
 #!/usr/bin/env bash
 # Runs the program as the gate built it, by each compiler: the rows, and every exit status that can be had, with its
 # standard error. Called by .ci/run after rt ci. It exits with 1 if any result is another than expected. PROGRAMS names
-# other programs to run; EMULATED says that they are run by an emulator.
+# other programs to run, one in each line; EMULATED says that they are run by an emulator.
 set -u
 cd "$(dirname "$0")" || exit 1
 room=$(mktemp -d) || exit 1
@@ -235,14 +235,19 @@ manual_is_right() {
 
 usage="usage: pkcs1_tool [copy pub|priv IN OUT]"
 programs=("$PWD/out/pkcs1_tool" "$PWD/out/pkcs1_tool.by-rattle")
-for program in ${PROGRAMS:-"${programs[@]}"}; do
+builder=': rt ci builds it'
+[ -z "${PROGRAMS-}" ] || {
+    mapfile -t programs <<< "$PROGRAMS"
+    builder=
+}
+for program in "${programs[@]}"; do
     if [ -x "$program" ]; then
         runs_on_rows
         runs_to_each_status
         copies_keys
         manual_is_right
     else
-        fails "it isn't there: rt ci builds it"
+        fails "it isn't there$builder"
     fi
 done
 echo "run_built: $(grep -vc -e '^#' -e '^$' rows) rows and ${less-}50 runs, of each program"
