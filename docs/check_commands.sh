@@ -1,40 +1,121 @@
 #!/usr/bin/env bash
-# Runs each block of `sh` in README.md and docs/USING.md, as it stands, where the files that it names are there: keys and
-# a certificate that OpenSSL made, a program in C, and the library and the tool that make built and installed.
+# Runs each block of `sh` in README.md and docs/USING.md, and each example of the tool's man page, as it stands, where
+# the files that it names are there: keys and a certificate that OpenSSL made, programs in C, and the library and the
+# tool that make built and installed. A block finds few tools, which a small Debian has too, and so no xxd. What the
+# blocks print and write is compared with what OpenSSL says.
 set -eu
 cd "$(dirname "$0")/.."
-for tool in make cc openssl pkg-config xxd; do
-    command -v $tool > /dev/null || { echo "docs/check_commands.sh: $tool isn't installed, and is needed" >&2 && exit 1; }
+allowed='grep ls od openssl paste pkg-config sed sh split tail tr'
+# The parameters in the certificate, and all that stands in front of them in their algorithm identifier.
+params=3034a00f300d06096086480165030402010500a11c301a06092a864886f70d010108300d06096086480165030402010500a203020120
+identifier=304106092a864886f70d01010a
+sha256=608648016503040201/05:
+printed_params="hash=$sha256 mask=2a864886f70d010108/[$sha256] salt=32 trailer=1 defaults=1 again=$params"
+
+stop() {
+    printf 'docs/check_commands.sh: %s\n' "$*" >&2
+    exit 1
+}
+# blocks FILE..: each block of these documents, in a file.
+blocks() {
+    perl -ne '
+        if (/^```(\w*)/ || /^\.(nf|fi)$/) {
+            $in = !$in && $1 =~ /^(sh|nf)$/;
+            open($to, ">", sprintf("%s/blocks/%03d", $ENV{room}, ++$count)) if $in;
+            next;
+        }
+        next if !$in;
+        if ($ARGV =~ /\.1$/) { s/\\-/-/g; s/\\\(aq/\x27/g; s/\\e/\\/g }
+        print $to $_' "$@"
+}
+# bin: the tools that a block finds. A compiler calls others by itself.
+bin() {
+    local tool
+    for tool in $allowed; do
+        ln -s "$(command -v "$tool")" "$room/bin/$tool"
+    done
+    ln -s "$room/out/pkcs1_tool" "$room/bin/pkcs1_tool"
+    printf '#!/bin/sh\nPATH=%q exec cc "$@"\n' "$PATH" > "$room/bin/cc"
+    chmod +x "$room/bin/cc"
+}
+# files: what the blocks name, and a certificate of an RSA-PSS key that is signed otherwise.
+files() {
+    local pss=(-sigopt rsa_padding_mode:pss -sigopt rsa_pss_saltlen:32)
+    openssl genrsa -out key.pem 2048 &&
+        openssl rsa -in key.pem -traditional -outform DER -out key.der &&
+        openssl rsa -in key.pem -RSAPublicKey_out -outform DER -out pub.der &&
+        openssl rsa -in key.pem -pubout -out public.pem &&
+        openssl req -new -x509 -key key.pem -subj /CN=a -sha256 "${pss[@]}" -out cert.pem &&
+        openssl genpkey -algorithm RSA-PSS -pkeyopt rsa_keygen_bits:2048 -out pss.pem &&
+        openssl req -new -key pss.pem -subj /CN=b -out pss.csr &&
+        openssl x509 -req -in pss.csr -CA cert.pem -CAkey key.pem -sha256 -out otherwise.pem &&
+        mkdir keys && cp pub.der 'keys/a key.der' && cp key.der keys/private.der &&
+        head -c 99 pub.der > keys/short.der && yes 'pub 3006020107020103' | head -n 800000 > lines
+}
+# run BLOCK: runs it, and leaves what it says of errors in `log`.
+run() {
+    PATH=$room/bin sh -eu "$1" 2> log
+}
+hex() {
+    perl -0777 -ne 'print unpack("H*", $_)' "$1"
+}
+# What the blocks print, in their order: of README, of USING, of the man page.
+wanted() {
+    local version n e d p q dp dq qi public private error='PKCS#1 ASN.1 error:'
+    read -r version n e d p q dp dq qi \
+        <<< "$(openssl asn1parse -inform DER -in key.der | sed -n 's/.*INTEGER *://p' | tr 'A-F\n' 'a-f ')"
+    public="pub n=$n e=$e again=$(hex pub.der)"
+    private="priv version=${version#0} n=$n e=$e d=$d p=$p q=$q dp=$dp dq=$dq qi=$qi again=$(hex key.der)"
+    printf '%s\n' "$public" "$public" "$private" "pss $printed_params"
+    printf '%s\n' "keys/a key.der $public" 'keys/private.der refused' 'keys/short.der refused'
+    yes 'pub n=07 e=03 again=3006020107020103' | head -n 800000
+    printf '%s\n' "keys/private.der: $error bytes follow the value" "keys/short.der: $error the input ends too early"
+    printf '%s\n' "n=$n" "$public"
+    printf '%s\n' "keys/a key.der: $error the value of tag 0x02 is not allowed" \
+        "keys/short.der: $error the input ends too early"
+    yes 'pub n=07 e=03 again=3006020107020103' | head -n 800000
+}
+# refusals: what the blocks do with files of another kind.
+refusals() {
+    local block
+    cp otherwise.pem cert.pem
+    cp pub.der params.der
+    for block in $(grep -l asn1parse "$room"/blocks/*); do
+        ! run "$block" && grep -q 'no PSS signature' log || stop "$(cat "$block") cuts of another signature: $(cat log)"
+    done
+    run "$(grep -l again.der "$room"/blocks/*)" && grep -q refused log && [ ! -s again.der ] ||
+        stop "a refusal is written to a file: $(cat log)"
+    ! pkcs1_tool < lines > log 2>&1 && grep -qx 'fault: read' log || stop "a block of long input isn't needed"
+}
+
+for tool in make cc perl $allowed; do
+    command -v $tool > /dev/null || stop "$tool isn't installed, and is needed"
 done
+export room PREFIX
 room=$(mktemp -d)
 trap 'rm -rf "$room"' EXIT
-export PREFIX=$room/installed PATH=$room/out:$PATH
-make OUT="$room/out" PREFIX="$PREFIX" install > "$room/log" 2>&1 || { cat "$room/log" >&2 && exit 1; }
-ln -s "$PWD/ffi" "$room/ffi"
-cp ffi/c/modulus.c "$room/program.c"
-perl -ne '
-    if (/^```(\w*)/) { $in = !$in && $1 eq "sh"; open($to, ">", sprintf("%s/%03d", $ENV{PREFIX}, ++$n)) if $in; next }
-    print $to $_ if $in' README.md docs/USING.md
+PREFIX=$room/installed
+mkdir "$room/bin" "$room/blocks" "$room/files"
+make OUT="$room/out" PREFIX="$PREFIX" install > "$room/log" 2>&1 || stop "make fails: $(cat "$room/log")"
+bin
+blocks README.md docs/USING.md crates/pkcs1_tool/pkcs1_tool.1
+ln -s "$PWD/ffi" "$room/out" "$room/files"
+cp ffi/c/modulus.c "$room/files/program.c"
 
-cd "$room"
-openssl genrsa -out key.pem 2048 2> log
-openssl rsa -in key.pem -traditional -outform DER -out key.der 2> log
-openssl rsa -in key.pem -RSAPublicKey_out -outform DER -out pub.der 2> log
-openssl rsa -in key.pem -pubout -out public.pem 2> log
-openssl req -new -x509 -key key.pem -subj /CN=a -sha256 -sigopt rsa_padding_mode:pss -sigopt rsa_pss_saltlen:32 \
-    -out cert.pem
+cd "$room/files"
+PATH=$room/out:$PATH
+files > log 2>&1 || stop "$(cat log)"
 count=0
-for block in "$PREFIX"/[0-9]*; do
-    bash -euo pipefail "$block" > log 2>&1 && ! grep -q refused log || {
-        cat "$block" log >&2
-        echo "docs/check_commands.sh: these commands fail" >&2
-        exit 1
-    }
+for block in "$room"/blocks/*; do
+    run "$block" >> ../printed || stop "these commands fail: $(cat "$block" log)"
     count=$((count + 1))
 done
-[ $count -gt 0 ]
-for made in key.der:checked.der pub.der:again.der; do
-    cmp "${made%:*}" "${made#*:}"
-done
-[ "$(./a.out pub.der)" = "$(openssl rsa -in key.pem -noout -modulus | sed 's/Modulus=//' | tr A-F a-f)" ]
+wanted > ../wanted
+cmp ../printed ../wanted || stop "the blocks print something else: $(diff ../printed ../wanted | cut -c -200 | head)"
+cmp key.der checked.der
+[ "$(hex params.der) $(hex again.der) $(hex alg.der)" = "$params $params $identifier$params" ] ||
+    stop "parameters are cut out or written otherwise: $(hex params.der) $(hex again.der) $(hex alg.der)"
+[ "$(./a.out pub.der)" = "$(openssl rsa -in key.pem -noout -modulus | sed 's/Modulus=//' | tr A-F a-f)" ] ||
+    stop "the program in C prints another modulus"
+refusals
 echo "$count blocks of commands do what they are for"

@@ -11,10 +11,6 @@ stop() {
     printf 'ffi/openssl_commands.sh: %s\n' "$*" >&2
     exit 1
 }
-# place CERTIFICATE: where the algorithm in front of the signature begins.
-place() {
-    openssl asn1parse -in "$1" | grep -B1 rsassaPss | tail -2 | sed -n '1s/^ *\([0-9]*\):.*/\1/p'
-}
 # run COMMAND INPUT: runs it with this input, and leaves the output in `made`.
 run() {
     local words at
@@ -23,7 +19,6 @@ run() {
         case ${words[at]} in
             -in) words[at + 1]=$2 ;;
             -out) words[at + 1]=made ;;
-            -strparse) words[at + 1]=$(place "$2") ;;
         esac
     done
     rm -f made
@@ -38,7 +33,7 @@ reads() {
 for command in 'rsa -in' 'rsa -pubin'; do
     grep -q "openssl $command" "$1" || stop "$1 has no command: openssl $command .."
 done
-# Those that write a file; docs/check_commands.sh runs the others, which write to a pipe.
+# Those that write a file; docs/check_commands.sh runs the others, which write to a pipe or ask for a place.
 sed 's/\\-/-/g' "$@" | grep -oE 'openssl [a-z0-9]+ -[^`#|"]*' | grep -e ' -out ' | sed 's/ *$//' | sort -u > "$room/commands"
 cd "$room"
 openssl genrsa -out pkcs8.pem 2048 2> log
@@ -54,16 +49,11 @@ while read -r command; do
         *' -RSAPublicKey_out '*) inputs='pkcs8.pem traditional.pem pss.pem' kind=pub ;;
         'openssl rsa '*' -traditional '*) inputs='pkcs8.pem traditional.pem pss.pem' kind=priv ;;
         'openssl pkcs8 '*) inputs='pkcs8.pem traditional.pem' kind=p8 ;;
-        'openssl asn1parse '*) inputs=certificate.pem kind=algorithm ;;
         'openssl x509 '*' -pubkey '*) inputs=certificate.pem kind=certificate ;;
         *) stop "$command: what is it for?" ;;
     esac
     for input in $inputs; do
         run "$command" "$input"
-        if [ $kind = algorithm ]; then
-            "$examples/signature_algorithm" made > log 2>&1 || stop "$command: isn't read: $(cat log)"
-            continue
-        fi
         if [ $kind = certificate ]; then
             cmp made public.pem || stop "$command: gives another key"
             continue
