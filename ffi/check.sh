@@ -1,6 +1,7 @@
 #!/bin/sh
-# check.sh OUT: tests what make left in this folder: the C test over the static and the shared library, the tool, and,
-# with cargo, the crate for Rust over the library. CC, CFLAGS and RUN are as in the Makefile, which calls this.
+# check.sh OUT: tests what make left in this folder: the C test over the static and the shared library, what the calls
+# of pkcs1.h pass to the proved ones, the tool, and, with cargo, the crate for Rust over the library. CC, CFLAGS, OBJCOPY
+# and RUN are as in the Makefile, which calls this.
 set -eu
 out=$(cd "$1" && pwd)
 cd "$(dirname "$0")/.."
@@ -16,13 +17,13 @@ say() {
 c_test() {
     name=$1
     shift
-    $CC ${CFLAGS-} -std=c99 -Iffi/include ffi/c/test.c "$@" -o "$tests/$name"
+    $CC ${CFLAGS-} -std=c99 -Iffi/include ffi/c/test.c ffi/c/rows.c "$@" -o "$tests/$name"
     ${RUN-} "$tests/$name" ffi/rust/tests/statuses
 }
 # The C test in a program with functions of the proved calls' names, but for those that it calls itself: the shared
 # library calls its own.
 clash() {
-    own=$(grep -o 'pkcs1_c_[a-z0-9_]*(' ffi/c/test.c | tr -d '(')
+    own=$(grep -oh 'pkcs1_c_[a-z0-9_]*(' ffi/c/test.c ffi/c/rows.c | tr -d '(')
     {
         echo '#include <stdlib.h>'
         grep '^pkcs1_c_' "$out/declared" | grep -vxF "$own" | sed 's/.*/void &(void);\nvoid &(void) { abort(); }/'
@@ -68,6 +69,7 @@ ffi/check_object.sh "$out"
 c_test static "$out/libpkcs1.a"
 c_test shared "-L$out" -lpkcs1 "-Wl,-rpath,$out"
 clash
-say "the C test, with the static and the shared library"
+ffi/check_passed.sh "$out" "$tests/passed"
+say "the C test, with the static and the shared library, and with a look at what is passed to the proved calls"
 [ ! -x "$out/pkcs1_tool" ] || tool
 [ -n "${RUN-}" ] || crate

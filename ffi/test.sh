@@ -25,34 +25,30 @@ have clang "the C tests are compiled by $CC alone" && clang=clang || clang=
 have clang++ "the C++ test is compiled by $CXX alone" && clangxx=clang++ || clangxx=
 
 # C and C++.
-flags=(-O1 -g -Wall -Wextra -Werror -pedantic "-I$here/include")
+warned='-O1 -g -Wall -Wextra -Werror -pedantic'
+flags=($warned "-I$here/include")
+test=("$here/c/test.c" "$here/c/rows.c")
 for compiler in "$CXX" $clangxx; do
     "$compiler" -std=c++11 -Wold-style-cast "${flags[@]}" -x c++ "$here/c/header.cc" -x none "$out/libpkcs1.a" -o "$room/header"
     "$room/header"
 done
 for compiler in $clang "$CC"; do
-    for name in test sizes modulus read_key public_half open_container make_container make_params signature_algorithm; do
+    "$compiler" -std=c99 "${flags[@]}" "${test[@]}" "$out/libpkcs1.a" -o "$room/test"
+    for name in sizes modulus read_key public_half open_container make_container make_params signature_algorithm; do
         "$compiler" -std=c99 "${flags[@]}" "$here/c/$name.c" "$out/libpkcs1.a" -o "$room/$name"
     done
     "$room/test" "$statuses"
     "$room/sizes"
 done
-"$CC" -std=c11 "${flags[@]}" -fsanitize=address,undefined -fno-sanitize-recover=all "$here/c/test.c" "$here/c/pkcs1.c" \
+"$CC" -std=c11 "${flags[@]}" -fsanitize=address,undefined -fno-sanitize-recover=all "${test[@]}" "$here/c/pkcs1.c" \
     "$out/proved.o" -o "$room/sanitized"
 "$room/sanitized" "$statuses"
-# What pkcs1.c passes to the proved calls is valid; only the call that may allocate does; nothing is kept between calls.
-for name in calls proved; do
-    objcopy --redefine-sym malloc=counted_malloc --redefine-sym realloc=counted_realloc \
-        --redefine-sym calloc=counted_calloc "$out/$name.o" "$room/$name.o"
-done
-mapfile -t wraps < <(sed -nE 's/^(EACH|TEST)\(([a-z0-9_]*),/-Wl,--wrap=\2/p' "$here/c/passed.c")
-"$CC" -std=c11 "${flags[@]}" "$here/c/test.c" "$here/c/passed.c" "$room/calls.o" "$room/proved.o" "${wraps[@]}" \
-    -Wl,--wrap=pkcs1_private_key_encode -o "$room/passed"
-"$room/passed" "$statuses"
+CFLAGS=$warned "$here/check_passed.sh" "$out" "$room/passed"
+# Nothing is kept between calls.
 nm -f sysv "$out/pkcs1.o" | grep -E '\|(\.data|\.bss|\*COM\*)[.a-z0-9_]*$' | grep -v '^nothing ' | grep -v '\.data\.rel\.ro' &&
     stop "the calls share data"
 "$here/check_object.sh" "$out"
-"$CC" -std=c99 "${flags[@]}" "$here/c/test.c" "-L$out" -lpkcs1 -Wl,-rpath,"$out" -o "$room/test_shared"
+"$CC" -std=c99 "${flags[@]}" "${test[@]}" "-L$out" -lpkcs1 -Wl,-rpath,"$out" -o "$room/test_shared"
 "$room/test_shared" "$statuses"
 "$CC" -std=c99 "${flags[@]}" "$here/c/dlopen.c" -ldl -o "$room/dlopen"
 "$room/dlopen" "$out/libpkcs1.so"

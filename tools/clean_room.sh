@@ -83,13 +83,13 @@ vendored_program() {
     CARGO_HOME=$room/cargo CARGO_NET_OFFLINE=false cargo vendor > .cargo/config.toml
     CARGO_HOME=$room/empty prints cargo run --locked --quiet --
 }
+
 # use WHAT: this folder, as users would.
 use() {
     step "$1: README's two commands" readme
     step "$1: a program in C" c_program
     step "$1: a program in Rust" rust_program
 }
-# From a source that can't be written to, in a folder elsewhere.
 # By clang, whose sanitizers stop at what they find.
 sanitized() {
     make check OUT=out/sanitized CODE=c CC=clang \

@@ -3,15 +3,13 @@
  * octet changed in front of `out`, a `*len` over the room, and a slice that isn't in the encoding that was read are
  * errors too. It goes on until the call has ended in two ways. Without a mode, it prints all of them. */
 #define _GNU_SOURCE
+#include "test.h"
 #include <pkcs1.h>
 #include <pthread.h>
-#include <stdio.h>
-#include <stdlib.h>
 #include <string.h>
 #include <sys/mman.h>
 #include <time.h>
 
-#define CHECK(c) do { if (!(c)) { fprintf(stderr, "%s:%d: %s\n", __FILE__, __LINE__, #c); exit(1); } } while (0)
 #define COUNT(a) (sizeof(a) / sizeof(a)[0])
 
 enum { PAGE = 4096, BIG = 65536, OTHERS = 5 };

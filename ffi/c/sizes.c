@@ -1,13 +1,11 @@
 /* Lengths from 2^24 octets to the limit, 4294967295 for a whole encoding. Most octets are zeros that nothing touches,
  * and take no memory. */
 #define _GNU_SOURCE
+#include "test.h"
 #include <pkcs1.h>
-#include <stdio.h>
-#include <stdlib.h>
 #include <string.h>
 #include <sys/mman.h>
 
-#define CHECK(c) do { if (!(c)) { fprintf(stderr, "%s:%d: %s\n", __FILE__, __LINE__, #c); exit(1); } } while (0)
 #define OCTETS(text) {(const uint8_t *)text, sizeof text - 1}
 
 static const size_t LIMIT = 4294967295u;

@@ -77,7 +77,7 @@ objects_are_right() {
 # The library's test, over the assembly and over the C.
 library_passes() {
     local compiler flags
-    local files=("-I$ffi/include" "$ffi/c/test.c" "$ffi/c/pkcs1.c" "$ffi/rust/c/heap.c")
+    local files=("-I$ffi/include" "$ffi"/c/{test,rows,pkcs1}.c "$ffi/rust/c/heap.c")
     gcc -O1 "${files[@]}" "$generated/$(uname -m)/pkcs1_c.s" -o "$room/test"
     "$room/test" "$ffi/rust/tests/statuses" > /dev/null
     for compiler in gcc clang; do

@@ -27,11 +27,6 @@ fn public_keys() {
     for n in 0..PUBLIC.len() {
         assert_eq!(PublicKey::from_der(&PUBLIC[..n]), Err(Error::INCOMPLETE));
     }
-    let mut out = [7; 12];
-    assert_eq!(key.encode_to_slice(&mut out[..9]), Err(Error::NO_ROOM));
-    assert_eq!(out, [7; 12]);
-    assert_eq!(key.encode_to_slice(&mut out), Ok(&PUBLIC[..]));
-    assert_eq!((&out[..10], &out[10..]), (&PUBLIC[..], &[7, 7][..]));
     assert!(HashSet::from([key]).contains(&PublicKey::from_der(&PUBLIC).unwrap()));
 }
 
@@ -53,11 +48,6 @@ fn private_keys() {
     assert_eq!(PrivateKey::try_from(&TWO[..]).unwrap().to_der().unwrap(), TWO);
     assert_eq!(key.public_key(), PublicKey { modulus: &[1], public_exponent: &[2] });
     assert_eq!(PublicKey::from(&key), key.public_key());
-    let mut out = [7; 30];
-    assert_eq!(key.encode_to_slice(&mut out), Ok(&TWO[..]));
-    assert_eq!((&out[..29], out[29]), (&TWO[..], 7));
-    let no_prime = PrivateKey { prime2: &[], ..key };
-    assert_eq!(no_prime.to_der(), Err(Error::LENGTH));
 }
 
 #[test]
