@@ -206,10 +206,12 @@ pub fn private_key<'a>(der: &'a [u8], others: &mut [OtherPrime<'a>]) -> Result<P
     answer(status, key)
 }
 
-/// Decodes a container and the key in it, without its other primes.
-pub fn private_key_info<'a>(der: &'a [u8]) -> Result<(PrivateKeyInfo<'a>, PrivateKey<'a>), Error> {
+/// Decodes a container and the key in it, and puts the key's first other primes into `others`, as many as fit.
+pub fn private_key_info<'a>(
+    der: &'a [u8],
+    others: &mut [OtherPrime<'a>],
+) -> Result<(PrivateKeyInfo<'a>, PrivateKey<'a>), Error> {
     let (mut info, mut key) = (PrivateKeyInfo::default(), PrivateKey::default());
-    let others: &mut [OtherPrime<'a>] = &mut [];
     // SAFETY: as above.
     let status = unsafe {
         pkcs1_c_private_key_info_decode(der.as_ptr(), der.len(), &mut info, &mut key, others.as_mut_ptr(), others.len())

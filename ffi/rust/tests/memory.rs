@@ -50,7 +50,7 @@ fn requests<T>(call: impl Fn() -> Result<T, Error>) -> isize {
 #[test]
 fn out_of_memory_is_reported() {
     let (two, three) = (include_bytes!("keys/priv2.der"), include_bytes!("keys/priv3.der"));
-    let (p8, public) = (include_bytes!("keys/p8_3.der"), include_bytes!("keys/pub3.der"));
+    let public = include_bytes!("keys/pub3.der");
     let (key, long_key) = (PrivateKey::from_der(two).unwrap(), PrivateKey::from_der(three).unwrap());
     assert_eq!(requests(|| PublicKey::from_der(public)), 0);
     assert_eq!(requests(|| PublicKey::from_der(public)?.encode_to_slice(&mut [0; 400]).map(<[u8]>::len)), 0);
@@ -66,12 +66,18 @@ fn out_of_memory_is_reported() {
     assert_eq!(requests(|| OaepParams::default().to_buf()), 1);
     assert_eq!(requests(|| OaepParams::default().to_algorithm_der()), 1);
     assert_eq!(requests(|| key.to_buf()), 1);
-    assert_eq!(requests(|| PrivateKey::from_der(three)), 2);
-    assert_eq!(requests(|| PrivateKeyInfo::from_der(p8)), 2);
+    // A list for each decoding: up to three other primes are decoded once.
+    for (count, lists) in [(1, 1), (3, 1), (4, 2)] {
+        let other_primes = vec![long_key.other_primes[0]; count];
+        let der = PrivateKey { other_primes, ..long_key.clone() }.to_der().unwrap();
+        let container = PrivateKeyInfo::new(&der).unwrap().to_der().unwrap();
+        assert_eq!(requests(|| PrivateKey::from_der(&der)), lists);
+        assert_eq!(requests(|| PrivateKeyInfo::from_der(&container)), lists);
+    }
     let (owned, long_owned) =
         (PrivateKeyBuf::from_der(two.to_vec()).unwrap(), PrivateKeyBuf::from_der(three.to_vec()).unwrap());
     assert_eq!(requests(|| owned.key()), 0);
-    assert_eq!(requests(|| long_owned.key()), 2);
+    assert_eq!(requests(|| long_owned.key()), 1);
     assert_eq!(requests(|| Ok(long_owned.public_key())), 0);
     assert_eq!(requests(|| long_key.encode_to_slice(&mut [0; 2000]).map(<[u8]>::len)), 1);
     assert_eq!(requests(|| long_key.to_der()), 2);
