@@ -116,9 +116,8 @@ pub struct PrivateKeyBuf {
 }
 
 impl PrivateKeyBuf {
-    /// Decodes the key in an unencrypted PKCS #8 container, from all octets, and keeps those of the key. Doesn't
-    /// allocate. Behind the key, within the capacity of [`into_der`](PrivateKeyBuf::into_der), stand octets of the
-    /// container and of the key: who wipes the key wipes them too.
+    /// Decodes the key in an unencrypted PKCS #8 container, from all octets, and keeps those of the key, in the list that
+    /// it is given. Doesn't allocate. The list's other octets are set to 0.
     ///
     /// ```
     /// use pkcs1_proved::PrivateKeyBuf;
@@ -134,8 +133,10 @@ impl PrivateKeyBuf {
     pub fn from_pkcs8_der(mut der: Vec<u8>) -> Result<PrivateKeyBuf, FromDerError> {
         match PrivateKeyInfo::place_of_key(&der) {
             Ok(place) => {
-                der.truncate(place.end);
-                der.drain(..place.start);
+                let len = place.len();
+                der.copy_within(place, 0);
+                der[len..].fill(0);
+                der.truncate(len);
                 Ok(PrivateKeyBuf { der })
             }
             Err(error) => Err(FromDerError::new(error, der)),

@@ -62,10 +62,15 @@ fn keys_of_containers() {
             let info = PrivateKeyInfo::new(key).unwrap();
             let info = attributes.into_iter().fold(info, PrivateKeyInfo::with_attributes);
             let container = info.to_der().unwrap();
-            let place = container.as_ptr();
+            let (place, behind) = (container.as_ptr(), container.len() - key.len());
             let kept = moves(PrivateKeyBuf::from_pkcs8_der(container).unwrap());
             assert_eq!((kept.as_der(), kept.as_der().as_ptr()), (key, place)); // without another list
             assert_eq!(kept.key().unwrap().to_der().unwrap(), key);
+            let mut list = kept.into_der();
+            for octet in &list.spare_capacity_mut()[..behind] {
+                // SAFETY: it was one of the container.
+                assert_eq!(unsafe { octet.assume_init_read() }, 0);
+            }
         }
     }
     let other = include_bytes!("keys/ed25519.der");
