@@ -1,7 +1,7 @@
 use crate::raw;
 use core::fmt;
 
-/// Why a call failed: one of the constants. `Display` and `Debug` print its description.
+/// Why a call failed: one of the constants. `Display` prints its description, and `Debug` its name.
 ///
 /// ```
 /// use pkcs1_proved::{Error, PublicKey};
@@ -10,6 +10,7 @@ use core::fmt;
 /// let error = PublicKey::from_der(&pem).unwrap_err();
 /// assert_eq!(error, Error::TAG_UNEXPECTED);
 /// assert!(error.to_string().contains("PEM"));
+/// assert_eq!(format!("{error:?}"), "TAG_UNEXPECTED");
 /// # Ok::<(), std::io::Error>(())
 /// ```
 #[derive(Clone, Copy, PartialEq, Eq, Hash)]
@@ -20,6 +21,9 @@ macro_rules! errors {
         impl Error {
             $($(#[doc = $text])* pub const $name: Error = Error($status);)*
         }
+
+        /// The constants, and their names.
+        const NAMED: &[(Error, &str)] = &[$((Error::$name, stringify!($name)),)*];
     };
 }
 errors! {
@@ -87,8 +91,23 @@ impl fmt::Display for Error {
 
 impl fmt::Debug for Error {
     fn fmt(&self, f: &mut fmt::Formatter<'_>) -> fmt::Result {
-        fmt::Display::fmt(self, f)
+        match NAMED.iter().find(|(error, _)| error == self) {
+            Some((_, name)) => f.write_str(name),
+            None => write!(f, "Error({})", self.0),
+        }
     }
 }
 
 impl core::error::Error for Error {}
+
+#[cfg(test)]
+mod tests {
+    use super::*;
+    use alloc::string::ToString;
+
+    #[test]
+    fn a_status_without_a_constant() {
+        let error = Error::of(256);
+        assert_eq!((alloc::format!("{error:?}"), error.to_string()), ("Error(256)".into(), "another error".into()));
+    }
+}

@@ -51,7 +51,7 @@ fn what_is_given_back() {
     assert_eq!(keeps(&PSS[1..], PssParamsBuf::try_from).unwrap_err(), PssParams::from_der(&PSS[1..]).unwrap_err());
     assert_eq!(keeps(b"", OaepParamsBuf::try_from).unwrap_err(), Error::INCOMPLETE);
     let error = PrivateKeyBuf::from_der(PUBLIC.to_vec()).unwrap_err();
-    assert_eq!(format!("{error:?}"), format!("FromDerError {{ error: {}, .. }}", Error::VALUE));
+    assert_eq!(format!("{error:?}"), "FromDerError { error: VALUE, .. }");
     assert_eq!(Error::from(error), Error::VALUE);
 }
 

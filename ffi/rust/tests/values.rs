@@ -180,7 +180,7 @@ fn what_is_printed_of_a_private_key() {
 fn texts() {
     let error = PublicKey::from_der(&[]).unwrap_err();
     let text = "the input ends too early: it is empty or cut off, or a field is missing";
-    assert_eq!((error.to_string(), format!("{error:?}")), (text.into(), text.into()));
+    assert_eq!((error.to_string(), format!("{error:?}")), (text.into(), "INCOMPLETE".into()));
     assert!(PublicKey::from_der(&TWO).unwrap_err().to_string().contains("a private key read as a public one"));
     assert_eq!((error.status(), Error::OTHER_PRIMES.status()), (2, 21));
     assert_eq!([Error::FAILED, Error::NO_ROOM, Error::FILE, Error::OUT_OF_MEMORY].map(Error::status), [1, 15, 16, 17]);
