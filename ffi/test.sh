@@ -28,11 +28,24 @@ have clang++ "the C++ test is compiled by $CXX alone" && clangxx=clang++ || clan
 warned='-O1 -g -Wall -Wextra -Werror -pedantic'
 flags=($warned "-I$here/include")
 test=("$here/c/test.c" "$here/c/rows.c")
+printf '%s\n' '#include <pkcs1.h>' 'void ignore(struct pkcs1_public_key *key);' \
+    'void ignore(struct pkcs1_public_key *key) { pkcs1_public_key_decode(0, 0, key); }' > "$room/ignored.c"
+# warns COMPILER..: it warns of a caller that ignores a status.
+warns() {
+    if "$@" "${flags[@]}" -c "$room/ignored.c" -o "$room/ignored.o" 2> "$room/log" ||
+        ! grep -q unused-result "$room/log"; then
+        stop "$* doesn't warn of a status that is ignored"
+    fi
+}
+[ -z "$(awk '/^uint32_t pkcs1_/ && before != "PKCS1_MUST_CHECK"; { before = $0 }' "$here/include/pkcs1.h")" ] ||
+    stop "pkcs1.h has a call whose status may be ignored"
 for compiler in "$CXX" $clangxx; do
+    warns "$compiler" -x c++
     "$compiler" -std=c++11 -Wold-style-cast "${flags[@]}" -x c++ "$here/c/header.cc" -x none "$out/libpkcs1.a" -o "$room/header"
     "$room/header"
 done
 for compiler in $clang "$CC"; do
+    warns "$compiler"
     "$compiler" -std=c99 "${flags[@]}" "${test[@]}" "$out/libpkcs1.a" -o "$room/test"
     for name in sizes modulus read_key public_half open_container make_container make_params signature_algorithm; do
         "$compiler" -std=c99 "${flags[@]}" "$here/c/$name.c" "$out/libpkcs1.a" -o "$room/$name"

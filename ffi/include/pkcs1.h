@@ -86,6 +86,13 @@
 extern "C" {
 #endif
 
+/* Stands in front of each call that returns a status: gcc and clang warn of a caller that ignores it. */
+#ifdef __GNUC__
+#define PKCS1_MUST_CHECK __attribute__((warn_unused_result))
+#else
+#define PKCS1_MUST_CHECK
+#endif
+
 #define PKCS1_VERSION_MAJOR 0
 #define PKCS1_VERSION_MINOR 8
 #define PKCS1_VERSION_PATCH 0
@@ -130,7 +137,13 @@ struct pkcs1_bytes {
 struct pkcs1_public_key {
     struct pkcs1_bytes modulus, public_exponent;
 };
+
+/* Decodes a public key. */
+PKCS1_MUST_CHECK
 uint32_t pkcs1_public_key_decode(const uint8_t *der, size_t der_len, struct pkcs1_public_key *key);
+
+/* Encodes a public key. */
+PKCS1_MUST_CHECK
 uint32_t pkcs1_public_key_encode(const struct pkcs1_public_key *key, uint8_t *out, size_t room, size_t *len);
 
 struct pkcs1_private_key {
@@ -141,25 +154,34 @@ struct pkcs1_other_prime {
     struct pkcs1_bytes prime, exponent, coefficient;
 };
 
-/* The decoder puts the first `others_room` of the other primes into `others`, and leaves any further elements
- * unchanged. key->other_primes is how many there are, which may be more. The encoder needs all of them. If `others_len`
- * isn't key->other_primes, it returns PKCS1_OTHER_PRIMES. */
+/* Decodes a private key. Puts the first `others_room` of the other primes into `others`, and leaves any further
+ * elements unchanged. key->other_primes is how many there are, which may be more. */
+PKCS1_MUST_CHECK
 uint32_t pkcs1_private_key_decode(const uint8_t *der, size_t der_len, struct pkcs1_private_key *key,
                                   struct pkcs1_other_prime *others, size_t others_room);
+
+/* Encodes a private key with all its other primes. If `others_len` isn't key->other_primes, it returns
+ * PKCS1_OTHER_PRIMES. */
+PKCS1_MUST_CHECK
 uint32_t pkcs1_private_key_encode(const struct pkcs1_private_key *key, const struct pkcs1_other_prime *others,
                                   size_t others_len, uint8_t *out, size_t room, size_t *len);
 
-/* An RSA private key in an unencrypted PKCS #8 container. The decoder fills `info`, and `key` and `others` from the key
- * in it, as pkcs1_private_key_decode does. The encoder takes the DER of the key, as pkcs1_private_key_encode writes it,
- * and rejects octets that don't encode a private key. */
+/* An RSA private key in an unencrypted PKCS #8 container. */
 struct pkcs1_private_key_info {
     struct pkcs1_bytes private_key; /* the DER of the key */
     bool has_attributes;
     struct pkcs1_bytes attributes; /* their contents, which are not checked */
 };
+
+/* Decodes a container. Fills `info`, and `key` and `others` from the key in it, as pkcs1_private_key_decode does. */
+PKCS1_MUST_CHECK
 uint32_t pkcs1_private_key_info_decode(const uint8_t *der, size_t der_len, struct pkcs1_private_key_info *info,
                                        struct pkcs1_private_key *key, struct pkcs1_other_prime *others,
                                        size_t others_room);
+
+/* Encodes a container. Takes the DER of the key, as pkcs1_private_key_encode writes it, and rejects octets that don't
+ * encode a private key. */
+PKCS1_MUST_CHECK
 uint32_t pkcs1_private_key_info_encode(const struct pkcs1_private_key_info *info, uint8_t *out, size_t room,
                                        size_t *len);
 
@@ -213,37 +235,74 @@ struct pkcs1_oaep_params {
 };
 
 /* Sets all fields for one hash function: MGF1 with the same one, and both with NULL parameters. The octets of the
- * identifier and of the label aren't copied, so they must live as long as `params` is used. */
+ * identifier aren't copied, so they must live as long as `params` is used. */
 void pkcs1_pss_params_init(struct pkcs1_pss_params *params, const struct pkcs1_bytes *hash, uint8_t salt_len);
+
+/* The same for RSAES-OAEP, with a label. Nor are its octets copied. */
 void pkcs1_oaep_params_init(struct pkcs1_oaep_params *params, const struct pkcs1_bytes *hash, const uint8_t *label,
                             size_t label_len);
 
 /* Whether the hash function has the identifier `hash`, and the mask generation function is MGF1 with the same one. Each
  * may have NULL parameters or none. */
 bool pkcs1_pss_is(const struct pkcs1_pss_params *params, const struct pkcs1_bytes *hash);
+
+/* The same of parameters of RSAES-OAEP. */
 bool pkcs1_oaep_is(const struct pkcs1_oaep_params *params, const struct pkcs1_bytes *hash);
 
 /* If the source is pSpecified with an OCTET STRING, sets `label` to its octets, which may be none, and returns true.
  * Another source has no label. Then it returns false, and `label` is unchanged. The octets aren't copied. */
 bool pkcs1_oaep_label(const struct pkcs1_oaep_params *params, struct pkcs1_bytes *label);
 
-/* Encoders leave out each field that has its default, as DER requires (X.690 11.5). Decoders also accept a default that
- * is written out. For it .._decode_strict returns PKCS1_NONCANONICAL. */
+/* Decodes parameters of RSASSA-PSS. Accepts a default that is written out, which DER forbids (X.690 11.5). */
+PKCS1_MUST_CHECK
 uint32_t pkcs1_pss_params_decode(const uint8_t *der, size_t der_len, struct pkcs1_pss_params *params);
+
+/* The same, but returns PKCS1_NONCANONICAL for a default that is written out. */
+PKCS1_MUST_CHECK
 uint32_t pkcs1_pss_params_decode_strict(const uint8_t *der, size_t der_len, struct pkcs1_pss_params *params);
+
+/* Encodes parameters of RSASSA-PSS. Leaves out each field that has its default. */
+PKCS1_MUST_CHECK
 uint32_t pkcs1_pss_params_encode(const struct pkcs1_pss_params *params, uint8_t *out, size_t room, size_t *len);
+
+/* Decodes parameters of RSAES-OAEP. Accepts a default that is written out. */
+PKCS1_MUST_CHECK
 uint32_t pkcs1_oaep_params_decode(const uint8_t *der, size_t der_len, struct pkcs1_oaep_params *params);
+
+/* The same, but returns PKCS1_NONCANONICAL for a default that is written out. */
+PKCS1_MUST_CHECK
 uint32_t pkcs1_oaep_params_decode_strict(const uint8_t *der, size_t der_len, struct pkcs1_oaep_params *params);
+
+/* Encodes parameters of RSAES-OAEP. Leaves out each field that has its default. */
+PKCS1_MUST_CHECK
 uint32_t pkcs1_oaep_params_encode(const struct pkcs1_oaep_params *params, uint8_t *out, size_t room, size_t *len);
 
-/* The same of the whole AlgorithmIdentifier: id-RSASSA-PSS with its parameters, as a certificate's signatureAlgorithm,
- * or id-RSAES-OAEP with its parameters, as in CMS (RFC 4055 3.1, 4.1). For another identifier they return
- * PKCS1_OID_UNKNOWN, for one without parameters PKCS1_PARAMETERS_MISSING. */
+/* The same calls for the whole AlgorithmIdentifier: id-RSASSA-PSS with its parameters, as a certificate's
+ * signatureAlgorithm, or id-RSAES-OAEP with its parameters, as in CMS (RFC 4055 3.1, 4.1). For another identifier the
+ * decoders return PKCS1_OID_UNKNOWN, for one without parameters PKCS1_PARAMETERS_MISSING. */
+
+/* Decodes id-RSASSA-PSS with its parameters. Accepts a default that is written out. */
+PKCS1_MUST_CHECK
 uint32_t pkcs1_pss_algorithm_decode(const uint8_t *der, size_t der_len, struct pkcs1_pss_params *params);
+
+/* The same, but returns PKCS1_NONCANONICAL for a default that is written out. */
+PKCS1_MUST_CHECK
 uint32_t pkcs1_pss_algorithm_decode_strict(const uint8_t *der, size_t der_len, struct pkcs1_pss_params *params);
+
+/* Encodes id-RSASSA-PSS with its parameters. Leaves out each field that has its default. */
+PKCS1_MUST_CHECK
 uint32_t pkcs1_pss_algorithm_encode(const struct pkcs1_pss_params *params, uint8_t *out, size_t room, size_t *len);
+
+/* Decodes id-RSAES-OAEP with its parameters. Accepts a default that is written out. */
+PKCS1_MUST_CHECK
 uint32_t pkcs1_oaep_algorithm_decode(const uint8_t *der, size_t der_len, struct pkcs1_oaep_params *params);
+
+/* The same, but returns PKCS1_NONCANONICAL for a default that is written out. */
+PKCS1_MUST_CHECK
 uint32_t pkcs1_oaep_algorithm_decode_strict(const uint8_t *der, size_t der_len, struct pkcs1_oaep_params *params);
+
+/* Encodes id-RSAES-OAEP with its parameters. Leaves out each field that has its default. */
+PKCS1_MUST_CHECK
 uint32_t pkcs1_oaep_algorithm_encode(const struct pkcs1_oaep_params *params, uint8_t *out, size_t room, size_t *len);
 
 #ifdef __cplusplus
