@@ -109,7 +109,8 @@ enum pkcs1_status {
     PKCS1_OVERFLOW = 8,            /* a length past 4294967295, or in more than four octets whatever it is */
     PKCS1_OVERLENGTH = 9,          /* not DER: a length in more octets than it needs, up to four */
     PKCS1_PARAMETERS_MISSING = 10, /* an algorithm without parameters. rsaEncryption has NULL, others their own */
-    PKCS1_TAG_UNEXPECTED = 11,     /* another type: PEM, PKCS #8, SubjectPublicKeyInfo or an encrypted key, perhaps */
+    PKCS1_TAG_UNEXPECTED = 11,     /* another type: PEM, PKCS #1, PKCS #8, SubjectPublicKeyInfo or an encrypted key,
+                                      perhaps */
     PKCS1_TAG_UNKNOWN = 12,        /* not DER of these types: a tag octet that none of them has */
     PKCS1_TRAILING_DATA = 13,      /* octets follow the value, or a field that the type doesn't have there: a private
                                       key read as a public one, perhaps, or an AlgorithmIdentifier as parameters */

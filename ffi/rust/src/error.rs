@@ -47,7 +47,7 @@ errors! {
     OVERLENGTH = 9;
     /// An algorithm without parameters. rsaEncryption has NULL, the others their own.
     PARAMETERS_MISSING = 10;
-    /// Another type: PEM, PKCS #8, SubjectPublicKeyInfo or an encrypted key, perhaps.
+    /// Another type: PEM, PKCS #1, PKCS #8, SubjectPublicKeyInfo or an encrypted key, perhaps.
     TAG_UNEXPECTED = 11;
     /// Not DER of these types: a tag octet that none of them has.
     TAG_UNKNOWN = 12;
