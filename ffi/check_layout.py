@@ -11,7 +11,7 @@ import tempfile
 
 TOP = os.path.join(os.path.dirname(os.path.abspath(__file__)), "..")
 BYTES = [("data", "const u8*"), ("len", "usize")]
-C_TYPES = {"uint8_t": "u8", "uint32_t": "u32", "size_t": "usize", "bool": "bool", "void": None}
+C_TYPES = {"uint8_t": "u8", "uint32_t": "u32", "uint64_t": "u64", "size_t": "usize", "bool": "bool", "void": None}
 same_as = {}  # other names of a struct
 
 

@@ -9,7 +9,7 @@ for name in calls proved; do
     ${OBJCOPY:-objcopy} --redefine-sym malloc=counted_malloc --redefine-sym realloc=counted_realloc \
         --redefine-sym calloc=counted_calloc "$out/$name.o" "$program.$name.o"
 done
-wraps=$(sed -nE 's/^(EACH|TEST)\(([a-z0-9_]*),/-Wl,--wrap=\2/p' "$here/c/passed.c")
+wraps=$(sed -nE 's/^(EACH|TEST|COUNT)\(([a-z0-9_]*),/-Wl,--wrap=\2/p' "$here/c/passed.c")
 # shellcheck disable=SC2086
 $CC ${CFLAGS-} -fno-lto -std=c99 "-I$here/include" "$here/c/test.c" "$here/c/rows.c" "$here/c/passed.c" \
     "$program.calls.o" "$program.proved.o" $wraps -Wl,--wrap=pkcs1_private_key_encode -o "$program"

@@ -42,7 +42,7 @@ of_params() {
     openssl asn1parse -inform DER -in "$1" -strparse "$at" -noout -out "$room/params.der"
 }
 
-for key in 2:2048 3:2048 4:4096; do
+for key in 2:2047 3:2048 4:4096; do
     openssl genrsa -traditional -primes "${key%:*}" "${key#*:}" 2> /dev/null > "$room/key.pem"
     openssl rsa -in "$room/key.pem" -traditional -outform DER -out "$room/key.der" 2> /dev/null
     openssl rsa -in "$room/key.pem" -RSAPublicKey_out -outform DER -out "$room/pub.der" 2> /dev/null
@@ -52,10 +52,12 @@ for key in 2:2048 3:2048 4:4096; do
     again p8 "$room/p8.der"
     does public_half "$room/key.der" "$room/pub.der"
     does open_container "$room/p8.der" "$room/key.der" \
-        "modulus of $((${key#*:} / 8)) octets, ${key%:*} primes, without attributes"
+        "modulus of $(((${key#*:} + 7) / 8)) octets, ${key%:*} primes, without attributes"
     does make_container "$room/key.der" "$room/p8.der"
     openssl rsa -in "$room/key.pem" -noout -modulus | sed 's/Modulus=//' | tr A-F a-f > "$room/modulus"
     "$1/read_key" pub "$room/pub.der" | sed -n 's/^n=//p' | cmp - "$room/modulus"
+    bits=$(openssl rsa -in "$room/key.pem" -noout -text | sed -n 's/.*(\([0-9]*\) bit.*/\1/p')
+    "$1/read_key" pub "$room/pub.der" | sed -n 's/^bits=//p' | cmp - <(echo "$bits")
 done
 # says FILE TEXT: each signature_algorithm prints the text of the certificate's signatureAlgorithm.
 says() {

@@ -18,6 +18,7 @@
     }
 #define EACH(call, parameters, arguments, before) WRAP(uint32_t, call, parameters, arguments, before)
 #define TEST(call, parameters, arguments, before) WRAP(bool, call, parameters, arguments, before)
+#define COUNT(call, parameters, arguments, before) WRAP(uint64_t, call, parameters, arguments, before)
 
 static volatile uint8_t sum;
 
@@ -172,6 +173,9 @@ EACH(pkcs1_c_oaep_algorithm_encode,
      (const struct pkcs1_oaep_params *params, uint8_t *out, size_t room, size_t *len),
      (params, out, room, len), output(out, len); oaep(params))
 
+COUNT(pkcs1_c_bit_len,
+      (const uint8_t *number, size_t number_len),
+      (number, number_len), octets(number, number_len))
 TEST(pkcs1_c_algorithm_is,
      (const struct pkcs1_algorithm *given, const uint8_t *oid, size_t oid_len),
      (given, oid, oid_len), algorithm(given); octets(oid, oid_len))

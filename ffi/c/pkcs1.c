@@ -48,6 +48,11 @@ const char *pkcs1_version(void) {
     return (const char *)text.data;
 }
 
+uint64_t pkcs1_bit_len(struct pkcs1_bytes number) {
+    struct pkcs1_bytes given = never_null(number);
+    return pkcs1_c_bit_len(given.data, given.len);
+}
+
 /* Public keys. */
 
 uint32_t pkcs1_public_key_decode(const uint8_t *der, size_t der_len, struct pkcs1_public_key *key) {

@@ -1,5 +1,6 @@
 /* read_key KIND FILE [OUT]: reads the key or the parameters in a file, prints their numbers, and writes them again to
  * OUT. KIND is pub, priv, p8, pss or oaep. */
+#include <inttypes.h>
 #include <pkcs1.h>
 #include <stdio.h>
 #include <stdlib.h>
@@ -50,6 +51,7 @@ static void public_key(void) {
     ok(pkcs1_public_key_decode(der, der_len, &key));
     put("n", key.modulus);
     put("e", key.public_exponent);
+    printf("bits=%" PRIu64 "\n", pkcs1_bit_len(key.modulus));
     ENCODE(pkcs1_public_key_encode, &key);
 }
 

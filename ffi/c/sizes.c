@@ -120,9 +120,16 @@ static void label_read(void) {
     CHECK(pkcs1_oaep_params_decode(big, LIMIT - 1, &params) == PKCS1_INCOMPLETE);
 }
 
+static void bits_counted(void) {
+    CHECK(pkcs1_bit_len(number(536870912)) == 4294967289u);
+    CHECK(pkcs1_bit_len(number(536870914)) == 4294967305u);
+    CHECK(pkcs1_bit_len(number(LIMIT + 4096)) == 8 * (uint64_t)(LIMIT + 4095) + 1);
+}
+
 int main(void) {
     big = mmap(NULL, LIMIT + 4096, PROT_READ | PROT_WRITE, MAP_PRIVATE | MAP_ANONYMOUS | MAP_NORESERVE, -1, 0);
     CHECK(big != MAP_FAILED);
+    bits_counted();
     public_keys_written();
     public_key_written();
     others_written();

@@ -22,6 +22,25 @@ void *filled(size_t n) {
     return memset(made, 0xa5, n);
 }
 
+/* Numbers with zero octets in front and without, and one of each bit length up to 4096. */
+static void bit_lengths(void) {
+    static const struct { const char *octets; size_t len; uint64_t bits; } numbers[] = {
+        {"", 0, 0}, {NULL, 0, 0}, {"\0", 1, 0}, {"\0\0", 2, 0}, {"\1", 1, 1}, {"\x7f", 1, 7}, {"\x80", 1, 8},
+        {"\xff", 1, 8}, {"\0\xff", 2, 8}, {"\1\0", 2, 9}, {"\xff\xff", 2, 16}, {"\0\0\0\0\0\0\0\0\1\0", 10, 9}};
+    uint8_t octets[512] = {0};
+    struct pkcs1_bytes number = {octets, sizeof octets};
+    for (size_t i = 0; i < sizeof numbers / sizeof numbers[0]; i++) {
+        struct pkcs1_bytes given = {(const uint8_t *)numbers[i].octets, numbers[i].len};
+        CHECK(pkcs1_bit_len(given) == numbers[i].bits);
+    }
+    CHECK(pkcs1_bit_len(number) == 0);
+    for (size_t bit = 0; bit < 8 * sizeof octets; bit++) {
+        struct pkcs1_bytes last = {octets + sizeof octets - 1 - bit / 8, bit / 8 + 1};
+        octets[sizeof octets - 1 - bit / 8] = (uint8_t)(1 << bit % 8);
+        CHECK(pkcs1_bit_len(number) == bit + 1 && pkcs1_bit_len(last) == bit + 1);
+    }
+}
+
 static void public_keys(void) {
     static const uint8_t der[] = {0x30, 0x08, 0x02, 0x03, 0x00, 0xc1, 0x7f, 0x02, 0x01, 0x03};
     struct pkcs1_public_key key, empty = {0};
@@ -442,6 +461,7 @@ int main(int argc, char **argv) {
     CHECK(argc == 2);
     if (strcmp(argv[1], "--version") == 0)
         return puts(pkcs1_version()) == EOF;
+    bit_lengths();
     public_keys();
     private_keys();
     one_other_prime();

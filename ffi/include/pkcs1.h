@@ -133,6 +133,10 @@ struct pkcs1_bytes {
     size_t len;
 };
 
+/* The bit length of a number: 2048 for the modulus of an RSA-2048 key. Zero octets in front don't count, and it is 0
+ * for 0 and for no octets. */
+uint64_t pkcs1_bit_len(struct pkcs1_bytes number);
+
 /* ---- Keys ---- */
 
 struct pkcs1_public_key {

@@ -3,7 +3,7 @@
  * Structs: each must hold valid values, even one that a decoder only fills. In it each `bool` must be 0 or 1, and no
  *   `pkcs1_bytes` may be null. PKCS1_NO_BYTES is an empty one.
  * Fields after a false `has_..`: they must be valid too. An encoder doesn't read them. A decoder sets them to empty.
- * Null: `der`, `others`, `out` and `oid` may not be null, not even if their length is 0. */
+ * Null: `der`, `others`, `out`, `number` and `oid` may not be null, not even if their length is 0. */
 #ifndef PKCS1_C_H
 #define PKCS1_C_H
 
@@ -15,6 +15,9 @@ extern "C" {
 #else
 #define PKCS1_NO_BYTES { (const uint8_t *)"", 0 }
 #endif
+
+/* The bit length of a number, in which zero octets in front don't count. */
+uint64_t pkcs1_c_bit_len(const uint8_t *number, size_t number_len);
 
 uint32_t pkcs1_c_public_key_decode(const uint8_t *der, size_t der_len, struct pkcs1_public_key *key);
 uint32_t pkcs1_c_public_key_encode(const struct pkcs1_public_key *key, uint8_t *out, size_t room, size_t *len);

@@ -1,6 +1,6 @@
 //! `read_key KIND FILE [OUT]`: decodes the key or the parameters in a file, prints them, and encodes them again into
 //! OUT. KIND is pub, priv, p8, pss or oaep.
-use pkcs1_proved::{Algorithm, OaepParams, PrivateKey, PrivateKeyInfo, PssParams, PublicKey};
+use pkcs1_proved::{bit_len, Algorithm, OaepParams, PrivateKey, PrivateKeyInfo, PssParams, PublicKey};
 
 fn put(name: &str, number: &[u8]) {
     let digits: Vec<String> = number.iter().map(|octet| format!("{octet:02x}")).collect();
@@ -20,6 +20,7 @@ fn read(kind: &str, der: &[u8]) -> Result<Vec<u8>, Box<dyn std::error::Error>> {
             let key = PublicKey::from_der(der)?;
             put("n", key.modulus);
             put("e", key.public_exponent);
+            println!("bits={}", bit_len(key.modulus));
             Ok(key.to_der()?)
         }
         "priv" => {

@@ -5,6 +5,22 @@ use crate::Error;
 use alloc::vec::Vec;
 use core::fmt;
 
+/// The bit length of a number: 2048 for the modulus of an RSA-2048 key. Zero octets in front don't count, and it is 0 for
+/// 0 and for no octets.
+///
+/// ```
+/// use pkcs1_proved::{bit_len, PublicKey};
+///
+/// let der = std::fs::read("tests/keys/pub2.der")?;
+/// assert_eq!(bit_len(PublicKey::from_der(&der)?.modulus), 2048);
+/// assert_eq!(bit_len(&[0, 0x7f]), 7);
+/// # Ok::<(), Box<dyn std::error::Error>>(())
+/// ```
+#[must_use]
+pub fn bit_len(number: &[u8]) -> u64 {
+    raw::bit_len(number)
+}
+
 /// A public key (RFC 8017 A.1.1). The numbers are unsigned, most significant octet first. Decoding gives no leading
 /// zeros, and encoding accepts them. Equality compares the octets. `Debug` shortens long numbers.
 #[derive(Clone, Copy, PartialEq, Eq, Hash)]

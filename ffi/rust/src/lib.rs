@@ -22,7 +22,7 @@ mod raw;
 pub use algorithm::{Algorithm, Any, MaskGen, ObjectIdentifier};
 pub use error::Error;
 pub use from_der_error::FromDerError;
-pub use keys::{OtherPrime, PrivateKey, PublicKey};
+pub use keys::{bit_len, OtherPrime, PrivateKey, PublicKey};
 pub use oaep::OaepParams;
 pub use owned::{OaepParamsBuf, PrivateKeyBuf, PssParamsBuf, PublicKeyBuf};
 pub use private_key_info::PrivateKeyInfo;

@@ -189,12 +189,19 @@ unsafe extern "C" {
         others: *mut OtherPrime<'a>,
         room: usize,
     ) -> u32;
+    fn pkcs1_c_bit_len(number: *const u8, number_len: usize) -> u64;
     fn pkcs1_c_algorithm_is(algorithm: &Algorithm<'_>, oid: *const u8, oid_len: usize) -> bool;
     fn pkcs1_c_pss_is(params: &PssParams<'_>, oid: *const u8, oid_len: usize) -> bool;
     fn pkcs1_c_oaep_is(params: &OaepParams<'_>, oid: *const u8, oid_len: usize) -> bool;
     safe fn pkcs1_c_oaep_label<'a>(params: &OaepParams<'a>, label: &mut Bytes<'a>) -> bool;
     safe fn pkcs1_c_status_text(status: u32, text: &mut Bytes<'static>);
     safe fn pkcs1_c_version(text: &mut Bytes<'static>);
+}
+
+/// The bit length of a number.
+pub fn bit_len(number: &[u8]) -> u64 {
+    // SAFETY: pointer and length of one slice.
+    unsafe { pkcs1_c_bit_len(number.as_ptr(), number.len()) }
 }
 
 /// Decodes a key, and puts its first other primes into `others`, as many as fit.

@@ -40,6 +40,7 @@ fn public_keys() {
         let key = PublicKey::from_der(der).unwrap();
         assert_eq!([key.modulus, key.public_exponent], *printed(lines));
         assert_eq!((key.modulus.len(), key.to_der().unwrap()), (256, der.to_vec()));
+        assert_eq!(bit_len(key.modulus), 2048);
     }
 }
 

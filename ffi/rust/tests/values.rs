@@ -15,6 +15,27 @@ fn with_others(count: u8) -> Vec<u8> {
 }
 
 #[test]
+fn bit_lengths() {
+    for (octets, bits) in [
+        (&[][..], 0),
+        (&[0], 0),
+        (&[0, 0], 0),
+        (&[1], 1),
+        (&[0x7f], 7),
+        (&[0x80], 8),
+        (&[0xff], 8),
+        (&[0, 0xff], 8),
+        (&[1, 0], 9),
+    ] {
+        assert_eq!(bit_len(octets), bits);
+    }
+    let octets: Vec<u8> = [0; 512].into_iter().chain([1]).chain([0; 512]).collect();
+    for len in 0..512 {
+        assert_eq!(bit_len(&octets[512 - len..=512 + len]), 8 * len as u64 + 1);
+    }
+}
+
+#[test]
 fn public_keys() {
     let key = PublicKey::from_der(&PUBLIC).unwrap();
     assert_eq!((key.modulus, key.public_exponent), (&[0xc1, 0x7f][..], &[3][..]));
