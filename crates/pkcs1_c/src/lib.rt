@@ -26,6 +26,7 @@ pub use bytes::Bytes;
 pub use container::{
     PrivateKeyInfo, pkcs1_c_private_key_info_decode, pkcs1_c_private_key_info_encode,
 };
+pub use numbers::pkcs1_c_bit_len;
 pub use oaep::{
     OaepParams, pkcs1_c_oaep_is, pkcs1_c_oaep_label, pkcs1_c_oaep_params_decode,
     pkcs1_c_oaep_params_decode_strict, pkcs1_c_oaep_params_encode,

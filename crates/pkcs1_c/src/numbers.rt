@@ -1,5 +1,7 @@
 //! Numbers that the caller passes.
-ghost use Rattle.std.specs.Prelude.{OnOk, IfOk, IfErr};
+ghost use Rattle.std.specs.Prelude.{◌≡◌, ◌<◌, ◌≤◌, ◌-◌, ◌^◌, ℕ, List, length, OnOk, IfOk, IfErr};
+ghost use Rattle.std.specs.Int.Digits.{number_from_digits};
+ghost use Rattle.der_core.specs.Words.{IsBitLength, limit};
 ghost use Rattle.pkcs1_c.specs.Words.{IsNumberOf, number_of, status_of, NumberError, NoStatus};
 
 use crate::given_number::Number;
@@ -14,4 +16,20 @@ pub(crate) fn number<'a>(bytes: &'a [u8]) -> pkcs1::Result<Number<'a>>
     ensures err { IfErr result (λ e. NumberError bytes.now (status_of e)) }
 {
     Ok(Number::of(UintRef::new(bytes)?))
+}
+
+/// The bit length of the number with these bytes. Zeros in front don't count. It is 0 of no bytes, and `u64::MAX` of a
+/// number that is longer than the limit.
+#[unsafe(no_mangle)]
+pub extern "C" fn pkcs1_c_bit_len(number: &[u8]) -> u64
+    ensures bits { (x : List ℕ) → IsNumberOf number.now x → length x ≤ limit
+        → IsBitLength (number_from_digits 256 number.now) result }
+    ensures none { length number.now ≡ 0 → result ≡ 0 }
+    ensures longer { (x : List ℕ) → IsNumberOf number.now x → limit < length x → result ≡ 2 ^ 64 - 1 }
+{
+    match UintRef::new(number) {
+        Ok(held) => held.bit_len(),
+        Err(_) if number.is_empty() => 0,
+        Err(_) => u64::MAX,
+    }
 }

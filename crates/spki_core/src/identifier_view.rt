@@ -113,6 +113,25 @@ impl<'a> IdentifierValue for IdentifierView<'a> {
     ghost identifies = { viewed_held };
 }
 
+impl IdentifierValue for ObjectIdentifier {
+    ghost use Rattle.spki_core.specs.ObjectIdentifierValue.{own_octets_of};
+    ghost use Rattle.spki_core.specs.Laws.HaveEncodings.{identifier_held};
+
+    ghost octets = { own_octets_of };
+
+    #[inline(always)]
+    fn named<D: AssociatedOid>() -> ObjectIdentifier {
+        ObjectIdentifier::of::<D>()
+    }
+
+    #[inline(always)]
+    fn as_identifier_view(&self) -> IdentifierView<'_> {
+        IdentifierView::over(self.as_bytes())
+    }
+
+    ghost identifies = { identifier_held };
+}
+
 impl Contents for IdentifierView<'_> {
     ghost use Rattle.spki_core.specs.ObjectIdentifierValue.{octets_of};
 

@@ -15,7 +15,6 @@ ghost use Rattle.std.specs.Str.{bytes_eq};
 ghost use Rattle.std.specs.Cmp.Rules.{comparing, hashing};
 ghost use Rattle.der_core.specs.Words.{object_identifier};
 
-use crate::identifier_view::{IdentifierValue, IdentifierView};
 use der_core::{
     BackWriter, Contents, DecodeValue, EncodeValue, EqualByValue, Error, ErrorKind, Header, Length,
     Memory, Reader, Result, Tag, TagMarker, TaggedBy, Writer,
@@ -180,25 +179,6 @@ impl ObjectIdentifier {
             length: D::octets().len() as u8,
         }
     }
-}
-
-impl IdentifierValue for ObjectIdentifier {
-    ghost use Rattle.spki_core.specs.ObjectIdentifierValue.{own_octets_of};
-    ghost use Rattle.spki_core.specs.Laws.HaveEncodings.{identifier_held};
-
-    ghost octets = { own_octets_of };
-
-    #[inline(always)]
-    fn named<D: AssociatedOid>() -> ObjectIdentifier {
-        ObjectIdentifier::of::<D>()
-    }
-
-    #[inline(always)]
-    fn as_identifier_view(&self) -> IdentifierView<'_> {
-        IdentifierView::over(self.as_bytes())
-    }
-
-    ghost identifies = { identifier_held };
 }
 
 impl PartialEq for ObjectIdentifier {

@@ -3,8 +3,6 @@ use Rattle.std.specs.Option.{option_map}
 use Rattle.der_core.specs.Reading.{TellsOfBytes}
 use Rattle.spki_core.specs.OwnedAnyValue.{own_any_of}
 use Rattle.spki_core.specs.declared.owned_any.Any.{Any}
-use Rattle.pkcs1_params.proofs.FaultsTold.{the_meaning}
-use Rattle.pkcs1_params.specs.Laws.Parameters.{pss_delimited}
 use Rattle.spki_core.specs.declared.object_identifier.ObjectIdentifier.{ObjectIdentifier}
 use Rattle.pkcs1_params.specs.declared.pss.PssParamsOf.{PssParamsOf}
 use Rattle.pkcs1_params.specs.declared.error.Error.TheVariants as error
@@ -19,7 +17,7 @@ use Rattle.statement.proofs.memory.read_owned_pss_params.Goals as goal
 
 pub returns-in-Ok-clause-read : goal.returns-in-Ok-clause-read
 returns-in-Ok-clause-read c =
-    read sides _ (pss_holds own_any_of c.in-Ok.value) _ (the_meaning pss_delimited _ _ c.in-Ok.ensures.encoding)
+    read sides _ (pss_holds own_any_of c.in-Ok.value) _ c.in-Ok.ensures.encoding
 
 pub returns-in-Err-clause-read : goal.returns-in-Err-clause-read
 returns-in-Err-clause-read c =
