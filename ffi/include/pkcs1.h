@@ -133,8 +133,8 @@ struct pkcs1_bytes {
     size_t len;
 };
 
-/* The bit length of a number: 2048 for the modulus of an RSA-2048 key. Zero octets in front don't count, and it is 0
- * for 0 and for no octets. */
+/* The bit length of a number: 2048 for the modulus of an RSA-2048 key. Zero octets in front don't count. It is 0 for 0 and
+ * for no octets, and UINT64_MAX for a number of more than 4294967295 octets. */
 uint64_t pkcs1_bit_len(struct pkcs1_bytes number);
 
 /* ---- Keys ---- */

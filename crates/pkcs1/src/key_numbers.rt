@@ -62,9 +62,11 @@ fn clone_four<U: TryClone>(a: &U, b: &U, c: &U, d: &U, alloc: Global) -> Result<
 impl<U: TryClone> TryClone for RsaPrivateKey<U> {
     ghost use Rattle.std.specs.Prelude.{None};
 
-    ghost never_out_of_memory = { λ key. U.never_out_of_memory key.modulus × U.never_out_of_memory key.public_exponent
-        × U.never_out_of_memory key.private_exponent × U.never_out_of_memory key.prime1 × U.never_out_of_memory key.prime2
-        × U.never_out_of_memory key.exponent1 × U.never_out_of_memory key.exponent2 × U.never_out_of_memory key.coefficient
+    ghost never_out_of_memory = { λ key.
+        U.never_out_of_memory key.modulus × U.never_out_of_memory key.public_exponent
+        × U.never_out_of_memory key.private_exponent × U.never_out_of_memory key.prime1
+        × U.never_out_of_memory key.prime2 × U.never_out_of_memory key.exponent1
+        × U.never_out_of_memory key.exponent2 × U.never_out_of_memory key.coefficient
         × (key.other_prime_infos ≡ None) };
 
     fn try_clone(&self, alloc: Global) -> Result<RsaPrivateKey<U>> {

@@ -113,7 +113,8 @@ impl<U: EqualByValue> EqualByValue for RsaPublicKey<U> {
 }
 
 impl<U: TryClone> TryClone for RsaPublicKey<U> {
-    ghost never_out_of_memory = { λ key. U.never_out_of_memory key.modulus × U.never_out_of_memory key.public_exponent };
+    ghost never_out_of_memory = { λ key.
+        U.never_out_of_memory key.modulus × U.never_out_of_memory key.public_exponent };
 
     fn try_clone(&self, alloc: Global) -> der_core::Result<RsaPublicKey<U>> {
         self.try_clone(alloc)

@@ -5,8 +5,8 @@ use crate::Error;
 use alloc::vec::Vec;
 use core::fmt;
 
-/// The bit length of a number: 2048 for the modulus of an RSA-2048 key. Zero octets in front don't count, and it is 0 for
-/// 0 and for no octets.
+/// The bit length of a number: 2048 for the modulus of an RSA-2048 key. Zero octets in front don't count. It is 0 for 0
+/// and for no octets, and [`u64::MAX`] for a number of more than 4294967295 octets.
 ///
 /// ```
 /// use pkcs1_proved::{bit_len, PublicKey};
