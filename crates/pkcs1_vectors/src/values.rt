@@ -28,6 +28,14 @@ pub fn uint_new(to: &mut Told, bytes: &[u8]) {
     made(to, own);
 }
 
+/// `bits HEX`: the bit length of the number with these bytes.
+pub fn bits(to: &mut Told, bytes: &[u8]) {
+    match UintRef::new(bytes) {
+        Ok(number) => to.plain(number.bit_len()),
+        Err(error) => error.told(to),
+    }
+}
+
 /// `small-new N`: the same for a small number.
 pub fn small_new(to: &mut Told, number: usize) {
     match u8::try_from(number) {

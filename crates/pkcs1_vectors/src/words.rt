@@ -83,6 +83,7 @@ fn of_kernel_text(to: &mut Told, word: &str, bytes: &[u8]) -> bool {
         "header" => lengths::header(to, bytes),
         "uint" => both::<UintRef, Uint>(to, bytes),
         "uint-new" => values::uint_new(to, bytes),
+        "bits" => values::bits(to, bytes),
         "uints" => owned::<Vec<Uint>>(to, bytes),
         "small" => borrowed::<u8>(to, bytes),
         "octets" => borrowed::<OctetStringRef>(to, bytes),
