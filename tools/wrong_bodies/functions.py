@@ -13,7 +13,7 @@ class Function(NamedTuple):
     """A function with a body. Lines count from 1."""
 
     name: str  # as the prover writes it, from below the crate
-    first: int  # its first attribute
+    first: int  # its first attribute or line of documentation
     body: int  # the brace that opens its body
     last: int  # the brace that closes it
 
@@ -65,7 +65,7 @@ def span_of(lines, at, indent):
     while not lines[body].endswith("{}") and lines[last] != indent + "}":
         last += 1
     first = at
-    while lines[first - 1].startswith(indent + "#["):
+    while lines[first - 1].startswith((indent + "#[", indent + "///")):
         first -= 1
     return first + 1, body + 1, last + 1
 
