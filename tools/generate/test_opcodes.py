@@ -144,6 +144,8 @@ def of_width(width):
                "%q = getelementptr i8, ptr %p, i64 0", f"%z = load {t}, ptr %q, align 1", *end]
     if width in (16, 32, 64):
         yield [*begin, f"%z = call {t} @llvm.bswap.{t}({t} %x)", *end]
+    if width in (8, 16, 32, 64):
+        yield [*begin, f"%z = call {t} @llvm.ctlz.{t}({t} %x, i1 false)", *end]
     if 1 < width <= 64:
         yield [*begin, f"switch {t} %x, label %c [", f"{t} 0, label %d", f"{t} -1, label %e", "]", "c:", "br label %f",
                "d:", "br label %f", "e:", "br label %f", "f:", f"%z = phi {t} [ %x, %c ], [ 2, %d ], [ %y, %e ]", *end]
@@ -165,6 +167,8 @@ def main():
         for name in ("umin", "umax", "usub.sat"):
             for width in (8, 16, 32, 64, 128):
                 print(f"declare i{width} @llvm.{name}.i{width}(i{width}, i{width})", file=it)
+        for width in (8, 16, 32, 64):
+            print(f"declare i{width} @llvm.ctlz.i{width}(i{width}, i1)", file=it)
         for name, lines in zip(names, functions):
             print(f"define i64 @{name}(i64 %a, i64 %b) {{\nbegin:", file=it)
             print(*(f"  {line}" if line[-1] != ":" else line for line in lines), "}\n", sep="\n", file=it)

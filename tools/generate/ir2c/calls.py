@@ -68,11 +68,20 @@ def of_order(given):
     return type_, f"__builtin_bswap{type_.bits}({value})"
 
 
+def of_zeros(given):
+    """A call that counts the zero bits in front of a number. Compilers have one that may not be given 0."""
+    type_, value = given[0]
+    if type_.bits not in (8, 16, 32, 64):
+        raise Refused(f"not known: the zero bits of a number of {type_.bits} bits")
+    counted = f"__builtin_clzll({value})" if type_.bits == 64 else f"__builtin_clz({value}) - {32 - type_.bits}"
+    return type_, f"{value} ? (unsigned)({counted}) : {type_.bits}u"
+
+
 INTRINSICS = {
     "memcpy": of_memory("copy"), "memmove": of_memory("move"), "memset": of_memory("fill"),
     "lifetime.start": of_nothing, "lifetime.end": of_nothing, "assume": of_nothing, "trap": of_trap,
     "umin": of_two("{a} < {b} ? {a} : {b}"), "umax": of_two("{a} > {b} ? {a} : {b}"),
-    "usub.sat": of_two("{a} > {b} ? {a} - {b} : 0u"), "bswap": of_order,
+    "usub.sat": of_two("{a} > {b} ? {a} - {b} : 0u"), "bswap": of_order, "ctlz": of_zeros,
 }
 
 
