@@ -81,7 +81,7 @@ vendored_program() {
     depends_by "git = \"file://$PWD\""
     cd "$room/program"
     CARGO_HOME=$room/cargo CARGO_NET_OFFLINE=false cargo vendor > .cargo/config.toml
-    CARGO_HOME=$room/empty prints cargo run --locked --quiet --
+    CARGO_HOME=$room/no_packages prints cargo run --locked --quiet --
 }
 
 # use WHAT: this folder, as users would.
@@ -90,6 +90,7 @@ use() {
     step "$1: a program in C" c_program
     step "$1: a program in Rust" rust_program
 }
+
 # By clang, whose sanitizers stop at what they find.
 sanitized() {
     make check OUT=out/sanitized CODE=c CC=clang \
