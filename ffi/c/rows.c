@@ -1,6 +1,6 @@
 /* The table of inputs, each line with the status of decoding it. An error leaves the struct unchanged. An accepted
  * value is encoded again, as the same octets if it has only one encoding. It is also encoded with too little room and
- * with more, and with each of its fields empty. */
+ * with more, and with each of its fields empty. Each field points to where it stands in the input. */
 #include "test.h"
 #include "pkcs1.h"
 #include <string.h>
@@ -12,12 +12,14 @@ static const struct { const char *name; uint32_t status; } names[] = {
     {"PARAMETERS_MISSING", PKCS1_PARAMETERS_MISSING}, {"TAG_UNEXPECTED", PKCS1_TAG_UNEXPECTED},
     {"TAG_UNKNOWN", PKCS1_TAG_UNKNOWN}, {"TRAILING_DATA", PKCS1_TRAILING_DATA}, {"VALUE", PKCS1_VALUE}};
 
+enum { OTHERS = 4 }; /* more than pkcs1.c places at once */
+
 union value {
     struct pkcs1_public_key key;
     struct {
         struct pkcs1_private_key key;
         struct pkcs1_private_key_info info;
-        struct pkcs1_other_prime others[2];
+        struct pkcs1_other_prime others[OTHERS];
     } priv;
     struct pkcs1_pss_params pss;
     struct pkcs1_oaep_params oaep;
@@ -25,9 +27,9 @@ union value {
 
 static uint32_t read_row(const char *kind, const uint8_t *der, size_t len, union value *v) {
     if (strcmp(kind, "pub") == 0) return pkcs1_public_key_decode(der, len, &v->key);
-    if (strcmp(kind, "priv") == 0) return pkcs1_private_key_decode(der, len, &v->priv.key, v->priv.others, 2);
+    if (strcmp(kind, "priv") == 0) return pkcs1_private_key_decode(der, len, &v->priv.key, v->priv.others, OTHERS);
     if (strcmp(kind, "p8") == 0)
-        return pkcs1_private_key_info_decode(der, len, &v->priv.info, &v->priv.key, v->priv.others, 2);
+        return pkcs1_private_key_info_decode(der, len, &v->priv.info, &v->priv.key, v->priv.others, OTHERS);
     if (strcmp(kind, "pss") == 0) return pkcs1_pss_params_decode(der, len, &v->pss);
     if (strcmp(kind, "pss-strict") == 0) return pkcs1_pss_params_decode_strict(der, len, &v->pss);
     if (strcmp(kind, "oaep") == 0) return pkcs1_oaep_params_decode(der, len, &v->oaep);
@@ -50,57 +52,121 @@ static uint32_t write_row(const char *kind, union value *v, uint8_t *out, size_t
     return pkcs1_oaep_params_encode(&v->oaep, out, room, len);
 }
 
-/* The fields of octets, by the first letters of their kinds, and the status if one that isn't empty is. */
-#define FIELD(kind, field, status) {kind, offsetof(union value, field), status}
-static const struct { const char *kind; size_t at; uint32_t status; } fields[] = {
-    FIELD("pub", key.modulus, PKCS1_LENGTH),
-    FIELD("pub", key.public_exponent, PKCS1_LENGTH),
-    FIELD("priv", priv.key.modulus, PKCS1_LENGTH),
-    FIELD("priv", priv.key.public_exponent, PKCS1_LENGTH),
-    FIELD("priv", priv.key.private_exponent, PKCS1_LENGTH),
-    FIELD("priv", priv.key.prime1, PKCS1_LENGTH),
-    FIELD("priv", priv.key.prime2, PKCS1_LENGTH),
-    FIELD("priv", priv.key.exponent1, PKCS1_LENGTH),
-    FIELD("priv", priv.key.exponent2, PKCS1_LENGTH),
-    FIELD("priv", priv.key.coefficient, PKCS1_LENGTH),
-    FIELD("priv", priv.others[0].prime, PKCS1_LENGTH),
-    FIELD("priv", priv.others[0].exponent, PKCS1_LENGTH),
-    FIELD("priv", priv.others[0].coefficient, PKCS1_LENGTH),
-    FIELD("priv", priv.others[1].prime, PKCS1_LENGTH),
-    FIELD("priv", priv.others[1].exponent, PKCS1_LENGTH),
-    FIELD("priv", priv.others[1].coefficient, PKCS1_LENGTH),
-    FIELD("p8", priv.info.private_key, PKCS1_INCOMPLETE),
-    FIELD("p8", priv.info.attributes, PKCS1_OK),
-    FIELD("pss", pss.hash.oid, PKCS1_OID_MALFORMED),
-    FIELD("pss", pss.hash.parameters, PKCS1_OK),
-    FIELD("pss", pss.mask_gen.oid, PKCS1_OID_MALFORMED),
-    FIELD("pss", pss.mask_gen.hash.oid, PKCS1_OID_MALFORMED),
-    FIELD("pss", pss.mask_gen.hash.parameters, PKCS1_OK),
-    FIELD("oaep", oaep.hash.oid, PKCS1_OID_MALFORMED),
-    FIELD("oaep", oaep.hash.parameters, PKCS1_OK),
-    FIELD("oaep", oaep.mask_gen.oid, PKCS1_OID_MALFORMED),
-    FIELD("oaep", oaep.mask_gen.hash.oid, PKCS1_OID_MALFORMED),
-    FIELD("oaep", oaep.mask_gen.hash.parameters, PKCS1_OK),
-    FIELD("oaep", oaep.p_source.oid, PKCS1_OID_MALFORMED),
-    FIELD("oaep", oaep.p_source.parameters, PKCS1_OK)};
+/* The fields of octets: the first letters of their kinds, where they stand, and the status if one that isn't empty is.
+ * Each letter of `path` leads from the contents of an encoding to those of an element in it. 0 is the first element.
+ * a, b and c are those with the tags a0, a1 and a2. */
+#define FIELD(kind, path, field, status) {kind, path, offsetof(union value, field), status}
+#define OTHER(i)                                                      \
+    FIELD("priv", "9" #i "0", priv.others[i].prime, PKCS1_LENGTH),    \
+    FIELD("priv", "9" #i "1", priv.others[i].exponent, PKCS1_LENGTH), \
+    FIELD("priv", "9" #i "2", priv.others[i].coefficient, PKCS1_LENGTH)
+static const struct { const char *kind, *path; size_t at; uint32_t status; } fields[] = {
+    FIELD("pub", "0", key.modulus, PKCS1_LENGTH),
+    FIELD("pub", "1", key.public_exponent, PKCS1_LENGTH),
+    FIELD("priv", "1", priv.key.modulus, PKCS1_LENGTH),
+    FIELD("priv", "2", priv.key.public_exponent, PKCS1_LENGTH),
+    FIELD("priv", "3", priv.key.private_exponent, PKCS1_LENGTH),
+    FIELD("priv", "4", priv.key.prime1, PKCS1_LENGTH),
+    FIELD("priv", "5", priv.key.prime2, PKCS1_LENGTH),
+    FIELD("priv", "6", priv.key.exponent1, PKCS1_LENGTH),
+    FIELD("priv", "7", priv.key.exponent2, PKCS1_LENGTH),
+    FIELD("priv", "8", priv.key.coefficient, PKCS1_LENGTH),
+    OTHER(0), OTHER(1), OTHER(2), OTHER(3),
+    FIELD("p8", "2", priv.info.private_key, PKCS1_INCOMPLETE),
+    FIELD("p8", "a", priv.info.attributes, PKCS1_OK),
+    FIELD("pss", "a00", pss.hash.oid, PKCS1_OID_MALFORMED),
+    FIELD("pss", "a01", pss.hash.parameters, PKCS1_OK),
+    FIELD("pss", "b00", pss.mask_gen.oid, PKCS1_OID_MALFORMED),
+    FIELD("pss", "b010", pss.mask_gen.hash.oid, PKCS1_OID_MALFORMED),
+    FIELD("pss", "b011", pss.mask_gen.hash.parameters, PKCS1_OK),
+    FIELD("oaep", "a00", oaep.hash.oid, PKCS1_OID_MALFORMED),
+    FIELD("oaep", "a01", oaep.hash.parameters, PKCS1_OK),
+    FIELD("oaep", "b00", oaep.mask_gen.oid, PKCS1_OID_MALFORMED),
+    FIELD("oaep", "b010", oaep.mask_gen.hash.oid, PKCS1_OID_MALFORMED),
+    FIELD("oaep", "b011", oaep.mask_gen.hash.parameters, PKCS1_OK),
+    FIELD("oaep", "c00", oaep.p_source.oid, PKCS1_OID_MALFORMED),
+    FIELD("oaep", "c01", oaep.p_source.parameters, PKCS1_OK)};
+enum { FIELDS = sizeof fields / sizeof fields[0] };
+
+static bool has_field(const char *kind, size_t i) {
+    return strncmp(kind, fields[i].kind, strlen(fields[i].kind)) == 0;
+}
+
+static struct pkcs1_bytes field_of(const union value *value, size_t i) {
+    struct pkcs1_bytes field;
+    memcpy(&field, (const uint8_t *)value + fields[i].at, sizeof field);
+    return field;
+}
 
 /* Each field in turn null with length 0. */
 static void try_empty_fields(const char *kind, const uint8_t *der, size_t len) {
-    for (size_t i = 0; i < sizeof fields / sizeof fields[0]; i++) {
+    for (size_t i = 0; i < FIELDS; i++) {
         static const struct pkcs1_bytes null = {NULL, 0};
-        struct pkcs1_bytes field;
         union value value;
         uint8_t out[256];
         size_t out_len;
-        if (strncmp(kind, fields[i].kind, strlen(fields[i].kind)) != 0)
+        if (!has_field(kind, i))
             continue;
         memset(&value, 0, sizeof value); /* no octets in the other primes that the key doesn't have */
         CHECK(read_row(kind, der, len, &value) == PKCS1_OK);
-        memcpy(&field, (uint8_t *)&value + fields[i].at, sizeof field);
+        uint32_t want = field_of(&value, i).len == 0 ? PKCS1_OK : fields[i].status;
         memcpy((uint8_t *)&value + fields[i].at, &null, sizeof null);
-        uint32_t want = field.len == 0 ? PKCS1_OK : fields[i].status;
         CHECK(write_row(kind, &value, out, sizeof out, &out_len) == want);
     }
+}
+
+/* The contents of an element in these octets, by a letter of `path`. Null if there is no such element. */
+static struct pkcs1_bytes element(struct pkcs1_bytes octets, char name) {
+    struct pkcs1_bytes found = {NULL, 0};
+    for (size_t at = 0, i = 0; at < octets.len; at += 2 + octets.data[at + 1], i++) {
+        const uint8_t *header = octets.data + at;
+        CHECK(header[1] < 0x80); /* no row is longer */
+        if ((size_t)name == '0' + i || name - 'a' == header[0] - 0xa0) {
+            found.data = header + 2;
+            found.len = header[1];
+        }
+    }
+    return found;
+}
+
+static bool lies_in(struct pkcs1_bytes octets, struct pkcs1_bytes part) {
+    uintptr_t before = (uintptr_t)part.data - (uintptr_t)octets.data; /* large if it lies below them */
+    return before <= octets.len && part.len <= octets.len - before;
+}
+
+/* Each field points into its element in these contents octets, even if it is empty. Only what isn't in the encoding may
+ * point elsewhere: it has the octets of the default if the whole field of the parameters is left out, else none. */
+static void try_places(const char *kind, const union value *value, struct pkcs1_bytes contents) {
+    static const struct pkcs1_bytes none = {NULL, 0};
+    union value defaults;
+    memset(&defaults, 0, sizeof defaults);
+    if (strncmp(kind, "pss", 3) == 0) pkcs1_pss_params_init(&defaults.pss, &pkcs1_oid_sha1, 20);
+    if (strncmp(kind, "oaep", 4) == 0) pkcs1_oaep_params_init(&defaults.oaep, &pkcs1_oid_sha1, NULL, 0);
+    for (size_t i = 0; i < FIELDS; i++) {
+        if (!has_field(kind, i))
+            continue;
+        const char *path = fields[i].path;
+        struct pkcs1_bytes field = field_of(value, i), place = element(contents, *path);
+        struct pkcs1_bytes absent = place.data == NULL ? field_of(&defaults, i) : none;
+        while (*++path != '\0')
+            place = element(place, *path);
+        if (place.data != NULL)
+            CHECK(lies_in(place, field));
+        else
+            CHECK(pkcs1_oid_equal(&field, &absent));
+    }
+}
+
+static void try_pointers(const char *kind, const uint8_t *der, size_t len) {
+    struct pkcs1_bytes input = {der, len}, contents = element(input, '0'), label;
+    union value value;
+    memset(&value, 0, sizeof value); /* as above */
+    CHECK(read_row(kind, der, len, &value) == PKCS1_OK);
+    try_places(kind, &value, strstr(kind, "-alg") == NULL ? contents : element(contents, '1'));
+    if (strcmp(kind, "p8") == 0)
+        try_places("priv", &value, element(value.priv.info.private_key, '0'));
+    if (strncmp(kind, "oaep", 4) == 0 && pkcs1_oaep_label(&value.oaep, &label) && label.len > 0)
+        CHECK(lies_in(value.oaep.p_source.parameters, label));
 }
 
 /* Too little room, as much as is needed, and so much that 32 bits can't tell it. Nothing is written behind the
@@ -148,6 +214,7 @@ static void try_row(const char *kind, const char *digits, const char *name) {
         CHECK(write_row(kind, value, again, sizeof again, &again_len) == PKCS1_OK && again_len == need);
         try_rooms(kind, value, again, need);
         try_empty_fields(kind, der, len);
+        try_pointers(kind, der, len);
         bool has_one = strncmp(kind, "pss", 3) != 0 && strncmp(kind, "oaep", 4) != 0;
         if (has_one || strstr(kind, "-strict") != NULL)
             CHECK(again_len == len && memcmp(again, der, len) == 0);

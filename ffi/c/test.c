@@ -49,7 +49,6 @@ static void public_keys(void) {
     memcpy(heap, der, sizeof der);
     CHECK(pkcs1_public_key_decode(heap, sizeof der, &key) == PKCS1_OK);
     CHECK(same(key.modulus, "\xc1\x7f", 2) && same(key.public_exponent, "\x03", 1));
-    CHECK(key.modulus.data == heap + 5 && key.public_exponent.data == heap + 9);
     CHECK(pkcs1_public_key_encode(&key, NULL, 0, &len) == PKCS1_NO_ROOM && len == sizeof der);
     uint8_t *out = filled(len);
     CHECK(pkcs1_public_key_encode(&key, out, len - 1, &len) == PKCS1_NO_ROOM && len == sizeof der && out[0] == 0xa5);
@@ -199,7 +198,7 @@ static void containers(void) {
     struct pkcs1_private_key key;
     size_t len = 0;
     CHECK(pkcs1_private_key_info_decode(der, sizeof der, &info, &key, NULL, 0) == PKCS1_OK);
-    CHECK(info.private_key.data == der + 22 && info.private_key.len == 29);
+    CHECK(info.private_key.len == 29);
     CHECK(!info.has_attributes && same(info.attributes, "", 0));
     CHECK(same(key.modulus, "\1", 1) && same(key.coefficient, "\10", 1) && key.other_primes == 0);
     CHECK(pkcs1_private_key_info_encode(&info, out, 9, &len) == PKCS1_NO_ROOM && len == sizeof der);
