@@ -123,7 +123,8 @@ static void label_read(void) {
 static void bits_counted(void) {
     CHECK(pkcs1_bit_len(number(536870912)) == 4294967289u);
     CHECK(pkcs1_bit_len(number(536870914)) == 4294967305u);
-    CHECK(pkcs1_bit_len(number(LIMIT + 4096)) == 8 * (uint64_t)(LIMIT + 4095) + 1);
+    CHECK(pkcs1_bit_len(number(LIMIT)) == 8 * (uint64_t)(LIMIT - 1) + 1);
+    CHECK(pkcs1_bit_len(number(LIMIT + 1)) == UINT64_MAX);
 }
 
 int main(void) {
