@@ -1,7 +1,5 @@
 use Rattle.std.proofs.Common.{arith}
 use Rattle.std.proofs.lemmas.Result.{err_from_is_err_and}
-use Rattle.der_core.proofs.FrontsAreUnique.{front_is, rest_is}
-use Rattle.der_core.specs.Tlv.{tlv}
 use Rattle.spki_core.specs.Laws.Masks.{parts_relate}
 use Rattle.pkcs1_params.proofs.FieldValues.{ordered}
 use Rattle.pkcs1_params.specs.Parts.{parts_of, fields_with, written_fields}
