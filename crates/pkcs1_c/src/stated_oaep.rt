@@ -1,7 +1,7 @@
 //! The calls for C of OAEP parameters, and of the algorithm identifier that they stand in, by the statement's words:
 //! each function is the call itself.
 ghost use Rattle.std.specs.Prelude.{◌≡◌, ◌≢◌, Some, None};
-ghost use Rattle.statement.specs.Statement.{Decodes, IsShortest, OaepEncoding, OaepAlgorithmEncoding};
+ghost use Rattle.standard.specs.Statement.{Decodes, IsShortest, OaepEncoding, OaepAlgorithmEncoding};
 ghost use Rattle.pkcs1_c.specs.Structs.{oaep_params, WritesOrTells};
 
 use crate::oaep::{
