@@ -74,7 +74,7 @@ def report(what, wanted):
     modules = {module for module, _ in seen}
     print(f"{what}: {len(seen)} definitions, {lines} lines, {len(modules)} modules")
     for module, name in sorted(seen):
-        if not module.startswith("Rattle.statement."):
+        if not module.startswith(("Rattle.statement.", "Rattle.standard.")):
             print(f"  elsewhere: {name} of {module}")
 
 

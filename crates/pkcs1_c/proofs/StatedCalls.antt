@@ -5,7 +5,7 @@ use Rattle.der_core.specs.Document as documents
 use Rattle.der_core.specs.Document.{Means}
 use Rattle.pkcs1_params.specs.Meanings.{IsTheMeaning, IsTheShortest, IsNoSentence, IsNoShortest}
 use Rattle.statement.proofs.Shortest.{shortest}
-use Rattle.statement.specs.Statement.{Decodes, IsShortest}
+use Rattle.standard.specs.Statement.{Decodes, IsShortest}
 use Rattle.pkcs1_c.specs.Structs.{If, WritesOrTells}
 use Rattle.pkcs1_c.specs.Writes.{Writes, WritesValue}
 

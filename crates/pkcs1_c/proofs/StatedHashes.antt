@@ -15,7 +15,7 @@ use Rattle.pkcs1_c.specs.StructValues.{algorithm_seen, mask_gen_seen}
 use Rattle.pkcs1_c.proofs.StatedParameters.{plain_is, mask_is}
 use Rattle.statement.specs.Library as library
 use Rattle.statement.proofs.Values.{any_from, plain_from, plain_to, plain_back}
-use Rattle.statement.specs.Statement.{Algorithm, TagAndContents}
+use Rattle.standard.specs.Statement.{Algorithm, TagAndContents}
 
 -- What decides one of two statements that say the same decides the other.
 decides_as : {P Q : Type 0} (r : Bool) → (P → Q) → (Q → P) → Decides r P → IsTrue r ↔ Q

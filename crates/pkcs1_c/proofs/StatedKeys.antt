@@ -18,8 +18,8 @@ use Rattle.statement.specs.Library as library
 use Rattle.statement.proofs.Octets.{octets_canonical, octets_number}
 use Rattle.statement.proofs.Shortest.{shortest}
 use Rattle.statement.proofs.Values.{public_key_from, public_key_back, private_key_from, private_key_back}
-use Rattle.statement.specs.Statement.{octets, PublicKey, PublicKeyEncoding, PrivateKey, PrivateKeyEncoding, OtherPrime}
-use Rattle.statement.specs.Statement.{IsShortest, Decodes}
+use Rattle.standard.specs.Statement.{octets, PublicKey, PublicKeyEncoding, PrivateKey, PrivateKeyEncoding, OtherPrime}
+use Rattle.standard.specs.Statement.{IsShortest, Decodes}
 use Rattle.pkcs1_c.specs.declared.public_key.PublicKey as public_structs
 use Rattle.pkcs1_c.specs.declared.private_key.OtherPrime as prime_structs
 use Rattle.pkcs1_c.specs.declared.private_key.PrivateKey as key_structs

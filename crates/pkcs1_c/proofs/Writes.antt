@@ -73,7 +73,7 @@ module _ {V : Type 0} (Grammar : V → List ℕ → Type 0) (v : V) (old new : L
       → length new ≡ length old
       → WritesValue Grammar v (EncodingError Grammar v) old new l m 0
   written shortest rest same = record {
-    ok = λ _. (shortest, rest.0, rest.1);
+    ok = λ _. (shortest, omega (arith, rest.0, same), rest.1);
     no_room = λ full. absurd (omega (arith, full));
     rejected = λ no. absurd (no refl);
     exact =

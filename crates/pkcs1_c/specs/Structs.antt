@@ -13,9 +13,9 @@ use Rattle.pkcs1_c.specs.declared.private_key.OtherPrime as prime_structs
 use Rattle.pkcs1_c.specs.declared.private_key.PrivateKey as key_structs
 use Rattle.pkcs1_c.specs.declared.pss.PssParams.{PssParams}
 use Rattle.pkcs1_c.specs.declared.public_key.PublicKey as public_structs
-use Rattle.statement.specs.Statement.{octets, PublicKey, PrivateKey, PrivateKeyEncoding, OtherPrime, TagAndContents}
-use Rattle.statement.specs.Statement.{Algorithm, PssParameters, OaepParameters, Container, null, mgf1_sha1}
-use Rattle.statement.specs.Statement.{empty_label, rsa_encryption, IsShortest, Encodes, Decodes}
+use Rattle.standard.specs.Statement.{octets, PublicKey, PrivateKey, PrivateKeyEncoding, OtherPrime, TagAndContents}
+use Rattle.standard.specs.Statement.{Algorithm, PssParameters, OaepParameters, Container, null, mgf1_sha1}
+use Rattle.standard.specs.Statement.{empty_label, rsa_encryption, IsShortest, Encodes, Decodes}
 
 -- == Writing ==
 -- The length of the value's shortest encoding.

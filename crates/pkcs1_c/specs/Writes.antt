@@ -30,7 +30,7 @@ IsErrorOf WhyNot (suc n) = WhyNot (suc n) × ((other : ℕ) → WhyNot other →
 -- of the encoding. Any other status says that there is no encoding within the limit.
 pub record Writes (IsEncoding : List ℕ → Type 0) (HasNone : Type 0) (WhyNot : ℕ → ℕ → Type 0) (old new : List ℕ)
     (old_len new_len status : ℕ) : Type 0 where
-  pub ok : status ≡ OK → IsEncoding (take new_len new) × (new_len ≤ length new) × (drop new_len new ≡ drop new_len old)
+  pub ok : status ≡ OK → IsEncoding (take new_len new) × (new_len ≤ length old) × (drop new_len new ≡ drop new_len old)
   pub no_room : status ≡ NO_ROOM → (encoding : List ℕ) × IsEncoding encoding × (new_len ≡ length encoding)
       × (length old < new_len)
   pub rejected : status ≢ OK → status ≢ NO_ROOM → HasNone

@@ -1,8 +1,8 @@
 //! The calls for C of keys and of containers, by the statement's words: each function is the call itself.
 ghost use Rattle.std.specs.Prelude.{◌≡◌, ◌≢◌, ◌<◌, length, drop, Some, None};
-ghost use Rattle.statement.specs.Statement as statement;
-ghost use Rattle.statement.specs.Statement.{Decodes, PublicKeyEncoding, PrivateKeyEncoding, ContainerEncoding};
-ghost use Rattle.statement.specs.Statement.{ContainedKeyEncoding};
+ghost use Rattle.standard.specs.Statement as statement;
+ghost use Rattle.standard.specs.Statement.{Decodes, PublicKeyEncoding, PrivateKeyEncoding, ContainerEncoding};
+ghost use Rattle.standard.specs.Statement.{ContainedKeyEncoding};
 ghost use Rattle.pkcs1_c.specs.Structs.{private_key, HasPrivateNumbers, DecodesPrivate, private_key_info, HasKey};
 ghost use Rattle.pkcs1_c.specs.Structs.{public_key, HasNumbers, Holds, If, WritesOrTells};
 ghost use Rattle.pkcs1_c.specs.Words.{InfoError, IsErrorOf, IsStatusOf, PrivateKeyError, PublicKeyError};

@@ -1,7 +1,7 @@
 //! The calls for C of OAEP parameters, and of the algorithm identifier that they stand in, by the statement's words:
 //! each function is the call itself.
 ghost use Rattle.std.specs.Prelude.{◌≡◌, ◌≢◌, Some, None, length};
-ghost use Rattle.statement.specs.Statement.{Decodes, IsShortest, OaepEncoding, OaepAlgorithmEncoding};
+ghost use Rattle.standard.specs.Statement.{Decodes, IsShortest, OaepEncoding, OaepAlgorithmEncoding};
 ghost use Rattle.pkcs1_params.specs.Parameters.{RsaOaepParams};
 ghost use Rattle.pkcs1_params.specs.Words.{RsaOaepAlgorithm, rsa_oaep_algorithm, rsa_oaep_params, strict_oaep_algorithm};
 ghost use Rattle.pkcs1_params.specs.Words.{strict_oaep_params};

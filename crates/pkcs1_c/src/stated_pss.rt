@@ -1,7 +1,7 @@
 //! The calls for C of PSS parameters, and of the algorithm identifier that they stand in, by the statement's words:
 //! each function is the call itself.
 ghost use Rattle.std.specs.Prelude.{◌≡◌, ◌≢◌, Some, None, length};
-ghost use Rattle.statement.specs.Statement.{Decodes, IsShortest, PssEncoding, PssAlgorithmEncoding};
+ghost use Rattle.standard.specs.Statement.{Decodes, IsShortest, PssEncoding, PssAlgorithmEncoding};
 ghost use Rattle.pkcs1_params.specs.Parameters.{RsaPssParams};
 ghost use Rattle.pkcs1_params.specs.Words.{RsaPssAlgorithm, rsa_pss_algorithm, rsa_pss_params, strict_pss_algorithm};
 ghost use Rattle.pkcs1_params.specs.Words.{strict_pss_params};

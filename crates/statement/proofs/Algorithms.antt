@@ -13,8 +13,8 @@ use Rattle.spki_core.specs.AlgorithmIdentifier.{written_algorithm, written_plain
 use Rattle.spki_core.specs.Laws.AlgorithmEncodings.{plain_at_most_one, mask_at_most_one}
 use Rattle.pkcs1_params.specs.Laws.HashFields.{plain_relates, plain_shortest, mask_relates, mask_shortest}
 use Rattle.pkcs1_params.specs.Parameters.{id_sha1, id_mgf1, id_p_specified}
-use Rattle.statement.specs.Statement.{tlv, limit, IsSubidentifier, IsIdentifier, TagAndContents, IsAny, any, optional}
-use Rattle.statement.specs.Statement.{IfPresent, Algorithm, algorithm, IsAlgorithm, sha1, mgf1_sha1, empty_label}
+use Rattle.standard.specs.Statement.{tlv, limit, IsSubidentifier, IsIdentifier, TagAndContents, IsAny, any, optional}
+use Rattle.standard.specs.Statement.{IfPresent, Algorithm, algorithm, IsAlgorithm, sha1, mgf1_sha1, empty_label}
 use Rattle.statement.proofs.Der.{tlv_same}
 pub use Rattle.statement.specs.Library.{any as any_to, algorithm as algorithm_to}
 pub use Rattle.statement.proofs.Values.{any_from, algorithm_from, plain_from, plain_to, plain_back, plain_forth}

@@ -11,7 +11,7 @@ use Rattle.pkcs1_params.specs.Allocating.{HasOctets, HasParameters, HashesHaveOc
 use Rattle.pkcs1_params.specs.Allocating.{OwnedOaepAllocates}
 use Rattle.pkcs1_params.specs.Parameters as parameters
 use Rattle.pkcs1_params.specs.Laws.Parameters.{pss_delimited, oaep_delimited}
-use Rattle.statement.specs.Statement.{TagAndContents, Algorithm, IfPresent, IsBare, PssParameters, OaepParameters}
+use Rattle.standard.specs.Statement.{TagAndContents, Algorithm, IfPresent, IsBare, PssParameters, OaepParameters}
 use Rattle.statement.proofs.Algorithms.{any_to, plain_to, mask_to}
 use Rattle.statement.proofs.Pss as pss
 use Rattle.statement.proofs.Oaep as oaep

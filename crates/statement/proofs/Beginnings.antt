@@ -4,8 +4,8 @@ use Rattle.std.specs.Int.Digits.{number_from_digits}
 use Rattle.der_core.specs.Integer.{Small}
 use Rattle.der_core.specs.Tlv.{Tlv}
 use Rattle.pkcs1.specs.Allocating.{OwnedKeyAllocates, OwnedPublicKeyAllocates}
-use Rattle.statement.specs.Statement.{integer, sequence, integers, optional, other_primes, version}
-use Rattle.statement.specs.Statement.{PublicKey, PublicKeyEncoding, PrivateKey, PrivateKeyEncoding}
+use Rattle.standard.specs.Statement.{integer, sequence, integers, optional, other_primes, version}
+use Rattle.standard.specs.Statement.{PublicKey, PublicKeyEncoding, PrivateKey, PrivateKeyEncoding}
 use Rattle.statement.proofs.Der.{tlv_is, integer_is, small_integer}
 
 pub opened : {P : List ℕ → Type 0} (b : List ℕ) → Tlv 48 P b → (c : List ℕ) × P c × (b ≡ sequence c)

@@ -7,8 +7,8 @@ use Rattle.der_core.specs.OctetString.{OctetString, OctetContents}
 use Rattle.pkcs8_core.specs.Container.{Info, InfoContents, PrivateKeyInfo, AttributesEncoding, WhyContainerNotWritten}
 use Rattle.pkcs8_core.specs.Rsa as library
 use Rattle.pkcs1.specs.Keys as keys
-use Rattle.statement.specs.Statement.{tlv, integer, optional, IfPresent, AreOctets, limit, sequence, Container}
-use Rattle.statement.specs.Statement.{ContainerEncoding, ContainedKeyEncoding, PrivateKey, IsShortest}
+use Rattle.standard.specs.Statement.{tlv, integer, optional, IfPresent, AreOctets, limit, sequence, Container}
+use Rattle.standard.specs.Statement.{ContainerEncoding, ContainedKeyEncoding, PrivateKey, IsShortest}
 use Rattle.statement.proofs.Der.{tlv_is, tlv_made, tlv_fit, small_integer, small_made}
 use Rattle.statement.proofs.Algorithms.{plain, IsPlain, plain_from, plain_to, plain_written}
 use Rattle.statement.proofs.PrivateKeys as private

@@ -18,7 +18,7 @@ use Rattle.der_core.specs.Laws.SmallNumbers.{small_relates, small_is, byte_canon
 use Rattle.pkcs1_params.specs.Meanings.{IsWritingError}
 use Rattle.pkcs1_params.specs.declared.error.Error.{Error}
 use Rattle.pkcs1_params.specs.declared.error.Error.TheVariants as error
-use Rattle.statement.specs.Statement.{octets, length_octets, tlv, integer, limit}
+use Rattle.standard.specs.Statement.{octets, length_octets, tlv, integer, limit}
 use Rattle.statement.proofs.Octets.{octets_canonical, number_octets}
 
 pub length_octets_same : (n : ℕ) → der_octets n ≡ length_octets n

@@ -7,7 +7,7 @@ use Rattle.pkcs1.specs.Keys as keys
 use Rattle.pkcs1.proofs.PrivateKey.{joins_take}
 use Rattle.pkcs1_params.specs.Parameters as parameters
 use Rattle.pkcs8_core.specs.Container as container
-use Rattle.statement.specs.Statement.{PublicKey, PrivateKey, PssParameters, OaepParameters, Container}
+use Rattle.standard.specs.Statement.{PublicKey, PrivateKey, PssParameters, OaepParameters, Container}
 use Rattle.statement.proofs.Algorithms.{plain_forth, mask_forth}
 use Rattle.statement.proofs.PublicKeys as public
 use Rattle.statement.proofs.PrivateKeys as private

@@ -17,8 +17,8 @@ use Rattle.pkcs1_params.specs.Meanings.{IsTheMeaning, IsTheShortest}
 use Rattle.pkcs1_params.specs.Spellings as spellings
 use Rattle.pkcs1_params.specs.declared.error.Error.{Error}
 use Rattle.pkcs1_params.specs.declared.error.Error.TheVariants as error
-use Rattle.statement.specs.Statement.{tlv, sequence, limit, Field, field, Fields, FieldsUnder, Defaults, SequenceOf}
-use Rattle.statement.specs.Statement.{longest, AreAll, Lists, TwoToTheDefaults, IsShortest}
+use Rattle.standard.specs.Statement.{tlv, sequence, limit, Field, field, Fields, FieldsUnder, Defaults, SequenceOf}
+use Rattle.standard.specs.Statement.{longest, AreAll, Lists, TwoToTheDefaults, IsShortest}
 use Rattle.statement.specs.Library.{Agree}
 use Rattle.statement.proofs.Der.{moved, equal_by, tlv_is, tlv_made, tlv_fit}
 use Rattle.statement.proofs.Algorithms.{Written}

@@ -13,7 +13,7 @@ use Rattle.der_core.specs.declared.document.DocumentOf.{DocumentOf}
 use Rattle.der_core.specs.declared.error.Error.{Error}
 use Rattle.der_core.specs.declared.error.ErrorKind.TheVariants.{File, OutOfMemory, Overflow}
 use Rattle.statement.specs.Held.{document_of}
-use Rattle.statement.specs.Statement.{AreOctets, limit, sequence}
+use Rattle.standard.specs.Statement.{AreOctets, limit, sequence}
 use Rattle.statement.proofs.Beginnings.{opened}
 use Rattle.statement.proofs.Der.{tlv_made}
 

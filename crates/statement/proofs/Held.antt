@@ -23,7 +23,7 @@ use Rattle.pkcs1_params.specs.PssValue.{pss_in, pss_with, pss_viewed}
 use Rattle.pkcs1_params.specs.OaepValue.{oaep_in, oaep_with, oaep_viewed}
 use Rattle.pkcs1_params.specs.declared.pss.PssParamsOf.{PssParamsOf}
 use Rattle.pkcs1_params.specs.declared.oaep.OaepParamsOf.{OaepParamsOf}
-use Rattle.statement.specs.Statement.{OtherPrime, TagAndContents}
+use Rattle.standard.specs.Statement.{OtherPrime, TagAndContents}
 use Rattle.statement.specs.Held.{algorithm_identifier_of, algorithm_identifier, pss_params_of, rsa_pss_params}
 use Rattle.statement.specs.Held.{rsa_pss_params_view, oaep_params_of, rsa_oaep_params, rsa_oaep_params_view}
 use Rattle.statement.specs.Held.{rsa_private_key}

@@ -16,10 +16,10 @@ use Rattle.pkcs1_params.specs.Algorithms.{AlgorithmOf}
 use Rattle.pkcs1_params.specs.Meanings.{IsTheMeaning, IsTheShortest, IsTheOnly}
 use Rattle.pkcs1_params.proofs.AlgorithmsLaws.{parameters_in, with_encoded, parameters_shorter, identifier_made}
 use Rattle.pkcs1_params.proofs.AlgorithmsLaws.{identifier_grows, same_parameters}
-use Rattle.statement.specs.Statement.{tlv, sequence, limit, AlgorithmEncoding, IsShortest, Field, Fields, FieldsUnder}
-use Rattle.statement.specs.Statement.{Algorithm, TagAndContents, Decodes}
-use Rattle.statement.specs.Statement.{SequenceOf, longest, AreAll, TwoToTheDefaults, TwoToTheDefaultsIn, id_rsassa_pss}
-use Rattle.statement.specs.Statement.{id_rsaes_oaep}
+use Rattle.standard.specs.Statement.{tlv, sequence, limit, AlgorithmEncoding, IsShortest, Field, Fields, FieldsUnder}
+use Rattle.standard.specs.Statement.{Algorithm, TagAndContents, Decodes}
+use Rattle.standard.specs.Statement.{SequenceOf, longest, AreAll, TwoToTheDefaults, TwoToTheDefaultsIn, id_rsassa_pss}
+use Rattle.standard.specs.Statement.{id_rsaes_oaep}
 use Rattle.statement.proofs.Der.{moved, tlv_is, tlv_made, tlv_fit}
 use Rattle.statement.proofs.Fields as parameters
 use Rattle.statement.proofs.Fields.{Sides, all_written, fields_to, fields_from}

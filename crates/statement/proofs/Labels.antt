@@ -4,7 +4,7 @@ use Rattle.spki_core.specs.Any as anys
 use Rattle.spki_core.specs.AlgorithmIdentifier as algorithms
 use Rattle.pkcs1_params.specs.Labels.{LabelOf}
 use Rattle.statement.specs.Made.{source_of}
-use Rattle.statement.specs.Statement.{Decodes, Algorithm, TagAndContents}
+use Rattle.standard.specs.Statement.{Decodes, Algorithm, TagAndContents}
 use Rattle.statement.proofs.Algorithms.{plain_from, plain_to, plain_forth}
 
 abbrev contents_in : Option TagAndContents → List ℕ

@@ -1,7 +1,7 @@
 -- OAEP parameters: the statement's encodings are the library's.
 use Rattle.std.proofs.Common.{ℕ, List}
 use Rattle.pkcs1_params.specs.Parameters as library
-use Rattle.statement.specs.Statement.{IsOaep, oaep_fields}
+use Rattle.standard.specs.Statement.{IsOaep, oaep_fields}
 use Rattle.statement.proofs.Algorithms.{plain_from, plain_to, plain_forth, mask_from, mask_to}
 use Rattle.statement.proofs.Algorithms.{mask_forth, plain_written, mask_written, sha1_is, mgf1_is, label_is}
 use Rattle.statement.proofs.Fields.{Sides, matches, made, value_is}

@@ -6,7 +6,7 @@ use Rattle.std.proofs.lemmas.Bool.Decides.{nat_tests}
 use Rattle.std.proofs.lemmas.Int.Digits.{all_below_base_digits_of, number_digits_of, first_digits_of}
 use Rattle.der_core.specs.Integer.{IsCanonical}
 use Rattle.der_core.specs.Laws.Integer.{canonical_same}
-use Rattle.statement.specs.Statement.{octets}
+use Rattle.standard.specs.Statement.{octets}
 
 octets_zero : (n : ℕ) → n ≡ 0 → octets n ≡ 0 ∷ []
 octets_zero n e = let t : (n == 0) ≡ true = grind (arith, nat_tests) in rw t refl

@@ -11,7 +11,7 @@ use Rattle.pkcs1.specs.PrivateKeyValue.{other_of}
 use Rattle.pkcs1.specs.ViewParts.{listed_others}
 use Rattle.pkcs1.specs.declared.other_primes.OtherPrimes.{OtherPrimes}
 use Rattle.pkcs1.specs.declared.private_key.other_prime_info.OtherPrimeInfo.{OtherPrimeInfo}
-use Rattle.statement.specs.Statement.{OtherPrime}
+use Rattle.standard.specs.Statement.{OtherPrime}
 use Rattle.statement.specs.Held.{uint_ref, other_prime_info, other_primes}
 use Rattle.statement.proofs.PrivateKeys.{other_numbers}
 

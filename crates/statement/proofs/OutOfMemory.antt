@@ -8,7 +8,7 @@ use Rattle.der_core.specs.declared.error.ErrorKind.TheVariants.{OutOfMemory, Ove
 use Rattle.pkcs1_params.specs.Errors.{IsAsn1}
 use Rattle.pkcs1_params.specs.declared.error.Error.{Error}
 use Rattle.pkcs1_params.specs.declared.error.Error.TheVariants as error
-use Rattle.statement.specs.Statement.{Decodes}
+use Rattle.standard.specs.Statement.{Decodes}
 
 abbrev pub IsMemory : Error → Type 0
 IsMemory e = IsAsn1 (λ x. x.kind ≡ OutOfMemory) e

@@ -12,8 +12,8 @@ use Rattle.der_core.specs.Laws.SmallNumbers.{small_relates}
 use Rattle.pkcs1.specs.Keys as keys
 use Rattle.pkcs1.specs.Keys.{PrivateKeyContents, RsaPrivateKey, OtherPrimeInfo, OtherPrimeInfos, version_of}
 use Rattle.pkcs1.proofs.PrivateKey.{joins_put, joins_take}
-use Rattle.statement.specs.Statement.{octets, tlv, integer, integers, limit, optional, IfPresent, OtherPrime}
-use Rattle.statement.specs.Statement.{other_primes, sequence, PrivateKey, PrivateKeyEncoding, version}
+use Rattle.standard.specs.Statement.{octets, tlv, integer, integers, limit, optional, IfPresent, OtherPrime}
+use Rattle.standard.specs.Statement.{other_primes, sequence, PrivateKey, PrivateKeyEncoding, version}
 use Rattle.statement.proofs.Der.{tlv_is, tlv_made, tlv_fit, integer_is, integer_made, small_integer, small_octets}
 use Rattle.statement.proofs.Der.{joins_are, joins_made}
 use Rattle.statement.proofs.Octets.{number_octets}

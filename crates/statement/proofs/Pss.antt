@@ -2,7 +2,7 @@
 use Rattle.std.proofs.Common.{ℕ, List, ◌≡◌, ◌<◌, refl, arith}
 use Rattle.der_core.specs.Integer.{Small}
 use Rattle.pkcs1_params.specs.Parameters as library
-use Rattle.statement.specs.Statement.{integer, IsPss, pss_fields}
+use Rattle.standard.specs.Statement.{integer, IsPss, pss_fields}
 use Rattle.statement.proofs.Der.{small_integer, small_made}
 use Rattle.statement.proofs.Algorithms.{Written, plain_from, plain_to, plain_forth, mask_from, mask_to}
 use Rattle.statement.proofs.Algorithms.{mask_forth, plain_written, mask_written, sha1_is, mgf1_is}

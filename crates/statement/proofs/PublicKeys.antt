@@ -4,7 +4,7 @@ use Rattle.std.specs.Int.Digits.{number_from_digits}
 use Rattle.der_core.specs.Document.{Means}
 use Rattle.der_core.specs.Integer.{Integer, IsCanonical}
 use Rattle.pkcs1.specs.Keys as keys
-use Rattle.statement.specs.Statement.{octets, integer, integers, sequence, limit, PublicKey, PublicKeyEncoding}
+use Rattle.standard.specs.Statement.{octets, integer, integers, sequence, limit, PublicKey, PublicKeyEncoding}
 use Rattle.statement.proofs.Der.{tlv_is, tlv_fit, tlv_made, integer_is, integer_made, joins_are, joins_made}
 use Rattle.statement.proofs.Octets.{number_octets}
 pub use Rattle.statement.specs.Library.{public_key as key_of}

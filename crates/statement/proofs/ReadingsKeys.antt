@@ -9,7 +9,7 @@ use Rattle.der_core.specs.declared.error.ErrorKind.TheVariants as kind
 use Rattle.pkcs1.specs.KeyReadings as library
 use Rattle.pkcs1.specs.KeyReadings.{number, of_other_parts, of_public_parts}
 use Rattle.pkcs1.specs.Keys.{Eight, OtherPrime, PrivateKey}
-use Rattle.statement.specs.Statement as statement
+use Rattle.standard.specs.Statement as statement
 use Rattle.statement.specs.Reading.{agreed, integer, listed, other_prime_in, private_key, private_key_in, public_key}
 use Rattle.statement.specs.Reading.{public_key_in}
 use Rattle.statement.proofs.PrivateKeys.{other_numbers, numbers}

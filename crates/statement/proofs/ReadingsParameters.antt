@@ -22,7 +22,7 @@ use Rattle.pkcs8_core.specs.Container.{Info}
 use Rattle.pkcs8_core.specs.Tags.{attributes_tag}
 use Rattle.pkcs8_core.specs.ContainerReadings as containers
 use Rattle.pkcs8_core.specs.ContainerReadings.{of_info_parts}
-use Rattle.statement.specs.Statement as statement
+use Rattle.standard.specs.Statement as statement
 use Rattle.statement.specs.Reading.{algorithm, any, contained_key, container, container_in, null_only, oaep, oaep_in}
 use Rattle.statement.specs.Reading.{oaep_algorithm, private_key, pss, pss_algorithm, pss_in, rsa_only, sequence_only, with_identifier}
 use Rattle.statement.proofs.Algorithms.{algorithm_from, any_from, mask_from, plain_from}

@@ -9,8 +9,8 @@ use Rattle.der_core.specs.declared.error.ErrorKind.TheVariants.{Incomplete, Inde
 use Rattle.der_core.specs.declared.error.ErrorKind.TheVariants.{OidMalformed, OidUnknown, Overflow, Overlength}
 use Rattle.der_core.specs.declared.error.ErrorKind.TheVariants.{ParametersMissing, TagUnexpected, TagUnknown}
 use Rattle.der_core.specs.declared.error.ErrorKind.TheVariants.{TrailingData, Value}
-use Rattle.statement.specs.Statement.{PublicKey, PrivateKey, OtherPrime, PssParameters, OaepParameters, Algorithm}
-use Rattle.statement.specs.Statement.{TagAndContents, Container, rsa_encryption, sha1, mgf1_sha1, empty_label}
+use Rattle.standard.specs.Statement.{PublicKey, PrivateKey, OtherPrime, PssParameters, OaepParameters, Algorithm}
+use Rattle.standard.specs.Statement.{TagAndContents, Container, rsa_encryption, sha1, mgf1_sha1, empty_label}
 use Rattle.der_core.specs.Readings.{Reading, alone, tagged}
 use Rattle.spki_core.specs.Readings.{identifier_read}
 use Rattle.statement.specs.Reading.{any, algorithm, public_key, private_key}

@@ -8,9 +8,9 @@ use Rattle.pkcs1_params.specs.Laws.Parameters.{pss_delimited, oaep_delimited}
 use Rattle.pkcs1_params.specs.Parameters.{RsaPssParams, RsaOaepParams}
 use Rattle.der_core.specs.Document.{Means}
 use Rattle.der_core.specs.Encodings.{IsDelimited}
-use Rattle.statement.specs.Statement.{IsShortest, SameByShortest, PublicKeyEncoding, PrivateKeyEncoding, PssEncoding}
-use Rattle.statement.specs.Statement.{OaepEncoding, id_rsassa_pss, PssAlgorithmEncoding, id_rsaes_oaep}
-use Rattle.statement.specs.Statement.{OaepAlgorithmEncoding, ContainerEncoding}
+use Rattle.standard.specs.Statement.{IsShortest, SameByShortest, PublicKeyEncoding, PrivateKeyEncoding, PssEncoding}
+use Rattle.standard.specs.Statement.{OaepEncoding, id_rsassa_pss, PssAlgorithmEncoding, id_rsaes_oaep}
+use Rattle.standard.specs.Statement.{OaepAlgorithmEncoding, ContainerEncoding}
 use Rattle.statement.proofs.PublicKeys as keys
 use Rattle.statement.proofs.PrivateKeys as private
 use Rattle.statement.proofs.Containers as containers

@@ -2,7 +2,7 @@
 use Rattle.std.specs.Prelude.{ℕ, List, ◌↔◌}
 use Rattle.der_core.specs.Document.{Means}
 use Rattle.der_core.specs.Document as documents
-use Rattle.statement.specs.Statement.{IsShortest}
+use Rattle.standard.specs.Statement.{IsShortest}
 
 pub shortest : {W V : Type 0} (Grammar : W → List ℕ → Type 0) (Encoding : V → List ℕ → Type 0) (w : W) (v : V)
     → ((bytes : List ℕ) → Encoding v bytes ↔ Means Grammar bytes w)

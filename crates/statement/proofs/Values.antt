@@ -8,8 +8,8 @@ use Rattle.pkcs1.specs.Keys as keys
 use Rattle.pkcs1_params.specs.Parameters as parameters
 use Rattle.pkcs8_core.specs.Container.{Info}
 use Rattle.statement.specs.Library as library
-use Rattle.statement.specs.Statement.{PublicKey, PrivateKey, OtherPrime, TagAndContents, Algorithm, Container}
-use Rattle.statement.specs.Statement.{PssParameters, OaepParameters}
+use Rattle.standard.specs.Statement.{PublicKey, PrivateKey, OtherPrime, TagAndContents, Algorithm, Container}
+use Rattle.standard.specs.Statement.{PssParameters, OaepParameters}
 use Rattle.statement.proofs.Octets.{octets_number}
 
 -- Algorithms.

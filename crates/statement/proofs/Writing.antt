@@ -30,8 +30,8 @@ use Rattle.pkcs1.specs.declared.private_key.other_prime_info.OtherPrimeInfo.{Oth
 use Rattle.pkcs8_core.specs.Container.{PrivateKeyInfo}
 use Rattle.pkcs8_core.specs.ContainerValue.{info_of}
 use Rattle.pkcs8_core.specs.declared.info.PrivateKeyInfoRef.{PrivateKeyInfoRef}
-use Rattle.statement.specs.Statement.{limit, IsShortest, Encodes, PublicKeyEncoding, PrivateKeyEncoding}
-use Rattle.statement.specs.Statement.{ContainerEncoding}
+use Rattle.standard.specs.Statement.{limit, IsShortest, Encodes, PublicKeyEncoding, PrivateKeyEncoding}
+use Rattle.standard.specs.Statement.{ContainerEncoding}
 use Rattle.statement.specs.Held.{rsa_public_key, rsa_private_key}
 use Rattle.statement.specs.Held.{private_key_info_ref}
 use Rattle.statement.proofs.Shortest.{shortest}
@@ -100,13 +100,13 @@ module _ {W V : Type 0} (Grammar : W → List ℕ → Type 0) (Encoding : V → 
   made_of error.Version h memory = absurd h
 
   pub encoded : (old new encoding : List ℕ) (n : ℕ) → (n ≡ length encoding) × (new ≡ encoding ++ drop n old)
-      → documents.IsShortest Grammar w encoding → Encodes Encoding v old new (Some n)
-  encoded old new encoding n (count, is) p =
+      → length new ≡ length old → documents.IsShortest Grammar w encoding → Encodes Encoding v old new (Some n)
+  encoded old new encoding n (count, is) kept p =
       let front : take n new ≡ encoding =
       ap (take n) is ∙ ap (λ m. take m (encoding ++ drop n old)) count ∙ take-append_seam encoding (drop n old) in
       let rest : drop n new ≡ drop n old =
       ap (drop n) is ∙ ap (λ m. drop m (encoding ++ drop n old)) count ∙ drop-append_seam encoding (drop n old) in (
-        omega (arith, count, ap length is, length-append encoding (drop n old)),
+        omega (arith, count, kept, ap length is, length-append encoding (drop n old)),
         subst (IsShortest Encoding v) (sym front) (shortest Grammar Encoding w v same encoding p),
         rest,
       )

@@ -21,8 +21,8 @@ use Rattle.pkcs1.specs.declared.private_key.other_prime_info.OtherPrimeInfo.{Oth
 use Rattle.pkcs1.specs.declared.view.RsaPrivateKeyView.{RsaPrivateKeyView}
 use Rattle.pkcs8_core.specs.declared.info.PrivateKeyInfoRef.{PrivateKeyInfoRef}
 use Rattle.statement.specs.Hidden.{viewed_key, octet_string_ref}
-use Rattle.statement.specs.Statement.{PublicKey, PrivateKey, OtherPrime, TagAndContents, Algorithm, Container}
-use Rattle.statement.specs.Statement.{PssParameters, OaepParameters}
+use Rattle.standard.specs.Statement.{PublicKey, PrivateKey, OtherPrime, TagAndContents, Algorithm, Container}
+use Rattle.standard.specs.Statement.{PssParameters, OaepParameters}
 pub use Rattle.statement.specs.Hidden.{uint_ref, uint, other_primes, any_ref, any, object_identifier, identifier_view}
 pub use Rattle.statement.specs.Hidden.{document_of}
 

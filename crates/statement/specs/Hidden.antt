@@ -14,7 +14,7 @@ use Rattle.spki_core.specs.declared.object_identifier.ObjectIdentifier.{ObjectId
 use Rattle.pkcs1.specs.declared.private_key.PrivateKeyOf.{PrivateKeyOf}
 use Rattle.pkcs1.specs.declared.view.RsaPrivateKeyView.{RsaPrivateKeyView}
 use Rattle.pkcs1.specs.declared.other_primes.OtherPrimes.{OtherPrimes}
-use Rattle.statement.specs.Statement.{OtherPrime, TagAndContents}
+use Rattle.standard.specs.Statement.{OtherPrime, TagAndContents}
 
 -- `bytes_of_number`, `bytes_of_owned_number`
 abbrev pub uint_ref : UintRef → ℕ

@@ -1,4 +1,3 @@
-pub mod Statement
 pub mod Hidden
 pub mod Held
 pub mod Made

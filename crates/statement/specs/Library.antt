@@ -7,8 +7,8 @@ use Rattle.spki_core.specs.AlgorithmIdentifier as algorithms
 use Rattle.pkcs1.specs.Keys as keys
 use Rattle.pkcs1_params.specs.Parameters as parameters
 use Rattle.pkcs8_core.specs.Container.{Info}
-use Rattle.statement.specs.Statement.{octets, PublicKey, PrivateKey, OtherPrime, TagAndContents, Algorithm, Container}
-use Rattle.statement.specs.Statement.{PssParameters, OaepParameters}
+use Rattle.standard.specs.Statement.{octets, PublicKey, PrivateKey, OtherPrime, TagAndContents, Algorithm, Container}
+use Rattle.standard.specs.Statement.{PssParameters, OaepParameters}
 
 abbrev pub public_key : PublicKey → keys.PublicKey (List ℕ)
 public_key v = record { modulus = octets v.modulus; public_exponent = octets v.public_exponent }

@@ -1,7 +1,7 @@
 -- The values that constructors make, and what is asked of parameters: hash functions, labels, identifiers.
 use Rattle.std.specs.Prelude.{ℕ, List, ◌≡◌, ◌⊎◌, length, Some, None, IsSomeAnd}
-use Rattle.statement.specs.Statement.{TagAndContents, Algorithm, null, mgf1_sha1, empty_label, AreOctets, Field, Fields}
-use Rattle.statement.specs.Statement.{OaepParameters, OaepEncoding}
+use Rattle.standard.specs.Statement.{TagAndContents, Algorithm, null, mgf1_sha1, empty_label, AreOctets, Field, Fields}
+use Rattle.standard.specs.Statement.{OaepParameters, OaepEncoding}
 
 -- The algorithm with this identifier, and NULL; MGF1 with that.
 abbrev pub with_null : List ℕ → Algorithm TagAndContents

@@ -21,9 +21,9 @@ use Rattle.spki_core.specs.Readings.{defaulted, identifier_read}
 use Rattle.pkcs8_core.specs.Tags.{attributes_tag}
 use Rattle.pkcs1_params.specs.declared.error.Error.{Error}
 use Rattle.pkcs1_params.specs.declared.error.Error.TheVariants as error
-use Rattle.statement.specs.Statement.{PublicKey, PrivateKey, OtherPrime, version, TagAndContents, Algorithm}
-use Rattle.statement.specs.Statement.{Container, rsa_encryption, sha1, mgf1_sha1, empty_label}
-use Rattle.statement.specs.Statement.{PssParameters, OaepParameters, id_rsassa_pss, id_rsaes_oaep}
+use Rattle.standard.specs.Statement.{PublicKey, PrivateKey, OtherPrime, version, TagAndContents, Algorithm}
+use Rattle.standard.specs.Statement.{Container, rsa_encryption, sha1, mgf1_sha1, empty_label}
+use Rattle.standard.specs.Statement.{PssParameters, OaepParameters, id_rsassa_pss, id_rsaes_oaep}
 
 -- INTEGER (8.3)
 abbrev pub integer : FrontReading ℕ

@@ -1,8 +1,8 @@
 //! Documents of keys.
 ghost use Rattle.std.specs.Prelude.{◌≡◌, ◌++◌, List, ℕ, IfOk, IfSome, IfNone, OnErr};
 ghost use Rattle.statement.specs.Held.{uint_ref, uint, rsa_public_key, rsa_private_key, document_of};
-ghost use Rattle.statement.specs.Statement.{IsShortest, PublicKey, PublicKeyEncoding, PrivateKey, PrivateKeyEncoding};
-ghost use Rattle.statement.specs.Statement.{sequence, integer};
+ghost use Rattle.standard.specs.Statement.{IsShortest, PublicKey, PublicKeyEncoding, PrivateKey, PrivateKeyEncoding};
+ghost use Rattle.standard.specs.Statement.{sequence, integer};
 
 use crate::memory::{OrOutOfMemory, none_but_for_memory};
 use crate::stated::HoldsNumber;

@@ -5,9 +5,9 @@ ghost use Rattle.statement.specs.Held.{any_ref, rsa_pss_params, rsa_oaep_params,
 ghost use Rattle.statement.specs.Held.{rsa_pss_params_view, rsa_oaep_params_view, algorithm_identifier};
 ghost use Rattle.statement.specs.Held.{algorithm_identifier_of, identifier_view};
 ghost use Rattle.statement.specs.Made.{Identifies};
-ghost use Rattle.statement.specs.Statement.{Decodes, Encodes, IsShortest, SameByShortest, TwoToTheDefaultsIn};
-ghost use Rattle.statement.specs.Statement.{id_rsassa_pss, PssAlgorithmEncoding, IsPss, pss_fields};
-ghost use Rattle.statement.specs.Statement.{id_rsaes_oaep, OaepAlgorithmEncoding, IsOaep, oaep_fields};
+ghost use Rattle.standard.specs.Statement.{Decodes, Encodes, IsShortest, SameByShortest, TwoToTheDefaultsIn};
+ghost use Rattle.standard.specs.Statement.{id_rsassa_pss, PssAlgorithmEncoding, IsPss, pss_fields};
+ghost use Rattle.standard.specs.Statement.{id_rsaes_oaep, OaepAlgorithmEncoding, IsOaep, oaep_fields};
 
 use crate::stated::{HoldsIdentifier, HoldsTagged};
 use pkcs1::der::Borrowed;

@@ -1,14 +1,15 @@
-//! What is proved: each function is the library's own call, under a contract of `specs/Statement.antt`.
+//! What is proved: each function is the library's own call, under a contract in the words of `Statement.antt`, the
+//! definitions of the crate `standard`.
 #![tactic(auto)]
 
 ghost use Rattle.std.specs.Option.{option_map};
 ghost use Rattle.statement.specs.Held.{uint_ref, any_ref, rsa_public_key, rsa_private_key, rsa_private_key_view};
 ghost use Rattle.statement.specs.Held.{rsa_pss_params, rsa_oaep_params, private_key_info_ref};
 ghost use Rattle.statement.specs.Held.{pss_params_of, oaep_params_of};
-ghost use Rattle.statement.specs.Statement.{Decodes, Encodes, IsShortest, AtMostOne, SameByShortest, TwoToTheDefaults};
-ghost use Rattle.statement.specs.Statement.{PublicKeyEncoding, PrivateKeyEncoding, PssEncoding, OaepEncoding};
-ghost use Rattle.statement.specs.Statement.{IsPss, pss_fields, IsOaep, oaep_fields};
-ghost use Rattle.statement.specs.Statement.{ContainerEncoding, ContainedKeyEncoding};
+ghost use Rattle.standard.specs.Statement.{Decodes, Encodes, IsShortest, AtMostOne, SameByShortest, TwoToTheDefaults};
+ghost use Rattle.standard.specs.Statement.{PublicKeyEncoding, PrivateKeyEncoding, PssEncoding, OaepEncoding};
+ghost use Rattle.standard.specs.Statement.{IsPss, pss_fields, IsOaep, oaep_fields};
+ghost use Rattle.standard.specs.Statement.{ContainerEncoding, ContainedKeyEncoding};
 
 pub mod documents;
 pub mod errors;

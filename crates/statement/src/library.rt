@@ -7,10 +7,10 @@ ghost use Rattle.pkcs1_params.specs.Parameters as parameters;
 ghost use Rattle.pkcs8_core.specs.Container as containers;
 ghost use Rattle.pkcs8_core.specs.Rsa as contained;
 ghost use Rattle.statement.specs.Library as library;
-ghost use Rattle.statement.specs.Statement.{PublicKey, PublicKeyEncoding, PrivateKey, PrivateKeyEncoding};
-ghost use Rattle.statement.specs.Statement.{PssParameters, PssEncoding, PssAlgorithmEncoding};
-ghost use Rattle.statement.specs.Statement.{OaepParameters, OaepEncoding, OaepAlgorithmEncoding};
-ghost use Rattle.statement.specs.Statement.{Container, ContainerEncoding, ContainedKeyEncoding};
+ghost use Rattle.standard.specs.Statement.{PublicKey, PublicKeyEncoding, PrivateKey, PrivateKeyEncoding};
+ghost use Rattle.standard.specs.Statement.{PssParameters, PssEncoding, PssAlgorithmEncoding};
+ghost use Rattle.standard.specs.Statement.{OaepParameters, OaepEncoding, OaepAlgorithmEncoding};
+ghost use Rattle.standard.specs.Statement.{Container, ContainerEncoding, ContainedKeyEncoding};
 
 /// A value has an encoding exactly if the library's value for it has that encoding by the library's grammar; and what
 /// has an encoding by a grammar is the library's value for some value. So each clause that cites `Means` and a grammar

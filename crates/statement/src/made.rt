@@ -2,7 +2,7 @@
 ghost use Rattle.std.specs.Prelude.{◌≡◌, ℕ, List, [], length, IsTrue};
 ghost use Rattle.statement.specs.Held.{any_ref, any, rsa_pss_params, rsa_oaep_params};
 ghost use Rattle.statement.specs.Made.{with_null, mgf1_with, labelled, LabelFits};
-ghost use Rattle.statement.specs.Statement.{sha1, mgf1_sha1, empty_label, OaepEncoding};
+ghost use Rattle.standard.specs.Statement.{sha1, mgf1_sha1, empty_label, OaepEncoding};
 
 use pkcs1::spki::AssociatedOid;
 use pkcs1::{

@@ -10,10 +10,10 @@ ghost use Rattle.pkcs1_params.specs.declared.error.Error.{Error};
 ghost use Rattle.statement.specs.Held.{uint, uint_ref, any, any_ref, vec, pss_params_of, oaep_params_of};
 ghost use Rattle.statement.specs.Held.{rsa_public_key, rsa_private_key, rsa_pss_params, rsa_oaep_params};
 ghost use Rattle.statement.specs.Held.{private_key_info_ref};
-ghost use Rattle.statement.specs.Statement.{Decodes, Lists, PublicKeyEncoding, PrivateKey, PrivateKeyEncoding};
-ghost use Rattle.statement.specs.Statement.{OaepParameters, OaepEncoding, IsBare, IfPresent, rsa_encryption, integer};
-ghost use Rattle.statement.specs.Statement.{sequence, longest, limit};
-ghost use Rattle.statement.specs.Statement.{IsPss, pss_fields, PssParameters, PssEncoding, IsOaep, oaep_fields};
+ghost use Rattle.standard.specs.Statement.{Decodes, Lists, PublicKeyEncoding, PrivateKey, PrivateKeyEncoding};
+ghost use Rattle.standard.specs.Statement.{OaepParameters, OaepEncoding, IsBare, IfPresent, rsa_encryption, integer};
+ghost use Rattle.standard.specs.Statement.{sequence, longest, limit};
+ghost use Rattle.standard.specs.Statement.{IsPss, pss_fields, PssParameters, PssEncoding, IsOaep, oaep_fields};
 
 use crate::stated::{HoldsIdentifier, HoldsTagged};
 use pkcs1::der::{Decode, ErrorKind};

@@ -5,9 +5,9 @@ ghost use Rattle.statement.specs.Held.{any_ref, rsa_private_key_view, pss_params
 ghost use Rattle.statement.specs.Held.{algorithm_identifier, private_key_info_ref, rsa_oaep_params};
 ghost use Rattle.statement.specs.Held.{rsa_oaep_params_view};
 ghost use Rattle.statement.specs.Made.{IsHash, UsesHash, source_of};
-ghost use Rattle.statement.specs.Statement.{Decodes, Encodes, IsShortest, PrivateKeyEncoding, Defaults, SequenceOf};
-ghost use Rattle.statement.specs.Statement.{FieldsUnder};
-ghost use Rattle.statement.specs.Statement.{IsPss, pss_fields, IsOaep, oaep_fields, rsa_encryption};
+ghost use Rattle.standard.specs.Statement.{Decodes, Encodes, IsShortest, PrivateKeyEncoding, Defaults, SequenceOf};
+ghost use Rattle.standard.specs.Statement.{FieldsUnder};
+ghost use Rattle.standard.specs.Statement.{IsPss, pss_fields, IsOaep, oaep_fields, rsa_encryption};
 
 use crate::stated::{HoldsIdentifier, HoldsTagged};
 use pkcs1::spki::{AlgorithmIdentifierRef, AssociatedOid};

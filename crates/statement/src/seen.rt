@@ -5,7 +5,7 @@ ghost use Rattle.std.specs.Option.{option_map};
 ghost use Rattle.statement.specs.Held.{uint_ref, uint, other_prime_info, other_primes, private_key_of};
 ghost use Rattle.statement.specs.Held.{rsa_private_key_view, rsa_public_key, any_ref, any, object_identifier};
 ghost use Rattle.statement.specs.Held.{private_key_info_ref};
-ghost use Rattle.statement.specs.Statement.{Container, ContainerEncoding, octets, limit};
+ghost use Rattle.standard.specs.Statement.{Container, ContainerEncoding, octets, limit};
 
 use crate::stated::HoldsNumber;
 use pkcs1::spki::{Any, AnyRef, AnyValue, ObjectIdentifier};

@@ -10,7 +10,7 @@ ghost use Rattle.der_core.specs.declared.error.ErrorKind.TheVariants.{File, OutO
 ghost use Rattle.der_core.specs.Transfer.{piece};
 ghost use Rattle.der_core.specs.SourcesSinks.{OneFailed};
 ghost use Rattle.statement.specs.Held.{document_of};
-ghost use Rattle.statement.specs.Statement.{AreOctets, limit, sequence};
+ghost use Rattle.standard.specs.Statement.{AreOctets, limit, sequence};
 
 use crate::stated::Stated;
 use pkcs1::der::{Decode, DocumentOf, Memory, Reader, Result, Sink, Source};

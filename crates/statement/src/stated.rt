@@ -14,9 +14,9 @@ ghost use Rattle.statement.specs.Library as library;
 ghost use Rattle.statement.specs.Held.{uint_ref, uint, any_ref, any, object_identifier, identifier_view};
 ghost use Rattle.statement.specs.Held.{rsa_public_key, rsa_private_key, pss_params_of, oaep_params_of};
 ghost use Rattle.statement.specs.Held.{private_key_info_ref};
-ghost use Rattle.statement.specs.Statement.{Encodes, IsShortest, PublicKey, PublicKeyEncoding, PrivateKey, limit};
-ghost use Rattle.statement.specs.Statement.{PrivateKeyEncoding, PssParameters, PssEncoding, OaepParameters};
-ghost use Rattle.statement.specs.Statement.{OaepEncoding, Container, ContainerEncoding, TagAndContents};
+ghost use Rattle.standard.specs.Statement.{Encodes, IsShortest, PublicKey, PublicKeyEncoding, PrivateKey, limit};
+ghost use Rattle.standard.specs.Statement.{PrivateKeyEncoding, PssParameters, PssEncoding, OaepParameters};
+ghost use Rattle.standard.specs.Statement.{OaepEncoding, Container, ContainerEncoding, TagAndContents};
 
 use pkcs1::der::{Encode, EqualByValue, TryClone, Uint, UintEncoding, UintRef, Writer};
 use pkcs1::spki::{Any, AnyRef, AnyValue, IdentifierValue, IdentifierView, ObjectIdentifier};

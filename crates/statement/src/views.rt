@@ -3,7 +3,7 @@ ghost use Rattle.std.specs.Prelude.{◌≡◌};
 ghost use Rattle.std.specs.Option.{option_map};
 ghost use Rattle.statement.specs.Held.{any_ref, identifier_view, rsa_pss_params, rsa_pss_params_view, rsa_oaep_params};
 ghost use Rattle.statement.specs.Held.{rsa_oaep_params_view};
-ghost use Rattle.statement.specs.Statement.{Decodes, IsShortest, PssEncoding, OaepEncoding};
+ghost use Rattle.standard.specs.Statement.{Decodes, IsShortest, PssEncoding, OaepEncoding};
 
 use pkcs1::spki::IdentifierView;
 use pkcs1::{RsaOaepParamsRef, RsaOaepParamsView, RsaPssParamsRef, RsaPssParamsView};

@@ -1,6 +1,6 @@
 use Rattle.std.proofs.Common.{sym, ap, ◌∙◌}
 use Rattle.pkcs8_core.specs.ContainerValue.{info_of}
-use Rattle.statement.specs.Statement.{ContainerEncoding}
+use Rattle.standard.specs.Statement.{ContainerEncoding}
 use Rattle.statement.proofs.Der.{moved}
 use Rattle.statement.proofs.Held.{container_holds}
 use Rattle.statement.proofs.Containers.{from, to, back, sentence, means}

@@ -1,6 +1,6 @@
 use Rattle.std.proofs.Common.{sym, ap, ◌∙◌}
 use Rattle.pkcs1.specs.ViewParts.{view_of}
-use Rattle.statement.specs.Statement.{PrivateKeyEncoding}
+use Rattle.standard.specs.Statement.{PrivateKeyEncoding}
 use Rattle.statement.proofs.Der.{moved}
 use Rattle.statement.proofs.Held.{view_holds}
 use Rattle.statement.proofs.PrivateKeys.{numbers, key_of, back, sentence, means}

@@ -1,6 +1,6 @@
 use Rattle.std.proofs.Common.{sym}
 use Rattle.spki_core.specs.AnyRefValue.{any_of}
-use Rattle.statement.specs.Statement.{PssEncoding, IsShortest}
+use Rattle.standard.specs.Statement.{PssEncoding, IsShortest}
 use Rattle.statement.proofs.Der.{moved}
 use Rattle.statement.proofs.Held.{pss_holds}
 use Rattle.statement.proofs.Fields.{read_strictly, is_shortest}

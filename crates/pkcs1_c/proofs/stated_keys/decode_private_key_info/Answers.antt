@@ -1,6 +1,6 @@
 use Rattle.pkcs8_core.specs.Container.{PrivateKeyInfo}
 use Rattle.statement.specs.Library as library
-use Rattle.statement.specs.Statement.{ContainerEncoding}
+use Rattle.standard.specs.Statement.{ContainerEncoding}
 use Rattle.pkcs1_c.proofs.StatedCalls.{read}
 use Rattle.pkcs1_c.proofs.StatedContainers.{container}
 use Rattle.pkcs1_c.proofs.StatedKeys.{read_private}

@@ -1,5 +1,5 @@
 use Rattle.statement.specs.Library as library
-use Rattle.statement.specs.Statement.{PrivateKeyEncoding}
+use Rattle.standard.specs.Statement.{PrivateKeyEncoding}
 use Rattle.pkcs1_c.specs.Structs.{private_key, HasPrivateNumbers}
 use Rattle.pkcs1_c.proofs.StatedCalls.{tells_held}
 use Rattle.pkcs1_c.proofs.StatedKeys.{private_given, private_shortest}

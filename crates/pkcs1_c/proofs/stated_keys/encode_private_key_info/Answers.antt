@@ -1,5 +1,5 @@
 use Rattle.pkcs8_core.specs.Container.{PrivateKeyInfo}
-use Rattle.statement.specs.Statement.{ContainerEncoding}
+use Rattle.standard.specs.Statement.{ContainerEncoding}
 use Rattle.pkcs1_c.specs.Structs.{private_key_info, HasKey}
 use Rattle.pkcs1_c.proofs.StatedCalls.{tells_held, is_shortest}
 use Rattle.pkcs1_c.proofs.StatedContainers.{container, key_stated, key_seen}

@@ -1,5 +1,5 @@
 use Rattle.statement.specs.Library as library
-use Rattle.statement.specs.Statement.{PublicKeyEncoding}
+use Rattle.standard.specs.Statement.{PublicKeyEncoding}
 use Rattle.pkcs1_c.specs.Structs.{public_key, HasNumbers}
 use Rattle.pkcs1_c.proofs.StatedCalls.{tells_held}
 use Rattle.pkcs1_c.proofs.StatedKeys.{public_given, public_shortest}

@@ -1,5 +1,5 @@
 use Rattle.pkcs1_params.specs.Algorithms.{RsaOaepAlgorithm}
-use Rattle.statement.specs.Statement.{OaepAlgorithmEncoding}
+use Rattle.standard.specs.Statement.{OaepAlgorithmEncoding}
 use Rattle.pkcs1_c.proofs.StatedCalls.{read, not_read}
 use Rattle.pkcs1_c.proofs.StatedParameters.{oaep}
 use Rattle.pkcs1_c.proofs.stated_oaep.decode_oaep_algorithm.Goals as goal

@@ -1,5 +1,5 @@
 use Rattle.pkcs1_params.specs.Algorithms.{RsaOaepAlgorithm}
-use Rattle.statement.specs.Statement.{OaepAlgorithmEncoding}
+use Rattle.standard.specs.Statement.{OaepAlgorithmEncoding}
 use Rattle.pkcs1_c.proofs.StatedCalls.{read_strictly, not_read_strictly}
 use Rattle.pkcs1_c.proofs.StatedParameters.{oaep}
 use Rattle.pkcs1_c.proofs.stated_oaep.decode_oaep_algorithm_strictly.Goals as goal

@@ -1,5 +1,5 @@
 use Rattle.pkcs1_params.specs.Parameters.{RsaOaepParams}
-use Rattle.statement.specs.Statement.{OaepEncoding}
+use Rattle.standard.specs.Statement.{OaepEncoding}
 use Rattle.pkcs1_c.proofs.StatedCalls.{read, not_read}
 use Rattle.pkcs1_c.proofs.StatedParameters.{oaep}
 use Rattle.pkcs1_c.proofs.stated_oaep.decode_oaep_params.Goals as goal

@@ -1,5 +1,5 @@
 use Rattle.pkcs1_params.specs.Algorithms.{RsaPssAlgorithm}
-use Rattle.statement.specs.Statement.{PssAlgorithmEncoding}
+use Rattle.standard.specs.Statement.{PssAlgorithmEncoding}
 use Rattle.pkcs1_c.proofs.StatedCalls.{read, not_read}
 use Rattle.pkcs1_c.proofs.StatedParameters.{pss}
 use Rattle.pkcs1_c.proofs.stated_pss.decode_pss_algorithm.Goals as goal

@@ -1,5 +1,5 @@
 use Rattle.pkcs1_params.specs.Parameters.{RsaPssParams}
-use Rattle.statement.specs.Statement.{PssEncoding}
+use Rattle.standard.specs.Statement.{PssEncoding}
 use Rattle.pkcs1_c.proofs.StatedCalls.{read_strictly, not_read_strictly}
 use Rattle.pkcs1_c.proofs.StatedParameters.{pss}
 use Rattle.pkcs1_c.proofs.stated_pss.decode_pss_params_strictly.Goals as goal

@@ -1,5 +1,5 @@
 use Rattle.pkcs1_params.specs.Parameters.{RsaPssParams}
-use Rattle.statement.specs.Statement.{PssEncoding}
+use Rattle.standard.specs.Statement.{PssEncoding}
 use Rattle.pkcs1_c.proofs.StatedCalls.{wrote}
 use Rattle.pkcs1_c.proofs.StatedParameters.{pss}
 use Rattle.pkcs1_c.proofs.stated_pss.encode_pss_params.Goals as goal

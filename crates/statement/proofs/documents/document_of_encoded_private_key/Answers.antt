@@ -1,7 +1,7 @@
 use Rattle.std.proofs.Common.{inl, inr}
 use Rattle.std.specs.Prelude.{IfNone}
 use Rattle.der_core.specs.Reading.{TellsOfBytes}
-use Rattle.statement.specs.Statement.{PrivateKey, PrivateKeyEncoding}
+use Rattle.standard.specs.Statement.{PrivateKey, PrivateKeyEncoding}
 use Rattle.statement.proofs.Beginnings.{version_first, encoded_private}
 use Rattle.statement.proofs.OutOfMemory.{rejected, no_value, refused, asked}
 use Rattle.statement.proofs.Writing.{none_made}

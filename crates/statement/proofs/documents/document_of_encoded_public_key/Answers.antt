@@ -1,7 +1,7 @@
 use Rattle.std.proofs.Common.{inl, inr}
 use Rattle.std.specs.Prelude.{IfNone}
 use Rattle.der_core.specs.Reading.{TellsOfBytes}
-use Rattle.statement.specs.Statement.{PublicKey, PublicKeyEncoding}
+use Rattle.standard.specs.Statement.{PublicKey, PublicKeyEncoding}
 use Rattle.statement.proofs.Beginnings.{number_first, encoded_public}
 use Rattle.statement.proofs.OutOfMemory.{rejected, no_value, refused, asked}
 use Rattle.statement.proofs.Writing.{none_made}

@@ -1,7 +1,7 @@
 use Rattle.der_core.specs.UintValue.{own_bytes_of}
 use Rattle.pkcs1.specs.Keys.{RsaPrivateKey}
 use Rattle.pkcs1.specs.PrivateKeyValue.{private_key_with}
-use Rattle.statement.specs.Statement.{PrivateKeyEncoding}
+use Rattle.standard.specs.Statement.{PrivateKeyEncoding}
 use Rattle.statement.specs.Held.{uint, rsa_private_key}
 use Rattle.statement.proofs.OutOfMemory.{refused}
 use Rattle.statement.proofs.Shortest.{shortest}

@@ -1,6 +1,6 @@
 use Rattle.pkcs1.specs.Keys.{RsaPublicKey}
 use Rattle.pkcs1.specs.PublicKeyValue.{public_key_with}
-use Rattle.statement.specs.Statement.{PublicKeyEncoding}
+use Rattle.standard.specs.Statement.{PublicKeyEncoding}
 use Rattle.statement.specs.Held.{rsa_public_key}
 use Rattle.statement.proofs.OutOfMemory.{refused}
 use Rattle.statement.proofs.Shortest.{shortest}

@@ -1,4 +1,4 @@
-use Rattle.statement.specs.Statement.{id_rsaes_oaep}
+use Rattle.standard.specs.Statement.{id_rsaes_oaep}
 use Rattle.statement.proofs.Held.{oaep_held}
 use Rattle.statement.proofs.Identified.{identified_holds, encodable, oaep_identifier}
 use Rattle.statement.proofs.Oaep.{from, sides}

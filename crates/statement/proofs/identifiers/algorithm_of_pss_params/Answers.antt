@@ -1,4 +1,4 @@
-use Rattle.statement.specs.Statement.{id_rsassa_pss}
+use Rattle.standard.specs.Statement.{id_rsassa_pss}
 use Rattle.statement.proofs.Held.{pss_held}
 use Rattle.statement.proofs.Identified.{identified_holds, encodable, pss_identifier}
 use Rattle.statement.proofs.Pss.{from, sides}

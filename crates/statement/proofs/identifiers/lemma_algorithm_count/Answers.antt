@@ -1,4 +1,4 @@
-use Rattle.statement.specs.Statement.{id_rsassa_pss, id_rsaes_oaep}
+use Rattle.standard.specs.Statement.{id_rsassa_pss, id_rsaes_oaep}
 use Rattle.statement.proofs.Fields.{two_to_the_defaults}
 use Rattle.statement.proofs.Identified.{counted_in, pss_identifier, oaep_identifier}
 use Rattle.statement.proofs.Pss as pss

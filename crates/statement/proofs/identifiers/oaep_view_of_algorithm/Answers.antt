@@ -1,4 +1,4 @@
-use Rattle.statement.specs.Statement.{id_rsaes_oaep}
+use Rattle.standard.specs.Statement.{id_rsaes_oaep}
 use Rattle.statement.proofs.Held.{oaep_seen}
 use Rattle.statement.proofs.Identified.{finds, finds_none}
 use Rattle.statement.proofs.Oaep.{sides}

@@ -1,4 +1,4 @@
-use Rattle.statement.specs.Statement.{id_rsassa_pss}
+use Rattle.standard.specs.Statement.{id_rsassa_pss}
 use Rattle.statement.proofs.Held.{pss_seen}
 use Rattle.statement.proofs.Identified.{finds, finds_none}
 use Rattle.statement.proofs.Pss.{sides}

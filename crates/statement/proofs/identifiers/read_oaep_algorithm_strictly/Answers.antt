@@ -1,6 +1,6 @@
 use Rattle.std.proofs.Common.{sym}
 use Rattle.spki_core.specs.AnyRefValue.{any_of}
-use Rattle.statement.specs.Statement.{id_rsaes_oaep, OaepAlgorithmEncoding, IsShortest}
+use Rattle.standard.specs.Statement.{id_rsaes_oaep, OaepAlgorithmEncoding, IsShortest}
 use Rattle.statement.proofs.Der.{moved}
 use Rattle.statement.proofs.Held.{oaep_holds}
 use Rattle.statement.proofs.Identified.{read_strictly, is_shortest, oaep_identifier}

@@ -1,5 +1,5 @@
 use Rattle.spki_core.specs.AnyRefValue.{any_of}
-use Rattle.statement.specs.Statement.{id_rsassa_pss}
+use Rattle.standard.specs.Statement.{id_rsassa_pss}
 use Rattle.statement.proofs.Held.{pss_holds}
 use Rattle.statement.proofs.Identified.{read, means, pss_identifier}
 use Rattle.statement.proofs.Pss.{to, sides}

@@ -1,5 +1,6 @@
+use Rattle.std.proofs.Common.{arith}
 use Rattle.pkcs1_params.specs.Algorithms.{RsaPssAlgorithm}
-use Rattle.statement.specs.Statement.{id_rsassa_pss, PssAlgorithmEncoding, IsShortest}
+use Rattle.standard.specs.Statement.{id_rsassa_pss, PssAlgorithmEncoding, IsShortest}
 use Rattle.statement.proofs.Der.{none_written, moved}
 use Rattle.statement.proofs.Held.{pss_held}
 use Rattle.statement.proofs.Identified.{shortest, meant, pss_identifier}
@@ -9,7 +10,7 @@ use Rattle.statement.proofs.identifiers.write_pss_algorithm.Goals as goal
 pub returns-in-Ok : goal.returns-in-Ok
 returns-in-Ok g c =
     let held = pss_held g.met.O.HoldsIdentifier.is_oid g.met.P.HoldsTagged.is_tagged c.args.params.now in (
-      c.in-Ok.ensures.rest.0,
+      omega (arith, c.in-Ok.ensures.rest.0, c.encode_algorithm.auto.out),
       moved (IsShortest PssAlgorithmEncoding) held (shortest id_rsassa_pss pss_identifier sides _ _ c.in-Ok.ensures.shortest.0),
       c.in-Ok.ensures.rest.1,
     )

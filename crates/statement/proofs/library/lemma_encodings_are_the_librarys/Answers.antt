@@ -1,6 +1,6 @@
-use Rattle.statement.specs.Statement.{PublicKeyEncoding, PrivateKeyEncoding, PssEncoding, OaepEncoding}
-use Rattle.statement.specs.Statement.{ContainerEncoding, ContainedKeyEncoding, PssAlgorithmEncoding}
-use Rattle.statement.specs.Statement.{OaepAlgorithmEncoding, id_rsassa_pss, id_rsaes_oaep}
+use Rattle.standard.specs.Statement.{PublicKeyEncoding, PrivateKeyEncoding, PssEncoding, OaepEncoding}
+use Rattle.standard.specs.Statement.{ContainerEncoding, ContainedKeyEncoding, PssAlgorithmEncoding}
+use Rattle.standard.specs.Statement.{OaepAlgorithmEncoding, id_rsassa_pss, id_rsaes_oaep}
 use Rattle.statement.proofs.Der.{moved}
 use Rattle.statement.proofs.PublicKeys as public
 use Rattle.statement.proofs.PrivateKeys as private

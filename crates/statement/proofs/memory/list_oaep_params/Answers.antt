@@ -3,7 +3,7 @@ use Rattle.std.specs.Option.{option_map}
 use Rattle.std.specs.Global.{Vec}
 use Rattle.der_core.specs.declared.error.ErrorKind.TheVariants.{Overflow}
 use Rattle.pkcs1_params.specs.Spellings.{encodings_in}
-use Rattle.statement.specs.Statement.{Lists, IsOaep, oaep_fields}
+use Rattle.standard.specs.Statement.{Lists, IsOaep, oaep_fields}
 use Rattle.statement.specs.Held.{oaep_params_of, vec}
 use Rattle.statement.proofs.Held.{oaep_held}
 use Rattle.statement.proofs.OutOfMemory.{rejected, no_value, refused, asked, overflow_is_told}

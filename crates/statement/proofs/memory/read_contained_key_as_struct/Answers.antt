@@ -10,7 +10,7 @@ use Rattle.pkcs1_params.specs.Errors.{IsAsn1}
 use Rattle.pkcs1_params.specs.Meanings.{IsTheOnly}
 use Rattle.pkcs8_core.specs.ContainerValue.{info_of}
 use Rattle.pkcs8_core.specs.Rsa.{HoldsRsa}
-use Rattle.statement.specs.Statement.{PrivateKey, PrivateKeyEncoding, rsa_encryption}
+use Rattle.standard.specs.Statement.{PrivateKey, PrivateKeyEncoding, rsa_encryption}
 use Rattle.statement.specs.Held.{rsa_private_key, uint_ref, private_key_info_ref}
 use Rattle.statement.proofs.Algorithms.{plain_from, plain_to, plain_forth}
 use Rattle.statement.proofs.Der.{moved}

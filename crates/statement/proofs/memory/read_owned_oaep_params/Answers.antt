@@ -6,7 +6,7 @@ use Rattle.spki_core.specs.declared.owned_any.Any.{Any}
 use Rattle.spki_core.specs.declared.object_identifier.ObjectIdentifier.{ObjectIdentifier}
 use Rattle.pkcs1_params.specs.declared.oaep.OaepParamsOf.{OaepParamsOf}
 use Rattle.pkcs1_params.specs.declared.error.Error.TheVariants as error
-use Rattle.statement.specs.Statement.{Decodes, OaepEncoding}
+use Rattle.standard.specs.Statement.{Decodes, OaepEncoding}
 use Rattle.statement.specs.Held.{rsa_oaep_params, any}
 use Rattle.statement.proofs.Held.{oaep_holds}
 use Rattle.statement.proofs.Bare.{oaep_asked}

@@ -8,7 +8,7 @@ use Rattle.der_core.specs.UintValue.{own_bytes_of}
 use Rattle.pkcs1.specs.PrivateKeyValue.{private_key_with}
 use Rattle.pkcs1.specs.declared.private_key.PrivateKeyOf.{PrivateKeyOf}
 use Rattle.pkcs1.specs.declared.private_key.other_prime_info.OtherPrimeInfo.{OtherPrimeInfo}
-use Rattle.statement.specs.Statement.{Decodes, PrivateKeyEncoding}
+use Rattle.standard.specs.Statement.{Decodes, PrivateKeyEncoding}
 use Rattle.statement.specs.Held.{rsa_private_key, uint}
 use Rattle.statement.proofs.Der.{moved}
 use Rattle.statement.proofs.Held.{private_holds}

@@ -6,7 +6,7 @@ use Rattle.spki_core.specs.declared.owned_any.Any.{Any}
 use Rattle.spki_core.specs.declared.object_identifier.ObjectIdentifier.{ObjectIdentifier}
 use Rattle.pkcs1_params.specs.declared.pss.PssParamsOf.{PssParamsOf}
 use Rattle.pkcs1_params.specs.declared.error.Error.TheVariants as error
-use Rattle.statement.specs.Statement.{Decodes, PssEncoding}
+use Rattle.standard.specs.Statement.{Decodes, PssEncoding}
 use Rattle.statement.specs.Held.{rsa_pss_params, any}
 use Rattle.statement.proofs.Held.{pss_holds}
 use Rattle.statement.proofs.Bare.{pss_asked}

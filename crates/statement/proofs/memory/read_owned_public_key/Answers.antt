@@ -5,7 +5,7 @@ use Rattle.der_core.specs.UintValue.{own_bytes_of}
 use Rattle.der_core.specs.declared.integer.owned.Uint.{Uint}
 use Rattle.pkcs1.specs.PublicKeyValue.{public_key_with}
 use Rattle.pkcs1.specs.declared.public_key.RsaPublicKey.{RsaPublicKey}
-use Rattle.statement.specs.Statement.{Decodes, PublicKeyEncoding}
+use Rattle.standard.specs.Statement.{Decodes, PublicKeyEncoding}
 use Rattle.statement.specs.Held.{rsa_public_key, uint}
 use Rattle.statement.proofs.Beginnings.{number_first}
 use Rattle.statement.proofs.OutOfMemory.{rejected, no_value, refused, asked}

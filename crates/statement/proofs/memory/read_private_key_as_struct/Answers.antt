@@ -7,7 +7,7 @@ use Rattle.pkcs1.specs.KeyEncodings.{IsReadingError}
 use Rattle.pkcs1.specs.Keys.{RsaPrivateKey}
 use Rattle.pkcs1.specs.PrivateKeyValue.{private_key_of}
 use Rattle.pkcs1_params.specs.Meanings.{IsTheMeaning}
-use Rattle.statement.specs.Statement.{PrivateKeyEncoding}
+use Rattle.standard.specs.Statement.{PrivateKeyEncoding}
 use Rattle.statement.specs.Held.{rsa_private_key, uint_ref}
 use Rattle.statement.proofs.Der.{moved}
 use Rattle.statement.proofs.Held.{private_holds}

@@ -1,7 +1,7 @@
 use Rattle.std.proofs.Common.{subst}
 use Rattle.pkcs1_params.specs.Parameters as library
 use Rattle.pkcs1_params.specs.PssValue.{pss_in}
-use Rattle.statement.specs.Statement.{Defaults, pss_fields}
+use Rattle.standard.specs.Statement.{Defaults, pss_fields}
 use Rattle.statement.proofs.Held.{pss_held}
 use Rattle.statement.proofs.Fields.{defaults_to}
 use Rattle.statement.proofs.Pss.{from, sides}

@@ -1,7 +1,7 @@
 use Rattle.std.proofs.Common.{ap, refl}
 use Rattle.spki_core.specs.ObjectIdentifierValue.{own_octets_of}
 use Rattle.pkcs1_params.specs.OaepValue.{oaep_with}
-use Rattle.statement.specs.Statement.{OaepParameters}
+use Rattle.standard.specs.Statement.{OaepParameters}
 use Rattle.statement.proofs.Held.{oaep_held}
 use Rattle.statement.proofs.Labels.{labels}
 use Rattle.statement.proofs.named.label_of_params.Goals as goal

@@ -1,6 +1,6 @@
 use Rattle.std.proofs.Common.{ap}
 use Rattle.pkcs1_params.specs.OaepValue.{oaep_viewed}
-use Rattle.statement.specs.Statement.{OaepParameters}
+use Rattle.standard.specs.Statement.{OaepParameters}
 use Rattle.statement.proofs.Held.{oaep_seen}
 use Rattle.statement.proofs.Labels.{labels}
 use Rattle.statement.proofs.named.label_of_view.Goals as goal

@@ -2,7 +2,7 @@ use Rattle.std.proofs.Common.{sym, ap, ◌∙◌}
 use Rattle.spki_core.specs.AnyRefValue.{any_of}
 use Rattle.pkcs1.specs.ViewParts.{view_of}
 use Rattle.pkcs8_core.specs.ContainerValue.{info_of}
-use Rattle.statement.specs.Statement.{PrivateKeyEncoding}
+use Rattle.standard.specs.Statement.{PrivateKeyEncoding}
 use Rattle.statement.proofs.Der.{moved}
 use Rattle.statement.proofs.Algorithms.{plain_from, plain_to, plain_forth}
 use Rattle.statement.proofs.Held.{view_holds, plain_holds}

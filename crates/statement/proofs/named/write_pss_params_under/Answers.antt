@@ -1,3 +1,4 @@
+use Rattle.std.proofs.Common.{arith}
 use Rattle.statement.proofs.Held.{pss_held}
 use Rattle.statement.proofs.Fields.{shortest_under, none_under, mask_there}
 use Rattle.statement.proofs.Pss.{sides}
@@ -12,7 +13,7 @@ pub returns-in-Ok : goal.returns-in-Ok
 returns-in-Ok g c =
     let held = pss_held g.met.O.HoldsIdentifier.is_oid g.met.P.HoldsTagged.is_tagged c.args.params.now in
     let one = c.lemma_pss_spellings.ensures.encoding in (
-      c.in-Ok.ensures.rest.0,
+      omega (arith, c.in-Ok.ensures.rest.0, c.encode_spelling_into.auto.out),
       shortest_under sides one _ held c.args.mask _ c.in-Ok.ensures.stands.spelling,
       c.in-Ok.ensures.rest.1,
     )

@@ -1,6 +1,6 @@
 use Rattle.std.proofs.Common.{List, ℕ, [], ◌∷◌, ◌≡◌, length, refl, inl, inr, arith}
 use Rattle.std.specs.Int.Digits.{number_from_digits}
-use Rattle.statement.specs.Statement.{octets}
+use Rattle.standard.specs.Statement.{octets}
 use Rattle.statement.proofs.Octets.{octets_canonical, octets_number}
 use Rattle.statement.proofs.seen.number_of_bytes.Goals as goal
 

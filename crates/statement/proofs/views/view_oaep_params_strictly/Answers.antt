@@ -1,5 +1,5 @@
 use Rattle.std.proofs.Common.{sym}
-use Rattle.statement.specs.Statement.{OaepEncoding, IsShortest}
+use Rattle.standard.specs.Statement.{OaepEncoding, IsShortest}
 use Rattle.statement.proofs.Der.{moved}
 use Rattle.statement.proofs.Held.{oaep_seen}
 use Rattle.statement.proofs.Fields.{read_strictly, is_shortest}

@@ -1,5 +1,5 @@
 use Rattle.std.proofs.Common.{sym}
-use Rattle.statement.specs.Statement.{PssEncoding, IsShortest}
+use Rattle.standard.specs.Statement.{PssEncoding, IsShortest}
 use Rattle.statement.proofs.Der.{moved}
 use Rattle.statement.proofs.Held.{pss_seen}
 use Rattle.statement.proofs.Fields.{read_strictly, is_shortest}

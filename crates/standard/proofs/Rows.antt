@@ -1,0 +1,89 @@
+-- Worked rows: what the definitions say of single values. Each is computed, so a mistake in a definition is a row that
+-- isn't proved.
+use Rattle.std.proofs.Common.{ℕ, List, [], ◌∷◌, ◌++◌, ◌≡◌, ◌<◌, ◌+◌, ◌*◌, ◌∙◌, length, refl, subst, ap, arith}
+use Rattle.std.proofs.Common.{Some, None, inl}
+use Rattle.std.specs.Prelude.{codes, nat_lt, if◌then◌else◌, ◌-◌, ◌^◌}
+use Rattle.standard.specs.Statement.{AlgorithmEncoding, Container, ContainerEncoding, Defaults, IfPresent}
+use Rattle.standard.specs.Statement.{IsAny, IsPss, OtherPrime, PrivateKey, PrivateKeyEncoding, PssParameters}
+use Rattle.standard.specs.Statement.{algorithm, any, field, id_rsassa_pss, integer, length_octets, limit}
+use Rattle.standard.specs.Statement.{mgf1_sha1, null, pss_fields, rsa_encryption, sequence, sha1, tlv, version}
+
+digit : ℕ → ℕ
+digit c = if nat_lt c 58 then c - 48 else c - 87
+
+-- The octets with these hexadecimal digits.
+hex : List ℕ → List ℕ
+unfolding digit
+hex [] = []
+hex (a ∷ []) = []
+hex (a ∷ b ∷ digits) = (16 * digit a + digit b) ∷ hex digits
+
+limit_is : limit + 1 ≡ 256 ^ 4
+limit_is = refl
+
+-- == INTEGER, SEQUENCE, NULL ==
+without_zero : integer 127 ≡ hex (codes "02017f")
+unfolding hex digit length_octets
+without_zero = refl
+
+with_zero : integer 128 ≡ hex (codes "02020080")
+unfolding hex digit length_octets
+with_zero = refl
+
+empty_sequence : sequence [] ≡ hex (codes "3000")
+unfolding hex digit length_octets
+empty_sequence = refl
+
+null_is : any null ≡ hex (codes "0500")
+unfolding hex digit length_octets
+null_is = refl
+
+long_form_tag : IsAny (record { tag = 31; contents = [] }) → ⊥
+long_form_tag p = let never = p.0 in cc
+
+-- == Private keys ==
+versions : (version None ≡ 0) × (version (Some []) ≡ 1)
+versions = (refl, refl)
+
+no_other_prime : (key : PrivateKey) (bytes : List ℕ) → key.other_primes ≡ Some [] → PrivateKeyEncoding key bytes → ⊥
+no_other_prime key bytes none p =
+    let some : 0 < 0 = subst (IfPresent (λ (others : List OtherPrime). 0 < length others)) none p.1 in
+    omega (arith, some)
+
+-- == Containers ==
+container : Container
+container = record { algorithm = rsa_encryption; private_key = 1 ∷ []; attributes = None }
+
+container_is : (bytes : List ℕ) → ContainerEncoding container bytes
+    → bytes ≡ hex (codes "3015020100300d06092a864886f70d0101010500040101")
+unfolding container hex digit length_octets
+container_is bytes p = p.4
+
+-- == Parameters ==
+-- What stands behind the identifier is the parameters, and nothing behind them.
+parameters_behind : (oid parameters bytes : List ℕ) → AlgorithmEncoding oid (λ v b. b ≡ v) parameters bytes
+    → bytes ≡ sequence (tlv 6 oid ++ parameters)
+parameters_behind oid parameters bytes p = p.3 ∙ ap (λ b. sequence (tlv 6 oid ++ b)) p.2
+
+pss_identifier : id_rsassa_pss ≡ hex (codes "2a864886f70d01010a")
+unfolding hex digit
+pss_identifier = refl
+
+mgf1_is : algorithm (algorithm any) mgf1_sha1 ≡ hex (codes "301606092a864886f70d010108300906052b0e03021a0500")
+unfolding hex digit length_octets
+mgf1_is = refl
+
+salt_length : (field 2 integer 20 32).written ≡ hex (codes "a203020120")
+unfolding hex digit length_octets
+salt_length = refl
+
+usual : ℕ → PssParameters
+usual trailer_field = record { hash = sha1; mask_gen = mgf1_sha1; salt_len = 20; trailer_field = trailer_field }
+
+four_defaults : Defaults (pss_fields (usual 1)) 4
+unfolding usual
+four_defaults = inl (refl, 3, refl, inl (refl, 2, refl, inl (refl, 1, refl, inl (refl, 0, refl, refl))))
+
+trailer_field_two : IsPss (usual 2) → ⊥
+unfolding usual
+trailer_field_two p = omega (arith, p.3)
