@@ -61,7 +61,7 @@ pub use laws::{
     lemma_clones_hold_the_same, lemma_contents_are_read, lemma_documents_compare_by_bytes,
     lemma_encodings_are_read, lemma_headers_compare_by_value, lemma_kinds_are_told_apart,
     lemma_last_parts_are_read, lemma_lengths_compare_by_number, lemma_optional_parts_are_read,
-    lemma_tag_numbers_compare_by_number,
+    lemma_spellings_are_read, lemma_tag_numbers_compare_by_number,
 };
 pub use length::Length;
 pub use memory::{Memory, NoMemory};

@@ -202,3 +202,17 @@ pub values_alike : {S V M : Type 0} {read : Reading S} {means : S → M} {old : 
     → option_map means (value_in (read c)) ≡ option_map meaning_of (value_in (old c))
 values_alike {read = read} {means} {old} {meaning_of} law c =
     sym (value_made means (read c)) ∙ ap value_in (law.same c) ∙ value_made meaning_of (old c)
+
+-- What values mean, of values that are made of others.
+pub both_mean : {M N : Type 0} {a b : M} {c d : N} → a ≡ b → c ≡ d → ◌≡◌ {A = M × N} (a, c) (b, d)
+both_mean e f = λ i. (e i, f i)
+
+module _ {X V M : Type 0} {value : X → V} {meaning : X → M} (meaning_of : V → M)
+    (is : (x : X) → meaning_of (value x) ≡ meaning x) where
+  pub optional_means : (o : Option X) → option_map meaning_of (option_map value o) ≡ option_map meaning o
+  optional_means None = refl
+  optional_means (Some x) = ap Some (is x)
+
+  pub items_mean : (xs : List X) → map meaning_of (map value xs) ≡ map meaning xs
+  items_mean [] = refl
+  items_mean (x ∷ xs) = λ i. is x i ∷ items_mean xs i
