@@ -13,8 +13,9 @@ use Rattle.der_core.specs.Laws.Input.{ok_pair}
 use Rattle.der_core.specs.Laws.Readings.{ok_same}
 use Rattle.der_core.specs.Length.{limit}
 use Rattle.der_core.specs.Printed.{ReadsAlike, ReadsFrontAlike, number_of, value_in}
-use Rattle.der_core.specs.Readings.{FrontReading, Reading, alone, contents_behind, ended, inside, is_next, items}
-use Rattle.der_core.specs.Readings.{items_within, last, made, optional, parts, tagged, whole, ◌>>=◌}
+use Rattle.der_core.specs.Readings.{FrontReading, Reading, alone, chain, contents_behind, ended, inside}
+use Rattle.der_core.specs.Readings.{is_next, items, items_within, last, made, optional, parts, such, tagged, whole}
+use Rattle.der_core.specs.Readings.{◌>>=◌}
 
 -- What a step gives: a meaning, and the bytes behind it; a pair; a list.
 abbrev meant : {S M : Type 0} → (S → M) → S → Result M ErrorKind
@@ -87,6 +88,58 @@ module _ {A B V W M N : Type 0} {at : FrontReading A} {read : Reading B} {meansA
         (λ w. paired (ofV v) (ofW w)) (λ y w f. λ i. paired (e i) (f i))
         ∙ sym (joined (read_old rest) (paired v) (meant (both ofV ofW))))
         ∙ sym (joined (at_old c) (λ p. read_old p.1 >>= paired p.0) (meant (both ofV ofW)));
+  }
+
+-- Values that are made of others.
+module _ {S V M T W N : Type 0} {read : Reading S} {means : S → M} {old : Reading V} {meaning_of : V → M}
+    (law : ReadsAlike read means old meaning_of) (make : S → T) (make_old : V → W) (join : M → N) (meansT : T → N)
+    (ofW : W → N) where
+  pub made_alike : ((s : S) → meansT (make s) ≡ join (means s)) → ((v : V) → ofW (make_old v) ≡ join (meaning_of v))
+      → ReadsAlike (made make read) meansT (made make_old old) ofW
+  made_alike new was = record {
+    same = λ c.
+        joined (read c) (meant make) (meant meansT)
+        ∙ behind means meaning_of (read c) (old c) (law.same c) (λ s. meant meansT (make s))
+        (λ v. meant ofW (make_old v)) (λ s v e. ap (λ n. Ok n) (new s ∙ ap join e ∙ sym (was v)))
+        ∙ sym (joined (old c) (meant make_old) (meant ofW));
+  }
+
+-- Values that pass a test.
+module _ {S V M : Type 0} {read : Reading S} {means : S → M} {old : Reading V} {meaning_of : V → M}
+    (law : ReadsAlike read means old meaning_of) (test : S → Bool) (test_old : V → Bool) (failure : ErrorKind) where
+  abbrev tested : {A : Type 0} → (A → Bool) → A → Result A ErrorKind
+  tested passes a = if passes a then Ok a else Err failure
+
+  pub such_alike : ((s : S) (v : V) → means s ≡ meaning_of v → test s ≡ test_old v)
+      → ReadsAlike (such test failure read) means (such test_old failure old) meaning_of
+  such_alike agree = record {
+    same = λ c.
+        joined (read c) (tested test) (meant means)
+        ∙ behind means meaning_of (read c) (old c) (law.same c) (λ s. tested test s >>= meant means)
+        (λ v. tested test_old v >>= meant meaning_of) (λ s v e. go s v e (test s) (test_old v) (agree s v e))
+        ∙ sym (joined (old c) (tested test_old) (meant meaning_of));
+  }
+    where
+      go : (s : S) (v : V) → means s ≡ meaning_of v → (a b : Bool) → a ≡ b
+          → ((if a then Ok s else Err failure) >>= meant means)
+          ≡ ((if b then Ok v else Err failure) >>= meant meaning_of)
+      go s v e true true same = ap (λ m. Ok m) e
+      go s v e true false same = cc
+      go s v e false true same = cc
+      go s v e false false same = refl
+
+-- What follows depends on the first part.
+module _ {A B V W M N : Type 0} {at : FrontReading A} {read : A → Reading B} {meansA : A → M} {meansB : B → N}
+    {at_old : FrontReading V} {read_old : V → Reading W} {ofV : V → M} {ofW : W → N}
+    (a : ReadsFrontAlike at meansA at_old ofV)
+    (b : (x : A) (v : V) → meansA x ≡ ofV v → ReadsAlike (read x) meansB (read_old v) ofW) where
+  pub chain_alike : ReadsAlike (chain at read) meansB (chain at_old read_old) ofW
+  chain_alike = record {
+    same = λ c.
+        joined (at c) (λ p. read p.0 p.1) (meant meansB)
+        ∙ behind_front meansA ofV (at c) (at_old c) (a.same c) (λ p. read p.0 p.1 >>= meant meansB)
+        (λ p. read_old p.0 p.1 >>= meant ofW) (λ s v rest e. (b s v e).same rest)
+        ∙ sym (joined (at_old c) (λ p. read_old p.0 p.1) (meant ofW));
   }
 
 -- Contents behind a tag.

@@ -83,6 +83,27 @@ module _ {S V W : Type 0} {Is : S → Type 0} {printed : S → List ℕ} {means 
         (law.least s ok few);
   }
 
+-- Spellings that are made of others, and back.
+module _ {S T V W : Type 0} {Is : S → Type 0} {printed : S → List ℕ} {means : S → V} {written : V → S}
+    (law : WritesShortest Is printed means written) (make : S → T) (back : T → S)
+    (there : (s : S) → back (make s) ≡ s) (again : (t : T) → make (back t) ≡ t) (join : V → W) (split : W → V)
+    (parted : (v : V) → split (join v) ≡ v) (whole : (w : W) → join (split w) ≡ w) where
+  pub made_shortest : WritesShortest (λ t. Is (back t)) (λ t. printed (back t)) (λ t. join (means (back t)))
+      (λ w. make (written (split w)))
+  made_shortest = record {
+    back = λ w. ap (λ s. join (means s)) (there (written (split w))) ∙ ap join (law.back (split w)) ∙ whole w;
+    valid = λ t ok.
+        subst Is (sym (there (written (split (join (means (back t)))))))
+        (subst (λ v. Is (written v)) (sym (parted (means (back t)))) (law.valid (back t) ok));
+    least = λ t ok few.
+        let same : back (make (written (split (join (means (back t)))))) ≡ written (means (back t)) =
+        there (written (split (join (means (back t))))) ∙ ap written (parted (means (back t))) in
+        elim (law.least (back t) ok few) [
+          | inl e ↦ inl (sym (again t) ∙ ap make (e ∙ ap written (sym (parted (means (back t))))))
+          | inr l ↦ inr (omega (arith, l, ap (λ s. length (printed s)) same))
+        ];
+  }
+
 -- A part that is there or not.
 module _ {S V : Type 0} {Is : S → Type 0} {printed : S → List ℕ} {means : S → V} {written : V → S}
     (law : WritesShortest Is printed means written) where
