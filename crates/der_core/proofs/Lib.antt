@@ -25,6 +25,7 @@ pub mod PartsLaws
 pub mod Readings
 pub mod Shortest
 pub mod SmallReading
+pub mod Spelled
 pub mod SourceMoves
 pub mod StoppedWriting
 pub mod TaggedReadings

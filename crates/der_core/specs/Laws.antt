@@ -15,6 +15,7 @@ pub mod OctetString
 pub mod Optional
 pub mod OptionalReadings
 pub mod Parts
+pub mod Printed
 pub mod Readings
 pub mod Rows
 pub mod SequenceOf

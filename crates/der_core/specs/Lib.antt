@@ -30,5 +30,6 @@ pub mod OctetString
 pub mod OctetStringRefValue
 pub mod Members
 pub mod Parts
+pub mod Printed
 pub mod Laws
 pub mod Words

@@ -20,6 +20,8 @@ pub use Rattle.der_core.specs.OctetStringRefValue.{octets_of}
 pub use Rattle.der_core.specs.Optional.{HasOptional, IsNext, Optional, OptionalRead, written_optional}
 pub use Rattle.der_core.specs.Parts.{AllocatesInFront, AllocatesInParts, HaveParts, IsToldApart, LastContents, NoParts}
 pub use Rattle.der_core.specs.Parts.{PartsContents, written_parts}
+pub use Rattle.der_core.specs.Printed.{PrintsOne, ReadsAlike, ReadsFrontAlike, ReadsFrontPrinted, ReadsPrinted, Spells}
+pub use Rattle.der_core.specs.Printed.{WritesShortest, number_contents, number_of, row, value_in}
 pub use Rattle.der_core.specs.Reading.{AllocatesForItems, AllocatesIn, AllocatesLast, FaultOrMemory, HoldsBytes, NoneIn}
 pub use Rattle.der_core.specs.Reading.{ReadsAll, ReadsEncoding, ReadsFront, ReadsRow, ReadsWhole, NoValueOrMemory, Returns}
 pub use Rattle.der_core.specs.Reading.{TellsNext, TellsOfBytes}
@@ -54,6 +56,14 @@ pub use Rattle.der_core.specs.Laws.Parts.{last_part_relates, last_part_shortest,
 pub use Rattle.der_core.specs.Laws.Parts.{no_parts_mean_one, no_parts_of_bytes, no_parts_relate, no_parts_shortest}
 pub use Rattle.der_core.specs.Laws.Parts.{parts_ask_none, parts_at_most_one, parts_mean_one, parts_of_bytes}
 pub use Rattle.der_core.specs.Laws.Parts.{parts_relate, parts_shortest}
+pub use Rattle.der_core.specs.Laws.Printed.Alike.{alike, alone_alike, items_alike, last_alike, number_alike}
+pub use Rattle.der_core.specs.Laws.Printed.Alike.{optional_alike, row_alike, tagged_alike}
+pub use Rattle.der_core.specs.Laws.Printed.Items.{items_law}
+pub use Rattle.der_core.specs.Laws.Printed.Leaves.{number_law, octets_law, small_law}
+pub use Rattle.der_core.specs.Laws.Printed.Optional.{last_by_tag_law, last_law}
+pub use Rattle.der_core.specs.Laws.Printed.Rows.{end_law, expected_law, row_law, tagged_law}
+pub use Rattle.der_core.specs.Laws.Printed.Shortest.{last_shortest, list_shortest, one_spelling, row_shortest}
+pub use Rattle.der_core.specs.Laws.Printed.Shortest.{tagged_shortest, tagged_some}
 pub use Rattle.der_core.specs.Laws.Readings.{expected_reads, last_reads, made_errs, made_reads, no_parts_read}
 pub use Rattle.der_core.specs.Laws.Readings.{parts_read}
 pub use Rattle.der_core.specs.Laws.Readings.{small_reads}

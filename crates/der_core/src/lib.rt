@@ -28,6 +28,7 @@ mod memory;
 mod octet_string;
 mod one_encoding;
 mod parts;
+mod printed;
 mod reader;
 mod record;
 mod sequence_of;
@@ -60,13 +61,14 @@ pub use laws::{
     lemma_clones_hold_the_same, lemma_contents_are_read, lemma_documents_compare_by_bytes,
     lemma_encodings_are_read, lemma_headers_compare_by_value, lemma_kinds_are_told_apart,
     lemma_last_parts_are_read, lemma_lengths_compare_by_number, lemma_optional_parts_are_read,
-    lemma_tag_numbers_compare_by_number,
+    lemma_spellings_are_read, lemma_tag_numbers_compare_by_number,
 };
 pub use length::Length;
 pub use memory::{Memory, NoMemory};
 pub use octet_string::{OctetStringRef, OctetStringTag};
 pub use one_encoding::{OneContents, OneEncoding, lemma_one_encoding, write_only};
 pub use parts::DecodeParts;
+pub use printed::{PrintedContents, PrintedEncoding};
 pub use reader::{BytesLeft, Octets, Reader};
 pub use record::{EncodeInParts, InParts, Record};
 pub use slice_reader::SliceReader;

@@ -1,0 +1,113 @@
+-- The leaves: octets of numbers, length octets, INTEGER, OCTET STRING.
+use Rattle.std.proofs.Common.{ℕ, List, [], ◌∷◌, ◌++◌, ◌≡◌, ◌<◌, ◌≤◌, ◌==◌, length, refl, sym, subst, ap, ◌∙◌, arith}
+use Rattle.std.proofs.Common.{inl, inr, true, false, Ok, length-append}
+use Rattle.std.specs.Int.Digits.{number_from_digits, digits_of}
+use Rattle.std.proofs.lemmas.Bool.{cases_lt}
+use Rattle.std.proofs.lemmas.Bool.Decides.{nat_tests}
+use Rattle.std.proofs.lemmas.Int.Digits.{all_below_base_digits_of, number_digits_of, first_digits_of}
+use Rattle.der_core.specs.Encodings.{AreBytes}
+use Rattle.der_core.specs.Integer.{IntegerContents, IsCanonical, SmallContents, integer_contents}
+use Rattle.der_core.specs.IntegerReading.{integer_of, small_of}
+use Rattle.der_core.specs.Laws.Encodings.{tlv_relates}
+use Rattle.der_core.specs.Laws.Integer.{canonical_same, contents_at_most_one, integer_relates}
+use Rattle.der_core.specs.Laws.Length.{length_grows, length_octets-only, length_octets-within}
+use Rattle.der_core.specs.Laws.Readings.{bind_ok, integer_reads, made_tells, ok_same, small_reads}
+use Rattle.der_core.specs.Length.{length_octets as der_octets}
+use Rattle.der_core.specs.Printed.{ReadsPrinted, number_contents, number_of}
+use Rattle.der_core.specs.Readings.{octets_of_all, ◌>>=◌}
+use Rattle.der_core.specs.Tlv as tlvs
+use Rattle.standard.specs.Statement.{length_octets, limit, octets, tlv}
+
+-- The octets of a number are its canonical bytes.
+octets_zero : (n : ℕ) → n ≡ 0 → octets n ≡ 0 ∷ []
+octets_zero n e = let t : (n == 0) ≡ true = grind (arith, nat_tests) in rw t refl
+
+octets_some : (n : ℕ) → 0 < n → octets n ≡ digits_of 256 n
+octets_some n h = let t : (n == 0) ≡ false = grind (arith, nat_tests) in rw t refl
+
+pub octets_canonical : (n : ℕ) → IsCanonical (octets n)
+octets_canonical n = elim (cases_lt 0 n) [
+  | inl h ↦ rw (octets_some n h) (inr
+      (all_below_base_digits_of 256 n (omega arith), first_digits_of 256 n (omega arith) h))
+  | inr h ↦ rw (octets_zero n (omega arith)) (inl refl)
+]
+
+pub octets_number : (n : ℕ) → number_from_digits 256 (octets n) ≡ n
+octets_number n = elim (cases_lt 0 n) [
+  | inl h ↦ rw (octets_some n h) (number_digits_of 256 n (omega arith))
+  | inr h ↦ rw (octets_zero n (omega arith)) (omega arith)
+]
+
+pub number_octets : (x : List ℕ) → IsCanonical x → octets (number_from_digits 256 x) ≡ x
+number_octets x p =
+    canonical_same (octets (number_from_digits 256 x)) x (octets_canonical (number_from_digits 256 x)) p
+    (octets_number (number_from_digits 256 x))
+
+-- INTEGER
+contents_are : (n : ℕ) → IntegerContents (octets n) (number_contents n)
+contents_are n = integer_relates (octets n) (octets_canonical n)
+
+contents_is : (x c : List ℕ) (n : ℕ) → number_from_digits 256 x ≡ n → IntegerContents x c → c ≡ number_contents n
+contents_is x c n e p =
+    let same : octets n ≡ x = ap octets (sym e) ∙ number_octets x p.0 in
+    contents_at_most_one x c (integer_contents x) p (integer_relates x p.0) ∙ ap integer_contents (sym same)
+
+pub number_law : ReadsPrinted (λ _. Unit {0}) number_contents number_of
+number_law = record {
+  gives = λ c n bytes e.
+      let s = bind_ok (integer_of c) (λ x. Ok (number_from_digits 256 x)) e in
+      (tt, contents_is s.0 c n (ok_same s.2) (integer_reads.gives c s.0 bytes s.1));
+  takes = λ n ok few.
+      ap (λ r. r >>= λ x. Ok (number_from_digits 256 x))
+      (integer_reads.takes (number_contents n) (octets n) few (contents_are n))
+      ∙ ap (λ m. Ok m) (octets_number n);
+  tells = λ c k e. made_tells (number_from_digits 256) (integer_of c) (integer_reads.tells c k) e;
+}
+
+pub small_law : ReadsPrinted (λ n. n < 256) number_contents small_of
+small_law = record {
+  gives = λ c n bytes e.
+      let (less, x, number, p) : SmallContents n c = small_reads.gives c n bytes e in
+      (less, contents_is x c n number p);
+  takes = λ n less few.
+      small_reads.takes (number_contents n) n few (less, octets n, octets_number n, contents_are n);
+  tells = small_reads.tells;
+}
+
+-- OCTET STRING
+pub octets_law : ReadsPrinted AreBytes (λ o. o) octets_of_all
+octets_law = record {
+  gives = λ c o bytes e. let same : c ≡ o = ok_same e in (subst AreBytes same bytes, same);
+  takes = λ o ok few. refl;
+  tells = λ c k e. cc;
+}
+
+-- Lengths and tags: what the standard writes is what a reader of headers finds.
+pub length_octets_same : (n : ℕ) → der_octets n ≡ length_octets n
+unfolding der_octets length_octets
+length_octets_same n = refl
+
+tlv_same : (t : ℕ) (c : List ℕ) → tlvs.tlv t c ≡ tlv t c
+tlv_same t c = ap (λ x. t ∷ x ++ c) (length_octets_same (length c))
+
+pub tlv_is : {P : List ℕ → Type 0} (t : ℕ) (w encoding : List ℕ) → ((c : List ℕ) → P c → c ≡ w) → tlvs.Tlv t P encoding
+    → encoding ≡ tlv t w
+tlv_is t w encoding is p =
+    let o : p.octets ≡ length_octets (length p.contents) =
+    length_octets-only (length p.contents) p.octets p.counted ∙ length_octets_same (length p.contents) in
+    p.written ∙ ap (λ x. t ∷ x ++ p.contents) o ∙ ap (tlv t) (is p.contents p.holds)
+
+pub tlv_made : {P : List ℕ → Type 0} (t : ℕ) (w : List ℕ) → P w → length (tlv t w) ≤ limit → tlvs.Tlv t P (tlv t w)
+tlv_made {P} t w h fits =
+    subst (tlvs.Tlv t P) (tlv_same t w) (tlv_relates t (λ (_ : Unit {0}). P) (λ _. w) tt (λ _. h)
+    (omega (arith, ap length (tlv_same t w), fits)))
+
+pub tlv_fit : (t : ℕ) (c : List ℕ) → length c ≤ length (tlv t c)
+tlv_fit t c = omega (arith, length-append (length_octets (length c)) c)
+
+-- A greater length has no fewer octets.
+pub octets_grow : (m n : ℕ) → m ≤ n → n ≤ limit → length (length_octets m) ≤ length (length_octets n)
+octets_grow m n less few =
+    let g = length_grows m n (der_octets m) (der_octets n) (length_octets-within m (omega (arith, less, few)))
+    (length_octets-within n (omega (arith, few))) less in
+    omega (arith, g, ap length (length_octets_same m), ap length (length_octets_same n))

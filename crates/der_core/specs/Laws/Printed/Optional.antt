@@ -1,0 +1,199 @@
+-- Parts that are there or not, and rows at the front of contents that depend on them.
+use Rattle.std.proofs.Common.{ℕ, true, false, List, [], ◌∷◌, ◌++◌, ◌≡◌, ◌<◌, ◌≤◌, length, refl, sym, subst, ap, ◌∙◌}
+use Rattle.std.proofs.Common.{arith, ⊎_elim, length-append, append-nil, append_assoc, Option, Some, None, Ok, Err}
+use Rattle.std.proofs.lemmas.Bool.Decides.{nat_tests}
+use Rattle.der_core.specs.declared.error.ErrorKind.{ErrorKind}
+use Rattle.der_core.specs.declared.tag.Tag.{Tag}
+use Rattle.der_core.specs.Encodings.{AreBytes}
+use Rattle.der_core.specs.Laws.Input.{ok_pair}
+use Rattle.der_core.specs.Laws.OptionalReadings.{optional_is, optional_tells}
+use Rattle.der_core.specs.Laws.Printed.Rows.{alone_law, tagged_law, valid_as}
+use Rattle.der_core.specs.Laws.Readings.{back_bytes, bind_err, bind_ok, ended_is, ended_tells, made_tells, ok_same}
+use Rattle.der_core.specs.Length.{limit}
+use Rattle.der_core.specs.Printed.{ReadsFrontPrinted, ReadsPrinted}
+use Rattle.der_core.specs.Reading.{TellsOfBytes}
+use Rattle.der_core.specs.Readings.{FrontReading, Reading, alone, chain, ended, front_done, front_parts, is_next, last}
+use Rattle.der_core.specs.Readings.{optional as optional_front, parts, tagged, ◌>>=◌}
+use Rattle.standard.specs.Statement.{IfPresent, optional, tlv}
+
+-- A last part that is there or not: whatever is left is read as the part.
+module _ {V : Type 0} {Is : V → Type 0} {printed : V → List ℕ} {at : FrontReading V}
+    (law : ReadsFrontPrinted Is printed at) where
+  pub last_law : ((v : V) → 0 < length (printed v)) → ReadsPrinted (IfPresent Is) (optional printed) (last at)
+  last_law some = record { gives = gives; takes = takes; tells = tells }
+    where
+      gives : (c : List ℕ) (v : Option V) → AreBytes c → last at c ≡ Ok v → IfPresent Is v × (c ≡ optional printed v)
+      gives [] v b e =
+          subst (λ (u : Option V). IfPresent Is u × ([] ≡ optional printed u)) (ok_same e) (tt, refl)
+      gives (x ∷ xs) v b e =
+          let s = bind_ok (alone at (x ∷ xs)) _ e in
+          let h = (alone_law law).gives (x ∷ xs) s.0 b s.1 in
+          subst (λ (u : Option V). IfPresent Is u × ((x ∷ xs) ≡ optional printed u)) (ok_same s.2) h
+
+      there : (v : V) (c : List ℕ) → c ≡ printed v → Is v → length c ≤ limit → last at c ≡ Ok (Some v)
+      there v [] e ok few = absurd (omega (arith, some v, ap length e))
+      there v (x ∷ xs) e ok few =
+          ap (λ r. r >>= λ v. Ok (Some v))
+          (ap (alone at) e ∙ (alone_law law).takes v ok (omega (arith, few, ap length e)))
+
+      takes : (v : Option V) → IfPresent Is v → length (optional printed v) ≤ limit
+          → last at (optional printed v) ≡ Ok v
+      takes None ok few = refl
+      takes (Some v) ok few = there v (printed v) refl ok few
+
+      tells : (c : List ℕ) (k : ErrorKind) → last at c ≡ Err k → TellsOfBytes k
+      tells [] k e = cc
+      tells (x ∷ xs) k e = made_tells Some (alone at (x ∷ xs)) ((alone_law law).tells (x ∷ xs) k) e
+
+-- A part that is there exactly if its octet is next, before a row that never begins with that octet.
+module _ {A B : Type 0} {IsA : A → Type 0} {IsB : B → Type 0} {first : A → List ℕ} {rest : B → List ℕ}
+    {at : FrontReading A} {read : Reading B} (a : ReadsFrontPrinted IsA first at) (b : ReadsPrinted IsB rest read)
+    (t : ℕ)
+    (begins : (v : A) (x : List ℕ) → is_next t (first v ++ x) ≡ true)
+    (other : (w : B) → IsB w → is_next t (rest w) ≡ false) where
+  abbrev Printed : Option A × B → List ℕ
+  Printed v = optional first v.0 ++ rest v.1
+
+  abbrev Are : Option A × B → Type 0
+  Are v = IfPresent IsA v.0 × IsB v.1
+
+  front_takes : (v : Option A) (w : B) → IfPresent IsA v → IsB w → length (optional first v ++ rest w) ≤ limit
+      → optional_front t at (optional first v ++ rest w) ≡ Ok (v, rest w)
+  front_takes None w none ok few = rw (other w ok) refl
+  front_takes (Some v) w ok right few =
+      rw (begins v (rest w)) (ap (λ r. r >>= λ p. Ok (Some p.0, p.1)) (a.takes v (rest w) ok few))
+
+  pub optional_row_law : ReadsPrinted (λ v. IfPresent IsA v.0 × IsB v.1) (λ v. optional first v.0 ++ rest v.1)
+      (parts (optional_front t at) read)
+  optional_row_law = record {
+    gives = λ c v bytes e.
+        let s = bind_ok (optional_front t at c) _ e in
+        let u = bind_ok (read s.0.1) _ s.2 in
+        subst (λ (w : Option A × B). Are w × (c ≡ Printed w)) (ok_same u.2)
+        (⊎_elim
+        (λ n.
+        let h = b.gives s.0.1 u.0 (subst AreBytes n.1 bytes) u.1 in
+        subst (λ (o : Option A). (IfPresent IsA o × IsB u.0) × (c ≡ optional first o ++ rest u.0)) (sym n.0)
+        ((tt, h.0), n.1 ∙ h.1))
+        (λ p.
+        let g = a.gives c s.0.1 p.0 bytes p.2 in
+        let h = b.gives s.0.1 u.0 (back_bytes (first p.0) s.0.1 (subst AreBytes g.1 bytes)) u.1 in
+        subst (λ (o : Option A). (IfPresent IsA o × IsB u.0) × (c ≡ optional first o ++ rest u.0)) (sym p.1)
+        ((g.0, h.0), g.1 ∙ ap (λ z. first p.0 ++ z) h.1))
+        (optional_is t at c s.0.0 s.0.1 s.1));
+    takes = λ v ok few.
+        ap (λ r. r >>= λ p. read p.1 >>= λ y. let q : Option A × B = (p.0, y) in Ok q)
+        (front_takes v.0 v.1 ok.0 ok.1 few)
+        ∙ ap (λ r. r >>= λ y. let q : Option A × B = (v.0, y) in Ok q)
+        (b.takes v.1 ok.1 (omega (arith, few, length-append (optional first v.0) (rest v.1))));
+    tells = λ c k e.
+        ⊎_elim (optional_tells t at c (a.tells c) k)
+        (λ s. made_tells (λ y. let q : Option A × B = (s.0.0, y) in q) (read s.0.1) (b.tells s.0.1 k) s.2)
+        (bind_err (optional_front t at c) _ e);
+  }
+
+-- What follows depends on the first part, which the value tells: a version, and a part that agrees with it.
+module _ {A B : Type 0} {IsA : A → Type 0} {IsB : A → B → Type 0} {first : A → List ℕ} {rest : B → List ℕ}
+    {at : FrontReading A} {read : A → Reading B} (of : B → A) (a : ReadsFrontPrinted IsA first at)
+    (b : (x : A) → ReadsPrinted (IsB x) rest (read x)) (tells_it : (x : A) (y : B) → IsB x y → of y ≡ x) where
+  pub chain_law : ReadsPrinted (λ y. IsA (of y) × IsB (of y) y) (λ y. first (of y) ++ rest y) (chain at read)
+  chain_law = record {
+    gives = λ c v bytes e.
+        let s = bind_ok (at c) _ e in
+        let g = a.gives c s.0.1 s.0.0 bytes s.1 in
+        let h = (b s.0.0).gives s.0.1 v (back_bytes (first s.0.0) s.0.1 (subst AreBytes g.1 bytes)) s.2 in
+        subst (λ x. (IsA x × IsB x v) × (c ≡ first x ++ rest v)) (sym (tells_it s.0.0 v h.0))
+        ((g.0, h.0), g.1 ∙ ap (λ z. first s.0.0 ++ z) h.1);
+    takes = λ v ok few.
+        ap (λ r. r >>= λ p. read p.0 p.1) (a.takes (of v) (rest v) ok.0 few)
+        ∙ (b (of v)).takes v ok.1 (omega (arith, few, length-append (first (of v)) (rest v)));
+    tells = λ c k e. ⊎_elim (a.tells c k) (λ s. (b s.0.0).tells s.0.1 k s.2) (bind_err (at c) _ e);
+  }
+
+-- A row of parts at the front.
+module _ {A B : Type 0} {IsA : A → Type 0} {IsB : B → Type 0} {first : A → List ℕ} {second : B → List ℕ}
+    {at : FrontReading A} {next : FrontReading B} (a : ReadsFrontPrinted IsA first at)
+    (b : ReadsFrontPrinted IsB second next) where
+  pub front_row_law : ReadsFrontPrinted (λ v. IsA v.0 × IsB v.1) (λ v. first v.0 ++ second v.1) (front_parts at next)
+  front_row_law = record {
+    gives = λ i rest v bytes e.
+        let s = bind_ok (at i) _ e in
+        let u = bind_ok (next s.0.1) _ s.2 in
+        let end = ok_pair (s.0.0, u.0.0) v u.0.1 rest u.2 in
+        let g = a.gives i s.0.1 s.0.0 bytes s.1 in
+        let h = b.gives s.0.1 u.0.1 u.0.0 (back_bytes (first s.0.0) s.0.1 (subst AreBytes g.1 bytes)) u.1 in
+        subst (λ (w : A × B). (IsA w.0 × IsB w.1) × (i ≡ (first w.0 ++ second w.1) ++ rest)) end.0 (
+          (g.0, h.0),
+          g.1 ∙ ap (λ z. first s.0.0 ++ z) (h.1 ∙ ap (λ r. second u.0.0 ++ r) end.1)
+              ∙ sym (append_assoc (first s.0.0) (second u.0.0) rest),
+        );
+    takes = λ v rest ok few.
+        let same = append_assoc (first v.0) (second v.1) rest in
+        let l = ap length same in
+        ap (front_parts at next) same
+        ∙ ap (λ r. r >>= λ p. next p.1 >>= λ q. let w : A × B = (p.0, q.0) in Ok (w, q.1))
+        (a.takes v.0 (second v.1 ++ rest) ok.0 (omega (arith, few, l)))
+        ∙ ap (λ r. r >>= λ q. let w : A × B = (v.0, q.0) in Ok (w, q.1))
+        (b.takes v.1 rest ok.1 (omega (arith, few, l, length-append (first v.0) (second v.1 ++ rest))));
+    tells = λ i k e.
+        ⊎_elim (a.tells i k)
+        (λ s. ⊎_elim (b.tells s.0.1 k) (λ u. let never = u.2 in cc) (bind_err (next s.0.1) _ s.2))
+        (bind_err (at i) _ e);
+  }
+
+pub front_end_law : ReadsFrontPrinted (λ (_ : Unit {0}). Unit {0}) (λ _. []) front_done
+front_end_law = record {
+  gives = λ i rest v bytes e. (tt, (ok_pair tt v i rest e).1);
+  takes = λ v rest ok few. refl;
+  tells = λ i k e. cc;
+}
+
+-- A last part that is there exactly if its octet is next, and agrees with what was read before, or else is a fault.
+module _ {V : Type 0} {Is : V → Type 0} {printed : V → List ℕ} {at : FrontReading V}
+    (law : ReadsFrontPrinted Is printed at)
+    (t : ℕ) (begins : (v : V) (x : List ℕ) → is_next t (printed v ++ x) ≡ true) (Agrees : Option V → Type 0)
+    (behind : Option V → Reading (Option V))
+    (good : (o : Option V) → Agrees o → behind o ≡ ended o)
+    (only : (o p : Option V) (c : List ℕ) → behind o c ≡ Ok p → Agrees o × (c ≡ []) × (o ≡ p))
+    (told : (o : Option V) (c : List ℕ) (k : ErrorKind) → behind o c ≡ Err k → TellsOfBytes k) where
+  last_takes : (o : Option V) → IfPresent Is o → length (optional printed o) ≤ limit
+      → optional_front t at (optional printed o) ≡ Ok (o, [])
+  last_takes None ok few = refl
+  last_takes (Some v) ok few =
+      let all = append-nil (printed v) in
+      ap (optional_front t at) (sym all)
+      ∙ rw (begins v [])
+      (ap (λ r. r >>= λ p. Ok (Some p.0, p.1)) (law.takes v [] ok (omega (arith, few, ap length all))))
+
+  pub agreed_law : ReadsPrinted (λ o. Agrees o × IfPresent Is o) (optional printed) (chain (optional_front t at) behind)
+  agreed_law = record {
+    gives = λ c v bytes e.
+        let s = bind_ok (optional_front t at c) _ e in
+        let h = only s.0.0 v s.0.1 s.2 in
+        ⊎_elim
+        (λ n.
+        subst (λ o. (Agrees o × IfPresent Is o) × (c ≡ optional printed o)) h.2
+        (subst (λ o. Agrees o → (Agrees o × IfPresent Is o) × (c ≡ optional printed o)) (sym n.0)
+        (λ a. ((a, tt), n.1 ∙ h.1)) h.0))
+        (λ p.
+        let g = law.gives c s.0.1 p.0 bytes p.2 in
+        subst (λ o. (Agrees o × IfPresent Is o) × (c ≡ optional printed o)) h.2
+        (subst (λ o. Agrees o → (Agrees o × IfPresent Is o) × (c ≡ optional printed o)) (sym p.1)
+        (λ a. ((a, g.0), g.1 ∙ ap (λ r. printed p.0 ++ r) h.1 ∙ append-nil (printed p.0))) h.0))
+        (optional_is t at c s.0.0 s.0.1 s.1);
+    takes = λ v ok few.
+        ap (λ r. r >>= λ p. behind p.0 p.1) (last_takes v ok.1 few) ∙ ap (λ f. f []) (good v ok.0);
+    tells = λ c k e.
+        ⊎_elim (optional_tells t at c (law.tells c) k) (λ s. told s.0.0 s.0.1 k s.2)
+        (bind_err (optional_front t at c) _ e);
+  }
+
+-- A last part that is known by its tag.
+module _ {V : Type 0} {Is : V → Type 0} {printed : V → List ℕ} {read : Reading V} (law : ReadsPrinted Is printed read)
+    (tag : Tag) where
+  pub last_by_tag_law : ReadsPrinted (IfPresent Is) (optional (λ v. tlv tag.octet (printed v)))
+      (alone (optional_front tag.octet (tagged tag read)))
+  last_by_tag_law =
+      valid_as (agreed_law (tagged_law law tag) tag.octet (λ v x. grind (arith, nat_tests)) (λ o. Unit {0}) ended
+      (λ o a. refl) (λ o p c e. let end = ended_is o p c e in (tt, end.0, end.1)) ended_tells) (λ o p. p.1)
+      (λ o p. (tt, p))

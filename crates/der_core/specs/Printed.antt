@@ -1,0 +1,73 @@
+-- What a type states of its encodings: a printer of what stands in the bytes, and which of that is valid. The laws of a
+-- type say that a function reads what is printed, and nothing else.
+--
+-- What stands in the bytes is a spelling of a value. Most values have one spelling, which is the value itself. A value
+-- whose fields have defaults has several.
+use Rattle.std.specs.Prelude.{ℕ, List, ◌≡◌, ◌<◌, ◌≤◌, ◌++◌, ◌∷◌, ◌⊎◌, length, slice_index, nat_lt, if◌then◌else◌}
+use Rattle.std.specs.Prelude.{Option, Some, None, Result, Ok, Err}
+use Rattle.std.specs.Int.Digits.{number_from_digits}
+use Rattle.der_core.specs.declared.error.ErrorKind.{ErrorKind}
+use Rattle.der_core.specs.Encodings.{AreBytes}
+use Rattle.der_core.specs.IntegerReading.{integer_of}
+use Rattle.der_core.specs.Length.{limit}
+use Rattle.der_core.specs.Reading.{TellsOfBytes}
+use Rattle.der_core.specs.Readings.{FrontReading, Reading, front_made, made}
+use Rattle.standard.specs.Statement.{octets}
+
+-- The function reads the contents of valid spellings, and nothing else. Its faults are about the bytes.
+pub record ReadsPrinted {S : Type 0} (valid : S → Type 0) (printed : S → List ℕ) (read : Reading S) : Type 0 where
+  pub gives : (c : List ℕ) (s : S) → AreBytes c → read c ≡ Ok s → valid s × (c ≡ printed s)
+  pub takes : (s : S) → valid s → length (printed s) ≤ limit → read (printed s) ≡ Ok s
+  pub tells : (c : List ℕ) (k : ErrorKind) → read c ≡ Err k → TellsOfBytes k
+
+-- The same of encodings at the front of bytes.
+pub record ReadsFrontPrinted {S : Type 0} (valid : S → Type 0) (printed : S → List ℕ) (at : FrontReading S)
+    : Type 0 where
+  pub gives : (i rest : List ℕ) (s : S) → AreBytes i → at i ≡ Ok (s, rest) → valid s × (i ≡ printed s ++ rest)
+  pub takes : (s : S) (rest : List ℕ) → valid s → length (printed s ++ rest) ≤ limit
+      → at (printed s ++ rest) ≡ Ok (s, rest)
+  pub tells : (i : List ℕ) (k : ErrorKind) → at i ≡ Err k → TellsOfBytes k
+
+-- The bytes are a valid spelling of the value, within the limit.
+abbrev pub Spells : {S V : Type 0} → (S → Type 0) → (S → List ℕ) → (S → V) → V → List ℕ → Type 0
+Spells {S} valid printed means v bytes =
+    (s : S) × (means s ≡ v) × (length bytes ≤ limit) × valid s × (bytes ≡ printed s)
+
+-- The spelling that is written means the value, is valid if any of the value's is, and is shorter than each other one.
+pub record WritesShortest {S V : Type 0} (Is : S → Type 0) (printed : S → List ℕ) (means : S → V) (written : V → S)
+    : Type 0 where
+  pub back : (v : V) → means (written v) ≡ v
+  pub valid : (s : S) → Is s → Is (written (means s))
+  pub least : (s : S) → Is s → length (printed s) ≤ limit
+      → (s ≡ written (means s)) ⊎ (length (printed (written (means s))) < length (printed s))
+
+-- No encoding within the limit is that of two spellings, or a proper beginning of another.
+abbrev pub PrintsOne : {S : Type 0} → (S → Type 0) → (S → List ℕ) → Type 0
+PrintsOne {S} valid printed =
+    (s t : S) (x y : List ℕ) → valid s → valid t → length (printed s ++ x) ≤ limit → printed s ++ x ≡ printed t ++ y
+    → (s ≡ t) × (x ≡ y)
+
+-- Two functions read the same meaning of the same bytes, or the same fault.
+pub record ReadsAlike {S V M : Type 0} (read : Reading S) (means : S → M) (other : Reading V) (meaning_of : V → M)
+    : Type 0 where
+  pub same : (c : List ℕ) → made means read c ≡ made meaning_of other c
+
+pub record ReadsFrontAlike {S V M : Type 0} (at : FrontReading S) (means : S → M) (other : FrontReading V)
+    (meaning_of : V → M) : Type 0 where
+  pub same : (i : List ℕ) → front_made means at i ≡ front_made meaning_of other i
+
+-- What was read, without the kind of a fault.
+abbrev pub value_in : {V : Type 0} → Result V ErrorKind → Option V
+value_in (Ok v) = Some v
+value_in (Err k) = None
+
+-- The contents of an INTEGER, and the number with these contents.
+abbrev pub number_contents : ℕ → List ℕ
+number_contents n = if nat_lt (slice_index (octets n) 0) 128 then octets n else (0 ∷ octets n)
+
+abbrev pub number_of : Reading ℕ
+number_of = made (number_from_digits 256) integer_of
+
+-- A part, and what follows it.
+abbrev pub row : {A B : Type 0} → (A → List ℕ) → (B → List ℕ) → A × B → List ℕ
+row first rest s = first s.0 ++ rest s.1
