@@ -13,7 +13,7 @@ use Rattle.der_core.specs.Laws.Input.{ok_pair}
 use Rattle.der_core.specs.Laws.Readings.{ok_same}
 use Rattle.der_core.specs.Length.{limit}
 use Rattle.der_core.specs.Printed.{ReadsAlike, ReadsFrontAlike, number_of, value_in}
-use Rattle.der_core.specs.Readings.{FrontReading, Reading, alone, chain, contents_behind, ended, inside}
+use Rattle.der_core.specs.Readings.{FrontReading, Reading, alone, chain, contents_behind, ended, front_parts, inside}
 use Rattle.der_core.specs.Readings.{is_next, items, items_within, last, made, optional, parts, such, tagged, whole}
 use Rattle.der_core.specs.Readings.{◌>>=◌}
 
@@ -66,6 +66,9 @@ module _ {S V M X : Type 0} (means : S → M) (meaning_of : V → M) where
 -- The same function, whose values mean themselves; INTEGER, of which the number is read.
 pub alike : {V : Type 0} (read : Reading V) → ReadsAlike read (λ v. v) read (λ v. v)
 alike read = record { same = λ c. refl }
+
+pub front_alike : {V : Type 0} (at : FrontReading V) → ReadsFrontAlike at (λ v. v) at (λ v. v)
+front_alike at = record { same = λ i. refl }
 
 pub number_alike : ReadsAlike number_of (λ n. n) integer_of (number_from_digits 256)
 number_alike = record { same = λ c. joined (integer_of c) (meant (number_from_digits 256)) (meant (λ n. n)) }
@@ -140,6 +143,29 @@ module _ {A B V W M N : Type 0} {at : FrontReading A} {read : A → Reading B} {
         ∙ behind_front meansA ofV (at c) (at_old c) (a.same c) (λ p. read p.0 p.1 >>= meant meansB)
         (λ p. read_old p.0 p.1 >>= meant ofW) (λ s v rest e. (b s v e).same rest)
         ∙ sym (joined (at_old c) (λ p. read_old p.0 p.1) (meant ofW));
+  }
+
+-- A row at the front of contents that go on behind it.
+module _ {A B V W M N : Type 0} {at : FrontReading A} {next : FrontReading B} {meansA : A → M} {meansB : B → N}
+    {at_old : FrontReading V} {next_old : FrontReading W} {ofV : V → M} {ofW : W → N}
+    (a : ReadsFrontAlike at meansA at_old ofV) (b : ReadsFrontAlike next meansB next_old ofW) where
+  abbrev row_behind : {X Y : Type 0} → X → Y × List ℕ → Result ((X × Y) × List ℕ) ErrorKind
+  row_behind x q = Ok ((x, q.0), q.1)
+
+  pub front_row_alike : ReadsFrontAlike (front_parts at next) (λ p. let q : M × N = (meansA p.0, meansB p.1) in q)
+      (front_parts at_old next_old) (λ p. let q : M × N = (ofV p.0, ofW p.1) in q)
+  front_row_alike = record {
+    same = λ i.
+        joined (at i) (λ p. next p.1 >>= row_behind p.0) (meant_front (both meansA meansB))
+        ∙ behind_front meansA ofV (at i) (at_old i) (a.same i)
+        (λ p. (next p.1 >>= row_behind p.0) >>= meant_front (both meansA meansB))
+        (λ p. (next_old p.1 >>= row_behind p.0) >>= meant_front (both ofV ofW))
+        (λ s v rest e.
+        joined (next rest) (row_behind s) (meant_front (both meansA meansB))
+        ∙ behind_front meansB ofW (next rest) (next_old rest) (b.same rest) (λ q. row_behind (meansA s) (meansB q.0, q.1))
+        (λ q. row_behind (ofV v) (ofW q.0, q.1)) (λ y w end f. λ j. row_behind (e j) (f j, end))
+        ∙ sym (joined (next_old rest) (row_behind v) (meant_front (both ofV ofW))))
+        ∙ sym (joined (at_old i) (λ p. next_old p.1 >>= row_behind p.0) (meant_front (both ofV ofW)));
   }
 
 -- Contents behind a tag.
