@@ -105,9 +105,12 @@ copies_in_little_memory() {
     cmp -s "$room/files/large.der" "$room/files/again.der" || fails "copy pub large.der again.der: other bytes"
 }
 
-# Two names of one file, pipes, names that are too long.
+# Two names of one file, pipes, names of 4007 octets and ones that are too long.
 copies_by_other_names() {
     local long
+    long=$(printf './%.0s' {1..2000})
+    copies 0 "" out.der $public copy pub "${long}pub.der" out.der
+    copies 0 "" out.der $private copy priv priv.der "${long}out.der"
     long=$(head -c 5000 /dev/zero | tr '\0' x)
     copies 1 "$file" new.der - copy pub "$long" new.der
     copies 1 "$file" kept.der $old copy pub pub.der "$long"
@@ -250,6 +253,6 @@ for program in "${programs[@]}"; do
         fails "it isn't there$builder"
     fi
 done
-echo "run_built: $(grep -vc -e '^#' -e '^$' rows) rows and ${less-}50 runs, of each program"
+echo "run_built: $(grep -vc -e '^#' -e '^$' rows) rows and ${less-}52 runs, of each program"
 echo "$passed passed, $failed failed"
 [ "$failed" = 0 ]
