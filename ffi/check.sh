@@ -39,14 +39,25 @@ tool() {
         chmod +x "$program"
     fi
     PROGRAMS=$program EMULATED=${RUN-} crates/pkcs1_tool/run_built.sh
+    [ -n "${RUN-}" ] || refused
+}
+# is_sanitized: whether what is tested is built with a sanitizer.
+is_sanitized() {
+    case "$CC ${CFLAGS-}" in *-fsanitize=*) ;; *) false ;; esac
+}
+# The tool with each of its requests for memory refused, by functions that are preloaded.
+refused() {
+    if is_sanitized || ! getconf GNU_LIBC_VERSION > "$tests/libc" 2>&1; then
+        say "malloc is a sanitizer's, or not glibc's: none of the tool's requests for memory is refused"
+    else
+        PROGRAMS=$program crates/pkcs1_tool/refuse_memory.sh
+    fi
 }
 crate() {
-    case "$CC ${CFLAGS-}" in
-        *-fsanitize=*)
-            say "the library is built with a sanitizer: the crate for Rust isn't tested"
-            return
-            ;;
-    esac
+    if is_sanitized; then
+        say "the library is built with a sanitizer: the crate for Rust isn't tested"
+        return
+    fi
     command -v cargo > /dev/null || {
         say "cargo isn't installed: the crate for Rust isn't tested"
         return

@@ -3,7 +3,8 @@
 # no more. A run with a failed allocation must report that it is out of memory and exit with 1. Of the stored input, and
 # of the rows, it has then written the whole output for the first lines, however many; when it copies a key, OUT is
 # unchanged; allocations for the arguments fail too. A run without a failed allocation must do what was asked. Called by
-# .ci/run after run_built.sh; it needs gcc. It prints any other result, and then exits with 1; the last line counts.
+# .ci/run and ffi/check.sh after run_built.sh; it needs gcc. It prints any other result, and then exits with 1; the last
+# line counts.
 set -u
 cd "$(dirname "$0")" || exit 1
 room=$(mktemp -d) || exit 1
@@ -17,7 +18,8 @@ built=("$PWD/out/pkcs1_tool" "$PWD/out/pkcs1_tool.by-rattle")
     exit 1
 }
 
-"${CC:-gcc}" -shared -fPIC -O1 -Wall -Wextra -Werror -o "$room/refuse.so" refuse_memory.c || exit 1
+# shellcheck disable=SC2086
+${CC:-gcc} -shared -fPIC -O1 -Wall -Wextra -Werror -o "$room/refuse.so" refuse_memory.c || exit 1
 
 # hex BYTES: prints the bytes with these hexadecimal digits.
 hex() {
