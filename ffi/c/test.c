@@ -292,21 +292,21 @@ static void absent_fields(void) {
     CHECK(pkcs1_oaep_params_encode(&oaep, out, sizeof out, &len) == PKCS1_OID_MALFORMED && len == 77);
 }
 
-/* Flags whose octet is 2, as a caller in another language can set them, are set. */
-static void flags(void) {
+/* Flags with this octet, which isn't 0 and may be more than 1, as a caller in another language can set them, are set. */
+static void flags(uint8_t octet) {
     struct pkcs1_private_key_info info = {{two, sizeof two}, true, {NULL, 0}};
     struct pkcs1_pss_params params;
     uint8_t want[64], out[64];
     size_t want_len, len;
     CHECK(pkcs1_private_key_info_encode(&info, want, sizeof want, &want_len) == PKCS1_OK);
-    memset(&info.has_attributes, 2, 1);
+    memset(&info.has_attributes, octet, 1);
     CHECK(pkcs1_private_key_info_encode(&info, out, sizeof out, &len) == PKCS1_OK);
     CHECK(len == want_len && memcmp(out, want, len) == 0);
     pkcs1_pss_params_init(&params, &pkcs1_oid_sha256, 32);
     CHECK(pkcs1_pss_params_encode(&params, want, sizeof want, &want_len) == PKCS1_OK);
-    memset(&params.hash.has_parameters, 2, 1);
-    memset(&params.mask_gen.has_hash, 2, 1);
-    memset(&params.mask_gen.hash.has_parameters, 2, 1);
+    memset(&params.hash.has_parameters, octet, 1);
+    memset(&params.mask_gen.has_hash, octet, 1);
+    memset(&params.mask_gen.hash.has_parameters, octet, 1);
     CHECK(pkcs1_pss_params_encode(&params, out, sizeof out, &len) == PKCS1_OK);
     CHECK(len == want_len && memcmp(out, want, len) == 0);
     CHECK(pkcs1_algorithm_is(&params.hash, &pkcs1_oid_sha256));
@@ -469,7 +469,7 @@ int main(int argc, char **argv) {
     containers();
     pss();
     absent_fields();
-    flags();
+    flags(2), flags(0x80), flags(0xff);
     made_for_a_hash();
     compared();
     a_hash_function();
