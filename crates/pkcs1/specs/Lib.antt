@@ -10,5 +10,7 @@ pub mod OtherPrimesHeld
 pub mod OtherPrimesLeft
 pub mod ViewParts
 pub mod KeyReadings
+pub mod PrintedKeys
+pub mod Promises
 pub mod Laws
 pub mod Words

@@ -13,11 +13,13 @@ pub use Rattle.pkcs1.specs.Keys.{PrivateKeyContents}
 pub use Rattle.pkcs1.specs.Keys.{PrivateKeyEncoding, PublicKey, PublicKeyContents, RsaPrivateKey, RsaPublicKey}
 pub use Rattle.pkcs1.specs.Keys.{CrtContents, CrtRow, crt_parts, other_parts, public_part, public_parts, version_of}
 pub use Rattle.pkcs1.specs.OtherPrimesLeft.{HoldsNone, others_left}
+pub use Rattle.pkcs1.specs.PrintedKeys.{private_meaning, public_meaning}
 pub use Rattle.pkcs1.specs.PrivateKeyValue.{ListsNone, key_with, other_of, others_of, private_key_of}
 pub use Rattle.pkcs1.specs.PrivateKeyValue.{private_key_with, public_in}
-pub use Rattle.pkcs1.specs.PublicKeyValue.{public_key_of, public_key_with}
+pub use Rattle.pkcs1.specs.Promises.{ok_of}
+pub use Rattle.pkcs1.specs.PublicKeyValue.{public_key_of, public_key_with, stated_key}
 pub use Rattle.pkcs1.specs.Versions.{IsVersionOf, VersionContents, number_of}
-pub use Rattle.pkcs1.specs.ViewParts.{listed_others, view_of, viewed_encoding}
+pub use Rattle.pkcs1.specs.ViewParts.{listed_others, stated_view, view_of, viewed_encoding}
 pub use Rattle.pkcs1.specs.Writing.{HasCrt, HasOther, HasOthers, HasPrivateKey, HasPublicKey, other_numbers}
 pub use Rattle.pkcs1.specs.Writing.{written_other}
 pub use Rattle.pkcs1.specs.Writing.{written_crt, written_others, written_private_key, written_public_key}

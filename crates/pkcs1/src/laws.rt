@@ -3,7 +3,10 @@ ghost use Rattle.std.specs.Prelude.{◌≡◌, ℕ, List, true, false};
 ghost use Rattle.pkcs1.specs.Words.{SameEncodings, PublicKey, PrivateKey, others_left, public_key_of, view_of};
 ghost use Rattle.pkcs1.specs.Words.{rsa_private_key, rsa_public_key};
 ghost use Rattle.der_core.specs.Words.{AtMostOne, IsDelimited, Means, MeansOne, Excludes, ReadsContents};
-ghost use Rattle.der_core.specs.Words.{SameByShortest};
+ghost use Rattle.der_core.specs.Words.{AreBytes, SameByShortest, value_in};
+ghost use Rattle.pkcs1.specs.Words.{private_meaning, public_meaning};
+ghost use Rattle.standard.specs.Statement.{Decodes, PrivateKeyEncoding, PublicKeyEncoding};
+ghost use Rattle.std.specs.Option.{option_map};
 ghost use Rattle.pkcs1.specs.Keys as keys;
 ghost use Rattle.pkcs1_params.specs.Parameters as parameters;
 ghost use Rattle.der_core.specs.declared.error.ErrorKind as kinds;
@@ -46,6 +49,15 @@ pub fn lemma_encodings_mean_one<T: Encoding>()
 pub fn lemma_keys_are_read()
     ensures public { ReadsContents (λ key encoding. Means keys.RsaPublicKey encoding key) rsa_public_key }
     ensures private { ReadsContents (λ key encoding. Means keys.RsaPrivateKey encoding key) rsa_private_key }
+{}
+
+/// The functions that tell the keys of whole slices give a key exactly of the bytes that encode one, in the words of the
+/// statement.
+pub fn lemma_keys_decode()
+    ensures public { (bytes : List ℕ) → AreBytes bytes
+        → Decodes PublicKeyEncoding bytes (option_map public_meaning (value_in (rsa_public_key bytes))) }
+    ensures private { (bytes : List ℕ) → AreBytes bytes
+        → Decodes PrivateKeyEncoding bytes (option_map private_meaning (value_in (rsa_private_key bytes))) }
 {}
 
 /// A key has at most one encoding.

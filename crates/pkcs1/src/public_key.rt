@@ -141,7 +141,8 @@ impl<U: TryClone> RsaPublicKey<U> {
 
 impl<'a> TryFrom<&'a [u8]> for RsaPublicKey<UintRef<'a>> {
     ghost use Rattle.std.specs.Prelude.{IfOk, OnErr};
-    ghost use Rattle.pkcs1.specs.Words.{rsa_public_key};
+    ghost use Rattle.pkcs1.specs.Words.{ok_of, rsa_public_key, stated_key};
+    ghost use Rattle.standard.specs.Statement.{Decodes, PublicKeyEncoding};
     ghost use Rattle.pkcs1_params.specs.Words.{ErrsAs, IsNoSentence, IsTheMeaning};
     ghost use Rattle.pkcs1.specs.Keys as grammar;
 
@@ -152,6 +153,7 @@ impl<'a> TryFrom<&'a [u8]> for RsaPublicKey<UintRef<'a>> {
         ensures ok { IfOk result (λ key. IsTheMeaning grammar.RsaPublicKey bytes.now (public_key_of key)) }
         ensures err { OnErr result (IsNoSentence grammar.RsaPublicKey bytes.now) }
         ensures exact { ErrsAs public_key_of (rsa_public_key bytes.now) result }
+        ensures read { Decodes PublicKeyEncoding bytes.now (ok_of stated_key result) }
     {
         Ok(RsaPublicKey::from_der(NoMemory, bytes)?)
     }

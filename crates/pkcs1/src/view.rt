@@ -189,6 +189,9 @@ impl<'a> RsaPrivateKeyView<'a> {
 }
 
 impl<'a> TryFrom<&'a [u8]> for RsaPrivateKeyView<'a> {
+    ghost use Rattle.pkcs1.specs.Words.{ok_of, stated_view};
+    ghost use Rattle.standard.specs.Statement.{Decodes, PrivateKeyEncoding};
+
     type Error = Error;
 
     /// Decodes a whole slice, and allocates nothing, however many primes there are. The errors are those of
@@ -198,6 +201,7 @@ impl<'a> TryFrom<&'a [u8]> for RsaPrivateKeyView<'a> {
         ensures bytes { IfOk result (λ view. viewed_encoding view ≡ bytes.now) }
         ensures err { OnErr result (IsNoSentence grammar.RsaPrivateKey bytes.now) }
         ensures exact { ErrsAs view_of (rsa_private_key bytes.now) result }
+        ensures read { Decodes PrivateKeyEncoding bytes.now (ok_of stated_view result) }
     {
         let key = ViewedKey::from_der(NoMemory, bytes)?;
         Ok(RsaPrivateKeyView { bytes, key })
