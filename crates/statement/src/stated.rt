@@ -200,6 +200,7 @@ pub fn encode_into<T: Stated>(value: &T, out: &mut [u8]) -> Option<usize>
 /// Writes over the front of a slice, and returns it.
 pub fn encode_to_slice<'b, T: Stated>(value: &T, out: &'b mut [u8]) -> Option<&'b [u8]>
     ensures some { IfSome result (λ s. IsShortest T.encodes (T.meaning value.now) s.now) }
+    ensures room { IfSome result (λ s. length s.now ≤ length out.old) }
     ensures none { IfNone result ((bytes : List ℕ)
         → T.encodes (T.meaning value.now) bytes → length out.old < length bytes) }
 {
