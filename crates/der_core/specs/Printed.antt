@@ -61,6 +61,11 @@ abbrev pub value_in : {V : Type 0} → Result V ErrorKind → Option V
 value_in (Ok v) = Some v
 value_in (Err k) = None
 
+-- What a call returned, by what it means; nothing for an error.
+abbrev pub ok_of : {X M E : Type 0} → (X → M) → Result X E → Option M
+ok_of meaning (Ok x) = Some (meaning x)
+ok_of meaning (Err e) = None
+
 -- The contents of an INTEGER, and the number with these contents.
 abbrev pub number_contents : ℕ → List ℕ
 number_contents n = if nat_lt (slice_index (octets n) 0) 128 then octets n else (0 ∷ octets n)

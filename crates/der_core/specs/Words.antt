@@ -21,7 +21,7 @@ pub use Rattle.der_core.specs.Optional.{HasOptional, IsNext, Optional, OptionalR
 pub use Rattle.der_core.specs.Parts.{AllocatesInFront, AllocatesInParts, HaveParts, IsToldApart, LastContents, NoParts}
 pub use Rattle.der_core.specs.Parts.{PartsContents, written_parts}
 pub use Rattle.der_core.specs.Printed.{PrintsOne, ReadsAlike, ReadsFrontAlike, ReadsFrontPrinted, ReadsPrinted, Spells}
-pub use Rattle.der_core.specs.Printed.{WritesShortest, number_contents, number_of, row, value_in}
+pub use Rattle.der_core.specs.Printed.{WritesShortest, number_contents, number_of, ok_of, row, value_in}
 pub use Rattle.der_core.specs.Reading.{AllocatesForItems, AllocatesIn, AllocatesLast, FaultOrMemory, HoldsBytes, NoneIn}
 pub use Rattle.der_core.specs.Reading.{ReadsAll, ReadsEncoding, ReadsFront, ReadsRow, ReadsWhole, NoValueOrMemory, Returns}
 pub use Rattle.der_core.specs.Reading.{TellsNext, TellsOfBytes}
