@@ -56,6 +56,12 @@ pub record ReadsFrontAlike {S V M : Type 0} (at : FrontReading S) (means : S →
     (meaning_of : V → M) : Type 0 where
   pub same : (i : List ℕ) → front_made means at i ≡ front_made meaning_of other i
 
+-- A value has octets exactly if its spelling is valid, and then both are the same.
+pub record WritesAlike (Has : Type 0) (octets : List ℕ) (Valid : Type 0) (printed : List ℕ) : Type 0 where
+  pub there : Has → Valid
+  pub back : Valid → Has
+  pub same : Has → octets ≡ printed
+
 -- What was read, without the kind of a fault.
 abbrev pub value_in : {V : Type 0} → Result V ErrorKind → Option V
 value_in (Ok v) = Some v

@@ -5,3 +5,4 @@ pub mod Optional
 pub mod Items
 pub mod Shortest
 pub mod Alike
+pub mod Written

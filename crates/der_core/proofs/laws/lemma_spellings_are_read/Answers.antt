@@ -9,7 +9,7 @@ returns-clause-decodes g c = meant_decodes g.T.PrintedEncoding.law g.T.PrintedEn
 pub returns-clause-answers : goal.returns-clause-answers
 returns-clause-answers g c bytes r =
     let t = g.met.T.PrintedEncoding in
-    answers_decode g.T.PrintedEncoding.law t.alike bytes r t.is_meaning
+    answers_decode g.T.PrintedEncoding.law t.reads_alike bytes r t.is_meaning
 
 pub returns-clause-one : goal.returns-clause-one
 returns-clause-one g c = prints_one g.T.PrintedEncoding.law
@@ -20,4 +20,7 @@ returns-clause-shortest g c = shortest_is g.T.PrintedEncoding.shortest
 pub returns-clause-alike : goal.returns-clause-alike
 returns-clause-alike g c =
     let t = g.met.T.PrintedEncoding in
-    (t.meaning_of, t.is_meaning, t.alike, spelled_means g.T.PrintedEncoding.law t.alike g.T.Encoding.reads_front)
+    (t.meaning_of, t.is_meaning, t.reads_alike, spelled_means g.T.PrintedEncoding.law t.reads_alike g.T.Encoding.reads_front)
+
+pub returns-clause-writes : goal.returns-clause-writes
+returns-clause-writes g c = g.met.T.PrintedEncoding.writes_alike

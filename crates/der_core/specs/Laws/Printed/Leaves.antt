@@ -87,7 +87,7 @@ pub length_octets_same : (n : ℕ) → der_octets n ≡ length_octets n
 unfolding der_octets length_octets
 length_octets_same n = refl
 
-tlv_same : (t : ℕ) (c : List ℕ) → tlvs.tlv t c ≡ tlv t c
+pub tlv_same : (t : ℕ) (c : List ℕ) → tlvs.tlv t c ≡ tlv t c
 tlv_same t c = ap (λ x. t ∷ x ++ c) (length_octets_same (length c))
 
 pub tlv_is : {P : List ℕ → Type 0} (t : ℕ) (w encoding : List ℕ) → ((c : List ℕ) → P c → c ≡ w) → tlvs.Tlv t P encoding
