@@ -1,5 +1,5 @@
 -- What is printed and what the grammar of a type has, of whole encodings: reading gives both.
-use Rattle.std.proofs.Common.{ℕ, List, ◌≡◌, refl, sym, subst, ap, ◌∙◌, Result, Ok, Err, Option, Some, None}
+use Rattle.std.proofs.Common.{ℕ, List, ◌≡◌, refl, sym, subst, ap, ◌∙◌, Result, Ok, Err, Some}
 use Rattle.std.specs.Option.{option_map}
 use Rattle.std.specs.Prelude.{◌↔◌}
 use Rattle.der_core.specs.declared.error.ErrorKind.{ErrorKind}

@@ -6,3 +6,4 @@ pub mod Items
 pub mod Shortest
 pub mod Alike
 pub mod Written
+pub mod Relations
