@@ -38,13 +38,20 @@ pub ok_joined : {X M N Z : Type 0} (meaning : X → M) (join : M → N) (r : Res
 ok_joined meaning join (Ok x) = refl
 ok_joined meaning join (Err e) = refl
 
--- A type whose values have one spelling each.
-pub spells_once : {V : Type 0} {valid : V → Type 0} {printed : V → List ℕ} (v : V) (bytes : List ℕ)
-    → Spells valid printed (λ v. v) v bytes ↔ ((length bytes ≤ limit) × valid v × (bytes ≡ printed v))
-spells_once {valid = valid} {printed} v bytes = (
-  λ (s, is, few, ok, same). (few, subst valid is ok, same ∙ ap printed is),
-  λ (few, ok, same). (v, refl, few, ok, same),
-)
+-- A type whose values have one spelling each, and all an encoding.
+module _ {V : Type 0} (valid : V → Type 0) (printed : V → List ℕ) where
+  pub spells_once : (v : V) (bytes : List ℕ)
+      → Spells valid printed (λ v. v) v bytes ↔ ((length bytes ≤ limit) × valid v × (bytes ≡ printed v))
+  spells_once v bytes = (
+    λ (s, is, few, ok, same). (few, subst valid is ok, same ∙ ap printed is),
+    λ (few, ok, same). (v, refl, few, ok, same),
+  )
+
+  pub spells_all : ((v : V) → valid v) → (v : V) (bytes : List ℕ)
+      → Spells valid printed (λ v. v) v bytes ↔ ((length bytes ≤ limit) × (bytes ≡ printed v))
+  spells_all all v bytes =
+      let once = spells_once v bytes in
+      (λ p. let q = once.0 p in (q.0, q.2), λ p. once.1 (p.0, all v, p.1))
 
 -- An encoding was written over the front of a slice.
 pub written_encodes : {V : Type 0} (E : V → List ℕ → Type 0) (v : V) (old new encoding : List ℕ) (n : ℕ)
