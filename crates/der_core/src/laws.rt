@@ -97,8 +97,8 @@ pub fn lemma_optional_parts_are_read<T: Contents + FixedTag>()
 /// - `answers`: so does a call that returns what the function of `Encoding` gives.
 /// - `one`: no encoding is that of two spellings, or a proper beginning of another.
 /// - `shortest`: what is written is shorter than each other encoding of the meaning.
-/// - `alike`: values have meanings, and both functions read the same of them. Bytes spell a meaning exactly if the grammar
-///   has them for a value that has it.
+/// - `alike`: values have meanings, and both functions read the same of them. Bytes spell a meaning exactly if the
+///   grammar has them for a value that has it.
 /// - `writes`: what is written is the same.
 pub fn lemma_spellings_are_read<T: PrintedEncoding>()
     ensures decodes { (bytes : List ℕ) → AreBytes bytes → let read = value_in (whole T.read_spelling bytes) in
