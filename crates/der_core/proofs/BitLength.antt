@@ -1,5 +1,5 @@
 -- The bit length of a number is that of its first byte, and eight bits for each other one.
-use Rattle.std.proofs.Common.{ℕ, zero, suc, List, [], ◌∷◌, ◌≡◌, ◌<◌, ◌≤◌, ◌+◌, ◌-◌, ◌*◌, ◌^◌, length, refl, sym, ◌∙◌, arith, inl}
+use Rattle.std.proofs.Common.{ℕ, zero, suc, List, [], ◌∷◌, ◌≡◌, ◌<◌, ◌≤◌, ◌+◌, ◌-◌, ◌*◌, ◌^◌, length, refl, sym, arith, inl}
 use Rattle.std.proofs.Common.{inr, lit<, mul-le-mul_right, slice_index, zero-le}
 use Rattle.std.proofs.Math.Nat.{pow-suc}
 use Rattle.std.proofs.Math.Pow.{pow_mono}

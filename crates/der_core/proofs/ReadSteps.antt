@@ -99,15 +99,6 @@ row_fails law row first rest a e (Some i) mid after bytes (left, p, is) (failed,
       ∙ ap (λ r. r >>= λ q. Ok ((a, q.0), q.1)) (rw is at q)),
 )
 
--- Behind a row that was read, what the chain gives is what follows it.
-pub row_from : {A B : Type 0} (row : FrontReading A) (behind : A → Reading B) (x : A) (before mid : Input)
-    → (before ≡ None → mid ≡ None)
-    × ((i : List ℕ) → before ≡ Some i → (rest : List ℕ) × (row i ≡ Ok (x, rest)) × (mid ≡ Some rest))
-    → read_from before (chain row behind) ≡ read_from mid (behind x)
-row_from row behind x None mid f = rw (f.0 refl) refl
-row_from row behind x (Some i) mid f =
-    let r = f.1 i refl in ap (λ r. r >>= λ q. behind q.0 q.1) r.1 ∙ (rw r.2 refl)
-
 -- A first part that asks for no memory, and what follows it.
 pub behind_fails : {A B C : Type 0} {First : A → List ℕ → Type 0} {at : FrontReading A} → ReadsFronts First at
     → (rest : Reading B) (make : A × B → C) (later : List ℕ → Type 0) (x : A) (before mid after : Input) (e : ErrorKind)

@@ -4,4 +4,4 @@ mod small;
 mod uint;
 
 pub use owned::Uint;
-pub use uint::{AsUintRef, UintRef};
+pub use uint::{AsUintRef, UintEncoding, UintRef};

@@ -55,7 +55,7 @@ pub use grammar::{
     TaggedBy,
 };
 pub use header::Header;
-pub use integer::{AsUintRef, Uint, UintRef};
+pub use integer::{AsUintRef, Uint, UintEncoding, UintRef};
 pub use last_part::{Last, LastByTag, decode_last, decode_whole};
 pub use laws::{
     lemma_clones_hold_the_same, lemma_contents_are_read, lemma_documents_compare_by_bytes,

@@ -14,9 +14,9 @@ use crate::key_numbers::{KeyFront, key_of};
 use crate::public_key::{RsaPublicKey, RsaPublicKeyRef};
 use crate::version::Version;
 use der_core::{
-    AsUintRef, BackWriter, Borrowed, Contents, Decode, DecodeFront, DecodeValue, Encode,
-    EncodeValue, Encoding, ErrorKind, Header, Length, Reader, Result, Sequence, SequenceTag, Tag,
-    TaggedBy, Uint, UintRef, Writer,
+    BackWriter, Borrowed, Contents, Decode, DecodeFront, DecodeValue, Encode, EncodeValue,
+    Encoding, ErrorKind, Header, Length, Reader, Result, Sequence, SequenceTag, Tag, TaggedBy,
+    Uint, UintEncoding, UintRef, Writer,
 };
 use other_prime_info::{OtherPrimeInfos, lists_none, read_other_primes};
 use std::alloc::{AllocError, Global};
@@ -95,7 +95,7 @@ impl<U, O> PrivateKeyOf<U, O> {
     }
 }
 
-impl<U: AsUintRef> RsaPrivateKey<U> {
+impl<U: UintEncoding> RsaPrivateKey<U> {
     /// The public key.
     pub fn public_key(&self) -> RsaPublicKeyRef<'_>
         ensures { public_key_of result ≡ public_in U.number self.now }
@@ -116,7 +116,7 @@ impl<U: Encoding> RsaPrivateKey<U> {
     }
 }
 
-impl<'a, U: AsUintRef> From<&'a RsaPrivateKey<U>> for RsaPublicKey<UintRef<'a>> {
+impl<'a, U: UintEncoding> From<&'a RsaPrivateKey<U>> for RsaPublicKey<UintRef<'a>> {
     ghost from_gives = { λ key public.
         public_key_of public ≡ public_in U.number key.now };
 

@@ -6,9 +6,9 @@ ghost use Rattle.pkcs1.specs.Words.{of_public_parts, public_key_means_one, publi
 ghost use Rattle.pkcs1.specs.Words.{public_key_reads, public_key_with};
 
 use der_core::{
-    AsUintRef, BackWriter, Borrowed, Contents, Decode, Encode, EncodeInParts, EncodeValue,
-    Encoding, EqualByValue, InParts, Length, NoMemory, Sequence, SequenceTag, TaggedBy, TryClone,
-    Uint, UintRef, Writer,
+    BackWriter, Borrowed, Contents, Decode, Encode, EncodeInParts, EncodeValue, Encoding,
+    EqualByValue, InParts, Length, NoMemory, Sequence, SequenceTag, TaggedBy, TryClone, Uint,
+    UintEncoding, UintRef, Writer,
 };
 use pkcs1_params::{Error, Result};
 use std::alloc::Global;
@@ -157,7 +157,7 @@ impl<'a> TryFrom<&'a [u8]> for RsaPublicKey<UintRef<'a>> {
     }
 }
 
-impl<U: AsUintRef> RsaPublicKey<U> {
+impl<U: UintEncoding> RsaPublicKey<U> {
     ghost use Rattle.std.specs.Prelude.{◌≡◌, ◌≤◌, length, take, drop, IfOk, IfErr, OnErr};
     ghost use Rattle.pkcs1.specs.Words.{IsOnlyEncoding};
     ghost use Rattle.pkcs1_params.specs.Words.{IsWritingError};

@@ -12,7 +12,9 @@ ghost use Rattle.pkcs1_params.specs.declared.error.Error.{Error};
 
 use crate::private_key::RsaPrivateKey;
 use crate::public_key::RsaPublicKey;
-use der_core::{AsUintRef, Decode, Document, ErrorKind, FileSystem, SecretDocument, Uint, UintRef};
+use der_core::{
+    Decode, Document, ErrorKind, FileSystem, SecretDocument, Uint, UintEncoding, UintRef,
+};
 use pkcs1_params::Result;
 use std::alloc::Global;
 use std::path::Path;
@@ -211,7 +213,7 @@ impl EncodeRsaPrivateKey for RsaPrivateKey<Uint> {
     }
 }
 
-impl<U: AsUintRef> EncodeRsaPublicKey for RsaPublicKey<U> {
+impl<U: UintEncoding> EncodeRsaPublicKey for RsaPublicKey<U> {
     ghost written_as = { λ key bytes. IsOnlyEncoding grammar.RsaPublicKey (public_key_with U.number key) bytes };
 
     ghost unwritten_by = { λ key. IsDocumentError grammar.RsaPublicKey (public_key_with U.number key) };

@@ -120,9 +120,12 @@ PssFieldError p = HashFieldsThen p.hash p.mask_gen (λ status. (status ≡ VALUE
 abbrev pub OaepFieldError : OaepParameters → ℕ → Type 0
 OaepFieldError p = HashFieldsThen p.hash p.mask_gen (PlainError p.p_source)
 
+-- One of the fields can't be held, or parameters with these fields aren't written.
+abbrev pub FieldsError : {V : Type 0} → (V → ℕ → Type 0) → (V → List ℕ → Type 0) → V → ℕ → ℕ → Type 0
+FieldsError FieldError Grammar v room = PartThen (FieldError v) (EncodingError Grammar v room)
+
 -- The shortest encoding is written of parameters whose fields can be held: their own, or that of the algorithm
 -- identifier that they stand in.
 abbrev pub WritesFields : {V : Type 0} → (V → ℕ → Type 0) → (V → List ℕ → Type 0) → V → List ℕ → List ℕ → ℕ → ℕ → ℕ
     → Type 0
-WritesFields FieldError Grammar v =
-    WritesValue Grammar v (λ room. PartThen (FieldError v) (EncodingError Grammar v room))
+WritesFields FieldError Grammar v = WritesValue Grammar v (FieldsError FieldError Grammar v)

@@ -5,6 +5,10 @@ ghost use Rattle.standard.specs.Statement.{Decodes, PublicKeyEncoding, PrivateKe
 ghost use Rattle.standard.specs.Statement.{ContainedKeyEncoding};
 ghost use Rattle.pkcs1_c.specs.Structs.{private_key, HasPrivateNumbers, DecodesPrivate, private_key_info, HasKey};
 ghost use Rattle.pkcs1_c.specs.Structs.{public_key, HasNumbers, Holds, If, WritesOrTells};
+ghost use Rattle.pkcs1_c.specs.Words.{InfoError, IsErrorOf, IsStatusOf, PrivateKeyError, PublicKeyError};
+ghost use Rattle.pkcs1_c.specs.Words.{public_key_seen};
+ghost use Rattle.pkcs1.specs.Words.{rsa_private_key, rsa_public_key};
+ghost use Rattle.pkcs8_core.specs.Words.{rsa_private_key_info};
 
 use crate::container::{
     PrivateKeyInfo, pkcs1_c_private_key_info_decode, pkcs1_c_private_key_info_encode,
@@ -21,6 +25,7 @@ pub fn decode_public_key<'a>(encoding: &'a [u8], key: &mut PublicKey<'a>) -> u32
     ensures ok { result ≡ 0 → (v : statement.PublicKey) × Decodes PublicKeyEncoding encoding.now (Some v)
         × Holds key.new v }
     ensures rejected { result ≢ 0 → Decodes PublicKeyEncoding encoding.now None }
+    ensures exact { IsStatusOf (rsa_public_key encoding.now) result }
     ensures unchanged { result ≢ 0 → key.new ≡ key.old }
 {
     lemma_encodings_are_the_librarys();
@@ -29,8 +34,9 @@ pub fn decode_public_key<'a>(encoding: &'a [u8], key: &mut PublicKey<'a>) -> u32
 
 /// Writes a public key. A status other than 0 and 15: a number has no byte, or the limit is passed.
 pub fn encode_public_key(key: &PublicKey<'_>, out: &mut [u8], len: &mut usize) -> u32
-    ensures { let Encoding = If (HasNumbers key.now) PublicKeyEncoding in
+    ensures writes { let Encoding = If (HasNumbers key.now) PublicKeyEncoding in
         WritesOrTells Encoding (public_key key.now) out.old out.new len.old len.new result }
+    ensures exact { IsErrorOf (PublicKeyError (public_key_seen key.now) (length out.old)) result }
 {
     lemma_encodings_are_the_librarys();
     pkcs1_c_public_key_encode(key, out, len)
@@ -46,6 +52,7 @@ pub fn decode_private_key<'a>(
     ensures ok { result ≡ 0 → DecodesPrivate encoding.now key.new others.new }
     ensures rest { result ≡ 0 → drop key.new.other_primes others.new ≡ drop key.new.other_primes others.old }
     ensures rejected { result ≢ 0 → Decodes PrivateKeyEncoding encoding.now None }
+    ensures exact { IsStatusOf (rsa_private_key encoding.now) result }
     ensures unchanged { result ≢ 0 → (key.new ≡ key.old) × (others.new ≡ others.old) }
 {
     lemma_encodings_are_the_librarys();
@@ -64,6 +71,7 @@ pub fn encode_private_key(
     ensures writes { result ≢ 17
         → let Encoding = If (HasPrivateNumbers key.now others.now) PrivateKeyEncoding in
         WritesOrTells Encoding (private_key key.now others.now) out.old out.new len.old len.new result }
+    ensures exact { result ≢ 17 → IsErrorOf (PrivateKeyError key.now others.now (length out.old)) result }
     ensures memory { result ≡ 17 → (key.now.other_primes ≡ length others.now) × (0 < length others.now)
         × (out.new ≡ out.old) × (len.new ≡ len.old) }
 {
@@ -83,6 +91,7 @@ pub fn decode_private_key_info<'a>(
     ensures key { result ≡ 0 → DecodesPrivate info.new.private_key.now key.new others.new }
     ensures rest { result ≡ 0 → drop key.new.other_primes others.new ≡ drop key.new.other_primes others.old }
     ensures rejected { result ≢ 0 → Decodes ContainedKeyEncoding encoding.now None }
+    ensures exact { IsStatusOf (rsa_private_key_info encoding.now) result }
     ensures unchanged { result ≢ 0 → (info.new ≡ info.old) × (key.new ≡ key.old) × (others.new ≡ others.old) }
 {
     lemma_encodings_are_the_librarys();
@@ -91,8 +100,9 @@ pub fn decode_private_key_info<'a>(
 
 /// Writes a container, whose private key must encode an RSA key.
 pub fn encode_private_key_info(info: &PrivateKeyInfo<'_>, out: &mut [u8], len: &mut usize) -> u32
-    ensures { let Encoding = If (HasKey info.now) ContainerEncoding in
+    ensures writes { let Encoding = If (HasKey info.now) ContainerEncoding in
         WritesOrTells Encoding (private_key_info info.now) out.old out.new len.old len.new result }
+    ensures exact { IsErrorOf (InfoError info.now (length out.old)) result }
 {
     lemma_encodings_are_the_librarys();
     pkcs1_c_private_key_info_encode(info, out, len)

@@ -1,8 +1,12 @@
 //! The calls for C of OAEP parameters, and of the algorithm identifier that they stand in, by the statement's words:
 //! each function is the call itself.
-ghost use Rattle.std.specs.Prelude.{◌≡◌, ◌≢◌, Some, None};
+ghost use Rattle.std.specs.Prelude.{◌≡◌, ◌≢◌, Some, None, length};
 ghost use Rattle.standard.specs.Statement.{Decodes, IsShortest, OaepEncoding, OaepAlgorithmEncoding};
+ghost use Rattle.pkcs1_params.specs.Parameters.{RsaOaepParams};
+ghost use Rattle.pkcs1_params.specs.Words.{RsaOaepAlgorithm, rsa_oaep_algorithm, rsa_oaep_params, strict_oaep_algorithm};
+ghost use Rattle.pkcs1_params.specs.Words.{strict_oaep_params};
 ghost use Rattle.pkcs1_c.specs.Structs.{oaep_params, WritesOrTells};
+ghost use Rattle.pkcs1_c.specs.Words.{FieldsError, IsErrorOf, IsStatusOf, OaepFieldError, oaep_seen};
 
 use crate::oaep::{
     OaepParams, pkcs1_c_oaep_params_decode, pkcs1_c_oaep_params_decode_strict,
@@ -18,6 +22,7 @@ use statement::lemma_encodings_are_the_librarys;
 pub fn decode_oaep_params<'a>(encoding: &'a [u8], params: &mut OaepParams<'a>) -> u32
     ensures ok { result ≡ 0 → Decodes OaepEncoding encoding.now (Some (oaep_params params.new)) }
     ensures rejected { result ≢ 0 → Decodes OaepEncoding encoding.now None }
+    ensures exact { IsStatusOf (rsa_oaep_params encoding.now) result }
     ensures unchanged { result ≢ 0 → params.new ≡ params.old }
 {
     lemma_encodings_are_the_librarys();
@@ -28,6 +33,7 @@ pub fn decode_oaep_params<'a>(encoding: &'a [u8], params: &mut OaepParams<'a>) -
 pub fn decode_oaep_params_strictly<'a>(encoding: &'a [u8], params: &mut OaepParams<'a>) -> u32
     ensures ok { result ≡ 0 → Decodes (IsShortest OaepEncoding) encoding.now (Some (oaep_params params.new)) }
     ensures rejected { result ≢ 0 → Decodes (IsShortest OaepEncoding) encoding.now None }
+    ensures exact { IsStatusOf (strict_oaep_params encoding.now) result }
     ensures unchanged { result ≢ 0 → params.new ≡ params.old }
 {
     lemma_encodings_are_the_librarys();
@@ -37,7 +43,9 @@ pub fn decode_oaep_params_strictly<'a>(encoding: &'a [u8], params: &mut OaepPara
 /// Writes OAEP parameters. A status other than 0 and 15 is that of the first field that can't be held, or 8, if the
 /// limit is passed.
 pub fn encode_oaep_params(params: &OaepParams<'_>, out: &mut [u8], len: &mut usize) -> u32
-    ensures { WritesOrTells OaepEncoding (oaep_params params.now) out.old out.new len.old len.new result }
+    ensures writes { WritesOrTells OaepEncoding (oaep_params params.now) out.old out.new len.old len.new result }
+    ensures exact { let v = oaep_seen params.now in
+        IsErrorOf (FieldsError OaepFieldError RsaOaepParams v (length out.old)) result }
 {
     lemma_encodings_are_the_librarys();
     pkcs1_c_oaep_params_encode(params, out, len)
@@ -48,6 +56,7 @@ pub fn encode_oaep_params(params: &OaepParams<'_>, out: &mut [u8], len: &mut usi
 pub fn decode_oaep_algorithm<'a>(encoding: &'a [u8], params: &mut OaepParams<'a>) -> u32
     ensures ok { result ≡ 0 → Decodes OaepAlgorithmEncoding encoding.now (Some (oaep_params params.new)) }
     ensures rejected { result ≢ 0 → Decodes OaepAlgorithmEncoding encoding.now None }
+    ensures exact { IsStatusOf (rsa_oaep_algorithm encoding.now) result }
     ensures unchanged { result ≢ 0 → params.new ≡ params.old }
 {
     lemma_encodings_are_the_librarys();
@@ -59,6 +68,7 @@ pub fn decode_oaep_algorithm<'a>(encoding: &'a [u8], params: &mut OaepParams<'a>
 pub fn decode_oaep_algorithm_strictly<'a>(encoding: &'a [u8], params: &mut OaepParams<'a>) -> u32
     ensures ok { result ≡ 0 → Decodes (IsShortest OaepAlgorithmEncoding) encoding.now (Some (oaep_params params.new)) }
     ensures rejected { result ≢ 0 → Decodes (IsShortest OaepAlgorithmEncoding) encoding.now None }
+    ensures exact { IsStatusOf (strict_oaep_algorithm encoding.now) result }
     ensures unchanged { result ≢ 0 → params.new ≡ params.old }
 {
     lemma_encodings_are_the_librarys();
@@ -67,7 +77,10 @@ pub fn decode_oaep_algorithm_strictly<'a>(encoding: &'a [u8], params: &mut OaepP
 
 /// Writes the algorithm identifier with OAEP parameters, with the same statuses.
 pub fn encode_oaep_algorithm(params: &OaepParams<'_>, out: &mut [u8], len: &mut usize) -> u32
-    ensures { WritesOrTells OaepAlgorithmEncoding (oaep_params params.now) out.old out.new len.old len.new result }
+    ensures writes { let v = oaep_params params.now in
+        WritesOrTells OaepAlgorithmEncoding v out.old out.new len.old len.new result }
+    ensures exact { let v = oaep_seen params.now in
+        IsErrorOf (FieldsError OaepFieldError RsaOaepAlgorithm v (length out.old)) result }
 {
     lemma_encodings_are_the_librarys();
     pkcs1_c_oaep_algorithm_encode(params, out, len)

@@ -1,6 +1,6 @@
 -- Parameters that begin with the usual two fields: what reads parameters computes them, and finds no default in them.
 use Rattle.std.proofs.Common.{ℕ, List, [], ◌∷◌, ◌++◌, ◌≡◌, ◌≢◌, ◌<◌, ◌∙◌, refl, ap, sym, inl, inr, Ok, true, false}
-use Rattle.std.proofs.Common.{arith, length, take, drop, Option, None, eqb}
+use Rattle.std.proofs.Common.{arith, length, take, drop, None, eqb}
 use Rattle.std.specs.Int.Digits.{number_from_digits}
 use Rattle.std.specs.Prelude.{nat_lt}
 use Rattle.std.proofs.lemmas.Bool.Decides.{nat_tests}

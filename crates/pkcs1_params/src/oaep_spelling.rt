@@ -91,8 +91,7 @@ impl<O: IdentifierValue, P: AnyValue> OaepParamsOf<O, P> {
         ensures err { let fields = oaep_fields (oaep_in O.octets P.any self.now) in
             IfErr result (IsSpellingError fields mask (length out.old)) }
     {
-        let length = self.encode_spelling_into(mask, out)?;
-        Ok(&out[..length])
+        self.encode_spelling_to_slice(mask, out)
     }
 
     /// All spellings, each at the index that is its mask, so the shortest is the first: two to the number of default

@@ -125,6 +125,24 @@ pub trait EncodeParams: Copy + Drop {
         };
         Ok(spelling.encode_into(out)?)
     }
+
+    /// Like `encode_spelling_into`, but returns the part of the slice that was written, as `encode_to_slice` does.
+    final fn encode_spelling_to_slice<'b>(self, mask: u8, out: &'b mut [u8]) -> Result<&'b [u8]>
+        requires { IsMask (fields_with Self.values (Self.params self)) mask }
+        ensures stands { let params = Self.params self in
+            IfOk result (λ encoding. StandsUnder (fields_with Self.values) params mask encoding.now) }
+        ensures room { IfOk result (λ encoding. length encoding.now ≤ length out.old) }
+        ensures err { let fields = fields_with Self.values (Self.params self) in
+            IfErr result (IsSpellingError fields mask (length out.old)) }
+    {
+        self.lemma_has_contents();
+        let spelling = Spelling {
+            params: self,
+            non_defaults: non_defaults_in(self),
+            mask,
+        };
+        Ok(spelling.encode_to_slice(out)?)
+    }
 }
 
 /// Parameters with a mask that says which of their defaults are written.

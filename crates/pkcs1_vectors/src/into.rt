@@ -1,7 +1,7 @@
 //! Values written into slices of a given length.
 use crate::told::{PrintedError, Told};
 use crate::written::UNTOUCHED;
-use der_core::{AsUintRef, Decode, Encode, Error, ErrorKind, Uint, UintRef};
+use der_core::{Decode, Encode, Error, ErrorKind, Uint, UintEncoding, UintRef};
 use pkcs1::{EncodeParams, OaepParamsOf, PssParamsOf, RsaPrivateKey, RsaPublicKey};
 use pkcs8_core::PrivateKeyInfoRef;
 use spki_core::{AnyValue, IdentifierValue};
@@ -52,7 +52,7 @@ pub trait WriteInto {
     fn write_into(&self, slice: &mut [u8]) -> pkcs1::Result<usize>;
 }
 
-impl<U: AsUintRef + Encode> WriteInto for RsaPublicKey<U> {
+impl<U: UintEncoding + Encode> WriteInto for RsaPublicKey<U> {
     fn write_into(&self, slice: &mut [u8]) -> pkcs1::Result<usize> {
         self.encode_key(slice)
     }

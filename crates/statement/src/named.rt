@@ -1,5 +1,5 @@
 //! The library's other calls that write, count and read, by the statement's words.
-ghost use Rattle.std.specs.Prelude.{ℕ, List, ◌≡◌, ◌<◌, ◌^◌, ◌↔◌, length, IsTrue, IfSome, IfNone};
+ghost use Rattle.std.specs.Prelude.{ℕ, List, ◌≡◌, ◌<◌, ◌≤◌, ◌^◌, ◌↔◌, length, IsTrue, IfSome, IfNone};
 ghost use Rattle.std.specs.Option.{option_map};
 ghost use Rattle.statement.specs.Held.{any_ref, rsa_private_key_view, pss_params_of, oaep_params_of};
 ghost use Rattle.statement.specs.Held.{algorithm_identifier, private_key_info_ref, rsa_oaep_params};
@@ -59,6 +59,7 @@ pub fn slice_of_pss_params_under<'b, O: HoldsIdentifier, P: HoldsTagged>(
     requires { (k : ℕ) × Defaults (pss_fields (pss_params_of O.oid P.tagged params.now)) k × (mask < 2 ^ k) }
     ensures some { let Encoding = SequenceOf IsPss pss_fields (FieldsUnder mask) in
         IfSome result (λ s. IsShortest Encoding (pss_params_of O.oid P.tagged params.now) s.now) }
+    ensures room { IfSome result (λ s. length s.now ≤ length out.old) }
     ensures none { let Encoding = SequenceOf IsPss pss_fields (FieldsUnder mask) in
         IfNone result ((bytes : List ℕ)
         → Encoding (pss_params_of O.oid P.tagged params.now) bytes → length out.old < length bytes) }
@@ -79,6 +80,7 @@ pub fn slice_of_oaep_params_under<'b, O: HoldsIdentifier, P: HoldsTagged>(
     requires { (k : ℕ) × Defaults (oaep_fields (oaep_params_of O.oid P.tagged params.now)) k × (mask < 2 ^ k) }
     ensures some { let Encoding = SequenceOf IsOaep oaep_fields (FieldsUnder mask) in
         IfSome result (λ s. IsShortest Encoding (oaep_params_of O.oid P.tagged params.now) s.now) }
+    ensures room { IfSome result (λ s. length s.now ≤ length out.old) }
     ensures none { let Encoding = SequenceOf IsOaep oaep_fields (FieldsUnder mask) in
         IfNone result ((bytes : List ℕ)
         → Encoding (oaep_params_of O.oid P.tagged params.now) bytes → length out.old < length bytes) }

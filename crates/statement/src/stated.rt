@@ -18,7 +18,7 @@ ghost use Rattle.standard.specs.Statement.{Encodes, IsShortest, PublicKey, Publi
 ghost use Rattle.standard.specs.Statement.{PrivateKeyEncoding, PssParameters, PssEncoding, OaepParameters};
 ghost use Rattle.standard.specs.Statement.{OaepEncoding, Container, ContainerEncoding, TagAndContents};
 
-use pkcs1::der::{AsUintRef, Encode, EqualByValue, TryClone, Uint, UintRef, Writer};
+use pkcs1::der::{Encode, EqualByValue, TryClone, Uint, UintEncoding, UintRef, Writer};
 use pkcs1::spki::{Any, AnyRef, AnyValue, IdentifierValue, IdentifierView, ObjectIdentifier};
 use pkcs1::{OaepParamsOf, PssParamsOf, RsaPrivateKey, RsaPublicKey};
 use pkcs8_core::PrivateKeyInfoRef;
@@ -67,7 +67,7 @@ impl HoldsTagged for Any {
 }
 
 /// What holds a number.
-pub trait HoldsNumber: AsUintRef {
+pub trait HoldsNumber: UintEncoding {
     /// The number.
     ghost whole: { Self → ℕ };
 

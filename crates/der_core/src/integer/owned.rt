@@ -7,7 +7,7 @@ ghost use Rattle.der_core.specs.Integer.{HoldsNumber, IsCanonical, AreCanonicalO
 ghost use Rattle.der_core.specs.IntegerReading.{WhyNoNumber, IsOutOfMemoryForNumber};
 ghost use Rattle.der_core.specs.Laws.Integer.{integer_means_one, integer_of_bytes, integer_relates, integer_shortest};
 
-use super::uint::{AsUintRef, UintRef};
+use super::uint::{AsUintRef, UintEncoding, UintRef};
 use crate::back_writer::BackWriter;
 use crate::decode::DecodeValue;
 use crate::encode::EncodeValue;
@@ -80,6 +80,10 @@ impl AsUintRef for Uint {
     fn as_uint_ref(&self) -> UintRef<'_> {
         UintRef::over(self.bytes.as_slice())
     }
+}
+
+impl UintEncoding for Uint {
+    ghost encodes_number = { λ x bytes. (λ it. it, λ it. it) };
 }
 
 impl TryClone for Uint {

@@ -4,7 +4,7 @@ ghost use Rattle.std.specs.Int.Digits.{number_from_digits};
 ghost use Rattle.der_core.specs.Length.{limit};
 ghost use Rattle.der_core.specs.Laws.Readings.{integer_reads};
 ghost use Rattle.der_core.specs.Integer.{HoldsNumber, IsCanonical, AreCanonicalOf, IntegerContents, IsBitLength};
-ghost use Rattle.der_core.specs.Integer.{integer_contents};
+ghost use Rattle.der_core.specs.Integer.{EncodesNumbers, integer_contents};
 ghost use Rattle.der_core.specs.IntegerReading.{integer_of, Answers, WhyNoNumber};
 ghost use Rattle.der_core.specs.Laws.Integer.{integer_means_one, integer_of_bytes, integer_relates, integer_shortest};
 ghost use Rattle.der_core.specs.Tags.{integer};
@@ -13,7 +13,7 @@ use crate::back_writer::BackWriter;
 use crate::decode::DecodeValue;
 use crate::encode::EncodeValue;
 use crate::error::{Error, ErrorKind, Result};
-use crate::grammar::{Contents, EqualByValue, IntegerTag, TaggedBy};
+use crate::grammar::{Contents, Encoding, EqualByValue, IntegerTag, TaggedBy};
 use crate::header::Header;
 use crate::length::Length;
 use crate::memory::Memory;
@@ -51,6 +51,16 @@ impl AsUintRef for UintRef<'_> {
     fn as_uint_ref(&self) -> UintRef<'_> {
         *self
     }
+}
+
+/// A type whose values are encoded as the unsigned numbers that they hold.
+pub trait UintEncoding: AsUintRef + Encoding {
+    /// The encodings of a value are those of its number.
+    ghost encodes_number: { EncodesNumbers Self.encoding Self.value Self.number };
+}
+
+impl UintEncoding for UintRef<'_> {
+    ghost encodes_number = { λ x bytes. (λ it. it, λ it. it) };
 }
 
 /// The bytes without needless leading zeros.
@@ -105,8 +115,8 @@ impl<'a> UintRef<'a> {
         self.bytes
     }
 
-    #[tactic(auto, using(crate::proofs::BitLength::bit_length))]
     /// The bit length of the number, as 2048 of the modulus of an RSA-2048 key. It is 0 of 0.
+    #[tactic(auto, using(crate::proofs::BitLength::bit_length))]
     pub fn bit_len(&self) -> u64
         ensures { IsBitLength (number_from_digits 256 (bytes_of self.now)) result }
     {

@@ -1,8 +1,8 @@
 -- The functions read the grammars of identifiers, of encodings of any tag and of fields, and nothing else.
-use Rattle.std.proofs.Common.{ℕ, true, false, List, [], ◌∷◌, ◌++◌, ◌≡◌, ◌≤◌, ◌-◌, length, refl, sym, ap, ◌∙◌}
-use Rattle.std.proofs.Common.{append_assoc, arith, inl, inr, subst, ⊎_elim, Ok, Err}
+use Rattle.std.proofs.Common.{ℕ, true, false, List, ◌++◌, ◌≡◌, ◌≤◌, ◌-◌, length, refl, sym, ap, ◌∙◌}
+use Rattle.std.proofs.Common.{arith, inl, inr, subst, ⊎_elim, Ok, Err}
 use Rattle.std.proofs.lemmas.Bool.Decides.{nat_tests}
-use Rattle.std.specs.Prelude.{◌==◌, ◌||◌, nat_lt, IsTrue}
+use Rattle.std.specs.Prelude.{◌||◌, nat_lt, IsTrue}
 use Rattle.der_core.specs.declared.error.ErrorKind.{ErrorKind}
 use Rattle.der_core.specs.declared.error.ErrorKind.TheVariants.{OidMalformed, TagUnknown}
 use Rattle.der_core.specs.declared.tag.Tag.{Tag}

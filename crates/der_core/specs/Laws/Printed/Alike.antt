@@ -13,13 +13,16 @@ use Rattle.der_core.specs.Laws.Printed.Steps.{behind, behind_front, both, joined
 use Rattle.der_core.specs.Laws.Printed.Steps.{paired_front, present}
 use Rattle.der_core.specs.Length.{limit}
 use Rattle.der_core.specs.Printed.{ReadsAlike, ReadsFrontAlike, number_of, value_in}
-use Rattle.der_core.specs.Readings.{FrontReading, Reading, alone, chain, contents_behind, ended, front_done}
+use Rattle.der_core.specs.Readings.{FrontReading, Reading, alone, chain, contents_behind, ended}
 use Rattle.der_core.specs.Readings.{front_parts, inside, is_next, items, items_within, last, made, optional, parts}
 use Rattle.der_core.specs.Readings.{such, tagged, whole, ◌>>=◌}
 
 -- The same function, whose values mean themselves; INTEGER, of which the number is read.
 pub alike : {V : Type 0} (read : Reading V) → ReadsAlike read (λ v. v) read (λ v. v)
 alike read = record { same = λ c. refl }
+
+pub front_alike : {V : Type 0} (at : FrontReading V) → ReadsFrontAlike at (λ v. v) at (λ v. v)
+front_alike at = record { same = λ i. refl }
 
 pub number_alike : ReadsAlike number_of (λ n. n) integer_of (number_from_digits 256)
 number_alike = record { same = λ c. joined (integer_of c) (meant (number_from_digits 256)) (meant (λ n. n)) }
@@ -44,10 +47,7 @@ module _ {A B V W M N : Type 0} {at : FrontReading A} {read : Reading B} {meansA
         ∙ sym (joined (at_old c) (λ p. read_old p.1 >>= paired p.0) (meant (both ofV ofW)));
   }
 
--- A row at the front.
-pub front_end_alike : ReadsFrontAlike front_done (λ u. u) front_done (λ u. u)
-front_end_alike = record { same = λ i. refl }
-
+-- A row at the front of contents that go on behind it.
 module _ {A B V W M N : Type 0} {at : FrontReading A} {next : FrontReading B} {meansA : A → M} {meansB : B → N}
     {at_old : FrontReading V} {next_old : FrontReading W} {ofV : V → M} {ofW : W → N}
     (a : ReadsFrontAlike at meansA at_old ofV) (b : ReadsFrontAlike next meansB next_old ofW) where

@@ -6,14 +6,10 @@ use Rattle.std.specs.Option.{option_map}
 use Rattle.std.specs.Prelude.{◌↔◌, ◌++◌, Result, Ok, Err}
 use Rattle.der_core.specs.Length.{limit}
 use Rattle.der_core.specs.Printed.{Spells, ok_of}
-use Rattle.standard.specs.Statement.{Decodes, Encodes, IsShortest}
+use Rattle.standard.specs.Statement.{Encodes, IsShortest}
 
 -- Two relations of which each says what the other does.
 module _ {V : Type 0} {E F : V → List ℕ → Type 0} (same : (v : V) (bytes : List ℕ) → E v bytes ↔ F v bytes) where
-  pub decodes_as : (bytes : List ℕ) (o : Option V) → Decodes E bytes o → Decodes F bytes o
-  decodes_as bytes (Some v) d = ((same v bytes).0 d.0, λ other p. d.1 other ((same other bytes).1 p))
-  decodes_as bytes None d = λ v p. d v ((same v bytes).1 p)
-
   pub shortest_as : (v : V) (bytes : List ℕ) → IsShortest E v bytes → IsShortest F v bytes
   shortest_as v bytes s = ((same v bytes).0 s.0, λ other p. s.1 other ((same v other).1 p))
 
@@ -21,18 +17,7 @@ module _ {V : Type 0} {E F : V → List ℕ → Type 0} (same : (v : V) (bytes :
   encodes_as v old new (Some n) e = (e.0, shortest_as v (take n new) e.1, e.2)
   encodes_as v old new None e = (e.0, λ bytes p. e.1 bytes ((same v bytes).1 p))
 
--- Values that are held by a record of another form.
-module _ {V W : Type 0} (E : V → List ℕ → Type 0) (join : V → W) (split : W → V)
-    (there : (v : V) → split (join v) ≡ v) (again : (w : W) → join (split w) ≡ w) where
-  pub decodes_joined : (bytes : List ℕ) (o : Option V) → Decodes E bytes o
-      → Decodes (λ w. E (split w)) bytes (option_map join o)
-  decodes_joined bytes (Some v) d = (
-    subst (λ u. E u bytes) (sym (there v)) d.0,
-    λ other p. sym (again other) ∙ ap join (d.1 (split other) p),
-  )
-  decodes_joined bytes None d = λ w p. d (split w) p
-
--- The same of what a call returned.
+-- What a call returned, of values that stand for others.
 pub ok_joined : {X M N Z : Type 0} (meaning : X → M) (join : M → N) (r : Result X Z)
     → option_map join (ok_of meaning r) ≡ ok_of (λ x. join (meaning x)) r
 ok_joined meaning join (Ok x) = refl

@@ -206,3 +206,12 @@ module _ {S : Type 0} {valid : S → Type 0} {printed : S → List ℕ} {at : Fr
       sym (law.takes s x ok few) ∙ ap at same ∙ law.takes t y right (omega (arith, few, ap length same)) in
       let pair : ◌≡◌ {A = S × List ℕ} (s, x) (t, y) = cc in
       (ap (λ q. q.0) pair, ap (λ q. q.1) pair)
+
+-- What is promised of values is promised of others that stand for them, and have the same encodings.
+pub decodes_as : {V W : Type 0} (Encoding : V → List ℕ → Type 0) (Other : W → List ℕ → Type 0) (to : V → W)
+    (from : W → V) → ((w : W) → to (from w) ≡ w) → (bytes : List ℕ)
+    → ((v : V) → Encoding v bytes → Other (to v) bytes) → ((w : W) → Other w bytes → Encoding (from w) bytes)
+    → (o : Option V) → Decodes Encoding bytes o → Decodes Other bytes (option_map to o)
+decodes_as Encoding Other to from back bytes there again (Some v) p =
+    (there v p.0, λ w q. sym (back w) ∙ ap to (p.1 (from w) (again w q)))
+decodes_as Encoding Other to from back bytes there again None p = λ w q. p (from w) (again w q)

@@ -5,8 +5,8 @@ use Rattle.pkcs1_c.proofs.StatedCalls.{tells_held, is_shortest}
 use Rattle.pkcs1_c.proofs.StatedContainers.{container, key_stated, key_seen}
 use Rattle.pkcs1_c.proofs.stated_keys.encode_private_key_info.Goals as goal
 
-pub returns : goal.returns
-returns c =
+pub returns-clause-writes : goal.returns-clause-writes
+returns-clause-writes c =
     let info = c.args.info.now in
     let bridge = c.lemma_encodings_are_the_librarys.ensures in
     let same = bridge.container in

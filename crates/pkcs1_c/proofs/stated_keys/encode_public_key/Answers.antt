@@ -5,8 +5,8 @@ use Rattle.pkcs1_c.proofs.StatedCalls.{tells_held}
 use Rattle.pkcs1_c.proofs.StatedKeys.{public_given, public_shortest}
 use Rattle.pkcs1_c.proofs.stated_keys.encode_public_key.Goals as goal
 
-pub returns : goal.returns
-returns c =
+pub returns-clause-writes : goal.returns-clause-writes
+returns-clause-writes c =
     let key = c.args.key.now in
     let v = public_key key in
     let same = c.lemma_encodings_are_the_librarys.ensures.public in

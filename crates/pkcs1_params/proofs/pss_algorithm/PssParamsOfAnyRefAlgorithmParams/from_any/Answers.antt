@@ -1,4 +1,4 @@
-use Rattle.std.proofs.Common.{rules, ◌≡◌, ◌∙◌, sym, subst, arith, Ok}
+use Rattle.std.proofs.Common.{rules, ◌≡◌, sym, subst, arith, Ok}
 use Rattle.der_core.specs.Laws.Input.{are_bytes}
 use Rattle.der_core.specs.Tag.{sequence_tag}
 use Rattle.der_core.specs.Tags.{sequence}
