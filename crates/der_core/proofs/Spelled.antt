@@ -1,13 +1,15 @@
 -- What is printed and what the grammar of a type has, of whole encodings: reading gives both.
-use Rattle.std.proofs.Common.{ℕ, List, ◌≡◌, refl, sym, subst, ap, ◌∙◌, Result, Ok, Err, Option, Some, None}
+use Rattle.std.proofs.Common.{ℕ, List, ◌≡◌, refl, sym, subst, ap, ◌∙◌, Result, Ok, Err, Some}
 use Rattle.std.specs.Option.{option_map}
 use Rattle.std.specs.Prelude.{◌↔◌}
 use Rattle.der_core.specs.declared.error.ErrorKind.{ErrorKind}
+use Rattle.der_core.specs.declared.error.Error.{Error}
 use Rattle.der_core.specs.Document.{Means}
-use Rattle.der_core.specs.Encodings.{AreBytes, IsOfBytes}
+use Rattle.der_core.specs.Encodings.{AreBytes}
+use Rattle.der_core.specs.IntegerReading.{Answers}
 use Rattle.der_core.specs.Laws.Printed.Alike.{values_alike, whole_alike}
 use Rattle.der_core.specs.Laws.Printed.Rows.{meant_decodes}
-use Rattle.der_core.specs.Printed.{ReadsFrontAlike, ReadsFrontPrinted, Spells, value_in}
+use Rattle.der_core.specs.Printed.{ReadsFrontAlike, ReadsFrontPrinted, Spells, ok_of, value_in}
 use Rattle.der_core.specs.Readings.{FrontReading, ReadsFronts, whole}
 use Rattle.der_core.proofs.Readings.{whole_reads}
 use Rattle.standard.specs.Statement.{Decodes}
@@ -22,15 +24,14 @@ module _ {S V M : Type 0} {valid : S → Type 0} {printed : S → List ℕ} {at 
       subst (Decodes (Spells valid printed means) bytes) (values_alike (whole_alike alike) bytes)
       (meant_decodes law means bytes are)
 
-  pub given_decodes : {v : V} {m : M} (bytes : List ℕ) → AreBytes bytes → meaning_of v ≡ m → whole old bytes ≡ Ok v
-      → Decodes (Spells valid printed means) bytes (Some m)
-  given_decodes bytes are is was =
-      subst (Decodes (Spells valid printed means) bytes) (ap (λ r. option_map meaning_of (value_in r)) was ∙ ap Some is)
-      (old_decodes bytes are)
-
-  pub refused_decodes : {k : ErrorKind} (bytes : List ℕ) → AreBytes bytes → whole old bytes ≡ Err k
-      → Decodes (Spells valid printed means) bytes None
-  refused_decodes bytes are was =
+  -- So does a call that returns what it gives.
+  pub answers_decode : {X : Type 0} {value : X → V} {meaning : X → M} (bytes : List ℕ) (r : Result X Error)
+      → ((x : X) → meaning_of (value x) ≡ meaning x) → AreBytes bytes → Answers value r (whole old bytes)
+      → Decodes (Spells valid printed means) bytes (ok_of meaning r)
+  answers_decode bytes (Ok x) is are was =
+      subst (Decodes (Spells valid printed means) bytes)
+      (ap (λ r. option_map meaning_of (value_in r)) was ∙ ap Some (is x)) (old_decodes bytes are)
+  answers_decode bytes (Err e) is are was =
       subst (Decodes (Spells valid printed means) bytes) (ap (λ r. option_map meaning_of (value_in r)) was)
       (old_decodes bytes are)
 

@@ -56,10 +56,21 @@ pub record ReadsFrontAlike {S V M : Type 0} (at : FrontReading S) (means : S →
     (meaning_of : V → M) : Type 0 where
   pub same : (i : List ℕ) → front_made means at i ≡ front_made meaning_of other i
 
+-- A value has octets exactly if its spelling is valid, and then both are the same.
+pub record WritesAlike (Has : Type 0) (octets : List ℕ) (Valid : Type 0) (printed : List ℕ) : Type 0 where
+  pub there : Has → Valid
+  pub back : Valid → Has
+  pub same : Has → octets ≡ printed
+
 -- What was read, without the kind of a fault.
 abbrev pub value_in : {V : Type 0} → Result V ErrorKind → Option V
 value_in (Ok v) = Some v
 value_in (Err k) = None
+
+-- What a call returned, by what it means; nothing for an error.
+abbrev pub ok_of : {X M E : Type 0} → (X → M) → Result X E → Option M
+ok_of meaning (Ok x) = Some (meaning x)
+ok_of meaning (Err e) = None
 
 -- The contents of an INTEGER, and the number with these contents.
 abbrev pub number_contents : ℕ → List ℕ

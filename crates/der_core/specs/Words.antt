@@ -21,7 +21,7 @@ pub use Rattle.der_core.specs.Optional.{HasOptional, IsNext, Optional, OptionalR
 pub use Rattle.der_core.specs.Parts.{AllocatesInFront, AllocatesInParts, HaveParts, IsToldApart, LastContents, NoParts}
 pub use Rattle.der_core.specs.Parts.{PartsContents, written_parts}
 pub use Rattle.der_core.specs.Printed.{PrintsOne, ReadsAlike, ReadsFrontAlike, ReadsFrontPrinted, ReadsPrinted, Spells}
-pub use Rattle.der_core.specs.Printed.{WritesShortest, number_contents, number_of, row, value_in}
+pub use Rattle.der_core.specs.Printed.{WritesAlike, WritesShortest, number_contents, number_of, ok_of, row, value_in}
 pub use Rattle.der_core.specs.Reading.{AllocatesForItems, AllocatesIn, AllocatesLast, FaultOrMemory, HoldsBytes, NoneIn}
 pub use Rattle.der_core.specs.Reading.{ReadsAll, ReadsEncoding, ReadsFront, ReadsRow, ReadsWhole, NoValueOrMemory, Returns}
 pub use Rattle.der_core.specs.Reading.{TellsNext, TellsOfBytes}
@@ -64,6 +64,8 @@ pub use Rattle.der_core.specs.Laws.Printed.Optional.{last_by_tag_law, last_law}
 pub use Rattle.der_core.specs.Laws.Printed.Rows.{end_law, expected_law, row_law, tagged_law}
 pub use Rattle.der_core.specs.Laws.Printed.Shortest.{last_shortest, list_shortest, one_spelling, row_shortest}
 pub use Rattle.der_core.specs.Laws.Printed.Shortest.{tagged_shortest, tagged_some}
+pub use Rattle.der_core.specs.Laws.Printed.Written.{list_writes, optional_writes, row_writes, small_writes}
+pub use Rattle.der_core.specs.Laws.Printed.Written.{tagged_writes, writes_alike}
 pub use Rattle.der_core.specs.Laws.Readings.{expected_reads, last_reads, made_errs, made_reads, no_parts_read}
 pub use Rattle.der_core.specs.Laws.Readings.{parts_read}
 pub use Rattle.der_core.specs.Laws.Readings.{small_reads}

@@ -1,5 +1,5 @@
 //! Laws of comparing, copying and reading: functions that do nothing, each with a law as its contract.
-ghost use Rattle.std.specs.Prelude.{◌≡◌, ◌≤◌, ◌↔◌, ℕ, List, length, true, false, Some, None, Ok, Err};
+ghost use Rattle.std.specs.Prelude.{◌≡◌, ◌≤◌, ◌↔◌, ℕ, List, length, Result, true, false};
 ghost use Rattle.std.specs.Bool.{Decides};
 ghost use Rattle.std.specs.Option.{option_map};
 ghost use Rattle.std.specs.Ordering.{nat_cmp};
@@ -7,7 +7,8 @@ ghost use Rattle.standard.specs.Statement as standard;
 ghost use Rattle.der_core.specs.Words.{encoding_of, octets_of, LastContents, OptionalRead, Tlv};
 ghost use Rattle.der_core.specs.Words.{ReadsBy, ReadsContents, ReadsFronts, alone, last, optional, tagged};
 ghost use Rattle.der_core.specs.Words.{integer, sequence, bytes_of};
-ghost use Rattle.der_core.specs.Words.{AreBytes, Means, PrintsOne, ReadsFrontAlike, Spells, limit, value_in, whole};
+ghost use Rattle.der_core.specs.Words.{Answers, AreBytes, Means, PrintsOne, ReadsFrontAlike, Spells, limit, ok_of};
+ghost use Rattle.der_core.specs.Words.{WritesAlike, value_in, whole};
 ghost use Rattle.der_core.specs.declared.document.DocumentOf as documents;
 ghost use Rattle.der_core.specs.declared.document.Open as marks;
 ghost use Rattle.der_core.specs.declared.error.Error as errors;
@@ -92,17 +93,19 @@ pub fn lemma_optional_parts_are_read<T: Contents + FixedTag>()
 
 /// What is printed of any type is what `Encoding` says, and reading gives nothing else.
 ///
-/// `decodes`: reading a whole slice gives a meaning exactly if the bytes spell it. `given`, `refused`: so does what calls
-/// return. `one`: no encoding is that of two spellings, or a proper beginning of another. `shortest`: what is written is
-/// shorter than each other encoding of the meaning. `alike`: values have meanings, both functions read the same of them,
-/// and bytes spell a meaning exactly if the grammar has them for a value that has it.
+/// - `decodes`: reading a whole slice gives a meaning exactly if the bytes spell it.
+/// - `answers`: so does a call that returns what the function of `Encoding` gives.
+/// - `one`: no encoding is that of two spellings, or a proper beginning of another.
+/// - `shortest`: what is written is shorter than each other encoding of the meaning.
+/// - `alike`: values have meanings, and both functions read the same of them. Bytes spell a meaning exactly if the
+///   grammar has them for a value that has it.
+/// - `writes`: what is written is the same.
 pub fn lemma_spellings_are_read<T: PrintedEncoding>()
     ensures decodes { (bytes : List ℕ) → AreBytes bytes → let read = value_in (whole T.read_spelling bytes) in
         standard.Decodes (Spells T.valid T.printed T.means) bytes (option_map T.means read) }
-    ensures given { (x : T) (bytes : List ℕ) → AreBytes bytes → whole T.read_front bytes ≡ Ok (T.value x)
-        → standard.Decodes (Spells T.valid T.printed T.means) bytes (Some (T.meaning x)) }
-    ensures refused { (k : kinds.ErrorKind) (bytes : List ℕ) → AreBytes bytes → whole T.read_front bytes ≡ Err k
-        → standard.Decodes (Spells T.valid T.printed T.means) bytes None }
+    ensures answers { (bytes : List ℕ) (result : Result T errors.Error) → AreBytes bytes
+        → Answers T.value result (whole T.read_front bytes)
+        → standard.Decodes (Spells T.valid T.printed T.means) bytes (ok_of T.meaning result) }
     ensures one { PrintsOne T.valid T.printed }
     ensures shortest { (m : T.Meaning) → let encoding = T.printed (T.written m) in
         T.valid (T.written m) → length encoding ≤ limit
@@ -111,4 +114,6 @@ pub fn lemma_spellings_are_read<T: PrintedEncoding>()
         × ReadsFrontAlike T.read_spelling T.means T.read_front of
         × ((bytes : List ℕ) → AreBytes bytes → (m : T.Meaning) → Spells T.valid T.printed T.means m bytes
         ↔ ((v : T.Value) × (of v ≡ m) × Means T.encoding bytes v)) }
+    ensures writes { (x : T) → let v = T.value x in let s = T.written (T.meaning x) in
+        WritesAlike (T.has_encoding v) (T.written_encoding v) (T.valid s) (T.printed s) }
 {}

@@ -7,7 +7,7 @@ ghost use Rattle.std.specs.Prelude.{◌≡◌, ◌<◌, List, length, ℕ};
 ghost use Rattle.standard.specs.Statement as standard;
 ghost use Rattle.der_core.specs.Words.{FrontReading, ReadsAlike, ReadsFrontAlike, ReadsFrontPrinted, ReadsPrinted};
 ghost use Rattle.der_core.specs.Words.{Reading, WritesShortest, tagged, tagged_alike, tagged_law, tagged_shortest};
-ghost use Rattle.der_core.specs.Words.{tagged_some};
+ghost use Rattle.der_core.specs.Words.{WritesAlike, tagged_some, tagged_writes};
 
 mod leaves;
 mod rows;
@@ -53,7 +53,11 @@ pub trait PrintedContents: Contents {
     ghost is_meaning: { (x : Self) → meaning_of (Self.value x) ≡ meaning x };
 
     /// `Contents` reads the meanings of the same spellings, and the same faults.
-    ghost alike: { ReadsAlike read_spelling means Self.read meaning_of };
+    ghost reads_alike: { ReadsAlike read_spelling means Self.read meaning_of };
+
+    /// `Contents` writes the same of a value, and of the same values.
+    ghost writes_alike: { (x : Self) → let v = Self.value x in let s = written (meaning x) in
+        WritesAlike (Self.has_contents v) (Self.written_contents v) (valid s) (printed s) };
 }
 
 /// A type whose encodings are those that are printed.
@@ -98,7 +102,11 @@ pub trait PrintedEncoding: Encoding {
     ghost is_meaning: { (x : Self) → meaning_of (Self.value x) ≡ meaning x };
 
     /// `Encoding` reads the meanings of the same spellings, and the same faults.
-    ghost alike: { ReadsFrontAlike read_spelling means Self.read_front meaning_of };
+    ghost reads_alike: { ReadsFrontAlike read_spelling means Self.read_front meaning_of };
+
+    /// `Encoding` writes the same of a value, and of the same values.
+    ghost writes_alike: { (x : Self) → let v = Self.value x in let s = written (meaning x) in
+        WritesAlike (Self.has_encoding v) (Self.written_encoding v) (valid s) (printed s) };
 }
 
 impl<T: PrintedContents + FixedTag> PrintedEncoding for T {
@@ -128,5 +136,7 @@ impl<T: PrintedContents + FixedTag> PrintedEncoding for T {
 
     ghost is_meaning = { T.is_meaning };
 
-    ghost alike = { tagged_alike T.alike T.TAG };
+    ghost reads_alike = { tagged_alike T.reads_alike T.TAG };
+
+    ghost writes_alike = { λ x. tagged_writes (T.writes_alike x) T.TAG.octet };
 }

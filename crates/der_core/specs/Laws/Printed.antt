@@ -4,4 +4,7 @@ pub mod Rows
 pub mod Optional
 pub mod Items
 pub mod Shortest
+pub mod Steps
 pub mod Alike
+pub mod Written
+pub mod Relations

@@ -2,8 +2,9 @@
 ghost use Rattle.std.specs.Prelude.{◌<◌, List, refl, ℕ};
 ghost use Rattle.std.specs.Int.Digits.{number_from_digits};
 ghost use Rattle.der_core.specs.Readings.{octets_of_all};
-ghost use Rattle.der_core.specs.Words.{AreBytes, alike, bytes_of, expected, expected_law, number_alike, number_contents};
-ghost use Rattle.der_core.specs.Words.{number_law, number_of, octets_law, octets_of, one_spelling, own_bytes_of, small_law, small_of};
+ghost use Rattle.der_core.specs.Words.{AreBytes, alike, bytes_of, expected, expected_law, number_alike};
+ghost use Rattle.der_core.specs.Words.{number_contents, number_law, number_of, octets_law, octets_of, one_spelling};
+ghost use Rattle.der_core.specs.Words.{own_bytes_of, small_law, small_of, small_writes, writes_alike};
 
 use super::PrintedContents;
 use crate::expected::Expected;
@@ -11,6 +12,8 @@ use crate::integer::{Uint, UintRef};
 use crate::octet_string::OctetStringRef;
 
 impl PrintedContents for UintRef<'_> {
+    ghost use Rattle.der_core.specs.Laws.Printed.Written.{uint_ref_writes};
+
     ghost Meaning = { ℕ };
 
     ghost meaning = { λ n. number_from_digits 256 (bytes_of n) };
@@ -35,10 +38,14 @@ impl PrintedContents for UintRef<'_> {
 
     ghost is_meaning = { λ n. refl };
 
-    ghost alike = { number_alike };
+    ghost reads_alike = { number_alike };
+
+    ghost writes_alike = { uint_ref_writes };
 }
 
 impl PrintedContents for Uint {
+    ghost use Rattle.der_core.specs.Laws.Printed.Written.{uint_writes};
+
     ghost Meaning = { ℕ };
 
     ghost meaning = { λ n. number_from_digits 256 (own_bytes_of n) };
@@ -63,7 +70,9 @@ impl PrintedContents for Uint {
 
     ghost is_meaning = { λ n. refl };
 
-    ghost alike = { number_alike };
+    ghost reads_alike = { number_alike };
+
+    ghost writes_alike = { uint_writes };
 }
 
 impl PrintedContents for u8 {
@@ -91,7 +100,9 @@ impl PrintedContents for u8 {
 
     ghost is_meaning = { λ n. refl };
 
-    ghost alike = { alike small_of };
+    ghost reads_alike = { alike small_of };
+
+    ghost writes_alike = { small_writes };
 }
 
 impl<const N: u8> PrintedContents for Expected<N> {
@@ -119,7 +130,9 @@ impl<const N: u8> PrintedContents for Expected<N> {
 
     ghost is_meaning = { λ n. refl };
 
-    ghost alike = { alike (expected N) };
+    ghost reads_alike = { alike (expected N) };
+
+    ghost writes_alike = { λ _. small_writes N };
 }
 
 impl PrintedContents for OctetStringRef<'_> {
@@ -147,5 +160,7 @@ impl PrintedContents for OctetStringRef<'_> {
 
     ghost is_meaning = { λ o. refl };
 
-    ghost alike = { alike octets_of_all };
+    ghost reads_alike = { alike octets_of_all };
+
+    ghost writes_alike = { λ o. writes_alike (AreBytes (octets_of o)) (octets_of o) };
 }

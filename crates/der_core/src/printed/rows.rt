@@ -7,11 +7,12 @@ ghost use Rattle.der_core.specs.Laws.Printed.Alike.{both_mean, items_mean, optio
 ghost use Rattle.der_core.specs.Words.{alike, alone, alone_alike, end_law, items, items_alike, items_law, last};
 ghost use Rattle.der_core.specs.Words.{last_alike, last_by_tag_law, last_law, last_shortest, list_shortest, no_parts};
 ghost use Rattle.der_core.specs.Words.{one_spelling, optional, optional_alike, parts, row, row_alike, row_law};
-ghost use Rattle.der_core.specs.Words.{row_shortest, tagged, tagged_alike, tagged_shortest};
+ghost use Rattle.der_core.specs.Words.{list_writes, optional_writes, row_shortest, row_writes, tagged, tagged_alike};
+ghost use Rattle.der_core.specs.Words.{tagged_shortest, tagged_writes, writes_alike};
 
 use super::{PrintedContents, PrintedEncoding};
 use crate::borrowed::Borrowed;
-use crate::grammar::FixedTag;
+use crate::grammar::{Encoding, FixedTag};
 use crate::last_part::{Last, LastByTag};
 use crate::record::Record;
 
@@ -40,7 +41,9 @@ impl PrintedContents for () {
 
     ghost is_meaning = { λ _. refl };
 
-    ghost alike = { alike no_parts };
+    ghost reads_alike = { alike no_parts };
+
+    ghost writes_alike = { λ _. writes_alike (Unit {0}) [] };
 }
 
 impl<A: PrintedEncoding, B: PrintedContents> PrintedContents for (A, B) {
@@ -68,7 +71,9 @@ impl<A: PrintedEncoding, B: PrintedContents> PrintedContents for (A, B) {
 
     ghost is_meaning = { λ parts. both_mean (A.is_meaning parts.0) (B.is_meaning parts.1) };
 
-    ghost alike = { row_alike A.alike B.alike };
+    ghost reads_alike = { row_alike A.reads_alike B.reads_alike };
+
+    ghost writes_alike = { λ parts. row_writes (A.writes_alike parts.0) (B.writes_alike parts.1) };
 }
 
 impl<T: PrintedEncoding> PrintedContents for Last<T> {
@@ -96,7 +101,10 @@ impl<T: PrintedEncoding> PrintedContents for Last<T> {
 
     ghost is_meaning = { λ last. optional_means T.meaning_of T.is_meaning last.0 };
 
-    ghost alike = { last_alike T.alike };
+    ghost reads_alike = { last_alike T.reads_alike };
+
+    ghost writes_alike = { λ last. optional_writes T.value T.meaning T.written T.has_encoding T.written_encoding T.valid
+        T.printed T.writes_alike last.0 };
 }
 
 impl<T: PrintedContents + FixedTag> PrintedContents for LastByTag<T> {
@@ -124,7 +132,11 @@ impl<T: PrintedContents + FixedTag> PrintedContents for LastByTag<T> {
 
     ghost is_meaning = { λ part. optional_means T.meaning_of T.is_meaning part.0.0 };
 
-    ghost alike = { alone_alike (optional_alike (tagged_alike T.alike T.TAG) T.TAG.octet) };
+    ghost reads_alike = { alone_alike (optional_alike (tagged_alike T.reads_alike T.TAG) T.TAG.octet) };
+
+    ghost writes_alike = { λ part. optional_writes T.value T.meaning T.written T.has_contents
+        ⟦<T as Encoding>⟧.written_encoding T.valid (λ s. standard.tlv T.TAG.octet (T.printed s))
+        (λ x. tagged_writes (T.writes_alike x) T.TAG.octet) part.0.0 };
 }
 
 impl<T: PrintedEncoding> PrintedContents for Vec<T> {
@@ -152,7 +164,10 @@ impl<T: PrintedEncoding> PrintedContents for Vec<T> {
 
     ghost is_meaning = { λ v. items_mean T.meaning_of T.is_meaning v.items };
 
-    ghost alike = { items_alike T.alike };
+    ghost reads_alike = { items_alike T.reads_alike };
+
+    ghost writes_alike = { λ v. list_writes T.value T.meaning T.written T.has_encoding T.written_encoding T.valid
+        T.printed T.writes_alike v.items };
 }
 
 impl<'b, T: PrintedEncoding> PrintedEncoding for Borrowed<'b, T> {
@@ -182,7 +197,9 @@ impl<'b, T: PrintedEncoding> PrintedEncoding for Borrowed<'b, T> {
 
     ghost is_meaning = { λ b. T.is_meaning b.0.now };
 
-    ghost alike = { T.alike };
+    ghost reads_alike = { T.reads_alike };
+
+    ghost writes_alike = { λ b. T.writes_alike b.0.now };
 }
 
 impl<T: Record> PrintedContents for T
@@ -213,5 +230,7 @@ where
 
     ghost is_meaning = { λ x. T.Fields.is_meaning (T.fields x) };
 
-    ghost alike = { T.Fields.alike };
+    ghost reads_alike = { T.Fields.reads_alike };
+
+    ghost writes_alike = { λ x. T.Fields.writes_alike (T.fields x) };
 }

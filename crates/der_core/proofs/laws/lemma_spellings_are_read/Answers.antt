@@ -1,20 +1,15 @@
-use Rattle.std.proofs.Common.{sym, subst, ap, Ok, Err, ◌∙◌}
 use Rattle.der_core.specs.Laws.Printed.Rows.{meant_decodes, prints_one}
 use Rattle.der_core.specs.Laws.Printed.Shortest.{shortest_is}
-use Rattle.der_core.proofs.Spelled.{given_decodes, refused_decodes, spelled_means}
+use Rattle.der_core.proofs.Spelled.{answers_decode, spelled_means}
 use Rattle.der_core.proofs.laws.lemma_spellings_are_read.Goals as goal
 
 pub returns-clause-decodes : goal.returns-clause-decodes
 returns-clause-decodes g c = meant_decodes g.T.PrintedEncoding.law g.T.PrintedEncoding.means
 
-pub returns-clause-given : goal.returns-clause-given
-returns-clause-given g c x bytes are was =
+pub returns-clause-answers : goal.returns-clause-answers
+returns-clause-answers g c bytes r =
     let t = g.met.T.PrintedEncoding in
-    given_decodes g.T.PrintedEncoding.law t.alike bytes are (t.is_meaning x) was
-
-pub returns-clause-refused : goal.returns-clause-refused
-returns-clause-refused g c k bytes are was =
-    refused_decodes g.T.PrintedEncoding.law g.met.T.PrintedEncoding.alike bytes are was
+    answers_decode g.T.PrintedEncoding.law t.reads_alike bytes r t.is_meaning
 
 pub returns-clause-one : goal.returns-clause-one
 returns-clause-one g c = prints_one g.T.PrintedEncoding.law
@@ -25,4 +20,7 @@ returns-clause-shortest g c = shortest_is g.T.PrintedEncoding.shortest
 pub returns-clause-alike : goal.returns-clause-alike
 returns-clause-alike g c =
     let t = g.met.T.PrintedEncoding in
-    (t.meaning_of, t.is_meaning, t.alike, spelled_means g.T.PrintedEncoding.law t.alike g.T.Encoding.reads_front)
+    (t.meaning_of, t.is_meaning, t.reads_alike, spelled_means g.T.PrintedEncoding.law t.reads_alike g.T.Encoding.reads_front)
+
+pub returns-clause-writes : goal.returns-clause-writes
+returns-clause-writes g c = g.met.T.PrintedEncoding.writes_alike

@@ -9,59 +9,13 @@ use Rattle.der_core.specs.declared.error.ErrorKind.TheVariants.{Overflow}
 use Rattle.der_core.specs.declared.tag.Tag.{Tag}
 use Rattle.der_core.specs.Input.{header_at}
 use Rattle.der_core.specs.IntegerReading.{integer_of}
-use Rattle.der_core.specs.Laws.Input.{ok_pair}
-use Rattle.der_core.specs.Laws.Readings.{ok_same}
+use Rattle.der_core.specs.Laws.Printed.Steps.{behind, behind_front, both, joined, listed, meant, meant_front, paired}
+use Rattle.der_core.specs.Laws.Printed.Steps.{paired_front, present}
 use Rattle.der_core.specs.Length.{limit}
 use Rattle.der_core.specs.Printed.{ReadsAlike, ReadsFrontAlike, number_of, value_in}
-use Rattle.der_core.specs.Readings.{FrontReading, Reading, alone, chain, contents_behind, ended, front_parts, inside}
-use Rattle.der_core.specs.Readings.{is_next, items, items_within, last, made, optional, parts, such, tagged, whole}
-use Rattle.der_core.specs.Readings.{◌>>=◌}
-
--- What a step gives: a meaning, and the bytes behind it; a pair; a list.
-abbrev meant : {S M : Type 0} → (S → M) → S → Result M ErrorKind
-meant means s = Ok (means s)
-
-abbrev meant_front : {S M : Type 0} → (S → M) → S × List ℕ → Result (M × List ℕ) ErrorKind
-meant_front means p = Ok (means p.0, p.1)
-
-abbrev paired : {A B : Type 0} → A → B → Result (A × B) ErrorKind
-paired a b = Ok (a, b)
-
-abbrev both : {A B M N : Type 0} → (A → M) → (B → N) → A × B → M × N
-both f g p = (f p.0, g p.1)
-
-abbrev listed : {A : Type 0} → A → List A → Result (List A) ErrorKind
-listed a rest = Ok (a ∷ rest)
-
-abbrev present : {A : Type 0} → A × List ℕ → Result (Option A × List ℕ) ErrorKind
-present p = Ok (Some p.0, p.1)
-
--- Steps of reading, joined otherwise.
-joined : {A B C : Type 0} (r : Result A ErrorKind) (f : A → Result B ErrorKind) (g : B → Result C ErrorKind)
-    → ((r >>= f) >>= g) ≡ (r >>= λ a. f a >>= g)
-joined (Ok a) f g = refl
-joined (Err k) f g = refl
-
--- Two results that mean the same, and what follows them.
-module _ {S V M X : Type 0} (means : S → M) (meaning_of : V → M) where
-  behind : (r : Result S ErrorKind) (q : Result V ErrorKind) → (r >>= meant means) ≡ (q >>= meant meaning_of)
-      → (f : S → Result X ErrorKind) (g : V → Result X ErrorKind)
-      → ((s : S) (v : V) → means s ≡ meaning_of v → f s ≡ g v) → (r >>= f) ≡ (q >>= g)
-  behind (Ok s) (Ok v) e f g h = h s v (ok_same e)
-  behind (Ok s) (Err k) e f g h = cc
-  behind (Err j) (Ok v) e f g h = cc
-  behind (Err j) (Err k) e f g h = let same : j ≡ k = cc in ap (λ k. Err k) same
-
-  behind_front : (r : Result (S × List ℕ) ErrorKind) (q : Result (V × List ℕ) ErrorKind)
-      → (r >>= meant_front means) ≡ (q >>= meant_front meaning_of) → (f : S × List ℕ → Result X ErrorKind)
-      (g : V × List ℕ → Result X ErrorKind)
-      → ((s : S) (v : V) (rest : List ℕ) → means s ≡ meaning_of v → f (s, rest) ≡ g (v, rest))
-      → (r >>= f) ≡ (q >>= g)
-  behind_front (Ok (s, x)) (Ok (v, y)) e f g h =
-      let same = ok_pair (means s) (meaning_of v) x y e in h s v x same.0 ∙ ap (λ z. g (v, z)) same.1
-  behind_front (Ok p) (Err k) e f g h = cc
-  behind_front (Err j) (Ok p) e f g h = cc
-  behind_front (Err j) (Err k) e f g h = let same : j ≡ k = cc in ap (λ k. Err k) same
+use Rattle.der_core.specs.Readings.{FrontReading, Reading, alone, chain, contents_behind, ended}
+use Rattle.der_core.specs.Readings.{front_parts, inside, is_next, items, items_within, last, made, optional, parts}
+use Rattle.der_core.specs.Readings.{such, tagged, whole, ◌>>=◌}
 
 -- The same function, whose values mean themselves; INTEGER, of which the number is read.
 pub alike : {V : Type 0} (read : Reading V) → ReadsAlike read (λ v. v) read (λ v. v)
@@ -91,6 +45,27 @@ module _ {A B V W M N : Type 0} {at : FrontReading A} {read : Reading B} {meansA
         (λ w. paired (ofV v) (ofW w)) (λ y w f. λ i. paired (e i) (f i))
         ∙ sym (joined (read_old rest) (paired v) (meant (both ofV ofW))))
         ∙ sym (joined (at_old c) (λ p. read_old p.1 >>= paired p.0) (meant (both ofV ofW)));
+  }
+
+-- A row at the front of contents that go on behind it.
+module _ {A B V W M N : Type 0} {at : FrontReading A} {next : FrontReading B} {meansA : A → M} {meansB : B → N}
+    {at_old : FrontReading V} {next_old : FrontReading W} {ofV : V → M} {ofW : W → N}
+    (a : ReadsFrontAlike at meansA at_old ofV) (b : ReadsFrontAlike next meansB next_old ofW) where
+  pub front_row_alike : ReadsFrontAlike (front_parts at next) (λ p. let q : M × N = (meansA p.0, meansB p.1) in q)
+      (front_parts at_old next_old) (λ p. let q : M × N = (ofV p.0, ofW p.1) in q)
+  front_row_alike = record {
+    same = λ i.
+        joined (at i) (λ p. next p.1 >>= paired_front p.0) (meant_front (both meansA meansB))
+        ∙ behind_front meansA ofV (at i) (at_old i) (a.same i)
+        (λ p. (next p.1 >>= paired_front p.0) >>= meant_front (both meansA meansB))
+        (λ p. (next_old p.1 >>= paired_front p.0) >>= meant_front (both ofV ofW))
+        (λ s v rest e.
+        joined (next rest) (paired_front s) (meant_front (both meansA meansB))
+        ∙ behind_front meansB ofW (next rest) (next_old rest) (b.same rest)
+        (λ q. paired_front (meansA s) (meansB q.0, q.1)) (λ q. paired_front (ofV v) (ofW q.0, q.1))
+        (λ y w r f. λ i. paired_front (e i) (f i, r))
+        ∙ sym (joined (next_old rest) (paired_front v) (meant_front (both ofV ofW))))
+        ∙ sym (joined (at_old i) (λ p. next_old p.1 >>= paired_front p.0) (meant_front (both ofV ofW)));
   }
 
 -- Values that are made of others.
@@ -143,29 +118,6 @@ module _ {A B V W M N : Type 0} {at : FrontReading A} {read : A → Reading B} {
         ∙ behind_front meansA ofV (at c) (at_old c) (a.same c) (λ p. read p.0 p.1 >>= meant meansB)
         (λ p. read_old p.0 p.1 >>= meant ofW) (λ s v rest e. (b s v e).same rest)
         ∙ sym (joined (at_old c) (λ p. read_old p.0 p.1) (meant ofW));
-  }
-
--- A row at the front of contents that go on behind it.
-module _ {A B V W M N : Type 0} {at : FrontReading A} {next : FrontReading B} {meansA : A → M} {meansB : B → N}
-    {at_old : FrontReading V} {next_old : FrontReading W} {ofV : V → M} {ofW : W → N}
-    (a : ReadsFrontAlike at meansA at_old ofV) (b : ReadsFrontAlike next meansB next_old ofW) where
-  abbrev row_behind : {X Y : Type 0} → X → Y × List ℕ → Result ((X × Y) × List ℕ) ErrorKind
-  row_behind x q = Ok ((x, q.0), q.1)
-
-  pub front_row_alike : ReadsFrontAlike (front_parts at next) (λ p. let q : M × N = (meansA p.0, meansB p.1) in q)
-      (front_parts at_old next_old) (λ p. let q : M × N = (ofV p.0, ofW p.1) in q)
-  front_row_alike = record {
-    same = λ i.
-        joined (at i) (λ p. next p.1 >>= row_behind p.0) (meant_front (both meansA meansB))
-        ∙ behind_front meansA ofV (at i) (at_old i) (a.same i)
-        (λ p. (next p.1 >>= row_behind p.0) >>= meant_front (both meansA meansB))
-        (λ p. (next_old p.1 >>= row_behind p.0) >>= meant_front (both ofV ofW))
-        (λ s v rest e.
-        joined (next rest) (row_behind s) (meant_front (both meansA meansB))
-        ∙ behind_front meansB ofW (next rest) (next_old rest) (b.same rest) (λ q. row_behind (meansA s) (meansB q.0, q.1))
-        (λ q. row_behind (ofV v) (ofW q.0, q.1)) (λ y w end f. λ j. row_behind (e j) (f j, end))
-        ∙ sym (joined (next_old rest) (row_behind v) (meant_front (both ofV ofW))))
-        ∙ sym (joined (at_old i) (λ p. next_old p.1 >>= row_behind p.0) (meant_front (both ofV ofW)));
   }
 
 -- Contents behind a tag.

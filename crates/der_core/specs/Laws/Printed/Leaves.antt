@@ -16,7 +16,7 @@ use Rattle.der_core.specs.Length.{length_octets as der_octets}
 use Rattle.der_core.specs.Printed.{ReadsPrinted, number_contents, number_of}
 use Rattle.der_core.specs.Readings.{octets_of_all, ◌>>=◌}
 use Rattle.der_core.specs.Tlv as tlvs
-use Rattle.standard.specs.Statement.{length_octets, limit, octets, tlv}
+use Rattle.standard.specs.Statement.{integer, length_octets, limit, octets, tlv}
 
 -- The octets of a number are its canonical bytes.
 octets_zero : (n : ℕ) → n ≡ 0 → octets n ≡ 0 ∷ []
@@ -51,6 +51,10 @@ contents_is : (x c : List ℕ) (n : ℕ) → number_from_digits 256 x ≡ n → 
 contents_is x c n e p =
     let same : octets n ≡ x = ap octets (sym e) ∙ number_octets x p.0 in
     contents_at_most_one x c (integer_contents x) p (integer_relates x p.0) ∙ ap integer_contents (sym same)
+
+-- With its tag it is what the standard says.
+pub integer_is : (n : ℕ) → tlv 2 (number_contents n) ≡ integer n
+integer_is n = refl
 
 pub number_law : ReadsPrinted (λ _. Unit {0}) number_contents number_of
 number_law = record {
@@ -87,7 +91,7 @@ pub length_octets_same : (n : ℕ) → der_octets n ≡ length_octets n
 unfolding der_octets length_octets
 length_octets_same n = refl
 
-tlv_same : (t : ℕ) (c : List ℕ) → tlvs.tlv t c ≡ tlv t c
+pub tlv_same : (t : ℕ) (c : List ℕ) → tlvs.tlv t c ≡ tlv t c
 tlv_same t c = ap (λ x. t ∷ x ++ c) (length_octets_same (length c))
 
 pub tlv_is : {P : List ℕ → Type 0} (t : ℕ) (w encoding : List ℕ) → ((c : List ℕ) → P c → c ≡ w) → tlvs.Tlv t P encoding

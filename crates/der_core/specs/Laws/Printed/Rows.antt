@@ -1,6 +1,7 @@
 -- A row, a value that is made of another, a test, a tag in front, and a whole slice: each law of its parts' laws.
-use Rattle.std.proofs.Common.{ℕ, Bool, true, false, List, [], ◌++◌, ◌≡◌, ◌<◌, ◌≤◌, ◌==◌, length, refl, subst, ap, ◌∙◌}
-use Rattle.std.proofs.Common.{sym, arith, inl, inr, ⊎_elim, Result, Ok, Err, Option, Some, None, length-append, append-nil}
+use Rattle.std.proofs.Common.{ℕ, Bool, true, false, List, [], ◌++◌, ◌≡◌, ◌<◌, ◌≤◌, ◌==◌, length, refl, sym, subst}
+use Rattle.std.proofs.Common.{ap, ◌∙◌, arith, inl, inr, ⊎_elim, Result, Ok, Err, Option, Some, None, length-append}
+use Rattle.std.proofs.Common.{append-nil}
 use Rattle.std.proofs.lemmas.Bool.{cases_lt}
 use Rattle.std.proofs.lemmas.Bool.Decides.{nat_tests}
 use Rattle.std.specs.Option.{option_map}
