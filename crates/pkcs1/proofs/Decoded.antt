@@ -3,11 +3,10 @@ use Rattle.std.proofs.Common.{ℕ, List, ◌≡◌, subst}
 use Rattle.std.specs.Option.{option_map}
 use Rattle.std.specs.Prelude.{Result, Ok, Err}
 use Rattle.der_core.specs.declared.error.ErrorKind.{ErrorKind}
-use Rattle.der_core.specs.Printed.{value_in}
+use Rattle.der_core.specs.Printed.{ok_of, value_in}
 use Rattle.pkcs1_params.specs.declared.error.Error.{Error}
 use Rattle.pkcs1_params.specs.declared.error.Error.TheVariants as error
 use Rattle.pkcs1_params.specs.Meanings.{ErrsAs}
-use Rattle.pkcs1.specs.Promises.{ok_of}
 use Rattle.standard.specs.Statement.{Decodes}
 
 pub decoded : {X V W : Type 0} (Encoding : W → List ℕ → Type 0) (value : X → V) (meaning : V → W)

@@ -11,6 +11,5 @@ pub mod OtherPrimesLeft
 pub mod ViewParts
 pub mod KeyReadings
 pub mod PrintedKeys
-pub mod Promises
 pub mod Laws
 pub mod Words

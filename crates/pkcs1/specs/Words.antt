@@ -16,7 +16,6 @@ pub use Rattle.pkcs1.specs.OtherPrimesLeft.{HoldsNone, others_left}
 pub use Rattle.pkcs1.specs.PrintedKeys.{private_meaning, public_meaning}
 pub use Rattle.pkcs1.specs.PrivateKeyValue.{ListsNone, key_with, other_of, others_of, private_key_of}
 pub use Rattle.pkcs1.specs.PrivateKeyValue.{private_key_with, public_in}
-pub use Rattle.pkcs1.specs.Promises.{ok_of}
 pub use Rattle.pkcs1.specs.PublicKeyValue.{public_key_of, public_key_with, stated_key}
 pub use Rattle.pkcs1.specs.Versions.{IsVersionOf, VersionContents, number_of}
 pub use Rattle.pkcs1.specs.ViewParts.{listed_others, stated_view, view_of, viewed_encoding}

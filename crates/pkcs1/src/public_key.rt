@@ -141,7 +141,8 @@ impl<U: TryClone> RsaPublicKey<U> {
 
 impl<'a> TryFrom<&'a [u8]> for RsaPublicKey<UintRef<'a>> {
     ghost use Rattle.std.specs.Prelude.{IfOk, OnErr};
-    ghost use Rattle.pkcs1.specs.Words.{ok_of, rsa_public_key, stated_key};
+    ghost use Rattle.der_core.specs.Words.{ok_of};
+    ghost use Rattle.pkcs1.specs.Words.{rsa_public_key, stated_key};
     ghost use Rattle.standard.specs.Statement.{Decodes, PublicKeyEncoding};
     ghost use Rattle.pkcs1_params.specs.Words.{ErrsAs, IsNoSentence, IsTheMeaning};
     ghost use Rattle.pkcs1.specs.Keys as grammar;

@@ -189,7 +189,8 @@ impl<'a> RsaPrivateKeyView<'a> {
 }
 
 impl<'a> TryFrom<&'a [u8]> for RsaPrivateKeyView<'a> {
-    ghost use Rattle.pkcs1.specs.Words.{ok_of, stated_view};
+    ghost use Rattle.der_core.specs.Words.{ok_of};
+    ghost use Rattle.pkcs1.specs.Words.{stated_view};
     ghost use Rattle.standard.specs.Statement.{Decodes, PrivateKeyEncoding};
 
     type Error = Error;
