@@ -53,7 +53,7 @@ status_texts =
     ∷ codes "a length passes the limit of 4294967295 octets, or stands in more than four octets"
     ∷ codes "the length is not in shortest form: this is not DER"
     ∷ codes "the algorithm parameters are missing: rsaEncryption needs NULL, RSASSA-PSS and RSAES-OAEP a SEQUENCE"
-    ∷ codes "another tag was expected: PEM, PKCS #1, PKCS #8, SubjectPublicKeyInfo or an encrypted key, perhaps"
+    ∷ codes "another tag was expected: the input may be PEM, PKCS #1, PKCS #8, SubjectPublicKeyInfo or an encrypted key"
     ∷ codes "the tag octet is not known: this is not DER of a key or of parameters"
     ∷ codes "bytes follow the value, or a field that it does not have: a private key read as a public one, perhaps"
     ∷ codes "the value is not allowed: negative, salt over 255, another version, trailer or NULL; a public key, perhaps"

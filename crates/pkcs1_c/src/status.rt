@@ -104,7 +104,7 @@ fn status_octets(status: u32) -> &'static [u8]
         10 =>
             b"the algorithm parameters are missing: rsaEncryption needs NULL, RSASSA-PSS and RSAES-OAEP a SEQUENCE\0",
         11 =>
-            b"another tag was expected: PEM, PKCS #1, PKCS #8, SubjectPublicKeyInfo or an encrypted key, perhaps\0",
+            b"another tag was expected: the input may be PEM, PKCS #1, PKCS #8, SubjectPublicKeyInfo or an encrypted key\0",
         12 => b"the tag octet is not known: this is not DER of a key or of parameters\0",
         13 =>
             b"bytes follow the value, or a field that it does not have: a private key read as a public one, perhaps\0",
