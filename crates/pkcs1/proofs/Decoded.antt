@@ -1,13 +1,12 @@
 -- What a call returned decodes, since what the function of the bytes gives does.
-use Rattle.std.proofs.Common.{ℕ, List, subst, inl, inr}
+use Rattle.std.proofs.Common.{ℕ, List, ◌≡◌, subst}
 use Rattle.std.specs.Option.{option_map}
 use Rattle.std.specs.Prelude.{Result, Ok, Err}
 use Rattle.der_core.specs.declared.error.ErrorKind.{ErrorKind}
 use Rattle.der_core.specs.Printed.{ok_of, value_in}
 use Rattle.pkcs1_params.specs.declared.error.Error.{Error}
 use Rattle.pkcs1_params.specs.declared.error.Error.TheVariants as error
-use Rattle.pkcs1_params.specs.Meanings.{ErrsAs, ErrsOrAsks}
-use Rattle.pkcs1.specs.KeyEncodings.{DecodesOrRanOut}
+use Rattle.pkcs1_params.specs.Meanings.{ErrsAs}
 use Rattle.standard.specs.Statement.{Decodes}
 
 pub decoded : {X V W : Type 0} (Encoding : W → List ℕ → Type 0) (value : X → V) (meaning : V → W)
@@ -20,17 +19,3 @@ decoded Encoding value meaning given bytes decodes (Err (error.Asn1 a)) e =
 decoded Encoding value meaning given bytes decodes (Err error.Crypto) e = absurd e
 decoded Encoding value meaning given bytes decodes (Err error.KeyMalformed) e = absurd e
 decoded Encoding value meaning given bytes decodes (Err error.Version) e = absurd e
-
--- The same of a call that may ask for memory.
-pub decoded_or : {X V W : Type 0} (Encoding : W → List ℕ → Type 0) (value : X → V) (meaning : V → W)
-    (given : Result V ErrorKind) (bytes : List ℕ) (asked : Type 0)
-    → Decodes Encoding bytes (option_map meaning (value_in given))
-    → (r : Result X Error) → ErrsOrAsks value given asked r → DecodesOrRanOut Encoding (λ x. meaning (value x)) bytes r
-decoded_or Encoding value meaning given bytes asked decodes (Ok x) e =
-    inr (decoded Encoding value meaning given bytes decodes (Ok x) e)
-decoded_or Encoding value meaning given bytes asked decodes (Err (error.Asn1 a)) (inl w) = inl w.0
-decoded_or Encoding value meaning given bytes asked decodes (Err (error.Asn1 a)) (inr f) =
-    inr (decoded Encoding value meaning given bytes decodes (Err (error.Asn1 a)) f)
-decoded_or Encoding value meaning given bytes asked decodes (Err error.Crypto) e = absurd e
-decoded_or Encoding value meaning given bytes asked decodes (Err error.KeyMalformed) e = absurd e
-decoded_or Encoding value meaning given bytes asked decodes (Err error.Version) e = absurd e

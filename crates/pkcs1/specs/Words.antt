@@ -3,8 +3,7 @@ pub use Rattle.pkcs1.specs.Allocating.{AllocatesForKey, AllocatesInOther, Alloca
 pub use Rattle.pkcs1.specs.Allocating.{MayAllocate}
 pub use Rattle.pkcs1.specs.Allocating.{OwnedKeyAllocates, OwnedPublicKeyAllocates}
 pub use Rattle.pkcs1.specs.SharedGrammars.{SameEncodings}
-pub use Rattle.pkcs1.specs.KeyEncodings.{DecodesOrRanOut, IsDocumentError, IsOnlyEncoding, IsReadingError, IsSentence}
-pub use Rattle.pkcs1.specs.KeyEncodings.{WhyNoDocument}
+pub use Rattle.pkcs1.specs.KeyEncodings.{IsDocumentError, IsOnlyEncoding, IsReadingError, IsSentence, WhyNoDocument}
 pub use Rattle.pkcs1.specs.KeyReadings.{crt_read, kept, last_others, number, of_other_parts, of_public_parts}
 pub use Rattle.pkcs1.specs.KeyReadings.{other_read}
 pub use Rattle.pkcs1.specs.KeyReadings.{others_read, primes_read, private_key, private_key_read, public_key_read}
@@ -16,9 +15,8 @@ pub use Rattle.pkcs1.specs.Keys.{CrtContents, CrtRow, crt_parts, other_parts, pu
 pub use Rattle.pkcs1.specs.OtherPrimesLeft.{HoldsNone, others_left}
 pub use Rattle.pkcs1.specs.PrintedKeys.{private_meaning, public_meaning}
 pub use Rattle.pkcs1.specs.PrivateKeyValue.{ListsNone, key_with, other_of, others_of, private_key_of}
-pub use Rattle.pkcs1.specs.PrivateKeyValue.{private_key_with, public_in, stated_owned_private_key}
-pub use Rattle.pkcs1.specs.PrivateKeyValue.{stated_private_key}
-pub use Rattle.pkcs1.specs.PublicKeyValue.{public_key_of, public_key_with, stated_key, stated_owned_key}
+pub use Rattle.pkcs1.specs.PrivateKeyValue.{private_key_with, public_in}
+pub use Rattle.pkcs1.specs.PublicKeyValue.{public_key_of, public_key_with, stated_key}
 pub use Rattle.pkcs1.specs.Versions.{IsVersionOf, VersionContents, number_of}
 pub use Rattle.pkcs1.specs.ViewParts.{listed_others, stated_view, view_of, viewed_encoding}
 pub use Rattle.pkcs1.specs.Writing.{HasCrt, HasOther, HasOthers, HasPrivateKey, HasPublicKey, other_numbers}

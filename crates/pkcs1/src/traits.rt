@@ -5,8 +5,7 @@ ghost use Rattle.der_core.specs.Words.{FileFault, FileGives, FileRefuses, FileTa
 ghost use Rattle.der_core.specs.Words.{FaultOrMemory, IsFile, sequence, bytes_of, own_bytes_of};
 ghost use Rattle.pkcs1.specs.Words.{OwnedKeyAllocates, OwnedPublicKeyAllocates, rsa_private_key, rsa_public_key};
 ghost use Rattle.pkcs1.specs.Words.{IsDocumentError, IsOnlyEncoding, IsReadingError, private_key_with, ListsNone};
-ghost use Rattle.pkcs1.specs.Words.{DecodesOrRanOut, public_key_with, stated_owned_key};
-ghost use Rattle.standard.specs.Statement.{PublicKeyEncoding};
+ghost use Rattle.pkcs1.specs.Words.{public_key_with};
 ghost use Rattle.pkcs1.specs.Keys as grammar;
 ghost use Rattle.pkcs1_params.specs.Words.{ErrsOrAsks, IsTheMeaning, IsAsn1};
 ghost use Rattle.pkcs1_params.specs.declared.error.Error.{Error};
@@ -177,7 +176,6 @@ impl DecodeRsaPublicKey for RsaPublicKey<Uint> {
         ensures err { IfErr result (IsReadingError grammar.RsaPublicKey bytes.now (OwnedPublicKeyAllocates bytes.now)) }
         ensures exact { let asked = OwnedPublicKeyAllocates bytes.now in
             ErrsOrAsks (public_key_with own_bytes_of) (rsa_public_key bytes.now) asked result }
-        ensures decodes { DecodesOrRanOut PublicKeyEncoding stated_owned_key bytes.now result }
     {
         Ok(RsaPublicKey::from_der(alloc, bytes)?)
     }

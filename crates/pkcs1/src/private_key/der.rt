@@ -83,8 +83,7 @@ impl<U> RsaPrivateKey<U> {
 }
 
 impl<'a> RsaPrivateKey<UintRef<'a>> {
-    ghost use Rattle.pkcs1.specs.Words.{DecodesOrRanOut, MayAllocate, private_key_of, stated_private_key};
-    ghost use Rattle.standard.specs.Statement as standard;
+    ghost use Rattle.pkcs1.specs.Words.{MayAllocate, private_key_of};
 
     /// Decodes a whole slice, as `from_der` does; the contract is stated over the grammar of private keys. Returns
     /// `OutOfMemory` only if a SEQUENCE that begins with an OtherPrimeInfo follows the eighth number.
@@ -92,7 +91,6 @@ impl<'a> RsaPrivateKey<UintRef<'a>> {
         ensures ok { IfOk result (λ key. IsTheMeaning grammar.RsaPrivateKey bytes.now (private_key_of key)) }
         ensures err { IfErr result (IsReadingError grammar.RsaPrivateKey bytes.now (MayAllocate bytes.now)) }
         ensures exact { ErrsOrAsks private_key_of (rsa_private_key bytes.now) (MayAllocate bytes.now) result }
-        ensures read { DecodesOrRanOut standard.PrivateKeyEncoding stated_private_key bytes.now result }
         ensures two_primes { (key : PrivateKey (List ℕ))
             → key.other_prime_infos ≡ None → Means grammar.RsaPrivateKey bytes.now key → IsOk result }
     {
@@ -118,8 +116,7 @@ impl<'a> RsaPrivateKey<UintRef<'a>> {
 
 impl RsaPrivateKey<Uint> {
     ghost use Rattle.der_core.specs.Words.{own_bytes_of};
-    ghost use Rattle.pkcs1.specs.Words.{DecodesOrRanOut, OwnedKeyAllocates, stated_owned_private_key};
-    ghost use Rattle.standard.specs.Statement as standard;
+    ghost use Rattle.pkcs1.specs.Words.{OwnedKeyAllocates};
 
     /// Decodes a whole slice, as `decode_key` of `RsaPrivateKeyRef` does. Returns `OutOfMemory` only if the SEQUENCE
     /// begins with a version and a number.
@@ -129,7 +126,6 @@ impl RsaPrivateKey<Uint> {
         ensures err { IfErr result (IsReadingError grammar.RsaPrivateKey bytes.now (OwnedKeyAllocates bytes.now)) }
         ensures exact { let asked = OwnedKeyAllocates bytes.now in
             ErrsOrAsks (private_key_with own_bytes_of) (rsa_private_key bytes.now) asked result }
-        ensures read { DecodesOrRanOut standard.PrivateKeyEncoding stated_owned_private_key bytes.now result }
     {
         Ok(RsaPrivateKey::from_der(alloc, bytes)?) // its numbers are copies
     }
