@@ -1,5 +1,5 @@
 -- What a call returned decodes, since what the function of the bytes gives does.
-use Rattle.std.proofs.Common.{ℕ, List, ◌≡◌, subst}
+use Rattle.std.proofs.Common.{ℕ, List, subst}
 use Rattle.std.specs.Option.{option_map}
 use Rattle.std.specs.Prelude.{Result, Ok, Err}
 use Rattle.der_core.specs.declared.error.ErrorKind.{ErrorKind}

@@ -1,5 +1,5 @@
 -- Keys whose numbers mean others; and what the keys of this crate mean in the words of the statement.
-use Rattle.std.specs.Prelude.{ℕ, List, [], ◌∷◌, ◌++◌, map, Option}
+use Rattle.std.specs.Prelude.{ℕ, List, [], ◌∷◌, ◌++◌, map}
 use Rattle.std.specs.Int.Digits.{number_from_digits}
 use Rattle.std.specs.Option.{option_map}
 use Rattle.std.specs.List.{concat}

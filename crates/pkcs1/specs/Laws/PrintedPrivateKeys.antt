@@ -1,36 +1,27 @@
 -- Private keys over numbers: their function reads what the statement prints of them, and nothing else.
-use Rattle.std.proofs.Common.{ℕ, true, false, List, [], ◌∷◌, ◌++◌, ◌≡◌, ◌<◌, ◌≤◌, ◌==◌, length, refl, sym, subst, ap, map}
-use Rattle.std.proofs.Common.{◌∙◌, arith, ⊎_elim, Bool, Option, Some, None, Result, Ok, Err}
+use Rattle.std.proofs.Common.{ℕ, true, false, List, [], ◌∷◌, ◌≡◌, ◌<◌, ◌==◌, length, refl, sym, subst, ap}
+use Rattle.std.proofs.Common.{◌∙◌, arith, ⊎_elim, Option, Some, None, Result, Ok, Err}
 use Rattle.std.proofs.lemmas.Bool.Decides.{nat_tests}
-use Rattle.std.specs.Int.Digits.{number_from_digits}
-use Rattle.std.specs.List.{AllByRecursion, concat}
-use Rattle.std.specs.Option.{option_map}
-use Rattle.std.specs.Prelude.{if◌then◌else◌, nat_lt}
+use Rattle.std.specs.List.{AllByRecursion}
+use Rattle.std.specs.Prelude.{nat_lt}
 use Rattle.der_core.specs.declared.error.ErrorKind.{ErrorKind}
-use Rattle.der_core.specs.declared.error.ErrorKind.TheVariants.{Value}
-use Rattle.der_core.specs.Encodings.{AreBytes}
 use Rattle.der_core.specs.Laws.LengthReading.{chosen}
-use Rattle.der_core.specs.Laws.Printed.Alike.{chain_alike, front_alike, front_row_alike, made_alike, number_alike}
-use Rattle.der_core.specs.Laws.Printed.Alike.{items_alike, optional_alike, row_alike, tagged_alike, values_alike}
-use Rattle.der_core.specs.Laws.Printed.Alike.{alike, whole_alike}
 use Rattle.der_core.specs.Laws.Printed.Items.{items_law}
-use Rattle.der_core.specs.Laws.Printed.Leaves.{number_law, small_law}
+use Rattle.der_core.specs.Laws.Printed.Leaves.{small_law}
 use Rattle.der_core.specs.Laws.Printed.Optional.{agreed_law, chain_law, front_end_law, front_row_law}
-use Rattle.der_core.specs.Laws.Printed.Rows.{decodes_as, end_law, made_law, row_law, such_law, tagged_law, whole_decodes}
+use Rattle.der_core.specs.Laws.Printed.Rows.{end_law, made_law, row_law, such_law, tagged_law}
 use Rattle.der_core.specs.Laws.Readings.{bind_ok, ended_is, ended_tells, made_tells, ok_same}
 use Rattle.der_core.specs.Laws.Tells.{is_value}
-use Rattle.der_core.specs.Length.{limit}
-use Rattle.der_core.specs.Printed.{ReadsAlike, ReadsFrontAlike, ReadsFrontPrinted, ReadsPrinted, number_of, value_in}
+use Rattle.der_core.specs.Printed.{ReadsFrontPrinted, ReadsPrinted}
 use Rattle.der_core.specs.Reading.{TellsOfBytes}
-use Rattle.der_core.specs.Readings.{FrontReading, Reading, ended, front_done, made, no_parts, tagged, whole, ◌>>=◌}
+use Rattle.der_core.specs.Readings.{ended, made, tagged, ◌>>=◌}
 use Rattle.der_core.specs.Tags as tags
-use Rattle.pkcs1.specs.KeyReadings.{agreed, front_read, key_from, lists_none, number, of_other_parts, of_public_parts}
-use Rattle.pkcs1.specs.KeyReadings.{other_read, others_read, primes_read, private_key_read, public_key_read}
-use Rattle.pkcs1.specs.KeyReadings.{rsa_private_key, rsa_public_key, version_read}
-use Rattle.pkcs1.specs.Keys.{Eight, OtherPrime, PrivateKey, PublicKey, front_parts, other_parts, public_parts, version_of}
-use Rattle.pkcs1.specs.PrintedKeys.{other_as, other_from, other_printed, other_stated, others_printed, private_as}
-use Rattle.pkcs1.specs.PrintedKeys.{private_from, private_meaning, private_printed, private_stated, public_as}
-use Rattle.pkcs1.specs.PrintedKeys.{public_from, public_meaning, public_stated}
+use Rattle.pkcs1.specs.KeyReadings.{agreed, front_read, key_from, lists_none, of_other_parts}
+use Rattle.pkcs1.specs.KeyReadings.{other_read, others_read, primes_read, private_key_read}
+use Rattle.pkcs1.specs.KeyReadings.{version_read}
+use Rattle.pkcs1.specs.Keys.{Eight, OtherPrime, PrivateKey, front_parts, other_parts, version_of}
+use Rattle.pkcs1.specs.PrintedKeys.{other_printed, others_printed}
+use Rattle.pkcs1.specs.PrintedKeys.{private_printed}
 use Rattle.standard.specs.Statement as standard
 use Rattle.standard.specs.Statement.{Decodes, IfPresent, PrivateKeyEncoding, PublicKeyEncoding, integers, optional}
 use Rattle.standard.specs.Statement.{sequence}
