@@ -1,6 +1,6 @@
 //! Values as rows show them: numbers and contents in hexadecimal digits, `-` if absent.
 use crate::told::Told;
-use der_core::{AsUintRef, Borrowed, OctetStringRef, Uint, UintRef};
+use der_core::{AsUintRef, Borrowed, OctetStringRef, Uint, UintEncoding, UintRef};
 use pkcs1::{
     OaepParamsOf, OtherPrimeInfo, OtherPrimes, PssParamsOf, RsaPrivateKey, RsaPrivateKeyView,
     RsaPublicKey, TrailerField, Version,
@@ -135,7 +135,7 @@ fn numbers_shown(to: &mut Told, version: Version, numbers: [UintRef<'_>; 8]) {
     to.text(" others=");
 }
 
-impl<U: AsUintRef> Shown for RsaPrivateKey<U> {
+impl<U: UintEncoding> Shown for RsaPrivateKey<U> {
     fn shown(&self, to: &mut Told) {
         let public = self.public_key();
         let numbers = [
