@@ -1,7 +1,7 @@
 #!/usr/bin/env python3
 """What ffi/rust/generated is made of.
 
-    sources.py libraries CRATE      the crates that crates.txt names for this one, in a line
+    sources.py libraries CRATE      the crates that crates.txt names for this one, and those below them, in a line
     sources.py hash                 the hash of the sources, and of what makes the files
 
 The build of the toolchain isn't in the hash, but named beside it. Comments, contracts, ghosts and tests make no code
@@ -67,7 +67,9 @@ def sources_hash():
 def main():
     os.chdir(f"{os.path.dirname(os.path.realpath(__file__))}/../..")
     if sys.argv[1] == "libraries":
-        print(*crates()[sys.argv[2]][1])
+        known = crates()
+        named = known[sys.argv[2]][1]
+        print(*named, *sorted(below(sys.argv[2], known) - {sys.argv[2], *named}))
     else:
         print(sources_hash())
 
