@@ -24509,8 +24509,8 @@ pkcs1_c_pss_params_encode:
 	.type	.Lstatic.13,@object
 	.section	.rodata..Lstatic.13,"a",@progbits
 .Lstatic.13:
-	.asciz	"another tag was expected: PEM, PKCS #1, PKCS #8, SubjectPublicKeyInfo or an encrypted key, perhaps"
-	.size	.Lstatic.13, 99
+	.asciz	"another tag was expected: the input may be PEM, PKCS #1, PKCS #8, SubjectPublicKeyInfo or an encrypted key"
+	.size	.Lstatic.13, 107
 
 	.type	.Lstatic.14,@object
 	.section	.rodata..Lstatic.14,"a",@progbits
@@ -24628,7 +24628,7 @@ pkcs1_c_pss_params_encode:
 	.xword	83
 	.xword	52
 	.xword	101
-	.xword	99
+	.xword	107
 	.xword	70
 	.xword	102
 	.xword	107

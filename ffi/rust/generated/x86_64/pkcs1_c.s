@@ -26539,8 +26539,8 @@ pkcs1_c_pss_params_encode:
 
 	.type	.Lstatic.13,@object
 .Lstatic.13:
-	.asciz	"another tag was expected: PEM, PKCS #1, PKCS #8, SubjectPublicKeyInfo or an encrypted key, perhaps"
-	.size	.Lstatic.13, 99
+	.asciz	"another tag was expected: the input may be PEM, PKCS #1, PKCS #8, SubjectPublicKeyInfo or an encrypted key"
+	.size	.Lstatic.13, 107
 
 	.type	.Lstatic.14,@object
 .Lstatic.14:
@@ -26650,7 +26650,7 @@ pkcs1_c_pss_params_encode:
 	.quad	83
 	.quad	52
 	.quad	101
-	.quad	99
+	.quad	107
 	.quad	70
 	.quad	102
 	.quad	107
