@@ -1,19 +1,24 @@
--- Bytes that are a document, and bytes that aren't.
-use Rattle.std.proofs.Common.{[], ◌∷◌, ap, length, refl, arith}
-use Rattle.der_core.specs.Encodings.{AreBytes}
-use Rattle.der_core.specs.Document.{IsDocument}
-use Rattle.der_core.proofs.WorkedLengths.{known_tlv, known_front, no_bytes_rejected, other_tag_rejected}
+-- Bytes that are a document, and bytes that aren't, with the kind of the fault.
+use Rattle.std.proofs.Common.{ℕ, List, [], ◌∷◌, ◌≡◌, map, refl, Ok, Err}
+use Rattle.der_core.specs.Input.{header_at, length_at}
+use Rattle.der_core.specs.Readings.{read_document}
+use Rattle.der_core.specs.Tags.{null, sequence}
+use Rattle.der_core.specs.declared.error.ErrorKind.{ErrorKind}
+use Rattle.der_core.specs.declared.error.ErrorKind.TheVariants.{Incomplete, TagUnexpected, TrailingData}
 
-empty_sequence : IsDocument (48 ∷ 0 ∷ [])
-empty_sequence = (omega arith, known_tlv 48 {P = AreBytes} [] tt (omega arith))
+-- 3000, 30020500
+documents : map read_document ((0x30 ∷ 0x00 ∷ []) ∷ (0x30 ∷ 0x02 ∷ 0x05 ∷ 0x00 ∷ []) ∷ []) ≡ Ok tt ∷ Ok tt ∷ []
+unfolding header_at length_at
+documents = refl
 
-other_tag : IsDocument (5 ∷ 0 ∷ []) → ⊥
-other_tag d = other_tag_rejected 5 (0 ∷ []) (λ e. cc) d.1
+-- 0500, 300000, and no bytes
+abbrev faults : List (List ℕ × ErrorKind)
+faults =
+    (0x05 ∷ 0x00 ∷ [], TagUnexpected sequence null)
+    ∷ (0x30 ∷ 0x00 ∷ 0x00 ∷ [], TrailingData)
+    ∷ ([], Incomplete)
+    ∷ []
 
-trailing_byte : IsDocument (48 ∷ 0 ∷ 0 ∷ []) → ⊥
-trailing_byte d =
-    let front =
-    known_front {u = 48} [] (0 ∷ []) (48 ∷ 0 ∷ 0 ∷ []) [] d.1 refl (omega arith) in omega (arith, ap length front.2)
-
-no_bytes : IsDocument [] → ⊥
-no_bytes d = no_bytes_rejected d.1
+are_faults : map (λ row. read_document row.0) faults ≡ map (λ row. Err row.1) faults
+unfolding header_at length_at
+are_faults = refl

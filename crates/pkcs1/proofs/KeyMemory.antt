@@ -1,6 +1,17 @@
 -- Which encodings of keys need memory: none of two primes, where its numbers need none; and what borrowed and owned
 -- numbers make of it.
-use Rattle.std.proofs.Common.{ℕ, List, [], ◌∷◌, ◌++◌, ◌≡◌, length, sym, ap, ◌∙◌, arith, append_assoc}
+use Rattle.std.proofs.Common.{ℕ, List, [], ◌∷◌, ◌++◌, ◌≡◌, length, map, sym, ap, ◌∙◌, arith, append_assoc}
+use Rattle.std.specs.Int.Digits.{number_from_digits}
+use Rattle.std.specs.Option.{option_map}
+use Rattle.der_core.specs.Encodings.{AreBytes}
+use Rattle.der_core.specs.Laws.Integer.{integer_delimited}
+use Rattle.pkcs1.specs.KeyReadings.{rsa_private_key}
+use Rattle.pkcs1.specs.Keys.{RsaPrivateKey}
+use Rattle.pkcs1.specs.Laws.StatedPrivateKeys.{private_decodes}
+use Rattle.pkcs1.specs.PrintedKeys.{other_as, other_stated, private_meaning}
+use Rattle.pkcs1.proofs.Decoded.{read_of}
+use Rattle.pkcs1.proofs.KeyReadings.{rsa_private_key_reads}
+use Rattle.standard.specs.Statement as standard
 use Rattle.std.proofs.Common.{length-append, inl, inr, ⊎_elim, Option, Some, None}
 use Rattle.std.specs.Prelude.{refl}
 use Rattle.der_core.specs.Tlv.{Tlv}
@@ -84,6 +95,22 @@ module _ {V : Type 0} {encoding : V → List ℕ → Type 0} (d : IsDelimited en
       ((v : PrivateKey V) → Means (λ v. Tlv 48 (PrivateKeyContents encoding v)) whole v → ⊥) → ⊥
   two_primes_rejected may_allocate none whole kind means (inl w) = two_primes_ask may_allocate none whole means.1 w.1
   two_primes_rejected may_allocate none whole kind means (inr w) = w.1 key means
+
+-- A borrowed key of two primes, in the words of `Statement.antt`.
+pub two_primes_read : (key : standard.PrivateKey) → key.other_primes ≡ None → (bytes : List ℕ) → AreBytes bytes
+    → standard.PrivateKeyEncoding key bytes → (may_allocate : List ℕ → Type 0) → ((b : List ℕ) → may_allocate b → ⊥)
+    → (kind : ErrorKind) → NoValueOrMemory kind (AllocatesIn (Tlv 48 (AllocatesForKey Integer may_allocate)) bytes)
+    ((v : PrivateKey (List ℕ)) → Means RsaPrivateKey bytes v → ⊥) → ⊥
+two_primes_read key two bytes are encoded may none kind =
+    let found = read_of standard.PrivateKeyEncoding private_meaning rsa_private_key bytes (private_decodes bytes are) key encoded in
+    two_primes_rejected integer_delimited found.0
+    (none_of found.0.other_prime_infos (ap (λ (k : standard.PrivateKey). k.other_primes) found.2 ∙ two)) may none bytes
+    kind (rsa_private_key_reads.gives bytes found.0 are found.1)
+  where
+    none_of : (o : Option (List (OtherPrime (List ℕ))))
+        → option_map (map other_stated) (option_map (map (other_as (number_from_digits 256))) o) ≡ None → o ≡ None
+    none_of None e = refl
+    none_of (Some others) e = cc
 
 -- What the bytes that need memory begin with, told otherwise.
 module _ {Asks Needs : List ℕ → Type 0} (told : (c : List ℕ) → Asks c → Needs c) where

@@ -1,25 +1,19 @@
 -- What a private key in memory holds: canonical numbers within the limit, and fewer primes than memory has bytes.
 use Rattle.std.proofs.Common.{ℕ, List, [], ◌∷◌, map, arith, Option, Some, None}
 use Rattle.std.proofs.lemmas.List.{length-map}
-use Rattle.std.specs.Prelude.{Result, Ok, Err, IfErr}
 use Rattle.std.specs.declared.alloc.Global.{Global}
 use Rattle.std.specs.declared.vec.Vec.{Vec}
-use Rattle.der_core.specs.Document.{HasEncoding, WhyNotWritten}
+use Rattle.der_core.specs.Document.{HasEncoding}
 use Rattle.der_core.specs.Integer.{IsCanonical}
 use Rattle.der_core.specs.Laws.Integer.{holds_canonical}
 use Rattle.der_core.specs.SequenceOf.{AllHave}
 use Rattle.der_core.specs.UintRefValue.{bytes_of}
 use Rattle.der_core.specs.UintValue.{own_bytes_of}
-use Rattle.der_core.specs.Writing.{encode_error}
 use Rattle.der_core.specs.declared.integer.owned.Uint.{Uint}
 use Rattle.der_core.specs.declared.integer.uint.UintRef.{UintRef}
-use Rattle.der_core.proofs.NotWritten.{rejected_by}
-use Rattle.pkcs1_params.specs.declared.error.Error.{Error}
-use Rattle.pkcs1_params.specs.declared.error.Error.TheVariants as error
 use Rattle.pkcs1.specs.declared.private_key.other_prime_info.OtherPrimeInfo.{OtherPrimeInfo}
 use Rattle.pkcs1.specs.Keys.{PrivateKey, RsaPrivateKey}
 use Rattle.pkcs1.specs.PrivateKeyValue.{Listed, other_of, others_of, private_key_with}
-use Rattle.pkcs1_params.specs.Errors.{IsAsn1}
 use Rattle.pkcs1.specs.Writing.{HasOthers, HasPrivateKey, other_numbers, key_numbers}
 use Rattle.pkcs1.proofs.PrivateKeys.{IsHeld, AreHeld, private_made}
 
@@ -66,19 +60,3 @@ module _ {U : Type 0} (number : U → List ℕ) (held : (u : U) → IsHeld (numb
       → HasEncoding RsaPrivateKey (private_key_with number key)
   others_held_encoding key others =
       private_made (private_key_with number key) (numbers_held key) (others_held key.other_prime_infos others)
-
-  pub held_has_encoding : (key : Listed U) → HasPrivateKey IsCanonical (private_key_with number key)
-      → HasEncoding RsaPrivateKey (private_key_with number key)
-  held_has_encoding key has = others_held_encoding key (others_have IsCanonical (private_key_with number key) has)
-
-  pub rejected_held : (key : Listed U) (room : ℕ) (result : Result ℕ Error)
-      → IfErr result (IsAsn1 (λ e. WhyNotWritten (HasPrivateKey IsCanonical (private_key_with number key)) RsaPrivateKey
-      (private_key_with number key) room (encode_error e.kind)))
-      → IfErr result (IsAsn1 (λ e. WhyNotWritten (HasEncoding RsaPrivateKey (private_key_with number key)) RsaPrivateKey
-      (private_key_with number key) room (encode_error e.kind)))
-  rejected_held key room (Ok n) h = tt
-  rejected_held key room (Err (error.Asn1 e)) h =
-      rejected_by RsaPrivateKey (private_key_with number key) _ room (held_has_encoding key) (encode_error e.kind) h
-  rejected_held key room (Err error.Crypto) h = h
-  rejected_held key room (Err error.KeyMalformed) h = h
-  rejected_held key room (Err error.Version) h = h

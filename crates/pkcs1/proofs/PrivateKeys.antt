@@ -5,26 +5,23 @@ use Rattle.std.proofs.Common.{arith, length-append, Option, Some, None, inl, inr
 use Rattle.der_core.specs.Length.{limit}
 use Rattle.der_core.specs.Tlv.{Tlv}
 use Rattle.der_core.specs.Encodings.{Then, Joins, IsDelimited, AtMostOne}
-use Rattle.der_core.specs.Document.{Excludes, IsShortest}
+use Rattle.der_core.specs.Document.{Excludes}
 use Rattle.der_core.specs.Integer.{Integer, IsCanonical, IntegerContents, Small, SmallContents, integer_contents}
 use Rattle.der_core.specs.Laws.Integer.{integer_delimited, integer_relates, small_at_most_one}
 use Rattle.der_core.proofs.IntegerLaws.{integer_at_most_one}
 use Rattle.der_core.proofs.IntegerLengths.{length_small, length_large}
 use Rattle.std.proofs.lemmas.Bool.{cases_lt}
-use Rattle.std.specs.Prelude.{slice_index, take, Result, Ok, Err, IfOk}
+use Rattle.std.specs.Prelude.{slice_index}
 use Rattle.der_core.specs.Laws.SmallNumbers.{small_relates}
 use Rattle.der_core.specs.SequenceOf.{AllHave}
 use Rattle.der_core.specs.Laws.Encodings.{tlv_split, tlv_delimited, tlv_not_empty, tlv_at_most_one, joins_at_most_one}
 use Rattle.der_core.specs.Laws.Encodings.{last_holds, then_holds}
 use Rattle.der_core.proofs.Encodings.{tlv_made, tlv_little_longer, map_at_most_one}
-use Rattle.pkcs1_params.specs.declared.error.Error.{Error}
-use Rattle.pkcs1.specs.KeyEncodings.{IsOnlyEncoding}
 use Rattle.pkcs1.specs.Keys.{RsaPublicKey, OtherPrime, OtherPrimeContents, OtherPrimeInfo, OtherPrimeInfos, version_of}
 use Rattle.pkcs1.specs.Keys.{PrivateKey, PrivateKeyContents, RsaPrivateKey}
 use Rattle.pkcs1.specs.Writing.{other_numbers, key_numbers}
 use Rattle.pkcs1.specs.Laws.PrivateKey.{version_small, private_means_one}
 use Rattle.pkcs1.proofs.PrivateKey.{joins_put}
-use Rattle.pkcs1.proofs.KeyEncodings.{only_encoding}
 
 pub private_delimited : IsDelimited RsaPrivateKey
 private_delimited = tlv_delimited 48 (PrivateKeyContents Integer) (private_means_one integer_delimited)
@@ -78,13 +75,6 @@ private_at_most_one key = tlv_at_most_one 48 _ (joins_at_most_one
         ),
       ),
     ))
-
-pub private_only : (key : PrivateKey (List ℕ)) (result : Result ℕ Error) (out : List ℕ)
-    → IfOk result (λ n. IsShortest RsaPrivateKey key (take n out))
-    → IfOk result (λ n. IsOnlyEncoding RsaPrivateKey key (take n out))
-private_only key (Ok n) out h =
-    only_encoding RsaPrivateKey private_delimited key (private_at_most_one key) (take n out) h
-private_only key (Err e) out h = tt
 
 -- Two encodings with one tag, at the front of the same bytes, leave the same rest.
 rest_same : {t : ℕ} {P Q Ps Qs : List ℕ → Type 0} (c : List ℕ) → Then (Tlv t P) Ps c → Then (Tlv t Q) Qs c

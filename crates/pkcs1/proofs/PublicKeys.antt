@@ -7,11 +7,8 @@ use Rattle.der_core.specs.Laws.Encodings.{tlv_delimited, tlv_at_most_one, joins_
 use Rattle.der_core.proofs.Encodings.{tlv_made}
 use Rattle.der_core.specs.Laws.Integer.{integer_delimited}
 use Rattle.der_core.proofs.IntegerLaws.{integer_at_most_one, integer_made}
-use Rattle.der_core.specs.Document.{IsShortest}
-use Rattle.pkcs1.specs.KeyEncodings.{IsOnlyEncoding}
 use Rattle.pkcs1.specs.Keys.{PublicKey, PublicKeyContents, RsaPublicKey}
 use Rattle.pkcs1.specs.Laws.PublicKey.{public_key_means_one}
-use Rattle.pkcs1.proofs.KeyEncodings.{only_encoding}
 
 pub public_delimited : IsDelimited RsaPublicKey
 public_delimited = tlv_delimited 48 (PublicKeyContents Integer) (public_key_means_one Integer integer_delimited)
@@ -20,10 +17,6 @@ pub public_at_most_one : (key : PublicKey (List ℕ)) → AtMostOne (RsaPublicKe
 public_at_most_one key =
     tlv_at_most_one 48 _ (joins_at_most_one (Integer key.modulus ∷ Integer key.public_exponent ∷ [])
     (integer_at_most_one key.modulus, (integer_at_most_one key.public_exponent, tt)))
-
-pub public_only : (key : PublicKey (List ℕ)) (encoding : List ℕ) → IsShortest RsaPublicKey key encoding
-    → IsOnlyEncoding RsaPublicKey key encoding
-public_only key encoding = only_encoding RsaPublicKey public_delimited key (public_at_most_one key) encoding
 
 pub public_made : (key : PublicKey (List ℕ)) → IsCanonical key.modulus → IsCanonical key.public_exponent
     → length key.modulus ≤ limit → length key.public_exponent ≤ limit

@@ -1,6 +1,7 @@
 -- Keys as functions of the bytes (RFC 8017 A.1.1, A.1.2): the key, or the kind of the first fault.
 use Rattle.std.specs.Prelude.{ℕ, Bool, true, false, List, [], ◌∷◌, ◌==◌, nat_lt, not, if◌then◌else◌, Option, Some, None}
-use Rattle.std.specs.Prelude.{Err}
+use Rattle.std.specs.Prelude.{Result, Ok, Err}
+use Rattle.der_core.specs.declared.error.ErrorKind.{ErrorKind}
 use Rattle.der_core.specs.declared.error.ErrorKind.TheVariants.{Value}
 use Rattle.der_core.specs.IntegerReading.{integer_of, small_of}
 use Rattle.der_core.specs.Readings.{FrontReading, Reading, alone, chain, ended, front_done, front_parts, items, made}
@@ -84,6 +85,11 @@ private_key at = whole (tagged sequence (private_key_read at))
 
 abbrev pub rsa_private_key : Reading (PrivateKey (List ℕ))
 rsa_private_key = private_key number
+
+-- The kind of the first fault, or none.
+abbrev pub fault_in : {V : Type 0} → Result V ErrorKind → Option ErrorKind
+fault_in (Ok v) = None
+fault_in (Err k) = Some k
 
 -- The bytes themselves, where the function reads them.
 abbrev pub kept : {V : Type 0} → Reading V → Reading (List ℕ)

@@ -10,6 +10,7 @@ pub mod OtherPrimesHeld
 pub mod OtherPrimesLeft
 pub mod ViewParts
 pub mod KeyReadings
+pub mod Held
 pub mod PrintedKeys
 pub mod Laws
 pub mod Words

@@ -3,8 +3,11 @@ pub use Rattle.pkcs1.specs.Allocating.{AllocatesForKey, AllocatesInOther, Alloca
 pub use Rattle.pkcs1.specs.Allocating.{MayAllocate}
 pub use Rattle.pkcs1.specs.Allocating.{OwnedKeyAllocates, OwnedPublicKeyAllocates}
 pub use Rattle.pkcs1.specs.SharedGrammars.{SameEncodings}
-pub use Rattle.pkcs1.specs.KeyEncodings.{IsDocumentError, IsOnlyEncoding, IsReadingError, IsSentence, WhyNoDocument}
-pub use Rattle.pkcs1.specs.KeyReadings.{crt_read, kept, last_others, number, of_other_parts, of_public_parts}
+pub use Rattle.pkcs1.specs.Held.{IsPrivateKey, held_other_prime, held_other_primes, held_private_key, held_public_key}
+pub use Rattle.pkcs1.specs.Held.{held_view}
+pub use Rattle.pkcs1.specs.KeyEncodings.{IsEncoded, IsSentence, Refuses, Rejects, WhyNoDocument, Withholds}
+pub use Rattle.pkcs1.specs.KeyReadings.{crt_read, fault_in, kept, last_others, number, of_other_parts}
+pub use Rattle.pkcs1.specs.KeyReadings.{of_public_parts}
 pub use Rattle.pkcs1.specs.KeyReadings.{other_read}
 pub use Rattle.pkcs1.specs.KeyReadings.{others_read, primes_read, private_key, private_key_read, public_key_read}
 pub use Rattle.pkcs1.specs.KeyReadings.{rsa_private_key, rsa_public_key, version_read}
@@ -16,9 +19,9 @@ pub use Rattle.pkcs1.specs.OtherPrimesLeft.{HoldsNone, others_left}
 pub use Rattle.pkcs1.specs.PrintedKeys.{private_meaning, public_meaning}
 pub use Rattle.pkcs1.specs.PrivateKeyValue.{ListsNone, key_with, other_of, others_of, private_key_of}
 pub use Rattle.pkcs1.specs.PrivateKeyValue.{private_key_with, public_in}
-pub use Rattle.pkcs1.specs.PublicKeyValue.{public_key_of, public_key_with, stated_key}
+pub use Rattle.pkcs1.specs.PublicKeyValue.{public_key_of, public_key_with}
 pub use Rattle.pkcs1.specs.Versions.{IsVersionOf, VersionContents, number_of}
-pub use Rattle.pkcs1.specs.ViewParts.{listed_others, stated_view, view_of, viewed_encoding}
+pub use Rattle.pkcs1.specs.ViewParts.{listed_others, view_of, viewed_encoding}
 pub use Rattle.pkcs1.specs.Writing.{HasCrt, HasOther, HasOthers, HasPrivateKey, HasPublicKey, other_numbers}
 pub use Rattle.pkcs1.specs.Writing.{written_other}
 pub use Rattle.pkcs1.specs.Writing.{written_crt, written_others, written_private_key, written_public_key}

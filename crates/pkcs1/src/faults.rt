@@ -1,7 +1,6 @@
 //! Why bytes encode no key: the error of reading, as a function of the bytes alone.
-ghost use Rattle.pkcs1.specs.Words.{rsa_private_key, rsa_public_key};
-ghost use Rattle.pkcs1.specs.Keys as grammar;
-ghost use Rattle.pkcs1_params.specs.Words.{TellsFault};
+ghost use Rattle.std.specs.Prelude.{◌≡◌};
+ghost use Rattle.pkcs1.specs.Words.{fault_in, rsa_private_key, rsa_public_key};
 
 use crate::public_key::RsaPublicKeyRef;
 use crate::view::RsaPrivateKeyView;
@@ -11,7 +10,7 @@ use pkcs1_params::Error;
 /// The kind of the first fault of bytes that don't encode a public key, or `None` if they do. There is exactly one
 /// result for each slice, as reading allocates nothing.
 pub fn fault_of_public_key(bytes: &[u8]) -> Option<ErrorKind>
-    ensures { TellsFault grammar.RsaPublicKey rsa_public_key bytes.now result }
+    ensures { result ≡ fault_in (rsa_public_key bytes.now) }
 {
     match RsaPublicKeyRef::try_from(bytes) {
         Ok(_) => None,
@@ -23,7 +22,7 @@ pub fn fault_of_public_key(bytes: &[u8]) -> Option<ErrorKind>
 /// The kind of the first fault of bytes that don't encode a private key, or `None` if they do. There is exactly one
 /// result for each slice, as reading allocates nothing.
 pub fn fault_of_private_key(bytes: &[u8]) -> Option<ErrorKind>
-    ensures { TellsFault grammar.RsaPrivateKey rsa_private_key bytes.now result }
+    ensures { result ≡ fault_in (rsa_private_key bytes.now) }
 {
     match RsaPrivateKeyView::try_from(bytes) {
         Ok(_) => None,

@@ -1,11 +1,10 @@
 //! Laws of the grammars of keys and parameters: functions that do nothing, each with a law as its contract.
 ghost use Rattle.std.specs.Prelude.{◌≡◌, ℕ, List, true, false};
-ghost use Rattle.pkcs1.specs.Words.{SameEncodings, PublicKey, PrivateKey, others_left, public_key_of, view_of};
+ghost use Rattle.pkcs1.specs.Words.{SameEncodings, others_left, public_key_of, view_of};
 ghost use Rattle.pkcs1.specs.Words.{rsa_private_key, rsa_public_key};
-ghost use Rattle.der_core.specs.Words.{AtMostOne, IsDelimited, Means, MeansOne, Excludes, ReadsContents};
-ghost use Rattle.der_core.specs.Words.{AreBytes, SameByShortest, value_in};
+ghost use Rattle.der_core.specs.Words.{AreBytes, IsDelimited, Means, MeansOne, Excludes, ReadsContents, value_in};
 ghost use Rattle.pkcs1.specs.Words.{private_meaning, public_meaning};
-ghost use Rattle.standard.specs.Statement.{Decodes, PrivateKeyEncoding, PublicKeyEncoding};
+ghost use Rattle.standard.specs.Statement.{AtMostOne, Decodes, PrivateKeyEncoding, PublicKeyEncoding, SameByShortest};
 ghost use Rattle.std.specs.Option.{option_map};
 ghost use Rattle.pkcs1.specs.Keys as keys;
 ghost use Rattle.pkcs1_params.specs.Parameters as parameters;
@@ -62,8 +61,8 @@ pub fn lemma_keys_decode()
 
 /// A key has at most one encoding.
 pub fn lemma_keys_have_one_encoding()
-    ensures public { (key : PublicKey (List ℕ)) → AtMostOne (keys.RsaPublicKey key) }
-    ensures private { (key : PrivateKey (List ℕ)) → AtMostOne (keys.RsaPrivateKey key) }
+    ensures public { AtMostOne PublicKeyEncoding }
+    ensures private { AtMostOne PrivateKeyEncoding }
 {}
 
 /// No bytes encode both a public and a private key, or both a key and parameters.
@@ -77,8 +76,8 @@ pub fn lemma_types_exclude_each_other()
 
 /// Two encodings of keys mean the same key exactly if the shortest encodings of what they mean are the same bytes.
 pub fn lemma_same_keys_have_the_same_encoding()
-    ensures public { SameByShortest keys.RsaPublicKey }
-    ensures private { SameByShortest keys.RsaPrivateKey }
+    ensures public { SameByShortest PublicKeyEncoding }
+    ensures private { SameByShortest PrivateKeyEncoding }
 {}
 
 /// The borrowed and the owned form of a type share its grammar: so a clause of `Decode` or `Encode` at one of these

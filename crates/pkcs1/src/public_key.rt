@@ -140,31 +140,27 @@ impl<U: TryClone> RsaPublicKey<U> {
 }
 
 impl<'a> TryFrom<&'a [u8]> for RsaPublicKey<UintRef<'a>> {
-    ghost use Rattle.std.specs.Prelude.{IfOk, OnErr};
-    ghost use Rattle.der_core.specs.Words.{ok_of};
-    ghost use Rattle.pkcs1.specs.Words.{rsa_public_key, stated_key};
+    ghost use Rattle.der_core.specs.Words.{bytes_of, ok_of};
+    ghost use Rattle.pkcs1.specs.Words.{held_public_key, rsa_public_key};
+    ghost use Rattle.pkcs1_params.specs.Words.{ErrsAs};
     ghost use Rattle.standard.specs.Statement.{Decodes, PublicKeyEncoding};
-    ghost use Rattle.pkcs1_params.specs.Words.{ErrsAs, IsNoSentence, IsTheMeaning};
-    ghost use Rattle.pkcs1.specs.Keys as grammar;
 
     type Error = Error;
 
     /// Decodes a whole slice, and allocates nothing.
     fn try_from(bytes: &'a [u8]) -> Result<RsaPublicKey<UintRef<'a>>>
-        ensures ok { IfOk result (λ key. IsTheMeaning grammar.RsaPublicKey bytes.now (public_key_of key)) }
-        ensures err { OnErr result (IsNoSentence grammar.RsaPublicKey bytes.now) }
-        ensures exact { ErrsAs public_key_of (rsa_public_key bytes.now) result }
-        ensures read { Decodes PublicKeyEncoding bytes.now (ok_of stated_key result) }
+        ensures read { Decodes PublicKeyEncoding bytes.now (ok_of (held_public_key bytes_of) result) }
+        ensures exact { ErrsAs (public_key_with bytes_of) (rsa_public_key bytes.now) result }
     {
         Ok(RsaPublicKey::from_der(NoMemory, bytes)?)
     }
 }
 
 impl<U: UintEncoding> RsaPublicKey<U> {
-    ghost use Rattle.std.specs.Prelude.{◌≡◌, ◌≤◌, length, take, drop, IfOk, IfErr, OnErr};
-    ghost use Rattle.pkcs1.specs.Words.{IsOnlyEncoding};
-    ghost use Rattle.pkcs1_params.specs.Words.{IsWritingError};
-    ghost use Rattle.pkcs1.specs.Keys as grammar;
+    ghost use Rattle.std.specs.Prelude.{◌≡◌, ⊤, length, IfErr};
+    ghost use Rattle.der_core.specs.Words.{ok_of};
+    ghost use Rattle.pkcs1.specs.Words.{Refuses, held_public_key};
+    ghost use Rattle.standard.specs.Statement.{Encodes, PublicKeyEncoding};
 
     /// The same key, borrowed.
     pub(crate) fn as_key_ref(&self) -> RsaPublicKey<UintRef<'_>>
@@ -176,16 +172,13 @@ impl<U: UintEncoding> RsaPublicKey<U> {
         }
     }
 
-    /// Writes the key's only encoding to the front of a slice and returns its length, as `encode_into` does; the
-    /// contract is stated over the grammar of public keys. Returns `Overflow` if the encoding is longer than
-    /// `Length::MAX`, `NoRoom` if it is longer than the slice.
+    /// Writes the key's only encoding to the front of a slice and returns its length, as `encode_into` does. Returns
+    /// `Overflow` if the encoding is longer than `Length::MAX`, `NoRoom` if it is longer than the slice.
     pub fn encode_key(&self, out: &mut [u8]) -> Result<usize>
-        ensures encoding { let key = public_key_with U.number self.now in
-            IfOk result (λ n. IsOnlyEncoding grammar.RsaPublicKey key (take n out.new)) }
-        ensures rest { IfOk result (λ n. (n ≤ length out.new) × (drop n out.new ≡ drop n out.old)) }
-        ensures unchanged { OnErr result (out.new ≡ out.old) }
-        ensures err { let key = public_key_with U.number self.now in
-            IfErr result (IsWritingError grammar.RsaPublicKey key (length out.old)) }
+        ensures written { let key = held_public_key U.number self.now in
+            Encodes PublicKeyEncoding key out.old out.new (ok_of (λ n. n) result) }
+        ensures err { let key = held_public_key U.number self.now in
+            IfErr result (Refuses (λ _. ⊤) PublicKeyEncoding key (length out.old)) }
     {
         Ok(self.as_key_ref().encode_into(out)?)
     }

@@ -1,10 +1,10 @@
 //! Keys that are decoded and encoded again.
 ghost use Rattle.std.specs.Prelude.{◌≡◌, ◌⊎◌, IfOk, IfErr};
 ghost use Rattle.pkcs1.specs.Words.{OwnedKeyAllocates, OwnedPublicKeyAllocates, kept, rsa_private_key, rsa_public_key};
-ghost use Rattle.pkcs1.specs.Words.{IsSentence, IsReadingError};
+ghost use Rattle.pkcs1.specs.Words.{IsEncoded, Rejects};
 ghost use Rattle.pkcs1_params.specs.Words.{ErrsOrAsks};
 ghost use Rattle.der_core.specs.Words.{encoding_of};
-ghost use Rattle.pkcs1.specs.Keys as grammar;
+ghost use Rattle.standard.specs.Statement.{PrivateKeyEncoding, PublicKeyEncoding};
 
 use crate::private_key::RsaPrivateKeyOwned;
 use crate::public_key::RsaPublicKeyOwned;
@@ -19,10 +19,10 @@ use std::alloc::Global;
 /// `from_pkcs1_der`, and `OutOfMemory` for the document.
 pub fn reencode_public_key(alloc: Global, bytes: &[u8]) -> Result<Document>
     ensures same { IfOk result (λ document. encoding_of document ≡ bytes.now) }
-    ensures sentence { IfOk result (λ document. IsSentence grammar.RsaPublicKey bytes.now) }
-    ensures err { IfErr result (IsReadingError grammar.RsaPublicKey bytes.now
-        (OwnedPublicKeyAllocates bytes.now ⊎ IsSentence grammar.RsaPublicKey bytes.now)) }
-    ensures exact { let asked = OwnedPublicKeyAllocates bytes.now ⊎ IsSentence grammar.RsaPublicKey bytes.now in
+    ensures sentence { IfOk result (λ document. IsEncoded PublicKeyEncoding bytes.now) }
+    ensures err { IfErr result (Rejects PublicKeyEncoding bytes.now
+        (OwnedPublicKeyAllocates bytes.now ⊎ IsEncoded PublicKeyEncoding bytes.now)) }
+    ensures exact { let asked = OwnedPublicKeyAllocates bytes.now ⊎ IsEncoded PublicKeyEncoding bytes.now in
         ErrsOrAsks encoding_of (kept rsa_public_key bytes.now) asked result }
 {
     RsaPublicKeyOwned::from_pkcs1_der(alloc, bytes)?.to_pkcs1_der(alloc)
@@ -32,10 +32,10 @@ pub fn reencode_public_key(alloc: Global, bytes: &[u8]) -> Result<Document>
 /// `from_pkcs1_der`, and `OutOfMemory` for the document.
 pub fn reencode_private_key(alloc: Global, bytes: &[u8]) -> Result<SecretDocument>
     ensures same { IfOk result (λ document. encoding_of document ≡ bytes.now) }
-    ensures sentence { IfOk result (λ document. IsSentence grammar.RsaPrivateKey bytes.now) }
-    ensures err { IfErr result (IsReadingError grammar.RsaPrivateKey bytes.now
-        (OwnedKeyAllocates bytes.now ⊎ IsSentence grammar.RsaPrivateKey bytes.now)) }
-    ensures exact { let asked = OwnedKeyAllocates bytes.now ⊎ IsSentence grammar.RsaPrivateKey bytes.now in
+    ensures sentence { IfOk result (λ document. IsEncoded PrivateKeyEncoding bytes.now) }
+    ensures err { IfErr result (Rejects PrivateKeyEncoding bytes.now
+        (OwnedKeyAllocates bytes.now ⊎ IsEncoded PrivateKeyEncoding bytes.now)) }
+    ensures exact { let asked = OwnedKeyAllocates bytes.now ⊎ IsEncoded PrivateKeyEncoding bytes.now in
         ErrsOrAsks encoding_of (kept rsa_private_key bytes.now) asked result }
 {
     RsaPrivateKeyOwned::from_pkcs1_der(alloc, bytes)?.to_pkcs1_der(alloc)

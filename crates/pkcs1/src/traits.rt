@@ -1,13 +1,13 @@
 //! Traits for keys of any type: PKCS #1 encodings decoded and written, in memory and in files.
-ghost use Rattle.std.specs.Prelude.{◌≡◌, ◌⊎◌, List, ℕ, Err, IfOk, IfErr, OnOk, IsErrAnd};
+ghost use Rattle.std.specs.Prelude.{◌≡◌, ◌⊎◌, ⊤, List, ℕ, Err, IfOk, IfErr, OnOk, IsErrAnd, Some};
 ghost use Rattle.std.specs.Path.{path_bytes};
-ghost use Rattle.der_core.specs.Words.{FileFault, FileGives, FileRefuses, FileTakes, IsDocument, Means, encoding_of};
+ghost use Rattle.der_core.specs.Words.{FileFault, FileGives, FileRefuses, FileTakes, IsDocument, encoding_of};
 ghost use Rattle.der_core.specs.Words.{FaultOrMemory, IsFile, sequence, bytes_of, own_bytes_of};
 ghost use Rattle.pkcs1.specs.Words.{OwnedKeyAllocates, OwnedPublicKeyAllocates, rsa_private_key, rsa_public_key};
-ghost use Rattle.pkcs1.specs.Words.{IsDocumentError, IsOnlyEncoding, IsReadingError, private_key_with, ListsNone};
-ghost use Rattle.pkcs1.specs.Words.{public_key_with};
-ghost use Rattle.pkcs1.specs.Keys as grammar;
-ghost use Rattle.pkcs1_params.specs.Words.{ErrsOrAsks, IsTheMeaning, IsAsn1};
+ghost use Rattle.pkcs1.specs.Words.{IsPrivateKey, ListsNone, Rejects, Withholds, held_private_key, held_public_key};
+ghost use Rattle.pkcs1.specs.Words.{private_key_with, public_key_with};
+ghost use Rattle.pkcs1_params.specs.Words.{ErrsOrAsks, IsAsn1};
+ghost use Rattle.standard.specs.Statement.{Decodes, IsShortest, PrivateKeyEncoding, PublicKeyEncoding};
 ghost use Rattle.pkcs1_params.specs.declared.error.Error.{Error};
 
 use crate::private_key::RsaPrivateKey;
@@ -148,15 +148,15 @@ pub trait EncodeRsaPublicKey {
 }
 
 impl DecodeRsaPrivateKey for RsaPrivateKey<Uint> {
-    ghost stands_for = { λ key bytes. Means grammar.RsaPrivateKey bytes (private_key_with own_bytes_of key) };
+    ghost stands_for = { λ key. PrivateKeyEncoding (held_private_key own_bytes_of key) };
 
     ghost rejected_by = { λ bytes e. let asked = OwnedKeyAllocates bytes in
         IsAsn1 (λ asn1. FaultOrMemory asn1.kind asked (rsa_private_key bytes ≡ Err asn1.kind)) e };
 
     fn from_pkcs1_der(alloc: Global, bytes: &[u8]) -> Result<RsaPrivateKey<Uint>>
-        ensures ok { let is_meaning = IsTheMeaning grammar.RsaPrivateKey bytes.now in
-            IfOk result (λ key. is_meaning (private_key_with own_bytes_of key)) }
-        ensures err { IfErr result (IsReadingError grammar.RsaPrivateKey bytes.now (OwnedKeyAllocates bytes.now)) }
+        ensures ok { let held = held_private_key own_bytes_of in
+            IfOk result (λ key. Decodes PrivateKeyEncoding bytes.now (Some (held key))) }
+        ensures err { IfErr result (Rejects PrivateKeyEncoding bytes.now (OwnedKeyAllocates bytes.now)) }
         ensures exact { let asked = OwnedKeyAllocates bytes.now in
             ErrsOrAsks (private_key_with own_bytes_of) (rsa_private_key bytes.now) asked result }
     {
@@ -165,15 +165,15 @@ impl DecodeRsaPrivateKey for RsaPrivateKey<Uint> {
 }
 
 impl DecodeRsaPublicKey for RsaPublicKey<Uint> {
-    ghost stands_for = { λ key bytes. Means grammar.RsaPublicKey bytes (public_key_with own_bytes_of key) };
+    ghost stands_for = { λ key. PublicKeyEncoding (held_public_key own_bytes_of key) };
 
     ghost rejected_by = { λ bytes e. let asked = OwnedPublicKeyAllocates bytes in
         IsAsn1 (λ asn1. FaultOrMemory asn1.kind asked (rsa_public_key bytes ≡ Err asn1.kind)) e };
 
     fn from_pkcs1_der(alloc: Global, bytes: &[u8]) -> Result<RsaPublicKey<Uint>>
-        ensures ok { let is_meaning = IsTheMeaning grammar.RsaPublicKey bytes.now in
-            IfOk result (λ key. is_meaning (public_key_with own_bytes_of key)) }
-        ensures err { IfErr result (IsReadingError grammar.RsaPublicKey bytes.now (OwnedPublicKeyAllocates bytes.now)) }
+        ensures ok { let held = held_public_key own_bytes_of in
+            IfOk result (λ key. Decodes PublicKeyEncoding bytes.now (Some (held key))) }
+        ensures err { IfErr result (Rejects PublicKeyEncoding bytes.now (OwnedPublicKeyAllocates bytes.now)) }
         ensures exact { let asked = OwnedPublicKeyAllocates bytes.now in
             ErrsOrAsks (public_key_with own_bytes_of) (rsa_public_key bytes.now) asked result }
     {
@@ -182,14 +182,14 @@ impl DecodeRsaPublicKey for RsaPublicKey<Uint> {
 }
 
 impl<'a> EncodeRsaPrivateKey for RsaPrivateKey<UintRef<'a>> {
-    ghost written_as = { λ key bytes. IsOnlyEncoding grammar.RsaPrivateKey (private_key_with bytes_of key) bytes };
+    ghost written_as = { λ key. IsShortest PrivateKeyEncoding (held_private_key bytes_of key) };
 
-    ghost unwritten_by = { λ key. IsDocumentError grammar.RsaPrivateKey (private_key_with bytes_of key) };
+    ghost unwritten_by = { λ key. Withholds IsPrivateKey PrivateKeyEncoding (held_private_key bytes_of key) };
 
     fn to_pkcs1_der(&self, alloc: Global) -> Result<SecretDocument>
-        ensures encoding { IfOk result (λ document.
-            IsOnlyEncoding grammar.RsaPrivateKey (private_key_with bytes_of self.now) (encoding_of document)) }
-        ensures err { IfErr result (IsDocumentError grammar.RsaPrivateKey (private_key_with bytes_of self.now)) }
+        ensures encoding { let key = held_private_key bytes_of self.now in
+            IfOk result (λ document. IsShortest PrivateKeyEncoding key (encoding_of document)) }
+        ensures err { IfErr result (Withholds IsPrivateKey PrivateKeyEncoding (held_private_key bytes_of self.now)) }
         ensures no_primes { ListsNone self.now.other_prime_infos
             → IsErrAnd result (IsAsn1 (λ e. e.kind ≡ ErrorKind.Value sequence)) }
     {
@@ -198,14 +198,15 @@ impl<'a> EncodeRsaPrivateKey for RsaPrivateKey<UintRef<'a>> {
 }
 
 impl EncodeRsaPrivateKey for RsaPrivateKey<Uint> {
-    ghost written_as = { λ key bytes. IsOnlyEncoding grammar.RsaPrivateKey (private_key_with own_bytes_of key) bytes };
+    ghost written_as = { λ key. IsShortest PrivateKeyEncoding (held_private_key own_bytes_of key) };
 
-    ghost unwritten_by = { λ key. IsDocumentError grammar.RsaPrivateKey (private_key_with own_bytes_of key) };
+    ghost unwritten_by = { λ key. Withholds IsPrivateKey PrivateKeyEncoding (held_private_key own_bytes_of key) };
 
     fn to_pkcs1_der(&self, alloc: Global) -> Result<SecretDocument>
-        ensures encoding { IfOk result (λ document.
-            IsOnlyEncoding grammar.RsaPrivateKey (private_key_with own_bytes_of self.now) (encoding_of document)) }
-        ensures err { IfErr result (IsDocumentError grammar.RsaPrivateKey (private_key_with own_bytes_of self.now)) }
+        ensures encoding { let key = held_private_key own_bytes_of self.now in
+            IfOk result (λ document. IsShortest PrivateKeyEncoding key (encoding_of document)) }
+        ensures err { let key = held_private_key own_bytes_of self.now in
+            IfErr result (Withholds IsPrivateKey PrivateKeyEncoding key) }
         ensures no_primes { ListsNone self.now.other_prime_infos
             → IsErrAnd result (IsAsn1 (λ e. e.kind ≡ ErrorKind.Value sequence)) }
     {
@@ -214,14 +215,15 @@ impl EncodeRsaPrivateKey for RsaPrivateKey<Uint> {
 }
 
 impl<U: UintEncoding> EncodeRsaPublicKey for RsaPublicKey<U> {
-    ghost written_as = { λ key bytes. IsOnlyEncoding grammar.RsaPublicKey (public_key_with U.number key) bytes };
+    ghost written_as = { λ key. IsShortest PublicKeyEncoding (held_public_key U.number key) };
 
-    ghost unwritten_by = { λ key. IsDocumentError grammar.RsaPublicKey (public_key_with U.number key) };
+    ghost unwritten_by = { λ key. Withholds (λ _. ⊤) PublicKeyEncoding (held_public_key U.number key) };
 
     fn to_pkcs1_der(&self, alloc: Global) -> Result<Document>
-        ensures encoding { IfOk result (λ document.
-            IsOnlyEncoding grammar.RsaPublicKey (public_key_with U.number self.now) (encoding_of document)) }
-        ensures err { IfErr result (IsDocumentError grammar.RsaPublicKey (public_key_with U.number self.now)) }
+        ensures encoding { let key = held_public_key U.number self.now in
+            IfOk result (λ document. IsShortest PublicKeyEncoding key (encoding_of document)) }
+        ensures err { let key = held_public_key U.number self.now in
+            IfErr result (Withholds (λ _. ⊤) PublicKeyEncoding key) }
     {
         Ok(Document::encode_msg(alloc, &self.as_key_ref())?)
     }

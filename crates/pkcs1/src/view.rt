@@ -1,5 +1,5 @@
 //! RSA private keys over the input, without a list of their other primes.
-ghost use Rattle.std.specs.Prelude.{◌≡◌, ℕ, List, IsTrue, IsSome, IfOk, OnErr, ◌↔◌, refl};
+ghost use Rattle.std.specs.Prelude.{◌≡◌, ℕ, List, IsTrue, IsSome, IfOk, ◌↔◌, refl};
 ghost use Rattle.std.specs.Option.{option_map};
 ghost use Rattle.der_core.specs.Words.{integer_tag, Integer, IntegerContents, IsCanonical, integer_contents};
 ghost use Rattle.der_core.specs.Words.{integer_delimited, ReadsWhole, tlv, bytes_of};
@@ -7,8 +7,6 @@ ghost use Rattle.pkcs1.specs.Words.{number, others_read, private_integers_read, 
 ghost use Rattle.pkcs1.specs.Words.{PrivateKey, PrivateKeyContents, public_part, others_left, HoldsNone};
 ghost use Rattle.pkcs1.specs.Words.{private_means_one, keys_are_bytes, key_with, number_of, public_key_of, view_of};
 ghost use Rattle.pkcs1.specs.Words.{viewed_encoding, listed_others, HasPrivateKey, written_private_key};
-ghost use Rattle.pkcs1.specs.Keys as grammar;
-ghost use Rattle.pkcs1_params.specs.Words.{ErrsAs, IsNoSentence, IsTheMeaning};
 
 use crate::key_numbers::{KeyFront, key_of};
 use crate::other_primes::OtherPrimes;
@@ -190,7 +188,8 @@ impl<'a> RsaPrivateKeyView<'a> {
 
 impl<'a> TryFrom<&'a [u8]> for RsaPrivateKeyView<'a> {
     ghost use Rattle.der_core.specs.Words.{ok_of};
-    ghost use Rattle.pkcs1.specs.Words.{stated_view};
+    ghost use Rattle.pkcs1.specs.Words.{held_view};
+    ghost use Rattle.pkcs1_params.specs.Words.{ErrsAs};
     ghost use Rattle.standard.specs.Statement.{Decodes, PrivateKeyEncoding};
 
     type Error = Error;
@@ -198,11 +197,9 @@ impl<'a> TryFrom<&'a [u8]> for RsaPrivateKeyView<'a> {
     /// Decodes a whole slice, and allocates nothing, however many primes there are. The errors are those of
     /// `RsaPrivateKeyRef::from_der`, except `OutOfMemory`, in `Error::Asn1`.
     fn try_from(bytes: &'a [u8]) -> crate::Result<RsaPrivateKeyView<'a>>
-        ensures ok { IfOk result (λ view. IsTheMeaning grammar.RsaPrivateKey bytes.now (view_of view)) }
-        ensures bytes { IfOk result (λ view. viewed_encoding view ≡ bytes.now) }
-        ensures err { OnErr result (IsNoSentence grammar.RsaPrivateKey bytes.now) }
+        ensures read { Decodes PrivateKeyEncoding bytes.now (ok_of held_view result) }
         ensures exact { ErrsAs view_of (rsa_private_key bytes.now) result }
-        ensures read { Decodes PrivateKeyEncoding bytes.now (ok_of stated_view result) }
+        ensures bytes { IfOk result (λ view. viewed_encoding view ≡ bytes.now) }
     {
         let key = ViewedKey::from_der(NoMemory, bytes)?;
         Ok(RsaPrivateKeyView { bytes, key })

@@ -1,14 +1,14 @@
 pub mod AlgorithmWrites
 pub mod Containers
 pub mod Fits
-pub mod Given
 pub mod GivenKeys
+pub mod HeldKeys
 pub mod HeldParameters
+pub mod KeyWrites
 pub mod Lists
 pub mod NotWritten
 pub mod StatedCalls
 pub mod StatedContainers
-pub mod StatedKeys
 pub mod StatedParameters
 pub mod StatedHashes
 pub mod StructErrors

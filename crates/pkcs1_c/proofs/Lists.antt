@@ -2,10 +2,8 @@
 use Rattle.std.proofs.Common.{ℕ, List, [], ◌∷◌, ◌++◌, ◌≡◌, ◌+◌, ◌<◌, length, append_assoc, map, take, drop, get_or, sym}
 use Rattle.std.proofs.Common.{ap, ◌∙◌, arith}
 use Rattle.std.specs.Prelude.{set}
-use Rattle.std.proofs.lemmas.List.{drop-set-lt, drop-drop, map-set, take_more_set, take-map, map_more, length-map}
+use Rattle.std.proofs.lemmas.List.{drop-set-lt, drop-drop, map-set, take_more_set, map_more, length-map}
 use Rattle.std.proofs.lemmas.List.{map-append}
-use Rattle.pkcs1.specs.Keys.{OtherPrime}
-use Rattle.pkcs1_c.specs.Numbers.{IsOtherOf, AreOthersOf}
 
 -- One more is placed.
 pub place_step : {X Y : Type 0} (f : X → Y) (xs : List X) (i : ℕ) (v : X) (y : Y) (rest rest' all : List Y)
@@ -23,19 +21,9 @@ pub rest_step : {X : Type 0} (xs old : List X) (i : ℕ) (v : X) → drop i xs �
 rest_step xs old i v e =
     drop-set-lt (i + 1) xs i v (omega arith) ∙ sym (drop-drop 1 i xs) ∙ ap (drop 1) e ∙ drop-drop 1 i old
 
-others_more : (gs ns : List (OtherPrime (List ℕ))) (g n : OtherPrime (List ℕ)) → AreOthersOf gs ns → IsOtherOf g n
-    → AreOthersOf (gs ++ g ∷ []) (ns ++ n ∷ [])
-others_more [] [] g n p q = (q, tt)
-others_more [] (m ∷ ns) g n p q = absurd p
-others_more (h ∷ gs) [] g n p q = absurd p
-others_more (h ∷ gs) (m ∷ ns) g n p q = (p.0, others_more gs ns g n p.1 q)
-
-pub others_step : {X Z : Type 0} (f : X → OtherPrime (List ℕ)) (g : Z → OtherPrime (List ℕ)) (xs : List X)
-    (zs zs' : List Z) (i : ℕ) (d : X) (z : Z) → i < length xs
-    → AreOthersOf (take i (map f xs)) (map g zs) → IsOtherOf (f (get_or xs i d)) (g z) → zs' ≡ zs ++ z ∷ []
-    → AreOthersOf (take (i + 1) (map f xs)) (map g zs')
-others_step f g xs zs zs' i d z l p q e =
-    let a : take (i + 1) (map f xs) ≡ take i (map f xs) ++ f (get_or xs i d) ∷ [] =
-    take-map f (i + 1) xs ∙ map_more f xs i d l ∙ ap (λ t. t ++ f (get_or xs i d) ∷ []) (sym (take-map f i xs)) in
-    let b : map g zs' ≡ map g zs ++ g z ∷ [] = ap (map g) e ∙ map-append g zs (z ∷ []) in
-    rw (a, b) (others_more _ _ _ _ p q)
+-- One more is made.
+pub map_step : {X Z V : Type 0} (f : X → V) (g : Z → V) (xs : List X) (zs zs' : List Z) (i : ℕ) (d : X) (z : Z)
+    → i < length xs → map g zs ≡ map f (take i xs) → g z ≡ f (get_or xs i d) → zs' ≡ zs ++ z ∷ []
+    → map g zs' ≡ map f (take (i + 1) xs)
+map_step f g xs zs zs' i d z l p q e =
+    ap (map g) e ∙ map-append g zs (z ∷ []) ∙ (λ j. p j ++ q j ∷ []) ∙ sym (map_more f xs i d l)

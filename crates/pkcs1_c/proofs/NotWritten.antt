@@ -1,5 +1,6 @@
 -- What the code of an error says.
-use Rattle.std.proofs.Common.{ℕ, zero, suc, List, ◌≡◌, ◌<◌, ◌∙◌, arith, refl, inl, inr, Result, Err}
+use Rattle.std.proofs.Common.{ℕ, zero, suc, List, ◌≡◌, ◌<◌, ◌∙◌, arith, refl, sym, subst, inl, inr, Result, Ok, Err}
+use Rattle.std.specs.Prelude.{IfErr, IsErrAnd}
 use Rattle.der_core.specs.Reading.{TellsOfBytes}
 use Rattle.der_core.specs.Document.{HasEncoding, WhyNotWritten}
 use Rattle.der_core.specs.Writing.{encode_error}
@@ -11,6 +12,17 @@ use Rattle.pkcs1_params.specs.declared.error.Error.TheVariants as error
 use Rattle.pkcs1_params.specs.Meanings.{IsWritingError}
 use Rattle.pkcs1_c.specs.Status.{kind_number, status_of, IsErrorNumber, IsStatusOf}
 use Rattle.pkcs1_c.specs.StructErrors.{EncodingError}
+
+-- What holds whatever the error is.
+pub err_all : {T E : Type 0} (P : E → Type 0) (r : Result T E) → ((e : E) → P e) → IfErr r P
+err_all P (Ok x) p = tt
+err_all P (Err e) p = p e
+
+-- What holds of an error that was handed on.
+pub err_handed : {T E : Type 0} (P : E → Type 0) (first : E) (r : Result T E) → IsErrAnd r (λ e. e ≡ first) → P first
+    → IfErr r P
+err_handed P first (Ok x) same p = absurd same
+err_handed P first (Err e) same p = subst P (sym same) p
 
 -- An error that tells of bytes has a number, below that of lack of room.
 tells_below : (e : ErrorKind) → TellsOfBytes e → (0 < kind_number e) × (kind_number e < 15)

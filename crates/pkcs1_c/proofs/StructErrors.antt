@@ -1,23 +1,24 @@
 -- Why what a program gives isn't written: one status at most, neither 0 nor that of lack of room for a part.
-use Rattle.std.proofs.Common.{ℕ, zero, suc, List, [], ◌∷◌, ◌++◌, ◌≡◌, ◌≢◌, ◌<◌, ◌≤◌, length, map, take, get_or, refl}
-use Rattle.std.proofs.Common.{sym, ap, subst, ◌∙◌, arith, Option, Some, None, inl, inr, ⊎_elim, true, false}
+use Rattle.std.proofs.Common.{ℕ, zero, suc, List, [], ◌∷◌, ◌++◌, ◌≡◌, ◌≢◌, ◌<◌, ◌≤◌, length, take, get_or, refl}
+use Rattle.std.proofs.Common.{sym, ap, ◌∙◌, arith, Option, Some, None, inl, inr, ⊎_elim, true, false}
 use Rattle.der_core.specs.Document.{IsShortest}
 use Rattle.der_core.specs.IntegerReading.{WhyNoNumber}
 use Rattle.der_core.specs.Length.{limit}
+use Rattle.der_core.specs.Laws.Printed.Leaves.{octets_canonical, octets_number}
 use Rattle.der_core.specs.SequenceOf.{AllHave}
 use Rattle.der_core.specs.declared.error.ErrorKind.{ErrorKind}
-use Rattle.pkcs1.specs.Keys.{OtherPrime}
-use Rattle.pkcs1.specs.Writing.{other_numbers}
 use Rattle.spki_core.specs.Any.{TagAndContents}
 use Rattle.spki_core.specs.AlgorithmIdentifier.{Algorithm}
 use Rattle.spki_core.specs.ObjectIdentifier.{IsIdentifier}
 use Rattle.pkcs1_params.specs.Parameters.{PssParameters, OaepParameters}
-use Rattle.pkcs1_c.specs.Numbers.{IsNumberOf}
 use Rattle.pkcs1_c.specs.Status.{kind_number}
-use Rattle.pkcs1_c.specs.StructErrors.{EncodingError, GivenError, PartThen, NumberError, NumbersError, others_numbers}
+use Rattle.pkcs1_c.specs.StructErrors.{EncodingError, PartThen, NumberError, NumbersError, Unwritten, numbers_of_primes}
 use Rattle.pkcs1_c.specs.StructErrors.{OidError, AnyError, OptionError, AlgorithmError, PlainError, MaskError}
 use Rattle.pkcs1_c.specs.StructErrors.{HashFieldsThen, PssFieldError, OaepFieldError}
+use Rattle.pkcs1_c.specs.Structs.{HaveBytes, number, numbers_of_prime}
 use Rattle.pkcs1_c.specs.Writes.{NoStatus}
+use Rattle.pkcs1_c.specs.declared.private_key.OtherPrime.{OtherPrime}
+use Rattle.standard.specs.Statement.{octets}
 
 -- There is one status at most.
 abbrev pub IsOne : (ℕ → Type 0) → Type 0
@@ -48,15 +49,13 @@ module _ {V : Type 0} (Grammar : V → List ℕ → Type 0) (v : V) (room : ℕ)
     | inr longer ↦ omega (arith, p.3, fits, longer)
   ]
 
--- Of the one value that is given.
-module _ {V : Type 0} (IsTheGiven : V → Type 0) (Grammar : V → List ℕ → Type 0)
-    (same : (v w : V) → IsTheGiven v → IsTheGiven w → v ≡ w) (room : ℕ) where
-  pub given_error : (v : V) → IsTheGiven v → (s : ℕ) → GivenError IsTheGiven Grammar room s
-      → EncodingError Grammar v room s
-  given_error v given s (w, is, p) = subst (λ w. EncodingError Grammar w room s) (same w v is given) p
-
-  pub given_one : IsOne (GivenError IsTheGiven Grammar room)
-  given_one s t p (w, is, q) = encoding_one Grammar w room s t (given_error w is s p) q
+-- The same in the words of the statement.
+pub unwritten_one : {V : Type 0} (Encoding : V → List ℕ → Type 0) (v : V) (room : ℕ)
+    → IsOne (Unwritten Encoding v room)
+unwritten_one Encoding v room s t (inl p) (inl q) = p.0 ∙ sym q.0
+unwritten_one Encoding v room s t (inl p) (inr q) = absurd (p.1 q.2.0 q.2.1.0)
+unwritten_one Encoding v room s t (inr p) (inl q) = absurd (q.1 p.2.0 p.2.1.0)
+unwritten_one Encoding v room s t (inr p) (inr q) = p.0 ∙ sym q.0
 
 -- A part that is rejected by one status, where it can't be held.
 pub unless_part : (n : ℕ) (Fits : Type 0) → 0 < n → (n ≡ 15 → ⊥) → IsPart (λ s. (s ≡ n) × (Fits → ⊥))
@@ -89,7 +88,9 @@ module _ (WhyNot Rest : ℕ → Type 0) where
 pub number_rejected : (bytes : List ℕ) (k : ErrorKind) → WhyNoNumber bytes k → NumberError bytes (kind_number k)
 number_rejected bytes k (inl p) = inl (ap kind_number p.1, p.0)
 number_rejected [] k (inr p) = absurd (omega (arith, p.0 (0 ∷ []) (inl refl) refl))
-number_rejected (b ∷ bytes) k (inr p) = inr (ap kind_number p.1, omega arith, λ n is. p.0 n is.1 is.2)
+number_rejected (b ∷ bytes) k (inr p) =
+    let n = number (b ∷ bytes) in
+    inr (ap kind_number p.1, omega arith, p.0 (octets n) (octets_canonical n) (octets_number n))
 
 number_part : (bytes : List ℕ) → IsPart (NumberError bytes)
 number_part bytes = (one, told)
@@ -104,9 +105,14 @@ number_part bytes = (one, told)
     told s (inl p) = (omega (arith, p.0), λ e. omega (arith, e, p.0))
     told s (inr p) = (omega (arith, p.0), λ e. omega (arith, e, p.0))
 
-pub number_none : (bytes n : List ℕ) → IsNumberOf bytes n → length n ≤ limit → NoStatus (NumberError bytes)
-number_none bytes n is few s (inl p) = omega (arith, p.1, is.0)
-number_none bytes n is few s (inr p) = omega (arith, p.2 n is, few)
+pub number_none : (bytes : List ℕ) → 0 < length bytes → length (octets (number bytes)) ≤ limit
+    → NoStatus (NumberError bytes)
+number_none bytes some few s (inl p) = omega (arith, p.1, some)
+number_none bytes some few s (inr p) = omega (arith, p.2, few)
+
+number_has : (bytes : List ℕ) → NoStatus (NumberError bytes) → 0 < length bytes
+number_has [] none = absurd (none 4 (inl (refl, refl)))
+number_has (b ∷ bytes) none = omega arith
 
 pub numbers_part : (ns : List (List ℕ)) → IsPart (NumbersError ns)
 numbers_part [] = (λ s t p q. absurd p, λ s p. absurd p)
@@ -116,22 +122,14 @@ pub held_none : (ns : List (List ℕ)) → AllHave (λ n. NoStatus (NumberError 
 held_none [] none s p = p
 held_none (n ∷ ns) none s p = part_none (NumberError n) (NumbersError ns) none.0 (held_none ns none.1) s p
 
--- Numbers within the limit.
-abbrev pub IsWithin : List ℕ → Type 0
-IsWithin n = length n ≤ limit
+-- Numbers that can be held have bytes.
+pub numbers_have : (ns : List (List ℕ)) → NoStatus (NumbersError ns) → HaveBytes ns
+numbers_have [] none = tt
+numbers_have (n ∷ ns) none =
+    let first = part_first (NumberError n) (NumbersError ns) none in
+    (number_has n first, numbers_have ns (λ s p. none s (inr (first, p))))
 
-abbrev pub AreNumbersOf : List (List ℕ) → List (List ℕ) → Type 0
-AreNumbersOf [] ms = Unit {0}
-AreNumbersOf (n ∷ ns) [] = ⊥
-AreNumbersOf (n ∷ ns) (m ∷ ms) = IsNumberOf n m × AreNumbersOf ns ms
-
-pub numbers_none : (ns ms : List (List ℕ)) → AreNumbersOf ns ms → AllHave IsWithin ms → NoStatus (NumbersError ns)
-numbers_none [] ms are few s p = p
-numbers_none (n ∷ ns) [] are few s p = are
-numbers_none (n ∷ ns) (m ∷ ms) are few s p =
-    part_none (NumberError n) (NumbersError ns) (number_none n m are.0 few.0) (numbers_none ns ms are.1 few.1) s p
-
-numbers_before : (ns ms : List (List ℕ)) (s : ℕ) → NumbersError ns s → NumbersError (ns ++ ms) s
+pub numbers_before : (ns ms : List (List ℕ)) (s : ℕ) → NumbersError ns s → NumbersError (ns ++ ms) s
 numbers_before [] ms s p = absurd p
 numbers_before (n ∷ ns) ms s (inl p) = inl p
 numbers_before (n ∷ ns) ms s (inr p) = inr (p.0, numbers_before ns ms s p.1)
@@ -151,17 +149,32 @@ none_both (n ∷ ns) ms none more =
     part_none (NumberError n) (NumbersError (ns ++ ms)) first (none_both ns ms (λ t q. none t (inr (first, q))) more)
 
 -- One of the primes is rejected, and those before it can be held.
-pub others_at : {X : Type 0} (f : X → OtherPrime (List ℕ)) (gs : List X) (i : ℕ) (d : X) (s : ℕ) → i < length gs
-    → NoStatus (NumbersError (others_numbers (take i (map f gs))))
-    → NumbersError (other_numbers (f (get_or gs i d))) s → NumbersError (others_numbers (map f gs)) s
-others_at f [] i d s l none p = absurd (omega (arith, l))
-others_at f (g ∷ gs) zero d s l none p = numbers_before (other_numbers (f g)) (others_numbers (map f gs)) s p
-others_at f (g ∷ gs) (suc i) d s l none p =
-    let before = others_numbers (take i (map f gs)) in
-    let first : NoStatus (NumbersError (other_numbers (f g))) =
-    λ t q. none t (numbers_before (other_numbers (f g)) before t q) in
-    numbers_behind (other_numbers (f g)) (others_numbers (map f gs)) first s
-    (others_at f gs i d s (omega (arith, l)) (λ t q. none t (numbers_behind (other_numbers (f g)) before first t q)) p)
+pub others_at : (os : List OtherPrime) (i : ℕ) (d : OtherPrime) (s : ℕ) → i < length os
+    → NoStatus (NumbersError (numbers_of_primes (take i os)))
+    → NumbersError (numbers_of_prime (get_or os i d)) s → NumbersError (numbers_of_primes os) s
+others_at [] i d s l none p = absurd (omega (arith, l))
+others_at (o ∷ os) zero d s l none p = numbers_before (numbers_of_prime o) (numbers_of_primes os) s p
+others_at (o ∷ os) (suc i) d s l none p =
+    let before = numbers_of_primes (take i os) in
+    let first : NoStatus (NumbersError (numbers_of_prime o)) =
+    λ t q. none t (numbers_before (numbers_of_prime o) before t q) in
+    numbers_behind (numbers_of_prime o) (numbers_of_primes os) first s
+    (others_at os i d s (omega (arith, l)) (λ t q. none t (numbers_behind (numbers_of_prime o) before first t q)) p)
+
+-- One more of them can be held.
+pub others_held_more : (os : List OtherPrime) (i : ℕ) (d : OtherPrime) → i < length os
+    → NoStatus (NumbersError (numbers_of_primes (take i os)))
+    → NoStatus (NumbersError (numbers_of_prime (get_or os i d)))
+    → NoStatus (NumbersError (numbers_of_primes (take (suc i) os)))
+others_held_more [] i d l none one = absurd (omega (arith, l))
+others_held_more (o ∷ os) zero d l none one = none_both (numbers_of_prime o) [] one none
+others_held_more (o ∷ os) (suc i) d l none one =
+    let before = numbers_of_primes (take i os) in
+    let first : NoStatus (NumbersError (numbers_of_prime o)) =
+    λ t q. none t (numbers_before (numbers_of_prime o) before t q) in
+    none_both (numbers_of_prime o) (numbers_of_primes (take (suc i) os)) first
+    (others_held_more os i d (omega (arith, l))
+    (λ t q. none t (numbers_behind (numbers_of_prime o) before first t q)) one)
 
 -- Algorithms.
 any_part : (v : TagAndContents) → IsPart (AnyError v)

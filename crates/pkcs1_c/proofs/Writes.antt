@@ -6,11 +6,12 @@ use Rattle.pkcs1_c.specs.StructErrors.{EncodingError, PartThen, WritesFields}
 use Rattle.pkcs1_c.specs.Writes.{IsTooLong, IsErrorOf, NoStatus, Writes, WritesValue}
 use Rattle.pkcs1_c.proofs.StructErrors.{IsOne, IsPart, encoding_one, fits_written, part_one, part_rest}
 
-is_error : (WhyNot : ℕ → Type 0) (s : ℕ) → IsOne WhyNot → 0 < s → WhyNot s → IsErrorOf WhyNot s
+pub is_error : (WhyNot : ℕ → Type 0) (s : ℕ) → IsOne WhyNot → 0 < s → WhyNot s → IsErrorOf WhyNot s
 is_error WhyNot zero one some p = absurd (omega (arith, some))
 is_error WhyNot (suc n) one some p = (p, λ other q. one other (suc n) q p)
 
-error_as : (A B : ℕ → Type 0) (s : ℕ) → ((t : ℕ) → A t → B t) → ((t : ℕ) → B t → A t) → IsErrorOf A s → IsErrorOf B s
+pub error_as : (A B : ℕ → Type 0) (s : ℕ) → ((t : ℕ) → A t → B t) → ((t : ℕ) → B t → A t) → IsErrorOf A s
+    → IsErrorOf B s
 error_as A B zero there back none = λ t p. none t (back t p)
 error_as A B (suc n) there back error = (there (suc n) error.0, λ t p. error.1 t (back t p))
 

@@ -1,7 +1,5 @@
 -- What the C struct of a container with an RSA key means.
-use Rattle.std.specs.Prelude.{ℕ, List, [], ◌≡◌, false, Some, None, if◌then◌else◌}
-use Rattle.der_core.specs.Document.{Means}
-use Rattle.pkcs1.specs.Keys.{PrivateKey, RsaPrivateKey}
+use Rattle.std.specs.Prelude.{[], ◌≡◌, false, Some, None, if◌then◌else◌}
 use Rattle.pkcs8_core.specs.Container.{Info}
 use Rattle.pkcs8_core.specs.Rsa.{rsa_encryption}
 use Rattle.pkcs1_c.specs.declared.container.PrivateKeyInfo.{PrivateKeyInfo}
@@ -17,10 +15,3 @@ info_seen info = record {
 -- If `has_attributes` is false, `attributes` is empty.
 abbrev pub InfoIsTidy : PrivateKeyInfo → Type 0
 InfoIsTidy info = info.has_attributes ≡ false → info.attributes.now ≡ []
-
--- The octets of the struct are an encoding of this private key.
-abbrev pub HoldsKey : PrivateKeyInfo → PrivateKey (List ℕ) → Type 0
-HoldsKey info key = Means RsaPrivateKey info.private_key.now key
-
-abbrev pub HoldsSomeKey : PrivateKeyInfo → Type 0
-HoldsSomeKey info = (key : PrivateKey (List ℕ)) × HoldsKey info key

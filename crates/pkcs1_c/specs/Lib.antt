@@ -1,6 +1,4 @@
 pub mod Containers
-pub mod Given
-pub mod Numbers
 pub mod NumberValue
 pub mod Writes
 pub mod StructValues

@@ -1,28 +1,25 @@
 -- Why a C struct isn't written, by status: the first of its parts that can't be held, in the order of the struct; else
 -- why the value that it means isn't written.
-use Rattle.std.specs.Prelude.{ℕ, List, [], ◌∷◌, ◌++◌, ◌≡◌, ◌≢◌, ◌<◌, ◌⊎◌, IsTrue, length, map, false, Option, Some}
-use Rattle.std.specs.Prelude.{None}
+use Rattle.std.specs.Prelude.{ℕ, List, [], ◌∷◌, ◌++◌, ◌≡◌, ◌≢◌, ◌<◌, ◌⊎◌, IsTrue, length, false, Option, Some, None}
 use Rattle.der_core.specs.Document.{IsShortest}
 use Rattle.der_core.specs.Length.{limit}
 use Rattle.der_core.specs.Tag.{is_allowed}
 use Rattle.pkcs1.specs.KeyReadings.{rsa_private_key}
-use Rattle.pkcs1.specs.Keys as keys
-use Rattle.pkcs1.specs.Writing.{key_numbers, other_numbers}
 use Rattle.pkcs1_params.specs.Parameters.{PssParameters, OaepParameters}
 use Rattle.pkcs8_core.specs.Container as container
 use Rattle.spki_core.specs.Any.{TagAndContents}
 use Rattle.spki_core.specs.AlgorithmIdentifier.{Algorithm}
 use Rattle.spki_core.specs.ObjectIdentifier.{IsIdentifier}
+use Rattle.standard.specs.Statement.{PrivateKeyEncoding, PublicKeyEncoding, octets}
 use Rattle.pkcs1_c.specs.declared.container.PrivateKeyInfo.{PrivateKeyInfo}
+use Rattle.pkcs1_c.specs.declared.public_key.PublicKey.{PublicKey}
 use Rattle.pkcs1_c.specs.declared.private_key.PrivateKey.{PrivateKey}
 use Rattle.pkcs1_c.specs.declared.private_key.OtherPrime.{OtherPrime}
 use Rattle.pkcs1_c.specs.declared.status.TheConstants.{LENGTH, OID_MALFORMED, OVERFLOW, TAG_UNKNOWN, VALUE, NO_ROOM}
 use Rattle.pkcs1_c.specs.declared.status.TheConstants.{OTHER_PRIMES}
-use Rattle.pkcs1_c.specs.Containers.{info_seen, HoldsSomeKey}
-use Rattle.pkcs1_c.specs.Given.{IsGiven}
-use Rattle.pkcs1_c.specs.Numbers.{IsNumberOf, ArePublicNumbers}
+use Rattle.pkcs1_c.specs.Containers.{info_seen}
 use Rattle.pkcs1_c.specs.Status.{IsErrorNumber}
-use Rattle.pkcs1_c.specs.StructValues.{private_key_seen, other_prime_seen}
+use Rattle.pkcs1_c.specs.Structs.{HasKey, IsLength, number, numbers_of_key, numbers_of_prime, private_key, public_key}
 use Rattle.pkcs1_c.specs.Writes.{IsTooLong, NoStatus, WritesValue}
 
 -- All parts can be held: the value has no encoding within the limit, or its shortest one is longer than the room.
@@ -30,10 +27,6 @@ abbrev pub EncodingError : {V : Type 0} → (V → List ℕ → Type 0) → V �
 EncodingError Grammar v room status =
     ((status ≡ OVERFLOW) × IsTooLong Grammar v)
     ⊎ ((status ≡ NO_ROOM) × (encoding : List ℕ) × IsShortest Grammar v encoding × (room < length encoding))
-
--- The same for the one value that is given.
-abbrev pub GivenError : {V : Type 0} → (V → Type 0) → (V → List ℕ → Type 0) → ℕ → ℕ → Type 0
-GivenError {V} IsTheGiven Grammar room status = (made : V) × IsTheGiven made × EncodingError Grammar made room status
 
 -- A part can't be held; or it can, and what follows it can't be, or isn't written.
 abbrev pub PartThen : (ℕ → Type 0) → (ℕ → Type 0) → ℕ → Type 0
@@ -43,49 +36,56 @@ PartThen WhyNot Rest status = WhyNot status ⊎ (NoStatus WhyNot × Rest status)
 abbrev pub NumberError : List ℕ → ℕ → Type 0
 NumberError bytes status =
     ((status ≡ LENGTH) × (length bytes ≡ 0))
-    ⊎ ((status ≡ OVERFLOW) × (0 < length bytes) × ((n : List ℕ) → IsNumberOf bytes n → limit < length n))
+    ⊎ ((status ≡ OVERFLOW) × (0 < length bytes) × (limit < length (octets (number bytes))))
 
 -- One of the numbers, in order, can't be held.
 abbrev pub NumbersError : List (List ℕ) → ℕ → Type 0
 NumbersError [] status = ⊥
 NumbersError (bytes ∷ more) status = PartThen (NumberError bytes) (NumbersError more) status
 
-abbrev pub two_numbers : keys.PublicKey (List ℕ) → List (List ℕ)
-two_numbers key = key.modulus ∷ key.public_exponent ∷ []
+-- All numbers can be held: the key has no encoding, or its shortest one is longer than the room.
+abbrev pub Unwritten : {V : Type 0} → (V → List ℕ → Type 0) → V → ℕ → ℕ → Type 0
+Unwritten Encoding v room status =
+    ((status ≡ OVERFLOW) × ((bytes : List ℕ) → Encoding v bytes → ⊥))
+    ⊎ ((status ≡ NO_ROOM) × (n : ℕ) × IsLength Encoding v n × (room < n))
 
-abbrev pub PublicKeyError : keys.PublicKey (List ℕ) → ℕ → ℕ → Type 0
-PublicKeyError given room =
-    PartThen (NumbersError (two_numbers given))
-    (GivenError (λ made. ArePublicNumbers made given) keys.RsaPublicKey room)
+-- The numbers of a public key.
+abbrev pub two_numbers : PublicKey → List (List ℕ)
+two_numbers key = key.modulus.now ∷ key.public_exponent.now ∷ []
 
--- The eight numbers of a key, and those of its other primes.
-abbrev pub eight_numbers : PrivateKey → List (List ℕ)
-eight_numbers key = key_numbers (private_key_seen key None)
+abbrev pub PublicKeyError : PublicKey → ℕ → ℕ → Type 0
+PublicKeyError key room =
+    PartThen (NumbersError (two_numbers key)) (Unwritten PublicKeyEncoding (public_key key) room)
 
-abbrev pub others_numbers : List (keys.OtherPrime (List ℕ)) → List (List ℕ)
-others_numbers [] = []
-others_numbers (other ∷ others) = other_numbers other ++ others_numbers others
+abbrev pub numbers_of_primes : List OtherPrime → List (List ℕ)
+numbers_of_primes [] = []
+numbers_of_primes (other ∷ others) = numbers_of_prime other ++ numbers_of_primes others
 
+-- The eight numbers of a private key, and those of its other primes.
 abbrev pub given_numbers : PrivateKey → List OtherPrime → List (List ℕ)
-given_numbers key others = eight_numbers key ++ others_numbers (map other_prime_seen others)
+given_numbers key others = numbers_of_key key ++ numbers_of_primes others
 
--- There aren't as many other primes as the key says; or one of the numbers can't be held; or the key isn't written. Out
--- of memory is left out here.
+-- There aren't as many other primes as the key says.
+abbrev pub Miscounted : PrivateKey → List OtherPrime → ℕ → Type 0
+Miscounted key others status = (status ≡ OTHER_PRIMES) × (key.other_primes ≢ length others)
+
+-- That is so; or one of the numbers can't be held; or the key isn't written. Out of memory is left out here.
 abbrev pub PrivateKeyError : PrivateKey → List OtherPrime → ℕ → ℕ → Type 0
 PrivateKeyError key others room =
-    PartThen (λ status. (status ≡ OTHER_PRIMES) × (key.other_primes ≢ length others))
-    (PartThen (NumbersError (given_numbers key others)) (GivenError (IsGiven key others) keys.RsaPrivateKey room))
+    PartThen (Miscounted key others)
+    (PartThen (NumbersError (given_numbers key others))
+    (Unwritten PrivateKeyEncoding (private_key key others) room))
 
 -- Memory may be needed for other primes, once there are as many as the key says and the eight numbers can be held.
 abbrev pub MayRunOutOfMemory : PrivateKey → List OtherPrime → Type 0
 MayRunOutOfMemory key others =
-    (key.other_primes ≡ length others) × (0 < length others) × NoStatus (NumbersError (eight_numbers key))
+    (key.other_primes ≡ length others) × (0 < length others) × NoStatus (NumbersError (numbers_of_key key))
 
 -- The octets don't encode a private key (the status is that of their first fault); or the container isn't written.
 abbrev pub InfoError : PrivateKeyInfo → ℕ → ℕ → Type 0
 InfoError info room status =
     IsErrorNumber (rsa_private_key info.private_key.now) status
-    ⊎ (HoldsSomeKey info × EncodingError container.PrivateKeyInfo (info_seen info) room status)
+    ⊎ (HasKey info × EncodingError container.PrivateKeyInfo (info_seen info) room status)
 
 -- Octets that are no object identifier.
 abbrev pub OidError : List ℕ → ℕ → Type 0

@@ -1,45 +1,12 @@
 -- What the C structs mean.
-use Rattle.std.specs.Prelude.{ℕ, List, [], ◌≡◌, length, take, map, false, Option, Some, None, if◌then◌else◌}
+use Rattle.std.specs.Prelude.{[], ◌≡◌, false, Some, None, if◌then◌else◌}
 use Rattle.spki_core.specs.Any.{TagAndContents}
 use Rattle.spki_core.specs.AlgorithmIdentifier as spki
-use Rattle.pkcs1.specs.Keys as keys
 use Rattle.pkcs1_params.specs.Parameters.{PssParameters, OaepParameters}
-use Rattle.pkcs1.specs.ViewParts.{listed_others}
-use Rattle.pkcs1_c.specs.declared.public_key.PublicKey.{PublicKey}
-use Rattle.pkcs1_c.specs.declared.private_key.PrivateKey.{PrivateKey}
-use Rattle.pkcs1_c.specs.declared.private_key.OtherPrime.{OtherPrime}
 use Rattle.pkcs1_c.specs.declared.algorithm.Algorithm.{Algorithm}
 use Rattle.pkcs1_c.specs.declared.algorithm.MaskGen.{MaskGen}
 use Rattle.pkcs1_c.specs.declared.pss.PssParams.{PssParams}
 use Rattle.pkcs1_c.specs.declared.oaep.OaepParams.{OaepParams}
-
-abbrev pub public_key_seen : PublicKey → keys.PublicKey (List ℕ)
-public_key_seen key = record { modulus = key.modulus.now; public_exponent = key.public_exponent.now }
-
-abbrev pub other_prime_seen : OtherPrime → keys.OtherPrime (List ℕ)
-other_prime_seen other =
-    record { prime = other.prime.now; exponent = other.exponent.now; coefficient = other.coefficient.now }
-
--- The array holds the first of the other primes, as many as fit.
-abbrev pub ArePlaced : List (keys.OtherPrime (List ℕ)) → List OtherPrime → Type 0
-ArePlaced others array = take (length array) others ≡ take (length others) (map other_prime_seen array)
-
--- The count is that of the other primes, and the array holds the first of them, as many as fit.
-abbrev pub AreListed : ℕ → List OtherPrime → Option (List (keys.OtherPrime (List ℕ))) → Type 0
-AreListed count array others = (count ≡ length (listed_others others)) × ArePlaced (listed_others others) array
-
-abbrev pub private_key_seen : PrivateKey → Option (List (keys.OtherPrime (List ℕ))) → keys.PrivateKey (List ℕ)
-private_key_seen key others = record {
-  modulus = key.modulus.now;
-  public_exponent = key.public_exponent.now;
-  private_exponent = key.private_exponent.now;
-  prime1 = key.prime1.now;
-  prime2 = key.prime2.now;
-  exponent1 = key.exponent1.now;
-  exponent2 = key.exponent2.now;
-  coefficient = key.coefficient.now;
-  other_prime_infos = others;
-}
 
 abbrev pub algorithm_seen : Algorithm → spki.Algorithm TagAndContents
 algorithm_seen a =

@@ -146,15 +146,22 @@ listed (Some others) = others
 abbrev pub octets_of_prime : OtherPrime → List (List ℕ)
 octets_of_prime o = octets o.prime ∷ octets o.exponent ∷ octets o.coefficient ∷ []
 
+abbrev pub octets_of_key : PrivateKey → List (List ℕ)
+octets_of_key v =
+    octets v.modulus ∷ octets v.public_exponent ∷ octets v.private_exponent ∷ octets v.prime1 ∷ octets v.prime2
+    ∷ octets v.exponent1 ∷ octets v.exponent2 ∷ octets v.coefficient ∷ []
+
+-- The array has the octets of the first of these primes, as many as fit.
+abbrev pub ArePlaced : List OtherPrime → List prime_structs.OtherPrime → Type 0
+ArePlaced others array =
+    take (length array) (map octets_of_prime others) ≡ take (length others) (map numbers_of_prime array)
+
 -- The struct has the octets of the key and tells how many other primes it has. The array has the octets of the first of
 -- them, as many as fit.
 abbrev pub HoldsPrivate : key_structs.PrivateKey → List prime_structs.OtherPrime → PrivateKey → Type 0
 HoldsPrivate key array v =
-    (numbers_of_key key ≡ octets v.modulus ∷ octets v.public_exponent ∷ octets v.private_exponent ∷ octets v.prime1
-    ∷ octets v.prime2 ∷ octets v.exponent1 ∷ octets v.exponent2 ∷ octets v.coefficient ∷ [])
-    × (key.other_primes ≡ length (listed v.other_primes))
-    × (take (length array) (map octets_of_prime (listed v.other_primes))
-    ≡ take (length (listed v.other_primes)) (map numbers_of_prime array))
+    (numbers_of_key key ≡ octets_of_key v) × (key.other_primes ≡ length (listed v.other_primes))
+    × ArePlaced (listed v.other_primes) array
 
 -- The bytes encode one key, and struct and array have it.
 abbrev pub DecodesPrivate : List ℕ → key_structs.PrivateKey → List prime_structs.OtherPrime → Type 0

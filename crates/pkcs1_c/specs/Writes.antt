@@ -1,20 +1,11 @@
 -- What a call that writes says and leaves.
 use Rattle.std.specs.Prelude.{ℕ, zero, suc, List, ◌≡◌, ◌≢◌, ◌<◌, ◌≤◌, length, take, drop}
 use Rattle.der_core.specs.Document.{Means, IsShortest}
-use Rattle.pkcs1.specs.KeyEncodings.{IsOnlyEncoding}
 use Rattle.pkcs1_c.specs.declared.status.TheConstants.{OK, NO_ROOM}
 
 -- The value has no encoding within the limit.
 abbrev pub IsTooLong : {V : Type 0} → (V → List ℕ → Type 0) → V → Type 0
 IsTooLong Grammar v = (encoding : List ℕ) → Means Grammar encoding v → ⊥
-
--- No value that is given has one.
-abbrev pub IsGivenTooLong : {V : Type 0} → (V → Type 0) → (V → List ℕ → Type 0) → Type 0
-IsGivenTooLong {V} IsTheGiven Grammar = (made : V) → IsTheGiven made → IsTooLong Grammar made
-
--- The only encoding of the value that is given.
-abbrev pub IsGivenEncoding : {V : Type 0} → (V → Type 0) → (V → List ℕ → Type 0) → List ℕ → Type 0
-IsGivenEncoding {V} IsTheGiven Grammar encoding = (made : V) × IsTheGiven made × IsOnlyEncoding Grammar made encoding
 
 -- There is no status of which it holds.
 abbrev pub NoStatus : (ℕ → Type 0) → Type 0
@@ -37,11 +28,7 @@ pub record Writes (IsEncoding : List ℕ → Type 0) (HasNone : Type 0) (WhyNot 
   pub exact : IsErrorOf (WhyNot (length old)) status
   pub unchanged : status ≢ OK → (new ≡ old) × (status ≢ NO_ROOM → new_len ≡ old_len)
 
--- The shortest encoding of a value; the only one of the value that is given.
+-- The shortest encoding of a value.
 abbrev pub WritesValue : {V : Type 0} → (V → List ℕ → Type 0) → V → (ℕ → ℕ → Type 0)
     → List ℕ → List ℕ → ℕ → ℕ → ℕ → Type 0
 WritesValue Grammar v = Writes (IsShortest Grammar v) (IsTooLong Grammar v)
-
-abbrev pub WritesGiven : {V : Type 0} → (V → Type 0) → (V → List ℕ → Type 0) → (ℕ → ℕ → Type 0)
-    → List ℕ → List ℕ → ℕ → ℕ → ℕ → Type 0
-WritesGiven IsTheGiven Grammar = Writes (IsGivenEncoding IsTheGiven Grammar) (IsGivenTooLong IsTheGiven Grammar)

@@ -1,13 +1,12 @@
 //! RSA keys in PKCS #8 containers.
-ghost use Rattle.std.specs.Prelude.{◌≡◌, ◌≢◌, ℕ, List, Option, drop, IfErr, IfOk, OnErr};
+ghost use Rattle.std.specs.Prelude.{◌≡◌, ◌≢◌, drop, IfErr, IfOk, OnErr, OnOk};
 ghost use Rattle.der_core.specs.Words.{IsShortest, HasEncoding};
-ghost use Rattle.pkcs1.specs.Words.{rsa_private_key, view_of, viewed_encoding};
-ghost use Rattle.pkcs1.specs.Keys.{OtherPrime as Prime, PrivateKey as Key};
+ghost use Rattle.pkcs1.specs.Words.{rsa_private_key, view_of};
 ghost use Rattle.pkcs8_core.specs.Container as container;
 ghost use Rattle.pkcs1_params.specs.Words.{ErrsAs, IsAsn1, IsNoSentence, IsTheMeaning, IsTheOnly};
 ghost use Rattle.pkcs8_core.specs.Words.{rsa_private_key_info, info_of, rsa_encryption, HoldsRsa, RsaPrivateKeyInfo};
-ghost use Rattle.pkcs1_c.specs.Words.{info_seen, InfoIsTidy, HoldsKey, HoldsSomeKey, IsTooLong, Writes};
-ghost use Rattle.pkcs1_c.specs.Words.{private_key_seen, AreListed, IsStatusOf, InfoError};
+ghost use Rattle.pkcs1_c.specs.Words.{DecodesPrivate, HasKey, InfoError, InfoIsTidy, IsStatusOf, IsTooLong, Writes};
+ghost use Rattle.pkcs1_c.specs.Words.{info_seen};
 
 use crate::private_key::{OtherPrime, PrivateKey, to_c_key};
 use crate::status::{OK, status};
@@ -73,11 +72,8 @@ pub extern "C" fn pkcs1_c_private_key_info_decode<'a>(
     others: &mut [OtherPrime<'a>],
 ) -> u32
     ensures ok { result ≡ OK → IsTheMeaning container.PrivateKeyInfo encoding.now (info_seen info.new) }
-    ensures key { result ≡ OK → (infos : Option (List (Prime (List ℕ))))
-        × AreListed key.new.other_primes others.new infos × HoldsKey info.new (private_key_seen key.new infos) }
+    ensures key { result ≡ OK → DecodesPrivate info.new.private_key.now key.new others.new }
     ensures rest { result ≡ OK → drop key.new.other_primes others.new ≡ drop key.new.other_primes others.old }
-    ensures one_key { result ≡ OK → (other : Key (List ℕ)) → HoldsKey info.new other
-        → other ≡ private_key_seen key.new other.other_prime_infos }
     ensures rejected { result ≢ OK → IsNoSentence RsaPrivateKeyInfo encoding.now }
     ensures exact { IsStatusOf (rsa_private_key_info encoding.now) result }
     ensures tidy { result ≡ OK → InfoIsTidy info.new }
@@ -96,7 +92,7 @@ pub extern "C" fn pkcs1_c_private_key_info_decode<'a>(
 /// The container of a C struct. Its `private_key` must be the encoding of a private key.
 fn from_c_info<'a>(info: &PrivateKeyInfo<'a>) -> pkcs1::Result<PrivateKeyInfoRef<'a>>
     ensures ok { IfOk result (λ made. info_of made ≡ info_seen info.now) }
-    ensures key { IfOk result (λ made. HoldsSomeKey info.now) }
+    ensures key { OnOk result (HasKey info.now) }
     ensures some { IfOk result (λ made. HasEncoding container.PrivateKeyInfo (info_of made)) }
     ensures exact { IfErr result (IsAsn1 (λ e. rsa_private_key info.now.private_key.now ≡ Err e.kind)) }
 {
@@ -125,8 +121,8 @@ pub extern "C" fn pkcs1_c_private_key_info_encode(
     len: &mut usize,
 ) -> u32
     ensures { let IsEncoding = IsShortest container.PrivateKeyInfo (info_seen info.now) in
-        Writes (λ encoding. HoldsSomeKey info.now × IsEncoding encoding)
-        (HoldsSomeKey info.now → IsTooLong container.PrivateKeyInfo (info_seen info.now)) (InfoError info.now)
+        Writes (λ encoding. HasKey info.now × IsEncoding encoding)
+        (HasKey info.now → IsTooLong container.PrivateKeyInfo (info_seen info.now)) (InfoError info.now)
         out.old out.new len.old len.new result }
 {
     match from_c_info(info) {

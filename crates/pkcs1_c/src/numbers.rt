@@ -1,8 +1,9 @@
 //! Numbers that the caller passes.
-ghost use Rattle.std.specs.Prelude.{◌≡◌, ◌<◌, ◌≤◌, ◌-◌, ◌^◌, ℕ, List, length, OnOk, IfOk, IfErr};
+ghost use Rattle.std.specs.Prelude.{◌≡◌, ◌<◌, ◌≤◌, ◌-◌, ◌^◌, length, OnOk, IfOk, IfErr};
 ghost use Rattle.std.specs.Int.Digits.{number_from_digits};
 ghost use Rattle.der_core.specs.Words.{IsBitLength, limit};
-ghost use Rattle.pkcs1_c.specs.Words.{IsNumberOf, number_of, status_of, NumberError, NoStatus};
+ghost use Rattle.pkcs1_c.specs.Words.{number_of, status_of, NumberError, NoStatus};
+ghost use Rattle.standard.specs.Statement.{octets};
 
 use crate::given_number::Number;
 use pkcs1::UintRef;
@@ -11,7 +12,7 @@ use pkcs1::UintRef;
 /// limit.
 #[inline(always)]
 pub(crate) fn number<'a>(bytes: &'a [u8]) -> pkcs1::Result<Number<'a>>
-    ensures ok { IfOk result (λ n. IsNumberOf bytes.now (number_of n)) }
+    ensures ok { IfOk result (λ n. number_from_digits 256 (number_of n) ≡ number_from_digits 256 bytes.now) }
     ensures held { OnOk result (NoStatus (NumberError bytes.now)) }
     ensures err { IfErr result (λ e. NumberError bytes.now (status_of e)) }
 {
@@ -22,10 +23,11 @@ pub(crate) fn number<'a>(bytes: &'a [u8]) -> pkcs1::Result<Number<'a>>
 /// number that is longer than the limit.
 #[unsafe(no_mangle)]
 pub extern "C" fn pkcs1_c_bit_len(number: &[u8]) -> u64
-    ensures bits { (x : List ℕ) → IsNumberOf number.now x → length x ≤ limit
-        → IsBitLength (number_from_digits 256 number.now) result }
+    ensures bits { let n = number_from_digits 256 number.now in
+        0 < length number.now → length (octets n) ≤ limit → IsBitLength n result }
     ensures none { length number.now ≡ 0 → result ≡ 0 }
-    ensures longer { (x : List ℕ) → IsNumberOf number.now x → limit < length x → result ≡ 2 ^ 64 - 1 }
+    ensures longer { let n = number_from_digits 256 number.now in
+        0 < length number.now → limit < length (octets n) → result ≡ 2 ^ 64 - 1 }
 {
     match UintRef::new(number) {
         Ok(held) => held.bit_len(),

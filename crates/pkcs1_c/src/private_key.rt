@@ -1,14 +1,13 @@
 //! Private keys.
-ghost use Rattle.std.specs.Prelude.{length, drop, ◌≡◌, ◌≢◌, ◌<◌, ℕ, List, Option, map, ◌++◌, ◌∷◌, [], OnOk, IfOk};
-ghost use Rattle.std.specs.Prelude.{IfErr};
-ghost use Rattle.der_core.specs.Words.{Means, bytes_of};
-ghost use Rattle.pkcs1.specs.Keys as grammar;
-ghost use Rattle.pkcs1.specs.Words.{others_left, other_of, private_key_with, others_of, view_of, listed_others};
-ghost use Rattle.pkcs1.specs.Words.{rsa_private_key, other_numbers};
-ghost use Rattle.pkcs1_c.specs.Words.{IsStatusOf, status_of, private_key_seen, other_prime_seen, ArePlaced, AreListed};
-ghost use Rattle.pkcs1_c.specs.Words.{IsGiven, IsOtherOf, AreOtherNumbers, WritesGiven, NumbersError, PrivateKeyError};
-ghost use Rattle.pkcs1_c.specs.Words.{MayRunOutOfMemory, number_of, given_numbers, others_numbers};
-ghost use Rattle.pkcs1_params.specs.Words.{IsNoSentence};
+ghost use Rattle.std.specs.Prelude.{length, drop, ◌≡◌, ◌≢◌, ◌<◌, List, map, ◌++◌, ◌∷◌, [], OnOk, IfOk, IfErr, None};
+ghost use Rattle.der_core.specs.Words.{bytes_of};
+ghost use Rattle.pkcs1.specs.Words.{held_other_prime, held_other_primes, held_private_key, held_view, rsa_private_key};
+ghost use Rattle.pkcs1_c.specs.Words.{ArePlaced, DecodesPrivate, HasPrivateNumbers, HoldsPrivate, If, IsErrorOf};
+ghost use Rattle.pkcs1_c.specs.Words.{IsStatusOf, MayRunOutOfMemory, NoStatus, NumbersError, PrivateKeyError};
+ghost use Rattle.pkcs1_c.specs.Words.{WritesOrTells, given_numbers, held_others, number_of, numbers_of_prime};
+ghost use Rattle.pkcs1_c.specs.Words.{numbers_of_primes, octets_of_prime, other_prime, other_primes, private_key};
+ghost use Rattle.pkcs1_c.specs.Words.{status_of};
+ghost use Rattle.standard.specs.Statement.{Decodes, PrivateKeyEncoding};
 
 use crate::given_number::Number;
 use crate::numbers::number;
@@ -58,7 +57,7 @@ pub struct OtherPrime<'a> {
 
 /// The C struct of a prime.
 fn to_c_other_prime<'a>(info: &OtherPrimeInfo<UintRef<'a>>) -> OtherPrime<'a>
-    ensures { other_prime_seen result ≡ other_of bytes_of info.now }
+    ensures { numbers_of_prime result ≡ octets_of_prime (held_other_prime bytes_of info.now) }
 {
     OtherPrime {
         prime: info.prime.as_bytes(),
@@ -69,8 +68,9 @@ fn to_c_other_prime<'a>(info: &OtherPrimeInfo<UintRef<'a>>) -> OtherPrime<'a>
 
 /// Puts the first other primes into `others`, as many as fit.
 fn place_others<'a>(primes: OtherPrimes<'a>, others: &mut [OtherPrime<'a>])
-    ensures placed { ArePlaced (others_left primes.entry) others.new }
-    ensures rest { let count = length (others_left primes.entry) in drop count others.new ≡ drop count others.old }
+    ensures placed { ArePlaced (held_other_primes primes.entry) others.new }
+    ensures rest { let count = length (held_other_primes primes.entry) in
+        drop count others.new ≡ drop count others.old }
 {
     let mut left = primes;
     for i in 0..others.len() {
@@ -87,8 +87,7 @@ pub(crate) fn to_c_key<'a>(
     view: &RsaPrivateKeyView<'a>,
     others: &mut [OtherPrime<'a>],
 ) -> PrivateKey<'a>
-    ensures key { private_key_seen result (view_of view.now).other_prime_infos ≡ view_of view.now }
-    ensures listed { AreListed result.other_primes others.new (view_of view.now).other_prime_infos }
+    ensures holds { HoldsPrivate result others.new (held_view view.now) }
     ensures rest { drop result.other_primes others.new ≡ drop result.other_primes others.old }
 {
     let primes = view.other_primes();
@@ -115,13 +114,9 @@ pub extern "C" fn pkcs1_c_private_key_decode<'a>(
     key: &mut PrivateKey<'a>,
     others: &mut [OtherPrime<'a>],
 ) -> u32
-    ensures ok { result ≡ OK → (infos : Option (List (grammar.OtherPrime (List ℕ))))
-        × AreListed key.new.other_primes others.new infos
-        × Means grammar.RsaPrivateKey encoding.now (private_key_seen key.new infos) }
-    ensures one { result ≡ OK → (other : grammar.PrivateKey (List ℕ)) → Means grammar.RsaPrivateKey encoding.now other
-        → other ≡ private_key_seen key.new other.other_prime_infos }
+    ensures ok { result ≡ OK → DecodesPrivate encoding.now key.new others.new }
     ensures rest { result ≡ OK → drop key.new.other_primes others.new ≡ drop key.new.other_primes others.old }
-    ensures rejected { result ≢ OK → IsNoSentence grammar.RsaPrivateKey encoding.now }
+    ensures rejected { result ≢ OK → Decodes PrivateKeyEncoding encoding.now None }
     ensures exact { IsStatusOf (rsa_private_key encoding.now) result }
     ensures unchanged { result ≢ OK → (key.new ≡ key.old) × (others.new ≡ others.old) }
 {
@@ -136,8 +131,9 @@ pub extern "C" fn pkcs1_c_private_key_decode<'a>(
 
 /// The prime with these numbers.
 fn from_c_other_prime<'a>(other: &OtherPrime<'a>) -> pkcs1::Result<OtherPrimeInfo<Number<'a>>>
-    ensures ok { IfOk result (λ info. IsOtherOf (other_prime_seen other.now) (other_of number_of info)) }
-    ensures err { IfErr result (λ e. NumbersError (other_numbers (other_prime_seen other.now)) (status_of e)) }
+    ensures ok { IfOk result (λ info. held_other_prime number_of info ≡ other_prime other.now) }
+    ensures held { OnOk result (NoStatus (NumbersError (numbers_of_prime other.now))) }
+    ensures err { IfErr result (λ e. NumbersError (numbers_of_prime other.now) (status_of e)) }
 {
     Ok(OtherPrimeInfo {
         prime: number(other.prime)?,
@@ -166,8 +162,9 @@ fn from_c_other_primes<'a>(
     alloc: Global,
     others: &[OtherPrime<'a>],
 ) -> pkcs1::Result<Option<OtherPrimeInfos<Number<'a>>>>
-    ensures ok { IfOk result (λ infos. AreOtherNumbers (others_of number_of infos) (map other_prime_seen others.now)) }
-    ensures err { let numbers = others_numbers (map other_prime_seen others.now) in
+    ensures ok { IfOk result (λ infos. held_others infos ≡ other_primes others.now) }
+    ensures held { OnOk result (NoStatus (NumbersError (numbers_of_primes others.now))) }
+    ensures err { let numbers = numbers_of_primes others.now in
         IfErr result (λ e. status_of e ≢ OUT_OF_MEMORY → NumbersError numbers (status_of e)) }
     ensures some { IfErr result (λ e. 0 < length others.now) }
 {
@@ -189,7 +186,8 @@ fn from_c_key<'a>(
     others: &[OtherPrime<'a>],
 ) -> pkcs1::Result<RsaPrivateKey<Number<'a>>>
     requires { key.now.other_primes ≡ length others.now }
-    ensures ok { IfOk result (λ made. IsGiven key.now others.now (private_key_with number_of made)) }
+    ensures ok { IfOk result (λ made. held_private_key number_of made ≡ private_key key.now others.now) }
+    ensures held { OnOk result (NoStatus (NumbersError (given_numbers key.now others.now))) }
     ensures err { let numbers = given_numbers key.now others.now in
         IfErr result (λ e. status_of e ≢ OUT_OF_MEMORY → NumbersError numbers (status_of e)) }
     ensures memory { IfErr result (λ e. status_of e ≡ OUT_OF_MEMORY → MayRunOutOfMemory key.now others.now) }
@@ -208,8 +206,9 @@ fn from_c_key<'a>(
 }
 
 /// Writes the encoding of a private key to the front of `out`. Returns 0, with its length in `len`, or `NO_ROOM`, with
-/// the needed length in `len`, or another status. Memory is allocated only for other primes, and freed before the call
-/// returns.
+/// the needed length in `len`. Any other status: the other primes aren't as many as the struct says, a number has no
+/// byte, or it or the encoding passes the limit; or no memory was found for other primes. Memory is allocated only for
+/// these, and freed before the call returns.
 #[unsafe(no_mangle)]
 pub extern "C" fn pkcs1_c_private_key_encode(
     alloc: Global,
@@ -219,8 +218,9 @@ pub extern "C" fn pkcs1_c_private_key_encode(
     len: &mut usize,
 ) -> u32
     ensures writes { result ≢ OUT_OF_MEMORY
-        → let Given = IsGiven key.now others.now in let WhyNot = PrivateKeyError key.now others.now in
-        WritesGiven Given grammar.RsaPrivateKey WhyNot out.old out.new len.old len.new result }
+        → let Encoding = If (HasPrivateNumbers key.now others.now) PrivateKeyEncoding in
+        WritesOrTells Encoding (private_key key.now others.now) out.old out.new len.old len.new result }
+    ensures exact { result ≢ OUT_OF_MEMORY → IsErrorOf (PrivateKeyError key.now others.now (length out.old)) result }
     ensures memory { result ≡ OUT_OF_MEMORY
         → MayRunOutOfMemory key.now others.now × (out.new ≡ out.old) × (len.new ≡ len.old) }
 {

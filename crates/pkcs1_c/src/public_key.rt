@@ -1,10 +1,10 @@
 //! Public keys.
-ghost use Rattle.std.specs.Prelude.{◌≡◌, ◌≢◌, IfOk, IfErr};
-ghost use Rattle.pkcs1.specs.Keys as grammar;
-ghost use Rattle.pkcs1.specs.Words.{public_key_with, rsa_public_key};
-ghost use Rattle.pkcs1_c.specs.Words.{ArePublicNumbers, WritesGiven, public_key_seen, NumbersError, PublicKeyError};
-ghost use Rattle.pkcs1_c.specs.Words.{two_numbers, number_of, status_of, IsStatusOf};
-ghost use Rattle.pkcs1_params.specs.Words.{IsNoSentence, IsTheMeaning};
+ghost use Rattle.std.specs.Prelude.{◌≡◌, ◌≢◌, length, IfOk, IfErr, OnOk, Some, None};
+ghost use Rattle.pkcs1.specs.Words.{held_public_key, rsa_public_key};
+ghost use Rattle.pkcs1_c.specs.Words.{HasNumbers, Holds, If, IsErrorOf, IsStatusOf, NoStatus, NumbersError};
+ghost use Rattle.pkcs1_c.specs.Words.{PublicKeyError, WritesOrTells, number_of, public_key, status_of, two_numbers};
+ghost use Rattle.standard.specs.Statement as statement;
+ghost use Rattle.standard.specs.Statement.{Decodes, PublicKeyEncoding};
 
 use crate::given_number::Number;
 use crate::numbers::number;
@@ -25,8 +25,9 @@ pub struct PublicKey<'a> {
 /// Decodes a public key. Returns 0 and fills `key` with parts of `encoding`, or returns the status of the first fault.
 #[unsafe(no_mangle)]
 pub extern "C" fn pkcs1_c_public_key_decode<'a>(encoding: &'a [u8], key: &mut PublicKey<'a>) -> u32
-    ensures ok { result ≡ OK → IsTheMeaning grammar.RsaPublicKey encoding.now (public_key_seen key.new) }
-    ensures rejected { result ≢ OK → IsNoSentence grammar.RsaPublicKey encoding.now }
+    ensures ok { result ≡ OK
+        → (v : statement.PublicKey) × Decodes PublicKeyEncoding encoding.now (Some v) × Holds key.new v }
+    ensures rejected { result ≢ OK → Decodes PublicKeyEncoding encoding.now None }
     ensures exact { IsStatusOf (rsa_public_key encoding.now) result }
     ensures unchanged { result ≢ OK → key.new ≡ key.old }
 {
@@ -42,8 +43,9 @@ pub extern "C" fn pkcs1_c_public_key_decode<'a>(encoding: &'a [u8], key: &mut Pu
 
 /// The key with these numbers.
 fn from_c_key<'a>(key: &PublicKey<'a>) -> pkcs1::Result<RsaPublicKey<Number<'a>>>
-    ensures ok { IfOk result (λ made. ArePublicNumbers (public_key_with number_of made) (public_key_seen key.now)) }
-    ensures err { IfErr result (λ e. NumbersError (two_numbers (public_key_seen key.now)) (status_of e)) }
+    ensures ok { IfOk result (λ made. held_public_key number_of made ≡ public_key key.now) }
+    ensures held { OnOk result (NoStatus (NumbersError (two_numbers key.now))) }
+    ensures err { IfErr result (λ e. NumbersError (two_numbers key.now) (status_of e)) }
 {
     Ok(RsaPublicKey {
         modulus: number(key.modulus)?,
@@ -52,16 +54,16 @@ fn from_c_key<'a>(key: &PublicKey<'a>) -> pkcs1::Result<RsaPublicKey<Number<'a>>
 }
 
 /// Writes the encoding of a public key to the front of `out`. Returns 0, with its length in `len`, or `NO_ROOM`, with
-/// the needed length in `len`, or another status.
+/// the needed length in `len`. Any other status: a number has no byte, or it or the encoding passes the limit.
 #[unsafe(no_mangle)]
 pub extern "C" fn pkcs1_c_public_key_encode(
     key: &PublicKey<'_>,
     out: &mut [u8],
     len: &mut usize,
 ) -> u32
-    ensures { let given = public_key_seen key.now in
-        WritesGiven (λ made. ArePublicNumbers made given) grammar.RsaPublicKey (PublicKeyError given)
-        out.old out.new len.old len.new result }
+    ensures writes { let Encoding = If (HasNumbers key.now) PublicKeyEncoding in
+        WritesOrTells Encoding (public_key key.now) out.old out.new len.old len.new result }
+    ensures exact { IsErrorOf (PublicKeyError key.now (length out.old)) result }
 {
     match from_c_key(key) {
         Ok(key) => write_encoding(&key, out, len),

@@ -1,15 +1,17 @@
 -- Copying a key stops.
-use Rattle.std.proofs.Common.{◌≡◌, ◌⊎◌, ℕ, List, inl, inr, sym, Option, Some}
-use Rattle.std.specs.Prelude.{Result, Err, IfErr}
+use Rattle.std.proofs.Common.{◌≡◌, ◌⊎◌, ℕ, List, inl, inr, refl, sym, Option, Some}
+use Rattle.std.specs.Prelude.{Result, Ok, Err, IfErr, IfOk}
 use Rattle.std.proofs.lemmas.Option.{none-some, same_Some}
 use Rattle.std.proofs.lemmas.Result.{IfErr-weaker}
 use Rattle.der_core.specs.declared.error.Error as der
 use Rattle.der_core.specs.declared.error.ErrorKind.{ErrorKind}
 use Rattle.der_core.specs.Readings.{Reading}
 use Rattle.der_core.specs.SourcesSinks.{GivesAll}
+use Rattle.pkcs1.specs.KeyEncodings.{IsSentence}
 use Rattle.pkcs1_params.specs.declared.error.Error.{Error}
 use Rattle.pkcs1_params.specs.declared.error.Error.TheVariants as error
 use Rattle.pkcs1_params.specs.Errors.{IsAsn1}
+use Rattle.pkcs1_params.specs.Meanings.{IsTheMeaning}
 use Rattle.pkcs1_program.specs.Copied.{WhyKeyNotRead, WhyKeyNotWritten, WhyNotCopied}
 
 -- What is said of an error of the library below says more.
@@ -18,6 +20,13 @@ asn1_by P Q f (error.Asn1 a) h = f a h
 asn1_by P Q f error.Crypto h = absurd h
 asn1_by P Q f error.KeyMalformed h = absurd h
 asn1_by P Q f error.Version h = absurd h
+
+-- What came was read as a key, so it is one.
+pub some_key : {X V : Type 0} (Grammar : V → List ℕ → Type 0) (value : X → V) {bytes encoding : List ℕ}
+    → bytes ≡ encoding → (r : Result X Error) → IfOk r (λ x. IsTheMeaning Grammar bytes (value x))
+    → ((e : Error) → r ≡ Err e → ⊥) → IsSentence Grammar encoding
+some_key Grammar value same (Ok x) told no_error = (value x, rw same at told.0)
+some_key Grammar value same (Err e) told no_error = absurd (no_error e refl)
 
 -- What came is rejected as a key.
 pub no_key : {V : Type 0} (read : Reading V) (e : Error) (encoding : List ℕ)

@@ -2,7 +2,6 @@
 use Rattle.std.proofs.Common.{ℕ, List, [], ◌∷◌, ◌++◌, ◌≡◌, ◌≤◌, length, refl, subst, ap, ◌∙◌, arith, Option, Some, None}
 use Rattle.std.specs.List.{AllByRecursion}
 use Rattle.std.specs.Option.{option_map}
-use Rattle.der_core.specs.Tlv as tlvs
 use Rattle.der_core.specs.Optional.{HasOptional, written_optional}
 use Rattle.spki_core.specs.Laws.IdentifierTest.{is_identifier-sound}
 use Rattle.spki_core.specs.ObjectIdentifier as oids
@@ -15,7 +14,6 @@ use Rattle.pkcs1_params.specs.Laws.HashFields.{plain_relates, plain_shortest, ma
 use Rattle.pkcs1_params.specs.Parameters.{id_sha1, id_mgf1, id_p_specified}
 use Rattle.standard.specs.Statement.{tlv, limit, IsSubidentifier, IsIdentifier, TagAndContents, IsAny, any, optional}
 use Rattle.standard.specs.Statement.{IfPresent, Algorithm, algorithm, IsAlgorithm, sha1, mgf1_sha1, empty_label}
-use Rattle.statement.proofs.Der.{tlv_same}
 pub use Rattle.statement.specs.Library.{any as any_to, algorithm as algorithm_to}
 pub use Rattle.statement.proofs.Values.{any_from, algorithm_from, plain_from, plain_to, plain_back, plain_forth}
 pub use Rattle.statement.proofs.Values.{mask_from, mask_to, mask_back, mask_forth}
@@ -64,7 +62,7 @@ any_has : (v : anys.TagAndContents) → IsAny (any_from v) → anys.IsAny v
 any_has v h = h
 
 any_same : (v : anys.TagAndContents) → anys.written_any v ≡ any (any_from v)
-any_same v = tlv_same v.tag v.contents
+any_same v = refl
 
 -- Optional parts, and algorithms, over what their parameters have.
 module _ {P Q : Type 0} (from : P → Q) (has : P → Type 0) (Is : Q → Type 0) (written : P → List ℕ)
@@ -83,11 +81,8 @@ module _ {P Q : Type 0} (from : P → Q) (has : P → Type 0) (Is : Q → Type 0
   optional_same same (Some v) = same v
 
   algorithm_same : ((p : P) → written p ≡ encoding (from p)) → (v : algorithms.Algorithm P)
-      → tlvs.tlv 48 (written_algorithm written v) ≡ algorithm encoding (algorithm_from from v)
-  algorithm_same same v =
-      tlv_same 48 (written_algorithm written v)
-      ∙ ap (λ x. tlv 48 (x ++ written_optional written v.parameters)) (tlv_same 6 v.oid)
-      ∙ ap (λ x. tlv 48 (tlv 6 v.oid ++ x)) (optional_same same v.parameters)
+      → tlv 48 (written_algorithm written v) ≡ algorithm encoding (algorithm_from from v)
+  algorithm_same same v = ap (λ x. tlv 48 (tlv 6 v.oid ++ x)) (optional_same same v.parameters)
 
   algorithm_is : ((p : P) → has p → Is (from p)) → (v : algorithms.Algorithm P) → HasAlgorithm has v
       → IsAlgorithm Is (algorithm_from from v)

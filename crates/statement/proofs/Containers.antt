@@ -9,7 +9,8 @@ use Rattle.pkcs8_core.specs.Rsa as library
 use Rattle.pkcs1.specs.Keys as keys
 use Rattle.standard.specs.Statement.{tlv, integer, optional, IfPresent, AreOctets, limit, sequence, Container}
 use Rattle.standard.specs.Statement.{ContainerEncoding, ContainedKeyEncoding, PrivateKey, IsShortest}
-use Rattle.statement.proofs.Der.{tlv_is, tlv_made, tlv_fit, small_integer, small_made}
+use Rattle.der_core.specs.Laws.Printed.Leaves.{tlv_fit, tlv_is}
+use Rattle.statement.proofs.Der.{opened, tlv_made, small_integer, small_made}
 use Rattle.statement.proofs.Algorithms.{plain, IsPlain, plain_from, plain_to, plain_written}
 use Rattle.statement.proofs.PrivateKeys as private
 pub use Rattle.statement.specs.Library.{container as to}
@@ -60,13 +61,10 @@ contents_hold i c (v, r, pv, (a, s, pa, (k, u, pk, (t, end, pt, nothing, e3), e2
 
 pub sentence : (i : Info) (bytes : List ℕ) → Means PrivateKeyInfo bytes i → ContainerEncoding (from i) bytes
 sentence i bytes m =
-    let p = m.1 in
-    let few : length p.contents ≤ limit = omega (arith, m.0, ap length p.written, length-append p.octets p.contents) in
-    let h = contents_hold i p.contents p.holds in
-    let is : bytes ≡ sequence p.contents =
-    tlv_is {P = λ x. x ≡ p.contents} 48 p.contents bytes (λ c e. e)
-    (record { octets = p.octets; contents = p.contents; counted = p.counted; holds = refl; written = p.written }) in
-    (m.0, h.0, h.1, h.2, is ∙ ap sequence (contents_are i p.contents few p.holds))
+    let (c, held, is) = opened 48 bytes m.1 in
+    let few : length c ≤ limit = omega (arith, m.0, ap length is, tlv_fit 48 c) in
+    let h = contents_hold i c held in
+    (m.0, h.0, h.1, h.2, is ∙ ap sequence (contents_are i c few held))
 
 contents_made : (i : Info) → IsPlain (plain_from i.algorithm) → AreOctets i.private_key
     → IfPresent AreOctets i.attributes → length (inside (from i)) ≤ limit → InfoContents i (inside (from i))

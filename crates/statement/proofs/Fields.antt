@@ -20,7 +20,8 @@ use Rattle.pkcs1_params.specs.declared.error.Error.TheVariants as error
 use Rattle.standard.specs.Statement.{tlv, sequence, limit, Field, field, Fields, FieldsUnder, Defaults, SequenceOf}
 use Rattle.standard.specs.Statement.{longest, AreAll, Lists, TwoToTheDefaults, IsShortest}
 use Rattle.statement.specs.Library.{Agree}
-use Rattle.statement.proofs.Der.{moved, equal_by, tlv_is, tlv_made, tlv_fit}
+use Rattle.der_core.specs.Laws.Printed.Leaves.{tlv_fit}
+use Rattle.statement.proofs.Der.{moved, equal_by, opened, tlv_made}
 use Rattle.statement.proofs.Algorithms.{Written}
 
 -- A field of the library and one of the statement.
@@ -48,17 +49,8 @@ module _ {W V : Type 0} (from : W → V) (to : V → W) (forth : (w : W) → to 
     to_default = λ e. ap from e;
     from_default = λ e. sym (forth v) ∙ ap to e ∙ forth default;
     only = λ x l p.
-        let few : length p.contents ≤ limit =
-        omega (arith, l, ap length p.written, length-append p.octets p.contents) in
-        let same : p.contents ≡ encoding (from v) = w.only v p.contents few p.holds in
-        tlv_is {P = λ c. c ≡ p.contents} (160 + n) (encoding (from v)) x (λ c e. e ∙ same)
-        (record {
-          octets = p.octets;
-          contents = p.contents;
-          counted = p.counted;
-          holds = refl;
-          written = p.written;
-        });
+        let (c, held, is) = opened (160 + n) x p in
+        is ∙ ap (tlv (160 + n)) (w.only v c (omega (arith, l, ap length is, tlv_fit (160 + n) c)) held);
   }
 
   pub made : Is (from v) → length (tlv (160 + n) (encoding (from v))) ≤ limit
@@ -227,11 +219,8 @@ Contained Contents bytes =
 sequence_to : {P Q : List ℕ → Type 0} → ((c : List ℕ) → length c ≤ limit → P c → Q c) → (bytes : List ℕ)
     → length bytes ≤ limit → tlvs.Tlv 48 P bytes → Contained Q bytes
 sequence_to f bytes l p =
-    let few : length p.contents ≤ limit = omega (arith, l, ap length p.written, length-append p.octets p.contents) in
-    let is : bytes ≡ sequence p.contents =
-    tlv_is {P = λ x. x ≡ p.contents} 48 p.contents bytes (λ c e. e)
-    (record { octets = p.octets; contents = p.contents; counted = p.counted; holds = refl; written = p.written }) in
-    (l, p.contents, f p.contents few p.holds, is)
+    let (c, held, is) = opened 48 bytes p in
+    (l, c, f c (omega (arith, l, ap length is, tlv_fit 48 c)) held, is)
 
 sequence_from : {P Q : List ℕ → Type 0} → ((c : List ℕ) → length c ≤ limit → Q c → P c) → (bytes : List ℕ)
     → Contained Q bytes → tlvs.Tlv 48 P bytes

@@ -1,6 +1,6 @@
 -- What was read of readers and sources.
-use Rattle.std.proofs.Common.{ℕ, List, ◌≡◌, ◌≢◌, ◌<◌, ◌≤◌, ◌+◌, ◌++◌, length, refl, sym, subst, inl, inr, Some, None, ◌∙◌}
-use Rattle.std.proofs.Common.{Result, Ok, Err}
+use Rattle.std.proofs.Common.{ℕ, List, ◌≡◌, ◌≢◌, ◌<◌, ◌≤◌, ◌+◌, ◌++◌, length, refl, sym, subst, inl, inr, Some, None}
+use Rattle.std.proofs.Common.{◌∙◌, Result, Ok, Err}
 use Rattle.std.specs.Io.KnownBytes.{Consumes, IsAtEnd}
 use Rattle.std.specs.Prelude.{IfErr, IfOk, ◌⊎◌, Option}
 use Rattle.der_core.specs.Transfer.{piece, ReadsDocument}
@@ -14,8 +14,7 @@ use Rattle.der_core.specs.declared.error.Error.{Error}
 use Rattle.der_core.specs.declared.error.ErrorKind.TheVariants.{File, OutOfMemory, Overflow}
 use Rattle.statement.specs.Held.{document_of}
 use Rattle.standard.specs.Statement.{AreOctets, limit, sequence}
-use Rattle.statement.proofs.Beginnings.{opened}
-use Rattle.statement.proofs.Der.{tlv_made}
+use Rattle.statement.proofs.Der.{opened, tlv_made}
 
 pub unread : {X W V : Type 0} (value : X → W) (Encoding : W → List ℕ → Type 0) (encodes : V → List ℕ → Type 0)
     (at : FrontReading W) (may : List ℕ → Type 0) → ReadsFronts Encoding at
@@ -40,7 +39,7 @@ IsSequence bytes =
     (contents : List ℕ) × AreOctets contents × (length bytes ≤ limit) × (bytes ≡ sequence contents)
 
 pub document_is : (bytes : List ℕ) → IsDocument bytes → IsSequence bytes
-document_is bytes d = let (c, octets, is) = opened bytes d.1 in (c, octets, d.0, is)
+document_is bytes d = let (c, octets, is) = opened 48 bytes d.1 in (c, octets, d.0, is)
 
 pub document_made : (bytes contents : List ℕ) → AreOctets contents → length bytes ≤ limit → bytes ≡ sequence contents
     → IsDocument bytes

@@ -1,9 +1,6 @@
 -- What Rust values hold is what the library says of them.
-use Rattle.std.proofs.Common.{ℕ, List, [], ◌∷◌, ◌≡◌, ◌∙◌, refl, ap, map, Option, Some, None}
+use Rattle.std.proofs.Common.{ℕ, List, ◌≡◌, ◌∙◌, refl, ap, Option, Some, None}
 use Rattle.std.specs.Option.{option_map}
-use Rattle.std.specs.declared.alloc.Global.{Global}
-use Rattle.std.specs.declared.vec.Vec as vecs
-use Rattle.std.specs.Int.Digits.{number_from_digits}
 use Rattle.spki_core.specs.Any as anys
 use Rattle.spki_core.specs.AlgorithmValue.{algorithm_in, algorithm_with, mask_in}
 use Rattle.spki_core.specs.ObjectIdentifierValue.{own_octets_of, octets_of}
@@ -11,25 +8,17 @@ use Rattle.spki_core.specs.declared.any.AnyRef.{AnyRef}
 use Rattle.spki_core.specs.declared.identifier_view.IdentifierView.{IdentifierView}
 use Rattle.spki_core.specs.declared.object_identifier.ObjectIdentifier.{ObjectIdentifier}
 use Rattle.spki_core.specs.declared.algorithm_identifier.AlgorithmIdentifierOf.{AlgorithmIdentifierOf}
-use Rattle.pkcs1.specs.PrivateKeyValue.{key_with, other_of}
-use Rattle.pkcs1.specs.declared.private_key.PrivateKeyOf.{PrivateKeyOf}
-use Rattle.pkcs1.specs.declared.private_key.other_prime_info.OtherPrimeInfo.{OtherPrimeInfo}
-use Rattle.pkcs1.specs.declared.view.RsaPrivateKeyView.{RsaPrivateKeyView}
-use Rattle.pkcs1.specs.ViewParts.{view_of}
-use Rattle.pkcs1.specs.OtherPrimesLeft.{others_left-is}
 use Rattle.pkcs8_core.specs.ContainerValue as containers
 use Rattle.pkcs8_core.specs.declared.info.PrivateKeyInfoRef.{PrivateKeyInfoRef}
 use Rattle.pkcs1_params.specs.PssValue.{pss_in, pss_with, pss_viewed}
 use Rattle.pkcs1_params.specs.OaepValue.{oaep_in, oaep_with, oaep_viewed}
 use Rattle.pkcs1_params.specs.declared.pss.PssParamsOf.{PssParamsOf}
 use Rattle.pkcs1_params.specs.declared.oaep.OaepParamsOf.{OaepParamsOf}
-use Rattle.standard.specs.Statement.{OtherPrime, TagAndContents}
+use Rattle.standard.specs.Statement.{TagAndContents}
 use Rattle.statement.specs.Held.{algorithm_identifier_of, algorithm_identifier, pss_params_of, rsa_pss_params}
 use Rattle.statement.specs.Held.{rsa_pss_params_view, oaep_params_of, rsa_oaep_params, rsa_oaep_params_view}
-use Rattle.statement.specs.Held.{rsa_private_key}
-use Rattle.statement.specs.Held.{rsa_private_key_view, other_prime_info, private_key_info_ref}
+use Rattle.statement.specs.Held.{private_key_info_ref}
 use Rattle.statement.proofs.Algorithms.{any_from, any_to, algorithm_from, plain_from}
-use Rattle.statement.proofs.PrivateKeys as private
 use Rattle.statement.proofs.Containers as container
 use Rattle.spki_core.specs.AnyRefValue.{any_of}
 use Rattle.statement.proofs.Pss as pss
@@ -39,10 +28,6 @@ option_maps : {A B C : Type 0} (f : B → C) (g : A → B) (h : A → C) → ((a
     → option_map f (option_map g o) ≡ option_map h o
 option_maps f g h e None = refl
 option_maps f g h e (Some a) = ap Some (e a)
-
-maps : {A B C : Type 0} (f : B → C) (g : A → B) (xs : List A) → map f (map g xs) ≡ map (λ x. f (g x)) xs
-maps f g [] = refl
-maps f g (x ∷ xs) = ap (λ ys. f (g x) ∷ ys) (maps f g xs)
 
 pub algorithm_holds : {O X P Q : Type 0} (octets : O → List ℕ) (f : P → Q) (g : X → P) (h : X → Q)
     → ((x : X) → f (g x) ≡ h x) → (a : AlgorithmIdentifierOf O X)
@@ -108,23 +93,6 @@ pss_seen = pss_holds_in octets_of any_of
 
 pub oaep_seen : (p : OaepParamsOf IdentifierView AnyRef) → oaep.from (oaep_viewed p) ≡ rsa_oaep_params_view p
 oaep_seen = oaep_holds_in octets_of any_of
-
--- Private keys, over what their numbers are.
-pub private_holds : {U : Type 0} (bytes : U → List ℕ) (k : PrivateKeyOf U (vecs.Vec (OtherPrimeInfo U) Global))
-    → private.numbers (key_with bytes (λ v. map (other_of bytes) v.items) k)
-    ≡ rsa_private_key (λ u. number_from_digits 256 (bytes u)) k
-private_holds bytes k =
-    ap (λ (o : Option (List OtherPrime)). record (rsa_private_key (λ u. number_from_digits 256 (bytes u)) k)
-    { other_primes = o })
-    (option_maps (map private.other_numbers) (λ v. map (other_of bytes) v.items)
-    (λ v. map (other_prime_info (λ u. number_from_digits 256 (bytes u))) v.items)
-    (λ v. maps private.other_numbers (other_of bytes) v.items) k.other_prime_infos)
-
-pub view_holds : (view : RsaPrivateKeyView) → private.numbers (view_of view) ≡ rsa_private_key_view view
-view_holds view =
-    ap (λ (o : Option (List OtherPrime)). record (rsa_private_key_view view) { other_primes = o })
-    (option_maps (map private.other_numbers) _ _ (λ o. ap (map private.other_numbers) (others_left-is o))
-    view.key.other_prime_infos)
 
 pub container_holds : (info : PrivateKeyInfoRef) → container.from (containers.info_of info) ≡ private_key_info_ref info
 container_holds info =

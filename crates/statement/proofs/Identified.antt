@@ -20,7 +20,8 @@ use Rattle.standard.specs.Statement.{tlv, sequence, limit, AlgorithmEncoding, Is
 use Rattle.standard.specs.Statement.{Algorithm, TagAndContents, Decodes}
 use Rattle.standard.specs.Statement.{SequenceOf, longest, AreAll, TwoToTheDefaults, TwoToTheDefaultsIn, id_rsassa_pss}
 use Rattle.standard.specs.Statement.{id_rsaes_oaep}
-use Rattle.statement.proofs.Der.{moved, tlv_is, tlv_made, tlv_fit}
+use Rattle.der_core.specs.Laws.Printed.Leaves.{tlv_fit, tlv_is}
+use Rattle.statement.proofs.Der.{moved, tlv_made}
 use Rattle.statement.proofs.Fields as parameters
 use Rattle.statement.proofs.Fields.{Sides, all_written, fields_to, fields_from}
 use Rattle.spki_core.specs.Explicit as fields

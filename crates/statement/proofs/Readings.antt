@@ -1,5 +1,5 @@
 -- Readings that differ in their values alone: one reads what another reads, and gives what is made of its value.
-use Rattle.std.proofs.Common.{ℕ, zero, suc, Bool, true, false, List, [], ◌∷◌, ◌≡◌, map, length, refl, sym, ap, ◌∙◌}
+use Rattle.std.proofs.Common.{ℕ, Bool, true, false, List, [], ◌∷◌, ◌≡◌, length, refl, sym, ap, ◌∙◌}
 use Rattle.std.proofs.Common.{Option, Some, None, Result, Ok, Err}
 use Rattle.std.specs.Option.{option_map}
 use Rattle.der_core.specs.declared.error.ErrorKind.{ErrorKind}
@@ -7,15 +7,16 @@ use Rattle.der_core.specs.declared.tag.Tag.{Tag}
 use Rattle.der_core.specs.Input.{header_at, front_of}
 use Rattle.der_core.specs.IntegerReading.{Answers}
 use Rattle.der_core.specs.Readings.{FrontReading, Reading, alone, by_tag, chain, checked, contents_behind, ended}
-use Rattle.der_core.specs.Readings.{front_made, front_parts, is_next, items, items_within, last, made, optional, parts}
-use Rattle.der_core.specs.Readings.{such, tagged, whole, ◌>>=◌}
+use Rattle.der_core.specs.Readings.{front_made, is_next, last, made, parts}
+use Rattle.der_core.specs.Readings.{tagged, whole, ◌>>=◌}
 use Rattle.der_core.specs.Tag.{context_tag, is_allowed}
 use Rattle.der_core.specs.declared.error.Error as der
 use Rattle.spki_core.specs.Readings.{defaulted, explicit}
 use Rattle.pkcs1_params.specs.Meanings.{ErrsAs, TellsFault}
 use Rattle.pkcs1_params.specs.declared.error.Error.{Error}
 use Rattle.pkcs1_params.specs.declared.error.Error.TheVariants as error
-use Rattle.statement.specs.Reading.{Returns, ReturnsDer, fault_in}
+use Rattle.pkcs1.specs.KeyReadings.{fault_in}
+use Rattle.statement.specs.Reading.{Returns, ReturnsDer}
 use Rattle.std.specs.Prelude.{if◌then◌else◌, nat_lt}
 use Rattle.der_core.specs.declared.error.ErrorKind.TheVariants.{Overflow, TagUnknown}
 use Rattle.der_core.specs.Length.{limit}
@@ -79,27 +80,6 @@ module _ {A B C D : Type 0} {make : A → B} {from : FrontReading A} {at : Front
           let pair : C → A × C = λ x. (p.0, x) in (more p.0).same p.1 ∙ sym (made_twice pair f (rest p.1))
       in_row (Err k) c = refl
 
-  -- A part of a row in front of what depends on the row.
-  pub front_makes : {E : Type 0} (f : E → D) (later : B → Reading D) (rest : FrontReading C)
-      (behind : A × C → Reading E)
-      → ((a : A) → Makes f (chain rest (λ x. let p : A × C = (a, x) in behind p)) (later (make a)))
-      → Makes f (chain (front_parts from rest) behind) (chain at later)
-  front_makes {E} f later rest behind more = record {
-    same = λ c. ap (λ r. chain (λ _. r) later c) (law.same c) ∙ in_front (from c) c;
-  }
-    where
-      row : (a : A) (r : Result (C × List ℕ) ErrorKind)
-          → (r >>= λ q. let p : A × C = (a, q.0) in behind p q.1)
-          ≡ ((r >>= λ q. let p : (A × C) × List ℕ = ((a, q.0), q.1) in Ok p) >>= λ q. behind q.0 q.1)
-      row a (Ok q) = refl
-      row a (Err k) = refl
-
-      in_front : (r : Result (A × List ℕ) ErrorKind) (c : List ℕ)
-          → chain (front_made make (λ _. r)) later c ≡ made f (chain (front_parts (λ _. r) rest) behind) c
-      in_front (Ok p) c =
-          (more p.0).same p.1 ∙ ap (λ r. r >>= λ e. Ok (f e)) (row p.0 (rest p.1))
-      in_front (Err k) c = refl
-
 -- The end.
 pub end_makes : {A B : Type 0} (f : A → B) (a : A) → Makes f (ended a) (ended (f a))
 end_makes f a = record { same = at_end }
@@ -109,23 +89,6 @@ end_makes f a = record { same = at_end }
     at_end (x ∷ xs) = refl
 
 module _ {A B : Type 0} {make : A → B} {from : Reading A} {read : Reading B} (law : Makes make from read) where
-  -- A test of the value.
-  pub such_makes : (before : A → Bool) (test : B → Bool) (k : ErrorKind) → ((a : A) → test (make a) ≡ before a)
-      → Makes make (such before k from) (such test k read)
-  such_makes before test k agree = record {
-    same = λ c. ap (λ r. r >>= λ b. if test b then Ok b else Err k) (law.same c) ∙ tested (from c);
-  }
-    where
-      chosen : (b : Bool) (a : A) → (if b then Ok (make a) else Err k) ≡ (if b then Ok a else Err k) >>= λ x. Ok (make x)
-      chosen true a = refl
-      chosen false a = refl
-
-      tested : (r : Result A ErrorKind)
-          → ((r >>= λ a. Ok (make a)) >>= λ b. if test b then Ok b else Err k)
-          ≡ ((r >>= λ a. if before a then Ok a else Err k) >>= λ x. Ok (make x))
-      tested (Ok a) = ap (λ t. if t then Ok (make a) else Err k) (agree a) ∙ chosen (before a) a
-      tested (Err e) = refl
-
   -- A tag in front.
   pub tagged_makes : (tag : Tag) → MakesFront make (tagged tag from) (tagged tag read)
   tagged_makes tag = record { same = λ c. behind (header_at c) }
@@ -201,41 +164,6 @@ module _ {A B : Type 0} {make : A → B} {from : FrontReading A} {at : FrontRead
         go (x ∷ xs) =
             ap (λ r. r >>= λ b. Ok (Some b)) (alone_makes.same (x ∷ xs))
             ∙ made_twice make Some (alone from (x ∷ xs)) ∙ sym (made_twice Some (option_map make) (alone from (x ∷ xs)))
-
-    pub optional_makes : (octet : ℕ) → MakesFront (option_map make) (optional octet from) (optional octet at)
-    optional_makes octet = record { same = λ c. go c (is_next octet c) }
-      where
-        there : (r : Result (A × List ℕ) ErrorKind)
-            → (front_made make (λ _. r) [] >>= λ p. let q : Option B × List ℕ = (Some p.0, p.1) in Ok q)
-            ≡ front_made (option_map make) (λ _. r >>= λ p. let q : Option A × List ℕ = (Some p.0, p.1) in Ok q) []
-        there (Ok p) = refl
-        there (Err k) = refl
-
-        go : (c : List ℕ) (b : Bool)
-            → (if b then (at c >>= λ p. let q : Option B × List ℕ = (Some p.0, p.1) in Ok q)
-            else (let q : Option B × List ℕ = (None, c) in Ok q))
-            ≡ front_made (option_map make) (λ _. if b then (from c >>= λ p. let q : Option A × List ℕ = (Some p.0, p.1) in Ok q)
-            else (let q : Option A × List ℕ = (None, c) in Ok q)) c
-        go c true = ap (λ r. r >>= λ p. let q : Option B × List ℕ = (Some p.0, p.1) in Ok q) (law.same c) ∙ there (from c)
-        go c false = refl
-
-    -- The items of a list.
-    pub items_makes : Makes (map make) (items from) (items at)
-    items_makes = record { same = λ c. (within (length c)).same c }
-      where
-        within : (n : ℕ) → Makes (map make) (items_within n from) (items_within n at)
-        within n = record { same = go n }
-          where
-            go : (n : ℕ) (c : List ℕ) → items_within n at c ≡ made (map make) (items_within n from) c
-            go n [] = refl
-            go zero (x ∷ xs) = refl
-            go (suc n) (x ∷ xs) =
-                (then_makes law (map make) (λ v. made (λ vs. v ∷ vs) (items_within n at))
-                (λ v. made (λ vs. v ∷ vs) (items_within n from)) (λ v. record {
-                  same = λ c. ap (λ r. r >>= λ vs. Ok (make v ∷ vs)) (go n c)
-                      ∙ made_twice (map make) (λ vs. make v ∷ vs) (items_within n from c)
-                      ∙ sym (made_twice (λ vs. v ∷ vs) (map make) (items_within n from c));
-                })).same (x ∷ xs)
 
     -- A field with a default.
     pub defaulted_makes : (n : ℕ) (default : A) → MakesFront make (defaulted n from default) (defaulted n at (make default))

@@ -5,8 +5,8 @@ use Rattle.std.specs.Option.{option_map}
 use Rattle.std.specs.Prelude.{if◌then◌else◌}
 use Rattle.std.specs.Str.{bytes_eq}
 use Rattle.der_core.specs.IntegerReading.{small_of}
-use Rattle.der_core.specs.Readings.{FrontReading, Reading, checked, ◌>>=◌, expected, octets_of_all, optional, tagged}
-use Rattle.der_core.specs.Readings.{unexpected}
+use Rattle.der_core.specs.Readings.{FrontReading, Reading, checked, ◌>>=◌, expected, made, octets_of_all, optional}
+use Rattle.der_core.specs.Readings.{tagged, unexpected}
 use Rattle.der_core.specs.Tag.{is_allowed}
 use Rattle.der_core.specs.Tags as tags
 use Rattle.der_core.specs.declared.error.ErrorKind.{ErrorKind}
@@ -18,21 +18,21 @@ use Rattle.pkcs1_params.specs.Algorithms as library
 use Rattle.pkcs1_params.specs.ParameterReadings.{of_oaep_fields, of_pss_fields, oaep_read, plain_front, pss_read}
 use Rattle.pkcs1_params.specs.ParameterReadings.{rsa_oaep_params, rsa_pss_params, trailer_read}
 use Rattle.pkcs1.specs.KeyReadings.{rsa_private_key}
+use Rattle.pkcs1.specs.PrintedKeys.{private_meaning}
 use Rattle.pkcs8_core.specs.Container.{Info}
 use Rattle.pkcs8_core.specs.Tags.{attributes_tag}
 use Rattle.pkcs8_core.specs.ContainerReadings as containers
 use Rattle.pkcs8_core.specs.ContainerReadings.{of_info_parts}
 use Rattle.standard.specs.Statement as statement
 use Rattle.statement.specs.Reading.{algorithm, any, contained_key, container, container_in, null_only, oaep, oaep_in}
-use Rattle.statement.specs.Reading.{oaep_algorithm, private_key, pss, pss_algorithm, pss_in, rsa_only, sequence_only, with_identifier}
+use Rattle.statement.specs.Reading.{oaep_algorithm, pss, pss_algorithm, pss_in, rsa_only, sequence_only}
+use Rattle.statement.specs.Reading.{with_identifier}
 use Rattle.statement.proofs.Algorithms.{algorithm_from, any_from, mask_from, plain_from}
 use Rattle.statement.proofs.Containers.{from}
 use Rattle.statement.proofs.Oaep as oaeps
-use Rattle.statement.proofs.PrivateKeys.{numbers}
 use Rattle.statement.proofs.Pss as psss
 use Rattle.statement.proofs.Readings.{Makes, MakesFront, by_tag_makes, defaulted_makes, end_makes, last_makes}
 use Rattle.statement.proofs.Readings.{made_makes, part_makes, tagged_makes, then_makes, through, unchanged, whole_makes}
-use Rattle.statement.proofs.ReadingsKeys.{private_key_makes}
 
 any_makes : MakesFront any_from spki.any any
 any_makes = by_tag_makes any_from spki.opaque _ (λ t. record { same = λ c. refl })
@@ -134,9 +134,9 @@ container_makes = whole_makes (tagged_makes container_contents_make tags.sequenc
 
 -- The key that a container holds, of what it read.
 abbrev behind : statement.Container → Result statement.PrivateKey ErrorKind
-behind info = rsa_only info.algorithm >>= λ _. private_key info.private_key
+behind info = rsa_only info.algorithm >>= λ _. made private_meaning rsa_private_key info.private_key
 
-pub contained_makes : Makes numbers containers.rsa_private_key_info contained_key
+pub contained_makes : Makes private_meaning containers.rsa_private_key_info contained_key
 contained_makes = record {
   same = λ c. ap (λ r. r >>= behind) (container_makes.same c) ∙ opened (containers.private_key_info c);
 }
@@ -152,15 +152,15 @@ contained_makes = record {
     rsa a false = refl
 
     key : (info : Info) (r : Result (Unit {0}) ErrorKind)
-        → (r >>= λ _. private_key info.private_key)
-        ≡ ((r >>= λ _. rsa_private_key info.private_key) >>= λ k. Ok (numbers k))
-    key info (Ok t) = private_key_makes.same info.private_key
+        → (r >>= λ _. made private_meaning rsa_private_key info.private_key)
+        ≡ ((r >>= λ _. rsa_private_key info.private_key) >>= λ k. Ok (private_meaning k))
+    key info (Ok t) = refl
     key info (Err k) = refl
 
     opened : (r : Result Info ErrorKind)
-        → ((r >>= λ info. Ok (from info)) >>= behind) ≡ ((r >>= containers.rsa_held) >>= λ k. Ok (numbers k))
+        → ((r >>= λ info. Ok (from info)) >>= behind) ≡ ((r >>= containers.rsa_held) >>= λ k. Ok (private_meaning k))
     opened (Ok info) =
-        ap (λ t. t >>= λ _. private_key info.private_key)
+        ap (λ t. t >>= λ _. made private_meaning rsa_private_key info.private_key)
         (rsa info.algorithm (bytes_eq info.algorithm.oid statement.rsa_encryption.oid))
         ∙ key info (containers.rsa_only info.algorithm)
     opened (Err k) = refl

@@ -1,5 +1,6 @@
 -- Worked rows: encodings in hexadecimal digits, with the value that they mean, or with the kind of their first fault.
--- The functions compute, and are proved equal to what the library's definitions say, so the rows pin these too.
+-- The functions compute, and are proved equal to what the library's definitions say, so the rows pin these too. The
+-- functions of keys are the library's own.
 use Rattle.std.proofs.Common.{ℕ, List, [], ◌∷◌, ◌++◌, ◌≡◌, ◌+◌, ◌*◌, map, refl, Ok, Err, Option, Some, None}
 use Rattle.std.specs.Prelude.{codes, nat_lt, if◌then◌else◌, ◌-◌, ◌^◌, replicate}
 use Rattle.der_core.specs.Input.{header_at, length_at}
@@ -11,9 +12,11 @@ use Rattle.der_core.specs.declared.error.ErrorKind.TheVariants.{ParametersMissin
 use Rattle.der_core.specs.declared.error.ErrorKind.TheVariants.{TrailingData, Value}
 use Rattle.standard.specs.Statement.{PublicKey, PrivateKey, OtherPrime, PssParameters, OaepParameters, Algorithm}
 use Rattle.standard.specs.Statement.{TagAndContents, Container, rsa_encryption, sha1, mgf1_sha1, empty_label}
-use Rattle.der_core.specs.Readings.{Reading, alone, tagged}
+use Rattle.der_core.specs.Readings.{Reading, alone, made, tagged}
 use Rattle.spki_core.specs.Readings.{identifier_read}
-use Rattle.statement.specs.Reading.{any, algorithm, public_key, private_key}
+use Rattle.pkcs1.specs.KeyReadings.{rsa_private_key, rsa_public_key}
+use Rattle.pkcs1.specs.PrintedKeys.{private_meaning, public_meaning}
+use Rattle.statement.specs.Reading.{any, algorithm}
 use Rattle.statement.specs.Reading.{container, contained_key, pss, oaep, pss_algorithm, oaep_algorithm}
 
 digit : ℕ → ℕ
@@ -32,6 +35,9 @@ abbrev AreRejected : {V : Type 0} → Reading V → List (List ℕ × ErrorKind)
 AreRejected read rows = map (λ row. read (bytes_of row.0)) rows ≡ map (λ row. Err row.1) rows
 
 -- == RSAPublicKey ==
+abbrev public_key : Reading PublicKey
+public_key = made public_meaning rsa_public_key
+
 abbrev numbers : ℕ → ℕ → PublicKey
 numbers n e = record { modulus = n; public_exponent = e }
 
@@ -81,6 +87,9 @@ unfolding bytes_of digit header_at length_at
 no_public_keys = refl
 
 -- == RSAPrivateKey ==
+abbrev private_key : Reading PrivateKey
+private_key = made private_meaning rsa_private_key
+
 abbrev key_with : Option (List OtherPrime) → PrivateKey
 key_with others = record {
   modulus = 7;

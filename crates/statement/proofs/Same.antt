@@ -1,18 +1,13 @@
 -- Two encodings of one value, by the shortest ones.
 use Rattle.std.proofs.Common.{ℕ, List, ◌≡◌, sym, subst, ap, ◌∙◌, arith, inl, inr}
 use Rattle.der_core.specs.Laws.Shortest as laws
-use Rattle.pkcs1.proofs.PublicKeys.{public_delimited}
-use Rattle.pkcs1.proofs.PrivateKeys.{private_delimited}
 use Rattle.pkcs1_params.proofs.AlgorithmsLaws.{algorithm_of_delimited}
 use Rattle.pkcs1_params.specs.Laws.Parameters.{pss_delimited, oaep_delimited}
 use Rattle.pkcs1_params.specs.Parameters.{RsaPssParams, RsaOaepParams}
 use Rattle.der_core.specs.Document.{Means}
 use Rattle.der_core.specs.Encodings.{IsDelimited}
-use Rattle.standard.specs.Statement.{IsShortest, SameByShortest, PublicKeyEncoding, PrivateKeyEncoding, PssEncoding}
-use Rattle.standard.specs.Statement.{OaepEncoding, id_rsassa_pss, PssAlgorithmEncoding, id_rsaes_oaep}
-use Rattle.standard.specs.Statement.{OaepAlgorithmEncoding, ContainerEncoding}
-use Rattle.statement.proofs.PublicKeys as keys
-use Rattle.statement.proofs.PrivateKeys as private
+use Rattle.standard.specs.Statement.{IsShortest, SameByShortest, PssEncoding, OaepEncoding, id_rsassa_pss}
+use Rattle.standard.specs.Statement.{PssAlgorithmEncoding, id_rsaes_oaep, OaepAlgorithmEncoding, ContainerEncoding}
 use Rattle.statement.proofs.Containers as containers
 use Rattle.pkcs8_core.proofs.Container.{info_delimited}
 use Rattle.statement.proofs.Fields as fields
@@ -41,12 +36,6 @@ module _ {V W : Type 0} (Encoding : V → List ℕ → Type 0) {Grammar : W → 
   same back means =
       by_shortest Encoding (λ v w bytes p q. sym (back v)
       ∙ ap from (laws.means_one delimited (to v) (to w) bytes (means v bytes p).1 (means w bytes q).1) ∙ back w)
-
-pub same_public : SameByShortest PublicKeyEncoding
-same_public = same PublicKeyEncoding public_delimited keys.numbers keys.key_of keys.back keys.means
-
-pub same_private : SameByShortest PrivateKeyEncoding
-same_private = same PrivateKeyEncoding private_delimited private.numbers private.key_of private.back private.means
 
 pub same_pss : SameByShortest PssEncoding
 same_pss = same PssEncoding pss_delimited pss.from pss.to pss.sides.back (fields.means pss.sides)

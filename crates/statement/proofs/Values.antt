@@ -1,16 +1,13 @@
 -- The values of the statement for those of the crates below, which are those of `Library.antt` backwards.
-use Rattle.std.proofs.Common.{ℕ, List, [], ◌∷◌, ◌≡◌, refl, ap, map, Option, Some, None}
-use Rattle.std.specs.Int.Digits.{number_from_digits}
+use Rattle.std.proofs.Common.{◌≡◌, refl, ap, Option, Some, None}
 use Rattle.std.specs.Option.{option_map}
 use Rattle.spki_core.specs.Any as anys
 use Rattle.spki_core.specs.AlgorithmIdentifier as algorithms
-use Rattle.pkcs1.specs.Keys as keys
 use Rattle.pkcs1_params.specs.Parameters as parameters
 use Rattle.pkcs8_core.specs.Container.{Info}
 use Rattle.statement.specs.Library as library
-use Rattle.standard.specs.Statement.{PublicKey, PrivateKey, OtherPrime, TagAndContents, Algorithm, Container}
+use Rattle.standard.specs.Statement.{TagAndContents, Algorithm, Container}
 use Rattle.standard.specs.Statement.{PssParameters, OaepParameters}
-use Rattle.statement.proofs.Octets.{octets_number}
 
 -- Algorithms.
 abbrev pub any_from : anys.TagAndContents → TagAndContents
@@ -92,55 +89,3 @@ pub container_back : (c : Container) → container_from (library.container c) �
 container_back c =
     let a =
     plain_back c.algorithm in λ i. record { algorithm = a i; private_key = c.private_key; attributes = c.attributes }
-
--- Keys.
-abbrev number : List ℕ → ℕ
-number x = number_from_digits 256 x
-
-abbrev pub public_key_from : keys.PublicKey (List ℕ) → PublicKey
-public_key_from key = record { modulus = number key.modulus; public_exponent = number key.public_exponent }
-
-pub public_key_back : (v : PublicKey) → public_key_from (library.public_key v) ≡ v
-public_key_back v =
-    λ i. record { modulus = octets_number v.modulus i; public_exponent = octets_number v.public_exponent i }
-
-abbrev pub other_prime_from : keys.OtherPrime (List ℕ) → OtherPrime
-other_prime_from o = record { prime = number o.prime; exponent = number o.exponent; coefficient = number o.coefficient }
-
-abbrev pub private_key_from : keys.PrivateKey (List ℕ) → PrivateKey
-private_key_from k = record {
-  modulus = number k.modulus;
-  public_exponent = number k.public_exponent;
-  private_exponent = number k.private_exponent;
-  prime1 = number k.prime1;
-  prime2 = number k.prime2;
-  exponent1 = number k.exponent1;
-  exponent2 = number k.exponent2;
-  coefficient = number k.coefficient;
-  other_primes = option_map (map other_prime_from) k.other_prime_infos;
-}
-
-list_back : (os : List OtherPrime) → map other_prime_from (map library.other_prime os) ≡ os
-list_back [] = refl
-list_back (o ∷ os) =
-    let r =
-    list_back os in λ i. record {
-      prime = octets_number o.prime i;
-      exponent = octets_number o.exponent i;
-      coefficient = octets_number o.coefficient i;
-    } ∷ r i
-
-pub private_key_back : (k : PrivateKey) → private_key_from (library.private_key k) ≡ k
-private_key_back k =
-    let o = option_back (map other_prime_from) (map library.other_prime) list_back k.other_primes in
-    λ i. record {
-      modulus = octets_number k.modulus i;
-      public_exponent = octets_number k.public_exponent i;
-      private_exponent = octets_number k.private_exponent i;
-      prime1 = octets_number k.prime1 i;
-      prime2 = octets_number k.prime2 i;
-      exponent1 = octets_number k.exponent1 i;
-      exponent2 = octets_number k.exponent2 i;
-      coefficient = octets_number k.coefficient i;
-      other_primes = o i;
-    }

@@ -1,5 +1,6 @@
 -- What a Rust value holds. One rule: the function that is named as a Rust type, in lower case with underscores, gives
--- what a value of it holds, and where the type has parameters, it takes their functions first.
+-- what a value of it holds, and where the type has parameters, it takes their functions first. What keys hold is in
+-- `Held.antt` of `pkcs1`.
 -- x.now is what a reference x points to, v.items what a Vec holds. Types with private fields are in `Hidden.antt`.
 -- In contracts x.old and x.new are what a `&mut` points to before the call and after it, x.entry is a value that was
 -- passed, `result` the one that is returned. IfOk r P: P of the value of r, if r is Ok; OnErr r A: A, if r is an Err.
@@ -15,47 +16,13 @@ use Rattle.spki_core.specs.declared.object_identifier.ObjectIdentifier.{ObjectId
 use Rattle.spki_core.specs.declared.algorithm_identifier.AlgorithmIdentifierOf.{AlgorithmIdentifierOf}
 use Rattle.pkcs1_params.specs.declared.pss.PssParamsOf.{PssParamsOf}
 use Rattle.pkcs1_params.specs.declared.oaep.OaepParamsOf.{OaepParamsOf}
-use Rattle.pkcs1.specs.declared.public_key.RsaPublicKey.{RsaPublicKey}
-use Rattle.pkcs1.specs.declared.private_key.PrivateKeyOf.{PrivateKeyOf}
-use Rattle.pkcs1.specs.declared.private_key.other_prime_info.OtherPrimeInfo.{OtherPrimeInfo}
-use Rattle.pkcs1.specs.declared.view.RsaPrivateKeyView.{RsaPrivateKeyView}
 use Rattle.pkcs8_core.specs.declared.info.PrivateKeyInfoRef.{PrivateKeyInfoRef}
-use Rattle.statement.specs.Hidden.{viewed_key, octet_string_ref}
-use Rattle.standard.specs.Statement.{PublicKey, PrivateKey, OtherPrime, TagAndContents, Algorithm, Container}
-use Rattle.standard.specs.Statement.{PssParameters, OaepParameters}
-pub use Rattle.statement.specs.Hidden.{uint_ref, uint, other_primes, any_ref, any, object_identifier, identifier_view}
-pub use Rattle.statement.specs.Hidden.{document_of}
+use Rattle.statement.specs.Hidden.{octet_string_ref}
+use Rattle.standard.specs.Statement.{TagAndContents, Algorithm, Container, PssParameters, OaepParameters}
+pub use Rattle.statement.specs.Hidden.{any_ref, any, object_identifier, identifier_view, document_of}
 
 abbrev pub vec : {U V : Type 0} → (U → V) → std_vec.Vec U Global → List V
 vec item v = map item v.items
-
-abbrev pub rsa_public_key : {U : Type 0} → (U → ℕ) → RsaPublicKey U → PublicKey
-rsa_public_key number key = record { modulus = number key.modulus; public_exponent = number key.public_exponent }
-
-abbrev pub other_prime_info : {U : Type 0} → (U → ℕ) → OtherPrimeInfo U → OtherPrime
-other_prime_info number o =
-    record { prime = number o.prime; exponent = number o.exponent; coefficient = number o.coefficient }
-
-abbrev pub private_key_of : {U O : Type 0} → (U → ℕ) → (O → List OtherPrime) → PrivateKeyOf U O → PrivateKey
-private_key_of number others key = record {
-  modulus = number key.modulus;
-  public_exponent = number key.public_exponent;
-  private_exponent = number key.private_exponent;
-  prime1 = number key.prime1;
-  prime2 = number key.prime2;
-  exponent1 = number key.exponent1;
-  exponent2 = number key.exponent2;
-  coefficient = number key.coefficient;
-  other_primes = option_map others key.other_prime_infos;
-}
-
--- with a list of the other primes
-abbrev pub rsa_private_key : {U : Type 0} → (U → ℕ) → PrivateKeyOf U (std_vec.Vec (OtherPrimeInfo U) Global)
-    → PrivateKey
-rsa_private_key number = private_key_of number (vec (other_prime_info number))
-
-abbrev pub rsa_private_key_view : RsaPrivateKeyView → PrivateKey
-rsa_private_key_view view = private_key_of uint_ref other_primes (viewed_key view)
 
 -- O holds object identifiers, X the parameters of hash functions and sources.
 abbrev pub algorithm_identifier_of : {O X V : Type 0} → (O → List ℕ) → (X → V) → AlgorithmIdentifierOf O X → Algorithm V

@@ -1,39 +1,14 @@
 -- Nobody has to read this file, since its equations aren't what a reader relies on.
 -- It says what types with private fields hold. The function that is named above each definition promises what a caller
--- sees of it, which leaves no other choice, as `bytes_of_number` does of `uint_ref`.
-use Rattle.std.specs.Prelude.{ℕ, List, map, take}
-use Rattle.std.specs.Int.Digits.{number_from_digits}
+-- sees of it, which leaves no other choice, as `octets_of_identifier` does of `object_identifier`.
+use Rattle.std.specs.Prelude.{ℕ, List, take}
 use Rattle.der_core.specs.declared.document.DocumentOf.{DocumentOf}
-use Rattle.der_core.specs.declared.integer.uint.UintRef.{UintRef}
-use Rattle.der_core.specs.declared.integer.owned.Uint.{Uint}
 use Rattle.der_core.specs.declared.octet_string.OctetStringRef.{OctetStringRef}
 use Rattle.spki_core.specs.declared.any.AnyRef.{AnyRef}
 use Rattle.spki_core.specs.declared.owned_any.Any.{Any}
 use Rattle.spki_core.specs.declared.identifier_view.IdentifierView.{IdentifierView}
 use Rattle.spki_core.specs.declared.object_identifier.ObjectIdentifier.{ObjectIdentifier}
-use Rattle.pkcs1.specs.declared.private_key.PrivateKeyOf.{PrivateKeyOf}
-use Rattle.pkcs1.specs.declared.view.RsaPrivateKeyView.{RsaPrivateKeyView}
-use Rattle.pkcs1.specs.declared.other_primes.OtherPrimes.{OtherPrimes}
-use Rattle.standard.specs.Statement.{OtherPrime, TagAndContents}
-
--- `bytes_of_number`, `bytes_of_owned_number`
-abbrev pub uint_ref : UintRef → ℕ
-uint_ref n = number_from_digits 256 n.bytes.now
-
-abbrev pub uint : Uint → ℕ
-uint n = number_from_digits 256 n.bytes.items
-
--- Those that the iterator will give: `next_other_prime`
-abbrev pub other_primes : OtherPrimes → List OtherPrime
-other_primes primes = map (λ o. record {
-  prime = number_from_digits 256 o.prime;
-  exponent = number_from_digits 256 o.exponent;
-  coefficient = number_from_digits 256 o.coefficient;
-}) primes.held.0
-
--- `key_by_getters`
-abbrev pub viewed_key : RsaPrivateKeyView → PrivateKeyOf UintRef OtherPrimes
-viewed_key view = view.key
+use Rattle.standard.specs.Statement.{TagAndContents}
 
 -- `tag_of_any` and `contents_of_any`; `borrowed_any`
 abbrev pub any_ref : AnyRef → TagAndContents

@@ -1,33 +1,21 @@
 -- The values of the crates below for those of `Statement.antt`, for `src/library.rt`: numbers are their octets.
-use Rattle.std.specs.Prelude.{ℕ, List, map, ◌≡◌, ◌↔◌}
+use Rattle.std.specs.Prelude.{ℕ, List, ◌≡◌, ◌↔◌}
 use Rattle.std.specs.Option.{option_map}
 use Rattle.der_core.specs.Document.{Means}
 use Rattle.spki_core.specs.Any as anys
 use Rattle.spki_core.specs.AlgorithmIdentifier as algorithms
 use Rattle.pkcs1.specs.Keys as keys
+use Rattle.pkcs1.specs.PrintedKeys.{private_as, private_from, public_as, public_from}
 use Rattle.pkcs1_params.specs.Parameters as parameters
 use Rattle.pkcs8_core.specs.Container.{Info}
-use Rattle.standard.specs.Statement.{octets, PublicKey, PrivateKey, OtherPrime, TagAndContents, Algorithm, Container}
+use Rattle.standard.specs.Statement.{octets, PublicKey, PrivateKey, TagAndContents, Algorithm, Container}
 use Rattle.standard.specs.Statement.{PssParameters, OaepParameters}
 
 abbrev pub public_key : PublicKey → keys.PublicKey (List ℕ)
-public_key v = record { modulus = octets v.modulus; public_exponent = octets v.public_exponent }
-
-abbrev pub other_prime : OtherPrime → keys.OtherPrime (List ℕ)
-other_prime o = record { prime = octets o.prime; exponent = octets o.exponent; coefficient = octets o.coefficient }
+public_key key = public_as octets (public_from key)
 
 abbrev pub private_key : PrivateKey → keys.PrivateKey (List ℕ)
-private_key k = record {
-  modulus = octets k.modulus;
-  public_exponent = octets k.public_exponent;
-  private_exponent = octets k.private_exponent;
-  prime1 = octets k.prime1;
-  prime2 = octets k.prime2;
-  exponent1 = octets k.exponent1;
-  exponent2 = octets k.exponent2;
-  coefficient = octets k.coefficient;
-  other_prime_infos = option_map (map other_prime) k.other_primes;
-}
+private_key key = private_as octets (private_from key)
 
 abbrev pub any : TagAndContents → anys.TagAndContents
 any v = record { tag = v.tag; contents = v.contents }

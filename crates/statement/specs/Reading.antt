@@ -4,81 +4,26 @@
 -- depends on its value; `ended v` is v if nothing follows; `tagged tag read` reads a tag, a length and contents; `such
 -- test kind read` a value that passes the test. Identifiers and fields with a default are in `Readings` of `spki_core`.
 -- `src/errors.rt` promises that the library's calls return what the functions give; `proofs/ReadingsRows.antt` has
--- worked rows. Values and symbols are those of `Statement.antt`.
-use Rattle.std.specs.Prelude.{ℕ, nat_lt, ◌==◌, ◌&&◌, Bool, true, false, if◌then◌else◌, List, [], ◌∷◌, Option, Some, None}
-use Rattle.std.specs.Prelude.{Result, Ok, Err, ◌≡◌}
-use Rattle.std.specs.Int.Digits.{number_from_digits}
+-- worked rows. Values and symbols are those of `Statement.antt`. Keys are read as `KeyReadings.antt` of `pkcs1` says.
+use Rattle.std.specs.Prelude.{ℕ, ◌==◌, ◌&&◌, if◌then◌else◌, List, [], Option, Some, None, Result, Ok, Err, ◌≡◌}
 use Rattle.std.specs.Str.{bytes_eq}
-use Rattle.der_core.specs.IntegerReading.{integer_of, small_of}
-use Rattle.der_core.specs.Readings.{FrontReading, Reading, ◌>>=◌, by_tag, chain, checked, ended, expected, items, last}
-use Rattle.der_core.specs.Readings.{made, octets_of_all, optional, such, tagged, unexpected, whole}
+use Rattle.der_core.specs.IntegerReading.{small_of}
+use Rattle.der_core.specs.Readings.{FrontReading, Reading, ◌>>=◌, by_tag, chain, checked, ended, expected, last, made}
+use Rattle.der_core.specs.Readings.{octets_of_all, optional, such, tagged, unexpected, whole}
 use Rattle.der_core.specs.Tag.{is_allowed}
 use Rattle.der_core.specs.Tags as tags
 use Rattle.der_core.specs.declared.error.Error as der
 use Rattle.der_core.specs.declared.error.ErrorKind.{ErrorKind}
 use Rattle.der_core.specs.declared.error.ErrorKind.TheVariants as kind
 use Rattle.spki_core.specs.Readings.{defaulted, identifier_read}
+use Rattle.pkcs1.specs.KeyReadings.{rsa_private_key}
+use Rattle.pkcs1.specs.PrintedKeys.{private_meaning}
 use Rattle.pkcs8_core.specs.Tags.{attributes_tag}
 use Rattle.pkcs1_params.specs.declared.error.Error.{Error}
 use Rattle.pkcs1_params.specs.declared.error.Error.TheVariants as error
-use Rattle.standard.specs.Statement.{PublicKey, PrivateKey, OtherPrime, version, TagAndContents, Algorithm}
-use Rattle.standard.specs.Statement.{Container, rsa_encryption, sha1, mgf1_sha1, empty_label}
-use Rattle.standard.specs.Statement.{PssParameters, OaepParameters, id_rsassa_pss, id_rsaes_oaep}
-
--- INTEGER (8.3)
-abbrev pub integer : FrontReading ℕ
-integer = tagged tags.integer (made (number_from_digits 256) integer_of)
-
--- == RSAPublicKey (RFC 8017 A.1.1) ==
-abbrev pub public_key_in : Reading PublicKey
-public_key_in = chain integer (λ n. chain integer (λ e. ended (record { modulus = n; public_exponent = e })))
-
-abbrev pub public_key : Reading PublicKey
-public_key = whole (tagged tags.sequence public_key_in)
-
--- == RSAPrivateKey (RFC 8017 A.1.2) ==
-abbrev pub version_in : Reading ℕ
-version_in = such (λ n. nat_lt n 2) (kind.Value tags.integer) small_of
-
-abbrev pub other_prime_in : Reading OtherPrime
-other_prime_in =
-    chain integer (λ r. chain integer (λ d. chain integer (λ t.
-    ended (record { prime = r; exponent = d; coefficient = t }))))
-
-abbrev pub listed : FrontReading (List OtherPrime)
-listed = tagged tags.sequence (items (tagged tags.sequence other_prime_in))
-
-abbrev pub are_some : Option (List OtherPrime) → Bool
-are_some None = true
-are_some (Some []) = false
-are_some (Some (o ∷ others)) = true
-
--- Behind the other primes: whether the version agrees with them, and then that there are some.
-abbrev pub agreed : ℕ → PrivateKey → Reading PrivateKey
-agreed v key bytes =
-    if v == version key.other_primes
-    then (if are_some key.other_primes then ended key bytes else Err (kind.Value tags.sequence))
-    else Err (kind.Value tags.integer)
-
-abbrev pub private_key_in : Reading PrivateKey
-private_key_in =
-    chain (tagged tags.integer version_in) (λ v. chain integer (λ n. chain integer (λ e. chain integer (λ d.
-    chain integer (λ p. chain integer (λ q. chain integer (λ dp. chain integer (λ dq. chain integer (λ qi.
-    chain (optional tags.sequence.octet listed) (λ others.
-    agreed v (record {
-      modulus = n;
-      public_exponent = e;
-      private_exponent = d;
-      prime1 = p;
-      prime2 = q;
-      exponent1 = dp;
-      exponent2 = dq;
-      coefficient = qi;
-      other_primes = others;
-    })))))))))))
-
-abbrev pub private_key : Reading PrivateKey
-private_key = whole (tagged tags.sequence private_key_in)
+use Rattle.standard.specs.Statement.{PrivateKey, TagAndContents, Algorithm, Container, rsa_encryption, sha1}
+use Rattle.standard.specs.Statement.{mgf1_sha1, empty_label, PssParameters, OaepParameters, id_rsassa_pss}
+use Rattle.standard.specs.Statement.{id_rsaes_oaep}
 
 -- == AlgorithmIdentifier (RFC 5280 4.1.1.2) ==
 -- any tag: its contents aren't looked at
@@ -113,7 +58,9 @@ abbrev pub rsa_only : Algorithm TagAndContents → Result (Unit {0}) ErrorKind
 rsa_only a = if bytes_eq a.oid rsa_encryption.oid then null_only a.parameters else Err kind.OidUnknown
 
 abbrev pub contained_key : Reading PrivateKey
-contained_key bytes = container bytes >>= λ info. rsa_only info.algorithm >>= λ _. private_key info.private_key
+contained_key bytes =
+    container bytes
+    >>= λ info. rsa_only info.algorithm >>= λ _. made private_meaning rsa_private_key info.private_key
 
 -- == RSASSA-PSS-params (RFC 8017 A.2.3), RSAES-OAEP-params (A.2.1) ==
 -- The fields, by the numbers of their tags.
@@ -165,8 +112,3 @@ Returns value r (Err error.Version) = ⊥
 abbrev pub ReturnsDer : {X V : Type 0} → (X → V) → Result V ErrorKind → Result X der.Error → Type 0
 ReturnsDer value r (Ok x) = r ≡ Ok (value x)
 ReturnsDer value r (Err e) = r ≡ Err e.kind
-
--- The kind of the first fault, or none.
-abbrev pub fault_in : {V : Type 0} → Result V ErrorKind → Option ErrorKind
-fault_in (Ok x) = None
-fault_in (Err k) = Some k

@@ -1,27 +1,11 @@
 //! Reading, with the kind of each error: one function of the bytes gives the value, or the kind of the first fault.
-ghost use Rattle.statement.specs.Held.{uint_ref, any_ref, rsa_public_key, rsa_private_key_view};
-ghost use Rattle.statement.specs.Held.{rsa_pss_params, rsa_oaep_params, private_key_info_ref};
-ghost use Rattle.statement.specs.Reading.{Returns, ReturnsDer, public_key, private_key, container, contained_key};
+ghost use Rattle.pkcs1.specs.Held.{held_view};
+ghost use Rattle.statement.specs.Held.{any_ref, rsa_pss_params, rsa_oaep_params, private_key_info_ref};
+ghost use Rattle.statement.specs.Reading.{Returns, ReturnsDer, container, contained_key};
 ghost use Rattle.statement.specs.Reading.{pss, oaep, pss_algorithm, oaep_algorithm};
 
-use pkcs1::{
-    FromAlgorithm, Result, RsaOaepParamsRef, RsaPrivateKeyView, RsaPssParamsRef, RsaPublicKeyRef,
-};
+use pkcs1::{FromAlgorithm, Result, RsaOaepParamsRef, RsaPrivateKeyView, RsaPssParamsRef};
 use pkcs8_core::{PrivateKeyInfoRef, rsa_from_pkcs8_der};
-
-/// Reads a public key.
-pub fn read_public_key_or_fault<'a>(bytes: &'a [u8]) -> Result<RsaPublicKeyRef<'a>>
-    ensures { Returns (rsa_public_key uint_ref) (public_key bytes.now) result }
-{
-    RsaPublicKeyRef::try_from(bytes)
-}
-
-/// Reads a private key.
-pub fn read_private_key_or_fault<'a>(bytes: &'a [u8]) -> Result<RsaPrivateKeyView<'a>>
-    ensures { Returns rsa_private_key_view (private_key bytes.now) result }
-{
-    RsaPrivateKeyView::try_from(bytes)
-}
 
 /// Reads PSS parameters.
 pub fn read_pss_params_or_fault<'a>(bytes: &'a [u8]) -> Result<RsaPssParamsRef<'a>>
@@ -60,7 +44,7 @@ pub fn read_container_or_fault<'a>(bytes: &'a [u8]) -> der_core::Result<PrivateK
 
 /// Reads the RSA key in a container.
 pub fn read_contained_key_or_fault<'a>(bytes: &'a [u8]) -> Result<RsaPrivateKeyView<'a>>
-    ensures { Returns rsa_private_key_view (contained_key bytes.now) result }
+    ensures { Returns held_view (contained_key bytes.now) result }
 {
     rsa_from_pkcs8_der(bytes)
 }

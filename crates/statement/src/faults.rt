@@ -1,28 +1,14 @@
 //! Why bytes are rejected: the calls that tell only the kind of the first fault.
 ghost use Rattle.std.specs.Prelude.{◌≡◌};
-ghost use Rattle.statement.specs.Reading.{fault_in, public_key, private_key, container};
+ghost use Rattle.pkcs1.specs.KeyReadings.{fault_in};
+ghost use Rattle.statement.specs.Reading.{container};
 ghost use Rattle.statement.specs.Reading.{pss, oaep, pss_algorithm, oaep_algorithm};
 
 use pkcs1::der::ErrorKind;
 use pkcs1::{
-    fault_of_oaep_algorithm, fault_of_oaep_params, fault_of_private_key, fault_of_pss_algorithm,
-    fault_of_pss_params, fault_of_public_key,
+    fault_of_oaep_algorithm, fault_of_oaep_params, fault_of_pss_algorithm, fault_of_pss_params,
 };
 use pkcs8_core::fault_of_private_key_info;
-
-/// Of bytes that aren't a public key.
-pub fn fault_of_public(bytes: &[u8]) -> Option<ErrorKind>
-    ensures { result ≡ fault_in (public_key bytes.now) }
-{
-    fault_of_public_key(bytes)
-}
-
-/// Of bytes that aren't a private key.
-pub fn fault_of_private(bytes: &[u8]) -> Option<ErrorKind>
-    ensures { result ≡ fault_in (private_key bytes.now) }
-{
-    fault_of_private_key(bytes)
-}
 
 /// Of bytes that aren't PSS parameters.
 pub fn fault_of_pss(bytes: &[u8]) -> Option<ErrorKind>

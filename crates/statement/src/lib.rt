@@ -1,17 +1,16 @@
 //! What is proved: each function is the library's own call, under a contract in the words of `Statement.antt`, the
-//! definitions of the crate `standard`.
+//! definitions of the crate `standard`. The calls of `pkcs1` that read and write keys have such contracts themselves.
 #![tactic(auto)]
 
 ghost use Rattle.std.specs.Option.{option_map};
-ghost use Rattle.statement.specs.Held.{uint_ref, any_ref, rsa_public_key, rsa_private_key, rsa_private_key_view};
-ghost use Rattle.statement.specs.Held.{rsa_pss_params, rsa_oaep_params, private_key_info_ref};
+ghost use Rattle.pkcs1.specs.Held.{held_view};
+ghost use Rattle.statement.specs.Held.{any_ref, rsa_pss_params, rsa_oaep_params, private_key_info_ref};
 ghost use Rattle.statement.specs.Held.{pss_params_of, oaep_params_of};
 ghost use Rattle.standard.specs.Statement.{Decodes, Encodes, IsShortest, AtMostOne, SameByShortest, TwoToTheDefaults};
-ghost use Rattle.standard.specs.Statement.{PublicKeyEncoding, PrivateKeyEncoding, PssEncoding, OaepEncoding};
+ghost use Rattle.standard.specs.Statement.{PssEncoding, OaepEncoding};
 ghost use Rattle.standard.specs.Statement.{IsPss, pss_fields, IsOaep, oaep_fields};
 ghost use Rattle.standard.specs.Statement.{ContainerEncoding, ContainedKeyEncoding};
 
-pub mod documents;
 pub mod errors;
 pub mod faults;
 pub mod identifiers;
@@ -26,51 +25,11 @@ pub mod views;
 
 pub use library::lemma_encodings_are_the_librarys;
 use pkcs1::{
-    EncodeParams, OaepParamsOf, PssParamsOf, RsaOaepParamsRef, RsaPrivateKeyRef, RsaPrivateKeyView,
-    RsaPssParamsRef, RsaPublicKeyRef, lemma_oaep_spellings, lemma_pss_spellings,
+    EncodeParams, OaepParamsOf, PssParamsOf, RsaOaepParamsRef, RsaPrivateKeyView, RsaPssParamsRef,
+    lemma_oaep_spellings, lemma_pss_spellings,
 };
 use pkcs8_core::{PrivateKeyInfoRef, rsa_from_pkcs8_der};
 use stated::{HoldsIdentifier, HoldsTagged};
-
-/// Reads a slice exactly if it encodes a public key, as the one that it encodes.
-pub fn read_public_key<'a>(bytes: &'a [u8]) -> Option<RsaPublicKeyRef<'a>>
-    ensures { Decodes PublicKeyEncoding bytes.now (option_map (rsa_public_key uint_ref) result) }
-{
-    match RsaPublicKeyRef::try_from(bytes) {
-        Ok(value) => Some(value),
-        Err(_) => None,
-    }
-}
-
-/// Writes a public key as the shortest encoding, if there is one that is no longer than the slice.
-pub fn write_public_key(key: &RsaPublicKeyRef<'_>, out: &mut [u8]) -> Option<usize>
-    ensures { Encodes PublicKeyEncoding (rsa_public_key uint_ref key.now) out.old out.new result }
-{
-    match key.encode_key(out) {
-        Ok(length) => Some(length),
-        Err(_) => None,
-    }
-}
-
-/// Reads a slice exactly if it encodes a private key, as the one that it encodes.
-pub fn read_private_key<'a>(bytes: &'a [u8]) -> Option<RsaPrivateKeyView<'a>>
-    ensures { Decodes PrivateKeyEncoding bytes.now (option_map rsa_private_key_view result) }
-{
-    match RsaPrivateKeyView::try_from(bytes) {
-        Ok(value) => Some(value),
-        Err(_) => None,
-    }
-}
-
-/// Writes a private key as the shortest encoding, if there is one that is no longer than the slice.
-pub fn write_private_key(key: &RsaPrivateKeyRef<'_>, out: &mut [u8]) -> Option<usize>
-    ensures { Encodes PrivateKeyEncoding (rsa_private_key uint_ref key.now) out.old out.new result }
-{
-    match key.encode_key(out) {
-        Ok(length) => Some(length),
-        Err(_) => None,
-    }
-}
 
 /// Reads a slice exactly if it encodes PSS parameters, as the one that it encodes.
 pub fn read_pss_params<'a>(bytes: &'a [u8]) -> Option<RsaPssParamsRef<'a>>
@@ -176,7 +135,7 @@ pub fn write_container(info: &PrivateKeyInfoRef<'_>, out: &mut [u8]) -> Option<u
 
 /// Reads a slice exactly if it encodes a container with an RSA private key, as the key in it.
 pub fn read_contained_key<'a>(bytes: &'a [u8]) -> Option<RsaPrivateKeyView<'a>>
-    ensures { Decodes ContainedKeyEncoding bytes.now (option_map rsa_private_key_view result) }
+    ensures { Decodes ContainedKeyEncoding bytes.now (option_map held_view result) }
 {
     match rsa_from_pkcs8_der(bytes) {
         Ok(value) => Some(value),
@@ -184,17 +143,13 @@ pub fn read_contained_key<'a>(bytes: &'a [u8]) -> Option<RsaPrivateKeyView<'a>>
     }
 }
 
-/// A key has no encoding but one, nor has a container.
-pub fn lemma_keys_have_one_encoding()
-    ensures public { AtMostOne PublicKeyEncoding }
-    ensures private { AtMostOne PrivateKeyEncoding }
-    ensures container { AtMostOne ContainerEncoding }
+/// A container has no encoding but one.
+pub fn lemma_containers_have_one_encoding()
+    ensures { AtMostOne ContainerEncoding }
 {}
 
 /// Two encodings mean the same value exactly if the shortest encodings of their values are equal.
 pub fn lemma_same_by_shortest()
-    ensures public { SameByShortest PublicKeyEncoding }
-    ensures private { SameByShortest PrivateKeyEncoding }
     ensures container { SameByShortest ContainerEncoding }
     ensures pss { SameByShortest PssEncoding }
     ensures oaep { SameByShortest OaepEncoding }

@@ -1,25 +1,24 @@
 //! Reading and listing with memory. A result is `Ok` of what a call without an allocator gives, or `Err` of
 //! `AllocError`: memory has run out, which says nothing of the value. Each clause `memory` says of which inputs alone it
 //! can run out.
-ghost use Rattle.std.specs.Prelude.{ℕ, List, ◌≡◌, ◌≢◌, ◌≤◌, ◌↔◌, ◌++◌, length, IsTrue, IfOk, OnErr, IsErrAnd, Ok, Err};
+ghost use Rattle.std.specs.Prelude.{◌≡◌, ◌≢◌, ◌≤◌, ◌↔◌, length, IsTrue, IfOk, OnErr, IsErrAnd, Ok, Err};
 ghost use Rattle.std.specs.Prelude.{Some, None};
 ghost use Rattle.std.specs.Option.{option_map};
+ghost use Rattle.der_core.specs.UintRefValue.{bytes_of};
 ghost use Rattle.der_core.specs.declared.error.ErrorKind.TheVariants.{OutOfMemory};
+ghost use Rattle.pkcs1.specs.Held.{held_private_key};
 ghost use Rattle.pkcs1_params.specs.Errors.{IsAsn1};
 ghost use Rattle.pkcs1_params.specs.declared.error.Error.{Error};
-ghost use Rattle.statement.specs.Held.{uint, uint_ref, any, any_ref, vec, pss_params_of, oaep_params_of};
-ghost use Rattle.statement.specs.Held.{rsa_public_key, rsa_private_key, rsa_pss_params, rsa_oaep_params};
+ghost use Rattle.statement.specs.Held.{any, vec, pss_params_of, oaep_params_of, rsa_pss_params, rsa_oaep_params};
 ghost use Rattle.statement.specs.Held.{private_key_info_ref};
-ghost use Rattle.standard.specs.Statement.{Decodes, Lists, PublicKeyEncoding, PrivateKey, PrivateKeyEncoding};
-ghost use Rattle.standard.specs.Statement.{OaepParameters, OaepEncoding, IsBare, IfPresent, rsa_encryption, integer};
-ghost use Rattle.standard.specs.Statement.{sequence, longest, limit};
+ghost use Rattle.standard.specs.Statement.{Decodes, Lists, PrivateKey, PrivateKeyEncoding, OaepParameters};
+ghost use Rattle.standard.specs.Statement.{OaepEncoding, IsBare, IfPresent, rsa_encryption, longest, limit};
 ghost use Rattle.standard.specs.Statement.{IsPss, pss_fields, PssParameters, PssEncoding, IsOaep, oaep_fields};
 
 use crate::stated::{HoldsIdentifier, HoldsTagged};
 use pkcs1::der::{Decode, ErrorKind};
 use pkcs1::{
-    DecodeRsaPrivateKey, DecodeRsaPublicKey, Error, OaepParamsOf, PssParamsOf, RsaOaepParamsOwned,
-    RsaPrivateKeyOwned, RsaPrivateKeyRef, RsaPssParamsOwned, RsaPublicKeyOwned,
+    Error, OaepParamsOf, PssParamsOf, RsaOaepParamsOwned, RsaPrivateKeyRef, RsaPssParamsOwned,
     lemma_oaep_spellings, lemma_pss_spellings,
 };
 use pkcs8_core::PrivateKeyInfoRef;
@@ -62,19 +61,6 @@ fn found<V>(read: pkcs1::Result<V>) -> OrOutOfMemory<V>
     }
 }
 
-/// Reads a slice exactly if it encodes a private key, as the one that it encodes, with a list of its other primes. A
-/// key without other primes is read without memory.
-pub fn read_private_key_as_struct<'a>(
-    alloc: Global,
-    bytes: &'a [u8],
-) -> OrOutOfMemory<RsaPrivateKeyRef<'a>>
-    ensures read { let held = option_map (rsa_private_key uint_ref) in
-        IfOk result (λ key. Decodes PrivateKeyEncoding bytes.now (held key)) }
-    ensures memory { OnErr result ((key : PrivateKey) → PrivateKeyEncoding key bytes.now → key.other_primes ≢ None) }
-{
-    found(RsaPrivateKeyRef::decode_key(alloc, bytes))
-}
-
 /// The RSA key in a container that was read, with a list of its other primes. A key without other primes is read without
 /// memory.
 pub fn read_contained_key_as_struct<'a>(
@@ -84,38 +70,12 @@ pub fn read_contained_key_as_struct<'a>(
     ensures read { let c = private_key_info_ref info.now in
         IfOk result (λ read. Decodes
         (λ key bytes. (c.algorithm ≡ rsa_encryption) × PrivateKeyEncoding key bytes) c.private_key
-        (option_map (rsa_private_key uint_ref) read)) }
+        (option_map (held_private_key bytes_of) read)) }
     ensures memory { let c = private_key_info_ref info.now in
         OnErr result ((key : PrivateKey) → c.algorithm ≡ rsa_encryption → PrivateKeyEncoding key c.private_key
         → key.other_primes ≢ None) }
 {
     found(info.rsa_key(alloc))
-}
-
-/// Reads a slice exactly if it encodes a private key, as the one that it encodes, with numbers of its own.
-pub fn read_owned_private_key(alloc: Global, bytes: &[u8]) -> OrOutOfMemory<RsaPrivateKeyOwned>
-    ensures read { IfOk result (λ key. Decodes PrivateKeyEncoding bytes.now (option_map (rsa_private_key uint) key)) }
-    ensures memory { OnErr result ((version : ℕ) × (n : ℕ) × (more : List ℕ) × (behind : List ℕ)
-        × (bytes.now ≡ sequence (integer version ++ integer n ++ more) ++ behind)) }
-{
-    let read = RsaPrivateKeyOwned::from_pkcs1_der(alloc, bytes);
-    match read {
-        Ok(value) => Ok(Some(value)),
-        Err(e) => none_but_for_memory(e),
-    }
-}
-
-/// Reads a slice exactly if it encodes a public key, as the one that it encodes, with numbers of its own.
-pub fn read_owned_public_key(alloc: Global, bytes: &[u8]) -> OrOutOfMemory<RsaPublicKeyOwned>
-    ensures read { IfOk result (λ key. Decodes PublicKeyEncoding bytes.now (option_map (rsa_public_key uint) key)) }
-    ensures memory { OnErr result ((n : ℕ) × (more : List ℕ) × (behind : List ℕ)
-        × (bytes.now ≡ sequence (integer n ++ more) ++ behind)) }
-{
-    let read = RsaPublicKeyOwned::from_pkcs1_der(alloc, bytes);
-    match read {
-        Ok(value) => Ok(Some(value)),
-        Err(e) => none_but_for_memory(e),
-    }
 }
 
 /// Reads a slice exactly if it encodes PSS parameters, as the ones that it encodes, with octets of their own: without

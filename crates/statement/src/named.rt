@@ -1,9 +1,9 @@
 //! The library's other calls that write, count and read, by the statement's words.
 ghost use Rattle.std.specs.Prelude.{ℕ, List, ◌≡◌, ◌<◌, ◌≤◌, ◌^◌, ◌↔◌, length, IsTrue, IfSome, IfNone};
 ghost use Rattle.std.specs.Option.{option_map};
-ghost use Rattle.statement.specs.Held.{any_ref, rsa_private_key_view, pss_params_of, oaep_params_of};
-ghost use Rattle.statement.specs.Held.{algorithm_identifier, private_key_info_ref, rsa_oaep_params};
-ghost use Rattle.statement.specs.Held.{rsa_oaep_params_view};
+ghost use Rattle.pkcs1.specs.Held.{held_view};
+ghost use Rattle.statement.specs.Held.{any_ref, pss_params_of, oaep_params_of, algorithm_identifier};
+ghost use Rattle.statement.specs.Held.{private_key_info_ref, rsa_oaep_params, rsa_oaep_params_view};
 ghost use Rattle.statement.specs.Made.{IsHash, UsesHash, source_of};
 ghost use Rattle.standard.specs.Statement.{Decodes, Encodes, IsShortest, PrivateKeyEncoding, Defaults, SequenceOf};
 ghost use Rattle.standard.specs.Statement.{FieldsUnder};
@@ -21,7 +21,7 @@ use pkcs8_core::PrivateKeyInfoRef;
 pub fn read_contained_key_as_view<'a>(info: &PrivateKeyInfoRef<'a>) -> Option<RsaPrivateKeyView<'a>>
     ensures { let c = private_key_info_ref info.now in
         Decodes (λ key bytes. (c.algorithm ≡ rsa_encryption) × PrivateKeyEncoding key bytes) c.private_key
-        (option_map rsa_private_key_view result) }
+        (option_map held_view result) }
 {
     match info.rsa_view() {
         Ok(view) => Some(view),

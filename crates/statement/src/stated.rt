@@ -3,22 +3,21 @@ ghost use Rattle.std.specs.Prelude.{ℕ, List, ◌≡◌, ◌≤◌, ◌<◌, �
 ghost use Rattle.std.specs.Prelude.{true, false};
 ghost use Rattle.std.specs.Option.{option_map};
 ghost use Rattle.std.specs.Prelude.{refl, IsTrue, IsOk};
-ghost use Rattle.std.specs.Int.Digits.{number_from_digits};
-ghost use Rattle.der_core.specs.Integer.{IsCanonical};
-ghost use Rattle.der_core.specs.Laws.Integer.{holds_canonical};
+ghost use Rattle.der_core.specs.UintRefValue.{bytes_of};
+ghost use Rattle.der_core.specs.UintValue.{own_bytes_of};
+ghost use Rattle.pkcs1.specs.Held.{held_public_key, held_private_key};
 ghost use Rattle.pkcs1.specs.Keys as keys;
 ghost use Rattle.pkcs1.specs.Words.{public_key_of, private_key_of};
 ghost use Rattle.pkcs8_core.specs.Container.{PrivateKeyInfo};
 ghost use Rattle.pkcs8_core.specs.ContainerValue.{info_of};
 ghost use Rattle.statement.specs.Library as library;
-ghost use Rattle.statement.specs.Held.{uint_ref, uint, any_ref, any, object_identifier, identifier_view};
-ghost use Rattle.statement.specs.Held.{rsa_public_key, rsa_private_key, pss_params_of, oaep_params_of};
-ghost use Rattle.statement.specs.Held.{private_key_info_ref};
+ghost use Rattle.statement.specs.Held.{any_ref, any, object_identifier, identifier_view};
+ghost use Rattle.statement.specs.Held.{pss_params_of, oaep_params_of, private_key_info_ref};
 ghost use Rattle.standard.specs.Statement.{Encodes, IsShortest, PublicKey, PublicKeyEncoding, PrivateKey, limit};
 ghost use Rattle.standard.specs.Statement.{PrivateKeyEncoding, PssParameters, PssEncoding, OaepParameters};
 ghost use Rattle.standard.specs.Statement.{OaepEncoding, Container, ContainerEncoding, TagAndContents};
 
-use pkcs1::der::{Encode, EqualByValue, TryClone, Uint, UintEncoding, UintRef, Writer};
+use pkcs1::der::{Encode, EqualByValue, TryClone, Uint, UintRef, Writer};
 use pkcs1::spki::{Any, AnyRef, AnyValue, IdentifierValue, IdentifierView, ObjectIdentifier};
 use pkcs1::{OaepParamsOf, PssParamsOf, RsaPrivateKey, RsaPublicKey};
 use pkcs8_core::PrivateKeyInfoRef;
@@ -66,34 +65,6 @@ impl HoldsTagged for Any {
     ghost is_tagged = { λ held. refl };
 }
 
-/// What holds a number.
-pub trait HoldsNumber: UintEncoding {
-    /// The number.
-    ghost whole: { Self → ℕ };
-
-    /// It is the number with the octets that the library says.
-    ghost is_whole: { (held : Self) → number_from_digits 256 (Self.number held) ≡ whole held };
-
-    /// These octets have no needless zero in front.
-    ghost canonical: { (held : Self) → IsCanonical (Self.number held) };
-}
-
-impl HoldsNumber for UintRef<'_> {
-    ghost whole = { uint_ref };
-
-    ghost is_whole = { λ held. refl };
-
-    ghost canonical = { λ held. holds_canonical held.bytes.now held.canonical };
-}
-
-impl HoldsNumber for Uint {
-    ghost whole = { uint };
-
-    ghost is_whole = { λ held. refl };
-
-    ghost canonical = { λ held. holds_canonical held.bytes.items held.canonical };
-}
-
 /// A type of the library whose values mean values of the statement.
 pub trait Stated: Encode + Sized {
     /// The type of what values mean.
@@ -113,24 +84,24 @@ pub trait Stated: Encode + Sized {
 impl Stated for RsaPublicKey<UintRef<'_>> {
     ghost Meaning = { PublicKey };
 
-    ghost meaning = { rsa_public_key uint_ref };
+    ghost meaning = { held_public_key bytes_of };
 
     ghost encodes = { PublicKeyEncoding };
 
     fn lemma_same()
-        ensures { library.Agree (rsa_public_key uint_ref) PublicKeyEncoding public_key_of keys.RsaPublicKey }
+        ensures { library.Agree (held_public_key bytes_of) PublicKeyEncoding public_key_of keys.RsaPublicKey }
     {}
 }
 
 impl Stated for RsaPrivateKey<UintRef<'_>> {
     ghost Meaning = { PrivateKey };
 
-    ghost meaning = { rsa_private_key uint_ref };
+    ghost meaning = { held_private_key bytes_of };
 
     ghost encodes = { PrivateKeyEncoding };
 
     fn lemma_same()
-        ensures { library.Agree (rsa_private_key uint_ref) PrivateKeyEncoding private_key_of keys.RsaPrivateKey }
+        ensures { library.Agree (held_private_key bytes_of) PrivateKeyEncoding private_key_of keys.RsaPrivateKey }
     {}
 }
 
@@ -169,7 +140,7 @@ impl Stated for PrivateKeyInfoRef<'_> {
 impl Stated for RsaPublicKey<Uint> {
     ghost Meaning = { PublicKey };
 
-    ghost meaning = { rsa_public_key uint };
+    ghost meaning = { held_public_key own_bytes_of };
 
     ghost encodes = { PublicKeyEncoding };
 
@@ -179,7 +150,7 @@ impl Stated for RsaPublicKey<Uint> {
 impl Stated for RsaPrivateKey<Uint> {
     ghost Meaning = { PrivateKey };
 
-    ghost meaning = { rsa_private_key uint };
+    ghost meaning = { held_private_key own_bytes_of };
 
     ghost encodes = { PrivateKeyEncoding };
 

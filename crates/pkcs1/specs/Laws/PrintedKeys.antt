@@ -36,10 +36,10 @@ integer_alike = tagged_alike number_alike tags.integer
 abbrev public_read : Reading (PublicKey ℕ)
 public_read = whole (tagged tags.sequence (public_key_read integer))
 
-abbrev public_printed : PublicKey ℕ → List ℕ
+abbrev pub public_printed : PublicKey ℕ → List ℕ
 public_printed key = integers (key.modulus ∷ key.public_exponent ∷ [])
 
-public_law : ReadsPrinted (λ (_ : PublicKey ℕ). Any × (Any × Any)) public_printed (public_key_read integer)
+pub public_law : ReadsPrinted (λ (_ : PublicKey ℕ). Any × (Any × Any)) public_printed (public_key_read integer)
 public_law =
     made_law (row_law integer_law (row_law integer_law end_law)) of_public_parts public_parts (λ p. refl) (λ key. refl)
 

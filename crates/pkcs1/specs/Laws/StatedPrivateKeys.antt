@@ -23,10 +23,10 @@ use Rattle.pkcs1.specs.Laws.PrintedKeys.{integer}
 use Rattle.pkcs1.specs.Laws.PrintedPrivateKeys.{AreSome, IsKey, is_key, private_law}
 use Rattle.pkcs1.specs.Laws.PrivateKeysAlike.{from_octets, itself, others_as, private_alike}
 
-abbrev others_stated : Option (List (OtherPrime ℕ)) → Option (List standard.OtherPrime)
+abbrev pub others_stated : Option (List (OtherPrime ℕ)) → Option (List standard.OtherPrime)
 others_stated primes = option_map (map other_stated) (others_as itself primes)
 
-abbrev key_stated : PrivateKey ℕ → standard.PrivateKey
+abbrev pub key_stated : PrivateKey ℕ → standard.PrivateKey
 key_stated key = private_stated (private_as itself key)
 
 listed_back : (others : List standard.OtherPrime)
@@ -39,7 +39,7 @@ others_back : (primes : Option (List standard.OtherPrime))
 others_back None = refl
 others_back (Some others) = ap (λ o. Some o) (listed_back others)
 
-key_back : (key : standard.PrivateKey) → key_stated (private_from key) ≡ key
+pub key_back : (key : standard.PrivateKey) → key_stated (private_from key) ≡ key
 key_back key = ap (λ primes. record {
   modulus = key.modulus;
   public_exponent = key.public_exponent;
@@ -82,7 +82,7 @@ stated_some None some = tt
 stated_some (Some []) some = some
 stated_some (Some (x ∷ xs)) some = omega arith
 
-abbrev PrivateEncodes : PrivateKey ℕ → List ℕ → Type 0
+abbrev pub PrivateEncodes : PrivateKey ℕ → List ℕ → Type 0
 PrivateEncodes key bytes = (length bytes ≤ limit) × IsKey key × (bytes ≡ sequence (private_printed key))
 
 abbrev with_others : PrivateKey ℕ → ℕ → List ℕ → List ℕ
@@ -103,7 +103,7 @@ stated_encodes : (key : PrivateKey ℕ) (bytes : List ℕ) → PrivateEncodes ke
 stated_encodes key bytes p =
     (p.0, some_stated key.other_prime_infos p.1.1.1.0.1, p.2 ∙ sym (key_printed key))
 
-encodes_stated : (key : PrivateKey ℕ) (bytes : List ℕ) → PrivateKeyEncoding (key_stated key) bytes
+pub encodes_stated : (key : PrivateKey ℕ) (bytes : List ℕ) → PrivateKeyEncoding (key_stated key) bytes
     → PrivateEncodes key bytes
 encodes_stated key bytes p =
     (p.0, is_key key (stated_some key.other_prime_infos p.1), p.2 ∙ key_printed key)

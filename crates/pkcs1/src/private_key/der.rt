@@ -1,12 +1,14 @@
 //! Decoding private keys from whole slices; encoding them into slices and documents.
-ghost use Rattle.std.specs.Prelude.{◌≡◌, ◌≤◌, length, List, ℕ, take, drop, IfOk, IfErr, IsOk, IsErrAnd, OnErr, None};
+ghost use Rattle.std.specs.Prelude.{◌≡◌, ◌≤◌, length, List, ℕ, take, drop, IfOk, IfErr, IsOk, IsErrAnd, OnErr};
+ghost use Rattle.std.specs.Prelude.{None, Some};
 ghost use Rattle.der_core.specs.Words.{Means, IsShortest, WhyNotWritten, AllocatesIn, sequence_tag, sequence, Tlv};
-ghost use Rattle.der_core.specs.Words.{encode_error};
+ghost use Rattle.der_core.specs.Words.{NoValueOrMemory, encode_error, ok_of};
 ghost use Rattle.pkcs1.specs.Words.{AllocatesForKey, PrivateKey, private_key, rsa_private_key};
-ghost use Rattle.pkcs1.specs.Words.{PrivateKeyEncoding, IsOnlyEncoding, IsReadingError, WhyNoDocument};
-ghost use Rattle.pkcs1.specs.Words.{private_key_with, ListsNone, HasPrivateKey};
-ghost use Rattle.pkcs1.specs.Keys as grammar;
-ghost use Rattle.pkcs1_params.specs.Words.{ErrsOrAsks, IsWritingError, IsTheMeaning, IsAsn1};
+ghost use Rattle.pkcs1.specs.Words.{IsPrivateKey, PrivateKeyEncoding, Refuses, Rejects, WhyNoDocument};
+ghost use Rattle.pkcs1.specs.Words.{private_key_with, ListsNone, HasPrivateKey, held_private_key};
+ghost use Rattle.pkcs1_params.specs.Words.{ErrsOrAsks, IsNoSentence, IsTheMeaning, IsAsn1};
+ghost use Rattle.standard.specs.Statement as standard;
+ghost use Rattle.standard.specs.Statement.{Decodes, Encodes};
 
 use super::RsaPrivateKey;
 use super::other_prime_info::lists_none;
@@ -21,7 +23,7 @@ impl<U: Encode> RsaPrivateKey<U> {
     fn encode_naming_tag(&self, out: &mut [u8]) -> crate::Result<usize>
         ensures shortest { let key = private_key_with U.value self.now in
             IfOk result (λ n. IsShortest (PrivateKeyEncoding U.encoding) key (take n out.new)) }
-        ensures rest { IfOk result (λ n. (n ≤ length out.new) × (drop n out.new ≡ drop n out.old)) }
+        ensures rest { IfOk result (λ n. (n ≤ length out.old) × (drop n out.new ≡ drop n out.old)) }
         ensures unchanged { OnErr result (out.new ≡ out.old) }
         ensures err { let key = private_key_with U.value self.now in
             let some = HasPrivateKey U.has_encoding key in
@@ -70,7 +72,8 @@ impl<U> RsaPrivateKey<U> {
             IfOk result (λ key. IsTheMeaning (PrivateKeyEncoding U.encoding) bytes (private_key_with U.value key)) }
         ensures err { let bytes = octets_of octets.entry in
             let asked = AllocatesIn (Tlv sequence_tag (AllocatesForKey U.encoding U.Decode.may_allocate)) bytes in
-            IfErr result (IsReadingError (PrivateKeyEncoding U.encoding) bytes asked) }
+            let none = IsNoSentence (PrivateKeyEncoding U.encoding) bytes in
+            IfErr result (IsAsn1 (λ e. NoValueOrMemory e.kind asked none)) }
         ensures exact { let bytes = octets_of octets.entry in
             let asked = AllocatesIn (Tlv sequence_tag (AllocatesForKey U.encoding U.Decode.may_allocate)) bytes in
             ErrsOrAsks (private_key_with U.value) (private_key U.read_front bytes) asked result }
@@ -83,30 +86,30 @@ impl<U> RsaPrivateKey<U> {
 }
 
 impl<'a> RsaPrivateKey<UintRef<'a>> {
+    ghost use Rattle.der_core.specs.Words.{bytes_of};
     ghost use Rattle.pkcs1.specs.Words.{MayAllocate, private_key_of};
 
-    /// Decodes a whole slice, as `from_der` does; the contract is stated over the grammar of private keys. Returns
-    /// `OutOfMemory` only if a SEQUENCE that begins with an OtherPrimeInfo follows the eighth number.
+    /// Decodes a whole slice, as `from_der` does. Returns `OutOfMemory` only if a SEQUENCE that begins with an
+    /// OtherPrimeInfo follows the eighth number.
     pub fn decode_key(alloc: Global, bytes: &'a [u8]) -> crate::Result<RsaPrivateKey<UintRef<'a>>>
-        ensures ok { IfOk result (λ key. IsTheMeaning grammar.RsaPrivateKey bytes.now (private_key_of key)) }
-        ensures err { IfErr result (IsReadingError grammar.RsaPrivateKey bytes.now (MayAllocate bytes.now)) }
+        ensures ok { let held = held_private_key bytes_of in
+            IfOk result (λ key. Decodes standard.PrivateKeyEncoding bytes.now (Some (held key))) }
+        ensures err { IfErr result (Rejects standard.PrivateKeyEncoding bytes.now (MayAllocate bytes.now)) }
         ensures exact { ErrsOrAsks private_key_of (rsa_private_key bytes.now) (MayAllocate bytes.now) result }
-        ensures two_primes { (key : PrivateKey (List ℕ))
-            → key.other_prime_infos ≡ None → Means grammar.RsaPrivateKey bytes.now key → IsOk result }
+        ensures two_primes { (key : standard.PrivateKey)
+            → key.other_primes ≡ None → standard.PrivateKeyEncoding key bytes.now → IsOk result }
     {
         Ok(RsaPrivateKey::from_der(alloc, bytes)?) // its numbers are parts of the bytes
     }
 
-    /// Writes the key's only encoding to the front of a slice and returns its length, as `encode_into` does; the
-    /// contract is stated over the grammar of private keys. Returns `Value` of SEQUENCE if the list of other primes is
-    /// there but empty, `Overflow` if the encoding is longer than `Length::MAX`, `NoRoom` if it is longer than the
-    /// slice.
+    /// Writes the key's only encoding to the front of a slice and returns its length, as `encode_into` does. Returns
+    /// `Value` of SEQUENCE if the list of other primes is there but empty, `Overflow` if the encoding is longer than
+    /// `Length::MAX`, `NoRoom` if it is longer than the slice.
     pub fn encode_key(&self, out: &mut [u8]) -> crate::Result<usize>
-        ensures encoding { IfOk result (λ n. IsOnlyEncoding grammar.RsaPrivateKey (private_key_of self.now)
-            (take n out.new)) }
-        ensures rest { IfOk result (λ n. (n ≤ length out.new) × (drop n out.new ≡ drop n out.old)) }
-        ensures unchanged { OnErr result (out.new ≡ out.old) }
-        ensures err { IfErr result (IsWritingError grammar.RsaPrivateKey (private_key_of self.now) (length out.old)) }
+        ensures written { let key = held_private_key bytes_of self.now in
+            Encodes standard.PrivateKeyEncoding key out.old out.new (ok_of (λ n. n) result) }
+        ensures err { let key = held_private_key bytes_of self.now in
+            IfErr result (Refuses IsPrivateKey standard.PrivateKeyEncoding key (length out.old)) }
         ensures no_primes { ListsNone self.now.other_prime_infos
             → IsErrAnd result (IsAsn1 (λ e. e.kind ≡ ErrorKind.Value sequence)) }
     {
@@ -121,9 +124,9 @@ impl RsaPrivateKey<Uint> {
     /// Decodes a whole slice, as `decode_key` of `RsaPrivateKeyRef` does. Returns `OutOfMemory` only if the SEQUENCE
     /// begins with a version and a number.
     pub fn decode_owned_key(alloc: Global, bytes: &[u8]) -> crate::Result<RsaPrivateKey<Uint>>
-        ensures ok { let is_meaning = IsTheMeaning grammar.RsaPrivateKey bytes.now in
-            IfOk result (λ key. is_meaning (private_key_with own_bytes_of key)) }
-        ensures err { IfErr result (IsReadingError grammar.RsaPrivateKey bytes.now (OwnedKeyAllocates bytes.now)) }
+        ensures ok { let held = held_private_key own_bytes_of in
+            IfOk result (λ key. Decodes standard.PrivateKeyEncoding bytes.now (Some (held key))) }
+        ensures err { IfErr result (Rejects standard.PrivateKeyEncoding bytes.now (OwnedKeyAllocates bytes.now)) }
         ensures exact { let asked = OwnedKeyAllocates bytes.now in
             ErrsOrAsks (private_key_with own_bytes_of) (rsa_private_key bytes.now) asked result }
     {
@@ -132,12 +135,10 @@ impl RsaPrivateKey<Uint> {
 
     /// Writes the key's only encoding to the front of a slice, as `encode_key` of `RsaPrivateKeyRef` does.
     pub fn encode_key(&self, out: &mut [u8]) -> crate::Result<usize>
-        ensures encoding { let key = private_key_with own_bytes_of self.now in
-            IfOk result (λ n. IsOnlyEncoding grammar.RsaPrivateKey key (take n out.new)) }
-        ensures rest { IfOk result (λ n. (n ≤ length out.new) × (drop n out.new ≡ drop n out.old)) }
-        ensures unchanged { OnErr result (out.new ≡ out.old) }
-        ensures err { let key = private_key_with own_bytes_of self.now in
-            IfErr result (IsWritingError grammar.RsaPrivateKey key (length out.old)) }
+        ensures written { let key = held_private_key own_bytes_of self.now in
+            Encodes standard.PrivateKeyEncoding key out.old out.new (ok_of (λ n. n) result) }
+        ensures err { let key = held_private_key own_bytes_of self.now in
+            IfErr result (Refuses IsPrivateKey standard.PrivateKeyEncoding key (length out.old)) }
         ensures no_primes { ListsNone self.now.other_prime_infos
             → IsErrAnd result (IsAsn1 (λ e. e.kind ≡ ErrorKind.Value sequence)) }
     {

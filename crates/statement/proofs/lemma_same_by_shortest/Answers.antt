@@ -1,17 +1,11 @@
-use Rattle.statement.proofs.Same.{same_public, same_private, same_pss, same_oaep, same_container}
+use Rattle.statement.proofs.Same.{same_pss, same_oaep, same_container}
 use Rattle.statement.proofs.lemma_same_by_shortest.Goals as goal
-
-pub returns-clause-public : goal.returns-clause-public
-returns-clause-public c = same_public
 
 pub returns-clause-pss : goal.returns-clause-pss
 returns-clause-pss c = same_pss
 
 pub returns-clause-oaep : goal.returns-clause-oaep
 returns-clause-oaep c = same_oaep
-
-pub returns-clause-private : goal.returns-clause-private
-returns-clause-private c = same_private
 
 pub returns-clause-container : goal.returns-clause-container
 returns-clause-container c = same_container

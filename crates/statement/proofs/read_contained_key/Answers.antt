@@ -2,7 +2,7 @@ use Rattle.std.proofs.Common.{sym, ap, ◌∙◌}
 use Rattle.pkcs1.specs.ViewParts.{view_of}
 use Rattle.standard.specs.Statement.{ContainedKeyEncoding}
 use Rattle.statement.proofs.Der.{moved}
-use Rattle.statement.proofs.Held.{view_holds}
+use Rattle.pkcs1.proofs.Decoded.{view_holds}
 use Rattle.statement.proofs.PrivateKeys.{numbers, key_of, back}
 use Rattle.statement.proofs.Containers.{key_sentence, key_means}
 use Rattle.statement.proofs.read_contained_key.Goals as goal

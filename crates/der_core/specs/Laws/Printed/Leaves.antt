@@ -12,10 +12,9 @@ use Rattle.der_core.specs.Laws.Encodings.{tlv_relates}
 use Rattle.der_core.specs.Laws.Integer.{canonical_same, contents_at_most_one, integer_relates}
 use Rattle.der_core.specs.Laws.Length.{length_grows, length_octets-only, length_octets-within}
 use Rattle.der_core.specs.Laws.Readings.{bind_ok, integer_reads, made_tells, ok_same, small_reads}
-use Rattle.der_core.specs.Length.{length_octets as der_octets}
 use Rattle.der_core.specs.Printed.{ReadsPrinted, number_contents, number_of}
 use Rattle.der_core.specs.Readings.{octets_of_all, ◌>>=◌}
-use Rattle.der_core.specs.Tlv as tlvs
+use Rattle.der_core.specs.Tlv.{Tlv}
 use Rattle.standard.specs.Statement.{integer, length_octets, limit, octets, tlv}
 
 -- The octets of a number are its canonical bytes.
@@ -87,24 +86,16 @@ octets_law = record {
 }
 
 -- Lengths and tags: what the standard writes is what a reader of headers finds.
-pub length_octets_same : (n : ℕ) → der_octets n ≡ length_octets n
-unfolding der_octets length_octets
-length_octets_same n = refl
-
-pub tlv_same : (t : ℕ) (c : List ℕ) → tlvs.tlv t c ≡ tlv t c
-tlv_same t c = ap (λ x. t ∷ x ++ c) (length_octets_same (length c))
-
-pub tlv_is : {P : List ℕ → Type 0} (t : ℕ) (w encoding : List ℕ) → ((c : List ℕ) → P c → c ≡ w) → tlvs.Tlv t P encoding
+pub tlv_is : {P : List ℕ → Type 0} (t : ℕ) (w encoding : List ℕ) → ((c : List ℕ) → P c → c ≡ w) → Tlv t P encoding
     → encoding ≡ tlv t w
 tlv_is t w encoding is p =
     let o : p.octets ≡ length_octets (length p.contents) =
-    length_octets-only (length p.contents) p.octets p.counted ∙ length_octets_same (length p.contents) in
+    length_octets-only (length p.contents) p.octets p.counted in
     p.written ∙ ap (λ x. t ∷ x ++ p.contents) o ∙ ap (tlv t) (is p.contents p.holds)
 
-pub tlv_made : {P : List ℕ → Type 0} (t : ℕ) (w : List ℕ) → P w → length (tlv t w) ≤ limit → tlvs.Tlv t P (tlv t w)
+pub tlv_made : {P : List ℕ → Type 0} (t : ℕ) (w : List ℕ) → P w → length (tlv t w) ≤ limit → Tlv t P (tlv t w)
 tlv_made {P} t w h fits =
-    subst (tlvs.Tlv t P) (tlv_same t w) (tlv_relates t (λ (_ : Unit {0}). P) (λ _. w) tt (λ _. h)
-    (omega (arith, ap length (tlv_same t w), fits)))
+    tlv_relates t (λ (_ : Unit {0}). P) (λ _. w) tt (λ _. h) (omega (arith, fits))
 
 pub tlv_fit : (t : ℕ) (c : List ℕ) → length c ≤ length (tlv t c)
 tlv_fit t c = omega (arith, length-append (length_octets (length c)) c)
@@ -112,6 +103,5 @@ tlv_fit t c = omega (arith, length-append (length_octets (length c)) c)
 -- A greater length has no fewer octets.
 pub octets_grow : (m n : ℕ) → m ≤ n → n ≤ limit → length (length_octets m) ≤ length (length_octets n)
 octets_grow m n less few =
-    let g = length_grows m n (der_octets m) (der_octets n) (length_octets-within m (omega (arith, less, few)))
-    (length_octets-within n (omega (arith, few))) less in
-    omega (arith, g, ap length (length_octets_same m), ap length (length_octets_same n))
+    length_grows m n (length_octets m) (length_octets n) (length_octets-within m (omega (arith, less, few)))
+    (length_octets-within n (omega (arith, few))) less

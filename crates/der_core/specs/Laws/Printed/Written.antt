@@ -1,16 +1,15 @@
 -- What is written of values is what is printed of their spellings.
-use Rattle.std.proofs.Common.{ℕ, List, [], ◌∷◌, ◌++◌, ◌<◌, map, refl, sym, ap, ◌∙◌, Option, Some, None}
+use Rattle.std.proofs.Common.{ℕ, List, [], ◌∷◌, ◌++◌, ◌<◌, map, refl, sym, ap, Option, Some, None}
 use Rattle.std.specs.Int.Digits.{number_from_digits}
 use Rattle.std.specs.List.{AllByRecursion, concat}
 use Rattle.std.specs.Option.{option_map}
 use Rattle.der_core.specs.Integer.{IsCanonical, integer_contents}
 use Rattle.der_core.specs.Laws.Integer.{holds_canonical}
-use Rattle.der_core.specs.Laws.Printed.Leaves.{number_octets, octets_canonical, octets_number, tlv_same}
+use Rattle.der_core.specs.Laws.Printed.Leaves.{number_octets, octets_canonical, octets_number}
 use Rattle.der_core.specs.Laws.SmallNumbers.{one_byte}
 use Rattle.der_core.specs.Optional.{HasOptional, written_optional}
 use Rattle.der_core.specs.Printed.{WritesAlike, number_contents}
 use Rattle.der_core.specs.SequenceOf.{AllHave, all_encodings}
-use Rattle.der_core.specs.Tlv as tlvs
 use Rattle.der_core.specs.UintRefValue.{bytes_of}
 use Rattle.der_core.specs.UintValue.{own_bytes_of}
 use Rattle.der_core.specs.declared.integer.owned.Uint.{Uint}
@@ -49,11 +48,11 @@ small_writes n = record {
 
 -- A tag in front, a row, an OPTIONAL part, a list.
 module _ {Has Valid : Type 0} {octets printed : List ℕ} (law : WritesAlike Has octets Valid printed) where
-  pub tagged_writes : (t : ℕ) → WritesAlike Has (tlvs.tlv t octets) Valid (tlv t printed)
+  pub tagged_writes : (t : ℕ) → WritesAlike Has (tlv t octets) Valid (tlv t printed)
   tagged_writes t = record {
     there = law.there;
     back = law.back;
-    same = λ has. tlv_same t octets ∙ ap (tlv t) (law.same has);
+    same = λ has. ap (tlv t) (law.same has);
   }
 
   pub row_writes : {HasRest ValidRest : Type 0} {rest printed_rest : List ℕ}

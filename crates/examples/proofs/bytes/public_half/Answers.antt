@@ -1,35 +1,45 @@
-use Rattle.std.proofs.Common.{ℕ, List, ◌≡◌, ◌⊎◌, inr, subst, Result, Ok, Err}
+use Rattle.std.proofs.Common.{ℕ, List, ◌≡◌, ◌⊎◌, inr, ap, subst, Result, Ok, Err, Some}
 use Rattle.std.specs.Prelude.{IfOk, IfErr}
-use Rattle.der_core.specs.Document.{Means}
 use Rattle.der_core.specs.DocumentValue.{encoding_of}
+use Rattle.der_core.specs.UintRefValue.{bytes_of}
 use Rattle.der_core.specs.declared.document.DocumentOf.{DocumentOf}
 use Rattle.der_core.specs.declared.document.Open.{Open}
+use Rattle.pkcs1.specs.Held.{held_private_key, held_public_key}
+use Rattle.pkcs1.specs.KeyEncodings.{Withholds}
+use Rattle.pkcs1.specs.PrintedKeys.{public_meaning}
 use Rattle.pkcs1_params.specs.declared.error.Error.{Error}
-use Rattle.pkcs1.specs.Keys.{PrivateKey, PublicKey, RsaPrivateKey, RsaPublicKey, public_part}
-use Rattle.pkcs1.specs.KeyEncodings.{IsDocumentError, IsOnlyEncoding}
+use Rattle.standard.specs.Statement.{Decodes, IsShortest, PrivateKey, PrivateKeyEncoding, PublicKey}
+use Rattle.standard.specs.Statement.{PublicKeyEncoding}
+use Rattle.examples.specs.Keys.{public_half_of}
 use Rattle.examples.proofs.bytes.public_half.Goals as goal
 
-of_key : (key : PrivateKey (List ℕ)) (half : PublicKey (List ℕ)) (encoding : List ℕ) → Means RsaPrivateKey encoding key
-    → half ≡ public_part key
-    → (result : Result (DocumentOf Open) Error)
-    → IfOk result (λ document. IsOnlyEncoding RsaPublicKey half (encoding_of document))
-    → IfOk result (λ document. (other : PrivateKey (List ℕ)) × Means RsaPrivateKey encoding other
-    × IsOnlyEncoding RsaPublicKey (public_part other) (encoding_of document))
-of_key key half encoding means is (Ok document) only =
-    (key, means, subst (λ one. IsOnlyEncoding RsaPublicKey one (encoding_of document)) is only)
-of_key key half encoding means is (Err e) only = tt
+-- What is said of a key with the numbers of the public half is said of that half.
+module _ (key : PrivateKey) (half : PublicKey) (is : half ≡ public_half_of key) (encoding : List ℕ)
+    (decodes : Decodes PrivateKeyEncoding encoding (Some key)) where
+  of_half : (result : Result (DocumentOf Open) Error)
+      → IfOk result (λ document. IsShortest PublicKeyEncoding half (encoding_of document))
+      → IfOk result (λ document. (other : PrivateKey) × Decodes PrivateKeyEncoding encoding (Some other)
+      × IsShortest PublicKeyEncoding (public_half_of other) (encoding_of document))
+  of_half (Ok document) shortest =
+      (key, decodes, subst (λ one. IsShortest PublicKeyEncoding one (encoding_of document)) is shortest)
+  of_half (Err e) shortest = tt
 
-rejected_after : (Before : Error → Type 0) (key : PrivateKey (List ℕ)) (half : PublicKey (List ℕ)) (encoding : List ℕ)
-    → Means RsaPrivateKey encoding key → half ≡ public_part key → (result : Result (DocumentOf Open) Error)
-    → IfErr result (IsDocumentError RsaPublicKey half)
-    → IfErr result (λ e. Before e ⊎ ((other : PrivateKey (List ℕ)) × Means RsaPrivateKey encoding other
-    × IsDocumentError RsaPublicKey (public_part other) e))
-rejected_after Before key half encoding means is (Ok document) why = tt
-rejected_after Before key half encoding means is (Err e) why =
-    inr (key, means, subst (λ one. IsDocumentError RsaPublicKey one e) is why)
+  withheld : (Before : Error → Type 0) (result : Result (DocumentOf Open) Error)
+      → IfErr result (Withholds (λ _. Unit {0}) PublicKeyEncoding half)
+      → IfErr result (λ e. Before e ⊎ ((other : PrivateKey) × Decodes PrivateKeyEncoding encoding (Some other)
+      × Withholds (λ _. Unit {0}) PublicKeyEncoding (public_half_of other) e))
+  withheld Before (Ok document) why = tt
+  withheld Before (Err e) why =
+      inr (key, decodes, subst (λ one. Withholds (λ _. Unit {0}) PublicKeyEncoding one e) is why)
 
 pub returns-clause-ok : goal.returns-clause-ok
-returns-clause-ok c = of_key _ _ _ c.in_ok-key.ensures.ok.0 c.public_key.ensures _ c.to_pkcs1_der.ensures.encoding
+returns-clause-ok c =
+    of_half (held_private_key bytes_of c.in_ok-key.key) (held_public_key bytes_of c.public_key.result)
+    (ap public_meaning c.public_key.ensures) c.args.encoding.now c.in_ok-key.ensures.ok c.to_pkcs1_der.result
+    c.to_pkcs1_der.ensures.encoding
 
 pub returns-clause-err : goal.returns-clause-err
-returns-clause-err c = rejected_after _ _ _ _ c.in_ok-key.ensures.ok.0 c.public_key.ensures _ c.to_pkcs1_der.ensures.err
+returns-clause-err c =
+    withheld (held_private_key bytes_of c.in_ok-key.key) (held_public_key bytes_of c.public_key.result)
+    (ap public_meaning c.public_key.ensures) c.args.encoding.now c.in_ok-key.ensures.ok _ c.to_pkcs1_der.result
+    c.to_pkcs1_der.ensures.err

@@ -1,18 +1,32 @@
-use Rattle.pkcs1.specs.KeyReadings.{rsa_private_key}
 use Rattle.der_core.specs.DocumentValue.{encoding_of}
-use Rattle.pkcs1.specs.Keys.{RsaPrivateKey}
-use Rattle.pkcs1.proofs.Reencoded.{comes_out, is_memory_error, memory_wanted}
+use Rattle.der_core.specs.UintValue.{own_bytes_of}
+use Rattle.pkcs1.specs.Allocating.{OwnedKeyAllocates}
+use Rattle.pkcs1.specs.Held.{IsPrivateKey, held_private_key}
+use Rattle.pkcs1.specs.KeyReadings.{rsa_private_key}
+use Rattle.pkcs1.proofs.OneKey.{private_one}
+use Rattle.pkcs1.proofs.Reencoded.{comes_out, if_ok, memory_wanted, rejects}
 use Rattle.pkcs1.proofs.reencode.reencode_private_key.Goals as goal
 
 pub returns-clause-same : goal.returns-clause-same
 returns-clause-same c =
-    comes_out RsaPrivateKey _ _ c.in_ok-from_pkcs1_der.ensures.ok.0 encoding_of _ c.to_pkcs1_der.ensures.encoding
+    let read = c.in_ok-from_pkcs1_der in
+    comes_out IsPrivateKey private_one (held_private_key own_bytes_of read.field-0) c.in_ok-from_pkcs1_der.ensures.ok.0.1 c.args.bytes.now read.ensures.ok.0
+    encoding_of c.to_pkcs1_der.result c.to_pkcs1_der.ensures.encoding
+
+pub returns-clause-sentence : goal.returns-clause-sentence
+returns-clause-sentence c =
+    let read = c.in_ok-from_pkcs1_der in
+    if_ok c.to_pkcs1_der.result (held_private_key own_bytes_of read.field-0, read.ensures.ok.0)
 
 pub returns-clause-err : goal.returns-clause-err
 returns-clause-err c =
-    is_memory_error RsaPrivateKey _ _ c.in_ok-from_pkcs1_der.ensures.ok.0 _ _ c.to_pkcs1_der.ensures.err
+    let read = c.in_ok-from_pkcs1_der in
+    rejects IsPrivateKey private_one (held_private_key own_bytes_of read.field-0) c.in_ok-from_pkcs1_der.ensures.ok.0.1 c.args.bytes.now read.ensures.ok.0
+    encoding_of (OwnedKeyAllocates c.args.bytes.now) c.to_pkcs1_der.result c.to_pkcs1_der.ensures.err
 
 pub returns-clause-exact : goal.returns-clause-exact
 returns-clause-exact c =
-    memory_wanted RsaPrivateKey _ _ c.in_ok-from_pkcs1_der.ensures.ok.0 encoding_of _ rsa_private_key
-    c.in_ok-from_pkcs1_der.ensures.exact _ c.to_pkcs1_der.ensures.encoding c.to_pkcs1_der.ensures.err
+    let read = c.in_ok-from_pkcs1_der in
+    memory_wanted IsPrivateKey private_one (held_private_key own_bytes_of read.field-0) c.in_ok-from_pkcs1_der.ensures.ok.0.1 c.args.bytes.now read.ensures.ok.0
+    encoding_of (OwnedKeyAllocates c.args.bytes.now) rsa_private_key read.ensures.exact c.to_pkcs1_der.result c.to_pkcs1_der.ensures.encoding
+    c.to_pkcs1_der.ensures.err

@@ -4,7 +4,7 @@ use Rattle.pkcs1_c.specs.declared.algorithm.Algorithm.{Algorithm}
 use Rattle.pkcs1_c.specs.Status.{kind_number}
 use Rattle.pkcs1_c.specs.StructValues.{algorithm_seen}
 use Rattle.pkcs1_c.specs.StructErrors.{PlainError}
-use Rattle.pkcs1_c.proofs.Given.{err_handed}
+use Rattle.pkcs1_c.proofs.NotWritten.{err_handed}
 use Rattle.pkcs1_c.proofs.HeldParameters.{algorithm_rejected}
 use Rattle.pkcs1_c.proofs.algorithm.from_c_algorithm.Goals as goal
 

@@ -3,7 +3,7 @@ use Rattle.pkcs1_c.specs.declared.algorithm.MaskGen.{MaskGen}
 use Rattle.pkcs1_c.specs.Status.{kind_number}
 use Rattle.pkcs1_c.specs.StructValues.{mask_gen_seen}
 use Rattle.pkcs1_c.specs.StructErrors.{MaskError}
-use Rattle.pkcs1_c.proofs.Given.{err_handed}
+use Rattle.pkcs1_c.proofs.NotWritten.{err_handed}
 use Rattle.pkcs1_c.proofs.HeldParameters.{mask_rejected}
 use Rattle.pkcs1_c.proofs.algorithm.from_c_mask_gen.Goals as goal
 

@@ -3,8 +3,9 @@ use Rattle.der_core.specs.Document.{IsShortest}
 use Rattle.pkcs1.specs.KeyReadings.{rsa_private_key}
 use Rattle.pkcs1.proofs.KeyReadings.{rsa_private_key_reads}
 use Rattle.pkcs8_core.specs.Container.{PrivateKeyInfo}
-use Rattle.pkcs1_c.specs.Containers.{info_seen, HoldsSomeKey}
+use Rattle.pkcs1_c.specs.Containers.{info_seen}
 use Rattle.pkcs1_c.specs.StructErrors.{InfoError}
+use Rattle.pkcs1_c.specs.Structs.{HasKey}
 use Rattle.pkcs1_c.proofs.Containers.{error_none, info_one, info_rest}
 use Rattle.pkcs1_c.proofs.NotWritten.{status_known}
 use Rattle.pkcs1_c.proofs.Writes.{refused, writes_as}
@@ -23,8 +24,10 @@ returns-in-Ok c =
 pub returns-in-Err : goal.returns-in-Err
 returns-in-Err c =
     let info = c.args.info.now in
-    let e = status_known (rsa_private_key info.private_key.now) (rsa_private_key_reads.tells info.private_key.now) c.in-Err.failure c.in-Err.ensures.exact in
-    refused (λ encoding. HoldsSomeKey info × IsShortest PrivateKeyInfo (info_seen info) encoding) c.args.out.now
+    let octets = info.private_key.now in
+    let e = status_known (rsa_private_key octets) (rsa_private_key_reads.tells octets) c.in-Err.failure
+    c.in-Err.ensures.exact in
+    refused (λ encoding. HasKey info × IsShortest PrivateKeyInfo (info_seen info) encoding) c.args.out.now
     c.args.len.now _ _ c.status.ensures (InfoError info) (info_one info (length c.args.out.now))
     (e.0.0, λ full. omega (arith, full, e.0.1))
     (λ holds. absurd (error_none info _ e.1 holds)) (inl e.1)

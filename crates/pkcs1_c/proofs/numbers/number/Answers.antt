@@ -1,4 +1,8 @@
+use Rattle.std.proofs.Common.{ap, ◌∙◌, length, sym, arith}
 use Rattle.std.proofs.lemmas.Result.{err_from_is_err_and}
+use Rattle.der_core.specs.Laws.Printed.Leaves.{number_octets}
+use Rattle.der_core.specs.UintRefValue.{bytes_of}
+use Rattle.standard.specs.Statement.{octets}
 use Rattle.pkcs1_c.proofs.StructErrors.{number_none, number_rejected}
 use Rattle.pkcs1_c.proofs.numbers.number.Goals as goal
 
@@ -10,4 +14,5 @@ returns-in_err-new-clause-err c =
 pub returns-clause-held : goal.returns-clause-held
 returns-clause-held c =
     let made = c.in_ok-new.ensures in
-    number_none c.args.bytes.now _ (made.some, made.ok.1, made.ok.0) c.in_ok-new.field-0.bounded
+    let same = ap octets (sym made.ok.0) ∙ number_octets (bytes_of c.in_ok-new.field-0) made.ok.1 in
+    number_none c.args.bytes.now made.some (omega (arith, ap length same, c.in_ok-new.field-0.bounded))

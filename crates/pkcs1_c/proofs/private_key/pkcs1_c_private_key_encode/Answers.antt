@@ -1,67 +1,100 @@
-use Rattle.std.proofs.Common.{ℕ, List, ◌≡◌, ◌≢◌, length, sym, refl, ◌∙◌, arith}
+use Rattle.std.proofs.Common.{ℕ, List, length, sym, refl, ◌≡◌, ◌∙◌, arith}
 use Rattle.pkcs1.specs.Keys.{RsaPrivateKey}
 use Rattle.pkcs1.specs.PrivateKeyValue.{private_key_with}
-use Rattle.pkcs1_c.specs.NumberValue.{number_of}
-use Rattle.pkcs1.proofs.KeyEncodings.{only_encoding}
-use Rattle.pkcs1.proofs.PrivateKeys.{private_at_most_one, private_delimited}
-use Rattle.pkcs1_c.specs.declared.private_key.PrivateKey.{PrivateKey}
+use Rattle.standard.specs.Statement.{PrivateKeyEncoding}
 use Rattle.pkcs1_c.specs.declared.private_key.OtherPrime.{OtherPrime}
-use Rattle.pkcs1_c.specs.Given.{IsGiven}
-use Rattle.pkcs1_c.specs.StructErrors.{GivenError, PartThen, NumbersError, given_numbers}
-use Rattle.pkcs1_c.specs.Writes.{IsGivenEncoding}
-use Rattle.pkcs1_c.proofs.GivenKeys.{given_same, given_written, numbers_refused, private_fits, private_held}
-use Rattle.pkcs1_c.proofs.GivenKeys.{private_some}
-use Rattle.pkcs1_c.proofs.StructErrors.{given_one, numbers_part, part_one, unless_part}
-use Rattle.pkcs1_c.proofs.Writes.{behind_part, part_refused, no_memory_asked}
+use Rattle.pkcs1_c.specs.declared.private_key.PrivateKey.{PrivateKey}
+use Rattle.pkcs1_c.specs.NumberValue.{number_of}
+use Rattle.pkcs1_c.specs.StructErrors.{Miscounted, NumbersError, PartThen, Unwritten, given_numbers}
+use Rattle.pkcs1_c.specs.Structs.{HasPrivateNumbers, If, private_key}
+use Rattle.pkcs1_c.proofs.GivenKeys.{is_private, private_fits, private_has, private_law}
+use Rattle.pkcs1_c.proofs.KeyWrites.{error_behind, error_first, key_error, key_refused, key_written}
+use Rattle.pkcs1_c.proofs.StructErrors.{IsOne, IsPart, numbers_part, part_one, unless_part, unwritten_one}
+use Rattle.pkcs1_c.proofs.Writes.{no_memory_asked}
 use Rattle.pkcs1_c.proofs.private_key.pkcs1_c_private_key_encode.Goals as goal
 
-abbrev Miscounted : PrivateKey → List OtherPrime → ℕ → Type 0
-Miscounted key others status = (status ≡ 21) × (key.other_primes ≢ length others)
+module _ (key : PrivateKey) (others : List OtherPrime) where
+  abbrev Unheld : ℕ → Type 0
+  Unheld = NumbersError (given_numbers key others)
 
-abbrev Counted : PrivateKey → List OtherPrime → ℕ → ℕ → Type 0
-Counted key others room =
-    PartThen (NumbersError (given_numbers key others)) (GivenError (IsGiven key others) RsaPrivateKey room)
+  abbrev Rest : ℕ → ℕ → Type 0
+  Rest = Unwritten PrivateKeyEncoding (private_key key others)
+
+  abbrev Counted : ℕ → ℕ → Type 0
+  Counted room = PartThen Unheld (Rest room)
+
+  miscounted : IsPart (Miscounted key others)
+  miscounted = unless_part 21 (key.other_primes ≡ length others) (omega arith) (λ e. omega (arith, e))
+
+  counted_one : (room : ℕ) → IsOne (Counted room)
+  counted_one room =
+      part_one Unheld (Rest room) (numbers_part (given_numbers key others)).0
+      (unwritten_one PrivateKeyEncoding (private_key key others) room)
 
 pub write_encoding-requires : goal.write_encoding-requires
-write_encoding-requires c = private_some c.in-Ok.key _ c.in-Ok.ensures.ok.1.8
+write_encoding-requires c =
+    let key = c.args.key.now in
+    let others = c.args.others.now in
+    (private_law key others c.in-Ok.key c.in-Ok.ensures.ok).has (is_private key others)
 
 pub returns-then-key-others-clause-writes : goal.returns-then-key-others-clause-writes
 returns-then-key-others-clause-writes c = λ _.
     let key = c.args.key.now in
     let others = c.args.others.now in
-    let numbers = given_numbers key others in
+    key_refused (If (HasPrivateNumbers key others) PrivateKeyEncoding) (private_key key others) c.args.out.now
+    c.args.len.now 21 (omega arith, λ e. omega (arith, e)) (λ bytes p. c.if-key-others.true p.0.0)
+
+pub returns-then-key-others-clause-exact : goal.returns-then-key-others-clause-exact
+returns-then-key-others-clause-exact c = λ _.
+    let key = c.args.key.now in
+    let others = c.args.others.now in
     let room = length c.args.out.now in
-    part_refused (IsGivenEncoding (IsGiven key others) RsaPrivateKey) c.args.out.now c.args.len.now 21 21 refl
-    (Miscounted key others) (Counted key others)
-    (unless_part 21 (key.other_primes ≡ length others) (omega arith) (λ e. omega (arith, e)))
-    (part_one (NumbersError numbers) (GivenError (IsGiven key others) RsaPrivateKey room) (numbers_part numbers).0
-    (given_one (IsGiven key others) RsaPrivateKey (given_same key others) room))
-    (λ made given. absurd (c.if-key-others.true given.0)) (refl, c.if-key-others.true)
+    error_first (Miscounted key others) (Counted key others room) 21 (miscounted key others)
+    (counted_one key others room) (refl, c.if-key-others.true)
 
 pub returns-in-Ok-clause-writes : goal.returns-in-Ok-clause-writes
 returns-in-Ok-clause-writes c = λ _.
     let key = c.args.key.now in
     let others = c.args.others.now in
-    let made = private_key_with number_of c.in-Ok.key in
-    let given = c.in-Ok.ensures.ok in
-    behind_part (Miscounted key others) (Counted key others) (λ s p. p.1 given.0)
-    (given_written (given_numbers key others) (IsGiven key others) RsaPrivateKey (given_same key others) made given
-    (private_held key others c.in-Ok.key given)
-    (only_encoding RsaPrivateKey private_delimited made (private_at_most_one made)) c.write_encoding.ensures)
+    key_written (private_law key others c.in-Ok.key c.in-Ok.ensures.ok) (HasPrivateNumbers key others)
+    (private_has key others c.if-key-others.false c.in-Ok.ensures.held) c.write_encoding.ensures
+
+pub returns-in-Ok-clause-exact : goal.returns-in-Ok-clause-exact
+returns-in-Ok-clause-exact c = λ _.
+    let key = c.args.key.now in
+    let others = c.args.others.now in
+    let room = length c.args.out.now in
+    error_behind (Miscounted key others) (Counted key others room) _ (λ s p. p.1 c.if-key-others.false)
+    (error_behind (Unheld key others) (Rest key others room) _ c.in-Ok.ensures.held
+    (key_error (private_law key others c.in-Ok.key c.in-Ok.ensures.ok) room _ c.write_encoding.ensures.exact))
 
 pub returns-in-Err-clause-writes : goal.returns-in-Err-clause-writes
 returns-in-Err-clause-writes c = λ other.
     let key = c.args.key.now in
     let others = c.args.others.now in
-    behind_part (Miscounted key others) (Counted key others) (λ s p. p.1 (omega (arith, c.if-key-others.false)))
-    (numbers_refused (given_numbers key others) (IsGiven key others) RsaPrivateKey (given_same key others)
-    c.args.out.now c.args.len.now _ _ c.status.ensures
-    (private_fits key others) (c.in-Err.ensures.err (λ e. other (c.status.ensures ∙ e))))
+    let s = c.status.result in
+    let told = c.in-Err.ensures.err (λ e. other (c.status.ensures ∙ e)) in
+    let rejected : Unheld key others s = rw c.status.ensures told in
+    key_refused (If (HasPrivateNumbers key others) PrivateKeyEncoding) (private_key key others) c.args.out.now
+    c.args.len.now s ((numbers_part (given_numbers key others)).1 s rejected)
+    (λ bytes p. private_fits key others p.0 bytes p.1 s rejected)
+
+pub returns-in-Err-clause-exact : goal.returns-in-Err-clause-exact
+returns-in-Err-clause-exact c = λ other.
+    let key = c.args.key.now in
+    let others = c.args.others.now in
+    let room = length c.args.out.now in
+    let s = c.status.result in
+    let told = c.in-Err.ensures.err (λ e. other (c.status.ensures ∙ e)) in
+    let rejected : Unheld key others s = rw c.status.ensures told in
+    error_behind (Miscounted key others) (Counted key others room) s (λ t p. p.1 c.if-key-others.false)
+    (error_first (Unheld key others) (Rest key others room) s (numbers_part (given_numbers key others))
+    (unwritten_one PrivateKeyEncoding (private_key key others) room) rejected)
 
 pub returns-in-Ok-clause-memory : goal.returns-in-Ok-clause-memory
 returns-in-Ok-clause-memory c =
-    λ memory. absurd (no_memory_asked RsaPrivateKey (private_key_with number_of c.in-Ok.key) _ _ c.write_encoding.ensures.exact
-    memory)
+    λ memory. absurd (no_memory_asked RsaPrivateKey (private_key_with number_of c.in-Ok.key) _ _
+    c.write_encoding.ensures.exact memory)
 
 pub returns-in-Err-clause-memory : goal.returns-in-Err-clause-memory
 returns-in-Err-clause-memory c = λ memory. (c.in-Err.ensures.memory (sym c.status.ensures ∙ memory), refl, refl)

@@ -1,12 +1,20 @@
-use Rattle.pkcs1.specs.KeyReadings.{rsa_public_key}
 use Rattle.pkcs1.proofs.KeyReadings.{rsa_public_key_reads}
+use Rattle.pkcs1.specs.Held.{held_public_key}
+use Rattle.pkcs1.specs.KeyReadings.{rsa_public_key}
+use Rattle.der_core.specs.UintRefValue.{bytes_of}
+use Rattle.pkcs1_c.proofs.HeldKeys.{octets_held}
 use Rattle.pkcs1_c.proofs.NotWritten.{status_exact}
 use Rattle.pkcs1_c.proofs.public_key.pkcs1_c_public_key_decode.Goals as goal
 
 pub returns-in-Ok-clause-ok : goal.returns-in-Ok-clause-ok
 returns-in-Ok-clause-ok c =
-    λ _. rw (c.as_bytes-key.ensures.number, c.as_bytes-key-in-Ok.ensures.number) c.in-Ok.ensures.ok
+    λ _. rw (c.as_bytes-key.ensures.number, c.as_bytes-key-in-Ok.ensures.number) (
+      held_public_key bytes_of c.in-Ok.read,
+      c.in-Ok.ensures.read,
+      (octets_held c.in-Ok.read.modulus, octets_held c.in-Ok.read.public_exponent),
+    )
 
 pub returns-in-Err-clause-exact : goal.returns-in-Err-clause-exact
 returns-in-Err-clause-exact c =
-    status_exact (rsa_public_key c.args.encoding.now) (rsa_public_key_reads.tells c.args.encoding.now) c.in-Err.error _ c.status.ensures c.in-Err.ensures.exact
+    status_exact (rsa_public_key c.args.encoding.now) (rsa_public_key_reads.tells c.args.encoding.now) c.in-Err.error _
+    c.status.ensures c.in-Err.ensures.exact

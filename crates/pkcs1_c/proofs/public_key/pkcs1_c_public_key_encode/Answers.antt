@@ -1,27 +1,41 @@
-use Rattle.pkcs1.specs.Keys.{RsaPublicKey}
-use Rattle.pkcs1.specs.PublicKeyValue.{public_key_with}
-use Rattle.pkcs1_c.specs.NumberValue.{number_of}
-use Rattle.pkcs1.proofs.PublicKeys.{public_only}
-use Rattle.pkcs1_c.specs.Numbers.{ArePublicNumbers}
-use Rattle.pkcs1_c.specs.StructValues.{public_key_seen}
-use Rattle.pkcs1_c.specs.StructErrors.{two_numbers}
-use Rattle.pkcs1_c.proofs.Given.{public_same}
-use Rattle.pkcs1_c.proofs.GivenKeys.{given_written, numbers_refused, public_fits, public_held, public_some}
+use Rattle.std.proofs.Common.{length}
+use Rattle.standard.specs.Statement.{PublicKeyEncoding}
+use Rattle.pkcs1_c.specs.StructErrors.{NumbersError, Unwritten, two_numbers}
+use Rattle.pkcs1_c.specs.Structs.{HasNumbers, If, public_key}
+use Rattle.pkcs1_c.proofs.GivenKeys.{public_fits, public_has, public_law}
+use Rattle.pkcs1_c.proofs.KeyWrites.{error_behind, error_first, key_error, key_refused, key_written}
+use Rattle.pkcs1_c.proofs.StructErrors.{numbers_part, unwritten_one}
 use Rattle.pkcs1_c.proofs.public_key.pkcs1_c_public_key_encode.Goals as goal
 
 pub write_encoding-requires : goal.write_encoding-requires
-write_encoding-requires c = public_some c.in-Ok.key
+write_encoding-requires c = (public_law c.args.key.now c.in-Ok.key c.in-Ok.ensures.ok).has tt
 
-pub returns-in-Ok : goal.returns-in-Ok
-returns-in-Ok c =
-    let given = public_key_seen c.args.key.now in
-    let made = public_key_with number_of c.in-Ok.key in
-    given_written (two_numbers given) (λ key. ArePublicNumbers key given) RsaPublicKey (public_same given) made
-    c.in-Ok.ensures.ok (public_held c.in-Ok.key given c.in-Ok.ensures.ok) (public_only made) c.write_encoding.ensures
+pub returns-in-Ok-clause-writes : goal.returns-in-Ok-clause-writes
+returns-in-Ok-clause-writes c =
+    let key = c.args.key.now in
+    key_written (public_law key c.in-Ok.key c.in-Ok.ensures.ok) (HasNumbers key) (public_has key c.in-Ok.ensures.held)
+    c.write_encoding.ensures
 
-pub returns-in-Err : goal.returns-in-Err
-returns-in-Err c =
-    let given = public_key_seen c.args.key.now in
-    numbers_refused (two_numbers given) (λ key. ArePublicNumbers key given) RsaPublicKey (public_same given)
-    c.args.out.now c.args.len.now _ _ c.status.ensures
-    (public_fits given) c.in-Err.ensures.err
+pub returns-in-Ok-clause-exact : goal.returns-in-Ok-clause-exact
+returns-in-Ok-clause-exact c =
+    let key = c.args.key.now in
+    let room = length c.args.out.now in
+    error_behind (NumbersError (two_numbers key)) (Unwritten PublicKeyEncoding (public_key key) room) _
+    c.in-Ok.ensures.held
+    (key_error (public_law key c.in-Ok.key c.in-Ok.ensures.ok) room _ c.write_encoding.ensures.exact)
+
+pub returns-in-Err-clause-writes : goal.returns-in-Err-clause-writes
+returns-in-Err-clause-writes c =
+    let key = c.args.key.now in
+    let s = c.status.result in
+    let rejected : NumbersError (two_numbers key) s = rw c.status.ensures c.in-Err.ensures.err in
+    key_refused (If (HasNumbers key) PublicKeyEncoding) (public_key key) c.args.out.now c.args.len.now s
+    ((numbers_part (two_numbers key)).1 s rejected) (λ bytes p. public_fits key p.0 bytes p.1 s rejected)
+
+pub returns-in-Err-clause-exact : goal.returns-in-Err-clause-exact
+returns-in-Err-clause-exact c =
+    let key = c.args.key.now in
+    let room = length c.args.out.now in
+    let rejected : NumbersError (two_numbers key) c.status.result = rw c.status.ensures c.in-Err.ensures.err in
+    error_first (NumbersError (two_numbers key)) (Unwritten PublicKeyEncoding (public_key key) room) _
+    (numbers_part (two_numbers key)) (unwritten_one PublicKeyEncoding (public_key key) room) rejected

@@ -3,20 +3,12 @@ use Rattle.statement.specs.Library as library
 use Rattle.standard.specs.Statement.{ContainerEncoding}
 use Rattle.pkcs1_c.proofs.StatedCalls.{read}
 use Rattle.pkcs1_c.proofs.StatedContainers.{container}
-use Rattle.pkcs1_c.proofs.StatedKeys.{read_private}
 use Rattle.pkcs1_c.proofs.stated_keys.decode_private_key_info.Goals as goal
 
 pub returns-clause-ok : goal.returns-clause-ok
 returns-clause-ok c is =
     read container ContainerEncoding PrivateKeyInfo c.lemma_encodings_are_the_librarys.ensures.container
     c.pkcs1_c_private_key_info_decode.new.info c.args.encoding.now (c.pkcs1_c_private_key_info_decode.ensures.ok is)
-
-pub returns-clause-key : goal.returns-clause-key
-returns-clause-key c is =
-    let bridge = c.lemma_encodings_are_the_librarys.ensures in
-    read_private bridge.private bridge.private_each c.pkcs1_c_private_key_info_decode.new.info.private_key.now
-    c.pkcs1_c_private_key_info_decode.new.key c.pkcs1_c_private_key_info_decode.new.others
-    (c.pkcs1_c_private_key_info_decode.ensures.key is)
 
 pub returns-clause-rejected : goal.returns-clause-rejected
 returns-clause-rejected c is v p =

@@ -9,7 +9,9 @@ use Rattle.pkcs8_core.specs.Rsa.{RsaPrivateKeyInfo, with_rsa_key}
 use Rattle.pkcs8_core.proofs.Container.{info_delimited}
 use Rattle.pkcs8_core.proofs.ContainerReadings.{private_key_info_reads}
 use Rattle.pkcs8_core.proofs.RsaHeld.{none_held, none_in, only_held, only_in, read_held}
+use Rattle.pkcs1.specs.Held.{held_view}
 use Rattle.pkcs1.specs.ViewParts.{view_of}
+use Rattle.pkcs1.proofs.ToldKeys.{private_err, private_ok}
 use Rattle.pkcs8_core.proofs.rsa.rsa_from_pkcs8_der.Goals as goal
 
 pub returns-in_err-info-clause-err : goal.returns-in_err-info-clause-err
@@ -25,13 +27,17 @@ returns-clause-err c = none_in _ _ c.in_ok-info.ensures.ok _ c.rsa_view.ensures.
 pub returns-in-Some-clause-ok : goal.returns-in-Some-clause-ok
 returns-in-Some-clause-ok c =
     let info = with_rsa_key (octets_of c.in-Some.private_key) _ in
-    let held = only_held info _ c.as_bytes.ensures.octets refl view_of _ c.try_from.ensures.ok in
+    let key = c.as_bytes.result.now in
+    let read = private_ok view_of held_view key c.try_from.result c.try_from.ensures.read c.try_from.ensures.exact in
+    let held = only_held info key c.as_bytes.ensures.octets refl view_of c.try_from.result read in
     only_in _ info (the_meaning info_delimited info _ c.in-Some.ensures) view_of _ held
 
 pub returns-in-Some-clause-err : goal.returns-in-Some-clause-err
 returns-in-Some-clause-err c =
     let info = with_rsa_key (octets_of c.in-Some.private_key) _ in
-    let held = none_held info _ c.as_bytes.ensures.octets refl _ c.try_from.ensures.err in
+    let key = c.as_bytes.result.now in
+    let none = private_err view_of key c.try_from.result c.try_from.ensures.exact in
+    let held = none_held info key c.as_bytes.ensures.octets refl c.try_from.result none in
     none_in _ info (the_meaning info_delimited info _ c.in-Some.ensures) _ held
 
 pub returns-in-Some-clause-exact : goal.returns-in-Some-clause-exact

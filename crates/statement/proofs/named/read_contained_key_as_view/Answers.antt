@@ -5,7 +5,8 @@ use Rattle.pkcs8_core.specs.ContainerValue.{info_of}
 use Rattle.standard.specs.Statement.{PrivateKeyEncoding}
 use Rattle.statement.proofs.Der.{moved}
 use Rattle.statement.proofs.Algorithms.{plain_from, plain_to, plain_forth}
-use Rattle.statement.proofs.Held.{view_holds, plain_holds}
+use Rattle.pkcs1.proofs.Decoded.{view_holds}
+use Rattle.statement.proofs.Held.{plain_holds}
 use Rattle.statement.proofs.PrivateKeys.{numbers, key_of, back, sentence, means}
 use Rattle.statement.proofs.named.read_contained_key_as_view.Goals as goal
 

@@ -1,6 +1,6 @@
 use Rattle.std.proofs.Common.{sym, ◌∙◌}
 use Rattle.der_core.specs.Laws.Integer.{holds_canonical}
-use Rattle.statement.proofs.Octets.{number_octets}
+use Rattle.der_core.specs.Laws.Printed.Leaves.{number_octets}
 use Rattle.statement.proofs.seen.bytes_of_owned_number.Goals as goal
 
 pub returns : goal.returns

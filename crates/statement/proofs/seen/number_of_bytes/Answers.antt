@@ -1,7 +1,7 @@
 use Rattle.std.proofs.Common.{List, ℕ, [], ◌∷◌, ◌≡◌, length, refl, inl, inr, arith}
 use Rattle.std.specs.Int.Digits.{number_from_digits}
 use Rattle.standard.specs.Statement.{octets}
-use Rattle.statement.proofs.Octets.{octets_canonical, octets_number}
+use Rattle.der_core.specs.Laws.Printed.Leaves.{octets_canonical, octets_number}
 use Rattle.statement.proofs.seen.number_of_bytes.Goals as goal
 
 empty : (x : List ℕ) → length x ≡ 0 → x ≡ []

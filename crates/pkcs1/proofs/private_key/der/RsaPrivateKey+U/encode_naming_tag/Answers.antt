@@ -1,4 +1,4 @@
-use Rattle.std.proofs.Common.{ap, ◌∙◌, refl}
+use Rattle.std.proofs.Common.{ap, ◌∙◌, arith, refl}
 use Rattle.std.proofs.lemmas.Result.{err_from_is_err_and}
 use Rattle.der_core.specs.Laws.Tags.{same_tag}
 use Rattle.der_core.specs.declared.error.ErrorKind.TheVariants as kind
@@ -25,7 +25,8 @@ returns-clause-rest g c =
     tlv 48 (written_private_key g.U.Encoding.written_encoding (private_key_with g.U.Encoding.value c.args.self.now))
     in
     let made = c.in_ok-encode_into.ensures.ok in
-    rest_is encoding c.args.out.now _ _ made.0 made.1
+    let rest = rest_is encoding c.args.out.now _ _ made.0 made.1 in
+    (omega (arith, rest.0, c.encode_into.auto.out), rest.1)
 
 pub returns-in_err-encode_into-clause-err : goal.returns-in_err-encode_into-clause-err
 returns-in_err-encode_into-clause-err g c =

@@ -1,13 +1,19 @@
 use Rattle.der_core.specs.UintRefValue.{bytes_of}
-use Rattle.pkcs1.specs.PrivateKeyValue.{private_key_with}
-use Rattle.pkcs1.proofs.KeysHaveEncodings.{borrowed_held, rejected_held}
-use Rattle.pkcs1.proofs.PrivateKeys.{private_only}
+use Rattle.pkcs1.proofs.KeysHaveEncodings.{borrowed_held}
+use Rattle.pkcs1.proofs.Promised.{encodes, refuses}
+use Rattle.pkcs1.proofs.WrittenKeys.{private_agrees, private_valid}
 use Rattle.pkcs1.proofs.private_key.der.RsaPrivateKey+UintRef.encode_key.Goals as goal
 
-pub returns-clause-encoding : goal.returns-clause-encoding
-returns-clause-encoding c =
-    private_only (private_key_with bytes_of c.args.self.now) c.encode_naming_tag.result _ c.encode_naming_tag.ensures.shortest
+pub returns-clause-written : goal.returns-clause-written
+returns-clause-written c =
+    let key = c.args.self.now in
+    let wrote = c.encode_naming_tag in
+    encodes (private_agrees bytes_of borrowed_held key) _ (private_valid bytes_of borrowed_held key) c.args.out.now wrote.new.out
+    wrote.result wrote.ensures.shortest wrote.ensures.rest wrote.ensures.unchanged wrote.ensures.err
 
 pub returns-clause-err : goal.returns-clause-err
 returns-clause-err c =
-    rejected_held bytes_of borrowed_held c.args.self.now _ c.encode_naming_tag.result c.encode_naming_tag.ensures.err
+    let key = c.args.self.now in
+    let wrote = c.encode_naming_tag in
+    refuses (private_agrees bytes_of borrowed_held key) _ (private_valid bytes_of borrowed_held key) c.args.out.now wrote.new.out
+    wrote.result wrote.ensures.err

@@ -1,0 +1,32 @@
+use Rattle.der_core.specs.DocumentValue.{encoding_of}
+use Rattle.der_core.specs.UintValue.{own_bytes_of}
+use Rattle.pkcs1.specs.Allocating.{OwnedPublicKeyAllocates}
+use Rattle.pkcs1.specs.Held.{held_public_key}
+use Rattle.pkcs1.specs.KeyReadings.{rsa_public_key}
+use Rattle.pkcs1.proofs.OneKey.{public_one}
+use Rattle.pkcs1.proofs.Reencoded.{comes_out, if_ok, memory_wanted, rejects}
+use Rattle.pkcs1.proofs.reencode.reencode_public_key.Goals as goal
+
+pub returns-clause-same : goal.returns-clause-same
+returns-clause-same c =
+    let read = c.in_ok-from_pkcs1_der in
+    comes_out (λ _. Unit {0}) public_one (held_public_key own_bytes_of read.field-0) tt c.args.bytes.now read.ensures.ok.0
+    encoding_of c.to_pkcs1_der.result c.to_pkcs1_der.ensures.encoding
+
+pub returns-clause-sentence : goal.returns-clause-sentence
+returns-clause-sentence c =
+    let read = c.in_ok-from_pkcs1_der in
+    if_ok c.to_pkcs1_der.result (held_public_key own_bytes_of read.field-0, read.ensures.ok.0)
+
+pub returns-clause-err : goal.returns-clause-err
+returns-clause-err c =
+    let read = c.in_ok-from_pkcs1_der in
+    rejects (λ _. Unit {0}) public_one (held_public_key own_bytes_of read.field-0) tt c.args.bytes.now read.ensures.ok.0
+    encoding_of (OwnedPublicKeyAllocates c.args.bytes.now) c.to_pkcs1_der.result c.to_pkcs1_der.ensures.err
+
+pub returns-clause-exact : goal.returns-clause-exact
+returns-clause-exact c =
+    let read = c.in_ok-from_pkcs1_der in
+    memory_wanted (λ _. Unit {0}) public_one (held_public_key own_bytes_of read.field-0) tt c.args.bytes.now read.ensures.ok.0
+    encoding_of (OwnedPublicKeyAllocates c.args.bytes.now) rsa_public_key read.ensures.exact c.to_pkcs1_der.result c.to_pkcs1_der.ensures.encoding
+    c.to_pkcs1_der.ensures.err

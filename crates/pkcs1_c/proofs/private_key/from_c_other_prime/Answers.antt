@@ -1,0 +1,10 @@
+use Rattle.pkcs1_c.specs.Structs.{numbers_of_prime}
+use Rattle.pkcs1_c.proofs.StructErrors.{held_none}
+use Rattle.pkcs1_c.proofs.private_key.from_c_other_prime.Goals as goal
+
+pub returns-clause-held : goal.returns-clause-held
+returns-clause-held c =
+    held_none (numbers_of_prime c.args.other.now) (
+      c.in_ok-number.ensures.held,
+      (c.in_ok-number-2.ensures.held, (c.in_ok-number-3.ensures.held, tt)),
+    )
