@@ -36,7 +36,7 @@ abbrev pub EncodingGives : {A : Type 0} → (A → List ℕ → Type 0) → A �
 EncodingGives encoding x before after =
     (b : List ℕ) × (rest : List ℕ) × (before ≡ Some (b ++ rest)) × (after ≡ Some rest) × encoding x b
 
-module _ (V : Type 0) (encoding : V → List ℕ → Type 0) (d : IsDelimited encoding) where
+module _ (V : Type 0) (encoding : V → List ℕ → Type 0) (some : (v : V) (b : List ℕ) → encoding v b → 0 < length b) where
   -- one more encoding at the end
   joins_push : (vs : List V) (w : V) (c a : List ℕ) → Joins (map encoding vs) c → encoding w a
       → Joins (map encoding (vs ++ w ∷ [])) (c ++ a)
@@ -69,7 +69,7 @@ module _ (V : Type 0) (encoding : V → List ℕ → Type 0) (d : IsDelimited en
         fails.0,
         ⊎_elim
             (λ w. inl (w.0, items_asked may_allocate vs read rest c joined refl (rw is at w.1)))
-            (λ p. inr (items_err law d vs (length c) e c read rest (omega arith) few joined refl more (rw is at p)))
+            (λ p. inr (items_err law some vs (length c) e c read rest (omega arith) few joined refl more (rw is at p)))
             fails.1,
       )
 
@@ -81,12 +81,12 @@ module _ (V : Type 0) (encoding : V → List ℕ → Type 0) (d : IsDelimited en
   items_end {at} law vs read rest start left from is within joined ends =
       let all : start ≡ Some read = from ∙ ap (λ l. Some (read ++ l)) ends ∙ ap (λ l. Some l) (append-nil read) in
       let few : length read ≤ limit = rw all at within in
-      (rw all ((items_read law d).takes read vs few joined), is ∙ ap (λ l. Some l) ends)
+      (rw all ((items_read law some).takes read vs few joined), is ∙ ap (λ l. Some l) ends)
 
   pub item_taken : (v : V) (left after : Input) → EncodingGives encoding v left after
       → length (left_in after) < length (left_in left)
   item_taken v left after (b, rest, at, is, p) =
-      rw (at, is) (omega (arith, d.not_empty v b p, length-append b rest))
+      rw (at, is) (omega (arith, some v b p, length-append b rest))
 
   -- an item was read, so the first one is there
   pub items_begin : (vs : List V) (v : V) (read rest c : List ℕ) (start left after : Input)

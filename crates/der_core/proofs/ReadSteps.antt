@@ -20,6 +20,7 @@ use Rattle.der_core.specs.Laws.LengthReading.{chosen}
 use Rattle.der_core.proofs.TaggedReadings.{other_behind}
 use Rattle.der_core.specs.Length.{limit}
 use Rattle.der_core.specs.Parts.{AllocatesInParts}
+use Rattle.der_core.specs.Printed.{ReadsPrinted}
 use Rattle.der_core.specs.Reading.{AllocatesBehind, AllocatesIn, Asks, FaultOrMemory, Returns, ReadsAll}
 use Rattle.der_core.specs.Readings.{Reading, FrontReading, ◌>>=◌, chain, ended, expected, front_parts, made, parts}
 use Rattle.der_core.specs.Readings.{such, alone, tagged}
@@ -48,11 +49,11 @@ fails_so read other errs asked more to e None after (failed, inr p) = (failed, i
 fails_so read other errs asked more to e (Some c) after (failed, inr p) = (failed, inr (errs e c p))
 
 -- Contents may ask for memory that were read.
-pub asks_read : {V : Type 0} {contents : V → List ℕ → Type 0} {read : Reading V} → ReadsContents contents read
-    → (v : V) (before : Input) → AreBytes (left_in before) → read_from before read ≡ Ok v
-    → Asks (λ c. (w : V) × contents w c) before
-asks_read law v None bytes p = cc
-asks_read law v (Some c) bytes p = (v, law.gives c v bytes p)
+pub asks_read : {S : Type 0} {valid : S → Type 0} {printed : S → List ℕ} {read : Reading S}
+    → ReadsPrinted valid printed read → (s : S) (before : Input) → AreBytes (left_in before)
+    → read_from before read ≡ Ok s → Asks (λ c. (t : S) × (c ≡ printed t)) before
+asks_read law s None bytes p = cc
+asks_read law s (Some c) bytes p = (s, (law.gives c s bytes p).1)
 
 -- Behind a first part, what the chain gives is what follows it.
 pub chain_from : {A B : Type 0} (at : FrontReading A) (behind : A → Reading B) (x : A) (before mid : Input)
@@ -76,13 +77,12 @@ expected_fails n v e (Some c) p ne kind =
     ap (λ r. (r >>= λ v. if v == n then Ok v else Err (Value integer)) >>= λ _. Ok tt) p
     ∙ rw no (ap (λ k. Err k) (sym kind))
 
--- A value that has the contents of the parts that were read.
-pub parts_taken : {A B : Type 0} {Parts : A → List ℕ → Type 0} {row : Reading A} {contents : B → List ℕ → Type 0}
-    {read : Reading B} → ReadsContents Parts row → ReadsContents contents read → (a : A) (b : B)
-    → ((c : List ℕ) → Parts a c → contents b c) → (before : Input) → AreBytes (left_in before)
-    → length (left_in before) ≤ limit → read_from before row ≡ Ok a → read_from before read ≡ Ok b
-parts_taken parts law a b to None bytes within p = let q = p in cc
-parts_taken parts law a b to (Some c) bytes within p = law.takes c b within (to c (parts.gives c a bytes p))
+-- A value that is made of the parts that were read.
+pub parts_taken : {A B : Type 0} (row : Reading A) (read : Reading B) (a : A) (b : B)
+    → ((c : List ℕ) → row c ≡ Ok a → read c ≡ Ok b) → (before : Input) → read_from before row ≡ Ok a
+    → read_from before read ≡ Ok b
+parts_taken row read a b to None p = let q = p in cc
+parts_taken row read a b to (Some c) p = to c p
 
 -- A row at the front, of which what follows the first part has a fault.
 pub row_fails : {A B : Type 0} {First : A → List ℕ → Type 0} {at : FrontReading A} → ReadsFronts First at
@@ -97,6 +97,20 @@ row_fails law row first rest a e (Some i) mid after bytes (left, p, is) (failed,
   inr
       (ap (λ r. r >>= λ p. row p.1 >>= λ q. Ok ((p.0, q.0), q.1)) p
       ∙ ap (λ r. r >>= λ q. Ok ((a, q.0), q.1)) (rw is at q)),
+)
+
+-- Parts, of which what follows the first one has a fault.
+pub parts_fail : {A B : Type 0} {First : A → List ℕ → Type 0} {at : FrontReading A} → ReadsFronts First at
+    → (rest : Reading B) (first later : List ℕ → Type 0) (a : A) (e : ErrorKind) (before mid after : Input)
+    → AreBytes (left_in before) → Gives at a before mid → Fails rest later e mid after
+    → Fails (parts at rest) (AllocatesInParts First first later) e before after
+parts_fail law rest first later a e None mid after bytes (left, p, is) fails = let no = p in cc
+parts_fail law rest first later a e (Some i) mid after bytes (left, p, is) (failed, inl w) =
+    let s = law.gives i left a bytes p in (failed, inl (w.0, inr (a, (s.0, left, s.2, rw is at w.1, s.1))))
+parts_fail law rest first later a e (Some i) mid after bytes (left, p, is) (failed, inr q) = (
+  failed,
+  inr
+      (ap (λ r. r >>= λ p. rest p.1 >>= λ b. Ok (p.0, b)) p ∙ ap (λ r. r >>= λ b. Ok (a, b)) (rw is at q)),
 )
 
 -- A first part that asks for no memory, and what follows it.

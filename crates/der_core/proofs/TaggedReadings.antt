@@ -40,7 +40,7 @@ document_reads = whole_reads (tagged_reads sequence any_read)
 
 -- A list, up to the end.
 module _ {V : Type 0} {encoding : V → List ℕ → Type 0} {at : FrontReading V} (law : ReadsFronts encoding at)
-    (d : IsDelimited encoding) where
+    (some : (v : V) (b : List ℕ) → encoding v b → 0 < length b) where
   -- behind some items, another one has a fault
   pub items_err : (vs : List V) (n : ℕ) (k : ErrorKind) (c read rest : List ℕ) → length c ≤ n → length c ≤ limit
       → ItemsContents encoding vs read → c ≡ read ++ rest → 0 < length rest → at rest ≡ Err k
@@ -57,8 +57,8 @@ module _ {V : Type 0} {encoding : V → List ℕ → Type 0} {at : FrontReading 
   items_err (v ∷ vs) zero k (z ∷ zs) read rest l w p is more e = absurd (omega (arith, l))
   items_err (v ∷ vs) (suc n) k (z ∷ zs) read rest l w (x, y, p, q, are) is more e =
       let split : z ∷ zs ≡ x ++ (y ++ rest) = is ∙ ap (λ y. y ++ rest) are ∙ append_assoc x y rest in
-      let some = d.not_empty v x p in
-      let few : length (y ++ rest) ≤ n = omega (arith, l, some, ap length split, length-append x (y ++ rest)) in
+      let full = some v x p in
+      let few : length (y ++ rest) ≤ n = omega (arith, l, full, ap length split, length-append x (y ++ rest)) in
       ap (λ r. r >>= λ p. made (λ vs. p.0 ∷ vs) (items_within n at) p.1) (law.takes (z ∷ zs) x (y ++ rest) v w split p)
       ∙ ap (λ r. r >>= λ vs. Ok (v ∷ vs))
       (items_err vs n k (y ++ rest) y rest few (behind_within x (y ++ rest) split w) q refl more e)

@@ -28,10 +28,13 @@ pub record ReadsFrontPrinted {S : Type 0} (valid : S → Type 0) (printed : S �
       → at (printed s ++ rest) ≡ Ok (s, rest)
   pub tells : (i : List ℕ) (k : ErrorKind) → at i ≡ Err k → TellsOfBytes k
 
--- The bytes are a valid spelling of the value, within the limit.
+-- The bytes are a valid spelling of the value.
+abbrev pub Prints : {S V : Type 0} → (S → Type 0) → (S → List ℕ) → (S → V) → V → List ℕ → Type 0
+Prints {S} valid printed means v bytes = (s : S) × (means s ≡ v) × valid s × (bytes ≡ printed s)
+
+-- They are, and within the limit.
 abbrev pub Spells : {S V : Type 0} → (S → Type 0) → (S → List ℕ) → (S → V) → V → List ℕ → Type 0
-Spells {S} valid printed means v bytes =
-    (s : S) × (means s ≡ v) × (length bytes ≤ limit) × valid s × (bytes ≡ printed s)
+Spells valid printed means v bytes = (length bytes ≤ limit) × Prints valid printed means v bytes
 
 -- The spelling that is written means the value, is valid if any of the value's is, and is shorter than each other one.
 pub record WritesShortest {S V : Type 0} (Is : S → Type 0) (printed : S → List ℕ) (means : S → V) (written : V → S)
@@ -47,20 +50,17 @@ PrintsOne {S} valid printed =
     (s t : S) (x y : List ℕ) → valid s → valid t → length (printed s ++ x) ≤ limit → printed s ++ x ≡ printed t ++ y
     → (s ≡ t) × (x ≡ y)
 
--- Two functions read the same meaning of the same bytes, or the same fault.
-pub record ReadsAlike {S V M : Type 0} (read : Reading S) (means : S → M) (other : Reading V) (meaning_of : V → M)
+-- Each value has at most one spelling.
+abbrev pub AreSpelledOnce : {S V : Type 0} → (S → V) → Type 0
+AreSpelledOnce {S} means = (s t : S) → means s ≡ means t → s ≡ t
+
+-- A function reads the values that the spellings mean, and the same faults.
+pub record ReadsAlike {S V : Type 0} (spelling : Reading S) (means : S → V) (read : Reading V) : Type 0 where
+  pub same : (c : List ℕ) → made means spelling c ≡ read c
+
+pub record ReadsFrontAlike {S V : Type 0} (spelling : FrontReading S) (means : S → V) (at : FrontReading V)
     : Type 0 where
-  pub same : (c : List ℕ) → made means read c ≡ made meaning_of other c
-
-pub record ReadsFrontAlike {S V M : Type 0} (at : FrontReading S) (means : S → M) (other : FrontReading V)
-    (meaning_of : V → M) : Type 0 where
-  pub same : (i : List ℕ) → front_made means at i ≡ front_made meaning_of other i
-
--- A value has octets exactly if its spelling is valid, and then both are the same.
-pub record WritesAlike (Has : Type 0) (octets : List ℕ) (Valid : Type 0) (printed : List ℕ) : Type 0 where
-  pub there : Has → Valid
-  pub back : Valid → Has
-  pub same : Has → octets ≡ printed
+  pub same : (i : List ℕ) → front_made means spelling i ≡ at i
 
 -- What was read, without the kind of a fault.
 abbrev pub value_in : {V : Type 0} → Result V ErrorKind → Option V

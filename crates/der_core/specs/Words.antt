@@ -20,8 +20,9 @@ pub use Rattle.der_core.specs.OctetStringRefValue.{octets_of}
 pub use Rattle.der_core.specs.Optional.{HasOptional, IsNext, Optional, OptionalRead, written_optional}
 pub use Rattle.der_core.specs.Parts.{AllocatesInFront, AllocatesInParts, HaveParts, IsToldApart, LastContents, NoParts}
 pub use Rattle.der_core.specs.Parts.{PartsContents, written_parts}
-pub use Rattle.der_core.specs.Printed.{PrintsOne, ReadsAlike, ReadsFrontAlike, ReadsFrontPrinted, ReadsPrinted, Spells}
-pub use Rattle.der_core.specs.Printed.{WritesAlike, WritesShortest, number_contents, number_of, ok_of, row, value_in}
+pub use Rattle.der_core.specs.Printed.{AreSpelledOnce, Prints, PrintsOne, ReadsAlike, ReadsFrontAlike}
+pub use Rattle.der_core.specs.Printed.{ReadsFrontPrinted, ReadsPrinted, Spells, WritesShortest, number_contents}
+pub use Rattle.der_core.specs.Printed.{number_of, ok_of, row, value_in}
 pub use Rattle.der_core.specs.Reading.{AllocatesForItems, AllocatesIn, AllocatesLast, FaultOrMemory, HoldsBytes, NoneIn}
 pub use Rattle.der_core.specs.Reading.{ReadsAll, ReadsEncoding, ReadsFront, ReadsRow, ReadsWhole, NoValueOrMemory, Returns}
 pub use Rattle.der_core.specs.Reading.{TellsNext, TellsOfBytes}
@@ -56,16 +57,18 @@ pub use Rattle.der_core.specs.Laws.Parts.{last_part_relates, last_part_shortest,
 pub use Rattle.der_core.specs.Laws.Parts.{no_parts_mean_one, no_parts_of_bytes, no_parts_relate, no_parts_shortest}
 pub use Rattle.der_core.specs.Laws.Parts.{parts_ask_none, parts_at_most_one, parts_mean_one, parts_of_bytes}
 pub use Rattle.der_core.specs.Laws.Parts.{parts_relate, parts_shortest}
-pub use Rattle.der_core.specs.Laws.Printed.Alike.{alike, alone_alike, items_alike, last_alike, number_alike}
-pub use Rattle.der_core.specs.Laws.Printed.Alike.{optional_alike, row_alike, tagged_alike}
+pub use Rattle.der_core.specs.Laws.Printed.Alike.{alike, alone_alike, chain_alike, front_alike, front_row_alike}
+pub use Rattle.der_core.specs.Laws.Printed.Alike.{items_alike, last_alike, made_alike, optional_alike, row_alike}
+pub use Rattle.der_core.specs.Laws.Printed.Alike.{such_alike, tagged_alike}
 pub use Rattle.der_core.specs.Laws.Printed.Items.{items_law}
-pub use Rattle.der_core.specs.Laws.Printed.Leaves.{number_law, octets_law, small_law}
-pub use Rattle.der_core.specs.Laws.Printed.Optional.{last_by_tag_law, last_law}
-pub use Rattle.der_core.specs.Laws.Printed.Rows.{end_law, expected_law, row_law, tagged_law}
-pub use Rattle.der_core.specs.Laws.Printed.Shortest.{last_shortest, list_shortest, one_spelling, row_shortest}
-pub use Rattle.der_core.specs.Laws.Printed.Shortest.{tagged_shortest, tagged_some}
-pub use Rattle.der_core.specs.Laws.Printed.Written.{list_writes, optional_writes, row_writes, small_writes}
-pub use Rattle.der_core.specs.Laws.Printed.Written.{tagged_writes, writes_alike}
+pub use Rattle.der_core.specs.Laws.Printed.Leaves.{any_alike, any_shortest, number_law, numbers_decide, numbers_encode}
+pub use Rattle.der_core.specs.Laws.Printed.Leaves.{octets_law, small_law}
+pub use Rattle.der_core.specs.Laws.Printed.Once.{items_once, itself_once, last_once, made_once, row_once}
+pub use Rattle.der_core.specs.Laws.Printed.Optional.{front_end_law, front_row_law, last_by_tag_law, last_law}
+pub use Rattle.der_core.specs.Laws.Printed.Rows.{end_law, expected_law, made_law, row_law, tagged_law}
+pub use Rattle.der_core.specs.Laws.Printed.Shortest.{last_shortest, list_shortest, made_shortest, one_spelling}
+pub use Rattle.der_core.specs.Laws.Printed.Shortest.{row_shortest, tagged_shortest, tagged_some}
+pub use Rattle.der_core.specs.Laws.Printed.Values.{prints_once, reads, reads_front, written_prints}
 pub use Rattle.der_core.specs.Laws.Readings.{expected_reads, last_reads, made_errs, made_reads, no_parts_read}
 pub use Rattle.der_core.specs.Laws.Readings.{parts_read}
 pub use Rattle.der_core.specs.Laws.Readings.{small_reads}

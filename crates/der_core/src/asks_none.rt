@@ -1,6 +1,7 @@
 //! Types that are read without memory.
 ghost use Rattle.std.specs.Prelude.{List, ℕ, IfOk, OnErr};
-ghost use Rattle.der_core.specs.Words.{Answers, IsMeaning, Means, last_part_asks_none, parts_ask_none, whole};
+ghost use Rattle.der_core.specs.Words.{Answers, IsMeaning, Means, Prints, last_part_asks_none, parts_ask_none};
+ghost use Rattle.der_core.specs.Words.{whole};
 
 use crate::decode::{Decode, DecodeValue};
 use crate::error::Result;
@@ -57,7 +58,7 @@ impl<'a> PartsAskNone<&'a [u8]> for () {
 }
 
 impl<'a, A: AsksNone<&'a [u8]>, B: PartsAskNone<&'a [u8]>> PartsAskNone<&'a [u8]> for (A, B) {
-    ghost parts_ask_none = { parts_ask_none A.encoding A.asks_none B.parts_ask_none };
+    ghost parts_ask_none = { parts_ask_none (Prints A.valid A.printed A.means) A.asks_none B.parts_ask_none };
 }
 
 impl<'a, T: AsksNone<&'a [u8]>> PartsAskNone<&'a [u8]> for Last<T> {
@@ -78,8 +79,8 @@ where
 /// Reads a whole slice without memory: the value that it means, or the error of its first fault.
 #[inline(always)]
 pub fn read_borrowed<'a, T: AsksNone<&'a [u8]>>(bytes: &'a [u8]) -> Result<T>
-    ensures ok { IfOk result (λ x. IsMeaning T.encoding bytes.now (T.value x)) }
-    ensures err { OnErr result ((v : T.Value) → Means T.encoding bytes.now v → ⊥) }
+    ensures ok { IfOk result (λ x. IsMeaning (Prints T.valid T.printed T.means) bytes.now (T.value x)) }
+    ensures err { OnErr result ((v : T.Value) → Means (Prints T.valid T.printed T.means) bytes.now v → ⊥) }
     ensures exact { Answers T.value result (whole T.read_front bytes.now) }
 {
     T::from_der(NoMemory, bytes)

@@ -16,19 +16,27 @@ impl<'b, T: Encoding> Encoding for Borrowed<'b, T> {
 
     ghost value = { λ b. T.value b.0.now };
 
-    ghost encoding = { T.encoding };
+    ghost Spelling = { T.Spelling };
 
-    ghost has_encoding = { T.has_encoding };
+    ghost means = { T.means };
 
-    ghost written_encoding = { T.written_encoding };
+    ghost written = { T.written };
+
+    ghost valid = { T.valid };
+
+    ghost printed = { T.printed };
+
+    ghost read_spelling = { T.read_spelling };
 
     ghost read_front = { T.read_front };
 
-    ghost reads_front = { T.reads_front };
+    ghost law = { T.law };
 
-    ghost delimited = { T.delimited };
+    ghost shortest = { T.shortest };
 
-    ghost encoding_of_bytes = { T.encoding_of_bytes };
+    ghost some = { T.some };
+
+    ghost reads_alike = { T.reads_alike };
 }
 
 impl<'b, T: Encode> Encode for Borrowed<'b, T> {
@@ -43,8 +51,4 @@ impl<'b, T: Encode> Encode for Borrowed<'b, T> {
     fn prepend(&self, writer: &mut BackWriter<'_>) {
         self.0.prepend(writer);
     }
-
-    ghost encoding_relates = { T.encoding_relates };
-
-    ghost encoding_shortest = { T.encoding_shortest };
 }

@@ -1,7 +1,7 @@
 //! Reading of values.
 ghost use Rattle.std.specs.Prelude.{ℕ, List};
 ghost use Rattle.der_core.specs.Words.{Tlv, AllocatesIn, HoldsBytes, ReadsAll, ReadsFront, ReadsWhole, Returns};
-ghost use Rattle.der_core.specs.Words.{TellsNext};
+ghost use Rattle.der_core.specs.Words.{Prints, TellsNext};
 ghost use Rattle.der_core.specs.Words.{optional, tagged, whole};
 ghost use Rattle.std.specs.Option.{option_map};
 
@@ -37,7 +37,8 @@ pub trait Decode<B: Octets, M: Memory>: Encoding + Sized + Drop {
 
     /// Reads a whole slice: `Overflow` if it is longer than `Length::MAX`, `TrailingData` if bytes follow the encoding.
     fn from_der(memory: M, bytes: B) -> Result<Self>
-        ensures encoding { ReadsAll Self.value Self.encoding may_allocate result (B.octets bytes) }
+        ensures encoding { let encodings = Prints Self.valid Self.printed Self.means in
+            ReadsAll Self.value encodings may_allocate result (B.octets bytes) }
         ensures exact { let b = B.octets bytes in
             Returns Self.value (whole Self.read_front b) (AllocatesIn may_allocate b) result };
 }

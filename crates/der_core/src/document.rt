@@ -1,18 +1,19 @@
 //! Documents: whole SEQUENCEs, whose contents aren't looked at.
-ghost use Rattle.std.specs.Prelude.{◌≡◌, ◌≢◌, ◌≤◌, [], length, refl, ⊤, IfOk, IfErr, OnOk};
+ghost use Rattle.std.specs.Prelude.{◌≡◌, ◌≢◌, ◌≤◌, ℕ, List, [], length, refl, IfOk, IfErr, OnOk};
 ghost use Rattle.std.specs.Path.{path_bytes};
 ghost use Rattle.der_core.specs.Transfer.{ReadsDocument, WritesAll};
 ghost use Rattle.der_core.specs.Files.{FileFault, FileGives, FileRefuses, FileTakes};
 ghost use Rattle.der_core.specs.Document.{IsDocument};
 ghost use Rattle.der_core.specs.Laws.Document.{IsDocument-prop};
 ghost use Rattle.der_core.specs.Length.{limit};
-ghost use Rattle.der_core.specs.Laws.Readings.{any_read};
+ghost use Rattle.der_core.specs.Laws.Printed.Leaves.{any_alike, any_shortest, octets_law};
+ghost use Rattle.der_core.specs.Printed.{Prints};
 ghost use Rattle.der_core.specs.Reading.{Returns};
-ghost use Rattle.der_core.specs.Readings.{any_contents, read_document};
+ghost use Rattle.der_core.specs.Readings.{any_contents, octets_of_all, read_document};
 ghost use Rattle.der_core.specs.Reading.{NoValueOrMemory};
 ghost use Rattle.der_core.specs.ErrorKinds.{IsFile};
 ghost use Rattle.der_core.specs.Encodings.{AreBytes};
-ghost use Rattle.der_core.specs.Tlv.{Tlv, tlv};
+ghost use Rattle.der_core.specs.Tlv.{tlv};
 
 use crate::back_writer::BackWriter;
 use crate::decode::{Decode, DecodeValue};
@@ -40,19 +41,25 @@ impl Contents for AnySequence {
 
     ghost value = { λ _. tt };
 
-    ghost contents = { λ _ octets. AreBytes octets };
+    ghost Spelling = { List ℕ };
 
-    ghost has_contents = { λ _. ⊤ };
+    ghost means = { λ _. tt };
 
-    ghost written_contents = { λ _. [] };
+    ghost written = { λ _. [] };
+
+    ghost valid = { AreBytes };
+
+    ghost printed = { λ o. o };
+
+    ghost read_spelling = { octets_of_all };
 
     ghost read = { any_contents };
 
-    ghost reads = { any_read };
+    ghost law = { octets_law };
 
-    ghost means_one = { λ v w contents p q. refl };
+    ghost shortest = { any_shortest };
 
-    ghost contents_of_bytes = { λ v contents p. p };
+    ghost reads_alike = { any_alike };
 }
 
 impl TaggedBy for AnySequence {
@@ -74,13 +81,19 @@ impl<'a> DecodeValue<&'a [u8], NoMemory> for AnySequence {
 
 /// Writes the encoding of a message over a slice of exactly its length.
 pub fn write_over<T: EncodeValue + FixedTag>(message: &T, out: &mut [u8])
-    requires has { T.has_contents (T.value message.now) }
-    requires fits { length (tlv T.TAG.octet (T.written_contents (T.value message.now))) ≤ limit }
-    requires room { length out.old ≡ length (tlv T.TAG.octet (T.written_contents (T.value message.now))) }
-    ensures { out.new ≡ tlv T.TAG.octet (T.written_contents (T.value message.now)) }
+    requires has { T.valid (T.written (T.value message.now)) }
+    requires fits { length (tlv T.TAG.octet (T.printed (T.written (T.value message.now)))) ≤ limit }
+    requires room { length out.old ≡ length (tlv T.TAG.octet (T.printed (T.written (T.value message.now)))) }
+    ensures { out.new ≡ tlv T.TAG.octet (T.printed (T.written (T.value message.now))) }
 {
     let mut writer = BackWriter::new(out);
     message.prepend(&mut writer);
+}
+
+/// Does nothing: its contract says that bytes are octets.
+fn lemma_are_bytes(bytes: &[u8])
+    ensures { AreBytes bytes.now }
+{
 }
 
 /// Marks documents that may be printed and compared.
@@ -130,13 +143,14 @@ impl<S: Drop> DocumentOf<S> {
         alloc: Global,
         message: &T,
     ) -> Result<DocumentOf<S>>
-        ensures { HoldsMessage encoding_of result (T.has_contents (T.value message.now))
-            (tlv T.TAG.octet (T.written_contents (T.value message.now)))
-            (λ v. Tlv T.TAG.octet (T.contents v)) (T.value message.now) }
+        ensures { HoldsMessage encoding_of result (T.valid (T.written (T.value message.now)))
+            (tlv T.TAG.octet (T.printed (T.written (T.value message.now))))
+            (Prints T.valid (λ s. tlv T.TAG.octet (T.printed s)) T.means) (T.value message.now) }
     {
         let length = message.encoded_len()?.to_usize();
         let mut bytes = vec![in alloc; 0u8; length]?;
         write_over(message, bytes.as_mut_slice());
+        lemma_are_bytes(bytes.as_slice());
         Ok(DocumentOf {
             bytes,
             secrecy: PhantomData,

@@ -1,8 +1,8 @@
 //! Writing of values.
 ghost use Rattle.std.specs.Prelude.{◌≡◌, ◌≤◌, ◌++◌, length, drop, OnOk, OnErr, IfOk, IfErr};
-ghost use Rattle.der_core.specs.Words.{limit, length_octets, Tlv, tlv, IsShortest, WhyNotCounted, WhyNotWritten};
-ghost use Rattle.der_core.specs.Words.{free_of, Prepends, IsFront, LeavesRest, WritesEncodings, WritesLeast, Counts};
-ghost use Rattle.der_core.specs.Words.{Appends, encode_error, joined};
+ghost use Rattle.der_core.specs.Words.{limit, length_octets, tlv, IsShortest, WhyNotCounted, WhyNotWritten};
+ghost use Rattle.der_core.specs.Words.{free_of, Prepends, Prints, IsFront, LeavesRest, Counts, Appends};
+ghost use Rattle.der_core.specs.Words.{encode_error, joined};
 ghost use Rattle.std.specs.Borrow.{sem};
 
 use crate::back_writer::BackWriter;
@@ -16,20 +16,20 @@ use crate::writer::Writer;
 pub trait EncodeValue: Contents {
     /// The length of the contents.
     fn value_len(&self) -> Result<Length>
-        ensures { let v = Self.value self.now in Counts (Self.has_contents v) (Self.written_contents v) result };
+        ensures { let s = Self.written (Self.value self.now) in Counts (Self.valid s) (Self.printed s) result };
 
     /// Appends the contents, which have at most `Length::MAX` octets: `NoRoom` after a beginning of them.
     fn append_value<W: Writer>(&self, writer: &mut W) -> Result<()>
-        requires has { Self.has_contents (Self.value self.now) }
-        requires fits { length (Self.written_contents (Self.value self.now)) ≤ limit }
-        ensures appends { let v = Self.value self.now in
-            Appends (Self.has_contents v) (Self.written_contents v) W.room W.written writer.old writer.new result }
+        requires has { Self.valid (Self.written (Self.value self.now)) }
+        requires fits { length (Self.printed (Self.written (Self.value self.now))) ≤ limit }
+        ensures appends { let s = Self.written (Self.value self.now) in
+            Appends (Self.valid s) (Self.printed s) W.room W.written writer.old writer.new result }
         ensures kept { W.keeps writer.old writer.new };
 
     /// Appends the contents: `Value` and `Overflow` before any octet, `NoRoom` after a beginning of them.
     fn encode_value<W: Writer>(&self, writer: &mut W) -> Result<()>
-        ensures appends { let v = Self.value self.now in
-            Appends (Self.has_contents v) (Self.written_contents v) W.room W.written writer.old writer.new result }
+        ensures appends { let s = Self.written (Self.value self.now) in
+            Appends (Self.valid s) (Self.printed s) W.room W.written writer.old writer.new result }
         ensures kept { W.keeps writer.old writer.new }
     {
         self.value_len()?;
@@ -38,59 +38,47 @@ pub trait EncodeValue: Contents {
 
     /// Writes the contents in front of what is filled.
     fn prepend_value(&self, writer: &mut BackWriter<'_>)
-        requires has { Self.has_contents (Self.value self.now) }
-        requires fits { length (Self.written_contents (Self.value self.now)) ≤ limit }
-        requires room { length (Self.written_contents (Self.value self.now)) ≤ free_of writer.old }
-        ensures { Prepends (Self.written_contents (Self.value self.now)) writer.old writer.new };
-
-    /// What is written are contents of the value, up to a length that no memory holds.
-    ghost contents_relate: { WritesEncodings Self.contents Self.has_contents Self.written_contents };
-
-    /// A value with contents has the written ones, and its others are longer.
-    ghost contents_shortest: { WritesLeast Self.contents Self.has_contents Self.written_contents };
+        requires has { Self.valid (Self.written (Self.value self.now)) }
+        requires fits { length (Self.printed (Self.written (Self.value self.now))) ≤ limit }
+        requires room { length (Self.printed (Self.written (Self.value self.now))) ≤ free_of writer.old }
+        ensures { Prepends (Self.printed (Self.written (Self.value self.now))) writer.old writer.new };
 }
 
 /// A type whose values are written as encodings.
 pub trait Encode: Encoding {
     /// The length of the encoding: `Value` if the value has none, `Overflow` if all are longer than `Length::MAX`.
     fn encoded_len(&self) -> Result<Length>
-        ensures counted { let v = Self.value self.now in Counts (Self.has_encoding v) (Self.written_encoding v) result }
-        ensures err { let v = Self.value self.now in
-            IfErr result (λ e. WhyNotCounted (Self.has_encoding v) Self.encoding v (encode_error e.kind)) };
+        ensures counted { let s = Self.written (Self.value self.now) in Counts (Self.valid s) (Self.printed s) result }
+        ensures err { let v = Self.value self.now in let encodings = Prints Self.valid Self.printed Self.means in
+            IfErr result (λ e. WhyNotCounted (Self.valid (Self.written v)) encodings v (encode_error e.kind)) };
 
     /// Appends the encoding. `Value` and `Overflow` come before any octet is written, `NoRoom` after a beginning of
     /// them.
     fn encode<W: Writer>(&self, writer: &mut W) -> Result<()>
-        ensures appends { let v = Self.value self.now in
-            Appends (Self.has_encoding v) (Self.written_encoding v) W.room W.written writer.old writer.new result }
-        ensures err { let v = Self.value self.now in
-            IfErr result (λ e. WhyNotWritten (Self.has_encoding v) Self.encoding v (W.room writer.old)
+        ensures appends { let s = Self.written (Self.value self.now) in
+            Appends (Self.valid s) (Self.printed s) W.room W.written writer.old writer.new result }
+        ensures err { let v = Self.value self.now in let encodings = Prints Self.valid Self.printed Self.means in
+            IfErr result (λ e. WhyNotWritten (Self.valid (Self.written v)) encodings v (W.room writer.old)
             (encode_error e.kind)) }
         ensures kept { W.keeps writer.old writer.new };
 
     /// Writes the encoding in front of what is filled.
     fn prepend(&self, writer: &mut BackWriter<'_>)
-        requires has { Self.has_encoding (Self.value self.now) }
-        requires fits { length (Self.written_encoding (Self.value self.now)) ≤ limit }
-        requires room { length (Self.written_encoding (Self.value self.now)) ≤ free_of writer.old }
-        ensures { Prepends (Self.written_encoding (Self.value self.now)) writer.old writer.new };
-
-    /// What is written is an encoding of the value, up to a length that no memory holds.
-    ghost encoding_relates: { WritesEncodings Self.encoding Self.has_encoding Self.written_encoding };
-
-    /// A value with an encoding has the written one, and its others are longer.
-    ghost encoding_shortest: { WritesLeast Self.encoding Self.has_encoding Self.written_encoding };
+        requires has { Self.valid (Self.written (Self.value self.now)) }
+        requires fits { length (Self.printed (Self.written (Self.value self.now))) ≤ limit }
+        requires room { length (Self.printed (Self.written (Self.value self.now))) ≤ free_of writer.old }
+        ensures { Prepends (Self.printed (Self.written (Self.value self.now))) writer.old writer.new };
 
     /// Writes the encoding to the front of a slice and returns its length. On an error the slice is unchanged.
     final fn encode_into(&self, out: &mut [u8]) -> Result<usize>
     where
         Self: Sized,
-        ensures ok { let encoding = Self.written_encoding (Self.value self.now) in
+        ensures ok { let encoding = Self.printed (Self.written (Self.value self.now)) in
             IfOk result (λ n. (n ≡ length encoding) × (out.new ≡ encoding ++ drop n out.old)) }
-        ensures shortest { let v = Self.value self.now in
-            OnOk result (IsShortest Self.encoding v (Self.written_encoding v)) }
-        ensures err { let v = Self.value self.now in
-            IfErr result (λ e. WhyNotWritten (Self.has_encoding v) Self.encoding v (length out.old)
+        ensures shortest { let v = Self.value self.now in let encodings = Prints Self.valid Self.printed Self.means in
+            OnOk result (IsShortest encodings v (Self.printed (Self.written v))) }
+        ensures err { let v = Self.value self.now in let encodings = Prints Self.valid Self.printed Self.means in
+            IfErr result (λ e. WhyNotWritten (Self.valid (Self.written v)) encodings v (length out.old)
             (encode_error e.kind)) }
         ensures unchanged { OnErr result (out.new ≡ out.old) }
     {
@@ -109,12 +97,13 @@ pub trait Encode: Encoding {
     final fn encode_to_slice<'b>(&self, out: &'b mut [u8]) -> Result<&'b [u8]>
     where
         Self: Sized,
-        ensures* leaves { sem 𝓛 (LeavesRest out.entry (Self.written_encoding (Self.value self.now)) result) }
-        ensures ok { IfOk result (λ s. s.now ≡ Self.written_encoding (Self.value self.now)) }
-        ensures shortest { IfOk result (λ s. IsShortest Self.encoding (Self.value self.now) s.now) }
+        ensures* leaves { sem 𝓛 (LeavesRest out.entry (Self.printed (Self.written (Self.value self.now))) result) }
+        ensures ok { IfOk result (λ s. s.now ≡ Self.printed (Self.written (Self.value self.now))) }
+        ensures shortest { let encodings = Prints Self.valid Self.printed Self.means in
+            IfOk result (λ s. IsShortest encodings (Self.value self.now) s.now) }
         ensures room { IfOk result (λ s. length s.now ≤ length out.old) }
-        ensures err { let v = Self.value self.now in
-            IfErr result (λ e. WhyNotWritten (Self.has_encoding v) Self.encoding v (length out.old)
+        ensures err { let v = Self.value self.now in let encodings = Prints Self.valid Self.printed Self.means in
+            IfErr result (λ e. WhyNotWritten (Self.valid (Self.written v)) encodings v (length out.old)
             (encode_error e.kind)) }
     {
         let written = self.encode_into(out);
@@ -136,7 +125,7 @@ fn front<'b>(out: &'b [u8], written: Result<usize>) -> Result<&'b [u8]>
 /// The length of the encoding with these contents.
 fn encoding_len<T: EncodeValue + FixedTag>(value: &T) -> Result<Length>
     ensures { let v = T.value value.now in
-        Counts (T.has_contents v) (tlv T.TAG.octet (T.written_contents v)) result }
+        Counts (T.valid (T.written v)) (tlv T.TAG.octet (T.printed (T.written v))) result }
 {
     value.value_len()?.for_tlv(T::TAG)
 }
@@ -144,8 +133,8 @@ fn encoding_len<T: EncodeValue + FixedTag>(value: &T) -> Result<Length>
 /// Appends a header and the contents.
 fn encode_tlv<T: EncodeValue + FixedTag, W: Writer>(value: &T, writer: &mut W) -> Result<()>
     ensures appends { let v = T.value value.now in
-        let octets = tlv T.TAG.octet (T.written_contents v) in
-        Appends (T.has_contents v) octets W.room W.written writer.old writer.new result }
+        let octets = tlv T.TAG.octet (T.printed (T.written v)) in
+        Appends (T.valid (T.written v)) octets W.room W.written writer.old writer.new result }
     ensures kept { W.keeps writer.old writer.new }
 {
     let length = value.value_len()?;
@@ -177,14 +166,6 @@ impl<T: EncodeValue + FixedTag> Encode for T {
             length,
         });
     }
-
-    ghost use Rattle.der_core.specs.Words.{tlv_relates, tlv_shortest};
-
-    ghost encoding_relates = { λ v has. tlv_relates T.TAG.octet T.contents T.written_contents v
-        (T.contents_relate v has) };
-
-    ghost encoding_shortest = { tlv_shortest T.TAG.octet T.contents T.written_contents T.has_contents
-        T.contents_shortest };
 }
 
 /// The sum of two lengths. `Value` is reported before `Overflow`.

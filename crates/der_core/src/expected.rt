@@ -1,7 +1,6 @@
 //! An INTEGER that has to be one number, such as the version of a structure that has only one.
-ghost use Rattle.std.specs.Prelude.{◌<◌, ◌∷◌, [], refl};
-ghost use Rattle.der_core.specs.Words.{SmallContents, expected, expected_reads, integer_contents, small_of_bytes};
-ghost use Rattle.der_core.specs.Words.{small_relates, small_shortest};
+ghost use Rattle.std.specs.Prelude.{◌<◌};
+ghost use Rattle.der_core.specs.Words.{alike, expected, expected_law, number_contents, one_spelling};
 
 use crate::back_writer::BackWriter;
 use crate::decode::DecodeValue;
@@ -24,19 +23,25 @@ impl<const N: u8> Contents for Expected<N> {
 
     ghost value = { λ _. tt };
 
-    ghost contents = { λ _. SmallContents N };
+    ghost Spelling = { Unit {0} };
 
-    ghost has_contents = { λ _. N < 256 };
+    ghost means = { λ s. s };
 
-    ghost written_contents = { λ _. integer_contents (N ∷ []) };
+    ghost written = { λ v. v };
+
+    ghost valid = { λ _. N < 256 };
+
+    ghost printed = { λ _. number_contents N };
+
+    ghost read_spelling = { expected N };
 
     ghost read = { expected N };
 
-    ghost reads = { expected_reads N };
+    ghost law = { expected_law N };
 
-    ghost means_one = { λ v w c p q. refl };
+    ghost shortest = { one_spelling (λ _. N < 256) (λ _. number_contents N) };
 
-    ghost contents_of_bytes = { λ _. small_of_bytes N };
+    ghost reads_alike = { alike (expected N) };
 }
 
 impl<const N: u8> TaggedBy for Expected<N> {
@@ -70,8 +75,4 @@ impl<const N: u8> EncodeValue for Expected<N> {
     fn prepend_value(&self, writer: &mut BackWriter<'_>) {
         N.prepend_value(writer);
     }
-
-    ghost contents_relate = { λ v has fits. small_relates N has };
-
-    ghost contents_shortest = { λ v. small_shortest N };
 }

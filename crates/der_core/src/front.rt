@@ -1,9 +1,8 @@
 //! Rows of parts at the front of contents whose rest depends on them.
-ghost use Rattle.std.specs.Prelude.{List, ℕ};
-ghost use Rattle.der_core.specs.Words.{AllocatesInParts, FrontReading, IsToldApart, NoParts, PartsContents};
-ghost use Rattle.der_core.specs.Words.{ReadsFronts, ReadsRow, front_done, front_done_reads, front_parts};
-ghost use Rattle.der_core.specs.Words.{front_parts_reads};
-ghost use Rattle.der_core.specs.Words.{no_parts_told_apart, parts_told_apart};
+ghost use Rattle.std.specs.Prelude.{List, [], ℕ};
+ghost use Rattle.der_core.specs.Words.{AllocatesInParts, FrontReading, Prints, ReadsFrontAlike, ReadsFrontPrinted};
+ghost use Rattle.der_core.specs.Words.{ReadsRow, front_alike, front_done, front_end_law, front_parts, front_row_alike};
+ghost use Rattle.der_core.specs.Words.{front_row_law, row};
 
 use crate::decode::Decode;
 use crate::error::Result;
@@ -19,17 +18,29 @@ pub trait FrontRow {
     /// What a row means.
     ghost value: { Self → Value };
 
-    /// The value has a row of these octets.
-    ghost row_octets: { Value → List ℕ → Type 0 };
+    /// What stands in the bytes: a row, or one of its spellings.
+    ghost Spelling: { Type 0 };
 
-    /// The value whose row is at the front, with the bytes behind it, or the kind of error of the first fault.
+    /// What a spelling means.
+    ghost means: { Spelling → Value };
+
+    /// Which spellings have octets.
+    ghost valid: { Spelling → Type 0 };
+
+    /// Their octets.
+    ghost printed: { Spelling → List ℕ };
+
+    /// The spelling of the row at the front, with the bytes behind it, or the kind of error of the first fault.
+    ghost read_spelling: { FrontReading Spelling };
+
+    /// The row at the front, with the bytes behind it, or the kind of error of the first fault.
     ghost read_row: { FrontReading Value };
 
-    /// The function reads the rows of the grammar and no others, and its faults are about the bytes.
-    ghost reads_row: { ReadsFronts row_octets read_row };
+    /// The rows of valid spellings are read, and no others, and faults are about the bytes.
+    ghost law: { ReadsFrontPrinted valid printed read_spelling };
 
-    /// A row is no proper beginning of another one.
-    ghost told_apart: { IsToldApart row_octets };
+    /// The row that is read is what the spelling means.
+    ghost reads_alike: { ReadsFrontAlike read_spelling means read_row };
 }
 
 /// A row that is read at the front of what is left.
@@ -48,13 +59,21 @@ impl FrontRow for () {
 
     ghost value = { λ _. tt };
 
-    ghost row_octets = { NoParts };
+    ghost Spelling = { Unit {0} };
+
+    ghost means = { λ s. s };
+
+    ghost valid = { λ _. Unit {0} };
+
+    ghost printed = { λ _. [] };
+
+    ghost read_spelling = { front_done };
 
     ghost read_row = { front_done };
 
-    ghost reads_row = { front_done_reads };
+    ghost law = { front_end_law };
 
-    ghost told_apart = { no_parts_told_apart };
+    ghost reads_alike = { front_alike front_done };
 }
 
 impl<A: Encoding, B: FrontRow> FrontRow for (A, B) {
@@ -62,13 +81,21 @@ impl<A: Encoding, B: FrontRow> FrontRow for (A, B) {
 
     ghost value = { λ parts. (A.value parts.0, B.value parts.1) };
 
-    ghost row_octets = { PartsContents A.encoding B.row_octets };
+    ghost Spelling = { A.Spelling × B.Spelling };
+
+    ghost means = { λ s. (A.means s.0, B.means s.1) };
+
+    ghost valid = { λ s. A.valid s.0 × B.valid s.1 };
+
+    ghost printed = { row A.printed B.printed };
+
+    ghost read_spelling = { front_parts A.read_spelling B.read_spelling };
 
     ghost read_row = { front_parts A.read_front B.read_row };
 
-    ghost reads_row = { front_parts_reads A.reads_front B.reads_row };
+    ghost law = { front_row_law A.law B.law };
 
-    ghost told_apart = { parts_told_apart A.encoding B.row_octets A.delimited B.told_apart };
+    ghost reads_alike = { front_row_alike A.reads_alike B.reads_alike };
 }
 
 impl<'a, M: Memory> DecodeFront<&'a [u8], M> for () {
@@ -82,7 +109,8 @@ impl<'a, M: Memory> DecodeFront<&'a [u8], M> for () {
 
 impl<'a, M: Memory, A: Decode<&'a [u8], M>, B: DecodeFront<&'a [u8], M>> DecodeFront<&'a [u8], M>
     for (A, B) {
-    ghost may_allocate = { AllocatesInParts A.encoding A.Decode.may_allocate B.DecodeFront.may_allocate };
+    ghost may_allocate = { let first = Prints A.valid A.printed A.means in
+        AllocatesInParts first A.Decode.may_allocate B.DecodeFront.may_allocate };
 
     #[inline(always)]
     fn decode_front<R: Reader<&'a [u8]>>(memory: M, reader: &mut R) -> Result<(A, B)> {

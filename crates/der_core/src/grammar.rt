@@ -1,17 +1,19 @@
-//! The relation of a type's values and their encodings: one for reading and writing, for borrowed and owned types.
+//! What a type's values and their encodings are, stated by a printer: which spellings are valid, what their octets are,
+//! and which functions read them. It is one for reading and writing, for borrowed and owned types.
 //!
 //! The author of a type writes `Contents` (ghosts alone), `TaggedBy` (the tag), and then `DecodeValue` or `EncodeValue`
 //! or both.
-ghost use Rattle.std.specs.Prelude.{◌≡◌, ℕ, List};
-ghost use Rattle.der_core.specs.Words.{MeansOne, IsDelimited, IsOfBytes, Tlv, tlv, tlv_delimited, tlv_of_bytes};
-ghost use Rattle.der_core.specs.Words.{integer, sequence, Reading, FrontReading, ReadsContents, ReadsFronts};
-ghost use Rattle.der_core.specs.Words.{tagged, tagged_reads};
+ghost use Rattle.std.specs.Prelude.{◌≡◌, ◌<◌, ℕ, List, length};
+ghost use Rattle.standard.specs.Statement as standard;
+ghost use Rattle.der_core.specs.Words.{FrontReading, Reading, ReadsAlike, ReadsFrontAlike, ReadsFrontPrinted};
+ghost use Rattle.der_core.specs.Words.{ReadsPrinted, WritesShortest, integer, sequence, tagged, tagged_alike};
+ghost use Rattle.der_core.specs.Words.{tagged_law, tagged_shortest, tagged_some};
 ghost use Rattle.der_core.specs.declared.tag.Tag.{Tag};
 ghost use Rattle.std.specs.Bool.{Decides};
 
 use crate::tag::Tag;
 
-/// A type whose values have contents octets.
+/// A type whose values have contents octets: those that are printed of their spellings.
 pub trait Contents {
     /// What values of the type mean: the same for borrowed and owned types.
     ghost Value: { Type 0 };
@@ -19,29 +21,38 @@ pub trait Contents {
     /// What a value means.
     ghost value: { Self → Value };
 
-    /// The value has these contents octets.
-    ghost contents: { Value → List ℕ → Type 0 };
+    /// What stands in the bytes: a value, or one of its spellings.
+    ghost Spelling: { Type 0 };
 
-    /// Which values have contents.
-    ghost has_contents: { Value → Type 0 };
+    /// What a spelling means.
+    ghost means: { Spelling → Value };
 
-    /// The contents that are written.
-    ghost written_contents: { Value → List ℕ };
+    /// The spelling that is written.
+    ghost written: { Value → Spelling };
+
+    /// Which spellings have contents.
+    ghost valid: { Spelling → Type 0 };
+
+    /// Their contents.
+    ghost printed: { Spelling → List ℕ };
+
+    /// The spelling with these contents, or the kind of error of their first fault.
+    ghost read_spelling: { Reading Spelling };
 
     /// The value with these contents, or the kind of error of their first fault.
     ghost read: { Reading Value };
 
-    /// The function reads the contents of the grammar and no others, and its faults are about the bytes.
-    ghost reads: { ReadsContents contents read };
+    /// The contents of valid spellings are read, and no others, and faults are about the bytes.
+    ghost law: { ReadsPrinted valid printed read_spelling };
 
-    /// Contents mean at most one value.
-    ghost means_one: { MeansOne contents };
+    /// What is written is the shortest.
+    ghost shortest: { WritesShortest valid printed means written };
 
-    /// Contents are bytes.
-    ghost contents_of_bytes: { IsOfBytes contents };
+    /// The value that is read is what the spelling means.
+    ghost reads_alike: { ReadsAlike read_spelling means read };
 }
 
-/// A type whose values have encodings.
+/// A type whose values have encodings: those that are printed of their spellings.
 pub trait Encoding {
     /// What values of the type mean: the same for borrowed and owned types.
     ghost Value: { Type 0 };
@@ -49,26 +60,38 @@ pub trait Encoding {
     /// What a value means.
     ghost value: { Self → Value };
 
-    /// The value has this encoding.
-    ghost encoding: { Value → List ℕ → Type 0 };
+    /// What stands in the bytes: a value, or one of its spellings.
+    ghost Spelling: { Type 0 };
 
-    /// Which values have an encoding.
-    ghost has_encoding: { Value → Type 0 };
+    /// What a spelling means.
+    ghost means: { Spelling → Value };
 
-    /// The encoding that is written.
-    ghost written_encoding: { Value → List ℕ };
+    /// The spelling that is written.
+    ghost written: { Value → Spelling };
+
+    /// Which spellings have an encoding.
+    ghost valid: { Spelling → Type 0 };
+
+    /// Their encodings.
+    ghost printed: { Spelling → List ℕ };
+
+    /// The spelling whose encoding is at the front, with the bytes behind it, or the kind of error of the first fault.
+    ghost read_spelling: { FrontReading Spelling };
 
     /// The value whose encoding is at the front, with the bytes behind it, or the kind of error of the first fault.
     ghost read_front: { FrontReading Value };
 
-    /// The function reads the encodings of the grammar and no others, and its faults are about the bytes.
-    ghost reads_front: { ReadsFronts encoding read_front };
+    /// The encodings of valid spellings are read, and no others, and faults are about the bytes.
+    ghost law: { ReadsFrontPrinted valid printed read_spelling };
 
-    /// No encoding is empty or a proper beginning of another, and each means one value.
-    ghost delimited: { IsDelimited encoding };
+    /// What is written is the shortest.
+    ghost shortest: { WritesShortest valid printed means written };
 
-    /// Encodings are bytes.
-    ghost encoding_of_bytes: { IsOfBytes encoding };
+    /// No encoding is empty.
+    ghost some: { (s : Spelling) → 0 < length (printed s) };
+
+    /// The value that is read is what the spelling means.
+    ghost reads_alike: { ReadsFrontAlike read_spelling means read_front };
 }
 
 /// A type with an `==` that is true exactly if both sides mean the same value.
@@ -136,17 +159,25 @@ impl<T: Contents + FixedTag> Encoding for T {
 
     ghost value = { T.value };
 
-    ghost encoding = { λ v. Tlv T.TAG.octet (T.contents v) };
+    ghost Spelling = { T.Spelling };
 
-    ghost has_encoding = { T.has_contents };
+    ghost means = { T.means };
 
-    ghost written_encoding = { λ v. tlv T.TAG.octet (T.written_contents v) };
+    ghost written = { T.written };
+
+    ghost valid = { T.valid };
+
+    ghost printed = { λ s. standard.tlv T.TAG.octet (T.printed s) };
+
+    ghost read_spelling = { tagged T.TAG T.read_spelling };
 
     ghost read_front = { tagged T.TAG T.read };
 
-    ghost reads_front = { tagged_reads T.TAG T.reads };
+    ghost law = { tagged_law T.law T.TAG };
 
-    ghost delimited = { tlv_delimited T.TAG.octet T.contents T.means_one };
+    ghost shortest = { tagged_shortest T.shortest T.TAG.octet };
 
-    ghost encoding_of_bytes = { tlv_of_bytes T.TAG.octet T.TAG.allowed T.contents T.contents_of_bytes };
+    ghost some = { tagged_some T.printed T.TAG.octet };
+
+    ghost reads_alike = { tagged_alike T.reads_alike T.TAG };
 }

@@ -1,10 +1,10 @@
 //! The last part of some contents: one encoding, or an OPTIONAL one.
 ghost use Rattle.std.specs.Prelude.{◌≡◌, Option};
 ghost use Rattle.std.specs.Option.{option_map};
-ghost use Rattle.der_core.specs.Words.{AllocatesIn, AllocatesLast, HasOptional, LastContents, ReadsWhole, Tlv, alone};
-ghost use Rattle.der_core.specs.Words.{last, last_by_tag_reads, last_part_of_bytes, last_part_relates};
-ghost use Rattle.der_core.specs.Words.{last_part_shortest, last_reads, optional, optional_last, tagged, tlv_relates};
-ghost use Rattle.der_core.specs.Words.{tlv_shortest, written_optional};
+ghost use Rattle.standard.specs.Statement as standard;
+ghost use Rattle.der_core.specs.Words.{AllocatesIn, AllocatesLast, ReadsWhole, Tlv, alone, alone_alike, last};
+ghost use Rattle.der_core.specs.Words.{last_alike, last_by_tag_law, last_law, last_shortest, optional, optional_alike};
+ghost use Rattle.der_core.specs.Words.{tagged, tagged_alike, tagged_shortest};
 
 use crate::back_writer::BackWriter;
 use crate::borrowed::Borrowed;
@@ -40,19 +40,25 @@ impl<T: Encoding> Contents for Last<T> {
 
     ghost value = { λ last. option_map T.value last.0 };
 
-    ghost contents = { LastContents T.encoding };
+    ghost Spelling = { Option T.Spelling };
 
-    ghost has_contents = { HasOptional T.has_encoding };
+    ghost means = { option_map T.means };
 
-    ghost written_contents = { written_optional T.written_encoding };
+    ghost written = { option_map T.written };
+
+    ghost valid = { standard.IfPresent T.valid };
+
+    ghost printed = { standard.optional T.printed };
+
+    ghost read_spelling = { last T.read_spelling };
 
     ghost read = { last T.read_front };
 
-    ghost reads = { last_reads T.reads_front T.delimited };
+    ghost law = { last_law T.law T.some };
 
-    ghost means_one = { optional_last T.encoding T.delimited };
+    ghost shortest = { last_shortest T.shortest };
 
-    ghost contents_of_bytes = { last_part_of_bytes T.encoding T.encoding_of_bytes };
+    ghost reads_alike = { last_alike T.reads_alike };
 }
 
 impl<'a, M: Memory, T: Decode<&'a [u8], M>> DecodeParts<&'a [u8], M> for Last<T> {
@@ -88,10 +94,6 @@ impl<T: Encode> EncodeValue for Last<T> {
             part.prepend(writer);
         }
     }
-
-    ghost contents_relate = { last_part_relates T.encoding T.has_encoding T.written_encoding T.encoding_relates };
-
-    ghost contents_shortest = { last_part_shortest T.encoding T.has_encoding T.written_encoding T.encoding_shortest };
 }
 
 /// An OPTIONAL last part that is known by its tag: octets that begin with another are `TrailingData`.
@@ -99,23 +101,29 @@ impl<T: Encode> EncodeValue for Last<T> {
 pub struct LastByTag<T>(pub Last<T>);
 
 impl<T: Contents + FixedTag> Contents for LastByTag<T> {
-    ghost Value = { ⟦<Last<T> as Contents>⟧.Value };
+    ghost Value = { Option T.Value };
 
-    ghost value = { λ part. ⟦<Last<T> as Contents>⟧.value part.0 };
+    ghost value = { λ part. option_map T.value part.0.0 };
 
-    ghost contents = { ⟦<Last<T> as Contents>⟧.contents };
+    ghost Spelling = { Option T.Spelling };
 
-    ghost has_contents = { ⟦<Last<T> as Contents>⟧.has_contents };
+    ghost means = { option_map T.means };
 
-    ghost written_contents = { ⟦<Last<T> as Contents>⟧.written_contents };
+    ghost written = { option_map T.written };
+
+    ghost valid = { standard.IfPresent T.valid };
+
+    ghost printed = { standard.optional (λ s. standard.tlv T.TAG.octet (T.printed s)) };
+
+    ghost read_spelling = { alone (optional T.TAG.octet (tagged T.TAG T.read_spelling)) };
 
     ghost read = { alone (optional T.TAG.octet (tagged T.TAG T.read)) };
 
-    ghost reads = { last_by_tag_reads T.TAG T.reads };
+    ghost law = { last_by_tag_law T.law T.TAG };
 
-    ghost means_one = { ⟦<Last<T> as Contents>⟧.means_one };
+    ghost shortest = { last_shortest (tagged_shortest T.shortest T.TAG.octet) };
 
-    ghost contents_of_bytes = { ⟦<Last<T> as Contents>⟧.contents_of_bytes };
+    ghost reads_alike = { alone_alike (optional_alike (tagged_alike T.reads_alike T.TAG) T.TAG.octet) };
 }
 
 impl<'a, M: Memory, T: DecodeValue<&'a [u8], M> + FixedTag> DecodeParts<&'a [u8], M>
@@ -145,14 +153,6 @@ impl<T: EncodeValue + FixedTag> EncodeValue for LastByTag<T> {
     fn prepend_value(&self, writer: &mut BackWriter<'_>) {
         self.0.prepend_value(writer);
     }
-
-    ghost contents_relate = { last_part_relates ⟦<T as Encoding>⟧.encoding T.has_contents
-        ⟦<T as Encoding>⟧.written_encoding
-        (λ v has. tlv_relates T.TAG.octet T.contents T.written_contents v (T.contents_relate v has)) };
-
-    ghost contents_shortest = { last_part_shortest ⟦<T as Encoding>⟧.encoding T.has_contents
-        ⟦<T as Encoding>⟧.written_encoding
-        (tlv_shortest T.TAG.octet T.contents T.written_contents T.has_contents T.contents_shortest) };
 }
 
 /// Reads all that is left as one encoding: `TrailingData` if bytes follow it. `Failed` on a reader that has failed.

@@ -1,14 +1,13 @@
 //! Laws of comparing, copying and reading: functions that do nothing, each with a law as its contract.
-ghost use Rattle.std.specs.Prelude.{◌≡◌, ◌≤◌, ◌↔◌, ℕ, List, length, Result, true, false};
+ghost use Rattle.std.specs.Prelude.{◌≡◌, ◌≤◌, ℕ, List, length, Result, true, false};
 ghost use Rattle.std.specs.Bool.{Decides};
-ghost use Rattle.std.specs.Option.{option_map};
 ghost use Rattle.std.specs.Ordering.{nat_cmp};
 ghost use Rattle.standard.specs.Statement as standard;
-ghost use Rattle.der_core.specs.Words.{encoding_of, octets_of, LastContents, OptionalRead, Tlv};
-ghost use Rattle.der_core.specs.Words.{ReadsBy, ReadsContents, ReadsFronts, alone, last, optional, tagged};
+ghost use Rattle.der_core.specs.Words.{encoding_of, octets_of, ReadsAlike, ReadsFrontPrinted, ReadsPrinted};
+ghost use Rattle.der_core.specs.Words.{ReadsContents, ReadsFronts, alone, last, optional, tagged};
 ghost use Rattle.der_core.specs.Words.{integer, sequence, bytes_of};
-ghost use Rattle.der_core.specs.Words.{Answers, AreBytes, Means, PrintsOne, ReadsFrontAlike, Spells, limit, ok_of};
-ghost use Rattle.der_core.specs.Words.{WritesAlike, value_in, whole};
+ghost use Rattle.der_core.specs.Words.{Answers, AreBytes, Prints, PrintsOne, ReadsFrontAlike, Spells, limit, ok_of};
+ghost use Rattle.der_core.specs.Words.{WritesShortest, value_in, whole};
 ghost use Rattle.der_core.specs.declared.document.DocumentOf as documents;
 ghost use Rattle.der_core.specs.declared.document.Open as marks;
 ghost use Rattle.der_core.specs.declared.error.Error as errors;
@@ -26,7 +25,6 @@ use crate::header::Header;
 use crate::integer::UintRef;
 use crate::length::Length;
 use crate::octet_string::OctetStringRef;
-use crate::printed::PrintedEncoding;
 use crate::tag::{Tag, TagNumber};
 
 /// Lengths compare as their numbers.
@@ -69,51 +67,48 @@ pub fn lemma_clones_hold_the_same()
         → ⟦<OctetStringRef<'static> as Clone>⟧.is_clone a b → octets_of b ≡ octets_of a }
 {}
 
-/// A type's function reads the contents of its grammar and no others, and its faults are about the bytes.
-pub fn lemma_contents_are_read<T: Contents>()
-    ensures { ReadsContents T.contents T.read }
-{}
-
-/// A type's function reads the encodings of its grammar and no others, and its faults are about the bytes.
-pub fn lemma_encodings_are_read<T: Encoding>()
-    ensures { ReadsFronts T.encoding T.read_front }
-{}
-
-/// What `decode_whole` reads is one encoding, what `decode_last` reads one or none.
-pub fn lemma_last_parts_are_read<T: Encoding>()
-    ensures whole { ReadsContents T.encoding (alone T.read_front) }
-    ensures last { ReadsContents (LastContents T.encoding) (last T.read_front) }
-{}
-
-/// What `decode_optional` reads is an encoding, or nothing where the octet of the tag isn't next.
-pub fn lemma_optional_parts_are_read<T: Contents + FixedTag>()
-    ensures { ReadsBy (OptionalRead T.TAG.octet (λ v. Tlv T.TAG.octet (T.contents v)))
-        (optional T.TAG.octet (tagged T.TAG T.read)) }
-{}
-
-/// What is printed of any type is what `Encoding` says, and reading gives nothing else.
+/// What is printed of a type is read, and nothing else.
 ///
-/// - `decodes`: reading a whole slice gives a meaning exactly if the bytes spell it.
-/// - `answers`: so does a call that returns what the function of `Encoding` gives.
+/// - `law`: the function of spellings reads the contents of valid ones and no others.
+/// - `alike`: the function of values gives what they mean.
+/// - `reads`: so it gives a value exactly of contents that are printed of it.
+/// - `shortest`: what is written is the shortest.
+pub fn lemma_contents_are_read<T: Contents>()
+    ensures law { ReadsPrinted T.valid T.printed T.read_spelling }
+    ensures alike { ReadsAlike T.read_spelling T.means T.read }
+    ensures reads { ReadsContents (Prints T.valid T.printed T.means) T.read }
+    ensures shortest { WritesShortest T.valid T.printed T.means T.written }
+{}
+
+/// What is printed of a type is read at the front of bytes, and nothing else.
+///
+/// - `law`: the function of spellings reads the encodings of valid ones and no others.
+/// - `alike`: the function of values gives what they mean.
+/// - `reads`: so it gives a value exactly of bytes that begin with what is printed of it.
+/// - `decodes`: reading a whole slice gives a value exactly if the bytes spell it.
+/// - `answers`: so does a call that returns what the function gives.
 /// - `one`: no encoding is that of two spellings, or a proper beginning of another.
-/// - `shortest`: what is written is shorter than each other encoding of the meaning.
-/// - `alike`: values have meanings, and both functions read the same of them. Bytes spell a meaning exactly if the
-///   grammar has them for a value that has it.
-/// - `writes`: what is written is the same.
-pub fn lemma_spellings_are_read<T: PrintedEncoding>()
-    ensures decodes { (bytes : List ℕ) → AreBytes bytes → let read = value_in (whole T.read_spelling bytes) in
-        standard.Decodes (Spells T.valid T.printed T.means) bytes (option_map T.means read) }
+/// - `shortest`: what is written is shorter than each other encoding of the value.
+pub fn lemma_encodings_are_read<T: Encoding>()
+    ensures law { ReadsFrontPrinted T.valid T.printed T.read_spelling }
+    ensures alike { ReadsFrontAlike T.read_spelling T.means T.read_front }
+    ensures reads { ReadsFronts (Prints T.valid T.printed T.means) T.read_front }
+    ensures decodes { (bytes : List ℕ) → AreBytes bytes
+        → standard.Decodes (Spells T.valid T.printed T.means) bytes (value_in (whole T.read_front bytes)) }
     ensures answers { (bytes : List ℕ) (result : Result T errors.Error) → AreBytes bytes
         → Answers T.value result (whole T.read_front bytes)
-        → standard.Decodes (Spells T.valid T.printed T.means) bytes (ok_of T.meaning result) }
+        → standard.Decodes (Spells T.valid T.printed T.means) bytes (ok_of T.value result) }
     ensures one { PrintsOne T.valid T.printed }
-    ensures shortest { (m : T.Meaning) → let encoding = T.printed (T.written m) in
-        T.valid (T.written m) → length encoding ≤ limit
-        → standard.IsShortest (Spells T.valid T.printed T.means) m encoding }
-    ensures alike { (of : T.Value → T.Meaning) × ((x : T) → of (T.value x) ≡ T.meaning x)
-        × ReadsFrontAlike T.read_spelling T.means T.read_front of
-        × ((bytes : List ℕ) → AreBytes bytes → (m : T.Meaning) → Spells T.valid T.printed T.means m bytes
-        ↔ ((v : T.Value) × (of v ≡ m) × Means T.encoding bytes v)) }
-    ensures writes { (x : T) → let v = T.value x in let s = T.written (T.meaning x) in
-        WritesAlike (T.has_encoding v) (T.written_encoding v) (T.valid s) (T.printed s) }
+    ensures shortest { (v : T.Value) → let encoding = T.printed (T.written v) in
+        T.valid (T.written v) → length encoding ≤ limit
+        → standard.IsShortest (Spells T.valid T.printed T.means) v encoding }
+{}
+
+/// What `decode_last` reads is one encoding or none, what `decode_optional` reads is an encoding, or nothing where the
+/// octet of the tag isn't next.
+pub fn lemma_optional_parts_are_read<T: Contents + FixedTag>()
+    ensures last { let at = tagged T.TAG T.read_spelling in
+        ReadsPrinted (standard.IfPresent T.valid) (standard.optional ⟦<T as Encoding>⟧.printed) (last at) }
+    ensures next { let at = optional T.TAG.octet (tagged T.TAG T.read_spelling) in
+        ReadsPrinted (standard.IfPresent T.valid) (standard.optional ⟦<T as Encoding>⟧.printed) (alone at) }
 {}

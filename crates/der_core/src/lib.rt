@@ -1,8 +1,8 @@
 //! A small kernel for DER (X.690): tags, lengths, unsigned integers, readers, writers, and the traits that define what
 //! the values of a type and their encodings are.
 //!
-//! A type states its relation of values and contents octets once (`Contents`). Reading accepts exactly that relation,
-//! and writing gives the shortest encoding.
+//! A type states once which spellings its values have and what is printed of them (`Contents`). Reading accepts exactly
+//! that, and writing gives the shortest encoding.
 //!
 //! An *encoding* is one whole DER encoding: tag, length and contents octets. A *sentence* is an
 //! encoding of at most `Length::MAX` bytes that means a value.
@@ -28,7 +28,6 @@ mod memory;
 mod octet_string;
 mod one_encoding;
 mod parts;
-mod printed;
 mod reader;
 mod record;
 mod sequence_of;
@@ -60,15 +59,14 @@ pub use last_part::{Last, LastByTag, decode_last, decode_whole};
 pub use laws::{
     lemma_clones_hold_the_same, lemma_contents_are_read, lemma_documents_compare_by_bytes,
     lemma_encodings_are_read, lemma_headers_compare_by_value, lemma_kinds_are_told_apart,
-    lemma_last_parts_are_read, lemma_lengths_compare_by_number, lemma_optional_parts_are_read,
-    lemma_spellings_are_read, lemma_tag_numbers_compare_by_number,
+    lemma_lengths_compare_by_number, lemma_optional_parts_are_read,
+    lemma_tag_numbers_compare_by_number,
 };
 pub use length::Length;
 pub use memory::{Memory, NoMemory};
 pub use octet_string::{OctetStringRef, OctetStringTag};
 pub use one_encoding::{OneContents, OneEncoding, lemma_one_encoding, write_only};
 pub use parts::DecodeParts;
-pub use printed::{PrintedContents, PrintedEncoding};
 pub use reader::{BytesLeft, Octets, Reader};
 pub use record::{EncodeInParts, InParts, Record};
 pub use slice_reader::SliceReader;

@@ -1,10 +1,10 @@
 //! OCTET STRING (X.690 8.7).
 ghost use Rattle.std.specs.Prelude.{◌≡◌, ◌≤◌, ◌<◌, ◌↔◌, ℕ, List, IsTrue, length, slice_index, IfOk, IfErr};
 ghost use Rattle.der_core.specs.Length.{limit};
-ghost use Rattle.der_core.specs.OctetString.{OctetContents};
 ghost use Rattle.der_core.specs.Readings.{octets_of_all};
-ghost use Rattle.der_core.specs.Laws.Readings.{octets_read};
-ghost use Rattle.der_core.specs.Laws.OctetString.{octets_mean_one, octets_of_bytes, octets_relate, octets_shortest};
+ghost use Rattle.der_core.specs.Laws.Printed.Alike.{alike};
+ghost use Rattle.der_core.specs.Laws.Printed.Leaves.{octets_law};
+ghost use Rattle.der_core.specs.Laws.Printed.Shortest.{one_spelling};
 ghost use Rattle.der_core.specs.Tags.{octet_string};
 ghost use Rattle.der_core.specs.Encodings.{AreBytes};
 
@@ -81,19 +81,25 @@ impl Contents for OctetStringRef<'_> {
 
     ghost value = { octets_of };
 
-    ghost contents = { OctetContents };
+    ghost Spelling = { List ℕ };
 
-    ghost has_contents = { AreBytes };
+    ghost means = { λ o. o };
 
-    ghost written_contents = { λ octets. octets };
+    ghost written = { λ o. o };
+
+    ghost valid = { AreBytes };
+
+    ghost printed = { λ o. o };
+
+    ghost read_spelling = { octets_of_all };
 
     ghost read = { octets_of_all };
 
-    ghost reads = { octets_read };
+    ghost law = { octets_law };
 
-    ghost means_one = { octets_mean_one };
+    ghost shortest = { one_spelling AreBytes (λ o. o) };
 
-    ghost contents_of_bytes = { octets_of_bytes };
+    ghost reads_alike = { alike octets_of_all };
 }
 
 impl TaggedBy for OctetStringRef<'_> {
@@ -131,8 +137,4 @@ impl EncodeValue for OctetStringRef<'_> {
     fn prepend_value(&self, writer: &mut BackWriter<'_>) {
         writer.prepend(self.bytes);
     }
-
-    ghost contents_relate = { λ octets has fits. octets_relate octets has };
-
-    ghost contents_shortest = { octets_shortest };
 }

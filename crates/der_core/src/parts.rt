@@ -1,10 +1,8 @@
 //! Parts of contents in a row, as a type: a nested pair that ends with `()`, as `(A, (B, ()))`, or with an OPTIONAL last
 //! part, as `(A, Last<B>)`. A row is written as contents, `(Borrowed(&self.a), (Borrowed(&self.b), ())).value_len()`.
 ghost use Rattle.std.specs.Prelude.{List, [], ℕ};
-ghost use Rattle.der_core.specs.Words.{AllocatesInParts, HaveParts, NoParts, PartsContents, ReadsWhole, no_parts};
-ghost use Rattle.der_core.specs.Words.{no_parts_mean_one, no_parts_of_bytes, no_parts_read, no_parts_relate};
-ghost use Rattle.der_core.specs.Words.{no_parts_shortest, parts, parts_mean_one, parts_of_bytes, parts_read};
-ghost use Rattle.der_core.specs.Words.{parts_relate, parts_shortest, written_parts};
+ghost use Rattle.der_core.specs.Words.{AllocatesInParts, Prints, ReadsWhole, alike, end_law, no_parts, one_spelling};
+ghost use Rattle.der_core.specs.Words.{parts, row, row_alike, row_law, row_shortest};
 
 use crate::back_writer::BackWriter;
 use crate::decode::Decode;
@@ -32,19 +30,25 @@ impl Contents for () {
 
     ghost value = { λ _. tt };
 
-    ghost contents = { NoParts };
+    ghost Spelling = { Unit {0} };
 
-    ghost has_contents = { λ _. Unit {0} };
+    ghost means = { λ s. s };
 
-    ghost written_contents = { λ _. [] };
+    ghost written = { λ v. v };
+
+    ghost valid = { λ _. Unit {0} };
+
+    ghost printed = { λ _. [] };
+
+    ghost read_spelling = { no_parts };
 
     ghost read = { no_parts };
 
-    ghost reads = { no_parts_read };
+    ghost law = { end_law };
 
-    ghost means_one = { no_parts_mean_one };
+    ghost shortest = { one_spelling (λ _. Unit {0}) (λ _. []) };
 
-    ghost contents_of_bytes = { no_parts_of_bytes };
+    ghost reads_alike = { alike no_parts };
 }
 
 impl<A: Encoding, B: Contents> Contents for (A, B) {
@@ -52,19 +56,25 @@ impl<A: Encoding, B: Contents> Contents for (A, B) {
 
     ghost value = { λ parts. (A.value parts.0, B.value parts.1) };
 
-    ghost contents = { PartsContents A.encoding B.contents };
+    ghost Spelling = { A.Spelling × B.Spelling };
 
-    ghost has_contents = { HaveParts A.has_encoding B.has_contents };
+    ghost means = { λ s. (A.means s.0, B.means s.1) };
 
-    ghost written_contents = { written_parts A.written_encoding B.written_contents };
+    ghost written = { λ v. (A.written v.0, B.written v.1) };
+
+    ghost valid = { λ s. A.valid s.0 × B.valid s.1 };
+
+    ghost printed = { row A.printed B.printed };
+
+    ghost read_spelling = { parts A.read_spelling B.read_spelling };
 
     ghost read = { parts A.read_front B.read };
 
-    ghost reads = { parts_read A.reads_front B.reads };
+    ghost law = { row_law A.law B.law };
 
-    ghost means_one = { parts_mean_one A.encoding B.contents A.delimited B.means_one };
+    ghost shortest = { row_shortest A.shortest B.shortest };
 
-    ghost contents_of_bytes = { parts_of_bytes A.encoding B.contents A.encoding_of_bytes B.contents_of_bytes };
+    ghost reads_alike = { row_alike A.reads_alike B.reads_alike };
 }
 
 impl<'a, M: Memory> DecodeParts<&'a [u8], M> for () {
@@ -78,7 +88,8 @@ impl<'a, M: Memory> DecodeParts<&'a [u8], M> for () {
 
 impl<'a, M: Memory, A: Decode<&'a [u8], M>, B: DecodeParts<&'a [u8], M>> DecodeParts<&'a [u8], M>
     for (A, B) {
-    ghost may_allocate = { AllocatesInParts A.encoding A.Decode.may_allocate B.DecodeParts.may_allocate };
+    ghost may_allocate = { let first = Prints A.valid A.printed A.means in
+        AllocatesInParts first A.Decode.may_allocate B.DecodeParts.may_allocate };
 
     #[inline(always)]
     fn decode_parts<R: Reader<&'a [u8]>>(memory: M, reader: &mut R) -> Result<(A, B)> {
@@ -101,10 +112,6 @@ impl EncodeValue for () {
 
     #[inline(always)]
     fn prepend_value(&self, _writer: &mut BackWriter<'_>) {}
-
-    ghost contents_relate = { no_parts_relate };
-
-    ghost contents_shortest = { no_parts_shortest };
 }
 
 impl<A: Encode, B: EncodeValue> EncodeValue for (A, B) {
@@ -125,10 +132,4 @@ impl<A: Encode, B: EncodeValue> EncodeValue for (A, B) {
         self.1.prepend_value(writer);
         self.0.prepend(writer);
     }
-
-    ghost contents_relate = { parts_relate A.encoding B.contents A.has_encoding B.has_contents A.written_encoding
-        B.written_contents A.encoding_relates B.contents_relate };
-
-    ghost contents_shortest = { parts_shortest A.encoding B.contents A.has_encoding B.has_contents A.written_encoding
-        B.written_contents A.encoding_shortest B.contents_shortest };
 }

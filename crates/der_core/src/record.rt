@@ -1,8 +1,7 @@
 //! SEQUENCEs as records of parts: a type that names its parts is read and written with no proof of its own.
-ghost use Rattle.std.specs.Prelude.{◌≡◌, ◌≤◌, Err, List, ℕ, length, refl};
+ghost use Rattle.std.specs.Prelude.{◌≡◌, ◌≤◌, Err, List, Ok, ℕ, length, refl};
 ghost use Rattle.der_core.specs.declared.error.ErrorKind.{ErrorKind};
-ghost use Rattle.der_core.specs.Words.{Appends, Counts, IsParts, Prepends, as_parts, free_of, in_parts_relate};
-ghost use Rattle.der_core.specs.Words.{in_parts_shortest, limit};
+ghost use Rattle.der_core.specs.Words.{Appends, AreSpelledOnce, Counts, Prepends, free_of, limit};
 
 use crate::back_writer::BackWriter;
 use crate::decode::DecodeValue;
@@ -23,14 +22,14 @@ pub trait InParts: Contents + Sized {
 
     /// The value with these parts.
     fn from_parts(parts: Self::Parts) -> Self
-        ensures { (c : List ℕ) → Self.Parts.contents (Self.Parts.value parts) c → Self.contents (Self.value result) c };
+        ensures { (c : List ℕ) → Self.Parts.read c ≡ Ok (Self.Parts.value parts)
+            → Self.read c ≡ Ok (Self.value result) };
 
     /// A fault of the row is the value's fault.
     ghost errs: { (k : ErrorKind) (c : List ℕ) → Self.Parts.read c ≡ Err k → Self.read c ≡ Err k };
 
-    /// Each value has the contents of some parts.
-    ghost is_parts: { (v : Self.Value) → IsParts (Self.contents v) (Self.has_contents v) (Self.written_contents v)
-        Self.Parts.contents Self.Parts.has_contents Self.Parts.written_contents };
+    /// If each row is spelled in one way, so is each value.
+    ghost once: { AreSpelledOnce Self.Parts.means → AreSpelledOnce Self.means };
 }
 
 impl<'a, M: Memory, T: InParts + Drop> DecodeValue<&'a [u8], M> for T
@@ -50,22 +49,22 @@ where
 pub trait EncodeInParts: InParts {
     /// The length of the parts.
     fn parts_len(&self) -> Result<Length>
-        ensures { let v = Self.value self.now in Counts (Self.has_contents v) (Self.written_contents v) result };
+        ensures { let s = Self.written (Self.value self.now) in Counts (Self.valid s) (Self.printed s) result };
 
     /// Appends the parts: `NoRoom` after a beginning of them.
     fn append_parts<W: Writer>(&self, writer: &mut W) -> Result<()>
-        requires has { Self.has_contents (Self.value self.now) }
-        requires fits { length (Self.written_contents (Self.value self.now)) ≤ limit }
-        ensures appends { let v = Self.value self.now in
-            Appends (Self.has_contents v) (Self.written_contents v) W.room W.written writer.old writer.new result }
+        requires has { Self.valid (Self.written (Self.value self.now)) }
+        requires fits { length (Self.printed (Self.written (Self.value self.now))) ≤ limit }
+        ensures appends { let s = Self.written (Self.value self.now) in
+            Appends (Self.valid s) (Self.printed s) W.room W.written writer.old writer.new result }
         ensures kept { W.keeps writer.old writer.new };
 
     /// Writes the parts in front of what is filled.
     fn prepend_parts(&self, writer: &mut BackWriter<'_>)
-        requires has { Self.has_contents (Self.value self.now) }
-        requires fits { length (Self.written_contents (Self.value self.now)) ≤ limit }
-        requires room { length (Self.written_contents (Self.value self.now)) ≤ free_of writer.old }
-        ensures { Prepends (Self.written_contents (Self.value self.now)) writer.old writer.new };
+        requires has { Self.valid (Self.written (Self.value self.now)) }
+        requires fits { length (Self.printed (Self.written (Self.value self.now))) ≤ limit }
+        requires room { length (Self.printed (Self.written (Self.value self.now))) ≤ free_of writer.old }
+        ensures { Prepends (Self.printed (Self.written (Self.value self.now))) writer.old writer.new };
 }
 
 impl<T: EncodeInParts> EncodeValue for T
@@ -86,12 +85,6 @@ where
     fn prepend_value(&self, writer: &mut BackWriter<'_>) {
         self.prepend_parts(writer);
     }
-
-    ghost contents_relate = { in_parts_relate T.Parts.contents T.Parts.has_contents T.Parts.written_contents T.contents
-        T.has_contents T.written_contents T.is_parts T.Parts.contents_relate };
-
-    ghost contents_shortest = { in_parts_shortest T.Parts.contents T.Parts.has_contents T.Parts.written_contents
-        T.contents T.has_contents T.written_contents T.is_parts T.Parts.contents_shortest };
 }
 
 /// A SEQUENCE that means its parts: their row is all that there is to say of it.
@@ -112,19 +105,25 @@ impl<T: Record> Contents for T {
 
     ghost value = { λ x. T.Fields.value (T.fields x) };
 
-    ghost contents = { T.Fields.contents };
+    ghost Spelling = { T.Fields.Spelling };
 
-    ghost has_contents = { T.Fields.has_contents };
+    ghost means = { T.Fields.means };
 
-    ghost written_contents = { T.Fields.written_contents };
+    ghost written = { T.Fields.written };
+
+    ghost valid = { T.Fields.valid };
+
+    ghost printed = { T.Fields.printed };
+
+    ghost read_spelling = { T.Fields.read_spelling };
 
     ghost read = { T.Fields.read };
 
-    ghost reads = { T.Fields.reads };
+    ghost law = { T.Fields.law };
 
-    ghost means_one = { T.Fields.means_one };
+    ghost shortest = { T.Fields.shortest };
 
-    ghost contents_of_bytes = { T.Fields.contents_of_bytes };
+    ghost reads_alike = { T.Fields.reads_alike };
 }
 
 impl<T: Record> TaggedBy for T {
@@ -145,5 +144,5 @@ impl<T: Record> InParts for T {
 
     ghost errs = { λ k c e. e };
 
-    ghost is_parts = { as_parts T.Fields.contents T.Fields.has_contents T.Fields.written_contents };
+    ghost once = { λ once. once };
 }

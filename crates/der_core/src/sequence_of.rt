@@ -1,8 +1,8 @@
 //! SEQUENCE OF (X.690 8.10), as a `Vec` of its items.
-ghost use Rattle.std.specs.Prelude.{◌≡◌, ◌≤◌, List, length, map};
-ghost use Rattle.der_core.specs.Words.{limit, free_of, Prepends, AllocatesForItems, items, items_read};
-ghost use Rattle.der_core.specs.Words.{Counts, Appends, items_of_bytes, items_relate};
-ghost use Rattle.der_core.specs.Words.{items_shortest, ItemsContents, AllHave, all_encodings, joins_map};
+ghost use Rattle.std.specs.Prelude.{◌≤◌, List, length, map};
+ghost use Rattle.std.specs.List.{AllByRecursion, concat};
+ghost use Rattle.der_core.specs.Words.{limit, free_of, Prepends, AllocatesForItems, AllHave, all_encodings, items};
+ghost use Rattle.der_core.specs.Words.{Counts, Appends, Prints, items_alike, items_law, list_shortest};
 
 use crate::back_writer::BackWriter;
 use crate::decode::{Decode, DecodeValue};
@@ -20,19 +20,25 @@ impl<T: Encoding> Contents for Vec<T> {
 
     ghost value = { λ v. map T.value v.items };
 
-    ghost contents = { ItemsContents T.encoding };
+    ghost Spelling = { List T.Spelling };
 
-    ghost has_contents = { AllHave T.has_encoding };
+    ghost means = { map T.means };
 
-    ghost written_contents = { all_encodings T.written_encoding };
+    ghost written = { map T.written };
+
+    ghost valid = { AllByRecursion T.valid };
+
+    ghost printed = { λ ss. concat (map T.printed ss) };
+
+    ghost read_spelling = { items T.read_spelling };
 
     ghost read = { items T.read_front };
 
-    ghost reads = { items_read T.reads_front T.delimited };
+    ghost law = { items_law T.law T.some };
 
-    ghost means_one = { joins_map T.encoding T.delimited };
+    ghost shortest = { list_shortest T.shortest };
 
-    ghost contents_of_bytes = { items_of_bytes T.encoding T.encoding_of_bytes };
+    ghost reads_alike = { items_alike T.reads_alike };
 }
 
 impl<T> TaggedBy for Vec<T> {
@@ -40,7 +46,7 @@ impl<T> TaggedBy for Vec<T> {
 }
 
 impl<'a, T: Decode<&'a [u8], Global>> DecodeValue<&'a [u8], Global> for Vec<T> {
-    ghost may_allocate = { AllocatesForItems T.encoding T.Decode.may_allocate };
+    ghost may_allocate = { AllocatesForItems (Prints T.valid T.printed T.means) T.Decode.may_allocate };
 
     fn decode_value<R: Reader<&'a [u8]>>(
         memory: Global,
@@ -60,8 +66,8 @@ impl<'a, T: Decode<&'a [u8], Global>> DecodeValue<&'a [u8], Global> for Vec<T> {
 
 /// The total length of the encodings of the items.
 pub(crate) fn items_len<T: Encode>(items: &[T]) -> Result<Length>
-    ensures { let have = AllHave (λ x. T.has_encoding (T.value x)) items.now in
-        Counts have (all_encodings (λ x. T.written_encoding (T.value x)) items.now) result }
+    ensures { let have = AllHave (λ x. T.valid (T.written (T.value x))) items.now in
+        Counts have (all_encodings (λ x. T.printed (T.written (T.value x))) items.now) result }
 {
     let mut total = Ok(Length::ZERO);
     for item in items {
@@ -72,10 +78,10 @@ pub(crate) fn items_len<T: Encode>(items: &[T]) -> Result<Length>
 
 /// Appends the encodings of the items.
 pub(crate) fn encode_items<T: Encode, W: Writer>(items: &[T], writer: &mut W) -> Result<()>
-    requires has { AllHave (λ x. T.has_encoding (T.value x)) items.now }
-    requires fits { length (all_encodings (λ x. T.written_encoding (T.value x)) items.now) ≤ limit }
-    ensures appends { let have = AllHave (λ x. T.has_encoding (T.value x)) items.now in
-        let octets = all_encodings (λ x. T.written_encoding (T.value x)) items.now in
+    requires has { AllHave (λ x. T.valid (T.written (T.value x))) items.now }
+    requires fits { length (all_encodings (λ x. T.printed (T.written (T.value x))) items.now) ≤ limit }
+    ensures appends { let have = AllHave (λ x. T.valid (T.written (T.value x))) items.now in
+        let octets = all_encodings (λ x. T.printed (T.written (T.value x))) items.now in
         Appends have octets W.room W.written writer.old writer.new result }
     ensures kept { W.keeps writer.old writer.new }
 {
@@ -87,10 +93,10 @@ pub(crate) fn encode_items<T: Encode, W: Writer>(items: &[T], writer: &mut W) ->
 
 /// Writes the encodings of the items in front of what is filled, the last item first.
 pub(crate) fn prepend_items<T: Encode>(items: &[T], writer: &mut BackWriter<'_>)
-    requires has { AllHave (λ x. T.has_encoding (T.value x)) items.now }
-    requires fits { length (all_encodings (λ x. T.written_encoding (T.value x)) items.now) ≤ limit }
-    requires room { length (all_encodings (λ x. T.written_encoding (T.value x)) items.now) ≤ free_of writer.old }
-    ensures { Prepends (all_encodings (λ x. T.written_encoding (T.value x)) items.now) writer.old writer.new }
+    requires has { AllHave (λ x. T.valid (T.written (T.value x))) items.now }
+    requires fits { length (all_encodings (λ x. T.printed (T.written (T.value x))) items.now) ≤ limit }
+    requires room { length (all_encodings (λ x. T.printed (T.written (T.value x))) items.now) ≤ free_of writer.old }
+    ensures { Prepends (all_encodings (λ x. T.printed (T.written (T.value x))) items.now) writer.old writer.new }
 {
     let mut left = items.len();
     while left > 0 {
@@ -111,8 +117,4 @@ impl<T: Encode> EncodeValue for Vec<T> {
     fn prepend_value(&self, writer: &mut BackWriter<'_>) {
         prepend_items(self.as_slice(), writer);
     }
-
-    ghost contents_relate = { items_relate T.encoding T.has_encoding T.written_encoding T.encoding_relates };
-
-    ghost contents_shortest = { items_shortest T.encoding T.has_encoding T.written_encoding T.encoding_shortest };
 }

@@ -3,8 +3,9 @@ pub mod Leaves
 pub mod Rows
 pub mod Optional
 pub mod Items
+pub mod Once
 pub mod Shortest
 pub mod Steps
 pub mod Alike
-pub mod Written
+pub mod Values
 pub mod Relations

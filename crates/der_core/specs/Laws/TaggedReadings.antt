@@ -1,5 +1,5 @@
 -- Reading by functions: an encoding by its tag, and lists of encodings.
-use Rattle.std.proofs.Common.{ℕ, zero, suc, Bool, true, false, List, [], ◌∷◌, ◌++◌, ◌≡◌, ◌≤◌, ◌==◌, length, take}
+use Rattle.std.proofs.Common.{ℕ, zero, suc, Bool, true, false, List, [], ◌∷◌, ◌++◌, ◌≡◌, ◌<◌, ◌≤◌, ◌==◌, length, take}
 use Rattle.std.proofs.Common.{drop, refl, sym, ap, ◌∙◌, arith, ⊎_elim, length-append, append_assoc, length-take}
 use Rattle.std.proofs.Common.{Result, Ok, Err}
 use Rattle.std.proofs.Math.Seq.{take-append_seam, drop-append_seam}
@@ -206,7 +206,7 @@ module _ {V : Type 0} (octet : V → ℕ) (Inner : V → List ℕ → Type 0) (r
 
 -- A list, up to the end.
 module _ {V : Type 0} {encoding : V → List ℕ → Type 0} {at : FrontReading V} (law : ReadsFronts encoding at)
-    (d : IsDelimited encoding) where
+    (some : (v : V) (b : List ℕ) → encoding v b → 0 < length b) where
   items_give : (n : ℕ) (c : List ℕ) (vs : List V) → AreBytes c → items_within n at c ≡ Ok vs
       → ItemsContents encoding vs c
   items_give n [] vs b e = carry (ItemsContents encoding) (ok_same e) refl refl
@@ -222,13 +222,13 @@ module _ {V : Type 0} {encoding : V → List ℕ → Type 0} {at : FrontReading 
       → items_within n at c ≡ Ok vs
   items_take [] n c l w p = ap (items_within n at) p
   items_take (v ∷ vs) n [] l w (x, y, p, q, is) =
-      absurd (omega (arith, d.not_empty v x p, ap length is, length-append x y))
+      absurd (omega (arith, some v x p, ap length is, length-append x y))
   items_take (v ∷ vs) zero (z ∷ zs) l w p = absurd (omega (arith, l))
   items_take (v ∷ vs) (suc n) (z ∷ zs) l w (x, y, p, q, is) =
-      let some = d.not_empty v x p in
+      let full = some v x p in
       ap (λ r. r >>= λ p. made (λ vs. p.0 ∷ vs) (items_within n at) p.1) (law.takes (z ∷ zs) x y v w is p)
       ∙ ap (λ r. r >>= λ vs. Ok (v ∷ vs))
-      (items_take vs n y (omega (arith, l, some, ap length is, length-append x y)) (behind_within x y is w) q)
+      (items_take vs n y (omega (arith, l, full, ap length is, length-append x y)) (behind_within x y is w) q)
 
   items_tell : (n : ℕ) (c : List ℕ) (k : ErrorKind) → items_within n at c ≡ Err k → TellsOfBytes k
   items_tell n [] k e = cc

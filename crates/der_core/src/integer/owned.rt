@@ -1,11 +1,13 @@
 //! Unsigned numbers that own their bytes.
 ghost use Rattle.std.specs.Prelude.{◌≡◌, ◌≤◌, ◌<◌, ◌⊎◌, ℕ, List, length, OnOk, IfOk, IfErr};
+ghost use Rattle.std.specs.Int.Digits.{number_from_digits};
 ghost use Rattle.der_core.specs.Length.{limit};
-ghost use Rattle.der_core.specs.Laws.Readings.{integer_reads};
-ghost use Rattle.der_core.specs.IntegerReading.{integer_of};
-ghost use Rattle.der_core.specs.Integer.{HoldsNumber, IsCanonical, AreCanonicalOf, IntegerContents, integer_contents};
+ghost use Rattle.der_core.specs.Integer.{HoldsNumber, IsCanonical, AreCanonicalOf};
 ghost use Rattle.der_core.specs.IntegerReading.{WhyNoNumber, IsOutOfMemoryForNumber};
-ghost use Rattle.der_core.specs.Laws.Integer.{integer_means_one, integer_of_bytes, integer_relates, integer_shortest};
+ghost use Rattle.der_core.specs.Laws.Printed.Alike.{alike};
+ghost use Rattle.der_core.specs.Laws.Printed.Leaves.{number_law, numbers_encode};
+ghost use Rattle.der_core.specs.Laws.Printed.Shortest.{one_spelling};
+ghost use Rattle.der_core.specs.Printed.{number_contents, number_of};
 
 use super::uint::{AsUintRef, UintEncoding, UintRef};
 use crate::back_writer::BackWriter;
@@ -83,7 +85,9 @@ impl AsUintRef for Uint {
 }
 
 impl UintEncoding for Uint {
-    ghost encodes_number = { λ x bytes. (λ it. it, λ it. it) };
+    ghost use Rattle.der_core.specs.UintValue.{own_bytes_of};
+
+    ghost encodes_number = { numbers_encode own_bytes_of };
 }
 
 impl TryClone for Uint {
@@ -95,25 +99,31 @@ impl TryClone for Uint {
 }
 
 impl Contents for Uint {
-    ghost Value = { List ℕ };
-
     ghost use Rattle.der_core.specs.UintValue.{own_bytes_of};
 
-    ghost value = { own_bytes_of };
+    ghost Value = { ℕ };
 
-    ghost contents = { IntegerContents };
+    ghost value = { λ u. number_from_digits 256 (own_bytes_of u) };
 
-    ghost has_contents = { IsCanonical };
+    ghost Spelling = { ℕ };
 
-    ghost written_contents = { integer_contents };
+    ghost means = { λ n. n };
 
-    ghost read = { integer_of };
+    ghost written = { λ n. n };
 
-    ghost reads = { integer_reads };
+    ghost valid = { λ _. Unit {0} };
 
-    ghost means_one = { integer_means_one };
+    ghost printed = { number_contents };
 
-    ghost contents_of_bytes = { integer_of_bytes };
+    ghost read_spelling = { number_of };
+
+    ghost read = { number_of };
+
+    ghost law = { number_law };
+
+    ghost shortest = { one_spelling (λ _. Unit {0}) number_contents };
+
+    ghost reads_alike = { alike number_of };
 }
 
 impl TaggedBy for Uint {
@@ -121,15 +131,13 @@ impl TaggedBy for Uint {
 }
 
 impl EqualByValue for Uint {
-    ghost use Rattle.der_core.specs.Laws.Equality.{bytes_decide};
+    ghost use Rattle.der_core.specs.Laws.Printed.Leaves.{numbers_decide};
 
-    ghost decides = { λ a b. bytes_decide a.bytes.items b.bytes.items };
+    ghost decides = { λ a b. numbers_decide a.bytes.items b.bytes.items a.canonical b.canonical };
 }
 
 impl<'a> DecodeValue<&'a [u8], Global> for Uint {
-    ghost use Rattle.der_core.specs.UintValue.{own_bytes_of};
-
-    ghost may_allocate = { λ c. (bytes : List ℕ) × IntegerContents bytes c };
+    ghost may_allocate = { λ c. (n : ℕ) × (c ≡ number_contents n) };
 
     fn decode_value<R: Reader<&'a [u8]>>(
         memory: Global,
@@ -156,8 +164,4 @@ impl EncodeValue for Uint {
     fn prepend_value(&self, writer: &mut BackWriter<'_>) {
         self.as_uint_ref().prepend_value(writer);
     }
-
-    ghost contents_relate = { λ bytes has fits. integer_relates bytes has };
-
-    ghost contents_shortest = { integer_shortest };
 }

@@ -1,8 +1,6 @@
 //! INTEGER from 0 to 255, as `u8`.
-ghost use Rattle.std.specs.Prelude.{◌≤◌, ◌<◌, ℕ, ◌∷◌, [], length};
-ghost use Rattle.der_core.specs.Words.{limit, small_reads, SmallContents};
-ghost use Rattle.der_core.specs.Words.{integer_contents, Answers, small_of, small_means_one, small_of_bytes};
-ghost use Rattle.der_core.specs.Words.{small_relates, small_shortest};
+ghost use Rattle.std.specs.Prelude.{◌≤◌, ◌<◌, ℕ, length};
+ghost use Rattle.der_core.specs.Words.{Answers, alike, limit, number_contents, one_spelling, small_law, small_of};
 
 use crate::back_writer::BackWriter;
 use crate::decode::DecodeValue;
@@ -35,19 +33,25 @@ impl Contents for u8 {
 
     ghost value = { λ n. n };
 
-    ghost contents = { SmallContents };
+    ghost Spelling = { ℕ };
 
-    ghost has_contents = { λ n. n < 256 };
+    ghost means = { λ n. n };
 
-    ghost written_contents = { λ n. integer_contents (n ∷ []) };
+    ghost written = { λ n. n };
+
+    ghost valid = { λ n. n < 256 };
+
+    ghost printed = { number_contents };
+
+    ghost read_spelling = { small_of };
 
     ghost read = { small_of };
 
-    ghost reads = { small_reads };
+    ghost law = { small_law };
 
-    ghost means_one = { small_means_one };
+    ghost shortest = { one_spelling (λ n. n < 256) number_contents };
 
-    ghost contents_of_bytes = { small_of_bytes };
+    ghost reads_alike = { alike small_of };
 }
 
 impl TaggedBy for u8 {
@@ -92,8 +96,4 @@ impl EncodeValue for u8 {
             writer.prepend(&[0]);
         }
     }
-
-    ghost contents_relate = { λ n has fits. small_relates n has };
-
-    ghost contents_shortest = { small_shortest };
 }

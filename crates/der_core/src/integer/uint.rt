@@ -2,12 +2,12 @@
 ghost use Rattle.std.specs.Prelude.{◌≡◌, ◌≤◌, ◌<◌, ℕ, List, length, slice_index, OnOk, IfOk, IfErr, IsOk, ⊤};
 ghost use Rattle.std.specs.Int.Digits.{number_from_digits};
 ghost use Rattle.der_core.specs.Length.{limit};
-ghost use Rattle.der_core.specs.Laws.Readings.{integer_reads};
-ghost use Rattle.der_core.specs.Integer.{HoldsNumber, IsCanonical, AreCanonicalOf, IntegerContents, IsBitLength};
-ghost use Rattle.der_core.specs.Integer.{EncodesNumbers, integer_contents};
+ghost use Rattle.der_core.specs.Integer.{HoldsNumber, IsCanonical, AreCanonicalOf, IsBitLength, EncodesNumbers};
 ghost use Rattle.der_core.specs.IntegerReading.{integer_of, Answers, WhyNoNumber};
-ghost use Rattle.der_core.specs.Laws.Integer.{integer_means_one, integer_of_bytes, integer_relates, integer_shortest};
-ghost use Rattle.der_core.specs.Tags.{integer};
+ghost use Rattle.der_core.specs.Laws.Printed.Alike.{alike};
+ghost use Rattle.der_core.specs.Laws.Printed.Leaves.{number_law, numbers_encode};
+ghost use Rattle.der_core.specs.Laws.Printed.Shortest.{one_spelling};
+ghost use Rattle.der_core.specs.Printed.{Prints, number_contents, number_of};
 
 use crate::back_writer::BackWriter;
 use crate::decode::DecodeValue;
@@ -56,11 +56,13 @@ impl AsUintRef for UintRef<'_> {
 /// A type whose values are encoded as the unsigned numbers that they hold.
 pub trait UintEncoding: AsUintRef + Encoding {
     /// The encodings of a value are those of its number.
-    ghost encodes_number: { EncodesNumbers Self.encoding Self.value Self.number };
+    ghost encodes_number: { EncodesNumbers (Prints Self.valid Self.printed Self.means) Self.value Self.number };
 }
 
 impl UintEncoding for UintRef<'_> {
-    ghost encodes_number = { λ x bytes. (λ it. it, λ it. it) };
+    ghost use Rattle.der_core.specs.UintRefValue.{bytes_of};
+
+    ghost encodes_number = { numbers_encode bytes_of };
 }
 
 /// The bytes without needless leading zeros.
@@ -145,40 +147,40 @@ pub(crate) fn integer(contents: &[u8]) -> Result<UintRef<'_>>
 }
 
 impl<'a> TryClone for UintRef<'a> {
-    ghost use Rattle.der_core.specs.UintRefValue.{bytes_of};
-
     ghost never_out_of_memory = { λ _. ⊤ };
 
     /// The same number, over the same bytes. Never `OutOfMemory`.
-    fn try_clone(&self, _alloc: Global) -> Result<UintRef<'a>>
-        ensures ok { IfOk result (λ copy. bytes_of copy ≡ bytes_of self.now) }
-        ensures err { IfErr result (λ e. e.kind ≡ ErrorKind.OutOfMemory) }
-        ensures may_allocate { IsOk result }
-    {
+    fn try_clone(&self, _alloc: Global) -> Result<UintRef<'a>> {
         Ok(*self)
     }
 }
 
 impl<'a> Contents for UintRef<'a> {
-    ghost Value = { List ℕ };
-
     ghost use Rattle.der_core.specs.UintRefValue.{bytes_of};
 
-    ghost value = { bytes_of };
+    ghost Value = { ℕ };
 
-    ghost contents = { IntegerContents };
+    ghost value = { λ u. number_from_digits 256 (bytes_of u) };
 
-    ghost has_contents = { IsCanonical };
+    ghost Spelling = { ℕ };
 
-    ghost written_contents = { integer_contents };
+    ghost means = { λ n. n };
 
-    ghost read = { integer_of };
+    ghost written = { λ n. n };
 
-    ghost reads = { integer_reads };
+    ghost valid = { λ _. Unit {0} };
 
-    ghost means_one = { integer_means_one };
+    ghost printed = { number_contents };
 
-    ghost contents_of_bytes = { integer_of_bytes };
+    ghost read_spelling = { number_of };
+
+    ghost read = { number_of };
+
+    ghost law = { number_law };
+
+    ghost shortest = { one_spelling (λ _. Unit {0}) number_contents };
+
+    ghost reads_alike = { alike number_of };
 }
 
 impl<'a> TaggedBy for UintRef<'a> {
@@ -186,9 +188,9 @@ impl<'a> TaggedBy for UintRef<'a> {
 }
 
 impl EqualByValue for UintRef<'_> {
-    ghost use Rattle.der_core.specs.Laws.Equality.{bytes_decide};
+    ghost use Rattle.der_core.specs.Laws.Printed.Leaves.{numbers_decide};
 
-    ghost decides = { λ a b. bytes_decide a.bytes.now b.bytes.now };
+    ghost decides = { λ a b. numbers_decide a.bytes.now b.bytes.now a.canonical b.canonical };
 }
 
 impl<'a, M: Memory> DecodeValue<&'a [u8], M> for UintRef<'a> {
@@ -228,8 +230,4 @@ impl EncodeValue for UintRef<'_> {
             writer.prepend(&[0]);
         }
     }
-
-    ghost contents_relate = { λ bytes has fits. integer_relates bytes has };
-
-    ghost contents_shortest = { integer_shortest };
 }

@@ -10,24 +10,24 @@ returns-in_err-write-clause-appends g c =
     let p = err_from_is_err_and c.from_residual-in_err-write.result c.from_residual-in_err-write.ensures.1 in
     let t = g.T.Contents in
     let v = t.value c.args.value.now in
-    let size : length (length_octets c.in_ok-length.length) ≡ length (length_octets (length (t.written_contents v))) =
+    let size : length (length_octets c.in_ok-length.length) ≡ length (length_octets (length (t.printed (t.written v)))) =
     ap (λ n. length (length_octets n)) c.in_ok-length.ensures.1 in
-    let few : length (tlv g.T.FixedTag.TAG.octet (t.written_contents v)) ≤ limit =
+    let few : length (tlv g.T.FixedTag.TAG.octet (t.printed (t.written v))) ≤ limit =
     omega (
       arith,
       size,
       c.in_ok-for_tlv.ensures.ok,
       c.in_ok-length.ensures,
-      length-append (length_octets (length (t.written_contents v))) (t.written_contents v),
+      length-append (length_octets (length (t.printed (t.written v)))) (t.printed (t.written v)),
     ) in
     let head : length c.deref.result.now ≡ 1 + length (length_octets c.in_ok-length.length) = search rules in
-    let full : g.W.Writer.room c.args.writer.now < length (tlv g.T.FixedTag.TAG.octet (t.written_contents v)) =
+    let full : g.W.Writer.room c.args.writer.now < length (tlv g.T.FixedTag.TAG.octet (t.printed (t.written v))) =
     omega (
       arith,
       size,
       head,
       c.in_err-write.ensures.err.1,
-      length-append (length_octets (length (t.written_contents v))) (t.written_contents v),
+      length-append (length_octets (length (t.printed (t.written v)))) (t.printed (t.written v)),
     ) in
     rw (p.1, p.2) (appends_nothing c.in_ok-length.ensures.0 few c.in_err-write.ensures.err.0 full
     c.in_err-write.ensures.nothing.0)
@@ -37,17 +37,17 @@ returns-clause-appends g c =
     let t = g.T.Contents in
     let v = t.value c.args.value.now in
     let head = c.to_bytes.result.items in
-    let has : t.has_contents v = c.in_ok-length.ensures.0 in
-    let encoding : tlv g.T.FixedTag.TAG.octet (t.written_contents v) ≡ head ++ t.written_contents v = search rules in
-    let size : length (length_octets c.in_ok-length.length) ≡ length (length_octets (length (t.written_contents v))) =
+    let has : t.valid (t.written v) = c.in_ok-length.ensures.0 in
+    let encoding : tlv g.T.FixedTag.TAG.octet (t.printed (t.written v)) ≡ head ++ t.printed (t.written v) = search rules in
+    let size : length (length_octets c.in_ok-length.length) ≡ length (length_octets (length (t.printed (t.written v)))) =
     ap (λ n. length (length_octets n)) c.in_ok-length.ensures.1 in
-    let few : length (tlv g.T.FixedTag.TAG.octet (t.written_contents v)) ≤ limit =
+    let few : length (tlv g.T.FixedTag.TAG.octet (t.printed (t.written v))) ≤ limit =
     omega (
       arith,
       size,
       c.in_ok-for_tlv.ensures.ok,
       c.in_ok-length.ensures,
-      length-append (length_octets (length (t.written_contents v))) (t.written_contents v),
+      length-append (length_octets (length (t.printed (t.written v)))) (t.printed (t.written v)),
     ) in
     let mid : g.W.Writer.written c.write.new.self ≡ g.W.Writer.written c.args.writer.now ++ head = search rules in
     let room : g.W.Writer.room c.write.new.self + length head ≡ g.W.Writer.room c.args.writer.now = search rules in
@@ -58,15 +58,15 @@ returns-in_err-for_tlv-clause-appends g c =
     let p = err_from_is_err_and c.from_residual-in_err-for_tlv.result c.from_residual-in_err-for_tlv.ensures.1 in
     let t = g.T.Contents in
     let v = t.value c.args.value.now in
-    let size : length (length_octets c.in_ok-length.length) ≡ length (length_octets (length (t.written_contents v))) =
+    let size : length (length_octets c.in_ok-length.length) ≡ length (length_octets (length (t.printed (t.written v)))) =
     ap (λ n. length (length_octets n)) c.in_ok-length.ensures.1 in
-    let many : limit < length (tlv g.T.FixedTag.TAG.octet (t.written_contents v)) =
+    let many : limit < length (tlv g.T.FixedTag.TAG.octet (t.printed (t.written v))) =
     omega (
       arith,
       size,
       c.in_err-for_tlv.ensures.err.1,
       c.in_ok-length.ensures,
-      length-append (length_octets (length (t.written_contents v))) (t.written_contents v),
+      length-append (length_octets (length (t.printed (t.written v)))) (t.printed (t.written v)),
     ) in
     rw (p.1, p.2) (appends_too_long c.in_ok-length.ensures.0 c.in_err-for_tlv.ensures.err.0 many)
 

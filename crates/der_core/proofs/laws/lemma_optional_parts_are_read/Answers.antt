@@ -1,8 +1,12 @@
-use Rattle.der_core.specs.Laws.OptionalReadings.{front_next, optional_reads}
-use Rattle.der_core.specs.Laws.TaggedReadings.{tagged_reads}
+use Rattle.der_core.specs.Laws.Printed.Optional.{last_by_tag_law, last_law}
+use Rattle.der_core.specs.Laws.Printed.Rows.{tagged_law}
+use Rattle.der_core.specs.Laws.Printed.Shortest.{tagged_some}
 use Rattle.der_core.proofs.laws.lemma_optional_parts_are_read.Goals as goal
 
-pub returns : goal.returns
-returns g c =
+pub returns-clause-last : goal.returns-clause-last
+returns-clause-last g c =
     let tag = g.T.FixedTag.TAG in
-    optional_reads tag.octet (tagged_reads tag g.T.Contents.reads) (λ v b rest i. front_next tag.octet b rest i)
+    last_law (tagged_law g.T.Contents.law tag) (tagged_some g.T.Contents.printed tag.octet)
+
+pub returns-clause-next : goal.returns-clause-next
+returns-clause-next g c = last_by_tag_law g.T.Contents.law g.T.FixedTag.TAG

@@ -25,28 +25,28 @@ pub returns-in_err-encode-clause-appends : goal.returns-in_err-encode-clause-app
 returns-in_err-encode-clause-appends g c =
     let p = err_from_is_err_and c.from_residual.result c.from_residual.ensures.1 in
     let xs = c.args.items.now in
-    let all : AllHave (λ (x : g.row.T.Denot). g.T.Encoding.has_encoding (g.T.Encoding.value x)) xs = c.requires.has in
-    let few : length (all_encodings (λ (x : g.row.T.Denot). g.T.Encoding.written_encoding (g.T.Encoding.value x))
+    let all : AllHave (λ (x : g.row.T.Denot). g.T.Encoding.valid (g.T.Encoding.written (g.T.Encoding.value x))) xs = c.requires.has in
+    let few : length (all_encodings (λ (x : g.row.T.Denot). g.T.Encoding.printed (g.T.Encoding.written (g.T.Encoding.value x)))
     xs) ≤ limit = c.requires.fits in
     let x = c.item-item.result in
     let i = c.loop-item.item-index in
     let has =
-    here (λ (x : g.row.T.Denot). g.T.Encoding.has_encoding (g.T.Encoding.value x))
-    (λ (x : g.row.T.Denot). g.T.Encoding.written_encoding (g.T.Encoding.value x)) xs i x c.loop-item-test.true
+    here (λ (x : g.row.T.Denot). g.T.Encoding.valid (g.T.Encoding.written (g.T.Encoding.value x)))
+    (λ (x : g.row.T.Denot). g.T.Encoding.printed (g.T.Encoding.written (g.T.Encoding.value x))) xs i x c.loop-item-test.true
     c.item-item.is all in
     let whole =
-    around (λ (x : g.row.T.Denot). g.T.Encoding.has_encoding (g.T.Encoding.value x))
-    (λ (x : g.row.T.Denot). g.T.Encoding.written_encoding (g.T.Encoding.value x)) xs i x c.loop-item-test.true
+    around (λ (x : g.row.T.Denot). g.T.Encoding.valid (g.T.Encoding.written (g.T.Encoding.value x)))
+    (λ (x : g.row.T.Denot). g.T.Encoding.printed (g.T.Encoding.written (g.T.Encoding.value x))) xs i x c.loop-item-test.true
     c.item-item.is in
     let rest =
-    all_encodings (λ (x : g.row.T.Denot). g.T.Encoding.written_encoding (g.T.Encoding.value x)) (drop (i + 1) xs) in
-    let less : length ((λ (x : g.row.T.Denot). g.T.Encoding.written_encoding (g.T.Encoding.value x)) x
+    all_encodings (λ (x : g.row.T.Denot). g.T.Encoding.printed (g.T.Encoding.written (g.T.Encoding.value x))) (drop (i + 1) xs) in
+    let less : length ((λ (x : g.row.T.Denot). g.T.Encoding.printed (g.T.Encoding.written (g.T.Encoding.value x))) x
     ++ rest) ≤ limit = omega (
       arith,
       few,
       ap length whole,
-      length-append (all_encodings (λ (x : g.row.T.Denot). g.T.Encoding.written_encoding (g.T.Encoding.value x))
-          (take i xs)) ((λ (x : g.row.T.Denot). g.T.Encoding.written_encoding (g.T.Encoding.value x)) x ++ rest),
+      length-append (all_encodings (λ (x : g.row.T.Denot). g.T.Encoding.printed (g.T.Encoding.written (g.T.Encoding.value x)))
+          (take i xs)) ((λ (x : g.row.T.Denot). g.T.Encoding.printed (g.T.Encoding.written (g.T.Encoding.value x))) x ++ rest),
     ) in
     rw (p.1, p.2) (appends_behind _ _ _ has all whole few c.loop-item.invariant.written c.loop-item.invariant.room
     (appends_in_front _ _ rest has has refl less c.in_err-encode.ensures.appends))
@@ -54,26 +54,26 @@ returns-in_err-encode-clause-appends g c =
 pub loop-item-preserved : goal.loop-item-preserved
 loop-item-preserved g c =
     let q =
-    more (λ (x : g.row.T.Denot). g.T.Encoding.has_encoding (g.T.Encoding.value x))
-    (λ (x : g.row.T.Denot). g.T.Encoding.written_encoding (g.T.Encoding.value x)) c.args.items.now
+    more (λ (x : g.row.T.Denot). g.T.Encoding.valid (g.T.Encoding.written (g.T.Encoding.value x)))
+    (λ (x : g.row.T.Denot). g.T.Encoding.printed (g.T.Encoding.written (g.T.Encoding.value x))) c.args.items.now
     c.loop-item.item-index c.item-item.result c.loop-item-test.true c.item-item.is in
     record {
       written =
           rw q (c.in_ok-encode.ensures.appends.written
-          ∙ ap (λ w. w ++ (λ (x : g.row.T.Denot). g.T.Encoding.written_encoding (g.T.Encoding.value x))
+          ∙ ap (λ w. w ++ (λ (x : g.row.T.Denot). g.T.Encoding.printed (g.T.Encoding.written (g.T.Encoding.value x)))
           c.item-item.result) c.loop-item.invariant.written
           ∙ append_assoc (g.W.Writer.written c.args.writer.now)
-          (all_encodings (λ (x : g.row.T.Denot). g.T.Encoding.written_encoding (g.T.Encoding.value x))
+          (all_encodings (λ (x : g.row.T.Denot). g.T.Encoding.printed (g.T.Encoding.written (g.T.Encoding.value x)))
           (take c.loop-item.item-index c.args.items.now))
-          ((λ (x : g.row.T.Denot). g.T.Encoding.written_encoding (g.T.Encoding.value x)) c.item-item.result));
+          ((λ (x : g.row.T.Denot). g.T.Encoding.printed (g.T.Encoding.written (g.T.Encoding.value x))) c.item-item.result));
       room =
           rw q (omega (
             arith,
             c.in_ok-encode.ensures.appends.room,
             c.loop-item.invariant.room,
-            length-append (all_encodings (λ (x : g.row.T.Denot). g.T.Encoding.written_encoding (g.T.Encoding.value x))
+            length-append (all_encodings (λ (x : g.row.T.Denot). g.T.Encoding.printed (g.T.Encoding.written (g.T.Encoding.value x)))
                 (take c.loop-item.item-index c.args.items.now))
-                ((λ (x : g.row.T.Denot). g.T.Encoding.written_encoding (g.T.Encoding.value x)) c.item-item.result),
+                ((λ (x : g.row.T.Denot). g.T.Encoding.printed (g.T.Encoding.written (g.T.Encoding.value x))) c.item-item.result),
           ));
       kept = search rules;
     }

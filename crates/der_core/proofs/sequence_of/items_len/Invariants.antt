@@ -5,7 +5,7 @@ use Rattle.der_core.proofs.sequence_of.items_len.Given as goal
 
 abbrev pub invariant-loop-item : goal.invariant-loop-item
 invariant-loop-item g l =
-    Counts (AllHave (λ (x : g.row.T.Denot). g.T.Encoding.has_encoding (g.T.Encoding.value x))
+    Counts (AllHave (λ (x : g.row.T.Denot). g.T.Encoding.valid (g.T.Encoding.written (g.T.Encoding.value x)))
     (take l.item-index l.items))
-    (all_encodings (λ (x : g.row.T.Denot). g.T.Encoding.written_encoding (g.T.Encoding.value x))
+    (all_encodings (λ (x : g.row.T.Denot). g.T.Encoding.printed (g.T.Encoding.written (g.T.Encoding.value x)))
     (take l.item-index l.items)) l.total

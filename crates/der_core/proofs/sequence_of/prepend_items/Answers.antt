@@ -22,8 +22,8 @@ prepend-requires-clause-fits g c =
     omega (
       arith,
       c.requires.fits,
-      fits (λ (x : g.row.T.Denot). g.T.Encoding.has_encoding (g.T.Encoding.value x))
-          (λ (x : g.row.T.Denot). g.T.Encoding.written_encoding (g.T.Encoding.value x)) c.args.items.now
+      fits (λ (x : g.row.T.Denot). g.T.Encoding.valid (g.T.Encoding.written (g.T.Encoding.value x)))
+          (λ (x : g.row.T.Denot). g.T.Encoding.printed (g.T.Encoding.written (g.T.Encoding.value x))) c.args.items.now
           c.loop-left.left
           c.index-items-left.result c.loop-left-test.true c.loop-left.invariant.0 c.index-items-left.is,
     )
@@ -34,8 +34,8 @@ prepend-requires-clause-room g c =
       arith,
       c.requires.room,
       c.loop-left.invariant.1.1,
-      fits (λ (x : g.row.T.Denot). g.T.Encoding.has_encoding (g.T.Encoding.value x))
-          (λ (x : g.row.T.Denot). g.T.Encoding.written_encoding (g.T.Encoding.value x)) c.args.items.now
+      fits (λ (x : g.row.T.Denot). g.T.Encoding.valid (g.T.Encoding.written (g.T.Encoding.value x)))
+          (λ (x : g.row.T.Denot). g.T.Encoding.printed (g.T.Encoding.written (g.T.Encoding.value x))) c.args.items.now
           c.loop-left.left
           c.index-items-left.result c.loop-left-test.true c.loop-left.invariant.0 c.index-items-left.is,
     )

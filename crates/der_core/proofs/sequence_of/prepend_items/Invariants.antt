@@ -6,7 +6,7 @@ use Rattle.der_core.proofs.sequence_of.prepend_items.Given as goal
 abbrev pub invariant-loop-left : goal.invariant-loop-left
 invariant-loop-left g l =
     (l.left ≤ length l.items) × Prepends
-    (all_encodings (λ (x : g.row.T.Denot). g.T.Encoding.written_encoding (g.T.Encoding.value x)) (drop l.left l.items))
+    (all_encodings (λ (x : g.row.T.Denot). g.T.Encoding.printed (g.T.Encoding.written (g.T.Encoding.value x))) (drop l.left l.items))
     l.fn.writer l.writer
 
 abbrev pub decreases-loop-left : goal.decreases-loop-left

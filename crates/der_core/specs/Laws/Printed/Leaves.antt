@@ -1,19 +1,24 @@
 -- The leaves: octets of numbers, length octets, INTEGER, OCTET STRING.
-use Rattle.std.proofs.Common.{ℕ, List, [], ◌∷◌, ◌++◌, ◌≡◌, ◌<◌, ◌≤◌, ◌==◌, length, refl, sym, subst, ap, ◌∙◌, arith}
+use Rattle.std.proofs.Common.{ℕ, List, [], ◌∷◌, ◌++◌, ◌≡◌, ◌<◌, ◌≤◌, ◌⊎◌, ◌==◌, length, refl, sym, subst, ap, ◌∙◌, arith}
 use Rattle.std.proofs.Common.{inl, inr, true, false, Ok, length-append}
+use Rattle.std.specs.Bool.{Decides}
 use Rattle.std.specs.Int.Digits.{number_from_digits, digits_of}
+use Rattle.std.specs.Str.{bytes_eq}
 use Rattle.std.proofs.lemmas.Bool.{cases_lt}
 use Rattle.std.proofs.lemmas.Bool.Decides.{nat_tests}
 use Rattle.std.proofs.lemmas.Int.Digits.{all_below_base_digits_of, number_digits_of, first_digits_of}
 use Rattle.der_core.specs.Encodings.{AreBytes}
-use Rattle.der_core.specs.Integer.{IntegerContents, IsCanonical, SmallContents, integer_contents}
+use Rattle.der_core.specs.Integer.{EncodesNumbers, HoldsNumber, IntegerContents, IsCanonical, SmallContents}
+use Rattle.der_core.specs.Integer.{integer_contents}
 use Rattle.der_core.specs.IntegerReading.{integer_of, small_of}
 use Rattle.der_core.specs.Laws.Encodings.{tlv_relates}
-use Rattle.der_core.specs.Laws.Integer.{canonical_same, contents_at_most_one, integer_relates}
+use Rattle.der_core.specs.Laws.Equality.{bytes_decide}
+use Rattle.der_core.specs.Laws.Integer.{canonical_same, contents_at_most_one, holds_canonical, integer_relates}
 use Rattle.der_core.specs.Laws.Length.{length_grows, length_octets-only, length_octets-within}
 use Rattle.der_core.specs.Laws.Readings.{bind_ok, integer_reads, made_tells, ok_same, small_reads}
-use Rattle.der_core.specs.Printed.{ReadsPrinted, number_contents, number_of}
-use Rattle.der_core.specs.Readings.{octets_of_all, ◌>>=◌}
+use Rattle.der_core.specs.Laws.SmallNumbers.{one_byte}
+use Rattle.der_core.specs.Printed.{Prints, ReadsAlike, ReadsPrinted, WritesShortest, number_contents, number_of}
+use Rattle.der_core.specs.Readings.{any_contents, octets_of_all, ◌>>=◌}
 use Rattle.der_core.specs.Tlv.{Tlv}
 use Rattle.standard.specs.Statement.{integer, length_octets, limit, octets, tlv}
 
@@ -55,6 +60,28 @@ contents_is x c n e p =
 pub integer_is : (n : ℕ) → tlv 2 (number_contents n) ≡ integer n
 integer_is n = refl
 
+-- What is written of a number whose octets are held; numbers are equal exactly if their octets are; they are encoded.
+pub contents_as : (x : List ℕ) → IsCanonical x → number_contents (number_from_digits 256 x) ≡ integer_contents x
+contents_as x p = ap integer_contents (number_octets x p)
+
+pub small_contents_as : (n : ℕ) → n < 256 → number_contents n ≡ integer_contents (n ∷ [])
+small_contents_as n less = ap integer_contents (one_byte n (octets n) less (octets_canonical n) (octets_number n))
+
+pub numbers_decide : (x y : List ℕ) → HoldsNumber x → HoldsNumber y
+    → Decides (bytes_eq x y) (number_from_digits 256 x ≡ number_from_digits 256 y)
+numbers_decide x y p q = (
+  λ e. ap (number_from_digits 256) ((bytes_decide x y).0 e),
+  λ e. (bytes_decide x y).1 (canonical_same x y (holds_canonical x p) (holds_canonical y q) e),
+)
+
+pub numbers_encode : {X : Type 0} (octets : X → List ℕ)
+    → EncodesNumbers (Prints (λ _. Unit {0}) (λ n. tlv 2 (number_contents n)) (λ n. n))
+    (λ x. number_from_digits 256 (octets x)) octets
+numbers_encode octets x bytes = (
+  λ (n, e, ok, is). is ∙ ap integer e,
+  λ is. (number_from_digits 256 (octets x), refl, tt, is),
+)
+
 pub number_law : ReadsPrinted (λ _. Unit {0}) number_contents number_of
 number_law = record {
   gives = λ c n bytes e.
@@ -84,6 +111,17 @@ octets_law = record {
   takes = λ o ok few. refl;
   tells = λ c k e. cc;
 }
+
+-- Contents that aren't looked at: any octets, which mean the same.
+pub any_alike : ReadsAlike octets_of_all (λ _. let v : Unit {0} = tt in v) any_contents
+any_alike = record { same = λ c. refl }
+
+pub any_shortest : WritesShortest AreBytes (λ o. o) (λ (_ : List ℕ). let v : Unit {0} = tt in v) (λ _. [])
+any_shortest = record { back = λ v. refl; valid = λ s ok. tt; least = least }
+  where
+    least : (s : List ℕ) → AreBytes s → length s ≤ limit → (s ≡ []) ⊎ (0 < length s)
+    least [] ok few = inl refl
+    least (x ∷ xs) ok few = inr (omega arith)
 
 -- Lengths and tags: what the standard writes is what a reader of headers finds.
 pub tlv_is : {P : List ℕ → Type 0} (t : ℕ) (w encoding : List ℕ) → ((c : List ℕ) → P c → c ≡ w) → Tlv t P encoding

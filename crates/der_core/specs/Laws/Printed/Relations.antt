@@ -28,8 +28,8 @@ module _ {V : Type 0} (valid : V → Type 0) (printed : V → List ℕ) where
   pub spells_once : (v : V) (bytes : List ℕ)
       → Spells valid printed (λ v. v) v bytes ↔ ((length bytes ≤ limit) × valid v × (bytes ≡ printed v))
   spells_once v bytes = (
-    λ (s, is, few, ok, same). (few, subst valid is ok, same ∙ ap printed is),
-    λ (few, ok, same). (v, refl, few, ok, same),
+    λ (few, (s, is, ok, same)). (few, subst valid is ok, same ∙ ap printed is),
+    λ (few, ok, same). (few, (v, refl, ok, same)),
   )
 
   pub spells_all : ((v : V) → valid v) → (v : V) (bytes : List ℕ)

@@ -197,8 +197,9 @@ module _ {S : Type 0} {valid : S → Type 0} {printed : S → List ℕ} {at : Fr
   meant_decodes {V} means bytes are = go (value_in (whole at bytes)) (whole_decodes bytes are)
     where
       go : (o : Option S) → Decodes Encodes bytes o → Decodes (Spells valid printed means) bytes (option_map means o)
-      go (Some s) p = ((s, refl, p.0.0, p.0.1, p.0.2), λ other q. sym q.1 ∙ ap means (p.1 q.0 (q.2, q.3, q.4)))
-      go None p = λ v q. p q.0 (q.2, q.3, q.4)
+      go (Some s) p =
+          ((p.0.0, (s, refl, p.0.1, p.0.2)), λ other q. sym q.1.1 ∙ ap means (p.1 q.1.0 (q.0, q.1.2, q.1.3)))
+      go None p = λ v q. p q.1.0 (q.0, q.1.2, q.1.3)
 
   pub prints_one : PrintsOne valid printed
   prints_one s t x y ok right few same =

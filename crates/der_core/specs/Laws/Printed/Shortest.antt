@@ -61,9 +61,9 @@ module _ {S V : Type 0} {Is : S → Type 0} {printed : S → List ℕ} {means : 
   pub shortest_is : (v : V) → Is (written v) → length (printed (written v)) ≤ limit
       → IsShortest (Spells Is printed means) v (printed (written v))
   shortest_is v ok few = (
-    (written v, law.back v, few, ok, refl),
+    (few, (written v, law.back v, ok, refl)),
     λ other q.
-        let (s, e, within, valid, is) = q in
+        let (within, (s, e, valid, is)) = q in
         elim (law.least s valid (omega (arith, within, ap length is))) [
           | inl f ↦ inl (is ∙ ap printed (f ∙ ap written e))
           | inr l ↦ inr (omega (arith, l, ap length is, ap (λ u. length (printed (written u))) e))

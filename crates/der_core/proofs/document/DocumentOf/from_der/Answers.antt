@@ -1,7 +1,7 @@
-use Rattle.std.proofs.Common.{sym, subst, inr}
+use Rattle.std.proofs.Common.{sym, subst, inl, inr}
 use Rattle.std.proofs.lemmas.Result.{err_from_is_err_and}
 use Rattle.der_core.specs.Document.{IsDocument}
-use Rattle.der_core.proofs.Documents.{no_document, the_fault}
+use Rattle.der_core.proofs.Documents.{means_document, no_document, the_fault}
 use Rattle.der_core.proofs.document.DocumentOf.from_der.Goals as goal
 
 pub returns-in_err-from_der-clause-err : goal.returns-in_err-from_der-clause-err
@@ -16,4 +16,15 @@ returns-in_err-from_der-clause-exact g c =
 
 pub invariant_of-result : goal.invariant_of-result
 invariant_of-result g c =
-    record { whole = subst IsDocument (sym c.in_ok-copy_of.ensures.ok) c.in_ok-from_der.ensures.encoding.0 }
+    record { whole = subst IsDocument (sym c.in_ok-copy_of.ensures.ok)
+        (means_document _ _ c.in_ok-from_der.ensures.encoding.0) }
+
+pub returns-in_err-copy_of-clause-err : goal.returns-in_err-copy_of-clause-err
+returns-in_err-copy_of-clause-err g c =
+    let p = err_from_is_err_and c.from_residual-in_err-copy_of.result c.from_residual-in_err-copy_of.ensures.1 in
+    rw (p.1, p.2) (inl (c.in_err-copy_of.ensures.err, means_document _ _ c.in_ok-from_der.ensures.encoding.0))
+
+pub returns-in_err-copy_of-clause-exact : goal.returns-in_err-copy_of-clause-exact
+returns-in_err-copy_of-clause-exact g c =
+    let p = err_from_is_err_and c.from_residual-in_err-copy_of.result c.from_residual-in_err-copy_of.ensures.1 in
+    rw (p.1, p.2) (inl (c.in_err-copy_of.ensures.err, means_document _ _ c.in_ok-from_der.ensures.encoding.0))

@@ -1,7 +1,7 @@
 use Rattle.std.proofs.Common.{subst, inr}
 use Rattle.std.proofs.lemmas.Result.{err_from_is_err_and}
 use Rattle.der_core.specs.Document.{IsDocument}
-use Rattle.der_core.proofs.Documents.{no_document, none_given, the_fault}
+use Rattle.der_core.proofs.Documents.{means_document, no_document, none_given, the_fault}
 use Rattle.der_core.proofs.document.DocumentOf.read_from.Goals as goal
 
 pub returns-in_err-from_der : goal.returns-in_err-from_der
@@ -15,4 +15,4 @@ returns-in_err-from_der g c =
     ))
 
 pub invariant_of-result : goal.invariant_of-result
-invariant_of-result g c = record { whole = subst IsDocument c.as_slice.ensures.value c.in_ok-from_der.ensures.encoding.0 }
+invariant_of-result g c = record { whole = subst IsDocument c.as_slice.ensures.value (means_document _ _ c.in_ok-from_der.ensures.encoding.0) }

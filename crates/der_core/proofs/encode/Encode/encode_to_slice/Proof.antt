@@ -53,6 +53,7 @@ use Rattle.der_core.specs.contracts.error.Error.{the_row as ErrorRow}
 use Rattle.der_core.proofs.error.Error.TheLaws.{the_row_laws as error_laws}
 use Rattle.der_core.specs.declared.error.Error.{Error}
 use Rattle.der_core.specs.Document.{IsShortest, WhyNotWritten}
+use Rattle.der_core.specs.Printed.{Prints}
 use Rattle.der_core.specs.Writing.{encode_error}
 use Rattle.der_core.proofs.encode.Encode.encode_to_slice.Statement.{statement}
 use Rattle.der_core.proofs.encode.Encode.encode_to_slice.Code as code
@@ -144,13 +145,13 @@ encode_to_slice_spec 𝓤 𝓛 𝓜 𝓡 wired W L gh d gt dt met of_encoding =
     d gt dt met of_encoding) z (and_then ! (get ! refl) (and_then ! (get ! refl) (no_more !))) (λ v.
     let value : gt.Value =
     gt.value a.0.now in let encoding : List ℕ =
-    gt.written_encoding value in let Rejected : Error → Type 0 =
-    λ e. WhyNotWritten (gt.has_encoding value) gt.encoding value (length xs) (encode_error e.kind) in
+    gt.printed (gt.written value) in let Rejected : Error → Type 0 =
+    λ e. WhyNotWritten (gt.valid (gt.written value)) (Prints gt.valid gt.printed gt.means) value (length xs) (encode_error e.kind) in
     use1 𝓛 (later (some (λ (r : Result ℕ Error).
     ((‵ (flft κ₀ qs.0) ⊛ ‵ (flft (α ∷ []) full_share) ⊛ ‵ (flft κ₂ qs.1.1.0) ⊛ ‵ ftrue)
     ⊛ ‵ (Count.own_val r (v ∷ [])))
     ⊛ some (λ (ws : Unit {0} × (List ℕ × Unit {0})). ‵ (lasts (g.ended W gh d gt dt) z.0.0 z.0.3 ws)
-    ⊛ given (Wrote encoding xs ws.1.0 r) (‵ ftrue) ⊛ given (OnOk r (IsShortest gt.encoding value encoding)) (‵ ftrue)
+    ⊛ given (Wrote encoding xs ws.1.0 r) (‵ ftrue) ⊛ given (OnOk r (IsShortest (Prints gt.valid gt.printed gt.means) value encoding)) (‵ ftrue)
     ⊛ given (IfErr r Rejected) (‵ ftrue) ⊛ given (OnErr r (ws.1.0 ≡ xs)) (‵ ftrue))))) (id⊢ 𝓤 _) $
     await ! tt $ pick ! (λ r. split ! $ split ! $ move ! (1 ∷ []) $
     peeks ! Count (Is Count) (shows 𝓛 Count) r (v ∷ []) (λ told.
@@ -200,7 +201,7 @@ encode_to_slice_spec 𝓤 𝓛 𝓜 𝓡 wired W L gh d gt dt met of_encoding =
     join ! $ move ! (2 ∷ []) $
     let F₁ : Type 0 =
     IfOk t (λ front. front.now ≡ encoding) in let F₂ : Type 0 =
-    IfOk t (λ front. IsShortest gt.encoding value front.now) in let F₃ : Type 0 =
+    IfOk t (λ front. IsShortest (Prints gt.valid gt.printed gt.means) value front.now) in let F₃ : Type 0 =
     IfOk t (λ front. length front.now ≤ length xs) in let F₄ : Type 0 = IfErr t Rejected in
     use1 𝓛 (‵ (LeavesRest out encoding t))
     (rests 𝓛 out ys (λ end. MatchResult t (λ _. end ≡ encoding ++ list-drop (length encoding) xs) (λ _. end ≡ xs))
@@ -208,10 +209,10 @@ encode_to_slice_spec 𝓤 𝓛 𝓜 𝓡 wired W L gh d gt dt met of_encoding =
     use0 𝓛 (raw (fact 𝓤 F₄)) (fact_i 𝓤 F₄ (emp 𝓤) (on_error ys Rejected r t rejected answered)) $
     use0 𝓛 (raw (fact 𝓤 F₃)) (fact_i 𝓤 F₃ (emp 𝓤) (within encoding xs ys long r t answered)) $ join ! $
     use0 𝓛 (raw (fact 𝓤 F₂)) (fact_i 𝓤 F₂ (emp 𝓤)
-    (on_front encoding xs ys (IsShortest gt.encoding value encoding) (λ x. IsShortest gt.encoding value x) (λ k. k)
+    (on_front encoding xs ys (IsShortest (Prints gt.valid gt.printed gt.means) value encoding) (λ x. IsShortest (Prints gt.valid gt.printed gt.means) value x) (λ k. k)
     r t wrote least answered)) $ join ! $
     use0 𝓛 (raw (fact 𝓤 F₁)) (fact_i 𝓤 F₁ (emp 𝓤)
-    (on_front encoding xs ys (IsShortest gt.encoding value encoding) (λ x. x ≡ encoding) (λ _. refl) r t wrote least
+    (on_front encoding xs ys (IsShortest (Prints gt.valid gt.printed gt.means) value encoding) (λ x. x ≡ encoding) (λ _. refl) r t wrote least
     answered)) $ join ! $ move ! (1 ∷ 0 ∷ []) $ join ! $
     nothing ! $ nothing ! $ fjoin ! $ nothing ! $ fjoin ! $ move ! (2 ∷ 0 ∷ 3 ∷ 1 ∷ []) $
     by ! (leaves 𝓛 En hs c y u t (tt, (tt, tt)) (tt, (tt, tt)))))))))))))))))))))))

@@ -6,7 +6,7 @@ use Rattle.der_core.proofs.parts.Tuple2EncodeValue.append_value.Goals as goal
 pub returns-in_err-encode-clause-appends : goal.returns-in_err-encode-clause-appends
 returns-in_err-encode-clause-appends g c =
     let p = err_from_is_err_and c.from_residual.result c.from_residual.ensures.1 in
-    let back = g.B.Contents.written_contents (g.B.Contents.value c.args.self.now.1) in
+    let back = g.B.Contents.printed (g.B.Contents.written (g.B.Contents.value c.args.self.now.1)) in
     rw (p.1, p.2) (appends_in_front _ _ back c.requires.has.0 c.requires.has refl c.requires.fits
     c.in_err-encode.ensures.appends)
 

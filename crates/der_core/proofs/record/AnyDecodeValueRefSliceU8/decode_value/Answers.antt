@@ -11,7 +11,6 @@ returns-in_err-parts g c =
 
 pub returns : goal.returns
 returns g c = (
-  parts_taken g.T.Parts.Contents.reads g.T.Contents.reads _ _ c.from_parts.ensures _
-      (g.R.BytesLeft.bytes c.args.reader.now) (g.R.BytesLeft.bounded c.args.reader.now) c.in_ok-parts.ensures.0,
+  parts_taken g.T.Parts.Contents.read g.T.Contents.read _ _ c.from_parts.ensures _ c.in_ok-parts.ensures.0,
   c.in_ok-parts.ensures.1,
 )

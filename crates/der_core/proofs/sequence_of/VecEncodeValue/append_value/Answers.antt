@@ -6,24 +6,22 @@ use Rattle.der_core.proofs.sequence_of.VecEncodeValue.append_value.Goals as goal
 
 pub encode_items-requires-clause-has : goal.encode_items-requires-clause-has
 encode_items-requires-clause-has g c =
-    rw (c.as_slice.ensures.value, ← have_map g.T.Encoding.value g.T.Encoding.has_encoding c.args.self.now.items)
+    rw (c.as_slice.ensures.value, ← have_map g.T.Encoding.value g.T.Encoding.written g.T.Encoding.valid c.args.self.now.items)
     c.requires.has
 
 pub encode_items-requires-clause-fits : goal.encode_items-requires-clause-fits
 encode_items-requires-clause-fits g c =
-    let fits : length (all_encodings g.T.Encoding.written_encoding
-    (map g.T.Encoding.value c.args.self.now.items)) ≤ limit = c.requires.fits in
     rw (
       c.as_slice.ensures.value,
-      ← encodings_map g.T.Encoding.value g.T.Encoding.written_encoding
+      ← encodings_map g.T.Encoding.value g.T.Encoding.written g.T.Encoding.printed
           c.args.self.now.items,
-    ) fits
+    ) c.requires.fits
 
 pub returns-clause-appends : goal.returns-clause-appends
 returns-clause-appends g c =
     rw (
-      have_map g.T.Encoding.value g.T.Encoding.has_encoding c.args.self.now.items,
-      encodings_map g.T.Encoding.value g.T.Encoding.written_encoding c.args.self.now.items,
+      have_map g.T.Encoding.value g.T.Encoding.written g.T.Encoding.valid c.args.self.now.items,
+      encodings_map g.T.Encoding.value g.T.Encoding.written g.T.Encoding.printed c.args.self.now.items,
       ← c.as_slice.ensures.value,
     )
     c.encode_items.ensures.appends

@@ -1,6 +1,6 @@
 use Rattle.std.proofs.Common.{◌∙◌, inl}
 use Rattle.der_core.proofs.ReadSteps.{asks_read}
-use Rattle.der_core.specs.Laws.Readings.{integer_reads}
+use Rattle.der_core.specs.Laws.Printed.Leaves.{number_law}
 use Rattle.der_core.proofs.integer.owned.UintDecodeValueRefSliceU8Global.decode_value.Goals as goal
 
 pub returns-in-Err : goal.returns-in-Err
@@ -8,6 +8,6 @@ returns-in-Err g c = (
   c.error.ensures.failed,
   inl (
     c.error.ensures.value ∙ c.kind.ensures ∙ c.in-Err.ensures.err,
-    asks_read integer_reads _ _ (g.R.BytesLeft.bytes c.args.reader.now) c.in_ok-number.ensures.0,
+    asks_read number_law _ _ (g.R.BytesLeft.bytes c.args.reader.now) c.in_ok-number.ensures.0,
   ),
 )

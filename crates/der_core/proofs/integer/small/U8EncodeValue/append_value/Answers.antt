@@ -1,0 +1,26 @@
+use Rattle.std.proofs.Common.{rules, sym, subst, [], ◌∷◌, ◌<◌, ◌≤◌, length}
+use Rattle.der_core.specs.Integer.{integer_contents}
+use Rattle.der_core.specs.Laws.Printed.Leaves.{small_contents_as}
+use Rattle.der_core.specs.Length.{limit}
+use Rattle.der_core.specs.Writing.{Appends}
+use Rattle.der_core.proofs.integer.small.U8EncodeValue.append_value.Goals as goal
+
+pub returns-then-self-lt128-clause-appends : goal.returns-then-self-lt128-clause-appends
+returns-then-self-lt128-clause-appends g c =
+    let n = c.args.self.now in
+    let is = small_contents_as n c.requires.has in
+    let fits : length (integer_contents (n ∷ [])) ≤ limit = rw is at c.requires.fits in
+    let told : Appends (n < 256) (integer_contents (n ∷ [])) g.W.Writer.room g.W.Writer.written c.args.writer.now
+    c.write.new.self c.write.result = search rules in
+    subst (λ octets. Appends (n < 256) octets g.W.Writer.room g.W.Writer.written c.args.writer.now c.write.new.self
+    c.write.result) (sym is) told
+
+pub returns-else-self-lt128-clause-appends : goal.returns-else-self-lt128-clause-appends
+returns-else-self-lt128-clause-appends g c =
+    let n = c.args.self.now in
+    let is = small_contents_as n c.requires.has in
+    let fits : length (integer_contents (n ∷ [])) ≤ limit = rw is at c.requires.fits in
+    let told : Appends (n < 256) (integer_contents (n ∷ [])) g.W.Writer.room g.W.Writer.written c.args.writer.now
+    c.write-else-self-lt128.new.self c.write-else-self-lt128.result = search rules in
+    subst (λ octets. Appends (n < 256) octets g.W.Writer.room g.W.Writer.written c.args.writer.now c.write-else-self-lt128.new.self
+    c.write-else-self-lt128.result) (sym is) told

@@ -1,0 +1,23 @@
+use Rattle.std.proofs.Common.{arith, rules, sym, subst, [], ◌∷◌, ◌∙◌}
+use Rattle.std.proofs.lemmas.Grind.{common_steps}
+use Rattle.der_core.specs.BackWriters.{Prepends}
+use Rattle.der_core.specs.Integer.{integer_contents}
+use Rattle.der_core.specs.Laws.Integer.{written_large}
+use Rattle.der_core.specs.Laws.Printed.Leaves.{small_contents_as}
+use Rattle.der_core.proofs.integer.small.U8EncodeValue.prepend_value.Goals as goal
+
+pub returns-then-self-ge128 : goal.returns-then-self-ge128
+returns-then-self-ge128 c =
+    let n = c.args.self.now in
+    let is = small_contents_as n c.requires.has in
+    let whole = is ∙ written_large (n ∷ []) c.if-self-ge128.true in
+    let told : Prepends (0 ∷ n ∷ []) c.args.writer.now c.prepend-then-self-ge128.new.self =
+    grind (arith, common_steps) in
+    subst (λ octets. Prepends octets c.args.writer.now c.prepend-then-self-ge128.new.self) (sym whole) told
+
+pub returns-else-self-ge128 : goal.returns-else-self-ge128
+returns-else-self-ge128 c =
+    let n = c.args.self.now in
+    let is = small_contents_as n c.requires.has in
+    let told : Prepends (integer_contents (n ∷ [])) c.args.writer.now c.prepend.new.self = search rules in
+    subst (λ octets. Prepends octets c.args.writer.now c.prepend.new.self) (sym is) told
