@@ -133,7 +133,7 @@ behind oid contents y b p q =
     let i = tlv_recast h.0 h.2 h.2.holds.1 in
     let identifier : IsIdentifier oid = rw h.2.holds.1 at h.2.holds.0 in
     let one : length (length_octets (length oid)) ≡ 1 =
-    ap length (length_octets-short (length oid) (omega (arith, identifier.short))) in
+    ap length (length_octets-short (length oid) (omega (arith, identifier.4))) in
     let counted : length h.0 ≡ 1 + length (length_octets (length oid)) + length oid =
     tlv_length (length oid) 6 oid h.0 refl i in
     let l : length h.0 ≡ 2 + length oid = omega (arith, one, counted) in
@@ -218,7 +218,7 @@ module _ {V : Type 0} (tag : ℕ) (Contents : V → List ℕ → Type 0) (has : 
       let encoding : V → List ℕ = λ w. tlv tag (written w) in
       let a = with_parameters oid v in
       let l = tlv_short tag (2 ^ 64 - 1) (written v) (omega (arith, few)) (omega arith) in
-      let short_oid : length (tlv 6 oid) ≤ 167 = tlv_short 6 39 oid is.short (omega arith) in
+      let short_oid : length (tlv 6 oid) ≤ 167 = tlv_short 6 39 oid is.4 (omega arith) in
       let fits : length (tlv 6 oid ++ tlv tag (written v)) < 2 ^ 128 =
       omega (arith, length-append (tlv 6 oid) (tlv tag (written v)), l, short_oid) in
       let made = tlv_made 48 (AlgorithmContents Within a) (written_algorithm encoding a)

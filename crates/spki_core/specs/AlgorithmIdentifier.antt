@@ -1,7 +1,7 @@
 -- AlgorithmIdentifier (RFC 5280 4.1.1.2):
 -- SEQUENCE { algorithm OBJECT IDENTIFIER, parameters ANY DEFINED BY algorithm OPTIONAL }
-use Rattle.std.specs.Prelude.{ℕ, Bool, List, [], ◌∷◌, ◌++◌, ◌&&◌, eqb, Option}
-use Rattle.std.specs.Option.{option_eq}
+use Rattle.std.specs.Prelude.{ℕ, Bool, List, [], ◌∷◌, ◌++◌, ◌&&◌, eqb}
+use Rattle.std.specs.Option.{option_eq, option_map}
 use Rattle.std.specs.Str.{bytes_eq}
 use Rattle.der_core.specs.Tag.{object_identifier_tag, sequence_tag}
 use Rattle.der_core.specs.Encodings.{Joins}
@@ -9,10 +9,17 @@ use Rattle.der_core.specs.Tlv.{Tlv, tlv}
 use Rattle.der_core.specs.Optional.{Optional, HasOptional, written_optional}
 use Rattle.spki_core.specs.ObjectIdentifier.{IsIdentifier, ObjectIdentifier}
 use Rattle.spki_core.specs.Any.{TagAndContents, IsAny, Any, written_any}
+use Rattle.standard.specs.Statement.{optional}
+-- An object identifier, and parameters that are there or not.
+pub use Rattle.standard.specs.Statement.{Algorithm}
 
-pub record Algorithm (P : Type 0) : Type 0 where
-  pub oid : List ℕ
-  pub parameters : Option P
+-- The same identifier, with parameters that are made of others.
+abbrev pub algorithm_map : {P Q : Type 0} → (P → Q) → Algorithm P → Algorithm Q
+algorithm_map f a = record { oid = a.oid; parameters = option_map f a.parameters }
+
+-- What is printed of it, without the tag of the SEQUENCE.
+abbrev pub algorithm_contents : {P : Type 0} → (P → List ℕ) → Algorithm P → List ℕ
+algorithm_contents printed a = tlv object_identifier_tag a.oid ++ optional printed a.parameters
 
 -- The identifier, then the parameters if there are any.
 abbrev pub AlgorithmContents : {P : Type 0} → (P → List ℕ → Type 0) → Algorithm P → List ℕ → Type 0

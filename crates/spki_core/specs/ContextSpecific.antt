@@ -7,6 +7,10 @@ pub record Numbered (V : Type 0) : Type 0 where
   pub number : ℕ
   pub value : V
 
+-- The same number, with a value that is made of another.
+abbrev pub numbered_map : {V W : Type 0} → (V → W) → Numbered V → Numbered W
+numbered_map f v = record { number = v.number; value = f v.value }
+
 -- The tag [number] wraps one encoding of the value.
 abbrev pub ContextSpecific : {V : Type 0} → (V → List ℕ → Type 0) → Numbered V → List ℕ → Type 0
 ContextSpecific Grammar v encoding = (v.number ≤ 30) × Tlv (context_tag v.number) (Grammar v.value) encoding

@@ -15,3 +15,4 @@ pub mod StrictWalk
 pub mod AnyValues
 pub mod IdentifierTest
 pub mod WritesAs
+pub mod Printed

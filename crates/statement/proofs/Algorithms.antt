@@ -1,10 +1,8 @@
 -- Algorithms: the statement's encodings are the library's.
 use Rattle.std.proofs.Common.{ℕ, List, [], ◌∷◌, ◌++◌, ◌≡◌, ◌≤◌, length, refl, subst, ap, ◌∙◌, arith, Option, Some, None}
-use Rattle.std.specs.List.{AllByRecursion}
 use Rattle.std.specs.Option.{option_map}
 use Rattle.der_core.specs.Optional.{HasOptional, written_optional}
 use Rattle.spki_core.specs.Laws.IdentifierTest.{is_identifier-sound}
-use Rattle.spki_core.specs.ObjectIdentifier as oids
 use Rattle.spki_core.specs.Any as anys
 use Rattle.spki_core.specs.AlgorithmIdentifier as algorithms
 use Rattle.spki_core.specs.AlgorithmIdentifier.{PlainAlgorithm, MaskAlgorithm, HasPlain, HasMask, HasAlgorithm}
@@ -12,7 +10,7 @@ use Rattle.spki_core.specs.AlgorithmIdentifier.{written_algorithm, written_plain
 use Rattle.spki_core.specs.Laws.AlgorithmEncodings.{plain_at_most_one, mask_at_most_one}
 use Rattle.pkcs1_params.specs.Laws.HashFields.{plain_relates, plain_shortest, mask_relates, mask_shortest}
 use Rattle.pkcs1_params.specs.Parameters.{id_sha1, id_mgf1, id_p_specified}
-use Rattle.standard.specs.Statement.{tlv, limit, IsSubidentifier, IsIdentifier, TagAndContents, IsAny, any, optional}
+use Rattle.standard.specs.Statement.{tlv, limit, IsIdentifier, TagAndContents, IsAny, any, optional}
 use Rattle.standard.specs.Statement.{IfPresent, Algorithm, algorithm, IsAlgorithm, sha1, mgf1_sha1, empty_label}
 pub use Rattle.statement.specs.Library.{any as any_to, algorithm as algorithm_to}
 pub use Rattle.statement.proofs.Values.{any_from, algorithm_from, plain_from, plain_to, plain_back, plain_forth}
@@ -30,29 +28,6 @@ mask_generation = algorithm plain
 
 abbrev pub IsMaskGeneration : Algorithm (Algorithm TagAndContents) → Type 0
 IsMaskGeneration = IsAlgorithm IsPlain
-
--- Identifiers.
-sub_to : (s : List ℕ) → oids.IsSubidentifier s → IsSubidentifier s
-sub_to s p = (p.front, p.last, p.all, p.more_follow, p.ends, p.least)
-
-sub_from : (s : List ℕ) → IsSubidentifier s → oids.IsSubidentifier s
-sub_from s (front, last, all, more, ends, least) =
-    record { front = front; last = last; all = all; more_follow = more; ends = ends; least = least }
-
-subs_to : (ids : List (List ℕ)) → AllByRecursion oids.IsSubidentifier ids → AllByRecursion IsSubidentifier ids
-subs_to [] all = tt
-subs_to (s ∷ ids) all = (sub_to s all.0, subs_to ids all.1)
-
-subs_from : (ids : List (List ℕ)) → AllByRecursion IsSubidentifier ids → AllByRecursion oids.IsSubidentifier ids
-subs_from [] all = tt
-subs_from (s ∷ ids) all = (sub_from s all.0, subs_from ids all.1)
-
-id_to : (oid : List ℕ) → oids.IsIdentifier oid → IsIdentifier oid
-id_to oid p = (p.subidentifiers, p.some, subs_to p.subidentifiers p.each, p.joined, p.short)
-
-id_from : (oid : List ℕ) → IsIdentifier oid → oids.IsIdentifier oid
-id_from oid (ids, some, each, joined, short) =
-    record { subidentifiers = ids; some = some; each = subs_from ids each; joined = joined; short = short }
 
 -- Parameters in general.
 any_is : (v : anys.TagAndContents) → anys.IsAny v → IsAny (any_from v)
@@ -86,11 +61,11 @@ module _ {P Q : Type 0} (from : P → Q) (has : P → Type 0) (Is : Q → Type 0
 
   algorithm_is : ((p : P) → has p → Is (from p)) → (v : algorithms.Algorithm P) → HasAlgorithm has v
       → IsAlgorithm Is (algorithm_from from v)
-  algorithm_is to v h = (id_to v.oid h.0, optional_is to v.parameters h.1)
+  algorithm_is to v h = (h.0, optional_is to v.parameters h.1)
 
   algorithm_has : ((p : P) → Is (from p) → has p) → (v : algorithms.Algorithm P)
       → IsAlgorithm Is (algorithm_from from v) → HasAlgorithm has v
-  algorithm_has from' v h = (id_from v.oid h.0, optional_has from' v.parameters h.1)
+  algorithm_has from' v h = (h.0, optional_has from' v.parameters h.1)
 
 plain_same : (v : algorithms.Algorithm anys.TagAndContents) → written_plain v ≡ plain (plain_from v)
 plain_same = algorithm_same any_from anys.IsAny IsAny anys.written_any any any_same
@@ -137,11 +112,11 @@ mask_written = record {
 }
 
 -- The defaults may be values.
-sha1_identifier : oids.IsIdentifier id_sha1
+sha1_identifier : IsIdentifier id_sha1
 sha1_identifier =
     is_identifier-sound id_sha1 (omega arith, (omega arith, (omega arith, (omega arith, (omega arith, tt))))) refl
 
-mgf1_identifier : oids.IsIdentifier id_mgf1
+mgf1_identifier : IsIdentifier id_mgf1
 mgf1_identifier =
     is_identifier-sound id_mgf1 (
       omega arith,
@@ -152,12 +127,12 @@ mgf1_identifier =
     ) refl
 
 pub sha1_is : IsPlain sha1
-sha1_is = (id_to sha1.oid sha1_identifier, any_is (record { tag = 5; contents = [] }) (refl, tt))
+sha1_is = (sha1_identifier, any_is (record { tag = 5; contents = [] }) (refl, tt))
 
 pub mgf1_is : IsMaskGeneration mgf1_sha1
-mgf1_is = (id_to mgf1_sha1.oid mgf1_identifier, sha1_is)
+mgf1_is = (mgf1_identifier, sha1_is)
 
-p_specified : oids.IsIdentifier id_p_specified
+p_specified : IsIdentifier id_p_specified
 p_specified =
     is_identifier-sound id_p_specified (
       omega arith,
@@ -168,4 +143,4 @@ p_specified =
     ) refl
 
 pub label_is : IsPlain empty_label
-label_is = (id_to empty_label.oid p_specified, any_is (record { tag = 4; contents = [] }) (refl, tt))
+label_is = (p_specified, any_is (record { tag = 4; contents = [] }) (refl, tt))

@@ -26,7 +26,7 @@ pub viewed_held : (oid : IdentifierView) → IsIdentifier (octets_of oid)
 viewed_held oid = is_identifier-sound (octets_of oid) (are_bytes (octets_of oid) oid.bytes) oid.valid
 
 octets_short : (oid : List ℕ) → IsIdentifier oid → length (tlv object_identifier_tag oid) ≤ 167
-octets_short oid held = tlv_short object_identifier_tag 39 oid held.short (omega arith)
+octets_short oid held = tlv_short object_identifier_tag 39 oid held.4 (omega arith)
 
 -- Each value has something to write, of at most m octets.
 abbrev pub AreHeld : {X V : Type 0} → (X → V) → (V → Type 0) → (V → List ℕ) → ℕ → Type 0

@@ -35,7 +35,7 @@ cut (b ∷ bs) o =
           let more : ends_well true bs ≡ true = rw (small, no) at e in
           let p = ih.0 more in (
             (b ∷ []) ∷ p.0,
-            (record { front = []; last = b; all = refl; more_follow = tt; ends = low; least = λ h. omega arith }, p.1),
+            (([], b, refl, tt, low, λ h. omega arith), p.1),
             ap (λ l. b ∷ l) p.2,
           )),
       (λ e.
@@ -53,17 +53,7 @@ cut (b ∷ bs) o =
           let p = r.3 in
           let other : b ≢ 128 = grind (arith, nat_tests) in (
             ((b ∷ r.0) ++ r.1 ∷ []) ∷ p.0,
-            (
-              record {
-                front = b ∷ r.0;
-                last = r.1;
-                all = refl;
-                more_follow = ((high, os.0), r.4);
-                ends = r.5;
-                least = other;
-              },
-              p.1,
-            ),
+            ((b ∷ r.0, r.1, refl, ((high, os.0), r.4), r.5, other), p.1),
             ap (λ l. b ∷ l) (r.6 ∙ ap (λ l. r.0 ++ r.1 ∷ l) p.2 ∙ sym (append_assoc r.0 (r.1 ∷ []) (concat p.0))),
           ))),
       (λ e.
@@ -81,22 +71,21 @@ within_ends (b ∷ front) last rest all low =
     rw large (within_ends front last rest all.1 low)
 
 one_ends : (s rest : List ℕ) → IsSubidentifier s → ends_well true (s ++ rest) ≡ ends_well true rest
-one_ends s rest p = go p.front p.more_follow p.all
+one_ends s rest (begin, last, whole, more, ends, least) = go begin more whole
   where
-    go : (front : List ℕ) → AllByRecursion (λ b. (128 ≤ b) × (b < 256)) front → s ≡ front ++ p.last ∷ []
+    go : (front : List ℕ) → AllByRecursion (λ b. (128 ≤ b) × (b < 256)) front → s ≡ front ++ last ∷ []
         → ends_well true (s ++ rest) ≡ ends_well true rest
     go [] all e =
-        let low = p.ends in
-        let small : nat_lt p.last 128 ≡ true = grind (arith, nat_tests) in
-        let no : (p.last == 128) ≡ false = grind (arith, nat_tests) in
+        let small : nat_lt last 128 ≡ true = grind (arith, nat_tests, ends) in
+        let no : (last == 128) ≡ false = grind (arith, nat_tests, ends) in
         rw (e, no, small) refl
     go (b ∷ front) all e =
         let high = all.0.0 in
         let first : slice_index s 0 ≡ b = rw e refl in
-        let other : b ≢ 128 = λ h. p.least (first ∙ h) in
+        let other : b ≢ 128 = λ h. least (first ∙ h) in
         let no : (b == 128) ≡ false = grind (arith, nat_tests) in
         let large : nat_lt b 128 ≡ false = grind (arith, nat_tests) in
-        rw (e, no, large, append_assoc front (p.last ∷ []) rest) (within_ends front p.last rest all.1 p.ends)
+        rw (e, no, large, append_assoc front (last ∷ []) rest) (within_ends front last rest all.1 ends)
 
 parts_end : (subs : List (List ℕ)) → AllByRecursion IsSubidentifier subs → ends_well true (concat subs) ≡ true
 parts_end [] all = refl
@@ -109,7 +98,7 @@ is_identifier-sound c o e =
     let some : 0 < length c = let h = t.0 in grind (arith, nat_tests) in
     let short : length c ≤ 39 = let h = t.1 in grind (arith, nat_tests) in
     let p = (cut c o).0 t.2 in
-    record { subidentifiers = p.0; some = count p.0 p.2 some; each = p.1; joined = p.2; short = short }
+    (p.0, count p.0 p.2 some, p.1, p.2, short)
   where
     tests : (a b d : Bool) → (a && b && d) ≡ true → (a ≡ true) × (b ≡ true) × (d ≡ true)
     tests true true true e = (refl, refl, refl)
@@ -122,10 +111,9 @@ is_identifier-sound c o e =
     count (s ∷ subs) h l = omega arith
 
 pub is_identifier-complete : (c : List ℕ) → IsIdentifier c → is_identifier c ≡ true
-is_identifier-complete c p =
-    let ends : ends_well true c ≡ true = rw p.joined (parts_end p.subidentifiers p.each) in
-    let some : 0 < length c = count p.subidentifiers p.some p.each p.joined in
-    let short = p.short in
+is_identifier-complete c (ids, many, each, joined, short) =
+    let ends : ends_well true c ≡ true = rw joined (parts_end ids each) in
+    let some : 0 < length c = count ids many each joined in
     let a : nat_lt 0 (length c) ≡ true = grind (arith, nat_tests) in
     let b : nat_lt (length c) 40 ≡ true = grind (arith, nat_tests) in
     rw (a, b, ends) refl
@@ -133,9 +121,7 @@ is_identifier-complete c p =
     count : (subs : List (List ℕ)) → 0 < length subs → AllByRecursion IsSubidentifier subs → c ≡ concat subs
         → 0 < length c
     count [] l all h = absurd (omega arith)
-    count (s ∷ subs) l all h =
-        let first = all.0 in
+    count (s ∷ subs) l ((front, last, whole, more, ends, least), all) h =
         let len : length c ≡ length s + length (concat subs) = ap length h ∙ length-append s (concat subs) in
-        let one : length s ≡ length first.front + 1 =
-        ap length first.all ∙ length-append first.front (first.last ∷ []) in
+        let one : length s ≡ length front + 1 = ap length whole ∙ length-append front (last ∷ []) in
         omega arith

@@ -24,9 +24,9 @@ front_of_bytes [] all = tt
 front_of_bytes (b ∷ front) all = (all.0.1, front_of_bytes front all.1)
 
 subidentifier_of_bytes : (s : List ℕ) → IsSubidentifier s → AreBytes s
-subidentifier_of_bytes s p =
-    let low : p.last < 256 = omega (arith, p.ends) in
-    rw p.all (bytes_append p.front (p.last ∷ []) (front_of_bytes p.front p.more_follow) (low, tt))
+subidentifier_of_bytes s (front, last, all, more, ends, least) =
+    let low : last < 256 = omega (arith, ends) in
+    rw all (bytes_append front (last ∷ []) (front_of_bytes front more) (low, tt))
 
 parts_of_bytes : (subs : List (List ℕ)) → AllByRecursion IsSubidentifier subs → AreBytes (concat subs)
 parts_of_bytes [] all = tt
@@ -34,7 +34,7 @@ parts_of_bytes (s ∷ subs) all =
     bytes_append s (concat subs) (subidentifier_of_bytes s all.0) (parts_of_bytes subs all.1)
 
 pub identifier_contents_of_bytes : IsOfBytes IdentifierContents
-identifier_contents_of_bytes oid c p = rw p.0.joined (parts_of_bytes p.0.subidentifiers p.0.each)
+identifier_contents_of_bytes oid c ((ids, some, each, joined, short), same) = rw joined (parts_of_bytes ids each)
 
 pub identifier_of_bytes : IsOfBytes ObjectIdentifier
 identifier_of_bytes = tlv_of_bytes object_identifier_tag refl IdentifierContents identifier_contents_of_bytes
@@ -50,7 +50,7 @@ identifier_contents_shortest oid c p =
 
 pub identifier_relates : (oid : List ℕ) → IsIdentifier oid → ObjectIdentifier oid (tlv object_identifier_tag oid)
 identifier_relates oid h =
-    let few = h.short in
+    let few = h.4 in
     record {
       octets = _;
       contents = oid;

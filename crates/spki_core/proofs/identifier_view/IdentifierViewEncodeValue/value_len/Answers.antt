@@ -10,5 +10,5 @@ returns c =
     let oid = c.args.self.now in
     let held = is_identifier-sound (octets_of oid) (are_bytes (octets_of oid) oid.bytes) oid.valid in
     let same : c.of.result ≡ length (octets_of oid) = c.of.ensures ∙ c.octet_count.ensures in
-    let few : length (octets_of oid) ≤ limit = omega (arith, held.short) in
+    let few : length (octets_of oid) ≤ limit = omega (arith, held.4) in
     (held, same, rw same few)

@@ -1,0 +1,129 @@
+-- The functions read what is printed of identifiers, of encodings of any tag, of algorithms and of values inside
+-- explicit tags, and nothing else.
+use Rattle.std.proofs.Common.{ℕ, false, List, ◌++◌, ◌≡◌, ◌<◌, ◌≤◌, ◌-◌, length, length-append, refl, sym, ap, ◌∙◌}
+use Rattle.std.proofs.Common.{arith, subst, ⊎_elim, Ok, Err}
+use Rattle.std.proofs.lemmas.Bool.Decides.{nat_tests}
+use Rattle.std.specs.Prelude.{◌||◌, nat_lt, IsTrue}
+use Rattle.der_core.specs.declared.error.ErrorKind.{ErrorKind}
+use Rattle.der_core.specs.declared.error.ErrorKind.TheVariants.{TagUnknown}
+use Rattle.der_core.specs.Laws.LengthReading.{chosen}
+use Rattle.der_core.specs.Laws.Printed.Leaves.{tlv_is, tlv_made}
+use Rattle.der_core.specs.Laws.Printed.Optional.{last_law}
+use Rattle.der_core.specs.Laws.Printed.Rows.{alone_law, made_law, row_law, tagged_law}
+use Rattle.der_core.specs.Laws.Readings.{bind_ok, made_tells, ok_same}
+use Rattle.der_core.specs.Laws.TaggedReadings.{by_tag_reads}
+use Rattle.der_core.specs.Printed.{ReadsFrontPrinted, ReadsPrinted}
+use Rattle.der_core.specs.Reading.{TellsOfBytes}
+use Rattle.der_core.specs.Readings.{FrontReading, Reading, ReadsContents, alone, by_tag, ◌>>=◌}
+use Rattle.der_core.specs.Tag.{context_tag, is_allowed}
+use Rattle.der_core.specs.Tags.{object_identifier}
+use Rattle.spki_core.specs.AlgorithmIdentifier.{algorithm_contents}
+use Rattle.spki_core.specs.ContextSpecific.{HasNumbered, Numbered, written_numbered}
+use Rattle.spki_core.specs.Laws.ContextSpecific.{number_allowed}
+use Rattle.spki_core.specs.Laws.Readings.{identifier_reads}
+use Rattle.spki_core.specs.Readings.{algorithm_read, any, identifier_read, numbered, numbered_in, of_algorithm_parts}
+use Rattle.spki_core.specs.Readings.{opaque}
+use Rattle.standard.specs.Statement.{Algorithm, IsAlgorithm, IsAny, IsIdentifier, TagAndContents, tlv}
+use Rattle.standard.specs.Statement as standard
+
+-- OBJECT IDENTIFIER
+pub oid_law : ReadsPrinted IsIdentifier (λ o. o) identifier_read
+oid_law = record {
+  gives = λ c o bytes e. let p = identifier_reads.gives c o bytes e in (subst IsIdentifier p.1 p.0, p.1);
+  takes = λ o ok few. identifier_reads.takes o o few (ok, refl);
+  tells = identifier_reads.tells;
+}
+
+-- AlgorithmIdentifier: an identifier, and parameters that are OPTIONAL and the last part.
+module _ {P : Type 0} {Is : P → Type 0} {printed : P → List ℕ} {at : FrontReading P}
+    (law : ReadsFrontPrinted Is printed at) (some : (p : P) → 0 < length (printed p)) where
+  pub algorithm_law : ReadsPrinted (IsAlgorithm Is) (algorithm_contents printed) (algorithm_read at)
+  algorithm_law =
+      made_law (row_law (tagged_law oid_law object_identifier) (last_law law some)) of_algorithm_parts
+      (λ a. (a.oid, a.parameters)) (λ p. refl) (λ a. refl)
+
+  -- With its tag it is what the standard says.
+  pub algorithm_is : (a : Algorithm P) → tlv 48 (algorithm_contents printed a) ≡ standard.algorithm printed a
+  algorithm_is a = refl
+
+-- Contents behind any tag, of which the value tells both.
+module _ {S : Type 0} {valid : S → Type 0} (octet : S → ℕ) (contents : S → List ℕ) (read : ℕ → Reading S)
+    (inner : (t : ℕ) → IsTrue (is_allowed t) → ReadsPrinted (λ s. (octet s ≡ t) × valid s) contents (read t))
+    (tells : (t : ℕ) (c : List ℕ) (k : ErrorKind) → read t c ≡ Err k → TellsOfBytes k)
+    (allowed : (s : S) → valid s → IsTrue (is_allowed (octet s))) where
+  abbrev Inner : S → List ℕ → Type 0
+  Inner s c = valid s × (c ≡ contents s)
+
+  inner_reads : (t : ℕ) → IsTrue (is_allowed t) → ReadsContents (λ s c. (octet s ≡ t) × Inner s c) (read t)
+  inner_reads t ok = record {
+    gives = λ c s bytes e. let h = (inner t ok).gives c s bytes e in (h.0.0, (h.0.1, h.1));
+    takes = λ c s few p.
+        ap (read t) p.1.1 ∙ (inner t ok).takes s (p.0, p.1.0) (omega (arith, few, ap length p.1.1));
+    tells = tells t;
+  }
+
+  pub by_tag_law : ReadsFrontPrinted valid (λ s. tlv (octet s) (contents s)) (by_tag read)
+  by_tag_law =
+      let old = by_tag_reads octet Inner read inner_reads tells (λ s c p. allowed s p.0) in
+      record {
+        gives = λ i rest s bytes e.
+            let (b, is, t) = old.gives i rest s bytes e in
+            (t.holds.0, is ∙ ap (λ x. x ++ rest) (tlv_is (octet s) (contents s) b (λ c p. p.1) t));
+        takes = λ s rest ok few.
+            old.takes (tlv (octet s) (contents s) ++ rest) (tlv (octet s) (contents s)) rest s few refl
+            (tlv_made (octet s) (contents s) (ok, refl)
+            (omega (arith, few, length-append (tlv (octet s) (contents s)) rest)));
+        tells = old.tells;
+      }
+
+-- Any tag.
+opaque_law : (t : ℕ) → IsTrue (is_allowed t)
+    → ReadsPrinted (λ (v : TagAndContents). (v.tag ≡ t) × IsAny v) (λ v. v.contents) (opaque t)
+opaque_law t allowed = record {
+  gives = λ c v bytes e.
+      subst (λ (v : TagAndContents). ((v.tag ≡ t) × IsAny v) × (c ≡ v.contents)) (ok_same e)
+      ((refl, (allowed, bytes)), refl);
+  takes = λ v ok few. λ i. Ok (record { tag = sym ok.0 i; contents = v.contents });
+  tells = λ c k e. cc;
+}
+
+pub any_law : ReadsFrontPrinted IsAny standard.any any
+any_law =
+    by_tag_law (λ (v : TagAndContents). v.tag) (λ v. v.contents) opaque opaque_law (λ t c k e. cc) (λ v ok. ok.0)
+
+-- Explicit tags.
+module _ {S : Type 0} {valid : S → Type 0} {printed : S → List ℕ} {at : FrontReading S}
+    (law : ReadsFrontPrinted valid printed at) where
+  in_tells : (t : ℕ) (c : List ℕ) (k : ErrorKind) → numbered_in at t c ≡ Err k → TellsOfBytes k
+  in_tells t c k e =
+      ⊎_elim (λ w. let same : TagUnknown t ≡ k = let q = w.1 in cc in (λ no. cc, λ no. cc, λ no. cc))
+      (λ w. made_tells (λ x. record { number = t - 160; value = x }) (alone at c) ((alone_law law).tells c k) w.1)
+      (chosen (nat_lt t 160 || nat_lt 190 t) _ _ _ e)
+
+  in_law : (t : ℕ) → IsTrue (is_allowed t)
+      → ReadsPrinted (λ (v : Numbered S). (context_tag v.number ≡ t) × HasNumbered valid v) (λ v. printed v.value)
+      (numbered_in at t)
+  in_law t allowed = record {
+    gives = λ c v bytes e.
+        ⊎_elim (λ w. let no = w.1 in cc)
+        (λ w.
+        let s = bind_ok (alone at c) _ w.1 in
+        let low : 160 ≤ t = grind (arith, nat_tests, w.0) in
+        let high : t ≤ 190 = grind (arith, nat_tests, w.0) in
+        let h = (alone_law law).gives c s.0 bytes s.1 in
+        subst (λ (v : Numbered S). ((context_tag v.number ≡ t) × HasNumbered valid v) × (c ≡ printed v.value))
+        (ok_same s.2) ((omega (arith, low), (omega (arith, low, high), h.0)), h.1))
+        (chosen (nat_lt t 160 || nat_lt 190 t) _ _ _ e);
+    takes = λ v ok few.
+        let inside : (nat_lt t 160 || nat_lt 190 t) ≡ false = grind (arith, nat_tests, ok.0, ok.1.0) in
+        let number : t - 160 ≡ v.number = omega (arith, ok.0) in
+        rw inside
+        (ap (λ r. r >>= λ x. Ok (record { number = t - 160; value = x })) ((alone_law law).takes v.value ok.1.1 few)
+        ∙ ap (λ n. Ok (record { number = n; value = v.value })) number);
+    tells = in_tells t;
+  }
+
+  pub numbered_law : ReadsFrontPrinted (HasNumbered valid) (written_numbered printed) (numbered at)
+  numbered_law =
+      by_tag_law (λ (v : Numbered S). context_tag v.number) (λ v. printed v.value) (numbered_in at) in_law
+      in_tells (λ v ok. number_allowed v.number ok.0)
