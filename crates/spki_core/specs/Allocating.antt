@@ -1,14 +1,17 @@
 -- Where reading algorithm identifiers and fields may ask for memory.
-use Rattle.std.specs.Prelude.{ℕ, List, ◌⊎◌}
-use Rattle.der_core.specs.Tag.{context_tag, sequence_tag}
-use Rattle.der_core.specs.Tlv.{Tlv}
+use Rattle.std.specs.Prelude.{ℕ, List, ◌≡◌, ◌⊎◌}
+use Rattle.der_core.specs.Printed.{Prints}
+use Rattle.der_core.specs.Tag.{context_tag, object_identifier_tag, sequence_tag}
+use Rattle.der_core.specs.Tlv.{Tlv, tlv}
 use Rattle.der_core.specs.Reading.{AllocatesIn, AllocatesBehind, AllocatesLast}
-use Rattle.spki_core.specs.ObjectIdentifier.{ObjectIdentifier}
+use Rattle.spki_core.specs.ObjectIdentifier.{IsIdentifier}
 use Rattle.spki_core.specs.Explicit.{field, Defaultable}
 
 -- In the contents of an algorithm identifier: its parameters may ask for memory, the object identifier never does.
 abbrev pub AllocatesForParameters : (List ℕ → Type 0) → List ℕ → Type 0
-AllocatesForParameters may_allocate contents = AllocatesBehind ObjectIdentifier (AllocatesLast may_allocate) contents
+AllocatesForParameters may_allocate contents =
+    AllocatesBehind (Prints IsIdentifier (λ oid. tlv object_identifier_tag oid) (λ oid. oid))
+    (AllocatesLast may_allocate) contents
 
 -- The same for the whole encoding.
 abbrev pub AlgorithmAllocates : (List ℕ → Type 0) → List ℕ → Type 0
@@ -17,7 +20,8 @@ AlgorithmAllocates may_allocate encoding = Tlv sequence_tag (AllocatesForParamet
 -- The encoding of an identifier without parameters doesn't ask for memory.
 abbrev pub NothingAskedAlone : (List ℕ → Type 0) → Type 0
 NothingAskedAlone may_allocate =
-    (oid encoding : List ℕ) → Tlv sequence_tag (ObjectIdentifier oid) encoding → AllocatesIn may_allocate encoding → ⊥
+    (oid encoding : List ℕ) → IsIdentifier oid → encoding ≡ tlv sequence_tag (tlv object_identifier_tag oid)
+    → AllocatesIn may_allocate encoding → ⊥
 
 -- The value inside the tag [number] may ask for memory.
 abbrev pub FieldAllocates : ℕ → (List ℕ → Type 0) → List ℕ → Type 0

@@ -23,9 +23,8 @@ pub use Rattle.spki_core.specs.Laws.AnyEncodings.{any_delimited}
 pub use Rattle.spki_core.specs.Laws.AnyValues.{holds_decides, holds_itself}
 pub use Rattle.spki_core.specs.Laws.ContextSpecific.{numbered_delimited, numbered_of_bytes, numbered_relates}
 pub use Rattle.spki_core.specs.Laws.ContextSpecific.{numbered_shortest}
-pub use Rattle.spki_core.specs.Laws.Printed.Alike.{algorithm_alike, algorithm_means, numbered_alike, numbered_means}
+pub use Rattle.spki_core.specs.Laws.Printed.Alike.{algorithm_alike, numbered_alike}
 pub use Rattle.spki_core.specs.Laws.Printed.Readings.{algorithm_law, any_law, numbered_law, oid_law}
 pub use Rattle.spki_core.specs.Laws.Printed.Shortest.{algorithm_writes_shortest, any_some, numbered_some}
 pub use Rattle.spki_core.specs.Laws.Printed.Shortest.{numbered_writes_shortest}
-pub use Rattle.spki_core.specs.Laws.Printed.Written.{algorithm_writes, numbered_writes}
 pub use Rattle.spki_core.specs.Laws.Readings.{algorithm_reads, any_reads, identifier_reads, numbered_reads}

@@ -2,8 +2,9 @@
 ghost use Rattle.std.specs.Prelude.{◌≡◌, ◌≢◌, refl, IfOk, IfErr, IfSome, IsOk};
 ghost use Rattle.std.specs.Option.{option_map};
 ghost use Rattle.spki_core.specs.Words.{AllocatesForParameters, NothingAskedAlone, TagAndContents, Algorithm};
-ghost use Rattle.spki_core.specs.Words.{AlgorithmContents, HasAlgorithm, written_algorithm, algorithm_means_one};
-ghost use Rattle.spki_core.specs.Words.{algorithm_of_bytes, algorithm_relates, algorithm_shortest, algorithm_decides};
+ghost use Rattle.spki_core.specs.Words.{algorithm_alike, algorithm_contents, algorithm_decides, algorithm_law};
+ghost use Rattle.spki_core.specs.Words.{algorithm_map, algorithm_read, algorithm_writes_shortest};
+ghost use Rattle.standard.specs.Statement as standard;
 
 use crate::any::{AnyRef, AnyValue};
 use crate::identifier_view::{IdentifierValue, IdentifierView};
@@ -54,25 +55,31 @@ impl<O: fmt::Debug, P: fmt::Debug> fmt::Debug for AlgorithmIdentifierOf<O, P> {
 }
 
 impl<O: IdentifierValue, P: Encoding> Contents for AlgorithmIdentifierOf<O, P> {
-    ghost use Rattle.spki_core.specs.Words.{algorithm_in, algorithm_read, algorithm_reads};
+    ghost use Rattle.spki_core.specs.Words.{algorithm_in};
 
     ghost Value = { Algorithm P.Value };
 
     ghost value = { algorithm_in O.octets P.value };
 
-    ghost contents = { AlgorithmContents P.encoding };
+    ghost Spelling = { Algorithm P.Spelling };
 
-    ghost has_contents = { HasAlgorithm P.has_encoding };
+    ghost means = { algorithm_map P.means };
 
-    ghost written_contents = { written_algorithm P.written_encoding };
+    ghost written = { algorithm_map P.written };
+
+    ghost valid = { standard.IsAlgorithm P.valid };
+
+    ghost printed = { algorithm_contents P.printed };
+
+    ghost read_spelling = { algorithm_read P.read_spelling };
 
     ghost read = { algorithm_read P.read_front };
 
-    ghost reads = { algorithm_reads P.reads_front P.delimited };
+    ghost law = { algorithm_law P.law P.some };
 
-    ghost means_one = { algorithm_means_one P.encoding P.delimited };
+    ghost shortest = { algorithm_writes_shortest P.shortest };
 
-    ghost contents_of_bytes = { algorithm_of_bytes P.encoding P.encoding_of_bytes };
+    ghost reads_alike = { algorithm_alike P.reads_alike };
 }
 
 impl<O, P> TaggedBy for AlgorithmIdentifierOf<O, P> {
@@ -128,10 +135,6 @@ impl<O: IdentifierValue, P: Encode> EncodeValue for AlgorithmIdentifierOf<O, P> 
         let oid = self.oid.as_identifier_view();
         (oid, Last::borrowed(&self.parameters)).prepend_value(writer);
     }
-
-    ghost contents_relate = { algorithm_relates P.encoding P.has_encoding P.written_encoding P.encoding_relates };
-
-    ghost contents_shortest = { algorithm_shortest P.encoding P.has_encoding P.written_encoding P.encoding_shortest };
 }
 
 impl<P: TryClone> TryClone for AlgorithmIdentifier<P> {

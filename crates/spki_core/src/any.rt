@@ -2,9 +2,11 @@
 ghost use Rattle.std.specs.Prelude.{◌≡◌, ◌≤◌, ◌<◌, ℕ, [], length, slice_index, refl, ⊤, IfOk, IsOk, IfErr, IsTrue};
 ghost use Rattle.der_core.specs.Words.{limit, is_allowed, ReadsFront, NoValueOrMemory, Returns};
 ghost use Rattle.spki_core.specs.Readings.{any, any_as};
-ghost use Rattle.spki_core.specs.Laws.Readings.{any_reads};
-ghost use Rattle.spki_core.specs.Any.{TagAndContents, IsAny, Any, null_value, written_any};
-ghost use Rattle.spki_core.specs.Laws.AnyEncodings.{any_delimited, any_of_bytes, any_relates, any_shortest};
+ghost use Rattle.spki_core.specs.Any.{TagAndContents, null_value};
+ghost use Rattle.spki_core.specs.Laws.Printed.Readings.{any_law};
+ghost use Rattle.spki_core.specs.Laws.Printed.Shortest.{any_some};
+ghost use Rattle.der_core.specs.Words.{Prints, front_alike, one_spelling};
+ghost use Rattle.standard.specs.Statement as standard;
 
 use der_core::{
     BackWriter, Decode, DecodeValue, Encode, Encoding, EqualByValue, Error, ErrorKind, FixedTag,
@@ -106,10 +108,10 @@ impl<'a> AnyRef<'a> {
         self,
         memory: M,
     ) -> Result<T>
-        ensures ok { let any = any_of self.entry in
-            IfOk result (λ value. (any.tag ≡ T.TAG.octet) × T.contents (T.value value) any.contents) }
-        ensures err { let any = any_of self.entry in
-            let no_value : Type 0 = (value : T.Value) → any.tag ≡ T.TAG.octet → T.contents value any.contents → ⊥ in
+        ensures ok { let any = any_of self.entry in let contents = Prints T.valid T.printed T.means in
+            IfOk result (λ value. (any.tag ≡ T.TAG.octet) × contents (T.value value) any.contents) }
+        ensures err { let any = any_of self.entry in let contents = Prints T.valid T.printed T.means in
+            let no_value : Type 0 = (value : T.Value) → any.tag ≡ T.TAG.octet → contents value any.contents → ⊥ in
             IfErr result (λ e. NoValueOrMemory e.kind (T.may_allocate any.contents) no_value) }
         ensures exact { let held = any_of self.entry in
             let asked = (held.tag ≡ T.TAG.octet) × T.may_allocate held.contents in
@@ -152,19 +154,27 @@ impl Encoding for AnyRef<'_> {
 
     ghost value = { any_of };
 
-    ghost encoding = { Any };
+    ghost Spelling = { TagAndContents };
 
-    ghost has_encoding = { IsAny };
+    ghost means = { λ v. v };
 
-    ghost written_encoding = { written_any };
+    ghost written = { λ v. v };
+
+    ghost valid = { standard.IsAny };
+
+    ghost printed = { standard.any };
+
+    ghost read_spelling = { any };
 
     ghost read_front = { any };
 
-    ghost reads_front = { any_reads };
+    ghost law = { any_law };
 
-    ghost delimited = { any_delimited };
+    ghost shortest = { one_spelling standard.IsAny standard.any };
 
-    ghost encoding_of_bytes = { any_of_bytes };
+    ghost some = { any_some };
+
+    ghost reads_alike = { front_alike any };
 }
 
 impl<'a, M: Memory> Decode<&'a [u8], M> for AnyRef<'a> {
@@ -212,10 +222,6 @@ impl Encode for AnyRef<'_> {
         writer.prepend(self.contents);
         writer.prepend_header(self.header());
     }
-
-    ghost encoding_relates = { any_relates };
-
-    ghost encoding_shortest = { any_shortest };
 }
 
 impl<'a> TryClone for AnyRef<'a> {
@@ -247,11 +253,12 @@ pub trait AnyValue: EqualByValue + Encode {
     fn as_any_ref(&self) -> AnyRef<'_>
         ensures { any_of result ≡ any self.now };
 
-    /// The tag and contents are those of the value's encodings.
-    ghost holds: { HoldsAny Self.value Self.encoding Self.any };
+    /// The tag and contents are what the value means.
+    ghost holds: { HoldsAny Self.value Self.any };
 
     /// What is written is the encoding of the tag and contents.
-    ghost writes: { WritesAs Self.value Self.has_encoding Self.written_encoding Self.any IsAny written_any };
+    ghost writes: { WritesAs Self.value (λ v. Self.valid (Self.written v)) (λ v. Self.printed (Self.written v)) Self.any
+        standard.IsAny standard.any };
 
     /// The tag and contents that are held have an encoding.
     ghost held: { AreAnyHeld Self.any };
@@ -277,7 +284,7 @@ impl AnyValue for AnyRef<'_> {
 
     ghost holds = { holds_itself any_of };
 
-    ghost writes = { writes_itself any_of IsAny written_any };
+    ghost writes = { writes_itself any_of standard.IsAny standard.any };
 
     ghost held = { any_held };
 }

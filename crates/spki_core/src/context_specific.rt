@@ -3,10 +3,9 @@ ghost use Rattle.std.specs.Prelude.{◌≡◌, ◌+◌};
 ghost use Rattle.std.specs.Option.{option_map};
 ghost use Rattle.der_core.specs.Words.{context_tag, Tlv, ReadsFront, alone, optional, tagged};
 ghost use Rattle.der_core.specs.Words.{AllocatesIn, TellsNext};
-ghost use Rattle.spki_core.specs.Words.{FieldAllocates, explicit, numbered, numbered_reads, Numbered, ContextSpecific};
-ghost use Rattle.spki_core.specs.Words.{HasNumbered};
-ghost use Rattle.spki_core.specs.Words.{written_numbered, numbered_delimited, numbered_of_bytes, numbered_relates};
-ghost use Rattle.spki_core.specs.Words.{numbered_shortest};
+ghost use Rattle.spki_core.specs.Words.{FieldAllocates, explicit, numbered, Numbered, HasNumbered, numbered_alike};
+ghost use Rattle.spki_core.specs.Words.{numbered_law, numbered_map, numbered_some, numbered_writes_shortest};
+ghost use Rattle.spki_core.specs.Words.{written_numbered};
 
 use der_core::{
     BackWriter, Decode, Encode, Encoding, ErrorKind, Header, Length, Memory, Reader, Result, Tag,
@@ -35,19 +34,27 @@ impl<'b, T: Encoding> Encoding for ContextSpecificRef<'b, T> {
 
     ghost value = { λ v. record { number = v.tag_number.value; value = T.value v.value.now } };
 
-    ghost encoding = { ContextSpecific T.encoding };
+    ghost Spelling = { Numbered T.Spelling };
 
-    ghost has_encoding = { HasNumbered T.has_encoding };
+    ghost means = { numbered_map T.means };
 
-    ghost written_encoding = { written_numbered T.written_encoding };
+    ghost written = { numbered_map T.written };
+
+    ghost valid = { HasNumbered T.valid };
+
+    ghost printed = { written_numbered T.printed };
+
+    ghost read_spelling = { numbered T.read_spelling };
 
     ghost read_front = { numbered T.read_front };
 
-    ghost reads_front = { numbered_reads T.reads_front };
+    ghost law = { numbered_law T.law };
 
-    ghost delimited = { numbered_delimited T.encoding T.delimited };
+    ghost shortest = { numbered_writes_shortest T.shortest };
 
-    ghost encoding_of_bytes = { numbered_of_bytes T.encoding T.encoding_of_bytes };
+    ghost some = { numbered_some T.printed };
+
+    ghost reads_alike = { numbered_alike T.reads_alike };
 }
 
 impl<'b, T: Encode> Encode for ContextSpecificRef<'b, T> {
@@ -72,10 +79,6 @@ impl<'b, T: Encode> Encode for ContextSpecificRef<'b, T> {
             length,
         });
     }
-
-    ghost encoding_relates = { numbered_relates T.encoding T.has_encoding T.written_encoding T.encoding_relates };
-
-    ghost encoding_shortest = { numbered_shortest T.encoding T.has_encoding T.written_encoding T.encoding_shortest };
 }
 
 /// Whether the next octet is that of the field's tag. Nothing is read. `Failed` on a reader that has failed.

@@ -1,7 +1,7 @@
 //! Explicit fields with defaults (X.690 8.14.2, 11.5).
 ghost use Rattle.std.specs.Prelude.{◌≤◌, ◌+◌, ℕ, length};
 ghost use Rattle.der_core.specs.Words.{limit, free_of, Prepends, Counts, Appends, context_tag, tlv, ReadsFront};
-ghost use Rattle.der_core.specs.Words.{OptionalRead, ReadsBy, ReadsFronts, Tlv, optional};
+ghost use Rattle.der_core.specs.Words.{OptionalRead, Prints, ReadsBy, ReadsFronts, Tlv, optional};
 ghost use Rattle.spki_core.specs.Words.{FieldAllocates, FieldRead, defaulted, explicit, HasField, written_field};
 
 use crate::context_specific::{ContextSpecificRef, is_field_next, read_explicit};
@@ -32,7 +32,7 @@ pub fn read_field<'a, T: Decode<&'a [u8], M>, M: Memory, R: Reader<&'a [u8]>>(
 /// The length of a field that is written.
 pub fn field_len<T: Encode>(tag_number: TagNumber, value: &T) -> Result<Length>
     ensures { let v = T.value value.now in
-        Counts (T.has_encoding v) (tlv (context_tag tag_number.value) (T.written_encoding v)) result }
+        Counts (T.valid (T.written v)) (tlv (context_tag tag_number.value) (T.printed (T.written v))) result }
 {
     ContextSpecificRef { tag_number, value }.encoded_len()
 }
@@ -44,8 +44,8 @@ pub fn encode_field<T: Encode, W: Writer>(
     value: &T,
     writer: &mut W,
 ) -> Result<()>
-    ensures appends { let has = HasField left_out (T.has_encoding (T.value value.now)) in
-        let octets = written_field left_out tag_number.value (T.written_encoding (T.value value.now)) in
+    ensures appends { let has = HasField left_out (T.valid (T.written (T.value value.now))) in
+        let octets = written_field left_out tag_number.value (T.printed (T.written (T.value value.now))) in
         Appends has octets W.room W.written writer.old writer.new result }
     ensures kept { W.keeps writer.old writer.new }
 {
@@ -58,11 +58,11 @@ pub fn encode_field<T: Encode, W: Writer>(
 
 /// Writes a field in front of what is filled.
 pub fn prepend_field<T: Encode>(tag_number: TagNumber, value: &T, writer: &mut BackWriter<'_>)
-    requires has { T.has_encoding (T.value value.now) }
-    requires fits { length (tlv (context_tag tag_number.value) (T.written_encoding (T.value value.now))) ≤ limit }
-    requires room { length (tlv (context_tag tag_number.value) (T.written_encoding (T.value value.now)))
+    requires has { T.valid (T.written (T.value value.now)) }
+    requires fits { length (tlv (context_tag tag_number.value) (T.printed (T.written (T.value value.now)))) ≤ limit }
+    requires room { length (tlv (context_tag tag_number.value) (T.printed (T.written (T.value value.now))))
         ≤ free_of writer.old }
-    ensures { Prepends (tlv (context_tag tag_number.value) (T.written_encoding (T.value value.now)))
+    ensures { Prepends (tlv (context_tag tag_number.value) (T.printed (T.written (T.value value.now))))
         writer.old writer.new }
 {
     ContextSpecificRef { tag_number, value }.prepend(writer);
@@ -72,10 +72,10 @@ pub fn prepend_field<T: Encode>(tag_number: TagNumber, value: &T, writer: &mut B
 /// where the octet of the tag isn't next. In place of nothing, `read_field` gives the default.
 pub fn lemma_fields_are_read<T: Encoding>()
     ensures explicit { (n : ℕ) → n ≤ 30
-        → ReadsFronts (λ v. Tlv (context_tag n) (T.encoding v)) (explicit n T.read_front) }
+        → ReadsFronts (λ v. Tlv (context_tag n) (Prints T.valid T.printed T.means v)) (explicit n T.read_front) }
     ensures optional { (n : ℕ) → n ≤ 30
-        → ReadsBy (OptionalRead (context_tag n) (λ v. Tlv (context_tag n) (T.encoding v)))
+        → ReadsBy (OptionalRead (context_tag n) (λ v. Tlv (context_tag n) (Prints T.valid T.printed T.means v)))
         (optional (context_tag n) (explicit n T.read_front)) }
     ensures default { (n : ℕ) (default : T.Value) → n ≤ 30
-        → ReadsBy (FieldRead n T.encoding default) (defaulted n T.read_front default) }
+        → ReadsBy (FieldRead n (Prints T.valid T.printed T.means) default) (defaulted n T.read_front default) }
 {}

@@ -8,7 +8,6 @@ mod field;
 mod identifier_view;
 mod object_identifier;
 mod owned_any;
-mod printed;
 mod strict;
 
 pub use algorithm_identifier::{

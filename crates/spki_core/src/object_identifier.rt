@@ -3,12 +3,12 @@ ghost use Rattle.std.specs.Prelude.{◌≡◌, ◌-◌, ℕ, ◌≤◌, ◌<◌,
 ghost use Rattle.std.specs.Prelude.{IsTrue, IfOk, IfErr, true};
 ghost use Rattle.std.proofs.Math.ListN.{replicate};
 ghost use Rattle.spki_core.specs.IdentifierTest as specs;
-ghost use Rattle.spki_core.specs.ObjectIdentifier.{IsIdentifier, IdentifierContents};
+ghost use Rattle.spki_core.specs.ObjectIdentifier.{IsIdentifier};
 ghost use Rattle.der_core.specs.Words.{Answers};
 ghost use Rattle.spki_core.specs.Readings.{identifier_read};
-ghost use Rattle.spki_core.specs.Laws.Readings.{identifier_reads};
-ghost use Rattle.spki_core.specs.Laws.Identifiers.{identifier_means_one, identifier_contents_of_bytes};
-ghost use Rattle.spki_core.specs.Laws.Identifiers.{identifier_contents_relate, identifier_contents_shortest};
+ghost use Rattle.spki_core.specs.Laws.Printed.Readings.{oid_law};
+ghost use Rattle.der_core.specs.Words.{alike, one_spelling};
+ghost use Rattle.standard.specs.Statement as standard;
 ghost use Rattle.std.proofs.Common.{rules};
 ghost use Rattle.std.specs.Hash as fed;
 ghost use Rattle.std.specs.Str.{bytes_eq};
@@ -225,19 +225,25 @@ impl Contents for ObjectIdentifier {
 
     ghost value = { own_octets_of };
 
-    ghost contents = { IdentifierContents };
+    ghost Spelling = { List ℕ };
 
-    ghost has_contents = { IsIdentifier };
+    ghost means = { λ oid. oid };
 
-    ghost written_contents = { λ oid. oid };
+    ghost written = { λ oid. oid };
+
+    ghost valid = { standard.IsIdentifier };
+
+    ghost printed = { λ oid. oid };
+
+    ghost read_spelling = { identifier_read };
 
     ghost read = { identifier_read };
 
-    ghost reads = { identifier_reads };
+    ghost law = { oid_law };
 
-    ghost means_one = { identifier_means_one };
+    ghost shortest = { one_spelling standard.IsIdentifier (λ oid. oid) };
 
-    ghost contents_of_bytes = { identifier_contents_of_bytes };
+    ghost reads_alike = { alike identifier_read };
 }
 
 impl TaggedBy for ObjectIdentifier {
@@ -279,8 +285,4 @@ impl EncodeValue for ObjectIdentifier {
     fn prepend_value(&self, writer: &mut BackWriter<'_>) {
         writer.prepend(self.as_bytes());
     }
-
-    ghost contents_relate = { λ oid has fits. identifier_contents_relate oid has };
-
-    ghost contents_shortest = { identifier_contents_shortest };
 }

@@ -2,10 +2,11 @@
 ghost use Rattle.std.specs.Prelude.{◌≡◌, ◌≤◌, ◌<◌, ◌⊎◌, ℕ, length, slice_index, IfOk, IfErr};
 ghost use Rattle.der_core.specs.Words.{limit};
 ghost use Rattle.spki_core.specs.Readings.{any};
-ghost use Rattle.spki_core.specs.Laws.Readings.{any_reads};
-ghost use Rattle.spki_core.specs.Any.{TagAndContents, IsAny, written_any};
-ghost use Rattle.spki_core.specs.Any as grammar;
-ghost use Rattle.spki_core.specs.Laws.AnyEncodings.{any_delimited, any_of_bytes, any_relates, any_shortest};
+ghost use Rattle.spki_core.specs.Any.{TagAndContents};
+ghost use Rattle.spki_core.specs.Laws.Printed.Readings.{any_law};
+ghost use Rattle.spki_core.specs.Laws.Printed.Shortest.{any_some};
+ghost use Rattle.der_core.specs.Words.{Prints, front_alike, one_spelling};
+ghost use Rattle.standard.specs.Statement as standard;
 
 use crate::any::{AnyParams, AnyRef, AnyValue};
 use der_core::{
@@ -69,23 +70,31 @@ impl Encoding for Any {
 
     ghost value = { own_any_of };
 
-    ghost encoding = { grammar.Any };
+    ghost Spelling = { TagAndContents };
 
-    ghost has_encoding = { IsAny };
+    ghost means = { λ v. v };
 
-    ghost written_encoding = { written_any };
+    ghost written = { λ v. v };
+
+    ghost valid = { standard.IsAny };
+
+    ghost printed = { standard.any };
+
+    ghost read_spelling = { any };
 
     ghost read_front = { any };
 
-    ghost reads_front = { any_reads };
+    ghost law = { any_law };
 
-    ghost delimited = { any_delimited };
+    ghost shortest = { one_spelling standard.IsAny standard.any };
 
-    ghost encoding_of_bytes = { any_of_bytes };
+    ghost some = { any_some };
+
+    ghost reads_alike = { front_alike any };
 }
 
 impl<'a> Decode<&'a [u8], Global> for Any {
-    ghost may_allocate = { λ b. (v : TagAndContents) × grammar.Any v b };
+    ghost may_allocate = { λ b. (v : TagAndContents) × Prints standard.IsAny standard.any (λ v. v) v b };
 
     fn decode<R: Reader<&'a [u8]>>(memory: Global, reader: &mut R) -> Result<Any> {
         let any = AnyRef::decode(NoMemory, reader)?;
@@ -113,10 +122,6 @@ impl Encode for Any {
     fn prepend(&self, writer: &mut BackWriter<'_>) {
         self.as_any_ref().prepend(writer);
     }
-
-    ghost encoding_relates = { any_relates };
-
-    ghost encoding_shortest = { any_shortest };
 }
 
 impl EqualByValue for Any {
@@ -142,7 +147,7 @@ impl AnyValue for Any {
 
     ghost holds = { holds_itself own_any_of };
 
-    ghost writes = { writes_itself own_any_of IsAny written_any };
+    ghost writes = { writes_itself own_any_of standard.IsAny standard.any };
 
     ghost held = { own_any_held };
 }

@@ -2,4 +2,3 @@
 pub mod Readings
 pub mod Shortest
 pub mod Alike
-pub mod Written

@@ -1,16 +1,29 @@
-use Rattle.std.proofs.Common.{◌≡◌, ℕ, List, [], length, ap, ◌∙◌, arith, append-nil, length-append}
+use Rattle.std.proofs.Common.{◌≡◌, ℕ, List, [], ◌++◌, ◌≤◌, length, refl, sym, subst, ap, ◌∙◌, arith, append-nil}
+use Rattle.der_core.specs.Encodings.{Is}
 use Rattle.der_core.specs.Laws.Encodings.{tlv_split}
+use Rattle.der_core.specs.Laws.Printed.Leaves.{tlv_made}
+use Rattle.der_core.specs.Laws.Printed.Rows.{prints_one, tagged_law}
+use Rattle.der_core.specs.Laws.ShortEncodings.{tlv_short}
+use Rattle.der_core.specs.Tags.{object_identifier}
+use Rattle.der_core.specs.Tlv.{Tlv, tlv}
 use Rattle.spki_core.specs.Allocating.{AlgorithmAllocates, NothingAskedAlone}
-use Rattle.spki_core.specs.Laws.Identifiers.{identifier_delimited}
+use Rattle.spki_core.specs.Laws.Printed.Readings.{oid_law}
 use Rattle.spki_core.proofs.algorithm_identifier.lemma_identifier_alone_takes_no_memory.Goals as goal
 
 none_alone : (may_allocate : List ℕ → Type 0) → NothingAskedAlone (AlgorithmAllocates may_allocate)
-none_alone may_allocate oid encoding alone (b, rest, is, asks) =
-    let (_, _, _, c, only, (other, (front, last, identifier, (more, _), split))) =
+none_alone may_allocate oid encoding held same (b, rest, is, asks) =
+    let few : length (tlv 6 oid) ≤ 167 = tlv_short 6 39 oid held.4 (omega arith) in
+    let alone : Tlv 48 (Is (tlv 6 oid)) encoding =
+    subst (Tlv 48 (Is (tlv 6 oid))) (sym same)
+    (tlv_made 48 (tlv 6 oid) refl (omega (arith, tlv_short 48 167 (tlv 6 oid) few (omega arith)))) in
+    let (_, _, _, c, only, (other, (front, last, (o, e, identifier, printed), (more, _), split))) =
     tlv_split encoding [] b rest alone asks (append-nil encoding ∙ is) in
-    let same : c ≡ front =
-    (identifier_delimited.one oid other c [] front last only identifier (append-nil c ∙ split)).0 in
-    omega (arith, more, ap length same, ap length split, length-append front last)
+    let both : tlv 6 oid ++ [] ≡ tlv 6 o ++ last =
+    append-nil (tlv 6 oid) ∙ sym only ∙ split ∙ ap (λ x. x ++ last) printed in
+    let one =
+    prints_one (tagged_law oid_law object_identifier) oid o [] last held identifier
+    (omega (arith, few, ap length (append-nil (tlv 6 oid)))) both in
+    omega (arith, more, ap length one.1)
 
 pub returns : goal.returns
 returns g c = none_alone g.P.Decode.may_allocate

@@ -7,14 +7,16 @@ use Rattle.std.specs.Prelude.{◌||◌, nat_lt, IsTrue}
 use Rattle.der_core.specs.declared.error.ErrorKind.{ErrorKind}
 use Rattle.der_core.specs.declared.error.ErrorKind.TheVariants.{TagUnknown}
 use Rattle.der_core.specs.Laws.LengthReading.{chosen}
+use Rattle.der_core.specs.Laws.Printed.Alike.{front_alike}
 use Rattle.der_core.specs.Laws.Printed.Leaves.{tlv_is, tlv_made}
 use Rattle.der_core.specs.Laws.Printed.Optional.{last_law}
+use Rattle.der_core.specs.Laws.Printed.Values.{reads_front}
 use Rattle.der_core.specs.Laws.Printed.Rows.{alone_law, made_law, row_law, tagged_law}
 use Rattle.der_core.specs.Laws.Readings.{bind_ok, made_tells, ok_same}
 use Rattle.der_core.specs.Laws.TaggedReadings.{by_tag_reads}
-use Rattle.der_core.specs.Printed.{ReadsFrontPrinted, ReadsPrinted}
+use Rattle.der_core.specs.Printed.{Prints, ReadsFrontPrinted, ReadsPrinted}
 use Rattle.der_core.specs.Reading.{TellsOfBytes}
-use Rattle.der_core.specs.Readings.{FrontReading, Reading, ReadsContents, alone, by_tag, ◌>>=◌}
+use Rattle.der_core.specs.Readings.{FrontReading, Reading, ReadsContents, ReadsFronts, alone, by_tag, ◌>>=◌}
 use Rattle.der_core.specs.Tag.{context_tag, is_allowed}
 use Rattle.der_core.specs.Tags.{object_identifier}
 use Rattle.spki_core.specs.AlgorithmIdentifier.{algorithm_contents}
@@ -90,6 +92,10 @@ opaque_law t allowed = record {
 pub any_law : ReadsFrontPrinted IsAny standard.any any
 any_law =
     by_tag_law (λ (v : TagAndContents). v.tag) (λ v. v.contents) opaque opaque_law (λ t c k e. cc) (λ v ok. ok.0)
+
+-- The function reads the values of these encodings.
+pub any_values : ReadsFronts (Prints IsAny standard.any (λ v. v)) any
+any_values = reads_front any_law (front_alike any)
 
 -- Explicit tags.
 module _ {S : Type 0} {valid : S → Type 0} {printed : S → List ℕ} {at : FrontReading S}

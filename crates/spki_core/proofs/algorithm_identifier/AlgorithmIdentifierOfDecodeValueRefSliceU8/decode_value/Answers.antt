@@ -6,15 +6,19 @@ use Rattle.der_core.specs.Parts.{AllocatesInParts}
 use Rattle.der_core.specs.Reading.{AllocatesLast}
 use Rattle.der_core.specs.Readings.{last, parts, tagged}
 use Rattle.der_core.specs.Tags.{object_identifier}
-use Rattle.der_core.specs.Tlv.{Tlv}
+use Rattle.der_core.specs.Printed.{Prints}
+use Rattle.der_core.specs.Tlv.{Tlv, tlv}
 use Rattle.spki_core.specs.Allocating.{AllocatesForParameters}
-use Rattle.spki_core.specs.ObjectIdentifier.{ObjectIdentifier}
+use Rattle.spki_core.specs.ObjectIdentifier.{IsIdentifier}
 use Rattle.spki_core.specs.Readings.{identifier_read, of_algorithm_parts}
 use Rattle.spki_core.proofs.algorithm_identifier.AlgorithmIdentifierOfDecodeValueRefSliceU8.decode_value.Goals as goal
 
+abbrev Identifier : List ℕ → List ℕ → Type 0
+Identifier = Prints IsIdentifier (λ oid. tlv object_identifier.octet oid) (λ oid. oid)
+
 -- Of the two parts, the object identifier asks for no memory.
 parameters_ask : (may : List ℕ → Type 0) (c : List ℕ)
-    → AllocatesInParts ObjectIdentifier (Tlv object_identifier.octet (λ _. ⊥)) (AllocatesLast may) c
+    → AllocatesInParts Identifier (Tlv object_identifier.octet (λ _. ⊥)) (AllocatesLast may) c
     → AllocatesForParameters may c
 parameters_ask may c w = ⊎_elim (λ a. absurd a.3.holds) (λ a. a) w
 

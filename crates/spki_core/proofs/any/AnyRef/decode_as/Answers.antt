@@ -2,6 +2,7 @@ use Rattle.std.proofs.Common.{ap, ◌∙◌, sym, inr}
 use Rattle.der_core.specs.declared.error.ErrorKind.TheVariants.{TagUnexpected}
 use Rattle.der_core.specs.Laws.Input.{are_bytes}
 use Rattle.der_core.proofs.ReadSteps.{ne_true, ne_false}
+use Rattle.der_core.specs.Laws.Printed.Values.{reads}
 use Rattle.spki_core.specs.AnyRefValue.{any_of}
 use Rattle.spki_core.proofs.Readings.{any_as_other, read_as_any}
 use Rattle.spki_core.proofs.any.AnyRef.decode_as.Goals as goal
@@ -16,6 +17,6 @@ returns-then-ne-clause-exact g c =
 pub returns-clause-ok : goal.returns-clause-ok
 returns-clause-ok g c =
     let same = ne_false _ _ _ _ c.if-ne.false c.ne.ensures (ap (λ t. t.octet) c.TAG.ensures) in
-    read_as_any g.T.Contents.value g.T.FixedTag.TAG g.T.Contents.reads (any_of c.args.self) _
+    read_as_any g.T.Contents.value g.T.FixedTag.TAG (reads g.T.Contents.law g.T.Contents.reads_alike) (any_of c.args.self) _
     (are_bytes _ c.args.self.octets) (sym c.tag.ensures ∙ same) _ _ c.in_ok-reader.ensures.ok c.decode_value.result
     c.decode_value.ensures

@@ -5,18 +5,18 @@ use Rattle.der_core.proofs.Readings.{whole_reads}
 use Rattle.der_core.specs.Laws.SliceReaders.{left_of-bounded}
 use Rattle.der_core.proofs.ReadSteps.{reads_all, whole_trailing}
 use Rattle.spki_core.specs.AnyRefValue.{any_of}
-use Rattle.spki_core.specs.Laws.Readings.{any_reads}
+use Rattle.spki_core.specs.Laws.Printed.Readings.{any_values}
 use Rattle.spki_core.specs.Readings.{any}
 use Rattle.spki_core.proofs.any.AnyRefDecodeRefSliceU8.from_der.Goals as goal
 
 pub returns-in_err-reader-clause-encoding : goal.returns-in_err-reader-clause-encoding
 returns-in_err-reader-clause-encoding g c =
-    reads_all any_of any c.args.bytes.now (whole_reads any_reads) _ c.from_residual.result
+    reads_all any_of any c.args.bytes.now (whole_reads any_values) _ c.from_residual.result
     (are_bytes _ (λ i. omega (arith, c.type_inv.bytes i))) (search rules)
 
 pub returns-in_err-any-clause-encoding : goal.returns-in_err-any-clause-encoding
 returns-in_err-any-clause-encoding g c =
-    reads_all any_of any c.args.bytes.now (whole_reads any_reads) _ c.from_residual-in_err-any.result
+    reads_all any_of any c.args.bytes.now (whole_reads any_values) _ c.from_residual-in_err-any.result
     (are_bytes _ (λ i. omega (arith, c.type_inv.bytes i))) (search rules)
 
 pub returns-in_err-finish-clause-exact : goal.returns-in_err-finish-clause-exact
@@ -27,10 +27,10 @@ returns-in_err-finish-clause-exact g c =
 
 pub returns-in_err-finish-clause-encoding : goal.returns-in_err-finish-clause-encoding
 returns-in_err-finish-clause-encoding g c =
-    reads_all any_of any c.args.bytes.now (whole_reads any_reads) _ c.from_residual-in_err-finish.result
+    reads_all any_of any c.args.bytes.now (whole_reads any_values) _ c.from_residual-in_err-finish.result
     (are_bytes _ (λ i. omega (arith, c.type_inv.bytes i))) (returns-in_err-finish-clause-exact g c)
 
 pub returns-clause-encoding : goal.returns-clause-encoding
 returns-clause-encoding g c =
-    reads_all any_of any c.args.bytes.now (whole_reads any_reads) (λ _. ⊥) (Ok c.in_ok-any.any)
+    reads_all any_of any c.args.bytes.now (whole_reads any_values) (λ _. ⊥) (Ok c.in_ok-any.any)
     (are_bytes _ (λ i. omega (arith, c.type_inv.bytes i))) (search rules)

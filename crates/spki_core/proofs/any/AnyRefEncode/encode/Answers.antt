@@ -3,8 +3,8 @@ use Rattle.std.proofs.lemmas.Result.{err_from_is_err_and}
 use Rattle.der_core.specs.Length.{limit, length_octets}
 use Rattle.der_core.proofs.NotWritten.{stopped}
 use Rattle.der_core.proofs.StoppedWriting.{appends_nothing, appends_at_once, appends_behind}
-use Rattle.spki_core.specs.Any.{Any, written_any}
-use Rattle.spki_core.specs.Laws.AnyEncodings.{any_relates, any_shortest}
+use Rattle.der_core.specs.Laws.Printed.Shortest.{one_spelling}
+use Rattle.spki_core.specs.Any.{IsAny, written_any}
 use Rattle.spki_core.specs.AnyRefValue.{any_of}
 use Rattle.spki_core.proofs.any.AnyRefEncode.encode.Goals as goal
 
@@ -30,7 +30,7 @@ returns-in_err-write-clause-appends g c =
 pub returns-in_err-write-clause-err : goal.returns-in_err-write-clause-err
 returns-in_err-write-clause-err g c =
     let any = any_of c.args.self.now in
-    stopped Any any _ (any_shortest any) (any_relates any) _ _ _ _ (returns-in_err-write-clause-appends g c).left
+    stopped (one_spelling IsAny written_any) any _ _ _ _ (returns-in_err-write-clause-appends g c).left
 
 pub returns-clause-appends : goal.returns-clause-appends
 returns-clause-appends g c =
@@ -49,4 +49,4 @@ returns-clause-appends g c =
 pub returns-clause-err : goal.returns-clause-err
 returns-clause-err g c =
     let any = any_of c.args.self.now in
-    stopped Any any _ (any_shortest any) (any_relates any) _ _ _ _ (returns-clause-appends g c).left
+    stopped (one_spelling IsAny written_any) any _ _ _ _ (returns-clause-appends g c).left

@@ -1,7 +1,7 @@
 use Rattle.der_core.proofs.Counting.{counts_encoding}
 use Rattle.der_core.proofs.NotWritten.{uncounted}
-use Rattle.spki_core.specs.Any.{Any}
-use Rattle.spki_core.specs.Laws.AnyEncodings.{any_shortest}
+use Rattle.der_core.specs.Laws.Printed.Shortest.{one_spelling}
+use Rattle.spki_core.specs.Any.{IsAny, written_any}
 use Rattle.spki_core.specs.AnyRefValue.{any_of}
 use Rattle.der_core.specs.Laws.Input.{are_bytes}
 use Rattle.spki_core.proofs.any.AnyRefEncode.encoded_len.Goals as goal
@@ -15,4 +15,4 @@ returns-clause-counted c =
 pub returns-clause-err : goal.returns-clause-err
 returns-clause-err c =
     let any = any_of c.args.self.now in
-    uncounted Any any _ (any_shortest any) _ (returns-clause-counted c)
+    uncounted (one_spelling IsAny written_any) any _ (returns-clause-counted c)

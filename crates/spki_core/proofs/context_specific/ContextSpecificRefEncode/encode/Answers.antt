@@ -4,8 +4,8 @@ use Rattle.der_core.specs.Length.{limit, length_octets}
 use Rattle.der_core.specs.Tlv.{tlv}
 use Rattle.der_core.proofs.NotWritten.{stopped}
 use Rattle.der_core.proofs.StoppedWriting.{appends_nothing, appends_too_long, appends_behind}
-use Rattle.spki_core.specs.ContextSpecific.{Numbered, ContextSpecific}
-use Rattle.spki_core.specs.Laws.ContextSpecific.{numbered_relates, numbered_shortest}
+use Rattle.spki_core.specs.ContextSpecific.{Numbered}
+use Rattle.spki_core.specs.Laws.Printed.Shortest.{numbered_writes_shortest}
 use Rattle.spki_core.proofs.context_specific.ContextSpecificRefEncode.encode.Goals as goal
 
 pub returns-in_err-for_tlv-clause-appends : goal.returns-in_err-for_tlv-clause-appends
@@ -13,7 +13,7 @@ returns-in_err-for_tlv-clause-appends g c =
     let p = err_from_is_err_and c.from_residual-in_err-for_tlv.result c.from_residual-in_err-for_tlv.ensures.1 in
     let t = g.T.Encoding in
     let number = c.args.self.now.tag_number in
-    let encoding = t.written_encoding (t.value c.args.self.now.value.now) in
+    let encoding = t.printed (t.written (t.value c.args.self.now.value.now)) in
     let all = c.in_ok-length.ensures.counted in
     let size : length (length_octets c.in_ok-length.length) ≡ length (length_octets (length encoding)) =
     ap (λ n. length (length_octets n)) all.1 in
@@ -27,9 +27,7 @@ returns-in_err-for_tlv-clause-err g c =
     let t = g.T.Encoding in
     let v : Numbered t.Value =
     record { number = c.args.self.now.tag_number.value; value = t.value c.args.self.now.value.now } in
-    stopped (ContextSpecific t.encoding) v _
-    (numbered_shortest t.encoding t.has_encoding t.written_encoding g.met.T.Encode.encoding_shortest v)
-    (numbered_relates t.encoding t.has_encoding t.written_encoding g.met.T.Encode.encoding_relates v) _ _ _ _
+    stopped (numbered_writes_shortest t.shortest) v _ _ _ _
     (returns-in_err-for_tlv-clause-appends g c).left
 
 pub returns-in_err-write-clause-appends : goal.returns-in_err-write-clause-appends
@@ -38,7 +36,7 @@ returns-in_err-write-clause-appends g c =
     let t = g.T.Encoding in
     let v = t.value c.args.self.now.value.now in
     let number = c.args.self.now.tag_number in
-    let encoding = t.written_encoding v in
+    let encoding = t.printed (t.written v) in
     let all = c.in_ok-length.ensures.counted in
     let size : length (length_octets c.in_ok-length.length) ≡ length (length_octets (length encoding)) =
     ap (λ n. length (length_octets n)) all.1 in
@@ -62,9 +60,7 @@ returns-in_err-write-clause-err g c =
     let t = g.T.Encoding in
     let v : Numbered t.Value =
     record { number = c.args.self.now.tag_number.value; value = t.value c.args.self.now.value.now } in
-    stopped (ContextSpecific t.encoding) v _
-    (numbered_shortest t.encoding t.has_encoding t.written_encoding g.met.T.Encode.encoding_shortest v)
-    (numbered_relates t.encoding t.has_encoding t.written_encoding g.met.T.Encode.encoding_relates v) _ _ _ _
+    stopped (numbered_writes_shortest t.shortest) v _ _ _ _
     (returns-in_err-write-clause-appends g c).left
 
 pub returns-clause-appends : goal.returns-clause-appends
@@ -72,7 +68,7 @@ returns-clause-appends g c =
     let t = g.T.Encoding in
     let v = t.value c.args.self.now.value.now in
     let number = c.args.self.now.tag_number in
-    let encoding = t.written_encoding v in
+    let encoding = t.printed (t.written v) in
     let head = c.to_bytes.result.items in
     let all = c.in_ok-length.ensures.counted in
     let whole : tlv (160 + number.value) encoding ≡ head ++ encoding = search rules in
@@ -90,7 +86,5 @@ returns-clause-err g c =
     let t = g.T.Encoding in
     let v : Numbered t.Value =
     record { number = c.args.self.now.tag_number.value; value = t.value c.args.self.now.value.now } in
-    stopped (ContextSpecific t.encoding) v _
-    (numbered_shortest t.encoding t.has_encoding t.written_encoding g.met.T.Encode.encoding_shortest v)
-    (numbered_relates t.encoding t.has_encoding t.written_encoding g.met.T.Encode.encoding_relates v) _ _ _ _
+    stopped (numbered_writes_shortest t.shortest) v _ _ _ _
     (returns-clause-appends g c).left

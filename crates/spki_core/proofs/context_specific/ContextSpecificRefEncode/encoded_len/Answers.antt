@@ -1,15 +1,15 @@
 use Rattle.std.proofs.Common.{◌+◌}
 use Rattle.der_core.proofs.Counting.{counts_encoding}
 use Rattle.der_core.proofs.NotWritten.{uncounted}
-use Rattle.spki_core.specs.ContextSpecific.{Numbered, ContextSpecific}
-use Rattle.spki_core.specs.Laws.ContextSpecific.{numbered_shortest}
+use Rattle.spki_core.specs.ContextSpecific.{Numbered}
+use Rattle.spki_core.specs.Laws.Printed.Shortest.{numbered_writes_shortest}
 use Rattle.spki_core.proofs.context_specific.ContextSpecificRefEncode.encoded_len.Goals as goal
 
 pub returns-clause-counted : goal.returns-clause-counted
 returns-clause-counted g c =
     let number = c.args.self.now.tag_number in
     let all = c.in_ok-encoded_len.ensures.counted in
-    counts_encoding (160 + number.value) (g.T.Encoding.written_encoding (g.T.Encoding.value c.args.self.now.value.now))
+    counts_encoding (160 + number.value) (g.T.Encoding.printed (g.T.Encoding.written (g.T.Encoding.value c.args.self.now.value.now)))
     _ _ (number.fits, all.0) all.1 c.for_tlv.ensures.ok c.for_tlv.ensures.err
 
 pub returns-clause-err : goal.returns-clause-err
@@ -17,6 +17,5 @@ returns-clause-err g c =
     let t = g.T.Encoding in
     let v : Numbered t.Value =
     record { number = c.args.self.now.tag_number.value; value = t.value c.args.self.now.value.now } in
-    uncounted (ContextSpecific t.encoding) v _
-    (numbered_shortest t.encoding t.has_encoding t.written_encoding g.met.T.Encode.encoding_shortest v) _
+    uncounted (numbered_writes_shortest t.shortest) v _
     (returns-clause-counted g c)

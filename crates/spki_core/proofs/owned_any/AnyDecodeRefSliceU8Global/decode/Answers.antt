@@ -1,6 +1,6 @@
 use Rattle.std.proofs.Common.{◌∙◌, inl}
 use Rattle.der_core.proofs.ReadSteps.{front_asks}
-use Rattle.spki_core.specs.Laws.Readings.{any_reads}
+use Rattle.spki_core.specs.Laws.Printed.Readings.{any_values}
 use Rattle.spki_core.proofs.owned_any.AnyDecodeRefSliceU8Global.decode.Goals as goal
 
 pub returns-in-Err : goal.returns-in-Err
@@ -8,6 +8,6 @@ returns-in-Err g c = (
   c.error.ensures.failed,
   inl (
     c.error.ensures.value ∙ c.kind.ensures ∙ c.in-Err.ensures.err,
-    front_asks any_reads _ _ _ (g.R.BytesLeft.bytes c.args.reader.now) c.in_ok-any.ensures,
+    front_asks any_values _ _ _ (g.R.BytesLeft.bytes c.args.reader.now) c.in_ok-any.ensures,
   ),
 )

@@ -2,22 +2,23 @@ use Rattle.std.proofs.Common.{arith}
 use Rattle.der_core.specs.Laws.Input.{are_bytes}
 use Rattle.der_core.proofs.Readings.{whole_reads}
 use Rattle.der_core.proofs.ReadSteps.{copy_returns, reads_all}
-use Rattle.spki_core.specs.Any.{Any}
+use Rattle.der_core.specs.Printed.{Prints}
+use Rattle.spki_core.specs.Any.{IsAny, written_any}
 use Rattle.spki_core.specs.AnyRefValue.{any_of}
-use Rattle.spki_core.specs.Laws.Readings.{any_reads}
+use Rattle.spki_core.specs.Laws.Printed.Readings.{any_values}
 use Rattle.spki_core.specs.OwnedAnyValue.{own_any_of}
 use Rattle.spki_core.specs.Readings.{any}
 use Rattle.spki_core.proofs.owned_any.AnyDecodeRefSliceU8Global.from_der.Goals as goal
 
 pub returns-clause-exact : goal.returns-clause-exact
 returns-clause-exact c =
-    copy_returns own_any_of Any _ c.args.bytes.now (any_of c.in_ok-any.any) c.in_ok-any.ensures.encoding.0
+    copy_returns own_any_of (Prints IsAny written_any (λ v. v)) _ c.args.bytes.now (any_of c.in_ok-any.any) c.in_ok-any.ensures.encoding.0
     c.in_ok-any.ensures.exact c.copy_of.result (rw (c.tag.ensures, c.value.ensures.contents) at c.copy_of.ensures.ok)
     c.copy_of.ensures.err
 
 pub returns-clause-encoding : goal.returns-clause-encoding
 returns-clause-encoding c =
-    reads_all own_any_of any _ (whole_reads any_reads) _ _ (are_bytes _ (λ i. omega (arith, c.type_inv.bytes i)))
-    (copy_returns own_any_of Any _ c.args.bytes.now (any_of c.in_ok-any.any) c.in_ok-any.ensures.encoding.0
+    reads_all own_any_of any _ (whole_reads any_values) _ _ (are_bytes _ (λ i. omega (arith, c.type_inv.bytes i)))
+    (copy_returns own_any_of (Prints IsAny written_any (λ v. v)) _ c.args.bytes.now (any_of c.in_ok-any.any) c.in_ok-any.ensures.encoding.0
     c.in_ok-any.ensures.exact c.copy_of.result (rw (c.tag.ensures, c.value.ensures.contents) at c.copy_of.ensures.ok)
     c.copy_of.ensures.err)
