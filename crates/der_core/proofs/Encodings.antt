@@ -19,12 +19,6 @@ tlv_made t P c p l =
     let o = length_made (length c) l in
     (t ∷ o.0 ++ c, record { octets = o.0; contents = c; counted = o.1; holds = p; written = refl }, refl)
 
--- An encoding is little longer than its contents.
-pub tlv_little_longer : {t : ℕ} {P : List ℕ → Type 0} (encoding : List ℕ) (p : Tlv t P encoding)
-    → length encoding ≤ length p.contents + 128
-tlv_little_longer encoding p =
-    rw p.written (omega (arith, length_few (length p.contents) p.octets p.counted, length-append p.octets p.contents))
-
 -- The length of an encoding, by that of its contents.
 pub tlv_length : (n t : ℕ) (c encoding : List ℕ) → length c ≡ n → Tlv t (Is c) encoding
     → length encoding ≡ 1 + length (length_octets n) + n

@@ -4,7 +4,7 @@ use Rattle.std.proofs.Common.{append_assoc, length-append, map, Ok, inl, inr, ‚ä
 use Rattle.std.proofs.Common.{false, Bool}
 use Rattle.std.proofs.lemmas.List.{map-append}
 use Rattle.std.specs.Prelude.{slice_get}
-use Rattle.der_core.specs.Encodings.{Joins, IsDelimited}
+use Rattle.der_core.specs.Encodings.{Joins}
 use Rattle.der_core.specs.declared.error.ErrorKind.{ErrorKind}
 use Rattle.der_core.specs.Input.{Input, left_in, read_from}
 use Rattle.der_core.specs.Reading.{HoldsBytes, AllocatesIn, AllocatesForItems, Begins}

@@ -10,7 +10,6 @@ pub mod ReadSteps
 pub mod BitLength
 pub mod Counting
 pub mod Encodings
-pub mod FrontParts
 pub mod FrontsAreUnique
 pub mod ContentsShorter
 pub mod Headers
@@ -20,8 +19,6 @@ pub mod Items
 pub mod LengthLaws
 pub mod Members
 pub mod NotWritten
-pub mod OctetString
-pub mod PartsLaws
 pub mod Readings
 pub mod Shortest
 pub mod SmallReading

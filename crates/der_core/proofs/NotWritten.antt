@@ -1,5 +1,5 @@
 -- Why a value isn't written, by its written spelling.
-use Rattle.std.proofs.Common.{ℕ, List, ◌≡◌, ◌<◌, ◌≤◌, length, sym, subst, ap, ◌∙◌, arith, inl, inr}
+use Rattle.std.proofs.Common.{ℕ, List, ◌<◌, ◌≤◌, length, subst, ap, ◌∙◌, arith, inl, inr}
 use Rattle.std.specs.Prelude.{Result, Ok, Err, IfErr}
 use Rattle.der_core.specs.Length.{limit}
 use Rattle.der_core.specs.Document.{Means, IsShortest, WhyNotCounted, WhyNotWritten, EncodeError}

@@ -21,8 +21,8 @@ use Rattle.der_core.proofs.TaggedReadings.{other_behind}
 use Rattle.der_core.specs.Length.{limit}
 use Rattle.der_core.specs.Parts.{AllocatesInParts}
 use Rattle.der_core.specs.Printed.{ReadsPrinted}
-use Rattle.der_core.specs.Reading.{AllocatesBehind, AllocatesIn, Asks, FaultOrMemory, Returns, ReadsAll}
-use Rattle.der_core.specs.Readings.{Reading, FrontReading, ◌>>=◌, chain, ended, expected, front_parts, made, parts}
+use Rattle.der_core.specs.Reading.{AllocatesIn, Asks, FaultOrMemory, Returns, ReadsAll}
+use Rattle.der_core.specs.Readings.{Reading, FrontReading, ◌>>=◌, chain, ended, expected, front_parts, parts}
 use Rattle.der_core.specs.Readings.{such, alone, tagged}
 use Rattle.der_core.specs.Readings.{contents_behind, inside, whole, ReadsContents, ReadsFronts}
 use Rattle.der_core.specs.Tags.{integer}
@@ -111,21 +111,6 @@ parts_fail law rest first later a e (Some i) mid after bytes (left, p, is) (fail
   failed,
   inr
       (ap (λ r. r >>= λ p. rest p.1 >>= λ b. Ok (p.0, b)) p ∙ ap (λ r. r >>= λ b. Ok (a, b)) (rw is at q)),
-)
-
--- A first part that asks for no memory, and what follows it.
-pub behind_fails : {A B C : Type 0} {First : A → List ℕ → Type 0} {at : FrontReading A} → ReadsFronts First at
-    → (rest : Reading B) (make : A × B → C) (later : List ℕ → Type 0) (x : A) (before mid after : Input) (e : ErrorKind)
-    → AreBytes (left_in before) → Gives at x before mid → Fails rest later e mid after
-    → Fails (made make (parts at rest)) (AllocatesBehind First later) e before after
-behind_fails law rest make later x None mid after e bytes (left, p, is) fails = let no = p in cc
-behind_fails law rest make later x (Some i) mid after e bytes (left, p, is) (failed, inl w) =
-    let s = law.gives i left x bytes p in (failed, inl (w.0, (x, (s.0, left, s.2, rw is at w.1, s.1))))
-behind_fails law rest make later x (Some i) mid after e bytes (left, p, is) (failed, inr q) = (
-  failed,
-  inr
-      (ap (λ r. (r >>= λ p. rest p.1 >>= λ b. Ok (p.0, b)) >>= λ a. Ok (make a)) p
-      ∙ ap (λ r. (r >>= λ b. Ok (x, b)) >>= λ a. Ok (make a)) (rw is at q)),
 )
 
 -- What was read at the front, by the grammar, and that memory may be asked for it. A fault, where none is asked for.

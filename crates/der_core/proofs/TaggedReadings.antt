@@ -6,7 +6,7 @@ use Rattle.der_core.specs.declared.error.ErrorKind.{ErrorKind}
 use Rattle.der_core.specs.declared.error.ErrorKind.TheVariants.{TagUnexpected, TagUnknown}
 use Rattle.der_core.specs.declared.tag.Tag.{Tag}
 use Rattle.der_core.specs.Document.{Means}
-use Rattle.der_core.specs.Encodings.{AreBytes, IsDelimited}
+use Rattle.der_core.specs.Encodings.{AreBytes}
 use Rattle.der_core.specs.Laws.Readings.{behind_within, any_read}
 use Rattle.der_core.proofs.Readings.{whole_reads}
 use Rattle.der_core.specs.Laws.Tags.{same_tag}

@@ -1,5 +1,5 @@
 -- Encodings as a whole, within the limit on their length.
-use Rattle.std.specs.Prelude.{ℕ, List, ◌≡◌, ◌<◌, ◌≤◌, ◌⊎◌, ◌↔◌, length, take, drop}
+use Rattle.std.specs.Prelude.{ℕ, List, ◌≡◌, ◌<◌, ◌≤◌, ◌⊎◌, ◌↔◌, length}
 use Rattle.der_core.specs.Tag.{sequence_tag}
 use Rattle.der_core.specs.Length.{limit}
 use Rattle.der_core.specs.Encodings.{AreBytes}
@@ -36,15 +36,6 @@ SameByShortest {V} Grammar =
 -- No encoding is one of both grammars.
 abbrev pub Excludes : {V W : Type 0} → (V → List ℕ → Type 0) → (W → List ℕ → Type 0) → Type 0
 Excludes {V} {W} G H = (v : V) (w : W) (encoding : List ℕ) → G v encoding → H w encoding → ⊥
-
--- The value has no other encoding within the limit.
-abbrev pub IsAlone : {V : Type 0} → (V → List ℕ → Type 0) → V → List ℕ → Type 0
-IsAlone Grammar v encoding = (other : List ℕ) → Spellings Grammar v other → other ≡ encoding
-
--- The first n bytes are the value's only encoding, and the others are as they were.
-abbrev pub IsWrittenAlone : {V : Type 0} → (V → List ℕ → Type 0) → V → List ℕ → List ℕ → ℕ → Type 0
-IsWrittenAlone Grammar v old new n =
-    (n ≤ length new) × IsShortest Grammar v (take n new) × IsAlone Grammar v (take n new) × (drop n new ≡ drop n old)
 
 -- Why a value isn't written.
 pub data EncodeError : Type 0 where

@@ -2,7 +2,6 @@
 pub mod ContentsReads
 pub mod Document
 pub mod Equality
-pub mod FrontParts
 pub mod ContentsShorter
 pub mod Headers
 pub mod Input
@@ -11,7 +10,6 @@ pub mod Length
 pub mod LengthReading
 pub mod Lists
 pub mod Numbers
-pub mod OctetString
 pub mod Optional
 pub mod OptionalReadings
 pub mod Parts

@@ -1,6 +1,7 @@
 -- An OPTIONAL part (X.680 25.10): nothing, or one encoding.
 use Rattle.std.specs.Prelude.{ℕ, List, [], ◌∷◌, ◌≡◌, Option, Some, None}
 use Rattle.der_core.specs.Encodings.{Is, Then}
+use Rattle.standard.specs.Statement.{IfPresent, optional}
 
 abbrev pub Optional : {V : Type 0} → (V → List ℕ → Type 0) → Option V → List ℕ → Type 0
 Optional Grammar None encoding = encoding ≡ []
@@ -18,9 +19,7 @@ OptionalRead octet Grammar bytes (Some v) rest = Then (Grammar v) (Is rest) byte
 
 -- Which parts can be written, and what is written.
 abbrev pub HasOptional : {V : Type 0} → (V → Type 0) → Option V → Type 0
-HasOptional has None = Unit {0}
-HasOptional has (Some v) = has v
+HasOptional has o = IfPresent has o
 
 abbrev pub written_optional : {V : Type 0} → (V → List ℕ) → Option V → List ℕ
-written_optional encoding None = []
-written_optional encoding (Some v) = encoding v
+written_optional encoding o = optional encoding o

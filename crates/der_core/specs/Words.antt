@@ -1,8 +1,8 @@
 -- The words that contracts cite, from all files of specs.
 pub use Rattle.der_core.specs.BackWriters.{Prepends, free_of}
 pub use Rattle.der_core.specs.Transfer.{WhyReadingStopped, WritesAll, piece}
-pub use Rattle.der_core.specs.Document.{Excludes, HasEncoding, IsAlone, IsDocument, IsMeaning, IsShortest}
-pub use Rattle.der_core.specs.Document.{IsWrittenAlone, Means, SameByShortest, WhyNotCounted, WhyNotWritten}
+pub use Rattle.der_core.specs.Document.{Excludes, HasEncoding, IsDocument, IsMeaning, IsShortest}
+pub use Rattle.der_core.specs.Document.{Means, SameByShortest, WhyNotCounted, WhyNotWritten}
 pub use Rattle.der_core.specs.DocumentValue.{encoding_of}
 pub use Rattle.der_core.specs.EncodeToSlice.{IsFront, LeavesRest}
 pub use Rattle.der_core.specs.Encodings.{AreBytes, AtMostOne, Is, IsDelimited, IsOfBytes, MeansOne}
@@ -38,24 +38,19 @@ pub use Rattle.der_core.specs.Tlv.{Tlv, tlv}
 pub use Rattle.der_core.specs.UintRefValue.{bytes_of}
 pub use Rattle.der_core.specs.UintValue.{own_bytes_of}
 pub use Rattle.der_core.specs.StdIo.{IsCreated, IsOpened, read_faults, reader_of, write_faults, writer_of}
-pub use Rattle.der_core.specs.Writing.{Appends, Counts, WritesEncodings, WritesLeast, encode_error, is_no_encoding}
-pub use Rattle.der_core.specs.Writing.{joined}
+pub use Rattle.der_core.specs.Writing.{Appends, Counts, Unwritten, WritesEncodings, WritesLeast, encode_error}
+pub use Rattle.der_core.specs.Writing.{is_no_encoding, joined}
 pub use Rattle.der_core.specs.Laws.Encodings.{joins_map, tlv_at_most_one, tlv_delimited, tlv_of_bytes, tlv_relates}
 pub use Rattle.der_core.specs.Laws.Encodings.{tlv_shortest}
 pub use Rattle.der_core.specs.Laws.Equality.{bytes_decide, number_decides}
-pub use Rattle.der_core.specs.Laws.FrontParts.{front_done_reads, front_parts_reads, no_parts_told_apart}
-pub use Rattle.der_core.specs.Laws.FrontParts.{parts_told_apart}
-pub use Rattle.der_core.specs.Laws.Integer.{contents_at_most_one, integer_delimited, small_contents_at_most_one}
+pub use Rattle.der_core.specs.Laws.Integer.{contents_at_most_one, small_contents_at_most_one}
 pub use Rattle.der_core.specs.Laws.Integer.{small_means_one, small_of_bytes}
-pub use Rattle.der_core.specs.Laws.OctetString.{octets_at_most_one, octets_mean_one, octets_of_bytes, octets_relate}
-pub use Rattle.der_core.specs.Laws.OctetString.{octets_shortest}
 pub use Rattle.der_core.specs.Laws.Optional.{optional_last}
-pub use Rattle.der_core.specs.Laws.OptionalReadings.{last_by_tag_reads}
-pub use Rattle.der_core.specs.Laws.Parts.{IsParts, as_parts, in_parts_at_most_one, in_parts_relate, in_parts_shortest}
-pub use Rattle.der_core.specs.Laws.Parts.{last_part_asks_none, last_part_at_most_one, last_part_of_bytes}
-pub use Rattle.der_core.specs.Laws.Parts.{last_part_relates, last_part_shortest, no_parts_at_most_one}
-pub use Rattle.der_core.specs.Laws.Parts.{no_parts_mean_one, no_parts_of_bytes, no_parts_relate, no_parts_shortest}
-pub use Rattle.der_core.specs.Laws.Parts.{parts_ask_none, parts_at_most_one, parts_mean_one, parts_of_bytes}
+pub use Rattle.der_core.specs.Laws.Parts.{IsParts}
+pub use Rattle.der_core.specs.Laws.Parts.{last_part_asks_none, last_part_of_bytes}
+pub use Rattle.der_core.specs.Laws.Parts.{last_part_relates, last_part_shortest}
+pub use Rattle.der_core.specs.Laws.Parts.{no_parts_relate, no_parts_shortest}
+pub use Rattle.der_core.specs.Laws.Parts.{parts_ask_none, parts_of_bytes}
 pub use Rattle.der_core.specs.Laws.Parts.{parts_relate, parts_shortest}
 pub use Rattle.der_core.specs.Laws.Printed.Alike.{alike, alone_alike, chain_alike, front_alike, front_row_alike}
 pub use Rattle.der_core.specs.Laws.Printed.Alike.{items_alike, last_alike, made_alike, optional_alike, row_alike}
@@ -69,10 +64,9 @@ pub use Rattle.der_core.specs.Laws.Printed.Rows.{end_law, expected_law, made_law
 pub use Rattle.der_core.specs.Laws.Printed.Shortest.{last_shortest, list_shortest, made_shortest, one_spelling}
 pub use Rattle.der_core.specs.Laws.Printed.Shortest.{row_shortest, tagged_shortest, tagged_some}
 pub use Rattle.der_core.specs.Laws.Printed.Values.{prints_once, reads, reads_front, written_prints}
-pub use Rattle.der_core.specs.Laws.Readings.{expected_reads, last_reads, made_errs, made_reads, no_parts_read}
+pub use Rattle.der_core.specs.Laws.Readings.{last_reads, made_errs, made_reads, no_parts_read}
 pub use Rattle.der_core.specs.Laws.Readings.{parts_read}
 pub use Rattle.der_core.specs.Laws.Readings.{small_reads}
-pub use Rattle.der_core.specs.Laws.Rows.{as_written}
 pub use Rattle.der_core.specs.Laws.SequenceOf.{items_of_bytes, items_relate, items_shortest}
 pub use Rattle.der_core.specs.Laws.SmallNumbers.{small_relates, small_shortest}
 pub use Rattle.der_core.specs.Laws.TaggedReadings.{items_read, tagged_reads}

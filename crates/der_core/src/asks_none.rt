@@ -1,7 +1,7 @@
 //! Types that are read without memory.
-ghost use Rattle.std.specs.Prelude.{List, ℕ, IfOk, OnErr};
-ghost use Rattle.der_core.specs.Words.{Answers, IsMeaning, Means, Prints, last_part_asks_none, parts_ask_none};
-ghost use Rattle.der_core.specs.Words.{whole};
+ghost use Rattle.std.specs.Prelude.{List, ℕ};
+ghost use Rattle.standard.specs.Statement.{Decodes};
+ghost use Rattle.der_core.specs.Words.{Answers, Prints, Spells, last_part_asks_none, ok_of, parts_ask_none, whole};
 
 use crate::decode::{Decode, DecodeValue};
 use crate::error::Result;
@@ -79,8 +79,7 @@ where
 /// Reads a whole slice without memory: the value that it means, or the error of its first fault.
 #[inline(always)]
 pub fn read_borrowed<'a, T: AsksNone<&'a [u8]>>(bytes: &'a [u8]) -> Result<T>
-    ensures ok { IfOk result (λ x. IsMeaning (Prints T.valid T.printed T.means) bytes.now (T.value x)) }
-    ensures err { OnErr result ((v : T.Value) → Means (Prints T.valid T.printed T.means) bytes.now v → ⊥) }
+    ensures read { Decodes (Spells T.valid T.printed T.means) bytes.now (ok_of T.value result) }
     ensures exact { Answers T.value result (whole T.read_front bytes.now) }
 {
     T::from_der(NoMemory, bytes)

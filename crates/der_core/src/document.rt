@@ -93,8 +93,7 @@ pub fn write_over<T: EncodeValue + FixedTag>(message: &T, out: &mut [u8])
 /// Does nothing: its contract says that bytes are octets.
 fn lemma_are_bytes(bytes: &[u8])
     ensures { AreBytes bytes.now }
-{
-}
+{}
 
 /// Marks documents that may be printed and compared.
 #[derive(PartialEq, Eq, Drop)]

@@ -1,7 +1,8 @@
 //! Types whose values have one encoding each: what is written is the only one.
-ghost use Rattle.std.specs.Prelude.{◌≡◌, IfErr, IfOk, OnErr, length};
-ghost use Rattle.der_core.specs.Words.{AreSpelledOnce, AtMostOne, IsWrittenAlone, Prints, WhyNotWritten, encode_error};
-ghost use Rattle.der_core.specs.Words.{itself_once, last_once, row_once};
+ghost use Rattle.std.specs.Prelude.{IfErr, length};
+ghost use Rattle.standard.specs.Statement as standard;
+ghost use Rattle.der_core.specs.Words.{AreSpelledOnce, AtMostOne, Prints, Spells, Unwritten, encode_error, itself_once};
+ghost use Rattle.der_core.specs.Words.{last_once, ok_of, row_once};
 
 use crate::encode::Encode;
 use crate::error::Result;
@@ -80,10 +81,11 @@ pub fn lemma_one_encoding<T: OneEncoding>()
 /// Writes a value's only encoding to the front of a slice and returns its length, as `encode_into` does.
 #[inline(always)]
 pub fn write_only<T: OneEncoding + Encode>(value: &T, out: &mut [u8]) -> Result<usize>
-    ensures ok { IfOk result (IsWrittenAlone (Prints T.valid T.printed T.means) (T.value value.now) out.old out.new) }
-    ensures err { let v = T.value value.now in let encodings = Prints T.valid T.printed T.means in
-        IfErr result (λ e. WhyNotWritten (T.valid (T.written v)) encodings v (length out.old) (encode_error e.kind)) }
-    ensures unchanged { OnErr result (out.new ≡ out.old) }
+    ensures written { let encodings = Spells T.valid T.printed T.means in
+        standard.Encodes encodings (T.value value.now) out.old out.new (ok_of (λ n. n) result) }
+    ensures only { standard.AtMostOne (Spells T.valid T.printed T.means) }
+    ensures err { let encodings = Spells T.valid T.printed T.means in let v = T.value value.now in
+        IfErr result (λ e. Unwritten (λ v. T.valid (T.written v)) encodings v (length out.old) (encode_error e.kind)) }
 {
     value.encode_into(out)
 }

@@ -1,31 +1,28 @@
--- Dss-Sig-Value ::= SEQUENCE { r INTEGER, s INTEGER } (RFC 3279 2.2.3), of r and s.
-use Rattle.std.specs.Prelude.{ℕ, List, [], ◌∷◌}
-use Rattle.der_core.specs.Encodings.{Joins}
-use Rattle.der_core.specs.Integer.{Integer, IsCanonical}
-use Rattle.der_core.specs.IntegerReading.{integer_of}
-use Rattle.der_core.specs.Readings.{FrontReading, no_parts, parts, tagged}
-use Rattle.der_core.specs.Tag.{sequence_tag}
-use Rattle.der_core.specs.Tags.{integer, sequence}
-use Rattle.der_core.specs.Tlv.{Tlv}
+-- Dss-Sig-Value ::= SEQUENCE { r INTEGER, s INTEGER } (RFC 3279 2.2.3)
+use Rattle.std.specs.Prelude.{ℕ, List, [], ◌∷◌, ◌≡◌, ◌≤◌, length}
+use Rattle.std.specs.Int.Digits.{number_from_digits}
+use Rattle.der_core.specs.Printed.{number_of}
+use Rattle.der_core.specs.Readings.{Reading, made, no_parts, parts, tagged, whole}
+use Rattle.der_core.specs.Tags as tags
 use Rattle.der_core.specs.UintRefValue.{bytes_of}
 use Rattle.der_core.specs.declared.integer.uint.UintRef.{UintRef}
 use Rattle.dss_sig.specs.declared.DssSigValue as values
+use Rattle.standard.specs.Statement.{integers, limit, sequence}
 
--- r and s, each by its octets.
-abbrev pub Signature : Type 0
-Signature = List ℕ × (List ℕ × Unit {0})
+pub record Signature : Type 0 where
+  pub r : ℕ
+  pub s : ℕ
 
--- what a value means
+-- SEQUENCE { r INTEGER, s INTEGER }
+abbrev pub SignatureEncoding : Signature → List ℕ → Type 0
+SignatureEncoding v bytes = (length bytes ≤ limit) × (bytes ≡ sequence (integers (v.r ∷ v.s ∷ [])))
+
+-- What a value of the type holds.
 abbrev pub signature_of : values.DssSigValue UintRef → Signature
-signature_of it = (bytes_of it.r, (bytes_of it.s, tt))
+signature_of it = record { r = number_from_digits 256 (bytes_of it.r); s = number_from_digits 256 (bytes_of it.s) }
 
-abbrev pub DssSigValue : Signature → List ℕ → Type 0
-DssSigValue v encoding = Tlv sequence_tag (Joins (Integer v.0 ∷ Integer v.1.0 ∷ [])) encoding
-
--- The signatures that have an encoding.
-abbrev pub AreCanonical : Signature → Type 0
-AreCanonical v = IsCanonical v.0 × (IsCanonical v.1.0 × Unit {0})
-
--- What is read of one at the front of bytes: the SEQUENCE, r in it, s behind r, and nothing behind both.
-abbrev pub signature_front : FrontReading Signature
-signature_front = tagged sequence (parts (tagged integer integer_of) (parts (tagged integer integer_of) no_parts))
+-- What a slice is read as: the SEQUENCE, r in it, s behind r, and nothing behind both.
+abbrev pub signature_read : Reading Signature
+signature_read =
+    let number = tagged tags.integer number_of in
+    made (λ v. record { r = v.0; s = v.1.0 }) (whole (tagged tags.sequence (parts number (parts number no_parts))))

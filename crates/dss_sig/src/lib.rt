@@ -4,8 +4,9 @@
 mod by_grammar;
 mod optional_salt;
 
-ghost use Rattle.std.specs.Prelude.{◌≡◌, IfErr, IfOk, OnErr, length};
-ghost use Rattle.der_core.specs.Words.{Answers, IsMeaning, IsWrittenAlone, Means, WhyNotWritten, encode_error, whole};
+ghost use Rattle.std.specs.Prelude.{IfErr, length};
+ghost use Rattle.standard.specs.Statement as standard;
+ghost use Rattle.der_core.specs.Words.{Answers, Spells, Unwritten, encode_error, ok_of, whole};
 
 pub use by_grammar::{read_signature, write_signature};
 use der_core::{
@@ -57,10 +58,8 @@ impl<U: Encode> EncodeInParts for DssSigValue<U> {
 
 /// The signature that a slice encodes, read without memory; or the error of its first fault.
 pub fn read<'a>(bytes: &'a [u8]) -> Result<DssSigValueRef<'a>>
-    ensures ok { let T = ⟦<DssSigValueRef<'a> as Encoding>⟧ in
-        IfOk result (λ x. IsMeaning T.encoding bytes.now (T.value x)) }
-    ensures err { let T = ⟦<DssSigValueRef<'a> as Encoding>⟧ in
-        OnErr result ((v : T.Value) → Means T.encoding bytes.now v → ⊥) }
+    ensures read { let T = ⟦<DssSigValueRef<'a> as Encoding>⟧ in
+        standard.Decodes (Spells T.valid T.printed T.means) bytes.now (ok_of T.value result) }
     ensures exact { let T = ⟦<DssSigValueRef<'a> as Encoding>⟧ in
         Answers T.value result (whole T.read_front bytes.now) }
 {
@@ -69,11 +68,13 @@ pub fn read<'a>(bytes: &'a [u8]) -> Result<DssSigValueRef<'a>>
 
 /// Writes the only encoding of a signature to the front of a slice and returns its length.
 pub fn write<'a>(signature: &DssSigValueRef<'a>, out: &mut [u8]) -> Result<usize>
-    ensures ok { let T = ⟦<DssSigValueRef<'a> as Encoding>⟧ in
-        IfOk result (IsWrittenAlone T.encoding (T.value signature.now) out.old out.new) }
+    ensures written { let T = ⟦<DssSigValueRef<'a> as Encoding>⟧ in let v = T.value signature.now in
+        standard.Encodes (Spells T.valid T.printed T.means) v out.old out.new (ok_of (λ n. n) result) }
+    ensures only { let T = ⟦<DssSigValueRef<'a> as Encoding>⟧ in
+        standard.AtMostOne (Spells T.valid T.printed T.means) }
     ensures err { let T = ⟦<DssSigValueRef<'a> as Encoding>⟧ in let v = T.value signature.now in
-        IfErr result (λ e. WhyNotWritten (T.has_encoding v) T.encoding v (length out.old) (encode_error e.kind)) }
-    ensures unchanged { OnErr result (out.new ≡ out.old) }
+        let encodings = Spells T.valid T.printed T.means in
+        IfErr result (λ e. Unwritten (λ v. T.valid (T.written v)) encodings v (length out.old) (encode_error e.kind)) }
 {
     write_only(signature, out)
 }

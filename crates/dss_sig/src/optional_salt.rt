@@ -1,8 +1,8 @@
 //! A SEQUENCE with an OPTIONAL last part.
-ghost use Rattle.std.specs.Prelude.{◌≡◌, IfErr, IfOk, OnErr, length};
-ghost use Rattle.der_core.specs.Words.{Answers, IsMeaning, IsWrittenAlone, Means, WhyNotWritten, encode_error, whole};
-ghost use Rattle.dss_sig.specs.Salt.{HasSalt, Salt, salt_front, salt_of};
-ghost use Rattle.dss_sig.specs.Salt as grammar;
+ghost use Rattle.std.specs.Prelude.{IfErr, length};
+ghost use Rattle.standard.specs.Statement.{Decodes, Encodes};
+ghost use Rattle.der_core.specs.Words.{Answers, Unwritten, encode_error, ok_of};
+ghost use Rattle.dss_sig.specs.Salt.{IsSalt, SaltEncoding, salt_of, salt_read};
 
 use der_core::{
     BackWriter, Borrowed, Encode, EncodeInParts, EncodeValue, Encoding, Last, Length,
@@ -50,22 +50,19 @@ impl<U: Encode, S: Encode> EncodeInParts for OptionalSalt<U, S> {
     }
 }
 
-/// What a slice encodes, read without memory; or the error of its first fault.
+/// What a slice encodes, read without memory; or the error of the first fault.
 pub fn read_optional_salt(bytes: &[u8]) -> Result<OptionalSaltRef<'_>>
-    ensures ok { IfOk result (λ it. IsMeaning grammar.OptionalSalt bytes.now (salt_of it)) }
-    ensures err { OnErr result ((v : Salt) → Means grammar.OptionalSalt bytes.now v → ⊥) }
-    ensures exact { Answers salt_of result (whole salt_front bytes.now) }
+    ensures read { Decodes SaltEncoding bytes.now (ok_of salt_of result) }
+    ensures exact { Answers salt_of result (salt_read bytes.now) }
 {
     read_borrowed(bytes)
 }
 
 /// Writes the only encoding to the front of a slice and returns its length.
 pub fn write_optional_salt(it: &OptionalSaltRef<'_>, out: &mut [u8]) -> Result<usize>
-    ensures ok { let v = salt_of it.now in
-        IfOk result (IsWrittenAlone grammar.OptionalSalt v out.old out.new) }
+    ensures written { Encodes SaltEncoding (salt_of it.now) out.old out.new (ok_of (λ n. n) result) }
     ensures err { let v = salt_of it.now in
-        IfErr result (λ e. WhyNotWritten (HasSalt v) grammar.OptionalSalt v (length out.old) (encode_error e.kind)) }
-    ensures unchanged { OnErr result (out.new ≡ out.old) }
+        IfErr result (λ e. Unwritten IsSalt SaltEncoding v (length out.old) (encode_error e.kind)) }
 {
     write_only(it, out)
 }

@@ -178,24 +178,3 @@ defaults_same (f ∷ fields) j k (inl (d, i, e, p)) (inl (d', i', e', q)) =
 defaults_same (f ∷ fields) j k (inl (d, i, e, p)) (inr (n, q)) = absurd (n d)
 defaults_same (f ∷ fields) j k (inr (n, p)) (inl (d, i, e, q)) = absurd (n d)
 defaults_same (f ∷ fields) j k (inr (n, p)) (inr (n', q)) = defaults_same fields j k p q
-
--- If a field's octet isn't next, every splitting leaves the field out.
-pub absent_step : {V : Type 0} (n : ℕ) (Grammar : V → List ℕ → Type 0) (default w : V) (gs : List Field) (c : List ℕ)
-    → (IsNext (context_tag n) c → ⊥) → Joins (map Defaultable (field n Grammar default w ∷ gs)) c
-    → (w ≡ default) × Joins (map Defaultable gs) c
-absent_step n Grammar default w gs c h (x, y, inl p, j, e) = let a : c ≡ y = rw p.0 at e in (p.1, rw a j)
-absent_step n Grammar default w gs c h (x, y, inr p, j, e) =
-    absurd (h (explicit_starts (field n Grammar default w) x y c p e))
-
--- If an encoding of the field is next, every splitting has that encoding, its value and its rest.
-pub present_step : {V : Type 0} (n : ℕ) (Grammar : V → List ℕ → Type 0) → IsDelimited Grammar
-    → (default v w : V) (gs : List Field) (c rest : List ℕ) → AreLater n gs
-    → Then (Explicit (field n Grammar default v)) (Is rest) c
-    → Joins (map Defaultable (field n Grammar default w ∷ gs)) c → (w ≡ v) × Joins (map Defaultable gs) rest
-present_step n Grammar d default v w gs c rest l (x', y', q, k, f) (x, y, inl p, j, e) =
-    let a : c ≡ y = rw p.0 at e in
-    let s = explicit_starts (field n Grammar default v) x' y' c q f in
-    absurd (not_later n gs y s.0 l j (sym a ∙ s.1))
-present_step n Grammar d default v w gs c rest l (x', y', q, k, f) (x, y, inr p, j, e) =
-    let s = tlv_split x y x' y' p q (sym e ∙ f) in
-    (means_one d w v s.3 s.4 s.5, rw (s.2 ∙ k) at j)

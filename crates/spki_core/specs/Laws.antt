@@ -7,6 +7,7 @@ pub mod ContextSpecific
 pub mod Readings
 pub mod FieldEncodings
 pub mod FieldReadings
+pub mod FieldSpellings
 pub mod Fields
 pub mod HaveEncodings
 pub mod Identifiers

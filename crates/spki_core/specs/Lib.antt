@@ -14,5 +14,6 @@ pub mod IdentifierTest
 pub mod StrictFields
 pub mod Masks
 pub mod Readings
+pub mod FieldSpellings
 pub mod Laws
 pub mod Words

@@ -10,6 +10,8 @@ pub use Rattle.spki_core.specs.AnyRefValue.{any_of}
 pub use Rattle.spki_core.specs.ContextSpecific.{ContextSpecific, HasNumbered, Numbered, numbered_map, written_numbered}
 pub use Rattle.spki_core.specs.Explicit.{Field, FieldRead, HaveDefaults, Masked}
 pub use Rattle.spki_core.specs.Readings.{algorithm_read, any, any_as, defaulted, explicit, identifier_read, numbered}
+pub use Rattle.spki_core.specs.FieldSpellings.{AreLawful, AreSpelled, Kind, Spelling, Values, meant, spelled}
+pub use Rattle.spki_core.specs.FieldSpellings.{spelling_read, under}
 pub use Rattle.spki_core.specs.FieldWriting.{HasField, written_field}
 pub use Rattle.spki_core.specs.HashAlgorithms.{IsHash}
 pub use Rattle.spki_core.specs.Masks.{out_under, rest_under}
@@ -21,10 +23,10 @@ pub use Rattle.spki_core.specs.Laws.Algorithms.{algorithm_decides, algorithm_mea
 pub use Rattle.spki_core.specs.Laws.Algorithms.{algorithm_relates, algorithm_shortest}
 pub use Rattle.spki_core.specs.Laws.AnyEncodings.{any_delimited}
 pub use Rattle.spki_core.specs.Laws.AnyValues.{holds_decides, holds_itself}
-pub use Rattle.spki_core.specs.Laws.ContextSpecific.{numbered_delimited, numbered_of_bytes, numbered_relates}
-pub use Rattle.spki_core.specs.Laws.ContextSpecific.{numbered_shortest}
+pub use Rattle.spki_core.specs.Laws.FieldSpellings.Shortest.{fields_shortest}
+pub use Rattle.spki_core.specs.Laws.FieldSpellings.Spellings.{spellings_law}
 pub use Rattle.spki_core.specs.Laws.Printed.Alike.{algorithm_alike, numbered_alike}
 pub use Rattle.spki_core.specs.Laws.Printed.Readings.{algorithm_law, any_law, numbered_law, oid_law}
 pub use Rattle.spki_core.specs.Laws.Printed.Shortest.{algorithm_writes_shortest, any_some, numbered_some}
 pub use Rattle.spki_core.specs.Laws.Printed.Shortest.{numbered_writes_shortest}
-pub use Rattle.spki_core.specs.Laws.Readings.{algorithm_reads, any_reads, identifier_reads, numbered_reads}
+pub use Rattle.spki_core.specs.Laws.Readings.{algorithm_reads, any_reads, identifier_reads}

@@ -44,7 +44,6 @@ impl WideTag {
 }
 
 impl fmt::Debug for WideTag {
-    /// Prints the tag.
     fn fmt<W: fmt::Write>(&self, f: &mut fmt::Formatter<W>) -> fmt::Result {
         self.tag().fmt(f)
     }
@@ -102,8 +101,7 @@ impl<'a> AnyRef<'a> {
         self.contents
     }
 
-    /// Decodes the contents octets as those of a `T`, which has to use them all. `TagUnexpected` if the tag isn't the
-    /// type's.
+    /// Decodes the contents octets, all of them, as those of a `T`. `TagUnexpected` if the tag isn't the type's.
     pub fn decode_as<T: DecodeValue<&'a [u8], M> + FixedTag, M: Memory>(
         self,
         memory: M,
@@ -135,7 +133,6 @@ impl<'a> AnyRef<'a> {
         self.tag() == tag && self.contents.is_empty()
     }
 
-    /// The header of the encoding.
     fn header(&self) -> Header
         ensures tag { result.tag.octet ≡ self.now.tag.octet }
         ensures length { result.length ≡ length self.now.contents.now }
@@ -193,7 +190,6 @@ impl<'a, M: Memory> Decode<&'a [u8], M> for AnyRef<'a> {
     }
 }
 
-/// Reads the encoding at the front of what is left.
 #[inline(always)]
 fn read_any<'a, R: Reader<&'a [u8]>>(reader: &mut R) -> Result<AnyRef<'a>>
     ensures { ReadsFront (λ (held : AnyRef). record { tag = held.tag.octet; contents = held.contents.now })

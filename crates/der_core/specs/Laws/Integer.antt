@@ -4,10 +4,9 @@ use Rattle.std.specs.Prelude.{slice_index}
 use Rattle.std.specs.Int.Digits.{number_from_digits}
 use Rattle.der_core.specs.Tag.{integer_tag}
 use Rattle.der_core.specs.Encodings.{AreBytes, IsDelimited, IsOfBytes, MeansOne, AtMostOne}
-use Rattle.der_core.specs.Integer.{IsCanonical, IntegerContents, Integer, SmallContents, Small, HoldsNumber}
+use Rattle.der_core.specs.Integer.{IsCanonical, IntegerContents, SmallContents, Small, HoldsNumber}
 use Rattle.der_core.specs.Integer.{integer_contents}
 use Rattle.der_core.specs.Laws.Input.{are_bytes}
-use Rattle.der_core.specs.Writing.{IsLeast}
 use Rattle.std.proofs.lemmas.Bool.{cases_lt}
 use Rattle.std.proofs.lemmas.Bool.Decides.{nat_tests}
 use Rattle.std.specs.Prelude.{nat_lt, true, false}
@@ -30,9 +29,6 @@ integer_means_one v w c (p, inl a) (q, inl b) = sym a.1 ∙ b.1
 integer_means_one v w c (p, inl a) (q, inr b) = absurd (not_padded v w p b.0 (sym a.1 ∙ b.1))
 integer_means_one v w c (p, inr a) (q, inl b) = absurd (not_padded w v q a.0 (sym b.1 ∙ a.1))
 integer_means_one v w c (p, inr a) (q, inr b) = (same_cons (sym a.1 ∙ b.1)).1
-
-pub integer_delimited : IsDelimited Integer
-integer_delimited = tlv_delimited integer_tag IntegerContents integer_means_one
 
 pub contents_at_most_one : (bytes : List ℕ) → AtMostOne (IntegerContents bytes)
 contents_at_most_one n x y (p, inl a) (q, inl b) = a.1 ∙ sym b.1
@@ -96,13 +92,6 @@ integer_relates bytes p = elim (cases_lt (slice_index bytes 0) 128) [
   | inl h ↦ (p, inl (h, written_small bytes h))
   | inr h ↦ (p, inr (h, written_large bytes h))
 ]
-
-pub integer_shortest : (bytes c : List ℕ) → IntegerContents bytes c
-    → IsLeast (IsCanonical bytes) (integer_contents bytes) c
-integer_shortest bytes c p =
-    let same : c ≡ integer_contents bytes =
-    contents_at_most_one bytes c (integer_contents bytes) p (integer_relates bytes p.0) in
-    (p.0, omega (arith, ap length same), (λ (_ : length c ≤ length (integer_contents bytes)). same))
 
 -- Contents of numbers are bytes.
 canonical_of_bytes : (bytes : List ℕ) → IsCanonical bytes → AreBytes bytes

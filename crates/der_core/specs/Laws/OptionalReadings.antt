@@ -4,16 +4,14 @@ use Rattle.std.proofs.Common.{arith, inl, inr, ⊎_elim, append-nil, append_asso
 use Rattle.std.proofs.lemmas.Bool.Decides.{nat_tests}
 use Rattle.der_core.specs.declared.error.ErrorKind.{ErrorKind}
 use Rattle.der_core.specs.declared.tag.Tag.{Tag}
-use Rattle.der_core.specs.Laws.Encodings.{joins_last, last_holds}
 use Rattle.der_core.specs.Laws.Input.{ok_pair}
 use Rattle.der_core.specs.Laws.LengthReading.{chosen}
 use Rattle.der_core.specs.Laws.Lists.{same_cons}
-use Rattle.der_core.specs.Laws.Readings.{bind_err, bind_ok, carry, ended_is, ended_tells}
+use Rattle.der_core.specs.Laws.Readings.{bind_err, bind_ok}
 use Rattle.der_core.specs.Laws.TaggedReadings.{tagged_reads}
 use Rattle.der_core.specs.Length.{limit}
 use Rattle.der_core.specs.Encodings.{AreBytes}
 use Rattle.der_core.specs.Optional.{IsNext, Optional, OptionalRead}
-use Rattle.der_core.specs.Parts.{LastContents}
 use Rattle.der_core.specs.Reading.{TellsOfBytes}
 use Rattle.der_core.specs.Readings.{Reading, FrontReading, ReadsBy, ReadsContents, ReadsFronts, ◌>>=◌, alone, ended}
 use Rattle.der_core.specs.Readings.{is_next}
@@ -117,22 +115,3 @@ module _ {V : Type 0} (tag : Tag) {contents : V → List ℕ → Type 0} {read :
       let first : is_next tag.octet c ≡ true = rw p.written (grind (arith, nat_tests)) in
       ap (λ r. r >>= λ p. ended p.0 p.1)
       (optional_takes tag.octet at c v [] first (reads.takes c c [] v within (sym (append-nil c)) p))
-
-  pub last_by_tag_reads : ReadsContents (LastContents (λ v. Tlv tag.octet (contents v)))
-      (alone (optional tag.octet (tagged tag read)))
-  last_by_tag_reads = record {
-    gives = λ c v b e.
-        let s = bind_ok (optional tag.octet at c) (λ p. ended p.0 p.1) e in
-        let end = ended_is s.0.0 v s.0.1 s.2 in
-        ⊎_elim
-        (λ w. carry (LastContents Encoding) (sym w.0 ∙ end.1) (sym (w.1 ∙ end.0)) (last_holds [] refl))
-        (λ w.
-        let x = reads.gives c s.0.1 w.0 b w.2 in
-        let all : c ≡ x.0 = x.1 ∙ ap (λ y. x.0 ++ y) end.0 ∙ append-nil x.0 in
-        carry (LastContents Encoding) (sym w.1 ∙ end.1) refl (last_holds c (carry Encoding refl (sym all) x.2)))
-        (optional_is tag.octet at c s.0.0 s.0.1 s.1);
-    takes = λ c v within p. takes c v within (joins_last c p);
-    tells = λ c k e.
-        ⊎_elim (optional_tells tag.octet at c (reads.tells c) k) (λ s. ended_tells s.0.0 s.0.1 k s.2)
-        (bind_err (optional tag.octet at c) (λ p. ended p.0 p.1) e);
-  }

@@ -1,10 +1,9 @@
 -- Reading by functions: a step, the end, contents of one kind, rows of parts, whole slices.
 use Rattle.std.proofs.Common.{ℕ, Bool, true, List, [], ◌∷◌, ◌++◌, ◌≡◌, ◌⊎◌, ◌≤◌, length, refl, sym, ap, ◌∙◌, arith}
-use Rattle.std.proofs.Common.{inl, inr, ⊎_elim, length-append, append-nil, Result, Ok, Err, Option, Some, None, ◌==◌}
-use Rattle.std.proofs.lemmas.Bool.Decides.{nat_tests}
+use Rattle.std.proofs.Common.{inl, inr, ⊎_elim, length-append, append-nil, Result, Ok, Err, Option, Some, None}
 use Rattle.std.specs.Prelude.{if◌then◌else◌}
 use Rattle.der_core.specs.declared.error.ErrorKind.{ErrorKind}
-use Rattle.der_core.specs.declared.error.ErrorKind.TheVariants.{TrailingData, Value}
+use Rattle.der_core.specs.declared.error.ErrorKind.TheVariants.{TrailingData}
 use Rattle.der_core.specs.Encodings.{AreBytes, IsDelimited, Then}
 use Rattle.der_core.specs.Integer.{IntegerContents, SmallContents}
 use Rattle.der_core.specs.IntegerReading.{integer_of, small_of}
@@ -12,15 +11,13 @@ use Rattle.der_core.specs.Laws.ContentsReads.{integer_gives, small_gives}
 use Rattle.der_core.specs.Laws.Encodings.{joins_last, last_holds}
 use Rattle.der_core.specs.Laws.LengthReading.{chosen}
 use Rattle.der_core.specs.Laws.SmallReading.{contents_read, integer_tells, small_read, small_tells}
-use Rattle.der_core.specs.Laws.Tells.{is_trailing, is_value}
+use Rattle.der_core.specs.Laws.Tells.{is_trailing}
 use Rattle.der_core.specs.Length.{limit}
-use Rattle.der_core.specs.OctetString.{OctetContents}
 use Rattle.der_core.specs.Optional.{Optional}
 use Rattle.der_core.specs.Parts.{PartsContents, NoParts, LastContents}
 use Rattle.der_core.specs.Reading.{TellsOfBytes}
 use Rattle.der_core.specs.Readings.{Reading, FrontReading, ◌>>=◌, chain, ended, made, such, parts, no_parts, alone}
-use Rattle.der_core.specs.Readings.{last, expected, octets_of_all, any_contents, ReadsContents, ReadsFronts}
-use Rattle.der_core.specs.Tags.{integer}
+use Rattle.der_core.specs.Readings.{last, any_contents, ReadsContents, ReadsFronts}
 
 -- Parts of bytes are bytes.
 pub front_bytes : (x y : List ℕ) → AreBytes (x ++ y) → AreBytes x
@@ -120,20 +117,6 @@ integer_reads = record { gives = integer_gives; takes = λ c v w p. contents_rea
 
 pub small_reads : ReadsContents SmallContents small_of
 small_reads = record { gives = small_gives; takes = λ c v w p. small_read v c p; tells = small_tells }
-
-pub expected_reads : (n : ℕ) → ReadsContents (λ (_ : Unit {0}). SmallContents n) (expected n)
-expected_reads n =
-    made_reads (λ (_ : ℕ). tt) (λ (_ : Unit {0}). SmallContents n)
-    (such_reads small_reads (λ v. v ≡ n) (λ v. v == n) (Value integer) (λ v e. grind (arith, nat_tests, e))
-    (λ v e. grind (arith, nat_tests, e)) (is_value refl))
-    (λ v c p. rw p.0 at p.1) (λ v c p. (n, (refl, p), refl))
-
-pub octets_read : ReadsContents OctetContents octets_of_all
-octets_read = record {
-  gives = λ c v b e. let same : c ≡ v = ok_same e in (rw (← same) b, same);
-  takes = λ c v w p. ap (λ o. Ok o) p.1;
-  tells = λ c k e. cc;
-}
 
 pub any_read : ReadsContents (λ (_ : Unit {0}) c. AreBytes c) any_contents
 any_read = record { gives = λ c v b e. b; takes = λ c v w p. refl; tells = λ c k e. cc }

@@ -1,6 +1,5 @@
 -- Rows of parts with what is written of them, put together part by part; and a row that is in front of a rest.
-use Rattle.std.proofs.Common.{ℕ, List, [], ◌++◌, ◌≡◌, refl, sym, ap, ◌∙◌, append_assoc, Option}
-use Rattle.der_core.specs.Encodings.{Then}
+use Rattle.std.proofs.Common.{ℕ, List, [], Option}
 use Rattle.der_core.specs.Optional.{HasOptional, written_optional}
 use Rattle.der_core.specs.Parts.{HaveParts, LastContents, NoParts, PartsContents, written_parts}
 use Rattle.der_core.specs.SequenceOf.{AllHave, ItemsContents, all_encodings}
@@ -18,12 +17,6 @@ pub record Written (V : Type 0) : Type 1 where
   pub write : V → List ℕ
   pub relate : WritesEncodings contents has write
   pub least : WritesLeast contents has write
-
--- The same of these, by their order.
-abbrev pub as_written : {V : Type 0} (contents : V → List ℕ → Type 0) (has : V → Type 0) (write : V → List ℕ)
-    → WritesEncodings contents has write → WritesLeast contents has write → Written V
-as_written contents has write relates shortest =
-    record { contents = contents; has = has; write = write; relate = relates; least = shortest }
 
 -- A part in front of a row.
 abbrev pub put : {A B : Type 0} → Written A → Written B → Written (A × B)
@@ -76,15 +69,6 @@ items w = record {
   least = items_shortest w.contents w.has w.write w.least;
 }
 
-abbrev pub some_of : {V : Type 0} → (V → Type 0) → Written V → Written V
-some_of Wanted w = record {
-  contents = λ v c. Wanted v × w.contents v c;
-  has = λ v. Wanted v × w.has v;
-  write = w.write;
-  relate = λ v has fits. (has.0, w.relate v has.1 fits);
-  least = λ v c p. let s = w.least v c p.1 in ((p.0, s.0), s.1, s.2);
-}
-
 abbrev pub meaning : {V W : Type 0} → (V → W) → Written W → Written V
 meaning of w = record {
   contents = λ v. w.contents (of v);
@@ -93,22 +77,3 @@ meaning of w = record {
   relate = λ v. w.relate (of v);
   least = λ v. w.least (of v);
 }
-
--- A part and a row are in front of a rest: so is the longer row.
-pub row_behind : {A P Q T : List ℕ → Type 0} → ((c : List ℕ) → Q c → Then P T c) → (c : List ℕ) → Then A Q c
-    → Then (Then A P) T c
-row_behind split c (a, b, p, q, is) =
-    let s = split b q in
-    (a ++ s.0, s.1, (a, s.0, p, s.2, refl), s.3, is ∙ ap (λ l. a ++ l) s.4 ∙ sym (append_assoc a s.0 s.1))
-
-pub row_before : {A P Q T : List ℕ → Type 0} → ((c : List ℕ) → Then P T c → Q c) → (c : List ℕ) → Then (Then A P) T c
-    → Then A Q c
-row_before join c (x, y, (a, b, p, q, e), t, is) =
-    (a, b ++ y, p, join (b ++ y) (b, y, q, t, refl), is ∙ ap (λ l. l ++ y) e ∙ append_assoc a b y)
-
--- Nothing is in front of it.
-pub nothing_before : {T : List ℕ → Type 0} (c : List ℕ) → T c → Then (λ b. b ≡ []) T c
-nothing_before c t = ([], c, refl, t, refl)
-
-pub behind_nothing : {T : List ℕ → Type 0} (c : List ℕ) → Then (λ b. b ≡ []) T c → T c
-behind_nothing c (a, b, e, t, is) = rw (is ∙ ap (λ l. l ++ b) e) t

@@ -9,7 +9,7 @@ use Rattle.std.specs.Prelude.{nat_lt, IsTrue}
 use Rattle.der_core.specs.declared.error.ErrorKind.{ErrorKind}
 use Rattle.der_core.specs.declared.error.ErrorKind.TheVariants.{Incomplete, TagUnexpected, TagUnknown, TrailingData}
 use Rattle.der_core.specs.declared.tag.Tag.{Tag}
-use Rattle.der_core.specs.Encodings.{AreBytes, IsDelimited}
+use Rattle.der_core.specs.Encodings.{AreBytes}
 use Rattle.der_core.specs.Headers.{HeaderEncoding}
 use Rattle.der_core.specs.Input.{header_at, front_of}
 use Rattle.der_core.specs.Laws.Headers.{tlv_header, header_sound, header_at-tells}

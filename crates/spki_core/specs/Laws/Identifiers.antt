@@ -39,10 +39,6 @@ identifier_contents_of_bytes oid c ((ids, some, each, joined, short), same) = rw
 pub identifier_of_bytes : IsOfBytes ObjectIdentifier
 identifier_of_bytes = tlv_of_bytes object_identifier_tag refl IdentifierContents identifier_contents_of_bytes
 
--- What is written.
-pub identifier_contents_relate : (oid : List ℕ) → IsIdentifier oid → IdentifierContents oid oid
-identifier_contents_relate oid h = (h, refl)
-
 pub identifier_contents_shortest : (oid c : List ℕ) → IdentifierContents oid c → IsLeast (IsIdentifier oid) oid c
 identifier_contents_shortest oid c p =
     let is : IsIdentifier oid = rw p.1 at p.0 in

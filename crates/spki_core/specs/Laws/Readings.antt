@@ -117,13 +117,6 @@ module _ {V : Type 0} {encoding : V → List ℕ → Type 0} {at : FrontReading 
     tells = numbered_tells t;
   }
 
-  pub numbered_reads : ReadsFronts (ContextSpecific encoding) (numbered at)
-  numbered_reads =
-      fronts_as
-      (by_tag_reads (λ (v : Numbered V). context_tag v.number) In (numbered_in at) in_reads numbered_tells
-      (λ v c p. number_allowed v.number p.0)) (λ v b t. (t.holds.0, tlv_recast b t t.holds.1))
-      (λ v b p. tlv_recast b p.1 (p.0, p.1.holds))
-
   -- a field, by the tag of its number
   module _ (n : ℕ) (tag : Tag) (is : tag.octet ≡ context_tag n) where
     pub explicit_reads : ReadsFronts (λ v. Tlv (context_tag n) (encoding v)) (explicit n at)

@@ -1,12 +1,12 @@
 -- Types whose values are written as what they hold.
 use Rattle.std.proofs.Common.{ℕ, List, ◌++◌, ◌≡◌, refl, ap, Option, Some, None}
 use Rattle.std.specs.Option.{option_map}
-use Rattle.der_core.specs.Optional.{HasOptional, written_optional}
 use Rattle.der_core.specs.Tag.{object_identifier_tag, sequence_tag}
 use Rattle.der_core.specs.Tlv.{tlv}
-use Rattle.spki_core.specs.AlgorithmIdentifier.{HasAlgorithm, written_algorithm}
+use Rattle.spki_core.specs.AlgorithmIdentifier.{algorithm_contents, algorithm_map}
 use Rattle.spki_core.specs.AlgorithmValue.{algorithm_in}
 use Rattle.spki_core.specs.declared.algorithm_identifier.AlgorithmIdentifierOf.{AlgorithmIdentifierOf}
+use Rattle.standard.specs.Statement.{IfPresent, IsAlgorithm, algorithm, optional}
 
 -- What a value means is written exactly if what it holds is, and in the same octets.
 pub record WritesAs {X V W : Type 0} (value : X → V) (Has : V → Type 0) (written : V → List ℕ) (held : X → W)
@@ -20,24 +20,27 @@ pub writes_itself : {X V : Type 0} (value : X → V) (Has : V → Type 0) (writt
 writes_itself value Has written = record { has_to = λ x h. h; has_of = λ x h. h; same = λ x. refl }
 
 -- An identifier is written as one whose parameters are what they hold.
-module _ {O X V W : Type 0} (oid_of : O → List ℕ) {value : X → V} {Has : V → Type 0} {written : V → List ℕ}
-    {held : X → W} {Holds : W → Type 0} {octets : W → List ℕ} (w : WritesAs value Has written held Holds octets) where
-  parameters_to : (p : Option X) → HasOptional Has (option_map value p) → HasOptional Holds (option_map held p)
+module _ {O X V W S : Type 0} (oid_of : O → List ℕ) {value : X → V} (spelling : V → S) (valid : S → Type 0)
+    (printed : S → List ℕ) {held : X → W} {Holds : W → Type 0} {octets : W → List ℕ}
+    (w : WritesAs value (λ v. valid (spelling v)) (λ v. printed (spelling v)) held Holds octets) where
+  parameters_to : (p : Option X) → IfPresent valid (option_map spelling (option_map value p))
+      → IfPresent Holds (option_map held p)
   parameters_to None h = tt
   parameters_to (Some x) h = w.has_to x h
 
-  parameters_of : (p : Option X) → HasOptional Holds (option_map held p) → HasOptional Has (option_map value p)
+  parameters_of : (p : Option X) → IfPresent Holds (option_map held p)
+      → IfPresent valid (option_map spelling (option_map value p))
   parameters_of None h = tt
   parameters_of (Some x) h = w.has_of x h
 
   parameters_same : (p : Option X)
-      → written_optional written (option_map value p) ≡ written_optional octets (option_map held p)
+      → optional printed (option_map spelling (option_map value p)) ≡ optional octets (option_map held p)
   parameters_same None = refl
   parameters_same (Some x) = w.same x
 
-  pub algorithm_writes : WritesAs (algorithm_in oid_of value) (HasAlgorithm Has)
-      (λ a. tlv sequence_tag (written_algorithm written a)) (algorithm_in oid_of held) (HasAlgorithm Holds)
-      (λ a. tlv sequence_tag (written_algorithm octets a))
+  pub algorithm_writes : WritesAs (algorithm_in oid_of value) (λ a. IsAlgorithm valid (algorithm_map spelling a))
+      (λ a. tlv sequence_tag (algorithm_contents printed (algorithm_map spelling a))) (algorithm_in oid_of held)
+      (IsAlgorithm Holds) (algorithm octets)
   algorithm_writes = record {
     has_to = λ (a : AlgorithmIdentifierOf O X) h. (h.0, parameters_to a.parameters h.1);
     has_of = λ (a : AlgorithmIdentifierOf O X) h. (h.0, parameters_of a.parameters h.1);

@@ -1,11 +1,20 @@
+use Rattle.std.proofs.Common.{length}
 use Rattle.der_core.specs.Laws.Printed.Values.{prints_once}
-use Rattle.der_core.specs.Printed.{Prints}
-use Rattle.der_core.proofs.PartsLaws.{written_alone}
+use Rattle.der_core.proofs.Spelled.{into_encodes, into_unwritten}
 use Rattle.der_core.proofs.one_encoding.write_only.Goals as goal
 
-pub returns-clause-ok : goal.returns-clause-ok
-returns-clause-ok g c =
+pub returns-clause-written : goal.returns-clause-written
+returns-clause-written g c =
     let t = g.T.Encoding in
-    let v = t.value c.args.value.now in
-    written_alone (Prints t.valid t.printed t.means) v (t.printed (t.written v)) _ _ _
-    (prints_once g.met.T.OneEncoding.once v) c.encode_into.ensures.ok c.encode_into.ensures.shortest
+    let made = c.encode_into.ensures in
+    into_encodes t.shortest (t.value c.args.value.now) c.args.out.now _ c.encode_into.result made.ok made.shortest
+    made.err made.unchanged c.encode_into.auto.out
+
+pub returns-clause-only : goal.returns-clause-only
+returns-clause-only g c = λ v a b p q. prints_once g.met.T.OneEncoding.once v a b p.1 q.1
+
+pub returns-clause-err : goal.returns-clause-err
+returns-clause-err g c =
+    let t = g.T.Encoding in
+    into_unwritten t.shortest (t.value c.args.value.now) (length c.args.out.now) c.encode_into.result
+    c.encode_into.ensures.err

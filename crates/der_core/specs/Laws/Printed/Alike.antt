@@ -1,6 +1,6 @@
 -- Spellings are read as the values that they mean: of functions of which this holds it holds of those made of them.
 use Rattle.std.proofs.Common.{ℕ, zero, suc, Bool, true, false, List, [], ◌∷◌, ◌≡◌, length, map, refl, sym, ap, ◌∙◌}
-use Rattle.std.proofs.Common.{Result, Ok, Err, Option, Some, None}
+use Rattle.std.proofs.Common.{Result, Ok, Err, Some, None}
 use Rattle.std.specs.Option.{option_map}
 use Rattle.std.specs.Prelude.{if◌then◌else◌, nat_lt}
 use Rattle.der_core.specs.declared.error.ErrorKind.{ErrorKind}

@@ -1,5 +1,5 @@
 -- Values with one spelling each: what is made of such values has one spelling too.
-use Rattle.std.proofs.Common.{List, [], ◌∷◌, ◌≡◌, refl, ap, sym, ◌∙◌, map, Option, Some, None}
+use Rattle.std.proofs.Common.{[], ◌∷◌, ◌≡◌, refl, ap, sym, ◌∙◌, map, Option, Some, None}
 use Rattle.std.specs.Option.{option_map}
 use Rattle.der_core.specs.Laws.Lists.{cons_path, same_cons}
 use Rattle.der_core.specs.Printed.{AreSpelledOnce}

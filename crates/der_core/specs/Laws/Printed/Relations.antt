@@ -3,25 +3,57 @@ use Rattle.std.proofs.Common.{ℕ, List, ◌≡◌, ◌≤◌, length, refl, sym
 use Rattle.std.proofs.Common.{take, drop, length-append}
 use Rattle.std.proofs.Math.Seq.{take-append_seam, drop-append_seam}
 use Rattle.std.specs.Option.{option_map}
-use Rattle.std.specs.Prelude.{◌↔◌, ◌++◌, Result, Ok, Err}
+use Rattle.std.specs.Prelude.{◌↔◌, ◌++◌, IfErr, Result, Ok, Err}
+use Rattle.der_core.specs.declared.error.Error.{Error}
+use Rattle.der_core.specs.Document.{EncodeError, no_encoding, too_long, no_room, another}
 use Rattle.der_core.specs.Length.{limit}
 use Rattle.der_core.specs.Printed.{Spells, ok_of}
-use Rattle.standard.specs.Statement.{Encodes, IsShortest}
+use Rattle.der_core.specs.Writing.{Unwritten, encode_error}
+use Rattle.standard.specs.Statement.{AtMostOne, Decodes, Encodes, IsShortest}
 
--- Two relations of which each says what the other does.
-module _ {V : Type 0} {E F : V → List ℕ → Type 0} (same : (v : V) (bytes : List ℕ) → E v bytes ↔ F v bytes) where
-  pub shortest_as : (v : V) (bytes : List ℕ) → IsShortest E v bytes → IsShortest F v bytes
-  shortest_as v bytes s = ((same v bytes).0 s.0, λ other p. s.1 other ((same v other).1 p))
+-- A second relation says the same of the values that stand for those of a first one.
+pub record StatedAs {V W : Type 0} (Is : V → Type 0) (E : V → List ℕ → Type 0) (Valid : W → Type 0)
+    (F : W → List ℕ → Type 0) (to : V → W) : Type 0 where
+  pub from : W → V
+  pub back : (w : W) → to (from w) ≡ w
+  pub valid : (v : V) → Is v ↔ Valid (to v)
+  pub same : (v : V) (bytes : List ℕ) → E v bytes ↔ F (to v) bytes
 
-  pub encodes_as : (v : V) (old new : List ℕ) (n : Option ℕ) → Encodes E v old new n → Encodes F v old new n
-  encodes_as v old new (Some n) e = (e.0, shortest_as v (take n new) e.1, e.2)
-  encodes_as v old new None e = (e.0, λ bytes p. e.1 bytes ((same v bytes).1 p))
+-- So what is promised of the one is promised of the other.
+module _ {V W : Type 0} {Is : V → Type 0} {E : V → List ℕ → Type 0} {Valid : W → Type 0} {F : W → List ℕ → Type 0}
+    {to : V → W} (law : StatedAs Is E Valid F to) where
+  from_stated : (w : W) (bytes : List ℕ) → F w bytes → E (law.from w) bytes
+  from_stated w bytes p = (law.same (law.from w) bytes).1 (subst (λ u. F u bytes) (sym (law.back w)) p)
 
--- What a call returned, of values that stand for others.
-pub ok_joined : {X M N Z : Type 0} (meaning : X → M) (join : M → N) (r : Result X Z)
-    → option_map join (ok_of meaning r) ≡ ok_of (λ x. join (meaning x)) r
-ok_joined meaning join (Ok x) = refl
-ok_joined meaning join (Err e) = refl
+  pub decodes_stated : {X Z : Type 0} (value : X → V) (bytes : List ℕ) (r : Result X Z)
+      → Decodes E bytes (ok_of value r) → Decodes F bytes (ok_of (λ x. to (value x)) r)
+  decodes_stated value bytes (Ok x) p = (
+    (law.same (value x) bytes).0 p.0,
+    λ w q. sym (law.back w) ∙ ap to (p.1 (law.from w) (from_stated w bytes q)),
+  )
+  decodes_stated value bytes (Err e) p = λ w q. p (law.from w) (from_stated w bytes q)
+
+  pub shortest_stated : (v : V) (bytes : List ℕ) → IsShortest E v bytes → IsShortest F (to v) bytes
+  shortest_stated v bytes s = ((law.same v bytes).0 s.0, λ other p. s.1 other ((law.same v other).1 p))
+
+  pub encodes_stated : (v : V) (old new : List ℕ) (n : Option ℕ) → Encodes E v old new n → Encodes F (to v) old new n
+  encodes_stated v old new (Some n) e = (e.0, shortest_stated v (take n new) e.1, e.2)
+  encodes_stated v old new None e = (e.0, λ bytes p. e.1 bytes ((law.same v bytes).1 p))
+
+  pub once_stated : AtMostOne E → AtMostOne F
+  once_stated one w a b p q = one (law.from w) a b (from_stated w a p) (from_stated w b q)
+
+  unwritten_for : (v : V) (room : ℕ) (k : EncodeError) → Unwritten Is E v room k → Unwritten Valid F (to v) room k
+  unwritten_for v room no_encoding h = λ ok. h ((law.valid v).1 ok)
+  unwritten_for v room too_long h = ((law.valid v).0 h.0, λ bytes p. h.1 bytes ((law.same v bytes).1 p))
+  unwritten_for v room no_room h = (h.0, shortest_stated v h.0 h.1, h.2)
+  unwritten_for v room another h = h
+
+  pub unwritten_stated : {X : Type 0} (v : V) (room : ℕ) (r : Result X Error)
+      → IfErr r (λ e. Unwritten Is E v room (encode_error e.kind))
+      → IfErr r (λ e. Unwritten Valid F (to v) room (encode_error e.kind))
+  unwritten_stated v room (Ok x) h = tt
+  unwritten_stated v room (Err e) h = unwritten_for v room (encode_error e.kind) h
 
 -- A type whose values have one spelling each, and all an encoding.
 module _ {V : Type 0} (valid : V → Type 0) (printed : V → List ℕ) where
@@ -32,11 +64,30 @@ module _ {V : Type 0} (valid : V → Type 0) (printed : V → List ℕ) where
     λ (few, ok, same). (few, (v, refl, ok, same)),
   )
 
-  pub spells_all : ((v : V) → valid v) → (v : V) (bytes : List ℕ)
-      → Spells valid printed (λ v. v) v bytes ↔ ((length bytes ≤ limit) × (bytes ≡ printed v))
-  spells_all all v bytes =
-      let once = spells_once v bytes in
-      (λ p. let q = once.0 p in (q.0, q.2), λ p. once.1 (p.0, all v, p.1))
+-- A type whose values are spelled as themselves, by a function that changes nothing. A relation that is written out says
+-- the same.
+module _ {V W : Type 0} {valid : V → Type 0} {printed : V → List ℕ} {Valid : W → Type 0} {F : W → List ℕ → Type 0}
+    {to : V → W} (spelled : V → V) (itself : (v : V) → spelled v ≡ v) (from : W → V) (back : (w : W) → to (from w) ≡ w)
+  where
+    pub stated : ((v : V) → valid v ↔ Valid (to v))
+        → ((v : V) (bytes : List ℕ) → ((length bytes ≤ limit) × valid v × (bytes ≡ printed v)) ↔ F (to v) bytes)
+        → StatedAs (λ v. valid (spelled v)) (Spells valid printed spelled) Valid F to
+    stated holds same = record {
+      from = from;
+      back = back;
+      valid = λ v.
+          (λ p. (holds v).0 (subst valid (itself v) p), λ p. subst valid (sym (itself v)) ((holds v).1 p));
+      same = λ v bytes. (
+        λ (few, (s, is, ok, made)).
+            let e : s ≡ v = sym (itself s) ∙ is in (same v bytes).0 (few, subst valid e ok, made ∙ ap printed e),
+        λ p. let q = (same v bytes).1 p in (q.0, (v, itself v, q.1, q.2)),
+      );
+    }
+
+-- An OPTIONAL part that is spelled as itself.
+pub optional_itself : {V : Type 0} (o : Option V) → option_map (λ v. v) o ≡ o
+optional_itself None = refl
+optional_itself (Some v) = refl
 
 -- An encoding was written over the front of a slice.
 pub written_encodes : {V : Type 0} (E : V → List ℕ → Type 0) (v : V) (old new encoding : List ℕ) (n : ℕ)

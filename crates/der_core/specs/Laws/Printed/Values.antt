@@ -1,11 +1,9 @@
 -- What the laws of a type say of its values: what is read, what is written, and that each has one encoding at most.
-use Rattle.std.proofs.Common.{ℕ, List, ◌++◌, ◌≡◌, ◌<◌, ◌≤◌, length, refl, sym, subst, ap, ◌∙◌, arith, Ok, Err, Result}
-use Rattle.std.proofs.Common.{inl, inr, length-append}
-use Rattle.der_core.specs.declared.error.ErrorKind.{ErrorKind}
-use Rattle.der_core.specs.Encodings.{AreBytes, AtMostOne}
+use Rattle.std.proofs.Common.{ℕ, List, ◌++◌, ◌<◌, length, refl, sym, ap, ◌∙◌, arith, Ok}
+use Rattle.std.proofs.Common.{inl, inr}
+use Rattle.der_core.specs.Encodings.{AtMostOne}
 use Rattle.der_core.specs.Laws.Input.{ok_pair}
 use Rattle.der_core.specs.Laws.Readings.{bind_err, bind_ok, ok_same}
-use Rattle.der_core.specs.Length.{limit}
 use Rattle.der_core.specs.Printed.{AreSpelledOnce, Prints, ReadsAlike, ReadsFrontAlike, ReadsFrontPrinted, ReadsPrinted}
 use Rattle.der_core.specs.Printed.{WritesShortest}
 use Rattle.der_core.specs.Readings.{FrontReading, Reading, ReadsContents, ReadsFronts, ◌>>=◌}

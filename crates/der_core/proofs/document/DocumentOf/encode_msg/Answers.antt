@@ -23,7 +23,7 @@ invariant_of-result g c =
     let claim : g.claim c.lifetimes = assumption in
     let is : tag ≡ 48 = ap (λ x. x.octet) (g.met.T.Sequence c.lifetimes claim).is_sequence in
     let bytes = subst AreBytes (c.as_slice.ensures.value ∙ same) c.lemma_are_bytes.ensures in
-    record { whole = subst IsDocument (sym same) (written_document tag contents is bytes fits); }
+    record { whole = subst IsDocument (sym same) (written_document tag contents is bytes fits) }
 
 pub returns : goal.returns
 returns g c =

@@ -16,8 +16,10 @@ returns-in_err-from_der-clause-exact g c =
 
 pub invariant_of-result : goal.invariant_of-result
 invariant_of-result g c =
-    record { whole = subst IsDocument (sym c.in_ok-copy_of.ensures.ok)
-        (means_document _ _ c.in_ok-from_der.ensures.encoding.0) }
+    record {
+      whole = subst IsDocument (sym c.in_ok-copy_of.ensures.ok)
+          (means_document _ _ c.in_ok-from_der.ensures.encoding.0);
+    }
 
 pub returns-in_err-copy_of-clause-err : goal.returns-in_err-copy_of-clause-err
 returns-in_err-copy_of-clause-err g c =

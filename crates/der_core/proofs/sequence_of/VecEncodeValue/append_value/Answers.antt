@@ -1,6 +1,3 @@
-use Rattle.std.proofs.Common.{◌≤◌, length, map}
-use Rattle.der_core.specs.Length.{limit}
-use Rattle.der_core.specs.SequenceOf.{all_encodings}
 use Rattle.der_core.proofs.Items.{have_map, encodings_map}
 use Rattle.der_core.proofs.sequence_of.VecEncodeValue.append_value.Goals as goal
 
