@@ -10,11 +10,11 @@ use Rattle.der_core.specs.Document.{no_room, another}
 use Rattle.der_core.specs.Encodings.{Is, IsOfBytes, MeansOne, Then}
 use Rattle.der_core.specs.Laws.Encodings.{tlv_of_bytes, tlv_split, joins_last, last_holds, tlv_relates}
 use Rattle.der_core.specs.declared.error.ErrorKind.{ErrorKind}
-use Rattle.der_core.proofs.Encodings.{tlv_made, tlv_length}
+use Rattle.der_core.proofs.Encodings.{tlv_length}
 use Rattle.der_core.proofs.ContentsShorter.{contents_shorter}
 use Rattle.der_core.proofs.FrontsAreUnique.{front_is}
 use Rattle.der_core.specs.Laws.ContentsShorter.{tlv_recast}
-use Rattle.der_core.specs.Laws.Length.{length_octets-short}
+use Rattle.der_core.specs.Laws.Length.{length_few, length_octets-short, length_octets-within}
 use Rattle.der_core.specs.Laws.Readings.{chain_reads, ok_same}
 use Rattle.der_core.proofs.Readings.{whole_reads}
 use Rattle.der_core.specs.Laws.ShortEncodings.{tlv_short}
@@ -44,7 +44,7 @@ use Rattle.pkcs1_params.proofs.StrictParameters.{first_named}
 use Rattle.pkcs1_params.specs.Laws.ParameterReadings.{plain_reads}
 use Rattle.pkcs1_params.proofs.FaultsTold.{errs_behind}
 use Rattle.pkcs1_params.specs.Laws.FieldValues.{fields_of_bytes}
-use Rattle.pkcs1_params.specs.MaskedValues.{FieldContents}
+use Rattle.pkcs1_params.specs.FieldContents.{FieldContents}
 use Rattle.pkcs1_params.specs.Meanings.{ErrsAs, IsNoSentence, IsTheMeaning, IsTheOnly}
 use Rattle.pkcs1_params.specs.Parameters.{with_parameters}
 use Rattle.pkcs1_params.specs.Parts.{AreNumbered, FieldValue, Fielded, defaults_with, fields_with}
@@ -212,19 +212,28 @@ module _ {V : Type 0} (tag : ℕ) (Contents : V → List ℕ → Type 0) (has : 
   Within v encoding = Tlv tag (Contents v) encoding
 
   -- Each value has an encoding, within the limit or not.
-  pub has_algorithm : WritesEncodings Contents has written → IsIdentifier oid → (v : V) → has v
-      → length (written v) < 2 ^ 64 → HasEncoding (AlgorithmOf oid Within) v
-  has_algorithm relates is v h few =
+  pub algorithm_made : WritesEncodings Contents has written → IsIdentifier oid → (v : V) → has v
+      → length (written v) < 2 ^ 64 → AlgorithmOf oid Within v (tlv 48 (tlv 6 oid ++ tlv tag (written v)))
+  algorithm_made relates is v h few =
       let encoding : V → List ℕ = λ w. tlv tag (written w) in
       let a = with_parameters oid v in
       let l = tlv_short tag (2 ^ 64 - 1) (written v) (omega (arith, few)) (omega arith) in
       let short_oid : length (tlv 6 oid) ≤ 167 = tlv_short 6 39 oid is.4 (omega arith) in
-      let fits : length (tlv 6 oid ++ tlv tag (written v)) < 2 ^ 128 =
+      let c = tlv 6 oid ++ tlv tag (written v) in
+      let all : length c ≤ 2 ^ 64 + 300 =
       omega (arith, length-append (tlv 6 oid) (tlv tag (written v)), l, short_oid) in
-      let made = tlv_made 48 (AlgorithmContents Within a) (written_algorithm encoding a)
+      let counted =
+      length_few (length c) (length_octets (length c)) (length_octets-within (length c) (omega (arith, all))) in
+      let fits : length (tlv 48 c) < 2 ^ 128 =
+      omega (arith, counted, all, length-append (length_octets (length c)) c) in
+      tlv_relates 48 (AlgorithmContents Within) (written_algorithm encoding) a
       (algorithm_relates Within has encoding (λ w k less. tlv_relates tag Contents written w (relates w k) less) a
-      (is, h) fits) fits in
-      (made.0, made.1)
+      (is, h)) fits
+
+  pub has_algorithm : WritesEncodings Contents has written → IsIdentifier oid → (v : V) → has v
+      → length (written v) < 2 ^ 64 → HasEncoding (AlgorithmOf oid Within) v
+  has_algorithm relates is v h few =
+      (tlv 48 (tlv 6 oid ++ tlv tag (written v)), algorithm_made relates is v h few)
 
 module _ {V : Type 0} (Grammar : V → List ℕ → Type 0) (oid : List ℕ) (a : Algorithm V) (v : V)
     (is : a ≡ with_parameters oid v) where

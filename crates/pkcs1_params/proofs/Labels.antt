@@ -14,7 +14,7 @@ use Rattle.der_core.specs.declared.error.ErrorKind.TheVariants as kind
 use Rattle.der_core.proofs.Counting.{counts_joined}
 use Rattle.spki_core.specs.Laws.IdentifierTest.{is_identifier-sound}
 use Rattle.spki_core.specs.ObjectIdentifier.{IsIdentifier}
-use Rattle.pkcs1_params.specs.Laws.MaskedValues.{contents_relate, contents_least}
+use Rattle.pkcs1_params.specs.Laws.FieldContents.{contents_relate, contents_least}
 use Rattle.pkcs1_params.specs.OaepValue.{labelled, LabelFits, NoLabelFits}
 use Rattle.pkcs1_params.specs.LabelWriting.{written_source, CountsLabelled}
 use Rattle.pkcs1_params.proofs.Parts.{written_last, have_under}

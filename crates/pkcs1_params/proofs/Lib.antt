@@ -1,5 +1,6 @@
 pub mod Algorithms
 pub mod ShortSequences
+pub mod WrittenAlgorithms
 pub mod ParameterRows
 pub mod ParameterSpellings
 pub mod Masks

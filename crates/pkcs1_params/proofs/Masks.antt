@@ -1,6 +1,6 @@
 -- Spellings under masks: what writing tells of them.
 use Rattle.std.proofs.Common.{ℕ, suc, List, [], ◌∷◌, ◌++◌, ◌≡◌, ◌<◌, ◌^◌, ◌⊎◌, inl, inr, length, length-append, map}
-use Rattle.std.proofs.Common.{◌+◌, ap, ◌∙◌, arith}
+use Rattle.std.proofs.Common.{◌+◌, ◌-◌, ap, ◌∙◌, arith, subst, sym, refl}
 use Rattle.std.specs.Global.{Vec}
 use Rattle.std.specs.Prelude.{Result, Ok, Err, IfErr}
 use Rattle.std.proofs.lemmas.Bool.{cases_lt}
@@ -11,17 +11,23 @@ use Rattle.std.proofs.Math.Seq.{get_or-append_seam}
 use Rattle.der_core.specs.Document.{WhyNotWritten, IsShortest, HasEncoding, EncodeError, no_encoding, too_long, no_room}
 use Rattle.der_core.specs.Document.{another}
 use Rattle.der_core.specs.Encodings.{Joins}
-use Rattle.der_core.specs.Writing.{encode_error}
-use Rattle.der_core.specs.Tlv.{Tlv}
+use Rattle.der_core.specs.Length.{limit}
+use Rattle.der_core.specs.Writing.{WhyOctetsNotCounted, encode_error}
+use Rattle.der_core.specs.declared.error.ErrorKind.TheVariants as kind
 use Rattle.der_core.specs.declared.error.ErrorKind.{ErrorKind}
 use Rattle.der_core.specs.declared.error.ErrorKind.TheVariants.{OutOfMemory, Overflow}
 use Rattle.der_core.proofs.Encodings.{tlv_made}
+use Rattle.der_core.specs.Laws.Encodings.{tlv_relates}
+use Rattle.der_core.specs.Laws.ShortEncodings.{tlv_short}
+use Rattle.der_core.specs.Printed.{Prints}
+use Rattle.der_core.specs.Tlv.{tlv}
+use Rattle.spki_core.specs.Laws.Masks.{parts_relate}
 use Rattle.spki_core.specs.Explicit.{Field, Defaultable, HaveDefaults, MaskedContents, Masked}
 use Rattle.spki_core.specs.Laws.Fields.{AreInOrder}
 use Rattle.spki_core.proofs.Fields.{defaults_same}
-use Rattle.spki_core.proofs.Spellings.{one_mask, masked_fits, last_is_all, all_is_last, members_under, zero_fits}
+use Rattle.spki_core.proofs.Spellings.{one_encoding, one_mask, masked_fits, last_is_all, all_is_last, members_under, zero_fits}
 use Rattle.spki_core.proofs.Spellings.{zero_shortest}
-use Rattle.pkcs1_params.specs.MaskedValues.{MaskedValue, InRange}
+use Rattle.pkcs1_params.specs.FieldContents.{InRange}
 use Rattle.pkcs1_params.specs.Spellings.{IsMask, AllFit, IsSpelling, HasNoSpelling, StandsUnder, WhyNoSpelling}
 use Rattle.pkcs1_params.specs.Spellings.{IsSpellingError, AreUnder, AreMasks, AreAllSpellings, encodings_in}
 use Rattle.pkcs1_params.specs.declared.error.Error.{Error}
@@ -45,25 +51,76 @@ module _ {V : Type 0} (fields : V → List Field) (v : V) (mask : ℕ) where
     each_once = each_has_one_mask fields ordered v;
   }
 
-  -- An error of a value that has an encoding under the mask.
-  pub unspelled_as : (has : Type 0) (room : ℕ) → (encoding : List ℕ) × Masked (fields v) mask encoding
-      → (k : EncodeError)
-      → WhyNotWritten has (λ (w : MaskedValue V). Tlv 48 (MaskedContents (fields w.value) w.mask))
-      (record { value = v; mask = mask }) room k → WhyNoSpelling (fields v) mask room k
-  unspelled_as has room made no_encoding h = h made.0 made.1
-  unspelled_as has room made too_long h = h.1
-  unspelled_as has room made no_room h = (h.0, h.1.spells, h.2)
-  unspelled_as has room made another h = h
-
 -- The mask is in range by any count of the defaults.
 pub in_range : (fields : List Field) (mask : ℕ) → IsMask fields mask → InRange fields mask
 in_range fields mask m k count = rw (defaults_same fields k m.0 count m.1) m.2
 
--- Contents that are not too long have an encoding.
-pub encoding_under : (fields : List Field) (mask : ℕ) (contents : List ℕ) → MaskedContents fields mask contents
-    → length contents < 2 ^ 64 → (encoding : List ℕ) × Masked fields mask encoding
-encoding_under fields mask contents p few =
-    let made = tlv_made 48 (MaskedContents fields mask) contents p (omega (arith, few)) in (made.0, made.1)
+-- What is written under a mask, where that is a spelling, and why it isn't written.
+module _ {V : Type 0} (values : V → List FieldValue) (v : V) (mask : ℕ) where
+  abbrev Written : List ℕ
+  Written = tlv 48 (written_fields (values v) mask)
+
+  pub under_made : InRange (fields_with values v) mask → HasFields (values v) mask
+      → length (written_fields (values v) mask) < 2 ^ 64 → Masked (fields_with values v) mask Written
+  under_made range has few =
+      let parts = parts_of (values v) in
+      let k = parts_counted parts in
+      tlv_relates 48 (λ (_ : Unit {0}). MaskedContents (fields_with values v) mask)
+      (λ _. written_fields (values v) mask) tt
+      (λ _. parts_relate parts k.0 mask k.1 (range k.0 k.1) has (omega (arith, few)))
+      (let l = tlv_short 48 (2 ^ 64 - 1) (written_fields (values v) mask) (omega (arith, few)) (omega arith) in
+      omega (arith, l))
+
+  -- The printed encodings of a spelling are what is written of it.
+  module _ {S : Type 0} (valid : S → Type 0) (printed : S → List ℕ) (s : S) (same : Written ≡ printed s)
+      (ok : valid s) (ordered : (w : V) → AreInOrder (fields_with values w))
+      (made : Masked (fields_with values v) mask Written) where
+    pub unspelled_as : (has : Type 0) (room : ℕ) (k : EncodeError)
+        → WhyNotWritten has (Prints valid printed (λ s. s)) s room k → WhyNoSpelling (fields_with values v) mask room k
+    unspelled_as has room no_encoding h = h Written (s, (λ i. s), ok, same)
+    unspelled_as has room too_long h = λ encoding p.
+        let one : encoding ≡ Written =
+        one_encoding (fields_with values v) mask encoding Written (ordered v) p.1 made in
+        h.1 encoding (p.0, (s, (λ i. s), ok, one ∙ same))
+    unspelled_as has room no_room (encoding, shortest, less) =
+        let (few, (t, is, good, printed_is)) = shortest.spells in (
+          encoding,
+          (
+            few,
+            subst (Masked (fields_with values v) mask) (same ∙ ap printed (sym is) ∙ sym printed_is) made,
+          ),
+          less,
+        )
+    unspelled_as has room another h = h
+
+  -- Of one that is too long there is no other.
+  pub none_there : ((w : V) → AreInOrder (fields_with values w)) → Masked (fields_with values v) mask Written
+      → limit < length Written → HasNoSpelling (fields_with values v) mask
+  none_there ordered made long encoding p =
+      let one : encoding ≡ Written =
+      one_encoding (fields_with values v) mask encoding Written (ordered v) p.1 made in
+      omega (arith, long, p.0, ap length one)
+
+-- Why octets that there are weren't counted.
+pub uncounted_as : {H : Type 0} (octets : List ℕ) (k : ErrorKind) → H → WhyOctetsNotCounted H octets (encode_error k)
+    → (k ≡ Overflow) × (limit < length octets)
+uncounted_as octets (kind.Value tag) has h = absurd (h has)
+uncounted_as octets kind.Overflow has h = (refl, h.1)
+uncounted_as octets kind.NoRoom has h = absurd h
+uncounted_as octets kind.Failed has h = absurd h
+uncounted_as octets kind.Incomplete has h = absurd h
+uncounted_as octets kind.IndefiniteLength has h = absurd h
+uncounted_as octets (kind.Length tag) has h = absurd h
+uncounted_as octets (kind.Noncanonical tag) has h = absurd h
+uncounted_as octets kind.OidMalformed has h = absurd h
+uncounted_as octets kind.OidUnknown has h = absurd h
+uncounted_as octets kind.Overlength has h = absurd h
+uncounted_as octets kind.ParametersMissing has h = absurd h
+uncounted_as octets (kind.TagUnexpected expected actual) has h = absurd h
+uncounted_as octets (kind.TagUnknown octet) has h = absurd h
+uncounted_as octets kind.TrailingData has h = absurd h
+uncounted_as octets kind.File has h = absurd h
+uncounted_as octets kind.OutOfMemory has h = absurd h
 
 -- Where every spelling is within the limit, there is one under each mask.
 pub spelling_there : (fields : List Field) (n mask : ℕ) → AreMasks fields n → mask < n

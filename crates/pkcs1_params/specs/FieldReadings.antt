@@ -1,12 +1,9 @@
 -- Reading a SEQUENCE's fields with defaults: one function for every list of kinds of fields.
-use Rattle.std.specs.Prelude.{ℕ, Bool, true, false, List, [], ◌∷◌, ◌+◌, ◌*◌, Result, Ok, Err, map, if◌then◌else◌}
-use Rattle.der_core.specs.declared.error.ErrorKind.{ErrorKind}
+use Rattle.std.specs.Prelude.{ℕ, List, [], ◌∷◌, map}
 use Rattle.der_core.specs.Encodings.{Joins}
-use Rattle.der_core.specs.Readings.{FrontReading, Reading, is_next, no_parts, parts}
-use Rattle.der_core.specs.Tag.{context_tag}
-use Rattle.spki_core.specs.Any.{TagAndContents}
+use Rattle.der_core.specs.Readings.{FrontReading, Reading, no_parts, parts}
 use Rattle.spki_core.specs.Explicit.{Defaultable, Field, field}
-use Rattle.spki_core.specs.Readings.{any, defaulted}
+use Rattle.spki_core.specs.Readings.{defaulted}
 
 -- A field without its value: the number, the grammar of the value, what reads it, and the default.
 pub record FieldKind : Type 1 where
@@ -32,15 +29,3 @@ KindContents kinds v contents = Joins (map Defaultable (fields_at kinds v)) cont
 abbrev pub fields_read : (kinds : List FieldKind) → Reading (ValuesOf kinds)
 fields_read [] = no_parts
 fields_read (k ∷ kinds) = parts (defaulted k.number k.at k.default) (fields_read kinds)
-
--- The mask under which fields stand, numbered from n on, by which of them equal their defaults: such a field has a bit,
--- which says whether it is written.
-abbrev pub mask_behind : (List ℕ → ℕ) → Result (TagAndContents × List ℕ) ErrorKind → ℕ
-mask_behind later (Ok p) = later p.1
-mask_behind later (Err k) = 0
-
-abbrev pub mask_in : ℕ → List Bool → List ℕ → ℕ
-mask_in n [] c = 0
-mask_in n (true ∷ ds) c =
-    if is_next (context_tag n) c then 2 * mask_behind (mask_in (n + 1) ds) (any c) + 1 else 2 * mask_in (n + 1) ds c
-mask_in n (false ∷ ds) c = mask_behind (mask_in (n + 1) ds) (any c)

@@ -3,10 +3,11 @@ pub mod Equality
 pub mod FieldReadings
 pub mod FieldValues
 pub mod HashFields
-pub mod MaskedValues
+pub mod FieldContents
 pub mod Oaep
 pub mod ParameterReadings
 pub mod Parameters
+pub mod ParameterSpellings
 pub mod Parts
 pub mod Pss
 pub mod SmallFields

@@ -7,6 +7,8 @@ use Rattle.der_core.specs.Tlv.{Tlv}
 use Rattle.spki_core.specs.Any.{TagAndContents, null_value}
 use Rattle.spki_core.specs.AlgorithmIdentifier.{Algorithm, PlainAlgorithm, MaskAlgorithm}
 use Rattle.spki_core.specs.Explicit.{Field, field, Defaultable}
+-- The values of the fields.
+pub use Rattle.standard.specs.Statement.{OaepParameters, PssParameters}
 
 -- The contents of identifiers (RFC 8017 appendix C; A.2.1, A.2.3).
 abbrev pub id_rsa_encryption : List ℕ
@@ -51,12 +53,6 @@ abbrev pub hash_fields_then : Algorithm TagAndContents → Algorithm (Algorithm 
 hash_fields_then hash mask_gen later =
     field 0 PlainAlgorithm sha1 hash ∷ field 1 MaskAlgorithm mgf1_sha1 mask_gen ∷ later
 
-pub record PssParameters : Type 0 where
-  pub hash : Algorithm TagAndContents
-  pub mask_gen : Algorithm (Algorithm TagAndContents)
-  pub salt_len : ℕ
-  pub trailer_field : ℕ
-
 abbrev pub pss_fields : PssParameters → List Field
 pss_fields p =
     hash_fields_then p.hash p.mask_gen (field 2 Small 20 p.salt_len ∷ field 3 TrailerField 1 p.trailer_field ∷ [])
@@ -67,11 +63,6 @@ PssContents p contents = Joins (map Defaultable (pss_fields p)) contents
 -- RSASSA-PSS-params (A.2.3)
 abbrev pub RsaPssParams : PssParameters → List ℕ → Type 0
 RsaPssParams p encoding = Tlv sequence_tag (PssContents p) encoding
-
-pub record OaepParameters : Type 0 where
-  pub hash : Algorithm TagAndContents
-  pub mask_gen : Algorithm (Algorithm TagAndContents)
-  pub p_source : Algorithm TagAndContents
 
 abbrev pub oaep_fields : OaepParameters → List Field
 oaep_fields p = hash_fields_then p.hash p.mask_gen (field 2 PlainAlgorithm empty_label p.p_source ∷ [])

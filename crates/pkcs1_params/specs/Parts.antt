@@ -1,9 +1,7 @@
 -- The fields of parameters as they are written.
 use Rattle.std.specs.Prelude.{ℕ, Bool, List, [], ◌∷◌, ◌≡◌, ◌+◌, ◌<◌, eqb, map}
 use Rattle.der_core.specs.Laws.Equality.{number_decides}
-use Rattle.der_core.specs.Integer.{Small, integer_contents}
-use Rattle.der_core.specs.Tag.{integer_tag}
-use Rattle.der_core.specs.Tlv.{tlv}
+use Rattle.der_core.specs.Integer.{Small}
 use Rattle.spki_core.specs.Any.{TagAndContents}
 use Rattle.spki_core.specs.AlgorithmIdentifier.{Algorithm, PlainAlgorithm, MaskAlgorithm, HasPlain, HasMask}
 use Rattle.spki_core.specs.AlgorithmIdentifier.{written_plain, written_mask, same_plain, same_mask}
@@ -15,6 +13,7 @@ use Rattle.pkcs1_params.specs.Parameters.{sha1, mgf1_sha1, empty_label, TrailerF
 use Rattle.pkcs1_params.specs.Parameters.{OaepParameters}
 use Rattle.pkcs1_params.specs.Laws.SmallFields.{salt_relates, salt_shortest, trailer_encoding_relates}
 use Rattle.pkcs1_params.specs.Laws.SmallFields.{trailer_encoding_shortest}
+use Rattle.standard.specs.Statement.{integer}
 
 abbrev plain_part : ℕ → Algorithm TagAndContents → Algorithm TagAndContents → Part
 plain_part number default v = record {
@@ -38,15 +37,12 @@ mask_gen_part v = record {
   least = mask_shortest v;
 }
 
-abbrev pub written_number : ℕ → List ℕ
-written_number n = tlv integer_tag (integer_contents (n ∷ []))
-
 abbrev salt_part : ℕ → Part
 salt_part n = record {
   field = field 2 Small 20 n;
   is_default = eqb n 20;
   has = n < 256;
-  encoding = written_number n;
+  encoding = integer n;
   decides = number_decides n 20;
   relates = salt_relates n;
   least = salt_shortest n;
@@ -57,7 +53,7 @@ trailer_part n = record {
   field = field 3 TrailerField 1 n;
   is_default = eqb n 1;
   has = n ≡ 1;
-  encoding = written_number n;
+  encoding = integer n;
   decides = number_decides n 1;
   relates = trailer_encoding_relates n;
   least = trailer_encoding_shortest n;

@@ -13,14 +13,16 @@ pub use Rattle.pkcs1_params.specs.HashFunctions.{UsesHash, id_sha224, id_sha256,
 pub use Rattle.pkcs1_params.specs.HashFunctions.{id_sha512_256}
 pub use Rattle.pkcs1_params.specs.Labels.{LabelOf}
 pub use Rattle.pkcs1_params.specs.LabelWriting.{CountsLabelled, written_source}
-pub use Rattle.pkcs1_params.specs.MaskedValues.{FieldContents}
+pub use Rattle.pkcs1_params.specs.FieldContents.{FieldContents}
 pub use Rattle.pkcs1_params.specs.Meanings.{ErrsAs, ErrsOrAsks, FaultsTell, IsNoSentence, IsNoShortest}
 pub use Rattle.pkcs1_params.specs.Meanings.{IsTheMeaning, IsTheOnly, IsTheShortest, IsWritingError, TellsFault}
 pub use Rattle.pkcs1_params.specs.OaepValue.{LabelFits, NoLabelFits, labelled}
 pub use Rattle.pkcs1_params.specs.OaepValue.{oaep_in, oaep_of, oaep_viewed, oaep_with}
-pub use Rattle.pkcs1_params.specs.ParameterReadings.{oaep_read, pss_read, rsa_oaep_params}
+pub use Rattle.pkcs1_params.specs.ParameterReadings.{oaep_read, of_oaep_fields, of_pss_fields, pss_read, rsa_oaep_params}
 pub use Rattle.pkcs1_params.specs.ParameterReadings.{rsa_pss_params, strict_oaep_params, strict_pss_params}
 pub use Rattle.pkcs1_params.specs.ParameterReadings.{trailer_read}
+pub use Rattle.pkcs1_params.specs.ParameterSpellings.{in_oaep_fields, in_pss_fields, oaep_kinds, oaep_meant, oaep_under}
+pub use Rattle.pkcs1_params.specs.ParameterSpellings.{pss_kinds, pss_meant, pss_under}
 pub use Rattle.pkcs1_params.specs.UsualParameters.{AreUsual, HaveUsualHash, IsUsualOaep, IsUsualOaepEncoding}
 pub use Rattle.pkcs1_params.specs.UsualParameters.{IsUsualPss, IsUsualPssEncoding}
 pub use Rattle.pkcs1_params.specs.Parameters.{OaepContents, OaepParameters, PssContents, PssParameters, RsaOaepParams}
@@ -33,14 +35,14 @@ pub use Rattle.pkcs1_params.specs.PssValue.{pss_in, pss_of, pss_viewed, pss_with
 pub use Rattle.pkcs1_params.specs.Spellings.{AllFit, AreAllSpellings, HasTwoToTheDefaults, IsListingError, IsMask}
 pub use Rattle.pkcs1_params.specs.Spellings.{IsSpellingError, StandsUnder, encodings_in}
 pub use Rattle.pkcs1_params.specs.Laws.Equality.{mask_decides, oaep_decides, plain_decides, pss_decides}
-pub use Rattle.pkcs1_params.specs.Laws.MaskedValues.{contents_are_bytes, contents_least, contents_relate}
 pub use Rattle.pkcs1_params.specs.Laws.Oaep.{oaep_means_one}
-pub use Rattle.pkcs1_params.specs.Laws.ParameterReadings.{oaep_reads, pss_reads, trailer_reads}
+pub use Rattle.pkcs1_params.specs.Laws.ParameterReadings.{oaep_reads, pss_reads}
+pub use Rattle.pkcs1_params.specs.Laws.ParameterSpellings.{have_spelled, oaep_alike, oaep_law, oaep_lawful, oaep_shortest}
+pub use Rattle.pkcs1_params.specs.Laws.ParameterSpellings.{pss_alike, pss_law, pss_lawful, pss_shortest, trailer_law}
+pub use Rattle.pkcs1_params.specs.Laws.ParameterSpellings.{written_spelled}
 pub use Rattle.pkcs1_params.specs.Laws.Parameters.{oaep_delimited, oaep_numbered, pss_delimited, pss_numbered}
 pub use Rattle.pkcs1_params.specs.Laws.Parts.{oaep_defaults, pss_defaults}
 pub use Rattle.pkcs1_params.specs.Laws.Pss.{pss_means_one}
-pub use Rattle.pkcs1_params.specs.Laws.SmallFields.{trailer_means_one, trailer_of_bytes, trailer_relates}
-pub use Rattle.pkcs1_params.specs.Laws.SmallFields.{trailer_shortest}
 pub use Rattle.spki_core.specs.Laws.WritesAs.{WritesAs, algorithm_writes}
 pub use Rattle.spki_core.specs.AlgorithmIdentifier.{HasMask, HasPlain, written_mask, written_plain}
 pub use Rattle.spki_core.specs.Laws.HaveEncodings.{AreHeld, mask_held, plain_held}

@@ -1,7 +1,7 @@
 //! Parameters in their algorithm identifier (RFC 8017 A.2.3, A.2.1; RFC 5280 4.1.1.2).
 ghost use Rattle.std.specs.Prelude.{◌≡◌, ◌≤◌, ◌<◌, ◌^◌, ℕ, List, length, take, drop, IfOk, IfErr, OnOk, OnErr};
 ghost use Rattle.der_core.specs.Words.{HasEncoding, IsShortest, Means, Is, MeansOne, sequence_tag, sequence, Tlv};
-ghost use Rattle.der_core.specs.Words.{Answers, Reading, ReadsContents};
+ghost use Rattle.der_core.specs.Words.{Answers, Prints, Reading, ReadsContents};
 ghost use Rattle.spki_core.specs.Words.{algorithm_in, algorithm_of, any_as, any_of, first_default, unless_found};
 ghost use Rattle.pkcs1_params.specs.Words.{AlgorithmOf, Identifies, identified, strict_algorithm, whole_algorithm};
 ghost use Rattle.pkcs1_params.specs.Words.{FieldContents, ErrsAs, IsNoSentence, IsNoShortest, IsTheMeaning};
@@ -156,9 +156,9 @@ pub(crate) fn decode_borrowed<'a, T: DecodeValue<&'a [u8], NoMemory> + FixedTag>
 ) -> der_core::Result<T>
     requires { (contents : List ℕ) → T.may_allocate contents → ⊥ }
     ensures ok { let any = any_of any.entry in
-        IfOk result (λ v. (any.tag ≡ T.TAG.octet) × T.contents (T.value v) any.contents) }
+        IfOk result (λ v. (any.tag ≡ T.TAG.octet) × Prints T.valid T.printed T.means (T.value v) any.contents) }
     ensures err { let any = any_of any.entry in
-        OnErr result ((v : T.Value) → any.tag ≡ T.TAG.octet → T.contents v any.contents → ⊥) }
+        OnErr result ((v : T.Value) → any.tag ≡ T.TAG.octet → Prints T.valid T.printed T.means v any.contents → ⊥) }
     ensures exact { Answers T.value result (any_as T.TAG T.read (any_of any.entry)) }
 {
     any.decode_as(NoMemory)

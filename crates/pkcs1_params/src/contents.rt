@@ -3,7 +3,8 @@
 ghost use Rattle.std.specs.Prelude.{◌≡◌, ◌≤◌, length};
 ghost use Rattle.der_core.specs.Words.{Appends, Counts, Prepends, free_of, limit};
 ghost use Rattle.pkcs1_params.specs.DefaultBits.{bits_of};
-ghost use Rattle.pkcs1_params.specs.Parts.{HasFields, defaults_in, written_fields};
+ghost use Rattle.pkcs1_params.specs.Parts.{defaults_in};
+ghost use Rattle.spki_core.specs.Words.{AreSpelled, spelled, under};
 
 use crate::fields::Fields;
 use crate::spelling::EncodeParams;
@@ -13,8 +14,8 @@ use der_core::{BackWriter, Length, Result, Writer};
 #[inline(always)]
 pub(crate) fn contents_len<T: EncodeParams>(params: T, non_defaults: u8, mask: u8) -> Result<Length>
     requires { non_defaults ≡ bits_of (defaults_in (T.values (T.params params))) }
-    ensures { let values = T.values (T.params params) in
-        Counts (HasFields values mask) (written_fields values mask) result }
+    ensures { let s = under T.kinds mask (T.split (T.params params)) in
+        Counts (AreSpelled T.kinds s) (spelled T.kinds s) result }
 {
     if non_defaults == 0 && mask == 0 {
         return Ok(Length::ZERO);
@@ -31,10 +32,10 @@ pub(crate) fn append_contents<T: EncodeParams, W: Writer>(
     writer: &mut W,
 ) -> Result<()>
     requires non_defaults { non_defaults ≡ bits_of (defaults_in (T.values (T.params params))) }
-    requires has { HasFields (T.values (T.params params)) mask }
-    requires fits { length (written_fields (T.values (T.params params)) mask) ≤ limit }
-    ensures appends { let values = T.values (T.params params) in
-        Appends (HasFields values mask) (written_fields values mask) W.room W.written writer.old writer.new result }
+    requires has { AreSpelled T.kinds (under T.kinds mask (T.split (T.params params))) }
+    requires fits { length (spelled T.kinds (under T.kinds mask (T.split (T.params params)))) ≤ limit }
+    ensures appends { let s = under T.kinds mask (T.split (T.params params)) in
+        Appends (AreSpelled T.kinds s) (spelled T.kinds s) W.room W.written writer.old writer.new result }
     ensures kept { W.keeps writer.old writer.new }
 {
     params.fields().append(non_defaults, mask, writer)
@@ -49,10 +50,10 @@ pub(crate) fn prepend_contents<T: EncodeParams>(
     writer: &mut BackWriter<'_>,
 )
     requires non_defaults { non_defaults ≡ bits_of (defaults_in (T.values (T.params params))) }
-    requires has { HasFields (T.values (T.params params)) mask }
-    requires fits { length (written_fields (T.values (T.params params)) mask) ≤ limit }
-    requires room { length (written_fields (T.values (T.params params)) mask) ≤ free_of writer.old }
-    ensures { Prepends (written_fields (T.values (T.params params)) mask) writer.old writer.new }
+    requires has { AreSpelled T.kinds (under T.kinds mask (T.split (T.params params))) }
+    requires fits { length (spelled T.kinds (under T.kinds mask (T.split (T.params params)))) ≤ limit }
+    requires room { length (spelled T.kinds (under T.kinds mask (T.split (T.params params)))) ≤ free_of writer.old }
+    ensures { Prepends (spelled T.kinds (under T.kinds mask (T.split (T.params params)))) writer.old writer.new }
 {
     if non_defaults == 0 && mask == 0 {
         return;

@@ -2,6 +2,8 @@
 ghost use Rattle.std.specs.Prelude.{◌≡◌, ◌+◌};
 ghost use Rattle.der_core.specs.Words.{limit};
 ghost use Rattle.spki_core.specs.Words.{Algorithm, TagAndContents, algorithm_in, mask_in, same_plain, same_mask};
+ghost use Rattle.spki_core.specs.Words.{algorithm_map};
+ghost use Rattle.standard.specs.Statement.{IsAlgorithm, algorithm};
 ghost use Rattle.pkcs1_params.specs.Words.{sha1, mgf1_sha1, empty_label};
 ghost use Rattle.pkcs1_params.specs.Words.{HasPlain, written_plain, HasMask, written_mask};
 ghost use Rattle.pkcs1_params.specs.Words.{AreHeld, plain_held, mask_held, WritesAs, algorithm_writes};
@@ -25,7 +27,8 @@ pub trait PlainHolder: Encode {
         ensures { result ≡ same_plain (plain self.now) empty_label };
 
     /// A value is written exactly if what it holds is, and in the same octets.
-    ghost writes: { WritesAs Self.value Self.has_encoding Self.written_encoding plain HasPlain written_plain };
+    ghost writes: { WritesAs Self.value (λ v. Self.valid (Self.written v)) (λ v. Self.printed (Self.written v)) plain
+        HasPlain written_plain };
 
     /// What is held has an encoding, little longer than the limit.
     ghost held: { AreHeld plain HasPlain written_plain (limit + 423) };
@@ -54,7 +57,7 @@ impl<O: IdentifierValue, P: AnyValue> PlainHolder for AlgorithmIdentifierOf<O, P
         }
     }
 
-    ghost writes = { algorithm_writes O.octets P.writes };
+    ghost writes = { algorithm_writes O.octets P.written P.valid P.printed P.writes };
 
     ghost held = { plain_held O.octets O.identifies P.any P.held };
 }
@@ -69,7 +72,8 @@ pub trait MaskHolder: Encode {
         ensures { result ≡ same_mask (mask self.now) mgf1_sha1 };
 
     /// A value is written exactly if what it holds is, and in the same octets.
-    ghost writes: { WritesAs Self.value Self.has_encoding Self.written_encoding mask HasMask written_mask };
+    ghost writes: { WritesAs Self.value (λ v. Self.valid (Self.written v)) (λ v. Self.printed (Self.written v)) mask
+        HasMask written_mask };
 
     /// What is held has an encoding, little longer than the limit.
     ghost held: { AreHeld mask HasMask written_mask (limit + 718) };
@@ -89,7 +93,8 @@ impl<O: IdentifierValue, P: AnyValue> MaskHolder
         }
     }
 
-    ghost writes = { algorithm_writes O.octets (algorithm_writes O.octets P.writes) };
+    ghost writes = { algorithm_writes O.octets (algorithm_map P.written) (IsAlgorithm P.valid) (algorithm P.printed)
+        (algorithm_writes O.octets P.written P.valid P.printed P.writes) };
 
     ghost held = { mask_held O.octets O.identifies P.any P.held };
 }

@@ -14,6 +14,7 @@ mod hash_functions;
 mod holders;
 mod label;
 mod laws;
+mod listing;
 mod oaep;
 mod oaep_algorithm;
 mod oaep_reading;

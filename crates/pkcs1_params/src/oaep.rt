@@ -1,9 +1,8 @@
 //! Parameters of RSAES-OAEP (RFC 8017 A.2.1).
 ghost use Rattle.std.specs.Prelude.{◌≡◌, [], refl};
-ghost use Rattle.pkcs1_params.specs.Words.{OaepParameters, OaepContents, sha1, mgf1_sha1};
-ghost use Rattle.pkcs1_params.specs.Words.{empty_label, oaep_values, HasFields, written_fields, oaep_means_one};
-ghost use Rattle.pkcs1_params.specs.Words.{contents_are_bytes, contents_least, contents_relate, oaep_in, oaep_read};
-ghost use Rattle.pkcs1_params.specs.Words.{oaep_reads};
+ghost use Rattle.pkcs1_params.specs.Words.{OaepParameters, empty_label, mgf1_sha1, oaep_alike, oaep_in, oaep_kinds};
+ghost use Rattle.pkcs1_params.specs.Words.{oaep_law, oaep_meant, oaep_read, oaep_shortest, oaep_under, sha1};
+ghost use Rattle.spki_core.specs.Words.{AreSpelled, Spelling, spelled, spelling_read};
 
 use crate::contents::{append_contents, contents_len, prepend_contents};
 use crate::error::Result;
@@ -60,19 +59,25 @@ impl<O: IdentifierValue, P: AnyValue> Contents for OaepParamsOf<O, P> {
 
     ghost value = { oaep_in O.octets P.any };
 
-    ghost contents = { OaepContents };
+    ghost Spelling = { Spelling oaep_kinds };
 
-    ghost has_contents = { λ p. HasFields (oaep_values p) 0 };
+    ghost means = { oaep_meant };
 
-    ghost written_contents = { λ p. written_fields (oaep_values p) 0 };
+    ghost written = { oaep_under 0 };
+
+    ghost valid = { AreSpelled oaep_kinds };
+
+    ghost printed = { spelled oaep_kinds };
+
+    ghost read_spelling = { spelling_read oaep_kinds };
 
     ghost read = { oaep_read };
 
-    ghost reads = { oaep_reads };
+    ghost law = { oaep_law };
 
-    ghost means_one = { oaep_means_one };
+    ghost shortest = { oaep_shortest };
 
-    ghost contents_of_bytes = { contents_are_bytes oaep_values };
+    ghost reads_alike = { oaep_alike };
 }
 
 impl<O, P> TaggedBy for OaepParamsOf<O, P> {
@@ -95,10 +100,6 @@ impl<O: IdentifierValue, P: AnyValue> EncodeValue for OaepParamsOf<O, P> {
     fn prepend_value(&self, writer: &mut BackWriter<'_>) {
         prepend_contents(self, non_defaults_in(self), 0, writer);
     }
-
-    ghost contents_relate = { contents_relate oaep_values };
-
-    ghost contents_shortest = { contents_least oaep_values };
 }
 
 impl<O: IdentifierValue, P> OaepParamsOf<O, P> {

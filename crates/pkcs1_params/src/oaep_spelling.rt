@@ -1,6 +1,8 @@
 //! The fields and the spellings of RSAES-OAEP parameters.
-ghost use Rattle.std.specs.Prelude.{◌≤◌, length, OnOk, IfOk, IfErr};
+ghost use Rattle.std.specs.Prelude.{◌≤◌, length, refl, OnOk, IfOk, IfErr};
 ghost use Rattle.spki_core.specs.Words.{HaveDefaults};
+ghost use Rattle.pkcs1_params.specs.Words.{have_spelled, in_oaep_fields, of_oaep_fields, oaep_alike, oaep_kinds, oaep_lawful};
+ghost use Rattle.pkcs1_params.specs.Words.{written_spelled};
 ghost use Rattle.pkcs1_params.specs.Words.{oaep_means_one, oaep_in, oaep_numbered, oaep_read, OaepParameters};
 ghost use Rattle.pkcs1_params.specs.Words.{oaep_reads};
 ghost use Rattle.pkcs1_params.specs.Words.{oaep_fields, oaep_values, IsMask, StandsUnder, IsSpellingError, AllFit};
@@ -10,8 +12,9 @@ use crate::error::Result;
 use crate::fields::{FieldRef, FieldThen, NoField};
 use crate::hash_fields::{MaskGenOf, uses_hash};
 use crate::holders::{MaskHolder, PlainHolder};
+use crate::listing::all_spellings;
 use crate::oaep::OaepParamsOf;
-use crate::spelling::{EncodeParams, all_spellings, count_defaults};
+use crate::spelling::{EncodeParams, count_defaults};
 use der_core::TagNumber;
 use spki_core::{AlgorithmIdentifierOf, AnyValue, AssociatedOid, IdentifierValue, written_default};
 use std::alloc::Global;
@@ -37,6 +40,22 @@ impl<'b, O: IdentifierValue, P: AnyValue> EncodeParams for &'b OaepParamsOf<O, P
     ghost read = { oaep_read };
 
     ghost reads = { oaep_reads };
+
+    ghost kinds = { oaep_kinds };
+
+    ghost lawful = { oaep_lawful };
+
+    ghost join = { of_oaep_fields };
+
+    ghost split = { in_oaep_fields };
+
+    ghost parted = { λ v. refl };
+
+    ghost whole = { λ p. refl };
+
+    ghost reads_alike = { oaep_alike };
+
+    ghost spelled = { λ p mask. (have_spelled (oaep_values p) mask, written_spelled (oaep_values p) mask) };
 
     fn fields(self) -> OaepFields<'b, O, P> {
         FieldThen {

@@ -1,11 +1,9 @@
 //! Parameters of RSASSA-PSS (RFC 8017 A.2.3).
 ghost use Rattle.std.specs.Prelude.{◌≡◌, refl, length};
-ghost use Rattle.pkcs1_params.specs.Words.{PssParameters, PssContents};
-ghost use Rattle.pkcs1_params.specs.Words.{with_parameters, id_mgf1, sha1, mgf1_sha1, pss_values};
-ghost use Rattle.pkcs1_params.specs.Words.{HasFields, written_fields, pss_means_one, pss_read, pss_reads};
-ghost use Rattle.pkcs1_params.specs.Words.{pss_of, pss_in, pss_with};
-ghost use Rattle.pkcs1_params.specs.Words.{contents_are_bytes, contents_least, contents_relate};
-ghost use Rattle.spki_core.specs.Words.{null_value};
+ghost use Rattle.pkcs1_params.specs.Words.{PssParameters, id_mgf1, mgf1_sha1, pss_alike, pss_in, pss_kinds, pss_law};
+ghost use Rattle.pkcs1_params.specs.Words.{pss_meant, pss_of, pss_read, pss_shortest, pss_under, pss_with, sha1};
+ghost use Rattle.pkcs1_params.specs.Words.{with_parameters};
+ghost use Rattle.spki_core.specs.Words.{AreSpelled, Spelling, null_value, spelled, spelling_read};
 
 use crate::contents::{append_contents, contents_len, prepend_contents};
 use crate::error::Result;
@@ -65,19 +63,25 @@ impl<O: IdentifierValue, P: AnyValue> Contents for PssParamsOf<O, P> {
 
     ghost value = { pss_in O.octets P.any };
 
-    ghost contents = { PssContents };
+    ghost Spelling = { Spelling pss_kinds };
 
-    ghost has_contents = { λ p. HasFields (pss_values p) 0 };
+    ghost means = { pss_meant };
 
-    ghost written_contents = { λ p. written_fields (pss_values p) 0 };
+    ghost written = { pss_under 0 };
+
+    ghost valid = { AreSpelled pss_kinds };
+
+    ghost printed = { spelled pss_kinds };
+
+    ghost read_spelling = { spelling_read pss_kinds };
 
     ghost read = { pss_read };
 
-    ghost reads = { pss_reads };
+    ghost law = { pss_law };
 
-    ghost means_one = { pss_means_one };
+    ghost shortest = { pss_shortest };
 
-    ghost contents_of_bytes = { contents_are_bytes pss_values };
+    ghost reads_alike = { pss_alike };
 }
 
 impl<O, P> TaggedBy for PssParamsOf<O, P> {
@@ -100,10 +104,6 @@ impl<O: IdentifierValue, P: AnyValue> EncodeValue for PssParamsOf<O, P> {
     fn prepend_value(&self, writer: &mut BackWriter<'_>) {
         prepend_contents(self, non_defaults_in(self), 0, writer);
     }
-
-    ghost contents_relate = { contents_relate pss_values };
-
-    ghost contents_shortest = { contents_least pss_values };
 }
 
 impl<O: IdentifierValue, P> PssParamsOf<O, P> {

@@ -1,6 +1,8 @@
 //! The fields and the spellings of RSASSA-PSS parameters.
-ghost use Rattle.std.specs.Prelude.{◌≤◌, length, OnOk, IfOk, IfErr};
+ghost use Rattle.std.specs.Prelude.{◌≤◌, length, refl, OnOk, IfOk, IfErr};
 ghost use Rattle.spki_core.specs.Words.{HaveDefaults};
+ghost use Rattle.pkcs1_params.specs.Words.{have_spelled, in_pss_fields, of_pss_fields, pss_alike, pss_kinds, pss_lawful};
+ghost use Rattle.pkcs1_params.specs.Words.{written_spelled};
 ghost use Rattle.pkcs1_params.specs.Words.{pss_means_one, pss_in, pss_numbered, pss_read, pss_reads, PssParameters};
 ghost use Rattle.pkcs1_params.specs.Words.{pss_fields, pss_values, IsMask, StandsUnder, IsSpellingError, AllFit};
 ghost use Rattle.pkcs1_params.specs.Words.{AreAllSpellings, IsListingError, encodings_in};
@@ -9,8 +11,9 @@ use crate::error::Result;
 use crate::fields::{FieldRef, FieldThen, NoField};
 use crate::hash_fields::{MaskGenOf, uses_hash};
 use crate::holders::{MaskHolder, PlainHolder};
+use crate::listing::all_spellings;
 use crate::pss::{PssParamsOf, RsaPssParamsRef};
-use crate::spelling::{EncodeParams, all_spellings, count_defaults};
+use crate::spelling::{EncodeParams, count_defaults};
 use crate::trailer_field::TrailerField;
 use der_core::TagNumber;
 use spki_core::{AlgorithmIdentifierOf, AnyValue, AssociatedOid, IdentifierValue, written_default};
@@ -37,6 +40,22 @@ impl<'b, O: IdentifierValue, P: AnyValue> EncodeParams for &'b PssParamsOf<O, P>
     ghost read = { pss_read };
 
     ghost reads = { pss_reads };
+
+    ghost kinds = { pss_kinds };
+
+    ghost lawful = { pss_lawful };
+
+    ghost join = { of_pss_fields };
+
+    ghost split = { in_pss_fields };
+
+    ghost parted = { λ v. refl };
+
+    ghost whole = { λ p. refl };
+
+    ghost reads_alike = { pss_alike };
+
+    ghost spelled = { λ p mask. (have_spelled (pss_values p) mask, written_spelled (pss_values p) mask) };
 
     fn fields(self) -> PssFields<'b, O, P> {
         FieldThen {

@@ -1,13 +1,14 @@
 //! Parameters as their shortest encoding.
-ghost use Rattle.std.specs.Prelude.{◌≡◌};
+ghost use Rattle.std.specs.Prelude.{◌≡◌, ◌<◌, ◌^◌, length};
 ghost use Rattle.der_core.specs.Words.{HasEncoding};
 ghost use Rattle.spki_core.specs.Words.{viewed_with};
 ghost use Rattle.pkcs1_params.specs.Algorithms.{AlgorithmOf};
 ghost use Rattle.pkcs1_params.specs.DefaultBits.{bits_of};
 ghost use Rattle.pkcs1_params.specs.Parameters.{with_parameters};
-ghost use Rattle.pkcs1_params.specs.Laws.MaskedValues.{contents_are_bytes, contents_relate, contents_least};
-ghost use Rattle.pkcs1_params.specs.MaskedValues.{FieldContents};
 ghost use Rattle.pkcs1_params.specs.Parts.{Fielded, HasFields, defaults_in, written_fields};
+ghost use Rattle.der_core.specs.Laws.Printed.Shortest.{joined_shortest};
+ghost use Rattle.spki_core.specs.Words.{AreSpelled, fields_shortest, meant, spelled, spelling_read, spellings_law, under};
+ghost use Rattle.spki_core.specs.FieldSpellings as spellings;
 
 use crate::contents::{append_contents, contents_len, prepend_contents};
 use crate::spelling::{EncodeParams, non_defaults_in};
@@ -41,6 +42,8 @@ impl<T: EncodeParams> Shortest<T> {
     pub fn identified<D: AssociatedOid>(params: T) -> AlgorithmView<'static, Shortest<T>>
         ensures means { viewed_with (λ s. T.params s.params) result ≡ with_parameters D.contents (T.params params) }
         ensures some { HasEncoding (AlgorithmOf D.contents (Fielded T.values)) (T.params params) }
+        ensures contents { let values = T.values (T.params params) in
+            HasFields values 0 × (length (written_fields values 0) < 2 ^ 64) }
     {
         params.lemma_has_algorithm::<D>();
         AlgorithmView {
@@ -58,19 +61,25 @@ impl<T: EncodeParams> Contents for Shortest<T> {
 
     ghost value = { λ s. T.params s.params };
 
-    ghost contents = { FieldContents T.values };
+    ghost Spelling = { spellings.Spelling T.kinds };
 
-    ghost has_contents = { λ p. HasFields (T.values p) 0 };
+    ghost means = { λ s. T.join (meant T.kinds s) };
 
-    ghost written_contents = { λ p. written_fields (T.values p) 0 };
+    ghost written = { λ p. under T.kinds 0 (T.split p) };
+
+    ghost valid = { AreSpelled T.kinds };
+
+    ghost printed = { spelled T.kinds };
+
+    ghost read_spelling = { spelling_read T.kinds };
 
     ghost read = { T.read };
 
-    ghost reads = { T.reads };
+    ghost law = { spellings_law T.kinds 0 T.lawful };
 
-    ghost means_one = { T.fields_mean_one };
+    ghost shortest = { joined_shortest (fields_shortest T.kinds T.lawful) T.join T.split T.parted T.whole };
 
-    ghost contents_of_bytes = { contents_are_bytes T.values };
+    ghost reads_alike = { T.reads_alike };
 }
 
 impl<T: EncodeParams> TaggedBy for Shortest<T> {
@@ -89,8 +98,4 @@ impl<T: EncodeParams> EncodeValue for Shortest<T> {
     fn prepend_value(&self, writer: &mut BackWriter<'_>) {
         prepend_contents(self.params, self.non_defaults, 0, writer);
     }
-
-    ghost contents_relate = { contents_relate T.values };
-
-    ghost contents_shortest = { contents_least T.values };
 }

@@ -5,18 +5,18 @@ ghost use Rattle.der_core.specs.Words.{sequence_tag, MeansOne, HasEncoding, Read
 ghost use Rattle.std.specs.Option.{option_map};
 ghost use Rattle.spki_core.specs.Words.{HaveDefaults, Masked, first_default, number_in};
 ghost use Rattle.der_core.specs.declared.error.ErrorKind.{ErrorKind};
-ghost use Rattle.pkcs1_params.specs.Spellings.{IsMask, IsSpelling, HasNoSpelling, StandsUnder, IsSpellingError, AllFit};
-ghost use Rattle.pkcs1_params.specs.Spellings.{AreUnder, AreMasks, AreAllSpellings, IsListingError};
-ghost use Rattle.pkcs1_params.specs.Spellings.{HasTwoToTheDefaults, encodings_in};
+ghost use Rattle.pkcs1_params.specs.Spellings.{HasNoSpelling, HasTwoToTheDefaults, IsMask, IsSpelling, IsSpellingError};
+ghost use Rattle.pkcs1_params.specs.Spellings.{StandsUnder};
 ghost use Rattle.pkcs1_params.specs.Meanings.{IsTheShortest, IsWritingError};
 ghost use Rattle.pkcs1_params.specs.Algorithms.{AlgorithmOf};
 ghost use Rattle.pkcs1_params.specs.DefaultBits.{bits_of};
 ghost use Rattle.pkcs1_params.specs.Parts.{FieldValue, AreNumbered, defaults_in, defaults_with, fields_with, Fielded};
 ghost use Rattle.pkcs1_params.specs.Parts.{HasFields, written_fields};
-ghost use Rattle.pkcs1_params.specs.MaskedValues.{MaskedValue, InRange, FieldContents, MaskedValueContents, HasMasked};
-ghost use Rattle.pkcs1_params.specs.MaskedValues.{masked_read, written_masked};
-ghost use Rattle.pkcs1_params.specs.Laws.MaskedValues.{masked_means_one, masked_of_bytes, masked_relates, masked_least};
-ghost use Rattle.pkcs1_params.specs.Laws.MaskedValues.{masked_reads};
+ghost use Rattle.pkcs1_params.specs.FieldContents.{InRange, FieldContents};
+ghost use Rattle.der_core.specs.Words.{ReadsAlike, alike, one_spelling};
+ghost use Rattle.spki_core.specs.Words.{AreLawful, AreSpelled, Kind, Values, meant, spelled, spelling_read};
+ghost use Rattle.spki_core.specs.Words.{spellings_law, under};
+ghost use Rattle.spki_core.specs.FieldSpellings as spellings;
 
 use crate::contents::{append_contents, contents_len, prepend_contents};
 use crate::error::Result;
@@ -54,6 +54,31 @@ pub trait EncodeParams: Copy + Drop {
     /// The function reads the contents of the fields and no others, and its faults are about the bytes.
     ghost reads: { ReadsContents (FieldContents values) read };
 
+    /// The kinds of the fields.
+    ghost kinds: { List Kind };
+
+    /// Their laws.
+    ghost lawful: { AreLawful 0 kinds };
+
+    /// The parameters with these values of the fields.
+    ghost join: { Values kinds → Params };
+
+    /// The values of the fields.
+    ghost split: { Params → Values kinds };
+
+    /// They are the values of the parameters with them.
+    ghost parted: { (v : Values kinds) → split (join v) ≡ v };
+
+    /// No other parameters have them.
+    ghost whole: { (p : Params) → join (split p) ≡ p };
+
+    /// The function reads what spellings of the fields mean.
+    ghost reads_alike: { ReadsAlike (spelling_read kinds) (λ s. join (meant kinds s)) read };
+
+    /// What is written under a mask is what is printed of the spelling under it.
+    ghost spelled: { (p : Params) (mask : ℕ) → let s = under kinds mask (split p) in
+        (HasFields (values p) mask ≡ AreSpelled kinds s) × (written_fields (values p) mask ≡ spelled kinds s) };
+
     /// The fields, in order.
     fn fields(self) -> Self::Fields
         ensures are { Self.Fields.values result ≡ values (params self) }
@@ -81,7 +106,9 @@ pub trait EncodeParams: Copy + Drop {
 
     /// Does nothing: its contract says that there is an algorithm identifier of D with them.
     final fn lemma_has_algorithm<D: AssociatedOid>(self)
-        ensures { HasEncoding (AlgorithmOf D.contents (Fielded Self.values)) (Self.params self) }
+        ensures some { HasEncoding (AlgorithmOf D.contents (Fielded Self.values)) (Self.params self) }
+        ensures contents { let values = Self.values (Self.params self) in
+            HasFields values 0 × (length (written_fields values 0) < 2 ^ 64) }
     {
         self.lemma_has_contents();
         let _oid = IdentifierView::named::<D>();
@@ -148,31 +175,37 @@ pub trait EncodeParams: Copy + Drop {
 /// Parameters with a mask that says which of their defaults are written.
 #[derive(Drop)]
 pub(crate) struct Spelling<T: EncodeParams> {
-    params: T,
-    non_defaults: u8,
-    mask: u8,
+    pub(crate) params: T,
+    pub(crate) non_defaults: u8,
+    pub(crate) mask: u8,
     ghost range: { InRange (fields_with T.values (T.params params)) mask },
     ghost known: { non_defaults ≡ bits_of (defaults_in (T.values (T.params params))) },
 }
 
 impl<T: EncodeParams> Contents for Spelling<T> {
-    ghost Value = { MaskedValue T.Params };
+    ghost Value = { spellings.Spelling T.kinds };
 
-    ghost value = { λ s. record { value = T.params s.params; mask = s.mask } };
+    ghost value = { λ s. under T.kinds s.mask (T.split (T.params s.params)) };
 
-    ghost contents = { MaskedValueContents T.values };
+    ghost Spelling = { spellings.Spelling T.kinds };
 
-    ghost has_contents = { HasMasked T.values };
+    ghost means = { λ s. s };
 
-    ghost written_contents = { written_masked T.values };
+    ghost written = { λ s. s };
 
-    ghost read = { masked_read T.values T.read };
+    ghost valid = { AreSpelled T.kinds };
 
-    ghost reads = { masked_reads T.values T.numbered T.reads };
+    ghost printed = { spelled T.kinds };
 
-    ghost means_one = { masked_means_one T.values T.numbered T.fields_mean_one };
+    ghost read_spelling = { spelling_read T.kinds };
 
-    ghost contents_of_bytes = { masked_of_bytes T.values };
+    ghost read = { spelling_read T.kinds };
+
+    ghost law = { spellings_law T.kinds 0 T.lawful };
+
+    ghost shortest = { one_spelling (AreSpelled T.kinds) (spelled T.kinds) };
+
+    ghost reads_alike = { alike (spelling_read T.kinds) };
 }
 
 impl<T: EncodeParams> TaggedBy for Spelling<T> {
@@ -191,10 +224,6 @@ impl<T: EncodeParams> EncodeValue for Spelling<T> {
     fn prepend_value(&self, writer: &mut BackWriter<'_>) {
         prepend_contents(self.params, self.non_defaults, self.mask, writer);
     }
-
-    ghost contents_relate = { masked_relates T.values };
-
-    ghost contents_shortest = { masked_least T.values };
 }
 
 /// Which fields differ from their defaults, as bits: bit j is that of field j.
@@ -219,7 +248,7 @@ impl<T: EncodeParams> Spelling<T> {
     ghost use Rattle.der_core.specs.Words.{tlv};
 
     /// The length of the encoding: `Overflow` if there is no spelling under the mask.
-    fn len(&self) -> der_core::Result<usize>
+    pub(crate) fn len(&self) -> der_core::Result<usize>
         ensures ok { let params = T.params self.now.params in
             let encoding = tlv sequence_tag (written_fields (T.values params) self.now.mask) in
             IfOk result (λ n. n ≡ length encoding) }
@@ -235,7 +264,7 @@ impl<T: EncodeParams> Spelling<T> {
     }
 
     /// The encoding, in allocated memory.
-    fn to_vec(&self, alloc: Global) -> der_core::Result<Vec<u8>>
+    pub(crate) fn to_vec(&self, alloc: Global) -> der_core::Result<Vec<u8>>
         ensures ok { let fields = fields_with T.values (T.params self.now.params) in
             IfOk result (λ encoding. IsSpelling fields self.now.mask encoding.items) }
         ensures err { let none = HasNoSpelling (fields_with T.values (T.params self.now.params)) self.now.mask in
@@ -246,47 +275,4 @@ impl<T: EncodeParams> Spelling<T> {
         write_over(self, encoding.as_mut_slice());
         Ok(encoding)
     }
-}
-
-/// The encodings under the masks below `count`, in order.
-fn encodings_under<T: EncodeParams>(
-    params: T,
-    non_defaults: u8,
-    count: u8,
-    alloc: Global,
-) -> der_core::Result<Vec<Vec<u8>>>
-    requires non_defaults { non_defaults ≡ bits_of (defaults_in (T.values (T.params params))) }
-    requires masks { AreMasks (fields_with T.values (T.params params)) count }
-    ensures ok { IfOk result (λ encodings. AreUnder (fields_with T.values (T.params params)) count
-        (encodings_in encodings)) }
-    ensures err { IfErr result (λ e. e.kind ≡ ErrorKind.OutOfMemory) }
-{
-    let mut encodings = Vec::new(alloc);
-    for mask in 0..count {
-        let spelling = Spelling {
-            params,
-            non_defaults,
-            mask,
-        };
-        encodings.push(spelling.to_vec(alloc)?)?;
-    }
-    Ok(encodings)
-}
-
-/// All spellings, by mask: `Overflow`, before anything is allocated, if the one with every field is too long.
-pub(crate) fn all_spellings<T: EncodeParams>(params: T, alloc: Global) -> Result<Vec<Vec<u8>>>
-    ensures all { IfOk result (λ encodings. AreAllSpellings (fields_with T.values) (T.params params)
-        (encodings_in encodings)) }
-    ensures fit { OnOk result (AllFit (fields_with T.values (T.params params))) }
-    ensures err { IfErr result (IsListingError (fields_with T.values (T.params params))) }
-{
-    let count = 1u8 << count_defaults(params);
-    let non_defaults = non_defaults_in(params);
-    let longest = Spelling {
-        params,
-        non_defaults,
-        mask: count - 1,
-    };
-    longest.len()?;
-    Ok(encodings_under(params, non_defaults, count, alloc)?)
 }

@@ -1,8 +1,7 @@
 //! The trailer field of RSASSA-PSS.
-ghost use Rattle.std.specs.Prelude.{◌≡◌, ℕ, ◌∷◌, [], refl};
-ghost use Rattle.der_core.specs.Words.{integer_contents};
-ghost use Rattle.pkcs1_params.specs.Words.{TrailerContents, trailer_means_one, trailer_of_bytes, trailer_read};
-ghost use Rattle.pkcs1_params.specs.Words.{trailer_reads, trailer_relates, trailer_shortest};
+ghost use Rattle.std.specs.Prelude.{◌≡◌, ℕ, refl};
+ghost use Rattle.der_core.specs.Words.{alike, number_contents, one_spelling};
+ghost use Rattle.pkcs1_params.specs.Words.{trailer_law, trailer_read};
 
 use der_core::{
     BackWriter, Contents, DecodeValue, EncodeValue, EqualByValue, ErrorKind, Header, IntegerTag,
@@ -31,19 +30,25 @@ impl Contents for TrailerField {
 
     ghost value = { λ _. 1 };
 
-    ghost contents = { TrailerContents };
+    ghost Spelling = { ℕ };
 
-    ghost has_contents = { λ n. n ≡ 1 };
+    ghost means = { λ n. n };
 
-    ghost written_contents = { λ n. integer_contents (n ∷ []) };
+    ghost written = { λ n. n };
+
+    ghost valid = { λ n. n ≡ 1 };
+
+    ghost printed = { number_contents };
+
+    ghost read_spelling = { trailer_read };
 
     ghost read = { trailer_read };
 
-    ghost reads = { trailer_reads };
+    ghost law = { trailer_law };
 
-    ghost means_one = { trailer_means_one };
+    ghost shortest = { one_spelling (λ n. n ≡ 1) number_contents };
 
-    ghost contents_of_bytes = { trailer_of_bytes };
+    ghost reads_alike = { alike trailer_read };
 }
 
 impl TaggedBy for TrailerField {
@@ -81,8 +86,4 @@ impl EncodeValue for TrailerField {
     fn prepend_value(&self, writer: &mut BackWriter<'_>) {
         (*self as u8).prepend_value(writer);
     }
-
-    ghost contents_relate = { λ n has fits. trailer_relates n has };
-
-    ghost contents_shortest = { trailer_shortest };
 }

@@ -1,7 +1,7 @@
 use Rattle.std.proofs.Common.{ap, ◌∙◌}
 use Rattle.std.specs.Option.{option_map}
 use Rattle.spki_core.specs.AnyRefValue.{any_of}
-use Rattle.pkcs1_params.specs.MaskedValues.{FieldContents}
+use Rattle.pkcs1_params.specs.FieldContents.{FieldContents}
 use Rattle.pkcs1_params.proofs.Algorithms.{only_identified, unequal_false}
 use Rattle.pkcs1_params.proofs.algorithm.from_identifier.Goals as goal
 

@@ -11,10 +11,10 @@ returns-in-MaskGen g c = rw c.in-MaskGen.is (g.met.Mask.MaskHolder.held c.in-Mas
 
 pub returns-in-SaltLen : goal.returns-in-SaltLen
 returns-in-SaltLen g c =
-    rw c.in-SaltLen.is (c.lemma_is_octet.ensures, omega (arith, number_short c.in-SaltLen.salt_len))
+    rw c.in-SaltLen.is (c.lemma_is_octet.ensures, omega (arith, number_short c.in-SaltLen.salt_len c.lemma_is_octet.ensures))
 
 pub returns-in-Trailer : goal.returns-in-Trailer
-returns-in-Trailer g c = rw c.in-Trailer.is (refl, omega (arith, number_short 1))
+returns-in-Trailer g c = rw c.in-Trailer.is (refl, omega (arith, number_short 1 (omega arith)))
 
 pub returns-in-PSource : goal.returns-in-PSource
 returns-in-PSource g c =

@@ -1,6 +1,8 @@
 use Rattle.std.proofs.Common.{arith}
 use Rattle.der_core.specs.Laws.Input.{are_bytes}
-use Rattle.pkcs1_params.proofs.FaultsTold.{the_meaning}
+use Rattle.std.proofs.lemmas.Result.{err_from_is_err_and}
+use Rattle.pkcs1_params.proofs.FaultsTold.{no_memory, none_read, the_meaning}
+use Rattle.pkcs1_params.proofs.NothingAsked.{pss_asks}
 use Rattle.pkcs1_params.specs.Laws.Parameters.{pss_delimited}
 use Rattle.pkcs1_params.proofs.ParameterReadings.{rsa_pss_params_reads}
 use Rattle.pkcs1_params.proofs.ParameterRows.{pss_by_default}
@@ -18,8 +20,16 @@ returns-then-is_empty_sequence-clause-exact g c =
     pss_by_default _ _ (c.is_empty_sequence.ensures c.if-is_empty_sequence.true) c.default.ensures in
     rsa_pss_params_reads.takes _ _ means.0 means
 
+pub returns-in_err-view-clause-err : goal.returns-in_err-view-clause-err
+returns-in_err-view-clause-err g c =
+    let p = err_from_is_err_and c.from_residual.result c.from_residual.ensures.1 in
+    rw p.1 (none_read rsa_pss_params_reads _ _ (no_memory (pss_asks _) c.in_err-view.ensures.exact))
+
 pub returns-clause-ok : goal.returns-clause-ok
-returns-clause-ok g c = rw c.pss_from_view-2.ensures c.in_ok-view.ensures.encoding
+returns-clause-ok g c =
+    let bytes = are_bytes _ (λ i. omega (arith, c.type_inv.bytes i)) in
+    rw c.pss_from_view-2.ensures
+    (the_meaning pss_delimited _ _ (rsa_pss_params_reads.gives _ _ bytes c.in_ok-view.ensures.exact))
 
 pub returns-in-Some-clause-ok : goal.returns-in-Some-clause-ok
 returns-in-Some-clause-ok g c =

@@ -2,7 +2,7 @@ use Rattle.std.proofs.lemmas.Result.{IfOk-weaker}
 use Rattle.der_core.specs.Laws.Shortest.{means_one}
 use Rattle.der_core.specs.Laws.Encodings.{tlv_delimited}
 use Rattle.pkcs1_params.proofs.FieldValues.{ordered}
-use Rattle.pkcs1_params.specs.MaskedValues.{FieldContents}
+use Rattle.pkcs1_params.specs.FieldContents.{FieldContents}
 use Rattle.pkcs1_params.specs.Parts.{fields_with}
 use Rattle.pkcs1_params.proofs.Masks.{zero_in_range, zero_is_shortest, not_written, if_err_as}
 use Rattle.pkcs1_params.proofs.ParameterSpellings.{two_to_the_defaults}

@@ -2,7 +2,7 @@ use Rattle.std.proofs.Common.{◌<◌, ℕ, refl, arith}
 use Rattle.std.proofs.lemmas.Result.{err_from_is_err_and}
 use Rattle.pkcs1_params.specs.Parts.{fields_with}
 use Rattle.pkcs1_params.proofs.Masks.{mask_in_range, memory_alone, under_more}
-use Rattle.pkcs1_params.proofs.spelling.encodings_under.Goals as goal
+use Rattle.pkcs1_params.proofs.listing.encodings_under.Goals as goal
 
 pub loop-mask-init : goal.loop-mask-init
 loop-mask-init g c =

@@ -4,7 +4,7 @@ use Rattle.std.proofs.lemmas.Result.{err_from_is_err_and}
 use Rattle.pkcs1_params.proofs.FieldValues.{ordered}
 use Rattle.pkcs1_params.specs.Parts.{fields_with}
 use Rattle.pkcs1_params.proofs.Masks.{in_range, all_fit, none_fit, are_all}
-use Rattle.pkcs1_params.proofs.spelling.all_spellings.Goals as goal
+use Rattle.pkcs1_params.proofs.listing.all_spellings.Goals as goal
 
 shifted : (k : ℕ) → k < 8 → 1 * 2 ^ k % 256 ≡ 2 ^ k
 shifted k few = one_shl k 8 few
