@@ -1,129 +1,112 @@
 -- Which encodings of keys need memory: none of two primes, where its numbers need none; and what borrowed and owned
 -- numbers make of it.
-use Rattle.std.proofs.Common.{ℕ, List, [], ◌∷◌, ◌++◌, ◌≡◌, length, map, sym, ap, ◌∙◌, arith, append_assoc}
-use Rattle.std.specs.Int.Digits.{number_from_digits}
+use Rattle.std.proofs.Common.{ℕ, List, [], ◌∷◌, ◌++◌, ◌≡◌, ◌≤◌, length, map, refl, sym, subst, ap, ◌∙◌, arith}
+use Rattle.std.proofs.Common.{append_assoc, append-nil, length-append, inl, inr, ⊎_elim, Option, Some, None}
+use Rattle.std.specs.List.{concat}
 use Rattle.std.specs.Option.{option_map}
-use Rattle.der_core.specs.Encodings.{AreBytes}
-use Rattle.der_core.specs.Laws.Integer.{integer_delimited}
-use Rattle.pkcs1.specs.KeyReadings.{rsa_private_key}
-use Rattle.pkcs1.specs.Keys.{RsaPrivateKey}
-use Rattle.pkcs1.specs.Laws.StatedPrivateKeys.{private_decodes}
-use Rattle.pkcs1.specs.PrintedKeys.{other_as, other_stated, private_meaning}
-use Rattle.pkcs1.proofs.Decoded.{read_of}
-use Rattle.pkcs1.proofs.KeyReadings.{rsa_private_key_reads}
-use Rattle.standard.specs.Statement as standard
-use Rattle.std.proofs.Common.{length-append, inl, inr, ⊎_elim, Option, Some, None}
-use Rattle.std.specs.Prelude.{refl}
-use Rattle.der_core.specs.Tlv.{Tlv}
-use Rattle.der_core.specs.Encodings.{IsDelimited}
-use Rattle.der_core.specs.Laws.Lists.{same_fronts}
-use Rattle.der_core.specs.Laws.Encodings.{tlv_delimited, tlv_split, tlv_not_empty, joins_last}
-use Rattle.der_core.specs.Laws.ContentsShorter.{tlv_recast}
-use Rattle.der_core.specs.Document.{Means}
-use Rattle.der_core.specs.Integer.{Integer, IntegerContents}
-use Rattle.der_core.specs.Reading.{AllocatesBehind, AllocatesIn, Begins, FaultOrMemory, NoValueOrMemory}
 use Rattle.der_core.specs.declared.error.ErrorKind.{ErrorKind}
-use Rattle.pkcs1.specs.Allocating.{AllocatesForKey, AllocatesInNumbers, AllocatesInOther}
-use Rattle.pkcs1.specs.Allocating.{AllocatesInOthers, OthersFollow}
-use Rattle.pkcs1.specs.Versions.{VersionContents, VersionEncoding}
-use Rattle.der_core.specs.Parts.{AllocatesInParts, IsToldApart, PartsContents}
-use Rattle.der_core.specs.Laws.FrontParts.{no_parts_told_apart, parts_told_apart}
-use Rattle.der_core.proofs.FrontParts.{front_delimited}
-use Rattle.pkcs1.specs.Keys.{FrontContents, OtherPrime, OtherPrimeInfo, OtherPrimeInfos, PrivateKey}
-use Rattle.pkcs1.specs.Keys.{PrivateKeyContents, front_parts}
-use Rattle.pkcs1.specs.Laws.PrivateKey.{in_front}
-use Rattle.pkcs1.specs.Laws.Versions.{version_means_one}
+use Rattle.der_core.specs.Laws.ContentsShorter.{tlv_recast}
+use Rattle.der_core.specs.Laws.Encodings.{tlv_not_empty, tlv_split}
 use Rattle.der_core.specs.Laws.Parts.{parts_ask_none}
+use Rattle.der_core.specs.Laws.Printed.Leaves.{tlv_fit, tlv_is, tlv_made}
+use Rattle.der_core.specs.Laws.Printed.Rows.{prints_one}
+use Rattle.der_core.specs.Length.{limit}
+use Rattle.der_core.specs.Parts.{AllocatesInParts}
+use Rattle.der_core.specs.Printed.{ReadsFrontPrinted, number_contents}
+use Rattle.der_core.specs.Reading.{AllocatesBehind, AllocatesIn, Begins, FaultOrMemory, NoValueOrMemory}
+use Rattle.der_core.specs.Readings.{FrontReading}
+use Rattle.der_core.specs.Tlv.{Tlv, tlv}
+use Rattle.pkcs1.specs.Allocating.{AllocatesForKey, AllocatesInNumbers, AllocatesInOther, AllocatesInOthers}
+use Rattle.pkcs1.specs.Allocating.{NumberPrints, OthersFollow, VersionPrints}
+use Rattle.pkcs1.specs.KeyReadings.{key_from}
+use Rattle.pkcs1.specs.Keys.{OtherPrime, PrivateKey, front_parts, key_numbers}
+use Rattle.pkcs1.specs.Laws.PrintedNumbers.{integer_law}
+use Rattle.pkcs1.specs.Laws.PrintedPrivateKeys.{front_law, read_valid}
+use Rattle.pkcs1.specs.Laws.StatedPrivateKeys.{key_back, private_spelled}
+use Rattle.pkcs1.specs.PrintedKeys.{others_as}
+use Rattle.pkcs1.specs.Printing.{AnyNumber, FrontPrints, OtherPrints, PrivateIsValid, PrivateSpells, front_printed}
+use Rattle.pkcs1.specs.Printing.{others_printed, private_printed}
+use Rattle.pkcs1.specs.StatedKeys.{other_from, private_from}
+use Rattle.standard.specs.Statement as standard
+use Rattle.standard.specs.Statement.{integer}
 
 -- Numbers that need no memory are read without.
 pub numbers_ask_none : {V : Type 0} {encoding : V → List ℕ → Type 0} {may : List ℕ → Type 0}
     → ((b : List ℕ) → may b → ⊥) → (c : List ℕ) → AllocatesInNumbers encoding may c → ⊥
 numbers_ask_none {V} {encoding} {may} none =
-    parts_ask_none VersionEncoding (λ b t. t.holds) (next (next (next (next (next (next (next (next (λ c w. w)))))))))
+    parts_ask_none VersionPrints (λ b t. t.holds) (next (next (next (next (next (next (next (next (λ c w. w)))))))))
   where
     next : {rest : List ℕ → Type 0} → ((c : List ℕ) → rest c → ⊥) → (c : List ℕ)
         → AllocatesInParts encoding may rest c → ⊥
     next rest = parts_ask_none encoding none rest
 
--- What is in front of the other primes is told apart.
-front_is_delimited : {V : Type 0} {encoding : V → List ℕ → Type 0} → IsDelimited encoding
-    → IsDelimited (FrontContents encoding)
-front_is_delimited {V} {encoding} d =
-    front_delimited VersionEncoding _ (tlv_delimited 2 VersionContents version_means_one)
-    (next (next (next (next (next (next (next (next no_parts_told_apart))))))))
-  where
-    next : {R : Type 0} {Rest : R → List ℕ → Type 0} → IsToldApart Rest → IsToldApart (PartsContents encoding Rest)
-    next {R} {Rest} rest = parts_told_apart encoding Rest d rest
+none_others : {S V : Type 0} (means : S → V) (primes : Option (List (OtherPrime S))) → others_as means primes ≡ None
+    → primes ≡ None
+none_others means None e = refl
+none_others means (Some others) e = cc
 
-module _ {V : Type 0} {encoding : V → List ℕ → Type 0} (d : IsDelimited encoding) (key : PrivateKey V)
-    (two : key.other_prime_infos ≡ None) where
-  none_follow : {Listed : List ℕ → Type 0} (others : Option (List (OtherPrime V))) (rest : List ℕ) → others ≡ None
-      → OtherPrimeInfos encoding others rest → AllocatesIn (Tlv 48 Listed) rest → ⊥
-  none_follow None rest e p b = omega (arith, tlv_not_empty b.0 b.3, ap length p, ap length b.2, length-append b.0 b.1)
-  none_follow (Some others) rest e p b = cc
+module _ {S V : Type 0} {valid : S → Type 0} {printed : S → List ℕ} {at : FrontReading S}
+    (law : ReadsFrontPrinted valid printed at) (means : S → V) (may : List ℕ → Type 0) where
+  -- Nothing is behind the eight numbers of a key of two primes.
+  no_others : {Listed : List ℕ → Type 0} (s : PrivateKey S) → s.other_prime_infos ≡ None → PrivateIsValid valid s
+      → (c : List ℕ) → c ≡ private_printed printed s → length c ≤ limit
+      → AllocatesBehind (FrontPrints valid printed means) (AllocatesIn (Tlv 48 Listed)) c → ⊥
+  no_others s two ok c is few (front, (x, y, (f, m, right, begun), begins, joined)) =
+      let mine : c ≡ front_printed printed (front_parts s) ++ [] =
+      is ∙ ap (λ o. front_printed printed (front_parts s) ++ others_printed printed o) two in
+      let theirs : c ≡ front_printed printed f ++ y = joined ∙ ap (λ l. l ++ y) begun in
+      let one =
+      prints_one (front_law law) f (front_parts s) y [] right (read_valid law s ok).0
+      (omega (arith, few, ap length theirs)) (sym theirs ∙ mine) in
+      omega (
+        arith,
+        tlv_not_empty begins.0 begins.3,
+        ap length begins.2,
+        length-append begins.0 begins.1,
+        ap length one.1,
+      )
 
-  no_others : {Listed : List ℕ → Type 0} (c : List ℕ) → PrivateKeyContents encoding key c
-      → AllocatesBehind (FrontContents encoding) (AllocatesIn (Tlv 48 Listed)) c → ⊥
-  no_others c p (front, (x, y, t, begins, is)) =
-      let f = in_front encoding key c p in
-      let whole : x ++ y ≡ f.0 ++ f.1 = sym is ∙ f.4 in
-      let one = (front_is_delimited d).one front (front_parts key) x y f.0 f.1 t f.2 whole in
-      let tails = same_fronts x y f.0 f.1 (ap length one.0) whole in
-      let mine : OtherPrimeInfos encoding key.other_prime_infos y = rw tails.1 (joins_last f.1 f.3) in
-      none_follow key.other_prime_infos y two mine begins
-
-  pub two_primes_ask : (may_allocate : List ℕ → Type 0) → ((b : List ℕ) → may_allocate b → ⊥) → (whole : List ℕ)
-      → Tlv 48 (PrivateKeyContents encoding key) whole
-      → AllocatesIn (Tlv 48 (AllocatesForKey encoding may_allocate)) whole → ⊥
-  two_primes_ask may_allocate none whole p (b, rest, e, q) =
-      let same : b ++ rest ≡ whole ++ [] = sym e ∙ ends whole in
-      let s = tlv_split b rest whole [] q p same in
-      asked s.3 s.5 s.4
-    where
-      ends : (l : List ℕ) → l ≡ l ++ []
-      ends [] = refl
-      ends (x ∷ l) = ap (λ r. x ∷ r) (ends l)
-
-      asked : (c : List ℕ) → PrivateKeyContents encoding key c → AllocatesForKey encoding may_allocate c → ⊥
-      asked c h (inl w) = numbers_ask_none none c w
-      asked c h (inr w) = no_others c h w
+  -- So reading it needs no memory, where its numbers need none.
+  pub two_primes_ask : (key : PrivateKey V) → key.other_prime_infos ≡ None → ((b : List ℕ) → may b → ⊥)
+      → (whole : List ℕ) → PrivateSpells valid printed means key whole
+      → AllocatesIn (Tlv 48 (AllocatesForKey valid printed means may)) whole → ⊥
+  two_primes_ask key two none whole (few, (s, m, ok, is)) (b, rest, e, q) =
+      let contents = private_printed printed s in
+      let within : length (tlv 48 contents) ≤ limit = omega (arith, few, ap length is) in
+      let p : Tlv 48 (λ c. c ≡ contents) (tlv 48 contents) = tlv_made 48 contents refl within in
+      let t = tlv_split b rest (tlv 48 contents) [] q p (sym e ∙ is ∙ sym (append-nil (tlv 48 contents))) in
+      let none_there : s.other_prime_infos ≡ None =
+      none_others means s.other_prime_infos (ap (λ (k : PrivateKey V). k.other_prime_infos) m ∙ two) in
+      let fits : length t.3 ≤ limit = omega (arith, within, tlv_fit 48 contents, ap length t.5) in
+      ⊎_elim (λ w. numbers_ask_none none t.3 w) (λ w. no_others s none_there ok t.3 t.5 fits w) t.4
 
   -- So such an encoding isn't rejected.
-  pub two_primes_rejected : (may_allocate : List ℕ → Type 0) → ((b : List ℕ) → may_allocate b → ⊥)
-      → (whole : List ℕ) (kind : ErrorKind) → Means (λ v. Tlv 48 (PrivateKeyContents encoding v)) whole key
-      → NoValueOrMemory kind (AllocatesIn (Tlv 48 (AllocatesForKey encoding may_allocate)) whole)
-      ((v : PrivateKey V) → Means (λ v. Tlv 48 (PrivateKeyContents encoding v)) whole v → ⊥) → ⊥
-  two_primes_rejected may_allocate none whole kind means (inl w) = two_primes_ask may_allocate none whole means.1 w.1
-  two_primes_rejected may_allocate none whole kind means (inr w) = w.1 key means
+  pub two_primes_rejected : (key : PrivateKey V) → key.other_prime_infos ≡ None → ((b : List ℕ) → may b → ⊥)
+      → (whole : List ℕ) (kind : ErrorKind) → PrivateSpells valid printed means key whole
+      → NoValueOrMemory kind (AllocatesIn (Tlv 48 (AllocatesForKey valid printed means may)) whole)
+      ((v : PrivateKey V) → PrivateSpells valid printed means v whole → ⊥) → ⊥
+  two_primes_rejected key two none whole kind spelled (inl w) = two_primes_ask key two none whole spelled w.1
+  two_primes_rejected key two none whole kind spelled (inr w) = w.1 key spelled
 
 -- A borrowed key of two primes, in the words of `Statement.antt`.
-pub two_primes_read : (key : standard.PrivateKey) → key.other_primes ≡ None → (bytes : List ℕ) → AreBytes bytes
-    → standard.PrivateKeyEncoding key bytes → (may_allocate : List ℕ → Type 0) → ((b : List ℕ) → may_allocate b → ⊥)
-    → (kind : ErrorKind) → NoValueOrMemory kind (AllocatesIn (Tlv 48 (AllocatesForKey Integer may_allocate)) bytes)
-    ((v : PrivateKey (List ℕ)) → Means RsaPrivateKey bytes v → ⊥) → ⊥
-two_primes_read key two bytes are encoded may none kind =
-    let found = read_of standard.PrivateKeyEncoding private_meaning rsa_private_key bytes (private_decodes bytes are) key encoded in
-    two_primes_rejected integer_delimited found.0
-    (none_of found.0.other_prime_infos (ap (λ (k : standard.PrivateKey). k.other_primes) found.2 ∙ two)) may none bytes
-    kind (rsa_private_key_reads.gives bytes found.0 are found.1)
-  where
-    none_of : (o : Option (List (OtherPrime (List ℕ))))
-        → option_map (map other_stated) (option_map (map (other_as (number_from_digits 256))) o) ≡ None → o ≡ None
-    none_of None e = refl
-    none_of (Some others) e = cc
+pub two_primes_read : (key : standard.PrivateKey) → key.other_primes ≡ None → (bytes : List ℕ)
+    → standard.PrivateKeyEncoding key bytes → (may : List ℕ → Type 0) → ((b : List ℕ) → may b → ⊥) → (kind : ErrorKind)
+    → NoValueOrMemory kind (AllocatesIn (Tlv 48 (AllocatesForKey AnyNumber integer (λ n. n) may)) bytes)
+    ((v : PrivateKey ℕ) → PrivateSpells AnyNumber integer (λ n. n) v bytes → ⊥) → ⊥
+two_primes_read key two bytes encoded may none kind =
+    two_primes_rejected integer_law (λ n. n) may (private_from key) (ap (option_map (map other_from)) two) none
+    bytes kind
+    ((private_spelled (private_from key) bytes).1 (subst (λ k. standard.PrivateKeyEncoding k bytes) (sym (key_back key))
+    encoded))
 
 -- What the bytes that need memory begin with, told otherwise.
 module _ {Asks Needs : List ℕ → Type 0} (told : (c : List ℕ) → Asks c → Needs c) where
   pub asks_as : (encoding : List ℕ) → AllocatesIn (Tlv 48 Asks) encoding → AllocatesIn (Tlv 48 Needs) encoding
   asks_as encoding (b, rest, e, p) = (b, rest, e, tlv_recast b p (told p.contents p.holds))
 
-  pub rejects_as : (kind : ErrorKind) (encoding : List ℕ) {none : Type 0}
-      → NoValueOrMemory kind (AllocatesIn (Tlv 48 Asks) encoding) none → NoValueOrMemory kind (AllocatesIn (Tlv 48 Needs) encoding) none
-  rejects_as kind encoding (inl w) = inl (w.0, asks_as encoding w.1)
-  rejects_as kind encoding (inr w) = inr w
-
   pub faulty_as : (kind : ErrorKind) (encoding : List ℕ) {fault : Type 0}
-      → FaultOrMemory kind (AllocatesIn (Tlv 48 Asks) encoding) fault → FaultOrMemory kind (AllocatesIn (Tlv 48 Needs) encoding) fault
+      → FaultOrMemory kind (AllocatesIn (Tlv 48 Asks) encoding) fault
+      → FaultOrMemory kind (AllocatesIn (Tlv 48 Needs) encoding) fault
   faulty_as kind encoding (inl w) = inl (w.0, asks_as encoding w.1)
   faulty_as kind encoding (inr f) = inr f
 
@@ -135,47 +118,69 @@ pub borrowed_ask : (b : List ℕ) → Borrowed b → ⊥
 borrowed_ask b t = t.holds
 
 none_in_parts : {rest : List ℕ → Type 0} → ((c : List ℕ) → rest c → ⊥) → (c : List ℕ)
-    → AllocatesInParts Integer Borrowed rest c → ⊥
-none_in_parts none c (inl w) = borrowed_ask w.0 w.3
-none_in_parts none c (inr (v, (x, y, t, w, is))) = none y w
+    → AllocatesInParts NumberPrints Borrowed rest c → ⊥
+none_in_parts none = parts_ask_none NumberPrints borrowed_ask none
 
-pub none_in_public : (c : List ℕ) → AllocatesInParts Integer Borrowed (AllocatesInParts Integer Borrowed (λ _. ⊥)) c → ⊥
+none_in_public : (c : List ℕ)
+    → AllocatesInParts NumberPrints Borrowed (AllocatesInParts NumberPrints Borrowed (λ _. ⊥)) c → ⊥
 none_in_public = none_in_parts (none_in_parts (λ _ w. w))
 
-pub none_in_other : (c : List ℕ) → AllocatesInOther Integer Borrowed c → ⊥
+none_in_other : (c : List ℕ) → AllocatesInOther NumberPrints Borrowed c → ⊥
 none_in_other = none_in_parts none_in_public
 
-others_begin : (c : List ℕ) → AllocatesInOthers Integer Borrowed c
-    → AllocatesIn (Tlv 48 (Begins (OtherPrimeInfo Integer))) c
+-- Reading a view asks for none.
+pub view_fault : (kind : ErrorKind) (bytes : List ℕ) {fault : Type 0}
+    → FaultOrMemory kind (AllocatesIn (Tlv 48 (λ _. ⊥)) bytes) fault → fault
+view_fault kind bytes (inl w) = absurd w.1.3.holds
+view_fault kind bytes (inr f) = f
+
+-- So reading a borrowed public key has the fault of the function.
+pub public_fault : (kind : ErrorKind) (bytes : List ℕ) {fault : Type 0}
+    → FaultOrMemory kind (AllocatesIn (Tlv 48 (AllocatesInParts NumberPrints Borrowed
+    (AllocatesInParts NumberPrints Borrowed (λ _. ⊥)))) bytes) fault → fault
+public_fault kind bytes (inl w) = let t = w.1.3 in absurd (none_in_public t.contents t.holds)
+public_fault kind bytes (inr f) = f
+
+others_begin : (c : List ℕ) → AllocatesInOthers AnyNumber integer (λ n. n) Borrowed c
+    → AllocatesIn (Tlv 48 (Begins (OtherPrints AnyNumber integer (λ n. n)))) c
 others_begin = asks_as (λ c. ⊎_elim (λ w. w) (λ w. let t = w.3 in absurd (none_in_other t.contents t.holds)))
 
-pub borrowed_key_asks : (c : List ℕ) → AllocatesForKey Integer Borrowed c → OthersFollow c
+pub borrowed_key_asks : (c : List ℕ) → AllocatesForKey AnyNumber integer (λ n. n) Borrowed c → OthersFollow c
 borrowed_key_asks c (inl w) = absurd (numbers_ask_none borrowed_ask c w)
 borrowed_key_asks c (inr (front, (x, y, t, others, is))) = (front, (x, y, t, others_begin y others, is))
 
 -- A number that is owned is copied, so an owned key needs memory as soon as its first number is there.
 abbrev Copied : List ℕ → Type 0
-Copied = Tlv 2 (λ c. (bytes : List ℕ) × IntegerContents bytes c)
+Copied = Tlv 2 (λ c. (n : ℕ) × (c ≡ number_contents n))
 
-begins_copied : (c : List ℕ) → AllocatesIn Copied c → Begins Integer c
-begins_copied c (b, rest, e, t) = (b, rest, e, (t.holds.0, tlv_recast b t t.holds.1))
+begins_copied : (c : List ℕ) → AllocatesIn Copied c → Begins NumberPrints c
+begins_copied c (b, rest, e, t) =
+    let number : Tlv 2 (λ c. c ≡ number_contents t.holds.0) b = tlv_recast b t t.holds.1 in
+    (b, rest, e, (t.holds.0, (t.holds.0, refl, tt, tlv_is 2 (number_contents t.holds.0) b (λ c p. p) number)))
 
-pub owned_parts_ask : {rest : List ℕ → Type 0} (c : List ℕ) → AllocatesInParts Integer Copied rest c → Begins Integer c
+pub owned_parts_ask : {rest : List ℕ → Type 0} (c : List ℕ) → AllocatesInParts NumberPrints Copied rest c
+    → Begins NumberPrints c
 owned_parts_ask c (inl w) = begins_copied c w
 owned_parts_ask c (inr (v, (x, y, t, w, is))) = (x, y, is, (v, t))
 
-pub owned_key_asks : (c : List ℕ) → AllocatesForKey Integer Copied c
-    → AllocatesBehind VersionEncoding (Begins Integer) c
+abbrev later : List ℕ → List ℕ
+later [] = []
+later (n ∷ ns) = ns
+
+pub owned_key_asks : (c : List ℕ) → AllocatesForKey AnyNumber integer (λ n. n) Copied c
+    → AllocatesBehind VersionPrints (Begins NumberPrints) c
 owned_key_asks c (inl (inl w)) = absurd w.3.holds
 owned_key_asks c (inl (inr (n, (x, y, t, w, is)))) = (n, (x, y, t, owned_parts_ask y w, is))
-owned_key_asks c (inr (front, (x, y, (a, b, t, (m, more, number, rest, e), f), others, is))) = (
-  front.0,
-  (
-    a,
-    b ++ y,
-    t,
-    (m, more ++ y, ap (λ l. l ++ y) e ∙ append_assoc m more y, (front.1.0, number)),
-    is ∙ ap (λ l. l ++ y) f
-        ∙ append_assoc a b y,
-  ),
-)
+owned_key_asks c (inr (front, (x, y, (f, m, right, begun), others, is))) =
+    let number = f.1.0 in
+    let behind = concat (map integer (later (key_numbers (key_from f.1 None)))) in (
+      f.0,
+      (
+        integer f.0,
+        integer number ++ (behind ++ y),
+        (f.0, refl, right.0, refl),
+        (integer number, behind ++ y, refl, (number, (number, refl, tt, refl))),
+        is ∙ ap (λ l. l ++ y) begun ∙ append_assoc (integer f.0) (integer number ++ behind) y
+            ∙ ap (λ l. integer f.0 ++ l) (append_assoc (integer number) behind y),
+      ),
+    )

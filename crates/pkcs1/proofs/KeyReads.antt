@@ -2,15 +2,18 @@
 use Rattle.std.proofs.Common.{◌≡◌, ℕ, List, [], refl, ap, ◌∙◌, inl, inr, ⊎_elim, Option, Some, None, Ok}
 use Rattle.std.proofs.Common.{Err}
 use Rattle.der_core.specs.declared.error.ErrorKind.{ErrorKind}
-use Rattle.der_core.specs.Encodings.{AreBytes, IsDelimited}
+use Rattle.der_core.specs.Encodings.{AreBytes}
 use Rattle.der_core.specs.Input.{Input, left_in, read_from}
 use Rattle.der_core.specs.Reading.{Asks, HoldsBytes}
-use Rattle.der_core.specs.Readings.{FrontReading, ReadsFronts, ◌>>=◌, made}
+use Rattle.der_core.specs.Laws.Printed.Values.{reads_front}
+use Rattle.der_core.specs.Printed.{ReadsFrontAlike, ReadsFrontPrinted}
+use Rattle.der_core.specs.Readings.{FrontReading, ◌>>=◌, made}
 use Rattle.der_core.proofs.ReadSteps.{Fails}
 use Rattle.pkcs1.specs.Allocating.{AllocatesInKey}
 use Rattle.pkcs1.specs.KeyReadings.{front_read, key_from, others_read, private_key_read}
 use Rattle.pkcs1.specs.Keys.{Eight, OtherPrime}
-use Rattle.pkcs1.specs.Laws.KeyReadings.{front_reads}
+use Rattle.pkcs1.specs.Laws.KeysAlike.{fronts_alike}
+use Rattle.pkcs1.specs.Laws.PrintedPrivateKeys.{front_law}
 use Rattle.pkcs1.specs.Versions.{number_of}
 use Rattle.pkcs1.specs.declared.version.Version.{Version}
 
@@ -21,8 +24,7 @@ front_of value v (a, (b, (c, (d, (e, (f, (g, (h, _)))))))) = (
   (value a, (value b, (value c, (value d, (value e, (value f, (value g, (value h, tt)))))))),
 )
 
-module _ {V : Type 0} {encoding : V → List ℕ → Type 0} {at : FrontReading V} (law : ReadsFronts encoding at)
-    (d : IsDelimited encoding) where
+module _ {V : Type 0} (at : FrontReading V) where
   -- The version and the eight numbers were in front of what is left now.
   abbrev pub FrontGives : ℕ × Eight V (Unit {0}) → Input → Input → Type 0
   FrontGives front before after =
@@ -63,18 +65,20 @@ module _ {V : Type 0} {encoding : V → List ℕ → Type 0} {at : FrontReading 
   key_others_fault e front (Some i) mid after n holds gives (failed, inr f) =
       (failed, inr (others_fault e front i mid gives f))
 
-  module _ (may wants : List ℕ → Type 0) (e : ErrorKind) where
-    abbrev pub KeyFails : Input → Input → Type 0
-    KeyFails = Fails (private_key_read at) (AllocatesInKey encoding may wants) e
+module _ {S V : Type 0} {valid : S → Type 0} {printed : S → List ℕ} {spelling : FrontReading S} {means : S → V}
+    {at : FrontReading V} (law : ReadsFrontPrinted valid printed spelling) (alike : ReadsFrontAlike spelling means at)
+    (may wants : List ℕ → Type 0) (e : ErrorKind) where
+  abbrev pub KeyFails : Input → Input → Type 0
+  KeyFails = Fails (private_key_read at) (AllocatesInKey valid printed means may wants) e
 
-    pub key_others_fail : (front : ℕ × Eight V (Unit {0})) (before mid after : Input) (n : ℕ) → HoldsBytes before n
-        → AreBytes (left_in before) → FrontGives front before mid → Fails (others_read at front.0) wants e mid after
-        → KeyFails before after
-    key_others_fail front None mid after n holds bytes gives fails = absurd holds
-    key_others_fail front (Some i) mid after n holds bytes gives fails =
-        let g = gives.1 i refl in
-        let s = (front_reads law d).gives i g.0 front bytes g.1 in (
-          fails.0,
-          ⊎_elim (λ w. inl (w.0, inr (front, (s.0, g.0, s.2, rw g.2 at w.1, s.1))))
-              (λ f. inr (others_fault e front i mid gives f)) fails.1,
-        )
+  pub key_others_fail : (front : ℕ × Eight V (Unit {0})) (before mid after : Input) (n : ℕ) → HoldsBytes before n
+      → AreBytes (left_in before) → FrontGives at front before mid → Fails (others_read at front.0) wants e mid after
+      → KeyFails before after
+  key_others_fail front None mid after n holds bytes gives fails = absurd holds
+  key_others_fail front (Some i) mid after n holds bytes gives fails =
+      let g = gives.1 i refl in
+      let s = (reads_front (front_law law) (fronts_alike alike)).gives i g.0 front bytes g.1 in (
+        fails.0,
+        ⊎_elim (λ w. inl (w.0, inr (front, (s.0, g.0, s.2, rw g.2 at w.1, s.1))))
+            (λ f. inr (others_fault at e front i mid gives f)) fails.1,
+      )

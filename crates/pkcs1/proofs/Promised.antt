@@ -1,97 +1,115 @@
--- What is written of a value and why it isn't, in the words of `Statement.antt`, by a grammar that has the same encodings
--- of the value.
-use Rattle.std.proofs.Common.{ℕ, List, ◌≡◌, ◌≤◌, ◌<◌, ◌⊎◌, length, take, drop, sym, ap, ◌∙◌, inl, inr, arith}
-use Rattle.std.specs.Prelude.{Result, Ok, Err, IfOk, IfErr, OnErr}
-use Rattle.der_core.specs.Document.{Means, EncodeError, no_encoding, too_long, no_room, another, WhyNotWritten}
-use Rattle.der_core.specs.Document.{WhyNotCounted}
+-- What is written of a value and why it isn't, in the words of `Statement.antt`; and of a value that another one stands
+-- for.
+use Rattle.std.proofs.Common.{ℕ, List, ◌++◌, ◌≡◌, ◌<◌, ◌⊎◌, length, take, drop, sym, ap, ◌∙◌, inl, inr, arith}
+use Rattle.std.specs.Prelude.{◌↔◌, Option, Some, None}
+use Rattle.der_core.specs.Document.{EncodeError, no_encoding, too_long, no_room, another, WhyNotCounted, WhyNotWritten}
 use Rattle.der_core.specs.Document as documents
-use Rattle.der_core.specs.Printed.{ok_of}
-use Rattle.der_core.specs.Writing.{encode_error}
+use Rattle.der_core.specs.Laws.Printed.Relations.{written_encodes}
+use Rattle.der_core.specs.Laws.Printed.Values.{written_prints}
+use Rattle.der_core.specs.Printed.{Prints, Spells, WritesShortest}
+use Rattle.der_core.specs.Writing.{IsOutOfMemory, Unwritten, WhyOctetsNotCounted, encode_error}
 use Rattle.der_core.specs.declared.error.ErrorKind.{ErrorKind}
 use Rattle.der_core.specs.declared.error.ErrorKind.TheVariants.{OutOfMemory}
-use Rattle.pkcs1.specs.KeyEncodings.{Refuses, Unmade, Unwritten, WhyNoDocument, Withholds}
-use Rattle.pkcs1_params.specs.Errors.{IsAsn1}
+use Rattle.pkcs1.specs.KeyEncodings.{Refuses, Unmade, Withholds}
 use Rattle.pkcs1_params.specs.declared.error.Error.{Error}
 use Rattle.pkcs1_params.specs.declared.error.Error.TheVariants as error
 use Rattle.standard.specs.Statement.{Encodes, IsShortest}
 
--- The grammar's value w has the encodings of v. It has some exactly if v is valid.
-pub record Agrees {V W : Type 0} (Is : V → Type 0) (Encoding : V → List ℕ → Type 0) (v : V)
-    (Grammar : W → List ℕ → Type 0) (w : W) : Type 0 where
-  pub sentence : (bytes : List ℕ) → Means Grammar bytes w → Encoding v bytes
-  pub meant : (bytes : List ℕ) → Encoding v bytes → Means Grammar bytes w
-  pub has : Is v → documents.HasEncoding Grammar w
+-- What the calls of der_core promise of a type.
+module _ {S V : Type 0} {valid : S → Type 0} {printed : S → List ℕ} {means : S → V} {written : V → S}
+    (law : WritesShortest valid printed means written) (v : V) where
+  abbrev Printed : V → List ℕ → Type 0
+  Printed = Prints valid printed means
 
-module _ {V W : Type 0} {Is : V → Type 0} {Encoding : V → List ℕ → Type 0} {v : V} {Grammar : W → List ℕ → Type 0}
-    {w : W} (law : Agrees Is Encoding v Grammar w) where
-  pub shortest : (bytes : List ℕ) → documents.IsShortest Grammar w bytes → IsShortest Encoding v bytes
-  shortest bytes p = (law.sentence bytes p.spells, λ other q. p.least other (law.meant other q))
+  abbrev Spelled : V → List ℕ → Type 0
+  Spelled = Spells valid printed means
 
-  unfit : (some : Type 0) (room : ℕ) (k : EncodeError) → WhyNotWritten some Grammar w room k → (bytes : List ℕ)
-      → Encoding v bytes → room < length bytes
-  unfit some room no_encoding h bytes p = absurd (h bytes (law.meant bytes p).1)
-  unfit some room too_long h bytes p = absurd (h.1 bytes (law.meant bytes p))
-  unfit some room no_room h bytes p = elim (h.1.least bytes (law.meant bytes p)) [
+  abbrev IsWritten : V → Type 0
+  IsWritten w = valid (written w)
+
+  pub shortest : (bytes : List ℕ) → documents.IsShortest Printed v bytes → IsShortest Spelled v bytes
+  shortest bytes s = (s.spells, s.least)
+
+  pub wrote : (old new : List ℕ) (n : ℕ) → n ≡ length (printed (written v)) → new ≡ printed (written v) ++ drop n old
+      → documents.IsShortest Printed v (printed (written v)) → length new ≡ length old
+      → Encodes Spelled v old new (Some n)
+  wrote old new n count is least kept =
+      written_encodes Spelled v old new (printed (written v)) n (shortest (printed (written v)) least) count is kept
+
+  unfit : (room : ℕ) (k : EncodeError) → WhyNotWritten (IsWritten v) Printed v room k → (bytes : List ℕ)
+      → Spelled v bytes → room < length bytes
+  unfit room no_encoding h bytes p = absurd (h bytes p.1)
+  unfit room too_long h bytes p = absurd (h.1 bytes p)
+  unfit room no_room h bytes p = elim (h.1.least bytes p) [
     | inl same ↦ omega (arith, h.2, ap length same)
     | inr longer ↦ omega (arith, h.2, longer)
   ]
-  unfit some room another h bytes p = absurd h
+  unfit room another h bytes p = absurd h
 
-  -- What was written over a slice, or why nothing was. What the writer calls `some` are values that are valid.
-  module _ (some : Type 0) (valid : some → Is v) (old new : List ℕ) where
-    pub encodes : (r : Result ℕ Error) → IfOk r (λ n. documents.IsShortest Grammar w (take n new))
-        → IfOk r (λ n. (n ≤ length old) × (drop n new ≡ drop n old)) → OnErr r (new ≡ old)
-        → IfErr r (IsAsn1 (λ e. WhyNotWritten some Grammar w (length old) (encode_error e.kind)))
-        → Encodes Encoding v old new (ok_of (λ n. n) r)
-    encodes (Ok n) written rest same why = (rest.0, shortest (take n new) written, rest.1)
-    encodes (Err (error.Asn1 e)) written rest same why =
-        (same, unfit some (length old) (encode_error e.kind) why)
-    encodes (Err error.Crypto) written rest same why = absurd why
-    encodes (Err error.KeyMalformed) written rest same why = absurd why
-    encodes (Err error.Version) written rest same why = absurd why
+  pub unwritten : (old new : List ℕ) (k : EncodeError) → new ≡ old
+      → WhyNotWritten (IsWritten v) Printed v (length old) k → Encodes Spelled v old new None
+  unwritten old new k same why = (same, unfit (length old) k why)
 
-    refused : (k : EncodeError) → WhyNotWritten some Grammar w (length old) k
-        → Unwritten Is Encoding v (length old) k
-    refused no_encoding h = λ is. let e = law.has is in h e.0 e.1
-    refused too_long h = (valid h.0, λ bytes p. h.1 bytes (law.meant bytes p))
-    refused no_room h = (h.0, shortest h.0 h.1, h.2)
-    refused another h = h
+  pub refused : (room : ℕ) (k : EncodeError) → WhyNotWritten (IsWritten v) Printed v room k
+      → Unwritten IsWritten Spelled v room k
+  refused room no_encoding h = λ ok. h (printed (written v)) (written_prints law v ok)
+  refused room too_long h = h
+  refused room no_room h = (h.0, shortest h.0 h.1, h.2)
+  refused room another h = h
 
-    pub refuses : (r : Result ℕ Error)
-        → IfErr r (IsAsn1 (λ e. WhyNotWritten some Grammar w (length old) (encode_error e.kind)))
-        → IfErr r (Refuses Is Encoding v (length old))
-    refuses (Ok n) why = tt
-    refuses (Err (error.Asn1 e)) why = refused (encode_error e.kind) why
-    refuses (Err error.Crypto) why = why
-    refuses (Err error.KeyMalformed) why = why
-    refuses (Err error.Version) why = why
+  memory_is : (k : ErrorKind) (c : EncodeError) → k ≡ OutOfMemory → encode_error k ≡ c → another ≡ c
+  memory_is k c memory told = sym (ap encode_error memory) ∙ told
 
-  -- Documents.
-  pub makes : {X : Type 0} (bytes : X → List ℕ) (r : Result X Error)
-      → IfOk r (λ x. documents.IsShortest Grammar w (bytes x)) → IfOk r (λ x. IsShortest Encoding v (bytes x))
-  makes bytes (Ok x) p = shortest (bytes x) p
-  makes bytes (Err e) p = tt
+  abbrev Unencoded : ErrorKind → EncodeError → Type 0
+  Unencoded k c =
+      IsOutOfMemory (IsWritten v) (printed (written v)) k
+      ⊎ (WhyOctetsNotCounted (IsWritten v) (printed (written v)) c × WhyNotCounted (IsWritten v) Printed v c)
 
-  module _ {some : Type 0} (valid : some → Is v) where
-    memory_is : (k : ErrorKind) (c : EncodeError) → k ≡ OutOfMemory → encode_error k ≡ c → another ≡ c
-    memory_is k c memory told = sym (ap encode_error memory) ∙ told
+  unmade_as : (k : ErrorKind) (c : EncodeError) → encode_error k ≡ c → Unencoded k c
+      → Unmade IsWritten Spelled v k c
+  unmade_as k no_encoding told (inl m) = let never = memory_is k no_encoding m.0 told in cc
+  unmade_as k no_encoding told (inr h) = h.0
+  unmade_as k too_long told (inl m) = let never = memory_is k too_long m.0 told in cc
+  unmade_as k too_long told (inr h) = h.1
+  unmade_as k no_room told (inl m) = let never = memory_is k no_room m.0 told in cc
+  unmade_as k no_room told (inr h) = h.0
+  unmade_as k another told (inl m) = (m.0, printed (written v), (m.2, written_prints law v m.1))
+  unmade_as k another told (inr h) = absurd h.0
 
-    unmade : (k : ErrorKind) (c : EncodeError) → encode_error k ≡ c
-        → ((k ≡ OutOfMemory) × (bytes : List ℕ) × Means Grammar bytes w) ⊎ WhyNotCounted some Grammar w c
-        → Unmade Is Encoding v k c
-    unmade k no_encoding told (inl m) = let no = memory_is k no_encoding m.0 told in cc
-    unmade k no_encoding told (inr h) = λ is. let e = law.has is in h e.0 e.1
-    unmade k too_long told (inl m) = let no = memory_is k too_long m.0 told in cc
-    unmade k too_long told (inr h) = (valid h.0, λ bytes p. h.1 bytes (law.meant bytes p))
-    unmade k no_room told (inl m) = let no = memory_is k no_room m.0 told in cc
-    unmade k no_room told (inr h) = h
-    unmade k another told (inl m) = (m.0, m.1, law.sentence m.1 m.2)
-    unmade k another told (inr h) = absurd h
+  pub unmade : (k : ErrorKind) → Unencoded k (encode_error k) → Unmade IsWritten Spelled v k (encode_error k)
+  unmade k h = unmade_as k (encode_error k) (λ i. encode_error k) h
 
-    pub withholds : {X : Type 0} (r : Result X Error) → IfErr r (IsAsn1 (λ e. WhyNoDocument some Grammar w e.kind))
-        → IfErr r (Withholds Is Encoding v)
-    withholds (Ok x) h = tt
-    withholds (Err (error.Asn1 e)) h = unmade e.kind (encode_error e.kind) (λ i. encode_error e.kind) h
-    withholds (Err error.Crypto) h = h
-    withholds (Err error.KeyMalformed) h = h
-    withholds (Err error.Version) h = h
+-- A value that another stands for: both have the same encodings.
+module _ {V W : Type 0} (Encoding : V → List ℕ → Type 0) (Other : W → List ℕ → Type 0) (v : V) (w : W)
+    (same : (bytes : List ℕ) → Encoding v bytes ↔ Other w bytes) where
+  pub shortest_as : (bytes : List ℕ) → IsShortest Encoding v bytes → IsShortest Other w bytes
+  shortest_as bytes s = ((same bytes).0 s.0, λ other p. s.1 other ((same other).1 p))
+
+  pub encodes_as : (old new : List ℕ) (n : Option ℕ) → Encodes Encoding v old new n → Encodes Other w old new n
+  encodes_as old new (Some n) e = (e.0, shortest_as (take n new) e.1, e.2)
+  encodes_as old new None e = (e.0, λ bytes p. e.1 bytes ((same bytes).1 p))
+
+  module _ (Is : V → Type 0) (Valid : W → Type 0) (valid : Is v ↔ Valid w) where
+    pub unwritten_so : (room : ℕ) (k : EncodeError) → Unwritten Is Encoding v room k → Unwritten Valid Other w room k
+    unwritten_so room no_encoding h = λ ok. h (valid.1 ok)
+    unwritten_so room too_long h = (valid.0 h.0, λ bytes p. h.1 bytes ((same bytes).1 p))
+    unwritten_so room no_room h = (h.0, shortest_as h.0 h.1, h.2)
+    unwritten_so room another h = h
+
+    pub refuses_as : (room : ℕ) (e : Error) → Refuses Is Encoding v room e → Refuses Valid Other w room e
+    refuses_as room (error.Asn1 e) h = unwritten_so room (encode_error e.kind) h
+    refuses_as room error.Crypto h = h
+    refuses_as room error.KeyMalformed h = h
+    refuses_as room error.Version h = h
+
+    unmade_so : (k : ErrorKind) (c : EncodeError) → Unmade Is Encoding v k c → Unmade Valid Other w k c
+    unmade_so k no_encoding h = λ ok. h (valid.1 ok)
+    unmade_so k too_long h = (valid.0 h.0, λ bytes p. h.1 bytes ((same bytes).1 p))
+    unmade_so k no_room h = h
+    unmade_so k another h = (h.0, h.1, (same h.1).0 h.2)
+
+    pub withholds_as : (e : Error) → Withholds Is Encoding v e → Withholds Valid Other w e
+    withholds_as (error.Asn1 e) h = unmade_so e.kind (encode_error e.kind) h
+    withholds_as error.Crypto h = h
+    withholds_as error.KeyMalformed h = h
+    withholds_as error.Version h = h

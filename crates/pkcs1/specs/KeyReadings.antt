@@ -3,15 +3,18 @@ use Rattle.std.specs.Prelude.{ℕ, Bool, true, false, List, [], ◌∷◌, ◌==
 use Rattle.std.specs.Prelude.{Result, Ok, Err}
 use Rattle.der_core.specs.declared.error.ErrorKind.{ErrorKind}
 use Rattle.der_core.specs.declared.error.ErrorKind.TheVariants.{Value}
-use Rattle.der_core.specs.IntegerReading.{integer_of, small_of}
+use Rattle.der_core.specs.IntegerReading.{small_of}
+use Rattle.der_core.specs.Printed.{number_of}
 use Rattle.der_core.specs.Readings.{FrontReading, Reading, alone, chain, ended, front_done, front_parts, items, made}
 use Rattle.der_core.specs.Readings.{no_parts, optional, parts, such, tagged, whole}
 use Rattle.der_core.specs.Tags.{integer, sequence}
 use Rattle.pkcs1.specs.Keys.{CrtRow, Eight, OtherPrime, PrivateKey, PublicKey, version_of}
+use Rattle.pkcs1.specs.StatedKeys.{private_stated, public_stated}
+use Rattle.standard.specs.Statement as standard
 
--- An INTEGER, as its canonical bytes.
-abbrev pub number : FrontReading (List ℕ)
-number = tagged integer integer_of
+-- An INTEGER, as the number.
+abbrev pub number : FrontReading ℕ
+number = tagged integer number_of
 
 -- The contents of a public key.
 abbrev pub of_public_parts : {Number : Type 0} → Number × (Number × Unit {0}) → PublicKey Number
@@ -20,9 +23,9 @@ of_public_parts p = record { modulus = p.0; public_exponent = p.1.0 }
 abbrev pub public_key_read : {Number : Type 0} → FrontReading Number → Reading (PublicKey Number)
 public_key_read at = made of_public_parts (parts at (parts at no_parts))
 
--- A whole slice, as a public key.
-abbrev pub rsa_public_key : Reading (PublicKey (List ℕ))
-rsa_public_key = whole (tagged sequence (public_key_read number))
+-- A whole slice, as a public key of the statement.
+abbrev pub rsa_public_key : Reading standard.PublicKey
+rsa_public_key = made public_stated (whole (tagged sequence (public_key_read number)))
 
 -- The version of a private key, 0 or 1.
 abbrev pub version_read : Reading ℕ
@@ -79,12 +82,12 @@ key_from numbers primes = record {
 abbrev pub private_key_read : {Number : Type 0} → FrontReading Number → Reading (PrivateKey Number)
 private_key_read at = chain (front_read at) (λ front. made (key_from front.1) (others_read at front.0))
 
--- A whole slice, as a private key of numbers of any type, and of INTEGERs.
+-- A whole slice, as a private key of numbers of any type, and as one of the statement.
 abbrev pub private_key : {Number : Type 0} → FrontReading Number → Reading (PrivateKey Number)
 private_key at = whole (tagged sequence (private_key_read at))
 
-abbrev pub rsa_private_key : Reading (PrivateKey (List ℕ))
-rsa_private_key = private_key number
+abbrev pub rsa_private_key : Reading standard.PrivateKey
+rsa_private_key = made private_stated (private_key number)
 
 -- The kind of the first fault, or none.
 abbrev pub fault_in : {V : Type 0} → Result V ErrorKind → Option ErrorKind

@@ -21,10 +21,9 @@ pub use der_core as der;
 pub use der_core::{Uint, UintRef};
 pub use faults::{fault_of_private_key, fault_of_public_key};
 pub use laws::{
-    lemma_clones_mean_the_same, lemma_encodings_are_delimited, lemma_encodings_mean_one,
-    lemma_errors_are_told_apart, lemma_forms_share_the_grammars, lemma_keys_are_read,
-    lemma_keys_have_one_encoding, lemma_same_keys_have_the_same_encoding,
-    lemma_types_exclude_each_other,
+    lemma_clones_mean_the_same, lemma_encodings_are_delimited, lemma_errors_are_told_apart,
+    lemma_forms_share_the_grammars, lemma_keys_decode, lemma_keys_have_one_encoding,
+    lemma_same_keys_have_the_same_encoding, lemma_types_exclude_each_other,
 };
 pub use other_primes::OtherPrimes;
 pub use pkcs1_params::{

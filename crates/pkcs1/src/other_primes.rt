@@ -1,18 +1,17 @@
 //! The other primes of a private key, as an iterator over the input.
-ghost use Rattle.std.specs.Prelude.{◌≡◌, [], ◌++◌, ◌<◌, ◌≤◌, List, ℕ, length, Err, IfOk, IfErr, IfSome, OnErr};
+ghost use Rattle.std.specs.Prelude.{◌≡◌, [], ◌≤◌, List, ℕ, length, Ok, Err, IfOk, IfErr, IfSome};
+ghost use Rattle.std.specs.List.{AllByRecursion};
 ghost use Rattle.std.specs.Iterator.{UpTo, YieldsFirstBy, item_count};
 ghost use Rattle.std.specs.Iterator.SizeHint.{IsWithinCount};
-ghost use Rattle.der_core.specs.Words.{integer_tag, sequence_tag, limit, Integer, IsCanonical, integer_contents};
-ghost use Rattle.der_core.specs.Words.{integer_delimited, joins_map, tlv, NoneIn, ReadsFront, sequence, tagged};
-ghost use Rattle.der_core.specs.Words.{ItemsContents, AllHave, all_encodings, left_of, bytes_of};
-ghost use Rattle.pkcs1.specs.Writing.{HasOther, written_other};
-ghost use Rattle.pkcs1.specs.Laws.PrivateKey.{other_delimited};
-ghost use Rattle.pkcs1.specs.KeyReadings.{number, other_read, primes_read};
-ghost use Rattle.pkcs1.specs.Laws.KeyReadings.{prime_integers_read};
-ghost use Rattle.pkcs1.specs.Keys as grammar;
-ghost use Rattle.pkcs1.specs.PrivateKeyValue.{other_of};
-ghost use Rattle.pkcs1.specs.OtherPrimesHeld.{HoldsOthers};
-ghost use Rattle.pkcs1.specs.Laws.OtherPrimesHeld.{HoldsOthers-prop, others_are_bytes};
+ghost use Rattle.der_core.specs.Words.{AreBytes, ReadsFront, alike, bytes_of, left_of, limit, one_spelling};
+ghost use Rattle.pkcs1.specs.KeyReadings.{number, primes_read};
+ghost use Rattle.pkcs1.specs.Keys.{OtherPrime};
+ghost use Rattle.pkcs1.specs.Laws.PrimesHeld.{HoldsPrimes-prop};
+ghost use Rattle.pkcs1.specs.Laws.PrintedNumbers.{integer_law};
+ghost use Rattle.pkcs1.specs.Laws.PrintedRows.{primes_law};
+ghost use Rattle.pkcs1.specs.OtherPrimesHeld.{HoldsPrimes, next_prime};
+ghost use Rattle.pkcs1.specs.Printing.{AnyNumber, OtherIsValid, primes_printed};
+ghost use Rattle.standard.specs.Statement as standard;
 
 use crate::private_key::other_prime_info::OtherPrimeInfo;
 use der_core::{
@@ -27,7 +26,7 @@ pub struct OtherPrimes<'a> {
     bytes: &'a [u8],
     left: usize,
     ghost bounded: { length bytes.now ≤ limit },
-    ghost held: { HoldsOthers bytes.now left } by { HoldsOthers-prop bytes.now left },
+    ghost held: { HoldsPrimes bytes.now left } by { HoldsPrimes-prop bytes.now left },
 }
 
 /// `NoMemory` under another name: the decoder that `count_others` calls is then compiled for it alone, and inlined.
@@ -42,19 +41,20 @@ fn read_other<'a, M: Memory>(
     memory: M,
     reader: &mut SliceReader<'a>,
 ) -> Result<OtherPrimeInfo<UintRef<'a>>>
-    ensures { let at = tagged sequence (other_read number) in
-        ReadsFront (other_of bytes_of) at (λ _. ⊥) result (left_of reader.old) (left_of reader.new) }
+    ensures { let value = ⟦<OtherPrimeInfo<UintRef<'static>> as Contents>⟧.value in
+        ReadsFront value next_prime (λ _. ⊥) result (left_of reader.old) (left_of reader.new) }
 {
     let other = OtherPrimeInfo::decode(memory, reader)?;
     Ok(other)
 }
 
-/// Decodes the first other prime, and returns it with the bytes after it.
+/// Decodes the first other prime, and returns it with the bytes after it. The bytes are octets.
 fn first_other<'a>(bytes: &'a [u8]) -> Result<(OtherPrimeInfo<UintRef<'a>>, &'a [u8])>
     requires { length bytes.now ≤ limit }
-    ensures ok { IfOk result (λ p. (encoding : List ℕ) × (bytes.now ≡ encoding ++ p.1.now)
-        × grammar.OtherPrimeInfo Integer (other_of bytes_of p.0) encoding) }
-    ensures err { OnErr result (NoneIn (grammar.OtherPrimeInfo Integer) bytes.now) }
+    ensures ok { let value = ⟦<OtherPrimeInfo<UintRef<'static>> as Contents>⟧.value in
+        IfOk result (λ p. next_prime bytes.now ≡ Ok (value p.0, p.1.now)) }
+    ensures err { IfErr result (λ e. next_prime bytes.now ≡ Err e.kind) }
+    ensures octets { AreBytes bytes.now }
 {
     let mut reader = SliceReader::new(bytes)?;
     let other = read_other(NoMemory, &mut reader)?;
@@ -65,8 +65,7 @@ fn first_other<'a>(bytes: &'a [u8]) -> Result<(OtherPrimeInfo<UintRef<'a>>, &'a 
 /// Counts the other primes whose encodings, in a row, are the bytes.
 fn count_others(bytes: &[u8]) -> Result<usize>
     requires { length bytes.now ≤ limit }
-    ensures ok { IfOk result (λ count. (others : List (grammar.OtherPrime (List ℕ)))
-        × ItemsContents (grammar.OtherPrimeInfo Integer) others bytes.now × (length others ≡ count)) }
+    ensures ok { IfOk result (HoldsPrimes bytes.now) }
     ensures exact { IfErr result (λ e. primes_read number bytes.now ≡ Err e.kind) }
 {
     let mut reader = SliceReader::new(bytes)?;
@@ -79,12 +78,12 @@ fn count_others(bytes: &[u8]) -> Result<usize>
 }
 
 impl<'a> OtherPrimes<'a> {
-    ghost use Rattle.pkcs1.specs.OtherPrimesLeft.{others_left};
+    ghost use Rattle.pkcs1.specs.Held.{held_other_primes};
 
     /// An iterator over no primes.
     #[tactic(auto, unfolding(crate::specs::OtherPrimesLeft::others_left))]
     pub(crate) fn none() -> OtherPrimes<'a>
-        ensures { others_left result ≡ [] }
+        ensures { held_other_primes result ≡ [] }
     {
         OtherPrimes {
             bytes: &[],
@@ -95,7 +94,7 @@ impl<'a> OtherPrimes<'a> {
     /// How many other primes are left.
     #[tactic(auto, using(crate::proofs::OtherPrimesHeld::left_counted))]
     pub fn remaining(&self) -> usize
-        ensures { result ≡ length (others_left self.now) }
+        ensures { result ≡ length (held_other_primes self.now) }
     {
         self.left
     }
@@ -104,24 +103,29 @@ impl<'a> OtherPrimes<'a> {
 impl Contents for OtherPrimes<'_> {
     ghost use Rattle.pkcs1.specs.OtherPrimesLeft.{others_left};
 
-    ghost Value = { List (grammar.OtherPrime (List ℕ)) };
+    ghost Value = { List (OtherPrime ℕ) };
 
     ghost value = { others_left };
 
-    ghost contents = { ItemsContents (grammar.OtherPrimeInfo Integer) };
+    ghost Spelling = { List (OtherPrime ℕ) };
 
-    ghost has_contents = { AllHave (HasOther IsCanonical) };
+    ghost means = { λ others. others };
 
-    ghost written_contents = { all_encodings (λ other.
-        tlv sequence_tag (written_other (λ bytes. tlv integer_tag (integer_contents bytes)) other)) };
+    ghost written = { λ others. others };
+
+    ghost valid = { AllByRecursion (OtherIsValid AnyNumber) };
+
+    ghost printed = { primes_printed standard.integer };
+
+    ghost read_spelling = { primes_read number };
 
     ghost read = { primes_read number };
 
-    ghost reads = { prime_integers_read };
+    ghost law = { primes_law integer_law };
 
-    ghost means_one = { joins_map (grammar.OtherPrimeInfo Integer) (other_delimited integer_delimited) };
+    ghost shortest = { one_spelling (AllByRecursion (OtherIsValid AnyNumber)) (primes_printed standard.integer) };
 
-    ghost contents_of_bytes = { others_are_bytes };
+    ghost reads_alike = { alike (primes_read number) };
 }
 
 impl TaggedBy for OtherPrimes<'_> {
@@ -145,13 +149,13 @@ impl<'a, M: Memory> DecodeValue<&'a [u8], M> for OtherPrimes<'a> {
 }
 
 impl<'a> Iterator for OtherPrimes<'a> {
-    ghost use Rattle.pkcs1.specs.OtherPrimesLeft.{others_left};
+    ghost use Rattle.pkcs1.specs.Held.{held_other_prime, held_other_primes};
 
     type Item = OtherPrimeInfo<UintRef<'a>>;
 
-    ghost next_gives = { YieldsFirstBy (other_of bytes_of) others_left };
+    ghost next_gives = { YieldsFirstBy (held_other_prime bytes_of) held_other_primes };
 
-    ghost remaining = { item_count others_left };
+    ghost remaining = { item_count held_other_primes };
 
     #[tactic(auto, unfolding(crate::specs::OtherPrimesLeft::others_left))]
     fn next(&mut self) -> Option<OtherPrimeInfo<UintRef<'a>>> {
@@ -172,10 +176,10 @@ impl<'a> Iterator for OtherPrimes<'a> {
 
     /// The number of primes left, as both bounds.
     fn size_hint(&self) -> (usize, Option<usize>)
-        ensures least { result.0 ≡ length (others_left self.now) }
-        ensures most { result.1 ≡ Some (length (others_left self.now)) }
-        ensures lower { IsWithinCount result.0 (item_count others_left self.now) }
-        ensures upper { IfSome result.1 (λ n. UpTo (item_count others_left self.now) n) }
+        ensures least { result.0 ≡ length (held_other_primes self.now) }
+        ensures most { result.1 ≡ Some (length (held_other_primes self.now)) }
+        ensures lower { IsWithinCount result.0 (item_count held_other_primes self.now) }
+        ensures upper { IfSome result.1 (λ n. UpTo (item_count held_other_primes self.now) n) }
     {
         (self.left, Some(self.left))
     }

@@ -1,10 +1,9 @@
 //! RSA private keys.
 ghost use Rattle.std.specs.Prelude.{◌≡◌, ◌↔◌, ⊤, IsSome, IsErrAnd, refl};
-ghost use Rattle.der_core.specs.Words.{sequence, Counts, Appends, as_written};
-ghost use Rattle.pkcs1.specs.Words.{AllocatesForKey, PrivateKey, PrivateKeyContents, HasPrivateKey};
-ghost use Rattle.pkcs1.specs.Words.{written_private_key, private_means_one, private_of_bytes, public_key_of};
-ghost use Rattle.pkcs1.specs.Words.{private_key_with, public_in, version_of, whole_key};
-ghost use Rattle.pkcs1.specs.Words.{ListsNone, private_key_read, private_key_reads};
+ghost use Rattle.der_core.specs.Words.{Appends, Counts, bytes_of, sequence};
+ghost use Rattle.pkcs1.specs.Words.{AllocatesForKey, ListsNone, PrivateIsValid, PrivateKey, held_private_key};
+ghost use Rattle.pkcs1.specs.Words.{held_public_key, private_alike, private_as, private_key_read, private_key_with};
+ghost use Rattle.pkcs1.specs.Words.{private_law, private_printed, private_shortest, public_part, version_of};
 
 mod der;
 pub(crate) mod other_prime_info;
@@ -98,7 +97,7 @@ impl<U, O> PrivateKeyOf<U, O> {
 impl<U: UintEncoding> RsaPrivateKey<U> {
     /// The public key.
     pub fn public_key(&self) -> RsaPublicKeyRef<'_>
-        ensures { public_key_of result ≡ public_in U.number self.now }
+        ensures { held_public_key bytes_of result ≡ public_part (held_private_key U.number self.now) }
     {
         RsaPublicKey {
             modulus: self.modulus.as_uint_ref(),
@@ -118,7 +117,7 @@ impl<U: Encoding> RsaPrivateKey<U> {
 
 impl<'a, U: UintEncoding> From<&'a RsaPrivateKey<U>> for RsaPublicKey<UintRef<'a>> {
     ghost from_gives = { λ key public.
-        public_key_of public ≡ public_in U.number key.now };
+        held_public_key bytes_of public ≡ public_part (held_private_key U.number key.now) };
 
     fn from(key: &'a RsaPrivateKey<U>) -> RsaPublicKey<UintRef<'a>> {
         key.public_key()
@@ -130,19 +129,25 @@ impl<U: Encoding> Contents for RsaPrivateKey<U> {
 
     ghost value = { private_key_with U.value };
 
-    ghost contents = { PrivateKeyContents U.encoding };
+    ghost Spelling = { PrivateKey U.Spelling };
 
-    ghost has_contents = { HasPrivateKey U.has_encoding };
+    ghost means = { private_as U.means };
 
-    ghost written_contents = { written_private_key U.written_encoding };
+    ghost written = { private_as U.written };
+
+    ghost valid = { PrivateIsValid U.valid };
+
+    ghost printed = { private_printed U.printed };
+
+    ghost read_spelling = { private_key_read U.read_spelling };
 
     ghost read = { private_key_read U.read_front };
 
-    ghost reads = { private_key_reads U.reads_front U.delimited };
+    ghost law = { private_law U.law };
 
-    ghost means_one = { private_means_one U.delimited };
+    ghost shortest = { private_shortest U.shortest };
 
-    ghost contents_of_bytes = { private_of_bytes U.encoding U.encoding_of_bytes };
+    ghost reads_alike = { private_alike U.reads_alike };
 }
 
 impl<U, O> TaggedBy for PrivateKeyOf<U, O> {
@@ -154,7 +159,7 @@ impl<'a, U, O> Sequence<'a> for PrivateKeyOf<U, O> {
 }
 
 impl<'a, U: Decode<&'a [u8], Global>> DecodeValue<&'a [u8], Global> for RsaPrivateKey<U> {
-    ghost may_allocate = { AllocatesForKey U.encoding U.Decode.may_allocate };
+    ghost may_allocate = { AllocatesForKey U.valid U.printed U.means U.Decode.may_allocate };
 
     fn decode_value<R: Reader<&'a [u8]>>(
         memory: Global,
@@ -169,8 +174,8 @@ impl<'a, U: Decode<&'a [u8], Global>> DecodeValue<&'a [u8], Global> for RsaPriva
 
 impl<U: Encode> EncodeValue for RsaPrivateKey<U> {
     fn value_len(&self) -> Result<Length>
-        ensures counts { let key = private_key_with U.value self.now in
-            Counts (HasPrivateKey U.has_encoding key) (written_private_key U.written_encoding key) result }
+        ensures counts { let s = private_as U.written (private_key_with U.value self.now) in
+            Counts (PrivateIsValid U.valid s) (private_printed U.printed s) result }
         ensures no_primes { ListsNone self.now.other_prime_infos
             → IsErrAnd result (λ e. e.kind ≡ ErrorKind.Value sequence) }
     {
@@ -209,9 +214,9 @@ impl<U: Encode> EncodeValue for RsaPrivateKey<U> {
     }
 
     fn encode_value<W: Writer>(&self, writer: &mut W) -> Result<()>
-        ensures appends { let key = private_key_with U.value self.now in
-            let octets = written_private_key U.written_encoding key in
-            Appends (HasPrivateKey U.has_encoding key) octets W.room W.written writer.old writer.new result }
+        ensures appends { let s = private_as U.written (private_key_with U.value self.now) in
+            let octets = private_printed U.printed s in
+            Appends (PrivateIsValid U.valid s) octets W.room W.written writer.old writer.new result }
         ensures kept { W.keeps writer.old writer.new }
         ensures no_primes { ListsNone self.now.other_prime_infos
             → IsErrAnd result (λ e. e.kind ≡ ErrorKind.Value sequence) }
@@ -235,12 +240,6 @@ impl<U: Encode> EncodeValue for RsaPrivateKey<U> {
         )
             .prepend_value(writer);
     }
-
-    ghost contents_relate = { let number = as_written U.encoding U.has_encoding U.written_encoding U.encoding_relates
-        U.encoding_shortest in (whole_key number).relate };
-
-    ghost contents_shortest = { let number = as_written U.encoding U.has_encoding U.written_encoding U.encoding_relates
-        U.encoding_shortest in (whole_key number).least };
 }
 
 impl<U: fmt::Debug, O> PrivateKeyOf<U, O> {

@@ -1,9 +1,9 @@
 //! RSA public keys.
 ghost use Rattle.std.specs.Prelude.{refl};
-ghost use Rattle.der_core.specs.Words.{as_parts, made_errs};
-ghost use Rattle.pkcs1.specs.Words.{PublicKey, PublicKeyContents, HasPublicKey, written_public_key, public_parts};
-ghost use Rattle.pkcs1.specs.Words.{of_public_parts, public_key_means_one, public_key_of, public_key_read};
-ghost use Rattle.pkcs1.specs.Words.{public_key_reads, public_key_with};
+ghost use Rattle.der_core.specs.Words.{made_errs};
+ghost use Rattle.pkcs1.specs.Words.{PublicIsValid, PublicKey, of_public_parts, public_alike, public_as};
+ghost use Rattle.pkcs1.specs.Words.{public_key_read, public_key_with, public_law, public_once, public_printed};
+ghost use Rattle.pkcs1.specs.Words.{public_shortest};
 
 use der_core::{
     BackWriter, Borrowed, Contents, Decode, Encode, EncodeInParts, EncodeValue, Encoding,
@@ -40,19 +40,25 @@ impl<U: Encoding> Contents for RsaPublicKey<U> {
 
     ghost value = { public_key_with U.value };
 
-    ghost contents = { PublicKeyContents U.encoding };
+    ghost Spelling = { PublicKey U.Spelling };
 
-    ghost has_contents = { HasPublicKey U.has_encoding };
+    ghost means = { public_as U.means };
 
-    ghost written_contents = { written_public_key U.written_encoding };
+    ghost written = { public_as U.written };
+
+    ghost valid = { PublicIsValid U.valid };
+
+    ghost printed = { public_printed U.printed };
+
+    ghost read_spelling = { public_key_read U.read_spelling };
 
     ghost read = { public_key_read U.read_front };
 
-    ghost reads = { public_key_reads U.reads_front };
+    ghost law = { public_law U.law };
 
-    ghost means_one = { public_key_means_one U.encoding U.delimited };
+    ghost shortest = { public_shortest U.shortest };
 
-    ghost contents_of_bytes = { λ key. ⟦<(U, (U, ())) as Contents>⟧.contents_of_bytes (public_parts key) };
+    ghost reads_alike = { public_alike U.reads_alike };
 }
 
 impl<U> TaggedBy for RsaPublicKey<U> {
@@ -76,7 +82,7 @@ impl<U: Encoding> InParts for RsaPublicKey<U> {
 
     ghost errs = { made_errs of_public_parts _ };
 
-    ghost is_parts = { λ key. as_parts _ _ _ (public_parts key) };
+    ghost once = { public_once U.means };
 }
 
 impl<U: Encode> EncodeInParts for RsaPublicKey<U> {
@@ -150,7 +156,7 @@ impl<'a> TryFrom<&'a [u8]> for RsaPublicKey<UintRef<'a>> {
     /// Decodes a whole slice, and allocates nothing.
     fn try_from(bytes: &'a [u8]) -> Result<RsaPublicKey<UintRef<'a>>>
         ensures read { Decodes PublicKeyEncoding bytes.now (ok_of (held_public_key bytes_of) result) }
-        ensures exact { ErrsAs (public_key_with bytes_of) (rsa_public_key bytes.now) result }
+        ensures exact { ErrsAs (held_public_key bytes_of) (rsa_public_key bytes.now) result }
     {
         Ok(RsaPublicKey::from_der(NoMemory, bytes)?)
     }
@@ -158,13 +164,13 @@ impl<'a> TryFrom<&'a [u8]> for RsaPublicKey<UintRef<'a>> {
 
 impl<U: UintEncoding> RsaPublicKey<U> {
     ghost use Rattle.std.specs.Prelude.{◌≡◌, ⊤, length, IfErr};
-    ghost use Rattle.der_core.specs.Words.{ok_of};
+    ghost use Rattle.der_core.specs.Words.{bytes_of, ok_of};
     ghost use Rattle.pkcs1.specs.Words.{Refuses, held_public_key};
     ghost use Rattle.standard.specs.Statement.{Encodes, PublicKeyEncoding};
 
     /// The same key, borrowed.
     pub(crate) fn as_key_ref(&self) -> RsaPublicKey<UintRef<'_>>
-        ensures { public_key_of result ≡ public_key_with U.number self.now }
+        ensures { held_public_key bytes_of result ≡ held_public_key U.number self.now }
     {
         RsaPublicKey {
             modulus: self.modulus.as_uint_ref(),

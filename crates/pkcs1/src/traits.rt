@@ -5,7 +5,6 @@ ghost use Rattle.der_core.specs.Words.{FileFault, FileGives, FileRefuses, FileTa
 ghost use Rattle.der_core.specs.Words.{FaultOrMemory, IsFile, sequence, bytes_of, own_bytes_of};
 ghost use Rattle.pkcs1.specs.Words.{OwnedKeyAllocates, OwnedPublicKeyAllocates, rsa_private_key, rsa_public_key};
 ghost use Rattle.pkcs1.specs.Words.{IsPrivateKey, ListsNone, Rejects, Withholds, held_private_key, held_public_key};
-ghost use Rattle.pkcs1.specs.Words.{private_key_with, public_key_with};
 ghost use Rattle.pkcs1_params.specs.Words.{ErrsOrAsks, IsAsn1};
 ghost use Rattle.standard.specs.Statement.{Decodes, IsShortest, PrivateKeyEncoding, PublicKeyEncoding};
 ghost use Rattle.pkcs1_params.specs.declared.error.Error.{Error};
@@ -158,7 +157,7 @@ impl DecodeRsaPrivateKey for RsaPrivateKey<Uint> {
             IfOk result (λ key. Decodes PrivateKeyEncoding bytes.now (Some (held key))) }
         ensures err { IfErr result (Rejects PrivateKeyEncoding bytes.now (OwnedKeyAllocates bytes.now)) }
         ensures exact { let asked = OwnedKeyAllocates bytes.now in
-            ErrsOrAsks (private_key_with own_bytes_of) (rsa_private_key bytes.now) asked result }
+            ErrsOrAsks (held_private_key own_bytes_of) (rsa_private_key bytes.now) asked result }
     {
         RsaPrivateKey::<Uint>::decode_owned_key(alloc, bytes)
     }
@@ -175,7 +174,7 @@ impl DecodeRsaPublicKey for RsaPublicKey<Uint> {
             IfOk result (λ key. Decodes PublicKeyEncoding bytes.now (Some (held key))) }
         ensures err { IfErr result (Rejects PublicKeyEncoding bytes.now (OwnedPublicKeyAllocates bytes.now)) }
         ensures exact { let asked = OwnedPublicKeyAllocates bytes.now in
-            ErrsOrAsks (public_key_with own_bytes_of) (rsa_public_key bytes.now) asked result }
+            ErrsOrAsks (held_public_key own_bytes_of) (rsa_public_key bytes.now) asked result }
     {
         Ok(RsaPublicKey::from_der(alloc, bytes)?)
     }

@@ -1,12 +1,11 @@
 //! Versions of private keys.
-ghost use Rattle.std.specs.Prelude.{◌≡◌, ◌<◌, ◌↔◌, ℕ, ◌∷◌, [], IsTrue, Some, nat_eq, refl};
+ghost use Rattle.std.specs.Prelude.{◌≡◌, ◌<◌, ◌↔◌, ℕ, IsTrue, Some, nat_eq, refl};
 ghost use Rattle.std.proofs.Common.{rules};
 ghost use Rattle.std.specs.Cmp.{partial_order_from_own_ties};
 ghost use Rattle.std.specs.Cmp.Rules.{comparing};
 ghost use Rattle.std.specs.Ordering.{on, nat_cmp, as_partial_cmp};
-ghost use Rattle.der_core.specs.Words.{integer_contents};
-ghost use Rattle.pkcs1.specs.Words.{number_of, IsVersionOf, VersionContents, version_means_one, version_of_bytes};
-ghost use Rattle.pkcs1.specs.Words.{version_read, version_reads, version_relates, version_shortest};
+ghost use Rattle.der_core.specs.Words.{alike, number_contents};
+ghost use Rattle.pkcs1.specs.Words.{IsVersionOf, number_of, version_law, version_read, version_shortest};
 
 use der_core::{
     BackWriter, Contents, DecodeValue, EncodeValue, ErrorKind, Header, IntegerTag, Length, Memory,
@@ -107,19 +106,25 @@ impl Contents for Version {
 
     ghost value = { number_of };
 
-    ghost contents = { VersionContents };
+    ghost Spelling = { ℕ };
 
-    ghost has_contents = { λ n. n < 2 };
+    ghost means = { λ n. n };
 
-    ghost written_contents = { λ n. integer_contents (n ∷ []) };
+    ghost written = { λ n. n };
+
+    ghost valid = { λ n. n < 2 };
+
+    ghost printed = { number_contents };
+
+    ghost read_spelling = { version_read };
 
     ghost read = { version_read };
 
-    ghost reads = { version_reads };
+    ghost law = { version_law };
 
-    ghost means_one = { version_means_one };
+    ghost shortest = { version_shortest };
 
-    ghost contents_of_bytes = { version_of_bytes };
+    ghost reads_alike = { alike version_read };
 }
 
 impl TaggedBy for Version {
@@ -154,8 +159,4 @@ impl EncodeValue for Version {
     fn prepend_value(&self, writer: &mut BackWriter<'_>) {
         u8::from(*self).prepend_value(writer);
     }
-
-    ghost contents_relate = { λ n has fits. version_relates n has };
-
-    ghost contents_shortest = { version_shortest };
 }

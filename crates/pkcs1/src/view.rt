@@ -1,12 +1,12 @@
 //! RSA private keys over the input, without a list of their other primes.
-ghost use Rattle.std.specs.Prelude.{◌≡◌, ℕ, List, IsTrue, IsSome, IfOk, ◌↔◌, refl};
+ghost use Rattle.std.specs.Prelude.{◌≡◌, ℕ, IsTrue, IsSome, IfOk, ◌↔◌};
 ghost use Rattle.std.specs.Option.{option_map};
-ghost use Rattle.der_core.specs.Words.{integer_tag, Integer, IntegerContents, IsCanonical, integer_contents};
-ghost use Rattle.der_core.specs.Words.{integer_delimited, ReadsWhole, tlv, bytes_of};
-ghost use Rattle.pkcs1.specs.Words.{number, others_read, private_integers_read, private_key_read, rsa_private_key};
-ghost use Rattle.pkcs1.specs.Words.{PrivateKey, PrivateKeyContents, public_part, others_left, HoldsNone};
-ghost use Rattle.pkcs1.specs.Words.{private_means_one, keys_are_bytes, key_with, number_of, public_key_of, view_of};
-ghost use Rattle.pkcs1.specs.Words.{viewed_encoding, listed_others, HasPrivateKey, written_private_key};
+ghost use Rattle.der_core.specs.Words.{ReadsWhole, alike, bytes_of, one_spelling};
+ghost use Rattle.pkcs1.specs.Words.{AnyNumber, HoldsNone, PrivateIsValid, PrivateKey, held_other_primes};
+ghost use Rattle.pkcs1.specs.Words.{held_public_key, held_view, integer_law, key_with, listed_others, number};
+ghost use Rattle.pkcs1.specs.Words.{number_in, number_of, others_left, others_read, private_key_read, private_law};
+ghost use Rattle.pkcs1.specs.Words.{private_printed, public_part, rsa_private_key, viewed_encoding};
+ghost use Rattle.standard.specs.Statement as standard;
 
 use crate::key_numbers::{KeyFront, key_of};
 use crate::other_primes::OtherPrimes;
@@ -53,23 +53,29 @@ fn read_listed<'a, R: Reader<&'a [u8]>>(
 }
 
 impl Contents for ViewedKey<'_> {
-    ghost Value = { PrivateKey (List ℕ) };
+    ghost Value = { PrivateKey ℕ };
 
-    ghost value = { key_with bytes_of others_left };
+    ghost value = { key_with (number_in bytes_of) others_left };
 
-    ghost contents = { PrivateKeyContents Integer };
+    ghost Spelling = { PrivateKey ℕ };
 
-    ghost has_contents = { HasPrivateKey IsCanonical };
+    ghost means = { λ key. key };
 
-    ghost written_contents = { written_private_key (λ bytes. tlv integer_tag (integer_contents bytes)) };
+    ghost written = { λ key. key };
+
+    ghost valid = { PrivateIsValid AnyNumber };
+
+    ghost printed = { private_printed standard.integer };
+
+    ghost read_spelling = { private_key_read number };
 
     ghost read = { private_key_read number };
 
-    ghost reads = { private_integers_read };
+    ghost law = { private_law integer_law };
 
-    ghost means_one = { private_means_one integer_delimited };
+    ghost shortest = { one_spelling (PrivateIsValid AnyNumber) (private_printed standard.integer) };
 
-    ghost contents_of_bytes = { keys_are_bytes };
+    ghost reads_alike = { alike (private_key_read number) };
 }
 
 impl<'a> DecodeValue<&'a [u8], NoMemory> for ViewedKey<'a> {
@@ -97,70 +103,70 @@ pub struct RsaPrivateKeyView<'a> {
 impl<'a> RsaPrivateKeyView<'a> {
     /// The version: `Multi` if there are other primes.
     pub fn version(&self) -> Version
-        ensures { (result ≡ Version.Multi) ↔ IsSome (view_of self.now).other_prime_infos }
+        ensures { (result ≡ Version.Multi) ↔ IsSome (held_view self.now).other_primes }
     {
         self.key.version()
     }
 
     /// The modulus n.
     pub fn modulus(&self) -> UintRef<'a>
-        ensures { bytes_of result ≡ (view_of self.now).modulus }
+        ensures { number_in bytes_of result ≡ (held_view self.now).modulus }
     {
         self.key.modulus
     }
 
     /// The public exponent e.
     pub fn public_exponent(&self) -> UintRef<'a>
-        ensures { bytes_of result ≡ (view_of self.now).public_exponent }
+        ensures { number_in bytes_of result ≡ (held_view self.now).public_exponent }
     {
         self.key.public_exponent
     }
 
     /// The private exponent d.
     pub fn private_exponent(&self) -> UintRef<'a>
-        ensures { bytes_of result ≡ (view_of self.now).private_exponent }
+        ensures { number_in bytes_of result ≡ (held_view self.now).private_exponent }
     {
         self.key.private_exponent
     }
 
     /// The first prime p.
     pub fn prime1(&self) -> UintRef<'a>
-        ensures { bytes_of result ≡ (view_of self.now).prime1 }
+        ensures { number_in bytes_of result ≡ (held_view self.now).prime1 }
     {
         self.key.prime1
     }
 
     /// The second prime q.
     pub fn prime2(&self) -> UintRef<'a>
-        ensures { bytes_of result ≡ (view_of self.now).prime2 }
+        ensures { number_in bytes_of result ≡ (held_view self.now).prime2 }
     {
         self.key.prime2
     }
 
     /// The exponent of the first prime: d modulo p - 1.
     pub fn exponent1(&self) -> UintRef<'a>
-        ensures { bytes_of result ≡ (view_of self.now).exponent1 }
+        ensures { number_in bytes_of result ≡ (held_view self.now).exponent1 }
     {
         self.key.exponent1
     }
 
     /// The exponent of the second prime: d modulo q - 1.
     pub fn exponent2(&self) -> UintRef<'a>
-        ensures { bytes_of result ≡ (view_of self.now).exponent2 }
+        ensures { number_in bytes_of result ≡ (held_view self.now).exponent2 }
     {
         self.key.exponent2
     }
 
     /// The coefficient: the inverse of q modulo p.
     pub fn coefficient(&self) -> UintRef<'a>
-        ensures { bytes_of result ≡ (view_of self.now).coefficient }
+        ensures { number_in bytes_of result ≡ (held_view self.now).coefficient }
     {
         self.key.coefficient
     }
 
     /// The public key.
     pub fn public_key(&self) -> RsaPublicKeyRef<'a>
-        ensures { public_key_of result ≡ public_part (view_of self.now) }
+        ensures { held_public_key bytes_of result ≡ public_part (held_view self.now) }
     {
         RsaPublicKey {
             modulus: self.modulus(),
@@ -170,7 +176,7 @@ impl<'a> RsaPrivateKeyView<'a> {
 
     /// The primes after the first two, in order; none if the version is `TwoPrime`.
     pub fn other_primes(&self) -> OtherPrimes<'a>
-        ensures { others_left result ≡ listed_others (view_of self.now).other_prime_infos }
+        ensures { held_other_primes result ≡ listed_others (held_view self.now).other_primes }
     {
         if let Some(primes) = self.key.other_prime_infos {
             return primes;
@@ -188,7 +194,6 @@ impl<'a> RsaPrivateKeyView<'a> {
 
 impl<'a> TryFrom<&'a [u8]> for RsaPrivateKeyView<'a> {
     ghost use Rattle.der_core.specs.Words.{ok_of};
-    ghost use Rattle.pkcs1.specs.Words.{held_view};
     ghost use Rattle.pkcs1_params.specs.Words.{ErrsAs};
     ghost use Rattle.standard.specs.Statement.{Decodes, PrivateKeyEncoding};
 
@@ -198,7 +203,7 @@ impl<'a> TryFrom<&'a [u8]> for RsaPrivateKeyView<'a> {
     /// `RsaPrivateKeyRef::from_der`, except `OutOfMemory`, in `Error::Asn1`.
     fn try_from(bytes: &'a [u8]) -> crate::Result<RsaPrivateKeyView<'a>>
         ensures read { Decodes PrivateKeyEncoding bytes.now (ok_of held_view result) }
-        ensures exact { ErrsAs view_of (rsa_private_key bytes.now) result }
+        ensures exact { ErrsAs held_view (rsa_private_key bytes.now) result }
         ensures bytes { IfOk result (λ view. viewed_encoding view ≡ bytes.now) }
     {
         let key = ViewedKey::from_der(NoMemory, bytes)?;

@@ -1,9 +1,9 @@
 //! Other primes of private keys.
-ghost use Rattle.std.specs.Prelude.{◌≡◌, List, ℕ, ◌↔◌, IsTrue, None, IfOk, IsOk, IfErr, refl};
-ghost use Rattle.der_core.specs.Words.{ReadsWhole, as_parts, made_errs};
-ghost use Rattle.pkcs1.specs.Words.{AllocatesInOthers, HasOther, ListsNone, OtherPrime, OtherPrimeContents, number_of};
-ghost use Rattle.pkcs1.specs.Words.{of_other_parts, other_means_one, other_of, other_parts, other_read, other_reads};
-ghost use Rattle.pkcs1.specs.Words.{others_of, others_read, written_other};
+ghost use Rattle.std.specs.Prelude.{◌≡◌, ◌↔◌, IsTrue, None, IfOk, IsOk, IfErr, refl};
+ghost use Rattle.der_core.specs.Words.{ReadsWhole, made_errs};
+ghost use Rattle.pkcs1.specs.Words.{AllocatesInOthers, ListsNone, OtherIsValid, OtherPrime, number_of, of_other_parts};
+ghost use Rattle.pkcs1.specs.Words.{other_alike, other_as, other_law, other_of, other_once, other_printed, other_read};
+ghost use Rattle.pkcs1.specs.Words.{other_shortest, others_of, others_read};
 
 use crate::version::Version;
 use der_core::{
@@ -58,19 +58,25 @@ impl<U: Encoding> Contents for OtherPrimeInfo<U> {
 
     ghost value = { other_of U.value };
 
-    ghost contents = { OtherPrimeContents U.encoding };
+    ghost Spelling = { OtherPrime U.Spelling };
 
-    ghost has_contents = { HasOther U.has_encoding };
+    ghost means = { other_as U.means };
 
-    ghost written_contents = { written_other U.written_encoding };
+    ghost written = { other_as U.written };
+
+    ghost valid = { OtherIsValid U.valid };
+
+    ghost printed = { other_printed U.printed };
+
+    ghost read_spelling = { other_read U.read_spelling };
 
     ghost read = { other_read U.read_front };
 
-    ghost reads = { other_reads U.reads_front };
+    ghost law = { other_law U.law };
 
-    ghost means_one = { other_means_one U.delimited };
+    ghost shortest = { other_shortest U.shortest };
 
-    ghost contents_of_bytes = { λ other. ⟦<(U, (U, (U, ()))) as Contents>⟧.contents_of_bytes (other_parts other) };
+    ghost reads_alike = { other_alike U.reads_alike };
 }
 
 impl<U> TaggedBy for OtherPrimeInfo<U> {
@@ -120,7 +126,7 @@ impl<U: Encoding> InParts for OtherPrimeInfo<U> {
 
     ghost errs = { made_errs of_other_parts _ };
 
-    ghost is_parts = { λ other. as_parts _ _ _ (other_parts other) };
+    ghost once = { other_once U.means };
 }
 
 impl<U: Encode> EncodeInParts for OtherPrimeInfo<U> {
@@ -168,7 +174,7 @@ pub(crate) fn read_other_primes<'a, U: Decode<&'a [u8], Global>, R: Reader<&'a [
     reader: &mut R,
     version: Version,
 ) -> Result<Option<OtherPrimeInfos<U>>>
-    ensures { let may = AllocatesInOthers U.encoding U.Decode.may_allocate in
+    ensures { let may = AllocatesInOthers U.valid U.printed U.means U.Decode.may_allocate in
         let read = others_read U.read_front (number_of version) in
         ReadsWhole (others_of U.value) read may result (R.left reader.old) (R.left reader.new) }
 {

@@ -1,12 +1,10 @@
 //! A private key as it is written: the ends of its row of parts, as rows of their own. The compiler takes rows of seven
 //! parts at most.
 ghost use Rattle.std.specs.Prelude.{List, Option};
-ghost use Rattle.der_core.specs.Words.{LastContents, as_written};
-ghost use Rattle.pkcs1.specs.Words.{CrtContents, CrtRow, HasCrt, HasOthers, OtherPrime, OtherPrimeList, crt};
-ghost use Rattle.pkcs1.specs.Words.{crt_means_one, crt_of_bytes, crt_parts, others_mean_one, others_of};
-ghost use Rattle.pkcs1.specs.Words.{others_of_bytes};
-ghost use Rattle.pkcs1.specs.Words.{others_part, private_key_with, written_crt, written_others};
-ghost use Rattle.pkcs1.specs.Words.{crt_read, crt_reads, last_others, last_others_read};
+ghost use Rattle.pkcs1.specs.Words.{CrtIsValid, CrtRow, OtherPrime, OthersAreValid, crt_alike, crt_as, crt_law};
+ghost use Rattle.pkcs1.specs.Words.{crt_parts, crt_printed, crt_read, crt_shortest, last_others, last_others_alike};
+ghost use Rattle.pkcs1.specs.Words.{last_others_law, others_as, others_of, others_printed, others_shortest};
+ghost use Rattle.pkcs1.specs.Words.{private_key_with};
 
 use super::RsaPrivateKey;
 use super::other_prime_info::{OtherPrimeInfos, lists_none};
@@ -24,19 +22,25 @@ impl<'b, U: Encoding> Contents for OthersPart<'b, U> {
 
     ghost value = { λ part. others_of U.value part.0.now };
 
-    ghost contents = { LastContents (OtherPrimeList U.encoding) };
+    ghost Spelling = { Option (List (OtherPrime U.Spelling)) };
 
-    ghost has_contents = { HasOthers U.has_encoding };
+    ghost means = { others_as U.means };
 
-    ghost written_contents = { written_others U.written_encoding };
+    ghost written = { others_as U.written };
+
+    ghost valid = { OthersAreValid U.valid };
+
+    ghost printed = { others_printed U.printed };
+
+    ghost read_spelling = { last_others U.read_spelling };
 
     ghost read = { last_others U.read_front };
 
-    ghost reads = { last_others_read U.reads_front U.delimited };
+    ghost law = { last_others_law U.law };
 
-    ghost means_one = { others_mean_one U.delimited };
+    ghost shortest = { others_shortest U.shortest };
 
-    ghost contents_of_bytes = { others_of_bytes U.encoding U.encoding_of_bytes };
+    ghost reads_alike = { last_others_alike U.reads_alike };
 }
 
 impl<'b, U: Encode> EncodeValue for OthersPart<'b, U> {
@@ -57,12 +61,6 @@ impl<'b, U: Encode> EncodeValue for OthersPart<'b, U> {
     fn prepend_value(&self, writer: &mut BackWriter<'_>) {
         Last::borrowed(self.0).prepend_value(writer);
     }
-
-    ghost contents_relate = { let number = as_written U.encoding U.has_encoding U.written_encoding U.encoding_relates
-        U.encoding_shortest in (others_part number).relate };
-
-    ghost contents_shortest = { let number = as_written U.encoding U.has_encoding U.written_encoding U.encoding_relates
-        U.encoding_shortest in (others_part number).least };
 }
 
 /// What follows the two primes of a private key: their exponents, the coefficient, and the other primes.
@@ -74,19 +72,25 @@ impl<'b, U: Encoding> Contents for CrtParts<'b, U> {
 
     ghost value = { λ parts. crt_parts (private_key_with U.value parts.0.now) };
 
-    ghost contents = { CrtContents U.encoding };
+    ghost Spelling = { CrtRow U.Spelling };
 
-    ghost has_contents = { HasCrt U.has_encoding };
+    ghost means = { crt_as U.means };
 
-    ghost written_contents = { written_crt U.written_encoding };
+    ghost written = { crt_as U.written };
+
+    ghost valid = { CrtIsValid U.valid };
+
+    ghost printed = { crt_printed U.printed };
+
+    ghost read_spelling = { crt_read U.read_spelling };
 
     ghost read = { crt_read U.read_front };
 
-    ghost reads = { crt_reads U.reads_front U.delimited };
+    ghost law = { crt_law U.law };
 
-    ghost means_one = { crt_means_one U.delimited };
+    ghost shortest = { crt_shortest U.shortest };
 
-    ghost contents_of_bytes = { crt_of_bytes U.encoding U.encoding_of_bytes };
+    ghost reads_alike = { crt_alike U.reads_alike };
 }
 
 impl<'b, U: Encode> EncodeValue for CrtParts<'b, U> {
@@ -119,10 +123,4 @@ impl<'b, U: Encode> EncodeValue for CrtParts<'b, U> {
         );
         (Borrowed(&key.exponent1), (Borrowed(&key.exponent2), last)).prepend_value(writer);
     }
-
-    ghost contents_relate = { let number = as_written U.encoding U.has_encoding U.written_encoding U.encoding_relates
-        U.encoding_shortest in (crt number).relate };
-
-    ghost contents_shortest = { let number = as_written U.encoding U.has_encoding U.written_encoding U.encoding_relates
-        U.encoding_shortest in (crt number).least };
 }

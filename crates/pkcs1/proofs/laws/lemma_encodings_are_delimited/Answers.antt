@@ -1,6 +1,5 @@
-use Rattle.pkcs1.proofs.PublicKeys.{public_delimited}
-use Rattle.pkcs1.proofs.PrivateKeys.{private_delimited}
-use Rattle.pkcs1_params.specs.Laws.Parameters.{pss_delimited, oaep_delimited}
+use Rattle.pkcs1.proofs.OneKey.{private_delimited, public_delimited}
+use Rattle.pkcs1.proofs.ParameterLaws.{oaep_delimited, pss_delimited}
 use Rattle.pkcs1.proofs.laws.lemma_encodings_are_delimited.Goals as goal
 
 pub returns-clause-public : goal.returns-clause-public

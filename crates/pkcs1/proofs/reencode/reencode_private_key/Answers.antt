@@ -10,8 +10,9 @@ use Rattle.pkcs1.proofs.reencode.reencode_private_key.Goals as goal
 pub returns-clause-same : goal.returns-clause-same
 returns-clause-same c =
     let read = c.in_ok-from_pkcs1_der in
-    comes_out IsPrivateKey private_one (held_private_key own_bytes_of read.field-0) c.in_ok-from_pkcs1_der.ensures.ok.0.1 c.args.bytes.now read.ensures.ok.0
-    encoding_of c.to_pkcs1_der.result c.to_pkcs1_der.ensures.encoding
+    let key = held_private_key own_bytes_of read.field-0 in
+    comes_out IsPrivateKey private_one key read.ensures.ok.0.1 c.args.bytes.now read.ensures.ok.0 encoding_of
+    c.to_pkcs1_der.result c.to_pkcs1_der.ensures.encoding
 
 pub returns-clause-sentence : goal.returns-clause-sentence
 returns-clause-sentence c =
@@ -21,12 +22,14 @@ returns-clause-sentence c =
 pub returns-clause-err : goal.returns-clause-err
 returns-clause-err c =
     let read = c.in_ok-from_pkcs1_der in
-    rejects IsPrivateKey private_one (held_private_key own_bytes_of read.field-0) c.in_ok-from_pkcs1_der.ensures.ok.0.1 c.args.bytes.now read.ensures.ok.0
-    encoding_of (OwnedKeyAllocates c.args.bytes.now) c.to_pkcs1_der.result c.to_pkcs1_der.ensures.err
+    let key = held_private_key own_bytes_of read.field-0 in
+    rejects IsPrivateKey private_one key read.ensures.ok.0.1 c.args.bytes.now read.ensures.ok.0 encoding_of
+    (OwnedKeyAllocates c.args.bytes.now) c.to_pkcs1_der.result c.to_pkcs1_der.ensures.err
 
 pub returns-clause-exact : goal.returns-clause-exact
 returns-clause-exact c =
     let read = c.in_ok-from_pkcs1_der in
-    memory_wanted IsPrivateKey private_one (held_private_key own_bytes_of read.field-0) c.in_ok-from_pkcs1_der.ensures.ok.0.1 c.args.bytes.now read.ensures.ok.0
-    encoding_of (OwnedKeyAllocates c.args.bytes.now) rsa_private_key read.ensures.exact c.to_pkcs1_der.result c.to_pkcs1_der.ensures.encoding
-    c.to_pkcs1_der.ensures.err
+    let key = held_private_key own_bytes_of read.field-0 in
+    memory_wanted IsPrivateKey private_one key read.ensures.ok.0.1 c.args.bytes.now read.ensures.ok.0 encoding_of
+    (OwnedKeyAllocates c.args.bytes.now) rsa_private_key read.ensures.exact c.to_pkcs1_der.result
+    c.to_pkcs1_der.ensures.encoding c.to_pkcs1_der.ensures.err

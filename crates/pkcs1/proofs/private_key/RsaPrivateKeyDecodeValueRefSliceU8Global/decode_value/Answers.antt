@@ -7,14 +7,15 @@ use Rattle.pkcs1.proofs.private_key.RsaPrivateKeyDecodeValueRefSliceU8Global.dec
 pub returns-in_err-others : goal.returns-in_err-others
 returns-in_err-others g c =
     let p = err_from_is_err_and c.from_residual-in_err-others.result c.from_residual-in_err-others.ensures.1 in
-    let front = front_of g.U.Encoding.value c.in_ok-version.version c.in_ok-version.numbers in
-    rw (p.1, p.2) (key_others_fail g.U.Encoding.reads_front g.U.Encoding.delimited g.U.Decode.may_allocate
-    (AllocatesInOthers g.U.Encoding.encoding g.U.Decode.may_allocate) _ front _ _ _ _ c.requires
+    let u = g.U.Encoding in
+    let front = front_of u.value c.in_ok-version.version c.in_ok-version.numbers in
+    rw (p.1, p.2) (key_others_fail u.law u.reads_alike g.U.Decode.may_allocate
+    (AllocatesInOthers u.valid u.printed u.means g.U.Decode.may_allocate) _ front _ _ _ _ c.requires
     (g.R.BytesLeft.bytes c.args.reader.now) c.in_ok-version.ensures c.in_err-others.ensures)
 
 pub returns : goal.returns
 returns g c =
-    let front = front_of g.U.Encoding.value c.in_ok-version.version c.in_ok-version.numbers in
-    rw c.key_of.ensures (key_gives g.U.Encoding.reads_front g.U.Encoding.delimited front
-    (others_of g.U.Encoding.value c.in_ok-others.others) _ _ _ _ c.requires c.in_ok-version.ensures
-    c.in_ok-others.ensures)
+    let u = g.U.Encoding in
+    let front = front_of u.value c.in_ok-version.version c.in_ok-version.numbers in
+    rw c.key_of.ensures (key_gives u.read_front front (others_of u.value c.in_ok-others.others) _ _ _ _ c.requires
+    c.in_ok-version.ensures c.in_ok-others.ensures)

@@ -24,30 +24,34 @@ counts value v = length-map v.items (other_of value)
 
 pub returns-then-is_multi-is_some : goal.returns-then-is_multi-is_some
 returns-then-is_multi-is_some g c =
-    disagree_fails (items g.U.Encoding.value) count (counts g.U.Encoding.value) g.U.Encoding.read_front c.args.version
-    (AllocatesInOthers g.U.Encoding.encoding g.U.Decode.may_allocate) c.in_ok-others.others _ _ _ c.in_ok-others.ensures
-    c.is_multi.ensures c.is_some.ensures _ c.if-is_multi-is_some.true c.error.ensures.failed
+    let u = g.U.Encoding in
+    disagree_fails (items u.value) count (counts u.value) u.read_front c.args.version
+    (AllocatesInOthers u.valid u.printed u.means g.U.Decode.may_allocate) c.in_ok-others.others _ _ _
+    c.in_ok-others.ensures c.is_multi.ensures c.is_some.ensures _ c.if-is_multi-is_some.true c.error.ensures.failed
     (c.error.ensures.value ∙ ap kind.Value (same_tag _ integer refl))
 
 pub returns-then-lists_none : goal.returns-then-lists_none
 returns-then-lists_none g c =
-    empty_fails (items g.U.Encoding.value) count (counts g.U.Encoding.value) g.U.Encoding.read_front c.args.version
-    (AllocatesInOthers g.U.Encoding.encoding g.U.Decode.may_allocate) c.in_ok-others.others _ _ _ c.in_ok-others.ensures
-    c.is_multi.ensures c.is_some.ensures c.if-is_multi-is_some.false c.lists_none.ensures _ c.if-lists_none.true
+    let u = g.U.Encoding in
+    empty_fails (items u.value) count (counts u.value) u.read_front c.args.version
+    (AllocatesInOthers u.valid u.printed u.means g.U.Decode.may_allocate) c.in_ok-others.others _ _ _
+    c.in_ok-others.ensures c.is_multi.ensures c.is_some.ensures c.if-is_multi-is_some.false c.lists_none.ensures _ c.if-lists_none.true
     c.error-then-lists_none.ensures.failed
     (c.error-then-lists_none.ensures.value ∙ ap kind.Value (same_tag _ sequence refl))
 
 pub returns-in_err-finish : goal.returns-in_err-finish
 returns-in_err-finish g c =
+    let u = g.U.Encoding in
     let p = err_from_is_err_and c.from_residual-in_err-finish.result c.from_residual-in_err-finish.ensures.1 in
-    rw (p.1, p.2) (more_fails (items g.U.Encoding.value) count (counts g.U.Encoding.value) g.U.Encoding.read_front
-    c.args.version (AllocatesInOthers g.U.Encoding.encoding g.U.Decode.may_allocate) c.in_ok-others.others _ _ _
+    rw (p.1, p.2) (more_fails (items u.value) count (counts u.value) u.read_front
+    c.args.version (AllocatesInOthers u.valid u.printed u.means g.U.Decode.may_allocate) c.in_ok-others.others _ _ _
     c.in_ok-others.ensures c.is_multi.ensures c.is_some.ensures c.if-is_multi-is_some.false c.lists_none.ensures _
     c.if-lists_none.false c.in_err-finish.ensures)
 
 pub returns : goal.returns
 returns g c =
-    others_give (items g.U.Encoding.value) count (counts g.U.Encoding.value) g.U.Encoding.read_front c.args.version
-    (AllocatesInOthers g.U.Encoding.encoding g.U.Decode.may_allocate) c.in_ok-others.others
+    let u = g.U.Encoding in
+    others_give (items u.value) count (counts u.value) u.read_front c.args.version
+    (AllocatesInOthers u.valid u.printed u.means g.U.Decode.may_allocate) c.in_ok-others.others
     (g.R.BytesLeft.left c.args.reader.now) _ _ c.in_ok-others.ensures c.is_multi.ensures c.is_some.ensures
     c.if-is_multi-is_some.false c.lists_none.ensures c.if-lists_none.false c.in_ok-finish.ensures

@@ -1,23 +1,38 @@
-use Rattle.std.proofs.Common.{arith, refl, rules, Ok}
+use Rattle.std.proofs.Common.{arith, Ok, Err}
+use Rattle.std.proofs.lemmas.Result.{err_from_is_err_and}
 use Rattle.der_core.specs.Laws.Input.{are_bytes}
-use Rattle.pkcs1.proofs.Decoded.{decoded}
+use Rattle.der_core.specs.UintRefValue.{bytes_of}
+use Rattle.pkcs1.specs.Held.{held_public_key}
 use Rattle.pkcs1.specs.KeyReadings.{rsa_public_key}
-use Rattle.pkcs1.specs.Laws.PrintedKeys.{public_decodes}
-use Rattle.pkcs1.specs.PrintedKeys.{public_meaning}
-use Rattle.pkcs1.specs.PublicKeyValue.{public_key_of}
-use Rattle.pkcs1_params.specs.Meanings.{ErrsAs}
+use Rattle.pkcs1.specs.Laws.PrintedKeys.{public_decodes, public_key_in}
+use Rattle.pkcs1.specs.StatedKeys.{public_stated}
+use Rattle.pkcs1_params.specs.declared.error.Error.TheVariants as error
+use Rattle.pkcs1.proofs.Decoded.{decoded, made_fault, made_ok}
+use Rattle.pkcs1.proofs.KeyMemory.{public_fault}
 use Rattle.standard.specs.Statement.{PublicKeyEncoding}
 use Rattle.pkcs1.proofs.public_key.RsaPublicKeyUintRefTryFromRefSliceU8.try_from.Goals as goal
+
+pub returns-clause-exact : goal.returns-clause-exact
+returns-clause-exact c = made_ok public_stated public_key_in c.args.bytes.now _ c.in_ok-from_der.ensures.exact
 
 pub returns-clause-read : goal.returns-clause-read
 returns-clause-read c =
     let bytes = c.args.bytes.now in
-    decoded PublicKeyEncoding public_key_of public_meaning (λ _. refl) rsa_public_key bytes
-    (public_decodes bytes (are_bytes bytes (λ i. omega (arith, c.type_inv.bytes i)))) (Ok c.in_ok-from_der.field-0) c.in_ok-from_der.ensures.exact
+    decoded PublicKeyEncoding rsa_public_key bytes
+    (public_decodes bytes (are_bytes bytes (λ i. omega (arith, c.type_inv.bytes i)))) (held_public_key bytes_of)
+    (Ok c.in_ok-from_der.field-0) (made_ok public_stated public_key_in bytes _ c.in_ok-from_der.ensures.exact)
+
+pub returns-in_err-from_der-clause-exact : goal.returns-in_err-from_der-clause-exact
+returns-in_err-from_der-clause-exact c =
+    let p = err_from_is_err_and c.from_residual.result c.from_residual.ensures.1 in
+    rw (p.1, p.2) (made_fault public_stated public_key_in c.args.bytes.now _
+    (public_fault _ _ c.in_err-from_der.ensures.exact))
 
 pub returns-in_err-from_der-clause-read : goal.returns-in_err-from_der-clause-read
 returns-in_err-from_der-clause-read c =
+    let p = err_from_is_err_and c.from_residual.result c.from_residual.ensures.1 in
     let bytes = c.args.bytes.now in
-    let told : ErrsAs public_key_of (rsa_public_key bytes) c.from_residual.result = search rules in
-    decoded PublicKeyEncoding public_key_of public_meaning (λ _. refl) rsa_public_key bytes
-    (public_decodes bytes (are_bytes bytes (λ i. omega (arith, c.type_inv.bytes i)))) c.from_residual.result told
+    rw p.1 (decoded PublicKeyEncoding rsa_public_key bytes
+    (public_decodes bytes (are_bytes bytes (λ i. omega (arith, c.type_inv.bytes i)))) (held_public_key bytes_of)
+    (Err (error.Asn1 c.in_err-from_der.field-0.0))
+    (made_fault public_stated public_key_in bytes _ (public_fault _ _ c.in_err-from_der.ensures.exact)))

@@ -1,36 +1,42 @@
-use Rattle.std.proofs.Common.{arith, refl, Ok, Err}
+use Rattle.std.proofs.Common.{arith, Ok, Err}
 use Rattle.std.proofs.lemmas.Result.{err_from_is_err_and}
 use Rattle.der_core.specs.Laws.Input.{are_bytes}
 use Rattle.der_core.specs.UintValue.{own_bytes_of}
 use Rattle.pkcs1.specs.Allocating.{OwnedPublicKeyAllocates}
+use Rattle.pkcs1.specs.Held.{held_public_key}
 use Rattle.pkcs1.specs.KeyReadings.{rsa_public_key}
-use Rattle.pkcs1.specs.Laws.PrintedKeys.{public_decodes}
-use Rattle.pkcs1.specs.PrintedKeys.{public_meaning}
-use Rattle.pkcs1.specs.PublicKeyValue.{public_key_with}
+use Rattle.pkcs1.specs.Laws.PrintedKeys.{public_decodes, public_key_in}
+use Rattle.pkcs1.specs.StatedKeys.{public_stated}
 use Rattle.pkcs1_params.specs.declared.error.Error.TheVariants as error
-use Rattle.pkcs1.proofs.Decoded.{decoded_err, decoded_ok}
+use Rattle.pkcs1.proofs.Decoded.{decoded_err, decoded_ok, made_faulty, made_ok}
+use Rattle.pkcs1.proofs.KeyFaults.{public_tells}
 use Rattle.pkcs1.proofs.KeyMemory.{faulty_as, owned_parts_ask}
-use Rattle.pkcs1.proofs.KeyReadings.{rsa_public_key_reads}
 use Rattle.standard.specs.Statement.{PublicKeyEncoding}
 use Rattle.pkcs1.proofs.traits.RsaPublicKeyUintDecodeRsaPublicKey.from_pkcs1_der.Goals as goal
+
+pub returns-clause-exact : goal.returns-clause-exact
+returns-clause-exact c = made_ok public_stated public_key_in c.args.bytes.now _ c.in_ok-from_der.ensures.exact
 
 pub returns-clause-ok : goal.returns-clause-ok
 returns-clause-ok c =
     let bytes = c.args.bytes.now in
-    decoded_ok PublicKeyEncoding (public_key_with own_bytes_of) public_meaning (λ _. refl) rsa_public_key bytes
-    (public_decodes bytes (are_bytes bytes (λ i. omega (arith, c.type_inv.bytes i)))) (OwnedPublicKeyAllocates bytes)
-    (Ok c.in_ok-from_der.field-0) c.in_ok-from_der.ensures.exact
+    decoded_ok PublicKeyEncoding rsa_public_key bytes
+    (public_decodes bytes (are_bytes bytes (λ i. omega (arith, c.type_inv.bytes i)))) (held_public_key own_bytes_of)
+    (OwnedPublicKeyAllocates bytes) (Ok c.in_ok-from_der.field-0)
+    (made_ok public_stated public_key_in bytes _ c.in_ok-from_der.ensures.exact)
 
 pub returns-in_err-from_der-clause-err : goal.returns-in_err-from_der-clause-err
 returns-in_err-from_der-clause-err c =
     let p = err_from_is_err_and c.from_residual.result c.from_residual.ensures.1 in
     let bytes = c.args.bytes.now in
-    rw (p.1, p.2) (decoded_err PublicKeyEncoding (public_key_with own_bytes_of) public_meaning (λ _. refl) rsa_public_key bytes
-    (public_decodes bytes (are_bytes bytes (λ i. omega (arith, c.type_inv.bytes i)))) (OwnedPublicKeyAllocates bytes)
-    rsa_public_key_reads.tells (Err (error.Asn1 c.in_err-from_der.field-0.0))
-    (faulty_as owned_parts_ask _ _ c.in_err-from_der.ensures.exact))
+    rw (p.1, p.2) (decoded_err PublicKeyEncoding rsa_public_key bytes
+    (public_decodes bytes (are_bytes bytes (λ i. omega (arith, c.type_inv.bytes i)))) (held_public_key own_bytes_of)
+    (OwnedPublicKeyAllocates bytes) public_tells (Err (error.Asn1 c.in_err-from_der.field-0.0))
+    (made_faulty public_stated public_key_in bytes _ _
+    (faulty_as owned_parts_ask _ _ c.in_err-from_der.ensures.exact)))
 
 pub returns-in_err-from_der-clause-exact : goal.returns-in_err-from_der-clause-exact
 returns-in_err-from_der-clause-exact c =
     let p = err_from_is_err_and c.from_residual.result c.from_residual.ensures.1 in
-    rw (p.1, p.2) (faulty_as owned_parts_ask _ _ c.in_err-from_der.ensures.exact)
+    rw (p.1, p.2) (made_faulty public_stated public_key_in c.args.bytes.now _ _
+    (faulty_as owned_parts_ask _ _ c.in_err-from_der.ensures.exact))

@@ -1,8 +1,8 @@
 use Rattle.std.proofs.lemmas.Result.{err_from_is_err_and}
 use Rattle.std.specs.Option.{option_map}
-use Rattle.der_core.specs.Laws.Integer.{integer_delimited}
 use Rattle.der_core.specs.UintRefValue.{bytes_of}
-use Rattle.pkcs1.specs.Laws.KeyReadings.{number_reads}
+use Rattle.pkcs1.specs.Held.{number_in}
+use Rattle.pkcs1.specs.KeyReadings.{number}
 use Rattle.pkcs1.specs.OtherPrimesLeft.{others_left}
 use Rattle.pkcs1.proofs.KeyReads.{front_of, key_gives, key_others_fault}
 use Rattle.pkcs1.proofs.view.ViewedKeyDecodeValueRefSliceU8NoMemory.decode_value.Goals as goal
@@ -10,13 +10,11 @@ use Rattle.pkcs1.proofs.view.ViewedKeyDecodeValueRefSliceU8NoMemory.decode_value
 pub returns-in_err-others : goal.returns-in_err-others
 returns-in_err-others g c =
     let p = err_from_is_err_and c.from_residual-in_err-others.result c.from_residual-in_err-others.ensures.1 in
-    let front = front_of bytes_of c.in_ok-version.version c.in_ok-version.numbers in
-    rw (p.1, p.2) (key_others_fault number_reads integer_delimited _ front _ _ _ _ c.requires c.in_ok-version.ensures
-    c.in_err-others.ensures)
+    let front = front_of (number_in bytes_of) c.in_ok-version.version c.in_ok-version.numbers in
+    rw (p.1, p.2) (key_others_fault number _ front _ _ _ _ c.requires c.in_ok-version.ensures c.in_err-others.ensures)
 
 pub returns : goal.returns
 returns g c =
-    let front = front_of bytes_of c.in_ok-version.version c.in_ok-version.numbers in
-    rw c.key_of.ensures (key_gives number_reads integer_delimited front
-    (option_map others_left c.in_ok-others.others) _ _ _ _ c.requires c.in_ok-version.ensures
-    c.in_ok-others.ensures)
+    let front = front_of (number_in bytes_of) c.in_ok-version.version c.in_ok-version.numbers in
+    rw c.key_of.ensures (key_gives number front (option_map others_left c.in_ok-others.others) _ _ _ _ c.requires
+    c.in_ok-version.ensures c.in_ok-others.ensures)

@@ -11,9 +11,9 @@ returns-in_err-from_der-clause-err g c =
     rw (p.1, p.2, ← c.as_bytes.ensures.octets) c.in_err-from_der.ensures.encoding
 
 pub returns-in_err-from_der-clause-two_primes : goal.returns-in_err-from_der-clause-two_primes
-returns-in_err-from_der-clause-two_primes g c none key two means =
-    absurd (two_primes_rejected g.U.Encoding.delimited key two _ none _ _ (rw (← c.as_bytes.ensures.octets) at means)
-    c.in_err-from_der.ensures.encoding)
+returns-in_err-from_der-clause-two_primes g c none key two spelled =
+    absurd (two_primes_rejected g.U.Encoding.law g.U.Encoding.means g.U.Decode.may_allocate key two none _ _
+    (rw (← c.as_bytes.ensures.octets) at spelled) c.in_err-from_der.ensures.encoding)
 
 pub returns-in_err-from_der-clause-exact : goal.returns-in_err-from_der-clause-exact
 returns-in_err-from_der-clause-exact g c =

@@ -1,0 +1,96 @@
+-- Keys are read as their spellings mean, over numbers of any type of which it is so.
+use Rattle.std.proofs.Common.{ℕ, Bool, true, false, List, [], ◌∷◌, ◌≡◌, ◌==◌, map, refl, sym, ap, ◌∙◌}
+use Rattle.std.proofs.Common.{Option, Some, None, Ok, Err}
+use Rattle.std.specs.Prelude.{if◌then◌else◌, not}
+use Rattle.der_core.specs.declared.error.ErrorKind.TheVariants.{Value}
+use Rattle.der_core.specs.Laws.Printed.Alike.{alike, alone_alike, chain_alike, front_alike, front_row_alike}
+use Rattle.der_core.specs.Laws.Printed.Alike.{items_alike, made_alike, optional_alike, row_alike, such_alike}
+use Rattle.der_core.specs.Laws.Printed.Alike.{tagged_alike}
+use Rattle.der_core.specs.Printed.{ReadsAlike, ReadsFrontAlike}
+use Rattle.der_core.specs.Readings.{FrontReading, Reading, ended, front_done, made, no_parts, tagged, ◌>>=◌}
+use Rattle.der_core.specs.Tags as tags
+use Rattle.pkcs1.specs.KeyReadings.{agreed, crt_read, front_read, key_from, last_others, lists_none, of_other_parts}
+use Rattle.pkcs1.specs.KeyReadings.{of_public_parts, other_read, others_read, primes_read, private_key_read}
+use Rattle.pkcs1.specs.KeyReadings.{public_key_read, version_read}
+use Rattle.pkcs1.specs.Keys.{OtherPrime, version_of}
+use Rattle.pkcs1.specs.PrintedKeys.{crt_as, front_as, other_as, others_as, private_as, public_as}
+
+-- The version of a key, and whether its list of other primes is empty.
+abbrev Primes : Type 0 → Type 0
+Primes N = Option (List (OtherPrime N))
+
+pub version_as : {N M : Type 0} (f : N → M) (primes : Primes N) → version_of (others_as f primes) ≡ version_of primes
+version_as f None = refl
+version_as f (Some others) = refl
+
+lists_as : {N M : Type 0} (f : N → M) (primes : Primes N) → lists_none (others_as f primes) ≡ lists_none primes
+lists_as f None = refl
+lists_as f (Some []) = refl
+lists_as f (Some (x ∷ xs)) = refl
+
+-- What is behind the list, by whether it agrees with the version, and whether it is empty.
+abbrev ending : {N : Type 0} → Primes N → Bool → Bool → Reading (Primes N)
+ending primes agrees none c =
+    if agrees then (if none then Err (Value tags.sequence) else ended primes c) else Err (Value tags.integer)
+
+module _ {S V : Type 0} {at : FrontReading S} {means : S → V} {old : FrontReading V}
+    (law : ReadsFrontAlike at means old) where
+  pub public_alike : ReadsAlike (public_key_read at) (public_as means) (public_key_read old)
+  public_alike =
+      made_alike (row_alike law (row_alike law (alike no_parts))) of_public_parts of_public_parts (public_as means)
+      (λ p. refl)
+
+  pub other_alike : ReadsAlike (other_read at) (other_as means) (other_read old)
+  other_alike =
+      made_alike (row_alike law (row_alike law (row_alike law (alike no_parts)))) of_other_parts of_other_parts
+      (other_as means) (λ p. refl)
+
+  pub primes_alike : ReadsAlike (primes_read at) (map (other_as means)) (primes_read old)
+  primes_alike = items_alike (tagged_alike other_alike tags.sequence)
+
+  -- The list as a last part, and the end of the row of a private key.
+  pub last_others_alike : ReadsAlike (last_others at) (others_as means) (last_others old)
+  last_others_alike =
+      such_alike (alone_alike (optional_alike (tagged_alike primes_alike tags.sequence) 48))
+      (λ primes. not (lists_none primes)) (λ primes. not (lists_none primes)) (Value tags.sequence)
+      (λ primes. ap not (sym (lists_as means primes)))
+
+  pub crt_alike : ReadsAlike (crt_read at) (crt_as means) (crt_read old)
+  crt_alike = row_alike law (row_alike law (row_alike law last_others_alike))
+
+  -- The list behind a version.
+  agreed_alike : (v : ℕ) (primes : Primes S)
+      → ReadsAlike (agreed v primes) (others_as means) (agreed v (others_as means primes))
+  agreed_alike v primes = record {
+    same = λ c.
+        go c (v == version_of primes) (lists_none primes)
+        ∙ (λ i. ending (others_as means primes) (v == sym (version_as means primes) i)
+        (sym (lists_as means primes) i) c);
+  }
+    where
+      end : (c : List ℕ) → (ended primes c >>= λ p. Ok (others_as means p)) ≡ ended (others_as means primes) c
+      end [] = refl
+      end (x ∷ xs) = refl
+
+      go : (c : List ℕ) (agrees none : Bool)
+          → (ending primes agrees none c >>= λ p. Ok (others_as means p))
+          ≡ ending (others_as means primes) agrees none c
+      go c true true = refl
+      go c true false = end c
+      go c false none = refl
+
+  others_alike : (v : ℕ) → ReadsAlike (others_read at v) (others_as means) (others_read old v)
+  others_alike v =
+      chain_alike (optional_alike (tagged_alike primes_alike tags.sequence) 48) (agreed v) (agreed_alike v)
+
+  pub fronts_alike : ReadsFrontAlike (front_read at) (front_as means) (front_read old)
+  fronts_alike =
+      front_row_alike (front_alike (tagged tags.integer version_read)) (front_row_alike law (front_row_alike law
+      (front_row_alike law (front_row_alike law (front_row_alike law (front_row_alike law (front_row_alike law
+      (front_row_alike law (front_alike front_done)))))))))
+
+  pub private_alike : ReadsAlike (private_key_read at) (private_as means) (private_key_read old)
+  private_alike =
+      chain_alike fronts_alike (λ front. made (key_from front.1) (others_read old front.0))
+      (λ front. made_alike (others_alike front.0) (key_from front.1) (key_from (front_as means front).1)
+      (private_as means) (λ primes. refl))

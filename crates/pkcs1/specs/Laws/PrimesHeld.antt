@@ -1,0 +1,109 @@
+-- Bytes that hold the encodings of other primes, in a row, and how many: by the function that reads them.
+use Prim.{IsProp, IsSet}
+use mathlib.Core.HLevel.{is_prop→PathP}
+use denote.Struct.Props.{props}
+use Rattle.std.proofs.Common.{ℕ, List, [], ◌∷◌, ◌++◌, ◌≡◌, ◌+◌, ◌-◌, ◌<◌, ◌≤◌, length, refl, sym, ap, ◌∙◌, arith}
+use Rattle.std.proofs.Common.{length-append, Option, Some, Result, Ok, Err}
+use Rattle.der_core.specs.declared.error.ErrorKind.{ErrorKind}
+use Rattle.der_core.specs.Encodings.{AreBytes}
+use Rattle.der_core.specs.Laws.Printed.Rows.{tagged_law}
+use Rattle.der_core.specs.Laws.Printed.Shortest.{tagged_some}
+use Rattle.der_core.specs.Printed.{ReadsFrontPrinted, value_in}
+use Rattle.der_core.specs.Readings.{◌>>=◌}
+use Rattle.der_core.specs.Tags as tags
+use Rattle.pkcs1.specs.KeyReadings.{number, primes_read}
+use Rattle.pkcs1.specs.Keys.{OtherPrime}
+use Rattle.pkcs1.specs.OtherPrimesHeld.{HoldsPrimes, next_prime}
+use Rattle.pkcs1.specs.Laws.ItemSteps.{AreRead, all_read, fault_read, item_shorter, items_step, more_read, none_read}
+use Rattle.pkcs1.specs.Laws.PrintedNumbers.{integer_law}
+use Rattle.pkcs1.specs.Laws.PrintedRows.{other_law}
+use Rattle.pkcs1.specs.Printing.{AnyNumber, OtherIsValid, other_printed}
+use Rattle.standard.specs.Statement as standard
+use Rattle.standard.specs.Statement.{sequence}
+
+pub next_law : ReadsFrontPrinted (OtherIsValid AnyNumber) (λ other. sequence (other_printed standard.integer other))
+    next_prime
+next_law = tagged_law (other_law integer_law) tags.sequence
+
+pub next_some : (other : OtherPrime ℕ) → 0 < length (sequence (other_printed standard.integer other))
+next_some = tagged_some (other_printed standard.integer) 48
+
+-- There is one such list at most.
+primes_set : IsSet (Option (List (OtherPrime ℕ)))
+primes_set = hlevel props
+
+count_set : IsSet ℕ
+count_set = hlevel props
+
+some_same : {V : Type 0} {v w : V} → ◌≡◌ {A = Option V} (Some v) (Some w) → v ≡ w
+some_same e = cc
+
+pub one_held : (bytes : List ℕ) (left right : ℕ) (p : HoldsPrimes bytes left) (q : HoldsPrimes bytes right) → p.0 ≡ q.0
+one_held bytes left right p q = some_same (sym p.1 ∙ q.1)
+
+pub HoldsPrimes-prop : (bytes : List ℕ) (left : ℕ) → IsProp (HoldsPrimes bytes left)
+HoldsPrimes-prop bytes left p q =
+    let s = one_held bytes left left p q in
+    let read = value_in (primes_read number bytes) in
+    λ i. (
+      s i,
+      is_prop→PathP (λ h. read ≡ Some (s h)) (λ h. primes_set read (Some (s h))) p.1 q.1 i,
+      is_prop→PathP (λ h. length (s h) ≡ left) (λ h. count_set (length (s h)) left) p.2 q.2 i,
+    )
+
+-- The function reads the list that is held.
+read_of : {V : Type 0} (r : Result V ErrorKind) (v : V) → value_in r ≡ Some v → r ≡ Ok v
+read_of (Ok w) v e = ap (λ u. Ok u) (some_same e)
+read_of (Err k) v e = cc
+
+pub held_read : (bytes : List ℕ) (left : ℕ) (h : HoldsPrimes bytes left) → primes_read number bytes ≡ Ok h.0
+held_read bytes left h = read_of (primes_read number bytes) h.0 h.1
+
+-- The first one, and those behind it.
+pub held_behind : (bytes rest : List ℕ) (left : ℕ) (other : OtherPrime ℕ) (h : HoldsPrimes bytes left) → AreBytes bytes
+    → next_prime bytes ≡ Ok (other, rest) → (t : HoldsPrimes rest (left - 1)) × (h.0 ≡ other ∷ t.0)
+held_behind bytes rest left other h are next =
+    go (primes_read number rest) refl
+    (sym (items_step next_law next_some bytes rest other are next) ∙ held_read bytes left h)
+  where
+    go : (r : Result (List (OtherPrime ℕ)) ErrorKind) → primes_read number rest ≡ r
+        → (r >>= λ os. Ok (other ∷ os)) ≡ Ok h.0 → (t : HoldsPrimes rest (left - 1)) × (h.0 ≡ other ∷ t.0)
+    go (Ok os) read e =
+        let same : other ∷ os ≡ h.0 = some_same (ap value_in e) in
+        ((os, ap value_in read, omega (arith, h.2, ap length same)), sym same)
+    go (Err k) read e = cc
+
+pub held_first : (bytes : List ℕ) (left : ℕ) (k : ErrorKind) → HoldsPrimes bytes left → (left ≡ 0 → ⊥)
+    → next_prime bytes ≡ Err k → ⊥
+held_first [] left k h some fault = some (sym h.2 ∙ ap length (some_same (sym h.1)))
+held_first (x ∷ xs) left k h some fault =
+    let never = fault_read next_prime (x ∷ xs) [] (x ∷ xs) k (none_read next_prime (x ∷ xs)) (omega arith) fault in
+    let both = sym (held_read (x ∷ xs) left h) ∙ never in cc
+
+-- So many were read of the bytes, and the rest is left.
+abbrev pub AreCounted : List ℕ → List ℕ → ℕ → Type 0
+AreCounted bytes rest count =
+    (others : List (OtherPrime ℕ)) × AreRead next_prime bytes others rest × (length others ≡ count)
+    × (count + length rest ≤ length bytes)
+
+pub none_counted : (bytes : List ℕ) → AreCounted bytes bytes 0
+none_counted bytes = ([], none_read next_prime bytes, refl, omega arith)
+
+pub more_counted : (bytes rest behind : List ℕ) (count : ℕ) (other : OtherPrime ℕ) → AreBytes rest
+    → AreCounted bytes rest count → next_prime rest ≡ Ok (other, behind) → AreCounted bytes behind (count + 1)
+more_counted bytes rest behind count other are (others, read, counted, few) next =
+    let less = (item_shorter next_law next_some rest behind other are next).0 in (
+      others ++ other ∷ [],
+      more_read next_law next_some bytes others rest behind other are read next,
+      omega (arith, counted, length-append others (other ∷ [])),
+      omega (arith, few, less),
+    )
+
+pub all_counted : (bytes rest : List ℕ) (count : ℕ) → AreCounted bytes rest count → rest ≡ [] → HoldsPrimes bytes count
+all_counted bytes rest count (others, read, counted, few) none =
+    (others, ap value_in (all_read next_prime bytes others rest read none), counted)
+
+pub fault_counted : (bytes rest : List ℕ) (count : ℕ) (k : ErrorKind) → AreCounted bytes rest count → 0 < length rest
+    → next_prime rest ≡ Err k → primes_read number bytes ≡ Err k
+fault_counted bytes rest count k (others, read, counted, few) more fault =
+    fault_read next_prime bytes others rest k read more fault
