@@ -1,6 +1,6 @@
 pub mod ContainerWrites
 mod Exclusion
+pub mod ReadingsRows
 pub mod UsualContainers
-pub mod RsaHeld
-pub mod Container
-pub mod ContainerReadings
+pub mod RsaOnly
+pub mod ContainedKeys

@@ -1,44 +1,41 @@
 -- Containers whose octets are known in front of the key.
 use Rattle.std.proofs.Common.{ℕ, List, [], ◌∷◌, ◌++◌, ◌≡◌, ◌<◌, ◌≤◌, ◌+◌, ◌*◌, ◌-◌, ◌∙◌, refl, sym, ap, arith, length}
 use Rattle.std.proofs.Common.{take, drop, eqb, subst, Option, Some, None, slice_index_or}
-use Rattle.std.proofs.lemmas.List.{take-append-drop, append-nil, take_all}
+use Rattle.std.proofs.lemmas.List.{append_assoc, take-append-drop, append-nil, take_all}
 use Rattle.std.proofs.lemmas.Bool.Decides.{nat_tests}
-use Rattle.der_core.specs.Reading.{ReadsAll}
-use Rattle.pkcs8_core.specs.ContainerValue.{attributes_of}
-use Rattle.pkcs8_core.specs.declared.attributes.Attributes.{Attributes}
 use Rattle.std.specs.List.{IsSplitAt}
 use Rattle.std.specs.Int.Digits.{number_from_digits}
 use Rattle.std.specs.Bool.{Decides}
 use Rattle.std.specs.Prelude.{not, Bool, true, false, Result, Ok, Err, IfOk, IfSome, MatchOption}
 use Rattle.std.specs.Result.{result_ok}
 use Rattle.std.specs.Str.{bytes_eq}
-use Rattle.der_core.specs.Document.{Means}
+use Rattle.der_core.specs.Encodings.{AreBytes, Is}
 use Rattle.der_core.specs.Laws.Equality.{bytes_decide}
 use Rattle.der_core.specs.Laws.Input.{are_bytes}
+use Rattle.der_core.specs.Laws.Printed.Leaves.{tlv_is}
+use Rattle.der_core.specs.Length.{IsBase256, length_octets, long}
 use Rattle.der_core.specs.OctetStringRefValue.{octets_of}
+use Rattle.der_core.specs.Printed.{Prints}
+use Rattle.der_core.specs.Reading.{ReadsAll}
+use Rattle.der_core.specs.Tlv.{Tlv}
 use Rattle.der_core.specs.declared.error.Error.{Error}
 use Rattle.der_core.specs.declared.octet_string.OctetStringRef.{OctetStringRef}
-use Rattle.der_core.specs.Encodings.{AreBytes, Is, Joins, Then}
-use Rattle.der_core.specs.Optional.{Optional}
-use Rattle.der_core.specs.Laws.Encodings.{last_holds}
-use Rattle.der_core.specs.Length.{IsBase256, long}
-use Rattle.der_core.specs.Tlv.{Tlv}
-use Rattle.der_core.specs.OctetString.{OctetString}
-use Rattle.der_core.proofs.WorkedLengths.{known_tlv, small_byte}
-use Rattle.spki_core.specs.AlgorithmIdentifier.{AlgorithmContents, PlainAlgorithm}
-use Rattle.spki_core.specs.Any.{Any, null_value}
 use Rattle.spki_core.specs.Laws.IdentifierTest.{is_identifier-sound}
-use Rattle.spki_core.specs.ObjectIdentifier.{IsIdentifier, ObjectIdentifier}
+use Rattle.spki_core.specs.ObjectIdentifier.{IsIdentifier}
 use Rattle.pkcs1_params.specs.Parameters.{id_rsa_encryption}
-use Rattle.pkcs8_core.specs.Container.{AttributesEncoding, InfoContents, PrivateKeyInfo}
+use Rattle.pkcs8_core.specs.ContainerValue.{attributes_of}
 use Rattle.pkcs8_core.specs.Rsa.{rsa_encryption, with_rsa_key}
+use Rattle.pkcs8_core.specs.declared.attributes.Attributes.{Attributes}
+use Rattle.standard.specs.Statement.{AreOctets, ContainerEncoding, IfPresent, algorithm, any, integer, optional}
+use Rattle.standard.specs.Statement.{sequence, tlv}
 
 -- A length of two octets.
 two_octets : (tag high low : ℕ) (c : List ℕ) → 0 < high → high < 256 → low < 256 → length c ≡ high * 256 + low
     → Tlv tag (Is c) (tag ∷ 0x82 ∷ high ∷ low ∷ c)
 two_octets tag high low c first h l count =
     let value : number_from_digits 256 (high ∷ low ∷ []) ≡ length c = omega (arith, count) in
-    let base : IsBase256 (length c) (high ∷ low ∷ []) = record { bytes = (h, (l, tt)); value = value; no_leading_zero = first } in
+    let base : IsBase256 (length c) (high ∷ low ∷ []) =
+    record { bytes = (h, (l, tt)); value = value; no_leading_zero = first } in
     record {
       octets = 0x82 ∷ high ∷ low ∷ [];
       contents = c;
@@ -51,7 +48,7 @@ two_octets tag high low c first h l count =
 split_there : (tag n : ℕ) (b front back : List ℕ) → 4 ≤ length b → ((i : ℕ) → slice_index_or b i 0 < 256)
     → slice_index_or b 0 0 ≡ tag → slice_index_or b 1 0 ≡ 0x82 → 0 < slice_index_or b 2 0
     → n ≡ slice_index_or b 2 0 * 256 + slice_index_or b 3 0 → IsSplitAt (take (length b - 4) (drop 4 b)) n front back
-    → Then (Tlv tag (Is front)) (Is back) b × (length b ≤ 65539 + length back)
+    → (b ≡ tlv tag front ++ back) × (length b ≤ 65539 + length back)
 split_there tag n [] front back l bytes t f first number s = absurd (omega (arith, l))
 split_there tag n (x ∷ []) front back l bytes t f first number s = absurd (omega (arith, l))
 split_there tag n (x ∷ y ∷ []) front back l bytes t f first number s = absurd (omega (arith, l))
@@ -64,13 +61,14 @@ split_there tag n (x ∷ y ∷ z ∷ w ∷ c) front back l bytes t f first numbe
     let is : x ∷ y ∷ z ∷ w ∷ c ≡ tag ∷ 0x82 ∷ z ∷ w ∷ front ++ back =
     rw (t, f) (ap (λ r. tag ∷ 0x82 ∷ z ∷ w ∷ r) whole) in
     let encoding = two_octets tag z w front first (bytes 2) (bytes 3) (front_len ∙ number) in
-    ((tag ∷ 0x82 ∷ z ∷ w ∷ front, back, encoding, refl, is), omega (arith, back_len, number, bytes 2, bytes 3))
+    let form = tlv_is tag front (tag ∷ 0x82 ∷ z ∷ w ∷ front) (λ c same. same) encoding in
+    (is ∙ ap (λ r. r ++ back) form, omega (arith, back_len, number, bytes 2, bytes 3))
 
 pub split_found : {X : Type 0} (none : Type 0) (front back : X → List ℕ) (tag n : ℕ) (b : List ℕ) → 4 ≤ length b
     → ((i : ℕ) → slice_index_or b i 0 < 256) → slice_index_or b 0 0 ≡ tag → slice_index_or b 1 0 ≡ 0x82
     → 0 < slice_index_or b 2 0 → n ≡ slice_index_or b 2 0 * 256 + slice_index_or b 3 0 → (r : Option X)
     → MatchOption r none (λ p. IsSplitAt (take (length b - 4) (drop 4 b)) n (front p) (back p))
-    → IfSome r (λ p. Then (Tlv tag (Is (front p))) (Is (back p)) b × (length b ≤ 65539 + length (back p)))
+    → IfSome r (λ p. (b ≡ tlv tag (front p) ++ back p) × (length b ≤ 65539 + length (back p)))
 split_found none front back tag n b l bytes t f first number None s = tt
 split_found none front back tag n b l bytes t f first number (Some p) s =
     split_there tag n b (front p) (back p) l bytes t f first number s
@@ -81,74 +79,44 @@ rsa_bytes = search arith
 rsa_identifier : IsIdentifier id_rsa_encryption
 rsa_identifier = is_identifier-sound id_rsa_encryption rsa_bytes refl
 
-null : Any null_value (0x05 ∷ 0x00 ∷ [])
-null = ((refl, tt), known_tlv 0x05 [] refl (omega arith))
-
-abbrev identified : List ℕ
-identified = 0x06 ∷ 0x09 ∷ id_rsa_encryption
-
-algorithm : PlainAlgorithm rsa_encryption (0x30 ∷ 0x0d ∷ identified ++ 0x05 ∷ 0x00 ∷ [])
-algorithm =
-    let oid : ObjectIdentifier id_rsa_encryption identified = known_tlv 0x06 id_rsa_encryption (rsa_identifier, refl) (omega arith) in
-    known_tlv 0x30 {P = AlgorithmContents Any rsa_encryption} (identified ++ 0x05 ∷ 0x00 ∷ [])
-    (identified, 0x05 ∷ 0x00 ∷ [], oid, last_holds (0x05 ∷ 0x00 ∷ []) null, refl) (omega arith)
-
--- The octets in front of the key's encoding.
+-- The octets in front of the key's encoding are compared.
 abbrev pub in_front_of_key : List ℕ
-in_front_of_key = 0x02 ∷ 0x01 ∷ 0x00 ∷ 0x30 ∷ 0x0d ∷ identified ++ 0x05 ∷ 0x00 ∷ []
+in_front_of_key =
+    0x02 ∷ 0x01 ∷ 0x00 ∷ 0x30 ∷ 0x0d ∷ 0x06 ∷ 0x09 ∷ id_rsa_encryption ++ 0x05 ∷ 0x00 ∷ []
 
--- A container whose contents begin with them.
-with_key : (key k attributes b : List ℕ) (a : Option (List ℕ)) → Tlv 0x30 (Is (in_front_of_key ++ (k ++ attributes))) b
-    → OctetString key k → Optional AttributesEncoding a attributes → PrivateKeyInfo (with_rsa_key key a) b
-with_key key k attributes b a outer inner behind =
-    let algorithm_octets = 0x30 ∷ 0x0d ∷ identified ++ 0x05 ∷ 0x00 ∷ [] in
-    let end : Joins (OctetString key ∷ Optional AttributesEncoding a ∷ []) (k ++ attributes) =
-    (k, attributes, inner, last_holds attributes behind, refl) in
-    let rest : Joins (PlainAlgorithm rsa_encryption ∷ OctetString key ∷ Optional AttributesEncoding a ∷ [])
-    (algorithm_octets ++ (k ++ attributes)) = (algorithm_octets, k ++ attributes, algorithm, end, refl) in
-    let holds : InfoContents (with_rsa_key key a) outer.contents =
-    (0x02 ∷ 0x01 ∷ 0x00 ∷ [], algorithm_octets ++ (k ++ attributes), small_byte 0 (omega arith), rest, outer.holds) in
-    record {
-      octets = outer.octets;
-      contents = outer.contents;
-      counted = outer.counted;
-      holds = holds;
-      written = outer.written;
-    }
-
--- The octets in front are compared.
 same_front : (b : Bool) {x y : List ℕ} → Decides b (x ≡ y) → false ≡ not b → x ≡ y
 same_front true d e = d.0 refl
 same_front false d e = cc
 
-string_of : (s : OctetStringRef) (octets k : List ℕ) → octets_of s ≡ octets → Tlv 0x04 (Is octets) k
-    → OctetString (octets_of s) k
-string_of s octets k is p =
-    let bytes : AreBytes (octets_of s) = are_bytes (octets_of s) s.octets in
-    record {
-      octets = p.octets;
-      contents = p.contents;
-      counted = p.counted;
-      holds = (bytes, p.holds ∙ sym is);
-      written = p.written;
-    }
-
-none_behind : {P : List ℕ → Type 0} (b behind : List ℕ) → behind ≡ [] → Then P (Is behind) b → P b
-none_behind b behind none (x, y, p, q, e) = rw (e ∙ ap (λ r. x ++ r) (q ∙ none) ∙ append-nil x) p
+-- They are the version and the algorithm.
+front_is : in_front_of_key ≡ integer 0 ++ algorithm any rsa_encryption
+unfolding length_octets
+front_is = refl
 
 pub parts_mean : (b contents behind front parts key attributes : List ℕ)
-    → Then (Tlv 0x30 (Is contents)) (Is behind) b × (length b ≤ 65539 + length behind) → behind ≡ []
+    → (b ≡ tlv 0x30 contents ++ behind) × (length b ≤ 65539 + length behind) → behind ≡ []
     → front ≡ take 18 contents → parts ≡ drop 18 contents → false ≡ not (bytes_eq front in_front_of_key)
-    → Then (Tlv 0x04 (Is key)) (Is attributes) parts → (s : OctetStringRef) → octets_of s ≡ key → (a : Option (List ℕ))
-    → Optional AttributesEncoding a attributes → Means PrivateKeyInfo b (with_rsa_key (octets_of s) a)
-parts_mean b contents behind front parts key attributes outer none is_front is_parts known (k, rest, inner, is, e) s holds a
-    means =
+    → parts ≡ tlv 0x04 key ++ attributes → (s : OctetStringRef) → octets_of s ≡ key → (a : Option (List ℕ))
+    → IfPresent AreOctets a × (attributes ≡ optional (tlv 160) a)
+    → ContainerEncoding (with_rsa_key (octets_of s) a) b
+parts_mean b contents behind front parts key attributes outer none is_front is_parts known inner s holds a (are, is) =
     let starts = same_front (bytes_eq front in_front_of_key) (bytes_decide front in_front_of_key) known in
-    let all : contents ≡ in_front_of_key ++ (k ++ attributes) =
+    let octets = tlv 4 (octets_of s) in
+    let later : parts ≡ octets ++ optional (tlv 160) a =
+    inner ∙ ap (λ x. tlv 4 x ++ attributes) (sym holds) ∙ ap (λ x. octets ++ x) is in
+    let all : contents ≡ in_front_of_key ++ (octets ++ optional (tlv 160) a) =
     sym (take-append-drop 18 contents) ∙ ap (λ r. r ++ drop 18 contents) (sym is_front ∙ starts)
-    ∙ ap (λ r. in_front_of_key ++ r) (sym is_parts ∙ e ∙ ap (λ r. k ++ r) is) in
-    let whole = none_behind b behind none outer.0 in
-    (omega (arith, outer.1, ap length none), with_key (octets_of s) k attributes b a (rw (← all) whole) (string_of s key k holds inner) means)
+    ∙ ap (λ r. in_front_of_key ++ r) (sym is_parts ∙ later) in
+    let joined = sym (append_assoc in_front_of_key octets (optional (tlv 160) a)) in
+    let whole : b ≡ sequence contents =
+    outer.0 ∙ ap (λ r. tlv 48 contents ++ r) none ∙ append-nil (tlv 48 contents) in (
+      omega (arith, outer.1, ap length none),
+      (rsa_identifier, (refl, tt)),
+      are_bytes (octets_of s) s.octets,
+      are,
+      whole ∙ ap sequence (all ∙ joined)
+          ∙ ap (λ front. sequence ((front ++ octets) ++ optional (tlv 160) a)) front_is,
+    )
 
 -- What is found in a result that is taken as an option.
 pub ok_given : {X E : Type 0} (P : X → Type 0) (r : Result X E) (x : X) → result_ok r ≡ Some x → IfOk r P → P x
@@ -156,8 +124,12 @@ ok_given P (Ok y) x e p = let same : y ≡ x = cc in subst P same p
 ok_given P (Err f) x e p = cc
 
 pub attributes_given : (may : List ℕ → Type 0) (b : List ℕ) (r : Result Attributes Error) (x : Attributes)
-    → result_ok r ≡ Some x → ReadsAll attributes_of AttributesEncoding may r b → AttributesEncoding (attributes_of x) b
-attributes_given may b (Ok y) x e p = let same : y ≡ x = cc in subst (λ a. AttributesEncoding (attributes_of a) b) same p.0.1
+    → result_ok r ≡ Some x → ReadsAll attributes_of (Prints AreBytes (λ o. tlv 160 o) (λ o. o)) may r b
+    → AreOctets (attributes_of x) × (b ≡ tlv 160 (attributes_of x))
+attributes_given may b (Ok y) x e p =
+    let same : y ≡ x = cc in
+    let (few, (o, is, bytes, written)) = p.0 in
+    subst (λ v. AreOctets v × (b ≡ tlv 160 v)) (is ∙ ap attributes_of same) (bytes, written)
 attributes_given may b (Err f) x e p = cc
 
 pub no_octets : (xs : List ℕ) → true ≡ eqb (length xs) 0 → xs ≡ []

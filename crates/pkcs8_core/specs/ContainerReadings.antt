@@ -1,4 +1,5 @@
--- Containers as functions of the bytes (RFC 5208 5): the container, or the RSA key in it, or the kind of the first fault.
+-- Containers as functions of the bytes (RFC 5208 5): the container, or the RSA key in it, or the kind of the first
+-- fault.
 use Rattle.std.specs.Prelude.{ℕ, List, [], ◌==◌, ◌&&◌, Option, Some, None, Result, Ok, Err, if◌then◌else◌}
 use Rattle.std.specs.Str.{bytes_eq}
 use Rattle.der_core.specs.declared.error.ErrorKind.{ErrorKind}
@@ -12,25 +13,25 @@ use Rattle.spki_core.specs.Any.{TagAndContents}
 use Rattle.spki_core.specs.Readings.{algorithm_read, any}
 use Rattle.pkcs1_params.specs.Parameters.{id_rsa_encryption}
 use Rattle.pkcs1.specs.KeyReadings.{rsa_private_key}
-use Rattle.pkcs1.specs.Keys.{PrivateKey}
-use Rattle.pkcs8_core.specs.Container.{Info}
+use Rattle.pkcs8_core.specs.Container.{Container}
 use Rattle.pkcs8_core.specs.Tags.{attributes_tag}
+use Rattle.standard.specs.Statement.{PrivateKey}
 
 -- The attributes, whose contents aren't looked at.
 abbrev pub attributes : Reading (Option (List ℕ))
 attributes = alone (optional attributes_tag.octet (tagged attributes_tag octets_of_all))
 
 -- A container, whose version is 0.
-abbrev pub of_info_parts : Unit {0} × (Algorithm TagAndContents × (List ℕ × Option (List ℕ))) → Info
+abbrev pub of_info_parts : Unit {0} × (Algorithm TagAndContents × (List ℕ × Option (List ℕ))) → Container
 of_info_parts p = record { algorithm = p.1.0; private_key = p.1.1.0; attributes = p.1.1.1 }
 
-abbrev pub info_read : Reading Info
+abbrev pub info_read : Reading Container
 info_read =
     made of_info_parts (parts (tagged integer (expected 0)) (parts (tagged sequence (algorithm_read any))
     (parts (tagged octet_string octets_of_all) attributes)))
 
 -- A whole slice, as a container.
-abbrev pub private_key_info : Reading Info
+abbrev pub private_key_info : Reading Container
 private_key_info = whole (tagged sequence info_read)
 
 -- The algorithm is rsaEncryption with NULL (RFC 8017 A.1).
@@ -44,10 +45,14 @@ null_only (Some v) =
 abbrev pub rsa_only : Algorithm TagAndContents → Result (Unit {0}) ErrorKind
 rsa_only a = if bytes_eq a.oid id_rsa_encryption then null_only a.parameters else Err kind.OidUnknown
 
+-- The RSA key that these octets of the container encode.
+abbrev pub key_in : Container → Reading PrivateKey
+key_in c octets = rsa_only c.algorithm >>= λ _. rsa_private_key octets
+
 -- The RSA key that a container holds.
-abbrev pub rsa_held : Info → Result (PrivateKey (List ℕ)) ErrorKind
-rsa_held info = rsa_only info.algorithm >>= λ _. rsa_private_key info.private_key
+abbrev pub rsa_held : Container → Result PrivateKey ErrorKind
+rsa_held c = key_in c c.private_key
 
 -- A whole slice, as a container of an RSA key.
-abbrev pub rsa_private_key_info : Reading (PrivateKey (List ℕ))
+abbrev pub rsa_private_key_info : Reading PrivateKey
 rsa_private_key_info bytes = private_key_info bytes >>= rsa_held

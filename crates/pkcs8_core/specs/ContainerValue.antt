@@ -6,7 +6,7 @@ use Rattle.der_core.specs.OctetStringRefValue.{octets_of}
 use Rattle.spki_core.specs.AlgorithmValue.{algorithm_of}
 use Rattle.pkcs8_core.specs.declared.attributes.Attributes.{Attributes}
 use Rattle.pkcs8_core.specs.declared.info.PrivateKeyInfoRef.{PrivateKeyInfoRef}
-use Rattle.pkcs8_core.specs.Container.{Info}
+use Rattle.pkcs8_core.specs.Container.{Container}
 
 abbrev pub slice_now : Bor (List ℕ) → List ℕ
 slice_now s = s.now
@@ -14,7 +14,7 @@ slice_now s = s.now
 abbrev pub attributes_of : Attributes → List ℕ
 attributes_of attributes = attributes.bytes.now
 
-abbrev pub info_of : PrivateKeyInfoRef → Info
+abbrev pub info_of : PrivateKeyInfoRef → Container
 info_of info =
     record {
       algorithm = algorithm_of info.algorithm;

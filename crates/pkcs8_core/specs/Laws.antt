@@ -1,3 +1,2 @@
 -- Laws that contracts and ghost members name, and what those rest on. Other lemmas are in proofs/.
-pub mod Container
-pub mod ContainerReadings
+pub mod PrintedContainers

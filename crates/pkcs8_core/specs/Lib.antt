@@ -3,5 +3,6 @@ pub mod Container
 pub mod ContainerValue
 pub mod Rsa
 pub mod ContainerReadings
+pub mod PrintedContainers
 pub mod Laws
 pub mod Words

@@ -1,9 +1,7 @@
 //! The attributes of containers, as opaque bytes.
 ghost use Rattle.std.specs.Prelude.{◌≡◌, ◌<◌, ◌^◌, ℕ, List, length, slice_index};
-ghost use Rattle.der_core.specs.Words.{OctetContents, octets_mean_one, octets_of_bytes, octets_relate, octets_shortest};
-ghost use Rattle.der_core.specs.Words.{AreBytes};
 ghost use Rattle.der_core.specs.Readings.{octets_of_all};
-ghost use Rattle.der_core.specs.Laws.Readings.{octets_read};
+ghost use Rattle.der_core.specs.Words.{AreBytes, alike, octets_law, one_spelling};
 ghost use Rattle.pkcs8_core.specs.Tags.{attributes_tag};
 
 use pkcs1::der::{
@@ -46,19 +44,25 @@ impl Contents for Attributes<'_> {
 
     ghost value = { attributes_of };
 
-    ghost contents = { OctetContents };
+    ghost Spelling = { List ℕ };
 
-    ghost has_contents = { AreBytes };
+    ghost means = { λ octets. octets };
 
-    ghost written_contents = { λ octets. octets };
+    ghost written = { λ octets. octets };
 
-    ghost means_one = { octets_mean_one };
+    ghost valid = { AreBytes };
 
-    ghost contents_of_bytes = { octets_of_bytes };
+    ghost printed = { λ octets. octets };
+
+    ghost read_spelling = { octets_of_all };
 
     ghost read = { octets_of_all };
 
-    ghost reads = { octets_read };
+    ghost law = { octets_law };
+
+    ghost shortest = { one_spelling AreBytes (λ octets. octets) };
+
+    ghost reads_alike = { alike octets_of_all };
 }
 
 impl TaggedBy for Attributes<'_> {
@@ -90,8 +94,4 @@ impl EncodeValue for Attributes<'_> {
     fn prepend_value(&self, writer: &mut BackWriter<'_>) {
         writer.prepend(self.bytes);
     }
-
-    ghost contents_relate = { λ octets has fits. octets_relate octets has };
-
-    ghost contents_shortest = { octets_shortest };
 }

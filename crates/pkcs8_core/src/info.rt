@@ -1,17 +1,16 @@
 //! PKCS #8 containers of private keys.
-ghost use Rattle.std.specs.Prelude.{◌≡◌, ◌≤◌, ◌+◌, ℕ, List, length, take, drop, IfOk, IfErr, OnErr, refl};
+ghost use Rattle.std.specs.Prelude.{◌≡◌, ⊤, ℕ, List, length, IfErr, refl};
 ghost use Rattle.std.specs.Option.{option_map};
-ghost use Rattle.der_core.specs.Words.{AtMostOne, Answers, Excludes, HasEncoding, IsAlone, Means};
-ghost use Rattle.der_core.specs.Words.{WritesEncodings, as_parts, encode_error, made_errs};
-ghost use Rattle.pkcs8_core.specs.Words.{Info, InfoContents, PrivateKeyInfo, info_read, info_reads, of_info_parts};
-ghost use Rattle.pkcs8_core.specs.Words.{private_key_info};
-ghost use Rattle.pkcs8_core.specs.Words.{WhyContainerNotWritten, attributes_of, info_means_one, info_of, info_parts};
+ghost use Rattle.der_core.specs.Words.{Answers, AreBytes, Excludes, alike, encode_error, itself_once, made_errs};
+ghost use Rattle.der_core.specs.Words.{ok_of, one_spelling, value_in};
+ghost use Rattle.pkcs8_core.specs.Words.{Container, IsContainer, attributes_of, container_law, container_printed};
+ghost use Rattle.pkcs8_core.specs.Words.{info_of, info_read, of_info_parts, private_key_info, rsa_private_key_info};
 ghost use Rattle.pkcs8_core.specs.Words.{slice_now};
-ghost use Rattle.der_core.specs.declared.error.ErrorKind as der;
-ghost use Rattle.pkcs1_params.specs.Words.{IsNoSentence, IsTheMeaning};
 ghost use Rattle.pkcs8_core.specs.declared.info.PrivateKeyInfoRef as containers;
-ghost use Rattle.pkcs1.specs.Keys as keys;
-ghost use Rattle.pkcs1_params.specs.Parameters as parameters;
+ghost use Rattle.der_core.specs.Writing.{Unwritten};
+ghost use Rattle.standard.specs.Statement.{AtMostOne, ContainedKeyEncoding, ContainerEncoding, Decodes, Encodes};
+ghost use Rattle.standard.specs.Statement.{OaepEncoding, PrivateKeyEncoding, PssEncoding, PublicKeyEncoding};
+ghost use Rattle.standard.specs.Statement.{SameByShortest};
 
 use crate::attributes::Attributes;
 use crate::usual::usual_parts;
@@ -63,23 +62,29 @@ type InfoParts<'a> = (
 );
 
 impl Contents for PrivateKeyInfoRef<'_> {
-    ghost Value = { Info };
+    ghost Value = { Container };
 
     ghost value = { info_of };
 
-    ghost contents = { InfoContents };
+    ghost Spelling = { Container };
 
-    ghost has_contents = { λ info. ⟦<InfoParts<'static> as Contents>⟧.has_contents (info_parts info) };
+    ghost means = { λ container. container };
 
-    ghost written_contents = { λ info. ⟦<InfoParts<'static> as Contents>⟧.written_contents (info_parts info) };
+    ghost written = { λ container. container };
 
-    ghost means_one = { info_means_one };
+    ghost valid = { IsContainer };
+
+    ghost printed = { container_printed };
+
+    ghost read_spelling = { info_read };
 
     ghost read = { info_read };
 
-    ghost reads = { info_reads };
+    ghost law = { container_law };
 
-    ghost contents_of_bytes = { λ info. ⟦<InfoParts<'static> as Contents>⟧.contents_of_bytes (info_parts info) };
+    ghost shortest = { one_spelling IsContainer container_printed };
+
+    ghost reads_alike = { alike info_read };
 }
 
 impl TaggedBy for PrivateKeyInfoRef<'_> {
@@ -102,9 +107,9 @@ impl<'a> InParts for PrivateKeyInfoRef<'a> {
         }
     }
 
-    ghost is_parts = { λ info. as_parts _ _ _ (info_parts info) };
-
     ghost errs = { made_errs of_info_parts _ };
+
+    ghost once = { λ _. itself_once };
 }
 
 impl EncodeInParts for PrivateKeyInfoRef<'_> {
@@ -133,11 +138,6 @@ impl EncodeInParts for PrivateKeyInfoRef<'_> {
     }
 }
 
-/// What is written are contents of the value.
-fn lemma_written<T: EncodeValue>()
-    ensures { WritesEncodings T.contents T.has_contents T.written_contents }
-{}
-
 impl<'a> PrivateKeyInfoRef<'a> {
     /// The contents octets of the attributes, if there are any.
     pub fn attributes(&self) -> Option<&'a [u8]>
@@ -159,21 +159,16 @@ impl<'a> PrivateKeyInfoRef<'a> {
     /// Does nothing. Its contract: each container has an encoding, within the limit or not, so no call that encodes one
     /// returns `Value`.
     pub fn lemma_has_encoding(&self)
-        ensures { HasEncoding PrivateKeyInfo (info_of self.now) }
+        ensures { IsContainer (info_of self.now) }
     {
         let _attributes = self.attributes_encoding();
-        lemma_written::<PrivateKeyInfoRef<'a>>();
     }
 
-    /// Writes the container's only encoding to the front of a slice and returns its length, as `encode_into` does; the
-    /// contract is stated over the grammar of containers. Returns `Overflow` if the encoding is longer than
-    /// `Length::MAX`, `NoRoom` if it is longer than the slice.
+    /// Writes the container's only encoding to the front of a slice and returns its length, as `encode_into` does.
+    /// Returns `Overflow` if the encoding is longer than `Length::MAX`, `NoRoom` if it is longer than the slice.
     pub fn encode_info(&self, out: &mut [u8]) -> Result<usize>
-        ensures encoding { IfOk result (λ n. Means PrivateKeyInfo (take n out.new) (info_of self.now)
-            × IsAlone PrivateKeyInfo (info_of self.now) (take n out.new)) }
-        ensures rest { IfOk result (λ n. (n ≤ length out.new) × (drop n out.new ≡ drop n out.old)) }
-        ensures unchanged { OnErr result (out.new ≡ out.old) }
-        ensures err { IfErr result (λ e. WhyContainerNotWritten (info_of self.now) (length out.old)
+        ensures written { Encodes ContainerEncoding (info_of self.now) out.old out.new (ok_of (λ n. n) result) }
+        ensures err { IfErr result (λ e. Unwritten (λ _. ⊤) ContainerEncoding (info_of self.now) (length out.old)
             (encode_error e.kind)) }
     {
         self.lemma_has_encoding();
@@ -186,8 +181,7 @@ impl<'a> TryFrom<&'a [u8]> for PrivateKeyInfoRef<'a> {
 
     /// Decodes a whole slice, and allocates nothing. Returns `Value` of INTEGER for a version other than 0.
     fn try_from(bytes: &'a [u8]) -> Result<PrivateKeyInfoRef<'a>>
-        ensures ok { IfOk result (λ info. IsTheMeaning PrivateKeyInfo bytes.now (info_of info)) }
-        ensures err { OnErr result (IsNoSentence PrivateKeyInfo bytes.now) }
+        ensures read { Decodes ContainerEncoding bytes.now (ok_of info_of result) }
         ensures exact { Answers info_of result (private_key_info bytes.now) }
     {
         if let Some((private_key, attributes)) = usual_parts(bytes) {
@@ -207,18 +201,28 @@ pub fn lemma_containers_take_no_memory<M: Memory>()
     ensures { (b : List ℕ) → ⟦<PrivateKeyInfoRef<'static> as Decode<&'static [u8], M>>⟧.may_allocate b → ⊥ }
 {}
 
-/// A container has at most one encoding.
+/// The functions that tell the containers of whole slices, and the RSA keys in them, give one exactly of the bytes that
+/// encode it.
+pub fn lemma_containers_decode()
+    ensures container { (bytes : List ℕ) → AreBytes bytes
+        → Decodes ContainerEncoding bytes (value_in (private_key_info bytes)) }
+    ensures key { (bytes : List ℕ) → AreBytes bytes
+        → Decodes ContainedKeyEncoding bytes (value_in (rsa_private_key_info bytes)) }
+{}
+
+/// A container has at most one encoding, so two encodings mean the same container exactly if they are the same bytes.
 pub fn lemma_containers_have_one_encoding()
-    ensures { (info : Info) → AtMostOne (PrivateKeyInfo info) }
+    ensures one { AtMostOne ContainerEncoding }
+    ensures same { SameByShortest ContainerEncoding }
 {}
 
 /// No bytes encode both a container and a key, or both a container and parameters: so a loader may try one after the
 /// other.
 pub fn lemma_containers_exclude_other_types()
-    ensures public_key { Excludes PrivateKeyInfo keys.RsaPublicKey }
-    ensures private_key { Excludes PrivateKeyInfo keys.RsaPrivateKey }
-    ensures pss { Excludes PrivateKeyInfo parameters.RsaPssParams }
-    ensures oaep { Excludes PrivateKeyInfo parameters.RsaOaepParams }
+    ensures public_key { Excludes ContainerEncoding PublicKeyEncoding }
+    ensures private_key { Excludes ContainerEncoding PrivateKeyEncoding }
+    ensures pss { Excludes ContainerEncoding PssEncoding }
+    ensures oaep { Excludes ContainerEncoding OaepEncoding }
 {}
 
 /// A clone of a container means the same as the original.

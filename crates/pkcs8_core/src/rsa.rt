@@ -1,11 +1,12 @@
 //! RSA keys in containers.
-ghost use Rattle.std.specs.Prelude.{◌≡◌, ℕ, List, IfOk, IfErr, IsOk, OnErr, None};
-ghost use Rattle.der_core.specs.Words.{Answers, Means, NoValueOrMemory};
+ghost use Rattle.std.specs.Prelude.{◌≡◌, IfOk, IfErr, IsOk, None, Some};
+ghost use Rattle.der_core.specs.Words.{Answers, bytes_of, ok_of};
 ghost use Rattle.spki_core.specs.Words.{algorithm_of};
-ghost use Rattle.pkcs1.specs.Words.{MayAllocate, PrivateKey, private_key_of, view_of, viewed_encoding};
-ghost use Rattle.pkcs1_params.specs.Words.{IsAsn1, ErrsAs, ErrsOrAsks, IsNoSentence, IsTheMeaning, IsTheOnly};
-ghost use Rattle.pkcs8_core.specs.Words.{HoldsRsa, Info, PrivateKeyInfo, RsaPrivateKeyInfo, info_of, rsa_encryption};
-ghost use Rattle.pkcs8_core.specs.Words.{rsa_held, rsa_only, rsa_private_key_info};
+ghost use Rattle.pkcs1.specs.Words.{MayAllocate, Rejects, held_private_key, held_view, viewed_encoding};
+ghost use Rattle.pkcs1_params.specs.Words.{ErrsAs, ErrsOrAsks};
+ghost use Rattle.pkcs8_core.specs.Words.{ContainedKey, info_of, rsa_encryption, rsa_held, rsa_only};
+ghost use Rattle.pkcs8_core.specs.Words.{rsa_private_key_info};
+ghost use Rattle.standard.specs.Statement.{ContainedKeyEncoding, Container, ContainerEncoding, Decodes, PrivateKey};
 
 use crate::info::PrivateKeyInfoRef;
 use crate::usual::usual_parts;
@@ -33,10 +34,10 @@ impl<'a> PrivateKeyInfoRef<'a> {
     /// Decodes the RSA key, and allocates nothing. The algorithm must be rsaEncryption (else `OidUnknown`) with
     /// parameters (else `ParametersMissing`) that are NULL (else `Value` of their tag).
     pub fn rsa_view(&self) -> pkcs1::Result<RsaPrivateKeyView<'a>>
-        ensures ok { IfOk result (λ view. IsTheOnly (HoldsRsa (info_of self.now)) (view_of view)) }
+        ensures read { let c = info_of self.now in
+            Decodes (ContainedKey c) c.private_key (ok_of held_view result) }
         ensures bytes { IfOk result (λ view. viewed_encoding view ≡ (info_of self.now).private_key) }
-        ensures err { OnErr result ((key : PrivateKey (List ℕ)) → HoldsRsa (info_of self.now) key → ⊥) }
-        ensures exact { ErrsAs view_of (rsa_held (info_of self.now)) result }
+        ensures exact { ErrsAs held_view (rsa_held (info_of self.now)) result }
     {
         require_rsa(&self.algorithm)?;
         RsaPrivateKeyView::try_from(self.private_key.as_bytes())
@@ -45,14 +46,16 @@ impl<'a> PrivateKeyInfoRef<'a> {
     /// Decodes the RSA key as a struct. The errors are those of `rsa_view`, and `OutOfMemory` as
     /// `RsaPrivateKeyRef::decode_key` returns it.
     pub fn rsa_key(&self, alloc: Global) -> pkcs1::Result<RsaPrivateKeyRef<'a>>
-        ensures ok { IfOk result (λ key. IsTheOnly (HoldsRsa (info_of self.now)) (private_key_of key)) }
-        ensures err { IfErr result (IsAsn1 (λ e. NoValueOrMemory e.kind (MayAllocate (info_of self.now).private_key)
-            ((key : PrivateKey (List ℕ)) → HoldsRsa (info_of self.now) key → ⊥))) }
-        ensures exact { let info = info_of self.now in
-            let asked = (info.algorithm ≡ rsa_encryption) × MayAllocate info.private_key in
-            ErrsOrAsks private_key_of (rsa_held info) asked result }
-        ensures two_primes { (key : PrivateKey (List ℕ))
-            → key.other_prime_infos ≡ None → HoldsRsa (info_of self.now) key → IsOk result }
+        ensures ok { let c = info_of self.now in let held = held_private_key bytes_of in
+            IfOk result (λ key. Decodes (ContainedKey c) c.private_key (Some (held key))) }
+        ensures err { let c = info_of self.now in
+            let asked = (c.algorithm ≡ rsa_encryption) × MayAllocate c.private_key in
+            IfErr result (Rejects (ContainedKey c) c.private_key asked) }
+        ensures exact { let c = info_of self.now in
+            let asked = (c.algorithm ≡ rsa_encryption) × MayAllocate c.private_key in
+            ErrsOrAsks (held_private_key bytes_of) (rsa_held c) asked result }
+        ensures two_primes { let c = info_of self.now in (key : PrivateKey)
+            → key.other_primes ≡ None → ContainedKey c key c.private_key → IsOk result }
     {
         require_rsa(&self.algorithm)?;
         RsaPrivateKeyRef::decode_key(alloc, self.private_key.as_bytes())
@@ -62,11 +65,10 @@ impl<'a> PrivateKeyInfoRef<'a> {
 /// Decodes the RSA private key in the encoding of a container, and allocates nothing. The errors are those of
 /// `PrivateKeyInfoRef::try_from`, then those of `rsa_view`.
 pub fn rsa_from_pkcs8_der<'a>(bytes: &'a [u8]) -> pkcs1::Result<RsaPrivateKeyView<'a>>
-    ensures ok { IfOk result (λ view. IsTheMeaning RsaPrivateKeyInfo bytes.now (view_of view)) }
-    ensures bytes { IfOk result (λ view. (info : Info) × Means PrivateKeyInfo bytes.now info
-        × (viewed_encoding view ≡ info.private_key)) }
-    ensures err { OnErr result (IsNoSentence RsaPrivateKeyInfo bytes.now) }
-    ensures exact { ErrsAs view_of (rsa_private_key_info bytes.now) result }
+    ensures read { Decodes ContainedKeyEncoding bytes.now (ok_of held_view result) }
+    ensures bytes { IfOk result (λ view. (c : Container) × ContainerEncoding c bytes.now
+        × (viewed_encoding view ≡ c.private_key)) }
+    ensures exact { ErrsAs held_view (rsa_private_key_info bytes.now) result }
 {
     if let Some((private_key, _attributes)) = usual_parts(bytes) {
         return RsaPrivateKeyView::try_from(private_key.as_bytes());

@@ -1,10 +1,10 @@
-//! Containers of an RSA key whose encoding has 256 octets or more. What stands in front of the key is compared before the
-//! container is read part by part.
-ghost use Rattle.std.specs.Prelude.{◌≡◌, ◌≤◌, ◌+◌, length, IfSome};
+//! Containers of an RSA key whose encoding has 256 octets or more. What stands in front of the key is compared before
+//! the container is read part by part.
+ghost use Rattle.std.specs.Prelude.{◌≡◌, ◌≤◌, ◌+◌, ◌++◌, length, IfSome};
 ghost use Rattle.std.specs.Option.{option_map};
-ghost use Rattle.der_core.specs.Words.{Is, Means, Tlv, octets_of};
-ghost use Rattle.der_core.specs.Encodings.{Then};
-ghost use Rattle.pkcs8_core.specs.Words.{PrivateKeyInfo, slice_now, with_rsa_key};
+ghost use Rattle.der_core.specs.Words.{octets_of};
+ghost use Rattle.pkcs8_core.specs.Words.{slice_now, with_rsa_key};
+ghost use Rattle.standard.specs.Statement.{ContainerEncoding, tlv};
 
 use crate::attributes::Attributes;
 use pkcs1::der::{Decode, NoMemory, OctetStringRef};
@@ -18,7 +18,7 @@ const IN_FRONT_OF_KEY: &[u8] = &[
 /// The contents of an encoding with this tag and a length of two octets, and what follows it.
 #[inline(always)]
 fn split_encoding(bytes: &[u8], tag: u8) -> Option<(&[u8], &[u8])>
-    ensures { IfSome result (λ split. Then (Tlv tag (Is split.0.now)) (Is split.1.now) bytes.now
+    ensures { IfSome result (λ split. (bytes.now ≡ tlv tag split.0.now ++ split.1.now)
         × (length bytes.now ≤ 65539 + length split.1.now)) }
 {
     match bytes {
@@ -32,8 +32,8 @@ fn split_encoding(bytes: &[u8], tag: u8) -> Option<(&[u8], &[u8])>
 /// The octets of the key, and the contents octets of the attributes, if the bytes are such a container.
 #[inline(always)]
 pub(crate) fn usual_parts<'a>(bytes: &'a [u8]) -> Option<(OctetStringRef<'a>, Option<&'a [u8]>)>
-    ensures { IfSome result (λ parts. Means PrivateKeyInfo bytes.now
-        (with_rsa_key (octets_of parts.0) (option_map slice_now parts.1))) }
+    ensures { IfSome result (λ parts. ContainerEncoding
+        (with_rsa_key (octets_of parts.0) (option_map slice_now parts.1)) bytes.now) }
 {
     let (contents, behind) = split_encoding(bytes, 0x30)?;
     if !behind.is_empty() || contents.len() < 18 {

@@ -4,7 +4,7 @@ use Rattle.der_core.specs.declared.error.Error.{Error}
 use Rattle.spki_core.specs.Any.{TagAndContents}
 use Rattle.spki_core.specs.AlgorithmValue.{algorithm_of}
 use Rattle.spki_core.specs.AnyRefValue.{any_of}
-use Rattle.pkcs8_core.proofs.ContainerReadings.{rsa_other}
+use Rattle.pkcs8_core.proofs.RsaOnly.{rsa_other}
 use Rattle.pkcs8_core.proofs.rsa.require_rsa.Goals as goal
 use Rattle.pkcs8_core.proofs.rsa.require_rsa.Goals.{then-ne-via-then-ne, then-ne-via-else-ne+then-not-is_empty}
 

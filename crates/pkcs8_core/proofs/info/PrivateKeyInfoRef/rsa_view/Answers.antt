@@ -1,19 +1,28 @@
+use Rattle.std.proofs.Common.{rules, subst, sym}
+use Rattle.der_core.specs.Laws.Input.{are_bytes}
+use Rattle.pkcs1.proofs.Decoded.{decoded}
 use Rattle.pkcs1.specs.Held.{held_view}
-use Rattle.pkcs1.specs.ViewParts.{view_of}
-use Rattle.pkcs1.proofs.ToldKeys.{private_err, private_ok}
+use Rattle.pkcs1_params.specs.Meanings.{ErrsAs}
+use Rattle.pkcs8_core.proofs.ContainedKeys.{contained_decode, read_held}
+use Rattle.pkcs8_core.specs.ContainerReadings.{key_in, rsa_held}
 use Rattle.pkcs8_core.specs.ContainerValue.{info_of}
-use Rattle.pkcs8_core.proofs.RsaHeld.{only_held, none_held}
+use Rattle.pkcs8_core.specs.Rsa.{ContainedKey}
 use Rattle.pkcs8_core.proofs.info.PrivateKeyInfoRef.rsa_view.Goals as goal
 
-pub returns-clause-ok : goal.returns-clause-ok
-returns-clause-ok c =
-    let key = c.as_bytes.result.now in
-    only_held (info_of c.args.self.now) key c.as_bytes.ensures.octets c.in_ok-require_rsa.ensures.ok view_of
-    c.try_from.result
-    (private_ok view_of held_view key c.try_from.result c.try_from.ensures.read c.try_from.ensures.exact)
+pub returns-clause-read : goal.returns-clause-read
+returns-clause-read c =
+    let info = info_of c.args.self.now in
+    let told = subst (λ given. ErrsAs held_view given c.try_from.result)
+    (sym (read_held info c.as_bytes.result.now c.as_bytes.ensures.octets c.in_ok-require_rsa.ensures.ok))
+    c.try_from.ensures.exact in
+    decoded (ContainedKey info) (key_in info) info.private_key
+    (contained_decode info info.private_key (are_bytes info.private_key c.args.self.now.private_key.octets))
+    held_view c.try_from.result told
 
-pub returns-clause-err : goal.returns-clause-err
-returns-clause-err c =
-    let key = c.as_bytes.result.now in
-    none_held (info_of c.args.self.now) key c.as_bytes.ensures.octets c.in_ok-require_rsa.ensures.ok c.try_from.result
-    (private_err view_of key c.try_from.result c.try_from.ensures.exact)
+pub returns-in_err-require_rsa-clause-read : goal.returns-in_err-require_rsa-clause-read
+returns-in_err-require_rsa-clause-read c =
+    let info = info_of c.args.self.now in
+    let told : ErrsAs held_view (rsa_held info) c.from_residual.result = search rules in
+    decoded (ContainedKey info) (key_in info) info.private_key
+    (contained_decode info info.private_key (are_bytes info.private_key c.args.self.now.private_key.octets))
+    held_view c.from_residual.result told

@@ -1,0 +1,9 @@
+use Rattle.pkcs8_core.proofs.ContainedKeys.{contained_keys_decode}
+use Rattle.pkcs8_core.specs.Laws.PrintedContainers.{containers_decode}
+use Rattle.pkcs8_core.proofs.info.lemma_containers_decode.Goals as goal
+
+pub returns-clause-container : goal.returns-clause-container
+returns-clause-container c = containers_decode
+
+pub returns-clause-key : goal.returns-clause-key
+returns-clause-key c = contained_keys_decode

@@ -1,0 +1,69 @@
+-- Containers: the function reads what is printed of them, and nothing else; and this is what the statement says.
+use Rattle.std.proofs.Common.{ℕ, List, ◌++◌, ◌≡◌, ◌≤◌, length, refl, sym, ap, ◌∙◌, arith, append_assoc}
+use Rattle.std.proofs.Common.{Option, Some, None}
+use Rattle.std.specs.Prelude.{◌↔◌}
+use Rattle.der_core.specs.Encodings.{AreBytes}
+use Rattle.der_core.specs.Laws.Printed.Leaves.{octets_law}
+use Rattle.der_core.specs.Laws.Printed.Optional.{last_by_tag_law}
+use Rattle.der_core.specs.Laws.Printed.Relations.{spells_once}
+use Rattle.der_core.specs.Laws.Printed.Rows.{expected_law, made_law, row_law, tagged_law, whole_decodes}
+use Rattle.der_core.specs.Length.{limit}
+use Rattle.der_core.specs.Printed.{ReadsPrinted, Spells, value_in}
+use Rattle.der_core.specs.Tags as tags
+use Rattle.spki_core.specs.Laws.Printed.Readings.{algorithm_law, any_law}
+use Rattle.pkcs8_core.specs.ContainerReadings.{info_read, of_info_parts, private_key_info}
+use Rattle.pkcs8_core.specs.Container.{info_parts}
+use Rattle.pkcs8_core.specs.PrintedContainers.{IsContainer, container_printed}
+use Rattle.pkcs8_core.specs.Tags.{attributes_tag}
+use Rattle.standard.specs.Statement.{AtMostOne, Container, ContainerEncoding, Decodes}
+use Rattle.standard.specs.Statement.{algorithm, any, integer, optional, sequence, tlv}
+
+pub container_law : ReadsPrinted IsContainer container_printed info_read
+container_law =
+    made_law (row_law (tagged_law (expected_law 0) tags.integer)
+    (row_law (tagged_law (algorithm_law any_law (λ v. omega arith)) tags.sequence)
+    (row_law (tagged_law octets_law tags.octet_string) (last_by_tag_law octets_law attributes_tag)))) of_info_parts
+    info_parts (λ p. refl) (λ c. refl)
+
+-- The statement joins the parts from the left.
+joined : (v a k t : List ℕ) → v ++ (a ++ (k ++ t)) ≡ ((v ++ a) ++ k) ++ t
+joined v a k t = sym (append_assoc (v ++ a) k t ∙ append_assoc v a (k ++ t))
+
+container_joined : (c : Container) → sequence (container_printed c)
+    ≡ sequence (((integer 0 ++ algorithm any c.algorithm) ++ tlv 4 c.private_key) ++ optional (tlv 160) c.attributes)
+container_joined c =
+    ap sequence
+    (joined (integer 0) (algorithm any c.algorithm) (tlv 4 c.private_key) (optional (tlv 160) c.attributes))
+
+-- A container that has an encoding, within the limit.
+abbrev Encodes : Container → List ℕ → Type 0
+Encodes c bytes = (length bytes ≤ limit) × IsContainer c × (bytes ≡ sequence (container_printed c))
+
+pub container_encoded : (c : Container) (bytes : List ℕ) → Encodes c bytes ↔ ContainerEncoding c bytes
+container_encoded c bytes = (
+  λ (few, ok, same). (few, ok.1.0, ok.1.1.0, ok.1.1.1, same ∙ container_joined c),
+  λ (few, algorithm, key, attributes, same).
+      (few, (omega arith, (algorithm, (key, attributes))), same ∙ sym (container_joined c)),
+)
+
+pub container_spells : (c : Container) (bytes : List ℕ)
+    → Spells IsContainer (λ c. sequence (container_printed c)) (λ c. c) c bytes ↔ ContainerEncoding c bytes
+container_spells c bytes =
+    let once = spells_once IsContainer (λ c. sequence (container_printed c)) c bytes in
+    let is = container_encoded c bytes in
+    (λ p. is.0 (once.0 p), λ p. once.1 (is.1 p))
+
+-- The function that tells the containers of whole slices gives one exactly of the bytes that encode it.
+pub containers_decode : (bytes : List ℕ) → AreBytes bytes
+    → Decodes ContainerEncoding bytes (value_in (private_key_info bytes))
+containers_decode bytes are =
+    go (value_in (private_key_info bytes)) (whole_decodes (tagged_law container_law tags.sequence) bytes are)
+  where
+    go : (o : Option Container) → Decodes Encodes bytes o → Decodes ContainerEncoding bytes o
+    go (Some c) (is, only) =
+        ((container_encoded c bytes).0 is, λ other p. only other ((container_encoded other bytes).1 p))
+    go None never = λ c p. never c ((container_encoded c bytes).1 p)
+
+-- A container has at most one encoding.
+pub containers_have_one : AtMostOne ContainerEncoding
+containers_have_one c a b p q = p.4 ∙ sym q.4
