@@ -1,10 +1,10 @@
 #!/usr/bin/env python3
-"""What a reader of the claim needs: the definitions that the clauses cite, of the functions of src/ and of the calls of
-`pkcs1` that read and write keys, and those that these cite in turn, down to the kit; of types with private fields
-(PRIVATE), the getters say what they hold. Prints how many definitions, lines of code and modules there are: without the
-kinds of errors (functions named fault; of keys the clauses in ERRORS), with these, with the bytes for which reading a
-key may ask for memory (MEMORY), and with the bridge to the library's grammars; definitions in another crate of the
-repository are named."""
+"""What a reader of the claim needs: the definitions that the clauses cite, of the functions of src/ and of the calls
+that read and write keys and containers, and those that these cite in turn, down to the kit; of types with private
+fields (PRIVATE), the getters say what they hold. Prints how many definitions, lines of code and modules there are:
+without the kinds of errors (the clauses in ERRORS), with these, with the bytes for which reading a key may ask for
+memory (MEMORY), and with the bridge to the library's grammars. Of the calls that read parameters the kinds of errors
+are counted, but for strict reading. Definitions in another crate of the repository are named."""
 import pathlib
 import re
 
@@ -12,12 +12,18 @@ CRATES = pathlib.Path(__file__).resolve().parent.parent
 SOURCES = [*CRATES.glob("statement/src/*.rt")]
 FILES = "public_key view private_key/der traits reencode laws faults"
 KEYS = [CRATES / f"pkcs1/src/{file}.rt" for file in FILES.split()]
+CONTAINERS = [CRATES / f"pkcs8_core/src/{file}.rt" for file in ("info", "rsa", "faults")]
+PARAMETERS = [CRATES / f"pkcs1_params/src/{file}.rt" for file in ("pss_reading", "oaep_reading", "algorithm")]
 CALLS = """try_from encode_key decode_key decode_owned_key from_pkcs1_der to_pkcs1_der reencode_public_key
     reencode_private_key fault_of_public_key fault_of_private_key lemma_keys_have_one_encoding
-    lemma_same_keys_have_the_same_encoding""".split()
-ERRORS = {"exact", "no_primes", None}
+    lemma_same_keys_have_the_same_encoding lemma_keys_decode rsa_from_pkcs8_der rsa_view rsa_key encode_info
+    fault_of_private_key_info lemma_containers_have_one_encoding lemma_containers_decode from_algorithm_der
+    from_algorithm""".split()
+DECODE = ("lemma_keys_decode", "lemma_containers_decode")
+ERRORS = {"exact", "no_primes", "fault", "encodes", None}
 MEMORY = "Rattle.pkcs1.specs.Allocating"
-PRIVATE = ("Hidden", "UintRefValue", "UintValue", "DocumentValue", "OtherPrimesLeft")
+PRIVATE = ("Hidden", "UintRefValue", "UintValue", "DocumentValue", "OtherPrimesLeft", "OctetStringRefValue")
+PRIVATE += ("AnyRefValue", "ObjectIdentifierValue")
 METHOD = re.compile(r"^( *)(?:pub )?fn (\w+)((?:(?!^ *(?:pub )?fn ).)*?)^\1\{", re.S | re.M)
 HEAD = re.compile(r"^(?:abbrev |unfoldable |pub )*(?:record |data )?(?:pub )?([^\s:({]+) ?[^=]*:")
 
@@ -65,14 +71,15 @@ def clauses_of(errors, bridge):
     for source in SOURCES:
         text = source.read_text()
         for name, clauses in re.findall(r"^pub fn (\w+)(.*?)^\{", text, re.S | re.M):
-            if (errors or "fault" not in name) and (bridge or name != BRIDGE):
+            if bridge or name != BRIDGE:
                 yield from cited(clauses, *imports(text, "ghost use"))
-    for source in KEYS:
+    for source in KEYS + CONTAINERS + PARAMETERS:
         text = source.read_text()
         for _, name, contract in METHOD.findall(text):
             if name in CALLS:
                 for clause, said in re.findall(r"ensures (?:(\w+) )?\{(.*?)\}\n", contract + "\n", re.S):
-                    if errors or (clause or None) not in ERRORS:
+                    told = name not in DECODE and (clause or None) not in ERRORS and source not in PARAMETERS
+                    if told or errors and (clause == "exact" or source not in PARAMETERS):
                         yield from cited(said, *imports(text, "ghost use"))
 
 

@@ -1,7 +1,6 @@
 -- INTEGER and encodings in a row: the statement's functions are what the library's relations relate, and back.
 use Rattle.std.proofs.Common.{ℕ, List, [], ◌∷◌, ◌≡◌, ◌<◌, ◌≤◌, length, refl, sym, subst, ap, ◌∙◌, arith}
 use Rattle.std.proofs.Common.{inl, inr}
-use Rattle.std.specs.Prelude.{◌↔◌}
 use Rattle.std.specs.Int.Digits.{number_from_digits}
 use Rattle.der_core.specs.Tlv as tlvs
 use Rattle.der_core.specs.Integer.{Integer, Small, integer_contents}
@@ -73,8 +72,8 @@ none_fits Grammar v room error.KeyMalformed bytes h p = absurd h
 none_fits Grammar v room error.Version bytes h p = absurd h
 
 -- The same in the statement's words.
-pub none_written : {W V : Type 0} (Grammar : W → List ℕ → Type 0) (Encoding : V → List ℕ → Type 0) {from : W → V}
-    → ((w : W) (bytes : List ℕ) → Encoding (from w) bytes → Means Grammar bytes w) → (w : W) {v : V} → from w ≡ v
+pub none_written : {V : Type 0} (Grammar Encoding : V → List ℕ → Type 0)
+    → ((v : V) (bytes : List ℕ) → Encoding v bytes → Means Grammar bytes v) → (w : V) {v : V} → w ≡ v
     → (room : ℕ) (e : Error) → IsWritingError Grammar w room e → (bytes : List ℕ) → Encoding v bytes
     → room < length bytes
 none_written Grammar Encoding meant w same room e h bytes p =
@@ -89,8 +88,3 @@ pub small_made : (n : ℕ) → n < 256 → length (integer n) ≤ limit → Smal
 small_made n h l =
     tlv_made 2 (integer_contents (n ∷ [])) (integer n) (small_relates n h)
     (ap (λ x. tlv 2 (integer_contents x)) (small_octets n h)) l
-
--- Values are equal in the statement exactly if they are in the library.
-pub equal_by : {W V : Type 0} (from : W → V) (to : V → W) {x y : W} {v u : V} → from x ≡ v → from y ≡ u
-    → to (from x) ≡ x → to (from y) ≡ y → (v ≡ u) ↔ (x ≡ y)
-equal_by from to a b f g = (λ e. sym f ∙ ap to (a ∙ e ∙ sym b) ∙ g, λ e. sym a ∙ ap from e ∙ b)

@@ -18,10 +18,9 @@ use Rattle.pkcs1_params.specs.Spellings as spellings
 use Rattle.pkcs1_params.specs.declared.error.Error.{Error}
 use Rattle.pkcs1_params.specs.declared.error.Error.TheVariants as error
 use Rattle.standard.specs.Statement.{tlv, sequence, limit, Field, field, Fields, FieldsUnder, Defaults, SequenceOf}
-use Rattle.standard.specs.Statement.{longest, AreAll, Lists, TwoToTheDefaults, IsShortest}
-use Rattle.statement.specs.Library.{Agree}
+use Rattle.standard.specs.Statement.{longest, AreAll, Decodes, Lists, TwoToTheDefaults, IsShortest}
 use Rattle.der_core.specs.Laws.Printed.Leaves.{tlv_fit}
-use Rattle.statement.proofs.Der.{moved, equal_by, opened, tlv_made}
+use Rattle.statement.proofs.Der.{moved, opened, tlv_made}
 use Rattle.statement.proofs.Algorithms.{Written}
 
 -- A field of the library and one of the statement.
@@ -42,25 +41,24 @@ AllMade [] gs = Unit {0}
 AllMade (f ∷ fs) [] = Unit {0}
 AllMade (f ∷ fs) (g ∷ gs) = (length g.written ≤ limit → Explicit f g.written) × AllMade fs gs
 
-module _ {W V : Type 0} (from : W → V) (to : V → W) (forth : (w : W) → to (from w) ≡ w) {Grammar : W → List ℕ → Type 0}
-    {Is : V → Type 0} {encoding : V → List ℕ} (w : Written from Grammar Is encoding) (n : ℕ) (default v : W) where
-  pub matches : Matches (fields.field n Grammar default v) (field n encoding (from default) (from v))
+module _ {V : Type 0} {Grammar : V → List ℕ → Type 0} {Is : V → Type 0} {encoding : V → List ℕ}
+    (w : Written Grammar Is encoding) (n : ℕ) (default v : V) where
+  pub matches : Matches (fields.field n Grammar default v) (field n encoding default v)
   matches = record {
-    to_default = λ e. ap from e;
-    from_default = λ e. sym (forth v) ∙ ap to e ∙ forth default;
+    to_default = λ e. e;
+    from_default = λ e. e;
     only = λ x l p.
         let (c, held, is) = opened (160 + n) x p in
         is ∙ ap (tlv (160 + n)) (w.only v c (omega (arith, l, ap length is, tlv_fit (160 + n) c)) held);
   }
 
-  pub made : Is (from v) → length (tlv (160 + n) (encoding (from v))) ≤ limit
-      → Explicit (fields.field n Grammar default v) (tlv (160 + n) (encoding (from v)))
+  pub made : Is v → length (tlv (160 + n) (encoding v)) ≤ limit
+      → Explicit (fields.field n Grammar default v) (tlv (160 + n) (encoding v))
   made h l =
-      tlv_made (160 + n) (encoding (from v)) _ (w.made v h (omega (arith, l, tlv_fit (160 + n) (encoding (from v)))))
-      refl l
+      tlv_made (160 + n) (encoding v) _ (w.made v h (omega (arith, l, tlv_fit (160 + n) (encoding v)))) refl l
 
-  pub value_is : Is (from default) → (x : List ℕ) → Defaultable (fields.field n Grammar default v) x → Is (from v)
-  value_is h x (inl (nothing, e)) = subst (λ (u : W). Is (from u)) (sym e) h
+  pub value_is : Is default → (x : List ℕ) → Defaultable (fields.field n Grammar default v) x → Is v
+  value_is h x (inl (nothing, e)) = subst Is (sym e) h
   value_is h x (inr p) = w.is v p.contents p.holds
 
 -- Contents.
@@ -227,93 +225,71 @@ sequence_from : {P Q : List ℕ → Type 0} → ((c : List ℕ) → length c ≤
 sequence_from f bytes (l, c, q, is) = tlv_made 48 c bytes (f c (omega (arith, l, ap length is, tlv_fit 48 c)) q) is l
 
 -- A type of parameters, in the library and in the statement.
-pub record Sides {W V : Type 0} (from : W → V) (to : V → W) (fs : W → List fields.Field) (gs : V → List Field)
-    (Is : V → Type 0) : Type 0 where
-  pub back : (v : V) → from (to v) ≡ v
-  pub match : (w : W) → AllMatch (fs w) (gs (from w))
-  pub make : (w : W) → Is (from w) → AllMade (fs w) (gs (from w))
-  pub is : (w : W) (c : List ℕ) → Joins (map Defaultable (fs w)) c → Is (from w)
+pub record Sides {V : Type 0} (fs : V → List fields.Field) (gs : V → List Field) (Is : V → Type 0) : Type 0 where
+  pub match : (v : V) → AllMatch (fs v) (gs v)
+  pub make : (v : V) → Is v → AllMade (fs v) (gs v)
+  pub is : (v : V) (c : List ℕ) → Joins (map Defaultable (fs v)) c → Is v
 
-module _ {W V : Type 0} {from : W → V} {to : V → W} {fs : W → List fields.Field} {gs : V → List Field} {Is : V → Type 0}
-    (s : Sides from to fs gs Is) where
+module _ {V : Type 0} {fs : V → List fields.Field} {gs : V → List Field} {Is : V → Type 0} (s : Sides fs gs Is) where
   abbrev pub Encoding : V → List ℕ → Type 0
   Encoding = SequenceOf Is gs Fields
 
   abbrev pub Under : ℕ → V → List ℕ → Type 0
   Under mask = SequenceOf Is gs (FieldsUnder mask)
 
-  abbrev pub Grammar : W → List ℕ → Type 0
-  Grammar w = FieldSequence (fs w)
+  abbrev pub Grammar : V → List ℕ → Type 0
+  Grammar v = FieldSequence (fs v)
 
-  pub sentence : (w : W) (bytes : List ℕ) → Means Grammar bytes w → Encoding (from w) bytes
+  pub sentence : (w : V) (bytes : List ℕ) → Means Grammar bytes w → Encoding w bytes
   sentence w bytes m =
-      let t = sequence_to (fields_to (fs w) (gs (from w)) (s.match w)) bytes m.0 m.1 in
+      let t = sequence_to (fields_to (fs w) (gs w) (s.match w)) bytes m.0 m.1 in
       (s.is w m.1.contents m.1.holds, t.0, t.1, t.2, t.3)
 
-  pub meant : (w : W) (bytes : List ℕ) → Encoding (from w) bytes → Means Grammar bytes w
+  pub meant : (w : V) (bytes : List ℕ) → Encoding w bytes → Means Grammar bytes w
   meant w bytes (is, l, c, held, e) =
-      (l, sequence_from (fields_from (fs w) (gs (from w)) (s.match w) (s.make w is)) bytes (l, c, held, e))
+      (l, sequence_from (fields_from (fs w) (gs w) (s.match w) (s.make w is)) bytes (l, c, held, e))
 
-  pub means : (v : V) (bytes : List ℕ) → Encoding v bytes → Means Grammar bytes (to v)
-  means v bytes e = meant (to v) bytes (subst (λ u. Encoding u bytes) (sym (s.back v)) e)
-
-  pub agree : ((w : W) → to (from w) ≡ w) → {T : Type 0} (value : T → W) (meaning : T → V)
-      → ((p : T) → from (value p) ≡ meaning p) → Agree meaning Encoding value Grammar
-  agree forth value meaning e = record {
-    bytes =
-        λ p bytes. (
-          λ q. meant (value p) bytes (moved Encoding (sym (e p)) q),
-          λ m. moved Encoding (e p) (sentence (value p) bytes m),
-        );
-    each = λ v bytes p. (to v, means v bytes p);
-    equal = λ a b. equal_by from to (e a) (e b) (forth (value a)) (forth (value b));
-  }
-
-  pub shortest : (w : W) (bytes : List ℕ) → documents.IsShortest Grammar w bytes → IsShortest Encoding (from w) bytes
+  pub shortest : (w : V) (bytes : List ℕ) → documents.IsShortest Grammar w bytes → IsShortest Encoding w bytes
   shortest w bytes p = (sentence w bytes p.spells, λ other q. p.least other (meant w other q))
 
-  pub is_shortest : (w : W) (bytes : List ℕ) → IsShortest Encoding (from w) bytes → documents.IsShortest Grammar w bytes
+  pub is_shortest : (w : V) (bytes : List ℕ) → IsShortest Encoding w bytes → documents.IsShortest Grammar w bytes
   is_shortest w bytes p = record { spells = meant w bytes p.0; least = λ other q. p.1 other (sentence w other q) }
 
-  module _ (w : W) {v : V} (same : from w ≡ v) (bytes : List ℕ) where
-    only : ((u : W) → Means Grammar bytes u → u ≡ w) → (u : V) → Encoding u bytes → u ≡ v
-    only one u e = sym (s.back u) ∙ ap from (one (to u) (means u bytes e)) ∙ same
+  pub read : (v : V) (bytes : List ℕ) → IsTheMeaning Grammar bytes v → Decodes Encoding bytes (Some v)
+  read v bytes m = (sentence v bytes m.0, λ u e. m.1 u (meant u bytes e))
 
-    pub read : IsTheMeaning Grammar bytes w → Encoding v bytes × ((u : V) → Encoding u bytes → u ≡ v)
-    read m = (moved Encoding same (sentence w bytes m.0), only m.1)
+  pub read_strictly : (v : V) (bytes : List ℕ) → IsTheShortest Grammar bytes v
+      → Decodes (IsShortest Encoding) bytes (Some v)
+  read_strictly v bytes m = (shortest v bytes m.0, λ u e. m.1 u (meant u bytes e.0))
 
-    pub read_strictly : IsTheShortest Grammar bytes w
-        → IsShortest Encoding v bytes × ((u : V) → IsShortest Encoding u bytes → u ≡ v)
-    read_strictly m = (moved (IsShortest Encoding) same (shortest w bytes m.0), λ u e. only m.1 u e.0)
-
-  pub under : (w : W) (mask : ℕ) (bytes : List ℕ) → spellings.IsSpelling (fs w) mask bytes → Under mask (from w) bytes
+  pub under : (w : V) (mask : ℕ) (bytes : List ℕ) → spellings.IsSpelling (fs w) mask bytes → Under mask w bytes
   under w mask bytes (l, p) =
-      let t = sequence_to (under_to (fs w) (gs (from w)) (s.match w) mask) bytes l p in
+      let t = sequence_to (under_to (fs w) (gs w) (s.match w) mask) bytes l p in
       (s.is w p.contents (unmasked (fs w) mask p.contents p.holds), t.0, t.1, t.2, t.3)
 
-  pub spelling : (w : W) (mask : ℕ) (bytes : List ℕ) → Under mask (from w) bytes
+  pub spelling : (w : V) (mask : ℕ) (bytes : List ℕ) → Under mask w bytes
       → spellings.IsSpelling (fs w) mask bytes
   spelling w mask bytes (is, l, c, held, e) =
-      (l, sequence_from (under_from (fs w) (gs (from w)) (s.match w) (s.make w is) mask) bytes (l, c, held, e))
+      (l, sequence_from (under_from (fs w) (gs w) (s.match w) (s.make w is) mask) bytes (l, c, held, e))
 
-  all_explicit : (w : W) → Is (from w) → length (longest (gs (from w))) ≤ limit
-      → AllExplicit (fs w) (longest (gs (from w)))
+  all_explicit : (w : V) → Is w → length (longest (gs w)) ≤ limit
+      → AllExplicit (fs w) (longest (gs w))
   all_explicit w is l =
-      let c = all_written (gs (from w)) in
-      let all = all_from (fs w) (gs (from w)) (s.match w) (s.make w is) (omega (arith, l, tlv_fit 48 c)) in
+      let c = all_written (gs w) in
+      let all = all_from (fs w) (gs w) (s.match w) (s.make w is) (omega (arith, l, tlv_fit 48 c)) in
       tlv_made 48 c (sequence c) all refl l
 
-  pub all_fit : (w : W) → Is (from w) → length (longest (gs (from w))) ≤ limit → spellings.AllFit (fs w)
-  all_fit w is l = (longest (gs (from w)), all_explicit w is l, l)
+  pub all_fit : (w : V) → Is w → length (longest (gs w)) ≤ limit → spellings.AllFit (fs w)
+  all_fit w is l = (longest (gs w), all_explicit w is l, l)
 
-  pub longest_fits : (w : W) {v : V} → from w ≡ v → spellings.AllFit (fs w) → length (longest (gs v)) ≤ limit
+  pub longest_fits : (w : V) {v : V} → w ≡ v → spellings.AllFit (fs w) → length (longest (gs v)) ≤ limit
   longest_fits w held (all, p, l) =
       subst (λ u. length (longest (gs u)) ≤ limit) held
-      let t = sequence_to (all_to (fs w) (gs (from w)) (s.match w)) all l p in
+      let t = sequence_to (all_to (fs w) (gs w) (s.match w)) all l p in
       omega (arith, l, ap length t.3, ap (λ x. length (sequence x)) t.2)
 
-  pub are_all : (w : W) (k : ℕ) (all : List (List ℕ)) → AreTheMembers (Spellings Grammar w) (2 ^ k) all
-      → ((i : ℕ) → i < 2 ^ k → Masked (fs w) i (slice_index_or all i [])) → AreAll (λ E. E) Is gs (from w) k all
+  pub are_all : (w : V) (k : ℕ) (all : List (List ℕ)) → AreTheMembers (Spellings Grammar w) (2 ^ k) all
+      → ((i : ℕ) → i < 2 ^ k → Masked (fs w) i (slice_index_or all i [])) → AreAll (λ E. E) Is gs w k all
   are_all w k all m masked = record {
     count = m.count;
     under = λ i l. under w i (slice_index_or all i []) ((m.only i l).0, masked i l);
@@ -321,55 +297,47 @@ module _ {W V : Type 0} {from : W → V} {to : V → W} {fs : W → List fields.
     every =
         λ bytes. (
           λ e. m.every bytes (meant w bytes e),
-          λ p. subst (Encoding (from w)) p.2 (sentence w _ (m.only p.0 p.1)),
+          λ p. subst (Encoding w) p.2 (sentence w _ (m.only p.0 p.1)),
         );
   }
 
-  two_of : spellings.TwoToTheDefaults fs → (w : W) (k : ℕ) → Is (from w) → Defaults (gs (from w)) k
-      → length (longest (gs (from w))) ≤ limit → (all : List (List ℕ)) × AreAll (λ E. E) Is gs (from w) k all
-  two_of two w k is d l =
-      let r =
-      two w k (longest (gs (from w))) (defaults_from (fs w) (gs (from w)) (s.match w) k d) (all_explicit w is l) l
-      in
-      (r.0, are_all w k r.0 r.1 r.2)
-
   pub two_to_the_defaults : spellings.TwoToTheDefaults fs → TwoToTheDefaults Is gs
-  two_to_the_defaults two v =
-      subst (λ (u : V). (k : ℕ) → Is u → Defaults (gs u) k → length (longest (gs u)) ≤ limit
-      → (all : List (List ℕ)) × AreAll (λ E. E) Is gs u k all) (s.back v) (two_of two (to v))
+  two_to_the_defaults two v k is d l =
+      let r = two v k (longest (gs v)) (defaults_from (fs v) (gs v) (s.match v) k d) (all_explicit v is l) l in
+      (r.0, are_all v k r.0 r.1 r.2)
 
   -- The list of all encodings, or why there is none.
-  pub lists : spellings.DefaultsAreCounted fs → (w : W) {v : V} → from w ≡ v → (all : List (List ℕ))
+  pub lists : spellings.DefaultsAreCounted fs → (w : V) {v : V} → w ≡ v → (all : List (List ℕ))
       → spellings.AreAllSpellings fs w all → Lists Is gs v (Some all)
   lists counted w held all a =
       let n = counted w in
       let m = a.members n.0 n.1 in
       subst (λ u. Lists Is gs u (Some all)) held (
         n.0,
-        defaults_to (fs w) (gs (from w)) (s.match w) n.0 n.1,
+        defaults_to (fs w) (gs w) (s.match w) n.0 n.1,
         are_all w n.0 all m (λ i l. (a.under i (omega (arith, l, m.count))).1),
       )
 
-  pub lists_none : (w : W) {v : V} → from w ≡ v → (spellings.AllFit (fs w) → ⊥) → Lists Is gs v None
+  pub lists_none : (w : V) {v : V} → w ≡ v → (spellings.AllFit (fs w) → ⊥) → Lists Is gs v None
   lists_none w held unfit =
-      subst (λ u. Lists Is gs u None) held (λ is. elim (cases_lt limit (length (longest (gs (from w))))) [
+      subst (λ u. Lists Is gs u None) held (λ is. elim (cases_lt limit (length (longest (gs w)))) [
         | inl h ↦ h
         | inr h ↦ absurd (unfit (all_fit w is (omega (arith, h))))
       ])
 
   -- The encoding under a mask is the only one, and why it isn't written.
-  pub shortest_under : spellings.EachMaskHasOne fs → (w : W) {v : V} → from w ≡ v → (mask : ℕ) (bytes : List ℕ)
+  pub shortest_under : spellings.EachMaskHasOne fs → (w : V) {v : V} → w ≡ v → (mask : ℕ) (bytes : List ℕ)
       → spellings.IsSpelling (fs w) mask bytes → IsShortest (Under mask) v bytes
   shortest_under one w held mask bytes p =
       moved (IsShortest (Under mask)) held
       (under w mask bytes p, λ other q. inl (one w mask other bytes (spelling w mask other q) p).0)
 
-  pub none_under : spellings.EachMaskHasOne fs → (w : W) {v : V} → from w ≡ v → (mask room : ℕ) (e : Error)
+  pub none_under : spellings.EachMaskHasOne fs → (w : V) {v : V} → w ≡ v → (mask room : ℕ) (e : Error)
       (bytes : List ℕ) → spellings.IsSpellingError (fs w) mask room e → Under mask v bytes → room < length bytes
   none_under one w held mask room (error.Asn1 e) bytes h q =
       let p = moved (Under mask) (sym held) q in go p (encode_error e.kind) h
     where
-      go : Under mask (from w) bytes → (k : EncodeError) → spellings.WhyNoSpelling (fs w) mask room k
+      go : Under mask w bytes → (k : EncodeError) → spellings.WhyNoSpelling (fs w) mask room k
           → room < length bytes
       go p no_encoding h = absurd h
       go p too_long h = absurd (h bytes (spelling w mask bytes p))
@@ -379,8 +347,8 @@ module _ {W V : Type 0} {from : W → V} {to : V → W} {fs : W → List fields.
   none_under one w held mask room error.KeyMalformed bytes h p = absurd h
   none_under one w held mask room error.Version bytes h p = absurd h
 
-  pub mask_there : (w : W) {v : V} → from w ≡ v → (mask : ℕ) → ((k : ℕ) × Defaults (gs v) k × (mask < 2 ^ k))
+  pub mask_there : (w : V) {v : V} → w ≡ v → (mask : ℕ) → ((k : ℕ) × Defaults (gs v) k × (mask < 2 ^ k))
       → spellings.IsMask (fs w) mask
   mask_there w held mask p =
       let (k, d, l) = subst (λ u. (k : ℕ) × Defaults (gs u) k × (mask < 2 ^ k)) (sym held) p in
-      (k, defaults_from (fs w) (gs (from w)) (s.match w) k d, l)
+      (k, defaults_from (fs w) (gs w) (s.match w) k d, l)

@@ -21,26 +21,21 @@ use Rattle.standard.specs.Statement.{Algorithm, TagAndContents, Decodes}
 use Rattle.standard.specs.Statement.{SequenceOf, longest, AreAll, TwoToTheDefaults, TwoToTheDefaultsIn, id_rsassa_pss}
 use Rattle.standard.specs.Statement.{id_rsaes_oaep}
 use Rattle.der_core.specs.Laws.Printed.Leaves.{tlv_fit, tlv_is}
-use Rattle.statement.proofs.Der.{moved, tlv_made}
+use Rattle.statement.proofs.Der.{tlv_made}
 use Rattle.statement.proofs.Fields as parameters
 use Rattle.statement.proofs.Fields.{Sides, all_written, fields_to, fields_from}
 use Rattle.spki_core.specs.Explicit as fields
 use Rattle.spki_core.specs.Explicit.{Defaultable}
 use Rattle.der_core.specs.Encodings.{Joins}
-use Rattle.spki_core.specs.Any as anys
-use Rattle.spki_core.specs.AlgorithmIdentifier as algorithms
 use Rattle.spki_core.specs.AnyRefValue.{any_of}
-use Rattle.spki_core.specs.AlgorithmValue.{algorithm_of, viewed_with}
-use Rattle.spki_core.specs.ObjectIdentifierValue.{octets_of}
+use Rattle.spki_core.specs.AlgorithmValue.{viewed_with}
 use Rattle.spki_core.specs.declared.identifier_view.IdentifierView.{IdentifierView}
 use Rattle.spki_core.specs.declared.any.AnyRef.{AnyRef}
 use Rattle.spki_core.specs.declared.algorithm_identifier.AlgorithmIdentifierOf.{AlgorithmIdentifierOf}
 use Rattle.spki_core.specs.declared.object_identifier.ObjectIdentifier.{ObjectIdentifier}
 use Rattle.statement.specs.Held.{algorithm_identifier, algorithm_identifier_of, identifier_view, any_ref}
-use Rattle.statement.proofs.Held.{plain_holds, algorithm_holds}
 use Rattle.pkcs1_params.specs.Algorithms as library
 use Rattle.statement.specs.Made.{Identifies}
-use Rattle.statement.proofs.Algorithms.{any_from, algorithm_from, plain_from, plain_to, plain_forth}
 
 -- What is written under a mask is no longer than all fields.
 within : (fs : List Field) (mask : ℕ) (c : List ℕ) → FieldsUnder mask fs c → length c ≤ length (all_written fs)
@@ -114,51 +109,44 @@ module _ (oid : List ℕ) (identifier : IsIdentifier oid) where
   one : (x y : List ℕ) → length (wrapped x) ≤ limit → wrapped x ≡ wrapped y → x ≡ y
   one x y l e = same_parameters oid x y (wrapped x) (made x (wrapped x) refl l) (made y (wrapped x) e l)
 
-  module _ {W V : Type 0} {from : W → V} {to : V → W} {fs : W → List fields.Field} {gs : V → List Field}
-      {Is' : V → Type 0} (s : Sides from to fs gs Is') where
-    abbrev Grammar : W → List ℕ → Type 0
-    Grammar = AlgorithmOf oid (parameters.Grammar s)
+  module _ {V : Type 0} {fs : V → List fields.Field} {gs : V → List Field} {Is' : V → Type 0} (s : Sides fs gs Is')
+    where
+      abbrev Grammar : V → List ℕ → Type 0
+      Grammar = AlgorithmOf oid (parameters.Grammar s)
 
-    abbrev Encoding : V → List ℕ → Type 0
-    Encoding = AlgorithmEncoding oid (parameters.Encoding s)
+      abbrev Encoding : V → List ℕ → Type 0
+      Encoding = AlgorithmEncoding oid (parameters.Encoding s)
 
-    pub sentence : (w : W) (bytes : List ℕ) → Means Grammar bytes w → Encoding (from w) bytes
-    sentence w bytes m =
-        let p = parameters_in (parameters.Grammar s) oid w bytes m.1 in (
-          m.0,
-          p.0,
-          parameters.sentence s w p.0 (omega (arith, m.0, parameters_shorter oid p.0 bytes p.2), p.1),
-          identified p.0 bytes p.2,
-        )
+      pub sentence : (w : V) (bytes : List ℕ) → Means Grammar bytes w → Encoding w bytes
+      sentence w bytes m =
+          let p = parameters_in (parameters.Grammar s) oid w bytes m.1 in (
+            m.0,
+            p.0,
+            parameters.sentence s w p.0 (omega (arith, m.0, parameters_shorter oid p.0 bytes p.2), p.1),
+            identified p.0 bytes p.2,
+          )
 
-    pub meant : (w : W) (bytes : List ℕ) → Encoding (from w) bytes → Means Grammar bytes w
-    meant w bytes (l, y, e, is) =
-        (l, with_encoded (parameters.Grammar s) oid w y bytes (parameters.meant s w y e).1 (made y bytes is l))
+      pub meant : (w : V) (bytes : List ℕ) → Encoding w bytes → Means Grammar bytes w
+      meant w bytes (l, y, e, is) =
+          (l, with_encoded (parameters.Grammar s) oid w y bytes (parameters.meant s w y e).1 (made y bytes is l))
 
-    pub means : (v : V) (bytes : List ℕ) → Encoding v bytes → Means Grammar bytes (to v)
-    means v bytes e = meant (to v) bytes (subst (λ u. Encoding u bytes) (sym (s.back v)) e)
+      pub shortest : (w : V) (bytes : List ℕ) → documents.IsShortest Grammar w bytes → IsShortest Encoding w bytes
+      shortest w bytes p = (sentence w bytes p.spells, λ other q. p.least other (meant w other q))
 
-    pub shortest : (w : W) (bytes : List ℕ) → documents.IsShortest Grammar w bytes → IsShortest Encoding (from w) bytes
-    shortest w bytes p = (sentence w bytes p.spells, λ other q. p.least other (meant w other q))
+      pub is_shortest : (w : V) (bytes : List ℕ) → IsShortest Encoding w bytes
+          → documents.IsShortest Grammar w bytes
+      is_shortest w bytes p = record { spells = meant w bytes p.0; least = λ other q. p.1 other (sentence w other q) }
 
-    pub is_shortest : (w : W) (bytes : List ℕ) → IsShortest Encoding (from w) bytes
-        → documents.IsShortest Grammar w bytes
-    is_shortest w bytes p = record { spells = meant w bytes p.0; least = λ other q. p.1 other (sentence w other q) }
+      pub read : (v : V) (bytes : List ℕ) → IsTheMeaning Grammar bytes v → Decodes Encoding bytes (Some v)
+      read v bytes m = (sentence v bytes m.0, λ u e. m.1 u (meant u bytes e))
 
-    module _ (w : W) {v : V} (same : from w ≡ v) (bytes : List ℕ) where
-      only : ((u : W) → Means Grammar bytes u → u ≡ w) → (u : V) → Encoding u bytes → u ≡ v
-      only one u e = sym (s.back u) ∙ ap from (one (to u) (means u bytes e)) ∙ same
+      pub read_strictly : (v : V) (bytes : List ℕ) → IsTheShortest Grammar bytes v
+          → Decodes (IsShortest Encoding) bytes (Some v)
+      read_strictly v bytes m = (shortest v bytes m.0, λ u e. m.1 u (meant u bytes e.0))
 
-      pub read : IsTheMeaning Grammar bytes w → Encoding v bytes × ((u : V) → Encoding u bytes → u ≡ v)
-      read m = (moved Encoding same (sentence w bytes m.0), only m.1)
-
-      pub read_strictly : IsTheShortest Grammar bytes w
-          → IsShortest Encoding v bytes × ((u : V) → IsShortest Encoding u bytes → u ≡ v)
-      read_strictly m = (moved (IsShortest Encoding) same (shortest w bytes m.0), λ u e. only m.1 u e.0)
-
-    pub encodable : (w : W) {v : V} → from w ≡ v → documents.HasEncoding Grammar w → Is' v
-    encodable w same (bytes, p) =
-        let t = (parameters_in (parameters.Grammar s) oid w bytes p).1 in subst Is' same (s.is w t.contents t.holds)
+      pub encodable : (w : V) {v : V} → w ≡ v → documents.HasEncoding Grammar w → Is' v
+      encodable w same (bytes, p) =
+          let t = (parameters_in (parameters.Grammar s) oid w bytes p).1 in subst Is' same (s.is w t.contents t.holds)
 
   -- All encodings, by those of the parameters.
   module _ {V : Type 0} {Is' : V → Type 0} {gs : V → List Field} (v : V) (k : ℕ)
@@ -204,68 +192,55 @@ module _ (oid : List ℕ) (identifier : IsIdentifier oid) where
       (map wrapped r.0, are_all v k l r.0 r.1)
 
 -- The identifier of a value that something else holds.
-pub identified_holds : {X W V : Type 0} (from : W → V) (value : X → W) (meaning : X → V)
-    → ((x : X) → from (value x) ≡ meaning x) → (oid : List ℕ) (a : AlgorithmIdentifierOf IdentifierView X) (w : W) (v : V)
-    → from w ≡ v → viewed_with value a ≡ record { oid = oid; parameters = Some w }
+pub identified_holds : {X V : Type 0} (value meaning : X → V) → ((x : X) → value x ≡ meaning x) → (oid : List ℕ)
+    (a : AlgorithmIdentifierOf IdentifierView X) (w v : V)
+    → w ≡ v → viewed_with value a ≡ record { oid = oid; parameters = Some w }
     → algorithm_identifier_of identifier_view meaning a ≡ record { oid = oid; parameters = Some v }
-identified_holds from value meaning e oid a w v same p =
-    sym (algorithm_holds octets_of from value meaning e a) ∙ ap (algorithm_from from) p
-    ∙ (λ i. record { oid = oid; parameters = Some (same i) })
+identified_holds value meaning e oid a w v same p =
+    let there : viewed_with value a ≡ algorithm_identifier_of identifier_view meaning a =
+    λ i. algorithm_identifier_of identifier_view (λ x. e x i) a in
+    sym there ∙ p ∙ (λ i. record { oid = oid; parameters = Some (same i) })
 
-few_contents : (o : Option AnyRef) (any : anys.TagAndContents) → option_map any_of o ≡ Some any
+few_contents : (o : Option AnyRef) (any : TagAndContents) → option_map any_of o ≡ Some any
     → length any.contents ≤ limit
 few_contents None any e = cc
-few_contents (Some x) any e = subst (λ o. IfSome o (λ (v : anys.TagAndContents). length v.contents ≤ limit)) e x.bounded
+few_contents (Some x) any e = subst (λ o. IfSome o (λ (v : TagAndContents). length v.contents ≤ limit)) e x.bounded
 
 -- Parameters in an algorithm identifier that was read.
-module _ {W V : Type 0} {from : W → V} {to : V → W} {fs : W → List fields.Field} {gs : V → List Field}
-    {Is' : V → Type 0} (s : Sides from to fs gs Is') (oid : List ℕ)
-    (algorithm : AlgorithmIdentifierOf ObjectIdentifier AnyRef) where
-  abbrev a : algorithms.Algorithm anys.TagAndContents
-  a = algorithm_of algorithm
+module _ {V : Type 0} {fs : V → List fields.Field} {gs : V → List Field} {Is' : V → Type 0} (s : Sides fs gs Is')
+    (oid : List ℕ) (algorithm : AlgorithmIdentifierOf ObjectIdentifier AnyRef) where
+  abbrev a : Algorithm TagAndContents
+  a = algorithm_identifier any_ref algorithm
 
-  abbrev Contents : W → List ℕ → Type 0
-  Contents w = Joins (map Defaultable (fs w))
+  abbrev Contents : V → List ℕ → Type 0
+  Contents v = Joins (map Defaultable (fs v))
 
-  there : (w : W) → library.Identifies oid Contents a w → Identifies oid Is' gs (from w) (plain_from a)
-  there w (e, any, p, tag, holds) =
-      let q : option_map any_from a.parameters ≡ Some (record { tag = 48; contents = any.contents }) =
-      ap (option_map any_from) p ∙ (λ i. Some (record { tag = tag i; contents = any.contents })) in (
+  there : (v : V) → library.Identifies oid Contents a v → Identifies oid Is' gs v a
+  there v (e, any, p, tag, holds) =
+      let q : a.parameters ≡ Some (record { tag = 48; contents = any.contents }) =
+      p ∙ (λ i. Some (record { tag = tag i; contents = any.contents })) in (
         any.contents,
         λ i. record { oid = e i; parameters = q i },
-        s.is w any.contents holds,
-        fields_to (fs w) (gs (from w)) (s.match w) any.contents (few_contents algorithm.parameters any p) holds,
+        s.is v any.contents holds,
+        fields_to (fs v) (gs v) (s.match v) any.contents (few_contents algorithm.parameters any p) holds,
       )
 
-  back : (w : W) → Identifies oid Is' gs (from w) (plain_from a) → library.Identifies oid Contents a w
-  back w (c, e, is, held) =
-      let p = ap (λ (x : Algorithm TagAndContents). (plain_to x).parameters) e in
-      let q = sym (ap (λ (x : algorithms.Algorithm anys.TagAndContents). x.parameters) (plain_forth a)) ∙ p in
-      let any : anys.TagAndContents = record { tag = 48; contents = c } in (
+  back : (v : V) → Identifies oid Is' gs v a → library.Identifies oid Contents a v
+  back v (c, e, is, held) =
+      let q = ap (λ (x : Algorithm TagAndContents). x.parameters) e in
+      let any : TagAndContents = record { tag = 48; contents = c } in (
         ap (λ (x : Algorithm TagAndContents). x.oid) e,
         any,
         q,
         refl,
-        fields_from (fs w) (gs (from w)) (s.match w) (s.make w is) c (few_contents algorithm.parameters any q) held,
+        fields_from (fs v) (gs v) (s.match v) (s.make v is) c (few_contents algorithm.parameters any q) held,
       )
 
-  given : (v : V) → Identifies oid Is' gs v (plain_from a) → library.Identifies oid Contents a (to v)
-  given v p = back (to v) (subst (λ v. Identifies oid Is' gs v (plain_from a)) (sym (s.back v)) p)
+  pub finds : (v : V) → IsTheOnly (library.Identifies oid Contents a) v → Decodes (Identifies oid Is' gs) a (Some v)
+  finds v p = (there v p.0, λ u q. p.1 u (back u q))
 
-  abbrev b : Algorithm TagAndContents
-  b = algorithm_identifier any_ref algorithm
-
-  pub finds : (w : W) {v : V} → from w ≡ v → IsTheOnly (library.Identifies oid Contents a) w
-      → Decodes (Identifies oid Is' gs) b (Some v)
-  finds w {v = v} e p =
-      subst (λ b. Decodes (Identifies oid Is' gs) b (Some v)) (plain_holds any_of algorithm) (
-        subst (λ v. Identifies oid Is' gs v (plain_from a)) e (there w p.0),
-        λ u q. sym (s.back u) ∙ ap from (p.1 (to u) (given u q)) ∙ e,
-      )
-
-  pub finds_none : ((w : W) → library.Identifies oid Contents a w → ⊥) → Decodes (Identifies oid Is' gs) b None
-  finds_none p =
-      subst (λ b. Decodes (Identifies oid Is' gs) b None) (plain_holds any_of algorithm) (λ v q. p (to v) (given v q))
+  pub finds_none : ((v : V) → library.Identifies oid Contents a v → ⊥) → Decodes (Identifies oid Is' gs) a None
+  finds_none p v q = p v (back v q)
 
 pub pss_identifier : IsIdentifier id_rsassa_pss
 pss_identifier =

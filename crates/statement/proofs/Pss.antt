@@ -4,20 +4,13 @@ use Rattle.der_core.specs.Integer.{Small}
 use Rattle.pkcs1_params.specs.Parameters as library
 use Rattle.standard.specs.Statement.{integer, IsPss, pss_fields}
 use Rattle.statement.proofs.Der.{small_integer, small_made}
-use Rattle.statement.proofs.Algorithms.{Written, plain_from, plain_to, plain_forth, mask_from, mask_to}
-use Rattle.statement.proofs.Algorithms.{mask_forth, plain_written, mask_written, sha1_is, mgf1_is}
+use Rattle.statement.proofs.Algorithms.{Written, plain_written, mask_written, sha1_is, mgf1_is}
 use Rattle.statement.proofs.Fields.{Sides, matches, made, value_is}
-use Rattle.statement.proofs.Values.{pss_back}
-pub use Rattle.statement.specs.Library.{pss as to}
-pub use Rattle.statement.proofs.Values.{pss_from as from}
 
-abbrev itself : ℕ → ℕ
-itself n = n
-
-salt : Written itself Small (λ n. n < 256) integer
+salt : Written Small (λ n. n < 256) integer
 salt = record { only = λ n c l p. small_integer n c p; is = λ n c p. p.holds.0; made = small_made }
 
-trailer : Written itself library.TrailerField (λ n. n ≡ 1) integer
+trailer : Written library.TrailerField (λ n. n ≡ 1) integer
 trailer = record {
   only =
       λ n c l p. small_integer n c
@@ -40,36 +33,35 @@ trailer = record {
       };
 }
 
-pub sides : Sides from to library.pss_fields pss_fields IsPss
+pub sides : Sides library.pss_fields pss_fields IsPss
 sides = record {
-  back = pss_back;
   match = λ p. (
-    matches plain_from plain_to plain_forth plain_written 0 library.sha1 p.hash,
+    matches plain_written 0 library.sha1 p.hash,
     (
-      matches mask_from mask_to mask_forth mask_written 1 library.mgf1_sha1 p.mask_gen,
+      matches mask_written 1 library.mgf1_sha1 p.mask_gen,
       (
-        matches itself itself (λ _. refl) salt 2 20 p.salt_len,
-        (matches itself itself (λ _. refl) trailer 3 1 p.trailer_field, tt),
+        matches salt 2 20 p.salt_len,
+        (matches trailer 3 1 p.trailer_field, tt),
       ),
     ),
   );
   make = λ p is. (
-    made plain_from plain_to plain_forth plain_written 0 library.sha1 p.hash is.0,
+    made plain_written 0 library.sha1 p.hash is.0,
     (
-      made mask_from mask_to mask_forth mask_written 1 library.mgf1_sha1 p.mask_gen is.1,
+      made mask_written 1 library.mgf1_sha1 p.mask_gen is.1,
       (
-        made itself itself (λ _. refl) salt 2 20 p.salt_len is.2,
-        (made itself itself (λ _. refl) trailer 3 1 p.trailer_field is.3, tt),
+        made salt 2 20 p.salt_len is.2,
+        (made trailer 3 1 p.trailer_field is.3, tt),
       ),
     ),
   );
   is = is;
 }
   where
-    is : (p : library.PssParameters) (c : List ℕ) → library.PssContents p c → IsPss (from p)
+    is : (p : library.PssParameters) (c : List ℕ) → library.PssContents p c → IsPss p
     is p c (a, r, ha, (b, s, hb, (x, t, hx, (d, u, hd, end, e3), e2), e1), e0) = (
-      value_is plain_from plain_to plain_forth plain_written 0 library.sha1 p.hash sha1_is a ha,
-      value_is mask_from mask_to mask_forth mask_written 1 library.mgf1_sha1 p.mask_gen mgf1_is b hb,
-      value_is itself itself (λ _. refl) salt 2 20 p.salt_len (omega arith) x hx,
-      value_is itself itself (λ _. refl) trailer 3 1 p.trailer_field refl d hd,
+      value_is plain_written 0 library.sha1 p.hash sha1_is a ha,
+      value_is mask_written 1 library.mgf1_sha1 p.mask_gen mgf1_is b hb,
+      value_is salt 2 20 p.salt_len (omega arith) x hx,
+      value_is trailer 3 1 p.trailer_field refl d hd,
     )

@@ -1,5 +1,5 @@
 -- Two encodings of one value, by the shortest ones.
-use Rattle.std.proofs.Common.{ℕ, List, ◌≡◌, sym, subst, ap, ◌∙◌, arith, inl, inr}
+use Rattle.std.proofs.Common.{ℕ, List, ◌≡◌, sym, subst, arith, inl, inr}
 use Rattle.der_core.specs.Laws.Shortest as laws
 use Rattle.pkcs1_params.proofs.AlgorithmsLaws.{algorithm_of_delimited}
 use Rattle.pkcs1_params.specs.Laws.Parameters.{pss_delimited, oaep_delimited}
@@ -7,9 +7,7 @@ use Rattle.pkcs1_params.specs.Parameters.{RsaPssParams, RsaOaepParams}
 use Rattle.der_core.specs.Document.{Means}
 use Rattle.der_core.specs.Encodings.{IsDelimited}
 use Rattle.standard.specs.Statement.{IsShortest, SameByShortest, PssEncoding, OaepEncoding, id_rsassa_pss}
-use Rattle.standard.specs.Statement.{PssAlgorithmEncoding, id_rsaes_oaep, OaepAlgorithmEncoding, ContainerEncoding}
-use Rattle.statement.proofs.Containers as containers
-use Rattle.pkcs8_core.proofs.Container.{info_delimited}
+use Rattle.standard.specs.Statement.{PssAlgorithmEncoding, id_rsaes_oaep, OaepAlgorithmEncoding}
 use Rattle.statement.proofs.Fields as fields
 use Rattle.statement.proofs.Pss as pss
 use Rattle.statement.proofs.Oaep as oaep
@@ -29,29 +27,25 @@ module _ {V : Type 0} (Encoding : V → List ℕ → Type 0) where
   )
 
 -- Bytes encode one value, since they do in the library.
-module _ {V W : Type 0} (Encoding : V → List ℕ → Type 0) {Grammar : W → List ℕ → Type 0}
-    (delimited : IsDelimited Grammar) (from : W → V) (to : V → W) where
-  same : ((v : V) → from (to v) ≡ v) → ((v : V) (bytes : List ℕ) → Encoding v bytes → Means Grammar bytes (to v))
-      → SameByShortest Encoding
-  same back means =
-      by_shortest Encoding (λ v w bytes p q. sym (back v)
-      ∙ ap from (laws.means_one delimited (to v) (to w) bytes (means v bytes p).1 (means w bytes q).1) ∙ back w)
+module _ {V : Type 0} (Encoding : V → List ℕ → Type 0) {Grammar : V → List ℕ → Type 0} (delimited : IsDelimited Grammar)
+  where
+    same : ((v : V) (bytes : List ℕ) → Encoding v bytes → Means Grammar bytes v) → SameByShortest Encoding
+    same meant =
+        by_shortest Encoding
+        (λ v w bytes p q. laws.means_one delimited v w bytes (meant v bytes p).1 (meant w bytes q).1)
 
 pub same_pss : SameByShortest PssEncoding
-same_pss = same PssEncoding pss_delimited pss.from pss.to pss.sides.back (fields.means pss.sides)
+same_pss = same PssEncoding pss_delimited (fields.meant pss.sides)
 
 pub same_oaep : SameByShortest OaepEncoding
-same_oaep = same OaepEncoding oaep_delimited oaep.from oaep.to oaep.sides.back (fields.means oaep.sides)
+same_oaep = same OaepEncoding oaep_delimited (fields.meant oaep.sides)
 
 pub same_pss_algorithm : SameByShortest PssAlgorithmEncoding
 same_pss_algorithm =
-    same PssAlgorithmEncoding (algorithm_of_delimited RsaPssParams id_rsassa_pss pss_delimited) pss.from pss.to
-    pss.sides.back (algorithms.means id_rsassa_pss algorithms.pss_identifier pss.sides)
+    same PssAlgorithmEncoding (algorithm_of_delimited RsaPssParams id_rsassa_pss pss_delimited)
+    (algorithms.meant id_rsassa_pss algorithms.pss_identifier pss.sides)
 
 pub same_oaep_algorithm : SameByShortest OaepAlgorithmEncoding
 same_oaep_algorithm =
-    same OaepAlgorithmEncoding (algorithm_of_delimited RsaOaepParams id_rsaes_oaep oaep_delimited) oaep.from oaep.to
-    oaep.sides.back (algorithms.means id_rsaes_oaep algorithms.oaep_identifier oaep.sides)
-
-pub same_container : SameByShortest ContainerEncoding
-same_container = same ContainerEncoding info_delimited containers.from containers.to containers.back containers.means
+    same OaepAlgorithmEncoding (algorithm_of_delimited RsaOaepParams id_rsaes_oaep oaep_delimited)
+    (algorithms.meant id_rsaes_oaep algorithms.oaep_identifier oaep.sides)

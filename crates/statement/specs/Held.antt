@@ -16,10 +16,8 @@ use Rattle.spki_core.specs.declared.object_identifier.ObjectIdentifier.{ObjectId
 use Rattle.spki_core.specs.declared.algorithm_identifier.AlgorithmIdentifierOf.{AlgorithmIdentifierOf}
 use Rattle.pkcs1_params.specs.declared.pss.PssParamsOf.{PssParamsOf}
 use Rattle.pkcs1_params.specs.declared.oaep.OaepParamsOf.{OaepParamsOf}
-use Rattle.pkcs8_core.specs.declared.info.PrivateKeyInfoRef.{PrivateKeyInfoRef}
-use Rattle.statement.specs.Hidden.{octet_string_ref}
-use Rattle.standard.specs.Statement.{TagAndContents, Algorithm, Container, PssParameters, OaepParameters}
-pub use Rattle.statement.specs.Hidden.{any_ref, any, object_identifier, identifier_view, document_of}
+use Rattle.standard.specs.Statement.{TagAndContents, Algorithm, PssParameters, OaepParameters}
+pub use Rattle.statement.specs.Hidden.{any_ref, any, object_identifier, identifier_view}
 
 abbrev pub vec : {U V : Type 0} → (U → V) → std_vec.Vec U Global → List V
 vec item v = map item v.items
@@ -31,13 +29,6 @@ algorithm_identifier_of identifier parameters a =
 
 abbrev pub algorithm_identifier : {X V : Type 0} → (X → V) → AlgorithmIdentifierOf ObjectIdentifier X → Algorithm V
 algorithm_identifier = algorithm_identifier_of object_identifier
-
-abbrev pub private_key_info_ref : PrivateKeyInfoRef → Container
-private_key_info_ref info = record {
-  algorithm = algorithm_identifier any_ref info.algorithm;
-  private_key = octet_string_ref info.private_key;
-  attributes = option_map (λ attributes. attributes.now) info.attributes;
-}
 
 -- A trailer field is always trailerFieldBC.
 abbrev pub pss_params_of : {O X : Type 0} → (O → List ℕ) → (X → TagAndContents) → PssParamsOf O X → PssParameters

@@ -1,27 +1,22 @@
 //! Reading and listing with memory. A result is `Ok` of what a call without an allocator gives, or `Err` of
-//! `AllocError`: memory has run out, which says nothing of the value. Each clause `memory` says of which inputs alone it
-//! can run out.
-ghost use Rattle.std.specs.Prelude.{◌≡◌, ◌≢◌, ◌≤◌, ◌↔◌, length, IsTrue, IfOk, OnErr, IsErrAnd, Ok, Err};
-ghost use Rattle.std.specs.Prelude.{Some, None};
+//! `AllocError`: memory has run out, which says nothing of the value. Each clause `memory` says of which inputs alone
+//! it can run out.
+ghost use Rattle.std.specs.Prelude.{◌≡◌, ◌≤◌, ◌↔◌, length, IsTrue, IfOk, OnErr, None};
 ghost use Rattle.std.specs.Option.{option_map};
-ghost use Rattle.der_core.specs.UintRefValue.{bytes_of};
 ghost use Rattle.der_core.specs.declared.error.ErrorKind.TheVariants.{OutOfMemory};
-ghost use Rattle.pkcs1.specs.Held.{held_private_key};
 ghost use Rattle.pkcs1_params.specs.Errors.{IsAsn1};
 ghost use Rattle.pkcs1_params.specs.declared.error.Error.{Error};
 ghost use Rattle.statement.specs.Held.{any, vec, pss_params_of, oaep_params_of, rsa_pss_params, rsa_oaep_params};
-ghost use Rattle.statement.specs.Held.{private_key_info_ref};
-ghost use Rattle.standard.specs.Statement.{Decodes, Lists, PrivateKey, PrivateKeyEncoding, OaepParameters};
-ghost use Rattle.standard.specs.Statement.{OaepEncoding, IsBare, IfPresent, rsa_encryption, longest, limit};
+ghost use Rattle.standard.specs.Statement.{Decodes, Lists, OaepParameters};
+ghost use Rattle.standard.specs.Statement.{OaepEncoding, IsBare, IfPresent, longest, limit};
 ghost use Rattle.standard.specs.Statement.{IsPss, pss_fields, PssParameters, PssEncoding, IsOaep, oaep_fields};
 
 use crate::stated::{HoldsIdentifier, HoldsTagged};
 use pkcs1::der::{Decode, ErrorKind};
 use pkcs1::{
-    Error, OaepParamsOf, PssParamsOf, RsaOaepParamsOwned, RsaPrivateKeyRef, RsaPssParamsOwned,
-    lemma_oaep_spellings, lemma_pss_spellings,
+    Error, OaepParamsOf, PssParamsOf, RsaOaepParamsOwned, RsaPssParamsOwned, lemma_oaep_spellings,
+    lemma_pss_spellings,
 };
-use pkcs8_core::PrivateKeyInfoRef;
 use std::alloc::{AllocError, Global};
 
 /// What a call gives without `OutOfMemory`: a value or none.
@@ -46,36 +41,6 @@ pub(crate) fn none_but_for_memory<V>(error: Error) -> OrOutOfMemory<V>
         return Err(AllocError);
     }
     Ok(None)
-}
-
-/// What a call gave whose value borrows from the input: a `match` in its caller isn't covered by the borrow checker.
-fn found<V>(read: pkcs1::Result<V>) -> OrOutOfMemory<V>
-    ensures ok { (value : V) → read ≡ Ok value → IfOk result (λ given. given ≡ Some value) }
-    ensures err { (e : Error) → read ≡ Err e
-        → IfOk result (λ given. (given ≡ None) × (IsAsn1 (λ asn1. asn1.kind ≡ OutOfMemory) e → ⊥)) }
-    ensures memory { OnErr result (IsErrAnd read (IsAsn1 (λ e. e.kind ≡ OutOfMemory))) }
-{
-    match read {
-        Ok(value) => Ok(Some(value)),
-        Err(e) => none_but_for_memory(e),
-    }
-}
-
-/// The RSA key in a container that was read, with a list of its other primes. A key without other primes is read without
-/// memory.
-pub fn read_contained_key_as_struct<'a>(
-    alloc: Global,
-    info: &PrivateKeyInfoRef<'a>,
-) -> OrOutOfMemory<RsaPrivateKeyRef<'a>>
-    ensures read { let c = private_key_info_ref info.now in
-        IfOk result (λ read. Decodes
-        (λ key bytes. (c.algorithm ≡ rsa_encryption) × PrivateKeyEncoding key bytes) c.private_key
-        (option_map (held_private_key bytes_of) read)) }
-    ensures memory { let c = private_key_info_ref info.now in
-        OnErr result ((key : PrivateKey) → c.algorithm ≡ rsa_encryption → PrivateKeyEncoding key c.private_key
-        → key.other_primes ≢ None) }
-{
-    found(info.rsa_key(alloc))
 }
 
 /// Reads a slice exactly if it encodes PSS parameters, as the ones that it encodes, with octets of their own: without

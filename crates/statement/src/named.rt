@@ -1,33 +1,19 @@
 //! The library's other calls that write, count and read, by the statement's words.
 ghost use Rattle.std.specs.Prelude.{ℕ, List, ◌≡◌, ◌<◌, ◌≤◌, ◌^◌, ◌↔◌, length, IsTrue, IfSome, IfNone};
 ghost use Rattle.std.specs.Option.{option_map};
-ghost use Rattle.pkcs1.specs.Held.{held_view};
 ghost use Rattle.statement.specs.Held.{any_ref, pss_params_of, oaep_params_of, algorithm_identifier};
-ghost use Rattle.statement.specs.Held.{private_key_info_ref, rsa_oaep_params, rsa_oaep_params_view};
+ghost use Rattle.statement.specs.Held.{rsa_oaep_params, rsa_oaep_params_view};
 ghost use Rattle.statement.specs.Made.{IsHash, UsesHash, source_of};
-ghost use Rattle.standard.specs.Statement.{Decodes, Encodes, IsShortest, PrivateKeyEncoding, Defaults, SequenceOf};
+ghost use Rattle.standard.specs.Statement.{Decodes, Encodes, IsShortest, Defaults, SequenceOf};
 ghost use Rattle.standard.specs.Statement.{FieldsUnder};
-ghost use Rattle.standard.specs.Statement.{IsPss, pss_fields, IsOaep, oaep_fields, rsa_encryption};
+ghost use Rattle.standard.specs.Statement.{IsPss, pss_fields, IsOaep, oaep_fields};
 
 use crate::stated::{HoldsIdentifier, HoldsTagged};
 use pkcs1::spki::{AlgorithmIdentifierRef, AssociatedOid};
 use pkcs1::{
-    EncodeParams, OaepParamsOf, PssParamsOf, RsaOaepParams, RsaOaepParamsView, RsaPrivateKeyView,
+    EncodeParams, OaepParamsOf, PssParamsOf, RsaOaepParams, RsaOaepParamsView,
     lemma_oaep_spellings, lemma_pss_spellings,
 };
-use pkcs8_core::PrivateKeyInfoRef;
-
-/// The RSA key in a container that was read, without memory.
-pub fn read_contained_key_as_view<'a>(info: &PrivateKeyInfoRef<'a>) -> Option<RsaPrivateKeyView<'a>>
-    ensures { let c = private_key_info_ref info.now in
-        Decodes (λ key bytes. (c.algorithm ≡ rsa_encryption) × PrivateKeyEncoding key bytes) c.private_key
-        (option_map held_view result) }
-{
-    match info.rsa_view() {
-        Ok(view) => Some(view),
-        Err(_) => None,
-    }
-}
 
 /// How many fields of PSS parameters have their defaults.
 pub fn count_pss_defaults<O: HoldsIdentifier, P: HoldsTagged>(params: &PssParamsOf<O, P>) -> u8

@@ -1,19 +1,11 @@
 //! Parameters over the octets that were read: reading as a view, its identifiers, and the struct that means the same.
 ghost use Rattle.std.specs.Prelude.{◌≡◌};
 ghost use Rattle.std.specs.Option.{option_map};
-ghost use Rattle.statement.specs.Held.{any_ref, identifier_view, rsa_pss_params, rsa_pss_params_view, rsa_oaep_params};
+ghost use Rattle.statement.specs.Held.{any_ref, rsa_pss_params, rsa_pss_params_view, rsa_oaep_params};
 ghost use Rattle.statement.specs.Held.{rsa_oaep_params_view};
 ghost use Rattle.standard.specs.Statement.{Decodes, IsShortest, PssEncoding, OaepEncoding};
 
-use pkcs1::spki::IdentifierView;
 use pkcs1::{RsaOaepParamsRef, RsaOaepParamsView, RsaPssParamsRef, RsaPssParamsView};
-
-/// The octets of an identifier.
-pub fn octets_of_identifier_view<'a>(oid: &IdentifierView<'a>) -> &'a [u8]
-    ensures { result.now ≡ identifier_view oid.now }
-{
-    oid.as_bytes()
-}
 
 /// Reads a slice exactly if it encodes PSS parameters, as the ones that it encodes.
 pub fn view_pss_params<'a>(bytes: &'a [u8]) -> Option<RsaPssParamsView<'a>>

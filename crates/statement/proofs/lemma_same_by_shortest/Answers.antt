@@ -1,4 +1,4 @@
-use Rattle.statement.proofs.Same.{same_pss, same_oaep, same_container}
+use Rattle.statement.proofs.Same.{same_pss, same_oaep}
 use Rattle.statement.proofs.lemma_same_by_shortest.Goals as goal
 
 pub returns-clause-pss : goal.returns-clause-pss
@@ -6,6 +6,3 @@ returns-clause-pss c = same_pss
 
 pub returns-clause-oaep : goal.returns-clause-oaep
 returns-clause-oaep c = same_oaep
-
-pub returns-clause-container : goal.returns-clause-container
-returns-clause-container c = same_container

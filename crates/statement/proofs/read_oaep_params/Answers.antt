@@ -1,11 +1,9 @@
-use Rattle.spki_core.specs.AnyRefValue.{any_of}
-use Rattle.statement.proofs.Held.{oaep_holds}
-use Rattle.statement.proofs.Fields.{read, means}
-use Rattle.statement.proofs.Oaep.{to, sides}
+use Rattle.statement.proofs.Fields.{read, meant}
+use Rattle.statement.proofs.Oaep.{sides}
 use Rattle.statement.proofs.read_oaep_params.Goals as goal
 
 pub returns-in-Ok : goal.returns-in-Ok
-returns-in-Ok c = read sides _ (oaep_holds any_of c.in-Ok.value) _ c.in-Ok.ensures.ok
+returns-in-Ok c = read sides _ _ c.in-Ok.ensures.ok
 
 pub returns-in-Err : goal.returns-in-Err
-returns-in-Err c v p = c.in-Err.ensures.err (to v) (means sides v _ p)
+returns-in-Err c v p = c.in-Err.ensures.err v (meant sides v _ p)

@@ -1,11 +1,10 @@
 use Rattle.standard.specs.Statement.{id_rsaes_oaep}
-use Rattle.statement.proofs.Held.{oaep_seen}
 use Rattle.statement.proofs.Identified.{finds, finds_none}
 use Rattle.statement.proofs.Oaep.{sides}
 use Rattle.statement.proofs.identifiers.oaep_view_of_algorithm.Goals as goal
 
 pub returns-in-Ok : goal.returns-in-Ok
-returns-in-Ok c = finds sides id_rsaes_oaep c.args.algorithm.now _ (oaep_seen c.in-Ok.params) c.in-Ok.ensures.ok
+returns-in-Ok c = finds sides id_rsaes_oaep c.args.algorithm.now _ c.in-Ok.ensures.ok
 
 pub returns-in-Err : goal.returns-in-Err
 returns-in-Err c = finds_none sides id_rsaes_oaep c.args.algorithm.now c.in-Err.ensures.err

@@ -1,12 +1,10 @@
-use Rattle.spki_core.specs.AnyRefValue.{any_of}
 use Rattle.standard.specs.Statement.{id_rsassa_pss}
-use Rattle.statement.proofs.Held.{pss_holds}
 use Rattle.statement.proofs.Identified.{finds, finds_none}
 use Rattle.statement.proofs.Pss.{sides}
 use Rattle.statement.proofs.identifiers.pss_params_of_algorithm.Goals as goal
 
 pub returns-in-Ok : goal.returns-in-Ok
-returns-in-Ok c = finds sides id_rsassa_pss c.args.algorithm.now _ (pss_holds any_of c.in-Ok.params) c.in-Ok.ensures.ok
+returns-in-Ok c = finds sides id_rsassa_pss c.args.algorithm.now _ c.in-Ok.ensures.ok
 
 pub returns-in-Err : goal.returns-in-Err
 returns-in-Err c = finds_none sides id_rsassa_pss c.args.algorithm.now c.in-Err.ensures.err

@@ -11,7 +11,8 @@ pub returns-in-Ok : goal.returns-in-Ok
 returns-in-Ok g c =
     let held = pss_held g.met.O.HoldsIdentifier.is_oid g.met.P.HoldsTagged.is_tagged c.args.params.now in (
       omega (arith, c.in-Ok.ensures.rest.0, c.encode_algorithm.auto.out),
-      moved (IsShortest PssAlgorithmEncoding) held (shortest id_rsassa_pss pss_identifier sides _ _ c.in-Ok.ensures.shortest.0),
+      moved (IsShortest PssAlgorithmEncoding) held
+          (shortest id_rsassa_pss pss_identifier sides _ _ c.in-Ok.ensures.shortest.0),
       c.in-Ok.ensures.rest.1,
     )
 
@@ -19,5 +20,6 @@ pub returns-in-Err : goal.returns-in-Err
 returns-in-Err g c =
     let held = pss_held g.met.O.HoldsIdentifier.is_oid g.met.P.HoldsTagged.is_tagged c.args.params.now in (
       c.in-Err.ensures.unchanged,
-      none_written RsaPssAlgorithm PssAlgorithmEncoding (meant id_rsassa_pss pss_identifier sides) _ held _ _ c.in-Err.ensures.err,
+      none_written RsaPssAlgorithm PssAlgorithmEncoding (meant id_rsassa_pss pss_identifier sides) _ held _ _
+          c.in-Err.ensures.err,
     )

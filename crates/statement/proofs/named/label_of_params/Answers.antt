@@ -8,6 +8,7 @@ use Rattle.statement.proofs.named.label_of_params.Goals as goal
 
 pub returns : goal.returns
 returns g c =
-    labels (oaep_with g.P.AnyValue.any c.args.params.now).p_source
-    (ap (λ (v : OaepParameters). v.p_source) (oaep_held {octets = own_octets_of} (λ held. refl) g.met.P.HoldsTagged.is_tagged c.args.params.now))
-    _ c.label.ensures
+    let held =
+    oaep_held {octets = own_octets_of} (λ held. refl) g.met.P.HoldsTagged.is_tagged c.args.params.now in
+    labels (oaep_with g.P.AnyValue.any c.args.params.now).p_source (ap (λ (v : OaepParameters). v.p_source) held) _
+    c.label.ensures

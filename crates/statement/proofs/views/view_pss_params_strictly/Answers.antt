@@ -1,14 +1,10 @@
-use Rattle.std.proofs.Common.{sym}
-use Rattle.standard.specs.Statement.{PssEncoding, IsShortest}
-use Rattle.statement.proofs.Der.{moved}
-use Rattle.statement.proofs.Held.{pss_seen}
 use Rattle.statement.proofs.Fields.{read_strictly, is_shortest}
-use Rattle.statement.proofs.Pss.{to, sides}
+use Rattle.statement.proofs.Pss.{sides}
 use Rattle.statement.proofs.views.view_pss_params_strictly.Goals as goal
 
 pub returns-in-Ok : goal.returns-in-Ok
-returns-in-Ok c = read_strictly sides _ (pss_seen c.in-Ok.view) _ c.in-Ok.ensures.ok
+returns-in-Ok c = read_strictly sides _ _ c.in-Ok.ensures.ok
 
 pub returns-in-Err : goal.returns-in-Err
 returns-in-Err c v p =
-    c.in-Err.ensures.err (to v) (is_shortest sides (to v) _ (moved (IsShortest PssEncoding) (sym (sides.back v)) p))
+    c.in-Err.ensures.err v (is_shortest sides v _ p)

@@ -1,7 +1,0 @@
-use Rattle.der_core.specs.UintValue.{own_bytes_of}
-use Rattle.pkcs1.proofs.KeysHaveEncodings.{own_held}
-use Rattle.statement.proofs.Writing.{private_agree}
-use Rattle.statement.proofs.stated.RsaPrivateKeyUintStated.lemma_same.Goals as goal
-
-pub returns : goal.returns
-returns c = private_agree own_bytes_of own_held
