@@ -1,10 +1,9 @@
 -- What is said of writing an algorithm identifier with its parameters, as the definitions of the parameters say it.
-use Rattle.std.proofs.Common.{ℕ, List, ◌≡◌, arith, inl, inr}
-use Rattle.der_core.specs.Document.{Means}
-use Rattle.spki_core.specs.AlgorithmIdentifier.{Algorithm, AlgorithmIdentifier}
+use Rattle.std.proofs.Common.{ℕ, List, ◌≡◌, arith, inl, inr, subst}
+use Rattle.der_core.specs.Document.{IsShortest, Means}
+use Rattle.der_core.proofs.Shortest.{shortest_same}
 use Rattle.pkcs1_params.specs.Algorithms.{AlgorithmOf}
-use Rattle.pkcs1_params.proofs.AlgorithmsLaws.{parameters_in, parameters_shorter, shortest_of, shortest_as}
-use Rattle.pkcs1_params.specs.Parameters.{with_parameters}
+use Rattle.pkcs1_params.proofs.AlgorithmsLaws.{parameters_in, parameters_shorter}
 use Rattle.pkcs1_c.specs.StructErrors.{EncodingError}
 use Rattle.pkcs1_c.specs.Writes.{WritesValue}
 use Rattle.pkcs1_c.proofs.Writes.{writes_as}
@@ -17,19 +16,25 @@ parameters_fit Grammar oid v fits encoding m =
     let p = parameters_in Grammar oid v encoding m.1 in
     fits p.0 (omega (arith, m.0, parameters_shorter oid p.0 encoding p.2), p.1)
 
-module _ {V : Type 0} (Grammar : V → List ℕ → Type 0) {oid : List ℕ} {a : Algorithm V} {v : V}
-    (is : a ≡ with_parameters oid v) where
-  error_of : (room s : ℕ) → EncodingError (AlgorithmIdentifier Grammar) a room s
-      → EncodingError (AlgorithmOf oid Grammar) v room s
-  error_of room s (inl p) = inl (p.0, λ encoding m. p.1 encoding (rw is m))
-  error_of room s (inr p) = inr (p.0, p.1, shortest_of is p.1 p.2, p.3)
+-- A value, and another that has the same shortest encoding.
+module _ {V W : Type 0} (New : V → List ℕ → Type 0) (a : V) (Old : W → List ℕ → Type 0) (v : W)
+    (shorter : (b : List ℕ) → IsShortest New a b → IsShortest Old v b)
+    (back : (b : List ℕ) → Means Old b v → Means New b a)
+    (least : (b : List ℕ) → Means New b a → (s : List ℕ) × IsShortest New a s) where
+  shortest_back : (b : List ℕ) → IsShortest Old v b → IsShortest New a b
+  shortest_back b p =
+      let s = least b (back b p.spells) in
+      subst (IsShortest New a) (shortest_same v s.0 b (shorter s.0 s.1) p) s.1
 
-  error_as : (room s : ℕ) → EncodingError (AlgorithmOf oid Grammar) v room s
-      → EncodingError (AlgorithmIdentifier Grammar) a room s
-  error_as room s (inl p) = inl (p.0, λ encoding m. p.1 encoding (rw is at m))
-  error_as room s (inr p) = inr (p.0, p.1, shortest_as is p.1 p.2, p.3)
+  error_of : (room s : ℕ) → EncodingError New a room s → EncodingError Old v room s
+  error_of room s (inl p) = inl (p.0, λ encoding m. p.1 encoding (back encoding m))
+  error_of room s (inr p) = inr (p.0, p.1, shorter p.1 p.2, p.3)
 
-  pub identifier_written : {old new : List ℕ} {l m s : ℕ}
-      → WritesValue (AlgorithmIdentifier Grammar) a (EncodingError (AlgorithmIdentifier Grammar) a) old new l m s
-      → WritesValue (AlgorithmOf oid Grammar) v (EncodingError (AlgorithmOf oid Grammar) v) old new l m s
-  identifier_written = writes_as (shortest_of is) (λ long encoding m. long encoding (rw is m)) (error_of _) (error_as _)
+  error_back : (room s : ℕ) → EncodingError Old v room s → EncodingError New a room s
+  error_back room s (inl p) =
+      inl (p.0, λ encoding m. let l = least encoding m in p.1 l.0 (shorter l.0 l.1).spells)
+  error_back room s (inr p) = inr (p.0, p.1, shortest_back p.1 p.2, p.3)
+
+  pub written_as : {old new : List ℕ} {l m s : ℕ} → WritesValue New a (EncodingError New a) old new l m s
+      → WritesValue Old v (EncodingError Old v) old new l m s
+  written_as = writes_as shorter (λ long encoding m. long encoding (back encoding m)) (error_of _) (error_back _)

@@ -1,42 +1,60 @@
--- Containers: the key in one, and why it isn't written: one status at most.
-use Rattle.std.proofs.Common.{ℕ, List, ◌≡◌, ap, sym, ◌∙◌, inl, inr, Ok, Some}
-use Rattle.der_core.specs.Document.{Means}
-use Rattle.pkcs1.proofs.Decoded.{decoded, read_of, view_holds}
-use Rattle.pkcs1.proofs.KeyReadings.{rsa_private_key_reads}
-use Rattle.pkcs1.proofs.KeysOfNumbers.{private_are_octets}
-use Rattle.pkcs1.proofs.WrittenKeys.{private_sentence}
-use Rattle.pkcs1.specs.Held.{held_view}
-use Rattle.pkcs1.specs.KeyReadings.{rsa_private_key}
-use Rattle.pkcs1.specs.Keys.{RsaPrivateKey}
-use Rattle.pkcs1.specs.Laws.StatedPrivateKeys.{private_decodes}
-use Rattle.pkcs1.specs.PrintedKeys.{private_meaning}
-use Rattle.pkcs1.specs.ViewParts.{view_of}
-use Rattle.pkcs1.specs.declared.view.RsaPrivateKeyView.{RsaPrivateKeyView}
-use Rattle.pkcs8_core.specs.Container as container
-use Rattle.standard.specs.Statement.{Decodes, PrivateKeyEncoding}
+-- Containers: why one isn't read or written: one status at most.
+use Rattle.std.proofs.Common.{ℕ, List, ◌≡◌, ◌∙◌, ap, arith, false, inl, inr, length, subst, sym, ⊎_elim}
+use Rattle.std.proofs.lemmas.Bool.Decides.{nat_tests}
+use Rattle.std.specs.Prelude.{Err, Ok, if◌then◌else◌, nat_lt}
+use Rattle.der_core.specs.Laws.Printed.Rows.{alone_law, tagged_law}
+use Rattle.der_core.specs.Printed.{Prints}
+use Rattle.der_core.specs.Laws.Readings.{bind_err}
+use Rattle.der_core.specs.Length.{limit}
+use Rattle.der_core.specs.Reading.{TellsOfBytes}
+use Rattle.der_core.specs.Readings.{alone, tagged, whole, ◌>>=◌}
+use Rattle.der_core.specs.Tags as tags
+use Rattle.der_core.specs.declared.error.ErrorKind.{ErrorKind}
+use Rattle.der_core.specs.declared.error.ErrorKind.TheVariants.{Overflow}
+use Rattle.pkcs1.specs.KeyReadings.{number, private_key_read, rsa_private_key}
+use Rattle.pkcs1.specs.Laws.PrintedNumbers.{integer_law}
+use Rattle.pkcs1.specs.Laws.PrintedPrivateKeys.{private_law}
+use Rattle.pkcs1.specs.Laws.StatedPrivateKeys.{key_back, private_itself, private_spelled}
+use Rattle.pkcs1.specs.StatedKeys.{private_from, private_stated}
+use Rattle.pkcs1.proofs.KeyFaults.{whole_tells}
+use Rattle.pkcs8_core.proofs.RsaOnly.{key_tells}
+use Rattle.pkcs8_core.specs.ContainerReadings as readings
+use Rattle.pkcs8_core.specs.ContainerReadings.{rsa_held, rsa_private_key_info}
+use Rattle.pkcs8_core.specs.Laws.PrintedContainers.{container_law}
+use Rattle.pkcs8_core.specs.PrintedContainers.{IsContainer, container_printed}
+use Rattle.standard.specs.Statement.{Container, ContainerEncoding, PrivateKey, PrivateKeyEncoding, sequence}
 use Rattle.pkcs1_c.specs.declared.container.PrivateKeyInfo.{PrivateKeyInfo}
-use Rattle.pkcs1_c.specs.Containers.{info_seen}
 use Rattle.pkcs1_c.specs.Status.{kind_number, IsErrorNumber}
-use Rattle.pkcs1_c.specs.StructErrors.{EncodingError, InfoError}
-use Rattle.pkcs1_c.specs.Structs.{HasKey}
-use Rattle.pkcs1_c.proofs.StructErrors.{IsOne, encoding_one}
+use Rattle.pkcs1_c.specs.StructErrors.{InfoError, Unwritten}
+use Rattle.pkcs1_c.specs.Structs.{HasKey, private_key_info}
+use Rattle.pkcs1_c.proofs.StructErrors.{IsOne, unwritten_one}
 
--- The key that a view of the octets means is the only one that they encode.
-pub view_decodes : (view : RsaPrivateKeyView) (bytes : List ℕ) → Means RsaPrivateKey bytes (view_of view)
-    → Decodes PrivateKeyEncoding bytes (Some (held_view view))
-view_decodes view bytes m =
-    let octets = private_are_octets (private_meaning (view_of view)) bytes (private_sentence (view_of view) bytes m) in
-    decoded PrivateKeyEncoding view_of private_meaning view_holds rsa_private_key bytes (private_decodes bytes octets)
-    (Ok view) (rsa_private_key_reads.takes bytes (view_of view) m.0 m)
+-- Each fault of a container's RSA key is about the bytes.
+pub contained_keys_tell : (bytes : List ℕ) (k : ErrorKind) → rsa_private_key_info bytes ≡ Err k → TellsOfBytes k
+contained_keys_tell bytes k e =
+    ⊎_elim (whole_tells (tagged_law container_law tags.sequence) bytes k)
+    (λ s. key_tells s.0 s.0.private_key k s.2) (bind_err (readings.private_key_info bytes) rsa_held e)
+
+-- A whole slice that is the encoding of a key.
+key_taken : (key : PrivateKey) (octets : List ℕ) → PrivateKeyEncoding key octets → rsa_private_key octets ≡ Ok key
+key_taken key octets p =
+    let stated = subst (λ k. PrivateKeyEncoding k octets) (sym (key_back key)) p in
+    let (few, (s, is, ok, same)) = (private_spelled (private_from key) octets).1 stated in
+    let at = tagged tags.sequence (private_key_read number) in
+    let within : nat_lt limit (length octets) ≡ false = grind (arith, nat_tests) in
+    let read : whole at octets ≡ Ok s =
+    ap (λ b. if b then Err Overflow else alone at octets) within ∙ ap (alone at) same
+    ∙ (alone_law (tagged_law (private_law integer_law) tags.sequence)).takes s ok (omega (arith, few, ap length same)) in
+    ap (λ r. r >>= λ v. Ok (private_stated v)) read ∙ ap (λ k. Ok (private_stated k)) (sym (private_itself s) ∙ is)
+    ∙ ap (λ k. Ok k) (key_back key)
+
+abbrev pub ContainerPrints : Container → List ℕ → Type 0
+ContainerPrints = Prints IsContainer (λ c. sequence (container_printed c)) (λ c. c)
 
 module _ (info : PrivateKeyInfo) where
   pub error_none : (s : ℕ) → IsErrorNumber (rsa_private_key info.private_key.now) s → HasKey info → ⊥
   error_none s (k, p, a) (key, holds) =
-      let bytes = info.private_key.now in
-      let octets = private_are_octets key bytes holds in
-      let (w, is, same) =
-      read_of PrivateKeyEncoding private_meaning rsa_private_key bytes (private_decodes bytes octets) key holds in
-      let no = sym p ∙ is in cc
+      let taken = key_taken key info.private_key.now holds in let no = sym p ∙ taken in cc
 
   module _ (room : ℕ) where
     pub info_one : IsOne (InfoError info room)
@@ -44,9 +62,9 @@ module _ (info : PrivateKeyInfo) where
         let same : j ≡ k = let e = sym p ∙ q in cc in a ∙ ap kind_number same ∙ sym b
     info_one s t (inl p) (inr q) = absurd (error_none s p q.0)
     info_one s t (inr p) (inl q) = absurd (error_none t q p.0)
-    info_one s t (inr p) (inr q) = encoding_one container.PrivateKeyInfo (info_seen info) room s t p.1 q.1
+    info_one s t (inr p) (inr q) = unwritten_one ContainerEncoding (private_key_info info) room s t p.1 q.1
 
     pub info_rest : HasKey info → (s : ℕ) → InfoError info room s
-        → EncodingError container.PrivateKeyInfo (info_seen info) room s
+        → Unwritten ContainerEncoding (private_key_info info) room s
     info_rest holds s (inl p) = absurd (error_none s p holds)
     info_rest holds s (inr p) = p.1

@@ -1,15 +1,18 @@
 -- Keys that the caller passes: their numbers can be held if they have an encoding, and what is made of them holds them.
-use Rattle.std.proofs.Common.{ℕ, List, [], ◌∷◌, ◌++◌, ◌≡◌, ◌≤◌, length, length-append, map, subst, ap, arith}
+use Rattle.std.proofs.Common.{ℕ, List, [], ◌∷◌, ◌++◌, ◌≡◌, ◌≤◌, length, length-append, map, subst, sym, ap, arith}
 use Rattle.std.proofs.Common.{Bool, true, false, nat_lt}
-use Rattle.std.specs.Prelude.{slice_index, if◌then◌else◌}
+use Rattle.std.specs.Prelude.{◌↔◌, slice_index, if◌then◌else◌}
 use Rattle.std.specs.List.{AllByRecursion, concat}
-use Rattle.der_core.specs.Laws.Integer.{holds_canonical}
 use Rattle.der_core.specs.Laws.Printed.Leaves.{tlv_fit}
+use Rattle.der_core.specs.Document.{Means}
 use Rattle.der_core.specs.Length.{limit}
-use Rattle.pkcs1.proofs.PrivateKeys.{IsHeld}
-use Rattle.pkcs1.proofs.Promised.{Agrees}
-use Rattle.pkcs1.proofs.WrittenKeys.{private_agrees, public_agrees}
-use Rattle.pkcs1.specs.Held.{IsPrivateKey, held_private_key, held_public_key}
+use Rattle.der_core.specs.Printed.{Prints}
+use Rattle.pkcs1.proofs.KeysWritten.{private_is_valid}
+use Rattle.pkcs1.specs.Held.{IsPrivateKey, held_private_key, held_public_key, number_in}
+use Rattle.pkcs1.specs.Laws.PrintedKeys.{public_encoding, public_spelled}
+use Rattle.pkcs1.specs.Laws.StatedPrivateKeys.{private_encoding, private_spelled}
+use Rattle.pkcs1.specs.PrintedKeys.{private_as, public_as}
+use Rattle.pkcs1.specs.Printing.{AnyNumber, PrivateIsValid, PublicIsValid}
 use Rattle.pkcs1.specs.Keys as keys
 use Rattle.pkcs1.specs.PrivateKeyValue.{Listed, private_key_with}
 use Rattle.pkcs1.specs.PublicKeyValue.{public_key_with}
@@ -115,23 +118,35 @@ private_has key others count none =
     )
 
 -- == What is made of them ==
-number_held : (number : Number) → IsHeld (number_of number)
-number_held number = (holds_canonical (number_of number) number.canonical, number.bounded)
+abbrev pub PublicPrints : keys.PublicKey ℕ → List ℕ → Type 0
+PublicPrints = Prints (PublicIsValid AnyNumber) public_encoding (public_as (λ n. n))
+
+abbrev pub PrivatePrints : keys.PrivateKey ℕ → List ℕ → Type 0
+PrivatePrints = Prints (PrivateIsValid AnyNumber) private_encoding (private_as (λ n. n))
 
 pub public_law : (key : PublicKey) (made : RsaPublicKey Number) → held_public_key number_of made ≡ public_key key
-    → Agrees (λ _. Unit {0}) PublicKeyEncoding (public_key key) keys.RsaPublicKey (public_key_with number_of made)
-public_law key made same =
-    subst (λ v. Agrees (λ _. Unit {0}) PublicKeyEncoding v keys.RsaPublicKey (public_key_with number_of made)) same
-    (public_agrees number_of number_held made)
+    → (bytes : List ℕ)
+    → Means PublicPrints bytes (public_key_with (number_in number_of) made) ↔ PublicKeyEncoding (public_key key) bytes
+public_law key made same bytes =
+    subst (λ v. Means PublicPrints bytes (public_key_with (number_in number_of) made) ↔ PublicKeyEncoding v bytes) same
+    (public_spelled (public_key_with (number_in number_of) made) bytes)
 
 pub private_law : (key : PrivateKey) (others : List OtherPrime) (made : Listed Number)
-    → held_private_key number_of made ≡ private_key key others
-    → Agrees IsPrivateKey PrivateKeyEncoding (private_key key others) keys.RsaPrivateKey
-    (private_key_with number_of made)
-private_law key others made same =
-    subst (λ v. Agrees IsPrivateKey PrivateKeyEncoding v keys.RsaPrivateKey (private_key_with number_of made)) same
-    (private_agrees number_of number_held made)
+    → held_private_key number_of made ≡ private_key key others → (bytes : List ℕ)
+    → Means PrivatePrints bytes (private_key_with (number_in number_of) made)
+    ↔ PrivateKeyEncoding (private_key key others) bytes
+private_law key others made same bytes =
+    subst
+    (λ v. Means PrivatePrints bytes (private_key_with (number_in number_of) made) ↔ PrivateKeyEncoding v bytes)
+    same (private_spelled (private_key_with (number_in number_of) made) bytes)
 
-pub is_private : (key : PrivateKey) (others : List OtherPrime) → IsPrivateKey (private_key key others)
+is_private : (key : PrivateKey) (others : List OtherPrime) → IsPrivateKey (private_key key others)
 is_private key [] = tt
 is_private key (o ∷ others) = omega arith
+
+pub private_valid : (key : PrivateKey) (others : List OtherPrime) (made : Listed Number)
+    → held_private_key number_of made ≡ private_key key others
+    → PrivateIsValid AnyNumber (private_as (λ n. n) (private_key_with (number_in number_of) made))
+private_valid key others made same =
+    (private_is_valid (private_key_with (number_in number_of) made)).1
+    (subst IsPrivateKey (sym same) (is_private key others))

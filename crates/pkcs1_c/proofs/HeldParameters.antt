@@ -19,7 +19,7 @@ use Rattle.pkcs1_params.specs.declared.oaep.OaepParamsOf.{OaepParamsOf}
 use Rattle.pkcs1_params.specs.declared.pss.PssParamsOf.{PssParamsOf}
 use Rattle.pkcs1_c.specs.declared.algorithm.Algorithm as c
 use Rattle.pkcs1_c.specs.declared.algorithm.MaskGen as c_mask
-use Rattle.pkcs1_c.specs.StructValues.{algorithm_seen, mask_gen_seen}
+use Rattle.pkcs1_c.specs.Structs.{algorithm_seen, mask_gen_seen}
 use Rattle.pkcs1_c.specs.StructErrors.{PartThen, OidError, AnyError, OptionError, AlgorithmError, PlainError, MaskError}
 use Rattle.pkcs1_c.specs.StructErrors.{HashFieldsThen, PssFieldError, OaepFieldError}
 use Rattle.pkcs1_c.specs.Writes.{NoStatus}

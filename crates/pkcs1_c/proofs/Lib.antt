@@ -6,10 +6,9 @@ pub mod HeldKeys
 pub mod HeldParameters
 pub mod KeyWrites
 pub mod Lists
+pub mod Needed
 pub mod NotWritten
 pub mod StatedCalls
-pub mod StatedContainers
-pub mod StatedParameters
 pub mod StatedHashes
 pub mod StructErrors
 pub mod Writes

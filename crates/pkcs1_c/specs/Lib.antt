@@ -1,4 +1,3 @@
-pub mod Containers
 pub mod NumberValue
 pub mod Writes
 pub mod StructValues

@@ -6,20 +6,19 @@ use Rattle.der_core.specs.Length.{limit}
 use Rattle.der_core.specs.Tag.{is_allowed}
 use Rattle.pkcs1.specs.KeyReadings.{rsa_private_key}
 use Rattle.pkcs1_params.specs.Parameters.{PssParameters, OaepParameters}
-use Rattle.pkcs8_core.specs.Container as container
 use Rattle.spki_core.specs.Any.{TagAndContents}
 use Rattle.spki_core.specs.AlgorithmIdentifier.{Algorithm}
 use Rattle.spki_core.specs.ObjectIdentifier.{IsIdentifier}
-use Rattle.standard.specs.Statement.{PrivateKeyEncoding, PublicKeyEncoding, octets}
+use Rattle.standard.specs.Statement.{ContainerEncoding, PrivateKeyEncoding, PublicKeyEncoding, octets}
 use Rattle.pkcs1_c.specs.declared.container.PrivateKeyInfo.{PrivateKeyInfo}
 use Rattle.pkcs1_c.specs.declared.public_key.PublicKey.{PublicKey}
 use Rattle.pkcs1_c.specs.declared.private_key.PrivateKey.{PrivateKey}
 use Rattle.pkcs1_c.specs.declared.private_key.OtherPrime.{OtherPrime}
 use Rattle.pkcs1_c.specs.declared.status.TheConstants.{LENGTH, OID_MALFORMED, OVERFLOW, TAG_UNKNOWN, VALUE, NO_ROOM}
 use Rattle.pkcs1_c.specs.declared.status.TheConstants.{OTHER_PRIMES}
-use Rattle.pkcs1_c.specs.Containers.{info_seen}
 use Rattle.pkcs1_c.specs.Status.{IsErrorNumber}
-use Rattle.pkcs1_c.specs.Structs.{HasKey, IsLength, number, numbers_of_key, numbers_of_prime, private_key, public_key}
+use Rattle.pkcs1_c.specs.Structs.{HasKey, IsLength, number, numbers_of_key, numbers_of_prime, private_key}
+use Rattle.pkcs1_c.specs.Structs.{private_key_info, public_key}
 use Rattle.pkcs1_c.specs.Writes.{IsTooLong, NoStatus, WritesValue}
 
 -- All parts can be held: the value has no encoding within the limit, or its shortest one is longer than the room.
@@ -85,7 +84,7 @@ MayRunOutOfMemory key others =
 abbrev pub InfoError : PrivateKeyInfo → ℕ → ℕ → Type 0
 InfoError info room status =
     IsErrorNumber (rsa_private_key info.private_key.now) status
-    ⊎ (HasKey info × EncodingError container.PrivateKeyInfo (info_seen info) room status)
+    ⊎ (HasKey info × Unwritten ContainerEncoding (private_key_info info) room status)
 
 -- Octets that are no object identifier.
 abbrev pub OidError : List ℕ → ℕ → Type 0

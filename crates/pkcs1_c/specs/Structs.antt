@@ -1,8 +1,8 @@
--- What the structs for C hold in the words of `statement`, and what a call that writes says and leaves.
--- One rule, as in `Held.antt` there: the function that is named as a struct, in lower case with underscores, gives the
--- value that it holds.
+-- What the structs for C hold, in the words of `Statement.antt`, and what a call that writes says and leaves.
+-- One rule: the function that is named as a struct, in lower case with underscores, gives the value that it holds; of
+-- parameters it ends with `seen`.
 use Rattle.std.specs.Prelude.{ℕ, List, [], ◌∷◌, ◌≡◌, ◌≢◌, ◌<◌, ◌⊎◌, length, take, map, Option, Some, None}
-use Rattle.std.specs.Prelude.{if◌then◌else◌}
+use Rattle.std.specs.Prelude.{false, if◌then◌else◌}
 use Rattle.std.specs.Int.Digits.{number_from_digits}
 use Rattle.std.specs.List.{AllByRecursion}
 use Rattle.pkcs1_c.specs.declared.algorithm.Algorithm as algorithms
@@ -55,29 +55,29 @@ Holds key v = (key.modulus.now ≡ octets v.modulus) × (key.public_exponent.now
 
 -- == Parameters ==
 -- Tag and contents count only if `has_parameters` is true, the hash of MGF1 only if `has_hash` is.
-abbrev pub algorithm : algorithms.Algorithm → Algorithm TagAndContents
-algorithm a =
+abbrev pub algorithm_seen : algorithms.Algorithm → Algorithm TagAndContents
+algorithm_seen a =
     record {
       oid = a.oid.now;
       parameters = if a.has_parameters then Some
           (record { tag = a.tag; contents = a.parameters.now }) else None;
     }
 
-abbrev pub mask_gen : MaskGen → Algorithm (Algorithm TagAndContents)
-mask_gen m = record { oid = m.oid.now; parameters = if m.has_hash then Some (algorithm m.hash) else None }
+abbrev pub mask_gen_seen : MaskGen → Algorithm (Algorithm TagAndContents)
+mask_gen_seen m = record { oid = m.oid.now; parameters = if m.has_hash then Some (algorithm_seen m.hash) else None }
 
-abbrev pub pss_params : PssParams → PssParameters
-pss_params p =
+abbrev pub pss_seen : PssParams → PssParameters
+pss_seen p =
     record {
-      hash = algorithm p.hash;
-      mask_gen = mask_gen p.mask_gen;
+      hash = algorithm_seen p.hash;
+      mask_gen = mask_gen_seen p.mask_gen;
       salt_len = p.salt_len;
       trailer_field = p.trailer_field;
     }
 
-abbrev pub oaep_params : OaepParams → OaepParameters
-oaep_params p =
-    record { hash = algorithm p.hash; mask_gen = mask_gen p.mask_gen; p_source = algorithm p.p_source }
+abbrev pub oaep_seen : OaepParams → OaepParameters
+oaep_seen p =
+    record { hash = algorithm_seen p.hash; mask_gen = mask_gen_seen p.mask_gen; p_source = algorithm_seen p.p_source }
 
 -- The algorithm is the hash function with this identifier: its parameters are absent, or NULL.
 abbrev pub IsHash : List ℕ → Algorithm TagAndContents → Type 0
@@ -176,6 +176,10 @@ private_key_info info = record {
   private_key = info.private_key.now;
   attributes = if info.has_attributes then Some info.attributes.now else None;
 }
+
+-- If `has_attributes` is false, `attributes` is empty.
+abbrev pub InfoIsTidy : PrivateKeyInfo → Type 0
+InfoIsTidy info = info.has_attributes ≡ false → info.attributes.now ≡ []
 
 -- The private key's octets encode a key.
 abbrev pub HasKey : PrivateKeyInfo → Type 0

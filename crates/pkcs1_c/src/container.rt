@@ -1,12 +1,11 @@
 //! RSA keys in PKCS #8 containers.
-ghost use Rattle.std.specs.Prelude.{◌≡◌, ◌≢◌, drop, IfErr, IfOk, OnErr, OnOk};
-ghost use Rattle.der_core.specs.Words.{IsShortest, HasEncoding};
-ghost use Rattle.pkcs1.specs.Words.{rsa_private_key, view_of};
-ghost use Rattle.pkcs8_core.specs.Container as container;
-ghost use Rattle.pkcs1_params.specs.Words.{ErrsAs, IsAsn1, IsNoSentence, IsTheMeaning, IsTheOnly};
-ghost use Rattle.pkcs8_core.specs.Words.{rsa_private_key_info, info_of, rsa_encryption, HoldsRsa, RsaPrivateKeyInfo};
-ghost use Rattle.pkcs1_c.specs.Words.{DecodesPrivate, HasKey, InfoError, InfoIsTidy, IsStatusOf, IsTooLong, Writes};
-ghost use Rattle.pkcs1_c.specs.Words.{info_seen};
+ghost use Rattle.std.specs.Prelude.{◌≡◌, ◌≢◌, length, drop, IfErr, IfOk, OnErr, OnOk, Some, None};
+ghost use Rattle.pkcs1.specs.Words.{held_view, rsa_private_key};
+ghost use Rattle.pkcs1_params.specs.Words.{ErrsAs, IsAsn1};
+ghost use Rattle.pkcs8_core.specs.Words.{ContainedKey, IsContainer, info_of, rsa_encryption, rsa_private_key_info};
+ghost use Rattle.pkcs1_c.specs.Words.{DecodesPrivate, HasKey, If, InfoError, InfoIsTidy, IsErrorOf, IsStatusOf};
+ghost use Rattle.pkcs1_c.specs.Words.{WritesOrTells, private_key_info};
+ghost use Rattle.standard.specs.Statement.{ContainedKeyEncoding, ContainerEncoding, Decodes};
 
 use crate::private_key::{OtherPrime, PrivateKey, to_c_key};
 use crate::status::{OK, status};
@@ -31,10 +30,11 @@ pub struct PrivateKeyInfo<'a> {
 fn read_container<'a>(
     encoding: &'a [u8],
 ) -> pkcs1::Result<(PrivateKeyInfoRef<'a>, RsaPrivateKeyView<'a>)>
-    ensures ok { IfOk result (λ read. IsTheMeaning container.PrivateKeyInfo encoding.now (info_of read.0)) }
-    ensures key { IfOk result (λ read. IsTheOnly (HoldsRsa (info_of read.0)) (view_of read.1)) }
-    ensures err { OnErr result (IsNoSentence RsaPrivateKeyInfo encoding.now) }
-    ensures exact { ErrsAs (λ read. view_of read.1) (rsa_private_key_info encoding.now) result }
+    ensures container { IfOk result (λ read. Decodes ContainerEncoding encoding.now (Some (info_of read.0))) }
+    ensures key { IfOk result (λ read. let c = info_of read.0 in
+        Decodes (ContainedKey c) c.private_key (Some (held_view read.1))) }
+    ensures err { OnErr result (Decodes ContainedKeyEncoding encoding.now None) }
+    ensures exact { ErrsAs (λ read. held_view read.1) (rsa_private_key_info encoding.now) result }
 {
     let info = PrivateKeyInfoRef::try_from(encoding)?;
     let view = info.rsa_view()?;
@@ -43,7 +43,7 @@ fn read_container<'a>(
 
 /// The C struct of a container of an RSA key.
 fn to_c_info<'a>(info: &PrivateKeyInfoRef<'a>) -> PrivateKeyInfo<'a>
-    ensures seen { (info_of info.now).algorithm ≡ rsa_encryption → info_seen result ≡ info_of info.now }
+    ensures seen { (info_of info.now).algorithm ≡ rsa_encryption → private_key_info result ≡ info_of info.now }
     ensures tidy { InfoIsTidy result }
 {
     let private_key = info.private_key.as_bytes();
@@ -71,10 +71,10 @@ pub extern "C" fn pkcs1_c_private_key_info_decode<'a>(
     key: &mut PrivateKey<'a>,
     others: &mut [OtherPrime<'a>],
 ) -> u32
-    ensures ok { result ≡ OK → IsTheMeaning container.PrivateKeyInfo encoding.now (info_seen info.new) }
+    ensures ok { result ≡ OK → Decodes ContainerEncoding encoding.now (Some (private_key_info info.new)) }
     ensures key { result ≡ OK → DecodesPrivate info.new.private_key.now key.new others.new }
     ensures rest { result ≡ OK → drop key.new.other_primes others.new ≡ drop key.new.other_primes others.old }
-    ensures rejected { result ≢ OK → IsNoSentence RsaPrivateKeyInfo encoding.now }
+    ensures rejected { result ≢ OK → Decodes ContainedKeyEncoding encoding.now None }
     ensures exact { IsStatusOf (rsa_private_key_info encoding.now) result }
     ensures tidy { result ≡ OK → InfoIsTidy info.new }
     ensures unchanged { result ≢ OK → (info.new ≡ info.old) × (key.new ≡ key.old) × (others.new ≡ others.old) }
@@ -91,9 +91,9 @@ pub extern "C" fn pkcs1_c_private_key_info_decode<'a>(
 
 /// The container of a C struct. Its `private_key` must be the encoding of a private key.
 fn from_c_info<'a>(info: &PrivateKeyInfo<'a>) -> pkcs1::Result<PrivateKeyInfoRef<'a>>
-    ensures ok { IfOk result (λ made. info_of made ≡ info_seen info.now) }
+    ensures ok { IfOk result (λ made. info_of made ≡ private_key_info info.now) }
     ensures key { OnOk result (HasKey info.now) }
-    ensures some { IfOk result (λ made. HasEncoding container.PrivateKeyInfo (info_of made)) }
+    ensures some { IfOk result (λ made. IsContainer (info_of made)) }
     ensures exact { IfErr result (IsAsn1 (λ e. rsa_private_key info.now.private_key.now ≡ Err e.kind)) }
 {
     let _view = RsaPrivateKeyView::try_from(info.private_key)?;
@@ -120,10 +120,9 @@ pub extern "C" fn pkcs1_c_private_key_info_encode(
     out: &mut [u8],
     len: &mut usize,
 ) -> u32
-    ensures { let IsEncoding = IsShortest container.PrivateKeyInfo (info_seen info.now) in
-        Writes (λ encoding. HasKey info.now × IsEncoding encoding)
-        (HasKey info.now → IsTooLong container.PrivateKeyInfo (info_seen info.now)) (InfoError info.now)
-        out.old out.new len.old len.new result }
+    ensures writes { let Encoding = If (HasKey info.now) ContainerEncoding in
+        WritesOrTells Encoding (private_key_info info.now) out.old out.new len.old len.new result }
+    ensures exact { IsErrorOf (InfoError info.now (length out.old)) result }
 {
     match from_c_info(info) {
         Ok(made) => write_encoding(&made, out, len),

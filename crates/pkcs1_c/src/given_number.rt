@@ -1,11 +1,13 @@
 //! Numbers to be written.
-ghost use Rattle.std.specs.Prelude.{◌≡◌, ◌≤◌, ℕ, List, length, slice_index, nat_lt, if◌then◌else◌};
-ghost use Rattle.der_core.specs.Integer.{HoldsNumber, IntegerContents, IsCanonical, integer_contents};
-ghost use Rattle.der_core.specs.IntegerReading.{integer_of};
+ghost use Rattle.std.specs.Prelude.{◌≡◌, ◌≤◌, length, slice_index, nat_lt, if◌then◌else◌, ℕ};
+ghost use Rattle.std.specs.Int.Digits.{number_from_digits};
+ghost use Rattle.der_core.specs.Integer.{HoldsNumber};
 ghost use Rattle.der_core.specs.Length.{limit};
 ghost use Rattle.der_core.specs.UintRefValue.{bytes_of};
-ghost use Rattle.der_core.specs.Laws.Integer.{integer_means_one, integer_of_bytes, integer_relates, integer_shortest};
-ghost use Rattle.der_core.specs.Laws.Readings.{integer_reads};
+ghost use Rattle.der_core.specs.Laws.Printed.Alike.{alike};
+ghost use Rattle.der_core.specs.Laws.Printed.Leaves.{number_law};
+ghost use Rattle.der_core.specs.Laws.Printed.Shortest.{one_spelling};
+ghost use Rattle.der_core.specs.Printed as printed;
 
 use der_core::{
     BackWriter, Contents, EncodeValue, IntegerTag, Length, Result, TaggedBy, UintRef, Writer,
@@ -41,23 +43,29 @@ impl<'a> Number<'a> {
 impl Contents for Number<'_> {
     ghost use Rattle.pkcs1_c.specs.NumberValue.{number_of};
 
-    ghost Value = { List ℕ };
+    ghost Value = { ℕ };
 
-    ghost value = { number_of };
+    ghost value = { λ number. number_from_digits 256 (number_of number) };
 
-    ghost contents = { IntegerContents };
+    ghost Spelling = { ℕ };
 
-    ghost has_contents = { IsCanonical };
+    ghost means = { λ n. n };
 
-    ghost written_contents = { integer_contents };
+    ghost written = { λ n. n };
 
-    ghost read = { integer_of };
+    ghost valid = { λ _. Unit {0} };
 
-    ghost reads = { integer_reads };
+    ghost printed = { printed.number_contents };
 
-    ghost means_one = { integer_means_one };
+    ghost read_spelling = { printed.number_of };
 
-    ghost contents_of_bytes = { integer_of_bytes };
+    ghost read = { printed.number_of };
+
+    ghost law = { number_law };
+
+    ghost shortest = { one_spelling (λ _. Unit {0}) printed.number_contents };
+
+    ghost reads_alike = { alike printed.number_of };
 }
 
 impl TaggedBy for Number<'_> {
@@ -82,8 +90,4 @@ impl EncodeValue for Number<'_> {
             writer.prepend(&[0]);
         }
     }
-
-    ghost contents_relate = { λ bytes has fits. integer_relates bytes has };
-
-    ghost contents_shortest = { integer_shortest };
 }

@@ -15,7 +15,6 @@ mod pss;
 mod pss_algorithm;
 mod public_key;
 mod stated_hashes;
-mod stated_keys;
 mod stated_oaep;
 mod stated_pss;
 mod status;
@@ -47,7 +46,6 @@ pub use pss_algorithm::{
 };
 pub use public_key::{PublicKey, pkcs1_c_public_key_decode, pkcs1_c_public_key_encode};
 pub use stated_hashes::{algorithm_is, oaep_is, oaep_label, pss_is};
-pub use stated_keys::{decode_private_key_info, encode_private_key_info};
 pub use stated_oaep::{
     decode_oaep_algorithm, decode_oaep_algorithm_strictly, decode_oaep_params,
     decode_oaep_params_strictly, encode_oaep_algorithm, encode_oaep_params,

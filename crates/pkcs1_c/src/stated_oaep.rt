@@ -5,8 +5,8 @@ ghost use Rattle.standard.specs.Statement.{Decodes, IsShortest, OaepEncoding, Oa
 ghost use Rattle.pkcs1_params.specs.Parameters.{RsaOaepParams};
 ghost use Rattle.pkcs1_params.specs.Words.{RsaOaepAlgorithm, rsa_oaep_algorithm, rsa_oaep_params, strict_oaep_algorithm};
 ghost use Rattle.pkcs1_params.specs.Words.{strict_oaep_params};
-ghost use Rattle.pkcs1_c.specs.Structs.{oaep_params, WritesOrTells};
-ghost use Rattle.pkcs1_c.specs.Words.{FieldsError, IsErrorOf, IsStatusOf, OaepFieldError, oaep_seen};
+ghost use Rattle.pkcs1_c.specs.Structs.{oaep_seen, WritesOrTells};
+ghost use Rattle.pkcs1_c.specs.Words.{FieldsError, IsErrorOf, IsStatusOf, OaepFieldError};
 
 use crate::oaep::{
     OaepParams, pkcs1_c_oaep_params_decode, pkcs1_c_oaep_params_decode_strict,
@@ -20,7 +20,7 @@ use statement::lemma_encodings_are_the_librarys;
 
 /// 0 exactly if the slice encodes OAEP parameters, which the struct then holds. Else the struct is as before.
 pub fn decode_oaep_params<'a>(encoding: &'a [u8], params: &mut OaepParams<'a>) -> u32
-    ensures ok { result ≡ 0 → Decodes OaepEncoding encoding.now (Some (oaep_params params.new)) }
+    ensures ok { result ≡ 0 → Decodes OaepEncoding encoding.now (Some (oaep_seen params.new)) }
     ensures rejected { result ≢ 0 → Decodes OaepEncoding encoding.now None }
     ensures exact { IsStatusOf (rsa_oaep_params encoding.now) result }
     ensures unchanged { result ≢ 0 → params.new ≡ params.old }
@@ -31,7 +31,7 @@ pub fn decode_oaep_params<'a>(encoding: &'a [u8], params: &mut OaepParams<'a>) -
 
 /// 0 exactly if the slice is the shortest encoding of OAEP parameters, which the struct then holds.
 pub fn decode_oaep_params_strictly<'a>(encoding: &'a [u8], params: &mut OaepParams<'a>) -> u32
-    ensures ok { result ≡ 0 → Decodes (IsShortest OaepEncoding) encoding.now (Some (oaep_params params.new)) }
+    ensures ok { result ≡ 0 → Decodes (IsShortest OaepEncoding) encoding.now (Some (oaep_seen params.new)) }
     ensures rejected { result ≢ 0 → Decodes (IsShortest OaepEncoding) encoding.now None }
     ensures exact { IsStatusOf (strict_oaep_params encoding.now) result }
     ensures unchanged { result ≢ 0 → params.new ≡ params.old }
@@ -43,7 +43,7 @@ pub fn decode_oaep_params_strictly<'a>(encoding: &'a [u8], params: &mut OaepPara
 /// Writes OAEP parameters. A status other than 0 and 15 is that of the first field that can't be held, or 8, if the
 /// limit is passed.
 pub fn encode_oaep_params(params: &OaepParams<'_>, out: &mut [u8], len: &mut usize) -> u32
-    ensures writes { WritesOrTells OaepEncoding (oaep_params params.now) out.old out.new len.old len.new result }
+    ensures writes { WritesOrTells OaepEncoding (oaep_seen params.now) out.old out.new len.old len.new result }
     ensures exact { let v = oaep_seen params.now in
         IsErrorOf (FieldsError OaepFieldError RsaOaepParams v (length out.old)) result }
 {
@@ -54,7 +54,7 @@ pub fn encode_oaep_params(params: &OaepParams<'_>, out: &mut [u8], len: &mut usi
 /// 0 exactly if the slice encodes the algorithm identifier with OAEP parameters, which the struct then holds. Else
 /// the struct is as before.
 pub fn decode_oaep_algorithm<'a>(encoding: &'a [u8], params: &mut OaepParams<'a>) -> u32
-    ensures ok { result ≡ 0 → Decodes OaepAlgorithmEncoding encoding.now (Some (oaep_params params.new)) }
+    ensures ok { result ≡ 0 → Decodes OaepAlgorithmEncoding encoding.now (Some (oaep_seen params.new)) }
     ensures rejected { result ≢ 0 → Decodes OaepAlgorithmEncoding encoding.now None }
     ensures exact { IsStatusOf (rsa_oaep_algorithm encoding.now) result }
     ensures unchanged { result ≢ 0 → params.new ≡ params.old }
@@ -66,7 +66,7 @@ pub fn decode_oaep_algorithm<'a>(encoding: &'a [u8], params: &mut OaepParams<'a>
 /// 0 exactly if the slice is the shortest encoding of the algorithm identifier with OAEP parameters, which the struct
 /// then holds.
 pub fn decode_oaep_algorithm_strictly<'a>(encoding: &'a [u8], params: &mut OaepParams<'a>) -> u32
-    ensures ok { result ≡ 0 → Decodes (IsShortest OaepAlgorithmEncoding) encoding.now (Some (oaep_params params.new)) }
+    ensures ok { result ≡ 0 → Decodes (IsShortest OaepAlgorithmEncoding) encoding.now (Some (oaep_seen params.new)) }
     ensures rejected { result ≢ 0 → Decodes (IsShortest OaepAlgorithmEncoding) encoding.now None }
     ensures exact { IsStatusOf (strict_oaep_algorithm encoding.now) result }
     ensures unchanged { result ≢ 0 → params.new ≡ params.old }
@@ -77,7 +77,7 @@ pub fn decode_oaep_algorithm_strictly<'a>(encoding: &'a [u8], params: &mut OaepP
 
 /// Writes the algorithm identifier with OAEP parameters, with the same statuses.
 pub fn encode_oaep_algorithm(params: &OaepParams<'_>, out: &mut [u8], len: &mut usize) -> u32
-    ensures writes { let v = oaep_params params.now in
+    ensures writes { let v = oaep_seen params.now in
         WritesOrTells OaepAlgorithmEncoding v out.old out.new len.old len.new result }
     ensures exact { let v = oaep_seen params.now in
         IsErrorOf (FieldsError OaepFieldError RsaOaepAlgorithm v (length out.old)) result }

@@ -1,19 +1,19 @@
 //! Encoding into a caller's slice.
-ghost use Rattle.std.specs.Prelude.{◌≡◌, ℕ, List, length};
-ghost use Rattle.der_core.specs.Words.{HasEncoding, IsShortest};
+ghost use Rattle.std.specs.Prelude.{◌≡◌, ◌≤◌, ◌<◌, length};
+ghost use Rattle.der_core.specs.Words.{Prints, limit};
 ghost use Rattle.pkcs1_params.specs.Words.{AlgorithmOf, Fielded};
-ghost use Rattle.pkcs1_c.specs.Words.{EncodingError, IsTooLong, WritesValue};
+ghost use Rattle.pkcs1_c.specs.Words.{EncodingError, WritesValue};
 
 use crate::status::{OK, kind_number, status};
 use der_core::Encode;
 use pkcs1::{EncodeParams, Shortest};
 use spki_core::AssociatedOid;
 
-/// Sets `len` to the length of the shortest encoding of the value, if it has one within the limit.
+/// Sets `len` to the length of what is written of the value, if that is an encoding within the limit.
 pub(crate) fn set_needed<T: Encode>(value: &T, len: &mut usize)
-    ensures needed { (encoding : List ℕ) → IsShortest T.encoding (T.value value.now) encoding
-        → len.new ≡ length encoding }
-    ensures kept { IsTooLong T.encoding (T.value value.now) → len.new ≡ len.old }
+    ensures needed { let s = T.written (T.value value.now) in
+        T.valid s → length (T.printed s) ≤ limit → len.new ≡ length (T.printed s) }
+    ensures kept { limit < length (T.printed (T.written (T.value value.now))) → len.new ≡ len.old }
 {
     if let Ok(length) = value.encoded_len() {
         *len = length.to_usize();
@@ -23,9 +23,9 @@ pub(crate) fn set_needed<T: Encode>(value: &T, len: &mut usize)
 /// Writes the shortest encoding of the value to the front of `out`. Returns 0, with its length in `len`, or `NO_ROOM`,
 /// with the needed length in `len`, or another status, with `len` unchanged.
 pub(crate) fn write_encoding<T: Encode>(value: &T, out: &mut [u8], len: &mut usize) -> u32
-    requires { HasEncoding T.encoding (T.value value.now) }
-    ensures { let v = T.value value.now in
-        WritesValue T.encoding v (EncodingError T.encoding v) out.old out.new len.old len.new result }
+    requires { T.valid (T.written (T.value value.now)) }
+    ensures { let v = T.value value.now in let encodings = Prints T.valid T.printed T.means in
+        WritesValue encodings v (EncodingError encodings v) out.old out.new len.old len.new result }
 {
     match value.encode_into(out) {
         Ok(written) => {

@@ -4,7 +4,7 @@ use Rattle.std.proofs.lemmas.Bool.Decides.{Decides-at, nat_tests}
 use Rattle.std.proofs.lemmas.Slice.Eq.{bytes_eq-Decides}
 use Rattle.std.specs.Bool.{Decides}
 use Rattle.spki_core.specs.HashAlgorithms.{IsHash}
-use Rattle.pkcs1_c.specs.StructValues.{algorithm_seen}
+use Rattle.pkcs1_c.specs.Structs.{algorithm_seen}
 use Rattle.pkcs1_c.specs.declared.algorithm.Algorithm.{Algorithm}
 use Rattle.pkcs1_c.proofs.algorithm.pkcs1_c_algorithm_is.Goals.{then-algorithm-octet, else-algorithm-octet}
 use Rattle.pkcs1_c.proofs.algorithm.pkcs1_c_algorithm_is.Goals.{then-not-algorithm, else-not-algorithm}

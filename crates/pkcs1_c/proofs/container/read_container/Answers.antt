@@ -1,26 +1,25 @@
 use Rattle.std.proofs.Common.{ap, subst}
-use Rattle.std.specs.Prelude.{Ok, Err}
+use Rattle.std.specs.Prelude.{None, Ok, Err}
 use Rattle.std.proofs.lemmas.Result.{err_from_is_err_and}
 use Rattle.der_core.specs.Readings.{◌>>=◌}
-use Rattle.pkcs1.specs.ViewParts.{view_of}
+use Rattle.pkcs1.specs.Held.{held_view}
 use Rattle.pkcs1.specs.declared.view.RsaPrivateKeyView.{RsaPrivateKeyView}
-use Rattle.pkcs8_core.specs.ContainerReadings.{private_key_info, rsa_held}
-use Rattle.pkcs8_core.specs.Rsa.{HoldsRsa, RsaPrivateKeyInfo}
 use Rattle.pkcs1_params.proofs.Errors.{on_err}
-use Rattle.pkcs1_params.specs.Meanings.{IsNoSentence}
 use Rattle.pkcs1_params.proofs.FaultsTold.{errs_behind}
+use Rattle.pkcs8_core.specs.ContainerReadings.{private_key_info, rsa_held}
+use Rattle.pkcs8_core.specs.Rsa.{ContainedKey}
+use Rattle.standard.specs.Statement.{ContainedKeyEncoding, Decodes}
 use Rattle.pkcs1_c.proofs.container.read_container.Goals as goal
 
 pub returns-in_err-info-clause-err : goal.returns-in_err-info-clause-err
 returns-in_err-info-clause-err c =
-    on_err (IsNoSentence RsaPrivateKeyInfo c.args.encoding.now) _
-    (λ key m. c.in_err-info.ensures.err m.1.0 (m.0, m.1.1))
+    on_err (Decodes ContainedKeyEncoding c.args.encoding.now None) _ (λ key p. c.in_err-info.ensures.read p.0 p.1)
 
 pub returns-in_err-view-clause-err : goal.returns-in_err-view-clause-err
 returns-in_err-view-clause-err c =
-    on_err (IsNoSentence RsaPrivateKeyInfo c.args.encoding.now) _
-    (λ key m. c.in_err-view.ensures.err key
-    (subst (λ i. HoldsRsa i key) (c.in_ok-info.ensures.ok.1 m.1.0 (m.0, m.1.1)) m.1.2))
+    on_err (Decodes ContainedKeyEncoding c.args.encoding.now None) _
+    (λ key p. c.in_err-view.ensures.read key
+    (subst (λ d. ContainedKey d key d.private_key) (c.in_ok-info.ensures.read.1 p.0 p.1) (p.2, p.3)))
 
 pub returns-in_err-info-clause-exact : goal.returns-in_err-info-clause-exact
 returns-in_err-info-clause-exact c =
@@ -30,10 +29,10 @@ returns-in_err-info-clause-exact c =
 pub returns-in_err-view-clause-exact : goal.returns-in_err-view-clause-exact
 returns-in_err-view-clause-exact c =
     let p = err_from_is_err_and c.from_residual-in_err-view.result c.from_residual-in_err-view.ensures.1 in
-    rw (p.1, p.2) (errs_behind {X = RsaPrivateKeyView} view_of (private_key_info c.args.encoding.now) rsa_held _
+    rw (p.1, p.2) (errs_behind {X = RsaPrivateKeyView} held_view (private_key_info c.args.encoding.now) rsa_held _
     c.in_ok-info.ensures.exact (Err _) c.in_err-view.ensures.exact)
 
 pub returns-clause-exact : goal.returns-clause-exact
 returns-clause-exact c =
-    errs_behind view_of (private_key_info c.args.encoding.now) rsa_held _ c.in_ok-info.ensures.exact (Ok c.in_ok-view.view)
-    c.in_ok-view.ensures.exact
+    errs_behind held_view (private_key_info c.args.encoding.now) rsa_held _ c.in_ok-info.ensures.exact
+    (Ok c.in_ok-view.view) c.in_ok-view.ensures.exact

@@ -2,7 +2,7 @@ use Rattle.std.proofs.Common.{subst}
 use Rattle.pkcs1_params.specs.Parameters.{RsaOaepParams}
 use Rattle.pkcs1_params.specs.Parts.{Fielded, oaep_values}
 use Rattle.pkcs1_c.specs.Writes.{WritesValue}
-use Rattle.pkcs1_c.specs.StructValues.{oaep_seen}
+use Rattle.pkcs1_c.specs.Structs.{oaep_seen}
 use Rattle.pkcs1_c.specs.StructErrors.{EncodingError, OaepFieldError}
 use Rattle.pkcs1_c.proofs.Fits.{oaep_fits}
 use Rattle.pkcs1_c.proofs.HeldParameters.{oaep_none}

@@ -1,6 +1,6 @@
 use Rattle.pkcs1_params.specs.Algorithms.{id_rsaes_oaep, RsaOaepAlgorithm}
 use Rattle.pkcs1_params.specs.Parameters.{RsaOaepParams}
-use Rattle.pkcs1_c.specs.StructValues.{oaep_seen}
+use Rattle.pkcs1_c.specs.Structs.{oaep_seen}
 use Rattle.pkcs1_c.specs.StructErrors.{OaepFieldError}
 use Rattle.pkcs1_c.proofs.AlgorithmWrites.{parameters_fit}
 use Rattle.pkcs1_c.proofs.Fits.{oaep_fits}

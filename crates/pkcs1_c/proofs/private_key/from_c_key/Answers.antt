@@ -1,8 +1,17 @@
-use Rattle.std.proofs.Common.{List, ◌≡◌, ◌≢◌}
+use Rattle.std.proofs.Common.{List, [], ◌∷◌, ◌≡◌, ◌≢◌, ◌∙◌, ap, map, refl, Option, Some, None}
+use Rattle.std.specs.Option.{option_map}
+use Rattle.std.specs.declared.alloc.Global.{Global}
+use Rattle.std.specs.declared.vec.Vec.{Vec}
+use Rattle.pkcs1.specs.Held.{held_other_prime, number_in}
+use Rattle.pkcs1.specs.PrivateKeyValue.{other_of, others_of}
+use Rattle.pkcs1.specs.StatedKeys.{other_stated}
+use Rattle.pkcs1.specs.declared.private_key.other_prime_info.OtherPrimeInfo.{OtherPrimeInfo}
 use Rattle.pkcs1_params.specs.declared.error.Error.{Error}
 use Rattle.pkcs1_c.specs.declared.private_key.OtherPrime.{OtherPrime}
 use Rattle.pkcs1_c.specs.declared.private_key.PrivateKey.{PrivateKey}
+use Rattle.pkcs1_c.specs.NumberValue.{held_others, number_of}
 use Rattle.pkcs1_c.specs.Status.{status_of}
+use Rattle.pkcs1_c.specs.declared.given_number.Number.{Number}
 use Rattle.pkcs1_c.specs.StructErrors.{NumberError, NumbersError, MayRunOutOfMemory, given_numbers, numbers_of_primes}
 use Rattle.pkcs1_c.specs.Structs.{numbers_of_key}
 use Rattle.pkcs1_c.specs.Writes.{NoStatus}
@@ -48,3 +57,28 @@ returns-clause-held c =
     c.in_ok-number-6.ensures.held c.in_ok-number-7.ensures.held c.in_ok-number-8.ensures.held in
     none_both (numbers_of_key c.args.key.now) (numbers_of_primes c.args.others.now) eight
     c.in_ok-from_c_other_primes.ensures.held
+
+list_held : (os : List (OtherPrimeInfo Number))
+    → map other_stated (map (other_of (number_in number_of)) os) ≡ map (held_other_prime number_of) os
+list_held [] = refl
+list_held (o ∷ os) = ap (λ rest. held_other_prime number_of o ∷ rest) (list_held os)
+
+others_held : (o : Option (Vec (OtherPrimeInfo Number) Global))
+    → option_map (map other_stated) (others_of (number_in number_of) o) ≡ held_others o
+others_held None = refl
+others_held (Some v) = ap (λ os. Some os) (list_held v.items)
+
+pub returns-clause-ok : goal.returns-clause-ok
+returns-clause-ok c =
+    let others = others_held c.in_ok-from_c_other_primes.field-0 ∙ c.in_ok-from_c_other_primes.ensures.ok in
+    λ i. record {
+      modulus = c.in_ok-number.ensures.ok i;
+      public_exponent = c.in_ok-number-2.ensures.ok i;
+      private_exponent = c.in_ok-number-3.ensures.ok i;
+      prime1 = c.in_ok-number-4.ensures.ok i;
+      prime2 = c.in_ok-number-5.ensures.ok i;
+      exponent1 = c.in_ok-number-6.ensures.ok i;
+      exponent2 = c.in_ok-number-7.ensures.ok i;
+      coefficient = c.in_ok-number-8.ensures.ok i;
+      other_primes = others i;
+    }

@@ -1,4 +1,4 @@
-use Rattle.pkcs1.proofs.KeyReadings.{rsa_private_key_reads}
+use Rattle.pkcs1.proofs.KeyFaults.{private_tells}
 use Rattle.pkcs1.specs.Held.{held_view}
 use Rattle.pkcs1.specs.KeyReadings.{rsa_private_key}
 use Rattle.pkcs1_c.proofs.NotWritten.{status_exact}
@@ -9,5 +9,5 @@ returns-in-Ok-clause-ok c = λ _. (held_view c.in-Ok.view, c.in-Ok.ensures.read,
 
 pub returns-in-Err-clause-exact : goal.returns-in-Err-clause-exact
 returns-in-Err-clause-exact c =
-    status_exact (rsa_private_key c.args.encoding.now) (rsa_private_key_reads.tells c.args.encoding.now)
+    status_exact (rsa_private_key c.args.encoding.now) (private_tells c.args.encoding.now)
     c.in-Err.error _ c.status.ensures c.in-Err.ensures.exact

@@ -1,5 +1,5 @@
 use Rattle.std.proofs.Common.{ℕ, List, length, sym, refl, ◌≡◌, ◌∙◌, arith}
-use Rattle.pkcs1.specs.Keys.{RsaPrivateKey}
+use Rattle.pkcs1.specs.Held.{number_in}
 use Rattle.pkcs1.specs.PrivateKeyValue.{private_key_with}
 use Rattle.standard.specs.Statement.{PrivateKeyEncoding}
 use Rattle.pkcs1_c.specs.declared.private_key.OtherPrime.{OtherPrime}
@@ -7,7 +7,7 @@ use Rattle.pkcs1_c.specs.declared.private_key.PrivateKey.{PrivateKey}
 use Rattle.pkcs1_c.specs.NumberValue.{number_of}
 use Rattle.pkcs1_c.specs.StructErrors.{Miscounted, NumbersError, PartThen, Unwritten, given_numbers}
 use Rattle.pkcs1_c.specs.Structs.{HasPrivateNumbers, If, private_key}
-use Rattle.pkcs1_c.proofs.GivenKeys.{is_private, private_fits, private_has, private_law}
+use Rattle.pkcs1_c.proofs.GivenKeys.{PrivatePrints, private_fits, private_has, private_law, private_valid}
 use Rattle.pkcs1_c.proofs.KeyWrites.{error_behind, error_first, key_error, key_refused, key_written}
 use Rattle.pkcs1_c.proofs.StructErrors.{IsOne, IsPart, numbers_part, part_one, unless_part, unwritten_one}
 use Rattle.pkcs1_c.proofs.Writes.{no_memory_asked}
@@ -35,7 +35,7 @@ pub write_encoding-requires : goal.write_encoding-requires
 write_encoding-requires c =
     let key = c.args.key.now in
     let others = c.args.others.now in
-    (private_law key others c.in-Ok.key c.in-Ok.ensures.ok).has (is_private key others)
+    private_valid key others c.in-Ok.key c.in-Ok.ensures.ok
 
 pub returns-then-key-others-clause-writes : goal.returns-then-key-others-clause-writes
 returns-then-key-others-clause-writes c = λ _.
@@ -56,7 +56,8 @@ pub returns-in-Ok-clause-writes : goal.returns-in-Ok-clause-writes
 returns-in-Ok-clause-writes c = λ _.
     let key = c.args.key.now in
     let others = c.args.others.now in
-    key_written (private_law key others c.in-Ok.key c.in-Ok.ensures.ok) (HasPrivateNumbers key others)
+    key_written PrivateKeyEncoding (private_key key others) PrivatePrints _
+    (private_law key others c.in-Ok.key c.in-Ok.ensures.ok) (HasPrivateNumbers key others)
     (private_has key others c.if-key-others.false c.in-Ok.ensures.held) c.write_encoding.ensures
 
 pub returns-in-Ok-clause-exact : goal.returns-in-Ok-clause-exact
@@ -66,7 +67,8 @@ returns-in-Ok-clause-exact c = λ _.
     let room = length c.args.out.now in
     error_behind (Miscounted key others) (Counted key others room) _ (λ s p. p.1 c.if-key-others.false)
     (error_behind (Unheld key others) (Rest key others room) _ c.in-Ok.ensures.held
-    (key_error (private_law key others c.in-Ok.key c.in-Ok.ensures.ok) room _ c.write_encoding.ensures.exact))
+    (key_error PrivateKeyEncoding (private_key key others) PrivatePrints _
+    (private_law key others c.in-Ok.key c.in-Ok.ensures.ok) room _ c.write_encoding.ensures.exact))
 
 pub returns-in-Err-clause-writes : goal.returns-in-Err-clause-writes
 returns-in-Err-clause-writes c = λ other.
@@ -93,7 +95,7 @@ returns-in-Err-clause-exact c = λ other.
 
 pub returns-in-Ok-clause-memory : goal.returns-in-Ok-clause-memory
 returns-in-Ok-clause-memory c =
-    λ memory. absurd (no_memory_asked RsaPrivateKey (private_key_with number_of c.in-Ok.key) _ _
+    λ memory. absurd (no_memory_asked PrivatePrints (private_key_with (number_in number_of) c.in-Ok.key) _ _
     c.write_encoding.ensures.exact memory)
 
 pub returns-in-Err-clause-memory : goal.returns-in-Err-clause-memory

@@ -2,7 +2,7 @@ use Rattle.std.proofs.Common.{subst}
 use Rattle.pkcs1_params.specs.Parameters.{RsaPssParams}
 use Rattle.pkcs1_params.specs.Parts.{Fielded, pss_values}
 use Rattle.pkcs1_c.specs.Writes.{WritesValue}
-use Rattle.pkcs1_c.specs.StructValues.{pss_seen}
+use Rattle.pkcs1_c.specs.Structs.{pss_seen}
 use Rattle.pkcs1_c.specs.StructErrors.{EncodingError, PssFieldError}
 use Rattle.pkcs1_c.proofs.Fits.{pss_fits}
 use Rattle.pkcs1_c.proofs.HeldParameters.{pss_none}

@@ -1,6 +1,6 @@
 use Rattle.pkcs1_params.specs.Algorithms.{id_rsassa_pss, RsaPssAlgorithm}
 use Rattle.pkcs1_params.specs.Parameters.{RsaPssParams}
-use Rattle.pkcs1_c.specs.StructValues.{pss_seen}
+use Rattle.pkcs1_c.specs.Structs.{pss_seen}
 use Rattle.pkcs1_c.specs.StructErrors.{PssFieldError}
 use Rattle.pkcs1_c.proofs.AlgorithmWrites.{parameters_fit}
 use Rattle.pkcs1_c.proofs.Fits.{pss_fits}

@@ -1,4 +1,4 @@
-use Rattle.pkcs1.proofs.KeyReadings.{rsa_public_key_reads}
+use Rattle.pkcs1.proofs.KeyFaults.{public_tells}
 use Rattle.pkcs1.specs.Held.{held_public_key}
 use Rattle.pkcs1.specs.KeyReadings.{rsa_public_key}
 use Rattle.der_core.specs.UintRefValue.{bytes_of}
@@ -16,5 +16,5 @@ returns-in-Ok-clause-ok c =
 
 pub returns-in-Err-clause-exact : goal.returns-in-Err-clause-exact
 returns-in-Err-clause-exact c =
-    status_exact (rsa_public_key c.args.encoding.now) (rsa_public_key_reads.tells c.args.encoding.now) c.in-Err.error _
+    status_exact (rsa_public_key c.args.encoding.now) (public_tells c.args.encoding.now) c.in-Err.error _
     c.status.ensures c.in-Err.ensures.exact

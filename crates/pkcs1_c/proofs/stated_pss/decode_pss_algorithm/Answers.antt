@@ -1,17 +1,14 @@
 use Rattle.pkcs1_params.specs.Algorithms.{RsaPssAlgorithm}
 use Rattle.standard.specs.Statement.{PssAlgorithmEncoding}
-use Rattle.pkcs1_c.proofs.StatedCalls.{read, not_read}
-use Rattle.pkcs1_c.proofs.StatedParameters.{pss}
+use Rattle.pkcs1_c.proofs.StatedCalls.{not_read, read}
 use Rattle.pkcs1_c.proofs.stated_pss.decode_pss_algorithm.Goals as goal
 
 pub returns-clause-ok : goal.returns-clause-ok
 returns-clause-ok c is =
-    let same = c.lemma_encodings_are_the_librarys.ensures.pss_algorithm in
-    read pss PssAlgorithmEncoding RsaPssAlgorithm same c.pkcs1_c_pss_algorithm_decode.new.params c.args.encoding.now
+    read PssAlgorithmEncoding RsaPssAlgorithm c.lemma_encodings_are_the_librarys.ensures.pss_algorithm _ c.args.encoding.now
     (c.pkcs1_c_pss_algorithm_decode.ensures.ok is)
 
 pub returns-clause-rejected : goal.returns-clause-rejected
 returns-clause-rejected c is =
-    let same = c.lemma_encodings_are_the_librarys.ensures.pss_algorithm in
-    not_read pss PssAlgorithmEncoding RsaPssAlgorithm same c.args.encoding.now
+    not_read PssAlgorithmEncoding RsaPssAlgorithm c.lemma_encodings_are_the_librarys.ensures.pss_algorithm c.args.encoding.now
     (c.pkcs1_c_pss_algorithm_decode.ensures.rejected is)

@@ -1,10 +1,8 @@
 use Rattle.pkcs1_params.specs.Parameters.{RsaPssParams}
 use Rattle.standard.specs.Statement.{PssEncoding}
 use Rattle.pkcs1_c.proofs.StatedCalls.{wrote}
-use Rattle.pkcs1_c.proofs.StatedParameters.{pss}
 use Rattle.pkcs1_c.proofs.stated_pss.encode_pss_params.Goals as goal
 
 pub returns-clause-writes : goal.returns-clause-writes
 returns-clause-writes c =
-    let same = c.lemma_encodings_are_the_librarys.ensures.pss in
-    wrote pss PssEncoding RsaPssParams same c.args.params.now c.pkcs1_c_pss_params_encode.ensures
+    wrote PssEncoding RsaPssParams c.lemma_encodings_are_the_librarys.ensures.pss _ c.pkcs1_c_pss_params_encode.ensures

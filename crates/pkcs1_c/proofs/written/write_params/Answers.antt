@@ -1,4 +1,6 @@
+use Rattle.pkcs1_params.proofs.ParameterWrites.{so}
 use Rattle.pkcs1_params.specs.Parts.{Fielded}
+use Rattle.pkcs1_c.proofs.Needed.{fields_have, fields_kept, fields_needed}
 use Rattle.pkcs1_c.proofs.NotWritten.{status_writing}
 use Rattle.pkcs1_c.proofs.Writes.{not_written, written}
 use Rattle.pkcs1_c.proofs.written.write_params.Goals as goal
@@ -13,9 +15,11 @@ pub returns-in-Err : goal.returns-in-Err
 returns-in-Err g c =
     let t = g.T.EncodeParams in
     let value = t.params c.args.params in
+    let some = c.lemma_has_encoding.ensures in
     let needed = rw c.of.ensures at c.set_needed.ensures in
+    let same = t.spelled value 0 in
     not_written (Fielded t.values) value c.args.out.now _ c.args.len.now _ _ _ c.status.ensures
-    (status_writing (Fielded t.values) value _ c.lemma_has_encoding.ensures c.in-Err.error c.in-Err.ensures.err)
+    (status_writing (Fielded t.values) value _ some c.in-Err.error c.in-Err.ensures.err)
     c.in-Err.ensures.unchanged
-    (λ encoding shortest. needed.needed encoding shortest)
-    (λ long. needed.kept long)
+    (fields_needed t.values value some _ same.1 (needed.needed (so same.0 (fields_have t.values value some))))
+    (fields_kept t.values value some _ same.1 needed.kept)

@@ -1,0 +1,45 @@
+use Rattle.std.proofs.Common.{ℕ, List, ◌∷◌, ◌≡◌, ◌<◌, ◌≤◌, ◌∙◌, length, refl, sym, subst, arith, rules}
+use Rattle.std.proofs.Common.{Bool, true, false, nat_lt}
+use Rattle.std.specs.Prelude.{slice_index, if◌then◌else◌}
+use Rattle.std.proofs.lemmas.Grind.{common_steps}
+use Rattle.der_core.specs.BackWriters.{Prepends, free_of}
+use Rattle.der_core.specs.Integer.{integer_contents}
+use Rattle.der_core.specs.Laws.Integer.{holds_canonical}
+use Rattle.der_core.specs.Laws.Printed.Leaves.{contents_as}
+use Rattle.pkcs1_c.proofs.given_number.NumberEncodeValue.prepend_value.Goals as goal
+
+pub prepend-requires : goal.prepend-requires
+prepend-requires c =
+    let bytes = c.args.self.now.bytes.now in
+    let is = contents_as bytes (holds_canonical bytes c.args.self.now.canonical) in
+    let room : length (integer_contents bytes) ≤ free_of c.args.writer.now = rw is at c.requires.room in
+    search rules
+
+pub prepend-requires-then-self-gt0 : goal.prepend-requires-then-self-gt0
+prepend-requires-then-self-gt0 c =
+    let bytes = c.args.self.now.bytes.now in
+    let is = contents_as bytes (holds_canonical bytes c.args.self.now.canonical) in
+    let room : length (integer_contents bytes) ≤ free_of c.args.writer.now = rw is at c.requires.room in
+    search rules
+
+with_zero : (bytes : List ℕ) (count : ℕ) (low : Bool) → count ≡ (if low then 0 else 1) → 0 < count
+    → (if low then bytes else (0 ∷ bytes)) ≡ 0 ∷ bytes
+with_zero bytes count true told some = absurd (omega (arith, told, some))
+with_zero bytes count false told some = refl
+
+pub returns-then-self-gt0 : goal.returns-then-self-gt0
+returns-then-self-gt0 c =
+    let number = c.args.self.now in
+    let bytes = number.bytes.now in
+    let whole = contents_as bytes (holds_canonical bytes number.canonical)
+    ∙ with_zero bytes number.zeros (nat_lt (slice_index bytes 0) 128) number.told c.if-self-gt0.true in
+    let told : Prepends (0 ∷ bytes) c.args.writer.now c.prepend-then-self-gt0.new.self =
+    grind (arith, common_steps) in
+    subst (λ octets. Prepends octets c.args.writer.now c.prepend-then-self-gt0.new.self) (sym whole) told
+
+pub returns-else-self-gt0 : goal.returns-else-self-gt0
+returns-else-self-gt0 c =
+    let bytes = c.args.self.now.bytes.now in
+    let is = contents_as bytes (holds_canonical bytes c.args.self.now.canonical) in
+    let told : Prepends (integer_contents bytes) c.args.writer.now c.prepend.new.self = search rules in
+    subst (λ octets. Prepends octets c.args.writer.now c.prepend.new.self) (sym is) told
