@@ -1,21 +1,19 @@
 //! Sizes that a signer asks of keys and parameters: a small crate above the library.
 #![tactic(auto)]
 
-ghost use Rattle.std.specs.Prelude.{ℕ, List, ◌≡◌, length, IfOk, IfErr, OnErr};
-ghost use Rattle.der_core.specs.Document.{Means, IsShortest};
-ghost use Rattle.pkcs1_params.specs.Meanings.{IsNoSentence};
+ghost use Rattle.std.specs.Prelude.{◌≡◌, length, IfOk, OnErr, Some, None};
+ghost use Rattle.der_core.specs.Document.{IsShortest};
 ghost use Rattle.pkcs1_params.specs.Parameters.{PssParameters, RsaPssParams};
-ghost use Rattle.pkcs1.specs.Keys.{PrivateKey};
-ghost use Rattle.pkcs8_core.specs.Rsa.{RsaPrivateKeyInfo};
+ghost use Rattle.standard.specs.Statement.{ContainedKeyEncoding, Decodes, PrivateKey, octets};
 
 use pkcs1::{Result, RsaPssParamsRef};
 use pkcs8_core::rsa_from_pkcs8_der;
 
 /// The length in octets of the modulus of the RSA key in a PKCS #8 container.
 pub fn modulus_len(container: &[u8]) -> Result<usize>
-    ensures ok { IfOk result (λ len. (key : PrivateKey (List ℕ))
-        × Means RsaPrivateKeyInfo container.now key × (len ≡ length key.modulus)) }
-    ensures err { OnErr result (IsNoSentence RsaPrivateKeyInfo container.now) }
+    ensures ok { IfOk result (λ len. (key : PrivateKey)
+        × Decodes ContainedKeyEncoding container.now (Some key) × (len ≡ length (octets key.modulus))) }
+    ensures err { OnErr result (Decodes ContainedKeyEncoding container.now None) }
 {
     let key = rsa_from_pkcs8_der(container)?;
     Ok(key.modulus().as_bytes().len())

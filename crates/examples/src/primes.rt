@@ -1,7 +1,8 @@
 //! The other primes of a key.
 ghost use Rattle.std.specs.Prelude.{◌≡◌, map, IfOk};
 ghost use Rattle.der_core.specs.UintRefValue.{bytes_of};
-ghost use Rattle.pkcs1.specs.ViewParts.{view_of, listed_others};
+ghost use Rattle.pkcs1.specs.Held.{held_view, number_in};
+ghost use Rattle.pkcs1.specs.ViewParts.{listed_others};
 
 use pkcs1::{RsaPrivateKeyView, UintRef};
 use std::alloc::{AllocError, Global};
@@ -11,8 +12,8 @@ pub fn primes_of<'a>(
     alloc: Global,
     view: &RsaPrivateKeyView<'a>,
 ) -> Result<Vec<UintRef<'a>>, AllocError>
-    ensures { IfOk result (λ primes. map bytes_of primes.items
-        ≡ map (λ other. other.prime) (listed_others (view_of view.now).other_prime_infos)) }
+    ensures { IfOk result (λ primes. map (number_in bytes_of) primes.items
+        ≡ map (λ other. other.prime) (listed_others (held_view view.now).other_primes)) }
 {
     let mut primes = Vec::new(alloc);
     for other in view.other_primes() {

@@ -1,10 +1,20 @@
 -- What is put behind bytes, piece by piece.
-use Rattle.std.proofs.Common.{◌≡◌, ℕ, List, ◌++◌, inl, inr, refl, ap, ◌∙◌, append_assoc}
+use Rattle.std.proofs.Common.{◌≡◌, ℕ, List, [], ◌∷◌, ◌++◌, ◌+◌, ◌<◌, length, take, inl, inr, refl, sym, ap, ◌∙◌}
+use Rattle.std.proofs.Common.{append_assoc, append-nil, get_or}
+use Rattle.std.proofs.lemmas.Grind.{flat_map-append}
+use Rattle.std.proofs.lemmas.List.{take_more}
+use Rattle.std.specs.List.{flat_map}
 use Rattle.std.specs.Prelude.{Result, OnOk}
 use Rattle.std.proofs.lemmas.Result.{on_ok_weaker}
 use Rattle.der_core.specs.Document.{Means, IsShortest}
-use Rattle.der_core.specs.Encodings.{AtMostOne}
+use Rattle.der_core.specs.Laws.Integer.{holds_canonical}
+use Rattle.der_core.specs.Laws.Printed.Leaves.{number_octets}
+use Rattle.der_core.specs.UintRefValue.{bytes_of}
+use Rattle.der_core.specs.declared.integer.uint.UintRef.{UintRef}
+use Rattle.pkcs1.specs.Held.{number_in}
 use Rattle.spki_core.specs.Explicit.{Field, HaveDefaults}
+use Rattle.standard.specs.Statement as statement
+use Rattle.standard.specs.Statement.{AtMostOne, PrivateKeyEncoding, PublicKeyEncoding, octets}
 use Rattle.pkcs1_lines.specs.Answer.{Tells, TellsParameters}
 
 -- one piece more in front of those that follow
@@ -19,19 +29,26 @@ pub four : (o p q r new a b c d : List ℕ) → p ≡ o ++ a → q ≡ p ++ b �
     → new ≡ o ++ (a ++ (b ++ (c ++ d)))
 four o p q r new a b c d h i j k = more o p new a _ h (three p q r new b c d i j k)
 
--- the only encoding of a value is its shortest
-pub only_shortest : {V : Type 0} (Grammar : V → List ℕ → Type 0) (v : V) (encoding : List ℕ) → AtMostOne (Grammar v)
-    → Means Grammar encoding v → IsShortest Grammar v encoding
-only_shortest Grammar v encoding one means =
-    record { spells = means; least = λ other p. inl (one other encoding p.1 means.1) }
+-- one item more of a list
+pub item_put : {X : Type 0} (tell : X → List ℕ) (xs : List X) (i : ℕ) (x : X) (old now new : List ℕ) → i < length xs
+    → x ≡ get_or xs i x → now ≡ old ++ flat_map tell (take i xs) → new ≡ now ++ tell x
+    → new ≡ old ++ flat_map tell (take (i + 1) xs)
+item_put tell xs i x old now new below is before put =
+    let last : take (i + 1) xs ≡ take i xs ++ x ∷ [] =
+    take_more xs i x below ∙ ap (λ y. take i xs ++ y ∷ []) (sym is) in
+    put ∙ ap (λ b. b ++ tell x) before ∙ append_assoc old (flat_map tell (take i xs)) (tell x)
+    ∙ ap (λ b. old ++ b)
+    (ap (λ b. flat_map tell (take i xs) ++ b) (sym (append-nil (tell x)))
+    ∙ sym (flat_map-append tell (take i xs) (x ∷ []))
+    ∙ ap (flat_map tell) (sym last))
 
--- what is put of a value, with its shortest encoding, is an answer
-pub told : {V T E : Type 0} (Grammar : V → List ℕ → Type 0) (tell : V → List ℕ → List ℕ) (v : V)
-    (encoding again old new : List ℕ) (r : Result T E)
-    → Means Grammar encoding v → IsShortest Grammar v again → OnOk r (new ≡ old ++ tell v again)
-    → OnOk r ((answer : List ℕ) × Tells Grammar tell encoding answer × (new ≡ old ++ answer))
-told Grammar tell v encoding again old new r means shortest put =
-    on_ok_weaker r (λ p. (tell v again, inr (v, means, (again, shortest, refl)), p)) put
+-- what is put of a value, with its only encoding, is an answer
+pub told : {V T E : Type 0} (Encoding : V → List ℕ → Type 0) (tell : V → List ℕ → List ℕ) → AtMostOne Encoding → (v : V)
+    (encoding old new : List ℕ) (r : Result T E) → Encoding v encoding → OnOk r (new ≡ old ++ tell v encoding)
+    → OnOk r ((answer : List ℕ) × Tells Encoding tell encoding answer × (new ≡ old ++ answer))
+told Encoding tell one v encoding old new r is put =
+    let shortest : statement.IsShortest Encoding v encoding = (is, λ other p. inl (one v other encoding p is)) in
+    on_ok_weaker r (λ p. (tell v encoding, inr (v, is, (encoding, shortest, refl)), p)) put
 
 -- what is put of parameters, with how many of their fields have their defaults and with their shortest encoding, is an
 -- answer
@@ -42,3 +59,14 @@ pub parameters_told : {V T E : Type 0} (Grammar : V → List ℕ → Type 0) (fi
     → OnOk r ((answer : List ℕ) × TellsParameters Grammar fields tell encoding answer × (new ≡ old ++ answer))
 parameters_told Grammar fields tell v k encoding again old new r means defaults shortest put =
     on_ok_weaker r (λ p. (tell v k again, inr (v, means, (k, defaults, again, shortest, refl)), p)) put
+
+-- keys have one encoding each
+pub public_one : AtMostOne PublicKeyEncoding
+public_one v a b p q = p.1 ∙ sym q.1
+
+pub private_one : AtMostOne PrivateKeyEncoding
+private_one v a b p q = p.2 ∙ sym q.2
+
+-- the octets of a number
+pub octets_held : (u : UintRef) → bytes_of u ≡ octets (number_in bytes_of u)
+octets_held u = sym (number_octets (bytes_of u) (holds_canonical (bytes_of u) u.canonical))

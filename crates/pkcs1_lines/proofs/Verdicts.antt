@@ -1,9 +1,10 @@
 -- Whether something is so.
-use Rattle.std.proofs.Common.{◌≡◌, ℕ, inl, inr, List, ◌++◌, Bool, true, false, refl, subst}
+use Rattle.std.proofs.Common.{◌≡◌, ℕ, inl, inr, List, ◌++◌, ◌≤◌, length, Bool, true, false, refl, subst, ap, arith}
 use Rattle.std.specs.Prelude.{Result, Ok, Err, IfOk, OnErr, OnOk, ◌↔◌, codes, if◌then◌else◌, IsTrue}
 use Rattle.std.specs.Result.{is_ok}
 use Rattle.std.proofs.lemmas.Result.{on_ok_weaker}
-use Rattle.der_core.specs.Document.{Means, IsShortest, MeanTheSame}
+use Rattle.der_core.specs.Document.{EncodeError, Means, IsShortest, MeanTheSame, WhyNotWritten, another, no_encoding}
+use Rattle.der_core.specs.Document.{no_room, too_long}
 use Rattle.der_core.specs.Laws.Shortest.{means_one}
 use Rattle.der_core.proofs.Shortest.{same_by_shortest}
 use Rattle.der_core.specs.Encodings.{IsDelimited}
@@ -54,3 +55,14 @@ pub strict_is_ok : {X V E : Type 0} (value : X → V) (Grammar : V → List ℕ 
     → IsTrue (is_ok r) ↔ ((v : V) × IsShortest Grammar v bytes)
 strict_is_ok value Grammar bytes (Ok x) ok err = (λ so. (value x, ok.0), λ shortest. refl)
 strict_is_ok value Grammar bytes (Err e) ok err = (λ so. cc, λ shortest. absurd (err shortest.0 shortest.1))
+
+-- A value with an encoding that fits is written.
+pub is_written : {V : Type 0} (Has : Type 0) (Grammar : V → List ℕ → Type 0) (v : V) (room : ℕ) (encoding : List ℕ)
+    (why : EncodeError) → Means Grammar encoding v → length encoding ≤ room → WhyNotWritten Has Grammar v room why → ⊥
+is_written Has Grammar v room encoding no_encoding means fits none = none encoding means.1
+is_written Has Grammar v room encoding too_long means fits none = none.1 encoding means
+is_written Has Grammar v room encoding no_room means fits (shortest, is, less) = elim (is.least encoding means) [
+  | inl same ↦ omega (arith, less, fits, ap length same)
+  | inr longer ↦ omega (arith, less, fits, longer)
+]
+is_written Has Grammar v room encoding another means fits none = none

@@ -1,14 +1,14 @@
 -- The output for a line, and for an input.
-use Rattle.std.specs.Prelude.{◌≡◌, ℕ, ◌^◌, ◌⊎◌, List, [], ◌∷◌, ◌++◌, codes}
+use Rattle.std.specs.Prelude.{◌≡◌, ℕ, ◌^◌, ◌⊎◌, List, [], ◌∷◌, ◌++◌, None, codes}
 use Rattle.der_core.specs.Document.{Means, IsShortest, MeanTheSame}
 use Rattle.spki_core.specs.Explicit.{Field, HaveDefaults}
-use Rattle.pkcs1.specs.KeyEncodings.{IsSentence}
-use Rattle.pkcs1.specs.Keys.{RsaPublicKey, PrivateKey, RsaPrivateKey}
-use Rattle.pkcs1_params.specs.Meanings.{IsNoSentence}
+use Rattle.pkcs1.specs.KeyEncodings.{IsEncoded}
 use Rattle.pkcs1_params.specs.Parameters.{RsaPssParams, pss_fields, RsaOaepParams, oaep_fields}
 use Rattle.pkcs1_params.specs.Spellings.{AllFit, AreUnder}
-use Rattle.pkcs8_core.specs.Container.{Info, PrivateKeyInfo}
-use Rattle.pkcs8_core.specs.Rsa.{HoldsRsa}
+use Rattle.pkcs8_core.specs.Rsa.{ContainedKey}
+use Rattle.standard.specs.Statement as statement
+use Rattle.standard.specs.Statement.{Container, ContainerEncoding, Decodes, PrivateKey, PrivateKeyEncoding}
+use Rattle.standard.specs.Statement.{PublicKeyEncoding}
 use Rattle.pkcs1_lines.specs.Lines.{lines_of}
 use Rattle.pkcs1_lines.specs.declared.request.Word.{Word}
 use Rattle.pkcs1_lines.specs.declared.request.Word.TheVariants as word
@@ -19,21 +19,25 @@ use Rattle.pkcs1_lines.specs.Told.{pub_answer, priv_answer, p8_answer, pss_answe
 
 -- If no value has the encoding, the output is `refused`; else it is what `Told` says of the value.
 abbrev pub Answered : {V : Type 0} → (V → List ℕ → Type 0) → (V → List ℕ → Type 0) → List ℕ → List ℕ → Type 0
-Answered {V} Grammar Told encoding answer =
-    (IsNoSentence Grammar encoding × (answer ≡ codes "refused"))
-    ⊎ ((value : V) × Means Grammar encoding value × Told value answer)
+Answered {V} Encoding Told encoding answer =
+    (Decodes Encoding encoding None × (answer ≡ codes "refused"))
+    ⊎ ((value : V) × Encoding value encoding × Told value answer)
+
+-- The encodings of a grammar within the limit.
+abbrev pub Within : {V : Type 0} → (V → List ℕ → Type 0) → V → List ℕ → Type 0
+Within Grammar value encoding = Means Grammar encoding value
 
 -- the value and its shortest encoding
 abbrev pub Tells : {V : Type 0} → (V → List ℕ → Type 0) → (V → List ℕ → List ℕ) → List ℕ → List ℕ → Type 0
-Tells Grammar told encoding answer =
-    Answered Grammar (λ value a. (again : List ℕ) × IsShortest Grammar value again × (a ≡ told value again)) encoding
-    answer
+Tells Encoding told encoding answer =
+    Answered Encoding (λ value a. (again : List ℕ) × statement.IsShortest Encoding value again × (a ≡ told value again))
+    encoding answer
 
 -- the value, how many of its fields equal their defaults, and its shortest encoding
 abbrev pub TellsParameters : {V : Type 0} → (V → List ℕ → Type 0) → (V → List Field) → (V → ℕ → List ℕ → List ℕ)
     → List ℕ → List ℕ → Type 0
 TellsParameters Grammar fields told encoding answer =
-    Answered Grammar (λ value a. (k : ℕ) × HaveDefaults (fields value) k × (again : List ℕ)
+    Answered (Within Grammar) (λ value a. (k : ℕ) × HaveDefaults (fields value) k × (again : List ℕ)
     × IsShortest Grammar value again × (a ≡ told value k again)) encoding answer
 
 -- the word and ` yes` if the fact holds, else the word and ` no`
@@ -43,39 +47,40 @@ SaysWhether word fact answer = (fact × (answer ≡ word ++ codes " yes")) ⊎ (
 -- whether the encoding is the shortest of its value
 abbrev pub TellsStrict : {V : Type 0} → List ℕ → (V → List ℕ → Type 0) → List ℕ → List ℕ → Type 0
 TellsStrict word Grammar encoding answer =
-    Answered Grammar (λ value a. SaysWhether word (IsShortest Grammar value encoding) a) encoding answer
+    Answered (Within Grammar) (λ value a. SaysWhether word (IsShortest Grammar value encoding) a) encoding answer
 
 -- If no value has the encoding, or its value has an encoding longer than the limit, the output is `refused`; else it
 -- lists the encodings of the value, ordered by mask.
 abbrev pub TellsSpellings : {V : Type 0} → List ℕ → (V → List ℕ → Type 0) → (V → List Field) → List ℕ → List ℕ → Type 0
 TellsSpellings word Grammar fields encoding answer =
-    Answered (λ value t. Grammar value t × AllFit (fields value))
+    Answered (Within (λ value t. Grammar value t × AllFit (fields value)))
     (λ value a. (k : ℕ) × HaveDefaults (fields value) k × (encodings : List (List ℕ))
     × AreUnder (fields value) (2 ^ k) encodings × (a ≡ spell_answer word encodings)) encoding answer
 
 -- If one of the two is no encoding of any value, the output is `refused`; else it says whether one value has both.
 abbrev pub TellsSame : {V : Type 0} → List ℕ → (V → List ℕ → Type 0) → List ℕ → List ℕ → List ℕ → Type 0
 TellsSame word Grammar a b answer =
-    ((IsNoSentence Grammar a ⊎ IsNoSentence Grammar b) × (answer ≡ codes "refused"))
-    ⊎ (IsSentence Grammar a × IsSentence Grammar b × SaysWhether word (MeanTheSame Grammar a b) answer)
+    ((Decodes (Within Grammar) a None ⊎ Decodes (Within Grammar) b None) × (answer ≡ codes "refused"))
+    ⊎ (IsEncoded (Within Grammar) a × IsEncoded (Within Grammar) b × SaysWhether word (MeanTheSame Grammar a b) answer)
 
 -- a PKCS #8 container, with the RSA key that it holds
 pub record RsaContainer : Type 0 where
-  pub info : Info
-  pub key : PrivateKey (List ℕ)
+  pub info : Container
+  pub key : PrivateKey
 
-abbrev pub RsaPrivateKeyInfo : RsaContainer → List ℕ → Type 0
-RsaPrivateKeyInfo held encoding = PrivateKeyInfo held.info encoding × HoldsRsa held.info held.key
+abbrev pub RsaContainerEncoding : RsaContainer → List ℕ → Type 0
+RsaContainerEncoding held encoding =
+    ContainerEncoding held.info encoding × ContainedKey held.info held.key held.info.private_key
 
 -- the RSA key in the container, the container's attributes, and its encoding
 abbrev pub TellsContainer : List ℕ → List ℕ → Type 0
 TellsContainer encoding answer =
-    Answered RsaPrivateKeyInfo (λ held a. a ≡ p8_answer held.key held.info.attributes encoding) encoding answer
+    Answered RsaContainerEncoding (λ held a. a ≡ p8_answer held.key held.info.attributes encoding) encoding answer
 
 -- the output for a word with one encoding
 abbrev pub WordAnswer : Word → List ℕ → List ℕ → Type 0
-WordAnswer word.Pub encoding answer = Tells RsaPublicKey pub_answer encoding answer
-WordAnswer word.Priv encoding answer = Tells RsaPrivateKey priv_answer encoding answer
+WordAnswer word.Pub encoding answer = Tells PublicKeyEncoding pub_answer encoding answer
+WordAnswer word.Priv encoding answer = Tells PrivateKeyEncoding priv_answer encoding answer
 WordAnswer word.Pss encoding answer = TellsParameters RsaPssParams pss_fields pss_answer encoding answer
 WordAnswer word.Oaep encoding answer = TellsParameters RsaOaepParams oaep_fields oaep_answer encoding answer
 WordAnswer word.P8 encoding answer = TellsContainer encoding answer

@@ -5,4 +5,5 @@ pub mod MemoryErrors
 pub mod Told
 pub mod Answer
 pub mod Put
+pub mod Laws
 pub mod Words

@@ -5,31 +5,31 @@ use Rattle.std.specs.Fmt.{decimal}
 use Rattle.hex.specs.Hex.{encode_lower}
 use Rattle.spki_core.specs.Any.{TagAndContents}
 use Rattle.spki_core.specs.AlgorithmIdentifier.{Algorithm}
-use Rattle.pkcs1.specs.Keys.{PublicKey, OtherPrime, PrivateKey}
-use Rattle.pkcs1_params.specs.Parameters.{PssParameters, OaepParameters}
+use Rattle.standard.specs.Statement.{OaepParameters, OtherPrime, PrivateKey, PssParameters, PublicKey, octets}
 
 -- a label, and bytes in hexadecimal digits
 abbrev pub field : List ℕ → List ℕ → List ℕ
 field label bytes = label ++ encode_lower bytes
 
-abbrev pub fields : List (List ℕ × List ℕ) → List ℕ
-fields told = flat_map (λ f. field f.0 f.1) told
+-- a label, and the octets of a number in hexadecimal digits
+abbrev pub numbers : List (List ℕ × ℕ) → List ℕ
+numbers told = flat_map (λ n. field n.0 (octets n.1)) told
 
 -- `pub n=N e=E again=HEX`
-abbrev pub pub_answer : PublicKey (List ℕ) → List ℕ → List ℕ
+abbrev pub pub_answer : PublicKey → List ℕ → List ℕ
 pub_answer key again =
-    codes "pub" ++ (fields ((codes " n=", key.modulus) ∷ (codes " e=", key.public_exponent) ∷ [])
+    codes "pub" ++ (numbers ((codes " n=", key.modulus) ∷ (codes " e=", key.public_exponent) ∷ [])
     ++ field (codes " again=") again)
 
 -- the version is 1 if there are other primes
-abbrev pub version_told : Option (List (OtherPrime (List ℕ))) → List ℕ
+abbrev pub version_told : Option (List OtherPrime) → List ℕ
 version_told None = codes " version=0"
 version_told (Some others) = codes " version=1"
 
 -- ` n=N e=E d=D p=P q=Q dp=DP dq=DQ qi=QI`
-abbrev pub numbers_told : PrivateKey (List ℕ) → List ℕ
+abbrev pub numbers_told : PrivateKey → List ℕ
 numbers_told key =
-    fields
+    numbers
     ((codes " n=", key.modulus)
     ∷ (codes " e=", key.public_exponent)
     ∷ (codes " d=", key.private_exponent)
@@ -41,21 +41,21 @@ numbers_told key =
     ∷ [])
 
 -- ` other=R,D,T`
-abbrev pub other_told : OtherPrime (List ℕ) → List ℕ
+abbrev pub other_told : OtherPrime → List ℕ
 other_told other =
-    fields ((codes " other=", other.prime) ∷ (codes ",", other.exponent) ∷ (codes ",", other.coefficient) ∷ [])
+    numbers ((codes " other=", other.prime) ∷ (codes ",", other.exponent) ∷ (codes ",", other.coefficient) ∷ [])
 
 -- each other prime, in order
-abbrev pub others_told : Option (List (OtherPrime (List ℕ))) → List ℕ
+abbrev pub others_told : Option (List OtherPrime) → List ℕ
 others_told None = []
 others_told (Some others) = flat_map other_told others
 
 -- ` version=V n=N e=E d=D p=P q=Q dp=DP dq=DQ qi=QI`, and ` other=R,D,T` for each other prime
-abbrev pub key_told : PrivateKey (List ℕ) → List ℕ
-key_told key = version_told key.other_prime_infos ++ (numbers_told key ++ others_told key.other_prime_infos)
+abbrev pub key_told : PrivateKey → List ℕ
+key_told key = version_told key.other_primes ++ (numbers_told key ++ others_told key.other_primes)
 
 -- `priv version=V n=N e=E d=D p=P q=Q dp=DP dq=DQ qi=QI`, ` other=R,D,T` for each other prime, and ` again=HEX`
-abbrev pub priv_answer : PrivateKey (List ℕ) → List ℕ → List ℕ
+abbrev pub priv_answer : PrivateKey → List ℕ → List ℕ
 priv_answer key again = codes "priv" ++ (key_told key ++ field (codes " again=") again)
 
 -- ` attributes=-`, or ` attributes=` and their contents
@@ -64,7 +64,7 @@ attributes_told None = codes " attributes=-"
 attributes_told (Some contents) = field (codes " attributes=") contents
 
 -- as `priv`, with the word `p8`, and with the attributes before ` again=HEX`
-abbrev pub p8_answer : PrivateKey (List ℕ) → Option (List ℕ) → List ℕ → List ℕ
+abbrev pub p8_answer : PrivateKey → Option (List ℕ) → List ℕ → List ℕ
 p8_answer key attributes again =
     codes "p8" ++ (key_told key ++ (attributes_told attributes ++ field (codes " again=") again))
 

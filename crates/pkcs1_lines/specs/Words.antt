@@ -1,5 +1,6 @@
 -- The words that contracts cite, from all files of specs.
-pub use Rattle.pkcs1_lines.specs.Answer.{Answer, Output, Outputs, PairAnswer, RsaPrivateKeyInfo, Tells, TellsContainer}
+pub use Rattle.pkcs1_lines.specs.Answer.{Answer, Output, Outputs, PairAnswer, RsaContainerEncoding, Tells}
+pub use Rattle.pkcs1_lines.specs.Answer.{TellsContainer}
 pub use Rattle.pkcs1_lines.specs.Answer.{TellsParameters, TellsSame, TellsSpellings, TellsStrict, WordAnswer}
 pub use Rattle.pkcs1_lines.specs.Lines.{lines_of, parts_of}
 pub use Rattle.pkcs1_lines.specs.MemoryErrors.{IsMemoryError}
@@ -10,3 +11,5 @@ pub use Rattle.pkcs1_lines.specs.Told.{any_told, attributes_told, bracketed, fie
 pub use Rattle.pkcs1_lines.specs.Told.{key_told, mask_told, number_field, numbers_told, oaep_answer, other_told}
 pub use Rattle.pkcs1_lines.specs.Told.{others_told, p8_answer, plain_told, priv_answer, pss_answer, pub_answer}
 pub use Rattle.pkcs1_lines.specs.Told.{spell_answer, spelling_told, version_told}
+pub use Rattle.pkcs1_lines.specs.Laws.Parameters.{oaep_as_printed, oaep_shortest_as_printed, pss_as_printed}
+pub use Rattle.pkcs1_lines.specs.Laws.Parameters.{pss_shortest_as_printed}

@@ -1,11 +1,11 @@
 //! The output for keys.
-ghost use Rattle.std.specs.Prelude.{◌≡◌, ℕ, List, ◌++◌, OnOk, IfSome, IfNone};
+ghost use Rattle.std.specs.Prelude.{◌≡◌, ◌++◌, OnOk, IfSome, IfNone, None};
 ghost use Rattle.std.specs.List.{flat_map};
-ghost use Rattle.der_core.specs.Words.{Means, bytes_of};
-ghost use Rattle.pkcs1.specs.Words.{RsaPublicKey, RsaPrivateKey, public_key_of, other_of, view_of, viewed_encoding};
+ghost use Rattle.der_core.specs.Words.{bytes_of};
+ghost use Rattle.pkcs1.specs.Words.{held_other_prime, held_public_key, held_view, number_in, viewed_encoding};
 ghost use Rattle.pkcs8_core.specs.Words.{info_of};
-ghost use Rattle.pkcs1_params.specs.Words.{IsNoSentence};
-ghost use Rattle.pkcs1_lines.specs.Words.{Tells, RsaPrivateKeyInfo, TellsContainer, Puts, field, pub_answer};
+ghost use Rattle.standard.specs.Statement.{Decodes, PrivateKeyEncoding, PublicKeyEncoding, octets};
+ghost use Rattle.pkcs1_lines.specs.Words.{Tells, RsaContainerEncoding, TellsContainer, Puts, field, pub_answer};
 ghost use Rattle.pkcs1_lines.specs.Words.{version_told, numbers_told, other_told, others_told, key_told, priv_answer};
 ghost use Rattle.pkcs1_lines.specs.Words.{attributes_told, p8_answer};
 
@@ -17,7 +17,8 @@ use std::alloc::AllocError;
 
 /// Appends each label and its number to `out`.
 fn put_numbers(numbers: &[(&[u8], UintRef<'_>)], out: &mut Vec<u8>) -> Result<(), AllocError>
-    ensures { OnOk result (out.new.items ≡ out.old.items ++ flat_map (λ n. field n.0.now (bytes_of n.1)) numbers.now) }
+    ensures { let told = flat_map (λ n. field n.0.now (octets (number_in bytes_of n.1))) numbers.now in
+        OnOk result (out.new.items ≡ out.old.items ++ told) }
 {
     for (label, number) in numbers {
         put_field(label, number.as_bytes(), out)?;
@@ -27,7 +28,7 @@ fn put_numbers(numbers: &[(&[u8], UintRef<'_>)], out: &mut Vec<u8>) -> Result<()
 
 /// Appends the output for a public key to `out`; `again` is its encoding.
 fn put_pub(key: &RsaPublicKeyRef<'_>, again: &[u8], out: &mut Vec<u8>) -> Result<(), AllocError>
-    ensures { OnOk result (out.new.items ≡ out.old.items ++ pub_answer (public_key_of key.now) again.now) }
+    ensures { OnOk result (out.new.items ≡ out.old.items ++ pub_answer (held_public_key bytes_of key.now) again.now) }
 {
     out.extend_from_slice(b"pub")?;
     put_numbers(&[(b" n=", key.modulus), (b" e=", key.public_exponent)], out)?;
@@ -37,7 +38,7 @@ fn put_pub(key: &RsaPublicKeyRef<'_>, again: &[u8], out: &mut Vec<u8>) -> Result
 /// Appends the output for `pub` to `out`. `again=` gets the input, since a key has only one encoding. Only `out`
 /// allocates.
 pub fn answer_pub(encoding: &[u8], out: &mut Vec<u8>) -> Result<(), AllocError>
-    ensures { OnOk result (Puts (Tells RsaPublicKey pub_answer encoding.now) out.old.items out.new.items) }
+    ensures { OnOk result (Puts (Tells PublicKeyEncoding pub_answer encoding.now) out.old.items out.new.items) }
 {
     match RsaPublicKeyRef::try_from(encoding) {
         Ok(key) => put_pub(&key, encoding, out),
@@ -47,7 +48,7 @@ pub fn answer_pub(encoding: &[u8], out: &mut Vec<u8>) -> Result<(), AllocError>
 
 /// Appends the version of a private key to `out`.
 fn put_version(key: &RsaPrivateKeyView<'_>, out: &mut Vec<u8>) -> Result<(), AllocError>
-    ensures { OnOk result (out.new.items ≡ out.old.items ++ version_told (view_of key.now).other_prime_infos) }
+    ensures { OnOk result (out.new.items ≡ out.old.items ++ version_told (held_view key.now).other_primes) }
 {
     match key.version() {
         Version::TwoPrime => out.extend_from_slice(b" version=0"),
@@ -57,7 +58,7 @@ fn put_version(key: &RsaPrivateKeyView<'_>, out: &mut Vec<u8>) -> Result<(), All
 
 /// Appends the eight numbers of a private key to `out`.
 fn put_private_numbers(key: &RsaPrivateKeyView<'_>, out: &mut Vec<u8>) -> Result<(), AllocError>
-    ensures { OnOk result (out.new.items ≡ out.old.items ++ numbers_told (view_of key.now)) }
+    ensures { OnOk result (out.new.items ≡ out.old.items ++ numbers_told (held_view key.now)) }
 {
     put_numbers(
         &[
@@ -76,7 +77,7 @@ fn put_private_numbers(key: &RsaPrivateKeyView<'_>, out: &mut Vec<u8>) -> Result
 
 /// Appends one of the other primes to `out`.
 fn put_other(other: &OtherPrimeInfo<UintRef<'_>>, out: &mut Vec<u8>) -> Result<(), AllocError>
-    ensures { OnOk result (out.new.items ≡ out.old.items ++ other_told (other_of bytes_of other.now)) }
+    ensures { OnOk result (out.new.items ≡ out.old.items ++ other_told (held_other_prime bytes_of other.now)) }
 {
     put_numbers(
         &[
@@ -90,7 +91,7 @@ fn put_other(other: &OtherPrimeInfo<UintRef<'_>>, out: &mut Vec<u8>) -> Result<(
 
 /// Appends the other primes of a private key to `out`, in order.
 fn put_others(key: &RsaPrivateKeyView<'_>, out: &mut Vec<u8>) -> Result<(), AllocError>
-    ensures { OnOk result (out.new.items ≡ out.old.items ++ others_told (view_of key.now).other_prime_infos) }
+    ensures { OnOk result (out.new.items ≡ out.old.items ++ others_told (held_view key.now).other_primes) }
 {
     for other in key.other_primes() {
         put_other(&other, out)?;
@@ -100,7 +101,7 @@ fn put_others(key: &RsaPrivateKeyView<'_>, out: &mut Vec<u8>) -> Result<(), Allo
 
 /// Appends the version, the numbers and the other primes of a private key to `out`.
 fn put_key(key: &RsaPrivateKeyView<'_>, out: &mut Vec<u8>) -> Result<(), AllocError>
-    ensures { OnOk result (out.new.items ≡ out.old.items ++ key_told (view_of key.now)) }
+    ensures { OnOk result (out.new.items ≡ out.old.items ++ key_told (held_view key.now)) }
 {
     put_version(key, out)?;
     put_private_numbers(key, out)?;
@@ -109,7 +110,7 @@ fn put_key(key: &RsaPrivateKeyView<'_>, out: &mut Vec<u8>) -> Result<(), AllocEr
 
 /// Appends the output for a private key to `out`.
 fn put_priv(key: &RsaPrivateKeyView<'_>, out: &mut Vec<u8>) -> Result<(), AllocError>
-    ensures { OnOk result (out.new.items ≡ out.old.items ++ priv_answer (view_of key.now) (viewed_encoding key.now)) }
+    ensures { OnOk result (out.new.items ≡ out.old.items ++ priv_answer (held_view key.now) (viewed_encoding key.now)) }
 {
     out.extend_from_slice(b"priv")?;
     put_key(key, out)?;
@@ -118,7 +119,7 @@ fn put_priv(key: &RsaPrivateKeyView<'_>, out: &mut Vec<u8>) -> Result<(), AllocE
 
 /// Appends the output for `priv` to `out`. Only `out` allocates.
 pub fn answer_priv(encoding: &[u8], out: &mut Vec<u8>) -> Result<(), AllocError>
-    ensures { OnOk result (Puts (Tells RsaPrivateKey priv_answer encoding.now) out.old.items out.new.items) }
+    ensures { OnOk result (Puts (Tells PrivateKeyEncoding priv_answer encoding.now) out.old.items out.new.items) }
 {
     match RsaPrivateKeyView::try_from(encoding) {
         Ok(key) => put_priv(&key, out),
@@ -129,8 +130,8 @@ pub fn answer_priv(encoding: &[u8], out: &mut Vec<u8>) -> Result<(), AllocError>
 /// Decodes a container and the RSA key in it, or returns `None`.
 fn read_container<'a>(encoding: &'a [u8]) -> Option<(PrivateKeyInfoRef<'a>, RsaPrivateKeyView<'a>)>
     ensures some { IfSome result (λ p.
-        Means RsaPrivateKeyInfo encoding.now (record { info = info_of p.0; key = view_of p.1 })) }
-    ensures none { IfNone result (IsNoSentence RsaPrivateKeyInfo encoding.now) }
+        RsaContainerEncoding (record { info = info_of p.0; key = held_view p.1 }) encoding.now) }
+    ensures none { IfNone result (Decodes RsaContainerEncoding encoding.now None) }
 {
     let Ok(info) = PrivateKeyInfoRef::try_from(encoding) else {
         return None;
@@ -158,7 +159,7 @@ fn put_p8(
     encoding: &[u8],
     out: &mut Vec<u8>,
 ) -> Result<(), AllocError>
-    ensures { let told = p8_answer (view_of key.now) (info_of info.now).attributes encoding.now in
+    ensures { let told = p8_answer (held_view key.now) (info_of info.now).attributes encoding.now in
         OnOk result (out.new.items ≡ out.old.items ++ told) }
 {
     out.extend_from_slice(b"p8")?;

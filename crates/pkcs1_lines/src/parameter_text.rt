@@ -1,12 +1,14 @@
 //! Parameters, and the output for them.
 ghost use Rattle.std.specs.Prelude.{◌≡◌, ℕ, List, ◌++◌, ◌↔◌, IsTrue, OnOk, IfOk, IfSome, IfNone, IsErrAnd};
-ghost use Rattle.der_core.specs.Words.{Means, IsShortest, IsDelimited};
+ghost use Rattle.der_core.specs.Words.{Means, IsShortest, IsDelimited, Prints};
 ghost use Rattle.spki_core.specs.Words.{any_of, algorithm_of, mask_of, Field, HaveDefaults, own_octets_of};
 ghost use Rattle.pkcs1_params.specs.Words.{PssParameters, RsaPssParams, pss_fields, OaepParameters, RsaOaepParams};
 ghost use Rattle.pkcs1_params.specs.Words.{oaep_fields, pss_defaults, oaep_defaults, pss_delimited, oaep_delimited};
 ghost use Rattle.pkcs1_params.specs.Words.{pss_of, oaep_of, AllFit, AreAllSpellings, encodings_in, IsNoSentence};
 ghost use Rattle.pkcs1_lines.specs.Words.{IsMemoryError, any_told, identifier_told, plain_told, bracketed, mask_told};
 ghost use Rattle.pkcs1_lines.specs.Words.{hash_fields_told, spelling_told, pss_answer, oaep_answer};
+ghost use Rattle.pkcs1_lines.specs.Words.{oaep_as_printed, oaep_shortest_as_printed, pss_as_printed};
+ghost use Rattle.pkcs1_lines.specs.Words.{pss_shortest_as_printed};
 
 use crate::digits::{put_field, put_hex, put_number};
 use der_core::{Encode, ErrorKind};
@@ -62,12 +64,13 @@ pub trait Parameters<'a>: Encode + Drop + Sized {
     ghost counted: { (params : Meaning) → (k : ℕ) × HaveDefaults (fields params) k };
 
     /// An encoding of a value in `grammar` is one for `Encode`.
-    ghost means_as: { (params : Self) (encoding : List ℕ)
-        → Means grammar encoding (meaning params) → Means Self.encoding encoding (Self.value params) };
+    ghost means_as: { (params : Self) (encoding : List ℕ) → Means grammar encoding (meaning params)
+        → Means (Prints Self.valid Self.printed Self.means) encoding (Self.value params) };
 
     /// The shortest encoding of a value for `Encode` is the shortest in `grammar`.
     ghost shortest_as: { (params : Self) (encoding : List ℕ)
-        → IsShortest Self.encoding (Self.value params) encoding → IsShortest grammar (meaning params) encoding };
+        → IsShortest (Prints Self.valid Self.printed Self.means) (Self.value params) encoding
+        → IsShortest grammar (meaning params) encoding };
 }
 
 /// Whether the error is out of memory.
@@ -242,9 +245,9 @@ impl<'a> Parameters<'a> for RsaPssParamsRef<'a> {
 
     ghost counted = { pss_defaults };
 
-    ghost means_as = { λ params encoding means. means };
+    ghost means_as = { λ params. pss_as_printed (pss_of params) };
 
-    ghost shortest_as = { λ params encoding shortest. shortest };
+    ghost shortest_as = { λ params. pss_shortest_as_printed (pss_of params) };
 }
 
 impl<'a> Parameters<'a> for RsaOaepParamsRef<'a> {
@@ -282,7 +285,7 @@ impl<'a> Parameters<'a> for RsaOaepParamsRef<'a> {
 
     ghost counted = { oaep_defaults };
 
-    ghost means_as = { λ params encoding means. means };
+    ghost means_as = { λ params. oaep_as_printed (oaep_of params) };
 
-    ghost shortest_as = { λ params encoding shortest. shortest };
+    ghost shortest_as = { λ params. oaep_shortest_as_printed (oaep_of params) };
 }

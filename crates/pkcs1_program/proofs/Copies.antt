@@ -1,17 +1,18 @@
 -- Copying a key stops.
 use Rattle.std.proofs.Common.{◌≡◌, ◌⊎◌, ℕ, List, inl, inr, refl, sym, Option, Some}
-use Rattle.std.specs.Prelude.{Result, Ok, Err, IfErr, IfOk}
+use Rattle.std.specs.Prelude.{Result, Ok, Err, IfErr}
 use Rattle.std.proofs.lemmas.Option.{none-some, same_Some}
 use Rattle.std.proofs.lemmas.Result.{IfErr-weaker}
 use Rattle.der_core.specs.declared.error.Error as der
 use Rattle.der_core.specs.declared.error.ErrorKind.{ErrorKind}
+use Rattle.der_core.specs.Printed.{ok_of}
 use Rattle.der_core.specs.Readings.{Reading}
 use Rattle.der_core.specs.SourcesSinks.{GivesAll}
-use Rattle.pkcs1.specs.KeyEncodings.{IsSentence}
+use Rattle.pkcs1.specs.KeyEncodings.{IsEncoded}
 use Rattle.pkcs1_params.specs.declared.error.Error.{Error}
 use Rattle.pkcs1_params.specs.declared.error.Error.TheVariants as error
 use Rattle.pkcs1_params.specs.Errors.{IsAsn1}
-use Rattle.pkcs1_params.specs.Meanings.{IsTheMeaning}
+use Rattle.standard.specs.Statement.{Decodes}
 use Rattle.pkcs1_program.specs.Copied.{WhyKeyNotRead, WhyKeyNotWritten, WhyNotCopied}
 
 -- What is said of an error of the library below says more.
@@ -22,11 +23,11 @@ asn1_by P Q f error.KeyMalformed h = absurd h
 asn1_by P Q f error.Version h = absurd h
 
 -- What came was read as a key, so it is one.
-pub some_key : {X V : Type 0} (Grammar : V → List ℕ → Type 0) (value : X → V) {bytes encoding : List ℕ}
-    → bytes ≡ encoding → (r : Result X Error) → IfOk r (λ x. IsTheMeaning Grammar bytes (value x))
-    → ((e : Error) → r ≡ Err e → ⊥) → IsSentence Grammar encoding
-some_key Grammar value same (Ok x) told no_error = (value x, rw same at told.0)
-some_key Grammar value same (Err e) told no_error = absurd (no_error e refl)
+pub some_key : {X V : Type 0} (Encoding : V → List ℕ → Type 0) (value : X → V) {bytes encoding : List ℕ}
+    → bytes ≡ encoding → (r : Result X Error) → Decodes Encoding bytes (ok_of value r)
+    → ((e : Error) → r ≡ Err e → ⊥) → IsEncoded Encoding encoding
+some_key Encoding value same (Ok x) told no_error = (value x, rw same at told.0)
+some_key Encoding value same (Err e) told no_error = absurd (no_error e refl)
 
 -- What came is rejected as a key.
 pub no_key : {V : Type 0} (read : Reading V) (e : Error) (encoding : List ℕ)
@@ -37,24 +38,24 @@ no_key read e encoding before after failures failures2 same gives fault =
     asn1_by _ _ (λ a f. inr (same, encoding, gives, f)) e fault
 
 -- Why a key isn't copied from an opened file to a place is why the file isn't copied.
-stopped : {V F Place : Type 0} (Grammar : V → List ℕ → Type 0) (read : Reading V)
+stopped : {V F Place : Type 0} (Encoding : V → List ℕ → Type 0) (read : Reading V)
     (Opens : Option F → Type 0) (remaining : F → Option (List ℕ)) (failures : F → ℕ) (source source2 : F)
     (At : Place → List ℕ → Type 0) (Refuses : List ℕ → Type 0) (place : Place) (Unused : Type 0) (e : ErrorKind)
     → Opens (Some source) → ((bytes : List ℕ) → At place bytes → Refuses bytes)
     → (WhyKeyNotRead read e (remaining source) (remaining source2) (failures source) (failures source2) × Unused)
-    ⊎ WhyKeyNotWritten Grammar e (remaining source) (remaining source2) (failures source) (failures source2) At
+    ⊎ WhyKeyNotWritten Encoding e (remaining source) (remaining source2) (failures source) (failures source2) At
     (Some place)
-    → WhyNotCopied Grammar read e Opens remaining failures Refuses
-stopped Grammar read Opens remaining failures source source2 At Refuses place Unused e opens refuses
+    → WhyNotCopied Encoding read e Opens remaining failures Refuses
+stopped Encoding read Opens remaining failures source source2 At Refuses place Unused e opens refuses
     (inl (inl document, _)) =
     inl (inr (source, source2, opens, document))
-stopped Grammar read Opens remaining failures source source2 At Refuses place Unused e opens refuses
+stopped Encoding read Opens remaining failures source source2 At Refuses place Unused e opens refuses
     (inl (inr (_, encoding, gives, fault), _)) =
     inr (inl (encoding, (source, source2, opens, gives), fault))
-stopped Grammar read Opens remaining failures source source2 At Refuses place Unused e opens refuses
+stopped Encoding read Opens remaining failures source source2 At Refuses place Unused e opens refuses
     (inr (file, _, encoding, gives, is, inl none)) =
     absurd (none-some place (sym none))
-stopped Grammar read Opens remaining failures source source2 At Refuses place Unused e opens refuses
+stopped Encoding read Opens remaining failures source source2 At Refuses place Unused e opens refuses
     (inr (file, _, encoding, gives, is, inr (other, same, refused))) =
     inr (inr (
       file,
@@ -66,16 +67,16 @@ stopped Grammar read Opens remaining failures source source2 At Refuses place Un
       ),
     ))
 
-pub not_copied : {X V F Place : Type 0} (Grammar : V → List ℕ → Type 0) (read : Reading V)
+pub not_copied : {X V F Place : Type 0} (Encoding : V → List ℕ → Type 0) (read : Reading V)
     (Opens : Option F → Type 0) (remaining : F → Option (List ℕ)) (failures : F → ℕ) (source source2 : F)
     (At : Place → List ℕ → Type 0) (Refuses : List ℕ → Type 0) (place : Place) (Unused : Type 0) (r : Result X Error)
     → IfErr r (IsAsn1 (λ e.
     (WhyKeyNotRead read e.kind (remaining source) (remaining source2) (failures source) (failures source2) × Unused)
-    ⊎ WhyKeyNotWritten Grammar e.kind (remaining source) (remaining source2) (failures source) (failures source2) At
+    ⊎ WhyKeyNotWritten Encoding e.kind (remaining source) (remaining source2) (failures source) (failures source2) At
     (Some place)))
     → Opens (Some source) → ((bytes : List ℕ) → At place bytes → Refuses bytes)
-    → IfErr r (IsAsn1 (λ e. WhyNotCopied Grammar read e.kind Opens remaining failures Refuses))
-not_copied Grammar read Opens remaining failures source source2 At Refuses place Unused r h opens refuses =
+    → IfErr r (IsAsn1 (λ e. WhyNotCopied Encoding read e.kind Opens remaining failures Refuses))
+not_copied Encoding read Opens remaining failures source source2 At Refuses place Unused r h opens refuses =
     IfErr-weaker r _ _ (λ error. asn1_by _ _ (λ e.
-    stopped Grammar read Opens remaining failures source source2 At Refuses place Unused e.kind opens refuses)
+    stopped Encoding read Opens remaining failures source source2 At Refuses place Unused e.kind opens refuses)
     error) h

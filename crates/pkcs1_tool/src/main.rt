@@ -5,7 +5,7 @@
 
 ghost use Rattle.std.specs.Prelude.{◌≡◌, ℕ, List, Bool, is_ok};
 ghost use Rattle.der_core.specs.Words.{FileTakes, GivesAll};
-ghost use Rattle.pkcs1.specs.Words.{RsaPrivateKey, RsaPublicKey};
+ghost use Rattle.standard.specs.Statement.{PrivateKeyEncoding, PublicKeyEncoding};
 ghost use Rattle.pkcs1_lines.specs.Words.{lines_of};
 ghost use Rattle.pkcs1_program.specs.Words.{CopiesAt, IsDone, Writes, status_of};
 
@@ -55,8 +55,8 @@ fn carry_out<P: Eprint, F: FileSystem, R: Source, W: Sink>(
         × Writes (W.contents sink.old) (W.contents sink.new) (lines_of input) × W.is_flushed sink.new in
         let takes : List ℕ → List ℕ → Type 0 = λ path.
         FileTakes (F.creates path) F.Created.is_closed F.Created.contents F.Created.is_flushed in
-        result ≡ 0 → IsDone plan.now answered (CopiesAt RsaPublicKey F.opens F.Opened.remaining takes)
-        (CopiesAt RsaPrivateKey F.opens F.Opened.remaining takes) }
+        result ≡ 0 → IsDone plan.now answered (CopiesAt PublicKeyEncoding F.opens F.Opened.remaining takes)
+        (CopiesAt PrivateKeyEncoding F.opens F.Opened.remaining takes) }
 {
     let ok = match plan {
         Plan::Usage => reported::<(), _>(rt, Err(USAGE)),

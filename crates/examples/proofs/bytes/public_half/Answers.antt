@@ -6,7 +6,6 @@ use Rattle.der_core.specs.declared.document.DocumentOf.{DocumentOf}
 use Rattle.der_core.specs.declared.document.Open.{Open}
 use Rattle.pkcs1.specs.Held.{held_private_key, held_public_key}
 use Rattle.pkcs1.specs.KeyEncodings.{Withholds}
-use Rattle.pkcs1.specs.PrintedKeys.{public_meaning}
 use Rattle.pkcs1_params.specs.declared.error.Error.{Error}
 use Rattle.standard.specs.Statement.{Decodes, IsShortest, PrivateKey, PrivateKeyEncoding, PublicKey}
 use Rattle.standard.specs.Statement.{PublicKeyEncoding}
@@ -35,11 +34,11 @@ module _ (key : PrivateKey) (half : PublicKey) (is : half ≡ public_half_of key
 pub returns-clause-ok : goal.returns-clause-ok
 returns-clause-ok c =
     of_half (held_private_key bytes_of c.in_ok-key.key) (held_public_key bytes_of c.public_key.result)
-    (ap public_meaning c.public_key.ensures) c.args.encoding.now c.in_ok-key.ensures.ok c.to_pkcs1_der.result
+    c.public_key.ensures c.args.encoding.now c.in_ok-key.ensures.ok c.to_pkcs1_der.result
     c.to_pkcs1_der.ensures.encoding
 
 pub returns-clause-err : goal.returns-clause-err
 returns-clause-err c =
     withheld (held_private_key bytes_of c.in_ok-key.key) (held_public_key bytes_of c.public_key.result)
-    (ap public_meaning c.public_key.ensures) c.args.encoding.now c.in_ok-key.ensures.ok _ c.to_pkcs1_der.result
+    c.public_key.ensures c.args.encoding.now c.in_ok-key.ensures.ok _ c.to_pkcs1_der.result
     c.to_pkcs1_der.ensures.err

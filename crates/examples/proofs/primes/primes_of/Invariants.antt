@@ -1,15 +1,15 @@
-use Rattle.std.proofs.Common.{◌≡◌, ◌++◌, List, ℕ, map}
+use Rattle.std.proofs.Common.{◌≡◌, ◌++◌, ℕ, map}
 use Rattle.der_core.specs.UintRefValue.{bytes_of}
-use Rattle.pkcs1.specs.Keys.{OtherPrime}
-use Rattle.pkcs1.specs.OtherPrimesLeft.{others_left}
-use Rattle.pkcs1.specs.ViewParts.{view_of, listed_others}
+use Rattle.pkcs1.specs.Held.{held_other_primes, held_view, number_in}
+use Rattle.pkcs1.specs.ViewParts.{listed_others}
+use Rattle.standard.specs.Statement.{OtherPrime}
 use Rattle.examples.proofs.primes.primes_of.Given as goal
 
-abbrev prime_of : OtherPrime (List ℕ) → List ℕ
+abbrev prime_of : OtherPrime → ℕ
 prime_of other = other.prime
 
 -- What was pushed, and what is left, are the primes.
 abbrev pub invariant-loop-other : goal.invariant-loop-other
 invariant-loop-other l =
-    map bytes_of l.primes.items ++ map prime_of (others_left l.other-iterator)
-    ≡ map prime_of (listed_others (view_of l.view).other_prime_infos)
+    map (number_in bytes_of) l.primes.items ++ map prime_of (held_other_primes l.other-iterator)
+    ≡ map prime_of (listed_others (held_view l.view).other_primes)

@@ -1,3 +1,4 @@
+use Rattle.pkcs1_params.specs.Laws.Parameters.{oaep_delimited, pss_delimited}
 use Rattle.pkcs1_lines.proofs.OneAnswer.{Laws, answers_at_most_one, output_at_most_one}
 use Rattle.pkcs1_lines.proofs.laws.lemma_answers_are_one.Goals as goal
 
@@ -9,8 +10,8 @@ returns c =
     let laws : Laws = record {
       public = delimited.public;
       private = delimited.private;
-      pss = delimited.pss;
-      oaep = delimited.oaep;
+      pss = pss_delimited;
+      oaep = oaep_delimited;
       pss_counted = pss.defaults;
       oaep_counted = oaep.defaults;
       pss_masks = pss.encoding;

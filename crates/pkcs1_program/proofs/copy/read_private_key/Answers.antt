@@ -2,20 +2,16 @@ use Rattle.std.proofs.Common.{rules}
 use Rattle.std.proofs.lemmas.Result.{err_from_is_err_and}
 use Rattle.pkcs1.specs.Held.{held_view}
 use Rattle.pkcs1.specs.KeyReadings.{rsa_private_key}
-use Rattle.pkcs1.specs.Keys.{RsaPrivateKey}
-use Rattle.pkcs1.specs.ViewParts.{view_of}
-use Rattle.pkcs1.proofs.ToldKeys.{private_ok}
+use Rattle.standard.specs.Statement.{PrivateKeyEncoding}
 use Rattle.pkcs1_program.proofs.Copies.{no_key, some_key}
 use Rattle.pkcs1_program.proofs.copy.read_private_key.Goals as goal
 
 pub returns-clause-ok : goal.returns-clause-ok
-returns-clause-ok g c =
-    let bytes = c.as_bytes.result.now in
-    let key = c.try_from.result in
-    let told = private_ok view_of held_view bytes key c.try_from.ensures.read c.try_from.ensures.exact in (
-      c.in_ok-secret.ensures.0,
-      some_key RsaPrivateKey view_of c.as_bytes.ensures.encoding key told (λ e is. search rules),
-    )
+returns-clause-ok g c = (
+  c.in_ok-secret.ensures.0,
+  some_key PrivateKeyEncoding held_view c.as_bytes.ensures.encoding c.try_from.result c.try_from.ensures.read
+      (λ e is. search rules),
+)
 
 pub returns-in_err-try_from-clause-err : goal.returns-in_err-try_from-clause-err
 returns-in_err-try_from-clause-err g c =

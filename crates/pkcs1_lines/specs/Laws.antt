@@ -1,0 +1,2 @@
+-- Laws that ghost members name. Other lemmas are in proofs/.
+pub mod Parameters
