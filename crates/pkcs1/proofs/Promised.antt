@@ -1,10 +1,9 @@
 -- What is written of a value and why it isn't, in the words of `Statement.antt`; and of a value that another one stands
 -- for.
-use Rattle.std.proofs.Common.{ℕ, List, ◌++◌, ◌≡◌, ◌<◌, ◌⊎◌, length, take, drop, sym, ap, ◌∙◌, inl, inr, arith}
+use Rattle.std.proofs.Common.{ℕ, List, ◌≡◌, ◌⊎◌, take, sym, ap, ◌∙◌, inl, inr}
 use Rattle.std.specs.Prelude.{◌↔◌, Option, Some, None}
 use Rattle.der_core.specs.Document.{EncodeError, no_encoding, too_long, no_room, another, WhyNotCounted, WhyNotWritten}
 use Rattle.der_core.specs.Document as documents
-use Rattle.der_core.specs.Laws.Printed.Relations.{written_encodes}
 use Rattle.der_core.specs.Laws.Printed.Values.{written_prints}
 use Rattle.der_core.specs.Printed.{Prints, Spells, WritesShortest}
 use Rattle.der_core.specs.Writing.{IsOutOfMemory, Unwritten, WhyOctetsNotCounted, encode_error}
@@ -29,33 +28,6 @@ module _ {S V : Type 0} {valid : S → Type 0} {printed : S → List ℕ} {means
 
   pub shortest : (bytes : List ℕ) → documents.IsShortest Printed v bytes → IsShortest Spelled v bytes
   shortest bytes s = (s.spells, s.least)
-
-  pub wrote : (old new : List ℕ) (n : ℕ) → n ≡ length (printed (written v)) → new ≡ printed (written v) ++ drop n old
-      → documents.IsShortest Printed v (printed (written v)) → length new ≡ length old
-      → Encodes Spelled v old new (Some n)
-  wrote old new n count is least kept =
-      written_encodes Spelled v old new (printed (written v)) n (shortest (printed (written v)) least) count is kept
-
-  unfit : (room : ℕ) (k : EncodeError) → WhyNotWritten (IsWritten v) Printed v room k → (bytes : List ℕ)
-      → Spelled v bytes → room < length bytes
-  unfit room no_encoding h bytes p = absurd (h bytes p.1)
-  unfit room too_long h bytes p = absurd (h.1 bytes p)
-  unfit room no_room h bytes p = elim (h.1.least bytes p) [
-    | inl same ↦ omega (arith, h.2, ap length same)
-    | inr longer ↦ omega (arith, h.2, longer)
-  ]
-  unfit room another h bytes p = absurd h
-
-  pub unwritten : (old new : List ℕ) (k : EncodeError) → new ≡ old
-      → WhyNotWritten (IsWritten v) Printed v (length old) k → Encodes Spelled v old new None
-  unwritten old new k same why = (same, unfit (length old) k why)
-
-  pub refused : (room : ℕ) (k : EncodeError) → WhyNotWritten (IsWritten v) Printed v room k
-      → Unwritten IsWritten Spelled v room k
-  refused room no_encoding h = λ ok. h (printed (written v)) (written_prints law v ok)
-  refused room too_long h = h
-  refused room no_room h = (h.0, shortest h.0 h.1, h.2)
-  refused room another h = h
 
   memory_is : (k : ErrorKind) (c : EncodeError) → k ≡ OutOfMemory → encode_error k ≡ c → another ≡ c
   memory_is k c memory told = sym (ap encode_error memory) ∙ told

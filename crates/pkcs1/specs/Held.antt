@@ -4,8 +4,7 @@ use Rattle.std.specs.Int.Digits.{number_from_digits}
 use Rattle.der_core.specs.UintRefValue.{bytes_of}
 use Rattle.pkcs1.specs.OtherPrimesLeft.{others_left}
 use Rattle.pkcs1.specs.PrivateKeyValue.{Listed, key_with, other_of, private_key_with}
-use Rattle.pkcs1.specs.PublicKeyValue.{public_key_with}
-use Rattle.pkcs1.specs.StatedKeys.{other_stated, private_stated, public_stated}
+use Rattle.pkcs1.specs.StatedKeys.{other_stated, private_stated}
 use Rattle.pkcs1.specs.declared.other_primes.OtherPrimes.{OtherPrimes}
 use Rattle.pkcs1.specs.declared.private_key.other_prime_info.OtherPrimeInfo.{OtherPrimeInfo}
 use Rattle.pkcs1.specs.declared.public_key.RsaPublicKey.{RsaPublicKey}
@@ -16,7 +15,10 @@ abbrev pub number_in : {U : Type 0} → (U → List ℕ) → U → ℕ
 number_in octets u = number_from_digits 256 (octets u)
 
 abbrev pub held_public_key : {U : Type 0} → (U → List ℕ) → RsaPublicKey U → PublicKey
-held_public_key octets key = public_stated (public_key_with (number_in octets) key)
+held_public_key octets key = record {
+  modulus = number_from_digits 256 (octets key.modulus);
+  public_exponent = number_from_digits 256 (octets key.public_exponent);
+}
 
 abbrev pub held_other_prime : {U : Type 0} → (U → List ℕ) → OtherPrimeInfo U → OtherPrime
 held_other_prime octets other = other_stated (other_of (number_in octets) other)

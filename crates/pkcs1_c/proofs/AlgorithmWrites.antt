@@ -1,5 +1,5 @@
 -- What is said of writing an algorithm identifier with its parameters, as the definitions of the parameters say it.
-use Rattle.std.proofs.Common.{ℕ, List, ◌≡◌, arith, inl, inr, subst}
+use Rattle.std.proofs.Common.{ℕ, List, arith, inl, inr, subst}
 use Rattle.der_core.specs.Document.{IsShortest, Means}
 use Rattle.der_core.proofs.Shortest.{shortest_same}
 use Rattle.pkcs1_params.specs.Algorithms.{AlgorithmOf}

@@ -1,5 +1,5 @@
 -- The needed length: that of the shortest encoding, which is the one that is written.
-use Rattle.std.proofs.Common.{ℕ, List, ◌≡◌, ◌<◌, ◌≤◌, ◌∙◌, length, refl, ap, arith, inl, inr}
+use Rattle.std.proofs.Common.{ℕ, List, ◌≡◌, ◌<◌, ◌≤◌, length, refl, ap, arith, inl, inr}
 use Rattle.std.proofs.lemmas.Bool.{cases_lt}
 use Rattle.der_core.specs.Document.{HasEncoding, IsShortest, Means}
 use Rattle.der_core.specs.Laws.Encodings.{tlv_relates, tlv_shortest}

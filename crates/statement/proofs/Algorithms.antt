@@ -1,12 +1,10 @@
 -- Algorithms: the statement's encodings are the library's.
-use Rattle.std.proofs.Common.{ℕ, List, ◌≡◌, ◌≤◌, length, refl, arith}
-use Rattle.spki_core.specs.Laws.IdentifierTest.{is_identifier-sound}
+use Rattle.std.proofs.Common.{ℕ, List, ◌≡◌, ◌≤◌, length, arith}
 use Rattle.spki_core.specs.AlgorithmIdentifier.{PlainAlgorithm, MaskAlgorithm}
 use Rattle.spki_core.specs.Laws.AlgorithmEncodings.{plain_at_most_one, mask_at_most_one}
 use Rattle.pkcs1_params.specs.Laws.HashFields.{plain_relates, plain_shortest, mask_relates, mask_shortest}
-use Rattle.pkcs1_params.specs.Parameters.{id_sha1, id_mgf1, id_p_specified}
-use Rattle.standard.specs.Statement.{limit, IsIdentifier, TagAndContents, IsAny, any}
-use Rattle.standard.specs.Statement.{Algorithm, algorithm, IsAlgorithm, sha1, mgf1_sha1, empty_label}
+use Rattle.standard.specs.Statement.{limit, TagAndContents, IsAny, any}
+use Rattle.standard.specs.Statement.{Algorithm, algorithm, IsAlgorithm}
 
 -- One with such parameters: a hash function, a label source. One with one of these: a mask generation function.
 abbrev pub plain : Algorithm TagAndContents → List ℕ
@@ -44,37 +42,3 @@ mask_written = record {
   is = λ v c p. (mask_shortest v c p).0;
   made = λ v h l. mask_relates v h (omega (arith, l));
 }
-
--- The defaults may be values.
-sha1_identifier : IsIdentifier id_sha1
-sha1_identifier =
-    is_identifier-sound id_sha1 (omega arith, (omega arith, (omega arith, (omega arith, (omega arith, tt))))) refl
-
-mgf1_identifier : IsIdentifier id_mgf1
-mgf1_identifier =
-    is_identifier-sound id_mgf1 (
-      omega arith,
-      (
-        omega arith,
-        (omega arith, (omega arith, (omega arith, (omega arith, (omega arith, (omega arith, (omega arith, tt))))))),
-      ),
-    ) refl
-
-pub sha1_is : IsPlain sha1
-sha1_is = (sha1_identifier, (refl, tt))
-
-pub mgf1_is : IsMaskGeneration mgf1_sha1
-mgf1_is = (mgf1_identifier, sha1_is)
-
-p_specified : IsIdentifier id_p_specified
-p_specified =
-    is_identifier-sound id_p_specified (
-      omega arith,
-      (
-        omega arith,
-        (omega arith, (omega arith, (omega arith, (omega arith, (omega arith, (omega arith, (omega arith, tt))))))),
-      ),
-    ) refl
-
-pub label_is : IsPlain empty_label
-label_is = (p_specified, (refl, tt))

@@ -9,4 +9,3 @@ mod Held
 mod Same
 mod OutOfMemory
 mod Bare
-pub mod Shortest

@@ -2,7 +2,8 @@
 use Rattle.std.proofs.Common.{ℕ, List}
 use Rattle.pkcs1_params.specs.Parameters as library
 use Rattle.standard.specs.Statement.{IsOaep, oaep_fields}
-use Rattle.statement.proofs.Algorithms.{plain_written, mask_written, sha1_is, mgf1_is, label_is}
+use Rattle.pkcs1_params.specs.Laws.ParameterSpellings.{sha1_is, mgf1_is, label_is}
+use Rattle.statement.proofs.Algorithms.{plain_written, mask_written}
 use Rattle.statement.proofs.Fields.{Sides, matches, made, value_is}
 
 pub sides : Sides library.oaep_fields oaep_fields IsOaep

@@ -4,7 +4,8 @@ use Rattle.der_core.specs.Integer.{Small}
 use Rattle.pkcs1_params.specs.Parameters as library
 use Rattle.standard.specs.Statement.{integer, IsPss, pss_fields}
 use Rattle.statement.proofs.Der.{small_integer, small_made}
-use Rattle.statement.proofs.Algorithms.{Written, plain_written, mask_written, sha1_is, mgf1_is}
+use Rattle.pkcs1_params.specs.Laws.ParameterSpellings.{sha1_is, mgf1_is}
+use Rattle.statement.proofs.Algorithms.{Written, plain_written, mask_written}
 use Rattle.statement.proofs.Fields.{Sides, matches, made, value_is}
 
 salt : Written Small (λ n. n < 256) integer

@@ -48,13 +48,13 @@ trailer_law =
     (λ n ok. ok.0) (λ n is. let less : n < 256 = omega (arith, is) in (is, less))
 
 -- The defaults have encodings.
-sha1_is : IsAlgorithm IsAny sha1
+pub sha1_is : IsAlgorithm IsAny sha1
 sha1_is = (
   is_identifier-sound sha1.oid (omega arith, (omega arith, (omega arith, (omega arith, (omega arith, tt))))) refl,
   (refl, tt),
 )
 
-mgf1_is : IsAlgorithm (IsAlgorithm IsAny) mgf1_sha1
+pub mgf1_is : IsAlgorithm (IsAlgorithm IsAny) mgf1_sha1
 mgf1_is = (
   is_identifier-sound mgf1_sha1.oid (
     omega arith,
@@ -66,7 +66,7 @@ mgf1_is = (
   sha1_is,
 )
 
-label_is : IsAlgorithm IsAny empty_label
+pub label_is : IsAlgorithm IsAny empty_label
 label_is = (
   is_identifier-sound empty_label.oid (
     omega arith,
