@@ -74,7 +74,7 @@ inputs() {
         rt version
         cd "$here/.."
         cat crates.txt ffi/build.sh
-        for name in standard der_core spki_core pkcs1_params pkcs1 pkcs8_core statement pkcs1_c; do
+        for name in standard der_core spki_core pkcs1_params pkcs1 pkcs8_core pkcs1_c; do
             find "crates/$name/src" "crates/$name/specs" "crates/$name/proofs" -type f
         done | LC_ALL=C sort | tr '\n' '\0' | xargs -0 sha256sum
     } | sha256sum
@@ -96,7 +96,7 @@ make_toolchain() {
 # builds no static library, and rt lib takes no other toolchain.
 build_over() {
     local words=(--extern "std=$kit/rlibs/std.rlib" -L "dependency=$kit/rlibs") name
-    for name in standard der_core spki_core pkcs1_params pkcs1 pkcs8_core statement; do
+    for name in standard der_core spki_core pkcs1_params pkcs1 pkcs8_core; do
         words+=(--extern "$name=$here/../crates/$name/out/rlib/$name.rlib" -L "dependency=$here/../crates/$name/out/rlib")
     done
     mkdir -p out

@@ -1,16 +1,10 @@
 -- An encoding of given contents: there is one, and how long it is. And grammars that a list of values is mapped to.
-use Rattle.std.proofs.Common.{ℕ, List, [], ◌∷◌, ◌++◌, ◌≡◌, ◌<◌, ◌≤◌, ◌+◌, ◌^◌, length, refl, ap, ◌∙◌, arith, map}
+use Rattle.std.proofs.Common.{ℕ, List, ◌∷◌, ◌++◌, ◌≡◌, ◌<◌, ◌+◌, ◌^◌, length, refl, ap, ◌∙◌, arith}
 use Rattle.std.proofs.Common.{length-append}
 use Rattle.der_core.specs.Length.{IsLength, length_octets}
-use Rattle.der_core.specs.Encodings.{Is, AtMostOne}
+use Rattle.der_core.specs.Encodings.{Is}
 use Rattle.der_core.specs.Tlv.{Tlv}
-use Rattle.der_core.specs.Laws.Length.{length_made, length_octets-only, length_few}
-use Rattle.der_core.specs.Laws.Encodings.{AllAtMostOne}
-
-pub map_at_most_one : {V : Type 0} (Grammar : V → List ℕ → Type 0) → ((v : V) → AtMostOne (Grammar v)) → (vs : List V)
-    → AllAtMostOne (map Grammar vs)
-map_at_most_one Grammar m [] = tt
-map_at_most_one Grammar m (v ∷ vs) = (m v, map_at_most_one Grammar m vs)
+use Rattle.der_core.specs.Laws.Length.{length_made, length_octets-only}
 
 -- Contents that aren't too long have an encoding.
 pub tlv_made : (t : ℕ) (P : List ℕ → Type 0) (c : List ℕ) → P c → length c < 2 ^ 128

@@ -11,13 +11,11 @@ pub mod BitLength
 pub mod Counting
 pub mod Encodings
 pub mod FrontsAreUnique
-pub mod ContentsShorter
 pub mod Headers
 pub mod IntegerLaws
 pub mod IntegerLengths
 pub mod Items
 pub mod LengthLaws
-pub mod Members
 pub mod NotWritten
 pub mod Readings
 pub mod Shortest

@@ -60,10 +60,6 @@ WhyNotWritten Has Grammar v room no_room =
     (encoding : List ℕ) × IsShortest Grammar v encoding × (room < length encoding)
 WhyNotWritten Has Grammar v room another = ⊥
 
--- The value has an encoding.
-abbrev pub HasEncoding : {V : Type 0} → (V → List ℕ → Type 0) → V → Type 0
-HasEncoding Grammar v = (encoding : List ℕ) × Grammar v encoding
-
 -- One whole SEQUENCE, whatever its contents are.
 abbrev pub IsDocument : List ℕ → Type 0
 IsDocument encoding = (length encoding ≤ limit) × Tlv sequence_tag AreBytes encoding

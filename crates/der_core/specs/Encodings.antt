@@ -29,10 +29,6 @@ pub record IsDelimited {V : Type 0} (Grammar : V → List ℕ → Type 0) : Type
 abbrev pub MeansOne : {V : Type 0} → (V → List ℕ → Type 0) → Type 0
 MeansOne {V} Grammar = (v w : V) (encoding : List ℕ) → Grammar v encoding → Grammar w encoding → v ≡ w
 
--- Encodings of values are bytes.
-abbrev pub IsOfBytes : {V : Type 0} → (V → List ℕ → Type 0) → Type 0
-IsOfBytes {V} Grammar = (v : V) (encoding : List ℕ) → Grammar v encoding → AreBytes encoding
-
 -- At most one encoding.
 abbrev pub AtMostOne : (List ℕ → Type 0) → Type 0
 AtMostOne Encoding = (x y : List ℕ) → Encoding x → Encoding y → x ≡ y

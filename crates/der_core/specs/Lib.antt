@@ -26,9 +26,7 @@ pub mod Files
 pub mod StdIo
 pub mod ErrorKinds
 pub mod Optional
-pub mod OctetString
 pub mod OctetStringRefValue
-pub mod Members
 pub mod Parts
 pub mod Printed
 pub mod Laws

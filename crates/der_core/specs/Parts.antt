@@ -31,8 +31,3 @@ AllocatesInFront Row asked later c = asked c ⊎ AllocatesBehind Row later c
 -- A last part that is there or not.
 abbrev pub LastContents : {V : Type 0} → (V → List ℕ → Type 0) → Option V → List ℕ → Type 0
 LastContents Grammar v c = Joins (Optional Grammar v ∷ []) c
-
--- Contents at the front of bytes: no others are a proper beginning of them, and they mean one value.
-abbrev pub IsToldApart : {V : Type 0} → (V → List ℕ → Type 0) → Type 0
-IsToldApart {V} Contents =
-    (v w : V) (x y x' y' : List ℕ) → Contents v x → Contents w x' → x ++ y ≡ x' ++ y' → (x ≡ x') × (v ≡ w)

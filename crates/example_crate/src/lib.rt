@@ -2,9 +2,8 @@
 #![tactic(auto)]
 
 ghost use Rattle.std.specs.Prelude.{◌≡◌, length, IfOk, OnErr, Some, None};
-ghost use Rattle.der_core.specs.Document.{IsShortest};
-ghost use Rattle.pkcs1_params.specs.Parameters.{PssParameters, RsaPssParams};
-ghost use Rattle.standard.specs.Statement.{ContainedKeyEncoding, Decodes, PrivateKey, octets};
+ghost use Rattle.standard.specs.Statement.{ContainedKeyEncoding, Decodes, IsShortest, PrivateKey, PssEncoding};
+ghost use Rattle.standard.specs.Statement.{PssParameters, octets};
 
 use pkcs1::{Result, RsaPssParamsRef};
 use pkcs8_core::rsa_from_pkcs8_der;
@@ -22,8 +21,8 @@ pub fn modulus_len(container: &[u8]) -> Result<usize>
 /// The salt length of PSS parameters in their shortest encoding; another encoding is rejected.
 pub fn salt_len(encoding: &[u8]) -> Result<u8>
     ensures ok { IfOk result (λ len. (params : PssParameters)
-        × IsShortest RsaPssParams params encoding.now × (len ≡ params.salt_len)) }
-    ensures err { OnErr result ((params : PssParameters) → IsShortest RsaPssParams params encoding.now → ⊥) }
+        × Decodes (IsShortest PssEncoding) encoding.now (Some params) × (len ≡ params.salt_len)) }
+    ensures err { OnErr result (Decodes (IsShortest PssEncoding) encoding.now None) }
 {
     let params = RsaPssParamsRef::from_der_strict(encoding)?;
     Ok(params.salt_len)

@@ -1,7 +1,7 @@
 -- What a verifier asks of RSASSA-PSS parameters.
 use Rattle.std.specs.Prelude.{ℕ, List, ◌≡◌, ◌⊎◌, Option, Some, None}
 use Rattle.pkcs1_params.specs.HashFunctions.{UsesHash, id_sha256, id_sha384}
-use Rattle.pkcs1_params.specs.Parameters.{PssParameters}
+use Rattle.standard.specs.Statement.{PssParameters}
 
 -- The hash function is SHA-256, and the mask generation function is MGF1 with SHA-256.
 abbrev pub UsesSha256 : PssParameters → Type 0

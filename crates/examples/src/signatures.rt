@@ -1,10 +1,7 @@
 //! The algorithm of a signature.
 ghost use Rattle.std.specs.Bool.{Decides};
-ghost use Rattle.std.specs.Prelude.{IfOk, OnErr};
-ghost use Rattle.der_core.specs.Document.{Means};
-ghost use Rattle.pkcs1_params.specs.Algorithms.{RsaPssAlgorithm};
-ghost use Rattle.pkcs1_params.specs.Parameters.{PssParameters};
-ghost use Rattle.pkcs1_params.specs.PssValue.{pss_of};
+ghost use Rattle.std.specs.Prelude.{IfOk, OnErr, Some, None};
+ghost use Rattle.standard.specs.Statement.{Decodes, PssAlgorithmEncoding, PssParameters};
 ghost use Rattle.examples.specs.Signatures.{GivesSalt, IsAccepted};
 
 use pkcs1::{FromAlgorithm, Result, RsaPssParamsRef, Sha256, Sha384};
@@ -12,8 +9,8 @@ use pkcs1::{FromAlgorithm, Result, RsaPssParamsRef, Sha256, Sha384};
 /// The salt length of an RSASSA-PSS signature, from its signatureAlgorithm in DER, if it uses SHA-256.
 pub fn salt_with_sha256(signature_algorithm: &[u8]) -> Result<Option<u8>>
     ensures ok { IfOk result (λ salt_len. (params : PssParameters)
-        × Means RsaPssAlgorithm signature_algorithm.now params × GivesSalt params salt_len) }
-    ensures err { OnErr result ((params : PssParameters) → Means RsaPssAlgorithm signature_algorithm.now params → ⊥) }
+        × Decodes PssAlgorithmEncoding signature_algorithm.now (Some params) × GivesSalt params salt_len) }
+    ensures err { OnErr result (Decodes PssAlgorithmEncoding signature_algorithm.now None) }
 {
     let params = RsaPssParamsRef::from_algorithm_der(signature_algorithm)?;
     if !params.uses_hash::<Sha256>() {
@@ -25,7 +22,7 @@ pub fn salt_with_sha256(signature_algorithm: &[u8]) -> Result<Option<u8>>
 /// Whether an RSASSA-PSS signature has parameters that are accepted, from its signatureAlgorithm in DER.
 pub fn is_accepted(signature_algorithm: &[u8]) -> bool
     ensures { Decides result ((params : PssParameters)
-        × Means RsaPssAlgorithm signature_algorithm.now params × IsAccepted params) }
+        × PssAlgorithmEncoding params signature_algorithm.now × IsAccepted params) }
 {
     match RsaPssParamsRef::from_algorithm_der(signature_algorithm) {
         Ok(params) => {

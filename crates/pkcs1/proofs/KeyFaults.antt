@@ -1,13 +1,7 @@
 -- The faults of keys are about the bytes.
-use Rattle.std.proofs.Common.{ℕ, List, ◌≡◌, ⊎_elim, length}
-use Rattle.std.specs.Prelude.{nat_lt}
-use Rattle.der_core.specs.declared.error.ErrorKind.TheVariants.{Overflow}
-use Rattle.der_core.specs.Laws.LengthReading.{chosen}
-use Rattle.der_core.specs.Laws.Printed.Rows.{alone_law, tagged_law}
+use Rattle.der_core.specs.Laws.Printed.Rows.{tagged_law}
 use Rattle.der_core.specs.Laws.Readings.{made_tells}
-use Rattle.der_core.specs.Length.{limit}
-use Rattle.der_core.specs.Printed.{ReadsFrontPrinted}
-use Rattle.der_core.specs.Readings.{FrontReading, tagged, whole}
+use Rattle.der_core.specs.Readings.{tagged, whole}
 use Rattle.der_core.specs.Tags as tags
 use Rattle.pkcs1.specs.KeyReadings.{number, private_key, public_key_read, rsa_private_key, rsa_public_key}
 use Rattle.pkcs1.specs.Laws.PrintedNumbers.{integer_law}
@@ -15,12 +9,7 @@ use Rattle.pkcs1.specs.Laws.PrintedPrivateKeys.{private_law}
 use Rattle.pkcs1.specs.Laws.PrintedRows.{public_law}
 use Rattle.pkcs1.specs.StatedKeys.{private_stated, public_stated}
 use Rattle.pkcs1_params.specs.Meanings.{FaultsTell}
-
-pub whole_tells : {S : Type 0} {valid : S → Type 0} {printed : S → List ℕ} {at : FrontReading S}
-    → ReadsFrontPrinted valid printed at → FaultsTell (whole at)
-whole_tells law bytes k e = ⊎_elim
-    (λ w. let same : Overflow ≡ k = let is = w.1 in cc in (λ no. cc, λ no. cc, λ no. cc))
-    (λ w. (alone_law law).tells bytes k w.1) (chosen (nat_lt limit (length bytes)) _ _ _ e)
+use Rattle.pkcs1_params.proofs.FaultsTell.{whole_tells}
 
 pub public_tells : FaultsTell rsa_public_key
 public_tells bytes k e =

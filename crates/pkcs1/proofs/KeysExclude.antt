@@ -1,24 +1,14 @@
 -- No bytes encode both a public and a private key: more than two numbers are in a private key.
-use Rattle.std.proofs.Common.{ℕ, List, [], ◌∷◌, ◌++◌, ◌≡◌, ◌≤◌, length, refl, sym, ap, ◌∙◌, arith, append_assoc}
-use Rattle.std.proofs.Common.{append-nil, length-append}
-use Rattle.der_core.specs.Laws.Encodings.{tlv_split}
-use Rattle.der_core.specs.Laws.Printed.Leaves.{tlv_fit, tlv_made}
+use Rattle.std.proofs.Common.{ℕ, List, [], ◌∷◌, ◌++◌, ◌≡◌, ◌≤◌, length, sym, ap, ◌∙◌, arith, append_assoc}
+use Rattle.std.proofs.Common.{length-append}
+use Rattle.der_core.specs.Laws.Printed.Leaves.{tlv_fit}
 use Rattle.der_core.specs.Laws.Printed.Rows.{prints_one}
 use Rattle.der_core.specs.Length.{limit}
-use Rattle.der_core.specs.Tlv.{Tlv, tlv}
 use Rattle.der_core.specs.Document.{Excludes}
 use Rattle.pkcs1.specs.Laws.PrintedNumbers.{integer_law}
+use Rattle.pkcs1_params.proofs.Wrapped.{same_contents}
 use Rattle.standard.specs.Statement.{PrivateKeyEncoding, PublicKeyEncoding, integer, integers, optional}
-use Rattle.standard.specs.Statement.{other_primes, version}
-
--- SEQUENCEs that are the same have the same contents.
-pub same_contents : (bytes c d : List ℕ) → length bytes ≤ limit → bytes ≡ tlv 48 c → bytes ≡ tlv 48 d → c ≡ d
-same_contents bytes c d few is same =
-    let p : Tlv 48 (λ x. x ≡ c) (tlv 48 c) = tlv_made 48 c refl (omega (arith, few, ap length is)) in
-    let q : Tlv 48 (λ x. x ≡ d) (tlv 48 d) = tlv_made 48 d refl (omega (arith, few, ap length same)) in
-    let s =
-    tlv_split (tlv 48 c) [] (tlv 48 d) [] p q (append-nil (tlv 48 c) ∙ sym is ∙ same ∙ sym (append-nil (tlv 48 d))) in
-    sym s.4 ∙ s.5
+use Rattle.standard.specs.Statement.{other_primes, sequence, version}
 
 two_front : (a b : ℕ) (ns : List ℕ) (rest : List ℕ)
     → integers (a ∷ b ∷ ns) ++ rest ≡ integer a ++ (integer b ++ (integers ns ++ rest))
@@ -39,11 +29,12 @@ two_alone n e a b c ns rest few same =
 
 pub keys_exclude : Excludes PublicKeyEncoding PrivateKeyEncoding
 keys_exclude v w bytes p q =
-    let few : length (integers (v.modulus ∷ v.public_exponent ∷ [])) ≤ limit =
-    omega (arith, p.0, ap length p.1, tlv_fit 48 (integers (v.modulus ∷ v.public_exponent ∷ []))) in
+    let contents = integers (v.modulus ∷ v.public_exponent ∷ []) in
+    let whole : length (sequence contents) ≤ limit = omega (arith, p.0, ap length p.1) in
+    let few : length contents ≤ limit = omega (arith, whole, tlv_fit 48 contents) in
     let others = optional other_primes w.other_primes in
     let behind =
     w.private_exponent ∷ w.prime1 ∷ w.prime2 ∷ w.exponent1 ∷ w.exponent2 ∷ w.coefficient ∷ [] in
     two_alone v.modulus v.public_exponent (version w.other_primes) w.modulus w.public_exponent behind others few
-    (same_contents bytes (integers (v.modulus ∷ v.public_exponent ∷ []))
-    (integers (version w.other_primes ∷ w.modulus ∷ w.public_exponent ∷ behind) ++ others) p.0 p.1 q.2)
+    (same_contents contents (integers (version w.other_primes ∷ w.modulus ∷ w.public_exponent ∷ behind) ++ others) whole
+    (sym p.1 ∙ q.2))

@@ -1,11 +1,8 @@
 -- Keys of numbers are those of the statement, and which of them are valid. What was appended of a key.
-use Rattle.std.proofs.Common.{ℕ, List, ◌≡◌, sym, subst}
+use Rattle.std.proofs.Common.{ℕ, List, sym, subst}
 use Rattle.std.specs.Prelude.{◌↔◌, Option, Result, Ok, Err, IfErr, IfOk}
-use Rattle.der_core.specs.declared.error.Error.{Error}
-use Rattle.der_core.specs.Document.{EncodeError, no_encoding, too_long, no_room, another}
 use Rattle.der_core.specs.Laws.Printed.Shortest.{one_spelling, tagged_shortest}
 use Rattle.der_core.specs.Printed.{Spells, WritesShortest}
-use Rattle.der_core.specs.Writing.{Appends, WhyOctetsNotWritten, encode_error}
 use Rattle.pkcs1.specs.Held.{IsPrivateKey}
 use Rattle.pkcs1.specs.KeyEncodings.{Refuses, Withholds}
 use Rattle.pkcs1.specs.Keys.{PrivateKey, PublicKey}
@@ -17,7 +14,8 @@ use Rattle.pkcs1.specs.PrintedKeys.{private_as, public_as}
 use Rattle.pkcs1.specs.Printing.{AnyNumber, PrivateIsValid, PrivateIsWritten, PrivateSpells, PublicIsValid}
 use Rattle.pkcs1.specs.StatedKeys.{private_stated, public_stated}
 use Rattle.pkcs1_params.specs.declared.error.Error as errors
-use Rattle.pkcs1.proofs.Promised.{encodes_as, refuses_as, shortest_as, withholds_as}
+use Rattle.pkcs1.proofs.Promised.{withholds_as}
+use Rattle.pkcs1_params.proofs.Written.{encodes_as, refuses_as, shortest_as}
 use Rattle.standard.specs.Statement.{Encodes, IsShortest, PrivateKeyEncoding, PublicKeyEncoding, integer}
 
 pub public_is_valid : (key : PublicKey ℕ) → PublicIsValid AnyNumber (public_as (λ n. n) key) ↔ Unit {0}
@@ -33,32 +31,6 @@ private_is_valid key = (
       subst (PrivateIsValid AnyNumber) (sym (private_itself key))
       (private_valid key (stated_some key.other_prime_infos some)),
 )
-
--- The same octets, of a value with an encoding.
-module _ (Has Is : Type 0) (has : Has) (is : Is) where
-  stopped_so : (octets : List ℕ) (room : ℕ) (old new : List ℕ) (k : EncodeError)
-      → WhyOctetsNotWritten Has octets room old new k → WhyOctetsNotWritten Is octets room old new k
-  stopped_so octets room old new no_encoding h = absurd (h.0 has)
-  stopped_so octets room old new too_long h = (is, h.1, h.2)
-  stopped_so octets room old new no_room h = (is, h.1, h.2, h.3)
-  stopped_so octets room old new another h = h
-
-  appends_so : {W A : Type 0} (octets : List ℕ) (Room : W → ℕ) (Written : W → List ℕ) (old new : W) (r : Result A Error)
-      → Appends Has octets Room Written old new r → Appends Is octets Room Written old new r
-  appends_so octets Room Written old new (Ok x) a =
-      record { has = (is, a.has.1); written = a.written; room = a.room; left = a.left }
-  appends_so octets Room Written old new (Err e) a = record {
-    has = a.has;
-    written = a.written;
-    room = a.room;
-    left = stopped_so octets (Room old) (Written old) (Written new) (encode_error e.kind) a.left;
-  }
-
-  pub appends_as : {W A : Type 0} (octets others : List ℕ) (Room : W → ℕ) (Written : W → List ℕ) (old new : W)
-      (r : Result A Error) → octets ≡ others → Appends Has octets Room Written old new r
-      → Appends Is others Room Written old new r
-  appends_as octets others Room Written old new r same a =
-      subst (λ o. Appends Is o Room Written old new r) same (appends_so octets Room Written old new r a)
 
 -- What is written of a public key of numbers. What was promised of it is promised of the key of the statement.
 pub public_written : WritesShortest (PublicIsValid AnyNumber) public_encoding (public_as (λ n. n)) (public_as (λ n. n))

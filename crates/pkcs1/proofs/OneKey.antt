@@ -14,6 +14,7 @@ use Rattle.pkcs1.specs.Laws.StatedPrivateKeys.{key_back, private_encoding, priva
 use Rattle.pkcs1.specs.PrintedKeys.{private_as}
 use Rattle.pkcs1.specs.Printing.{AnyNumber, PrivateIsValid, PublicIsValid}
 use Rattle.pkcs1.specs.StatedKeys.{private_from, private_stated, public_from, public_stated}
+use Rattle.pkcs1_params.proofs.Same.{same_by_shortest}
 use Rattle.standard.specs.Statement.{AtMostOne, PrivateKey, PrivateKeyEncoding, PublicKey}
 use Rattle.standard.specs.Statement.{PublicKeyEncoding, SameByShortest}
 
@@ -67,20 +68,8 @@ pub private_delimited : AreDelimited PrivateKeyEncoding
 private_delimited = (λ v p. let never = p.2 in cc, private_follow)
 
 -- So two encodings mean the same key exactly if their keys have the same encoding.
-pub same_by : {V : Type 0} {Encoding : V → List ℕ → Type 0} → AtMostOne Encoding
-    → ((v w : V) (bytes : List ℕ) → Encoding v bytes → Encoding w bytes → v ≡ w) → SameByShortest Encoding
-same_by {Encoding = Encoding} one means v w a b s t p q x y = (
-  λ e. one w s t (subst (λ u. Encoding u s) e x.0) y.0,
-  λ e. means v w s x.0 (subst (Encoding w) (sym e) y.0),
-)
-
-alone : {V : Type 0} {Encoding : V → List ℕ → Type 0} → AreDelimited Encoding → (v w : V) (bytes : List ℕ)
-    → Encoding v bytes → Encoding w bytes → v ≡ w
-alone {Encoding = Encoding} law v w bytes p q =
-    (law.1 v w bytes [] p (subst (Encoding w) (sym (append-nil bytes)) q)).0
-
 pub public_same : SameByShortest PublicKeyEncoding
-public_same = same_by public_one (alone public_delimited)
+public_same = same_by_shortest PublicKeyEncoding public_delimited
 
 pub private_same : SameByShortest PrivateKeyEncoding
-private_same = same_by private_one (alone private_delimited)
+private_same = same_by_shortest PrivateKeyEncoding private_delimited

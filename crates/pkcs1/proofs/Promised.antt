@@ -1,18 +1,18 @@
 -- What is written of a value and why it isn't, in the words of `Statement.antt`; and of a value that another one stands
 -- for.
-use Rattle.std.proofs.Common.{ℕ, List, ◌≡◌, ◌⊎◌, take, sym, ap, ◌∙◌, inl, inr}
-use Rattle.std.specs.Prelude.{◌↔◌, Option, Some, None}
+use Rattle.std.proofs.Common.{ℕ, List, ◌≡◌, ◌⊎◌, sym, ap, ◌∙◌, inl, inr}
+use Rattle.std.specs.Prelude.{◌↔◌}
 use Rattle.der_core.specs.Document.{EncodeError, no_encoding, too_long, no_room, another, WhyNotCounted, WhyNotWritten}
 use Rattle.der_core.specs.Document as documents
 use Rattle.der_core.specs.Laws.Printed.Values.{written_prints}
 use Rattle.der_core.specs.Printed.{Prints, Spells, WritesShortest}
-use Rattle.der_core.specs.Writing.{IsOutOfMemory, Unwritten, WhyOctetsNotCounted, encode_error}
+use Rattle.der_core.specs.Writing.{IsOutOfMemory, WhyOctetsNotCounted, encode_error}
 use Rattle.der_core.specs.declared.error.ErrorKind.{ErrorKind}
 use Rattle.der_core.specs.declared.error.ErrorKind.TheVariants.{OutOfMemory}
-use Rattle.pkcs1.specs.KeyEncodings.{Refuses, Unmade, Withholds}
+use Rattle.pkcs1.specs.KeyEncodings.{Unmade, Withholds}
 use Rattle.pkcs1_params.specs.declared.error.Error.{Error}
 use Rattle.pkcs1_params.specs.declared.error.Error.TheVariants as error
-use Rattle.standard.specs.Statement.{Encodes, IsShortest}
+use Rattle.standard.specs.Statement.{IsShortest}
 
 -- What the calls of der_core promise of a type.
 module _ {S V : Type 0} {valid : S → Type 0} {printed : S → List ℕ} {means : S → V} {written : V → S}
@@ -53,35 +53,16 @@ module _ {S V : Type 0} {valid : S → Type 0} {printed : S → List ℕ} {means
 
 -- A value that another stands for: both have the same encodings.
 module _ {V W : Type 0} (Encoding : V → List ℕ → Type 0) (Other : W → List ℕ → Type 0) (v : V) (w : W)
-    (same : (bytes : List ℕ) → Encoding v bytes ↔ Other w bytes) where
-  pub shortest_as : (bytes : List ℕ) → IsShortest Encoding v bytes → IsShortest Other w bytes
-  shortest_as bytes s = ((same bytes).0 s.0, λ other p. s.1 other ((same other).1 p))
+    (same : (bytes : List ℕ) → Encoding v bytes ↔ Other w bytes) (Is : V → Type 0) (Valid : W → Type 0)
+    (valid : Is v ↔ Valid w) where
+  unmade_so : (k : ErrorKind) (c : EncodeError) → Unmade Is Encoding v k c → Unmade Valid Other w k c
+  unmade_so k no_encoding h = λ ok. h (valid.1 ok)
+  unmade_so k too_long h = (valid.0 h.0, λ bytes p. h.1 bytes ((same bytes).1 p))
+  unmade_so k no_room h = h
+  unmade_so k another h = (h.0, h.1, (same h.1).0 h.2)
 
-  pub encodes_as : (old new : List ℕ) (n : Option ℕ) → Encodes Encoding v old new n → Encodes Other w old new n
-  encodes_as old new (Some n) e = (e.0, shortest_as (take n new) e.1, e.2)
-  encodes_as old new None e = (e.0, λ bytes p. e.1 bytes ((same bytes).1 p))
-
-  module _ (Is : V → Type 0) (Valid : W → Type 0) (valid : Is v ↔ Valid w) where
-    pub unwritten_so : (room : ℕ) (k : EncodeError) → Unwritten Is Encoding v room k → Unwritten Valid Other w room k
-    unwritten_so room no_encoding h = λ ok. h (valid.1 ok)
-    unwritten_so room too_long h = (valid.0 h.0, λ bytes p. h.1 bytes ((same bytes).1 p))
-    unwritten_so room no_room h = (h.0, shortest_as h.0 h.1, h.2)
-    unwritten_so room another h = h
-
-    pub refuses_as : (room : ℕ) (e : Error) → Refuses Is Encoding v room e → Refuses Valid Other w room e
-    refuses_as room (error.Asn1 e) h = unwritten_so room (encode_error e.kind) h
-    refuses_as room error.Crypto h = h
-    refuses_as room error.KeyMalformed h = h
-    refuses_as room error.Version h = h
-
-    unmade_so : (k : ErrorKind) (c : EncodeError) → Unmade Is Encoding v k c → Unmade Valid Other w k c
-    unmade_so k no_encoding h = λ ok. h (valid.1 ok)
-    unmade_so k too_long h = (valid.0 h.0, λ bytes p. h.1 bytes ((same bytes).1 p))
-    unmade_so k no_room h = h
-    unmade_so k another h = (h.0, h.1, (same h.1).0 h.2)
-
-    pub withholds_as : (e : Error) → Withholds Is Encoding v e → Withholds Valid Other w e
-    withholds_as (error.Asn1 e) h = unmade_so e.kind (encode_error e.kind) h
-    withholds_as error.Crypto h = h
-    withholds_as error.KeyMalformed h = h
-    withholds_as error.Version h = h
+  pub withholds_as : (e : Error) → Withholds Is Encoding v e → Withholds Valid Other w e
+  withholds_as (error.Asn1 e) h = unmade_so e.kind (encode_error e.kind) h
+  withholds_as error.Crypto h = h
+  withholds_as error.KeyMalformed h = h
+  withholds_as error.Version h = h

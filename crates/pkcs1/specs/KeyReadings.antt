@@ -1,7 +1,6 @@
 -- Keys as functions of the bytes (RFC 8017 A.1.1, A.1.2): the key, or the kind of the first fault.
 use Rattle.std.specs.Prelude.{ℕ, Bool, true, false, List, [], ◌∷◌, ◌==◌, nat_lt, not, if◌then◌else◌, Option, Some, None}
-use Rattle.std.specs.Prelude.{Result, Ok, Err}
-use Rattle.der_core.specs.declared.error.ErrorKind.{ErrorKind}
+use Rattle.std.specs.Prelude.{Err}
 use Rattle.der_core.specs.declared.error.ErrorKind.TheVariants.{Value}
 use Rattle.der_core.specs.IntegerReading.{small_of}
 use Rattle.der_core.specs.Printed.{number_of}
@@ -10,6 +9,7 @@ use Rattle.der_core.specs.Readings.{no_parts, optional, parts, such, tagged, who
 use Rattle.der_core.specs.Tags.{integer, sequence}
 use Rattle.pkcs1.specs.Keys.{CrtRow, Eight, OtherPrime, PrivateKey, PublicKey, version_of}
 use Rattle.pkcs1.specs.StatedKeys.{private_stated, public_stated}
+pub use Rattle.pkcs1_params.specs.Meanings.{fault_in}
 use Rattle.standard.specs.Statement as standard
 
 -- An INTEGER, as the number.
@@ -88,11 +88,6 @@ private_key at = whole (tagged sequence (private_key_read at))
 
 abbrev pub rsa_private_key : Reading standard.PrivateKey
 rsa_private_key = made private_stated (private_key number)
-
--- The kind of the first fault, or none.
-abbrev pub fault_in : {V : Type 0} → Result V ErrorKind → Option ErrorKind
-fault_in (Ok v) = None
-fault_in (Err k) = Some k
 
 -- The bytes themselves, where the function reads them.
 abbrev pub kept : {V : Type 0} → Reading V → Reading (List ℕ)

@@ -3,7 +3,7 @@ use Rattle.std.proofs.Common.{ℕ, List, ◌≡◌, ◌∙◌, ap, arith, false,
 use Rattle.std.proofs.lemmas.Bool.Decides.{nat_tests}
 use Rattle.std.specs.Prelude.{Err, Ok, if◌then◌else◌, nat_lt}
 use Rattle.der_core.specs.Laws.Printed.Rows.{alone_law, tagged_law}
-use Rattle.der_core.specs.Printed.{Prints}
+use Rattle.der_core.specs.Printed.{Spells}
 use Rattle.der_core.specs.Laws.Readings.{bind_err}
 use Rattle.der_core.specs.Length.{limit}
 use Rattle.der_core.specs.Reading.{TellsOfBytes}
@@ -16,7 +16,7 @@ use Rattle.pkcs1.specs.Laws.PrintedNumbers.{integer_law}
 use Rattle.pkcs1.specs.Laws.PrintedPrivateKeys.{private_law}
 use Rattle.pkcs1.specs.Laws.StatedPrivateKeys.{key_back, private_itself, private_spelled}
 use Rattle.pkcs1.specs.StatedKeys.{private_from, private_stated}
-use Rattle.pkcs1.proofs.KeyFaults.{whole_tells}
+use Rattle.pkcs1_params.proofs.FaultsTell.{whole_tells}
 use Rattle.pkcs8_core.proofs.RsaOnly.{key_tells}
 use Rattle.pkcs8_core.specs.ContainerReadings as readings
 use Rattle.pkcs8_core.specs.ContainerReadings.{rsa_held, rsa_private_key_info}
@@ -48,8 +48,8 @@ key_taken key octets p =
     ap (λ r. r >>= λ v. Ok (private_stated v)) read ∙ ap (λ k. Ok (private_stated k)) (sym (private_itself s) ∙ is)
     ∙ ap (λ k. Ok k) (key_back key)
 
-abbrev pub ContainerPrints : Container → List ℕ → Type 0
-ContainerPrints = Prints IsContainer (λ c. sequence (container_printed c)) (λ c. c)
+abbrev pub ContainerSpells : Container → List ℕ → Type 0
+ContainerSpells = Spells IsContainer (λ c. sequence (container_printed c)) (λ c. c)
 
 module _ (info : PrivateKeyInfo) where
   pub error_none : (s : ℕ) → IsErrorNumber (rsa_private_key info.private_key.now) s → HasKey info → ⊥

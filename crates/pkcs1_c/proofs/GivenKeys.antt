@@ -4,9 +4,8 @@ use Rattle.std.proofs.Common.{Bool, true, false, nat_lt}
 use Rattle.std.specs.Prelude.{◌↔◌, slice_index, if◌then◌else◌}
 use Rattle.std.specs.List.{AllByRecursion, concat}
 use Rattle.der_core.specs.Laws.Printed.Leaves.{tlv_fit}
-use Rattle.der_core.specs.Document.{Means}
 use Rattle.der_core.specs.Length.{limit}
-use Rattle.der_core.specs.Printed.{Prints}
+use Rattle.der_core.specs.Printed.{Spells}
 use Rattle.pkcs1.proofs.KeysWritten.{private_is_valid}
 use Rattle.pkcs1.specs.Held.{IsPrivateKey, held_private_key, held_public_key, number_in}
 use Rattle.pkcs1.specs.Laws.PrintedKeys.{public_encoding, public_spelled}
@@ -25,10 +24,10 @@ use Rattle.pkcs1_c.specs.declared.private_key.OtherPrime.{OtherPrime}
 use Rattle.pkcs1_c.specs.declared.private_key.PrivateKey.{PrivateKey}
 use Rattle.pkcs1_c.specs.declared.public_key.PublicKey.{PublicKey}
 use Rattle.pkcs1_c.specs.NumberValue.{number_of}
+use Rattle.pkcs1_c.specs.Status.{NoStatus}
 use Rattle.pkcs1_c.specs.StructErrors.{NumberError, NumbersError, given_numbers, numbers_of_primes, two_numbers}
 use Rattle.pkcs1_c.specs.Structs.{HasNumbers, HasPrivateNumbers, HaveBytes, number, numbers_of_key, numbers_of_prime}
 use Rattle.pkcs1_c.specs.Structs.{other_prime, other_primes, private_key, public_key}
-use Rattle.pkcs1_c.specs.Writes.{NoStatus}
 use Rattle.pkcs1_c.proofs.StructErrors.{none_both, number_none, numbers_behind, numbers_before, numbers_have, part_none}
 
 -- == Numbers in an encoding within the limit ==
@@ -118,26 +117,26 @@ private_has key others count none =
     )
 
 -- == What is made of them ==
-abbrev pub PublicPrints : keys.PublicKey ℕ → List ℕ → Type 0
-PublicPrints = Prints (PublicIsValid AnyNumber) public_encoding (public_as (λ n. n))
+abbrev pub PublicSpells : keys.PublicKey ℕ → List ℕ → Type 0
+PublicSpells = Spells (PublicIsValid AnyNumber) public_encoding (public_as (λ n. n))
 
-abbrev pub PrivatePrints : keys.PrivateKey ℕ → List ℕ → Type 0
-PrivatePrints = Prints (PrivateIsValid AnyNumber) private_encoding (private_as (λ n. n))
+abbrev pub PrivateSpells : keys.PrivateKey ℕ → List ℕ → Type 0
+PrivateSpells = Spells (PrivateIsValid AnyNumber) private_encoding (private_as (λ n. n))
 
 pub public_law : (key : PublicKey) (made : RsaPublicKey Number) → held_public_key number_of made ≡ public_key key
     → (bytes : List ℕ)
-    → Means PublicPrints bytes (public_key_with (number_in number_of) made) ↔ PublicKeyEncoding (public_key key) bytes
+    → PublicSpells (public_key_with (number_in number_of) made) bytes ↔ PublicKeyEncoding (public_key key) bytes
 public_law key made same bytes =
-    subst (λ v. Means PublicPrints bytes (public_key_with (number_in number_of) made) ↔ PublicKeyEncoding v bytes) same
+    subst (λ v. PublicSpells (public_key_with (number_in number_of) made) bytes ↔ PublicKeyEncoding v bytes) same
     (public_spelled (public_key_with (number_in number_of) made) bytes)
 
 pub private_law : (key : PrivateKey) (others : List OtherPrime) (made : Listed Number)
     → held_private_key number_of made ≡ private_key key others → (bytes : List ℕ)
-    → Means PrivatePrints bytes (private_key_with (number_in number_of) made)
+    → PrivateSpells (private_key_with (number_in number_of) made) bytes
     ↔ PrivateKeyEncoding (private_key key others) bytes
 private_law key others made same bytes =
     subst
-    (λ v. Means PrivatePrints bytes (private_key_with (number_in number_of) made) ↔ PrivateKeyEncoding v bytes)
+    (λ v. PrivateSpells (private_key_with (number_in number_of) made) bytes ↔ PrivateKeyEncoding v bytes)
     same (private_spelled (private_key_with (number_in number_of) made) bytes)
 
 is_private : (key : PrivateKey) (others : List OtherPrime) → IsPrivateKey (private_key key others)

@@ -2,27 +2,24 @@
 use Rattle.std.proofs.Common.{ℕ, List, ◌≡◌, arith, refl, subst}
 use Rattle.std.proofs.Common.{true, false, Option, Some, None, inl, inr}
 use Rattle.std.specs.Option.{option_map}
-use Rattle.spki_core.specs.Any.{TagAndContents}
-use Rattle.spki_core.specs.AlgorithmIdentifier.{Algorithm}
 use Rattle.spki_core.specs.AlgorithmValue.{viewed_with}
 use Rattle.spki_core.specs.AnyRefValue.{any_of}
 use Rattle.spki_core.specs.Laws.HaveEncodings.{viewed_held}
-use Rattle.spki_core.specs.ObjectIdentifier.{IsIdentifier}
 use Rattle.spki_core.specs.ObjectIdentifierValue.{octets_of}
 use Rattle.spki_core.specs.declared.algorithm_identifier.AlgorithmIdentifierOf.{AlgorithmIdentifierOf}
 use Rattle.spki_core.specs.declared.any.AnyRef.{AnyRef}
 use Rattle.spki_core.specs.declared.identifier_view.IdentifierView.{IdentifierView}
 use Rattle.pkcs1_params.specs.OaepValue.{oaep_viewed}
-use Rattle.pkcs1_params.specs.Parameters.{PssParameters, OaepParameters}
 use Rattle.pkcs1_params.specs.PssValue.{pss_viewed}
 use Rattle.pkcs1_params.specs.declared.oaep.OaepParamsOf.{OaepParamsOf}
 use Rattle.pkcs1_params.specs.declared.pss.PssParamsOf.{PssParamsOf}
+use Rattle.standard.specs.Statement.{Algorithm, IsIdentifier, OaepParameters, PssParameters, TagAndContents}
 use Rattle.pkcs1_c.specs.declared.algorithm.Algorithm as c
 use Rattle.pkcs1_c.specs.declared.algorithm.MaskGen as c_mask
+use Rattle.pkcs1_c.specs.Status.{NoStatus}
 use Rattle.pkcs1_c.specs.Structs.{algorithm_seen, mask_gen_seen}
 use Rattle.pkcs1_c.specs.StructErrors.{PartThen, OidError, AnyError, OptionError, AlgorithmError, PlainError, MaskError}
 use Rattle.pkcs1_c.specs.StructErrors.{HashFieldsThen, PssFieldError, OaepFieldError}
-use Rattle.pkcs1_c.specs.Writes.{NoStatus}
 use Rattle.pkcs1_c.proofs.StructErrors.{part_none}
 
 abbrev AlgorithmView : Type 0 → Type 0

@@ -1,14 +1,11 @@
-pub mod AlgorithmWrites
 pub mod Containers
 pub mod Fits
 pub mod GivenKeys
 pub mod HeldKeys
 pub mod HeldParameters
-pub mod KeyWrites
 pub mod Lists
 pub mod Needed
 pub mod NotWritten
-pub mod StatedCalls
-pub mod StatedHashes
+pub mod ParameterFaults
 pub mod StructErrors
 pub mod Writes

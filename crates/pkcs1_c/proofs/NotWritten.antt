@@ -1,17 +1,18 @@
 -- What the code of an error says.
-use Rattle.std.proofs.Common.{ℕ, zero, suc, List, ◌≡◌, ◌<◌, ◌∙◌, arith, refl, sym, subst, inl, inr, Result, Ok, Err}
+use Rattle.std.proofs.Common.{ℕ, zero, suc, List, ◌≡◌, ◌<◌, ◌∙◌, length, arith, refl, sym, subst, inl, inr}
+use Rattle.std.proofs.Common.{Result, Ok, Err}
 use Rattle.std.specs.Prelude.{IfErr, IsErrAnd}
 use Rattle.der_core.specs.Reading.{TellsOfBytes}
-use Rattle.der_core.specs.Document.{HasEncoding, WhyNotWritten}
+use Rattle.der_core.specs.Writing as writing
 use Rattle.der_core.specs.Writing.{encode_error}
 use Rattle.der_core.specs.declared.error.ErrorKind.{ErrorKind}
 use Rattle.der_core.specs.declared.error.ErrorKind.TheVariants as kind
 use Rattle.pkcs1_params.specs.Errors.{IsAsn1}
 use Rattle.pkcs1_params.specs.declared.error.Error.{Error}
 use Rattle.pkcs1_params.specs.declared.error.Error.TheVariants as error
-use Rattle.pkcs1_params.specs.Meanings.{IsWritingError}
+use Rattle.pkcs1_params.specs.Meanings.{Refuses}
 use Rattle.pkcs1_c.specs.Status.{kind_number, status_of, IsErrorNumber, IsStatusOf}
-use Rattle.pkcs1_c.specs.StructErrors.{EncodingError}
+use Rattle.pkcs1_c.specs.StructErrors.{Unwritten}
 
 -- What holds whatever the error is.
 pub err_all : {T E : Type 0} (P : E → Type 0) (r : Result T E) → ((e : E) → P e) → IfErr r P
@@ -59,32 +60,30 @@ module _ {V : Type 0} (given : Result V ErrorKind) (tells : (k : ErrorKind) → 
   status_exact e (suc n) is p =
       let known = status_known e p in (omega (arith, is, known.0.1), (known.1.0, known.1.1, is ∙ known.1.2))
 
--- What an error of writing says of a value that has an encoding.
-module _ {V : Type 0} (Some : Type 0) (Grammar : V → List ℕ → Type 0) (v : V) (room : ℕ) (has : HasEncoding Grammar v)
-  where
-    pub kind_writing : (k : ErrorKind) → WhyNotWritten Some Grammar v room (encode_error k)
-        → EncodingError Grammar v room (kind_number k)
-    kind_writing (kind.Value tag) p = absurd (p has.0 has.1)
-    kind_writing kind.Overflow p = inl (refl, p.1)
-    kind_writing kind.NoRoom p = inr (refl, p.0, p.1, p.2)
-    kind_writing kind.Failed p = absurd p
-    kind_writing kind.Incomplete p = absurd p
-    kind_writing kind.IndefiniteLength p = absurd p
-    kind_writing (kind.Length tag) p = absurd p
-    kind_writing (kind.Noncanonical tag) p = absurd p
-    kind_writing kind.OidMalformed p = absurd p
-    kind_writing kind.OidUnknown p = absurd p
-    kind_writing kind.Overlength p = absurd p
-    kind_writing kind.ParametersMissing p = absurd p
-    kind_writing (kind.TagUnexpected expected actual) p = absurd p
-    kind_writing (kind.TagUnknown octet) p = absurd p
-    kind_writing kind.TrailingData p = absurd p
-    kind_writing kind.File p = absurd p
-    kind_writing kind.OutOfMemory p = absurd p
+-- What an error of writing says of a value that may be encoded.
+module _ {V : Type 0} (Is : V → Type 0) (Encoding : V → List ℕ → Type 0) (v : V) (room : ℕ) (ok : Is v) where
+  pub kind_unwritten : (k : ErrorKind) → writing.Unwritten Is Encoding v room (encode_error k)
+      → Unwritten Encoding v room (kind_number k)
+  kind_unwritten (kind.Value tag) p = absurd (p ok)
+  kind_unwritten kind.Overflow p = inl (refl, p.1)
+  kind_unwritten kind.NoRoom p = inr (refl, length p.0, (p.0, p.1, refl), p.2)
+  kind_unwritten kind.Failed p = absurd p
+  kind_unwritten kind.Incomplete p = absurd p
+  kind_unwritten kind.IndefiniteLength p = absurd p
+  kind_unwritten (kind.Length tag) p = absurd p
+  kind_unwritten (kind.Noncanonical tag) p = absurd p
+  kind_unwritten kind.OidMalformed p = absurd p
+  kind_unwritten kind.OidUnknown p = absurd p
+  kind_unwritten kind.Overlength p = absurd p
+  kind_unwritten kind.ParametersMissing p = absurd p
+  kind_unwritten (kind.TagUnexpected expected actual) p = absurd p
+  kind_unwritten (kind.TagUnknown octet) p = absurd p
+  kind_unwritten kind.TrailingData p = absurd p
+  kind_unwritten kind.File p = absurd p
+  kind_unwritten kind.OutOfMemory p = absurd p
 
-pub status_writing : {V : Type 0} (Grammar : V → List ℕ → Type 0) (v : V) (room : ℕ) → HasEncoding Grammar v
-    → (e : Error) → IsWritingError Grammar v room e → EncodingError Grammar v room (status_of e)
-status_writing Grammar v room has (error.Asn1 e) p = kind_writing (HasEncoding Grammar v) Grammar v room has e.kind p
-status_writing Grammar v room has error.Crypto p = absurd p
-status_writing Grammar v room has error.KeyMalformed p = absurd p
-status_writing Grammar v room has error.Version p = absurd p
+  pub status_unwritten : (e : Error) → Refuses Is Encoding v room e → Unwritten Encoding v room (status_of e)
+  status_unwritten (error.Asn1 e) p = kind_unwritten e.kind p
+  status_unwritten error.Crypto p = absurd p
+  status_unwritten error.KeyMalformed p = absurd p
+  status_unwritten error.Version p = absurd p

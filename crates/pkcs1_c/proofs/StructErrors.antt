@@ -1,23 +1,18 @@
 -- Why what a program gives isn't written: one status at most, neither 0 nor that of lack of room for a part.
 use Rattle.std.proofs.Common.{ℕ, zero, suc, List, [], ◌∷◌, ◌++◌, ◌≡◌, ◌≢◌, ◌<◌, ◌≤◌, length, take, get_or, refl}
 use Rattle.std.proofs.Common.{sym, ap, ◌∙◌, arith, Option, Some, None, inl, inr, ⊎_elim, true, false}
-use Rattle.der_core.specs.Document.{IsShortest}
 use Rattle.der_core.specs.IntegerReading.{WhyNoNumber}
 use Rattle.der_core.specs.Length.{limit}
 use Rattle.der_core.specs.Laws.Printed.Leaves.{octets_canonical, octets_number}
 use Rattle.der_core.specs.SequenceOf.{AllHave}
 use Rattle.der_core.specs.declared.error.ErrorKind.{ErrorKind}
-use Rattle.spki_core.specs.Any.{TagAndContents}
-use Rattle.spki_core.specs.AlgorithmIdentifier.{Algorithm}
-use Rattle.spki_core.specs.ObjectIdentifier.{IsIdentifier}
-use Rattle.pkcs1_params.specs.Parameters.{PssParameters, OaepParameters}
-use Rattle.pkcs1_c.specs.Status.{kind_number}
-use Rattle.pkcs1_c.specs.StructErrors.{EncodingError, PartThen, NumberError, NumbersError, Unwritten, numbers_of_primes}
+use Rattle.pkcs1_c.specs.Status.{NoStatus, kind_number}
+use Rattle.pkcs1_c.specs.StructErrors.{PartThen, NumberError, NumbersError, Unwritten, numbers_of_primes}
 use Rattle.pkcs1_c.specs.StructErrors.{OidError, AnyError, OptionError, AlgorithmError, PlainError, MaskError}
 use Rattle.pkcs1_c.specs.StructErrors.{HashFieldsThen, PssFieldError, OaepFieldError}
 use Rattle.pkcs1_c.specs.Structs.{HaveBytes, number, numbers_of_prime}
-use Rattle.pkcs1_c.specs.Writes.{NoStatus}
 use Rattle.pkcs1_c.specs.declared.private_key.OtherPrime.{OtherPrime}
+use Rattle.standard.specs.Statement.{Algorithm, IsIdentifier, IsShortest, OaepParameters, PssParameters, TagAndContents}
 use Rattle.standard.specs.Statement.{octets}
 
 -- There is one status at most.
@@ -33,29 +28,21 @@ abbrev pub IsPart : (ℕ → Type 0) → Type 0
 IsPart WhyNot = IsOne WhyNot × IsTold WhyNot
 
 -- Encodings.
-module _ {V : Type 0} (Grammar : V → List ℕ → Type 0) (v : V) (room : ℕ) where
-  pub encoding_one : IsOne (EncodingError Grammar v room)
-  encoding_one s t (inl p) (inl q) = p.0 ∙ sym q.0
-  encoding_one s t (inl p) (inr q) = absurd (p.1 q.1 q.2.spells)
-  encoding_one s t (inr p) (inl q) = absurd (q.1 p.1 p.2.spells)
-  encoding_one s t (inr p) (inr q) = p.0 ∙ sym q.0
+module _ {V : Type 0} (Encoding : V → List ℕ → Type 0) (v : V) (room : ℕ) where
+  pub unwritten_one : IsOne (Unwritten Encoding v room)
+  unwritten_one s t (inl p) (inl q) = p.0 ∙ sym q.0
+  unwritten_one s t (inl p) (inr q) = absurd (p.1 q.2.0 q.2.1.0)
+  unwritten_one s t (inr p) (inl q) = absurd (q.1 p.2.0 p.2.1.0)
+  unwritten_one s t (inr p) (inr q) = p.0 ∙ sym q.0
 
   -- An encoding that fits is written.
-  pub fits_written : (encoding : List ℕ) → IsShortest Grammar v encoding → length encoding ≤ room
-      → NoStatus (EncodingError Grammar v room)
-  fits_written encoding shortest fits s (inl p) = p.1 encoding shortest.spells
-  fits_written encoding shortest fits s (inr p) = elim (p.2.least encoding shortest.spells) [
-    | inl same ↦ omega (arith, p.3, fits, ap length same)
-    | inr longer ↦ omega (arith, p.3, fits, longer)
+  pub fits_written : (bytes : List ℕ) → IsShortest Encoding v bytes → length bytes ≤ room
+      → NoStatus (Unwritten Encoding v room)
+  fits_written bytes shortest fits s (inl p) = p.1 bytes shortest.0
+  fits_written bytes shortest fits s (inr p) = elim (p.2.1.1 bytes shortest.0) [
+    | inl same ↦ omega (arith, p.3, p.2.2, fits, ap length same)
+    | inr longer ↦ omega (arith, p.3, p.2.2, fits, longer)
   ]
-
--- The same in the words of the statement.
-pub unwritten_one : {V : Type 0} (Encoding : V → List ℕ → Type 0) (v : V) (room : ℕ)
-    → IsOne (Unwritten Encoding v room)
-unwritten_one Encoding v room s t (inl p) (inl q) = p.0 ∙ sym q.0
-unwritten_one Encoding v room s t (inl p) (inr q) = absurd (p.1 q.2.0 q.2.1.0)
-unwritten_one Encoding v room s t (inr p) (inl q) = absurd (q.1 p.2.0 p.2.1.0)
-unwritten_one Encoding v room s t (inr p) (inr q) = p.0 ∙ sym q.0
 
 -- A part that is rejected by one status, where it can't be held.
 pub unless_part : (n : ℕ) (Fits : Type 0) → 0 < n → (n ≡ 15 → ⊥) → IsPart (λ s. (s ≡ n) × (Fits → ⊥))

@@ -1,6 +1,4 @@
 pub mod NumberValue
-pub mod Writes
-pub mod StructValues
 pub mod Status
 pub mod StructErrors
 pub mod Structs

@@ -1,4 +1,4 @@
--- The number of each error, and the string that describes it.
+-- The number of each error, the string that describes it, and which number a call returns.
 use Rattle.std.specs.Prelude.{ℕ, zero, suc, List, [], ◌∷◌, ◌≡◌, ◌<◌, codes, get_or, Result, Ok, Err}
 use Rattle.der_core.specs.declared.error.ErrorKind.{ErrorKind}
 use Rattle.der_core.specs.declared.error.ErrorKind.TheVariants as kind
@@ -38,6 +38,15 @@ IsErrorNumber given number = (kind : ErrorKind) × (given ≡ Err kind) × (numb
 abbrev pub IsStatusOf : {V : Type 0} → Result V ErrorKind → ℕ → Type 0
 IsStatusOf {V} given zero = (v : V) × (given ≡ Ok v)
 IsStatusOf given (suc n) = (suc n < 15) × IsErrorNumber given (suc n)
+
+-- There is no status of which it holds.
+abbrev pub NoStatus : (ℕ → Type 0) → Type 0
+NoStatus WhyNot = (status : ℕ) → WhyNot status → ⊥
+
+-- The status is 0, and nothing is wrong; or it is the only one of which `WhyNot` holds.
+abbrev pub IsErrorOf : (ℕ → Type 0) → ℕ → Type 0
+IsErrorOf WhyNot zero = NoStatus WhyNot
+IsErrorOf WhyNot (suc n) = WhyNot (suc n) × ((other : ℕ) → WhyNot other → other ≡ suc n)
 
 -- The strings, by number.
 abbrev pub status_texts : List (List ℕ)

@@ -1,31 +1,26 @@
 -- Why a C struct isn't written, by status: the first of its parts that can't be held, in the order of the struct; else
 -- why the value that it means isn't written.
 use Rattle.std.specs.Prelude.{ℕ, List, [], ◌∷◌, ◌++◌, ◌≡◌, ◌≢◌, ◌<◌, ◌⊎◌, IsTrue, length, false, Option, Some, None}
-use Rattle.der_core.specs.Document.{IsShortest}
 use Rattle.der_core.specs.Length.{limit}
 use Rattle.der_core.specs.Tag.{is_allowed}
 use Rattle.pkcs1.specs.KeyReadings.{rsa_private_key}
-use Rattle.pkcs1_params.specs.Parameters.{PssParameters, OaepParameters}
-use Rattle.spki_core.specs.Any.{TagAndContents}
-use Rattle.spki_core.specs.AlgorithmIdentifier.{Algorithm}
-use Rattle.spki_core.specs.ObjectIdentifier.{IsIdentifier}
-use Rattle.standard.specs.Statement.{ContainerEncoding, PrivateKeyEncoding, PublicKeyEncoding, octets}
+use Rattle.standard.specs.Statement.{Algorithm, ContainerEncoding, IsIdentifier, OaepParameters, PrivateKeyEncoding}
+use Rattle.standard.specs.Statement.{PssParameters, PublicKeyEncoding, TagAndContents, octets}
 use Rattle.pkcs1_c.specs.declared.container.PrivateKeyInfo.{PrivateKeyInfo}
 use Rattle.pkcs1_c.specs.declared.public_key.PublicKey.{PublicKey}
 use Rattle.pkcs1_c.specs.declared.private_key.PrivateKey.{PrivateKey}
 use Rattle.pkcs1_c.specs.declared.private_key.OtherPrime.{OtherPrime}
 use Rattle.pkcs1_c.specs.declared.status.TheConstants.{LENGTH, OID_MALFORMED, OVERFLOW, TAG_UNKNOWN, VALUE, NO_ROOM}
 use Rattle.pkcs1_c.specs.declared.status.TheConstants.{OTHER_PRIMES}
-use Rattle.pkcs1_c.specs.Status.{IsErrorNumber}
+use Rattle.pkcs1_c.specs.Status.{IsErrorNumber, NoStatus}
 use Rattle.pkcs1_c.specs.Structs.{HasKey, IsLength, number, numbers_of_key, numbers_of_prime, private_key}
 use Rattle.pkcs1_c.specs.Structs.{private_key_info, public_key}
-use Rattle.pkcs1_c.specs.Writes.{IsTooLong, NoStatus, WritesValue}
 
--- All parts can be held: the value has no encoding within the limit, or its shortest one is longer than the room.
-abbrev pub EncodingError : {V : Type 0} → (V → List ℕ → Type 0) → V → ℕ → ℕ → Type 0
-EncodingError Grammar v room status =
-    ((status ≡ OVERFLOW) × IsTooLong Grammar v)
-    ⊎ ((status ≡ NO_ROOM) × (encoding : List ℕ) × IsShortest Grammar v encoding × (room < length encoding))
+-- All parts can be held: the value has no encoding, or its shortest one is longer than the room.
+abbrev pub Unwritten : {V : Type 0} → (V → List ℕ → Type 0) → V → ℕ → ℕ → Type 0
+Unwritten Encoding v room status =
+    ((status ≡ OVERFLOW) × ((bytes : List ℕ) → Encoding v bytes → ⊥))
+    ⊎ ((status ≡ NO_ROOM) × (n : ℕ) × IsLength Encoding v n × (room < n))
 
 -- A part can't be held; or it can, and what follows it can't be, or isn't written.
 abbrev pub PartThen : (ℕ → Type 0) → (ℕ → Type 0) → ℕ → Type 0
@@ -41,12 +36,6 @@ NumberError bytes status =
 abbrev pub NumbersError : List (List ℕ) → ℕ → Type 0
 NumbersError [] status = ⊥
 NumbersError (bytes ∷ more) status = PartThen (NumberError bytes) (NumbersError more) status
-
--- All numbers can be held: the key has no encoding, or its shortest one is longer than the room.
-abbrev pub Unwritten : {V : Type 0} → (V → List ℕ → Type 0) → V → ℕ → ℕ → Type 0
-Unwritten Encoding v room status =
-    ((status ≡ OVERFLOW) × ((bytes : List ℕ) → Encoding v bytes → ⊥))
-    ⊎ ((status ≡ NO_ROOM) × (n : ℕ) × IsLength Encoding v n × (room < n))
 
 -- The numbers of a public key.
 abbrev pub two_numbers : PublicKey → List (List ℕ)
@@ -119,12 +108,7 @@ PssFieldError p = HashFieldsThen p.hash p.mask_gen (λ status. (status ≡ VALUE
 abbrev pub OaepFieldError : OaepParameters → ℕ → Type 0
 OaepFieldError p = HashFieldsThen p.hash p.mask_gen (PlainError p.p_source)
 
--- One of the fields can't be held, or parameters with these fields aren't written.
+-- One of the fields can't be held; or parameters with these fields aren't written, by their own encoding or by that of
+-- the algorithm identifier that they stand in.
 abbrev pub FieldsError : {V : Type 0} → (V → ℕ → Type 0) → (V → List ℕ → Type 0) → V → ℕ → ℕ → Type 0
-FieldsError FieldError Grammar v room = PartThen (FieldError v) (EncodingError Grammar v room)
-
--- The shortest encoding is written of parameters whose fields can be held: their own, or that of the algorithm
--- identifier that they stand in.
-abbrev pub WritesFields : {V : Type 0} → (V → ℕ → Type 0) → (V → List ℕ → Type 0) → V → List ℕ → List ℕ → ℕ → ℕ → ℕ
-    → Type 0
-WritesFields FieldError Grammar v = WritesValue Grammar v (FieldsError FieldError Grammar v)
+FieldsError FieldError Encoding v room = PartThen (FieldError v) (Unwritten Encoding v room)

@@ -1,7 +1,7 @@
 -- What the structs for C hold, in the words of `Statement.antt`, and what a call that writes says and leaves.
 -- One rule: the function that is named as a struct, in lower case with underscores, gives the value that it holds; of
 -- parameters it ends with `seen`.
-use Rattle.std.specs.Prelude.{ℕ, List, [], ◌∷◌, ◌≡◌, ◌≢◌, ◌<◌, ◌⊎◌, length, take, map, Option, Some, None}
+use Rattle.std.specs.Prelude.{ℕ, List, [], ◌∷◌, ◌≡◌, ◌≢◌, ◌<◌, length, take, map, Option, Some, None}
 use Rattle.std.specs.Prelude.{false, if◌then◌else◌}
 use Rattle.std.specs.Int.Digits.{number_from_digits}
 use Rattle.std.specs.List.{AllByRecursion}
@@ -14,8 +14,8 @@ use Rattle.pkcs1_c.specs.declared.private_key.PrivateKey as key_structs
 use Rattle.pkcs1_c.specs.declared.pss.PssParams.{PssParams}
 use Rattle.pkcs1_c.specs.declared.public_key.PublicKey as public_structs
 use Rattle.standard.specs.Statement.{octets, PublicKey, PrivateKey, PrivateKeyEncoding, OtherPrime, TagAndContents}
-use Rattle.standard.specs.Statement.{Algorithm, PssParameters, OaepParameters, Container, null, mgf1_sha1}
-use Rattle.standard.specs.Statement.{empty_label, rsa_encryption, IsShortest, Encodes, Decodes}
+use Rattle.standard.specs.Statement.{Algorithm, PssParameters, OaepParameters, Container, rsa_encryption, IsShortest}
+use Rattle.standard.specs.Statement.{Encodes, Decodes}
 
 -- == Writing ==
 -- The length of the value's shortest encoding.
@@ -79,20 +79,20 @@ abbrev pub oaep_seen : OaepParams → OaepParameters
 oaep_seen p =
     record { hash = algorithm_seen p.hash; mask_gen = mask_gen_seen p.mask_gen; p_source = algorithm_seen p.p_source }
 
--- The algorithm is the hash function with this identifier: its parameters are absent, or NULL.
-abbrev pub IsHash : List ℕ → Algorithm TagAndContents → Type 0
-IsHash oid a = (a.oid ≡ oid) × ((a.parameters ≡ None) ⊎ (a.parameters ≡ Some null))
+-- What a struct that was filled has in fields that count for nothing: if a `has_..` is false, what belongs to it is
+-- empty.
+abbrev pub AlgorithmIsTidy : algorithms.Algorithm → Type 0
+AlgorithmIsTidy a = a.has_parameters ≡ false → (a.tag ≡ 0) × (a.parameters.now ≡ [])
 
--- The hash function has this identifier, and the mask generation function is MGF1 with a hash function that has it too.
-abbrev pub UsesHash : List ℕ → Algorithm TagAndContents → Algorithm (Algorithm TagAndContents) → Type 0
-UsesHash oid hash mask_gen =
-    IsHash oid hash × (mask_gen.oid ≡ mgf1_sha1.oid)
-    × (inner : Algorithm TagAndContents) × (mask_gen.parameters ≡ Some inner) × IsHash oid inner
+abbrev pub MaskGenIsTidy : MaskGen → Type 0
+MaskGenIsTidy m =
+    (m.has_hash ≡ false → (m.hash.oid.now ≡ []) × (m.hash.has_parameters ≡ false)) × AlgorithmIsTidy m.hash
 
--- The source is pSpecified with an OCTET STRING, whose octets are the label.
-abbrev pub HasLabel : Algorithm TagAndContents → List ℕ → Type 0
-HasLabel source label =
-    source ≡ record { oid = empty_label.oid; parameters = Some (record { tag = 4; contents = label }) }
+abbrev pub PssIsTidy : PssParams → Type 0
+PssIsTidy p = AlgorithmIsTidy p.hash × MaskGenIsTidy p.mask_gen
+
+abbrev pub OaepIsTidy : OaepParams → Type 0
+OaepIsTidy p = AlgorithmIsTidy p.hash × MaskGenIsTidy p.mask_gen × AlgorithmIsTidy p.p_source
 
 -- == Private keys ==
 -- Each number has a byte.

@@ -14,9 +14,6 @@ mod private_key;
 mod pss;
 mod pss_algorithm;
 mod public_key;
-mod stated_hashes;
-mod stated_oaep;
-mod stated_pss;
 mod status;
 mod written;
 
@@ -45,13 +42,4 @@ pub use pss_algorithm::{
     pkcs1_c_pss_algorithm_decode, pkcs1_c_pss_algorithm_decode_strict, pkcs1_c_pss_algorithm_encode,
 };
 pub use public_key::{PublicKey, pkcs1_c_public_key_decode, pkcs1_c_public_key_encode};
-pub use stated_hashes::{algorithm_is, oaep_is, oaep_label, pss_is};
-pub use stated_oaep::{
-    decode_oaep_algorithm, decode_oaep_algorithm_strictly, decode_oaep_params,
-    decode_oaep_params_strictly, encode_oaep_algorithm, encode_oaep_params,
-};
-pub use stated_pss::{
-    decode_pss_algorithm, decode_pss_algorithm_strictly, decode_pss_params,
-    decode_pss_params_strictly, encode_pss_algorithm, encode_pss_params,
-};
 pub use status::{pkcs1_c_status_text, pkcs1_c_version};

@@ -1,12 +1,10 @@
 //! Parameters of RSAES-OAEP.
 ghost use Rattle.std.specs.Bool.{Decides};
-ghost use Rattle.std.specs.Prelude.{◌≡◌, ◌≢◌, IfOk, IfErr, Some, None, true, false};
-ghost use Rattle.der_core.specs.Words.{HasEncoding, IsShortest};
-ghost use Rattle.pkcs1_params.specs.Words.{IsNoSentence, IsNoShortest, IsTheMeaning, IsTheShortest, oaep_viewed};
-ghost use Rattle.pkcs1_params.specs.Words.{LabelOf, rsa_oaep_params, strict_oaep_params, UsesHash};
-ghost use Rattle.pkcs1_params.specs.Parameters as grammar;
-ghost use Rattle.pkcs1_c.specs.Words.{IsStatusOf, status_of, oaep_seen, OaepIsTidy, EncodingError, OaepFieldError};
-ghost use Rattle.pkcs1_c.specs.Words.{WritesFields, WritesValue};
+ghost use Rattle.std.specs.Prelude.{◌≡◌, ◌≢◌, length, IfOk, IfErr, Some, None, true, false};
+ghost use Rattle.pkcs1_params.specs.Words.{LabelOf, UsesHash, oaep_viewed, rsa_oaep_params, strict_oaep_params};
+ghost use Rattle.pkcs1_c.specs.Words.{FieldsError, IsErrorOf, IsStatusOf, OaepFieldError, OaepIsTidy, WritesOrTells};
+ghost use Rattle.pkcs1_c.specs.Words.{oaep_seen, status_of};
+ghost use Rattle.standard.specs.Statement.{Decodes, IsShortest, OaepEncoding};
 
 use crate::algorithm::{
     Algorithm, MaskGen, from_c_algorithm, from_c_mask_gen, to_c_algorithm, to_c_mask_gen, uses_hash,
@@ -62,8 +60,8 @@ pub extern "C" fn pkcs1_c_oaep_params_decode<'a>(
     encoding: &'a [u8],
     params: &mut OaepParams<'a>,
 ) -> u32
-    ensures ok { result ≡ OK → IsTheMeaning grammar.RsaOaepParams encoding.now (oaep_seen params.new) }
-    ensures rejected { result ≢ OK → IsNoSentence grammar.RsaOaepParams encoding.now }
+    ensures ok { result ≡ OK → Decodes OaepEncoding encoding.now (Some (oaep_seen params.new)) }
+    ensures rejected { result ≢ OK → Decodes OaepEncoding encoding.now None }
     ensures exact { IsStatusOf (rsa_oaep_params encoding.now) result }
     ensures tidy { result ≡ OK → OaepIsTidy params.new }
     ensures unchanged { result ≢ OK → params.new ≡ params.old }
@@ -78,8 +76,8 @@ pub extern "C" fn pkcs1_c_oaep_params_decode_strict<'a>(
     encoding: &'a [u8],
     params: &mut OaepParams<'a>,
 ) -> u32
-    ensures ok { result ≡ OK → IsTheShortest grammar.RsaOaepParams encoding.now (oaep_seen params.new) }
-    ensures rejected { result ≢ OK → IsNoShortest grammar.RsaOaepParams encoding.now }
+    ensures ok { result ≡ OK → Decodes (IsShortest OaepEncoding) encoding.now (Some (oaep_seen params.new)) }
+    ensures rejected { result ≢ OK → Decodes (IsShortest OaepEncoding) encoding.now None }
     ensures exact { IsStatusOf (strict_oaep_params encoding.now) result }
     ensures tidy { result ≡ OK → OaepIsTidy params.new }
     ensures unchanged { result ≢ OK → params.new ≡ params.old }
@@ -99,8 +97,9 @@ pub extern "C" fn pkcs1_c_oaep_params_encode(
     out: &mut [u8],
     len: &mut usize,
 ) -> u32
-    ensures { let v = oaep_seen params.now in
-        WritesFields OaepFieldError grammar.RsaOaepParams v out.old out.new len.old len.new result }
+    ensures writes { WritesOrTells OaepEncoding (oaep_seen params.now) out.old out.new len.old len.new result }
+    ensures exact { let v = oaep_seen params.now in
+        IsErrorOf (FieldsError OaepFieldError OaepEncoding v (length out.old)) result }
 {
     match from_c_oaep(params) {
         Ok(made) => write_params(&made, out, len),

@@ -1,8 +1,9 @@
 //! The algorithm identifier of RSAES-OAEP with its parameters.
-ghost use Rattle.std.specs.Prelude.{◌≡◌, ◌≢◌};
-ghost use Rattle.pkcs1_params.specs.Words.{RsaOaepAlgorithm, rsa_oaep_algorithm, strict_oaep_algorithm};
-ghost use Rattle.pkcs1_params.specs.Words.{IsNoSentence, IsNoShortest, IsTheMeaning, IsTheShortest};
-ghost use Rattle.pkcs1_c.specs.Words.{IsStatusOf, OaepFieldError, WritesFields, oaep_seen, OaepIsTidy};
+ghost use Rattle.std.specs.Prelude.{◌≡◌, ◌≢◌, length, Some, None};
+ghost use Rattle.pkcs1_params.specs.Words.{rsa_oaep_algorithm, strict_oaep_algorithm};
+ghost use Rattle.pkcs1_c.specs.Words.{FieldsError, IsErrorOf, IsStatusOf, OaepFieldError, OaepIsTidy, WritesOrTells};
+ghost use Rattle.pkcs1_c.specs.Words.{oaep_seen};
+ghost use Rattle.standard.specs.Statement.{Decodes, IsShortest, OaepAlgorithmEncoding};
 
 use crate::filled::fill;
 use crate::oaep::{OaepParams, from_c_oaep, to_c_oaep};
@@ -17,8 +18,8 @@ pub extern "C" fn pkcs1_c_oaep_algorithm_decode<'a>(
     encoding: &'a [u8],
     params: &mut OaepParams<'a>,
 ) -> u32
-    ensures ok { result ≡ OK → IsTheMeaning RsaOaepAlgorithm encoding.now (oaep_seen params.new) }
-    ensures rejected { result ≢ OK → IsNoSentence RsaOaepAlgorithm encoding.now }
+    ensures ok { result ≡ OK → Decodes OaepAlgorithmEncoding encoding.now (Some (oaep_seen params.new)) }
+    ensures rejected { result ≢ OK → Decodes OaepAlgorithmEncoding encoding.now None }
     ensures exact { IsStatusOf (rsa_oaep_algorithm encoding.now) result }
     ensures tidy { result ≡ OK → OaepIsTidy params.new }
     ensures unchanged { result ≢ OK → params.new ≡ params.old }
@@ -37,8 +38,8 @@ pub extern "C" fn pkcs1_c_oaep_algorithm_decode_strict<'a>(
     encoding: &'a [u8],
     params: &mut OaepParams<'a>,
 ) -> u32
-    ensures ok { result ≡ OK → IsTheShortest RsaOaepAlgorithm encoding.now (oaep_seen params.new) }
-    ensures rejected { result ≢ OK → IsNoShortest RsaOaepAlgorithm encoding.now }
+    ensures ok { result ≡ OK → Decodes (IsShortest OaepAlgorithmEncoding) encoding.now (Some (oaep_seen params.new)) }
+    ensures rejected { result ≢ OK → Decodes (IsShortest OaepAlgorithmEncoding) encoding.now None }
     ensures exact { IsStatusOf (strict_oaep_algorithm encoding.now) result }
     ensures tidy { result ≡ OK → OaepIsTidy params.new }
     ensures unchanged { result ≢ OK → params.new ≡ params.old }
@@ -58,8 +59,10 @@ pub extern "C" fn pkcs1_c_oaep_algorithm_encode(
     out: &mut [u8],
     len: &mut usize,
 ) -> u32
-    ensures { let v = oaep_seen params.now in
-        WritesFields OaepFieldError RsaOaepAlgorithm v out.old out.new len.old len.new result }
+    ensures writes { let v = oaep_seen params.now in
+        WritesOrTells OaepAlgorithmEncoding v out.old out.new len.old len.new result }
+    ensures exact { let v = oaep_seen params.now in
+        IsErrorOf (FieldsError OaepFieldError OaepAlgorithmEncoding v (length out.old)) result }
 {
     match from_c_oaep(params) {
         Ok(made) => write_algorithm::<RsaesOaep, _>(&made, out, len),

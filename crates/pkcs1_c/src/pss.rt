@@ -1,12 +1,10 @@
 //! Parameters of RSASSA-PSS.
 ghost use Rattle.std.specs.Bool.{Decides};
-ghost use Rattle.std.specs.Prelude.{◌≡◌, ◌≢◌, ◌<◌, IfOk, IfErr};
-ghost use Rattle.der_core.specs.Words.{HasEncoding, IsShortest};
-ghost use Rattle.pkcs1_params.specs.Words.{IsNoSentence, IsNoShortest, IsTheMeaning, IsTheShortest, pss_viewed};
-ghost use Rattle.pkcs1_params.specs.Words.{rsa_pss_params, strict_pss_params, UsesHash};
-ghost use Rattle.pkcs1_params.specs.Parameters as grammar;
-ghost use Rattle.pkcs1_c.specs.Words.{IsStatusOf, status_of, pss_seen, PssIsTidy, EncodingError, PssFieldError};
-ghost use Rattle.pkcs1_c.specs.Words.{WritesFields, WritesValue};
+ghost use Rattle.std.specs.Prelude.{◌≡◌, ◌≢◌, length, IfOk, IfErr, Some, None};
+ghost use Rattle.pkcs1_params.specs.Words.{UsesHash, pss_viewed, rsa_pss_params, strict_pss_params};
+ghost use Rattle.pkcs1_c.specs.Words.{FieldsError, IsErrorOf, IsStatusOf, PssFieldError, PssIsTidy, WritesOrTells};
+ghost use Rattle.pkcs1_c.specs.Words.{pss_seen, status_of};
+ghost use Rattle.standard.specs.Statement.{Decodes, IsShortest, PssEncoding};
 
 use crate::algorithm::{
     Algorithm, MaskGen, from_c_algorithm, from_c_mask_gen, to_c_algorithm, to_c_mask_gen, uses_hash,
@@ -70,8 +68,8 @@ pub extern "C" fn pkcs1_c_pss_params_decode<'a>(
     encoding: &'a [u8],
     params: &mut PssParams<'a>,
 ) -> u32
-    ensures ok { result ≡ OK → IsTheMeaning grammar.RsaPssParams encoding.now (pss_seen params.new) }
-    ensures rejected { result ≢ OK → IsNoSentence grammar.RsaPssParams encoding.now }
+    ensures ok { result ≡ OK → Decodes PssEncoding encoding.now (Some (pss_seen params.new)) }
+    ensures rejected { result ≢ OK → Decodes PssEncoding encoding.now None }
     ensures exact { IsStatusOf (rsa_pss_params encoding.now) result }
     ensures tidy { result ≡ OK → PssIsTidy params.new }
     ensures unchanged { result ≢ OK → params.new ≡ params.old }
@@ -86,8 +84,8 @@ pub extern "C" fn pkcs1_c_pss_params_decode_strict<'a>(
     encoding: &'a [u8],
     params: &mut PssParams<'a>,
 ) -> u32
-    ensures ok { result ≡ OK → IsTheShortest grammar.RsaPssParams encoding.now (pss_seen params.new) }
-    ensures rejected { result ≢ OK → IsNoShortest grammar.RsaPssParams encoding.now }
+    ensures ok { result ≡ OK → Decodes (IsShortest PssEncoding) encoding.now (Some (pss_seen params.new)) }
+    ensures rejected { result ≢ OK → Decodes (IsShortest PssEncoding) encoding.now None }
     ensures exact { IsStatusOf (strict_pss_params encoding.now) result }
     ensures tidy { result ≡ OK → PssIsTidy params.new }
     ensures unchanged { result ≢ OK → params.new ≡ params.old }
@@ -107,8 +105,9 @@ pub extern "C" fn pkcs1_c_pss_params_encode(
     out: &mut [u8],
     len: &mut usize,
 ) -> u32
-    ensures { let v = pss_seen params.now in
-        WritesFields PssFieldError grammar.RsaPssParams v out.old out.new len.old len.new result }
+    ensures writes { WritesOrTells PssEncoding (pss_seen params.now) out.old out.new len.old len.new result }
+    ensures exact { let v = pss_seen params.now in
+        IsErrorOf (FieldsError PssFieldError PssEncoding v (length out.old)) result }
 {
     match from_c_pss(params) {
         Ok(made) => write_params(&made, out, len),

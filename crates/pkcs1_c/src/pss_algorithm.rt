@@ -1,8 +1,9 @@
 //! The algorithm identifier of RSASSA-PSS with its parameters.
-ghost use Rattle.std.specs.Prelude.{◌≡◌, ◌≢◌};
-ghost use Rattle.pkcs1_params.specs.Words.{RsaPssAlgorithm, rsa_pss_algorithm, strict_pss_algorithm};
-ghost use Rattle.pkcs1_params.specs.Words.{IsNoSentence, IsNoShortest, IsTheMeaning, IsTheShortest};
-ghost use Rattle.pkcs1_c.specs.Words.{IsStatusOf, PssFieldError, WritesFields, pss_seen, PssIsTidy};
+ghost use Rattle.std.specs.Prelude.{◌≡◌, ◌≢◌, length, Some, None};
+ghost use Rattle.pkcs1_params.specs.Words.{rsa_pss_algorithm, strict_pss_algorithm};
+ghost use Rattle.pkcs1_c.specs.Words.{FieldsError, IsErrorOf, IsStatusOf, PssFieldError, PssIsTidy, WritesOrTells};
+ghost use Rattle.pkcs1_c.specs.Words.{pss_seen};
+ghost use Rattle.standard.specs.Statement.{Decodes, IsShortest, PssAlgorithmEncoding};
 
 use crate::filled::fill;
 use crate::pss::{PssParams, from_c_pss, to_c_pss};
@@ -17,8 +18,8 @@ pub extern "C" fn pkcs1_c_pss_algorithm_decode<'a>(
     encoding: &'a [u8],
     params: &mut PssParams<'a>,
 ) -> u32
-    ensures ok { result ≡ OK → IsTheMeaning RsaPssAlgorithm encoding.now (pss_seen params.new) }
-    ensures rejected { result ≢ OK → IsNoSentence RsaPssAlgorithm encoding.now }
+    ensures ok { result ≡ OK → Decodes PssAlgorithmEncoding encoding.now (Some (pss_seen params.new)) }
+    ensures rejected { result ≢ OK → Decodes PssAlgorithmEncoding encoding.now None }
     ensures exact { IsStatusOf (rsa_pss_algorithm encoding.now) result }
     ensures tidy { result ≡ OK → PssIsTidy params.new }
     ensures unchanged { result ≢ OK → params.new ≡ params.old }
@@ -37,8 +38,8 @@ pub extern "C" fn pkcs1_c_pss_algorithm_decode_strict<'a>(
     encoding: &'a [u8],
     params: &mut PssParams<'a>,
 ) -> u32
-    ensures ok { result ≡ OK → IsTheShortest RsaPssAlgorithm encoding.now (pss_seen params.new) }
-    ensures rejected { result ≢ OK → IsNoShortest RsaPssAlgorithm encoding.now }
+    ensures ok { result ≡ OK → Decodes (IsShortest PssAlgorithmEncoding) encoding.now (Some (pss_seen params.new)) }
+    ensures rejected { result ≢ OK → Decodes (IsShortest PssAlgorithmEncoding) encoding.now None }
     ensures exact { IsStatusOf (strict_pss_algorithm encoding.now) result }
     ensures tidy { result ≡ OK → PssIsTidy params.new }
     ensures unchanged { result ≢ OK → params.new ≡ params.old }
@@ -58,8 +59,9 @@ pub extern "C" fn pkcs1_c_pss_algorithm_encode(
     out: &mut [u8],
     len: &mut usize,
 ) -> u32
-    ensures { let v = pss_seen params.now in
-        WritesFields PssFieldError RsaPssAlgorithm v out.old out.new len.old len.new result }
+    ensures writes { WritesOrTells PssAlgorithmEncoding (pss_seen params.now) out.old out.new len.old len.new result }
+    ensures exact { let v = pss_seen params.now in
+        IsErrorOf (FieldsError PssFieldError PssAlgorithmEncoding v (length out.old)) result }
 {
     match from_c_pss(params) {
         Ok(made) => write_algorithm::<RsassaPss, _>(&made, out, len),

@@ -1,8 +1,9 @@
 //! Encoding into a caller's slice.
 ghost use Rattle.std.specs.Prelude.{◌≡◌, ◌≤◌, ◌<◌, length};
-ghost use Rattle.der_core.specs.Words.{Prints, limit};
-ghost use Rattle.pkcs1_params.specs.Words.{AlgorithmOf, Fielded};
-ghost use Rattle.pkcs1_c.specs.Words.{EncodingError, WritesValue};
+ghost use Rattle.der_core.specs.Words.{Spells, limit};
+ghost use Rattle.pkcs1_params.specs.Words.{Encoded};
+ghost use Rattle.pkcs1_c.specs.Words.{IsErrorOf, Unwritten, WritesOrTells};
+ghost use Rattle.standard.specs.Statement.{AlgorithmEncoding};
 
 use crate::status::{OK, kind_number, status};
 use der_core::Encode;
@@ -24,8 +25,10 @@ pub(crate) fn set_needed<T: Encode>(value: &T, len: &mut usize)
 /// with the needed length in `len`, or another status, with `len` unchanged.
 pub(crate) fn write_encoding<T: Encode>(value: &T, out: &mut [u8], len: &mut usize) -> u32
     requires { T.valid (T.written (T.value value.now)) }
-    ensures { let v = T.value value.now in let encodings = Prints T.valid T.printed T.means in
-        WritesValue encodings v (EncodingError encodings v) out.old out.new len.old len.new result }
+    ensures writes { let Encoding = Spells T.valid T.printed T.means in
+        WritesOrTells Encoding (T.value value.now) out.old out.new len.old len.new result }
+    ensures exact { let Encoding = Spells T.valid T.printed T.means in
+        IsErrorOf (Unwritten Encoding (T.value value.now) (length out.old)) result }
 {
     match value.encode_into(out) {
         Ok(written) => {
@@ -41,10 +44,12 @@ pub(crate) fn write_encoding<T: Encode>(value: &T, out: &mut [u8], len: &mut usi
 
 /// Writes the shortest encoding of parameters, as `write_encoding` does.
 pub(crate) fn write_params<T: EncodeParams>(params: T, out: &mut [u8], len: &mut usize) -> u32
-    ensures { let v = T.params params in let Grammar = Fielded T.values in
-        WritesValue Grammar v (EncodingError Grammar v) out.old out.new len.old len.new result }
+    ensures writes { let Encoding = Encoded T.Is T.fields_of in
+        WritesOrTells Encoding (T.params params) out.old out.new len.old len.new result }
+    ensures exact { let Encoding = Encoded T.Is T.fields_of in
+        IsErrorOf (Unwritten Encoding (T.params params) (length out.old)) result }
 {
-    params.lemma_has_encoding();
+    params.lemma_is_valid();
     match params.encode_params(out) {
         Ok(count) => {
             *len = count;
@@ -63,8 +68,10 @@ pub(crate) fn write_algorithm<D: AssociatedOid, T: EncodeParams>(
     out: &mut [u8],
     len: &mut usize,
 ) -> u32
-    ensures { let v = T.params params in let Grammar = AlgorithmOf D.contents (Fielded T.values) in
-        WritesValue Grammar v (EncodingError Grammar v) out.old out.new len.old len.new result }
+    ensures writes { let Encoding = AlgorithmEncoding D.contents (Encoded T.Is T.fields_of) in
+        WritesOrTells Encoding (T.params params) out.old out.new len.old len.new result }
+    ensures exact { let Encoding = AlgorithmEncoding D.contents (Encoded T.Is T.fields_of) in
+        IsErrorOf (Unwritten Encoding (T.params params) (length out.old)) result }
 {
     write_encoding(&Shortest::identified::<D>(params), out, len)
 }

@@ -1,21 +1,18 @@
 -- What is put behind bytes, piece by piece.
 use Rattle.std.proofs.Common.{◌≡◌, ℕ, List, [], ◌∷◌, ◌++◌, ◌+◌, ◌<◌, length, take, inl, inr, refl, sym, ap, ◌∙◌}
-use Rattle.std.proofs.Common.{append_assoc, append-nil, get_or}
+use Rattle.std.proofs.Common.{append_assoc, append-nil, get_or, None}
 use Rattle.std.proofs.lemmas.Grind.{flat_map-append}
 use Rattle.std.proofs.lemmas.List.{take_more}
 use Rattle.std.specs.List.{flat_map}
-use Rattle.std.specs.Prelude.{Result, OnOk}
+use Rattle.std.specs.Prelude.{Result, OnOk, codes}
 use Rattle.std.proofs.lemmas.Result.{on_ok_weaker}
-use Rattle.der_core.specs.Document.{Means, IsShortest}
 use Rattle.der_core.specs.Laws.Integer.{holds_canonical}
 use Rattle.der_core.specs.Laws.Printed.Leaves.{number_octets}
 use Rattle.der_core.specs.UintRefValue.{bytes_of}
 use Rattle.der_core.specs.declared.integer.uint.UintRef.{UintRef}
 use Rattle.pkcs1.specs.Held.{number_in}
-use Rattle.spki_core.specs.Explicit.{Field, HaveDefaults}
-use Rattle.standard.specs.Statement as statement
-use Rattle.standard.specs.Statement.{AtMostOne, PrivateKeyEncoding, PublicKeyEncoding, octets}
-use Rattle.pkcs1_lines.specs.Answer.{Tells, TellsParameters}
+use Rattle.standard.specs.Statement.{AtMostOne, Decodes, IsShortest, octets}
+use Rattle.pkcs1_lines.specs.Answer.{Answered, Tells}
 
 -- one piece more in front of those that follow
 more : (old now new piece rest : List ℕ) → now ≡ old ++ piece → new ≡ now ++ rest → new ≡ old ++ (piece ++ rest)
@@ -42,30 +39,27 @@ item_put tell xs i x old now new below is before put =
     ∙ sym (flat_map-append tell (take i xs) (x ∷ []))
     ∙ ap (flat_map tell) (sym last))
 
--- what is put of a value, with its only encoding, is an answer
-pub told : {V T E : Type 0} (Encoding : V → List ℕ → Type 0) (tell : V → List ℕ → List ℕ) → AtMostOne Encoding → (v : V)
-    (encoding old new : List ℕ) (r : Result T E) → Encoding v encoding → OnOk r (new ≡ old ++ tell v encoding)
-    → OnOk r ((answer : List ℕ) × Tells Encoding tell encoding answer × (new ≡ old ++ answer))
-told Encoding tell one v encoding old new r is put =
-    let shortest : statement.IsShortest Encoding v encoding = (is, λ other p. inl (one v other encoding p is)) in
-    on_ok_weaker r (λ p. (tell v encoding, inr (v, is, (encoding, shortest, refl)), p)) put
+module _ {V T E : Type 0} (Encoding : V → List ℕ → Type 0) (encoding old new : List ℕ) (r : Result T E) where
+  -- what is put of a value is an answer
+  pub told : (Told : V → List ℕ → Type 0) (v : V) (answer : List ℕ) → Encoding v encoding → Told v answer
+      → OnOk r (new ≡ old ++ answer)
+      → OnOk r ((a : List ℕ) × Answered Encoding Told encoding a × (new ≡ old ++ a))
+  told Told v answer is tells put = on_ok_weaker r (λ p. (answer, inr (v, is, tells), p)) put
 
--- what is put of parameters, with how many of their fields have their defaults and with their shortest encoding, is an
--- answer
-pub parameters_told : {V T E : Type 0} (Grammar : V → List ℕ → Type 0) (fields : V → List Field)
-    (tell : V → ℕ → List ℕ → List ℕ) (v : V) (k : ℕ) (encoding again old new : List ℕ)
-    (r : Result T E) → Means Grammar encoding v → HaveDefaults (fields v) k → IsShortest Grammar v again
-    → OnOk r (new ≡ old ++ tell v k again)
-    → OnOk r ((answer : List ℕ) × TellsParameters Grammar fields tell encoding answer × (new ≡ old ++ answer))
-parameters_told Grammar fields tell v k encoding again old new r means defaults shortest put =
-    on_ok_weaker r (λ p. (tell v k again, inr (v, means, (k, defaults, again, shortest, refl)), p)) put
+  -- so is `refused`, of no value
+  pub refused : (Told : V → List ℕ → Type 0) → Decodes Encoding encoding None
+      → OnOk r (new ≡ old ++ codes "refused")
+      → OnOk r ((a : List ℕ) × Answered Encoding Told encoding a × (new ≡ old ++ a))
+  refused Told none put = on_ok_weaker r (λ p. (codes "refused", inl (none, refl), p)) put
 
--- keys have one encoding each
-pub public_one : AtMostOne PublicKeyEncoding
-public_one v a b p q = p.1 ∙ sym q.1
-
-pub private_one : AtMostOne PrivateKeyEncoding
-private_one v a b p q = p.2 ∙ sym q.2
+  -- what is put of a value, with its only encoding
+  pub key_told : (tell : V → List ℕ → List ℕ) → AtMostOne Encoding → (v : V) → Encoding v encoding
+      → OnOk r (new ≡ old ++ tell v encoding)
+      → OnOk r ((a : List ℕ) × Tells Encoding tell encoding a × (new ≡ old ++ a))
+  key_told tell one v is put =
+      let shortest : IsShortest Encoding v encoding = (is, λ other p. inl (one v other encoding p is)) in
+      told (λ v a. (again : List ℕ) × IsShortest Encoding v again × (a ≡ tell v again)) v (tell v encoding) is
+      (encoding, shortest, refl) put
 
 -- the octets of a number
 pub octets_held : (u : UintRef) → bytes_of u ≡ octets (number_in bytes_of u)

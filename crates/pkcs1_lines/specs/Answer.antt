@@ -1,14 +1,9 @@
 -- The output for a line, and for an input.
-use Rattle.std.specs.Prelude.{◌≡◌, ℕ, ◌^◌, ◌⊎◌, List, [], ◌∷◌, ◌++◌, None, codes}
-use Rattle.der_core.specs.Document.{Means, IsShortest, MeanTheSame}
-use Rattle.spki_core.specs.Explicit.{Field, HaveDefaults}
-use Rattle.pkcs1.specs.KeyEncodings.{IsEncoded}
-use Rattle.pkcs1_params.specs.Parameters.{RsaPssParams, pss_fields, RsaOaepParams, oaep_fields}
-use Rattle.pkcs1_params.specs.Spellings.{AllFit, AreUnder}
+use Rattle.std.specs.Prelude.{◌≡◌, ℕ, ◌≤◌, ◌⊎◌, List, [], ◌∷◌, ◌++◌, Some, None, codes, length}
 use Rattle.pkcs8_core.specs.Rsa.{ContainedKey}
-use Rattle.standard.specs.Statement as statement
-use Rattle.standard.specs.Statement.{Container, ContainerEncoding, Decodes, PrivateKey, PrivateKeyEncoding}
-use Rattle.standard.specs.Statement.{PublicKeyEncoding}
+use Rattle.standard.specs.Statement.{Container, ContainerEncoding, Decodes, Defaults, Field, Fields, IsOaep, IsPss}
+use Rattle.standard.specs.Statement.{IsShortest, Lists, OaepEncoding, PrivateKey, PrivateKeyEncoding, PssEncoding}
+use Rattle.standard.specs.Statement.{PublicKeyEncoding, SequenceOf, limit, longest, oaep_fields, pss_fields}
 use Rattle.pkcs1_lines.specs.Lines.{lines_of}
 use Rattle.pkcs1_lines.specs.declared.request.Word.{Word}
 use Rattle.pkcs1_lines.specs.declared.request.Word.TheVariants as word
@@ -23,22 +18,18 @@ Answered {V} Encoding Told encoding answer =
     (Decodes Encoding encoding None × (answer ≡ codes "refused"))
     ⊎ ((value : V) × Encoding value encoding × Told value answer)
 
--- The encodings of a grammar within the limit.
-abbrev pub Within : {V : Type 0} → (V → List ℕ → Type 0) → V → List ℕ → Type 0
-Within Grammar value encoding = Means Grammar encoding value
-
 -- the value and its shortest encoding
 abbrev pub Tells : {V : Type 0} → (V → List ℕ → Type 0) → (V → List ℕ → List ℕ) → List ℕ → List ℕ → Type 0
 Tells Encoding told encoding answer =
-    Answered Encoding (λ value a. (again : List ℕ) × statement.IsShortest Encoding value again × (a ≡ told value again))
-    encoding answer
+    Answered Encoding (λ value a. (again : List ℕ) × IsShortest Encoding value again × (a ≡ told value again)) encoding
+    answer
 
--- the value, how many of its fields equal their defaults, and its shortest encoding
+-- the value, how many of its fields have their defaults, and its shortest encoding
 abbrev pub TellsParameters : {V : Type 0} → (V → List ℕ → Type 0) → (V → List Field) → (V → ℕ → List ℕ → List ℕ)
     → List ℕ → List ℕ → Type 0
-TellsParameters Grammar fields told encoding answer =
-    Answered (Within Grammar) (λ value a. (k : ℕ) × HaveDefaults (fields value) k × (again : List ℕ)
-    × IsShortest Grammar value again × (a ≡ told value k again)) encoding answer
+TellsParameters Encoding fields told encoding answer =
+    Answered Encoding (λ value a. (k : ℕ) × Defaults (fields value) k × (again : List ℕ)
+    × IsShortest Encoding value again × (a ≡ told value k again)) encoding answer
 
 -- the word and ` yes` if the fact holds, else the word and ` no`
 abbrev pub SaysWhether : List ℕ → Type 0 → List ℕ → Type 0
@@ -46,22 +37,26 @@ SaysWhether word fact answer = (fact × (answer ≡ word ++ codes " yes")) ⊎ (
 
 -- whether the encoding is the shortest of its value
 abbrev pub TellsStrict : {V : Type 0} → List ℕ → (V → List ℕ → Type 0) → List ℕ → List ℕ → Type 0
-TellsStrict word Grammar encoding answer =
-    Answered (Within Grammar) (λ value a. SaysWhether word (IsShortest Grammar value encoding) a) encoding answer
+TellsStrict word Encoding encoding answer =
+    Answered Encoding (λ value a. SaysWhether word (IsShortest Encoding value encoding) a) encoding answer
 
--- If no value has the encoding, or its value has an encoding longer than the limit, the output is `refused`; else it
--- lists the encodings of the value, ordered by mask.
-abbrev pub TellsSpellings : {V : Type 0} → List ℕ → (V → List ℕ → Type 0) → (V → List Field) → List ℕ → List ℕ → Type 0
-TellsSpellings word Grammar fields encoding answer =
-    Answered (Within (λ value t. Grammar value t × AllFit (fields value)))
-    (λ value a. (k : ℕ) × HaveDefaults (fields value) k × (encodings : List (List ℕ))
-    × AreUnder (fields value) (2 ^ k) encodings × (a ≡ spell_answer word encodings)) encoding answer
+-- An encoding of a value whose longest encoding is within the limit.
+abbrev pub ListedEncoding : {V : Type 0} → (V → Type 0) → (V → List Field) → V → List ℕ → Type 0
+ListedEncoding Is fields value encoding =
+    SequenceOf Is fields Fields value encoding × (length (longest (fields value)) ≤ limit)
 
--- If one of the two is no encoding of any value, the output is `refused`; else it says whether one value has both.
+-- If no value has the encoding, or the longest encoding of its value isn't within the limit, the output is `refused`;
+-- else it lists all encodings of the value, ordered by mask.
+abbrev pub TellsSpellings : {V : Type 0} → List ℕ → (V → Type 0) → (V → List Field) → List ℕ → List ℕ → Type 0
+TellsSpellings word Is fields encoding answer =
+    Answered (ListedEncoding Is fields)
+    (λ value a. (all : List (List ℕ)) × Lists Is fields value (Some all) × (a ≡ spell_answer word all)) encoding answer
+
+-- If one of the two is no encoding of any value, the output is `refused`; else it says whether their values are equal.
 abbrev pub TellsSame : {V : Type 0} → List ℕ → (V → List ℕ → Type 0) → List ℕ → List ℕ → List ℕ → Type 0
-TellsSame word Grammar a b answer =
-    ((Decodes (Within Grammar) a None ⊎ Decodes (Within Grammar) b None) × (answer ≡ codes "refused"))
-    ⊎ (IsEncoded (Within Grammar) a × IsEncoded (Within Grammar) b × SaysWhether word (MeanTheSame Grammar a b) answer)
+TellsSame {V} word Encoding a b answer =
+    ((Decodes Encoding a None ⊎ Decodes Encoding b None) × (answer ≡ codes "refused"))
+    ⊎ ((v : V) × (w : V) × Encoding v a × Encoding w b × SaysWhether word (v ≡ w) answer)
 
 -- a PKCS #8 container, with the RSA key that it holds
 pub record RsaContainer : Type 0 where
@@ -81,19 +76,18 @@ TellsContainer encoding answer =
 abbrev pub WordAnswer : Word → List ℕ → List ℕ → Type 0
 WordAnswer word.Pub encoding answer = Tells PublicKeyEncoding pub_answer encoding answer
 WordAnswer word.Priv encoding answer = Tells PrivateKeyEncoding priv_answer encoding answer
-WordAnswer word.Pss encoding answer = TellsParameters RsaPssParams pss_fields pss_answer encoding answer
-WordAnswer word.Oaep encoding answer = TellsParameters RsaOaepParams oaep_fields oaep_answer encoding answer
+WordAnswer word.Pss encoding answer = TellsParameters PssEncoding pss_fields pss_answer encoding answer
+WordAnswer word.Oaep encoding answer = TellsParameters OaepEncoding oaep_fields oaep_answer encoding answer
 WordAnswer word.P8 encoding answer = TellsContainer encoding answer
-WordAnswer word.SpellPss encoding answer = TellsSpellings (codes "spell-pss") RsaPssParams pss_fields encoding answer
-WordAnswer word.SpellOaep encoding answer =
-    TellsSpellings (codes "spell-oaep") RsaOaepParams oaep_fields encoding answer
-WordAnswer word.StrictPss encoding answer = TellsStrict (codes "strict-pss") RsaPssParams encoding answer
-WordAnswer word.StrictOaep encoding answer = TellsStrict (codes "strict-oaep") RsaOaepParams encoding answer
+WordAnswer word.SpellPss encoding answer = TellsSpellings (codes "spell-pss") IsPss pss_fields encoding answer
+WordAnswer word.SpellOaep encoding answer = TellsSpellings (codes "spell-oaep") IsOaep oaep_fields encoding answer
+WordAnswer word.StrictPss encoding answer = TellsStrict (codes "strict-pss") PssEncoding encoding answer
+WordAnswer word.StrictOaep encoding answer = TellsStrict (codes "strict-oaep") OaepEncoding encoding answer
 
 -- the output for a word with two encodings
 abbrev pub PairAnswer : PairWord → List ℕ → List ℕ → List ℕ → Type 0
-PairAnswer pair.SamePss a b answer = TellsSame (codes "same-pss") RsaPssParams a b answer
-PairAnswer pair.SameOaep a b answer = TellsSame (codes "same-oaep") RsaOaepParams a b answer
+PairAnswer pair.SamePss a b answer = TellsSame (codes "same-pss") PssEncoding a b answer
+PairAnswer pair.SameOaep a b answer = TellsSame (codes "same-oaep") OaepEncoding a b answer
 
 abbrev pub AnswerTo : Asked → List ℕ → Type 0
 AnswerTo bad_line answer = answer ≡ codes "bad line"

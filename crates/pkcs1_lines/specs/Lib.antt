@@ -5,5 +5,4 @@ pub mod MemoryErrors
 pub mod Told
 pub mod Answer
 pub mod Put
-pub mod Laws
 pub mod Words

@@ -3,9 +3,8 @@ use Rattle.std.specs.Prelude.{ℕ, List, [], ◌∷◌, ◌++◌, Option, Some, 
 use Rattle.std.specs.List.{flat_map}
 use Rattle.std.specs.Fmt.{decimal}
 use Rattle.hex.specs.Hex.{encode_lower}
-use Rattle.spki_core.specs.Any.{TagAndContents}
-use Rattle.spki_core.specs.AlgorithmIdentifier.{Algorithm}
-use Rattle.standard.specs.Statement.{OaepParameters, OtherPrime, PrivateKey, PssParameters, PublicKey, octets}
+use Rattle.standard.specs.Statement.{Algorithm, OaepParameters, OtherPrime, PrivateKey, PssParameters, PublicKey}
+use Rattle.standard.specs.Statement.{TagAndContents, octets}
 
 -- a label, and bytes in hexadecimal digits
 abbrev pub field : List ℕ → List ℕ → List ℕ

@@ -11,5 +11,3 @@ pub use Rattle.pkcs1_lines.specs.Told.{any_told, attributes_told, bracketed, fie
 pub use Rattle.pkcs1_lines.specs.Told.{key_told, mask_told, number_field, numbers_told, oaep_answer, other_told}
 pub use Rattle.pkcs1_lines.specs.Told.{others_told, p8_answer, plain_told, priv_answer, pss_answer, pub_answer}
 pub use Rattle.pkcs1_lines.specs.Told.{spell_answer, spelling_told, version_told}
-pub use Rattle.pkcs1_lines.specs.Laws.Parameters.{oaep_as_printed, oaep_shortest_as_printed, pss_as_printed}
-pub use Rattle.pkcs1_lines.specs.Laws.Parameters.{pss_shortest_as_printed}

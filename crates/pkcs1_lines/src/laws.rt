@@ -3,13 +3,7 @@ ghost use Rattle.std.specs.Prelude.{ℕ, List};
 ghost use Rattle.der_core.specs.Words.{AtMostOne};
 ghost use Rattle.pkcs1_lines.specs.Words.{Answer, Outputs};
 
-use pkcs1::{lemma_encodings_are_delimited, lemma_oaep_spellings, lemma_pss_spellings};
-
 /// A line has at most one output, and so has a list of lines.
 pub fn lemma_answers_are_one()
     ensures { ((line : List ℕ) → AtMostOne (Answer line)) × ((lines : List (List ℕ)) → AtMostOne (Outputs lines)) }
-{
-    lemma_encodings_are_delimited();
-    lemma_pss_spellings();
-    lemma_oaep_spellings();
-}
+{}

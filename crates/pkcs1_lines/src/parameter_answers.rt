@@ -1,6 +1,7 @@
 //! The output for lines with parameters.
 ghost use Rattle.std.specs.Prelude.{◌≡◌, ℕ, List, ◌++◌, OnOk, map, codes};
 ghost use Rattle.std.specs.List.{flat_map};
+ghost use Rattle.pkcs1_params.specs.Words.{Encoded};
 ghost use Rattle.pkcs1_lines.specs.Words.{Puts, TellsParameters, TellsSame, TellsSpellings, TellsStrict, field};
 ghost use Rattle.pkcs1_lines.specs.Words.{spell_answer};
 
@@ -16,7 +17,7 @@ pub fn answer_parameters<'a, T: Parameters<'a>>(
     encoding: &'a [u8],
     out: &mut Vec<u8>,
 ) -> Result<(), AllocError>
-    ensures { let answers = TellsParameters T.grammar T.fields T.told encoding.now in
+    ensures { let answers = TellsParameters (Encoded T.Is T.fields_of) T.fields_of T.told encoding.now in
         OnOk result (Puts answers out.old.items out.new.items) }
 {
     match T::read(encoding) {
@@ -57,7 +58,7 @@ pub fn answer_spell<'a, T: Parameters<'a>>(
     encoding: &'a [u8],
     out: &mut Vec<u8>,
 ) -> Result<(), AllocError>
-    ensures { let answers = TellsSpellings word.now T.grammar T.fields encoding.now in
+    ensures { let answers = TellsSpellings word.now T.Is T.fields_of encoding.now in
         OnOk result (Puts answers out.old.items out.new.items) }
 {
     let Some(params) = T::read(encoding) else {
@@ -75,7 +76,8 @@ pub fn answer_strict<'a, T: Parameters<'a>>(
     encoding: &'a [u8],
     out: &mut Vec<u8>,
 ) -> Result<(), AllocError>
-    ensures { OnOk result (Puts (TellsStrict word.now T.grammar encoding.now) out.old.items out.new.items) }
+    ensures { let answers = TellsStrict word.now (Encoded T.Is T.fields_of) encoding.now in
+        OnOk result (Puts answers out.old.items out.new.items) }
 {
     match T::read(encoding) {
         Some(_params) => put_verdict(word, T::is_strict(encoding), out),
@@ -91,7 +93,7 @@ pub fn answer_same<'a, T: Parameters<'a>>(
     second: &'a [u8],
     out: &mut Vec<u8>,
 ) -> Result<(), AllocError>
-    ensures { let answers = TellsSame word.now T.grammar first.now second.now in
+    ensures { let answers = TellsSame word.now (Encoded T.Is T.fields_of) first.now second.now in
         OnOk result (Puts answers out.old.items out.new.items) }
 {
     match (T::read(first), T::read(second)) {

@@ -1,14 +1,14 @@
 //! Parameters, and the output for them.
-ghost use Rattle.std.specs.Prelude.{◌≡◌, ℕ, List, ◌++◌, ◌↔◌, IsTrue, OnOk, IfOk, IfSome, IfNone, IsErrAnd};
-ghost use Rattle.der_core.specs.Words.{Means, IsShortest, IsDelimited, Prints};
-ghost use Rattle.spki_core.specs.Words.{any_of, algorithm_of, mask_of, Field, HaveDefaults, own_octets_of};
-ghost use Rattle.pkcs1_params.specs.Words.{PssParameters, RsaPssParams, pss_fields, OaepParameters, RsaOaepParams};
-ghost use Rattle.pkcs1_params.specs.Words.{oaep_fields, pss_defaults, oaep_defaults, pss_delimited, oaep_delimited};
-ghost use Rattle.pkcs1_params.specs.Words.{pss_of, oaep_of, AllFit, AreAllSpellings, encodings_in, IsNoSentence};
+ghost use Rattle.std.specs.Prelude.{◌≡◌, ◌≤◌, ℕ, List, ◌++◌, ◌↔◌, length, IsTrue, OnOk, IfOk, IfSome, IfNone, IsErrAnd};
+ghost use Rattle.std.specs.Option.{option_map};
+ghost use Rattle.der_core.specs.Words.{Spells};
+ghost use Rattle.spki_core.specs.Words.{FieldRecord, algorithm_of, any_of, mask_of, own_octets_of};
+ghost use Rattle.spki_core.specs.Laws.FieldSpellings.Records.{spelled_from, spelled_to};
+ghost use Rattle.pkcs1_params.specs.Words.{Encoded, IsEncoded, encodings_in, oaep_of, oaep_record, pss_of, pss_record};
+ghost use Rattle.standard.specs.Statement.{Decodes, Defaults, Field, IsOaep, IsPss, IsShortest, Lists, OaepParameters};
+ghost use Rattle.standard.specs.Statement.{PssParameters, limit, longest, oaep_fields, pss_fields};
 ghost use Rattle.pkcs1_lines.specs.Words.{IsMemoryError, any_told, identifier_told, plain_told, bracketed, mask_told};
 ghost use Rattle.pkcs1_lines.specs.Words.{hash_fields_told, spelling_told, pss_answer, oaep_answer};
-ghost use Rattle.pkcs1_lines.specs.Words.{oaep_as_printed, oaep_shortest_as_printed, pss_as_printed};
-ghost use Rattle.pkcs1_lines.specs.Words.{pss_shortest_as_printed};
 
 use crate::digits::{put_field, put_hex, put_number};
 use der_core::{Encode, ErrorKind};
@@ -18,59 +18,50 @@ use std::alloc::{AllocError, Global};
 
 /// What the output for a line needs of RSASSA-PSS and RSAES-OAEP parameters.
 pub trait Parameters<'a>: Encode + Drop + Sized {
-    /// The type of what values mean.
-    ghost Meaning: { Type 0 };
+    /// What the parameters mean.
+    ghost Params: { Type 0 };
 
     /// What a value means.
-    ghost meaning: { Self → Meaning };
+    ghost params: { Self → Params };
 
-    /// The grammar of what a value means.
-    ghost grammar: { Meaning → List ℕ → Type 0 };
+    /// Which parameters may be encoded.
+    ghost Is: { Params → Type 0 };
 
-    /// The fields of what a value means, in order.
-    ghost fields: { Meaning → List Field };
+    /// The fields of their SEQUENCE.
+    ghost fields_of: { Params → List Field };
 
-    /// The output for a value, given how many of its fields equal their defaults, and its encoding.
-    ghost told: { Meaning → ℕ → List ℕ → List ℕ };
+    /// The kinds of these fields, with their laws.
+    ghost form: { FieldRecord Is fields_of };
+
+    /// The output for parameters, given how many of their fields have their defaults, and their encoding.
+    ghost told: { Params → ℕ → List ℕ → List ℕ };
 
     /// Decodes the parameters, or returns `None`.
     fn read(encoding: &'a [u8]) -> Option<Self>
-        ensures some { IfSome result (λ params. Means grammar encoding.now (meaning params)) }
-        ensures none { IfNone result (IsNoSentence grammar encoding.now) };
+        ensures { Decodes (Encoded Is fields_of) encoding.now (option_map params result) };
 
     /// Whether the bytes are the shortest encoding of some parameters.
     fn is_strict(encoding: &'a [u8]) -> bool
-        ensures { IsTrue result ↔ ((params : Meaning) × IsShortest grammar params encoding.now) };
+        ensures { IsTrue result ↔ IsEncoded (IsShortest (Encoded Is fields_of)) encoding.now };
 
-    /// All encodings, ordered by mask, or `None` if one of them is longer than `Length::MAX`.
+    /// All encodings, ordered by mask, or `None` if the longest of them is longer than `Length::MAX`.
     fn all_encodings(&self, alloc: Global) -> Result<Option<Vec<Vec<u8>>>, AllocError>
-        ensures all { let params = meaning self.now in
-            IfOk result (λ found. IfSome found (λ encodings.
-            AllFit (fields params) × AreAllSpellings fields params (encodings_in encodings))) }
-        ensures none { IfOk result (λ found. IfNone found (AllFit (fields (meaning self.now)) → ⊥)) };
+        ensures listed { IfOk result (λ found. Lists Is fields_of (params self.now) (option_map encodings_in found)) }
+        ensures fit { let longest = longest (fields_of (params self.now)) in
+            IfOk result (λ found. IfSome found (λ _. length longest ≤ limit)) };
 
-    /// How many fields equal their defaults.
+    /// How many fields have their defaults.
     fn defaults(&self) -> u8
-        ensures { HaveDefaults (fields (meaning self.now)) result };
+        ensures { Defaults (fields_of (params self.now)) result };
 
     /// Appends the output for the parameters to `out`; `again` is their encoding.
     fn put(&self, defaults: u8, again: &[u8], out: &mut Vec<u8>) -> Result<(), AllocError>
-        ensures { OnOk result (out.new.items ≡ out.old.items ++ told (meaning self.now) defaults again.now) };
+        ensures { OnOk result (out.new.items ≡ out.old.items ++ told (params self.now) defaults again.now) };
 
-    /// Each encoding means one value.
-    ghost delimited: { IsDelimited grammar };
-
-    /// The fields of each value that equal their defaults can be counted.
-    ghost counted: { (params : Meaning) → (k : ℕ) × HaveDefaults (fields params) k };
-
-    /// An encoding of a value in `grammar` is one for `Encode`.
-    ghost means_as: { (params : Self) (encoding : List ℕ) → Means grammar encoding (meaning params)
-        → Means (Prints Self.valid Self.printed Self.means) encoding (Self.value params) };
-
-    /// The shortest encoding of a value for `Encode` is the shortest in `grammar`.
-    ghost shortest_as: { (params : Self) (encoding : List ℕ)
-        → IsShortest (Prints Self.valid Self.printed Self.means) (Self.value params) encoding
-        → IsShortest grammar (meaning params) encoding };
+    /// The encodings of a value for `Encode` are those of the parameters.
+    ghost encodings_are: { (value : Self) (encoding : List ℕ)
+        → Spells Self.valid Self.printed Self.means (Self.value value) encoding
+        ↔ Encoded Is fields_of (params value) encoding };
 }
 
 /// Whether the error is out of memory.
@@ -211,13 +202,15 @@ fn put_oaep(
 }
 
 impl<'a> Parameters<'a> for RsaPssParamsRef<'a> {
-    ghost Meaning = { PssParameters };
+    ghost Params = { PssParameters };
 
-    ghost meaning = { pss_of };
+    ghost params = { pss_of };
 
-    ghost grammar = { RsaPssParams };
+    ghost Is = { IsPss };
 
-    ghost fields = { pss_fields };
+    ghost fields_of = { pss_fields };
+
+    ghost form = { pss_record };
 
     ghost told = { pss_answer };
 
@@ -241,23 +234,20 @@ impl<'a> Parameters<'a> for RsaPssParamsRef<'a> {
         put_pss(self, defaults, again, out)
     }
 
-    ghost delimited = { pss_delimited };
-
-    ghost counted = { pss_defaults };
-
-    ghost means_as = { λ params. pss_as_printed (pss_of params) };
-
-    ghost shortest_as = { λ params. pss_shortest_as_printed (pss_of params) };
+    ghost encodings_are = { λ value encoding.
+        (spelled_to pss_record (pss_of value) encoding, spelled_from pss_record (pss_of value) encoding) };
 }
 
 impl<'a> Parameters<'a> for RsaOaepParamsRef<'a> {
-    ghost Meaning = { OaepParameters };
+    ghost Params = { OaepParameters };
 
-    ghost meaning = { oaep_of };
+    ghost params = { oaep_of };
 
-    ghost grammar = { RsaOaepParams };
+    ghost Is = { IsOaep };
 
-    ghost fields = { oaep_fields };
+    ghost fields_of = { oaep_fields };
+
+    ghost form = { oaep_record };
 
     ghost told = { oaep_answer };
 
@@ -281,11 +271,6 @@ impl<'a> Parameters<'a> for RsaOaepParamsRef<'a> {
         put_oaep(self, defaults, again, out)
     }
 
-    ghost delimited = { oaep_delimited };
-
-    ghost counted = { oaep_defaults };
-
-    ghost means_as = { λ params. oaep_as_printed (oaep_of params) };
-
-    ghost shortest_as = { λ params. oaep_shortest_as_printed (oaep_of params) };
+    ghost encodings_are = { λ value encoding.
+        (spelled_to oaep_record (oaep_of value) encoding, spelled_from oaep_record (oaep_of value) encoding) };
 }

@@ -1,17 +1,22 @@
-//! The shortest encoding of a value.
+//! The shortest encoding of parameters.
 ghost use Rattle.std.specs.Prelude.{◌≤◌, length};
-ghost use Rattle.der_core.specs.Words.{Means, IsShortest, Prints};
+ghost use Rattle.pkcs1_params.specs.Words.{Encoded};
+ghost use Rattle.standard.specs.Statement.{IsShortest};
 
-use der_core::Encode;
+use crate::parameter_text::Parameters;
 
-/// Writes the shortest encoding of a value into the buffer, and returns it. `encoding` is any encoding of the value, so
+/// Writes the shortest encoding of parameters into the buffer, and returns it. `encoding` is any encoding of them, so
 /// the buffer needs no more than its length.
-pub fn shortest<'b, T: Encode>(encoding: &[u8], value: &T, buffer: &'b mut [u8]) -> &'b [u8]
-    requires means { Means (Prints T.valid T.printed T.means) encoding.now (T.value value.now) }
+pub fn shortest<'a, 'b, T: Parameters<'a>>(
+    encoding: &[u8],
+    params: &T,
+    buffer: &'b mut [u8],
+) -> &'b [u8]
+    requires encodes { Encoded T.Is T.fields_of (T.params params.now) encoding.now }
     requires room { length encoding.now ≤ length buffer.old }
-    ensures { IsShortest (Prints T.valid T.printed T.means) (T.value value.now) result.now }
+    ensures { IsShortest (Encoded T.Is T.fields_of) (T.params params.now) result.now }
 {
-    match value.encode_to_slice(buffer) {
+    match params.encode_to_slice(buffer) {
         Ok(shortest) => shortest,
         Err(_) => unreachable!(),
     }

@@ -1,252 +1,347 @@
--- Algorithm identifiers with parameters of their own: reading and writing.
-use Rattle.std.proofs.Common.{ℕ, Bool, List, [], ◌++◌, ◌≡◌, ◌∙◌, ◌<◌, ◌≤◌, ◌+◌, ◌-◌, ◌^◌, length}
-use Rattle.std.proofs.Common.{take, drop, refl, sym, ap, Some, arith, length-append}
-use Rattle.std.proofs.Math.Seq.{drop-append_seam}
-use Rattle.std.specs.Prelude.{Result, Ok, Err, IfOk, OnErr, false, true, not}
-use Rattle.std.specs.Str.{bytes_eq}
+-- Algorithm identifiers with parameters of their own: what is read of them, and how many encodings there are.
+use Rattle.std.proofs.Common.{ℕ, Bool, true, List, [], ◌++◌, ◌≡◌, ◌≤◌, ◌^◌, length, refl, sym, subst, ap, ◌∙◌, arith}
+use Rattle.std.proofs.Common.{⊎_elim, append-nil, map, Option, Some, None, Result, Ok, Err, inl, inr, false}
+use Rattle.std.proofs.lemmas.Bool.Decides.{nat_tests}
 use Rattle.std.proofs.lemmas.Slice.Eq.{bytes_eq-Decides}
-use Rattle.der_core.specs.Document.{Means, HasEncoding, IsShortest, WhyNotWritten, EncodeError, no_encoding, too_long}
-use Rattle.der_core.specs.Document.{no_room, another}
-use Rattle.der_core.specs.Encodings.{Is, IsOfBytes, MeansOne, Then}
-use Rattle.der_core.specs.Laws.Encodings.{tlv_of_bytes, tlv_split, joins_last, last_holds, tlv_relates}
+use Rattle.std.specs.Prelude.{◌==◌, ◌↔◌, if◌then◌else◌}
+use Rattle.std.specs.Option.{option_map}
+use Rattle.std.specs.Str.{bytes_eq}
+use Rattle.der_core.specs.Encodings.{AreBytes}
+use Rattle.der_core.specs.Laws.LengthReading.{chosen}
+use Rattle.der_core.specs.Laws.Printed.Leaves.{tlv_fit}
+use Rattle.der_core.specs.Laws.Printed.Rows.{prints_one, tagged_law, whole_decodes, whole_takes}
+use Rattle.der_core.specs.Laws.Readings.{bind_err, bind_ok, ok_same}
+use Rattle.der_core.specs.Laws.TaggedReadings.{unexpected_not}
+use Rattle.der_core.specs.Length.{limit}
+use Rattle.der_core.specs.Laws.Printed.Shortest.{tagged_shortest}
+use Rattle.der_core.specs.Printed.{ReadsFrontPrinted, Spells, WritesShortest, value_in}
+use Rattle.der_core.specs.Readings.{Reading, tagged, unexpected, whole, ◌>>=◌}
+use Rattle.der_core.specs.Tags as tags
 use Rattle.der_core.specs.declared.error.ErrorKind.{ErrorKind}
-use Rattle.der_core.proofs.Encodings.{tlv_length}
-use Rattle.der_core.proofs.ContentsShorter.{contents_shorter}
-use Rattle.der_core.proofs.FrontsAreUnique.{front_is}
-use Rattle.der_core.specs.Laws.ContentsShorter.{tlv_recast}
-use Rattle.der_core.specs.Laws.Length.{length_few, length_octets-short, length_octets-within}
-use Rattle.der_core.specs.Laws.Readings.{chain_reads, ok_same}
-use Rattle.der_core.proofs.Readings.{whole_reads}
-use Rattle.der_core.specs.Laws.ShortEncodings.{tlv_short}
-use Rattle.der_core.specs.Laws.Shortest.{means_one}
-use Rattle.der_core.specs.Laws.TaggedReadings.{tagged_reads}
-use Rattle.der_core.specs.Length.{length_octets, limit}
-use Rattle.der_core.specs.Reading.{AllocatesIn}
-use Rattle.der_core.specs.Readings.{Reading, ReadsContents, ◌>>=◌, octets_of_all}
-use Rattle.der_core.specs.Tag.{sequence_tag}
-use Rattle.der_core.specs.Tags.{sequence}
-use Rattle.der_core.specs.Tlv.{Tlv, tlv}
-use Rattle.der_core.specs.Writing.{WritesEncodings}
-use Rattle.spki_core.specs.AlgorithmIdentifier.{Algorithm, AlgorithmContents, AlgorithmIdentifier, PlainAlgorithm}
-use Rattle.spki_core.specs.AlgorithmIdentifier.{written_algorithm}
-use Rattle.spki_core.specs.Allocating.{AlgorithmAllocates}
-use Rattle.spki_core.specs.Any.{TagAndContents, Any}
-use Rattle.spki_core.specs.Laws.Algorithms.{plain_delimited, algorithm_of_bytes, algorithm_relates}
-use Rattle.spki_core.specs.Laws.FieldEncodings.{fields_of_bytes as joins_of_bytes}
-use Rattle.spki_core.specs.Laws.Readings.{oid_reads}
-use Rattle.spki_core.specs.ObjectIdentifier.{IsIdentifier, ObjectIdentifier}
-use Rattle.spki_core.specs.StrictFields.{first_default, unless_found}
-use Rattle.pkcs1_params.specs.Algorithms.{AlgorithmOf, Identifies, NamesFirstDefaultIn, encoded_parameters, identified}
-use Rattle.pkcs1_params.specs.Algorithms.{strict_algorithm, whole_algorithm}
-use Rattle.pkcs1_params.proofs.AlgorithmsLaws.{algorithm_of_plain, plain_of_algorithm, same_parameters, with_encoded}
-use Rattle.pkcs1_params.proofs.AlgorithmsLaws.{parameters_shorter, parameters_in, shortest_of}
-use Rattle.pkcs1_params.proofs.StrictParameters.{first_named}
-use Rattle.pkcs1_params.specs.Laws.ParameterReadings.{plain_reads}
-use Rattle.pkcs1_params.proofs.FaultsTold.{errs_behind}
-use Rattle.pkcs1_params.specs.Laws.FieldValues.{fields_of_bytes}
-use Rattle.pkcs1_params.specs.FieldContents.{FieldContents}
-use Rattle.pkcs1_params.specs.Meanings.{ErrsAs, IsNoSentence, IsTheMeaning, IsTheOnly}
+use Rattle.der_core.specs.declared.error.ErrorKind.TheVariants.{OidUnknown}
+use Rattle.spki_core.specs.IdentifierTest.{is_identifier}
+use Rattle.spki_core.specs.Laws.IdentifierTest.{is_identifier-sound}
+use Rattle.spki_core.specs.AlgorithmIdentifier.{algorithm_contents, algorithm_map}
+use Rattle.spki_core.specs.FieldSpellings.{AreSpelled, FieldRecord, Spelling, record_means, record_read, record_strictly, spelled}
+use Rattle.spki_core.specs.FieldSpellings.{record_under, spelling_read, strict_value, strict_whole, upto}
+use Rattle.spki_core.specs.Laws.FieldSpellings.Records.{record_alike, record_front_law, record_law, record_reads}
+use Rattle.spki_core.specs.Laws.FieldSpellings.Records.{record_shortest}
+use Rattle.spki_core.specs.Laws.FieldSpellings.Records.{spelled_from, spelled_to}
+use Rattle.spki_core.specs.Laws.FieldSpellings.Masks.{under_valid}
+use Rattle.spki_core.specs.Laws.Printed.Shortest.{algorithm_writes_shortest}
+use Rattle.spki_core.specs.Laws.Printed.Readings.{algorithm_law}
+use Rattle.spki_core.specs.Readings.{algorithm_read}
+use Rattle.spki_core.proofs.Fielded.{are_all, counted, default_count, each_within, made, record_decodes}
+use Rattle.spki_core.proofs.StrictFields.{back_bytes, contents_bytes, front_bytes, strict_decodes}
+use Rattle.pkcs1_params.specs.Algorithms.{Identifies, identified, parameters_as, whole_algorithm}
+use Rattle.pkcs1_params.specs.Laws.Records.{plain_law}
+use Rattle.pkcs1_params.specs.Meanings.{AreDelimited}
+use Rattle.pkcs1_params.specs.ParameterReadings.{plain_front}
 use Rattle.pkcs1_params.specs.Parameters.{with_parameters}
-use Rattle.pkcs1_params.specs.Parts.{AreNumbered, FieldValue, Fielded, defaults_with, fields_with}
-use Rattle.pkcs1_params.specs.declared.error.Error.{Error}
+use Rattle.pkcs1_params.proofs.Wrapped.{are_all_in, same_contents, shortest_inside, shortest_outside, wrapped, wrapped_fit}
+use Rattle.pkcs1_params.proofs.Wrapped.{wrapped_one}
+use Rattle.standard.specs.Statement.{Algorithm, AlgorithmEncoding, AreAll, Decodes, Field, Fields, IfPresent, IsAlgorithm}
+use Rattle.standard.specs.Statement.{IsAny, IsIdentifier, IsShortest, SequenceOf, TagAndContents}
+use Rattle.standard.specs.Statement.{optional}
+use Rattle.standard.specs.Statement.{TwoToTheDefaultsIn, algorithm, any, longest, sequence, tlv}
 
--- Reading an identifier with borrowed parameters never asks for memory.
-pub identifier_asks : (b : List ℕ) → AllocatesIn (AlgorithmAllocates (λ _. ⊥)) b → ⊥
-identifier_asks b w = let h = w.3.holds in let l = h.1.3 in l.1.3
+-- The algorithm with a SEQUENCE of these contents as parameters.
+abbrev pub holding : List ℕ → List ℕ → Algorithm TagAndContents
+holding oid c = record { oid = oid; parameters = Some (record { tag = 48; contents = c }) }
 
--- Slices that don't differ are equal, and so are the lists that they are known to hold.
-pub unequal_false : {b : Bool} {x y : List ℕ} {u v : List ℕ} → b ≡ false → b ≡ not (bytes_eq x y) → x ≡ u → y ≡ v
-    → u ≡ v
-unequal_false {b} {x} {y} off is left right =
-    let same : bytes_eq x y ≡ true = grind arith in
-    sym left ∙ (bytes_eq-Decides x y).0 same ∙ right
+-- In it, the parameters are read as their contents are.
+pub identified_is : {V : Type 0} (oid : List ℕ) (read : Reading V) (c : List ℕ)
+    → identified oid read (holding oid c) ≡ read c
+identified_is oid read c = let same : bytes_eq oid oid ≡ true = (bytes_eq-Decides oid oid).1 refl in rw same refl
 
--- The identifier agrees and has parameters, so the value is theirs.
-module _ {oid : List ℕ} {a : Algorithm TagAndContents} {any : TagAndContents} (agrees : a.oid ≡ oid)
-    (there : a.parameters ≡ Some any) where
-  same_any : (other : TagAndContents) → a.parameters ≡ Some other → other ≡ any
-  same_any other given = let some : Some other ≡ Some any = sym given ∙ there in cc
+-- And nothing is read of another one.
+pub identified_holds : {V : Type 0} (oid : List ℕ) (read : Reading V) (a : Algorithm TagAndContents) (v : V)
+    → identified oid read a ≡ Ok v → (c : List ℕ) × (a ≡ holding oid c) × (read c ≡ Ok v)
+identified_holds {V} oid read a v is =
+    ⊎_elim (λ w. go a.parameters refl w.1 ((bytes_eq-Decides a.oid oid).0 w.0)) (λ w. let no = w.1 in cc)
+    (chosen (bytes_eq a.oid oid) _ _ _ is)
+  where
+    go : (o : Option TagAndContents) → a.parameters ≡ o → parameters_as read o ≡ Ok v → a.oid ≡ oid
+        → (c : List ℕ) × (a ≡ holding oid c) × (read c ≡ Ok v)
+    go None e p same = cc
+    go (Some x) e p same = ⊎_elim (λ w.
+        let tag : x.tag ≡ 48 = grind (arith, nat_tests, w.0) in (
+          x.contents,
+          (λ i. record {
+            oid = same i;
+            parameters = (e ∙ (λ j. Some (record { tag = tag j; contents = x.contents }))) i;
+          }),
+          w.1,
+        )) (λ w. absurd (unexpected_not tags.sequence x.tag v w.1)) (chosen (x.tag == 48) _ _ _ p)
 
-  pub only_identified : {V : Type 0} (Contents : V → List ℕ → Type 0) → MeansOne Contents → (v : V)
-      → (any.tag ≡ sequence_tag) × Contents v any.contents → IsTheOnly (Identifies oid Contents a) v
-  only_identified Contents one v h = (
-    (agrees, any, there, h.0, h.1),
-    λ other (same, w, given, tag, holds). one other v any.contents (rw (same_any w given) at holds) h.1,
-  )
+-- Parameters that the code holds are octets, within the limit.
+abbrev pub AreHeld : TagAndContents → Type 0
+AreHeld x = AreBytes x.contents × (length x.contents ≤ limit)
 
-pub fields_are_bytes : {V : Type 0} (values : V → List FieldValue) → IsOfBytes (FieldContents values)
-fields_are_bytes values v = joins_of_bytes (fields_with values v) (fields_of_bytes (values v))
+pub identified_decodes : {V : Type 0} {Is : V → Type 0} {fields : V → List Field} (r : FieldRecord Is fields)
+    (oid : List ℕ) (a : Algorithm TagAndContents) → IfPresent AreHeld a.parameters
+    → Decodes (Identifies oid Is fields) a (value_in (identified oid (record_read r) a))
+identified_decodes {V} {Is} {fields} r oid a held = go (identified oid (record_read r) a) refl
+  where
+    held_in : (c : List ℕ) → a ≡ holding oid c → AreBytes c × (length c ≤ limit)
+    held_in c e = subst (λ (x : Algorithm TagAndContents). IfPresent AreHeld x.parameters) e held
 
--- A slice that is read as an identifier with parameters of any tag, which are then read.
-module _ {X V : Type 0} (value : X → V) (Contents : V → List ℕ → Type 0) (bytes : IsOfBytes Contents) (oid b : List ℕ)
-    (a : Algorithm TagAndContents) (means : Means PlainAlgorithm b a) where
-  abbrev Wanted : V → List ℕ → Type 0
-  Wanted = AlgorithmOf oid (λ v c. Tlv 48 (Contents v) c)
+    read_of : (v : V) → Identifies oid Is fields v a → identified oid (record_read r) a ≡ Ok v
+    read_of v (c, e, ok, there) =
+        ap (identified oid (record_read r)) e ∙ identified_is oid (record_read r) c
+        ∙ (record_reads r).takes c v (held_in c e).1 (ok, there)
 
-  same_plain : (v : V) → Wanted v b → Identifies oid Contents a v
-  same_plain v p =
-      let q = plain_of_algorithm Contents oid bytes v b p in
-      rw (means_one plain_delimited a q.0 b means.1 q.2) q.1
+    go : (o : Result V ErrorKind) → identified oid (record_read r) a ≡ o
+        → Decodes (Identifies oid Is fields) a (value_in o)
+    go (Ok v) was =
+        let (c, e, read) = identified_holds oid (record_read r) a v was in
+        let law = (record_reads r).gives c v (held_in c e).0 read in
+        ((c, e, law.0, law.1), λ w q. ok_same (sym (read_of w q) ∙ was))
+    go (Err k) was = λ w q. let no = sym (read_of w q) ∙ was in cc
 
-  pub slice_ok : (r : Result X Error) → IfOk r (λ x. IsTheOnly (Identifies oid Contents a) (value x))
-      → IfOk r (λ x. IsTheMeaning Wanted b (value x))
-  slice_ok (Ok x) h = (
-    (means.0, algorithm_of_plain Contents oid a (value x) b h.0 means.1),
-    λ other p. h.1 other (same_plain other p.1),
-  )
-  slice_ok (Err e) h = tt
+-- What isn't read by one function isn't read by another one that refuses it too, for the same fault.
+pub algorithm_errs : {V : Type 0} (f g : Reading V) → ((c : List ℕ) (k : ErrorKind) → f c ≡ Err k → g c ≡ Err k)
+    → (oid bytes : List ℕ) (k : ErrorKind) → whole_algorithm oid f bytes ≡ Err k → whole_algorithm oid g bytes ≡ Err k
+algorithm_errs {V} f g so oid bytes k = go (whole plain_front bytes)
+  where
+    tagged_errs : (c : List ℕ) (t : ℕ) (b : Bool) → (if b then f c else unexpected tags.sequence t) ≡ Err k
+        → (if b then g c else unexpected tags.sequence t) ≡ Err k
+    tagged_errs c t true p = so c k p
+    tagged_errs c t false p = p
 
-  pub slice_err : (r : Result X Error) → OnErr r ((v : V) → Identifies oid Contents a v → ⊥)
-      → OnErr r (IsNoSentence Wanted b)
-  slice_err (Ok x) h = tt
-  slice_err (Err e) h = λ v p. h v (same_plain v p.1)
+    parameters_err : (o : Option TagAndContents) → parameters_as f o ≡ Err k → parameters_as g o ≡ Err k
+    parameters_err None p = p
+    parameters_err (Some x) p = tagged_errs x.contents x.tag (x.tag == 48) p
 
--- A slice that isn't read as an identifier with parameters of any tag.
-pub no_identifier : {V : Type 0} (Contents : V → List ℕ → Type 0) → IsOfBytes Contents → (oid b : List ℕ)
-    → ((a : Algorithm TagAndContents) → Means PlainAlgorithm b a → ⊥) → (v : V)
-    → Means (AlgorithmOf oid (λ (v : V) c. Tlv 48 (Contents v) c)) b v → ⊥
-no_identifier Contents bytes oid b none v p =
-    let q = plain_of_algorithm Contents oid bytes v b p.1 in
-    none q.0 (p.0, q.2)
+    chosen_err : (o : Option TagAndContents) (b : Bool) → (if b then parameters_as f o else Err OidUnknown) ≡ Err k
+        → (if b then parameters_as g o else Err OidUnknown) ≡ Err k
+    chosen_err o true p = parameters_err o p
+    chosen_err o false p = p
 
--- An identifier is an encoding of any tag.
-pub is_any : {V : Type 0} (values : V → List FieldValue) (oid b : List ℕ) (v : V) → AlgorithmOf oid (Fielded values) v b
-    → (contents : List ℕ) × Any (record { tag = 48; contents = contents }) b
-is_any values oid b v t =
-    let bytes = tlv_of_bytes 48 sequence.allowed (FieldContents values) (fields_are_bytes values) in (
-      t.contents,
-      (
-        (
-          sequence.allowed,
-          algorithm_of_bytes (Fielded values) bytes (with_parameters oid v) t.contents t.holds,
-        ),
-        tlv_recast b t refl,
-      ),
-    )
+    go : (o : Result (Algorithm TagAndContents) ErrorKind) → (o >>= identified oid f) ≡ Err k
+        → (o >>= identified oid g) ≡ Err k
+    go (Ok a) p = chosen_err a.parameters (bytes_eq a.oid oid) p
+    go (Err e) p = p
 
--- The parameters stand behind the object identifier in the contents.
-pub behind : {tag : ℕ} (oid contents y b : List ℕ) → Tlv tag (Is contents) b → AlgorithmOf oid Is y b
-    → drop (2 + length oid) contents ≡ y
-behind oid contents y b p q =
-    let s = tlv_split b [] b [] p q refl in
-    let h = s.5 in
-    let i = tlv_recast h.0 h.2 h.2.holds.1 in
-    let identifier : IsIdentifier oid = rw h.2.holds.1 at h.2.holds.0 in
-    let one : length (length_octets (length oid)) ≡ 1 =
-    ap length (length_octets-short (length oid) (omega (arith, identifier.4))) in
-    let counted : length h.0 ≡ 1 + length (length_octets (length oid)) + length oid =
-    tlv_length (length oid) 6 oid h.0 refl i in
-    let l : length h.0 ≡ 2 + length oid = omega (arith, one, counted) in
-    let is : contents ≡ h.0 ++ y = sym s.4 ∙ h.4 ∙ ap (λ r. h.0 ++ r) (joins_last h.1 h.3) in
-    ap (drop (2 + length oid)) is ∙ ap (λ n. drop n (h.0 ++ y)) (sym l) ∙ drop-append_seam h.0 y
+module _ (oid : List ℕ) (valid : is_identifier oid ≡ true) where
+  -- What such an encoding begins with.
+  pub identifier_in : (p bytes : List ℕ) → AreBytes bytes → bytes ≡ wrapped oid p → IsIdentifier oid
+  identifier_in p bytes are is =
+      let inner = contents_bytes 48 (tlv 6 oid ++ p) (subst AreBytes is are) in
+      is_identifier-sound oid (contents_bytes 6 oid (front_bytes (tlv 6 oid) p inner)) valid
 
-pub inside : {V : Type 0} (Grammar : V → List ℕ → Type 0) (oid : List ℕ) (v : V) (b y : List ℕ)
-    → Means (AlgorithmOf oid Grammar) b v → Means (AlgorithmOf oid Is) b y → Means Grammar y v
-inside Grammar oid v b y m t =
-    let p = parameters_in Grammar oid v b m.1 in
-    let is : p.0 ≡ y = same_parameters oid p.0 y b p.2 t.1 in
-    (omega (arith, m.0, parameters_shorter oid y b t.1), rw is at p.1)
+  pub bytes_in : (c bytes : List ℕ) → AreBytes bytes → bytes ≡ wrapped oid (sequence c) → AreBytes c
+  bytes_in c bytes are is =
+      contents_bytes 48 c
+      (back_bytes (tlv 6 oid) (sequence c) (contents_bytes 48 (tlv 6 oid ++ sequence c) (subst AreBytes is are)))
 
--- What follows the object identifier is the encoding of the parameters.
-all_read : ReadsContents (λ v c. Is v c) octets_of_all
-all_read = record { gives = λ c v b e. ok_same e; takes = λ c v w p. ap (λ o. Ok o) p; tells = λ c k e. cc }
+  pub algorithm_is : {V : Type 0} (read : Reading V) (c bytes : List ℕ) → AreBytes bytes → length bytes ≤ limit
+      → bytes ≡ wrapped oid (sequence c) → whole_algorithm oid read bytes ≡ read c
+  algorithm_is read c bytes are few is =
+      let held : IsAlgorithm IsAny (holding oid c) =
+      (identifier_in (sequence c) bytes are is, ((λ i. true), bytes_in c bytes are is)) in
+      ap (λ r. r >>= identified oid read) (whole_takes plain_law (holding oid c) bytes (few, held, is))
+      ∙ identified_is oid read c
 
-abbrev pub Behind : List ℕ → List ℕ → Type 0
-Behind v b = Tlv 48 (λ c. (oid : List ℕ) × Then (ObjectIdentifier oid) (Is v) c) b
+  pub algorithm_holds : {V : Type 0} (read : Reading V) (v : V) (bytes : List ℕ) → AreBytes bytes
+      → whole_algorithm oid read bytes ≡ Ok v
+      → (c : List ℕ) × (length bytes ≤ limit) × AreBytes c × (bytes ≡ wrapped oid (sequence c)) × (read c ≡ Ok v)
+  algorithm_holds {V} read v bytes are is =
+      let s = bind_ok (whole plain_front bytes) _ is in
+      let h = identified_holds oid read s.0 v s.2 in
+      go s.0 (subst (λ r. Decodes Stands bytes (value_in r)) s.1 (whole_decodes plain_law bytes are)) h
+    where
+      Stands : Algorithm TagAndContents → List ℕ → Type 0
+      Stands a b = (length b ≤ limit) × IsAlgorithm IsAny a × (b ≡ algorithm any a)
 
-pub encoded_reads : ReadsContents (λ v b. Means Behind b v) encoded_parameters
-encoded_reads = whole_reads (tagged_reads sequence (chain_reads oid_reads (λ _. all_read)))
+      go : (a : Algorithm TagAndContents) → Decodes Stands bytes (Some a)
+          → (c : List ℕ) × (a ≡ holding oid c) × (read c ≡ Ok v)
+          → (c : List ℕ) × (length bytes ≤ limit) × AreBytes c × (bytes ≡ wrapped oid (sequence c)) × (read c ≡ Ok v)
+      go a p (c, e, known) =
+          let held = subst (IsAlgorithm IsAny) e p.0.1 in (c, p.0.0, held.1.1, p.0.2 ∙ ap (algorithm any) e, known)
 
-pub encoded_is : (oid y b : List ℕ) → Means (AlgorithmOf oid Is) b y → encoded_parameters b ≡ Ok y
-encoded_is oid y b m =
-    let q = m.1.holds in
-    encoded_reads.takes b y m.0 (m.0, tlv_recast b m.1 (oid, (q.0, q.1, q.2, joins_last q.1 q.3, q.4)))
+  module _ {V : Type 0} {Is : V → Type 0} {fields : V → List Field} (r : FieldRecord Is fields) where
+    abbrev E : V → List ℕ → Type 0
+    E = SequenceOf Is fields Fields
 
--- An identifier of this algorithm is read, as its parameters are.
-pub algorithm_taken : {V : Type 0} {contents : V → List ℕ → Type 0} {read : Reading V} → ReadsContents contents read
-    → IsOfBytes contents → (oid : List ℕ) (v : V) (b : List ℕ)
-    → Means (AlgorithmOf oid (λ (v : V) c. Tlv 48 (contents v) c)) b v → whole_algorithm oid read b ≡ Ok v
-algorithm_taken {read = read} law bytes oid v b m =
-    let q = m.1.holds in
-    let p = joins_last q.1 q.3 in
-    let any : TagAndContents = record { tag = sequence_tag; contents = p.contents } in
-    let there : Any any q.1 = ((sequence.allowed, bytes v p.contents p.holds), tlv_recast q.1 p refl) in
-    let plain : PlainAlgorithm (with_parameters oid any) b =
-    tlv_recast b m.1 (q.0, q.1, q.2, last_holds q.1 there, q.4) in
-    let few : length p.contents ≤ limit =
-    omega (arith, m.0, contents_shorter b m.1, contents_shorter q.1 p, ap length q.4, length-append q.0 q.1) in
-    let same : bytes_eq oid oid ≡ true = (bytes_eq-Decides oid oid).1 refl in
-    ap (λ r. r >>= identified oid read) ((whole_reads plain_reads).takes b (with_parameters oid any) m.0 (m.0, plain))
-    ∙ rw same (law.takes p.contents v few p.holds)
+    abbrev A : V → List ℕ → Type 0
+    A = AlgorithmEncoding oid E
 
--- Where the first default that is written stands in the parameters.
-module _ {V : Type 0} (values : V → List FieldValue) (numbered : (v : V) → AreNumbered 0 (values v))
-    {read : Reading V} (law : ReadsContents (FieldContents values) read) (oid : List ℕ) where
-  pub first_named_in : NamesFirstDefaultIn oid (fields_with values)
-      (strict_algorithm (defaults_with values) (whole_algorithm oid read))
-  first_named_in v n tag parameters encoding stands few fields writes is =
-      let holds = with_encoded (Fielded values) oid v parameters encoding fields stands in
-      let within : length parameters ≤ limit = omega (arith, few, parameters_shorter oid parameters encoding stands) in
-      let found : V → List ℕ → Result V ErrorKind =
-      λ v parameters. unless_found (first_default (defaults_with values v) parameters) v in
-      ap (λ r. r >>= λ v. encoded_parameters encoding >>= found v)
-      (algorithm_taken law (fields_are_bytes values) oid v encoding (few, holds))
-      ∙ ap (λ r. r >>= found v) (encoded_is oid parameters encoding (few, stands))
-      ∙ first_named values numbered v parameters (within, fields) n tag writes is
+    read_of : (w : V) (bytes : List ℕ) → AreBytes bytes → A w bytes → whole_algorithm oid (record_read r) bytes ≡ Ok w
+    read_of w bytes are (few, p, (ok, within, c, held, same), is) =
+        let whole = is ∙ ap (wrapped oid) same in
+        let less : length c ≤ limit = omega (arith, within, ap length same, tlv_fit 48 c) in
+        algorithm_is (record_read r) c bytes are few whole
+        ∙ (record_reads r).takes c w less (ok, held)
 
--- Strict reading: a default may be written in the encoding of the parameters.
-pub strict_behind : {V X : Type 0} (marks : V → List Bool) (read : Reading V) (oid b y : List ℕ) (v : V)
-    → read b ≡ Ok v → Means (AlgorithmOf oid Is) b y → (r : Result X Error)
-    → ErrsAs (λ _. v) (unless_found (first_default (marks v) y) v) r
-    → ErrsAs (λ _. v) (strict_algorithm marks read b) r
-strict_behind marks read oid b y v is m r p =
-    errs_behind (λ _. v) (read b)
-    (λ v. encoded_parameters b >>= λ encoding. unless_found (first_default (marks v) encoding) v) v is r
-    (errs_behind (λ _. v) (encoded_parameters b) (λ encoding. unless_found (first_default (marks v) encoding) v) y
-    (encoded_is oid y b m) r p)
+    -- What the function is promised to give.
+    pub algorithm_decodes : (bytes : List ℕ) → AreBytes bytes
+        → Decodes A bytes (value_in (whole_algorithm oid (record_read r) bytes))
+    algorithm_decodes bytes are = go (whole_algorithm oid (record_read r) bytes) refl
+      where
+        go : (o : Result V ErrorKind) → whole_algorithm oid (record_read r) bytes ≡ o → Decodes A bytes (value_in o)
+        go (Ok v) was =
+            let (c, few, held, is, read) = algorithm_holds (record_read r) v bytes are was in
+            let law = (record_reads r).gives c v held read in
+            let within : length (sequence c) ≤ limit = omega (arith, few, ap length is, wrapped_fit oid (sequence c)) in (
+              (few, sequence c, (law.0, within, c, law.1, refl), is),
+              λ w q. ok_same (sym (read_of w bytes are q) ∙ was),
+            )
+        go (Err k) was = λ w q. let no = sym (read_of w bytes are q) ∙ was in cc
 
--- Writing.
-module _ {V : Type 0} (tag : ℕ) (Contents : V → List ℕ → Type 0) (has : V → Type 0) (written : V → List ℕ)
-    (oid : List ℕ) where
-  abbrev Within : V → List ℕ → Type 0
-  Within v encoding = Tlv tag (Contents v) encoding
+    one_value : (v w : V) (p : List ℕ) → AreBytes p → E v p → E w p → v ≡ w
+    one_value v w p are a b = go (value_in (whole (tagged tags.sequence (record_read r)) p)) (record_decodes r p are)
+      where
+        go : (o : Option V) → Decodes E p o → v ≡ w
+        go (Some u) d = d.1 v a ∙ sym (d.1 w b)
+        go None d = absurd (d v a)
 
-  -- Each value has an encoding, within the limit or not.
-  pub algorithm_made : WritesEncodings Contents has written → IsIdentifier oid → (v : V) → has v
-      → length (written v) < 2 ^ 64 → AlgorithmOf oid Within v (tlv 48 (tlv 6 oid ++ tlv tag (written v)))
-  algorithm_made relates is v h few =
-      let encoding : V → List ℕ = λ w. tlv tag (written w) in
-      let a = with_parameters oid v in
-      let l = tlv_short tag (2 ^ 64 - 1) (written v) (omega (arith, few)) (omega arith) in
-      let short_oid : length (tlv 6 oid) ≤ 167 = tlv_short 6 39 oid is.4 (omega arith) in
-      let c = tlv 6 oid ++ tlv tag (written v) in
-      let all : length c ≤ 2 ^ 64 + 300 =
-      omega (arith, length-append (tlv 6 oid) (tlv tag (written v)), l, short_oid) in
-      let counted =
-      length_few (length c) (length_octets (length c)) (length_octets-within (length c) (omega (arith, all))) in
-      let fits : length (tlv 48 c) < 2 ^ 128 =
-      omega (arith, counted, all, length-append (length_octets (length c)) c) in
-      tlv_relates 48 (AlgorithmContents Within) (written_algorithm encoding) a
-      (algorithm_relates Within has encoding (λ w k less. tlv_relates tag Contents written w (relates w k) less) a
-      (is, h)) fits
+    -- Strict reading of the identifier is that of the parameters.
+    strict_is : (v : V) (c : List ℕ) → AreBytes c → E v (sequence c) → strict_whole r (sequence c) ≡ record_strictly r c
+    strict_is v c are p =
+        let (few, (s, e, ok, is)) = spelled_from r v (sequence c) p in
+        let same : c ≡ spelled r.kinds s = same_contents c (spelled r.kinds s) few is in
+        let within : length (spelled r.kinds s) ≤ limit = omega (arith, few, ap length is, tlv_fit 48 (spelled r.kinds s)) in
+        ap (λ x. x >>= strict_value r.kinds r.join) (whole_takes (record_front_law r) s (sequence c) (few, ok, is))
+        ∙ sym (ap (λ x. x >>= strict_value r.kinds r.join)
+        (ap (spelling_read r.kinds) same ∙ (record_law r).takes s ok within))
 
-  pub has_algorithm : WritesEncodings Contents has written → IsIdentifier oid → (v : V) → has v
-      → length (written v) < 2 ^ 64 → HasEncoding (AlgorithmOf oid Within) v
-  has_algorithm relates is v h few =
-      (tlv 48 (tlv 6 oid ++ tlv tag (written v)), algorithm_made relates is v h few)
+    pub strict_in : (v : V) (bytes p : List ℕ) → AreBytes bytes → A v bytes → bytes ≡ wrapped oid p
+        → whole_algorithm oid (record_strictly r) bytes ≡ strict_whole r p
+    strict_in v bytes p are (few, q, (ok, within, c, held, same), is) given =
+        let one : q ≡ p = wrapped_one oid q p (omega (arith, few, ap length is)) (sym is ∙ given) in
+        let whole = is ∙ ap (wrapped oid) same in
+        let octets = bytes_in c bytes are whole in
+        let there : E v (sequence c) = subst (E v) same (ok, within, c, held, same) in
+        algorithm_is (record_strictly r) c bytes are few whole ∙ sym (strict_is v c octets there)
+        ∙ ap (strict_whole r) (sym same ∙ one)
 
-module _ {V : Type 0} (Grammar : V → List ℕ → Type 0) (oid : List ℕ) (a : Algorithm V) (v : V)
-    (is : a ≡ with_parameters oid v) where
-  -- What was written at the front of a slice is the shortest encoding.
-  pub front_of : (n : ℕ) (encoding old new : List ℕ) → (n ≡ length encoding) × (new ≡ encoding ++ drop n old)
-      → IsShortest (AlgorithmIdentifier Grammar) a encoding → IsShortest (AlgorithmOf oid Grammar) v (take n new)
-  front_of n encoding old new h s = rw (front_is encoding old new n h.0 h.1) (shortest_of is encoding s)
+    pub strict_algorithm_errs : (bytes : List ℕ) (k : ErrorKind) → whole_algorithm oid (record_read r) bytes ≡ Err k
+        → whole_algorithm oid (record_strictly r) bytes ≡ Err k
+    strict_algorithm_errs bytes k =
+        algorithm_errs (record_read r) (record_strictly r) (λ c e p.
+        elim (bind_err (spelling_read r.kinds c) _ ((record_alike r).same c ∙ p)) [
+          | inl q ↦ ap (λ x. x >>= strict_value r.kinds r.join) q
+          | inr q ↦ let never = q.2 in cc
+        ]) oid bytes k
 
-  -- Why it isn't written, if it has an encoding.
-  pub why_not_of : (has : Type 0) (room : ℕ) → HasEncoding (AlgorithmOf oid Grammar) v → (k : EncodeError)
-      → WhyNotWritten has (AlgorithmIdentifier Grammar) a room k
-      → WhyNotWritten (HasEncoding (AlgorithmOf oid Grammar) v) (AlgorithmOf oid Grammar) v room k
-  why_not_of has room some no_encoding h = rw is at h
-  why_not_of has room some too_long h = (some, rw is at h.1)
-  why_not_of has room some no_room h = (h.0, shortest_of is h.0 h.1, h.2)
-  why_not_of has room some another h = h
+    pub strict_algorithm_decodes : (bytes : List ℕ) → AreBytes bytes
+        → Decodes (IsShortest A) bytes (value_in (whole_algorithm oid (record_strictly r) bytes))
+    strict_algorithm_decodes bytes are = go (whole_algorithm oid (record_strictly r) bytes) refl
+      where
+        bytes_of : (p : List ℕ) → bytes ≡ wrapped oid p → AreBytes p
+        bytes_of p is = back_bytes (tlv 6 oid) p (contents_bytes 48 (tlv 6 oid ++ p) (subst AreBytes is are))
+
+        go : (o : Result V ErrorKind) → whole_algorithm oid (record_strictly r) bytes ≡ o
+            → Decodes (IsShortest A) bytes (value_in o)
+        go (Ok v) was =
+            let (c, few, held, is, read) = algorithm_holds (record_strictly r) v bytes are was in
+            let p = sequence c in
+            let fit : length (wrapped oid p) ≤ limit = omega (arith, few, ap length is) in
+            let s = bind_ok (spelling_read r.kinds c) _ read in
+            let law = (record_law r).gives c s.0 held s.1 in
+            let within : length p ≤ limit = omega (arith, fit, wrapped_fit oid p) in
+            let whole_is = whole_takes (record_front_law r) s.0 p (within, law.0, ap sequence law.1) in
+            let strictly : strict_whole r p ≡ Ok v = ap (λ x. x >>= strict_value r.kinds r.join) whole_is ∙ s.2 in
+            let octets = bytes_of p is in
+            let d = subst (λ x. Decodes (IsShortest E) p (value_in x)) strictly (strict_decodes r p octets) in (
+              subst (IsShortest A v) (sym is) (shortest_outside oid E v p fit d.0),
+              λ w q.
+                  let (k, e, holds, same) = q.0 in
+                  let one : e ≡ p = wrapped_one oid e p (omega (arith, few, ap length same)) (sym same ∙ is) in
+                  one_value w v p octets (subst (E w) one holds) d.0.0,
+            )
+        go (Err k) was = λ w q.
+            let (few, p, holds, is) = q.0 in
+            let fit : length (wrapped oid p) ≤ limit = omega (arith, few, ap length is) in
+            let short = shortest_inside oid E w p fit holds (subst (IsShortest A w) is q) in
+            let none : strict_whole r p ≡ Err k = sym (strict_in w bytes p are q.0 is) ∙ was in
+            let d =
+            subst (λ x. Decodes (IsShortest E) p (value_in x)) none (strict_decodes r p (bytes_of p is)) in
+            d w short
+
+-- Of an identifier that is one.
+module _ (oid : List ℕ) (identifier : IsIdentifier oid) where
+  module _ {V : Type 0} {Is : V → Type 0} {fields : V → List Field} (r : FieldRecord Is fields) where
+    abbrev Inner : V → List ℕ → Type 0
+    Inner = SequenceOf Is fields Fields
+
+    abbrev Outer : V → List ℕ → Type 0
+    Outer = AlgorithmEncoding oid Inner
+
+    -- What the kernel prints of the algorithm with these parameters is such an encoding.
+    abbrev pub algorithm_printed : Algorithm (Spelling r.kinds) → List ℕ
+    algorithm_printed a = sequence (algorithm_contents (λ s. sequence (spelled r.kinds s)) a)
+
+    abbrev pub AlgorithmSpelled : Algorithm V → List ℕ → Type 0
+    AlgorithmSpelled = Spells (IsAlgorithm (AreSpelled r.kinds)) algorithm_printed (algorithm_map (record_means r))
+
+    pub algorithm_written : WritesShortest (IsAlgorithm (AreSpelled r.kinds)) algorithm_printed
+        (algorithm_map (record_means r)) (algorithm_map (record_under r 0))
+    algorithm_written = tagged_shortest (algorithm_writes_shortest (tagged_shortest (record_shortest r) 48)) 48
+
+    pub algorithm_spelled : (v : V) (bytes : List ℕ) → AlgorithmSpelled (with_parameters oid v) bytes ↔ Outer v bytes
+    algorithm_spelled v bytes = (to, from)
+      where
+        to : AlgorithmSpelled (with_parameters oid v) bytes → Outer v bytes
+        to (few, (a, e, ok, is)) =
+            go a.parameters (ap (λ (a : Algorithm V). a.parameters) e) ok.1
+            (is ∙ ap (λ x. sequence (tlv 6 x ++ optional (λ s. sequence (spelled r.kinds s)) a.parameters))
+            (ap (λ (a : Algorithm V). a.oid) e))
+          where
+            go : (o : Option (Spelling r.kinds)) → option_map (record_means r) o ≡ Some v
+                → IfPresent (AreSpelled r.kinds) o
+                → bytes ≡ sequence (tlv 6 oid ++ optional (λ s. sequence (spelled r.kinds s)) o) → Outer v bytes
+            go None never ok all = cc
+            go (Some s) means ok all =
+                let p = sequence (spelled r.kinds s) in
+                let one : record_means r s ≡ v = cc in
+                (few, p, spelled_to r v p (omega (arith, few, ap length all, wrapped_fit oid p), (s, one, ok, refl)), all)
+
+        from : Outer v bytes → AlgorithmSpelled (with_parameters oid v) bytes
+        from (few, p, q, is) =
+            let (i, (s, e, ok, made_p)) = spelled_from r v p q in (
+              few,
+              (
+                with_parameters oid s,
+                ap (with_parameters oid) e,
+                (identifier, ok),
+                is ∙ ap (wrapped oid) made_p,
+              ),
+            )
+
+    pub algorithm_valid : (v : V) → Is v
+        → IsAlgorithm (AreSpelled r.kinds) (algorithm_map (record_under r 0) (with_parameters oid v))
+    algorithm_valid v ok = (identifier, under_valid r.kinds 0 (r.split v) (r.are v ok))
+
+    -- No encoding is empty, or a proper beginning of another.
+    identifier_law : ReadsFrontPrinted (IsAlgorithm (AreSpelled r.kinds))
+        (λ a. sequence (algorithm_contents (λ s. sequence (spelled r.kinds s)) a))
+        (tagged tags.sequence (algorithm_read (tagged tags.sequence (spelling_read r.kinds))))
+    identifier_law = tagged_law (algorithm_law (record_front_law r) (λ s. omega arith)) tags.sequence
+
+    follow : (v w : V) (bytes rest : List ℕ) → Outer v bytes → Outer w (bytes ++ rest) → (v ≡ w) × (rest ≡ [])
+    follow v w bytes rest (few, p, x, is) (within, q, y, same) =
+        let (i, (s, e, ok, made_p)) = spelled_from r v p x in
+        let (j, (t, f, right, made_q)) = spelled_from r w q y in
+        let a : Algorithm (Spelling r.kinds) = with_parameters oid s in
+        let b : Algorithm (Spelling r.kinds) = with_parameters oid t in
+        let front = is ∙ ap (wrapped oid) made_p in
+        let all = ap (λ z. z ++ rest) (sym front) ∙ same ∙ ap (wrapped oid) made_q ∙ sym (append-nil (wrapped oid (sequence (spelled r.kinds t)))) in
+        let one = prints_one identifier_law a b rest [] (identifier, ok) (identifier, right)
+        (omega (arith, within, ap (λ z. length (z ++ rest)) front)) all in
+        let spelling : Some s ≡ Some t = ap (λ (z : Algorithm (Spelling r.kinds)). z.parameters) one.0 in
+        (sym e ∙ ap (record_means r) (let same_one : s ≡ t = cc in same_one) ∙ f, one.1)
+
+    pub algorithm_delimited : AreDelimited Outer
+    algorithm_delimited = ((λ v p. let never = p.3 in cc), follow)
+
+    -- Two to the number of defaults.
+    pub algorithm_counted : TwoToTheDefaultsIn oid Is fields
+    algorithm_counted v k ok d few =
+        let less : length (longest (fields v)) ≤ limit = omega (arith, few, wrapped_fit oid (longest (fields v))) in
+        subst (λ n. (all : List (List ℕ)) × AreAll (AlgorithmEncoding oid) Is fields v n all) (sym (counted r v k d)) (
+          map (wrapped oid) (upto (2 ^ default_count r v) (made r v)),
+          are_all_in oid Is fields v (default_count r v) few (upto (2 ^ default_count r v) (made r v))
+              (each_within r v less) (are_all r v ok less),
+        )

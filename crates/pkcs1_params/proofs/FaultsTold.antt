@@ -1,20 +1,16 @@
--- The fault that an error of der_core names; what is known of whole slices, once they are read or rejected; and of what
--- is done with a value that was read.
-use Rattle.std.proofs.Common.{ℕ, List, ◌≡◌, ◌∙◌, sym, ap, inl, inr}
-use Rattle.std.specs.Prelude.{Result, Ok, Err}
+-- What is done with a value that was read, and errors where no memory is asked for.
+use Rattle.std.proofs.Common.{ℕ, List, ◌≡◌, ◌∙◌, ap, inl, inr, refl, subst, sym}
+use Rattle.std.specs.Prelude.{◌↔◌, Result, Ok, Err, None}
 use Rattle.der_core.specs.declared.error.ErrorKind.{ErrorKind}
-use Rattle.der_core.specs.Document.{Means}
-use Rattle.der_core.specs.Encodings.{IsDelimited}
-use Rattle.der_core.specs.Laws.Shortest.{means_one}
+use Rattle.der_core.specs.Printed.{ok_of, value_in}
 use Rattle.der_core.specs.Reading.{FaultOrMemory}
-use Rattle.der_core.specs.Readings.{Reading, ReadsContents, ◌>>=◌}
+use Rattle.der_core.specs.Readings.{◌>>=◌}
 use Rattle.pkcs1_params.specs.declared.error.Error.{Error}
-use Rattle.pkcs1_params.specs.Meanings.{ErrsAs, IsNoSentence, IsTheMeaning}
+use Rattle.pkcs1_params.specs.Errors.{IsAsn1}
+use Rattle.pkcs1_params.specs.Meanings.{ErrsAs, IsEncoded, fault_in}
+use Rattle.pkcs1_params.specs.declared.error.Error.TheVariants as error
+use Rattle.standard.specs.Statement.{Decodes}
 use Rattle.pkcs1_params.proofs.Errors.{asn1_as}
-
-pub the_meaning : {V : Type 0} {Grammar : V → List ℕ → Type 0} → IsDelimited Grammar → (v : V) (bytes : List ℕ)
-    → Means Grammar bytes v → IsTheMeaning Grammar bytes v
-the_meaning delimited v bytes means = (means, λ other p. means_one delimited other v bytes p.1 means.1)
 
 -- A value is read, and the rest of the function is asked.
 pub errs_behind : {X A B : Type 0} (value : X → B) (first : Result A ErrorKind) (behind : A → Result B ErrorKind)
@@ -27,8 +23,25 @@ pub no_memory : {e : ErrorKind} {asked fault : Type 0} → (asked → ⊥) → F
 no_memory never (inl w) = absurd (never w.1)
 no_memory never (inr f) = f
 
--- Bytes of which the function gives an error mean nothing.
-pub none_read : {V : Type 0} {Grammar : V → List ℕ → Type 0} {read : Reading V}
-    → ReadsContents (λ v b. Means Grammar b v) read → (bytes : List ℕ) (k : ErrorKind) → read bytes ≡ Err k
-    → IsNoSentence Grammar bytes
-none_read law bytes k fault v means = let no = sym fault ∙ law.takes bytes v means.0 means in cc
+-- The error of a fault.
+pub told_as : {V : Type 0} (given : Result V ErrorKind) (k : ErrorKind) → given ≡ Err k → (e : Error)
+    → IsAsn1 (λ a. a.kind ≡ k) e → IsAsn1 (λ a. given ≡ Err a.kind) e
+told_as given k is (error.Asn1 a) p = is ∙ ap (λ k. Err k) (sym p)
+told_as given k is error.Crypto p = absurd p
+told_as given k is error.KeyMalformed p = absurd p
+told_as given k is error.Version p = absurd p
+
+-- A call that returns what a function gives decodes what the function does.
+pub errs_decode : {X V B : Type 0} (E : V → B → Type 0) (bytes : B) (value : X → V) (given : Result V ErrorKind)
+    → Decodes E bytes (value_in given) → (r : Result X Error) → ErrsAs value given r → Decodes E bytes (ok_of value r)
+errs_decode E bytes value given d (Ok x) p = subst (λ g. Decodes E bytes (value_in g)) p d
+errs_decode E bytes value given d (Err (error.Asn1 e)) p = subst (λ g. Decodes E bytes (value_in g)) p d
+errs_decode E bytes value given d (Err error.Crypto) p = absurd p
+errs_decode E bytes value given d (Err error.KeyMalformed) p = absurd p
+errs_decode E bytes value given d (Err error.Version) p = absurd p
+
+-- There is no fault exactly of bytes that encode a value.
+pub no_fault : {V : Type 0} (E : V → List ℕ → Type 0) (bytes : List ℕ) (given : Result V ErrorKind)
+    → Decodes E bytes (value_in given) → (fault_in given ≡ None) ↔ IsEncoded E bytes
+no_fault E bytes (Ok v) d = (λ _. (v, d.0), λ _. refl)
+no_fault E bytes (Err k) d = (λ no. cc, λ p. absurd (d p.0 p.1))

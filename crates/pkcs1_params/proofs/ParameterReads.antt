@@ -1,71 +1,53 @@
--- Reading parameters, whose fields may ask for memory as the contracts say.
-use Rattle.std.proofs.Common.{ℕ, List, [], ◌∷◌, inl, inr}
+-- Reading parameters: the fields ask for no memory, and what is made of them has their faults.
+use Rattle.std.proofs.Common.{ℕ, List, ◌≡◌, inl, Ok, Some, None}
+use Rattle.der_core.specs.Encodings.{AreBytes}
 use Rattle.der_core.specs.declared.error.ErrorKind.{ErrorKind}
-use Rattle.der_core.specs.Input.{Input}
+use Rattle.der_core.specs.Input.{Input, left_in, read_from}
 use Rattle.der_core.specs.Laws.Readings.{made_errs}
-use Rattle.der_core.specs.Reading.{AllocatesIn}
+use Rattle.der_core.specs.Reading.{AllocatesIn, Asks}
+use Rattle.der_core.specs.declared.error.ErrorKind.TheVariants.{OutOfMemory}
+use Rattle.der_core.specs.Readings.{Reading, made}
 use Rattle.der_core.specs.Tlv.{Tlv}
-use Rattle.spki_core.specs.Allocating.{AlgorithmAllocates, FieldAllocates}
-use Rattle.pkcs1_params.specs.Allocating.{AllocatesFromHash, PssAllocates, OaepAllocates}
-use Rattle.pkcs1_params.specs.FieldReadings.{fields_read}
-use Rattle.pkcs1_params.specs.ParameterReadings.{mask_kind, of_oaep_fields, of_pss_fields, oaep_kinds, oaep_read}
-use Rattle.pkcs1_params.specs.ParameterReadings.{plain_kind, pss_kinds, pss_read, salt_kind, trailer_kind}
-use Rattle.pkcs1_params.specs.Parameters.{sha1, empty_label}
+use Rattle.spki_core.specs.Allocating.{AlgorithmAllocates}
+use Rattle.spki_core.specs.FieldSpellings.{FieldRecord, record_read}
+use Rattle.spki_core.specs.Laws.FieldSpellings.Records.{record_reads}
+use Rattle.standard.specs.Statement.{Field, Fields}
 use Rattle.der_core.proofs.ReadSteps.{Fails, fails_so}
-use Rattle.pkcs1_params.proofs.FieldReads.{AskingKind, KindsAsk}
 
-abbrev pub hash : AskingKind
-hash = record { kind = plain_kind 0 sha1; asks = AlgorithmAllocates (λ _. ⊥) }
+pub never : (b : List ℕ) → ⊥ → ⊥
+never b h = h
 
-abbrev pub mask : AskingKind
-mask = record { kind = mask_kind; asks = AlgorithmAllocates (AlgorithmAllocates (λ _. ⊥)) }
+pub algorithm_never : {asks : List ℕ → Type 0} → ((b : List ℕ) → asks b → ⊥) → (b : List ℕ)
+    → AlgorithmAllocates asks b → ⊥
+algorithm_never nothing b p = let h = p.holds in let l = h.1.3 in nothing l.1.0 l.1.3
 
-abbrev pub salt : AskingKind
-salt = record { kind = salt_kind; asks = Tlv 2 (λ _. ⊥) }
+pub plain_never : (b : List ℕ) → AlgorithmAllocates (λ _. ⊥) b → ⊥
+plain_never = algorithm_never never
 
-abbrev pub trailer : AskingKind
-trailer = record { kind = trailer_kind; asks = Tlv 2 (λ _. ⊥) }
+pub mask_never : (b : List ℕ) → AlgorithmAllocates (AlgorithmAllocates (λ _. ⊥)) b → ⊥
+mask_never = algorithm_never plain_never
 
-abbrev pub source : AskingKind
-source = record { kind = plain_kind 2 empty_label; asks = AlgorithmAllocates (λ _. ⊥) }
+pub number_never : (b : List ℕ) → Tlv 2 (λ _. ⊥) b → ⊥
+number_never b p = p.holds
 
-abbrev pub numbers : List AskingKind
-numbers = salt ∷ trailer ∷ []
+-- A SEQUENCE of parameters asks for none either.
+pub sequence_never : (b : List ℕ) → AllocatesIn (Tlv 48 (λ _. ⊥)) b → ⊥
+sequence_never b w = w.3.holds
 
-abbrev pub alone : List AskingKind
-alone = source ∷ []
+pub made_fails : {A B : Type 0} (make : A → B) (read : Reading A) {e : ErrorKind} (before : Input) {after : Input}
+    → Fails read (λ _. ⊥) e before after → Fails (made make read) (λ _. ⊥) e before after
+made_fails make read {e} before {after} =
+    fails_so read (made make read) (made_errs make read) (λ _. ⊥) (λ _. ⊥) never e before after
 
-abbrev pub later : List AskingKind
-later = mask ∷ alone
+-- Reading of owned parameters that fails: there was no memory for the copy of what was read.
+module _ {V : Type 0} {Is : V → Type 0} {fields : V → List Field} (r : FieldRecord Is fields)
+    (may : List ℕ → Type 0) (before after : Input) (e : ErrorKind) where
+  copy_asks : (v : V) (input : Input) → AreBytes (left_in input) → read_from input (record_read r) ≡ Ok v
+      → ((c : List ℕ) → Is v → Fields (fields v) c → may c) → Asks may input
+  copy_asks v None bytes p asks = let no = p in cc
+  copy_asks v (Some c) bytes p asks = let h = (record_reads r).gives c v bytes p in asks c h.0 h.1
 
--- Fields behind the mask generation function that ask for no more.
-both_ask : (asking : List AskingKind) (more : List ℕ → Type 0) → ((c : List ℕ) → KindsAsk asking c → more c)
-    → (c : List ℕ) → KindsAsk (hash ∷ mask ∷ asking) c → AllocatesFromHash (λ _. ⊥) more c
-both_ask asking more to c (inl w) = inl w
-both_ask asking more to c (inr (v, (x, y, d, inl w, e))) = inr (v, (x, y, d, inl w, e))
-both_ask asking more to c (inr (v, (x, y, d, inr (u, (z, t, f, l, h)), e))) =
-    inr (v, (x, y, d, inr (u, (z, t, f, to t l, h)), e))
-
-numbers_ask : (c : List ℕ) → KindsAsk numbers c → ⊥
-numbers_ask c (inl w) = w.3.holds.3.holds
-numbers_ask c (inr (v, (x, y, d, inl w, e))) = w.3.holds.3.holds
-numbers_ask c (inr (v, (x, y, d, inr w, e))) = w.1.3
-
-source_asks : (c : List ℕ) → KindsAsk alone c → AllocatesIn (FieldAllocates 2 (AlgorithmAllocates (λ _. ⊥))) c
-source_asks c (inl w) = w
-source_asks c (inr w) = absurd w.1.3
-
-pub pss_fails : {e : ErrorKind} (before : Input) {after : Input}
-    → Fails (fields_read pss_kinds) (KindsAsk (hash ∷ mask ∷ numbers)) e before after
-    → Fails pss_read (PssAllocates (λ _. ⊥)) e before after
-pss_fails {e} before {after} =
-    fails_so (fields_read pss_kinds) pss_read (made_errs of_pss_fields (fields_read pss_kinds))
-    (KindsAsk (hash ∷ mask ∷ numbers)) (PssAllocates (λ _. ⊥))
-    (both_ask numbers (λ _. ⊥) numbers_ask) e before after
-
-pub oaep_fails : {e : ErrorKind} (before : Input) {after : Input}
-    → Fails (fields_read oaep_kinds) (KindsAsk (hash ∷ later)) e before after
-    → Fails oaep_read (OaepAllocates (λ _. ⊥)) e before after
-oaep_fails {e} before {after} =
-    fails_so (fields_read oaep_kinds) oaep_read (made_errs of_oaep_fields (fields_read oaep_kinds))
-    (KindsAsk (hash ∷ later)) (OaepAllocates (λ _. ⊥)) (both_ask alone _ source_asks) e before after
+  pub copy_fails : (v : V) → AreBytes (left_in before) → read_from before (record_read r) ≡ Ok v
+      → ((c : List ℕ) → Is v → Fields (fields v) c → may c) → after ≡ None → e ≡ OutOfMemory
+      → Fails (record_read r) may e before after
+  copy_fails v bytes p asks failed memory = (failed, inl (memory, copy_asks v before bytes p asks))

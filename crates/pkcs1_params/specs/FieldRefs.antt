@@ -1,19 +1,22 @@
--- The value of a borrowed field, by what its holder holds.
-use Rattle.spki_core.specs.AlgorithmIdentifier.{Algorithm}
-use Rattle.spki_core.specs.Any.{TagAndContents}
-use Rattle.spki_core.specs.Masks.{Part}
-use Rattle.pkcs1_params.specs.Parts.{FieldValue, hash_field, mask_gen_field, salt_len_field, trailer_field}
-use Rattle.pkcs1_params.specs.Parts.{p_source_field, part_of}
+-- A borrowed field as it is written, by what its holder holds.
+use Rattle.std.specs.Prelude.{ℕ}
+use Rattle.spki_core.specs.FieldSpellings.{WrittenField, field_with}
+use Rattle.pkcs1_params.specs.ParameterReadings.{hash_kind, mask_kind, salt_kind, source_kind, trailer_kind}
 use Rattle.pkcs1_params.specs.declared.fields.FieldRef.{FieldRef}
 use Rattle.pkcs1_params.specs.declared.fields.FieldRef.TheVariants as ref
+use Rattle.standard.specs.Statement.{Algorithm, TagAndContents}
+
+abbrev pub field_number : {P M : Type 0} → FieldRef P M → ℕ
+field_number (ref.Hash v) = 0
+field_number (ref.MaskGen v) = 1
+field_number (ref.SaltLen n) = 2
+field_number (ref.Trailer t) = 3
+field_number (ref.PSource v) = 2
 
 module _ {P M : Type 0} (plain : P → Algorithm TagAndContents) (mask : M → Algorithm (Algorithm TagAndContents)) where
-  abbrev pub value_of : FieldRef P M → FieldValue
-  value_of (ref.Hash v) = hash_field (plain v.now)
-  value_of (ref.MaskGen v) = mask_gen_field (mask v.now)
-  value_of (ref.SaltLen n) = salt_len_field n
-  value_of (ref.Trailer t) = trailer_field 1
-  value_of (ref.PSource v) = p_source_field (plain v.now)
-
-  abbrev pub part_in : FieldRef P M → Part
-  part_in f = part_of (value_of f)
+  abbrev pub field_in : FieldRef P M → WrittenField
+  field_in (ref.Hash v) = field_with hash_kind (plain v.now)
+  field_in (ref.MaskGen v) = field_with mask_kind (mask v.now)
+  field_in (ref.SaltLen n) = field_with salt_kind n
+  field_in (ref.Trailer t) = field_with trailer_kind 1
+  field_in (ref.PSource v) = field_with source_kind (plain v.now)

@@ -1,24 +1,25 @@
 -- What is written for parameters with a label.
-use Rattle.std.specs.Prelude.{List, ℕ, Result}
-use Rattle.der_core.specs.Tag.{sequence_tag}
-use Rattle.der_core.specs.Tlv.{tlv}
+use Rattle.std.specs.Prelude.{List, [], ℕ, Result, if◌then◌else◌}
 use Rattle.der_core.specs.Writing.{Counts}
 use Rattle.der_core.specs.declared.error.Error.{Error}
-use Rattle.spki_core.specs.AlgorithmIdentifier.{same_plain, written_plain}
-use Rattle.spki_core.specs.FieldWriting.{written_field}
+use Rattle.spki_core.specs.FieldSpellings.{fields_with, octets_under, one_spelled}
 use Rattle.pkcs1_params.specs.OaepValue.{labelled}
-use Rattle.pkcs1_params.specs.Parameters.{empty_label, with_parameters, id_p_specified, octets_value}
-use Rattle.pkcs1_params.specs.Parts.{oaep_values, HasFields, written_fields}
+use Rattle.pkcs1_params.specs.ParameterReadings.{in_oaep_fields, oaep_kinds, source_kind}
+use Rattle.pkcs1_params.specs.Parameters.{with_parameters, id_p_specified, octets_value}
+use Rattle.standard.specs.Statement.{Algorithm, IsOaep, TagAndContents, sequence}
 
--- What is written for the source of a label.
+-- The source of a label, and what is written for it.
+abbrev pub source_with : List ℕ → Algorithm TagAndContents
+source_with label = with_parameters id_p_specified (octets_value label)
+
 abbrev pub written_source : List ℕ → List ℕ
 written_source label =
-    let source =
-    with_parameters id_p_specified (octets_value label) in
-    written_field (same_plain source empty_label) 2 (written_plain source)
+    if source_kind.is_default (source_with label) then [] else one_spelled source_kind (source_with label)
 
--- The length of what is written for parameters with a label.
+-- What is written of parameters with a label.
+abbrev pub written_labelled : List ℕ → List ℕ → List ℕ
+written_labelled oid label = octets_under 0 (fields_with oaep_kinds (in_oaep_fields (labelled oid label)))
+
+-- The length of their encoding.
 abbrev pub CountsLabelled : List ℕ → List ℕ → Result ℕ Error → Type 0
-CountsLabelled oid label r =
-    let values = oaep_values (labelled oid label) in
-    Counts (HasFields values 0) (tlv sequence_tag (written_fields values 0)) r
+CountsLabelled oid label r = Counts (IsOaep (labelled oid label)) (sequence (written_labelled oid label)) r

@@ -7,14 +7,10 @@ pub mod OaepValue
 pub mod Spellings
 pub mod ErrorText
 pub mod Errors
-pub mod FieldContents
 pub mod Meanings
-pub mod Parts
 pub mod FieldRefs
 pub mod LabelWriting
-pub mod FieldReadings
 pub mod ParameterReadings
-pub mod ParameterSpellings
 pub mod DefaultBits
 pub mod Algorithms
 pub mod UsualParameters

@@ -1,14 +1,13 @@
 -- What RSAES-OAEP parameters mean, by what holds their identifiers and the parameters of algorithms.
 use Rattle.std.specs.Prelude.{ℕ, List, ◌≡◌, length}
 use Rattle.der_core.specs.Encodings.{AreBytes}
-use Rattle.der_core.specs.Document.{Means}
 use Rattle.spki_core.specs.Any.{TagAndContents, null_value}
 use Rattle.spki_core.specs.AnyRefValue.{any_of}
 use Rattle.spki_core.specs.declared.any.AnyRef.{AnyRef}
 use Rattle.spki_core.specs.AlgorithmValue.{algorithm_in, mask_in}
 use Rattle.spki_core.specs.ObjectIdentifierValue.{own_octets_of, octets_of}
 use Rattle.pkcs1_params.specs.Parameters.{id_mgf1, id_p_specified, with_parameters, octets_value, OaepParameters}
-use Rattle.pkcs1_params.specs.Parameters as grammar
+use Rattle.standard.specs.Statement.{OaepEncoding}
 use Rattle.pkcs1_params.specs.declared.oaep.OaepParamsOf.{OaepParamsOf}
 use Rattle.spki_core.specs.declared.identifier_view.IdentifierView.{IdentifierView}
 use Rattle.spki_core.specs.declared.object_identifier.ObjectIdentifier.{ObjectIdentifier}
@@ -45,9 +44,9 @@ labelled oid label = record {
 abbrev pub LabelFits : List ℕ → ℕ → Type 0
 LabelFits oid n =
     (label : List ℕ) → AreBytes label → length label ≡ n
-    → (encoding : List ℕ) × Means grammar.RsaOaepParams encoding (labelled oid label)
+    → (encoding : List ℕ) × OaepEncoding (labelled oid label) encoding
 
 abbrev pub NoLabelFits : List ℕ → ℕ → Type 0
 NoLabelFits oid n =
     (label : List ℕ) → AreBytes label → length label ≡ n → (encoding : List ℕ)
-    → Means grammar.RsaOaepParams encoding (labelled oid label) → ⊥
+    → OaepEncoding (labelled oid label) encoding → ⊥

@@ -1,87 +1,127 @@
--- Reading parameters as functions of the bytes (RFC 8017 A.2.3, A.2.1).
-use Rattle.std.specs.Prelude.{ℕ, List, [], ◌∷◌, ◌==◌}
-use Rattle.der_core.specs.declared.error.ErrorKind.TheVariants.{Value}
-use Rattle.der_core.specs.Integer.{Small}
+-- Parameters as SEQUENCEs of fields with defaults, and reading them as functions of the bytes (RFC 8017 A.2.3, A.2.1).
+use Rattle.std.specs.Prelude.{ℕ, ◌+◌, ◌<◌, ◌≡◌, ◌==◌, List, [], ◌∷◌, IsTrue, true, eqb}
 use Rattle.der_core.specs.IntegerReading.{small_of}
 use Rattle.der_core.specs.Readings.{FrontReading, Reading, made, such, tagged, whole}
-use Rattle.der_core.specs.Tags.{integer, sequence}
-use Rattle.spki_core.specs.AlgorithmIdentifier.{Algorithm, PlainAlgorithm, MaskAlgorithm}
-use Rattle.spki_core.specs.Any.{TagAndContents}
-use Rattle.spki_core.specs.Readings.{algorithm_read, any}
-use Rattle.spki_core.specs.StrictFields.{strict}
-use Rattle.pkcs1_params.specs.FieldReadings.{FieldKind, fields_read}
-use Rattle.pkcs1_params.specs.Parameters.{sha1, mgf1_sha1, empty_label, TrailerField, PssParameters, OaepParameters}
-use Rattle.pkcs1_params.specs.Parts.{defaults_with, pss_values, oaep_values}
+use Rattle.der_core.specs.Tag.{is_allowed}
+use Rattle.der_core.specs.Tags as tags
+use Rattle.der_core.specs.declared.error.ErrorKind.TheVariants.{Value}
+use Rattle.spki_core.specs.AlgorithmIdentifier.{same_mask, same_plain}
+use Rattle.spki_core.specs.FieldSpellings.{Kind, Values, strict_contents, strict_slice, values_read}
+use Rattle.spki_core.specs.Readings.{algorithm_read, any as any_front}
+use Rattle.standard.specs.Statement.{Algorithm, IsAlgorithm, IsAny, OaepParameters, PssParameters, TagAndContents}
+use Rattle.standard.specs.Statement.{algorithm, any, empty_label, integer, mgf1_sha1, sha1}
 
 -- Algorithm identifiers with parameters of any tag, and with such an identifier as parameters.
 abbrev pub plain_front : FrontReading (Algorithm TagAndContents)
-plain_front = tagged sequence (algorithm_read any)
+plain_front = tagged tags.sequence (algorithm_read any_front)
 
 abbrev pub mask_front : FrontReading (Algorithm (Algorithm TagAndContents))
-mask_front = tagged sequence (algorithm_read plain_front)
+mask_front = tagged tags.sequence (algorithm_read plain_front)
 
 -- The number 1.
 abbrev pub trailer_read : Reading ℕ
-trailer_read = such (λ n. n == 1) (Value integer) small_of
+trailer_read = such (λ n. n == 1) (Value tags.integer) small_of
 
 -- The kinds of the fields.
-abbrev pub plain_kind : ℕ → Algorithm TagAndContents → FieldKind
-plain_kind number default =
+abbrev pub plain_kind : (n : ℕ) → IsTrue (is_allowed (160 + n)) → Algorithm TagAndContents → Kind
+plain_kind n allowed default =
     record {
       Value = Algorithm TagAndContents;
-      number = number;
-      encoding = PlainAlgorithm;
+      number = n;
+      allowed = allowed;
+      Is = IsAlgorithm IsAny;
+      printed = algorithm any;
       at = plain_front;
       default = default;
+      is_default = λ v. same_plain v default;
     }
 
-abbrev pub mask_kind : FieldKind
+abbrev pub hash_kind : Kind
+hash_kind = plain_kind 0 (λ i. true) sha1
+
+abbrev pub mask_kind : Kind
 mask_kind =
     record {
       Value = Algorithm (Algorithm TagAndContents);
       number = 1;
-      encoding = MaskAlgorithm;
+      allowed = λ i. true;
+      Is = IsAlgorithm (IsAlgorithm IsAny);
+      printed = algorithm (algorithm any);
       at = mask_front;
       default = mgf1_sha1;
+      is_default = λ v. same_mask v mgf1_sha1;
     }
 
-abbrev pub salt_kind : FieldKind
-salt_kind = record { Value = ℕ; number = 2; encoding = Small; at = tagged integer small_of; default = 20 }
+abbrev pub salt_kind : Kind
+salt_kind =
+    record {
+      Value = ℕ;
+      number = 2;
+      allowed = λ i. true;
+      Is = λ n. n < 256;
+      printed = integer;
+      at = tagged tags.integer small_of;
+      default = 20;
+      is_default = λ n. eqb n 20;
+    }
 
-abbrev pub trailer_kind : FieldKind
-trailer_kind = record { Value = ℕ; number = 3; encoding = TrailerField; at = tagged integer trailer_read; default = 1 }
+abbrev pub trailer_kind : Kind
+trailer_kind =
+    record {
+      Value = ℕ;
+      number = 3;
+      allowed = λ i. true;
+      Is = λ n. n ≡ 1;
+      printed = integer;
+      at = tagged tags.integer trailer_read;
+      default = 1;
+      is_default = λ n. eqb n 1;
+    }
 
-abbrev pub pss_kinds : List FieldKind
-pss_kinds = plain_kind 0 sha1 ∷ mask_kind ∷ salt_kind ∷ trailer_kind ∷ []
+abbrev pub source_kind : Kind
+source_kind = plain_kind 2 (λ i. true) empty_label
 
-abbrev pub oaep_kinds : List FieldKind
-oaep_kinds = plain_kind 0 sha1 ∷ mask_kind ∷ plain_kind 2 empty_label ∷ []
+abbrev pub pss_kinds : List Kind
+pss_kinds = hash_kind ∷ mask_kind ∷ salt_kind ∷ trailer_kind ∷ []
 
--- The contents of both.
-abbrev pub of_pss_fields : Algorithm TagAndContents × (Algorithm (Algorithm TagAndContents) × (ℕ × (ℕ × Unit {0})))
-    → PssParameters
+abbrev pub oaep_kinds : List Kind
+oaep_kinds = hash_kind ∷ mask_kind ∷ source_kind ∷ []
+
+-- The parameters with values of the fields, and the values of parameters.
+abbrev pub of_pss_fields : Values pss_kinds → PssParameters
 of_pss_fields v = record { hash = v.0; mask_gen = v.1.0; salt_len = v.1.1.0; trailer_field = v.1.1.1.0 }
 
-abbrev pub pss_read : Reading PssParameters
-pss_read = made of_pss_fields (fields_read pss_kinds)
+abbrev pub in_pss_fields : PssParameters → Values pss_kinds
+in_pss_fields p = (p.hash, (p.mask_gen, (p.salt_len, (p.trailer_field, tt))))
 
-abbrev pub of_oaep_fields : Algorithm TagAndContents × (Algorithm (Algorithm TagAndContents)
-    × (Algorithm TagAndContents × Unit {0})) → OaepParameters
+abbrev pub of_oaep_fields : Values oaep_kinds → OaepParameters
 of_oaep_fields v = record { hash = v.0; mask_gen = v.1.0; p_source = v.1.1.0 }
 
-abbrev pub oaep_read : Reading OaepParameters
-oaep_read = made of_oaep_fields (fields_read oaep_kinds)
+abbrev pub in_oaep_fields : OaepParameters → Values oaep_kinds
+in_oaep_fields p = (p.hash, (p.mask_gen, (p.p_source, tt)))
 
--- Whole slices that have to be parameters.
+-- Contents, and whole slices that have to be parameters.
+abbrev pub pss_read : Reading PssParameters
+pss_read = made of_pss_fields (values_read pss_kinds)
+
+abbrev pub oaep_read : Reading OaepParameters
+oaep_read = made of_oaep_fields (values_read oaep_kinds)
+
 abbrev pub rsa_pss_params : Reading PssParameters
-rsa_pss_params = whole (tagged sequence pss_read)
+rsa_pss_params = whole (tagged tags.sequence pss_read)
 
 abbrev pub rsa_oaep_params : Reading OaepParameters
-rsa_oaep_params = whole (tagged sequence oaep_read)
+rsa_oaep_params = whole (tagged tags.sequence oaep_read)
 
--- Whole slices that have to be the shortest encoding of parameters (X.690 11.5).
+-- The same of shortest encodings alone (X.690 11.5).
+abbrev pub strict_pss_read : Reading PssParameters
+strict_pss_read = strict_contents pss_kinds of_pss_fields
+
+abbrev pub strict_oaep_read : Reading OaepParameters
+strict_oaep_read = strict_contents oaep_kinds of_oaep_fields
+
 abbrev pub strict_pss_params : Reading PssParameters
-strict_pss_params = strict (defaults_with pss_values) rsa_pss_params
+strict_pss_params = strict_slice pss_kinds of_pss_fields
 
 abbrev pub strict_oaep_params : Reading OaepParameters
-strict_oaep_params = strict (defaults_with oaep_values) rsa_oaep_params
+strict_oaep_params = strict_slice oaep_kinds of_oaep_fields

@@ -4,7 +4,8 @@ use Rattle.std.specs.Prelude.{ℕ, List, [], ◌∷◌, ◌++◌, ◌≡◌, ◌
 use Rattle.spki_core.specs.AlgorithmIdentifier.{Algorithm}
 use Rattle.spki_core.specs.Any.{TagAndContents, null_value}
 use Rattle.pkcs1_params.specs.HashFunctions.{id_sha256, id_sha384, id_sha512}
-use Rattle.pkcs1_params.specs.Parameters.{empty_label, id_mgf1, with_parameters, OaepParameters, PssParameters}
+use Rattle.pkcs1_params.specs.Parameters.{id_mgf1, with_parameters, OaepParameters, PssParameters}
+use Rattle.standard.specs.Statement.{empty_label}
 
 -- The encoding of a hash function whose identifier has nine octets, with NULL.
 abbrev pub hash_with_null : List ℕ → List ℕ

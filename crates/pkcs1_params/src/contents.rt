@@ -1,10 +1,9 @@
 //! Contents octets of parameters, under a mask that says which of their defaults are written. `non_defaults` is what
 //! `non_defaults_in` returns.
-ghost use Rattle.std.specs.Prelude.{◌≡◌, ◌≤◌, length};
+ghost use Rattle.std.specs.Prelude.{◌≡◌, ◌≤◌, ⊤, length};
 ghost use Rattle.der_core.specs.Words.{Appends, Counts, Prepends, free_of, limit};
 ghost use Rattle.pkcs1_params.specs.DefaultBits.{bits_of};
-ghost use Rattle.pkcs1_params.specs.Parts.{defaults_in};
-ghost use Rattle.spki_core.specs.Words.{AreSpelled, spelled, under};
+ghost use Rattle.spki_core.specs.Words.{AreSpelled, are_defaults, record_fields, record_under, spelled};
 
 use crate::fields::Fields;
 use crate::spelling::EncodeParams;
@@ -13,10 +12,11 @@ use der_core::{BackWriter, Length, Result, Writer};
 /// Their length.
 #[inline(always)]
 pub(crate) fn contents_len<T: EncodeParams>(params: T, non_defaults: u8, mask: u8) -> Result<Length>
-    requires { non_defaults ≡ bits_of (defaults_in (T.values (T.params params))) }
-    ensures { let s = under T.kinds mask (T.split (T.params params)) in
-        Counts (AreSpelled T.kinds s) (spelled T.kinds s) result }
+    requires { non_defaults ≡ bits_of (are_defaults (record_fields T.form (T.params params))) }
+    ensures { let s = record_under T.form mask (T.params params) in
+        Counts (AreSpelled T.form.kinds s) (spelled T.form.kinds s) result }
 {
+    params.lemma_is_valid();
     if non_defaults == 0 && mask == 0 {
         return Ok(Length::ZERO);
     }
@@ -31,11 +31,10 @@ pub(crate) fn append_contents<T: EncodeParams, W: Writer>(
     mask: u8,
     writer: &mut W,
 ) -> Result<()>
-    requires non_defaults { non_defaults ≡ bits_of (defaults_in (T.values (T.params params))) }
-    requires has { AreSpelled T.kinds (under T.kinds mask (T.split (T.params params))) }
-    requires fits { length (spelled T.kinds (under T.kinds mask (T.split (T.params params)))) ≤ limit }
-    ensures appends { let s = under T.kinds mask (T.split (T.params params)) in
-        Appends (AreSpelled T.kinds s) (spelled T.kinds s) W.room W.written writer.old writer.new result }
+    requires non_defaults { non_defaults ≡ bits_of (are_defaults (record_fields T.form (T.params params))) }
+    requires fits { length (spelled T.form.kinds (record_under T.form mask (T.params params))) ≤ limit }
+    ensures appends { let octets = spelled T.form.kinds (record_under T.form mask (T.params params)) in
+        Appends ⊤ octets W.room W.written writer.old writer.new result }
     ensures kept { W.keeps writer.old writer.new }
 {
     params.fields().append(non_defaults, mask, writer)
@@ -49,11 +48,10 @@ pub(crate) fn prepend_contents<T: EncodeParams>(
     mask: u8,
     writer: &mut BackWriter<'_>,
 )
-    requires non_defaults { non_defaults ≡ bits_of (defaults_in (T.values (T.params params))) }
-    requires has { AreSpelled T.kinds (under T.kinds mask (T.split (T.params params))) }
-    requires fits { length (spelled T.kinds (under T.kinds mask (T.split (T.params params)))) ≤ limit }
-    requires room { length (spelled T.kinds (under T.kinds mask (T.split (T.params params)))) ≤ free_of writer.old }
-    ensures { Prepends (spelled T.kinds (under T.kinds mask (T.split (T.params params)))) writer.old writer.new }
+    requires non_defaults { non_defaults ≡ bits_of (are_defaults (record_fields T.form (T.params params))) }
+    requires fits { length (spelled T.form.kinds (record_under T.form mask (T.params params))) ≤ limit }
+    requires room { length (spelled T.form.kinds (record_under T.form mask (T.params params))) ≤ free_of writer.old }
+    ensures { Prepends (spelled T.form.kinds (record_under T.form mask (T.params params))) writer.old writer.new }
 {
     if non_defaults == 0 && mask == 0 {
         return;

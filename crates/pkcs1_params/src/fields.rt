@@ -1,9 +1,9 @@
 //! The fields of parameters, and writing them under a mask that says which defaults are written.
-ghost use Rattle.std.specs.Prelude.{false, ◌≡◌, ◌≤◌, ◌<◌, ◌+◌, ◌*◌, ◌^◌, ℕ, List, [], ◌∷◌, length};
-ghost use Rattle.der_core.specs.Words.{free_of, Prepends, limit, Counts, Appends};
-ghost use Rattle.spki_core.specs.Words.{HaveDefaults, HasField, written_field, out_under, rest_under, number_in};
-ghost use Rattle.pkcs1_params.specs.Words.{value_of, part_in, bit_of, bits_of, FieldValue, defaults_in, fields_in};
-ghost use Rattle.pkcs1_params.specs.Words.{HasFields, written_fields};
+ghost use Rattle.std.specs.Prelude.{◌≡◌, ◌≤◌, ◌<◌, ◌+◌, ◌*◌, ◌^◌, ⊤, List, [], ◌∷◌, length};
+ghost use Rattle.der_core.specs.Words.{Appends, Counts, Prepends, free_of, limit};
+ghost use Rattle.spki_core.specs.Words.{WrittenField, are_defaults, defaults_in, octets_under, out_under, rest_under};
+ghost use Rattle.pkcs1_params.specs.Words.{bits_of, field_in, field_number};
+ghost use Rattle.pkcs1_params.specs.DefaultBits.{bit_of};
 
 use crate::holders::{MaskHolder, PlainHolder};
 use crate::pss::RsaPssParamsRef;
@@ -21,17 +21,10 @@ pub enum FieldRef<'b, Plain, Mask> {
     PSource(&'b Plain),
 }
 
-/// Does nothing: its contract bounds the number, which proofs don't know of a field.
-fn lemma_is_octet(number: u8)
-    ensures { number < 256 }
-{
-    let _ = number;
-}
-
 impl<Plain: PlainHolder, Mask: MaskHolder> FieldRef<'_, Plain, Mask> {
     #[inline(always)]
     fn number(&self) -> TagNumber
-        ensures { number_in result ≡ (part_in Plain.plain Mask.mask self.now).field.number }
+        ensures { result.value ≡ field_number self.now }
     {
         TagNumber::new(match self {
             FieldRef::Hash(_) => 0,
@@ -45,7 +38,7 @@ impl<Plain: PlainHolder, Mask: MaskHolder> FieldRef<'_, Plain, Mask> {
     /// Whether the value is the default.
     #[inline(always)]
     pub(crate) fn is_default(&self) -> bool
-        ensures { result ≡ (part_in Plain.plain Mask.mask self.now).is_default }
+        ensures { result ≡ (field_in Plain.plain Mask.mask self.now).is_default }
     {
         match *self {
             FieldRef::Hash(hash) => hash.is_default_hash(),
@@ -56,25 +49,10 @@ impl<Plain: PlainHolder, Mask: MaskHolder> FieldRef<'_, Plain, Mask> {
         }
     }
 
-    /// Does nothing: its contract says that the value has an encoding, little longer than the limit.
-    fn lemma_has_encoding(&self)
-        ensures { let part = part_in Plain.plain Mask.mask self.now in
-            part.has × (length part.encoding ≤ limit + 718) }
-    {
-        match *self {
-            FieldRef::Hash(_) => {}
-            FieldRef::MaskGen(_) => {}
-            FieldRef::SaltLen(salt_len) => lemma_is_octet(salt_len),
-            FieldRef::Trailer(_) => {}
-            FieldRef::PSource(_) => {}
-        }
-    }
-
     /// The length of the written field.
     #[inline(always)]
     fn len(&self) -> Result<Length>
-        ensures { let part = part_in Plain.plain Mask.mask self.now in
-            Counts (HasField false part.has) (written_field false part.field.number part.encoding) result }
+        ensures { Counts ⊤ (field_in Plain.plain Mask.mask self.now).octets result }
     {
         let number = self.number();
         match *self {
@@ -86,33 +64,28 @@ impl<Plain: PlainHolder, Mask: MaskHolder> FieldRef<'_, Plain, Mask> {
         }
     }
 
-    /// Appends the field, unless it is left out.
-    fn encode<W: Writer>(&self, left_out: bool, writer: &mut W) -> Result<()>
-        ensures appends { let part = part_in Plain.plain Mask.mask self.now in
-            let octets = written_field left_out part.field.number part.encoding in
-            Appends (HasField left_out part.has) octets W.room W.written writer.old writer.new result }
+    /// Appends the field.
+    fn encode<W: Writer>(&self, writer: &mut W) -> Result<()>
+        ensures appends { let octets = (field_in Plain.plain Mask.mask self.now).octets in
+            Appends ⊤ octets W.room W.written writer.old writer.new result }
         ensures kept { W.keeps writer.old writer.new }
     {
         let number = self.number();
         match *self {
-            FieldRef::Hash(hash) => encode_field(left_out, number, hash, writer),
-            FieldRef::MaskGen(mask_gen) => encode_field(left_out, number, mask_gen, writer),
-            FieldRef::SaltLen(salt_len) => encode_field(left_out, number, &salt_len, writer),
-            FieldRef::Trailer(trailer) => encode_field(left_out, number, &trailer, writer),
-            FieldRef::PSource(p_source) => encode_field(left_out, number, p_source, writer),
+            FieldRef::Hash(hash) => encode_field(number, hash, writer),
+            FieldRef::MaskGen(mask_gen) => encode_field(number, mask_gen, writer),
+            FieldRef::SaltLen(salt_len) => encode_field(number, &salt_len, writer),
+            FieldRef::Trailer(trailer) => encode_field(number, &trailer, writer),
+            FieldRef::PSource(p_source) => encode_field(number, p_source, writer),
         }
     }
 
     /// Writes the field in front of what is filled.
     #[inline(always)]
     fn prepend(&self, writer: &mut BackWriter<'_>)
-        requires has { HasField false (part_in Plain.plain Mask.mask self.now).has }
-        requires fits { let part = part_in Plain.plain Mask.mask self.now in
-            length (written_field false part.field.number part.encoding) ≤ limit }
-        requires room { let part = part_in Plain.plain Mask.mask self.now in
-            length (written_field false part.field.number part.encoding) ≤ free_of writer.old }
-        ensures { let part = part_in Plain.plain Mask.mask self.now in
-            Prepends (written_field false part.field.number part.encoding) writer.old writer.new }
+        requires fits { length (field_in Plain.plain Mask.mask self.now).octets ≤ limit }
+        requires room { length (field_in Plain.plain Mask.mask self.now).octets ≤ free_of writer.old }
+        ensures { Prepends (field_in Plain.plain Mask.mask self.now).octets writer.old writer.new }
     {
         let number = self.number();
         match *self {
@@ -144,57 +117,50 @@ fn split_non_defaults<Plain: PlainHolder, Mask: MaskHolder, L: Fields>(
     _field: &FieldRef<'_, Plain, Mask>,
     _later: &L,
 ) -> (bool, u8)
-    requires { let part = part_in Plain.plain Mask.mask _field.now in
-        non_defaults ≡ bit_of part.is_default + 2 * bits_of (defaults_in (L.values _later.now)) }
-    ensures { let part = part_in Plain.plain Mask.mask _field.now in
-        result ≡ (part.is_default, bits_of (defaults_in (L.values _later.now))) }
+    requires { let field = field_in Plain.plain Mask.mask _field.now in
+        non_defaults ≡ bit_of field.is_default + 2 * bits_of (are_defaults (L.written _later.now)) }
+    ensures { let field = field_in Plain.plain Mask.mask _field.now in
+        result ≡ (field.is_default, bits_of (are_defaults (L.written _later.now))) }
 {
     (non_defaults % 2 == 0, non_defaults / 2)
 }
 
 /// Fields with their values, in order. Each list has a type of its own, so that code for it has no loop.
 pub trait Fields: Drop {
-    /// The values of the fields, in order.
-    ghost values: { Self → List FieldValue };
-
-    /// Does nothing: its contract says that there are contents under each mask, and bounds their length.
-    fn lemma_have_encodings(&self)
-        ensures { (mask : ℕ) → HasFields (values self.now) mask
-            × (length (written_fields (values self.now) mask) ≤ length (values self.now) * (limit + 846)) };
+    /// The fields as they are written, in order.
+    ghost written: { Self → List WrittenField };
 
     /// Which fields differ from their defaults, as bits: bit j is that of field j.
     fn non_defaults(&self) -> u8
-        requires { length (values self.now) ≤ 7 }
-        ensures is { result ≡ bits_of (defaults_in (values self.now)) }
-        ensures few { result < 2 ^ length (values self.now) };
+        requires { length (written self.now) ≤ 7 }
+        ensures is { result ≡ bits_of (are_defaults (written self.now)) }
+        ensures few { result < 2 ^ length (written self.now) };
 
     /// How many of the fields have their defaults.
     fn count_defaults(&self) -> u8
-        requires { length (values self.now) ≤ 7 }
-        ensures count { HaveDefaults (fields_in (values self.now)) result }
-        ensures few { result ≤ length (values self.now) };
+        requires { length (written self.now) ≤ 7 }
+        ensures count { result ≡ defaults_in (written self.now) }
+        ensures few { result ≤ length (written self.now) };
 
     /// The length of the fields under a mask. Bit j of `non_defaults` says whether field j differs from its default.
     fn len(&self, non_defaults: u8, mask: u8) -> Result<Length>
-        requires { non_defaults ≡ bits_of (defaults_in (values self.now)) }
-        ensures { Counts (HasFields (values self.now) mask) (written_fields (values self.now) mask) result };
+        requires { non_defaults ≡ bits_of (are_defaults (written self.now)) }
+        ensures { Counts ⊤ (octets_under mask (written self.now)) result };
 
     /// Appends the fields under a mask.
     fn append<W: Writer>(&self, non_defaults: u8, mask: u8, writer: &mut W) -> Result<()>
-        requires non_defaults { non_defaults ≡ bits_of (defaults_in (values self.now)) }
-        requires has { HasFields (values self.now) mask }
-        requires fits { length (written_fields (values self.now) mask) ≤ limit }
-        ensures appends { let octets = written_fields (values self.now) mask in
-            Appends (HasFields (values self.now) mask) octets W.room W.written writer.old writer.new result }
+        requires non_defaults { non_defaults ≡ bits_of (are_defaults (written self.now)) }
+        requires fits { length (octets_under mask (written self.now)) ≤ limit }
+        ensures appends { let octets = octets_under mask (written self.now) in
+            Appends ⊤ octets W.room W.written writer.old writer.new result }
         ensures kept { W.keeps writer.old writer.new };
 
     /// Writes the fields under a mask in front of what is filled, the last one first.
     fn prepend(&self, non_defaults: u8, mask: u8, writer: &mut BackWriter<'_>)
-        requires non_defaults { non_defaults ≡ bits_of (defaults_in (values self.now)) }
-        requires has { HasFields (values self.now) mask }
-        requires fits { length (written_fields (values self.now) mask) ≤ limit }
-        requires room { length (written_fields (values self.now) mask) ≤ free_of writer.old }
-        ensures { Prepends (written_fields (values self.now) mask) writer.old writer.new };
+        requires non_defaults { non_defaults ≡ bits_of (are_defaults (written self.now)) }
+        requires fits { length (octets_under mask (written self.now)) ≤ limit }
+        requires room { length (octets_under mask (written self.now)) ≤ free_of writer.old }
+        ensures { Prepends (octets_under mask (written self.now)) writer.old writer.new };
 }
 
 /// No field.
@@ -209,9 +175,7 @@ pub struct FieldThen<'b, Plain, Mask, L> {
 }
 
 impl Fields for NoField {
-    ghost values = { λ _. [] };
-
-    fn lemma_have_encodings(&self) {}
+    ghost written = { λ _. [] };
 
     #[inline(always)]
     fn non_defaults(&self) -> u8 {
@@ -238,12 +202,7 @@ impl Fields for NoField {
 }
 
 impl<Plain: PlainHolder, Mask: MaskHolder, L: Fields> Fields for FieldThen<'_, Plain, Mask, L> {
-    ghost values = { λ fields. value_of Plain.plain Mask.mask fields.first ∷ L.values fields.later };
-
-    fn lemma_have_encodings(&self) {
-        self.first.lemma_has_encoding();
-        self.later.lemma_have_encodings();
-    }
+    ghost written = { λ fields. field_in Plain.plain Mask.mask fields.first ∷ L.written fields.later };
 
     #[inline(always)]
     fn non_defaults(&self) -> u8 {
@@ -271,7 +230,10 @@ impl<Plain: PlainHolder, Mask: MaskHolder, L: Fields> Fields for FieldThen<'_, P
     fn append<W: Writer>(&self, non_defaults: u8, mask: u8, writer: &mut W) -> Result<()> {
         let (default, non_defaults) = split_non_defaults(non_defaults, &self.first, &self.later);
         let (left_out, mask) = take_mask_bit(default, mask);
-        self.first.encode(left_out, writer)?;
+        if left_out {
+            return self.later.append(non_defaults, mask, writer);
+        }
+        self.first.encode(writer)?;
         self.later.append(non_defaults, mask, writer)
     }
 

@@ -1,12 +1,9 @@
 //! The algorithms in parameters, whatever holds their identifiers and parameters: how they are written.
-ghost use Rattle.std.specs.Prelude.{◌≡◌, ◌+◌};
-ghost use Rattle.der_core.specs.Words.{limit};
-ghost use Rattle.spki_core.specs.Words.{Algorithm, TagAndContents, algorithm_in, mask_in, same_plain, same_mask};
-ghost use Rattle.spki_core.specs.Words.{algorithm_map};
-ghost use Rattle.standard.specs.Statement.{IsAlgorithm, algorithm};
-ghost use Rattle.pkcs1_params.specs.Words.{sha1, mgf1_sha1, empty_label};
-ghost use Rattle.pkcs1_params.specs.Words.{HasPlain, written_plain, HasMask, written_mask};
-ghost use Rattle.pkcs1_params.specs.Words.{AreHeld, plain_held, mask_held, WritesAs, algorithm_writes};
+ghost use Rattle.std.specs.Prelude.{◌≡◌};
+ghost use Rattle.spki_core.specs.Words.{Algorithm, TagAndContents, algorithm_held, algorithm_in, algorithm_map, mask_in};
+ghost use Rattle.spki_core.specs.Words.{same_mask, same_plain};
+ghost use Rattle.spki_core.specs.Laws.WritesAs.{WritesAs, algorithm_writes};
+ghost use Rattle.standard.specs.Statement.{IsAlgorithm, IsAny, algorithm, any, empty_label, mgf1_sha1, sha1};
 
 use crate::hash_fields::{is_mgf1, is_sha1};
 use crate::p_source::is_p_specified;
@@ -28,10 +25,10 @@ pub trait PlainHolder: Encode {
 
     /// A value is written exactly if what it holds is, and in the same octets.
     ghost writes: { WritesAs Self.value (λ v. Self.valid (Self.written v)) (λ v. Self.printed (Self.written v)) plain
-        HasPlain written_plain };
+        (IsAlgorithm IsAny) (algorithm any) };
 
-    /// What is held has an encoding, little longer than the limit.
-    ghost held: { AreHeld plain HasPlain written_plain (limit + 423) };
+    /// What is held may be encoded.
+    ghost held: { (x : Self) → IsAlgorithm IsAny (plain x) };
 }
 
 impl<O: IdentifierValue, P: AnyValue> PlainHolder for AlgorithmIdentifierOf<O, P> {
@@ -59,7 +56,7 @@ impl<O: IdentifierValue, P: AnyValue> PlainHolder for AlgorithmIdentifierOf<O, P
 
     ghost writes = { algorithm_writes O.octets P.written P.valid P.printed P.writes };
 
-    ghost held = { plain_held O.octets O.identifies P.any P.held };
+    ghost held = { algorithm_held O.octets O.identifies P.any IsAny P.held };
 }
 
 /// A mask generation function.
@@ -73,10 +70,10 @@ pub trait MaskHolder: Encode {
 
     /// A value is written exactly if what it holds is, and in the same octets.
     ghost writes: { WritesAs Self.value (λ v. Self.valid (Self.written v)) (λ v. Self.printed (Self.written v)) mask
-        HasMask written_mask };
+        (IsAlgorithm (IsAlgorithm IsAny)) (algorithm (algorithm any)) };
 
-    /// What is held has an encoding, little longer than the limit.
-    ghost held: { AreHeld mask HasMask written_mask (limit + 718) };
+    /// What is held may be encoded.
+    ghost held: { (x : Self) → IsAlgorithm (IsAlgorithm IsAny) (mask x) };
 }
 
 impl<O: IdentifierValue, P: AnyValue> MaskHolder
@@ -96,5 +93,6 @@ impl<O: IdentifierValue, P: AnyValue> MaskHolder
     ghost writes = { algorithm_writes O.octets (algorithm_map P.written) (IsAlgorithm P.valid) (algorithm P.printed)
         (algorithm_writes O.octets P.written P.valid P.printed P.writes) };
 
-    ghost held = { mask_held O.octets O.identifies P.any P.held };
+    ghost held = { algorithm_held O.octets O.identifies (algorithm_in O.octets P.any) (IsAlgorithm IsAny)
+        (algorithm_held O.octets O.identifies P.any IsAny P.held) };
 }

@@ -1,73 +1,98 @@
-//! Laws of the grammars of parameters: functions that do nothing, each with a law as its contract.
-ghost use Rattle.der_core.specs.Words.{Excludes, SameByShortest, IsDelimited};
-ghost use Rattle.spki_core.specs.Words.{PlainAlgorithm};
-ghost use Rattle.pkcs1_params.specs.Words.{RsaPssAlgorithm, RsaOaepAlgorithm, id_rsassa_pss, id_rsaes_oaep};
-ghost use Rattle.pkcs1_params.specs.Words.{AreCountedIn, pss_fields, oaep_fields, FaultsTell, strict_pss_params};
-ghost use Rattle.pkcs1_params.specs.Words.{NamesFirstDefaultIn};
-ghost use Rattle.pkcs1_params.specs.Words.{strict_oaep_params, strict_pss_algorithm, strict_oaep_algorithm};
-ghost use Rattle.pkcs1_params.specs.Parameters as parameters;
-ghost use Rattle.pkcs1_params.specs.Spellings.{
-  DefaultsAreCounted,
-  EachHasOneMask,
-  EachMaskHasOne,
-  ShortestHasNoDefaults,
-  AcceptedFits,
-  TwoToTheDefaults,
-  NamesFirstDefault,
-};
+//! Laws of the encodings of parameters: functions that do nothing, each with a law as its contract.
+ghost use Rattle.std.specs.Prelude.{ℕ, List};
+ghost use Rattle.der_core.specs.Words.{AllocatesIn, AreBytes, Excludes, value_in};
+ghost use Rattle.pkcs1_params.specs.Words.{AcceptedFits, DefaultsAreCounted, EachHasOneMask, EachMaskHasOne};
+ghost use Rattle.pkcs1_params.specs.Words.{AreDelimited, FaultsTell, NamesFirstDefault, NamesFirstDefaultIn};
+ghost use Rattle.pkcs1_params.specs.Words.{IsBareOaep, IsBarePss, OaepParameters, PlainEncoding, PssParameters};
+ghost use Rattle.pkcs1_params.specs.Words.{rsa_oaep_algorithm, rsa_oaep_params, rsa_pss_algorithm, rsa_pss_params};
+ghost use Rattle.pkcs1_params.specs.Words.{strict_oaep_algorithm, strict_oaep_params, strict_pss_algorithm};
+ghost use Rattle.pkcs1_params.specs.Words.{ShortestHasNoDefaults, strict_pss_params};
+ghost use Rattle.standard.specs.Statement.{Decodes, IsOaep, IsPss, IsShortest, OaepAlgorithmEncoding, OaepEncoding};
+ghost use Rattle.standard.specs.Statement.{PssAlgorithmEncoding, PssEncoding, SameByShortest, TwoToTheDefaults};
+ghost use Rattle.standard.specs.Statement.{TwoToTheDefaultsIn, id_rsaes_oaep, id_rsassa_pss, oaep_fields, pss_fields};
 
-/// The encodings of PSS parameters within the limit are those under the masks, which say which defaults are written.
-/// The shortest is the one under mask 0. Two encodings mean the same parameters exactly if the shortest encodings of
-/// what they mean are equal. Each fault of bytes that aren't the shortest encoding of parameters is about the bytes. Of
-/// another encoding of parameters it is `Noncanonical` of the tag of the first default that is written.
+use crate::oaep::RsaOaepParamsOwned;
+use crate::pss::RsaPssParamsOwned;
+use der_core::Decode;
+use std::alloc::Global;
+
+/// The encodings of PSS parameters are those under the masks, which say which defaults are written. The shortest is the
+/// one under mask 0. If the longest is within the limit, there are exactly two to the number of defaults. Two encodings
+/// mean the same parameters exactly if the shortest encodings of what they mean are equal.
 pub fn lemma_pss_spellings()
     ensures defaults { DefaultsAreCounted pss_fields }
-    ensures mask { EachHasOneMask pss_fields }
-    ensures encoding { EachMaskHasOne pss_fields }
-    ensures shortest { ShortestHasNoDefaults pss_fields }
-    ensures fits { AcceptedFits pss_fields }
-    ensures count { TwoToTheDefaults pss_fields }
-    ensures same { SameByShortest parameters.RsaPssParams }
-    ensures faults { FaultsTell strict_pss_params }
-    ensures first { NamesFirstDefault pss_fields strict_pss_params }
+    ensures mask { EachHasOneMask IsPss pss_fields }
+    ensures encoding { EachMaskHasOne IsPss pss_fields }
+    ensures shortest { ShortestHasNoDefaults IsPss pss_fields }
+    ensures fits { AcceptedFits IsPss pss_fields }
+    ensures count { TwoToTheDefaults IsPss pss_fields }
+    ensures same { SameByShortest PssEncoding }
 {}
 
-/// The encodings of OAEP parameters within the limit are those under the masks, which say which defaults are written.
-/// The shortest is the one under mask 0. Two encodings mean the same parameters exactly if the shortest encodings of
-/// what they mean are equal. Each fault of bytes that aren't the shortest encoding of parameters is about the bytes. Of
-/// another encoding of parameters it is `Noncanonical` of the tag of the first default that is written.
+/// The encodings of OAEP parameters are those under the masks, which say which defaults are written. The shortest is
+/// the one under mask 0. If the longest is within the limit, there are exactly two to the number of defaults. Two
+/// encodings mean the same parameters exactly if the shortest encodings of what they mean are equal.
 pub fn lemma_oaep_spellings()
     ensures defaults { DefaultsAreCounted oaep_fields }
-    ensures mask { EachHasOneMask oaep_fields }
-    ensures encoding { EachMaskHasOne oaep_fields }
-    ensures shortest { ShortestHasNoDefaults oaep_fields }
-    ensures fits { AcceptedFits oaep_fields }
-    ensures count { TwoToTheDefaults oaep_fields }
-    ensures same { SameByShortest parameters.RsaOaepParams }
-    ensures faults { FaultsTell strict_oaep_params }
-    ensures first { NamesFirstDefault oaep_fields strict_oaep_params }
+    ensures mask { EachHasOneMask IsOaep oaep_fields }
+    ensures encoding { EachMaskHasOne IsOaep oaep_fields }
+    ensures shortest { ShortestHasNoDefaults IsOaep oaep_fields }
+    ensures fits { AcceptedFits IsOaep oaep_fields }
+    ensures count { TwoToTheDefaults IsOaep oaep_fields }
+    ensures same { SameByShortest OaepEncoding }
 {}
 
-/// Each encoding of an identifier with PSS or OAEP parameters means one value, and is no proper beginning of another;
-/// two mean the same exactly if the shortest encodings of what they mean are equal; of k default fields there are two
-/// to the k encodings. Each fault of bytes that aren't the shortest encoding of such an identifier is about the bytes.
-/// Of another encoding of one it is `Noncanonical` of the tag of the first default that is written.
+/// The functions that tell the parameters of whole slices give them exactly of the bytes that encode them, or are the
+/// shortest encoding. Each of their faults is about the bytes. Strict reading of another encoding gives `Noncanonical`
+/// of the tag of the first default that is written.
+pub fn lemma_params_decode()
+    ensures pss { (bytes : List ℕ) → AreBytes bytes → Decodes PssEncoding bytes (value_in (rsa_pss_params bytes)) }
+    ensures oaep { (bytes : List ℕ) → AreBytes bytes → Decodes OaepEncoding bytes (value_in (rsa_oaep_params bytes)) }
+    ensures strict_pss { (bytes : List ℕ) → AreBytes bytes
+        → Decodes (IsShortest PssEncoding) bytes (value_in (strict_pss_params bytes)) }
+    ensures strict_oaep { (bytes : List ℕ) → AreBytes bytes
+        → Decodes (IsShortest OaepEncoding) bytes (value_in (strict_oaep_params bytes)) }
+    ensures faults_pss { FaultsTell strict_pss_params }
+    ensures faults_oaep { FaultsTell strict_oaep_params }
+    ensures first_pss { NamesFirstDefault IsPss pss_fields strict_pss_params }
+    ensures first_oaep { NamesFirstDefault IsOaep oaep_fields strict_oaep_params }
+{}
+
+/// Reading owned parameters never asks for memory if no algorithm in them has parameters with octets.
+pub fn lemma_bare_params_take_no_memory()
+    ensures pss { (params : PssParameters) (bytes : List ℕ) → PssEncoding params bytes → IsBarePss params
+        → AllocatesIn ⟦<RsaPssParamsOwned as Decode<&'static [u8], Global>>⟧.may_allocate bytes → ⊥ }
+    ensures oaep { (params : OaepParameters) (bytes : List ℕ) → OaepEncoding params bytes → IsBareOaep params
+        → AllocatesIn ⟦<RsaOaepParamsOwned as Decode<&'static [u8], Global>>⟧.may_allocate bytes → ⊥ }
+{}
+
+/// The encodings of identifiers with parameters: none is a proper beginning of another, of k default fields there are
+/// two to the k, and two mean the same exactly if the shortest encodings of what they mean are equal. The functions that
+/// tell the parameters in them do so as those of `lemma_params_decode`.
 pub fn lemma_algorithms()
-    ensures pss { IsDelimited RsaPssAlgorithm }
-    ensures oaep { IsDelimited RsaOaepAlgorithm }
-    ensures same_pss { SameByShortest RsaPssAlgorithm }
-    ensures same_oaep { SameByShortest RsaOaepAlgorithm }
-    ensures count_pss { AreCountedIn id_rsassa_pss pss_fields }
-    ensures count_oaep { AreCountedIn id_rsaes_oaep oaep_fields }
+    ensures pss { (bytes : List ℕ) → AreBytes bytes
+        → Decodes PssAlgorithmEncoding bytes (value_in (rsa_pss_algorithm bytes)) }
+    ensures oaep { (bytes : List ℕ) → AreBytes bytes
+        → Decodes OaepAlgorithmEncoding bytes (value_in (rsa_oaep_algorithm bytes)) }
+    ensures strict_pss { (bytes : List ℕ) → AreBytes bytes
+        → Decodes (IsShortest PssAlgorithmEncoding) bytes (value_in (strict_pss_algorithm bytes)) }
+    ensures strict_oaep { (bytes : List ℕ) → AreBytes bytes
+        → Decodes (IsShortest OaepAlgorithmEncoding) bytes (value_in (strict_oaep_algorithm bytes)) }
+    ensures delimited_pss { AreDelimited PssAlgorithmEncoding }
+    ensures delimited_oaep { AreDelimited OaepAlgorithmEncoding }
+    ensures same_pss { SameByShortest PssAlgorithmEncoding }
+    ensures same_oaep { SameByShortest OaepAlgorithmEncoding }
+    ensures count_pss { TwoToTheDefaultsIn id_rsassa_pss IsPss pss_fields }
+    ensures count_oaep { TwoToTheDefaultsIn id_rsaes_oaep IsOaep oaep_fields }
     ensures faults_pss { FaultsTell strict_pss_algorithm }
     ensures faults_oaep { FaultsTell strict_oaep_algorithm }
-    ensures first_pss { NamesFirstDefaultIn id_rsassa_pss pss_fields strict_pss_algorithm }
-    ensures first_oaep { NamesFirstDefaultIn id_rsaes_oaep oaep_fields strict_oaep_algorithm }
+    ensures first_pss { NamesFirstDefaultIn id_rsassa_pss IsPss pss_fields strict_pss_algorithm }
+    ensures first_oaep { NamesFirstDefaultIn id_rsaes_oaep IsOaep oaep_fields strict_oaep_algorithm }
 {}
 
 /// No bytes encode identifiers of both algorithms, or an identifier and parameters alone.
 pub fn lemma_algorithms_exclude_each_other()
-    ensures algorithms { Excludes RsaPssAlgorithm RsaOaepAlgorithm }
-    ensures pss { Excludes parameters.RsaPssParams PlainAlgorithm }
-    ensures oaep { Excludes parameters.RsaOaepParams PlainAlgorithm }
+    ensures algorithms { Excludes PssAlgorithmEncoding OaepAlgorithmEncoding }
+    ensures pss { Excludes PssEncoding PlainEncoding }
+    ensures oaep { Excludes OaepEncoding PlainEncoding }
 {}

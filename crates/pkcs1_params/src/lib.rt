@@ -38,8 +38,8 @@ pub use faults::{fault_of_oaep_params, fault_of_pss_params};
 pub use hash_fields::with_null;
 pub use hash_functions::{Mgf1, Sha1, Sha224, Sha256, Sha384, Sha512, Sha512_224, Sha512_256};
 pub use laws::{
-    lemma_algorithms, lemma_algorithms_exclude_each_other, lemma_oaep_spellings,
-    lemma_pss_spellings,
+    lemma_algorithms, lemma_algorithms_exclude_each_other, lemma_bare_params_take_no_memory,
+    lemma_oaep_spellings, lemma_params_decode, lemma_pss_spellings,
 };
 pub use oaep::{
     OaepParamsOf, RsaOaepParams, RsaOaepParamsOwned, RsaOaepParamsRef, RsaOaepParamsView,

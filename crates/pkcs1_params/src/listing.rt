@@ -1,9 +1,12 @@
 //! The list of all spellings of parameters, by their masks.
-ghost use Rattle.std.specs.Prelude.{◌≡◌, IfErr, IfOk, OnOk};
+ghost use Rattle.std.specs.Prelude.{◌≡◌, ◌≤◌, ◌^◌, ℕ, List, [], length, slice_index_or, IfErr, IfOk, OnOk, Some};
+ghost use Rattle.der_core.specs.Words.{limit};
 ghost use Rattle.der_core.specs.declared.error.ErrorKind.{ErrorKind};
+ghost use Rattle.spki_core.specs.Words.{are_defaults, record_fields, record_under, spelled};
+ghost use Rattle.spki_core.specs.FieldSpellings.{defaults, upto};
 ghost use Rattle.pkcs1_params.specs.DefaultBits.{bits_of};
-ghost use Rattle.pkcs1_params.specs.Parts.{defaults_in, fields_with};
-ghost use Rattle.pkcs1_params.specs.Spellings.{AllFit, AreAllSpellings, AreMasks, AreUnder, IsListingError, encodings_in};
+ghost use Rattle.pkcs1_params.specs.Spellings.{Encoded, IsListingError, encodings_in};
+ghost use Rattle.standard.specs.Statement.{IsShortest, Lists, longest, sequence};
 
 use crate::error::Result;
 use crate::spelling::{EncodeParams, Spelling, count_defaults, non_defaults_in};
@@ -16,10 +19,12 @@ fn encodings_under<T: EncodeParams>(
     count: u8,
     alloc: Global,
 ) -> der_core::Result<Vec<Vec<u8>>>
-    requires non_defaults { non_defaults ≡ bits_of (defaults_in (T.values (T.params params))) }
-    requires masks { AreMasks (fields_with T.values (T.params params)) count }
-    ensures ok { IfOk result (λ encodings. AreUnder (fields_with T.values (T.params params)) count
-        (encodings_in encodings)) }
+    requires non_defaults { non_defaults ≡ bits_of (are_defaults (record_fields T.form (T.params params))) }
+    requires masks { count ≡ 2 ^ defaults T.form.kinds (T.form.split (T.params params)) }
+    requires fit { length (longest (T.fields_of (T.params params))) ≤ limit }
+    ensures ok { let v = T.params params in
+        let made : ℕ → List ℕ = λ mask. sequence (spelled T.form.kinds (record_under T.form mask v)) in
+        IfOk result (λ encodings. encodings_in encodings ≡ upto count made) }
     ensures err { IfErr result (λ e. e.kind ≡ ErrorKind.OutOfMemory) }
 {
     let mut encodings = Vec::new(alloc);
@@ -36,11 +41,14 @@ fn encodings_under<T: EncodeParams>(
 
 /// All spellings, by mask: `Overflow`, before anything is allocated, if the one with every field is too long.
 pub(crate) fn all_spellings<T: EncodeParams>(params: T, alloc: Global) -> Result<Vec<Vec<u8>>>
-    ensures all { IfOk result (λ encodings. AreAllSpellings (fields_with T.values) (T.params params)
-        (encodings_in encodings)) }
-    ensures fit { OnOk result (AllFit (fields_with T.values (T.params params))) }
-    ensures err { IfErr result (IsListingError (fields_with T.values (T.params params))) }
+    ensures listed { IfOk result (λ encodings. Lists T.Is T.fields_of (T.params params)
+        (Some (encodings_in encodings))) }
+    ensures shortest { IfOk result (λ encodings. IsShortest (Encoded T.Is T.fields_of) (T.params params)
+        (slice_index_or (encodings_in encodings) 0 [])) }
+    ensures fit { OnOk result (length (longest (T.fields_of (T.params params))) ≤ limit) }
+    ensures err { IfErr result (IsListingError (T.fields_of (T.params params))) }
 {
+    params.lemma_is_valid();
     let count = 1u8 << count_defaults(params);
     let non_defaults = non_defaults_in(params);
     let longest = Spelling {

@@ -1,8 +1,9 @@
 //! Parameters of RSAES-OAEP (RFC 8017 A.2.1).
 ghost use Rattle.std.specs.Prelude.{◌≡◌, [], refl};
-ghost use Rattle.pkcs1_params.specs.Words.{OaepParameters, empty_label, mgf1_sha1, oaep_alike, oaep_in, oaep_kinds};
-ghost use Rattle.pkcs1_params.specs.Words.{oaep_law, oaep_meant, oaep_read, oaep_shortest, oaep_under, sha1};
-ghost use Rattle.spki_core.specs.Words.{AreSpelled, Spelling, spelled, spelling_read};
+ghost use Rattle.pkcs1_params.specs.Words.{OaepParameters, oaep_in, oaep_kinds, oaep_read, oaep_record};
+ghost use Rattle.spki_core.specs.Words.{AreSpelled, Spelling, record_alike, record_law, record_means, record_shortest};
+ghost use Rattle.spki_core.specs.Words.{record_under, spelled, spelling_read};
+ghost use Rattle.standard.specs.Statement.{empty_label, mgf1_sha1, sha1};
 
 use crate::contents::{append_contents, contents_len, prepend_contents};
 use crate::error::Result;
@@ -61,9 +62,9 @@ impl<O: IdentifierValue, P: AnyValue> Contents for OaepParamsOf<O, P> {
 
     ghost Spelling = { Spelling oaep_kinds };
 
-    ghost means = { oaep_meant };
+    ghost means = { record_means oaep_record };
 
-    ghost written = { oaep_under 0 };
+    ghost written = { record_under oaep_record 0 };
 
     ghost valid = { AreSpelled oaep_kinds };
 
@@ -73,11 +74,11 @@ impl<O: IdentifierValue, P: AnyValue> Contents for OaepParamsOf<O, P> {
 
     ghost read = { oaep_read };
 
-    ghost law = { oaep_law };
+    ghost law = { record_law oaep_record };
 
-    ghost shortest = { oaep_shortest };
+    ghost shortest = { record_shortest oaep_record };
 
-    ghost reads_alike = { oaep_alike };
+    ghost reads_alike = { record_alike oaep_record };
 }
 
 impl<O, P> TaggedBy for OaepParamsOf<O, P> {

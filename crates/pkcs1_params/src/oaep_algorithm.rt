@@ -1,11 +1,10 @@
 //! The algorithm identifier id-RSAES-OAEP with its parameters (RFC 8017 A.2.1).
-ghost use Rattle.std.specs.Prelude.{◌≡◌, ◌≤◌, length, take, drop, refl, IfOk, IfErr, OnErr};
-ghost use Rattle.der_core.specs.Words.{HasEncoding};
-ghost use Rattle.spki_core.specs.Words.{viewed_with, any_of, own_octets_of};
-ghost use Rattle.pkcs1_params.specs.Words.{id_rsaes_oaep, RsaOaepAlgorithm, oaep_means_one, oaep_read, oaep_reads};
-ghost use Rattle.pkcs1_params.specs.Words.{rsa_oaep_algorithm};
-ghost use Rattle.pkcs1_params.specs.Words.{IsTheShortest, IsWritingError, TellsFault, OaepParameters};
-ghost use Rattle.pkcs1_params.specs.Words.{with_parameters, oaep_values, oaep_in};
+ghost use Rattle.std.specs.Prelude.{◌≡◌, ◌↔◌, ⊤, None, length, refl, IfErr};
+ghost use Rattle.der_core.specs.Words.{ok_of};
+ghost use Rattle.spki_core.specs.Words.{any_of, own_octets_of, viewed_with};
+ghost use Rattle.pkcs1_params.specs.Words.{IsEncoded, OaepParameters, Refuses, fault_in, oaep_in, oaep_record};
+ghost use Rattle.pkcs1_params.specs.Words.{rsa_oaep_algorithm, with_parameters};
+ghost use Rattle.standard.specs.Statement.{Encodes, IsOaep, OaepAlgorithmEncoding, id_rsaes_oaep, oaep_fields};
 
 use crate::algorithm::{AlgorithmParams, FromAlgorithm, decode_borrowed, encode_identifier};
 use crate::error::{Error, Result};
@@ -49,13 +48,11 @@ impl<'a, O: ReadParams<'a>> AlgorithmParams<'a> for OaepParamsOf<O, AnyRef<'a>> 
 
     ghost params = { oaep_in O.octets any_of };
 
-    ghost values = { oaep_values };
+    ghost Is = { IsOaep };
 
-    ghost fields_mean_one = { oaep_means_one };
+    ghost fields_of = { oaep_fields };
 
-    ghost read = { oaep_read };
-
-    ghost reads = { oaep_reads };
+    ghost form = { oaep_record };
 
     fn from_any(any: AnyRef<'a>) -> der_core::Result<OaepParamsOf<O, AnyRef<'a>>> {
         if any.tag() == Tag::SEQUENCE {
@@ -80,9 +77,9 @@ impl<O: IdentifierValue, P: AnyValue> OaepParamsOf<O, P> {
     pub fn to_algorithm(&self) -> AlgorithmView<'_, Borrowed<'_, OaepParamsOf<O, P>>>
         ensures means { viewed_with (λ p. oaep_in O.octets P.any p.0.now) result
             ≡ with_parameters id_rsaes_oaep (oaep_in O.octets P.any self.now) }
-        ensures some { HasEncoding RsaOaepAlgorithm (oaep_in O.octets P.any self.now) }
+        ensures encodable { IsOaep (oaep_in O.octets P.any self.now) }
     {
-        self.lemma_has_algorithm::<RsaesOaep>();
+        self.lemma_is_valid();
         AlgorithmView {
             oid: IdentifierView::named::<RsaesOaep>(),
             parameters: Some(Borrowed(self)),
@@ -93,12 +90,10 @@ impl<O: IdentifierValue, P: AnyValue> OaepParamsOf<O, P> {
     /// slice and returns its length. `Overflow` if the encoding is longer than `Length::MAX`, `NoRoom` if the slice is
     /// shorter than it.
     pub fn encode_algorithm(&self, out: &mut [u8]) -> Result<usize>
-        ensures shortest { let params = oaep_in O.octets P.any self.now in
-            IfOk result (λ n. IsTheShortest RsaOaepAlgorithm (take n out.new) params) }
-        ensures rest { IfOk result (λ n. (n ≤ length out.new) × (drop n out.new ≡ drop n out.old)) }
-        ensures unchanged { OnErr result (out.new ≡ out.old) }
+        ensures written { let params = oaep_in O.octets P.any self.now in
+            Encodes OaepAlgorithmEncoding params out.old out.new (ok_of (λ n. n) result) }
         ensures err { let params = oaep_in O.octets P.any self.now in
-            IfErr result (IsWritingError RsaOaepAlgorithm params (length out.old)) }
+            IfErr result (Refuses (λ _. ⊤) OaepAlgorithmEncoding params (length out.old)) }
     {
         encode_identifier::<RsaesOaep, _>(self, out)
     }
@@ -107,7 +102,8 @@ impl<O: IdentifierValue, P: AnyValue> OaepParamsOf<O, P> {
 /// The first fault of bytes that aren't the algorithm identifier id-RSAES-OAEP with parameters, of which they have
 /// exactly one; `None` if they are.
 pub fn fault_of_oaep_algorithm(bytes: &[u8]) -> Option<ErrorKind>
-    ensures { TellsFault RsaOaepAlgorithm rsa_oaep_algorithm bytes.now result }
+    ensures fault { result ≡ fault_in (rsa_oaep_algorithm bytes.now) }
+    ensures encodes { (result ≡ None) ↔ IsEncoded OaepAlgorithmEncoding bytes.now }
 {
     match RsaOaepParamsView::from_algorithm_der(bytes) {
         Ok(_) => None,

@@ -1,12 +1,8 @@
 //! Reading of RSAES-OAEP parameters.
 ghost use Rattle.std.specs.Prelude.{◌≡◌};
-ghost use Rattle.pkcs1_params.specs.Words.{OaepAllocates, rsa_oaep_params, strict_oaep_params};
-ghost use Rattle.pkcs1_params.specs.Words.{sha1, mgf1_sha1, empty_label};
-ghost use Rattle.pkcs1_params.specs.Words.{oaep_of};
-ghost use Rattle.pkcs1_params.specs.Words.{oaep_viewed};
-ghost use Rattle.pkcs1_params.specs.Words.{oaep_in};
+ghost use Rattle.pkcs1_params.specs.Words.{oaep_in, oaep_of, oaep_viewed, rsa_oaep_params, strict_oaep_params};
 ghost use Rattle.spki_core.specs.Words.{any_of};
-ghost use Rattle.pkcs1_params.specs.Parameters as grammar;
+ghost use Rattle.standard.specs.Statement.{empty_label, mgf1_sha1, sha1};
 
 use crate::algorithm::AlgorithmParams;
 use crate::defaults::is_empty_sequence;
@@ -31,15 +27,14 @@ impl<'a> RsaOaepParamsView<'a> {
 }
 
 impl<'a, O: ReadParams<'a>> OaepParamsOf<O, AnyRef<'a>> {
-    ghost use Rattle.std.specs.Prelude.{IfOk, OnErr};
-    ghost use Rattle.pkcs1_params.specs.Words.{ErrsAs, IsNoShortest, IsTheShortest};
+    ghost use Rattle.der_core.specs.Words.{ok_of};
+    ghost use Rattle.pkcs1_params.specs.Words.{ErrsAs};
+    ghost use Rattle.standard.specs.Statement.{Decodes, IsShortest, OaepEncoding};
 
     /// Like `try_from`, but rejects an encoding in which a default is written: `Noncanonical` with the tag of the first
     /// such field. So what is read is the shortest encoding of its value.
     pub fn from_der_strict(bytes: &'a [u8]) -> Result<OaepParamsOf<O, AnyRef<'a>>>
-        ensures ok { let Grammar = grammar.RsaOaepParams in
-            IfOk result (λ params. IsTheShortest Grammar bytes.now (oaep_in O.octets any_of params)) }
-        ensures err { OnErr result (IsNoShortest grammar.RsaOaepParams bytes.now) }
+        ensures read { Decodes (IsShortest OaepEncoding) bytes.now (ok_of (oaep_in O.octets any_of) result) }
         ensures exact { ErrsAs (oaep_in O.octets any_of) (strict_oaep_params bytes.now) result }
     {
         let view = RsaOaepParamsView::try_from(bytes)?;
@@ -60,16 +55,15 @@ impl<'a, O: IdentifierValue> Default for OaepParamsOf<O, AnyRef<'a>> {
 }
 
 impl<'a, O: ReadParams<'a>> TryFrom<&'a [u8]> for OaepParamsOf<O, AnyRef<'a>> {
-    ghost use Rattle.std.specs.Prelude.{IfOk, OnErr};
-    ghost use Rattle.pkcs1_params.specs.Words.{ErrsAs, IsNoSentence, IsTheMeaning};
+    ghost use Rattle.der_core.specs.Words.{ok_of};
+    ghost use Rattle.pkcs1_params.specs.Words.{ErrsAs};
+    ghost use Rattle.standard.specs.Statement.{Decodes, OaepEncoding};
 
     type Error = Error;
 
     /// Reads a whole slice. Nothing is allocated.
     fn try_from(bytes: &'a [u8]) -> Result<OaepParamsOf<O, AnyRef<'a>>>
-        ensures ok { let Grammar = grammar.RsaOaepParams in
-            IfOk result (λ params. IsTheMeaning Grammar bytes.now (oaep_in O.octets any_of params)) }
-        ensures err { OnErr result (IsNoSentence grammar.RsaOaepParams bytes.now) }
+        ensures read { Decodes OaepEncoding bytes.now (ok_of (oaep_in O.octets any_of) result) }
         ensures exact { ErrsAs (oaep_in O.octets any_of) (rsa_oaep_params bytes.now) result }
     {
         if is_empty_sequence(bytes) {
@@ -84,7 +78,7 @@ impl<'a, O: ReadParams<'a>> TryFrom<&'a [u8]> for OaepParamsOf<O, AnyRef<'a>> {
 }
 
 impl<'a, M: Memory, O: ReadParams<'a>> DecodeValue<&'a [u8], M> for OaepParamsOf<O, AnyRef<'a>> {
-    ghost may_allocate = { OaepAllocates (λ _. ⊥) };
+    ghost may_allocate = { λ _. ⊥ };
 
     #[inline(always)]
     fn decode_value<R: Reader<&'a [u8]>>(

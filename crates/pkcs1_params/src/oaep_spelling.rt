@@ -1,12 +1,9 @@
 //! The fields and the spellings of RSAES-OAEP parameters.
-ghost use Rattle.std.specs.Prelude.{◌≤◌, length, refl, OnOk, IfOk, IfErr};
-ghost use Rattle.spki_core.specs.Words.{HaveDefaults};
-ghost use Rattle.pkcs1_params.specs.Words.{have_spelled, in_oaep_fields, of_oaep_fields, oaep_alike, oaep_kinds, oaep_lawful};
-ghost use Rattle.pkcs1_params.specs.Words.{written_spelled};
-ghost use Rattle.pkcs1_params.specs.Words.{oaep_means_one, oaep_in, oaep_numbered, oaep_read, OaepParameters};
-ghost use Rattle.pkcs1_params.specs.Words.{oaep_reads};
-ghost use Rattle.pkcs1_params.specs.Words.{oaep_fields, oaep_values, IsMask, StandsUnder, IsSpellingError, AllFit};
-ghost use Rattle.pkcs1_params.specs.Words.{AreAllSpellings, IsListingError, encodings_in};
+ghost use Rattle.std.specs.Prelude.{◌≡◌, ◌≤◌, [], ⊤, length, slice_index_or, IfErr, IfOk, OnOk, Some};
+ghost use Rattle.der_core.specs.Words.{limit};
+ghost use Rattle.pkcs1_params.specs.Words.{IsListingError, IsMask, OaepParameters, Refuses, encodings_in, oaep_in, oaep_record};
+ghost use Rattle.standard.specs.Statement.{Defaults, FieldsUnder, IsOaep, IsShortest, Lists, OaepEncoding, SequenceOf};
+ghost use Rattle.standard.specs.Statement.{longest, oaep_fields};
 
 use crate::error::Result;
 use crate::fields::{FieldRef, FieldThen, NoField};
@@ -31,31 +28,11 @@ impl<'b, O: IdentifierValue, P: AnyValue> EncodeParams for &'b OaepParamsOf<O, P
 
     ghost params = { λ p. oaep_in O.octets P.any p.now };
 
-    ghost values = { oaep_values };
+    ghost Is = { IsOaep };
 
-    ghost numbered = { oaep_numbered };
+    ghost fields_of = { oaep_fields };
 
-    ghost fields_mean_one = { oaep_means_one };
-
-    ghost read = { oaep_read };
-
-    ghost reads = { oaep_reads };
-
-    ghost kinds = { oaep_kinds };
-
-    ghost lawful = { oaep_lawful };
-
-    ghost join = { of_oaep_fields };
-
-    ghost split = { in_oaep_fields };
-
-    ghost parted = { λ v. refl };
-
-    ghost whole = { λ p. refl };
-
-    ghost reads_alike = { oaep_alike };
-
-    ghost spelled = { λ p mask. (have_spelled (oaep_values p) mask, written_spelled (oaep_values p) mask) };
+    ghost form = { oaep_record };
 
     fn fields(self) -> OaepFields<'b, O, P> {
         FieldThen {
@@ -69,6 +46,8 @@ impl<'b, O: IdentifierValue, P: AnyValue> EncodeParams for &'b OaepParamsOf<O, P
             },
         }
     }
+
+    fn lemma_is_valid(self) {}
 
     fn written_default(self, bytes: &[u8]) -> Option<TagNumber> {
         let defaults = [
@@ -95,7 +74,7 @@ impl<O: IdentifierValue, P: AnyValue> OaepParamsOf<O, P> {
 
     /// How many fields equal their defaults.
     pub fn default_fields(&self) -> u8
-        ensures { HaveDefaults (oaep_fields (oaep_in O.octets P.any self.now)) result }
+        ensures { Defaults (oaep_fields (oaep_in O.octets P.any self.now)) result }
     {
         count_defaults(self)
     }
@@ -104,11 +83,12 @@ impl<O: IdentifierValue, P: AnyValue> OaepParamsOf<O, P> {
     /// what the rest of the slice holds calls `encode_spelling_into`.
     pub fn encode_spelling<'b>(&self, mask: u8, out: &'b mut [u8]) -> Result<&'b [u8]>
         requires { IsMask (oaep_fields (oaep_in O.octets P.any self.now)) mask }
-        ensures stands { IfOk result (λ encoding. StandsUnder oaep_fields (oaep_in O.octets P.any self.now) mask
-            encoding.now) }
+        ensures written { let Encoding = SequenceOf IsOaep oaep_fields (FieldsUnder mask) in
+            IfOk result (λ encoding. IsShortest Encoding (oaep_in O.octets P.any self.now) encoding.now) }
         ensures room { IfOk result (λ encoding. length encoding.now ≤ length out.old) }
-        ensures err { let fields = oaep_fields (oaep_in O.octets P.any self.now) in
-            IfErr result (IsSpellingError fields mask (length out.old)) }
+        ensures err { let Encoding = SequenceOf IsOaep oaep_fields (FieldsUnder mask) in
+            let params = oaep_in O.octets P.any self.now in
+            IfErr result (Refuses (λ _. ⊤) Encoding params (length out.old)) }
     {
         self.encode_spelling_to_slice(mask, out)
     }
@@ -116,9 +96,12 @@ impl<O: IdentifierValue, P: AnyValue> OaepParamsOf<O, P> {
     /// All spellings, each at the index that is its mask, so the shortest is the first: two to the number of default
     /// fields. `Overflow`, before anything is allocated, if the one with every field is longer than `Length::MAX`.
     pub fn spellings(&self, alloc: Global) -> Result<Vec<Vec<u8>>>
-        ensures all { IfOk result (λ encodings. AreAllSpellings oaep_fields (oaep_in O.octets P.any self.now)
-            (encodings_in encodings)) }
-        ensures fit { OnOk result (AllFit (oaep_fields (oaep_in O.octets P.any self.now))) }
+        ensures listed { let params = oaep_in O.octets P.any self.now in
+            IfOk result (λ encodings. Lists IsOaep oaep_fields params (Some (encodings_in encodings))) }
+        ensures shortest { let params = oaep_in O.octets P.any self.now in
+            IfOk result (λ encodings. IsShortest OaepEncoding params
+            (slice_index_or (encodings_in encodings) 0 [])) }
+        ensures fit { OnOk result (length (longest (oaep_fields (oaep_in O.octets P.any self.now))) ≤ limit) }
         ensures err { IfErr result (IsListingError (oaep_fields (oaep_in O.octets P.any self.now))) }
     {
         all_spellings(self, alloc)

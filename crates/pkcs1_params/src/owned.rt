@@ -1,9 +1,10 @@
 //! Reading parameters whose algorithms have owned parameters: those that borrow from the input, copied.
-ghost use Rattle.std.specs.Prelude.{◌≡◌, ◌⊎◌, IfOk, IfErr};
+ghost use Rattle.std.specs.Prelude.{◌≡◌, ◌≢◌, [], IfOk, IfErr};
 ghost use Rattle.der_core.specs.declared.error.ErrorKind.TheVariants.{OutOfMemory};
-ghost use Rattle.pkcs1_params.specs.Words.{OwnedPssAllocates, OwnedOaepAllocates, HasOctets, HasParameters};
-ghost use Rattle.pkcs1_params.specs.Words.{HashesHaveOctets, pss_with, pss_of, oaep_with, oaep_of};
+ghost use Rattle.pkcs1_params.specs.Words.{IsBareOaep, IsBarePss, OwnedOaepAllocates, OwnedPssAllocates, oaep_of, oaep_with};
+ghost use Rattle.pkcs1_params.specs.Words.{pss_of, pss_with};
 ghost use Rattle.spki_core.specs.Words.{algorithm_with, algorithm_of, mask_of, any_of, own_any_of};
+ghost use Rattle.standard.specs.Statement.{IfPresent, IsBare};
 
 use crate::hash_fields::{MaskGenOf, MaskGenRef};
 use crate::oaep::{RsaOaepParams, RsaOaepParamsOwned, RsaOaepParamsRef};
@@ -17,7 +18,7 @@ use std::alloc::Global;
 /// Copies the contents octets. Nothing is allocated if there are none.
 fn copy_any(alloc: Global, any: AnyRef<'_>) -> Result<Any>
     ensures ok { IfOk result (λ copy. own_any_of copy ≡ any_of any.entry) }
-    ensures err { IfErr result (λ e. (e.kind ≡ OutOfMemory) × HasOctets (any_of any.entry)) }
+    ensures err { IfErr result (λ e. (e.kind ≡ OutOfMemory) × ((any_of any.entry).contents ≢ [])) }
 {
     if any.value().is_empty() {
         return Ok(Any::empty(alloc, any.tag()));
@@ -31,8 +32,8 @@ fn copy_plain(
     algorithm: AlgorithmIdentifierRef<'_>,
 ) -> Result<AlgorithmIdentifier<Any>>
     ensures ok { IfOk result (λ copy. algorithm_with own_any_of copy ≡ algorithm_of algorithm.entry) }
-    ensures err { let has = HasParameters HasOctets (algorithm_of algorithm.entry) in
-        IfErr result (λ e. (e.kind ≡ OutOfMemory) × has) }
+    ensures err { let bare = IsBare (algorithm_of algorithm.entry) in
+        IfErr result (λ e. (e.kind ≡ OutOfMemory) × (bare → ⊥)) }
 {
     let parameters = match algorithm.parameters {
         Some(any) => Some(copy_any(alloc, any)?),
@@ -50,8 +51,8 @@ fn copy_mask_gen(
     mask_gen: MaskGenRef<'_>,
 ) -> Result<MaskGenOf<ObjectIdentifier, Any>>
     ensures ok { IfOk result (λ copy. algorithm_with (algorithm_with own_any_of) copy ≡ mask_of mask_gen.entry) }
-    ensures err { let has = HasParameters (HasParameters HasOctets) (mask_of mask_gen.entry) in
-        IfErr result (λ e. (e.kind ≡ OutOfMemory) × has) }
+    ensures err { let bare = IfPresent IsBare (mask_of mask_gen.entry).parameters in
+        IfErr result (λ e. (e.kind ≡ OutOfMemory) × (bare → ⊥)) }
 {
     let parameters = match mask_gen.parameters {
         Some(hash) => Some(copy_plain(alloc, hash)?),
@@ -66,9 +67,8 @@ fn copy_mask_gen(
 /// Copies RSASSA-PSS parameters.
 fn copy_pss(alloc: Global, params: RsaPssParamsRef<'_>) -> Result<RsaPssParamsOwned>
     ensures ok { IfOk result (λ copy. pss_with own_any_of copy ≡ pss_of params.entry) }
-    ensures err { let p = pss_of params.entry in
-        let asks = HashesHaveOctets p.hash p.mask_gen in
-        IfErr result (λ e. (e.kind ≡ OutOfMemory) × asks) }
+    ensures err { let bare = IsBarePss (pss_of params.entry) in
+        IfErr result (λ e. (e.kind ≡ OutOfMemory) × (bare → ⊥)) }
 {
     Ok(RsaPssParams {
         hash: copy_plain(alloc, params.hash)?,
@@ -81,9 +81,8 @@ fn copy_pss(alloc: Global, params: RsaPssParamsRef<'_>) -> Result<RsaPssParamsOw
 /// Copies RSAES-OAEP parameters.
 fn copy_oaep(alloc: Global, params: RsaOaepParamsRef<'_>) -> Result<RsaOaepParamsOwned>
     ensures ok { IfOk result (λ copy. oaep_with own_any_of copy ≡ oaep_of params.entry) }
-    ensures err { let p = oaep_of params.entry in
-        let asks = HashesHaveOctets p.hash p.mask_gen ⊎ HasParameters HasOctets p.p_source in
-        IfErr result (λ e. (e.kind ≡ OutOfMemory) × asks) }
+    ensures err { let bare = IsBareOaep (oaep_of params.entry) in
+        IfErr result (λ e. (e.kind ≡ OutOfMemory) × (bare → ⊥)) }
 {
     Ok(RsaOaepParams {
         hash: copy_plain(alloc, params.hash)?,

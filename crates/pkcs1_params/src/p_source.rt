@@ -4,7 +4,8 @@ ghost use Rattle.der_core.specs.Words.{limit};
 ghost use Rattle.std.specs.Option.{option_map};
 ghost use Rattle.std.specs.Str.{bytes_eq};
 ghost use Rattle.spki_core.specs.Words.{algorithm_in, algorithm_of, viewed_with, any_of};
-ghost use Rattle.pkcs1_params.specs.Words.{with_parameters, id_p_specified, octets_value, empty_label, LabelOf};
+ghost use Rattle.pkcs1_params.specs.Words.{with_parameters, id_p_specified, octets_value, LabelOf};
+ghost use Rattle.standard.specs.Statement.{empty_label};
 
 use der_core::{Memory, Tag};
 use spki_core::{

@@ -1,9 +1,10 @@
 //! Parameters of RSASSA-PSS (RFC 8017 A.2.3).
-ghost use Rattle.std.specs.Prelude.{◌≡◌, refl, length};
-ghost use Rattle.pkcs1_params.specs.Words.{PssParameters, id_mgf1, mgf1_sha1, pss_alike, pss_in, pss_kinds, pss_law};
-ghost use Rattle.pkcs1_params.specs.Words.{pss_meant, pss_of, pss_read, pss_shortest, pss_under, pss_with, sha1};
+ghost use Rattle.std.specs.Prelude.{◌≡◌, refl};
+ghost use Rattle.pkcs1_params.specs.Words.{PssParameters, id_mgf1, pss_in, pss_kinds, pss_of, pss_read, pss_record, pss_with};
 ghost use Rattle.pkcs1_params.specs.Words.{with_parameters};
-ghost use Rattle.spki_core.specs.Words.{AreSpelled, Spelling, null_value, spelled, spelling_read};
+ghost use Rattle.spki_core.specs.Words.{AreSpelled, Spelling, null_value, record_alike, record_law, record_means};
+ghost use Rattle.spki_core.specs.Words.{record_shortest, record_under, spelled, spelling_read};
+ghost use Rattle.standard.specs.Statement.{mgf1_sha1, sha1};
 
 use crate::contents::{append_contents, contents_len, prepend_contents};
 use crate::error::Result;
@@ -65,9 +66,9 @@ impl<O: IdentifierValue, P: AnyValue> Contents for PssParamsOf<O, P> {
 
     ghost Spelling = { Spelling pss_kinds };
 
-    ghost means = { pss_meant };
+    ghost means = { record_means pss_record };
 
-    ghost written = { pss_under 0 };
+    ghost written = { record_under pss_record 0 };
 
     ghost valid = { AreSpelled pss_kinds };
 
@@ -77,11 +78,11 @@ impl<O: IdentifierValue, P: AnyValue> Contents for PssParamsOf<O, P> {
 
     ghost read = { pss_read };
 
-    ghost law = { pss_law };
+    ghost law = { record_law pss_record };
 
-    ghost shortest = { pss_shortest };
+    ghost shortest = { record_shortest pss_record };
 
-    ghost reads_alike = { pss_alike };
+    ghost reads_alike = { record_alike pss_record };
 }
 
 impl<O, P> TaggedBy for PssParamsOf<O, P> {

@@ -1,11 +1,10 @@
 //! The algorithm identifier id-RSASSA-PSS with its parameters (RFC 8017 A.2.3).
-ghost use Rattle.std.specs.Prelude.{◌≡◌, ◌≤◌, length, take, drop, refl, IfOk, IfErr, OnErr};
-ghost use Rattle.der_core.specs.Words.{HasEncoding};
-ghost use Rattle.spki_core.specs.Words.{viewed_with, any_of, own_octets_of};
-ghost use Rattle.pkcs1_params.specs.Words.{id_rsassa_pss, RsaPssAlgorithm, pss_means_one, pss_read, pss_reads};
-ghost use Rattle.pkcs1_params.specs.Words.{rsa_pss_algorithm};
-ghost use Rattle.pkcs1_params.specs.Words.{IsTheShortest, IsWritingError, TellsFault, PssParameters};
-ghost use Rattle.pkcs1_params.specs.Words.{with_parameters, pss_values, pss_in};
+ghost use Rattle.std.specs.Prelude.{◌≡◌, ◌↔◌, ⊤, None, length, refl, IfErr};
+ghost use Rattle.der_core.specs.Words.{ok_of};
+ghost use Rattle.spki_core.specs.Words.{any_of, own_octets_of, viewed_with};
+ghost use Rattle.pkcs1_params.specs.Words.{IsEncoded, PssParameters, Refuses, fault_in, pss_in, pss_record};
+ghost use Rattle.pkcs1_params.specs.Words.{rsa_pss_algorithm, with_parameters};
+ghost use Rattle.standard.specs.Statement.{Encodes, IsPss, PssAlgorithmEncoding, id_rsassa_pss, pss_fields};
 
 use crate::algorithm::{AlgorithmParams, FromAlgorithm, decode_borrowed, encode_identifier};
 use crate::error::{Error, Result};
@@ -49,13 +48,11 @@ impl<'a, O: ReadParams<'a>> AlgorithmParams<'a> for PssParamsOf<O, AnyRef<'a>> {
 
     ghost params = { pss_in O.octets any_of };
 
-    ghost values = { pss_values };
+    ghost Is = { IsPss };
 
-    ghost fields_mean_one = { pss_means_one };
+    ghost fields_of = { pss_fields };
 
-    ghost read = { pss_read };
-
-    ghost reads = { pss_reads };
+    ghost form = { pss_record };
 
     fn from_any(any: AnyRef<'a>) -> der_core::Result<PssParamsOf<O, AnyRef<'a>>> {
         if any.tag() == Tag::SEQUENCE {
@@ -82,9 +79,9 @@ impl<O: IdentifierValue, P: AnyValue> PssParamsOf<O, P> {
     pub fn to_algorithm(&self) -> AlgorithmView<'_, Borrowed<'_, PssParamsOf<O, P>>>
         ensures means { viewed_with (λ p. pss_in O.octets P.any p.0.now) result
             ≡ with_parameters id_rsassa_pss (pss_in O.octets P.any self.now) }
-        ensures some { HasEncoding RsaPssAlgorithm (pss_in O.octets P.any self.now) }
+        ensures encodable { IsPss (pss_in O.octets P.any self.now) }
     {
-        self.lemma_has_algorithm::<RsassaPss>();
+        self.lemma_is_valid();
         AlgorithmView {
             oid: IdentifierView::named::<RsassaPss>(),
             parameters: Some(Borrowed(self)),
@@ -95,12 +92,10 @@ impl<O: IdentifierValue, P: AnyValue> PssParamsOf<O, P> {
     /// slice and returns its length. `Overflow` if the encoding is longer than `Length::MAX`, `NoRoom` if the slice is
     /// shorter than it.
     pub fn encode_algorithm(&self, out: &mut [u8]) -> Result<usize>
-        ensures shortest { let params = pss_in O.octets P.any self.now in
-            IfOk result (λ n. IsTheShortest RsaPssAlgorithm (take n out.new) params) }
-        ensures rest { IfOk result (λ n. (n ≤ length out.new) × (drop n out.new ≡ drop n out.old)) }
-        ensures unchanged { OnErr result (out.new ≡ out.old) }
+        ensures written { let params = pss_in O.octets P.any self.now in
+            Encodes PssAlgorithmEncoding params out.old out.new (ok_of (λ n. n) result) }
         ensures err { let params = pss_in O.octets P.any self.now in
-            IfErr result (IsWritingError RsaPssAlgorithm params (length out.old)) }
+            IfErr result (Refuses (λ _. ⊤) PssAlgorithmEncoding params (length out.old)) }
     {
         encode_identifier::<RsassaPss, _>(self, out)
     }
@@ -109,7 +104,8 @@ impl<O: IdentifierValue, P: AnyValue> PssParamsOf<O, P> {
 /// The first fault of bytes that aren't the algorithm identifier id-RSASSA-PSS with parameters, of which they have
 /// exactly one; `None` if they are.
 pub fn fault_of_pss_algorithm(bytes: &[u8]) -> Option<ErrorKind>
-    ensures { TellsFault RsaPssAlgorithm rsa_pss_algorithm bytes.now result }
+    ensures fault { result ≡ fault_in (rsa_pss_algorithm bytes.now) }
+    ensures encodes { (result ≡ None) ↔ IsEncoded PssAlgorithmEncoding bytes.now }
 {
     match RsaPssParamsView::from_algorithm_der(bytes) {
         Ok(_) => None,

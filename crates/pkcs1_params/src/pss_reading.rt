@@ -1,10 +1,8 @@
 //! Reading of RSASSA-PSS parameters.
 ghost use Rattle.std.specs.Prelude.{◌≡◌};
-ghost use Rattle.pkcs1_params.specs.Words.{PssAllocates, rsa_pss_params, strict_pss_params};
-ghost use Rattle.pkcs1_params.specs.Words.{sha1, mgf1_sha1};
-ghost use Rattle.pkcs1_params.specs.Words.{pss_in, pss_of, pss_viewed};
+ghost use Rattle.pkcs1_params.specs.Words.{pss_in, pss_of, pss_viewed, rsa_pss_params, strict_pss_params};
 ghost use Rattle.spki_core.specs.Words.{any_of};
-ghost use Rattle.pkcs1_params.specs.Parameters as grammar;
+ghost use Rattle.standard.specs.Statement.{mgf1_sha1, sha1};
 
 use crate::algorithm::AlgorithmParams;
 use crate::defaults::is_empty_sequence;
@@ -29,15 +27,14 @@ impl<'a> RsaPssParamsView<'a> {
 }
 
 impl<'a, O: ReadParams<'a>> PssParamsOf<O, AnyRef<'a>> {
-    ghost use Rattle.std.specs.Prelude.{IfOk, OnErr};
-    ghost use Rattle.pkcs1_params.specs.Words.{ErrsAs, IsNoShortest, IsTheShortest};
+    ghost use Rattle.der_core.specs.Words.{ok_of};
+    ghost use Rattle.pkcs1_params.specs.Words.{ErrsAs};
+    ghost use Rattle.standard.specs.Statement.{Decodes, IsShortest, PssEncoding};
 
     /// Like `try_from`, but rejects an encoding in which a default is written: `Noncanonical` with the tag of the first
     /// such field. So what is read is the shortest encoding of its value.
     pub fn from_der_strict(bytes: &'a [u8]) -> Result<PssParamsOf<O, AnyRef<'a>>>
-        ensures ok { let Grammar = grammar.RsaPssParams in
-            IfOk result (λ params. IsTheShortest Grammar bytes.now (pss_in O.octets any_of params)) }
-        ensures err { OnErr result (IsNoShortest grammar.RsaPssParams bytes.now) }
+        ensures read { Decodes (IsShortest PssEncoding) bytes.now (ok_of (pss_in O.octets any_of) result) }
         ensures exact { ErrsAs (pss_in O.octets any_of) (strict_pss_params bytes.now) result }
     {
         let view = RsaPssParamsView::try_from(bytes)?;
@@ -58,16 +55,15 @@ impl<'a, O: IdentifierValue> Default for PssParamsOf<O, AnyRef<'a>> {
 }
 
 impl<'a, O: ReadParams<'a>> TryFrom<&'a [u8]> for PssParamsOf<O, AnyRef<'a>> {
-    ghost use Rattle.std.specs.Prelude.{IfOk, OnErr};
-    ghost use Rattle.pkcs1_params.specs.Words.{ErrsAs, IsNoSentence, IsTheMeaning};
+    ghost use Rattle.der_core.specs.Words.{ok_of};
+    ghost use Rattle.pkcs1_params.specs.Words.{ErrsAs};
+    ghost use Rattle.standard.specs.Statement.{Decodes, PssEncoding};
 
     type Error = Error;
 
     /// Reads a whole slice. Nothing is allocated.
     fn try_from(bytes: &'a [u8]) -> Result<PssParamsOf<O, AnyRef<'a>>>
-        ensures ok { let Grammar = grammar.RsaPssParams in
-            IfOk result (λ params. IsTheMeaning Grammar bytes.now (pss_in O.octets any_of params)) }
-        ensures err { OnErr result (IsNoSentence grammar.RsaPssParams bytes.now) }
+        ensures read { Decodes PssEncoding bytes.now (ok_of (pss_in O.octets any_of) result) }
         ensures exact { ErrsAs (pss_in O.octets any_of) (rsa_pss_params bytes.now) result }
     {
         if is_empty_sequence(bytes) {
@@ -82,7 +78,7 @@ impl<'a, O: ReadParams<'a>> TryFrom<&'a [u8]> for PssParamsOf<O, AnyRef<'a>> {
 }
 
 impl<'a, M: Memory, O: ReadParams<'a>> DecodeValue<&'a [u8], M> for PssParamsOf<O, AnyRef<'a>> {
-    ghost may_allocate = { PssAllocates (λ _. ⊥) };
+    ghost may_allocate = { λ _. ⊥ };
 
     #[inline(always)]
     fn decode_value<R: Reader<&'a [u8]>>(

@@ -1,11 +1,9 @@
 //! The fields and the spellings of RSASSA-PSS parameters.
-ghost use Rattle.std.specs.Prelude.{◌≤◌, length, refl, OnOk, IfOk, IfErr};
-ghost use Rattle.spki_core.specs.Words.{HaveDefaults};
-ghost use Rattle.pkcs1_params.specs.Words.{have_spelled, in_pss_fields, of_pss_fields, pss_alike, pss_kinds, pss_lawful};
-ghost use Rattle.pkcs1_params.specs.Words.{written_spelled};
-ghost use Rattle.pkcs1_params.specs.Words.{pss_means_one, pss_in, pss_numbered, pss_read, pss_reads, PssParameters};
-ghost use Rattle.pkcs1_params.specs.Words.{pss_fields, pss_values, IsMask, StandsUnder, IsSpellingError, AllFit};
-ghost use Rattle.pkcs1_params.specs.Words.{AreAllSpellings, IsListingError, encodings_in};
+ghost use Rattle.std.specs.Prelude.{◌≡◌, ◌≤◌, [], ⊤, length, slice_index_or, IfErr, IfOk, OnOk, Some};
+ghost use Rattle.der_core.specs.Words.{limit};
+ghost use Rattle.pkcs1_params.specs.Words.{IsListingError, IsMask, PssParameters, Refuses, encodings_in, pss_in, pss_record};
+ghost use Rattle.standard.specs.Statement.{Defaults, FieldsUnder, IsPss, IsShortest, Lists, PssEncoding, SequenceOf};
+ghost use Rattle.standard.specs.Statement.{longest, pss_fields};
 
 use crate::error::Result;
 use crate::fields::{FieldRef, FieldThen, NoField};
@@ -31,31 +29,11 @@ impl<'b, O: IdentifierValue, P: AnyValue> EncodeParams for &'b PssParamsOf<O, P>
 
     ghost params = { λ p. pss_in O.octets P.any p.now };
 
-    ghost values = { pss_values };
+    ghost Is = { IsPss };
 
-    ghost numbered = { pss_numbered };
+    ghost fields_of = { pss_fields };
 
-    ghost fields_mean_one = { pss_means_one };
-
-    ghost read = { pss_read };
-
-    ghost reads = { pss_reads };
-
-    ghost kinds = { pss_kinds };
-
-    ghost lawful = { pss_lawful };
-
-    ghost join = { of_pss_fields };
-
-    ghost split = { in_pss_fields };
-
-    ghost parted = { λ v. refl };
-
-    ghost whole = { λ p. refl };
-
-    ghost reads_alike = { pss_alike };
-
-    ghost spelled = { λ p mask. (have_spelled (pss_values p) mask, written_spelled (pss_values p) mask) };
+    ghost form = { pss_record };
 
     fn fields(self) -> PssFields<'b, O, P> {
         FieldThen {
@@ -71,6 +49,10 @@ impl<'b, O: IdentifierValue, P: AnyValue> EncodeParams for &'b PssParamsOf<O, P>
                 },
             },
         }
+    }
+
+    fn lemma_is_valid(self) {
+        let _salt_len = self.salt_len;
     }
 
     fn written_default(self, bytes: &[u8]) -> Option<TagNumber> {
@@ -99,7 +81,7 @@ impl<O: IdentifierValue, P: AnyValue> PssParamsOf<O, P> {
 
     /// How many fields equal their defaults.
     pub fn default_fields(&self) -> u8
-        ensures { HaveDefaults (pss_fields (pss_in O.octets P.any self.now)) result }
+        ensures { Defaults (pss_fields (pss_in O.octets P.any self.now)) result }
     {
         count_defaults(self)
     }
@@ -108,11 +90,12 @@ impl<O: IdentifierValue, P: AnyValue> PssParamsOf<O, P> {
     /// what the rest of the slice holds calls `encode_spelling_into`.
     pub fn encode_spelling<'b>(&self, mask: u8, out: &'b mut [u8]) -> Result<&'b [u8]>
         requires { IsMask (pss_fields (pss_in O.octets P.any self.now)) mask }
-        ensures stands { let params = pss_in O.octets P.any self.now in
-            IfOk result (λ encoding. StandsUnder pss_fields params mask encoding.now) }
+        ensures written { let Encoding = SequenceOf IsPss pss_fields (FieldsUnder mask) in
+            IfOk result (λ encoding. IsShortest Encoding (pss_in O.octets P.any self.now) encoding.now) }
         ensures room { IfOk result (λ encoding. length encoding.now ≤ length out.old) }
-        ensures err { let fields = pss_fields (pss_in O.octets P.any self.now) in
-            IfErr result (IsSpellingError fields mask (length out.old)) }
+        ensures err { let Encoding = SequenceOf IsPss pss_fields (FieldsUnder mask) in
+            let params = pss_in O.octets P.any self.now in
+            IfErr result (Refuses (λ _. ⊤) Encoding params (length out.old)) }
     {
         self.encode_spelling_to_slice(mask, out)
     }
@@ -120,9 +103,12 @@ impl<O: IdentifierValue, P: AnyValue> PssParamsOf<O, P> {
     /// All spellings, each at the index that is its mask, so the shortest is the first: two to the number of default
     /// fields. `Overflow`, before anything is allocated, if the one with every field is longer than `Length::MAX`.
     pub fn spellings(&self, alloc: Global) -> Result<Vec<Vec<u8>>>
-        ensures all { IfOk result (λ encodings. AreAllSpellings pss_fields (pss_in O.octets P.any self.now)
-            (encodings_in encodings)) }
-        ensures fit { OnOk result (AllFit (pss_fields (pss_in O.octets P.any self.now))) }
+        ensures listed { let params = pss_in O.octets P.any self.now in
+            IfOk result (λ encodings. Lists IsPss pss_fields params (Some (encodings_in encodings))) }
+        ensures shortest { let params = pss_in O.octets P.any self.now in
+            IfOk result (λ encodings. IsShortest PssEncoding params
+            (slice_index_or (encodings_in encodings) 0 [])) }
+        ensures fit { OnOk result (length (longest (pss_fields (pss_in O.octets P.any self.now))) ≤ limit) }
         ensures err { IfErr result (IsListingError (pss_fields (pss_in O.octets P.any self.now))) }
     {
         all_spellings(self, alloc)

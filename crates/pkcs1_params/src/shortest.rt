@@ -1,14 +1,11 @@
 //! Parameters as their shortest encoding.
-ghost use Rattle.std.specs.Prelude.{◌≡◌, ◌<◌, ◌^◌, length};
-ghost use Rattle.der_core.specs.Words.{HasEncoding};
-ghost use Rattle.spki_core.specs.Words.{viewed_with};
-ghost use Rattle.pkcs1_params.specs.Algorithms.{AlgorithmOf};
+ghost use Rattle.std.specs.Prelude.{◌≡◌};
+ghost use Rattle.spki_core.specs.Words.{AreSpelled, are_defaults, record_alike, record_fields, record_law};
+ghost use Rattle.spki_core.specs.Words.{record_means, record_read, record_shortest, record_under, spelled};
+ghost use Rattle.spki_core.specs.Words.{spelling_read, viewed_with};
+ghost use Rattle.spki_core.specs.FieldSpellings as spellings;
 ghost use Rattle.pkcs1_params.specs.DefaultBits.{bits_of};
 ghost use Rattle.pkcs1_params.specs.Parameters.{with_parameters};
-ghost use Rattle.pkcs1_params.specs.Parts.{Fielded, HasFields, defaults_in, written_fields};
-ghost use Rattle.der_core.specs.Laws.Printed.Shortest.{joined_shortest};
-ghost use Rattle.spki_core.specs.Words.{AreSpelled, fields_shortest, meant, spelled, spelling_read, spellings_law, under};
-ghost use Rattle.spki_core.specs.FieldSpellings as spellings;
 
 use crate::contents::{append_contents, contents_len, prepend_contents};
 use crate::spelling::{EncodeParams, non_defaults_in};
@@ -22,7 +19,7 @@ pub struct Shortest<T: EncodeParams> {
     /// The parameters.
     pub params: T,
     pub(crate) non_defaults: u8,
-    ghost known: { non_defaults ≡ bits_of (defaults_in (T.values (T.params params))) },
+    ghost known: { non_defaults ≡ bits_of (are_defaults (record_fields T.form (T.params params))) },
 }
 
 impl<T: EncodeParams> Shortest<T> {
@@ -41,17 +38,12 @@ impl<T: EncodeParams> Shortest<T> {
     #[inline(always)]
     pub fn identified<D: AssociatedOid>(params: T) -> AlgorithmView<'static, Shortest<T>>
         ensures means { viewed_with (λ s. T.params s.params) result ≡ with_parameters D.contents (T.params params) }
-        ensures some { HasEncoding (AlgorithmOf D.contents (Fielded T.values)) (T.params params) }
-        ensures contents { let values = T.values (T.params params) in
-            HasFields values 0 × (length (written_fields values 0) < 2 ^ 64) }
+        ensures valid { T.Is (T.params params) }
     {
-        params.lemma_has_algorithm::<D>();
+        params.lemma_is_valid();
         AlgorithmView {
             oid: IdentifierView::named::<D>(),
-            parameters: Some(Shortest {
-                params,
-                non_defaults: non_defaults_in(params),
-            }),
+            parameters: Some(Shortest::of(params)),
         }
     }
 }
@@ -61,25 +53,25 @@ impl<T: EncodeParams> Contents for Shortest<T> {
 
     ghost value = { λ s. T.params s.params };
 
-    ghost Spelling = { spellings.Spelling T.kinds };
+    ghost Spelling = { spellings.Spelling T.form.kinds };
 
-    ghost means = { λ s. T.join (meant T.kinds s) };
+    ghost means = { record_means T.form };
 
-    ghost written = { λ p. under T.kinds 0 (T.split p) };
+    ghost written = { record_under T.form 0 };
 
-    ghost valid = { AreSpelled T.kinds };
+    ghost valid = { AreSpelled T.form.kinds };
 
-    ghost printed = { spelled T.kinds };
+    ghost printed = { spelled T.form.kinds };
 
-    ghost read_spelling = { spelling_read T.kinds };
+    ghost read_spelling = { spelling_read T.form.kinds };
 
-    ghost read = { T.read };
+    ghost read = { record_read T.form };
 
-    ghost law = { spellings_law T.kinds 0 T.lawful };
+    ghost law = { record_law T.form };
 
-    ghost shortest = { joined_shortest (fields_shortest T.kinds T.lawful) T.join T.split T.parted T.whole };
+    ghost shortest = { record_shortest T.form };
 
-    ghost reads_alike = { T.reads_alike };
+    ghost reads_alike = { record_alike T.form };
 }
 
 impl<T: EncodeParams> TaggedBy for Shortest<T> {

@@ -1,8 +1,7 @@
 //! Strict reading: encodings in which a default is written are rejected.
-ghost use Rattle.std.specs.Prelude.{◌≡◌, OnOk, OnErr};
-ghost use Rattle.der_core.specs.Words.{Means, IsShortest};
-ghost use Rattle.spki_core.specs.Words.{first_default, noncanonical, number_in, unless_found};
-ghost use Rattle.pkcs1_params.specs.Words.{defaults_with, Fielded, IsAsn1, ErrsAs};
+ghost use Rattle.std.specs.Prelude.{◌≡◌};
+ghost use Rattle.spki_core.specs.Words.{noncanonical, number_in, strict_whole};
+ghost use Rattle.pkcs1_params.specs.Words.{Encoded, ErrsAs, IsAsn1};
 
 use crate::defaults::is_empty_sequence;
 use crate::error::{Error, Result};
@@ -20,11 +19,8 @@ fn is_written(number: TagNumber) -> Error
 /// Returns an error with the tag of the first default that is written in an encoding of the parameters, if there is
 /// one.
 pub(crate) fn reject_defaults<T: EncodeParams>(params: T, bytes: &[u8]) -> Result<()>
-    requires { Means (Fielded T.values) bytes.now (T.params params) }
-    ensures ok { OnOk result (IsShortest (Fielded T.values) (T.params params) bytes.now) }
-    ensures err { OnErr result (IsShortest (Fielded T.values) (T.params params) bytes.now → ⊥) }
-    ensures exact { let v = T.params params in
-        ErrsAs (λ _. v) (unless_found (first_default (defaults_with T.values v) bytes.now) v) result }
+    requires { Encoded T.Is T.fields_of (T.params params) bytes.now }
+    ensures { ErrsAs (λ _. T.params params) (strict_whole T.form bytes.now) result }
 {
     if is_empty_sequence(bytes) {
         return Ok(());

@@ -73,14 +73,13 @@ fn an_optional_part_is_written_where_it_is_there(rt: HostRuntime) -> Result<(), 
 }
 
 #[test]
-fn a_field_is_written_unless_it_is_left_out(rt: HostRuntime) -> Result<(), Fail> {
+fn a_field_is_written_in_front_and_behind(rt: HostRuntime) -> Result<(), Fail> {
     let number = TagNumber::new(2);
     let encoding = [0xa2, 0x03, 0x02, 0x01, 0x14];
     equal(&rt, field_len(number, &20_u8)?.to_usize(), 5);
     let mut slice = [0; 8];
     let mut writer = SliceWriter::new(&mut slice);
-    encode_field(true, number, &20_u8, &mut writer)?;
-    encode_field(false, number, &20_u8, &mut writer)?;
+    encode_field(number, &20_u8, &mut writer)?;
     equal(&rt, writer.finish(), encoding.as_slice());
     let mut slice = [0; 8];
     let mut writer = BackWriter::new(&mut slice);

@@ -1,8 +1,8 @@
 -- Containers and RSA keys in them, in the words of `Statement.antt`: what the functions of the bytes give, and what
 -- calls return that give the same.
-use Rattle.std.proofs.Common.{ℕ, List, [], ◌≡◌, length, refl, sym, subst, ap, ◌∙◌, arith, inl, inr, ⊎_elim}
-use Rattle.std.proofs.Common.{append-nil, Option, Some, None, Ok, Err}
-use Rattle.std.specs.Prelude.{◌↔◌, IfOk, Result}
+use Rattle.std.proofs.Common.{ℕ, List, [], ◌++◌, ◌≡◌, refl, sym, subst, ap, ◌∙◌, inl, inr, ⊎_elim}
+use Rattle.std.proofs.Common.{Option, Some, None, Ok, Err}
+use Rattle.std.specs.Prelude.{IfOk, Result}
 use Rattle.der_core.specs.Encodings.{AreBytes}
 use Rattle.der_core.specs.IntegerReading.{Answers}
 use Rattle.der_core.specs.Laws.Printed.Rows.{prints_one, tagged_law}
@@ -12,18 +12,18 @@ use Rattle.der_core.specs.Tags as tags
 use Rattle.der_core.specs.declared.error.Error as der
 use Rattle.der_core.specs.declared.error.ErrorKind.{ErrorKind}
 use Rattle.pkcs1.specs.Allocating.{MayAllocate}
-use Rattle.pkcs1.specs.KeyEncodings.{IsEncoded}
-use Rattle.pkcs1.specs.KeyReadings.{fault_in, rsa_private_key}
+use Rattle.pkcs1.proofs.OneKey.{one_spelling}
+use Rattle.pkcs1.specs.KeyReadings.{rsa_private_key}
 use Rattle.pkcs1.specs.Laws.StatedPrivateKeys.{private_decodes}
 use Rattle.pkcs1.specs.ViewParts.{viewed_encoding}
 use Rattle.pkcs1.specs.declared.view.RsaPrivateKeyView.{RsaPrivateKeyView}
 use Rattle.pkcs1_params.proofs.Errors.{asn1_as}
-use Rattle.pkcs1_params.specs.Meanings.{ErrsOrAsks}
+use Rattle.pkcs1_params.specs.Meanings.{AreDelimited, ErrsOrAsks}
 use Rattle.pkcs1_params.specs.declared.error.Error.{Error}
 use Rattle.pkcs8_core.proofs.RsaOnly.{rsa_gives, rsa_taken}
 use Rattle.pkcs8_core.specs.ContainerReadings.{key_in, private_key_info, rsa_held, rsa_only, rsa_private_key_info}
 use Rattle.pkcs8_core.specs.Laws.PrintedContainers.{container_encoded, container_law, containers_decode}
-use Rattle.pkcs8_core.specs.PrintedContainers.{container_printed}
+use Rattle.pkcs8_core.specs.PrintedContainers.{IsContainer, container_printed}
 use Rattle.pkcs8_core.specs.Rsa.{ContainedKey, rsa_encryption}
 use Rattle.standard.specs.Statement.{ContainedKeyEncoding, Container, ContainerEncoding, Decodes, PrivateKey}
 use Rattle.standard.specs.Statement.{PrivateKeyEncoding, sequence}
@@ -61,16 +61,17 @@ asked_held value c octets same agrees (Err e) p =
     (λ a f. ⊎_elim (λ w. inl (w.0, (agrees, subst MayAllocate same w.1)))
     (λ g. inr (read_held c octets same agrees ∙ g)) f) e p
 
--- An encoding is that of one container.
-pub container_means : (v w : Container) (bytes : List ℕ) → ContainerEncoding v bytes → ContainerEncoding w bytes
-    → v ≡ w
-container_means v w bytes p q =
+-- An encoding is that of one container, and no beginning of another.
+container_follow : (v w : Container) (bytes rest : List ℕ) → ContainerEncoding v bytes
+    → ContainerEncoding w (bytes ++ rest) → (v ≡ w) × (rest ≡ [])
+container_follow v w bytes rest p q =
     let a = (container_encoded v bytes).1 p in
-    let b = (container_encoded w bytes).1 q in
-    let all = append-nil (sequence (container_printed v)) in
-    let same = all ∙ sym a.2 ∙ b.2 ∙ sym (append-nil (sequence (container_printed w))) in
-    (prints_one (tagged_law container_law tags.sequence) v w [] [] a.1 b.1
-    (omega (arith, a.0, ap length a.2, ap length all)) same).0
+    let b = (container_encoded w (bytes ++ rest)).1 q in
+    one_spelling IsContainer (λ c. sequence (container_printed c))
+    (prints_one (tagged_law container_law tags.sequence)) v w a.1 b.1 bytes rest b.0 a.2 b.2
+
+pub containers_delimited : AreDelimited ContainerEncoding
+containers_delimited = (λ v p. let never = p.4 in cc, container_follow)
 
 module _ (bytes : List ℕ) (are : AreBytes bytes) where
   -- A whole slice that encodes a container.
@@ -118,9 +119,3 @@ pub viewed_in : (c : Container) (bytes octets : List ℕ) → ContainerEncoding 
     → IfOk r (λ view. (d : Container) × ContainerEncoding d bytes × (viewed_encoding view ≡ d.private_key))
 viewed_in c bytes octets is same (Ok view) e = (c, is, e ∙ same)
 viewed_in c bytes octets is same (Err k) e = tt
-
--- The kind of the first fault, or none.
-pub fault_told : {V : Type 0} (Encoding : V → List ℕ → Type 0) (bytes : List ℕ) (given : Result V ErrorKind)
-    → Decodes Encoding bytes (value_in given) → (fault_in given ≡ None) ↔ IsEncoded Encoding bytes
-fault_told Encoding bytes (Ok v) p = (λ _. (v, p.0), λ _. refl)
-fault_told Encoding bytes (Err k) never = (λ none. cc, λ q. absurd (never q.0 q.1))

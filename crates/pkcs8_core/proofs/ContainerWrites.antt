@@ -10,28 +10,15 @@ use Rattle.der_core.specs.Printed.{Prints, Spells, ok_of}
 use Rattle.der_core.specs.Writing.{Unwritten, encode_error}
 use Rattle.der_core.specs.declared.error.Error.{Error}
 use Rattle.der_core.proofs.Spelled.{into_encodes, into_unwritten}
-use Rattle.spki_core.specs.AlgorithmValue.{algorithm_of}
-use Rattle.spki_core.specs.AnyRefValue.{any_of}
-use Rattle.spki_core.specs.Laws.HaveEncodings.{any_held, identifier_held}
-use Rattle.spki_core.specs.declared.algorithm_identifier.AlgorithmIdentifierOf.{AlgorithmIdentifierOf}
-use Rattle.spki_core.specs.declared.any.AnyRef.{AnyRef}
-use Rattle.spki_core.specs.declared.object_identifier.ObjectIdentifier.{ObjectIdentifier}
-use Rattle.pkcs1.proofs.Promised.{encodes_as, unwritten_so}
+use Rattle.pkcs1_params.proofs.Written.{encodes_as, unwritten_so}
 use Rattle.pkcs8_core.specs.Container.{Container}
 use Rattle.pkcs8_core.specs.ContainerValue.{attributes_of}
 use Rattle.pkcs8_core.specs.Laws.PrintedContainers.{container_spells}
 use Rattle.pkcs8_core.specs.PrintedContainers.{IsContainer, container_printed}
 use Rattle.pkcs8_core.specs.declared.attributes.Attributes.{Attributes}
-use Rattle.standard.specs.Statement.{AreOctets, ContainerEncoding, Encodes, IfPresent, IsAlgorithm, IsAny, sequence}
+use Rattle.standard.specs.Statement.{AreOctets, ContainerEncoding, Encodes, IfPresent, sequence}
 
 -- What a container holds is valid.
-pub algorithm_held : (a : AlgorithmIdentifierOf ObjectIdentifier AnyRef) → IsAlgorithm IsAny (algorithm_of a)
-algorithm_held a = (identifier_held a.oid, go a.parameters)
-  where
-    go : (p : Option AnyRef) → IfPresent IsAny (option_map any_of p)
-    go None = tt
-    go (Some v) = (any_held v).0
-
 pub attributes_held : (a : Option Attributes) → IfPresent AreOctets (option_map attributes_of a)
 attributes_held None = tt
 attributes_held (Some a) = are_bytes a.bytes.now a.octets

@@ -1,6 +1,6 @@
 -- No bytes encode both a container and a key: behind the first INTEGER a container has a SEQUENCE, and a key a number.
 -- Nor do they encode both a container and parameters, whose contents begin with the tag of a field.
-use Rattle.std.proofs.Common.{ℕ, List, [], ◌∷◌, ◌++◌, ◌≡◌, ◌≤◌, length, refl, sym, ap, ◌∙◌, arith, inl, inr, append-nil}
+use Rattle.std.proofs.Common.{ℕ, List, [], ◌∷◌, ◌++◌, ◌≡◌, ◌≤◌, length, refl, sym, ap, ◌∙◌, arith, append-nil}
 use Rattle.std.proofs.Common.{append_assoc, slice_index}
 use Rattle.der_core.specs.declared.tag.Tag.{Tag}
 use Rattle.der_core.specs.Document.{Excludes}
@@ -11,10 +11,10 @@ use Rattle.der_core.specs.Length.{limit}
 use Rattle.der_core.specs.Printed.{ReadsPrinted, number_contents}
 use Rattle.der_core.specs.Readings.{octets_of_all}
 use Rattle.der_core.specs.Tags as tags
-use Rattle.pkcs1.proofs.ParameterLaws.{Begin, begins, oaep_begin, pss_begin}
+use Rattle.pkcs1_params.proofs.Excluded.{differs, oaep_begin, pss_begin}
 use Rattle.pkcs8_core.specs.Laws.PrintedContainers.{container_encoded}
 use Rattle.pkcs8_core.specs.PrintedContainers.{container_printed}
-use Rattle.standard.specs.Statement.{Container, ContainerEncoding, Field, Fields, OaepEncoding, PrivateKeyEncoding}
+use Rattle.standard.specs.Statement.{Container, ContainerEncoding, IsOaep, IsPss, OaepEncoding, PrivateKeyEncoding}
 use Rattle.standard.specs.Statement.{PssEncoding, PublicKeyEncoding, algorithm, any, integer, integers, oaep_fields}
 use Rattle.standard.specs.Statement.{optional, other_primes, pss_fields, sequence, tlv, version}
 
@@ -66,16 +66,8 @@ private_key c key bytes p q =
     (q.2 ∙ ap sequence (append_assoc first numbers others)) refl
 
 -- Parameters.
-first_differs : (c : Container) (bytes contents : List ℕ) (fields : List Field) → ContainerEncoding c bytes
-    → bytes ≡ sequence contents → Begin fields → Fields fields contents → ⊥
-first_differs c bytes contents fields p is ok holds =
-    let same = (contents_are c bytes contents p is).0 in
-    begins fields _ ok (rw (← same) at holds)
-
 pub pss : Excludes ContainerEncoding PssEncoding
-pss c v bytes p q =
-    first_differs c bytes q.2 (pss_fields v) p q.4 (pss_begin v) q.3
+pss c v bytes p q = differs IsPss pss_fields v 2 bytes _ (omega arith) (pss_begin v) p.4 q
 
 pub oaep : Excludes ContainerEncoding OaepEncoding
-oaep c v bytes p q =
-    first_differs c bytes q.2 (oaep_fields v) p q.4 (oaep_begin v) q.3
+oaep c v bytes p q = differs IsOaep oaep_fields v 2 bytes _ (omega arith) (oaep_begin v) p.4 q

@@ -1,9 +1,6 @@
 pub mod Octets
-pub mod FieldRows
 pub mod Copies
 pub mod MappedValues
-pub mod Fields
-pub mod KnownFields
 pub mod Readings
-pub mod Spellings
-pub mod StrictWalk
+pub mod Fielded
+pub mod StrictFields

@@ -1,5 +1,5 @@
 -- What the functions give for an encoding of any tag that has to be of one type.
-use Rattle.std.proofs.Common.{ℕ, false, List, ◌≡◌, sym, ap, ◌∙◌, arith, subst, ⊎_elim, Ok}
+use Rattle.std.proofs.Common.{ℕ, false, List, ◌≡◌, sym, ap, ◌∙◌, arith, subst, Ok}
 use Rattle.std.proofs.Common.{Err, Some, Result, ◌≢◌}
 use Rattle.std.proofs.lemmas.Bool.Decides.{nat_tests}
 use Rattle.std.specs.Prelude.{◌==◌, IfOk}
@@ -9,24 +9,14 @@ use Rattle.der_core.specs.declared.tag.Tag.{Tag}
 use Rattle.der_core.specs.declared.error.Error.{Error}
 use Rattle.der_core.specs.Encodings.{AreBytes}
 use Rattle.der_core.specs.Input.{Input}
-use Rattle.der_core.specs.Laws.LengthReading.{chosen}
-use Rattle.der_core.specs.Laws.TaggedReadings.{unexpected_tells}
 use Rattle.der_core.proofs.TaggedReadings.{other_is}
-use Rattle.der_core.specs.Reading.{ReadsFront, ReadsWhole, TellsOfBytes}
+use Rattle.der_core.specs.Reading.{ReadsFront, ReadsWhole}
 use Rattle.der_core.specs.Readings.{FrontReading, Reading, alone, tagged, unexpected, ReadsContents}
 use Rattle.der_core.specs.Tag.{context_tag}
 use Rattle.der_core.specs.Tlv.{Tlv}
 use Rattle.spki_core.specs.Any.{TagAndContents}
 use Rattle.spki_core.specs.Readings.{any_as, explicit}
 use Rattle.spki_core.specs.Laws.Readings.{explicit_is}
-
--- Where a type with a tag of its own is expected.
-module _ {V : Type 0} {contents : V → List ℕ → Type 0} {read : Reading V} (tag : Tag)
-    (law : ReadsContents contents read) (v : TagAndContents) where
-  pub any_as_tells : (k : ErrorKind) → any_as tag read v ≡ Err k → TellsOfBytes k
-  any_as_tells k e =
-      ⊎_elim (λ w. law.tells v.contents k w.1) (λ w. unexpected_tells tag v.tag k w.1)
-      (chosen (v.tag == tag.octet) _ _ _ e)
 
 -- Another tag than that of the type; and a call that read the contents of the type's tag.
 pub any_as_other : {V : Type 0} (tag : Tag) (read : Reading V) (v : TagAndContents) (actual : Tag) (e : ErrorKind)

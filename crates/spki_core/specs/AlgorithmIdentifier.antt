@@ -6,9 +6,9 @@ use Rattle.std.specs.Str.{bytes_eq}
 use Rattle.der_core.specs.Tag.{object_identifier_tag, sequence_tag}
 use Rattle.der_core.specs.Encodings.{Joins}
 use Rattle.der_core.specs.Tlv.{Tlv, tlv}
-use Rattle.der_core.specs.Optional.{Optional, HasOptional, written_optional}
-use Rattle.spki_core.specs.ObjectIdentifier.{IsIdentifier, ObjectIdentifier}
-use Rattle.spki_core.specs.Any.{TagAndContents, IsAny, Any, written_any}
+use Rattle.der_core.specs.Optional.{Optional}
+use Rattle.spki_core.specs.ObjectIdentifier.{ObjectIdentifier}
+use Rattle.spki_core.specs.Any.{TagAndContents}
 use Rattle.standard.specs.Statement.{optional}
 -- An object identifier, and parameters that are there or not.
 pub use Rattle.standard.specs.Statement.{Algorithm}
@@ -28,33 +28,6 @@ AlgorithmContents Parameters a contents =
 
 abbrev pub AlgorithmIdentifier : {P : Type 0} → (P → List ℕ → Type 0) → Algorithm P → List ℕ → Type 0
 AlgorithmIdentifier Parameters a encoding = Tlv sequence_tag (AlgorithmContents Parameters a) encoding
-
--- An algorithm with parameters of any tag.
-abbrev pub PlainAlgorithm : Algorithm TagAndContents → List ℕ → Type 0
-PlainAlgorithm = AlgorithmIdentifier Any
-
--- A mask generation function, whose parameters name the algorithm under it (RFC 8017 B.2.1).
-abbrev pub MaskAlgorithm : Algorithm (Algorithm TagAndContents) → List ℕ → Type 0
-MaskAlgorithm = AlgorithmIdentifier PlainAlgorithm
-
--- Which values have contents, and the contents that are written.
-abbrev pub HasAlgorithm : {P : Type 0} → (P → Type 0) → Algorithm P → Type 0
-HasAlgorithm has a = IsIdentifier a.oid × HasOptional has a.parameters
-
-abbrev pub written_algorithm : {P : Type 0} → (P → List ℕ) → Algorithm P → List ℕ
-written_algorithm encoding a = tlv object_identifier_tag a.oid ++ written_optional encoding a.parameters
-
-abbrev pub HasPlain : Algorithm TagAndContents → Type 0
-HasPlain = HasAlgorithm IsAny
-
-abbrev pub written_plain : Algorithm TagAndContents → List ℕ
-written_plain a = tlv sequence_tag (written_algorithm written_any a)
-
-abbrev pub HasMask : Algorithm (Algorithm TagAndContents) → Type 0
-HasMask = HasAlgorithm HasPlain
-
-abbrev pub written_mask : Algorithm (Algorithm TagAndContents) → List ℕ
-written_mask a = tlv sequence_tag (written_algorithm written_plain a)
 
 -- Tests for equality.
 abbrev pub same_any : TagAndContents → TagAndContents → Bool

@@ -1,11 +1,10 @@
 -- Where reading algorithm identifiers and fields may ask for memory.
-use Rattle.std.specs.Prelude.{ℕ, List, ◌≡◌, ◌⊎◌}
+use Rattle.std.specs.Prelude.{ℕ, List, ◌≡◌}
 use Rattle.der_core.specs.Printed.{Prints}
 use Rattle.der_core.specs.Tag.{context_tag, object_identifier_tag, sequence_tag}
 use Rattle.der_core.specs.Tlv.{Tlv, tlv}
 use Rattle.der_core.specs.Reading.{AllocatesIn, AllocatesBehind, AllocatesLast}
 use Rattle.spki_core.specs.ObjectIdentifier.{IsIdentifier}
-use Rattle.spki_core.specs.Explicit.{field, Defaultable}
 
 -- In the contents of an algorithm identifier: its parameters may ask for memory, the object identifier never does.
 abbrev pub AllocatesForParameters : (List ℕ → Type 0) → List ℕ → Type 0
@@ -26,10 +25,3 @@ NothingAskedAlone may_allocate =
 -- The value inside the tag [number] may ask for memory.
 abbrev pub FieldAllocates : ℕ → (List ℕ → Type 0) → List ℕ → Type 0
 FieldAllocates number may_allocate encoding = Tlv (context_tag number) (AllocatesIn may_allocate) encoding
-
--- In contents that begin with a field: its value may ask for memory, or what follows it may.
-abbrev pub AllocatesFromField : {V : Type 0} → ℕ → (V → List ℕ → Type 0) → V → (List ℕ → Type 0) → (List ℕ → Type 0)
-    → List ℕ → Type 0
-AllocatesFromField number Grammar default may_allocate later contents =
-    AllocatesIn (FieldAllocates number may_allocate) contents
-    ⊎ AllocatesBehind (λ v. Defaultable (field number Grammar default v)) later contents

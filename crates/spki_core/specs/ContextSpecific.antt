@@ -1,7 +1,7 @@
 -- A value inside an explicit context-specific tag (X.690 8.14.2).
 use Rattle.std.specs.Prelude.{ℕ, List, ◌≤◌}
 use Rattle.der_core.specs.Tag.{context_tag}
-use Rattle.der_core.specs.Tlv.{Tlv, tlv}
+use Rattle.der_core.specs.Tlv.{tlv}
 
 pub record Numbered (V : Type 0) : Type 0 where
   pub number : ℕ
@@ -10,10 +10,6 @@ pub record Numbered (V : Type 0) : Type 0 where
 -- The same number, with a value that is made of another.
 abbrev pub numbered_map : {V W : Type 0} → (V → W) → Numbered V → Numbered W
 numbered_map f v = record { number = v.number; value = f v.value }
-
--- The tag [number] wraps one encoding of the value.
-abbrev pub ContextSpecific : {V : Type 0} → (V → List ℕ → Type 0) → Numbered V → List ℕ → Type 0
-ContextSpecific Grammar v encoding = (v.number ≤ 30) × Tlv (context_tag v.number) (Grammar v.value) encoding
 
 abbrev pub HasNumbered : {V : Type 0} → (V → Type 0) → Numbered V → Type 0
 HasNumbered has v = (v.number ≤ 30) × has v.value

@@ -1,13 +1,17 @@
 -- Fields with defaults, of any kinds. A spelling says which fields stand there. A value has several spellings, and a
 -- mask names each.
-use Rattle.std.specs.Prelude.{ℕ, Bool, ◌+◌, ◌*◌, ◌/◌, ◌%◌, ◌==◌, ◌≡◌, ◌≤◌, List, [], ◌∷◌, ◌++◌, IsTrue}
-use Rattle.std.specs.Prelude.{Option, Some, None, if◌then◌else◌}
+use Rattle.std.specs.Prelude.{ℕ, zero, suc, Bool, ◌+◌, ◌*◌, ◌/◌, ◌%◌, ◌==◌, ◌≡◌, ◌≤◌, List, [], ◌∷◌, ◌++◌, IsTrue}
+use Rattle.std.specs.Prelude.{Option, Some, None, Result, if◌then◌else◌, true, false, map}
+use Rattle.der_core.specs.declared.error.ErrorKind.{ErrorKind}
 use Rattle.std.specs.Bool.{Decides}
 use Rattle.der_core.specs.Printed.{ReadsFrontPrinted}
 use Rattle.der_core.specs.Readings.{FrontReading, Reading, alone, no_parts, optional as optional_front, parts, tagged}
 use Rattle.der_core.specs.Tag.{is_allowed}
 use Rattle.der_core.specs.declared.tag.Tag.{Tag}
+use Rattle.der_core.specs.Readings.{made, whole, ◌>>=◌}
+use Rattle.der_core.specs.Tags.{sequence}
 use Rattle.spki_core.specs.Readings.{defaulted}
+use Rattle.spki_core.specs.StrictFields.{unless_found}
 use Rattle.standard.specs.Statement.{Field, IfPresent, field, optional, tlv}
 
 -- A field without its value: its number, which values have an encoding, the encoding, what reads it, and the default.
@@ -103,3 +107,105 @@ mask_of (k ∷ ks) s = mask_here k s.0 (mask_of ks s.1)
 abbrev pub defaults : (ks : List Kind) → Values ks → ℕ
 defaults [] v = 0
 defaults (k ∷ ks) v = if k.is_default v.0 then defaults ks v.1 + 1 else defaults ks v.1
+
+-- Their numbers are n and the following ones.
+abbrev pub AreNumbered : ℕ → List Kind → Type 0
+AreNumbered n [] = Unit {0}
+AreNumbered n (k ∷ ks) = (k.number ≡ n) × AreNumbered (n + 1) ks
+
+-- The first field that is there though it has its default (X.690 11.5).
+abbrev pub written_here : (k : Kind) → Option k.Value → Option ℕ → Option ℕ
+written_here k None later = later
+written_here k (Some v) later = if k.is_default v then Some k.number else later
+
+abbrev pub first_written : (ks : List Kind) → Spelling ks → Option ℕ
+first_written [] s = None
+first_written (k ∷ ks) s = written_here k s.0 (first_written ks s.1)
+
+-- The value of contents in which no default is there, which is asked once all is read; and of a whole slice.
+abbrev pub strict_value : (ks : List Kind) {V : Type 0} → (Values ks → V) → Spelling ks → Result V ErrorKind
+strict_value ks join s = unless_found (first_written ks s) (join (meant ks s))
+
+abbrev pub strict_contents : (ks : List Kind) {V : Type 0} → (Values ks → V) → Reading V
+strict_contents ks join contents = spelling_read ks contents >>= strict_value ks join
+
+abbrev pub strict_slice : (ks : List Kind) {V : Type 0} → (Values ks → V) → Reading V
+strict_slice ks join bytes = whole (tagged sequence (spelling_read ks)) bytes >>= strict_value ks join
+
+-- A field as it is written, whatever its kind is: whether it has its default, and its octets.
+pub record WrittenField : Type 0 where
+  pub is_default : Bool
+  pub octets : List ℕ
+
+abbrev pub field_with : (k : Kind) → k.Value → WrittenField
+field_with k v = record { is_default = k.is_default v; octets = one_spelled k v }
+
+abbrev pub fields_with : (ks : List Kind) → Values ks → List WrittenField
+fields_with [] v = []
+fields_with (k ∷ ks) v = field_with k v.0 ∷ fields_with ks v.1
+
+abbrev pub are_defaults : List WrittenField → List Bool
+are_defaults fields = map (λ f. f.is_default) fields
+
+-- How many of them have their defaults.
+abbrev pub defaults_in : List WrittenField → ℕ
+defaults_in [] = 0
+defaults_in (f ∷ fields) = if f.is_default then defaults_in fields + 1 else defaults_in fields
+
+-- Whether a field is left out under a mask, and the mask for the later ones.
+abbrev pub out_under : Bool → ℕ → Bool
+out_under true mask = mask % 2 == 0
+out_under false mask = false
+
+abbrev pub rest_under : Bool → ℕ → ℕ
+rest_under true mask = mask / 2
+rest_under false mask = mask
+
+-- The octets of the fields under a mask.
+abbrev pub octets_under : ℕ → List WrittenField → List ℕ
+octets_under mask [] = []
+octets_under mask (f ∷ fields) =
+    (if out_under f.is_default mask then [] else f.octets) ++ octets_under (rest_under f.is_default mask) fields
+
+-- A record of any form that holds the values of the fields: which values may be encoded, and the fields of the SEQUENCE.
+pub record FieldRecord {V : Type 0} (Is : V → Type 0) (fields : V → List Field) : Type 1 where
+  pub kinds : List Kind
+  pub lawful : AreLawful 0 kinds
+  pub numbered : AreNumbered 0 kinds
+  pub join : Values kinds → V
+  pub split : V → Values kinds
+  pub parted : (v : Values kinds) → split (join v) ≡ v
+  pub whole : (v : V) → join (split v) ≡ v
+  pub is : (v : V) → AreValid kinds (split v) → Is v
+  pub are : (v : V) → Is v → AreValid kinds (split v)
+  pub fields_are : (v : V) → fields v ≡ fields_of kinds (split v)
+
+module _ {V : Type 0} {Is : V → Type 0} {fields : V → List Field} (r : FieldRecord Is fields) where
+  -- What a spelling means, and the spelling of a value under a mask.
+  abbrev pub record_means : Spelling r.kinds → V
+  record_means s = r.join (meant r.kinds s)
+
+  abbrev pub record_under : ℕ → V → Spelling r.kinds
+  record_under mask v = under r.kinds mask (r.split v)
+
+  -- Its fields as they are written.
+  abbrev pub record_fields : V → List WrittenField
+  record_fields v = fields_with r.kinds (r.split v)
+
+  -- The value of contents, and of a whole slice; and of shortest encodings alone.
+  abbrev pub record_read : Reading V
+  record_read = made r.join (values_read r.kinds)
+
+  abbrev pub record_whole : Reading V
+  record_whole = whole (tagged sequence record_read)
+
+  abbrev pub record_strictly : Reading V
+  record_strictly = strict_contents r.kinds r.join
+
+  abbrev pub strict_whole : Reading V
+  strict_whole = strict_slice r.kinds r.join
+
+-- The list of what a function gives of the numbers below n.
+abbrev pub upto : {X : Type 0} → ℕ → (ℕ → X) → List X
+upto zero f = []
+upto (suc n) f = f 0 ∷ upto n (λ i. f (suc i))

@@ -3,7 +3,6 @@ pub mod Any
 pub mod AlgorithmIdentifier
 pub mod ContextSpecific
 pub mod Explicit
-pub mod FieldWriting
 pub mod Allocating
 pub mod ObjectIdentifierValue
 pub mod AnyRefValue
@@ -12,7 +11,6 @@ pub mod AlgorithmValue
 pub mod HashAlgorithms
 pub mod IdentifierTest
 pub mod StrictFields
-pub mod Masks
 pub mod Readings
 pub mod FieldSpellings
 pub mod Laws

@@ -1,30 +1,13 @@
 -- Fields with defaults, which are not to be written if they equal them (X.690 11.5).
-use Rattle.std.specs.Prelude.{ℕ, Bool, true, false, List, [], ◌∷◌, ◌≡◌, ◌+◌, ◌⊎◌, map, Option, Some, None}
+use Rattle.std.specs.Prelude.{ℕ, Bool, true, false, List, [], ◌∷◌, ◌+◌, Option, Some, None}
 use Rattle.std.specs.Prelude.{Result, Ok, Err, if◌then◌else◌}
-use Rattle.der_core.specs.Tag.{context_tag, is_allowed, sequence_tag}
-use Rattle.der_core.specs.Encodings.{Then, Joins}
-use Rattle.der_core.specs.Readings.{Reading, ◌>>=◌, checked, is_next, whole}
-use Rattle.der_core.specs.Tlv.{Tlv}
+use Rattle.der_core.specs.Tag.{context_tag, is_allowed}
+use Rattle.der_core.specs.Readings.{checked, is_next, whole}
 use Rattle.der_core.specs.declared.tag.TagNumber.{TagNumber}
 use Rattle.der_core.specs.declared.error.ErrorKind.{ErrorKind}
 use Rattle.der_core.specs.declared.error.ErrorKind.TheVariants.{Noncanonical, TagUnknown}
 use Rattle.spki_core.specs.Any.{TagAndContents}
-use Rattle.spki_core.specs.Explicit.{Field, Explicit, Defaultable}
 use Rattle.spki_core.specs.Readings.{any}
-
--- A field in its shortest form: a default is left out.
-abbrev pub Short : Field → List ℕ → Type 0
-Short f encoding = ((encoding ≡ []) × f.IsDefault) ⊎ ((f.IsDefault → ⊥) × Explicit f encoding)
-
--- The field [n] is the first that is written and equals its default.
-abbrev pub FirstWritten : List Field → ℕ → List ℕ → Type 0
-FirstWritten [] n contents = ⊥
-FirstWritten (f ∷ fields) n contents =
-    ((n ≡ f.number) × f.IsDefault × Then (Explicit f) (Joins (map Defaultable fields)) contents)
-    ⊎ Then (Short f) (FirstWritten fields n) contents
-
-abbrev pub WritesDefault : List Field → ℕ → List ℕ → Type 0
-WritesDefault fields n encoding = Tlv sequence_tag (FirstWritten fields n) encoding
 
 -- What a walk finds behind an encoding of any tag, and in its contents.
 abbrev pub behind_any : (List ℕ → Option ℕ) → Result (TagAndContents × List ℕ) ErrorKind → Option ℕ
@@ -60,7 +43,3 @@ noncanonical n =
 abbrev pub unless_found : {V : Type 0} → Option ℕ → V → Result V ErrorKind
 unless_found None v = Ok v
 unless_found (Some n) v = Err (noncanonical n)
-
--- Strict reading: a value that is read, in whose encoding no default is written.
-abbrev pub strict : {V : Type 0} → (V → List Bool) → Reading V → Reading V
-strict defaults read bytes = read bytes >>= λ v. unless_found (first_default (defaults v) bytes) v

@@ -239,7 +239,6 @@ impl<'a> TryClone for AnyRef<'a> {
 pub trait AnyValue: EqualByValue + Encode {
     ghost use Rattle.spki_core.specs.AnyRefValue.{any_of};
     ghost use Rattle.spki_core.specs.Laws.AnyValues.{HoldsAny};
-    ghost use Rattle.spki_core.specs.Laws.HaveEncodings.{AreAnyHeld};
     ghost use Rattle.spki_core.specs.Laws.WritesAs.{WritesAs};
 
     /// The tag and contents that are held.
@@ -257,7 +256,7 @@ pub trait AnyValue: EqualByValue + Encode {
         standard.IsAny standard.any };
 
     /// The tag and contents that are held have an encoding.
-    ghost held: { AreAnyHeld Self.any };
+    ghost held: { (x : Self) → standard.IsAny (any x) };
 }
 
 impl EqualByValue for AnyRef<'_> {

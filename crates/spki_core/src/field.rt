@@ -2,7 +2,7 @@
 ghost use Rattle.std.specs.Prelude.{◌≤◌, ◌+◌, ℕ, length};
 ghost use Rattle.der_core.specs.Words.{limit, free_of, Prepends, Counts, Appends, context_tag, tlv, ReadsFront};
 ghost use Rattle.der_core.specs.Words.{OptionalRead, Prints, ReadsBy, ReadsFronts, Tlv, optional};
-ghost use Rattle.spki_core.specs.Words.{FieldAllocates, FieldRead, defaulted, explicit, HasField, written_field};
+ghost use Rattle.spki_core.specs.Words.{FieldAllocates, FieldRead, defaulted, explicit};
 
 use crate::context_specific::{ContextSpecificRef, is_field_next, read_explicit};
 use der_core::{
@@ -37,23 +37,18 @@ pub fn field_len<T: Encode>(tag_number: TagNumber, value: &T) -> Result<Length>
     ContextSpecificRef { tag_number, value }.encoded_len()
 }
 
-/// Appends a field, which may be left out.
+/// Appends a field.
 pub fn encode_field<T: Encode, W: Writer>(
-    left_out: bool,
     tag_number: TagNumber,
     value: &T,
     writer: &mut W,
 ) -> Result<()>
-    ensures appends { let has = HasField left_out (T.valid (T.written (T.value value.now))) in
-        let octets = written_field left_out tag_number.value (T.printed (T.written (T.value value.now))) in
-        Appends has octets W.room W.written writer.old writer.new result }
+    ensures appends { let s = T.written (T.value value.now) in
+        let octets = tlv (context_tag tag_number.value) (T.printed s) in
+        Appends (T.valid s) octets W.room W.written writer.old writer.new result }
     ensures kept { W.keeps writer.old writer.new }
 {
-    if left_out {
-        Ok(())
-    } else {
-        ContextSpecificRef { tag_number, value }.encode(writer)
-    }
+    ContextSpecificRef { tag_number, value }.encode(writer)
 }
 
 /// Writes a field in front of what is filled.

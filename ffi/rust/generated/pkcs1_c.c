@@ -70,7 +70,7 @@ static const unsigned char f_static_28[9] = {42, 134, 72, 134, 247, 13, 1, 1, 8}
 static const unsigned char f_static_29[18] = {2, 1, 0, 48, 13, 6, 9, 42, 134, 72, 134, 247, 13, 1, 1, 1, 5, 0};
 static const unsigned char f_static_31[9] = {42, 134, 72, 134, 247, 13, 1, 1, 10};
 static const u64 f_switch_table_pkcs1_c_status_text[22] = {9u, 23u, 72u, 47u, 57u, 98u, 92u, 102u, 83u, 52u, 101u, 107u, 70u, 102u, 107u, 42u, 25u, 20u, 14u, 14u, 14u, 49u};
-static const P f_switch_table_pkcs1_c_status_text_173[22] = {(P)f_static_2, (P)f_static_3, (P)f_static_4, (P)f_static_5, (P)f_static_6, (P)f_static_7, (P)f_static_8, (P)f_static_9, (P)f_static_10, (P)f_static_11, (P)f_static_12, (P)f_static_13, (P)f_static_14, (P)f_static_15, (P)f_static_16, (P)f_static_17, (P)f_static_18, (P)f_static_19, (P)f_static_21, (P)f_static_21, (P)f_static_21, (P)f_static_20};
+static const P f_switch_table_pkcs1_c_status_text_166[22] = {(P)f_static_2, (P)f_static_3, (P)f_static_4, (P)f_static_5, (P)f_static_6, (P)f_static_7, (P)f_static_8, (P)f_static_9, (P)f_static_10, (P)f_static_11, (P)f_static_12, (P)f_static_13, (P)f_static_14, (P)f_static_15, (P)f_static_16, (P)f_static_17, (P)f_static_18, (P)f_static_19, (P)f_static_21, (P)f_static_21, (P)f_static_21, (P)f_static_20};
 static u1 f_core_cmp_slices_groups_equal_i8_31_core_cmp_number(P v_a0, u64 v_a1, P v_a2);
 static void f_pkcs1_params_algorithm_AnyFromAlgorithm_from_algor(P v_a0, P v_a1, u64 v_a2);
 static u1 f_spki_core_object_identifier_has_no_80(P v_a0, u64 v_a1);
@@ -27902,7 +27902,7 @@ L_switch_lookup:;
     v_switch_gep = (P)f_switch_table_pkcs1_c_status_text + (int64_t)(v_1 * 8);
     v_switch_load = get_u64(v_switch_gep);
     v_2 = (u64)v_a0;
-    v_switch_gep1 = (P)f_switch_table_pkcs1_c_status_text_173 + (int64_t)(v_2 * 8);
+    v_switch_gep1 = (P)f_switch_table_pkcs1_c_status_text_166 + (int64_t)(v_2 * 8);
     v_switch_load2 = get_P(v_switch_gep1);
     { p_v_r1_sroa_22_0_i_i = v_switch_load; p_v_r1_sroa_0_0_i_i = v_switch_load2; goto L_pkcs1_c_status_pkcs1_c_status_text_exit; }
 L_pkcs1_c_status_pkcs1_c_status_text_exit:;
@@ -40881,12 +40881,12 @@ L_pkcs1_c_public_key_pkcs1_c_public_key_encode_exit:;
 u32 pkcs1_c_oaep_algorithm_encode(P v_a0, P v_a1, u64 v_a2, P v_a3) {
     ALIGNED(4) unsigned char m_v_r0_i10_i_i_i_i1_i_i_i[8];
     ALIGNED(4) unsigned char m_v_r0_i10_i_i_i_i_i_i_i[8];
-    ALIGNED(8) unsigned char m_v_r7_i_i260_i_i[24];
+    ALIGNED(8) unsigned char m_v_r7_i_i263_i_i[24];
     ALIGNED(8) unsigned char m_v_r3_i[168];
     ALIGNED(8) unsigned char m_v_r5_i[176];
     u8 p_v_r6_0_shrunk_i_i_i;
     u1 p_v_r4_0_i;
-    u8 p_v_r4_0_i207_i_i;
+    u8 p_v_r4_0_i210_i_i;
     u32 p_v_r4_0_i_i_i_i_i_i_i_i;
     P p_v_r20_i_i402_i_i_i_i;
     u64 p_v_a1_val6_i_i131_i_i_i_i_i_i_i;
@@ -40906,7 +40906,7 @@ u32 pkcs1_c_oaep_algorithm_encode(P v_a0, P v_a1, u64 v_a2, P v_a3) {
     u32 p_v_r6_0_i;
     P v_r0_i10_i_i_i_i1_i_i_i;
     P v_r0_i10_i_i_i_i_i_i_i;
-    P v_r7_i_i260_i_i;
+    P v_r7_i_i263_i_i;
     P v_r3_i;
     P v_r5_i;
     u1 v_r1;
@@ -40915,10 +40915,10 @@ u32 pkcs1_c_oaep_algorithm_encode(P v_a0, P v_a1, u64 v_a2, P v_a3) {
     u8 v_r12_i;
     u1 v_0;
     P v_r13_i;
-    P v_r12_i46_i_i;
-    P v_r15_i47_i_i;
-    P v_r14_i48_i_i;
-    u8 v_r16_i49_i_i;
+    P v_r12_i49_i_i;
+    P v_r15_i50_i_i;
+    P v_r14_i51_i_i;
+    u8 v_r16_i52_i_i;
     u1 v_1;
     P v_r0_sroa_0_0_copyload_i_i_i_i;
     P v_r0_sroa_3_0_a0_sroa_idx_i_i_i_i;
@@ -40938,7 +40938,7 @@ u32 pkcs1_c_oaep_algorithm_encode(P v_a0, P v_a1, u64 v_a2, P v_a3) {
     P v_r48_i_i_i_i;
     u8 v_r50_i_i_i_i;
     u1 v_cond4_i_i_i_i;
-    P v_r18_i51_i_i;
+    P v_r18_i54_i_i;
     u64 v_r10_sroa_0_0_copyload_i_i_i;
     u64 v_2;
     u1 v_r7_i_i_i_i_i;
@@ -41013,54 +41013,54 @@ u32 pkcs1_c_oaep_algorithm_encode(P v_a0, P v_a1, u64 v_a2, P v_a3) {
     u64 v_r10_sroa_4_0_copyload_i_i;
     u1 v_r7_i_i_i;
     u1 v_r4_0_i;
-    u1 v_r13_i13_i_i;
-    u8 v_r1_i168_i_i;
-    P v_r14_i205_i_i;
-    u8 v_r16_i206_i_i;
+    u1 v_r13_i16_i_i;
+    u8 v_r1_i171_i_i;
+    P v_r14_i208_i_i;
+    u8 v_r16_i209_i_i;
     u1 v_7;
-    P v_r0_sroa_0_0_copyload_i_i209_i_i;
-    P v_r0_sroa_3_0_a0_sroa_idx_i_i210_i_i;
-    u64 v_r0_sroa_3_0_copyload_i_i211_i_i;
-    u1 v_r31_i_i212_i_i;
-    u8 v_r38_i_i214_i_i;
-    u1 v_cond_i_i215_i_i;
-    P v_r41_i_i217_i_i;
-    u8 v_r43_i_i218_i_i;
-    u1 v_cond1_i_i219_i_i;
-    P v_r46_i_i221_i_i;
-    u8 v_r48_i_i222_i_i;
-    u1 v_cond2_i_i223_i_i;
-    P v_r51_i_i225_i_i;
-    u8 v_r53_i_i226_i_i;
-    u1 v_cond3_i_i227_i_i;
-    u1 v_r72_i_i228_i_i;
-    u1 v_or_cond_i229_i_i;
-    P v_r56_i_i231_i_i;
-    u8 v_r79_i_i232_i_i;
-    u1 v_cond4_i_i233_i_i;
-    P v_r82_i_i235_i_i;
-    u8 v_r84_i_i236_i_i;
-    u1 v_cond5_i_i237_i_i;
-    P v_r87_i_i239_i_i;
-    u8 v_r89_i_i240_i_i;
-    u1 v_cond6_i_i241_i_i;
-    P v_r92_i_i243_i_i;
-    u8 v_r94_i_i244_i_i;
-    u1 v_cond7_i_i245_i_i;
-    P v_r97_i_i247_i_i;
-    u8 v_r99_i_i248_i_i;
-    u1 v_cond8_i_i249_i_i;
-    P v_r18_i251_i_i;
-    u64 v_r10_sroa_0_0_copyload_i252_i_i;
+    P v_r0_sroa_0_0_copyload_i_i212_i_i;
+    P v_r0_sroa_3_0_a0_sroa_idx_i_i213_i_i;
+    u64 v_r0_sroa_3_0_copyload_i_i214_i_i;
+    u1 v_r31_i_i215_i_i;
+    u8 v_r38_i_i217_i_i;
+    u1 v_cond_i_i218_i_i;
+    P v_r41_i_i220_i_i;
+    u8 v_r43_i_i221_i_i;
+    u1 v_cond1_i_i222_i_i;
+    P v_r46_i_i224_i_i;
+    u8 v_r48_i_i225_i_i;
+    u1 v_cond2_i_i226_i_i;
+    P v_r51_i_i228_i_i;
+    u8 v_r53_i_i229_i_i;
+    u1 v_cond3_i_i230_i_i;
+    u1 v_r72_i_i231_i_i;
+    u1 v_or_cond_i232_i_i;
+    P v_r56_i_i234_i_i;
+    u8 v_r79_i_i235_i_i;
+    u1 v_cond4_i_i236_i_i;
+    P v_r82_i_i238_i_i;
+    u8 v_r84_i_i239_i_i;
+    u1 v_cond5_i_i240_i_i;
+    P v_r87_i_i242_i_i;
+    u8 v_r89_i_i243_i_i;
+    u1 v_cond6_i_i244_i_i;
+    P v_r92_i_i246_i_i;
+    u8 v_r94_i_i247_i_i;
+    u1 v_cond7_i_i248_i_i;
+    P v_r97_i_i250_i_i;
+    u8 v_r99_i_i251_i_i;
+    u1 v_cond8_i_i252_i_i;
+    P v_r18_i254_i_i;
+    u64 v_r10_sroa_0_0_copyload_i255_i_i;
     u64 v_8;
-    u1 v_r7_i_i_i253_i_i;
-    P v_r10_sroa_4_0_r18_sroa_idx_i255_i_i;
-    u64 v_r10_sroa_4_0_copyload_i256_i_i;
-    u1 v_r7_i_i257_not_i_i;
+    u1 v_r7_i_i_i256_i_i;
+    P v_r10_sroa_4_0_r18_sroa_idx_i258_i_i;
+    u64 v_r10_sroa_4_0_copyload_i259_i_i;
+    u1 v_r7_i_i260_not_i_i;
     u8 v_9;
-    u8 v_r4_0_i207_i_i;
-    u8 v_r25_i18_i_i;
-    u8 v_r22_i8_i_i;
+    u8 v_r4_0_i210_i_i;
+    u8 v_r25_i21_i_i;
+    u8 v_r22_i11_i_i;
     u8 v_r25_i_i_i;
     u8 v_10;
     P v_r5_i11_i_i_i_i_i_i_i;
@@ -41081,7 +41081,7 @@ u32 pkcs1_c_oaep_algorithm_encode(P v_a0, P v_a1, u64 v_a2, P v_a3) {
     u1 v_r7_i_not_i_i_i_i_not_i_i_i_i;
     u32 v_r11_i_i_i_i_i_i_i_i_i;
     u64 v_r3_i11_i_i_i_i;
-    u1 v_r56_i_i262_i_i;
+    u1 v_r56_i_i265_i_i;
     P v_r23_sroa_3_0_r7_sroa_idx_i_i_i_i;
     P v_r23_sroa_4_0_r7_sroa_idx_i_i_i_i;
     u1 v_r7_i_i_i_i23_i_i_i_i;
@@ -41432,7 +41432,7 @@ u32 pkcs1_c_oaep_algorithm_encode(P v_a0, P v_a1, u64 v_a2, P v_a3) {
     u32 v_r6_0_i;
     v_r0_i10_i_i_i_i1_i_i_i = m_v_r0_i10_i_i_i_i1_i_i_i;
     v_r0_i10_i_i_i_i_i_i_i = m_v_r0_i10_i_i_i_i_i_i_i;
-    v_r7_i_i260_i_i = m_v_r7_i_i260_i_i;
+    v_r7_i_i263_i_i = m_v_r7_i_i263_i_i;
     v_r3_i = m_v_r3_i;
     v_r5_i = m_v_r5_i;
     v_r1 = v_a1 == (P)0;
@@ -41446,62 +41446,62 @@ u32 pkcs1_c_oaep_algorithm_encode(P v_a0, P v_a1, u64 v_a2, P v_a3) {
 L_arm_1_i:;
     v_r13_i = v_r5_i + 8;
     copy(v_r3_i, v_r13_i, 168u);
-    v_r12_i46_i_i = v_r3_i + 48;
-    v_r15_i47_i_i = v_r3_i + 120;
-    v_r14_i48_i_i = v_r3_i + 16;
-    v_r16_i49_i_i = get_u8(v_r14_i48_i_i);
-    v_1 = v_r16_i49_i_i == 1u;
-    if (v_1) { goto L_arm_1_i50_i_i; } else { p_v_r6_0_shrunk_i_i_i = 1u; goto L_arm_5_i_i21_i_i; }
-L_arm_1_i50_i_i:;
+    v_r12_i49_i_i = v_r3_i + 48;
+    v_r15_i50_i_i = v_r3_i + 120;
+    v_r14_i51_i_i = v_r3_i + 16;
+    v_r16_i52_i_i = get_u8(v_r14_i51_i_i);
+    v_1 = v_r16_i52_i_i == 1u;
+    if (v_1) { goto L_arm_1_i53_i_i; } else { p_v_r6_0_shrunk_i_i_i = 1u; goto L_arm_5_i_i24_i_i; }
+L_arm_1_i53_i_i:;
     v_r0_sroa_0_0_copyload_i_i_i_i = get_P(v_r3_i);
     v_r0_sroa_3_0_a0_sroa_idx_i_i_i_i = v_r3_i + 8;
     v_r0_sroa_3_0_copyload_i_i_i_i = get_u64(v_r0_sroa_3_0_a0_sroa_idx_i_i_i_i);
     v_r23_i_i_i_i = v_r0_sroa_3_0_copyload_i_i_i_i == 5u;
-    if (v_r23_i_i_i_i) { goto L_then_6_i_i_i_i; } else { p_v_r6_0_shrunk_i_i_i = 1u; goto L_arm_5_i_i21_i_i; }
+    if (v_r23_i_i_i_i) { goto L_then_6_i_i_i_i; } else { p_v_r6_0_shrunk_i_i_i = 1u; goto L_arm_5_i_i24_i_i; }
 L_then_6_i_i_i_i:;
     v_r30_i_i_i_i = get_u8(v_r0_sroa_0_0_copyload_i_i_i_i);
     v_cond_i_i_i_i = v_r30_i_i_i_i == 43u;
-    if (v_cond_i_i_i_i) { goto L_arm_9_i_i_i_i; } else { p_v_r6_0_shrunk_i_i_i = 1u; goto L_arm_5_i_i21_i_i; }
+    if (v_cond_i_i_i_i) { goto L_arm_9_i_i_i_i; } else { p_v_r6_0_shrunk_i_i_i = 1u; goto L_arm_5_i_i24_i_i; }
 L_arm_9_i_i_i_i:;
     v_r33_i_i_i_i = v_r0_sroa_0_0_copyload_i_i_i_i + 1;
     v_r35_i_i_i_i = get_u8(v_r33_i_i_i_i);
     v_cond1_i_i_i_i = v_r35_i_i_i_i == 14u;
-    if (v_cond1_i_i_i_i) { goto L_arm_12_i_i_i_i; } else { p_v_r6_0_shrunk_i_i_i = 1u; goto L_arm_5_i_i21_i_i; }
+    if (v_cond1_i_i_i_i) { goto L_arm_12_i_i_i_i; } else { p_v_r6_0_shrunk_i_i_i = 1u; goto L_arm_5_i_i24_i_i; }
 L_arm_12_i_i_i_i:;
     v_r38_i_i_i_i = v_r0_sroa_0_0_copyload_i_i_i_i + 2;
     v_r40_i_i_i_i = get_u8(v_r38_i_i_i_i);
     v_cond2_i_i_i_i = v_r40_i_i_i_i == 3u;
-    if (v_cond2_i_i_i_i) { goto L_arm_15_i_i_i_i; } else { p_v_r6_0_shrunk_i_i_i = 1u; goto L_arm_5_i_i21_i_i; }
+    if (v_cond2_i_i_i_i) { goto L_arm_15_i_i_i_i; } else { p_v_r6_0_shrunk_i_i_i = 1u; goto L_arm_5_i_i24_i_i; }
 L_arm_15_i_i_i_i:;
     v_r43_i_i_i_i = v_r0_sroa_0_0_copyload_i_i_i_i + 3;
     v_r45_i_i_i_i = get_u8(v_r43_i_i_i_i);
     v_cond3_i_i_i_i = v_r45_i_i_i_i == 2u;
-    if (v_cond3_i_i_i_i) { goto L_arm_18_i_i_i_i; } else { p_v_r6_0_shrunk_i_i_i = 1u; goto L_arm_5_i_i21_i_i; }
+    if (v_cond3_i_i_i_i) { goto L_arm_18_i_i_i_i; } else { p_v_r6_0_shrunk_i_i_i = 1u; goto L_arm_5_i_i24_i_i; }
 L_arm_18_i_i_i_i:;
     v_r48_i_i_i_i = v_r0_sroa_0_0_copyload_i_i_i_i + 4;
     v_r50_i_i_i_i = get_u8(v_r48_i_i_i_i);
     v_cond4_i_i_i_i = v_r50_i_i_i_i == 26u;
-    if (v_cond4_i_i_i_i) { goto L_then_5_i_i_i; } else { p_v_r6_0_shrunk_i_i_i = 1u; goto L_arm_5_i_i21_i_i; }
+    if (v_cond4_i_i_i_i) { goto L_then_5_i_i_i; } else { p_v_r6_0_shrunk_i_i_i = 1u; goto L_arm_5_i_i24_i_i; }
 L_then_5_i_i_i:;
-    v_r18_i51_i_i = v_r3_i + 24;
-    v_r10_sroa_0_0_copyload_i_i_i = get_u64(v_r18_i51_i_i);
+    v_r18_i54_i_i = v_r3_i + 24;
+    v_r10_sroa_0_0_copyload_i_i_i = get_u64(v_r18_i54_i_i);
     v_2 = (u64)((u64)(v_r10_sroa_0_0_copyload_i_i_i) & (u64)(255u));
     v_r7_i_i_i_i_i = v_2 == 5u;
-    if (v_r7_i_i_i_i_i) { goto L_then_1_i_i_i_i; } else { p_v_r6_0_shrunk_i_i_i = 1u; goto L_arm_5_i_i21_i_i; }
+    if (v_r7_i_i_i_i_i) { goto L_then_1_i_i_i_i; } else { p_v_r6_0_shrunk_i_i_i = 1u; goto L_arm_5_i_i24_i_i; }
 L_then_1_i_i_i_i:;
     v_r10_sroa_4_0_r18_sroa_idx_i_i_i = v_r3_i + 40;
     v_r10_sroa_4_0_copyload_i_i_i = get_u64(v_r10_sroa_4_0_r18_sroa_idx_i_i_i);
     v_r7_i_i_i_i = v_r10_sroa_4_0_copyload_i_i_i != 0u;
     v_3 = (u8)v_r7_i_i_i_i;
-    { p_v_r6_0_shrunk_i_i_i = v_3; goto L_arm_5_i_i21_i_i; }
-L_arm_5_i_i21_i_i:;
+    { p_v_r6_0_shrunk_i_i_i = v_3; goto L_arm_5_i_i24_i_i; }
+L_arm_5_i_i24_i_i:;
     v_r6_0_shrunk_i_i_i = p_v_r6_0_shrunk_i_i_i;
     v_r10_i = v_r3_i + 64;
     v_r12_i1 = get_u8(v_r10_i);
     v_4 = v_r12_i1 == 1u;
     if (v_4) { goto L_arm_1_i2; } else { p_v_r4_0_i = 0u; goto L_pkcs1_params_holders_AlgorithmIdentifierOfAlgorith; }
 L_arm_1_i2:;
-    v_r0_sroa_0_0_copyload_i_i = get_P(v_r12_i46_i_i);
+    v_r0_sroa_0_0_copyload_i_i = get_P(v_r12_i49_i_i);
     v_r0_sroa_3_0_a0_sroa_idx_i_i = v_r3_i + 56;
     v_r0_sroa_3_0_copyload_i_i = get_u64(v_r0_sroa_3_0_a0_sroa_idx_i_i);
     v_r31_i_i = v_r0_sroa_3_0_copyload_i_i < 4u;
@@ -41600,81 +41600,81 @@ L_then_1_i_i_i:;
     { p_v_r4_0_i = v_r7_i_i_i; goto L_pkcs1_params_holders_AlgorithmIdentifierOfAlgorith; }
 L_pkcs1_params_holders_AlgorithmIdentifierOfAlgorith:;
     v_r4_0_i = p_v_r4_0_i;
-    v_r13_i13_i_i = (u1)(((u32)(v_r4_0_i) ^ (u32)(1u)) & 1);
-    v_r1_i168_i_i = (u8)v_r13_i13_i_i;
-    v_r14_i205_i_i = v_r3_i + 136;
-    v_r16_i206_i_i = get_u8(v_r14_i205_i_i);
-    v_7 = v_r16_i206_i_i == 1u;
-    if (v_7) { goto L_arm_1_i208_i_i; } else { p_v_r4_0_i207_i_i = 2u; goto L_arm_1_i28_i_i_i_i_i_i_i; }
-L_arm_1_i208_i_i:;
-    v_r0_sroa_0_0_copyload_i_i209_i_i = get_P(v_r15_i47_i_i);
-    v_r0_sroa_3_0_a0_sroa_idx_i_i210_i_i = v_r3_i + 128;
-    v_r0_sroa_3_0_copyload_i_i211_i_i = get_u64(v_r0_sroa_3_0_a0_sroa_idx_i_i210_i_i);
-    v_r31_i_i212_i_i = v_r0_sroa_3_0_copyload_i_i211_i_i < 4u;
-    if (v_r31_i_i212_i_i) { p_v_r4_0_i207_i_i = 2u; goto L_arm_1_i28_i_i_i_i_i_i_i; } else { goto L_join_5_i_i213_i_i; }
-L_join_5_i_i213_i_i:;
-    v_r38_i_i214_i_i = get_u8(v_r0_sroa_0_0_copyload_i_i209_i_i);
-    v_cond_i_i215_i_i = v_r38_i_i214_i_i == 42u;
-    if (v_cond_i_i215_i_i) { goto L_arm_6_i_i216_i_i; } else { p_v_r4_0_i207_i_i = 2u; goto L_arm_1_i28_i_i_i_i_i_i_i; }
-L_arm_6_i_i216_i_i:;
-    v_r41_i_i217_i_i = v_r0_sroa_0_0_copyload_i_i209_i_i + 1;
-    v_r43_i_i218_i_i = get_u8(v_r41_i_i217_i_i);
-    v_cond1_i_i219_i_i = v_r43_i_i218_i_i == 134u;
-    if (v_cond1_i_i219_i_i) { goto L_arm_9_i_i220_i_i; } else { p_v_r4_0_i207_i_i = 2u; goto L_arm_1_i28_i_i_i_i_i_i_i; }
-L_arm_9_i_i220_i_i:;
-    v_r46_i_i221_i_i = v_r0_sroa_0_0_copyload_i_i209_i_i + 2;
-    v_r48_i_i222_i_i = get_u8(v_r46_i_i221_i_i);
-    v_cond2_i_i223_i_i = v_r48_i_i222_i_i == 72u;
-    if (v_cond2_i_i223_i_i) { goto L_arm_12_i_i224_i_i; } else { p_v_r4_0_i207_i_i = 2u; goto L_arm_1_i28_i_i_i_i_i_i_i; }
-L_arm_12_i_i224_i_i:;
-    v_r51_i_i225_i_i = v_r0_sroa_0_0_copyload_i_i209_i_i + 3;
-    v_r53_i_i226_i_i = get_u8(v_r51_i_i225_i_i);
-    v_cond3_i_i227_i_i = v_r53_i_i226_i_i == 134u;
-    v_r72_i_i228_i_i = v_r0_sroa_3_0_copyload_i_i211_i_i == 9u;
-    v_or_cond_i229_i_i = (u1)(((u32)(v_r72_i_i228_i_i) & (u32)(v_cond3_i_i227_i_i)) & 1);
-    if (v_or_cond_i229_i_i) { goto L_then_23_i_i230_i_i; } else { p_v_r4_0_i207_i_i = 2u; goto L_arm_1_i28_i_i_i_i_i_i_i; }
-L_then_23_i_i230_i_i:;
-    v_r56_i_i231_i_i = v_r0_sroa_0_0_copyload_i_i209_i_i + 4;
-    v_r79_i_i232_i_i = get_u8(v_r56_i_i231_i_i);
-    v_cond4_i_i233_i_i = v_r79_i_i232_i_i == 247u;
-    if (v_cond4_i_i233_i_i) { goto L_arm_26_i_i234_i_i; } else { p_v_r4_0_i207_i_i = 2u; goto L_arm_1_i28_i_i_i_i_i_i_i; }
-L_arm_26_i_i234_i_i:;
-    v_r82_i_i235_i_i = v_r0_sroa_0_0_copyload_i_i209_i_i + 5;
-    v_r84_i_i236_i_i = get_u8(v_r82_i_i235_i_i);
-    v_cond5_i_i237_i_i = v_r84_i_i236_i_i == 13u;
-    if (v_cond5_i_i237_i_i) { goto L_arm_29_i_i238_i_i; } else { p_v_r4_0_i207_i_i = 2u; goto L_arm_1_i28_i_i_i_i_i_i_i; }
-L_arm_29_i_i238_i_i:;
-    v_r87_i_i239_i_i = v_r0_sroa_0_0_copyload_i_i209_i_i + 6;
-    v_r89_i_i240_i_i = get_u8(v_r87_i_i239_i_i);
-    v_cond6_i_i241_i_i = v_r89_i_i240_i_i == 1u;
-    if (v_cond6_i_i241_i_i) { goto L_arm_32_i_i242_i_i; } else { p_v_r4_0_i207_i_i = 2u; goto L_arm_1_i28_i_i_i_i_i_i_i; }
-L_arm_32_i_i242_i_i:;
-    v_r92_i_i243_i_i = v_r0_sroa_0_0_copyload_i_i209_i_i + 7;
-    v_r94_i_i244_i_i = get_u8(v_r92_i_i243_i_i);
-    v_cond7_i_i245_i_i = v_r94_i_i244_i_i == 1u;
-    if (v_cond7_i_i245_i_i) { goto L_arm_35_i_i246_i_i; } else { p_v_r4_0_i207_i_i = 2u; goto L_arm_1_i28_i_i_i_i_i_i_i; }
-L_arm_35_i_i246_i_i:;
-    v_r97_i_i247_i_i = v_r0_sroa_0_0_copyload_i_i209_i_i + 8;
-    v_r99_i_i248_i_i = get_u8(v_r97_i_i247_i_i);
-    v_cond8_i_i249_i_i = v_r99_i_i248_i_i == 9u;
-    if (v_cond8_i_i249_i_i) { goto L_then_5_i250_i_i; } else { p_v_r4_0_i207_i_i = 2u; goto L_arm_1_i28_i_i_i_i_i_i_i; }
-L_then_5_i250_i_i:;
-    v_r18_i251_i_i = v_r3_i + 144;
-    v_r10_sroa_0_0_copyload_i252_i_i = get_u64(v_r18_i251_i_i);
-    v_8 = (u64)((u64)(v_r10_sroa_0_0_copyload_i252_i_i) & (u64)(255u));
-    v_r7_i_i_i253_i_i = v_8 == 4u;
-    if (v_r7_i_i_i253_i_i) { goto L_then_1_i_i254_i_i; } else { p_v_r4_0_i207_i_i = 2u; goto L_arm_1_i28_i_i_i_i_i_i_i; }
-L_then_1_i_i254_i_i:;
-    v_r10_sroa_4_0_r18_sroa_idx_i255_i_i = v_r3_i + 160;
-    v_r10_sroa_4_0_copyload_i256_i_i = get_u64(v_r10_sroa_4_0_r18_sroa_idx_i255_i_i);
-    v_r7_i_i257_not_i_i = v_r10_sroa_4_0_copyload_i256_i_i == 0u;
-    v_9 = v_r7_i_i257_not_i_i ? 0u : 2u;
-    { p_v_r4_0_i207_i_i = v_9; goto L_arm_1_i28_i_i_i_i_i_i_i; }
+    v_r13_i16_i_i = (u1)(((u32)(v_r4_0_i) ^ (u32)(1u)) & 1);
+    v_r1_i171_i_i = (u8)v_r13_i16_i_i;
+    v_r14_i208_i_i = v_r3_i + 136;
+    v_r16_i209_i_i = get_u8(v_r14_i208_i_i);
+    v_7 = v_r16_i209_i_i == 1u;
+    if (v_7) { goto L_arm_1_i211_i_i; } else { p_v_r4_0_i210_i_i = 2u; goto L_arm_1_i28_i_i_i_i_i_i_i; }
+L_arm_1_i211_i_i:;
+    v_r0_sroa_0_0_copyload_i_i212_i_i = get_P(v_r15_i50_i_i);
+    v_r0_sroa_3_0_a0_sroa_idx_i_i213_i_i = v_r3_i + 128;
+    v_r0_sroa_3_0_copyload_i_i214_i_i = get_u64(v_r0_sroa_3_0_a0_sroa_idx_i_i213_i_i);
+    v_r31_i_i215_i_i = v_r0_sroa_3_0_copyload_i_i214_i_i < 4u;
+    if (v_r31_i_i215_i_i) { p_v_r4_0_i210_i_i = 2u; goto L_arm_1_i28_i_i_i_i_i_i_i; } else { goto L_join_5_i_i216_i_i; }
+L_join_5_i_i216_i_i:;
+    v_r38_i_i217_i_i = get_u8(v_r0_sroa_0_0_copyload_i_i212_i_i);
+    v_cond_i_i218_i_i = v_r38_i_i217_i_i == 42u;
+    if (v_cond_i_i218_i_i) { goto L_arm_6_i_i219_i_i; } else { p_v_r4_0_i210_i_i = 2u; goto L_arm_1_i28_i_i_i_i_i_i_i; }
+L_arm_6_i_i219_i_i:;
+    v_r41_i_i220_i_i = v_r0_sroa_0_0_copyload_i_i212_i_i + 1;
+    v_r43_i_i221_i_i = get_u8(v_r41_i_i220_i_i);
+    v_cond1_i_i222_i_i = v_r43_i_i221_i_i == 134u;
+    if (v_cond1_i_i222_i_i) { goto L_arm_9_i_i223_i_i; } else { p_v_r4_0_i210_i_i = 2u; goto L_arm_1_i28_i_i_i_i_i_i_i; }
+L_arm_9_i_i223_i_i:;
+    v_r46_i_i224_i_i = v_r0_sroa_0_0_copyload_i_i212_i_i + 2;
+    v_r48_i_i225_i_i = get_u8(v_r46_i_i224_i_i);
+    v_cond2_i_i226_i_i = v_r48_i_i225_i_i == 72u;
+    if (v_cond2_i_i226_i_i) { goto L_arm_12_i_i227_i_i; } else { p_v_r4_0_i210_i_i = 2u; goto L_arm_1_i28_i_i_i_i_i_i_i; }
+L_arm_12_i_i227_i_i:;
+    v_r51_i_i228_i_i = v_r0_sroa_0_0_copyload_i_i212_i_i + 3;
+    v_r53_i_i229_i_i = get_u8(v_r51_i_i228_i_i);
+    v_cond3_i_i230_i_i = v_r53_i_i229_i_i == 134u;
+    v_r72_i_i231_i_i = v_r0_sroa_3_0_copyload_i_i214_i_i == 9u;
+    v_or_cond_i232_i_i = (u1)(((u32)(v_r72_i_i231_i_i) & (u32)(v_cond3_i_i230_i_i)) & 1);
+    if (v_or_cond_i232_i_i) { goto L_then_23_i_i233_i_i; } else { p_v_r4_0_i210_i_i = 2u; goto L_arm_1_i28_i_i_i_i_i_i_i; }
+L_then_23_i_i233_i_i:;
+    v_r56_i_i234_i_i = v_r0_sroa_0_0_copyload_i_i212_i_i + 4;
+    v_r79_i_i235_i_i = get_u8(v_r56_i_i234_i_i);
+    v_cond4_i_i236_i_i = v_r79_i_i235_i_i == 247u;
+    if (v_cond4_i_i236_i_i) { goto L_arm_26_i_i237_i_i; } else { p_v_r4_0_i210_i_i = 2u; goto L_arm_1_i28_i_i_i_i_i_i_i; }
+L_arm_26_i_i237_i_i:;
+    v_r82_i_i238_i_i = v_r0_sroa_0_0_copyload_i_i212_i_i + 5;
+    v_r84_i_i239_i_i = get_u8(v_r82_i_i238_i_i);
+    v_cond5_i_i240_i_i = v_r84_i_i239_i_i == 13u;
+    if (v_cond5_i_i240_i_i) { goto L_arm_29_i_i241_i_i; } else { p_v_r4_0_i210_i_i = 2u; goto L_arm_1_i28_i_i_i_i_i_i_i; }
+L_arm_29_i_i241_i_i:;
+    v_r87_i_i242_i_i = v_r0_sroa_0_0_copyload_i_i212_i_i + 6;
+    v_r89_i_i243_i_i = get_u8(v_r87_i_i242_i_i);
+    v_cond6_i_i244_i_i = v_r89_i_i243_i_i == 1u;
+    if (v_cond6_i_i244_i_i) { goto L_arm_32_i_i245_i_i; } else { p_v_r4_0_i210_i_i = 2u; goto L_arm_1_i28_i_i_i_i_i_i_i; }
+L_arm_32_i_i245_i_i:;
+    v_r92_i_i246_i_i = v_r0_sroa_0_0_copyload_i_i212_i_i + 7;
+    v_r94_i_i247_i_i = get_u8(v_r92_i_i246_i_i);
+    v_cond7_i_i248_i_i = v_r94_i_i247_i_i == 1u;
+    if (v_cond7_i_i248_i_i) { goto L_arm_35_i_i249_i_i; } else { p_v_r4_0_i210_i_i = 2u; goto L_arm_1_i28_i_i_i_i_i_i_i; }
+L_arm_35_i_i249_i_i:;
+    v_r97_i_i250_i_i = v_r0_sroa_0_0_copyload_i_i212_i_i + 8;
+    v_r99_i_i251_i_i = get_u8(v_r97_i_i250_i_i);
+    v_cond8_i_i252_i_i = v_r99_i_i251_i_i == 9u;
+    if (v_cond8_i_i252_i_i) { goto L_then_5_i253_i_i; } else { p_v_r4_0_i210_i_i = 2u; goto L_arm_1_i28_i_i_i_i_i_i_i; }
+L_then_5_i253_i_i:;
+    v_r18_i254_i_i = v_r3_i + 144;
+    v_r10_sroa_0_0_copyload_i255_i_i = get_u64(v_r18_i254_i_i);
+    v_8 = (u64)((u64)(v_r10_sroa_0_0_copyload_i255_i_i) & (u64)(255u));
+    v_r7_i_i_i256_i_i = v_8 == 4u;
+    if (v_r7_i_i_i256_i_i) { goto L_then_1_i_i257_i_i; } else { p_v_r4_0_i210_i_i = 2u; goto L_arm_1_i28_i_i_i_i_i_i_i; }
+L_then_1_i_i257_i_i:;
+    v_r10_sroa_4_0_r18_sroa_idx_i258_i_i = v_r3_i + 160;
+    v_r10_sroa_4_0_copyload_i259_i_i = get_u64(v_r10_sroa_4_0_r18_sroa_idx_i258_i_i);
+    v_r7_i_i260_not_i_i = v_r10_sroa_4_0_copyload_i259_i_i == 0u;
+    v_9 = v_r7_i_i260_not_i_i ? 0u : 2u;
+    { p_v_r4_0_i210_i_i = v_9; goto L_arm_1_i28_i_i_i_i_i_i_i; }
 L_arm_1_i28_i_i_i_i_i_i_i:;
-    v_r4_0_i207_i_i = p_v_r4_0_i207_i_i;
-    v_r25_i18_i_i = (u8)((u32)(v_r4_0_i207_i_i) | (u32)(v_r1_i168_i_i));
-    v_r22_i8_i_i = (u8)((u32)(v_r25_i18_i_i) << (u32)((1u & 31)));
-    v_r25_i_i_i = (u8)((u32)(v_r22_i8_i_i) | (u32)(v_r6_0_shrunk_i_i_i));
+    v_r4_0_i210_i_i = p_v_r4_0_i210_i_i;
+    v_r25_i21_i_i = (u8)((u32)(v_r4_0_i210_i_i) | (u32)(v_r1_i171_i_i));
+    v_r22_i11_i_i = (u8)((u32)(v_r25_i21_i_i) << (u32)((1u & 31)));
+    v_r25_i_i_i = (u8)((u32)(v_r22_i11_i_i) | (u32)(v_r6_0_shrunk_i_i_i));
     f_der_core_encode_AnyEncode_encoded_len_0e78a23a2762(v_r0_i10_i_i_i_i_i_i_i, v_r13_i, v_r25_i_i_i);
     v_10 = get_u8(v_r0_i10_i_i_i_i_i_i_i);
     v_r5_i11_i_i_i_i_i_i_i = v_r0_i10_i_i_i_i_i_i_i + 1;
@@ -41703,26 +41703,26 @@ L_der_core_encode_AnyEncode_encoded_len_5b6d04bbe0b4:;
     v_r4_0_i_i_i_i_i_i_i_i = p_v_r4_0_i_i_i_i_i_i_i_i;
     v_r5_i_i_i_i_i_i_i_i_i = (u32)((u32)(4294967284ull) - (u32)(v_12));
     v_r7_i_not_i_i_i_i_not_i_i_i_i = v_r4_0_i_i_i_i_i_i_i_i > v_r5_i_i_i_i_i_i_i_i_i;
-    if (v_r7_i_not_i_i_i_i_not_i_i_i_i) { p_v_r5_sroa_0_sroa_5_057_i_i_i = 7u; goto L_arm_1_i28_i_i_i_i33_i_i_i; } else { goto L_arm_1_i_i261_i_i; }
-L_arm_1_i_i261_i_i:;
+    if (v_r7_i_not_i_i_i_i_not_i_i_i_i) { p_v_r5_sroa_0_sroa_5_057_i_i_i = 7u; goto L_arm_1_i28_i_i_i_i33_i_i_i; } else { goto L_arm_1_i_i264_i_i; }
+L_arm_1_i_i264_i_i:;
     v_r11_i_i_i_i_i_i_i_i_i = (u32)((u32)(v_r4_0_i_i_i_i_i_i_i_i) + (u32)(v_r11_i_i_i_i_i_i_i_i_i_i));
     v_r3_i11_i_i_i_i = (u64)v_r11_i_i_i_i_i_i_i_i_i;
-    v_r56_i_i262_i_i = v_a2 < v_r3_i11_i_i_i_i;
-    if (v_r56_i_i262_i_i) { p_v_r5_sroa_0_sroa_5_057_i_i_i = 14u; goto L_arm_1_i28_i_i_i_i33_i_i_i; } else { goto L_arm_1_i_i22_i_i_i_i; }
+    v_r56_i_i265_i_i = v_a2 < v_r3_i11_i_i_i_i;
+    if (v_r56_i_i265_i_i) { p_v_r5_sroa_0_sroa_5_057_i_i_i = 14u; goto L_arm_1_i28_i_i_i_i33_i_i_i; } else { goto L_arm_1_i_i22_i_i_i_i; }
 L_arm_1_i_i22_i_i_i_i:;
-    put_P(v_r7_i_i260_i_i, v_r4);
-    v_r23_sroa_3_0_r7_sroa_idx_i_i_i_i = v_r7_i_i260_i_i + 8;
+    put_P(v_r7_i_i263_i_i, v_r4);
+    v_r23_sroa_3_0_r7_sroa_idx_i_i_i_i = v_r7_i_i263_i_i + 8;
     put_u64(v_r23_sroa_3_0_r7_sroa_idx_i_i_i_i, v_r3_i11_i_i_i_i);
-    v_r23_sroa_4_0_r7_sroa_idx_i_i_i_i = v_r7_i_i260_i_i + 16;
+    v_r23_sroa_4_0_r7_sroa_idx_i_i_i_i = v_r7_i_i263_i_i + 16;
     put_u64(v_r23_sroa_4_0_r7_sroa_idx_i_i_i_i, v_r3_i11_i_i_i_i);
     v_r7_i_i_i_i23_i_i_i_i = v_r25_i_i_i == 0u;
     if (v_r7_i_i_i_i23_i_i_i_i) { p_v_r12_i_i172_i_i_i_i = v_r3_i11_i_i_i_i; p_v_a1_val_i_i_i_i_i_i = v_r3_i11_i_i_i_i; goto L_der_core_borrowed_BorrowedEncode_prepend_a1dae9bb8; } else { goto L_after_1_i_i_i_i_i_i_i_i; }
 L_after_1_i_i_i_i_i_i_i_i:;
     v_14 = (u1)((v_r6_0_shrunk_i_i_i) & 1);
-    v_not32_i_i_i_i_i_not_not_i_i = v_r4_0_i207_i_i == 0u;
+    v_not32_i_i_i_i_i_not_not_i_i = v_r4_0_i210_i_i == 0u;
     if (v_not32_i_i_i_i_i_not_not_i_i) { p_v_a1_val_pre1_i_i_i50_i_i_i = v_r3_i11_i_i_i_i; p_v_a1_val1_pre5_i_i571_i_i_i_i = v_r3_i11_i_i_i_i; goto L_pkcs1_params_fields_FieldThenFields_prepend_cba4d3; } else { goto L_pkcs1_params_fields_FieldRef_prepend_7700fbca592c3; }
 L_pkcs1_params_fields_FieldRef_prepend_7700fbca592c3:;
-    f_spki_core_algorithm_identifier_AlgorithmIdentifier(v_r15_i47_i_i, v_r7_i_i260_i_i);
+    f_spki_core_algorithm_identifier_AlgorithmIdentifier(v_r15_i50_i_i, v_r7_i_i263_i_i);
     v_a1_val_i_i125_i_i_i_i_i_i_i = get_u64(v_r23_sroa_3_0_r7_sroa_idx_i_i_i_i);
     v_a1_val2_i_i126_i_i_i_i_i_i_i = get_u64(v_r23_sroa_4_0_r7_sroa_idx_i_i_i_i);
     v_r17_i_i_i128_i_i_i_i_i_i_i = (u64)((u64)(v_a1_val_i_i125_i_i_i_i_i_i_i) - (u64)(v_a1_val2_i_i126_i_i_i_i_i_i_i));
@@ -41732,7 +41732,7 @@ L_pkcs1_params_fields_FieldRef_prepend_7700fbca592c3:;
 L_then_1_i472_i_i_i_i:;
     v_r64_i473_i_i_i_i = (u16)(v_r17_i_i_i128_i_i_i_i_i_i_i);
     v_r17_i_i477_i_i_i_i = (u64)((u64)(v_a1_val2_i_i126_i_i_i_i_i_i_i) + (u64)(18446744073709551614ull));
-    v_r20_i_i478_i_i_i_i = get_P(v_r7_i_i260_i_i);
+    v_r20_i_i478_i_i_i_i = get_P(v_r7_i_i263_i_i);
     v_r26_i_i479_i_i_i_i = (P)((uintptr_t)v_r20_i_i478_i_i_i_i + (u64)(v_r17_i_i477_i_i_i_i));
     v_r8_i406_sroa_4_0_insert_shift_i_i_i_i = (u16)((u32)(v_r64_i473_i_i_i_i) << (u32)((8u & 31)));
     v_r8_i406_sroa_0_0_insert_insert_i_i_i_i = (u16)((u32)(v_r8_i406_sroa_4_0_insert_shift_i_i_i_i) | (u32)(48u));
@@ -41744,7 +41744,7 @@ L_else_2_i412_i_i_i_i:;
 L_then_4_i463_i_i_i_i:;
     v_r80_i464_i_i_i_i = (u8)(v_r17_i_i_i128_i_i_i_i_i_i_i);
     v_r17_i28_i469_i_i_i_i = (u64)((u64)(v_a1_val2_i_i126_i_i_i_i_i_i_i) + (u64)(18446744073709551613ull));
-    v_r20_i29_i470_i_i_i_i = get_P(v_r7_i_i260_i_i);
+    v_r20_i29_i470_i_i_i_i = get_P(v_r7_i_i263_i_i);
     v_r26_i30_i471_i_i_i_i = (P)((uintptr_t)v_r20_i29_i470_i_i_i_i + (u64)(v_r17_i28_i469_i_i_i_i));
     put_u8(v_r26_i30_i471_i_i_i_i, 48u);
     v_r14_i407_sroa_4_0_r26_i30_i471_sroa_idx_i_i_i_i = v_r26_i30_i471_i_i_i_i + 1;
@@ -41757,7 +41757,7 @@ L_else_5_i414_i_i_i_i:;
     if (v_r92_i415_i_i_i_i) { goto L_then_7_i451_i_i_i_i; } else { goto L_else_8_i416_i_i_i_i; }
 L_then_7_i451_i_i_i_i:;
     v_r17_i46_i459_i_i_i_i = (u64)((u64)(v_a1_val2_i_i126_i_i_i_i_i_i_i) + (u64)(18446744073709551612ull));
-    v_r20_i47_i460_i_i_i_i = get_P(v_r7_i_i260_i_i);
+    v_r20_i47_i460_i_i_i_i = get_P(v_r7_i_i263_i_i);
     v_r26_i48_i461_i_i_i_i = (P)((uintptr_t)v_r20_i47_i460_i_i_i_i + (u64)(v_r17_i46_i459_i_i_i_i));
     v_15 = (u32)((u32)(v_r2_i_i_i129_i_i_i_i_i_i_i) | (u32)(813826048u));
     v_r20_i408_sroa_0_0_insert_insert_i_i_i_i = __builtin_bswap32(v_15);
@@ -41773,7 +41773,7 @@ L_then_10_i436_i_i_i_i:;
     v_r130_i440_i_i_i_i = (u8)(v_r12624_i439525_i_i_i_i);
     v_r134_i441_i_i_i_i = (u8)(v_r17_i_i_i128_i_i_i_i_i_i_i);
     v_r17_i64_i448_i_i_i_i = (u64)((u64)(v_a1_val2_i_i126_i_i_i_i_i_i_i) + (u64)(18446744073709551611ull));
-    v_r20_i65_i449_i_i_i_i = get_P(v_r7_i_i260_i_i);
+    v_r20_i65_i449_i_i_i_i = get_P(v_r7_i_i263_i_i);
     v_r26_i66_i450_i_i_i_i = (P)((uintptr_t)v_r20_i65_i449_i_i_i_i + (u64)(v_r17_i64_i448_i_i_i_i));
     put_u8(v_r26_i66_i450_i_i_i_i, 48u);
     v_r29_i409_sroa_4_0_r26_i66_i450_sroa_idx_i_i_i_i = v_r26_i66_i450_i_i_i_i + 1;
@@ -41794,7 +41794,7 @@ L_else_11_i418_i_i_i_i:;
     v_r164_i424_i_i_i_i = (u8)(v_r16022_i423523_i_i_i_i);
     v_r168_i425_i_i_i_i = (u8)(v_r17_i_i_i128_i_i_i_i_i_i_i);
     v_r17_i82_i433_i_i_i_i = (u64)((u64)(v_a1_val2_i_i126_i_i_i_i_i_i_i) + (u64)(18446744073709551610ull));
-    v_r20_i83_i434_i_i_i_i = get_P(v_r7_i_i260_i_i);
+    v_r20_i83_i434_i_i_i_i = get_P(v_r7_i_i263_i_i);
     v_r26_i84_i435_i_i_i_i = (P)((uintptr_t)v_r20_i83_i434_i_i_i_i + (u64)(v_r17_i82_i433_i_i_i_i));
     put_u8(v_r26_i84_i435_i_i_i_i, 48u);
     v_r40_i410_sroa_4_0_r26_i84_i435_sroa_idx_i_i_i_i = v_r26_i84_i435_i_i_i_i + 1;
@@ -41898,7 +41898,7 @@ L_pkcs1_params_fields_FieldThenFields_prepend_cba4d3:;
     v_a1_val1_pre5_i_i571_i_i_i_i = p_v_a1_val1_pre5_i_i571_i_i_i_i;
     if (v_r4_0_i) { p_v_a1_val_pre1_i_i_i_i_i_i = v_a1_val_pre1_i_i_i50_i_i_i; p_v_a1_val1_pre5_i_i_i_i_i_i = v_a1_val1_pre5_i_i571_i_i_i_i; goto L_pkcs1_params_fields_FieldThenFields_prepend_0ba80a; } else { goto L_pkcs1_params_fields_FieldRef_prepend_7700fbca592c3__2; }
 L_pkcs1_params_fields_FieldRef_prepend_7700fbca592c3__2:;
-    f_spki_core_field_prepend_field_0f274667a4ba0225(1u, v_r12_i46_i_i, v_r7_i_i260_i_i);
+    f_spki_core_field_prepend_field_0f274667a4ba0225(1u, v_r12_i49_i_i, v_r7_i_i263_i_i);
     v_a1_val1_pre5_i_i_pre_i_i_i_i = get_u64(v_r23_sroa_4_0_r7_sroa_idx_i_i_i_i);
     v_a1_val_pre1_i_i_i_pre_i_i_i = get_u64(v_r23_sroa_3_0_r7_sroa_idx_i_i_i_i);
     { p_v_a1_val_pre1_i_i_i_i_i_i = v_a1_val_pre1_i_i_i_pre_i_i_i; p_v_a1_val1_pre5_i_i_i_i_i_i = v_a1_val1_pre5_i_i_pre_i_i_i_i; goto L_pkcs1_params_fields_FieldThenFields_prepend_0ba80a; }
@@ -41908,7 +41908,7 @@ L_pkcs1_params_fields_FieldThenFields_prepend_0ba80a:;
     if (v_14) { goto L_pkcs1_params_fields_FieldRef_prepend_7700fbca592c3__3; } else { p_v_r12_i_i172_i_i_i_i = v_a1_val1_pre5_i_i_i_i_i_i; p_v_a1_val_i_i_i_i_i_i = v_a1_val_pre1_i_i_i_i_i_i; goto L_der_core_borrowed_BorrowedEncode_prepend_a1dae9bb8; }
 L_pkcs1_params_fields_FieldRef_prepend_7700fbca592c3__3:;
     v_r9_i_neg2_i_i216_i_i_i_i_i_i_i = (u64)((u64)(v_a1_val1_pre5_i_i_i_i_i_i) - (u64)(v_a1_val_pre1_i_i_i_i_i_i));
-    f_spki_core_algorithm_identifier_AlgorithmIdentifier(v_r13_i, v_r7_i_i260_i_i);
+    f_spki_core_algorithm_identifier_AlgorithmIdentifier(v_r13_i, v_r7_i_i263_i_i);
     v_a1_val_i_i217_i_i_i_i_i_i_i = get_u64(v_r23_sroa_3_0_r7_sroa_idx_i_i_i_i);
     v_a1_val2_i_i218_i_i_i_i_i_i_i = get_u64(v_r23_sroa_4_0_r7_sroa_idx_i_i_i_i);
     v_neg_i_i219_i_i_i_i_i_i_i = (u64)((u64)(v_a1_val_i_i217_i_i_i_i_i_i_i) + (u64)(v_r9_i_neg2_i_i216_i_i_i_i_i_i_i));
@@ -41919,7 +41919,7 @@ L_pkcs1_params_fields_FieldRef_prepend_7700fbca592c3__3:;
 L_then_1_i320_i_i_i_i:;
     v_r64_i321_i_i_i_i = (u16)(v_r17_i_i_i220_i_i_i_i_i_i_i);
     v_r17_i_i325_i_i_i_i = (u64)((u64)(v_a1_val2_i_i218_i_i_i_i_i_i_i) + (u64)(18446744073709551614ull));
-    v_r20_i_i326_i_i_i_i = get_P(v_r7_i_i260_i_i);
+    v_r20_i_i326_i_i_i_i = get_P(v_r7_i_i263_i_i);
     v_r26_i_i327_i_i_i_i = (P)((uintptr_t)v_r20_i_i326_i_i_i_i + (u64)(v_r17_i_i325_i_i_i_i));
     v_r8_i254_sroa_4_0_insert_shift_i_i_i_i = (u16)((u32)(v_r64_i321_i_i_i_i) << (u32)((8u & 31)));
     v_r8_i254_sroa_0_0_insert_insert_i_i_i_i = (u16)((u32)(v_r8_i254_sroa_4_0_insert_shift_i_i_i_i) | (u32)(48u));
@@ -41931,7 +41931,7 @@ L_else_2_i260_i_i_i_i:;
 L_then_4_i311_i_i_i_i:;
     v_r80_i312_i_i_i_i = (u8)(v_r17_i_i_i220_i_i_i_i_i_i_i);
     v_r17_i28_i317_i_i_i_i = (u64)((u64)(v_a1_val2_i_i218_i_i_i_i_i_i_i) + (u64)(18446744073709551613ull));
-    v_r20_i29_i318_i_i_i_i = get_P(v_r7_i_i260_i_i);
+    v_r20_i29_i318_i_i_i_i = get_P(v_r7_i_i263_i_i);
     v_r26_i30_i319_i_i_i_i = (P)((uintptr_t)v_r20_i29_i318_i_i_i_i + (u64)(v_r17_i28_i317_i_i_i_i));
     put_u8(v_r26_i30_i319_i_i_i_i, 48u);
     v_r14_i255_sroa_4_0_r26_i30_i319_sroa_idx_i_i_i_i = v_r26_i30_i319_i_i_i_i + 1;
@@ -41944,7 +41944,7 @@ L_else_5_i262_i_i_i_i:;
     if (v_r92_i263_i_i_i_i) { goto L_then_7_i299_i_i_i_i; } else { goto L_else_8_i264_i_i_i_i; }
 L_then_7_i299_i_i_i_i:;
     v_r17_i46_i307_i_i_i_i = (u64)((u64)(v_a1_val2_i_i218_i_i_i_i_i_i_i) + (u64)(18446744073709551612ull));
-    v_r20_i47_i308_i_i_i_i = get_P(v_r7_i_i260_i_i);
+    v_r20_i47_i308_i_i_i_i = get_P(v_r7_i_i263_i_i);
     v_r26_i48_i309_i_i_i_i = (P)((uintptr_t)v_r20_i47_i308_i_i_i_i + (u64)(v_r17_i46_i307_i_i_i_i));
     v_17 = (u32)((u32)(v_r2_i_i_i221_i_i_i_i_i_i_i) | (u32)(813826048u));
     v_r20_i256_sroa_0_0_insert_insert_i_i_i_i = __builtin_bswap32(v_17);
@@ -41960,7 +41960,7 @@ L_then_10_i284_i_i_i_i:;
     v_r130_i288_i_i_i_i = (u8)(v_r12624_i287538_i_i_i_i);
     v_r134_i289_i_i_i_i = (u8)(v_r17_i_i_i220_i_i_i_i_i_i_i);
     v_r17_i64_i296_i_i_i_i = (u64)((u64)(v_a1_val2_i_i218_i_i_i_i_i_i_i) + (u64)(18446744073709551611ull));
-    v_r20_i65_i297_i_i_i_i = get_P(v_r7_i_i260_i_i);
+    v_r20_i65_i297_i_i_i_i = get_P(v_r7_i_i263_i_i);
     v_r26_i66_i298_i_i_i_i = (P)((uintptr_t)v_r20_i65_i297_i_i_i_i + (u64)(v_r17_i64_i296_i_i_i_i));
     put_u8(v_r26_i66_i298_i_i_i_i, 48u);
     v_r29_i257_sroa_4_0_r26_i66_i298_sroa_idx_i_i_i_i = v_r26_i66_i298_i_i_i_i + 1;
@@ -41981,7 +41981,7 @@ L_else_11_i266_i_i_i_i:;
     v_r164_i272_i_i_i_i = (u8)(v_r16022_i271536_i_i_i_i);
     v_r168_i273_i_i_i_i = (u8)(v_r17_i_i_i220_i_i_i_i_i_i_i);
     v_r17_i82_i281_i_i_i_i = (u64)((u64)(v_a1_val2_i_i218_i_i_i_i_i_i_i) + (u64)(18446744073709551610ull));
-    v_r20_i83_i282_i_i_i_i = get_P(v_r7_i_i260_i_i);
+    v_r20_i83_i282_i_i_i_i = get_P(v_r7_i_i263_i_i);
     v_r26_i84_i283_i_i_i_i = (P)((uintptr_t)v_r20_i83_i282_i_i_i_i + (u64)(v_r17_i82_i281_i_i_i_i));
     put_u8(v_r26_i84_i283_i_i_i_i, 48u);
     v_r40_i258_sroa_4_0_r26_i84_i283_sroa_idx_i_i_i_i = v_r26_i84_i283_i_i_i_i + 1;
@@ -42086,7 +42086,7 @@ L_der_core_borrowed_BorrowedEncode_prepend_a1dae9bb8:;
 L_then_1_i168_i_i_i_i:;
     v_r64_i169_i_i_i_i = (u16)(v_r17_i_i9_i_i_i_i_i);
     v_r17_i_i173_i_i_i_i = (u64)((u64)(v_r12_i_i172_i_i_i_i) + (u64)(18446744073709551614ull));
-    v_r20_i_i174_i_i_i_i = get_P(v_r7_i_i260_i_i);
+    v_r20_i_i174_i_i_i_i = get_P(v_r7_i_i263_i_i);
     v_r26_i_i175_i_i_i_i = (P)((uintptr_t)v_r20_i_i174_i_i_i_i + (u64)(v_r17_i_i173_i_i_i_i));
     v_r8_i102_sroa_4_0_insert_shift_i_i_i_i = (u16)((u32)(v_r64_i169_i_i_i_i) << (u32)((8u & 31)));
     v_r8_i102_sroa_0_0_insert_insert_i_i_i_i = (u16)((u32)(v_r8_i102_sroa_4_0_insert_shift_i_i_i_i) | (u32)(48u));
@@ -42098,7 +42098,7 @@ L_else_2_i108_i_i_i_i:;
 L_then_4_i159_i_i_i_i:;
     v_r80_i160_i_i_i_i = (u8)(v_r17_i_i9_i_i_i_i_i);
     v_r17_i28_i165_i_i_i_i = (u64)((u64)(v_r12_i_i172_i_i_i_i) + (u64)(18446744073709551613ull));
-    v_r20_i29_i166_i_i_i_i = get_P(v_r7_i_i260_i_i);
+    v_r20_i29_i166_i_i_i_i = get_P(v_r7_i_i263_i_i);
     v_r26_i30_i167_i_i_i_i = (P)((uintptr_t)v_r20_i29_i166_i_i_i_i + (u64)(v_r17_i28_i165_i_i_i_i));
     put_u8(v_r26_i30_i167_i_i_i_i, 48u);
     v_r14_i103_sroa_4_0_r26_i30_i167_sroa_idx_i_i_i_i = v_r26_i30_i167_i_i_i_i + 1;
@@ -42111,7 +42111,7 @@ L_else_5_i110_i_i_i_i:;
     if (v_r92_i111_i_i_i_i) { goto L_then_7_i147_i_i_i_i; } else { goto L_else_8_i112_i_i_i_i; }
 L_then_7_i147_i_i_i_i:;
     v_r17_i46_i155_i_i_i_i = (u64)((u64)(v_r12_i_i172_i_i_i_i) + (u64)(18446744073709551612ull));
-    v_r20_i47_i156_i_i_i_i = get_P(v_r7_i_i260_i_i);
+    v_r20_i47_i156_i_i_i_i = get_P(v_r7_i_i263_i_i);
     v_r26_i48_i157_i_i_i_i = (P)((uintptr_t)v_r20_i47_i156_i_i_i_i + (u64)(v_r17_i46_i155_i_i_i_i));
     v_19 = (u32)((u32)(v_r2_i_i_i_i_i_i_i) | (u32)(813826048u));
     v_r20_i104_sroa_0_0_insert_insert_i_i_i_i = __builtin_bswap32(v_19);
@@ -42127,7 +42127,7 @@ L_then_10_i132_i_i_i_i:;
     v_r130_i136_i_i_i_i = (u8)(v_r12624_i135552_i_i_i_i);
     v_r134_i137_i_i_i_i = (u8)(v_r17_i_i9_i_i_i_i_i);
     v_r17_i64_i144_i_i_i_i = (u64)((u64)(v_r12_i_i172_i_i_i_i) + (u64)(18446744073709551611ull));
-    v_r20_i65_i145_i_i_i_i = get_P(v_r7_i_i260_i_i);
+    v_r20_i65_i145_i_i_i_i = get_P(v_r7_i_i263_i_i);
     v_r26_i66_i146_i_i_i_i = (P)((uintptr_t)v_r20_i65_i145_i_i_i_i + (u64)(v_r17_i64_i144_i_i_i_i));
     put_u8(v_r26_i66_i146_i_i_i_i, 48u);
     v_r29_i105_sroa_4_0_r26_i66_i146_sroa_idx_i_i_i_i = v_r26_i66_i146_i_i_i_i + 1;
@@ -42148,7 +42148,7 @@ L_else_11_i114_i_i_i_i:;
     v_r164_i120_i_i_i_i = (u8)(v_r16022_i119550_i_i_i_i);
     v_r168_i121_i_i_i_i = (u8)(v_r17_i_i9_i_i_i_i_i);
     v_r17_i82_i129_i_i_i_i = (u64)((u64)(v_r12_i_i172_i_i_i_i) + (u64)(18446744073709551610ull));
-    v_r20_i83_i130_i_i_i_i = get_P(v_r7_i_i260_i_i);
+    v_r20_i83_i130_i_i_i_i = get_P(v_r7_i_i263_i_i);
     v_r26_i84_i131_i_i_i_i = (P)((uintptr_t)v_r20_i83_i130_i_i_i_i + (u64)(v_r17_i82_i129_i_i_i_i));
     put_u8(v_r26_i84_i131_i_i_i_i, 48u);
     v_r40_i106_sroa_4_0_r26_i84_i131_sroa_idx_i_i_i_i = v_r26_i84_i131_i_i_i_i + 1;
@@ -42207,7 +42207,7 @@ L_then_1_i_i_i_i_i:;
     v_r8_i_sroa_4_0_insert_shift_i_i_i_i = (u16)((u32)(v_r64_i_i_i_i_i) << (u32)((8u & 31)));
     v_r8_i_sroa_0_0_insert_insert_i_i_i_i = (u16)((u32)(v_r8_i_sroa_4_0_insert_shift_i_i_i_i) | (u32)(48u));
     put_u16(v_r26_i_i_i_i_i_i, v_r8_i_sroa_0_0_insert_insert_i_i_i_i);
-    { goto L_arm_1_i263_i_i; }
+    { goto L_arm_1_i266_i_i; }
 L_else_2_i_i_i_i_i:;
     v_r75_i_i_i_i_i = v_r2_i_i_i_i_i < 256u;
     if (v_r75_i_i_i_i_i) { goto L_then_4_i_i_i_i_i; } else { goto L_else_5_i_i_i_i_i; }
@@ -42219,7 +42219,7 @@ L_then_4_i_i_i_i_i:;
     put_u8(v_r14_i_sroa_4_0_r26_i30_i_sroa_idx_i_i_i_i, 129u);
     v_r14_i_sroa_5_0_r26_i30_i_sroa_idx_i_i_i_i = (P)((uintptr_t)v_r26_i_i99_i_i_i_i + (u64)(-1));
     put_u8(v_r14_i_sroa_5_0_r26_i30_i_sroa_idx_i_i_i_i, v_r80_i_i_i_i_i);
-    { goto L_arm_1_i263_i_i; }
+    { goto L_arm_1_i266_i_i; }
 L_else_5_i_i_i_i_i:;
     v_r92_i_i_i_i_i = v_r2_i_i_i_i_i < 65536u;
     if (v_r92_i_i_i_i_i) { goto L_then_7_i_i_i_i_i; } else { goto L_else_8_i_i_i_i_i; }
@@ -42228,7 +42228,7 @@ L_then_7_i_i_i_i_i:;
     v_21 = (u32)((u32)(v_r2_i_i_i_i_i) | (u32)(813826048u));
     v_r20_i_sroa_0_0_insert_insert_i_i_i_i = __builtin_bswap32(v_21);
     put_u32(v_r26_i48_i_i_i_i_i, v_r20_i_sroa_0_0_insert_insert_i_i_i_i);
-    { goto L_arm_1_i263_i_i; }
+    { goto L_arm_1_i266_i_i; }
 L_else_8_i_i_i_i_i:;
     v_r117_i_i_i_i_i = v_r2_i_i_i_i_i < 16777216u;
     if (v_r117_i_i_i_i_i) { goto L_then_10_i_i_i_i_i; } else { goto L_else_11_i_i_i_i_i; }
@@ -42248,7 +42248,7 @@ L_then_10_i_i_i_i_i:;
     put_u8(v_r29_i_sroa_6_0_r26_i66_i_sroa_idx_i_i_i_i, v_r130_i_i_i_i_i);
     v_r29_i_sroa_7_0_r26_i66_i_sroa_idx_i_i_i_i = (P)((uintptr_t)v_r26_i_i99_i_i_i_i + (u64)(-1));
     put_u8(v_r29_i_sroa_7_0_r26_i66_i_sroa_idx_i_i_i_i, v_r134_i_i_i_i_i);
-    { goto L_arm_1_i263_i_i; }
+    { goto L_arm_1_i266_i_i; }
 L_else_11_i_i_i_i_i:;
     v_r15020_i562_i_i_i_i = (u64)((u64)(v_r9_i25_i_i_i_i) >> (u64)((24u & 63)));
     v_r152_i_i_i_i_i = (u8)(v_r15020_i562_i_i_i_i);
@@ -42269,8 +42269,8 @@ L_else_11_i_i_i_i_i:;
     put_u8(v_r40_i_sroa_7_0_r26_i84_i_sroa_idx_i_i_i_i, v_r164_i_i_i_i_i);
     v_r40_i_sroa_8_0_r26_i84_i_sroa_idx_i_i_i_i = (P)((uintptr_t)v_r26_i_i99_i_i_i_i + (u64)(-1));
     put_u8(v_r40_i_sroa_8_0_r26_i84_i_sroa_idx_i_i_i_i, v_r168_i_i_i_i_i);
-    { goto L_arm_1_i263_i_i; }
-L_arm_1_i263_i_i:;
+    { goto L_arm_1_i266_i_i; }
+L_arm_1_i266_i_i:;
     put_u64(v_a3, v_r3_i11_i_i_i_i);
     { p_v_r6_0_i = 0u; goto L_pkcs1_c_oaep_algorithm_pkcs1_c_oaep_algorithm_enco; }
 L_arm_1_i28_i_i_i_i33_i_i_i:;
@@ -42340,7 +42340,7 @@ L_pkcs1_c_oaep_algorithm_pkcs1_c_oaep_algorithm_enco:;
 u32 pkcs1_c_pss_algorithm_encode(P v_a0, P v_a1, u64 v_a2, P v_a3) {
     ALIGNED(4) unsigned char m_v_r0_i10_i_i_i_i1_i_i_i[8];
     ALIGNED(4) unsigned char m_v_r0_i10_i_i_i_i_i_i_i[8];
-    ALIGNED(8) unsigned char m_v_r7_i_i308_i_i[24];
+    ALIGNED(8) unsigned char m_v_r7_i_i309_i_i[24];
     ALIGNED(8) unsigned char m_v_r3_i[128];
     ALIGNED(8) unsigned char m_v_r5_i[136];
     u8 p_v_r6_0_shrunk_i9_i_i_i;
@@ -42363,7 +42363,7 @@ u32 pkcs1_c_pss_algorithm_encode(P v_a0, P v_a1, u64 v_a2, P v_a3) {
     u32 p_v_r6_0_i;
     P v_r0_i10_i_i_i_i1_i_i_i;
     P v_r0_i10_i_i_i_i_i_i_i;
-    P v_r7_i_i308_i_i;
+    P v_r7_i_i309_i_i;
     P v_r3_i;
     P v_r5_i;
     u1 v_r1;
@@ -42373,7 +42373,7 @@ u32 pkcs1_c_pss_algorithm_encode(P v_a0, P v_a1, u64 v_a2, P v_a3) {
     u1 v_0;
     P v_r13_i;
     P v_r15_i_i_i;
-    P v_r18_i5_i_i;
+    P v_r18_i6_i_i;
     u8 v_r19_i_i_i;
     P v_r14_i_i_i;
     u8 v_r16_i_i_i;
@@ -42396,7 +42396,7 @@ u32 pkcs1_c_pss_algorithm_encode(P v_a0, P v_a1, u64 v_a2, P v_a3) {
     P v_r48_i_i_i_i;
     u8 v_r50_i_i_i_i;
     u1 v_cond4_i_i_i_i;
-    P v_r18_i7_i_i;
+    P v_r18_i8_i_i;
     u64 v_r10_sroa_0_0_copyload_i_i_i;
     u64 v_2;
     u1 v_r7_i_i_i_i_i;
@@ -42472,11 +42472,11 @@ u32 pkcs1_c_pss_algorithm_encode(P v_a0, P v_a1, u64 v_a2, P v_a3) {
     u1 v_r7_i_i_i;
     u1 v_r4_0_i;
     u1 v_r13_i_i_i_i;
-    u8 v_r1_i125_i_i;
+    u8 v_r1_i126_i_i;
     u1 v_r24_i_i_i_not_i_i;
     u8 v_r22_i_i_i_i;
     u8 v_r25_i_i_i_i;
-    u8 v_r22_i4_i_i;
+    u8 v_r22_i5_i_i;
     u8 v_r25_i_i_i;
     u8 v_7;
     P v_r5_i11_i_i_i_i_i_i_i;
@@ -42497,7 +42497,7 @@ u32 pkcs1_c_pss_algorithm_encode(P v_a0, P v_a1, u64 v_a2, P v_a3) {
     u1 v_r7_i_not_i_i_i_i_not_i_i_i_i;
     u32 v_r11_i_i_i_i_i_i_i_i_i;
     u64 v_r3_i11_i_i_i_i;
-    u1 v_r56_i_i310_i_i;
+    u1 v_r56_i_i311_i_i;
     P v_r23_sroa_3_0_r7_sroa_idx_i_i_i_i;
     P v_r23_sroa_4_0_r7_sroa_idx_i_i_i_i;
     u1 v_r7_i_i_i_i23_i_i_i_i;
@@ -42844,7 +42844,7 @@ u32 pkcs1_c_pss_algorithm_encode(P v_a0, P v_a1, u64 v_a2, P v_a3) {
     u32 v_r6_0_i;
     v_r0_i10_i_i_i_i1_i_i_i = m_v_r0_i10_i_i_i_i1_i_i_i;
     v_r0_i10_i_i_i_i_i_i_i = m_v_r0_i10_i_i_i_i_i_i_i;
-    v_r7_i_i308_i_i = m_v_r7_i_i308_i_i;
+    v_r7_i_i309_i_i = m_v_r7_i_i309_i_i;
     v_r3_i = m_v_r3_i;
     v_r5_i = m_v_r5_i;
     v_r1 = v_a1 == (P)0;
@@ -42859,8 +42859,8 @@ L_arm_1_i:;
     v_r13_i = v_r5_i + 8;
     copy(v_r3_i, v_r13_i, 128u);
     v_r15_i_i_i = v_r3_i + 48;
-    v_r18_i5_i_i = v_r3_i + 120;
-    v_r19_i_i_i = get_u8(v_r18_i5_i_i);
+    v_r18_i6_i_i = v_r3_i + 120;
+    v_r19_i_i_i = get_u8(v_r18_i6_i_i);
     v_r14_i_i_i = v_r3_i + 16;
     v_r16_i_i_i = get_u8(v_r14_i_i_i);
     v_1 = v_r16_i_i_i == 1u;
@@ -42896,8 +42896,8 @@ L_arm_18_i_i_i_i:;
     v_cond4_i_i_i_i = v_r50_i_i_i_i == 26u;
     if (v_cond4_i_i_i_i) { goto L_then_5_i_i_i; } else { p_v_r6_0_shrunk_i9_i_i_i = 1u; goto L_arm_1_i28_i_i_i_i_i_i_i; }
 L_then_5_i_i_i:;
-    v_r18_i7_i_i = v_r3_i + 24;
-    v_r10_sroa_0_0_copyload_i_i_i = get_u64(v_r18_i7_i_i);
+    v_r18_i8_i_i = v_r3_i + 24;
+    v_r10_sroa_0_0_copyload_i_i_i = get_u64(v_r18_i8_i_i);
     v_2 = (u64)((u64)(v_r10_sroa_0_0_copyload_i_i_i) & (u64)(255u));
     v_r7_i_i_i_i_i = v_2 == 5u;
     if (v_r7_i_i_i_i_i) { goto L_then_1_i_i_i_i; } else { p_v_r6_0_shrunk_i9_i_i_i = 1u; goto L_arm_1_i28_i_i_i_i_i_i_i; }
@@ -43014,12 +43014,12 @@ L_then_1_i_i_i:;
 L_pkcs1_params_holders_AlgorithmIdentifierOfAlgorith:;
     v_r4_0_i = p_v_r4_0_i;
     v_r13_i_i_i_i = (u1)(((u32)(v_r4_0_i) ^ (u32)(1u)) & 1);
-    v_r1_i125_i_i = (u8)v_r13_i_i_i_i;
+    v_r1_i126_i_i = (u8)v_r13_i_i_i_i;
     v_r24_i_i_i_not_i_i = v_r19_i_i_i == 20u;
     v_r22_i_i_i_i = v_r24_i_i_i_not_i_i ? 0u : 2u;
-    v_r25_i_i_i_i = (u8)((u32)(v_r22_i_i_i_i) | (u32)(v_r1_i125_i_i));
-    v_r22_i4_i_i = (u8)((u32)(v_r25_i_i_i_i) << (u32)((1u & 31)));
-    v_r25_i_i_i = (u8)((u32)(v_r22_i4_i_i) | (u32)(v_r6_0_shrunk_i9_i_i_i));
+    v_r25_i_i_i_i = (u8)((u32)(v_r22_i_i_i_i) | (u32)(v_r1_i126_i_i));
+    v_r22_i5_i_i = (u8)((u32)(v_r25_i_i_i_i) << (u32)((1u & 31)));
+    v_r25_i_i_i = (u8)((u32)(v_r22_i5_i_i) | (u32)(v_r6_0_shrunk_i9_i_i_i));
     f_der_core_encode_AnyEncode_encoded_len_5a57132c6d95(v_r0_i10_i_i_i_i_i_i_i, v_r13_i, v_r25_i_i_i);
     v_7 = get_u8(v_r0_i10_i_i_i_i_i_i_i);
     v_r5_i11_i_i_i_i_i_i_i = v_r0_i10_i_i_i_i_i_i_i + 1;
@@ -43048,17 +43048,17 @@ L_der_core_encode_AnyEncode_encoded_len_c5a9bb47fceb:;
     v_r4_0_i_i_i_i_i_i_i_i = p_v_r4_0_i_i_i_i_i_i_i_i;
     v_r5_i_i_i_i_i_i_i_i_i = (u32)((u32)(4294967284ull) - (u32)(v_9));
     v_r7_i_not_i_i_i_i_not_i_i_i_i = v_r4_0_i_i_i_i_i_i_i_i > v_r5_i_i_i_i_i_i_i_i_i;
-    if (v_r7_i_not_i_i_i_i_not_i_i_i_i) { p_v_r5_sroa_0_sroa_5_054_i_i_i = 7u; goto L_arm_1_i28_i_i_i_i33_i_i_i; } else { goto L_arm_1_i_i309_i_i; }
-L_arm_1_i_i309_i_i:;
+    if (v_r7_i_not_i_i_i_i_not_i_i_i_i) { p_v_r5_sroa_0_sroa_5_054_i_i_i = 7u; goto L_arm_1_i28_i_i_i_i33_i_i_i; } else { goto L_arm_1_i_i310_i_i; }
+L_arm_1_i_i310_i_i:;
     v_r11_i_i_i_i_i_i_i_i_i = (u32)((u32)(v_r4_0_i_i_i_i_i_i_i_i) + (u32)(v_r11_i_i_i_i_i_i_i_i_i_i));
     v_r3_i11_i_i_i_i = (u64)v_r11_i_i_i_i_i_i_i_i_i;
-    v_r56_i_i310_i_i = v_a2 < v_r3_i11_i_i_i_i;
-    if (v_r56_i_i310_i_i) { p_v_r5_sroa_0_sroa_5_054_i_i_i = 14u; goto L_arm_1_i28_i_i_i_i33_i_i_i; } else { goto L_arm_1_i_i22_i_i_i_i; }
+    v_r56_i_i311_i_i = v_a2 < v_r3_i11_i_i_i_i;
+    if (v_r56_i_i311_i_i) { p_v_r5_sroa_0_sroa_5_054_i_i_i = 14u; goto L_arm_1_i28_i_i_i_i33_i_i_i; } else { goto L_arm_1_i_i22_i_i_i_i; }
 L_arm_1_i_i22_i_i_i_i:;
-    put_P(v_r7_i_i308_i_i, v_r4);
-    v_r23_sroa_3_0_r7_sroa_idx_i_i_i_i = v_r7_i_i308_i_i + 8;
+    put_P(v_r7_i_i309_i_i, v_r4);
+    v_r23_sroa_3_0_r7_sroa_idx_i_i_i_i = v_r7_i_i309_i_i + 8;
     put_u64(v_r23_sroa_3_0_r7_sroa_idx_i_i_i_i, v_r3_i11_i_i_i_i);
-    v_r23_sroa_4_0_r7_sroa_idx_i_i_i_i = v_r7_i_i308_i_i + 16;
+    v_r23_sroa_4_0_r7_sroa_idx_i_i_i_i = v_r7_i_i309_i_i + 16;
     put_u64(v_r23_sroa_4_0_r7_sroa_idx_i_i_i_i, v_r3_i11_i_i_i_i);
     v_r7_i_i_i_i23_i_i_i_i = v_r25_i_i_i == 0u;
     if (v_r7_i_i_i_i23_i_i_i_i) { p_v_r12_i_i172_i_i_i_i = v_r3_i11_i_i_i_i; p_v_a1_val_i_i_i_i_i_i = v_r3_i11_i_i_i_i; goto L_der_core_borrowed_BorrowedEncode_prepend_21a19bfcb; } else { goto L_start_split_i_i_i_i_i_i_i_i; }
@@ -43245,7 +43245,7 @@ L_pkcs1_params_fields_FieldThenFields_prepend_0ba80a:;
     v_a1_val1_pre5_i_i735_i_i_i_i = p_v_a1_val1_pre5_i_i735_i_i_i_i;
     if (v_r4_0_i) { p_v_a1_val1_pre5_i_i_i_i_i_i = v_a1_val1_pre5_i_i735_i_i_i_i; p_v_a1_val_pre1_i_i_i_i_i_i = v_r3_i11_i_i_i_i; goto L_pkcs1_params_fields_FieldThenFields_prepend_fa13de; } else { goto L_pkcs1_params_fields_FieldRef_prepend_7700fbca592c3__2; }
 L_pkcs1_params_fields_FieldRef_prepend_7700fbca592c3__2:;
-    f_spki_core_field_prepend_field_0f274667a4ba0225(1u, v_r15_i_i_i, v_r7_i_i308_i_i);
+    f_spki_core_field_prepend_field_0f274667a4ba0225(1u, v_r15_i_i_i, v_r7_i_i309_i_i);
     v_a1_val_pre1_i_i_pre_i_i_i_i = get_u64(v_r23_sroa_3_0_r7_sroa_idx_i_i_i_i);
     v_a1_val1_pre5_i_i_pre_i_i_i_i = get_u64(v_r23_sroa_4_0_r7_sroa_idx_i_i_i_i);
     { p_v_a1_val1_pre5_i_i_i_i_i_i = v_a1_val1_pre5_i_i_pre_i_i_i_i; p_v_a1_val_pre1_i_i_i_i_i_i = v_a1_val_pre1_i_i_pre_i_i_i_i; goto L_pkcs1_params_fields_FieldThenFields_prepend_fa13de; }
@@ -43255,7 +43255,7 @@ L_pkcs1_params_fields_FieldThenFields_prepend_fa13de:;
     if (v_11) { goto L_pkcs1_params_fields_FieldRef_prepend_7700fbca592c3__3; } else { p_v_r12_i_i172_i_i_i_i = v_a1_val1_pre5_i_i_i_i_i_i; p_v_a1_val_i_i_i_i_i_i = v_a1_val_pre1_i_i_i_i_i_i; goto L_der_core_borrowed_BorrowedEncode_prepend_21a19bfcb; }
 L_pkcs1_params_fields_FieldRef_prepend_7700fbca592c3__3:;
     v_r9_i_neg2_i_i202_i_i_i_i_i_i_i = (u64)((u64)(v_a1_val1_pre5_i_i_i_i_i_i) - (u64)(v_a1_val_pre1_i_i_i_i_i_i));
-    f_spki_core_algorithm_identifier_AlgorithmIdentifier(v_r13_i, v_r7_i_i308_i_i);
+    f_spki_core_algorithm_identifier_AlgorithmIdentifier(v_r13_i, v_r7_i_i309_i_i);
     v_a1_val_i_i203_i_i_i_i_i_i_i = get_u64(v_r23_sroa_3_0_r7_sroa_idx_i_i_i_i);
     v_a1_val2_i_i204_i_i_i_i_i_i_i = get_u64(v_r23_sroa_4_0_r7_sroa_idx_i_i_i_i);
     v_neg_i_i205_i_i_i_i_i_i_i = (u64)((u64)(v_a1_val_i_i203_i_i_i_i_i_i_i) + (u64)(v_r9_i_neg2_i_i202_i_i_i_i_i_i_i));
@@ -43266,7 +43266,7 @@ L_pkcs1_params_fields_FieldRef_prepend_7700fbca592c3__3:;
 L_then_1_i320_i_i_i_i:;
     v_r64_i321_i_i_i_i = (u16)(v_r17_i_i_i206_i_i_i_i_i_i_i);
     v_r17_i_i325_i_i_i_i = (u64)((u64)(v_a1_val2_i_i204_i_i_i_i_i_i_i) + (u64)(18446744073709551614ull));
-    v_r20_i_i326_i_i_i_i = get_P(v_r7_i_i308_i_i);
+    v_r20_i_i326_i_i_i_i = get_P(v_r7_i_i309_i_i);
     v_r26_i_i327_i_i_i_i = (P)((uintptr_t)v_r20_i_i326_i_i_i_i + (u64)(v_r17_i_i325_i_i_i_i));
     v_r8_i254_sroa_4_0_insert_shift_i_i_i_i = (u16)((u32)(v_r64_i321_i_i_i_i) << (u32)((8u & 31)));
     v_r8_i254_sroa_0_0_insert_insert_i_i_i_i = (u16)((u32)(v_r8_i254_sroa_4_0_insert_shift_i_i_i_i) | (u32)(48u));
@@ -43278,7 +43278,7 @@ L_else_2_i260_i_i_i_i:;
 L_then_4_i311_i_i_i_i:;
     v_r80_i312_i_i_i_i = (u8)(v_r17_i_i_i206_i_i_i_i_i_i_i);
     v_r17_i28_i317_i_i_i_i = (u64)((u64)(v_a1_val2_i_i204_i_i_i_i_i_i_i) + (u64)(18446744073709551613ull));
-    v_r20_i29_i318_i_i_i_i = get_P(v_r7_i_i308_i_i);
+    v_r20_i29_i318_i_i_i_i = get_P(v_r7_i_i309_i_i);
     v_r26_i30_i319_i_i_i_i = (P)((uintptr_t)v_r20_i29_i318_i_i_i_i + (u64)(v_r17_i28_i317_i_i_i_i));
     put_u8(v_r26_i30_i319_i_i_i_i, 48u);
     v_r14_i255_sroa_4_0_r26_i30_i319_sroa_idx_i_i_i_i = v_r26_i30_i319_i_i_i_i + 1;
@@ -43291,7 +43291,7 @@ L_else_5_i262_i_i_i_i:;
     if (v_r92_i263_i_i_i_i) { goto L_then_7_i299_i_i_i_i; } else { goto L_else_8_i264_i_i_i_i; }
 L_then_7_i299_i_i_i_i:;
     v_r17_i46_i307_i_i_i_i = (u64)((u64)(v_a1_val2_i_i204_i_i_i_i_i_i_i) + (u64)(18446744073709551612ull));
-    v_r20_i47_i308_i_i_i_i = get_P(v_r7_i_i308_i_i);
+    v_r20_i47_i308_i_i_i_i = get_P(v_r7_i_i309_i_i);
     v_r26_i48_i309_i_i_i_i = (P)((uintptr_t)v_r20_i47_i308_i_i_i_i + (u64)(v_r17_i46_i307_i_i_i_i));
     v_14 = (u32)((u32)(v_r2_i_i_i207_i_i_i_i_i_i_i) | (u32)(813826048u));
     v_r20_i256_sroa_0_0_insert_insert_i_i_i_i = __builtin_bswap32(v_14);
@@ -43307,7 +43307,7 @@ L_then_10_i284_i_i_i_i:;
     v_r130_i288_i_i_i_i = (u8)(v_r12624_i287699_i_i_i_i);
     v_r134_i289_i_i_i_i = (u8)(v_r17_i_i_i206_i_i_i_i_i_i_i);
     v_r17_i64_i296_i_i_i_i = (u64)((u64)(v_a1_val2_i_i204_i_i_i_i_i_i_i) + (u64)(18446744073709551611ull));
-    v_r20_i65_i297_i_i_i_i = get_P(v_r7_i_i308_i_i);
+    v_r20_i65_i297_i_i_i_i = get_P(v_r7_i_i309_i_i);
     v_r26_i66_i298_i_i_i_i = (P)((uintptr_t)v_r20_i65_i297_i_i_i_i + (u64)(v_r17_i64_i296_i_i_i_i));
     put_u8(v_r26_i66_i298_i_i_i_i, 48u);
     v_r29_i257_sroa_4_0_r26_i66_i298_sroa_idx_i_i_i_i = v_r26_i66_i298_i_i_i_i + 1;
@@ -43328,7 +43328,7 @@ L_else_11_i266_i_i_i_i:;
     v_r164_i272_i_i_i_i = (u8)(v_r16022_i271697_i_i_i_i);
     v_r168_i273_i_i_i_i = (u8)(v_r17_i_i_i206_i_i_i_i_i_i_i);
     v_r17_i82_i281_i_i_i_i = (u64)((u64)(v_a1_val2_i_i204_i_i_i_i_i_i_i) + (u64)(18446744073709551610ull));
-    v_r20_i83_i282_i_i_i_i = get_P(v_r7_i_i308_i_i);
+    v_r20_i83_i282_i_i_i_i = get_P(v_r7_i_i309_i_i);
     v_r26_i84_i283_i_i_i_i = (P)((uintptr_t)v_r20_i83_i282_i_i_i_i + (u64)(v_r17_i82_i281_i_i_i_i));
     put_u8(v_r26_i84_i283_i_i_i_i, 48u);
     v_r40_i258_sroa_4_0_r26_i84_i283_sroa_idx_i_i_i_i = v_r26_i84_i283_i_i_i_i + 1;
@@ -43433,7 +43433,7 @@ L_der_core_borrowed_BorrowedEncode_prepend_21a19bfcb:;
 L_then_1_i168_i_i_i_i:;
     v_r64_i169_i_i_i_i = (u16)(v_r17_i_i9_i_i_i_i_i);
     v_r17_i_i173_i_i_i_i = (u64)((u64)(v_r12_i_i172_i_i_i_i) + (u64)(18446744073709551614ull));
-    v_r20_i_i174_i_i_i_i = get_P(v_r7_i_i308_i_i);
+    v_r20_i_i174_i_i_i_i = get_P(v_r7_i_i309_i_i);
     v_r26_i_i175_i_i_i_i = (P)((uintptr_t)v_r20_i_i174_i_i_i_i + (u64)(v_r17_i_i173_i_i_i_i));
     v_r8_i102_sroa_4_0_insert_shift_i_i_i_i = (u16)((u32)(v_r64_i169_i_i_i_i) << (u32)((8u & 31)));
     v_r8_i102_sroa_0_0_insert_insert_i_i_i_i = (u16)((u32)(v_r8_i102_sroa_4_0_insert_shift_i_i_i_i) | (u32)(48u));
@@ -43445,7 +43445,7 @@ L_else_2_i108_i_i_i_i:;
 L_then_4_i159_i_i_i_i:;
     v_r80_i160_i_i_i_i = (u8)(v_r17_i_i9_i_i_i_i_i);
     v_r17_i28_i165_i_i_i_i = (u64)((u64)(v_r12_i_i172_i_i_i_i) + (u64)(18446744073709551613ull));
-    v_r20_i29_i166_i_i_i_i = get_P(v_r7_i_i308_i_i);
+    v_r20_i29_i166_i_i_i_i = get_P(v_r7_i_i309_i_i);
     v_r26_i30_i167_i_i_i_i = (P)((uintptr_t)v_r20_i29_i166_i_i_i_i + (u64)(v_r17_i28_i165_i_i_i_i));
     put_u8(v_r26_i30_i167_i_i_i_i, 48u);
     v_r14_i103_sroa_4_0_r26_i30_i167_sroa_idx_i_i_i_i = v_r26_i30_i167_i_i_i_i + 1;
@@ -43458,7 +43458,7 @@ L_else_5_i110_i_i_i_i:;
     if (v_r92_i111_i_i_i_i) { goto L_then_7_i147_i_i_i_i; } else { goto L_else_8_i112_i_i_i_i; }
 L_then_7_i147_i_i_i_i:;
     v_r17_i46_i155_i_i_i_i = (u64)((u64)(v_r12_i_i172_i_i_i_i) + (u64)(18446744073709551612ull));
-    v_r20_i47_i156_i_i_i_i = get_P(v_r7_i_i308_i_i);
+    v_r20_i47_i156_i_i_i_i = get_P(v_r7_i_i309_i_i);
     v_r26_i48_i157_i_i_i_i = (P)((uintptr_t)v_r20_i47_i156_i_i_i_i + (u64)(v_r17_i46_i155_i_i_i_i));
     v_16 = (u32)((u32)(v_r2_i_i_i_i_i_i_i) | (u32)(813826048u));
     v_r20_i104_sroa_0_0_insert_insert_i_i_i_i = __builtin_bswap32(v_16);
@@ -43474,7 +43474,7 @@ L_then_10_i132_i_i_i_i:;
     v_r130_i136_i_i_i_i = (u8)(v_r12624_i135713_i_i_i_i);
     v_r134_i137_i_i_i_i = (u8)(v_r17_i_i9_i_i_i_i_i);
     v_r17_i64_i144_i_i_i_i = (u64)((u64)(v_r12_i_i172_i_i_i_i) + (u64)(18446744073709551611ull));
-    v_r20_i65_i145_i_i_i_i = get_P(v_r7_i_i308_i_i);
+    v_r20_i65_i145_i_i_i_i = get_P(v_r7_i_i309_i_i);
     v_r26_i66_i146_i_i_i_i = (P)((uintptr_t)v_r20_i65_i145_i_i_i_i + (u64)(v_r17_i64_i144_i_i_i_i));
     put_u8(v_r26_i66_i146_i_i_i_i, 48u);
     v_r29_i105_sroa_4_0_r26_i66_i146_sroa_idx_i_i_i_i = v_r26_i66_i146_i_i_i_i + 1;
@@ -43495,7 +43495,7 @@ L_else_11_i114_i_i_i_i:;
     v_r164_i120_i_i_i_i = (u8)(v_r16022_i119711_i_i_i_i);
     v_r168_i121_i_i_i_i = (u8)(v_r17_i_i9_i_i_i_i_i);
     v_r17_i82_i129_i_i_i_i = (u64)((u64)(v_r12_i_i172_i_i_i_i) + (u64)(18446744073709551610ull));
-    v_r20_i83_i130_i_i_i_i = get_P(v_r7_i_i308_i_i);
+    v_r20_i83_i130_i_i_i_i = get_P(v_r7_i_i309_i_i);
     v_r26_i84_i131_i_i_i_i = (P)((uintptr_t)v_r20_i83_i130_i_i_i_i + (u64)(v_r17_i82_i129_i_i_i_i));
     put_u8(v_r26_i84_i131_i_i_i_i, 48u);
     v_r40_i106_sroa_4_0_r26_i84_i131_sroa_idx_i_i_i_i = v_r26_i84_i131_i_i_i_i + 1;
@@ -43554,7 +43554,7 @@ L_then_1_i_i_i_i_i:;
     v_r8_i_sroa_4_0_insert_shift_i_i_i_i = (u16)((u32)(v_r64_i_i_i_i_i) << (u32)((8u & 31)));
     v_r8_i_sroa_0_0_insert_insert_i_i_i_i = (u16)((u32)(v_r8_i_sroa_4_0_insert_shift_i_i_i_i) | (u32)(48u));
     put_u16(v_r26_i_i_i_i_i_i, v_r8_i_sroa_0_0_insert_insert_i_i_i_i);
-    { goto L_arm_1_i311_i_i; }
+    { goto L_arm_1_i312_i_i; }
 L_else_2_i_i_i_i_i:;
     v_r75_i_i_i_i_i = v_r2_i_i_i_i_i < 256u;
     if (v_r75_i_i_i_i_i) { goto L_then_4_i_i_i_i_i; } else { goto L_else_5_i_i_i_i_i; }
@@ -43566,7 +43566,7 @@ L_then_4_i_i_i_i_i:;
     put_u8(v_r14_i_sroa_4_0_r26_i30_i_sroa_idx_i_i_i_i, 129u);
     v_r14_i_sroa_5_0_r26_i30_i_sroa_idx_i_i_i_i = (P)((uintptr_t)v_r26_i_i99_i_i_i_i + (u64)(-1));
     put_u8(v_r14_i_sroa_5_0_r26_i30_i_sroa_idx_i_i_i_i, v_r80_i_i_i_i_i);
-    { goto L_arm_1_i311_i_i; }
+    { goto L_arm_1_i312_i_i; }
 L_else_5_i_i_i_i_i:;
     v_r92_i_i_i_i_i = v_r2_i_i_i_i_i < 65536u;
     if (v_r92_i_i_i_i_i) { goto L_then_7_i_i_i_i_i; } else { goto L_else_8_i_i_i_i_i; }
@@ -43575,7 +43575,7 @@ L_then_7_i_i_i_i_i:;
     v_18 = (u32)((u32)(v_r2_i_i_i_i_i) | (u32)(813826048u));
     v_r20_i_sroa_0_0_insert_insert_i_i_i_i = __builtin_bswap32(v_18);
     put_u32(v_r26_i48_i_i_i_i_i, v_r20_i_sroa_0_0_insert_insert_i_i_i_i);
-    { goto L_arm_1_i311_i_i; }
+    { goto L_arm_1_i312_i_i; }
 L_else_8_i_i_i_i_i:;
     v_r117_i_i_i_i_i = v_r2_i_i_i_i_i < 16777216u;
     if (v_r117_i_i_i_i_i) { goto L_then_10_i_i_i_i_i; } else { goto L_else_11_i_i_i_i_i; }
@@ -43595,7 +43595,7 @@ L_then_10_i_i_i_i_i:;
     put_u8(v_r29_i_sroa_6_0_r26_i66_i_sroa_idx_i_i_i_i, v_r130_i_i_i_i_i);
     v_r29_i_sroa_7_0_r26_i66_i_sroa_idx_i_i_i_i = (P)((uintptr_t)v_r26_i_i99_i_i_i_i + (u64)(-1));
     put_u8(v_r29_i_sroa_7_0_r26_i66_i_sroa_idx_i_i_i_i, v_r134_i_i_i_i_i);
-    { goto L_arm_1_i311_i_i; }
+    { goto L_arm_1_i312_i_i; }
 L_else_11_i_i_i_i_i:;
     v_r15020_i723_i_i_i_i = (u64)((u64)(v_r9_i25_i_i_i_i) >> (u64)((24u & 63)));
     v_r152_i_i_i_i_i = (u8)(v_r15020_i723_i_i_i_i);
@@ -43616,8 +43616,8 @@ L_else_11_i_i_i_i_i:;
     put_u8(v_r40_i_sroa_7_0_r26_i84_i_sroa_idx_i_i_i_i, v_r164_i_i_i_i_i);
     v_r40_i_sroa_8_0_r26_i84_i_sroa_idx_i_i_i_i = (P)((uintptr_t)v_r26_i_i99_i_i_i_i + (u64)(-1));
     put_u8(v_r40_i_sroa_8_0_r26_i84_i_sroa_idx_i_i_i_i, v_r168_i_i_i_i_i);
-    { goto L_arm_1_i311_i_i; }
-L_arm_1_i311_i_i:;
+    { goto L_arm_1_i312_i_i; }
+L_arm_1_i312_i_i:;
     put_u64(v_a3, v_r3_i11_i_i_i_i);
     { p_v_r6_0_i = 0u; goto L_pkcs1_c_pss_algorithm_pkcs1_c_pss_algorithm_encode; }
 L_arm_1_i28_i_i_i_i33_i_i_i:;
@@ -43685,12 +43685,12 @@ L_pkcs1_c_pss_algorithm_pkcs1_c_pss_algorithm_encode:;
     return v_r6_0_i;
 }
 u32 pkcs1_c_oaep_params_encode(P v_a0, P v_a1, u64 v_a2, P v_a3) {
-    ALIGNED(4) unsigned char m_v_r1_i224_i_i[8];
+    ALIGNED(4) unsigned char m_v_r1_i273_i_i[8];
     ALIGNED(4) unsigned char m_v_r7_i126_i_i_i_i_i_i_i[8];
     ALIGNED(8) unsigned char m_v_r7_i255_i_i_i[24];
     ALIGNED(8) unsigned char m_v_r3_i[168];
     ALIGNED(8) unsigned char m_v_r5_i[176];
-    u1 p_v_r6_0_shrunk_i_i5_i_i;
+    u1 p_v_r6_0_shrunk_i_i54_i_i;
     u1 p_v_r4_0_i;
     u8 p_v_r4_0_i202_i_i_i;
     u32 p_v_r4_0_i_i_i_i_i_i_i_i_i294_i_i_i_i_i_i_i;
@@ -43727,10 +43727,10 @@ u32 pkcs1_c_oaep_params_encode(P v_a0, P v_a1, u64 v_a2, P v_a3) {
     u64 p_v_r7_val5_i_i_i_i;
     u64 p_v_r7_val_i_i_i_i;
     u8 p_v_r13_sroa_0_sroa_5_0_ph_i_i_i;
-    u8 p_v_r6_0_shrunk_i_i_i_i;
-    u8 p_v_r4_0_i171_i_i;
+    u8 p_v_r6_0_shrunk_i_i_i;
+    u8 p_v_r4_0_i220_i_i;
     u32 p_v_r6_0_i;
-    P v_r1_i224_i_i;
+    P v_r1_i273_i_i;
     P v_r7_i126_i_i_i_i_i_i_i;
     P v_r7_i255_i_i_i;
     P v_r3_i;
@@ -43771,7 +43771,7 @@ u32 pkcs1_c_oaep_params_encode(P v_a0, P v_a1, u64 v_a2, P v_a3) {
     P v_r10_sroa_4_0_r18_sroa_idx_i_i_i_i;
     u64 v_r10_sroa_4_0_copyload_i_i_i_i;
     u1 v_r7_i_i_i_i_i;
-    u1 v_r6_0_shrunk_i_i5_i_i;
+    u1 v_r6_0_shrunk_i_i54_i_i;
     P v_r10_i;
     u8 v_r12_i1;
     u1 v_3;
@@ -43833,7 +43833,7 @@ u32 pkcs1_c_oaep_params_encode(P v_a0, P v_a1, u64 v_a2, P v_a3) {
     P v_r18_i_i;
     u64 v_r10_sroa_0_0_copyload_i_i;
     u64 v_5;
-    u1 v_r7_i_i_i_i;
+    u1 v_r7_i_i_i_i5;
     P v_r10_sroa_4_0_r18_sroa_idx_i_i;
     u64 v_r10_sroa_4_0_copyload_i_i;
     u1 v_r7_i_i_i;
@@ -43884,7 +43884,7 @@ u32 pkcs1_c_oaep_params_encode(P v_a0, P v_a1, u64 v_a2, P v_a3) {
     u8 v_r4_0_i202_i_i_i;
     u1 v_r25_i13322_demorgan_i_i_i;
     u1 v_r25_i13322_i_i_i;
-    u8 v_r25_i13_i7_i_i;
+    u8 v_r25_i13_i_i_i;
     u8 v_9;
     u1 v_10;
     u1 v_not749_i_i_i_i_not_not_not_i_i_i;
@@ -44018,7 +44018,7 @@ u32 pkcs1_c_oaep_params_encode(P v_a0, P v_a1, u64 v_a2, P v_a3) {
     u8 v_r5_sroa_4_0_i_i714_i_i_i_i_i_i_i;
     u32 v_r5_sroa_10_0_i_i715_i_i_i_i_i_i_i;
     u1 v_not750_i_i_i_i_i_i_i;
-    u8 v_spec_select263_i_i;
+    u8 v_spec_select315_i_i;
     u32 v_r0_sroa_13_0_i_i_i_i_i_i_i;
     u8 v_r0_sroa_4_0_i_i_i_i_i_i_i;
     u8 v_r0_sroa_0_0_i_i_i_i_i_i_i;
@@ -44317,64 +44317,64 @@ u32 pkcs1_c_oaep_params_encode(P v_a0, P v_a1, u64 v_a2, P v_a3) {
     P v_r48_i_i_i_i;
     u8 v_r50_i_i_i_i;
     u1 v_cond4_i_i_i_i;
-    P v_r18_i12_i_i;
+    P v_r18_i62_i_i;
     u64 v_r10_sroa_0_0_copyload_i_i_i;
     u64 v_28;
-    u1 v_r7_i_i_i13_i_i;
+    u1 v_r7_i_i_i63_i_i;
     P v_r10_sroa_4_0_r18_sroa_idx_i_i_i;
     u64 v_r10_sroa_4_0_copyload_i_i_i;
-    u1 v_r7_i_i14_i_i;
+    u1 v_r7_i_i_i_i;
     u8 v_29;
-    u8 v_r6_0_shrunk_i_i_i_i;
-    u1 v_r13_i8_i_i_i;
-    u8 v_r1_i132_i_i;
-    P v_r0_sroa_0_0_copyload_i_i173_i_i;
-    P v_r0_sroa_3_0_a0_sroa_idx_i_i174_i_i;
-    u64 v_r0_sroa_3_0_copyload_i_i175_i_i;
-    u1 v_r31_i_i176_i_i;
-    u8 v_r38_i_i178_i_i;
-    u1 v_cond_i_i179_i_i;
-    P v_r41_i_i181_i_i;
-    u8 v_r43_i_i182_i_i;
-    u1 v_cond1_i_i183_i_i;
-    P v_r46_i_i185_i_i;
-    u8 v_r48_i_i186_i_i;
-    u1 v_cond2_i_i187_i_i;
-    P v_r51_i_i189_i_i;
-    u8 v_r53_i_i190_i_i;
-    u1 v_cond3_i_i191_i_i;
-    u1 v_r72_i_i192_i_i;
-    u1 v_or_cond_i193_i_i;
-    P v_r56_i_i195_i_i;
-    u8 v_r79_i_i196_i_i;
-    u1 v_cond4_i_i197_i_i;
-    P v_r82_i_i199_i_i;
-    u8 v_r84_i_i200_i_i;
-    u1 v_cond5_i_i201_i_i;
-    P v_r87_i_i203_i_i;
-    u8 v_r89_i_i204_i_i;
-    u1 v_cond6_i_i205_i_i;
-    P v_r92_i_i207_i_i;
-    u8 v_r94_i_i208_i_i;
-    u1 v_cond7_i_i209_i_i;
-    P v_r97_i_i211_i_i;
-    u8 v_r99_i_i212_i_i;
-    u1 v_cond8_i_i213_i_i;
-    P v_r18_i215_i_i;
-    u64 v_r10_sroa_0_0_copyload_i216_i_i;
+    u8 v_r6_0_shrunk_i_i_i;
+    u1 v_r13_i9_i_i;
+    u8 v_r1_i181_i_i;
+    P v_r0_sroa_0_0_copyload_i_i222_i_i;
+    P v_r0_sroa_3_0_a0_sroa_idx_i_i223_i_i;
+    u64 v_r0_sroa_3_0_copyload_i_i224_i_i;
+    u1 v_r31_i_i225_i_i;
+    u8 v_r38_i_i227_i_i;
+    u1 v_cond_i_i228_i_i;
+    P v_r41_i_i230_i_i;
+    u8 v_r43_i_i231_i_i;
+    u1 v_cond1_i_i232_i_i;
+    P v_r46_i_i234_i_i;
+    u8 v_r48_i_i235_i_i;
+    u1 v_cond2_i_i236_i_i;
+    P v_r51_i_i238_i_i;
+    u8 v_r53_i_i239_i_i;
+    u1 v_cond3_i_i240_i_i;
+    u1 v_r72_i_i241_i_i;
+    u1 v_or_cond_i242_i_i;
+    P v_r56_i_i244_i_i;
+    u8 v_r79_i_i245_i_i;
+    u1 v_cond4_i_i246_i_i;
+    P v_r82_i_i248_i_i;
+    u8 v_r84_i_i249_i_i;
+    u1 v_cond5_i_i250_i_i;
+    P v_r87_i_i252_i_i;
+    u8 v_r89_i_i253_i_i;
+    u1 v_cond6_i_i254_i_i;
+    P v_r92_i_i256_i_i;
+    u8 v_r94_i_i257_i_i;
+    u1 v_cond7_i_i258_i_i;
+    P v_r97_i_i260_i_i;
+    u8 v_r99_i_i261_i_i;
+    u1 v_cond8_i_i262_i_i;
+    P v_r18_i264_i_i;
+    u64 v_r10_sroa_0_0_copyload_i265_i_i;
     u64 v_30;
-    u1 v_r7_i_i_i217_i_i;
-    P v_r10_sroa_4_0_r18_sroa_idx_i219_i_i;
-    u64 v_r10_sroa_4_0_copyload_i220_i_i;
-    u1 v_r7_i_i221_not_i_i;
+    u1 v_r7_i_i_i266_i_i;
+    P v_r10_sroa_4_0_r18_sroa_idx_i268_i_i;
+    u64 v_r10_sroa_4_0_copyload_i269_i_i;
+    u1 v_r7_i_i270_not_i_i;
     u8 v_31;
-    u8 v_r4_0_i171_i_i;
-    u8 v_r25_i13_i_i_i;
-    u8 v_r22_i_i_i_i;
-    u8 v_r25_i_i_i_i;
+    u8 v_r4_0_i220_i_i;
+    u8 v_r25_i14_i_i;
+    u8 v_r22_i_i_i;
+    u8 v_r25_i_i_i;
     u8 v_r3_i_i_i;
     u1 v_32;
-    P v_r4_i_i_i;
+    P v_r4_i275_i_i;
     u32 v_r0_sroa_0_0_copyload_i_i_i;
     u64 v_r3_i_i_i_i;
     u32 v_switch_idx_cast_i_i_i_i;
@@ -44386,7 +44386,7 @@ u32 pkcs1_c_oaep_params_encode(P v_a0, P v_a1, u64 v_a2, P v_a3) {
     u32 v_switch_idx_cast_i_i_i;
     u32 v_switch_offset_i_i_i;
     u32 v_r6_0_i;
-    v_r1_i224_i_i = m_v_r1_i224_i_i;
+    v_r1_i273_i_i = m_v_r1_i273_i_i;
     v_r7_i126_i_i_i_i_i_i_i = m_v_r7_i126_i_i_i_i_i_i_i;
     v_r7_i255_i_i_i = m_v_r7_i255_i_i_i;
     v_r3_i = m_v_r3_i;
@@ -44407,50 +44407,50 @@ L_arm_1_i:;
     v_r14_i43_i_i_i = v_r3_i + 16;
     v_r16_i44_i_i_i = get_u8(v_r14_i43_i_i_i);
     v_1 = v_r16_i44_i_i_i == 1u;
-    if (v_1) { goto L_arm_1_i45_i_i_i; } else { p_v_r6_0_shrunk_i_i5_i_i = 0u; goto L_arm_5_i_i16_i4_i_i; }
+    if (v_1) { goto L_arm_1_i45_i_i_i; } else { p_v_r6_0_shrunk_i_i54_i_i = 0u; goto L_arm_5_i_i16_i_i_i; }
 L_arm_1_i45_i_i_i:;
     v_r0_sroa_0_0_copyload_i_i_i_i_i = get_P(v_r3_i);
     v_r0_sroa_3_0_a0_sroa_idx_i_i_i_i_i = v_r3_i + 8;
     v_r0_sroa_3_0_copyload_i_i_i_i_i = get_u64(v_r0_sroa_3_0_a0_sroa_idx_i_i_i_i_i);
     v_r23_i_i_i_i_i = v_r0_sroa_3_0_copyload_i_i_i_i_i == 5u;
-    if (v_r23_i_i_i_i_i) { goto L_then_6_i_i_i_i_i; } else { p_v_r6_0_shrunk_i_i5_i_i = 0u; goto L_arm_5_i_i16_i4_i_i; }
+    if (v_r23_i_i_i_i_i) { goto L_then_6_i_i_i_i_i; } else { p_v_r6_0_shrunk_i_i54_i_i = 0u; goto L_arm_5_i_i16_i_i_i; }
 L_then_6_i_i_i_i_i:;
     v_r30_i_i_i_i_i = get_u8(v_r0_sroa_0_0_copyload_i_i_i_i_i);
     v_cond_i_i_i_i_i = v_r30_i_i_i_i_i == 43u;
-    if (v_cond_i_i_i_i_i) { goto L_arm_9_i_i_i_i_i; } else { p_v_r6_0_shrunk_i_i5_i_i = 0u; goto L_arm_5_i_i16_i4_i_i; }
+    if (v_cond_i_i_i_i_i) { goto L_arm_9_i_i_i_i_i; } else { p_v_r6_0_shrunk_i_i54_i_i = 0u; goto L_arm_5_i_i16_i_i_i; }
 L_arm_9_i_i_i_i_i:;
     v_r33_i_i_i_i_i = v_r0_sroa_0_0_copyload_i_i_i_i_i + 1;
     v_r35_i_i_i_i_i = get_u8(v_r33_i_i_i_i_i);
     v_cond1_i_i_i_i_i = v_r35_i_i_i_i_i == 14u;
-    if (v_cond1_i_i_i_i_i) { goto L_arm_12_i_i_i_i_i; } else { p_v_r6_0_shrunk_i_i5_i_i = 0u; goto L_arm_5_i_i16_i4_i_i; }
+    if (v_cond1_i_i_i_i_i) { goto L_arm_12_i_i_i_i_i; } else { p_v_r6_0_shrunk_i_i54_i_i = 0u; goto L_arm_5_i_i16_i_i_i; }
 L_arm_12_i_i_i_i_i:;
     v_r38_i_i_i_i_i = v_r0_sroa_0_0_copyload_i_i_i_i_i + 2;
     v_r40_i_i_i_i_i = get_u8(v_r38_i_i_i_i_i);
     v_cond2_i_i_i_i_i = v_r40_i_i_i_i_i == 3u;
-    if (v_cond2_i_i_i_i_i) { goto L_arm_15_i_i_i_i_i; } else { p_v_r6_0_shrunk_i_i5_i_i = 0u; goto L_arm_5_i_i16_i4_i_i; }
+    if (v_cond2_i_i_i_i_i) { goto L_arm_15_i_i_i_i_i; } else { p_v_r6_0_shrunk_i_i54_i_i = 0u; goto L_arm_5_i_i16_i_i_i; }
 L_arm_15_i_i_i_i_i:;
     v_r43_i_i_i_i_i = v_r0_sroa_0_0_copyload_i_i_i_i_i + 3;
     v_r45_i_i_i_i_i = get_u8(v_r43_i_i_i_i_i);
     v_cond3_i_i_i_i_i = v_r45_i_i_i_i_i == 2u;
-    if (v_cond3_i_i_i_i_i) { goto L_arm_18_i_i_i_i_i; } else { p_v_r6_0_shrunk_i_i5_i_i = 0u; goto L_arm_5_i_i16_i4_i_i; }
+    if (v_cond3_i_i_i_i_i) { goto L_arm_18_i_i_i_i_i; } else { p_v_r6_0_shrunk_i_i54_i_i = 0u; goto L_arm_5_i_i16_i_i_i; }
 L_arm_18_i_i_i_i_i:;
     v_r48_i_i_i_i_i = v_r0_sroa_0_0_copyload_i_i_i_i_i + 4;
     v_r50_i_i_i_i_i = get_u8(v_r48_i_i_i_i_i);
     v_cond4_i_i_i_i_i = v_r50_i_i_i_i_i == 26u;
-    if (v_cond4_i_i_i_i_i) { goto L_then_5_i_i_i_i; } else { p_v_r6_0_shrunk_i_i5_i_i = 0u; goto L_arm_5_i_i16_i4_i_i; }
+    if (v_cond4_i_i_i_i_i) { goto L_then_5_i_i_i_i; } else { p_v_r6_0_shrunk_i_i54_i_i = 0u; goto L_arm_5_i_i16_i_i_i; }
 L_then_5_i_i_i_i:;
     v_r18_i46_i_i_i = v_r3_i + 24;
     v_r10_sroa_0_0_copyload_i_i_i_i = get_u64(v_r18_i46_i_i_i);
     v_2 = (u64)((u64)(v_r10_sroa_0_0_copyload_i_i_i_i) & (u64)(255u));
     v_r7_i_i_i_i_i_i = v_2 == 5u;
-    if (v_r7_i_i_i_i_i_i) { goto L_then_1_i_i_i_i_i; } else { p_v_r6_0_shrunk_i_i5_i_i = 0u; goto L_arm_5_i_i16_i4_i_i; }
+    if (v_r7_i_i_i_i_i_i) { goto L_then_1_i_i_i_i_i; } else { p_v_r6_0_shrunk_i_i54_i_i = 0u; goto L_arm_5_i_i16_i_i_i; }
 L_then_1_i_i_i_i_i:;
     v_r10_sroa_4_0_r18_sroa_idx_i_i_i_i = v_r3_i + 40;
     v_r10_sroa_4_0_copyload_i_i_i_i = get_u64(v_r10_sroa_4_0_r18_sroa_idx_i_i_i_i);
     v_r7_i_i_i_i_i = v_r10_sroa_4_0_copyload_i_i_i_i == 0u;
-    { p_v_r6_0_shrunk_i_i5_i_i = v_r7_i_i_i_i_i; goto L_arm_5_i_i16_i4_i_i; }
-L_arm_5_i_i16_i4_i_i:;
-    v_r6_0_shrunk_i_i5_i_i = p_v_r6_0_shrunk_i_i5_i_i;
+    { p_v_r6_0_shrunk_i_i54_i_i = v_r7_i_i_i_i_i; goto L_arm_5_i_i16_i_i_i; }
+L_arm_5_i_i16_i_i_i:;
+    v_r6_0_shrunk_i_i54_i_i = p_v_r6_0_shrunk_i_i54_i_i;
     v_r10_i = v_r3_i + 64;
     v_r12_i1 = get_u8(v_r10_i);
     v_3 = v_r12_i1 == 1u;
@@ -44546,8 +44546,8 @@ L_then_5_i_i:;
     v_r18_i_i = v_r3_i + 96;
     v_r10_sroa_0_0_copyload_i_i = get_u64(v_r18_i_i);
     v_5 = (u64)((u64)(v_r10_sroa_0_0_copyload_i_i) & (u64)(255u));
-    v_r7_i_i_i_i = v_5 == 5u;
-    if (v_r7_i_i_i_i) { goto L_then_1_i_i_i; } else { p_v_r4_0_i = 0u; goto L_pkcs1_params_holders_AlgorithmIdentifierOfAlgorith; }
+    v_r7_i_i_i_i5 = v_5 == 5u;
+    if (v_r7_i_i_i_i5) { goto L_then_1_i_i_i; } else { p_v_r4_0_i = 0u; goto L_pkcs1_params_holders_AlgorithmIdentifierOfAlgorith; }
 L_then_1_i_i_i:;
     v_r10_sroa_4_0_r18_sroa_idx_i_i = v_r3_i + 112;
     v_r10_sroa_4_0_copyload_i_i = get_u64(v_r10_sroa_4_0_r18_sroa_idx_i_i);
@@ -44625,10 +44625,10 @@ L_then_1_i_i249_i_i_i:;
     { p_v_r4_0_i202_i_i_i = v_8; goto L_pkcs1_params_fields_FieldThenFields_non_defaults_c; }
 L_pkcs1_params_fields_FieldThenFields_non_defaults_c:;
     v_r4_0_i202_i_i_i = p_v_r4_0_i202_i_i_i;
-    v_r25_i13322_demorgan_i_i_i = (u1)(((u32)(v_r6_0_shrunk_i_i5_i_i) & (u32)(v_r4_0_i)) & 1);
+    v_r25_i13322_demorgan_i_i_i = (u1)(((u32)(v_r6_0_shrunk_i_i54_i_i) & (u32)(v_r4_0_i)) & 1);
     v_r25_i13322_i_i_i = (u1)(((u32)(v_r25_i13322_demorgan_i_i_i) ^ (u32)(1u)) & 1);
-    v_r25_i13_i7_i_i = (u8)v_r25_i13322_i_i_i;
-    v_9 = (u8)((u32)(v_r4_0_i202_i_i_i) | (u32)(v_r25_i13_i7_i_i));
+    v_r25_i13_i_i_i = (u8)v_r25_i13322_i_i_i;
+    v_9 = (u8)((u32)(v_r4_0_i202_i_i_i) | (u32)(v_r25_i13_i_i_i));
     v_10 = v_9 == 0u;
     if (v_10) { p_v_r12_sroa_10_0_i_ph36_i_i_i_i_i_i = 0u; p_v_r4_0_i_i_i_i_i_i_i_i = 2u; goto L_der_core_encode_AnyEncode_encoded_len_fe607f229f6b; } else { goto L_after_1_i_i_i_i_i_i_i_i; }
 L_after_1_i_i_i_i_i_i_i_i:;
@@ -44750,7 +44750,7 @@ L_pkcs1_params_fields_FieldThenFields_len_0ba80ab270:;
     v_r12_i15_sroa_15_0_i_i_i_i_i_i_i = p_v_r12_i15_sroa_15_0_i_i_i_i_i_i_i;
     v_r12_i15_sroa_6_0_i_i_i_i_i_i_i = p_v_r12_i15_sroa_6_0_i_i_i_i_i_i_i;
     v_r12_i15_sroa_0_0_i_i_i_i_i_i_i = p_v_r12_i15_sroa_0_0_i_i_i_i_i_i_i;
-    if (v_r6_0_shrunk_i_i5_i_i) { p_v_r0_sroa_13_0_i_i_i_i_i_i_i = v_r12_i15_sroa_15_0_i_i_i_i_i_i_i; p_v_r0_sroa_4_0_i_i_i_i_i_i_i = v_r12_i15_sroa_6_0_i_i_i_i_i_i_i; p_v_r0_sroa_0_0_i_i_i_i_i_i_i = v_r12_i15_sroa_0_0_i_i_i_i_i_i_i; goto L_pkcs1_params_spelling_SpellingEncodeValue_value_le; } else { goto L_arm_1_i189_i_i_i_i_i_i_i; }
+    if (v_r6_0_shrunk_i_i54_i_i) { p_v_r0_sroa_13_0_i_i_i_i_i_i_i = v_r12_i15_sroa_15_0_i_i_i_i_i_i_i; p_v_r0_sroa_4_0_i_i_i_i_i_i_i = v_r12_i15_sroa_6_0_i_i_i_i_i_i_i; p_v_r0_sroa_0_0_i_i_i_i_i_i_i = v_r12_i15_sroa_0_0_i_i_i_i_i_i_i; goto L_pkcs1_params_spelling_SpellingEncodeValue_value_le; } else { goto L_arm_1_i189_i_i_i_i_i_i_i; }
 L_arm_1_i189_i_i_i_i_i_i_i:;
     v_r0_sroa_3_0_a0_sroa_idx_i_i_i_i_i_i517_i_i_i_i_i_i = v_r3_i + 8;
     v_r0_sroa_3_0_copyload_i_i_i_i_i_i518_i_i_i_i_i_i_i = get_u64(v_r0_sroa_3_0_a0_sroa_idx_i_i_i_i_i_i517_i_i_i_i_i_i);
@@ -44833,7 +44833,7 @@ L_pkcs1_params_fields_FieldRef_len_7700fbca592c367d___3:;
     if (v_r7_i_not_i_i_i_i559_not_i_i_i_i_i_i_i) { goto L_arm_2_i696_i_i_i_i_i_i_i; } else { goto L_arm_1_i708_i_i_i_i_i_i_i; }
 L_arm_1_i708_i_i_i_i_i_i_i:;
     v_16 = v_r12_i15_sroa_0_0_i_i_i_i_i_i_i == 0u;
-    if (v_16) { goto L_arm_5_i709_i_i_i_i_i_i_i; } else { p_v_r13_sroa_0_sroa_5_0_ph_i_i_i = v_r12_i15_sroa_6_0_i_i_i_i_i_i_i; goto L_arm_1_i_i_i_i; }
+    if (v_16) { goto L_arm_5_i709_i_i_i_i_i_i_i; } else { p_v_r13_sroa_0_sroa_5_0_ph_i_i_i = v_r12_i15_sroa_6_0_i_i_i_i_i_i_i; goto L_arm_1_i_i_i; }
 L_arm_5_i709_i_i_i_i_i_i_i:;
     v_r5_i_i_i710_i_i_i_i_i_i_i = (u32)((u32)(v_r12_i15_sroa_15_0_i_i_i_i_i_i_i) ^ (u32)(4294967295ull));
     v_r7_i_not_i_i711_i_i_i_i_i_i_i = v_r11_i_i_i_i_i560_i_i_i_i_i_i_i > v_r5_i_i_i710_i_i_i_i_i_i_i;
@@ -44844,14 +44844,14 @@ L_arm_5_i709_i_i_i_i_i_i_i:;
     { p_v_r0_sroa_13_0_i_i_i_i_i_i_i = v_r5_sroa_10_0_i_i715_i_i_i_i_i_i_i; p_v_r0_sroa_4_0_i_i_i_i_i_i_i = v_r5_sroa_4_0_i_i714_i_i_i_i_i_i_i; p_v_r0_sroa_0_0_i_i_i_i_i_i_i = v_r5_sroa_0_0_i_i713_i_i_i_i_i_i_i; goto L_pkcs1_params_spelling_SpellingEncodeValue_value_le; }
 L_arm_2_i696_i_i_i_i_i_i_i:;
     v_not750_i_i_i_i_i_i_i = v_r12_i15_sroa_0_0_i_i_i_i_i_i_i == 1u;
-    v_spec_select263_i_i = v_not750_i_i_i_i_i_i_i ? v_r12_i15_sroa_6_0_i_i_i_i_i_i_i : 7u;
-    { p_v_r13_sroa_0_sroa_5_0_ph_i_i_i = v_spec_select263_i_i; goto L_arm_1_i_i_i_i; }
+    v_spec_select315_i_i = v_not750_i_i_i_i_i_i_i ? v_r12_i15_sroa_6_0_i_i_i_i_i_i_i : 7u;
+    { p_v_r13_sroa_0_sroa_5_0_ph_i_i_i = v_spec_select315_i_i; goto L_arm_1_i_i_i; }
 L_pkcs1_params_spelling_SpellingEncodeValue_value_le:;
     v_r0_sroa_13_0_i_i_i_i_i_i_i = p_v_r0_sroa_13_0_i_i_i_i_i_i_i;
     v_r0_sroa_4_0_i_i_i_i_i_i_i = p_v_r0_sroa_4_0_i_i_i_i_i_i_i;
     v_r0_sroa_0_0_i_i_i_i_i_i_i = p_v_r0_sroa_0_0_i_i_i_i_i_i_i;
     v_17 = v_r0_sroa_0_0_i_i_i_i_i_i_i == 0u;
-    if (v_17) { goto L_arm_1_i_i_i_i_i_i; } else { p_v_r13_sroa_0_sroa_5_0_ph_i_i_i = v_r0_sroa_4_0_i_i_i_i_i_i_i; goto L_arm_1_i_i_i_i; }
+    if (v_17) { goto L_arm_1_i_i_i_i_i_i; } else { p_v_r13_sroa_0_sroa_5_0_ph_i_i_i = v_r0_sroa_4_0_i_i_i_i_i_i_i; goto L_arm_1_i_i_i; }
 L_arm_1_i_i_i_i_i_i:;
     v_r12_i_i_i_i_i_i_i_i = v_r0_sroa_13_0_i_i_i_i_i_i_i < 128u;
     if (v_r12_i_i_i_i_i_i_i_i) { p_v_r12_sroa_10_0_i_ph36_i_i_i_i_i_i = v_r0_sroa_13_0_i_i_i_i_i_i_i; p_v_r4_0_i_i_i_i_i_i_i_i = 2u; goto L_der_core_encode_AnyEncode_encoded_len_fe607f229f6b; } else { goto L_else_2_i_i_i_i_i_i_i_i; }
@@ -44869,12 +44869,12 @@ L_der_core_encode_AnyEncode_encoded_len_fe607f229f6b:;
     v_r4_0_i_i_i_i_i_i_i_i = p_v_r4_0_i_i_i_i_i_i_i_i;
     v_r5_i_i_i_i_i_i_i_i_i = (u32)((u32)(v_r12_sroa_10_0_i_ph36_i_i_i_i_i_i) ^ (u32)(4294967295ull));
     v_r7_i_not_i_i_i_i_not_i_i_i_i = v_r4_0_i_i_i_i_i_i_i_i > v_r5_i_i_i_i_i_i_i_i_i;
-    if (v_r7_i_not_i_i_i_i_not_i_i_i_i) { p_v_r13_sroa_0_sroa_5_0_ph_i_i_i = 7u; goto L_arm_1_i_i_i_i; } else { goto L_arm_1_i258_i_i_i; }
+    if (v_r7_i_not_i_i_i_i_not_i_i_i_i) { p_v_r13_sroa_0_sroa_5_0_ph_i_i_i = 7u; goto L_arm_1_i_i_i; } else { goto L_arm_1_i258_i_i_i; }
 L_arm_1_i258_i_i_i:;
     v_r11_i_i_i_i_i_i_i_i_i = (u32)((u32)(v_r4_0_i_i_i_i_i_i_i_i) + (u32)(v_r12_sroa_10_0_i_ph36_i_i_i_i_i_i));
     v_r3_i11_i_i_i_i = (u64)v_r11_i_i_i_i_i_i_i_i_i;
     v_r56_i_i_i_i = v_a2 < v_r3_i11_i_i_i_i;
-    if (v_r56_i_i_i_i) { p_v_r13_sroa_0_sroa_5_0_ph_i_i_i = 14u; goto L_arm_1_i_i_i_i; } else { goto L_join_7_i_i_i_i; }
+    if (v_r56_i_i_i_i) { p_v_r13_sroa_0_sroa_5_0_ph_i_i_i = 14u; goto L_arm_1_i_i_i; } else { goto L_join_7_i_i_i_i; }
 L_join_7_i_i_i_i:;
     put_P(v_r7_i255_i_i_i, v_r4);
     v_r23_sroa_3_0_r7_sroa_idx_i_i_i_i = v_r7_i255_i_i_i + 8;
@@ -45069,7 +45069,7 @@ L_pkcs1_params_fields_FieldRef_prepend_7700fbca592c3__2:;
 L_pkcs1_params_fields_FieldThenFields_prepend_0ba80a:;
     v_r7_val5_pre_i_i_i_i = p_v_r7_val5_pre_i_i_i_i;
     v_r7_val_pre_i_i_i_i = p_v_r7_val_pre_i_i_i_i;
-    if (v_r6_0_shrunk_i_i5_i_i) { p_v_r7_val5_i_i_i_i = v_r7_val5_pre_i_i_i_i; p_v_r7_val_i_i_i_i = v_r7_val_pre_i_i_i_i; goto L_pkcs1_params_spelling_SpellingEncodeValue_prepend_; } else { goto L_pkcs1_params_fields_FieldRef_prepend_7700fbca592c3__3; }
+    if (v_r6_0_shrunk_i_i54_i_i) { p_v_r7_val5_i_i_i_i = v_r7_val5_pre_i_i_i_i; p_v_r7_val_i_i_i_i = v_r7_val_pre_i_i_i_i; goto L_pkcs1_params_spelling_SpellingEncodeValue_prepend_; } else { goto L_pkcs1_params_fields_FieldRef_prepend_7700fbca592c3__3; }
 L_pkcs1_params_fields_FieldRef_prepend_7700fbca592c3__3:;
     v_r9_i_neg2_i_i224_i_i_i_i_i = (u64)((u64)(v_r7_val5_pre_i_i_i_i) - (u64)(v_r7_val_pre_i_i_i_i));
     f_spki_core_algorithm_identifier_AlgorithmIdentifier(v_r13_i, v_r7_i255_i_i_i);
@@ -45329,132 +45329,132 @@ L_else_11_i_i_i_i_i:;
 L_arm_1_i_i:;
     put_u64(v_a3, v_r3_i11_i_i_i_i);
     { p_v_r6_0_i = 0u; goto L_pkcs1_c_oaep_pkcs1_c_oaep_params_encode_exit; }
-L_arm_1_i_i_i_i:;
+L_arm_1_i_i_i:;
     v_r13_sroa_0_sroa_5_0_ph_i_i_i = p_v_r13_sroa_0_sroa_5_0_ph_i_i_i;
-    if (v_1) { goto L_arm_1_i11_i_i; } else { p_v_r6_0_shrunk_i_i_i_i = 1u; goto L_arm_5_i_i16_i_i_i; }
-L_arm_1_i11_i_i:;
+    if (v_1) { goto L_arm_1_i61_i_i; } else { p_v_r6_0_shrunk_i_i_i = 1u; goto L_arm_5_i_i17_i_i; }
+L_arm_1_i61_i_i:;
     v_r0_sroa_0_0_copyload_i_i_i_i = get_P(v_r3_i);
     v_r0_sroa_3_0_a0_sroa_idx_i_i_i_i = v_r3_i + 8;
     v_r0_sroa_3_0_copyload_i_i_i_i = get_u64(v_r0_sroa_3_0_a0_sroa_idx_i_i_i_i);
     v_r23_i_i_i_i = v_r0_sroa_3_0_copyload_i_i_i_i == 5u;
-    if (v_r23_i_i_i_i) { goto L_then_6_i_i_i_i; } else { p_v_r6_0_shrunk_i_i_i_i = 1u; goto L_arm_5_i_i16_i_i_i; }
+    if (v_r23_i_i_i_i) { goto L_then_6_i_i_i_i; } else { p_v_r6_0_shrunk_i_i_i = 1u; goto L_arm_5_i_i17_i_i; }
 L_then_6_i_i_i_i:;
     v_r30_i_i_i_i = get_u8(v_r0_sroa_0_0_copyload_i_i_i_i);
     v_cond_i_i_i_i = v_r30_i_i_i_i == 43u;
-    if (v_cond_i_i_i_i) { goto L_arm_9_i_i_i_i; } else { p_v_r6_0_shrunk_i_i_i_i = 1u; goto L_arm_5_i_i16_i_i_i; }
+    if (v_cond_i_i_i_i) { goto L_arm_9_i_i_i_i; } else { p_v_r6_0_shrunk_i_i_i = 1u; goto L_arm_5_i_i17_i_i; }
 L_arm_9_i_i_i_i:;
     v_r33_i_i_i_i = v_r0_sroa_0_0_copyload_i_i_i_i + 1;
     v_r35_i_i_i_i = get_u8(v_r33_i_i_i_i);
     v_cond1_i_i_i_i = v_r35_i_i_i_i == 14u;
-    if (v_cond1_i_i_i_i) { goto L_arm_12_i_i_i_i; } else { p_v_r6_0_shrunk_i_i_i_i = 1u; goto L_arm_5_i_i16_i_i_i; }
+    if (v_cond1_i_i_i_i) { goto L_arm_12_i_i_i_i; } else { p_v_r6_0_shrunk_i_i_i = 1u; goto L_arm_5_i_i17_i_i; }
 L_arm_12_i_i_i_i:;
     v_r38_i_i_i_i = v_r0_sroa_0_0_copyload_i_i_i_i + 2;
     v_r40_i_i_i_i = get_u8(v_r38_i_i_i_i);
     v_cond2_i_i_i_i = v_r40_i_i_i_i == 3u;
-    if (v_cond2_i_i_i_i) { goto L_arm_15_i_i_i_i; } else { p_v_r6_0_shrunk_i_i_i_i = 1u; goto L_arm_5_i_i16_i_i_i; }
+    if (v_cond2_i_i_i_i) { goto L_arm_15_i_i_i_i; } else { p_v_r6_0_shrunk_i_i_i = 1u; goto L_arm_5_i_i17_i_i; }
 L_arm_15_i_i_i_i:;
     v_r43_i_i_i_i = v_r0_sroa_0_0_copyload_i_i_i_i + 3;
     v_r45_i_i_i_i = get_u8(v_r43_i_i_i_i);
     v_cond3_i_i_i_i = v_r45_i_i_i_i == 2u;
-    if (v_cond3_i_i_i_i) { goto L_arm_18_i_i_i_i; } else { p_v_r6_0_shrunk_i_i_i_i = 1u; goto L_arm_5_i_i16_i_i_i; }
+    if (v_cond3_i_i_i_i) { goto L_arm_18_i_i_i_i; } else { p_v_r6_0_shrunk_i_i_i = 1u; goto L_arm_5_i_i17_i_i; }
 L_arm_18_i_i_i_i:;
     v_r48_i_i_i_i = v_r0_sroa_0_0_copyload_i_i_i_i + 4;
     v_r50_i_i_i_i = get_u8(v_r48_i_i_i_i);
     v_cond4_i_i_i_i = v_r50_i_i_i_i == 26u;
-    if (v_cond4_i_i_i_i) { goto L_then_5_i_i_i; } else { p_v_r6_0_shrunk_i_i_i_i = 1u; goto L_arm_5_i_i16_i_i_i; }
+    if (v_cond4_i_i_i_i) { goto L_then_5_i_i_i; } else { p_v_r6_0_shrunk_i_i_i = 1u; goto L_arm_5_i_i17_i_i; }
 L_then_5_i_i_i:;
-    v_r18_i12_i_i = v_r3_i + 24;
-    v_r10_sroa_0_0_copyload_i_i_i = get_u64(v_r18_i12_i_i);
+    v_r18_i62_i_i = v_r3_i + 24;
+    v_r10_sroa_0_0_copyload_i_i_i = get_u64(v_r18_i62_i_i);
     v_28 = (u64)((u64)(v_r10_sroa_0_0_copyload_i_i_i) & (u64)(255u));
-    v_r7_i_i_i13_i_i = v_28 == 5u;
-    if (v_r7_i_i_i13_i_i) { goto L_then_1_i_i_i_i; } else { p_v_r6_0_shrunk_i_i_i_i = 1u; goto L_arm_5_i_i16_i_i_i; }
+    v_r7_i_i_i63_i_i = v_28 == 5u;
+    if (v_r7_i_i_i63_i_i) { goto L_then_1_i_i_i_i; } else { p_v_r6_0_shrunk_i_i_i = 1u; goto L_arm_5_i_i17_i_i; }
 L_then_1_i_i_i_i:;
     v_r10_sroa_4_0_r18_sroa_idx_i_i_i = v_r3_i + 40;
     v_r10_sroa_4_0_copyload_i_i_i = get_u64(v_r10_sroa_4_0_r18_sroa_idx_i_i_i);
-    v_r7_i_i14_i_i = v_r10_sroa_4_0_copyload_i_i_i != 0u;
-    v_29 = (u8)v_r7_i_i14_i_i;
-    { p_v_r6_0_shrunk_i_i_i_i = v_29; goto L_arm_5_i_i16_i_i_i; }
-L_arm_5_i_i16_i_i_i:;
-    v_r6_0_shrunk_i_i_i_i = p_v_r6_0_shrunk_i_i_i_i;
-    v_r13_i8_i_i_i = (u1)(((u32)(v_r4_0_i) ^ (u32)(1u)) & 1);
-    v_r1_i132_i_i = (u8)v_r13_i8_i_i_i;
-    if (v_6) { goto L_arm_1_i172_i_i; } else { p_v_r4_0_i171_i_i = 2u; goto L_pkcs1_params_shortest_Shortest_of_188d8246692b18ec; }
-L_arm_1_i172_i_i:;
-    v_r0_sroa_0_0_copyload_i_i173_i_i = get_P(v_r15_i42_i_i_i);
-    v_r0_sroa_3_0_a0_sroa_idx_i_i174_i_i = v_r3_i + 128;
-    v_r0_sroa_3_0_copyload_i_i175_i_i = get_u64(v_r0_sroa_3_0_a0_sroa_idx_i_i174_i_i);
-    v_r31_i_i176_i_i = v_r0_sroa_3_0_copyload_i_i175_i_i < 4u;
-    if (v_r31_i_i176_i_i) { p_v_r4_0_i171_i_i = 2u; goto L_pkcs1_params_shortest_Shortest_of_188d8246692b18ec; } else { goto L_join_5_i_i177_i_i; }
-L_join_5_i_i177_i_i:;
-    v_r38_i_i178_i_i = get_u8(v_r0_sroa_0_0_copyload_i_i173_i_i);
-    v_cond_i_i179_i_i = v_r38_i_i178_i_i == 42u;
-    if (v_cond_i_i179_i_i) { goto L_arm_6_i_i180_i_i; } else { p_v_r4_0_i171_i_i = 2u; goto L_pkcs1_params_shortest_Shortest_of_188d8246692b18ec; }
-L_arm_6_i_i180_i_i:;
-    v_r41_i_i181_i_i = v_r0_sroa_0_0_copyload_i_i173_i_i + 1;
-    v_r43_i_i182_i_i = get_u8(v_r41_i_i181_i_i);
-    v_cond1_i_i183_i_i = v_r43_i_i182_i_i == 134u;
-    if (v_cond1_i_i183_i_i) { goto L_arm_9_i_i184_i_i; } else { p_v_r4_0_i171_i_i = 2u; goto L_pkcs1_params_shortest_Shortest_of_188d8246692b18ec; }
-L_arm_9_i_i184_i_i:;
-    v_r46_i_i185_i_i = v_r0_sroa_0_0_copyload_i_i173_i_i + 2;
-    v_r48_i_i186_i_i = get_u8(v_r46_i_i185_i_i);
-    v_cond2_i_i187_i_i = v_r48_i_i186_i_i == 72u;
-    if (v_cond2_i_i187_i_i) { goto L_arm_12_i_i188_i_i; } else { p_v_r4_0_i171_i_i = 2u; goto L_pkcs1_params_shortest_Shortest_of_188d8246692b18ec; }
-L_arm_12_i_i188_i_i:;
-    v_r51_i_i189_i_i = v_r0_sroa_0_0_copyload_i_i173_i_i + 3;
-    v_r53_i_i190_i_i = get_u8(v_r51_i_i189_i_i);
-    v_cond3_i_i191_i_i = v_r53_i_i190_i_i == 134u;
-    v_r72_i_i192_i_i = v_r0_sroa_3_0_copyload_i_i175_i_i == 9u;
-    v_or_cond_i193_i_i = (u1)(((u32)(v_r72_i_i192_i_i) & (u32)(v_cond3_i_i191_i_i)) & 1);
-    if (v_or_cond_i193_i_i) { goto L_then_23_i_i194_i_i; } else { p_v_r4_0_i171_i_i = 2u; goto L_pkcs1_params_shortest_Shortest_of_188d8246692b18ec; }
-L_then_23_i_i194_i_i:;
-    v_r56_i_i195_i_i = v_r0_sroa_0_0_copyload_i_i173_i_i + 4;
-    v_r79_i_i196_i_i = get_u8(v_r56_i_i195_i_i);
-    v_cond4_i_i197_i_i = v_r79_i_i196_i_i == 247u;
-    if (v_cond4_i_i197_i_i) { goto L_arm_26_i_i198_i_i; } else { p_v_r4_0_i171_i_i = 2u; goto L_pkcs1_params_shortest_Shortest_of_188d8246692b18ec; }
-L_arm_26_i_i198_i_i:;
-    v_r82_i_i199_i_i = v_r0_sroa_0_0_copyload_i_i173_i_i + 5;
-    v_r84_i_i200_i_i = get_u8(v_r82_i_i199_i_i);
-    v_cond5_i_i201_i_i = v_r84_i_i200_i_i == 13u;
-    if (v_cond5_i_i201_i_i) { goto L_arm_29_i_i202_i_i; } else { p_v_r4_0_i171_i_i = 2u; goto L_pkcs1_params_shortest_Shortest_of_188d8246692b18ec; }
-L_arm_29_i_i202_i_i:;
-    v_r87_i_i203_i_i = v_r0_sroa_0_0_copyload_i_i173_i_i + 6;
-    v_r89_i_i204_i_i = get_u8(v_r87_i_i203_i_i);
-    v_cond6_i_i205_i_i = v_r89_i_i204_i_i == 1u;
-    if (v_cond6_i_i205_i_i) { goto L_arm_32_i_i206_i_i; } else { p_v_r4_0_i171_i_i = 2u; goto L_pkcs1_params_shortest_Shortest_of_188d8246692b18ec; }
-L_arm_32_i_i206_i_i:;
-    v_r92_i_i207_i_i = v_r0_sroa_0_0_copyload_i_i173_i_i + 7;
-    v_r94_i_i208_i_i = get_u8(v_r92_i_i207_i_i);
-    v_cond7_i_i209_i_i = v_r94_i_i208_i_i == 1u;
-    if (v_cond7_i_i209_i_i) { goto L_arm_35_i_i210_i_i; } else { p_v_r4_0_i171_i_i = 2u; goto L_pkcs1_params_shortest_Shortest_of_188d8246692b18ec; }
-L_arm_35_i_i210_i_i:;
-    v_r97_i_i211_i_i = v_r0_sroa_0_0_copyload_i_i173_i_i + 8;
-    v_r99_i_i212_i_i = get_u8(v_r97_i_i211_i_i);
-    v_cond8_i_i213_i_i = v_r99_i_i212_i_i == 9u;
-    if (v_cond8_i_i213_i_i) { goto L_then_5_i214_i_i; } else { p_v_r4_0_i171_i_i = 2u; goto L_pkcs1_params_shortest_Shortest_of_188d8246692b18ec; }
-L_then_5_i214_i_i:;
-    v_r18_i215_i_i = v_r3_i + 144;
-    v_r10_sroa_0_0_copyload_i216_i_i = get_u64(v_r18_i215_i_i);
-    v_30 = (u64)((u64)(v_r10_sroa_0_0_copyload_i216_i_i) & (u64)(255u));
-    v_r7_i_i_i217_i_i = v_30 == 4u;
-    if (v_r7_i_i_i217_i_i) { goto L_then_1_i_i218_i_i; } else { p_v_r4_0_i171_i_i = 2u; goto L_pkcs1_params_shortest_Shortest_of_188d8246692b18ec; }
-L_then_1_i_i218_i_i:;
-    v_r10_sroa_4_0_r18_sroa_idx_i219_i_i = v_r3_i + 160;
-    v_r10_sroa_4_0_copyload_i220_i_i = get_u64(v_r10_sroa_4_0_r18_sroa_idx_i219_i_i);
-    v_r7_i_i221_not_i_i = v_r10_sroa_4_0_copyload_i220_i_i == 0u;
-    v_31 = v_r7_i_i221_not_i_i ? 0u : 2u;
-    { p_v_r4_0_i171_i_i = v_31; goto L_pkcs1_params_shortest_Shortest_of_188d8246692b18ec; }
-L_pkcs1_params_shortest_Shortest_of_188d8246692b18ec:;
-    v_r4_0_i171_i_i = p_v_r4_0_i171_i_i;
-    v_r25_i13_i_i_i = (u8)((u32)(v_r4_0_i171_i_i) | (u32)(v_r1_i132_i_i));
-    v_r22_i_i_i_i = (u8)((u32)(v_r25_i13_i_i_i) << (u32)((1u & 31)));
-    v_r25_i_i_i_i = (u8)((u32)(v_r22_i_i_i_i) | (u32)(v_r6_0_shrunk_i_i_i_i));
-    f_der_core_encode_AnyEncode_encoded_len_0e78a23a2762(v_r1_i224_i_i, v_r13_i, v_r25_i_i_i_i);
-    v_r3_i_i_i = get_u8(v_r1_i224_i_i);
+    v_r7_i_i_i_i = v_r10_sroa_4_0_copyload_i_i_i != 0u;
+    v_29 = (u8)v_r7_i_i_i_i;
+    { p_v_r6_0_shrunk_i_i_i = v_29; goto L_arm_5_i_i17_i_i; }
+L_arm_5_i_i17_i_i:;
+    v_r6_0_shrunk_i_i_i = p_v_r6_0_shrunk_i_i_i;
+    v_r13_i9_i_i = (u1)(((u32)(v_r4_0_i) ^ (u32)(1u)) & 1);
+    v_r1_i181_i_i = (u8)v_r13_i9_i_i;
+    if (v_6) { goto L_arm_1_i221_i_i; } else { p_v_r4_0_i220_i_i = 2u; goto L_pkcs1_params_fields_FieldThenFields_non_defaults_c__2; }
+L_arm_1_i221_i_i:;
+    v_r0_sroa_0_0_copyload_i_i222_i_i = get_P(v_r15_i42_i_i_i);
+    v_r0_sroa_3_0_a0_sroa_idx_i_i223_i_i = v_r3_i + 128;
+    v_r0_sroa_3_0_copyload_i_i224_i_i = get_u64(v_r0_sroa_3_0_a0_sroa_idx_i_i223_i_i);
+    v_r31_i_i225_i_i = v_r0_sroa_3_0_copyload_i_i224_i_i < 4u;
+    if (v_r31_i_i225_i_i) { p_v_r4_0_i220_i_i = 2u; goto L_pkcs1_params_fields_FieldThenFields_non_defaults_c__2; } else { goto L_join_5_i_i226_i_i; }
+L_join_5_i_i226_i_i:;
+    v_r38_i_i227_i_i = get_u8(v_r0_sroa_0_0_copyload_i_i222_i_i);
+    v_cond_i_i228_i_i = v_r38_i_i227_i_i == 42u;
+    if (v_cond_i_i228_i_i) { goto L_arm_6_i_i229_i_i; } else { p_v_r4_0_i220_i_i = 2u; goto L_pkcs1_params_fields_FieldThenFields_non_defaults_c__2; }
+L_arm_6_i_i229_i_i:;
+    v_r41_i_i230_i_i = v_r0_sroa_0_0_copyload_i_i222_i_i + 1;
+    v_r43_i_i231_i_i = get_u8(v_r41_i_i230_i_i);
+    v_cond1_i_i232_i_i = v_r43_i_i231_i_i == 134u;
+    if (v_cond1_i_i232_i_i) { goto L_arm_9_i_i233_i_i; } else { p_v_r4_0_i220_i_i = 2u; goto L_pkcs1_params_fields_FieldThenFields_non_defaults_c__2; }
+L_arm_9_i_i233_i_i:;
+    v_r46_i_i234_i_i = v_r0_sroa_0_0_copyload_i_i222_i_i + 2;
+    v_r48_i_i235_i_i = get_u8(v_r46_i_i234_i_i);
+    v_cond2_i_i236_i_i = v_r48_i_i235_i_i == 72u;
+    if (v_cond2_i_i236_i_i) { goto L_arm_12_i_i237_i_i; } else { p_v_r4_0_i220_i_i = 2u; goto L_pkcs1_params_fields_FieldThenFields_non_defaults_c__2; }
+L_arm_12_i_i237_i_i:;
+    v_r51_i_i238_i_i = v_r0_sroa_0_0_copyload_i_i222_i_i + 3;
+    v_r53_i_i239_i_i = get_u8(v_r51_i_i238_i_i);
+    v_cond3_i_i240_i_i = v_r53_i_i239_i_i == 134u;
+    v_r72_i_i241_i_i = v_r0_sroa_3_0_copyload_i_i224_i_i == 9u;
+    v_or_cond_i242_i_i = (u1)(((u32)(v_r72_i_i241_i_i) & (u32)(v_cond3_i_i240_i_i)) & 1);
+    if (v_or_cond_i242_i_i) { goto L_then_23_i_i243_i_i; } else { p_v_r4_0_i220_i_i = 2u; goto L_pkcs1_params_fields_FieldThenFields_non_defaults_c__2; }
+L_then_23_i_i243_i_i:;
+    v_r56_i_i244_i_i = v_r0_sroa_0_0_copyload_i_i222_i_i + 4;
+    v_r79_i_i245_i_i = get_u8(v_r56_i_i244_i_i);
+    v_cond4_i_i246_i_i = v_r79_i_i245_i_i == 247u;
+    if (v_cond4_i_i246_i_i) { goto L_arm_26_i_i247_i_i; } else { p_v_r4_0_i220_i_i = 2u; goto L_pkcs1_params_fields_FieldThenFields_non_defaults_c__2; }
+L_arm_26_i_i247_i_i:;
+    v_r82_i_i248_i_i = v_r0_sroa_0_0_copyload_i_i222_i_i + 5;
+    v_r84_i_i249_i_i = get_u8(v_r82_i_i248_i_i);
+    v_cond5_i_i250_i_i = v_r84_i_i249_i_i == 13u;
+    if (v_cond5_i_i250_i_i) { goto L_arm_29_i_i251_i_i; } else { p_v_r4_0_i220_i_i = 2u; goto L_pkcs1_params_fields_FieldThenFields_non_defaults_c__2; }
+L_arm_29_i_i251_i_i:;
+    v_r87_i_i252_i_i = v_r0_sroa_0_0_copyload_i_i222_i_i + 6;
+    v_r89_i_i253_i_i = get_u8(v_r87_i_i252_i_i);
+    v_cond6_i_i254_i_i = v_r89_i_i253_i_i == 1u;
+    if (v_cond6_i_i254_i_i) { goto L_arm_32_i_i255_i_i; } else { p_v_r4_0_i220_i_i = 2u; goto L_pkcs1_params_fields_FieldThenFields_non_defaults_c__2; }
+L_arm_32_i_i255_i_i:;
+    v_r92_i_i256_i_i = v_r0_sroa_0_0_copyload_i_i222_i_i + 7;
+    v_r94_i_i257_i_i = get_u8(v_r92_i_i256_i_i);
+    v_cond7_i_i258_i_i = v_r94_i_i257_i_i == 1u;
+    if (v_cond7_i_i258_i_i) { goto L_arm_35_i_i259_i_i; } else { p_v_r4_0_i220_i_i = 2u; goto L_pkcs1_params_fields_FieldThenFields_non_defaults_c__2; }
+L_arm_35_i_i259_i_i:;
+    v_r97_i_i260_i_i = v_r0_sroa_0_0_copyload_i_i222_i_i + 8;
+    v_r99_i_i261_i_i = get_u8(v_r97_i_i260_i_i);
+    v_cond8_i_i262_i_i = v_r99_i_i261_i_i == 9u;
+    if (v_cond8_i_i262_i_i) { goto L_then_5_i263_i_i; } else { p_v_r4_0_i220_i_i = 2u; goto L_pkcs1_params_fields_FieldThenFields_non_defaults_c__2; }
+L_then_5_i263_i_i:;
+    v_r18_i264_i_i = v_r3_i + 144;
+    v_r10_sroa_0_0_copyload_i265_i_i = get_u64(v_r18_i264_i_i);
+    v_30 = (u64)((u64)(v_r10_sroa_0_0_copyload_i265_i_i) & (u64)(255u));
+    v_r7_i_i_i266_i_i = v_30 == 4u;
+    if (v_r7_i_i_i266_i_i) { goto L_then_1_i_i267_i_i; } else { p_v_r4_0_i220_i_i = 2u; goto L_pkcs1_params_fields_FieldThenFields_non_defaults_c__2; }
+L_then_1_i_i267_i_i:;
+    v_r10_sroa_4_0_r18_sroa_idx_i268_i_i = v_r3_i + 160;
+    v_r10_sroa_4_0_copyload_i269_i_i = get_u64(v_r10_sroa_4_0_r18_sroa_idx_i268_i_i);
+    v_r7_i_i270_not_i_i = v_r10_sroa_4_0_copyload_i269_i_i == 0u;
+    v_31 = v_r7_i_i270_not_i_i ? 0u : 2u;
+    { p_v_r4_0_i220_i_i = v_31; goto L_pkcs1_params_fields_FieldThenFields_non_defaults_c__2; }
+L_pkcs1_params_fields_FieldThenFields_non_defaults_c__2:;
+    v_r4_0_i220_i_i = p_v_r4_0_i220_i_i;
+    v_r25_i14_i_i = (u8)((u32)(v_r4_0_i220_i_i) | (u32)(v_r1_i181_i_i));
+    v_r22_i_i_i = (u8)((u32)(v_r25_i14_i_i) << (u32)((1u & 31)));
+    v_r25_i_i_i = (u8)((u32)(v_r22_i_i_i) | (u32)(v_r6_0_shrunk_i_i_i));
+    f_der_core_encode_AnyEncode_encoded_len_0e78a23a2762(v_r1_i273_i_i, v_r13_i, v_r25_i_i_i);
+    v_r3_i_i_i = get_u8(v_r1_i273_i_i);
     v_32 = v_r3_i_i_i == 0u;
-    if (v_32) { goto L_arm_1_i225_i_i; } else { goto L_pkcs1_c_status_status_exit_i_i; }
-L_arm_1_i225_i_i:;
-    v_r4_i_i_i = v_r1_i224_i_i + 4;
-    v_r0_sroa_0_0_copyload_i_i_i = get_u32(v_r4_i_i_i);
+    if (v_32) { goto L_arm_1_i274_i_i; } else { goto L_pkcs1_c_status_status_exit_i_i; }
+L_arm_1_i274_i_i:;
+    v_r4_i275_i_i = v_r1_i273_i_i + 4;
+    v_r0_sroa_0_0_copyload_i_i_i = get_u32(v_r4_i275_i_i);
     v_r3_i_i_i_i = (u64)v_r0_sroa_0_0_copyload_i_i_i;
     put_u64(v_a3, v_r3_i_i_i_i);
     { goto L_pkcs1_c_status_status_exit_i_i; }
@@ -45489,18 +45489,18 @@ L_pkcs1_c_oaep_pkcs1_c_oaep_params_encode_exit:;
     return v_r6_0_i;
 }
 u32 pkcs1_c_pss_params_encode(P v_a0, P v_a1, u64 v_a2, P v_a3) {
-    ALIGNED(4) unsigned char m_v_r1_i319_i_i[8];
+    ALIGNED(4) unsigned char m_v_r1_i326_i_i[8];
     ALIGNED(4) unsigned char m_v_r7_i148_i14_i_i_i_i_i_i_i[8];
     ALIGNED(8) unsigned char m_v_r7_i_i_i_i[24];
     ALIGNED(8) unsigned char m_v_r3_i[128];
     ALIGNED(8) unsigned char m_v_r5_i[136];
-    u1 p_v_r6_0_shrunk_i9_i_i4_i_i;
+    u1 p_v_r6_0_shrunk_i9_i_i_i_i;
     u32 p_v_r11_i_i_i638_i_i_i_i_i_i_i30;
     u1 p_v_r24_i_i_i_not_i_i_i1326;
-    u8 p_v_r22_i_i_i8_i_i1624;
+    u8 p_v_r22_i_i_i13_i_i1624;
     u1 p_v_r4_0_i1029;
     u1 p_v_r24_i_i_i_not_i_i_i1327;
-    u8 p_v_r22_i_i_i8_i_i1625;
+    u8 p_v_r22_i_i_i13_i_i1625;
     u32 p_v_r12_i_i28_sroa_15_0_i_i_i_i_i_i_i;
     u8 p_v_r12_i_i28_sroa_6_0_i_i_i_i_i_i_i;
     u8 p_v_r12_i_i28_sroa_0_0_i_i_i_i_i_i_i;
@@ -45513,7 +45513,7 @@ u32 pkcs1_c_pss_params_encode(P v_a0, P v_a1, u64 v_a2, P v_a3) {
     u8 p_v_r0_sroa_4_0_i_i_i_i_i_i_i;
     u8 p_v_r0_sroa_0_0_i_i_i_i_i_i_i;
     u1 p_v_11;
-    u8 p_v_r22_i_i_i8_i_i17;
+    u8 p_v_r22_i_i_i13_i_i17;
     u1 p_v_r24_i_i_i_not_i_i_i14;
     u1 p_v_r4_0_i11;
     u32 p_v_r12_sroa_10_0_i_ph37_i_i_i_i_i_i;
@@ -45528,12 +45528,12 @@ u32 pkcs1_c_pss_params_encode(P v_a0, P v_a1, u64 v_a2, P v_a3) {
     u64 p_v_a1_val6_i_i357_i_i_i_i_i;
     u64 p_v_r7_val5_i_i_i_i;
     u64 p_v_r7_val_i_i_i_i;
-    u8 p_v_r22_i_i_i8_i_i15;
+    u8 p_v_r22_i_i_i13_i_i15;
     u1 p_v_r4_0_i12;
     u8 p_v_r13_sroa_0_sroa_5_0_ph_i_i_i;
-    u8 p_v_r6_0_shrunk_i9_i_i_i_i;
+    u8 p_v_r6_0_shrunk_i9_i_i_i;
     u32 p_v_r6_0_i;
-    P v_r1_i319_i_i;
+    P v_r1_i326_i_i;
     P v_r7_i148_i14_i_i_i_i_i_i_i;
     P v_r7_i_i_i_i;
     P v_r3_i;
@@ -45546,9 +45546,9 @@ u32 pkcs1_c_pss_params_encode(P v_a0, P v_a1, u64 v_a2, P v_a3) {
     P v_r13_i;
     P v_r15_i_i_i_i;
     P v_r18_i1_i_i_i;
-    u8 v_r19_i_i_i_i;
-    P v_r14_i_i_i_i;
-    u8 v_r16_i_i_i_i;
+    u8 v_r19_i_i8_i_i;
+    P v_r14_i_i9_i_i;
+    u8 v_r16_i_i10_i_i;
     u1 v_1;
     P v_r0_sroa_0_0_copyload_i_i_i_i_i;
     P v_r0_sroa_3_0_a0_sroa_idx_i_i_i_i_i;
@@ -45575,7 +45575,7 @@ u32 pkcs1_c_pss_params_encode(P v_a0, P v_a1, u64 v_a2, P v_a3) {
     P v_r10_sroa_4_0_r18_sroa_idx_i_i_i_i;
     u64 v_r10_sroa_4_0_copyload_i_i_i_i;
     u1 v_r7_i_i_i_i_i;
-    u1 v_r6_0_shrunk_i9_i_i4_i_i;
+    u1 v_r6_0_shrunk_i9_i_i_i_i;
     P v_r10_i;
     u8 v_r12_i1;
     u1 v_3;
@@ -45639,7 +45639,7 @@ u32 pkcs1_c_pss_params_encode(P v_a0, P v_a1, u64 v_a2, P v_a3) {
     u64 v_5;
     u1 v_r7_i_i_i_i5;
     u1 v_r24_i_i_i_not_i_i_i7;
-    u8 v_r22_i_i_i8_i_i8;
+    u8 v_r22_i_i_i13_i_i8;
     u1 v_r7_i_i_i_i_i520_i_i_i_i_i_i_i21;
     u32 v_r11_i_i_i_i_i521_i_i_i_i_i_i_i22;
     u32 v_r11_i_i_i638_i_i_i_i_i_i_i23;
@@ -45647,7 +45647,7 @@ u32 pkcs1_c_pss_params_encode(P v_a0, P v_a1, u64 v_a2, P v_a3) {
     u64 v_r10_sroa_4_0_copyload_i_i;
     u1 v_r7_i_i_i;
     u1 v_r24_i_i_i_not_i_i_i;
-    u8 v_r22_i_i_i8_i_i;
+    u8 v_r22_i_i_i13_i_i;
     u1 v_demorgan_i_i;
     u1 v_6;
     u1 v_r7_i_i_i_i_i520_i_i_i_i_i_i_i;
@@ -45655,7 +45655,7 @@ u32 pkcs1_c_pss_params_encode(P v_a0, P v_a1, u64 v_a2, P v_a3) {
     u32 v_r11_i_i_i638_i_i_i_i_i_i_i;
     u32 v_r11_i_i_i638_i_i_i_i_i_i_i30;
     u1 v_r24_i_i_i_not_i_i_i1326;
-    u8 v_r22_i_i_i8_i_i1624;
+    u8 v_r22_i_i_i13_i_i1624;
     u8 v_r0_sroa_0_0_copyload_i154_i184_i_i_i_i_i_i_i;
     P v_r35_i155_i185_i_i_i_i_i_i_i;
     u8 v_r0_sroa_0_1_copyload_i156_i186_i_i_i_i_i_i_i;
@@ -45670,7 +45670,7 @@ u32 pkcs1_c_pss_params_encode(P v_a0, P v_a1, u64 v_a2, P v_a3) {
     u32 v_r5_sroa_10_0_i_i841_i_i_i_i_i_i_i;
     u1 v_r4_0_i1029;
     u1 v_r24_i_i_i_not_i_i_i1327;
-    u8 v_r22_i_i_i8_i_i1625;
+    u8 v_r22_i_i_i13_i_i1625;
     u32 v_r12_i_i28_sroa_15_0_i_i_i_i_i_i_i;
     u8 v_r12_i_i28_sroa_6_0_i_i_i_i_i_i_i;
     u8 v_r12_i_i28_sroa_0_0_i_i_i_i_i_i_i;
@@ -45744,7 +45744,7 @@ u32 pkcs1_c_pss_params_encode(P v_a0, P v_a1, u64 v_a2, P v_a3) {
     u32 v_i_i_i_i_i_i_i_i;
     u32 v_r8_0_i_i_i_i_i_i_i_i;
     u1 v_11;
-    u8 v_r22_i_i_i8_i_i17;
+    u8 v_r22_i_i_i13_i_i17;
     u1 v_r24_i_i_i_not_i_i_i14;
     u1 v_r4_0_i11;
     u32 v_r12_sroa_10_0_i_ph37_i_i_i_i_i_i;
@@ -46012,7 +46012,7 @@ u32 pkcs1_c_pss_params_encode(P v_a0, P v_a1, u64 v_a2, P v_a3) {
     P v_r40_i_sroa_6_0_r26_i84_i_sroa_idx_i_i_i_i;
     P v_r40_i_sroa_7_0_r26_i84_i_sroa_idx_i_i_i_i;
     P v_r40_i_sroa_8_0_r26_i84_i_sroa_idx_i_i_i_i;
-    u8 v_r22_i_i_i8_i_i15;
+    u8 v_r22_i_i_i13_i_i15;
     u1 v_r4_0_i12;
     u8 v_r13_sroa_0_sroa_5_0_ph_i_i_i;
     P v_r0_sroa_0_0_copyload_i_i_i_i;
@@ -46033,23 +46033,23 @@ u32 pkcs1_c_pss_params_encode(P v_a0, P v_a1, u64 v_a2, P v_a3) {
     P v_r48_i_i_i_i;
     u8 v_r50_i_i_i_i;
     u1 v_cond4_i_i_i_i;
-    P v_r18_i17_i_i;
+    P v_r18_i22_i_i;
     u64 v_r10_sroa_0_0_copyload_i_i_i;
     u64 v_22;
-    u1 v_r7_i_i_i18_i_i;
+    u1 v_r7_i_i_i23_i_i;
     P v_r10_sroa_4_0_r18_sroa_idx_i_i_i;
     u64 v_r10_sroa_4_0_copyload_i_i_i;
-    u1 v_r7_i_i19_i_i;
+    u1 v_r7_i_i24_i_i;
     u8 v_23;
-    u8 v_r6_0_shrunk_i9_i_i_i_i;
-    u1 v_r13_i_i_i_i_i;
-    u8 v_r1_i136_i_i;
-    u8 v_r25_i_i_i_i_i;
-    u8 v_r22_i_i_i_i;
+    u8 v_r6_0_shrunk_i9_i_i_i;
+    u1 v_r13_i_i_i_i;
+    u8 v_r1_i143_i_i;
     u8 v_r25_i_i_i_i;
+    u8 v_r22_i_i_i;
+    u8 v_r25_i_i_i;
     u8 v_r3_i_i_i;
     u1 v_24;
-    P v_r4_i_i_i;
+    P v_r4_i328_i_i;
     u32 v_r0_sroa_0_0_copyload_i_i_i;
     u64 v_r3_i_i_i_i;
     u32 v_switch_idx_cast_i_i_i_i;
@@ -46061,7 +46061,7 @@ u32 pkcs1_c_pss_params_encode(P v_a0, P v_a1, u64 v_a2, P v_a3) {
     u32 v_switch_idx_cast_i_i_i;
     u32 v_switch_offset_i_i_i;
     u32 v_r6_0_i;
-    v_r1_i319_i_i = m_v_r1_i319_i_i;
+    v_r1_i326_i_i = m_v_r1_i326_i_i;
     v_r7_i148_i14_i_i_i_i_i_i_i = m_v_r7_i148_i14_i_i_i_i_i_i_i;
     v_r7_i_i_i_i = m_v_r7_i_i_i_i;
     v_r3_i = m_v_r3_i;
@@ -46079,54 +46079,54 @@ L_arm_1_i:;
     copy(v_r3_i, v_r13_i, 128u);
     v_r15_i_i_i_i = v_r3_i + 48;
     v_r18_i1_i_i_i = v_r3_i + 120;
-    v_r19_i_i_i_i = get_u8(v_r18_i1_i_i_i);
-    v_r14_i_i_i_i = v_r3_i + 16;
-    v_r16_i_i_i_i = get_u8(v_r14_i_i_i_i);
-    v_1 = v_r16_i_i_i_i == 1u;
-    if (v_1) { goto L_arm_1_i_i_i_i; } else { p_v_r6_0_shrunk_i9_i_i4_i_i = 0u; goto L_pkcs1_params_fields_FieldThenFields_non_defaults_6; }
-L_arm_1_i_i_i_i:;
+    v_r19_i_i8_i_i = get_u8(v_r18_i1_i_i_i);
+    v_r14_i_i9_i_i = v_r3_i + 16;
+    v_r16_i_i10_i_i = get_u8(v_r14_i_i9_i_i);
+    v_1 = v_r16_i_i10_i_i == 1u;
+    if (v_1) { goto L_arm_1_i_i14_i_i; } else { p_v_r6_0_shrunk_i9_i_i_i_i = 0u; goto L_pkcs1_params_fields_FieldThenFields_non_defaults_6; }
+L_arm_1_i_i14_i_i:;
     v_r0_sroa_0_0_copyload_i_i_i_i_i = get_P(v_r3_i);
     v_r0_sroa_3_0_a0_sroa_idx_i_i_i_i_i = v_r3_i + 8;
     v_r0_sroa_3_0_copyload_i_i_i_i_i = get_u64(v_r0_sroa_3_0_a0_sroa_idx_i_i_i_i_i);
     v_r23_i_i_i_i_i = v_r0_sroa_3_0_copyload_i_i_i_i_i == 5u;
-    if (v_r23_i_i_i_i_i) { goto L_then_6_i_i_i_i_i; } else { p_v_r6_0_shrunk_i9_i_i4_i_i = 0u; goto L_pkcs1_params_fields_FieldThenFields_non_defaults_6; }
+    if (v_r23_i_i_i_i_i) { goto L_then_6_i_i_i_i_i; } else { p_v_r6_0_shrunk_i9_i_i_i_i = 0u; goto L_pkcs1_params_fields_FieldThenFields_non_defaults_6; }
 L_then_6_i_i_i_i_i:;
     v_r30_i_i_i_i_i = get_u8(v_r0_sroa_0_0_copyload_i_i_i_i_i);
     v_cond_i_i_i_i_i = v_r30_i_i_i_i_i == 43u;
-    if (v_cond_i_i_i_i_i) { goto L_arm_9_i_i_i_i_i; } else { p_v_r6_0_shrunk_i9_i_i4_i_i = 0u; goto L_pkcs1_params_fields_FieldThenFields_non_defaults_6; }
+    if (v_cond_i_i_i_i_i) { goto L_arm_9_i_i_i_i_i; } else { p_v_r6_0_shrunk_i9_i_i_i_i = 0u; goto L_pkcs1_params_fields_FieldThenFields_non_defaults_6; }
 L_arm_9_i_i_i_i_i:;
     v_r33_i_i_i_i_i = v_r0_sroa_0_0_copyload_i_i_i_i_i + 1;
     v_r35_i_i_i_i_i = get_u8(v_r33_i_i_i_i_i);
     v_cond1_i_i_i_i_i = v_r35_i_i_i_i_i == 14u;
-    if (v_cond1_i_i_i_i_i) { goto L_arm_12_i_i_i_i_i; } else { p_v_r6_0_shrunk_i9_i_i4_i_i = 0u; goto L_pkcs1_params_fields_FieldThenFields_non_defaults_6; }
+    if (v_cond1_i_i_i_i_i) { goto L_arm_12_i_i_i_i_i; } else { p_v_r6_0_shrunk_i9_i_i_i_i = 0u; goto L_pkcs1_params_fields_FieldThenFields_non_defaults_6; }
 L_arm_12_i_i_i_i_i:;
     v_r38_i_i_i_i_i = v_r0_sroa_0_0_copyload_i_i_i_i_i + 2;
     v_r40_i_i_i_i_i = get_u8(v_r38_i_i_i_i_i);
     v_cond2_i_i_i_i_i = v_r40_i_i_i_i_i == 3u;
-    if (v_cond2_i_i_i_i_i) { goto L_arm_15_i_i_i_i_i; } else { p_v_r6_0_shrunk_i9_i_i4_i_i = 0u; goto L_pkcs1_params_fields_FieldThenFields_non_defaults_6; }
+    if (v_cond2_i_i_i_i_i) { goto L_arm_15_i_i_i_i_i; } else { p_v_r6_0_shrunk_i9_i_i_i_i = 0u; goto L_pkcs1_params_fields_FieldThenFields_non_defaults_6; }
 L_arm_15_i_i_i_i_i:;
     v_r43_i_i_i_i_i = v_r0_sroa_0_0_copyload_i_i_i_i_i + 3;
     v_r45_i_i_i_i_i = get_u8(v_r43_i_i_i_i_i);
     v_cond3_i_i_i_i_i = v_r45_i_i_i_i_i == 2u;
-    if (v_cond3_i_i_i_i_i) { goto L_arm_18_i_i_i_i_i; } else { p_v_r6_0_shrunk_i9_i_i4_i_i = 0u; goto L_pkcs1_params_fields_FieldThenFields_non_defaults_6; }
+    if (v_cond3_i_i_i_i_i) { goto L_arm_18_i_i_i_i_i; } else { p_v_r6_0_shrunk_i9_i_i_i_i = 0u; goto L_pkcs1_params_fields_FieldThenFields_non_defaults_6; }
 L_arm_18_i_i_i_i_i:;
     v_r48_i_i_i_i_i = v_r0_sroa_0_0_copyload_i_i_i_i_i + 4;
     v_r50_i_i_i_i_i = get_u8(v_r48_i_i_i_i_i);
     v_cond4_i_i_i_i_i = v_r50_i_i_i_i_i == 26u;
-    if (v_cond4_i_i_i_i_i) { goto L_then_5_i_i_i_i; } else { p_v_r6_0_shrunk_i9_i_i4_i_i = 0u; goto L_pkcs1_params_fields_FieldThenFields_non_defaults_6; }
+    if (v_cond4_i_i_i_i_i) { goto L_then_5_i_i_i_i; } else { p_v_r6_0_shrunk_i9_i_i_i_i = 0u; goto L_pkcs1_params_fields_FieldThenFields_non_defaults_6; }
 L_then_5_i_i_i_i:;
     v_r18_i3_i_i_i = v_r3_i + 24;
     v_r10_sroa_0_0_copyload_i_i_i_i = get_u64(v_r18_i3_i_i_i);
     v_2 = (u64)((u64)(v_r10_sroa_0_0_copyload_i_i_i_i) & (u64)(255u));
     v_r7_i_i_i_i_i_i = v_2 == 5u;
-    if (v_r7_i_i_i_i_i_i) { goto L_then_1_i_i_i_i_i; } else { p_v_r6_0_shrunk_i9_i_i4_i_i = 0u; goto L_pkcs1_params_fields_FieldThenFields_non_defaults_6; }
+    if (v_r7_i_i_i_i_i_i) { goto L_then_1_i_i_i_i_i; } else { p_v_r6_0_shrunk_i9_i_i_i_i = 0u; goto L_pkcs1_params_fields_FieldThenFields_non_defaults_6; }
 L_then_1_i_i_i_i_i:;
     v_r10_sroa_4_0_r18_sroa_idx_i_i_i_i = v_r3_i + 40;
     v_r10_sroa_4_0_copyload_i_i_i_i = get_u64(v_r10_sroa_4_0_r18_sroa_idx_i_i_i_i);
     v_r7_i_i_i_i_i = v_r10_sroa_4_0_copyload_i_i_i_i == 0u;
-    { p_v_r6_0_shrunk_i9_i_i4_i_i = v_r7_i_i_i_i_i; goto L_pkcs1_params_fields_FieldThenFields_non_defaults_6; }
+    { p_v_r6_0_shrunk_i9_i_i_i_i = v_r7_i_i_i_i_i; goto L_pkcs1_params_fields_FieldThenFields_non_defaults_6; }
 L_pkcs1_params_fields_FieldThenFields_non_defaults_6:;
-    v_r6_0_shrunk_i9_i_i4_i_i = p_v_r6_0_shrunk_i9_i_i4_i_i;
+    v_r6_0_shrunk_i9_i_i_i_i = p_v_r6_0_shrunk_i9_i_i_i_i;
     v_r10_i = v_r3_i + 64;
     v_r12_i1 = get_u8(v_r10_i);
     v_3 = v_r12_i1 == 1u;
@@ -46225,30 +46225,30 @@ L_then_5_i_i:;
     v_r7_i_i_i_i5 = v_5 == 5u;
     if (v_r7_i_i_i_i5) { goto L_pkcs1_params_holders_AlgorithmIdentifierOfAlgorith; } else { goto L_start_split_i_i_i_i_i_i_i_i_thread; }
 L_start_split_i_i_i_i_i_i_i_i_thread:;
-    v_r24_i_i_i_not_i_i_i7 = v_r19_i_i_i_i == 20u;
-    v_r22_i_i_i8_i_i8 = v_r24_i_i_i_not_i_i_i7 ? 0u : 2u;
-    v_r7_i_i_i_i_i520_i_i_i_i_i_i_i21 = (u8)(v_r19_i_i_i_i ^ ((u8)1 << 7)) > (u8)(255u ^ ((u8)1 << 7));
+    v_r24_i_i_i_not_i_i_i7 = v_r19_i_i8_i_i == 20u;
+    v_r22_i_i_i13_i_i8 = v_r24_i_i_i_not_i_i_i7 ? 0u : 2u;
+    v_r7_i_i_i_i_i520_i_i_i_i_i_i_i21 = (u8)(v_r19_i_i8_i_i ^ ((u8)1 << 7)) > (u8)(255u ^ ((u8)1 << 7));
     v_r11_i_i_i_i_i521_i_i_i_i_i_i_i22 = v_r7_i_i_i_i_i520_i_i_i_i_i_i_i21 ? 5u : 6u;
     v_r11_i_i_i638_i_i_i_i_i_i_i23 = v_r24_i_i_i_not_i_i_i7 ? 0u : v_r11_i_i_i_i_i521_i_i_i_i_i_i_i22;
-    { p_v_r11_i_i_i638_i_i_i_i_i_i_i30 = v_r11_i_i_i638_i_i_i_i_i_i_i23; p_v_r24_i_i_i_not_i_i_i1326 = v_r24_i_i_i_not_i_i_i7; p_v_r22_i_i_i8_i_i1624 = v_r22_i_i_i8_i_i8; goto L_pkcs1_params_fields_FieldRef_len_7700fbca592c367d_; }
+    { p_v_r11_i_i_i638_i_i_i_i_i_i_i30 = v_r11_i_i_i638_i_i_i_i_i_i_i23; p_v_r24_i_i_i_not_i_i_i1326 = v_r24_i_i_i_not_i_i_i7; p_v_r22_i_i_i13_i_i1624 = v_r22_i_i_i13_i_i8; goto L_pkcs1_params_fields_FieldRef_len_7700fbca592c367d_; }
 L_pkcs1_params_holders_AlgorithmIdentifierOfAlgorith:;
     v_r10_sroa_4_0_r18_sroa_idx_i_i = v_r3_i + 112;
     v_r10_sroa_4_0_copyload_i_i = get_u64(v_r10_sroa_4_0_r18_sroa_idx_i_i);
     v_r7_i_i_i = v_r10_sroa_4_0_copyload_i_i == 0u;
-    v_r24_i_i_i_not_i_i_i = v_r19_i_i_i_i == 20u;
-    v_r22_i_i_i8_i_i = v_r24_i_i_i_not_i_i_i ? 0u : 2u;
-    v_demorgan_i_i = (u1)(((u32)(v_r6_0_shrunk_i9_i_i4_i_i) & (u32)(v_r7_i_i_i)) & 1);
+    v_r24_i_i_i_not_i_i_i = v_r19_i_i8_i_i == 20u;
+    v_r22_i_i_i13_i_i = v_r24_i_i_i_not_i_i_i ? 0u : 2u;
+    v_demorgan_i_i = (u1)(((u32)(v_r6_0_shrunk_i9_i_i_i_i) & (u32)(v_r7_i_i_i)) & 1);
     v_6 = (u1)(((u32)(v_r24_i_i_i_not_i_i_i) & (u32)(v_demorgan_i_i)) & 1);
-    if (v_6) { p_v_11 = 1u; p_v_r22_i_i_i8_i_i17 = v_r22_i_i_i8_i_i; p_v_r24_i_i_i_not_i_i_i14 = 1u; p_v_r4_0_i11 = 1u; p_v_r12_sroa_10_0_i_ph37_i_i_i_i_i_i = 0u; p_v_r4_0_i_i_i_i_i_i_i_i = 2u; goto L_der_core_encode_AnyEncode_encoded_len_587776524a72; } else { goto L_start_split_i_i_i_i_i_i_i_i; }
+    if (v_6) { p_v_11 = 1u; p_v_r22_i_i_i13_i_i17 = v_r22_i_i_i13_i_i; p_v_r24_i_i_i_not_i_i_i14 = 1u; p_v_r4_0_i11 = 1u; p_v_r12_sroa_10_0_i_ph37_i_i_i_i_i_i = 0u; p_v_r4_0_i_i_i_i_i_i_i_i = 2u; goto L_der_core_encode_AnyEncode_encoded_len_587776524a72; } else { goto L_start_split_i_i_i_i_i_i_i_i; }
 L_start_split_i_i_i_i_i_i_i_i:;
-    v_r7_i_i_i_i_i520_i_i_i_i_i_i_i = (u8)(v_r19_i_i_i_i ^ ((u8)1 << 7)) > (u8)(255u ^ ((u8)1 << 7));
+    v_r7_i_i_i_i_i520_i_i_i_i_i_i_i = (u8)(v_r19_i_i8_i_i ^ ((u8)1 << 7)) > (u8)(255u ^ ((u8)1 << 7));
     v_r11_i_i_i_i_i521_i_i_i_i_i_i_i = v_r7_i_i_i_i_i520_i_i_i_i_i_i_i ? 5u : 6u;
     v_r11_i_i_i638_i_i_i_i_i_i_i = v_r24_i_i_i_not_i_i_i ? 0u : v_r11_i_i_i_i_i521_i_i_i_i_i_i_i;
-    if (v_r7_i_i_i) { p_v_r4_0_i1029 = 1u; p_v_r24_i_i_i_not_i_i_i1327 = v_r24_i_i_i_not_i_i_i; p_v_r22_i_i_i8_i_i1625 = v_r22_i_i_i8_i_i; p_v_r12_i_i28_sroa_15_0_i_i_i_i_i_i_i = v_r11_i_i_i638_i_i_i_i_i_i_i; p_v_r12_i_i28_sroa_6_0_i_i_i_i_i_i_i = 0u; p_v_r12_i_i28_sroa_0_0_i_i_i_i_i_i_i = 0u; goto L_pkcs1_params_fields_FieldThenFields_len_fa13ded462; } else { p_v_r11_i_i_i638_i_i_i_i_i_i_i30 = v_r11_i_i_i638_i_i_i_i_i_i_i; p_v_r24_i_i_i_not_i_i_i1326 = v_r24_i_i_i_not_i_i_i; p_v_r22_i_i_i8_i_i1624 = v_r22_i_i_i8_i_i; goto L_pkcs1_params_fields_FieldRef_len_7700fbca592c367d_; }
+    if (v_r7_i_i_i) { p_v_r4_0_i1029 = 1u; p_v_r24_i_i_i_not_i_i_i1327 = v_r24_i_i_i_not_i_i_i; p_v_r22_i_i_i13_i_i1625 = v_r22_i_i_i13_i_i; p_v_r12_i_i28_sroa_15_0_i_i_i_i_i_i_i = v_r11_i_i_i638_i_i_i_i_i_i_i; p_v_r12_i_i28_sroa_6_0_i_i_i_i_i_i_i = 0u; p_v_r12_i_i28_sroa_0_0_i_i_i_i_i_i_i = 0u; goto L_pkcs1_params_fields_FieldThenFields_len_fa13ded462; } else { p_v_r11_i_i_i638_i_i_i_i_i_i_i30 = v_r11_i_i_i638_i_i_i_i_i_i_i; p_v_r24_i_i_i_not_i_i_i1326 = v_r24_i_i_i_not_i_i_i; p_v_r22_i_i_i13_i_i1624 = v_r22_i_i_i13_i_i; goto L_pkcs1_params_fields_FieldRef_len_7700fbca592c367d_; }
 L_pkcs1_params_fields_FieldRef_len_7700fbca592c367d_:;
     v_r11_i_i_i638_i_i_i_i_i_i_i30 = p_v_r11_i_i_i638_i_i_i_i_i_i_i30;
     v_r24_i_i_i_not_i_i_i1326 = p_v_r24_i_i_i_not_i_i_i1326;
-    v_r22_i_i_i8_i_i1624 = p_v_r22_i_i_i8_i_i1624;
+    v_r22_i_i_i13_i_i1624 = p_v_r22_i_i_i13_i_i1624;
     f_spki_core_field_field_len_0f274667a4ba0225(v_r7_i148_i14_i_i_i_i_i_i_i, v_r15_i_i_i_i);
     v_r0_sroa_0_0_copyload_i154_i184_i_i_i_i_i_i_i = get_u8(v_r7_i148_i14_i_i_i_i_i_i_i);
     v_r35_i155_i185_i_i_i_i_i_i_i = v_r7_i148_i14_i_i_i_i_i_i_i + 1;
@@ -46256,7 +46256,7 @@ L_pkcs1_params_fields_FieldRef_len_7700fbca592c367d_:;
     v_r41_i161_i191_i_i_i_i_i_i_i = v_r7_i148_i14_i_i_i_i_i_i_i + 4;
     v_r0_sroa_0_4_copyload_i162_i192_i_i_i_i_i_i_i = get_u32(v_r41_i161_i191_i_i_i_i_i_i_i);
     v_7 = v_r0_sroa_0_0_copyload_i154_i184_i_i_i_i_i_i_i == 0u;
-    if (v_7) { goto L_arm_5_i835_i_i_i_i_i_i_i; } else { p_v_r4_0_i1029 = 0u; p_v_r24_i_i_i_not_i_i_i1327 = v_r24_i_i_i_not_i_i_i1326; p_v_r22_i_i_i8_i_i1625 = v_r22_i_i_i8_i_i1624; p_v_r12_i_i28_sroa_15_0_i_i_i_i_i_i_i = 0u; p_v_r12_i_i28_sroa_6_0_i_i_i_i_i_i_i = v_r0_sroa_0_1_copyload_i156_i186_i_i_i_i_i_i_i; p_v_r12_i_i28_sroa_0_0_i_i_i_i_i_i_i = 1u; goto L_pkcs1_params_fields_FieldThenFields_len_fa13ded462; }
+    if (v_7) { goto L_arm_5_i835_i_i_i_i_i_i_i; } else { p_v_r4_0_i1029 = 0u; p_v_r24_i_i_i_not_i_i_i1327 = v_r24_i_i_i_not_i_i_i1326; p_v_r22_i_i_i13_i_i1625 = v_r22_i_i_i13_i_i1624; p_v_r12_i_i28_sroa_15_0_i_i_i_i_i_i_i = 0u; p_v_r12_i_i28_sroa_6_0_i_i_i_i_i_i_i = v_r0_sroa_0_1_copyload_i156_i186_i_i_i_i_i_i_i; p_v_r12_i_i28_sroa_0_0_i_i_i_i_i_i_i = 1u; goto L_pkcs1_params_fields_FieldThenFields_len_fa13ded462; }
 L_arm_5_i835_i_i_i_i_i_i_i:;
     v_r5_i_i_i836_i_i_i_i_i_i_i = (u32)((u32)(v_r11_i_i_i638_i_i_i_i_i_i_i30) ^ (u32)(4294967295ull));
     v_r7_i_not_i_i837_i_i_i_i_i_i_i = v_r0_sroa_0_4_copyload_i162_i192_i_i_i_i_i_i_i > v_r5_i_i_i836_i_i_i_i_i_i_i;
@@ -46264,15 +46264,15 @@ L_arm_5_i835_i_i_i_i_i_i_i:;
     v_r5_sroa_0_0_i_i839_i_i_i_i_i_i_i = (u8)v_r7_i_not_i_i837_i_i_i_i_i_i_i;
     v_r5_sroa_4_0_i_i840_i_i_i_i_i_i_i = v_r7_i_not_i_i837_i_i_i_i_i_i_i ? 7u : 0u;
     v_r5_sroa_10_0_i_i841_i_i_i_i_i_i_i = v_r7_i_not_i_i837_i_i_i_i_i_i_i ? 0u : v_r11_i_i_i838_i_i_i_i_i_i_i;
-    { p_v_r4_0_i1029 = 0u; p_v_r24_i_i_i_not_i_i_i1327 = v_r24_i_i_i_not_i_i_i1326; p_v_r22_i_i_i8_i_i1625 = v_r22_i_i_i8_i_i1624; p_v_r12_i_i28_sroa_15_0_i_i_i_i_i_i_i = v_r5_sroa_10_0_i_i841_i_i_i_i_i_i_i; p_v_r12_i_i28_sroa_6_0_i_i_i_i_i_i_i = v_r5_sroa_4_0_i_i840_i_i_i_i_i_i_i; p_v_r12_i_i28_sroa_0_0_i_i_i_i_i_i_i = v_r5_sroa_0_0_i_i839_i_i_i_i_i_i_i; goto L_pkcs1_params_fields_FieldThenFields_len_fa13ded462; }
+    { p_v_r4_0_i1029 = 0u; p_v_r24_i_i_i_not_i_i_i1327 = v_r24_i_i_i_not_i_i_i1326; p_v_r22_i_i_i13_i_i1625 = v_r22_i_i_i13_i_i1624; p_v_r12_i_i28_sroa_15_0_i_i_i_i_i_i_i = v_r5_sroa_10_0_i_i841_i_i_i_i_i_i_i; p_v_r12_i_i28_sroa_6_0_i_i_i_i_i_i_i = v_r5_sroa_4_0_i_i840_i_i_i_i_i_i_i; p_v_r12_i_i28_sroa_0_0_i_i_i_i_i_i_i = v_r5_sroa_0_0_i_i839_i_i_i_i_i_i_i; goto L_pkcs1_params_fields_FieldThenFields_len_fa13ded462; }
 L_pkcs1_params_fields_FieldThenFields_len_fa13ded462:;
     v_r4_0_i1029 = p_v_r4_0_i1029;
     v_r24_i_i_i_not_i_i_i1327 = p_v_r24_i_i_i_not_i_i_i1327;
-    v_r22_i_i_i8_i_i1625 = p_v_r22_i_i_i8_i_i1625;
+    v_r22_i_i_i13_i_i1625 = p_v_r22_i_i_i13_i_i1625;
     v_r12_i_i28_sroa_15_0_i_i_i_i_i_i_i = p_v_r12_i_i28_sroa_15_0_i_i_i_i_i_i_i;
     v_r12_i_i28_sroa_6_0_i_i_i_i_i_i_i = p_v_r12_i_i28_sroa_6_0_i_i_i_i_i_i_i;
     v_r12_i_i28_sroa_0_0_i_i_i_i_i_i_i = p_v_r12_i_i28_sroa_0_0_i_i_i_i_i_i_i;
-    if (v_r6_0_shrunk_i9_i_i4_i_i) { p_v_r0_sroa_13_0_i_i_i_i_i_i_i = v_r12_i_i28_sroa_15_0_i_i_i_i_i_i_i; p_v_r0_sroa_4_0_i_i_i_i_i_i_i = v_r12_i_i28_sroa_6_0_i_i_i_i_i_i_i; p_v_r0_sroa_0_0_i_i_i_i_i_i_i = v_r12_i_i28_sroa_0_0_i_i_i_i_i_i_i; goto L_pkcs1_params_spelling_SpellingEncodeValue_value_le; } else { goto L_arm_1_i211_i257_i_i_i_i_i_i_i; }
+    if (v_r6_0_shrunk_i9_i_i_i_i) { p_v_r0_sroa_13_0_i_i_i_i_i_i_i = v_r12_i_i28_sroa_15_0_i_i_i_i_i_i_i; p_v_r0_sroa_4_0_i_i_i_i_i_i_i = v_r12_i_i28_sroa_6_0_i_i_i_i_i_i_i; p_v_r0_sroa_0_0_i_i_i_i_i_i_i = v_r12_i_i28_sroa_0_0_i_i_i_i_i_i_i; goto L_pkcs1_params_spelling_SpellingEncodeValue_value_le; } else { goto L_arm_1_i211_i257_i_i_i_i_i_i_i; }
 L_arm_1_i211_i257_i_i_i_i_i_i_i:;
     v_r0_sroa_3_0_a0_sroa_idx_i_i_i_i_i_i843_i_i_i_i_i_i = v_r3_i + 8;
     v_r0_sroa_3_0_copyload_i_i_i_i_i_i844_i_i_i_i_i_i_i = get_u64(v_r0_sroa_3_0_a0_sroa_idx_i_i_i_i_i_i843_i_i_i_i_i_i);
@@ -46355,7 +46355,7 @@ L_pkcs1_params_fields_FieldRef_len_7700fbca592c367d___2:;
     if (v_r7_i_not_i_i_i_i885_not_i_i_i_i_i_i_i) { goto L_arm_2_i1022_i_i_i_i_i_i_i; } else { goto L_arm_1_i1034_i_i_i_i_i_i_i; }
 L_arm_1_i1034_i_i_i_i_i_i_i:;
     v_9 = v_r12_i_i28_sroa_0_0_i_i_i_i_i_i_i == 0u;
-    if (v_9) { goto L_arm_5_i1035_i_i_i_i_i_i_i; } else { p_v_r22_i_i_i8_i_i15 = v_r22_i_i_i8_i_i1625; p_v_r4_0_i12 = v_r4_0_i1029; p_v_r13_sroa_0_sroa_5_0_ph_i_i_i = v_r12_i_i28_sroa_6_0_i_i_i_i_i_i_i; goto L_arm_1_i22_i_i_i_i; }
+    if (v_9) { goto L_arm_5_i1035_i_i_i_i_i_i_i; } else { p_v_r22_i_i_i13_i_i15 = v_r22_i_i_i13_i_i1625; p_v_r4_0_i12 = v_r4_0_i1029; p_v_r13_sroa_0_sroa_5_0_ph_i_i_i = v_r12_i_i28_sroa_6_0_i_i_i_i_i_i_i; goto L_arm_1_i22_i_i_i; }
 L_arm_5_i1035_i_i_i_i_i_i_i:;
     v_r5_i_i_i1036_i_i_i_i_i_i_i = (u32)((u32)(v_r12_i_i28_sroa_15_0_i_i_i_i_i_i_i) ^ (u32)(4294967295ull));
     v_r7_i_not_i_i1037_i_i_i_i_i_i_i = v_r11_i_i_i_i_i886_i_i_i_i_i_i_i > v_r5_i_i_i1036_i_i_i_i_i_i_i;
@@ -46367,40 +46367,40 @@ L_arm_5_i1035_i_i_i_i_i_i_i:;
 L_arm_2_i1022_i_i_i_i_i_i_i:;
     v_not1959_not_i_i_i_i_i_i_i = v_r12_i_i28_sroa_0_0_i_i_i_i_i_i_i == 0u;
     v_spec_select_i_i = v_not1959_not_i_i_i_i_i_i_i ? 7u : v_r12_i_i28_sroa_6_0_i_i_i_i_i_i_i;
-    { p_v_r22_i_i_i8_i_i15 = v_r22_i_i_i8_i_i1625; p_v_r4_0_i12 = v_r4_0_i1029; p_v_r13_sroa_0_sroa_5_0_ph_i_i_i = v_spec_select_i_i; goto L_arm_1_i22_i_i_i_i; }
+    { p_v_r22_i_i_i13_i_i15 = v_r22_i_i_i13_i_i1625; p_v_r4_0_i12 = v_r4_0_i1029; p_v_r13_sroa_0_sroa_5_0_ph_i_i_i = v_spec_select_i_i; goto L_arm_1_i22_i_i_i; }
 L_pkcs1_params_spelling_SpellingEncodeValue_value_le:;
     v_r0_sroa_13_0_i_i_i_i_i_i_i = p_v_r0_sroa_13_0_i_i_i_i_i_i_i;
     v_r0_sroa_4_0_i_i_i_i_i_i_i = p_v_r0_sroa_4_0_i_i_i_i_i_i_i;
     v_r0_sroa_0_0_i_i_i_i_i_i_i = p_v_r0_sroa_0_0_i_i_i_i_i_i_i;
     v_10 = v_r0_sroa_0_0_i_i_i_i_i_i_i == 0u;
-    if (v_10) { goto L_arm_1_i_i_i304_i_i_i; } else { p_v_r22_i_i_i8_i_i15 = v_r22_i_i_i8_i_i1625; p_v_r4_0_i12 = v_r4_0_i1029; p_v_r13_sroa_0_sroa_5_0_ph_i_i_i = v_r0_sroa_4_0_i_i_i_i_i_i_i; goto L_arm_1_i22_i_i_i_i; }
+    if (v_10) { goto L_arm_1_i_i_i304_i_i_i; } else { p_v_r22_i_i_i13_i_i15 = v_r22_i_i_i13_i_i1625; p_v_r4_0_i12 = v_r4_0_i1029; p_v_r13_sroa_0_sroa_5_0_ph_i_i_i = v_r0_sroa_4_0_i_i_i_i_i_i_i; goto L_arm_1_i22_i_i_i; }
 L_arm_1_i_i_i304_i_i_i:;
     v_r12_i_i4_i_i_i_i_i_i = v_r0_sroa_13_0_i_i_i_i_i_i_i < 128u;
-    if (v_r12_i_i4_i_i_i_i_i_i) { p_v_11 = 0u; p_v_r22_i_i_i8_i_i17 = v_r22_i_i_i8_i_i1625; p_v_r24_i_i_i_not_i_i_i14 = v_r24_i_i_i_not_i_i_i1327; p_v_r4_0_i11 = v_r4_0_i1029; p_v_r12_sroa_10_0_i_ph37_i_i_i_i_i_i = v_r0_sroa_13_0_i_i_i_i_i_i_i; p_v_r4_0_i_i_i_i_i_i_i_i = 2u; goto L_der_core_encode_AnyEncode_encoded_len_587776524a72; } else { goto L_else_2_i_i_i_i_i_i_i_i; }
+    if (v_r12_i_i4_i_i_i_i_i_i) { p_v_11 = 0u; p_v_r22_i_i_i13_i_i17 = v_r22_i_i_i13_i_i1625; p_v_r24_i_i_i_not_i_i_i14 = v_r24_i_i_i_not_i_i_i1327; p_v_r4_0_i11 = v_r4_0_i1029; p_v_r12_sroa_10_0_i_ph37_i_i_i_i_i_i = v_r0_sroa_13_0_i_i_i_i_i_i_i; p_v_r4_0_i_i_i_i_i_i_i_i = 2u; goto L_der_core_encode_AnyEncode_encoded_len_587776524a72; } else { goto L_else_2_i_i_i_i_i_i_i_i; }
 L_else_2_i_i_i_i_i_i_i_i:;
     v_r17_i_i_i_i_i_i_i_i = v_r0_sroa_13_0_i_i_i_i_i_i_i < 256u;
-    if (v_r17_i_i_i_i_i_i_i_i) { p_v_11 = 0u; p_v_r22_i_i_i8_i_i17 = v_r22_i_i_i8_i_i1625; p_v_r24_i_i_i_not_i_i_i14 = v_r24_i_i_i_not_i_i_i1327; p_v_r4_0_i11 = v_r4_0_i1029; p_v_r12_sroa_10_0_i_ph37_i_i_i_i_i_i = v_r0_sroa_13_0_i_i_i_i_i_i_i; p_v_r4_0_i_i_i_i_i_i_i_i = 3u; goto L_der_core_encode_AnyEncode_encoded_len_587776524a72; } else { goto L_else_5_i_i_i_i_i_i_i_i; }
+    if (v_r17_i_i_i_i_i_i_i_i) { p_v_11 = 0u; p_v_r22_i_i_i13_i_i17 = v_r22_i_i_i13_i_i1625; p_v_r24_i_i_i_not_i_i_i14 = v_r24_i_i_i_not_i_i_i1327; p_v_r4_0_i11 = v_r4_0_i1029; p_v_r12_sroa_10_0_i_ph37_i_i_i_i_i_i = v_r0_sroa_13_0_i_i_i_i_i_i_i; p_v_r4_0_i_i_i_i_i_i_i_i = 3u; goto L_der_core_encode_AnyEncode_encoded_len_587776524a72; } else { goto L_else_5_i_i_i_i_i_i_i_i; }
 L_else_5_i_i_i_i_i_i_i_i:;
     v_r22_i_i_i_i_i_i_i_i = v_r0_sroa_13_0_i_i_i_i_i_i_i < 65536u;
     v_r27_i_i_i_i_i_i_i_i = v_r0_sroa_13_0_i_i_i_i_i_i_i < 16777216u;
     v_i_i_i_i_i_i_i_i = v_r27_i_i_i_i_i_i_i_i ? 5u : 6u;
     v_r8_0_i_i_i_i_i_i_i_i = v_r22_i_i_i_i_i_i_i_i ? 4u : v_i_i_i_i_i_i_i_i;
-    { p_v_11 = 0u; p_v_r22_i_i_i8_i_i17 = v_r22_i_i_i8_i_i1625; p_v_r24_i_i_i_not_i_i_i14 = v_r24_i_i_i_not_i_i_i1327; p_v_r4_0_i11 = v_r4_0_i1029; p_v_r12_sroa_10_0_i_ph37_i_i_i_i_i_i = v_r0_sroa_13_0_i_i_i_i_i_i_i; p_v_r4_0_i_i_i_i_i_i_i_i = v_r8_0_i_i_i_i_i_i_i_i; goto L_der_core_encode_AnyEncode_encoded_len_587776524a72; }
+    { p_v_11 = 0u; p_v_r22_i_i_i13_i_i17 = v_r22_i_i_i13_i_i1625; p_v_r24_i_i_i_not_i_i_i14 = v_r24_i_i_i_not_i_i_i1327; p_v_r4_0_i11 = v_r4_0_i1029; p_v_r12_sroa_10_0_i_ph37_i_i_i_i_i_i = v_r0_sroa_13_0_i_i_i_i_i_i_i; p_v_r4_0_i_i_i_i_i_i_i_i = v_r8_0_i_i_i_i_i_i_i_i; goto L_der_core_encode_AnyEncode_encoded_len_587776524a72; }
 L_der_core_encode_AnyEncode_encoded_len_587776524a72:;
     v_11 = p_v_11;
-    v_r22_i_i_i8_i_i17 = p_v_r22_i_i_i8_i_i17;
+    v_r22_i_i_i13_i_i17 = p_v_r22_i_i_i13_i_i17;
     v_r24_i_i_i_not_i_i_i14 = p_v_r24_i_i_i_not_i_i_i14;
     v_r4_0_i11 = p_v_r4_0_i11;
     v_r12_sroa_10_0_i_ph37_i_i_i_i_i_i = p_v_r12_sroa_10_0_i_ph37_i_i_i_i_i_i;
     v_r4_0_i_i_i_i_i_i_i_i = p_v_r4_0_i_i_i_i_i_i_i_i;
     v_r5_i_i_i_i_i_i_i_i_i = (u32)((u32)(v_r12_sroa_10_0_i_ph37_i_i_i_i_i_i) ^ (u32)(4294967295ull));
     v_r7_i_not_i_i_i_i_not_i_i_i_i = v_r4_0_i_i_i_i_i_i_i_i > v_r5_i_i_i_i_i_i_i_i_i;
-    if (v_r7_i_not_i_i_i_i_not_i_i_i_i) { p_v_r22_i_i_i8_i_i15 = v_r22_i_i_i8_i_i17; p_v_r4_0_i12 = v_r4_0_i11; p_v_r13_sroa_0_sroa_5_0_ph_i_i_i = 7u; goto L_arm_1_i22_i_i_i_i; } else { goto L_arm_1_i305_i_i_i; }
+    if (v_r7_i_not_i_i_i_i_not_i_i_i_i) { p_v_r22_i_i_i13_i_i15 = v_r22_i_i_i13_i_i17; p_v_r4_0_i12 = v_r4_0_i11; p_v_r13_sroa_0_sroa_5_0_ph_i_i_i = 7u; goto L_arm_1_i22_i_i_i; } else { goto L_arm_1_i305_i_i_i; }
 L_arm_1_i305_i_i_i:;
     v_r11_i_i_i_i_i_i_i_i_i = (u32)((u32)(v_r4_0_i_i_i_i_i_i_i_i) + (u32)(v_r12_sroa_10_0_i_ph37_i_i_i_i_i_i));
     v_r3_i11_i_i_i_i = (u64)v_r11_i_i_i_i_i_i_i_i_i;
     v_r56_i_i_i_i = v_a2 < v_r3_i11_i_i_i_i;
-    if (v_r56_i_i_i_i) { p_v_r22_i_i_i8_i_i15 = v_r22_i_i_i8_i_i17; p_v_r4_0_i12 = v_r4_0_i11; p_v_r13_sroa_0_sroa_5_0_ph_i_i_i = 14u; goto L_arm_1_i22_i_i_i_i; } else { goto L_join_7_i_i_i_i; }
+    if (v_r56_i_i_i_i) { p_v_r22_i_i_i13_i_i15 = v_r22_i_i_i13_i_i17; p_v_r4_0_i12 = v_r4_0_i11; p_v_r13_sroa_0_sroa_5_0_ph_i_i_i = 14u; goto L_arm_1_i22_i_i_i; } else { goto L_join_7_i_i_i_i; }
 L_join_7_i_i_i_i:;
     put_P(v_r7_i_i_i_i, v_r4);
     v_r23_sroa_3_0_r7_sroa_idx_i_i_i_i = v_r7_i_i_i_i + 8;
@@ -46413,8 +46413,8 @@ L_start_split_i_i_i_i_i_i:;
 L_arm_3_i47_i119_i_i_i_i_i:;
     v_r17_i_i_i_i209_i_i_i_i_i = (u64)((u64)(v_r3_i11_i_i_i_i) + (u64)(18446744073709551615ull));
     v_r26_i_i_i_i211_i_i_i_i_i = (P)((uintptr_t)v_r4 + (u64)(v_r17_i_i_i_i209_i_i_i_i_i));
-    put_u8(v_r26_i_i_i_i211_i_i_i_i_i, v_r19_i_i_i_i);
-    v_r20_i10_i_i213_i_i_i_i_i = (u8)(v_r19_i_i_i_i ^ ((u8)1 << 7)) < (u8)(0u ^ ((u8)1 << 7));
+    put_u8(v_r26_i_i_i_i211_i_i_i_i_i, v_r19_i_i8_i_i);
+    v_r20_i10_i_i213_i_i_i_i_i = (u8)(v_r19_i_i8_i_i ^ ((u8)1 << 7)) < (u8)(0u ^ ((u8)1 << 7));
     if (v_r20_i10_i_i213_i_i_i_i_i) { goto L_then_1_i_i_i226_i_i_i_i_i; } else { p_v_r12_i_i631_i_i_i_i = v_r17_i_i_i_i209_i_i_i_i_i; goto L_pkcs1_params_fields_FieldRef_prepend_7700fbca592c3; }
 L_then_1_i_i_i226_i_i_i_i_i:;
     v_r17_i4_i_i_i227_i_i_i_i_i = (u64)((u64)(v_r3_i11_i_i_i_i) + (u64)(18446744073709551614ull));
@@ -46597,7 +46597,7 @@ L_pkcs1_params_fields_FieldRef_prepend_7700fbca592c3__2:;
 L_pkcs1_params_fields_FieldThenFields_prepend_fa13de:;
     v_r7_val5_i_pre_i_i_i = p_v_r7_val5_i_pre_i_i_i;
     v_r7_val_i_pre_i_i_i = p_v_r7_val_i_pre_i_i_i;
-    if (v_r6_0_shrunk_i9_i_i4_i_i) { p_v_r7_val5_i_i_i_i = v_r7_val5_i_pre_i_i_i; p_v_r7_val_i_i_i_i = v_r7_val_i_pre_i_i_i; goto L_pkcs1_params_spelling_SpellingEncodeValue_prepend_; } else { goto L_pkcs1_params_contents_prepend_contents_c718ff636de; }
+    if (v_r6_0_shrunk_i9_i_i_i_i) { p_v_r7_val5_i_i_i_i = v_r7_val5_i_pre_i_i_i; p_v_r7_val_i_i_i_i = v_r7_val_i_pre_i_i_i; goto L_pkcs1_params_spelling_SpellingEncodeValue_prepend_; } else { goto L_pkcs1_params_contents_prepend_contents_c718ff636de; }
 L_pkcs1_params_contents_prepend_contents_c718ff636de:;
     v_r9_i_neg2_i_i350_i_i_i_i_i = (u64)((u64)(v_r7_val5_i_pre_i_i_i) - (u64)(v_r7_val_i_pre_i_i_i));
     f_spki_core_algorithm_identifier_AlgorithmIdentifier(v_r13_i, v_r7_i_i_i_i);
@@ -46857,67 +46857,67 @@ L_else_11_i_i_i_i_i:;
 L_arm_1_i_i:;
     put_u64(v_a3, v_r3_i11_i_i_i_i);
     { p_v_r6_0_i = 0u; goto L_pkcs1_c_pss_pkcs1_c_pss_params_encode_exit; }
-L_arm_1_i22_i_i_i_i:;
-    v_r22_i_i_i8_i_i15 = p_v_r22_i_i_i8_i_i15;
+L_arm_1_i22_i_i_i:;
+    v_r22_i_i_i13_i_i15 = p_v_r22_i_i_i13_i_i15;
     v_r4_0_i12 = p_v_r4_0_i12;
     v_r13_sroa_0_sroa_5_0_ph_i_i_i = p_v_r13_sroa_0_sroa_5_0_ph_i_i_i;
-    if (v_1) { goto L_arm_1_i16_i_i; } else { p_v_r6_0_shrunk_i9_i_i_i_i = 1u; goto L_pkcs1_params_shortest_Shortest_of_c718ff636dedeeb6; }
-L_arm_1_i16_i_i:;
+    if (v_1) { goto L_arm_1_i21_i_i; } else { p_v_r6_0_shrunk_i9_i_i_i = 1u; goto L_pkcs1_params_fields_FieldThenFields_non_defaults_6__2; }
+L_arm_1_i21_i_i:;
     v_r0_sroa_0_0_copyload_i_i_i_i = get_P(v_r3_i);
     v_r0_sroa_3_0_a0_sroa_idx_i_i_i_i = v_r3_i + 8;
     v_r0_sroa_3_0_copyload_i_i_i_i = get_u64(v_r0_sroa_3_0_a0_sroa_idx_i_i_i_i);
     v_r23_i_i_i_i = v_r0_sroa_3_0_copyload_i_i_i_i == 5u;
-    if (v_r23_i_i_i_i) { goto L_then_6_i_i_i_i; } else { p_v_r6_0_shrunk_i9_i_i_i_i = 1u; goto L_pkcs1_params_shortest_Shortest_of_c718ff636dedeeb6; }
+    if (v_r23_i_i_i_i) { goto L_then_6_i_i_i_i; } else { p_v_r6_0_shrunk_i9_i_i_i = 1u; goto L_pkcs1_params_fields_FieldThenFields_non_defaults_6__2; }
 L_then_6_i_i_i_i:;
     v_r30_i_i_i_i = get_u8(v_r0_sroa_0_0_copyload_i_i_i_i);
     v_cond_i_i_i_i = v_r30_i_i_i_i == 43u;
-    if (v_cond_i_i_i_i) { goto L_arm_9_i_i_i_i; } else { p_v_r6_0_shrunk_i9_i_i_i_i = 1u; goto L_pkcs1_params_shortest_Shortest_of_c718ff636dedeeb6; }
+    if (v_cond_i_i_i_i) { goto L_arm_9_i_i_i_i; } else { p_v_r6_0_shrunk_i9_i_i_i = 1u; goto L_pkcs1_params_fields_FieldThenFields_non_defaults_6__2; }
 L_arm_9_i_i_i_i:;
     v_r33_i_i_i_i = v_r0_sroa_0_0_copyload_i_i_i_i + 1;
     v_r35_i_i_i_i = get_u8(v_r33_i_i_i_i);
     v_cond1_i_i_i_i = v_r35_i_i_i_i == 14u;
-    if (v_cond1_i_i_i_i) { goto L_arm_12_i_i_i_i; } else { p_v_r6_0_shrunk_i9_i_i_i_i = 1u; goto L_pkcs1_params_shortest_Shortest_of_c718ff636dedeeb6; }
+    if (v_cond1_i_i_i_i) { goto L_arm_12_i_i_i_i; } else { p_v_r6_0_shrunk_i9_i_i_i = 1u; goto L_pkcs1_params_fields_FieldThenFields_non_defaults_6__2; }
 L_arm_12_i_i_i_i:;
     v_r38_i_i_i_i = v_r0_sroa_0_0_copyload_i_i_i_i + 2;
     v_r40_i_i_i_i = get_u8(v_r38_i_i_i_i);
     v_cond2_i_i_i_i = v_r40_i_i_i_i == 3u;
-    if (v_cond2_i_i_i_i) { goto L_arm_15_i_i_i_i; } else { p_v_r6_0_shrunk_i9_i_i_i_i = 1u; goto L_pkcs1_params_shortest_Shortest_of_c718ff636dedeeb6; }
+    if (v_cond2_i_i_i_i) { goto L_arm_15_i_i_i_i; } else { p_v_r6_0_shrunk_i9_i_i_i = 1u; goto L_pkcs1_params_fields_FieldThenFields_non_defaults_6__2; }
 L_arm_15_i_i_i_i:;
     v_r43_i_i_i_i = v_r0_sroa_0_0_copyload_i_i_i_i + 3;
     v_r45_i_i_i_i = get_u8(v_r43_i_i_i_i);
     v_cond3_i_i_i_i = v_r45_i_i_i_i == 2u;
-    if (v_cond3_i_i_i_i) { goto L_arm_18_i_i_i_i; } else { p_v_r6_0_shrunk_i9_i_i_i_i = 1u; goto L_pkcs1_params_shortest_Shortest_of_c718ff636dedeeb6; }
+    if (v_cond3_i_i_i_i) { goto L_arm_18_i_i_i_i; } else { p_v_r6_0_shrunk_i9_i_i_i = 1u; goto L_pkcs1_params_fields_FieldThenFields_non_defaults_6__2; }
 L_arm_18_i_i_i_i:;
     v_r48_i_i_i_i = v_r0_sroa_0_0_copyload_i_i_i_i + 4;
     v_r50_i_i_i_i = get_u8(v_r48_i_i_i_i);
     v_cond4_i_i_i_i = v_r50_i_i_i_i == 26u;
-    if (v_cond4_i_i_i_i) { goto L_then_5_i_i_i; } else { p_v_r6_0_shrunk_i9_i_i_i_i = 1u; goto L_pkcs1_params_shortest_Shortest_of_c718ff636dedeeb6; }
+    if (v_cond4_i_i_i_i) { goto L_then_5_i_i_i; } else { p_v_r6_0_shrunk_i9_i_i_i = 1u; goto L_pkcs1_params_fields_FieldThenFields_non_defaults_6__2; }
 L_then_5_i_i_i:;
-    v_r18_i17_i_i = v_r3_i + 24;
-    v_r10_sroa_0_0_copyload_i_i_i = get_u64(v_r18_i17_i_i);
+    v_r18_i22_i_i = v_r3_i + 24;
+    v_r10_sroa_0_0_copyload_i_i_i = get_u64(v_r18_i22_i_i);
     v_22 = (u64)((u64)(v_r10_sroa_0_0_copyload_i_i_i) & (u64)(255u));
-    v_r7_i_i_i18_i_i = v_22 == 5u;
-    if (v_r7_i_i_i18_i_i) { goto L_then_1_i_i_i_i; } else { p_v_r6_0_shrunk_i9_i_i_i_i = 1u; goto L_pkcs1_params_shortest_Shortest_of_c718ff636dedeeb6; }
+    v_r7_i_i_i23_i_i = v_22 == 5u;
+    if (v_r7_i_i_i23_i_i) { goto L_then_1_i_i_i_i; } else { p_v_r6_0_shrunk_i9_i_i_i = 1u; goto L_pkcs1_params_fields_FieldThenFields_non_defaults_6__2; }
 L_then_1_i_i_i_i:;
     v_r10_sroa_4_0_r18_sroa_idx_i_i_i = v_r3_i + 40;
     v_r10_sroa_4_0_copyload_i_i_i = get_u64(v_r10_sroa_4_0_r18_sroa_idx_i_i_i);
-    v_r7_i_i19_i_i = v_r10_sroa_4_0_copyload_i_i_i != 0u;
-    v_23 = (u8)v_r7_i_i19_i_i;
-    { p_v_r6_0_shrunk_i9_i_i_i_i = v_23; goto L_pkcs1_params_shortest_Shortest_of_c718ff636dedeeb6; }
-L_pkcs1_params_shortest_Shortest_of_c718ff636dedeeb6:;
-    v_r6_0_shrunk_i9_i_i_i_i = p_v_r6_0_shrunk_i9_i_i_i_i;
-    v_r13_i_i_i_i_i = (u1)(((u32)(v_r4_0_i12) ^ (u32)(1u)) & 1);
-    v_r1_i136_i_i = (u8)v_r13_i_i_i_i_i;
-    v_r25_i_i_i_i_i = (u8)((u32)(v_r22_i_i_i8_i_i15) + (u32)(v_r1_i136_i_i));
-    v_r22_i_i_i_i = (u8)((u32)(v_r25_i_i_i_i_i) << (u32)((1u & 31)));
-    v_r25_i_i_i_i = (u8)((u32)(v_r6_0_shrunk_i9_i_i_i_i) | (u32)(v_r22_i_i_i_i));
-    f_der_core_encode_AnyEncode_encoded_len_5a57132c6d95(v_r1_i319_i_i, v_r13_i, v_r25_i_i_i_i);
-    v_r3_i_i_i = get_u8(v_r1_i319_i_i);
+    v_r7_i_i24_i_i = v_r10_sroa_4_0_copyload_i_i_i != 0u;
+    v_23 = (u8)v_r7_i_i24_i_i;
+    { p_v_r6_0_shrunk_i9_i_i_i = v_23; goto L_pkcs1_params_fields_FieldThenFields_non_defaults_6__2; }
+L_pkcs1_params_fields_FieldThenFields_non_defaults_6__2:;
+    v_r6_0_shrunk_i9_i_i_i = p_v_r6_0_shrunk_i9_i_i_i;
+    v_r13_i_i_i_i = (u1)(((u32)(v_r4_0_i12) ^ (u32)(1u)) & 1);
+    v_r1_i143_i_i = (u8)v_r13_i_i_i_i;
+    v_r25_i_i_i_i = (u8)((u32)(v_r22_i_i_i13_i_i15) + (u32)(v_r1_i143_i_i));
+    v_r22_i_i_i = (u8)((u32)(v_r25_i_i_i_i) << (u32)((1u & 31)));
+    v_r25_i_i_i = (u8)((u32)(v_r6_0_shrunk_i9_i_i_i) | (u32)(v_r22_i_i_i));
+    f_der_core_encode_AnyEncode_encoded_len_5a57132c6d95(v_r1_i326_i_i, v_r13_i, v_r25_i_i_i);
+    v_r3_i_i_i = get_u8(v_r1_i326_i_i);
     v_24 = v_r3_i_i_i == 0u;
-    if (v_24) { goto L_arm_1_i320_i_i; } else { goto L_pkcs1_c_status_status_exit_i_i; }
-L_arm_1_i320_i_i:;
-    v_r4_i_i_i = v_r1_i319_i_i + 4;
-    v_r0_sroa_0_0_copyload_i_i_i = get_u32(v_r4_i_i_i);
+    if (v_24) { goto L_arm_1_i327_i_i; } else { goto L_pkcs1_c_status_status_exit_i_i; }
+L_arm_1_i327_i_i:;
+    v_r4_i328_i_i = v_r1_i326_i_i + 4;
+    v_r0_sroa_0_0_copyload_i_i_i = get_u32(v_r4_i328_i_i);
     v_r3_i_i_i_i = (u64)v_r0_sroa_0_0_copyload_i_i_i;
     put_u64(v_a3, v_r3_i_i_i_i);
     { goto L_pkcs1_c_status_status_exit_i_i; }

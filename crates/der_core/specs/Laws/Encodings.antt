@@ -1,17 +1,14 @@
 -- What the parts of an encoding say of the whole.
-use Rattle.std.proofs.Common.{ℕ, List, [], ◌∷◌, ◌++◌, ◌≡◌, ◌<◌, ◌≤◌, ◌^◌, length, refl, sym, ap, ◌∙◌, arith, map}
+use Rattle.std.proofs.Common.{ℕ, List, [], ◌∷◌, ◌++◌, ◌≡◌, ◌<◌, ◌≤◌, ◌^◌, length, refl, sym, ap, ◌∙◌, arith}
 use Rattle.std.proofs.Common.{append_assoc, length-append, append-nil}
 use Rattle.std.proofs.lemmas.List.{append_cancel_left}
 use Rattle.der_core.specs.Length.{IsLength, length_octets}
-use Rattle.std.specs.Prelude.{IsTrue}
-use Rattle.der_core.specs.Tag.{is_allowed}
-use Rattle.der_core.specs.Laws.Tags.{allowed_below}
-use Rattle.der_core.specs.Encodings.{AreBytes, Joins, Then, IsDelimited, IsOfBytes, MeansOne, AtMostOne}
+use Rattle.der_core.specs.Encodings.{Joins, Then, IsDelimited, MeansOne}
 use Rattle.der_core.specs.Tlv.{Tlv, tlv}
 use Rattle.der_core.specs.Writing.{IsLeast}
-use Rattle.der_core.specs.Laws.Lists.{same_cons, cons_path, same_fronts}
-use Rattle.der_core.specs.Laws.Length.{length_split, length_same, length_grows, length_octets-are, length_octets-only}
-use Rattle.der_core.specs.Laws.Length.{length_octets-within, length_of_bytes}
+use Rattle.der_core.specs.Laws.Lists.{same_cons, same_fronts}
+use Rattle.der_core.specs.Laws.Length.{length_split, length_grows, length_octets-are, length_octets-only}
+use Rattle.der_core.specs.Laws.Length.{length_octets-within}
 
 -- Two encodings at the front of the same bytes are one encoding, with one tag and contents that both hold of.
 pub tlv_split : {t u : ℕ} {P Q : List ℕ → Type 0} (x y x' y' : List ℕ) → Tlv t P x → Tlv u Q x' → x ++ y ≡ x' ++ y'
@@ -38,25 +35,6 @@ tlv_delimited t Contents m = record {
   one = λ v w x y x' y' p q e. let s = tlv_split x y x' y' p q e in (s.0, m v w s.3 s.4 s.5);
 }
 
-pub tlv_at_most_one : (t : ℕ) (P : List ℕ → Type 0) → AtMostOne P → AtMostOne (Tlv t P)
-tlv_at_most_one t P m x y p q =
-    let c : p.contents ≡ q.contents = m p.contents q.contents p.holds q.holds in
-    let l : IsLength (length q.contents) p.octets = rw c at p.counted in
-    let o : p.octets ≡ q.octets = length_same (length q.contents) p.octets q.octets l q.counted in
-    rw (p.written, q.written, c, o)
-
--- Parts with at most one encoding each.
-abbrev pub AllAtMostOne : List (List ℕ → Type 0) → Type 0
-AllAtMostOne [] = Unit {0}
-AllAtMostOne (Part ∷ parts) = AtMostOne Part × AllAtMostOne parts
-
-pub joins_at_most_one : (ps : List (List ℕ → Type 0)) → AllAtMostOne ps → AtMostOne (Joins ps)
-joins_at_most_one [] m x y p q = p ∙ sym q
-joins_at_most_one (P ∷ ps) m x y (a, b, p, i, e) (a', b', q, j, f) =
-    let s = m.0 a a' p q in
-    let r = joins_at_most_one ps m.1 b b' i j in
-    rw (e, f, s, r)
-
 -- A delimited part in front of two splits of the same bytes.
 pub then_step : {V : Type 0} {Grammar : V → List ℕ → Type 0} → IsDelimited Grammar
     → {Ps Qs : List ℕ → Type 0} (v w : V) (c : List ℕ) → Then (Grammar v) Ps c → Then (Grammar w) Qs c
@@ -67,18 +45,6 @@ then_step {V} {Grammar} d {Ps} {Qs} v w c (x, y, p, i, e) (x', y', q, j, f) =
     let g : x ++ y ≡ x ++ y' = rw (← s.0) at h in
     let k : y ≡ y' = append_cancel_left x y y' g in
     (s.1, y', rw k at i, j)
-
--- Two lists of values whose encodings join to the same bytes.
-pub joins_map : {V : Type 0} (Grammar : V → List ℕ → Type 0) → IsDelimited Grammar → (vs ws : List V) (c : List ℕ)
-    → Joins (map Grammar vs) c → Joins (map Grammar ws) c → vs ≡ ws
-joins_map Grammar d [] [] c p q = refl
-joins_map Grammar d [] (w ∷ ws) c e (x, y, q, j, f) =
-    absurd (omega (arith, d.not_empty w x q, ap length e, ap length f, length-append x y))
-joins_map Grammar d (v ∷ vs) [] c (x, y, q, j, f) e =
-    absurd (omega (arith, d.not_empty v x q, ap length e, ap length f, length-append x y))
-joins_map Grammar d (v ∷ vs) (w ∷ ws) c p q =
-    let s = then_step d v w c p q in
-    cons_path s.0 (joins_map Grammar d vs ws s.1 s.2 s.3)
 
 -- What is written.
 module _ {V : Type 0} (tag : ℕ) (Contents : V → List ℕ → Type 0) (written : V → List ℕ) where
@@ -139,28 +105,5 @@ last_least x f c (a, b, p, q, e) = let same : c ≡ a = e ∙ ap (λ r. a ++ r) 
 pub then_holds : {P Q : List ℕ → Type 0} (x y : List ℕ) → P x → Q y → Then P Q (x ++ y)
 then_holds x y p q = (x, y, p, q, refl)
 
-pub joins_last : {P : List ℕ → Type 0} (c : List ℕ) → Joins (P ∷ []) c → P c
-joins_last c (x, y, p, e, h) = let same : c ≡ x = h ∙ ap (λ l. x ++ l) e ∙ append-nil x in rw same p
-
 pub last_holds : {P : List ℕ → Type 0} (x : List ℕ) → P x → Joins (P ∷ []) x
 last_holds x p = (x, [], p, refl, sym (append-nil x))
-
--- Bytes joined are bytes.
-pub bytes_append : (x y : List ℕ) → AreBytes x → AreBytes y → AreBytes (x ++ y)
-bytes_append [] y p q = q
-bytes_append (b ∷ x) y p q = (p.0, bytes_append x y p.1 q)
-
--- What has an allowed tag, and contents that are bytes, is bytes.
-pub tlv_of_bytes : {V : Type 0} (tag : ℕ) → IsTrue (is_allowed tag) → (Contents : V → List ℕ → Type 0)
-    → IsOfBytes Contents → IsOfBytes (λ v. Tlv tag (Contents v))
-tlv_of_bytes tag allowed Contents of_bytes v encoding p =
-    let octets = length_of_bytes (length p.contents) p.octets p.counted in
-    rw p.written (allowed_below tag allowed, bytes_append p.octets p.contents octets (of_bytes v p.contents p.holds))
-
-pub then_of_bytes : {P Q : List ℕ → Type 0} → ((x : List ℕ) → P x → AreBytes x) → ((y : List ℕ) → Q y → AreBytes y)
-    → (c : List ℕ) → Then P Q c → AreBytes c
-then_of_bytes f g c (x, y, p, q, e) = rw e (bytes_append x y (f x p) (g y q))
-
-pub last_of_bytes : {P : List ℕ → Type 0} → ((x : List ℕ) → P x → AreBytes x) → (c : List ℕ) → Joins (P ∷ []) c
-    → AreBytes c
-last_of_bytes f c (x, y, p, q, e) = let same : c ≡ x = e ∙ ap (λ r. x ++ r) q ∙ append-nil x in rw same (f x p)

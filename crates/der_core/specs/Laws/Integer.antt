@@ -1,34 +1,15 @@
 -- INTEGER: each encoding means one number, and each number has one encoding.
-use Rattle.std.proofs.Common.{ℕ, suc, List, [], ◌∷◌, ◌≡◌, ◌<◌, ◌≤◌, length, refl, sym, ap, ◌∙◌, arith, inl, inr}
+use Rattle.std.proofs.Common.{ℕ, List, [], ◌∷◌, ◌≡◌, ◌<◌, ◌≤◌, refl, sym, ap, ◌∙◌, arith, inl, inr}
 use Rattle.std.specs.Prelude.{slice_index}
 use Rattle.std.specs.Int.Digits.{number_from_digits}
-use Rattle.der_core.specs.Tag.{integer_tag}
-use Rattle.der_core.specs.Encodings.{AreBytes, IsDelimited, IsOfBytes, MeansOne, AtMostOne}
-use Rattle.der_core.specs.Integer.{IsCanonical, IntegerContents, SmallContents, Small, HoldsNumber}
+use Rattle.der_core.specs.Encodings.{AtMostOne}
+use Rattle.der_core.specs.Integer.{IsCanonical, IntegerContents, HoldsNumber}
 use Rattle.der_core.specs.Integer.{integer_contents}
 use Rattle.der_core.specs.Laws.Input.{are_bytes}
 use Rattle.std.proofs.lemmas.Bool.{cases_lt}
 use Rattle.std.proofs.lemmas.Bool.Decides.{nat_tests}
 use Rattle.std.specs.Prelude.{nat_lt, true, false}
-use Rattle.der_core.specs.Laws.Lists.{same_cons}
 use Rattle.der_core.specs.Laws.Numbers.{base256_same, base256_pos}
-use Rattle.der_core.specs.Laws.Encodings.{tlv_delimited, tlv_at_most_one}
-
-first_of_same : (x y : List ℕ) → x ≡ y → slice_index x 0 ≡ slice_index y 0
-first_of_same x y e = ap (λ z. slice_index z 0) e
-
--- Canonical bytes don't begin with a zero octet and another of 128 or more.
-not_padded : (x y : List ℕ) → IsCanonical x → 128 ≤ slice_index y 0 → x ≡ 0 ∷ y → ⊥
-not_padded x [] c h e = omega arith
-not_padded x (b ∷ y) (inl z) h e =
-    let l : length x ≡ 1 = ap length z in let k : length x ≡ suc (suc (length y)) = ap length e in omega arith
-not_padded x (b ∷ y) (inr z) h e = let l : slice_index x 0 ≡ 0 = first_of_same x (0 ∷ (b ∷ y)) e in omega arith
-
-pub integer_means_one : MeansOne IntegerContents
-integer_means_one v w c (p, inl a) (q, inl b) = sym a.1 ∙ b.1
-integer_means_one v w c (p, inl a) (q, inr b) = absurd (not_padded v w p b.0 (sym a.1 ∙ b.1))
-integer_means_one v w c (p, inr a) (q, inl b) = absurd (not_padded w v q a.0 (sym b.1 ∙ a.1))
-integer_means_one v w c (p, inr a) (q, inr b) = (same_cons (sym a.1 ∙ b.1)).1
 
 pub contents_at_most_one : (bytes : List ℕ) → AtMostOne (IntegerContents bytes)
 contents_at_most_one n x y (p, inl a) (q, inl b) = a.1 ∙ sym b.1
@@ -54,23 +35,6 @@ canonical_same x y (inr p) (inr q) e =
     base256_same (number_from_digits 256 y) x y (record { bytes = p.0; value = e; no_leading_zero = p.1 })
     (record { bytes = q.0; value = refl; no_leading_zero = q.1 })
 
-pub small_means_one : MeansOne SmallContents
-small_means_one m n c (p, x, e, i) (q, y, f, j) =
-    let s : x ≡ y = integer_means_one x y c i j in
-    let k : number_from_digits 256 x ≡ number_from_digits 256 y = ap (number_from_digits 256) s in
-    sym e ∙ k ∙ f
-
-pub small_delimited : IsDelimited Small
-small_delimited = tlv_delimited integer_tag SmallContents small_means_one
-
-pub small_contents_at_most_one : (n : ℕ) → AtMostOne (SmallContents n)
-small_contents_at_most_one n c d (p, x, e, i) (q, y, f, j) =
-    let s : x ≡ y = canonical_same x y i.0 j.0 (e ∙ sym f) in
-    contents_at_most_one y c d (rw s at i) j
-
-pub small_at_most_one : (n : ℕ) → AtMostOne (Small n)
-small_at_most_one n = tlv_at_most_one integer_tag (SmallContents n) (small_contents_at_most_one n)
-
 -- What a type holds of a number's bytes.
 pub holds_canonical : (bytes : List ℕ) → HoldsNumber bytes → IsCanonical bytes
 holds_canonical [] h = absurd (omega (arith, h.0))
@@ -92,15 +56,3 @@ integer_relates bytes p = elim (cases_lt (slice_index bytes 0) 128) [
   | inl h ↦ (p, inl (h, written_small bytes h))
   | inr h ↦ (p, inr (h, written_large bytes h))
 ]
-
--- Contents of numbers are bytes.
-canonical_of_bytes : (bytes : List ℕ) → IsCanonical bytes → AreBytes bytes
-canonical_of_bytes bytes (inl e) = rw e (omega arith, tt)
-canonical_of_bytes bytes (inr p) = p.0
-
-pub integer_of_bytes : IsOfBytes IntegerContents
-integer_of_bytes bytes c (p, inl a) = rw a.1 (canonical_of_bytes bytes p)
-integer_of_bytes bytes c (p, inr a) = rw a.1 (omega arith, canonical_of_bytes bytes p)
-
-pub small_of_bytes : IsOfBytes SmallContents
-small_of_bytes n c (l, bytes, e, i) = integer_of_bytes bytes c i

@@ -9,7 +9,6 @@ use Rattle.std.specs.Int.Digits.{number_from_digits}
 use Rattle.der_core.specs.Length.{IsLength, IsBase256, short, long, length_octets}
 use Rattle.std.specs.Prelude.{nat_lt, true, false}
 use Rattle.std.proofs.lemmas.Bool.Decides.{nat_tests}
-use Rattle.der_core.specs.Encodings.{AreBytes}
 use Rattle.der_core.specs.Laws.Lists.{same_cons, same_fronts}
 use Rattle.der_core.specs.Laws.Numbers.{base256_grows, base256_same}
 
@@ -117,8 +116,3 @@ length_octets-within n h = let made = length_made n h in length_octets-are n n m
 pub length_few : (n : ℕ) (s : List ℕ) → IsLength n s → length s ≤ 127
 length_few n s (short p e) = rw e (omega arith)
 length_few n s (long ds p k b e) = rw e (omega (arith, k))
-
--- Length octets are bytes.
-pub length_of_bytes : (n : ℕ) (s : List ℕ) → IsLength n s → AreBytes s
-length_of_bytes n s (short p e) = rw e (omega arith, tt)
-length_of_bytes n s (long ds p k b e) = rw e (omega arith, b.bytes)

@@ -1,7 +1,7 @@
 -- An OPTIONAL part at the end of contents: what it means, and what is written of it.
 use Rattle.std.proofs.Common.{ℕ, ◌≤◌, ◌<◌, ◌+◌, ◌^◌, ◌≡◌, ◌∙◌, List, [], ◌∷◌, length, refl, sym, ap, arith}
 use Rattle.std.proofs.Common.{length-append, Option, Some, None}
-use Rattle.der_core.specs.Encodings.{AtMostOne, Joins, IsDelimited, IsOfBytes}
+use Rattle.der_core.specs.Encodings.{Joins, IsDelimited}
 use Rattle.der_core.specs.Laws.Encodings.{then_step}
 use Rattle.der_core.specs.Writing.{IsLeast}
 use Rattle.der_core.specs.Optional.{Optional, HasOptional, written_optional}
@@ -22,14 +22,6 @@ module _ {V : Type 0} (Grammar : V → List ℕ → Type 0) where
   optional_last d None (Some w) c p q = absurd (nothing_is_something d w c p q)
   optional_last d (Some v) None c p q = absurd (nothing_is_something d v c q p)
   optional_last d (Some v) (Some w) c p q = ap Some (then_step d v w c p q).0
-
-  pub optional_of_bytes : IsOfBytes Grammar → IsOfBytes (Optional Grammar)
-  optional_of_bytes of_bytes None c p = rw p tt
-  optional_of_bytes of_bytes (Some v) c p = of_bytes v c p
-
-  pub optional_at_most_one : ((v : V) → AtMostOne (Grammar v)) → (v : Option V) → AtMostOne (Optional Grammar v)
-  optional_at_most_one one None x y p q = p ∙ sym q
-  optional_at_most_one one (Some v) x y p q = one v x y p q
 
   module _ (has : V → Type 0) (encoding : V → List ℕ) where
     pub optional_relates : ((v : V) → has v → length (encoding v) < 2 ^ 128 → Grammar v (encoding v))

@@ -24,10 +24,6 @@ pub next_is : (t : ℕ) (i : List ℕ) → IsNext t i → is_next t i ≡ true
 next_is t [] (rest, e) = cc
 next_is t (x ∷ xs) (rest, e) = let same : x ≡ t = (same_cons e).0 in grind (arith, nat_tests, same)
 
-pub next_from : (t : ℕ) (i : List ℕ) → is_next t i ≡ true → IsNext t i
-next_from t [] e = cc
-next_from t (x ∷ xs) e = let same : x ≡ t = grind (arith, nat_tests, e) in (xs, ap (λ z. z ∷ xs) same)
-
 pub isnt_next : (t : ℕ) (i : List ℕ) → (IsNext t i → ⊥) → is_next t i ≡ false
 isnt_next t [] other = refl
 isnt_next t (x ∷ xs) other =

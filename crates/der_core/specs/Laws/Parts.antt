@@ -1,20 +1,16 @@
 -- Parts in a row: what the laws of a first part and of what follows say of both.
-use Rattle.std.proofs.Common.{ℕ, List, [], ◌≤◌, ◌≡◌, length, refl, arith, length-append, inl}
+use Rattle.std.proofs.Common.{ℕ, List, [], ◌≤◌, length, refl, arith, length-append, inl}
 use Rattle.std.proofs.Common.{inr}
-use Rattle.der_core.specs.Encodings.{IsOfBytes}
 use Rattle.der_core.specs.Optional.{HasOptional, written_optional}
 use Rattle.der_core.specs.Reading.{AllocatesLast}
 use Rattle.der_core.specs.Writing.{WritesEncodings, WritesLeast}
-use Rattle.der_core.specs.Laws.Encodings.{then_of_bytes, then_holds, then_least, last_of_bytes, last_holds}
+use Rattle.der_core.specs.Laws.Encodings.{then_holds, then_least, last_holds}
 use Rattle.der_core.specs.Laws.Encodings.{last_least}
-use Rattle.der_core.specs.Laws.Optional.{optional_of_bytes, optional_relates}
+use Rattle.der_core.specs.Laws.Optional.{optional_relates}
 use Rattle.der_core.specs.Laws.Optional.{optional_shortest}
 use Rattle.der_core.specs.Parts.{PartsContents, NoParts, HaveParts, written_parts, LastContents, AllocatesInParts}
 
 module _ {A B : Type 0} (First : A → List ℕ → Type 0) (Rest : B → List ℕ → Type 0) where
-  pub parts_of_bytes : IsOfBytes First → IsOfBytes Rest → IsOfBytes (PartsContents First Rest)
-  parts_of_bytes first rest v c p = then_of_bytes (first v.0) (rest v.1) c p
-
   module _ (has : A → Type 0) (rest_has : B → Type 0) (encoding : A → List ℕ) (rest : B → List ℕ) where
     pub parts_relate : WritesEncodings First has encoding → WritesEncodings Rest rest_has rest
         → WritesEncodings (PartsContents First Rest) (HaveParts has rest_has) (written_parts encoding rest)
@@ -33,17 +29,8 @@ no_parts_relate v has fits = refl
 pub no_parts_shortest : WritesLeast NoParts (λ _. Unit {0}) (λ _. [])
 no_parts_shortest v c p = (tt, omega arith, (λ (_ : length c ≤ 0). p))
 
--- A value has the contents of a row of parts: its contents are those, and it has any if the row does.
-pub record IsParts {P : Type 0} (contents : List ℕ → Type 0) (has : Type 0) (written : List ℕ)
-    (Parts : P → List ℕ → Type 0) (Have : P → Type 0) (write : P → List ℕ) : Type 0 where
-  pub parts : P
-  pub same : written ≡ write parts
-
 -- A last part that is there or not.
 module _ {V : Type 0} (Grammar : V → List ℕ → Type 0) where
-  pub last_part_of_bytes : IsOfBytes Grammar → IsOfBytes (LastContents Grammar)
-  last_part_of_bytes bytes v c p = last_of_bytes (optional_of_bytes Grammar bytes v) c p
-
   module _ (has : V → Type 0) (encoding : V → List ℕ) where
     pub last_part_relates : WritesEncodings Grammar has encoding
         → WritesEncodings (LastContents Grammar) (HasOptional has) (written_optional encoding)

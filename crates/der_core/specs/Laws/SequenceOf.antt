@@ -1,7 +1,6 @@
 -- What is written of a list of items.
 use Rattle.std.proofs.Common.{ℕ, ◌≤◌, ◌<◌, ◌^◌, List, [], ◌∷◌, length, refl, arith, length-append}
-use Rattle.der_core.specs.Encodings.{IsOfBytes}
-use Rattle.der_core.specs.Laws.Encodings.{then_holds, then_least, then_of_bytes}
+use Rattle.der_core.specs.Laws.Encodings.{then_holds, then_least}
 use Rattle.der_core.specs.Writing.{IsLeast}
 use Rattle.der_core.specs.SequenceOf.{ItemsContents, AllHave, all_encodings}
 
@@ -20,9 +19,3 @@ module _ {V : Type 0} (Grammar : V → List ℕ → Type 0) (has : V → Type 0)
   items_shortest least [] c p = (tt, omega arith, (λ (_ : length c ≤ 0). p))
   items_shortest least (v ∷ vs) c p =
       then_least (encoding v) (all_encodings encoding vs) (least v) (items_shortest least vs) c p
-
--- The contents are bytes if the items' encodings are.
-pub items_of_bytes : {V : Type 0} (Grammar : V → List ℕ → Type 0) → IsOfBytes Grammar
-    → IsOfBytes (ItemsContents Grammar)
-items_of_bytes Grammar bytes [] c p = rw p tt
-items_of_bytes Grammar bytes (v ∷ vs) c p = then_of_bytes (bytes v) (items_of_bytes Grammar bytes vs) c p

@@ -1,7 +1,6 @@
 -- Tags and their octets.
-use Rattle.std.proofs.Common.{◌≡◌, ◌<◌, ℕ, true, arith}
+use Rattle.std.proofs.Common.{◌≡◌, true}
 use Rattle.std.specs.Prelude.{IsTrue}
-use Rattle.std.proofs.lemmas.Bool.Decides.{nat_tests}
 use Rattle.der_core.specs.Tag.{is_allowed}
 use Rattle.der_core.specs.declared.tag.Tag.{Tag}
 use mathlib.Core.Bool.{Bool-set}
@@ -15,7 +14,3 @@ same_tag s t e =
       allowed = is_prop→PathP (λ j. IsTrue (is_allowed (e j)))
           (λ j. Bool-set (is_allowed (e j)) true) s.allowed t.allowed i;
     }
-
--- An allowed octet is a byte.
-pub allowed_below : (t : ℕ) → IsTrue (is_allowed t) → t < 256
-allowed_below t allowed = let is : is_allowed t ≡ true = allowed in grind (arith, nat_tests, is)

@@ -1,28 +1,20 @@
 -- Algorithm identifiers: each encoding means one value and is bytes, and what is written of a value is the shortest of
 -- its encodings.
 use Rattle.std.proofs.Common.{ℕ, List, ◌≡◌, refl, ap, Option, Some, None}
-use Rattle.der_core.specs.Tag.{object_identifier_tag, sequence_tag}
-use Rattle.der_core.specs.Encodings.{IsDelimited, IsOfBytes, MeansOne}
-use Rattle.der_core.specs.Tlv.{tlv}
+use Rattle.der_core.specs.Tag.{sequence_tag}
+use Rattle.der_core.specs.Encodings.{IsDelimited, MeansOne}
 use Rattle.der_core.specs.Laws.Encodings.{tlv_delimited, then_step}
-use Rattle.der_core.specs.Optional.{HasOptional, written_optional}
-use Rattle.der_core.specs.Parts.{LastContents}
 use Rattle.der_core.specs.Laws.Optional.{optional_last}
-use Rattle.der_core.specs.Laws.Parts.{last_part_of_bytes, last_part_relates, last_part_shortest, parts_of_bytes}
-use Rattle.der_core.specs.Laws.Parts.{parts_relate, parts_shortest}
-use Rattle.der_core.specs.Writing.{WritesEncodings, WritesLeast}
-use Rattle.spki_core.specs.ObjectIdentifier.{IsIdentifier, ObjectIdentifier}
 use Rattle.std.specs.Bool.{Decides}
 use Rattle.std.specs.Prelude.{Bool, ◌&&◌}
 use Rattle.std.specs.Str.{bytes_eq}
 use Rattle.std.specs.Option.{option_eq, option_map}
 use Rattle.der_core.specs.Laws.Equality.{bytes_decide, option_decides, both_decide}
-use Rattle.spki_core.specs.Laws.Identifiers.{identifier_delimited, identifier_of_bytes, identifier_relates}
-use Rattle.spki_core.specs.Laws.Identifiers.{identifier_shortest}
-use Rattle.spki_core.specs.Any.{TagAndContents, Any}
-use Rattle.spki_core.specs.Laws.AnyEncodings.{any_delimited, any_decides}
-use Rattle.spki_core.specs.AlgorithmIdentifier.{Algorithm, AlgorithmContents, AlgorithmIdentifier, PlainAlgorithm}
-use Rattle.spki_core.specs.AlgorithmIdentifier.{MaskAlgorithm, HasAlgorithm, written_algorithm, same_any}
+use Rattle.spki_core.specs.Laws.Identifiers.{identifier_delimited}
+use Rattle.spki_core.specs.Any.{TagAndContents}
+use Rattle.spki_core.specs.Laws.AnyEncodings.{any_decides}
+use Rattle.spki_core.specs.AlgorithmIdentifier.{Algorithm, AlgorithmContents, AlgorithmIdentifier}
+use Rattle.spki_core.specs.AlgorithmIdentifier.{same_any}
 use Rattle.spki_core.specs.AlgorithmIdentifier.{same_algorithm, same_plain, same_mask}
 
 algorithm_path : {P : Type 0} {v w : Algorithm P} → v.oid ≡ w.oid → v.parameters ≡ w.parameters → v ≡ w
@@ -36,32 +28,6 @@ module _ {P : Type 0} (Parameters : P → List ℕ → Type 0) where
 
   pub algorithm_delimited : IsDelimited Parameters → IsDelimited (AlgorithmIdentifier Parameters)
   algorithm_delimited d = tlv_delimited sequence_tag (AlgorithmContents Parameters) (algorithm_means_one d)
-
-  pub algorithm_of_bytes : IsOfBytes Parameters → IsOfBytes (AlgorithmContents Parameters)
-  algorithm_of_bytes of_bytes v =
-      parts_of_bytes ObjectIdentifier (LastContents Parameters) identifier_of_bytes
-      (last_part_of_bytes Parameters of_bytes) (v.oid, v.parameters)
-
-  module _ (has : P → Type 0) (encoding : P → List ℕ) where
-    pub algorithm_relates : WritesEncodings Parameters has encoding
-        → WritesEncodings (AlgorithmContents Parameters) (HasAlgorithm has) (written_algorithm encoding)
-    algorithm_relates relates v =
-        parts_relate ObjectIdentifier (LastContents Parameters) IsIdentifier (HasOptional has)
-        (tlv object_identifier_tag) (written_optional encoding) (λ oid is _. identifier_relates oid is)
-        (last_part_relates Parameters has encoding relates) (v.oid, v.parameters)
-
-    pub algorithm_shortest : WritesLeast Parameters has encoding
-        → WritesLeast (AlgorithmContents Parameters) (HasAlgorithm has) (written_algorithm encoding)
-    algorithm_shortest least v =
-        parts_shortest ObjectIdentifier (LastContents Parameters) IsIdentifier (HasOptional has)
-        (tlv object_identifier_tag) (written_optional encoding) identifier_shortest
-        (last_part_shortest Parameters has encoding least) (v.oid, v.parameters)
-
-pub plain_delimited : IsDelimited PlainAlgorithm
-plain_delimited = algorithm_delimited Any any_delimited
-
-pub mask_delimited : IsDelimited MaskAlgorithm
-mask_delimited = algorithm_delimited PlainAlgorithm plain_delimited
 
 -- Equality, by that of the parameters.
 pub algorithm_decides : {P V : Type 0} (value : P → V) (E : P → P → Bool)

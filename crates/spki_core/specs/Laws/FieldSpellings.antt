@@ -2,6 +2,6 @@
 pub mod Spellings
 pub mod Masks
 pub mod Shortest
-pub mod Listed
 pub mod SameReading
 pub mod Steps
+pub mod Records

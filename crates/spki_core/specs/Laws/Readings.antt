@@ -1,36 +1,32 @@
 -- The functions read the grammars of identifiers, of encodings of any tag and of fields, and nothing else.
-use Rattle.std.proofs.Common.{ℕ, true, false, List, ◌++◌, ◌≡◌, ◌≤◌, ◌-◌, length, refl, sym, ap, ◌∙◌}
-use Rattle.std.proofs.Common.{arith, inl, inr, subst, ⊎_elim, Ok, Err}
-use Rattle.std.proofs.lemmas.Bool.Decides.{nat_tests}
-use Rattle.std.specs.Prelude.{◌||◌, nat_lt, IsTrue}
+use Rattle.std.proofs.Common.{ℕ, true, false, List, ◌++◌, ◌≡◌, ◌≤◌, length, refl, sym, ap, ◌∙◌}
+use Rattle.std.proofs.Common.{inl, inr, subst, ⊎_elim, Ok, Err}
+use Rattle.std.specs.Prelude.{IsTrue}
 use Rattle.der_core.specs.declared.error.ErrorKind.{ErrorKind}
 use Rattle.der_core.specs.declared.error.ErrorKind.TheVariants.{OidMalformed, TagUnknown}
 use Rattle.der_core.specs.declared.tag.Tag.{Tag}
-use Rattle.der_core.specs.Encodings.{AreBytes, IsDelimited}
+use Rattle.der_core.specs.Encodings.{AreBytes}
 use Rattle.der_core.specs.Laws.ContentsShorter.{tlv_recast}
 use Rattle.der_core.specs.Laws.Input.{ok_pair}
 use Rattle.der_core.specs.Laws.LengthReading.{chosen}
 use Rattle.der_core.specs.Laws.OptionalReadings.{front_next, isnt_next, next_is, next_isnt}
-use Rattle.der_core.specs.Laws.Readings.{alone_reads, bind_ok, carry, fronts_as, last_reads, made_reads, made_tells}
-use Rattle.der_core.specs.Laws.Readings.{ok_same, parts_read}
+use Rattle.der_core.specs.Laws.Readings.{alone_reads, carry, fronts_as}
+use Rattle.der_core.specs.Laws.Readings.{ok_same}
 use Rattle.der_core.specs.Laws.TaggedReadings.{by_tag_reads, checked_as, tagged_reads}
 use Rattle.der_core.specs.Laws.Tags.{same_tag}
 use Rattle.der_core.specs.Length.{limit}
 use Rattle.der_core.specs.Reading.{TellsOfBytes}
-use Rattle.der_core.specs.Readings.{FrontReading, ◌>>=◌, alone, is_next, tagged, ReadsContents, ReadsFronts}
+use Rattle.der_core.specs.Readings.{FrontReading, alone, is_next, tagged, ReadsContents, ReadsFronts}
 use Rattle.der_core.specs.Tag.{context_tag, is_allowed}
-use Rattle.der_core.specs.Tags.{object_identifier}
 use Rattle.der_core.specs.Tlv.{Tlv}
-use Rattle.spki_core.specs.AlgorithmIdentifier.{AlgorithmContents}
 use Rattle.spki_core.specs.Any.{Any, IsAny, TagAndContents}
-use Rattle.spki_core.specs.ContextSpecific.{ContextSpecific, Numbered}
+use Rattle.spki_core.specs.ContextSpecific.{Numbered}
 use Rattle.spki_core.specs.Explicit.{FieldRead}
 use Rattle.spki_core.specs.IdentifierTest.{is_identifier}
-use Rattle.spki_core.specs.Laws.ContextSpecific.{number_allowed}
 use Rattle.spki_core.specs.Laws.IdentifierTest.{is_identifier-sound, is_identifier-complete}
-use Rattle.spki_core.specs.ObjectIdentifier.{IdentifierContents, ObjectIdentifier}
-use Rattle.spki_core.specs.Readings.{any, algorithm_read, defaulted, explicit, identifier_read, numbered, numbered_in}
-use Rattle.spki_core.specs.Readings.{of_algorithm_parts, opaque}
+use Rattle.spki_core.specs.ObjectIdentifier.{IdentifierContents}
+use Rattle.spki_core.specs.Readings.{any, defaulted, explicit, identifier_read}
+use Rattle.spki_core.specs.Readings.{opaque}
 
 -- OBJECT IDENTIFIER
 pub identifier_reads : ReadsContents IdentifierContents identifier_read
@@ -45,16 +41,6 @@ identifier_reads = record {
       (λ w. let same : OidMalformed ≡ k = let q = w.1 in cc in (λ no. cc, λ no. cc, λ no. cc))
       (chosen (is_identifier c) _ _ _ e);
 }
-
-pub oid_reads : ReadsFronts ObjectIdentifier (tagged object_identifier identifier_read)
-oid_reads = tagged_reads object_identifier identifier_reads
-
--- AlgorithmIdentifier
-pub algorithm_reads : {P : Type 0} {encoding : P → List ℕ → Type 0} {at : FrontReading P} → ReadsFronts encoding at
-    → IsDelimited encoding → ReadsContents (AlgorithmContents encoding) (algorithm_read at)
-algorithm_reads {encoding = encoding} law d =
-    made_reads of_algorithm_parts (AlgorithmContents encoding) (parts_read oid_reads (last_reads law d))
-    (λ a c p. p) (λ v c p. ((v.oid, v.parameters), p, refl))
 
 -- Any tag.
 abbrev Opaque : TagAndContents → List ℕ → Type 0
@@ -89,33 +75,6 @@ explicit_is at n tag bytes is =
 module _ {V : Type 0} {encoding : V → List ℕ → Type 0} {at : FrontReading V} (law : ReadsFronts encoding at) where
   abbrev In : Numbered V → List ℕ → Type 0
   In v c = (v.number ≤ 30) × encoding v.value c
-
-  numbered_tells : (t : ℕ) (c : List ℕ) (k : ErrorKind) → numbered_in at t c ≡ Err k → TellsOfBytes k
-  numbered_tells t c k e =
-      ⊎_elim (λ w. let same : TagUnknown t ≡ k = let q = w.1 in cc in (λ no. cc, λ no. cc, λ no. cc))
-      (λ w. made_tells (λ x. record { number = t - 160; value = x }) (alone at c) ((alone_reads law).tells c k) w.1)
-      (chosen (nat_lt t 160 || nat_lt 190 t) _ _ _ e)
-
-  in_reads : (t : ℕ) → IsTrue (is_allowed t)
-      → ReadsContents (λ v c. (context_tag v.number ≡ t) × In v c) (numbered_in at t)
-  in_reads t allowed = record {
-    gives = λ c v b e.
-        ⊎_elim (λ w. let no = w.1 in cc)
-        (λ w.
-        let s = bind_ok (alone at c) _ w.1 in
-        let low : 160 ≤ t = grind (arith, nat_tests, w.0) in
-        let high : t ≤ 190 = grind (arith, nat_tests, w.0) in
-        carry (λ v c. (context_tag v.number ≡ t) × In v c) (ok_same s.2) refl
-        (omega (arith, low), (omega (arith, low, high), (alone_reads law).gives c s.0 b s.1)))
-        (chosen (nat_lt t 160 || nat_lt 190 t) _ _ _ e);
-    takes = λ c v w p.
-        let inside : (nat_lt t 160 || nat_lt 190 t) ≡ false = grind (arith, nat_tests, p.0, p.1.0) in
-        let number : t - 160 ≡ v.number = omega (arith, p.0) in
-        rw inside
-        (ap (λ r. r >>= λ x. Ok (record { number = t - 160; value = x })) ((alone_reads law).takes c v.value w p.1.1)
-        ∙ ap (λ n. Ok (record { number = n; value = v.value })) number);
-    tells = numbered_tells t;
-  }
 
   -- a field, by the tag of its number
   module _ (n : ℕ) (tag : Tag) (is : tag.octet ≡ context_tag n) where

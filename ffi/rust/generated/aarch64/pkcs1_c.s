@@ -14435,8 +14435,8 @@ pkcs1_c_status_text:
 	.cfi_startproc
 	cmp	w0, #21
 	b.hi	.LBB39_2
-	adrp	x9, .Lswitch.table.pkcs1_c_status_text.173.rel
-	add	x9, x9, :lo12:.Lswitch.table.pkcs1_c_status_text.173.rel
+	adrp	x9, .Lswitch.table.pkcs1_c_status_text.166.rel
+	add	x9, x9, :lo12:.Lswitch.table.pkcs1_c_status_text.166.rel
 	adrp	x8, .Lswitch.table.pkcs1_c_status_text
 	add	x8, x8, :lo12:.Lswitch.table.pkcs1_c_status_text
 	ldrsw	x10, [x9, w0, uxtw #2]
@@ -24641,33 +24641,33 @@ pkcs1_c_pss_params_encode:
 	.xword	49
 	.size	.Lswitch.table.pkcs1_c_status_text, 176
 
-	.type	.Lswitch.table.pkcs1_c_status_text.173.rel,@object
-	.section	.rodata..Lswitch.table.pkcs1_c_status_text.173.rel,"a",@progbits
+	.type	.Lswitch.table.pkcs1_c_status_text.166.rel,@object
+	.section	.rodata..Lswitch.table.pkcs1_c_status_text.166.rel,"a",@progbits
 	.p2align	2, 0x0
-.Lswitch.table.pkcs1_c_status_text.173.rel:
-	.word	.Lstatic.2-.Lswitch.table.pkcs1_c_status_text.173.rel
-	.word	.Lstatic.3-.Lswitch.table.pkcs1_c_status_text.173.rel
-	.word	.Lstatic.4-.Lswitch.table.pkcs1_c_status_text.173.rel
-	.word	.Lstatic.5-.Lswitch.table.pkcs1_c_status_text.173.rel
-	.word	.Lstatic.6-.Lswitch.table.pkcs1_c_status_text.173.rel
-	.word	.Lstatic.7-.Lswitch.table.pkcs1_c_status_text.173.rel
-	.word	.Lstatic.8-.Lswitch.table.pkcs1_c_status_text.173.rel
-	.word	.Lstatic.9-.Lswitch.table.pkcs1_c_status_text.173.rel
-	.word	.Lstatic.10-.Lswitch.table.pkcs1_c_status_text.173.rel
-	.word	.Lstatic.11-.Lswitch.table.pkcs1_c_status_text.173.rel
-	.word	.Lstatic.12-.Lswitch.table.pkcs1_c_status_text.173.rel
-	.word	.Lstatic.13-.Lswitch.table.pkcs1_c_status_text.173.rel
-	.word	.Lstatic.14-.Lswitch.table.pkcs1_c_status_text.173.rel
-	.word	.Lstatic.15-.Lswitch.table.pkcs1_c_status_text.173.rel
-	.word	.Lstatic.16-.Lswitch.table.pkcs1_c_status_text.173.rel
-	.word	.Lstatic.17-.Lswitch.table.pkcs1_c_status_text.173.rel
-	.word	.Lstatic.18-.Lswitch.table.pkcs1_c_status_text.173.rel
-	.word	.Lstatic.19-.Lswitch.table.pkcs1_c_status_text.173.rel
-	.word	.Lstatic.21-.Lswitch.table.pkcs1_c_status_text.173.rel
-	.word	.Lstatic.21-.Lswitch.table.pkcs1_c_status_text.173.rel
-	.word	.Lstatic.21-.Lswitch.table.pkcs1_c_status_text.173.rel
-	.word	.Lstatic.20-.Lswitch.table.pkcs1_c_status_text.173.rel
-	.size	.Lswitch.table.pkcs1_c_status_text.173.rel, 88
+.Lswitch.table.pkcs1_c_status_text.166.rel:
+	.word	.Lstatic.2-.Lswitch.table.pkcs1_c_status_text.166.rel
+	.word	.Lstatic.3-.Lswitch.table.pkcs1_c_status_text.166.rel
+	.word	.Lstatic.4-.Lswitch.table.pkcs1_c_status_text.166.rel
+	.word	.Lstatic.5-.Lswitch.table.pkcs1_c_status_text.166.rel
+	.word	.Lstatic.6-.Lswitch.table.pkcs1_c_status_text.166.rel
+	.word	.Lstatic.7-.Lswitch.table.pkcs1_c_status_text.166.rel
+	.word	.Lstatic.8-.Lswitch.table.pkcs1_c_status_text.166.rel
+	.word	.Lstatic.9-.Lswitch.table.pkcs1_c_status_text.166.rel
+	.word	.Lstatic.10-.Lswitch.table.pkcs1_c_status_text.166.rel
+	.word	.Lstatic.11-.Lswitch.table.pkcs1_c_status_text.166.rel
+	.word	.Lstatic.12-.Lswitch.table.pkcs1_c_status_text.166.rel
+	.word	.Lstatic.13-.Lswitch.table.pkcs1_c_status_text.166.rel
+	.word	.Lstatic.14-.Lswitch.table.pkcs1_c_status_text.166.rel
+	.word	.Lstatic.15-.Lswitch.table.pkcs1_c_status_text.166.rel
+	.word	.Lstatic.16-.Lswitch.table.pkcs1_c_status_text.166.rel
+	.word	.Lstatic.17-.Lswitch.table.pkcs1_c_status_text.166.rel
+	.word	.Lstatic.18-.Lswitch.table.pkcs1_c_status_text.166.rel
+	.word	.Lstatic.19-.Lswitch.table.pkcs1_c_status_text.166.rel
+	.word	.Lstatic.21-.Lswitch.table.pkcs1_c_status_text.166.rel
+	.word	.Lstatic.21-.Lswitch.table.pkcs1_c_status_text.166.rel
+	.word	.Lstatic.21-.Lswitch.table.pkcs1_c_status_text.166.rel
+	.word	.Lstatic.20-.Lswitch.table.pkcs1_c_status_text.166.rel
+	.size	.Lswitch.table.pkcs1_c_status_text.166.rel, 88
 
 	.ident	"rattle logic=dac8208d650f15bf3e2dc313a14fa4c783a3acf887bdfab66e1714b038d9e11b"
 	.section	".note.GNU-stack","",@progbits

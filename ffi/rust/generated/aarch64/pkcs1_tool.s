@@ -3074,7 +3074,7 @@
 	mov	x1, x21
 	movk	w22, #515, lsl #16
 	add	x27, sp, #720
-	bl	"pkcs1_lines::shortest::shortest::<#10807265a0b680d8>"
+	bl	"pkcs1_lines::shortest::shortest::<#078e754016047527>"
 	ldrb	w8, [sp, #760]
 	ldrb	w24, [sp, #912]
 	mov	x23, x1
@@ -3107,7 +3107,7 @@
 	add	x0, sp, #720
 	mov	x1, x21
 	movk	w28, #515, lsl #16
-	bl	"pkcs1_lines::shortest::shortest::<#2ea0e2cfdc0bed07>"
+	bl	"pkcs1_lines::shortest::shortest::<#ca4a2bdc57f22b1e>"
 	ldrb	w8, [sp, #760]
 	mov	x22, x0
 	mov	x23, x1
@@ -11616,10 +11616,10 @@
 	.word	4294967280
 	.word	4294967288
 	.word	0
-	.section	".text.pkcs1_lines::shortest::shortest::<#10807265a0b680d8>","ax",@progbits
+	.section	".text.pkcs1_lines::shortest::shortest::<#078e754016047527>","ax",@progbits
 	.p2align	2
-	.type	"pkcs1_lines::shortest::shortest::<#10807265a0b680d8>",@function
-"pkcs1_lines::shortest::shortest::<#10807265a0b680d8>":
+	.type	"pkcs1_lines::shortest::shortest::<#078e754016047527>",@function
+"pkcs1_lines::shortest::shortest::<#078e754016047527>":
 	.cfi_startproc
 	sub	sp, sp, #128
 	stp	x24, x23, [sp, #80]
@@ -12062,7 +12062,7 @@
 .LBB21_97:
 	brk	#0x1
 .Lfunc_end21:
-	.size	"pkcs1_lines::shortest::shortest::<#10807265a0b680d8>", .Lfunc_end21-"pkcs1_lines::shortest::shortest::<#10807265a0b680d8>"
+	.size	"pkcs1_lines::shortest::shortest::<#078e754016047527>", .Lfunc_end21-"pkcs1_lines::shortest::shortest::<#078e754016047527>"
 	.cfi_endproc
 
 	.section	".text.pkcs1_params::holders::AlgorithmIdentifierOfAlgorithmIdentifierOfMaskHolder::is_default::<#4d948795a445eb77>","ax",@progbits
@@ -19444,10 +19444,10 @@
 	.size	"pkcs1_params::oaep_reading::OaepParamsOfAnyRefDecodeValueRefSliceU8::decode_value::<#302b0c9c58e81e93>", .Lfunc_end33-"pkcs1_params::oaep_reading::OaepParamsOfAnyRefDecodeValueRefSliceU8::decode_value::<#302b0c9c58e81e93>"
 	.cfi_endproc
 
-	.section	".text.pkcs1_lines::shortest::shortest::<#2ea0e2cfdc0bed07>","ax",@progbits
+	.section	".text.pkcs1_lines::shortest::shortest::<#ca4a2bdc57f22b1e>","ax",@progbits
 	.p2align	2
-	.type	"pkcs1_lines::shortest::shortest::<#2ea0e2cfdc0bed07>",@function
-"pkcs1_lines::shortest::shortest::<#2ea0e2cfdc0bed07>":
+	.type	"pkcs1_lines::shortest::shortest::<#ca4a2bdc57f22b1e>",@function
+"pkcs1_lines::shortest::shortest::<#ca4a2bdc57f22b1e>":
 	.cfi_startproc
 	sub	sp, sp, #128
 	stp	x26, x25, [sp, #64]
@@ -19947,7 +19947,7 @@
 .LBB34_121:
 	brk	#0x1
 .Lfunc_end34:
-	.size	"pkcs1_lines::shortest::shortest::<#2ea0e2cfdc0bed07>", .Lfunc_end34-"pkcs1_lines::shortest::shortest::<#2ea0e2cfdc0bed07>"
+	.size	"pkcs1_lines::shortest::shortest::<#ca4a2bdc57f22b1e>", .Lfunc_end34-"pkcs1_lines::shortest::shortest::<#ca4a2bdc57f22b1e>"
 	.cfi_endproc
 
 	.section	".text.pkcs1_params::spelling::Spelling::len::<#c47c4b3860474249>","ax",@progbits
@@ -28211,14 +28211,14 @@ pkcs1_tool_main:
 	mov	x1, x25
 	mov	x2, x22
 	add	x0, x0, #496
-	bl	"pkcs1_lines::shortest::shortest::<#2ea0e2cfdc0bed07>"
+	bl	"pkcs1_lines::shortest::shortest::<#ca4a2bdc57f22b1e>"
 	str	x0, [sp, #8]
 	mov	x22, x1
 	add	x0, sp, #16, lsl #12
 	ldr	x1, [sp, #16]
 	add	x0, x0, #224
 	mov	x2, x21
-	bl	"pkcs1_lines::shortest::shortest::<#2ea0e2cfdc0bed07>"
+	bl	"pkcs1_lines::shortest::shortest::<#ca4a2bdc57f22b1e>"
 	cmp	x22, x1
 	b.ne	.LBB54_280
 	mov	x2, x0
@@ -28298,14 +28298,14 @@ pkcs1_tool_main:
 	ldr	x2, [sp, #8]
 	mov	x1, x25
 	add	x0, x0, #496
-	bl	"pkcs1_lines::shortest::shortest::<#10807265a0b680d8>"
+	bl	"pkcs1_lines::shortest::shortest::<#078e754016047527>"
 	str	x0, [sp, #8]
 	mov	x21, x1
 	add	x0, sp, #16, lsl #12
 	ldr	x1, [sp, #16]
 	add	x0, x0, #224
 	mov	x2, x22
-	bl	"pkcs1_lines::shortest::shortest::<#10807265a0b680d8>"
+	bl	"pkcs1_lines::shortest::shortest::<#078e754016047527>"
 	cmp	x21, x1
 	b.ne	.LBB54_302
 	mov	x2, x0

@@ -15258,7 +15258,7 @@ pkcs1_c_status_text:
 	movl	%edi, %ecx
 	leaq	.Lswitch.table.pkcs1_c_status_text(%rip), %rax
 	movq	(%rax,%rcx,8), %rax
-	leaq	.Lswitch.table.pkcs1_c_status_text.173.rel(%rip), %rdx
+	leaq	.Lswitch.table.pkcs1_c_status_text.166.rel(%rip), %rdx
 	movslq	(%rdx,%rcx,4), %rcx
 	addq	%rdx, %rcx
 	movq	%rcx, (%rsi)
@@ -26663,33 +26663,33 @@ pkcs1_c_pss_params_encode:
 	.quad	49
 	.size	.Lswitch.table.pkcs1_c_status_text, 176
 
-	.type	.Lswitch.table.pkcs1_c_status_text.173.rel,@object
-	.section	.rodata..Lswitch.table.pkcs1_c_status_text.173.rel,"a",@progbits
+	.type	.Lswitch.table.pkcs1_c_status_text.166.rel,@object
+	.section	.rodata..Lswitch.table.pkcs1_c_status_text.166.rel,"a",@progbits
 	.p2align	2, 0x0
-.Lswitch.table.pkcs1_c_status_text.173.rel:
-	.long	.Lstatic.2-.Lswitch.table.pkcs1_c_status_text.173.rel
-	.long	.Lstatic.3-.Lswitch.table.pkcs1_c_status_text.173.rel
-	.long	.Lstatic.4-.Lswitch.table.pkcs1_c_status_text.173.rel
-	.long	.Lstatic.5-.Lswitch.table.pkcs1_c_status_text.173.rel
-	.long	.Lstatic.6-.Lswitch.table.pkcs1_c_status_text.173.rel
-	.long	.Lstatic.7-.Lswitch.table.pkcs1_c_status_text.173.rel
-	.long	.Lstatic.8-.Lswitch.table.pkcs1_c_status_text.173.rel
-	.long	.Lstatic.9-.Lswitch.table.pkcs1_c_status_text.173.rel
-	.long	.Lstatic.10-.Lswitch.table.pkcs1_c_status_text.173.rel
-	.long	.Lstatic.11-.Lswitch.table.pkcs1_c_status_text.173.rel
-	.long	.Lstatic.12-.Lswitch.table.pkcs1_c_status_text.173.rel
-	.long	.Lstatic.13-.Lswitch.table.pkcs1_c_status_text.173.rel
-	.long	.Lstatic.14-.Lswitch.table.pkcs1_c_status_text.173.rel
-	.long	.Lstatic.15-.Lswitch.table.pkcs1_c_status_text.173.rel
-	.long	.Lstatic.16-.Lswitch.table.pkcs1_c_status_text.173.rel
-	.long	.Lstatic.17-.Lswitch.table.pkcs1_c_status_text.173.rel
-	.long	.Lstatic.18-.Lswitch.table.pkcs1_c_status_text.173.rel
-	.long	.Lstatic.19-.Lswitch.table.pkcs1_c_status_text.173.rel
-	.long	.Lstatic.21-.Lswitch.table.pkcs1_c_status_text.173.rel
-	.long	.Lstatic.21-.Lswitch.table.pkcs1_c_status_text.173.rel
-	.long	.Lstatic.21-.Lswitch.table.pkcs1_c_status_text.173.rel
-	.long	.Lstatic.20-.Lswitch.table.pkcs1_c_status_text.173.rel
-	.size	.Lswitch.table.pkcs1_c_status_text.173.rel, 88
+.Lswitch.table.pkcs1_c_status_text.166.rel:
+	.long	.Lstatic.2-.Lswitch.table.pkcs1_c_status_text.166.rel
+	.long	.Lstatic.3-.Lswitch.table.pkcs1_c_status_text.166.rel
+	.long	.Lstatic.4-.Lswitch.table.pkcs1_c_status_text.166.rel
+	.long	.Lstatic.5-.Lswitch.table.pkcs1_c_status_text.166.rel
+	.long	.Lstatic.6-.Lswitch.table.pkcs1_c_status_text.166.rel
+	.long	.Lstatic.7-.Lswitch.table.pkcs1_c_status_text.166.rel
+	.long	.Lstatic.8-.Lswitch.table.pkcs1_c_status_text.166.rel
+	.long	.Lstatic.9-.Lswitch.table.pkcs1_c_status_text.166.rel
+	.long	.Lstatic.10-.Lswitch.table.pkcs1_c_status_text.166.rel
+	.long	.Lstatic.11-.Lswitch.table.pkcs1_c_status_text.166.rel
+	.long	.Lstatic.12-.Lswitch.table.pkcs1_c_status_text.166.rel
+	.long	.Lstatic.13-.Lswitch.table.pkcs1_c_status_text.166.rel
+	.long	.Lstatic.14-.Lswitch.table.pkcs1_c_status_text.166.rel
+	.long	.Lstatic.15-.Lswitch.table.pkcs1_c_status_text.166.rel
+	.long	.Lstatic.16-.Lswitch.table.pkcs1_c_status_text.166.rel
+	.long	.Lstatic.17-.Lswitch.table.pkcs1_c_status_text.166.rel
+	.long	.Lstatic.18-.Lswitch.table.pkcs1_c_status_text.166.rel
+	.long	.Lstatic.19-.Lswitch.table.pkcs1_c_status_text.166.rel
+	.long	.Lstatic.21-.Lswitch.table.pkcs1_c_status_text.166.rel
+	.long	.Lstatic.21-.Lswitch.table.pkcs1_c_status_text.166.rel
+	.long	.Lstatic.21-.Lswitch.table.pkcs1_c_status_text.166.rel
+	.long	.Lstatic.20-.Lswitch.table.pkcs1_c_status_text.166.rel
+	.size	.Lswitch.table.pkcs1_c_status_text.166.rel, 88
 
 	.ident	"rattle logic=dac8208d650f15bf3e2dc313a14fa4c783a3acf887bdfab66e1714b038d9e11b"
 	.section	".note.GNU-stack","",@progbits

@@ -3214,7 +3214,7 @@
 .LBB7_363:
 	leaq	112(%rsp), %rdi
 	movq	%r15, %rsi
-	callq	"pkcs1_lines::shortest::shortest::<#10807265a0b680d8>"
+	callq	"pkcs1_lines::shortest::shortest::<#078e754016047527>"
 	movzbl	304(%rsp), %ebp
 	movzwl	151(%rsp), %ecx
 	movd	%ecx, %xmm1
@@ -3390,7 +3390,7 @@
 .LBB7_398:
 	leaq	112(%rsp), %rdi
 	movq	%r15, %rsi
-	callq	"pkcs1_lines::shortest::shortest::<#2ea0e2cfdc0bed07>"
+	callq	"pkcs1_lines::shortest::shortest::<#ca4a2bdc57f22b1e>"
 	movzwl	151(%rsp), %ecx
 	movd	%ecx, %xmm1
 	movq	112(%rsp), %xmm2
@@ -12238,10 +12238,10 @@
 	.size	"pkcs1_params::trailer_field::TrailerFieldDecodeValueRefSliceU8::decode_value::<#dd378bceb3d120f2>", .Lfunc_end19-"pkcs1_params::trailer_field::TrailerFieldDecodeValueRefSliceU8::decode_value::<#dd378bceb3d120f2>"
 	.cfi_endproc
 
-	.section	".text.pkcs1_lines::shortest::shortest::<#10807265a0b680d8>","ax",@progbits
+	.section	".text.pkcs1_lines::shortest::shortest::<#078e754016047527>","ax",@progbits
 	.p2align	4
-	.type	"pkcs1_lines::shortest::shortest::<#10807265a0b680d8>",@function
-"pkcs1_lines::shortest::shortest::<#10807265a0b680d8>":
+	.type	"pkcs1_lines::shortest::shortest::<#078e754016047527>",@function
+"pkcs1_lines::shortest::shortest::<#078e754016047527>":
 	.cfi_startproc
 	pushq	%rbp
 	.cfi_def_cfa_offset 16
@@ -12692,7 +12692,7 @@
 .LBB20_86:
 	ud2
 .Lfunc_end20:
-	.size	"pkcs1_lines::shortest::shortest::<#10807265a0b680d8>", .Lfunc_end20-"pkcs1_lines::shortest::shortest::<#10807265a0b680d8>"
+	.size	"pkcs1_lines::shortest::shortest::<#078e754016047527>", .Lfunc_end20-"pkcs1_lines::shortest::shortest::<#078e754016047527>"
 	.cfi_endproc
 
 	.section	".text.pkcs1_params::holders::AlgorithmIdentifierOfAlgorithmIdentifierOfMaskHolder::is_default::<#4d948795a445eb77>","ax",@progbits
@@ -19954,10 +19954,10 @@
 	.size	"pkcs1_params::oaep_reading::OaepParamsOfAnyRefDecodeValueRefSliceU8::decode_value::<#302b0c9c58e81e93>", .Lfunc_end32-"pkcs1_params::oaep_reading::OaepParamsOfAnyRefDecodeValueRefSliceU8::decode_value::<#302b0c9c58e81e93>"
 	.cfi_endproc
 
-	.section	".text.pkcs1_lines::shortest::shortest::<#2ea0e2cfdc0bed07>","ax",@progbits
+	.section	".text.pkcs1_lines::shortest::shortest::<#ca4a2bdc57f22b1e>","ax",@progbits
 	.p2align	4
-	.type	"pkcs1_lines::shortest::shortest::<#2ea0e2cfdc0bed07>",@function
-"pkcs1_lines::shortest::shortest::<#2ea0e2cfdc0bed07>":
+	.type	"pkcs1_lines::shortest::shortest::<#ca4a2bdc57f22b1e>",@function
+"pkcs1_lines::shortest::shortest::<#ca4a2bdc57f22b1e>":
 	.cfi_startproc
 	pushq	%rbp
 	.cfi_def_cfa_offset 16
@@ -20435,7 +20435,7 @@
 	.cfi_def_cfa_offset 128
 	ud2
 .Lfunc_end33:
-	.size	"pkcs1_lines::shortest::shortest::<#2ea0e2cfdc0bed07>", .Lfunc_end33-"pkcs1_lines::shortest::shortest::<#2ea0e2cfdc0bed07>"
+	.size	"pkcs1_lines::shortest::shortest::<#ca4a2bdc57f22b1e>", .Lfunc_end33-"pkcs1_lines::shortest::shortest::<#ca4a2bdc57f22b1e>"
 	.cfi_endproc
 
 	.section	".text.pkcs1_params::spelling::Spelling::len::<#c47c4b3860474249>","ax",@progbits
@@ -29069,13 +29069,13 @@ pkcs1_tool_main:
 	leaq	312(%rsp), %rdi
 	movq	48(%rsp), %rsi
 	movq	%r15, %rdx
-	callq	"pkcs1_lines::shortest::shortest::<#2ea0e2cfdc0bed07>"
+	callq	"pkcs1_lines::shortest::shortest::<#ca4a2bdc57f22b1e>"
 	movq	%rax, 56(%rsp)
 	movq	%rdx, %r15
 	leaq	1720(%rsp), %rdi
 	movq	%r13, %rsi
 	movq	%r14, %rdx
-	callq	"pkcs1_lines::shortest::shortest::<#2ea0e2cfdc0bed07>"
+	callq	"pkcs1_lines::shortest::shortest::<#ca4a2bdc57f22b1e>"
 	cmpq	%rdx, %r15
 	jne	.LBB53_227
 	cmpq	$4, %r15
@@ -29122,13 +29122,13 @@ pkcs1_tool_main:
 	leaq	312(%rsp), %rdi
 	movq	48(%rsp), %rsi
 	movq	%r15, %rdx
-	callq	"pkcs1_lines::shortest::shortest::<#10807265a0b680d8>"
+	callq	"pkcs1_lines::shortest::shortest::<#078e754016047527>"
 	movq	%rax, 56(%rsp)
 	movq	%rdx, %r15
 	leaq	1720(%rsp), %rdi
 	movq	%r13, %rsi
 	movq	%r14, %rdx
-	callq	"pkcs1_lines::shortest::shortest::<#10807265a0b680d8>"
+	callq	"pkcs1_lines::shortest::shortest::<#078e754016047527>"
 	cmpq	%rdx, %r15
 	jne	.LBB53_239
 	cmpq	$4, %r15

@@ -56,10 +56,6 @@ contents_is x c n e p =
     let same : octets n ≡ x = ap octets (sym e) ∙ number_octets x p.0 in
     contents_at_most_one x c (integer_contents x) p (integer_relates x p.0) ∙ ap integer_contents (sym same)
 
--- With its tag it is what the standard says.
-pub integer_is : (n : ℕ) → tlv 2 (number_contents n) ≡ integer n
-integer_is n = refl
-
 -- What is written of a number whose octets are held; numbers are equal exactly if their octets are; they are encoded.
 pub contents_as : (x : List ℕ) → IsCanonical x → number_contents (number_from_digits 256 x) ≡ integer_contents x
 contents_as x p = ap integer_contents (number_octets x p)

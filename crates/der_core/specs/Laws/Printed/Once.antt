@@ -1,7 +1,6 @@
 -- Values with one spelling each: what is made of such values has one spelling too.
-use Rattle.std.proofs.Common.{[], ◌∷◌, ◌≡◌, refl, ap, sym, ◌∙◌, map, Option, Some, None}
+use Rattle.std.proofs.Common.{◌≡◌, refl, ap, sym, ◌∙◌, Option, Some, None}
 use Rattle.std.specs.Option.{option_map}
-use Rattle.der_core.specs.Laws.Lists.{cons_path, same_cons}
 use Rattle.der_core.specs.Printed.{AreSpelledOnce}
 
 pub itself_once : {V : Type 0} → AreSpelledOnce {S = V} (λ v. v)
@@ -18,13 +17,6 @@ last_once once (Some s) None e = cc
 last_once {means = means} once (Some s) (Some t) e =
     let same : means s ≡ means t = let q : ◌≡◌ {A = Option _} (Some (means s)) (Some (means t)) = e in cc in
     ap (λ x. Some x) (once s t same)
-
-pub items_once : {S V : Type 0} {means : S → V} → AreSpelledOnce means → AreSpelledOnce (map means)
-items_once once [] [] e = refl
-items_once once [] (t ∷ ts) e = cc
-items_once once (s ∷ ss) [] e = cc
-items_once once (s ∷ ss) (t ∷ ts) e =
-    let p = same_cons e in cons_path (once s t p.0) (items_once once ss ts p.1)
 
 -- Values that are made of others.
 pub made_once : {S T V W : Type 0} {means : S → V} → AreSpelledOnce means → (back : T → S) (join : V → W) (split : W → V)

@@ -9,7 +9,7 @@ use Rattle.der_core.specs.Document.{EncodeError, no_encoding, too_long, no_room,
 use Rattle.der_core.specs.Length.{limit}
 use Rattle.der_core.specs.Printed.{Spells, ok_of}
 use Rattle.der_core.specs.Writing.{Unwritten, encode_error}
-use Rattle.standard.specs.Statement.{AtMostOne, Decodes, Encodes, IsShortest}
+use Rattle.standard.specs.Statement.{Decodes, Encodes, IsShortest}
 
 -- A second relation says the same of the values that stand for those of a first one.
 pub record StatedAs {V W : Type 0} (Is : V → Type 0) (E : V → List ℕ → Type 0) (Valid : W → Type 0)
@@ -39,9 +39,6 @@ module _ {V W : Type 0} {Is : V → Type 0} {E : V → List ℕ → Type 0} {Val
   pub encodes_stated : (v : V) (old new : List ℕ) (n : Option ℕ) → Encodes E v old new n → Encodes F (to v) old new n
   encodes_stated v old new (Some n) e = (e.0, shortest_stated v (take n new) e.1, e.2)
   encodes_stated v old new None e = (e.0, λ bytes p. e.1 bytes ((law.same v bytes).1 p))
-
-  pub once_stated : AtMostOne E → AtMostOne F
-  once_stated one w a b p q = one (law.from w) a b (from_stated w a p) (from_stated w b q)
 
   unwritten_for : (v : V) (room : ℕ) (k : EncodeError) → Unwritten Is E v room k → Unwritten Valid F (to v) room k
   unwritten_for v room no_encoding h = λ ok. h ((law.valid v).1 ok)

@@ -165,7 +165,7 @@ module _ {S : Type 0} {valid : S → Type 0} {printed : S → List ℕ} {at : Fr
   abbrev Encodes : S → List ℕ → Type 0
   Encodes s bytes = (length bytes ≤ limit) × valid s × (bytes ≡ printed s)
 
-  whole_takes : (s : S) (bytes : List ℕ) → Encodes s bytes → whole at bytes ≡ Ok s
+  pub whole_takes : (s : S) (bytes : List ℕ) → Encodes s bytes → whole at bytes ≡ Ok s
   whole_takes s bytes (few, ok, is) =
       let t : nat_lt limit (length bytes) ≡ false = grind (arith, nat_tests) in
       ap (λ b. if b then Err Overflow else alone at bytes) t ∙ ap (alone at) is

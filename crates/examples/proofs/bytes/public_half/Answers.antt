@@ -1,4 +1,4 @@
-use Rattle.std.proofs.Common.{ℕ, List, ◌≡◌, ◌⊎◌, inr, ap, subst, Result, Ok, Err, Some}
+use Rattle.std.proofs.Common.{ℕ, List, ◌≡◌, ◌⊎◌, inr, subst, Result, Ok, Err, Some}
 use Rattle.std.specs.Prelude.{IfOk, IfErr}
 use Rattle.der_core.specs.DocumentValue.{encoding_of}
 use Rattle.der_core.specs.UintRefValue.{bytes_of}

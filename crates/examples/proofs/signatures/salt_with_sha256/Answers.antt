@@ -5,8 +5,8 @@ use Rattle.examples.proofs.signatures.salt_with_sha256.Goals as goal
 
 pub returns-then-not-uses_hash-clause-ok : goal.returns-then-not-uses_hash-clause-ok
 returns-then-not-uses_hash-clause-ok c =
-    (pss_of c.in_ok-params.params, c.in_ok-params.ensures.ok.0, not_from_Decides _ c.if-not-uses_hash.ensures refl)
+    (pss_of c.in_ok-params.params, c.in_ok-params.ensures.read, not_from_Decides _ c.if-not-uses_hash.ensures refl)
 
 pub returns-clause-ok : goal.returns-clause-ok
 returns-clause-ok c =
-    (pss_of c.in_ok-params.params, c.in_ok-params.ensures.ok.0, (c.if-not-uses_hash.ensures.0 refl, refl))
+    (pss_of c.in_ok-params.params, c.in_ok-params.ensures.read, (c.if-not-uses_hash.ensures.0 refl, refl))

@@ -1,11 +1,12 @@
 use Rattle.pkcs1.proofs.OneKey as keys
-use Rattle.pkcs1.proofs.ParameterLaws as parameters
+use Rattle.pkcs1_params.specs.Laws.Records.{oaep_record, pss_record}
+use Rattle.pkcs1_params.proofs.Same.{record_delimited}
 use Rattle.pkcs1.proofs.laws.lemma_encodings_are_delimited.Goals as goal
 
 pub returns : goal.returns
 returns c = record {
   public = keys.public_delimited;
   private = keys.private_delimited;
-  pss = parameters.pss_delimited;
-  oaep = parameters.oaep_delimited;
+  pss = record_delimited pss_record;
+  oaep = record_delimited oaep_record;
 }

@@ -1,4 +1,5 @@
-use Rattle.pkcs1_params.specs.Laws.ParameterSpellings.{oaep_spelled, pss_spelled}
+use Rattle.pkcs1_params.specs.Laws.Records.{oaep_record, pss_record}
+use Rattle.spki_core.proofs.Fielded.{record_spelled}
 use Rattle.pkcs1.specs.Laws.PrintedKeys.{public_spelled}
 use Rattle.pkcs1.specs.Laws.StatedPrivateKeys.{private_spelled}
 use Rattle.pkcs1.proofs.laws.lemma_forms_share_the_grammars.Goals as goal
@@ -7,6 +8,6 @@ pub returns : goal.returns
 returns c = record {
   public = (public_spelled, public_spelled);
   private = (private_spelled, private_spelled);
-  pss = (pss_spelled, pss_spelled);
-  oaep = (oaep_spelled, oaep_spelled);
+  pss = (record_spelled pss_record, record_spelled pss_record);
+  oaep = (record_spelled oaep_record, record_spelled oaep_record);
 }

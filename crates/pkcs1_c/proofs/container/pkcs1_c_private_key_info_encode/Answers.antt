@@ -5,10 +5,9 @@ use Rattle.pkcs8_core.specs.Laws.PrintedContainers.{container_spells}
 use Rattle.standard.specs.Statement.{ContainerEncoding}
 use Rattle.pkcs1_c.specs.StructErrors.{InfoError, Unwritten}
 use Rattle.pkcs1_c.specs.Structs.{HasKey, If, private_key_info}
-use Rattle.pkcs1_c.proofs.Containers.{ContainerPrints, error_none, info_one, info_rest}
-use Rattle.pkcs1_c.proofs.KeyWrites.{key_error, key_refused, key_written}
+use Rattle.pkcs1_c.proofs.Containers.{ContainerSpells, error_none, info_one, info_rest}
 use Rattle.pkcs1_c.proofs.NotWritten.{status_known}
-use Rattle.pkcs1_c.proofs.Writes.{error_as, is_error}
+use Rattle.pkcs1_c.proofs.Writes.{error_as, held_written, is_error, refused, unwritten_so}
 use Rattle.pkcs1_c.proofs.container.pkcs1_c_private_key_info_encode.Goals as goal
 
 pub write_encoding-requires : goal.write_encoding-requires
@@ -17,19 +16,20 @@ write_encoding-requires c = c.in-Ok.ensures.some
 pub returns-in-Ok-clause-writes : goal.returns-in-Ok-clause-writes
 returns-in-Ok-clause-writes c =
     let info = c.args.info.now in
-    key_written ContainerEncoding (private_key_info info) ContainerPrints (private_key_info info)
+    held_written ContainerEncoding (private_key_info info) ContainerSpells (private_key_info info)
     (container_spells (private_key_info info)) (HasKey info)
-    c.in-Ok.ensures.key (rw c.in-Ok.ensures.ok at c.write_encoding.ensures)
+    c.in-Ok.ensures.key (rw c.in-Ok.ensures.ok at c.write_encoding.ensures.writes)
 
 pub returns-in-Ok-clause-exact : goal.returns-in-Ok-clause-exact
 returns-in-Ok-clause-exact c =
     let info = c.args.info.now in
     let room = length c.args.out.now in
     let holds = c.in-Ok.ensures.key in
-    let told = rw c.in-Ok.ensures.ok at c.write_encoding.ensures in
+    let told = rw c.in-Ok.ensures.ok at c.write_encoding.ensures.exact in
     error_as (Unwritten ContainerEncoding (private_key_info info) room) (InfoError info room) _
-    (λ t p. inr (holds, p)) (info_rest info room holds) (key_error ContainerEncoding (private_key_info info) ContainerPrints (private_key_info info)
-    (container_spells (private_key_info info)) room _ told.exact)
+    (λ t p. inr (holds, p)) (info_rest info room holds)
+    (unwritten_so ContainerEncoding (private_key_info info) ContainerSpells (private_key_info info)
+    (container_spells (private_key_info info)) room _ told)
 
 pub returns-in-Err-clause-writes : goal.returns-in-Err-clause-writes
 returns-in-Err-clause-writes c =
@@ -38,7 +38,7 @@ returns-in-Err-clause-writes c =
     let e = status_known (rsa_private_key octets) (private_tells octets) c.in-Err.failure
     c.in-Err.ensures.exact in
     let is = c.status.ensures in
-    key_refused (If (HasKey info) ContainerEncoding) (private_key_info info) c.args.out.now c.args.len.now _
+    refused (If (HasKey info) ContainerEncoding) (private_key_info info) c.args.out.now c.args.len.now _
     (omega (arith, is, e.0.0), λ full. omega (arith, is, full, e.0.1))
     (λ bytes p. error_none info _ e.1 p.0)
 

@@ -1,11 +1,18 @@
+use Rattle.std.proofs.Common.{Some, subst, sym}
+use Rattle.pkcs1_params.specs.Laws.Records.{oaep_record}
 use Rattle.pkcs1_params.specs.ParameterReadings.{rsa_oaep_params}
-use Rattle.pkcs1_params.proofs.ParameterReadings.{rsa_oaep_params_reads}
+use Rattle.standard.specs.Statement.{Decodes, OaepEncoding}
 use Rattle.pkcs1_c.proofs.NotWritten.{status_exact}
+use Rattle.pkcs1_c.proofs.ParameterFaults.{record_tells}
 use Rattle.pkcs1_c.proofs.oaep.pkcs1_c_oaep_params_decode.Goals as goal
 
 pub returns-in-Ok-clause-ok : goal.returns-in-Ok-clause-ok
-returns-in-Ok-clause-ok c = λ _. rw c.to_c_oaep.ensures.seen c.in-Ok.ensures.ok
+returns-in-Ok-clause-ok c = λ _.
+    let bytes = c.args.encoding.now in
+    subst (λ v. Decodes OaepEncoding bytes (Some v)) (sym c.to_c_oaep.ensures.seen) c.in-Ok.ensures.read
 
 pub returns-in-Err-clause-exact : goal.returns-in-Err-clause-exact
 returns-in-Err-clause-exact c =
-    status_exact (rsa_oaep_params c.args.encoding.now) (rsa_oaep_params_reads.tells c.args.encoding.now) c.in-Err.error _ c.status.ensures c.in-Err.ensures.exact
+    let bytes = c.args.encoding.now in
+    status_exact (rsa_oaep_params bytes) (record_tells oaep_record bytes)
+    c.in-Err.error _ c.status.ensures c.in-Err.ensures.exact

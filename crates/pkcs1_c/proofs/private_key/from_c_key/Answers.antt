@@ -10,11 +10,10 @@ use Rattle.pkcs1_params.specs.declared.error.Error.{Error}
 use Rattle.pkcs1_c.specs.declared.private_key.OtherPrime.{OtherPrime}
 use Rattle.pkcs1_c.specs.declared.private_key.PrivateKey.{PrivateKey}
 use Rattle.pkcs1_c.specs.NumberValue.{held_others, number_of}
-use Rattle.pkcs1_c.specs.Status.{status_of}
+use Rattle.pkcs1_c.specs.Status.{NoStatus, status_of}
 use Rattle.pkcs1_c.specs.declared.given_number.Number.{Number}
 use Rattle.pkcs1_c.specs.StructErrors.{NumberError, NumbersError, MayRunOutOfMemory, given_numbers, numbers_of_primes}
 use Rattle.pkcs1_c.specs.Structs.{numbers_of_key}
-use Rattle.pkcs1_c.specs.Writes.{NoStatus}
 use Rattle.pkcs1_c.proofs.NotWritten.{err_all, err_handed}
 use Rattle.pkcs1_c.proofs.StructErrors.{held_none, none_both, numbers_behind}
 use Rattle.pkcs1_c.proofs.private_key.from_c_key.Goals as goal

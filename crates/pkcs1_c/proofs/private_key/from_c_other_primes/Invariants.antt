@@ -3,7 +3,7 @@ use Rattle.pkcs1.specs.Held.{held_other_prime}
 use Rattle.pkcs1_c.specs.NumberValue.{number_of}
 use Rattle.pkcs1_c.specs.StructErrors.{NumbersError, numbers_of_primes}
 use Rattle.pkcs1_c.specs.Structs.{other_prime}
-use Rattle.pkcs1_c.specs.Writes.{NoStatus}
+use Rattle.pkcs1_c.specs.Status.{NoStatus}
 use Rattle.pkcs1_c.proofs.private_key.from_c_other_primes.Given as goal
 
 -- So many of the primes were made, and can be held.

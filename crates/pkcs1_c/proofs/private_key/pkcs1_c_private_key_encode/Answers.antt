@@ -7,10 +7,9 @@ use Rattle.pkcs1_c.specs.declared.private_key.PrivateKey.{PrivateKey}
 use Rattle.pkcs1_c.specs.NumberValue.{number_of}
 use Rattle.pkcs1_c.specs.StructErrors.{Miscounted, NumbersError, PartThen, Unwritten, given_numbers}
 use Rattle.pkcs1_c.specs.Structs.{HasPrivateNumbers, If, private_key}
-use Rattle.pkcs1_c.proofs.GivenKeys.{PrivatePrints, private_fits, private_has, private_law, private_valid}
-use Rattle.pkcs1_c.proofs.KeyWrites.{error_behind, error_first, key_error, key_refused, key_written}
+use Rattle.pkcs1_c.proofs.GivenKeys.{PrivateSpells, private_fits, private_has, private_law, private_valid}
 use Rattle.pkcs1_c.proofs.StructErrors.{IsOne, IsPart, numbers_part, part_one, unless_part, unwritten_one}
-use Rattle.pkcs1_c.proofs.Writes.{no_memory_asked}
+use Rattle.pkcs1_c.proofs.Writes.{error_behind, error_first, held_written, no_memory_asked, refused, unwritten_so}
 use Rattle.pkcs1_c.proofs.private_key.pkcs1_c_private_key_encode.Goals as goal
 
 module _ (key : PrivateKey) (others : List OtherPrime) where
@@ -41,7 +40,7 @@ pub returns-then-key-others-clause-writes : goal.returns-then-key-others-clause-
 returns-then-key-others-clause-writes c = λ _.
     let key = c.args.key.now in
     let others = c.args.others.now in
-    key_refused (If (HasPrivateNumbers key others) PrivateKeyEncoding) (private_key key others) c.args.out.now
+    refused (If (HasPrivateNumbers key others) PrivateKeyEncoding) (private_key key others) c.args.out.now
     c.args.len.now 21 (omega arith, λ e. omega (arith, e)) (λ bytes p. c.if-key-others.true p.0.0)
 
 pub returns-then-key-others-clause-exact : goal.returns-then-key-others-clause-exact
@@ -56,9 +55,9 @@ pub returns-in-Ok-clause-writes : goal.returns-in-Ok-clause-writes
 returns-in-Ok-clause-writes c = λ _.
     let key = c.args.key.now in
     let others = c.args.others.now in
-    key_written PrivateKeyEncoding (private_key key others) PrivatePrints _
+    held_written PrivateKeyEncoding (private_key key others) PrivateSpells _
     (private_law key others c.in-Ok.key c.in-Ok.ensures.ok) (HasPrivateNumbers key others)
-    (private_has key others c.if-key-others.false c.in-Ok.ensures.held) c.write_encoding.ensures
+    (private_has key others c.if-key-others.false c.in-Ok.ensures.held) c.write_encoding.ensures.writes
 
 pub returns-in-Ok-clause-exact : goal.returns-in-Ok-clause-exact
 returns-in-Ok-clause-exact c = λ _.
@@ -67,7 +66,7 @@ returns-in-Ok-clause-exact c = λ _.
     let room = length c.args.out.now in
     error_behind (Miscounted key others) (Counted key others room) _ (λ s p. p.1 c.if-key-others.false)
     (error_behind (Unheld key others) (Rest key others room) _ c.in-Ok.ensures.held
-    (key_error PrivateKeyEncoding (private_key key others) PrivatePrints _
+    (unwritten_so PrivateKeyEncoding (private_key key others) PrivateSpells _
     (private_law key others c.in-Ok.key c.in-Ok.ensures.ok) room _ c.write_encoding.ensures.exact))
 
 pub returns-in-Err-clause-writes : goal.returns-in-Err-clause-writes
@@ -77,7 +76,7 @@ returns-in-Err-clause-writes c = λ other.
     let s = c.status.result in
     let told = c.in-Err.ensures.err (λ e. other (c.status.ensures ∙ e)) in
     let rejected : Unheld key others s = rw c.status.ensures told in
-    key_refused (If (HasPrivateNumbers key others) PrivateKeyEncoding) (private_key key others) c.args.out.now
+    refused (If (HasPrivateNumbers key others) PrivateKeyEncoding) (private_key key others) c.args.out.now
     c.args.len.now s ((numbers_part (given_numbers key others)).1 s rejected)
     (λ bytes p. private_fits key others p.0 bytes p.1 s rejected)
 
@@ -95,7 +94,7 @@ returns-in-Err-clause-exact c = λ other.
 
 pub returns-in-Ok-clause-memory : goal.returns-in-Ok-clause-memory
 returns-in-Ok-clause-memory c =
-    λ memory. absurd (no_memory_asked PrivatePrints (private_key_with (number_in number_of) c.in-Ok.key) _ _
+    λ memory. absurd (no_memory_asked PrivateSpells (private_key_with (number_in number_of) c.in-Ok.key) _ _
     c.write_encoding.ensures.exact memory)
 
 pub returns-in-Err-clause-memory : goal.returns-in-Err-clause-memory

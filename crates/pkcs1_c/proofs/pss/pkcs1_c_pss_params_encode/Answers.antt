@@ -1,25 +1,42 @@
-use Rattle.std.proofs.Common.{subst}
-use Rattle.pkcs1_params.specs.Parameters.{RsaPssParams}
-use Rattle.pkcs1_params.specs.Parts.{Fielded, pss_values}
-use Rattle.pkcs1_c.specs.Writes.{WritesValue}
-use Rattle.pkcs1_c.specs.Structs.{pss_seen}
-use Rattle.pkcs1_c.specs.StructErrors.{EncodingError, PssFieldError}
+use Rattle.std.proofs.Common.{length, subst}
+use Rattle.standard.specs.Statement.{PssEncoding}
+use Rattle.pkcs1_c.specs.Status.{IsErrorOf}
+use Rattle.pkcs1_c.specs.StructErrors.{PssFieldError, Unwritten}
+use Rattle.pkcs1_c.specs.Structs.{WritesOrTells, pss_seen}
 use Rattle.pkcs1_c.proofs.Fits.{pss_fits}
 use Rattle.pkcs1_c.proofs.HeldParameters.{pss_none}
-use Rattle.pkcs1_c.proofs.StructErrors.{pss_part}
-use Rattle.pkcs1_c.proofs.Writes.{fields_refused, fields_written}
+use Rattle.pkcs1_c.proofs.StructErrors.{pss_part, unwritten_one}
+use Rattle.pkcs1_c.proofs.Writes.{error_behind, error_first, refused}
 use Rattle.pkcs1_c.proofs.pss.pkcs1_c_pss_params_encode.Goals as goal
 
-pub returns-in-Ok : goal.returns-in-Ok
-returns-in-Ok c =
-    let seen = pss_seen c.args.params.now in
-    let is = c.in-Ok.ensures.ok in
-    fields_written PssFieldError RsaPssParams seen (pss_none c.in-Ok.made seen is)
-    (subst (λ v. WritesValue (Fielded pss_values) v (EncodingError (Fielded pss_values) v) c.args.out.now
-    c.write_params.new.out c.args.len.now c.write_params.new.len c.write_params.result) is c.write_params.ensures)
+pub returns-in-Ok-clause-writes : goal.returns-in-Ok-clause-writes
+returns-in-Ok-clause-writes c =
+    let told = c.write_params in
+    subst (λ v. WritesOrTells PssEncoding v c.args.out.now told.new.out c.args.len.now told.new.len told.result)
+    c.in-Ok.ensures.ok told.ensures.writes
 
-pub returns-in-Err : goal.returns-in-Err
-returns-in-Err c =
-    let seen = pss_seen c.args.params.now in
-    fields_refused PssFieldError RsaPssParams seen c.args.out.now c.args.len.now _ _ c.status.ensures (pss_part seen)
-    (pss_fits seen) c.in-Err.ensures.err
+pub returns-in-Ok-clause-exact : goal.returns-in-Ok-clause-exact
+returns-in-Ok-clause-exact c =
+    let v = pss_seen c.args.params.now in
+    let room = length c.args.out.now in
+    let told = c.write_params in
+    error_behind (PssFieldError v) (Unwritten PssEncoding v room) told.result
+    (pss_none c.in-Ok.made v c.in-Ok.ensures.ok)
+    (subst (λ u. IsErrorOf (Unwritten PssEncoding u room) told.result) c.in-Ok.ensures.ok told.ensures.exact)
+
+pub returns-in-Err-clause-writes : goal.returns-in-Err-clause-writes
+returns-in-Err-clause-writes c =
+    let v = pss_seen c.args.params.now in
+    let s = c.status.result in
+    let rejected : PssFieldError v s = rw c.status.ensures c.in-Err.ensures.err in
+    refused PssEncoding v c.args.out.now c.args.len.now s ((pss_part v).1 s rejected)
+    (λ bytes p. pss_fits v bytes p s rejected)
+
+pub returns-in-Err-clause-exact : goal.returns-in-Err-clause-exact
+returns-in-Err-clause-exact c =
+    let v = pss_seen c.args.params.now in
+    let room = length c.args.out.now in
+    let s = c.status.result in
+    let rejected : PssFieldError v s = rw c.status.ensures c.in-Err.ensures.err in
+    error_first (PssFieldError v) (Unwritten PssEncoding v room) s (pss_part v)
+    (unwritten_one PssEncoding v room) rejected

@@ -1,25 +1,49 @@
-use Rattle.pkcs1_params.proofs.ParameterWrites.{so}
-use Rattle.pkcs1_params.specs.Parts.{Fielded}
-use Rattle.pkcs1_c.proofs.Needed.{fields_have, fields_kept, fields_needed}
-use Rattle.pkcs1_c.proofs.NotWritten.{status_writing}
-use Rattle.pkcs1_c.proofs.Writes.{not_written, written}
+use Rattle.std.proofs.Common.{length}
+use Rattle.der_core.specs.Laws.Printed.Shortest.{tagged_shortest}
+use Rattle.der_core.specs.Printed.{Spells}
+use Rattle.spki_core.specs.FieldSpellings.{AreSpelled, record_means, spelled}
+use Rattle.spki_core.specs.Laws.FieldSpellings.Masks.{under_valid}
+use Rattle.spki_core.specs.Laws.FieldSpellings.Records.{record_shortest, spelled_from, spelled_to}
+use Rattle.pkcs1_params.specs.Spellings.{Encoded}
+use Rattle.standard.specs.Statement.{sequence}
+use Rattle.pkcs1_c.proofs.Needed.{needed_is, needed_kept}
+use Rattle.pkcs1_c.proofs.NotWritten.{status_unwritten}
+use Rattle.pkcs1_c.proofs.Writes.{not_written, unwritten_as, unwritten_is, written, written_as, written_well}
 use Rattle.pkcs1_c.proofs.written.write_params.Goals as goal
 
-pub returns-in-Ok : goal.returns-in-Ok
-returns-in-Ok g c =
+pub returns-in-Ok-clause-writes : goal.returns-in-Ok-clause-writes
+returns-in-Ok-clause-writes g c =
     let t = g.T.EncodeParams in
-    written (Fielded t.values) (t.params c.args.params) c.args.out.now _ c.args.len.now _ c.in-Ok.ensures.shortest.0
-    c.in-Ok.ensures.rest c.encode_params.auto.out
+    written (Encoded t.Is t.fields_of) (t.params c.args.params) c.args.out.now c.encode_params.new.out c.args.len.now
+    c.in-Ok.count c.in-Ok.ensures.written
 
-pub returns-in-Err : goal.returns-in-Err
-returns-in-Err g c =
+pub returns-in-Ok-clause-exact : goal.returns-in-Ok-clause-exact
+returns-in-Ok-clause-exact g c =
     let t = g.T.EncodeParams in
-    let value = t.params c.args.params in
-    let some = c.lemma_has_encoding.ensures in
+    written_well (Encoded t.Is t.fields_of) (t.params c.args.params) c.args.out.now c.encode_params.new.out
+    c.args.len.now c.in-Ok.count c.in-Ok.ensures.written c.encode_params.auto.out
+
+pub returns-in-Err-clause-writes : goal.returns-in-Err-clause-writes
+returns-in-Err-clause-writes g c =
+    let t = g.T.EncodeParams in
+    let r = t.form in
+    let v = t.params c.args.params in
+    let room = length c.args.out.now in
+    let least = tagged_shortest (record_shortest r) 48 in
+    let ok = under_valid r.kinds 0 (r.split v) (r.are v c.lemma_is_valid.ensures) in
     let needed = rw c.of.ensures at c.set_needed.ensures in
-    let same = t.spelled value 0 in
-    not_written (Fielded t.values) value c.args.out.now _ c.args.len.now _ _ _ c.status.ensures
-    (status_writing (Fielded t.values) value _ some c.in-Err.error c.in-Err.ensures.err)
-    c.in-Err.ensures.unchanged
-    (fields_needed t.values value some _ same.1 (needed.needed (so same.0 (fields_have t.values value some))))
-    (fields_kept t.values value some _ same.1 needed.kept)
+    let why = status_unwritten (λ _. Unit {0}) (Encoded t.Is t.fields_of) v room tt c.in-Err.error c.in-Err.ensures.err
+    in
+    let Spelled = Spells (AreSpelled r.kinds) (λ s. sequence (spelled r.kinds s)) (record_means r) in
+    written_as (Encoded t.Is t.fields_of) v Spelled v (λ b. (spelled_to r v b, spelled_from r v b))
+    (not_written Spelled v c.args.out.now _ c.args.len.now _ _ _ c.status.ensures
+    (unwritten_as Spelled v (Encoded t.Is t.fields_of) v (λ b. (spelled_from r v b, spelled_to r v b)) room _ why)
+    c.in-Err.ensures.written.0 (needed_is least v ok needed.needed) (needed_kept least v ok needed.kept))
+
+pub returns-in-Err-clause-exact : goal.returns-in-Err-clause-exact
+returns-in-Err-clause-exact g c =
+    let t = g.T.EncodeParams in
+    let v = t.params c.args.params in
+    let room = length c.args.out.now in
+    unwritten_is (Encoded t.Is t.fields_of) v room _ _ c.status.ensures
+    (status_unwritten (λ _. Unit {0}) (Encoded t.Is t.fields_of) v room tt c.in-Err.error c.in-Err.ensures.err)

@@ -1,20 +1,29 @@
-use Rattle.std.proofs.Common.{sym, ◌∙◌}
+use Rattle.std.proofs.Common.{◌≡◌, inr, sym, ◌∙◌}
+use Rattle.std.specs.Prelude.{IsTrue, ◌↔◌}
+use Rattle.std.proofs.lemmas.Result.{on_ok_weaker}
 use Rattle.std.proofs.lemmas.Slice.Eq.{bytes_eq-Decides}
-use Rattle.pkcs1_lines.proofs.Verdicts.{same_told}
+use Rattle.pkcs1_params.proofs.Same.{record_delimited, same_by_shortest}
+use Rattle.pkcs1_params.specs.Spellings.{Encoded}
+use Rattle.pkcs1_lines.proofs.Verdicts.{said, says}
 use Rattle.pkcs1_lines.proofs.parameter_answers.answer_same.Goals as goal
 
 pub returns-in_ok-second_buffer-in-Some-Some : goal.returns-in_ok-second_buffer-in-Some-Some
 returns-in_ok-second_buffer-in-Some-Some g c =
-    let claim : g.claim c.lifetimes = assumption in
     let t = g.T.Parameters in
-    let law = g.met.T.Parameters c.lifetimes claim in
-    let params = c.in-Some-Some.params in
-    let others = c.in-Some-Some.others in
-    let first = law.shortest_as params c.shortest-again.result.now c.shortest-again.ensures in
-    let second = law.shortest_as others c.shortest-other.result.now c.shortest-other.ensures in
-    let decides = bytes_eq-Decides c.shortest-again.result.now c.shortest-other.result.now in
-    same_told t.grammar law.delimited c.args.word.now _ _ c.eq.result c.put_verdict.result (t.meaning params)
-    (t.meaning others) c.args.first.now c.args.second.now
-    c.shortest-again.result.now c.shortest-other.result.now c.in-Some-Some.ensures.some c.in-Some-Some.ensures'.some
-    first second
-    (λ so. decides.0 (sym c.eq.ensures ∙ so), λ same. c.eq.ensures ∙ decides.1 same) c.put_verdict.ensures
+    let v = t.params c.in-Some-Some.params in
+    let w = t.params c.in-Some-Some.others in
+    let first = c.in-Some-Some.ensures.0 in
+    let second = c.in-Some-Some.ensures'.0 in
+    let again = c.shortest-again in
+    let other = c.shortest-other in
+    let decides = bytes_eq-Decides again.result.now other.result.now in
+    let law =
+    same_by_shortest (Encoded t.Is t.fields_of) (record_delimited t.form) v w c.args.first.now c.args.second.now
+    again.result.now other.result.now first second again.ensures other.ensures in
+    let own : IsTrue c.eq.result ↔ (v ≡ w) =
+    (λ so. law.1 (decides.0 (sym c.eq.ensures ∙ so)), λ same. c.eq.ensures ∙ decides.1 (law.0 same)) in
+    on_ok_weaker c.put_verdict.result (λ put. (
+      said c.args.word.now c.eq.result,
+      inr (v, w, first, second, says c.args.word.now c.eq.result (v ≡ w) own),
+      put,
+    )) c.put_verdict.ensures

@@ -1,11 +1,14 @@
-use Rattle.pkcs1_lines.proofs.Verdicts.{strict_told}
+use Rattle.pkcs1_params.specs.Spellings.{Encoded}
+use Rattle.pkcs1_lines.proofs.PutBehind.{told}
+use Rattle.pkcs1_lines.proofs.Verdicts.{own_shortest, says}
 use Rattle.pkcs1_lines.proofs.parameter_answers.answer_strict.Goals as goal
 
 pub returns-in-Some : goal.returns-in-Some
 returns-in-Some g c =
-    let claim : g.claim c.lifetimes = assumption in
     let t = g.T.Parameters in
-    let law = g.met.T.Parameters c.lifetimes claim in
-    strict_told t.grammar law.delimited c.args.word.now _ _ c.is_strict.result c.put_verdict.result
-    (t.meaning c.in-Some._params) c.args.encoding.now c.in-Some.ensures.some c.is_strict.ensures
-    c.put_verdict.ensures
+    let E = Encoded t.Is t.fields_of in
+    let encoding = c.args.encoding.now in
+    let v = t.params c.in-Some._params in
+    let own = own_shortest E encoding c.is_strict.result v c.in-Some.ensures c.is_strict.ensures in
+    told E encoding _ _ c.put_verdict.result _ v _ c.in-Some.ensures.0
+    (says c.args.word.now c.is_strict.result _ own) c.put_verdict.ensures

@@ -1,25 +1,42 @@
-use Rattle.std.proofs.Common.{arith}
-use Rattle.der_core.proofs.Readings.{whole_reads}
+use Rattle.std.proofs.Common.{ℕ, List, ◌++◌, ◌≡◌, ◌≤◌, ◌∙◌, arith, ap, sym, subst, length, true, Ok}
+use Rattle.der_core.specs.Encodings.{AreBytes}
 use Rattle.der_core.specs.Laws.Input.{are_bytes}
-use Rattle.spki_core.specs.Laws.Readings.{any_reads}
-use Rattle.pkcs1_params.proofs.AlgorithmsLaws.{parameters_in}
-use Rattle.pkcs1_params.specs.Parts.{Fielded}
-use Rattle.pkcs1_params.proofs.Algorithms.{is_any, behind}
-use Rattle.pkcs1_params.proofs.FaultsTold.{no_memory, none_read}
+use Rattle.der_core.specs.Laws.Printed.Rows.{whole_takes}
+use Rattle.der_core.specs.Laws.Readings.{ok_same}
+use Rattle.der_core.specs.Length.{limit}
+use Rattle.der_core.specs.Readings.{whole}
+use Rattle.spki_core.specs.Laws.Printed.Readings.{any_law}
+use Rattle.spki_core.specs.Readings.{any}
+use Rattle.spki_core.proofs.StrictFields.{contents_bytes}
+use Rattle.pkcs1_params.proofs.Algorithms.{identifier_in}
+use Rattle.pkcs1_params.proofs.FaultsTold.{no_memory}
+use Rattle.pkcs1_params.proofs.Wrapped.{behind_oid}
+use Rattle.standard.specs.Statement.{TagAndContents, sequence, tlv}
 use Rattle.pkcs1_params.proofs.algorithm.encoded_parameters.Goals as goal
+
+-- What the slice is read as.
+top : (oid p bytes : List ℕ) → AreBytes bytes → length bytes ≤ limit → bytes ≡ sequence (tlv 6 oid ++ p)
+    → whole any bytes ≡ Ok (record { tag = 48; contents = tlv 6 oid ++ p })
+top oid p bytes are few is =
+    whole_takes any_law (record { tag = 48; contents = tlv 6 oid ++ p }) bytes
+    (few, ((λ i. true), contents_bytes 48 (tlv 6 oid ++ p) (subst AreBytes is are)), is)
 
 pub returns-in-Err : goal.returns-in-Err
 returns-in-Err g c =
-    let m = c.requires in
-    let any = is_any g.T.AlgorithmParams.values g.T.Oid.AssociatedOid.contents _ m.0 m.1.1 in
-    absurd (none_read (whole_reads any_reads) _ _ (no_memory (λ w. w.3) c.in-Err.ensures.exact) _ (m.1.0, any.1))
+    let (v, (few, p, e, is)) = c.requires in
+    let bytes = are_bytes _ (λ i. omega (arith, c.type_inv.identifier i)) in
+    let never =
+    sym (top g.T.Oid.AssociatedOid.contents p _ bytes few is) ∙ no_memory (λ w. w.3) c.in-Err.ensures.exact in
+    cc
 
 pub returns-in-Ok : goal.returns-in-Ok
 returns-in-Ok g c =
-    let m = c.requires in
+    let (v, (few, p, e, is)) = c.requires in
     let oid = g.T.Oid.AssociatedOid.contents in
-    let p = parameters_in (Fielded g.T.AlgorithmParams.values) oid m.0 _ m.1.1 in
     let bytes = are_bytes _ (λ i. omega (arith, c.type_inv.identifier i)) in
-    let any = (whole_reads any_reads).gives _ _ bytes c.in-Ok.ensures.exact in
-    let rest = behind oid c.in-Ok.any.contents.now p.0 c.args.identifier.now any.1.1 p.2 in
-    rw (c.behind.ensures, c.octets.ensures, c.value.ensures.contents, rest) (m.1.0, p.2)
+    let identifier = identifier_in oid g.T.Oid.AssociatedOid.valid p _ bytes is in
+    let same = ok_same (sym (top oid p _ bytes few is) ∙ c.in-Ok.ensures.exact) in
+    let contents : tlv 6 oid ++ p ≡ c.in-Ok.any.contents.now = ap (λ (x : TagAndContents). x.contents) same in
+    let rest : c.behind.result.now ≡ p =
+    rw (c.behind.ensures, c.octets.ensures, c.value.ensures.contents, ← contents) (behind_oid oid p identifier.4) in
+    is ∙ ap (λ x. sequence (tlv 6 oid ++ x)) (sym rest)

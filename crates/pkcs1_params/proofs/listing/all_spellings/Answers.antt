@@ -1,85 +1,107 @@
-use Rattle.std.proofs.Common.{ℕ, suc, ◌≡◌, ◌<◌, ◌-◌, ◌*◌, ◌%◌, ◌^◌, inl, inr, arith}
+use Rattle.std.proofs.Common.{ℕ, List, [], ◌≡◌, ◌<◌, ◌≤◌, ◌+◌, ◌-◌, ◌*◌, ◌%◌, ◌^◌, ◌∙◌, length, subst, sym, ap, inl, inr, arith}
+use Rattle.std.specs.Prelude.{slice_index_or}
 use Rattle.std.proofs.lemmas.Nat.{one_shl, pow_pos}
 use Rattle.std.proofs.lemmas.Result.{err_from_is_err_and}
-use Rattle.pkcs1_params.proofs.FieldValues.{ordered}
-use Rattle.pkcs1_params.specs.Parts.{fields_with}
-use Rattle.pkcs1_params.proofs.Masks.{in_range, all_fit, none_fit, are_all}
+use Rattle.der_core.specs.Length.{limit}
+use Rattle.spki_core.specs.FieldSpellings.{FieldRecord, upto}
+use Rattle.spki_core.proofs.Fielded.{are_all, counted, counted_there, default_count, fits, full_longest, index_upto, made}
+use Rattle.spki_core.proofs.Fielded.{shortest_is}
+use Rattle.pkcs1_params.specs.Spellings.{Encoded}
+use Rattle.pkcs1_params.proofs.Masks.{in_range}
+use Rattle.standard.specs.Statement.{AreAll, Defaults, Field, IsShortest, longest}
 use Rattle.pkcs1_params.proofs.listing.all_spellings.Goals as goal
 
 shifted : (k : ℕ) → k < 8 → 1 * 2 ^ k % 256 ≡ 2 ^ k
 shifted k few = one_shl k 8 few
 
-last : (k : ℕ) → k < 8 → suc (1 * 2 ^ k % 256 - 1) ≡ 2 ^ k
+last : (k : ℕ) → k < 8 → 1 * 2 ^ k % 256 - 1 + 1 ≡ 2 ^ k
 last k few = omega (arith, shifted k few, pow_pos k)
+
+-- The encoding under the greatest mask.
+module _ {V : Type 0} {Is : V → Type 0} {fields : V → List Field} (r : FieldRecord Is fields) (v : V) (k : ℕ)
+    (d : Defaults (fields v) k) (few : k < 8) where
+  greatest : made r v (1 * 2 ^ k % 256 - 1) ≡ longest (fields v)
+  greatest = full_longest r v (1 * 2 ^ k % 256 - 1) (last k few ∙ ap (λ n. 2 ^ n) (counted r v k d))
+
+  count_is : 1 * 2 ^ k % 256 ≡ 2 ^ default_count r v
+  count_is = shifted k few ∙ ap (λ n. 2 ^ n) (counted r v k d)
+
+  all_within : (n : ℕ) → (n ≡ length (made r v (1 * 2 ^ k % 256 - 1))) × (n ≤ limit) → length (longest (fields v)) ≤ limit
+  all_within n p = omega (arith, p.0, p.1, ap length greatest)
 
 pub invariant_of-longest : goal.invariant_of-longest
 invariant_of-longest g c =
     let t = g.T.EncodeParams in
     let k = c.count_defaults-count.result in
     let known = c.count_defaults-count.ensures in
+    let l = last k known.few in
     record {
-      range = in_range (fields_with t.values (t.params c.args.params)) (1 * 2 ^ k % 256 - 1)
-          (k, known.count, omega (arith, last k known.few));
+      range = in_range t.form (t.params c.args.params) (1 * 2 ^ k % 256 - 1) (k, known.count, omega (arith, l));
       known = c.non_defaults_in-non_defaults.ensures;
     }
 
 pub returns-in_err-len-clause-err : goal.returns-in_err-len-clause-err
 returns-in_err-len-clause-err g c =
     let t = g.T.EncodeParams in
-    let k = c.count_defaults-count.result in
     let known = c.count_defaults-count.ensures in
     let e = err_from_is_err_and c.from_residual.result c.from_residual.ensures.1 in
     let why = c.in_err-len.ensures.err in
-    rw (e.1, e.2) (inr (
-      why.0,
-      none_fit (fields_with t.values (t.params c.args.params)) k _ known.count
-          (last k known.few) why.1,
-    ))
+    let same = greatest t.form (t.params c.args.params) _ known.count known.few in
+    rw (e.1, e.2) (inr (why.0, omega (arith, why.1, ap length same)))
 
 pub encodings_under-requires : goal.encodings_under-requires
 encodings_under-requires g c =
     let t = g.T.EncodeParams in
-    let k = c.count_defaults-count.result in
+    let v = t.params c.args.params in
     let known = c.count_defaults-count.ensures in
     record {
       non_defaults = c.non_defaults_in-non_defaults.ensures;
-      masks = (
-        k,
-        known.count,
-        shifted k known.few,
-        all_fit (fields_with t.values (t.params c.args.params)) k _ known.count (last k known.few) _
-            c.in_ok-len.ensures.spells,
-      );
+      masks = count_is t.form v _ known.count known.few;
+      fit = all_within t.form v _ known.count known.few _ c.in_ok-len.ensures.ok;
     }
 
 pub returns-in_err-encodings_under-clause-err : goal.returns-in_err-encodings_under-clause-err
 returns-in_err-encodings_under-clause-err g c =
     let t = g.T.EncodeParams in
-    let k = c.count_defaults-count.result in
     let known = c.count_defaults-count.ensures in
     let e =
     err_from_is_err_and c.from_residual-in_err-encodings_under.result
     c.from_residual-in_err-encodings_under.ensures.1 in
     rw (e.1, e.2) (inl (
       c.in_err-encodings_under.ensures.err,
-      all_fit (fields_with t.values (t.params c.args.params)) k _ known.count (last k known.few) _
-          c.in_ok-len.ensures.spells,
+      all_within t.form (t.params c.args.params) _ known.count known.few _ c.in_ok-len.ensures.ok,
     ))
 
-pub returns-clause-all : goal.returns-clause-all
-returns-clause-all g c =
+pub returns-clause-listed : goal.returns-clause-listed
+returns-clause-listed g c =
     let t = g.T.EncodeParams in
-    let k = c.count_defaults-count.result in
-    let known = c.count_defaults-count.ensures in
     let v = t.params c.args.params in
-    let fit = all_fit (fields_with t.values v) k _ known.count (last k known.few) _ c.in_ok-len.ensures.spells in
-    are_all (fields_with t.values) (ordered t.values t.numbered) v _ _ (k, known.count, shifted k known.few, fit)
-    c.in_ok-encodings_under.ensures.ok
+    let known = c.count_defaults-count.ensures in
+    let fit = all_within t.form v _ known.count known.few _ c.in_ok-len.ensures.ok in
+    let is =
+    c.in_ok-encodings_under.ensures.ok ∙ ap (λ n. upto n (made t.form v)) (count_is t.form v _ known.count known.few) in (
+      default_count t.form v,
+      counted_there t.form v,
+      subst (AreAll (λ E. E) t.Is t.fields_of v (default_count t.form v)) (sym is)
+          (are_all t.form v c.lemma_is_valid.ensures fit),
+    )
+
+pub returns-clause-shortest : goal.returns-clause-shortest
+returns-clause-shortest g c =
+    let t = g.T.EncodeParams in
+    let v = t.params c.args.params in
+    let known = c.count_defaults-count.ensures in
+    let fit = all_within t.form v _ known.count known.few _ c.in_ok-len.ensures.ok in
+    let is =
+    c.in_ok-encodings_under.ensures.ok ∙ ap (λ n. upto n (made t.form v)) (count_is t.form v _ known.count known.few) in
+    let first =
+    ap (λ all. slice_index_or all 0 []) is
+    ∙ index_upto (2 ^ default_count t.form v) (made t.form v) [] 0 (pow_pos (default_count t.form v)) in
+    subst (IsShortest (Encoded t.Is t.fields_of) v) (sym first)
+    (shortest_is t.form v c.lemma_is_valid.ensures (fits t.form v 0 fit))
 
 pub returns-clause-fit : goal.returns-clause-fit
 returns-clause-fit g c =
     let t = g.T.EncodeParams in
-    let k = c.count_defaults-count.result in
     let known = c.count_defaults-count.ensures in
-    all_fit (fields_with t.values (t.params c.args.params)) k _ known.count (last k known.few) _
-    c.in_ok-len.ensures.spells
+    all_within t.form (t.params c.args.params) _ known.count known.few _ c.in_ok-len.ensures.ok

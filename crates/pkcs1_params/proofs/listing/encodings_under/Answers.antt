@@ -1,19 +1,21 @@
-use Rattle.std.proofs.Common.{◌<◌, ℕ, refl, arith}
+use Rattle.std.proofs.Common.{ℕ, List, [], ◌∷◌, ◌++◌, ◌<◌, ◌^◌, ◌∙◌, map, refl, subst, sym, ap, inl, inr, arith}
+use Rattle.std.specs.Global.{Vec}
+use Rattle.std.proofs.lemmas.List.{map-append}
 use Rattle.std.proofs.lemmas.Result.{err_from_is_err_and}
-use Rattle.pkcs1_params.specs.Parts.{fields_with}
-use Rattle.pkcs1_params.proofs.Masks.{mask_in_range, memory_alone, under_more}
+use Rattle.spki_core.specs.FieldSpellings.{upto}
+use Rattle.spki_core.proofs.Fielded.{counted, fits, made, upto_more}
 use Rattle.pkcs1_params.proofs.listing.encodings_under.Goals as goal
 
 pub loop-mask-init : goal.loop-mask-init
-loop-mask-init g c =
-    rw c.new-encodings.ensures.items (refl, λ (mask : ℕ) (below : mask < 0). absurd (omega (arith, below)))
+loop-mask-init g c = rw c.new-encodings.ensures.items refl
 
 pub invariant_of-spelling : goal.invariant_of-spelling
 invariant_of-spelling g c =
     let t = g.T.EncodeParams in
+    let v = t.params c.args.params in
     record {
-      range = mask_in_range (fields_with t.values (t.params c.args.params)) c.args.count c.loop-mask.mask
-          c.requires.masks c.loop-mask-test.true;
+      range = λ k d. subst (λ n. c.loop-mask.mask < n) (c.requires.masks ∙ ap (λ n. 2 ^ n) (sym (counted t.form v k d)))
+          c.loop-mask-test.true;
       known = c.requires.non_defaults;
     }
 
@@ -21,12 +23,19 @@ pub returns-in_err-to_vec-clause-err : goal.returns-in_err-to_vec-clause-err
 returns-in_err-to_vec-clause-err g c =
     let t = g.T.EncodeParams in
     let e = err_from_is_err_and c.from_residual.result c.from_residual.ensures.1 in
-    rw (e.1, e.2) (memory_alone (fields_with t.values (t.params c.args.params)) c.args.count c.loop-mask.mask
-    c.requires.masks c.loop-mask-test.true c.in_err-to_vec.ensures.err)
+    rw (e.1, e.2) (elim c.in_err-to_vec.ensures.err [
+      | inl memory ↦ memory
+      | inr long ↦
+          let few = fits t.form (t.params c.args.params) c.loop-mask.mask c.requires.fit in
+          absurd (omega (arith, few, long.1))
+    ])
 
 pub loop-mask-preserved : goal.loop-mask-preserved
 loop-mask-preserved g c =
     let t = g.T.EncodeParams in
-    under_more (fields_with t.values (t.params c.args.params)) c.loop-mask.mask c.loop-mask.encodings
-    c.push.new.self c.in_ok-to_vec.field-0 c.in_ok-push.ensures.items c.loop-mask.invariant
-    c.in_ok-to_vec.ensures.ok
+    let v = t.params c.args.params in
+    let item : Vec ℕ → List ℕ = λ encoding. encoding.items in
+    ap (map item) c.in_ok-push.ensures.items ∙ map-append item c.loop-mask.encodings.items (c.in_ok-to_vec.field-0 ∷ [])
+    ∙ ap (λ xs. xs ++ c.in_ok-to_vec.field-0.items ∷ []) c.loop-mask.invariant
+    ∙ ap (λ x. upto c.loop-mask.mask (made t.form v) ++ x ∷ []) c.in_ok-to_vec.ensures.ok
+    ∙ sym (upto_more c.loop-mask.mask (made t.form v))

@@ -1,7 +1,11 @@
-use Rattle.pkcs1_params.specs.Parts.{fields_with}
-use Rattle.pkcs1_params.specs.Spellings.{AreUnder, encodings_in}
+use Rattle.std.specs.Prelude.{◌≡◌}
+use Rattle.spki_core.specs.FieldSpellings.{record_under, spelled, upto}
+use Rattle.pkcs1_params.specs.Spellings.{encodings_in}
+use Rattle.standard.specs.Statement.{sequence}
 use Rattle.pkcs1_params.proofs.listing.encodings_under.Given as goal
 
 abbrev pub invariant-loop-mask : goal.invariant-loop-mask
 invariant-loop-mask g l =
-    let t = g.T.EncodeParams in AreUnder (fields_with t.values (t.params l.params)) l.mask (encodings_in l.encodings)
+    let t = g.T.EncodeParams in
+    encodings_in l.encodings
+    ≡ upto l.mask (λ mask. sequence (spelled t.form.kinds (record_under t.form mask (t.params l.params))))

@@ -1,17 +1,15 @@
-use Rattle.std.proofs.Common.{◌≤◌, length, subst, sym, arith}
-use Rattle.spki_core.specs.Explicit.{HaveDefaults}
-use Rattle.pkcs1_params.specs.Parts.{fields_in}
+use Rattle.std.proofs.Common.{sym, subst, ap, ◌∙◌}
+use Rattle.spki_core.specs.FieldSpellings.{defaults_in}
+use Rattle.spki_core.specs.Laws.FieldSpellings.Steps.{defaults_same}
+use Rattle.spki_core.proofs.Fielded.{counted_there}
+use Rattle.standard.specs.Statement.{Defaults}
 use Rattle.pkcs1_params.proofs.spelling.count_defaults.Goals as goal
-
-pub count_defaults-requires : goal.count_defaults-requires
-count_defaults-requires g c = subst (λ vs. length vs ≤ 7) (sym c.fields.ensures.are) c.fields.ensures.few
 
 pub returns-clause-count : goal.returns-clause-count
 returns-clause-count g c =
-    subst (λ vs. HaveDefaults (fields_in vs) c.count_defaults.result) c.fields.ensures.are
-    c.count_defaults.ensures.count
-
-pub returns-clause-few : goal.returns-clause-few
-returns-clause-few g c =
-    let few = subst (λ vs. length vs ≤ 7) (sym c.fields.ensures.are) c.fields.ensures.few in
-    omega (arith, few, c.count_defaults.ensures.few)
+    let t = g.T.EncodeParams in
+    let v = t.params c.args.params in
+    let is =
+    c.count_defaults.ensures.count ∙ ap defaults_in c.fields.ensures.are
+    ∙ defaults_same t.form.kinds (t.form.split v) in
+    subst (Defaults (t.fields_of v)) (sym is) (counted_there t.form v)

@@ -1,23 +1,32 @@
-use Rattle.std.proofs.Common.{ap, sym}
+use Rattle.std.proofs.Common.{arith, ap, sym, ◌∙◌}
+use Rattle.der_core.specs.Laws.Input.{are_bytes}
 use Rattle.spki_core.specs.StrictFields.{unless_found}
-use Rattle.pkcs1_params.proofs.StrictParameters.{none_in_empty, not_shortest, shortest}
+use Rattle.spki_core.proofs.StrictFields.{strict_walks}
+use Rattle.pkcs1_params.proofs.FaultsTold.{told_as}
+use Rattle.pkcs1_params.proofs.UsualParameters.{none_in_empty}
 use Rattle.pkcs1_params.proofs.strict.reject_defaults.Goals as goal
 
-pub returns-then-is_empty_sequence-clause-ok : goal.returns-then-is_empty_sequence-clause-ok
-returns-then-is_empty_sequence-clause-ok g c =
+pub returns-then-is_empty_sequence : goal.returns-then-is_empty_sequence
+returns-then-is_empty_sequence g c =
     let t = g.T.EncodeParams in
-    let empty = c.is_empty_sequence.ensures c.if-is_empty_sequence.true in
-    shortest t.values t.numbered _ _ c.requires (none_in_empty _ _ empty)
+    let v = t.params c.args.params in
+    let bytes = are_bytes _ (λ i. omega (arith, c.type_inv.bytes i)) in
+    strict_walks t.form v c.args.bytes.now bytes c.requires
+    ∙ ap (λ found. unless_found found v)
+    (none_in_empty _ _ (c.is_empty_sequence.ensures c.if-is_empty_sequence.true))
 
-pub returns-then-is_empty_sequence-clause-exact : goal.returns-then-is_empty_sequence-clause-exact
-returns-then-is_empty_sequence-clause-exact g c =
-    let empty = c.is_empty_sequence.ensures c.if-is_empty_sequence.true in
-    ap (λ found. unless_found found (g.T.EncodeParams.params c.args.params)) (sym (none_in_empty _ _ empty))
+pub returns-in-Some : goal.returns-in-Some
+returns-in-Some g c =
+    let t = g.T.EncodeParams in
+    let v = t.params c.args.params in
+    let bytes = are_bytes _ (λ i. omega (arith, c.type_inv.bytes i)) in
+    told_as _ _
+    (strict_walks t.form v c.args.bytes.now bytes c.requires ∙ ap (λ found. unless_found found v) (sym c.in-Some.ensures))
+    c.is_written.result c.is_written.ensures
 
-pub returns-in-Some-clause-err : goal.returns-in-Some-clause-err
-returns-in-Some-clause-err g c =
-    let t = g.T.EncodeParams in not_shortest t.values t.numbered _ _ c.requires _ c.in-Some.ensures
-
-pub returns-in-None-clause-ok : goal.returns-in-None-clause-ok
-returns-in-None-clause-ok g c =
-    let t = g.T.EncodeParams in shortest t.values t.numbered _ _ c.requires c.in-None.ensures
+pub returns-in-None : goal.returns-in-None
+returns-in-None g c =
+    let t = g.T.EncodeParams in
+    let v = t.params c.args.params in
+    let bytes = are_bytes _ (λ i. omega (arith, c.type_inv.bytes i)) in
+    strict_walks t.form v c.args.bytes.now bytes c.requires ∙ ap (λ found. unless_found found v) (sym c.in-None.ensures)

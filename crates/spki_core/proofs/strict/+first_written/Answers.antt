@@ -4,7 +4,7 @@ use Rattle.std.proofs.lemmas.List.{nil_from_length}
 use Rattle.der_core.specs.Laws.Input.{are_bytes}
 use Rattle.der_core.specs.Laws.Readings.{behind_within}
 use Rattle.spki_core.specs.Laws.Readings.{any_reads}
-use Rattle.spki_core.proofs.StrictWalk.{walked_end}
+use Rattle.spki_core.proofs.StrictFields.{walked_end}
 use Rattle.spki_core.proofs.strict.+first_written.Goals as goal
 
 pub returns-then-is_empty : goal.returns-then-is_empty

@@ -113,6 +113,16 @@ defaults_are (d ∷ ks) n law (x, v) k (inr (other, p)) = go (defaults_are ks (d
     go same true is = absurd (other ((law.2 x).0 is))
     go same false is = same
 
+pub defaults_there : (ks : List Kind) (n : ℕ) → AreLawful n ks → (v : Values ks)
+    → Defaults (fields_of ks v) (defaults ks v)
+defaults_there [] n law v = refl
+defaults_there (k ∷ ks) n law (x, v) = go (defaults_there ks (k.number + 1) law.4 v) (k.is_default x) refl
+  where
+    go : Defaults (fields_of ks v) (defaults ks v) → (b : Bool) → k.is_default x ≡ b
+        → Defaults (fields_of (k ∷ ks) (x, v)) (if b then defaults ks v + 1 else defaults ks v)
+    go later true is = inl ((law.2 x).0 is, defaults ks v, refl, later)
+    go later false is = inr ((λ d. let no : false ≡ true = sym is ∙ (law.2 x).1 d in cc), later)
+
 pub under_is : (ks : List Kind) (n : ℕ) → AreLawful n ks → (mask : ℕ) (v : Values ks) → mask < 2 ^ defaults ks v
     → FieldsUnder mask (fields_of ks v) (spelled ks (under ks mask v))
 under_is [] n law mask v less = (refl, omega (arith, less))
@@ -163,6 +173,25 @@ full_last (k ∷ ks) (Some x, s) =
     let more = length-append (one_spelled k x)
     (concat (map (λ (f : Field). f.written) (fields_of ks (meant ks s)))) in
     omega (arith, l, more, length-append (one_spelled k x) (spelled ks s))
+
+-- Under the greatest mask every field is there.
+pub full_there : (ks : List Kind) (v : Values ks) (mask : ℕ) → mask + 1 ≡ 2 ^ defaults ks v
+    → spelled ks (under ks mask v) ≡ concat (map (λ (f : Field). f.written) (fields_of ks v))
+full_there [] v mask is = refl
+full_there (k ∷ ks) (x, v) mask is = go (full_there ks v) (k.is_default x) is
+  where
+    go : ((m : ℕ) → m + 1 ≡ 2 ^ defaults ks v
+        → spelled ks (under ks m v) ≡ concat (map (λ (f : Field). f.written) (fields_of ks v)))
+        → (b : Bool) → mask + 1 ≡ 2 ^ (if b then defaults ks v + 1 else defaults ks v)
+        → spelled (k ∷ ks) (Step k ks x v b mask)
+        ≡ one_spelled k x ++ concat (map (λ (f : Field). f.written) (fields_of ks v))
+    go later false is = ap (λ z. one_spelled k x ++ z) (later mask is)
+    go later true is =
+        let more = two_pow (defaults ks v) in
+        let whole : mask + 1 ≡ 2 ^ (defaults ks v + 1) = is in
+        let odd : (mask % 2 == 0) ≡ false = grind (arith, nat_tests, whole, more) in
+        let half : mask / 2 + 1 ≡ 2 ^ defaults ks v = omega (arith, whole, more) in
+        rw odd (ap (λ z. one_spelled k x ++ z) (later (mask / 2) half))
 
 pub under_only : (ks : List Kind) (n : ℕ) → AreLawful n ks → (mask : ℕ) (v : Values ks) (c : List ℕ)
     → FieldsUnder mask (fields_of ks v) c → (mask < 2 ^ defaults ks v) × (c ≡ spelled ks (under ks mask v))

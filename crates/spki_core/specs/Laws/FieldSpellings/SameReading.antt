@@ -1,20 +1,15 @@
 -- Spellings of fields are read as the values that they mean, with the same faults.
 use Rattle.std.proofs.Common.{List, [], ◌∷◌, ℕ, ◌≡◌, refl, sym, ap, ◌∙◌, Bool, true, false, Option, Some, None}
-use Rattle.std.proofs.Common.{Result, Ok, Err, subst}
+use Rattle.std.proofs.Common.{Result, Ok, Err}
 use Rattle.std.specs.Prelude.{if◌then◌else◌, ◌+◌}
 use Rattle.der_core.specs.declared.error.ErrorKind.{ErrorKind}
-use Rattle.der_core.specs.Encodings.{AreBytes}
-use Rattle.der_core.specs.Laws.Printed.Alike.{tagged_alike, values_alike, whole_alike}
 use Rattle.der_core.specs.Laws.Printed.Steps.{joined}
-use Rattle.der_core.specs.Printed.{ReadsAlike, value_in}
-use Rattle.der_core.specs.Readings.{alone, is_next, made, tagged, whole, ◌>>=◌}
-use Rattle.der_core.specs.Tags as tags
-use Rattle.spki_core.specs.FieldSpellings.{AreLawful, AreValid, Kind, Spelling, Values, fields_of, meant, or_default}
+use Rattle.der_core.specs.Printed.{ReadsAlike}
+use Rattle.der_core.specs.Readings.{alone, is_next, made, tagged, ◌>>=◌}
+use Rattle.spki_core.specs.FieldSpellings.{Kind, Spelling, Values, meant, or_default}
 use Rattle.spki_core.specs.FieldSpellings.{spelling_read, tag_of, values_read}
-use Rattle.spki_core.specs.Laws.FieldSpellings.Spellings.{sequence_decodes}
 use Rattle.spki_core.specs.Laws.Readings.{explicit_is}
 use Rattle.spki_core.specs.Readings.{explicit}
-use Rattle.standard.specs.Statement.{Decodes, Fields, SequenceOf}
 
 module _ (k : Kind) (ks : List Kind) (all : (c : List ℕ) → made (meant ks) (spelling_read ks) c ≡ values_read ks c) where
   behind : (r : Result (Spelling ks) ErrorKind) (o : Option k.Value)
@@ -60,15 +55,3 @@ fields_alike ks join = record {
       sym (joined (spelling_read ks c) (λ s. Ok (meant ks s)) (λ v. Ok (join v)))
       ∙ ap (λ r. r >>= λ v. Ok (join v)) (same_reading ks c);
 }
-
--- What the function that reads the values is promised to give.
-pub values_decode : (ks : List Kind) → AreLawful 0 ks → {V : Type 0} (join : Values ks → V) (split : V → Values ks)
-    → ((v : Values ks) → split (join v) ≡ v) → ((v : V) → join (split v) ≡ v) → (Is : V → Type 0)
-    → ((v : V) → AreValid ks (split v) → Is v) → ((v : V) → Is v → AreValid ks (split v))
-    → (bytes : List ℕ) → AreBytes bytes
-    → Decodes (SequenceOf Is (λ v. fields_of ks (split v)) Fields) bytes
-    (value_in (whole (tagged tags.sequence (made join (values_read ks))) bytes))
-values_decode ks law join split there again Is is are bytes octets =
-    subst (Decodes (SequenceOf Is (λ v. fields_of ks (split v)) Fields) bytes)
-    (values_alike (whole_alike (tagged_alike (fields_alike ks join) tags.sequence)) bytes)
-    (sequence_decodes ks law join split there again Is is are bytes octets)

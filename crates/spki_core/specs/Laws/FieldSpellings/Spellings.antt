@@ -1,19 +1,16 @@
 -- Fields with defaults: spellings are read by the law of OPTIONAL parts, and they are what the standard calls fields.
-use Rattle.std.proofs.Common.{ℕ, List, [], ◌∷◌, ◌++◌, ◌≡◌, ◌<◌, ◌+◌, refl, sym, subst, ap, ◌∙◌, arith}
-use Rattle.std.proofs.Common.{false, inl, inr, Option, Some, None}
+use Rattle.std.proofs.Common.{ℕ, List, [], ◌∷◌, ◌++◌, ◌≡◌, ◌<◌, ◌+◌, refl, sym, ap, ◌∙◌, arith}
+use Rattle.std.proofs.Common.{false, inl, inr, Some, None}
 use Rattle.std.proofs.lemmas.Bool.Decides.{nat_tests}
-use Rattle.std.specs.Option.{option_map}
-use Rattle.der_core.specs.Encodings.{AreBytes}
 use Rattle.der_core.specs.Laws.Printed.Optional.{optional_row_law}
-use Rattle.der_core.specs.Laws.Printed.Rows.{alone_law, end_law, meant_decodes, tagged_law}
-use Rattle.der_core.specs.Printed.{ReadsFrontPrinted, ReadsPrinted, Spells, value_in}
-use Rattle.der_core.specs.Readings.{is_next, tagged, whole}
-use Rattle.der_core.specs.Tags as tags
+use Rattle.der_core.specs.Laws.Printed.Rows.{alone_law, end_law, tagged_law}
+use Rattle.der_core.specs.Printed.{ReadsPrinted}
+use Rattle.der_core.specs.Readings.{is_next}
 use Rattle.spki_core.specs.FieldSpellings.{AreLawful, AreSpelled, AreValid, Kind, Spelling, Values, fields_of, meant}
 use Rattle.spki_core.specs.FieldSpellings.{one_spelled, spelled, spelling_read, tag_of}
-use Rattle.standard.specs.Statement.{Decodes, Fields, SequenceOf, sequence}
+use Rattle.standard.specs.Statement.{Fields}
 
-not_next : (ks : List Kind) (n m : ℕ) → m < n → AreLawful n ks → (s : Spelling ks)
+pub not_next : (ks : List Kind) (n m : ℕ) → m < n → AreLawful n ks → (s : Spelling ks)
     → is_next (160 + m) (spelled ks s) ≡ false
 not_next [] n m less law s = refl
 not_next (k ∷ ks) n m less law (None, s) = not_next ks (k.number + 1) m (omega (arith, less, law.0)) law.4 s
@@ -49,45 +46,3 @@ fields_spelled (k ∷ ks) (x, v) c (inl (d, p)) =
 fields_spelled (k ∷ ks) (x, v) c (inr (later, is, p)) =
     let (s, e, same, ok) = fields_spelled ks v later p in
     ((Some x, s), (λ i. (x, e i)), is ∙ ap (λ z. one_spelled k x ++ z) same, λ valid. (valid.0, ok valid.1))
-
--- The SEQUENCE of such fields, held by a record of any form.
-module _ (ks : List Kind) (law : AreLawful 0 ks) {V : Type 0} (join : Values ks → V) (split : V → Values ks)
-    (there : (v : Values ks) → split (join v) ≡ v) (again : (v : V) → join (split v) ≡ v) (Is : V → Type 0)
-    (is : (v : V) → AreValid ks (split v) → Is v) (are : (v : V) → Is v → AreValid ks (split v)) where
-  pub front_law : ReadsFrontPrinted (AreSpelled ks) (λ s. sequence (spelled ks s))
-      (tagged tags.sequence (spelling_read ks))
-  front_law = tagged_law (spellings_law ks 0 law) tags.sequence
-
-  abbrev Are : V → List ℕ → Type 0
-  Are = Spells (AreSpelled ks) (λ s. sequence (spelled ks s)) (λ s. join (meant ks s))
-
-  pub to : (v : V) (b : List ℕ)
-      → Spells (AreSpelled ks) (λ s. sequence (spelled ks s)) (λ s. join (meant ks s)) v b
-      → SequenceOf Is (λ v. fields_of ks (split v)) Fields v b
-  to v b (few, (s, e, ok, same)) =
-      let back = sym (there (meant ks s)) in
-      subst (λ u. SequenceOf Is (λ v. fields_of ks (split v)) Fields u b) e (
-        is (join (meant ks s)) (subst (AreValid ks) back (spelled_valid ks 0 law s ok)),
-        few,
-        spelled ks s,
-        subst (λ w. Fields (fields_of ks w) (spelled ks s)) back (spelled_fields ks s),
-        same,
-      )
-
-  pub from : (v : V) (b : List ℕ) → SequenceOf Is (λ v. fields_of ks (split v)) Fields v b
-      → Spells (AreSpelled ks) (λ s. sequence (spelled ks s)) (λ s. join (meant ks s)) v b
-  from v b (ok, few, c, p, written) =
-      let (s, e, same, valid) = fields_spelled ks (split v) c p in
-      (few, (s, ap join e ∙ again v, valid (are v ok), written ∙ ap sequence same))
-
-  pub sequence_decodes : (bytes : List ℕ) → AreBytes bytes
-      → Decodes (SequenceOf Is (λ v. fields_of ks (split v)) Fields) bytes
-      (option_map (λ s. join (meant ks s)) (value_in (whole (tagged tags.sequence (spelling_read ks)) bytes)))
-  sequence_decodes bytes are =
-      go (option_map (λ s. join (meant ks s)) (value_in (whole (tagged tags.sequence (spelling_read ks)) bytes)))
-      (meant_decodes front_law (λ s. join (meant ks s)) bytes are)
-    where
-      go : (o : Option V) → Decodes Are bytes o
-          → Decodes (SequenceOf Is (λ v. fields_of ks (split v)) Fields) bytes o
-      go (Some v) p = (to v bytes p.0, λ other q. p.1 other (from other bytes q))
-      go None p = λ v q. p v (from v bytes q)

@@ -4,7 +4,7 @@ use Rattle.pkcs1.specs.Laws.PrintedPrivateKeys.{spelled_row}
 use Rattle.pkcs1.specs.PrintedKeys.{private_as}
 use Rattle.pkcs1.specs.Printing.{PrivateIsValid, private_printed, private_row_printed}
 use Rattle.pkcs1.specs.PrivateKeyValue.{private_key_with}
-use Rattle.pkcs1.proofs.KeysWritten.{appends_as}
+use Rattle.pkcs1_params.proofs.Written.{appends_as}
 use Rattle.pkcs1.proofs.private_key.RsaPrivateKeyEncodeValue.append_value.Goals as goal
 
 pub returns-clause-appends : goal.returns-clause-appends

@@ -1,19 +1,38 @@
-use Rattle.std.proofs.Common.{refl}
+use Rattle.std.proofs.Common.{◌≡◌, true, false, refl}
 use Rattle.std.proofs.lemmas.Result.{err_from_is_err_and}
 use Rattle.der_core.proofs.StoppedWriting.{appends_in_front, appends_behind}
+use Rattle.spki_core.specs.FieldSpellings.{octets_under, out_under, rest_under}
+use Rattle.pkcs1_params.specs.FieldRefs.{field_in}
 use Rattle.pkcs1_params.proofs.fields.FieldThenFields.append.Goals as goal
+
+pub returns-then-left_out-clause-appends : goal.returns-then-left_out-clause-appends
+returns-then-left_out-clause-appends g c =
+    let p = field_in g.Plain.PlainHolder.plain g.Mask.MaskHolder.mask c.args.self.now.first in
+    let out : out_under p.is_default c.args.mask ≡ true =
+    rw (c.take_mask_bit-left_out.ensures, c.split_non_defaults-default.ensures) at c.if-left_out.true in
+    let later =
+    rw (c.take_mask_bit-left_out.ensures, c.split_non_defaults-default.ensures) at c.append.ensures.appends in
+    rw out later
 
 pub returns-in_err-encode-clause-appends : goal.returns-in_err-encode-clause-appends
 returns-in_err-encode-clause-appends g c =
+    let p = field_in g.Plain.PlainHolder.plain g.Mask.MaskHolder.mask c.args.self.now.first in
     let e = err_from_is_err_and c.from_residual.result c.from_residual.ensures.1 in
-    let first =
-    rw (c.take_mask_bit-left_out.ensures, c.split_non_defaults-default.ensures) at c.in_err-encode.ensures.appends in
-    rw (e.1, e.2) (appends_in_front _ _ _ c.requires.has.0 c.requires.has refl c.requires.fits first)
+    let out : out_under p.is_default c.args.mask ≡ false =
+    rw (c.take_mask_bit-left_out.ensures, c.split_non_defaults-default.ensures) at c.if-left_out.false in
+    let fits = rw out at c.requires.fits in
+    rw (e.1, e.2, out)
+    (appends_in_front _ p.octets
+    (octets_under (rest_under p.is_default c.args.mask) (g.L.Fields.written c.args.self.now.later)) tt tt refl fits
+    c.in_err-encode.ensures.appends)
 
 pub returns-clause-appends : goal.returns-clause-appends
 returns-clause-appends g c =
-    let first =
-    rw (c.take_mask_bit-left_out.ensures, c.split_non_defaults-default.ensures) at c.in_ok-encode.ensures.appends in
+    let p = field_in g.Plain.PlainHolder.plain g.Mask.MaskHolder.mask c.args.self.now.first in
+    let out : out_under p.is_default c.args.mask ≡ false =
+    rw (c.take_mask_bit-left_out.ensures, c.split_non_defaults-default.ensures) at c.if-left_out.false in
+    let first = c.in_ok-encode.ensures.appends in
     let later =
-    rw (c.take_mask_bit-left_out.ensures, c.split_non_defaults-default.ensures) at c.append.ensures.appends in
-    appends_behind _ _ _ c.requires.has.1 c.requires.has refl c.requires.fits first.written first.room later
+    rw (c.take_mask_bit-left_out.ensures, c.split_non_defaults-default.ensures) at c.append-2.ensures.appends in
+    let fits = rw out at c.requires.fits in
+    rw out (appends_behind _ _ _ tt tt refl fits first.written first.room later)

@@ -1,57 +1,44 @@
-use Rattle.std.proofs.Common.{ap, subst}
+use Rattle.std.proofs.Common.{ℕ, length, Ok, Err, Some, None}
 use Rattle.std.proofs.lemmas.Result.{err_from_is_err_and}
-use Rattle.der_core.proofs.FrontsAreUnique.{front_is, rest_is}
-use Rattle.der_core.specs.Tlv.{tlv}
-use Rattle.spki_core.specs.Explicit.{Masked}
-use Rattle.spki_core.specs.FieldSpellings.{AreSpelled, spelled, under}
-use Rattle.pkcs1_params.proofs.FieldValues.{ordered}
-use Rattle.pkcs1_params.proofs.Masks.{in_range, stands_under, under_made, unspelled_as}
-use Rattle.pkcs1_params.proofs.ParameterWrites.{so}
-use Rattle.pkcs1_params.specs.Parts.{fields_with}
+use Rattle.der_core.proofs.Spelled.{into_encodes, into_unwritten}
+use Rattle.spki_core.specs.FieldSpellings.{record_under}
+use Rattle.pkcs1_params.specs.declared.error.Error.TheVariants as error
+use Rattle.pkcs1_params.proofs.Masks.{in_range, spelling_written, under_encodes, under_refuses}
 use Rattle.pkcs1_params.proofs.spelling.EncodeParams.encode_spelling_into.Goals as goal
 
 pub invariant_of-spelling : goal.invariant_of-spelling
 invariant_of-spelling g c =
-    let t =
-    g.Self.EncodeParams in record {
-      range = in_range (fields_with t.values (t.params c.args.self)) c.args.mask
-          c.requires;
-      known = c.non_defaults_in.ensures;
-    }
+    let t = g.Self.EncodeParams in
+    record { range = in_range t.form (t.params c.args.self) c.args.mask c.requires; known = c.non_defaults_in.ensures }
+
+pub returns-in_err-encode_into-clause-written : goal.returns-in_err-encode_into-clause-written
+returns-in_err-encode_into-clause-written g c =
+    let p = err_from_is_err_and c.from_residual.result c.from_residual.ensures.1 in
+    let t = g.Self.EncodeParams in
+    let v = t.params c.args.self in
+    let told = c.in_err-encode_into.ensures in
+    rw p.1
+    (under_encodes t.form v c.lemma_is_valid.ensures c.args.mask c.requires c.args.out.now c.encode_into.new.out None
+    (into_encodes (spelling_written t.form) (record_under t.form c.args.mask v) c.args.out.now _
+    (Err c.in_err-encode_into.field-0.0) tt tt told.err told.unchanged c.encode_into.auto.out))
 
 pub returns-in_err-encode_into-clause-err : goal.returns-in_err-encode_into-clause-err
 returns-in_err-encode_into-clause-err g c =
-    let e = err_from_is_err_and c.from_residual.result c.from_residual.ensures.1 in
+    let p = err_from_is_err_and c.from_residual.result c.from_residual.ensures.1 in
     let t = g.Self.EncodeParams in
-    let mask = c.args.mask in
     let v = t.params c.args.self in
-    let held = c.lemma_has_contents.ensures mask in
-    let same = t.spelled v mask in
-    rw (e.1, e.2)
-    (unspelled_as t.values v mask (AreSpelled t.kinds) (λ s. tlv 48 (spelled t.kinds s))
-    (under t.kinds mask (t.split v)) (ap (tlv 48) same.1) (so same.0 held.0) (ordered t.values t.numbered)
-    (under_made t.values v mask (in_range (fields_with t.values v) mask c.requires) held.0 held.1) _ _ _
-    c.in_err-encode_into.ensures.err)
+    rw (p.1, p.2)
+    (under_refuses t.form v c.lemma_is_valid.ensures c.args.mask c.requires (length c.args.out.now)
+    (error.Asn1 c.in_err-encode_into.field-0.0)
+    (into_unwritten (spelling_written t.form) (record_under t.form c.args.mask v) {X = ℕ} _
+    (Err c.in_err-encode_into.field-0.0) c.in_err-encode_into.ensures.err))
 
-pub returns-clause-stands : goal.returns-clause-stands
-returns-clause-stands g c =
+pub returns-clause-written : goal.returns-clause-written
+returns-clause-written g c =
     let t = g.Self.EncodeParams in
-    let mask = c.args.mask in
     let v = t.params c.args.self in
-    let held = c.lemma_has_contents.ensures mask in
-    let same = t.spelled v mask in
-    let masked =
-    subst (λ z. Masked (fields_with t.values v) mask (tlv 48 z)) same.1
-    (under_made t.values v mask (in_range (fields_with t.values v) mask c.requires) held.0 held.1) in
     let made = c.in_ok-encode_into.ensures in
-    let encoding = tlv 48 (spelled t.kinds (under t.kinds mask (t.split v))) in
-    rw (front_is encoding c.args.out.now _ _ made.ok.0 made.ok.1)
-    (stands_under (fields_with t.values) v mask (ordered t.values t.numbered) encoding
-    (made.shortest.spells.0, masked))
-
-pub returns-clause-rest : goal.returns-clause-rest
-returns-clause-rest g c =
-    let t = g.Self.EncodeParams in
-    let made = c.in_ok-encode_into.ensures.ok in
-    rest_is (tlv 48 (spelled t.kinds (under t.kinds c.args.mask (t.split (t.params c.args.self))))) c.args.out.now _ _
-    made.0 made.1
+    under_encodes t.form v c.lemma_is_valid.ensures c.args.mask c.requires c.args.out.now c.encode_into.new.out
+    (Some c.in_ok-encode_into.field-0)
+    (into_encodes (spelling_written t.form) (record_under t.form c.args.mask v) c.args.out.now _
+    (Ok c.in_ok-encode_into.field-0) made.ok made.shortest tt tt c.encode_into.auto.out)

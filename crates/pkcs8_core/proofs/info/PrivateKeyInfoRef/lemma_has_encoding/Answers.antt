@@ -1,8 +1,12 @@
 use Rattle.std.proofs.Common.{arith}
 use Rattle.der_core.specs.Laws.Input.{are_bytes}
 use Rattle.der_core.specs.OctetStringRefValue.{octets_of}
-use Rattle.pkcs8_core.proofs.ContainerWrites.{algorithm_held, attributes_held}
+use Rattle.spki_core.specs.AnyRefValue.{any_of}
+use Rattle.spki_core.specs.Laws.HaveEncodings.{algorithm_held, any_held, identifier_held}
+use Rattle.spki_core.specs.ObjectIdentifierValue.{own_octets_of}
+use Rattle.pkcs8_core.proofs.ContainerWrites.{attributes_held}
 use Rattle.pkcs8_core.proofs.info.PrivateKeyInfoRef.lemma_has_encoding.Goals as goal
+use Rattle.standard.specs.Statement.{IsAny}
 
 pub returns : goal.returns
 returns c =
@@ -10,4 +14,5 @@ returns c =
     let key = are_bytes (octets_of info.private_key) info.private_key.octets in
     let held = attributes_held c.attributes_encoding-attributes.result in
     let attributes = rw c.attributes_encoding-attributes.ensures at held in
-    (omega arith, (algorithm_held info.algorithm, (key, attributes)))
+    let algorithm = algorithm_held own_octets_of identifier_held any_of IsAny any_held info.algorithm in
+    (omega arith, (algorithm, (key, attributes)))

@@ -1,0 +1,6 @@
+use Rattle.std.proofs.Common.{refl}
+use Rattle.example_crate.proofs.salt_len.Goals as goal
+
+-- The parameters are those that were read.
+pub returns-clause-ok : goal.returns-clause-ok
+returns-clause-ok c = (_, c.in_ok-params.ensures.read, refl)

@@ -1,0 +1,21 @@
+use Rattle.std.proofs.Common.{Option, Some, None}
+use Rattle.std.specs.Option.{option_map}
+use Rattle.der_core.specs.Laws.Input.{are_bytes}
+use Rattle.spki_core.specs.AnyRefValue.{any_of}
+use Rattle.spki_core.specs.declared.any.AnyRef.{AnyRef}
+use Rattle.pkcs1_params.specs.Algorithms.{Identifies}
+use Rattle.pkcs1_params.proofs.Algorithms.{AreHeld, identified_decodes}
+use Rattle.pkcs1_params.proofs.FaultsTold.{errs_decode}
+use Rattle.standard.specs.Statement.{IfPresent}
+use Rattle.pkcs1_params.proofs.algorithm.AnyFromAlgorithm.from_algorithm.Goals as goal
+
+held : (o : Option AnyRef) → IfPresent AreHeld (option_map any_of o)
+held None = tt
+held (Some any) = (are_bytes any.contents.now any.octets, any.bounded)
+
+pub returns-clause-read : goal.returns-clause-read
+returns-clause-read g c =
+    let t = g.T.AlgorithmParams in
+    let oid = g.T.Oid.AssociatedOid.contents in
+    errs_decode (Identifies oid t.Is t.fields_of) _ t.params _
+    (identified_decodes t.form oid _ (held c.args.algorithm.now.parameters)) _ c.from_identifier.ensures

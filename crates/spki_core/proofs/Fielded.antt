@@ -1,0 +1,263 @@
+-- What follows for every SEQUENCE of fields with defaults: what is read, the shortest encoding, the one under each mask,
+-- and how many there are.
+use Rattle.std.proofs.Common.{ℕ, zero, suc, ◌+◌, List, [], ◌∷◌, ◌++◌, ◌≡◌, ◌<◌, ◌≤◌, ◌^◌, length, map, refl, sym, Some, None}
+use Rattle.std.proofs.Common.{subst, ap, ◌∙◌, arith, length-append, append-nil, Option, Result, Ok, Err, inl, inr}
+use Rattle.std.proofs.lemmas.Nat.{pow_pos}
+use Rattle.std.specs.List.{concat}
+use Rattle.std.specs.Prelude.{◌↔◌, slice_index_or}
+use Rattle.der_core.specs.Encodings.{AreBytes}
+use Rattle.der_core.specs.Laws.Printed.Alike.{tagged_alike, values_alike, whole_alike}
+use Rattle.der_core.specs.Laws.Printed.Leaves.{octets_grow, tlv_fit}
+use Rattle.der_core.specs.Laws.Printed.Rows.{meant_decodes, prints_one}
+use Rattle.der_core.specs.Laws.Printed.Shortest.{shortest_is as shortest_of, tagged_shortest}
+use Rattle.der_core.specs.Length.{limit}
+use Rattle.der_core.specs.Printed.{Spells, value_in}
+use Rattle.der_core.specs.declared.error.ErrorKind.{ErrorKind}
+use Rattle.der_core.specs.Tags as tags
+use Rattle.spki_core.specs.FieldSpellings.{AreSpelled, FieldRecord, defaults, fields_of, mask_of, meant, record_means}
+use Rattle.spki_core.specs.FieldSpellings.{record_under, record_whole, spelled, under, upto}
+use Rattle.spki_core.specs.Laws.FieldSpellings.Masks.{defaults_are, defaults_there, full_last, full_there, mask_below}
+use Rattle.spki_core.specs.Laws.FieldSpellings.Masks.{mask_under, under_is, under_mask, under_means, under_only, under_valid}
+use Rattle.spki_core.specs.Laws.FieldSpellings.Records.{record_alike, record_front_law, record_shortest, spelled_from}
+use Rattle.spki_core.specs.Laws.FieldSpellings.Records.{spelled_to}
+use Rattle.standard.specs.Statement.{AreAll, Decodes, Defaults, Field, Fields, FieldsUnder, IsShortest, SequenceOf}
+use Rattle.standard.specs.Statement.{TwoToTheDefaults, length_octets, longest, sequence}
+
+-- Lists by a function.
+length_upto : {X : Type 0} (n : ℕ) (f : ℕ → X) → length (upto n f) ≡ n
+length_upto zero f = refl
+length_upto (suc n) f = let e = length_upto n (λ i. f (suc i)) in omega (arith, e)
+
+pub index_upto : {X : Type 0} (n : ℕ) (f : ℕ → X) (d : X) (i : ℕ) → i < n → slice_index_or (upto n f) i d ≡ f i
+index_upto zero f d i less = absurd (omega (arith, less))
+index_upto (suc n) f d zero less = refl
+index_upto (suc n) f d (suc i) less = index_upto n (λ i. f (suc i)) d i (omega (arith, less))
+
+upto_suc : {X : Type 0} (n : ℕ) (f : ℕ → X) → upto (suc n) f ≡ upto n f ++ f n ∷ []
+upto_suc zero f = refl
+upto_suc (suc n) f = ap (λ xs. f 0 ∷ xs) (upto_suc n (λ i. f (suc i)))
+
+pub upto_more : {X : Type 0} (n : ℕ) (f : ℕ → X) → upto (n + 1) f ≡ upto n f ++ f n ∷ []
+upto_more n f = let next : n + 1 ≡ suc n = omega arith in rw next (upto_suc n f)
+
+-- A SEQUENCE of no more contents is no longer.
+pub grows : (c d : List ℕ) → length c ≤ length d → length d ≤ limit → length (sequence c) ≤ length (sequence d)
+grows c d less few =
+    let g = octets_grow (length c) (length d) less few in
+    omega (arith, less, g, length-append (length_octets (length c)) c, length-append (length_octets (length d)) d)
+
+module _ {V : Type 0} {Is : V → Type 0} {fields : V → List Field} (r : FieldRecord Is fields) where
+  -- What the kernel prints of spellings is the SEQUENCE of the standard's fields.
+  pub record_spelled : (v : V) (bytes : List ℕ)
+      → Spells (AreSpelled r.kinds) (λ s. sequence (spelled r.kinds s)) (record_means r) v bytes
+      ↔ SequenceOf Is fields Fields v bytes
+  record_spelled v bytes = (spelled_to r v bytes, spelled_from r v bytes)
+
+  -- What the function that reads a whole slice is promised to give.
+  pub record_decodes : (bytes : List ℕ) → AreBytes bytes
+      → Decodes (SequenceOf Is fields Fields) bytes (value_in (record_whole r bytes))
+  record_decodes bytes octets =
+      go (value_in (record_whole r bytes))
+      (subst (Decodes (Spells (AreSpelled r.kinds) (λ s. sequence (spelled r.kinds s)) (record_means r)) bytes)
+      (values_alike (whole_alike (tagged_alike (record_alike r) tags.sequence)) bytes)
+      (meant_decodes (record_front_law r) (record_means r) bytes octets))
+    where
+      go : (o : Option V)
+          → Decodes (Spells (AreSpelled r.kinds) (λ s. sequence (spelled r.kinds s)) (record_means r)) bytes o
+          → Decodes (SequenceOf Is fields Fields) bytes o
+      go (Some v) p = (spelled_to r v bytes p.0, λ other q. p.1 other (spelled_from r other bytes q))
+      go None p = λ v q. p v (spelled_from r v bytes q)
+
+  pub read_is : (v : V) (bytes : List ℕ) → AreBytes bytes → SequenceOf Is fields Fields v bytes
+      → record_whole r bytes ≡ Ok v
+  read_is v bytes octets p = go (record_whole r bytes) (record_decodes bytes octets)
+    where
+      go : (o : Result V ErrorKind) → Decodes (SequenceOf Is fields Fields) bytes (value_in o) → o ≡ Ok v
+      go (Ok w) d = ap (λ x. Ok x) (sym (d.1 v p))
+      go (Err k) d = absurd (d v p)
+
+  -- The encoding under a mask, and the number of defaults.
+  abbrev pub made : V → ℕ → List ℕ
+  made v mask = sequence (spelled r.kinds (record_under r mask v))
+
+  abbrev pub default_count : V → ℕ
+  default_count v = defaults r.kinds (r.split v)
+
+  pub counted : (v : V) (k : ℕ) → Defaults (fields v) k → k ≡ default_count v
+  counted v k d =
+      defaults_are r.kinds 0 r.lawful (r.split v) k (subst (λ fs. Defaults fs k) (r.fields_are v) d)
+
+  pub counted_there : (v : V) → Defaults (fields v) (default_count v)
+  counted_there v =
+      subst (λ fs. Defaults fs (default_count v)) (sym (r.fields_are v)) (defaults_there r.kinds 0 r.lawful (r.split v))
+
+  spells : (v : V) (mask : ℕ) → Is v → length (made v mask) ≤ limit
+      → SequenceOf Is fields Fields v (made v mask)
+  spells v mask ok few =
+      spelled_to r v (made v mask) (
+        few,
+        (
+          record_under r mask v,
+          ap r.join (under_means r.kinds 0 r.lawful mask (r.split v)) ∙ r.whole v,
+          under_valid r.kinds mask (r.split v) (r.are v ok),
+          λ i. made v mask,
+        ),
+      )
+
+  pub shortest_is : (v : V) → Is v → length (made v 0) ≤ limit
+      → IsShortest (SequenceOf Is fields Fields) v (made v 0)
+  shortest_is v ok few =
+      let least = tagged_shortest (record_shortest r) 48 in
+      let h = shortest_of least v (under_valid r.kinds 0 (r.split v) (r.are v ok)) few in
+      (spelled_to r v (made v 0) h.0, λ other q. h.1 other (spelled_from r v other q))
+
+  -- Under a mask there is one.
+  pub only_under : (v : V) (mask : ℕ) (bytes : List ℕ) → SequenceOf Is fields (FieldsUnder mask) v bytes
+      → (mask < 2 ^ default_count v) × (bytes ≡ made v mask)
+  only_under v mask bytes (ok, few, c, p, is) =
+      let h =
+      under_only r.kinds 0 r.lawful mask (r.split v) c (subst (λ fs. FieldsUnder mask fs c) (r.fields_are v) p) in
+      (h.0, is ∙ ap sequence h.1)
+
+  pub written_under : (v : V) (mask : ℕ) → Is v → mask < 2 ^ default_count v → length (made v mask) ≤ limit
+      → SequenceOf Is fields (FieldsUnder mask) v (made v mask)
+  written_under v mask ok less few = (
+    ok,
+    few,
+    spelled r.kinds (record_under r mask v),
+    subst (λ fs. FieldsUnder mask fs (spelled r.kinds (record_under r mask v))) (sym (r.fields_are v))
+        (under_is r.kinds 0 r.lawful mask (r.split v) less),
+    λ i. made v mask,
+  )
+
+  -- It is an encoding of the value.
+  pub under_is_one : (v : V) (mask : ℕ) (bytes : List ℕ) → SequenceOf Is fields (FieldsUnder mask) v bytes
+      → SequenceOf Is fields Fields v bytes
+  under_is_one v mask bytes p =
+      let h = only_under v mask bytes p in
+      subst (SequenceOf Is fields Fields v) (sym h.1) (spells v mask p.0 (omega (arith, p.1, ap length h.1)))
+
+  -- As what the kernel prints of the spelling.
+  pub under_spelled : (v : V) (mask : ℕ) → Is v → mask < 2 ^ default_count v → (bytes : List ℕ)
+      → Spells (AreSpelled r.kinds) (λ s. sequence (spelled r.kinds s)) (λ s. s) (record_under r mask v) bytes
+      ↔ SequenceOf Is fields (FieldsUnder mask) v bytes
+  under_spelled v mask ok less bytes = (
+    (λ (few, (s, e, valid, is)).
+        let same : bytes ≡ made v mask = is ∙ ap (λ z. sequence (spelled r.kinds z)) e in
+        subst (SequenceOf Is fields (FieldsUnder mask) v) (sym same)
+        (written_under v mask ok less (omega (arith, few, ap length same)))),
+    (λ q. let h = only_under v mask bytes q in
+        (q.1, (record_under r mask v, refl, under_valid r.kinds mask (r.split v) (r.are v ok), h.1))),
+  )
+
+  -- A mask is below two to the number of defaults.
+  pub mask_fits : (v : V) (mask : ℕ) → (k : ℕ) × Defaults (fields v) k × (mask < 2 ^ k) → mask < 2 ^ default_count v
+  mask_fits v mask (k, d, less) = subst (λ n. mask < 2 ^ n) (counted v k d) less
+
+  -- Each encoding stands under a mask, and under no other.
+  pub has_mask : (v : V) (bytes : List ℕ) → SequenceOf Is fields Fields v bytes
+      → (mask : ℕ) × (mask < 2 ^ default_count v) × (bytes ≡ made v mask)
+  has_mask v bytes q =
+      let (within, (s, e, valid, is)) = spelled_from r v bytes q in
+      let same : meant r.kinds s ≡ r.split v = sym (r.parted (meant r.kinds s)) ∙ ap r.split e in (
+        mask_of r.kinds s,
+        subst (λ u. mask_of r.kinds s < 2 ^ defaults r.kinds u) same (mask_below r.kinds 0 r.lawful s),
+        is ∙ ap (λ z. sequence (spelled r.kinds z))
+            (sym (ap (under r.kinds (mask_of r.kinds s)) (sym same) ∙ mask_under r.kinds 0 r.lawful s)),
+      )
+
+  pub masks_differ : (v : V) (i j : ℕ) → Is v → i < 2 ^ default_count v → j < 2 ^ default_count v
+      → length (made v i) ≤ limit → made v i ≡ made v j → i ≡ j
+  masks_differ v i j ok less also few e =
+      let same : made v i ++ [] ≡ made v j ++ [] = ap (λ x. x ++ []) e in
+      let one = prints_one (record_front_law r) (record_under r i v) (record_under r j v) [] []
+      (under_valid r.kinds i (r.split v) (r.are v ok)) (under_valid r.kinds j (r.split v) (r.are v ok))
+      (omega (arith, few, ap length (append-nil (made v i)))) same in
+      sym (under_mask r.kinds 0 r.lawful i (r.split v) less) ∙ ap (mask_of r.kinds) one.0
+      ∙ under_mask r.kinds 0 r.lawful j (r.split v) also
+
+  pub has_one_mask : (v : V) (bytes : List ℕ) → SequenceOf Is fields Fields v bytes
+      → (mask : ℕ) × SequenceOf Is fields (FieldsUnder mask) v bytes
+      × ((other : ℕ) → SequenceOf Is fields (FieldsUnder other) v bytes → other ≡ mask)
+  has_one_mask v bytes q =
+      let (mask, less, is) = has_mask v bytes q in
+      let few : length (made v mask) ≤ limit = omega (arith, q.1, ap length is) in (
+        mask,
+        subst (SequenceOf Is fields (FieldsUnder mask) v) (sym is) (written_under v mask q.0 less few),
+        λ other p.
+            let h = only_under v other bytes p in
+            sym (masks_differ v mask other q.0 less h.0 few (sym is ∙ h.1)),
+      )
+
+  -- The one under mask 0 is the shortest.
+  pub zero_shortest : (v : V) (bytes : List ℕ) → SequenceOf Is fields (FieldsUnder 0) v bytes
+      → IsShortest (SequenceOf Is fields Fields) v bytes
+  zero_shortest v bytes p =
+      let h = only_under v 0 bytes p in
+      subst (IsShortest (SequenceOf Is fields Fields) v) (sym h.1)
+      (shortest_is v p.0 (omega (arith, p.1, ap length h.1)))
+
+  -- And it is there for each value that has an encoding.
+  pub zero_least : (v : V) (bytes : List ℕ) → SequenceOf Is fields Fields v bytes
+      → SequenceOf Is fields (FieldsUnder 0) v (made v 0) × (length (made v 0) ≤ length bytes)
+  zero_least v bytes q =
+      let (few, (s, e, ok, is)) = spelled_from r v bytes q in
+      let less : length (made v 0) ≤ length bytes =
+      elim ((tagged_shortest (record_shortest r) 48).least s ok (omega (arith, few, ap length is))) [
+        | inl same ↦ omega (
+          arith,
+          ap length is,
+          ap (λ z. length (sequence (spelled r.kinds z))) same,
+          ap (λ w. length (made w 0)) e,
+        )
+        | inr l ↦ omega (arith, l, ap length is, ap (λ w. length (made w 0)) e)
+      ] in
+      (written_under v 0 q.0 (pow_pos (default_count v)) (omega (arith, less, few)), less)
+
+  -- All of them.
+  below_longest : (v : V) (mask : ℕ) → length (longest (fields v)) ≤ limit
+      → length (made v mask) ≤ length (longest (fields v))
+  below_longest v mask few =
+      let all = concat (map (λ (f : Field). f.written) (fields_of r.kinds (r.split v))) in
+      let within : length (sequence all) ≤ limit = subst (λ fs. length (longest fs) ≤ limit) (r.fields_are v) few in
+      let l = subst (λ u. length (spelled r.kinds (record_under r mask v))
+      ≤ length (concat (map (λ (f : Field). f.written) (fields_of r.kinds u))))
+      (under_means r.kinds 0 r.lawful mask (r.split v))
+      (full_last r.kinds (record_under r mask v)) in
+      let g = grows (spelled r.kinds (record_under r mask v)) all l (omega (arith, within, tlv_fit 48 all)) in
+      subst (λ fs. length (made v mask) ≤ length (longest fs)) (sym (r.fields_are v)) g
+
+  pub fits : (v : V) (mask : ℕ) → length (longest (fields v)) ≤ limit → length (made v mask) ≤ limit
+  fits v mask few = let g = below_longest v mask few in omega (arith, g, few)
+
+  -- Under the greatest mask it is the longest.
+  pub full_longest : (v : V) (mask : ℕ) → mask + 1 ≡ 2 ^ default_count v → made v mask ≡ longest (fields v)
+  full_longest v mask is =
+      ap sequence (full_there r.kinds (r.split v) mask is) ∙ ap longest (sym (r.fields_are v))
+
+  pub are_all : (v : V) → Is v → length (longest (fields v)) ≤ limit
+      → AreAll (λ E. E) Is fields v (default_count v) (upto (2 ^ default_count v) (made v))
+  are_all v ok few = record {
+    count = length_upto (2 ^ default_count v) (made v);
+    under = λ i less.
+        subst (SequenceOf Is fields (FieldsUnder i) v) (sym (at i less)) (written_under v i ok less (fits v i few));
+    different = λ i j less also e.
+        masks_differ v i j ok less also (fits v i few) (sym (at i less) ∙ e ∙ at j also);
+    every = λ bytes. (
+      (λ q. let h = has_mask v bytes q in (h.0, h.1, at h.0 h.1 ∙ sym h.2)),
+      (λ p. subst (SequenceOf Is fields Fields v) (sym (at p.0 p.1) ∙ p.2) (spells v p.0 ok (fits v p.0 few))),
+    );
+  }
+    where
+      at : (i : ℕ) → i < 2 ^ default_count v → slice_index_or (upto (2 ^ default_count v) (made v)) i [] ≡ made v i
+      at i less = index_upto (2 ^ default_count v) (made v) [] i less
+
+  pub each_within : (v : V) → length (longest (fields v)) ≤ limit → (i : ℕ) → i < 2 ^ default_count v
+      → length (slice_index_or (upto (2 ^ default_count v) (made v)) i []) ≤ length (longest (fields v))
+  each_within v few i less =
+      let e = index_upto (2 ^ default_count v) (made v) [] i less in omega (arith, below_longest v i few, ap length e)
+
+  pub two_to_the_defaults : TwoToTheDefaults Is fields
+  two_to_the_defaults v k ok d few =
+      subst (λ n. (all : List (List ℕ)) × AreAll (λ E. E) Is fields v n all) (sym (counted v k d))
+      (upto (2 ^ default_count v) (made v), are_all v ok few)

@@ -1,0 +1,218 @@
+-- Strict reading of fields with defaults: what is read is the shortest encoding, and the walk of the code finds what
+-- isn't.
+use Rattle.std.proofs.Common.{ℕ, List, [], ◌∷◌, ◌++◌, ◌≡◌, ◌≤◌, ◌+◌, length, refl, sym, subst, ap, ◌∙◌, arith}
+use Rattle.std.proofs.Common.{Bool, true, false, Option, Some, None, Result, Ok, Err, length-append, inl, inr}
+use Rattle.std.proofs.lemmas.Bool.Decides.{nat_tests}
+use Rattle.std.specs.Prelude.{if◌then◌else◌}
+use Rattle.der_core.specs.Encodings.{AreBytes}
+use Rattle.der_core.specs.Laws.Printed.Leaves.{tlv_fit}
+use Rattle.der_core.specs.Laws.Printed.Rows.{whole_decodes, whole_takes}
+use Rattle.der_core.specs.Laws.Printed.Alike.{tagged_alike, whole_alike}
+use Rattle.der_core.specs.Laws.Readings.{bind_err}
+use Rattle.der_core.specs.Length.{limit}
+use Rattle.der_core.specs.Printed.{value_in}
+use Rattle.der_core.specs.Readings.{is_next, tagged, whole, ◌>>=◌}
+use Rattle.der_core.specs.declared.error.ErrorKind.{ErrorKind}
+use Rattle.der_core.specs.declared.error.ErrorKind.TheVariants.{Incomplete, Noncanonical, TagUnknown}
+use Rattle.der_core.specs.declared.tag.Tag.{Tag}
+use Rattle.der_core.specs.Laws.TaggedReadings.{checked_as}
+use Rattle.der_core.specs.Laws.Tags.{same_tag}
+use Rattle.der_core.specs.Tag.{context_tag, is_allowed}
+use Rattle.der_core.specs.Input.{header_at}
+use Rattle.der_core.specs.Tags as tags
+use Rattle.spki_core.specs.FieldSpellings.{AreLawful, AreNumbered, AreSpelled, FieldRecord, Kind, Spelling, Values}
+use Rattle.spki_core.specs.FieldSpellings.{are_defaults, fields_with, first_written, meant, one_spelled, record_fields}
+use Rattle.spki_core.specs.FieldSpellings.{record_means, record_whole, spelled, spelling_read, strict_value, strict_whole, under}
+use Rattle.spki_core.specs.Laws.FieldSpellings.Masks.{Step}
+use Rattle.der_core.specs.Laws.Printed.Shortest.{tagged_shortest}
+use Rattle.spki_core.specs.Laws.FieldSpellings.Records.{record_alike, record_front_law, record_shortest, spelled_from, spelled_to}
+use Rattle.spki_core.specs.Laws.FieldSpellings.Spellings.{not_next}
+use Rattle.spki_core.specs.Laws.Printed.Readings.{any_law}
+use Rattle.spki_core.specs.Readings.{any}
+use Rattle.spki_core.specs.StrictFields.{behind_any, first_default, noncanonical, unless_found, walked}
+use Rattle.spki_core.proofs.Fielded.{made, shortest_is}
+use Rattle.standard.specs.Statement.{Decodes, Field, Fields, IsShortest, SequenceOf, TagAndContents, sequence, tlv}
+
+-- Behind the last field nothing is found.
+any_nothing : any [] ≡ Err Incomplete
+unfolding header_at
+any_nothing = refl
+
+pub walked_end : (n : ℕ) (ds : List Bool) → walked n ds [] ≡ None
+walked_end n [] = refl
+walked_end n (true ∷ ds) = walked_end (n + 1) ds
+walked_end n (false ∷ ds) = ap (behind_any (walked (n + 1) ds)) any_nothing
+
+-- The error for a number is the one that names its tag.
+pub noncanonical_is : (n : ℕ) (tag : Tag) → tag.octet ≡ context_tag n → noncanonical n ≡ Noncanonical tag
+noncanonical_is n tag is =
+    let ok : is_allowed (context_tag n) ≡ true = ap is_allowed (sym is) ∙ tag.allowed in
+    let r =
+    checked_as (is_allowed (context_tag n)) (λ ok. Noncanonical (record { octet = context_tag n; allowed = ok }))
+    (TagUnknown (context_tag n)) ok in
+    r.1 ∙ ap Noncanonical (same_tag (record { octet = context_tag n; allowed = r.0 }) tag (sym is))
+
+-- No default is there in the spelling under mask 0 alone.
+none_first : (ks : List Kind) (v : Values ks) → first_written ks (under ks 0 v) ≡ None
+none_first [] v = refl
+none_first (k ∷ ks) (x, v) = go (none_first ks v) (k.is_default x) refl
+  where
+    go : first_written ks (under ks 0 v) ≡ None → (b : Bool) → k.is_default x ≡ b
+        → first_written (k ∷ ks) (Step k ks x v b 0) ≡ None
+    go later true is = later
+    go later false is = rw is later
+
+only_first : (ks : List Kind) (n : ℕ) → AreLawful n ks → (s : Spelling ks) → first_written ks s ≡ None
+    → s ≡ under ks 0 (meant ks s)
+only_first [] n law s none = refl
+only_first (k ∷ ks) n law (None, s) none =
+    let is : k.is_default k.default ≡ true = (law.2 k.default).1 refl in
+    let same = only_first ks (k.number + 1) law.4 s none in rw is (λ i. (None, same i))
+only_first (k ∷ ks) n law (Some x, s) none = go (only_first ks (k.number + 1) law.4 s) (k.is_default x) none
+  where
+    go : (first_written ks s ≡ None → s ≡ under ks 0 (meant ks s)) → (b : Bool)
+        → (if b then Some k.number else first_written ks s) ≡ None → (Some x, s) ≡ Step k ks x (meant ks s) b 0
+    go later true none = cc
+    go later false none = let same = later none in λ i. (Some x, same i)
+
+-- The walk of the code, over what is there.
+pub front_bytes : (x y : List ℕ) → AreBytes (x ++ y) → AreBytes x
+front_bytes [] y bytes = tt
+front_bytes (b ∷ x) y bytes = (bytes.0, front_bytes x y bytes.1)
+
+pub back_bytes : (x y : List ℕ) → AreBytes (x ++ y) → AreBytes y
+back_bytes [] y bytes = bytes
+back_bytes (b ∷ x) y bytes = back_bytes x y bytes.1
+
+pub contents_bytes : (tag : ℕ) (c : List ℕ) → AreBytes (tlv tag c) → AreBytes c
+contents_bytes tag c bytes = back_bytes _ c bytes.1
+
+any_next : (k : Kind) (v : k.Value) (rest : List ℕ) → AreBytes (one_spelled k v ++ rest)
+    → length (one_spelled k v ++ rest) ≤ limit
+    → any (one_spelled k v ++ rest) ≡ Ok (record { tag = 160 + k.number; contents = k.printed v }, rest)
+any_next k v rest bytes few =
+    any_law.takes (record { tag = 160 + k.number; contents = k.printed v }) rest
+    (k.allowed, contents_bytes (160 + k.number) (k.printed v) (front_bytes (one_spelled k v) rest bytes)) few
+
+walk_finds : (ks : List Kind) (n : ℕ) → AreLawful n ks → AreNumbered n ks → (s : Spelling ks)
+    → AreBytes (spelled ks s) → length (spelled ks s) ≤ limit
+    → walked n (are_defaults (fields_with ks (meant ks s))) (spelled ks s) ≡ first_written ks s
+walk_finds [] n law numbered s bytes few = refl
+walk_finds (k ∷ ks) n law numbered (None, s) bytes few =
+    let is : k.is_default k.default ≡ true = (law.2 k.default).1 refl in
+    let step : k.number + 1 ≡ n + 1 = omega (arith, numbered.0) in
+    let other : is_next (160 + n) (spelled ks s) ≡ false =
+    subst (λ m. is_next (160 + m) (spelled ks s) ≡ false) numbered.0
+    (not_next ks (k.number + 1) k.number (omega arith) law.4 s) in
+    rw (is, other)
+    (walk_finds ks (n + 1) (subst (λ m. AreLawful m ks) step law.4) numbered.1 s bytes few)
+walk_finds (k ∷ ks) n law numbered (Some x, s) bytes few =
+    let step : k.number + 1 ≡ n + 1 = omega (arith, numbered.0) in
+    let both = length-append (one_spelled k x) (spelled ks s) in
+    go
+    (walk_finds ks (n + 1) (subst (λ m. AreLawful m ks) step law.4) numbered.1 s
+    (back_bytes (one_spelled k x) (spelled ks s) bytes) (omega (arith, few, both)))
+    (any_next k x (spelled ks s) bytes few) (k.is_default x)
+  where
+    go : walked (n + 1) (are_defaults (fields_with ks (meant ks s))) (spelled ks s) ≡ first_written ks s
+        → any (one_spelled k x ++ spelled ks s)
+        ≡ Ok (record { tag = 160 + k.number; contents = k.printed x }, spelled ks s)
+        → (b : Bool) → walked n (b ∷ are_defaults (fields_with ks (meant ks s))) (one_spelled k x ++ spelled ks s)
+        ≡ (if b then Some k.number else first_written ks s)
+    go later is true =
+        let next : is_next (160 + n) (one_spelled k x ++ spelled ks s) ≡ true = grind (arith, nat_tests, numbered.0) in
+        rw next (ap (λ m. Some m) (sym numbered.0))
+    go later is false = rw is later
+
+module _ {V : Type 0} {Is : V → Type 0} {fields : V → List Field} (r : FieldRecord Is fields) where
+  abbrev Encoding : V → List ℕ → Type 0
+  Encoding = SequenceOf Is fields Fields
+
+  -- Strict reading of an encoding, by the walk.
+  pub strict_walks : (v : V) (bytes : List ℕ) → AreBytes bytes → Encoding v bytes
+      → strict_whole r bytes ≡ unless_found (first_default (are_defaults (record_fields r v)) bytes) v
+  strict_walks v bytes are p =
+      let (few, (s, e, ok, is)) = spelled_from r v bytes p in
+      let c = spelled r.kinds s in
+      let held : AreBytes c = contents_bytes 48 c (subst AreBytes is are) in
+      let within : length c ≤ limit = omega (arith, few, ap length is, tlv_fit 48 c) in
+      let same : meant r.kinds s ≡ r.split v = sym (r.parted (meant r.kinds s)) ∙ ap r.split e in
+      let read = whole_takes (record_front_law r) s bytes (few, ok, is) in
+      let any_of : TagAndContents = record { tag = 48; contents = c } in
+      let top : whole any bytes ≡ Ok any_of = whole_takes any_law any_of bytes (few, (λ i. true, held), is) in
+      let found : first_default (are_defaults (record_fields r v)) bytes ≡ first_written r.kinds s =
+      subst (λ u. first_default (are_defaults (fields_with r.kinds u)) bytes ≡ first_written r.kinds s) same
+      (rw top (walk_finds r.kinds 0 r.lawful r.numbered s held within)) in
+      rw (read, found, e) refl
+
+  -- What isn't read isn't read strictly, for the same fault.
+  pub strict_errs : (bytes : List ℕ) (k : ErrorKind) → record_whole r bytes ≡ Err k → strict_whole r bytes ≡ Err k
+  strict_errs bytes k e =
+      elim (bind_err (whole (tagged tags.sequence (spelling_read r.kinds)) bytes) _
+      ((whole_alike (tagged_alike (record_alike r) tags.sequence)).same bytes ∙ e)) [
+        | inl p ↦ ap (λ x. x >>= strict_value r.kinds r.join) p
+        | inr s ↦ let never = s.2 in cc
+      ]
+
+  abbrev Stands : Spelling r.kinds → List ℕ → Type 0
+  Stands s b = (length b ≤ limit) × AreSpelled r.kinds s × (b ≡ sequence (spelled r.kinds s))
+
+  stands_for : (s : Spelling r.kinds) (bytes : List ℕ) → Stands s bytes → Encoding (record_means r s) bytes
+  stands_for s bytes p =
+      spelled_to r (record_means r s) bytes (p.0, (s, (λ i. record_means r s), p.1, p.2))
+
+  one_value : (s : Spelling r.kinds) (bytes : List ℕ) → Decodes Stands bytes (Some s) → (v : V) → Encoding v bytes
+      → v ≡ record_means r s
+  one_value s bytes p v q =
+      let (few, (t, e, ok, is)) = spelled_from r v bytes q in
+      sym e ∙ ap (record_means r) (p.1 t (few, ok, is))
+
+  -- The shortest encoding of what a spelling means.
+  first_is : (s : Spelling r.kinds) → under r.kinds 0 (r.split (record_means r s)) ≡ under r.kinds 0 (meant r.kinds s)
+  first_is s = ap (under r.kinds 0) (r.parted (meant r.kinds s))
+
+  is_shortest : (s : Spelling r.kinds) (bytes : List ℕ) → Decodes Stands bytes (Some s)
+      → first_written r.kinds s ≡ None → IsShortest Encoding (record_means r s) bytes
+  is_shortest s bytes p none =
+      let v = record_means r s in
+      let same : bytes ≡ made r v 0 =
+      p.0.2 ∙ ap (λ z. sequence (spelled r.kinds z)) (only_first r.kinds 0 r.lawful s none ∙ sym (first_is s)) in
+      let holds = stands_for s bytes p.0 in
+      subst (IsShortest Encoding v) (sym same) (shortest_is r v holds.0 (omega (arith, p.0.0, ap length same)))
+
+  not_shortest : (s : Spelling r.kinds) (bytes : List ℕ) → Decodes Stands bytes (Some s) → (n : ℕ)
+      → first_written r.kinds s ≡ Some n → (v : V) → IsShortest Encoding v bytes → ⊥
+  not_shortest s bytes p n found v q =
+      let w = record_means r s in
+      let least = (tagged_shortest (record_shortest r) 48).least s p.0.1 (omega (arith, p.0.0, ap length p.0.2)) in
+      elim least [
+        | inl e ↦
+            let none : first_written r.kinds s ≡ None = ap (first_written r.kinds) e ∙ none_first r.kinds (r.split w) in
+            let never : None ≡ Some n = sym none ∙ found in cc
+        | inr l ↦
+            let few : length (made r w 0) ≤ limit = omega (arith, l, p.0.0, ap length p.0.2) in
+            let other = shortest_is r w (stands_for s bytes p.0).0 few in
+            let same = one_value s bytes p v q.0 in
+            elim (q.1 (made r w 0) (subst (λ u. Encoding u (made r w 0)) (sym same) other.0)) [
+              | inl is ↦ omega (arith, l, ap length is, ap length p.0.2)
+              | inr longer ↦ omega (arith, l, longer, ap length p.0.2)
+            ]
+      ]
+
+  -- What strict reading is promised to give.
+  pub strict_decodes : (bytes : List ℕ) → AreBytes bytes
+      → Decodes (IsShortest Encoding) bytes (value_in (strict_whole r bytes))
+  strict_decodes bytes are =
+      go (whole (tagged tags.sequence (spelling_read r.kinds)) bytes) (whole_decodes (record_front_law r) bytes are)
+    where
+      chosen : (s : Spelling r.kinds) → Decodes Stands bytes (Some s) → (found : Option ℕ)
+          → first_written r.kinds s ≡ found
+          → Decodes (IsShortest Encoding) bytes (value_in (unless_found found (record_means r s)))
+      chosen s p None is = (is_shortest s bytes p is, λ other q. one_value s bytes p other q.0)
+      chosen s p (Some n) is = λ v q. not_shortest s bytes p n is v q
+
+      go : (o : Result (Spelling r.kinds) ErrorKind) → Decodes Stands bytes (value_in o)
+          → Decodes (IsShortest Encoding) bytes
+          (value_in (o >>= λ s. unless_found (first_written r.kinds s) (record_means r s)))
+      go (Ok s) p = chosen s p (first_written r.kinds s) refl
+      go (Err k) p = λ v q. p _ (let h = spelled_from r v bytes q.0 in (h.0, h.1.2, h.1.3))

@@ -1,0 +1,69 @@
+-- The laws of a record that holds the values of fields: what reads it, and what is written of it.
+use Rattle.std.proofs.Common.{ℕ, List, sym, subst, ap, ◌∙◌}
+use Rattle.std.proofs.Math.Path.{subst₂}
+use Rattle.der_core.specs.Laws.Printed.Rows.{tagged_law}
+use Rattle.der_core.specs.Laws.Printed.Shortest.{joined_shortest}
+use Rattle.der_core.specs.Laws.Printed.Values.{reads}
+use Rattle.der_core.specs.Printed.{Prints, ReadsAlike, ReadsFrontPrinted, ReadsPrinted, Spells, WritesShortest}
+use Rattle.der_core.specs.Readings.{ReadsContents, tagged}
+use Rattle.der_core.specs.Tags as tags
+use Rattle.spki_core.specs.FieldSpellings.{AreSpelled, AreValid, FieldRecord, fields_of, meant, record_means}
+use Rattle.spki_core.specs.FieldSpellings.{record_read, record_under, spelled, spelling_read}
+use Rattle.spki_core.specs.Laws.FieldSpellings.SameReading.{fields_alike}
+use Rattle.spki_core.specs.Laws.FieldSpellings.Shortest.{fields_shortest}
+use Rattle.spki_core.specs.Laws.FieldSpellings.Spellings.{fields_spelled, spelled_fields, spelled_valid, spellings_law}
+use Rattle.standard.specs.Statement.{Field, Fields, SequenceOf, sequence}
+
+module _ {V : Type 0} {Is : V → Type 0} {fields : V → List Field} (r : FieldRecord Is fields) where
+  pub record_law : ReadsPrinted (AreSpelled r.kinds) (spelled r.kinds) (spelling_read r.kinds)
+  record_law = spellings_law r.kinds 0 r.lawful
+
+  pub record_front_law : ReadsFrontPrinted (AreSpelled r.kinds) (λ s. sequence (spelled r.kinds s))
+      (tagged tags.sequence (spelling_read r.kinds))
+  record_front_law = tagged_law record_law tags.sequence
+
+  pub record_alike : ReadsAlike (spelling_read r.kinds) (record_means r) (record_read r)
+  record_alike = fields_alike r.kinds r.join
+
+  pub record_shortest : WritesShortest (AreSpelled r.kinds) (spelled r.kinds) (record_means r) (record_under r 0)
+  record_shortest = joined_shortest (fields_shortest r.kinds r.lawful) r.join r.split r.parted r.whole
+
+  -- Spellings are what the standard calls fields.
+  fields_to : (v : V) (c : List ℕ) → Prints (AreSpelled r.kinds) (spelled r.kinds) (record_means r) v c
+      → Is v × Fields (fields v) c
+  fields_to v c (s, e, ok, same) =
+      let back = sym (r.parted (meant r.kinds s)) in
+      let w = record_means r s in
+      let held : Is w = r.is w (subst (AreValid r.kinds) back (spelled_valid r.kinds 0 r.lawful s ok)) in
+      let there : Fields (fields w) (spelled r.kinds s) =
+      subst (λ fs. Fields fs (spelled r.kinds s)) (sym (r.fields_are w))
+      (subst (λ u. Fields (fields_of r.kinds u) (spelled r.kinds s)) back (spelled_fields r.kinds s)) in
+      (subst Is e held, subst₂ (λ u x. Fields (fields u) x) e (sym same) there)
+
+  fields_from : (v : V) (c : List ℕ) → Is v → Fields (fields v) c
+      → Prints (AreSpelled r.kinds) (spelled r.kinds) (record_means r) v c
+  fields_from v c ok p =
+      let (s, e, same, valid) =
+      fields_spelled r.kinds (r.split v) c (subst (λ fs. Fields fs c) (r.fields_are v) p) in
+      (s, ap r.join e ∙ r.whole v, valid (r.are v ok), same)
+
+  pub record_reads : ReadsContents (λ v c. Is v × Fields (fields v) c) (record_read r)
+  record_reads =
+      let old = reads record_law record_alike in
+      record {
+        gives = λ c v bytes e. fields_to v c (old.gives c v bytes e);
+        takes = λ c v few p. old.takes c v few (fields_from v c p.0 p.1);
+        tells = old.tells;
+      }
+
+  pub spelled_to : (v : V) (b : List ℕ)
+      → Spells (AreSpelled r.kinds) (λ s. sequence (spelled r.kinds s)) (record_means r) v b
+      → SequenceOf Is fields Fields v b
+  spelled_to v b (few, (s, e, ok, same)) =
+      let h = fields_to v (spelled r.kinds s) (s, e, ok, λ i. spelled r.kinds s) in
+      (h.0, few, spelled r.kinds s, h.1, same)
+
+  pub spelled_from : (v : V) (b : List ℕ) → SequenceOf Is fields Fields v b
+      → Spells (AreSpelled r.kinds) (λ s. sequence (spelled r.kinds s)) (record_means r) v b
+  spelled_from v b (ok, few, c, p, written) =
+      let (s, e, valid, same) = fields_from v c ok p in (few, (s, e, valid, written ∙ ap sequence same))
