@@ -4,9 +4,10 @@ use Rattle.std.proofs.Common.{◌+◌, ◌∙◌, true, false, inl, inr, Option,
 use Rattle.der_core.specs.Laws.Printed.Leaves.{tlv_fit}
 use Rattle.der_core.specs.Tag.{is_allowed}
 use Rattle.pkcs1_params.specs.Laws.Records.{mgf1_identifier, pss_lawful, source_identifier}
+use Rattle.spki_core.specs.FieldSpellings.{field}
 use Rattle.standard.specs.Statement.{Algorithm, Field, Fields, IfPresent, IsAlgorithm, IsAny, IsIdentifier}
 use Rattle.standard.specs.Statement.{OaepEncoding, OaepParameters, PssEncoding, PssParameters, TagAndContents, algorithm, any}
-use Rattle.standard.specs.Statement.{empty_label, field, integer, limit, mgf1_sha1, optional, sha1, tlv}
+use Rattle.standard.specs.Statement.{empty_label, integer, limit, mgf1_sha1, optional, sha1, tlv}
 use Rattle.pkcs1_c.specs.Status.{NoStatus}
 use Rattle.pkcs1_c.specs.StructErrors.{AlgorithmError, AnyError, HashFieldsThen, MaskError, OaepFieldError, OidError}
 use Rattle.pkcs1_c.specs.StructErrors.{OptionError, PartThen, PlainError, PssFieldError}

@@ -12,7 +12,7 @@ use Rattle.der_core.specs.Readings.{made, whole, ◌>>=◌}
 use Rattle.der_core.specs.Tags.{sequence}
 use Rattle.spki_core.specs.Readings.{defaulted}
 use Rattle.spki_core.specs.StrictFields.{unless_found}
-use Rattle.standard.specs.Statement.{Field, IfPresent, field, optional, tlv}
+use Rattle.standard.specs.Statement.{Field, IfPresent, optional, tlv}
 
 -- A field without its value: its number, which values have an encoding, the encoding, what reads it, and the default.
 pub record Kind : Type 1 where
@@ -24,6 +24,10 @@ pub record Kind : Type 1 where
   pub at : FrontReading Value
   pub default : Value
   pub is_default : Value → Bool
+
+-- [number] EXPLICIT .. DEFAULT default
+abbrev pub field : {V : Type 0} → ℕ → (V → List ℕ) → V → V → Field
+field number encoding default v = record { IsDefault = v ≡ default; written = tlv (160 + number) (encoding v) }
 
 -- The values of fields of these kinds, and the fields with them.
 abbrev pub Values : List Kind → Type 0

@@ -5,8 +5,8 @@ use Rattle.std.proofs.Common.{Some, None, inl}
 use Rattle.std.specs.Prelude.{codes, nat_lt, if◌then◌else◌, ◌-◌, ◌^◌}
 use Rattle.standard.specs.Statement.{AlgorithmEncoding, Container, ContainerEncoding, Defaults, IfPresent}
 use Rattle.standard.specs.Statement.{IsAny, IsPss, OtherPrime, PrivateKey, PrivateKeyEncoding, PssParameters}
-use Rattle.standard.specs.Statement.{algorithm, any, field, id_rsassa_pss, integer, length_octets, limit}
-use Rattle.standard.specs.Statement.{mgf1_sha1, null, pss_fields, rsa_encryption, sequence, sha1, tlv, version}
+use Rattle.standard.specs.Statement.{algorithm, any, empty_label, id_rsassa_pss, integer, length_octets, limit, longest}
+use Rattle.standard.specs.Statement.{mgf1_sha1, oaep_fields, pss_fields, rsa_encryption, sequence, sha1, tlv, version}
 
 digit : ℕ → ℕ
 digit c = if nat_lt c 58 then c - 48 else c - 87
@@ -21,7 +21,7 @@ hex (a ∷ b ∷ digits) = (16 * digit a + digit b) ∷ hex digits
 limit_is : limit + 1 ≡ 256 ^ 4
 limit_is = refl
 
--- == INTEGER, SEQUENCE, NULL ==
+-- == INTEGER, SEQUENCE ==
 without_zero : integer 127 ≡ hex (codes "02017f")
 unfolding hex digit length_octets
 without_zero = refl
@@ -33,10 +33,6 @@ with_zero = refl
 empty_sequence : sequence [] ≡ hex (codes "3000")
 unfolding hex digit length_octets
 empty_sequence = refl
-
-null_is : any null ≡ hex (codes "0500")
-unfolding hex digit length_octets
-null_is = refl
 
 long_form_tag : IsAny (record { tag = 31; contents = [] }) → ⊥
 long_form_tag p = let never = p.0 in cc
@@ -73,12 +69,18 @@ mgf1_is : algorithm (algorithm any) mgf1_sha1 ≡ hex (codes "301606092a864886f7
 unfolding hex digit length_octets
 mgf1_is = refl
 
-salt_length : (field 2 integer 20 32).written ≡ hex (codes "a203020120")
-unfolding hex digit length_octets
-salt_length = refl
-
 usual : ℕ → PssParameters
 usual trailer_field = record { hash = sha1; mask_gen = mgf1_sha1; salt_len = 20; trailer_field = trailer_field }
+
+all_of_pss : longest (pss_fields (usual 1)) ≡ hex (codes
+    "3031a00b300906052b0e03021a0500a118301606092a864886f70d010108300906052b0e03021a0500a203020114a303020101")
+unfolding usual hex digit length_octets
+all_of_pss = refl
+
+all_of_oaep : longest (oaep_fields (record { hash = sha1; mask_gen = mgf1_sha1; p_source = empty_label })) ≡ hex (codes
+    "3038a00b300906052b0e03021a0500a118301606092a864886f70d010108300906052b0e03021a0500a20f300d06092a864886f70d0101090400")
+unfolding hex digit length_octets
+all_of_oaep = refl
 
 four_defaults : Defaults (pss_fields (usual 1)) 4
 unfolding usual

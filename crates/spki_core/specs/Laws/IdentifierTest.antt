@@ -5,8 +5,14 @@ use Rattle.std.proofs.Common.{arith, append_assoc, length-append}
 use Rattle.std.proofs.lemmas.Bool.Decides.{nat_tests}
 use Rattle.std.specs.List.{AllByRecursion, concat}
 use Rattle.der_core.specs.Encodings.{AreBytes}
-use Rattle.spki_core.specs.ObjectIdentifier.{IsSubidentifier, IsIdentifier}
+use Rattle.spki_core.specs.ObjectIdentifier.{IsIdentifier}
 use Rattle.spki_core.specs.IdentifierTest.{ends_well, is_identifier}
+
+-- One of those that `IsIdentifier` asks for.
+abbrev IsSubidentifier : List ℕ → Type 0
+IsSubidentifier id =
+    (front : List ℕ) × (last : ℕ) × (id ≡ front ++ last ∷ []) × AllByRecursion (λ b. (128 ≤ b) × (b < 256)) front
+    × (last < 128) × (slice_index id 0 ≢ 128)
 
 -- The octets are whole subidentifiers.
 abbrev Parts : List ℕ → Type 0
