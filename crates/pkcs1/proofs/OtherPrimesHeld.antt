@@ -10,10 +10,14 @@ use Rattle.der_core.specs.Input.{Input, front_of, read_from}
 use Rattle.der_core.specs.Laws.Input.{ok_pair}
 use Rattle.der_core.specs.Reading.{HoldsBytes}
 use Rattle.der_core.proofs.ReadSteps.{Gives, some_same}
-use Rattle.pkcs1.specs.Held.{held_other_primes}
+use Rattle.pkcs1.specs.Held.{held_other_primes, primes_encoded}
 use Rattle.pkcs1.specs.KeyReadings.{number, primes_read}
 use Rattle.pkcs1.specs.Keys.{OtherPrime}
 use Rattle.pkcs1.specs.Laws.ItemSteps.{item_shorter}
+use Rattle.pkcs1.specs.Laws.PrintedNumbers.{integer_law}
+use Rattle.pkcs1.specs.Laws.PrintedRows.{primes_law}
+use Rattle.pkcs1.specs.Laws.StatedPrivateKeys.{listed_printed}
+use Rattle.std.specs.List.{concat}
 use Rattle.pkcs1.specs.Laws.PrimesHeld.{held_behind, held_read, next_law, next_some, one_held}
 use Rattle.pkcs1.specs.OtherPrimesHeld.{next_prime}
 use Rattle.pkcs1.specs.OtherPrimesLeft.{others_left, others_left-is}
@@ -28,6 +32,15 @@ pub left_counted : (primes : OtherPrimes) → primes.left ≡ length (held_other
 left_counted primes =
     sym (ap length (others_left-is primes) ∙ primes.held.2)
     ∙ held_length primes
+
+-- their encodings
+pub left_encoded : (primes : OtherPrimes) → AreBytes primes.bytes.now
+    → primes.bytes.now ≡ primes_encoded (held_other_primes primes)
+left_encoded primes are =
+    let law = primes_law integer_law in
+    (law.gives primes.bytes.now primes.held.0 are (held_read primes.bytes.now primes.left primes.held)).1
+    ∙ ap concat (sym (listed_printed primes.held.0))
+    ∙ ap (λ others. primes_encoded (map other_stated others)) (sym (others_left-is primes))
 
 -- what an iterator has left, and what it has left behind the first one
 pub steps_behind : (old new : OtherPrimes) (other : OtherPrime ℕ) → new.left ≡ old.left - 1 → AreBytes old.bytes.now

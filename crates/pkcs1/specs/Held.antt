@@ -1,6 +1,7 @@
 -- What keys hold, in the words of `Statement.antt`. `octets` gives the octets of a number, the highest first.
-use Rattle.std.specs.Prelude.{ℕ, List, ◌≡◌, ◌<◌, length, map, Option, Some, None}
+use Rattle.std.specs.Prelude.{ℕ, List, [], ◌∷◌, ◌≡◌, ◌<◌, length, map, Option, Some, None}
 use Rattle.std.specs.Int.Digits.{number_from_digits}
+use Rattle.std.specs.List.{concat}
 use Rattle.der_core.specs.UintRefValue.{bytes_of}
 use Rattle.pkcs1.specs.OtherPrimesLeft.{others_left}
 use Rattle.pkcs1.specs.PrivateKeyValue.{Listed, key_with, other_of, private_key_with}
@@ -9,7 +10,7 @@ use Rattle.pkcs1.specs.declared.other_primes.OtherPrimes.{OtherPrimes}
 use Rattle.pkcs1.specs.declared.private_key.other_prime_info.OtherPrimeInfo.{OtherPrimeInfo}
 use Rattle.pkcs1.specs.declared.public_key.RsaPublicKey.{RsaPublicKey}
 use Rattle.pkcs1.specs.declared.view.RsaPrivateKeyView.{RsaPrivateKeyView}
-use Rattle.standard.specs.Statement.{IfPresent, OtherPrime, PrivateKey, PublicKey}
+use Rattle.standard.specs.Statement.{IfPresent, OtherPrime, PrivateKey, PublicKey, integers, sequence}
 
 abbrev pub number_in : {U : Type 0} → (U → List ℕ) → U → ℕ
 number_in octets u = number_from_digits 256 (octets u)
@@ -26,6 +27,11 @@ held_other_prime octets other = other_stated (other_of (number_in octets) other)
 -- The other primes that an iterator has left.
 abbrev pub held_other_primes : OtherPrimes → List OtherPrime
 held_other_primes primes = map other_stated (others_left primes)
+
+-- The encodings of other primes, one behind the other.
+abbrev pub primes_encoded : List OtherPrime → List ℕ
+primes_encoded others =
+    concat (map (λ o. sequence (integers (o.prime ∷ o.exponent ∷ o.coefficient ∷ []))) others)
 
 -- The list is there but empty.
 abbrev pub HoldsNone : Option OtherPrimes → Type 0

@@ -92,12 +92,3 @@ rsa_private_key = made private_stated (private_key number)
 -- The bytes themselves, where the function reads them.
 abbrev pub kept : {V : Type 0} → Reading V → Reading (List ℕ)
 kept read bytes = made (λ _. bytes) read bytes
-
--- The other primes as a last part by itself, and the end of a private key.
-abbrev pub last_others : {Number : Type 0} → FrontReading Number → Reading (Option (List (OtherPrime Number)))
-last_others at =
-    such (λ primes. not (lists_none primes)) (Value sequence)
-    (alone (optional sequence.octet (tagged sequence (primes_read at))))
-
-abbrev pub crt_read : {Number : Type 0} → FrontReading Number → Reading (CrtRow Number)
-crt_read at = parts at (parts at (parts at (last_others at)))

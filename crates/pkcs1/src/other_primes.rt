@@ -78,7 +78,7 @@ fn count_others(bytes: &[u8]) -> Result<usize>
 }
 
 impl<'a> OtherPrimes<'a> {
-    ghost use Rattle.pkcs1.specs.Held.{held_other_primes};
+    ghost use Rattle.pkcs1.specs.Held.{held_other_primes, primes_encoded};
 
     /// An iterator over no primes.
     #[tactic(auto, unfolding(crate::specs::OtherPrimesLeft::others_left))]
@@ -97,6 +97,13 @@ impl<'a> OtherPrimes<'a> {
         ensures { result ≡ length (held_other_primes self.now) }
     {
         self.left
+    }
+
+    /// The encodings of the primes that are left, one behind the other: a part of the input.
+    pub fn as_bytes(&self) -> &'a [u8]
+        ensures { result.now ≡ primes_encoded (held_other_primes self.now) }
+    {
+        self.bytes
     }
 }
 

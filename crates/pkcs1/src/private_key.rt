@@ -3,7 +3,7 @@ ghost use Rattle.std.specs.Prelude.{◌≡◌, ◌↔◌, ⊤, IsSome, IsErrAnd,
 ghost use Rattle.der_core.specs.Words.{Appends, Counts, bytes_of, sequence};
 ghost use Rattle.pkcs1.specs.Words.{AllocatesForKey, ListsNone, PrivateIsValid, PrivateKey, held_private_key};
 ghost use Rattle.pkcs1.specs.Words.{held_public_key, private_alike, private_as, private_key_read, private_key_with};
-ghost use Rattle.pkcs1.specs.Words.{private_law, private_printed, private_shortest, public_part, version_of};
+ghost use Rattle.pkcs1.specs.Words.{private_law, private_printed, private_shortest, public_part};
 
 mod der;
 pub(crate) mod other_prime_info;
@@ -13,14 +13,13 @@ use crate::key_numbers::{KeyFront, key_of};
 use crate::public_key::{RsaPublicKey, RsaPublicKeyRef};
 use crate::version::Version;
 use der_core::{
-    BackWriter, Borrowed, Contents, Decode, DecodeFront, DecodeValue, Encode, EncodeValue,
-    Encoding, ErrorKind, Header, Length, Reader, Result, Sequence, SequenceTag, Tag, TaggedBy,
-    Uint, UintEncoding, UintRef, Writer,
+    BackWriter, Contents, Decode, DecodeFront, DecodeValue, Encode, EncodeValue, Encoding,
+    ErrorKind, Header, Length, Reader, Result, Sequence, SequenceTag, Tag, TaggedBy, Uint,
+    UintEncoding, UintRef, Writer,
 };
 use other_prime_info::{OtherPrimeInfos, lists_none, read_other_primes};
 use std::alloc::{AllocError, Global};
 use std::fmt;
-use written::CrtParts;
 
 /// An RSA private key (RFC 8017 A.1.2). A U holds a number, an O the other primes, if there are any. No relation
 /// between the numbers is checked. The version isn't stored: it is `Multi` exactly if `other_prime_infos` is `Some`.
@@ -106,15 +105,6 @@ impl<U: UintEncoding> RsaPrivateKey<U> {
     }
 }
 
-impl<U: Encoding> RsaPrivateKey<U> {
-    /// The number of the version.
-    fn version_number(&self) -> u8
-        ensures { result ≡ version_of (private_key_with U.value self.now).other_prime_infos }
-    {
-        self.version().into()
-    }
-}
-
 impl<'a, U: UintEncoding> From<&'a RsaPrivateKey<U>> for RsaPublicKey<UintRef<'a>> {
     ghost from_gives = { λ key public.
         held_public_key bytes_of public ≡ public_part (held_private_key U.number key.now) };
@@ -182,35 +172,11 @@ impl<U: Encode> EncodeValue for RsaPrivateKey<U> {
         if lists_none(&self.other_prime_infos) {
             return Err(der_core::Error::new(ErrorKind::Value { tag: Tag::SEQUENCE }));
         }
-        let prime1 = (
-            Borrowed(&self.prime1),
-            (Borrowed(&self.prime2), CrtParts(self)),
-        );
-        let public_exponent = (
-            Borrowed(&self.public_exponent),
-            (Borrowed(&self.private_exponent), prime1),
-        );
-        (
-            self.version_number(),
-            (Borrowed(&self.modulus), public_exponent),
-        )
-            .value_len()
+        self.row_len()
     }
 
     fn append_value<W: Writer>(&self, writer: &mut W) -> Result<()> {
-        let prime1 = (
-            Borrowed(&self.prime1),
-            (Borrowed(&self.prime2), CrtParts(self)),
-        );
-        let public_exponent = (
-            Borrowed(&self.public_exponent),
-            (Borrowed(&self.private_exponent), prime1),
-        );
-        (
-            self.version_number(),
-            (Borrowed(&self.modulus), public_exponent),
-        )
-            .append_value(writer)
+        self.append_row(writer)
     }
 
     fn encode_value<W: Writer>(&self, writer: &mut W) -> Result<()>
@@ -226,19 +192,7 @@ impl<U: Encode> EncodeValue for RsaPrivateKey<U> {
     }
 
     fn prepend_value(&self, writer: &mut BackWriter<'_>) {
-        let prime1 = (
-            Borrowed(&self.prime1),
-            (Borrowed(&self.prime2), CrtParts(self)),
-        );
-        let public_exponent = (
-            Borrowed(&self.public_exponent),
-            (Borrowed(&self.private_exponent), prime1),
-        );
-        (
-            self.version_number(),
-            (Borrowed(&self.modulus), public_exponent),
-        )
-            .prepend_value(writer);
+        self.prepend_row(writer);
     }
 }
 

@@ -7,13 +7,13 @@ use Rattle.der_core.specs.Laws.Printed.Leaves.{tlv_fit}
 use Rattle.der_core.specs.Length.{limit}
 use Rattle.der_core.specs.Printed.{Spells}
 use Rattle.pkcs1.proofs.KeysWritten.{private_is_valid}
-use Rattle.pkcs1.specs.Held.{IsPrivateKey, held_private_key, held_public_key, number_in}
+use Rattle.pkcs1.specs.Held.{IsPrivateKey, held_public_key, number_in}
 use Rattle.pkcs1.specs.Laws.PrintedKeys.{public_encoding, public_spelled}
-use Rattle.pkcs1.specs.Laws.StatedPrivateKeys.{private_encoding, private_spelled}
+use Rattle.pkcs1.specs.Laws.StatedPrivateKeys.{private_encoding, private_itself, private_spelled}
+use Rattle.pkcs1.specs.StatedKeys.{private_stated}
 use Rattle.pkcs1.specs.PrintedKeys.{private_as, public_as}
 use Rattle.pkcs1.specs.Printing.{AnyNumber, PrivateIsValid, PublicIsValid}
 use Rattle.pkcs1.specs.Keys as keys
-use Rattle.pkcs1.specs.PrivateKeyValue.{Listed, private_key_with}
 use Rattle.pkcs1.specs.PublicKeyValue.{public_key_with}
 use Rattle.pkcs1.specs.declared.public_key.RsaPublicKey.{RsaPublicKey}
 use Rattle.standard.specs.Statement as statement
@@ -130,22 +130,18 @@ public_law key made same bytes =
     subst (λ v. PublicSpells (public_key_with (number_in number_of) made) bytes ↔ PublicKeyEncoding v bytes) same
     (public_spelled (public_key_with (number_in number_of) made) bytes)
 
-pub private_law : (key : PrivateKey) (others : List OtherPrime) (made : Listed Number)
-    → held_private_key number_of made ≡ private_key key others → (bytes : List ℕ)
-    → PrivateSpells (private_key_with (number_in number_of) made) bytes
-    ↔ PrivateKeyEncoding (private_key key others) bytes
+pub private_law : (key : PrivateKey) (others : List OtherPrime) (made : keys.PrivateKey ℕ)
+    → private_stated made ≡ private_key key others → (bytes : List ℕ)
+    → PrivateSpells made bytes ↔ PrivateKeyEncoding (private_key key others) bytes
 private_law key others made same bytes =
-    subst
-    (λ v. PrivateSpells (private_key_with (number_in number_of) made) bytes ↔ PrivateKeyEncoding v bytes)
-    same (private_spelled (private_key_with (number_in number_of) made) bytes)
+    subst (λ v. PrivateSpells made bytes ↔ PrivateKeyEncoding v bytes) same (private_spelled made bytes)
 
 is_private : (key : PrivateKey) (others : List OtherPrime) → IsPrivateKey (private_key key others)
 is_private key [] = tt
 is_private key (o ∷ others) = omega arith
 
-pub private_valid : (key : PrivateKey) (others : List OtherPrime) (made : Listed Number)
-    → held_private_key number_of made ≡ private_key key others
-    → PrivateIsValid AnyNumber (private_as (λ n. n) (private_key_with (number_in number_of) made))
+pub private_valid : (key : PrivateKey) (others : List OtherPrime) (made : keys.PrivateKey ℕ)
+    → private_stated made ≡ private_key key others → PrivateIsValid AnyNumber made
 private_valid key others made same =
-    (private_is_valid (private_key_with (number_in number_of) made)).1
-    (subst IsPrivateKey (sym same) (is_private key others))
+    subst (PrivateIsValid AnyNumber) (private_itself made)
+    ((private_is_valid made).1 (subst IsPrivateKey (sym same) (is_private key others)))

@@ -9,8 +9,7 @@ use Rattle.pkcs1.specs.ViewParts.{listed_others}
 use Rattle.pkcs1.specs.declared.other_primes.OtherPrimes.{OtherPrimes}
 use Rattle.pkcs1.specs.declared.view.RsaPrivateKeyView.{RsaPrivateKeyView}
 use Rattle.standard.specs.Statement.{OtherPrime, octets}
-use Rattle.pkcs1_c.specs.Structs.{ArePlaced, listed}
-use Rattle.pkcs1_c.specs.declared.private_key.OtherPrime as struct
+use Rattle.pkcs1_c.specs.Structs.{listed}
 
 pub octets_held : (u : UintRef) → bytes_of u ≡ octets (number_in bytes_of u)
 octets_held u = sym (number_octets (bytes_of u) (holds_canonical (bytes_of u) u.canonical))
@@ -20,10 +19,7 @@ listed_same : (o : Option (List OtherPrime)) → listed_others o ≡ listed o
 listed_same None = refl
 listed_same (Some others) = refl
 
-pub others_hold : (view : RsaPrivateKeyView) (primes : OtherPrimes) (array : List struct.OtherPrime) (count : ℕ)
+pub others_listed : (view : RsaPrivateKeyView) (primes : OtherPrimes)
     → held_other_primes primes ≡ listed_others (held_view view).other_primes
-    → count ≡ length (held_other_primes primes) → ArePlaced (held_other_primes primes) array
-    → (count ≡ length (listed (held_view view).other_primes)) × ArePlaced (listed (held_view view).other_primes) array
-others_hold view primes array count is counted placed =
-    let same = is ∙ listed_same (held_view view).other_primes in
-    (counted ∙ ap length same, subst (λ others. ArePlaced others array) same placed)
+    → held_other_primes primes ≡ listed (held_view view).other_primes
+others_listed view primes is = is ∙ listed_same (held_view view).other_primes

@@ -1,6 +1,7 @@
 pub mod Containers
 pub mod Fits
 pub mod GivenKeys
+pub mod GivenPrimes
 pub mod HeldKeys
 pub mod HeldParameters
 pub mod Lists

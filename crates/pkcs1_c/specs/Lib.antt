@@ -1,4 +1,6 @@
+pub mod GivenPrimesValue
 pub mod NumberValue
+pub mod PrimeLists
 pub mod Status
 pub mod StructErrors
 pub mod Structs

@@ -57,17 +57,12 @@ given_numbers key others = numbers_of_key key ++ numbers_of_primes others
 abbrev pub Miscounted : PrivateKey → List OtherPrime → ℕ → Type 0
 Miscounted key others status = (status ≡ OTHER_PRIMES) × (key.other_primes ≢ length others)
 
--- That is so; or one of the numbers can't be held; or the key isn't written. Out of memory is left out here.
+-- That is so; or one of the numbers can't be held; or the key isn't written.
 abbrev pub PrivateKeyError : PrivateKey → List OtherPrime → ℕ → ℕ → Type 0
 PrivateKeyError key others room =
     PartThen (Miscounted key others)
     (PartThen (NumbersError (given_numbers key others))
     (Unwritten PrivateKeyEncoding (private_key key others) room))
-
--- Memory may be needed for other primes, once there are as many as the key says and the eight numbers can be held.
-abbrev pub MayRunOutOfMemory : PrivateKey → List OtherPrime → Type 0
-MayRunOutOfMemory key others =
-    (key.other_primes ≡ length others) × (0 < length others) × NoStatus (NumbersError (numbers_of_key key))
 
 -- The octets don't encode a private key (the status is that of their first fault); or the container isn't written.
 abbrev pub InfoError : PrivateKeyInfo → ℕ → ℕ → Type 0

@@ -1,10 +1,11 @@
 -- What the structs for C hold, in the words of `Statement.antt`, and what a call that writes says and leaves.
 -- One rule: the function that is named as a struct, in lower case with underscores, gives the value that it holds; of
 -- parameters it ends with `seen`.
-use Rattle.std.specs.Prelude.{ℕ, List, [], ◌∷◌, ◌≡◌, ◌≢◌, ◌<◌, length, take, map, Option, Some, None}
+use Rattle.std.specs.Prelude.{ℕ, List, [], ◌∷◌, ◌++◌, ◌≡◌, ◌≢◌, ◌<◌, length, take, map, Option, Some, None}
 use Rattle.std.specs.Prelude.{false, if◌then◌else◌}
 use Rattle.std.specs.Int.Digits.{number_from_digits}
 use Rattle.std.specs.List.{AllByRecursion}
+use Rattle.pkcs1.specs.Held.{primes_encoded}
 use Rattle.pkcs1_c.specs.declared.algorithm.Algorithm as algorithms
 use Rattle.pkcs1_c.specs.declared.algorithm.MaskGen.{MaskGen}
 use Rattle.pkcs1_c.specs.declared.container.PrivateKeyInfo.{PrivateKeyInfo}
@@ -156,17 +157,20 @@ abbrev pub ArePlaced : List OtherPrime → List prime_structs.OtherPrime → Typ
 ArePlaced others array =
     take (length array) (map octets_of_prime others) ≡ take (length others) (map numbers_of_prime array)
 
--- The struct has the octets of the key and tells how many other primes it has. The array has the octets of the first of
--- them, as many as fit.
-abbrev pub HoldsPrivate : key_structs.PrivateKey → List prime_structs.OtherPrime → PrivateKey → Type 0
-HoldsPrivate key array v =
-    (numbers_of_key key ≡ octets_of_key v) × (key.other_primes ≡ length (listed v.other_primes))
-    × ArePlaced (listed v.other_primes) array
+-- Octets that don't begin with the encoding of a prime.
+abbrev pub BeginsNoPrime : List ℕ → Type 0
+BeginsNoPrime bytes = (o : OtherPrime) (rest : List ℕ) → bytes ≡ primes_encoded (o ∷ []) ++ rest → ⊥
 
--- The bytes encode one key, and struct and array have it.
-abbrev pub DecodesPrivate : List ℕ → key_structs.PrivateKey → List prime_structs.OtherPrime → Type 0
-DecodesPrivate bytes key array =
-    (v : PrivateKey) × Decodes PrivateKeyEncoding bytes (Some v) × HoldsPrivate key array v
+-- The struct has the octets of the key and tells how many other primes it has.
+abbrev pub HoldsPrivate : key_structs.PrivateKey → PrivateKey → Type 0
+HoldsPrivate key v =
+    (numbers_of_key key ≡ octets_of_key v) × (key.other_primes ≡ length (listed v.other_primes))
+
+-- The bytes encode one key. The struct has it, and the list has the encodings of its other primes.
+abbrev pub DecodesPrivate : List ℕ → key_structs.PrivateKey → List ℕ → Type 0
+DecodesPrivate bytes key list =
+    (v : PrivateKey) × Decodes PrivateKeyEncoding bytes (Some v) × HoldsPrivate key v
+    × (list ≡ primes_encoded (listed v.other_primes))
 
 -- == Containers ==
 -- The algorithm is always rsaEncryption with NULL. Attributes count only if `has_attributes` is true.

@@ -1,5 +1,5 @@
 //! RSA keys in PKCS #8 containers.
-ghost use Rattle.std.specs.Prelude.{◌≡◌, ◌≢◌, length, drop, IfErr, IfOk, OnErr, OnOk, Some, None};
+ghost use Rattle.std.specs.Prelude.{◌≡◌, ◌≢◌, length, IfErr, IfOk, OnErr, OnOk, Some, None};
 ghost use Rattle.pkcs1.specs.Words.{held_view, rsa_private_key};
 ghost use Rattle.pkcs1_params.specs.Words.{ErrsAs, IsAsn1};
 ghost use Rattle.pkcs8_core.specs.Words.{ContainedKey, IsContainer, info_of, rsa_encryption, rsa_private_key_info};
@@ -7,7 +7,8 @@ ghost use Rattle.pkcs1_c.specs.Words.{DecodesPrivate, HasKey, If, InfoError, Inf
 ghost use Rattle.pkcs1_c.specs.Words.{WritesOrTells, private_key_info};
 ghost use Rattle.standard.specs.Statement.{ContainedKeyEncoding, ContainerEncoding, Decodes};
 
-use crate::private_key::{OtherPrime, PrivateKey, to_c_key};
+use crate::bytes::Bytes;
+use crate::private_key::{PrivateKey, to_c_key, to_c_list};
 use crate::status::{OK, status};
 use crate::written::write_encoding;
 use der_core::OctetStringRef;
@@ -62,27 +63,27 @@ fn to_c_info<'a>(info: &PrivateKeyInfoRef<'a>) -> PrivateKeyInfo<'a>
 }
 
 /// Decodes a container whose algorithm is rsaEncryption with NULL, and the private key in it; allocates nothing.
-/// Returns 0, fills `info` with parts of `encoding`, and `key` and `others` as `pkcs1_c_private_key_decode` does; or
+/// Returns 0, fills `info` with parts of `encoding`, and `key` and `listed` as `pkcs1_c_private_key_decode` does; or
 /// returns the status of the first fault.
 #[unsafe(no_mangle)]
 pub extern "C" fn pkcs1_c_private_key_info_decode<'a>(
     encoding: &'a [u8],
     info: &mut PrivateKeyInfo<'a>,
     key: &mut PrivateKey<'a>,
-    others: &mut [OtherPrime<'a>],
+    listed: &mut Bytes<'a>,
 ) -> u32
     ensures ok { result ≡ OK → Decodes ContainerEncoding encoding.now (Some (private_key_info info.new)) }
-    ensures key { result ≡ OK → DecodesPrivate info.new.private_key.now key.new others.new }
-    ensures rest { result ≡ OK → drop key.new.other_primes others.new ≡ drop key.new.other_primes others.old }
+    ensures key { result ≡ OK → DecodesPrivate info.new.private_key.now key.new listed.new.octets.now }
     ensures rejected { result ≢ OK → Decodes ContainedKeyEncoding encoding.now None }
     ensures exact { IsStatusOf (rsa_private_key_info encoding.now) result }
     ensures tidy { result ≡ OK → InfoIsTidy info.new }
-    ensures unchanged { result ≢ OK → (info.new ≡ info.old) × (key.new ≡ key.old) × (others.new ≡ others.old) }
+    ensures unchanged { result ≢ OK → (info.new ≡ info.old) × (key.new ≡ key.old) × (listed.new ≡ listed.old) }
 {
     match read_container(encoding) {
         Ok((read, view)) => {
             *info = to_c_info(&read);
-            *key = to_c_key(&view, others);
+            *key = to_c_key(&view);
+            *listed = to_c_list(&view);
             OK
         }
         Err(error) => status(&error),

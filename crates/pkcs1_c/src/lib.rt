@@ -7,6 +7,7 @@ mod bytes;
 mod container;
 mod filled;
 mod given_number;
+mod given_primes;
 mod numbers;
 mod oaep;
 mod oaep_algorithm;
@@ -32,7 +33,8 @@ pub use oaep_algorithm::{
     pkcs1_c_oaep_algorithm_encode,
 };
 pub use private_key::{
-    OtherPrime, PrivateKey, pkcs1_c_private_key_decode, pkcs1_c_private_key_encode,
+    OtherPrime, PrivateKey, pkcs1_c_other_primes, pkcs1_c_private_key_decode,
+    pkcs1_c_private_key_encode,
 };
 pub use pss::{
     PssParams, pkcs1_c_pss_is, pkcs1_c_pss_params_decode, pkcs1_c_pss_params_decode_strict,

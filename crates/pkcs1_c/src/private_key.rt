@@ -1,23 +1,26 @@
 //! Private keys.
-ghost use Rattle.std.specs.Prelude.{length, drop, ◌≡◌, ◌≢◌, ◌<◌, List, map, ◌++◌, ◌∷◌, [], OnOk, IfOk, IfErr, None};
-ghost use Rattle.der_core.specs.Words.{bytes_of};
-ghost use Rattle.pkcs1.specs.Words.{held_other_prime, held_other_primes, held_private_key, held_view, rsa_private_key};
-ghost use Rattle.pkcs1_c.specs.Words.{ArePlaced, DecodesPrivate, HasPrivateNumbers, HoldsPrivate, If, IsErrorOf};
-ghost use Rattle.pkcs1_c.specs.Words.{IsStatusOf, MayRunOutOfMemory, NoStatus, NumbersError, PrivateKeyError};
-ghost use Rattle.pkcs1_c.specs.Words.{WritesOrTells, given_numbers, held_others, number_of, numbers_of_prime};
-ghost use Rattle.pkcs1_c.specs.Words.{numbers_of_primes, octets_of_prime, other_prime, other_primes, private_key};
-ghost use Rattle.pkcs1_c.specs.Words.{status_of};
-ghost use Rattle.standard.specs.Statement.{Decodes, PrivateKeyEncoding};
+ghost use Rattle.std.specs.Prelude.{length, drop, ◌≡◌, ◌≢◌, ◌≤◌, List, ℕ, ◌++◌, OnOk, IfOk, IfErr, None};
+ghost use Rattle.der_core.specs.Words.{ReadsFront, alike, bytes_of, left_of, limit, one_spelling};
+ghost use Rattle.pkcs1.specs.Words.{AnyNumber, PrivateIsValid, PrivateKey as KeyOf, held_other_prime, held_view};
+ghost use Rattle.pkcs1.specs.Words.{integer_law, next_prime, number as number_at, primes_encoded, private_key_read, private_law};
+ghost use Rattle.pkcs1.specs.Words.{private_printed, rsa_private_key};
+ghost use Rattle.pkcs1_c.specs.Words.{ArePlaced, BeginsNoPrime, DecodesPrivate, HasPrivateNumbers, HoldsPrivate, If};
+ghost use Rattle.pkcs1_c.specs.Words.{IsErrorOf, IsStatusOf, NoStatus, NumbersError, PrivateKeyError, WritesOrTells};
+ghost use Rattle.pkcs1_c.specs.Words.{given_key, given_numbers, held_given_key, listed, numbers_of_prime, octets_of_prime};
+ghost use Rattle.pkcs1_c.specs.Words.{private_key, status_of};
+ghost use Rattle.standard.specs.Statement.{Decodes, OtherPrime as Prime, PrivateKeyEncoding};
+ghost use Rattle.standard.specs.Statement as standard;
 
+use crate::bytes::Bytes;
 use crate::given_number::Number;
+use crate::given_primes::GivenPrimes;
 use crate::numbers::number;
-use crate::status::{OK, OTHER_PRIMES, OUT_OF_MEMORY, status};
+use crate::status::{OK, OTHER_PRIMES, status};
 use crate::written::write_encoding;
-use der_core::ErrorKind;
-use pkcs1::{
-    Error, OtherPrimeInfo, OtherPrimeInfos, OtherPrimes, RsaPrivateKey, RsaPrivateKeyView, UintRef,
+use der_core::{
+    BackWriter, Contents, Decode, EncodeValue, Length, NoMemory, Result, SliceReader, Writer,
 };
-use std::alloc::Global;
+use pkcs1::{OtherPrimeInfo, PrivateKeyOf, RsaPrivateKeyView, UintRef};
 
 /// The numbers of a private key, most significant byte first.
 #[repr(C)]
@@ -66,33 +69,11 @@ fn to_c_other_prime<'a>(info: &OtherPrimeInfo<UintRef<'a>>) -> OtherPrime<'a>
     }
 }
 
-/// Puts the first other primes into `others`, as many as fit.
-fn place_others<'a>(primes: OtherPrimes<'a>, others: &mut [OtherPrime<'a>])
-    ensures placed { ArePlaced (held_other_primes primes.entry) others.new }
-    ensures rest { let count = length (held_other_primes primes.entry) in
-        drop count others.new ≡ drop count others.old }
-{
-    let mut left = primes;
-    for i in 0..others.len() {
-        match left.next() {
-            Some(prime) => others[i] = to_c_other_prime(&prime),
-            None => return,
-        }
-    }
-}
-
-/// The C struct of a key. Puts its first other primes into `others`, as many as fit.
+/// The C struct of a key.
 #[inline(always)]
-pub(crate) fn to_c_key<'a>(
-    view: &RsaPrivateKeyView<'a>,
-    others: &mut [OtherPrime<'a>],
-) -> PrivateKey<'a>
-    ensures holds { HoldsPrivate result others.new (held_view view.now) }
-    ensures rest { drop result.other_primes others.new ≡ drop result.other_primes others.old }
+pub(crate) fn to_c_key<'a>(view: &RsaPrivateKeyView<'a>) -> PrivateKey<'a>
+    ensures { HoldsPrivate result (held_view view.now) }
 {
-    let primes = view.other_primes();
-    let other_primes = primes.remaining();
-    place_others(primes, others);
     PrivateKey {
         modulus: view.modulus().as_bytes(),
         public_exponent: view.public_exponent().as_bytes(),
@@ -102,97 +83,125 @@ pub(crate) fn to_c_key<'a>(
         exponent1: view.exponent1().as_bytes(),
         exponent2: view.exponent2().as_bytes(),
         coefficient: view.coefficient().as_bytes(),
-        other_primes,
+        other_primes: view.other_primes().remaining(),
     }
 }
 
-/// Decodes a private key, and allocates nothing. Returns 0, fills `key` with parts of `encoding`, and puts its first
-/// other primes into `others`, as many as fit; or returns the status of the first fault.
+/// The encodings of a key's other primes, one behind the other.
+#[inline(always)]
+pub(crate) fn to_c_list<'a>(view: &RsaPrivateKeyView<'a>) -> Bytes<'a>
+    ensures { result.octets.now ≡ primes_encoded (listed (held_view view.now).other_primes) }
+{
+    Bytes {
+        octets: view.other_primes().as_bytes(),
+    }
+}
+
+/// Decodes a private key, and allocates nothing. Returns 0, fills `key` with parts of `encoding`, and sets `listed` to
+/// the encodings of its other primes, one behind the other; or returns the status of the first fault.
 #[unsafe(no_mangle)]
 pub extern "C" fn pkcs1_c_private_key_decode<'a>(
     encoding: &'a [u8],
     key: &mut PrivateKey<'a>,
-    others: &mut [OtherPrime<'a>],
+    listed: &mut Bytes<'a>,
 ) -> u32
-    ensures ok { result ≡ OK → DecodesPrivate encoding.now key.new others.new }
-    ensures rest { result ≡ OK → drop key.new.other_primes others.new ≡ drop key.new.other_primes others.old }
+    ensures ok { result ≡ OK → DecodesPrivate encoding.now key.new listed.new.octets.now }
     ensures rejected { result ≢ OK → Decodes PrivateKeyEncoding encoding.now None }
     ensures exact { IsStatusOf (rsa_private_key encoding.now) result }
-    ensures unchanged { result ≢ OK → (key.new ≡ key.old) × (others.new ≡ others.old) }
+    ensures unchanged { result ≢ OK → (key.new ≡ key.old) × (listed.new ≡ listed.old) }
 {
     match RsaPrivateKeyView::try_from(encoding) {
         Ok(view) => {
-            *key = to_c_key(&view, others);
+            *key = to_c_key(&view);
+            *listed = to_c_list(&view);
             OK
         }
         Err(error) => status(&error),
     }
 }
 
-/// The prime with these numbers.
-fn from_c_other_prime<'a>(other: &OtherPrime<'a>) -> pkcs1::Result<OtherPrimeInfo<Number<'a>>>
-    ensures ok { IfOk result (λ info. held_other_prime number_of info ≡ other_prime other.now) }
-    ensures held { OnOk result (NoStatus (NumbersError (numbers_of_prime other.now))) }
-    ensures err { IfErr result (λ e. NumbersError (numbers_of_prime other.now) (status_of e)) }
-{
-    Ok(OtherPrimeInfo {
-        prime: number(other.prime)?,
-        exponent: number(other.exponent)?,
-        coefficient: number(other.coefficient)?,
-    })
-}
-
-/// Appends a prime.
-fn push_other<'a>(
-    infos: &mut OtherPrimeInfos<Number<'a>>,
-    info: OtherPrimeInfo<Number<'a>>,
-) -> pkcs1::Result<()>
-    ensures ok { OnOk result (infos.new.items ≡ infos.old.items ++ info.entry ∷ []) }
-    ensures err { IfErr result (λ e. status_of e ≡ OUT_OF_MEMORY) }
-{
-    match infos.push(info) {
-        Ok(()) => Ok(()),
-        Err(_) => Err(Error::Asn1(der_core::Error::new(ErrorKind::OutOfMemory))),
-    }
-}
-
-/// The list of other primes with these numbers, or `None` if there are none.
+/// Decodes the prime at the front of what is left.
 #[inline(always)]
-fn from_c_other_primes<'a>(
-    alloc: Global,
-    others: &[OtherPrime<'a>],
-) -> pkcs1::Result<Option<OtherPrimeInfos<Number<'a>>>>
-    ensures ok { IfOk result (λ infos. held_others infos ≡ other_primes others.now) }
-    ensures held { OnOk result (NoStatus (NumbersError (numbers_of_primes others.now))) }
-    ensures err { let numbers = numbers_of_primes others.now in
-        IfErr result (λ e. status_of e ≢ OUT_OF_MEMORY → NumbersError numbers (status_of e)) }
-    ensures some { IfErr result (λ e. 0 < length others.now) }
+fn read_prime<'a>(reader: &mut SliceReader<'a>) -> Result<OtherPrimeInfo<UintRef<'a>>>
+    ensures { let value = ⟦<OtherPrimeInfo<UintRef<'static>> as Contents>⟧.value in
+        ReadsFront value next_prime (λ _. ⊥) result (left_of reader.old) (left_of reader.new) }
 {
-    if others.is_empty() {
-        return Ok(None);
+    let prime = OtherPrimeInfo::decode(NoMemory, reader)?;
+    Ok(prime)
+}
+
+/// Puts the primes whose encodings stand in `listed`, one behind the other, into `others`, as many as fit. It stops at
+/// octets that begin no such encoding.
+#[unsafe(no_mangle)]
+pub extern "C" fn pkcs1_c_other_primes<'a>(listed: &'a [u8], others: &mut [OtherPrime<'a>])
+    ensures { (primes : List Prime) (rest : List ℕ) → length listed.now ≤ limit
+        → listed.now ≡ primes_encoded primes ++ rest → BeginsNoPrime rest
+        → ArePlaced primes others.new × (drop (length primes) others.new ≡ drop (length primes) others.old) }
+{
+    let Ok(mut reader) = SliceReader::new(listed) else {
+        return;
+    };
+    for i in 0..others.len() {
+        match read_prime(&mut reader) {
+            Ok(prime) => others[i] = to_c_other_prime(&prime),
+            Err(_) => return,
+        }
     }
-    let mut infos = Vec::new(alloc);
-    for other in others {
-        let info = from_c_other_prime(other)?;
-        push_other(&mut infos, info)?;
+}
+
+/// A key of the caller's numbers.
+type GivenKey<'a> = PrivateKeyOf<Number<'a>, GivenPrimes<'a>>;
+
+impl Contents for GivenKey<'_> {
+    ghost Value = { KeyOf ℕ };
+
+    ghost value = { given_key };
+
+    ghost Spelling = { KeyOf ℕ };
+
+    ghost means = { λ key. key };
+
+    ghost written = { λ key. key };
+
+    ghost valid = { PrivateIsValid AnyNumber };
+
+    ghost printed = { private_printed standard.integer };
+
+    ghost read_spelling = { private_key_read number_at };
+
+    ghost read = { private_key_read number_at };
+
+    ghost law = { private_law integer_law };
+
+    ghost shortest = { one_spelling (PrivateIsValid AnyNumber) (private_printed standard.integer) };
+
+    ghost reads_alike = { alike (private_key_read number_at) };
+}
+
+impl EncodeValue for GivenKey<'_> {
+    fn value_len(&self) -> Result<Length> {
+        self.row().value_len()
     }
-    Ok(Some(infos))
+
+    fn append_value<W: Writer>(&self, writer: &mut W) -> Result<()> {
+        self.row().append_value(writer)
+    }
+
+    fn prepend_value(&self, writer: &mut BackWriter<'_>) {
+        self.row().prepend_value(writer);
+    }
 }
 
 /// The key with these numbers.
 fn from_c_key<'a>(
-    alloc: Global,
     key: &PrivateKey<'a>,
-    others: &[OtherPrime<'a>],
-) -> pkcs1::Result<RsaPrivateKey<Number<'a>>>
-    requires { key.now.other_primes ≡ length others.now }
-    ensures ok { IfOk result (λ made. held_private_key number_of made ≡ private_key key.now others.now) }
+    others: &'a [OtherPrime<'a>],
+) -> pkcs1::Result<GivenKey<'a>>
+    ensures ok { IfOk result (λ made. held_given_key made ≡ private_key key.now others.now) }
     ensures held { OnOk result (NoStatus (NumbersError (given_numbers key.now others.now))) }
-    ensures err { let numbers = given_numbers key.now others.now in
-        IfErr result (λ e. status_of e ≢ OUT_OF_MEMORY → NumbersError numbers (status_of e)) }
-    ensures memory { IfErr result (λ e. status_of e ≡ OUT_OF_MEMORY → MayRunOutOfMemory key.now others.now) }
+    ensures err { let numbers = given_numbers key.now others.now in IfErr result (λ e. NumbersError numbers (status_of e)) }
 {
-    Ok(RsaPrivateKey {
+    Ok(GivenKey {
         modulus: number(key.modulus)?,
         public_exponent: number(key.public_exponent)?,
         private_exponent: number(key.private_exponent)?,
@@ -201,33 +210,28 @@ fn from_c_key<'a>(
         exponent1: number(key.exponent1)?,
         exponent2: number(key.exponent2)?,
         coefficient: number(key.coefficient)?,
-        other_prime_infos: from_c_other_primes(alloc, others)?,
+        other_prime_infos: GivenPrimes::of(others)?,
     })
 }
 
-/// Writes the encoding of a private key to the front of `out`. Returns 0, with its length in `len`, or `NO_ROOM`, with
-/// the needed length in `len`. Any other status: the other primes aren't as many as the struct says, a number has no
-/// byte, or it or the encoding passes the limit; or no memory was found for other primes. Memory is allocated only for
-/// these, and freed before the call returns.
+/// Writes the encoding of a private key to the front of `out`, and allocates nothing. Returns 0, with its length in
+/// `len`, or `NO_ROOM`, with the needed length in `len`. Any other status: the other primes aren't as many as the struct
+/// says, a number has no byte, or it or the encoding passes the limit.
 #[unsafe(no_mangle)]
 pub extern "C" fn pkcs1_c_private_key_encode(
-    alloc: Global,
     key: &PrivateKey<'_>,
     others: &[OtherPrime<'_>],
     out: &mut [u8],
     len: &mut usize,
 ) -> u32
-    ensures writes { result ≢ OUT_OF_MEMORY
-        → let Encoding = If (HasPrivateNumbers key.now others.now) PrivateKeyEncoding in
+    ensures writes { let Encoding = If (HasPrivateNumbers key.now others.now) PrivateKeyEncoding in
         WritesOrTells Encoding (private_key key.now others.now) out.old out.new len.old len.new result }
-    ensures exact { result ≢ OUT_OF_MEMORY → IsErrorOf (PrivateKeyError key.now others.now (length out.old)) result }
-    ensures memory { result ≡ OUT_OF_MEMORY
-        → MayRunOutOfMemory key.now others.now × (out.new ≡ out.old) × (len.new ≡ len.old) }
+    ensures exact { IsErrorOf (PrivateKeyError key.now others.now (length out.old)) result }
 {
     if key.other_primes != others.len() {
         return OTHER_PRIMES;
     }
-    match from_c_key(alloc, key, others) {
+    match from_c_key(key, others) {
         Ok(key) => write_encoding(&key, out, len),
         Err(failure) => status(&failure),
     }

@@ -98,9 +98,6 @@ impl fmt::Debug for OtherPrime<'_> {
     }
 }
 
-/// Other primes that the first decoding places. OpenSSL makes no more.
-pub(crate) type FewPrimes<'a> = [raw::OtherPrime<'a>; 3];
-
 /// A private key (RFC 8017 A.1.2) with two primes or more. `Debug` prints only its public half, and it can't be
 /// compared.
 #[derive(Clone)]
@@ -142,29 +139,29 @@ impl<'a> PrivateKey<'a> {
     /// The slice isn't one whole encoding of a private key. `Error::VALUE`: it is a public key, perhaps. For a key of
     /// more than two primes also `Error::OUT_OF_MEMORY`.
     pub fn from_der(der: &'a [u8]) -> Result<PrivateKey<'a>, Error> {
-        let mut few = FewPrimes::default();
-        let key = raw::private_key(der, &mut few)?;
-        PrivateKey::seen(der, &key, &few)
+        let (key, listed) = raw::private_key(der)?;
+        PrivateKey::seen(&key, listed)
     }
 
     /// The public half of the private key in `der`. Its other primes are counted, not listed.
     pub(crate) fn public_half(der: &'a [u8]) -> Result<PublicKey<'a>, Error> {
-        let key = raw::private_key(der, &mut [])?;
+        let (key, _listed) = raw::private_key(der)?;
         Ok(PublicKey { modulus: key.modulus.get(), public_exponent: key.public_exponent.get() })
     }
 
-    /// The key that the library decoded from `der`, with its other primes: those in `few`, or if there are more, those
-    /// that decoding it again gives.
-    pub(crate) fn seen(der: &'a [u8], key: &raw::PrivateKey<'a>, few: &FewPrimes<'a>) -> Result<PrivateKey<'a>, Error> {
+    /// The key that the library decoded, with its other primes.
+    pub(crate) fn seen(key: &raw::PrivateKey<'a>, listed: raw::ListedPrimes<'a>) -> Result<PrivateKey<'a>, Error> {
+        let mut few = [raw::OtherPrime::default(); 3]; // OpenSSL makes no more
+        let mut many = Vec::new();
         let count = key.other_primes;
-        let listed = |others: &[raw::OtherPrime<'a>]| collected(count, others.iter().map(OtherPrime::seen));
-        let other_primes = if let Some(others) = few.get(..count) {
-            listed(others)?
+        let others = if let Some(others) = few.get_mut(..count) {
+            others
         } else {
-            let mut others = collected(count, core::iter::repeat_n(raw::OtherPrime::default(), count))?;
-            raw::private_key(der, &mut others)?;
-            listed(&others)?
+            many = collected(count, core::iter::repeat_n(raw::OtherPrime::default(), count))?;
+            &mut many
         };
+        listed.place(others);
+        let other_primes = collected(count, others.iter().map(OtherPrime::seen))?;
         Ok(PrivateKey {
             modulus: key.modulus.get(),
             public_exponent: key.public_exponent.get(),

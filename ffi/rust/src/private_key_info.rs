@@ -1,5 +1,4 @@
 use crate::encode::Writes;
-use crate::keys::FewPrimes;
 use crate::raw::{self, Bytes, Encode};
 use crate::{Error, PrivateKey};
 use core::fmt;
@@ -32,10 +31,9 @@ impl<'a> PrivateKeyInfo<'a> {
     ///
     /// The slice isn't one whole encoding of a container with an RSA key, or `Error::OUT_OF_MEMORY`.
     pub fn from_der(der: &'a [u8]) -> Result<PrivateKeyInfo<'a>, Error> {
-        let mut few = FewPrimes::default();
-        let (info, key) = raw::private_key_info(der, &mut few)?;
+        let (info, key, listed) = raw::private_key_info(der)?;
         let private_key_der = info.private_key.get();
-        let private_key = PrivateKey::seen(private_key_der, &key, &few)?;
+        let private_key = PrivateKey::seen(&key, listed)?;
         let attributes = info.has_attributes.then(|| info.attributes.get());
         Ok(PrivateKeyInfo { private_key_der, private_key, attributes })
     }
@@ -74,7 +72,7 @@ impl<'a> PrivateKeyInfo<'a> {
 
     /// Where the key of the container in `der` stands.
     pub(crate) fn place_of_key(der: &[u8]) -> Result<Range<usize>, Error> {
-        let (info, _key) = raw::private_key_info(der, &mut [])?;
+        let (info, _key, _listed) = raw::private_key_info(der)?;
         let key = info.private_key.get();
         let start = key.as_ptr() as usize - der.as_ptr() as usize;
         Ok(start..start + key.len())

@@ -170,9 +170,9 @@ unsafe extern "C" {
         der: *const u8,
         len: usize,
         key: &mut PrivateKey<'a>,
-        others: *mut OtherPrime<'a>,
-        room: usize,
+        listed: &mut Bytes<'a>,
     ) -> u32;
+    fn pkcs1_c_other_primes<'a>(listed: *const u8, len: usize, others: *mut OtherPrime<'a>, room: usize);
     fn pkcs1_c_private_key_encode(
         key: &PrivateKey<'_>,
         others: *const OtherPrime<'_>,
@@ -186,8 +186,7 @@ unsafe extern "C" {
         len: usize,
         info: &mut PrivateKeyInfo<'a>,
         key: &mut PrivateKey<'a>,
-        others: *mut OtherPrime<'a>,
-        room: usize,
+        listed: &mut Bytes<'a>,
     ) -> u32;
     fn pkcs1_c_bit_len(number: *const u8, number_len: usize) -> u64;
     fn pkcs1_c_algorithm_is(algorithm: &Algorithm<'_>, oid: *const u8, oid_len: usize) -> bool;
@@ -204,26 +203,34 @@ pub fn bit_len(number: &[u8]) -> u64 {
     unsafe { pkcs1_c_bit_len(number.as_ptr(), number.len()) }
 }
 
-/// Decodes a key, and puts its first other primes into `others`, as many as fit.
-pub fn private_key<'a>(der: &'a [u8], others: &mut [OtherPrime<'a>]) -> Result<PrivateKey<'a>, Error> {
-    let mut key = PrivateKey::default();
-    // SAFETY: pointers and lengths of slices, the first of which lives as long as the result.
-    let status =
-        unsafe { pkcs1_c_private_key_decode(der.as_ptr(), der.len(), &mut key, others.as_mut_ptr(), others.len()) };
-    answer(status, key)
+/// The encodings of the other primes of a key that was decoded, one behind the other.
+#[derive(Clone, Copy)]
+pub struct ListedPrimes<'a>(&'a [u8]);
+
+impl<'a> ListedPrimes<'a> {
+    /// Puts the first of them into `others`, as many as fit.
+    pub fn place(self, others: &mut [OtherPrime<'a>]) {
+        let ListedPrimes(listed) = self;
+        // SAFETY: pointers and lengths of slices, the first of which lives as long as what is placed.
+        unsafe { pkcs1_c_other_primes(listed.as_ptr(), listed.len(), others.as_mut_ptr(), others.len()) }
+    }
 }
 
-/// Decodes a container and the key in it, and puts the key's first other primes into `others`, as many as fit.
-pub fn private_key_info<'a>(
-    der: &'a [u8],
-    others: &mut [OtherPrime<'a>],
-) -> Result<(PrivateKeyInfo<'a>, PrivateKey<'a>), Error> {
-    let (mut info, mut key) = (PrivateKeyInfo::default(), PrivateKey::default());
+/// Decodes a key, and lists its other primes.
+pub fn private_key(der: &[u8]) -> Result<(PrivateKey<'_>, ListedPrimes<'_>), Error> {
+    let (mut key, mut listed) = (PrivateKey::default(), Bytes::default());
+    // SAFETY: pointer and length of one slice, which lives as long as the result.
+    let status = unsafe { pkcs1_c_private_key_decode(der.as_ptr(), der.len(), &mut key, &mut listed) };
+    answer(status, (key, ListedPrimes(listed.get())))
+}
+
+/// Decodes a container and the key in it, and lists the key's other primes.
+pub fn private_key_info(der: &[u8]) -> Result<(PrivateKeyInfo<'_>, PrivateKey<'_>, ListedPrimes<'_>), Error> {
+    let (mut info, mut key, mut listed) = (PrivateKeyInfo::default(), PrivateKey::default(), Bytes::default());
     // SAFETY: as above.
-    let status = unsafe {
-        pkcs1_c_private_key_info_decode(der.as_ptr(), der.len(), &mut info, &mut key, others.as_mut_ptr(), others.len())
-    };
-    answer(status, (info, key))
+    let status =
+        unsafe { pkcs1_c_private_key_info_decode(der.as_ptr(), der.len(), &mut info, &mut key, &mut listed) };
+    answer(status, (info, key, ListedPrimes(listed.get())))
 }
 
 impl Encode for (PrivateKey<'_>, &[OtherPrime<'_>]) {

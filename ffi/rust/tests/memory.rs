@@ -66,7 +66,7 @@ fn out_of_memory_is_reported() {
     assert_eq!(requests(|| OaepParams::default().to_buf()), 1);
     assert_eq!(requests(|| OaepParams::default().to_algorithm_der()), 1);
     assert_eq!(requests(|| key.to_buf()), 1);
-    // A list for each decoding: up to three other primes are decoded once.
+    // Up to three other primes need one list, and more of them two.
     for (count, lists) in [(1, 1), (3, 1), (4, 2)] {
         let other_primes = vec![long_key.other_primes[0]; count];
         let der = PrivateKey { other_primes, ..long_key.clone() }.to_der().unwrap();

@@ -9,11 +9,11 @@ use Rattle.der_core.specs.Laws.Printed.Alike.{tagged_alike}
 use Rattle.der_core.specs.Printed.{ReadsAlike, ReadsFrontAlike}
 use Rattle.der_core.specs.Readings.{FrontReading, Reading, ended, front_done, made, no_parts, tagged, ◌>>=◌}
 use Rattle.der_core.specs.Tags as tags
-use Rattle.pkcs1.specs.KeyReadings.{agreed, crt_read, front_read, key_from, last_others, lists_none, of_other_parts}
+use Rattle.pkcs1.specs.KeyReadings.{agreed, front_read, key_from, lists_none, of_other_parts}
 use Rattle.pkcs1.specs.KeyReadings.{of_public_parts, other_read, others_read, primes_read, private_key_read}
 use Rattle.pkcs1.specs.KeyReadings.{public_key_read, version_read}
 use Rattle.pkcs1.specs.Keys.{OtherPrime, version_of}
-use Rattle.pkcs1.specs.PrintedKeys.{crt_as, front_as, other_as, others_as, private_as, public_as}
+use Rattle.pkcs1.specs.PrintedKeys.{front_as, other_as, others_as, private_as, public_as}
 
 -- The version of a key, and whether its list of other primes is empty.
 abbrev Primes : Type 0 → Type 0
@@ -47,16 +47,6 @@ module _ {S V : Type 0} {at : FrontReading S} {means : S → V} {old : FrontRead
 
   pub primes_alike : ReadsAlike (primes_read at) (map (other_as means)) (primes_read old)
   primes_alike = items_alike (tagged_alike other_alike tags.sequence)
-
-  -- The list as a last part, and the end of the row of a private key.
-  pub last_others_alike : ReadsAlike (last_others at) (others_as means) (last_others old)
-  last_others_alike =
-      such_alike (alone_alike (optional_alike (tagged_alike primes_alike tags.sequence) 48))
-      (λ primes. not (lists_none primes)) (λ primes. not (lists_none primes)) (Value tags.sequence)
-      (λ primes. ap not (sym (lists_as means primes)))
-
-  pub crt_alike : ReadsAlike (crt_read at) (crt_as means) (crt_read old)
-  crt_alike = row_alike law (row_alike law (row_alike law last_others_alike))
 
   -- The list behind a version.
   agreed_alike : (v : ℕ) (primes : Primes S)

@@ -16,10 +16,8 @@ use Rattle.der_core.specs.Tags as tags
 use Rattle.pkcs1.specs.KeyReadings.{agreed, front_read, key_from, lists_none, others_read, private_key_read}
 use Rattle.pkcs1.specs.Keys.{Eight, OtherPrime, PrivateKey, front_parts, key_numbers, private_parts}
 use Rattle.pkcs1.specs.Keys.{version_of}
-use Rattle.pkcs1.specs.Laws.KeysAlike.{version_as}
 use Rattle.pkcs1.specs.Laws.PrintedNumbers.{version_law}
 use Rattle.pkcs1.specs.Laws.PrintedRows.{are_some, primes_law, some_listed}
-use Rattle.pkcs1.specs.PrintedKeys.{private_as}
 use Rattle.pkcs1.specs.Printing.{AreSome, FrontIsValid, OtherIsValid, PrivateIsValid, front_printed, others_printed}
 use Rattle.pkcs1.specs.Printing.{private_printed, private_row_printed}
 use Rattle.standard.specs.Statement.{IfPresent, integer}
@@ -81,16 +79,6 @@ private_row printed key =
     append_assoc version (concat (map printed (key_numbers key))) (others_printed printed key.other_prime_infos)
     ∙ ap (λ bytes. version ++ bytes)
     (joined_before printed (key_numbers key) (others_printed printed key.other_prime_infos))
-
--- What is printed of the spelling of a key, as the row of its version and the spellings of its parts.
-pub spelled_row : {N S : Type 0} (spell : N → S) (printed : S → List ℕ) (key : PrivateKey N) (version : ℕ)
-    → version ≡ version_of key.other_prime_infos
-    → private_printed printed (private_as spell key)
-    ≡ private_row_printed printed (version, (private_parts (private_as spell key)).1)
-spelled_row spell printed key version is =
-    private_row printed (private_as spell key)
-    ∙ ap (λ v. private_row_printed printed (v, (private_parts (private_as spell key)).1))
-    (version_as spell key.other_prime_infos ∙ sym is)
 
 -- == Private keys ==
 version_small : {N : Type 0} (primes : Primes N) → version_of primes < 2

@@ -10,11 +10,11 @@ use Rattle.der_core.specs.Laws.Tells.{is_value}
 use Rattle.der_core.specs.Printed.{ReadsFrontPrinted, ReadsPrinted}
 use Rattle.der_core.specs.Readings.{FrontReading}
 use Rattle.der_core.specs.Tags as tags
-use Rattle.pkcs1.specs.KeyReadings.{crt_read, last_others, lists_none, of_other_parts, of_public_parts, other_read}
+use Rattle.pkcs1.specs.KeyReadings.{lists_none, of_other_parts, of_public_parts, other_read}
 use Rattle.pkcs1.specs.KeyReadings.{primes_read, public_key_read}
 use Rattle.pkcs1.specs.Keys.{OtherPrime, other_parts, public_parts}
-use Rattle.pkcs1.specs.Printing.{AreSome, CrtIsValid, OtherIsValid, OthersAreValid, PublicIsValid, crt_printed}
-use Rattle.pkcs1.specs.Printing.{other_printed, others_printed, primes_printed, public_printed}
+use Rattle.pkcs1.specs.Printing.{AreSome, OtherIsValid, PublicIsValid}
+use Rattle.pkcs1.specs.Printing.{other_printed, primes_printed, public_printed}
 
 -- A list that is there isn't empty.
 pub some_listed : {N : Type 0} (primes : Option (List (OtherPrime N))) → AreSome primes → lists_none primes ≡ false
@@ -27,14 +27,6 @@ are_some None none = tt
 are_some (Some []) none = cc
 are_some (Some (x ∷ xs)) none = omega arith
 
-not_true : (b : Bool) → not b ≡ true → b ≡ false
-not_true true e = cc
-not_true false e = refl
-
-not_false : (b : Bool) → b ≡ false → not b ≡ true
-not_false true e = cc
-not_false false e = refl
-
 module _ {N : Type 0} {valid : N → Type 0} {printed : N → List ℕ} {at : FrontReading N}
     (law : ReadsFrontPrinted valid printed at) where
   pub public_law : ReadsPrinted (PublicIsValid valid) (public_printed printed) (public_key_read at)
@@ -46,13 +38,3 @@ module _ {N : Type 0} {valid : N → Type 0} {printed : N → List ℕ} {at : Fr
 
   pub primes_law : ReadsPrinted (AllByRecursion (OtherIsValid valid)) (primes_printed printed) (primes_read at)
   primes_law = items_law (tagged_law other_law tags.sequence) (tagged_some (other_printed printed) 48)
-
-  -- The list as a last part, and the end of the row of a private key.
-  pub last_others_law : ReadsPrinted (OthersAreValid valid) (others_printed printed) (last_others at)
-  last_others_law =
-      such_law (last_by_tag_law primes_law tags.sequence) AreSome (λ primes. not (lists_none primes)) _
-      (λ primes e. are_some primes (not_true (lists_none primes) e))
-      (λ primes some. not_false (lists_none primes) (some_listed primes some)) (is_value refl)
-
-  pub crt_law : ReadsPrinted (CrtIsValid valid) (crt_printed printed) (crt_read at)
-  crt_law = row_law law (row_law law (row_law law last_others_law))

@@ -62,13 +62,13 @@ pub private_itself : {N : Type 0} (key : PrivateKey N) → private_as (λ n. n) 
 private_itself key = ap (key_from (eight_numbers key tt)) (others_itself key.other_prime_infos)
 
 -- What is printed of them.
-abbrev other_encoded : standard.OtherPrime → List ℕ
+abbrev pub other_encoded : standard.OtherPrime → List ℕ
 other_encoded o = sequence (integers (o.prime ∷ o.exponent ∷ o.coefficient ∷ []))
 
-abbrev encoded : OtherPrime ℕ → List ℕ
+abbrev pub encoded : OtherPrime ℕ → List ℕ
 encoded other = sequence (other_printed standard.integer other)
 
-listed_printed : (others : List (OtherPrime ℕ)) → map other_encoded (map other_stated others) ≡ map encoded others
+pub listed_printed : (others : List (OtherPrime ℕ)) → map other_encoded (map other_stated others) ≡ map encoded others
 listed_printed [] = refl
 listed_printed (other ∷ others) = ap (λ rest. encoded other ∷ rest) (listed_printed others)
 

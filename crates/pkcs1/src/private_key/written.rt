@@ -1,105 +1,55 @@
-//! A private key as it is written: the ends of its row of parts, as rows of their own. The compiler takes rows of seven
-//! parts at most.
-ghost use Rattle.std.specs.Prelude.{List, Option};
-ghost use Rattle.pkcs1.specs.Words.{CrtIsValid, CrtRow, OtherPrime, OthersAreValid, crt_alike, crt_as, crt_law};
-ghost use Rattle.pkcs1.specs.Words.{crt_parts, crt_printed, crt_read, crt_shortest, last_others, last_others_alike};
-ghost use Rattle.pkcs1.specs.Words.{last_others_law, others_as, others_of, others_printed, others_shortest};
-ghost use Rattle.pkcs1.specs.Words.{private_key_with};
+//! A private key as it is written: a row of its parts. The compiler takes rows of seven parts at most, so the end of the
+//! row is a type of its own.
+ghost use Rattle.std.specs.Prelude.{◌≡◌, ◌≤◌, Option, length};
+ghost use Rattle.der_core.specs.Words.{Appends, Counts, Prepends, free_of, last, last_alike, last_law, last_shortest};
+ghost use Rattle.der_core.specs.Words.{limit, parts, row_alike, row_law, row_shortest};
+ghost use Rattle.pkcs1.specs.Words.{CrtRowIsValid, RowIsValid, Three, crt_row, crt_row_as, crt_row_printed, key_row};
+ghost use Rattle.pkcs1.specs.Words.{parts_row, row_as, row_printed};
 
-use super::RsaPrivateKey;
-use super::other_prime_info::{OtherPrimeInfos, lists_none};
+use super::PrivateKeyOf;
 use der_core::{
-    BackWriter, Borrowed, Contents, Encode, EncodeValue, Encoding, Error, ErrorKind, Last, Length,
-    Result, Tag, Writer,
+    BackWriter, Borrowed, Contents, Encode, EncodeValue, Encoding, Last, Length, Result, Writer,
 };
-
-/// The other primes of a private key, if there are any.
-#[derive(Drop)]
-struct OthersPart<'b, U>(&'b Option<OtherPrimeInfos<U>>);
-
-impl<'b, U: Encoding> Contents for OthersPart<'b, U> {
-    ghost Value = { Option (List (OtherPrime U.Value)) };
-
-    ghost value = { λ part. others_of U.value part.0.now };
-
-    ghost Spelling = { Option (List (OtherPrime U.Spelling)) };
-
-    ghost means = { others_as U.means };
-
-    ghost written = { others_as U.written };
-
-    ghost valid = { OthersAreValid U.valid };
-
-    ghost printed = { others_printed U.printed };
-
-    ghost read_spelling = { last_others U.read_spelling };
-
-    ghost read = { last_others U.read_front };
-
-    ghost law = { last_others_law U.law };
-
-    ghost shortest = { others_shortest U.shortest };
-
-    ghost reads_alike = { last_others_alike U.reads_alike };
-}
-
-impl<'b, U: Encode> EncodeValue for OthersPart<'b, U> {
-    #[inline(always)]
-    fn value_len(&self) -> Result<Length> {
-        if lists_none(self.0) {
-            return Err(Error::new(ErrorKind::Value { tag: Tag::SEQUENCE }));
-        }
-        Last::borrowed(self.0).value_len()
-    }
-
-    #[inline(always)]
-    fn append_value<W: Writer>(&self, writer: &mut W) -> Result<()> {
-        Last::borrowed(self.0).append_value(writer)
-    }
-
-    #[inline(always)]
-    fn prepend_value(&self, writer: &mut BackWriter<'_>) {
-        Last::borrowed(self.0).prepend_value(writer);
-    }
-}
 
 /// What follows the two primes of a private key: their exponents, the coefficient, and the other primes.
 #[derive(Drop)]
-pub(crate) struct CrtParts<'b, U>(pub(crate) &'b RsaPrivateKey<U>);
+struct CrtParts<'b, U, O>(&'b PrivateKeyOf<U, O>);
 
-impl<'b, U: Encoding> Contents for CrtParts<'b, U> {
-    ghost Value = { CrtRow U.Value };
+impl<'b, U: Encoding, O: Encoding> Contents for CrtParts<'b, U, O> {
+    ghost Value = { Three U.Value (Option O.Value) };
 
-    ghost value = { λ parts. crt_parts (private_key_with U.value parts.0.now) };
+    ghost value = { λ parts. crt_row U.value O.value parts.0.now };
 
-    ghost Spelling = { CrtRow U.Spelling };
+    ghost Spelling = { Three U.Spelling (Option O.Spelling) };
 
-    ghost means = { crt_as U.means };
+    ghost means = { crt_row_as U.means O.means };
 
-    ghost written = { crt_as U.written };
+    ghost written = { crt_row_as U.written O.written };
 
-    ghost valid = { CrtIsValid U.valid };
+    ghost valid = { CrtRowIsValid U.valid O.valid };
 
-    ghost printed = { crt_printed U.printed };
+    ghost printed = { crt_row_printed U.printed O.printed };
 
-    ghost read_spelling = { crt_read U.read_spelling };
+    ghost read_spelling = { let at = U.read_spelling in parts at (parts at (parts at (last O.read_spelling))) };
 
-    ghost read = { crt_read U.read_front };
+    ghost read = { let at = U.read_front in parts at (parts at (parts at (last O.read_front))) };
 
-    ghost law = { crt_law U.law };
+    ghost law = { row_law U.law (row_law U.law (row_law U.law (last_law O.law O.some))) };
 
-    ghost shortest = { crt_shortest U.shortest };
+    ghost shortest = { let law = U.shortest in
+        row_shortest law (row_shortest law (row_shortest law (last_shortest O.shortest))) };
 
-    ghost reads_alike = { crt_alike U.reads_alike };
+    ghost reads_alike = { let law = U.reads_alike in
+        row_alike law (row_alike law (row_alike law (last_alike O.reads_alike))) };
 }
 
-impl<'b, U: Encode> EncodeValue for CrtParts<'b, U> {
+impl<'b, U: Encode, O: Encode> EncodeValue for CrtParts<'b, U, O> {
     #[inline(always)]
     fn value_len(&self) -> Result<Length> {
         let key = self.0;
         let last = (
             Borrowed(&key.coefficient),
-            OthersPart(&key.other_prime_infos),
+            Last::borrowed(&key.other_prime_infos),
         );
         (Borrowed(&key.exponent1), (Borrowed(&key.exponent2), last)).value_len()
     }
@@ -109,7 +59,7 @@ impl<'b, U: Encode> EncodeValue for CrtParts<'b, U> {
         let key = self.0;
         let last = (
             Borrowed(&key.coefficient),
-            OthersPart(&key.other_prime_infos),
+            Last::borrowed(&key.other_prime_infos),
         );
         (Borrowed(&key.exponent1), (Borrowed(&key.exponent2), last)).append_value(writer)
     }
@@ -119,8 +69,85 @@ impl<'b, U: Encode> EncodeValue for CrtParts<'b, U> {
         let key = self.0;
         let last = (
             Borrowed(&key.coefficient),
-            OthersPart(&key.other_prime_infos),
+            Last::borrowed(&key.other_prime_infos),
         );
         (Borrowed(&key.exponent1), (Borrowed(&key.exponent2), last)).prepend_value(writer);
+    }
+}
+
+/// The parts of a private key in a row.
+type KeyRow<'b, U, O> = (
+    u8,
+    (
+        Borrowed<'b, U>,
+        (
+            Borrowed<'b, U>,
+            (
+                Borrowed<'b, U>,
+                (Borrowed<'b, U>, (Borrowed<'b, U>, CrtParts<'b, U, O>)),
+            ),
+        ),
+    ),
+);
+
+impl<U: Encoding, O: Encoding> PrivateKeyOf<U, O> {
+    /// The key's parts in a row.
+    #[inline(always)]
+    fn row(&self) -> KeyRow<'_, U, O>
+        ensures { parts_row U.value O.value result ≡ key_row U.value O.value self.now }
+    {
+        let prime1 = (
+            Borrowed(&self.prime1),
+            (Borrowed(&self.prime2), CrtParts(self)),
+        );
+        let public_exponent = (
+            Borrowed(&self.public_exponent),
+            (Borrowed(&self.private_exponent), prime1),
+        );
+        (
+            self.version().into(),
+            (Borrowed(&self.modulus), public_exponent),
+        )
+    }
+}
+
+/// For types of other primes of one's own: a key is written as its row, whatever holds them. An empty list of them is
+/// written as one.
+impl<U: Encode, O: Encode> PrivateKeyOf<U, O> {
+    /// The length of the contents.
+    #[inline(always)]
+    pub fn row_len(&self) -> Result<Length>
+        ensures { let s = row_as U.written O.written (key_row U.value O.value self.now) in
+            Counts (RowIsValid U.valid O.valid s) (row_printed U.printed O.printed s) result }
+    {
+        self.row().value_len()
+    }
+
+    /// Appends the contents, which have at most `Length::MAX` octets: `NoRoom` after a beginning of them.
+    #[inline(always)]
+    pub fn append_row<W: Writer>(&self, writer: &mut W) -> Result<()>
+        requires has { RowIsValid U.valid O.valid (row_as U.written O.written (key_row U.value O.value self.now)) }
+        requires fits { let s = row_as U.written O.written (key_row U.value O.value self.now) in
+            length (row_printed U.printed O.printed s) ≤ limit }
+        ensures appends { let s = row_as U.written O.written (key_row U.value O.value self.now) in
+            let octets = row_printed U.printed O.printed s in
+            Appends (RowIsValid U.valid O.valid s) octets W.room W.written writer.old writer.new result }
+        ensures kept { W.keeps writer.old writer.new }
+    {
+        self.row().append_value(writer)
+    }
+
+    /// Writes the contents in front of what is filled.
+    #[inline(always)]
+    pub fn prepend_row(&self, writer: &mut BackWriter<'_>)
+        requires has { RowIsValid U.valid O.valid (row_as U.written O.written (key_row U.value O.value self.now)) }
+        requires fits { let s = row_as U.written O.written (key_row U.value O.value self.now) in
+            length (row_printed U.printed O.printed s) ≤ limit }
+        requires room { let s = row_as U.written O.written (key_row U.value O.value self.now) in
+            length (row_printed U.printed O.printed s) ≤ free_of writer.old }
+        ensures { let s = row_as U.written O.written (key_row U.value O.value self.now) in
+            Prepends (row_printed U.printed O.printed s) writer.old writer.new }
+    {
+        self.row().prepend_value(writer);
     }
 }

@@ -5,7 +5,7 @@ use Rattle.pkcs1_c.proofs.NotWritten.{status_exact}
 use Rattle.pkcs1_c.proofs.private_key.pkcs1_c_private_key_decode.Goals as goal
 
 pub returns-in-Ok-clause-ok : goal.returns-in-Ok-clause-ok
-returns-in-Ok-clause-ok c = λ _. (held_view c.in-Ok.view, c.in-Ok.ensures.read, c.to_c_key.ensures.holds)
+returns-in-Ok-clause-ok c = λ _. (held_view c.in-Ok.view, c.in-Ok.ensures.read, c.to_c_key.ensures, c.to_c_list.ensures)
 
 pub returns-in-Err-clause-exact : goal.returns-in-Err-clause-exact
 returns-in-Err-clause-exact c =

@@ -34,17 +34,17 @@ pub write_encoding-requires : goal.write_encoding-requires
 write_encoding-requires c =
     let key = c.args.key.now in
     let others = c.args.others.now in
-    private_valid key others c.in-Ok.key c.in-Ok.ensures.ok
+    private_valid key others (given_key c.in-Ok.key) c.in-Ok.ensures.ok
 
 pub returns-then-key-others-clause-writes : goal.returns-then-key-others-clause-writes
-returns-then-key-others-clause-writes c = λ _.
+returns-then-key-others-clause-writes c =
     let key = c.args.key.now in
     let others = c.args.others.now in
     refused (If (HasPrivateNumbers key others) PrivateKeyEncoding) (private_key key others) c.args.out.now
     c.args.len.now 21 (omega arith, λ e. omega (arith, e)) (λ bytes p. c.if-key-others.true p.0.0)
 
 pub returns-then-key-others-clause-exact : goal.returns-then-key-others-clause-exact
-returns-then-key-others-clause-exact c = λ _.
+returns-then-key-others-clause-exact c =
     let key = c.args.key.now in
     let others = c.args.others.now in
     let room = length c.args.out.now in
@@ -52,50 +52,40 @@ returns-then-key-others-clause-exact c = λ _.
     (counted_one key others room) (refl, c.if-key-others.true)
 
 pub returns-in-Ok-clause-writes : goal.returns-in-Ok-clause-writes
-returns-in-Ok-clause-writes c = λ _.
+returns-in-Ok-clause-writes c =
     let key = c.args.key.now in
     let others = c.args.others.now in
     held_written PrivateKeyEncoding (private_key key others) PrivateSpells _
-    (private_law key others c.in-Ok.key c.in-Ok.ensures.ok) (HasPrivateNumbers key others)
+    (private_law key others (given_key c.in-Ok.key) c.in-Ok.ensures.ok) (HasPrivateNumbers key others)
     (private_has key others c.if-key-others.false c.in-Ok.ensures.held) c.write_encoding.ensures.writes
 
 pub returns-in-Ok-clause-exact : goal.returns-in-Ok-clause-exact
-returns-in-Ok-clause-exact c = λ _.
+returns-in-Ok-clause-exact c =
     let key = c.args.key.now in
     let others = c.args.others.now in
     let room = length c.args.out.now in
     error_behind (Miscounted key others) (Counted key others room) _ (λ s p. p.1 c.if-key-others.false)
     (error_behind (Unheld key others) (Rest key others room) _ c.in-Ok.ensures.held
     (unwritten_so PrivateKeyEncoding (private_key key others) PrivateSpells _
-    (private_law key others c.in-Ok.key c.in-Ok.ensures.ok) room _ c.write_encoding.ensures.exact))
+    (private_law key others (given_key c.in-Ok.key) c.in-Ok.ensures.ok) room _ c.write_encoding.ensures.exact))
 
 pub returns-in-Err-clause-writes : goal.returns-in-Err-clause-writes
-returns-in-Err-clause-writes c = λ other.
+returns-in-Err-clause-writes c =
     let key = c.args.key.now in
     let others = c.args.others.now in
     let s = c.status.result in
-    let told = c.in-Err.ensures.err (λ e. other (c.status.ensures ∙ e)) in
-    let rejected : Unheld key others s = rw c.status.ensures told in
+    let rejected : Unheld key others s = rw c.status.ensures c.in-Err.ensures.err in
     refused (If (HasPrivateNumbers key others) PrivateKeyEncoding) (private_key key others) c.args.out.now
     c.args.len.now s ((numbers_part (given_numbers key others)).1 s rejected)
     (λ bytes p. private_fits key others p.0 bytes p.1 s rejected)
 
 pub returns-in-Err-clause-exact : goal.returns-in-Err-clause-exact
-returns-in-Err-clause-exact c = λ other.
+returns-in-Err-clause-exact c =
     let key = c.args.key.now in
     let others = c.args.others.now in
     let room = length c.args.out.now in
     let s = c.status.result in
-    let told = c.in-Err.ensures.err (λ e. other (c.status.ensures ∙ e)) in
-    let rejected : Unheld key others s = rw c.status.ensures told in
+    let rejected : Unheld key others s = rw c.status.ensures c.in-Err.ensures.err in
     error_behind (Miscounted key others) (Counted key others room) s (λ t p. p.1 c.if-key-others.false)
     (error_first (Unheld key others) (Rest key others room) s (numbers_part (given_numbers key others))
     (unwritten_one PrivateKeyEncoding (private_key key others) room) rejected)
-
-pub returns-in-Ok-clause-memory : goal.returns-in-Ok-clause-memory
-returns-in-Ok-clause-memory c =
-    λ memory. absurd (no_memory_asked PrivateSpells (private_key_with (number_in number_of) c.in-Ok.key) _ _
-    c.write_encoding.ensures.exact memory)
-
-pub returns-in-Err-clause-memory : goal.returns-in-Err-clause-memory
-returns-in-Err-clause-memory c = λ memory. (c.in-Err.ensures.memory (sym c.status.ensures ∙ memory), refl, refl)

@@ -1,8 +1,18 @@
 use Rattle.std.proofs.Common.{ap, ◌∙◌, refl}
 use Rattle.der_core.specs.declared.error.ErrorKind.TheVariants as kind
 use Rattle.der_core.specs.Laws.Tags.{same_tag}
+use Rattle.pkcs1.specs.PrintedKeys.{private_as}
+use Rattle.pkcs1.specs.PrivateKeyValue.{other_of, private_key_with}
+use Rattle.pkcs1.proofs.KeyRows.{key_counted, listed_some, version_is}
 use Rattle.pkcs1.proofs.private_key.RsaPrivateKeyEncodeValue.value_len.Goals as goal
 
 pub returns-then-lists_none-clause-no_primes : goal.returns-then-lists_none-clause-no_primes
 returns-then-lists_none-clause-no_primes g c =
     λ none. ap (λ e. e.kind) c.new.ensures ∙ ap kind.Value (same_tag _ _ refl)
+
+pub returns-clause-counts : goal.returns-clause-counts
+returns-clause-counts g c =
+    let u = g.U.Encoding in
+    let key = private_as u.written (private_key_with u.value c.args.self.now) in
+    key_counted u.valid u.printed key _ (version_is _ c.args.self.now.other_prime_infos) c.row_len.result
+    (listed_some u.value u.written c.args.self.now.other_prime_infos c.if-lists_none.false) c.row_len.ensures

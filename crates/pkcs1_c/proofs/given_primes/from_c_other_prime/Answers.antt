@@ -1,6 +1,6 @@
 use Rattle.pkcs1_c.specs.Structs.{numbers_of_prime}
 use Rattle.pkcs1_c.proofs.StructErrors.{held_none}
-use Rattle.pkcs1_c.proofs.private_key.from_c_other_prime.Goals as goal
+use Rattle.pkcs1_c.proofs.given_primes.from_c_other_prime.Goals as goal
 
 pub returns-clause-held : goal.returns-clause-held
 returns-clause-held c =

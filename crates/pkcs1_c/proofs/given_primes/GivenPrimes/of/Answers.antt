@@ -1,0 +1,32 @@
+use Rattle.std.proofs.Common.{add-one, ap, sym, subst, List}
+use Rattle.der_core.specs.Writing.{Counts}
+use Rattle.pkcs1_params.proofs.Written.{counts_as}
+use Rattle.pkcs1_params.specs.declared.error.Error.{Error}
+use Rattle.pkcs1_c.specs.PrimeLists.{given_encoded, prime_encoded}
+use Rattle.pkcs1_c.specs.Status.{status_of}
+use Rattle.pkcs1_c.specs.StructErrors.{NumbersError, numbers_of_primes}
+use Rattle.pkcs1_c.proofs.GivenPrimes.{counted_more, given_some}
+use Rattle.pkcs1_c.proofs.NotWritten.{err_handed}
+use Rattle.pkcs1_c.proofs.StructErrors.{others_at, others_held_more}
+use Rattle.pkcs1_c.proofs.given_primes.GivenPrimes.of.Goals as goal
+
+pub loop-other-preserved : goal.loop-other-preserved
+loop-other-preserved c =
+    let one =
+    subst (λ octets. Counts (Unit {0}) octets c.encoded_len.result) (ap prime_encoded c.in_ok-info.ensures.ok)
+    (counts_as _ c.encoded_len.result (λ _. tt) (λ _. (tt, (tt, (tt, tt)))) c.encoded_len.ensures.counted) in
+    record {
+      counted =
+          rw c.joined_len.ensures (counted_more c.args.others.now c.loop-other.other-index _ c.loop-other-test.true _ _
+          c.loop-other.invariant.counted one);
+      held =
+          rw add-one (others_held_more c.args.others.now c.loop-other.other-index _ c.loop-other-test.true
+          c.loop-other.invariant.held c.in_ok-info.ensures.held);
+    }
+
+pub returns-in_err-info-clause-err : goal.returns-in_err-info-clause-err
+returns-in_err-info-clause-err c =
+    err_handed (λ e. NumbersError (numbers_of_primes c.args.others.now) (status_of e)) c.in_err-info.field-0.0 _
+    c.from_residual.ensures.1
+    (others_at c.args.others.now c.loop-other.other-index _ (status_of c.in_err-info.field-0.0)
+    c.loop-other-test.true c.loop-other.invariant.held c.in_err-info.ensures.err)

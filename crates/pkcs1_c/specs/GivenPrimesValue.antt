@@ -1,0 +1,22 @@
+-- The keys that are written of structs that the caller passes.
+use Rattle.std.specs.Prelude.{ℕ, List, map}
+use Rattle.pkcs1.specs.Held.{number_in}
+use Rattle.pkcs1.specs.Keys as keys
+use Rattle.pkcs1.specs.PrivateKeyValue.{key_with}
+use Rattle.pkcs1.specs.StatedKeys.{other_from, private_stated}
+use Rattle.pkcs1.specs.declared.private_key.PrivateKeyOf.{PrivateKeyOf}
+use Rattle.standard.specs.Statement.{PrivateKey}
+use Rattle.pkcs1_c.specs.NumberValue.{number_of}
+use Rattle.pkcs1_c.specs.Structs.{other_prime}
+use Rattle.pkcs1_c.specs.declared.given_number.Number.{Number}
+use Rattle.pkcs1_c.specs.declared.given_primes.GivenPrimes.{GivenPrimes}
+
+-- The other primes.
+abbrev pub given_primes : GivenPrimes → List (keys.OtherPrime ℕ)
+given_primes given = map (λ o. other_from (other_prime o)) given.others.now
+
+abbrev pub given_key : PrivateKeyOf Number GivenPrimes → keys.PrivateKey ℕ
+given_key = key_with (number_in number_of) given_primes
+
+abbrev pub held_given_key : PrivateKeyOf Number GivenPrimes → PrivateKey
+held_given_key key = private_stated (given_key key)

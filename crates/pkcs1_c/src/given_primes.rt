@@ -1,0 +1,173 @@
+//! Other primes that the caller passes, written from the caller's array.
+ghost use Rattle.std.specs.Prelude.{◌≡◌, ◌+◌, ◌≤◌, ◌<◌, length, IsTrue, IfOk, IfErr, OnOk};
+ghost use Rattle.der_core.specs.BackWriters.{Prepends, free_of};
+ghost use Rattle.der_core.specs.Length.{limit};
+ghost use Rattle.der_core.specs.Writing.{Appends};
+ghost use Rattle.pkcs1.specs.Held.{held_other_prime};
+ghost use Rattle.pkcs1_c.specs.NumberValue.{number_of};
+ghost use Rattle.pkcs1_c.specs.PrimeLists.{AreCounted, given_encoded};
+ghost use Rattle.pkcs1_c.specs.Status.{NoStatus, status_of};
+ghost use Rattle.pkcs1_c.specs.StructErrors.{NumbersError, numbers_of_primes};
+ghost use Rattle.pkcs1_c.specs.Structs.{numbers_of_prime, other_prime, other_primes};
+
+use crate::given_number::Number;
+use crate::numbers::number;
+use crate::private_key::OtherPrime;
+use der_core::{
+    BackWriter, Contents, Encode, EncodeValue, Error, ErrorKind, Length, Result, SequenceTag,
+    TaggedBy, Writer, joined_len,
+};
+use pkcs1::OtherPrimeInfo;
+
+/// The other primes of the caller's array: at least one, and each number can be held. Their length is counted once. So
+/// no more octets are written than were counted, even where another thread changes the numbers meanwhile.
+#[derive(Clone, Copy, Drop)]
+pub struct GivenPrimes<'a> {
+    others: &'a [OtherPrime<'a>],
+    len: Result<Length>,
+    ghost some: { 0 < length others.now },
+    ghost held: { NoStatus (NumbersError (numbers_of_primes others.now)) },
+    ghost counted: { AreCounted others.now len },
+}
+
+/// The prime with these numbers.
+#[inline(always)]
+fn from_c_other_prime<'a>(other: &OtherPrime<'a>) -> pkcs1::Result<OtherPrimeInfo<Number<'a>>>
+    ensures ok { IfOk result (λ info. held_other_prime number_of info ≡ other_prime other.now) }
+    ensures held { OnOk result (NoStatus (NumbersError (numbers_of_prime other.now))) }
+    ensures err { IfErr result (λ e. NumbersError (numbers_of_prime other.now) (status_of e)) }
+{
+    Ok(OtherPrimeInfo {
+        prime: number(other.prime)?,
+        exponent: number(other.exponent)?,
+        coefficient: number(other.coefficient)?,
+    })
+}
+
+/// Appends a prime.
+fn append_given<W: Writer>(other: &OtherPrime<'_>, writer: &mut W) -> Result<()>
+    requires held { NoStatus (NumbersError (numbers_of_prime other.now)) }
+    ensures appends { let octets = given_encoded other.now in
+        Appends (Unit {0}) octets W.room W.written writer.old writer.new result }
+    ensures kept { W.keeps writer.old writer.new }
+{
+    match from_c_other_prime(other) {
+        Ok(info) => info.encode(writer),
+        Err(_) => Err(Error::new(ErrorKind::Failed)), // another thread changed the octets
+    }
+}
+
+/// Writes a prime in front of what is filled, and leaves `least` octets free. It is false only if another thread changed
+/// the octets.
+fn prepend_given(other: &OtherPrime<'_>, least: usize, writer: &mut BackWriter<'_>) -> bool
+    requires held { NoStatus (NumbersError (numbers_of_prime other.now)) }
+    requires fits { length (given_encoded other.now) ≤ limit }
+    requires room { length (given_encoded other.now) + least ≤ free_of writer.old }
+    ensures is { IsTrue result }
+    ensures prepends { Prepends (given_encoded other.now) writer.old writer.new }
+{
+    let Ok(info) = from_c_other_prime(other) else {
+        return false;
+    };
+    match info.encoded_len() {
+        Ok(length) if length.to_usize() <= writer.free() - least => {
+            info.prepend(writer);
+            true
+        }
+        _ => false,
+    }
+}
+
+impl<'a> GivenPrimes<'a> {
+    ghost use Rattle.std.specs.Prelude.{map};
+    ghost use Rattle.std.specs.Option.{option_map};
+    ghost use Rattle.pkcs1.specs.StatedKeys.{other_stated};
+    ghost use Rattle.pkcs1_c.specs.GivenPrimesValue.{given_primes};
+
+    /// The primes of the array, or `None` if it is empty; or why the first number that can't be held can't be.
+    #[inline(always)]
+    pub(crate) fn of(others: &'a [OtherPrime<'a>]) -> pkcs1::Result<Option<GivenPrimes<'a>>>
+        ensures ok { IfOk result (λ given. option_map (λ g. map other_stated (given_primes g)) given ≡ other_primes others.now) }
+        ensures held { OnOk result (NoStatus (NumbersError (numbers_of_primes others.now))) }
+        ensures err { IfErr result (λ e. NumbersError (numbers_of_primes others.now) (status_of e)) }
+    {
+        if others.is_empty() {
+            return Ok(None);
+        }
+        let mut len = Ok(Length::ZERO);
+        for other in others {
+            let info = from_c_other_prime(other)?;
+            len = joined_len(len, info.encoded_len());
+        }
+        Ok(Some(GivenPrimes { others, len }))
+    }
+}
+
+impl Contents for GivenPrimes<'_> {
+    ghost use Rattle.std.specs.Prelude.{List, ℕ};
+    ghost use Rattle.std.specs.List.{AllByRecursion};
+    ghost use Rattle.der_core.specs.Laws.Printed.Alike.{alike};
+    ghost use Rattle.der_core.specs.Laws.Printed.Shortest.{one_spelling};
+    ghost use Rattle.pkcs1.specs.KeyReadings.{number, primes_read};
+    ghost use Rattle.pkcs1.specs.Keys as keys;
+    ghost use Rattle.pkcs1.specs.Laws.PrintedNumbers.{integer_law};
+    ghost use Rattle.pkcs1.specs.Laws.PrintedRows.{primes_law};
+    ghost use Rattle.pkcs1.specs.Printing.{AnyNumber, OtherIsValid, primes_printed};
+    ghost use Rattle.pkcs1_c.specs.GivenPrimesValue.{given_primes};
+    ghost use Rattle.standard.specs.Statement.{integer};
+
+    ghost Value = { List (keys.OtherPrime ℕ) };
+
+    ghost value = { given_primes };
+
+    ghost Spelling = { List (keys.OtherPrime ℕ) };
+
+    ghost means = { λ primes. primes };
+
+    ghost written = { λ primes. primes };
+
+    ghost valid = { AllByRecursion (OtherIsValid AnyNumber) };
+
+    ghost printed = { primes_printed integer };
+
+    ghost read_spelling = { primes_read number };
+
+    ghost read = { primes_read number };
+
+    ghost law = { primes_law integer_law };
+
+    ghost shortest = { one_spelling (AllByRecursion (OtherIsValid AnyNumber)) (primes_printed integer) };
+
+    ghost reads_alike = { alike (primes_read number) };
+}
+
+impl TaggedBy for GivenPrimes<'_> {
+    type Marker = SequenceTag;
+}
+
+impl EncodeValue for GivenPrimes<'_> {
+    fn value_len(&self) -> Result<Length> {
+        self.len
+    }
+
+    fn append_value<W: Writer>(&self, writer: &mut W) -> Result<()> {
+        for other in self.others {
+            append_given(other, writer)?;
+        }
+        Ok(())
+    }
+
+    fn prepend_value(&self, writer: &mut BackWriter<'_>) {
+        let Ok(length) = self.len else {
+            return;
+        };
+        let least = writer.free() - length.to_usize();
+        let mut left = self.others.len();
+        while left > 0 {
+            left -= 1;
+            if !prepend_given(&self.others[left], least, writer) {
+                return;
+            }
+        }
+    }
+}
