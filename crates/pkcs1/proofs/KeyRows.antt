@@ -1,7 +1,6 @@
 -- A private key that is written as a row of its parts: the same octets, and valid alike if it lists no empty list.
 use Rattle.std.proofs.Common.{ℕ, List, [], ◌∷◌, map, ◌≡◌, ◌<◌, ◌≤◌, length, refl, sym, subst, ap, ◌∙◌, arith, Option, Some, None, Result}
 use Rattle.std.specs.List.{AllByRecursion}
-use Rattle.std.specs.Option.{option_map}
 use Rattle.std.specs.declared.alloc.Global.{Global}
 use Rattle.std.specs.declared.vec.Vec.{Vec}
 use Rattle.der_core.specs.BackWriters.{Prepends}
@@ -19,10 +18,11 @@ use Rattle.pkcs1.specs.Printing.{AreSome, OtherIsValid, PrivateIsValid, primes_p
 use Rattle.pkcs1_params.proofs.Written.{appends_as, counts_as}
 use Rattle.standard.specs.Statement.{sequence}
 
-pub version_is : {O P : Type 0} (f : O → List (OtherPrime P)) (o : Option O)
-    → version_held o ≡ version_of (option_map f o)
-version_is f None = refl
-version_is f (Some others) = refl
+-- The version that is written.
+pub version_is : {U N M : Type 0} (value : U → N) (f : N → M) (o : Option (Vec (OtherPrimeInfo U) Global))
+    → version_held o ≡ version_of (others_as f (others_of value o))
+version_is value f None = refl
+version_is value f (Some v) = refl
 
 module _ {S : Type 0} (valid : S → Type 0) (printed : S → List ℕ) (key : PrivateKey S) (version : ℕ)
     (is : version ≡ version_of key.other_prime_infos) where

@@ -62,6 +62,15 @@ fn first_other<'a>(bytes: &'a [u8]) -> Result<(OtherPrimeInfo<UintRef<'a>>, &'a 
     Ok((other, rest))
 }
 
+/// The same octets, for a contract that says that they are octets.
+#[inline(always)]
+fn as_octets(bytes: &[u8]) -> &[u8]
+    ensures same { result.now ≡ bytes.now }
+    ensures octets { AreBytes bytes.now }
+{
+    bytes
+}
+
 /// Counts the other primes whose encodings, in a row, are the bytes.
 fn count_others(bytes: &[u8]) -> Result<usize>
     requires { length bytes.now ≤ limit }
@@ -100,10 +109,10 @@ impl<'a> OtherPrimes<'a> {
     }
 
     /// The encodings of the primes that are left, one behind the other: a part of the input.
-    pub fn as_bytes(&self) -> &'a [u8]
-        ensures { result.now ≡ primes_encoded (held_other_primes self.now) }
+    pub fn as_bytes(self) -> &'a [u8]
+        ensures { result.now ≡ primes_encoded (held_other_primes self.entry) }
     {
-        self.bytes
+        as_octets(self.bytes)
     }
 }
 

@@ -7,18 +7,18 @@ pub append_row-requires-clause-has : goal.append_row-requires-clause-has
 append_row-requires-clause-has g c =
     let u = g.U.Encoding in
     let key = private_as u.written (private_key_with u.value c.args.self.now) in
-    row_valid u.valid u.printed key _ (version_is _ c.args.self.now.other_prime_infos) c.requires.has
+    row_valid u.valid u.printed key _ (version_is u.value u.written c.args.self.now.other_prime_infos) c.requires.has
 
 pub append_row-requires-clause-fits : goal.append_row-requires-clause-fits
 append_row-requires-clause-fits g c =
     let u = g.U.Encoding in
     let key = private_as u.written (private_key_with u.value c.args.self.now) in
-    row_fits u.valid u.printed key _ (version_is _ c.args.self.now.other_prime_infos) c.requires.fits
+    row_fits u.valid u.printed key _ (version_is u.value u.written c.args.self.now.other_prime_infos) c.requires.fits
 
 pub returns-clause-appends : goal.returns-clause-appends
 returns-clause-appends g c =
     let u = g.U.Encoding in
     let key = private_as u.written (private_key_with u.value c.args.self.now) in
-    key_appended u.valid u.printed key _ (version_is _ c.args.self.now.other_prime_infos) g.W.Writer.room
+    key_appended u.valid u.printed key _ (version_is u.value u.written c.args.self.now.other_prime_infos) g.W.Writer.room
     g.W.Writer.written c.args.writer.now c.append_row.new.writer c.append_row.result c.requires.has
     c.append_row.ensures.appends

@@ -7,22 +7,22 @@ pub prepend_row-requires-clause-has : goal.prepend_row-requires-clause-has
 prepend_row-requires-clause-has g c =
     let u = g.U.Encoding in
     let key = private_as u.written (private_key_with u.value c.args.self.now) in
-    row_valid u.valid u.printed key _ (version_is _ c.args.self.now.other_prime_infos) c.requires.has
+    row_valid u.valid u.printed key _ (version_is u.value u.written c.args.self.now.other_prime_infos) c.requires.has
 
 pub prepend_row-requires-clause-fits : goal.prepend_row-requires-clause-fits
 prepend_row-requires-clause-fits g c =
     let u = g.U.Encoding in
     let key = private_as u.written (private_key_with u.value c.args.self.now) in
-    row_fits u.valid u.printed key _ (version_is _ c.args.self.now.other_prime_infos) c.requires.fits
+    row_fits u.valid u.printed key _ (version_is u.value u.written c.args.self.now.other_prime_infos) c.requires.fits
 
 pub prepend_row-requires-clause-room : goal.prepend_row-requires-clause-room
 prepend_row-requires-clause-room g c =
     let u = g.U.Encoding in
     let key = private_as u.written (private_key_with u.value c.args.self.now) in
-    row_room u.valid u.printed key _ (version_is _ c.args.self.now.other_prime_infos) c.requires.room
+    row_room u.valid u.printed key _ (version_is u.value u.written c.args.self.now.other_prime_infos) c.requires.room
 
 pub returns : goal.returns
 returns g c =
     let u = g.U.Encoding in
     let key = private_as u.written (private_key_with u.value c.args.self.now) in
-    key_prepended u.valid u.printed key _ (version_is _ c.args.self.now.other_prime_infos) _ _ c.prepend_row.ensures
+    key_prepended u.valid u.printed key _ (version_is u.value u.written c.args.self.now.other_prime_infos) c.args.writer.now c.prepend_row.new.writer c.prepend_row.ensures

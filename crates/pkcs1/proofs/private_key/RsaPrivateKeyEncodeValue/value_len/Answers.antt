@@ -1,4 +1,4 @@
-use Rattle.std.proofs.Common.{ap, ◌∙◌, refl}
+use Rattle.std.proofs.Common.{ap, ◌∙◌, ◌≡◌, false, refl, true}
 use Rattle.der_core.specs.declared.error.ErrorKind.TheVariants as kind
 use Rattle.der_core.specs.Laws.Tags.{same_tag}
 use Rattle.pkcs1.specs.PrintedKeys.{private_as}
@@ -14,5 +14,6 @@ pub returns-clause-counts : goal.returns-clause-counts
 returns-clause-counts g c =
     let u = g.U.Encoding in
     let key = private_as u.written (private_key_with u.value c.args.self.now) in
-    key_counted u.valid u.printed key _ (version_is _ c.args.self.now.other_prime_infos) c.row_len.result
-    (listed_some u.value u.written c.args.self.now.other_prime_infos c.if-lists_none.false) c.row_len.ensures
+    key_counted u.valid u.printed key _ (version_is u.value u.written c.args.self.now.other_prime_infos) c.row_len.result
+    (listed_some u.value u.written c.args.self.now.other_prime_infos
+    (λ none. let e : false ≡ true = rw c.if-lists_none.false at (c.lists_none.ensures.1 none) in cc)) c.row_len.ensures
