@@ -1,5 +1,5 @@
 -- Keys that the caller passes: their numbers can be held if they have an encoding, and what is made of them holds them.
-use Rattle.std.proofs.Common.{ℕ, List, [], ◌∷◌, ◌++◌, ◌≡◌, ◌≤◌, length, length-append, map, subst, sym, ap, arith}
+use Rattle.std.proofs.Common.{ℕ, List, [], ◌∷◌, ◌++◌, ◌≡◌, ◌≤◌, ◌∙◌, length, length-append, map, subst, sym, ap, arith}
 use Rattle.std.proofs.Common.{Bool, true, false, nat_lt}
 use Rattle.std.specs.Prelude.{◌↔◌, slice_index, if◌then◌else◌}
 use Rattle.std.specs.List.{AllByRecursion, concat}
@@ -121,7 +121,15 @@ abbrev pub PublicSpells : keys.PublicKey ℕ → List ℕ → Type 0
 PublicSpells = Spells (PublicIsValid AnyNumber) public_encoding (public_as (λ n. n))
 
 abbrev pub PrivateSpells : keys.PrivateKey ℕ → List ℕ → Type 0
-PrivateSpells = Spells (PrivateIsValid AnyNumber) private_encoding (private_as (λ n. n))
+PrivateSpells = Spells (PrivateIsValid AnyNumber) private_encoding (λ key. key)
+
+-- Its numbers mean themselves.
+same_spelled : (key : keys.PrivateKey ℕ) (bytes : List ℕ) → PrivateSpells key bytes
+    ↔ Spells (PrivateIsValid AnyNumber) private_encoding (private_as (λ n. n)) key bytes
+same_spelled key bytes = (
+  λ (few, (s, is, valid, same)). (few, (s, private_itself s ∙ is, valid, same)),
+  λ (few, (s, is, valid, same)). (few, (s, sym (private_itself s) ∙ is, valid, same)),
+)
 
 pub public_law : (key : PublicKey) (made : RsaPublicKey Number) → held_public_key number_of made ≡ public_key key
     → (bytes : List ℕ)
@@ -134,7 +142,10 @@ pub private_law : (key : PrivateKey) (others : List OtherPrime) (made : keys.Pri
     → private_stated made ≡ private_key key others → (bytes : List ℕ)
     → PrivateSpells made bytes ↔ PrivateKeyEncoding (private_key key others) bytes
 private_law key others made same bytes =
-    subst (λ v. PrivateSpells made bytes ↔ PrivateKeyEncoding v bytes) same (private_spelled made bytes)
+    let itself = same_spelled made bytes in
+    let spelled = private_spelled made bytes in
+    subst (λ v. PrivateSpells made bytes ↔ PrivateKeyEncoding v bytes) same
+    (λ p. spelled.0 (itself.0 p), λ p. itself.1 (spelled.1 p))
 
 is_private : (key : PrivateKey) (others : List OtherPrime) → IsPrivateKey (private_key key others)
 is_private key [] = tt

@@ -1,6 +1,6 @@
 -- Other primes that the caller passes: their encodings are those of the primes with these numbers.
 use Rattle.std.proofs.Common.{ℕ, zero, suc, List, [], ◌∷◌, ◌++◌, ◌≡◌, ◌+◌, ◌-◌, ◌≤◌, ◌<◌, length, take, drop, get_or, map, refl, ap}
-use Rattle.std.proofs.Common.{sym, subst, ◌∙◌, arith, Some, Result}
+use Rattle.std.proofs.Common.{sym, subst, ◌∙◌, arith, Some, Result, Ok, Err}
 use Rattle.std.proofs.lemmas.List.{take_more}
 use Rattle.std.specs.List.{AllByRecursion, concat}
 use Rattle.der_core.proofs.Counting.{counts_joined}
@@ -8,6 +8,8 @@ use Rattle.der_core.proofs.Items.{encodings_around, encodings_behind_len, encodi
 use Rattle.der_core.specs.SequenceOf.{all_encodings}
 use Rattle.der_core.specs.Writing.{Counts, joined}
 use Rattle.der_core.specs.declared.error.Error.{Error}
+use Rattle.der_core.specs.Length.{limit}
+use Rattle.pkcs1_params.proofs.Written.{uncounted_as}
 use Rattle.pkcs1.specs.Printing.{AnyNumber, OtherIsValid, primes_printed}
 use Rattle.pkcs1.specs.StatedKeys.{other_from, other_stated}
 use Rattle.standard.specs.Statement.{integer}
@@ -59,3 +61,35 @@ held_at (o ∷ others) (suc i) d less none =
     λ s p. none s (numbers_before (numbers_of_prime o) (numbers_of_primes others) s p) in
     held_at others i d (omega (arith, less))
     (λ s p. none s (numbers_behind (numbers_of_prime o) (numbers_of_primes others) first s p))
+
+-- What the compiler takes for an element that isn't there.
+abbrev pub nothing : OtherPrime
+nothing = record {
+  prime = record { ref_ptr = (0, 0); now = [] };
+  exponent = record { ref_ptr = (0, 0); now = [] };
+  coefficient = record { ref_ptr = (0, 0); now = [] };
+}
+
+-- One of them and those behind it are no more than all.
+pub behind_fits : (others : List OtherPrime) (left : ℕ) (d : OtherPrime) → 0 < left → left ≤ length others
+    → length (given_encoded (get_or others (left - 1) d)) + length (all_encodings given_encoded (drop left others))
+    ≤ length (all_encodings given_encoded others)
+behind_fits others left d some few =
+    let next : left - 1 + 1 ≡ left = omega (arith, some) in
+    omega (
+      arith,
+      ap (λ k. length (all_encodings given_encoded (drop k others))) next,
+      encodings_behind_len (λ _. Unit {0}) given_encoded others (left - 1) d (omega (arith, some, few)),
+    )
+
+-- They are counted, within the limit.
+pub length_counted : (others : List OtherPrime) (len : Result ℕ Error) (n : ℕ) → AreCounted others len → len ≡ Ok n
+    → n ≡ length (all_encodings given_encoded others)
+length_counted others (Ok m) n counted is = let same : m ≡ n = cc in omega (arith, same, counted.1)
+length_counted others (Err e) n counted is = cc
+
+pub not_uncounted : (others : List OtherPrime) (len : Result ℕ Error) (e : Error) → AreCounted others len → len ≡ Err e
+    → length (all_encodings given_encoded others) ≤ limit → ⊥
+not_uncounted others (Ok n) e counted is fits = cc
+not_uncounted others (Err f) e counted is fits =
+    let many = (uncounted_as (all_encodings given_encoded others) f.kind tt counted).1 in omega (arith, fits, many)

@@ -1,7 +1,10 @@
 -- The encodings of the caller's other primes, and how long they are together.
-use Rattle.std.specs.Prelude.{ℕ, List, [], ◌∷◌, Result}
+use Prim.{IsProp}
+use denote.Struct.Props.{props}
+use Rattle.std.specs.Prelude.{ℕ, List, [], ◌∷◌, Result, Ok, Err}
+use Rattle.der_core.specs.Document.{EncodeError, another, no_encoding, no_room, too_long}
 use Rattle.der_core.specs.SequenceOf.{all_encodings}
-use Rattle.der_core.specs.Writing.{Counts}
+use Rattle.der_core.specs.Writing.{Counts, WhyOctetsNotCounted, encode_error}
 use Rattle.der_core.specs.declared.error.Error.{Error}
 use Rattle.standard.specs.Statement as standard
 use Rattle.standard.specs.Statement.{integers, sequence}
@@ -17,3 +20,13 @@ given_encoded o = prime_encoded (other_prime o)
 
 abbrev pub AreCounted : List OtherPrime → Result ℕ Error → Type 0
 AreCounted others len = Counts (Unit {0}) (all_encodings given_encoded others) len
+
+pub AreCounted-prop : (others : List OtherPrime) (len : Result ℕ Error) → IsProp (AreCounted others len)
+AreCounted-prop others (Ok n) = hlevel props
+AreCounted-prop others (Err e) = go (encode_error e.kind)
+  where
+    go : (k : EncodeError) → IsProp (WhyOctetsNotCounted (Unit {0}) (all_encodings given_encoded others) k)
+    go no_encoding = hlevel props
+    go too_long = hlevel props
+    go no_room = hlevel props
+    go another = hlevel props

@@ -1,7 +1,7 @@
 -- What the structs for C hold, in the words of `Statement.antt`, and what a call that writes says and leaves.
 -- One rule: the function that is named as a struct, in lower case with underscores, gives the value that it holds; of
 -- parameters it ends with `seen`.
-use Rattle.std.specs.Prelude.{ℕ, List, [], ◌∷◌, ◌++◌, ◌≡◌, ◌≢◌, ◌<◌, length, take, map, Option, Some, None}
+use Rattle.std.specs.Prelude.{ℕ, List, [], ◌∷◌, ◌≡◌, ◌≢◌, ◌<◌, length, take, map, Option, Some, None}
 use Rattle.std.specs.Prelude.{false, if◌then◌else◌}
 use Rattle.std.specs.Int.Digits.{number_from_digits}
 use Rattle.std.specs.List.{AllByRecursion}
@@ -156,10 +156,6 @@ octets_of_key v =
 abbrev pub ArePlaced : List OtherPrime → List prime_structs.OtherPrime → Type 0
 ArePlaced others array =
     take (length array) (map octets_of_prime others) ≡ take (length others) (map numbers_of_prime array)
-
--- Octets that don't begin with the encoding of a prime.
-abbrev pub BeginsNoPrime : List ℕ → Type 0
-BeginsNoPrime bytes = (o : OtherPrime) (rest : List ℕ) → bytes ≡ primes_encoded (o ∷ []) ++ rest → ⊥
 
 -- The struct has the octets of the key and tells how many other primes it has.
 abbrev pub HoldsPrivate : key_structs.PrivateKey → PrivateKey → Type 0

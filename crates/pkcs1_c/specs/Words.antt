@@ -7,7 +7,7 @@ pub use Rattle.pkcs1_c.specs.StructErrors.{FieldsError, InfoError, MaskError, Nu
 pub use Rattle.pkcs1_c.specs.StructErrors.{NumbersError, OaepFieldError, OidError, PlainError, PrivateKeyError}
 pub use Rattle.pkcs1_c.specs.StructErrors.{PssFieldError, PublicKeyError, Unwritten, given_numbers, numbers_of_primes}
 pub use Rattle.pkcs1_c.specs.StructErrors.{two_numbers}
-pub use Rattle.pkcs1_c.specs.Structs.{AlgorithmIsTidy, ArePlaced, BeginsNoPrime, DecodesPrivate, HasKey, HasNumbers, HasPrivateNumbers}
+pub use Rattle.pkcs1_c.specs.Structs.{AlgorithmIsTidy, ArePlaced, DecodesPrivate, HasKey, HasNumbers, HasPrivateNumbers}
 pub use Rattle.pkcs1_c.specs.Structs.{Holds, HoldsPrivate, If, InfoIsTidy, MaskGenIsTidy, OaepIsTidy, PssIsTidy}
 pub use Rattle.pkcs1_c.specs.Structs.{WritesOrTells, algorithm_seen, mask_gen_seen, numbers_of_prime, oaep_seen}
 pub use Rattle.pkcs1_c.specs.Structs.{octets_of_prime, other_prime, other_primes, private_key, private_key_info}

@@ -5,7 +5,7 @@ ghost use Rattle.der_core.specs.Length.{limit};
 ghost use Rattle.der_core.specs.Writing.{Appends};
 ghost use Rattle.pkcs1.specs.Held.{held_other_prime};
 ghost use Rattle.pkcs1_c.specs.NumberValue.{number_of};
-ghost use Rattle.pkcs1_c.specs.PrimeLists.{AreCounted, given_encoded};
+ghost use Rattle.pkcs1_c.specs.PrimeLists.{AreCounted, AreCounted-prop, given_encoded};
 ghost use Rattle.pkcs1_c.specs.Status.{NoStatus, status_of};
 ghost use Rattle.pkcs1_c.specs.StructErrors.{NumbersError, numbers_of_primes};
 ghost use Rattle.pkcs1_c.specs.Structs.{numbers_of_prime, other_prime, other_primes};
@@ -27,7 +27,7 @@ pub struct GivenPrimes<'a> {
     len: Result<Length>,
     ghost some: { 0 < length others.now },
     ghost held: { NoStatus (NumbersError (numbers_of_primes others.now)) },
-    ghost counted: { AreCounted others.now len },
+    ghost counted: { AreCounted others.now len } by { AreCounted-prop others.now len },
 }
 
 /// The prime with these numbers.

@@ -6,6 +6,7 @@ mod algorithm;
 mod bytes;
 mod container;
 mod filled;
+mod given_key;
 mod given_number;
 mod given_primes;
 mod numbers;

@@ -1,26 +1,18 @@
 //! Private keys.
-ghost use Rattle.std.specs.Prelude.{length, drop, ◌≡◌, ◌≢◌, ◌≤◌, List, ℕ, ◌++◌, OnOk, IfOk, IfErr, None};
-ghost use Rattle.der_core.specs.Words.{ReadsFront, alike, bytes_of, left_of, limit, one_spelling};
-ghost use Rattle.pkcs1.specs.Words.{AnyNumber, PrivateIsValid, PrivateKey as KeyOf, held_other_prime, held_view};
-ghost use Rattle.pkcs1.specs.Words.{integer_law, next_prime, number as number_at, primes_encoded, private_key_read, private_law};
-ghost use Rattle.pkcs1.specs.Words.{private_printed, rsa_private_key};
-ghost use Rattle.pkcs1_c.specs.Words.{ArePlaced, BeginsNoPrime, DecodesPrivate, HasPrivateNumbers, HoldsPrivate, If};
-ghost use Rattle.pkcs1_c.specs.Words.{IsErrorOf, IsStatusOf, NoStatus, NumbersError, PrivateKeyError, WritesOrTells};
-ghost use Rattle.pkcs1_c.specs.Words.{given_key, given_numbers, held_given_key, listed, numbers_of_prime, octets_of_prime};
-ghost use Rattle.pkcs1_c.specs.Words.{private_key, status_of};
+ghost use Rattle.std.specs.Prelude.{length, drop, ◌≡◌, ◌≢◌, ◌≤◌, List, None};
+ghost use Rattle.der_core.specs.Words.{ReadsFront, bytes_of, left_of, limit};
+ghost use Rattle.pkcs1.specs.Words.{held_other_prime, held_view, next_prime, primes_encoded, rsa_private_key};
+ghost use Rattle.pkcs1_c.specs.Words.{ArePlaced, DecodesPrivate, HasPrivateNumbers, HoldsPrivate, If};
+ghost use Rattle.pkcs1_c.specs.Words.{IsErrorOf, IsStatusOf, PrivateKeyError, WritesOrTells, listed};
+ghost use Rattle.pkcs1_c.specs.Words.{numbers_of_prime, octets_of_prime, private_key};
 ghost use Rattle.standard.specs.Statement.{Decodes, OtherPrime as Prime, PrivateKeyEncoding};
-ghost use Rattle.standard.specs.Statement as standard;
 
 use crate::bytes::Bytes;
-use crate::given_number::Number;
-use crate::given_primes::GivenPrimes;
-use crate::numbers::number;
+use crate::given_key::GivenKey;
 use crate::status::{OK, OTHER_PRIMES, status};
 use crate::written::write_encoding;
-use der_core::{
-    BackWriter, Contents, Decode, EncodeValue, Length, NoMemory, Result, SliceReader, Writer,
-};
-use pkcs1::{OtherPrimeInfo, PrivateKeyOf, RsaPrivateKeyView, UintRef};
+use der_core::{Contents, Decode, NoMemory, Result, SliceReader};
+use pkcs1::{OtherPrimeInfo, RsaPrivateKeyView, UintRef};
 
 /// The numbers of a private key, most significant byte first.
 #[repr(C)]
@@ -130,12 +122,11 @@ fn read_prime<'a>(reader: &mut SliceReader<'a>) -> Result<OtherPrimeInfo<UintRef
     Ok(prime)
 }
 
-/// Puts the primes whose encodings stand in `listed`, one behind the other, into `others`, as many as fit. It stops at
-/// octets that begin no such encoding.
+/// Puts the primes whose encodings are `listed`, one behind the other, into `others`, as many as fit. It stops at octets
+/// that are no such encoding.
 #[unsafe(no_mangle)]
 pub extern "C" fn pkcs1_c_other_primes<'a>(listed: &'a [u8], others: &mut [OtherPrime<'a>])
-    ensures { (primes : List Prime) (rest : List ℕ) → length listed.now ≤ limit
-        → listed.now ≡ primes_encoded primes ++ rest → BeginsNoPrime rest
+    ensures { (primes : List Prime) → length listed.now ≤ limit → listed.now ≡ primes_encoded primes
         → ArePlaced primes others.new × (drop (length primes) others.new ≡ drop (length primes) others.old) }
 {
     let Ok(mut reader) = SliceReader::new(listed) else {
@@ -147,71 +138,6 @@ pub extern "C" fn pkcs1_c_other_primes<'a>(listed: &'a [u8], others: &mut [Other
             Err(_) => return,
         }
     }
-}
-
-/// A key of the caller's numbers.
-type GivenKey<'a> = PrivateKeyOf<Number<'a>, GivenPrimes<'a>>;
-
-impl Contents for GivenKey<'_> {
-    ghost Value = { KeyOf ℕ };
-
-    ghost value = { given_key };
-
-    ghost Spelling = { KeyOf ℕ };
-
-    ghost means = { λ key. key };
-
-    ghost written = { λ key. key };
-
-    ghost valid = { PrivateIsValid AnyNumber };
-
-    ghost printed = { private_printed standard.integer };
-
-    ghost read_spelling = { private_key_read number_at };
-
-    ghost read = { private_key_read number_at };
-
-    ghost law = { private_law integer_law };
-
-    ghost shortest = { one_spelling (PrivateIsValid AnyNumber) (private_printed standard.integer) };
-
-    ghost reads_alike = { alike (private_key_read number_at) };
-}
-
-impl EncodeValue for GivenKey<'_> {
-    fn value_len(&self) -> Result<Length> {
-        self.row().value_len()
-    }
-
-    fn append_value<W: Writer>(&self, writer: &mut W) -> Result<()> {
-        self.row().append_value(writer)
-    }
-
-    fn prepend_value(&self, writer: &mut BackWriter<'_>) {
-        self.row().prepend_value(writer);
-    }
-}
-
-/// The key with these numbers.
-fn from_c_key<'a>(
-    key: &PrivateKey<'a>,
-    others: &'a [OtherPrime<'a>],
-) -> pkcs1::Result<GivenKey<'a>>
-    ensures ok { IfOk result (λ made. held_given_key made ≡ private_key key.now others.now) }
-    ensures held { OnOk result (NoStatus (NumbersError (given_numbers key.now others.now))) }
-    ensures err { let numbers = given_numbers key.now others.now in IfErr result (λ e. NumbersError numbers (status_of e)) }
-{
-    Ok(GivenKey {
-        modulus: number(key.modulus)?,
-        public_exponent: number(key.public_exponent)?,
-        private_exponent: number(key.private_exponent)?,
-        prime1: number(key.prime1)?,
-        prime2: number(key.prime2)?,
-        exponent1: number(key.exponent1)?,
-        exponent2: number(key.exponent2)?,
-        coefficient: number(key.coefficient)?,
-        other_prime_infos: GivenPrimes::of(others)?,
-    })
 }
 
 /// Writes the encoding of a private key to the front of `out`, and allocates nothing. Returns 0, with its length in
@@ -231,7 +157,7 @@ pub extern "C" fn pkcs1_c_private_key_encode(
     if key.other_primes != others.len() {
         return OTHER_PRIMES;
     }
-    match from_c_key(key, others) {
+    match GivenKey::of(key, others) {
         Ok(key) => write_encoding(&key, out, len),
         Err(failure) => status(&failure),
     }

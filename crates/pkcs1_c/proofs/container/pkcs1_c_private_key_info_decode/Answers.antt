@@ -18,7 +18,8 @@ returns-in-Ok-clause-key c = λ _.
       held_view c.in-Ok.view,
       subst (λ b. Decodes PrivateKeyEncoding b (Some (held_view c.in-Ok.view))) (sym octets)
           (is, λ other p. only other (rsa, p)),
-      c.to_c_key.ensures.holds,
+      c.to_c_key.ensures,
+      c.to_c_list.ensures,
     )
 
 pub returns-in-Err-clause-exact : goal.returns-in-Err-clause-exact

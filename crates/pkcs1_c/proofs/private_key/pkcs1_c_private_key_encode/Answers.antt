@@ -1,15 +1,13 @@
 use Rattle.std.proofs.Common.{ℕ, List, length, sym, refl, ◌≡◌, ◌∙◌, arith}
-use Rattle.pkcs1.specs.Held.{number_in}
-use Rattle.pkcs1.specs.PrivateKeyValue.{private_key_with}
 use Rattle.standard.specs.Statement.{PrivateKeyEncoding}
 use Rattle.pkcs1_c.specs.declared.private_key.OtherPrime.{OtherPrime}
 use Rattle.pkcs1_c.specs.declared.private_key.PrivateKey.{PrivateKey}
-use Rattle.pkcs1_c.specs.NumberValue.{number_of}
+use Rattle.pkcs1_c.specs.GivenPrimesValue.{given_key}
 use Rattle.pkcs1_c.specs.StructErrors.{Miscounted, NumbersError, PartThen, Unwritten, given_numbers}
 use Rattle.pkcs1_c.specs.Structs.{HasPrivateNumbers, If, private_key}
 use Rattle.pkcs1_c.proofs.GivenKeys.{PrivateSpells, private_fits, private_has, private_law, private_valid}
 use Rattle.pkcs1_c.proofs.StructErrors.{IsOne, IsPart, numbers_part, part_one, unless_part, unwritten_one}
-use Rattle.pkcs1_c.proofs.Writes.{error_behind, error_first, held_written, no_memory_asked, refused, unwritten_so}
+use Rattle.pkcs1_c.proofs.Writes.{error_behind, error_first, held_written, refused, unwritten_so}
 use Rattle.pkcs1_c.proofs.private_key.pkcs1_c_private_key_encode.Goals as goal
 
 module _ (key : PrivateKey) (others : List OtherPrime) where
@@ -34,7 +32,7 @@ pub write_encoding-requires : goal.write_encoding-requires
 write_encoding-requires c =
     let key = c.args.key.now in
     let others = c.args.others.now in
-    private_valid key others (given_key c.in-Ok.key) c.in-Ok.ensures.ok
+    private_valid key others (given_key c.in-Ok.key.0) c.in-Ok.ensures.ok
 
 pub returns-then-key-others-clause-writes : goal.returns-then-key-others-clause-writes
 returns-then-key-others-clause-writes c =
@@ -56,7 +54,7 @@ returns-in-Ok-clause-writes c =
     let key = c.args.key.now in
     let others = c.args.others.now in
     held_written PrivateKeyEncoding (private_key key others) PrivateSpells _
-    (private_law key others (given_key c.in-Ok.key) c.in-Ok.ensures.ok) (HasPrivateNumbers key others)
+    (private_law key others (given_key c.in-Ok.key.0) c.in-Ok.ensures.ok) (HasPrivateNumbers key others)
     (private_has key others c.if-key-others.false c.in-Ok.ensures.held) c.write_encoding.ensures.writes
 
 pub returns-in-Ok-clause-exact : goal.returns-in-Ok-clause-exact
@@ -67,7 +65,7 @@ returns-in-Ok-clause-exact c =
     error_behind (Miscounted key others) (Counted key others room) _ (λ s p. p.1 c.if-key-others.false)
     (error_behind (Unheld key others) (Rest key others room) _ c.in-Ok.ensures.held
     (unwritten_so PrivateKeyEncoding (private_key key others) PrivateSpells _
-    (private_law key others (given_key c.in-Ok.key) c.in-Ok.ensures.ok) room _ c.write_encoding.ensures.exact))
+    (private_law key others (given_key c.in-Ok.key.0) c.in-Ok.ensures.ok) room _ c.write_encoding.ensures.exact))
 
 pub returns-in-Err-clause-writes : goal.returns-in-Err-clause-writes
 returns-in-Err-clause-writes c =

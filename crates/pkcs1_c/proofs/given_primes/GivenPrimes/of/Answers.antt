@@ -1,7 +1,10 @@
-use Rattle.std.proofs.Common.{add-one, ap, sym, subst, List}
+use Rattle.std.proofs.Common.{◌<◌, add-one, ap, arith, length, subst}
+use Rattle.std.proofs.lemmas.Bool.Decides.{nat_tests}
 use Rattle.der_core.specs.Writing.{Counts}
 use Rattle.pkcs1_params.proofs.Written.{counts_as}
 use Rattle.pkcs1_params.specs.declared.error.Error.{Error}
+use Rattle.pkcs1.specs.Held.{held_other_prime}
+use Rattle.pkcs1_c.specs.NumberValue.{number_of}
 use Rattle.pkcs1_c.specs.PrimeLists.{given_encoded, prime_encoded}
 use Rattle.pkcs1_c.specs.Status.{status_of}
 use Rattle.pkcs1_c.specs.StructErrors.{NumbersError, numbers_of_primes}
@@ -14,10 +17,10 @@ pub loop-other-preserved : goal.loop-other-preserved
 loop-other-preserved c =
     let one =
     subst (λ octets. Counts (Unit {0}) octets c.encoded_len.result) (ap prime_encoded c.in_ok-info.ensures.ok)
-    (counts_as _ c.encoded_len.result (λ _. tt) (λ _. (tt, (tt, (tt, tt)))) c.encoded_len.ensures.counted) in
+    (counts_as (prime_encoded (held_other_prime number_of c.in_ok-info.info)) c.encoded_len.result (λ _. tt) (λ _. (tt, (tt, (tt, tt)))) c.encoded_len.ensures.counted) in
     record {
       counted =
-          rw c.joined_len.ensures (counted_more c.args.others.now c.loop-other.other-index _ c.loop-other-test.true _ _
+          rw c.joined_len-len.ensures (counted_more c.args.others.now c.loop-other.other-index _ c.loop-other-test.true _ _
           c.loop-other.invariant.counted one);
       held =
           rw add-one (others_held_more c.args.others.now c.loop-other.other-index _ c.loop-other-test.true
@@ -30,3 +33,8 @@ returns-in_err-info-clause-err c =
     c.from_residual.ensures.1
     (others_at c.args.others.now c.loop-other.other-index _ (status_of c.in_err-info.field-0.0)
     c.loop-other-test.true c.loop-other.invariant.held c.in_err-info.ensures.err)
+
+pub returns-clause-ok : goal.returns-clause-ok
+returns-clause-ok c =
+    let some : 0 < length c.args.others.now = grind (arith, nat_tests, c.is_empty.ensures, c.if-is_empty.false) in
+    given_some c.args.others.now some

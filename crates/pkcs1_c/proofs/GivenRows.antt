@@ -1,0 +1,105 @@
+-- A key that the caller passes, as the row that it is written as.
+use Rattle.std.proofs.Common.{ℕ, List, ◌≡◌, ◌<◌, ◌≤◌, length, map, refl, sym, subst, ap, arith, Option, Some, None, Result}
+use Rattle.std.proofs.lemmas.List.{length-map}
+use Rattle.std.specs.List.{AllByRecursion}
+use Rattle.std.specs.Option.{option_map}
+use Rattle.der_core.specs.BackWriters.{Prepends, free_of}
+use Rattle.der_core.specs.Length.{limit}
+use Rattle.der_core.specs.Writing.{Appends, Counts}
+use Rattle.der_core.specs.declared.back_writer.BackWriter.{BackWriter}
+use Rattle.der_core.specs.declared.error.Error.{Error}
+use Rattle.pkcs1.proofs.KeyRows.{Parts, key_appended, key_counted, key_prepended, row_fits, row_room, row_valid}
+use Rattle.pkcs1.specs.Held.{number_in}
+use Rattle.pkcs1.specs.KeyRows.{Row, RowIsValid, key_row, row_as, row_printed, version_held}
+use Rattle.pkcs1.specs.Keys.{OtherPrime, version_of}
+use Rattle.pkcs1.specs.Printing.{AnyNumber, AreSome, OtherIsValid, PrivateIsValid, primes_printed, private_printed}
+use Rattle.pkcs1.specs.StatedKeys.{other_from}
+use Rattle.pkcs1.specs.declared.private_key.PrivateKeyOf.{PrivateKeyOf}
+use Rattle.standard.specs.Statement.{integer, sequence}
+use Rattle.pkcs1_c.specs.GivenPrimesValue.{given_key, given_primes}
+use Rattle.pkcs1_c.specs.NumberValue.{number_of}
+use Rattle.pkcs1_c.specs.Structs.{other_prime}
+use Rattle.pkcs1_c.specs.declared.given_number.Number.{Number}
+use Rattle.pkcs1_c.specs.declared.given_primes.GivenPrimes.{GivenPrimes}
+
+itself : {V : Type 0} (o : Option V) → option_map (λ v. v) o ≡ o
+itself None = refl
+itself (Some v) = refl
+
+version_given : (o : Option GivenPrimes) → version_held o ≡ version_of (option_map given_primes o)
+version_given None = refl
+version_given (Some given) = refl
+
+given_some : (o : Option GivenPrimes) → AreSome (option_map given_primes o)
+given_some None = tt
+given_some (Some given) =
+    omega (arith, given.some, length-map given.others.now (λ o. other_from (other_prime o)))
+
+abbrev pub octets_of : Row ℕ (List (OtherPrime ℕ)) → List ℕ
+octets_of = row_printed integer (λ others. sequence (primes_printed integer others))
+
+abbrev pub IsValid : Row ℕ (List (OtherPrime ℕ)) → Type 0
+IsValid = RowIsValid AnyNumber (AllByRecursion (OtherIsValid AnyNumber))
+
+module _ (key : PrivateKeyOf Number GivenPrimes) where
+  abbrev pub Spelled : Row ℕ (List (OtherPrime ℕ))
+  Spelled = row_as (λ n. n) (λ others. others) (key_row (number_in number_of) given_primes key)
+
+  abbrev version : version_held key.other_prime_infos ≡ version_of (given_key key).other_prime_infos
+  version = version_given key.other_prime_infos
+
+  parts : Spelled ≡ Parts AnyNumber integer (given_key key) (version_held key.other_prime_infos) version
+  parts =
+      ap (λ others. (
+        version_held key.other_prime_infos,
+        (
+          number_in number_of key.modulus,
+          (
+            number_in number_of key.public_exponent,
+            (
+              number_in number_of key.private_exponent,
+              (
+                number_in number_of key.prime1,
+                (
+                  number_in number_of key.prime2,
+                  (
+                    number_in number_of key.exponent1,
+                    (number_in number_of key.exponent2, (number_in number_of key.coefficient, others)),
+                  ),
+                ),
+              ),
+            ),
+          ),
+        ),
+      )) (itself (option_map given_primes key.other_prime_infos))
+
+  pub given_counted : (r : Result ℕ Error) → Counts (IsValid Spelled) (octets_of Spelled) r
+      → Counts (PrivateIsValid AnyNumber (given_key key)) (private_printed integer (given_key key)) r
+  given_counted r told =
+      key_counted AnyNumber integer (given_key key) _ version r (given_some key.other_prime_infos)
+      (subst (λ s. Counts (IsValid s) (octets_of s) r) parts told)
+
+  pub given_valid : PrivateIsValid AnyNumber (given_key key) → IsValid Spelled
+  given_valid ok = subst IsValid (sym parts) (row_valid AnyNumber integer (given_key key) _ version ok)
+
+  pub given_fits : length (private_printed integer (given_key key)) ≤ limit → length (octets_of Spelled) ≤ limit
+  given_fits fits =
+      subst (λ s. length (octets_of s) ≤ limit) (sym parts)
+      (row_fits AnyNumber integer (given_key key) _ version fits)
+
+  pub given_room : {n : ℕ} → length (private_printed integer (given_key key)) ≤ n → length (octets_of Spelled) ≤ n
+  given_room {n} fits =
+      subst (λ s. length (octets_of s) ≤ n) (sym parts) (row_room AnyNumber integer (given_key key) _ version fits)
+
+  pub given_appended : {W A : Type 0} (Room : W → ℕ) (Written : W → List ℕ) (old new : W) (r : Result A Error)
+      → PrivateIsValid AnyNumber (given_key key) → Appends (IsValid Spelled) (octets_of Spelled) Room Written old new r
+      → Appends (PrivateIsValid AnyNumber (given_key key)) (private_printed integer (given_key key)) Room Written old new r
+  given_appended Room Written old new r ok told =
+      key_appended AnyNumber integer (given_key key) _ version Room Written old new r ok
+      (subst (λ s. Appends (IsValid s) (octets_of s) Room Written old new r) parts told)
+
+  pub given_prepended : (old new : BackWriter) → Prepends (octets_of Spelled) old new
+      → Prepends (private_printed integer (given_key key)) old new
+  given_prepended old new told =
+      key_prepended AnyNumber integer (given_key key) _ version old new
+      (subst (λ s. Prepends (octets_of s) old new) parts told)

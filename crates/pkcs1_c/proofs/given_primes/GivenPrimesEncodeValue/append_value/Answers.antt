@@ -1,0 +1,67 @@
+use Rattle.std.proofs.Common.{◌≡◌, ◌≤◌, ◌++◌, ◌∙◌, ap, append_assoc, arith, drop, get_or, length, length-append, refl}
+use Rattle.std.proofs.Common.{◌+◌, sym, take, take_all, rules}
+use Rattle.std.proofs.lemmas.Result.{err_from_is_err_and}
+use Rattle.der_core.proofs.Items.{encodings_around, encodings_more}
+use Rattle.der_core.proofs.StoppedWriting.{appends_behind, appends_in_front}
+use Rattle.der_core.specs.Length.{limit}
+use Rattle.der_core.specs.SequenceOf.{all_encodings}
+use Rattle.pkcs1_c.specs.PrimeLists.{given_encoded}
+use Rattle.pkcs1_c.proofs.GivenPrimes.{any_given, encoded_is, held_at, nothing}
+use Rattle.pkcs1_c.proofs.given_primes.GivenPrimesEncodeValue.append_value.Goals as goal
+
+pub append_given-requires : goal.append_given-requires
+append_given-requires g c =
+    let given = c.args.self.now in
+    record { held = held_at given.others.now c.loop-other.other-index nothing c.loop-other-test.true given.held }
+
+pub loop-other-preserved : goal.loop-other-preserved
+loop-other-preserved g c =
+    let others = c.args.self.now.others.now in
+    let i = c.loop-other.other-index in
+    let more = encodings_more (λ _. Unit {0}) given_encoded others i nothing c.loop-other-test.true in
+    let before = all_encodings given_encoded (take i others) in
+    record {
+      written =
+          c.in_ok-append_given.ensures.appends.written ∙ ap (λ w. w ++ given_encoded (get_or others i nothing)) c.loop-other.invariant.written
+          ∙ append_assoc (g.W.Writer.written c.args.writer.now) before (given_encoded (get_or others i nothing))
+          ∙ ap (λ w. g.W.Writer.written c.args.writer.now ++ w) (sym more);
+      room = omega (
+        arith,
+        c.in_ok-append_given.ensures.appends.room,
+        c.loop-other.invariant.room,
+        ap length more,
+        length-append before (given_encoded (get_or others i nothing)),
+      );
+      kept = search rules;
+    }
+
+pub returns-in_err-append_given-clause-appends : goal.returns-in_err-append_given-clause-appends
+returns-in_err-append_given-clause-appends g c =
+    let p = err_from_is_err_and c.from_residual.result c.from_residual.ensures.1 in
+    let others = c.args.self.now.others.now in
+    let i = c.loop-other.other-index in
+    let unit : Unit {0} = tt in
+    let here = given_encoded (get_or others i nothing) in
+    let rest = all_encodings given_encoded (drop (i + 1) others) in
+    let whole = sym (encoded_is others) ∙ encodings_around (λ _. Unit {0}) given_encoded others i nothing c.loop-other-test.true in
+    let less : length (here ++ rest) ≤ limit = omega (
+      arith,
+      c.requires.fits,
+      ap length whole,
+      length-append (all_encodings given_encoded (take i others)) (here ++ rest),
+    ) in
+    rw (p.1, p.2) (appends_behind _ _ _ unit (any_given others) whole c.requires.fits c.loop-other.invariant.written
+    c.loop-other.invariant.room (appends_in_front _ _ rest unit unit refl less c.in_err-append_given.ensures.appends))
+
+pub returns-clause-appends : goal.returns-clause-appends
+returns-clause-appends g c =
+    let others = c.args.self.now.others.now in
+    let all : take c.loop-other.other-index others ≡ others = take_all c.loop-other.other-index others
+    (omega (arith, c.loop-other-test.false)) in
+    let is = ap (all_encodings given_encoded) all ∙ encoded_is others in
+    record {
+      has = (any_given others, c.requires.fits);
+      written = c.loop-other.invariant.written ∙ ap (λ w. g.W.Writer.written c.args.writer.now ++ w) is;
+      room = omega (arith, c.loop-other.invariant.room, ap length is);
+      left = tt;
+    }

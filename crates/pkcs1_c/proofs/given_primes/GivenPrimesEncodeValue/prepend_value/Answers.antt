@@ -1,0 +1,60 @@
+use Rattle.std.proofs.Common.{◌≡◌, ◌-◌, ◌∙◌, ap, arith, drop, length, subst}
+use Rattle.der_core.specs.BackWriters.{Prepends, free_of}
+use Rattle.der_core.specs.Length.{limit}
+use Rattle.der_core.specs.SequenceOf.{all_encodings}
+use Rattle.pkcs1_c.specs.PrimeLists.{given_encoded}
+use Rattle.pkcs1_c.proofs.GivenPrimes.{behind_fits, encoded_is, held_at, length_counted, not_uncounted, nothing}
+use Rattle.pkcs1_c.proofs.given_primes.GivenPrimesEncodeValue.prepend_value.Goals as goal
+
+pub returns-in_default : goal.returns-in_default
+returns-in_default c =
+    let given = c.args.self.now in
+    let is = encoded_is given.others.now in
+    absurd (not_uncounted given.others.now given.len c.in_default.field-0 given.counted c.in_default.is
+    (omega (arith, c.requires.fits, ap length is)))
+
+pub overflow_sub-least : goal.overflow_sub-least
+overflow_sub-least c =
+    let given = c.args.self.now in
+    let is = encoded_is given.others.now in
+    let counted = length_counted given.others.now given.len c.in-Ok.length given.counted c.in-Ok.is in
+    omega (arith, c.requires.room, ap length is, counted, c.to_usize.ensures.value, c.free.ensures)
+
+pub prepend_given-requires-clause-held : goal.prepend_given-requires-clause-held
+prepend_given-requires-clause-held c =
+    let given = c.args.self.now in
+    held_at given.others.now (c.loop-left.left - 1) nothing (omega (arith, c.loop-left-test.true, c.loop-left.invariant.0)) given.held
+
+pub prepend_given-requires-clause-fits : goal.prepend_given-requires-clause-fits
+prepend_given-requires-clause-fits c =
+    let given = c.args.self.now in
+    let is = encoded_is given.others.now in
+    omega (
+      arith,
+      c.requires.fits,
+      ap length is,
+      behind_fits given.others.now c.loop-left.left nothing c.loop-left-test.true c.loop-left.invariant.0,
+    )
+
+pub prepend_given-requires-clause-room : goal.prepend_given-requires-clause-room
+prepend_given-requires-clause-room c =
+    let given = c.args.self.now in
+    let is = encoded_is given.others.now in
+    let counted = length_counted given.others.now given.len c.in-Ok.length given.counted c.in-Ok.is in
+    omega (
+      arith,
+      c.requires.room,
+      ap length is,
+      counted,
+      c.to_usize.ensures.value,
+      c.free.ensures,
+      c.loop-left.invariant.1.1,
+      behind_fits given.others.now c.loop-left.left nothing c.loop-left-test.true c.loop-left.invariant.0,
+    )
+
+pub returns : goal.returns
+returns c =
+    let others = c.args.self.now.others.now in
+    let none : c.loop-left.left ≡ 0 = omega (arith, c.loop-left-test.false) in
+    subst (λ octets. Prepends octets c.args.writer.now c.loop-left.writer)
+    (ap (λ k. all_encodings given_encoded (drop k others)) none ∙ encoded_is others) c.loop-left.invariant.1

@@ -1,0 +1,14 @@
+use Rattle.std.proofs.Common.{◌≤◌, drop, length}
+use Rattle.der_core.specs.BackWriters.{Prepends}
+use Rattle.der_core.specs.SequenceOf.{all_encodings}
+use Rattle.pkcs1_c.specs.PrimeLists.{given_encoded}
+use Rattle.pkcs1_c.proofs.given_primes.GivenPrimesEncodeValue.prepend_value.Given as goal
+
+-- The last primes are written.
+abbrev pub invariant-loop-left : goal.invariant-loop-left
+invariant-loop-left l =
+    (l.left ≤ length l.self.others.now)
+    × Prepends (all_encodings given_encoded (drop l.left l.self.others.now)) l.fn.writer l.writer
+
+abbrev pub decreases-loop-left : goal.decreases-loop-left
+decreases-loop-left l = l.left

@@ -1,0 +1,18 @@
+use Rattle.std.proofs.Common.{subst}
+use Rattle.std.specs.List.{AllByRecursion}
+use Rattle.der_core.specs.SequenceOf.{all_encodings}
+use Rattle.der_core.specs.Writing.{Counts}
+use Rattle.pkcs1.specs.Printing.{AnyNumber, OtherIsValid}
+use Rattle.pkcs1_params.proofs.Written.{counts_as}
+use Rattle.pkcs1_c.specs.GivenPrimesValue.{given_primes}
+use Rattle.pkcs1_c.specs.PrimeLists.{given_encoded}
+use Rattle.pkcs1_c.proofs.GivenPrimes.{any_given, encoded_is}
+use Rattle.pkcs1_c.proofs.given_primes.GivenPrimesEncodeValue.value_len.Goals as goal
+
+pub returns : goal.returns
+returns c =
+    let given = c.args.self.now in
+    let others = given.others.now in
+    subst (λ octets. Counts (AllByRecursion (OtherIsValid AnyNumber) (given_primes given)) octets given.len)
+    (encoded_is others)
+    (counts_as (all_encodings given_encoded others) given.len (λ _. any_given others) (λ _. tt) given.counted)

@@ -1,0 +1,4 @@
+use Rattle.pkcs1_c.proofs.given_primes.append_given.Goals as goal
+
+pub returns-in-Err-clause-appends : goal.returns-in-Err-clause-appends
+returns-in-Err-clause-appends g c = absurd (c.requires.held _ c.in-Err.ensures.err)

@@ -1,0 +1,29 @@
+use Rattle.std.proofs.Common.{arith}
+use Rattle.der_core.proofs.ReadSteps.{front_errs}
+use Rattle.der_core.specs.UintRefValue.{bytes_of}
+use Rattle.pkcs1.specs.Held.{number_in}
+use Rattle.pkcs1.specs.OtherPrimesHeld.{next_prime}
+use Rattle.pkcs1.specs.PrivateKeyValue.{other_of}
+use Rattle.pkcs1_c.proofs.Placing.{full, none_placed, one_placed, stopped}
+use Rattle.pkcs1_c.proofs.private_key.pkcs1_c_other_primes.Goals as goal
+
+pub loop-i-init : goal.loop-i-init
+loop-i-init c = λ primes few whole. none_placed primes c.args.listed.now _ c.args.others.now c.in-Ok.ensures.ok few whole
+
+pub loop-i-preserved : goal.loop-i-preserved
+loop-i-preserved c = λ primes few whole.
+    one_placed primes _ _ c.loop-i.others c.args.others.now c.loop-i.i c.to_c_other_prime.result
+    (other_of (number_in bytes_of) c.in-Ok-read_prime.prime) (omega (arith, c.loop-i-test.true, c.loop-i.auto.others))
+    c.to_c_other_prime.ensures c.in-Ok-read_prime.ensures (c.loop-i.invariant primes few whole)
+
+pub returns-in-Err : goal.returns-in-Err
+returns-in-Err c = λ primes few whole.
+    stopped primes _ c.loop-i.others c.args.others.now c.loop-i.i
+    (omega (arith, c.loop-i-test.true, c.loop-i.auto.others)) c.loop-i.auto.others
+    (λ l is. front_errs next_prime _ _ _ is c.in-Err.ensures.1) (c.loop-i.invariant primes few whole)
+
+pub returns : goal.returns
+returns c = λ primes few whole.
+    full primes _ c.loop-i.others c.args.others.now c.loop-i.i
+    (omega (arith, c.loop-i.auto.i-end, c.loop-i.auto.others)) c.loop-i.auto.others
+    (omega (arith, c.loop-i-test.false, c.loop-i.auto.i-end, c.loop-i.auto.others)) (c.loop-i.invariant primes few whole)

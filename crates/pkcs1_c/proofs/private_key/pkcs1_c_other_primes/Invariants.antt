@@ -1,0 +1,13 @@
+use Rattle.std.proofs.Common.{◌≡◌, ◌≤◌, List, length}
+use Rattle.der_core.specs.Length.{limit}
+use Rattle.der_core.specs.SliceReaders.{left_of}
+use Rattle.pkcs1.specs.Held.{primes_encoded}
+use Rattle.standard.specs.Statement.{OtherPrime}
+use Rattle.pkcs1_c.proofs.Placing.{Placing}
+use Rattle.pkcs1_c.proofs.private_key.pkcs1_c_other_primes.Given as goal
+
+-- Of any primes that are listed, those so far are placed.
+abbrev pub invariant-loop-i : goal.invariant-loop-i
+invariant-loop-i l =
+    (primes : List OtherPrime) → length l.listed ≤ limit → l.listed ≡ primes_encoded primes
+    → Placing primes (left_of l.reader) l.others l.fn.others l.i
