@@ -1,10 +1,9 @@
 -- Other primes that the caller passes: their encodings are those of the primes with these numbers.
 use Rattle.std.proofs.Common.{ℕ, zero, suc, List, [], ◌∷◌, ◌++◌, ◌≡◌, ◌+◌, ◌-◌, ◌≤◌, ◌<◌, length, take, drop, get_or, map, refl, ap}
-use Rattle.std.proofs.Common.{sym, subst, ◌∙◌, arith, Some, Result, Ok, Err}
-use Rattle.std.proofs.lemmas.List.{take_more}
-use Rattle.std.specs.List.{AllByRecursion, concat}
+use Rattle.std.proofs.Common.{arith, Some, Result, Ok, Err}
+use Rattle.std.specs.List.{AllByRecursion}
 use Rattle.der_core.proofs.Counting.{counts_joined}
-use Rattle.der_core.proofs.Items.{encodings_around, encodings_behind_len, encodings_more}
+use Rattle.der_core.proofs.Items.{encodings_behind_len, encodings_more}
 use Rattle.der_core.specs.SequenceOf.{all_encodings}
 use Rattle.der_core.specs.Writing.{Counts, joined}
 use Rattle.der_core.specs.declared.error.Error.{Error}

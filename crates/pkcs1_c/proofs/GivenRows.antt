@@ -1,9 +1,9 @@
 -- A key that the caller passes, as the row that it is written as.
-use Rattle.std.proofs.Common.{ℕ, List, ◌≡◌, ◌<◌, ◌≤◌, length, map, refl, sym, subst, ap, arith, Option, Some, None, Result}
+use Rattle.std.proofs.Common.{ℕ, List, ◌≡◌, ◌≤◌, length, refl, sym, subst, ap, arith, Option, Some, None, Result}
 use Rattle.std.proofs.lemmas.List.{length-map}
 use Rattle.std.specs.List.{AllByRecursion}
 use Rattle.std.specs.Option.{option_map}
-use Rattle.der_core.specs.BackWriters.{Prepends, free_of}
+use Rattle.der_core.specs.BackWriters.{Prepends}
 use Rattle.der_core.specs.Length.{limit}
 use Rattle.der_core.specs.Writing.{Appends, Counts}
 use Rattle.der_core.specs.declared.back_writer.BackWriter.{BackWriter}

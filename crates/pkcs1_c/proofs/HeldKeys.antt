@@ -1,5 +1,5 @@
 -- Keys that were read, as structs hold them.
-use Rattle.std.proofs.Common.{ℕ, List, ◌≡◌, length, refl, sym, subst, ap, ◌∙◌, Option, Some, None}
+use Rattle.std.proofs.Common.{List, ◌≡◌, refl, sym, ◌∙◌, Option, Some, None}
 use Rattle.der_core.specs.Laws.Integer.{holds_canonical}
 use Rattle.der_core.specs.Laws.Printed.Leaves.{number_octets}
 use Rattle.der_core.specs.UintRefValue.{bytes_of}

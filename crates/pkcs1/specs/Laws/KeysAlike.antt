@@ -1,10 +1,10 @@
 -- Keys are read as their spellings mean, over numbers of any type of which it is so.
-use Rattle.std.proofs.Common.{ℕ, Bool, true, false, List, [], ◌∷◌, ◌≡◌, ◌==◌, map, refl, sym, ap, ◌∙◌}
+use Rattle.std.proofs.Common.{ℕ, Bool, true, false, List, [], ◌∷◌, ◌≡◌, ◌==◌, map, refl, sym, ◌∙◌}
 use Rattle.std.proofs.Common.{Option, Some, None, Ok, Err}
-use Rattle.std.specs.Prelude.{if◌then◌else◌, not}
+use Rattle.std.specs.Prelude.{if◌then◌else◌}
 use Rattle.der_core.specs.declared.error.ErrorKind.TheVariants.{Value}
-use Rattle.der_core.specs.Laws.Printed.Alike.{alike, alone_alike, chain_alike, front_alike, front_row_alike}
-use Rattle.der_core.specs.Laws.Printed.Alike.{items_alike, made_alike, optional_alike, row_alike, such_alike}
+use Rattle.der_core.specs.Laws.Printed.Alike.{alike, chain_alike, front_alike, front_row_alike}
+use Rattle.der_core.specs.Laws.Printed.Alike.{items_alike, made_alike, optional_alike, row_alike}
 use Rattle.der_core.specs.Laws.Printed.Alike.{tagged_alike}
 use Rattle.der_core.specs.Printed.{ReadsAlike, ReadsFrontAlike}
 use Rattle.der_core.specs.Readings.{FrontReading, Reading, ended, front_done, made, no_parts, tagged, ◌>>=◌}

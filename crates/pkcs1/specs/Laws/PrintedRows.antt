@@ -1,12 +1,9 @@
 -- Keys and their other primes, over numbers of any type that are read as they are printed: so are these.
-use Rattle.std.proofs.Common.{ℕ, Bool, true, false, List, [], ◌∷◌, ◌≡◌, arith, refl, Option, Some, None}
+use Rattle.std.proofs.Common.{ℕ, false, List, [], ◌∷◌, ◌≡◌, arith, refl, Option, Some, None}
 use Rattle.std.specs.List.{AllByRecursion}
-use Rattle.std.specs.Prelude.{not}
 use Rattle.der_core.specs.Laws.Printed.Items.{items_law}
-use Rattle.der_core.specs.Laws.Printed.Optional.{last_by_tag_law}
-use Rattle.der_core.specs.Laws.Printed.Rows.{end_law, made_law, row_law, such_law, tagged_law}
+use Rattle.der_core.specs.Laws.Printed.Rows.{end_law, made_law, row_law, tagged_law}
 use Rattle.der_core.specs.Laws.Printed.Shortest.{tagged_some}
-use Rattle.der_core.specs.Laws.Tells.{is_value}
 use Rattle.der_core.specs.Printed.{ReadsFrontPrinted, ReadsPrinted}
 use Rattle.der_core.specs.Readings.{FrontReading}
 use Rattle.der_core.specs.Tags as tags

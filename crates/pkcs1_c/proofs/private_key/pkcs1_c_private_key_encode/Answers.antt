@@ -1,4 +1,4 @@
-use Rattle.std.proofs.Common.{ℕ, List, length, sym, refl, ◌≡◌, ◌∙◌, arith}
+use Rattle.std.proofs.Common.{ℕ, List, length, refl, ◌≡◌, arith}
 use Rattle.standard.specs.Statement.{PrivateKeyEncoding}
 use Rattle.pkcs1_c.specs.declared.private_key.OtherPrime.{OtherPrime}
 use Rattle.pkcs1_c.specs.declared.private_key.PrivateKey.{PrivateKey}

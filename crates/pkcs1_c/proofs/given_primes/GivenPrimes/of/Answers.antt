@@ -2,10 +2,9 @@ use Rattle.std.proofs.Common.{◌<◌, add-one, ap, arith, length, subst}
 use Rattle.std.proofs.lemmas.Bool.Decides.{nat_tests}
 use Rattle.der_core.specs.Writing.{Counts}
 use Rattle.pkcs1_params.proofs.Written.{counts_as}
-use Rattle.pkcs1_params.specs.declared.error.Error.{Error}
 use Rattle.pkcs1.specs.Held.{held_other_prime}
 use Rattle.pkcs1_c.specs.NumberValue.{number_of}
-use Rattle.pkcs1_c.specs.PrimeLists.{given_encoded, prime_encoded}
+use Rattle.pkcs1_c.specs.PrimeLists.{prime_encoded}
 use Rattle.pkcs1_c.specs.Status.{status_of}
 use Rattle.pkcs1_c.specs.StructErrors.{NumbersError, numbers_of_primes}
 use Rattle.pkcs1_c.proofs.GivenPrimes.{counted_more, given_some}

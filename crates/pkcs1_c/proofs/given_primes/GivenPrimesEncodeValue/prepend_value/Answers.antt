@@ -1,6 +1,5 @@
 use Rattle.std.proofs.Common.{◌≡◌, ◌-◌, ◌∙◌, ap, arith, drop, length, subst}
-use Rattle.der_core.specs.BackWriters.{Prepends, free_of}
-use Rattle.der_core.specs.Length.{limit}
+use Rattle.der_core.specs.BackWriters.{Prepends}
 use Rattle.der_core.specs.SequenceOf.{all_encodings}
 use Rattle.pkcs1_c.specs.PrimeLists.{given_encoded}
 use Rattle.pkcs1_c.proofs.GivenPrimes.{behind_fits, encoded_is, held_at, length_counted, not_uncounted, nothing}
