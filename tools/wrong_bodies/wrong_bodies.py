@@ -117,7 +117,7 @@ class Crate:
                 _, _, used = os.wait4(ran.pid, 0)
                 self.checks, self.seconds = self.checks + 1, self.seconds + used.ru_utime + used.ru_stime
                 said.seek(0)
-                return said.read().rstrip("\n").split("\n")
+                return messages(said.read())
 
     def try_all(self):
         """Of each edit, by its path: the goal that refused it, or None and why it doesn't count as refused."""
@@ -171,6 +171,11 @@ class Crate:
         else:
             for edit in again:
                 self.settle([edit], verdicts)
+
+
+def messages(said):
+    """What the prover said, each message on a line: it breaks a long one, and begins the later lines by two spaces."""
+    return re.sub(r"\n  +", " ", said.rstrip("\n")).split("\n")
 
 
 def own_goals(said, crate, file, function):
