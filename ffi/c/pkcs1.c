@@ -1,16 +1,16 @@
-/* The calls of pkcs1.h, over the proved ones of pkcs1_c.h. This file is tested, not proved. A proved call must be
- * passed only structs of valid values: it fills a local, which is copied on success, and reads a local copy in which
- * nothing is null and each flag is 0 or 1. No array may be null, not even one of length 0. */
+/* The calls of pkcs1.h, over the proved ones of pkcs1_c.h. A proved call must be passed only structs of valid values:
+ * it fills a local, which is copied on success, and reads a local copy in which nothing is null and each flag is 0 or
+ * 1. No array may be null, not even one of length 0. Nothing is allocated.
+ *
+ * ffi/prove.sh proves with Frama-C that each call does what the proved call does on what was given, stays in bounds,
+ * ends, and leaves all else as it was. ffi/proof/pkcs1.acsl.h has the contracts. */
 #include "pkcs1_c.h"
-#include <stdlib.h>
 #include <string.h>
 
-#define NO PKCS1_NO_BYTES
+static const uint8_t no_octets[1] = {0};
+#define NO { no_octets, 0 }
 #define NO_ALGORITHM { NO, false, 0, NO }
 #define NO_MASK_GEN { NO, false, NO_ALGORITHM }
-
-/* Up to this many other primes are held in a local array, not in one from calloc; OpenSSL makes no more. */
-enum { FEW = 3 };
 
 static const struct pkcs1_bytes no_bytes = NO;
 static const struct pkcs1_algorithm no_algorithm = NO_ALGORITHM;
@@ -31,9 +31,7 @@ static uint8_t *output(uint8_t *out, size_t room, uint8_t *none) {
 
 /* Whether the octet of a flag isn't 0. A caller in another language may have set it to more than 1. */
 static bool is_set(const bool *flag) {
-    uint8_t octet;
-    memcpy(&octet, flag, 1);
-    return octet != 0;
+    return *(const uint8_t *)flag != 0;
 }
 
 const char *pkcs1_strerror(uint32_t status) {
@@ -71,54 +69,98 @@ uint32_t pkcs1_public_key_encode(const struct pkcs1_public_key *key, uint8_t *ou
 
 /* Private keys. */
 
-/* Puts the first other primes into `others`, as many as fit: those in `few`, or if more fit, by decoding `der`
- * again. */
-static void put_others(struct pkcs1_bytes der, const struct pkcs1_private_key *key, const struct pkcs1_other_prime *few,
-                       struct pkcs1_other_prime *others, size_t others_room) {
-    size_t count = key->other_primes < others_room ? key->other_primes : others_room;
+/* Puts the listed primes into `others`, as many as fit. The proved call asks for valid structs there. */
+static void put_others(struct pkcs1_bytes listed, size_t other_primes, struct pkcs1_other_prime *others,
+                       size_t others_room) {
+    size_t count = other_primes < others_room ? other_primes : others_room;
     for (size_t i = 0; i < count; i++)
-        others[i] = i < FEW ? few[i] : no_prime;
-    if (count > FEW) {
-        struct pkcs1_private_key again = *key;
-        pkcs1_c_private_key_decode(der.data, der.len, &again, others, count);
-    }
+        others[i] = no_prime;
+    if (count > 0)
+        pkcs1_c_other_primes(listed.data, listed.len, others, count);
 }
 
 uint32_t pkcs1_private_key_decode(const uint8_t *der, size_t der_len, struct pkcs1_private_key *key,
                                   struct pkcs1_other_prime *others, size_t others_room) {
     struct pkcs1_private_key read = {NO, NO, NO, NO, NO, NO, NO, NO, 0};
-    struct pkcs1_other_prime few[FEW] = {no_prime, no_prime, no_prime};
-    uint32_t status = pkcs1_c_private_key_decode(input(der, der_len), der_len, &read, few, FEW);
+    struct pkcs1_bytes listed = NO;
+    uint32_t status = pkcs1_c_private_key_decode(input(der, der_len), der_len, &read, &listed);
     if (status == PKCS1_OK) {
-        struct pkcs1_bytes whole = {der, der_len};
         *key = read;
-        put_others(whole, &read, few, others, others_room);
+        put_others(listed, read.other_primes, others, others_room);
     }
+    return status;
+}
+
+/* A copy of the key in which nothing is null. */
+static struct pkcs1_private_key private_key(const struct pkcs1_private_key *given) {
+    struct pkcs1_private_key made;
+    made.modulus = never_null(given->modulus);
+    made.public_exponent = never_null(given->public_exponent);
+    made.private_exponent = never_null(given->private_exponent);
+    made.prime1 = never_null(given->prime1);
+    made.prime2 = never_null(given->prime2);
+    made.exponent1 = never_null(given->exponent1);
+    made.exponent2 = never_null(given->exponent2);
+    made.coefficient = never_null(given->coefficient);
+    made.other_primes = given->other_primes;
+    return made;
+}
+
+/* Whether a number of these primes has no octets. It may be null then, which a proved call may not see. */
+static bool has_empty(const struct pkcs1_other_prime *others, size_t count) {
+    for (size_t i = 0; i < count; i++)
+        if (others[i].prime.len == 0 || others[i].exponent.len == 0 || others[i].coefficient.len == 0)
+            return true;
+    return false;
+}
+
+/* Why a number can't be held, or PKCS1_OK. */
+static uint32_t fault(struct pkcs1_bytes number) {
+    if (number.len == 0)
+        return PKCS1_LENGTH;
+    return pkcs1_c_bit_len(number.data, number.len) == UINT64_MAX ? PKCS1_OVERFLOW : PKCS1_OK;
+}
+
+/* `status`, or if that is PKCS1_OK the fault of the number behind. */
+static uint32_t or_fault(uint32_t status, struct pkcs1_bytes number) {
+    return status != PKCS1_OK ? status : fault(number);
+}
+
+static uint32_t key_fault(const struct pkcs1_private_key *key) {
+    uint32_t status = fault(key->modulus);
+    status = or_fault(status, key->public_exponent);
+    status = or_fault(status, key->private_exponent);
+    status = or_fault(status, key->prime1);
+    status = or_fault(status, key->prime2);
+    status = or_fault(status, key->exponent1);
+    status = or_fault(status, key->exponent2);
+    return or_fault(status, key->coefficient);
+}
+
+static uint32_t prime_fault(uint32_t status, const struct pkcs1_other_prime *other) {
+    status = or_fault(status, other->prime);
+    status = or_fault(status, other->exponent);
+    return or_fault(status, other->coefficient);
+}
+
+/* Why the first number that can't be held can't be, or PKCS1_OK: the numbers of the key, then those of the primes. */
+static uint32_t first_fault(const struct pkcs1_private_key *key, const struct pkcs1_other_prime *others, size_t count) {
+    uint32_t status = key_fault(key);
+    for (size_t i = 0; i < count; i++)
+        status = prime_fault(status, &others[i]);
     return status;
 }
 
 uint32_t pkcs1_private_key_encode(const struct pkcs1_private_key *key, const struct pkcs1_other_prime *others,
                                   size_t others_len, uint8_t *out, size_t room, size_t *len) {
-    struct pkcs1_private_key given = {
-        never_null(key->modulus),   never_null(key->public_exponent), never_null(key->private_exponent),
-        never_null(key->prime1),    never_null(key->prime2),          never_null(key->exponent1),
-        never_null(key->exponent2), never_null(key->coefficient),     key->other_primes};
-    struct pkcs1_other_prime few[FEW] = {no_prime, no_prime, no_prime}, *primes = few;
     uint8_t none[1];
     if (key->other_primes != others_len)
         return PKCS1_OTHER_PRIMES;
-    if (others_len > FEW && (primes = calloc(others_len, sizeof *primes)) == NULL)
-        return PKCS1_OUT_OF_MEMORY;
-    for (size_t i = 0; i < others_len; i++) {
-        primes[i].prime = never_null(others[i].prime);
-        primes[i].exponent = never_null(others[i].exponent);
-        primes[i].coefficient = never_null(others[i].coefficient);
-    }
-    uint32_t status =
-        pkcs1_c_private_key_encode(&given, primes, others_len, output(out, room, none), room, len);
-    if (primes != few)
-        free(primes);
-    return status;
+    if (has_empty(others, others_len))
+        return first_fault(key, others, others_len);
+    struct pkcs1_private_key given = private_key(key);
+    return pkcs1_c_private_key_encode(&given, others_len == 0 ? &no_prime : others, others_len,
+                                      output(out, room, none), room, len);
 }
 
 /* PKCS #8. */
@@ -128,13 +170,12 @@ uint32_t pkcs1_private_key_info_decode(const uint8_t *der, size_t der_len, struc
                                        size_t others_room) {
     struct pkcs1_private_key_info read = {NO, false, NO};
     struct pkcs1_private_key read_key = {NO, NO, NO, NO, NO, NO, NO, NO, 0};
-    struct pkcs1_other_prime few[FEW] = {no_prime, no_prime, no_prime};
-    uint32_t status =
-        pkcs1_c_private_key_info_decode(input(der, der_len), der_len, &read, &read_key, few, FEW);
+    struct pkcs1_bytes listed = NO;
+    uint32_t status = pkcs1_c_private_key_info_decode(input(der, der_len), der_len, &read, &read_key, &listed);
     if (status == PKCS1_OK) {
         *info = read;
         *key = read_key;
-        put_others(read.private_key, &read_key, few, others, others_room);
+        put_others(listed, read_key.other_primes, others, others_room);
     }
     return status;
 }
@@ -224,46 +265,47 @@ bool pkcs1_pss_is(const struct pkcs1_pss_params *params, const struct pkcs1_byte
     return pkcs1_c_pss_is(&given, octets.data, octets.len);
 }
 
-typedef uint32_t decode_pss(const uint8_t *, size_t, struct pkcs1_pss_params *);
-typedef uint32_t encode_pss(const struct pkcs1_pss_params *, uint8_t *, size_t, size_t *);
-
-static uint32_t read_pss(decode_pss *decode, const uint8_t *der, size_t der_len, struct pkcs1_pss_params *params) {
-    struct pkcs1_pss_params read = {NO_ALGORITHM, NO_MASK_GEN, 0, 0};
-    uint32_t status = decode(input(der, der_len), der_len, &read);
+/* Copies what was read into the caller's struct, on success. */
+static uint32_t set_pss(struct pkcs1_pss_params *params, uint32_t status, const struct pkcs1_pss_params *read) {
     if (status == PKCS1_OK)
-        *params = read;
+        *params = *read;
     return status;
 }
 
-static uint32_t write_pss(encode_pss *encode, const struct pkcs1_pss_params *params, uint8_t *out, size_t room,
-                          size_t *len) {
-    struct pkcs1_pss_params given = pss(params);
-    uint8_t none[1];
-    return encode(&given, output(out, room, none), room, len);
-}
-
 uint32_t pkcs1_pss_params_decode(const uint8_t *der, size_t der_len, struct pkcs1_pss_params *params) {
-    return read_pss(pkcs1_c_pss_params_decode, der, der_len, params);
+    struct pkcs1_pss_params read = {NO_ALGORITHM, NO_MASK_GEN, 0, 0};
+    uint32_t status = pkcs1_c_pss_params_decode(input(der, der_len), der_len, &read);
+    return set_pss(params, status, &read);
 }
 
 uint32_t pkcs1_pss_params_decode_strict(const uint8_t *der, size_t der_len, struct pkcs1_pss_params *params) {
-    return read_pss(pkcs1_c_pss_params_decode_strict, der, der_len, params);
+    struct pkcs1_pss_params read = {NO_ALGORITHM, NO_MASK_GEN, 0, 0};
+    uint32_t status = pkcs1_c_pss_params_decode_strict(input(der, der_len), der_len, &read);
+    return set_pss(params, status, &read);
 }
 
 uint32_t pkcs1_pss_algorithm_decode(const uint8_t *der, size_t der_len, struct pkcs1_pss_params *params) {
-    return read_pss(pkcs1_c_pss_algorithm_decode, der, der_len, params);
+    struct pkcs1_pss_params read = {NO_ALGORITHM, NO_MASK_GEN, 0, 0};
+    uint32_t status = pkcs1_c_pss_algorithm_decode(input(der, der_len), der_len, &read);
+    return set_pss(params, status, &read);
 }
 
 uint32_t pkcs1_pss_algorithm_decode_strict(const uint8_t *der, size_t der_len, struct pkcs1_pss_params *params) {
-    return read_pss(pkcs1_c_pss_algorithm_decode_strict, der, der_len, params);
+    struct pkcs1_pss_params read = {NO_ALGORITHM, NO_MASK_GEN, 0, 0};
+    uint32_t status = pkcs1_c_pss_algorithm_decode_strict(input(der, der_len), der_len, &read);
+    return set_pss(params, status, &read);
 }
 
 uint32_t pkcs1_pss_params_encode(const struct pkcs1_pss_params *params, uint8_t *out, size_t room, size_t *len) {
-    return write_pss(pkcs1_c_pss_params_encode, params, out, room, len);
+    struct pkcs1_pss_params given = pss(params);
+    uint8_t none[1];
+    return pkcs1_c_pss_params_encode(&given, output(out, room, none), room, len);
 }
 
 uint32_t pkcs1_pss_algorithm_encode(const struct pkcs1_pss_params *params, uint8_t *out, size_t room, size_t *len) {
-    return write_pss(pkcs1_c_pss_algorithm_encode, params, out, room, len);
+    struct pkcs1_pss_params given = pss(params);
+    uint8_t none[1];
+    return pkcs1_c_pss_algorithm_encode(&given, output(out, room, none), room, len);
 }
 
 void pkcs1_pss_params_init(struct pkcs1_pss_params *params, const struct pkcs1_bytes *hash, uint8_t salt_len) {
@@ -291,52 +333,54 @@ bool pkcs1_oaep_label(const struct pkcs1_oaep_params *params, struct pkcs1_bytes
     return has_label;
 }
 
-typedef uint32_t decode_oaep(const uint8_t *, size_t, struct pkcs1_oaep_params *);
-typedef uint32_t encode_oaep(const struct pkcs1_oaep_params *, uint8_t *, size_t, size_t *);
-
-static uint32_t read_oaep(decode_oaep *decode, const uint8_t *der, size_t der_len, struct pkcs1_oaep_params *params) {
-    struct pkcs1_oaep_params read = {NO_ALGORITHM, NO_MASK_GEN, NO_ALGORITHM};
-    uint32_t status = decode(input(der, der_len), der_len, &read);
+/* Copies what was read into the caller's struct, on success. */
+static uint32_t set_oaep(struct pkcs1_oaep_params *params, uint32_t status, const struct pkcs1_oaep_params *read) {
     if (status == PKCS1_OK)
-        *params = read;
+        *params = *read;
     return status;
 }
 
-static uint32_t write_oaep(encode_oaep *encode, const struct pkcs1_oaep_params *params, uint8_t *out, size_t room,
-                           size_t *len) {
-    struct pkcs1_oaep_params given = oaep(params);
-    uint8_t none[1];
-    return encode(&given, output(out, room, none), room, len);
-}
-
 uint32_t pkcs1_oaep_params_decode(const uint8_t *der, size_t der_len, struct pkcs1_oaep_params *params) {
-    return read_oaep(pkcs1_c_oaep_params_decode, der, der_len, params);
+    struct pkcs1_oaep_params read = {NO_ALGORITHM, NO_MASK_GEN, NO_ALGORITHM};
+    uint32_t status = pkcs1_c_oaep_params_decode(input(der, der_len), der_len, &read);
+    return set_oaep(params, status, &read);
 }
 
 uint32_t pkcs1_oaep_params_decode_strict(const uint8_t *der, size_t der_len, struct pkcs1_oaep_params *params) {
-    return read_oaep(pkcs1_c_oaep_params_decode_strict, der, der_len, params);
+    struct pkcs1_oaep_params read = {NO_ALGORITHM, NO_MASK_GEN, NO_ALGORITHM};
+    uint32_t status = pkcs1_c_oaep_params_decode_strict(input(der, der_len), der_len, &read);
+    return set_oaep(params, status, &read);
 }
 
 uint32_t pkcs1_oaep_algorithm_decode(const uint8_t *der, size_t der_len, struct pkcs1_oaep_params *params) {
-    return read_oaep(pkcs1_c_oaep_algorithm_decode, der, der_len, params);
+    struct pkcs1_oaep_params read = {NO_ALGORITHM, NO_MASK_GEN, NO_ALGORITHM};
+    uint32_t status = pkcs1_c_oaep_algorithm_decode(input(der, der_len), der_len, &read);
+    return set_oaep(params, status, &read);
 }
 
 uint32_t pkcs1_oaep_algorithm_decode_strict(const uint8_t *der, size_t der_len, struct pkcs1_oaep_params *params) {
-    return read_oaep(pkcs1_c_oaep_algorithm_decode_strict, der, der_len, params);
+    struct pkcs1_oaep_params read = {NO_ALGORITHM, NO_MASK_GEN, NO_ALGORITHM};
+    uint32_t status = pkcs1_c_oaep_algorithm_decode_strict(input(der, der_len), der_len, &read);
+    return set_oaep(params, status, &read);
 }
 
 uint32_t pkcs1_oaep_params_encode(const struct pkcs1_oaep_params *params, uint8_t *out, size_t room, size_t *len) {
-    return write_oaep(pkcs1_c_oaep_params_encode, params, out, room, len);
+    struct pkcs1_oaep_params given = oaep(params);
+    uint8_t none[1];
+    return pkcs1_c_oaep_params_encode(&given, output(out, room, none), room, len);
 }
 
 uint32_t pkcs1_oaep_algorithm_encode(const struct pkcs1_oaep_params *params, uint8_t *out, size_t room, size_t *len) {
-    return write_oaep(pkcs1_c_oaep_algorithm_encode, params, out, room, len);
+    struct pkcs1_oaep_params given = oaep(params);
+    uint8_t none[1];
+    return pkcs1_c_oaep_algorithm_encode(&given, output(out, room, none), room, len);
 }
 
 void pkcs1_oaep_params_init(struct pkcs1_oaep_params *params, const struct pkcs1_bytes *hash, const uint8_t *label,
                             size_t label_len) {
     struct pkcs1_bytes given = {label, label_len};
-    struct pkcs1_oaep_params made = {with_null(hash), mgf1(hash), {pkcs1_oid_p_specified, true, 0x04, no_bytes}};
+    struct pkcs1_oaep_params made = {with_null(hash), mgf1(hash), with_null(&pkcs1_oid_p_specified)};
+    made.p_source.tag = 0x04;
     made.p_source.parameters = never_null(given);
     *params = made;
 }

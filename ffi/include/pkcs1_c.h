@@ -3,7 +3,7 @@
  * Structs: each must hold valid values, even one that a decoder only fills. In it each `bool` must be 0 or 1, and no
  *   `pkcs1_bytes` may be null. PKCS1_NO_BYTES is an empty one.
  * Fields after a false `has_..`: they must be valid too. An encoder doesn't read them. A decoder sets them to empty.
- * Null: `der`, `others`, `out`, `number` and `oid` may not be null, not even if their length is 0. */
+ * Null: `der`, `listed`, `others`, `out`, `number` and `oid` may not be null, not even if their length is 0. */
 #ifndef PKCS1_C_H
 #define PKCS1_C_H
 
@@ -21,13 +21,21 @@ uint64_t pkcs1_c_bit_len(const uint8_t *number, size_t number_len);
 
 uint32_t pkcs1_c_public_key_decode(const uint8_t *der, size_t der_len, struct pkcs1_public_key *key);
 uint32_t pkcs1_c_public_key_encode(const struct pkcs1_public_key *key, uint8_t *out, size_t room, size_t *len);
+
+/* Fills `key`, and sets `listed` to the octets of its other primes, one encoding behind the other, empty if there are
+ * none. */
 uint32_t pkcs1_c_private_key_decode(const uint8_t *der, size_t der_len, struct pkcs1_private_key *key,
-                                    struct pkcs1_other_prime *others, size_t others_room);
+                                    struct pkcs1_bytes *listed);
+uint32_t pkcs1_c_private_key_info_decode(const uint8_t *der, size_t der_len, struct pkcs1_private_key_info *info,
+                                         struct pkcs1_private_key *key, struct pkcs1_bytes *listed);
+
+/* Puts the primes that are encoded in `listed`, one behind the other, into `others`, as many as fit. The other elements
+ * are unchanged. */
+void pkcs1_c_other_primes(const uint8_t *listed, size_t listed_len, struct pkcs1_other_prime *others,
+                          size_t others_room);
+
 uint32_t pkcs1_c_private_key_encode(const struct pkcs1_private_key *key, const struct pkcs1_other_prime *others,
                                     size_t others_len, uint8_t *out, size_t room, size_t *len);
-uint32_t pkcs1_c_private_key_info_decode(const uint8_t *der, size_t der_len, struct pkcs1_private_key_info *info,
-                                         struct pkcs1_private_key *key, struct pkcs1_other_prime *others,
-                                         size_t others_room);
 uint32_t pkcs1_c_private_key_info_encode(const struct pkcs1_private_key_info *info, uint8_t *out, size_t room,
                                          size_t *len);
 uint32_t pkcs1_c_pss_params_decode(const uint8_t *der, size_t der_len, struct pkcs1_pss_params *params);

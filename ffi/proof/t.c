@@ -1,0 +1,1 @@
+#include "pkcs1.acsl.h"
