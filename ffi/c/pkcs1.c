@@ -73,6 +73,9 @@ uint32_t pkcs1_public_key_encode(const struct pkcs1_public_key *key, uint8_t *ou
 static void put_others(struct pkcs1_bytes listed, size_t other_primes, struct pkcs1_other_prime *others,
                        size_t others_room) {
     size_t count = other_primes < others_room ? other_primes : others_room;
+    /*@ loop invariant 0 <= i <= count && \forall integer j; 0 <= j < i ==> ok_other(others[j]);
+      @ loop assigns i, others[0 .. count - 1];
+      @ loop variant count - i; */
     for (size_t i = 0; i < count; i++)
         others[i] = no_prime;
     if (count > 0)
@@ -108,6 +111,9 @@ static struct pkcs1_private_key private_key(const struct pkcs1_private_key *give
 
 /* Whether a number of these primes has no octets. It may be null then, which a proved call may not see. */
 static bool has_empty(const struct pkcs1_other_prime *others, size_t count) {
+    /*@ loop invariant 0 <= i <= count && !has_empty_number(others, i);
+      @ loop assigns i;
+      @ loop variant count - i; */
     for (size_t i = 0; i < count; i++)
         if (others[i].prime.len == 0 || others[i].exponent.len == 0 || others[i].coefficient.len == 0)
             return true;
@@ -146,6 +152,10 @@ static uint32_t prime_fault(uint32_t status, const struct pkcs1_other_prime *oth
 /* Why the first number that can't be held can't be, or PKCS1_OK: the numbers of the key, then those of the primes. */
 static uint32_t first_fault(const struct pkcs1_private_key *key, const struct pkcs1_other_prime *others, size_t count) {
     uint32_t status = key_fault(key);
+    /*@ loop invariant 0 <= i <= count && status == first_fault_of(*key, others, i);
+      @ loop invariant has_empty_number(others, i) ==> status != PKCS1_OK;
+      @ loop assigns i, status;
+      @ loop variant count - i; */
     for (size_t i = 0; i < count; i++)
         status = prime_fault(status, &others[i]);
     return status;

@@ -49,8 +49,10 @@
   @   m.len == s.len && (s.len != 0 ==> m.data == s.data);
   @ predicate apart_bytes{L}(struct pkcs1_bytes s, uint8_t *out, integer room, size_t *len) =
   @   \separated(s.data + (0 .. s.len - 1), out + (0 .. room - 1)) && \separated(s.data + (0 .. s.len - 1), len);
-  @ predicate bytes_in{L}(struct pkcs1_bytes s, uint8_t *der, integer der_len) = s.data != \null &&
-  @   ((\exists integer i; 0 <= i && i + s.len <= der_len && s.data == der + i) || of_library(s.data, s.len));
+  @ predicate part_of{L}(struct pkcs1_bytes s, uint8_t *der, integer der_len) =
+  @   s.data != \null && \exists integer i; 0 <= i && i + s.len <= der_len && s.data == der + i;
+  @ predicate bytes_in{L}(struct pkcs1_bytes s, uint8_t *der, integer der_len) =
+  @   part_of(s, der, der_len) || (s.data != \null && of_library(s.data, s.len));
   @ predicate tidy_bytes{L}(struct pkcs1_bytes s) = \true;
   @ logic octets seen{L}(struct pkcs1_bytes s) = octets_of(s.data, s.len);
   @
@@ -108,7 +110,9 @@
 /*@ predicate ok_others{L}(struct pkcs1_other_prime *o, integer n) =
   @   o != \null && \forall integer i; 0 <= i < n ==> ok_other(o[i]);
   @ predicate given_others{L}(struct pkcs1_other_prime *o, integer n) =
-  @   \forall integer i; 0 <= i < n ==> given_other(o[i]);
+  @   (n != 0 ==> o != \null) && \forall integer i; 0 <= i < n ==> given_other(o[i]);
+  @ predicate has_empty_number{L}(struct pkcs1_other_prime *o, integer n) = \exists integer i; 0 <= i < n &&
+  @   (o[i].prime.len == 0 || o[i].exponent.len == 0 || o[i].coefficient.len == 0);
   @ predicate apart_others{L}(struct pkcs1_other_prime *o, integer n, uint8_t *out, integer room, size_t *len) =
   @   \forall integer i; 0 <= i < n ==> apart_other(o[i], out, room, len);
   @*/
@@ -194,11 +198,14 @@ enum kind { PUBLIC_KEY, PRIVATE_KEY, PRIVATE_KEY_INFO, PSS_PARAMS, PSS_PARAMS_ST
   @   or_fault_of(or_fault_of(or_fault_of(status, o.prime), o.exponent), o.coefficient);
   @ logic integer first_fault_of{L}(struct pkcs1_private_key k, struct pkcs1_other_prime *o, integer n) =
   @   n <= 0 ? key_fault_of(k) : prime_fault_of(first_fault_of(k, o, n - 1), o[n - 1]);
+  @ // The same of the whole key: first comes whether it has as many other primes as it says.
+  @ logic integer private_key_fault_of{L}(struct pkcs1_private_key k, struct pkcs1_other_prime *o, integer n) =
+  @   k.other_primes != n ? PKCS1_OTHER_PRIMES : first_fault_of(k, o, n);
   @ axiomatic Exact {
-  @   // What the clause `exact` of the Rattle contract says of a key with a number that can't be held.
+  @   // What the clause `exact` of pkcs1_c_private_key_encode says in Rattle of a key that can't be held.
   @   axiom exact{L}: \forall struct pkcs1_private_key k, struct pkcs1_other_prime *o, integer n, room;
-  @     k.other_primes == n && first_fault_of(k, o, n) != PKCS1_OK ==>
-  @     write_status(PRIVATE_KEY, private_key_seen(k, others_seen(o, n)), room) == first_fault_of(k, o, n);
+  @     private_key_fault_of(k, o, n) != PKCS1_OK ==>
+  @     write_status(PRIVATE_KEY, private_key_seen(k, others_seen(o, n)), room) == private_key_fault_of(k, o, n);
   @ }
   @
   @ // A zero ends the text, and `len` counts it.
@@ -206,73 +213,288 @@ enum kind { PUBLIC_KEY, PRIVATE_KEY, PRIVATE_KEY_INFO, PSS_PARAMS, PSS_PARAMS_ST
   @   text != \null && \valid_read(text + (0 .. len - 1)) && len > 0 && text[len - 1] == 0;
   @*/
 
-/* ---- Contracts ---- */
+/* ---- Contracts ----
+ * `is` is `ok` for a proved call, and `given` for the call of pkcs1.h. */
 
 #define ENDS terminates \true; exits \false
-
-/* Decoders. INPUT and VALID: what is required of the input and of the struct, which differs between the headers. */
-#define READS(INPUT, VALID, kind, s, name)                                                                             \
-    requires INPUT(der, der_len) && \valid(s) && VALID(name, *s);                                                      \
-    requires \separated(s, der + (0 .. der_len - 1));                                                                  \
-    ENDS; assigns *s;                                                                                                  \
-    ensures exact: \result == status_of(kind, \old(octets_of(der, der_len)));                                          \
-    ensures ok: \result == PKCS1_OK ==> *s == name##_of(kind, der, \old(octets_of(der, der_len)));                     \
+#define DER \old(octets_of(der, der_len))
+/* What is required of a struct that a call fills. */
+#define FILLED_ok(name, s) requires \valid(s) && ok_##name(*s)
+#define FILLED_given(name, s) requires \valid(s)
+#define FILLS(kind, s, name)                                                                                           \
+    ensures exact: \result == status_of(kind, DER);                                                                    \
+    ensures ok: \result == PKCS1_OK ==> *s == name##_of(kind, der, DER);                                               \
     ensures in: \result == PKCS1_OK ==> name##_in(*s, der, der_len);                                                   \
-    ensures tidy: \result == PKCS1_OK ==> tidy_##name(*s);                                                             \
     ensures not_empty: \result == PKCS1_OK ==> der_len > 0;                                                            \
     ensures unchanged: \result != PKCS1_OK ==> *s == \old(*s)
-#define ANY(name, s) \true
-#define IS_OK(name, s) ok_##name(s)
-#define IS_GIVEN(name, s) given_##name(s)
+#define READS(is, kind, s, name)                                                                                       \
+    requires is(der, der_len);                                                                                         \
+    FILLED_##is(name, s);                                                                                              \
+    requires \separated(s, der + (0 .. der_len - 1));                                                                  \
+    ENDS; assigns *s;                                                                                                  \
+    FILLS(kind, s, name)
+#define READS_PARAMS(is, kind, name)                                                                                   \
+    READS(is, kind, params, name);                                                                                     \
+    ensures tidy: \result == PKCS1_OK ==> tidy_##name(*params)
 
-/* Encoders, from the state before the call to that behind it. */
+/* Encoders write the value `v`. */
 #define WRITES(kind, v)                                                                                                \
+    ENDS; assigns out[0 .. room - 1], *len;                                                                            \
     ensures exact: \result == write_status(kind, \old(v), room);                                                       \
     ensures ok: \result == PKCS1_OK ==> *len == written_len(kind, \old(v)) && *len <= room &&                          \
         \forall integer i; 0 <= i < *len ==> out[i] == written_octet(kind, \old(v), i);                                \
     ensures rest: \result == PKCS1_OK ==> \forall integer i; *len <= i < room ==> out[i] == \old(out[i]);              \
     ensures no_room: \result == PKCS1_NO_ROOM ==> *len == written_len(kind, \old(v)) && room < *len;                   \
     ensures unchanged: \result != PKCS1_OK ==> \forall integer i; 0 <= i < room ==> out[i] == \old(out[i]);            \
-    ensures len: \result != PKCS1_OK && \result != PKCS1_NO_ROOM ==> *len == \old(*len)
-#define WRITES_STRUCT(OUTPUT, VALID, kind, s, name)                                                                    \
-    requires \valid_read(s) && VALID(name, *s) && OUTPUT(out, room) && \valid(len);                                    \
-    requires \separated(s, out + (0 .. room - 1), len) && apart_##name(*s, out, room, len);                            \
-    ENDS; assigns out[0 .. room - 1], *len;                                                                            \
+    ensures unchanged_len: \result != PKCS1_OK && \result != PKCS1_NO_ROOM ==> *len == \old(*len)
+#define WRITTEN(is, s, name)                                                                                           \
+    requires \valid_read(s) && is##_##name(*s) && is##_out(out, room) && \valid(len);                                  \
+    requires \separated(s, out + (0 .. room - 1), len) && apart_##name(*s, out, room, len)
+#define WRITES_STRUCT(is, kind, s, name)                                                                               \
+    WRITTEN(is, s, name);                                                                                              \
     WRITES(kind, name##_seen(*s))
 
-/*@ READS(ok, IS_OK, PUBLIC_KEY, key, public_key); */
+/* ---- Public keys ---- */
+
+/*@ READS(ok, PUBLIC_KEY, key, public_key); */
 uint32_t pkcs1_c_public_key_decode(const uint8_t *der, size_t der_len, struct pkcs1_public_key *key);
-/*@ READS(given, ANY, PUBLIC_KEY, key, public_key); */
+/*@ READS(given, PUBLIC_KEY, key, public_key); */
 uint32_t pkcs1_public_key_decode(const uint8_t *der, size_t der_len, struct pkcs1_public_key *key);
-/*@ WRITES_STRUCT(ok_out, IS_OK, PUBLIC_KEY, key, public_key); */
+/*@ WRITES_STRUCT(ok, PUBLIC_KEY, key, public_key); */
 uint32_t pkcs1_c_public_key_encode(const struct pkcs1_public_key *key, uint8_t *out, size_t room, size_t *len);
-/*@ WRITES_STRUCT(given_out, IS_GIVEN, PUBLIC_KEY, key, public_key); */
+/*@ WRITES_STRUCT(given, PUBLIC_KEY, key, public_key); */
 uint32_t pkcs1_public_key_encode(const struct pkcs1_public_key *key, uint8_t *out, size_t room, size_t *len);
 
-/*@ READS(ok, IS_OK, PSS_PARAMS, params, pss); */
+/* ---- Private keys ---- */
+
+/* The proved call lists the other primes. */
+#define LISTS(kind)                                                                                                    \
+    ensures listed: \result == PKCS1_OK ==> *listed == listed_of(kind, der, DER);                                      \
+    ensures part: \result == PKCS1_OK ==> part_of(*listed, der, der_len);                                              \
+    ensures count: \result == PKCS1_OK ==> key->other_primes == count_of(seen(*listed));                               \
+    ensures unchanged_listed: \result != PKCS1_OK ==> *listed == \old(*listed)
+/* If `when`, the primes of a list are placed, as many as fit. */
+#define PLACES(when, list, list_len, octets)                                                                           \
+    ensures placed: when ==> \forall integer i; 0 <= i < others_room && i < count_of(octets) ==>                       \
+        others[i] == other_of(list, octets, i);                                                                        \
+    ensures placed_in: when ==> \forall integer i; 0 <= i < others_room && i < count_of(octets) ==>                    \
+        other_in(others[i], list, list_len);                                                                           \
+    ensures rest: when ==> \forall integer i; 0 <= i < others_room && count_of(octets) <= i ==>                        \
+        others[i] == \old(others[i])
+#define PLACES_OTHERS(kind)                                                                                            \
+    PLACES(\result == PKCS1_OK, listed_of(kind, der, DER).data, listed_of(kind, der, DER).len,                         \
+        seen(listed_of(kind, der, DER)));                                                                              \
+    ensures count: \result == PKCS1_OK ==> key->other_primes == count_of(seen(listed_of(kind, der, DER)));             \
+    ensures unchanged_others: \result != PKCS1_OK ==>                                                                  \
+        \forall integer i; 0 <= i < others_room ==> others[i] == \old(others[i])
+/* What is in a container too. */
+#define FILLS_KEY                                                                                                      \
+    ensures key: \result == PKCS1_OK ==> *key == private_key_of(PRIVATE_KEY_INFO, der, DER);                           \
+    ensures key_in: \result == PKCS1_OK ==> private_key_in(*key, der, der_len);                                        \
+    ensures unchanged_key: \result != PKCS1_OK ==> *key == \old(*key);                                                 \
+    ensures tidy: \result == PKCS1_OK ==> tidy_info(*info)
+
+/*@ requires ok(der, der_len) && \valid(key) && ok_private_key(*key) && \valid(listed) && ok_bytes(*listed);
+  @ requires \separated(key, listed, der + (0 .. der_len - 1));
+  @ ENDS; assigns *key, *listed;
+  @ FILLS(PRIVATE_KEY, key, private_key); LISTS(PRIVATE_KEY); */
+uint32_t pkcs1_c_private_key_decode(const uint8_t *der, size_t der_len, struct pkcs1_private_key *key,
+                                    struct pkcs1_bytes *listed);
+/*@ requires given(der, der_len) && \valid(key) && \valid(others + (0 .. others_room - 1));
+  @ requires \separated(key, others + (0 .. others_room - 1), der + (0 .. der_len - 1));
+  @ ENDS; assigns *key, others[0 .. others_room - 1];
+  @ FILLS(PRIVATE_KEY, key, private_key); PLACES_OTHERS(PRIVATE_KEY); */
+uint32_t pkcs1_private_key_decode(const uint8_t *der, size_t der_len, struct pkcs1_private_key *key,
+                                  struct pkcs1_other_prime *others, size_t others_room);
+/*@ requires ok(der, der_len) && \valid(info) && ok_info(*info) && \valid(key) && ok_private_key(*key);
+  @ requires \valid(listed) && ok_bytes(*listed);
+  @ requires \separated(info, key, listed, der + (0 .. der_len - 1));
+  @ ENDS; assigns *info, *key, *listed;
+  @ FILLS(PRIVATE_KEY_INFO, info, info); FILLS_KEY; LISTS(PRIVATE_KEY_INFO); */
+uint32_t pkcs1_c_private_key_info_decode(const uint8_t *der, size_t der_len, struct pkcs1_private_key_info *info,
+                                         struct pkcs1_private_key *key, struct pkcs1_bytes *listed);
+/*@ requires given(der, der_len) && \valid(info) && \valid(key) && \valid(others + (0 .. others_room - 1));
+  @ requires \separated(info, key, others + (0 .. others_room - 1), der + (0 .. der_len - 1));
+  @ ENDS; assigns *info, *key, others[0 .. others_room - 1];
+  @ FILLS(PRIVATE_KEY_INFO, info, info); FILLS_KEY; PLACES_OTHERS(PRIVATE_KEY_INFO); */
+uint32_t pkcs1_private_key_info_decode(const uint8_t *der, size_t der_len, struct pkcs1_private_key_info *info,
+                                       struct pkcs1_private_key *key, struct pkcs1_other_prime *others,
+                                       size_t others_room);
+/*@ requires ok(listed, listed_len) && \valid(others + (0 .. others_room - 1)) && ok_others(others, others_room);
+  @ requires \separated(others + (0 .. others_room - 1), listed + (0 .. listed_len - 1));
+  @ ENDS; assigns others[0 .. others_room - 1];
+  @ PLACES(\true, listed, listed_len, \old(octets_of(listed, listed_len))); */
+void pkcs1_c_other_primes(const uint8_t *listed, size_t listed_len, struct pkcs1_other_prime *others,
+                          size_t others_room);
+
+#define WRITES_KEY(is)                                                                                                 \
+    WRITTEN(is, key, private_key);                                                                                     \
+    requires \valid_read(others + (0 .. others_len - 1)) && is##_others(others, others_len);                           \
+    requires \separated(others + (0 .. others_len - 1), out + (0 .. room - 1), len);                                   \
+    requires apart_others(others, others_len, out, room, len);                                                         \
+    WRITES(PRIVATE_KEY, private_key_seen(*key, others_seen(others, others_len)))
+/*@ WRITES_KEY(ok); */
+uint32_t pkcs1_c_private_key_encode(const struct pkcs1_private_key *key, const struct pkcs1_other_prime *others,
+                                    size_t others_len, uint8_t *out, size_t room, size_t *len);
+/*@ WRITES_KEY(given); */
+uint32_t pkcs1_private_key_encode(const struct pkcs1_private_key *key, const struct pkcs1_other_prime *others,
+                                  size_t others_len, uint8_t *out, size_t room, size_t *len);
+/*@ WRITES_STRUCT(ok, PRIVATE_KEY_INFO, info, info); */
+uint32_t pkcs1_c_private_key_info_encode(const struct pkcs1_private_key_info *info, uint8_t *out, size_t room,
+                                         size_t *len);
+/*@ WRITES_STRUCT(given, PRIVATE_KEY_INFO, info, info); */
+uint32_t pkcs1_private_key_info_encode(const struct pkcs1_private_key_info *info, uint8_t *out, size_t room,
+                                       size_t *len);
+
+/* ---- Parameters ---- */
+
+/*@ READS_PARAMS(ok, PSS_PARAMS, pss); */
 uint32_t pkcs1_c_pss_params_decode(const uint8_t *der, size_t der_len, struct pkcs1_pss_params *params);
-/*@ READS(given, ANY, PSS_PARAMS, params, pss); */
+/*@ READS_PARAMS(given, PSS_PARAMS, pss); */
 uint32_t pkcs1_pss_params_decode(const uint8_t *der, size_t der_len, struct pkcs1_pss_params *params);
-/*@ WRITES_STRUCT(ok_out, IS_OK, PSS_PARAMS, params, pss); */
+/*@ READS_PARAMS(ok, PSS_PARAMS_STRICT, pss); */
+uint32_t pkcs1_c_pss_params_decode_strict(const uint8_t *der, size_t der_len, struct pkcs1_pss_params *params);
+/*@ READS_PARAMS(given, PSS_PARAMS_STRICT, pss); */
+uint32_t pkcs1_pss_params_decode_strict(const uint8_t *der, size_t der_len, struct pkcs1_pss_params *params);
+/*@ WRITES_STRUCT(ok, PSS_PARAMS, params, pss); */
 uint32_t pkcs1_c_pss_params_encode(const struct pkcs1_pss_params *params, uint8_t *out, size_t room, size_t *len);
-/*@ WRITES_STRUCT(given_out, IS_GIVEN, PSS_PARAMS, params, pss); */
+/*@ WRITES_STRUCT(given, PSS_PARAMS, params, pss); */
 uint32_t pkcs1_pss_params_encode(const struct pkcs1_pss_params *params, uint8_t *out, size_t room, size_t *len);
-/*@ WRITES_STRUCT(ok_out, IS_OK, OAEP_PARAMS, params, oaep); */
+/*@ READS_PARAMS(ok, PSS_ALGORITHM, pss); */
+uint32_t pkcs1_c_pss_algorithm_decode(const uint8_t *der, size_t der_len, struct pkcs1_pss_params *params);
+/*@ READS_PARAMS(given, PSS_ALGORITHM, pss); */
+uint32_t pkcs1_pss_algorithm_decode(const uint8_t *der, size_t der_len, struct pkcs1_pss_params *params);
+/*@ READS_PARAMS(ok, PSS_ALGORITHM_STRICT, pss); */
+uint32_t pkcs1_c_pss_algorithm_decode_strict(const uint8_t *der, size_t der_len, struct pkcs1_pss_params *params);
+/*@ READS_PARAMS(given, PSS_ALGORITHM_STRICT, pss); */
+uint32_t pkcs1_pss_algorithm_decode_strict(const uint8_t *der, size_t der_len, struct pkcs1_pss_params *params);
+/*@ WRITES_STRUCT(ok, PSS_ALGORITHM, params, pss); */
+uint32_t pkcs1_c_pss_algorithm_encode(const struct pkcs1_pss_params *params, uint8_t *out, size_t room, size_t *len);
+/*@ WRITES_STRUCT(given, PSS_ALGORITHM, params, pss); */
+uint32_t pkcs1_pss_algorithm_encode(const struct pkcs1_pss_params *params, uint8_t *out, size_t room, size_t *len);
+/*@ READS_PARAMS(ok, OAEP_PARAMS, oaep); */
+uint32_t pkcs1_c_oaep_params_decode(const uint8_t *der, size_t der_len, struct pkcs1_oaep_params *params);
+/*@ READS_PARAMS(given, OAEP_PARAMS, oaep); */
+uint32_t pkcs1_oaep_params_decode(const uint8_t *der, size_t der_len, struct pkcs1_oaep_params *params);
+/*@ READS_PARAMS(ok, OAEP_PARAMS_STRICT, oaep); */
+uint32_t pkcs1_c_oaep_params_decode_strict(const uint8_t *der, size_t der_len, struct pkcs1_oaep_params *params);
+/*@ READS_PARAMS(given, OAEP_PARAMS_STRICT, oaep); */
+uint32_t pkcs1_oaep_params_decode_strict(const uint8_t *der, size_t der_len, struct pkcs1_oaep_params *params);
+/*@ WRITES_STRUCT(ok, OAEP_PARAMS, params, oaep); */
 uint32_t pkcs1_c_oaep_params_encode(const struct pkcs1_oaep_params *params, uint8_t *out, size_t room, size_t *len);
-/*@ WRITES_STRUCT(given_out, IS_GIVEN, OAEP_PARAMS, params, oaep); */
+/*@ WRITES_STRUCT(given, OAEP_PARAMS, params, oaep); */
 uint32_t pkcs1_oaep_params_encode(const struct pkcs1_oaep_params *params, uint8_t *out, size_t room, size_t *len);
+/*@ READS_PARAMS(ok, OAEP_ALGORITHM, oaep); */
+uint32_t pkcs1_c_oaep_algorithm_decode(const uint8_t *der, size_t der_len, struct pkcs1_oaep_params *params);
+/*@ READS_PARAMS(given, OAEP_ALGORITHM, oaep); */
+uint32_t pkcs1_oaep_algorithm_decode(const uint8_t *der, size_t der_len, struct pkcs1_oaep_params *params);
+/*@ READS_PARAMS(ok, OAEP_ALGORITHM_STRICT, oaep); */
+uint32_t pkcs1_c_oaep_algorithm_decode_strict(const uint8_t *der, size_t der_len, struct pkcs1_oaep_params *params);
+/*@ READS_PARAMS(given, OAEP_ALGORITHM_STRICT, oaep); */
+uint32_t pkcs1_oaep_algorithm_decode_strict(const uint8_t *der, size_t der_len, struct pkcs1_oaep_params *params);
+/*@ WRITES_STRUCT(ok, OAEP_ALGORITHM, params, oaep); */
+uint32_t pkcs1_c_oaep_algorithm_encode(const struct pkcs1_oaep_params *params, uint8_t *out, size_t room, size_t *len);
+/*@ WRITES_STRUCT(given, OAEP_ALGORITHM, params, oaep); */
+uint32_t pkcs1_oaep_algorithm_encode(const struct pkcs1_oaep_params *params, uint8_t *out, size_t room, size_t *len);
+
+/* ---- Tests of a value ---- */
+
+#define TELLS(s, is_so)                                                                                                \
+    ENDS; assigns \nothing;                                                                                            \
+    ensures tells: is_flag(\result) && (\result == 1 <==> is_so)
+#define IS_OK(s, name, test) requires \valid_read(s) && ok_##name(*s) && ok(oid, oid_len);                             \
+    TELLS(s, test(name##_seen(*s), octets_of(oid, oid_len)))
+#define IS_GIVEN(s, name, oid, test) requires \valid_read(s) && given_##name(*s) && \valid_read(oid) && given_bytes(*oid); \
+    TELLS(s, test(name##_seen(*s), seen(*oid)))
+/*@ IS_OK(algorithm, algorithm, is_hash); */
+bool pkcs1_c_algorithm_is(const struct pkcs1_algorithm *algorithm, const uint8_t *oid, size_t oid_len);
+/*@ IS_GIVEN(algorithm, algorithm, oid, is_hash); */
+bool pkcs1_algorithm_is(const struct pkcs1_algorithm *algorithm, const struct pkcs1_bytes *oid);
+/*@ IS_OK(params, pss, uses_hash); */
+bool pkcs1_c_pss_is(const struct pkcs1_pss_params *params, const uint8_t *oid, size_t oid_len);
+/*@ IS_GIVEN(params, pss, hash, uses_hash); */
+bool pkcs1_pss_is(const struct pkcs1_pss_params *params, const struct pkcs1_bytes *hash);
+/*@ IS_OK(params, oaep, uses_hash); */
+bool pkcs1_c_oaep_is(const struct pkcs1_oaep_params *params, const uint8_t *oid, size_t oid_len);
+/*@ IS_GIVEN(params, oaep, hash, uses_hash); */
+bool pkcs1_oaep_is(const struct pkcs1_oaep_params *params, const struct pkcs1_bytes *hash);
+
+#define LABELS(is)                                                                                                     \
+    requires \valid_read(params) && is##_oaep(*params);                                                                \
+    FILLED_##is(bytes, label);                                                                                         \
+    requires \separated(label, params);                                                                                \
+    ENDS; assigns *label;                                                                                              \
+    ensures tells: is_flag(\result) && (\result == 1 <==> \old(has_label(algorithm_seen(params->p_source))));          \
+    ensures label: \result == 1 ==> params->p_source.has_parameters != 0 && ok_bytes(*label) &&                        \
+        made_bytes(*label, params->p_source.parameters);                                                               \
+    ensures unchanged: \result == 0 ==> *label == \old(*label)
+/*@ LABELS(ok); */
+bool pkcs1_c_oaep_label(const struct pkcs1_oaep_params *params, struct pkcs1_bytes *label);
+/*@ LABELS(given); */
+bool pkcs1_oaep_label(const struct pkcs1_oaep_params *params, struct pkcs1_bytes *label);
+
+/*@ requires \valid_read(left) && given_bytes(*left) && \valid_read(right) && given_bytes(*right);
+  @ TELLS(left, left->len == right->len && \forall integer i; 0 <= i < left->len ==> left->data[i] == right->data[i]); */
+bool pkcs1_oid_equal(const struct pkcs1_bytes *left, const struct pkcs1_bytes *right);
+
+/* ---- Numbers and texts ---- */
+
+/*@ requires ok(number, number_len);
+  @ ENDS; assigns \nothing;
+  @ ensures bits: \result == bit_len_of(octets_of(number, number_len)); */
+uint64_t pkcs1_c_bit_len(const uint8_t *number, size_t number_len);
+/*@ requires given_bytes(number);
+  @ ENDS; assigns \nothing;
+  @ ensures bits: \result == bit_len_of(seen(number)); */
+uint64_t pkcs1_bit_len(struct pkcs1_bytes number);
+/*@ FILLED_ok(bytes, text);
+  @ ENDS; assigns *text;
+  @ ensures text: text->data == text_of(status) && text->len == text_len_of(status) && is_text(text->data, text->len); */
+void pkcs1_c_status_text(uint32_t status, struct pkcs1_bytes *text);
+/*@ ENDS; assigns \nothing;
+  @ ensures text: \result == text_of(status) && is_text(\result, text_len_of(status)); */
+const char *pkcs1_strerror(uint32_t status);
+/*@ FILLED_ok(bytes, text);
+  @ ENDS; assigns *text;
+  @ ensures text: text->data == version_text && text->len == version_len && is_text(text->data, text->len); */
+void pkcs1_c_version(struct pkcs1_bytes *text);
+/*@ ENDS; assigns \nothing;
+  @ ensures text: \result == version_text && is_text(\result, version_len); */
+const char *pkcs1_version(void);
+
+/* ---- Parameters for a hash function ---- */
+
+/*@ predicate is_hash_with_null{L}(struct pkcs1_algorithm a, struct pkcs1_bytes hash) =
+  @   a.oid == hash && a.has_parameters == 1 && a.tag == 0x05 && ok_bytes(a.parameters) && a.parameters.len == 0;
+  @ predicate is_mgf1{L}(struct pkcs1_mask_gen m, struct pkcs1_bytes hash) =
+  @   m.oid == pkcs1_oid_mgf1 && m.has_hash == 1 && is_hash_with_null(m.hash, hash); */
+#define INIT                                                                                                           \
+    ENDS; assigns *params;                                                                                             \
+    ensures hash: is_hash_with_null(params->hash, \old(*hash));                                                        \
+    ensures mask_gen: is_mgf1(params->mask_gen, \old(*hash))
+/*@ requires \valid(params) && \valid_read(hash) && \separated(params, hash);
+  @ INIT;
+  @ ensures salt: params->salt_len == salt_len && params->trailer_field == 1; */
+void pkcs1_pss_params_init(struct pkcs1_pss_params *params, const struct pkcs1_bytes *hash, uint8_t salt_len);
+/*@ requires \valid(params) && \valid_read(hash) && given(label, label_len) && \separated(params, hash);
+  @ INIT;
+  @ ensures p_source: params->p_source.oid == pkcs1_oid_p_specified && params->p_source.has_parameters == 1 &&
+  @   params->p_source.tag == 0x04;
+  @ ensures label: ok_bytes(params->p_source.parameters) && params->p_source.parameters.len == label_len &&
+  @   (label_len != 0 ==> params->p_source.parameters.data == label); */
+void pkcs1_oaep_params_init(struct pkcs1_oaep_params *params, const struct pkcs1_bytes *hash, const uint8_t *label,
+                            size_t label_len);
 
 /* ---- The helpers of pkcs1.c ---- */
 
-#define COPIES(valid, name)                                                                                            \
-    requires valid && given_##name(*given);                                                                            \
-    ENDS; assigns \nothing;                                                                                            \
+#define PURE ENDS; assigns \nothing
+#define COPIES(name)                                                                                                   \
+    requires \valid_read(given) && given_##name(*given);                                                               \
+    PURE;                                                                                                              \
     ensures ok: ok_##name(\result);                                                                                    \
-    ensures made: made_##name(\result, *given);                                                                        \
-    ensures seen: name##_seen(\result) == name##_seen(*given)
-
+    ensures made: made_##name(\result, *given)
 /*@ requires given_bytes(given);
-  @ ENDS; assigns \nothing;
+  @ PURE;
   @ ensures ok: ok_bytes(\result);
   @ ensures made: made_bytes(\result, given);
   @ ensures seen: seen(\result) == seen(given); */
@@ -286,20 +508,70 @@ static const uint8_t *input(const uint8_t *der, size_t der_len);
   @ ensures \result == (room == 0 ? none : out); */
 static uint8_t *output(uint8_t *out, size_t room, uint8_t *none);
 /*@ requires \valid_read(flag);
-  @ ENDS; assigns \nothing;
+  @ PURE;
   @ ensures \result == (*flag != 0 ? 1 : 0); */
 static bool is_set(const bool *flag);
-/*@ COPIES(\valid_read(given), algorithm); */
+/*@ COPIES(private_key);
+  @ ensures seen: \forall value others; private_key_seen(\result, others) == private_key_seen(*given, others); */
+static struct pkcs1_private_key private_key(const struct pkcs1_private_key *given);
+/*@ COPIES(algorithm);
+  @ ensures seen: algorithm_seen(\result) == algorithm_seen(*given); */
 static struct pkcs1_algorithm algorithm(const struct pkcs1_algorithm *given);
-/*@ COPIES(\valid_read(given), mask_gen); */
+/*@ COPIES(mask_gen);
+  @ ensures seen: mask_gen_seen(\result) == mask_gen_seen(*given); */
 static struct pkcs1_mask_gen mask_gen(const struct pkcs1_mask_gen *given);
-/*@ COPIES(\valid_read(given), pss); */
+/*@ COPIES(pss);
+  @ ensures seen: pss_seen(\result) == pss_seen(*given); */
 static struct pkcs1_pss_params pss(const struct pkcs1_pss_params *given);
-/*@ COPIES(\valid_read(given), oaep); */
+/*@ COPIES(oaep);
+  @ ensures seen: oaep_seen(\result) == oaep_seen(*given); */
 static struct pkcs1_oaep_params oaep(const struct pkcs1_oaep_params *given);
-/*@ requires \valid(params) && \valid_read(read) && \separated(params, read);
-  @ ENDS; assigns *params;
-  @ ensures \result == status;
-  @ ensures ok: status == PKCS1_OK ==> *params == \old(*read);
-  @ ensures unchanged: status != PKCS1_OK ==> *params == \old(*params); */
+/*@ requires \valid_read(oid);
+  @ PURE;
+  @ ensures is_hash_with_null(\result, *oid); */
+static struct pkcs1_algorithm with_null(const struct pkcs1_bytes *oid);
+/*@ requires \valid_read(hash);
+  @ PURE;
+  @ ensures is_mgf1(\result, *hash); */
+static struct pkcs1_mask_gen mgf1(const struct pkcs1_bytes *hash);
+#define SETS                                                                                                           \
+    requires \valid(params) && \valid_read(read) && \separated(params, read);                                          \
+    ENDS; assigns *params;                                                                                             \
+    ensures \result == status;                                                                                         \
+    ensures ok: status == PKCS1_OK ==> *params == \old(*read);                                                         \
+    ensures unchanged: status != PKCS1_OK ==> *params == \old(*params)
+/*@ SETS; */
 static uint32_t set_pss(struct pkcs1_pss_params *params, uint32_t status, const struct pkcs1_pss_params *read);
+/*@ SETS; */
+static uint32_t set_oaep(struct pkcs1_oaep_params *params, uint32_t status, const struct pkcs1_oaep_params *read);
+/*@ requires ok_bytes(listed) && other_primes == count_of(seen(listed)) && \valid(others + (0 .. others_room - 1));
+  @ requires \separated(others + (0 .. others_room - 1), listed.data + (0 .. listed.len - 1));
+  @ ENDS; assigns others[0 .. others_room - 1];
+  @ PLACES(\true, listed.data, listed.len, \old(seen(listed))); */
+static void put_others(struct pkcs1_bytes listed, size_t other_primes, struct pkcs1_other_prime *others,
+                       size_t others_room);
+/*@ requires \valid_read(others + (0 .. count - 1));
+  @ TELLS(others, has_empty_number(others, count)); */
+static bool has_empty(const struct pkcs1_other_prime *others, size_t count);
+/*@ requires given_bytes(number);
+  @ PURE;
+  @ ensures fault: \result == fault_of(number); */
+static uint32_t fault(struct pkcs1_bytes number);
+/*@ requires given_bytes(number);
+  @ PURE;
+  @ ensures fault: \result == or_fault_of(status, number); */
+static uint32_t or_fault(uint32_t status, struct pkcs1_bytes number);
+/*@ requires \valid_read(key) && given_private_key(*key);
+  @ PURE;
+  @ ensures fault: \result == key_fault_of(*key); */
+static uint32_t key_fault(const struct pkcs1_private_key *key);
+/*@ requires \valid_read(other) && given_other(*other);
+  @ PURE;
+  @ ensures fault: \result == prime_fault_of(status, *other); */
+static uint32_t prime_fault(uint32_t status, const struct pkcs1_other_prime *other);
+/*@ requires \valid_read(key) && given_private_key(*key);
+  @ requires \valid_read(others + (0 .. count - 1)) && given_others(others, count);
+  @ PURE;
+  @ ensures fault: \result == first_fault_of(*key, others, count);
+  @ ensures empty: has_empty_number(others, count) ==> \result != PKCS1_OK; */
+static uint32_t first_fault(const struct pkcs1_private_key *key, const struct pkcs1_other_prime *others, size_t count);
