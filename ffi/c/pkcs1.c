@@ -24,9 +24,9 @@ static const uint8_t *input(const uint8_t *der, size_t der_len) {
     return der_len == 0 ? no_bytes.data : der;
 }
 
-/* `out`, or `none` if there is no room. */
-static uint8_t *output(uint8_t *out, size_t room, uint8_t *none) {
-    return room == 0 ? none : out;
+/* Nothing is written where there is no room. */
+static uint8_t *output(uint8_t *out, size_t room) {
+    return room == 0 ? (uint8_t *)no_octets : out;
 }
 
 /* Whether the octet of a flag isn't 0. A caller in another language may have set it to more than 1. */
@@ -63,8 +63,7 @@ uint32_t pkcs1_public_key_decode(const uint8_t *der, size_t der_len, struct pkcs
 
 uint32_t pkcs1_public_key_encode(const struct pkcs1_public_key *key, uint8_t *out, size_t room, size_t *len) {
     struct pkcs1_public_key given = {never_null(key->modulus), never_null(key->public_exponent)};
-    uint8_t none[1];
-    return pkcs1_c_public_key_encode(&given, output(out, room, none), room, len);
+    return pkcs1_c_public_key_encode(&given, output(out, room), room, len);
 }
 
 /* Private keys. */
@@ -82,15 +81,21 @@ static void put_others(struct pkcs1_bytes listed, size_t other_primes, struct pk
         pkcs1_c_other_primes(listed.data, listed.len, others, count);
 }
 
+/* Fills what the caller passes with what was read. */
+static void put_key(const struct pkcs1_private_key *read, struct pkcs1_bytes listed, struct pkcs1_private_key *key,
+                    struct pkcs1_other_prime *others, size_t others_room) {
+    *key = *read;
+    //@ assert rest: \forall integer i; 0 <= i < others_room ==> others[i] == \at(others[i], Pre);
+    put_others(listed, read->other_primes, others, others_room);
+}
+
 uint32_t pkcs1_private_key_decode(const uint8_t *der, size_t der_len, struct pkcs1_private_key *key,
                                   struct pkcs1_other_prime *others, size_t others_room) {
     struct pkcs1_private_key read = {NO, NO, NO, NO, NO, NO, NO, NO, 0};
     struct pkcs1_bytes listed = NO;
     uint32_t status = pkcs1_c_private_key_decode(input(der, der_len), der_len, &read, &listed);
-    if (status == PKCS1_OK) {
-        *key = read;
-        put_others(listed, read.other_primes, others, others_room);
-    }
+    if (status == PKCS1_OK)
+        put_key(&read, listed, key, others, others_room);
     return status;
 }
 
@@ -153,7 +158,7 @@ static uint32_t prime_fault(uint32_t status, const struct pkcs1_other_prime *oth
 static uint32_t first_fault(const struct pkcs1_private_key *key, const struct pkcs1_other_prime *others, size_t count) {
     uint32_t status = key_fault(key);
     /*@ loop invariant 0 <= i <= count && status == first_fault_of(*key, others, i);
-      @ loop invariant has_empty_number(others, i) ==> status != PKCS1_OK;
+      @ loop invariant is_fault(status) && (has_empty_number(others, i) ==> status != PKCS1_OK);
       @ loop assigns i, status;
       @ loop variant count - i; */
     for (size_t i = 0; i < count; i++)
@@ -161,16 +166,20 @@ static uint32_t first_fault(const struct pkcs1_private_key *key, const struct pk
     return status;
 }
 
+/* Encodes a copy of the key. The array of primes isn't null, nor is a number in it. */
+static uint32_t write_key(const struct pkcs1_private_key *key, const struct pkcs1_other_prime *others,
+                          size_t others_len, uint8_t *out, size_t room, size_t *len) {
+    struct pkcs1_private_key given = private_key(key);
+    return pkcs1_c_private_key_encode(&given, others, others_len, output(out, room), room, len);
+}
+
 uint32_t pkcs1_private_key_encode(const struct pkcs1_private_key *key, const struct pkcs1_other_prime *others,
                                   size_t others_len, uint8_t *out, size_t room, size_t *len) {
-    uint8_t none[1];
     if (key->other_primes != others_len)
         return PKCS1_OTHER_PRIMES;
     if (has_empty(others, others_len))
         return first_fault(key, others, others_len);
-    struct pkcs1_private_key given = private_key(key);
-    return pkcs1_c_private_key_encode(&given, others_len == 0 ? &no_prime : others, others_len,
-                                      output(out, room, none), room, len);
+    return write_key(key, others_len == 0 ? &no_prime : others, others_len, out, room, len);
 }
 
 /* PKCS #8. */
@@ -184,8 +193,9 @@ uint32_t pkcs1_private_key_info_decode(const uint8_t *der, size_t der_len, struc
     uint32_t status = pkcs1_c_private_key_info_decode(input(der, der_len), der_len, &read, &read_key, &listed);
     if (status == PKCS1_OK) {
         *info = read;
-        *key = read_key;
-        put_others(listed, read_key.other_primes, others, others_room);
+        //@ assert rest: \forall integer i; 0 <= i < others_room ==> others[i] == \at(others[i], Pre);
+        //@ assert octets: same_octets{Pre, Here}(listed.data, listed.len);
+        put_key(&read_key, listed, key, others, others_room);
     }
     return status;
 }
@@ -193,12 +203,11 @@ uint32_t pkcs1_private_key_info_decode(const uint8_t *der, size_t der_len, struc
 uint32_t pkcs1_private_key_info_encode(const struct pkcs1_private_key_info *info, uint8_t *out, size_t room,
                                        size_t *len) {
     struct pkcs1_private_key_info given = {never_null(info->private_key), false, no_bytes};
-    uint8_t none[1];
     if (is_set(&info->has_attributes)) {
         given.has_attributes = true;
         given.attributes = never_null(info->attributes);
     }
-    return pkcs1_c_private_key_info_encode(&given, output(out, room, none), room, len);
+    return pkcs1_c_private_key_info_encode(&given, output(out, room), room, len);
 }
 
 /* Algorithms. */
@@ -308,14 +317,12 @@ uint32_t pkcs1_pss_algorithm_decode_strict(const uint8_t *der, size_t der_len, s
 
 uint32_t pkcs1_pss_params_encode(const struct pkcs1_pss_params *params, uint8_t *out, size_t room, size_t *len) {
     struct pkcs1_pss_params given = pss(params);
-    uint8_t none[1];
-    return pkcs1_c_pss_params_encode(&given, output(out, room, none), room, len);
+    return pkcs1_c_pss_params_encode(&given, output(out, room), room, len);
 }
 
 uint32_t pkcs1_pss_algorithm_encode(const struct pkcs1_pss_params *params, uint8_t *out, size_t room, size_t *len) {
     struct pkcs1_pss_params given = pss(params);
-    uint8_t none[1];
-    return pkcs1_c_pss_algorithm_encode(&given, output(out, room, none), room, len);
+    return pkcs1_c_pss_algorithm_encode(&given, output(out, room), room, len);
 }
 
 void pkcs1_pss_params_init(struct pkcs1_pss_params *params, const struct pkcs1_bytes *hash, uint8_t salt_len) {
@@ -376,14 +383,12 @@ uint32_t pkcs1_oaep_algorithm_decode_strict(const uint8_t *der, size_t der_len, 
 
 uint32_t pkcs1_oaep_params_encode(const struct pkcs1_oaep_params *params, uint8_t *out, size_t room, size_t *len) {
     struct pkcs1_oaep_params given = oaep(params);
-    uint8_t none[1];
-    return pkcs1_c_oaep_params_encode(&given, output(out, room, none), room, len);
+    return pkcs1_c_oaep_params_encode(&given, output(out, room), room, len);
 }
 
 uint32_t pkcs1_oaep_algorithm_encode(const struct pkcs1_oaep_params *params, uint8_t *out, size_t room, size_t *len) {
     struct pkcs1_oaep_params given = oaep(params);
-    uint8_t none[1];
-    return pkcs1_c_oaep_algorithm_encode(&given, output(out, room, none), room, len);
+    return pkcs1_c_oaep_algorithm_encode(&given, output(out, room), room, len);
 }
 
 void pkcs1_oaep_params_init(struct pkcs1_oaep_params *params, const struct pkcs1_bytes *hash, const uint8_t *label,

@@ -11,7 +11,11 @@
 /*@ axiomatic Octets {
   @   type octets;
   @   logic octets octets_of{L}(uint8_t *data, integer len) reads data[0 .. len - 1];
+  @   predicate same_octets{L, M}(uint8_t *data, integer len) =
+  @     \forall integer i; 0 <= i < len ==> \at(data[i], L) == \at(data[i], M);
   @   axiom no_octets{L, M}: \forall uint8_t *p, *q; octets_of{L}(p, 0) == octets_of{M}(q, 0);
+  @   axiom same{L, M}: \forall uint8_t *p, integer len;
+  @     same_octets{L, M}(p, len) ==> octets_of{L}(p, len) == octets_of{M}(p, len);
   @ }
   @ // What pkcs1_c.h asks of an array, and what pkcs1.h does.
   @ predicate ok{L}(uint8_t *data, integer len) = data != \null && \valid_read(data + (0 .. len - 1));
@@ -187,6 +191,7 @@ enum kind { PUBLIC_KEY, PRIVATE_KEY, PRIVATE_KEY_INFO, PSS_PARAMS, PSS_PARAMS_ST
   @   logic integer version_len;
   @ }
   @
+  @ predicate is_fault(integer status) = status == PKCS1_OK || status == PKCS1_LENGTH || status == PKCS1_OVERFLOW;
   @ // Why a number can't be held, or PKCS1_OK; and why the first number of a private key can't be.
   @ logic integer fault_of{L}(struct pkcs1_bytes s) =
   @   s.len == 0 ? PKCS1_LENGTH : bit_len_of(seen(s)) == UINT64_MAX ? PKCS1_OVERFLOW : PKCS1_OK;
@@ -267,11 +272,12 @@ uint32_t pkcs1_public_key_encode(const struct pkcs1_public_key *key, uint8_t *ou
 
 /* ---- Private keys ---- */
 
-/* The proved call lists the other primes. */
+/* The octets of the other primes, which the proved call lists. */
+#define LISTED(kind) \old(seen(listed_of(kind, der, octets_of(der, der_len))))
 #define LISTS(kind)                                                                                                    \
     ensures listed: \result == PKCS1_OK ==> *listed == listed_of(kind, der, DER);                                      \
     ensures part: \result == PKCS1_OK ==> part_of(*listed, der, der_len);                                              \
-    ensures count: \result == PKCS1_OK ==> key->other_primes == count_of(seen(*listed));                               \
+    ensures count: \result == PKCS1_OK ==> key->other_primes == count_of(LISTED(kind));                                \
     ensures unchanged_listed: \result != PKCS1_OK ==> *listed == \old(*listed)
 /* If `when`, the primes of a list are placed, as many as fit. */
 #define PLACES(when, list, list_len, octets)                                                                           \
@@ -282,9 +288,8 @@ uint32_t pkcs1_public_key_encode(const struct pkcs1_public_key *key, uint8_t *ou
     ensures rest: when ==> \forall integer i; 0 <= i < others_room && count_of(octets) <= i ==>                        \
         others[i] == \old(others[i])
 #define PLACES_OTHERS(kind)                                                                                            \
-    PLACES(\result == PKCS1_OK, listed_of(kind, der, DER).data, listed_of(kind, der, DER).len,                         \
-        seen(listed_of(kind, der, DER)));                                                                              \
-    ensures count: \result == PKCS1_OK ==> key->other_primes == count_of(seen(listed_of(kind, der, DER)));             \
+    PLACES(\result == PKCS1_OK, listed_of(kind, der, DER).data, listed_of(kind, der, DER).len, LISTED(kind));          \
+    ensures count: \result == PKCS1_OK ==> key->other_primes == count_of(LISTED(kind));                                \
     ensures unchanged_others: \result != PKCS1_OK ==>                                                                  \
         \forall integer i; 0 <= i < others_room ==> others[i] == \old(others[i])
 /* What is in a container too. */
@@ -306,8 +311,8 @@ uint32_t pkcs1_c_private_key_decode(const uint8_t *der, size_t der_len, struct p
   @ FILLS(PRIVATE_KEY, key, private_key); PLACES_OTHERS(PRIVATE_KEY); */
 uint32_t pkcs1_private_key_decode(const uint8_t *der, size_t der_len, struct pkcs1_private_key *key,
                                   struct pkcs1_other_prime *others, size_t others_room);
-/*@ requires ok(der, der_len) && \valid(info) && ok_info(*info) && \valid(key) && ok_private_key(*key);
-  @ requires \valid(listed) && ok_bytes(*listed);
+/*@ requires ok(der, der_len) && \valid(info) && ok_info(*info) && \valid(key) && ok_private_key(*key) &&
+  @   \valid(listed) && ok_bytes(*listed);
   @ requires \separated(info, key, listed, der + (0 .. der_len - 1));
   @ ENDS; assigns *info, *key, *listed;
   @ FILLS(PRIVATE_KEY_INFO, info, info); FILLS_KEY; LISTS(PRIVATE_KEY_INFO); */
@@ -329,7 +334,8 @@ void pkcs1_c_other_primes(const uint8_t *listed, size_t listed_len, struct pkcs1
 
 #define WRITES_KEY(is)                                                                                                 \
     WRITTEN(is, key, private_key);                                                                                     \
-    requires \valid_read(others + (0 .. others_len - 1)) && is##_others(others, others_len);                           \
+    requires \valid_read(others + (0 .. others_len - 1));                                                              \
+    requires is##_others(others, others_len);                                                                          \
     requires \separated(others + (0 .. others_len - 1), out + (0 .. room - 1), len);                                   \
     requires apart_others(others, others_len, out, room, len);                                                         \
     WRITES(PRIVATE_KEY, private_key_seen(*key, others_seen(others, others_len)))
@@ -504,9 +510,10 @@ static struct pkcs1_bytes never_null(struct pkcs1_bytes given);
   @ ensures ok(\result, der_len) && (der_len != 0 ==> \result == der);
   @ ensures seen: octets_of(\result, der_len) == octets_of(der, der_len); */
 static const uint8_t *input(const uint8_t *der, size_t der_len);
-/*@ ENDS; assigns \result \from out, room, none;
-  @ ensures \result == (room == 0 ? none : out); */
-static uint8_t *output(uint8_t *out, size_t room, uint8_t *none);
+/*@ requires given_out(out, room);
+  @ ENDS; assigns \result \from out, room;
+  @ ensures ok_out(\result, room) && (room != 0 ==> \result == out); */
+static uint8_t *output(uint8_t *out, size_t room);
 /*@ requires \valid_read(flag);
   @ PURE;
   @ ensures \result == (*flag != 0 ? 1 : 0); */
@@ -550,28 +557,43 @@ static uint32_t set_oaep(struct pkcs1_oaep_params *params, uint32_t status, cons
   @ PLACES(\true, listed.data, listed.len, \old(seen(listed))); */
 static void put_others(struct pkcs1_bytes listed, size_t other_primes, struct pkcs1_other_prime *others,
                        size_t others_room);
+/*@ requires \valid_read(read) && ok_bytes(listed) && read->other_primes == count_of(seen(listed)) && \valid(key) &&
+  @   \valid(others + (0 .. others_room - 1));
+  @ requires \separated(read, key, others + (0 .. others_room - 1), listed.data + (0 .. listed.len - 1));
+  @ ENDS; assigns *key, others[0 .. others_room - 1];
+  @ ensures key: *key == \old(*read);
+  @ PLACES(\true, listed.data, listed.len, \old(seen(listed))); */
+static void put_key(const struct pkcs1_private_key *read, struct pkcs1_bytes listed, struct pkcs1_private_key *key,
+                    struct pkcs1_other_prime *others, size_t others_room);
 /*@ requires \valid_read(others + (0 .. count - 1));
   @ TELLS(others, has_empty_number(others, count)); */
 static bool has_empty(const struct pkcs1_other_prime *others, size_t count);
+/*@ WRITTEN(given, key, private_key);
+  @ requires \valid_read(others + (0 .. others_len - 1)) && ok_others(others, others_len);
+  @ requires \separated(others + (0 .. others_len - 1), out + (0 .. room - 1), len);
+  @ requires apart_others(others, others_len, out, room, len);
+  @ WRITES(PRIVATE_KEY, private_key_seen(*key, others_seen(others, others_len))); */
+static uint32_t write_key(const struct pkcs1_private_key *key, const struct pkcs1_other_prime *others,
+                          size_t others_len, uint8_t *out, size_t room, size_t *len);
 /*@ requires given_bytes(number);
   @ PURE;
-  @ ensures fault: \result == fault_of(number); */
+  @ ensures fault: \result == fault_of(number) && is_fault(\result); */
 static uint32_t fault(struct pkcs1_bytes number);
-/*@ requires given_bytes(number);
+/*@ requires given_bytes(number) && is_fault(status);
   @ PURE;
-  @ ensures fault: \result == or_fault_of(status, number); */
+  @ ensures fault: \result == or_fault_of(status, number) && is_fault(\result); */
 static uint32_t or_fault(uint32_t status, struct pkcs1_bytes number);
 /*@ requires \valid_read(key) && given_private_key(*key);
   @ PURE;
-  @ ensures fault: \result == key_fault_of(*key); */
+  @ ensures fault: \result == key_fault_of(*key) && is_fault(\result); */
 static uint32_t key_fault(const struct pkcs1_private_key *key);
-/*@ requires \valid_read(other) && given_other(*other);
+/*@ requires \valid_read(other) && given_other(*other) && is_fault(status);
   @ PURE;
-  @ ensures fault: \result == prime_fault_of(status, *other); */
+  @ ensures fault: \result == prime_fault_of(status, *other) && is_fault(\result); */
 static uint32_t prime_fault(uint32_t status, const struct pkcs1_other_prime *other);
 /*@ requires \valid_read(key) && given_private_key(*key);
   @ requires \valid_read(others + (0 .. count - 1)) && given_others(others, count);
   @ PURE;
-  @ ensures fault: \result == first_fault_of(*key, others, count);
+  @ ensures fault: \result == first_fault_of(*key, others, count) && is_fault(\result);
   @ ensures empty: has_empty_number(others, count) ==> \result != PKCS1_OK; */
 static uint32_t first_fault(const struct pkcs1_private_key *key, const struct pkcs1_other_prime *others, size_t count);
