@@ -11,17 +11,18 @@ static const uint8_t no_octets[1] = {0};
 #define NO { no_octets, 0 }
 #define NO_ALGORITHM { NO, false, 0, NO }
 #define NO_MASK_GEN { NO, false, NO_ALGORITHM }
+#define NO_PRIME { NO, NO, NO }
 
-static const struct pkcs1_bytes no_bytes = NO;
-static const struct pkcs1_algorithm no_algorithm = NO_ALGORITHM;
-static const struct pkcs1_other_prime no_prime = {NO, NO, NO};
+static const struct pkcs1_other_prime no_prime = NO_PRIME;
 
 static struct pkcs1_bytes never_null(struct pkcs1_bytes given) {
-    return given.len == 0 ? no_bytes : given;
+    if (given.len == 0)
+        given.data = no_octets;
+    return given;
 }
 
 static const uint8_t *input(const uint8_t *der, size_t der_len) {
-    return der_len == 0 ? no_bytes.data : der;
+    return der_len == 0 ? no_octets : der;
 }
 
 /* Nothing is written where there is no room. */
@@ -71,12 +72,13 @@ uint32_t pkcs1_public_key_encode(const struct pkcs1_public_key *key, uint8_t *ou
 /* Puts the listed primes into `others`, as many as fit. The proved call asks for valid structs there. */
 static void put_others(struct pkcs1_bytes listed, size_t other_primes, struct pkcs1_other_prime *others,
                        size_t others_room) {
+    const struct pkcs1_other_prime none = NO_PRIME;
     size_t count = other_primes < others_room ? other_primes : others_room;
     /*@ loop invariant 0 <= i <= count && \forall integer j; 0 <= j < i ==> ok_other(others[j]);
       @ loop assigns i, others[0 .. count - 1];
       @ loop variant count - i; */
     for (size_t i = 0; i < count; i++)
-        others[i] = no_prime;
+        others[i] = none;
     if (count > 0)
         pkcs1_c_other_primes(listed.data, listed.len, others, count);
 }
@@ -202,7 +204,7 @@ uint32_t pkcs1_private_key_info_decode(const uint8_t *der, size_t der_len, struc
 
 uint32_t pkcs1_private_key_info_encode(const struct pkcs1_private_key_info *info, uint8_t *out, size_t room,
                                        size_t *len) {
-    struct pkcs1_private_key_info given = {never_null(info->private_key), false, no_bytes};
+    struct pkcs1_private_key_info given = {never_null(info->private_key), false, NO};
     if (is_set(&info->has_attributes)) {
         given.has_attributes = true;
         given.attributes = never_null(info->attributes);
@@ -212,19 +214,21 @@ uint32_t pkcs1_private_key_info_encode(const struct pkcs1_private_key_info *info
 
 /* Algorithms. */
 
-#define OID(octets) { (const uint8_t *)octets, sizeof octets - 1 }
-const struct pkcs1_bytes pkcs1_oid_sha1 = OID("\x2b\x0e\x03\x02\x1a");
-const struct pkcs1_bytes pkcs1_oid_sha224 = OID("\x60\x86\x48\x01\x65\x03\x04\x02\x04");
-const struct pkcs1_bytes pkcs1_oid_sha256 = OID("\x60\x86\x48\x01\x65\x03\x04\x02\x01");
-const struct pkcs1_bytes pkcs1_oid_sha384 = OID("\x60\x86\x48\x01\x65\x03\x04\x02\x02");
-const struct pkcs1_bytes pkcs1_oid_sha512 = OID("\x60\x86\x48\x01\x65\x03\x04\x02\x03");
-const struct pkcs1_bytes pkcs1_oid_sha512_224 = OID("\x60\x86\x48\x01\x65\x03\x04\x02\x05");
-const struct pkcs1_bytes pkcs1_oid_sha512_256 = OID("\x60\x86\x48\x01\x65\x03\x04\x02\x06");
-const struct pkcs1_bytes pkcs1_oid_mgf1 = OID("\x2a\x86\x48\x86\xf7\x0d\x01\x01\x08");
-const struct pkcs1_bytes pkcs1_oid_p_specified = OID("\x2a\x86\x48\x86\xf7\x0d\x01\x01\x09");
-const struct pkcs1_bytes pkcs1_oid_rsa_encryption = OID("\x2a\x86\x48\x86\xf7\x0d\x01\x01\x01");
-const struct pkcs1_bytes pkcs1_oid_rsassa_pss = OID("\x2a\x86\x48\x86\xf7\x0d\x01\x01\x0a");
-const struct pkcs1_bytes pkcs1_oid_rsaes_oaep = OID("\x2a\x86\x48\x86\xf7\x0d\x01\x01\x07");
+#define OID(name, ...)                                 \
+    static const uint8_t octets_##name[] = {__VA_ARGS__}; \
+    const struct pkcs1_bytes pkcs1_oid_##name = {octets_##name, sizeof octets_##name}
+OID(sha1, 0x2b, 0x0e, 0x03, 0x02, 0x1a);
+OID(sha224, 0x60, 0x86, 0x48, 0x01, 0x65, 0x03, 0x04, 0x02, 0x04);
+OID(sha256, 0x60, 0x86, 0x48, 0x01, 0x65, 0x03, 0x04, 0x02, 0x01);
+OID(sha384, 0x60, 0x86, 0x48, 0x01, 0x65, 0x03, 0x04, 0x02, 0x02);
+OID(sha512, 0x60, 0x86, 0x48, 0x01, 0x65, 0x03, 0x04, 0x02, 0x03);
+OID(sha512_224, 0x60, 0x86, 0x48, 0x01, 0x65, 0x03, 0x04, 0x02, 0x05);
+OID(sha512_256, 0x60, 0x86, 0x48, 0x01, 0x65, 0x03, 0x04, 0x02, 0x06);
+OID(mgf1, 0x2a, 0x86, 0x48, 0x86, 0xf7, 0x0d, 0x01, 0x01, 0x08);
+OID(p_specified, 0x2a, 0x86, 0x48, 0x86, 0xf7, 0x0d, 0x01, 0x01, 0x09);
+OID(rsa_encryption, 0x2a, 0x86, 0x48, 0x86, 0xf7, 0x0d, 0x01, 0x01, 0x01);
+OID(rsassa_pss, 0x2a, 0x86, 0x48, 0x86, 0xf7, 0x0d, 0x01, 0x01, 0x0a);
+OID(rsaes_oaep, 0x2a, 0x86, 0x48, 0x86, 0xf7, 0x0d, 0x01, 0x01, 0x07);
 
 bool pkcs1_oid_equal(const struct pkcs1_bytes *left, const struct pkcs1_bytes *right) {
     return left->len == right->len && (left->len == 0 || memcmp(left->data, right->data, left->len) == 0);
@@ -232,7 +236,7 @@ bool pkcs1_oid_equal(const struct pkcs1_bytes *left, const struct pkcs1_bytes *r
 
 /* A copy of the algorithm in which the fields after a false `has_parameters` are empty, and nothing is null. */
 static struct pkcs1_algorithm algorithm(const struct pkcs1_algorithm *given) {
-    struct pkcs1_algorithm made = no_algorithm;
+    struct pkcs1_algorithm made = NO_ALGORITHM;
     made.oid = never_null(given->oid);
     if (is_set(&given->has_parameters)) {
         made.has_parameters = true;
@@ -249,7 +253,7 @@ bool pkcs1_algorithm_is(const struct pkcs1_algorithm *given, const struct pkcs1_
 }
 
 static struct pkcs1_mask_gen mask_gen(const struct pkcs1_mask_gen *given) {
-    struct pkcs1_mask_gen made = {never_null(given->oid), false, no_algorithm};
+    struct pkcs1_mask_gen made = {never_null(given->oid), false, NO_ALGORITHM};
     if (is_set(&given->has_hash)) {
         made.has_hash = true;
         made.hash = algorithm(&given->hash);
@@ -258,7 +262,7 @@ static struct pkcs1_mask_gen mask_gen(const struct pkcs1_mask_gen *given) {
 }
 
 static struct pkcs1_algorithm with_null(const struct pkcs1_bytes *oid) {
-    struct pkcs1_algorithm made = no_algorithm;
+    struct pkcs1_algorithm made = NO_ALGORITHM;
     made.oid = *oid;
     made.has_parameters = true;
     made.tag = 0x05;
