@@ -1,0 +1,132 @@
+#!/usr/bin/env bash
+# Proves ffi/c/pkcs1.c with Frama-C: that each call of pkcs1.h does what ffi/proof/pkcs1.acsl.h says, over the proved
+# calls. Names each goal that isn't proved, says how many are, and fails if one isn't.
+#
+#     ffi/prove.sh [--must] [WORD..]    WORDs go to Frama-C, such as -wp-fct NAME; only goals are looked at then
+#
+# It needs frama-c, why3, z3 and cvc4: as root it installs them with apt-get. Where it can't, it is left out, and fails
+# with --must or if CI is set. AT_ONCE: how many provers run at a time. FAST: gives up on a goal early, where it is
+# known that goals are open.
+set -eu
+cd "$(dirname "$0")/.."
+must=${CI-}
+[ "${1-}" != --must ] || {
+    must=must
+    shift
+}
+room=$(mktemp -d)
+trap 'rm -rf "$room"' EXIT
+at_once=${AT_ONCE:-$(nproc)}
+
+missing() {
+    local tool
+    for tool in frama-c why3 z3 cvc4; do
+        command -v "$tool" > /dev/null || return 0
+    done
+    return 1
+}
+install() {
+    local packages=(frama-c-base why3 z3 cvc4)
+    apt-get install -y --no-install-recommends "${packages[@]}" ||
+        { apt-get update && apt-get install -y --no-install-recommends "${packages[@]}"; }
+}
+if missing && [ "$(id -u)" = 0 ] && [ -e /etc/debian_version ] && command -v apt-get > /dev/null; then
+    install > "$room/apt" 2>&1 || tail -n 5 "$room/apt" >&2
+fi
+if missing; then
+    echo "ffi/prove.sh: frama-c, why3, z3 and cvc4 aren't all installed: the proof of pkcs1.c is left out" >&2
+    [ -z "$must" ] || exit 1
+    exit 0
+fi
+export WHY3CONFIG=$room/why3.conf
+why3 config detect > "$room/detected" 2>&1
+
+# frama LOG WORD..: Frama-C on the file proof.c in the folder $source.
+source=.
+frama() {
+    local log=$1
+    shift
+    frama-c -machdep gcc_x86_64 -no-frama-c-stdlib \
+        -cpp-extra-args="-nostdinc -I$source/ffi/proof/include -I$source/ffi/include" "$source/ffi/proof/proof.c" \
+        -wp -wp-rte -wp-par "$at_once" "$@" > "$log" 2>&1 || {
+        cat "$log" >&2
+        exit 1
+    }
+}
+# tries NUMBER WORD..: words for a try, in which a prover may take this many seconds. The number of its steps is what
+# ends it on a machine that isn't overloaded.
+tries() {
+    local seconds=$1 steps=$2
+    shift 2
+    if [ -n "${FAST-}" ]; then
+        seconds=4 steps=600000
+    fi
+    printf '%s\n' "$@" -wp-timeout "$seconds" -wp-steps "$steps"
+}
+# prove LOG WORD..: what one prover leaves is tried by the other, and then again with more time.
+prove() {
+    local log=$1 first second third
+    shift
+    mapfile -t first < <(tries 60 1500000 -wp-prover cvc4)
+    mapfile -t second < <(tries 60 15000000 -wp-prover z3)
+    mapfile -t third < <(tries 300 6000000 -wp-prover cvc4,z3)
+    [ -z "${FAST-}" ] || third=("${second[@]}")
+    frama "$log" "$@" "${first[@]}" -then "${second[@]}" -then "${third[@]}"
+}
+# names PATTERN LOG..: the goals in lines like this.
+names() {
+    local pattern=$1
+    shift
+    sed -nE "s/^\[wp\] \[($pattern)\] (Goal|Smoke-test) ([^ ]+).*/\3/p" "$@" | sort -u
+}
+# What WP doesn't prove over all that C allows, or leaves out, it says in a warning.
+refuse_warnings() {
+    ! grep -hE 'Stronger|Degenerated|Missing assigns|without (definition|specification)|Cast with incompatible' "$@" || {
+        echo "ffi/prove.sh: Frama-C warns of that" >&2
+        exit 1
+    }
+}
+
+logs=("$room/calls")
+prove "$room/calls" -wp-no-init-const -wp-skip-fct identifiers "$@"
+if [ $# = 0 ]; then # the octets of the identifiers, which make other proofs slower
+    logs+=("$room/identifiers")
+    prove "$room/identifiers" -wp-fct identifiers
+fi
+refuse_warnings "${logs[@]}"
+names 'Qed|CFG|CVC4 [0-9.]*|Z3 [0-9.]*' "${logs[@]}" > "$room/proved"
+names 'Failed|Timeout|Unknown|Stepout' "${logs[@]}" | comm -23 - "$room/proved" > "$room/open"
+sed 's/^/not proved: /' "$room/open"
+
+# The contracts contradict nothing: no prover finds that a place can't be reached.
+smoke() {
+    local kind others=
+    for kind in requires ensures assigns exits terminates assert invariant variant; do
+        others=$others,-@$kind
+    done
+    frama "$room/smoke" -wp-no-init-const -wp-skip-fct identifiers -wp-smoke-tests -wp-prop "${others#,}" \
+        -wp-prover cvc4 -wp-timeout 1 -wp-smoke-timeout 1
+    passed=$(names 'Passed' "$room/smoke" | wc -l)
+}
+# Three false assertions are refused.
+refute() {
+    source=$room/false
+    mkdir -p "$source/ffi"
+    cp -r ffi/c ffi/include ffi/proof "$source/ffi"
+    sed -i -e '/^    \*key = \*read;/a //@ check refused: key->modulus.len == 0;' \
+        -e '/^    if (has_empty(/i //@ check refused: others_len == 0;' \
+        -e '/^    return given;/i //@ check refused: given.len != 0;' "$source/ffi/c/pkcs1.c"
+    frama "$room/refused" -wp-no-init-const -wp-prop refused -wp-prover cvc4 -wp-timeout 4
+    source=.
+    refused=$(names 'Failed|Timeout|Unknown|Stepout' "$room/refused" | wc -l)
+}
+if [ $# = 0 ]; then
+    smoke
+    sed -nE 's/^\[wp\] \[(Failed|Doomed)\] (Smoke-test|Goal) ([^ ]+).*/contradiction: \3/p' "$room/smoke" > "$room/doomed"
+    refute
+    cat "$room/doomed"
+    echo "$passed places are within reach, $refused of 3 false assertions are refused"
+    [ ! -s "$room/doomed" ] && [ "$passed" -gt 100 ] && [ "$refused" = 3 ] || exit 1
+fi
+echo "$(wc -l < "$room/proved") proved, $(wc -l < "$room/open") not"
+[ -s "$room/proved" ] && [ ! -s "$room/open" ]
