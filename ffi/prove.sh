@@ -2,11 +2,12 @@
 # Proves ffi/c/pkcs1.c with Frama-C: that each call of pkcs1.h does what ffi/proof/pkcs1.acsl.h says, over the proved
 # calls. Names each goal that isn't proved, says how many are, and fails if one isn't.
 #
-#     ffi/prove.sh [--must] [WORD..]    WORDs go to Frama-C, such as -wp-fct NAME; only goals are looked at then
+#     ffi/prove.sh [--must] [WORD..]    WORDs go to Frama-C, such as -wp-fct NAME: then only their goals are proved
 #
-# It needs frama-c, why3, z3 and cvc4: as root it installs them with apt-get. Where it can't, it is left out, and fails
-# with --must or if CI is set. AT_ONCE: how many provers run at a time. FAST: gives up on a goal early, where it is
-# known that goals are open.
+# It needs frama-c, why3, z3 and cvc4: as root on Debian it installs them with apt-get. If they aren't there, the proof
+# is left out, which is a failure with --must or if CI is set.
+# AT_ONCE: how many provers run at a time. GIVE_UP: in how many seconds, where goals are known to be open. KEEP: a folder
+# for the names of the goals that are proved and open.
 set -eu
 cd "$(dirname "$0")/.."
 must=${CI-}
@@ -53,25 +54,18 @@ frama() {
         exit 1
     }
 }
-# tries NUMBER WORD..: words for a try, in which a prover may take this many seconds. The number of its steps is what
-# ends it on a machine that isn't overloaded.
-tries() {
-    local seconds=$1 steps=$2
-    shift 2
-    if [ -n "${FAST-}" ]; then
-        seconds=4 steps=600000
-    fi
-    printf '%s\n' "$@" -wp-timeout "$seconds" -wp-steps "$steps"
-}
-# prove LOG WORD..: what one prover leaves is tried by the other, and then again with more time.
+# prove LOG WORD..: what one prover leaves is tried by the other, and then by both with more time. Steps don't depend on
+# how much else the machine does: the slowest proof has 300000.
 prove() {
-    local log=$1 first second third
+    local log=$1
     shift
-    mapfile -t first < <(tries 60 1500000 -wp-prover cvc4)
-    mapfile -t second < <(tries 60 15000000 -wp-prover z3)
-    mapfile -t third < <(tries 300 6000000 -wp-prover cvc4,z3)
-    [ -z "${FAST-}" ] || third=("${second[@]}")
-    frama "$log" "$@" "${first[@]}" -then "${second[@]}" -then "${third[@]}"
+    if [ -n "${GIVE_UP-}" ]; then
+        frama "$log" "$@" -wp-prover cvc4,z3 -wp-timeout "$GIVE_UP"
+        return
+    fi
+    frama "$log" "$@" -wp-prover cvc4 -wp-timeout 120 -wp-steps 1000000 \
+        -then -wp-prover z3 -wp-timeout 120 -wp-steps 10000000 \
+        -then -wp-prover cvc4,z3 -wp-timeout 300 -wp-steps 10000000
 }
 # names PATTERN LOG..: the goals in lines like this.
 names() {
@@ -88,15 +82,18 @@ refuse_warnings() {
 }
 
 logs=("$room/calls")
-prove "$room/calls" -wp-no-init-const -wp-skip-fct identifiers "$@"
-if [ $# = 0 ]; then # the octets of the identifiers, which make other proofs slower
-    logs+=("$room/identifiers")
+if [ $# -gt 0 ]; then
+    prove "$room/calls" -wp-no-init-const "$@"
+else
+    prove "$room/calls" -wp-no-init-const -wp-skip-fct identifiers
+    logs+=("$room/identifiers") # with their octets, which make other proofs slower
     prove "$room/identifiers" -wp-fct identifiers
 fi
 refuse_warnings "${logs[@]}"
 names 'Qed|CFG|CVC4 [0-9.]*|Z3 [0-9.]*' "${logs[@]}" > "$room/proved"
 names 'Failed|Timeout|Unknown|Stepout' "${logs[@]}" | comm -23 - "$room/proved" > "$room/open"
 sed 's/^/not proved: /' "$room/open"
+[ -z "${KEEP-}" ] || cp "$room/proved" "$room/open" "$KEEP"
 
 # The contracts contradict nothing: no prover finds that a place can't be reached.
 smoke() {
