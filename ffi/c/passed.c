@@ -1,6 +1,6 @@
 /* Linked with --wrap between test.c, pkcs1.c and the proved calls. Stops where pkcs1.c passes a proved call something
  * that isn't valid: a null, octets that can't be read, a `bool` that is neither 0 nor 1, or something after a false
- * `has_..`; and where the library allocates, except to encode a key of more than two primes. */
+ * `has_..`; and where the library allocates. */
 #include "pkcs1_c.h"
 #include <stdio.h>
 #include <stdlib.h>
@@ -8,41 +8,44 @@
 
 #define VALID(c) do { if (!(c)) { fprintf(stderr, "%s:%d: %s\n", __func__, __LINE__, #c); abort(); } } while (0)
 
-/* Defines what is called in place of `call`, which returns `type`: it does `before`, and calls it. */
-#define WRAP(type, call, parameters, arguments, before)                                                               \
+/* Defines what is called in place of `call`, which returns `type`: it does `before`, and calls it, with `give`. */
+#define WRAP(type, give, call, parameters, arguments, before)                                                         \
     type __real_##call parameters;                                                                                    \
     type __wrap_##call parameters;                                                                                    \
     type __wrap_##call parameters {                                                                                   \
         before;                                                                                                       \
-        return __real_##call arguments;                                                                               \
+        give __real_##call arguments;                                                                                 \
     }
-#define EACH(call, parameters, arguments, before) WRAP(uint32_t, call, parameters, arguments, before)
-#define TEST(call, parameters, arguments, before) WRAP(bool, call, parameters, arguments, before)
-#define COUNT(call, parameters, arguments, before) WRAP(uint64_t, call, parameters, arguments, before)
+#define EACH(call, parameters, arguments, before) WRAP(uint32_t, return, call, parameters, arguments, before)
+#define TEST(call, parameters, arguments, before) WRAP(bool, return, call, parameters, arguments, before)
+#define COUNT(call, parameters, arguments, before) WRAP(uint64_t, return, call, parameters, arguments, before)
+#define FILL(call, parameters, arguments, before) WRAP(void, , call, parameters, arguments, before)
 
 static volatile uint8_t sum;
 
-/* How many other primes the key has that is being encoded. */
-static size_t others_given;
-
-/* The library calls these in place of those of the C library. */
+/* The library would call these in place of those of the C library. */
 void *counted_malloc(size_t size);
 void *counted_realloc(void *old, size_t size);
 void *counted_calloc(size_t count, size_t size);
 
+static void *allocates(void) {
+    VALID(!"the library allocates");
+    return NULL;
+}
+
 void *counted_malloc(size_t size) {
-    VALID(others_given > 0);
-    return malloc(size);
+    (void)size;
+    return allocates();
 }
 
 void *counted_realloc(void *old, size_t size) {
-    VALID(others_given > 0);
-    return realloc(old, size);
+    (void)old, (void)size;
+    return allocates();
 }
 
 void *counted_calloc(size_t count, size_t size) {
-    VALID(others_given > 0);
-    return calloc(count, size);
+    (void)count, (void)size;
+    return allocates();
 }
 
 static void bytes(struct pkcs1_bytes b) {
@@ -121,18 +124,19 @@ EACH(pkcs1_c_public_key_encode,
      (const struct pkcs1_public_key *key, uint8_t *out, size_t room, size_t *len),
      (key, out, room, len), output(out, len); public_key(key))
 EACH(pkcs1_c_private_key_decode,
-     (const uint8_t *der, size_t der_len, struct pkcs1_private_key *key,
-      struct pkcs1_other_prime *others, size_t others_room),
-     (der, der_len, key, others, others_room), octets(der, der_len); private_key(key); primes(others, others_room))
+     (const uint8_t *der, size_t der_len, struct pkcs1_private_key *key, struct pkcs1_bytes *listed),
+     (der, der_len, key, listed), octets(der, der_len); private_key(key); bytes(*listed))
 EACH(pkcs1_c_private_key_encode,
      (const struct pkcs1_private_key *key, const struct pkcs1_other_prime *others, size_t others_len,
       uint8_t *out, size_t room, size_t *len),
      (key, others, others_len, out, room, len), output(out, len); private_key(key); primes(others, others_len))
 EACH(pkcs1_c_private_key_info_decode,
      (const uint8_t *der, size_t der_len, struct pkcs1_private_key_info *given, struct pkcs1_private_key *key,
-      struct pkcs1_other_prime *others, size_t others_room),
-     (der, der_len, given, key, others, others_room),
-     octets(der, der_len); info(given); private_key(key); primes(others, others_room))
+      struct pkcs1_bytes *listed),
+     (der, der_len, given, key, listed), octets(der, der_len); info(given); private_key(key); bytes(*listed))
+FILL(pkcs1_c_other_primes,
+     (const uint8_t *listed, size_t listed_len, struct pkcs1_other_prime *others, size_t others_room),
+     (listed, listed_len, others, others_room), octets(listed, listed_len); primes(others, others_room))
 EACH(pkcs1_c_private_key_info_encode,
      (const struct pkcs1_private_key_info *given, uint8_t *out, size_t room, size_t *len),
      (given, out, room, len), output(out, len); info(given))
@@ -188,16 +192,3 @@ TEST(pkcs1_c_oaep_is,
 TEST(pkcs1_c_oaep_label,
      (const struct pkcs1_oaep_params *params, struct pkcs1_bytes *label),
      (params, label), oaep(params); bytes(*label))
-
-/* The one call that may allocate. */
-uint32_t __real_pkcs1_private_key_encode(const struct pkcs1_private_key *key, const struct pkcs1_other_prime *others,
-                                         size_t others_len, uint8_t *out, size_t room, size_t *len);
-uint32_t __wrap_pkcs1_private_key_encode(const struct pkcs1_private_key *key, const struct pkcs1_other_prime *others,
-                                         size_t others_len, uint8_t *out, size_t room, size_t *len);
-uint32_t __wrap_pkcs1_private_key_encode(const struct pkcs1_private_key *key, const struct pkcs1_other_prime *others,
-                                         size_t others_len, uint8_t *out, size_t room, size_t *len) {
-    others_given = others_len;
-    uint32_t status = __real_pkcs1_private_key_encode(key, others, others_len, out, room, len);
-    others_given = 0;
-    return status;
-}

@@ -380,6 +380,7 @@ void pkcs1_c_version(struct pkcs1_bytes *text);
   @   s.oid == pkcs1_oid_mgf1 && s.has_hash == 1 && is_hash_with_null(s.hash, hash); */
 #define INIT                                                                                                           \
     requires \valid(params) && \valid_read(hash) && \separated(params, hash);                                          \
+    requires \separated(params, &pkcs1_oid_mgf1) && \separated(params, &pkcs1_oid_p_specified);                        \
     ENDS; assigns *params;                                                                                             \
     ensures hash: is_hash_with_null(params->hash, \old(*hash));                                                        \
     ensures mask_gen: is_mgf1(params->mask_gen, \old(*hash))
