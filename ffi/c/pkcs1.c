@@ -1,9 +1,10 @@
 /* The calls of pkcs1.h, over the proved ones of pkcs1_c.h. A proved call must be passed only structs of valid values:
- * it fills a local, which is copied on success, and reads a local copy in which nothing is null and each flag is 0 or
- * 1. No array may be null, not even one of length 0. Nothing is allocated.
+ * it fills a local, which is copied on success, and reads a local copy in which nothing is null and each flag is 0 or 1.
+ * No array may be null, not even one of length 0. Nothing is allocated.
  *
  * ffi/prove.sh proves with Frama-C that each call does what the proved call does on what was given, stays in bounds,
- * ends, and leaves all else as it was. ffi/proof/pkcs1.acsl.h has the contracts. */
+ * ends, and leaves all else as it was. ffi/proof/pkcs1.acsl.h has the contracts. The comments with @ here are for that
+ * proof. */
 #include "pkcs1_c.h"
 #include <string.h>
 
@@ -25,7 +26,7 @@ static const uint8_t *input(const uint8_t *der, size_t der_len) {
     return der_len == 0 ? no_octets : der;
 }
 
-/* Nothing is written where there is no room. */
+/* `out`, or if there is no room, a place to which nothing is written. */
 static uint8_t *output(uint8_t *out, size_t room) {
     return room == 0 ? (uint8_t *)no_octets : out;
 }
@@ -69,7 +70,8 @@ uint32_t pkcs1_public_key_encode(const struct pkcs1_public_key *key, uint8_t *ou
 
 /* Private keys. */
 
-/* Puts the listed primes into `others`, as many as fit. The proved call asks for valid structs there. */
+/* Puts the listed primes into `others`, as many as fit. The elements are first set to empty primes. The proved call asks
+ * for valid ones, and the caller's may be uninitialised. */
 static void put_others(struct pkcs1_bytes listed, size_t other_primes, struct pkcs1_other_prime *others,
                        size_t others_room) {
     const struct pkcs1_other_prime none = NO_PRIME;
@@ -83,7 +85,7 @@ static void put_others(struct pkcs1_bytes listed, size_t other_primes, struct pk
         pkcs1_c_other_primes(listed.data, listed.len, others, count);
 }
 
-/* Fills what the caller passes with what was read. */
+/* Fills the caller's key and array with what was read. */
 static void put_key(const struct pkcs1_private_key *read, struct pkcs1_bytes listed, struct pkcs1_private_key *key,
                     struct pkcs1_other_prime *others, size_t others_room) {
     *key = *read;
@@ -116,7 +118,7 @@ static struct pkcs1_private_key private_key(const struct pkcs1_private_key *give
     return made;
 }
 
-/* Whether a number of these primes has no octets. It may be null then, which a proved call may not see. */
+/* Whether a number of these primes has no octets. Then it may be null, and a proved call may not see it. */
 static bool has_empty(const struct pkcs1_other_prime *others, size_t count) {
     /*@ loop invariant 0 <= i <= count && !has_empty_number(others, i);
       @ loop assigns i;
@@ -127,18 +129,19 @@ static bool has_empty(const struct pkcs1_other_prime *others, size_t count) {
     return false;
 }
 
-/* Why a number can't be held, or PKCS1_OK. */
+/* The status of a number that can't be held, or PKCS1_OK. */
 static uint32_t fault(struct pkcs1_bytes number) {
     if (number.len == 0)
         return PKCS1_LENGTH;
     return pkcs1_c_bit_len(number.data, number.len) == UINT64_MAX ? PKCS1_OVERFLOW : PKCS1_OK;
 }
 
-/* `status`, or if that is PKCS1_OK the fault of the number behind. */
+/* `status`, or if that is PKCS1_OK, the fault of the next number. */
 static uint32_t or_fault(uint32_t status, struct pkcs1_bytes number) {
     return status != PKCS1_OK ? status : fault(number);
 }
 
+/* The fault of the first number of the key that has one. */
 static uint32_t key_fault(const struct pkcs1_private_key *key) {
     uint32_t status = fault(key->modulus);
     status = or_fault(status, key->public_exponent);
@@ -150,13 +153,14 @@ static uint32_t key_fault(const struct pkcs1_private_key *key) {
     return or_fault(status, key->coefficient);
 }
 
+/* `status`, or if that is PKCS1_OK, the fault of the first number of the prime that has one. */
 static uint32_t prime_fault(uint32_t status, const struct pkcs1_other_prime *other) {
     status = or_fault(status, other->prime);
     status = or_fault(status, other->exponent);
     return or_fault(status, other->coefficient);
 }
 
-/* Why the first number that can't be held can't be, or PKCS1_OK: the numbers of the key, then those of the primes. */
+/* The fault of the first number that has one: those of the key come first, then those of each prime. */
 static uint32_t first_fault(const struct pkcs1_private_key *key, const struct pkcs1_other_prime *others, size_t count) {
     uint32_t status = key_fault(key);
     /*@ loop invariant 0 <= i <= count && status == first_fault_of(*key, others, i);
@@ -214,7 +218,7 @@ uint32_t pkcs1_private_key_info_encode(const struct pkcs1_private_key_info *info
 
 /* Algorithms. */
 
-#define OID(name, ...)                                 \
+#define OID(name, ...)                                    \
     static const uint8_t octets_##name[] = {__VA_ARGS__}; \
     const struct pkcs1_bytes pkcs1_oid_##name = {octets_##name, sizeof octets_##name}
 OID(sha1, 0x2b, 0x0e, 0x03, 0x02, 0x1a);

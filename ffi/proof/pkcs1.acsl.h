@@ -1,7 +1,8 @@
 /* What the proved calls of pkcs1_c.h require and promise, and what those of pkcs1.h do, for ffi/prove.sh. A call of
  * pkcs1.h has the contract of the proved call, but takes what its head comment allows. A clause is named as the clause
- * of the Rattle contract that says the same. check_requires.py compares what is required of the proved calls here with
- * the types of their Rattle signatures. */
+ * of the Rattle contract that says the same. These aren't in Rattle: `in`, `key_in` and `placed_in`, which its types
+ * say, and `not_empty`, which follows from `ok`. check_requires.py compares what is required of the proved calls here
+ * with the types of their Rattle signatures. */
 #include <stddef.h>
 #include <stdint.h>
 #define char uint8_t
@@ -107,10 +108,8 @@
   @                           integer other_primes);
   @   logic value with_others(value private_key, value others);
   @   logic value other_prime(octets prime, octets exponent, octets coefficient);
-  @   logic value container(octets private_key);
-  @   logic value container_with(octets private_key, octets attributes);
-  @   logic value without(octets oid);
-  @   logic value algorithm_with(octets oid, integer tag, octets parameters);
+  @   logic value container(octets private_key); logic value container_with(octets private_key, octets attributes);
+  @   logic value without(octets oid); logic value algorithm_with(octets oid, integer tag, octets parameters);
   @   logic value mask_gen_with(octets oid, value hash);
   @   logic value pss_params(value hash, value mask_gen, integer salt_len, integer trailer_field);
   @   logic value oaep_params(value hash, value mask_gen, value p_source);
@@ -156,17 +155,13 @@ enum kind { PUBLIC_KEY, PRIVATE_KEY, PRIVATE_KEY_INFO, PSS_PARAMS, PSS_PARAMS_ST
   @   logic struct pkcs1_oaep_params oaep_of(integer kind, uint8_t *der, octets encoding);
   @   // Where the other primes of a key are, how many there are in such octets, and which.
   @   logic struct pkcs1_bytes listed_of(integer kind, uint8_t *der, octets encoding);
-  @   logic integer count_of(octets listed);
-  @   logic struct pkcs1_other_prime other_of(uint8_t *listed, octets encodings, integer i);
+  @   logic integer count_of(octets listed); logic struct pkcs1_other_prime other_of(uint8_t *listed, octets encodings, integer i);
   @   logic integer bit_len_of(octets number);
   @   logic integer write_status(integer kind, value v, integer room);
-  @   logic integer written_len(integer kind, value v);
-  @   logic integer written_octet(integer kind, value v, integer i);
-  @   predicate is_hash(value algorithm, octets oid);
-  @   predicate uses_hash(value params, octets oid);
+  @   logic integer written_len(integer kind, value v); logic integer written_octet(integer kind, value v, integer i);
+  @   predicate is_hash(value algorithm, octets oid); predicate uses_hash(value params, octets oid);
   @   predicate has_label(value p_source);
-  @   logic uint8_t *text_of(integer status);
-  @   logic uint8_t *version_text;
+  @   logic uint8_t *text_of(integer status); logic uint8_t *version_text;
   @ }
   @ // Why a number can't be held, or PKCS1_OK. Then the same of the first one of a key that can't be.
   @ predicate is_fault(integer status) = status == PKCS1_OK || status == PKCS1_LENGTH || status == PKCS1_OVERFLOW;

@@ -1,1 +1,0 @@
-#include "pkcs1.acsl.h"
