@@ -6,8 +6,8 @@
 #
 # It needs frama-c, why3, z3 and cvc4: as root on Debian it installs them with apt-get. If they aren't there, the proof
 # is left out, which is a failure with --must or if CI is set.
-# AT_ONCE: how many provers run at a time. GIVE_UP: in how many seconds, where goals are known to be open. KEEP: a folder
-# for the names of the goals that are proved and open.
+# AT_ONCE: how many provers run at a time. GIVE_UP: in how many seconds, where it is known that goals are open. KEEP: a
+# folder for the names of the goals that are proved and open.
 set -eu
 cd "$(dirname "$0")/.."
 must=${CI-}
@@ -42,7 +42,7 @@ fi
 export WHY3CONFIG=$room/why3.conf
 why3 config detect > "$room/detected" 2>&1
 
-# frama LOG WORD..: Frama-C on the file proof.c in the folder $source. A caller may pass the constants that are named, so
+# frama LOG WORD..: Frama-C on the file proof.c in the folder $source. A caller may pass the constants that are named:
 # they lie in the same memory as what callers pass.
 source=.
 frama() {

@@ -1,6 +1,6 @@
 /* The calls of pkcs1.h, over the proved ones of pkcs1_c.h. A proved call must be passed only structs of valid values:
- * it fills a local, which is copied on success, and reads a local copy in which nothing is null and each flag is 0 or 1.
- * No array may be null, not even one of length 0. Nothing is allocated.
+ * it fills a local, which is copied on success, and reads a local copy in which nothing is null and each flag is 0 or
+ * 1. No array may be null, not even one of length 0. Nothing is allocated.
  *
  * ffi/prove.sh proves with Frama-C that each call does what the proved call does on what was given, stays in bounds,
  * ends, and leaves all else as it was. ffi/proof/pkcs1.acsl.h has the contracts. The comments with @ here are for that
@@ -70,8 +70,8 @@ uint32_t pkcs1_public_key_encode(const struct pkcs1_public_key *key, uint8_t *ou
 
 /* Private keys. */
 
-/* Puts the listed primes into `others`, as many as fit. The elements are first set to empty primes. The proved call asks
- * for valid ones, and the caller's may be uninitialised. */
+/* Puts the listed primes into `others`, as many as fit. The elements are first set to empty primes. The proved call
+ * asks for valid ones, and the caller's may be uninitialised. */
 static void put_others(struct pkcs1_bytes listed, size_t other_primes, struct pkcs1_other_prime *others,
                        size_t others_room) {
     const struct pkcs1_other_prime none = NO_PRIME;

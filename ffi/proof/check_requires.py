@@ -1,6 +1,6 @@
 #!/usr/bin/env python3
-"""Compares what ffi/proof/pkcs1.acsl.h requires of each proved call with what the types of its Rattle signature require.
-The exports have no clause `requires`, so nothing else is. What differs is printed, and the status is 1 then."""
+"""Compares what ffi/proof/pkcs1.acsl.h requires of each proved call with what the types of its Rattle signature
+require. The exports have no clause `requires`, so nothing else is. What differs is printed; the status is 1 then."""
 import glob
 import os
 import re

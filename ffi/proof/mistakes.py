@@ -1,7 +1,7 @@
 #!/usr/bin/env python3
-"""Plants each mistake of the file `mistakes` in a copy of ffi/c/pkcs1.c, and lets ffi/prove.sh look at the function that
-it is in. Each must be refused: a goal isn't proved that is proved without it, in as many seconds. What passes is printed,
-and the status is 1 then. Run by hand: it takes half an hour.
+"""Plants each mistake of the file `mistakes` in a copy of ffi/c/pkcs1.c, and lets ffi/prove.sh look at the function
+that it is in. Each must be refused: a goal isn't proved that is proved without it, in as many seconds. Prints these
+goals, or that it passed. The status is 1 if one passed. Run by hand: it takes half an hour.
 
     mistakes.py [SECONDS]    how long the prover may take for a goal: 4, if it isn't said
 

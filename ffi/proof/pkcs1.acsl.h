@@ -155,7 +155,8 @@ enum kind { PUBLIC_KEY, PRIVATE_KEY, PRIVATE_KEY_INFO, PSS_PARAMS, PSS_PARAMS_ST
   @   logic struct pkcs1_oaep_params oaep_of(integer kind, uint8_t *der, octets encoding);
   @   // Where the other primes of a key are, how many there are in such octets, and which.
   @   logic struct pkcs1_bytes listed_of(integer kind, uint8_t *der, octets encoding);
-  @   logic integer count_of(octets listed); logic struct pkcs1_other_prime other_of(uint8_t *listed, octets encodings, integer i);
+  @   logic integer count_of(octets listed);
+  @   logic struct pkcs1_other_prime other_of(uint8_t *listed, octets encodings, integer i);
   @   logic integer bit_len_of(octets number);
   @   logic integer write_status(integer kind, value v, integer room);
   @   logic integer written_len(integer kind, value v); logic integer written_octet(integer kind, value v, integer i);
