@@ -119,12 +119,13 @@ refute() {
     source=.
     refused=$(goals ' : (Timeout|Unknown|Stepout).*' "$room/refused" | wc -l)
 }
+holds=true
 if [ $# = 0 ]; then
     smoke
     refute
     sed 's/^/out of reach: /' "$room/doomed"
     echo "$(wc -l < "$room/passed") places are within reach, $refused of 3 false assertions are refused"
-    [ ! -s "$room/doomed" ] && [ -s "$room/passed" ] && [ "$refused" = 3 ] || exit 1
+    [ ! -s "$room/doomed" ] && [ -s "$room/passed" ] && [ "$refused" = 3 ] || holds=false
 fi
 echo "$(wc -l < "$room/proved") proved, $(wc -l < "$room/open") not"
-[ -s "$room/proved" ] && [ ! -s "$room/open" ]
+[ -s "$room/proved" ] && [ ! -s "$room/open" ] && $holds
