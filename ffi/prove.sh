@@ -74,14 +74,6 @@ goals() {
     shift
     sed -nE "s/^\[wp\] \[[^]]*\] (Goal|Smoke-test) ([^ ]+)$pattern/\2/p" "$@" | sort -u
 }
-# What WP doesn't prove over all that C allows, or leaves out, it says in a warning.
-refuse_warnings() {
-    ! grep -hE 'Stronger|Degenerated|Missing assigns|[Nn]either code|Cast with incompatible|hypotheses' "$@" || {
-        echo "ffi/prove.sh: Frama-C warns of that" >&2
-        exit 1
-    }
-}
-
 logs=("$room/calls")
 if [ $# -gt 0 ]; then
     prove "$room/calls" -wp-no-init-const "$@"
@@ -90,7 +82,6 @@ else
     logs+=("$room/identifiers") # with their octets, which make other proofs slower
     prove "$room/identifiers" -wp-fct identifiers
 fi
-refuse_warnings "${logs[@]}"
 goals ' : Valid.*' "${logs[@]}" > "$room/proved"
 goals '.*' "${logs[@]}" | comm -23 - "$room/proved" > "$room/open"
 sed 's/^/not proved: /' "$room/open"
@@ -119,7 +110,10 @@ refute() {
     source=.
     refused=$(goals ' : (Timeout|Unknown|Stepout).*' "$room/refused" | wc -l)
 }
+# What WP assumes besides, or leaves out, it says in a warning.
+warned='Stronger|Degenerated|Missing assigns|[Nn]either code|Cast with incompatible|hypotheses'
 holds=true
+! grep -hE "$warned" "${logs[@]}" || holds=false
 if [ $# = 0 ]; then
     smoke
     refute

@@ -3,7 +3,8 @@
 that it is in. Each must be refused: a goal isn't proved that is proved without it, in as many seconds. Prints these
 goals, or that it passed. The status is 1 if one passed. Run by hand: it takes half an hour.
 
-    mistakes.py [SECONDS]    how long the prover may take for a goal: 4, if it isn't said
+    mistakes.py [SECONDS [FILE]]    how long the prover may take for a goal: 4, if it isn't said. FILE: the names of the
+                                    goals that are proved without a mistake, if that was looked at before
 
 Functions are proved one by one, so one mistake of each function is looked at in the same run."""
 import os
@@ -73,7 +74,10 @@ for mistake in mistakes():
     else:
         rounds.append({mistake[0]: mistake})
 every = sorted({function for it in rounds for function in it} - {"identifiers"})
-proved = prove(whole, every)[0] | prove(whole, ["identifiers"])[0]
+if len(sys.argv) > 2:
+    proved = set(open(sys.argv[2], encoding="utf-8").read().split())
+else:
+    proved = prove(whole, every)[0] | prove(whole, ["identifiers"])[0]
 print(f"{len(proved)} goals are proved without a mistake", flush=True)
 planted = passed = 0
 for it in rounds:
