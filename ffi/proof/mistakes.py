@@ -1,7 +1,7 @@
 #!/usr/bin/env python3
 """Plants each mistake of the file `mistakes` in a copy of ffi/c/pkcs1.c, and lets ffi/prove.sh look at the function
 that it is in. Each must be refused: a goal isn't proved that is proved without it, in as many seconds. Prints these
-goals, or that it passed. The status is 1 if one passed. Run by hand: it takes half an hour.
+goals, or that it passed. The status is 1 if one passed. Run by hand: it takes 20 minutes.
 
     mistakes.py [SECONDS [FILE]]    how long the prover may take for a goal: 4, if it isn't said. FILE: the names of the
                                     goals that are proved without a mistake, if that was looked at before
