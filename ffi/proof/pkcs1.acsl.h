@@ -249,7 +249,7 @@ enum kind { PUBLIC_KEY, PRIVATE_KEY, PRIVATE_KEY_INFO, PSS_PARAMS, PSS_PARAMS_ST
 #define LISTS(kind)                                                                                                    \
     COUNTS(kind);                                                                                                      \
     ensures listed: WHEN_OK *listed == listed_of(kind, der, ENCODING);                                                 \
-    ensures part: WHEN_OK part_of(*listed, der, der_len);                                                              \
+    ensures part: WHEN_OK listed->data != \null && (listed->len == 0 || part_of(*listed, der, der_len));               \
     ensures unchanged_listed: UNLESS_OK *listed == \old(*listed)
 /* The primes that are encoded in `octets`, which are at `list`, are placed, as many as fit. */
 #define PLACES(when, list, list_len, octets)                                                                           \
