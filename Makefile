@@ -68,19 +68,16 @@ $(OUT)/settings: FORCE
 	@mkdir -p $(OUT)
 	@printf '%s\n' "$$settings" | cmp -s - $@ || printf '%s\n' "$$settings" > $@
 
-$(OUT)/code.o: $(code) $(OUT)/settings
+$(OUT)/proved.o: $(code) $(OUT)/settings
 	$(if $(filter c,$(CODE)),$(compile) -fno-strict-aliasing,$(assemble))
 $(OUT)/tool.o: $(GENERATED)/$(machine)/pkcs1_tool.s $(OUT)/settings
 	$(assemble)
 $(OUT)/calls.o: ffi/c/pkcs1.c ffi/include/pkcs1.h ffi/include/pkcs1_c.h $(OUT)/settings
 	$(compile)
-$(OUT)/heap.o: ffi/rust/c/heap.c $(OUT)/settings
+$(OUT)/heap.o: ffi/c/heap.c $(OUT)/settings
 	$(compile)
 $(OUT)/os.o: ffi/c/os.c $(OUT)/settings
 	$(compile)
-$(OUT)/proved.o: $(OUT)/code.o $(OUT)/heap.o
-	$(CC) $(CFLAGS) -fno-lto -fno-sanitize=all -r -nostdlib -o $@ $^
-	$(OBJCOPY) --wildcard --keep-global-symbol='pkcs1_c_*' $@
 $(OUT)/libpkcs1.a: $(OUT)/proved.o $(OUT)/calls.o ffi/link.sh
 	ffi/link.sh $(OUT)
 $(OUT)/pkcs1_tool: $(OUT)/tool.o $(OUT)/os.o $(OUT)/heap.o

@@ -133,10 +133,9 @@ build_library() {
     say "proved and built, after $SECONDS seconds"
 }
 
-# Makes the two objects that link.sh links: the crate with the kit's liblibc_c.a, which stands for the C library's
-# calls, and c/pkcs1.c.
+# Makes the two objects that link.sh links: the crate, and c/pkcs1.c.
 link_library() {
-    ld -r -o "$out/proved.o" --whole-archive "$library" "$kit/c/liblibc_c.a"
+    ld -r -o "$out/proved.o" --whole-archive "$library"
     objcopy --wildcard --keep-global-symbol='pkcs1_c_*' "$out/proved.o"
     "$CC" -std=c99 -O2 ${CFLAGS-} -fPIC -Wall -Wextra -Werror -pedantic "-I$here/include" \
         -c "$here/c/pkcs1.c" -o "$out/calls.o"

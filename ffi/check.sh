@@ -1,7 +1,7 @@
 #!/bin/sh
 # check.sh OUT: tests what make left in this folder: the C test over the static and the shared library, what the calls
-# of pkcs1.h pass to the proved ones, the tool, and, with cargo, the crate for Rust over the library. CC, CFLAGS, OBJCOPY
-# and RUN are as in the Makefile, which calls this.
+# of pkcs1.h pass to the proved ones, a program without a C library, the tool, and, with cargo, the crate for Rust over
+# the library. CC, CFLAGS, NM and RUN are as in the Makefile, which calls this.
 set -eu
 out=$(cd "$1" && pwd)
 cd "$(dirname "$0")/.."
@@ -82,5 +82,6 @@ c_test shared "-L$out" -lpkcs1 "-Wl,-rpath,$out"
 clash
 ffi/check_passed.sh "$out" "$tests/passed"
 say "the C test, with the static and the shared library, and with a look at what is passed to the proved calls"
+ffi/check_freestanding.sh "$out" "$tests/freestanding"
 [ ! -x "$out/pkcs1_tool" ] || tool
 [ -n "${RUN-}" ] || crate

@@ -1,8 +1,10 @@
 #!/bin/sh
 # check_object.sh OUT: what a linker, a loader and a debugger ask of the objects there, of libpkcs1.so and of
-# pkcs1_tool, where it was built. READELF is as in the Makefile.
+# pkcs1_tool, where it was built; and that the library allocates nothing. CC, CFLAGS, NM and READELF are as in the
+# Makefile.
 set -eu
 out=$1
+nm=${NM:-nm}
 readelf=${READELF:-readelf}
 export LC_ALL=C
 
@@ -22,6 +24,13 @@ for program in "$out/libpkcs1.so" "$out/pkcs1_tool"; do
     $readelf -lW "$program" | grep -q GNU_RELRO && $readelf -dW "$program" | grep -qwE 'BIND_NOW|NOW' ||
         stop "in $program the addresses of calls can be written over"
 done
+# It asks for four functions of C alone, and for what a compiler calls by itself: to find addresses, to guard the stack,
+# for numbers that the machine has no instruction for, and where CFLAGS ask for it.
+own='\.TOC\.|_GLOBAL_OFFSET_TABLE_|__stack_chk_(fail|guard)|__mem[a-z]*_chk|__[a-z]*[dt]i[2-4]'
+case "${CC-} ${CFLAGS-}" in *-fsanitize=* | *--coverage*) own='__.*' ;; esac
+asked=$({ $nm -u "$out/libpkcs1.a" && $nm -D -u "$out/libpkcs1.so"; } | sed -n 's/^ *U \([^@]*\).*/\1/p' | sort -u |
+    grep -vxE "mem(cpy|move|set|cmp)|bcmp|$own" | paste -s -d ' ')
+[ -z "$asked" ] || stop "the library asks for $asked"
 frames=$($readelf --debug-dump=frames "$out/pkcs1.o" 2> /dev/null | grep -c 'FDE cie' || true)
 places=$($readelf -sW "$out/pkcs1.o" | awk '/ FUNC / { print $7, $2 }' | sort -u | wc -l)
 [ "$frames" = "$places" ] || stop "a debugger can't go back from each call: $frames ways back, $places calls"

@@ -57,8 +57,9 @@ done
     "$out/proved.o" -o "$room/sanitized"
 "$room/sanitized" "$statuses"
 CFLAGS=$warned "$here/check_passed.sh" "$out" "$room/passed"
+CFLAGS=$warned "$here/check_freestanding.sh" "$out" "$room/freestanding"
 # Nothing is kept between calls.
-nm -f sysv "$out/pkcs1.o" | grep -E '\|(\.data|\.bss|\*COM\*)[.a-z0-9_]*$' | grep -v '^nothing ' | grep -v '\.data\.rel\.ro' &&
+nm -f sysv "$out/pkcs1.o" | grep -E '\|(\.data|\.bss|\*COM\*)[.a-z0-9_]*$' | grep -v '\.data\.rel\.ro' &&
     stop "the calls share data"
 "$here/check_object.sh" "$out"
 "$CC" -std=c99 "${flags[@]}" "${test[@]}" "-L$out" -lpkcs1 -Wl,-rpath,"$out" -o "$room/test_shared"

@@ -124,7 +124,7 @@ shared_library() {
     [ "$(readlink "$prefix/lib/libpkcs1.so")" = libpkcs1.so.7 ] || stop "the library is installed by another number"
     make -C "$room/other" uninstall PREFIX="$prefix"
     [ -z "$(find "$prefix" ! -type d)" ] || stop "uninstall leaves a library of another number"
-    objcopy --redefine-sym calloc=call_of_none "$room/other/out/calls.o"
+    objcopy --redefine-sym pkcs1_c_bit_len=call_of_none "$room/other/out/calls.o"
     ! CC=cc ffi/link.sh "$room/other/out" 2> "$room/printed" || stop "a call that isn't defined is linked"
     grep -q call_of_none "$room/printed" || stop "a call that isn't defined isn't named"
 }

@@ -1,6 +1,6 @@
 /* Linked with --wrap between test.c, pkcs1.c and the proved calls. Stops where pkcs1.c passes a proved call something
  * that isn't valid: a null, octets that can't be read, a `bool` that is neither 0 nor 1, or something after a false
- * `has_..`; and where the library allocates. */
+ * `has_..`. */
 #include "pkcs1_c.h"
 #include <stdio.h>
 #include <stdlib.h>
@@ -8,7 +8,8 @@
 
 #define VALID(c) do { if (!(c)) { fprintf(stderr, "%s:%d: %s\n", __func__, __LINE__, #c); abort(); } } while (0)
 
-/* Defines what is called in place of `call`, which returns `type`: it does `before`, and calls it, with `give`. */
+/* Defines what is called in place of `call`, which returns `type`: it does `before`, calls it, and does `give`, which is
+ * `return` or nothing, with what it returns. */
 #define WRAP(type, give, call, parameters, arguments, before)                                                         \
     type __real_##call parameters;                                                                                    \
     type __wrap_##call parameters;                                                                                    \
@@ -22,31 +23,6 @@
 #define FILL(call, parameters, arguments, before) WRAP(void, , call, parameters, arguments, before)
 
 static volatile uint8_t sum;
-
-/* The library would call these in place of those of the C library. */
-void *counted_malloc(size_t size);
-void *counted_realloc(void *old, size_t size);
-void *counted_calloc(size_t count, size_t size);
-
-static void *allocates(void) {
-    VALID(!"the library allocates");
-    return NULL;
-}
-
-void *counted_malloc(size_t size) {
-    (void)size;
-    return allocates();
-}
-
-void *counted_realloc(void *old, size_t size) {
-    (void)old, (void)size;
-    return allocates();
-}
-
-void *counted_calloc(size_t count, size_t size) {
-    (void)count, (void)size;
-    return allocates();
-}
 
 static void bytes(struct pkcs1_bytes b) {
     VALID(b.data != NULL && b.len < (size_t)1 << 40);
@@ -126,6 +102,9 @@ EACH(pkcs1_c_public_key_encode,
 EACH(pkcs1_c_private_key_decode,
      (const uint8_t *der, size_t der_len, struct pkcs1_private_key *key, struct pkcs1_bytes *listed),
      (der, der_len, key, listed), octets(der, der_len); private_key(key); bytes(*listed))
+FILL(pkcs1_c_other_primes,
+     (const uint8_t *listed, size_t listed_len, struct pkcs1_other_prime *others, size_t others_room),
+     (listed, listed_len, others, others_room), octets(listed, listed_len); primes(others, others_room))
 EACH(pkcs1_c_private_key_encode,
      (const struct pkcs1_private_key *key, const struct pkcs1_other_prime *others, size_t others_len,
       uint8_t *out, size_t room, size_t *len),
@@ -134,9 +113,6 @@ EACH(pkcs1_c_private_key_info_decode,
      (const uint8_t *der, size_t der_len, struct pkcs1_private_key_info *given, struct pkcs1_private_key *key,
       struct pkcs1_bytes *listed),
      (der, der_len, given, key, listed), octets(der, der_len); info(given); private_key(key); bytes(*listed))
-FILL(pkcs1_c_other_primes,
-     (const uint8_t *listed, size_t listed_len, struct pkcs1_other_prime *others, size_t others_room),
-     (listed, listed_len, others, others_room), octets(listed, listed_len); primes(others, others_room))
 EACH(pkcs1_c_private_key_info_encode,
      (const struct pkcs1_private_key_info *given, uint8_t *out, size_t room, size_t *len),
      (given, out, room, len), output(out, len); info(given))

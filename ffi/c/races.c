@@ -16,7 +16,7 @@ enum { PAGE = 4096, BIG = 65536, OTHERS = 5 };
 
 /* The octets that are changed. */
 static struct spot { volatile uint8_t *at; uint8_t own; } spots[512];
-static size_t spot_count;
+static size_t spot_count, only_last; /* if it isn't 0: so many of the last ones alone */
 static volatile int stop;
 
 static void add_spots(const uint8_t *at, size_t count) {
@@ -169,6 +169,12 @@ static void make_private(size_t coefficient, size_t primes) {
         others[i] = (struct pkcs1_other_prime){number(128), number(128), number(coefficient)};
 }
 
+/* Three other primes, of which alone so many octets are changed: each number's first one, or those of their headers. */
+static void make_five_primes(size_t coefficient, size_t changed) {
+    make_private(coefficient, 3);
+    only_last = changed;
+}
+
 /* Without another hash function, SHA-1, the default. */
 static void make_params(size_t label, size_t other_hash) {
     pkcs1_pss_params_init(&pss, other_hash ? &pkcs1_oid_sha256 : &pkcs1_oid_sha1, 32);
@@ -229,6 +235,7 @@ static const struct mode {
     {"private", make_private, BIG, 0, 0.5, write_private_key, NULL},
     {"private-small", make_private, 128, 0, 0.5, write_private_key, NULL},
     {"primes", make_private, BIG, OTHERS, 0.5, write_private_key, NULL},
+    {"five-primes", make_five_primes, 128, 9, 0.5, write_private_key, NULL},
     {"container", make_info, 128, OTHERS, 0.2, write_private_key_info, NULL},
     {"pss", make_params, 3 * PAGE, 0, 0.2, write_pss_params, NULL},
     {"pss-algorithm", make_params, 3 * PAGE, 0, 0.2, write_pss_algorithm, NULL},
@@ -237,6 +244,7 @@ static const struct mode {
     {"read-public", make_public, 3, 256, 0.2, write_public_key, read_public_key_decode},
     {"read-private", make_private, 128, 0, 0.2, write_private_key, read_private_key_decode},
     {"read-primes", make_private, 128, OTHERS, 0.2, write_private_key, read_private_key_decode},
+    {"read-five-primes", make_five_primes, 128, 63, 0.5, write_private_key, read_private_key_decode},
     {"read-container", make_info, 128, OTHERS, 0.2, write_private_key_info, read_private_key_info_decode},
     {"read-pss", make_params, 5, 1, 0.2, write_pss_params, read_pss_params_decode},
     {"read-pss-strict", make_params, 5, 1, 0.2, write_pss_params, read_pss_params_decode_strict},
@@ -264,6 +272,11 @@ static void race(const struct mode *it, double seconds) {
     it->make(it->size, it->more);
     if (it->read != NULL)
         der = encoding(it->write);
+    if (only_last > 0) {
+        CHECK(only_last < spot_count);
+        memmove(spots, spots + spot_count - only_last, only_last * sizeof *spots);
+        spot_count = only_last;
+    }
     CHECK(it->write(NULL, 0, &exact) == PKCS1_NO_ROOM);
     size_t area_len = exact + 2 * PAGE - exact % PAGE;
     end = guarded(area_len, true) + area_len;

@@ -12,7 +12,7 @@ static const struct { const char *name; uint32_t status; } names[] = {
     {"PARAMETERS_MISSING", PKCS1_PARAMETERS_MISSING}, {"TAG_UNEXPECTED", PKCS1_TAG_UNEXPECTED},
     {"TAG_UNKNOWN", PKCS1_TAG_UNKNOWN}, {"TRAILING_DATA", PKCS1_TRAILING_DATA}, {"VALUE", PKCS1_VALUE}};
 
-enum { OTHERS = 4 }; /* more than pkcs1.c places at once */
+enum { OTHERS = 4 };
 
 union value {
     struct pkcs1_public_key key;

@@ -87,6 +87,27 @@ static void others_written(void) {
     NEEDS(PKCS1_OVERFLOW, 0, pkcs1_pss_algorithm_encode, &pss);
 }
 
+/* Numbers of other primes that are too long, beside some without octets: the first of them is told. */
+static void other_primes_written(void) {
+    const struct pkcs1_bytes over = number(LIMIT + 1);
+    const struct { struct pkcs1_bytes coefficient, prime, exponent, last; uint32_t status; size_t need; } rows[] = {
+        {three, three, three, number(4294967227u), PKCS1_NO_ROOM, LIMIT},
+        {three, three, three, number(4294967228u), PKCS1_OVERFLOW, 0},
+        {three, number(3000000000u), three, number(3000000000u), PKCS1_OVERFLOW, 0},
+        {three, over, three, three, PKCS1_OVERFLOW, 0},
+        {three, three, over, none, PKCS1_OVERFLOW, 0},
+        {three, none, over, over, PKCS1_LENGTH, 0},
+        {three, three, none, over, PKCS1_LENGTH, 0},
+        {over, none, none, none, PKCS1_OVERFLOW, 0},
+        {none, over, three, over, PKCS1_LENGTH, 0},
+        {none, over, none, over, PKCS1_LENGTH, 0}};
+    for (size_t i = 0; i < sizeof rows / sizeof rows[0]; i++) {
+        struct pkcs1_private_key key = {three, three, three, three, three, three, three, rows[i].coefficient, 2};
+        struct pkcs1_other_prime others[] = {{rows[i].prime, rows[i].exponent, three}, {three, three, rows[i].last}};
+        NEEDS(rows[i].status, rows[i].need, pkcs1_private_key_encode, &key, others, 2);
+    }
+}
+
 /* A public key with these lengths in its headers, whose exponent stands at the end of `whole` octets. */
 static uint32_t read_public(size_t contents, size_t modulus, size_t whole, struct pkcs1_public_key *key) {
     header(header(big, 0x30, contents), 2, modulus)[0] = 1;
@@ -134,6 +155,7 @@ int main(void) {
     public_keys_written();
     public_key_written();
     others_written();
+    other_primes_written();
     public_keys_read();
     label_read();
     return 0;

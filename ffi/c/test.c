@@ -98,9 +98,6 @@ static void one_other_prime(void) {
     CHECK(pkcs1_private_key_encode(&key, others, 1, out, 3, &len) == PKCS1_NO_ROOM && len == sizeof three);
     CHECK(pkcs1_private_key_encode(&key, others, 1, out, sizeof out, &len) == PKCS1_OK && len == sizeof three);
     CHECK(memcmp(out, three, len) == 0);
-    others[0].exponent.data = NULL;
-    others[0].exponent.len = 0;
-    CHECK(pkcs1_private_key_encode(&key, others, 1, out, sizeof out, &len) == PKCS1_LENGTH);
     old = key;
     memcpy(others, marks, sizeof marks);
     CHECK(pkcs1_private_key_decode(three, sizeof three - 1, &key, others, 2) == PKCS1_INCOMPLETE);
@@ -121,6 +118,36 @@ static size_t with_others(uint8_t *der, size_t count) {
     }
     der[1] = (uint8_t)(len + 2 + 11 * count);
     return len + 4 + 11 * count;
+}
+
+/* Each number of the other primes in turn without octets, null or not: nothing is written. */
+static void empty_numbers(const struct pkcs1_private_key *key, const struct pkcs1_other_prime *others) {
+    static const struct pkcs1_bytes empty[] = {{NULL, 0}, {two, 0}};
+    size_t len = 77;
+    uint8_t out[160], *untouched = filled(sizeof out);
+    memcpy(out, untouched, sizeof out);
+    for (size_t at = 0; at < 6 * key->other_primes; at++) {
+        struct pkcs1_other_prime given[8];
+        memcpy(given, others, key->other_primes * sizeof *given);
+        memcpy((uint8_t *)given + at / 2 * sizeof *empty, &empty[at % 2], sizeof *empty);
+        CHECK(pkcs1_private_key_encode(key, given, key->other_primes, out, sizeof out, &len) == PKCS1_LENGTH && len == 77);
+        CHECK(memcmp(out, untouched, sizeof out) == 0);
+    }
+    free(untouched);
+}
+
+/* Each beginning of a key is rejected, and all that would be filled is unchanged. */
+static void cut_off(const uint8_t *der, size_t der_len, size_t room) {
+    struct pkcs1_private_key *key = filled(sizeof *key), *old = filled(sizeof *old);
+    struct pkcs1_other_prime *others = filled(room * sizeof *others + 1);
+    for (size_t n = 0; n < der_len; n++) {
+        CHECK(pkcs1_private_key_decode(der, n, key, others, room) != PKCS1_OK && memcmp(key, old, sizeof *key) == 0);
+        for (size_t at = 0; at < room * sizeof *others; at++)
+            CHECK(((uint8_t *)others)[at] == 0xa5);
+    }
+    free(key);
+    free(old);
+    free(others);
 }
 
 /* 1 to 8 other primes with room for 0 to 9 of them, in PKCS #8 too. */
@@ -147,7 +174,9 @@ static void other_primes(void) {
             if (room >= count) {
                 CHECK(pkcs1_private_key_encode(&key, others, count, out, sizeof out, &len) == PKCS1_OK);
                 CHECK(len == der_len && memcmp(out, der, len) == 0);
+                empty_numbers(&key, others);
             }
+            cut_off(der, der_len, room);
             free(others);
             free(copies);
         }
@@ -439,13 +468,16 @@ static void texts(void) {
 static void proved_calls(void) {
     struct pkcs1_private_key key = {PKCS1_NO_BYTES, PKCS1_NO_BYTES, PKCS1_NO_BYTES, PKCS1_NO_BYTES, PKCS1_NO_BYTES,
                                     PKCS1_NO_BYTES, PKCS1_NO_BYTES, PKCS1_NO_BYTES, 0};
-    struct pkcs1_other_prime other = {PKCS1_NO_BYTES, PKCS1_NO_BYTES, PKCS1_NO_BYTES};
+    struct pkcs1_other_prime none = {PKCS1_NO_BYTES, PKCS1_NO_BYTES, PKCS1_NO_BYTES}, others[2] = {none, none};
     struct pkcs1_bytes version = PKCS1_NO_BYTES, listed = PKCS1_NO_BYTES;
-    CHECK(pkcs1_c_private_key_decode(two, sizeof two, &key, &listed) == PKCS1_OK && same(key.modulus, "\1", 1));
-    CHECK(key.other_primes == 0 && listed.data != NULL && listed.len == 0);
-    CHECK(pkcs1_c_private_key_decode(three, sizeof three, &key, &listed) == PKCS1_OK && key.other_primes == 1);
-    pkcs1_c_other_primes(listed.data, listed.len, &other, 1);
-    CHECK(same(other.prime, "\11", 1) && same(other.exponent, "\12", 1) && same(other.coefficient, "\13", 1));
+    CHECK(pkcs1_c_private_key_decode(three, sizeof three, &key, &listed) == PKCS1_OK && same(key.modulus, "\1", 1));
+    CHECK(listed.data == three + 31 && listed.len == 11);
+    pkcs1_c_other_primes(two, sizeof two, others, 2); /* not the encoding of a prime */
+    CHECK(memcmp(&others[0], &none, sizeof none) == 0);
+    pkcs1_c_other_primes(listed.data, listed.len, others, 2);
+    CHECK(same(others[0].prime, "\11", 1) && same(others[0].coefficient, "\13", 1));
+    CHECK(memcmp(&others[1], &none, sizeof none) == 0);
+    CHECK(pkcs1_c_private_key_decode(two, sizeof two, &key, &listed) == PKCS1_OK && same(listed, "", 0));
     pkcs1_c_version(&version);
     CHECK((const char *)version.data == pkcs1_version() && version.len == strlen(pkcs1_version()) + 1);
 }

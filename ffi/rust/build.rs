@@ -91,26 +91,22 @@ fn default_compiler() -> String {
 
 /// Builds the library in cargo's folder, which is returned.
 fn built() -> PathBuf {
-    let sources = [code(), "c/heap.c"];
+    let file = code();
+    println!("cargo::rerun-if-changed={file}");
     let cc = words_of("CC").unwrap_or_else(|| vec![default_compiler()]);
     let ar = words_of("AR").unwrap_or_else(|| vec![run(&cc, &["-print-prog-name=ar"])]);
     let options = words_of("CFLAGS").unwrap_or_default();
     let out = PathBuf::from(told("OUT_DIR"));
     let archive = out.join(NAME).display().to_string();
-    let mut words = vec!["rcs".to_string(), archive.clone()];
-    for file in sources {
-        println!("cargo::rerun-if-changed={file}");
-        let object = out.join(file.replace('/', "_")).with_extension("o").display().to_string();
-        let mut compile: Vec<&str> = options.iter().map(String::as_str).collect();
-        if file.ends_with(".c") {
-            compile.extend(["-O2", "-fPIC", "-fno-strict-aliasing"]);
-        }
-        compile.extend(["-c", file, "-o", &object]);
-        run(&cc, &compile);
-        words.push(object);
+    let object = out.join("pkcs1.o").display().to_string();
+    let mut compile: Vec<&str> = options.iter().map(String::as_str).collect();
+    if file.ends_with(".c") {
+        compile.extend(["-O2", "-fPIC", "-fno-strict-aliasing"]);
     }
-    let _ = std::fs::remove_file(archive);
-    run(&ar, &words.iter().map(String::as_str).collect::<Vec<_>>());
+    compile.extend(["-c", file, "-o", &object]);
+    run(&cc, &compile);
+    let _ = std::fs::remove_file(&archive);
+    run(&ar, &["rcs", &archive, &object]);
     out
 }
 

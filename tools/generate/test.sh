@@ -11,7 +11,6 @@ room=$(mktemp -d)
 trap 'rm -rf "$room"' EXIT
 ulimit -t 300 # no test runs forever
 export PYTHONDONTWRITEBYTECODE=1
-export ASAN_OPTIONS=allocator_may_return_null=1 # the library says itself that there is no memory
 
 stop() {
     printf 'tools/generate/test.sh: %s\n' "$*" >&2
@@ -49,14 +48,15 @@ leads_back() {
             return
         }
     fi
-    "$2" "${words[@]}" -std=c99 -O1 -fasynchronous-unwind-tables "-I$ffi/include" "$here/way_back.c" "$ffi/c/pkcs1.c" \
-        "$room/c.o" -o "$room/way_back"
+    "$2" "${words[@]}" -std=c99 -O1 -fasynchronous-unwind-tables -Wl,--wrap=memcpy,--wrap=memmove \
+        "-I$ffi/include" "$here/way_back.c" "$ffi/c/pkcs1.c" "$room/c.o" -o "$room/way_back"
     "${run[@]}" "$room/way_back" || stop "$1: a debugger doesn't come back to main"
 }
 objects_are_right() {
     local calls='pkcs1_c_[a-z0-9_]*' processor cc
-    local of_c='memcpy|memmove|memset|memcmp|bcmp|pkcs1_rattle_(alloc|realloc|dealloc)'
-    local of_tool="$of_c|read|write|open|close|__sysv_signal|pkcs1_rattle_(arg|arg_count|env|env_at|errno|set_errno)"
+    local of_c='memcpy|memmove|memset|memcmp|bcmp' of_tool
+    of_tool="$of_c|read|write|open|close|__sysv_signal|pkcs1_rattle_(alloc|realloc|dealloc)"
+    of_tool="$of_tool|pkcs1_rattle_(arg|arg_count|env|env_at|errno|set_errno)"
     for processor in x86_64 aarch64; do
         cc=$processor-linux-gnu-gcc
         [ $processor != "$(uname -m)" ] || cc=gcc
@@ -77,7 +77,7 @@ objects_are_right() {
 # The library's test, over the assembly and over the C.
 library_passes() {
     local compiler flags
-    local files=("-I$ffi/include" "$ffi"/c/{test,rows,pkcs1}.c "$ffi/rust/c/heap.c")
+    local files=("-I$ffi/include" "$ffi"/c/{test,rows,pkcs1}.c)
     gcc -O1 "${files[@]}" "$generated/$(uname -m)/pkcs1_c.s" -o "$room/test"
     "$room/test" "$ffi/rust/tests/statuses" > /dev/null
     for compiler in gcc clang; do

@@ -1,44 +1,41 @@
-/* Whether the tables in the proved code lead back from a call: it asks for memory, and main is found above. */
-#include <pkcs1.h>
-#include <stdint.h>
-#include <stdlib.h>
-#include <string.h>
+/* Whether the tables in the proved code lead back from a call: it copies octets, and the proved call and main are found
+ * above. Linked with --wrap, so that the library calls what is here in place of memcpy and memmove. */
+#include <pkcs1_c.h>
 #include <unwind.h>
 
-struct block {
-    uint64_t found;
-    void *at;
-};
-struct block pkcs1_rattle_alloc(size_t size, size_t align);
-struct block pkcs1_rattle_realloc(void *old, size_t old_size, size_t size, size_t align);
-void pkcs1_rattle_dealloc(void *block);
+void *__real_memcpy(void *to, const void *from, size_t len);
+void *__real_memmove(void *to, const void *from, size_t len);
+void *__wrap_memcpy(void *to, const void *from, size_t len);
+void *__wrap_memmove(void *to, const void *from, size_t len);
 int main(void);
 
-static int calls, is_main_above;
+static int may_look, is_call_above, is_main_above;
 
 static _Unwind_Reason_Code look(struct _Unwind_Context *context, void *unused) {
+    void *function = _Unwind_FindEnclosingFunction((void *)_Unwind_GetIP(context));
     (void)unused;
-    calls++;
-    is_main_above |= _Unwind_FindEnclosingFunction((void *)_Unwind_GetIP(context)) == (void *)main;
+    is_call_above |= function == (void *)pkcs1_c_private_key_encode;
+    is_main_above |= is_call_above && function == (void *)main;
     return _URC_NO_REASON;
 }
 
-struct block pkcs1_rattle_alloc(size_t size, size_t align) {
-    struct block none = {0, &calls};
-    (void)size;
-    (void)align;
+/* Who starts the program, and who goes back, may copy octets too. */
+static void look_back(void) {
+    if (!may_look)
+        return;
+    may_look = is_call_above = 0;
     _Unwind_Backtrace(look, NULL);
-    return none;
+    may_look = 1;
 }
 
-struct block pkcs1_rattle_realloc(void *old, size_t old_size, size_t size, size_t align) {
-    (void)old;
-    (void)old_size;
-    return pkcs1_rattle_alloc(size, align);
+void *__wrap_memcpy(void *to, const void *from, size_t len) {
+    look_back();
+    return __real_memcpy(to, from, len);
 }
 
-void pkcs1_rattle_dealloc(void *block) {
-    (void)block;
+void *__wrap_memmove(void *to, const void *from, size_t len) {
+    look_back();
+    return __real_memmove(to, from, len);
 }
 
 int main(void) {
@@ -50,7 +47,8 @@ int main(void) {
     size_t len;
     if (pkcs1_private_key_decode(der, sizeof der, &key, &other, 1) != PKCS1_OK)
         return 2;
-    if (pkcs1_private_key_encode(&key, &other, 1, out, sizeof out, &len) != PKCS1_OUT_OF_MEMORY)
+    may_look = 1;
+    if (pkcs1_private_key_encode(&key, &other, 1, out, sizeof out, &len) != PKCS1_OK)
         return 3;
-    return is_main_above && calls > 4 ? 0 : 1;
+    return is_main_above ? 0 : 1;
 }

@@ -33,8 +33,10 @@ needs() {
 
 # try_and_keep NAME WORD..: rt try in this folder, with these words; leaves $room/NAME.o, in which exports are global.
 # The compiler gets no environment. Of the two modules that rt try compiles, the one with the sanitizer is the program.
+# Its main is left out of a library.
 try_and_keep() {
-    local to=$room/kit.$1 object=$room/$1
+    local to=$room/kit.$1 object=$room/$1 hides=
+    [ "$1" != library ] || hides='s/^define i32 @main(/define internal i32 @main(/'
     mkdir "$to"
     ln -s "$kit"/* "$to"
     rm "$to/bin" "$to/toolchain"
@@ -49,7 +51,7 @@ try_and_keep() {
 set -e
 clang="$kit/toolchain/bin/clang --target=x86_64-unknown-linux-gnu"
 case " \$* " in *" -fsanitize=address "*)
-    \$clang -x ir module.bc -S -emit-llvm -O0 -Xclang -disable-llvm-passes -o - | sed \\
+    \$clang -x ir module.bc -S -emit-llvm -O0 -Xclang -disable-llvm-passes -o - | sed -e '$hides' \\
         -e '/^define internal.*@"pkcs1_c::[a-z0-9_:]*::pkcs1_c_/s/ internal / /' \\
         -e 's/@"pkcs1_c::[a-z0-9_:]*::\\(pkcs1_c_[a-z0-9_]*\\)"/@\\1/g' > "$object.ll"
     \$clang -march=x86-64 -ffunction-sections -fdata-sections -fPIC -fforce-dwarf-frame -O1 -c -x ir \

@@ -1,17 +1,8 @@
-/* What the proved code asks of the heap, from C's malloc. Trusted, not proved: it stands for the kit's liblibc_c.a. */
+/* What the tool's proved code asks of the heap, from C's malloc. Trusted, not proved: it stands for the kit's
+ * liblibc_c.a. */
 #include <stddef.h>
 #include <stdint.h>
 #include <stdlib.h>
-
-#if UINTPTR_MAX != 0xffffffffffffffffu
-#error "the proved code needs addresses of 64 bits"
-#endif
-
-#if defined __GNUC__ && defined __ELF__
-#define HIDDEN __attribute__((visibility("hidden")))
-#else
-#define HIDDEN
-#endif
 
 /* `found` is 0 if there was no memory, and then `at` isn't to be used, but isn't null. */
 struct pkcs1_rattle_block {
@@ -19,9 +10,9 @@ struct pkcs1_rattle_block {
     void *at;
 };
 
-HIDDEN struct pkcs1_rattle_block pkcs1_rattle_alloc(size_t size, size_t align);
-HIDDEN struct pkcs1_rattle_block pkcs1_rattle_realloc(void *old, size_t old_size, size_t size, size_t align);
-HIDDEN void pkcs1_rattle_dealloc(void *block);
+struct pkcs1_rattle_block pkcs1_rattle_alloc(size_t size, size_t align);
+struct pkcs1_rattle_block pkcs1_rattle_realloc(void *old, size_t old_size, size_t size, size_t align);
+void pkcs1_rattle_dealloc(void *block);
 
 static struct pkcs1_rattle_block block(void *at) {
     static char nothing[16];
