@@ -19,3 +19,4 @@ ${RUN-} "$program" || {
     echo "ffi/check_freestanding.sh: the check in line $? of c/freestanding.c fails" >&2
     exit 1
 }
+echo "check: every kind of call, in a program without a C library"

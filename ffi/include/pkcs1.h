@@ -51,8 +51,7 @@
  * Any other status: nothing was written, and `*len` is unchanged. The value has no encoding of at most 4294967295
  *   octets. The status is that of the first field, in their order, that can't be held, such as a number without octets.
  *   If each can, the encoding is too long, and it is PKCS1_OVERFLOW.
- * pkcs1_private_key_encode: if there aren't as many other primes as the key says, it is PKCS1_OTHER_PRIMES. If there
- *   are any, it may be PKCS1_OUT_OF_MEMORY in place of every status but that one.
+ * pkcs1_private_key_encode: if there aren't as many other primes as the key says, it is PKCS1_OTHER_PRIMES.
  * pkcs1_private_key_info_encode: the key that it is given is read first. If that fails, the status is that of decoding.
  * Errors: after any of them `out` is unchanged.
  * Numbers: leading zeros are accepted. There must be at least one octet.
@@ -73,7 +72,8 @@
  *   not. The call still returns, and reads nothing outside these octets. It writes nothing outside `out[0..room]`,
  *   `*len` and what it fills. On PKCS1_OK `*len` is at most `room`. What it returns and writes then means nothing.
  * Pointers: no call keeps one.
- * Memory: only pkcs1_private_key_encode allocates, for a key of more than two primes. It frees it before it returns.
+ * Memory: no call allocates. Of the C library they call memcpy, memmove, memset and memcmp alone, or bcmp in its place
+ *   where clang compiles them. So a signal handler may make each call, and a program without a C library.
  * Secrets: nothing is wiped from memory, and nothing is promised about the time that a call takes. */
 #ifndef PKCS1_H
 #define PKCS1_H
@@ -118,7 +118,7 @@ enum pkcs1_status {
                                       allowed: a public key read as a private one, perhaps */
     PKCS1_NO_ROOM = 15,            /* `out` is too short: `*len` is the length that is needed */
     PKCS1_FILE = 16,               /* not returned by these calls */
-    PKCS1_OUT_OF_MEMORY = 17,      /* only from pkcs1_private_key_encode, with other primes */
+    PKCS1_OUT_OF_MEMORY = 17,      /* not returned by these calls */
     PKCS1_OTHER_PRIMES = 21        /* writing: key->other_primes isn't others_len */
 };
 

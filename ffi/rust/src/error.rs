@@ -61,7 +61,7 @@ errors! {
     NO_ROOM = 15;
     /// Not returned by this crate.
     FILE = 16;
-    /// Out of memory.
+    /// No memory was found for a list of this crate. The library itself asks for none.
     OUT_OF_MEMORY = 17;
     /// Not returned by this crate, which always passes all other primes.
     OTHER_PRIMES = 21;

@@ -152,7 +152,7 @@ impl<'a> PrivateKey<'a> {
     /// The key that the library decoded, with its other primes.
     pub(crate) fn seen(key: &raw::PrivateKey<'a>, listed: raw::ListedPrimes<'a>) -> Result<PrivateKey<'a>, Error> {
         let mut few = [raw::OtherPrime::default(); 3]; // OpenSSL makes no more
-        let mut many = Vec::new();
+        let mut many;
         let count = key.other_primes;
         let others = if let Some(others) = few.get_mut(..count) {
             others

@@ -228,8 +228,7 @@ pub fn private_key(der: &[u8]) -> Result<(PrivateKey<'_>, ListedPrimes<'_>), Err
 pub fn private_key_info(der: &[u8]) -> Result<(PrivateKeyInfo<'_>, PrivateKey<'_>, ListedPrimes<'_>), Error> {
     let (mut info, mut key, mut listed) = (PrivateKeyInfo::default(), PrivateKey::default(), Bytes::default());
     // SAFETY: as above.
-    let status =
-        unsafe { pkcs1_c_private_key_info_decode(der.as_ptr(), der.len(), &mut info, &mut key, &mut listed) };
+    let status = unsafe { pkcs1_c_private_key_info_decode(der.as_ptr(), der.len(), &mut info, &mut key, &mut listed) };
     answer(status, (info, key, ListedPrimes(listed.get())))
 }
 
