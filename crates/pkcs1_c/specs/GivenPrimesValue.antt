@@ -3,9 +3,9 @@ use Rattle.std.specs.Prelude.{ℕ, List, map}
 use Rattle.pkcs1.specs.Held.{number_in}
 use Rattle.pkcs1.specs.Keys as keys
 use Rattle.pkcs1.specs.PrivateKeyValue.{key_with}
-use Rattle.pkcs1.specs.StatedKeys.{other_from, private_stated}
+use Rattle.pkcs1.specs.StatedKeys.{other_from, other_stated, private_stated}
 use Rattle.pkcs1.specs.declared.private_key.PrivateKeyOf.{PrivateKeyOf}
-use Rattle.standard.specs.Statement.{PrivateKey}
+use Rattle.standard.specs.Statement.{OtherPrime, PrivateKey}
 use Rattle.pkcs1_c.specs.NumberValue.{number_of}
 use Rattle.pkcs1_c.specs.Structs.{other_prime}
 use Rattle.pkcs1_c.specs.declared.given_number.Number.{Number}
@@ -14,6 +14,9 @@ use Rattle.pkcs1_c.specs.declared.given_primes.GivenPrimes.{GivenPrimes}
 -- The other primes.
 abbrev pub given_primes : GivenPrimes → List (keys.OtherPrime ℕ)
 given_primes given = map (λ o. other_from (other_prime o)) given.others.now
+
+abbrev pub held_primes : GivenPrimes → List OtherPrime
+held_primes given = map other_stated (given_primes given)
 
 abbrev pub given_key : PrivateKeyOf Number GivenPrimes → keys.PrivateKey ℕ
 given_key = key_with (number_in number_of) given_primes

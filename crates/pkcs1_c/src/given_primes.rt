@@ -79,15 +79,13 @@ fn prepend_given(other: &OtherPrime<'_>, least: usize, writer: &mut BackWriter<'
 }
 
 impl<'a> GivenPrimes<'a> {
-    ghost use Rattle.std.specs.Prelude.{map};
     ghost use Rattle.std.specs.Option.{option_map};
-    ghost use Rattle.pkcs1.specs.StatedKeys.{other_stated};
-    ghost use Rattle.pkcs1_c.specs.GivenPrimesValue.{given_primes};
+    ghost use Rattle.pkcs1_c.specs.GivenPrimesValue.{held_primes};
 
     /// The primes of the array, or `None` if it is empty; or why the first number that can't be held can't be.
     #[inline(always)]
     pub(crate) fn of(others: &'a [OtherPrime<'a>]) -> pkcs1::Result<Option<GivenPrimes<'a>>>
-        ensures ok { IfOk result (λ given. option_map (λ g. map other_stated (given_primes g)) given ≡ other_primes others.now) }
+        ensures ok { IfOk result (λ given. option_map held_primes given ≡ other_primes others.now) }
         ensures held { OnOk result (NoStatus (NumbersError (numbers_of_primes others.now))) }
         ensures err { IfErr result (λ e. NumbersError (numbers_of_primes others.now) (status_of e)) }
     {

@@ -1,7 +1,7 @@
 use Rattle.std.proofs.Common.{◌≡◌, ◌∙◌, map, refl, Option, Some, None}
 use Rattle.std.specs.Option.{option_map}
 use Rattle.pkcs1.specs.StatedKeys.{other_stated}
-use Rattle.pkcs1_c.specs.GivenPrimesValue.{given_primes}
+use Rattle.pkcs1_c.specs.GivenPrimesValue.{given_primes, held_primes}
 use Rattle.pkcs1_c.specs.declared.given_primes.GivenPrimes.{GivenPrimes}
 use Rattle.pkcs1_c.specs.declared.private_key.PrivateKey.{PrivateKey}
 use Rattle.pkcs1_c.specs.Status.{NoStatus, status_of}
@@ -37,7 +37,7 @@ returns-clause-held c =
 
 others_stated : (o : Option GivenPrimes)
     → option_map (map other_stated) (option_map given_primes o)
-    ≡ option_map (λ g. map other_stated (given_primes g)) o
+    ≡ option_map held_primes o
 others_stated None = refl
 others_stated (Some given) = refl
 
