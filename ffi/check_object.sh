@@ -26,7 +26,7 @@ for program in "$out/libpkcs1.so" "$out/pkcs1_tool"; do
 done
 # It asks for four functions of C alone, and for what a compiler calls by itself: to find addresses, to guard the stack,
 # for numbers that the machine has no instruction for, and where CFLAGS ask for it.
-own='\.TOC\.|_GLOBAL_OFFSET_TABLE_|__stack_chk_(fail|guard)|__mem[a-z]*_chk|__[a-z]*[dt]i[2-4]'
+own='\.TOC\.|_GLOBAL_OFFSET_TABLE_|__stack_chk_(fail|guard)|__mem[a-z]*_chk|__[a-z]*[sdt]i[2-4]'
 case "${CC-} ${CFLAGS-}" in *-fsanitize=* | *--coverage*) own='__.*' ;; esac
 asked=$({ $nm -u "$out/libpkcs1.a" && $nm -D -u "$out/libpkcs1.so"; } | sed -n 's/^ *U \([^@]*\).*/\1/p' | sort -u |
     grep -vxE "mem(cpy|move|set|cmp)|bcmp|$own" | paste -s -d ' ')
