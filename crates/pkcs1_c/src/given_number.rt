@@ -1,5 +1,5 @@
 //! Numbers to be written.
-ghost use Rattle.std.specs.Prelude.{◌≡◌, ◌≤◌, length, slice_index, nat_lt, if◌then◌else◌, ℕ};
+ghost use Rattle.std.specs.Prelude.{◌≡◌, ◌+◌, ◌≤◌, length, slice_index, nat_lt, if◌then◌else◌, ℕ};
 ghost use Rattle.std.specs.Int.Digits.{number_from_digits};
 ghost use Rattle.der_core.specs.Integer.{HoldsNumber};
 ghost use Rattle.der_core.specs.Length.{limit};
@@ -37,6 +37,14 @@ impl<'a> Number<'a> {
             bytes,
             zeros: if bytes[0] < 0x80 { 0 } else { 1 },
         }
+    }
+
+    /// A bound on the octets of the encoding, known without a look at them: a tag, a length and a zero are 7 at most.
+    #[inline(always)]
+    pub(crate) fn octets_at_most(&self) -> usize
+        ensures { result ≤ limit + 7 }
+    {
+        self.bytes.len() + 7
     }
 }
 

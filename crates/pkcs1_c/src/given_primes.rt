@@ -57,6 +57,14 @@ fn append_given<W: Writer>(other: &OtherPrime<'_>, writer: &mut W) -> Result<()>
     }
 }
 
+/// Whether a bound on the octets of the prime's encoding says that they are no more than `left`.
+#[inline(always)]
+fn is_surely_within(info: &OtherPrimeInfo<Number<'_>>, left: usize) -> bool {
+    let numbers =
+        info.prime.octets_at_most() + info.exponent.octets_at_most() + info.coefficient.octets_at_most();
+    numbers + 6 <= left
+}
+
 /// Writes a prime in front of what is filled, and leaves `least` octets free. It is false only if another thread changed
 /// the octets.
 fn prepend_given(other: &OtherPrime<'_>, least: usize, writer: &mut BackWriter<'_>) -> bool
@@ -69,13 +77,15 @@ fn prepend_given(other: &OtherPrime<'_>, least: usize, writer: &mut BackWriter<'
     let Ok(info) = from_c_other_prime(other) else {
         return false;
     };
-    match info.encoded_len() {
-        Ok(length) if length.to_usize() <= writer.free() - least => {
-            info.prepend(writer);
-            true
+    let left = writer.free() - least;
+    if !is_surely_within(&info, left) {
+        match info.encoded_len() {
+            Ok(length) if length.to_usize() <= left => {}
+            _ => return false,
         }
-        _ => false,
     }
+    info.prepend(writer);
+    true
 }
 
 impl<'a> GivenPrimes<'a> {
