@@ -34704,7 +34704,7 @@ u1 pkcs1_c_pss_is(P v_a0, P v_a1, u64 v_a2) {
 u32 pkcs1_c_private_key_encode(P v_a0, P v_a1, u64 v_a2, P v_a3, u64 v_a4, P v_a5) {
     ALIGNED(4) unsigned char m_v_r1_i_i_i[8];
     ALIGNED(8) unsigned char m_v_r1_i_i_i_i_i_i_i[72];
-    ALIGNED(4) unsigned char m_v_r4_i_i_i_i_i_i_i[8];
+    ALIGNED(8) unsigned char m_v_r10_i_i_i_i_i_i_i[8];
     ALIGNED(4) unsigned char m_v_r10_i_i_i[8];
     ALIGNED(8) unsigned char m_v_r6_i_i[72];
     ALIGNED(8) unsigned char m_v_r19_i399_i[8];
@@ -34715,40 +34715,40 @@ u32 pkcs1_c_private_key_encode(P v_a0, P v_a1, u64 v_a2, P v_a3, u64 v_a4, P v_a
     u64 p_v_r12_sroa_10_i_sroa_5_0_ph_i;
     P p_v_r3_sroa_0_08_i_i617_i;
     u64 p_v_r3_sroa_6_07_i_i618_i;
-    P p_v_r1_sroa_0_0_copyload_i_i192_i_i_i_ph_i;
+    P p_v_r1_sroa_0_0_copyload_i_i191_i_i_i_ph_i;
     u8 p_v_r20_i326_i;
-    P p_v_r1_sroa_0_0_copyload_i_i192_i_i_i_i;
-    u64 p_v_r1_sroa_3_0_copyload_i_i194_i_i_i_i;
+    P p_v_r1_sroa_0_0_copyload_i_i191_i_i_i_i;
+    u64 p_v_r1_sroa_3_0_copyload_i_i193_i_i_i_i;
     P p_v_r3_sroa_0_08_i_i711_i;
     u64 p_v_r3_sroa_6_07_i_i712_i;
-    P p_v_r1_sroa_0_0_copyload_i_i159_i_i_i_ph_i;
+    P p_v_r1_sroa_0_0_copyload_i_i158_i_i_i_ph_i;
     u8 p_v_r20_i336_i;
-    P p_v_r1_sroa_0_0_copyload_i_i159_i_i_i_i;
-    u64 p_v_r1_sroa_3_0_copyload_i_i161_i_i_i_i;
+    P p_v_r1_sroa_0_0_copyload_i_i158_i_i_i_i;
+    u64 p_v_r1_sroa_3_0_copyload_i_i160_i_i_i_i;
     P p_v_r3_sroa_0_08_i_i808_i;
     u64 p_v_r3_sroa_6_07_i_i809_i;
-    P p_v_r1_sroa_0_0_copyload_i_i126_i_i_i_ph_i;
+    P p_v_r1_sroa_0_0_copyload_i_i125_i_i_i_ph_i;
     u8 p_v_r20_i346_i;
-    P p_v_r1_sroa_0_0_copyload_i_i126_i_i_i_i;
-    u64 p_v_r1_sroa_3_0_copyload_i_i128_i_i_i_i;
+    P p_v_r1_sroa_0_0_copyload_i_i125_i_i_i_i;
+    u64 p_v_r1_sroa_3_0_copyload_i_i127_i_i_i_i;
     P p_v_r3_sroa_0_08_i_i905_i;
     u64 p_v_r3_sroa_6_07_i_i906_i;
-    P p_v_r1_sroa_0_0_copyload_i_i93_i_i_i_ph_i;
+    P p_v_r1_sroa_0_0_copyload_i_i92_i_i_i_ph_i;
     u8 p_v_r20_i356_i;
-    P p_v_r1_sroa_0_0_copyload_i_i93_i_i_i_i;
-    u64 p_v_r1_sroa_3_0_copyload_i_i95_i_i_i_i;
+    P p_v_r1_sroa_0_0_copyload_i_i92_i_i_i_i;
+    u64 p_v_r1_sroa_3_0_copyload_i_i94_i_i_i_i;
     P p_v_r3_sroa_0_08_i_i1002_i;
     u64 p_v_r3_sroa_6_07_i_i1003_i;
-    P p_v_r1_sroa_0_0_copyload_i_i60_i_i_i_ph_i;
+    P p_v_r1_sroa_0_0_copyload_i_i59_i_i_i_ph_i;
     u8 p_v_r20_i366_i;
-    P p_v_r1_sroa_0_0_copyload_i_i60_i_i_i_i;
-    u64 p_v_r1_sroa_3_0_copyload_i_i62_i_i_i_i;
+    P p_v_r1_sroa_0_0_copyload_i_i59_i_i_i_i;
+    u64 p_v_r1_sroa_3_0_copyload_i_i61_i_i_i_i;
     P p_v_r3_sroa_0_08_i_i1099_i;
     u64 p_v_r3_sroa_6_07_i_i1100_i;
-    P p_v_r1_sroa_0_0_copyload_i_i27_i_i_i_ph_i;
+    P p_v_r1_sroa_0_0_copyload_i_i26_i_i_i_ph_i;
     u8 p_v_r20_i376_i;
-    P p_v_r1_sroa_0_0_copyload_i_i27_i_i_i_i;
-    u64 p_v_r1_sroa_3_0_copyload_i_i29_i_i_i_i;
+    P p_v_r1_sroa_0_0_copyload_i_i26_i_i_i_i;
+    u64 p_v_r1_sroa_3_0_copyload_i_i28_i_i_i_i;
     P p_v_r3_sroa_0_08_i_i1196_i;
     u64 p_v_r3_sroa_6_07_i_i1197_i;
     P p_v_r1_sroa_0_0_copyload_i_i_i_i_i_ph_i;
@@ -34794,17 +34794,17 @@ u32 pkcs1_c_private_key_encode(P v_a0, P v_a1, u64 v_a2, P v_a3, u64 v_a4, P v_a
     u8 p_v_r20_i83_i_i_i_i_i_i_i_i;
     P p_v_r12_sroa_10_i_sroa_3_0_ph_i_i_i_i_i_i_i;
     u64 p_v_r12_sroa_10_i_sroa_5_0_ph_i_i_i_i_i_i_i;
-    P p_v_r3_sroa_0_08_i_i69_i_i_i_i_i_i_i;
-    u64 p_v_r3_sroa_6_07_i_i70_i_i_i_i_i_i_i;
-    P p_v_r12_sroa_10_i92_sroa_3_0_ph_ph_i_i_i_i_i_i_i;
+    P p_v_r3_sroa_0_08_i_i84_i_i_i_i_i_i_i;
+    u64 p_v_r3_sroa_6_07_i_i85_i_i_i_i_i_i_i;
+    P p_v_r12_sroa_10_i107_sroa_3_0_ph_ph_i_i_i_i_i_i_i;
     u8 p_v_r20_i90_i_i_i_i_i_i_i_i;
-    P p_v_r12_sroa_10_i92_sroa_3_0_ph_i_i_i_i_i_i_i;
+    P p_v_r12_sroa_10_i107_sroa_3_0_ph_i_i_i_i_i_i_i;
     u64 p_v_r1_sroa_3_0_copyload_i_i9_i_i_i_i_i_i_i_i;
-    P p_v_r3_sroa_0_08_i_i163_i_i_i_i_i_i_i;
-    u64 p_v_r3_sroa_6_07_i_i164_i_i_i_i_i_i_i;
-    P p_v_r12_sroa_10_i186_sroa_3_0_ph_ph_i_i_i_i_i_i_i;
+    P p_v_r3_sroa_0_08_i_i178_i_i_i_i_i_i_i;
+    u64 p_v_r3_sroa_6_07_i_i179_i_i_i_i_i_i_i;
+    P p_v_r12_sroa_10_i201_sroa_3_0_ph_ph_i_i_i_i_i_i_i;
     u8 p_v_r20_i100_i_i_i_i_i_i_i_i;
-    P p_v_r12_sroa_10_i186_sroa_3_0_ph_i_i_i_i_i_i_i;
+    P p_v_r12_sroa_10_i201_sroa_3_0_ph_i_i_i_i_i_i_i;
     u64 p_v_r1_sroa_3_0_copyload_i_i_i_i_i_i_i_i_i_i;
     u64 p_v_r0_04_i_i_i_i_i_i_i_i_i_i_i_i_i_i_i_i_i;
     u64 p_v_niter;
@@ -34837,52 +34837,52 @@ u32 pkcs1_c_private_key_encode(P v_a0, P v_a1, u64 v_a2, P v_a3, u64 v_a4, P v_a
     u64 p_v_epil_iter220;
     u64 p_v_r7_sroa_130_1_i_i_i;
     u64 p_v_r7_sroa_130_22_i_i_i;
-    u64 p_v_r0_04_i_i_i_i_i_i_i_i_i51_i_i_i_i;
+    u64 p_v_r0_04_i_i_i_i_i_i_i_i_i50_i_i_i_i;
     u64 p_v_niter230;
-    u64 p_v_r0_04_i_i_i_i_i_i_i_i_i51_i_i_i_i_epil_init;
-    u64 p_v_r0_04_i_i_i_i_i_i_i_i_i51_i_i_i_i_epil;
+    u64 p_v_r0_04_i_i_i_i_i_i_i_i_i50_i_i_i_i_epil_init;
+    u64 p_v_r0_04_i_i_i_i_i_i_i_i_i50_i_i_i_i_epil;
     u64 p_v_epil_iter226;
     u64 p_v_r7_sroa_130_2_i_i_i;
     u64 p_v_r7_sroa_130_21_i_i_i;
-    u64 p_v_r0_04_i_i_i_i_i_i_i_i_i84_i_i_i_i;
+    u64 p_v_r0_04_i_i_i_i_i_i_i_i_i83_i_i_i_i;
     u64 p_v_niter236;
-    u64 p_v_r0_04_i_i_i_i_i_i_i_i_i84_i_i_i_i_epil_init;
-    u64 p_v_r0_04_i_i_i_i_i_i_i_i_i84_i_i_i_i_epil;
+    u64 p_v_r0_04_i_i_i_i_i_i_i_i_i83_i_i_i_i_epil_init;
+    u64 p_v_r0_04_i_i_i_i_i_i_i_i_i83_i_i_i_i_epil;
     u64 p_v_epil_iter232;
     u64 p_v_r7_sroa_130_3_i_i_i;
     u64 p_v_r7_sroa_130_20_i_i_i;
-    u64 p_v_r0_04_i_i_i_i_i_i_i_i_i117_i_i_i_i;
+    u64 p_v_r0_04_i_i_i_i_i_i_i_i_i116_i_i_i_i;
     u64 p_v_niter242;
-    u64 p_v_r0_04_i_i_i_i_i_i_i_i_i117_i_i_i_i_epil_init;
-    u64 p_v_r0_04_i_i_i_i_i_i_i_i_i117_i_i_i_i_epil;
+    u64 p_v_r0_04_i_i_i_i_i_i_i_i_i116_i_i_i_i_epil_init;
+    u64 p_v_r0_04_i_i_i_i_i_i_i_i_i116_i_i_i_i_epil;
     u64 p_v_epil_iter238;
     u64 p_v_r7_sroa_130_4_i_i_i;
     u64 p_v_r7_sroa_130_19_i_i_i;
-    u64 p_v_r0_04_i_i_i_i_i_i_i_i_i150_i_i_i_i;
+    u64 p_v_r0_04_i_i_i_i_i_i_i_i_i149_i_i_i_i;
     u64 p_v_niter248;
-    u64 p_v_r0_04_i_i_i_i_i_i_i_i_i150_i_i_i_i_epil_init;
-    u64 p_v_r0_04_i_i_i_i_i_i_i_i_i150_i_i_i_i_epil;
+    u64 p_v_r0_04_i_i_i_i_i_i_i_i_i149_i_i_i_i_epil_init;
+    u64 p_v_r0_04_i_i_i_i_i_i_i_i_i149_i_i_i_i_epil;
     u64 p_v_epil_iter244;
     u64 p_v_r7_sroa_130_5_i_i_i;
     u64 p_v_r7_sroa_130_18_i_i_i;
-    u64 p_v_r0_04_i_i_i_i_i_i_i_i_i183_i_i_i_i;
+    u64 p_v_r0_04_i_i_i_i_i_i_i_i_i182_i_i_i_i;
     u64 p_v_niter254;
-    u64 p_v_r0_04_i_i_i_i_i_i_i_i_i183_i_i_i_i_epil_init;
-    u64 p_v_r0_04_i_i_i_i_i_i_i_i_i183_i_i_i_i_epil;
+    u64 p_v_r0_04_i_i_i_i_i_i_i_i_i182_i_i_i_i_epil_init;
+    u64 p_v_r0_04_i_i_i_i_i_i_i_i_i182_i_i_i_i_epil;
     u64 p_v_epil_iter250;
     u64 p_v_r7_sroa_130_6_i_i_i;
     u64 p_v_r7_sroa_130_17_i_i_i;
-    u64 p_v_r0_04_i_i_i_i_i_i_i_i_i216_i_i_i_i;
+    u64 p_v_r0_04_i_i_i_i_i_i_i_i_i215_i_i_i_i;
     u64 p_v_niter260;
-    u64 p_v_r0_04_i_i_i_i_i_i_i_i_i216_i_i_i_i_epil_init;
-    u64 p_v_r0_04_i_i_i_i_i_i_i_i_i216_i_i_i_i_epil;
+    u64 p_v_r0_04_i_i_i_i_i_i_i_i_i215_i_i_i_i_epil_init;
+    u64 p_v_r0_04_i_i_i_i_i_i_i_i_i215_i_i_i_i_epil;
     u64 p_v_epil_iter256;
     u64 p_v_r7_sroa_130_7_i_i_i;
     u64 p_v_r7_sroa_130_16_i_i_i;
-    u64 p_v_r0_04_i_i_i_i_i_i_i_i_i249_i_i_i_i;
+    u64 p_v_r0_04_i_i_i_i_i_i_i_i_i248_i_i_i_i;
     u64 p_v_niter266;
-    u64 p_v_r0_04_i_i_i_i_i_i_i_i_i249_i_i_i_i_epil_init;
-    u64 p_v_r0_04_i_i_i_i_i_i_i_i_i249_i_i_i_i_epil;
+    u64 p_v_r0_04_i_i_i_i_i_i_i_i_i248_i_i_i_i_epil_init;
+    u64 p_v_r0_04_i_i_i_i_i_i_i_i_i248_i_i_i_i_epil;
     u64 p_v_epil_iter262;
     u64 p_v_r7_sroa_130_13_i_i_i;
     u64 p_v_r7_sroa_130_15_i_i_i;
@@ -34890,7 +34890,7 @@ u32 pkcs1_c_private_key_encode(P v_a0, P v_a1, u64 v_a2, P v_a3, u64 v_a4, P v_a
     u32 p_v_common_ret_op_i;
     P v_r1_i_i_i;
     P v_r1_i_i_i_i_i_i_i;
-    P v_r4_i_i_i_i_i_i_i;
+    P v_r10_i_i_i_i_i_i_i;
     P v_r10_i_i_i;
     P v_r6_i_i;
     P v_r19_i399_i;
@@ -34940,11 +34940,11 @@ u32 pkcs1_c_private_key_encode(P v_a0, P v_a1, u64 v_a2, P v_a3, u64 v_a4, P v_a
     u1 v_r14_i_i631_i;
     u1 v_r7_i_i603_i;
     u1 v_r49_i622_i;
-    P v_r1_sroa_0_0_copyload_i_i192_i_i_i_ph_i;
+    P v_r1_sroa_0_0_copyload_i_i191_i_i_i_ph_i;
     u8 v_r20_i326_pr_i;
     u8 v_r20_i326_i;
-    P v_r1_sroa_0_0_copyload_i_i192_i_i_i_i;
-    u64 v_r1_sroa_3_0_copyload_i_i194_i_i_i_i;
+    P v_r1_sroa_0_0_copyload_i_i191_i_i_i_i;
+    u64 v_r1_sroa_3_0_copyload_i_i193_i_i_i_i;
     u8 v_r20_i326_lobit_i;
     u64 v_i328_i;
     P v_r133_i_i;
@@ -34963,11 +34963,11 @@ u32 pkcs1_c_private_key_encode(P v_a0, P v_a1, u64 v_a2, P v_a3, u64 v_a4, P v_a
     u1 v_r14_i_i725_i;
     u1 v_r7_i_i697_i;
     u1 v_r49_i716_i;
-    P v_r1_sroa_0_0_copyload_i_i159_i_i_i_ph_i;
+    P v_r1_sroa_0_0_copyload_i_i158_i_i_i_ph_i;
     u8 v_r20_i336_pr_i;
     u8 v_r20_i336_i;
-    P v_r1_sroa_0_0_copyload_i_i159_i_i_i_i;
-    u64 v_r1_sroa_3_0_copyload_i_i161_i_i_i_i;
+    P v_r1_sroa_0_0_copyload_i_i158_i_i_i_i;
+    u64 v_r1_sroa_3_0_copyload_i_i160_i_i_i_i;
     u8 v_r20_i336_lobit_i;
     u64 v_i338_i;
     P v_r162_i_i;
@@ -34986,11 +34986,11 @@ u32 pkcs1_c_private_key_encode(P v_a0, P v_a1, u64 v_a2, P v_a3, u64 v_a4, P v_a
     u1 v_r14_i_i822_i;
     u1 v_r7_i_i794_i;
     u1 v_r49_i813_i;
-    P v_r1_sroa_0_0_copyload_i_i126_i_i_i_ph_i;
+    P v_r1_sroa_0_0_copyload_i_i125_i_i_i_ph_i;
     u8 v_r20_i346_pr_i;
     u8 v_r20_i346_i;
-    P v_r1_sroa_0_0_copyload_i_i126_i_i_i_i;
-    u64 v_r1_sroa_3_0_copyload_i_i128_i_i_i_i;
+    P v_r1_sroa_0_0_copyload_i_i125_i_i_i_i;
+    u64 v_r1_sroa_3_0_copyload_i_i127_i_i_i_i;
     u8 v_r20_i346_lobit_i;
     u64 v_i348_i;
     P v_r191_i_i;
@@ -35009,11 +35009,11 @@ u32 pkcs1_c_private_key_encode(P v_a0, P v_a1, u64 v_a2, P v_a3, u64 v_a4, P v_a
     u1 v_r14_i_i919_i;
     u1 v_r7_i_i891_i;
     u1 v_r49_i910_i;
-    P v_r1_sroa_0_0_copyload_i_i93_i_i_i_ph_i;
+    P v_r1_sroa_0_0_copyload_i_i92_i_i_i_ph_i;
     u8 v_r20_i356_pr_i;
     u8 v_r20_i356_i;
-    P v_r1_sroa_0_0_copyload_i_i93_i_i_i_i;
-    u64 v_r1_sroa_3_0_copyload_i_i95_i_i_i_i;
+    P v_r1_sroa_0_0_copyload_i_i92_i_i_i_i;
+    u64 v_r1_sroa_3_0_copyload_i_i94_i_i_i_i;
     u8 v_r20_i356_lobit_i;
     u64 v_i358_i;
     P v_r220_i_i;
@@ -35032,11 +35032,11 @@ u32 pkcs1_c_private_key_encode(P v_a0, P v_a1, u64 v_a2, P v_a3, u64 v_a4, P v_a
     u1 v_r14_i_i1016_i;
     u1 v_r7_i_i988_i;
     u1 v_r49_i1007_i;
-    P v_r1_sroa_0_0_copyload_i_i60_i_i_i_ph_i;
+    P v_r1_sroa_0_0_copyload_i_i59_i_i_i_ph_i;
     u8 v_r20_i366_pr_i;
     u8 v_r20_i366_i;
-    P v_r1_sroa_0_0_copyload_i_i60_i_i_i_i;
-    u64 v_r1_sroa_3_0_copyload_i_i62_i_i_i_i;
+    P v_r1_sroa_0_0_copyload_i_i59_i_i_i_i;
+    u64 v_r1_sroa_3_0_copyload_i_i61_i_i_i_i;
     u8 v_r20_i366_lobit_i;
     u64 v_i368_i;
     P v_r249_i_i;
@@ -35055,11 +35055,11 @@ u32 pkcs1_c_private_key_encode(P v_a0, P v_a1, u64 v_a2, P v_a3, u64 v_a4, P v_a
     u1 v_r14_i_i1113_i;
     u1 v_r7_i_i1085_i;
     u1 v_r49_i1104_i;
-    P v_r1_sroa_0_0_copyload_i_i27_i_i_i_ph_i;
+    P v_r1_sroa_0_0_copyload_i_i26_i_i_i_ph_i;
     u8 v_r20_i376_pr_i;
     u8 v_r20_i376_i;
-    P v_r1_sroa_0_0_copyload_i_i27_i_i_i_i;
-    u64 v_r1_sroa_3_0_copyload_i_i29_i_i_i_i;
+    P v_r1_sroa_0_0_copyload_i_i26_i_i_i_i;
+    u64 v_r1_sroa_3_0_copyload_i_i28_i_i_i_i;
     u8 v_r20_i376_lobit_i;
     u64 v_i378_i;
     P v_r278_i_i;
@@ -35244,15 +35244,15 @@ u32 pkcs1_c_private_key_encode(P v_a0, P v_a1, u64 v_a2, P v_a3, u64 v_a4, P v_a
     u1 v_19;
     u64 v_r3_i_i_i_i_i_i_i;
     u64 v_r22_neg_i_i_i_i_i_i;
-    P v_r3_sroa_22_sroa_6_3_r1_sroa_idx_i_i_i_i_i_i_i;
-    P v_r3_sroa_22_sroa_10_3_r1_sroa_idx_i_i_i_i_i_i_i;
-    P v_r3_sroa_22_sroa_14_3_r1_sroa_idx_i_i_i_i_i_i_i;
-    P v_r3_sroa_22_sroa_14_sroa_6_0_r3_sroa_22_sroa_14_3_r;
-    P v_r3_sroa_22_sroa_14_sroa_10_0_r3_sroa_22_sroa_14_3_;
-    P v_r3_sroa_22_sroa_18_3_r1_sroa_idx_i_i_i_i_i_i_i;
-    P v_r3_sroa_22_sroa_18_sroa_6_0_r3_sroa_22_sroa_18_3_r;
-    P v_r3_sroa_22_sroa_18_sroa_10_0_r3_sroa_22_sroa_18_3_;
-    P v_r21_i_i_i_i_i_i_i;
+    P v_r4_sroa_22_sroa_6_3_r1_sroa_idx_i_i_i_i_i_i_i;
+    P v_r4_sroa_22_sroa_10_3_r1_sroa_idx_i_i_i_i_i_i_i;
+    P v_r4_sroa_22_sroa_14_3_r1_sroa_idx_i_i_i_i_i_i_i;
+    P v_r4_sroa_22_sroa_14_sroa_6_0_r4_sroa_22_sroa_14_3_r;
+    P v_r4_sroa_22_sroa_14_sroa_10_0_r4_sroa_22_sroa_14_3_;
+    P v_r4_sroa_22_sroa_18_3_r1_sroa_idx_i_i_i_i_i_i_i;
+    P v_r4_sroa_22_sroa_18_sroa_6_0_r4_sroa_22_sroa_18_3_r;
+    P v_r4_sroa_22_sroa_18_sroa_10_0_r4_sroa_22_sroa_18_3_;
+    P v_r37_i_i_i_i_i_i_i;
     u64 v_r7_sroa_130_9_i_i_i;
     u64 v_r2_018_i_i_i_i_i_i;
     u64 v_r31_i_i_i_i_i_i;
@@ -35266,13 +35266,13 @@ u32 pkcs1_c_private_key_encode(P v_a0, P v_a1, u64 v_a2, P v_a3, u64 v_a4, P v_a
     P v_scevgep_i_i_i_i_i_i_i_i_i;
     P v_r3_sroa_0_08_i_i_i_i_i_i_i_i_i;
     u64 v_r3_sroa_6_07_i_i_i_i_i_i_i_i_i;
-    u8 v_r21_i_i18_i_i_i_i_i_i_i;
+    u8 v_r21_i_i33_i_i_i_i_i_i_i;
     u1 v_r23_i_i_i_i_i_i_i_i_i;
-    P v_r31_i_i24_i_i_i_i_i_i_i;
-    u64 v_r34_i_i25_i_i_i_i_i_i_i;
-    u1 v_r14_i_i26_i_i_i_i_i_i_i;
-    u1 v_r7_i_i14_i_i_i_i_i_i_i;
-    u1 v_r49_i19_i_i_i_i_i_i_i;
+    P v_r31_i_i39_i_i_i_i_i_i_i;
+    u64 v_r34_i_i40_i_i_i_i_i_i_i;
+    u1 v_r14_i_i41_i_i_i_i_i_i_i;
+    u1 v_r7_i_i29_i_i_i_i_i_i_i;
+    u1 v_r49_i34_i_i_i_i_i_i_i;
     P v_r12_sroa_10_i_sroa_3_0_ph_ph_i_i_i_i_i_i_i;
     u8 v_r20_i83_i_pr_i_i_i_i_i_i_i;
     u8 v_r20_i83_i_i_i_i_i_i_i_i;
@@ -35284,22 +35284,22 @@ u32 pkcs1_c_private_key_encode(P v_a0, P v_a1, u64 v_a2, P v_a3, u64 v_a4, P v_a
     P v_r16_sroa_0_0_copyload_i_i_i_i_i_i_i_i;
     P v_r16_sroa_3_0_r54_sroa_idx_i_i_i_i_i_i_i_i;
     u64 v_r16_sroa_3_0_copyload_i_i_i_i_i_i_i_i;
-    u1 v_r146_i_i53_i_i_i_i_i_i_i;
+    u1 v_r146_i_i68_i_i_i_i_i_i_i;
     P v_21;
-    P v_scevgep_i_i67_i_i_i_i_i_i_i;
-    P v_r3_sroa_0_08_i_i69_i_i_i_i_i_i_i;
-    u64 v_r3_sroa_6_07_i_i70_i_i_i_i_i_i_i;
-    u8 v_r21_i_i71_i_i_i_i_i_i_i;
-    u1 v_r23_i_i72_i_i_i_i_i_i_i;
-    P v_r31_i_i81_i_i_i_i_i_i_i;
-    u64 v_r34_i_i82_i_i_i_i_i_i_i;
-    u1 v_r14_i_i83_i_i_i_i_i_i_i;
-    u1 v_r7_i_i55_i_i_i_i_i_i_i;
-    u1 v_r49_i74_i_i_i_i_i_i_i;
-    P v_r12_sroa_10_i92_sroa_3_0_ph_ph_i_i_i_i_i_i_i;
+    P v_scevgep_i_i82_i_i_i_i_i_i_i;
+    P v_r3_sroa_0_08_i_i84_i_i_i_i_i_i_i;
+    u64 v_r3_sroa_6_07_i_i85_i_i_i_i_i_i_i;
+    u8 v_r21_i_i86_i_i_i_i_i_i_i;
+    u1 v_r23_i_i87_i_i_i_i_i_i_i;
+    P v_r31_i_i96_i_i_i_i_i_i_i;
+    u64 v_r34_i_i97_i_i_i_i_i_i_i;
+    u1 v_r14_i_i98_i_i_i_i_i_i_i;
+    u1 v_r7_i_i70_i_i_i_i_i_i_i;
+    u1 v_r49_i89_i_i_i_i_i_i_i;
+    P v_r12_sroa_10_i107_sroa_3_0_ph_ph_i_i_i_i_i_i_i;
     u8 v_r20_i90_i_pr_i_i_i_i_i_i_i;
     u8 v_r20_i90_i_i_i_i_i_i_i_i;
-    P v_r12_sroa_10_i92_sroa_3_0_ph_i_i_i_i_i_i_i;
+    P v_r12_sroa_10_i107_sroa_3_0_ph_i_i_i_i_i_i_i;
     u64 v_r1_sroa_3_0_copyload_i_i9_i_i_i_i_i_i_i_i;
     u8 v_r20_i90_i_lobit_i_i_i_i_i_i_i;
     u64 v_i92_i_i_i_i_i_i_i_i;
@@ -35307,31 +35307,36 @@ u32 pkcs1_c_private_key_encode(P v_a0, P v_a1, u64 v_a2, P v_a3, u64 v_a4, P v_a
     P v_r22_sroa_0_0_copyload_i_i_i_i_i_i_i_i;
     P v_r22_sroa_3_0_r83_sroa_idx_i_i_i_i_i_i_i_i;
     u64 v_r22_sroa_3_0_copyload_i_i_i_i_i_i_i_i;
-    u1 v_r146_i_i147_i_i_i_i_i_i_i;
+    u1 v_r146_i_i162_i_i_i_i_i_i_i;
     P v_22;
-    P v_scevgep_i_i161_i_i_i_i_i_i_i;
-    P v_r3_sroa_0_08_i_i163_i_i_i_i_i_i_i;
-    u64 v_r3_sroa_6_07_i_i164_i_i_i_i_i_i_i;
-    u8 v_r21_i_i165_i_i_i_i_i_i_i;
-    u1 v_r23_i_i166_i_i_i_i_i_i_i;
-    P v_r31_i_i175_i_i_i_i_i_i_i;
-    u64 v_r34_i_i176_i_i_i_i_i_i_i;
-    u1 v_r14_i_i177_i_i_i_i_i_i_i;
-    u1 v_r7_i_i149_i_i_i_i_i_i_i;
-    u1 v_r49_i168_i_i_i_i_i_i_i;
-    P v_r12_sroa_10_i186_sroa_3_0_ph_ph_i_i_i_i_i_i_i;
+    P v_scevgep_i_i176_i_i_i_i_i_i_i;
+    P v_r3_sroa_0_08_i_i178_i_i_i_i_i_i_i;
+    u64 v_r3_sroa_6_07_i_i179_i_i_i_i_i_i_i;
+    u8 v_r21_i_i180_i_i_i_i_i_i_i;
+    u1 v_r23_i_i181_i_i_i_i_i_i_i;
+    P v_r31_i_i190_i_i_i_i_i_i_i;
+    u64 v_r34_i_i191_i_i_i_i_i_i_i;
+    u1 v_r14_i_i192_i_i_i_i_i_i_i;
+    u1 v_r7_i_i164_i_i_i_i_i_i_i;
+    u1 v_r49_i183_i_i_i_i_i_i_i;
+    P v_r12_sroa_10_i201_sroa_3_0_ph_ph_i_i_i_i_i_i_i;
     u8 v_r20_i100_i_pr_i_i_i_i_i_i_i;
     u8 v_r20_i100_i_i_i_i_i_i_i_i;
-    P v_r12_sroa_10_i186_sroa_3_0_ph_i_i_i_i_i_i_i;
+    P v_r12_sroa_10_i201_sroa_3_0_ph_i_i_i_i_i_i_i;
     u64 v_r1_sroa_3_0_copyload_i_i_i_i_i_i_i_i_i_i;
     u8 v_r20_i100_i_lobit_i_i_i_i_i_i_i;
     u64 v_i102_i_i_i_i_i_i_i_i;
-    u8 v_r20_i_i_i_i_i_i_i;
+    u64 v_r24_i_i_i_i_i_i_i;
+    u64 v_r5_i13_i_i_i_i_i_i_i;
+    u64 v_r5_i10_i_i_i_i_i_i_i;
+    u64 v_r24_i8_i_i_i_i_i_i_i;
+    u1 v_r26_i_not_i_i_i_i_i_i_i;
+    u8 v_r36_i_i_i_i_i_i_i;
     u1 v_23;
-    u32 v_r2_sroa_0_0_copyload_i_i_i_i_i_i_i;
-    u64 v_r3_i256_i_i_i_i_i_i_i;
-    u64 v_r27_i_i_i_i_i_i_i;
-    u1 v_r30_not_i_i_i_i_i_i_i;
+    u32 v_r3_sroa_0_0_copyload_i_i_i_i_i_i_i;
+    u64 v_r3_i271_i_i_i_i_i_i_i;
+    u1 v_r42_not_i_i_i_i_i_i_i;
+    u1 v_or_cond_i_i_i_i_i_i_i;
     u64 v_r17_i_i_i_i_i_i_i_i_i_i_i;
     P v_r26_i_i_i_i_i_i_i_i_i_i_i;
     u64 v_r8_i_i_i_i_i_i_i_i_i_i_i_i_i_i_i_i_i;
@@ -35605,8 +35610,8 @@ u32 pkcs1_c_private_key_encode(P v_a0, P v_a1, u64 v_a2, P v_a3, u64 v_a4, P v_a
     P v_r40_i860_sroa_7_0_r26_i84_i885_sroa_idx_i_i_i;
     P v_r40_i860_sroa_8_0_r26_i84_i885_sroa_idx_i_i_i;
     u64 v_r7_sroa_130_25_i_i_i;
-    u64 v_r17_i4_i_i_i_i_i_i_i;
-    u32 v_r2_i_i_i_i_i_i_i_i;
+    u64 v_r17_i19_i_i_i_i_i_i_i;
+    u32 v_r2_i276_i_i_i_i_i_i_i;
     u1 v_r59_i785_i_i_i;
     u16 v_r64_i847_i_i_i;
     u64 v_r17_i_i851_i_i_i;
@@ -35745,7 +35750,7 @@ u32 pkcs1_c_private_key_encode(P v_a0, P v_a1, u64 v_a2, P v_a3, u64 v_a4, P v_a
     u64 v_42;
     u64 v_43;
     u32 v_44;
-    u32 v_r2_i_i24_i_i_i_i;
+    u32 v_r2_i_i23_i_i_i_i;
     u1 v_r59_i633_i_i_i;
     u16 v_r64_i695_i_i_i;
     u64 v_r17_i_i699_i_i_i;
@@ -35790,53 +35795,53 @@ u32 pkcs1_c_private_key_encode(P v_a0, P v_a1, u64 v_a2, P v_a3, u64 v_a4, P v_a
     P v_r40_i632_sroa_7_0_r26_i84_i657_sroa_idx_i_i_i;
     P v_r40_i632_sroa_8_0_r26_i84_i657_sroa_idx_i_i_i;
     u64 v_r7_sroa_130_22_i_i_i;
-    u64 v_r17_i_i_i30_i_i_i_i;
-    P v_r26_i_i_i32_i_i_i_i;
-    u64 v_r8_i_i_i_i_i_i_i_i_i33_i_i_i_i;
-    u64 v_r9_i_i_i_i_i_i_i_i_i34_i_i_i_i;
-    u64 v_r10_i_i_i_i_i_i_i_i_i35_i_i_i_i;
-    u1 v_r11_i_i_i_i_i_i_i_i_i36_i_i_i_i;
+    u64 v_r17_i_i_i29_i_i_i_i;
+    P v_r26_i_i_i31_i_i_i_i;
+    u64 v_r8_i_i_i_i_i_i_i_i_i32_i_i_i_i;
+    u64 v_r9_i_i_i_i_i_i_i_i_i33_i_i_i_i;
+    u64 v_r10_i_i_i_i_i_i_i_i_i34_i_i_i_i;
+    u1 v_r11_i_i_i_i_i_i_i_i_i35_i_i_i_i;
     u64 v_xtraiter225;
     u1 v_46;
     u64 v_unroll_iter229;
-    u64 v_r0_04_i_i_i_i_i_i_i_i_i51_i_i_i_i;
+    u64 v_r0_04_i_i_i_i_i_i_i_i_i50_i_i_i_i;
     u64 v_niter230;
-    P v_r20_i_i_i_i_i_i_i_i_i52_i_i_i_i;
-    P v_r24_i_i_i_i_i_i_i_i_i53_i_i_i_i;
-    u8 v_r26_i_i_i_i_i_i_i_i_i54_i_i_i_i;
-    u64 v_r30_i_i_i_i_i_i_i_i_i55_i_i_i_i;
-    P v_r20_i_i_i_i_i_i_i_i_i52_i_i_i_i_1;
-    P v_r24_i_i_i_i_i_i_i_i_i53_i_i_i_i_1;
-    u8 v_r26_i_i_i_i_i_i_i_i_i54_i_i_i_i_1;
-    u64 v_r30_i_i_i_i_i_i_i_i_i55_i_i_i_i_1;
-    P v_r20_i_i_i_i_i_i_i_i_i52_i_i_i_i_2;
-    P v_r24_i_i_i_i_i_i_i_i_i53_i_i_i_i_2;
-    u8 v_r26_i_i_i_i_i_i_i_i_i54_i_i_i_i_2;
-    u64 v_r30_i_i_i_i_i_i_i_i_i55_i_i_i_i_2;
-    P v_r20_i_i_i_i_i_i_i_i_i52_i_i_i_i_3;
-    P v_r24_i_i_i_i_i_i_i_i_i53_i_i_i_i_3;
-    u8 v_r26_i_i_i_i_i_i_i_i_i54_i_i_i_i_3;
-    u64 v_r30_i_i_i_i_i_i_i_i_i55_i_i_i_i_3;
+    P v_r20_i_i_i_i_i_i_i_i_i51_i_i_i_i;
+    P v_r24_i_i_i_i_i_i_i_i_i52_i_i_i_i;
+    u8 v_r26_i_i_i_i_i_i_i_i_i53_i_i_i_i;
+    u64 v_r30_i_i_i_i_i_i_i_i_i54_i_i_i_i;
+    P v_r20_i_i_i_i_i_i_i_i_i51_i_i_i_i_1;
+    P v_r24_i_i_i_i_i_i_i_i_i52_i_i_i_i_1;
+    u8 v_r26_i_i_i_i_i_i_i_i_i53_i_i_i_i_1;
+    u64 v_r30_i_i_i_i_i_i_i_i_i54_i_i_i_i_1;
+    P v_r20_i_i_i_i_i_i_i_i_i51_i_i_i_i_2;
+    P v_r24_i_i_i_i_i_i_i_i_i52_i_i_i_i_2;
+    u8 v_r26_i_i_i_i_i_i_i_i_i53_i_i_i_i_2;
+    u64 v_r30_i_i_i_i_i_i_i_i_i54_i_i_i_i_2;
+    P v_r20_i_i_i_i_i_i_i_i_i51_i_i_i_i_3;
+    P v_r24_i_i_i_i_i_i_i_i_i52_i_i_i_i_3;
+    u8 v_r26_i_i_i_i_i_i_i_i_i53_i_i_i_i_3;
+    u64 v_r30_i_i_i_i_i_i_i_i_i54_i_i_i_i_3;
     u64 v_niter230_next_3;
     u1 v_niter230_ncmp_3;
     u1 v_lcmp_mod227_not;
-    u64 v_r0_04_i_i_i_i_i_i_i_i_i51_i_i_i_i_epil_init;
-    u64 v_r0_04_i_i_i_i_i_i_i_i_i51_i_i_i_i_epil;
+    u64 v_r0_04_i_i_i_i_i_i_i_i_i50_i_i_i_i_epil_init;
+    u64 v_r0_04_i_i_i_i_i_i_i_i_i50_i_i_i_i_epil;
     u64 v_epil_iter226;
-    P v_r20_i_i_i_i_i_i_i_i_i52_i_i_i_i_epil;
-    P v_r24_i_i_i_i_i_i_i_i_i53_i_i_i_i_epil;
-    u8 v_r26_i_i_i_i_i_i_i_i_i54_i_i_i_i_epil;
-    u64 v_r30_i_i_i_i_i_i_i_i_i55_i_i_i_i_epil;
+    P v_r20_i_i_i_i_i_i_i_i_i51_i_i_i_i_epil;
+    P v_r24_i_i_i_i_i_i_i_i_i52_i_i_i_i_epil;
+    u8 v_r26_i_i_i_i_i_i_i_i_i53_i_i_i_i_epil;
+    u64 v_r30_i_i_i_i_i_i_i_i_i54_i_i_i_i_epil;
     u64 v_epil_iter226_next;
     u1 v_epil_iter226_cmp_not;
-    u1 v_r15_not_i_i41_i_i_i_i;
-    u64 v_r17_i3_i_i43_i_i_i_i;
-    P v_r26_i5_i_i45_i_i_i_i;
+    u1 v_r15_not_i_i40_i_i_i_i;
+    u64 v_r17_i3_i_i42_i_i_i_i;
+    P v_r26_i5_i_i44_i_i_i_i;
     u64 v_r7_sroa_130_2_i_i_i;
     u64 v_47;
     u64 v_48;
     u32 v_49;
-    u32 v_r2_i_i49_i_i_i_i;
+    u32 v_r2_i_i48_i_i_i_i;
     u1 v_r59_i557_i_i_i;
     u16 v_r64_i619_i_i_i;
     u64 v_r17_i_i623_i_i_i;
@@ -35881,53 +35886,53 @@ u32 pkcs1_c_private_key_encode(P v_a0, P v_a1, u64 v_a2, P v_a3, u64 v_a4, P v_a
     P v_r40_i556_sroa_7_0_r26_i84_i581_sroa_idx_i_i_i;
     P v_r40_i556_sroa_8_0_r26_i84_i581_sroa_idx_i_i_i;
     u64 v_r7_sroa_130_21_i_i_i;
-    u64 v_r17_i_i_i63_i_i_i_i;
-    P v_r26_i_i_i65_i_i_i_i;
-    u64 v_r8_i_i_i_i_i_i_i_i_i66_i_i_i_i;
-    u64 v_r9_i_i_i_i_i_i_i_i_i67_i_i_i_i;
-    u64 v_r10_i_i_i_i_i_i_i_i_i68_i_i_i_i;
-    u1 v_r11_i_i_i_i_i_i_i_i_i69_i_i_i_i;
+    u64 v_r17_i_i_i62_i_i_i_i;
+    P v_r26_i_i_i64_i_i_i_i;
+    u64 v_r8_i_i_i_i_i_i_i_i_i65_i_i_i_i;
+    u64 v_r9_i_i_i_i_i_i_i_i_i66_i_i_i_i;
+    u64 v_r10_i_i_i_i_i_i_i_i_i67_i_i_i_i;
+    u1 v_r11_i_i_i_i_i_i_i_i_i68_i_i_i_i;
     u64 v_xtraiter231;
     u1 v_51;
     u64 v_unroll_iter235;
-    u64 v_r0_04_i_i_i_i_i_i_i_i_i84_i_i_i_i;
+    u64 v_r0_04_i_i_i_i_i_i_i_i_i83_i_i_i_i;
     u64 v_niter236;
-    P v_r20_i_i_i_i_i_i_i_i_i85_i_i_i_i;
-    P v_r24_i_i_i_i_i_i_i_i_i86_i_i_i_i;
-    u8 v_r26_i_i_i_i_i_i_i_i_i87_i_i_i_i;
-    u64 v_r30_i_i_i_i_i_i_i_i_i88_i_i_i_i;
-    P v_r20_i_i_i_i_i_i_i_i_i85_i_i_i_i_1;
-    P v_r24_i_i_i_i_i_i_i_i_i86_i_i_i_i_1;
-    u8 v_r26_i_i_i_i_i_i_i_i_i87_i_i_i_i_1;
-    u64 v_r30_i_i_i_i_i_i_i_i_i88_i_i_i_i_1;
-    P v_r20_i_i_i_i_i_i_i_i_i85_i_i_i_i_2;
-    P v_r24_i_i_i_i_i_i_i_i_i86_i_i_i_i_2;
-    u8 v_r26_i_i_i_i_i_i_i_i_i87_i_i_i_i_2;
-    u64 v_r30_i_i_i_i_i_i_i_i_i88_i_i_i_i_2;
-    P v_r20_i_i_i_i_i_i_i_i_i85_i_i_i_i_3;
-    P v_r24_i_i_i_i_i_i_i_i_i86_i_i_i_i_3;
-    u8 v_r26_i_i_i_i_i_i_i_i_i87_i_i_i_i_3;
-    u64 v_r30_i_i_i_i_i_i_i_i_i88_i_i_i_i_3;
+    P v_r20_i_i_i_i_i_i_i_i_i84_i_i_i_i;
+    P v_r24_i_i_i_i_i_i_i_i_i85_i_i_i_i;
+    u8 v_r26_i_i_i_i_i_i_i_i_i86_i_i_i_i;
+    u64 v_r30_i_i_i_i_i_i_i_i_i87_i_i_i_i;
+    P v_r20_i_i_i_i_i_i_i_i_i84_i_i_i_i_1;
+    P v_r24_i_i_i_i_i_i_i_i_i85_i_i_i_i_1;
+    u8 v_r26_i_i_i_i_i_i_i_i_i86_i_i_i_i_1;
+    u64 v_r30_i_i_i_i_i_i_i_i_i87_i_i_i_i_1;
+    P v_r20_i_i_i_i_i_i_i_i_i84_i_i_i_i_2;
+    P v_r24_i_i_i_i_i_i_i_i_i85_i_i_i_i_2;
+    u8 v_r26_i_i_i_i_i_i_i_i_i86_i_i_i_i_2;
+    u64 v_r30_i_i_i_i_i_i_i_i_i87_i_i_i_i_2;
+    P v_r20_i_i_i_i_i_i_i_i_i84_i_i_i_i_3;
+    P v_r24_i_i_i_i_i_i_i_i_i85_i_i_i_i_3;
+    u8 v_r26_i_i_i_i_i_i_i_i_i86_i_i_i_i_3;
+    u64 v_r30_i_i_i_i_i_i_i_i_i87_i_i_i_i_3;
     u64 v_niter236_next_3;
     u1 v_niter236_ncmp_3;
     u1 v_lcmp_mod233_not;
-    u64 v_r0_04_i_i_i_i_i_i_i_i_i84_i_i_i_i_epil_init;
-    u64 v_r0_04_i_i_i_i_i_i_i_i_i84_i_i_i_i_epil;
+    u64 v_r0_04_i_i_i_i_i_i_i_i_i83_i_i_i_i_epil_init;
+    u64 v_r0_04_i_i_i_i_i_i_i_i_i83_i_i_i_i_epil;
     u64 v_epil_iter232;
-    P v_r20_i_i_i_i_i_i_i_i_i85_i_i_i_i_epil;
-    P v_r24_i_i_i_i_i_i_i_i_i86_i_i_i_i_epil;
-    u8 v_r26_i_i_i_i_i_i_i_i_i87_i_i_i_i_epil;
-    u64 v_r30_i_i_i_i_i_i_i_i_i88_i_i_i_i_epil;
+    P v_r20_i_i_i_i_i_i_i_i_i84_i_i_i_i_epil;
+    P v_r24_i_i_i_i_i_i_i_i_i85_i_i_i_i_epil;
+    u8 v_r26_i_i_i_i_i_i_i_i_i86_i_i_i_i_epil;
+    u64 v_r30_i_i_i_i_i_i_i_i_i87_i_i_i_i_epil;
     u64 v_epil_iter232_next;
     u1 v_epil_iter232_cmp_not;
-    u1 v_r15_not_i_i74_i_i_i_i;
-    u64 v_r17_i3_i_i76_i_i_i_i;
-    P v_r26_i5_i_i78_i_i_i_i;
+    u1 v_r15_not_i_i73_i_i_i_i;
+    u64 v_r17_i3_i_i75_i_i_i_i;
+    P v_r26_i5_i_i77_i_i_i_i;
     u64 v_r7_sroa_130_3_i_i_i;
     u64 v_52;
     u64 v_53;
     u32 v_54;
-    u32 v_r2_i_i82_i_i_i_i;
+    u32 v_r2_i_i81_i_i_i_i;
     u1 v_r59_i481_i_i_i;
     u16 v_r64_i543_i_i_i;
     u64 v_r17_i_i547_i_i_i;
@@ -35972,53 +35977,53 @@ u32 pkcs1_c_private_key_encode(P v_a0, P v_a1, u64 v_a2, P v_a3, u64 v_a4, P v_a
     P v_r40_i480_sroa_7_0_r26_i84_i505_sroa_idx_i_i_i;
     P v_r40_i480_sroa_8_0_r26_i84_i505_sroa_idx_i_i_i;
     u64 v_r7_sroa_130_20_i_i_i;
-    u64 v_r17_i_i_i96_i_i_i_i;
-    P v_r26_i_i_i98_i_i_i_i;
-    u64 v_r8_i_i_i_i_i_i_i_i_i99_i_i_i_i;
-    u64 v_r9_i_i_i_i_i_i_i_i_i100_i_i_i_i;
-    u64 v_r10_i_i_i_i_i_i_i_i_i101_i_i_i_i;
-    u1 v_r11_i_i_i_i_i_i_i_i_i102_i_i_i_i;
+    u64 v_r17_i_i_i95_i_i_i_i;
+    P v_r26_i_i_i97_i_i_i_i;
+    u64 v_r8_i_i_i_i_i_i_i_i_i98_i_i_i_i;
+    u64 v_r9_i_i_i_i_i_i_i_i_i99_i_i_i_i;
+    u64 v_r10_i_i_i_i_i_i_i_i_i100_i_i_i_i;
+    u1 v_r11_i_i_i_i_i_i_i_i_i101_i_i_i_i;
     u64 v_xtraiter237;
     u1 v_56;
     u64 v_unroll_iter241;
-    u64 v_r0_04_i_i_i_i_i_i_i_i_i117_i_i_i_i;
+    u64 v_r0_04_i_i_i_i_i_i_i_i_i116_i_i_i_i;
     u64 v_niter242;
-    P v_r20_i_i_i_i_i_i_i_i_i118_i_i_i_i;
-    P v_r24_i_i_i_i_i_i_i_i_i119_i_i_i_i;
-    u8 v_r26_i_i_i_i_i_i_i_i_i120_i_i_i_i;
-    u64 v_r30_i_i_i_i_i_i_i_i_i121_i_i_i_i;
-    P v_r20_i_i_i_i_i_i_i_i_i118_i_i_i_i_1;
-    P v_r24_i_i_i_i_i_i_i_i_i119_i_i_i_i_1;
-    u8 v_r26_i_i_i_i_i_i_i_i_i120_i_i_i_i_1;
-    u64 v_r30_i_i_i_i_i_i_i_i_i121_i_i_i_i_1;
-    P v_r20_i_i_i_i_i_i_i_i_i118_i_i_i_i_2;
-    P v_r24_i_i_i_i_i_i_i_i_i119_i_i_i_i_2;
-    u8 v_r26_i_i_i_i_i_i_i_i_i120_i_i_i_i_2;
-    u64 v_r30_i_i_i_i_i_i_i_i_i121_i_i_i_i_2;
-    P v_r20_i_i_i_i_i_i_i_i_i118_i_i_i_i_3;
-    P v_r24_i_i_i_i_i_i_i_i_i119_i_i_i_i_3;
-    u8 v_r26_i_i_i_i_i_i_i_i_i120_i_i_i_i_3;
-    u64 v_r30_i_i_i_i_i_i_i_i_i121_i_i_i_i_3;
+    P v_r20_i_i_i_i_i_i_i_i_i117_i_i_i_i;
+    P v_r24_i_i_i_i_i_i_i_i_i118_i_i_i_i;
+    u8 v_r26_i_i_i_i_i_i_i_i_i119_i_i_i_i;
+    u64 v_r30_i_i_i_i_i_i_i_i_i120_i_i_i_i;
+    P v_r20_i_i_i_i_i_i_i_i_i117_i_i_i_i_1;
+    P v_r24_i_i_i_i_i_i_i_i_i118_i_i_i_i_1;
+    u8 v_r26_i_i_i_i_i_i_i_i_i119_i_i_i_i_1;
+    u64 v_r30_i_i_i_i_i_i_i_i_i120_i_i_i_i_1;
+    P v_r20_i_i_i_i_i_i_i_i_i117_i_i_i_i_2;
+    P v_r24_i_i_i_i_i_i_i_i_i118_i_i_i_i_2;
+    u8 v_r26_i_i_i_i_i_i_i_i_i119_i_i_i_i_2;
+    u64 v_r30_i_i_i_i_i_i_i_i_i120_i_i_i_i_2;
+    P v_r20_i_i_i_i_i_i_i_i_i117_i_i_i_i_3;
+    P v_r24_i_i_i_i_i_i_i_i_i118_i_i_i_i_3;
+    u8 v_r26_i_i_i_i_i_i_i_i_i119_i_i_i_i_3;
+    u64 v_r30_i_i_i_i_i_i_i_i_i120_i_i_i_i_3;
     u64 v_niter242_next_3;
     u1 v_niter242_ncmp_3;
     u1 v_lcmp_mod239_not;
-    u64 v_r0_04_i_i_i_i_i_i_i_i_i117_i_i_i_i_epil_init;
-    u64 v_r0_04_i_i_i_i_i_i_i_i_i117_i_i_i_i_epil;
+    u64 v_r0_04_i_i_i_i_i_i_i_i_i116_i_i_i_i_epil_init;
+    u64 v_r0_04_i_i_i_i_i_i_i_i_i116_i_i_i_i_epil;
     u64 v_epil_iter238;
-    P v_r20_i_i_i_i_i_i_i_i_i118_i_i_i_i_epil;
-    P v_r24_i_i_i_i_i_i_i_i_i119_i_i_i_i_epil;
-    u8 v_r26_i_i_i_i_i_i_i_i_i120_i_i_i_i_epil;
-    u64 v_r30_i_i_i_i_i_i_i_i_i121_i_i_i_i_epil;
+    P v_r20_i_i_i_i_i_i_i_i_i117_i_i_i_i_epil;
+    P v_r24_i_i_i_i_i_i_i_i_i118_i_i_i_i_epil;
+    u8 v_r26_i_i_i_i_i_i_i_i_i119_i_i_i_i_epil;
+    u64 v_r30_i_i_i_i_i_i_i_i_i120_i_i_i_i_epil;
     u64 v_epil_iter238_next;
     u1 v_epil_iter238_cmp_not;
-    u1 v_r15_not_i_i107_i_i_i_i;
-    u64 v_r17_i3_i_i109_i_i_i_i;
-    P v_r26_i5_i_i111_i_i_i_i;
+    u1 v_r15_not_i_i106_i_i_i_i;
+    u64 v_r17_i3_i_i108_i_i_i_i;
+    P v_r26_i5_i_i110_i_i_i_i;
     u64 v_r7_sroa_130_4_i_i_i;
     u64 v_57;
     u64 v_58;
     u32 v_59;
-    u32 v_r2_i_i115_i_i_i_i;
+    u32 v_r2_i_i114_i_i_i_i;
     u1 v_r59_i405_i_i_i;
     u16 v_r64_i467_i_i_i;
     u64 v_r17_i_i471_i_i_i;
@@ -36063,53 +36068,53 @@ u32 pkcs1_c_private_key_encode(P v_a0, P v_a1, u64 v_a2, P v_a3, u64 v_a4, P v_a
     P v_r40_i404_sroa_7_0_r26_i84_i429_sroa_idx_i_i_i;
     P v_r40_i404_sroa_8_0_r26_i84_i429_sroa_idx_i_i_i;
     u64 v_r7_sroa_130_19_i_i_i;
-    u64 v_r17_i_i_i129_i_i_i_i;
-    P v_r26_i_i_i131_i_i_i_i;
-    u64 v_r8_i_i_i_i_i_i_i_i_i132_i_i_i_i;
-    u64 v_r9_i_i_i_i_i_i_i_i_i133_i_i_i_i;
-    u64 v_r10_i_i_i_i_i_i_i_i_i134_i_i_i_i;
-    u1 v_r11_i_i_i_i_i_i_i_i_i135_i_i_i_i;
+    u64 v_r17_i_i_i128_i_i_i_i;
+    P v_r26_i_i_i130_i_i_i_i;
+    u64 v_r8_i_i_i_i_i_i_i_i_i131_i_i_i_i;
+    u64 v_r9_i_i_i_i_i_i_i_i_i132_i_i_i_i;
+    u64 v_r10_i_i_i_i_i_i_i_i_i133_i_i_i_i;
+    u1 v_r11_i_i_i_i_i_i_i_i_i134_i_i_i_i;
     u64 v_xtraiter243;
     u1 v_61;
     u64 v_unroll_iter247;
-    u64 v_r0_04_i_i_i_i_i_i_i_i_i150_i_i_i_i;
+    u64 v_r0_04_i_i_i_i_i_i_i_i_i149_i_i_i_i;
     u64 v_niter248;
-    P v_r20_i_i_i_i_i_i_i_i_i151_i_i_i_i;
-    P v_r24_i_i_i_i_i_i_i_i_i152_i_i_i_i;
-    u8 v_r26_i_i_i_i_i_i_i_i_i153_i_i_i_i;
-    u64 v_r30_i_i_i_i_i_i_i_i_i154_i_i_i_i;
-    P v_r20_i_i_i_i_i_i_i_i_i151_i_i_i_i_1;
-    P v_r24_i_i_i_i_i_i_i_i_i152_i_i_i_i_1;
-    u8 v_r26_i_i_i_i_i_i_i_i_i153_i_i_i_i_1;
-    u64 v_r30_i_i_i_i_i_i_i_i_i154_i_i_i_i_1;
-    P v_r20_i_i_i_i_i_i_i_i_i151_i_i_i_i_2;
-    P v_r24_i_i_i_i_i_i_i_i_i152_i_i_i_i_2;
-    u8 v_r26_i_i_i_i_i_i_i_i_i153_i_i_i_i_2;
-    u64 v_r30_i_i_i_i_i_i_i_i_i154_i_i_i_i_2;
-    P v_r20_i_i_i_i_i_i_i_i_i151_i_i_i_i_3;
-    P v_r24_i_i_i_i_i_i_i_i_i152_i_i_i_i_3;
-    u8 v_r26_i_i_i_i_i_i_i_i_i153_i_i_i_i_3;
-    u64 v_r30_i_i_i_i_i_i_i_i_i154_i_i_i_i_3;
+    P v_r20_i_i_i_i_i_i_i_i_i150_i_i_i_i;
+    P v_r24_i_i_i_i_i_i_i_i_i151_i_i_i_i;
+    u8 v_r26_i_i_i_i_i_i_i_i_i152_i_i_i_i;
+    u64 v_r30_i_i_i_i_i_i_i_i_i153_i_i_i_i;
+    P v_r20_i_i_i_i_i_i_i_i_i150_i_i_i_i_1;
+    P v_r24_i_i_i_i_i_i_i_i_i151_i_i_i_i_1;
+    u8 v_r26_i_i_i_i_i_i_i_i_i152_i_i_i_i_1;
+    u64 v_r30_i_i_i_i_i_i_i_i_i153_i_i_i_i_1;
+    P v_r20_i_i_i_i_i_i_i_i_i150_i_i_i_i_2;
+    P v_r24_i_i_i_i_i_i_i_i_i151_i_i_i_i_2;
+    u8 v_r26_i_i_i_i_i_i_i_i_i152_i_i_i_i_2;
+    u64 v_r30_i_i_i_i_i_i_i_i_i153_i_i_i_i_2;
+    P v_r20_i_i_i_i_i_i_i_i_i150_i_i_i_i_3;
+    P v_r24_i_i_i_i_i_i_i_i_i151_i_i_i_i_3;
+    u8 v_r26_i_i_i_i_i_i_i_i_i152_i_i_i_i_3;
+    u64 v_r30_i_i_i_i_i_i_i_i_i153_i_i_i_i_3;
     u64 v_niter248_next_3;
     u1 v_niter248_ncmp_3;
     u1 v_lcmp_mod245_not;
-    u64 v_r0_04_i_i_i_i_i_i_i_i_i150_i_i_i_i_epil_init;
-    u64 v_r0_04_i_i_i_i_i_i_i_i_i150_i_i_i_i_epil;
+    u64 v_r0_04_i_i_i_i_i_i_i_i_i149_i_i_i_i_epil_init;
+    u64 v_r0_04_i_i_i_i_i_i_i_i_i149_i_i_i_i_epil;
     u64 v_epil_iter244;
-    P v_r20_i_i_i_i_i_i_i_i_i151_i_i_i_i_epil;
-    P v_r24_i_i_i_i_i_i_i_i_i152_i_i_i_i_epil;
-    u8 v_r26_i_i_i_i_i_i_i_i_i153_i_i_i_i_epil;
-    u64 v_r30_i_i_i_i_i_i_i_i_i154_i_i_i_i_epil;
+    P v_r20_i_i_i_i_i_i_i_i_i150_i_i_i_i_epil;
+    P v_r24_i_i_i_i_i_i_i_i_i151_i_i_i_i_epil;
+    u8 v_r26_i_i_i_i_i_i_i_i_i152_i_i_i_i_epil;
+    u64 v_r30_i_i_i_i_i_i_i_i_i153_i_i_i_i_epil;
     u64 v_epil_iter244_next;
     u1 v_epil_iter244_cmp_not;
-    u1 v_r15_not_i_i140_i_i_i_i;
-    u64 v_r17_i3_i_i142_i_i_i_i;
-    P v_r26_i5_i_i144_i_i_i_i;
+    u1 v_r15_not_i_i139_i_i_i_i;
+    u64 v_r17_i3_i_i141_i_i_i_i;
+    P v_r26_i5_i_i143_i_i_i_i;
     u64 v_r7_sroa_130_5_i_i_i;
     u64 v_62;
     u64 v_63;
     u32 v_64;
-    u32 v_r2_i_i148_i_i_i_i;
+    u32 v_r2_i_i147_i_i_i_i;
     u1 v_r59_i329_i_i_i;
     u16 v_r64_i391_i_i_i;
     u64 v_r17_i_i395_i_i_i;
@@ -36154,53 +36159,53 @@ u32 pkcs1_c_private_key_encode(P v_a0, P v_a1, u64 v_a2, P v_a3, u64 v_a4, P v_a
     P v_r40_i328_sroa_7_0_r26_i84_i353_sroa_idx_i_i_i;
     P v_r40_i328_sroa_8_0_r26_i84_i353_sroa_idx_i_i_i;
     u64 v_r7_sroa_130_18_i_i_i;
-    u64 v_r17_i_i_i162_i_i_i_i;
-    P v_r26_i_i_i164_i_i_i_i;
-    u64 v_r8_i_i_i_i_i_i_i_i_i165_i_i_i_i;
-    u64 v_r9_i_i_i_i_i_i_i_i_i166_i_i_i_i;
-    u64 v_r10_i_i_i_i_i_i_i_i_i167_i_i_i_i;
-    u1 v_r11_i_i_i_i_i_i_i_i_i168_i_i_i_i;
+    u64 v_r17_i_i_i161_i_i_i_i;
+    P v_r26_i_i_i163_i_i_i_i;
+    u64 v_r8_i_i_i_i_i_i_i_i_i164_i_i_i_i;
+    u64 v_r9_i_i_i_i_i_i_i_i_i165_i_i_i_i;
+    u64 v_r10_i_i_i_i_i_i_i_i_i166_i_i_i_i;
+    u1 v_r11_i_i_i_i_i_i_i_i_i167_i_i_i_i;
     u64 v_xtraiter249;
     u1 v_66;
     u64 v_unroll_iter253;
-    u64 v_r0_04_i_i_i_i_i_i_i_i_i183_i_i_i_i;
+    u64 v_r0_04_i_i_i_i_i_i_i_i_i182_i_i_i_i;
     u64 v_niter254;
-    P v_r20_i_i_i_i_i_i_i_i_i184_i_i_i_i;
-    P v_r24_i_i_i_i_i_i_i_i_i185_i_i_i_i;
-    u8 v_r26_i_i_i_i_i_i_i_i_i186_i_i_i_i;
-    u64 v_r30_i_i_i_i_i_i_i_i_i187_i_i_i_i;
-    P v_r20_i_i_i_i_i_i_i_i_i184_i_i_i_i_1;
-    P v_r24_i_i_i_i_i_i_i_i_i185_i_i_i_i_1;
-    u8 v_r26_i_i_i_i_i_i_i_i_i186_i_i_i_i_1;
-    u64 v_r30_i_i_i_i_i_i_i_i_i187_i_i_i_i_1;
-    P v_r20_i_i_i_i_i_i_i_i_i184_i_i_i_i_2;
-    P v_r24_i_i_i_i_i_i_i_i_i185_i_i_i_i_2;
-    u8 v_r26_i_i_i_i_i_i_i_i_i186_i_i_i_i_2;
-    u64 v_r30_i_i_i_i_i_i_i_i_i187_i_i_i_i_2;
-    P v_r20_i_i_i_i_i_i_i_i_i184_i_i_i_i_3;
-    P v_r24_i_i_i_i_i_i_i_i_i185_i_i_i_i_3;
-    u8 v_r26_i_i_i_i_i_i_i_i_i186_i_i_i_i_3;
-    u64 v_r30_i_i_i_i_i_i_i_i_i187_i_i_i_i_3;
+    P v_r20_i_i_i_i_i_i_i_i_i183_i_i_i_i;
+    P v_r24_i_i_i_i_i_i_i_i_i184_i_i_i_i;
+    u8 v_r26_i_i_i_i_i_i_i_i_i185_i_i_i_i;
+    u64 v_r30_i_i_i_i_i_i_i_i_i186_i_i_i_i;
+    P v_r20_i_i_i_i_i_i_i_i_i183_i_i_i_i_1;
+    P v_r24_i_i_i_i_i_i_i_i_i184_i_i_i_i_1;
+    u8 v_r26_i_i_i_i_i_i_i_i_i185_i_i_i_i_1;
+    u64 v_r30_i_i_i_i_i_i_i_i_i186_i_i_i_i_1;
+    P v_r20_i_i_i_i_i_i_i_i_i183_i_i_i_i_2;
+    P v_r24_i_i_i_i_i_i_i_i_i184_i_i_i_i_2;
+    u8 v_r26_i_i_i_i_i_i_i_i_i185_i_i_i_i_2;
+    u64 v_r30_i_i_i_i_i_i_i_i_i186_i_i_i_i_2;
+    P v_r20_i_i_i_i_i_i_i_i_i183_i_i_i_i_3;
+    P v_r24_i_i_i_i_i_i_i_i_i184_i_i_i_i_3;
+    u8 v_r26_i_i_i_i_i_i_i_i_i185_i_i_i_i_3;
+    u64 v_r30_i_i_i_i_i_i_i_i_i186_i_i_i_i_3;
     u64 v_niter254_next_3;
     u1 v_niter254_ncmp_3;
     u1 v_lcmp_mod251_not;
-    u64 v_r0_04_i_i_i_i_i_i_i_i_i183_i_i_i_i_epil_init;
-    u64 v_r0_04_i_i_i_i_i_i_i_i_i183_i_i_i_i_epil;
+    u64 v_r0_04_i_i_i_i_i_i_i_i_i182_i_i_i_i_epil_init;
+    u64 v_r0_04_i_i_i_i_i_i_i_i_i182_i_i_i_i_epil;
     u64 v_epil_iter250;
-    P v_r20_i_i_i_i_i_i_i_i_i184_i_i_i_i_epil;
-    P v_r24_i_i_i_i_i_i_i_i_i185_i_i_i_i_epil;
-    u8 v_r26_i_i_i_i_i_i_i_i_i186_i_i_i_i_epil;
-    u64 v_r30_i_i_i_i_i_i_i_i_i187_i_i_i_i_epil;
+    P v_r20_i_i_i_i_i_i_i_i_i183_i_i_i_i_epil;
+    P v_r24_i_i_i_i_i_i_i_i_i184_i_i_i_i_epil;
+    u8 v_r26_i_i_i_i_i_i_i_i_i185_i_i_i_i_epil;
+    u64 v_r30_i_i_i_i_i_i_i_i_i186_i_i_i_i_epil;
     u64 v_epil_iter250_next;
     u1 v_epil_iter250_cmp_not;
-    u1 v_r15_not_i_i173_i_i_i_i;
-    u64 v_r17_i3_i_i175_i_i_i_i;
-    P v_r26_i5_i_i177_i_i_i_i;
+    u1 v_r15_not_i_i172_i_i_i_i;
+    u64 v_r17_i3_i_i174_i_i_i_i;
+    P v_r26_i5_i_i176_i_i_i_i;
     u64 v_r7_sroa_130_6_i_i_i;
     u64 v_67;
     u64 v_68;
     u32 v_69;
-    u32 v_r2_i_i181_i_i_i_i;
+    u32 v_r2_i_i180_i_i_i_i;
     u1 v_r59_i253_i_i_i;
     u16 v_r64_i315_i_i_i;
     u64 v_r17_i_i319_i_i_i;
@@ -36245,53 +36250,53 @@ u32 pkcs1_c_private_key_encode(P v_a0, P v_a1, u64 v_a2, P v_a3, u64 v_a4, P v_a
     P v_r40_i252_sroa_7_0_r26_i84_i277_sroa_idx_i_i_i;
     P v_r40_i252_sroa_8_0_r26_i84_i277_sroa_idx_i_i_i;
     u64 v_r7_sroa_130_17_i_i_i;
-    u64 v_r17_i_i_i195_i_i_i_i;
-    P v_r26_i_i_i197_i_i_i_i;
-    u64 v_r8_i_i_i_i_i_i_i_i_i198_i_i_i_i;
-    u64 v_r9_i_i_i_i_i_i_i_i_i199_i_i_i_i;
-    u64 v_r10_i_i_i_i_i_i_i_i_i200_i_i_i_i;
-    u1 v_r11_i_i_i_i_i_i_i_i_i201_i_i_i_i;
+    u64 v_r17_i_i_i194_i_i_i_i;
+    P v_r26_i_i_i196_i_i_i_i;
+    u64 v_r8_i_i_i_i_i_i_i_i_i197_i_i_i_i;
+    u64 v_r9_i_i_i_i_i_i_i_i_i198_i_i_i_i;
+    u64 v_r10_i_i_i_i_i_i_i_i_i199_i_i_i_i;
+    u1 v_r11_i_i_i_i_i_i_i_i_i200_i_i_i_i;
     u64 v_xtraiter255;
     u1 v_71;
     u64 v_unroll_iter259;
-    u64 v_r0_04_i_i_i_i_i_i_i_i_i216_i_i_i_i;
+    u64 v_r0_04_i_i_i_i_i_i_i_i_i215_i_i_i_i;
     u64 v_niter260;
-    P v_r20_i_i_i_i_i_i_i_i_i217_i_i_i_i;
-    P v_r24_i_i_i_i_i_i_i_i_i218_i_i_i_i;
-    u8 v_r26_i_i_i_i_i_i_i_i_i219_i_i_i_i;
-    u64 v_r30_i_i_i_i_i_i_i_i_i220_i_i_i_i;
-    P v_r20_i_i_i_i_i_i_i_i_i217_i_i_i_i_1;
-    P v_r24_i_i_i_i_i_i_i_i_i218_i_i_i_i_1;
-    u8 v_r26_i_i_i_i_i_i_i_i_i219_i_i_i_i_1;
-    u64 v_r30_i_i_i_i_i_i_i_i_i220_i_i_i_i_1;
-    P v_r20_i_i_i_i_i_i_i_i_i217_i_i_i_i_2;
-    P v_r24_i_i_i_i_i_i_i_i_i218_i_i_i_i_2;
-    u8 v_r26_i_i_i_i_i_i_i_i_i219_i_i_i_i_2;
-    u64 v_r30_i_i_i_i_i_i_i_i_i220_i_i_i_i_2;
-    P v_r20_i_i_i_i_i_i_i_i_i217_i_i_i_i_3;
-    P v_r24_i_i_i_i_i_i_i_i_i218_i_i_i_i_3;
-    u8 v_r26_i_i_i_i_i_i_i_i_i219_i_i_i_i_3;
-    u64 v_r30_i_i_i_i_i_i_i_i_i220_i_i_i_i_3;
+    P v_r20_i_i_i_i_i_i_i_i_i216_i_i_i_i;
+    P v_r24_i_i_i_i_i_i_i_i_i217_i_i_i_i;
+    u8 v_r26_i_i_i_i_i_i_i_i_i218_i_i_i_i;
+    u64 v_r30_i_i_i_i_i_i_i_i_i219_i_i_i_i;
+    P v_r20_i_i_i_i_i_i_i_i_i216_i_i_i_i_1;
+    P v_r24_i_i_i_i_i_i_i_i_i217_i_i_i_i_1;
+    u8 v_r26_i_i_i_i_i_i_i_i_i218_i_i_i_i_1;
+    u64 v_r30_i_i_i_i_i_i_i_i_i219_i_i_i_i_1;
+    P v_r20_i_i_i_i_i_i_i_i_i216_i_i_i_i_2;
+    P v_r24_i_i_i_i_i_i_i_i_i217_i_i_i_i_2;
+    u8 v_r26_i_i_i_i_i_i_i_i_i218_i_i_i_i_2;
+    u64 v_r30_i_i_i_i_i_i_i_i_i219_i_i_i_i_2;
+    P v_r20_i_i_i_i_i_i_i_i_i216_i_i_i_i_3;
+    P v_r24_i_i_i_i_i_i_i_i_i217_i_i_i_i_3;
+    u8 v_r26_i_i_i_i_i_i_i_i_i218_i_i_i_i_3;
+    u64 v_r30_i_i_i_i_i_i_i_i_i219_i_i_i_i_3;
     u64 v_niter260_next_3;
     u1 v_niter260_ncmp_3;
     u1 v_lcmp_mod257_not;
-    u64 v_r0_04_i_i_i_i_i_i_i_i_i216_i_i_i_i_epil_init;
-    u64 v_r0_04_i_i_i_i_i_i_i_i_i216_i_i_i_i_epil;
+    u64 v_r0_04_i_i_i_i_i_i_i_i_i215_i_i_i_i_epil_init;
+    u64 v_r0_04_i_i_i_i_i_i_i_i_i215_i_i_i_i_epil;
     u64 v_epil_iter256;
-    P v_r20_i_i_i_i_i_i_i_i_i217_i_i_i_i_epil;
-    P v_r24_i_i_i_i_i_i_i_i_i218_i_i_i_i_epil;
-    u8 v_r26_i_i_i_i_i_i_i_i_i219_i_i_i_i_epil;
-    u64 v_r30_i_i_i_i_i_i_i_i_i220_i_i_i_i_epil;
+    P v_r20_i_i_i_i_i_i_i_i_i216_i_i_i_i_epil;
+    P v_r24_i_i_i_i_i_i_i_i_i217_i_i_i_i_epil;
+    u8 v_r26_i_i_i_i_i_i_i_i_i218_i_i_i_i_epil;
+    u64 v_r30_i_i_i_i_i_i_i_i_i219_i_i_i_i_epil;
     u64 v_epil_iter256_next;
     u1 v_epil_iter256_cmp_not;
-    u1 v_r15_not_i_i206_i_i_i_i;
-    u64 v_r17_i3_i_i208_i_i_i_i;
-    P v_r26_i5_i_i210_i_i_i_i;
+    u1 v_r15_not_i_i205_i_i_i_i;
+    u64 v_r17_i3_i_i207_i_i_i_i;
+    P v_r26_i5_i_i209_i_i_i_i;
     u64 v_r7_sroa_130_7_i_i_i;
     u64 v_72;
     u64 v_73;
     u32 v_74;
-    u32 v_r2_i_i214_i_i_i_i;
+    u32 v_r2_i_i213_i_i_i_i;
     u1 v_r59_i177_i_i_i;
     u16 v_r64_i239_i_i_i;
     u64 v_r17_i_i243_i_i_i;
@@ -36336,56 +36341,56 @@ u32 pkcs1_c_private_key_encode(P v_a0, P v_a1, u64 v_a2, P v_a3, u64 v_a4, P v_a
     P v_r40_i176_sroa_7_0_r26_i84_i201_sroa_idx_i_i_i;
     P v_r40_i176_sroa_8_0_r26_i84_i201_sroa_idx_i_i_i;
     u64 v_r7_sroa_130_16_i_i_i;
-    P v_r1_sroa_0_0_copyload_i_i225_i_i_i_i;
-    u64 v_r1_sroa_3_0_copyload_i_i227_i_i_i_i;
-    u64 v_r17_i_i_i228_i_i_i_i;
-    P v_r26_i_i_i230_i_i_i_i;
-    u64 v_r8_i_i_i_i_i_i_i_i_i231_i_i_i_i;
-    u64 v_r9_i_i_i_i_i_i_i_i_i232_i_i_i_i;
-    u64 v_r10_i_i_i_i_i_i_i_i_i233_i_i_i_i;
-    u1 v_r11_i_i_i_i_i_i_i_i_i234_i_i_i_i;
+    P v_r1_sroa_0_0_copyload_i_i224_i_i_i_i;
+    u64 v_r1_sroa_3_0_copyload_i_i226_i_i_i_i;
+    u64 v_r17_i_i_i227_i_i_i_i;
+    P v_r26_i_i_i229_i_i_i_i;
+    u64 v_r8_i_i_i_i_i_i_i_i_i230_i_i_i_i;
+    u64 v_r9_i_i_i_i_i_i_i_i_i231_i_i_i_i;
+    u64 v_r10_i_i_i_i_i_i_i_i_i232_i_i_i_i;
+    u1 v_r11_i_i_i_i_i_i_i_i_i233_i_i_i_i;
     u64 v_xtraiter261;
     u1 v_76;
     u64 v_unroll_iter265;
-    u64 v_r0_04_i_i_i_i_i_i_i_i_i249_i_i_i_i;
+    u64 v_r0_04_i_i_i_i_i_i_i_i_i248_i_i_i_i;
     u64 v_niter266;
-    P v_r20_i_i_i_i_i_i_i_i_i250_i_i_i_i;
-    P v_r24_i_i_i_i_i_i_i_i_i251_i_i_i_i;
-    u8 v_r26_i_i_i_i_i_i_i_i_i252_i_i_i_i;
-    u64 v_r30_i_i_i_i_i_i_i_i_i253_i_i_i_i;
-    P v_r20_i_i_i_i_i_i_i_i_i250_i_i_i_i_1;
-    P v_r24_i_i_i_i_i_i_i_i_i251_i_i_i_i_1;
-    u8 v_r26_i_i_i_i_i_i_i_i_i252_i_i_i_i_1;
-    u64 v_r30_i_i_i_i_i_i_i_i_i253_i_i_i_i_1;
-    P v_r20_i_i_i_i_i_i_i_i_i250_i_i_i_i_2;
-    P v_r24_i_i_i_i_i_i_i_i_i251_i_i_i_i_2;
-    u8 v_r26_i_i_i_i_i_i_i_i_i252_i_i_i_i_2;
-    u64 v_r30_i_i_i_i_i_i_i_i_i253_i_i_i_i_2;
-    P v_r20_i_i_i_i_i_i_i_i_i250_i_i_i_i_3;
-    P v_r24_i_i_i_i_i_i_i_i_i251_i_i_i_i_3;
-    u8 v_r26_i_i_i_i_i_i_i_i_i252_i_i_i_i_3;
-    u64 v_r30_i_i_i_i_i_i_i_i_i253_i_i_i_i_3;
+    P v_r20_i_i_i_i_i_i_i_i_i249_i_i_i_i;
+    P v_r24_i_i_i_i_i_i_i_i_i250_i_i_i_i;
+    u8 v_r26_i_i_i_i_i_i_i_i_i251_i_i_i_i;
+    u64 v_r30_i_i_i_i_i_i_i_i_i252_i_i_i_i;
+    P v_r20_i_i_i_i_i_i_i_i_i249_i_i_i_i_1;
+    P v_r24_i_i_i_i_i_i_i_i_i250_i_i_i_i_1;
+    u8 v_r26_i_i_i_i_i_i_i_i_i251_i_i_i_i_1;
+    u64 v_r30_i_i_i_i_i_i_i_i_i252_i_i_i_i_1;
+    P v_r20_i_i_i_i_i_i_i_i_i249_i_i_i_i_2;
+    P v_r24_i_i_i_i_i_i_i_i_i250_i_i_i_i_2;
+    u8 v_r26_i_i_i_i_i_i_i_i_i251_i_i_i_i_2;
+    u64 v_r30_i_i_i_i_i_i_i_i_i252_i_i_i_i_2;
+    P v_r20_i_i_i_i_i_i_i_i_i249_i_i_i_i_3;
+    P v_r24_i_i_i_i_i_i_i_i_i250_i_i_i_i_3;
+    u8 v_r26_i_i_i_i_i_i_i_i_i251_i_i_i_i_3;
+    u64 v_r30_i_i_i_i_i_i_i_i_i252_i_i_i_i_3;
     u64 v_niter266_next_3;
     u1 v_niter266_ncmp_3;
     u1 v_lcmp_mod263_not;
-    u64 v_r0_04_i_i_i_i_i_i_i_i_i249_i_i_i_i_epil_init;
-    u64 v_r0_04_i_i_i_i_i_i_i_i_i249_i_i_i_i_epil;
+    u64 v_r0_04_i_i_i_i_i_i_i_i_i248_i_i_i_i_epil_init;
+    u64 v_r0_04_i_i_i_i_i_i_i_i_i248_i_i_i_i_epil;
     u64 v_epil_iter262;
-    P v_r20_i_i_i_i_i_i_i_i_i250_i_i_i_i_epil;
-    P v_r24_i_i_i_i_i_i_i_i_i251_i_i_i_i_epil;
-    u8 v_r26_i_i_i_i_i_i_i_i_i252_i_i_i_i_epil;
-    u64 v_r30_i_i_i_i_i_i_i_i_i253_i_i_i_i_epil;
+    P v_r20_i_i_i_i_i_i_i_i_i249_i_i_i_i_epil;
+    P v_r24_i_i_i_i_i_i_i_i_i250_i_i_i_i_epil;
+    u8 v_r26_i_i_i_i_i_i_i_i_i251_i_i_i_i_epil;
+    u64 v_r30_i_i_i_i_i_i_i_i_i252_i_i_i_i_epil;
     u64 v_epil_iter262_next;
     u1 v_epil_iter262_cmp_not;
-    u64 v_r13_i_i238_i_i_i_i;
-    u1 v_r15_not_i_i239_i_i_i_i;
-    u64 v_r17_i3_i_i241_i_i_i_i;
-    P v_r26_i5_i_i243_i_i_i_i;
+    u64 v_r13_i_i237_i_i_i_i;
+    u1 v_r15_not_i_i238_i_i_i_i;
+    u64 v_r17_i3_i_i240_i_i_i_i;
+    P v_r26_i5_i_i242_i_i_i_i;
     u64 v_r7_sroa_130_13_i_i_i;
     u64 v_77;
     u64 v_78;
     u32 v_79;
-    u32 v_r2_i_i247_i_i_i_i;
+    u32 v_r2_i_i246_i_i_i_i;
     u1 v_r59_i101_i_i_i;
     u16 v_r64_i163_i_i_i;
     u64 v_r17_i_i167_i_i_i;
@@ -36431,7 +36436,7 @@ u32 pkcs1_c_private_key_encode(P v_a0, P v_a1, u64 v_a2, P v_a3, u64 v_a4, P v_a
     P v_r40_i100_sroa_8_0_r26_i84_i125_sroa_idx_i_i_i;
     u64 v_r7_sroa_130_15_i_i_i;
     P v_81;
-    P v_r26_i_i259_i_i_i_i;
+    P v_r26_i_i258_i_i_i_i;
     u64 v_r17_i_i91_i_i_i;
     P v_r26_i_i93_i_i_i;
     u32 v_82;
@@ -36483,7 +36488,7 @@ u32 pkcs1_c_private_key_encode(P v_a0, P v_a1, u64 v_a2, P v_a3, u64 v_a4, P v_a
     u32 v_common_ret_op_i;
     v_r1_i_i_i = m_v_r1_i_i_i;
     v_r1_i_i_i_i_i_i_i = m_v_r1_i_i_i_i_i_i_i;
-    v_r4_i_i_i_i_i_i_i = m_v_r4_i_i_i_i_i_i_i;
+    v_r10_i_i_i_i_i_i_i = m_v_r10_i_i_i_i_i_i_i;
     v_r10_i_i_i = m_v_r10_i_i_i;
     v_r6_i_i = m_v_r6_i_i;
     v_r19_i399_i = m_v_r19_i399_i;
@@ -36552,21 +36557,21 @@ L_join_5_i_i628_i:;
     v_r31_i_i629_i = v_r3_sroa_0_08_i_i617_i + 1;
     v_r34_i_i630_i = (u64)((u64)(v_r3_sroa_6_07_i_i618_i) + (u64)(18446744073709551615ull));
     v_r14_i_i631_i = v_r34_i_i630_i > 1u;
-    if (v_r14_i_i631_i) { p_v_r3_sroa_0_08_i_i617_i = v_r31_i_i629_i; p_v_r3_sroa_6_07_i_i618_i = v_r34_i_i630_i; goto L_then_3_i_i616_i; } else { p_v_r1_sroa_0_0_copyload_i_i192_i_i_i_ph_i = v_scevgep_i_i615_i; goto L_arm_5_ithread_pre_split_i; }
+    if (v_r14_i_i631_i) { p_v_r3_sroa_0_08_i_i617_i = v_r31_i_i629_i; p_v_r3_sroa_6_07_i_i618_i = v_r34_i_i630_i; goto L_then_3_i_i616_i; } else { p_v_r1_sroa_0_0_copyload_i_i191_i_i_i_ph_i = v_scevgep_i_i615_i; goto L_arm_5_ithread_pre_split_i; }
 L_der_core_integer_uint_strip_exit_i602_i:;
     v_r7_i_i603_i = v_r30_sroa_3_0_copyload_i_i == 0u;
-    if (v_r7_i_i603_i) { p_v_common_ret_op_i = 4u; goto L_pkcs1_c_private_key_pkcs1_c_private_key_encode_exi; } else { p_v_r1_sroa_0_0_copyload_i_i192_i_i_i_ph_i = v_r30_sroa_0_0_copyload_i_i; goto L_arm_5_ithread_pre_split_i; }
+    if (v_r7_i_i603_i) { p_v_common_ret_op_i = 4u; goto L_pkcs1_c_private_key_pkcs1_c_private_key_encode_exi; } else { p_v_r1_sroa_0_0_copyload_i_i191_i_i_i_ph_i = v_r30_sroa_0_0_copyload_i_i; goto L_arm_5_ithread_pre_split_i; }
 L_join_3_i621_i:;
     v_r49_i622_i = v_r3_sroa_6_07_i_i618_i > 4294967295ull;
-    if (v_r49_i622_i) { p_v_common_ret_op_i = 8u; goto L_pkcs1_c_private_key_pkcs1_c_private_key_encode_exi; } else { p_v_r20_i326_i = v_r21_i_i619_i; p_v_r1_sroa_0_0_copyload_i_i192_i_i_i_i = v_r3_sroa_0_08_i_i617_i; p_v_r1_sroa_3_0_copyload_i_i194_i_i_i_i = v_r3_sroa_6_07_i_i618_i; goto L_arm_5_i_i; }
+    if (v_r49_i622_i) { p_v_common_ret_op_i = 8u; goto L_pkcs1_c_private_key_pkcs1_c_private_key_encode_exi; } else { p_v_r20_i326_i = v_r21_i_i619_i; p_v_r1_sroa_0_0_copyload_i_i191_i_i_i_i = v_r3_sroa_0_08_i_i617_i; p_v_r1_sroa_3_0_copyload_i_i193_i_i_i_i = v_r3_sroa_6_07_i_i618_i; goto L_arm_5_i_i; }
 L_arm_5_ithread_pre_split_i:;
-    v_r1_sroa_0_0_copyload_i_i192_i_i_i_ph_i = p_v_r1_sroa_0_0_copyload_i_i192_i_i_i_ph_i;
-    v_r20_i326_pr_i = get_u8(v_r1_sroa_0_0_copyload_i_i192_i_i_i_ph_i);
-    { p_v_r20_i326_i = v_r20_i326_pr_i; p_v_r1_sroa_0_0_copyload_i_i192_i_i_i_i = v_r1_sroa_0_0_copyload_i_i192_i_i_i_ph_i; p_v_r1_sroa_3_0_copyload_i_i194_i_i_i_i = 1u; goto L_arm_5_i_i; }
+    v_r1_sroa_0_0_copyload_i_i191_i_i_i_ph_i = p_v_r1_sroa_0_0_copyload_i_i191_i_i_i_ph_i;
+    v_r20_i326_pr_i = get_u8(v_r1_sroa_0_0_copyload_i_i191_i_i_i_ph_i);
+    { p_v_r20_i326_i = v_r20_i326_pr_i; p_v_r1_sroa_0_0_copyload_i_i191_i_i_i_i = v_r1_sroa_0_0_copyload_i_i191_i_i_i_ph_i; p_v_r1_sroa_3_0_copyload_i_i193_i_i_i_i = 1u; goto L_arm_5_i_i; }
 L_arm_5_i_i:;
     v_r20_i326_i = p_v_r20_i326_i;
-    v_r1_sroa_0_0_copyload_i_i192_i_i_i_i = p_v_r1_sroa_0_0_copyload_i_i192_i_i_i_i;
-    v_r1_sroa_3_0_copyload_i_i194_i_i_i_i = p_v_r1_sroa_3_0_copyload_i_i194_i_i_i_i;
+    v_r1_sroa_0_0_copyload_i_i191_i_i_i_i = p_v_r1_sroa_0_0_copyload_i_i191_i_i_i_i;
+    v_r1_sroa_3_0_copyload_i_i193_i_i_i_i = p_v_r1_sroa_3_0_copyload_i_i193_i_i_i_i;
     v_r20_i326_lobit_i = (u8)((u32)(v_r20_i326_i) >> (u32)((7u & 31)));
     v_i328_i = (u64)v_r20_i326_lobit_i;
     v_r133_i_i = v_a0 + 32;
@@ -36589,21 +36594,21 @@ L_join_5_i_i722_i:;
     v_r31_i_i723_i = v_r3_sroa_0_08_i_i711_i + 1;
     v_r34_i_i724_i = (u64)((u64)(v_r3_sroa_6_07_i_i712_i) + (u64)(18446744073709551615ull));
     v_r14_i_i725_i = v_r34_i_i724_i > 1u;
-    if (v_r14_i_i725_i) { p_v_r3_sroa_0_08_i_i711_i = v_r31_i_i723_i; p_v_r3_sroa_6_07_i_i712_i = v_r34_i_i724_i; goto L_then_3_i_i710_i; } else { p_v_r1_sroa_0_0_copyload_i_i159_i_i_i_ph_i = v_scevgep_i_i709_i; goto L_arm_8_ithread_pre_split_i; }
+    if (v_r14_i_i725_i) { p_v_r3_sroa_0_08_i_i711_i = v_r31_i_i723_i; p_v_r3_sroa_6_07_i_i712_i = v_r34_i_i724_i; goto L_then_3_i_i710_i; } else { p_v_r1_sroa_0_0_copyload_i_i158_i_i_i_ph_i = v_scevgep_i_i709_i; goto L_arm_8_ithread_pre_split_i; }
 L_der_core_integer_uint_strip_exit_i696_i:;
     v_r7_i_i697_i = v_r36_sroa_3_0_copyload_i_i == 0u;
-    if (v_r7_i_i697_i) { p_v_common_ret_op_i = 4u; goto L_pkcs1_c_private_key_pkcs1_c_private_key_encode_exi; } else { p_v_r1_sroa_0_0_copyload_i_i159_i_i_i_ph_i = v_r36_sroa_0_0_copyload_i_i; goto L_arm_8_ithread_pre_split_i; }
+    if (v_r7_i_i697_i) { p_v_common_ret_op_i = 4u; goto L_pkcs1_c_private_key_pkcs1_c_private_key_encode_exi; } else { p_v_r1_sroa_0_0_copyload_i_i158_i_i_i_ph_i = v_r36_sroa_0_0_copyload_i_i; goto L_arm_8_ithread_pre_split_i; }
 L_join_3_i715_i:;
     v_r49_i716_i = v_r3_sroa_6_07_i_i712_i > 4294967295ull;
-    if (v_r49_i716_i) { p_v_common_ret_op_i = 8u; goto L_pkcs1_c_private_key_pkcs1_c_private_key_encode_exi; } else { p_v_r20_i336_i = v_r21_i_i713_i; p_v_r1_sroa_0_0_copyload_i_i159_i_i_i_i = v_r3_sroa_0_08_i_i711_i; p_v_r1_sroa_3_0_copyload_i_i161_i_i_i_i = v_r3_sroa_6_07_i_i712_i; goto L_arm_8_i_i; }
+    if (v_r49_i716_i) { p_v_common_ret_op_i = 8u; goto L_pkcs1_c_private_key_pkcs1_c_private_key_encode_exi; } else { p_v_r20_i336_i = v_r21_i_i713_i; p_v_r1_sroa_0_0_copyload_i_i158_i_i_i_i = v_r3_sroa_0_08_i_i711_i; p_v_r1_sroa_3_0_copyload_i_i160_i_i_i_i = v_r3_sroa_6_07_i_i712_i; goto L_arm_8_i_i; }
 L_arm_8_ithread_pre_split_i:;
-    v_r1_sroa_0_0_copyload_i_i159_i_i_i_ph_i = p_v_r1_sroa_0_0_copyload_i_i159_i_i_i_ph_i;
-    v_r20_i336_pr_i = get_u8(v_r1_sroa_0_0_copyload_i_i159_i_i_i_ph_i);
-    { p_v_r20_i336_i = v_r20_i336_pr_i; p_v_r1_sroa_0_0_copyload_i_i159_i_i_i_i = v_r1_sroa_0_0_copyload_i_i159_i_i_i_ph_i; p_v_r1_sroa_3_0_copyload_i_i161_i_i_i_i = 1u; goto L_arm_8_i_i; }
+    v_r1_sroa_0_0_copyload_i_i158_i_i_i_ph_i = p_v_r1_sroa_0_0_copyload_i_i158_i_i_i_ph_i;
+    v_r20_i336_pr_i = get_u8(v_r1_sroa_0_0_copyload_i_i158_i_i_i_ph_i);
+    { p_v_r20_i336_i = v_r20_i336_pr_i; p_v_r1_sroa_0_0_copyload_i_i158_i_i_i_i = v_r1_sroa_0_0_copyload_i_i158_i_i_i_ph_i; p_v_r1_sroa_3_0_copyload_i_i160_i_i_i_i = 1u; goto L_arm_8_i_i; }
 L_arm_8_i_i:;
     v_r20_i336_i = p_v_r20_i336_i;
-    v_r1_sroa_0_0_copyload_i_i159_i_i_i_i = p_v_r1_sroa_0_0_copyload_i_i159_i_i_i_i;
-    v_r1_sroa_3_0_copyload_i_i161_i_i_i_i = p_v_r1_sroa_3_0_copyload_i_i161_i_i_i_i;
+    v_r1_sroa_0_0_copyload_i_i158_i_i_i_i = p_v_r1_sroa_0_0_copyload_i_i158_i_i_i_i;
+    v_r1_sroa_3_0_copyload_i_i160_i_i_i_i = p_v_r1_sroa_3_0_copyload_i_i160_i_i_i_i;
     v_r20_i336_lobit_i = (u8)((u32)(v_r20_i336_i) >> (u32)((7u & 31)));
     v_i338_i = (u64)v_r20_i336_lobit_i;
     v_r162_i_i = v_a0 + 48;
@@ -36626,21 +36631,21 @@ L_join_5_i_i819_i:;
     v_r31_i_i820_i = v_r3_sroa_0_08_i_i808_i + 1;
     v_r34_i_i821_i = (u64)((u64)(v_r3_sroa_6_07_i_i809_i) + (u64)(18446744073709551615ull));
     v_r14_i_i822_i = v_r34_i_i821_i > 1u;
-    if (v_r14_i_i822_i) { p_v_r3_sroa_0_08_i_i808_i = v_r31_i_i820_i; p_v_r3_sroa_6_07_i_i809_i = v_r34_i_i821_i; goto L_then_3_i_i807_i; } else { p_v_r1_sroa_0_0_copyload_i_i126_i_i_i_ph_i = v_scevgep_i_i806_i; goto L_arm_11_ithread_pre_split_i; }
+    if (v_r14_i_i822_i) { p_v_r3_sroa_0_08_i_i808_i = v_r31_i_i820_i; p_v_r3_sroa_6_07_i_i809_i = v_r34_i_i821_i; goto L_then_3_i_i807_i; } else { p_v_r1_sroa_0_0_copyload_i_i125_i_i_i_ph_i = v_scevgep_i_i806_i; goto L_arm_11_ithread_pre_split_i; }
 L_der_core_integer_uint_strip_exit_i793_i:;
     v_r7_i_i794_i = v_r42_sroa_3_0_copyload_i_i == 0u;
-    if (v_r7_i_i794_i) { p_v_common_ret_op_i = 4u; goto L_pkcs1_c_private_key_pkcs1_c_private_key_encode_exi; } else { p_v_r1_sroa_0_0_copyload_i_i126_i_i_i_ph_i = v_r42_sroa_0_0_copyload_i_i; goto L_arm_11_ithread_pre_split_i; }
+    if (v_r7_i_i794_i) { p_v_common_ret_op_i = 4u; goto L_pkcs1_c_private_key_pkcs1_c_private_key_encode_exi; } else { p_v_r1_sroa_0_0_copyload_i_i125_i_i_i_ph_i = v_r42_sroa_0_0_copyload_i_i; goto L_arm_11_ithread_pre_split_i; }
 L_join_3_i812_i:;
     v_r49_i813_i = v_r3_sroa_6_07_i_i809_i > 4294967295ull;
-    if (v_r49_i813_i) { p_v_common_ret_op_i = 8u; goto L_pkcs1_c_private_key_pkcs1_c_private_key_encode_exi; } else { p_v_r20_i346_i = v_r21_i_i810_i; p_v_r1_sroa_0_0_copyload_i_i126_i_i_i_i = v_r3_sroa_0_08_i_i808_i; p_v_r1_sroa_3_0_copyload_i_i128_i_i_i_i = v_r3_sroa_6_07_i_i809_i; goto L_arm_11_i_i; }
+    if (v_r49_i813_i) { p_v_common_ret_op_i = 8u; goto L_pkcs1_c_private_key_pkcs1_c_private_key_encode_exi; } else { p_v_r20_i346_i = v_r21_i_i810_i; p_v_r1_sroa_0_0_copyload_i_i125_i_i_i_i = v_r3_sroa_0_08_i_i808_i; p_v_r1_sroa_3_0_copyload_i_i127_i_i_i_i = v_r3_sroa_6_07_i_i809_i; goto L_arm_11_i_i; }
 L_arm_11_ithread_pre_split_i:;
-    v_r1_sroa_0_0_copyload_i_i126_i_i_i_ph_i = p_v_r1_sroa_0_0_copyload_i_i126_i_i_i_ph_i;
-    v_r20_i346_pr_i = get_u8(v_r1_sroa_0_0_copyload_i_i126_i_i_i_ph_i);
-    { p_v_r20_i346_i = v_r20_i346_pr_i; p_v_r1_sroa_0_0_copyload_i_i126_i_i_i_i = v_r1_sroa_0_0_copyload_i_i126_i_i_i_ph_i; p_v_r1_sroa_3_0_copyload_i_i128_i_i_i_i = 1u; goto L_arm_11_i_i; }
+    v_r1_sroa_0_0_copyload_i_i125_i_i_i_ph_i = p_v_r1_sroa_0_0_copyload_i_i125_i_i_i_ph_i;
+    v_r20_i346_pr_i = get_u8(v_r1_sroa_0_0_copyload_i_i125_i_i_i_ph_i);
+    { p_v_r20_i346_i = v_r20_i346_pr_i; p_v_r1_sroa_0_0_copyload_i_i125_i_i_i_i = v_r1_sroa_0_0_copyload_i_i125_i_i_i_ph_i; p_v_r1_sroa_3_0_copyload_i_i127_i_i_i_i = 1u; goto L_arm_11_i_i; }
 L_arm_11_i_i:;
     v_r20_i346_i = p_v_r20_i346_i;
-    v_r1_sroa_0_0_copyload_i_i126_i_i_i_i = p_v_r1_sroa_0_0_copyload_i_i126_i_i_i_i;
-    v_r1_sroa_3_0_copyload_i_i128_i_i_i_i = p_v_r1_sroa_3_0_copyload_i_i128_i_i_i_i;
+    v_r1_sroa_0_0_copyload_i_i125_i_i_i_i = p_v_r1_sroa_0_0_copyload_i_i125_i_i_i_i;
+    v_r1_sroa_3_0_copyload_i_i127_i_i_i_i = p_v_r1_sroa_3_0_copyload_i_i127_i_i_i_i;
     v_r20_i346_lobit_i = (u8)((u32)(v_r20_i346_i) >> (u32)((7u & 31)));
     v_i348_i = (u64)v_r20_i346_lobit_i;
     v_r191_i_i = v_a0 + 64;
@@ -36663,21 +36668,21 @@ L_join_5_i_i916_i:;
     v_r31_i_i917_i = v_r3_sroa_0_08_i_i905_i + 1;
     v_r34_i_i918_i = (u64)((u64)(v_r3_sroa_6_07_i_i906_i) + (u64)(18446744073709551615ull));
     v_r14_i_i919_i = v_r34_i_i918_i > 1u;
-    if (v_r14_i_i919_i) { p_v_r3_sroa_0_08_i_i905_i = v_r31_i_i917_i; p_v_r3_sroa_6_07_i_i906_i = v_r34_i_i918_i; goto L_then_3_i_i904_i; } else { p_v_r1_sroa_0_0_copyload_i_i93_i_i_i_ph_i = v_scevgep_i_i903_i; goto L_arm_14_ithread_pre_split_i; }
+    if (v_r14_i_i919_i) { p_v_r3_sroa_0_08_i_i905_i = v_r31_i_i917_i; p_v_r3_sroa_6_07_i_i906_i = v_r34_i_i918_i; goto L_then_3_i_i904_i; } else { p_v_r1_sroa_0_0_copyload_i_i92_i_i_i_ph_i = v_scevgep_i_i903_i; goto L_arm_14_ithread_pre_split_i; }
 L_der_core_integer_uint_strip_exit_i890_i:;
     v_r7_i_i891_i = v_r48_sroa_3_0_copyload_i_i == 0u;
-    if (v_r7_i_i891_i) { p_v_common_ret_op_i = 4u; goto L_pkcs1_c_private_key_pkcs1_c_private_key_encode_exi; } else { p_v_r1_sroa_0_0_copyload_i_i93_i_i_i_ph_i = v_r48_sroa_0_0_copyload_i_i; goto L_arm_14_ithread_pre_split_i; }
+    if (v_r7_i_i891_i) { p_v_common_ret_op_i = 4u; goto L_pkcs1_c_private_key_pkcs1_c_private_key_encode_exi; } else { p_v_r1_sroa_0_0_copyload_i_i92_i_i_i_ph_i = v_r48_sroa_0_0_copyload_i_i; goto L_arm_14_ithread_pre_split_i; }
 L_join_3_i909_i:;
     v_r49_i910_i = v_r3_sroa_6_07_i_i906_i > 4294967295ull;
-    if (v_r49_i910_i) { p_v_common_ret_op_i = 8u; goto L_pkcs1_c_private_key_pkcs1_c_private_key_encode_exi; } else { p_v_r20_i356_i = v_r21_i_i907_i; p_v_r1_sroa_0_0_copyload_i_i93_i_i_i_i = v_r3_sroa_0_08_i_i905_i; p_v_r1_sroa_3_0_copyload_i_i95_i_i_i_i = v_r3_sroa_6_07_i_i906_i; goto L_arm_14_i_i; }
+    if (v_r49_i910_i) { p_v_common_ret_op_i = 8u; goto L_pkcs1_c_private_key_pkcs1_c_private_key_encode_exi; } else { p_v_r20_i356_i = v_r21_i_i907_i; p_v_r1_sroa_0_0_copyload_i_i92_i_i_i_i = v_r3_sroa_0_08_i_i905_i; p_v_r1_sroa_3_0_copyload_i_i94_i_i_i_i = v_r3_sroa_6_07_i_i906_i; goto L_arm_14_i_i; }
 L_arm_14_ithread_pre_split_i:;
-    v_r1_sroa_0_0_copyload_i_i93_i_i_i_ph_i = p_v_r1_sroa_0_0_copyload_i_i93_i_i_i_ph_i;
-    v_r20_i356_pr_i = get_u8(v_r1_sroa_0_0_copyload_i_i93_i_i_i_ph_i);
-    { p_v_r20_i356_i = v_r20_i356_pr_i; p_v_r1_sroa_0_0_copyload_i_i93_i_i_i_i = v_r1_sroa_0_0_copyload_i_i93_i_i_i_ph_i; p_v_r1_sroa_3_0_copyload_i_i95_i_i_i_i = 1u; goto L_arm_14_i_i; }
+    v_r1_sroa_0_0_copyload_i_i92_i_i_i_ph_i = p_v_r1_sroa_0_0_copyload_i_i92_i_i_i_ph_i;
+    v_r20_i356_pr_i = get_u8(v_r1_sroa_0_0_copyload_i_i92_i_i_i_ph_i);
+    { p_v_r20_i356_i = v_r20_i356_pr_i; p_v_r1_sroa_0_0_copyload_i_i92_i_i_i_i = v_r1_sroa_0_0_copyload_i_i92_i_i_i_ph_i; p_v_r1_sroa_3_0_copyload_i_i94_i_i_i_i = 1u; goto L_arm_14_i_i; }
 L_arm_14_i_i:;
     v_r20_i356_i = p_v_r20_i356_i;
-    v_r1_sroa_0_0_copyload_i_i93_i_i_i_i = p_v_r1_sroa_0_0_copyload_i_i93_i_i_i_i;
-    v_r1_sroa_3_0_copyload_i_i95_i_i_i_i = p_v_r1_sroa_3_0_copyload_i_i95_i_i_i_i;
+    v_r1_sroa_0_0_copyload_i_i92_i_i_i_i = p_v_r1_sroa_0_0_copyload_i_i92_i_i_i_i;
+    v_r1_sroa_3_0_copyload_i_i94_i_i_i_i = p_v_r1_sroa_3_0_copyload_i_i94_i_i_i_i;
     v_r20_i356_lobit_i = (u8)((u32)(v_r20_i356_i) >> (u32)((7u & 31)));
     v_i358_i = (u64)v_r20_i356_lobit_i;
     v_r220_i_i = v_a0 + 80;
@@ -36700,21 +36705,21 @@ L_join_5_i_i1013_i:;
     v_r31_i_i1014_i = v_r3_sroa_0_08_i_i1002_i + 1;
     v_r34_i_i1015_i = (u64)((u64)(v_r3_sroa_6_07_i_i1003_i) + (u64)(18446744073709551615ull));
     v_r14_i_i1016_i = v_r34_i_i1015_i > 1u;
-    if (v_r14_i_i1016_i) { p_v_r3_sroa_0_08_i_i1002_i = v_r31_i_i1014_i; p_v_r3_sroa_6_07_i_i1003_i = v_r34_i_i1015_i; goto L_then_3_i_i1001_i; } else { p_v_r1_sroa_0_0_copyload_i_i60_i_i_i_ph_i = v_scevgep_i_i1000_i; goto L_arm_17_ithread_pre_split_i; }
+    if (v_r14_i_i1016_i) { p_v_r3_sroa_0_08_i_i1002_i = v_r31_i_i1014_i; p_v_r3_sroa_6_07_i_i1003_i = v_r34_i_i1015_i; goto L_then_3_i_i1001_i; } else { p_v_r1_sroa_0_0_copyload_i_i59_i_i_i_ph_i = v_scevgep_i_i1000_i; goto L_arm_17_ithread_pre_split_i; }
 L_der_core_integer_uint_strip_exit_i987_i:;
     v_r7_i_i988_i = v_r54_sroa_3_0_copyload_i_i == 0u;
-    if (v_r7_i_i988_i) { p_v_common_ret_op_i = 4u; goto L_pkcs1_c_private_key_pkcs1_c_private_key_encode_exi; } else { p_v_r1_sroa_0_0_copyload_i_i60_i_i_i_ph_i = v_r54_sroa_0_0_copyload_i_i; goto L_arm_17_ithread_pre_split_i; }
+    if (v_r7_i_i988_i) { p_v_common_ret_op_i = 4u; goto L_pkcs1_c_private_key_pkcs1_c_private_key_encode_exi; } else { p_v_r1_sroa_0_0_copyload_i_i59_i_i_i_ph_i = v_r54_sroa_0_0_copyload_i_i; goto L_arm_17_ithread_pre_split_i; }
 L_join_3_i1006_i:;
     v_r49_i1007_i = v_r3_sroa_6_07_i_i1003_i > 4294967295ull;
-    if (v_r49_i1007_i) { p_v_common_ret_op_i = 8u; goto L_pkcs1_c_private_key_pkcs1_c_private_key_encode_exi; } else { p_v_r20_i366_i = v_r21_i_i1004_i; p_v_r1_sroa_0_0_copyload_i_i60_i_i_i_i = v_r3_sroa_0_08_i_i1002_i; p_v_r1_sroa_3_0_copyload_i_i62_i_i_i_i = v_r3_sroa_6_07_i_i1003_i; goto L_arm_17_i_i; }
+    if (v_r49_i1007_i) { p_v_common_ret_op_i = 8u; goto L_pkcs1_c_private_key_pkcs1_c_private_key_encode_exi; } else { p_v_r20_i366_i = v_r21_i_i1004_i; p_v_r1_sroa_0_0_copyload_i_i59_i_i_i_i = v_r3_sroa_0_08_i_i1002_i; p_v_r1_sroa_3_0_copyload_i_i61_i_i_i_i = v_r3_sroa_6_07_i_i1003_i; goto L_arm_17_i_i; }
 L_arm_17_ithread_pre_split_i:;
-    v_r1_sroa_0_0_copyload_i_i60_i_i_i_ph_i = p_v_r1_sroa_0_0_copyload_i_i60_i_i_i_ph_i;
-    v_r20_i366_pr_i = get_u8(v_r1_sroa_0_0_copyload_i_i60_i_i_i_ph_i);
-    { p_v_r20_i366_i = v_r20_i366_pr_i; p_v_r1_sroa_0_0_copyload_i_i60_i_i_i_i = v_r1_sroa_0_0_copyload_i_i60_i_i_i_ph_i; p_v_r1_sroa_3_0_copyload_i_i62_i_i_i_i = 1u; goto L_arm_17_i_i; }
+    v_r1_sroa_0_0_copyload_i_i59_i_i_i_ph_i = p_v_r1_sroa_0_0_copyload_i_i59_i_i_i_ph_i;
+    v_r20_i366_pr_i = get_u8(v_r1_sroa_0_0_copyload_i_i59_i_i_i_ph_i);
+    { p_v_r20_i366_i = v_r20_i366_pr_i; p_v_r1_sroa_0_0_copyload_i_i59_i_i_i_i = v_r1_sroa_0_0_copyload_i_i59_i_i_i_ph_i; p_v_r1_sroa_3_0_copyload_i_i61_i_i_i_i = 1u; goto L_arm_17_i_i; }
 L_arm_17_i_i:;
     v_r20_i366_i = p_v_r20_i366_i;
-    v_r1_sroa_0_0_copyload_i_i60_i_i_i_i = p_v_r1_sroa_0_0_copyload_i_i60_i_i_i_i;
-    v_r1_sroa_3_0_copyload_i_i62_i_i_i_i = p_v_r1_sroa_3_0_copyload_i_i62_i_i_i_i;
+    v_r1_sroa_0_0_copyload_i_i59_i_i_i_i = p_v_r1_sroa_0_0_copyload_i_i59_i_i_i_i;
+    v_r1_sroa_3_0_copyload_i_i61_i_i_i_i = p_v_r1_sroa_3_0_copyload_i_i61_i_i_i_i;
     v_r20_i366_lobit_i = (u8)((u32)(v_r20_i366_i) >> (u32)((7u & 31)));
     v_i368_i = (u64)v_r20_i366_lobit_i;
     v_r249_i_i = v_a0 + 96;
@@ -36737,21 +36742,21 @@ L_join_5_i_i1110_i:;
     v_r31_i_i1111_i = v_r3_sroa_0_08_i_i1099_i + 1;
     v_r34_i_i1112_i = (u64)((u64)(v_r3_sroa_6_07_i_i1100_i) + (u64)(18446744073709551615ull));
     v_r14_i_i1113_i = v_r34_i_i1112_i > 1u;
-    if (v_r14_i_i1113_i) { p_v_r3_sroa_0_08_i_i1099_i = v_r31_i_i1111_i; p_v_r3_sroa_6_07_i_i1100_i = v_r34_i_i1112_i; goto L_then_3_i_i1098_i; } else { p_v_r1_sroa_0_0_copyload_i_i27_i_i_i_ph_i = v_scevgep_i_i1097_i; goto L_arm_20_ithread_pre_split_i; }
+    if (v_r14_i_i1113_i) { p_v_r3_sroa_0_08_i_i1099_i = v_r31_i_i1111_i; p_v_r3_sroa_6_07_i_i1100_i = v_r34_i_i1112_i; goto L_then_3_i_i1098_i; } else { p_v_r1_sroa_0_0_copyload_i_i26_i_i_i_ph_i = v_scevgep_i_i1097_i; goto L_arm_20_ithread_pre_split_i; }
 L_der_core_integer_uint_strip_exit_i1084_i:;
     v_r7_i_i1085_i = v_r60_sroa_3_0_copyload_i_i == 0u;
-    if (v_r7_i_i1085_i) { p_v_common_ret_op_i = 4u; goto L_pkcs1_c_private_key_pkcs1_c_private_key_encode_exi; } else { p_v_r1_sroa_0_0_copyload_i_i27_i_i_i_ph_i = v_r60_sroa_0_0_copyload_i_i; goto L_arm_20_ithread_pre_split_i; }
+    if (v_r7_i_i1085_i) { p_v_common_ret_op_i = 4u; goto L_pkcs1_c_private_key_pkcs1_c_private_key_encode_exi; } else { p_v_r1_sroa_0_0_copyload_i_i26_i_i_i_ph_i = v_r60_sroa_0_0_copyload_i_i; goto L_arm_20_ithread_pre_split_i; }
 L_join_3_i1103_i:;
     v_r49_i1104_i = v_r3_sroa_6_07_i_i1100_i > 4294967295ull;
-    if (v_r49_i1104_i) { p_v_common_ret_op_i = 8u; goto L_pkcs1_c_private_key_pkcs1_c_private_key_encode_exi; } else { p_v_r20_i376_i = v_r21_i_i1101_i; p_v_r1_sroa_0_0_copyload_i_i27_i_i_i_i = v_r3_sroa_0_08_i_i1099_i; p_v_r1_sroa_3_0_copyload_i_i29_i_i_i_i = v_r3_sroa_6_07_i_i1100_i; goto L_arm_20_i_i; }
+    if (v_r49_i1104_i) { p_v_common_ret_op_i = 8u; goto L_pkcs1_c_private_key_pkcs1_c_private_key_encode_exi; } else { p_v_r20_i376_i = v_r21_i_i1101_i; p_v_r1_sroa_0_0_copyload_i_i26_i_i_i_i = v_r3_sroa_0_08_i_i1099_i; p_v_r1_sroa_3_0_copyload_i_i28_i_i_i_i = v_r3_sroa_6_07_i_i1100_i; goto L_arm_20_i_i; }
 L_arm_20_ithread_pre_split_i:;
-    v_r1_sroa_0_0_copyload_i_i27_i_i_i_ph_i = p_v_r1_sroa_0_0_copyload_i_i27_i_i_i_ph_i;
-    v_r20_i376_pr_i = get_u8(v_r1_sroa_0_0_copyload_i_i27_i_i_i_ph_i);
-    { p_v_r20_i376_i = v_r20_i376_pr_i; p_v_r1_sroa_0_0_copyload_i_i27_i_i_i_i = v_r1_sroa_0_0_copyload_i_i27_i_i_i_ph_i; p_v_r1_sroa_3_0_copyload_i_i29_i_i_i_i = 1u; goto L_arm_20_i_i; }
+    v_r1_sroa_0_0_copyload_i_i26_i_i_i_ph_i = p_v_r1_sroa_0_0_copyload_i_i26_i_i_i_ph_i;
+    v_r20_i376_pr_i = get_u8(v_r1_sroa_0_0_copyload_i_i26_i_i_i_ph_i);
+    { p_v_r20_i376_i = v_r20_i376_pr_i; p_v_r1_sroa_0_0_copyload_i_i26_i_i_i_i = v_r1_sroa_0_0_copyload_i_i26_i_i_i_ph_i; p_v_r1_sroa_3_0_copyload_i_i28_i_i_i_i = 1u; goto L_arm_20_i_i; }
 L_arm_20_i_i:;
     v_r20_i376_i = p_v_r20_i376_i;
-    v_r1_sroa_0_0_copyload_i_i27_i_i_i_i = p_v_r1_sroa_0_0_copyload_i_i27_i_i_i_i;
-    v_r1_sroa_3_0_copyload_i_i29_i_i_i_i = p_v_r1_sroa_3_0_copyload_i_i29_i_i_i_i;
+    v_r1_sroa_0_0_copyload_i_i26_i_i_i_i = p_v_r1_sroa_0_0_copyload_i_i26_i_i_i_i;
+    v_r1_sroa_3_0_copyload_i_i28_i_i_i_i = p_v_r1_sroa_3_0_copyload_i_i28_i_i_i_i;
     v_r20_i376_lobit_i = (u8)((u32)(v_r20_i376_i) >> (u32)((7u & 31)));
     v_i378_i = (u64)v_r20_i376_lobit_i;
     v_r278_i_i = v_a0 + 112;
@@ -36977,39 +36982,39 @@ L_arm_4_i:;
     v_r10_sroa_56_sroa_0_sroa_22_3_r5_sroa_idx_i = v_r5_i + 16;
     put_u64(v_r10_sroa_56_sroa_0_sroa_22_3_r5_sroa_idx_i, v_i_i);
     v_r10_sroa_56_sroa_0_sroa_32_3_r5_sroa_idx_i = v_r5_i + 24;
-    put_P(v_r10_sroa_56_sroa_0_sroa_32_3_r5_sroa_idx_i, v_r1_sroa_0_0_copyload_i_i192_i_i_i_i);
+    put_P(v_r10_sroa_56_sroa_0_sroa_32_3_r5_sroa_idx_i, v_r1_sroa_0_0_copyload_i_i191_i_i_i_i);
     v_r10_sroa_56_sroa_0_sroa_32_sroa_12_0_r10_sroa_56_s = v_r5_i + 32;
-    put_u64(v_r10_sroa_56_sroa_0_sroa_32_sroa_12_0_r10_sroa_56_s, v_r1_sroa_3_0_copyload_i_i194_i_i_i_i);
+    put_u64(v_r10_sroa_56_sroa_0_sroa_32_sroa_12_0_r10_sroa_56_s, v_r1_sroa_3_0_copyload_i_i193_i_i_i_i);
     v_r10_sroa_56_sroa_0_sroa_32_sroa_22_0_r10_sroa_56_s = v_r5_i + 40;
     put_u64(v_r10_sroa_56_sroa_0_sroa_32_sroa_22_0_r10_sroa_56_s, v_i328_i);
     v_r10_sroa_56_sroa_0_sroa_42_3_r5_sroa_idx_i = v_r5_i + 48;
-    put_P(v_r10_sroa_56_sroa_0_sroa_42_3_r5_sroa_idx_i, v_r1_sroa_0_0_copyload_i_i159_i_i_i_i);
+    put_P(v_r10_sroa_56_sroa_0_sroa_42_3_r5_sroa_idx_i, v_r1_sroa_0_0_copyload_i_i158_i_i_i_i);
     v_r10_sroa_56_sroa_0_sroa_42_sroa_12_0_r10_sroa_56_s = v_r5_i + 56;
-    put_u64(v_r10_sroa_56_sroa_0_sroa_42_sroa_12_0_r10_sroa_56_s, v_r1_sroa_3_0_copyload_i_i161_i_i_i_i);
+    put_u64(v_r10_sroa_56_sroa_0_sroa_42_sroa_12_0_r10_sroa_56_s, v_r1_sroa_3_0_copyload_i_i160_i_i_i_i);
     v_r10_sroa_56_sroa_0_sroa_42_sroa_22_0_r10_sroa_56_s = v_r5_i + 64;
     put_u64(v_r10_sroa_56_sroa_0_sroa_42_sroa_22_0_r10_sroa_56_s, v_i338_i);
     v_r10_sroa_56_sroa_0_sroa_52_3_r5_sroa_idx_i = v_r5_i + 72;
-    put_P(v_r10_sroa_56_sroa_0_sroa_52_3_r5_sroa_idx_i, v_r1_sroa_0_0_copyload_i_i126_i_i_i_i);
+    put_P(v_r10_sroa_56_sroa_0_sroa_52_3_r5_sroa_idx_i, v_r1_sroa_0_0_copyload_i_i125_i_i_i_i);
     v_r10_sroa_56_sroa_0_sroa_52_sroa_12_0_r10_sroa_56_s = v_r5_i + 80;
-    put_u64(v_r10_sroa_56_sroa_0_sroa_52_sroa_12_0_r10_sroa_56_s, v_r1_sroa_3_0_copyload_i_i128_i_i_i_i);
+    put_u64(v_r10_sroa_56_sroa_0_sroa_52_sroa_12_0_r10_sroa_56_s, v_r1_sroa_3_0_copyload_i_i127_i_i_i_i);
     v_r10_sroa_56_sroa_0_sroa_52_sroa_22_0_r10_sroa_56_s = v_r5_i + 88;
     put_u64(v_r10_sroa_56_sroa_0_sroa_52_sroa_22_0_r10_sroa_56_s, v_i348_i);
     v_r10_sroa_56_sroa_0_sroa_62_3_r5_sroa_idx_i = v_r5_i + 96;
-    put_P(v_r10_sroa_56_sroa_0_sroa_62_3_r5_sroa_idx_i, v_r1_sroa_0_0_copyload_i_i93_i_i_i_i);
+    put_P(v_r10_sroa_56_sroa_0_sroa_62_3_r5_sroa_idx_i, v_r1_sroa_0_0_copyload_i_i92_i_i_i_i);
     v_r10_sroa_56_sroa_0_sroa_62_sroa_12_0_r10_sroa_56_s = v_r5_i + 104;
-    put_u64(v_r10_sroa_56_sroa_0_sroa_62_sroa_12_0_r10_sroa_56_s, v_r1_sroa_3_0_copyload_i_i95_i_i_i_i);
+    put_u64(v_r10_sroa_56_sroa_0_sroa_62_sroa_12_0_r10_sroa_56_s, v_r1_sroa_3_0_copyload_i_i94_i_i_i_i);
     v_r10_sroa_56_sroa_0_sroa_62_sroa_22_0_r10_sroa_56_s = v_r5_i + 112;
     put_u64(v_r10_sroa_56_sroa_0_sroa_62_sroa_22_0_r10_sroa_56_s, v_i358_i);
     v_r10_sroa_56_sroa_0_sroa_72_3_r5_sroa_idx_i = v_r5_i + 120;
-    put_P(v_r10_sroa_56_sroa_0_sroa_72_3_r5_sroa_idx_i, v_r1_sroa_0_0_copyload_i_i60_i_i_i_i);
+    put_P(v_r10_sroa_56_sroa_0_sroa_72_3_r5_sroa_idx_i, v_r1_sroa_0_0_copyload_i_i59_i_i_i_i);
     v_r10_sroa_56_sroa_0_sroa_72_sroa_12_0_r10_sroa_56_s = v_r5_i + 128;
-    put_u64(v_r10_sroa_56_sroa_0_sroa_72_sroa_12_0_r10_sroa_56_s, v_r1_sroa_3_0_copyload_i_i62_i_i_i_i);
+    put_u64(v_r10_sroa_56_sroa_0_sroa_72_sroa_12_0_r10_sroa_56_s, v_r1_sroa_3_0_copyload_i_i61_i_i_i_i);
     v_r10_sroa_56_sroa_0_sroa_72_sroa_22_0_r10_sroa_56_s = v_r5_i + 136;
     put_u64(v_r10_sroa_56_sroa_0_sroa_72_sroa_22_0_r10_sroa_56_s, v_i368_i);
     v_r10_sroa_56_sroa_0_sroa_82_3_r5_sroa_idx_i = v_r5_i + 144;
-    put_P(v_r10_sroa_56_sroa_0_sroa_82_3_r5_sroa_idx_i, v_r1_sroa_0_0_copyload_i_i27_i_i_i_i);
+    put_P(v_r10_sroa_56_sroa_0_sroa_82_3_r5_sroa_idx_i, v_r1_sroa_0_0_copyload_i_i26_i_i_i_i);
     v_r10_sroa_56_sroa_0_sroa_82_sroa_12_0_r10_sroa_56_s = v_r5_i + 152;
-    put_u64(v_r10_sroa_56_sroa_0_sroa_82_sroa_12_0_r10_sroa_56_s, v_r1_sroa_3_0_copyload_i_i29_i_i_i_i);
+    put_u64(v_r10_sroa_56_sroa_0_sroa_82_sroa_12_0_r10_sroa_56_s, v_r1_sroa_3_0_copyload_i_i28_i_i_i_i);
     v_r10_sroa_56_sroa_0_sroa_82_sroa_22_0_r10_sroa_56_s = v_r5_i + 160;
     put_u64(v_r10_sroa_56_sroa_0_sroa_82_sroa_22_0_r10_sroa_56_s, v_i378_i);
     v_r10_sroa_56_sroa_0_sroa_92_3_r5_sroa_idx_i = v_r5_i + 168;
@@ -37059,15 +37064,15 @@ L_arm_1_i_i_i_i_i:;
 L_join_9_lr_ph_i_i_i_i_i_i:;
     v_r3_i_i_i_i_i_i_i = (u64)v_r0_sroa_0_0_copyload_i_i_i_i_i_i;
     v_r22_neg_i_i_i_i_i_i = (u64)((u64)(v_r3_i_i_i_i_i_i_i) - (u64)(v_r3_i8_i_i_i));
-    v_r3_sroa_22_sroa_6_3_r1_sroa_idx_i_i_i_i_i_i_i = v_r1_i_i_i_i_i_i_i + 8;
-    v_r3_sroa_22_sroa_10_3_r1_sroa_idx_i_i_i_i_i_i_i = v_r1_i_i_i_i_i_i_i + 16;
-    v_r3_sroa_22_sroa_14_3_r1_sroa_idx_i_i_i_i_i_i_i = v_r1_i_i_i_i_i_i_i + 24;
-    v_r3_sroa_22_sroa_14_sroa_6_0_r3_sroa_22_sroa_14_3_r = v_r1_i_i_i_i_i_i_i + 32;
-    v_r3_sroa_22_sroa_14_sroa_10_0_r3_sroa_22_sroa_14_3_ = v_r1_i_i_i_i_i_i_i + 40;
-    v_r3_sroa_22_sroa_18_3_r1_sroa_idx_i_i_i_i_i_i_i = v_r1_i_i_i_i_i_i_i + 48;
-    v_r3_sroa_22_sroa_18_sroa_6_0_r3_sroa_22_sroa_18_3_r = v_r1_i_i_i_i_i_i_i + 56;
-    v_r3_sroa_22_sroa_18_sroa_10_0_r3_sroa_22_sroa_18_3_ = v_r1_i_i_i_i_i_i_i + 64;
-    v_r21_i_i_i_i_i_i_i = v_r4_i_i_i_i_i_i_i + 4;
+    v_r4_sroa_22_sroa_6_3_r1_sroa_idx_i_i_i_i_i_i_i = v_r1_i_i_i_i_i_i_i + 8;
+    v_r4_sroa_22_sroa_10_3_r1_sroa_idx_i_i_i_i_i_i_i = v_r1_i_i_i_i_i_i_i + 16;
+    v_r4_sroa_22_sroa_14_3_r1_sroa_idx_i_i_i_i_i_i_i = v_r1_i_i_i_i_i_i_i + 24;
+    v_r4_sroa_22_sroa_14_sroa_6_0_r4_sroa_22_sroa_14_3_r = v_r1_i_i_i_i_i_i_i + 32;
+    v_r4_sroa_22_sroa_14_sroa_10_0_r4_sroa_22_sroa_14_3_ = v_r1_i_i_i_i_i_i_i + 40;
+    v_r4_sroa_22_sroa_18_3_r1_sroa_idx_i_i_i_i_i_i_i = v_r1_i_i_i_i_i_i_i + 48;
+    v_r4_sroa_22_sroa_18_sroa_6_0_r4_sroa_22_sroa_18_3_r = v_r1_i_i_i_i_i_i_i + 56;
+    v_r4_sroa_22_sroa_18_sroa_10_0_r4_sroa_22_sroa_18_3_ = v_r1_i_i_i_i_i_i_i + 64;
+    v_r37_i_i_i_i_i_i_i = v_r10_i_i_i_i_i_i_i + 4;
     { p_v_r7_sroa_130_9_i_i_i = v_r3_i8_i_i_i; p_v_r2_018_i_i_i_i_i_i = v_a2; goto L_join_9_i_i_i_i_i_i; }
 L_join_9_i_i_i_i_i_i:;
     v_r7_sroa_130_9_i_i_i = p_v_r7_sroa_130_9_i_i_i;
@@ -37075,6 +37080,7 @@ L_join_9_i_i_i_i_i_i:;
     v_r31_i_i_i_i_i_i = (u64)((u64)(v_r2_018_i_i_i_i_i_i) + (u64)(18446744073709551615ull));
     v_r33_i_i_i_i_i_i = (u64)((u64)(v_r31_i_i_i_i_i_i) * (u64)(48u));
     v_r36_i_i_i_i_i_i = (P)((uintptr_t)v_r34_i_i_i_i_i_i + (u64)(v_r33_i_i_i_i_i_i));
+    put_u64(v_r10_i_i_i_i_i_i_i, 0u);
     v_r10_sroa_0_0_copyload_i_i_i_i_i_i_i_i = get_P(v_r36_i_i_i_i_i_i);
     v_r10_sroa_3_0_a1_sroa_idx_i_i_i_i_i_i_i_i = v_r36_i_i_i_i_i_i + 8;
     v_r10_sroa_3_0_copyload_i_i_i_i_i_i_i_i = get_u64(v_r10_sroa_3_0_a1_sroa_idx_i_i_i_i_i_i_i_i);
@@ -37087,20 +37093,20 @@ L_then_3_preheader_i_i_i_i_i_i_i_i_i:;
 L_then_3_i_i_i_i_i_i_i_i_i:;
     v_r3_sroa_0_08_i_i_i_i_i_i_i_i_i = p_v_r3_sroa_0_08_i_i_i_i_i_i_i_i_i;
     v_r3_sroa_6_07_i_i_i_i_i_i_i_i_i = p_v_r3_sroa_6_07_i_i_i_i_i_i_i_i_i;
-    v_r21_i_i18_i_i_i_i_i_i_i = get_u8(v_r3_sroa_0_08_i_i_i_i_i_i_i_i_i);
-    v_r23_i_i_i_i_i_i_i_i_i = v_r21_i_i18_i_i_i_i_i_i_i == 0u;
+    v_r21_i_i33_i_i_i_i_i_i_i = get_u8(v_r3_sroa_0_08_i_i_i_i_i_i_i_i_i);
+    v_r23_i_i_i_i_i_i_i_i_i = v_r21_i_i33_i_i_i_i_i_i_i == 0u;
     if (v_r23_i_i_i_i_i_i_i_i_i) { goto L_join_5_i_i_i_i_i_i_i_i_i; } else { goto L_join_3_i_i_i_i_i_i_i_i; }
 L_join_5_i_i_i_i_i_i_i_i_i:;
-    v_r31_i_i24_i_i_i_i_i_i_i = v_r3_sroa_0_08_i_i_i_i_i_i_i_i_i + 1;
-    v_r34_i_i25_i_i_i_i_i_i_i = (u64)((u64)(v_r3_sroa_6_07_i_i_i_i_i_i_i_i_i) + (u64)(18446744073709551615ull));
-    v_r14_i_i26_i_i_i_i_i_i_i = v_r34_i_i25_i_i_i_i_i_i_i > 1u;
-    if (v_r14_i_i26_i_i_i_i_i_i_i) { p_v_r3_sroa_0_08_i_i_i_i_i_i_i_i_i = v_r31_i_i24_i_i_i_i_i_i_i; p_v_r3_sroa_6_07_i_i_i_i_i_i_i_i_i = v_r34_i_i25_i_i_i_i_i_i_i; goto L_then_3_i_i_i_i_i_i_i_i_i; } else { p_v_r12_sroa_10_i_sroa_3_0_ph_ph_i_i_i_i_i_i_i = v_scevgep_i_i_i_i_i_i_i_i_i; goto L_arm_1_ithread_pre_split_i_i_i_i_i_i_i; }
+    v_r31_i_i39_i_i_i_i_i_i_i = v_r3_sroa_0_08_i_i_i_i_i_i_i_i_i + 1;
+    v_r34_i_i40_i_i_i_i_i_i_i = (u64)((u64)(v_r3_sroa_6_07_i_i_i_i_i_i_i_i_i) + (u64)(18446744073709551615ull));
+    v_r14_i_i41_i_i_i_i_i_i_i = v_r34_i_i40_i_i_i_i_i_i_i > 1u;
+    if (v_r14_i_i41_i_i_i_i_i_i_i) { p_v_r3_sroa_0_08_i_i_i_i_i_i_i_i_i = v_r31_i_i39_i_i_i_i_i_i_i; p_v_r3_sroa_6_07_i_i_i_i_i_i_i_i_i = v_r34_i_i40_i_i_i_i_i_i_i; goto L_then_3_i_i_i_i_i_i_i_i_i; } else { p_v_r12_sroa_10_i_sroa_3_0_ph_ph_i_i_i_i_i_i_i = v_scevgep_i_i_i_i_i_i_i_i_i; goto L_arm_1_ithread_pre_split_i_i_i_i_i_i_i; }
 L_der_core_integer_uint_strip_exit_i_i_i_i_i_i_i_i:;
-    v_r7_i_i14_i_i_i_i_i_i_i = v_r10_sroa_3_0_copyload_i_i_i_i_i_i_i_i == 0u;
-    if (v_r7_i_i14_i_i_i_i_i_i_i) { goto L_pkcs1_c_given_primes_prepend_given_exit_thread_i_i; } else { p_v_r12_sroa_10_i_sroa_3_0_ph_ph_i_i_i_i_i_i_i = v_r10_sroa_0_0_copyload_i_i_i_i_i_i_i_i; goto L_arm_1_ithread_pre_split_i_i_i_i_i_i_i; }
+    v_r7_i_i29_i_i_i_i_i_i_i = v_r10_sroa_3_0_copyload_i_i_i_i_i_i_i_i == 0u;
+    if (v_r7_i_i29_i_i_i_i_i_i_i) { goto L_pkcs1_c_given_primes_prepend_given_exit_thread_i_i; } else { p_v_r12_sroa_10_i_sroa_3_0_ph_ph_i_i_i_i_i_i_i = v_r10_sroa_0_0_copyload_i_i_i_i_i_i_i_i; goto L_arm_1_ithread_pre_split_i_i_i_i_i_i_i; }
 L_join_3_i_i_i_i_i_i_i_i:;
-    v_r49_i19_i_i_i_i_i_i_i = v_r3_sroa_6_07_i_i_i_i_i_i_i_i_i > 4294967295ull;
-    if (v_r49_i19_i_i_i_i_i_i_i) { goto L_pkcs1_c_given_primes_prepend_given_exit_thread_i_i; } else { p_v_r20_i83_i_i_i_i_i_i_i_i = v_r21_i_i18_i_i_i_i_i_i_i; p_v_r12_sroa_10_i_sroa_3_0_ph_i_i_i_i_i_i_i = v_r3_sroa_0_08_i_i_i_i_i_i_i_i_i; p_v_r12_sroa_10_i_sroa_5_0_ph_i_i_i_i_i_i_i = v_r3_sroa_6_07_i_i_i_i_i_i_i_i_i; goto L_arm_1_i_i_i_i_i_i_i_i; }
+    v_r49_i34_i_i_i_i_i_i_i = v_r3_sroa_6_07_i_i_i_i_i_i_i_i_i > 4294967295ull;
+    if (v_r49_i34_i_i_i_i_i_i_i) { goto L_pkcs1_c_given_primes_prepend_given_exit_thread_i_i; } else { p_v_r20_i83_i_i_i_i_i_i_i_i = v_r21_i_i33_i_i_i_i_i_i_i; p_v_r12_sroa_10_i_sroa_3_0_ph_i_i_i_i_i_i_i = v_r3_sroa_0_08_i_i_i_i_i_i_i_i_i; p_v_r12_sroa_10_i_sroa_5_0_ph_i_i_i_i_i_i_i = v_r3_sroa_6_07_i_i_i_i_i_i_i_i_i; goto L_arm_1_i_i_i_i_i_i_i_i; }
 L_arm_1_ithread_pre_split_i_i_i_i_i_i_i:;
     v_r12_sroa_10_i_sroa_3_0_ph_ph_i_i_i_i_i_i_i = p_v_r12_sroa_10_i_sroa_3_0_ph_ph_i_i_i_i_i_i_i;
     v_r20_i83_i_pr_i_i_i_i_i_i_i = get_u8(v_r12_sroa_10_i_sroa_3_0_ph_ph_i_i_i_i_i_i_i);
@@ -37115,36 +37121,36 @@ L_arm_1_i_i_i_i_i_i_i_i:;
     v_r16_sroa_0_0_copyload_i_i_i_i_i_i_i_i = get_P(v_r54_i_i_i_i_i_i_i_i);
     v_r16_sroa_3_0_r54_sroa_idx_i_i_i_i_i_i_i_i = v_r36_i_i_i_i_i_i + 24;
     v_r16_sroa_3_0_copyload_i_i_i_i_i_i_i_i = get_u64(v_r16_sroa_3_0_r54_sroa_idx_i_i_i_i_i_i_i_i);
-    v_r146_i_i53_i_i_i_i_i_i_i = v_r16_sroa_3_0_copyload_i_i_i_i_i_i_i_i > 1u;
-    if (v_r146_i_i53_i_i_i_i_i_i_i) { goto L_then_3_preheader_i_i66_i_i_i_i_i_i_i; } else { goto L_der_core_integer_uint_strip_exit_i54_i_i_i_i_i_i_i; }
-L_then_3_preheader_i_i66_i_i_i_i_i_i_i:;
+    v_r146_i_i68_i_i_i_i_i_i_i = v_r16_sroa_3_0_copyload_i_i_i_i_i_i_i_i > 1u;
+    if (v_r146_i_i68_i_i_i_i_i_i_i) { goto L_then_3_preheader_i_i81_i_i_i_i_i_i_i; } else { goto L_der_core_integer_uint_strip_exit_i69_i_i_i_i_i_i_i; }
+L_then_3_preheader_i_i81_i_i_i_i_i_i_i:;
     v_21 = (P)((uintptr_t)v_r16_sroa_0_0_copyload_i_i_i_i_i_i_i_i + (u64)(v_r16_sroa_3_0_copyload_i_i_i_i_i_i_i_i));
-    v_scevgep_i_i67_i_i_i_i_i_i_i = (P)((uintptr_t)v_21 + (u64)(-1));
-    { p_v_r3_sroa_0_08_i_i69_i_i_i_i_i_i_i = v_r16_sroa_0_0_copyload_i_i_i_i_i_i_i_i; p_v_r3_sroa_6_07_i_i70_i_i_i_i_i_i_i = v_r16_sroa_3_0_copyload_i_i_i_i_i_i_i_i; goto L_then_3_i_i68_i_i_i_i_i_i_i; }
-L_then_3_i_i68_i_i_i_i_i_i_i:;
-    v_r3_sroa_0_08_i_i69_i_i_i_i_i_i_i = p_v_r3_sroa_0_08_i_i69_i_i_i_i_i_i_i;
-    v_r3_sroa_6_07_i_i70_i_i_i_i_i_i_i = p_v_r3_sroa_6_07_i_i70_i_i_i_i_i_i_i;
-    v_r21_i_i71_i_i_i_i_i_i_i = get_u8(v_r3_sroa_0_08_i_i69_i_i_i_i_i_i_i);
-    v_r23_i_i72_i_i_i_i_i_i_i = v_r21_i_i71_i_i_i_i_i_i_i == 0u;
-    if (v_r23_i_i72_i_i_i_i_i_i_i) { goto L_join_5_i_i80_i_i_i_i_i_i_i; } else { goto L_join_3_i73_i_i_i_i_i_i_i; }
-L_join_5_i_i80_i_i_i_i_i_i_i:;
-    v_r31_i_i81_i_i_i_i_i_i_i = v_r3_sroa_0_08_i_i69_i_i_i_i_i_i_i + 1;
-    v_r34_i_i82_i_i_i_i_i_i_i = (u64)((u64)(v_r3_sroa_6_07_i_i70_i_i_i_i_i_i_i) + (u64)(18446744073709551615ull));
-    v_r14_i_i83_i_i_i_i_i_i_i = v_r34_i_i82_i_i_i_i_i_i_i > 1u;
-    if (v_r14_i_i83_i_i_i_i_i_i_i) { p_v_r3_sroa_0_08_i_i69_i_i_i_i_i_i_i = v_r31_i_i81_i_i_i_i_i_i_i; p_v_r3_sroa_6_07_i_i70_i_i_i_i_i_i_i = v_r34_i_i82_i_i_i_i_i_i_i; goto L_then_3_i_i68_i_i_i_i_i_i_i; } else { p_v_r12_sroa_10_i92_sroa_3_0_ph_ph_i_i_i_i_i_i_i = v_scevgep_i_i67_i_i_i_i_i_i_i; goto L_arm_5_ithread_pre_split_i_i_i_i_i_i_i; }
-L_der_core_integer_uint_strip_exit_i54_i_i_i_i_i_i_i:;
-    v_r7_i_i55_i_i_i_i_i_i_i = v_r16_sroa_3_0_copyload_i_i_i_i_i_i_i_i == 0u;
-    if (v_r7_i_i55_i_i_i_i_i_i_i) { goto L_pkcs1_c_given_primes_prepend_given_exit_thread_i_i; } else { p_v_r12_sroa_10_i92_sroa_3_0_ph_ph_i_i_i_i_i_i_i = v_r16_sroa_0_0_copyload_i_i_i_i_i_i_i_i; goto L_arm_5_ithread_pre_split_i_i_i_i_i_i_i; }
-L_join_3_i73_i_i_i_i_i_i_i:;
-    v_r49_i74_i_i_i_i_i_i_i = v_r3_sroa_6_07_i_i70_i_i_i_i_i_i_i > 4294967295ull;
-    if (v_r49_i74_i_i_i_i_i_i_i) { goto L_pkcs1_c_given_primes_prepend_given_exit_thread_i_i; } else { p_v_r20_i90_i_i_i_i_i_i_i_i = v_r21_i_i71_i_i_i_i_i_i_i; p_v_r12_sroa_10_i92_sroa_3_0_ph_i_i_i_i_i_i_i = v_r3_sroa_0_08_i_i69_i_i_i_i_i_i_i; p_v_r1_sroa_3_0_copyload_i_i9_i_i_i_i_i_i_i_i = v_r3_sroa_6_07_i_i70_i_i_i_i_i_i_i; goto L_arm_5_i_i_i_i_i_i_i_i; }
+    v_scevgep_i_i82_i_i_i_i_i_i_i = (P)((uintptr_t)v_21 + (u64)(-1));
+    { p_v_r3_sroa_0_08_i_i84_i_i_i_i_i_i_i = v_r16_sroa_0_0_copyload_i_i_i_i_i_i_i_i; p_v_r3_sroa_6_07_i_i85_i_i_i_i_i_i_i = v_r16_sroa_3_0_copyload_i_i_i_i_i_i_i_i; goto L_then_3_i_i83_i_i_i_i_i_i_i; }
+L_then_3_i_i83_i_i_i_i_i_i_i:;
+    v_r3_sroa_0_08_i_i84_i_i_i_i_i_i_i = p_v_r3_sroa_0_08_i_i84_i_i_i_i_i_i_i;
+    v_r3_sroa_6_07_i_i85_i_i_i_i_i_i_i = p_v_r3_sroa_6_07_i_i85_i_i_i_i_i_i_i;
+    v_r21_i_i86_i_i_i_i_i_i_i = get_u8(v_r3_sroa_0_08_i_i84_i_i_i_i_i_i_i);
+    v_r23_i_i87_i_i_i_i_i_i_i = v_r21_i_i86_i_i_i_i_i_i_i == 0u;
+    if (v_r23_i_i87_i_i_i_i_i_i_i) { goto L_join_5_i_i95_i_i_i_i_i_i_i; } else { goto L_join_3_i88_i_i_i_i_i_i_i; }
+L_join_5_i_i95_i_i_i_i_i_i_i:;
+    v_r31_i_i96_i_i_i_i_i_i_i = v_r3_sroa_0_08_i_i84_i_i_i_i_i_i_i + 1;
+    v_r34_i_i97_i_i_i_i_i_i_i = (u64)((u64)(v_r3_sroa_6_07_i_i85_i_i_i_i_i_i_i) + (u64)(18446744073709551615ull));
+    v_r14_i_i98_i_i_i_i_i_i_i = v_r34_i_i97_i_i_i_i_i_i_i > 1u;
+    if (v_r14_i_i98_i_i_i_i_i_i_i) { p_v_r3_sroa_0_08_i_i84_i_i_i_i_i_i_i = v_r31_i_i96_i_i_i_i_i_i_i; p_v_r3_sroa_6_07_i_i85_i_i_i_i_i_i_i = v_r34_i_i97_i_i_i_i_i_i_i; goto L_then_3_i_i83_i_i_i_i_i_i_i; } else { p_v_r12_sroa_10_i107_sroa_3_0_ph_ph_i_i_i_i_i_i_i = v_scevgep_i_i82_i_i_i_i_i_i_i; goto L_arm_5_ithread_pre_split_i_i_i_i_i_i_i; }
+L_der_core_integer_uint_strip_exit_i69_i_i_i_i_i_i_i:;
+    v_r7_i_i70_i_i_i_i_i_i_i = v_r16_sroa_3_0_copyload_i_i_i_i_i_i_i_i == 0u;
+    if (v_r7_i_i70_i_i_i_i_i_i_i) { goto L_pkcs1_c_given_primes_prepend_given_exit_thread_i_i; } else { p_v_r12_sroa_10_i107_sroa_3_0_ph_ph_i_i_i_i_i_i_i = v_r16_sroa_0_0_copyload_i_i_i_i_i_i_i_i; goto L_arm_5_ithread_pre_split_i_i_i_i_i_i_i; }
+L_join_3_i88_i_i_i_i_i_i_i:;
+    v_r49_i89_i_i_i_i_i_i_i = v_r3_sroa_6_07_i_i85_i_i_i_i_i_i_i > 4294967295ull;
+    if (v_r49_i89_i_i_i_i_i_i_i) { goto L_pkcs1_c_given_primes_prepend_given_exit_thread_i_i; } else { p_v_r20_i90_i_i_i_i_i_i_i_i = v_r21_i_i86_i_i_i_i_i_i_i; p_v_r12_sroa_10_i107_sroa_3_0_ph_i_i_i_i_i_i_i = v_r3_sroa_0_08_i_i84_i_i_i_i_i_i_i; p_v_r1_sroa_3_0_copyload_i_i9_i_i_i_i_i_i_i_i = v_r3_sroa_6_07_i_i85_i_i_i_i_i_i_i; goto L_arm_5_i_i_i_i_i_i_i_i; }
 L_arm_5_ithread_pre_split_i_i_i_i_i_i_i:;
-    v_r12_sroa_10_i92_sroa_3_0_ph_ph_i_i_i_i_i_i_i = p_v_r12_sroa_10_i92_sroa_3_0_ph_ph_i_i_i_i_i_i_i;
-    v_r20_i90_i_pr_i_i_i_i_i_i_i = get_u8(v_r12_sroa_10_i92_sroa_3_0_ph_ph_i_i_i_i_i_i_i);
-    { p_v_r20_i90_i_i_i_i_i_i_i_i = v_r20_i90_i_pr_i_i_i_i_i_i_i; p_v_r12_sroa_10_i92_sroa_3_0_ph_i_i_i_i_i_i_i = v_r12_sroa_10_i92_sroa_3_0_ph_ph_i_i_i_i_i_i_i; p_v_r1_sroa_3_0_copyload_i_i9_i_i_i_i_i_i_i_i = 1u; goto L_arm_5_i_i_i_i_i_i_i_i; }
+    v_r12_sroa_10_i107_sroa_3_0_ph_ph_i_i_i_i_i_i_i = p_v_r12_sroa_10_i107_sroa_3_0_ph_ph_i_i_i_i_i_i_i;
+    v_r20_i90_i_pr_i_i_i_i_i_i_i = get_u8(v_r12_sroa_10_i107_sroa_3_0_ph_ph_i_i_i_i_i_i_i);
+    { p_v_r20_i90_i_i_i_i_i_i_i_i = v_r20_i90_i_pr_i_i_i_i_i_i_i; p_v_r12_sroa_10_i107_sroa_3_0_ph_i_i_i_i_i_i_i = v_r12_sroa_10_i107_sroa_3_0_ph_ph_i_i_i_i_i_i_i; p_v_r1_sroa_3_0_copyload_i_i9_i_i_i_i_i_i_i_i = 1u; goto L_arm_5_i_i_i_i_i_i_i_i; }
 L_arm_5_i_i_i_i_i_i_i_i:;
     v_r20_i90_i_i_i_i_i_i_i_i = p_v_r20_i90_i_i_i_i_i_i_i_i;
-    v_r12_sroa_10_i92_sroa_3_0_ph_i_i_i_i_i_i_i = p_v_r12_sroa_10_i92_sroa_3_0_ph_i_i_i_i_i_i_i;
+    v_r12_sroa_10_i107_sroa_3_0_ph_i_i_i_i_i_i_i = p_v_r12_sroa_10_i107_sroa_3_0_ph_i_i_i_i_i_i_i;
     v_r1_sroa_3_0_copyload_i_i9_i_i_i_i_i_i_i_i = p_v_r1_sroa_3_0_copyload_i_i9_i_i_i_i_i_i_i_i;
     v_r20_i90_i_lobit_i_i_i_i_i_i_i = (u8)((u32)(v_r20_i90_i_i_i_i_i_i_i_i) >> (u32)((7u & 31)));
     v_i92_i_i_i_i_i_i_i_i = (u64)v_r20_i90_i_lobit_i_i_i_i_i_i_i;
@@ -37152,63 +37158,68 @@ L_arm_5_i_i_i_i_i_i_i_i:;
     v_r22_sroa_0_0_copyload_i_i_i_i_i_i_i_i = get_P(v_r83_i_i_i_i_i_i_i_i);
     v_r22_sroa_3_0_r83_sroa_idx_i_i_i_i_i_i_i_i = v_r36_i_i_i_i_i_i + 40;
     v_r22_sroa_3_0_copyload_i_i_i_i_i_i_i_i = get_u64(v_r22_sroa_3_0_r83_sroa_idx_i_i_i_i_i_i_i_i);
-    v_r146_i_i147_i_i_i_i_i_i_i = v_r22_sroa_3_0_copyload_i_i_i_i_i_i_i_i > 1u;
-    if (v_r146_i_i147_i_i_i_i_i_i_i) { goto L_then_3_preheader_i_i160_i_i_i_i_i_i_i; } else { goto L_der_core_integer_uint_strip_exit_i148_i_i_i_i_i_i_; }
-L_then_3_preheader_i_i160_i_i_i_i_i_i_i:;
+    v_r146_i_i162_i_i_i_i_i_i_i = v_r22_sroa_3_0_copyload_i_i_i_i_i_i_i_i > 1u;
+    if (v_r146_i_i162_i_i_i_i_i_i_i) { goto L_then_3_preheader_i_i175_i_i_i_i_i_i_i; } else { goto L_der_core_integer_uint_strip_exit_i163_i_i_i_i_i_i_; }
+L_then_3_preheader_i_i175_i_i_i_i_i_i_i:;
     v_22 = (P)((uintptr_t)v_r22_sroa_0_0_copyload_i_i_i_i_i_i_i_i + (u64)(v_r22_sroa_3_0_copyload_i_i_i_i_i_i_i_i));
-    v_scevgep_i_i161_i_i_i_i_i_i_i = (P)((uintptr_t)v_22 + (u64)(-1));
-    { p_v_r3_sroa_0_08_i_i163_i_i_i_i_i_i_i = v_r22_sroa_0_0_copyload_i_i_i_i_i_i_i_i; p_v_r3_sroa_6_07_i_i164_i_i_i_i_i_i_i = v_r22_sroa_3_0_copyload_i_i_i_i_i_i_i_i; goto L_then_3_i_i162_i_i_i_i_i_i_i; }
-L_then_3_i_i162_i_i_i_i_i_i_i:;
-    v_r3_sroa_0_08_i_i163_i_i_i_i_i_i_i = p_v_r3_sroa_0_08_i_i163_i_i_i_i_i_i_i;
-    v_r3_sroa_6_07_i_i164_i_i_i_i_i_i_i = p_v_r3_sroa_6_07_i_i164_i_i_i_i_i_i_i;
-    v_r21_i_i165_i_i_i_i_i_i_i = get_u8(v_r3_sroa_0_08_i_i163_i_i_i_i_i_i_i);
-    v_r23_i_i166_i_i_i_i_i_i_i = v_r21_i_i165_i_i_i_i_i_i_i == 0u;
-    if (v_r23_i_i166_i_i_i_i_i_i_i) { goto L_join_5_i_i174_i_i_i_i_i_i_i; } else { goto L_join_3_i167_i_i_i_i_i_i_i; }
-L_join_5_i_i174_i_i_i_i_i_i_i:;
-    v_r31_i_i175_i_i_i_i_i_i_i = v_r3_sroa_0_08_i_i163_i_i_i_i_i_i_i + 1;
-    v_r34_i_i176_i_i_i_i_i_i_i = (u64)((u64)(v_r3_sroa_6_07_i_i164_i_i_i_i_i_i_i) + (u64)(18446744073709551615ull));
-    v_r14_i_i177_i_i_i_i_i_i_i = v_r34_i_i176_i_i_i_i_i_i_i > 1u;
-    if (v_r14_i_i177_i_i_i_i_i_i_i) { p_v_r3_sroa_0_08_i_i163_i_i_i_i_i_i_i = v_r31_i_i175_i_i_i_i_i_i_i; p_v_r3_sroa_6_07_i_i164_i_i_i_i_i_i_i = v_r34_i_i176_i_i_i_i_i_i_i; goto L_then_3_i_i162_i_i_i_i_i_i_i; } else { p_v_r12_sroa_10_i186_sroa_3_0_ph_ph_i_i_i_i_i_i_i = v_scevgep_i_i161_i_i_i_i_i_i_i; goto L_arm_1thread_pre_split_i_i_i_i_i_i_i; }
-L_der_core_integer_uint_strip_exit_i148_i_i_i_i_i_i_:;
-    v_r7_i_i149_i_i_i_i_i_i_i = v_r22_sroa_3_0_copyload_i_i_i_i_i_i_i_i == 0u;
-    if (v_r7_i_i149_i_i_i_i_i_i_i) { goto L_pkcs1_c_given_primes_prepend_given_exit_thread_i_i; } else { p_v_r12_sroa_10_i186_sroa_3_0_ph_ph_i_i_i_i_i_i_i = v_r22_sroa_0_0_copyload_i_i_i_i_i_i_i_i; goto L_arm_1thread_pre_split_i_i_i_i_i_i_i; }
-L_join_3_i167_i_i_i_i_i_i_i:;
-    v_r49_i168_i_i_i_i_i_i_i = v_r3_sroa_6_07_i_i164_i_i_i_i_i_i_i > 4294967295ull;
-    if (v_r49_i168_i_i_i_i_i_i_i) { goto L_pkcs1_c_given_primes_prepend_given_exit_thread_i_i; } else { p_v_r20_i100_i_i_i_i_i_i_i_i = v_r21_i_i165_i_i_i_i_i_i_i; p_v_r12_sroa_10_i186_sroa_3_0_ph_i_i_i_i_i_i_i = v_r3_sroa_0_08_i_i163_i_i_i_i_i_i_i; p_v_r1_sroa_3_0_copyload_i_i_i_i_i_i_i_i_i_i = v_r3_sroa_6_07_i_i164_i_i_i_i_i_i_i; goto L_arm_1_i_i_i_i_i_i_i; }
+    v_scevgep_i_i176_i_i_i_i_i_i_i = (P)((uintptr_t)v_22 + (u64)(-1));
+    { p_v_r3_sroa_0_08_i_i178_i_i_i_i_i_i_i = v_r22_sroa_0_0_copyload_i_i_i_i_i_i_i_i; p_v_r3_sroa_6_07_i_i179_i_i_i_i_i_i_i = v_r22_sroa_3_0_copyload_i_i_i_i_i_i_i_i; goto L_then_3_i_i177_i_i_i_i_i_i_i; }
+L_then_3_i_i177_i_i_i_i_i_i_i:;
+    v_r3_sroa_0_08_i_i178_i_i_i_i_i_i_i = p_v_r3_sroa_0_08_i_i178_i_i_i_i_i_i_i;
+    v_r3_sroa_6_07_i_i179_i_i_i_i_i_i_i = p_v_r3_sroa_6_07_i_i179_i_i_i_i_i_i_i;
+    v_r21_i_i180_i_i_i_i_i_i_i = get_u8(v_r3_sroa_0_08_i_i178_i_i_i_i_i_i_i);
+    v_r23_i_i181_i_i_i_i_i_i_i = v_r21_i_i180_i_i_i_i_i_i_i == 0u;
+    if (v_r23_i_i181_i_i_i_i_i_i_i) { goto L_join_5_i_i189_i_i_i_i_i_i_i; } else { goto L_join_3_i182_i_i_i_i_i_i_i; }
+L_join_5_i_i189_i_i_i_i_i_i_i:;
+    v_r31_i_i190_i_i_i_i_i_i_i = v_r3_sroa_0_08_i_i178_i_i_i_i_i_i_i + 1;
+    v_r34_i_i191_i_i_i_i_i_i_i = (u64)((u64)(v_r3_sroa_6_07_i_i179_i_i_i_i_i_i_i) + (u64)(18446744073709551615ull));
+    v_r14_i_i192_i_i_i_i_i_i_i = v_r34_i_i191_i_i_i_i_i_i_i > 1u;
+    if (v_r14_i_i192_i_i_i_i_i_i_i) { p_v_r3_sroa_0_08_i_i178_i_i_i_i_i_i_i = v_r31_i_i190_i_i_i_i_i_i_i; p_v_r3_sroa_6_07_i_i179_i_i_i_i_i_i_i = v_r34_i_i191_i_i_i_i_i_i_i; goto L_then_3_i_i177_i_i_i_i_i_i_i; } else { p_v_r12_sroa_10_i201_sroa_3_0_ph_ph_i_i_i_i_i_i_i = v_scevgep_i_i176_i_i_i_i_i_i_i; goto L_arm_1thread_pre_split_i_i_i_i_i_i_i; }
+L_der_core_integer_uint_strip_exit_i163_i_i_i_i_i_i_:;
+    v_r7_i_i164_i_i_i_i_i_i_i = v_r22_sroa_3_0_copyload_i_i_i_i_i_i_i_i == 0u;
+    if (v_r7_i_i164_i_i_i_i_i_i_i) { goto L_pkcs1_c_given_primes_prepend_given_exit_thread_i_i; } else { p_v_r12_sroa_10_i201_sroa_3_0_ph_ph_i_i_i_i_i_i_i = v_r22_sroa_0_0_copyload_i_i_i_i_i_i_i_i; goto L_arm_1thread_pre_split_i_i_i_i_i_i_i; }
+L_join_3_i182_i_i_i_i_i_i_i:;
+    v_r49_i183_i_i_i_i_i_i_i = v_r3_sroa_6_07_i_i179_i_i_i_i_i_i_i > 4294967295ull;
+    if (v_r49_i183_i_i_i_i_i_i_i) { goto L_pkcs1_c_given_primes_prepend_given_exit_thread_i_i; } else { p_v_r20_i100_i_i_i_i_i_i_i_i = v_r21_i_i180_i_i_i_i_i_i_i; p_v_r12_sroa_10_i201_sroa_3_0_ph_i_i_i_i_i_i_i = v_r3_sroa_0_08_i_i178_i_i_i_i_i_i_i; p_v_r1_sroa_3_0_copyload_i_i_i_i_i_i_i_i_i_i = v_r3_sroa_6_07_i_i179_i_i_i_i_i_i_i; goto L_arm_1_i_i_i_i_i_i_i; }
 L_arm_1thread_pre_split_i_i_i_i_i_i_i:;
-    v_r12_sroa_10_i186_sroa_3_0_ph_ph_i_i_i_i_i_i_i = p_v_r12_sroa_10_i186_sroa_3_0_ph_ph_i_i_i_i_i_i_i;
-    v_r20_i100_i_pr_i_i_i_i_i_i_i = get_u8(v_r12_sroa_10_i186_sroa_3_0_ph_ph_i_i_i_i_i_i_i);
-    { p_v_r20_i100_i_i_i_i_i_i_i_i = v_r20_i100_i_pr_i_i_i_i_i_i_i; p_v_r12_sroa_10_i186_sroa_3_0_ph_i_i_i_i_i_i_i = v_r12_sroa_10_i186_sroa_3_0_ph_ph_i_i_i_i_i_i_i; p_v_r1_sroa_3_0_copyload_i_i_i_i_i_i_i_i_i_i = 1u; goto L_arm_1_i_i_i_i_i_i_i; }
+    v_r12_sroa_10_i201_sroa_3_0_ph_ph_i_i_i_i_i_i_i = p_v_r12_sroa_10_i201_sroa_3_0_ph_ph_i_i_i_i_i_i_i;
+    v_r20_i100_i_pr_i_i_i_i_i_i_i = get_u8(v_r12_sroa_10_i201_sroa_3_0_ph_ph_i_i_i_i_i_i_i);
+    { p_v_r20_i100_i_i_i_i_i_i_i_i = v_r20_i100_i_pr_i_i_i_i_i_i_i; p_v_r12_sroa_10_i201_sroa_3_0_ph_i_i_i_i_i_i_i = v_r12_sroa_10_i201_sroa_3_0_ph_ph_i_i_i_i_i_i_i; p_v_r1_sroa_3_0_copyload_i_i_i_i_i_i_i_i_i_i = 1u; goto L_arm_1_i_i_i_i_i_i_i; }
 L_arm_1_i_i_i_i_i_i_i:;
     v_r20_i100_i_i_i_i_i_i_i_i = p_v_r20_i100_i_i_i_i_i_i_i_i;
-    v_r12_sroa_10_i186_sroa_3_0_ph_i_i_i_i_i_i_i = p_v_r12_sroa_10_i186_sroa_3_0_ph_i_i_i_i_i_i_i;
+    v_r12_sroa_10_i201_sroa_3_0_ph_i_i_i_i_i_i_i = p_v_r12_sroa_10_i201_sroa_3_0_ph_i_i_i_i_i_i_i;
     v_r1_sroa_3_0_copyload_i_i_i_i_i_i_i_i_i_i = p_v_r1_sroa_3_0_copyload_i_i_i_i_i_i_i_i_i_i;
     v_r20_i100_i_lobit_i_i_i_i_i_i_i = (u8)((u32)(v_r20_i100_i_i_i_i_i_i_i_i) >> (u32)((7u & 31)));
     v_i102_i_i_i_i_i_i_i_i = (u64)v_r20_i100_i_lobit_i_i_i_i_i_i_i;
     put_P(v_r1_i_i_i_i_i_i_i, v_r12_sroa_10_i_sroa_3_0_ph_i_i_i_i_i_i_i);
-    put_u64(v_r3_sroa_22_sroa_6_3_r1_sroa_idx_i_i_i_i_i_i_i, v_r12_sroa_10_i_sroa_5_0_ph_i_i_i_i_i_i_i);
-    put_u64(v_r3_sroa_22_sroa_10_3_r1_sroa_idx_i_i_i_i_i_i_i, v_i_i_i_i_i_i_i_i_i);
-    put_P(v_r3_sroa_22_sroa_14_3_r1_sroa_idx_i_i_i_i_i_i_i, v_r12_sroa_10_i92_sroa_3_0_ph_i_i_i_i_i_i_i);
-    put_u64(v_r3_sroa_22_sroa_14_sroa_6_0_r3_sroa_22_sroa_14_3_r, v_r1_sroa_3_0_copyload_i_i9_i_i_i_i_i_i_i_i);
-    put_u64(v_r3_sroa_22_sroa_14_sroa_10_0_r3_sroa_22_sroa_14_3_, v_i92_i_i_i_i_i_i_i_i);
-    put_P(v_r3_sroa_22_sroa_18_3_r1_sroa_idx_i_i_i_i_i_i_i, v_r12_sroa_10_i186_sroa_3_0_ph_i_i_i_i_i_i_i);
-    put_u64(v_r3_sroa_22_sroa_18_sroa_6_0_r3_sroa_22_sroa_18_3_r, v_r1_sroa_3_0_copyload_i_i_i_i_i_i_i_i_i_i);
-    put_u64(v_r3_sroa_22_sroa_18_sroa_10_0_r3_sroa_22_sroa_18_3_, v_i102_i_i_i_i_i_i_i_i);
-    f_der_core_encode_AnyEncode_encoded_len_7ae2cf0824c3(v_r4_i_i_i_i_i_i_i, v_r1_i_i_i_i_i_i_i);
-    v_r20_i_i_i_i_i_i_i = get_u8(v_r4_i_i_i_i_i_i_i);
-    v_23 = v_r20_i_i_i_i_i_i_i == 0u;
-    if (v_23) { goto L_arm_7_i_i_i_i_i_i_i; } else { goto L_pkcs1_c_given_primes_prepend_given_exit_thread_i_i; }
-L_arm_7_i_i_i_i_i_i_i:;
-    v_r2_sroa_0_0_copyload_i_i_i_i_i_i_i = get_u32(v_r21_i_i_i_i_i_i_i);
-    v_r3_i256_i_i_i_i_i_i_i = (u64)v_r2_sroa_0_0_copyload_i_i_i_i_i_i_i;
-    v_r27_i_i_i_i_i_i_i = (u64)((u64)(v_r22_neg_i_i_i_i_i_i) + (u64)(v_r7_sroa_130_9_i_i_i));
-    v_r30_not_i_i_i_i_i_i_i = v_r27_i_i_i_i_i_i_i < v_r3_i256_i_i_i_i_i_i_i;
-    if (v_r30_not_i_i_i_i_i_i_i) { goto L_pkcs1_c_given_primes_prepend_given_exit_thread_i_i; } else { goto L_then_10_i_i_i_i_i_i_i; }
-L_then_10_i_i_i_i_i_i_i:;
+    put_u64(v_r4_sroa_22_sroa_6_3_r1_sroa_idx_i_i_i_i_i_i_i, v_r12_sroa_10_i_sroa_5_0_ph_i_i_i_i_i_i_i);
+    put_u64(v_r4_sroa_22_sroa_10_3_r1_sroa_idx_i_i_i_i_i_i_i, v_i_i_i_i_i_i_i_i_i);
+    put_P(v_r4_sroa_22_sroa_14_3_r1_sroa_idx_i_i_i_i_i_i_i, v_r12_sroa_10_i107_sroa_3_0_ph_i_i_i_i_i_i_i);
+    put_u64(v_r4_sroa_22_sroa_14_sroa_6_0_r4_sroa_22_sroa_14_3_r, v_r1_sroa_3_0_copyload_i_i9_i_i_i_i_i_i_i_i);
+    put_u64(v_r4_sroa_22_sroa_14_sroa_10_0_r4_sroa_22_sroa_14_3_, v_i92_i_i_i_i_i_i_i_i);
+    put_P(v_r4_sroa_22_sroa_18_3_r1_sroa_idx_i_i_i_i_i_i_i, v_r12_sroa_10_i201_sroa_3_0_ph_i_i_i_i_i_i_i);
+    put_u64(v_r4_sroa_22_sroa_18_sroa_6_0_r4_sroa_22_sroa_18_3_r, v_r1_sroa_3_0_copyload_i_i_i_i_i_i_i_i_i_i);
+    put_u64(v_r4_sroa_22_sroa_18_sroa_10_0_r4_sroa_22_sroa_18_3_, v_i102_i_i_i_i_i_i_i_i);
+    v_r24_i_i_i_i_i_i_i = (u64)((u64)(v_r7_sroa_130_9_i_i_i) + (u64)(v_r22_neg_i_i_i_i_i_i));
+    v_r5_i13_i_i_i_i_i_i_i = (u64)((u64)(v_r12_sroa_10_i_sroa_5_0_ph_i_i_i_i_i_i_i) + (u64)(27u));
+    v_r5_i10_i_i_i_i_i_i_i = (u64)((u64)(v_r5_i13_i_i_i_i_i_i_i) + (u64)(v_r1_sroa_3_0_copyload_i_i9_i_i_i_i_i_i_i_i));
+    v_r24_i8_i_i_i_i_i_i_i = (u64)((u64)(v_r5_i10_i_i_i_i_i_i_i) + (u64)(v_r1_sroa_3_0_copyload_i_i_i_i_i_i_i_i_i_i));
+    v_r26_i_not_i_i_i_i_i_i_i = v_r24_i8_i_i_i_i_i_i_i > v_r24_i_i_i_i_i_i_i;
+    if (v_r26_i_not_i_i_i_i_i_i_i) { goto L_then_5_i_i_i_i_i_i_i; } else { goto L_join_7_i_i_i_i_i_i_i; }
+L_then_5_i_i_i_i_i_i_i:;
+    f_der_core_encode_AnyEncode_encoded_len_7ae2cf0824c3(v_r10_i_i_i_i_i_i_i, v_r1_i_i_i_i_i_i_i);
+    v_r36_i_i_i_i_i_i_i = get_u8(v_r10_i_i_i_i_i_i_i);
+    v_23 = v_r36_i_i_i_i_i_i_i != 0u;
+    v_r3_sroa_0_0_copyload_i_i_i_i_i_i_i = get_u32(v_r37_i_i_i_i_i_i_i);
+    v_r3_i271_i_i_i_i_i_i_i = (u64)v_r3_sroa_0_0_copyload_i_i_i_i_i_i_i;
+    v_r42_not_i_i_i_i_i_i_i = v_r24_i_i_i_i_i_i_i < v_r3_i271_i_i_i_i_i_i_i;
+    v_or_cond_i_i_i_i_i_i_i = v_23 ? 1u : v_r42_not_i_i_i_i_i_i_i;
+    if (v_or_cond_i_i_i_i_i_i_i) { goto L_pkcs1_c_given_primes_prepend_given_exit_thread_i_i; } else { goto L_join_7_i_i_i_i_i_i_i; }
+L_join_7_i_i_i_i_i_i_i:;
     v_r17_i_i_i_i_i_i_i_i_i_i_i = (u64)((u64)(v_r7_sroa_130_9_i_i_i) - (u64)(v_r1_sroa_3_0_copyload_i_i_i_i_i_i_i_i_i_i));
     v_r26_i_i_i_i_i_i_i_i_i_i_i = (P)((uintptr_t)v_r13 + (u64)(v_r17_i_i_i_i_i_i_i_i_i_i_i));
     v_r8_i_i_i_i_i_i_i_i_i_i_i_i_i_i_i_i_i = (u64)((uintptr_t)v_r26_i_i_i_i_i_i_i_i_i_i_i);
-    v_r9_i_i_i_i_i_i_i_i_i_i_i_i_i_i_i_i_i = (u64)((uintptr_t)v_r12_sroa_10_i186_sroa_3_0_ph_i_i_i_i_i_i_i);
+    v_r9_i_i_i_i_i_i_i_i_i_i_i_i_i_i_i_i_i = (u64)((uintptr_t)v_r12_sroa_10_i201_sroa_3_0_ph_i_i_i_i_i_i_i);
     v_r10_i_i_i_i_i_i_i_i_i_i_i_i_i_i_i_i_i = (u64)((u64)(v_r8_i_i_i_i_i_i_i_i_i_i_i_i_i_i_i_i_i) - (u64)(v_r9_i_i_i_i_i_i_i_i_i_i_i_i_i_i_i_i_i));
     v_r11_i_i_i_i_i_i_i_i_i_i_i_i_i_i_i_i_i = v_r10_i_i_i_i_i_i_i_i_i_i_i_i_i_i_i_i_i < v_r1_sroa_3_0_copyload_i_i_i_i_i_i_i_i_i_i;
     if (v_r11_i_i_i_i_i_i_i_i_i_i_i_i_i_i_i_i_i) { goto L_join_7_i_i_i_i_i_i_i_i_i_i_i_i_i_i_i_i_i_preheader; } else { goto L_apart_2_i_i_i_i_i_i_i_i_i_i_i_i_i_i_i_i_i; }
@@ -37220,28 +37231,28 @@ L_join_7_i_i_i_i_i_i_i_i_i_i_i_i_i_i_i_i_i_preheader__2:;
     v_unroll_iter = (u64)((u64)(v_r1_sroa_3_0_copyload_i_i_i_i_i_i_i_i_i_i) & (u64)(4294967292ull));
     { p_v_r0_04_i_i_i_i_i_i_i_i_i_i_i_i_i_i_i_i_i = 0u; p_v_niter = 0u; goto L_join_7_i_i_i_i_i_i_i_i_i_i_i_i_i_i_i_i_i; }
 L_apart_2_i_i_i_i_i_i_i_i_i_i_i_i_i_i_i_i_i:;
-    move(v_r26_i_i_i_i_i_i_i_i_i_i_i, v_r12_sroa_10_i186_sroa_3_0_ph_i_i_i_i_i_i_i, v_r1_sroa_3_0_copyload_i_i_i_i_i_i_i_i_i_i);
+    move(v_r26_i_i_i_i_i_i_i_i_i_i_i, v_r12_sroa_10_i201_sroa_3_0_ph_i_i_i_i_i_i_i, v_r1_sroa_3_0_copyload_i_i_i_i_i_i_i_i_i_i);
     { goto L_der_core_back_writer_BackWriter_prepend_exit_i_i_i; }
 L_join_7_i_i_i_i_i_i_i_i_i_i_i_i_i_i_i_i_i:;
     v_r0_04_i_i_i_i_i_i_i_i_i_i_i_i_i_i_i_i_i = p_v_r0_04_i_i_i_i_i_i_i_i_i_i_i_i_i_i_i_i_i;
     v_niter = p_v_niter;
     v_r20_i_i_i_i_i_i_i_i_i_i_i_i_i_i_i_i_i = v_r26_i_i_i_i_i_i_i_i_i_i_i + (int64_t)(v_r0_04_i_i_i_i_i_i_i_i_i_i_i_i_i_i_i_i_i);
-    v_r24_i_i_i_i_i_i_i_i_i_i_i_i_i_i_i_i_i = v_r12_sroa_10_i186_sroa_3_0_ph_i_i_i_i_i_i_i + (int64_t)(v_r0_04_i_i_i_i_i_i_i_i_i_i_i_i_i_i_i_i_i);
+    v_r24_i_i_i_i_i_i_i_i_i_i_i_i_i_i_i_i_i = v_r12_sroa_10_i201_sroa_3_0_ph_i_i_i_i_i_i_i + (int64_t)(v_r0_04_i_i_i_i_i_i_i_i_i_i_i_i_i_i_i_i_i);
     v_r26_i_i_i_i_i_i_i_i_i_i_i_i_i_i_i_i_i = get_u8(v_r24_i_i_i_i_i_i_i_i_i_i_i_i_i_i_i_i_i);
     put_u8(v_r20_i_i_i_i_i_i_i_i_i_i_i_i_i_i_i_i_i, v_r26_i_i_i_i_i_i_i_i_i_i_i_i_i_i_i_i_i);
     v_r30_i_i_i_i_i_i_i_i_i_i_i_i_i_i_i_i_i = (u64)((u64)(v_r0_04_i_i_i_i_i_i_i_i_i_i_i_i_i_i_i_i_i) | (u64)(1u));
     v_r20_i_i_i_i_i_i_i_i_i_i_i_i_i_i_i_i_i_1 = v_r26_i_i_i_i_i_i_i_i_i_i_i + (int64_t)(v_r30_i_i_i_i_i_i_i_i_i_i_i_i_i_i_i_i_i);
-    v_r24_i_i_i_i_i_i_i_i_i_i_i_i_i_i_i_i_i_1 = v_r12_sroa_10_i186_sroa_3_0_ph_i_i_i_i_i_i_i + (int64_t)(v_r30_i_i_i_i_i_i_i_i_i_i_i_i_i_i_i_i_i);
+    v_r24_i_i_i_i_i_i_i_i_i_i_i_i_i_i_i_i_i_1 = v_r12_sroa_10_i201_sroa_3_0_ph_i_i_i_i_i_i_i + (int64_t)(v_r30_i_i_i_i_i_i_i_i_i_i_i_i_i_i_i_i_i);
     v_r26_i_i_i_i_i_i_i_i_i_i_i_i_i_i_i_i_i_1 = get_u8(v_r24_i_i_i_i_i_i_i_i_i_i_i_i_i_i_i_i_i_1);
     put_u8(v_r20_i_i_i_i_i_i_i_i_i_i_i_i_i_i_i_i_i_1, v_r26_i_i_i_i_i_i_i_i_i_i_i_i_i_i_i_i_i_1);
     v_r30_i_i_i_i_i_i_i_i_i_i_i_i_i_i_i_i_i_1 = (u64)((u64)(v_r0_04_i_i_i_i_i_i_i_i_i_i_i_i_i_i_i_i_i) | (u64)(2u));
     v_r20_i_i_i_i_i_i_i_i_i_i_i_i_i_i_i_i_i_2 = v_r26_i_i_i_i_i_i_i_i_i_i_i + (int64_t)(v_r30_i_i_i_i_i_i_i_i_i_i_i_i_i_i_i_i_i_1);
-    v_r24_i_i_i_i_i_i_i_i_i_i_i_i_i_i_i_i_i_2 = v_r12_sroa_10_i186_sroa_3_0_ph_i_i_i_i_i_i_i + (int64_t)(v_r30_i_i_i_i_i_i_i_i_i_i_i_i_i_i_i_i_i_1);
+    v_r24_i_i_i_i_i_i_i_i_i_i_i_i_i_i_i_i_i_2 = v_r12_sroa_10_i201_sroa_3_0_ph_i_i_i_i_i_i_i + (int64_t)(v_r30_i_i_i_i_i_i_i_i_i_i_i_i_i_i_i_i_i_1);
     v_r26_i_i_i_i_i_i_i_i_i_i_i_i_i_i_i_i_i_2 = get_u8(v_r24_i_i_i_i_i_i_i_i_i_i_i_i_i_i_i_i_i_2);
     put_u8(v_r20_i_i_i_i_i_i_i_i_i_i_i_i_i_i_i_i_i_2, v_r26_i_i_i_i_i_i_i_i_i_i_i_i_i_i_i_i_i_2);
     v_r30_i_i_i_i_i_i_i_i_i_i_i_i_i_i_i_i_i_2 = (u64)((u64)(v_r0_04_i_i_i_i_i_i_i_i_i_i_i_i_i_i_i_i_i) | (u64)(3u));
     v_r20_i_i_i_i_i_i_i_i_i_i_i_i_i_i_i_i_i_3 = v_r26_i_i_i_i_i_i_i_i_i_i_i + (int64_t)(v_r30_i_i_i_i_i_i_i_i_i_i_i_i_i_i_i_i_i_2);
-    v_r24_i_i_i_i_i_i_i_i_i_i_i_i_i_i_i_i_i_3 = v_r12_sroa_10_i186_sroa_3_0_ph_i_i_i_i_i_i_i + (int64_t)(v_r30_i_i_i_i_i_i_i_i_i_i_i_i_i_i_i_i_i_2);
+    v_r24_i_i_i_i_i_i_i_i_i_i_i_i_i_i_i_i_i_3 = v_r12_sroa_10_i201_sroa_3_0_ph_i_i_i_i_i_i_i + (int64_t)(v_r30_i_i_i_i_i_i_i_i_i_i_i_i_i_i_i_i_i_2);
     v_r26_i_i_i_i_i_i_i_i_i_i_i_i_i_i_i_i_i_3 = get_u8(v_r24_i_i_i_i_i_i_i_i_i_i_i_i_i_i_i_i_i_3);
     put_u8(v_r20_i_i_i_i_i_i_i_i_i_i_i_i_i_i_i_i_i_3, v_r26_i_i_i_i_i_i_i_i_i_i_i_i_i_i_i_i_i_3);
     v_r30_i_i_i_i_i_i_i_i_i_i_i_i_i_i_i_i_i_3 = (u64)((u64)(v_r0_04_i_i_i_i_i_i_i_i_i_i_i_i_i_i_i_i_i) + (u64)(4u));
@@ -37258,7 +37269,7 @@ L_join_7_i_i_i_i_i_i_i_i_i_i_i_i_i_i_i_i_i_epil:;
     v_r0_04_i_i_i_i_i_i_i_i_i_i_i_i_i_i_i_i_i_epil = p_v_r0_04_i_i_i_i_i_i_i_i_i_i_i_i_i_i_i_i_i_epil;
     v_epil_iter = p_v_epil_iter;
     v_r20_i_i_i_i_i_i_i_i_i_i_i_i_i_i_i_i_i_epil = v_r26_i_i_i_i_i_i_i_i_i_i_i + (int64_t)(v_r0_04_i_i_i_i_i_i_i_i_i_i_i_i_i_i_i_i_i_epil);
-    v_r24_i_i_i_i_i_i_i_i_i_i_i_i_i_i_i_i_i_epil = v_r12_sroa_10_i186_sroa_3_0_ph_i_i_i_i_i_i_i + (int64_t)(v_r0_04_i_i_i_i_i_i_i_i_i_i_i_i_i_i_i_i_i_epil);
+    v_r24_i_i_i_i_i_i_i_i_i_i_i_i_i_i_i_i_i_epil = v_r12_sroa_10_i201_sroa_3_0_ph_i_i_i_i_i_i_i + (int64_t)(v_r0_04_i_i_i_i_i_i_i_i_i_i_i_i_i_i_i_i_i_epil);
     v_r26_i_i_i_i_i_i_i_i_i_i_i_i_i_i_i_i_i_epil = get_u8(v_r24_i_i_i_i_i_i_i_i_i_i_i_i_i_i_i_i_i_epil);
     put_u8(v_r20_i_i_i_i_i_i_i_i_i_i_i_i_i_i_i_i_i_epil, v_r26_i_i_i_i_i_i_i_i_i_i_i_i_i_i_i_i_i_epil);
     v_r30_i_i_i_i_i_i_i_i_i_i_i_i_i_i_i_i_i_epil = (u64)((u64)(v_r0_04_i_i_i_i_i_i_i_i_i_i_i_i_i_i_i_i_i_epil) + (u64)(1u));
@@ -37360,7 +37371,7 @@ L_der_core_back_writer_BackWriter_prepend_header_exi:;
     v_r17_i_i_i10_i_i_i_i_i_i_i_i = (u64)((u64)(v_r7_sroa_130_27_i_i_i) - (u64)(v_r1_sroa_3_0_copyload_i_i9_i_i_i_i_i_i_i_i));
     v_r26_i_i_i12_i_i_i_i_i_i_i_i = (P)((uintptr_t)v_r13 + (u64)(v_r17_i_i_i10_i_i_i_i_i_i_i_i));
     v_r8_i_i_i_i_i_i_i_i_i13_i_i_i_i_i_i_i_i = (u64)((uintptr_t)v_r26_i_i_i12_i_i_i_i_i_i_i_i);
-    v_r9_i_i_i_i_i_i_i_i_i14_i_i_i_i_i_i_i_i = (u64)((uintptr_t)v_r12_sroa_10_i92_sroa_3_0_ph_i_i_i_i_i_i_i);
+    v_r9_i_i_i_i_i_i_i_i_i14_i_i_i_i_i_i_i_i = (u64)((uintptr_t)v_r12_sroa_10_i107_sroa_3_0_ph_i_i_i_i_i_i_i);
     v_r10_i_i_i_i_i_i_i_i_i15_i_i_i_i_i_i_i_i = (u64)((u64)(v_r8_i_i_i_i_i_i_i_i_i13_i_i_i_i_i_i_i_i) - (u64)(v_r9_i_i_i_i_i_i_i_i_i14_i_i_i_i_i_i_i_i));
     v_r11_i_i_i_i_i_i_i_i_i16_i_i_i_i_i_i_i_i = v_r10_i_i_i_i_i_i_i_i_i15_i_i_i_i_i_i_i_i < v_r1_sroa_3_0_copyload_i_i9_i_i_i_i_i_i_i_i;
     if (v_r11_i_i_i_i_i_i_i_i_i16_i_i_i_i_i_i_i_i) { goto L_join_7_i_i_i_i_i_i_i_i_i30_i_i_i_i_i_i_i_i_prehead; } else { goto L_apart_2_i_i_i_i_i_i_i_i_i17_i_i_i_i_i_i_i_i; }
@@ -37372,28 +37383,28 @@ L_join_7_i_i_i_i_i_i_i_i_i30_i_i_i_i_i_i_i_i_prehead__2:;
     v_unroll_iter211 = (u64)((u64)(v_r1_sroa_3_0_copyload_i_i9_i_i_i_i_i_i_i_i) & (u64)(4294967292ull));
     { p_v_r0_04_i_i_i_i_i_i_i_i_i31_i_i_i_i_i_i_i_i = 0u; p_v_niter212 = 0u; goto L_join_7_i_i_i_i_i_i_i_i_i30_i_i_i_i_i_i_i_i; }
 L_apart_2_i_i_i_i_i_i_i_i_i17_i_i_i_i_i_i_i_i:;
-    move(v_r26_i_i_i12_i_i_i_i_i_i_i_i, v_r12_sroa_10_i92_sroa_3_0_ph_i_i_i_i_i_i_i, v_r1_sroa_3_0_copyload_i_i9_i_i_i_i_i_i_i_i);
+    move(v_r26_i_i_i12_i_i_i_i_i_i_i_i, v_r12_sroa_10_i107_sroa_3_0_ph_i_i_i_i_i_i_i, v_r1_sroa_3_0_copyload_i_i9_i_i_i_i_i_i_i_i);
     { goto L_der_core_back_writer_BackWriter_prepend_exit_i_i18; }
 L_join_7_i_i_i_i_i_i_i_i_i30_i_i_i_i_i_i_i_i:;
     v_r0_04_i_i_i_i_i_i_i_i_i31_i_i_i_i_i_i_i_i = p_v_r0_04_i_i_i_i_i_i_i_i_i31_i_i_i_i_i_i_i_i;
     v_niter212 = p_v_niter212;
     v_r20_i_i_i_i_i_i_i_i_i32_i_i_i_i_i_i_i_i = v_r26_i_i_i12_i_i_i_i_i_i_i_i + (int64_t)(v_r0_04_i_i_i_i_i_i_i_i_i31_i_i_i_i_i_i_i_i);
-    v_r24_i_i_i_i_i_i_i_i_i33_i_i_i_i_i_i_i_i = v_r12_sroa_10_i92_sroa_3_0_ph_i_i_i_i_i_i_i + (int64_t)(v_r0_04_i_i_i_i_i_i_i_i_i31_i_i_i_i_i_i_i_i);
+    v_r24_i_i_i_i_i_i_i_i_i33_i_i_i_i_i_i_i_i = v_r12_sroa_10_i107_sroa_3_0_ph_i_i_i_i_i_i_i + (int64_t)(v_r0_04_i_i_i_i_i_i_i_i_i31_i_i_i_i_i_i_i_i);
     v_r26_i_i_i_i_i_i_i_i_i34_i_i_i_i_i_i_i_i = get_u8(v_r24_i_i_i_i_i_i_i_i_i33_i_i_i_i_i_i_i_i);
     put_u8(v_r20_i_i_i_i_i_i_i_i_i32_i_i_i_i_i_i_i_i, v_r26_i_i_i_i_i_i_i_i_i34_i_i_i_i_i_i_i_i);
     v_r30_i_i_i_i_i_i_i_i_i35_i_i_i_i_i_i_i_i = (u64)((u64)(v_r0_04_i_i_i_i_i_i_i_i_i31_i_i_i_i_i_i_i_i) | (u64)(1u));
     v_r20_i_i_i_i_i_i_i_i_i32_i_i_i_i_i_i_i_i_1 = v_r26_i_i_i12_i_i_i_i_i_i_i_i + (int64_t)(v_r30_i_i_i_i_i_i_i_i_i35_i_i_i_i_i_i_i_i);
-    v_r24_i_i_i_i_i_i_i_i_i33_i_i_i_i_i_i_i_i_1 = v_r12_sroa_10_i92_sroa_3_0_ph_i_i_i_i_i_i_i + (int64_t)(v_r30_i_i_i_i_i_i_i_i_i35_i_i_i_i_i_i_i_i);
+    v_r24_i_i_i_i_i_i_i_i_i33_i_i_i_i_i_i_i_i_1 = v_r12_sroa_10_i107_sroa_3_0_ph_i_i_i_i_i_i_i + (int64_t)(v_r30_i_i_i_i_i_i_i_i_i35_i_i_i_i_i_i_i_i);
     v_r26_i_i_i_i_i_i_i_i_i34_i_i_i_i_i_i_i_i_1 = get_u8(v_r24_i_i_i_i_i_i_i_i_i33_i_i_i_i_i_i_i_i_1);
     put_u8(v_r20_i_i_i_i_i_i_i_i_i32_i_i_i_i_i_i_i_i_1, v_r26_i_i_i_i_i_i_i_i_i34_i_i_i_i_i_i_i_i_1);
     v_r30_i_i_i_i_i_i_i_i_i35_i_i_i_i_i_i_i_i_1 = (u64)((u64)(v_r0_04_i_i_i_i_i_i_i_i_i31_i_i_i_i_i_i_i_i) | (u64)(2u));
     v_r20_i_i_i_i_i_i_i_i_i32_i_i_i_i_i_i_i_i_2 = v_r26_i_i_i12_i_i_i_i_i_i_i_i + (int64_t)(v_r30_i_i_i_i_i_i_i_i_i35_i_i_i_i_i_i_i_i_1);
-    v_r24_i_i_i_i_i_i_i_i_i33_i_i_i_i_i_i_i_i_2 = v_r12_sroa_10_i92_sroa_3_0_ph_i_i_i_i_i_i_i + (int64_t)(v_r30_i_i_i_i_i_i_i_i_i35_i_i_i_i_i_i_i_i_1);
+    v_r24_i_i_i_i_i_i_i_i_i33_i_i_i_i_i_i_i_i_2 = v_r12_sroa_10_i107_sroa_3_0_ph_i_i_i_i_i_i_i + (int64_t)(v_r30_i_i_i_i_i_i_i_i_i35_i_i_i_i_i_i_i_i_1);
     v_r26_i_i_i_i_i_i_i_i_i34_i_i_i_i_i_i_i_i_2 = get_u8(v_r24_i_i_i_i_i_i_i_i_i33_i_i_i_i_i_i_i_i_2);
     put_u8(v_r20_i_i_i_i_i_i_i_i_i32_i_i_i_i_i_i_i_i_2, v_r26_i_i_i_i_i_i_i_i_i34_i_i_i_i_i_i_i_i_2);
     v_r30_i_i_i_i_i_i_i_i_i35_i_i_i_i_i_i_i_i_2 = (u64)((u64)(v_r0_04_i_i_i_i_i_i_i_i_i31_i_i_i_i_i_i_i_i) | (u64)(3u));
     v_r20_i_i_i_i_i_i_i_i_i32_i_i_i_i_i_i_i_i_3 = v_r26_i_i_i12_i_i_i_i_i_i_i_i + (int64_t)(v_r30_i_i_i_i_i_i_i_i_i35_i_i_i_i_i_i_i_i_2);
-    v_r24_i_i_i_i_i_i_i_i_i33_i_i_i_i_i_i_i_i_3 = v_r12_sroa_10_i92_sroa_3_0_ph_i_i_i_i_i_i_i + (int64_t)(v_r30_i_i_i_i_i_i_i_i_i35_i_i_i_i_i_i_i_i_2);
+    v_r24_i_i_i_i_i_i_i_i_i33_i_i_i_i_i_i_i_i_3 = v_r12_sroa_10_i107_sroa_3_0_ph_i_i_i_i_i_i_i + (int64_t)(v_r30_i_i_i_i_i_i_i_i_i35_i_i_i_i_i_i_i_i_2);
     v_r26_i_i_i_i_i_i_i_i_i34_i_i_i_i_i_i_i_i_3 = get_u8(v_r24_i_i_i_i_i_i_i_i_i33_i_i_i_i_i_i_i_i_3);
     put_u8(v_r20_i_i_i_i_i_i_i_i_i32_i_i_i_i_i_i_i_i_3, v_r26_i_i_i_i_i_i_i_i_i34_i_i_i_i_i_i_i_i_3);
     v_r30_i_i_i_i_i_i_i_i_i35_i_i_i_i_i_i_i_i_3 = (u64)((u64)(v_r0_04_i_i_i_i_i_i_i_i_i31_i_i_i_i_i_i_i_i) + (u64)(4u));
@@ -37410,7 +37421,7 @@ L_join_7_i_i_i_i_i_i_i_i_i30_i_i_i_i_i_i_i_i_epil:;
     v_r0_04_i_i_i_i_i_i_i_i_i31_i_i_i_i_i_i_i_i_epil = p_v_r0_04_i_i_i_i_i_i_i_i_i31_i_i_i_i_i_i_i_i_epil;
     v_epil_iter208 = p_v_epil_iter208;
     v_r20_i_i_i_i_i_i_i_i_i32_i_i_i_i_i_i_i_i_epil = v_r26_i_i_i12_i_i_i_i_i_i_i_i + (int64_t)(v_r0_04_i_i_i_i_i_i_i_i_i31_i_i_i_i_i_i_i_i_epil);
-    v_r24_i_i_i_i_i_i_i_i_i33_i_i_i_i_i_i_i_i_epil = v_r12_sroa_10_i92_sroa_3_0_ph_i_i_i_i_i_i_i + (int64_t)(v_r0_04_i_i_i_i_i_i_i_i_i31_i_i_i_i_i_i_i_i_epil);
+    v_r24_i_i_i_i_i_i_i_i_i33_i_i_i_i_i_i_i_i_epil = v_r12_sroa_10_i107_sroa_3_0_ph_i_i_i_i_i_i_i + (int64_t)(v_r0_04_i_i_i_i_i_i_i_i_i31_i_i_i_i_i_i_i_i_epil);
     v_r26_i_i_i_i_i_i_i_i_i34_i_i_i_i_i_i_i_i_epil = get_u8(v_r24_i_i_i_i_i_i_i_i_i33_i_i_i_i_i_i_i_i_epil);
     put_u8(v_r20_i_i_i_i_i_i_i_i_i32_i_i_i_i_i_i_i_i_epil, v_r26_i_i_i_i_i_i_i_i_i34_i_i_i_i_i_i_i_i_epil);
     v_r30_i_i_i_i_i_i_i_i_i35_i_i_i_i_i_i_i_i_epil = (u64)((u64)(v_r0_04_i_i_i_i_i_i_i_i_i31_i_i_i_i_i_i_i_i_epil) + (u64)(1u));
@@ -37663,12 +37674,12 @@ L_else_11_i868_i_i_i:;
     { p_v_r7_sroa_130_25_i_i_i = v_r17_i82_i883_i_i_i; goto L_der_core_back_writer_BackWriter_prepend_header_exi__3; }
 L_der_core_back_writer_BackWriter_prepend_header_exi__3:;
     v_r7_sroa_130_25_i_i_i = p_v_r7_sroa_130_25_i_i_i;
-    v_r17_i4_i_i_i_i_i_i_i = (u64)((u64)(v_r7_sroa_130_9_i_i_i) - (u64)(v_r7_sroa_130_25_i_i_i));
-    v_r2_i_i_i_i_i_i_i_i = (u32)(v_r17_i4_i_i_i_i_i_i_i);
-    v_r59_i785_i_i_i = v_r2_i_i_i_i_i_i_i_i < 128u;
+    v_r17_i19_i_i_i_i_i_i_i = (u64)((u64)(v_r7_sroa_130_9_i_i_i) - (u64)(v_r7_sroa_130_25_i_i_i));
+    v_r2_i276_i_i_i_i_i_i_i = (u32)(v_r17_i19_i_i_i_i_i_i_i);
+    v_r59_i785_i_i_i = v_r2_i276_i_i_i_i_i_i_i < 128u;
     if (v_r59_i785_i_i_i) { goto L_then_1_i846_i_i_i; } else { goto L_else_2_i786_i_i_i; }
 L_then_1_i846_i_i_i:;
-    v_r64_i847_i_i_i = (u16)(v_r17_i4_i_i_i_i_i_i_i);
+    v_r64_i847_i_i_i = (u16)(v_r17_i19_i_i_i_i_i_i_i);
     v_r17_i_i851_i_i_i = (u64)((u64)(v_r7_sroa_130_25_i_i_i) + (u64)(18446744073709551614ull));
     v_r26_i_i853_i_i_i = (P)((uintptr_t)v_r13 + (u64)(v_r17_i_i851_i_i_i));
     v_r8_i780_sroa_4_0_insert_shift_i_i_i = (u16)((u32)(v_r64_i847_i_i_i) << (u32)((8u & 31)));
@@ -37676,10 +37687,10 @@ L_then_1_i846_i_i_i:;
     put_u16(v_r26_i_i853_i_i_i, v_r8_i780_sroa_0_0_insert_insert_i_i_i);
     { p_v_r7_sroa_130_24_i_i_i = v_r17_i_i851_i_i_i; goto L_der_core_back_writer_BackWriter_prepend_header_exi__4; }
 L_else_2_i786_i_i_i:;
-    v_r75_i787_i_i_i = v_r2_i_i_i_i_i_i_i_i < 256u;
+    v_r75_i787_i_i_i = v_r2_i276_i_i_i_i_i_i_i < 256u;
     if (v_r75_i787_i_i_i) { goto L_then_4_i837_i_i_i; } else { goto L_else_5_i788_i_i_i; }
 L_then_4_i837_i_i_i:;
-    v_r80_i838_i_i_i = (u8)(v_r17_i4_i_i_i_i_i_i_i);
+    v_r80_i838_i_i_i = (u8)(v_r17_i19_i_i_i_i_i_i_i);
     v_r17_i28_i843_i_i_i = (u64)((u64)(v_r7_sroa_130_25_i_i_i) + (u64)(18446744073709551613ull));
     v_r26_i30_i845_i_i_i = (P)((uintptr_t)v_r13 + (u64)(v_r17_i28_i843_i_i_i));
     put_u8(v_r26_i30_i845_i_i_i, 48u);
@@ -37689,24 +37700,24 @@ L_then_4_i837_i_i_i:;
     put_u8(v_r14_i781_sroa_5_0_r26_i30_i845_sroa_idx_i_i_i, v_r80_i838_i_i_i);
     { p_v_r7_sroa_130_24_i_i_i = v_r17_i28_i843_i_i_i; goto L_der_core_back_writer_BackWriter_prepend_header_exi__4; }
 L_else_5_i788_i_i_i:;
-    v_r92_i789_i_i_i = v_r2_i_i_i_i_i_i_i_i < 65536u;
+    v_r92_i789_i_i_i = v_r2_i276_i_i_i_i_i_i_i < 65536u;
     if (v_r92_i789_i_i_i) { goto L_then_7_i825_i_i_i; } else { goto L_else_8_i790_i_i_i; }
 L_then_7_i825_i_i_i:;
     v_r17_i46_i833_i_i_i = (u64)((u64)(v_r7_sroa_130_25_i_i_i) + (u64)(18446744073709551612ull));
     v_r26_i48_i835_i_i_i = (P)((uintptr_t)v_r13 + (u64)(v_r17_i46_i833_i_i_i));
-    v_39 = (u32)((u32)(v_r2_i_i_i_i_i_i_i_i) | (u32)(813826048u));
+    v_39 = (u32)((u32)(v_r2_i276_i_i_i_i_i_i_i) | (u32)(813826048u));
     v_r20_i782_sroa_0_0_insert_insert_i_i_i = __builtin_bswap32(v_39);
     put_u32(v_r26_i48_i835_i_i_i, v_r20_i782_sroa_0_0_insert_insert_i_i_i);
     { p_v_r7_sroa_130_24_i_i_i = v_r17_i46_i833_i_i_i; goto L_der_core_back_writer_BackWriter_prepend_header_exi__4; }
 L_else_8_i790_i_i_i:;
-    v_r117_i791_i_i_i = v_r2_i_i_i_i_i_i_i_i < 16777216u;
+    v_r117_i791_i_i_i = v_r2_i276_i_i_i_i_i_i_i < 16777216u;
     if (v_r117_i791_i_i_i) { goto L_then_10_i810_i_i_i; } else { goto L_else_11_i792_i_i_i; }
 L_then_10_i810_i_i_i:;
-    v_r12223_i8111243_i_i_i = (u64)((u64)(v_r17_i4_i_i_i_i_i_i_i) >> (u64)((16u & 63)));
+    v_r12223_i8111243_i_i_i = (u64)((u64)(v_r17_i19_i_i_i_i_i_i_i) >> (u64)((16u & 63)));
     v_r124_i812_i_i_i = (u8)(v_r12223_i8111243_i_i_i);
-    v_r12624_i8131244_i_i_i = (u64)((u64)(v_r17_i4_i_i_i_i_i_i_i) >> (u64)((8u & 63)));
+    v_r12624_i8131244_i_i_i = (u64)((u64)(v_r17_i19_i_i_i_i_i_i_i) >> (u64)((8u & 63)));
     v_r130_i814_i_i_i = (u8)(v_r12624_i8131244_i_i_i);
-    v_r134_i815_i_i_i = (u8)(v_r17_i4_i_i_i_i_i_i_i);
+    v_r134_i815_i_i_i = (u8)(v_r17_i19_i_i_i_i_i_i_i);
     v_r17_i64_i822_i_i_i = (u64)((u64)(v_r7_sroa_130_25_i_i_i) + (u64)(18446744073709551611ull));
     v_r26_i66_i824_i_i_i = (P)((uintptr_t)v_r13 + (u64)(v_r17_i64_i822_i_i_i));
     put_u8(v_r26_i66_i824_i_i_i, 48u);
@@ -37720,13 +37731,13 @@ L_then_10_i810_i_i_i:;
     put_u8(v_r29_i783_sroa_7_0_r26_i66_i824_sroa_idx_i_i_i, v_r134_i815_i_i_i);
     { p_v_r7_sroa_130_24_i_i_i = v_r17_i64_i822_i_i_i; goto L_der_core_back_writer_BackWriter_prepend_header_exi__4; }
 L_else_11_i792_i_i_i:;
-    v_r15020_i7931240_i_i_i = (u64)((u64)(v_r17_i4_i_i_i_i_i_i_i) >> (u64)((24u & 63)));
+    v_r15020_i7931240_i_i_i = (u64)((u64)(v_r17_i19_i_i_i_i_i_i_i) >> (u64)((24u & 63)));
     v_r152_i794_i_i_i = (u8)(v_r15020_i7931240_i_i_i);
-    v_r15421_i7951241_i_i_i = (u64)((u64)(v_r17_i4_i_i_i_i_i_i_i) >> (u64)((16u & 63)));
+    v_r15421_i7951241_i_i_i = (u64)((u64)(v_r17_i19_i_i_i_i_i_i_i) >> (u64)((16u & 63)));
     v_r158_i796_i_i_i = (u8)(v_r15421_i7951241_i_i_i);
-    v_r16022_i7971242_i_i_i = (u64)((u64)(v_r17_i4_i_i_i_i_i_i_i) >> (u64)((8u & 63)));
+    v_r16022_i7971242_i_i_i = (u64)((u64)(v_r17_i19_i_i_i_i_i_i_i) >> (u64)((8u & 63)));
     v_r164_i798_i_i_i = (u8)(v_r16022_i7971242_i_i_i);
-    v_r168_i799_i_i_i = (u8)(v_r17_i4_i_i_i_i_i_i_i);
+    v_r168_i799_i_i_i = (u8)(v_r17_i19_i_i_i_i_i_i_i);
     v_r17_i82_i807_i_i_i = (u64)((u64)(v_r7_sroa_130_25_i_i_i) + (u64)(18446744073709551610ull));
     v_r26_i84_i809_i_i_i = (P)((uintptr_t)v_r13 + (u64)(v_r17_i82_i807_i_i_i));
     put_u8(v_r26_i84_i809_i_i_i, 48u);
@@ -37900,11 +37911,11 @@ L_der_core_borrowed_BorrowedEncode_prepend_f4fc96f16__3:;
     v_42 = (u64)((u64)(v_r7_sroa_130_1_i_i_i) + (u64)(v_r3_i8_i_i_i));
     v_43 = (u64)((u64)(v_r7_sroa_130_0_i_i_i) - (u64)(v_42));
     v_44 = (u32)(v_43);
-    v_r2_i_i24_i_i_i_i = (u32)((u32)(v_r1_sroa_9_4_copyload_i_i_i_i) + (u32)(v_44));
-    v_r59_i633_i_i_i = v_r2_i_i24_i_i_i_i < 128u;
+    v_r2_i_i23_i_i_i_i = (u32)((u32)(v_r1_sroa_9_4_copyload_i_i_i_i) + (u32)(v_44));
+    v_r59_i633_i_i_i = v_r2_i_i23_i_i_i_i < 128u;
     if (v_r59_i633_i_i_i) { goto L_then_1_i694_i_i_i; } else { goto L_else_2_i634_i_i_i; }
 L_then_1_i694_i_i_i:;
-    v_r64_i695_i_i_i = (u16)(v_r2_i_i24_i_i_i_i);
+    v_r64_i695_i_i_i = (u16)(v_r2_i_i23_i_i_i_i);
     v_r17_i_i699_i_i_i = (u64)((u64)(v_r7_sroa_130_1_i_i_i) + (u64)(18446744073709551614ull));
     v_r26_i_i701_i_i_i = (P)((uintptr_t)v_r13 + (u64)(v_r17_i_i699_i_i_i));
     v_r8_i628_sroa_4_0_insert_shift_i_i_i = (u16)((u32)(v_r64_i695_i_i_i) << (u32)((8u & 31)));
@@ -37912,10 +37923,10 @@ L_then_1_i694_i_i_i:;
     put_u16(v_r26_i_i701_i_i_i, v_r8_i628_sroa_0_0_insert_insert_i_i_i);
     { p_v_r7_sroa_130_22_i_i_i = v_r17_i_i699_i_i_i; goto L_der_core_back_writer_BackWriter_prepend_header_exi__5; }
 L_else_2_i634_i_i_i:;
-    v_r75_i635_i_i_i = v_r2_i_i24_i_i_i_i < 256u;
+    v_r75_i635_i_i_i = v_r2_i_i23_i_i_i_i < 256u;
     if (v_r75_i635_i_i_i) { goto L_then_4_i685_i_i_i; } else { goto L_else_5_i636_i_i_i; }
 L_then_4_i685_i_i_i:;
-    v_r80_i686_i_i_i = (u8)(v_r2_i_i24_i_i_i_i);
+    v_r80_i686_i_i_i = (u8)(v_r2_i_i23_i_i_i_i);
     v_r17_i28_i691_i_i_i = (u64)((u64)(v_r7_sroa_130_1_i_i_i) + (u64)(18446744073709551613ull));
     v_r26_i30_i693_i_i_i = (P)((uintptr_t)v_r13 + (u64)(v_r17_i28_i691_i_i_i));
     put_u8(v_r26_i30_i693_i_i_i, 2u);
@@ -37925,24 +37936,24 @@ L_then_4_i685_i_i_i:;
     put_u8(v_r14_i629_sroa_5_0_r26_i30_i693_sroa_idx_i_i_i, v_r80_i686_i_i_i);
     { p_v_r7_sroa_130_22_i_i_i = v_r17_i28_i691_i_i_i; goto L_der_core_back_writer_BackWriter_prepend_header_exi__5; }
 L_else_5_i636_i_i_i:;
-    v_r92_i637_i_i_i = v_r2_i_i24_i_i_i_i < 65536u;
+    v_r92_i637_i_i_i = v_r2_i_i23_i_i_i_i < 65536u;
     if (v_r92_i637_i_i_i) { goto L_then_7_i673_i_i_i; } else { goto L_else_8_i638_i_i_i; }
 L_then_7_i673_i_i_i:;
     v_r17_i46_i681_i_i_i = (u64)((u64)(v_r7_sroa_130_1_i_i_i) + (u64)(18446744073709551612ull));
     v_r26_i48_i683_i_i_i = (P)((uintptr_t)v_r13 + (u64)(v_r17_i46_i681_i_i_i));
-    v_45 = (u32)((u32)(v_r2_i_i24_i_i_i_i) | (u32)(42074112u));
+    v_45 = (u32)((u32)(v_r2_i_i23_i_i_i_i) | (u32)(42074112u));
     v_r20_i630_sroa_0_0_insert_insert_i_i_i = __builtin_bswap32(v_45);
     put_u32(v_r26_i48_i683_i_i_i, v_r20_i630_sroa_0_0_insert_insert_i_i_i);
     { p_v_r7_sroa_130_22_i_i_i = v_r17_i46_i681_i_i_i; goto L_der_core_back_writer_BackWriter_prepend_header_exi__5; }
 L_else_8_i638_i_i_i:;
-    v_r117_i639_i_i_i = v_r2_i_i24_i_i_i_i < 16777216u;
+    v_r117_i639_i_i_i = v_r2_i_i23_i_i_i_i < 16777216u;
     if (v_r117_i639_i_i_i) { goto L_then_10_i658_i_i_i; } else { goto L_else_11_i640_i_i_i; }
 L_then_10_i658_i_i_i:;
-    v_r12223_i659_i_i_i = (u32)((u32)(v_r2_i_i24_i_i_i_i) >> (u32)((16u & 31)));
+    v_r12223_i659_i_i_i = (u32)((u32)(v_r2_i_i23_i_i_i_i) >> (u32)((16u & 31)));
     v_r124_i660_i_i_i = (u8)(v_r12223_i659_i_i_i);
-    v_r12624_i661_i_i_i = (u32)((u32)(v_r2_i_i24_i_i_i_i) >> (u32)((8u & 31)));
+    v_r12624_i661_i_i_i = (u32)((u32)(v_r2_i_i23_i_i_i_i) >> (u32)((8u & 31)));
     v_r130_i662_i_i_i = (u8)(v_r12624_i661_i_i_i);
-    v_r134_i663_i_i_i = (u8)(v_r2_i_i24_i_i_i_i);
+    v_r134_i663_i_i_i = (u8)(v_r2_i_i23_i_i_i_i);
     v_r17_i64_i670_i_i_i = (u64)((u64)(v_r7_sroa_130_1_i_i_i) + (u64)(18446744073709551611ull));
     v_r26_i66_i672_i_i_i = (P)((uintptr_t)v_r13 + (u64)(v_r17_i64_i670_i_i_i));
     put_u8(v_r26_i66_i672_i_i_i, 2u);
@@ -37956,13 +37967,13 @@ L_then_10_i658_i_i_i:;
     put_u8(v_r29_i631_sroa_7_0_r26_i66_i672_sroa_idx_i_i_i, v_r134_i663_i_i_i);
     { p_v_r7_sroa_130_22_i_i_i = v_r17_i64_i670_i_i_i; goto L_der_core_back_writer_BackWriter_prepend_header_exi__5; }
 L_else_11_i640_i_i_i:;
-    v_r15020_i641_i_i_i = (u32)((u32)(v_r2_i_i24_i_i_i_i) >> (u32)((24u & 31)));
+    v_r15020_i641_i_i_i = (u32)((u32)(v_r2_i_i23_i_i_i_i) >> (u32)((24u & 31)));
     v_r152_i642_i_i_i = (u8)(v_r15020_i641_i_i_i);
-    v_r15421_i643_i_i_i = (u32)((u32)(v_r2_i_i24_i_i_i_i) >> (u32)((16u & 31)));
+    v_r15421_i643_i_i_i = (u32)((u32)(v_r2_i_i23_i_i_i_i) >> (u32)((16u & 31)));
     v_r158_i644_i_i_i = (u8)(v_r15421_i643_i_i_i);
-    v_r16022_i645_i_i_i = (u32)((u32)(v_r2_i_i24_i_i_i_i) >> (u32)((8u & 31)));
+    v_r16022_i645_i_i_i = (u32)((u32)(v_r2_i_i23_i_i_i_i) >> (u32)((8u & 31)));
     v_r164_i646_i_i_i = (u8)(v_r16022_i645_i_i_i);
-    v_r168_i647_i_i_i = (u8)(v_r2_i_i24_i_i_i_i);
+    v_r168_i647_i_i_i = (u8)(v_r2_i_i23_i_i_i_i);
     v_r17_i82_i655_i_i_i = (u64)((u64)(v_r7_sroa_130_1_i_i_i) + (u64)(18446744073709551610ull));
     v_r26_i84_i657_i_i_i = (P)((uintptr_t)v_r13 + (u64)(v_r17_i82_i655_i_i_i));
     put_u8(v_r26_i84_i657_i_i_i, 2u);
@@ -37979,84 +37990,84 @@ L_else_11_i640_i_i_i:;
     { p_v_r7_sroa_130_22_i_i_i = v_r17_i82_i655_i_i_i; goto L_der_core_back_writer_BackWriter_prepend_header_exi__5; }
 L_der_core_back_writer_BackWriter_prepend_header_exi__5:;
     v_r7_sroa_130_22_i_i_i = p_v_r7_sroa_130_22_i_i_i;
-    v_r17_i_i_i30_i_i_i_i = (u64)((u64)(v_r7_sroa_130_22_i_i_i) - (u64)(v_r1_sroa_3_0_copyload_i_i29_i_i_i_i));
-    v_r26_i_i_i32_i_i_i_i = (P)((uintptr_t)v_r13 + (u64)(v_r17_i_i_i30_i_i_i_i));
-    v_r8_i_i_i_i_i_i_i_i_i33_i_i_i_i = (u64)((uintptr_t)v_r26_i_i_i32_i_i_i_i);
-    v_r9_i_i_i_i_i_i_i_i_i34_i_i_i_i = (u64)((uintptr_t)v_r1_sroa_0_0_copyload_i_i27_i_i_i_i);
-    v_r10_i_i_i_i_i_i_i_i_i35_i_i_i_i = (u64)((u64)(v_r8_i_i_i_i_i_i_i_i_i33_i_i_i_i) - (u64)(v_r9_i_i_i_i_i_i_i_i_i34_i_i_i_i));
-    v_r11_i_i_i_i_i_i_i_i_i36_i_i_i_i = v_r10_i_i_i_i_i_i_i_i_i35_i_i_i_i < v_r1_sroa_3_0_copyload_i_i29_i_i_i_i;
-    if (v_r11_i_i_i_i_i_i_i_i_i36_i_i_i_i) { goto L_join_7_i_i_i_i_i_i_i_i_i50_i_i_i_i_preheader; } else { goto L_apart_2_i_i_i_i_i_i_i_i_i37_i_i_i_i; }
-L_join_7_i_i_i_i_i_i_i_i_i50_i_i_i_i_preheader:;
-    v_xtraiter225 = (u64)((u64)(v_r1_sroa_3_0_copyload_i_i29_i_i_i_i) & (u64)(3u));
-    v_46 = v_r1_sroa_3_0_copyload_i_i29_i_i_i_i < 4u;
-    if (v_46) { p_v_r0_04_i_i_i_i_i_i_i_i_i51_i_i_i_i_epil_init = 0u; goto L_join_7_i_i_i_i_i_i_i_i_i50_i_i_i_i_epil_preheader; } else { goto L_join_7_i_i_i_i_i_i_i_i_i50_i_i_i_i_preheader_new; }
-L_join_7_i_i_i_i_i_i_i_i_i50_i_i_i_i_preheader_new:;
-    v_unroll_iter229 = (u64)((u64)(v_r1_sroa_3_0_copyload_i_i29_i_i_i_i) & (u64)(4294967292ull));
-    { p_v_r0_04_i_i_i_i_i_i_i_i_i51_i_i_i_i = 0u; p_v_niter230 = 0u; goto L_join_7_i_i_i_i_i_i_i_i_i50_i_i_i_i; }
-L_apart_2_i_i_i_i_i_i_i_i_i37_i_i_i_i:;
-    move(v_r26_i_i_i32_i_i_i_i, v_r1_sroa_0_0_copyload_i_i27_i_i_i_i, v_r1_sroa_3_0_copyload_i_i29_i_i_i_i);
-    { goto L_der_core_back_writer_BackWriter_prepend_exit_i_i38; }
-L_join_7_i_i_i_i_i_i_i_i_i50_i_i_i_i:;
-    v_r0_04_i_i_i_i_i_i_i_i_i51_i_i_i_i = p_v_r0_04_i_i_i_i_i_i_i_i_i51_i_i_i_i;
+    v_r17_i_i_i29_i_i_i_i = (u64)((u64)(v_r7_sroa_130_22_i_i_i) - (u64)(v_r1_sroa_3_0_copyload_i_i28_i_i_i_i));
+    v_r26_i_i_i31_i_i_i_i = (P)((uintptr_t)v_r13 + (u64)(v_r17_i_i_i29_i_i_i_i));
+    v_r8_i_i_i_i_i_i_i_i_i32_i_i_i_i = (u64)((uintptr_t)v_r26_i_i_i31_i_i_i_i);
+    v_r9_i_i_i_i_i_i_i_i_i33_i_i_i_i = (u64)((uintptr_t)v_r1_sroa_0_0_copyload_i_i26_i_i_i_i);
+    v_r10_i_i_i_i_i_i_i_i_i34_i_i_i_i = (u64)((u64)(v_r8_i_i_i_i_i_i_i_i_i32_i_i_i_i) - (u64)(v_r9_i_i_i_i_i_i_i_i_i33_i_i_i_i));
+    v_r11_i_i_i_i_i_i_i_i_i35_i_i_i_i = v_r10_i_i_i_i_i_i_i_i_i34_i_i_i_i < v_r1_sroa_3_0_copyload_i_i28_i_i_i_i;
+    if (v_r11_i_i_i_i_i_i_i_i_i35_i_i_i_i) { goto L_join_7_i_i_i_i_i_i_i_i_i49_i_i_i_i_preheader; } else { goto L_apart_2_i_i_i_i_i_i_i_i_i36_i_i_i_i; }
+L_join_7_i_i_i_i_i_i_i_i_i49_i_i_i_i_preheader:;
+    v_xtraiter225 = (u64)((u64)(v_r1_sroa_3_0_copyload_i_i28_i_i_i_i) & (u64)(3u));
+    v_46 = v_r1_sroa_3_0_copyload_i_i28_i_i_i_i < 4u;
+    if (v_46) { p_v_r0_04_i_i_i_i_i_i_i_i_i50_i_i_i_i_epil_init = 0u; goto L_join_7_i_i_i_i_i_i_i_i_i49_i_i_i_i_epil_preheader; } else { goto L_join_7_i_i_i_i_i_i_i_i_i49_i_i_i_i_preheader_new; }
+L_join_7_i_i_i_i_i_i_i_i_i49_i_i_i_i_preheader_new:;
+    v_unroll_iter229 = (u64)((u64)(v_r1_sroa_3_0_copyload_i_i28_i_i_i_i) & (u64)(4294967292ull));
+    { p_v_r0_04_i_i_i_i_i_i_i_i_i50_i_i_i_i = 0u; p_v_niter230 = 0u; goto L_join_7_i_i_i_i_i_i_i_i_i49_i_i_i_i; }
+L_apart_2_i_i_i_i_i_i_i_i_i36_i_i_i_i:;
+    move(v_r26_i_i_i31_i_i_i_i, v_r1_sroa_0_0_copyload_i_i26_i_i_i_i, v_r1_sroa_3_0_copyload_i_i28_i_i_i_i);
+    { goto L_der_core_back_writer_BackWriter_prepend_exit_i_i37; }
+L_join_7_i_i_i_i_i_i_i_i_i49_i_i_i_i:;
+    v_r0_04_i_i_i_i_i_i_i_i_i50_i_i_i_i = p_v_r0_04_i_i_i_i_i_i_i_i_i50_i_i_i_i;
     v_niter230 = p_v_niter230;
-    v_r20_i_i_i_i_i_i_i_i_i52_i_i_i_i = v_r26_i_i_i32_i_i_i_i + (int64_t)(v_r0_04_i_i_i_i_i_i_i_i_i51_i_i_i_i);
-    v_r24_i_i_i_i_i_i_i_i_i53_i_i_i_i = v_r1_sroa_0_0_copyload_i_i27_i_i_i_i + (int64_t)(v_r0_04_i_i_i_i_i_i_i_i_i51_i_i_i_i);
-    v_r26_i_i_i_i_i_i_i_i_i54_i_i_i_i = get_u8(v_r24_i_i_i_i_i_i_i_i_i53_i_i_i_i);
-    put_u8(v_r20_i_i_i_i_i_i_i_i_i52_i_i_i_i, v_r26_i_i_i_i_i_i_i_i_i54_i_i_i_i);
-    v_r30_i_i_i_i_i_i_i_i_i55_i_i_i_i = (u64)((u64)(v_r0_04_i_i_i_i_i_i_i_i_i51_i_i_i_i) | (u64)(1u));
-    v_r20_i_i_i_i_i_i_i_i_i52_i_i_i_i_1 = v_r26_i_i_i32_i_i_i_i + (int64_t)(v_r30_i_i_i_i_i_i_i_i_i55_i_i_i_i);
-    v_r24_i_i_i_i_i_i_i_i_i53_i_i_i_i_1 = v_r1_sroa_0_0_copyload_i_i27_i_i_i_i + (int64_t)(v_r30_i_i_i_i_i_i_i_i_i55_i_i_i_i);
-    v_r26_i_i_i_i_i_i_i_i_i54_i_i_i_i_1 = get_u8(v_r24_i_i_i_i_i_i_i_i_i53_i_i_i_i_1);
-    put_u8(v_r20_i_i_i_i_i_i_i_i_i52_i_i_i_i_1, v_r26_i_i_i_i_i_i_i_i_i54_i_i_i_i_1);
-    v_r30_i_i_i_i_i_i_i_i_i55_i_i_i_i_1 = (u64)((u64)(v_r0_04_i_i_i_i_i_i_i_i_i51_i_i_i_i) | (u64)(2u));
-    v_r20_i_i_i_i_i_i_i_i_i52_i_i_i_i_2 = v_r26_i_i_i32_i_i_i_i + (int64_t)(v_r30_i_i_i_i_i_i_i_i_i55_i_i_i_i_1);
-    v_r24_i_i_i_i_i_i_i_i_i53_i_i_i_i_2 = v_r1_sroa_0_0_copyload_i_i27_i_i_i_i + (int64_t)(v_r30_i_i_i_i_i_i_i_i_i55_i_i_i_i_1);
-    v_r26_i_i_i_i_i_i_i_i_i54_i_i_i_i_2 = get_u8(v_r24_i_i_i_i_i_i_i_i_i53_i_i_i_i_2);
-    put_u8(v_r20_i_i_i_i_i_i_i_i_i52_i_i_i_i_2, v_r26_i_i_i_i_i_i_i_i_i54_i_i_i_i_2);
-    v_r30_i_i_i_i_i_i_i_i_i55_i_i_i_i_2 = (u64)((u64)(v_r0_04_i_i_i_i_i_i_i_i_i51_i_i_i_i) | (u64)(3u));
-    v_r20_i_i_i_i_i_i_i_i_i52_i_i_i_i_3 = v_r26_i_i_i32_i_i_i_i + (int64_t)(v_r30_i_i_i_i_i_i_i_i_i55_i_i_i_i_2);
-    v_r24_i_i_i_i_i_i_i_i_i53_i_i_i_i_3 = v_r1_sroa_0_0_copyload_i_i27_i_i_i_i + (int64_t)(v_r30_i_i_i_i_i_i_i_i_i55_i_i_i_i_2);
-    v_r26_i_i_i_i_i_i_i_i_i54_i_i_i_i_3 = get_u8(v_r24_i_i_i_i_i_i_i_i_i53_i_i_i_i_3);
-    put_u8(v_r20_i_i_i_i_i_i_i_i_i52_i_i_i_i_3, v_r26_i_i_i_i_i_i_i_i_i54_i_i_i_i_3);
-    v_r30_i_i_i_i_i_i_i_i_i55_i_i_i_i_3 = (u64)((u64)(v_r0_04_i_i_i_i_i_i_i_i_i51_i_i_i_i) + (u64)(4u));
+    v_r20_i_i_i_i_i_i_i_i_i51_i_i_i_i = v_r26_i_i_i31_i_i_i_i + (int64_t)(v_r0_04_i_i_i_i_i_i_i_i_i50_i_i_i_i);
+    v_r24_i_i_i_i_i_i_i_i_i52_i_i_i_i = v_r1_sroa_0_0_copyload_i_i26_i_i_i_i + (int64_t)(v_r0_04_i_i_i_i_i_i_i_i_i50_i_i_i_i);
+    v_r26_i_i_i_i_i_i_i_i_i53_i_i_i_i = get_u8(v_r24_i_i_i_i_i_i_i_i_i52_i_i_i_i);
+    put_u8(v_r20_i_i_i_i_i_i_i_i_i51_i_i_i_i, v_r26_i_i_i_i_i_i_i_i_i53_i_i_i_i);
+    v_r30_i_i_i_i_i_i_i_i_i54_i_i_i_i = (u64)((u64)(v_r0_04_i_i_i_i_i_i_i_i_i50_i_i_i_i) | (u64)(1u));
+    v_r20_i_i_i_i_i_i_i_i_i51_i_i_i_i_1 = v_r26_i_i_i31_i_i_i_i + (int64_t)(v_r30_i_i_i_i_i_i_i_i_i54_i_i_i_i);
+    v_r24_i_i_i_i_i_i_i_i_i52_i_i_i_i_1 = v_r1_sroa_0_0_copyload_i_i26_i_i_i_i + (int64_t)(v_r30_i_i_i_i_i_i_i_i_i54_i_i_i_i);
+    v_r26_i_i_i_i_i_i_i_i_i53_i_i_i_i_1 = get_u8(v_r24_i_i_i_i_i_i_i_i_i52_i_i_i_i_1);
+    put_u8(v_r20_i_i_i_i_i_i_i_i_i51_i_i_i_i_1, v_r26_i_i_i_i_i_i_i_i_i53_i_i_i_i_1);
+    v_r30_i_i_i_i_i_i_i_i_i54_i_i_i_i_1 = (u64)((u64)(v_r0_04_i_i_i_i_i_i_i_i_i50_i_i_i_i) | (u64)(2u));
+    v_r20_i_i_i_i_i_i_i_i_i51_i_i_i_i_2 = v_r26_i_i_i31_i_i_i_i + (int64_t)(v_r30_i_i_i_i_i_i_i_i_i54_i_i_i_i_1);
+    v_r24_i_i_i_i_i_i_i_i_i52_i_i_i_i_2 = v_r1_sroa_0_0_copyload_i_i26_i_i_i_i + (int64_t)(v_r30_i_i_i_i_i_i_i_i_i54_i_i_i_i_1);
+    v_r26_i_i_i_i_i_i_i_i_i53_i_i_i_i_2 = get_u8(v_r24_i_i_i_i_i_i_i_i_i52_i_i_i_i_2);
+    put_u8(v_r20_i_i_i_i_i_i_i_i_i51_i_i_i_i_2, v_r26_i_i_i_i_i_i_i_i_i53_i_i_i_i_2);
+    v_r30_i_i_i_i_i_i_i_i_i54_i_i_i_i_2 = (u64)((u64)(v_r0_04_i_i_i_i_i_i_i_i_i50_i_i_i_i) | (u64)(3u));
+    v_r20_i_i_i_i_i_i_i_i_i51_i_i_i_i_3 = v_r26_i_i_i31_i_i_i_i + (int64_t)(v_r30_i_i_i_i_i_i_i_i_i54_i_i_i_i_2);
+    v_r24_i_i_i_i_i_i_i_i_i52_i_i_i_i_3 = v_r1_sroa_0_0_copyload_i_i26_i_i_i_i + (int64_t)(v_r30_i_i_i_i_i_i_i_i_i54_i_i_i_i_2);
+    v_r26_i_i_i_i_i_i_i_i_i53_i_i_i_i_3 = get_u8(v_r24_i_i_i_i_i_i_i_i_i52_i_i_i_i_3);
+    put_u8(v_r20_i_i_i_i_i_i_i_i_i51_i_i_i_i_3, v_r26_i_i_i_i_i_i_i_i_i53_i_i_i_i_3);
+    v_r30_i_i_i_i_i_i_i_i_i54_i_i_i_i_3 = (u64)((u64)(v_r0_04_i_i_i_i_i_i_i_i_i50_i_i_i_i) + (u64)(4u));
     v_niter230_next_3 = (u64)((u64)(v_niter230) + (u64)(4u));
     v_niter230_ncmp_3 = v_niter230_next_3 == v_unroll_iter229;
-    if (v_niter230_ncmp_3) { goto L_der_core_back_writer_BackWriter_prepend_exit_i_i38__2; } else { p_v_r0_04_i_i_i_i_i_i_i_i_i51_i_i_i_i = v_r30_i_i_i_i_i_i_i_i_i55_i_i_i_i_3; p_v_niter230 = v_niter230_next_3; goto L_join_7_i_i_i_i_i_i_i_i_i50_i_i_i_i; }
-L_der_core_back_writer_BackWriter_prepend_exit_i_i38__2:;
+    if (v_niter230_ncmp_3) { goto L_der_core_back_writer_BackWriter_prepend_exit_i_i37__2; } else { p_v_r0_04_i_i_i_i_i_i_i_i_i50_i_i_i_i = v_r30_i_i_i_i_i_i_i_i_i54_i_i_i_i_3; p_v_niter230 = v_niter230_next_3; goto L_join_7_i_i_i_i_i_i_i_i_i49_i_i_i_i; }
+L_der_core_back_writer_BackWriter_prepend_exit_i_i37__2:;
     v_lcmp_mod227_not = v_xtraiter225 == 0u;
-    if (v_lcmp_mod227_not) { goto L_der_core_back_writer_BackWriter_prepend_exit_i_i38; } else { p_v_r0_04_i_i_i_i_i_i_i_i_i51_i_i_i_i_epil_init = v_r30_i_i_i_i_i_i_i_i_i55_i_i_i_i_3; goto L_join_7_i_i_i_i_i_i_i_i_i50_i_i_i_i_epil_preheader; }
-L_join_7_i_i_i_i_i_i_i_i_i50_i_i_i_i_epil_preheader:;
-    v_r0_04_i_i_i_i_i_i_i_i_i51_i_i_i_i_epil_init = p_v_r0_04_i_i_i_i_i_i_i_i_i51_i_i_i_i_epil_init;
-    { p_v_r0_04_i_i_i_i_i_i_i_i_i51_i_i_i_i_epil = v_r0_04_i_i_i_i_i_i_i_i_i51_i_i_i_i_epil_init; p_v_epil_iter226 = 0u; goto L_join_7_i_i_i_i_i_i_i_i_i50_i_i_i_i_epil; }
-L_join_7_i_i_i_i_i_i_i_i_i50_i_i_i_i_epil:;
-    v_r0_04_i_i_i_i_i_i_i_i_i51_i_i_i_i_epil = p_v_r0_04_i_i_i_i_i_i_i_i_i51_i_i_i_i_epil;
+    if (v_lcmp_mod227_not) { goto L_der_core_back_writer_BackWriter_prepend_exit_i_i37; } else { p_v_r0_04_i_i_i_i_i_i_i_i_i50_i_i_i_i_epil_init = v_r30_i_i_i_i_i_i_i_i_i54_i_i_i_i_3; goto L_join_7_i_i_i_i_i_i_i_i_i49_i_i_i_i_epil_preheader; }
+L_join_7_i_i_i_i_i_i_i_i_i49_i_i_i_i_epil_preheader:;
+    v_r0_04_i_i_i_i_i_i_i_i_i50_i_i_i_i_epil_init = p_v_r0_04_i_i_i_i_i_i_i_i_i50_i_i_i_i_epil_init;
+    { p_v_r0_04_i_i_i_i_i_i_i_i_i50_i_i_i_i_epil = v_r0_04_i_i_i_i_i_i_i_i_i50_i_i_i_i_epil_init; p_v_epil_iter226 = 0u; goto L_join_7_i_i_i_i_i_i_i_i_i49_i_i_i_i_epil; }
+L_join_7_i_i_i_i_i_i_i_i_i49_i_i_i_i_epil:;
+    v_r0_04_i_i_i_i_i_i_i_i_i50_i_i_i_i_epil = p_v_r0_04_i_i_i_i_i_i_i_i_i50_i_i_i_i_epil;
     v_epil_iter226 = p_v_epil_iter226;
-    v_r20_i_i_i_i_i_i_i_i_i52_i_i_i_i_epil = v_r26_i_i_i32_i_i_i_i + (int64_t)(v_r0_04_i_i_i_i_i_i_i_i_i51_i_i_i_i_epil);
-    v_r24_i_i_i_i_i_i_i_i_i53_i_i_i_i_epil = v_r1_sroa_0_0_copyload_i_i27_i_i_i_i + (int64_t)(v_r0_04_i_i_i_i_i_i_i_i_i51_i_i_i_i_epil);
-    v_r26_i_i_i_i_i_i_i_i_i54_i_i_i_i_epil = get_u8(v_r24_i_i_i_i_i_i_i_i_i53_i_i_i_i_epil);
-    put_u8(v_r20_i_i_i_i_i_i_i_i_i52_i_i_i_i_epil, v_r26_i_i_i_i_i_i_i_i_i54_i_i_i_i_epil);
-    v_r30_i_i_i_i_i_i_i_i_i55_i_i_i_i_epil = (u64)((u64)(v_r0_04_i_i_i_i_i_i_i_i_i51_i_i_i_i_epil) + (u64)(1u));
+    v_r20_i_i_i_i_i_i_i_i_i51_i_i_i_i_epil = v_r26_i_i_i31_i_i_i_i + (int64_t)(v_r0_04_i_i_i_i_i_i_i_i_i50_i_i_i_i_epil);
+    v_r24_i_i_i_i_i_i_i_i_i52_i_i_i_i_epil = v_r1_sroa_0_0_copyload_i_i26_i_i_i_i + (int64_t)(v_r0_04_i_i_i_i_i_i_i_i_i50_i_i_i_i_epil);
+    v_r26_i_i_i_i_i_i_i_i_i53_i_i_i_i_epil = get_u8(v_r24_i_i_i_i_i_i_i_i_i52_i_i_i_i_epil);
+    put_u8(v_r20_i_i_i_i_i_i_i_i_i51_i_i_i_i_epil, v_r26_i_i_i_i_i_i_i_i_i53_i_i_i_i_epil);
+    v_r30_i_i_i_i_i_i_i_i_i54_i_i_i_i_epil = (u64)((u64)(v_r0_04_i_i_i_i_i_i_i_i_i50_i_i_i_i_epil) + (u64)(1u));
     v_epil_iter226_next = (u64)((u64)(v_epil_iter226) + (u64)(1u));
     v_epil_iter226_cmp_not = v_epil_iter226_next == v_xtraiter225;
-    if (v_epil_iter226_cmp_not) { goto L_der_core_back_writer_BackWriter_prepend_exit_i_i38; } else { p_v_r0_04_i_i_i_i_i_i_i_i_i51_i_i_i_i_epil = v_r30_i_i_i_i_i_i_i_i_i55_i_i_i_i_epil; p_v_epil_iter226 = v_epil_iter226_next; goto L_join_7_i_i_i_i_i_i_i_i_i50_i_i_i_i_epil; }
-L_der_core_back_writer_BackWriter_prepend_exit_i_i38:;
-    v_r15_not_i_i41_i_i_i_i = (u8)(v_r20_i376_i ^ ((u8)1 << 7)) > (u8)(255u ^ ((u8)1 << 7));
-    if (v_r15_not_i_i41_i_i_i_i) { p_v_r7_sroa_130_2_i_i_i = v_r17_i_i_i30_i_i_i_i; goto L_der_core_borrowed_BorrowedEncode_prepend_f4fc96f16__4; } else { goto L_then_1_i_i42_i_i_i_i; }
-L_then_1_i_i42_i_i_i_i:;
-    v_r17_i3_i_i43_i_i_i_i = (u64)((u64)(v_r17_i_i_i30_i_i_i_i) + (u64)(18446744073709551615ull));
-    v_r26_i5_i_i45_i_i_i_i = (P)((uintptr_t)v_r13 + (u64)(v_r17_i3_i_i43_i_i_i_i));
-    put_u8(v_r26_i5_i_i45_i_i_i_i, 0u);
-    { p_v_r7_sroa_130_2_i_i_i = v_r17_i3_i_i43_i_i_i_i; goto L_der_core_borrowed_BorrowedEncode_prepend_f4fc96f16__4; }
+    if (v_epil_iter226_cmp_not) { goto L_der_core_back_writer_BackWriter_prepend_exit_i_i37; } else { p_v_r0_04_i_i_i_i_i_i_i_i_i50_i_i_i_i_epil = v_r30_i_i_i_i_i_i_i_i_i54_i_i_i_i_epil; p_v_epil_iter226 = v_epil_iter226_next; goto L_join_7_i_i_i_i_i_i_i_i_i49_i_i_i_i_epil; }
+L_der_core_back_writer_BackWriter_prepend_exit_i_i37:;
+    v_r15_not_i_i40_i_i_i_i = (u8)(v_r20_i376_i ^ ((u8)1 << 7)) > (u8)(255u ^ ((u8)1 << 7));
+    if (v_r15_not_i_i40_i_i_i_i) { p_v_r7_sroa_130_2_i_i_i = v_r17_i_i_i29_i_i_i_i; goto L_der_core_borrowed_BorrowedEncode_prepend_f4fc96f16__4; } else { goto L_then_1_i_i41_i_i_i_i; }
+L_then_1_i_i41_i_i_i_i:;
+    v_r17_i3_i_i42_i_i_i_i = (u64)((u64)(v_r17_i_i_i29_i_i_i_i) + (u64)(18446744073709551615ull));
+    v_r26_i5_i_i44_i_i_i_i = (P)((uintptr_t)v_r13 + (u64)(v_r17_i3_i_i42_i_i_i_i));
+    put_u8(v_r26_i5_i_i44_i_i_i_i, 0u);
+    { p_v_r7_sroa_130_2_i_i_i = v_r17_i3_i_i42_i_i_i_i; goto L_der_core_borrowed_BorrowedEncode_prepend_f4fc96f16__4; }
 L_der_core_borrowed_BorrowedEncode_prepend_f4fc96f16__4:;
     v_r7_sroa_130_2_i_i_i = p_v_r7_sroa_130_2_i_i_i;
     v_47 = (u64)((u64)(v_r7_sroa_130_2_i_i_i) + (u64)(v_r3_i8_i_i_i));
     v_48 = (u64)((u64)(v_r7_sroa_130_22_i_i_i) - (u64)(v_47));
     v_49 = (u32)(v_48);
-    v_r2_i_i49_i_i_i_i = (u32)((u32)(v_r1_sroa_9_4_copyload_i_i_i_i) + (u32)(v_49));
-    v_r59_i557_i_i_i = v_r2_i_i49_i_i_i_i < 128u;
+    v_r2_i_i48_i_i_i_i = (u32)((u32)(v_r1_sroa_9_4_copyload_i_i_i_i) + (u32)(v_49));
+    v_r59_i557_i_i_i = v_r2_i_i48_i_i_i_i < 128u;
     if (v_r59_i557_i_i_i) { goto L_then_1_i618_i_i_i; } else { goto L_else_2_i558_i_i_i; }
 L_then_1_i618_i_i_i:;
-    v_r64_i619_i_i_i = (u16)(v_r2_i_i49_i_i_i_i);
+    v_r64_i619_i_i_i = (u16)(v_r2_i_i48_i_i_i_i);
     v_r17_i_i623_i_i_i = (u64)((u64)(v_r7_sroa_130_2_i_i_i) + (u64)(18446744073709551614ull));
     v_r26_i_i625_i_i_i = (P)((uintptr_t)v_r13 + (u64)(v_r17_i_i623_i_i_i));
     v_r8_i552_sroa_4_0_insert_shift_i_i_i = (u16)((u32)(v_r64_i619_i_i_i) << (u32)((8u & 31)));
@@ -38064,10 +38075,10 @@ L_then_1_i618_i_i_i:;
     put_u16(v_r26_i_i625_i_i_i, v_r8_i552_sroa_0_0_insert_insert_i_i_i);
     { p_v_r7_sroa_130_21_i_i_i = v_r17_i_i623_i_i_i; goto L_der_core_back_writer_BackWriter_prepend_header_exi__6; }
 L_else_2_i558_i_i_i:;
-    v_r75_i559_i_i_i = v_r2_i_i49_i_i_i_i < 256u;
+    v_r75_i559_i_i_i = v_r2_i_i48_i_i_i_i < 256u;
     if (v_r75_i559_i_i_i) { goto L_then_4_i609_i_i_i; } else { goto L_else_5_i560_i_i_i; }
 L_then_4_i609_i_i_i:;
-    v_r80_i610_i_i_i = (u8)(v_r2_i_i49_i_i_i_i);
+    v_r80_i610_i_i_i = (u8)(v_r2_i_i48_i_i_i_i);
     v_r17_i28_i615_i_i_i = (u64)((u64)(v_r7_sroa_130_2_i_i_i) + (u64)(18446744073709551613ull));
     v_r26_i30_i617_i_i_i = (P)((uintptr_t)v_r13 + (u64)(v_r17_i28_i615_i_i_i));
     put_u8(v_r26_i30_i617_i_i_i, 2u);
@@ -38077,24 +38088,24 @@ L_then_4_i609_i_i_i:;
     put_u8(v_r14_i553_sroa_5_0_r26_i30_i617_sroa_idx_i_i_i, v_r80_i610_i_i_i);
     { p_v_r7_sroa_130_21_i_i_i = v_r17_i28_i615_i_i_i; goto L_der_core_back_writer_BackWriter_prepend_header_exi__6; }
 L_else_5_i560_i_i_i:;
-    v_r92_i561_i_i_i = v_r2_i_i49_i_i_i_i < 65536u;
+    v_r92_i561_i_i_i = v_r2_i_i48_i_i_i_i < 65536u;
     if (v_r92_i561_i_i_i) { goto L_then_7_i597_i_i_i; } else { goto L_else_8_i562_i_i_i; }
 L_then_7_i597_i_i_i:;
     v_r17_i46_i605_i_i_i = (u64)((u64)(v_r7_sroa_130_2_i_i_i) + (u64)(18446744073709551612ull));
     v_r26_i48_i607_i_i_i = (P)((uintptr_t)v_r13 + (u64)(v_r17_i46_i605_i_i_i));
-    v_50 = (u32)((u32)(v_r2_i_i49_i_i_i_i) | (u32)(42074112u));
+    v_50 = (u32)((u32)(v_r2_i_i48_i_i_i_i) | (u32)(42074112u));
     v_r20_i554_sroa_0_0_insert_insert_i_i_i = __builtin_bswap32(v_50);
     put_u32(v_r26_i48_i607_i_i_i, v_r20_i554_sroa_0_0_insert_insert_i_i_i);
     { p_v_r7_sroa_130_21_i_i_i = v_r17_i46_i605_i_i_i; goto L_der_core_back_writer_BackWriter_prepend_header_exi__6; }
 L_else_8_i562_i_i_i:;
-    v_r117_i563_i_i_i = v_r2_i_i49_i_i_i_i < 16777216u;
+    v_r117_i563_i_i_i = v_r2_i_i48_i_i_i_i < 16777216u;
     if (v_r117_i563_i_i_i) { goto L_then_10_i582_i_i_i; } else { goto L_else_11_i564_i_i_i; }
 L_then_10_i582_i_i_i:;
-    v_r12223_i583_i_i_i = (u32)((u32)(v_r2_i_i49_i_i_i_i) >> (u32)((16u & 31)));
+    v_r12223_i583_i_i_i = (u32)((u32)(v_r2_i_i48_i_i_i_i) >> (u32)((16u & 31)));
     v_r124_i584_i_i_i = (u8)(v_r12223_i583_i_i_i);
-    v_r12624_i585_i_i_i = (u32)((u32)(v_r2_i_i49_i_i_i_i) >> (u32)((8u & 31)));
+    v_r12624_i585_i_i_i = (u32)((u32)(v_r2_i_i48_i_i_i_i) >> (u32)((8u & 31)));
     v_r130_i586_i_i_i = (u8)(v_r12624_i585_i_i_i);
-    v_r134_i587_i_i_i = (u8)(v_r2_i_i49_i_i_i_i);
+    v_r134_i587_i_i_i = (u8)(v_r2_i_i48_i_i_i_i);
     v_r17_i64_i594_i_i_i = (u64)((u64)(v_r7_sroa_130_2_i_i_i) + (u64)(18446744073709551611ull));
     v_r26_i66_i596_i_i_i = (P)((uintptr_t)v_r13 + (u64)(v_r17_i64_i594_i_i_i));
     put_u8(v_r26_i66_i596_i_i_i, 2u);
@@ -38108,13 +38119,13 @@ L_then_10_i582_i_i_i:;
     put_u8(v_r29_i555_sroa_7_0_r26_i66_i596_sroa_idx_i_i_i, v_r134_i587_i_i_i);
     { p_v_r7_sroa_130_21_i_i_i = v_r17_i64_i594_i_i_i; goto L_der_core_back_writer_BackWriter_prepend_header_exi__6; }
 L_else_11_i564_i_i_i:;
-    v_r15020_i565_i_i_i = (u32)((u32)(v_r2_i_i49_i_i_i_i) >> (u32)((24u & 31)));
+    v_r15020_i565_i_i_i = (u32)((u32)(v_r2_i_i48_i_i_i_i) >> (u32)((24u & 31)));
     v_r152_i566_i_i_i = (u8)(v_r15020_i565_i_i_i);
-    v_r15421_i567_i_i_i = (u32)((u32)(v_r2_i_i49_i_i_i_i) >> (u32)((16u & 31)));
+    v_r15421_i567_i_i_i = (u32)((u32)(v_r2_i_i48_i_i_i_i) >> (u32)((16u & 31)));
     v_r158_i568_i_i_i = (u8)(v_r15421_i567_i_i_i);
-    v_r16022_i569_i_i_i = (u32)((u32)(v_r2_i_i49_i_i_i_i) >> (u32)((8u & 31)));
+    v_r16022_i569_i_i_i = (u32)((u32)(v_r2_i_i48_i_i_i_i) >> (u32)((8u & 31)));
     v_r164_i570_i_i_i = (u8)(v_r16022_i569_i_i_i);
-    v_r168_i571_i_i_i = (u8)(v_r2_i_i49_i_i_i_i);
+    v_r168_i571_i_i_i = (u8)(v_r2_i_i48_i_i_i_i);
     v_r17_i82_i579_i_i_i = (u64)((u64)(v_r7_sroa_130_2_i_i_i) + (u64)(18446744073709551610ull));
     v_r26_i84_i581_i_i_i = (P)((uintptr_t)v_r13 + (u64)(v_r17_i82_i579_i_i_i));
     put_u8(v_r26_i84_i581_i_i_i, 2u);
@@ -38131,84 +38142,84 @@ L_else_11_i564_i_i_i:;
     { p_v_r7_sroa_130_21_i_i_i = v_r17_i82_i579_i_i_i; goto L_der_core_back_writer_BackWriter_prepend_header_exi__6; }
 L_der_core_back_writer_BackWriter_prepend_header_exi__6:;
     v_r7_sroa_130_21_i_i_i = p_v_r7_sroa_130_21_i_i_i;
-    v_r17_i_i_i63_i_i_i_i = (u64)((u64)(v_r7_sroa_130_21_i_i_i) - (u64)(v_r1_sroa_3_0_copyload_i_i62_i_i_i_i));
-    v_r26_i_i_i65_i_i_i_i = (P)((uintptr_t)v_r13 + (u64)(v_r17_i_i_i63_i_i_i_i));
-    v_r8_i_i_i_i_i_i_i_i_i66_i_i_i_i = (u64)((uintptr_t)v_r26_i_i_i65_i_i_i_i);
-    v_r9_i_i_i_i_i_i_i_i_i67_i_i_i_i = (u64)((uintptr_t)v_r1_sroa_0_0_copyload_i_i60_i_i_i_i);
-    v_r10_i_i_i_i_i_i_i_i_i68_i_i_i_i = (u64)((u64)(v_r8_i_i_i_i_i_i_i_i_i66_i_i_i_i) - (u64)(v_r9_i_i_i_i_i_i_i_i_i67_i_i_i_i));
-    v_r11_i_i_i_i_i_i_i_i_i69_i_i_i_i = v_r10_i_i_i_i_i_i_i_i_i68_i_i_i_i < v_r1_sroa_3_0_copyload_i_i62_i_i_i_i;
-    if (v_r11_i_i_i_i_i_i_i_i_i69_i_i_i_i) { goto L_join_7_i_i_i_i_i_i_i_i_i83_i_i_i_i_preheader; } else { goto L_apart_2_i_i_i_i_i_i_i_i_i70_i_i_i_i; }
-L_join_7_i_i_i_i_i_i_i_i_i83_i_i_i_i_preheader:;
-    v_xtraiter231 = (u64)((u64)(v_r1_sroa_3_0_copyload_i_i62_i_i_i_i) & (u64)(3u));
-    v_51 = v_r1_sroa_3_0_copyload_i_i62_i_i_i_i < 4u;
-    if (v_51) { p_v_r0_04_i_i_i_i_i_i_i_i_i84_i_i_i_i_epil_init = 0u; goto L_join_7_i_i_i_i_i_i_i_i_i83_i_i_i_i_epil_preheader; } else { goto L_join_7_i_i_i_i_i_i_i_i_i83_i_i_i_i_preheader_new; }
-L_join_7_i_i_i_i_i_i_i_i_i83_i_i_i_i_preheader_new:;
-    v_unroll_iter235 = (u64)((u64)(v_r1_sroa_3_0_copyload_i_i62_i_i_i_i) & (u64)(4294967292ull));
-    { p_v_r0_04_i_i_i_i_i_i_i_i_i84_i_i_i_i = 0u; p_v_niter236 = 0u; goto L_join_7_i_i_i_i_i_i_i_i_i83_i_i_i_i; }
-L_apart_2_i_i_i_i_i_i_i_i_i70_i_i_i_i:;
-    move(v_r26_i_i_i65_i_i_i_i, v_r1_sroa_0_0_copyload_i_i60_i_i_i_i, v_r1_sroa_3_0_copyload_i_i62_i_i_i_i);
-    { goto L_der_core_back_writer_BackWriter_prepend_exit_i_i71; }
-L_join_7_i_i_i_i_i_i_i_i_i83_i_i_i_i:;
-    v_r0_04_i_i_i_i_i_i_i_i_i84_i_i_i_i = p_v_r0_04_i_i_i_i_i_i_i_i_i84_i_i_i_i;
+    v_r17_i_i_i62_i_i_i_i = (u64)((u64)(v_r7_sroa_130_21_i_i_i) - (u64)(v_r1_sroa_3_0_copyload_i_i61_i_i_i_i));
+    v_r26_i_i_i64_i_i_i_i = (P)((uintptr_t)v_r13 + (u64)(v_r17_i_i_i62_i_i_i_i));
+    v_r8_i_i_i_i_i_i_i_i_i65_i_i_i_i = (u64)((uintptr_t)v_r26_i_i_i64_i_i_i_i);
+    v_r9_i_i_i_i_i_i_i_i_i66_i_i_i_i = (u64)((uintptr_t)v_r1_sroa_0_0_copyload_i_i59_i_i_i_i);
+    v_r10_i_i_i_i_i_i_i_i_i67_i_i_i_i = (u64)((u64)(v_r8_i_i_i_i_i_i_i_i_i65_i_i_i_i) - (u64)(v_r9_i_i_i_i_i_i_i_i_i66_i_i_i_i));
+    v_r11_i_i_i_i_i_i_i_i_i68_i_i_i_i = v_r10_i_i_i_i_i_i_i_i_i67_i_i_i_i < v_r1_sroa_3_0_copyload_i_i61_i_i_i_i;
+    if (v_r11_i_i_i_i_i_i_i_i_i68_i_i_i_i) { goto L_join_7_i_i_i_i_i_i_i_i_i82_i_i_i_i_preheader; } else { goto L_apart_2_i_i_i_i_i_i_i_i_i69_i_i_i_i; }
+L_join_7_i_i_i_i_i_i_i_i_i82_i_i_i_i_preheader:;
+    v_xtraiter231 = (u64)((u64)(v_r1_sroa_3_0_copyload_i_i61_i_i_i_i) & (u64)(3u));
+    v_51 = v_r1_sroa_3_0_copyload_i_i61_i_i_i_i < 4u;
+    if (v_51) { p_v_r0_04_i_i_i_i_i_i_i_i_i83_i_i_i_i_epil_init = 0u; goto L_join_7_i_i_i_i_i_i_i_i_i82_i_i_i_i_epil_preheader; } else { goto L_join_7_i_i_i_i_i_i_i_i_i82_i_i_i_i_preheader_new; }
+L_join_7_i_i_i_i_i_i_i_i_i82_i_i_i_i_preheader_new:;
+    v_unroll_iter235 = (u64)((u64)(v_r1_sroa_3_0_copyload_i_i61_i_i_i_i) & (u64)(4294967292ull));
+    { p_v_r0_04_i_i_i_i_i_i_i_i_i83_i_i_i_i = 0u; p_v_niter236 = 0u; goto L_join_7_i_i_i_i_i_i_i_i_i82_i_i_i_i; }
+L_apart_2_i_i_i_i_i_i_i_i_i69_i_i_i_i:;
+    move(v_r26_i_i_i64_i_i_i_i, v_r1_sroa_0_0_copyload_i_i59_i_i_i_i, v_r1_sroa_3_0_copyload_i_i61_i_i_i_i);
+    { goto L_der_core_back_writer_BackWriter_prepend_exit_i_i70; }
+L_join_7_i_i_i_i_i_i_i_i_i82_i_i_i_i:;
+    v_r0_04_i_i_i_i_i_i_i_i_i83_i_i_i_i = p_v_r0_04_i_i_i_i_i_i_i_i_i83_i_i_i_i;
     v_niter236 = p_v_niter236;
-    v_r20_i_i_i_i_i_i_i_i_i85_i_i_i_i = v_r26_i_i_i65_i_i_i_i + (int64_t)(v_r0_04_i_i_i_i_i_i_i_i_i84_i_i_i_i);
-    v_r24_i_i_i_i_i_i_i_i_i86_i_i_i_i = v_r1_sroa_0_0_copyload_i_i60_i_i_i_i + (int64_t)(v_r0_04_i_i_i_i_i_i_i_i_i84_i_i_i_i);
-    v_r26_i_i_i_i_i_i_i_i_i87_i_i_i_i = get_u8(v_r24_i_i_i_i_i_i_i_i_i86_i_i_i_i);
-    put_u8(v_r20_i_i_i_i_i_i_i_i_i85_i_i_i_i, v_r26_i_i_i_i_i_i_i_i_i87_i_i_i_i);
-    v_r30_i_i_i_i_i_i_i_i_i88_i_i_i_i = (u64)((u64)(v_r0_04_i_i_i_i_i_i_i_i_i84_i_i_i_i) | (u64)(1u));
-    v_r20_i_i_i_i_i_i_i_i_i85_i_i_i_i_1 = v_r26_i_i_i65_i_i_i_i + (int64_t)(v_r30_i_i_i_i_i_i_i_i_i88_i_i_i_i);
-    v_r24_i_i_i_i_i_i_i_i_i86_i_i_i_i_1 = v_r1_sroa_0_0_copyload_i_i60_i_i_i_i + (int64_t)(v_r30_i_i_i_i_i_i_i_i_i88_i_i_i_i);
-    v_r26_i_i_i_i_i_i_i_i_i87_i_i_i_i_1 = get_u8(v_r24_i_i_i_i_i_i_i_i_i86_i_i_i_i_1);
-    put_u8(v_r20_i_i_i_i_i_i_i_i_i85_i_i_i_i_1, v_r26_i_i_i_i_i_i_i_i_i87_i_i_i_i_1);
-    v_r30_i_i_i_i_i_i_i_i_i88_i_i_i_i_1 = (u64)((u64)(v_r0_04_i_i_i_i_i_i_i_i_i84_i_i_i_i) | (u64)(2u));
-    v_r20_i_i_i_i_i_i_i_i_i85_i_i_i_i_2 = v_r26_i_i_i65_i_i_i_i + (int64_t)(v_r30_i_i_i_i_i_i_i_i_i88_i_i_i_i_1);
-    v_r24_i_i_i_i_i_i_i_i_i86_i_i_i_i_2 = v_r1_sroa_0_0_copyload_i_i60_i_i_i_i + (int64_t)(v_r30_i_i_i_i_i_i_i_i_i88_i_i_i_i_1);
-    v_r26_i_i_i_i_i_i_i_i_i87_i_i_i_i_2 = get_u8(v_r24_i_i_i_i_i_i_i_i_i86_i_i_i_i_2);
-    put_u8(v_r20_i_i_i_i_i_i_i_i_i85_i_i_i_i_2, v_r26_i_i_i_i_i_i_i_i_i87_i_i_i_i_2);
-    v_r30_i_i_i_i_i_i_i_i_i88_i_i_i_i_2 = (u64)((u64)(v_r0_04_i_i_i_i_i_i_i_i_i84_i_i_i_i) | (u64)(3u));
-    v_r20_i_i_i_i_i_i_i_i_i85_i_i_i_i_3 = v_r26_i_i_i65_i_i_i_i + (int64_t)(v_r30_i_i_i_i_i_i_i_i_i88_i_i_i_i_2);
-    v_r24_i_i_i_i_i_i_i_i_i86_i_i_i_i_3 = v_r1_sroa_0_0_copyload_i_i60_i_i_i_i + (int64_t)(v_r30_i_i_i_i_i_i_i_i_i88_i_i_i_i_2);
-    v_r26_i_i_i_i_i_i_i_i_i87_i_i_i_i_3 = get_u8(v_r24_i_i_i_i_i_i_i_i_i86_i_i_i_i_3);
-    put_u8(v_r20_i_i_i_i_i_i_i_i_i85_i_i_i_i_3, v_r26_i_i_i_i_i_i_i_i_i87_i_i_i_i_3);
-    v_r30_i_i_i_i_i_i_i_i_i88_i_i_i_i_3 = (u64)((u64)(v_r0_04_i_i_i_i_i_i_i_i_i84_i_i_i_i) + (u64)(4u));
+    v_r20_i_i_i_i_i_i_i_i_i84_i_i_i_i = v_r26_i_i_i64_i_i_i_i + (int64_t)(v_r0_04_i_i_i_i_i_i_i_i_i83_i_i_i_i);
+    v_r24_i_i_i_i_i_i_i_i_i85_i_i_i_i = v_r1_sroa_0_0_copyload_i_i59_i_i_i_i + (int64_t)(v_r0_04_i_i_i_i_i_i_i_i_i83_i_i_i_i);
+    v_r26_i_i_i_i_i_i_i_i_i86_i_i_i_i = get_u8(v_r24_i_i_i_i_i_i_i_i_i85_i_i_i_i);
+    put_u8(v_r20_i_i_i_i_i_i_i_i_i84_i_i_i_i, v_r26_i_i_i_i_i_i_i_i_i86_i_i_i_i);
+    v_r30_i_i_i_i_i_i_i_i_i87_i_i_i_i = (u64)((u64)(v_r0_04_i_i_i_i_i_i_i_i_i83_i_i_i_i) | (u64)(1u));
+    v_r20_i_i_i_i_i_i_i_i_i84_i_i_i_i_1 = v_r26_i_i_i64_i_i_i_i + (int64_t)(v_r30_i_i_i_i_i_i_i_i_i87_i_i_i_i);
+    v_r24_i_i_i_i_i_i_i_i_i85_i_i_i_i_1 = v_r1_sroa_0_0_copyload_i_i59_i_i_i_i + (int64_t)(v_r30_i_i_i_i_i_i_i_i_i87_i_i_i_i);
+    v_r26_i_i_i_i_i_i_i_i_i86_i_i_i_i_1 = get_u8(v_r24_i_i_i_i_i_i_i_i_i85_i_i_i_i_1);
+    put_u8(v_r20_i_i_i_i_i_i_i_i_i84_i_i_i_i_1, v_r26_i_i_i_i_i_i_i_i_i86_i_i_i_i_1);
+    v_r30_i_i_i_i_i_i_i_i_i87_i_i_i_i_1 = (u64)((u64)(v_r0_04_i_i_i_i_i_i_i_i_i83_i_i_i_i) | (u64)(2u));
+    v_r20_i_i_i_i_i_i_i_i_i84_i_i_i_i_2 = v_r26_i_i_i64_i_i_i_i + (int64_t)(v_r30_i_i_i_i_i_i_i_i_i87_i_i_i_i_1);
+    v_r24_i_i_i_i_i_i_i_i_i85_i_i_i_i_2 = v_r1_sroa_0_0_copyload_i_i59_i_i_i_i + (int64_t)(v_r30_i_i_i_i_i_i_i_i_i87_i_i_i_i_1);
+    v_r26_i_i_i_i_i_i_i_i_i86_i_i_i_i_2 = get_u8(v_r24_i_i_i_i_i_i_i_i_i85_i_i_i_i_2);
+    put_u8(v_r20_i_i_i_i_i_i_i_i_i84_i_i_i_i_2, v_r26_i_i_i_i_i_i_i_i_i86_i_i_i_i_2);
+    v_r30_i_i_i_i_i_i_i_i_i87_i_i_i_i_2 = (u64)((u64)(v_r0_04_i_i_i_i_i_i_i_i_i83_i_i_i_i) | (u64)(3u));
+    v_r20_i_i_i_i_i_i_i_i_i84_i_i_i_i_3 = v_r26_i_i_i64_i_i_i_i + (int64_t)(v_r30_i_i_i_i_i_i_i_i_i87_i_i_i_i_2);
+    v_r24_i_i_i_i_i_i_i_i_i85_i_i_i_i_3 = v_r1_sroa_0_0_copyload_i_i59_i_i_i_i + (int64_t)(v_r30_i_i_i_i_i_i_i_i_i87_i_i_i_i_2);
+    v_r26_i_i_i_i_i_i_i_i_i86_i_i_i_i_3 = get_u8(v_r24_i_i_i_i_i_i_i_i_i85_i_i_i_i_3);
+    put_u8(v_r20_i_i_i_i_i_i_i_i_i84_i_i_i_i_3, v_r26_i_i_i_i_i_i_i_i_i86_i_i_i_i_3);
+    v_r30_i_i_i_i_i_i_i_i_i87_i_i_i_i_3 = (u64)((u64)(v_r0_04_i_i_i_i_i_i_i_i_i83_i_i_i_i) + (u64)(4u));
     v_niter236_next_3 = (u64)((u64)(v_niter236) + (u64)(4u));
     v_niter236_ncmp_3 = v_niter236_next_3 == v_unroll_iter235;
-    if (v_niter236_ncmp_3) { goto L_der_core_back_writer_BackWriter_prepend_exit_i_i71__2; } else { p_v_r0_04_i_i_i_i_i_i_i_i_i84_i_i_i_i = v_r30_i_i_i_i_i_i_i_i_i88_i_i_i_i_3; p_v_niter236 = v_niter236_next_3; goto L_join_7_i_i_i_i_i_i_i_i_i83_i_i_i_i; }
-L_der_core_back_writer_BackWriter_prepend_exit_i_i71__2:;
+    if (v_niter236_ncmp_3) { goto L_der_core_back_writer_BackWriter_prepend_exit_i_i70__2; } else { p_v_r0_04_i_i_i_i_i_i_i_i_i83_i_i_i_i = v_r30_i_i_i_i_i_i_i_i_i87_i_i_i_i_3; p_v_niter236 = v_niter236_next_3; goto L_join_7_i_i_i_i_i_i_i_i_i82_i_i_i_i; }
+L_der_core_back_writer_BackWriter_prepend_exit_i_i70__2:;
     v_lcmp_mod233_not = v_xtraiter231 == 0u;
-    if (v_lcmp_mod233_not) { goto L_der_core_back_writer_BackWriter_prepend_exit_i_i71; } else { p_v_r0_04_i_i_i_i_i_i_i_i_i84_i_i_i_i_epil_init = v_r30_i_i_i_i_i_i_i_i_i88_i_i_i_i_3; goto L_join_7_i_i_i_i_i_i_i_i_i83_i_i_i_i_epil_preheader; }
-L_join_7_i_i_i_i_i_i_i_i_i83_i_i_i_i_epil_preheader:;
-    v_r0_04_i_i_i_i_i_i_i_i_i84_i_i_i_i_epil_init = p_v_r0_04_i_i_i_i_i_i_i_i_i84_i_i_i_i_epil_init;
-    { p_v_r0_04_i_i_i_i_i_i_i_i_i84_i_i_i_i_epil = v_r0_04_i_i_i_i_i_i_i_i_i84_i_i_i_i_epil_init; p_v_epil_iter232 = 0u; goto L_join_7_i_i_i_i_i_i_i_i_i83_i_i_i_i_epil; }
-L_join_7_i_i_i_i_i_i_i_i_i83_i_i_i_i_epil:;
-    v_r0_04_i_i_i_i_i_i_i_i_i84_i_i_i_i_epil = p_v_r0_04_i_i_i_i_i_i_i_i_i84_i_i_i_i_epil;
+    if (v_lcmp_mod233_not) { goto L_der_core_back_writer_BackWriter_prepend_exit_i_i70; } else { p_v_r0_04_i_i_i_i_i_i_i_i_i83_i_i_i_i_epil_init = v_r30_i_i_i_i_i_i_i_i_i87_i_i_i_i_3; goto L_join_7_i_i_i_i_i_i_i_i_i82_i_i_i_i_epil_preheader; }
+L_join_7_i_i_i_i_i_i_i_i_i82_i_i_i_i_epil_preheader:;
+    v_r0_04_i_i_i_i_i_i_i_i_i83_i_i_i_i_epil_init = p_v_r0_04_i_i_i_i_i_i_i_i_i83_i_i_i_i_epil_init;
+    { p_v_r0_04_i_i_i_i_i_i_i_i_i83_i_i_i_i_epil = v_r0_04_i_i_i_i_i_i_i_i_i83_i_i_i_i_epil_init; p_v_epil_iter232 = 0u; goto L_join_7_i_i_i_i_i_i_i_i_i82_i_i_i_i_epil; }
+L_join_7_i_i_i_i_i_i_i_i_i82_i_i_i_i_epil:;
+    v_r0_04_i_i_i_i_i_i_i_i_i83_i_i_i_i_epil = p_v_r0_04_i_i_i_i_i_i_i_i_i83_i_i_i_i_epil;
     v_epil_iter232 = p_v_epil_iter232;
-    v_r20_i_i_i_i_i_i_i_i_i85_i_i_i_i_epil = v_r26_i_i_i65_i_i_i_i + (int64_t)(v_r0_04_i_i_i_i_i_i_i_i_i84_i_i_i_i_epil);
-    v_r24_i_i_i_i_i_i_i_i_i86_i_i_i_i_epil = v_r1_sroa_0_0_copyload_i_i60_i_i_i_i + (int64_t)(v_r0_04_i_i_i_i_i_i_i_i_i84_i_i_i_i_epil);
-    v_r26_i_i_i_i_i_i_i_i_i87_i_i_i_i_epil = get_u8(v_r24_i_i_i_i_i_i_i_i_i86_i_i_i_i_epil);
-    put_u8(v_r20_i_i_i_i_i_i_i_i_i85_i_i_i_i_epil, v_r26_i_i_i_i_i_i_i_i_i87_i_i_i_i_epil);
-    v_r30_i_i_i_i_i_i_i_i_i88_i_i_i_i_epil = (u64)((u64)(v_r0_04_i_i_i_i_i_i_i_i_i84_i_i_i_i_epil) + (u64)(1u));
+    v_r20_i_i_i_i_i_i_i_i_i84_i_i_i_i_epil = v_r26_i_i_i64_i_i_i_i + (int64_t)(v_r0_04_i_i_i_i_i_i_i_i_i83_i_i_i_i_epil);
+    v_r24_i_i_i_i_i_i_i_i_i85_i_i_i_i_epil = v_r1_sroa_0_0_copyload_i_i59_i_i_i_i + (int64_t)(v_r0_04_i_i_i_i_i_i_i_i_i83_i_i_i_i_epil);
+    v_r26_i_i_i_i_i_i_i_i_i86_i_i_i_i_epil = get_u8(v_r24_i_i_i_i_i_i_i_i_i85_i_i_i_i_epil);
+    put_u8(v_r20_i_i_i_i_i_i_i_i_i84_i_i_i_i_epil, v_r26_i_i_i_i_i_i_i_i_i86_i_i_i_i_epil);
+    v_r30_i_i_i_i_i_i_i_i_i87_i_i_i_i_epil = (u64)((u64)(v_r0_04_i_i_i_i_i_i_i_i_i83_i_i_i_i_epil) + (u64)(1u));
     v_epil_iter232_next = (u64)((u64)(v_epil_iter232) + (u64)(1u));
     v_epil_iter232_cmp_not = v_epil_iter232_next == v_xtraiter231;
-    if (v_epil_iter232_cmp_not) { goto L_der_core_back_writer_BackWriter_prepend_exit_i_i71; } else { p_v_r0_04_i_i_i_i_i_i_i_i_i84_i_i_i_i_epil = v_r30_i_i_i_i_i_i_i_i_i88_i_i_i_i_epil; p_v_epil_iter232 = v_epil_iter232_next; goto L_join_7_i_i_i_i_i_i_i_i_i83_i_i_i_i_epil; }
-L_der_core_back_writer_BackWriter_prepend_exit_i_i71:;
-    v_r15_not_i_i74_i_i_i_i = (u8)(v_r20_i366_i ^ ((u8)1 << 7)) > (u8)(255u ^ ((u8)1 << 7));
-    if (v_r15_not_i_i74_i_i_i_i) { p_v_r7_sroa_130_3_i_i_i = v_r17_i_i_i63_i_i_i_i; goto L_der_core_borrowed_BorrowedEncode_prepend_f4fc96f16__5; } else { goto L_then_1_i_i75_i_i_i_i; }
-L_then_1_i_i75_i_i_i_i:;
-    v_r17_i3_i_i76_i_i_i_i = (u64)((u64)(v_r17_i_i_i63_i_i_i_i) + (u64)(18446744073709551615ull));
-    v_r26_i5_i_i78_i_i_i_i = (P)((uintptr_t)v_r13 + (u64)(v_r17_i3_i_i76_i_i_i_i));
-    put_u8(v_r26_i5_i_i78_i_i_i_i, 0u);
-    { p_v_r7_sroa_130_3_i_i_i = v_r17_i3_i_i76_i_i_i_i; goto L_der_core_borrowed_BorrowedEncode_prepend_f4fc96f16__5; }
+    if (v_epil_iter232_cmp_not) { goto L_der_core_back_writer_BackWriter_prepend_exit_i_i70; } else { p_v_r0_04_i_i_i_i_i_i_i_i_i83_i_i_i_i_epil = v_r30_i_i_i_i_i_i_i_i_i87_i_i_i_i_epil; p_v_epil_iter232 = v_epil_iter232_next; goto L_join_7_i_i_i_i_i_i_i_i_i82_i_i_i_i_epil; }
+L_der_core_back_writer_BackWriter_prepend_exit_i_i70:;
+    v_r15_not_i_i73_i_i_i_i = (u8)(v_r20_i366_i ^ ((u8)1 << 7)) > (u8)(255u ^ ((u8)1 << 7));
+    if (v_r15_not_i_i73_i_i_i_i) { p_v_r7_sroa_130_3_i_i_i = v_r17_i_i_i62_i_i_i_i; goto L_der_core_borrowed_BorrowedEncode_prepend_f4fc96f16__5; } else { goto L_then_1_i_i74_i_i_i_i; }
+L_then_1_i_i74_i_i_i_i:;
+    v_r17_i3_i_i75_i_i_i_i = (u64)((u64)(v_r17_i_i_i62_i_i_i_i) + (u64)(18446744073709551615ull));
+    v_r26_i5_i_i77_i_i_i_i = (P)((uintptr_t)v_r13 + (u64)(v_r17_i3_i_i75_i_i_i_i));
+    put_u8(v_r26_i5_i_i77_i_i_i_i, 0u);
+    { p_v_r7_sroa_130_3_i_i_i = v_r17_i3_i_i75_i_i_i_i; goto L_der_core_borrowed_BorrowedEncode_prepend_f4fc96f16__5; }
 L_der_core_borrowed_BorrowedEncode_prepend_f4fc96f16__5:;
     v_r7_sroa_130_3_i_i_i = p_v_r7_sroa_130_3_i_i_i;
     v_52 = (u64)((u64)(v_r7_sroa_130_3_i_i_i) + (u64)(v_r3_i8_i_i_i));
     v_53 = (u64)((u64)(v_r7_sroa_130_21_i_i_i) - (u64)(v_52));
     v_54 = (u32)(v_53);
-    v_r2_i_i82_i_i_i_i = (u32)((u32)(v_r1_sroa_9_4_copyload_i_i_i_i) + (u32)(v_54));
-    v_r59_i481_i_i_i = v_r2_i_i82_i_i_i_i < 128u;
+    v_r2_i_i81_i_i_i_i = (u32)((u32)(v_r1_sroa_9_4_copyload_i_i_i_i) + (u32)(v_54));
+    v_r59_i481_i_i_i = v_r2_i_i81_i_i_i_i < 128u;
     if (v_r59_i481_i_i_i) { goto L_then_1_i542_i_i_i; } else { goto L_else_2_i482_i_i_i; }
 L_then_1_i542_i_i_i:;
-    v_r64_i543_i_i_i = (u16)(v_r2_i_i82_i_i_i_i);
+    v_r64_i543_i_i_i = (u16)(v_r2_i_i81_i_i_i_i);
     v_r17_i_i547_i_i_i = (u64)((u64)(v_r7_sroa_130_3_i_i_i) + (u64)(18446744073709551614ull));
     v_r26_i_i549_i_i_i = (P)((uintptr_t)v_r13 + (u64)(v_r17_i_i547_i_i_i));
     v_r8_i476_sroa_4_0_insert_shift_i_i_i = (u16)((u32)(v_r64_i543_i_i_i) << (u32)((8u & 31)));
@@ -38216,10 +38227,10 @@ L_then_1_i542_i_i_i:;
     put_u16(v_r26_i_i549_i_i_i, v_r8_i476_sroa_0_0_insert_insert_i_i_i);
     { p_v_r7_sroa_130_20_i_i_i = v_r17_i_i547_i_i_i; goto L_der_core_back_writer_BackWriter_prepend_header_exi__7; }
 L_else_2_i482_i_i_i:;
-    v_r75_i483_i_i_i = v_r2_i_i82_i_i_i_i < 256u;
+    v_r75_i483_i_i_i = v_r2_i_i81_i_i_i_i < 256u;
     if (v_r75_i483_i_i_i) { goto L_then_4_i533_i_i_i; } else { goto L_else_5_i484_i_i_i; }
 L_then_4_i533_i_i_i:;
-    v_r80_i534_i_i_i = (u8)(v_r2_i_i82_i_i_i_i);
+    v_r80_i534_i_i_i = (u8)(v_r2_i_i81_i_i_i_i);
     v_r17_i28_i539_i_i_i = (u64)((u64)(v_r7_sroa_130_3_i_i_i) + (u64)(18446744073709551613ull));
     v_r26_i30_i541_i_i_i = (P)((uintptr_t)v_r13 + (u64)(v_r17_i28_i539_i_i_i));
     put_u8(v_r26_i30_i541_i_i_i, 2u);
@@ -38229,24 +38240,24 @@ L_then_4_i533_i_i_i:;
     put_u8(v_r14_i477_sroa_5_0_r26_i30_i541_sroa_idx_i_i_i, v_r80_i534_i_i_i);
     { p_v_r7_sroa_130_20_i_i_i = v_r17_i28_i539_i_i_i; goto L_der_core_back_writer_BackWriter_prepend_header_exi__7; }
 L_else_5_i484_i_i_i:;
-    v_r92_i485_i_i_i = v_r2_i_i82_i_i_i_i < 65536u;
+    v_r92_i485_i_i_i = v_r2_i_i81_i_i_i_i < 65536u;
     if (v_r92_i485_i_i_i) { goto L_then_7_i521_i_i_i; } else { goto L_else_8_i486_i_i_i; }
 L_then_7_i521_i_i_i:;
     v_r17_i46_i529_i_i_i = (u64)((u64)(v_r7_sroa_130_3_i_i_i) + (u64)(18446744073709551612ull));
     v_r26_i48_i531_i_i_i = (P)((uintptr_t)v_r13 + (u64)(v_r17_i46_i529_i_i_i));
-    v_55 = (u32)((u32)(v_r2_i_i82_i_i_i_i) | (u32)(42074112u));
+    v_55 = (u32)((u32)(v_r2_i_i81_i_i_i_i) | (u32)(42074112u));
     v_r20_i478_sroa_0_0_insert_insert_i_i_i = __builtin_bswap32(v_55);
     put_u32(v_r26_i48_i531_i_i_i, v_r20_i478_sroa_0_0_insert_insert_i_i_i);
     { p_v_r7_sroa_130_20_i_i_i = v_r17_i46_i529_i_i_i; goto L_der_core_back_writer_BackWriter_prepend_header_exi__7; }
 L_else_8_i486_i_i_i:;
-    v_r117_i487_i_i_i = v_r2_i_i82_i_i_i_i < 16777216u;
+    v_r117_i487_i_i_i = v_r2_i_i81_i_i_i_i < 16777216u;
     if (v_r117_i487_i_i_i) { goto L_then_10_i506_i_i_i; } else { goto L_else_11_i488_i_i_i; }
 L_then_10_i506_i_i_i:;
-    v_r12223_i507_i_i_i = (u32)((u32)(v_r2_i_i82_i_i_i_i) >> (u32)((16u & 31)));
+    v_r12223_i507_i_i_i = (u32)((u32)(v_r2_i_i81_i_i_i_i) >> (u32)((16u & 31)));
     v_r124_i508_i_i_i = (u8)(v_r12223_i507_i_i_i);
-    v_r12624_i509_i_i_i = (u32)((u32)(v_r2_i_i82_i_i_i_i) >> (u32)((8u & 31)));
+    v_r12624_i509_i_i_i = (u32)((u32)(v_r2_i_i81_i_i_i_i) >> (u32)((8u & 31)));
     v_r130_i510_i_i_i = (u8)(v_r12624_i509_i_i_i);
-    v_r134_i511_i_i_i = (u8)(v_r2_i_i82_i_i_i_i);
+    v_r134_i511_i_i_i = (u8)(v_r2_i_i81_i_i_i_i);
     v_r17_i64_i518_i_i_i = (u64)((u64)(v_r7_sroa_130_3_i_i_i) + (u64)(18446744073709551611ull));
     v_r26_i66_i520_i_i_i = (P)((uintptr_t)v_r13 + (u64)(v_r17_i64_i518_i_i_i));
     put_u8(v_r26_i66_i520_i_i_i, 2u);
@@ -38260,13 +38271,13 @@ L_then_10_i506_i_i_i:;
     put_u8(v_r29_i479_sroa_7_0_r26_i66_i520_sroa_idx_i_i_i, v_r134_i511_i_i_i);
     { p_v_r7_sroa_130_20_i_i_i = v_r17_i64_i518_i_i_i; goto L_der_core_back_writer_BackWriter_prepend_header_exi__7; }
 L_else_11_i488_i_i_i:;
-    v_r15020_i489_i_i_i = (u32)((u32)(v_r2_i_i82_i_i_i_i) >> (u32)((24u & 31)));
+    v_r15020_i489_i_i_i = (u32)((u32)(v_r2_i_i81_i_i_i_i) >> (u32)((24u & 31)));
     v_r152_i490_i_i_i = (u8)(v_r15020_i489_i_i_i);
-    v_r15421_i491_i_i_i = (u32)((u32)(v_r2_i_i82_i_i_i_i) >> (u32)((16u & 31)));
+    v_r15421_i491_i_i_i = (u32)((u32)(v_r2_i_i81_i_i_i_i) >> (u32)((16u & 31)));
     v_r158_i492_i_i_i = (u8)(v_r15421_i491_i_i_i);
-    v_r16022_i493_i_i_i = (u32)((u32)(v_r2_i_i82_i_i_i_i) >> (u32)((8u & 31)));
+    v_r16022_i493_i_i_i = (u32)((u32)(v_r2_i_i81_i_i_i_i) >> (u32)((8u & 31)));
     v_r164_i494_i_i_i = (u8)(v_r16022_i493_i_i_i);
-    v_r168_i495_i_i_i = (u8)(v_r2_i_i82_i_i_i_i);
+    v_r168_i495_i_i_i = (u8)(v_r2_i_i81_i_i_i_i);
     v_r17_i82_i503_i_i_i = (u64)((u64)(v_r7_sroa_130_3_i_i_i) + (u64)(18446744073709551610ull));
     v_r26_i84_i505_i_i_i = (P)((uintptr_t)v_r13 + (u64)(v_r17_i82_i503_i_i_i));
     put_u8(v_r26_i84_i505_i_i_i, 2u);
@@ -38283,84 +38294,84 @@ L_else_11_i488_i_i_i:;
     { p_v_r7_sroa_130_20_i_i_i = v_r17_i82_i503_i_i_i; goto L_der_core_back_writer_BackWriter_prepend_header_exi__7; }
 L_der_core_back_writer_BackWriter_prepend_header_exi__7:;
     v_r7_sroa_130_20_i_i_i = p_v_r7_sroa_130_20_i_i_i;
-    v_r17_i_i_i96_i_i_i_i = (u64)((u64)(v_r7_sroa_130_20_i_i_i) - (u64)(v_r1_sroa_3_0_copyload_i_i95_i_i_i_i));
-    v_r26_i_i_i98_i_i_i_i = (P)((uintptr_t)v_r13 + (u64)(v_r17_i_i_i96_i_i_i_i));
-    v_r8_i_i_i_i_i_i_i_i_i99_i_i_i_i = (u64)((uintptr_t)v_r26_i_i_i98_i_i_i_i);
-    v_r9_i_i_i_i_i_i_i_i_i100_i_i_i_i = (u64)((uintptr_t)v_r1_sroa_0_0_copyload_i_i93_i_i_i_i);
-    v_r10_i_i_i_i_i_i_i_i_i101_i_i_i_i = (u64)((u64)(v_r8_i_i_i_i_i_i_i_i_i99_i_i_i_i) - (u64)(v_r9_i_i_i_i_i_i_i_i_i100_i_i_i_i));
-    v_r11_i_i_i_i_i_i_i_i_i102_i_i_i_i = v_r10_i_i_i_i_i_i_i_i_i101_i_i_i_i < v_r1_sroa_3_0_copyload_i_i95_i_i_i_i;
-    if (v_r11_i_i_i_i_i_i_i_i_i102_i_i_i_i) { goto L_join_7_i_i_i_i_i_i_i_i_i116_i_i_i_i_preheader; } else { goto L_apart_2_i_i_i_i_i_i_i_i_i103_i_i_i_i; }
-L_join_7_i_i_i_i_i_i_i_i_i116_i_i_i_i_preheader:;
-    v_xtraiter237 = (u64)((u64)(v_r1_sroa_3_0_copyload_i_i95_i_i_i_i) & (u64)(3u));
-    v_56 = v_r1_sroa_3_0_copyload_i_i95_i_i_i_i < 4u;
-    if (v_56) { p_v_r0_04_i_i_i_i_i_i_i_i_i117_i_i_i_i_epil_init = 0u; goto L_join_7_i_i_i_i_i_i_i_i_i116_i_i_i_i_epil_preheader; } else { goto L_join_7_i_i_i_i_i_i_i_i_i116_i_i_i_i_preheader_new; }
-L_join_7_i_i_i_i_i_i_i_i_i116_i_i_i_i_preheader_new:;
-    v_unroll_iter241 = (u64)((u64)(v_r1_sroa_3_0_copyload_i_i95_i_i_i_i) & (u64)(4294967292ull));
-    { p_v_r0_04_i_i_i_i_i_i_i_i_i117_i_i_i_i = 0u; p_v_niter242 = 0u; goto L_join_7_i_i_i_i_i_i_i_i_i116_i_i_i_i; }
-L_apart_2_i_i_i_i_i_i_i_i_i103_i_i_i_i:;
-    move(v_r26_i_i_i98_i_i_i_i, v_r1_sroa_0_0_copyload_i_i93_i_i_i_i, v_r1_sroa_3_0_copyload_i_i95_i_i_i_i);
+    v_r17_i_i_i95_i_i_i_i = (u64)((u64)(v_r7_sroa_130_20_i_i_i) - (u64)(v_r1_sroa_3_0_copyload_i_i94_i_i_i_i));
+    v_r26_i_i_i97_i_i_i_i = (P)((uintptr_t)v_r13 + (u64)(v_r17_i_i_i95_i_i_i_i));
+    v_r8_i_i_i_i_i_i_i_i_i98_i_i_i_i = (u64)((uintptr_t)v_r26_i_i_i97_i_i_i_i);
+    v_r9_i_i_i_i_i_i_i_i_i99_i_i_i_i = (u64)((uintptr_t)v_r1_sroa_0_0_copyload_i_i92_i_i_i_i);
+    v_r10_i_i_i_i_i_i_i_i_i100_i_i_i_i = (u64)((u64)(v_r8_i_i_i_i_i_i_i_i_i98_i_i_i_i) - (u64)(v_r9_i_i_i_i_i_i_i_i_i99_i_i_i_i));
+    v_r11_i_i_i_i_i_i_i_i_i101_i_i_i_i = v_r10_i_i_i_i_i_i_i_i_i100_i_i_i_i < v_r1_sroa_3_0_copyload_i_i94_i_i_i_i;
+    if (v_r11_i_i_i_i_i_i_i_i_i101_i_i_i_i) { goto L_join_7_i_i_i_i_i_i_i_i_i115_i_i_i_i_preheader; } else { goto L_apart_2_i_i_i_i_i_i_i_i_i102_i_i_i_i; }
+L_join_7_i_i_i_i_i_i_i_i_i115_i_i_i_i_preheader:;
+    v_xtraiter237 = (u64)((u64)(v_r1_sroa_3_0_copyload_i_i94_i_i_i_i) & (u64)(3u));
+    v_56 = v_r1_sroa_3_0_copyload_i_i94_i_i_i_i < 4u;
+    if (v_56) { p_v_r0_04_i_i_i_i_i_i_i_i_i116_i_i_i_i_epil_init = 0u; goto L_join_7_i_i_i_i_i_i_i_i_i115_i_i_i_i_epil_preheader; } else { goto L_join_7_i_i_i_i_i_i_i_i_i115_i_i_i_i_preheader_new; }
+L_join_7_i_i_i_i_i_i_i_i_i115_i_i_i_i_preheader_new:;
+    v_unroll_iter241 = (u64)((u64)(v_r1_sroa_3_0_copyload_i_i94_i_i_i_i) & (u64)(4294967292ull));
+    { p_v_r0_04_i_i_i_i_i_i_i_i_i116_i_i_i_i = 0u; p_v_niter242 = 0u; goto L_join_7_i_i_i_i_i_i_i_i_i115_i_i_i_i; }
+L_apart_2_i_i_i_i_i_i_i_i_i102_i_i_i_i:;
+    move(v_r26_i_i_i97_i_i_i_i, v_r1_sroa_0_0_copyload_i_i92_i_i_i_i, v_r1_sroa_3_0_copyload_i_i94_i_i_i_i);
     { goto L_der_core_back_writer_BackWriter_prepend_exit_i_i10; }
-L_join_7_i_i_i_i_i_i_i_i_i116_i_i_i_i:;
-    v_r0_04_i_i_i_i_i_i_i_i_i117_i_i_i_i = p_v_r0_04_i_i_i_i_i_i_i_i_i117_i_i_i_i;
+L_join_7_i_i_i_i_i_i_i_i_i115_i_i_i_i:;
+    v_r0_04_i_i_i_i_i_i_i_i_i116_i_i_i_i = p_v_r0_04_i_i_i_i_i_i_i_i_i116_i_i_i_i;
     v_niter242 = p_v_niter242;
-    v_r20_i_i_i_i_i_i_i_i_i118_i_i_i_i = v_r26_i_i_i98_i_i_i_i + (int64_t)(v_r0_04_i_i_i_i_i_i_i_i_i117_i_i_i_i);
-    v_r24_i_i_i_i_i_i_i_i_i119_i_i_i_i = v_r1_sroa_0_0_copyload_i_i93_i_i_i_i + (int64_t)(v_r0_04_i_i_i_i_i_i_i_i_i117_i_i_i_i);
-    v_r26_i_i_i_i_i_i_i_i_i120_i_i_i_i = get_u8(v_r24_i_i_i_i_i_i_i_i_i119_i_i_i_i);
-    put_u8(v_r20_i_i_i_i_i_i_i_i_i118_i_i_i_i, v_r26_i_i_i_i_i_i_i_i_i120_i_i_i_i);
-    v_r30_i_i_i_i_i_i_i_i_i121_i_i_i_i = (u64)((u64)(v_r0_04_i_i_i_i_i_i_i_i_i117_i_i_i_i) | (u64)(1u));
-    v_r20_i_i_i_i_i_i_i_i_i118_i_i_i_i_1 = v_r26_i_i_i98_i_i_i_i + (int64_t)(v_r30_i_i_i_i_i_i_i_i_i121_i_i_i_i);
-    v_r24_i_i_i_i_i_i_i_i_i119_i_i_i_i_1 = v_r1_sroa_0_0_copyload_i_i93_i_i_i_i + (int64_t)(v_r30_i_i_i_i_i_i_i_i_i121_i_i_i_i);
-    v_r26_i_i_i_i_i_i_i_i_i120_i_i_i_i_1 = get_u8(v_r24_i_i_i_i_i_i_i_i_i119_i_i_i_i_1);
-    put_u8(v_r20_i_i_i_i_i_i_i_i_i118_i_i_i_i_1, v_r26_i_i_i_i_i_i_i_i_i120_i_i_i_i_1);
-    v_r30_i_i_i_i_i_i_i_i_i121_i_i_i_i_1 = (u64)((u64)(v_r0_04_i_i_i_i_i_i_i_i_i117_i_i_i_i) | (u64)(2u));
-    v_r20_i_i_i_i_i_i_i_i_i118_i_i_i_i_2 = v_r26_i_i_i98_i_i_i_i + (int64_t)(v_r30_i_i_i_i_i_i_i_i_i121_i_i_i_i_1);
-    v_r24_i_i_i_i_i_i_i_i_i119_i_i_i_i_2 = v_r1_sroa_0_0_copyload_i_i93_i_i_i_i + (int64_t)(v_r30_i_i_i_i_i_i_i_i_i121_i_i_i_i_1);
-    v_r26_i_i_i_i_i_i_i_i_i120_i_i_i_i_2 = get_u8(v_r24_i_i_i_i_i_i_i_i_i119_i_i_i_i_2);
-    put_u8(v_r20_i_i_i_i_i_i_i_i_i118_i_i_i_i_2, v_r26_i_i_i_i_i_i_i_i_i120_i_i_i_i_2);
-    v_r30_i_i_i_i_i_i_i_i_i121_i_i_i_i_2 = (u64)((u64)(v_r0_04_i_i_i_i_i_i_i_i_i117_i_i_i_i) | (u64)(3u));
-    v_r20_i_i_i_i_i_i_i_i_i118_i_i_i_i_3 = v_r26_i_i_i98_i_i_i_i + (int64_t)(v_r30_i_i_i_i_i_i_i_i_i121_i_i_i_i_2);
-    v_r24_i_i_i_i_i_i_i_i_i119_i_i_i_i_3 = v_r1_sroa_0_0_copyload_i_i93_i_i_i_i + (int64_t)(v_r30_i_i_i_i_i_i_i_i_i121_i_i_i_i_2);
-    v_r26_i_i_i_i_i_i_i_i_i120_i_i_i_i_3 = get_u8(v_r24_i_i_i_i_i_i_i_i_i119_i_i_i_i_3);
-    put_u8(v_r20_i_i_i_i_i_i_i_i_i118_i_i_i_i_3, v_r26_i_i_i_i_i_i_i_i_i120_i_i_i_i_3);
-    v_r30_i_i_i_i_i_i_i_i_i121_i_i_i_i_3 = (u64)((u64)(v_r0_04_i_i_i_i_i_i_i_i_i117_i_i_i_i) + (u64)(4u));
+    v_r20_i_i_i_i_i_i_i_i_i117_i_i_i_i = v_r26_i_i_i97_i_i_i_i + (int64_t)(v_r0_04_i_i_i_i_i_i_i_i_i116_i_i_i_i);
+    v_r24_i_i_i_i_i_i_i_i_i118_i_i_i_i = v_r1_sroa_0_0_copyload_i_i92_i_i_i_i + (int64_t)(v_r0_04_i_i_i_i_i_i_i_i_i116_i_i_i_i);
+    v_r26_i_i_i_i_i_i_i_i_i119_i_i_i_i = get_u8(v_r24_i_i_i_i_i_i_i_i_i118_i_i_i_i);
+    put_u8(v_r20_i_i_i_i_i_i_i_i_i117_i_i_i_i, v_r26_i_i_i_i_i_i_i_i_i119_i_i_i_i);
+    v_r30_i_i_i_i_i_i_i_i_i120_i_i_i_i = (u64)((u64)(v_r0_04_i_i_i_i_i_i_i_i_i116_i_i_i_i) | (u64)(1u));
+    v_r20_i_i_i_i_i_i_i_i_i117_i_i_i_i_1 = v_r26_i_i_i97_i_i_i_i + (int64_t)(v_r30_i_i_i_i_i_i_i_i_i120_i_i_i_i);
+    v_r24_i_i_i_i_i_i_i_i_i118_i_i_i_i_1 = v_r1_sroa_0_0_copyload_i_i92_i_i_i_i + (int64_t)(v_r30_i_i_i_i_i_i_i_i_i120_i_i_i_i);
+    v_r26_i_i_i_i_i_i_i_i_i119_i_i_i_i_1 = get_u8(v_r24_i_i_i_i_i_i_i_i_i118_i_i_i_i_1);
+    put_u8(v_r20_i_i_i_i_i_i_i_i_i117_i_i_i_i_1, v_r26_i_i_i_i_i_i_i_i_i119_i_i_i_i_1);
+    v_r30_i_i_i_i_i_i_i_i_i120_i_i_i_i_1 = (u64)((u64)(v_r0_04_i_i_i_i_i_i_i_i_i116_i_i_i_i) | (u64)(2u));
+    v_r20_i_i_i_i_i_i_i_i_i117_i_i_i_i_2 = v_r26_i_i_i97_i_i_i_i + (int64_t)(v_r30_i_i_i_i_i_i_i_i_i120_i_i_i_i_1);
+    v_r24_i_i_i_i_i_i_i_i_i118_i_i_i_i_2 = v_r1_sroa_0_0_copyload_i_i92_i_i_i_i + (int64_t)(v_r30_i_i_i_i_i_i_i_i_i120_i_i_i_i_1);
+    v_r26_i_i_i_i_i_i_i_i_i119_i_i_i_i_2 = get_u8(v_r24_i_i_i_i_i_i_i_i_i118_i_i_i_i_2);
+    put_u8(v_r20_i_i_i_i_i_i_i_i_i117_i_i_i_i_2, v_r26_i_i_i_i_i_i_i_i_i119_i_i_i_i_2);
+    v_r30_i_i_i_i_i_i_i_i_i120_i_i_i_i_2 = (u64)((u64)(v_r0_04_i_i_i_i_i_i_i_i_i116_i_i_i_i) | (u64)(3u));
+    v_r20_i_i_i_i_i_i_i_i_i117_i_i_i_i_3 = v_r26_i_i_i97_i_i_i_i + (int64_t)(v_r30_i_i_i_i_i_i_i_i_i120_i_i_i_i_2);
+    v_r24_i_i_i_i_i_i_i_i_i118_i_i_i_i_3 = v_r1_sroa_0_0_copyload_i_i92_i_i_i_i + (int64_t)(v_r30_i_i_i_i_i_i_i_i_i120_i_i_i_i_2);
+    v_r26_i_i_i_i_i_i_i_i_i119_i_i_i_i_3 = get_u8(v_r24_i_i_i_i_i_i_i_i_i118_i_i_i_i_3);
+    put_u8(v_r20_i_i_i_i_i_i_i_i_i117_i_i_i_i_3, v_r26_i_i_i_i_i_i_i_i_i119_i_i_i_i_3);
+    v_r30_i_i_i_i_i_i_i_i_i120_i_i_i_i_3 = (u64)((u64)(v_r0_04_i_i_i_i_i_i_i_i_i116_i_i_i_i) + (u64)(4u));
     v_niter242_next_3 = (u64)((u64)(v_niter242) + (u64)(4u));
     v_niter242_ncmp_3 = v_niter242_next_3 == v_unroll_iter241;
-    if (v_niter242_ncmp_3) { goto L_der_core_back_writer_BackWriter_prepend_exit_i_i10__2; } else { p_v_r0_04_i_i_i_i_i_i_i_i_i117_i_i_i_i = v_r30_i_i_i_i_i_i_i_i_i121_i_i_i_i_3; p_v_niter242 = v_niter242_next_3; goto L_join_7_i_i_i_i_i_i_i_i_i116_i_i_i_i; }
+    if (v_niter242_ncmp_3) { goto L_der_core_back_writer_BackWriter_prepend_exit_i_i10__2; } else { p_v_r0_04_i_i_i_i_i_i_i_i_i116_i_i_i_i = v_r30_i_i_i_i_i_i_i_i_i120_i_i_i_i_3; p_v_niter242 = v_niter242_next_3; goto L_join_7_i_i_i_i_i_i_i_i_i115_i_i_i_i; }
 L_der_core_back_writer_BackWriter_prepend_exit_i_i10__2:;
     v_lcmp_mod239_not = v_xtraiter237 == 0u;
-    if (v_lcmp_mod239_not) { goto L_der_core_back_writer_BackWriter_prepend_exit_i_i10; } else { p_v_r0_04_i_i_i_i_i_i_i_i_i117_i_i_i_i_epil_init = v_r30_i_i_i_i_i_i_i_i_i121_i_i_i_i_3; goto L_join_7_i_i_i_i_i_i_i_i_i116_i_i_i_i_epil_preheader; }
-L_join_7_i_i_i_i_i_i_i_i_i116_i_i_i_i_epil_preheader:;
-    v_r0_04_i_i_i_i_i_i_i_i_i117_i_i_i_i_epil_init = p_v_r0_04_i_i_i_i_i_i_i_i_i117_i_i_i_i_epil_init;
-    { p_v_r0_04_i_i_i_i_i_i_i_i_i117_i_i_i_i_epil = v_r0_04_i_i_i_i_i_i_i_i_i117_i_i_i_i_epil_init; p_v_epil_iter238 = 0u; goto L_join_7_i_i_i_i_i_i_i_i_i116_i_i_i_i_epil; }
-L_join_7_i_i_i_i_i_i_i_i_i116_i_i_i_i_epil:;
-    v_r0_04_i_i_i_i_i_i_i_i_i117_i_i_i_i_epil = p_v_r0_04_i_i_i_i_i_i_i_i_i117_i_i_i_i_epil;
+    if (v_lcmp_mod239_not) { goto L_der_core_back_writer_BackWriter_prepend_exit_i_i10; } else { p_v_r0_04_i_i_i_i_i_i_i_i_i116_i_i_i_i_epil_init = v_r30_i_i_i_i_i_i_i_i_i120_i_i_i_i_3; goto L_join_7_i_i_i_i_i_i_i_i_i115_i_i_i_i_epil_preheader; }
+L_join_7_i_i_i_i_i_i_i_i_i115_i_i_i_i_epil_preheader:;
+    v_r0_04_i_i_i_i_i_i_i_i_i116_i_i_i_i_epil_init = p_v_r0_04_i_i_i_i_i_i_i_i_i116_i_i_i_i_epil_init;
+    { p_v_r0_04_i_i_i_i_i_i_i_i_i116_i_i_i_i_epil = v_r0_04_i_i_i_i_i_i_i_i_i116_i_i_i_i_epil_init; p_v_epil_iter238 = 0u; goto L_join_7_i_i_i_i_i_i_i_i_i115_i_i_i_i_epil; }
+L_join_7_i_i_i_i_i_i_i_i_i115_i_i_i_i_epil:;
+    v_r0_04_i_i_i_i_i_i_i_i_i116_i_i_i_i_epil = p_v_r0_04_i_i_i_i_i_i_i_i_i116_i_i_i_i_epil;
     v_epil_iter238 = p_v_epil_iter238;
-    v_r20_i_i_i_i_i_i_i_i_i118_i_i_i_i_epil = v_r26_i_i_i98_i_i_i_i + (int64_t)(v_r0_04_i_i_i_i_i_i_i_i_i117_i_i_i_i_epil);
-    v_r24_i_i_i_i_i_i_i_i_i119_i_i_i_i_epil = v_r1_sroa_0_0_copyload_i_i93_i_i_i_i + (int64_t)(v_r0_04_i_i_i_i_i_i_i_i_i117_i_i_i_i_epil);
-    v_r26_i_i_i_i_i_i_i_i_i120_i_i_i_i_epil = get_u8(v_r24_i_i_i_i_i_i_i_i_i119_i_i_i_i_epil);
-    put_u8(v_r20_i_i_i_i_i_i_i_i_i118_i_i_i_i_epil, v_r26_i_i_i_i_i_i_i_i_i120_i_i_i_i_epil);
-    v_r30_i_i_i_i_i_i_i_i_i121_i_i_i_i_epil = (u64)((u64)(v_r0_04_i_i_i_i_i_i_i_i_i117_i_i_i_i_epil) + (u64)(1u));
+    v_r20_i_i_i_i_i_i_i_i_i117_i_i_i_i_epil = v_r26_i_i_i97_i_i_i_i + (int64_t)(v_r0_04_i_i_i_i_i_i_i_i_i116_i_i_i_i_epil);
+    v_r24_i_i_i_i_i_i_i_i_i118_i_i_i_i_epil = v_r1_sroa_0_0_copyload_i_i92_i_i_i_i + (int64_t)(v_r0_04_i_i_i_i_i_i_i_i_i116_i_i_i_i_epil);
+    v_r26_i_i_i_i_i_i_i_i_i119_i_i_i_i_epil = get_u8(v_r24_i_i_i_i_i_i_i_i_i118_i_i_i_i_epil);
+    put_u8(v_r20_i_i_i_i_i_i_i_i_i117_i_i_i_i_epil, v_r26_i_i_i_i_i_i_i_i_i119_i_i_i_i_epil);
+    v_r30_i_i_i_i_i_i_i_i_i120_i_i_i_i_epil = (u64)((u64)(v_r0_04_i_i_i_i_i_i_i_i_i116_i_i_i_i_epil) + (u64)(1u));
     v_epil_iter238_next = (u64)((u64)(v_epil_iter238) + (u64)(1u));
     v_epil_iter238_cmp_not = v_epil_iter238_next == v_xtraiter237;
-    if (v_epil_iter238_cmp_not) { goto L_der_core_back_writer_BackWriter_prepend_exit_i_i10; } else { p_v_r0_04_i_i_i_i_i_i_i_i_i117_i_i_i_i_epil = v_r30_i_i_i_i_i_i_i_i_i121_i_i_i_i_epil; p_v_epil_iter238 = v_epil_iter238_next; goto L_join_7_i_i_i_i_i_i_i_i_i116_i_i_i_i_epil; }
+    if (v_epil_iter238_cmp_not) { goto L_der_core_back_writer_BackWriter_prepend_exit_i_i10; } else { p_v_r0_04_i_i_i_i_i_i_i_i_i116_i_i_i_i_epil = v_r30_i_i_i_i_i_i_i_i_i120_i_i_i_i_epil; p_v_epil_iter238 = v_epil_iter238_next; goto L_join_7_i_i_i_i_i_i_i_i_i115_i_i_i_i_epil; }
 L_der_core_back_writer_BackWriter_prepend_exit_i_i10:;
-    v_r15_not_i_i107_i_i_i_i = (u8)(v_r20_i356_i ^ ((u8)1 << 7)) > (u8)(255u ^ ((u8)1 << 7));
-    if (v_r15_not_i_i107_i_i_i_i) { p_v_r7_sroa_130_4_i_i_i = v_r17_i_i_i96_i_i_i_i; goto L_der_core_borrowed_BorrowedEncode_prepend_f4fc96f16__6; } else { goto L_then_1_i_i108_i_i_i_i; }
-L_then_1_i_i108_i_i_i_i:;
-    v_r17_i3_i_i109_i_i_i_i = (u64)((u64)(v_r17_i_i_i96_i_i_i_i) + (u64)(18446744073709551615ull));
-    v_r26_i5_i_i111_i_i_i_i = (P)((uintptr_t)v_r13 + (u64)(v_r17_i3_i_i109_i_i_i_i));
-    put_u8(v_r26_i5_i_i111_i_i_i_i, 0u);
-    { p_v_r7_sroa_130_4_i_i_i = v_r17_i3_i_i109_i_i_i_i; goto L_der_core_borrowed_BorrowedEncode_prepend_f4fc96f16__6; }
+    v_r15_not_i_i106_i_i_i_i = (u8)(v_r20_i356_i ^ ((u8)1 << 7)) > (u8)(255u ^ ((u8)1 << 7));
+    if (v_r15_not_i_i106_i_i_i_i) { p_v_r7_sroa_130_4_i_i_i = v_r17_i_i_i95_i_i_i_i; goto L_der_core_borrowed_BorrowedEncode_prepend_f4fc96f16__6; } else { goto L_then_1_i_i107_i_i_i_i; }
+L_then_1_i_i107_i_i_i_i:;
+    v_r17_i3_i_i108_i_i_i_i = (u64)((u64)(v_r17_i_i_i95_i_i_i_i) + (u64)(18446744073709551615ull));
+    v_r26_i5_i_i110_i_i_i_i = (P)((uintptr_t)v_r13 + (u64)(v_r17_i3_i_i108_i_i_i_i));
+    put_u8(v_r26_i5_i_i110_i_i_i_i, 0u);
+    { p_v_r7_sroa_130_4_i_i_i = v_r17_i3_i_i108_i_i_i_i; goto L_der_core_borrowed_BorrowedEncode_prepend_f4fc96f16__6; }
 L_der_core_borrowed_BorrowedEncode_prepend_f4fc96f16__6:;
     v_r7_sroa_130_4_i_i_i = p_v_r7_sroa_130_4_i_i_i;
     v_57 = (u64)((u64)(v_r7_sroa_130_4_i_i_i) + (u64)(v_r3_i8_i_i_i));
     v_58 = (u64)((u64)(v_r7_sroa_130_20_i_i_i) - (u64)(v_57));
     v_59 = (u32)(v_58);
-    v_r2_i_i115_i_i_i_i = (u32)((u32)(v_r1_sroa_9_4_copyload_i_i_i_i) + (u32)(v_59));
-    v_r59_i405_i_i_i = v_r2_i_i115_i_i_i_i < 128u;
+    v_r2_i_i114_i_i_i_i = (u32)((u32)(v_r1_sroa_9_4_copyload_i_i_i_i) + (u32)(v_59));
+    v_r59_i405_i_i_i = v_r2_i_i114_i_i_i_i < 128u;
     if (v_r59_i405_i_i_i) { goto L_then_1_i466_i_i_i; } else { goto L_else_2_i406_i_i_i; }
 L_then_1_i466_i_i_i:;
-    v_r64_i467_i_i_i = (u16)(v_r2_i_i115_i_i_i_i);
+    v_r64_i467_i_i_i = (u16)(v_r2_i_i114_i_i_i_i);
     v_r17_i_i471_i_i_i = (u64)((u64)(v_r7_sroa_130_4_i_i_i) + (u64)(18446744073709551614ull));
     v_r26_i_i473_i_i_i = (P)((uintptr_t)v_r13 + (u64)(v_r17_i_i471_i_i_i));
     v_r8_i400_sroa_4_0_insert_shift_i_i_i = (u16)((u32)(v_r64_i467_i_i_i) << (u32)((8u & 31)));
@@ -38368,10 +38379,10 @@ L_then_1_i466_i_i_i:;
     put_u16(v_r26_i_i473_i_i_i, v_r8_i400_sroa_0_0_insert_insert_i_i_i);
     { p_v_r7_sroa_130_19_i_i_i = v_r17_i_i471_i_i_i; goto L_der_core_back_writer_BackWriter_prepend_header_exi__8; }
 L_else_2_i406_i_i_i:;
-    v_r75_i407_i_i_i = v_r2_i_i115_i_i_i_i < 256u;
+    v_r75_i407_i_i_i = v_r2_i_i114_i_i_i_i < 256u;
     if (v_r75_i407_i_i_i) { goto L_then_4_i457_i_i_i; } else { goto L_else_5_i408_i_i_i; }
 L_then_4_i457_i_i_i:;
-    v_r80_i458_i_i_i = (u8)(v_r2_i_i115_i_i_i_i);
+    v_r80_i458_i_i_i = (u8)(v_r2_i_i114_i_i_i_i);
     v_r17_i28_i463_i_i_i = (u64)((u64)(v_r7_sroa_130_4_i_i_i) + (u64)(18446744073709551613ull));
     v_r26_i30_i465_i_i_i = (P)((uintptr_t)v_r13 + (u64)(v_r17_i28_i463_i_i_i));
     put_u8(v_r26_i30_i465_i_i_i, 2u);
@@ -38381,24 +38392,24 @@ L_then_4_i457_i_i_i:;
     put_u8(v_r14_i401_sroa_5_0_r26_i30_i465_sroa_idx_i_i_i, v_r80_i458_i_i_i);
     { p_v_r7_sroa_130_19_i_i_i = v_r17_i28_i463_i_i_i; goto L_der_core_back_writer_BackWriter_prepend_header_exi__8; }
 L_else_5_i408_i_i_i:;
-    v_r92_i409_i_i_i = v_r2_i_i115_i_i_i_i < 65536u;
+    v_r92_i409_i_i_i = v_r2_i_i114_i_i_i_i < 65536u;
     if (v_r92_i409_i_i_i) { goto L_then_7_i445_i_i_i; } else { goto L_else_8_i410_i_i_i; }
 L_then_7_i445_i_i_i:;
     v_r17_i46_i453_i_i_i = (u64)((u64)(v_r7_sroa_130_4_i_i_i) + (u64)(18446744073709551612ull));
     v_r26_i48_i455_i_i_i = (P)((uintptr_t)v_r13 + (u64)(v_r17_i46_i453_i_i_i));
-    v_60 = (u32)((u32)(v_r2_i_i115_i_i_i_i) | (u32)(42074112u));
+    v_60 = (u32)((u32)(v_r2_i_i114_i_i_i_i) | (u32)(42074112u));
     v_r20_i402_sroa_0_0_insert_insert_i_i_i = __builtin_bswap32(v_60);
     put_u32(v_r26_i48_i455_i_i_i, v_r20_i402_sroa_0_0_insert_insert_i_i_i);
     { p_v_r7_sroa_130_19_i_i_i = v_r17_i46_i453_i_i_i; goto L_der_core_back_writer_BackWriter_prepend_header_exi__8; }
 L_else_8_i410_i_i_i:;
-    v_r117_i411_i_i_i = v_r2_i_i115_i_i_i_i < 16777216u;
+    v_r117_i411_i_i_i = v_r2_i_i114_i_i_i_i < 16777216u;
     if (v_r117_i411_i_i_i) { goto L_then_10_i430_i_i_i; } else { goto L_else_11_i412_i_i_i; }
 L_then_10_i430_i_i_i:;
-    v_r12223_i431_i_i_i = (u32)((u32)(v_r2_i_i115_i_i_i_i) >> (u32)((16u & 31)));
+    v_r12223_i431_i_i_i = (u32)((u32)(v_r2_i_i114_i_i_i_i) >> (u32)((16u & 31)));
     v_r124_i432_i_i_i = (u8)(v_r12223_i431_i_i_i);
-    v_r12624_i433_i_i_i = (u32)((u32)(v_r2_i_i115_i_i_i_i) >> (u32)((8u & 31)));
+    v_r12624_i433_i_i_i = (u32)((u32)(v_r2_i_i114_i_i_i_i) >> (u32)((8u & 31)));
     v_r130_i434_i_i_i = (u8)(v_r12624_i433_i_i_i);
-    v_r134_i435_i_i_i = (u8)(v_r2_i_i115_i_i_i_i);
+    v_r134_i435_i_i_i = (u8)(v_r2_i_i114_i_i_i_i);
     v_r17_i64_i442_i_i_i = (u64)((u64)(v_r7_sroa_130_4_i_i_i) + (u64)(18446744073709551611ull));
     v_r26_i66_i444_i_i_i = (P)((uintptr_t)v_r13 + (u64)(v_r17_i64_i442_i_i_i));
     put_u8(v_r26_i66_i444_i_i_i, 2u);
@@ -38412,13 +38423,13 @@ L_then_10_i430_i_i_i:;
     put_u8(v_r29_i403_sroa_7_0_r26_i66_i444_sroa_idx_i_i_i, v_r134_i435_i_i_i);
     { p_v_r7_sroa_130_19_i_i_i = v_r17_i64_i442_i_i_i; goto L_der_core_back_writer_BackWriter_prepend_header_exi__8; }
 L_else_11_i412_i_i_i:;
-    v_r15020_i413_i_i_i = (u32)((u32)(v_r2_i_i115_i_i_i_i) >> (u32)((24u & 31)));
+    v_r15020_i413_i_i_i = (u32)((u32)(v_r2_i_i114_i_i_i_i) >> (u32)((24u & 31)));
     v_r152_i414_i_i_i = (u8)(v_r15020_i413_i_i_i);
-    v_r15421_i415_i_i_i = (u32)((u32)(v_r2_i_i115_i_i_i_i) >> (u32)((16u & 31)));
+    v_r15421_i415_i_i_i = (u32)((u32)(v_r2_i_i114_i_i_i_i) >> (u32)((16u & 31)));
     v_r158_i416_i_i_i = (u8)(v_r15421_i415_i_i_i);
-    v_r16022_i417_i_i_i = (u32)((u32)(v_r2_i_i115_i_i_i_i) >> (u32)((8u & 31)));
+    v_r16022_i417_i_i_i = (u32)((u32)(v_r2_i_i114_i_i_i_i) >> (u32)((8u & 31)));
     v_r164_i418_i_i_i = (u8)(v_r16022_i417_i_i_i);
-    v_r168_i419_i_i_i = (u8)(v_r2_i_i115_i_i_i_i);
+    v_r168_i419_i_i_i = (u8)(v_r2_i_i114_i_i_i_i);
     v_r17_i82_i427_i_i_i = (u64)((u64)(v_r7_sroa_130_4_i_i_i) + (u64)(18446744073709551610ull));
     v_r26_i84_i429_i_i_i = (P)((uintptr_t)v_r13 + (u64)(v_r17_i82_i427_i_i_i));
     put_u8(v_r26_i84_i429_i_i_i, 2u);
@@ -38435,84 +38446,84 @@ L_else_11_i412_i_i_i:;
     { p_v_r7_sroa_130_19_i_i_i = v_r17_i82_i427_i_i_i; goto L_der_core_back_writer_BackWriter_prepend_header_exi__8; }
 L_der_core_back_writer_BackWriter_prepend_header_exi__8:;
     v_r7_sroa_130_19_i_i_i = p_v_r7_sroa_130_19_i_i_i;
-    v_r17_i_i_i129_i_i_i_i = (u64)((u64)(v_r7_sroa_130_19_i_i_i) - (u64)(v_r1_sroa_3_0_copyload_i_i128_i_i_i_i));
-    v_r26_i_i_i131_i_i_i_i = (P)((uintptr_t)v_r13 + (u64)(v_r17_i_i_i129_i_i_i_i));
-    v_r8_i_i_i_i_i_i_i_i_i132_i_i_i_i = (u64)((uintptr_t)v_r26_i_i_i131_i_i_i_i);
-    v_r9_i_i_i_i_i_i_i_i_i133_i_i_i_i = (u64)((uintptr_t)v_r1_sroa_0_0_copyload_i_i126_i_i_i_i);
-    v_r10_i_i_i_i_i_i_i_i_i134_i_i_i_i = (u64)((u64)(v_r8_i_i_i_i_i_i_i_i_i132_i_i_i_i) - (u64)(v_r9_i_i_i_i_i_i_i_i_i133_i_i_i_i));
-    v_r11_i_i_i_i_i_i_i_i_i135_i_i_i_i = v_r10_i_i_i_i_i_i_i_i_i134_i_i_i_i < v_r1_sroa_3_0_copyload_i_i128_i_i_i_i;
-    if (v_r11_i_i_i_i_i_i_i_i_i135_i_i_i_i) { goto L_join_7_i_i_i_i_i_i_i_i_i149_i_i_i_i_preheader; } else { goto L_apart_2_i_i_i_i_i_i_i_i_i136_i_i_i_i; }
-L_join_7_i_i_i_i_i_i_i_i_i149_i_i_i_i_preheader:;
-    v_xtraiter243 = (u64)((u64)(v_r1_sroa_3_0_copyload_i_i128_i_i_i_i) & (u64)(3u));
-    v_61 = v_r1_sroa_3_0_copyload_i_i128_i_i_i_i < 4u;
-    if (v_61) { p_v_r0_04_i_i_i_i_i_i_i_i_i150_i_i_i_i_epil_init = 0u; goto L_join_7_i_i_i_i_i_i_i_i_i149_i_i_i_i_epil_preheader; } else { goto L_join_7_i_i_i_i_i_i_i_i_i149_i_i_i_i_preheader_new; }
-L_join_7_i_i_i_i_i_i_i_i_i149_i_i_i_i_preheader_new:;
-    v_unroll_iter247 = (u64)((u64)(v_r1_sroa_3_0_copyload_i_i128_i_i_i_i) & (u64)(4294967292ull));
-    { p_v_r0_04_i_i_i_i_i_i_i_i_i150_i_i_i_i = 0u; p_v_niter248 = 0u; goto L_join_7_i_i_i_i_i_i_i_i_i149_i_i_i_i; }
-L_apart_2_i_i_i_i_i_i_i_i_i136_i_i_i_i:;
-    move(v_r26_i_i_i131_i_i_i_i, v_r1_sroa_0_0_copyload_i_i126_i_i_i_i, v_r1_sroa_3_0_copyload_i_i128_i_i_i_i);
+    v_r17_i_i_i128_i_i_i_i = (u64)((u64)(v_r7_sroa_130_19_i_i_i) - (u64)(v_r1_sroa_3_0_copyload_i_i127_i_i_i_i));
+    v_r26_i_i_i130_i_i_i_i = (P)((uintptr_t)v_r13 + (u64)(v_r17_i_i_i128_i_i_i_i));
+    v_r8_i_i_i_i_i_i_i_i_i131_i_i_i_i = (u64)((uintptr_t)v_r26_i_i_i130_i_i_i_i);
+    v_r9_i_i_i_i_i_i_i_i_i132_i_i_i_i = (u64)((uintptr_t)v_r1_sroa_0_0_copyload_i_i125_i_i_i_i);
+    v_r10_i_i_i_i_i_i_i_i_i133_i_i_i_i = (u64)((u64)(v_r8_i_i_i_i_i_i_i_i_i131_i_i_i_i) - (u64)(v_r9_i_i_i_i_i_i_i_i_i132_i_i_i_i));
+    v_r11_i_i_i_i_i_i_i_i_i134_i_i_i_i = v_r10_i_i_i_i_i_i_i_i_i133_i_i_i_i < v_r1_sroa_3_0_copyload_i_i127_i_i_i_i;
+    if (v_r11_i_i_i_i_i_i_i_i_i134_i_i_i_i) { goto L_join_7_i_i_i_i_i_i_i_i_i148_i_i_i_i_preheader; } else { goto L_apart_2_i_i_i_i_i_i_i_i_i135_i_i_i_i; }
+L_join_7_i_i_i_i_i_i_i_i_i148_i_i_i_i_preheader:;
+    v_xtraiter243 = (u64)((u64)(v_r1_sroa_3_0_copyload_i_i127_i_i_i_i) & (u64)(3u));
+    v_61 = v_r1_sroa_3_0_copyload_i_i127_i_i_i_i < 4u;
+    if (v_61) { p_v_r0_04_i_i_i_i_i_i_i_i_i149_i_i_i_i_epil_init = 0u; goto L_join_7_i_i_i_i_i_i_i_i_i148_i_i_i_i_epil_preheader; } else { goto L_join_7_i_i_i_i_i_i_i_i_i148_i_i_i_i_preheader_new; }
+L_join_7_i_i_i_i_i_i_i_i_i148_i_i_i_i_preheader_new:;
+    v_unroll_iter247 = (u64)((u64)(v_r1_sroa_3_0_copyload_i_i127_i_i_i_i) & (u64)(4294967292ull));
+    { p_v_r0_04_i_i_i_i_i_i_i_i_i149_i_i_i_i = 0u; p_v_niter248 = 0u; goto L_join_7_i_i_i_i_i_i_i_i_i148_i_i_i_i; }
+L_apart_2_i_i_i_i_i_i_i_i_i135_i_i_i_i:;
+    move(v_r26_i_i_i130_i_i_i_i, v_r1_sroa_0_0_copyload_i_i125_i_i_i_i, v_r1_sroa_3_0_copyload_i_i127_i_i_i_i);
     { goto L_der_core_back_writer_BackWriter_prepend_exit_i_i13; }
-L_join_7_i_i_i_i_i_i_i_i_i149_i_i_i_i:;
-    v_r0_04_i_i_i_i_i_i_i_i_i150_i_i_i_i = p_v_r0_04_i_i_i_i_i_i_i_i_i150_i_i_i_i;
+L_join_7_i_i_i_i_i_i_i_i_i148_i_i_i_i:;
+    v_r0_04_i_i_i_i_i_i_i_i_i149_i_i_i_i = p_v_r0_04_i_i_i_i_i_i_i_i_i149_i_i_i_i;
     v_niter248 = p_v_niter248;
-    v_r20_i_i_i_i_i_i_i_i_i151_i_i_i_i = v_r26_i_i_i131_i_i_i_i + (int64_t)(v_r0_04_i_i_i_i_i_i_i_i_i150_i_i_i_i);
-    v_r24_i_i_i_i_i_i_i_i_i152_i_i_i_i = v_r1_sroa_0_0_copyload_i_i126_i_i_i_i + (int64_t)(v_r0_04_i_i_i_i_i_i_i_i_i150_i_i_i_i);
-    v_r26_i_i_i_i_i_i_i_i_i153_i_i_i_i = get_u8(v_r24_i_i_i_i_i_i_i_i_i152_i_i_i_i);
-    put_u8(v_r20_i_i_i_i_i_i_i_i_i151_i_i_i_i, v_r26_i_i_i_i_i_i_i_i_i153_i_i_i_i);
-    v_r30_i_i_i_i_i_i_i_i_i154_i_i_i_i = (u64)((u64)(v_r0_04_i_i_i_i_i_i_i_i_i150_i_i_i_i) | (u64)(1u));
-    v_r20_i_i_i_i_i_i_i_i_i151_i_i_i_i_1 = v_r26_i_i_i131_i_i_i_i + (int64_t)(v_r30_i_i_i_i_i_i_i_i_i154_i_i_i_i);
-    v_r24_i_i_i_i_i_i_i_i_i152_i_i_i_i_1 = v_r1_sroa_0_0_copyload_i_i126_i_i_i_i + (int64_t)(v_r30_i_i_i_i_i_i_i_i_i154_i_i_i_i);
-    v_r26_i_i_i_i_i_i_i_i_i153_i_i_i_i_1 = get_u8(v_r24_i_i_i_i_i_i_i_i_i152_i_i_i_i_1);
-    put_u8(v_r20_i_i_i_i_i_i_i_i_i151_i_i_i_i_1, v_r26_i_i_i_i_i_i_i_i_i153_i_i_i_i_1);
-    v_r30_i_i_i_i_i_i_i_i_i154_i_i_i_i_1 = (u64)((u64)(v_r0_04_i_i_i_i_i_i_i_i_i150_i_i_i_i) | (u64)(2u));
-    v_r20_i_i_i_i_i_i_i_i_i151_i_i_i_i_2 = v_r26_i_i_i131_i_i_i_i + (int64_t)(v_r30_i_i_i_i_i_i_i_i_i154_i_i_i_i_1);
-    v_r24_i_i_i_i_i_i_i_i_i152_i_i_i_i_2 = v_r1_sroa_0_0_copyload_i_i126_i_i_i_i + (int64_t)(v_r30_i_i_i_i_i_i_i_i_i154_i_i_i_i_1);
-    v_r26_i_i_i_i_i_i_i_i_i153_i_i_i_i_2 = get_u8(v_r24_i_i_i_i_i_i_i_i_i152_i_i_i_i_2);
-    put_u8(v_r20_i_i_i_i_i_i_i_i_i151_i_i_i_i_2, v_r26_i_i_i_i_i_i_i_i_i153_i_i_i_i_2);
-    v_r30_i_i_i_i_i_i_i_i_i154_i_i_i_i_2 = (u64)((u64)(v_r0_04_i_i_i_i_i_i_i_i_i150_i_i_i_i) | (u64)(3u));
-    v_r20_i_i_i_i_i_i_i_i_i151_i_i_i_i_3 = v_r26_i_i_i131_i_i_i_i + (int64_t)(v_r30_i_i_i_i_i_i_i_i_i154_i_i_i_i_2);
-    v_r24_i_i_i_i_i_i_i_i_i152_i_i_i_i_3 = v_r1_sroa_0_0_copyload_i_i126_i_i_i_i + (int64_t)(v_r30_i_i_i_i_i_i_i_i_i154_i_i_i_i_2);
-    v_r26_i_i_i_i_i_i_i_i_i153_i_i_i_i_3 = get_u8(v_r24_i_i_i_i_i_i_i_i_i152_i_i_i_i_3);
-    put_u8(v_r20_i_i_i_i_i_i_i_i_i151_i_i_i_i_3, v_r26_i_i_i_i_i_i_i_i_i153_i_i_i_i_3);
-    v_r30_i_i_i_i_i_i_i_i_i154_i_i_i_i_3 = (u64)((u64)(v_r0_04_i_i_i_i_i_i_i_i_i150_i_i_i_i) + (u64)(4u));
+    v_r20_i_i_i_i_i_i_i_i_i150_i_i_i_i = v_r26_i_i_i130_i_i_i_i + (int64_t)(v_r0_04_i_i_i_i_i_i_i_i_i149_i_i_i_i);
+    v_r24_i_i_i_i_i_i_i_i_i151_i_i_i_i = v_r1_sroa_0_0_copyload_i_i125_i_i_i_i + (int64_t)(v_r0_04_i_i_i_i_i_i_i_i_i149_i_i_i_i);
+    v_r26_i_i_i_i_i_i_i_i_i152_i_i_i_i = get_u8(v_r24_i_i_i_i_i_i_i_i_i151_i_i_i_i);
+    put_u8(v_r20_i_i_i_i_i_i_i_i_i150_i_i_i_i, v_r26_i_i_i_i_i_i_i_i_i152_i_i_i_i);
+    v_r30_i_i_i_i_i_i_i_i_i153_i_i_i_i = (u64)((u64)(v_r0_04_i_i_i_i_i_i_i_i_i149_i_i_i_i) | (u64)(1u));
+    v_r20_i_i_i_i_i_i_i_i_i150_i_i_i_i_1 = v_r26_i_i_i130_i_i_i_i + (int64_t)(v_r30_i_i_i_i_i_i_i_i_i153_i_i_i_i);
+    v_r24_i_i_i_i_i_i_i_i_i151_i_i_i_i_1 = v_r1_sroa_0_0_copyload_i_i125_i_i_i_i + (int64_t)(v_r30_i_i_i_i_i_i_i_i_i153_i_i_i_i);
+    v_r26_i_i_i_i_i_i_i_i_i152_i_i_i_i_1 = get_u8(v_r24_i_i_i_i_i_i_i_i_i151_i_i_i_i_1);
+    put_u8(v_r20_i_i_i_i_i_i_i_i_i150_i_i_i_i_1, v_r26_i_i_i_i_i_i_i_i_i152_i_i_i_i_1);
+    v_r30_i_i_i_i_i_i_i_i_i153_i_i_i_i_1 = (u64)((u64)(v_r0_04_i_i_i_i_i_i_i_i_i149_i_i_i_i) | (u64)(2u));
+    v_r20_i_i_i_i_i_i_i_i_i150_i_i_i_i_2 = v_r26_i_i_i130_i_i_i_i + (int64_t)(v_r30_i_i_i_i_i_i_i_i_i153_i_i_i_i_1);
+    v_r24_i_i_i_i_i_i_i_i_i151_i_i_i_i_2 = v_r1_sroa_0_0_copyload_i_i125_i_i_i_i + (int64_t)(v_r30_i_i_i_i_i_i_i_i_i153_i_i_i_i_1);
+    v_r26_i_i_i_i_i_i_i_i_i152_i_i_i_i_2 = get_u8(v_r24_i_i_i_i_i_i_i_i_i151_i_i_i_i_2);
+    put_u8(v_r20_i_i_i_i_i_i_i_i_i150_i_i_i_i_2, v_r26_i_i_i_i_i_i_i_i_i152_i_i_i_i_2);
+    v_r30_i_i_i_i_i_i_i_i_i153_i_i_i_i_2 = (u64)((u64)(v_r0_04_i_i_i_i_i_i_i_i_i149_i_i_i_i) | (u64)(3u));
+    v_r20_i_i_i_i_i_i_i_i_i150_i_i_i_i_3 = v_r26_i_i_i130_i_i_i_i + (int64_t)(v_r30_i_i_i_i_i_i_i_i_i153_i_i_i_i_2);
+    v_r24_i_i_i_i_i_i_i_i_i151_i_i_i_i_3 = v_r1_sroa_0_0_copyload_i_i125_i_i_i_i + (int64_t)(v_r30_i_i_i_i_i_i_i_i_i153_i_i_i_i_2);
+    v_r26_i_i_i_i_i_i_i_i_i152_i_i_i_i_3 = get_u8(v_r24_i_i_i_i_i_i_i_i_i151_i_i_i_i_3);
+    put_u8(v_r20_i_i_i_i_i_i_i_i_i150_i_i_i_i_3, v_r26_i_i_i_i_i_i_i_i_i152_i_i_i_i_3);
+    v_r30_i_i_i_i_i_i_i_i_i153_i_i_i_i_3 = (u64)((u64)(v_r0_04_i_i_i_i_i_i_i_i_i149_i_i_i_i) + (u64)(4u));
     v_niter248_next_3 = (u64)((u64)(v_niter248) + (u64)(4u));
     v_niter248_ncmp_3 = v_niter248_next_3 == v_unroll_iter247;
-    if (v_niter248_ncmp_3) { goto L_der_core_back_writer_BackWriter_prepend_exit_i_i13__2; } else { p_v_r0_04_i_i_i_i_i_i_i_i_i150_i_i_i_i = v_r30_i_i_i_i_i_i_i_i_i154_i_i_i_i_3; p_v_niter248 = v_niter248_next_3; goto L_join_7_i_i_i_i_i_i_i_i_i149_i_i_i_i; }
+    if (v_niter248_ncmp_3) { goto L_der_core_back_writer_BackWriter_prepend_exit_i_i13__2; } else { p_v_r0_04_i_i_i_i_i_i_i_i_i149_i_i_i_i = v_r30_i_i_i_i_i_i_i_i_i153_i_i_i_i_3; p_v_niter248 = v_niter248_next_3; goto L_join_7_i_i_i_i_i_i_i_i_i148_i_i_i_i; }
 L_der_core_back_writer_BackWriter_prepend_exit_i_i13__2:;
     v_lcmp_mod245_not = v_xtraiter243 == 0u;
-    if (v_lcmp_mod245_not) { goto L_der_core_back_writer_BackWriter_prepend_exit_i_i13; } else { p_v_r0_04_i_i_i_i_i_i_i_i_i150_i_i_i_i_epil_init = v_r30_i_i_i_i_i_i_i_i_i154_i_i_i_i_3; goto L_join_7_i_i_i_i_i_i_i_i_i149_i_i_i_i_epil_preheader; }
-L_join_7_i_i_i_i_i_i_i_i_i149_i_i_i_i_epil_preheader:;
-    v_r0_04_i_i_i_i_i_i_i_i_i150_i_i_i_i_epil_init = p_v_r0_04_i_i_i_i_i_i_i_i_i150_i_i_i_i_epil_init;
-    { p_v_r0_04_i_i_i_i_i_i_i_i_i150_i_i_i_i_epil = v_r0_04_i_i_i_i_i_i_i_i_i150_i_i_i_i_epil_init; p_v_epil_iter244 = 0u; goto L_join_7_i_i_i_i_i_i_i_i_i149_i_i_i_i_epil; }
-L_join_7_i_i_i_i_i_i_i_i_i149_i_i_i_i_epil:;
-    v_r0_04_i_i_i_i_i_i_i_i_i150_i_i_i_i_epil = p_v_r0_04_i_i_i_i_i_i_i_i_i150_i_i_i_i_epil;
+    if (v_lcmp_mod245_not) { goto L_der_core_back_writer_BackWriter_prepend_exit_i_i13; } else { p_v_r0_04_i_i_i_i_i_i_i_i_i149_i_i_i_i_epil_init = v_r30_i_i_i_i_i_i_i_i_i153_i_i_i_i_3; goto L_join_7_i_i_i_i_i_i_i_i_i148_i_i_i_i_epil_preheader; }
+L_join_7_i_i_i_i_i_i_i_i_i148_i_i_i_i_epil_preheader:;
+    v_r0_04_i_i_i_i_i_i_i_i_i149_i_i_i_i_epil_init = p_v_r0_04_i_i_i_i_i_i_i_i_i149_i_i_i_i_epil_init;
+    { p_v_r0_04_i_i_i_i_i_i_i_i_i149_i_i_i_i_epil = v_r0_04_i_i_i_i_i_i_i_i_i149_i_i_i_i_epil_init; p_v_epil_iter244 = 0u; goto L_join_7_i_i_i_i_i_i_i_i_i148_i_i_i_i_epil; }
+L_join_7_i_i_i_i_i_i_i_i_i148_i_i_i_i_epil:;
+    v_r0_04_i_i_i_i_i_i_i_i_i149_i_i_i_i_epil = p_v_r0_04_i_i_i_i_i_i_i_i_i149_i_i_i_i_epil;
     v_epil_iter244 = p_v_epil_iter244;
-    v_r20_i_i_i_i_i_i_i_i_i151_i_i_i_i_epil = v_r26_i_i_i131_i_i_i_i + (int64_t)(v_r0_04_i_i_i_i_i_i_i_i_i150_i_i_i_i_epil);
-    v_r24_i_i_i_i_i_i_i_i_i152_i_i_i_i_epil = v_r1_sroa_0_0_copyload_i_i126_i_i_i_i + (int64_t)(v_r0_04_i_i_i_i_i_i_i_i_i150_i_i_i_i_epil);
-    v_r26_i_i_i_i_i_i_i_i_i153_i_i_i_i_epil = get_u8(v_r24_i_i_i_i_i_i_i_i_i152_i_i_i_i_epil);
-    put_u8(v_r20_i_i_i_i_i_i_i_i_i151_i_i_i_i_epil, v_r26_i_i_i_i_i_i_i_i_i153_i_i_i_i_epil);
-    v_r30_i_i_i_i_i_i_i_i_i154_i_i_i_i_epil = (u64)((u64)(v_r0_04_i_i_i_i_i_i_i_i_i150_i_i_i_i_epil) + (u64)(1u));
+    v_r20_i_i_i_i_i_i_i_i_i150_i_i_i_i_epil = v_r26_i_i_i130_i_i_i_i + (int64_t)(v_r0_04_i_i_i_i_i_i_i_i_i149_i_i_i_i_epil);
+    v_r24_i_i_i_i_i_i_i_i_i151_i_i_i_i_epil = v_r1_sroa_0_0_copyload_i_i125_i_i_i_i + (int64_t)(v_r0_04_i_i_i_i_i_i_i_i_i149_i_i_i_i_epil);
+    v_r26_i_i_i_i_i_i_i_i_i152_i_i_i_i_epil = get_u8(v_r24_i_i_i_i_i_i_i_i_i151_i_i_i_i_epil);
+    put_u8(v_r20_i_i_i_i_i_i_i_i_i150_i_i_i_i_epil, v_r26_i_i_i_i_i_i_i_i_i152_i_i_i_i_epil);
+    v_r30_i_i_i_i_i_i_i_i_i153_i_i_i_i_epil = (u64)((u64)(v_r0_04_i_i_i_i_i_i_i_i_i149_i_i_i_i_epil) + (u64)(1u));
     v_epil_iter244_next = (u64)((u64)(v_epil_iter244) + (u64)(1u));
     v_epil_iter244_cmp_not = v_epil_iter244_next == v_xtraiter243;
-    if (v_epil_iter244_cmp_not) { goto L_der_core_back_writer_BackWriter_prepend_exit_i_i13; } else { p_v_r0_04_i_i_i_i_i_i_i_i_i150_i_i_i_i_epil = v_r30_i_i_i_i_i_i_i_i_i154_i_i_i_i_epil; p_v_epil_iter244 = v_epil_iter244_next; goto L_join_7_i_i_i_i_i_i_i_i_i149_i_i_i_i_epil; }
+    if (v_epil_iter244_cmp_not) { goto L_der_core_back_writer_BackWriter_prepend_exit_i_i13; } else { p_v_r0_04_i_i_i_i_i_i_i_i_i149_i_i_i_i_epil = v_r30_i_i_i_i_i_i_i_i_i153_i_i_i_i_epil; p_v_epil_iter244 = v_epil_iter244_next; goto L_join_7_i_i_i_i_i_i_i_i_i148_i_i_i_i_epil; }
 L_der_core_back_writer_BackWriter_prepend_exit_i_i13:;
-    v_r15_not_i_i140_i_i_i_i = (u8)(v_r20_i346_i ^ ((u8)1 << 7)) > (u8)(255u ^ ((u8)1 << 7));
-    if (v_r15_not_i_i140_i_i_i_i) { p_v_r7_sroa_130_5_i_i_i = v_r17_i_i_i129_i_i_i_i; goto L_der_core_borrowed_BorrowedEncode_prepend_f4fc96f16__7; } else { goto L_then_1_i_i141_i_i_i_i; }
-L_then_1_i_i141_i_i_i_i:;
-    v_r17_i3_i_i142_i_i_i_i = (u64)((u64)(v_r17_i_i_i129_i_i_i_i) + (u64)(18446744073709551615ull));
-    v_r26_i5_i_i144_i_i_i_i = (P)((uintptr_t)v_r13 + (u64)(v_r17_i3_i_i142_i_i_i_i));
-    put_u8(v_r26_i5_i_i144_i_i_i_i, 0u);
-    { p_v_r7_sroa_130_5_i_i_i = v_r17_i3_i_i142_i_i_i_i; goto L_der_core_borrowed_BorrowedEncode_prepend_f4fc96f16__7; }
+    v_r15_not_i_i139_i_i_i_i = (u8)(v_r20_i346_i ^ ((u8)1 << 7)) > (u8)(255u ^ ((u8)1 << 7));
+    if (v_r15_not_i_i139_i_i_i_i) { p_v_r7_sroa_130_5_i_i_i = v_r17_i_i_i128_i_i_i_i; goto L_der_core_borrowed_BorrowedEncode_prepend_f4fc96f16__7; } else { goto L_then_1_i_i140_i_i_i_i; }
+L_then_1_i_i140_i_i_i_i:;
+    v_r17_i3_i_i141_i_i_i_i = (u64)((u64)(v_r17_i_i_i128_i_i_i_i) + (u64)(18446744073709551615ull));
+    v_r26_i5_i_i143_i_i_i_i = (P)((uintptr_t)v_r13 + (u64)(v_r17_i3_i_i141_i_i_i_i));
+    put_u8(v_r26_i5_i_i143_i_i_i_i, 0u);
+    { p_v_r7_sroa_130_5_i_i_i = v_r17_i3_i_i141_i_i_i_i; goto L_der_core_borrowed_BorrowedEncode_prepend_f4fc96f16__7; }
 L_der_core_borrowed_BorrowedEncode_prepend_f4fc96f16__7:;
     v_r7_sroa_130_5_i_i_i = p_v_r7_sroa_130_5_i_i_i;
     v_62 = (u64)((u64)(v_r7_sroa_130_5_i_i_i) + (u64)(v_r3_i8_i_i_i));
     v_63 = (u64)((u64)(v_r7_sroa_130_19_i_i_i) - (u64)(v_62));
     v_64 = (u32)(v_63);
-    v_r2_i_i148_i_i_i_i = (u32)((u32)(v_r1_sroa_9_4_copyload_i_i_i_i) + (u32)(v_64));
-    v_r59_i329_i_i_i = v_r2_i_i148_i_i_i_i < 128u;
+    v_r2_i_i147_i_i_i_i = (u32)((u32)(v_r1_sroa_9_4_copyload_i_i_i_i) + (u32)(v_64));
+    v_r59_i329_i_i_i = v_r2_i_i147_i_i_i_i < 128u;
     if (v_r59_i329_i_i_i) { goto L_then_1_i390_i_i_i; } else { goto L_else_2_i330_i_i_i; }
 L_then_1_i390_i_i_i:;
-    v_r64_i391_i_i_i = (u16)(v_r2_i_i148_i_i_i_i);
+    v_r64_i391_i_i_i = (u16)(v_r2_i_i147_i_i_i_i);
     v_r17_i_i395_i_i_i = (u64)((u64)(v_r7_sroa_130_5_i_i_i) + (u64)(18446744073709551614ull));
     v_r26_i_i397_i_i_i = (P)((uintptr_t)v_r13 + (u64)(v_r17_i_i395_i_i_i));
     v_r8_i324_sroa_4_0_insert_shift_i_i_i = (u16)((u32)(v_r64_i391_i_i_i) << (u32)((8u & 31)));
@@ -38520,10 +38531,10 @@ L_then_1_i390_i_i_i:;
     put_u16(v_r26_i_i397_i_i_i, v_r8_i324_sroa_0_0_insert_insert_i_i_i);
     { p_v_r7_sroa_130_18_i_i_i = v_r17_i_i395_i_i_i; goto L_der_core_back_writer_BackWriter_prepend_header_exi__9; }
 L_else_2_i330_i_i_i:;
-    v_r75_i331_i_i_i = v_r2_i_i148_i_i_i_i < 256u;
+    v_r75_i331_i_i_i = v_r2_i_i147_i_i_i_i < 256u;
     if (v_r75_i331_i_i_i) { goto L_then_4_i381_i_i_i; } else { goto L_else_5_i332_i_i_i; }
 L_then_4_i381_i_i_i:;
-    v_r80_i382_i_i_i = (u8)(v_r2_i_i148_i_i_i_i);
+    v_r80_i382_i_i_i = (u8)(v_r2_i_i147_i_i_i_i);
     v_r17_i28_i387_i_i_i = (u64)((u64)(v_r7_sroa_130_5_i_i_i) + (u64)(18446744073709551613ull));
     v_r26_i30_i389_i_i_i = (P)((uintptr_t)v_r13 + (u64)(v_r17_i28_i387_i_i_i));
     put_u8(v_r26_i30_i389_i_i_i, 2u);
@@ -38533,24 +38544,24 @@ L_then_4_i381_i_i_i:;
     put_u8(v_r14_i325_sroa_5_0_r26_i30_i389_sroa_idx_i_i_i, v_r80_i382_i_i_i);
     { p_v_r7_sroa_130_18_i_i_i = v_r17_i28_i387_i_i_i; goto L_der_core_back_writer_BackWriter_prepend_header_exi__9; }
 L_else_5_i332_i_i_i:;
-    v_r92_i333_i_i_i = v_r2_i_i148_i_i_i_i < 65536u;
+    v_r92_i333_i_i_i = v_r2_i_i147_i_i_i_i < 65536u;
     if (v_r92_i333_i_i_i) { goto L_then_7_i369_i_i_i; } else { goto L_else_8_i334_i_i_i; }
 L_then_7_i369_i_i_i:;
     v_r17_i46_i377_i_i_i = (u64)((u64)(v_r7_sroa_130_5_i_i_i) + (u64)(18446744073709551612ull));
     v_r26_i48_i379_i_i_i = (P)((uintptr_t)v_r13 + (u64)(v_r17_i46_i377_i_i_i));
-    v_65 = (u32)((u32)(v_r2_i_i148_i_i_i_i) | (u32)(42074112u));
+    v_65 = (u32)((u32)(v_r2_i_i147_i_i_i_i) | (u32)(42074112u));
     v_r20_i326_sroa_0_0_insert_insert_i_i_i = __builtin_bswap32(v_65);
     put_u32(v_r26_i48_i379_i_i_i, v_r20_i326_sroa_0_0_insert_insert_i_i_i);
     { p_v_r7_sroa_130_18_i_i_i = v_r17_i46_i377_i_i_i; goto L_der_core_back_writer_BackWriter_prepend_header_exi__9; }
 L_else_8_i334_i_i_i:;
-    v_r117_i335_i_i_i = v_r2_i_i148_i_i_i_i < 16777216u;
+    v_r117_i335_i_i_i = v_r2_i_i147_i_i_i_i < 16777216u;
     if (v_r117_i335_i_i_i) { goto L_then_10_i354_i_i_i; } else { goto L_else_11_i336_i_i_i; }
 L_then_10_i354_i_i_i:;
-    v_r12223_i355_i_i_i = (u32)((u32)(v_r2_i_i148_i_i_i_i) >> (u32)((16u & 31)));
+    v_r12223_i355_i_i_i = (u32)((u32)(v_r2_i_i147_i_i_i_i) >> (u32)((16u & 31)));
     v_r124_i356_i_i_i = (u8)(v_r12223_i355_i_i_i);
-    v_r12624_i357_i_i_i = (u32)((u32)(v_r2_i_i148_i_i_i_i) >> (u32)((8u & 31)));
+    v_r12624_i357_i_i_i = (u32)((u32)(v_r2_i_i147_i_i_i_i) >> (u32)((8u & 31)));
     v_r130_i358_i_i_i = (u8)(v_r12624_i357_i_i_i);
-    v_r134_i359_i_i_i = (u8)(v_r2_i_i148_i_i_i_i);
+    v_r134_i359_i_i_i = (u8)(v_r2_i_i147_i_i_i_i);
     v_r17_i64_i366_i_i_i = (u64)((u64)(v_r7_sroa_130_5_i_i_i) + (u64)(18446744073709551611ull));
     v_r26_i66_i368_i_i_i = (P)((uintptr_t)v_r13 + (u64)(v_r17_i64_i366_i_i_i));
     put_u8(v_r26_i66_i368_i_i_i, 2u);
@@ -38564,13 +38575,13 @@ L_then_10_i354_i_i_i:;
     put_u8(v_r29_i327_sroa_7_0_r26_i66_i368_sroa_idx_i_i_i, v_r134_i359_i_i_i);
     { p_v_r7_sroa_130_18_i_i_i = v_r17_i64_i366_i_i_i; goto L_der_core_back_writer_BackWriter_prepend_header_exi__9; }
 L_else_11_i336_i_i_i:;
-    v_r15020_i337_i_i_i = (u32)((u32)(v_r2_i_i148_i_i_i_i) >> (u32)((24u & 31)));
+    v_r15020_i337_i_i_i = (u32)((u32)(v_r2_i_i147_i_i_i_i) >> (u32)((24u & 31)));
     v_r152_i338_i_i_i = (u8)(v_r15020_i337_i_i_i);
-    v_r15421_i339_i_i_i = (u32)((u32)(v_r2_i_i148_i_i_i_i) >> (u32)((16u & 31)));
+    v_r15421_i339_i_i_i = (u32)((u32)(v_r2_i_i147_i_i_i_i) >> (u32)((16u & 31)));
     v_r158_i340_i_i_i = (u8)(v_r15421_i339_i_i_i);
-    v_r16022_i341_i_i_i = (u32)((u32)(v_r2_i_i148_i_i_i_i) >> (u32)((8u & 31)));
+    v_r16022_i341_i_i_i = (u32)((u32)(v_r2_i_i147_i_i_i_i) >> (u32)((8u & 31)));
     v_r164_i342_i_i_i = (u8)(v_r16022_i341_i_i_i);
-    v_r168_i343_i_i_i = (u8)(v_r2_i_i148_i_i_i_i);
+    v_r168_i343_i_i_i = (u8)(v_r2_i_i147_i_i_i_i);
     v_r17_i82_i351_i_i_i = (u64)((u64)(v_r7_sroa_130_5_i_i_i) + (u64)(18446744073709551610ull));
     v_r26_i84_i353_i_i_i = (P)((uintptr_t)v_r13 + (u64)(v_r17_i82_i351_i_i_i));
     put_u8(v_r26_i84_i353_i_i_i, 2u);
@@ -38587,84 +38598,84 @@ L_else_11_i336_i_i_i:;
     { p_v_r7_sroa_130_18_i_i_i = v_r17_i82_i351_i_i_i; goto L_der_core_back_writer_BackWriter_prepend_header_exi__9; }
 L_der_core_back_writer_BackWriter_prepend_header_exi__9:;
     v_r7_sroa_130_18_i_i_i = p_v_r7_sroa_130_18_i_i_i;
-    v_r17_i_i_i162_i_i_i_i = (u64)((u64)(v_r7_sroa_130_18_i_i_i) - (u64)(v_r1_sroa_3_0_copyload_i_i161_i_i_i_i));
-    v_r26_i_i_i164_i_i_i_i = (P)((uintptr_t)v_r13 + (u64)(v_r17_i_i_i162_i_i_i_i));
-    v_r8_i_i_i_i_i_i_i_i_i165_i_i_i_i = (u64)((uintptr_t)v_r26_i_i_i164_i_i_i_i);
-    v_r9_i_i_i_i_i_i_i_i_i166_i_i_i_i = (u64)((uintptr_t)v_r1_sroa_0_0_copyload_i_i159_i_i_i_i);
-    v_r10_i_i_i_i_i_i_i_i_i167_i_i_i_i = (u64)((u64)(v_r8_i_i_i_i_i_i_i_i_i165_i_i_i_i) - (u64)(v_r9_i_i_i_i_i_i_i_i_i166_i_i_i_i));
-    v_r11_i_i_i_i_i_i_i_i_i168_i_i_i_i = v_r10_i_i_i_i_i_i_i_i_i167_i_i_i_i < v_r1_sroa_3_0_copyload_i_i161_i_i_i_i;
-    if (v_r11_i_i_i_i_i_i_i_i_i168_i_i_i_i) { goto L_join_7_i_i_i_i_i_i_i_i_i182_i_i_i_i_preheader; } else { goto L_apart_2_i_i_i_i_i_i_i_i_i169_i_i_i_i; }
-L_join_7_i_i_i_i_i_i_i_i_i182_i_i_i_i_preheader:;
-    v_xtraiter249 = (u64)((u64)(v_r1_sroa_3_0_copyload_i_i161_i_i_i_i) & (u64)(3u));
-    v_66 = v_r1_sroa_3_0_copyload_i_i161_i_i_i_i < 4u;
-    if (v_66) { p_v_r0_04_i_i_i_i_i_i_i_i_i183_i_i_i_i_epil_init = 0u; goto L_join_7_i_i_i_i_i_i_i_i_i182_i_i_i_i_epil_preheader; } else { goto L_join_7_i_i_i_i_i_i_i_i_i182_i_i_i_i_preheader_new; }
-L_join_7_i_i_i_i_i_i_i_i_i182_i_i_i_i_preheader_new:;
-    v_unroll_iter253 = (u64)((u64)(v_r1_sroa_3_0_copyload_i_i161_i_i_i_i) & (u64)(4294967292ull));
-    { p_v_r0_04_i_i_i_i_i_i_i_i_i183_i_i_i_i = 0u; p_v_niter254 = 0u; goto L_join_7_i_i_i_i_i_i_i_i_i182_i_i_i_i; }
-L_apart_2_i_i_i_i_i_i_i_i_i169_i_i_i_i:;
-    move(v_r26_i_i_i164_i_i_i_i, v_r1_sroa_0_0_copyload_i_i159_i_i_i_i, v_r1_sroa_3_0_copyload_i_i161_i_i_i_i);
-    { goto L_der_core_back_writer_BackWriter_prepend_exit_i_i17; }
-L_join_7_i_i_i_i_i_i_i_i_i182_i_i_i_i:;
-    v_r0_04_i_i_i_i_i_i_i_i_i183_i_i_i_i = p_v_r0_04_i_i_i_i_i_i_i_i_i183_i_i_i_i;
+    v_r17_i_i_i161_i_i_i_i = (u64)((u64)(v_r7_sroa_130_18_i_i_i) - (u64)(v_r1_sroa_3_0_copyload_i_i160_i_i_i_i));
+    v_r26_i_i_i163_i_i_i_i = (P)((uintptr_t)v_r13 + (u64)(v_r17_i_i_i161_i_i_i_i));
+    v_r8_i_i_i_i_i_i_i_i_i164_i_i_i_i = (u64)((uintptr_t)v_r26_i_i_i163_i_i_i_i);
+    v_r9_i_i_i_i_i_i_i_i_i165_i_i_i_i = (u64)((uintptr_t)v_r1_sroa_0_0_copyload_i_i158_i_i_i_i);
+    v_r10_i_i_i_i_i_i_i_i_i166_i_i_i_i = (u64)((u64)(v_r8_i_i_i_i_i_i_i_i_i164_i_i_i_i) - (u64)(v_r9_i_i_i_i_i_i_i_i_i165_i_i_i_i));
+    v_r11_i_i_i_i_i_i_i_i_i167_i_i_i_i = v_r10_i_i_i_i_i_i_i_i_i166_i_i_i_i < v_r1_sroa_3_0_copyload_i_i160_i_i_i_i;
+    if (v_r11_i_i_i_i_i_i_i_i_i167_i_i_i_i) { goto L_join_7_i_i_i_i_i_i_i_i_i181_i_i_i_i_preheader; } else { goto L_apart_2_i_i_i_i_i_i_i_i_i168_i_i_i_i; }
+L_join_7_i_i_i_i_i_i_i_i_i181_i_i_i_i_preheader:;
+    v_xtraiter249 = (u64)((u64)(v_r1_sroa_3_0_copyload_i_i160_i_i_i_i) & (u64)(3u));
+    v_66 = v_r1_sroa_3_0_copyload_i_i160_i_i_i_i < 4u;
+    if (v_66) { p_v_r0_04_i_i_i_i_i_i_i_i_i182_i_i_i_i_epil_init = 0u; goto L_join_7_i_i_i_i_i_i_i_i_i181_i_i_i_i_epil_preheader; } else { goto L_join_7_i_i_i_i_i_i_i_i_i181_i_i_i_i_preheader_new; }
+L_join_7_i_i_i_i_i_i_i_i_i181_i_i_i_i_preheader_new:;
+    v_unroll_iter253 = (u64)((u64)(v_r1_sroa_3_0_copyload_i_i160_i_i_i_i) & (u64)(4294967292ull));
+    { p_v_r0_04_i_i_i_i_i_i_i_i_i182_i_i_i_i = 0u; p_v_niter254 = 0u; goto L_join_7_i_i_i_i_i_i_i_i_i181_i_i_i_i; }
+L_apart_2_i_i_i_i_i_i_i_i_i168_i_i_i_i:;
+    move(v_r26_i_i_i163_i_i_i_i, v_r1_sroa_0_0_copyload_i_i158_i_i_i_i, v_r1_sroa_3_0_copyload_i_i160_i_i_i_i);
+    { goto L_der_core_back_writer_BackWriter_prepend_exit_i_i16; }
+L_join_7_i_i_i_i_i_i_i_i_i181_i_i_i_i:;
+    v_r0_04_i_i_i_i_i_i_i_i_i182_i_i_i_i = p_v_r0_04_i_i_i_i_i_i_i_i_i182_i_i_i_i;
     v_niter254 = p_v_niter254;
-    v_r20_i_i_i_i_i_i_i_i_i184_i_i_i_i = v_r26_i_i_i164_i_i_i_i + (int64_t)(v_r0_04_i_i_i_i_i_i_i_i_i183_i_i_i_i);
-    v_r24_i_i_i_i_i_i_i_i_i185_i_i_i_i = v_r1_sroa_0_0_copyload_i_i159_i_i_i_i + (int64_t)(v_r0_04_i_i_i_i_i_i_i_i_i183_i_i_i_i);
-    v_r26_i_i_i_i_i_i_i_i_i186_i_i_i_i = get_u8(v_r24_i_i_i_i_i_i_i_i_i185_i_i_i_i);
-    put_u8(v_r20_i_i_i_i_i_i_i_i_i184_i_i_i_i, v_r26_i_i_i_i_i_i_i_i_i186_i_i_i_i);
-    v_r30_i_i_i_i_i_i_i_i_i187_i_i_i_i = (u64)((u64)(v_r0_04_i_i_i_i_i_i_i_i_i183_i_i_i_i) | (u64)(1u));
-    v_r20_i_i_i_i_i_i_i_i_i184_i_i_i_i_1 = v_r26_i_i_i164_i_i_i_i + (int64_t)(v_r30_i_i_i_i_i_i_i_i_i187_i_i_i_i);
-    v_r24_i_i_i_i_i_i_i_i_i185_i_i_i_i_1 = v_r1_sroa_0_0_copyload_i_i159_i_i_i_i + (int64_t)(v_r30_i_i_i_i_i_i_i_i_i187_i_i_i_i);
-    v_r26_i_i_i_i_i_i_i_i_i186_i_i_i_i_1 = get_u8(v_r24_i_i_i_i_i_i_i_i_i185_i_i_i_i_1);
-    put_u8(v_r20_i_i_i_i_i_i_i_i_i184_i_i_i_i_1, v_r26_i_i_i_i_i_i_i_i_i186_i_i_i_i_1);
-    v_r30_i_i_i_i_i_i_i_i_i187_i_i_i_i_1 = (u64)((u64)(v_r0_04_i_i_i_i_i_i_i_i_i183_i_i_i_i) | (u64)(2u));
-    v_r20_i_i_i_i_i_i_i_i_i184_i_i_i_i_2 = v_r26_i_i_i164_i_i_i_i + (int64_t)(v_r30_i_i_i_i_i_i_i_i_i187_i_i_i_i_1);
-    v_r24_i_i_i_i_i_i_i_i_i185_i_i_i_i_2 = v_r1_sroa_0_0_copyload_i_i159_i_i_i_i + (int64_t)(v_r30_i_i_i_i_i_i_i_i_i187_i_i_i_i_1);
-    v_r26_i_i_i_i_i_i_i_i_i186_i_i_i_i_2 = get_u8(v_r24_i_i_i_i_i_i_i_i_i185_i_i_i_i_2);
-    put_u8(v_r20_i_i_i_i_i_i_i_i_i184_i_i_i_i_2, v_r26_i_i_i_i_i_i_i_i_i186_i_i_i_i_2);
-    v_r30_i_i_i_i_i_i_i_i_i187_i_i_i_i_2 = (u64)((u64)(v_r0_04_i_i_i_i_i_i_i_i_i183_i_i_i_i) | (u64)(3u));
-    v_r20_i_i_i_i_i_i_i_i_i184_i_i_i_i_3 = v_r26_i_i_i164_i_i_i_i + (int64_t)(v_r30_i_i_i_i_i_i_i_i_i187_i_i_i_i_2);
-    v_r24_i_i_i_i_i_i_i_i_i185_i_i_i_i_3 = v_r1_sroa_0_0_copyload_i_i159_i_i_i_i + (int64_t)(v_r30_i_i_i_i_i_i_i_i_i187_i_i_i_i_2);
-    v_r26_i_i_i_i_i_i_i_i_i186_i_i_i_i_3 = get_u8(v_r24_i_i_i_i_i_i_i_i_i185_i_i_i_i_3);
-    put_u8(v_r20_i_i_i_i_i_i_i_i_i184_i_i_i_i_3, v_r26_i_i_i_i_i_i_i_i_i186_i_i_i_i_3);
-    v_r30_i_i_i_i_i_i_i_i_i187_i_i_i_i_3 = (u64)((u64)(v_r0_04_i_i_i_i_i_i_i_i_i183_i_i_i_i) + (u64)(4u));
+    v_r20_i_i_i_i_i_i_i_i_i183_i_i_i_i = v_r26_i_i_i163_i_i_i_i + (int64_t)(v_r0_04_i_i_i_i_i_i_i_i_i182_i_i_i_i);
+    v_r24_i_i_i_i_i_i_i_i_i184_i_i_i_i = v_r1_sroa_0_0_copyload_i_i158_i_i_i_i + (int64_t)(v_r0_04_i_i_i_i_i_i_i_i_i182_i_i_i_i);
+    v_r26_i_i_i_i_i_i_i_i_i185_i_i_i_i = get_u8(v_r24_i_i_i_i_i_i_i_i_i184_i_i_i_i);
+    put_u8(v_r20_i_i_i_i_i_i_i_i_i183_i_i_i_i, v_r26_i_i_i_i_i_i_i_i_i185_i_i_i_i);
+    v_r30_i_i_i_i_i_i_i_i_i186_i_i_i_i = (u64)((u64)(v_r0_04_i_i_i_i_i_i_i_i_i182_i_i_i_i) | (u64)(1u));
+    v_r20_i_i_i_i_i_i_i_i_i183_i_i_i_i_1 = v_r26_i_i_i163_i_i_i_i + (int64_t)(v_r30_i_i_i_i_i_i_i_i_i186_i_i_i_i);
+    v_r24_i_i_i_i_i_i_i_i_i184_i_i_i_i_1 = v_r1_sroa_0_0_copyload_i_i158_i_i_i_i + (int64_t)(v_r30_i_i_i_i_i_i_i_i_i186_i_i_i_i);
+    v_r26_i_i_i_i_i_i_i_i_i185_i_i_i_i_1 = get_u8(v_r24_i_i_i_i_i_i_i_i_i184_i_i_i_i_1);
+    put_u8(v_r20_i_i_i_i_i_i_i_i_i183_i_i_i_i_1, v_r26_i_i_i_i_i_i_i_i_i185_i_i_i_i_1);
+    v_r30_i_i_i_i_i_i_i_i_i186_i_i_i_i_1 = (u64)((u64)(v_r0_04_i_i_i_i_i_i_i_i_i182_i_i_i_i) | (u64)(2u));
+    v_r20_i_i_i_i_i_i_i_i_i183_i_i_i_i_2 = v_r26_i_i_i163_i_i_i_i + (int64_t)(v_r30_i_i_i_i_i_i_i_i_i186_i_i_i_i_1);
+    v_r24_i_i_i_i_i_i_i_i_i184_i_i_i_i_2 = v_r1_sroa_0_0_copyload_i_i158_i_i_i_i + (int64_t)(v_r30_i_i_i_i_i_i_i_i_i186_i_i_i_i_1);
+    v_r26_i_i_i_i_i_i_i_i_i185_i_i_i_i_2 = get_u8(v_r24_i_i_i_i_i_i_i_i_i184_i_i_i_i_2);
+    put_u8(v_r20_i_i_i_i_i_i_i_i_i183_i_i_i_i_2, v_r26_i_i_i_i_i_i_i_i_i185_i_i_i_i_2);
+    v_r30_i_i_i_i_i_i_i_i_i186_i_i_i_i_2 = (u64)((u64)(v_r0_04_i_i_i_i_i_i_i_i_i182_i_i_i_i) | (u64)(3u));
+    v_r20_i_i_i_i_i_i_i_i_i183_i_i_i_i_3 = v_r26_i_i_i163_i_i_i_i + (int64_t)(v_r30_i_i_i_i_i_i_i_i_i186_i_i_i_i_2);
+    v_r24_i_i_i_i_i_i_i_i_i184_i_i_i_i_3 = v_r1_sroa_0_0_copyload_i_i158_i_i_i_i + (int64_t)(v_r30_i_i_i_i_i_i_i_i_i186_i_i_i_i_2);
+    v_r26_i_i_i_i_i_i_i_i_i185_i_i_i_i_3 = get_u8(v_r24_i_i_i_i_i_i_i_i_i184_i_i_i_i_3);
+    put_u8(v_r20_i_i_i_i_i_i_i_i_i183_i_i_i_i_3, v_r26_i_i_i_i_i_i_i_i_i185_i_i_i_i_3);
+    v_r30_i_i_i_i_i_i_i_i_i186_i_i_i_i_3 = (u64)((u64)(v_r0_04_i_i_i_i_i_i_i_i_i182_i_i_i_i) + (u64)(4u));
     v_niter254_next_3 = (u64)((u64)(v_niter254) + (u64)(4u));
     v_niter254_ncmp_3 = v_niter254_next_3 == v_unroll_iter253;
-    if (v_niter254_ncmp_3) { goto L_der_core_back_writer_BackWriter_prepend_exit_i_i17__2; } else { p_v_r0_04_i_i_i_i_i_i_i_i_i183_i_i_i_i = v_r30_i_i_i_i_i_i_i_i_i187_i_i_i_i_3; p_v_niter254 = v_niter254_next_3; goto L_join_7_i_i_i_i_i_i_i_i_i182_i_i_i_i; }
-L_der_core_back_writer_BackWriter_prepend_exit_i_i17__2:;
+    if (v_niter254_ncmp_3) { goto L_der_core_back_writer_BackWriter_prepend_exit_i_i16__2; } else { p_v_r0_04_i_i_i_i_i_i_i_i_i182_i_i_i_i = v_r30_i_i_i_i_i_i_i_i_i186_i_i_i_i_3; p_v_niter254 = v_niter254_next_3; goto L_join_7_i_i_i_i_i_i_i_i_i181_i_i_i_i; }
+L_der_core_back_writer_BackWriter_prepend_exit_i_i16__2:;
     v_lcmp_mod251_not = v_xtraiter249 == 0u;
-    if (v_lcmp_mod251_not) { goto L_der_core_back_writer_BackWriter_prepend_exit_i_i17; } else { p_v_r0_04_i_i_i_i_i_i_i_i_i183_i_i_i_i_epil_init = v_r30_i_i_i_i_i_i_i_i_i187_i_i_i_i_3; goto L_join_7_i_i_i_i_i_i_i_i_i182_i_i_i_i_epil_preheader; }
-L_join_7_i_i_i_i_i_i_i_i_i182_i_i_i_i_epil_preheader:;
-    v_r0_04_i_i_i_i_i_i_i_i_i183_i_i_i_i_epil_init = p_v_r0_04_i_i_i_i_i_i_i_i_i183_i_i_i_i_epil_init;
-    { p_v_r0_04_i_i_i_i_i_i_i_i_i183_i_i_i_i_epil = v_r0_04_i_i_i_i_i_i_i_i_i183_i_i_i_i_epil_init; p_v_epil_iter250 = 0u; goto L_join_7_i_i_i_i_i_i_i_i_i182_i_i_i_i_epil; }
-L_join_7_i_i_i_i_i_i_i_i_i182_i_i_i_i_epil:;
-    v_r0_04_i_i_i_i_i_i_i_i_i183_i_i_i_i_epil = p_v_r0_04_i_i_i_i_i_i_i_i_i183_i_i_i_i_epil;
+    if (v_lcmp_mod251_not) { goto L_der_core_back_writer_BackWriter_prepend_exit_i_i16; } else { p_v_r0_04_i_i_i_i_i_i_i_i_i182_i_i_i_i_epil_init = v_r30_i_i_i_i_i_i_i_i_i186_i_i_i_i_3; goto L_join_7_i_i_i_i_i_i_i_i_i181_i_i_i_i_epil_preheader; }
+L_join_7_i_i_i_i_i_i_i_i_i181_i_i_i_i_epil_preheader:;
+    v_r0_04_i_i_i_i_i_i_i_i_i182_i_i_i_i_epil_init = p_v_r0_04_i_i_i_i_i_i_i_i_i182_i_i_i_i_epil_init;
+    { p_v_r0_04_i_i_i_i_i_i_i_i_i182_i_i_i_i_epil = v_r0_04_i_i_i_i_i_i_i_i_i182_i_i_i_i_epil_init; p_v_epil_iter250 = 0u; goto L_join_7_i_i_i_i_i_i_i_i_i181_i_i_i_i_epil; }
+L_join_7_i_i_i_i_i_i_i_i_i181_i_i_i_i_epil:;
+    v_r0_04_i_i_i_i_i_i_i_i_i182_i_i_i_i_epil = p_v_r0_04_i_i_i_i_i_i_i_i_i182_i_i_i_i_epil;
     v_epil_iter250 = p_v_epil_iter250;
-    v_r20_i_i_i_i_i_i_i_i_i184_i_i_i_i_epil = v_r26_i_i_i164_i_i_i_i + (int64_t)(v_r0_04_i_i_i_i_i_i_i_i_i183_i_i_i_i_epil);
-    v_r24_i_i_i_i_i_i_i_i_i185_i_i_i_i_epil = v_r1_sroa_0_0_copyload_i_i159_i_i_i_i + (int64_t)(v_r0_04_i_i_i_i_i_i_i_i_i183_i_i_i_i_epil);
-    v_r26_i_i_i_i_i_i_i_i_i186_i_i_i_i_epil = get_u8(v_r24_i_i_i_i_i_i_i_i_i185_i_i_i_i_epil);
-    put_u8(v_r20_i_i_i_i_i_i_i_i_i184_i_i_i_i_epil, v_r26_i_i_i_i_i_i_i_i_i186_i_i_i_i_epil);
-    v_r30_i_i_i_i_i_i_i_i_i187_i_i_i_i_epil = (u64)((u64)(v_r0_04_i_i_i_i_i_i_i_i_i183_i_i_i_i_epil) + (u64)(1u));
+    v_r20_i_i_i_i_i_i_i_i_i183_i_i_i_i_epil = v_r26_i_i_i163_i_i_i_i + (int64_t)(v_r0_04_i_i_i_i_i_i_i_i_i182_i_i_i_i_epil);
+    v_r24_i_i_i_i_i_i_i_i_i184_i_i_i_i_epil = v_r1_sroa_0_0_copyload_i_i158_i_i_i_i + (int64_t)(v_r0_04_i_i_i_i_i_i_i_i_i182_i_i_i_i_epil);
+    v_r26_i_i_i_i_i_i_i_i_i185_i_i_i_i_epil = get_u8(v_r24_i_i_i_i_i_i_i_i_i184_i_i_i_i_epil);
+    put_u8(v_r20_i_i_i_i_i_i_i_i_i183_i_i_i_i_epil, v_r26_i_i_i_i_i_i_i_i_i185_i_i_i_i_epil);
+    v_r30_i_i_i_i_i_i_i_i_i186_i_i_i_i_epil = (u64)((u64)(v_r0_04_i_i_i_i_i_i_i_i_i182_i_i_i_i_epil) + (u64)(1u));
     v_epil_iter250_next = (u64)((u64)(v_epil_iter250) + (u64)(1u));
     v_epil_iter250_cmp_not = v_epil_iter250_next == v_xtraiter249;
-    if (v_epil_iter250_cmp_not) { goto L_der_core_back_writer_BackWriter_prepend_exit_i_i17; } else { p_v_r0_04_i_i_i_i_i_i_i_i_i183_i_i_i_i_epil = v_r30_i_i_i_i_i_i_i_i_i187_i_i_i_i_epil; p_v_epil_iter250 = v_epil_iter250_next; goto L_join_7_i_i_i_i_i_i_i_i_i182_i_i_i_i_epil; }
-L_der_core_back_writer_BackWriter_prepend_exit_i_i17:;
-    v_r15_not_i_i173_i_i_i_i = (u8)(v_r20_i336_i ^ ((u8)1 << 7)) > (u8)(255u ^ ((u8)1 << 7));
-    if (v_r15_not_i_i173_i_i_i_i) { p_v_r7_sroa_130_6_i_i_i = v_r17_i_i_i162_i_i_i_i; goto L_der_core_borrowed_BorrowedEncode_prepend_f4fc96f16__8; } else { goto L_then_1_i_i174_i_i_i_i; }
-L_then_1_i_i174_i_i_i_i:;
-    v_r17_i3_i_i175_i_i_i_i = (u64)((u64)(v_r17_i_i_i162_i_i_i_i) + (u64)(18446744073709551615ull));
-    v_r26_i5_i_i177_i_i_i_i = (P)((uintptr_t)v_r13 + (u64)(v_r17_i3_i_i175_i_i_i_i));
-    put_u8(v_r26_i5_i_i177_i_i_i_i, 0u);
-    { p_v_r7_sroa_130_6_i_i_i = v_r17_i3_i_i175_i_i_i_i; goto L_der_core_borrowed_BorrowedEncode_prepend_f4fc96f16__8; }
+    if (v_epil_iter250_cmp_not) { goto L_der_core_back_writer_BackWriter_prepend_exit_i_i16; } else { p_v_r0_04_i_i_i_i_i_i_i_i_i182_i_i_i_i_epil = v_r30_i_i_i_i_i_i_i_i_i186_i_i_i_i_epil; p_v_epil_iter250 = v_epil_iter250_next; goto L_join_7_i_i_i_i_i_i_i_i_i181_i_i_i_i_epil; }
+L_der_core_back_writer_BackWriter_prepend_exit_i_i16:;
+    v_r15_not_i_i172_i_i_i_i = (u8)(v_r20_i336_i ^ ((u8)1 << 7)) > (u8)(255u ^ ((u8)1 << 7));
+    if (v_r15_not_i_i172_i_i_i_i) { p_v_r7_sroa_130_6_i_i_i = v_r17_i_i_i161_i_i_i_i; goto L_der_core_borrowed_BorrowedEncode_prepend_f4fc96f16__8; } else { goto L_then_1_i_i173_i_i_i_i; }
+L_then_1_i_i173_i_i_i_i:;
+    v_r17_i3_i_i174_i_i_i_i = (u64)((u64)(v_r17_i_i_i161_i_i_i_i) + (u64)(18446744073709551615ull));
+    v_r26_i5_i_i176_i_i_i_i = (P)((uintptr_t)v_r13 + (u64)(v_r17_i3_i_i174_i_i_i_i));
+    put_u8(v_r26_i5_i_i176_i_i_i_i, 0u);
+    { p_v_r7_sroa_130_6_i_i_i = v_r17_i3_i_i174_i_i_i_i; goto L_der_core_borrowed_BorrowedEncode_prepend_f4fc96f16__8; }
 L_der_core_borrowed_BorrowedEncode_prepend_f4fc96f16__8:;
     v_r7_sroa_130_6_i_i_i = p_v_r7_sroa_130_6_i_i_i;
     v_67 = (u64)((u64)(v_r7_sroa_130_6_i_i_i) + (u64)(v_r3_i8_i_i_i));
     v_68 = (u64)((u64)(v_r7_sroa_130_18_i_i_i) - (u64)(v_67));
     v_69 = (u32)(v_68);
-    v_r2_i_i181_i_i_i_i = (u32)((u32)(v_r1_sroa_9_4_copyload_i_i_i_i) + (u32)(v_69));
-    v_r59_i253_i_i_i = v_r2_i_i181_i_i_i_i < 128u;
+    v_r2_i_i180_i_i_i_i = (u32)((u32)(v_r1_sroa_9_4_copyload_i_i_i_i) + (u32)(v_69));
+    v_r59_i253_i_i_i = v_r2_i_i180_i_i_i_i < 128u;
     if (v_r59_i253_i_i_i) { goto L_then_1_i314_i_i_i; } else { goto L_else_2_i254_i_i_i; }
 L_then_1_i314_i_i_i:;
-    v_r64_i315_i_i_i = (u16)(v_r2_i_i181_i_i_i_i);
+    v_r64_i315_i_i_i = (u16)(v_r2_i_i180_i_i_i_i);
     v_r17_i_i319_i_i_i = (u64)((u64)(v_r7_sroa_130_6_i_i_i) + (u64)(18446744073709551614ull));
     v_r26_i_i321_i_i_i = (P)((uintptr_t)v_r13 + (u64)(v_r17_i_i319_i_i_i));
     v_r8_i248_sroa_4_0_insert_shift_i_i_i = (u16)((u32)(v_r64_i315_i_i_i) << (u32)((8u & 31)));
@@ -38672,10 +38683,10 @@ L_then_1_i314_i_i_i:;
     put_u16(v_r26_i_i321_i_i_i, v_r8_i248_sroa_0_0_insert_insert_i_i_i);
     { p_v_r7_sroa_130_17_i_i_i = v_r17_i_i319_i_i_i; goto L_der_core_back_writer_BackWriter_prepend_header_exi__10; }
 L_else_2_i254_i_i_i:;
-    v_r75_i255_i_i_i = v_r2_i_i181_i_i_i_i < 256u;
+    v_r75_i255_i_i_i = v_r2_i_i180_i_i_i_i < 256u;
     if (v_r75_i255_i_i_i) { goto L_then_4_i305_i_i_i; } else { goto L_else_5_i256_i_i_i; }
 L_then_4_i305_i_i_i:;
-    v_r80_i306_i_i_i = (u8)(v_r2_i_i181_i_i_i_i);
+    v_r80_i306_i_i_i = (u8)(v_r2_i_i180_i_i_i_i);
     v_r17_i28_i311_i_i_i = (u64)((u64)(v_r7_sroa_130_6_i_i_i) + (u64)(18446744073709551613ull));
     v_r26_i30_i313_i_i_i = (P)((uintptr_t)v_r13 + (u64)(v_r17_i28_i311_i_i_i));
     put_u8(v_r26_i30_i313_i_i_i, 2u);
@@ -38685,24 +38696,24 @@ L_then_4_i305_i_i_i:;
     put_u8(v_r14_i249_sroa_5_0_r26_i30_i313_sroa_idx_i_i_i, v_r80_i306_i_i_i);
     { p_v_r7_sroa_130_17_i_i_i = v_r17_i28_i311_i_i_i; goto L_der_core_back_writer_BackWriter_prepend_header_exi__10; }
 L_else_5_i256_i_i_i:;
-    v_r92_i257_i_i_i = v_r2_i_i181_i_i_i_i < 65536u;
+    v_r92_i257_i_i_i = v_r2_i_i180_i_i_i_i < 65536u;
     if (v_r92_i257_i_i_i) { goto L_then_7_i293_i_i_i; } else { goto L_else_8_i258_i_i_i; }
 L_then_7_i293_i_i_i:;
     v_r17_i46_i301_i_i_i = (u64)((u64)(v_r7_sroa_130_6_i_i_i) + (u64)(18446744073709551612ull));
     v_r26_i48_i303_i_i_i = (P)((uintptr_t)v_r13 + (u64)(v_r17_i46_i301_i_i_i));
-    v_70 = (u32)((u32)(v_r2_i_i181_i_i_i_i) | (u32)(42074112u));
+    v_70 = (u32)((u32)(v_r2_i_i180_i_i_i_i) | (u32)(42074112u));
     v_r20_i250_sroa_0_0_insert_insert_i_i_i = __builtin_bswap32(v_70);
     put_u32(v_r26_i48_i303_i_i_i, v_r20_i250_sroa_0_0_insert_insert_i_i_i);
     { p_v_r7_sroa_130_17_i_i_i = v_r17_i46_i301_i_i_i; goto L_der_core_back_writer_BackWriter_prepend_header_exi__10; }
 L_else_8_i258_i_i_i:;
-    v_r117_i259_i_i_i = v_r2_i_i181_i_i_i_i < 16777216u;
+    v_r117_i259_i_i_i = v_r2_i_i180_i_i_i_i < 16777216u;
     if (v_r117_i259_i_i_i) { goto L_then_10_i278_i_i_i; } else { goto L_else_11_i260_i_i_i; }
 L_then_10_i278_i_i_i:;
-    v_r12223_i279_i_i_i = (u32)((u32)(v_r2_i_i181_i_i_i_i) >> (u32)((16u & 31)));
+    v_r12223_i279_i_i_i = (u32)((u32)(v_r2_i_i180_i_i_i_i) >> (u32)((16u & 31)));
     v_r124_i280_i_i_i = (u8)(v_r12223_i279_i_i_i);
-    v_r12624_i281_i_i_i = (u32)((u32)(v_r2_i_i181_i_i_i_i) >> (u32)((8u & 31)));
+    v_r12624_i281_i_i_i = (u32)((u32)(v_r2_i_i180_i_i_i_i) >> (u32)((8u & 31)));
     v_r130_i282_i_i_i = (u8)(v_r12624_i281_i_i_i);
-    v_r134_i283_i_i_i = (u8)(v_r2_i_i181_i_i_i_i);
+    v_r134_i283_i_i_i = (u8)(v_r2_i_i180_i_i_i_i);
     v_r17_i64_i290_i_i_i = (u64)((u64)(v_r7_sroa_130_6_i_i_i) + (u64)(18446744073709551611ull));
     v_r26_i66_i292_i_i_i = (P)((uintptr_t)v_r13 + (u64)(v_r17_i64_i290_i_i_i));
     put_u8(v_r26_i66_i292_i_i_i, 2u);
@@ -38716,13 +38727,13 @@ L_then_10_i278_i_i_i:;
     put_u8(v_r29_i251_sroa_7_0_r26_i66_i292_sroa_idx_i_i_i, v_r134_i283_i_i_i);
     { p_v_r7_sroa_130_17_i_i_i = v_r17_i64_i290_i_i_i; goto L_der_core_back_writer_BackWriter_prepend_header_exi__10; }
 L_else_11_i260_i_i_i:;
-    v_r15020_i261_i_i_i = (u32)((u32)(v_r2_i_i181_i_i_i_i) >> (u32)((24u & 31)));
+    v_r15020_i261_i_i_i = (u32)((u32)(v_r2_i_i180_i_i_i_i) >> (u32)((24u & 31)));
     v_r152_i262_i_i_i = (u8)(v_r15020_i261_i_i_i);
-    v_r15421_i263_i_i_i = (u32)((u32)(v_r2_i_i181_i_i_i_i) >> (u32)((16u & 31)));
+    v_r15421_i263_i_i_i = (u32)((u32)(v_r2_i_i180_i_i_i_i) >> (u32)((16u & 31)));
     v_r158_i264_i_i_i = (u8)(v_r15421_i263_i_i_i);
-    v_r16022_i265_i_i_i = (u32)((u32)(v_r2_i_i181_i_i_i_i) >> (u32)((8u & 31)));
+    v_r16022_i265_i_i_i = (u32)((u32)(v_r2_i_i180_i_i_i_i) >> (u32)((8u & 31)));
     v_r164_i266_i_i_i = (u8)(v_r16022_i265_i_i_i);
-    v_r168_i267_i_i_i = (u8)(v_r2_i_i181_i_i_i_i);
+    v_r168_i267_i_i_i = (u8)(v_r2_i_i180_i_i_i_i);
     v_r17_i82_i275_i_i_i = (u64)((u64)(v_r7_sroa_130_6_i_i_i) + (u64)(18446744073709551610ull));
     v_r26_i84_i277_i_i_i = (P)((uintptr_t)v_r13 + (u64)(v_r17_i82_i275_i_i_i));
     put_u8(v_r26_i84_i277_i_i_i, 2u);
@@ -38739,84 +38750,84 @@ L_else_11_i260_i_i_i:;
     { p_v_r7_sroa_130_17_i_i_i = v_r17_i82_i275_i_i_i; goto L_der_core_back_writer_BackWriter_prepend_header_exi__10; }
 L_der_core_back_writer_BackWriter_prepend_header_exi__10:;
     v_r7_sroa_130_17_i_i_i = p_v_r7_sroa_130_17_i_i_i;
-    v_r17_i_i_i195_i_i_i_i = (u64)((u64)(v_r7_sroa_130_17_i_i_i) - (u64)(v_r1_sroa_3_0_copyload_i_i194_i_i_i_i));
-    v_r26_i_i_i197_i_i_i_i = (P)((uintptr_t)v_r13 + (u64)(v_r17_i_i_i195_i_i_i_i));
-    v_r8_i_i_i_i_i_i_i_i_i198_i_i_i_i = (u64)((uintptr_t)v_r26_i_i_i197_i_i_i_i);
-    v_r9_i_i_i_i_i_i_i_i_i199_i_i_i_i = (u64)((uintptr_t)v_r1_sroa_0_0_copyload_i_i192_i_i_i_i);
-    v_r10_i_i_i_i_i_i_i_i_i200_i_i_i_i = (u64)((u64)(v_r8_i_i_i_i_i_i_i_i_i198_i_i_i_i) - (u64)(v_r9_i_i_i_i_i_i_i_i_i199_i_i_i_i));
-    v_r11_i_i_i_i_i_i_i_i_i201_i_i_i_i = v_r10_i_i_i_i_i_i_i_i_i200_i_i_i_i < v_r1_sroa_3_0_copyload_i_i194_i_i_i_i;
-    if (v_r11_i_i_i_i_i_i_i_i_i201_i_i_i_i) { goto L_join_7_i_i_i_i_i_i_i_i_i215_i_i_i_i_preheader; } else { goto L_apart_2_i_i_i_i_i_i_i_i_i202_i_i_i_i; }
-L_join_7_i_i_i_i_i_i_i_i_i215_i_i_i_i_preheader:;
-    v_xtraiter255 = (u64)((u64)(v_r1_sroa_3_0_copyload_i_i194_i_i_i_i) & (u64)(3u));
-    v_71 = v_r1_sroa_3_0_copyload_i_i194_i_i_i_i < 4u;
-    if (v_71) { p_v_r0_04_i_i_i_i_i_i_i_i_i216_i_i_i_i_epil_init = 0u; goto L_join_7_i_i_i_i_i_i_i_i_i215_i_i_i_i_epil_preheader; } else { goto L_join_7_i_i_i_i_i_i_i_i_i215_i_i_i_i_preheader_new; }
-L_join_7_i_i_i_i_i_i_i_i_i215_i_i_i_i_preheader_new:;
-    v_unroll_iter259 = (u64)((u64)(v_r1_sroa_3_0_copyload_i_i194_i_i_i_i) & (u64)(4294967292ull));
-    { p_v_r0_04_i_i_i_i_i_i_i_i_i216_i_i_i_i = 0u; p_v_niter260 = 0u; goto L_join_7_i_i_i_i_i_i_i_i_i215_i_i_i_i; }
-L_apart_2_i_i_i_i_i_i_i_i_i202_i_i_i_i:;
-    move(v_r26_i_i_i197_i_i_i_i, v_r1_sroa_0_0_copyload_i_i192_i_i_i_i, v_r1_sroa_3_0_copyload_i_i194_i_i_i_i);
+    v_r17_i_i_i194_i_i_i_i = (u64)((u64)(v_r7_sroa_130_17_i_i_i) - (u64)(v_r1_sroa_3_0_copyload_i_i193_i_i_i_i));
+    v_r26_i_i_i196_i_i_i_i = (P)((uintptr_t)v_r13 + (u64)(v_r17_i_i_i194_i_i_i_i));
+    v_r8_i_i_i_i_i_i_i_i_i197_i_i_i_i = (u64)((uintptr_t)v_r26_i_i_i196_i_i_i_i);
+    v_r9_i_i_i_i_i_i_i_i_i198_i_i_i_i = (u64)((uintptr_t)v_r1_sroa_0_0_copyload_i_i191_i_i_i_i);
+    v_r10_i_i_i_i_i_i_i_i_i199_i_i_i_i = (u64)((u64)(v_r8_i_i_i_i_i_i_i_i_i197_i_i_i_i) - (u64)(v_r9_i_i_i_i_i_i_i_i_i198_i_i_i_i));
+    v_r11_i_i_i_i_i_i_i_i_i200_i_i_i_i = v_r10_i_i_i_i_i_i_i_i_i199_i_i_i_i < v_r1_sroa_3_0_copyload_i_i193_i_i_i_i;
+    if (v_r11_i_i_i_i_i_i_i_i_i200_i_i_i_i) { goto L_join_7_i_i_i_i_i_i_i_i_i214_i_i_i_i_preheader; } else { goto L_apart_2_i_i_i_i_i_i_i_i_i201_i_i_i_i; }
+L_join_7_i_i_i_i_i_i_i_i_i214_i_i_i_i_preheader:;
+    v_xtraiter255 = (u64)((u64)(v_r1_sroa_3_0_copyload_i_i193_i_i_i_i) & (u64)(3u));
+    v_71 = v_r1_sroa_3_0_copyload_i_i193_i_i_i_i < 4u;
+    if (v_71) { p_v_r0_04_i_i_i_i_i_i_i_i_i215_i_i_i_i_epil_init = 0u; goto L_join_7_i_i_i_i_i_i_i_i_i214_i_i_i_i_epil_preheader; } else { goto L_join_7_i_i_i_i_i_i_i_i_i214_i_i_i_i_preheader_new; }
+L_join_7_i_i_i_i_i_i_i_i_i214_i_i_i_i_preheader_new:;
+    v_unroll_iter259 = (u64)((u64)(v_r1_sroa_3_0_copyload_i_i193_i_i_i_i) & (u64)(4294967292ull));
+    { p_v_r0_04_i_i_i_i_i_i_i_i_i215_i_i_i_i = 0u; p_v_niter260 = 0u; goto L_join_7_i_i_i_i_i_i_i_i_i214_i_i_i_i; }
+L_apart_2_i_i_i_i_i_i_i_i_i201_i_i_i_i:;
+    move(v_r26_i_i_i196_i_i_i_i, v_r1_sroa_0_0_copyload_i_i191_i_i_i_i, v_r1_sroa_3_0_copyload_i_i193_i_i_i_i);
     { goto L_der_core_back_writer_BackWriter_prepend_exit_i_i20; }
-L_join_7_i_i_i_i_i_i_i_i_i215_i_i_i_i:;
-    v_r0_04_i_i_i_i_i_i_i_i_i216_i_i_i_i = p_v_r0_04_i_i_i_i_i_i_i_i_i216_i_i_i_i;
+L_join_7_i_i_i_i_i_i_i_i_i214_i_i_i_i:;
+    v_r0_04_i_i_i_i_i_i_i_i_i215_i_i_i_i = p_v_r0_04_i_i_i_i_i_i_i_i_i215_i_i_i_i;
     v_niter260 = p_v_niter260;
-    v_r20_i_i_i_i_i_i_i_i_i217_i_i_i_i = v_r26_i_i_i197_i_i_i_i + (int64_t)(v_r0_04_i_i_i_i_i_i_i_i_i216_i_i_i_i);
-    v_r24_i_i_i_i_i_i_i_i_i218_i_i_i_i = v_r1_sroa_0_0_copyload_i_i192_i_i_i_i + (int64_t)(v_r0_04_i_i_i_i_i_i_i_i_i216_i_i_i_i);
-    v_r26_i_i_i_i_i_i_i_i_i219_i_i_i_i = get_u8(v_r24_i_i_i_i_i_i_i_i_i218_i_i_i_i);
-    put_u8(v_r20_i_i_i_i_i_i_i_i_i217_i_i_i_i, v_r26_i_i_i_i_i_i_i_i_i219_i_i_i_i);
-    v_r30_i_i_i_i_i_i_i_i_i220_i_i_i_i = (u64)((u64)(v_r0_04_i_i_i_i_i_i_i_i_i216_i_i_i_i) | (u64)(1u));
-    v_r20_i_i_i_i_i_i_i_i_i217_i_i_i_i_1 = v_r26_i_i_i197_i_i_i_i + (int64_t)(v_r30_i_i_i_i_i_i_i_i_i220_i_i_i_i);
-    v_r24_i_i_i_i_i_i_i_i_i218_i_i_i_i_1 = v_r1_sroa_0_0_copyload_i_i192_i_i_i_i + (int64_t)(v_r30_i_i_i_i_i_i_i_i_i220_i_i_i_i);
-    v_r26_i_i_i_i_i_i_i_i_i219_i_i_i_i_1 = get_u8(v_r24_i_i_i_i_i_i_i_i_i218_i_i_i_i_1);
-    put_u8(v_r20_i_i_i_i_i_i_i_i_i217_i_i_i_i_1, v_r26_i_i_i_i_i_i_i_i_i219_i_i_i_i_1);
-    v_r30_i_i_i_i_i_i_i_i_i220_i_i_i_i_1 = (u64)((u64)(v_r0_04_i_i_i_i_i_i_i_i_i216_i_i_i_i) | (u64)(2u));
-    v_r20_i_i_i_i_i_i_i_i_i217_i_i_i_i_2 = v_r26_i_i_i197_i_i_i_i + (int64_t)(v_r30_i_i_i_i_i_i_i_i_i220_i_i_i_i_1);
-    v_r24_i_i_i_i_i_i_i_i_i218_i_i_i_i_2 = v_r1_sroa_0_0_copyload_i_i192_i_i_i_i + (int64_t)(v_r30_i_i_i_i_i_i_i_i_i220_i_i_i_i_1);
-    v_r26_i_i_i_i_i_i_i_i_i219_i_i_i_i_2 = get_u8(v_r24_i_i_i_i_i_i_i_i_i218_i_i_i_i_2);
-    put_u8(v_r20_i_i_i_i_i_i_i_i_i217_i_i_i_i_2, v_r26_i_i_i_i_i_i_i_i_i219_i_i_i_i_2);
-    v_r30_i_i_i_i_i_i_i_i_i220_i_i_i_i_2 = (u64)((u64)(v_r0_04_i_i_i_i_i_i_i_i_i216_i_i_i_i) | (u64)(3u));
-    v_r20_i_i_i_i_i_i_i_i_i217_i_i_i_i_3 = v_r26_i_i_i197_i_i_i_i + (int64_t)(v_r30_i_i_i_i_i_i_i_i_i220_i_i_i_i_2);
-    v_r24_i_i_i_i_i_i_i_i_i218_i_i_i_i_3 = v_r1_sroa_0_0_copyload_i_i192_i_i_i_i + (int64_t)(v_r30_i_i_i_i_i_i_i_i_i220_i_i_i_i_2);
-    v_r26_i_i_i_i_i_i_i_i_i219_i_i_i_i_3 = get_u8(v_r24_i_i_i_i_i_i_i_i_i218_i_i_i_i_3);
-    put_u8(v_r20_i_i_i_i_i_i_i_i_i217_i_i_i_i_3, v_r26_i_i_i_i_i_i_i_i_i219_i_i_i_i_3);
-    v_r30_i_i_i_i_i_i_i_i_i220_i_i_i_i_3 = (u64)((u64)(v_r0_04_i_i_i_i_i_i_i_i_i216_i_i_i_i) + (u64)(4u));
+    v_r20_i_i_i_i_i_i_i_i_i216_i_i_i_i = v_r26_i_i_i196_i_i_i_i + (int64_t)(v_r0_04_i_i_i_i_i_i_i_i_i215_i_i_i_i);
+    v_r24_i_i_i_i_i_i_i_i_i217_i_i_i_i = v_r1_sroa_0_0_copyload_i_i191_i_i_i_i + (int64_t)(v_r0_04_i_i_i_i_i_i_i_i_i215_i_i_i_i);
+    v_r26_i_i_i_i_i_i_i_i_i218_i_i_i_i = get_u8(v_r24_i_i_i_i_i_i_i_i_i217_i_i_i_i);
+    put_u8(v_r20_i_i_i_i_i_i_i_i_i216_i_i_i_i, v_r26_i_i_i_i_i_i_i_i_i218_i_i_i_i);
+    v_r30_i_i_i_i_i_i_i_i_i219_i_i_i_i = (u64)((u64)(v_r0_04_i_i_i_i_i_i_i_i_i215_i_i_i_i) | (u64)(1u));
+    v_r20_i_i_i_i_i_i_i_i_i216_i_i_i_i_1 = v_r26_i_i_i196_i_i_i_i + (int64_t)(v_r30_i_i_i_i_i_i_i_i_i219_i_i_i_i);
+    v_r24_i_i_i_i_i_i_i_i_i217_i_i_i_i_1 = v_r1_sroa_0_0_copyload_i_i191_i_i_i_i + (int64_t)(v_r30_i_i_i_i_i_i_i_i_i219_i_i_i_i);
+    v_r26_i_i_i_i_i_i_i_i_i218_i_i_i_i_1 = get_u8(v_r24_i_i_i_i_i_i_i_i_i217_i_i_i_i_1);
+    put_u8(v_r20_i_i_i_i_i_i_i_i_i216_i_i_i_i_1, v_r26_i_i_i_i_i_i_i_i_i218_i_i_i_i_1);
+    v_r30_i_i_i_i_i_i_i_i_i219_i_i_i_i_1 = (u64)((u64)(v_r0_04_i_i_i_i_i_i_i_i_i215_i_i_i_i) | (u64)(2u));
+    v_r20_i_i_i_i_i_i_i_i_i216_i_i_i_i_2 = v_r26_i_i_i196_i_i_i_i + (int64_t)(v_r30_i_i_i_i_i_i_i_i_i219_i_i_i_i_1);
+    v_r24_i_i_i_i_i_i_i_i_i217_i_i_i_i_2 = v_r1_sroa_0_0_copyload_i_i191_i_i_i_i + (int64_t)(v_r30_i_i_i_i_i_i_i_i_i219_i_i_i_i_1);
+    v_r26_i_i_i_i_i_i_i_i_i218_i_i_i_i_2 = get_u8(v_r24_i_i_i_i_i_i_i_i_i217_i_i_i_i_2);
+    put_u8(v_r20_i_i_i_i_i_i_i_i_i216_i_i_i_i_2, v_r26_i_i_i_i_i_i_i_i_i218_i_i_i_i_2);
+    v_r30_i_i_i_i_i_i_i_i_i219_i_i_i_i_2 = (u64)((u64)(v_r0_04_i_i_i_i_i_i_i_i_i215_i_i_i_i) | (u64)(3u));
+    v_r20_i_i_i_i_i_i_i_i_i216_i_i_i_i_3 = v_r26_i_i_i196_i_i_i_i + (int64_t)(v_r30_i_i_i_i_i_i_i_i_i219_i_i_i_i_2);
+    v_r24_i_i_i_i_i_i_i_i_i217_i_i_i_i_3 = v_r1_sroa_0_0_copyload_i_i191_i_i_i_i + (int64_t)(v_r30_i_i_i_i_i_i_i_i_i219_i_i_i_i_2);
+    v_r26_i_i_i_i_i_i_i_i_i218_i_i_i_i_3 = get_u8(v_r24_i_i_i_i_i_i_i_i_i217_i_i_i_i_3);
+    put_u8(v_r20_i_i_i_i_i_i_i_i_i216_i_i_i_i_3, v_r26_i_i_i_i_i_i_i_i_i218_i_i_i_i_3);
+    v_r30_i_i_i_i_i_i_i_i_i219_i_i_i_i_3 = (u64)((u64)(v_r0_04_i_i_i_i_i_i_i_i_i215_i_i_i_i) + (u64)(4u));
     v_niter260_next_3 = (u64)((u64)(v_niter260) + (u64)(4u));
     v_niter260_ncmp_3 = v_niter260_next_3 == v_unroll_iter259;
-    if (v_niter260_ncmp_3) { goto L_der_core_back_writer_BackWriter_prepend_exit_i_i20__2; } else { p_v_r0_04_i_i_i_i_i_i_i_i_i216_i_i_i_i = v_r30_i_i_i_i_i_i_i_i_i220_i_i_i_i_3; p_v_niter260 = v_niter260_next_3; goto L_join_7_i_i_i_i_i_i_i_i_i215_i_i_i_i; }
+    if (v_niter260_ncmp_3) { goto L_der_core_back_writer_BackWriter_prepend_exit_i_i20__2; } else { p_v_r0_04_i_i_i_i_i_i_i_i_i215_i_i_i_i = v_r30_i_i_i_i_i_i_i_i_i219_i_i_i_i_3; p_v_niter260 = v_niter260_next_3; goto L_join_7_i_i_i_i_i_i_i_i_i214_i_i_i_i; }
 L_der_core_back_writer_BackWriter_prepend_exit_i_i20__2:;
     v_lcmp_mod257_not = v_xtraiter255 == 0u;
-    if (v_lcmp_mod257_not) { goto L_der_core_back_writer_BackWriter_prepend_exit_i_i20; } else { p_v_r0_04_i_i_i_i_i_i_i_i_i216_i_i_i_i_epil_init = v_r30_i_i_i_i_i_i_i_i_i220_i_i_i_i_3; goto L_join_7_i_i_i_i_i_i_i_i_i215_i_i_i_i_epil_preheader; }
-L_join_7_i_i_i_i_i_i_i_i_i215_i_i_i_i_epil_preheader:;
-    v_r0_04_i_i_i_i_i_i_i_i_i216_i_i_i_i_epil_init = p_v_r0_04_i_i_i_i_i_i_i_i_i216_i_i_i_i_epil_init;
-    { p_v_r0_04_i_i_i_i_i_i_i_i_i216_i_i_i_i_epil = v_r0_04_i_i_i_i_i_i_i_i_i216_i_i_i_i_epil_init; p_v_epil_iter256 = 0u; goto L_join_7_i_i_i_i_i_i_i_i_i215_i_i_i_i_epil; }
-L_join_7_i_i_i_i_i_i_i_i_i215_i_i_i_i_epil:;
-    v_r0_04_i_i_i_i_i_i_i_i_i216_i_i_i_i_epil = p_v_r0_04_i_i_i_i_i_i_i_i_i216_i_i_i_i_epil;
+    if (v_lcmp_mod257_not) { goto L_der_core_back_writer_BackWriter_prepend_exit_i_i20; } else { p_v_r0_04_i_i_i_i_i_i_i_i_i215_i_i_i_i_epil_init = v_r30_i_i_i_i_i_i_i_i_i219_i_i_i_i_3; goto L_join_7_i_i_i_i_i_i_i_i_i214_i_i_i_i_epil_preheader; }
+L_join_7_i_i_i_i_i_i_i_i_i214_i_i_i_i_epil_preheader:;
+    v_r0_04_i_i_i_i_i_i_i_i_i215_i_i_i_i_epil_init = p_v_r0_04_i_i_i_i_i_i_i_i_i215_i_i_i_i_epil_init;
+    { p_v_r0_04_i_i_i_i_i_i_i_i_i215_i_i_i_i_epil = v_r0_04_i_i_i_i_i_i_i_i_i215_i_i_i_i_epil_init; p_v_epil_iter256 = 0u; goto L_join_7_i_i_i_i_i_i_i_i_i214_i_i_i_i_epil; }
+L_join_7_i_i_i_i_i_i_i_i_i214_i_i_i_i_epil:;
+    v_r0_04_i_i_i_i_i_i_i_i_i215_i_i_i_i_epil = p_v_r0_04_i_i_i_i_i_i_i_i_i215_i_i_i_i_epil;
     v_epil_iter256 = p_v_epil_iter256;
-    v_r20_i_i_i_i_i_i_i_i_i217_i_i_i_i_epil = v_r26_i_i_i197_i_i_i_i + (int64_t)(v_r0_04_i_i_i_i_i_i_i_i_i216_i_i_i_i_epil);
-    v_r24_i_i_i_i_i_i_i_i_i218_i_i_i_i_epil = v_r1_sroa_0_0_copyload_i_i192_i_i_i_i + (int64_t)(v_r0_04_i_i_i_i_i_i_i_i_i216_i_i_i_i_epil);
-    v_r26_i_i_i_i_i_i_i_i_i219_i_i_i_i_epil = get_u8(v_r24_i_i_i_i_i_i_i_i_i218_i_i_i_i_epil);
-    put_u8(v_r20_i_i_i_i_i_i_i_i_i217_i_i_i_i_epil, v_r26_i_i_i_i_i_i_i_i_i219_i_i_i_i_epil);
-    v_r30_i_i_i_i_i_i_i_i_i220_i_i_i_i_epil = (u64)((u64)(v_r0_04_i_i_i_i_i_i_i_i_i216_i_i_i_i_epil) + (u64)(1u));
+    v_r20_i_i_i_i_i_i_i_i_i216_i_i_i_i_epil = v_r26_i_i_i196_i_i_i_i + (int64_t)(v_r0_04_i_i_i_i_i_i_i_i_i215_i_i_i_i_epil);
+    v_r24_i_i_i_i_i_i_i_i_i217_i_i_i_i_epil = v_r1_sroa_0_0_copyload_i_i191_i_i_i_i + (int64_t)(v_r0_04_i_i_i_i_i_i_i_i_i215_i_i_i_i_epil);
+    v_r26_i_i_i_i_i_i_i_i_i218_i_i_i_i_epil = get_u8(v_r24_i_i_i_i_i_i_i_i_i217_i_i_i_i_epil);
+    put_u8(v_r20_i_i_i_i_i_i_i_i_i216_i_i_i_i_epil, v_r26_i_i_i_i_i_i_i_i_i218_i_i_i_i_epil);
+    v_r30_i_i_i_i_i_i_i_i_i219_i_i_i_i_epil = (u64)((u64)(v_r0_04_i_i_i_i_i_i_i_i_i215_i_i_i_i_epil) + (u64)(1u));
     v_epil_iter256_next = (u64)((u64)(v_epil_iter256) + (u64)(1u));
     v_epil_iter256_cmp_not = v_epil_iter256_next == v_xtraiter255;
-    if (v_epil_iter256_cmp_not) { goto L_der_core_back_writer_BackWriter_prepend_exit_i_i20; } else { p_v_r0_04_i_i_i_i_i_i_i_i_i216_i_i_i_i_epil = v_r30_i_i_i_i_i_i_i_i_i220_i_i_i_i_epil; p_v_epil_iter256 = v_epil_iter256_next; goto L_join_7_i_i_i_i_i_i_i_i_i215_i_i_i_i_epil; }
+    if (v_epil_iter256_cmp_not) { goto L_der_core_back_writer_BackWriter_prepend_exit_i_i20; } else { p_v_r0_04_i_i_i_i_i_i_i_i_i215_i_i_i_i_epil = v_r30_i_i_i_i_i_i_i_i_i219_i_i_i_i_epil; p_v_epil_iter256 = v_epil_iter256_next; goto L_join_7_i_i_i_i_i_i_i_i_i214_i_i_i_i_epil; }
 L_der_core_back_writer_BackWriter_prepend_exit_i_i20:;
-    v_r15_not_i_i206_i_i_i_i = (u8)(v_r20_i326_i ^ ((u8)1 << 7)) > (u8)(255u ^ ((u8)1 << 7));
-    if (v_r15_not_i_i206_i_i_i_i) { p_v_r7_sroa_130_7_i_i_i = v_r17_i_i_i195_i_i_i_i; goto L_der_core_borrowed_BorrowedEncode_prepend_f4fc96f16__9; } else { goto L_then_1_i_i207_i_i_i_i; }
-L_then_1_i_i207_i_i_i_i:;
-    v_r17_i3_i_i208_i_i_i_i = (u64)((u64)(v_r17_i_i_i195_i_i_i_i) + (u64)(18446744073709551615ull));
-    v_r26_i5_i_i210_i_i_i_i = (P)((uintptr_t)v_r13 + (u64)(v_r17_i3_i_i208_i_i_i_i));
-    put_u8(v_r26_i5_i_i210_i_i_i_i, 0u);
-    { p_v_r7_sroa_130_7_i_i_i = v_r17_i3_i_i208_i_i_i_i; goto L_der_core_borrowed_BorrowedEncode_prepend_f4fc96f16__9; }
+    v_r15_not_i_i205_i_i_i_i = (u8)(v_r20_i326_i ^ ((u8)1 << 7)) > (u8)(255u ^ ((u8)1 << 7));
+    if (v_r15_not_i_i205_i_i_i_i) { p_v_r7_sroa_130_7_i_i_i = v_r17_i_i_i194_i_i_i_i; goto L_der_core_borrowed_BorrowedEncode_prepend_f4fc96f16__9; } else { goto L_then_1_i_i206_i_i_i_i; }
+L_then_1_i_i206_i_i_i_i:;
+    v_r17_i3_i_i207_i_i_i_i = (u64)((u64)(v_r17_i_i_i194_i_i_i_i) + (u64)(18446744073709551615ull));
+    v_r26_i5_i_i209_i_i_i_i = (P)((uintptr_t)v_r13 + (u64)(v_r17_i3_i_i207_i_i_i_i));
+    put_u8(v_r26_i5_i_i209_i_i_i_i, 0u);
+    { p_v_r7_sroa_130_7_i_i_i = v_r17_i3_i_i207_i_i_i_i; goto L_der_core_borrowed_BorrowedEncode_prepend_f4fc96f16__9; }
 L_der_core_borrowed_BorrowedEncode_prepend_f4fc96f16__9:;
     v_r7_sroa_130_7_i_i_i = p_v_r7_sroa_130_7_i_i_i;
     v_72 = (u64)((u64)(v_r7_sroa_130_7_i_i_i) + (u64)(v_r3_i8_i_i_i));
     v_73 = (u64)((u64)(v_r7_sroa_130_17_i_i_i) - (u64)(v_72));
     v_74 = (u32)(v_73);
-    v_r2_i_i214_i_i_i_i = (u32)((u32)(v_r1_sroa_9_4_copyload_i_i_i_i) + (u32)(v_74));
-    v_r59_i177_i_i_i = v_r2_i_i214_i_i_i_i < 128u;
+    v_r2_i_i213_i_i_i_i = (u32)((u32)(v_r1_sroa_9_4_copyload_i_i_i_i) + (u32)(v_74));
+    v_r59_i177_i_i_i = v_r2_i_i213_i_i_i_i < 128u;
     if (v_r59_i177_i_i_i) { goto L_then_1_i238_i_i_i; } else { goto L_else_2_i178_i_i_i; }
 L_then_1_i238_i_i_i:;
-    v_r64_i239_i_i_i = (u16)(v_r2_i_i214_i_i_i_i);
+    v_r64_i239_i_i_i = (u16)(v_r2_i_i213_i_i_i_i);
     v_r17_i_i243_i_i_i = (u64)((u64)(v_r7_sroa_130_7_i_i_i) + (u64)(18446744073709551614ull));
     v_r26_i_i245_i_i_i = (P)((uintptr_t)v_r13 + (u64)(v_r17_i_i243_i_i_i));
     v_r8_i172_sroa_4_0_insert_shift_i_i_i = (u16)((u32)(v_r64_i239_i_i_i) << (u32)((8u & 31)));
@@ -38824,10 +38835,10 @@ L_then_1_i238_i_i_i:;
     put_u16(v_r26_i_i245_i_i_i, v_r8_i172_sroa_0_0_insert_insert_i_i_i);
     { p_v_r7_sroa_130_16_i_i_i = v_r17_i_i243_i_i_i; goto L_der_core_back_writer_BackWriter_prepend_header_exi__11; }
 L_else_2_i178_i_i_i:;
-    v_r75_i179_i_i_i = v_r2_i_i214_i_i_i_i < 256u;
+    v_r75_i179_i_i_i = v_r2_i_i213_i_i_i_i < 256u;
     if (v_r75_i179_i_i_i) { goto L_then_4_i229_i_i_i; } else { goto L_else_5_i180_i_i_i; }
 L_then_4_i229_i_i_i:;
-    v_r80_i230_i_i_i = (u8)(v_r2_i_i214_i_i_i_i);
+    v_r80_i230_i_i_i = (u8)(v_r2_i_i213_i_i_i_i);
     v_r17_i28_i235_i_i_i = (u64)((u64)(v_r7_sroa_130_7_i_i_i) + (u64)(18446744073709551613ull));
     v_r26_i30_i237_i_i_i = (P)((uintptr_t)v_r13 + (u64)(v_r17_i28_i235_i_i_i));
     put_u8(v_r26_i30_i237_i_i_i, 2u);
@@ -38837,24 +38848,24 @@ L_then_4_i229_i_i_i:;
     put_u8(v_r14_i173_sroa_5_0_r26_i30_i237_sroa_idx_i_i_i, v_r80_i230_i_i_i);
     { p_v_r7_sroa_130_16_i_i_i = v_r17_i28_i235_i_i_i; goto L_der_core_back_writer_BackWriter_prepend_header_exi__11; }
 L_else_5_i180_i_i_i:;
-    v_r92_i181_i_i_i = v_r2_i_i214_i_i_i_i < 65536u;
+    v_r92_i181_i_i_i = v_r2_i_i213_i_i_i_i < 65536u;
     if (v_r92_i181_i_i_i) { goto L_then_7_i217_i_i_i; } else { goto L_else_8_i182_i_i_i; }
 L_then_7_i217_i_i_i:;
     v_r17_i46_i225_i_i_i = (u64)((u64)(v_r7_sroa_130_7_i_i_i) + (u64)(18446744073709551612ull));
     v_r26_i48_i227_i_i_i = (P)((uintptr_t)v_r13 + (u64)(v_r17_i46_i225_i_i_i));
-    v_75 = (u32)((u32)(v_r2_i_i214_i_i_i_i) | (u32)(42074112u));
+    v_75 = (u32)((u32)(v_r2_i_i213_i_i_i_i) | (u32)(42074112u));
     v_r20_i174_sroa_0_0_insert_insert_i_i_i = __builtin_bswap32(v_75);
     put_u32(v_r26_i48_i227_i_i_i, v_r20_i174_sroa_0_0_insert_insert_i_i_i);
     { p_v_r7_sroa_130_16_i_i_i = v_r17_i46_i225_i_i_i; goto L_der_core_back_writer_BackWriter_prepend_header_exi__11; }
 L_else_8_i182_i_i_i:;
-    v_r117_i183_i_i_i = v_r2_i_i214_i_i_i_i < 16777216u;
+    v_r117_i183_i_i_i = v_r2_i_i213_i_i_i_i < 16777216u;
     if (v_r117_i183_i_i_i) { goto L_then_10_i202_i_i_i; } else { goto L_else_11_i184_i_i_i; }
 L_then_10_i202_i_i_i:;
-    v_r12223_i203_i_i_i = (u32)((u32)(v_r2_i_i214_i_i_i_i) >> (u32)((16u & 31)));
+    v_r12223_i203_i_i_i = (u32)((u32)(v_r2_i_i213_i_i_i_i) >> (u32)((16u & 31)));
     v_r124_i204_i_i_i = (u8)(v_r12223_i203_i_i_i);
-    v_r12624_i205_i_i_i = (u32)((u32)(v_r2_i_i214_i_i_i_i) >> (u32)((8u & 31)));
+    v_r12624_i205_i_i_i = (u32)((u32)(v_r2_i_i213_i_i_i_i) >> (u32)((8u & 31)));
     v_r130_i206_i_i_i = (u8)(v_r12624_i205_i_i_i);
-    v_r134_i207_i_i_i = (u8)(v_r2_i_i214_i_i_i_i);
+    v_r134_i207_i_i_i = (u8)(v_r2_i_i213_i_i_i_i);
     v_r17_i64_i214_i_i_i = (u64)((u64)(v_r7_sroa_130_7_i_i_i) + (u64)(18446744073709551611ull));
     v_r26_i66_i216_i_i_i = (P)((uintptr_t)v_r13 + (u64)(v_r17_i64_i214_i_i_i));
     put_u8(v_r26_i66_i216_i_i_i, 2u);
@@ -38868,13 +38879,13 @@ L_then_10_i202_i_i_i:;
     put_u8(v_r29_i175_sroa_7_0_r26_i66_i216_sroa_idx_i_i_i, v_r134_i207_i_i_i);
     { p_v_r7_sroa_130_16_i_i_i = v_r17_i64_i214_i_i_i; goto L_der_core_back_writer_BackWriter_prepend_header_exi__11; }
 L_else_11_i184_i_i_i:;
-    v_r15020_i185_i_i_i = (u32)((u32)(v_r2_i_i214_i_i_i_i) >> (u32)((24u & 31)));
+    v_r15020_i185_i_i_i = (u32)((u32)(v_r2_i_i213_i_i_i_i) >> (u32)((24u & 31)));
     v_r152_i186_i_i_i = (u8)(v_r15020_i185_i_i_i);
-    v_r15421_i187_i_i_i = (u32)((u32)(v_r2_i_i214_i_i_i_i) >> (u32)((16u & 31)));
+    v_r15421_i187_i_i_i = (u32)((u32)(v_r2_i_i213_i_i_i_i) >> (u32)((16u & 31)));
     v_r158_i188_i_i_i = (u8)(v_r15421_i187_i_i_i);
-    v_r16022_i189_i_i_i = (u32)((u32)(v_r2_i_i214_i_i_i_i) >> (u32)((8u & 31)));
+    v_r16022_i189_i_i_i = (u32)((u32)(v_r2_i_i213_i_i_i_i) >> (u32)((8u & 31)));
     v_r164_i190_i_i_i = (u8)(v_r16022_i189_i_i_i);
-    v_r168_i191_i_i_i = (u8)(v_r2_i_i214_i_i_i_i);
+    v_r168_i191_i_i_i = (u8)(v_r2_i_i213_i_i_i_i);
     v_r17_i82_i199_i_i_i = (u64)((u64)(v_r7_sroa_130_7_i_i_i) + (u64)(18446744073709551610ull));
     v_r26_i84_i201_i_i_i = (P)((uintptr_t)v_r13 + (u64)(v_r17_i82_i199_i_i_i));
     put_u8(v_r26_i84_i201_i_i_i, 2u);
@@ -38891,87 +38902,87 @@ L_else_11_i184_i_i_i:;
     { p_v_r7_sroa_130_16_i_i_i = v_r17_i82_i199_i_i_i; goto L_der_core_back_writer_BackWriter_prepend_header_exi__11; }
 L_der_core_back_writer_BackWriter_prepend_header_exi__11:;
     v_r7_sroa_130_16_i_i_i = p_v_r7_sroa_130_16_i_i_i;
-    v_r1_sroa_0_0_copyload_i_i225_i_i_i_i = get_P(v_r5_i);
-    v_r1_sroa_3_0_copyload_i_i227_i_i_i_i = get_u64(v_r10_sroa_56_sroa_0_sroa_12_3_r5_sroa_idx_i);
-    v_r17_i_i_i228_i_i_i_i = (u64)((u64)(v_r7_sroa_130_16_i_i_i) - (u64)(v_r1_sroa_3_0_copyload_i_i227_i_i_i_i));
-    v_r26_i_i_i230_i_i_i_i = (P)((uintptr_t)v_r13 + (u64)(v_r17_i_i_i228_i_i_i_i));
-    v_r8_i_i_i_i_i_i_i_i_i231_i_i_i_i = (u64)((uintptr_t)v_r26_i_i_i230_i_i_i_i);
-    v_r9_i_i_i_i_i_i_i_i_i232_i_i_i_i = (u64)((uintptr_t)v_r1_sroa_0_0_copyload_i_i225_i_i_i_i);
-    v_r10_i_i_i_i_i_i_i_i_i233_i_i_i_i = (u64)((u64)(v_r8_i_i_i_i_i_i_i_i_i231_i_i_i_i) - (u64)(v_r9_i_i_i_i_i_i_i_i_i232_i_i_i_i));
-    v_r11_i_i_i_i_i_i_i_i_i234_i_i_i_i = v_r10_i_i_i_i_i_i_i_i_i233_i_i_i_i < v_r1_sroa_3_0_copyload_i_i227_i_i_i_i;
-    if (v_r11_i_i_i_i_i_i_i_i_i234_i_i_i_i) { goto L_join_7_i_i_i_i_i_i_i_i_i248_i_i_i_i_preheader; } else { goto L_apart_2_i_i_i_i_i_i_i_i_i235_i_i_i_i; }
-L_join_7_i_i_i_i_i_i_i_i_i248_i_i_i_i_preheader:;
-    v_xtraiter261 = (u64)((u64)(v_r1_sroa_3_0_copyload_i_i227_i_i_i_i) & (u64)(3u));
-    v_76 = v_r1_sroa_3_0_copyload_i_i227_i_i_i_i < 4u;
-    if (v_76) { p_v_r0_04_i_i_i_i_i_i_i_i_i249_i_i_i_i_epil_init = 0u; goto L_join_7_i_i_i_i_i_i_i_i_i248_i_i_i_i_epil_preheader; } else { goto L_join_7_i_i_i_i_i_i_i_i_i248_i_i_i_i_preheader_new; }
-L_join_7_i_i_i_i_i_i_i_i_i248_i_i_i_i_preheader_new:;
-    v_unroll_iter265 = (u64)((u64)(v_r1_sroa_3_0_copyload_i_i227_i_i_i_i) & (u64)(18446744073709551612ull));
-    { p_v_r0_04_i_i_i_i_i_i_i_i_i249_i_i_i_i = 0u; p_v_niter266 = 0u; goto L_join_7_i_i_i_i_i_i_i_i_i248_i_i_i_i; }
-L_apart_2_i_i_i_i_i_i_i_i_i235_i_i_i_i:;
-    move(v_r26_i_i_i230_i_i_i_i, v_r1_sroa_0_0_copyload_i_i225_i_i_i_i, v_r1_sroa_3_0_copyload_i_i227_i_i_i_i);
+    v_r1_sroa_0_0_copyload_i_i224_i_i_i_i = get_P(v_r5_i);
+    v_r1_sroa_3_0_copyload_i_i226_i_i_i_i = get_u64(v_r10_sroa_56_sroa_0_sroa_12_3_r5_sroa_idx_i);
+    v_r17_i_i_i227_i_i_i_i = (u64)((u64)(v_r7_sroa_130_16_i_i_i) - (u64)(v_r1_sroa_3_0_copyload_i_i226_i_i_i_i));
+    v_r26_i_i_i229_i_i_i_i = (P)((uintptr_t)v_r13 + (u64)(v_r17_i_i_i227_i_i_i_i));
+    v_r8_i_i_i_i_i_i_i_i_i230_i_i_i_i = (u64)((uintptr_t)v_r26_i_i_i229_i_i_i_i);
+    v_r9_i_i_i_i_i_i_i_i_i231_i_i_i_i = (u64)((uintptr_t)v_r1_sroa_0_0_copyload_i_i224_i_i_i_i);
+    v_r10_i_i_i_i_i_i_i_i_i232_i_i_i_i = (u64)((u64)(v_r8_i_i_i_i_i_i_i_i_i230_i_i_i_i) - (u64)(v_r9_i_i_i_i_i_i_i_i_i231_i_i_i_i));
+    v_r11_i_i_i_i_i_i_i_i_i233_i_i_i_i = v_r10_i_i_i_i_i_i_i_i_i232_i_i_i_i < v_r1_sroa_3_0_copyload_i_i226_i_i_i_i;
+    if (v_r11_i_i_i_i_i_i_i_i_i233_i_i_i_i) { goto L_join_7_i_i_i_i_i_i_i_i_i247_i_i_i_i_preheader; } else { goto L_apart_2_i_i_i_i_i_i_i_i_i234_i_i_i_i; }
+L_join_7_i_i_i_i_i_i_i_i_i247_i_i_i_i_preheader:;
+    v_xtraiter261 = (u64)((u64)(v_r1_sroa_3_0_copyload_i_i226_i_i_i_i) & (u64)(3u));
+    v_76 = v_r1_sroa_3_0_copyload_i_i226_i_i_i_i < 4u;
+    if (v_76) { p_v_r0_04_i_i_i_i_i_i_i_i_i248_i_i_i_i_epil_init = 0u; goto L_join_7_i_i_i_i_i_i_i_i_i247_i_i_i_i_epil_preheader; } else { goto L_join_7_i_i_i_i_i_i_i_i_i247_i_i_i_i_preheader_new; }
+L_join_7_i_i_i_i_i_i_i_i_i247_i_i_i_i_preheader_new:;
+    v_unroll_iter265 = (u64)((u64)(v_r1_sroa_3_0_copyload_i_i226_i_i_i_i) & (u64)(18446744073709551612ull));
+    { p_v_r0_04_i_i_i_i_i_i_i_i_i248_i_i_i_i = 0u; p_v_niter266 = 0u; goto L_join_7_i_i_i_i_i_i_i_i_i247_i_i_i_i; }
+L_apart_2_i_i_i_i_i_i_i_i_i234_i_i_i_i:;
+    move(v_r26_i_i_i229_i_i_i_i, v_r1_sroa_0_0_copyload_i_i224_i_i_i_i, v_r1_sroa_3_0_copyload_i_i226_i_i_i_i);
     { goto L_der_core_back_writer_BackWriter_prepend_exit_i_i23; }
-L_join_7_i_i_i_i_i_i_i_i_i248_i_i_i_i:;
-    v_r0_04_i_i_i_i_i_i_i_i_i249_i_i_i_i = p_v_r0_04_i_i_i_i_i_i_i_i_i249_i_i_i_i;
+L_join_7_i_i_i_i_i_i_i_i_i247_i_i_i_i:;
+    v_r0_04_i_i_i_i_i_i_i_i_i248_i_i_i_i = p_v_r0_04_i_i_i_i_i_i_i_i_i248_i_i_i_i;
     v_niter266 = p_v_niter266;
-    v_r20_i_i_i_i_i_i_i_i_i250_i_i_i_i = v_r26_i_i_i230_i_i_i_i + (int64_t)(v_r0_04_i_i_i_i_i_i_i_i_i249_i_i_i_i);
-    v_r24_i_i_i_i_i_i_i_i_i251_i_i_i_i = v_r1_sroa_0_0_copyload_i_i225_i_i_i_i + (int64_t)(v_r0_04_i_i_i_i_i_i_i_i_i249_i_i_i_i);
-    v_r26_i_i_i_i_i_i_i_i_i252_i_i_i_i = get_u8(v_r24_i_i_i_i_i_i_i_i_i251_i_i_i_i);
-    put_u8(v_r20_i_i_i_i_i_i_i_i_i250_i_i_i_i, v_r26_i_i_i_i_i_i_i_i_i252_i_i_i_i);
-    v_r30_i_i_i_i_i_i_i_i_i253_i_i_i_i = (u64)((u64)(v_r0_04_i_i_i_i_i_i_i_i_i249_i_i_i_i) | (u64)(1u));
-    v_r20_i_i_i_i_i_i_i_i_i250_i_i_i_i_1 = v_r26_i_i_i230_i_i_i_i + (int64_t)(v_r30_i_i_i_i_i_i_i_i_i253_i_i_i_i);
-    v_r24_i_i_i_i_i_i_i_i_i251_i_i_i_i_1 = v_r1_sroa_0_0_copyload_i_i225_i_i_i_i + (int64_t)(v_r30_i_i_i_i_i_i_i_i_i253_i_i_i_i);
-    v_r26_i_i_i_i_i_i_i_i_i252_i_i_i_i_1 = get_u8(v_r24_i_i_i_i_i_i_i_i_i251_i_i_i_i_1);
-    put_u8(v_r20_i_i_i_i_i_i_i_i_i250_i_i_i_i_1, v_r26_i_i_i_i_i_i_i_i_i252_i_i_i_i_1);
-    v_r30_i_i_i_i_i_i_i_i_i253_i_i_i_i_1 = (u64)((u64)(v_r0_04_i_i_i_i_i_i_i_i_i249_i_i_i_i) | (u64)(2u));
-    v_r20_i_i_i_i_i_i_i_i_i250_i_i_i_i_2 = v_r26_i_i_i230_i_i_i_i + (int64_t)(v_r30_i_i_i_i_i_i_i_i_i253_i_i_i_i_1);
-    v_r24_i_i_i_i_i_i_i_i_i251_i_i_i_i_2 = v_r1_sroa_0_0_copyload_i_i225_i_i_i_i + (int64_t)(v_r30_i_i_i_i_i_i_i_i_i253_i_i_i_i_1);
-    v_r26_i_i_i_i_i_i_i_i_i252_i_i_i_i_2 = get_u8(v_r24_i_i_i_i_i_i_i_i_i251_i_i_i_i_2);
-    put_u8(v_r20_i_i_i_i_i_i_i_i_i250_i_i_i_i_2, v_r26_i_i_i_i_i_i_i_i_i252_i_i_i_i_2);
-    v_r30_i_i_i_i_i_i_i_i_i253_i_i_i_i_2 = (u64)((u64)(v_r0_04_i_i_i_i_i_i_i_i_i249_i_i_i_i) | (u64)(3u));
-    v_r20_i_i_i_i_i_i_i_i_i250_i_i_i_i_3 = v_r26_i_i_i230_i_i_i_i + (int64_t)(v_r30_i_i_i_i_i_i_i_i_i253_i_i_i_i_2);
-    v_r24_i_i_i_i_i_i_i_i_i251_i_i_i_i_3 = v_r1_sroa_0_0_copyload_i_i225_i_i_i_i + (int64_t)(v_r30_i_i_i_i_i_i_i_i_i253_i_i_i_i_2);
-    v_r26_i_i_i_i_i_i_i_i_i252_i_i_i_i_3 = get_u8(v_r24_i_i_i_i_i_i_i_i_i251_i_i_i_i_3);
-    put_u8(v_r20_i_i_i_i_i_i_i_i_i250_i_i_i_i_3, v_r26_i_i_i_i_i_i_i_i_i252_i_i_i_i_3);
-    v_r30_i_i_i_i_i_i_i_i_i253_i_i_i_i_3 = (u64)((u64)(v_r0_04_i_i_i_i_i_i_i_i_i249_i_i_i_i) + (u64)(4u));
+    v_r20_i_i_i_i_i_i_i_i_i249_i_i_i_i = v_r26_i_i_i229_i_i_i_i + (int64_t)(v_r0_04_i_i_i_i_i_i_i_i_i248_i_i_i_i);
+    v_r24_i_i_i_i_i_i_i_i_i250_i_i_i_i = v_r1_sroa_0_0_copyload_i_i224_i_i_i_i + (int64_t)(v_r0_04_i_i_i_i_i_i_i_i_i248_i_i_i_i);
+    v_r26_i_i_i_i_i_i_i_i_i251_i_i_i_i = get_u8(v_r24_i_i_i_i_i_i_i_i_i250_i_i_i_i);
+    put_u8(v_r20_i_i_i_i_i_i_i_i_i249_i_i_i_i, v_r26_i_i_i_i_i_i_i_i_i251_i_i_i_i);
+    v_r30_i_i_i_i_i_i_i_i_i252_i_i_i_i = (u64)((u64)(v_r0_04_i_i_i_i_i_i_i_i_i248_i_i_i_i) | (u64)(1u));
+    v_r20_i_i_i_i_i_i_i_i_i249_i_i_i_i_1 = v_r26_i_i_i229_i_i_i_i + (int64_t)(v_r30_i_i_i_i_i_i_i_i_i252_i_i_i_i);
+    v_r24_i_i_i_i_i_i_i_i_i250_i_i_i_i_1 = v_r1_sroa_0_0_copyload_i_i224_i_i_i_i + (int64_t)(v_r30_i_i_i_i_i_i_i_i_i252_i_i_i_i);
+    v_r26_i_i_i_i_i_i_i_i_i251_i_i_i_i_1 = get_u8(v_r24_i_i_i_i_i_i_i_i_i250_i_i_i_i_1);
+    put_u8(v_r20_i_i_i_i_i_i_i_i_i249_i_i_i_i_1, v_r26_i_i_i_i_i_i_i_i_i251_i_i_i_i_1);
+    v_r30_i_i_i_i_i_i_i_i_i252_i_i_i_i_1 = (u64)((u64)(v_r0_04_i_i_i_i_i_i_i_i_i248_i_i_i_i) | (u64)(2u));
+    v_r20_i_i_i_i_i_i_i_i_i249_i_i_i_i_2 = v_r26_i_i_i229_i_i_i_i + (int64_t)(v_r30_i_i_i_i_i_i_i_i_i252_i_i_i_i_1);
+    v_r24_i_i_i_i_i_i_i_i_i250_i_i_i_i_2 = v_r1_sroa_0_0_copyload_i_i224_i_i_i_i + (int64_t)(v_r30_i_i_i_i_i_i_i_i_i252_i_i_i_i_1);
+    v_r26_i_i_i_i_i_i_i_i_i251_i_i_i_i_2 = get_u8(v_r24_i_i_i_i_i_i_i_i_i250_i_i_i_i_2);
+    put_u8(v_r20_i_i_i_i_i_i_i_i_i249_i_i_i_i_2, v_r26_i_i_i_i_i_i_i_i_i251_i_i_i_i_2);
+    v_r30_i_i_i_i_i_i_i_i_i252_i_i_i_i_2 = (u64)((u64)(v_r0_04_i_i_i_i_i_i_i_i_i248_i_i_i_i) | (u64)(3u));
+    v_r20_i_i_i_i_i_i_i_i_i249_i_i_i_i_3 = v_r26_i_i_i229_i_i_i_i + (int64_t)(v_r30_i_i_i_i_i_i_i_i_i252_i_i_i_i_2);
+    v_r24_i_i_i_i_i_i_i_i_i250_i_i_i_i_3 = v_r1_sroa_0_0_copyload_i_i224_i_i_i_i + (int64_t)(v_r30_i_i_i_i_i_i_i_i_i252_i_i_i_i_2);
+    v_r26_i_i_i_i_i_i_i_i_i251_i_i_i_i_3 = get_u8(v_r24_i_i_i_i_i_i_i_i_i250_i_i_i_i_3);
+    put_u8(v_r20_i_i_i_i_i_i_i_i_i249_i_i_i_i_3, v_r26_i_i_i_i_i_i_i_i_i251_i_i_i_i_3);
+    v_r30_i_i_i_i_i_i_i_i_i252_i_i_i_i_3 = (u64)((u64)(v_r0_04_i_i_i_i_i_i_i_i_i248_i_i_i_i) + (u64)(4u));
     v_niter266_next_3 = (u64)((u64)(v_niter266) + (u64)(4u));
     v_niter266_ncmp_3 = v_niter266_next_3 == v_unroll_iter265;
-    if (v_niter266_ncmp_3) { goto L_der_core_back_writer_BackWriter_prepend_exit_i_i23__2; } else { p_v_r0_04_i_i_i_i_i_i_i_i_i249_i_i_i_i = v_r30_i_i_i_i_i_i_i_i_i253_i_i_i_i_3; p_v_niter266 = v_niter266_next_3; goto L_join_7_i_i_i_i_i_i_i_i_i248_i_i_i_i; }
+    if (v_niter266_ncmp_3) { goto L_der_core_back_writer_BackWriter_prepend_exit_i_i23__2; } else { p_v_r0_04_i_i_i_i_i_i_i_i_i248_i_i_i_i = v_r30_i_i_i_i_i_i_i_i_i252_i_i_i_i_3; p_v_niter266 = v_niter266_next_3; goto L_join_7_i_i_i_i_i_i_i_i_i247_i_i_i_i; }
 L_der_core_back_writer_BackWriter_prepend_exit_i_i23__2:;
     v_lcmp_mod263_not = v_xtraiter261 == 0u;
-    if (v_lcmp_mod263_not) { goto L_der_core_back_writer_BackWriter_prepend_exit_i_i23; } else { p_v_r0_04_i_i_i_i_i_i_i_i_i249_i_i_i_i_epil_init = v_r30_i_i_i_i_i_i_i_i_i253_i_i_i_i_3; goto L_join_7_i_i_i_i_i_i_i_i_i248_i_i_i_i_epil_preheader; }
-L_join_7_i_i_i_i_i_i_i_i_i248_i_i_i_i_epil_preheader:;
-    v_r0_04_i_i_i_i_i_i_i_i_i249_i_i_i_i_epil_init = p_v_r0_04_i_i_i_i_i_i_i_i_i249_i_i_i_i_epil_init;
-    { p_v_r0_04_i_i_i_i_i_i_i_i_i249_i_i_i_i_epil = v_r0_04_i_i_i_i_i_i_i_i_i249_i_i_i_i_epil_init; p_v_epil_iter262 = 0u; goto L_join_7_i_i_i_i_i_i_i_i_i248_i_i_i_i_epil; }
-L_join_7_i_i_i_i_i_i_i_i_i248_i_i_i_i_epil:;
-    v_r0_04_i_i_i_i_i_i_i_i_i249_i_i_i_i_epil = p_v_r0_04_i_i_i_i_i_i_i_i_i249_i_i_i_i_epil;
+    if (v_lcmp_mod263_not) { goto L_der_core_back_writer_BackWriter_prepend_exit_i_i23; } else { p_v_r0_04_i_i_i_i_i_i_i_i_i248_i_i_i_i_epil_init = v_r30_i_i_i_i_i_i_i_i_i252_i_i_i_i_3; goto L_join_7_i_i_i_i_i_i_i_i_i247_i_i_i_i_epil_preheader; }
+L_join_7_i_i_i_i_i_i_i_i_i247_i_i_i_i_epil_preheader:;
+    v_r0_04_i_i_i_i_i_i_i_i_i248_i_i_i_i_epil_init = p_v_r0_04_i_i_i_i_i_i_i_i_i248_i_i_i_i_epil_init;
+    { p_v_r0_04_i_i_i_i_i_i_i_i_i248_i_i_i_i_epil = v_r0_04_i_i_i_i_i_i_i_i_i248_i_i_i_i_epil_init; p_v_epil_iter262 = 0u; goto L_join_7_i_i_i_i_i_i_i_i_i247_i_i_i_i_epil; }
+L_join_7_i_i_i_i_i_i_i_i_i247_i_i_i_i_epil:;
+    v_r0_04_i_i_i_i_i_i_i_i_i248_i_i_i_i_epil = p_v_r0_04_i_i_i_i_i_i_i_i_i248_i_i_i_i_epil;
     v_epil_iter262 = p_v_epil_iter262;
-    v_r20_i_i_i_i_i_i_i_i_i250_i_i_i_i_epil = v_r26_i_i_i230_i_i_i_i + (int64_t)(v_r0_04_i_i_i_i_i_i_i_i_i249_i_i_i_i_epil);
-    v_r24_i_i_i_i_i_i_i_i_i251_i_i_i_i_epil = v_r1_sroa_0_0_copyload_i_i225_i_i_i_i + (int64_t)(v_r0_04_i_i_i_i_i_i_i_i_i249_i_i_i_i_epil);
-    v_r26_i_i_i_i_i_i_i_i_i252_i_i_i_i_epil = get_u8(v_r24_i_i_i_i_i_i_i_i_i251_i_i_i_i_epil);
-    put_u8(v_r20_i_i_i_i_i_i_i_i_i250_i_i_i_i_epil, v_r26_i_i_i_i_i_i_i_i_i252_i_i_i_i_epil);
-    v_r30_i_i_i_i_i_i_i_i_i253_i_i_i_i_epil = (u64)((u64)(v_r0_04_i_i_i_i_i_i_i_i_i249_i_i_i_i_epil) + (u64)(1u));
+    v_r20_i_i_i_i_i_i_i_i_i249_i_i_i_i_epil = v_r26_i_i_i229_i_i_i_i + (int64_t)(v_r0_04_i_i_i_i_i_i_i_i_i248_i_i_i_i_epil);
+    v_r24_i_i_i_i_i_i_i_i_i250_i_i_i_i_epil = v_r1_sroa_0_0_copyload_i_i224_i_i_i_i + (int64_t)(v_r0_04_i_i_i_i_i_i_i_i_i248_i_i_i_i_epil);
+    v_r26_i_i_i_i_i_i_i_i_i251_i_i_i_i_epil = get_u8(v_r24_i_i_i_i_i_i_i_i_i250_i_i_i_i_epil);
+    put_u8(v_r20_i_i_i_i_i_i_i_i_i249_i_i_i_i_epil, v_r26_i_i_i_i_i_i_i_i_i251_i_i_i_i_epil);
+    v_r30_i_i_i_i_i_i_i_i_i252_i_i_i_i_epil = (u64)((u64)(v_r0_04_i_i_i_i_i_i_i_i_i248_i_i_i_i_epil) + (u64)(1u));
     v_epil_iter262_next = (u64)((u64)(v_epil_iter262) + (u64)(1u));
     v_epil_iter262_cmp_not = v_epil_iter262_next == v_xtraiter261;
-    if (v_epil_iter262_cmp_not) { goto L_der_core_back_writer_BackWriter_prepend_exit_i_i23; } else { p_v_r0_04_i_i_i_i_i_i_i_i_i249_i_i_i_i_epil = v_r30_i_i_i_i_i_i_i_i_i253_i_i_i_i_epil; p_v_epil_iter262 = v_epil_iter262_next; goto L_join_7_i_i_i_i_i_i_i_i_i248_i_i_i_i_epil; }
+    if (v_epil_iter262_cmp_not) { goto L_der_core_back_writer_BackWriter_prepend_exit_i_i23; } else { p_v_r0_04_i_i_i_i_i_i_i_i_i248_i_i_i_i_epil = v_r30_i_i_i_i_i_i_i_i_i252_i_i_i_i_epil; p_v_epil_iter262 = v_epil_iter262_next; goto L_join_7_i_i_i_i_i_i_i_i_i247_i_i_i_i_epil; }
 L_der_core_back_writer_BackWriter_prepend_exit_i_i23:;
-    v_r13_i_i238_i_i_i_i = get_u64(v_r10_sroa_56_sroa_0_sroa_22_3_r5_sroa_idx_i);
-    v_r15_not_i_i239_i_i_i_i = v_r13_i_i238_i_i_i_i == 0u;
-    if (v_r15_not_i_i239_i_i_i_i) { p_v_r7_sroa_130_13_i_i_i = v_r17_i_i_i228_i_i_i_i; goto L_pkcs1_c_given_key_GivenKeyEncodeValue_prepend_valu; } else { goto L_then_1_i_i240_i_i_i_i; }
-L_then_1_i_i240_i_i_i_i:;
-    v_r17_i3_i_i241_i_i_i_i = (u64)((u64)(v_r17_i_i_i228_i_i_i_i) + (u64)(18446744073709551615ull));
-    v_r26_i5_i_i243_i_i_i_i = (P)((uintptr_t)v_r13 + (u64)(v_r17_i3_i_i241_i_i_i_i));
-    put_u8(v_r26_i5_i_i243_i_i_i_i, 0u);
-    { p_v_r7_sroa_130_13_i_i_i = v_r17_i3_i_i241_i_i_i_i; goto L_pkcs1_c_given_key_GivenKeyEncodeValue_prepend_valu; }
+    v_r13_i_i237_i_i_i_i = get_u64(v_r10_sroa_56_sroa_0_sroa_22_3_r5_sroa_idx_i);
+    v_r15_not_i_i238_i_i_i_i = v_r13_i_i237_i_i_i_i == 0u;
+    if (v_r15_not_i_i238_i_i_i_i) { p_v_r7_sroa_130_13_i_i_i = v_r17_i_i_i227_i_i_i_i; goto L_pkcs1_c_given_key_GivenKeyEncodeValue_prepend_valu; } else { goto L_then_1_i_i239_i_i_i_i; }
+L_then_1_i_i239_i_i_i_i:;
+    v_r17_i3_i_i240_i_i_i_i = (u64)((u64)(v_r17_i_i_i227_i_i_i_i) + (u64)(18446744073709551615ull));
+    v_r26_i5_i_i242_i_i_i_i = (P)((uintptr_t)v_r13 + (u64)(v_r17_i3_i_i240_i_i_i_i));
+    put_u8(v_r26_i5_i_i242_i_i_i_i, 0u);
+    { p_v_r7_sroa_130_13_i_i_i = v_r17_i3_i_i240_i_i_i_i; goto L_pkcs1_c_given_key_GivenKeyEncodeValue_prepend_valu; }
 L_pkcs1_c_given_key_GivenKeyEncodeValue_prepend_valu:;
     v_r7_sroa_130_13_i_i_i = p_v_r7_sroa_130_13_i_i_i;
     v_77 = (u64)((u64)(v_r7_sroa_130_13_i_i_i) + (u64)(v_r3_i8_i_i_i));
     v_78 = (u64)((u64)(v_r7_sroa_130_16_i_i_i) - (u64)(v_77));
     v_79 = (u32)(v_78);
-    v_r2_i_i247_i_i_i_i = (u32)((u32)(v_r1_sroa_9_4_copyload_i_i_i_i) + (u32)(v_79));
-    v_r59_i101_i_i_i = v_r2_i_i247_i_i_i_i < 128u;
+    v_r2_i_i246_i_i_i_i = (u32)((u32)(v_r1_sroa_9_4_copyload_i_i_i_i) + (u32)(v_79));
+    v_r59_i101_i_i_i = v_r2_i_i246_i_i_i_i < 128u;
     if (v_r59_i101_i_i_i) { goto L_then_1_i162_i_i_i; } else { goto L_else_2_i102_i_i_i; }
 L_then_1_i162_i_i_i:;
-    v_r64_i163_i_i_i = (u16)(v_r2_i_i247_i_i_i_i);
+    v_r64_i163_i_i_i = (u16)(v_r2_i_i246_i_i_i_i);
     v_r17_i_i167_i_i_i = (u64)((u64)(v_r7_sroa_130_13_i_i_i) + (u64)(18446744073709551614ull));
     v_r26_i_i169_i_i_i = (P)((uintptr_t)v_r13 + (u64)(v_r17_i_i167_i_i_i));
     v_r8_i96_sroa_4_0_insert_shift_i_i_i = (u16)((u32)(v_r64_i163_i_i_i) << (u32)((8u & 31)));
@@ -38979,10 +38990,10 @@ L_then_1_i162_i_i_i:;
     put_u16(v_r26_i_i169_i_i_i, v_r8_i96_sroa_0_0_insert_insert_i_i_i);
     { p_v_r7_sroa_130_15_i_i_i = v_r17_i_i167_i_i_i; goto L_der_core_back_writer_BackWriter_prepend_header_exi__12; }
 L_else_2_i102_i_i_i:;
-    v_r75_i103_i_i_i = v_r2_i_i247_i_i_i_i < 256u;
+    v_r75_i103_i_i_i = v_r2_i_i246_i_i_i_i < 256u;
     if (v_r75_i103_i_i_i) { goto L_then_4_i153_i_i_i; } else { goto L_else_5_i104_i_i_i; }
 L_then_4_i153_i_i_i:;
-    v_r80_i154_i_i_i = (u8)(v_r2_i_i247_i_i_i_i);
+    v_r80_i154_i_i_i = (u8)(v_r2_i_i246_i_i_i_i);
     v_r17_i28_i159_i_i_i = (u64)((u64)(v_r7_sroa_130_13_i_i_i) + (u64)(18446744073709551613ull));
     v_r26_i30_i161_i_i_i = (P)((uintptr_t)v_r13 + (u64)(v_r17_i28_i159_i_i_i));
     put_u8(v_r26_i30_i161_i_i_i, 2u);
@@ -38992,24 +39003,24 @@ L_then_4_i153_i_i_i:;
     put_u8(v_r14_i97_sroa_5_0_r26_i30_i161_sroa_idx_i_i_i, v_r80_i154_i_i_i);
     { p_v_r7_sroa_130_15_i_i_i = v_r17_i28_i159_i_i_i; goto L_der_core_back_writer_BackWriter_prepend_header_exi__12; }
 L_else_5_i104_i_i_i:;
-    v_r92_i105_i_i_i = v_r2_i_i247_i_i_i_i < 65536u;
+    v_r92_i105_i_i_i = v_r2_i_i246_i_i_i_i < 65536u;
     if (v_r92_i105_i_i_i) { goto L_then_7_i141_i_i_i; } else { goto L_else_8_i106_i_i_i; }
 L_then_7_i141_i_i_i:;
     v_r17_i46_i149_i_i_i = (u64)((u64)(v_r7_sroa_130_13_i_i_i) + (u64)(18446744073709551612ull));
     v_r26_i48_i151_i_i_i = (P)((uintptr_t)v_r13 + (u64)(v_r17_i46_i149_i_i_i));
-    v_80 = (u32)((u32)(v_r2_i_i247_i_i_i_i) | (u32)(42074112u));
+    v_80 = (u32)((u32)(v_r2_i_i246_i_i_i_i) | (u32)(42074112u));
     v_r20_i98_sroa_0_0_insert_insert_i_i_i = __builtin_bswap32(v_80);
     put_u32(v_r26_i48_i151_i_i_i, v_r20_i98_sroa_0_0_insert_insert_i_i_i);
     { p_v_r7_sroa_130_15_i_i_i = v_r17_i46_i149_i_i_i; goto L_der_core_back_writer_BackWriter_prepend_header_exi__12; }
 L_else_8_i106_i_i_i:;
-    v_r117_i107_i_i_i = v_r2_i_i247_i_i_i_i < 16777216u;
+    v_r117_i107_i_i_i = v_r2_i_i246_i_i_i_i < 16777216u;
     if (v_r117_i107_i_i_i) { goto L_then_10_i126_i_i_i; } else { goto L_else_11_i108_i_i_i; }
 L_then_10_i126_i_i_i:;
-    v_r12223_i127_i_i_i = (u32)((u32)(v_r2_i_i247_i_i_i_i) >> (u32)((16u & 31)));
+    v_r12223_i127_i_i_i = (u32)((u32)(v_r2_i_i246_i_i_i_i) >> (u32)((16u & 31)));
     v_r124_i128_i_i_i = (u8)(v_r12223_i127_i_i_i);
-    v_r12624_i129_i_i_i = (u32)((u32)(v_r2_i_i247_i_i_i_i) >> (u32)((8u & 31)));
+    v_r12624_i129_i_i_i = (u32)((u32)(v_r2_i_i246_i_i_i_i) >> (u32)((8u & 31)));
     v_r130_i130_i_i_i = (u8)(v_r12624_i129_i_i_i);
-    v_r134_i131_i_i_i = (u8)(v_r2_i_i247_i_i_i_i);
+    v_r134_i131_i_i_i = (u8)(v_r2_i_i246_i_i_i_i);
     v_r17_i64_i138_i_i_i = (u64)((u64)(v_r7_sroa_130_13_i_i_i) + (u64)(18446744073709551611ull));
     v_r26_i66_i140_i_i_i = (P)((uintptr_t)v_r13 + (u64)(v_r17_i64_i138_i_i_i));
     put_u8(v_r26_i66_i140_i_i_i, 2u);
@@ -39023,13 +39034,13 @@ L_then_10_i126_i_i_i:;
     put_u8(v_r29_i99_sroa_7_0_r26_i66_i140_sroa_idx_i_i_i, v_r134_i131_i_i_i);
     { p_v_r7_sroa_130_15_i_i_i = v_r17_i64_i138_i_i_i; goto L_der_core_back_writer_BackWriter_prepend_header_exi__12; }
 L_else_11_i108_i_i_i:;
-    v_r15020_i109_i_i_i = (u32)((u32)(v_r2_i_i247_i_i_i_i) >> (u32)((24u & 31)));
+    v_r15020_i109_i_i_i = (u32)((u32)(v_r2_i_i246_i_i_i_i) >> (u32)((24u & 31)));
     v_r152_i110_i_i_i = (u8)(v_r15020_i109_i_i_i);
-    v_r15421_i111_i_i_i = (u32)((u32)(v_r2_i_i247_i_i_i_i) >> (u32)((16u & 31)));
+    v_r15421_i111_i_i_i = (u32)((u32)(v_r2_i_i246_i_i_i_i) >> (u32)((16u & 31)));
     v_r158_i112_i_i_i = (u8)(v_r15421_i111_i_i_i);
-    v_r16022_i113_i_i_i = (u32)((u32)(v_r2_i_i247_i_i_i_i) >> (u32)((8u & 31)));
+    v_r16022_i113_i_i_i = (u32)((u32)(v_r2_i_i246_i_i_i_i) >> (u32)((8u & 31)));
     v_r164_i114_i_i_i = (u8)(v_r16022_i113_i_i_i);
-    v_r168_i115_i_i_i = (u8)(v_r2_i_i247_i_i_i_i);
+    v_r168_i115_i_i_i = (u8)(v_r2_i_i246_i_i_i_i);
     v_r17_i82_i123_i_i_i = (u64)((u64)(v_r7_sroa_130_13_i_i_i) + (u64)(18446744073709551610ull));
     v_r26_i84_i125_i_i_i = (P)((uintptr_t)v_r13 + (u64)(v_r17_i82_i123_i_i_i));
     put_u8(v_r26_i84_i125_i_i_i, 2u);
@@ -39047,8 +39058,8 @@ L_else_11_i108_i_i_i:;
 L_der_core_back_writer_BackWriter_prepend_header_exi__12:;
     v_r7_sroa_130_15_i_i_i = p_v_r7_sroa_130_15_i_i_i;
     v_81 = (P)((uintptr_t)v_r13 + (u64)(v_r7_sroa_130_15_i_i_i));
-    v_r26_i_i259_i_i_i_i = (P)((uintptr_t)v_81 + (u64)(-1));
-    put_u8(v_r26_i_i259_i_i_i_i, v_16);
+    v_r26_i_i258_i_i_i_i = (P)((uintptr_t)v_81 + (u64)(-1));
+    put_u8(v_r26_i_i258_i_i_i_i, v_16);
     v_r17_i_i91_i_i_i = (u64)((u64)(v_r7_sroa_130_15_i_i_i) + (u64)(18446744073709551613ull));
     v_r26_i_i93_i_i_i = (P)((uintptr_t)v_r13 + (u64)(v_r17_i_i91_i_i_i));
     put_u16(v_r26_i_i93_i_i_i, 258u);
