@@ -60,8 +60,9 @@ fn append_given<W: Writer>(other: &OtherPrime<'_>, writer: &mut W) -> Result<()>
 /// Whether a bound on the octets of the prime's encoding says that they are no more than `left`.
 #[inline(always)]
 fn is_surely_within(info: &OtherPrimeInfo<Number<'_>>, left: usize) -> bool {
-    let numbers =
-        info.prime.octets_at_most() + info.exponent.octets_at_most() + info.coefficient.octets_at_most();
+    let numbers = info.prime.octets_at_most()
+        + info.exponent.octets_at_most()
+        + info.coefficient.octets_at_most();
     numbers + 6 <= left
 }
 
