@@ -153,9 +153,9 @@ enum kind { PUBLIC_KEY, PRIVATE_KEY, PRIVATE_KEY_INFO, PSS_PARAMS, PSS_PARAMS_ST
   @   logic struct pkcs1_private_key_info info_of(integer kind, uint8_t *der, octets encoding);
   @   logic struct pkcs1_pss_params pss_of(integer kind, uint8_t *der, octets encoding);
   @   logic struct pkcs1_oaep_params oaep_of(integer kind, uint8_t *der, octets encoding);
-  @   // Where the other primes of a key are, how many there are in such octets, and which.
+  @   // Where the other primes of a key are, whether octets encode such a list, how many it has, and which.
   @   logic struct pkcs1_bytes listed_of(integer kind, uint8_t *der, octets encoding);
-  @   logic integer count_of(octets listed);
+  @   logic integer count_of(octets listed); predicate lists_primes(octets listed);
   @   logic struct pkcs1_other_prime other_of(uint8_t *listed, octets encodings, integer i);
   @   logic integer bit_len_of(octets number);
   @   logic integer write_status(integer kind, value v, integer room);
@@ -248,7 +248,7 @@ enum kind { PUBLIC_KEY, PRIVATE_KEY, PRIVATE_KEY_INFO, PSS_PARAMS, PSS_PARAMS_ST
 #define COUNTS(kind) ensures count: WHEN_OK key->other_primes == count_of(LISTED(kind))
 #define LISTS(kind)                                                                                                    \
     COUNTS(kind);                                                                                                      \
-    ensures listed: WHEN_OK *listed == listed_of(kind, der, ENCODING);                                                 \
+    ensures listed: WHEN_OK *listed == listed_of(kind, der, ENCODING) && lists_primes(LISTED(kind));                   \
     ensures part: WHEN_OK listed->data != \null && (listed->len == 0 || part_of(*listed, der, der_len));               \
     ensures unchanged_listed: UNLESS_OK *listed == \old(*listed)
 /* The primes that are encoded in `octets`, which are at `list`, are placed, as many as fit. */
@@ -287,7 +287,8 @@ uint32_t pkcs1_c_private_key_info_decode(DER_IN, INFO, PRIVATE, struct pkcs1_byt
 uint32_t pkcs1_private_key_info_decode(DER_IN, INFO, PRIVATE, OTHERS_OUT);
 /*@ requires ok(listed, listed_len) && \valid(others + (0 .. others_room - 1)) && ok_others(others, others_room);
   @ requires \separated(others + (0 .. others_room - 1), listed + (0 .. listed_len - 1));
-  @ ENDS; assigns others[0 .. others_room - 1]; PLACES(, listed, listed_len, \old(octets_of(listed, listed_len))); */
+  @ ENDS; assigns others[0 .. others_room - 1]; PLACES(lists_primes(\old(octets_of(listed, listed_len))) ==>,
+  @   listed, listed_len, \old(octets_of(listed, listed_len))); */
 void pkcs1_c_other_primes(const uint8_t *listed, size_t listed_len, OTHERS_OUT);
 
 #define ENCODES_KEY(is, are)                                                                                           \
@@ -421,13 +422,13 @@ static struct pkcs1_mask_gen mgf1(const struct pkcs1_bytes *hash);
     ensures unchanged: status != PKCS1_OK ==> *params == \old(*params)
 /*@ SETS; */ static uint32_t set_pss(PSS, uint32_t status, const struct pkcs1_pss_params *read);
 /*@ SETS; */ static uint32_t set_oaep(OAEP, uint32_t status, const struct pkcs1_oaep_params *read);
-/*@ requires ok_bytes(listed) && other_primes == count_of(bytes_seen(listed));
+/*@ requires ok_bytes(listed) && other_primes == count_of(bytes_seen(listed)) && lists_primes(bytes_seen(listed));
   @ requires \valid(others + (0 .. others_room - 1)) &&
   @   \separated(others + (0 .. others_room - 1), listed.data + (0 .. listed.len - 1));
   @ ENDS; assigns others[0 .. others_room - 1]; PLACES(, listed.data, listed.len, \old(bytes_seen(listed))); */
 static void put_others(struct pkcs1_bytes listed, size_t other_primes, OTHERS_OUT);
 /*@ requires \valid_read(read) && ok_bytes(listed) && read->other_primes == count_of(bytes_seen(listed)) && \valid(key);
-  @ requires \valid(others + (0 .. others_room - 1));
+  @ requires \valid(others + (0 .. others_room - 1)) && lists_primes(bytes_seen(listed));
   @ requires \separated(read, key, others + (0 .. others_room - 1), listed.data + (0 .. listed.len - 1));
   @ ENDS; assigns *key, others[0 .. others_room - 1]; ensures key: *key == \old(*read);
   @ PLACES(, listed.data, listed.len, \old(bytes_seen(listed))); */
