@@ -8,6 +8,7 @@ ghost use Rattle.der_core.specs.Laws.Printed.Alike.{alike};
 ghost use Rattle.der_core.specs.Laws.Printed.Leaves.{number_law};
 ghost use Rattle.der_core.specs.Laws.Printed.Shortest.{one_spelling};
 ghost use Rattle.der_core.specs.Printed as printed;
+ghost use Rattle.der_core.specs.Printed.{number_contents};
 
 use der_core::{
     BackWriter, Contents, EncodeValue, IntegerTag, Length, Result, TaggedBy, UintRef, Writer,
@@ -37,6 +38,15 @@ impl<'a> Number<'a> {
             bytes,
             zeros: if bytes[0] < 0x80 { 0 } else { 1 },
         }
+    }
+
+    /// How many octets the contents are.
+    #[inline(always)]
+    pub(crate) fn size(&self) -> usize
+        ensures is { result ≡ length (number_contents (number_from_digits 256 (number_of self.now))) }
+        ensures bound { result ≤ limit + 1 }
+    {
+        self.bytes.len() + self.zeros
     }
 
     /// A bound on the octets of the encoding, known without a look at them: a tag, a length and a zero are 7 at most.
@@ -82,7 +92,7 @@ impl TaggedBy for Number<'_> {
 
 impl EncodeValue for Number<'_> {
     fn value_len(&self) -> Result<Length> {
-        Length::try_from(self.bytes.len() + self.zeros)
+        Length::try_from(self.size())
     }
 
     fn append_value<W: Writer>(&self, writer: &mut W) -> Result<()> {

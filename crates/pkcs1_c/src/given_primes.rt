@@ -1,11 +1,11 @@
 //! Other primes that the caller passes, written from the caller's array.
-ghost use Rattle.std.specs.Prelude.{◌≡◌, ◌+◌, ◌≤◌, ◌<◌, length, IsTrue, IfOk, IfErr, OnOk};
+ghost use Rattle.std.specs.Prelude.{◌≡◌, ◌+◌, ◌^◌, ◌≤◌, ◌<◌, length, IsTrue, IfOk, IfErr, OnOk};
 ghost use Rattle.der_core.specs.BackWriters.{Prepends, free_of};
-ghost use Rattle.der_core.specs.Length.{limit};
-ghost use Rattle.der_core.specs.Writing.{Appends};
+ghost use Rattle.der_core.specs.Length.{limit, tlv_len};
+ghost use Rattle.der_core.specs.Writing.{Appends, Counts};
 ghost use Rattle.pkcs1.specs.Held.{held_other_prime};
 ghost use Rattle.pkcs1_c.specs.NumberValue.{number_of};
-ghost use Rattle.pkcs1_c.specs.PrimeLists.{AreCounted, AreCounted-prop, given_encoded};
+ghost use Rattle.pkcs1_c.specs.PrimeLists.{AreCounted, AreCounted-prop, given_encoded, prime_encoded};
 ghost use Rattle.pkcs1_c.specs.Status.{NoStatus, status_of};
 ghost use Rattle.pkcs1_c.specs.StructErrors.{NumbersError, numbers_of_primes};
 ghost use Rattle.pkcs1_c.specs.Structs.{numbers_of_prime, other_prime, other_primes};
@@ -44,6 +44,41 @@ fn from_c_other_prime<'a>(other: &OtherPrime<'a>) -> pkcs1::Result<OtherPrimeInf
     })
 }
 
+/// How many octets a tag, a length and contents are; more than the limit, if the contents are.
+#[inline(always)]
+fn octets_with_tag(contents: usize) -> usize
+    requires { contents < 2 ^ 40 }
+    ensures within { contents ≤ limit → result ≡ tlv_len contents }
+    ensures least { contents ≤ result }
+    ensures most { result ≤ contents + 6 }
+{
+    if contents < 0x80 {
+        return contents + 2;
+    }
+    if contents < 0x100 {
+        return contents + 3;
+    }
+    if contents < 0x1_0000 {
+        return contents + 4;
+    }
+    if contents < 0x100_0000 {
+        return contents + 5;
+    }
+    contents + 6
+}
+
+/// The length of a prime's encoding, as `encoded_len` tells it: fewer steps, as a number has contents and a length of
+/// some octets.
+#[inline(always)]
+fn length_of(info: &OtherPrimeInfo<Number<'_>>) -> Result<Length>
+    ensures { Counts (Unit {0}) (prime_encoded (held_other_prime number_of info.now)) result }
+{
+    let numbers = octets_with_tag(info.prime.size())
+        + octets_with_tag(info.exponent.size())
+        + octets_with_tag(info.coefficient.size());
+    Length::try_from(octets_with_tag(numbers))
+}
+
 /// Appends a prime.
 fn append_given<W: Writer>(other: &OtherPrime<'_>, writer: &mut W) -> Result<()>
     requires held { NoStatus (NumbersError (numbers_of_prime other.now)) }
@@ -80,7 +115,7 @@ fn prepend_given(other: &OtherPrime<'_>, least: usize, writer: &mut BackWriter<'
     };
     let left = writer.free() - least;
     if !is_surely_within(&info, left) {
-        match info.encoded_len() {
+        match length_of(&info) {
             Ok(length) if length.to_usize() <= left => {}
             _ => return false,
         }
@@ -106,7 +141,7 @@ impl<'a> GivenPrimes<'a> {
         let mut len = Ok(Length::ZERO);
         for other in others {
             let info = from_c_other_prime(other)?;
-            len = joined_len(len, info.encoded_len());
+            len = joined_len(len, length_of(&info));
         }
         Ok(Some(GivenPrimes { others, len }))
     }

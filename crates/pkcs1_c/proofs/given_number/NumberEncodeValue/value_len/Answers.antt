@@ -1,16 +1,13 @@
-use Rattle.std.proofs.Common.{ℕ, List, ◌∷◌, ◌+◌, ◌≡◌, length, arith, Bool, true, false, nat_lt}
-use Rattle.std.specs.Prelude.{slice_index, if◌then◌else◌}
+use Rattle.std.proofs.Common.{ap, length, ◌∙◌}
 use Rattle.der_core.proofs.IntegerLengths.{counts_integer}
+use Rattle.der_core.specs.Laws.Integer.{holds_canonical}
+use Rattle.der_core.specs.Laws.Printed.Leaves.{contents_as}
 use Rattle.pkcs1_c.proofs.given_number.NumberEncodeValue.value_len.Goals as goal
-
-counted : (bytes : List ℕ) (low : Bool)
-    → length bytes + (if low then 0 else 1) ≡ length (if low then bytes else (0 ∷ bytes))
-counted bytes true = omega arith
-counted bytes false = omega arith
 
 pub returns : goal.returns
 returns c =
     let number = c.args.self.now in
+    let bytes = number.bytes.now in
     counts_integer _ _ _ number.canonical
-    (rw number.told (counted number.bytes.now (nat_lt (slice_index number.bytes.now 0) 128)))
+    (c.size.ensures.is ∙ ap length (contents_as bytes (holds_canonical bytes number.canonical)))
     c.try_from.ensures.ok c.try_from.ensures.err

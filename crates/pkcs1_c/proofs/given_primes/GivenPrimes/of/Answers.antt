@@ -1,9 +1,6 @@
 use Rattle.std.proofs.Common.{◌<◌, add-one, ap, arith, length, subst}
 use Rattle.std.proofs.lemmas.Bool.Decides.{nat_tests}
 use Rattle.der_core.specs.Writing.{Counts}
-use Rattle.pkcs1_params.proofs.Written.{counts_as}
-use Rattle.pkcs1.specs.Held.{held_other_prime}
-use Rattle.pkcs1_c.specs.NumberValue.{number_of}
 use Rattle.pkcs1_c.specs.PrimeLists.{prime_encoded}
 use Rattle.pkcs1_c.specs.Status.{status_of}
 use Rattle.pkcs1_c.specs.StructErrors.{NumbersError, numbers_of_primes}
@@ -15,8 +12,8 @@ use Rattle.pkcs1_c.proofs.given_primes.GivenPrimes.of.Goals as goal
 pub loop-other-preserved : goal.loop-other-preserved
 loop-other-preserved c =
     let one =
-    subst (λ octets. Counts (Unit {0}) octets c.encoded_len.result) (ap prime_encoded c.in_ok-info.ensures.ok)
-    (counts_as (prime_encoded (held_other_prime number_of c.in_ok-info.info)) c.encoded_len.result (λ _. tt) (λ _. (tt, (tt, (tt, tt)))) c.encoded_len.ensures.counted) in
+    subst (λ octets. Counts (Unit {0}) octets c.length_of.result) (ap prime_encoded c.in_ok-info.ensures.ok)
+    c.length_of.ensures in
     record {
       counted =
           rw c.joined_len-len.ensures (counted_more c.args.others.now c.loop-other.other-index _ c.loop-other-test.true _ _

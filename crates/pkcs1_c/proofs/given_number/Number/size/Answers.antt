@@ -1,0 +1,17 @@
+use Rattle.std.proofs.Common.{ℕ, List, ◌∷◌, ◌+◌, ◌≡◌, ◌∙◌, ap, length, arith, Bool, true, false, nat_lt, sym}
+use Rattle.std.specs.Prelude.{slice_index, if◌then◌else◌}
+use Rattle.der_core.specs.Laws.Integer.{holds_canonical}
+use Rattle.der_core.specs.Laws.Printed.Leaves.{contents_as}
+use Rattle.pkcs1_c.proofs.given_number.Number.size.Goals as goal
+
+counted : (bytes : List ℕ) (low : Bool)
+    → length bytes + (if low then 0 else 1) ≡ length (if low then bytes else (0 ∷ bytes))
+counted bytes true = omega arith
+counted bytes false = omega arith
+
+pub returns-clause-is : goal.returns-clause-is
+returns-clause-is c =
+    let number = c.args.self.now in
+    let bytes = number.bytes.now in
+    rw number.told (counted bytes (nat_lt (slice_index bytes 0) 128))
+    ∙ ap length (sym (contents_as bytes (holds_canonical bytes number.canonical)))
