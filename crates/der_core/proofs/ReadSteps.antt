@@ -100,14 +100,15 @@ row_fails law row first rest a e (Some i) mid after bytes (left, p, is) (failed,
 )
 
 -- Parts, of which what follows the first one has a fault.
-pub parts_fail : {A B : Type 0} {First : A → List ℕ → Type 0} {at : FrontReading A} → ReadsFronts First at
+pub parts_fail : {A B : Type 0} {First : A → List ℕ → Type 0} {at : FrontReading A}
+    → ((i rest : List ℕ) (a : A) → AreBytes i → at i ≡ Ok (a, rest) → (b : List ℕ) × (i ≡ b ++ rest) × First a b)
     → (rest : Reading B) (first later : List ℕ → Type 0) (a : A) (e : ErrorKind) (before mid after : Input)
     → AreBytes (left_in before) → Gives at a before mid → Fails rest later e mid after
     → Fails (parts at rest) (AllocatesInParts First first later) e before after
-parts_fail law rest first later a e None mid after bytes (left, p, is) fails = let no = p in cc
-parts_fail law rest first later a e (Some i) mid after bytes (left, p, is) (failed, inl w) =
-    let s = law.gives i left a bytes p in (failed, inl (w.0, inr (a, (s.0, left, s.2, rw is at w.1, s.1))))
-parts_fail law rest first later a e (Some i) mid after bytes (left, p, is) (failed, inr q) = (
+parts_fail gives rest first later a e None mid after bytes (left, p, is) fails = let no = p in cc
+parts_fail gives rest first later a e (Some i) mid after bytes (left, p, is) (failed, inl w) =
+    let s = gives i left a bytes p in (failed, inl (w.0, inr (a, (s.0, left, s.2, rw is at w.1, s.1))))
+parts_fail gives rest first later a e (Some i) mid after bytes (left, p, is) (failed, inr q) = (
   failed,
   inr
       (ap (λ r. r >>= λ p. rest p.1 >>= λ b. Ok (p.0, b)) p ∙ ap (λ r. r >>= λ b. Ok (a, b)) (rw is at q)),

@@ -9,6 +9,7 @@ use Rattle.der_core.specs.Laws.Printed.Alike.{values_alike, whole_alike}
 use Rattle.der_core.specs.Laws.Printed.Relations.{written_encodes}
 use Rattle.der_core.specs.Laws.Printed.Rows.{meant_decodes}
 use Rattle.der_core.specs.Printed.{Prints, ReadsFrontAlike, ReadsFrontPrinted, Spells, WritesShortest, ok_of, value_in}
+use Rattle.der_core.specs.Reading.{DecodesOrMemory, Returns}
 use Rattle.der_core.specs.Readings.{FrontReading, whole}
 use Rattle.der_core.specs.Writing.{Unwritten, encode_error}
 use Rattle.standard.specs.Statement.{Decodes, Encodes}
@@ -30,6 +31,14 @@ module _ {S V : Type 0} {valid : S → Type 0} {printed : S → List ℕ} {spell
         subst (Decodes (Spells valid printed means) bytes) (ap value_in was) (values_decode bytes are)
     answers_decode value bytes (Err e) are was =
         subst (Decodes (Spells valid printed means) bytes) (ap value_in was) (values_decode bytes are)
+
+    -- And one that may ask for memory.
+    pub returns_decode : {X : Type 0} (value : X → V) (bytes : List ℕ) (asked : Type 0) (r : Result X Error)
+        → AreBytes bytes → Returns value (whole at bytes) asked r
+        → DecodesOrMemory value (Spells valid printed means) asked bytes r
+    returns_decode value bytes asked (Ok x) are was = answers_decode value bytes (Ok x) are was
+    returns_decode value bytes asked (Err e) are (inl w) = inl w
+    returns_decode value bytes asked (Err e) are (inr was) = inr (answers_decode value bytes (Err e) are was)
 
 -- What the clauses of `encode_into` say, in the words of the statement.
 module _ {S V : Type 0} {valid : S → Type 0} {printed : S → List ℕ} {means : S → V} {written : V → S}

@@ -4,14 +4,14 @@
 -- What stands in the bytes is a spelling of a value. Most values have one spelling, which is the value itself. A value
 -- whose fields have defaults has several.
 use Rattle.std.specs.Prelude.{ℕ, List, ◌≡◌, ◌<◌, ◌≤◌, ◌++◌, ◌∷◌, ◌⊎◌, length, slice_index, nat_lt, if◌then◌else◌}
-use Rattle.std.specs.Prelude.{Option, Some, None, Result, Ok, Err}
+use Rattle.std.specs.Prelude.{Bool, true, false, Option, Some, None, Result, Ok, Err}
 use Rattle.std.specs.Int.Digits.{number_from_digits}
 use Rattle.der_core.specs.declared.error.ErrorKind.{ErrorKind}
 use Rattle.der_core.specs.Encodings.{AreBytes}
 use Rattle.der_core.specs.IntegerReading.{integer_of}
 use Rattle.der_core.specs.Length.{limit}
 use Rattle.der_core.specs.Reading.{TellsOfBytes}
-use Rattle.der_core.specs.Readings.{FrontReading, Reading, front_made, made}
+use Rattle.der_core.specs.Readings.{FrontReading, Reading, front_made, is_next, made}
 use Rattle.standard.specs.Statement.{octets}
 
 -- The function reads the contents of valid spellings, and nothing else. Its faults are about the bytes.
@@ -61,6 +61,17 @@ pub record ReadsAlike {S V : Type 0} (spelling : Reading S) (means : S → V) (r
 pub record ReadsFrontAlike {S V : Type 0} (spelling : FrontReading S) (means : S → V) (at : FrontReading V)
     : Type 0 where
   pub same : (i : List ℕ) → front_made means spelling i ≡ at i
+
+pub never : {X : Type 0} → true ≡ false → X
+never e = cc
+
+-- Which octets encodings may begin with: they begin with no other.
+pub record Starts {S : Type 0} (printed : S → List ℕ) : Type 0 where
+  pub with : ℕ → Bool
+  pub only : (s : S) (rest : List ℕ) (t : ℕ) → with t ≡ false → is_next t (printed s ++ rest) ≡ false
+
+abbrev pub starts_with_any : {S : Type 0} (printed : S → List ℕ) → Starts printed
+starts_with_any printed = record { with = λ _. true; only = λ s rest t e. never e }
 
 -- What was read, without the kind of a fault.
 abbrev pub value_in : {V : Type 0} → Result V ErrorKind → Option V

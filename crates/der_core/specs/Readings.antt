@@ -1,8 +1,8 @@
 -- Reading as a function of the bytes, in the order of reading: the value, or the kind of the first fault from the left.
 --
 -- Contents are read to their end, encodings from the front of bytes: so these give the bytes behind them too.
-use Rattle.std.specs.Prelude.{◌≡◌, ◌==◌, ◌≤◌, ◌++◌, ℕ, zero, suc, Bool, true, false, List, [], ◌∷◌, Option, Some, None}
-use Rattle.std.specs.Prelude.{Result, Ok, Err, if◌then◌else◌, nat_lt, length, take, drop}
+use Rattle.std.specs.Prelude.{◌≡◌, ◌==◌, ◌≤◌, ◌++◌, ◌&&◌, ℕ, zero, suc, Bool, true, false, List, [], ◌∷◌, Option, Some, None}
+use Rattle.std.specs.Prelude.{Result, Ok, Err, if◌then◌else◌, nat_le, nat_lt, length, take, drop}
 use Rattle.der_core.specs.declared.error.ErrorKind.{ErrorKind}
 use Rattle.der_core.specs.declared.error.ErrorKind.TheVariants.{Incomplete, Overflow, TagUnexpected, TagUnknown}
 use Rattle.der_core.specs.declared.error.ErrorKind.TheVariants.{TrailingData, Value}
@@ -121,6 +121,17 @@ whole at bytes = if nat_lt limit (length bytes) then Err Overflow else alone at 
 -- One number from 0 to 255.
 abbrev pub expected : ℕ → Reading (Unit {0})
 expected n = made (λ (_ : ℕ). tt) (such (λ v. v == n) (Value integer) small_of)
+
+-- One number in a range.
+abbrev pub in_range : ℕ → ℕ → ℕ → Bool
+in_range least most n = nat_le least n && nat_le n most
+
+abbrev pub ranged : ℕ → ℕ → Reading ℕ
+ranged least most = such (in_range least most) (Value integer) small_of
+
+-- Contents that aren't read where their tags can't be told apart.
+abbrev pub unless : {V : Type 0} → Bool → ErrorKind → Reading V → Reading V
+unless clash failure read bytes = if clash then Err failure else read bytes
 
 -- Contents without restrictions, such as those of an OCTET STRING.
 abbrev pub octets_of_all : Reading (List ℕ)

@@ -20,14 +20,15 @@ pub use Rattle.der_core.specs.Optional.{HasOptional, IsNext, Optional, OptionalR
 pub use Rattle.der_core.specs.Parts.{AllocatesInFront, AllocatesInParts, HaveParts, LastContents, NoParts}
 pub use Rattle.der_core.specs.Parts.{PartsContents, written_parts}
 pub use Rattle.der_core.specs.Printed.{AreSpelledOnce, Prints, PrintsOne, ReadsAlike, ReadsFrontAlike}
-pub use Rattle.der_core.specs.Printed.{ReadsFrontPrinted, ReadsPrinted, Spells, WritesShortest, number_contents}
-pub use Rattle.der_core.specs.Printed.{number_of, ok_of, row, value_in}
-pub use Rattle.der_core.specs.Reading.{AllocatesForItems, AllocatesIn, AllocatesLast, FaultOrMemory, HoldsBytes, NoneIn}
+pub use Rattle.der_core.specs.Printed.{ReadsFrontPrinted, ReadsPrinted, Spells, Starts, WritesShortest}
+pub use Rattle.der_core.specs.Printed.{number_contents, number_of, ok_of, row, starts_with_any, value_in}
+pub use Rattle.der_core.specs.Reading.{AllocatesForItems, AllocatesIn, AllocatesLast, DecodesOrMemory, FaultOrMemory}
+pub use Rattle.der_core.specs.Reading.{HoldsBytes, NoneIn}
 pub use Rattle.der_core.specs.Reading.{ReadsAll, ReadsEncoding, ReadsFront, ReadsRow, ReadsWhole, NoValueOrMemory, Returns}
 pub use Rattle.der_core.specs.Reading.{TellsNext, TellsOfBytes}
 pub use Rattle.der_core.specs.Readings.{FrontReading, Reading, ReadsBy, ReadsContents, ReadsFronts, alone, expected}
-pub use Rattle.der_core.specs.Readings.{front_done, front_made, front_parts, items, last, made, no_parts, optional}
-pub use Rattle.der_core.specs.Readings.{parts, such, tagged, whole, ◌>>=◌}
+pub use Rattle.der_core.specs.Readings.{front_done, front_made, front_parts, in_range, is_next, items, last, made}
+pub use Rattle.der_core.specs.Readings.{no_parts, optional, parts, ranged, such, tagged, unless, whole, ◌>>=◌}
 pub use Rattle.der_core.specs.SequenceOf.{AllHave, ItemsContents, all_encodings}
 pub use Rattle.der_core.specs.SliceReaders.{left_of}
 pub use Rattle.der_core.specs.SourcesSinks.{AppendsFront, CountsFailure, GivesAll, GivesMore, GivesSome, OneFailed}
@@ -55,8 +56,10 @@ pub use Rattle.der_core.specs.Laws.Printed.Alike.{such_alike, tagged_alike}
 pub use Rattle.der_core.specs.Laws.Printed.Items.{items_law}
 pub use Rattle.der_core.specs.Laws.Printed.Leaves.{any_alike, any_shortest, number_law, numbers_decide, numbers_encode}
 pub use Rattle.der_core.specs.Laws.Printed.Leaves.{octets_law, small_law}
-pub use Rattle.der_core.specs.Laws.Printed.Once.{itself_once, last_once, made_once, row_once}
+pub use Rattle.der_core.specs.Laws.Printed.Once.{itself_once, last_once, list_once, made_once, row_once}
 pub use Rattle.der_core.specs.Laws.Printed.Optional.{front_end_law, front_row_law, last_by_tag_law, last_law}
+pub use Rattle.der_core.specs.Laws.Printed.OptionalRows.{IsInRange, optional_part_law, ranged_law, tagged_starts}
+pub use Rattle.der_core.specs.Laws.Printed.OptionalRows.{unless_alike, unless_shortest}
 pub use Rattle.der_core.specs.Laws.Printed.Rows.{end_law, expected_law, made_law, row_law, tagged_law}
 pub use Rattle.der_core.specs.Laws.Printed.Shortest.{last_shortest, list_shortest, made_shortest, one_spelling}
 pub use Rattle.der_core.specs.Laws.Printed.Shortest.{row_shortest, tagged_shortest, tagged_some}

@@ -1,16 +1,19 @@
 //! Types that are read without memory.
 ghost use Rattle.std.specs.Prelude.{List, ℕ};
-ghost use Rattle.standard.specs.Statement.{Decodes};
-ghost use Rattle.der_core.specs.Words.{Answers, Prints, Spells, last_part_asks_none, ok_of, parts_ask_none, whole};
+ghost use Rattle.standard.specs.Statement as standard;
+ghost use Rattle.der_core.specs.Words.{Answers, Optional, Prints, Spells, last_part_asks_none, ok_of, parts_ask_none};
+ghost use Rattle.der_core.specs.Words.{whole};
 
 use crate::decode::{Decode, DecodeValue};
 use crate::error::Result;
 use crate::expected::Expected;
 use crate::grammar::FixedTag;
+use crate::in_range::InRange;
 use crate::integer::UintRef;
 use crate::last_part::{Last, LastByTag};
 use crate::memory::NoMemory;
 use crate::octet_string::OctetStringRef;
+use crate::optional_part::OptionalThen;
 use crate::parts::DecodeParts;
 use crate::reader::Octets;
 use crate::record::InParts;
@@ -53,6 +56,10 @@ impl<'a, const N: u8> ContentsAskNone<&'a [u8]> for Expected<N> {
     ghost contents_ask_none = { λ c no. no };
 }
 
+impl<'a, const MIN: u8, const MAX: u8> ContentsAskNone<&'a [u8]> for InRange<MIN, MAX> {
+    ghost contents_ask_none = { λ c no. no };
+}
+
 impl<'a> PartsAskNone<&'a [u8]> for () {
     ghost parts_ask_none = { λ c no. no };
 }
@@ -69,6 +76,18 @@ impl<'a, T: ContentsAskNone<&'a [u8]> + FixedTag> PartsAskNone<&'a [u8]> for Las
     ghost parts_ask_none = { λ c t. T.contents_ask_none t.3.contents t.3.holds };
 }
 
+impl<'a, T, A, B> PartsAskNone<&'a [u8]> for OptionalThen<T, (A, B)>
+where
+    T: ContentsAskNone<&'a [u8]> + FixedTag,
+    A: AsksNone<&'a [u8]>,
+    B: PartsAskNone<&'a [u8]>,
+{
+    ghost parts_ask_none = { parts_ask_none
+        (Optional (Prints T.valid (λ s. standard.tlv T.TAG.octet (T.printed s)) T.means))
+        (λ b t. T.contents_ask_none t.contents t.holds)
+        (parts_ask_none (Prints A.valid A.printed A.means) A.asks_none B.parts_ask_none) };
+}
+
 impl<'a, T: InParts + Drop> ContentsAskNone<&'a [u8]> for T
 where
     T::Parts: PartsAskNone<&'a [u8]>,
@@ -79,7 +98,7 @@ where
 /// Reads a whole slice without memory: the value that it means, or the error of its first fault.
 #[inline(always)]
 pub fn read_borrowed<'a, T: AsksNone<&'a [u8]>>(bytes: &'a [u8]) -> Result<T>
-    ensures read { Decodes (Spells T.valid T.printed T.means) bytes.now (ok_of T.value result) }
+    ensures read { standard.Decodes (Spells T.valid T.printed T.means) bytes.now (ok_of T.value result) }
     ensures exact { Answers T.value result (whole T.read_front bytes.now) }
 {
     T::from_der(NoMemory, bytes)

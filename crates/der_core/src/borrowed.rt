@@ -5,6 +5,7 @@ use crate::encode::Encode;
 use crate::error::Result;
 use crate::grammar::Encoding;
 use crate::length::Length;
+use crate::tag::Tag;
 use crate::writer::Writer;
 
 /// A borrowed value, which is encoded as the value itself.
@@ -37,6 +38,13 @@ impl<'b, T: Encoding> Encoding for Borrowed<'b, T> {
     ghost some = { T.some };
 
     ghost reads_alike = { T.reads_alike };
+
+    ghost starts = { T.starts };
+
+    #[inline(always)]
+    fn may_start_with(tag: Tag) -> bool {
+        T::may_start_with(tag)
+    }
 }
 
 impl<'b, T: Encode> Encode for Borrowed<'b, T> {

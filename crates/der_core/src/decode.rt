@@ -1,7 +1,7 @@
 //! Reading of values.
 ghost use Rattle.std.specs.Prelude.{ℕ, List};
 ghost use Rattle.der_core.specs.Words.{Tlv, AllocatesIn, HoldsBytes, ReadsAll, ReadsFront, ReadsWhole, Returns};
-ghost use Rattle.der_core.specs.Words.{Prints, TellsNext};
+ghost use Rattle.der_core.specs.Words.{DecodesOrMemory, Prints, Spells, TellsNext};
 ghost use Rattle.der_core.specs.Words.{optional, tagged, whole};
 ghost use Rattle.std.specs.Option.{option_map};
 
@@ -58,6 +58,18 @@ impl<'a, M: Memory, T: DecodeValue<&'a [u8], M> + FixedTag> Decode<&'a [u8], M> 
         reader.finish()?;
         Ok(value)
     }
+}
+
+/// Reads a whole slice of a type that may take memory: the value that it means, or the error of its first fault, or
+/// `OutOfMemory`.
+#[inline(always)]
+pub fn read_owned<'a, T: Decode<&'a [u8], M>, M: Memory>(memory: M, bytes: &'a [u8]) -> Result<T>
+    ensures read { let asked = AllocatesIn T.Decode.may_allocate bytes.now in
+        DecodesOrMemory T.value (Spells T.valid T.printed T.means) asked bytes.now result }
+    ensures exact { let asked = AllocatesIn T.Decode.may_allocate bytes.now in
+        Returns T.value (whole T.read_front bytes.now) asked result }
+{
+    T::from_der(memory, bytes)
 }
 
 /// Reads the encoding at the front of what is left.

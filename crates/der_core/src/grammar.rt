@@ -6,8 +6,9 @@
 ghost use Rattle.std.specs.Prelude.{◌≡◌, ◌<◌, ℕ, List, length};
 ghost use Rattle.standard.specs.Statement as standard;
 ghost use Rattle.der_core.specs.Words.{FrontReading, Reading, ReadsAlike, ReadsFrontAlike, ReadsFrontPrinted};
-ghost use Rattle.der_core.specs.Words.{ReadsPrinted, WritesShortest, integer, sequence, tagged, tagged_alike};
-ghost use Rattle.der_core.specs.Words.{tagged_law, tagged_shortest, tagged_some};
+ghost use Rattle.der_core.specs.Words.{ReadsPrinted, Starts, WritesShortest, integer, sequence, tagged, tagged_alike};
+ghost use Rattle.der_core.specs.Words.{tagged_law};
+ghost use Rattle.der_core.specs.Words.{tagged_shortest, tagged_some, tagged_starts};
 ghost use Rattle.der_core.specs.declared.tag.Tag.{Tag};
 ghost use Rattle.std.specs.Bool.{Decides};
 
@@ -92,6 +93,13 @@ pub trait Encoding {
 
     /// The value that is read is what the spelling means.
     ghost reads_alike: { ReadsFrontAlike read_spelling means read_front };
+
+    /// Which octets the encodings may begin with.
+    ghost starts: { Starts printed };
+
+    /// Whether encodings may begin with the octet of the tag.
+    fn may_start_with(tag: Tag) -> bool
+        ensures { result ≡ starts.with tag.octet };
 }
 
 /// A type with an `==` that is true exactly if both sides mean the same value.
@@ -180,4 +188,11 @@ impl<T: Contents + FixedTag> Encoding for T {
     ghost some = { tagged_some T.printed T.TAG.octet };
 
     ghost reads_alike = { tagged_alike T.reads_alike T.TAG };
+
+    ghost starts = { tagged_starts T.printed T.TAG.octet };
+
+    #[inline(always)]
+    fn may_start_with(tag: Tag) -> bool {
+        T::TAG.octet() == tag.octet()
+    }
 }

@@ -2,15 +2,17 @@
 ghost use Rattle.std.specs.Prelude.{IfErr, length};
 ghost use Rattle.standard.specs.Statement as standard;
 ghost use Rattle.der_core.specs.Words.{AreSpelledOnce, AtMostOne, Prints, Spells, Unwritten, encode_error, itself_once};
-ghost use Rattle.der_core.specs.Words.{last_once, ok_of, row_once};
+ghost use Rattle.der_core.specs.Words.{last_once, list_once, ok_of, row_once};
 
 use crate::encode::Encode;
 use crate::error::Result;
 use crate::expected::Expected;
 use crate::grammar::{Contents, Encoding, FixedTag};
+use crate::in_range::InRange;
 use crate::integer::{Uint, UintRef};
 use crate::last_part::{Last, LastByTag};
 use crate::octet_string::OctetStringRef;
+use crate::optional_part::OptionalThen;
 use crate::record::InParts;
 
 /// Contents of which each value has at most one.
@@ -49,6 +51,10 @@ impl<const N: u8> OneContents for Expected<N> {
     ghost once = { itself_once };
 }
 
+impl<const MIN: u8, const MAX: u8> OneContents for InRange<MIN, MAX> {
+    ghost once = { itself_once };
+}
+
 impl OneContents for () {
     ghost once = { itself_once };
 }
@@ -63,6 +69,19 @@ impl<T: OneEncoding> OneContents for Last<T> {
 
 impl<T: OneContents + FixedTag> OneContents for LastByTag<T> {
     ghost once = { last_once T.OneContents.once };
+}
+
+impl<T, A, B> OneContents for OptionalThen<T, (A, B)>
+where
+    T: OneContents + FixedTag,
+    A: OneEncoding,
+    B: OneContents,
+{
+    ghost once = { row_once (last_once T.OneContents.once) (row_once A.OneEncoding.once B.OneContents.once) };
+}
+
+impl<T: OneEncoding> OneContents for Vec<T> {
+    ghost once = { list_once T.OneEncoding.once };
 }
 
 impl<T: InParts> OneContents for T

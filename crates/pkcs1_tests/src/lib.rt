@@ -1,6 +1,7 @@
 //! Tests of what no worked row can express: readers and writers after an error, documents from sources, to sinks and in
-//! files, a key type of a caller, the public half of a key from OpenSSL, values that are hashed, compared and printed.
-//! They are a crate apart from the rows, so that the gate doesn't prove the program of the rows a second time.
+//! files, a key type of a caller, the public half of a key from OpenSSL, values that are hashed, compared and printed,
+//! types of one's own. They are a crate apart from the rows, so that the gate doesn't prove the program of the rows a
+//! second time.
 #![tactic(auto)]
 
 #[cfg(test)]
@@ -13,6 +14,8 @@ mod documents;
 mod doubles;
 #[cfg(test)]
 mod key_files;
+#[cfg(test)]
+mod own_types;
 #[cfg(test)]
 mod published;
 #[cfg(test)]

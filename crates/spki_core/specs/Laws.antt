@@ -7,6 +7,7 @@ pub mod Readings
 pub mod FieldSpellings
 pub mod HaveEncodings
 pub mod Identifiers
+pub mod InRecords
 pub mod AnyValues
 pub mod IdentifierTest
 pub mod WritesAs

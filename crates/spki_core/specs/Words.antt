@@ -21,6 +21,7 @@ pub use Rattle.spki_core.specs.Laws.Algorithms.{algorithm_decides, algorithm_mea
 pub use Rattle.spki_core.specs.Laws.AnyValues.{holds_decides, holds_itself}
 pub use Rattle.spki_core.specs.Laws.FieldSpellings.Records.{record_alike, record_law, record_shortest}
 pub use Rattle.spki_core.specs.Laws.HaveEncodings.{algorithm_held}
+pub use Rattle.spki_core.specs.Laws.InRecords.{algorithm_asks_none, algorithm_once}
 pub use Rattle.spki_core.specs.Laws.Printed.Alike.{algorithm_alike, numbered_alike}
 pub use Rattle.spki_core.specs.Laws.Printed.Readings.{algorithm_law, any_law, numbered_law, oid_law}
 pub use Rattle.spki_core.specs.Laws.Printed.Shortest.{algorithm_writes_shortest, any_some, numbered_some}

@@ -1,53 +1,20 @@
 //! Encodings of any tag.
-ghost use Rattle.std.specs.Prelude.{◌≡◌, ◌≤◌, ◌<◌, ℕ, [], length, slice_index, refl, ⊤, IfOk, IsOk, IfErr, IsTrue};
+ghost use Rattle.std.specs.Prelude.{◌≡◌, ◌≤◌, ◌<◌, ℕ, [], length, slice_index, refl, true, ⊤, IfOk, IsOk, IfErr, IsTrue};
 ghost use Rattle.der_core.specs.Words.{limit, is_allowed, ReadsFront, NoValueOrMemory, Returns};
 ghost use Rattle.spki_core.specs.Readings.{any, any_as};
 ghost use Rattle.spki_core.specs.Any.{TagAndContents, null_value};
 ghost use Rattle.spki_core.specs.Laws.Printed.Readings.{any_law};
 ghost use Rattle.spki_core.specs.Laws.Printed.Shortest.{any_some};
-ghost use Rattle.der_core.specs.Words.{Prints, front_alike, one_spelling};
+ghost use Rattle.der_core.specs.Words.{Prints, front_alike, one_spelling, starts_with_any};
 ghost use Rattle.standard.specs.Statement as standard;
 
+use crate::wide_tag::WideTag;
 use der_core::{
     BackWriter, Decode, DecodeValue, Encode, Encoding, EqualByValue, Error, ErrorKind, FixedTag,
     Header, Length, Memory, Reader, Result, SliceReader, Tag, TryClone, Writer,
 };
 use std::alloc::Global;
 use std::fmt;
-
-/// A tag in eight octets: with one, `AnyRef` would have padding, and would be copied piece by piece.
-#[derive(Clone, Copy, PartialEq, Eq, Drop)]
-struct WideTag {
-    octet: u64,
-    ghost allowed: { IsTrue (is_allowed octet) },
-    ghost fits: { octet < 256 },
-}
-
-impl WideTag {
-    #[inline(always)]
-    fn of(tag: Tag) -> WideTag
-        ensures { result.octet ≡ tag.octet }
-    {
-        WideTag {
-            octet: tag.octet() as u64,
-        }
-    }
-
-    #[inline(always)]
-    fn tag(self) -> Tag
-        ensures { result.octet ≡ self.octet }
-    {
-        Tag {
-            octet: self.octet as u8,
-        }
-    }
-}
-
-impl fmt::Debug for WideTag {
-    fn fmt<W: fmt::Write>(&self, f: &mut fmt::Formatter<W>) -> fmt::Result {
-        self.tag().fmt(f)
-    }
-}
 
 /// A tag and contents octets, which are opaque. It borrows them.
 #[derive(Clone, Copy, Debug, PartialEq, Eq, Drop)]
@@ -172,6 +139,14 @@ impl Encoding for AnyRef<'_> {
     ghost some = { any_some };
 
     ghost reads_alike = { front_alike any };
+
+    ghost starts = { starts_with_any standard.any };
+
+    fn may_start_with(_tag: Tag) -> bool
+        ensures { result ≡ true }
+    {
+        true
+    }
 }
 
 impl<'a, M: Memory> Decode<&'a [u8], M> for AnyRef<'a> {

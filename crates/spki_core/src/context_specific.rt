@@ -1,8 +1,8 @@
 //! Values inside explicit context-specific tags (X.690 8.14.2).
-ghost use Rattle.std.specs.Prelude.{◌≡◌, ◌+◌};
+ghost use Rattle.std.specs.Prelude.{◌≡◌, ◌+◌, true};
 ghost use Rattle.std.specs.Option.{option_map};
 ghost use Rattle.der_core.specs.Words.{context_tag, Tlv, ReadsFront, alone, optional, tagged};
-ghost use Rattle.der_core.specs.Words.{AllocatesIn, TellsNext};
+ghost use Rattle.der_core.specs.Words.{AllocatesIn, TellsNext, starts_with_any};
 ghost use Rattle.spki_core.specs.Words.{FieldAllocates, explicit, numbered, Numbered, HasNumbered, numbered_alike};
 ghost use Rattle.spki_core.specs.Words.{numbered_law, numbered_map, numbered_some, numbered_writes_shortest};
 ghost use Rattle.spki_core.specs.Words.{written_numbered};
@@ -55,6 +55,14 @@ impl<'b, T: Encoding> Encoding for ContextSpecificRef<'b, T> {
     ghost some = { numbered_some T.printed };
 
     ghost reads_alike = { numbered_alike T.reads_alike };
+
+    ghost starts = { starts_with_any (written_numbered T.printed) };
+
+    fn may_start_with(_tag: Tag) -> bool
+        ensures { result ≡ true }
+    {
+        true
+    }
 }
 
 impl<'b, T: Encode> Encode for ContextSpecificRef<'b, T> {

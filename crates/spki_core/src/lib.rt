@@ -6,9 +6,11 @@ mod any;
 mod context_specific;
 mod field;
 mod identifier_view;
+mod in_records;
 mod object_identifier;
 mod owned_any;
 mod strict;
+mod wide_tag;
 
 pub use algorithm_identifier::{
     AlgorithmIdentifier, AlgorithmIdentifierOf, AlgorithmIdentifierRef, AlgorithmView,

@@ -1,11 +1,11 @@
 //! Encodings of any tag that own their contents.
-ghost use Rattle.std.specs.Prelude.{◌≡◌, ◌≤◌, ◌<◌, ◌⊎◌, ℕ, length, slice_index, IfOk, IfErr};
+ghost use Rattle.std.specs.Prelude.{◌≡◌, ◌≤◌, ◌<◌, ◌⊎◌, ℕ, length, slice_index, true, IfOk, IfErr};
 ghost use Rattle.der_core.specs.Words.{limit};
 ghost use Rattle.spki_core.specs.Readings.{any};
 ghost use Rattle.spki_core.specs.Any.{TagAndContents};
 ghost use Rattle.spki_core.specs.Laws.Printed.Readings.{any_law};
 ghost use Rattle.spki_core.specs.Laws.Printed.Shortest.{any_some};
-ghost use Rattle.der_core.specs.Words.{Prints, front_alike, one_spelling};
+ghost use Rattle.der_core.specs.Words.{Prints, front_alike, one_spelling, starts_with_any};
 ghost use Rattle.standard.specs.Statement as standard;
 
 use crate::any::{AnyParams, AnyRef, AnyValue};
@@ -91,6 +91,14 @@ impl Encoding for Any {
     ghost some = { any_some };
 
     ghost reads_alike = { front_alike any };
+
+    ghost starts = { starts_with_any standard.any };
+
+    fn may_start_with(_tag: Tag) -> bool
+        ensures { result ≡ true }
+    {
+        true
+    }
 }
 
 impl<'a> Decode<&'a [u8], Global> for Any {

@@ -1,5 +1,5 @@
 -- Values with one spelling each: what is made of such values has one spelling too.
-use Rattle.std.proofs.Common.{◌≡◌, refl, ap, sym, ◌∙◌, Option, Some, None}
+use Rattle.std.proofs.Common.{[], ◌∷◌, ◌≡◌, map, refl, ap, sym, ◌∙◌, Option, Some, None}
 use Rattle.std.specs.Option.{option_map}
 use Rattle.der_core.specs.Printed.{AreSpelledOnce}
 
@@ -17,6 +17,14 @@ last_once once (Some s) None e = cc
 last_once {means = means} once (Some s) (Some t) e =
     let same : means s ≡ means t = let q : ◌≡◌ {A = Option _} (Some (means s)) (Some (means t)) = e in cc in
     ap (λ x. Some x) (once s t same)
+
+pub list_once : {S V : Type 0} {means : S → V} → AreSpelledOnce means → AreSpelledOnce (map means)
+list_once once [] [] e = refl
+list_once once [] (t ∷ ts) e = cc
+list_once once (s ∷ ss) [] e = cc
+list_once {means = means} once (s ∷ ss) (t ∷ ts) e =
+    let first : means s ≡ means t = cc in let rest : map means ss ≡ map means ts = cc in
+    λ i. once s t first i ∷ list_once once ss ts rest i
 
 -- Values that are made of others.
 pub made_once : {S T V W : Type 0} {means : S → V} → AreSpelledOnce means → (back : T → S) (join : V → W) (split : W → V)

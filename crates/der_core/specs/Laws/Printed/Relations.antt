@@ -1,6 +1,6 @@
 -- From spellings to a relation that is written out, as `Statement.antt` has it.
 use Rattle.std.proofs.Common.{ℕ, List, ◌≡◌, ◌≤◌, length, refl, sym, subst, ap, ◌∙◌, arith, Option, Some, None}
-use Rattle.std.proofs.Common.{take, drop, length-append}
+use Rattle.std.proofs.Common.{take, drop, length-append, inl, inr}
 use Rattle.std.proofs.Math.Seq.{take-append_seam, drop-append_seam}
 use Rattle.std.specs.Option.{option_map}
 use Rattle.std.specs.Prelude.{◌↔◌, ◌++◌, IfErr, Result, Ok, Err}
@@ -8,6 +8,7 @@ use Rattle.der_core.specs.declared.error.Error.{Error}
 use Rattle.der_core.specs.Document.{EncodeError, no_encoding, too_long, no_room, another}
 use Rattle.der_core.specs.Length.{limit}
 use Rattle.der_core.specs.Printed.{Spells, ok_of}
+use Rattle.der_core.specs.Reading.{DecodesOrMemory}
 use Rattle.der_core.specs.Writing.{Unwritten, encode_error}
 use Rattle.standard.specs.Statement.{Decodes, Encodes, IsShortest}
 
@@ -32,6 +33,12 @@ module _ {V W : Type 0} {Is : V → Type 0} {E : V → List ℕ → Type 0} {Val
     λ w q. sym (law.back w) ∙ ap to (p.1 (law.from w) (from_stated w bytes q)),
   )
   decodes_stated value bytes (Err e) p = λ w q. p (law.from w) (from_stated w bytes q)
+
+  pub memory_stated : {X : Type 0} (value : X → V) (asked : Type 0) (bytes : List ℕ) (r : Result X Error)
+      → DecodesOrMemory value E asked bytes r → DecodesOrMemory (λ x. to (value x)) F asked bytes r
+  memory_stated value asked bytes (Ok x) p = decodes_stated {Z = Error} value bytes (Ok x) p
+  memory_stated value asked bytes (Err e) (inl w) = inl w
+  memory_stated value asked bytes (Err e) (inr p) = inr (decodes_stated value bytes (Err e) p)
 
   pub shortest_stated : (v : V) (bytes : List ℕ) → IsShortest E v bytes → IsShortest F (to v) bytes
   shortest_stated v bytes s = ((law.same v bytes).0 s.0, λ other p. s.1 other ((law.same v other).1 p))

@@ -1,0 +1,25 @@
+use Rattle.std.proofs.Common.{append-nil, arith, refl, sym}
+use Rattle.std.proofs.lemmas.Result.{err_from_is_err_and}
+use Rattle.der_core.proofs.StoppedWriting.{appends_behind, appends_in_front}
+use Rattle.der_core.proofs.optional_part.OptionalThenTuple2EncodeValue.append_value.Goals as goal
+
+pub returns-in_err-encode-in-Some-clause-appends : goal.returns-in_err-encode-in-Some-clause-appends
+returns-in_err-encode-in-Some-clause-appends g c =
+    let p = err_from_is_err_and c.from_residual.result c.from_residual.ensures.1 in
+    let has = rw c.in-Some.is at c.requires.has in
+    let fits = rw c.in-Some.is at c.requires.fits in
+    rw (p.1, p.2, c.in-Some.is) (appends_in_front _ _ _ has.0 has refl fits c.in_err-encode-in-Some.ensures.appends)
+
+pub returns-in_ok-encode-in-Some-clause-appends : goal.returns-in_ok-encode-in-Some-clause-appends
+returns-in_ok-encode-in-Some-clause-appends g c =
+    let has = rw c.in-Some.is at c.requires.has in
+    let fits = rw c.in-Some.is at c.requires.fits in
+    rw c.in-Some.is (appends_behind _ _ _ has.1.1 has refl fits c.in_ok-encode-in-Some.ensures.appends.written
+    c.in_ok-encode-in-Some.ensures.appends.room c.append_value.ensures.appends)
+
+pub returns-in-None-clause-appends : goal.returns-in-None-clause-appends
+returns-in-None-clause-appends g c =
+    let has = rw c.in-None.is at c.requires.has in
+    let fits = rw c.in-None.is at c.requires.fits in
+    rw c.in-None.is (appends_behind _ _ _ has.1.1 has refl fits (sym (append-nil (g.W.Writer.written c.args.writer.now)))
+    (omega arith) c.append_value-in-None.ensures.appends)

@@ -1,0 +1,92 @@
+//! An INTEGER in a range, such as the version of a structure that has several.
+ghost use Rattle.std.specs.Prelude.{◌≡◌, ℕ};
+ghost use Rattle.der_core.specs.Words.{IsInRange, alike, in_range, number_contents, one_spelling, ranged, ranged_law};
+
+use crate::back_writer::BackWriter;
+use crate::decode::DecodeValue;
+use crate::encode::EncodeValue;
+use crate::error::{Error, ErrorKind, Result};
+use crate::grammar::{Contents, IntegerTag, TaggedBy};
+use crate::header::Header;
+use crate::length::Length;
+use crate::memory::Memory;
+use crate::reader::Reader;
+use crate::tag::Tag;
+use crate::writer::Writer;
+
+/// An INTEGER from `MIN` to `MAX`. Another number is `Value` of INTEGER, where it is read and where it is written.
+#[derive(Clone, Copy, Debug, PartialEq, Eq, Drop)]
+pub struct InRange<const MIN: u8, const MAX: u8>(pub u8);
+
+impl<const MIN: u8, const MAX: u8> InRange<MIN, MAX> {
+    /// Whether the number is in the range.
+    #[inline(always)]
+    fn is_within(self) -> bool
+        ensures { result ≡ in_range MIN MAX self.entry.0 }
+    {
+        MIN <= self.0 && self.0 <= MAX
+    }
+}
+
+impl<const MIN: u8, const MAX: u8> Contents for InRange<MIN, MAX> {
+    ghost Value = { ℕ };
+
+    ghost value = { λ number. number.0 };
+
+    ghost Spelling = { ℕ };
+
+    ghost means = { λ n. n };
+
+    ghost written = { λ n. n };
+
+    ghost valid = { IsInRange MIN MAX };
+
+    ghost printed = { number_contents };
+
+    ghost read_spelling = { ranged MIN MAX };
+
+    ghost read = { ranged MIN MAX };
+
+    ghost law = { ranged_law MIN MAX };
+
+    ghost shortest = { one_spelling (IsInRange MIN MAX) number_contents };
+
+    ghost reads_alike = { alike (ranged MIN MAX) };
+}
+
+impl<const MIN: u8, const MAX: u8> TaggedBy for InRange<MIN, MAX> {
+    type Marker = IntegerTag;
+}
+
+impl<'a, M: Memory, const MIN: u8, const MAX: u8> DecodeValue<&'a [u8], M> for InRange<MIN, MAX> {
+    ghost may_allocate = { λ _. ⊥ };
+
+    fn decode_value<R: Reader<&'a [u8]>>(
+        memory: M,
+        reader: &mut R,
+        header: Header,
+    ) -> Result<InRange<MIN, MAX>> {
+        let number = InRange(u8::decode_value(memory, reader, header)?);
+        if !number.is_within() {
+            return Err(reader.error(ErrorKind::Value { tag: Tag::INTEGER }));
+        }
+        Ok(number)
+    }
+}
+
+impl<const MIN: u8, const MAX: u8> EncodeValue for InRange<MIN, MAX> {
+    fn value_len(&self) -> Result<Length> {
+        if !self.is_within() {
+            return Err(Error::new(ErrorKind::Value { tag: Tag::INTEGER }));
+        }
+        self.0.value_len()
+    }
+
+    fn append_value<W: Writer>(&self, writer: &mut W) -> Result<()> {
+        self.0.append_value(writer)
+    }
+
+    fn prepend_value(&self, writer: &mut BackWriter<'_>) {
+        self.0.prepend_value(writer);
+    }
+}

@@ -1,0 +1,139 @@
+//! An OPTIONAL part in front of others, which is known by its tag.
+ghost use Rattle.std.specs.Prelude.{◌≡◌, IsSome, Option, false};
+ghost use Rattle.std.specs.Option.{option_map};
+ghost use Rattle.standard.specs.Statement as standard;
+ghost use Rattle.der_core.specs.declared.error.ErrorKind.TheVariants as kinds;
+ghost use Rattle.der_core.specs.Words.{AllocatesInParts, Optional, Prints, ReadsWhole, Tlv, last_shortest, optional};
+ghost use Rattle.der_core.specs.Words.{optional_alike, optional_part_law, parts, row, row_alike, row_law, row_shortest};
+ghost use Rattle.der_core.specs.Words.{tagged, tagged_alike, tagged_shortest, unless, unless_alike, unless_shortest};
+
+use crate::back_writer::BackWriter;
+use crate::decode::{Decode, DecodeValue, decode_optional};
+use crate::encode::{Encode, EncodeValue, joined_len};
+use crate::error::{Error, ErrorKind, Result};
+use crate::grammar::{Contents, Encoding, FixedTag};
+use crate::length::Length;
+use crate::memory::Memory;
+use crate::parts::DecodeParts;
+use crate::reader::Reader;
+use crate::tag::Tag;
+use crate::writer::Writer;
+
+/// An OPTIONAL part that is known by its tag, and the row behind it, as in `OptionalThen<T, (A, B)>`. Where an `A` may
+/// begin with that tag too, no value has contents: reading and writing are `Value` of the tag.
+#[derive(Drop)]
+pub struct OptionalThen<T, R>(pub Option<T>, pub R);
+
+impl<T: Contents + FixedTag, A: Encoding, B: Contents> Contents for OptionalThen<T, (A, B)> {
+    ghost Value = { Option T.Value × (A.Value × B.Value) };
+
+    ghost value = { λ row. (option_map T.value row.0, (A.value row.1.0, B.value row.1.1)) };
+
+    ghost Spelling = { Option T.Spelling × (A.Spelling × B.Spelling) };
+
+    ghost means = { λ s. (option_map T.means s.0, (A.means s.1.0, B.means s.1.1)) };
+
+    ghost written = { λ v. (option_map T.written v.0, (A.written v.1.0, B.written v.1.1)) };
+
+    ghost valid = { λ s. standard.IfPresent T.valid s.0
+        × ((A.starts.with T.TAG.octet ≡ false) × (A.valid s.1.0 × B.valid s.1.1)) };
+
+    ghost printed = { row (standard.optional (λ s. standard.tlv T.TAG.octet (T.printed s))) (row A.printed B.printed) };
+
+    ghost read_spelling = { parts (optional T.TAG.octet (tagged T.TAG T.read_spelling))
+        (unless (A.starts.with T.TAG.octet) (kinds.Value T.TAG) (parts A.read_spelling B.read_spelling)) };
+
+    ghost read = { parts (optional T.TAG.octet (tagged T.TAG T.read))
+        (unless (A.starts.with T.TAG.octet) (kinds.Value T.TAG) (parts A.read_front B.read)) };
+
+    ghost law = { optional_part_law B.printed T.law (row_law A.law B.law) T.TAG A.starts };
+
+    ghost shortest = { row_shortest (last_shortest (tagged_shortest T.shortest T.TAG.octet))
+        (unless_shortest (A.starts.with T.TAG.octet) (row_shortest A.shortest B.shortest)) };
+
+    ghost reads_alike = { row_alike (optional_alike (tagged_alike T.reads_alike T.TAG) T.TAG.octet)
+        (unless_alike (A.starts.with T.TAG.octet) (kinds.Value T.TAG) (row_alike A.reads_alike B.reads_alike)) };
+}
+
+/// Reads the row behind a part with this tag: `Value` of the tag if the row may begin with it too.
+#[inline(always)]
+fn decode_behind<'a, A, B, M: Memory, R: Reader<&'a [u8]>>(
+    memory: M,
+    reader: &mut R,
+    tag: Tag,
+) -> Result<(A, B)>
+where
+    A: Decode<&'a [u8], M>,
+    B: DecodeParts<&'a [u8], M>,
+    requires { IsSome (R.left reader.old) }
+    ensures { let before = R.left reader.old in
+        let may = ⟦<(A, B) as DecodeParts<&'a [u8], M>>⟧.may_allocate in
+        let read = unless (A.starts.with tag.octet) (kinds.Value tag) (parts A.read_front B.read) in
+        ReadsWhole (λ p. (A.value p.0, B.value p.1)) read may result before (R.left reader.new) }
+{
+    if A::may_start_with(tag) {
+        return Err(reader.error(ErrorKind::Value { tag }));
+    }
+    <(A, B)>::decode_parts(memory, reader)
+}
+
+impl<'a, M, T, A, B> DecodeParts<&'a [u8], M> for OptionalThen<T, (A, B)>
+where
+    M: Memory,
+    T: DecodeValue<&'a [u8], M> + FixedTag,
+    A: Decode<&'a [u8], M>,
+    B: DecodeParts<&'a [u8], M>,
+{
+    ghost may_allocate = { let part = Prints T.valid (λ s. standard.tlv T.TAG.octet (T.printed s)) T.means in
+        let second = Prints A.valid A.printed A.means in
+        AllocatesInParts (Optional part) (Tlv T.TAG.octet T.DecodeValue.may_allocate)
+        (AllocatesInParts second A.Decode.may_allocate B.DecodeParts.may_allocate) };
+
+    #[inline(always)]
+    fn decode_parts<R: Reader<&'a [u8]>>(
+        memory: M,
+        reader: &mut R,
+    ) -> Result<OptionalThen<T, (A, B)>> {
+        let part = decode_optional(memory, reader)?;
+        let rest = decode_behind(memory, reader, T::TAG)?;
+        Ok(OptionalThen(part, rest))
+    }
+}
+
+impl<T, A, B> EncodeValue for OptionalThen<T, (A, B)>
+where
+    T: EncodeValue + FixedTag,
+    A: Encode,
+    B: EncodeValue,
+{
+    #[inline(always)]
+    fn value_len(&self) -> Result<Length> {
+        if A::may_start_with(T::TAG) {
+            return Err(Error::new(ErrorKind::Value { tag: T::TAG }));
+        }
+        let rest = self.1.value_len();
+        match &self.0 {
+            Some(part) => joined_len(part.encoded_len(), rest),
+            None => rest,
+        }
+    }
+
+    #[inline(always)]
+    fn append_value<W: Writer>(&self, writer: &mut W) -> Result<()> {
+        match &self.0 {
+            Some(part) => {
+                part.encode(writer)?;
+                self.1.append_value(writer)
+            }
+            None => self.1.append_value(writer),
+        }
+    }
+
+    #[inline(always)]
+    fn prepend_value(&self, writer: &mut BackWriter<'_>) {
+        self.1.prepend_value(writer);
+        if let Some(part) = &self.0 {
+            part.prepend(writer);
+        }
+    }
+}

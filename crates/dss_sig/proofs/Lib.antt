@@ -1,2 +1,0 @@
-pub mod Signature
-pub mod Salt

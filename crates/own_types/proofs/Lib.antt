@@ -1,0 +1,3 @@
+pub mod Signature
+pub mod Salt
+pub mod Numbers

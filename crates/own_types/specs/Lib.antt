@@ -1,0 +1,4 @@
+pub mod Signature
+pub mod Salt
+pub mod Extension
+pub mod NumberList
