@@ -15,11 +15,11 @@ mod doubles;
 #[cfg(test)]
 mod key_files;
 #[cfg(test)]
-mod own_types;
-#[cfg(test)]
 mod published;
 #[cfg(test)]
 mod readers;
+#[cfg(test)]
+mod records;
 #[cfg(test)]
 mod values;
 #[cfg(test)]

@@ -90,7 +90,6 @@ static void f_pkcs1_params_strict_reject_defaults_2a8ca97c434130(P v_a0, P v_a1,
 static void f_pkcs1_params_pss_reading_PssParamsOfAnyRefDecodeVa(P v_a0, P v_a1);
 static void f_pkcs1_params_trailer_field_TrailerFieldDecodeValue__2(P v_a0, P v_a1, u32 v_a3);
 static u1 f_pkcs1_c_algorithm_uses_hash(P v_a0, P v_a1, P v_a2, u64 v_a3);
-static void f_der_core_encode_AnyEncode_encoded_len_7ae2cf0824c3(P v_a0, P v_a1);
 static void f_der_core_encode_AnyEncode_encoded_len_ef326f824b52(P v_a0, P v_a1);
 static void f_der_core_back_writer_BackWriter_prepend_header(P v_a0, u8 v_a1, u32 v_a2);
 static void f_der_core_encode_AnyEncode_encoded_len_b3284480b090(P v_a0, P v_a1);
@@ -21810,257 +21809,6 @@ L_join_9:;
     v_r3_0 = p_v_r3_0;
     return v_r3_0;
 }
-static void f_der_core_encode_AnyEncode_encoded_len_7ae2cf0824c3(P v_a0, P v_a1) {
-    u32 p_v_r4_0_i_i_i_i_i_i_i;
-    u1 p_v_not_i;
-    u8 p_v_r24_sroa_4_0_sink_i_i_i;
-    u32 p_v_r24_sroa_13_0_sink_i_i_i;
-    u32 p_v_r4_0_i_i_i_i_i62_i_i;
-    u1 p_v_r24_sroa_0_0_sink_i90_i_i;
-    u8 p_v_r24_sroa_4_0_sink_i91_i_i;
-    u32 p_v_r24_sroa_13_0_sink_i94_i_i;
-    u32 p_v_r4_0_i_i_i_i_i130_i_i;
-    u32 p_v_r4_0_i_i_i;
-    u8 p_v_r5_sroa_0_0_i_i_sink_i;
-    u8 p_v_r5_sroa_4_0_i_i_sink_i;
-    u32 p_v_r5_sroa_10_0_i_i_sink_i;
-    P v_0;
-    u64 v_r5_i6_val_val_i_i;
-    P v_1;
-    u64 v_r5_i6_val_val32_i_i;
-    u64 v_r10_i_i_i_i_i_i;
-    u1 v_r12_not_i_i_i_i_i_i_i;
-    u64 v_r4_sroa_10_0_i_i9_i_i_i_i_i;
-    u32 v_r4_sroa_10_0_i_i_i_i_i_i_i;
-    u1 v_r12_i_i_i_i_i_i_i;
-    u1 v_r17_i_i_i_i_i_i_i;
-    u1 v_r22_i_i_i_i_i_i_i;
-    u1 v_r27_i_i_i_i_i_i_i;
-    u32 v_i_i_i_i_i_i_i;
-    u32 v_r8_0_i_i_i_i_i_i_i;
-    u32 v_r4_0_i_i_i_i_i_i_i;
-    u32 v_r5_i_i_i_i_i_i_i_i;
-    u1 v_r7_i_not_i_i_i_i_i_not_i_i;
-    u32 v_r11_i_i_i_i_i_i_i_i;
-    u1 v_not_i;
-    u8 v_r24_sroa_4_0_sink_i_i_i;
-    u32 v_r24_sroa_13_0_sink_i_i_i;
-    P v_2;
-    u64 v_r5_i_val_val_i_i;
-    P v_3;
-    u64 v_r5_i_val_val31_i_i;
-    u64 v_r10_i_i_i_i41_i_i;
-    u1 v_r12_not_i_i_i_i_i42_i_i;
-    u64 v_r4_sroa_10_0_i_i9_i_i_i43_i_i;
-    u32 v_r4_sroa_10_0_i_i_i_i_i44_i_i;
-    u1 v_r12_i_i_i_i_i53_i_i;
-    u1 v_r17_i_i_i_i_i55_i_i;
-    u1 v_r22_i_i_i_i_i57_i_i;
-    u1 v_r27_i_i_i_i_i58_i_i;
-    u32 v_i_i_i_i_i59_i_i;
-    u32 v_r8_0_i_i_i_i_i60_i_i;
-    u32 v_r4_0_i_i_i_i_i62_i_i;
-    u32 v_r5_i_i_i_i_i_i63_i_i;
-    u1 v_r7_i_not_i_i_i_i_i64_not_i_i;
-    u1 v_brmerge_i;
-    u8 v_mux_i;
-    u32 v_r11_i_i_i_i_i_i65_i_i;
-    u32 v_r5_i_i_i102_i_i;
-    u1 v_r7_i_not_i_i103_i_i;
-    u32 v_r11_i_i_i104_i_i;
-    u8 v_r5_sroa_4_0_i_i106_i_i;
-    u32 v_r5_sroa_10_0_i_i107_i_i;
-    u1 v_r24_sroa_0_0_sink_i90_i_i;
-    u8 v_r24_sroa_4_0_sink_i91_i_i;
-    u32 v_r24_sroa_13_0_sink_i94_i_i;
-    P v_4;
-    u64 v_r10_val_val_i_i;
-    P v_5;
-    u64 v_r10_val_val30_i_i;
-    u64 v_r10_i_i_i_i109_i_i;
-    u1 v_r12_not_i_i_i_i_i110_i_i;
-    u64 v_r4_sroa_10_0_i_i9_i_i_i111_i_i;
-    u32 v_r4_sroa_10_0_i_i_i_i_i112_i_i;
-    u1 v_r12_i_i_i_i_i121_i_i;
-    u1 v_r17_i_i_i_i_i123_i_i;
-    u1 v_r22_i_i_i_i_i125_i_i;
-    u1 v_r27_i_i_i_i_i126_i_i;
-    u32 v_i_i_i_i_i127_i_i;
-    u32 v_r8_0_i_i_i_i_i128_i_i;
-    u32 v_r4_0_i_i_i_i_i130_i_i;
-    u32 v_r5_i_i_i_i_i_i131_i_i;
-    u1 v_r7_i_not_i_i_i_i_i132_not_i_i;
-    u32 v_r11_i_i_i_i_i_i133_i_i;
-    u8 v_spec_select189_i_i;
-    u32 v_r5_i_i_i170_i_i;
-    u1 v_r7_i_not_i_i171_i_not_i;
-    u32 v_r11_i_i_i172_i_i;
-    u1 v_r12_i_i_i;
-    u1 v_r17_i_i_i;
-    u1 v_r22_i_i_i;
-    u1 v_r27_i_i_i;
-    u32 v_i_i_i;
-    u32 v_r8_0_i_i_i;
-    u32 v_r4_0_i_i_i;
-    u32 v_r5_i_i_i_i;
-    u1 v_r7_i_not_i_i_i;
-    u32 v_r11_i_i_i_i;
-    u8 v_r5_sroa_0_0_i_i_i;
-    u8 v_r5_sroa_4_0_i_i_i;
-    u32 v_r5_sroa_10_0_i_i_i;
-    u8 v_r5_sroa_0_0_i_i_sink_i;
-    u8 v_r5_sroa_4_0_i_i_sink_i;
-    u32 v_r5_sroa_10_0_i_i_sink_i;
-    P v_r1;
-    P v_r3;
-    P v_r5;
-    P v_r7;
-    v_0 = v_a1 + 56;
-    v_r5_i6_val_val_i_i = get_u64(v_0);
-    v_1 = v_a1 + 64;
-    v_r5_i6_val_val32_i_i = get_u64(v_1);
-    v_r10_i_i_i_i_i_i = (u64)((u64)(v_r5_i6_val_val32_i_i) + (u64)(v_r5_i6_val_val_i_i));
-    v_r12_not_i_i_i_i_i_i_i = v_r10_i_i_i_i_i_i < 4294967296ull;
-    v_r4_sroa_10_0_i_i9_i_i_i_i_i = v_r10_i_i_i_i_i_i < 4294967296ull ? v_r10_i_i_i_i_i_i : 4294967296ull;
-    v_r4_sroa_10_0_i_i_i_i_i_i_i = (u32)(v_r4_sroa_10_0_i_i9_i_i_i_i_i);
-    if (v_r12_not_i_i_i_i_i_i_i) { goto L_arm_1_i_i_i_i_i; } else { p_v_not_i = 1u; p_v_r24_sroa_4_0_sink_i_i_i = 7u; p_v_r24_sroa_13_0_sink_i_i_i = 0u; goto L_der_core_encode_joined_len_exit_i_i; }
-L_arm_1_i_i_i_i_i:;
-    v_r12_i_i_i_i_i_i_i = v_r4_sroa_10_0_i_i_i_i_i_i_i < 128u;
-    if (v_r12_i_i_i_i_i_i_i) { p_v_r4_0_i_i_i_i_i_i_i = 2u; goto L_der_core_borrowed_BorrowedEncode_encoded_len_f4fc9; } else { goto L_else_2_i_i_i_i_i_i_i; }
-L_else_2_i_i_i_i_i_i_i:;
-    v_r17_i_i_i_i_i_i_i = v_r4_sroa_10_0_i_i_i_i_i_i_i < 256u;
-    if (v_r17_i_i_i_i_i_i_i) { p_v_r4_0_i_i_i_i_i_i_i = 3u; goto L_der_core_borrowed_BorrowedEncode_encoded_len_f4fc9; } else { goto L_else_5_i_i_i_i_i_i_i; }
-L_else_5_i_i_i_i_i_i_i:;
-    v_r22_i_i_i_i_i_i_i = v_r4_sroa_10_0_i_i_i_i_i_i_i < 65536u;
-    v_r27_i_i_i_i_i_i_i = v_r4_sroa_10_0_i_i_i_i_i_i_i < 16777216u;
-    v_i_i_i_i_i_i_i = v_r27_i_i_i_i_i_i_i ? 5u : 6u;
-    v_r8_0_i_i_i_i_i_i_i = v_r22_i_i_i_i_i_i_i ? 4u : v_i_i_i_i_i_i_i;
-    { p_v_r4_0_i_i_i_i_i_i_i = v_r8_0_i_i_i_i_i_i_i; goto L_der_core_borrowed_BorrowedEncode_encoded_len_f4fc9; }
-L_der_core_borrowed_BorrowedEncode_encoded_len_f4fc9:;
-    v_r4_0_i_i_i_i_i_i_i = p_v_r4_0_i_i_i_i_i_i_i;
-    v_r5_i_i_i_i_i_i_i_i = (u32)((u32)(v_r4_sroa_10_0_i_i_i_i_i_i_i) ^ (u32)(4294967295ull));
-    v_r7_i_not_i_i_i_i_i_not_i_i = v_r4_0_i_i_i_i_i_i_i > v_r5_i_i_i_i_i_i_i_i;
-    v_r11_i_i_i_i_i_i_i_i = (u32)((u32)(v_r4_0_i_i_i_i_i_i_i) + (u32)(v_r4_sroa_10_0_i_i_i_i_i_i_i));
-    if (v_r7_i_not_i_i_i_i_i_not_i_i) { goto L_after_9_i_i_i; } else { p_v_not_i = 0u; p_v_r24_sroa_4_0_sink_i_i_i = 0u; p_v_r24_sroa_13_0_sink_i_i_i = v_r11_i_i_i_i_i_i_i_i; goto L_der_core_encode_joined_len_exit_i_i; }
-L_after_9_i_i_i:;
-    { p_v_not_i = 1u; p_v_r24_sroa_4_0_sink_i_i_i = 7u; p_v_r24_sroa_13_0_sink_i_i_i = 0u; goto L_der_core_encode_joined_len_exit_i_i; }
-L_der_core_encode_joined_len_exit_i_i:;
-    v_not_i = p_v_not_i;
-    v_r24_sroa_4_0_sink_i_i_i = p_v_r24_sroa_4_0_sink_i_i_i;
-    v_r24_sroa_13_0_sink_i_i_i = p_v_r24_sroa_13_0_sink_i_i_i;
-    v_2 = v_a1 + 32;
-    v_r5_i_val_val_i_i = get_u64(v_2);
-    v_3 = v_a1 + 40;
-    v_r5_i_val_val31_i_i = get_u64(v_3);
-    v_r10_i_i_i_i41_i_i = (u64)((u64)(v_r5_i_val_val31_i_i) + (u64)(v_r5_i_val_val_i_i));
-    v_r12_not_i_i_i_i_i42_i_i = v_r10_i_i_i_i41_i_i < 4294967296ull;
-    v_r4_sroa_10_0_i_i9_i_i_i43_i_i = v_r10_i_i_i_i41_i_i < 4294967296ull ? v_r10_i_i_i_i41_i_i : 4294967296ull;
-    v_r4_sroa_10_0_i_i_i_i_i44_i_i = (u32)(v_r4_sroa_10_0_i_i9_i_i_i43_i_i);
-    if (v_r12_not_i_i_i_i_i42_i_i) { goto L_arm_1_i_i_i52_i_i; } else { p_v_r24_sroa_0_0_sink_i90_i_i = 0u; p_v_r24_sroa_4_0_sink_i91_i_i = 7u; p_v_r24_sroa_13_0_sink_i94_i_i = 0u; goto L_der_core_encode_joined_len_exit108_i_i; }
-L_arm_1_i_i_i52_i_i:;
-    v_r12_i_i_i_i_i53_i_i = v_r4_sroa_10_0_i_i_i_i_i44_i_i < 128u;
-    if (v_r12_i_i_i_i_i53_i_i) { p_v_r4_0_i_i_i_i_i62_i_i = 2u; goto L_der_core_borrowed_BorrowedEncode_encoded_len_f4fc9__2; } else { goto L_else_2_i_i_i_i_i54_i_i; }
-L_else_2_i_i_i_i_i54_i_i:;
-    v_r17_i_i_i_i_i55_i_i = v_r4_sroa_10_0_i_i_i_i_i44_i_i < 256u;
-    if (v_r17_i_i_i_i_i55_i_i) { p_v_r4_0_i_i_i_i_i62_i_i = 3u; goto L_der_core_borrowed_BorrowedEncode_encoded_len_f4fc9__2; } else { goto L_else_5_i_i_i_i_i56_i_i; }
-L_else_5_i_i_i_i_i56_i_i:;
-    v_r22_i_i_i_i_i57_i_i = v_r4_sroa_10_0_i_i_i_i_i44_i_i < 65536u;
-    v_r27_i_i_i_i_i58_i_i = v_r4_sroa_10_0_i_i_i_i_i44_i_i < 16777216u;
-    v_i_i_i_i_i59_i_i = v_r27_i_i_i_i_i58_i_i ? 5u : 6u;
-    v_r8_0_i_i_i_i_i60_i_i = v_r22_i_i_i_i_i57_i_i ? 4u : v_i_i_i_i_i59_i_i;
-    { p_v_r4_0_i_i_i_i_i62_i_i = v_r8_0_i_i_i_i_i60_i_i; goto L_der_core_borrowed_BorrowedEncode_encoded_len_f4fc9__2; }
-L_der_core_borrowed_BorrowedEncode_encoded_len_f4fc9__2:;
-    v_r4_0_i_i_i_i_i62_i_i = p_v_r4_0_i_i_i_i_i62_i_i;
-    v_r5_i_i_i_i_i_i63_i_i = (u32)((u32)(v_r4_sroa_10_0_i_i_i_i_i44_i_i) ^ (u32)(4294967295ull));
-    v_r7_i_not_i_i_i_i_i64_not_i_i = v_r4_0_i_i_i_i_i62_i_i > v_r5_i_i_i_i_i_i63_i_i;
-    v_brmerge_i = (u1)(((u32)(v_not_i) | (u32)(v_r7_i_not_i_i_i_i_i64_not_i_i)) & 1);
-    v_mux_i = v_r7_i_not_i_i_i_i_i64_not_i_i ? 7u : v_r24_sroa_4_0_sink_i_i_i;
-    if (v_brmerge_i) { p_v_r24_sroa_0_0_sink_i90_i_i = 0u; p_v_r24_sroa_4_0_sink_i91_i_i = v_mux_i; p_v_r24_sroa_13_0_sink_i94_i_i = 0u; goto L_der_core_encode_joined_len_exit108_i_i; } else { goto L_arm_5_i101_i_i; }
-L_arm_5_i101_i_i:;
-    v_r11_i_i_i_i_i_i65_i_i = (u32)((u32)(v_r4_0_i_i_i_i_i62_i_i) + (u32)(v_r4_sroa_10_0_i_i_i_i_i44_i_i));
-    v_r5_i_i_i102_i_i = (u32)((u32)(v_r24_sroa_13_0_sink_i_i_i) ^ (u32)(4294967295ull));
-    v_r7_i_not_i_i103_i_i = v_r11_i_i_i_i_i_i65_i_i <= v_r5_i_i_i102_i_i;
-    v_r11_i_i_i104_i_i = (u32)((u32)(v_r11_i_i_i_i_i_i65_i_i) + (u32)(v_r24_sroa_13_0_sink_i_i_i));
-    v_r5_sroa_4_0_i_i106_i_i = v_r7_i_not_i_i103_i_i ? 0u : 7u;
-    v_r5_sroa_10_0_i_i107_i_i = v_r7_i_not_i_i103_i_i ? v_r11_i_i_i104_i_i : 0u;
-    { p_v_r24_sroa_0_0_sink_i90_i_i = v_r7_i_not_i_i103_i_i; p_v_r24_sroa_4_0_sink_i91_i_i = v_r5_sroa_4_0_i_i106_i_i; p_v_r24_sroa_13_0_sink_i94_i_i = v_r5_sroa_10_0_i_i107_i_i; goto L_der_core_encode_joined_len_exit108_i_i; }
-L_der_core_encode_joined_len_exit108_i_i:;
-    v_r24_sroa_0_0_sink_i90_i_i = p_v_r24_sroa_0_0_sink_i90_i_i;
-    v_r24_sroa_4_0_sink_i91_i_i = p_v_r24_sroa_4_0_sink_i91_i_i;
-    v_r24_sroa_13_0_sink_i94_i_i = p_v_r24_sroa_13_0_sink_i94_i_i;
-    v_4 = v_a1 + 8;
-    v_r10_val_val_i_i = get_u64(v_4);
-    v_5 = v_a1 + 16;
-    v_r10_val_val30_i_i = get_u64(v_5);
-    v_r10_i_i_i_i109_i_i = (u64)((u64)(v_r10_val_val30_i_i) + (u64)(v_r10_val_val_i_i));
-    v_r12_not_i_i_i_i_i110_i_i = v_r10_i_i_i_i109_i_i < 4294967296ull;
-    v_r4_sroa_10_0_i_i9_i_i_i111_i_i = v_r10_i_i_i_i109_i_i < 4294967296ull ? v_r10_i_i_i_i109_i_i : 4294967296ull;
-    v_r4_sroa_10_0_i_i_i_i_i112_i_i = (u32)(v_r4_sroa_10_0_i_i9_i_i_i111_i_i);
-    if (v_r12_not_i_i_i_i_i110_i_i) { goto L_arm_1_i_i_i120_i_i; } else { goto L_arm_2_i156_i_i; }
-L_arm_1_i_i_i120_i_i:;
-    v_r12_i_i_i_i_i121_i_i = v_r4_sroa_10_0_i_i_i_i_i112_i_i < 128u;
-    if (v_r12_i_i_i_i_i121_i_i) { p_v_r4_0_i_i_i_i_i130_i_i = 2u; goto L_der_core_borrowed_BorrowedEncode_encoded_len_f4fc9__3; } else { goto L_else_2_i_i_i_i_i122_i_i; }
-L_else_2_i_i_i_i_i122_i_i:;
-    v_r17_i_i_i_i_i123_i_i = v_r4_sroa_10_0_i_i_i_i_i112_i_i < 256u;
-    if (v_r17_i_i_i_i_i123_i_i) { p_v_r4_0_i_i_i_i_i130_i_i = 3u; goto L_der_core_borrowed_BorrowedEncode_encoded_len_f4fc9__3; } else { goto L_else_5_i_i_i_i_i124_i_i; }
-L_else_5_i_i_i_i_i124_i_i:;
-    v_r22_i_i_i_i_i125_i_i = v_r4_sroa_10_0_i_i_i_i_i112_i_i < 65536u;
-    v_r27_i_i_i_i_i126_i_i = v_r4_sroa_10_0_i_i_i_i_i112_i_i < 16777216u;
-    v_i_i_i_i_i127_i_i = v_r27_i_i_i_i_i126_i_i ? 5u : 6u;
-    v_r8_0_i_i_i_i_i128_i_i = v_r22_i_i_i_i_i125_i_i ? 4u : v_i_i_i_i_i127_i_i;
-    { p_v_r4_0_i_i_i_i_i130_i_i = v_r8_0_i_i_i_i_i128_i_i; goto L_der_core_borrowed_BorrowedEncode_encoded_len_f4fc9__3; }
-L_der_core_borrowed_BorrowedEncode_encoded_len_f4fc9__3:;
-    v_r4_0_i_i_i_i_i130_i_i = p_v_r4_0_i_i_i_i_i130_i_i;
-    v_r5_i_i_i_i_i_i131_i_i = (u32)((u32)(v_r4_sroa_10_0_i_i_i_i_i112_i_i) ^ (u32)(4294967295ull));
-    v_r7_i_not_i_i_i_i_i132_not_i_i = v_r4_0_i_i_i_i_i130_i_i > v_r5_i_i_i_i_i_i131_i_i;
-    v_r11_i_i_i_i_i_i133_i_i = (u32)((u32)(v_r4_0_i_i_i_i_i130_i_i) + (u32)(v_r4_sroa_10_0_i_i_i_i_i112_i_i));
-    if (v_r7_i_not_i_i_i_i_i132_not_i_i) { goto L_arm_2_i156_i_i; } else { goto L_arm_1_i168_i_i; }
-L_arm_1_i168_i_i:;
-    if (v_r24_sroa_0_0_sink_i90_i_i) { goto L_pkcs1_private_key_other_prime_info_OtherPrimeInfoE; } else { p_v_r5_sroa_0_0_i_i_sink_i = 1u; p_v_r5_sroa_4_0_i_i_sink_i = v_r24_sroa_4_0_sink_i91_i_i; p_v_r5_sroa_10_0_i_i_sink_i = 0u; goto L_der_core_encode_encoding_len_7ae2cf0824c31d70_exit; }
-L_arm_2_i156_i_i:;
-    v_spec_select189_i_i = v_r24_sroa_0_0_sink_i90_i_i ? 7u : v_r24_sroa_4_0_sink_i91_i_i;
-    { p_v_r5_sroa_0_0_i_i_sink_i = 1u; p_v_r5_sroa_4_0_i_i_sink_i = v_spec_select189_i_i; p_v_r5_sroa_10_0_i_i_sink_i = 0u; goto L_der_core_encode_encoding_len_7ae2cf0824c31d70_exit; }
-L_pkcs1_private_key_other_prime_info_OtherPrimeInfoE:;
-    v_r5_i_i_i170_i_i = (u32)((u32)(v_r24_sroa_13_0_sink_i94_i_i) ^ (u32)(4294967295ull));
-    v_r7_i_not_i_i171_i_not_i = v_r11_i_i_i_i_i_i133_i_i > v_r5_i_i_i170_i_i;
-    v_r11_i_i_i172_i_i = (u32)((u32)(v_r11_i_i_i_i_i_i133_i_i) + (u32)(v_r24_sroa_13_0_sink_i94_i_i));
-    if (v_r7_i_not_i_i171_i_not_i) { p_v_r5_sroa_0_0_i_i_sink_i = 1u; p_v_r5_sroa_4_0_i_i_sink_i = 7u; p_v_r5_sroa_10_0_i_i_sink_i = 0u; goto L_der_core_encode_encoding_len_7ae2cf0824c31d70_exit; } else { goto L_arm_1_i; }
-L_arm_1_i:;
-    v_r12_i_i_i = v_r11_i_i_i172_i_i < 128u;
-    if (v_r12_i_i_i) { p_v_r4_0_i_i_i = 2u; goto L_der_core_length_Length_for_tlv_exit_i; } else { goto L_else_2_i_i_i; }
-L_else_2_i_i_i:;
-    v_r17_i_i_i = v_r11_i_i_i172_i_i < 256u;
-    if (v_r17_i_i_i) { p_v_r4_0_i_i_i = 3u; goto L_der_core_length_Length_for_tlv_exit_i; } else { goto L_else_5_i_i_i; }
-L_else_5_i_i_i:;
-    v_r22_i_i_i = v_r11_i_i_i172_i_i < 65536u;
-    v_r27_i_i_i = v_r11_i_i_i172_i_i < 16777216u;
-    v_i_i_i = v_r27_i_i_i ? 5u : 6u;
-    v_r8_0_i_i_i = v_r22_i_i_i ? 4u : v_i_i_i;
-    { p_v_r4_0_i_i_i = v_r8_0_i_i_i; goto L_der_core_length_Length_for_tlv_exit_i; }
-L_der_core_length_Length_for_tlv_exit_i:;
-    v_r4_0_i_i_i = p_v_r4_0_i_i_i;
-    v_r5_i_i_i_i = (u32)((u32)(v_r11_i_i_i172_i_i) ^ (u32)(4294967295ull));
-    v_r7_i_not_i_i_i = v_r4_0_i_i_i > v_r5_i_i_i_i;
-    v_r11_i_i_i_i = (u32)((u32)(v_r4_0_i_i_i) + (u32)(v_r11_i_i_i172_i_i));
-    v_r5_sroa_0_0_i_i_i = (u8)v_r7_i_not_i_i_i;
-    v_r5_sroa_4_0_i_i_i = v_r7_i_not_i_i_i ? 7u : 0u;
-    v_r5_sroa_10_0_i_i_i = v_r7_i_not_i_i_i ? 0u : v_r11_i_i_i_i;
-    { p_v_r5_sroa_0_0_i_i_sink_i = v_r5_sroa_0_0_i_i_i; p_v_r5_sroa_4_0_i_i_sink_i = v_r5_sroa_4_0_i_i_i; p_v_r5_sroa_10_0_i_i_sink_i = v_r5_sroa_10_0_i_i_i; goto L_der_core_encode_encoding_len_7ae2cf0824c31d70_exit; }
-L_der_core_encode_encoding_len_7ae2cf0824c31d70_exit:;
-    v_r5_sroa_0_0_i_i_sink_i = p_v_r5_sroa_0_0_i_i_sink_i;
-    v_r5_sroa_4_0_i_i_sink_i = p_v_r5_sroa_4_0_i_i_sink_i;
-    v_r5_sroa_10_0_i_i_sink_i = p_v_r5_sroa_10_0_i_i_sink_i;
-    put_u8(v_a0, v_r5_sroa_0_0_i_i_sink_i);
-    v_r1 = v_a0 + 1;
-    put_u8(v_r1, v_r5_sroa_4_0_i_i_sink_i);
-    v_r3 = v_a0 + 2;
-    put_u8(v_r3, 0u);
-    v_r5 = v_a0 + 3;
-    put_u8(v_r5, 0u);
-    v_r7 = v_a0 + 4;
-    put_u32(v_r7, v_r5_sroa_10_0_i_i_sink_i);
-    return;
-}
 static void f_der_core_encode_AnyEncode_encoded_len_ef326f824b52(P v_a0, P v_a1) {
     u32 p_v_r4_0_i_i_i_i_i_i_i;
     u32 p_v_r3_i112_sroa_12_0_i_i;
@@ -22152,7 +21900,7 @@ static void f_der_core_encode_AnyEncode_encoded_len_ef326f824b52(P v_a0, P v_a1)
     u64 v_r5_i91_val_val_i_i;
     P v_4;
     u64 v_r5_i91_val_val128_i_i;
-    u64 v_r10_i_i_i_i_i_i;
+    u64 v_r9_i_i_i_i_i_i_i;
     u1 v_r12_not_i_i_i_i_i_i_i;
     u64 v_r4_sroa_10_0_i_i9_i_i_i_i_i;
     u32 v_r4_sroa_10_0_i_i_i_i_i_i_i;
@@ -22180,7 +21928,7 @@ static void f_der_core_encode_AnyEncode_encoded_len_ef326f824b52(P v_a0, P v_a1)
     u64 v_r5_i79_val_val_i_i;
     P v_6;
     u64 v_r5_i79_val_val127_i_i;
-    u64 v_r10_i_i_i_i166_i_i;
+    u64 v_r9_i_i_i_i_i166_i_i;
     u1 v_r12_not_i_i_i_i_i167_i_i;
     u64 v_r4_sroa_10_0_i_i9_i_i_i168_i_i;
     u32 v_r4_sroa_10_0_i_i_i_i_i169_i_i;
@@ -22208,7 +21956,7 @@ static void f_der_core_encode_AnyEncode_encoded_len_ef326f824b52(P v_a0, P v_a1)
     u64 v_r13_i70_val_val_i_i;
     P v_8;
     u64 v_r13_i70_val_val126_i_i;
-    u64 v_r10_i_i_i_i234_i_i;
+    u64 v_r9_i_i_i_i_i234_i_i;
     u1 v_r12_not_i_i_i_i_i235_i_i;
     u64 v_r4_sroa_10_0_i_i9_i_i_i236_i_i;
     u32 v_r4_sroa_10_0_i_i_i_i_i237_i_i;
@@ -22236,7 +21984,7 @@ static void f_der_core_encode_AnyEncode_encoded_len_ef326f824b52(P v_a0, P v_a1)
     u64 v_r5_i48_val_val_i_i;
     P v_10;
     u64 v_r5_i48_val_val125_i_i;
-    u64 v_r10_i_i_i_i302_i_i;
+    u64 v_r9_i_i_i_i_i302_i_i;
     u1 v_r12_not_i_i_i_i_i303_i_i;
     u64 v_r4_sroa_10_0_i_i9_i_i_i304_i_i;
     u32 v_r4_sroa_10_0_i_i_i_i_i305_i_i;
@@ -22264,7 +22012,7 @@ static void f_der_core_encode_AnyEncode_encoded_len_ef326f824b52(P v_a0, P v_a1)
     u64 v_r5_i36_val_val_i_i;
     P v_12;
     u64 v_r5_i36_val_val124_i_i;
-    u64 v_r10_i_i_i_i370_i_i;
+    u64 v_r9_i_i_i_i_i370_i_i;
     u1 v_r12_not_i_i_i_i_i371_i_i;
     u64 v_r4_sroa_10_0_i_i9_i_i_i372_i_i;
     u32 v_r4_sroa_10_0_i_i_i_i_i373_i_i;
@@ -22292,7 +22040,7 @@ static void f_der_core_encode_AnyEncode_encoded_len_ef326f824b52(P v_a0, P v_a1)
     u64 v_r5_i24_val_val_i_i;
     P v_14;
     u64 v_r5_i24_val_val123_i_i;
-    u64 v_r10_i_i_i_i438_i_i;
+    u64 v_r9_i_i_i_i_i438_i_i;
     u1 v_r12_not_i_i_i_i_i439_i_i;
     u64 v_r4_sroa_10_0_i_i9_i_i_i440_i_i;
     u32 v_r4_sroa_10_0_i_i_i_i_i441_i_i;
@@ -22320,7 +22068,7 @@ static void f_der_core_encode_AnyEncode_encoded_len_ef326f824b52(P v_a0, P v_a1)
     u64 v_r5_i12_val_val_i_i;
     P v_16;
     u64 v_r5_i12_val_val122_i_i;
-    u64 v_r10_i_i_i_i506_i_i;
+    u64 v_r9_i_i_i_i_i506_i_i;
     u1 v_r12_not_i_i_i_i_i507_i_i;
     u64 v_r4_sroa_10_0_i_i9_i_i_i508_i_i;
     u32 v_r4_sroa_10_0_i_i_i_i_i509_i_i;
@@ -22348,7 +22096,7 @@ static void f_der_core_encode_AnyEncode_encoded_len_ef326f824b52(P v_a0, P v_a1)
     u64 v_r5_i3_val_val_i_i;
     P v_18;
     u64 v_r5_i3_val_val121_i_i;
-    u64 v_r10_i_i_i_i574_i_i;
+    u64 v_r9_i_i_i_i_i574_i_i;
     u1 v_r12_not_i_i_i_i_i575_i_i;
     u64 v_r4_sroa_10_0_i_i9_i_i_i576_i_i;
     u32 v_r4_sroa_10_0_i_i_i_i_i577_i_i;
@@ -22439,9 +22187,9 @@ L_der_core_last_part_LastEncodeValue_value_len_b5a7e:;
     v_r5_i91_val_val_i_i = get_u64(v_3);
     v_4 = v_a1 + 184;
     v_r5_i91_val_val128_i_i = get_u64(v_4);
-    v_r10_i_i_i_i_i_i = (u64)((u64)(v_r5_i91_val_val128_i_i) + (u64)(v_r5_i91_val_val_i_i));
-    v_r12_not_i_i_i_i_i_i_i = v_r10_i_i_i_i_i_i < 4294967296ull;
-    v_r4_sroa_10_0_i_i9_i_i_i_i_i = v_r10_i_i_i_i_i_i < 4294967296ull ? v_r10_i_i_i_i_i_i : 4294967296ull;
+    v_r9_i_i_i_i_i_i_i = (u64)((u64)(v_r5_i91_val_val128_i_i) + (u64)(v_r5_i91_val_val_i_i));
+    v_r12_not_i_i_i_i_i_i_i = v_r9_i_i_i_i_i_i_i < 4294967296ull;
+    v_r4_sroa_10_0_i_i9_i_i_i_i_i = v_r9_i_i_i_i_i_i_i < 4294967296ull ? v_r9_i_i_i_i_i_i_i : 4294967296ull;
     v_r4_sroa_10_0_i_i_i_i_i_i_i = (u32)(v_r4_sroa_10_0_i_i9_i_i_i_i_i);
     if (v_r12_not_i_i_i_i_i_i_i) { goto L_arm_1_i_i_i139_i_i; } else { goto L_arm_2_i164_i_i; }
 L_arm_1_i_i_i139_i_i:;
@@ -22485,9 +22233,9 @@ L_der_core_encode_joined_len_exit_i_i:;
     v_r5_i79_val_val_i_i = get_u64(v_5);
     v_6 = v_a1 + 160;
     v_r5_i79_val_val127_i_i = get_u64(v_6);
-    v_r10_i_i_i_i166_i_i = (u64)((u64)(v_r5_i79_val_val127_i_i) + (u64)(v_r5_i79_val_val_i_i));
-    v_r12_not_i_i_i_i_i167_i_i = v_r10_i_i_i_i166_i_i < 4294967296ull;
-    v_r4_sroa_10_0_i_i9_i_i_i168_i_i = v_r10_i_i_i_i166_i_i < 4294967296ull ? v_r10_i_i_i_i166_i_i : 4294967296ull;
+    v_r9_i_i_i_i_i166_i_i = (u64)((u64)(v_r5_i79_val_val127_i_i) + (u64)(v_r5_i79_val_val_i_i));
+    v_r12_not_i_i_i_i_i167_i_i = v_r9_i_i_i_i_i166_i_i < 4294967296ull;
+    v_r4_sroa_10_0_i_i9_i_i_i168_i_i = v_r9_i_i_i_i_i166_i_i < 4294967296ull ? v_r9_i_i_i_i_i166_i_i : 4294967296ull;
     v_r4_sroa_10_0_i_i_i_i_i169_i_i = (u32)(v_r4_sroa_10_0_i_i9_i_i_i168_i_i);
     if (v_r12_not_i_i_i_i_i167_i_i) { goto L_arm_1_i_i_i177_i_i; } else { goto L_arm_2_i213_i_i; }
 L_arm_1_i_i_i177_i_i:;
@@ -22531,9 +22279,9 @@ L_der_core_encode_joined_len_exit233_i_i:;
     v_r13_i70_val_val_i_i = get_u64(v_7);
     v_8 = v_a1 + 136;
     v_r13_i70_val_val126_i_i = get_u64(v_8);
-    v_r10_i_i_i_i234_i_i = (u64)((u64)(v_r13_i70_val_val126_i_i) + (u64)(v_r13_i70_val_val_i_i));
-    v_r12_not_i_i_i_i_i235_i_i = v_r10_i_i_i_i234_i_i < 4294967296ull;
-    v_r4_sroa_10_0_i_i9_i_i_i236_i_i = v_r10_i_i_i_i234_i_i < 4294967296ull ? v_r10_i_i_i_i234_i_i : 4294967296ull;
+    v_r9_i_i_i_i_i234_i_i = (u64)((u64)(v_r13_i70_val_val126_i_i) + (u64)(v_r13_i70_val_val_i_i));
+    v_r12_not_i_i_i_i_i235_i_i = v_r9_i_i_i_i_i234_i_i < 4294967296ull;
+    v_r4_sroa_10_0_i_i9_i_i_i236_i_i = v_r9_i_i_i_i_i234_i_i < 4294967296ull ? v_r9_i_i_i_i_i234_i_i : 4294967296ull;
     v_r4_sroa_10_0_i_i_i_i_i237_i_i = (u32)(v_r4_sroa_10_0_i_i9_i_i_i236_i_i);
     if (v_r12_not_i_i_i_i_i235_i_i) { goto L_arm_1_i_i_i245_i_i; } else { goto L_arm_2_i281_i_i; }
 L_arm_1_i_i_i245_i_i:;
@@ -22577,9 +22325,9 @@ L_der_core_encode_joined_len_exit301_i_i:;
     v_r5_i48_val_val_i_i = get_u64(v_9);
     v_10 = v_a1 + 112;
     v_r5_i48_val_val125_i_i = get_u64(v_10);
-    v_r10_i_i_i_i302_i_i = (u64)((u64)(v_r5_i48_val_val125_i_i) + (u64)(v_r5_i48_val_val_i_i));
-    v_r12_not_i_i_i_i_i303_i_i = v_r10_i_i_i_i302_i_i < 4294967296ull;
-    v_r4_sroa_10_0_i_i9_i_i_i304_i_i = v_r10_i_i_i_i302_i_i < 4294967296ull ? v_r10_i_i_i_i302_i_i : 4294967296ull;
+    v_r9_i_i_i_i_i302_i_i = (u64)((u64)(v_r5_i48_val_val125_i_i) + (u64)(v_r5_i48_val_val_i_i));
+    v_r12_not_i_i_i_i_i303_i_i = v_r9_i_i_i_i_i302_i_i < 4294967296ull;
+    v_r4_sroa_10_0_i_i9_i_i_i304_i_i = v_r9_i_i_i_i_i302_i_i < 4294967296ull ? v_r9_i_i_i_i_i302_i_i : 4294967296ull;
     v_r4_sroa_10_0_i_i_i_i_i305_i_i = (u32)(v_r4_sroa_10_0_i_i9_i_i_i304_i_i);
     if (v_r12_not_i_i_i_i_i303_i_i) { goto L_arm_1_i_i_i313_i_i; } else { goto L_arm_2_i349_i_i; }
 L_arm_1_i_i_i313_i_i:;
@@ -22623,9 +22371,9 @@ L_der_core_encode_joined_len_exit369_i_i:;
     v_r5_i36_val_val_i_i = get_u64(v_11);
     v_12 = v_a1 + 88;
     v_r5_i36_val_val124_i_i = get_u64(v_12);
-    v_r10_i_i_i_i370_i_i = (u64)((u64)(v_r5_i36_val_val124_i_i) + (u64)(v_r5_i36_val_val_i_i));
-    v_r12_not_i_i_i_i_i371_i_i = v_r10_i_i_i_i370_i_i < 4294967296ull;
-    v_r4_sroa_10_0_i_i9_i_i_i372_i_i = v_r10_i_i_i_i370_i_i < 4294967296ull ? v_r10_i_i_i_i370_i_i : 4294967296ull;
+    v_r9_i_i_i_i_i370_i_i = (u64)((u64)(v_r5_i36_val_val124_i_i) + (u64)(v_r5_i36_val_val_i_i));
+    v_r12_not_i_i_i_i_i371_i_i = v_r9_i_i_i_i_i370_i_i < 4294967296ull;
+    v_r4_sroa_10_0_i_i9_i_i_i372_i_i = v_r9_i_i_i_i_i370_i_i < 4294967296ull ? v_r9_i_i_i_i_i370_i_i : 4294967296ull;
     v_r4_sroa_10_0_i_i_i_i_i373_i_i = (u32)(v_r4_sroa_10_0_i_i9_i_i_i372_i_i);
     if (v_r12_not_i_i_i_i_i371_i_i) { goto L_arm_1_i_i_i381_i_i; } else { goto L_arm_2_i417_i_i; }
 L_arm_1_i_i_i381_i_i:;
@@ -22669,9 +22417,9 @@ L_der_core_encode_joined_len_exit437_i_i:;
     v_r5_i24_val_val_i_i = get_u64(v_13);
     v_14 = v_a1 + 64;
     v_r5_i24_val_val123_i_i = get_u64(v_14);
-    v_r10_i_i_i_i438_i_i = (u64)((u64)(v_r5_i24_val_val123_i_i) + (u64)(v_r5_i24_val_val_i_i));
-    v_r12_not_i_i_i_i_i439_i_i = v_r10_i_i_i_i438_i_i < 4294967296ull;
-    v_r4_sroa_10_0_i_i9_i_i_i440_i_i = v_r10_i_i_i_i438_i_i < 4294967296ull ? v_r10_i_i_i_i438_i_i : 4294967296ull;
+    v_r9_i_i_i_i_i438_i_i = (u64)((u64)(v_r5_i24_val_val123_i_i) + (u64)(v_r5_i24_val_val_i_i));
+    v_r12_not_i_i_i_i_i439_i_i = v_r9_i_i_i_i_i438_i_i < 4294967296ull;
+    v_r4_sroa_10_0_i_i9_i_i_i440_i_i = v_r9_i_i_i_i_i438_i_i < 4294967296ull ? v_r9_i_i_i_i_i438_i_i : 4294967296ull;
     v_r4_sroa_10_0_i_i_i_i_i441_i_i = (u32)(v_r4_sroa_10_0_i_i9_i_i_i440_i_i);
     if (v_r12_not_i_i_i_i_i439_i_i) { goto L_arm_1_i_i_i449_i_i; } else { goto L_arm_2_i485_i_i; }
 L_arm_1_i_i_i449_i_i:;
@@ -22715,9 +22463,9 @@ L_der_core_encode_joined_len_exit505_i_i:;
     v_r5_i12_val_val_i_i = get_u64(v_15);
     v_16 = v_a1 + 40;
     v_r5_i12_val_val122_i_i = get_u64(v_16);
-    v_r10_i_i_i_i506_i_i = (u64)((u64)(v_r5_i12_val_val122_i_i) + (u64)(v_r5_i12_val_val_i_i));
-    v_r12_not_i_i_i_i_i507_i_i = v_r10_i_i_i_i506_i_i < 4294967296ull;
-    v_r4_sroa_10_0_i_i9_i_i_i508_i_i = v_r10_i_i_i_i506_i_i < 4294967296ull ? v_r10_i_i_i_i506_i_i : 4294967296ull;
+    v_r9_i_i_i_i_i506_i_i = (u64)((u64)(v_r5_i12_val_val122_i_i) + (u64)(v_r5_i12_val_val_i_i));
+    v_r12_not_i_i_i_i_i507_i_i = v_r9_i_i_i_i_i506_i_i < 4294967296ull;
+    v_r4_sroa_10_0_i_i9_i_i_i508_i_i = v_r9_i_i_i_i_i506_i_i < 4294967296ull ? v_r9_i_i_i_i_i506_i_i : 4294967296ull;
     v_r4_sroa_10_0_i_i_i_i_i509_i_i = (u32)(v_r4_sroa_10_0_i_i9_i_i_i508_i_i);
     if (v_r12_not_i_i_i_i_i507_i_i) { goto L_arm_1_i_i_i517_i_i; } else { goto L_arm_2_i553_i_i; }
 L_arm_1_i_i_i517_i_i:;
@@ -22761,9 +22509,9 @@ L_der_core_encode_joined_len_exit573_i_i:;
     v_r5_i3_val_val_i_i = get_u64(v_17);
     v_18 = v_a1 + 16;
     v_r5_i3_val_val121_i_i = get_u64(v_18);
-    v_r10_i_i_i_i574_i_i = (u64)((u64)(v_r5_i3_val_val121_i_i) + (u64)(v_r5_i3_val_val_i_i));
-    v_r12_not_i_i_i_i_i575_i_i = v_r10_i_i_i_i574_i_i < 4294967296ull;
-    v_r4_sroa_10_0_i_i9_i_i_i576_i_i = v_r10_i_i_i_i574_i_i < 4294967296ull ? v_r10_i_i_i_i574_i_i : 4294967296ull;
+    v_r9_i_i_i_i_i574_i_i = (u64)((u64)(v_r5_i3_val_val121_i_i) + (u64)(v_r5_i3_val_val_i_i));
+    v_r12_not_i_i_i_i_i575_i_i = v_r9_i_i_i_i_i574_i_i < 4294967296ull;
+    v_r4_sroa_10_0_i_i9_i_i_i576_i_i = v_r9_i_i_i_i_i574_i_i < 4294967296ull ? v_r9_i_i_i_i_i574_i_i : 4294967296ull;
     v_r4_sroa_10_0_i_i_i_i_i577_i_i = (u32)(v_r4_sroa_10_0_i_i9_i_i_i576_i_i);
     if (v_r12_not_i_i_i_i_i575_i_i) { goto L_arm_1_i_i_i585_i_i; } else { goto L_arm_2_i621_i_i; }
 L_arm_1_i_i_i585_i_i:;
@@ -34703,89 +34451,78 @@ u1 pkcs1_c_pss_is(P v_a0, P v_a1, u64 v_a2) {
 }
 u32 pkcs1_c_private_key_encode(P v_a0, P v_a1, u64 v_a2, P v_a3, u64 v_a4, P v_a5) {
     ALIGNED(4) unsigned char m_v_r1_i_i_i[8];
-    ALIGNED(8) unsigned char m_v_r1_i_i_i_i_i_i_i[72];
-    ALIGNED(8) unsigned char m_v_r10_i_i_i_i_i_i_i[8];
     ALIGNED(4) unsigned char m_v_r10_i_i_i[8];
-    ALIGNED(8) unsigned char m_v_r6_i_i[72];
-    ALIGNED(8) unsigned char m_v_r19_i399_i[8];
     ALIGNED(8) unsigned char m_v_r5_i[224];
     P p_v_r3_sroa_0_08_i_i_i;
     u64 p_v_r3_sroa_6_07_i_i_i;
     P p_v_r12_sroa_10_i_sroa_3_0_ph_i;
     u64 p_v_r12_sroa_10_i_sroa_5_0_ph_i;
-    P p_v_r3_sroa_0_08_i_i617_i;
-    u64 p_v_r3_sroa_6_07_i_i618_i;
-    P p_v_r1_sroa_0_0_copyload_i_i191_i_i_i_ph_i;
-    u8 p_v_r20_i326_i;
-    P p_v_r1_sroa_0_0_copyload_i_i191_i_i_i_i;
-    u64 p_v_r1_sroa_3_0_copyload_i_i193_i_i_i_i;
-    P p_v_r3_sroa_0_08_i_i711_i;
-    u64 p_v_r3_sroa_6_07_i_i712_i;
-    P p_v_r1_sroa_0_0_copyload_i_i158_i_i_i_ph_i;
-    u8 p_v_r20_i336_i;
+    P p_v_r3_sroa_0_08_i_i722_i;
+    u64 p_v_r3_sroa_6_07_i_i723_i;
+    P p_v_r12_sroa_10_i745_sroa_3_0_ph_i;
+    u64 p_v_r12_sroa_10_i745_sroa_5_0_ph_i;
+    P p_v_r3_sroa_0_08_i_i816_i;
+    u64 p_v_r3_sroa_6_07_i_i817_i;
     P p_v_r1_sroa_0_0_copyload_i_i158_i_i_i_i;
     u64 p_v_r1_sroa_3_0_copyload_i_i160_i_i_i_i;
-    P p_v_r3_sroa_0_08_i_i808_i;
-    u64 p_v_r3_sroa_6_07_i_i809_i;
+    P p_v_r3_sroa_0_08_i_i913_i;
+    u64 p_v_r3_sroa_6_07_i_i914_i;
     P p_v_r1_sroa_0_0_copyload_i_i125_i_i_i_ph_i;
     u8 p_v_r20_i346_i;
     P p_v_r1_sroa_0_0_copyload_i_i125_i_i_i_i;
     u64 p_v_r1_sroa_3_0_copyload_i_i127_i_i_i_i;
-    P p_v_r3_sroa_0_08_i_i905_i;
-    u64 p_v_r3_sroa_6_07_i_i906_i;
+    P p_v_r3_sroa_0_08_i_i1010_i;
+    u64 p_v_r3_sroa_6_07_i_i1011_i;
     P p_v_r1_sroa_0_0_copyload_i_i92_i_i_i_ph_i;
     u8 p_v_r20_i356_i;
     P p_v_r1_sroa_0_0_copyload_i_i92_i_i_i_i;
     u64 p_v_r1_sroa_3_0_copyload_i_i94_i_i_i_i;
-    P p_v_r3_sroa_0_08_i_i1002_i;
-    u64 p_v_r3_sroa_6_07_i_i1003_i;
+    P p_v_r3_sroa_0_08_i_i1107_i;
+    u64 p_v_r3_sroa_6_07_i_i1108_i;
     P p_v_r1_sroa_0_0_copyload_i_i59_i_i_i_ph_i;
     u8 p_v_r20_i366_i;
     P p_v_r1_sroa_0_0_copyload_i_i59_i_i_i_i;
     u64 p_v_r1_sroa_3_0_copyload_i_i61_i_i_i_i;
-    P p_v_r3_sroa_0_08_i_i1099_i;
-    u64 p_v_r3_sroa_6_07_i_i1100_i;
+    P p_v_r3_sroa_0_08_i_i1204_i;
+    u64 p_v_r3_sroa_6_07_i_i1205_i;
     P p_v_r1_sroa_0_0_copyload_i_i26_i_i_i_ph_i;
     u8 p_v_r20_i376_i;
     P p_v_r1_sroa_0_0_copyload_i_i26_i_i_i_i;
     u64 p_v_r1_sroa_3_0_copyload_i_i28_i_i_i_i;
-    P p_v_r3_sroa_0_08_i_i1196_i;
-    u64 p_v_r3_sroa_6_07_i_i1197_i;
+    P p_v_r3_sroa_0_08_i_i1301_i;
+    u64 p_v_r3_sroa_6_07_i_i1302_i;
     P p_v_r1_sroa_0_0_copyload_i_i_i_i_i_ph_i;
     u8 p_v_r20_i386_i;
     P p_v_r1_sroa_0_0_copyload_i_i_i_i_i_i;
     u64 p_v_r1_sroa_3_0_copyload_i_i_i_i_i_i;
-    u64 p_v_r4_0_i3696_i;
-    u8 p_v_r3_i393_sroa_0_03695_i;
-    u8 p_v_r3_i393_sroa_7_03694_i;
-    u8 p_v_r3_i393_sroa_10_03693_i;
-    u8 p_v_r3_i393_sroa_13_03692_i;
-    u32 p_v_r3_i393_sroa_16_03691_i;
-    P p_v_r3_sroa_0_08_i_i1294_i;
-    u64 p_v_r3_sroa_6_07_i_i1295_i;
-    P p_v_r8_i46_i_sroa_162296_13206_ph_i;
-    u64 p_v_r12_sroa_10_i1317_sroa_5_1_ph_i;
-    P p_v_r3_sroa_0_08_i_i1379_i;
-    u64 p_v_r3_sroa_6_07_i_i1380_i;
-    u64 p_v_r8_i5_i_sroa_20_23275_ph_i;
-    P p_v_r8_i5_i_sroa_162276_23274_ph_i;
-    P p_v_r3_sroa_0_08_i_i1476_i;
-    u64 p_v_r3_sroa_6_07_i_i1477_i;
-    u64 p_v_r8_i_i_sroa_20_23425_ph_i;
-    P p_v_r8_i_i_sroa_162256_23424_ph_i;
+    u64 p_v_r4_0_i3798_i;
+    u8 p_v_r3_i393_sroa_0_03797_i;
+    u8 p_v_r3_i393_sroa_7_03796_i;
+    u32 p_v_r3_i393_sroa_16_03795_i;
+    P p_v_r3_sroa_0_08_i_i1399_i;
+    u64 p_v_r3_sroa_6_07_i_i1400_i;
+    P p_v_r8_i46_i_sroa_162408_13318_ph_i;
+    u64 p_v_r12_sroa_10_i1422_sroa_5_1_ph_i;
+    P p_v_r3_sroa_0_08_i_i1484_i;
+    u64 p_v_r3_sroa_6_07_i_i1485_i;
+    u64 p_v_r8_i5_i_sroa_20_23387_ph_i;
+    P p_v_r8_i5_i_sroa_162388_23386_ph_i;
+    P p_v_r3_sroa_0_08_i_i1581_i;
+    u64 p_v_r3_sroa_6_07_i_i1582_i;
+    u64 p_v_r8_i_i_sroa_20_23537_ph_i;
+    P p_v_r8_i_i_sroa_162368_23536_ph_i;
+    u64 p_v_sink_i;
+    u64 p_v_sink3875_i;
+    u64 p_v_sink3876_i;
+    u64 p_v_sink3877_i;
     u8 p_v_r24_sroa_0_0_sink_i_i;
     u8 p_v_r24_sroa_4_0_sink_i_i;
-    u8 p_v_r24_sroa_7_0_sink_i_i;
-    u8 p_v_r24_sroa_10_0_sink_i_i;
     u32 p_v_r24_sroa_13_0_sink_i_i;
-    u32 p_v_r17_i397_sroa_13_0_ph_i;
-    P p_v_r34_i_i_i_i_i_i;
+    P p_v_r70_i_sroa_27_sroa_0_0_ph_i;
     u8 p_v_r13_i_i_i_i_i_i;
     u8 p_v_r70_i_sroa_27_sroa_13_0_ph_i;
-    u8 p_v_r70_i_sroa_27_sroa_16_0_ph_i;
-    u8 p_v_r70_i_sroa_27_sroa_19_0_ph_i;
     u32 p_v_r0_sroa_0_0_copyload_i_i_i_i_i_i;
-    u64 p_v_r70_i_sroa_231645_sroa_0_0_ph_i;
+    u64 p_v_r70_i_sroa_231755_sroa_0_0_ph_i;
     u64 p_v_r7_sroa_130_9_i_i_i;
     u64 p_v_r2_018_i_i_i_i_i_i;
     P p_v_r3_sroa_0_08_i_i_i_i_i_i_i_i_i;
@@ -34794,106 +34531,106 @@ u32 pkcs1_c_private_key_encode(P v_a0, P v_a1, u64 v_a2, P v_a3, u64 v_a4, P v_a
     u8 p_v_r20_i83_i_i_i_i_i_i_i_i;
     P p_v_r12_sroa_10_i_sroa_3_0_ph_i_i_i_i_i_i_i;
     u64 p_v_r12_sroa_10_i_sroa_5_0_ph_i_i_i_i_i_i_i;
-    P p_v_r3_sroa_0_08_i_i84_i_i_i_i_i_i_i;
-    u64 p_v_r3_sroa_6_07_i_i85_i_i_i_i_i_i_i;
-    P p_v_r12_sroa_10_i107_sroa_3_0_ph_ph_i_i_i_i_i_i_i;
+    P p_v_r3_sroa_0_08_i_i184_i_i_i_i_i_i_i;
+    u64 p_v_r3_sroa_6_07_i_i185_i_i_i_i_i_i_i;
+    P p_v_r12_sroa_10_i207_sroa_3_0_ph_ph_i_i_i_i_i_i_i;
     u8 p_v_r20_i90_i_i_i_i_i_i_i_i;
-    P p_v_r12_sroa_10_i107_sroa_3_0_ph_i_i_i_i_i_i_i;
-    u64 p_v_r1_sroa_3_0_copyload_i_i9_i_i_i_i_i_i_i_i;
-    P p_v_r3_sroa_0_08_i_i178_i_i_i_i_i_i_i;
-    u64 p_v_r3_sroa_6_07_i_i179_i_i_i_i_i_i_i;
-    P p_v_r12_sroa_10_i201_sroa_3_0_ph_ph_i_i_i_i_i_i_i;
+    P p_v_r12_sroa_10_i207_sroa_3_0_ph_i_i_i_i_i_i_i;
+    u64 p_v_r12_sroa_10_i207_sroa_5_0_ph_i_i_i_i_i_i_i;
+    P p_v_r3_sroa_0_08_i_i278_i_i_i_i_i_i_i;
+    u64 p_v_r3_sroa_6_07_i_i279_i_i_i_i_i_i_i;
+    P p_v_r12_sroa_10_i301_sroa_3_0_ph_ph_i_i_i_i_i_i_i;
     u8 p_v_r20_i100_i_i_i_i_i_i_i_i;
-    P p_v_r12_sroa_10_i201_sroa_3_0_ph_i_i_i_i_i_i_i;
-    u64 p_v_r1_sroa_3_0_copyload_i_i_i_i_i_i_i_i_i_i;
+    u64 p_v_r12_sroa_10_i301_sroa_5_0_ph_i_i_i_i_i_i_i;
+    P p_v_r12_sroa_10_i301_sroa_3_0_ph_i_i_i_i_i_i_i;
+    u64 p_v_sink_i_i_i_i_i_i_i;
+    u64 p_v_sink658_i_i_i_i_i_i_i;
+    u64 p_v_sink659_i_i_i_i_i_i_i;
+    u64 p_v_r4_sroa_10_0_i633_in_i_i_i_i_i_i_i;
     u64 p_v_r0_04_i_i_i_i_i_i_i_i_i_i_i_i_i_i_i_i_i;
     u64 p_v_niter;
     u64 p_v_r0_04_i_i_i_i_i_i_i_i_i_i_i_i_i_i_i_i_i_epil_init;
     u64 p_v_r0_04_i_i_i_i_i_i_i_i_i_i_i_i_i_i_i_i_i_epil;
     u64 p_v_epil_iter;
     u64 p_v_r7_sroa_130_10_i_i_i;
-    u64 p_v_r7_sroa_130_27_i_i_i;
+    u64 p_v_r7_sroa_130_28_i_i_i;
     u64 p_v_r0_04_i_i_i_i_i_i_i_i_i31_i_i_i_i_i_i_i_i;
-    u64 p_v_niter212;
+    u64 p_v_niter197;
     u64 p_v_r0_04_i_i_i_i_i_i_i_i_i31_i_i_i_i_i_i_i_i_epil_ini;
     u64 p_v_r0_04_i_i_i_i_i_i_i_i_i31_i_i_i_i_i_i_i_i_epil;
-    u64 p_v_epil_iter208;
+    u64 p_v_epil_iter193;
     u64 p_v_r7_sroa_130_11_i_i_i;
-    u64 p_v_r7_sroa_130_26_i_i_i;
+    u64 p_v_r7_sroa_130_27_i_i_i;
     u64 p_v_r0_04_i_i_i_i_i_i_i_i_i64_i_i_i_i_i_i_i_i;
-    u64 p_v_niter218;
+    u64 p_v_niter203;
     u64 p_v_r0_04_i_i_i_i_i_i_i_i_i64_i_i_i_i_i_i_i_i_epil_ini;
     u64 p_v_r0_04_i_i_i_i_i_i_i_i_i64_i_i_i_i_i_i_i_i_epil;
-    u64 p_v_epil_iter214;
+    u64 p_v_epil_iter199;
     u64 p_v_r7_sroa_130_12_i_i_i;
+    u64 p_v_r7_sroa_130_26_i_i_i;
     u64 p_v_r7_sroa_130_25_i_i_i;
-    u64 p_v_r7_sroa_130_24_i_i_i;
     u64 p_v_r7_sroa_130_8_i_i_i;
     u64 p_v_r7_sroa_130_0_i_i_i;
     u64 p_v_r0_04_i_i_i_i_i_i_i_i_i_i_i_i_i;
-    u64 p_v_niter224;
+    u64 p_v_niter209;
     u64 p_v_r0_04_i_i_i_i_i_i_i_i_i_i_i_i_i_epil_init;
     u64 p_v_r0_04_i_i_i_i_i_i_i_i_i_i_i_i_i_epil;
-    u64 p_v_epil_iter220;
+    u64 p_v_epil_iter205;
     u64 p_v_r7_sroa_130_1_i_i_i;
-    u64 p_v_r7_sroa_130_22_i_i_i;
+    u64 p_v_r7_sroa_130_23_i_i_i;
     u64 p_v_r0_04_i_i_i_i_i_i_i_i_i50_i_i_i_i;
-    u64 p_v_niter230;
+    u64 p_v_niter215;
     u64 p_v_r0_04_i_i_i_i_i_i_i_i_i50_i_i_i_i_epil_init;
     u64 p_v_r0_04_i_i_i_i_i_i_i_i_i50_i_i_i_i_epil;
-    u64 p_v_epil_iter226;
+    u64 p_v_epil_iter211;
     u64 p_v_r7_sroa_130_2_i_i_i;
-    u64 p_v_r7_sroa_130_21_i_i_i;
+    u64 p_v_r7_sroa_130_22_i_i_i;
     u64 p_v_r0_04_i_i_i_i_i_i_i_i_i83_i_i_i_i;
-    u64 p_v_niter236;
+    u64 p_v_niter221;
     u64 p_v_r0_04_i_i_i_i_i_i_i_i_i83_i_i_i_i_epil_init;
     u64 p_v_r0_04_i_i_i_i_i_i_i_i_i83_i_i_i_i_epil;
-    u64 p_v_epil_iter232;
+    u64 p_v_epil_iter217;
     u64 p_v_r7_sroa_130_3_i_i_i;
-    u64 p_v_r7_sroa_130_20_i_i_i;
+    u64 p_v_r7_sroa_130_21_i_i_i;
     u64 p_v_r0_04_i_i_i_i_i_i_i_i_i116_i_i_i_i;
-    u64 p_v_niter242;
+    u64 p_v_niter227;
     u64 p_v_r0_04_i_i_i_i_i_i_i_i_i116_i_i_i_i_epil_init;
     u64 p_v_r0_04_i_i_i_i_i_i_i_i_i116_i_i_i_i_epil;
-    u64 p_v_epil_iter238;
+    u64 p_v_epil_iter223;
     u64 p_v_r7_sroa_130_4_i_i_i;
-    u64 p_v_r7_sroa_130_19_i_i_i;
+    u64 p_v_r7_sroa_130_20_i_i_i;
     u64 p_v_r0_04_i_i_i_i_i_i_i_i_i149_i_i_i_i;
-    u64 p_v_niter248;
+    u64 p_v_niter233;
     u64 p_v_r0_04_i_i_i_i_i_i_i_i_i149_i_i_i_i_epil_init;
     u64 p_v_r0_04_i_i_i_i_i_i_i_i_i149_i_i_i_i_epil;
-    u64 p_v_epil_iter244;
+    u64 p_v_epil_iter229;
     u64 p_v_r7_sroa_130_5_i_i_i;
-    u64 p_v_r7_sroa_130_18_i_i_i;
+    u64 p_v_r7_sroa_130_19_i_i_i;
     u64 p_v_r0_04_i_i_i_i_i_i_i_i_i182_i_i_i_i;
-    u64 p_v_niter254;
+    u64 p_v_niter239;
     u64 p_v_r0_04_i_i_i_i_i_i_i_i_i182_i_i_i_i_epil_init;
     u64 p_v_r0_04_i_i_i_i_i_i_i_i_i182_i_i_i_i_epil;
-    u64 p_v_epil_iter250;
+    u64 p_v_epil_iter235;
     u64 p_v_r7_sroa_130_6_i_i_i;
-    u64 p_v_r7_sroa_130_17_i_i_i;
+    u64 p_v_r7_sroa_130_18_i_i_i;
     u64 p_v_r0_04_i_i_i_i_i_i_i_i_i215_i_i_i_i;
-    u64 p_v_niter260;
+    u64 p_v_niter245;
     u64 p_v_r0_04_i_i_i_i_i_i_i_i_i215_i_i_i_i_epil_init;
     u64 p_v_r0_04_i_i_i_i_i_i_i_i_i215_i_i_i_i_epil;
-    u64 p_v_epil_iter256;
+    u64 p_v_epil_iter241;
     u64 p_v_r7_sroa_130_7_i_i_i;
-    u64 p_v_r7_sroa_130_16_i_i_i;
+    u64 p_v_r7_sroa_130_17_i_i_i;
     u64 p_v_r0_04_i_i_i_i_i_i_i_i_i248_i_i_i_i;
-    u64 p_v_niter266;
+    u64 p_v_niter251;
     u64 p_v_r0_04_i_i_i_i_i_i_i_i_i248_i_i_i_i_epil_init;
     u64 p_v_r0_04_i_i_i_i_i_i_i_i_i248_i_i_i_i_epil;
-    u64 p_v_epil_iter262;
-    u64 p_v_r7_sroa_130_13_i_i_i;
-    u64 p_v_r7_sroa_130_15_i_i_i;
+    u64 p_v_epil_iter247;
+    u64 p_v_r7_sroa_130_14_i_i_i;
+    u64 p_v_r7_sroa_130_16_i_i_i;
     u32 p_v_r5_sroa_0_sroa_5_0_i_i;
     u32 p_v_common_ret_op_i;
     P v_r1_i_i_i;
-    P v_r1_i_i_i_i_i_i_i;
-    P v_r10_i_i_i_i_i_i_i;
     P v_r10_i_i_i;
-    P v_r6_i_i;
-    P v_r19_i399_i;
     P v_r5_i;
     u1 v_r1;
     u64 v_r3;
@@ -34912,13 +34649,13 @@ u32 pkcs1_c_private_key_encode(P v_a0, P v_a1, u64 v_a2, P v_a3, u64 v_a4, P v_a
     P v_scevgep_i_i_i;
     P v_r3_sroa_0_08_i_i_i;
     u64 v_r3_sroa_6_07_i_i_i;
-    u8 v_r21_i_i560_i;
+    u8 v_r21_i_i664_i;
     u1 v_r23_i_i_i;
-    P v_r31_i_i567_i;
-    u64 v_r34_i_i568_i;
-    u1 v_r14_i_i569_i;
-    u1 v_r7_i_i553_i;
-    u1 v_r49_i562_i;
+    P v_r31_i_i672_i;
+    u64 v_r34_i_i673_i;
+    u1 v_r14_i_i674_i;
+    u1 v_r7_i_i656_i;
+    u1 v_r49_i666_i;
     P v_r12_sroa_10_i_sroa_3_0_ph_i;
     u64 v_r12_sroa_10_i_sroa_5_0_ph_i;
     u8 v_r20_i319_i;
@@ -34928,64 +34665,60 @@ u32 pkcs1_c_private_key_encode(P v_a0, P v_a1, u64 v_a2, P v_a3, u64 v_a4, P v_a
     P v_r30_sroa_0_0_copyload_i_i;
     P v_r30_sroa_3_0_r104_sroa_idx_i_i;
     u64 v_r30_sroa_3_0_copyload_i_i;
-    u1 v_r146_i_i601_i;
+    u1 v_r146_i_i706_i;
     P v_1;
-    P v_scevgep_i_i615_i;
-    P v_r3_sroa_0_08_i_i617_i;
-    u64 v_r3_sroa_6_07_i_i618_i;
-    u8 v_r21_i_i619_i;
-    u1 v_r23_i_i620_i;
-    P v_r31_i_i629_i;
-    u64 v_r34_i_i630_i;
-    u1 v_r14_i_i631_i;
-    u1 v_r7_i_i603_i;
-    u1 v_r49_i622_i;
-    P v_r1_sroa_0_0_copyload_i_i191_i_i_i_ph_i;
-    u8 v_r20_i326_pr_i;
+    P v_scevgep_i_i720_i;
+    P v_r3_sroa_0_08_i_i722_i;
+    u64 v_r3_sroa_6_07_i_i723_i;
+    u8 v_r21_i_i724_i;
+    u1 v_r23_i_i725_i;
+    P v_r31_i_i734_i;
+    u64 v_r34_i_i735_i;
+    u1 v_r14_i_i736_i;
+    u1 v_r7_i_i708_i;
+    u1 v_r49_i727_i;
+    P v_r12_sroa_10_i745_sroa_3_0_ph_i;
+    u64 v_r12_sroa_10_i745_sroa_5_0_ph_i;
     u8 v_r20_i326_i;
-    P v_r1_sroa_0_0_copyload_i_i191_i_i_i_i;
-    u64 v_r1_sroa_3_0_copyload_i_i193_i_i_i_i;
     u8 v_r20_i326_lobit_i;
     u64 v_i328_i;
     P v_r133_i_i;
     P v_r36_sroa_0_0_copyload_i_i;
     P v_r36_sroa_3_0_r133_sroa_idx_i_i;
     u64 v_r36_sroa_3_0_copyload_i_i;
-    u1 v_r146_i_i695_i;
+    u1 v_r146_i_i800_i;
     P v_2;
-    P v_scevgep_i_i709_i;
-    P v_r3_sroa_0_08_i_i711_i;
-    u64 v_r3_sroa_6_07_i_i712_i;
-    u8 v_r21_i_i713_i;
-    u1 v_r23_i_i714_i;
-    P v_r31_i_i723_i;
-    u64 v_r34_i_i724_i;
-    u1 v_r14_i_i725_i;
-    u1 v_r7_i_i697_i;
-    u1 v_r49_i716_i;
-    P v_r1_sroa_0_0_copyload_i_i158_i_i_i_ph_i;
-    u8 v_r20_i336_pr_i;
-    u8 v_r20_i336_i;
+    P v_scevgep_i_i814_i;
+    P v_r3_sroa_0_08_i_i816_i;
+    u64 v_r3_sroa_6_07_i_i817_i;
+    u8 v_r21_i_i818_i;
+    u1 v_r23_i_i819_i;
+    P v_r31_i_i828_i;
+    u64 v_r34_i_i829_i;
+    u1 v_r14_i_i830_i;
+    u1 v_r7_i_i802_i;
+    u1 v_r49_i821_i;
     P v_r1_sroa_0_0_copyload_i_i158_i_i_i_i;
     u64 v_r1_sroa_3_0_copyload_i_i160_i_i_i_i;
+    u8 v_r20_i336_i;
     u8 v_r20_i336_lobit_i;
     u64 v_i338_i;
     P v_r162_i_i;
     P v_r42_sroa_0_0_copyload_i_i;
     P v_r42_sroa_3_0_r162_sroa_idx_i_i;
     u64 v_r42_sroa_3_0_copyload_i_i;
-    u1 v_r146_i_i792_i;
+    u1 v_r146_i_i897_i;
     P v_3;
-    P v_scevgep_i_i806_i;
-    P v_r3_sroa_0_08_i_i808_i;
-    u64 v_r3_sroa_6_07_i_i809_i;
-    u8 v_r21_i_i810_i;
-    u1 v_r23_i_i811_i;
-    P v_r31_i_i820_i;
-    u64 v_r34_i_i821_i;
-    u1 v_r14_i_i822_i;
-    u1 v_r7_i_i794_i;
-    u1 v_r49_i813_i;
+    P v_scevgep_i_i911_i;
+    P v_r3_sroa_0_08_i_i913_i;
+    u64 v_r3_sroa_6_07_i_i914_i;
+    u8 v_r21_i_i915_i;
+    u1 v_r23_i_i916_i;
+    P v_r31_i_i925_i;
+    u64 v_r34_i_i926_i;
+    u1 v_r14_i_i927_i;
+    u1 v_r7_i_i899_i;
+    u1 v_r49_i918_i;
     P v_r1_sroa_0_0_copyload_i_i125_i_i_i_ph_i;
     u8 v_r20_i346_pr_i;
     u8 v_r20_i346_i;
@@ -34997,18 +34730,18 @@ u32 pkcs1_c_private_key_encode(P v_a0, P v_a1, u64 v_a2, P v_a3, u64 v_a4, P v_a
     P v_r48_sroa_0_0_copyload_i_i;
     P v_r48_sroa_3_0_r191_sroa_idx_i_i;
     u64 v_r48_sroa_3_0_copyload_i_i;
-    u1 v_r146_i_i889_i;
+    u1 v_r146_i_i994_i;
     P v_4;
-    P v_scevgep_i_i903_i;
-    P v_r3_sroa_0_08_i_i905_i;
-    u64 v_r3_sroa_6_07_i_i906_i;
-    u8 v_r21_i_i907_i;
-    u1 v_r23_i_i908_i;
-    P v_r31_i_i917_i;
-    u64 v_r34_i_i918_i;
-    u1 v_r14_i_i919_i;
-    u1 v_r7_i_i891_i;
-    u1 v_r49_i910_i;
+    P v_scevgep_i_i1008_i;
+    P v_r3_sroa_0_08_i_i1010_i;
+    u64 v_r3_sroa_6_07_i_i1011_i;
+    u8 v_r21_i_i1012_i;
+    u1 v_r23_i_i1013_i;
+    P v_r31_i_i1022_i;
+    u64 v_r34_i_i1023_i;
+    u1 v_r14_i_i1024_i;
+    u1 v_r7_i_i996_i;
+    u1 v_r49_i1015_i;
     P v_r1_sroa_0_0_copyload_i_i92_i_i_i_ph_i;
     u8 v_r20_i356_pr_i;
     u8 v_r20_i356_i;
@@ -35020,18 +34753,18 @@ u32 pkcs1_c_private_key_encode(P v_a0, P v_a1, u64 v_a2, P v_a3, u64 v_a4, P v_a
     P v_r54_sroa_0_0_copyload_i_i;
     P v_r54_sroa_3_0_r220_sroa_idx_i_i;
     u64 v_r54_sroa_3_0_copyload_i_i;
-    u1 v_r146_i_i986_i;
+    u1 v_r146_i_i1091_i;
     P v_5;
-    P v_scevgep_i_i1000_i;
-    P v_r3_sroa_0_08_i_i1002_i;
-    u64 v_r3_sroa_6_07_i_i1003_i;
-    u8 v_r21_i_i1004_i;
-    u1 v_r23_i_i1005_i;
-    P v_r31_i_i1014_i;
-    u64 v_r34_i_i1015_i;
-    u1 v_r14_i_i1016_i;
-    u1 v_r7_i_i988_i;
-    u1 v_r49_i1007_i;
+    P v_scevgep_i_i1105_i;
+    P v_r3_sroa_0_08_i_i1107_i;
+    u64 v_r3_sroa_6_07_i_i1108_i;
+    u8 v_r21_i_i1109_i;
+    u1 v_r23_i_i1110_i;
+    P v_r31_i_i1119_i;
+    u64 v_r34_i_i1120_i;
+    u1 v_r14_i_i1121_i;
+    u1 v_r7_i_i1093_i;
+    u1 v_r49_i1112_i;
     P v_r1_sroa_0_0_copyload_i_i59_i_i_i_ph_i;
     u8 v_r20_i366_pr_i;
     u8 v_r20_i366_i;
@@ -35043,18 +34776,18 @@ u32 pkcs1_c_private_key_encode(P v_a0, P v_a1, u64 v_a2, P v_a3, u64 v_a4, P v_a
     P v_r60_sroa_0_0_copyload_i_i;
     P v_r60_sroa_3_0_r249_sroa_idx_i_i;
     u64 v_r60_sroa_3_0_copyload_i_i;
-    u1 v_r146_i_i1083_i;
+    u1 v_r146_i_i1188_i;
     P v_6;
-    P v_scevgep_i_i1097_i;
-    P v_r3_sroa_0_08_i_i1099_i;
-    u64 v_r3_sroa_6_07_i_i1100_i;
-    u8 v_r21_i_i1101_i;
-    u1 v_r23_i_i1102_i;
-    P v_r31_i_i1111_i;
-    u64 v_r34_i_i1112_i;
-    u1 v_r14_i_i1113_i;
-    u1 v_r7_i_i1085_i;
-    u1 v_r49_i1104_i;
+    P v_scevgep_i_i1202_i;
+    P v_r3_sroa_0_08_i_i1204_i;
+    u64 v_r3_sroa_6_07_i_i1205_i;
+    u8 v_r21_i_i1206_i;
+    u1 v_r23_i_i1207_i;
+    P v_r31_i_i1216_i;
+    u64 v_r34_i_i1217_i;
+    u1 v_r14_i_i1218_i;
+    u1 v_r7_i_i1190_i;
+    u1 v_r49_i1209_i;
     P v_r1_sroa_0_0_copyload_i_i26_i_i_i_ph_i;
     u8 v_r20_i376_pr_i;
     u8 v_r20_i376_i;
@@ -35066,18 +34799,18 @@ u32 pkcs1_c_private_key_encode(P v_a0, P v_a1, u64 v_a2, P v_a3, u64 v_a4, P v_a
     P v_r66_sroa_0_0_copyload_i_i;
     P v_r66_sroa_3_0_r278_sroa_idx_i_i;
     u64 v_r66_sroa_3_0_copyload_i_i;
-    u1 v_r146_i_i1180_i;
+    u1 v_r146_i_i1285_i;
     P v_7;
-    P v_scevgep_i_i1194_i;
-    P v_r3_sroa_0_08_i_i1196_i;
-    u64 v_r3_sroa_6_07_i_i1197_i;
-    u8 v_r21_i_i1198_i;
-    u1 v_r23_i_i1199_i;
-    P v_r31_i_i1208_i;
-    u64 v_r34_i_i1209_i;
-    u1 v_r14_i_i1210_i;
-    u1 v_r7_i_i1182_i;
-    u1 v_r49_i1201_i;
+    P v_scevgep_i_i1299_i;
+    P v_r3_sroa_0_08_i_i1301_i;
+    u64 v_r3_sroa_6_07_i_i1302_i;
+    u8 v_r21_i_i1303_i;
+    u1 v_r23_i_i1304_i;
+    P v_r31_i_i1313_i;
+    u64 v_r34_i_i1314_i;
+    u1 v_r14_i_i1315_i;
+    u1 v_r7_i_i1287_i;
+    u1 v_r49_i1306_i;
     P v_r1_sroa_0_0_copyload_i_i_i_i_i_ph_i;
     u8 v_r20_i386_pr_i;
     u8 v_r20_i386_i;
@@ -35085,44 +34818,30 @@ u32 pkcs1_c_private_key_encode(P v_a0, P v_a1, u64 v_a2, P v_a3, u64 v_a4, P v_a
     u64 v_r1_sroa_3_0_copyload_i_i_i_i_i_i;
     u8 v_r20_i386_lobit_i;
     u64 v_i388_i;
-    u1 v_r7_i1277_i;
-    P v_r18_i398_sroa_5_0_r6_i_sroa_idx_i;
-    P v_r18_i398_sroa_6_0_r6_i_sroa_idx_i;
-    P v_r18_i398_sroa_7_0_r6_i_sroa_idx_i;
-    P v_r18_i398_sroa_8_0_r6_i_sroa_idx_i;
-    P v_r18_i398_sroa_9_0_r6_i_sroa_idx_i;
-    P v_r18_i398_sroa_10_0_r6_i_sroa_idx_i;
-    P v_r18_i398_sroa_11_0_r6_i_sroa_idx_i;
-    P v_r18_i398_sroa_12_0_r6_i_sroa_idx_i;
-    P v_r12_i1602_i;
-    P v_r14_i1603_i;
-    P v_r16_i1604_i;
-    P v_r18_i1605_i;
-    u64 v_r4_0_i3696_i;
-    u8 v_r3_i393_sroa_0_03695_i;
-    u8 v_r3_i393_sroa_7_03694_i;
-    u8 v_r3_i393_sroa_10_03693_i;
-    u8 v_r3_i393_sroa_13_03692_i;
-    u32 v_r3_i393_sroa_16_03691_i;
+    u1 v_r7_i1382_i;
+    u64 v_r4_0_i3798_i;
+    u8 v_r3_i393_sroa_0_03797_i;
+    u8 v_r3_i393_sroa_7_03796_i;
+    u32 v_r3_i393_sroa_16_03795_i;
     u64 v_r59_i414_i;
     P v_r62_i415_i;
     P v_r10_sroa_0_0_copyload_i461_i;
     P v_r10_sroa_3_0_a1_sroa_idx_i_i;
     u64 v_r10_sroa_3_0_copyload_i_i;
-    u1 v_r146_i_i1278_i;
+    u1 v_r146_i_i1383_i;
     P v_8;
-    P v_scevgep_i_i1292_i;
-    P v_r3_sroa_0_08_i_i1294_i;
-    u64 v_r3_sroa_6_07_i_i1295_i;
-    u8 v_r21_i_i1296_i;
-    u1 v_r23_i_i1297_i;
-    P v_r31_i_i1306_i;
-    u64 v_r34_i_i1307_i;
-    u1 v_r14_i_i1308_i;
-    u1 v_r7_i_i1280_i;
-    u1 v_r49_i1299_i;
-    P v_r8_i46_i_sroa_162296_13206_ph_i;
-    u64 v_r12_sroa_10_i1317_sroa_5_1_ph_i;
+    P v_scevgep_i_i1397_i;
+    P v_r3_sroa_0_08_i_i1399_i;
+    u64 v_r3_sroa_6_07_i_i1400_i;
+    u8 v_r21_i_i1401_i;
+    u1 v_r23_i_i1402_i;
+    P v_r31_i_i1411_i;
+    u64 v_r34_i_i1412_i;
+    u1 v_r14_i_i1413_i;
+    u1 v_r7_i_i1385_i;
+    u1 v_r49_i1404_i;
+    P v_r8_i46_i_sroa_162408_13318_ph_i;
+    u64 v_r12_sroa_10_i1422_sroa_5_1_ph_i;
     u8 v_r20_i83_i_i;
     u8 v_r20_i83_i_lobit_i;
     u64 v_i_i_i;
@@ -35130,20 +34849,20 @@ u32 pkcs1_c_private_key_encode(P v_a0, P v_a1, u64 v_a2, P v_a3, u64 v_a4, P v_a
     P v_r16_sroa_0_0_copyload_i484_i;
     P v_r16_sroa_3_0_r54_sroa_idx_i_i;
     u64 v_r16_sroa_3_0_copyload_i_i;
-    u1 v_r146_i_i1363_i;
+    u1 v_r146_i_i1468_i;
     P v_9;
-    P v_scevgep_i_i1377_i;
-    P v_r3_sroa_0_08_i_i1379_i;
-    u64 v_r3_sroa_6_07_i_i1380_i;
-    u8 v_r21_i_i1381_i;
-    u1 v_r23_i_i1382_i;
-    P v_r31_i_i1391_i;
-    u64 v_r34_i_i1392_i;
-    u1 v_r14_i_i1393_i;
-    u1 v_r7_i_i1365_i;
-    u1 v_r49_i1384_i;
-    u64 v_r8_i5_i_sroa_20_23275_ph_i;
-    P v_r8_i5_i_sroa_162276_23274_ph_i;
+    P v_scevgep_i_i1482_i;
+    P v_r3_sroa_0_08_i_i1484_i;
+    u64 v_r3_sroa_6_07_i_i1485_i;
+    u8 v_r21_i_i1486_i;
+    u1 v_r23_i_i1487_i;
+    P v_r31_i_i1496_i;
+    u64 v_r34_i_i1497_i;
+    u1 v_r14_i_i1498_i;
+    u1 v_r7_i_i1470_i;
+    u1 v_r49_i1489_i;
+    u64 v_r8_i5_i_sroa_20_23387_ph_i;
+    P v_r8_i5_i_sroa_162388_23386_ph_i;
     u8 v_r20_i90_i_i;
     u8 v_r20_i90_i_lobit_i;
     u64 v_i92_i_i;
@@ -35151,54 +34870,77 @@ u32 pkcs1_c_private_key_encode(P v_a0, P v_a1, u64 v_a2, P v_a3, u64 v_a4, P v_a
     P v_r22_sroa_0_0_copyload_i_i;
     P v_r22_sroa_3_0_r83_sroa_idx_i_i;
     u64 v_r22_sroa_3_0_copyload_i_i;
-    u1 v_r146_i_i1460_i;
+    u1 v_r146_i_i1565_i;
     P v_10;
-    P v_scevgep_i_i1474_i;
-    P v_r3_sroa_0_08_i_i1476_i;
-    u64 v_r3_sroa_6_07_i_i1477_i;
-    u8 v_r21_i_i1478_i;
-    u1 v_r23_i_i1479_i;
-    P v_r31_i_i1488_i;
-    u64 v_r34_i_i1489_i;
-    u1 v_r14_i_i1490_i;
-    u1 v_r7_i_i1462_i;
-    u1 v_r49_i1481_i;
-    u64 v_r8_i_i_sroa_20_23425_ph_i;
-    P v_r8_i_i_sroa_162256_23424_ph_i;
+    P v_scevgep_i_i1579_i;
+    P v_r3_sroa_0_08_i_i1581_i;
+    u64 v_r3_sroa_6_07_i_i1582_i;
+    u8 v_r21_i_i1583_i;
+    u1 v_r23_i_i1584_i;
+    P v_r31_i_i1593_i;
+    u64 v_r34_i_i1594_i;
+    u1 v_r14_i_i1595_i;
+    u1 v_r7_i_i1567_i;
+    u1 v_r49_i1586_i;
+    u64 v_r8_i_i_sroa_20_23537_ph_i;
+    P v_r8_i_i_sroa_162368_23536_ph_i;
     u8 v_r20_i100_i_i;
     u8 v_r20_i100_i_lobit_i;
     u64 v_i102_i_i;
-    u8 v_r10_sroa_0_0_copyload_i1601_i;
-    u8 v_r10_sroa_4_1_copyload_i_i;
-    u8 v_r10_sroa_7_2_copyload_i_i;
-    u8 v_r10_sroa_10_3_copyload_i_i;
-    u32 v_r10_sroa_13_4_copyload_i_i;
+    u64 v_r9_i575_i;
+    u1 v_r2_i625_i;
+    u1 v_r8_i627_i;
+    u1 v_r14_i629_i;
+    u1 v_r20_i631_i;
+    u64 v_i;
+    u64 v_sink_i;
+    u64 v_r9_i570_i;
+    u1 v_r2_i606_i;
+    u1 v_r8_i608_i;
+    u1 v_r14_i610_i;
+    u1 v_r20_i612_i;
+    u64 v_3878_i;
+    u64 v_sink3875_i;
+    u64 v_r9_i565_i;
+    u1 v_r2_i587_i;
+    u1 v_r8_i589_i;
+    u1 v_r14_i591_i;
+    u1 v_r20_i593_i;
+    u64 v_3879_i;
+    u64 v_sink3876_i;
+    u64 v_r6_i604_i;
+    u64 v_r6_i623_i;
+    u64 v_r6_i642_i;
+    u64 v_r23_i547_i;
+    u64 v_r31_i551_i;
+    u1 v_r2_i_i;
+    u1 v_r8_i577_i;
+    u1 v_r14_i578_i;
+    u1 v_r20_i580_i;
+    u64 v_3880_i;
+    u64 v_sink3877_i;
+    u64 v_r6_i586_i;
+    u1 v_r12_not_i_i;
+    u64 v_r4_sroa_10_0_i3750_i;
+    u32 v_r4_sroa_10_0_i_i;
     u1 v_11;
-    u1 v_12;
     u32 v_r5_i_i_i_i;
     u1 v_r7_i_not_i_i_i;
     u32 v_r11_i_i_i_i;
     u8 v_r5_sroa_0_0_i_i_i;
     u8 v_r5_sroa_4_0_i_i_i;
     u32 v_r5_sroa_10_0_i_i_i;
-    u1 v_13;
-    u1 v_14;
-    u1 v_or_cond_i_i;
+    u8 v_spec_select_i;
     u8 v_r24_sroa_0_0_sink_i_i;
     u8 v_r24_sroa_4_0_sink_i_i;
-    u8 v_r24_sroa_7_0_sink_i_i;
-    u8 v_r24_sroa_10_0_sink_i_i;
     u32 v_r24_sroa_13_0_sink_i_i;
     u64 v_r90_i428_i;
     u1 v_exitcond_not_i;
-    u32 v_r17_i397_sroa_13_0_ph_i;
-    P v_r34_i_i_i_i_i_i;
+    P v_r70_i_sroa_27_sroa_0_0_ph_i;
     u8 v_r13_i_i_i_i_i_i;
     u8 v_r70_i_sroa_27_sroa_13_0_ph_i;
-    u8 v_r70_i_sroa_27_sroa_16_0_ph_i;
-    u8 v_r70_i_sroa_27_sroa_19_0_ph_i;
     u32 v_r0_sroa_0_0_copyload_i_i_i_i_i_i;
-    u64 v_r70_i_sroa_231645_sroa_0_0_ph_i;
+    u64 v_r70_i_sroa_231755_sroa_0_0_ph_i;
     P v_r10_sroa_56_sroa_0_sroa_12_3_r5_sroa_idx_i;
     P v_r10_sroa_56_sroa_0_sroa_22_3_r5_sroa_idx_i;
     P v_r10_sroa_56_sroa_0_sroa_32_3_r5_sroa_idx_i;
@@ -35231,28 +34973,19 @@ u32 pkcs1_c_private_key_encode(P v_a0, P v_a1, u64 v_a2, P v_a3, u64 v_a4, P v_a
     P v_r10_sroa_56_sroa_22_sroa_52_0_r10_sroa_56_sroa_22_;
     P v_r10_sroa_56_sroa_22_sroa_62_0_r10_sroa_56_sroa_22_;
     u8 v_r1_sroa_0_0_copyload_i_i_i_i;
-    u1 v_15;
-    u8 v_16;
+    u1 v_12;
+    u8 v_13;
     P v_r9_i_i_i_i;
     u32 v_r1_sroa_9_4_copyload_i_i_i_i;
     u64 v_r3_i8_i_i_i;
     u1 v_r56_i_i_i;
     P v_r3_i_i_i_i;
     u8 v_r1_sroa_3_1_copyload_i_i_i_i;
-    u32 v_17;
-    u32 v_18;
-    u1 v_19;
+    u32 v_14;
+    u32 v_15;
+    u1 v_16;
     u64 v_r3_i_i_i_i_i_i_i;
     u64 v_r22_neg_i_i_i_i_i_i;
-    P v_r4_sroa_22_sroa_6_3_r1_sroa_idx_i_i_i_i_i_i_i;
-    P v_r4_sroa_22_sroa_10_3_r1_sroa_idx_i_i_i_i_i_i_i;
-    P v_r4_sroa_22_sroa_14_3_r1_sroa_idx_i_i_i_i_i_i_i;
-    P v_r4_sroa_22_sroa_14_sroa_6_0_r4_sroa_22_sroa_14_3_r;
-    P v_r4_sroa_22_sroa_14_sroa_10_0_r4_sroa_22_sroa_14_3_;
-    P v_r4_sroa_22_sroa_18_3_r1_sroa_idx_i_i_i_i_i_i_i;
-    P v_r4_sroa_22_sroa_18_sroa_6_0_r4_sroa_22_sroa_18_3_r;
-    P v_r4_sroa_22_sroa_18_sroa_10_0_r4_sroa_22_sroa_18_3_;
-    P v_r37_i_i_i_i_i_i_i;
     u64 v_r7_sroa_130_9_i_i_i;
     u64 v_r2_018_i_i_i_i_i_i;
     u64 v_r31_i_i_i_i_i_i;
@@ -35262,17 +34995,17 @@ u32 pkcs1_c_private_key_encode(P v_a0, P v_a1, u64 v_a2, P v_a3, u64 v_a4, P v_a
     P v_r10_sroa_3_0_a1_sroa_idx_i_i_i_i_i_i_i_i;
     u64 v_r10_sroa_3_0_copyload_i_i_i_i_i_i_i_i;
     u1 v_r146_i_i_i_i_i_i_i_i_i;
-    P v_20;
+    P v_17;
     P v_scevgep_i_i_i_i_i_i_i_i_i;
     P v_r3_sroa_0_08_i_i_i_i_i_i_i_i_i;
     u64 v_r3_sroa_6_07_i_i_i_i_i_i_i_i_i;
-    u8 v_r21_i_i33_i_i_i_i_i_i_i;
+    u8 v_r21_i_i131_i_i_i_i_i_i_i;
     u1 v_r23_i_i_i_i_i_i_i_i_i;
-    P v_r31_i_i39_i_i_i_i_i_i_i;
-    u64 v_r34_i_i40_i_i_i_i_i_i_i;
-    u1 v_r14_i_i41_i_i_i_i_i_i_i;
-    u1 v_r7_i_i29_i_i_i_i_i_i_i;
-    u1 v_r49_i34_i_i_i_i_i_i_i;
+    P v_r31_i_i139_i_i_i_i_i_i_i;
+    u64 v_r34_i_i140_i_i_i_i_i_i_i;
+    u1 v_r14_i_i141_i_i_i_i_i_i_i;
+    u1 v_r7_i_i123_i_i_i_i_i_i_i;
+    u1 v_r49_i133_i_i_i_i_i_i_i;
     P v_r12_sroa_10_i_sroa_3_0_ph_ph_i_i_i_i_i_i_i;
     u8 v_r20_i83_i_pr_i_i_i_i_i_i_i;
     u8 v_r20_i83_i_i_i_i_i_i_i_i;
@@ -35284,59 +35017,91 @@ u32 pkcs1_c_private_key_encode(P v_a0, P v_a1, u64 v_a2, P v_a3, u64 v_a4, P v_a
     P v_r16_sroa_0_0_copyload_i_i_i_i_i_i_i_i;
     P v_r16_sroa_3_0_r54_sroa_idx_i_i_i_i_i_i_i_i;
     u64 v_r16_sroa_3_0_copyload_i_i_i_i_i_i_i_i;
-    u1 v_r146_i_i68_i_i_i_i_i_i_i;
-    P v_21;
-    P v_scevgep_i_i82_i_i_i_i_i_i_i;
-    P v_r3_sroa_0_08_i_i84_i_i_i_i_i_i_i;
-    u64 v_r3_sroa_6_07_i_i85_i_i_i_i_i_i_i;
-    u8 v_r21_i_i86_i_i_i_i_i_i_i;
-    u1 v_r23_i_i87_i_i_i_i_i_i_i;
-    P v_r31_i_i96_i_i_i_i_i_i_i;
-    u64 v_r34_i_i97_i_i_i_i_i_i_i;
-    u1 v_r14_i_i98_i_i_i_i_i_i_i;
-    u1 v_r7_i_i70_i_i_i_i_i_i_i;
-    u1 v_r49_i89_i_i_i_i_i_i_i;
-    P v_r12_sroa_10_i107_sroa_3_0_ph_ph_i_i_i_i_i_i_i;
+    u1 v_r146_i_i168_i_i_i_i_i_i_i;
+    P v_18;
+    P v_scevgep_i_i182_i_i_i_i_i_i_i;
+    P v_r3_sroa_0_08_i_i184_i_i_i_i_i_i_i;
+    u64 v_r3_sroa_6_07_i_i185_i_i_i_i_i_i_i;
+    u8 v_r21_i_i186_i_i_i_i_i_i_i;
+    u1 v_r23_i_i187_i_i_i_i_i_i_i;
+    P v_r31_i_i196_i_i_i_i_i_i_i;
+    u64 v_r34_i_i197_i_i_i_i_i_i_i;
+    u1 v_r14_i_i198_i_i_i_i_i_i_i;
+    u1 v_r7_i_i170_i_i_i_i_i_i_i;
+    u1 v_r49_i189_i_i_i_i_i_i_i;
+    P v_r12_sroa_10_i207_sroa_3_0_ph_ph_i_i_i_i_i_i_i;
     u8 v_r20_i90_i_pr_i_i_i_i_i_i_i;
     u8 v_r20_i90_i_i_i_i_i_i_i_i;
-    P v_r12_sroa_10_i107_sroa_3_0_ph_i_i_i_i_i_i_i;
-    u64 v_r1_sroa_3_0_copyload_i_i9_i_i_i_i_i_i_i_i;
+    P v_r12_sroa_10_i207_sroa_3_0_ph_i_i_i_i_i_i_i;
+    u64 v_r12_sroa_10_i207_sroa_5_0_ph_i_i_i_i_i_i_i;
     u8 v_r20_i90_i_lobit_i_i_i_i_i_i_i;
     u64 v_i92_i_i_i_i_i_i_i_i;
     P v_r83_i_i_i_i_i_i_i_i;
     P v_r22_sroa_0_0_copyload_i_i_i_i_i_i_i_i;
     P v_r22_sroa_3_0_r83_sroa_idx_i_i_i_i_i_i_i_i;
     u64 v_r22_sroa_3_0_copyload_i_i_i_i_i_i_i_i;
-    u1 v_r146_i_i162_i_i_i_i_i_i_i;
-    P v_22;
-    P v_scevgep_i_i176_i_i_i_i_i_i_i;
-    P v_r3_sroa_0_08_i_i178_i_i_i_i_i_i_i;
-    u64 v_r3_sroa_6_07_i_i179_i_i_i_i_i_i_i;
-    u8 v_r21_i_i180_i_i_i_i_i_i_i;
-    u1 v_r23_i_i181_i_i_i_i_i_i_i;
-    P v_r31_i_i190_i_i_i_i_i_i_i;
-    u64 v_r34_i_i191_i_i_i_i_i_i_i;
-    u1 v_r14_i_i192_i_i_i_i_i_i_i;
-    u1 v_r7_i_i164_i_i_i_i_i_i_i;
-    u1 v_r49_i183_i_i_i_i_i_i_i;
-    P v_r12_sroa_10_i201_sroa_3_0_ph_ph_i_i_i_i_i_i_i;
+    u1 v_r146_i_i262_i_i_i_i_i_i_i;
+    P v_19;
+    P v_scevgep_i_i276_i_i_i_i_i_i_i;
+    P v_r3_sroa_0_08_i_i278_i_i_i_i_i_i_i;
+    u64 v_r3_sroa_6_07_i_i279_i_i_i_i_i_i_i;
+    u8 v_r21_i_i280_i_i_i_i_i_i_i;
+    u1 v_r23_i_i281_i_i_i_i_i_i_i;
+    P v_r31_i_i290_i_i_i_i_i_i_i;
+    u64 v_r34_i_i291_i_i_i_i_i_i_i;
+    u1 v_r14_i_i292_i_i_i_i_i_i_i;
+    u1 v_r7_i_i264_i_i_i_i_i_i_i;
+    u1 v_r49_i283_i_i_i_i_i_i_i;
+    P v_r12_sroa_10_i301_sroa_3_0_ph_ph_i_i_i_i_i_i_i;
     u8 v_r20_i100_i_pr_i_i_i_i_i_i_i;
     u8 v_r20_i100_i_i_i_i_i_i_i_i;
-    P v_r12_sroa_10_i201_sroa_3_0_ph_i_i_i_i_i_i_i;
-    u64 v_r1_sroa_3_0_copyload_i_i_i_i_i_i_i_i_i_i;
+    u64 v_r12_sroa_10_i301_sroa_5_0_ph_i_i_i_i_i_i_i;
+    P v_r12_sroa_10_i301_sroa_3_0_ph_i_i_i_i_i_i_i;
     u8 v_r20_i100_i_lobit_i_i_i_i_i_i_i;
     u64 v_i102_i_i_i_i_i_i_i_i;
     u64 v_r24_i_i_i_i_i_i_i;
-    u64 v_r5_i13_i_i_i_i_i_i_i;
-    u64 v_r5_i10_i_i_i_i_i_i_i;
-    u64 v_r24_i8_i_i_i_i_i_i_i;
-    u1 v_r26_i_not_i_i_i_i_i_i_i;
-    u8 v_r36_i_i_i_i_i_i_i;
-    u1 v_23;
-    u32 v_r3_sroa_0_0_copyload_i_i_i_i_i_i_i;
-    u64 v_r3_i271_i_i_i_i_i_i_i;
+    u64 v_r5_i107_i_i_i_i_i_i_i;
+    u64 v_r5_i104_i_i_i_i_i_i_i;
+    u64 v_r24_i100_i_i_i_i_i_i_i;
+    u1 v_r26_i101_not_i_i_i_i_i_i_i;
+    u64 v_r9_i30_i_i_i_i_i_i_i;
+    u1 v_r2_i76_i_i_i_i_i_i_i;
+    u1 v_r8_i78_i_i_i_i_i_i_i;
+    u1 v_r14_i80_i_i_i_i_i_i_i;
+    u1 v_r20_i82_i_i_i_i_i_i_i;
+    u64 v_i_i_i_i_i_i_i;
+    u64 v_sink_i_i_i_i_i_i_i;
+    u64 v_r9_i25_i_i_i_i_i_i_i;
+    u1 v_r2_i57_i_i_i_i_i_i_i;
+    u1 v_r8_i59_i_i_i_i_i_i_i;
+    u1 v_r14_i61_i_i_i_i_i_i_i;
+    u1 v_r20_i63_i_i_i_i_i_i_i;
+    u64 v_660_i_i_i_i_i_i_i;
+    u64 v_sink658_i_i_i_i_i_i_i;
+    u64 v_r9_i20_i_i_i_i_i_i_i;
+    u1 v_r2_i38_i_i_i_i_i_i_i;
+    u1 v_r8_i40_i_i_i_i_i_i_i;
+    u1 v_r14_i42_i_i_i_i_i_i_i;
+    u1 v_r20_i44_i_i_i_i_i_i_i;
+    u64 v_661_i_i_i_i_i_i_i;
+    u64 v_sink659_i_i_i_i_i_i_i;
+    u64 v_r6_i55_i_i_i_i_i_i_i;
+    u64 v_r6_i74_i_i_i_i_i_i_i;
+    u64 v_r6_i93_i_i_i_i_i_i_i;
+    u64 v_r23_i9_i_i_i_i_i_i_i;
+    u64 v_r31_i11_i_i_i_i_i_i_i;
+    u1 v_r2_i_i_i_i_i_i_i_i;
+    u64 v_r6_i37_i_i_i_i_i_i_i;
+    u1 v_r8_i31_i_i_i_i_i_i_i;
+    u64 v_r12_i36_i_i_i_i_i_i_i;
+    u1 v_r14_i32_i_i_i_i_i_i_i;
+    u64 v_r18_i35_i_i_i_i_i_i_i;
+    u1 v_r20_i33_i_i_i_i_i_i_i;
+    u64 v_r24_i34_i_i_i_i_i_i_i;
+    u1 v_r12_not_i_i_i_i_i_i_i_i;
+    u64 v_r4_sroa_10_0_i634_i_i_i_i_i_i_i;
+    u64 v_r4_sroa_10_0_i633_in_i_i_i_i_i_i_i;
     u1 v_r42_not_i_i_i_i_i_i_i;
-    u1 v_or_cond_i_i_i_i_i_i_i;
     u64 v_r17_i_i_i_i_i_i_i_i_i_i_i;
     P v_r26_i_i_i_i_i_i_i_i_i_i_i;
     u64 v_r8_i_i_i_i_i_i_i_i_i_i_i_i_i_i_i_i_i;
@@ -35344,7 +35109,7 @@ u32 pkcs1_c_private_key_encode(P v_a0, P v_a1, u64 v_a2, P v_a3, u64 v_a4, P v_a
     u64 v_r10_i_i_i_i_i_i_i_i_i_i_i_i_i_i_i_i_i;
     u1 v_r11_i_i_i_i_i_i_i_i_i_i_i_i_i_i_i_i_i;
     u64 v_xtraiter;
-    u1 v_24;
+    u1 v_20;
     u64 v_unroll_iter;
     u64 v_r0_04_i_i_i_i_i_i_i_i_i_i_i_i_i_i_i_i_i;
     u64 v_niter;
@@ -35380,9 +35145,9 @@ u32 pkcs1_c_private_key_encode(P v_a0, P v_a1, u64 v_a2, P v_a3, u64 v_a4, P v_a
     u64 v_r17_i3_i_i_i_i_i_i_i_i_i_i;
     P v_r26_i5_i_i_i_i_i_i_i_i_i_i;
     u64 v_r7_sroa_130_10_i_i_i;
-    u64 v_25;
-    u64 v_26;
-    u32 v_27;
+    u64 v_21;
+    u64 v_22;
+    u32 v_23;
     u32 v_r2_i_i_i_i_i_i_i_i_i_i;
     u1 v_r59_i1013_i_i_i;
     u16 v_r64_i1075_i_i_i;
@@ -35399,7 +35164,7 @@ u32 pkcs1_c_private_key_encode(P v_a0, P v_a1, u64 v_a2, P v_a3, u64 v_a4, P v_a
     u1 v_r92_i1017_i_i_i;
     u64 v_r17_i46_i1061_i_i_i;
     P v_r26_i48_i1063_i_i_i;
-    u32 v_28;
+    u32 v_24;
     u32 v_r20_i1010_sroa_0_0_insert_insert_i_i_i;
     u1 v_r117_i1019_i_i_i;
     u32 v_r12223_i1039_i_i_i;
@@ -35427,18 +35192,18 @@ u32 pkcs1_c_private_key_encode(P v_a0, P v_a1, u64 v_a2, P v_a3, u64 v_a4, P v_a
     P v_r40_i1012_sroa_6_0_r26_i84_i1037_sroa_idx_i_i_i;
     P v_r40_i1012_sroa_7_0_r26_i84_i1037_sroa_idx_i_i_i;
     P v_r40_i1012_sroa_8_0_r26_i84_i1037_sroa_idx_i_i_i;
-    u64 v_r7_sroa_130_27_i_i_i;
+    u64 v_r7_sroa_130_28_i_i_i;
     u64 v_r17_i_i_i10_i_i_i_i_i_i_i_i;
     P v_r26_i_i_i12_i_i_i_i_i_i_i_i;
     u64 v_r8_i_i_i_i_i_i_i_i_i13_i_i_i_i_i_i_i_i;
     u64 v_r9_i_i_i_i_i_i_i_i_i14_i_i_i_i_i_i_i_i;
     u64 v_r10_i_i_i_i_i_i_i_i_i15_i_i_i_i_i_i_i_i;
     u1 v_r11_i_i_i_i_i_i_i_i_i16_i_i_i_i_i_i_i_i;
-    u64 v_xtraiter207;
-    u1 v_29;
-    u64 v_unroll_iter211;
+    u64 v_xtraiter192;
+    u1 v_25;
+    u64 v_unroll_iter196;
     u64 v_r0_04_i_i_i_i_i_i_i_i_i31_i_i_i_i_i_i_i_i;
-    u64 v_niter212;
+    u64 v_niter197;
     P v_r20_i_i_i_i_i_i_i_i_i32_i_i_i_i_i_i_i_i;
     P v_r24_i_i_i_i_i_i_i_i_i33_i_i_i_i_i_i_i_i;
     u8 v_r26_i_i_i_i_i_i_i_i_i34_i_i_i_i_i_i_i_i;
@@ -35455,25 +35220,25 @@ u32 pkcs1_c_private_key_encode(P v_a0, P v_a1, u64 v_a2, P v_a3, u64 v_a4, P v_a
     P v_r24_i_i_i_i_i_i_i_i_i33_i_i_i_i_i_i_i_i_3;
     u8 v_r26_i_i_i_i_i_i_i_i_i34_i_i_i_i_i_i_i_i_3;
     u64 v_r30_i_i_i_i_i_i_i_i_i35_i_i_i_i_i_i_i_i_3;
-    u64 v_niter212_next_3;
-    u1 v_niter212_ncmp_3;
-    u1 v_lcmp_mod209_not;
+    u64 v_niter197_next_3;
+    u1 v_niter197_ncmp_3;
+    u1 v_lcmp_mod194_not;
     u64 v_r0_04_i_i_i_i_i_i_i_i_i31_i_i_i_i_i_i_i_i_epil_ini;
     u64 v_r0_04_i_i_i_i_i_i_i_i_i31_i_i_i_i_i_i_i_i_epil;
-    u64 v_epil_iter208;
+    u64 v_epil_iter193;
     P v_r20_i_i_i_i_i_i_i_i_i32_i_i_i_i_i_i_i_i_epil;
     P v_r24_i_i_i_i_i_i_i_i_i33_i_i_i_i_i_i_i_i_epil;
     u8 v_r26_i_i_i_i_i_i_i_i_i34_i_i_i_i_i_i_i_i_epil;
     u64 v_r30_i_i_i_i_i_i_i_i_i35_i_i_i_i_i_i_i_i_epil;
-    u64 v_epil_iter208_next;
-    u1 v_epil_iter208_cmp_not;
+    u64 v_epil_iter193_next;
+    u1 v_epil_iter193_cmp_not;
     u1 v_r15_not_i_i21_i_i_i_i_i_i_i_i;
     u64 v_r17_i3_i_i23_i_i_i_i_i_i_i_i;
     P v_r26_i5_i_i25_i_i_i_i_i_i_i_i;
     u64 v_r7_sroa_130_11_i_i_i;
-    u64 v_30;
-    u64 v_31;
-    u32 v_32;
+    u64 v_26;
+    u64 v_27;
+    u32 v_28;
     u32 v_r2_i_i29_i_i_i_i_i_i_i_i;
     u1 v_r59_i937_i_i_i;
     u16 v_r64_i999_i_i_i;
@@ -35490,7 +35255,7 @@ u32 pkcs1_c_private_key_encode(P v_a0, P v_a1, u64 v_a2, P v_a3, u64 v_a4, P v_a
     u1 v_r92_i941_i_i_i;
     u64 v_r17_i46_i985_i_i_i;
     P v_r26_i48_i987_i_i_i;
-    u32 v_33;
+    u32 v_29;
     u32 v_r20_i934_sroa_0_0_insert_insert_i_i_i;
     u1 v_r117_i943_i_i_i;
     u32 v_r12223_i963_i_i_i;
@@ -35518,18 +35283,18 @@ u32 pkcs1_c_private_key_encode(P v_a0, P v_a1, u64 v_a2, P v_a3, u64 v_a4, P v_a
     P v_r40_i936_sroa_6_0_r26_i84_i961_sroa_idx_i_i_i;
     P v_r40_i936_sroa_7_0_r26_i84_i961_sroa_idx_i_i_i;
     P v_r40_i936_sroa_8_0_r26_i84_i961_sroa_idx_i_i_i;
-    u64 v_r7_sroa_130_26_i_i_i;
+    u64 v_r7_sroa_130_27_i_i_i;
     u64 v_r17_i_i_i43_i_i_i_i_i_i_i_i;
     P v_r26_i_i_i45_i_i_i_i_i_i_i_i;
     u64 v_r8_i_i_i_i_i_i_i_i_i46_i_i_i_i_i_i_i_i;
     u64 v_r9_i_i_i_i_i_i_i_i_i47_i_i_i_i_i_i_i_i;
     u64 v_r10_i_i_i_i_i_i_i_i_i48_i_i_i_i_i_i_i_i;
     u1 v_r11_i_i_i_i_i_i_i_i_i49_i_i_i_i_i_i_i_i;
-    u64 v_xtraiter213;
-    u1 v_34;
-    u64 v_unroll_iter217;
+    u64 v_xtraiter198;
+    u1 v_30;
+    u64 v_unroll_iter202;
     u64 v_r0_04_i_i_i_i_i_i_i_i_i64_i_i_i_i_i_i_i_i;
-    u64 v_niter218;
+    u64 v_niter203;
     P v_r20_i_i_i_i_i_i_i_i_i65_i_i_i_i_i_i_i_i;
     P v_r24_i_i_i_i_i_i_i_i_i66_i_i_i_i_i_i_i_i;
     u8 v_r26_i_i_i_i_i_i_i_i_i67_i_i_i_i_i_i_i_i;
@@ -35546,25 +35311,25 @@ u32 pkcs1_c_private_key_encode(P v_a0, P v_a1, u64 v_a2, P v_a3, u64 v_a4, P v_a
     P v_r24_i_i_i_i_i_i_i_i_i66_i_i_i_i_i_i_i_i_3;
     u8 v_r26_i_i_i_i_i_i_i_i_i67_i_i_i_i_i_i_i_i_3;
     u64 v_r30_i_i_i_i_i_i_i_i_i68_i_i_i_i_i_i_i_i_3;
-    u64 v_niter218_next_3;
-    u1 v_niter218_ncmp_3;
-    u1 v_lcmp_mod215_not;
+    u64 v_niter203_next_3;
+    u1 v_niter203_ncmp_3;
+    u1 v_lcmp_mod200_not;
     u64 v_r0_04_i_i_i_i_i_i_i_i_i64_i_i_i_i_i_i_i_i_epil_ini;
     u64 v_r0_04_i_i_i_i_i_i_i_i_i64_i_i_i_i_i_i_i_i_epil;
-    u64 v_epil_iter214;
+    u64 v_epil_iter199;
     P v_r20_i_i_i_i_i_i_i_i_i65_i_i_i_i_i_i_i_i_epil;
     P v_r24_i_i_i_i_i_i_i_i_i66_i_i_i_i_i_i_i_i_epil;
     u8 v_r26_i_i_i_i_i_i_i_i_i67_i_i_i_i_i_i_i_i_epil;
     u64 v_r30_i_i_i_i_i_i_i_i_i68_i_i_i_i_i_i_i_i_epil;
-    u64 v_epil_iter214_next;
-    u1 v_epil_iter214_cmp_not;
+    u64 v_epil_iter199_next;
+    u1 v_epil_iter199_cmp_not;
     u1 v_r15_not_i_i54_i_i_i_i_i_i_i_i;
     u64 v_r17_i3_i_i56_i_i_i_i_i_i_i_i;
     P v_r26_i5_i_i58_i_i_i_i_i_i_i_i;
     u64 v_r7_sroa_130_12_i_i_i;
-    u64 v_35;
-    u64 v_36;
-    u32 v_37;
+    u64 v_31;
+    u64 v_32;
+    u32 v_33;
     u32 v_r2_i_i62_i_i_i_i_i_i_i_i;
     u1 v_r59_i861_i_i_i;
     u16 v_r64_i923_i_i_i;
@@ -35581,7 +35346,7 @@ u32 pkcs1_c_private_key_encode(P v_a0, P v_a1, u64 v_a2, P v_a3, u64 v_a4, P v_a
     u1 v_r92_i865_i_i_i;
     u64 v_r17_i46_i909_i_i_i;
     P v_r26_i48_i911_i_i_i;
-    u32 v_38;
+    u32 v_34;
     u32 v_r20_i858_sroa_0_0_insert_insert_i_i_i;
     u1 v_r117_i867_i_i_i;
     u32 v_r12223_i887_i_i_i;
@@ -35609,9 +35374,9 @@ u32 pkcs1_c_private_key_encode(P v_a0, P v_a1, u64 v_a2, P v_a3, u64 v_a4, P v_a
     P v_r40_i860_sroa_6_0_r26_i84_i885_sroa_idx_i_i_i;
     P v_r40_i860_sroa_7_0_r26_i84_i885_sroa_idx_i_i_i;
     P v_r40_i860_sroa_8_0_r26_i84_i885_sroa_idx_i_i_i;
-    u64 v_r7_sroa_130_25_i_i_i;
-    u64 v_r17_i19_i_i_i_i_i_i_i;
-    u32 v_r2_i276_i_i_i_i_i_i_i;
+    u64 v_r7_sroa_130_26_i_i_i;
+    u64 v_r17_i113_i_i_i_i_i_i_i;
+    u32 v_r2_i379_i_i_i_i_i_i_i;
     u1 v_r59_i785_i_i_i;
     u16 v_r64_i847_i_i_i;
     u64 v_r17_i_i851_i_i_i;
@@ -35627,7 +35392,7 @@ u32 pkcs1_c_private_key_encode(P v_a0, P v_a1, u64 v_a2, P v_a3, u64 v_a4, P v_a
     u1 v_r92_i789_i_i_i;
     u64 v_r17_i46_i833_i_i_i;
     P v_r26_i48_i835_i_i_i;
-    u32 v_39;
+    u32 v_35;
     u32 v_r20_i782_sroa_0_0_insert_insert_i_i_i;
     u1 v_r117_i791_i_i_i;
     u64 v_r12223_i8111243_i_i_i;
@@ -35655,10 +35420,10 @@ u32 pkcs1_c_private_key_encode(P v_a0, P v_a1, u64 v_a2, P v_a3, u64 v_a4, P v_a
     P v_r40_i784_sroa_6_0_r26_i84_i809_sroa_idx_i_i_i;
     P v_r40_i784_sroa_7_0_r26_i84_i809_sroa_idx_i_i_i;
     P v_r40_i784_sroa_8_0_r26_i84_i809_sroa_idx_i_i_i;
-    u64 v_r7_sroa_130_24_i_i_i;
+    u64 v_r7_sroa_130_25_i_i_i;
     u1 v_r26_not_i_i_i_i_i_i;
     u64 v_r7_sroa_130_8_i_i_i;
-    u64 v_r17_i_i_i_i_i_i;
+    u32 v_36;
     u32 v_r2_i_i_i_i_i_i;
     u1 v_r59_i709_i_i_i;
     u16 v_r64_i771_i_i_i;
@@ -35675,12 +35440,12 @@ u32 pkcs1_c_private_key_encode(P v_a0, P v_a1, u64 v_a2, P v_a3, u64 v_a4, P v_a
     u1 v_r92_i713_i_i_i;
     u64 v_r17_i46_i757_i_i_i;
     P v_r26_i48_i759_i_i_i;
-    u32 v_40;
+    u32 v_37;
     u32 v_r20_i706_sroa_0_0_insert_insert_i_i_i;
     u1 v_r117_i715_i_i_i;
-    u64 v_r12223_i7351249_i_i_i;
+    u32 v_r12223_i735_i_i_i;
     u8 v_r124_i736_i_i_i;
-    u64 v_r12624_i7371250_i_i_i;
+    u32 v_r12624_i737_i_i_i;
     u8 v_r130_i738_i_i_i;
     u8 v_r134_i739_i_i_i;
     u64 v_r17_i64_i746_i_i_i;
@@ -35689,11 +35454,11 @@ u32 pkcs1_c_private_key_encode(P v_a0, P v_a1, u64 v_a2, P v_a3, u64 v_a4, P v_a
     P v_r29_i707_sroa_5_0_r26_i66_i748_sroa_idx_i_i_i;
     P v_r29_i707_sroa_6_0_r26_i66_i748_sroa_idx_i_i_i;
     P v_r29_i707_sroa_7_0_r26_i66_i748_sroa_idx_i_i_i;
-    u64 v_r15020_i7171246_i_i_i;
+    u32 v_r15020_i717_i_i_i;
     u8 v_r152_i718_i_i_i;
-    u64 v_r15421_i7191247_i_i_i;
+    u32 v_r15421_i719_i_i_i;
     u8 v_r158_i720_i_i_i;
-    u64 v_r16022_i7211248_i_i_i;
+    u32 v_r16022_i721_i_i_i;
     u8 v_r164_i722_i_i_i;
     u8 v_r168_i723_i_i_i;
     u64 v_r17_i82_i731_i_i_i;
@@ -35710,11 +35475,11 @@ u32 pkcs1_c_private_key_encode(P v_a0, P v_a1, u64 v_a2, P v_a3, u64 v_a4, P v_a
     u64 v_r9_i_i_i_i_i_i_i_i_i_i_i_i_i;
     u64 v_r10_i_i_i_i_i_i_i_i_i_i_i_i_i;
     u1 v_r11_i_i_i_i_i_i_i_i_i_i_i_i_i;
-    u64 v_xtraiter219;
-    u1 v_41;
-    u64 v_unroll_iter223;
+    u64 v_xtraiter204;
+    u1 v_38;
+    u64 v_unroll_iter208;
     u64 v_r0_04_i_i_i_i_i_i_i_i_i_i_i_i_i;
-    u64 v_niter224;
+    u64 v_niter209;
     P v_r20_i_i_i_i_i_i_i_i_i_i_i_i_i;
     P v_r24_i_i_i_i_i_i_i_i_i_i_i_i_i;
     u8 v_r26_i_i_i_i_i_i_i_i_i_i_i_i_i;
@@ -35731,25 +35496,25 @@ u32 pkcs1_c_private_key_encode(P v_a0, P v_a1, u64 v_a2, P v_a3, u64 v_a4, P v_a
     P v_r24_i_i_i_i_i_i_i_i_i_i_i_i_i_3;
     u8 v_r26_i_i_i_i_i_i_i_i_i_i_i_i_i_3;
     u64 v_r30_i_i_i_i_i_i_i_i_i_i_i_i_i_3;
-    u64 v_niter224_next_3;
-    u1 v_niter224_ncmp_3;
-    u1 v_lcmp_mod221_not;
+    u64 v_niter209_next_3;
+    u1 v_niter209_ncmp_3;
+    u1 v_lcmp_mod206_not;
     u64 v_r0_04_i_i_i_i_i_i_i_i_i_i_i_i_i_epil_init;
     u64 v_r0_04_i_i_i_i_i_i_i_i_i_i_i_i_i_epil;
-    u64 v_epil_iter220;
+    u64 v_epil_iter205;
     P v_r20_i_i_i_i_i_i_i_i_i_i_i_i_i_epil;
     P v_r24_i_i_i_i_i_i_i_i_i_i_i_i_i_epil;
     u8 v_r26_i_i_i_i_i_i_i_i_i_i_i_i_i_epil;
     u64 v_r30_i_i_i_i_i_i_i_i_i_i_i_i_i_epil;
-    u64 v_epil_iter220_next;
-    u1 v_epil_iter220_cmp_not;
+    u64 v_epil_iter205_next;
+    u1 v_epil_iter205_cmp_not;
     u1 v_r15_not_i_i_i_i_i_i;
     u64 v_r17_i3_i_i_i_i_i_i;
     P v_r26_i5_i_i_i_i_i_i;
     u64 v_r7_sroa_130_1_i_i_i;
-    u64 v_42;
-    u64 v_43;
-    u32 v_44;
+    u64 v_39;
+    u64 v_40;
+    u32 v_41;
     u32 v_r2_i_i23_i_i_i_i;
     u1 v_r59_i633_i_i_i;
     u16 v_r64_i695_i_i_i;
@@ -35766,7 +35531,7 @@ u32 pkcs1_c_private_key_encode(P v_a0, P v_a1, u64 v_a2, P v_a3, u64 v_a4, P v_a
     u1 v_r92_i637_i_i_i;
     u64 v_r17_i46_i681_i_i_i;
     P v_r26_i48_i683_i_i_i;
-    u32 v_45;
+    u32 v_42;
     u32 v_r20_i630_sroa_0_0_insert_insert_i_i_i;
     u1 v_r117_i639_i_i_i;
     u32 v_r12223_i659_i_i_i;
@@ -35794,18 +35559,18 @@ u32 pkcs1_c_private_key_encode(P v_a0, P v_a1, u64 v_a2, P v_a3, u64 v_a4, P v_a
     P v_r40_i632_sroa_6_0_r26_i84_i657_sroa_idx_i_i_i;
     P v_r40_i632_sroa_7_0_r26_i84_i657_sroa_idx_i_i_i;
     P v_r40_i632_sroa_8_0_r26_i84_i657_sroa_idx_i_i_i;
-    u64 v_r7_sroa_130_22_i_i_i;
+    u64 v_r7_sroa_130_23_i_i_i;
     u64 v_r17_i_i_i29_i_i_i_i;
     P v_r26_i_i_i31_i_i_i_i;
     u64 v_r8_i_i_i_i_i_i_i_i_i32_i_i_i_i;
     u64 v_r9_i_i_i_i_i_i_i_i_i33_i_i_i_i;
     u64 v_r10_i_i_i_i_i_i_i_i_i34_i_i_i_i;
     u1 v_r11_i_i_i_i_i_i_i_i_i35_i_i_i_i;
-    u64 v_xtraiter225;
-    u1 v_46;
-    u64 v_unroll_iter229;
+    u64 v_xtraiter210;
+    u1 v_43;
+    u64 v_unroll_iter214;
     u64 v_r0_04_i_i_i_i_i_i_i_i_i50_i_i_i_i;
-    u64 v_niter230;
+    u64 v_niter215;
     P v_r20_i_i_i_i_i_i_i_i_i51_i_i_i_i;
     P v_r24_i_i_i_i_i_i_i_i_i52_i_i_i_i;
     u8 v_r26_i_i_i_i_i_i_i_i_i53_i_i_i_i;
@@ -35822,25 +35587,25 @@ u32 pkcs1_c_private_key_encode(P v_a0, P v_a1, u64 v_a2, P v_a3, u64 v_a4, P v_a
     P v_r24_i_i_i_i_i_i_i_i_i52_i_i_i_i_3;
     u8 v_r26_i_i_i_i_i_i_i_i_i53_i_i_i_i_3;
     u64 v_r30_i_i_i_i_i_i_i_i_i54_i_i_i_i_3;
-    u64 v_niter230_next_3;
-    u1 v_niter230_ncmp_3;
-    u1 v_lcmp_mod227_not;
+    u64 v_niter215_next_3;
+    u1 v_niter215_ncmp_3;
+    u1 v_lcmp_mod212_not;
     u64 v_r0_04_i_i_i_i_i_i_i_i_i50_i_i_i_i_epil_init;
     u64 v_r0_04_i_i_i_i_i_i_i_i_i50_i_i_i_i_epil;
-    u64 v_epil_iter226;
+    u64 v_epil_iter211;
     P v_r20_i_i_i_i_i_i_i_i_i51_i_i_i_i_epil;
     P v_r24_i_i_i_i_i_i_i_i_i52_i_i_i_i_epil;
     u8 v_r26_i_i_i_i_i_i_i_i_i53_i_i_i_i_epil;
     u64 v_r30_i_i_i_i_i_i_i_i_i54_i_i_i_i_epil;
-    u64 v_epil_iter226_next;
-    u1 v_epil_iter226_cmp_not;
+    u64 v_epil_iter211_next;
+    u1 v_epil_iter211_cmp_not;
     u1 v_r15_not_i_i40_i_i_i_i;
     u64 v_r17_i3_i_i42_i_i_i_i;
     P v_r26_i5_i_i44_i_i_i_i;
     u64 v_r7_sroa_130_2_i_i_i;
-    u64 v_47;
-    u64 v_48;
-    u32 v_49;
+    u64 v_44;
+    u64 v_45;
+    u32 v_46;
     u32 v_r2_i_i48_i_i_i_i;
     u1 v_r59_i557_i_i_i;
     u16 v_r64_i619_i_i_i;
@@ -35857,7 +35622,7 @@ u32 pkcs1_c_private_key_encode(P v_a0, P v_a1, u64 v_a2, P v_a3, u64 v_a4, P v_a
     u1 v_r92_i561_i_i_i;
     u64 v_r17_i46_i605_i_i_i;
     P v_r26_i48_i607_i_i_i;
-    u32 v_50;
+    u32 v_47;
     u32 v_r20_i554_sroa_0_0_insert_insert_i_i_i;
     u1 v_r117_i563_i_i_i;
     u32 v_r12223_i583_i_i_i;
@@ -35885,18 +35650,18 @@ u32 pkcs1_c_private_key_encode(P v_a0, P v_a1, u64 v_a2, P v_a3, u64 v_a4, P v_a
     P v_r40_i556_sroa_6_0_r26_i84_i581_sroa_idx_i_i_i;
     P v_r40_i556_sroa_7_0_r26_i84_i581_sroa_idx_i_i_i;
     P v_r40_i556_sroa_8_0_r26_i84_i581_sroa_idx_i_i_i;
-    u64 v_r7_sroa_130_21_i_i_i;
+    u64 v_r7_sroa_130_22_i_i_i;
     u64 v_r17_i_i_i62_i_i_i_i;
     P v_r26_i_i_i64_i_i_i_i;
     u64 v_r8_i_i_i_i_i_i_i_i_i65_i_i_i_i;
     u64 v_r9_i_i_i_i_i_i_i_i_i66_i_i_i_i;
     u64 v_r10_i_i_i_i_i_i_i_i_i67_i_i_i_i;
     u1 v_r11_i_i_i_i_i_i_i_i_i68_i_i_i_i;
-    u64 v_xtraiter231;
-    u1 v_51;
-    u64 v_unroll_iter235;
+    u64 v_xtraiter216;
+    u1 v_48;
+    u64 v_unroll_iter220;
     u64 v_r0_04_i_i_i_i_i_i_i_i_i83_i_i_i_i;
-    u64 v_niter236;
+    u64 v_niter221;
     P v_r20_i_i_i_i_i_i_i_i_i84_i_i_i_i;
     P v_r24_i_i_i_i_i_i_i_i_i85_i_i_i_i;
     u8 v_r26_i_i_i_i_i_i_i_i_i86_i_i_i_i;
@@ -35913,25 +35678,25 @@ u32 pkcs1_c_private_key_encode(P v_a0, P v_a1, u64 v_a2, P v_a3, u64 v_a4, P v_a
     P v_r24_i_i_i_i_i_i_i_i_i85_i_i_i_i_3;
     u8 v_r26_i_i_i_i_i_i_i_i_i86_i_i_i_i_3;
     u64 v_r30_i_i_i_i_i_i_i_i_i87_i_i_i_i_3;
-    u64 v_niter236_next_3;
-    u1 v_niter236_ncmp_3;
-    u1 v_lcmp_mod233_not;
+    u64 v_niter221_next_3;
+    u1 v_niter221_ncmp_3;
+    u1 v_lcmp_mod218_not;
     u64 v_r0_04_i_i_i_i_i_i_i_i_i83_i_i_i_i_epil_init;
     u64 v_r0_04_i_i_i_i_i_i_i_i_i83_i_i_i_i_epil;
-    u64 v_epil_iter232;
+    u64 v_epil_iter217;
     P v_r20_i_i_i_i_i_i_i_i_i84_i_i_i_i_epil;
     P v_r24_i_i_i_i_i_i_i_i_i85_i_i_i_i_epil;
     u8 v_r26_i_i_i_i_i_i_i_i_i86_i_i_i_i_epil;
     u64 v_r30_i_i_i_i_i_i_i_i_i87_i_i_i_i_epil;
-    u64 v_epil_iter232_next;
-    u1 v_epil_iter232_cmp_not;
+    u64 v_epil_iter217_next;
+    u1 v_epil_iter217_cmp_not;
     u1 v_r15_not_i_i73_i_i_i_i;
     u64 v_r17_i3_i_i75_i_i_i_i;
     P v_r26_i5_i_i77_i_i_i_i;
     u64 v_r7_sroa_130_3_i_i_i;
-    u64 v_52;
-    u64 v_53;
-    u32 v_54;
+    u64 v_49;
+    u64 v_50;
+    u32 v_51;
     u32 v_r2_i_i81_i_i_i_i;
     u1 v_r59_i481_i_i_i;
     u16 v_r64_i543_i_i_i;
@@ -35948,7 +35713,7 @@ u32 pkcs1_c_private_key_encode(P v_a0, P v_a1, u64 v_a2, P v_a3, u64 v_a4, P v_a
     u1 v_r92_i485_i_i_i;
     u64 v_r17_i46_i529_i_i_i;
     P v_r26_i48_i531_i_i_i;
-    u32 v_55;
+    u32 v_52;
     u32 v_r20_i478_sroa_0_0_insert_insert_i_i_i;
     u1 v_r117_i487_i_i_i;
     u32 v_r12223_i507_i_i_i;
@@ -35976,18 +35741,18 @@ u32 pkcs1_c_private_key_encode(P v_a0, P v_a1, u64 v_a2, P v_a3, u64 v_a4, P v_a
     P v_r40_i480_sroa_6_0_r26_i84_i505_sroa_idx_i_i_i;
     P v_r40_i480_sroa_7_0_r26_i84_i505_sroa_idx_i_i_i;
     P v_r40_i480_sroa_8_0_r26_i84_i505_sroa_idx_i_i_i;
-    u64 v_r7_sroa_130_20_i_i_i;
+    u64 v_r7_sroa_130_21_i_i_i;
     u64 v_r17_i_i_i95_i_i_i_i;
     P v_r26_i_i_i97_i_i_i_i;
     u64 v_r8_i_i_i_i_i_i_i_i_i98_i_i_i_i;
     u64 v_r9_i_i_i_i_i_i_i_i_i99_i_i_i_i;
     u64 v_r10_i_i_i_i_i_i_i_i_i100_i_i_i_i;
     u1 v_r11_i_i_i_i_i_i_i_i_i101_i_i_i_i;
-    u64 v_xtraiter237;
-    u1 v_56;
-    u64 v_unroll_iter241;
+    u64 v_xtraiter222;
+    u1 v_53;
+    u64 v_unroll_iter226;
     u64 v_r0_04_i_i_i_i_i_i_i_i_i116_i_i_i_i;
-    u64 v_niter242;
+    u64 v_niter227;
     P v_r20_i_i_i_i_i_i_i_i_i117_i_i_i_i;
     P v_r24_i_i_i_i_i_i_i_i_i118_i_i_i_i;
     u8 v_r26_i_i_i_i_i_i_i_i_i119_i_i_i_i;
@@ -36004,25 +35769,25 @@ u32 pkcs1_c_private_key_encode(P v_a0, P v_a1, u64 v_a2, P v_a3, u64 v_a4, P v_a
     P v_r24_i_i_i_i_i_i_i_i_i118_i_i_i_i_3;
     u8 v_r26_i_i_i_i_i_i_i_i_i119_i_i_i_i_3;
     u64 v_r30_i_i_i_i_i_i_i_i_i120_i_i_i_i_3;
-    u64 v_niter242_next_3;
-    u1 v_niter242_ncmp_3;
-    u1 v_lcmp_mod239_not;
+    u64 v_niter227_next_3;
+    u1 v_niter227_ncmp_3;
+    u1 v_lcmp_mod224_not;
     u64 v_r0_04_i_i_i_i_i_i_i_i_i116_i_i_i_i_epil_init;
     u64 v_r0_04_i_i_i_i_i_i_i_i_i116_i_i_i_i_epil;
-    u64 v_epil_iter238;
+    u64 v_epil_iter223;
     P v_r20_i_i_i_i_i_i_i_i_i117_i_i_i_i_epil;
     P v_r24_i_i_i_i_i_i_i_i_i118_i_i_i_i_epil;
     u8 v_r26_i_i_i_i_i_i_i_i_i119_i_i_i_i_epil;
     u64 v_r30_i_i_i_i_i_i_i_i_i120_i_i_i_i_epil;
-    u64 v_epil_iter238_next;
-    u1 v_epil_iter238_cmp_not;
+    u64 v_epil_iter223_next;
+    u1 v_epil_iter223_cmp_not;
     u1 v_r15_not_i_i106_i_i_i_i;
     u64 v_r17_i3_i_i108_i_i_i_i;
     P v_r26_i5_i_i110_i_i_i_i;
     u64 v_r7_sroa_130_4_i_i_i;
-    u64 v_57;
-    u64 v_58;
-    u32 v_59;
+    u64 v_54;
+    u64 v_55;
+    u32 v_56;
     u32 v_r2_i_i114_i_i_i_i;
     u1 v_r59_i405_i_i_i;
     u16 v_r64_i467_i_i_i;
@@ -36039,7 +35804,7 @@ u32 pkcs1_c_private_key_encode(P v_a0, P v_a1, u64 v_a2, P v_a3, u64 v_a4, P v_a
     u1 v_r92_i409_i_i_i;
     u64 v_r17_i46_i453_i_i_i;
     P v_r26_i48_i455_i_i_i;
-    u32 v_60;
+    u32 v_57;
     u32 v_r20_i402_sroa_0_0_insert_insert_i_i_i;
     u1 v_r117_i411_i_i_i;
     u32 v_r12223_i431_i_i_i;
@@ -36067,18 +35832,18 @@ u32 pkcs1_c_private_key_encode(P v_a0, P v_a1, u64 v_a2, P v_a3, u64 v_a4, P v_a
     P v_r40_i404_sroa_6_0_r26_i84_i429_sroa_idx_i_i_i;
     P v_r40_i404_sroa_7_0_r26_i84_i429_sroa_idx_i_i_i;
     P v_r40_i404_sroa_8_0_r26_i84_i429_sroa_idx_i_i_i;
-    u64 v_r7_sroa_130_19_i_i_i;
+    u64 v_r7_sroa_130_20_i_i_i;
     u64 v_r17_i_i_i128_i_i_i_i;
     P v_r26_i_i_i130_i_i_i_i;
     u64 v_r8_i_i_i_i_i_i_i_i_i131_i_i_i_i;
     u64 v_r9_i_i_i_i_i_i_i_i_i132_i_i_i_i;
     u64 v_r10_i_i_i_i_i_i_i_i_i133_i_i_i_i;
     u1 v_r11_i_i_i_i_i_i_i_i_i134_i_i_i_i;
-    u64 v_xtraiter243;
-    u1 v_61;
-    u64 v_unroll_iter247;
+    u64 v_xtraiter228;
+    u1 v_58;
+    u64 v_unroll_iter232;
     u64 v_r0_04_i_i_i_i_i_i_i_i_i149_i_i_i_i;
-    u64 v_niter248;
+    u64 v_niter233;
     P v_r20_i_i_i_i_i_i_i_i_i150_i_i_i_i;
     P v_r24_i_i_i_i_i_i_i_i_i151_i_i_i_i;
     u8 v_r26_i_i_i_i_i_i_i_i_i152_i_i_i_i;
@@ -36095,25 +35860,25 @@ u32 pkcs1_c_private_key_encode(P v_a0, P v_a1, u64 v_a2, P v_a3, u64 v_a4, P v_a
     P v_r24_i_i_i_i_i_i_i_i_i151_i_i_i_i_3;
     u8 v_r26_i_i_i_i_i_i_i_i_i152_i_i_i_i_3;
     u64 v_r30_i_i_i_i_i_i_i_i_i153_i_i_i_i_3;
-    u64 v_niter248_next_3;
-    u1 v_niter248_ncmp_3;
-    u1 v_lcmp_mod245_not;
+    u64 v_niter233_next_3;
+    u1 v_niter233_ncmp_3;
+    u1 v_lcmp_mod230_not;
     u64 v_r0_04_i_i_i_i_i_i_i_i_i149_i_i_i_i_epil_init;
     u64 v_r0_04_i_i_i_i_i_i_i_i_i149_i_i_i_i_epil;
-    u64 v_epil_iter244;
+    u64 v_epil_iter229;
     P v_r20_i_i_i_i_i_i_i_i_i150_i_i_i_i_epil;
     P v_r24_i_i_i_i_i_i_i_i_i151_i_i_i_i_epil;
     u8 v_r26_i_i_i_i_i_i_i_i_i152_i_i_i_i_epil;
     u64 v_r30_i_i_i_i_i_i_i_i_i153_i_i_i_i_epil;
-    u64 v_epil_iter244_next;
-    u1 v_epil_iter244_cmp_not;
+    u64 v_epil_iter229_next;
+    u1 v_epil_iter229_cmp_not;
     u1 v_r15_not_i_i139_i_i_i_i;
     u64 v_r17_i3_i_i141_i_i_i_i;
     P v_r26_i5_i_i143_i_i_i_i;
     u64 v_r7_sroa_130_5_i_i_i;
-    u64 v_62;
-    u64 v_63;
-    u32 v_64;
+    u64 v_59;
+    u64 v_60;
+    u32 v_61;
     u32 v_r2_i_i147_i_i_i_i;
     u1 v_r59_i329_i_i_i;
     u16 v_r64_i391_i_i_i;
@@ -36130,7 +35895,7 @@ u32 pkcs1_c_private_key_encode(P v_a0, P v_a1, u64 v_a2, P v_a3, u64 v_a4, P v_a
     u1 v_r92_i333_i_i_i;
     u64 v_r17_i46_i377_i_i_i;
     P v_r26_i48_i379_i_i_i;
-    u32 v_65;
+    u32 v_62;
     u32 v_r20_i326_sroa_0_0_insert_insert_i_i_i;
     u1 v_r117_i335_i_i_i;
     u32 v_r12223_i355_i_i_i;
@@ -36158,18 +35923,18 @@ u32 pkcs1_c_private_key_encode(P v_a0, P v_a1, u64 v_a2, P v_a3, u64 v_a4, P v_a
     P v_r40_i328_sroa_6_0_r26_i84_i353_sroa_idx_i_i_i;
     P v_r40_i328_sroa_7_0_r26_i84_i353_sroa_idx_i_i_i;
     P v_r40_i328_sroa_8_0_r26_i84_i353_sroa_idx_i_i_i;
-    u64 v_r7_sroa_130_18_i_i_i;
+    u64 v_r7_sroa_130_19_i_i_i;
     u64 v_r17_i_i_i161_i_i_i_i;
     P v_r26_i_i_i163_i_i_i_i;
     u64 v_r8_i_i_i_i_i_i_i_i_i164_i_i_i_i;
     u64 v_r9_i_i_i_i_i_i_i_i_i165_i_i_i_i;
     u64 v_r10_i_i_i_i_i_i_i_i_i166_i_i_i_i;
     u1 v_r11_i_i_i_i_i_i_i_i_i167_i_i_i_i;
-    u64 v_xtraiter249;
-    u1 v_66;
-    u64 v_unroll_iter253;
+    u64 v_xtraiter234;
+    u1 v_63;
+    u64 v_unroll_iter238;
     u64 v_r0_04_i_i_i_i_i_i_i_i_i182_i_i_i_i;
-    u64 v_niter254;
+    u64 v_niter239;
     P v_r20_i_i_i_i_i_i_i_i_i183_i_i_i_i;
     P v_r24_i_i_i_i_i_i_i_i_i184_i_i_i_i;
     u8 v_r26_i_i_i_i_i_i_i_i_i185_i_i_i_i;
@@ -36186,25 +35951,26 @@ u32 pkcs1_c_private_key_encode(P v_a0, P v_a1, u64 v_a2, P v_a3, u64 v_a4, P v_a
     P v_r24_i_i_i_i_i_i_i_i_i184_i_i_i_i_3;
     u8 v_r26_i_i_i_i_i_i_i_i_i185_i_i_i_i_3;
     u64 v_r30_i_i_i_i_i_i_i_i_i186_i_i_i_i_3;
-    u64 v_niter254_next_3;
-    u1 v_niter254_ncmp_3;
-    u1 v_lcmp_mod251_not;
+    u64 v_niter239_next_3;
+    u1 v_niter239_ncmp_3;
+    u1 v_lcmp_mod236_not;
     u64 v_r0_04_i_i_i_i_i_i_i_i_i182_i_i_i_i_epil_init;
     u64 v_r0_04_i_i_i_i_i_i_i_i_i182_i_i_i_i_epil;
-    u64 v_epil_iter250;
+    u64 v_epil_iter235;
     P v_r20_i_i_i_i_i_i_i_i_i183_i_i_i_i_epil;
     P v_r24_i_i_i_i_i_i_i_i_i184_i_i_i_i_epil;
     u8 v_r26_i_i_i_i_i_i_i_i_i185_i_i_i_i_epil;
     u64 v_r30_i_i_i_i_i_i_i_i_i186_i_i_i_i_epil;
-    u64 v_epil_iter250_next;
-    u1 v_epil_iter250_cmp_not;
+    u64 v_epil_iter235_next;
+    u1 v_epil_iter235_cmp_not;
+    u64 v_r13_i_i171_i_i_i_i;
     u1 v_r15_not_i_i172_i_i_i_i;
     u64 v_r17_i3_i_i174_i_i_i_i;
     P v_r26_i5_i_i176_i_i_i_i;
     u64 v_r7_sroa_130_6_i_i_i;
-    u64 v_67;
-    u64 v_68;
-    u32 v_69;
+    u64 v_64;
+    u64 v_65;
+    u32 v_66;
     u32 v_r2_i_i180_i_i_i_i;
     u1 v_r59_i253_i_i_i;
     u16 v_r64_i315_i_i_i;
@@ -36221,7 +35987,7 @@ u32 pkcs1_c_private_key_encode(P v_a0, P v_a1, u64 v_a2, P v_a3, u64 v_a4, P v_a
     u1 v_r92_i257_i_i_i;
     u64 v_r17_i46_i301_i_i_i;
     P v_r26_i48_i303_i_i_i;
-    u32 v_70;
+    u32 v_67;
     u32 v_r20_i250_sroa_0_0_insert_insert_i_i_i;
     u1 v_r117_i259_i_i_i;
     u32 v_r12223_i279_i_i_i;
@@ -36249,18 +36015,20 @@ u32 pkcs1_c_private_key_encode(P v_a0, P v_a1, u64 v_a2, P v_a3, u64 v_a4, P v_a
     P v_r40_i252_sroa_6_0_r26_i84_i277_sroa_idx_i_i_i;
     P v_r40_i252_sroa_7_0_r26_i84_i277_sroa_idx_i_i_i;
     P v_r40_i252_sroa_8_0_r26_i84_i277_sroa_idx_i_i_i;
-    u64 v_r7_sroa_130_17_i_i_i;
+    u64 v_r7_sroa_130_18_i_i_i;
+    P v_r1_sroa_0_0_copyload_i_i191_i_i_i_i;
+    u64 v_r1_sroa_3_0_copyload_i_i193_i_i_i_i;
     u64 v_r17_i_i_i194_i_i_i_i;
     P v_r26_i_i_i196_i_i_i_i;
     u64 v_r8_i_i_i_i_i_i_i_i_i197_i_i_i_i;
     u64 v_r9_i_i_i_i_i_i_i_i_i198_i_i_i_i;
     u64 v_r10_i_i_i_i_i_i_i_i_i199_i_i_i_i;
     u1 v_r11_i_i_i_i_i_i_i_i_i200_i_i_i_i;
-    u64 v_xtraiter255;
-    u1 v_71;
-    u64 v_unroll_iter259;
+    u64 v_xtraiter240;
+    u1 v_68;
+    u64 v_unroll_iter244;
     u64 v_r0_04_i_i_i_i_i_i_i_i_i215_i_i_i_i;
-    u64 v_niter260;
+    u64 v_niter245;
     P v_r20_i_i_i_i_i_i_i_i_i216_i_i_i_i;
     P v_r24_i_i_i_i_i_i_i_i_i217_i_i_i_i;
     u8 v_r26_i_i_i_i_i_i_i_i_i218_i_i_i_i;
@@ -36277,25 +36045,26 @@ u32 pkcs1_c_private_key_encode(P v_a0, P v_a1, u64 v_a2, P v_a3, u64 v_a4, P v_a
     P v_r24_i_i_i_i_i_i_i_i_i217_i_i_i_i_3;
     u8 v_r26_i_i_i_i_i_i_i_i_i218_i_i_i_i_3;
     u64 v_r30_i_i_i_i_i_i_i_i_i219_i_i_i_i_3;
-    u64 v_niter260_next_3;
-    u1 v_niter260_ncmp_3;
-    u1 v_lcmp_mod257_not;
+    u64 v_niter245_next_3;
+    u1 v_niter245_ncmp_3;
+    u1 v_lcmp_mod242_not;
     u64 v_r0_04_i_i_i_i_i_i_i_i_i215_i_i_i_i_epil_init;
     u64 v_r0_04_i_i_i_i_i_i_i_i_i215_i_i_i_i_epil;
-    u64 v_epil_iter256;
+    u64 v_epil_iter241;
     P v_r20_i_i_i_i_i_i_i_i_i216_i_i_i_i_epil;
     P v_r24_i_i_i_i_i_i_i_i_i217_i_i_i_i_epil;
     u8 v_r26_i_i_i_i_i_i_i_i_i218_i_i_i_i_epil;
     u64 v_r30_i_i_i_i_i_i_i_i_i219_i_i_i_i_epil;
-    u64 v_epil_iter256_next;
-    u1 v_epil_iter256_cmp_not;
+    u64 v_epil_iter241_next;
+    u1 v_epil_iter241_cmp_not;
+    u64 v_r13_i_i204_i_i_i_i;
     u1 v_r15_not_i_i205_i_i_i_i;
     u64 v_r17_i3_i_i207_i_i_i_i;
     P v_r26_i5_i_i209_i_i_i_i;
     u64 v_r7_sroa_130_7_i_i_i;
-    u64 v_72;
-    u64 v_73;
-    u32 v_74;
+    u64 v_69;
+    u64 v_70;
+    u32 v_71;
     u32 v_r2_i_i213_i_i_i_i;
     u1 v_r59_i177_i_i_i;
     u16 v_r64_i239_i_i_i;
@@ -36312,7 +36081,7 @@ u32 pkcs1_c_private_key_encode(P v_a0, P v_a1, u64 v_a2, P v_a3, u64 v_a4, P v_a
     u1 v_r92_i181_i_i_i;
     u64 v_r17_i46_i225_i_i_i;
     P v_r26_i48_i227_i_i_i;
-    u32 v_75;
+    u32 v_72;
     u32 v_r20_i174_sroa_0_0_insert_insert_i_i_i;
     u1 v_r117_i183_i_i_i;
     u32 v_r12223_i203_i_i_i;
@@ -36340,7 +36109,7 @@ u32 pkcs1_c_private_key_encode(P v_a0, P v_a1, u64 v_a2, P v_a3, u64 v_a4, P v_a
     P v_r40_i176_sroa_6_0_r26_i84_i201_sroa_idx_i_i_i;
     P v_r40_i176_sroa_7_0_r26_i84_i201_sroa_idx_i_i_i;
     P v_r40_i176_sroa_8_0_r26_i84_i201_sroa_idx_i_i_i;
-    u64 v_r7_sroa_130_16_i_i_i;
+    u64 v_r7_sroa_130_17_i_i_i;
     P v_r1_sroa_0_0_copyload_i_i224_i_i_i_i;
     u64 v_r1_sroa_3_0_copyload_i_i226_i_i_i_i;
     u64 v_r17_i_i_i227_i_i_i_i;
@@ -36349,11 +36118,11 @@ u32 pkcs1_c_private_key_encode(P v_a0, P v_a1, u64 v_a2, P v_a3, u64 v_a4, P v_a
     u64 v_r9_i_i_i_i_i_i_i_i_i231_i_i_i_i;
     u64 v_r10_i_i_i_i_i_i_i_i_i232_i_i_i_i;
     u1 v_r11_i_i_i_i_i_i_i_i_i233_i_i_i_i;
-    u64 v_xtraiter261;
-    u1 v_76;
-    u64 v_unroll_iter265;
+    u64 v_xtraiter246;
+    u1 v_73;
+    u64 v_unroll_iter250;
     u64 v_r0_04_i_i_i_i_i_i_i_i_i248_i_i_i_i;
-    u64 v_niter266;
+    u64 v_niter251;
     P v_r20_i_i_i_i_i_i_i_i_i249_i_i_i_i;
     P v_r24_i_i_i_i_i_i_i_i_i250_i_i_i_i;
     u8 v_r26_i_i_i_i_i_i_i_i_i251_i_i_i_i;
@@ -36370,26 +36139,26 @@ u32 pkcs1_c_private_key_encode(P v_a0, P v_a1, u64 v_a2, P v_a3, u64 v_a4, P v_a
     P v_r24_i_i_i_i_i_i_i_i_i250_i_i_i_i_3;
     u8 v_r26_i_i_i_i_i_i_i_i_i251_i_i_i_i_3;
     u64 v_r30_i_i_i_i_i_i_i_i_i252_i_i_i_i_3;
-    u64 v_niter266_next_3;
-    u1 v_niter266_ncmp_3;
-    u1 v_lcmp_mod263_not;
+    u64 v_niter251_next_3;
+    u1 v_niter251_ncmp_3;
+    u1 v_lcmp_mod248_not;
     u64 v_r0_04_i_i_i_i_i_i_i_i_i248_i_i_i_i_epil_init;
     u64 v_r0_04_i_i_i_i_i_i_i_i_i248_i_i_i_i_epil;
-    u64 v_epil_iter262;
+    u64 v_epil_iter247;
     P v_r20_i_i_i_i_i_i_i_i_i249_i_i_i_i_epil;
     P v_r24_i_i_i_i_i_i_i_i_i250_i_i_i_i_epil;
     u8 v_r26_i_i_i_i_i_i_i_i_i251_i_i_i_i_epil;
     u64 v_r30_i_i_i_i_i_i_i_i_i252_i_i_i_i_epil;
-    u64 v_epil_iter262_next;
-    u1 v_epil_iter262_cmp_not;
+    u64 v_epil_iter247_next;
+    u1 v_epil_iter247_cmp_not;
     u64 v_r13_i_i237_i_i_i_i;
     u1 v_r15_not_i_i238_i_i_i_i;
     u64 v_r17_i3_i_i240_i_i_i_i;
     P v_r26_i5_i_i242_i_i_i_i;
-    u64 v_r7_sroa_130_13_i_i_i;
-    u64 v_77;
-    u64 v_78;
-    u32 v_79;
+    u64 v_r7_sroa_130_14_i_i_i;
+    u64 v_74;
+    u64 v_75;
+    u32 v_76;
     u32 v_r2_i_i246_i_i_i_i;
     u1 v_r59_i101_i_i_i;
     u16 v_r64_i163_i_i_i;
@@ -36406,7 +36175,7 @@ u32 pkcs1_c_private_key_encode(P v_a0, P v_a1, u64 v_a2, P v_a3, u64 v_a4, P v_a
     u1 v_r92_i105_i_i_i;
     u64 v_r17_i46_i149_i_i_i;
     P v_r26_i48_i151_i_i_i;
-    u32 v_80;
+    u32 v_77;
     u32 v_r20_i98_sroa_0_0_insert_insert_i_i_i;
     u1 v_r117_i107_i_i_i;
     u32 v_r12223_i127_i_i_i;
@@ -36434,12 +36203,12 @@ u32 pkcs1_c_private_key_encode(P v_a0, P v_a1, u64 v_a2, P v_a3, u64 v_a4, P v_a
     P v_r40_i100_sroa_6_0_r26_i84_i125_sroa_idx_i_i_i;
     P v_r40_i100_sroa_7_0_r26_i84_i125_sroa_idx_i_i_i;
     P v_r40_i100_sroa_8_0_r26_i84_i125_sroa_idx_i_i_i;
-    u64 v_r7_sroa_130_15_i_i_i;
-    P v_81;
+    u64 v_r7_sroa_130_16_i_i_i;
+    P v_78;
     P v_r26_i_i258_i_i_i_i;
     u64 v_r17_i_i91_i_i_i;
     P v_r26_i_i93_i_i_i;
-    u32 v_82;
+    u32 v_79;
     u32 v_r2_i_i_i_i;
     u1 v_r59_i_i_i_i;
     u16 v_r64_i_i_i_i;
@@ -36453,7 +36222,7 @@ u32 pkcs1_c_private_key_encode(P v_a0, P v_a1, u64 v_a2, P v_a3, u64 v_a4, P v_a
     P v_r14_i_sroa_5_0_r26_i30_i_sroa_idx_i_i_i;
     u1 v_r92_i_i_i_i;
     P v_r26_i48_i_i_i_i;
-    u32 v_83;
+    u32 v_80;
     u32 v_r20_i_sroa_0_0_insert_insert_i_i_i;
     u1 v_r117_i_i_i_i;
     u32 v_r12223_i_i_i_i;
@@ -36480,18 +36249,14 @@ u32 pkcs1_c_private_key_encode(P v_a0, P v_a1, u64 v_a2, P v_a3, u64 v_a4, P v_a
     P v_r40_i_sroa_7_0_r26_i84_i_sroa_idx_i_i_i;
     P v_r40_i_sroa_8_0_r26_i84_i_sroa_idx_i_i_i;
     u32 v_r5_sroa_0_sroa_5_0_i_i;
-    u8 v_r3_i_i1639_i;
-    u1 v_84;
-    P v_r4_i_i1640_i;
+    u8 v_r3_i_i1749_i;
+    u1 v_81;
+    P v_r4_i_i1750_i;
     u32 v_r0_sroa_0_0_copyload_i_i_i;
     u64 v_r3_i_i2_i_i;
     u32 v_common_ret_op_i;
     v_r1_i_i_i = m_v_r1_i_i_i;
-    v_r1_i_i_i_i_i_i_i = m_v_r1_i_i_i_i_i_i_i;
-    v_r10_i_i_i_i_i_i_i = m_v_r10_i_i_i_i_i_i_i;
     v_r10_i_i_i = m_v_r10_i_i_i;
-    v_r6_i_i = m_v_r6_i_i;
-    v_r19_i399_i = m_v_r19_i399_i;
     v_r5_i = m_v_r5_i;
     v_r1 = v_a1 == (P)0;
     v_r3 = v_r1 ? 4096u : 0u;
@@ -36517,20 +36282,20 @@ L_then_3_preheader_i_i_i:;
 L_then_3_i_i_i:;
     v_r3_sroa_0_08_i_i_i = p_v_r3_sroa_0_08_i_i_i;
     v_r3_sroa_6_07_i_i_i = p_v_r3_sroa_6_07_i_i_i;
-    v_r21_i_i560_i = get_u8(v_r3_sroa_0_08_i_i_i);
-    v_r23_i_i_i = v_r21_i_i560_i == 0u;
-    if (v_r23_i_i_i) { goto L_join_5_i_i_i; } else { goto L_join_3_i561_i; }
+    v_r21_i_i664_i = get_u8(v_r3_sroa_0_08_i_i_i);
+    v_r23_i_i_i = v_r21_i_i664_i == 0u;
+    if (v_r23_i_i_i) { goto L_join_5_i_i_i; } else { goto L_join_3_i665_i; }
 L_join_5_i_i_i:;
-    v_r31_i_i567_i = v_r3_sroa_0_08_i_i_i + 1;
-    v_r34_i_i568_i = (u64)((u64)(v_r3_sroa_6_07_i_i_i) + (u64)(18446744073709551615ull));
-    v_r14_i_i569_i = v_r34_i_i568_i > 1u;
-    if (v_r14_i_i569_i) { p_v_r3_sroa_0_08_i_i_i = v_r31_i_i567_i; p_v_r3_sroa_6_07_i_i_i = v_r34_i_i568_i; goto L_then_3_i_i_i; } else { p_v_r12_sroa_10_i_sroa_3_0_ph_i = v_scevgep_i_i_i; p_v_r12_sroa_10_i_sroa_5_0_ph_i = 1u; goto L_arm_1_i_i; }
+    v_r31_i_i672_i = v_r3_sroa_0_08_i_i_i + 1;
+    v_r34_i_i673_i = (u64)((u64)(v_r3_sroa_6_07_i_i_i) + (u64)(18446744073709551615ull));
+    v_r14_i_i674_i = v_r34_i_i673_i > 1u;
+    if (v_r14_i_i674_i) { p_v_r3_sroa_0_08_i_i_i = v_r31_i_i672_i; p_v_r3_sroa_6_07_i_i_i = v_r34_i_i673_i; goto L_then_3_i_i_i; } else { p_v_r12_sroa_10_i_sroa_3_0_ph_i = v_scevgep_i_i_i; p_v_r12_sroa_10_i_sroa_5_0_ph_i = 1u; goto L_arm_1_i_i; }
 L_der_core_integer_uint_strip_exit_i_i:;
-    v_r7_i_i553_i = v_r24_sroa_3_0_copyload_i_i == 0u;
-    if (v_r7_i_i553_i) { p_v_common_ret_op_i = 4u; goto L_pkcs1_c_private_key_pkcs1_c_private_key_encode_exi; } else { p_v_r12_sroa_10_i_sroa_3_0_ph_i = v_r24_sroa_0_0_copyload_i_i; p_v_r12_sroa_10_i_sroa_5_0_ph_i = 1u; goto L_arm_1_i_i; }
-L_join_3_i561_i:;
-    v_r49_i562_i = v_r3_sroa_6_07_i_i_i > 4294967295ull;
-    if (v_r49_i562_i) { p_v_common_ret_op_i = 8u; goto L_pkcs1_c_private_key_pkcs1_c_private_key_encode_exi; } else { p_v_r12_sroa_10_i_sroa_3_0_ph_i = v_r3_sroa_0_08_i_i_i; p_v_r12_sroa_10_i_sroa_5_0_ph_i = v_r3_sroa_6_07_i_i_i; goto L_arm_1_i_i; }
+    v_r7_i_i656_i = v_r24_sroa_3_0_copyload_i_i == 0u;
+    if (v_r7_i_i656_i) { p_v_common_ret_op_i = 4u; goto L_pkcs1_c_private_key_pkcs1_c_private_key_encode_exi; } else { p_v_r12_sroa_10_i_sroa_3_0_ph_i = v_r24_sroa_0_0_copyload_i_i; p_v_r12_sroa_10_i_sroa_5_0_ph_i = 1u; goto L_arm_1_i_i; }
+L_join_3_i665_i:;
+    v_r49_i666_i = v_r3_sroa_6_07_i_i_i > 4294967295ull;
+    if (v_r49_i666_i) { p_v_common_ret_op_i = 8u; goto L_pkcs1_c_private_key_pkcs1_c_private_key_encode_exi; } else { p_v_r12_sroa_10_i_sroa_3_0_ph_i = v_r3_sroa_0_08_i_i_i; p_v_r12_sroa_10_i_sroa_5_0_ph_i = v_r3_sroa_6_07_i_i_i; goto L_arm_1_i_i; }
 L_arm_1_i_i:;
     v_r12_sroa_10_i_sroa_3_0_ph_i = p_v_r12_sroa_10_i_sroa_3_0_ph_i;
     v_r12_sroa_10_i_sroa_5_0_ph_i = p_v_r12_sroa_10_i_sroa_5_0_ph_i;
@@ -36541,103 +36306,95 @@ L_arm_1_i_i:;
     v_r30_sroa_0_0_copyload_i_i = get_P(v_r104_i_i);
     v_r30_sroa_3_0_r104_sroa_idx_i_i = v_a0 + 24;
     v_r30_sroa_3_0_copyload_i_i = get_u64(v_r30_sroa_3_0_r104_sroa_idx_i_i);
-    v_r146_i_i601_i = v_r30_sroa_3_0_copyload_i_i > 1u;
-    if (v_r146_i_i601_i) { goto L_then_3_preheader_i_i614_i; } else { goto L_der_core_integer_uint_strip_exit_i602_i; }
-L_then_3_preheader_i_i614_i:;
+    v_r146_i_i706_i = v_r30_sroa_3_0_copyload_i_i > 1u;
+    if (v_r146_i_i706_i) { goto L_then_3_preheader_i_i719_i; } else { goto L_der_core_integer_uint_strip_exit_i707_i; }
+L_then_3_preheader_i_i719_i:;
     v_1 = (P)((uintptr_t)v_r30_sroa_0_0_copyload_i_i + (u64)(v_r30_sroa_3_0_copyload_i_i));
-    v_scevgep_i_i615_i = (P)((uintptr_t)v_1 + (u64)(-1));
-    { p_v_r3_sroa_0_08_i_i617_i = v_r30_sroa_0_0_copyload_i_i; p_v_r3_sroa_6_07_i_i618_i = v_r30_sroa_3_0_copyload_i_i; goto L_then_3_i_i616_i; }
-L_then_3_i_i616_i:;
-    v_r3_sroa_0_08_i_i617_i = p_v_r3_sroa_0_08_i_i617_i;
-    v_r3_sroa_6_07_i_i618_i = p_v_r3_sroa_6_07_i_i618_i;
-    v_r21_i_i619_i = get_u8(v_r3_sroa_0_08_i_i617_i);
-    v_r23_i_i620_i = v_r21_i_i619_i == 0u;
-    if (v_r23_i_i620_i) { goto L_join_5_i_i628_i; } else { goto L_join_3_i621_i; }
-L_join_5_i_i628_i:;
-    v_r31_i_i629_i = v_r3_sroa_0_08_i_i617_i + 1;
-    v_r34_i_i630_i = (u64)((u64)(v_r3_sroa_6_07_i_i618_i) + (u64)(18446744073709551615ull));
-    v_r14_i_i631_i = v_r34_i_i630_i > 1u;
-    if (v_r14_i_i631_i) { p_v_r3_sroa_0_08_i_i617_i = v_r31_i_i629_i; p_v_r3_sroa_6_07_i_i618_i = v_r34_i_i630_i; goto L_then_3_i_i616_i; } else { p_v_r1_sroa_0_0_copyload_i_i191_i_i_i_ph_i = v_scevgep_i_i615_i; goto L_arm_5_ithread_pre_split_i; }
-L_der_core_integer_uint_strip_exit_i602_i:;
-    v_r7_i_i603_i = v_r30_sroa_3_0_copyload_i_i == 0u;
-    if (v_r7_i_i603_i) { p_v_common_ret_op_i = 4u; goto L_pkcs1_c_private_key_pkcs1_c_private_key_encode_exi; } else { p_v_r1_sroa_0_0_copyload_i_i191_i_i_i_ph_i = v_r30_sroa_0_0_copyload_i_i; goto L_arm_5_ithread_pre_split_i; }
-L_join_3_i621_i:;
-    v_r49_i622_i = v_r3_sroa_6_07_i_i618_i > 4294967295ull;
-    if (v_r49_i622_i) { p_v_common_ret_op_i = 8u; goto L_pkcs1_c_private_key_pkcs1_c_private_key_encode_exi; } else { p_v_r20_i326_i = v_r21_i_i619_i; p_v_r1_sroa_0_0_copyload_i_i191_i_i_i_i = v_r3_sroa_0_08_i_i617_i; p_v_r1_sroa_3_0_copyload_i_i193_i_i_i_i = v_r3_sroa_6_07_i_i618_i; goto L_arm_5_i_i; }
-L_arm_5_ithread_pre_split_i:;
-    v_r1_sroa_0_0_copyload_i_i191_i_i_i_ph_i = p_v_r1_sroa_0_0_copyload_i_i191_i_i_i_ph_i;
-    v_r20_i326_pr_i = get_u8(v_r1_sroa_0_0_copyload_i_i191_i_i_i_ph_i);
-    { p_v_r20_i326_i = v_r20_i326_pr_i; p_v_r1_sroa_0_0_copyload_i_i191_i_i_i_i = v_r1_sroa_0_0_copyload_i_i191_i_i_i_ph_i; p_v_r1_sroa_3_0_copyload_i_i193_i_i_i_i = 1u; goto L_arm_5_i_i; }
+    v_scevgep_i_i720_i = (P)((uintptr_t)v_1 + (u64)(-1));
+    { p_v_r3_sroa_0_08_i_i722_i = v_r30_sroa_0_0_copyload_i_i; p_v_r3_sroa_6_07_i_i723_i = v_r30_sroa_3_0_copyload_i_i; goto L_then_3_i_i721_i; }
+L_then_3_i_i721_i:;
+    v_r3_sroa_0_08_i_i722_i = p_v_r3_sroa_0_08_i_i722_i;
+    v_r3_sroa_6_07_i_i723_i = p_v_r3_sroa_6_07_i_i723_i;
+    v_r21_i_i724_i = get_u8(v_r3_sroa_0_08_i_i722_i);
+    v_r23_i_i725_i = v_r21_i_i724_i == 0u;
+    if (v_r23_i_i725_i) { goto L_join_5_i_i733_i; } else { goto L_join_3_i726_i; }
+L_join_5_i_i733_i:;
+    v_r31_i_i734_i = v_r3_sroa_0_08_i_i722_i + 1;
+    v_r34_i_i735_i = (u64)((u64)(v_r3_sroa_6_07_i_i723_i) + (u64)(18446744073709551615ull));
+    v_r14_i_i736_i = v_r34_i_i735_i > 1u;
+    if (v_r14_i_i736_i) { p_v_r3_sroa_0_08_i_i722_i = v_r31_i_i734_i; p_v_r3_sroa_6_07_i_i723_i = v_r34_i_i735_i; goto L_then_3_i_i721_i; } else { p_v_r12_sroa_10_i745_sroa_3_0_ph_i = v_scevgep_i_i720_i; p_v_r12_sroa_10_i745_sroa_5_0_ph_i = 1u; goto L_arm_5_i_i; }
+L_der_core_integer_uint_strip_exit_i707_i:;
+    v_r7_i_i708_i = v_r30_sroa_3_0_copyload_i_i == 0u;
+    if (v_r7_i_i708_i) { p_v_common_ret_op_i = 4u; goto L_pkcs1_c_private_key_pkcs1_c_private_key_encode_exi; } else { p_v_r12_sroa_10_i745_sroa_3_0_ph_i = v_r30_sroa_0_0_copyload_i_i; p_v_r12_sroa_10_i745_sroa_5_0_ph_i = 1u; goto L_arm_5_i_i; }
+L_join_3_i726_i:;
+    v_r49_i727_i = v_r3_sroa_6_07_i_i723_i > 4294967295ull;
+    if (v_r49_i727_i) { p_v_common_ret_op_i = 8u; goto L_pkcs1_c_private_key_pkcs1_c_private_key_encode_exi; } else { p_v_r12_sroa_10_i745_sroa_3_0_ph_i = v_r3_sroa_0_08_i_i722_i; p_v_r12_sroa_10_i745_sroa_5_0_ph_i = v_r3_sroa_6_07_i_i723_i; goto L_arm_5_i_i; }
 L_arm_5_i_i:;
-    v_r20_i326_i = p_v_r20_i326_i;
-    v_r1_sroa_0_0_copyload_i_i191_i_i_i_i = p_v_r1_sroa_0_0_copyload_i_i191_i_i_i_i;
-    v_r1_sroa_3_0_copyload_i_i193_i_i_i_i = p_v_r1_sroa_3_0_copyload_i_i193_i_i_i_i;
+    v_r12_sroa_10_i745_sroa_3_0_ph_i = p_v_r12_sroa_10_i745_sroa_3_0_ph_i;
+    v_r12_sroa_10_i745_sroa_5_0_ph_i = p_v_r12_sroa_10_i745_sroa_5_0_ph_i;
+    v_r20_i326_i = get_u8(v_r12_sroa_10_i745_sroa_3_0_ph_i);
     v_r20_i326_lobit_i = (u8)((u32)(v_r20_i326_i) >> (u32)((7u & 31)));
     v_i328_i = (u64)v_r20_i326_lobit_i;
     v_r133_i_i = v_a0 + 32;
     v_r36_sroa_0_0_copyload_i_i = get_P(v_r133_i_i);
     v_r36_sroa_3_0_r133_sroa_idx_i_i = v_a0 + 40;
     v_r36_sroa_3_0_copyload_i_i = get_u64(v_r36_sroa_3_0_r133_sroa_idx_i_i);
-    v_r146_i_i695_i = v_r36_sroa_3_0_copyload_i_i > 1u;
-    if (v_r146_i_i695_i) { goto L_then_3_preheader_i_i708_i; } else { goto L_der_core_integer_uint_strip_exit_i696_i; }
-L_then_3_preheader_i_i708_i:;
+    v_r146_i_i800_i = v_r36_sroa_3_0_copyload_i_i > 1u;
+    if (v_r146_i_i800_i) { goto L_then_3_preheader_i_i813_i; } else { goto L_der_core_integer_uint_strip_exit_i801_i; }
+L_then_3_preheader_i_i813_i:;
     v_2 = (P)((uintptr_t)v_r36_sroa_0_0_copyload_i_i + (u64)(v_r36_sroa_3_0_copyload_i_i));
-    v_scevgep_i_i709_i = (P)((uintptr_t)v_2 + (u64)(-1));
-    { p_v_r3_sroa_0_08_i_i711_i = v_r36_sroa_0_0_copyload_i_i; p_v_r3_sroa_6_07_i_i712_i = v_r36_sroa_3_0_copyload_i_i; goto L_then_3_i_i710_i; }
-L_then_3_i_i710_i:;
-    v_r3_sroa_0_08_i_i711_i = p_v_r3_sroa_0_08_i_i711_i;
-    v_r3_sroa_6_07_i_i712_i = p_v_r3_sroa_6_07_i_i712_i;
-    v_r21_i_i713_i = get_u8(v_r3_sroa_0_08_i_i711_i);
-    v_r23_i_i714_i = v_r21_i_i713_i == 0u;
-    if (v_r23_i_i714_i) { goto L_join_5_i_i722_i; } else { goto L_join_3_i715_i; }
-L_join_5_i_i722_i:;
-    v_r31_i_i723_i = v_r3_sroa_0_08_i_i711_i + 1;
-    v_r34_i_i724_i = (u64)((u64)(v_r3_sroa_6_07_i_i712_i) + (u64)(18446744073709551615ull));
-    v_r14_i_i725_i = v_r34_i_i724_i > 1u;
-    if (v_r14_i_i725_i) { p_v_r3_sroa_0_08_i_i711_i = v_r31_i_i723_i; p_v_r3_sroa_6_07_i_i712_i = v_r34_i_i724_i; goto L_then_3_i_i710_i; } else { p_v_r1_sroa_0_0_copyload_i_i158_i_i_i_ph_i = v_scevgep_i_i709_i; goto L_arm_8_ithread_pre_split_i; }
-L_der_core_integer_uint_strip_exit_i696_i:;
-    v_r7_i_i697_i = v_r36_sroa_3_0_copyload_i_i == 0u;
-    if (v_r7_i_i697_i) { p_v_common_ret_op_i = 4u; goto L_pkcs1_c_private_key_pkcs1_c_private_key_encode_exi; } else { p_v_r1_sroa_0_0_copyload_i_i158_i_i_i_ph_i = v_r36_sroa_0_0_copyload_i_i; goto L_arm_8_ithread_pre_split_i; }
-L_join_3_i715_i:;
-    v_r49_i716_i = v_r3_sroa_6_07_i_i712_i > 4294967295ull;
-    if (v_r49_i716_i) { p_v_common_ret_op_i = 8u; goto L_pkcs1_c_private_key_pkcs1_c_private_key_encode_exi; } else { p_v_r20_i336_i = v_r21_i_i713_i; p_v_r1_sroa_0_0_copyload_i_i158_i_i_i_i = v_r3_sroa_0_08_i_i711_i; p_v_r1_sroa_3_0_copyload_i_i160_i_i_i_i = v_r3_sroa_6_07_i_i712_i; goto L_arm_8_i_i; }
-L_arm_8_ithread_pre_split_i:;
-    v_r1_sroa_0_0_copyload_i_i158_i_i_i_ph_i = p_v_r1_sroa_0_0_copyload_i_i158_i_i_i_ph_i;
-    v_r20_i336_pr_i = get_u8(v_r1_sroa_0_0_copyload_i_i158_i_i_i_ph_i);
-    { p_v_r20_i336_i = v_r20_i336_pr_i; p_v_r1_sroa_0_0_copyload_i_i158_i_i_i_i = v_r1_sroa_0_0_copyload_i_i158_i_i_i_ph_i; p_v_r1_sroa_3_0_copyload_i_i160_i_i_i_i = 1u; goto L_arm_8_i_i; }
+    v_scevgep_i_i814_i = (P)((uintptr_t)v_2 + (u64)(-1));
+    { p_v_r3_sroa_0_08_i_i816_i = v_r36_sroa_0_0_copyload_i_i; p_v_r3_sroa_6_07_i_i817_i = v_r36_sroa_3_0_copyload_i_i; goto L_then_3_i_i815_i; }
+L_then_3_i_i815_i:;
+    v_r3_sroa_0_08_i_i816_i = p_v_r3_sroa_0_08_i_i816_i;
+    v_r3_sroa_6_07_i_i817_i = p_v_r3_sroa_6_07_i_i817_i;
+    v_r21_i_i818_i = get_u8(v_r3_sroa_0_08_i_i816_i);
+    v_r23_i_i819_i = v_r21_i_i818_i == 0u;
+    if (v_r23_i_i819_i) { goto L_join_5_i_i827_i; } else { goto L_join_3_i820_i; }
+L_join_5_i_i827_i:;
+    v_r31_i_i828_i = v_r3_sroa_0_08_i_i816_i + 1;
+    v_r34_i_i829_i = (u64)((u64)(v_r3_sroa_6_07_i_i817_i) + (u64)(18446744073709551615ull));
+    v_r14_i_i830_i = v_r34_i_i829_i > 1u;
+    if (v_r14_i_i830_i) { p_v_r3_sroa_0_08_i_i816_i = v_r31_i_i828_i; p_v_r3_sroa_6_07_i_i817_i = v_r34_i_i829_i; goto L_then_3_i_i815_i; } else { p_v_r1_sroa_0_0_copyload_i_i158_i_i_i_i = v_scevgep_i_i814_i; p_v_r1_sroa_3_0_copyload_i_i160_i_i_i_i = 1u; goto L_arm_8_i_i; }
+L_der_core_integer_uint_strip_exit_i801_i:;
+    v_r7_i_i802_i = v_r36_sroa_3_0_copyload_i_i == 0u;
+    if (v_r7_i_i802_i) { p_v_common_ret_op_i = 4u; goto L_pkcs1_c_private_key_pkcs1_c_private_key_encode_exi; } else { p_v_r1_sroa_0_0_copyload_i_i158_i_i_i_i = v_r36_sroa_0_0_copyload_i_i; p_v_r1_sroa_3_0_copyload_i_i160_i_i_i_i = 1u; goto L_arm_8_i_i; }
+L_join_3_i820_i:;
+    v_r49_i821_i = v_r3_sroa_6_07_i_i817_i > 4294967295ull;
+    if (v_r49_i821_i) { p_v_common_ret_op_i = 8u; goto L_pkcs1_c_private_key_pkcs1_c_private_key_encode_exi; } else { p_v_r1_sroa_0_0_copyload_i_i158_i_i_i_i = v_r3_sroa_0_08_i_i816_i; p_v_r1_sroa_3_0_copyload_i_i160_i_i_i_i = v_r3_sroa_6_07_i_i817_i; goto L_arm_8_i_i; }
 L_arm_8_i_i:;
-    v_r20_i336_i = p_v_r20_i336_i;
     v_r1_sroa_0_0_copyload_i_i158_i_i_i_i = p_v_r1_sroa_0_0_copyload_i_i158_i_i_i_i;
     v_r1_sroa_3_0_copyload_i_i160_i_i_i_i = p_v_r1_sroa_3_0_copyload_i_i160_i_i_i_i;
+    v_r20_i336_i = get_u8(v_r1_sroa_0_0_copyload_i_i158_i_i_i_i);
     v_r20_i336_lobit_i = (u8)((u32)(v_r20_i336_i) >> (u32)((7u & 31)));
     v_i338_i = (u64)v_r20_i336_lobit_i;
     v_r162_i_i = v_a0 + 48;
     v_r42_sroa_0_0_copyload_i_i = get_P(v_r162_i_i);
     v_r42_sroa_3_0_r162_sroa_idx_i_i = v_a0 + 56;
     v_r42_sroa_3_0_copyload_i_i = get_u64(v_r42_sroa_3_0_r162_sroa_idx_i_i);
-    v_r146_i_i792_i = v_r42_sroa_3_0_copyload_i_i > 1u;
-    if (v_r146_i_i792_i) { goto L_then_3_preheader_i_i805_i; } else { goto L_der_core_integer_uint_strip_exit_i793_i; }
-L_then_3_preheader_i_i805_i:;
+    v_r146_i_i897_i = v_r42_sroa_3_0_copyload_i_i > 1u;
+    if (v_r146_i_i897_i) { goto L_then_3_preheader_i_i910_i; } else { goto L_der_core_integer_uint_strip_exit_i898_i; }
+L_then_3_preheader_i_i910_i:;
     v_3 = (P)((uintptr_t)v_r42_sroa_0_0_copyload_i_i + (u64)(v_r42_sroa_3_0_copyload_i_i));
-    v_scevgep_i_i806_i = (P)((uintptr_t)v_3 + (u64)(-1));
-    { p_v_r3_sroa_0_08_i_i808_i = v_r42_sroa_0_0_copyload_i_i; p_v_r3_sroa_6_07_i_i809_i = v_r42_sroa_3_0_copyload_i_i; goto L_then_3_i_i807_i; }
-L_then_3_i_i807_i:;
-    v_r3_sroa_0_08_i_i808_i = p_v_r3_sroa_0_08_i_i808_i;
-    v_r3_sroa_6_07_i_i809_i = p_v_r3_sroa_6_07_i_i809_i;
-    v_r21_i_i810_i = get_u8(v_r3_sroa_0_08_i_i808_i);
-    v_r23_i_i811_i = v_r21_i_i810_i == 0u;
-    if (v_r23_i_i811_i) { goto L_join_5_i_i819_i; } else { goto L_join_3_i812_i; }
-L_join_5_i_i819_i:;
-    v_r31_i_i820_i = v_r3_sroa_0_08_i_i808_i + 1;
-    v_r34_i_i821_i = (u64)((u64)(v_r3_sroa_6_07_i_i809_i) + (u64)(18446744073709551615ull));
-    v_r14_i_i822_i = v_r34_i_i821_i > 1u;
-    if (v_r14_i_i822_i) { p_v_r3_sroa_0_08_i_i808_i = v_r31_i_i820_i; p_v_r3_sroa_6_07_i_i809_i = v_r34_i_i821_i; goto L_then_3_i_i807_i; } else { p_v_r1_sroa_0_0_copyload_i_i125_i_i_i_ph_i = v_scevgep_i_i806_i; goto L_arm_11_ithread_pre_split_i; }
-L_der_core_integer_uint_strip_exit_i793_i:;
-    v_r7_i_i794_i = v_r42_sroa_3_0_copyload_i_i == 0u;
-    if (v_r7_i_i794_i) { p_v_common_ret_op_i = 4u; goto L_pkcs1_c_private_key_pkcs1_c_private_key_encode_exi; } else { p_v_r1_sroa_0_0_copyload_i_i125_i_i_i_ph_i = v_r42_sroa_0_0_copyload_i_i; goto L_arm_11_ithread_pre_split_i; }
-L_join_3_i812_i:;
-    v_r49_i813_i = v_r3_sroa_6_07_i_i809_i > 4294967295ull;
-    if (v_r49_i813_i) { p_v_common_ret_op_i = 8u; goto L_pkcs1_c_private_key_pkcs1_c_private_key_encode_exi; } else { p_v_r20_i346_i = v_r21_i_i810_i; p_v_r1_sroa_0_0_copyload_i_i125_i_i_i_i = v_r3_sroa_0_08_i_i808_i; p_v_r1_sroa_3_0_copyload_i_i127_i_i_i_i = v_r3_sroa_6_07_i_i809_i; goto L_arm_11_i_i; }
+    v_scevgep_i_i911_i = (P)((uintptr_t)v_3 + (u64)(-1));
+    { p_v_r3_sroa_0_08_i_i913_i = v_r42_sroa_0_0_copyload_i_i; p_v_r3_sroa_6_07_i_i914_i = v_r42_sroa_3_0_copyload_i_i; goto L_then_3_i_i912_i; }
+L_then_3_i_i912_i:;
+    v_r3_sroa_0_08_i_i913_i = p_v_r3_sroa_0_08_i_i913_i;
+    v_r3_sroa_6_07_i_i914_i = p_v_r3_sroa_6_07_i_i914_i;
+    v_r21_i_i915_i = get_u8(v_r3_sroa_0_08_i_i913_i);
+    v_r23_i_i916_i = v_r21_i_i915_i == 0u;
+    if (v_r23_i_i916_i) { goto L_join_5_i_i924_i; } else { goto L_join_3_i917_i; }
+L_join_5_i_i924_i:;
+    v_r31_i_i925_i = v_r3_sroa_0_08_i_i913_i + 1;
+    v_r34_i_i926_i = (u64)((u64)(v_r3_sroa_6_07_i_i914_i) + (u64)(18446744073709551615ull));
+    v_r14_i_i927_i = v_r34_i_i926_i > 1u;
+    if (v_r14_i_i927_i) { p_v_r3_sroa_0_08_i_i913_i = v_r31_i_i925_i; p_v_r3_sroa_6_07_i_i914_i = v_r34_i_i926_i; goto L_then_3_i_i912_i; } else { p_v_r1_sroa_0_0_copyload_i_i125_i_i_i_ph_i = v_scevgep_i_i911_i; goto L_arm_11_ithread_pre_split_i; }
+L_der_core_integer_uint_strip_exit_i898_i:;
+    v_r7_i_i899_i = v_r42_sroa_3_0_copyload_i_i == 0u;
+    if (v_r7_i_i899_i) { p_v_common_ret_op_i = 4u; goto L_pkcs1_c_private_key_pkcs1_c_private_key_encode_exi; } else { p_v_r1_sroa_0_0_copyload_i_i125_i_i_i_ph_i = v_r42_sroa_0_0_copyload_i_i; goto L_arm_11_ithread_pre_split_i; }
+L_join_3_i917_i:;
+    v_r49_i918_i = v_r3_sroa_6_07_i_i914_i > 4294967295ull;
+    if (v_r49_i918_i) { p_v_common_ret_op_i = 8u; goto L_pkcs1_c_private_key_pkcs1_c_private_key_encode_exi; } else { p_v_r20_i346_i = v_r21_i_i915_i; p_v_r1_sroa_0_0_copyload_i_i125_i_i_i_i = v_r3_sroa_0_08_i_i913_i; p_v_r1_sroa_3_0_copyload_i_i127_i_i_i_i = v_r3_sroa_6_07_i_i914_i; goto L_arm_11_i_i; }
 L_arm_11_ithread_pre_split_i:;
     v_r1_sroa_0_0_copyload_i_i125_i_i_i_ph_i = p_v_r1_sroa_0_0_copyload_i_i125_i_i_i_ph_i;
     v_r20_i346_pr_i = get_u8(v_r1_sroa_0_0_copyload_i_i125_i_i_i_ph_i);
@@ -36652,29 +36409,29 @@ L_arm_11_i_i:;
     v_r48_sroa_0_0_copyload_i_i = get_P(v_r191_i_i);
     v_r48_sroa_3_0_r191_sroa_idx_i_i = v_a0 + 72;
     v_r48_sroa_3_0_copyload_i_i = get_u64(v_r48_sroa_3_0_r191_sroa_idx_i_i);
-    v_r146_i_i889_i = v_r48_sroa_3_0_copyload_i_i > 1u;
-    if (v_r146_i_i889_i) { goto L_then_3_preheader_i_i902_i; } else { goto L_der_core_integer_uint_strip_exit_i890_i; }
-L_then_3_preheader_i_i902_i:;
+    v_r146_i_i994_i = v_r48_sroa_3_0_copyload_i_i > 1u;
+    if (v_r146_i_i994_i) { goto L_then_3_preheader_i_i1007_i; } else { goto L_der_core_integer_uint_strip_exit_i995_i; }
+L_then_3_preheader_i_i1007_i:;
     v_4 = (P)((uintptr_t)v_r48_sroa_0_0_copyload_i_i + (u64)(v_r48_sroa_3_0_copyload_i_i));
-    v_scevgep_i_i903_i = (P)((uintptr_t)v_4 + (u64)(-1));
-    { p_v_r3_sroa_0_08_i_i905_i = v_r48_sroa_0_0_copyload_i_i; p_v_r3_sroa_6_07_i_i906_i = v_r48_sroa_3_0_copyload_i_i; goto L_then_3_i_i904_i; }
-L_then_3_i_i904_i:;
-    v_r3_sroa_0_08_i_i905_i = p_v_r3_sroa_0_08_i_i905_i;
-    v_r3_sroa_6_07_i_i906_i = p_v_r3_sroa_6_07_i_i906_i;
-    v_r21_i_i907_i = get_u8(v_r3_sroa_0_08_i_i905_i);
-    v_r23_i_i908_i = v_r21_i_i907_i == 0u;
-    if (v_r23_i_i908_i) { goto L_join_5_i_i916_i; } else { goto L_join_3_i909_i; }
-L_join_5_i_i916_i:;
-    v_r31_i_i917_i = v_r3_sroa_0_08_i_i905_i + 1;
-    v_r34_i_i918_i = (u64)((u64)(v_r3_sroa_6_07_i_i906_i) + (u64)(18446744073709551615ull));
-    v_r14_i_i919_i = v_r34_i_i918_i > 1u;
-    if (v_r14_i_i919_i) { p_v_r3_sroa_0_08_i_i905_i = v_r31_i_i917_i; p_v_r3_sroa_6_07_i_i906_i = v_r34_i_i918_i; goto L_then_3_i_i904_i; } else { p_v_r1_sroa_0_0_copyload_i_i92_i_i_i_ph_i = v_scevgep_i_i903_i; goto L_arm_14_ithread_pre_split_i; }
-L_der_core_integer_uint_strip_exit_i890_i:;
-    v_r7_i_i891_i = v_r48_sroa_3_0_copyload_i_i == 0u;
-    if (v_r7_i_i891_i) { p_v_common_ret_op_i = 4u; goto L_pkcs1_c_private_key_pkcs1_c_private_key_encode_exi; } else { p_v_r1_sroa_0_0_copyload_i_i92_i_i_i_ph_i = v_r48_sroa_0_0_copyload_i_i; goto L_arm_14_ithread_pre_split_i; }
-L_join_3_i909_i:;
-    v_r49_i910_i = v_r3_sroa_6_07_i_i906_i > 4294967295ull;
-    if (v_r49_i910_i) { p_v_common_ret_op_i = 8u; goto L_pkcs1_c_private_key_pkcs1_c_private_key_encode_exi; } else { p_v_r20_i356_i = v_r21_i_i907_i; p_v_r1_sroa_0_0_copyload_i_i92_i_i_i_i = v_r3_sroa_0_08_i_i905_i; p_v_r1_sroa_3_0_copyload_i_i94_i_i_i_i = v_r3_sroa_6_07_i_i906_i; goto L_arm_14_i_i; }
+    v_scevgep_i_i1008_i = (P)((uintptr_t)v_4 + (u64)(-1));
+    { p_v_r3_sroa_0_08_i_i1010_i = v_r48_sroa_0_0_copyload_i_i; p_v_r3_sroa_6_07_i_i1011_i = v_r48_sroa_3_0_copyload_i_i; goto L_then_3_i_i1009_i; }
+L_then_3_i_i1009_i:;
+    v_r3_sroa_0_08_i_i1010_i = p_v_r3_sroa_0_08_i_i1010_i;
+    v_r3_sroa_6_07_i_i1011_i = p_v_r3_sroa_6_07_i_i1011_i;
+    v_r21_i_i1012_i = get_u8(v_r3_sroa_0_08_i_i1010_i);
+    v_r23_i_i1013_i = v_r21_i_i1012_i == 0u;
+    if (v_r23_i_i1013_i) { goto L_join_5_i_i1021_i; } else { goto L_join_3_i1014_i; }
+L_join_5_i_i1021_i:;
+    v_r31_i_i1022_i = v_r3_sroa_0_08_i_i1010_i + 1;
+    v_r34_i_i1023_i = (u64)((u64)(v_r3_sroa_6_07_i_i1011_i) + (u64)(18446744073709551615ull));
+    v_r14_i_i1024_i = v_r34_i_i1023_i > 1u;
+    if (v_r14_i_i1024_i) { p_v_r3_sroa_0_08_i_i1010_i = v_r31_i_i1022_i; p_v_r3_sroa_6_07_i_i1011_i = v_r34_i_i1023_i; goto L_then_3_i_i1009_i; } else { p_v_r1_sroa_0_0_copyload_i_i92_i_i_i_ph_i = v_scevgep_i_i1008_i; goto L_arm_14_ithread_pre_split_i; }
+L_der_core_integer_uint_strip_exit_i995_i:;
+    v_r7_i_i996_i = v_r48_sroa_3_0_copyload_i_i == 0u;
+    if (v_r7_i_i996_i) { p_v_common_ret_op_i = 4u; goto L_pkcs1_c_private_key_pkcs1_c_private_key_encode_exi; } else { p_v_r1_sroa_0_0_copyload_i_i92_i_i_i_ph_i = v_r48_sroa_0_0_copyload_i_i; goto L_arm_14_ithread_pre_split_i; }
+L_join_3_i1014_i:;
+    v_r49_i1015_i = v_r3_sroa_6_07_i_i1011_i > 4294967295ull;
+    if (v_r49_i1015_i) { p_v_common_ret_op_i = 8u; goto L_pkcs1_c_private_key_pkcs1_c_private_key_encode_exi; } else { p_v_r20_i356_i = v_r21_i_i1012_i; p_v_r1_sroa_0_0_copyload_i_i92_i_i_i_i = v_r3_sroa_0_08_i_i1010_i; p_v_r1_sroa_3_0_copyload_i_i94_i_i_i_i = v_r3_sroa_6_07_i_i1011_i; goto L_arm_14_i_i; }
 L_arm_14_ithread_pre_split_i:;
     v_r1_sroa_0_0_copyload_i_i92_i_i_i_ph_i = p_v_r1_sroa_0_0_copyload_i_i92_i_i_i_ph_i;
     v_r20_i356_pr_i = get_u8(v_r1_sroa_0_0_copyload_i_i92_i_i_i_ph_i);
@@ -36689,29 +36446,29 @@ L_arm_14_i_i:;
     v_r54_sroa_0_0_copyload_i_i = get_P(v_r220_i_i);
     v_r54_sroa_3_0_r220_sroa_idx_i_i = v_a0 + 88;
     v_r54_sroa_3_0_copyload_i_i = get_u64(v_r54_sroa_3_0_r220_sroa_idx_i_i);
-    v_r146_i_i986_i = v_r54_sroa_3_0_copyload_i_i > 1u;
-    if (v_r146_i_i986_i) { goto L_then_3_preheader_i_i999_i; } else { goto L_der_core_integer_uint_strip_exit_i987_i; }
-L_then_3_preheader_i_i999_i:;
+    v_r146_i_i1091_i = v_r54_sroa_3_0_copyload_i_i > 1u;
+    if (v_r146_i_i1091_i) { goto L_then_3_preheader_i_i1104_i; } else { goto L_der_core_integer_uint_strip_exit_i1092_i; }
+L_then_3_preheader_i_i1104_i:;
     v_5 = (P)((uintptr_t)v_r54_sroa_0_0_copyload_i_i + (u64)(v_r54_sroa_3_0_copyload_i_i));
-    v_scevgep_i_i1000_i = (P)((uintptr_t)v_5 + (u64)(-1));
-    { p_v_r3_sroa_0_08_i_i1002_i = v_r54_sroa_0_0_copyload_i_i; p_v_r3_sroa_6_07_i_i1003_i = v_r54_sroa_3_0_copyload_i_i; goto L_then_3_i_i1001_i; }
-L_then_3_i_i1001_i:;
-    v_r3_sroa_0_08_i_i1002_i = p_v_r3_sroa_0_08_i_i1002_i;
-    v_r3_sroa_6_07_i_i1003_i = p_v_r3_sroa_6_07_i_i1003_i;
-    v_r21_i_i1004_i = get_u8(v_r3_sroa_0_08_i_i1002_i);
-    v_r23_i_i1005_i = v_r21_i_i1004_i == 0u;
-    if (v_r23_i_i1005_i) { goto L_join_5_i_i1013_i; } else { goto L_join_3_i1006_i; }
-L_join_5_i_i1013_i:;
-    v_r31_i_i1014_i = v_r3_sroa_0_08_i_i1002_i + 1;
-    v_r34_i_i1015_i = (u64)((u64)(v_r3_sroa_6_07_i_i1003_i) + (u64)(18446744073709551615ull));
-    v_r14_i_i1016_i = v_r34_i_i1015_i > 1u;
-    if (v_r14_i_i1016_i) { p_v_r3_sroa_0_08_i_i1002_i = v_r31_i_i1014_i; p_v_r3_sroa_6_07_i_i1003_i = v_r34_i_i1015_i; goto L_then_3_i_i1001_i; } else { p_v_r1_sroa_0_0_copyload_i_i59_i_i_i_ph_i = v_scevgep_i_i1000_i; goto L_arm_17_ithread_pre_split_i; }
-L_der_core_integer_uint_strip_exit_i987_i:;
-    v_r7_i_i988_i = v_r54_sroa_3_0_copyload_i_i == 0u;
-    if (v_r7_i_i988_i) { p_v_common_ret_op_i = 4u; goto L_pkcs1_c_private_key_pkcs1_c_private_key_encode_exi; } else { p_v_r1_sroa_0_0_copyload_i_i59_i_i_i_ph_i = v_r54_sroa_0_0_copyload_i_i; goto L_arm_17_ithread_pre_split_i; }
-L_join_3_i1006_i:;
-    v_r49_i1007_i = v_r3_sroa_6_07_i_i1003_i > 4294967295ull;
-    if (v_r49_i1007_i) { p_v_common_ret_op_i = 8u; goto L_pkcs1_c_private_key_pkcs1_c_private_key_encode_exi; } else { p_v_r20_i366_i = v_r21_i_i1004_i; p_v_r1_sroa_0_0_copyload_i_i59_i_i_i_i = v_r3_sroa_0_08_i_i1002_i; p_v_r1_sroa_3_0_copyload_i_i61_i_i_i_i = v_r3_sroa_6_07_i_i1003_i; goto L_arm_17_i_i; }
+    v_scevgep_i_i1105_i = (P)((uintptr_t)v_5 + (u64)(-1));
+    { p_v_r3_sroa_0_08_i_i1107_i = v_r54_sroa_0_0_copyload_i_i; p_v_r3_sroa_6_07_i_i1108_i = v_r54_sroa_3_0_copyload_i_i; goto L_then_3_i_i1106_i; }
+L_then_3_i_i1106_i:;
+    v_r3_sroa_0_08_i_i1107_i = p_v_r3_sroa_0_08_i_i1107_i;
+    v_r3_sroa_6_07_i_i1108_i = p_v_r3_sroa_6_07_i_i1108_i;
+    v_r21_i_i1109_i = get_u8(v_r3_sroa_0_08_i_i1107_i);
+    v_r23_i_i1110_i = v_r21_i_i1109_i == 0u;
+    if (v_r23_i_i1110_i) { goto L_join_5_i_i1118_i; } else { goto L_join_3_i1111_i; }
+L_join_5_i_i1118_i:;
+    v_r31_i_i1119_i = v_r3_sroa_0_08_i_i1107_i + 1;
+    v_r34_i_i1120_i = (u64)((u64)(v_r3_sroa_6_07_i_i1108_i) + (u64)(18446744073709551615ull));
+    v_r14_i_i1121_i = v_r34_i_i1120_i > 1u;
+    if (v_r14_i_i1121_i) { p_v_r3_sroa_0_08_i_i1107_i = v_r31_i_i1119_i; p_v_r3_sroa_6_07_i_i1108_i = v_r34_i_i1120_i; goto L_then_3_i_i1106_i; } else { p_v_r1_sroa_0_0_copyload_i_i59_i_i_i_ph_i = v_scevgep_i_i1105_i; goto L_arm_17_ithread_pre_split_i; }
+L_der_core_integer_uint_strip_exit_i1092_i:;
+    v_r7_i_i1093_i = v_r54_sroa_3_0_copyload_i_i == 0u;
+    if (v_r7_i_i1093_i) { p_v_common_ret_op_i = 4u; goto L_pkcs1_c_private_key_pkcs1_c_private_key_encode_exi; } else { p_v_r1_sroa_0_0_copyload_i_i59_i_i_i_ph_i = v_r54_sroa_0_0_copyload_i_i; goto L_arm_17_ithread_pre_split_i; }
+L_join_3_i1111_i:;
+    v_r49_i1112_i = v_r3_sroa_6_07_i_i1108_i > 4294967295ull;
+    if (v_r49_i1112_i) { p_v_common_ret_op_i = 8u; goto L_pkcs1_c_private_key_pkcs1_c_private_key_encode_exi; } else { p_v_r20_i366_i = v_r21_i_i1109_i; p_v_r1_sroa_0_0_copyload_i_i59_i_i_i_i = v_r3_sroa_0_08_i_i1107_i; p_v_r1_sroa_3_0_copyload_i_i61_i_i_i_i = v_r3_sroa_6_07_i_i1108_i; goto L_arm_17_i_i; }
 L_arm_17_ithread_pre_split_i:;
     v_r1_sroa_0_0_copyload_i_i59_i_i_i_ph_i = p_v_r1_sroa_0_0_copyload_i_i59_i_i_i_ph_i;
     v_r20_i366_pr_i = get_u8(v_r1_sroa_0_0_copyload_i_i59_i_i_i_ph_i);
@@ -36726,29 +36483,29 @@ L_arm_17_i_i:;
     v_r60_sroa_0_0_copyload_i_i = get_P(v_r249_i_i);
     v_r60_sroa_3_0_r249_sroa_idx_i_i = v_a0 + 104;
     v_r60_sroa_3_0_copyload_i_i = get_u64(v_r60_sroa_3_0_r249_sroa_idx_i_i);
-    v_r146_i_i1083_i = v_r60_sroa_3_0_copyload_i_i > 1u;
-    if (v_r146_i_i1083_i) { goto L_then_3_preheader_i_i1096_i; } else { goto L_der_core_integer_uint_strip_exit_i1084_i; }
-L_then_3_preheader_i_i1096_i:;
+    v_r146_i_i1188_i = v_r60_sroa_3_0_copyload_i_i > 1u;
+    if (v_r146_i_i1188_i) { goto L_then_3_preheader_i_i1201_i; } else { goto L_der_core_integer_uint_strip_exit_i1189_i; }
+L_then_3_preheader_i_i1201_i:;
     v_6 = (P)((uintptr_t)v_r60_sroa_0_0_copyload_i_i + (u64)(v_r60_sroa_3_0_copyload_i_i));
-    v_scevgep_i_i1097_i = (P)((uintptr_t)v_6 + (u64)(-1));
-    { p_v_r3_sroa_0_08_i_i1099_i = v_r60_sroa_0_0_copyload_i_i; p_v_r3_sroa_6_07_i_i1100_i = v_r60_sroa_3_0_copyload_i_i; goto L_then_3_i_i1098_i; }
-L_then_3_i_i1098_i:;
-    v_r3_sroa_0_08_i_i1099_i = p_v_r3_sroa_0_08_i_i1099_i;
-    v_r3_sroa_6_07_i_i1100_i = p_v_r3_sroa_6_07_i_i1100_i;
-    v_r21_i_i1101_i = get_u8(v_r3_sroa_0_08_i_i1099_i);
-    v_r23_i_i1102_i = v_r21_i_i1101_i == 0u;
-    if (v_r23_i_i1102_i) { goto L_join_5_i_i1110_i; } else { goto L_join_3_i1103_i; }
-L_join_5_i_i1110_i:;
-    v_r31_i_i1111_i = v_r3_sroa_0_08_i_i1099_i + 1;
-    v_r34_i_i1112_i = (u64)((u64)(v_r3_sroa_6_07_i_i1100_i) + (u64)(18446744073709551615ull));
-    v_r14_i_i1113_i = v_r34_i_i1112_i > 1u;
-    if (v_r14_i_i1113_i) { p_v_r3_sroa_0_08_i_i1099_i = v_r31_i_i1111_i; p_v_r3_sroa_6_07_i_i1100_i = v_r34_i_i1112_i; goto L_then_3_i_i1098_i; } else { p_v_r1_sroa_0_0_copyload_i_i26_i_i_i_ph_i = v_scevgep_i_i1097_i; goto L_arm_20_ithread_pre_split_i; }
-L_der_core_integer_uint_strip_exit_i1084_i:;
-    v_r7_i_i1085_i = v_r60_sroa_3_0_copyload_i_i == 0u;
-    if (v_r7_i_i1085_i) { p_v_common_ret_op_i = 4u; goto L_pkcs1_c_private_key_pkcs1_c_private_key_encode_exi; } else { p_v_r1_sroa_0_0_copyload_i_i26_i_i_i_ph_i = v_r60_sroa_0_0_copyload_i_i; goto L_arm_20_ithread_pre_split_i; }
-L_join_3_i1103_i:;
-    v_r49_i1104_i = v_r3_sroa_6_07_i_i1100_i > 4294967295ull;
-    if (v_r49_i1104_i) { p_v_common_ret_op_i = 8u; goto L_pkcs1_c_private_key_pkcs1_c_private_key_encode_exi; } else { p_v_r20_i376_i = v_r21_i_i1101_i; p_v_r1_sroa_0_0_copyload_i_i26_i_i_i_i = v_r3_sroa_0_08_i_i1099_i; p_v_r1_sroa_3_0_copyload_i_i28_i_i_i_i = v_r3_sroa_6_07_i_i1100_i; goto L_arm_20_i_i; }
+    v_scevgep_i_i1202_i = (P)((uintptr_t)v_6 + (u64)(-1));
+    { p_v_r3_sroa_0_08_i_i1204_i = v_r60_sroa_0_0_copyload_i_i; p_v_r3_sroa_6_07_i_i1205_i = v_r60_sroa_3_0_copyload_i_i; goto L_then_3_i_i1203_i; }
+L_then_3_i_i1203_i:;
+    v_r3_sroa_0_08_i_i1204_i = p_v_r3_sroa_0_08_i_i1204_i;
+    v_r3_sroa_6_07_i_i1205_i = p_v_r3_sroa_6_07_i_i1205_i;
+    v_r21_i_i1206_i = get_u8(v_r3_sroa_0_08_i_i1204_i);
+    v_r23_i_i1207_i = v_r21_i_i1206_i == 0u;
+    if (v_r23_i_i1207_i) { goto L_join_5_i_i1215_i; } else { goto L_join_3_i1208_i; }
+L_join_5_i_i1215_i:;
+    v_r31_i_i1216_i = v_r3_sroa_0_08_i_i1204_i + 1;
+    v_r34_i_i1217_i = (u64)((u64)(v_r3_sroa_6_07_i_i1205_i) + (u64)(18446744073709551615ull));
+    v_r14_i_i1218_i = v_r34_i_i1217_i > 1u;
+    if (v_r14_i_i1218_i) { p_v_r3_sroa_0_08_i_i1204_i = v_r31_i_i1216_i; p_v_r3_sroa_6_07_i_i1205_i = v_r34_i_i1217_i; goto L_then_3_i_i1203_i; } else { p_v_r1_sroa_0_0_copyload_i_i26_i_i_i_ph_i = v_scevgep_i_i1202_i; goto L_arm_20_ithread_pre_split_i; }
+L_der_core_integer_uint_strip_exit_i1189_i:;
+    v_r7_i_i1190_i = v_r60_sroa_3_0_copyload_i_i == 0u;
+    if (v_r7_i_i1190_i) { p_v_common_ret_op_i = 4u; goto L_pkcs1_c_private_key_pkcs1_c_private_key_encode_exi; } else { p_v_r1_sroa_0_0_copyload_i_i26_i_i_i_ph_i = v_r60_sroa_0_0_copyload_i_i; goto L_arm_20_ithread_pre_split_i; }
+L_join_3_i1208_i:;
+    v_r49_i1209_i = v_r3_sroa_6_07_i_i1205_i > 4294967295ull;
+    if (v_r49_i1209_i) { p_v_common_ret_op_i = 8u; goto L_pkcs1_c_private_key_pkcs1_c_private_key_encode_exi; } else { p_v_r20_i376_i = v_r21_i_i1206_i; p_v_r1_sroa_0_0_copyload_i_i26_i_i_i_i = v_r3_sroa_0_08_i_i1204_i; p_v_r1_sroa_3_0_copyload_i_i28_i_i_i_i = v_r3_sroa_6_07_i_i1205_i; goto L_arm_20_i_i; }
 L_arm_20_ithread_pre_split_i:;
     v_r1_sroa_0_0_copyload_i_i26_i_i_i_ph_i = p_v_r1_sroa_0_0_copyload_i_i26_i_i_i_ph_i;
     v_r20_i376_pr_i = get_u8(v_r1_sroa_0_0_copyload_i_i26_i_i_i_ph_i);
@@ -36763,29 +36520,29 @@ L_arm_20_i_i:;
     v_r66_sroa_0_0_copyload_i_i = get_P(v_r278_i_i);
     v_r66_sroa_3_0_r278_sroa_idx_i_i = v_a0 + 120;
     v_r66_sroa_3_0_copyload_i_i = get_u64(v_r66_sroa_3_0_r278_sroa_idx_i_i);
-    v_r146_i_i1180_i = v_r66_sroa_3_0_copyload_i_i > 1u;
-    if (v_r146_i_i1180_i) { goto L_then_3_preheader_i_i1193_i; } else { goto L_der_core_integer_uint_strip_exit_i1181_i; }
-L_then_3_preheader_i_i1193_i:;
+    v_r146_i_i1285_i = v_r66_sroa_3_0_copyload_i_i > 1u;
+    if (v_r146_i_i1285_i) { goto L_then_3_preheader_i_i1298_i; } else { goto L_der_core_integer_uint_strip_exit_i1286_i; }
+L_then_3_preheader_i_i1298_i:;
     v_7 = (P)((uintptr_t)v_r66_sroa_0_0_copyload_i_i + (u64)(v_r66_sroa_3_0_copyload_i_i));
-    v_scevgep_i_i1194_i = (P)((uintptr_t)v_7 + (u64)(-1));
-    { p_v_r3_sroa_0_08_i_i1196_i = v_r66_sroa_0_0_copyload_i_i; p_v_r3_sroa_6_07_i_i1197_i = v_r66_sroa_3_0_copyload_i_i; goto L_then_3_i_i1195_i; }
-L_then_3_i_i1195_i:;
-    v_r3_sroa_0_08_i_i1196_i = p_v_r3_sroa_0_08_i_i1196_i;
-    v_r3_sroa_6_07_i_i1197_i = p_v_r3_sroa_6_07_i_i1197_i;
-    v_r21_i_i1198_i = get_u8(v_r3_sroa_0_08_i_i1196_i);
-    v_r23_i_i1199_i = v_r21_i_i1198_i == 0u;
-    if (v_r23_i_i1199_i) { goto L_join_5_i_i1207_i; } else { goto L_join_3_i1200_i; }
-L_join_5_i_i1207_i:;
-    v_r31_i_i1208_i = v_r3_sroa_0_08_i_i1196_i + 1;
-    v_r34_i_i1209_i = (u64)((u64)(v_r3_sroa_6_07_i_i1197_i) + (u64)(18446744073709551615ull));
-    v_r14_i_i1210_i = v_r34_i_i1209_i > 1u;
-    if (v_r14_i_i1210_i) { p_v_r3_sroa_0_08_i_i1196_i = v_r31_i_i1208_i; p_v_r3_sroa_6_07_i_i1197_i = v_r34_i_i1209_i; goto L_then_3_i_i1195_i; } else { p_v_r1_sroa_0_0_copyload_i_i_i_i_i_ph_i = v_scevgep_i_i1194_i; goto L_arm_23_ithread_pre_split_i; }
-L_der_core_integer_uint_strip_exit_i1181_i:;
-    v_r7_i_i1182_i = v_r66_sroa_3_0_copyload_i_i == 0u;
-    if (v_r7_i_i1182_i) { p_v_common_ret_op_i = 4u; goto L_pkcs1_c_private_key_pkcs1_c_private_key_encode_exi; } else { p_v_r1_sroa_0_0_copyload_i_i_i_i_i_ph_i = v_r66_sroa_0_0_copyload_i_i; goto L_arm_23_ithread_pre_split_i; }
-L_join_3_i1200_i:;
-    v_r49_i1201_i = v_r3_sroa_6_07_i_i1197_i > 4294967295ull;
-    if (v_r49_i1201_i) { p_v_common_ret_op_i = 8u; goto L_pkcs1_c_private_key_pkcs1_c_private_key_encode_exi; } else { p_v_r20_i386_i = v_r21_i_i1198_i; p_v_r1_sroa_0_0_copyload_i_i_i_i_i_i = v_r3_sroa_0_08_i_i1196_i; p_v_r1_sroa_3_0_copyload_i_i_i_i_i_i = v_r3_sroa_6_07_i_i1197_i; goto L_arm_23_i_i; }
+    v_scevgep_i_i1299_i = (P)((uintptr_t)v_7 + (u64)(-1));
+    { p_v_r3_sroa_0_08_i_i1301_i = v_r66_sroa_0_0_copyload_i_i; p_v_r3_sroa_6_07_i_i1302_i = v_r66_sroa_3_0_copyload_i_i; goto L_then_3_i_i1300_i; }
+L_then_3_i_i1300_i:;
+    v_r3_sroa_0_08_i_i1301_i = p_v_r3_sroa_0_08_i_i1301_i;
+    v_r3_sroa_6_07_i_i1302_i = p_v_r3_sroa_6_07_i_i1302_i;
+    v_r21_i_i1303_i = get_u8(v_r3_sroa_0_08_i_i1301_i);
+    v_r23_i_i1304_i = v_r21_i_i1303_i == 0u;
+    if (v_r23_i_i1304_i) { goto L_join_5_i_i1312_i; } else { goto L_join_3_i1305_i; }
+L_join_5_i_i1312_i:;
+    v_r31_i_i1313_i = v_r3_sroa_0_08_i_i1301_i + 1;
+    v_r34_i_i1314_i = (u64)((u64)(v_r3_sroa_6_07_i_i1302_i) + (u64)(18446744073709551615ull));
+    v_r14_i_i1315_i = v_r34_i_i1314_i > 1u;
+    if (v_r14_i_i1315_i) { p_v_r3_sroa_0_08_i_i1301_i = v_r31_i_i1313_i; p_v_r3_sroa_6_07_i_i1302_i = v_r34_i_i1314_i; goto L_then_3_i_i1300_i; } else { p_v_r1_sroa_0_0_copyload_i_i_i_i_i_ph_i = v_scevgep_i_i1299_i; goto L_arm_23_ithread_pre_split_i; }
+L_der_core_integer_uint_strip_exit_i1286_i:;
+    v_r7_i_i1287_i = v_r66_sroa_3_0_copyload_i_i == 0u;
+    if (v_r7_i_i1287_i) { p_v_common_ret_op_i = 4u; goto L_pkcs1_c_private_key_pkcs1_c_private_key_encode_exi; } else { p_v_r1_sroa_0_0_copyload_i_i_i_i_i_ph_i = v_r66_sroa_0_0_copyload_i_i; goto L_arm_23_ithread_pre_split_i; }
+L_join_3_i1305_i:;
+    v_r49_i1306_i = v_r3_sroa_6_07_i_i1302_i > 4294967295ull;
+    if (v_r49_i1306_i) { p_v_common_ret_op_i = 8u; goto L_pkcs1_c_private_key_pkcs1_c_private_key_encode_exi; } else { p_v_r20_i386_i = v_r21_i_i1303_i; p_v_r1_sroa_0_0_copyload_i_i_i_i_i_i = v_r3_sroa_0_08_i_i1301_i; p_v_r1_sroa_3_0_copyload_i_i_i_i_i_i = v_r3_sroa_6_07_i_i1302_i; goto L_arm_23_i_i; }
 L_arm_23_ithread_pre_split_i:;
     v_r1_sroa_0_0_copyload_i_i_i_i_i_ph_i = p_v_r1_sroa_0_0_copyload_i_i_i_i_i_ph_i;
     v_r20_i386_pr_i = get_u8(v_r1_sroa_0_0_copyload_i_i_i_i_i_ph_i);
@@ -36796,195 +36553,218 @@ L_arm_23_i_i:;
     v_r1_sroa_3_0_copyload_i_i_i_i_i_i = p_v_r1_sroa_3_0_copyload_i_i_i_i_i_i;
     v_r20_i386_lobit_i = (u8)((u32)(v_r20_i386_i) >> (u32)((7u & 31)));
     v_i388_i = (u64)v_r20_i386_lobit_i;
-    fill(v_r6_i_i, 0u, 72u);
-    put_u64(v_r19_i399_i, 0u);
-    v_r7_i1277_i = v_a2 == 0u;
-    if (v_r7_i1277_i) { p_v_r34_i_i_i_i_i_i = (P)0; p_v_r13_i_i_i_i_i_i = 0u; p_v_r70_i_sroa_27_sroa_13_0_ph_i = 0u; p_v_r70_i_sroa_27_sroa_16_0_ph_i = 0u; p_v_r70_i_sroa_27_sroa_19_0_ph_i = 0u; p_v_r0_sroa_0_0_copyload_i_i_i_i_i_i = 0u; p_v_r70_i_sroa_231645_sroa_0_0_ph_i = 0u; goto L_arm_4_i; } else { goto L_loop_6_i_preheader_i; }
-L_loop_6_i_preheader_i:;
-    v_r18_i398_sroa_5_0_r6_i_sroa_idx_i = v_r6_i_i + 8;
-    v_r18_i398_sroa_6_0_r6_i_sroa_idx_i = v_r6_i_i + 16;
-    v_r18_i398_sroa_7_0_r6_i_sroa_idx_i = v_r6_i_i + 24;
-    v_r18_i398_sroa_8_0_r6_i_sroa_idx_i = v_r6_i_i + 32;
-    v_r18_i398_sroa_9_0_r6_i_sroa_idx_i = v_r6_i_i + 40;
-    v_r18_i398_sroa_10_0_r6_i_sroa_idx_i = v_r6_i_i + 48;
-    v_r18_i398_sroa_11_0_r6_i_sroa_idx_i = v_r6_i_i + 56;
-    v_r18_i398_sroa_12_0_r6_i_sroa_idx_i = v_r6_i_i + 64;
-    v_r12_i1602_i = v_r19_i399_i + 1;
-    v_r14_i1603_i = v_r19_i399_i + 2;
-    v_r16_i1604_i = v_r19_i399_i + 3;
-    v_r18_i1605_i = v_r19_i399_i + 4;
-    { p_v_r4_0_i3696_i = 0u; p_v_r3_i393_sroa_0_03695_i = 0u; p_v_r3_i393_sroa_7_03694_i = 0u; p_v_r3_i393_sroa_10_03693_i = 0u; p_v_r3_i393_sroa_13_03692_i = 0u; p_v_r3_i393_sroa_16_03691_i = 0u; goto L_join_9_i_i; }
+    v_r7_i1382_i = v_a2 == 0u;
+    if (v_r7_i1382_i) { p_v_r70_i_sroa_27_sroa_0_0_ph_i = (P)0; p_v_r13_i_i_i_i_i_i = 0u; p_v_r70_i_sroa_27_sroa_13_0_ph_i = 0u; p_v_r0_sroa_0_0_copyload_i_i_i_i_i_i = 0u; p_v_r70_i_sroa_231755_sroa_0_0_ph_i = 0u; goto L_arm_4_i; } else { p_v_r4_0_i3798_i = 0u; p_v_r3_i393_sroa_0_03797_i = 0u; p_v_r3_i393_sroa_7_03796_i = 0u; p_v_r3_i393_sroa_16_03795_i = 0u; goto L_join_9_i_i; }
 L_join_9_i_i:;
-    v_r4_0_i3696_i = p_v_r4_0_i3696_i;
-    v_r3_i393_sroa_0_03695_i = p_v_r3_i393_sroa_0_03695_i;
-    v_r3_i393_sroa_7_03694_i = p_v_r3_i393_sroa_7_03694_i;
-    v_r3_i393_sroa_10_03693_i = p_v_r3_i393_sroa_10_03693_i;
-    v_r3_i393_sroa_13_03692_i = p_v_r3_i393_sroa_13_03692_i;
-    v_r3_i393_sroa_16_03691_i = p_v_r3_i393_sroa_16_03691_i;
-    v_r59_i414_i = (u64)((u64)(v_r4_0_i3696_i) * (u64)(48u));
+    v_r4_0_i3798_i = p_v_r4_0_i3798_i;
+    v_r3_i393_sroa_0_03797_i = p_v_r3_i393_sroa_0_03797_i;
+    v_r3_i393_sroa_7_03796_i = p_v_r3_i393_sroa_7_03796_i;
+    v_r3_i393_sroa_16_03795_i = p_v_r3_i393_sroa_16_03795_i;
+    v_r59_i414_i = (u64)((u64)(v_r4_0_i3798_i) * (u64)(48u));
     v_r62_i415_i = (P)((uintptr_t)v_r4 + (u64)(v_r59_i414_i));
     v_r10_sroa_0_0_copyload_i461_i = get_P(v_r62_i415_i);
     v_r10_sroa_3_0_a1_sroa_idx_i_i = v_r62_i415_i + 8;
     v_r10_sroa_3_0_copyload_i_i = get_u64(v_r10_sroa_3_0_a1_sroa_idx_i_i);
-    v_r146_i_i1278_i = v_r10_sroa_3_0_copyload_i_i > 1u;
-    if (v_r146_i_i1278_i) { goto L_then_3_preheader_i_i1291_i; } else { goto L_der_core_integer_uint_strip_exit_i1279_i; }
-L_then_3_preheader_i_i1291_i:;
+    v_r146_i_i1383_i = v_r10_sroa_3_0_copyload_i_i > 1u;
+    if (v_r146_i_i1383_i) { goto L_then_3_preheader_i_i1396_i; } else { goto L_der_core_integer_uint_strip_exit_i1384_i; }
+L_then_3_preheader_i_i1396_i:;
     v_8 = (P)((uintptr_t)v_r10_sroa_0_0_copyload_i461_i + (u64)(v_r10_sroa_3_0_copyload_i_i));
-    v_scevgep_i_i1292_i = (P)((uintptr_t)v_8 + (u64)(-1));
-    { p_v_r3_sroa_0_08_i_i1294_i = v_r10_sroa_0_0_copyload_i461_i; p_v_r3_sroa_6_07_i_i1295_i = v_r10_sroa_3_0_copyload_i_i; goto L_then_3_i_i1293_i; }
-L_then_3_i_i1293_i:;
-    v_r3_sroa_0_08_i_i1294_i = p_v_r3_sroa_0_08_i_i1294_i;
-    v_r3_sroa_6_07_i_i1295_i = p_v_r3_sroa_6_07_i_i1295_i;
-    v_r21_i_i1296_i = get_u8(v_r3_sroa_0_08_i_i1294_i);
-    v_r23_i_i1297_i = v_r21_i_i1296_i == 0u;
-    if (v_r23_i_i1297_i) { goto L_join_5_i_i1305_i; } else { goto L_join_3_i1298_i; }
-L_join_5_i_i1305_i:;
-    v_r31_i_i1306_i = v_r3_sroa_0_08_i_i1294_i + 1;
-    v_r34_i_i1307_i = (u64)((u64)(v_r3_sroa_6_07_i_i1295_i) + (u64)(18446744073709551615ull));
-    v_r14_i_i1308_i = v_r34_i_i1307_i > 1u;
-    if (v_r14_i_i1308_i) { p_v_r3_sroa_0_08_i_i1294_i = v_r31_i_i1306_i; p_v_r3_sroa_6_07_i_i1295_i = v_r34_i_i1307_i; goto L_then_3_i_i1293_i; } else { p_v_r8_i46_i_sroa_162296_13206_ph_i = v_scevgep_i_i1292_i; p_v_r12_sroa_10_i1317_sroa_5_1_ph_i = 1u; goto L_arm_1_i481_i; }
-L_der_core_integer_uint_strip_exit_i1279_i:;
-    v_r7_i_i1280_i = v_r10_sroa_3_0_copyload_i_i == 0u;
-    if (v_r7_i_i1280_i) { p_v_r17_i397_sroa_13_0_ph_i = 4u; goto L_arm_27_i_i; } else { p_v_r8_i46_i_sroa_162296_13206_ph_i = v_r10_sroa_0_0_copyload_i461_i; p_v_r12_sroa_10_i1317_sroa_5_1_ph_i = 1u; goto L_arm_1_i481_i; }
-L_join_3_i1298_i:;
-    v_r49_i1299_i = v_r3_sroa_6_07_i_i1295_i > 4294967295ull;
-    if (v_r49_i1299_i) { p_v_r17_i397_sroa_13_0_ph_i = 8u; goto L_arm_27_i_i; } else { p_v_r8_i46_i_sroa_162296_13206_ph_i = v_r3_sroa_0_08_i_i1294_i; p_v_r12_sroa_10_i1317_sroa_5_1_ph_i = v_r3_sroa_6_07_i_i1295_i; goto L_arm_1_i481_i; }
+    v_scevgep_i_i1397_i = (P)((uintptr_t)v_8 + (u64)(-1));
+    { p_v_r3_sroa_0_08_i_i1399_i = v_r10_sroa_0_0_copyload_i461_i; p_v_r3_sroa_6_07_i_i1400_i = v_r10_sroa_3_0_copyload_i_i; goto L_then_3_i_i1398_i; }
+L_then_3_i_i1398_i:;
+    v_r3_sroa_0_08_i_i1399_i = p_v_r3_sroa_0_08_i_i1399_i;
+    v_r3_sroa_6_07_i_i1400_i = p_v_r3_sroa_6_07_i_i1400_i;
+    v_r21_i_i1401_i = get_u8(v_r3_sroa_0_08_i_i1399_i);
+    v_r23_i_i1402_i = v_r21_i_i1401_i == 0u;
+    if (v_r23_i_i1402_i) { goto L_join_5_i_i1410_i; } else { goto L_join_3_i1403_i; }
+L_join_5_i_i1410_i:;
+    v_r31_i_i1411_i = v_r3_sroa_0_08_i_i1399_i + 1;
+    v_r34_i_i1412_i = (u64)((u64)(v_r3_sroa_6_07_i_i1400_i) + (u64)(18446744073709551615ull));
+    v_r14_i_i1413_i = v_r34_i_i1412_i > 1u;
+    if (v_r14_i_i1413_i) { p_v_r3_sroa_0_08_i_i1399_i = v_r31_i_i1411_i; p_v_r3_sroa_6_07_i_i1400_i = v_r34_i_i1412_i; goto L_then_3_i_i1398_i; } else { p_v_r8_i46_i_sroa_162408_13318_ph_i = v_scevgep_i_i1397_i; p_v_r12_sroa_10_i1422_sroa_5_1_ph_i = 1u; goto L_arm_1_i481_i; }
+L_der_core_integer_uint_strip_exit_i1384_i:;
+    v_r7_i_i1385_i = v_r10_sroa_3_0_copyload_i_i == 0u;
+    if (v_r7_i_i1385_i) { p_v_common_ret_op_i = 4u; goto L_pkcs1_c_private_key_pkcs1_c_private_key_encode_exi; } else { p_v_r8_i46_i_sroa_162408_13318_ph_i = v_r10_sroa_0_0_copyload_i461_i; p_v_r12_sroa_10_i1422_sroa_5_1_ph_i = 1u; goto L_arm_1_i481_i; }
+L_join_3_i1403_i:;
+    v_r49_i1404_i = v_r3_sroa_6_07_i_i1400_i > 4294967295ull;
+    if (v_r49_i1404_i) { p_v_common_ret_op_i = 8u; goto L_pkcs1_c_private_key_pkcs1_c_private_key_encode_exi; } else { p_v_r8_i46_i_sroa_162408_13318_ph_i = v_r3_sroa_0_08_i_i1399_i; p_v_r12_sroa_10_i1422_sroa_5_1_ph_i = v_r3_sroa_6_07_i_i1400_i; goto L_arm_1_i481_i; }
 L_arm_1_i481_i:;
-    v_r8_i46_i_sroa_162296_13206_ph_i = p_v_r8_i46_i_sroa_162296_13206_ph_i;
-    v_r12_sroa_10_i1317_sroa_5_1_ph_i = p_v_r12_sroa_10_i1317_sroa_5_1_ph_i;
-    v_r20_i83_i_i = get_u8(v_r8_i46_i_sroa_162296_13206_ph_i);
+    v_r8_i46_i_sroa_162408_13318_ph_i = p_v_r8_i46_i_sroa_162408_13318_ph_i;
+    v_r12_sroa_10_i1422_sroa_5_1_ph_i = p_v_r12_sroa_10_i1422_sroa_5_1_ph_i;
+    v_r20_i83_i_i = get_u8(v_r8_i46_i_sroa_162408_13318_ph_i);
     v_r20_i83_i_lobit_i = (u8)((u32)(v_r20_i83_i_i) >> (u32)((7u & 31)));
     v_i_i_i = (u64)v_r20_i83_i_lobit_i;
     v_r54_i483_i = v_r62_i415_i + 16;
     v_r16_sroa_0_0_copyload_i484_i = get_P(v_r54_i483_i);
     v_r16_sroa_3_0_r54_sroa_idx_i_i = v_r62_i415_i + 24;
     v_r16_sroa_3_0_copyload_i_i = get_u64(v_r16_sroa_3_0_r54_sroa_idx_i_i);
-    v_r146_i_i1363_i = v_r16_sroa_3_0_copyload_i_i > 1u;
-    if (v_r146_i_i1363_i) { goto L_then_3_preheader_i_i1376_i; } else { goto L_der_core_integer_uint_strip_exit_i1364_i; }
-L_then_3_preheader_i_i1376_i:;
+    v_r146_i_i1468_i = v_r16_sroa_3_0_copyload_i_i > 1u;
+    if (v_r146_i_i1468_i) { goto L_then_3_preheader_i_i1481_i; } else { goto L_der_core_integer_uint_strip_exit_i1469_i; }
+L_then_3_preheader_i_i1481_i:;
     v_9 = (P)((uintptr_t)v_r16_sroa_0_0_copyload_i484_i + (u64)(v_r16_sroa_3_0_copyload_i_i));
-    v_scevgep_i_i1377_i = (P)((uintptr_t)v_9 + (u64)(-1));
-    { p_v_r3_sroa_0_08_i_i1379_i = v_r16_sroa_0_0_copyload_i484_i; p_v_r3_sroa_6_07_i_i1380_i = v_r16_sroa_3_0_copyload_i_i; goto L_then_3_i_i1378_i; }
-L_then_3_i_i1378_i:;
-    v_r3_sroa_0_08_i_i1379_i = p_v_r3_sroa_0_08_i_i1379_i;
-    v_r3_sroa_6_07_i_i1380_i = p_v_r3_sroa_6_07_i_i1380_i;
-    v_r21_i_i1381_i = get_u8(v_r3_sroa_0_08_i_i1379_i);
-    v_r23_i_i1382_i = v_r21_i_i1381_i == 0u;
-    if (v_r23_i_i1382_i) { goto L_join_5_i_i1390_i; } else { goto L_join_3_i1383_i; }
-L_join_5_i_i1390_i:;
-    v_r31_i_i1391_i = v_r3_sroa_0_08_i_i1379_i + 1;
-    v_r34_i_i1392_i = (u64)((u64)(v_r3_sroa_6_07_i_i1380_i) + (u64)(18446744073709551615ull));
-    v_r14_i_i1393_i = v_r34_i_i1392_i > 1u;
-    if (v_r14_i_i1393_i) { p_v_r3_sroa_0_08_i_i1379_i = v_r31_i_i1391_i; p_v_r3_sroa_6_07_i_i1380_i = v_r34_i_i1392_i; goto L_then_3_i_i1378_i; } else { p_v_r8_i5_i_sroa_20_23275_ph_i = 1u; p_v_r8_i5_i_sroa_162276_23274_ph_i = v_scevgep_i_i1377_i; goto L_arm_5_i507_i; }
-L_der_core_integer_uint_strip_exit_i1364_i:;
-    v_r7_i_i1365_i = v_r16_sroa_3_0_copyload_i_i == 0u;
-    if (v_r7_i_i1365_i) { p_v_r17_i397_sroa_13_0_ph_i = 4u; goto L_arm_27_i_i; } else { p_v_r8_i5_i_sroa_20_23275_ph_i = 1u; p_v_r8_i5_i_sroa_162276_23274_ph_i = v_r16_sroa_0_0_copyload_i484_i; goto L_arm_5_i507_i; }
-L_join_3_i1383_i:;
-    v_r49_i1384_i = v_r3_sroa_6_07_i_i1380_i > 4294967295ull;
-    if (v_r49_i1384_i) { p_v_r17_i397_sroa_13_0_ph_i = 8u; goto L_arm_27_i_i; } else { p_v_r8_i5_i_sroa_20_23275_ph_i = v_r3_sroa_6_07_i_i1380_i; p_v_r8_i5_i_sroa_162276_23274_ph_i = v_r3_sroa_0_08_i_i1379_i; goto L_arm_5_i507_i; }
+    v_scevgep_i_i1482_i = (P)((uintptr_t)v_9 + (u64)(-1));
+    { p_v_r3_sroa_0_08_i_i1484_i = v_r16_sroa_0_0_copyload_i484_i; p_v_r3_sroa_6_07_i_i1485_i = v_r16_sroa_3_0_copyload_i_i; goto L_then_3_i_i1483_i; }
+L_then_3_i_i1483_i:;
+    v_r3_sroa_0_08_i_i1484_i = p_v_r3_sroa_0_08_i_i1484_i;
+    v_r3_sroa_6_07_i_i1485_i = p_v_r3_sroa_6_07_i_i1485_i;
+    v_r21_i_i1486_i = get_u8(v_r3_sroa_0_08_i_i1484_i);
+    v_r23_i_i1487_i = v_r21_i_i1486_i == 0u;
+    if (v_r23_i_i1487_i) { goto L_join_5_i_i1495_i; } else { goto L_join_3_i1488_i; }
+L_join_5_i_i1495_i:;
+    v_r31_i_i1496_i = v_r3_sroa_0_08_i_i1484_i + 1;
+    v_r34_i_i1497_i = (u64)((u64)(v_r3_sroa_6_07_i_i1485_i) + (u64)(18446744073709551615ull));
+    v_r14_i_i1498_i = v_r34_i_i1497_i > 1u;
+    if (v_r14_i_i1498_i) { p_v_r3_sroa_0_08_i_i1484_i = v_r31_i_i1496_i; p_v_r3_sroa_6_07_i_i1485_i = v_r34_i_i1497_i; goto L_then_3_i_i1483_i; } else { p_v_r8_i5_i_sroa_20_23387_ph_i = 1u; p_v_r8_i5_i_sroa_162388_23386_ph_i = v_scevgep_i_i1482_i; goto L_arm_5_i507_i; }
+L_der_core_integer_uint_strip_exit_i1469_i:;
+    v_r7_i_i1470_i = v_r16_sroa_3_0_copyload_i_i == 0u;
+    if (v_r7_i_i1470_i) { p_v_common_ret_op_i = 4u; goto L_pkcs1_c_private_key_pkcs1_c_private_key_encode_exi; } else { p_v_r8_i5_i_sroa_20_23387_ph_i = 1u; p_v_r8_i5_i_sroa_162388_23386_ph_i = v_r16_sroa_0_0_copyload_i484_i; goto L_arm_5_i507_i; }
+L_join_3_i1488_i:;
+    v_r49_i1489_i = v_r3_sroa_6_07_i_i1485_i > 4294967295ull;
+    if (v_r49_i1489_i) { p_v_common_ret_op_i = 8u; goto L_pkcs1_c_private_key_pkcs1_c_private_key_encode_exi; } else { p_v_r8_i5_i_sroa_20_23387_ph_i = v_r3_sroa_6_07_i_i1485_i; p_v_r8_i5_i_sroa_162388_23386_ph_i = v_r3_sroa_0_08_i_i1484_i; goto L_arm_5_i507_i; }
 L_arm_5_i507_i:;
-    v_r8_i5_i_sroa_20_23275_ph_i = p_v_r8_i5_i_sroa_20_23275_ph_i;
-    v_r8_i5_i_sroa_162276_23274_ph_i = p_v_r8_i5_i_sroa_162276_23274_ph_i;
-    v_r20_i90_i_i = get_u8(v_r8_i5_i_sroa_162276_23274_ph_i);
+    v_r8_i5_i_sroa_20_23387_ph_i = p_v_r8_i5_i_sroa_20_23387_ph_i;
+    v_r8_i5_i_sroa_162388_23386_ph_i = p_v_r8_i5_i_sroa_162388_23386_ph_i;
+    v_r20_i90_i_i = get_u8(v_r8_i5_i_sroa_162388_23386_ph_i);
     v_r20_i90_i_lobit_i = (u8)((u32)(v_r20_i90_i_i) >> (u32)((7u & 31)));
     v_i92_i_i = (u64)v_r20_i90_i_lobit_i;
     v_r83_i509_i = v_r62_i415_i + 32;
     v_r22_sroa_0_0_copyload_i_i = get_P(v_r83_i509_i);
     v_r22_sroa_3_0_r83_sroa_idx_i_i = v_r62_i415_i + 40;
     v_r22_sroa_3_0_copyload_i_i = get_u64(v_r22_sroa_3_0_r83_sroa_idx_i_i);
-    v_r146_i_i1460_i = v_r22_sroa_3_0_copyload_i_i > 1u;
-    if (v_r146_i_i1460_i) { goto L_then_3_preheader_i_i1473_i; } else { goto L_der_core_integer_uint_strip_exit_i1461_i; }
-L_then_3_preheader_i_i1473_i:;
+    v_r146_i_i1565_i = v_r22_sroa_3_0_copyload_i_i > 1u;
+    if (v_r146_i_i1565_i) { goto L_then_3_preheader_i_i1578_i; } else { goto L_der_core_integer_uint_strip_exit_i1566_i; }
+L_then_3_preheader_i_i1578_i:;
     v_10 = (P)((uintptr_t)v_r22_sroa_0_0_copyload_i_i + (u64)(v_r22_sroa_3_0_copyload_i_i));
-    v_scevgep_i_i1474_i = (P)((uintptr_t)v_10 + (u64)(-1));
-    { p_v_r3_sroa_0_08_i_i1476_i = v_r22_sroa_0_0_copyload_i_i; p_v_r3_sroa_6_07_i_i1477_i = v_r22_sroa_3_0_copyload_i_i; goto L_then_3_i_i1475_i; }
-L_then_3_i_i1475_i:;
-    v_r3_sroa_0_08_i_i1476_i = p_v_r3_sroa_0_08_i_i1476_i;
-    v_r3_sroa_6_07_i_i1477_i = p_v_r3_sroa_6_07_i_i1477_i;
-    v_r21_i_i1478_i = get_u8(v_r3_sroa_0_08_i_i1476_i);
-    v_r23_i_i1479_i = v_r21_i_i1478_i == 0u;
-    if (v_r23_i_i1479_i) { goto L_join_5_i_i1487_i; } else { goto L_join_3_i1480_i; }
-L_join_5_i_i1487_i:;
-    v_r31_i_i1488_i = v_r3_sroa_0_08_i_i1476_i + 1;
-    v_r34_i_i1489_i = (u64)((u64)(v_r3_sroa_6_07_i_i1477_i) + (u64)(18446744073709551615ull));
-    v_r14_i_i1490_i = v_r34_i_i1489_i > 1u;
-    if (v_r14_i_i1490_i) { p_v_r3_sroa_0_08_i_i1476_i = v_r31_i_i1488_i; p_v_r3_sroa_6_07_i_i1477_i = v_r34_i_i1489_i; goto L_then_3_i_i1475_i; } else { p_v_r8_i_i_sroa_20_23425_ph_i = 1u; p_v_r8_i_i_sroa_162256_23424_ph_i = v_scevgep_i_i1474_i; goto L_arm_11_i427_i; }
-L_der_core_integer_uint_strip_exit_i1461_i:;
-    v_r7_i_i1462_i = v_r22_sroa_3_0_copyload_i_i == 0u;
-    if (v_r7_i_i1462_i) { p_v_r17_i397_sroa_13_0_ph_i = 4u; goto L_arm_27_i_i; } else { p_v_r8_i_i_sroa_20_23425_ph_i = 1u; p_v_r8_i_i_sroa_162256_23424_ph_i = v_r22_sroa_0_0_copyload_i_i; goto L_arm_11_i427_i; }
-L_join_3_i1480_i:;
-    v_r49_i1481_i = v_r3_sroa_6_07_i_i1477_i > 4294967295ull;
-    if (v_r49_i1481_i) { p_v_r17_i397_sroa_13_0_ph_i = 8u; goto L_arm_27_i_i; } else { p_v_r8_i_i_sroa_20_23425_ph_i = v_r3_sroa_6_07_i_i1477_i; p_v_r8_i_i_sroa_162256_23424_ph_i = v_r3_sroa_0_08_i_i1476_i; goto L_arm_11_i427_i; }
+    v_scevgep_i_i1579_i = (P)((uintptr_t)v_10 + (u64)(-1));
+    { p_v_r3_sroa_0_08_i_i1581_i = v_r22_sroa_0_0_copyload_i_i; p_v_r3_sroa_6_07_i_i1582_i = v_r22_sroa_3_0_copyload_i_i; goto L_then_3_i_i1580_i; }
+L_then_3_i_i1580_i:;
+    v_r3_sroa_0_08_i_i1581_i = p_v_r3_sroa_0_08_i_i1581_i;
+    v_r3_sroa_6_07_i_i1582_i = p_v_r3_sroa_6_07_i_i1582_i;
+    v_r21_i_i1583_i = get_u8(v_r3_sroa_0_08_i_i1581_i);
+    v_r23_i_i1584_i = v_r21_i_i1583_i == 0u;
+    if (v_r23_i_i1584_i) { goto L_join_5_i_i1592_i; } else { goto L_join_3_i1585_i; }
+L_join_5_i_i1592_i:;
+    v_r31_i_i1593_i = v_r3_sroa_0_08_i_i1581_i + 1;
+    v_r34_i_i1594_i = (u64)((u64)(v_r3_sroa_6_07_i_i1582_i) + (u64)(18446744073709551615ull));
+    v_r14_i_i1595_i = v_r34_i_i1594_i > 1u;
+    if (v_r14_i_i1595_i) { p_v_r3_sroa_0_08_i_i1581_i = v_r31_i_i1593_i; p_v_r3_sroa_6_07_i_i1582_i = v_r34_i_i1594_i; goto L_then_3_i_i1580_i; } else { p_v_r8_i_i_sroa_20_23537_ph_i = 1u; p_v_r8_i_i_sroa_162368_23536_ph_i = v_scevgep_i_i1579_i; goto L_arm_11_i427_i; }
+L_der_core_integer_uint_strip_exit_i1566_i:;
+    v_r7_i_i1567_i = v_r22_sroa_3_0_copyload_i_i == 0u;
+    if (v_r7_i_i1567_i) { p_v_common_ret_op_i = 4u; goto L_pkcs1_c_private_key_pkcs1_c_private_key_encode_exi; } else { p_v_r8_i_i_sroa_20_23537_ph_i = 1u; p_v_r8_i_i_sroa_162368_23536_ph_i = v_r22_sroa_0_0_copyload_i_i; goto L_arm_11_i427_i; }
+L_join_3_i1585_i:;
+    v_r49_i1586_i = v_r3_sroa_6_07_i_i1582_i > 4294967295ull;
+    if (v_r49_i1586_i) { p_v_common_ret_op_i = 8u; goto L_pkcs1_c_private_key_pkcs1_c_private_key_encode_exi; } else { p_v_r8_i_i_sroa_20_23537_ph_i = v_r3_sroa_6_07_i_i1582_i; p_v_r8_i_i_sroa_162368_23536_ph_i = v_r3_sroa_0_08_i_i1581_i; goto L_arm_11_i427_i; }
 L_arm_11_i427_i:;
-    v_r8_i_i_sroa_20_23425_ph_i = p_v_r8_i_i_sroa_20_23425_ph_i;
-    v_r8_i_i_sroa_162256_23424_ph_i = p_v_r8_i_i_sroa_162256_23424_ph_i;
-    v_r20_i100_i_i = get_u8(v_r8_i_i_sroa_162256_23424_ph_i);
+    v_r8_i_i_sroa_20_23537_ph_i = p_v_r8_i_i_sroa_20_23537_ph_i;
+    v_r8_i_i_sroa_162368_23536_ph_i = p_v_r8_i_i_sroa_162368_23536_ph_i;
+    v_r20_i100_i_i = get_u8(v_r8_i_i_sroa_162368_23536_ph_i);
     v_r20_i100_i_lobit_i = (u8)((u32)(v_r20_i100_i_i) >> (u32)((7u & 31)));
     v_i102_i_i = (u64)v_r20_i100_i_lobit_i;
-    put_P(v_r6_i_i, v_r8_i46_i_sroa_162296_13206_ph_i);
-    put_u64(v_r18_i398_sroa_5_0_r6_i_sroa_idx_i, v_r12_sroa_10_i1317_sroa_5_1_ph_i);
-    put_u64(v_r18_i398_sroa_6_0_r6_i_sroa_idx_i, v_i_i_i);
-    put_P(v_r18_i398_sroa_7_0_r6_i_sroa_idx_i, v_r8_i5_i_sroa_162276_23274_ph_i);
-    put_u64(v_r18_i398_sroa_8_0_r6_i_sroa_idx_i, v_r8_i5_i_sroa_20_23275_ph_i);
-    put_u64(v_r18_i398_sroa_9_0_r6_i_sroa_idx_i, v_i92_i_i);
-    put_P(v_r18_i398_sroa_10_0_r6_i_sroa_idx_i, v_r8_i_i_sroa_162256_23424_ph_i);
-    put_u64(v_r18_i398_sroa_11_0_r6_i_sroa_idx_i, v_r8_i_i_sroa_20_23425_ph_i);
-    put_u64(v_r18_i398_sroa_12_0_r6_i_sroa_idx_i, v_i102_i_i);
-    f_der_core_encode_AnyEncode_encoded_len_7ae2cf0824c3(v_r19_i399_i, v_r6_i_i);
-    v_r10_sroa_0_0_copyload_i1601_i = get_u8(v_r19_i399_i);
-    v_r10_sroa_4_1_copyload_i_i = get_u8(v_r12_i1602_i);
-    v_r10_sroa_7_2_copyload_i_i = get_u8(v_r14_i1603_i);
-    v_r10_sroa_10_3_copyload_i_i = get_u8(v_r16_i1604_i);
-    v_r10_sroa_13_4_copyload_i_i = get_u32(v_r18_i1605_i);
-    v_11 = v_r3_i393_sroa_0_03695_i == 0u;
-    if (v_11) { goto L_arm_1_i1611_i; } else { goto L_arm_2_i1606_i; }
-L_arm_1_i1611_i:;
-    v_12 = v_r10_sroa_0_0_copyload_i1601_i == 0u;
-    if (v_12) { goto L_arm_5_i1612_i; } else { p_v_r24_sroa_0_0_sink_i_i = 1u; p_v_r24_sroa_4_0_sink_i_i = v_r10_sroa_4_1_copyload_i_i; p_v_r24_sroa_7_0_sink_i_i = v_r10_sroa_7_2_copyload_i_i; p_v_r24_sroa_10_0_sink_i_i = v_r10_sroa_10_3_copyload_i_i; p_v_r24_sroa_13_0_sink_i_i = 0u; goto L_der_core_encode_joined_len_exit_i; }
-L_arm_5_i1612_i:;
-    v_r5_i_i_i_i = (u32)((u32)(v_r10_sroa_13_4_copyload_i_i) ^ (u32)(4294967295ull));
-    v_r7_i_not_i_i_i = v_r3_i393_sroa_16_03691_i > v_r5_i_i_i_i;
-    v_r11_i_i_i_i = (u32)((u32)(v_r10_sroa_13_4_copyload_i_i) + (u32)(v_r3_i393_sroa_16_03691_i));
+    v_r9_i575_i = (u64)((u64)(v_r12_sroa_10_i1422_sroa_5_1_ph_i) + (u64)(v_i_i_i));
+    v_r2_i625_i = v_r9_i575_i < 128u;
+    if (v_r2_i625_i) { p_v_sink_i = 2u; goto L_pkcs1_c_given_primes_octets_with_tag_exit643_i; } else { goto L_join_3_i626_i; }
+L_join_3_i626_i:;
+    v_r8_i627_i = v_r9_i575_i < 256u;
+    if (v_r8_i627_i) { p_v_sink_i = 3u; goto L_pkcs1_c_given_primes_octets_with_tag_exit643_i; } else { goto L_join_6_i628_i; }
+L_join_6_i628_i:;
+    v_r14_i629_i = v_r9_i575_i < 65536u;
+    if (v_r14_i629_i) { p_v_sink_i = 4u; goto L_pkcs1_c_given_primes_octets_with_tag_exit643_i; } else { goto L_join_9_i630_i; }
+L_join_9_i630_i:;
+    v_r20_i631_i = v_r9_i575_i < 16777216u;
+    v_i = v_r20_i631_i ? 5u : 6u;
+    { p_v_sink_i = v_i; goto L_pkcs1_c_given_primes_octets_with_tag_exit643_i; }
+L_pkcs1_c_given_primes_octets_with_tag_exit643_i:;
+    v_sink_i = p_v_sink_i;
+    v_r9_i570_i = (u64)((u64)(v_r8_i5_i_sroa_20_23387_ph_i) + (u64)(v_i92_i_i));
+    v_r2_i606_i = v_r9_i570_i < 128u;
+    if (v_r2_i606_i) { p_v_sink3875_i = 2u; goto L_pkcs1_c_given_primes_octets_with_tag_exit624_i; } else { goto L_join_3_i607_i; }
+L_join_3_i607_i:;
+    v_r8_i608_i = v_r9_i570_i < 256u;
+    if (v_r8_i608_i) { p_v_sink3875_i = 3u; goto L_pkcs1_c_given_primes_octets_with_tag_exit624_i; } else { goto L_join_6_i609_i; }
+L_join_6_i609_i:;
+    v_r14_i610_i = v_r9_i570_i < 65536u;
+    if (v_r14_i610_i) { p_v_sink3875_i = 4u; goto L_pkcs1_c_given_primes_octets_with_tag_exit624_i; } else { goto L_join_9_i611_i; }
+L_join_9_i611_i:;
+    v_r20_i612_i = v_r9_i570_i < 16777216u;
+    v_3878_i = v_r20_i612_i ? 5u : 6u;
+    { p_v_sink3875_i = v_3878_i; goto L_pkcs1_c_given_primes_octets_with_tag_exit624_i; }
+L_pkcs1_c_given_primes_octets_with_tag_exit624_i:;
+    v_sink3875_i = p_v_sink3875_i;
+    v_r9_i565_i = (u64)((u64)(v_r8_i_i_sroa_20_23537_ph_i) + (u64)(v_i102_i_i));
+    v_r2_i587_i = v_r9_i565_i < 128u;
+    if (v_r2_i587_i) { p_v_sink3876_i = 2u; goto L_pkcs1_c_given_primes_octets_with_tag_exit605_i; } else { goto L_join_3_i588_i; }
+L_join_3_i588_i:;
+    v_r8_i589_i = v_r9_i565_i < 256u;
+    if (v_r8_i589_i) { p_v_sink3876_i = 3u; goto L_pkcs1_c_given_primes_octets_with_tag_exit605_i; } else { goto L_join_6_i590_i; }
+L_join_6_i590_i:;
+    v_r14_i591_i = v_r9_i565_i < 65536u;
+    if (v_r14_i591_i) { p_v_sink3876_i = 4u; goto L_pkcs1_c_given_primes_octets_with_tag_exit605_i; } else { goto L_join_9_i592_i; }
+L_join_9_i592_i:;
+    v_r20_i593_i = v_r9_i565_i < 16777216u;
+    v_3879_i = v_r20_i593_i ? 5u : 6u;
+    { p_v_sink3876_i = v_3879_i; goto L_pkcs1_c_given_primes_octets_with_tag_exit605_i; }
+L_pkcs1_c_given_primes_octets_with_tag_exit605_i:;
+    v_sink3876_i = p_v_sink3876_i;
+    v_r6_i604_i = (u64)((u64)(v_r9_i570_i) + (u64)(v_r9_i575_i));
+    v_r6_i623_i = (u64)((u64)(v_r6_i604_i) + (u64)(v_r9_i565_i));
+    v_r6_i642_i = (u64)((u64)(v_r6_i623_i) + (u64)(v_sink_i));
+    v_r23_i547_i = (u64)((u64)(v_r6_i642_i) + (u64)(v_sink3875_i));
+    v_r31_i551_i = (u64)((u64)(v_r23_i547_i) + (u64)(v_sink3876_i));
+    v_r2_i_i = v_r31_i551_i < 128u;
+    if (v_r2_i_i) { p_v_sink3877_i = 2u; goto L_pkcs1_c_given_primes_octets_with_tag_exit_i; } else { goto L_join_3_i576_i; }
+L_join_3_i576_i:;
+    v_r8_i577_i = v_r31_i551_i < 256u;
+    if (v_r8_i577_i) { p_v_sink3877_i = 3u; goto L_pkcs1_c_given_primes_octets_with_tag_exit_i; } else { goto L_join_6_i_i; }
+L_join_6_i_i:;
+    v_r14_i578_i = v_r31_i551_i < 65536u;
+    if (v_r14_i578_i) { p_v_sink3877_i = 4u; goto L_pkcs1_c_given_primes_octets_with_tag_exit_i; } else { goto L_join_9_i579_i; }
+L_join_9_i579_i:;
+    v_r20_i580_i = v_r31_i551_i < 16777216u;
+    v_3880_i = v_r20_i580_i ? 5u : 6u;
+    { p_v_sink3877_i = v_3880_i; goto L_pkcs1_c_given_primes_octets_with_tag_exit_i; }
+L_pkcs1_c_given_primes_octets_with_tag_exit_i:;
+    v_sink3877_i = p_v_sink3877_i;
+    v_r6_i586_i = (u64)((u64)(v_sink3877_i) + (u64)(v_r31_i551_i));
+    v_r12_not_i_i = v_r6_i586_i < 4294967296ull;
+    v_r4_sroa_10_0_i3750_i = v_r6_i586_i < 4294967296ull ? v_r6_i586_i : 4294967296ull;
+    v_r4_sroa_10_0_i_i = (u32)(v_r4_sroa_10_0_i3750_i);
+    v_11 = v_r3_i393_sroa_0_03797_i == 0u;
+    if (v_11) { goto L_arm_1_i1721_i; } else { goto L_arm_2_i1716_i; }
+L_arm_1_i1721_i:;
+    if (v_r12_not_i_i) { goto L_arm_5_i1722_i; } else { p_v_r24_sroa_0_0_sink_i_i = 1u; p_v_r24_sroa_4_0_sink_i_i = 7u; p_v_r24_sroa_13_0_sink_i_i = 0u; goto L_der_core_encode_joined_len_exit_i; }
+L_arm_5_i1722_i:;
+    v_r5_i_i_i_i = (u32)((u32)(v_r4_sroa_10_0_i_i) ^ (u32)(4294967295ull));
+    v_r7_i_not_i_i_i = v_r3_i393_sroa_16_03795_i > v_r5_i_i_i_i;
+    v_r11_i_i_i_i = (u32)((u32)(v_r3_i393_sroa_16_03795_i) + (u32)(v_r4_sroa_10_0_i_i));
     v_r5_sroa_0_0_i_i_i = (u8)v_r7_i_not_i_i_i;
     v_r5_sroa_4_0_i_i_i = v_r7_i_not_i_i_i ? 7u : 0u;
     v_r5_sroa_10_0_i_i_i = v_r7_i_not_i_i_i ? 0u : v_r11_i_i_i_i;
-    { p_v_r24_sroa_0_0_sink_i_i = v_r5_sroa_0_0_i_i_i; p_v_r24_sroa_4_0_sink_i_i = v_r5_sroa_4_0_i_i_i; p_v_r24_sroa_7_0_sink_i_i = 0u; p_v_r24_sroa_10_0_sink_i_i = 0u; p_v_r24_sroa_13_0_sink_i_i = v_r5_sroa_10_0_i_i_i; goto L_der_core_encode_joined_len_exit_i; }
-L_arm_2_i1606_i:;
-    v_13 = v_r10_sroa_0_0_copyload_i1601_i != 1u;
-    v_14 = v_r3_i393_sroa_7_03694_i == 13u;
-    v_or_cond_i_i = v_13 ? 1u : v_14;
-    if (v_or_cond_i_i) { goto L_after_9_i_i; } else { p_v_r24_sroa_0_0_sink_i_i = 1u; p_v_r24_sroa_4_0_sink_i_i = v_r10_sroa_4_1_copyload_i_i; p_v_r24_sroa_7_0_sink_i_i = v_r10_sroa_7_2_copyload_i_i; p_v_r24_sroa_10_0_sink_i_i = v_r10_sroa_10_3_copyload_i_i; p_v_r24_sroa_13_0_sink_i_i = 0u; goto L_der_core_encode_joined_len_exit_i; }
-L_after_9_i_i:;
-    { p_v_r24_sroa_0_0_sink_i_i = 1u; p_v_r24_sroa_4_0_sink_i_i = v_r3_i393_sroa_7_03694_i; p_v_r24_sroa_7_0_sink_i_i = v_r3_i393_sroa_10_03693_i; p_v_r24_sroa_10_0_sink_i_i = v_r3_i393_sroa_13_03692_i; p_v_r24_sroa_13_0_sink_i_i = 0u; goto L_der_core_encode_joined_len_exit_i; }
+    { p_v_r24_sroa_0_0_sink_i_i = v_r5_sroa_0_0_i_i_i; p_v_r24_sroa_4_0_sink_i_i = v_r5_sroa_4_0_i_i_i; p_v_r24_sroa_13_0_sink_i_i = v_r5_sroa_10_0_i_i_i; goto L_der_core_encode_joined_len_exit_i; }
+L_arm_2_i1716_i:;
+    v_spec_select_i = v_r12_not_i_i ? v_r3_i393_sroa_7_03796_i : 7u;
+    { p_v_r24_sroa_0_0_sink_i_i = 1u; p_v_r24_sroa_4_0_sink_i_i = v_spec_select_i; p_v_r24_sroa_13_0_sink_i_i = 0u; goto L_der_core_encode_joined_len_exit_i; }
 L_der_core_encode_joined_len_exit_i:;
     v_r24_sroa_0_0_sink_i_i = p_v_r24_sroa_0_0_sink_i_i;
     v_r24_sroa_4_0_sink_i_i = p_v_r24_sroa_4_0_sink_i_i;
-    v_r24_sroa_7_0_sink_i_i = p_v_r24_sroa_7_0_sink_i_i;
-    v_r24_sroa_10_0_sink_i_i = p_v_r24_sroa_10_0_sink_i_i;
     v_r24_sroa_13_0_sink_i_i = p_v_r24_sroa_13_0_sink_i_i;
-    v_r90_i428_i = (u64)((u64)(v_r4_0_i3696_i) + (u64)(1u));
+    v_r90_i428_i = (u64)((u64)(v_r4_0_i3798_i) + (u64)(1u));
     v_exitcond_not_i = v_r90_i428_i == v_a2;
-    if (v_exitcond_not_i) { p_v_r34_i_i_i_i_i_i = v_r4; p_v_r13_i_i_i_i_i_i = v_r24_sroa_0_0_sink_i_i; p_v_r70_i_sroa_27_sroa_13_0_ph_i = v_r24_sroa_4_0_sink_i_i; p_v_r70_i_sroa_27_sroa_16_0_ph_i = v_r24_sroa_7_0_sink_i_i; p_v_r70_i_sroa_27_sroa_19_0_ph_i = v_r24_sroa_10_0_sink_i_i; p_v_r0_sroa_0_0_copyload_i_i_i_i_i_i = v_r24_sroa_13_0_sink_i_i; p_v_r70_i_sroa_231645_sroa_0_0_ph_i = 1u; goto L_arm_4_i; } else { p_v_r4_0_i3696_i = v_r90_i428_i; p_v_r3_i393_sroa_0_03695_i = v_r24_sroa_0_0_sink_i_i; p_v_r3_i393_sroa_7_03694_i = v_r24_sroa_4_0_sink_i_i; p_v_r3_i393_sroa_10_03693_i = v_r24_sroa_7_0_sink_i_i; p_v_r3_i393_sroa_13_03692_i = v_r24_sroa_10_0_sink_i_i; p_v_r3_i393_sroa_16_03691_i = v_r24_sroa_13_0_sink_i_i; goto L_join_9_i_i; }
-L_arm_27_i_i:;
-    v_r17_i397_sroa_13_0_ph_i = p_v_r17_i397_sroa_13_0_ph_i;
-    { p_v_common_ret_op_i = v_r17_i397_sroa_13_0_ph_i; goto L_pkcs1_c_private_key_pkcs1_c_private_key_encode_exi; }
+    if (v_exitcond_not_i) { p_v_r70_i_sroa_27_sroa_0_0_ph_i = v_r4; p_v_r13_i_i_i_i_i_i = v_r24_sroa_0_0_sink_i_i; p_v_r70_i_sroa_27_sroa_13_0_ph_i = v_r24_sroa_4_0_sink_i_i; p_v_r0_sroa_0_0_copyload_i_i_i_i_i_i = v_r24_sroa_13_0_sink_i_i; p_v_r70_i_sroa_231755_sroa_0_0_ph_i = 1u; goto L_arm_4_i; } else { p_v_r4_0_i3798_i = v_r90_i428_i; p_v_r3_i393_sroa_0_03797_i = v_r24_sroa_0_0_sink_i_i; p_v_r3_i393_sroa_7_03796_i = v_r24_sroa_4_0_sink_i_i; p_v_r3_i393_sroa_16_03795_i = v_r24_sroa_13_0_sink_i_i; goto L_join_9_i_i; }
 L_arm_4_i:;
-    v_r34_i_i_i_i_i_i = p_v_r34_i_i_i_i_i_i;
+    v_r70_i_sroa_27_sroa_0_0_ph_i = p_v_r70_i_sroa_27_sroa_0_0_ph_i;
     v_r13_i_i_i_i_i_i = p_v_r13_i_i_i_i_i_i;
     v_r70_i_sroa_27_sroa_13_0_ph_i = p_v_r70_i_sroa_27_sroa_13_0_ph_i;
-    v_r70_i_sroa_27_sroa_16_0_ph_i = p_v_r70_i_sroa_27_sroa_16_0_ph_i;
-    v_r70_i_sroa_27_sroa_19_0_ph_i = p_v_r70_i_sroa_27_sroa_19_0_ph_i;
     v_r0_sroa_0_0_copyload_i_i_i_i_i_i = p_v_r0_sroa_0_0_copyload_i_i_i_i_i_i;
-    v_r70_i_sroa_231645_sroa_0_0_ph_i = p_v_r70_i_sroa_231645_sroa_0_0_ph_i;
+    v_r70_i_sroa_231755_sroa_0_0_ph_i = p_v_r70_i_sroa_231755_sroa_0_0_ph_i;
     put_P(v_r5_i, v_r12_sroa_10_i_sroa_3_0_ph_i);
     v_r10_sroa_56_sroa_0_sroa_12_3_r5_sroa_idx_i = v_r5_i + 8;
     put_u64(v_r10_sroa_56_sroa_0_sroa_12_3_r5_sroa_idx_i, v_r12_sroa_10_i_sroa_5_0_ph_i);
     v_r10_sroa_56_sroa_0_sroa_22_3_r5_sroa_idx_i = v_r5_i + 16;
     put_u64(v_r10_sroa_56_sroa_0_sroa_22_3_r5_sroa_idx_i, v_i_i);
     v_r10_sroa_56_sroa_0_sroa_32_3_r5_sroa_idx_i = v_r5_i + 24;
-    put_P(v_r10_sroa_56_sroa_0_sroa_32_3_r5_sroa_idx_i, v_r1_sroa_0_0_copyload_i_i191_i_i_i_i);
+    put_P(v_r10_sroa_56_sroa_0_sroa_32_3_r5_sroa_idx_i, v_r12_sroa_10_i745_sroa_3_0_ph_i);
     v_r10_sroa_56_sroa_0_sroa_32_sroa_12_0_r10_sroa_56_s = v_r5_i + 32;
-    put_u64(v_r10_sroa_56_sroa_0_sroa_32_sroa_12_0_r10_sroa_56_s, v_r1_sroa_3_0_copyload_i_i193_i_i_i_i);
+    put_u64(v_r10_sroa_56_sroa_0_sroa_32_sroa_12_0_r10_sroa_56_s, v_r12_sroa_10_i745_sroa_5_0_ph_i);
     v_r10_sroa_56_sroa_0_sroa_32_sroa_22_0_r10_sroa_56_s = v_r5_i + 40;
     put_u64(v_r10_sroa_56_sroa_0_sroa_32_sroa_22_0_r10_sroa_56_s, v_i328_i);
     v_r10_sroa_56_sroa_0_sroa_42_3_r5_sroa_idx_i = v_r5_i + 48;
@@ -37024,9 +36804,9 @@ L_arm_4_i:;
     v_r10_sroa_56_sroa_0_sroa_92_sroa_22_0_r10_sroa_56_s = v_r5_i + 184;
     put_u64(v_r10_sroa_56_sroa_0_sroa_92_sroa_22_0_r10_sroa_56_s, v_i388_i);
     v_r10_sroa_56_sroa_12_3_r5_sroa_idx_i = v_r5_i + 192;
-    put_u64(v_r10_sroa_56_sroa_12_3_r5_sroa_idx_i, v_r70_i_sroa_231645_sroa_0_0_ph_i);
+    put_u64(v_r10_sroa_56_sroa_12_3_r5_sroa_idx_i, v_r70_i_sroa_231755_sroa_0_0_ph_i);
     v_r10_sroa_56_sroa_22_3_r5_sroa_idx_i = v_r5_i + 200;
-    put_P(v_r10_sroa_56_sroa_22_3_r5_sroa_idx_i, v_r34_i_i_i_i_i_i);
+    put_P(v_r10_sroa_56_sroa_22_3_r5_sroa_idx_i, v_r70_i_sroa_27_sroa_0_0_ph_i);
     v_r10_sroa_56_sroa_22_sroa_12_0_r10_sroa_56_sroa_22_ = v_r5_i + 208;
     put_u64(v_r10_sroa_56_sroa_22_sroa_12_0_r10_sroa_56_sroa_22_, v_a2);
     v_r10_sroa_56_sroa_22_sroa_22_0_r10_sroa_56_sroa_22_ = v_r5_i + 216;
@@ -37034,79 +36814,69 @@ L_arm_4_i:;
     v_r10_sroa_56_sroa_22_sroa_32_0_r10_sroa_56_sroa_22_ = v_r5_i + 217;
     put_u8(v_r10_sroa_56_sroa_22_sroa_32_0_r10_sroa_56_sroa_22_, v_r70_i_sroa_27_sroa_13_0_ph_i);
     v_r10_sroa_56_sroa_22_sroa_42_0_r10_sroa_56_sroa_22_ = v_r5_i + 218;
-    put_u8(v_r10_sroa_56_sroa_22_sroa_42_0_r10_sroa_56_sroa_22_, v_r70_i_sroa_27_sroa_16_0_ph_i);
+    put_u8(v_r10_sroa_56_sroa_22_sroa_42_0_r10_sroa_56_sroa_22_, 0u);
     v_r10_sroa_56_sroa_22_sroa_52_0_r10_sroa_56_sroa_22_ = v_r5_i + 219;
-    put_u8(v_r10_sroa_56_sroa_22_sroa_52_0_r10_sroa_56_sroa_22_, v_r70_i_sroa_27_sroa_19_0_ph_i);
+    put_u8(v_r10_sroa_56_sroa_22_sroa_52_0_r10_sroa_56_sroa_22_, 0u);
     v_r10_sroa_56_sroa_22_sroa_62_0_r10_sroa_56_sroa_22_ = v_r5_i + 220;
     put_u32(v_r10_sroa_56_sroa_22_sroa_62_0_r10_sroa_56_sroa_22_, v_r0_sroa_0_0_copyload_i_i_i_i_i_i);
     f_der_core_encode_AnyEncode_encoded_len_ef326f824b52(v_r10_i_i_i, v_r5_i);
     v_r1_sroa_0_0_copyload_i_i_i_i = get_u8(v_r10_i_i_i);
-    v_15 = v_r1_sroa_0_0_copyload_i_i_i_i == 0u;
-    v_16 = (u8)(v_r70_i_sroa_231645_sroa_0_0_ph_i);
-    if (v_15) { goto L_arm_1_i_i1641_i; } else { goto L_arm_2_i_i1637_i; }
-L_arm_1_i_i1641_i:;
+    v_12 = v_r1_sroa_0_0_copyload_i_i_i_i == 0u;
+    v_13 = (u8)(v_r70_i_sroa_231755_sroa_0_0_ph_i);
+    if (v_12) { goto L_arm_1_i_i1751_i; } else { goto L_arm_2_i_i1747_i; }
+L_arm_1_i_i1751_i:;
     v_r9_i_i_i_i = v_r10_i_i_i + 4;
     v_r1_sroa_9_4_copyload_i_i_i_i = get_u32(v_r9_i_i_i_i);
     v_r3_i8_i_i_i = (u64)v_r1_sroa_9_4_copyload_i_i_i_i;
     v_r56_i_i_i = v_a4 < v_r3_i8_i_i_i;
-    if (v_r56_i_i_i) { p_v_r5_sroa_0_sroa_5_0_i_i = 15u; goto L_arm_2_i1638_i; } else { goto L_join_7_i_i_i; }
-L_arm_2_i_i1637_i:;
+    if (v_r56_i_i_i) { p_v_r5_sroa_0_sroa_5_0_i_i = 15u; goto L_arm_2_i1748_i; } else { goto L_join_7_i_i_i; }
+L_arm_2_i_i1747_i:;
     v_r3_i_i_i_i = v_r10_i_i_i + 1;
     v_r1_sroa_3_1_copyload_i_i_i_i = get_u8(v_r3_i_i_i_i);
-    v_17 = (u32)v_r1_sroa_3_1_copyload_i_i_i_i;
-    v_18 = (u32)((u32)(v_17) + (u32)(1u));
-    { p_v_r5_sroa_0_sroa_5_0_i_i = v_18; goto L_arm_2_i1638_i; }
+    v_14 = (u32)v_r1_sroa_3_1_copyload_i_i_i_i;
+    v_15 = (u32)((u32)(v_14) + (u32)(1u));
+    { p_v_r5_sroa_0_sroa_5_0_i_i = v_15; goto L_arm_2_i1748_i; }
 L_join_7_i_i_i:;
-    if (v_r7_i1277_i) { p_v_r7_sroa_130_0_i_i_i = v_r3_i8_i_i_i; goto L_der_core_last_part_LastEncodeValue_prepend_value_b; } else { goto L_arm_1_i_i_i_i_i; }
+    if (v_r7_i1382_i) { p_v_r7_sroa_130_0_i_i_i = v_r3_i8_i_i_i; goto L_der_core_last_part_LastEncodeValue_prepend_value_b; } else { goto L_arm_1_i_i_i_i_i; }
 L_arm_1_i_i_i_i_i:;
-    v_19 = v_r13_i_i_i_i_i_i == 0u;
-    if (v_19) { goto L_join_9_lr_ph_i_i_i_i_i_i; } else { p_v_r7_sroa_130_8_i_i_i = v_r3_i8_i_i_i; goto L_der_core_borrowed_BorrowedEncode_prepend_046aa0adc; }
-L_join_9_lr_ph_i_i_i_i_i_i:;
+    v_16 = v_r13_i_i_i_i_i_i == 0u;
+    if (v_16) { goto L_join_9_i_i_i_i_i_preheader_i; } else { p_v_r7_sroa_130_8_i_i_i = v_r3_i8_i_i_i; goto L_der_core_borrowed_BorrowedEncode_prepend_046aa0adc; }
+L_join_9_i_i_i_i_i_preheader_i:;
     v_r3_i_i_i_i_i_i_i = (u64)v_r0_sroa_0_0_copyload_i_i_i_i_i_i;
     v_r22_neg_i_i_i_i_i_i = (u64)((u64)(v_r3_i_i_i_i_i_i_i) - (u64)(v_r3_i8_i_i_i));
-    v_r4_sroa_22_sroa_6_3_r1_sroa_idx_i_i_i_i_i_i_i = v_r1_i_i_i_i_i_i_i + 8;
-    v_r4_sroa_22_sroa_10_3_r1_sroa_idx_i_i_i_i_i_i_i = v_r1_i_i_i_i_i_i_i + 16;
-    v_r4_sroa_22_sroa_14_3_r1_sroa_idx_i_i_i_i_i_i_i = v_r1_i_i_i_i_i_i_i + 24;
-    v_r4_sroa_22_sroa_14_sroa_6_0_r4_sroa_22_sroa_14_3_r = v_r1_i_i_i_i_i_i_i + 32;
-    v_r4_sroa_22_sroa_14_sroa_10_0_r4_sroa_22_sroa_14_3_ = v_r1_i_i_i_i_i_i_i + 40;
-    v_r4_sroa_22_sroa_18_3_r1_sroa_idx_i_i_i_i_i_i_i = v_r1_i_i_i_i_i_i_i + 48;
-    v_r4_sroa_22_sroa_18_sroa_6_0_r4_sroa_22_sroa_18_3_r = v_r1_i_i_i_i_i_i_i + 56;
-    v_r4_sroa_22_sroa_18_sroa_10_0_r4_sroa_22_sroa_18_3_ = v_r1_i_i_i_i_i_i_i + 64;
-    v_r37_i_i_i_i_i_i_i = v_r10_i_i_i_i_i_i_i + 4;
     { p_v_r7_sroa_130_9_i_i_i = v_r3_i8_i_i_i; p_v_r2_018_i_i_i_i_i_i = v_a2; goto L_join_9_i_i_i_i_i_i; }
 L_join_9_i_i_i_i_i_i:;
     v_r7_sroa_130_9_i_i_i = p_v_r7_sroa_130_9_i_i_i;
     v_r2_018_i_i_i_i_i_i = p_v_r2_018_i_i_i_i_i_i;
     v_r31_i_i_i_i_i_i = (u64)((u64)(v_r2_018_i_i_i_i_i_i) + (u64)(18446744073709551615ull));
     v_r33_i_i_i_i_i_i = (u64)((u64)(v_r31_i_i_i_i_i_i) * (u64)(48u));
-    v_r36_i_i_i_i_i_i = (P)((uintptr_t)v_r34_i_i_i_i_i_i + (u64)(v_r33_i_i_i_i_i_i));
-    put_u64(v_r10_i_i_i_i_i_i_i, 0u);
+    v_r36_i_i_i_i_i_i = (P)((uintptr_t)v_r70_i_sroa_27_sroa_0_0_ph_i + (u64)(v_r33_i_i_i_i_i_i));
     v_r10_sroa_0_0_copyload_i_i_i_i_i_i_i_i = get_P(v_r36_i_i_i_i_i_i);
     v_r10_sroa_3_0_a1_sroa_idx_i_i_i_i_i_i_i_i = v_r36_i_i_i_i_i_i + 8;
     v_r10_sroa_3_0_copyload_i_i_i_i_i_i_i_i = get_u64(v_r10_sroa_3_0_a1_sroa_idx_i_i_i_i_i_i_i_i);
     v_r146_i_i_i_i_i_i_i_i_i = v_r10_sroa_3_0_copyload_i_i_i_i_i_i_i_i > 1u;
     if (v_r146_i_i_i_i_i_i_i_i_i) { goto L_then_3_preheader_i_i_i_i_i_i_i_i_i; } else { goto L_der_core_integer_uint_strip_exit_i_i_i_i_i_i_i_i; }
 L_then_3_preheader_i_i_i_i_i_i_i_i_i:;
-    v_20 = (P)((uintptr_t)v_r10_sroa_0_0_copyload_i_i_i_i_i_i_i_i + (u64)(v_r10_sroa_3_0_copyload_i_i_i_i_i_i_i_i));
-    v_scevgep_i_i_i_i_i_i_i_i_i = (P)((uintptr_t)v_20 + (u64)(-1));
+    v_17 = (P)((uintptr_t)v_r10_sroa_0_0_copyload_i_i_i_i_i_i_i_i + (u64)(v_r10_sroa_3_0_copyload_i_i_i_i_i_i_i_i));
+    v_scevgep_i_i_i_i_i_i_i_i_i = (P)((uintptr_t)v_17 + (u64)(-1));
     { p_v_r3_sroa_0_08_i_i_i_i_i_i_i_i_i = v_r10_sroa_0_0_copyload_i_i_i_i_i_i_i_i; p_v_r3_sroa_6_07_i_i_i_i_i_i_i_i_i = v_r10_sroa_3_0_copyload_i_i_i_i_i_i_i_i; goto L_then_3_i_i_i_i_i_i_i_i_i; }
 L_then_3_i_i_i_i_i_i_i_i_i:;
     v_r3_sroa_0_08_i_i_i_i_i_i_i_i_i = p_v_r3_sroa_0_08_i_i_i_i_i_i_i_i_i;
     v_r3_sroa_6_07_i_i_i_i_i_i_i_i_i = p_v_r3_sroa_6_07_i_i_i_i_i_i_i_i_i;
-    v_r21_i_i33_i_i_i_i_i_i_i = get_u8(v_r3_sroa_0_08_i_i_i_i_i_i_i_i_i);
-    v_r23_i_i_i_i_i_i_i_i_i = v_r21_i_i33_i_i_i_i_i_i_i == 0u;
-    if (v_r23_i_i_i_i_i_i_i_i_i) { goto L_join_5_i_i_i_i_i_i_i_i_i; } else { goto L_join_3_i_i_i_i_i_i_i_i; }
+    v_r21_i_i131_i_i_i_i_i_i_i = get_u8(v_r3_sroa_0_08_i_i_i_i_i_i_i_i_i);
+    v_r23_i_i_i_i_i_i_i_i_i = v_r21_i_i131_i_i_i_i_i_i_i == 0u;
+    if (v_r23_i_i_i_i_i_i_i_i_i) { goto L_join_5_i_i_i_i_i_i_i_i_i; } else { goto L_join_3_i132_i_i_i_i_i_i_i; }
 L_join_5_i_i_i_i_i_i_i_i_i:;
-    v_r31_i_i39_i_i_i_i_i_i_i = v_r3_sroa_0_08_i_i_i_i_i_i_i_i_i + 1;
-    v_r34_i_i40_i_i_i_i_i_i_i = (u64)((u64)(v_r3_sroa_6_07_i_i_i_i_i_i_i_i_i) + (u64)(18446744073709551615ull));
-    v_r14_i_i41_i_i_i_i_i_i_i = v_r34_i_i40_i_i_i_i_i_i_i > 1u;
-    if (v_r14_i_i41_i_i_i_i_i_i_i) { p_v_r3_sroa_0_08_i_i_i_i_i_i_i_i_i = v_r31_i_i39_i_i_i_i_i_i_i; p_v_r3_sroa_6_07_i_i_i_i_i_i_i_i_i = v_r34_i_i40_i_i_i_i_i_i_i; goto L_then_3_i_i_i_i_i_i_i_i_i; } else { p_v_r12_sroa_10_i_sroa_3_0_ph_ph_i_i_i_i_i_i_i = v_scevgep_i_i_i_i_i_i_i_i_i; goto L_arm_1_ithread_pre_split_i_i_i_i_i_i_i; }
+    v_r31_i_i139_i_i_i_i_i_i_i = v_r3_sroa_0_08_i_i_i_i_i_i_i_i_i + 1;
+    v_r34_i_i140_i_i_i_i_i_i_i = (u64)((u64)(v_r3_sroa_6_07_i_i_i_i_i_i_i_i_i) + (u64)(18446744073709551615ull));
+    v_r14_i_i141_i_i_i_i_i_i_i = v_r34_i_i140_i_i_i_i_i_i_i > 1u;
+    if (v_r14_i_i141_i_i_i_i_i_i_i) { p_v_r3_sroa_0_08_i_i_i_i_i_i_i_i_i = v_r31_i_i139_i_i_i_i_i_i_i; p_v_r3_sroa_6_07_i_i_i_i_i_i_i_i_i = v_r34_i_i140_i_i_i_i_i_i_i; goto L_then_3_i_i_i_i_i_i_i_i_i; } else { p_v_r12_sroa_10_i_sroa_3_0_ph_ph_i_i_i_i_i_i_i = v_scevgep_i_i_i_i_i_i_i_i_i; goto L_arm_1_ithread_pre_split_i_i_i_i_i_i_i; }
 L_der_core_integer_uint_strip_exit_i_i_i_i_i_i_i_i:;
-    v_r7_i_i29_i_i_i_i_i_i_i = v_r10_sroa_3_0_copyload_i_i_i_i_i_i_i_i == 0u;
-    if (v_r7_i_i29_i_i_i_i_i_i_i) { goto L_pkcs1_c_given_primes_prepend_given_exit_thread_i_i; } else { p_v_r12_sroa_10_i_sroa_3_0_ph_ph_i_i_i_i_i_i_i = v_r10_sroa_0_0_copyload_i_i_i_i_i_i_i_i; goto L_arm_1_ithread_pre_split_i_i_i_i_i_i_i; }
-L_join_3_i_i_i_i_i_i_i_i:;
-    v_r49_i34_i_i_i_i_i_i_i = v_r3_sroa_6_07_i_i_i_i_i_i_i_i_i > 4294967295ull;
-    if (v_r49_i34_i_i_i_i_i_i_i) { goto L_pkcs1_c_given_primes_prepend_given_exit_thread_i_i; } else { p_v_r20_i83_i_i_i_i_i_i_i_i = v_r21_i_i33_i_i_i_i_i_i_i; p_v_r12_sroa_10_i_sroa_3_0_ph_i_i_i_i_i_i_i = v_r3_sroa_0_08_i_i_i_i_i_i_i_i_i; p_v_r12_sroa_10_i_sroa_5_0_ph_i_i_i_i_i_i_i = v_r3_sroa_6_07_i_i_i_i_i_i_i_i_i; goto L_arm_1_i_i_i_i_i_i_i_i; }
+    v_r7_i_i123_i_i_i_i_i_i_i = v_r10_sroa_3_0_copyload_i_i_i_i_i_i_i_i == 0u;
+    if (v_r7_i_i123_i_i_i_i_i_i_i) { p_v_r7_sroa_130_8_i_i_i = v_r7_sroa_130_9_i_i_i; goto L_der_core_borrowed_BorrowedEncode_prepend_046aa0adc; } else { p_v_r12_sroa_10_i_sroa_3_0_ph_ph_i_i_i_i_i_i_i = v_r10_sroa_0_0_copyload_i_i_i_i_i_i_i_i; goto L_arm_1_ithread_pre_split_i_i_i_i_i_i_i; }
+L_join_3_i132_i_i_i_i_i_i_i:;
+    v_r49_i133_i_i_i_i_i_i_i = v_r3_sroa_6_07_i_i_i_i_i_i_i_i_i > 4294967295ull;
+    if (v_r49_i133_i_i_i_i_i_i_i) { p_v_r7_sroa_130_8_i_i_i = v_r7_sroa_130_9_i_i_i; goto L_der_core_borrowed_BorrowedEncode_prepend_046aa0adc; } else { p_v_r20_i83_i_i_i_i_i_i_i_i = v_r21_i_i131_i_i_i_i_i_i_i; p_v_r12_sroa_10_i_sroa_3_0_ph_i_i_i_i_i_i_i = v_r3_sroa_0_08_i_i_i_i_i_i_i_i_i; p_v_r12_sroa_10_i_sroa_5_0_ph_i_i_i_i_i_i_i = v_r3_sroa_6_07_i_i_i_i_i_i_i_i_i; goto L_arm_1_i_i_i_i_i_i_i_i; }
 L_arm_1_ithread_pre_split_i_i_i_i_i_i_i:;
     v_r12_sroa_10_i_sroa_3_0_ph_ph_i_i_i_i_i_i_i = p_v_r12_sroa_10_i_sroa_3_0_ph_ph_i_i_i_i_i_i_i;
     v_r20_i83_i_pr_i_i_i_i_i_i_i = get_u8(v_r12_sroa_10_i_sroa_3_0_ph_ph_i_i_i_i_i_i_i);
@@ -37121,138 +36891,202 @@ L_arm_1_i_i_i_i_i_i_i_i:;
     v_r16_sroa_0_0_copyload_i_i_i_i_i_i_i_i = get_P(v_r54_i_i_i_i_i_i_i_i);
     v_r16_sroa_3_0_r54_sroa_idx_i_i_i_i_i_i_i_i = v_r36_i_i_i_i_i_i + 24;
     v_r16_sroa_3_0_copyload_i_i_i_i_i_i_i_i = get_u64(v_r16_sroa_3_0_r54_sroa_idx_i_i_i_i_i_i_i_i);
-    v_r146_i_i68_i_i_i_i_i_i_i = v_r16_sroa_3_0_copyload_i_i_i_i_i_i_i_i > 1u;
-    if (v_r146_i_i68_i_i_i_i_i_i_i) { goto L_then_3_preheader_i_i81_i_i_i_i_i_i_i; } else { goto L_der_core_integer_uint_strip_exit_i69_i_i_i_i_i_i_i; }
-L_then_3_preheader_i_i81_i_i_i_i_i_i_i:;
-    v_21 = (P)((uintptr_t)v_r16_sroa_0_0_copyload_i_i_i_i_i_i_i_i + (u64)(v_r16_sroa_3_0_copyload_i_i_i_i_i_i_i_i));
-    v_scevgep_i_i82_i_i_i_i_i_i_i = (P)((uintptr_t)v_21 + (u64)(-1));
-    { p_v_r3_sroa_0_08_i_i84_i_i_i_i_i_i_i = v_r16_sroa_0_0_copyload_i_i_i_i_i_i_i_i; p_v_r3_sroa_6_07_i_i85_i_i_i_i_i_i_i = v_r16_sroa_3_0_copyload_i_i_i_i_i_i_i_i; goto L_then_3_i_i83_i_i_i_i_i_i_i; }
-L_then_3_i_i83_i_i_i_i_i_i_i:;
-    v_r3_sroa_0_08_i_i84_i_i_i_i_i_i_i = p_v_r3_sroa_0_08_i_i84_i_i_i_i_i_i_i;
-    v_r3_sroa_6_07_i_i85_i_i_i_i_i_i_i = p_v_r3_sroa_6_07_i_i85_i_i_i_i_i_i_i;
-    v_r21_i_i86_i_i_i_i_i_i_i = get_u8(v_r3_sroa_0_08_i_i84_i_i_i_i_i_i_i);
-    v_r23_i_i87_i_i_i_i_i_i_i = v_r21_i_i86_i_i_i_i_i_i_i == 0u;
-    if (v_r23_i_i87_i_i_i_i_i_i_i) { goto L_join_5_i_i95_i_i_i_i_i_i_i; } else { goto L_join_3_i88_i_i_i_i_i_i_i; }
-L_join_5_i_i95_i_i_i_i_i_i_i:;
-    v_r31_i_i96_i_i_i_i_i_i_i = v_r3_sroa_0_08_i_i84_i_i_i_i_i_i_i + 1;
-    v_r34_i_i97_i_i_i_i_i_i_i = (u64)((u64)(v_r3_sroa_6_07_i_i85_i_i_i_i_i_i_i) + (u64)(18446744073709551615ull));
-    v_r14_i_i98_i_i_i_i_i_i_i = v_r34_i_i97_i_i_i_i_i_i_i > 1u;
-    if (v_r14_i_i98_i_i_i_i_i_i_i) { p_v_r3_sroa_0_08_i_i84_i_i_i_i_i_i_i = v_r31_i_i96_i_i_i_i_i_i_i; p_v_r3_sroa_6_07_i_i85_i_i_i_i_i_i_i = v_r34_i_i97_i_i_i_i_i_i_i; goto L_then_3_i_i83_i_i_i_i_i_i_i; } else { p_v_r12_sroa_10_i107_sroa_3_0_ph_ph_i_i_i_i_i_i_i = v_scevgep_i_i82_i_i_i_i_i_i_i; goto L_arm_5_ithread_pre_split_i_i_i_i_i_i_i; }
-L_der_core_integer_uint_strip_exit_i69_i_i_i_i_i_i_i:;
-    v_r7_i_i70_i_i_i_i_i_i_i = v_r16_sroa_3_0_copyload_i_i_i_i_i_i_i_i == 0u;
-    if (v_r7_i_i70_i_i_i_i_i_i_i) { goto L_pkcs1_c_given_primes_prepend_given_exit_thread_i_i; } else { p_v_r12_sroa_10_i107_sroa_3_0_ph_ph_i_i_i_i_i_i_i = v_r16_sroa_0_0_copyload_i_i_i_i_i_i_i_i; goto L_arm_5_ithread_pre_split_i_i_i_i_i_i_i; }
-L_join_3_i88_i_i_i_i_i_i_i:;
-    v_r49_i89_i_i_i_i_i_i_i = v_r3_sroa_6_07_i_i85_i_i_i_i_i_i_i > 4294967295ull;
-    if (v_r49_i89_i_i_i_i_i_i_i) { goto L_pkcs1_c_given_primes_prepend_given_exit_thread_i_i; } else { p_v_r20_i90_i_i_i_i_i_i_i_i = v_r21_i_i86_i_i_i_i_i_i_i; p_v_r12_sroa_10_i107_sroa_3_0_ph_i_i_i_i_i_i_i = v_r3_sroa_0_08_i_i84_i_i_i_i_i_i_i; p_v_r1_sroa_3_0_copyload_i_i9_i_i_i_i_i_i_i_i = v_r3_sroa_6_07_i_i85_i_i_i_i_i_i_i; goto L_arm_5_i_i_i_i_i_i_i_i; }
+    v_r146_i_i168_i_i_i_i_i_i_i = v_r16_sroa_3_0_copyload_i_i_i_i_i_i_i_i > 1u;
+    if (v_r146_i_i168_i_i_i_i_i_i_i) { goto L_then_3_preheader_i_i181_i_i_i_i_i_i_i; } else { goto L_der_core_integer_uint_strip_exit_i169_i_i_i_i_i_i_; }
+L_then_3_preheader_i_i181_i_i_i_i_i_i_i:;
+    v_18 = (P)((uintptr_t)v_r16_sroa_0_0_copyload_i_i_i_i_i_i_i_i + (u64)(v_r16_sroa_3_0_copyload_i_i_i_i_i_i_i_i));
+    v_scevgep_i_i182_i_i_i_i_i_i_i = (P)((uintptr_t)v_18 + (u64)(-1));
+    { p_v_r3_sroa_0_08_i_i184_i_i_i_i_i_i_i = v_r16_sroa_0_0_copyload_i_i_i_i_i_i_i_i; p_v_r3_sroa_6_07_i_i185_i_i_i_i_i_i_i = v_r16_sroa_3_0_copyload_i_i_i_i_i_i_i_i; goto L_then_3_i_i183_i_i_i_i_i_i_i; }
+L_then_3_i_i183_i_i_i_i_i_i_i:;
+    v_r3_sroa_0_08_i_i184_i_i_i_i_i_i_i = p_v_r3_sroa_0_08_i_i184_i_i_i_i_i_i_i;
+    v_r3_sroa_6_07_i_i185_i_i_i_i_i_i_i = p_v_r3_sroa_6_07_i_i185_i_i_i_i_i_i_i;
+    v_r21_i_i186_i_i_i_i_i_i_i = get_u8(v_r3_sroa_0_08_i_i184_i_i_i_i_i_i_i);
+    v_r23_i_i187_i_i_i_i_i_i_i = v_r21_i_i186_i_i_i_i_i_i_i == 0u;
+    if (v_r23_i_i187_i_i_i_i_i_i_i) { goto L_join_5_i_i195_i_i_i_i_i_i_i; } else { goto L_join_3_i188_i_i_i_i_i_i_i; }
+L_join_5_i_i195_i_i_i_i_i_i_i:;
+    v_r31_i_i196_i_i_i_i_i_i_i = v_r3_sroa_0_08_i_i184_i_i_i_i_i_i_i + 1;
+    v_r34_i_i197_i_i_i_i_i_i_i = (u64)((u64)(v_r3_sroa_6_07_i_i185_i_i_i_i_i_i_i) + (u64)(18446744073709551615ull));
+    v_r14_i_i198_i_i_i_i_i_i_i = v_r34_i_i197_i_i_i_i_i_i_i > 1u;
+    if (v_r14_i_i198_i_i_i_i_i_i_i) { p_v_r3_sroa_0_08_i_i184_i_i_i_i_i_i_i = v_r31_i_i196_i_i_i_i_i_i_i; p_v_r3_sroa_6_07_i_i185_i_i_i_i_i_i_i = v_r34_i_i197_i_i_i_i_i_i_i; goto L_then_3_i_i183_i_i_i_i_i_i_i; } else { p_v_r12_sroa_10_i207_sroa_3_0_ph_ph_i_i_i_i_i_i_i = v_scevgep_i_i182_i_i_i_i_i_i_i; goto L_arm_5_ithread_pre_split_i_i_i_i_i_i_i; }
+L_der_core_integer_uint_strip_exit_i169_i_i_i_i_i_i_:;
+    v_r7_i_i170_i_i_i_i_i_i_i = v_r16_sroa_3_0_copyload_i_i_i_i_i_i_i_i == 0u;
+    if (v_r7_i_i170_i_i_i_i_i_i_i) { p_v_r7_sroa_130_8_i_i_i = v_r7_sroa_130_9_i_i_i; goto L_der_core_borrowed_BorrowedEncode_prepend_046aa0adc; } else { p_v_r12_sroa_10_i207_sroa_3_0_ph_ph_i_i_i_i_i_i_i = v_r16_sroa_0_0_copyload_i_i_i_i_i_i_i_i; goto L_arm_5_ithread_pre_split_i_i_i_i_i_i_i; }
+L_join_3_i188_i_i_i_i_i_i_i:;
+    v_r49_i189_i_i_i_i_i_i_i = v_r3_sroa_6_07_i_i185_i_i_i_i_i_i_i > 4294967295ull;
+    if (v_r49_i189_i_i_i_i_i_i_i) { p_v_r7_sroa_130_8_i_i_i = v_r7_sroa_130_9_i_i_i; goto L_der_core_borrowed_BorrowedEncode_prepend_046aa0adc; } else { p_v_r20_i90_i_i_i_i_i_i_i_i = v_r21_i_i186_i_i_i_i_i_i_i; p_v_r12_sroa_10_i207_sroa_3_0_ph_i_i_i_i_i_i_i = v_r3_sroa_0_08_i_i184_i_i_i_i_i_i_i; p_v_r12_sroa_10_i207_sroa_5_0_ph_i_i_i_i_i_i_i = v_r3_sroa_6_07_i_i185_i_i_i_i_i_i_i; goto L_arm_5_i_i_i_i_i_i_i_i; }
 L_arm_5_ithread_pre_split_i_i_i_i_i_i_i:;
-    v_r12_sroa_10_i107_sroa_3_0_ph_ph_i_i_i_i_i_i_i = p_v_r12_sroa_10_i107_sroa_3_0_ph_ph_i_i_i_i_i_i_i;
-    v_r20_i90_i_pr_i_i_i_i_i_i_i = get_u8(v_r12_sroa_10_i107_sroa_3_0_ph_ph_i_i_i_i_i_i_i);
-    { p_v_r20_i90_i_i_i_i_i_i_i_i = v_r20_i90_i_pr_i_i_i_i_i_i_i; p_v_r12_sroa_10_i107_sroa_3_0_ph_i_i_i_i_i_i_i = v_r12_sroa_10_i107_sroa_3_0_ph_ph_i_i_i_i_i_i_i; p_v_r1_sroa_3_0_copyload_i_i9_i_i_i_i_i_i_i_i = 1u; goto L_arm_5_i_i_i_i_i_i_i_i; }
+    v_r12_sroa_10_i207_sroa_3_0_ph_ph_i_i_i_i_i_i_i = p_v_r12_sroa_10_i207_sroa_3_0_ph_ph_i_i_i_i_i_i_i;
+    v_r20_i90_i_pr_i_i_i_i_i_i_i = get_u8(v_r12_sroa_10_i207_sroa_3_0_ph_ph_i_i_i_i_i_i_i);
+    { p_v_r20_i90_i_i_i_i_i_i_i_i = v_r20_i90_i_pr_i_i_i_i_i_i_i; p_v_r12_sroa_10_i207_sroa_3_0_ph_i_i_i_i_i_i_i = v_r12_sroa_10_i207_sroa_3_0_ph_ph_i_i_i_i_i_i_i; p_v_r12_sroa_10_i207_sroa_5_0_ph_i_i_i_i_i_i_i = 1u; goto L_arm_5_i_i_i_i_i_i_i_i; }
 L_arm_5_i_i_i_i_i_i_i_i:;
     v_r20_i90_i_i_i_i_i_i_i_i = p_v_r20_i90_i_i_i_i_i_i_i_i;
-    v_r12_sroa_10_i107_sroa_3_0_ph_i_i_i_i_i_i_i = p_v_r12_sroa_10_i107_sroa_3_0_ph_i_i_i_i_i_i_i;
-    v_r1_sroa_3_0_copyload_i_i9_i_i_i_i_i_i_i_i = p_v_r1_sroa_3_0_copyload_i_i9_i_i_i_i_i_i_i_i;
+    v_r12_sroa_10_i207_sroa_3_0_ph_i_i_i_i_i_i_i = p_v_r12_sroa_10_i207_sroa_3_0_ph_i_i_i_i_i_i_i;
+    v_r12_sroa_10_i207_sroa_5_0_ph_i_i_i_i_i_i_i = p_v_r12_sroa_10_i207_sroa_5_0_ph_i_i_i_i_i_i_i;
     v_r20_i90_i_lobit_i_i_i_i_i_i_i = (u8)((u32)(v_r20_i90_i_i_i_i_i_i_i_i) >> (u32)((7u & 31)));
     v_i92_i_i_i_i_i_i_i_i = (u64)v_r20_i90_i_lobit_i_i_i_i_i_i_i;
     v_r83_i_i_i_i_i_i_i_i = v_r36_i_i_i_i_i_i + 32;
     v_r22_sroa_0_0_copyload_i_i_i_i_i_i_i_i = get_P(v_r83_i_i_i_i_i_i_i_i);
     v_r22_sroa_3_0_r83_sroa_idx_i_i_i_i_i_i_i_i = v_r36_i_i_i_i_i_i + 40;
     v_r22_sroa_3_0_copyload_i_i_i_i_i_i_i_i = get_u64(v_r22_sroa_3_0_r83_sroa_idx_i_i_i_i_i_i_i_i);
-    v_r146_i_i162_i_i_i_i_i_i_i = v_r22_sroa_3_0_copyload_i_i_i_i_i_i_i_i > 1u;
-    if (v_r146_i_i162_i_i_i_i_i_i_i) { goto L_then_3_preheader_i_i175_i_i_i_i_i_i_i; } else { goto L_der_core_integer_uint_strip_exit_i163_i_i_i_i_i_i_; }
-L_then_3_preheader_i_i175_i_i_i_i_i_i_i:;
-    v_22 = (P)((uintptr_t)v_r22_sroa_0_0_copyload_i_i_i_i_i_i_i_i + (u64)(v_r22_sroa_3_0_copyload_i_i_i_i_i_i_i_i));
-    v_scevgep_i_i176_i_i_i_i_i_i_i = (P)((uintptr_t)v_22 + (u64)(-1));
-    { p_v_r3_sroa_0_08_i_i178_i_i_i_i_i_i_i = v_r22_sroa_0_0_copyload_i_i_i_i_i_i_i_i; p_v_r3_sroa_6_07_i_i179_i_i_i_i_i_i_i = v_r22_sroa_3_0_copyload_i_i_i_i_i_i_i_i; goto L_then_3_i_i177_i_i_i_i_i_i_i; }
-L_then_3_i_i177_i_i_i_i_i_i_i:;
-    v_r3_sroa_0_08_i_i178_i_i_i_i_i_i_i = p_v_r3_sroa_0_08_i_i178_i_i_i_i_i_i_i;
-    v_r3_sroa_6_07_i_i179_i_i_i_i_i_i_i = p_v_r3_sroa_6_07_i_i179_i_i_i_i_i_i_i;
-    v_r21_i_i180_i_i_i_i_i_i_i = get_u8(v_r3_sroa_0_08_i_i178_i_i_i_i_i_i_i);
-    v_r23_i_i181_i_i_i_i_i_i_i = v_r21_i_i180_i_i_i_i_i_i_i == 0u;
-    if (v_r23_i_i181_i_i_i_i_i_i_i) { goto L_join_5_i_i189_i_i_i_i_i_i_i; } else { goto L_join_3_i182_i_i_i_i_i_i_i; }
-L_join_5_i_i189_i_i_i_i_i_i_i:;
-    v_r31_i_i190_i_i_i_i_i_i_i = v_r3_sroa_0_08_i_i178_i_i_i_i_i_i_i + 1;
-    v_r34_i_i191_i_i_i_i_i_i_i = (u64)((u64)(v_r3_sroa_6_07_i_i179_i_i_i_i_i_i_i) + (u64)(18446744073709551615ull));
-    v_r14_i_i192_i_i_i_i_i_i_i = v_r34_i_i191_i_i_i_i_i_i_i > 1u;
-    if (v_r14_i_i192_i_i_i_i_i_i_i) { p_v_r3_sroa_0_08_i_i178_i_i_i_i_i_i_i = v_r31_i_i190_i_i_i_i_i_i_i; p_v_r3_sroa_6_07_i_i179_i_i_i_i_i_i_i = v_r34_i_i191_i_i_i_i_i_i_i; goto L_then_3_i_i177_i_i_i_i_i_i_i; } else { p_v_r12_sroa_10_i201_sroa_3_0_ph_ph_i_i_i_i_i_i_i = v_scevgep_i_i176_i_i_i_i_i_i_i; goto L_arm_1thread_pre_split_i_i_i_i_i_i_i; }
-L_der_core_integer_uint_strip_exit_i163_i_i_i_i_i_i_:;
-    v_r7_i_i164_i_i_i_i_i_i_i = v_r22_sroa_3_0_copyload_i_i_i_i_i_i_i_i == 0u;
-    if (v_r7_i_i164_i_i_i_i_i_i_i) { goto L_pkcs1_c_given_primes_prepend_given_exit_thread_i_i; } else { p_v_r12_sroa_10_i201_sroa_3_0_ph_ph_i_i_i_i_i_i_i = v_r22_sroa_0_0_copyload_i_i_i_i_i_i_i_i; goto L_arm_1thread_pre_split_i_i_i_i_i_i_i; }
-L_join_3_i182_i_i_i_i_i_i_i:;
-    v_r49_i183_i_i_i_i_i_i_i = v_r3_sroa_6_07_i_i179_i_i_i_i_i_i_i > 4294967295ull;
-    if (v_r49_i183_i_i_i_i_i_i_i) { goto L_pkcs1_c_given_primes_prepend_given_exit_thread_i_i; } else { p_v_r20_i100_i_i_i_i_i_i_i_i = v_r21_i_i180_i_i_i_i_i_i_i; p_v_r12_sroa_10_i201_sroa_3_0_ph_i_i_i_i_i_i_i = v_r3_sroa_0_08_i_i178_i_i_i_i_i_i_i; p_v_r1_sroa_3_0_copyload_i_i_i_i_i_i_i_i_i_i = v_r3_sroa_6_07_i_i179_i_i_i_i_i_i_i; goto L_arm_1_i_i_i_i_i_i_i; }
+    v_r146_i_i262_i_i_i_i_i_i_i = v_r22_sroa_3_0_copyload_i_i_i_i_i_i_i_i > 1u;
+    if (v_r146_i_i262_i_i_i_i_i_i_i) { goto L_then_3_preheader_i_i275_i_i_i_i_i_i_i; } else { goto L_der_core_integer_uint_strip_exit_i263_i_i_i_i_i_i_; }
+L_then_3_preheader_i_i275_i_i_i_i_i_i_i:;
+    v_19 = (P)((uintptr_t)v_r22_sroa_0_0_copyload_i_i_i_i_i_i_i_i + (u64)(v_r22_sroa_3_0_copyload_i_i_i_i_i_i_i_i));
+    v_scevgep_i_i276_i_i_i_i_i_i_i = (P)((uintptr_t)v_19 + (u64)(-1));
+    { p_v_r3_sroa_0_08_i_i278_i_i_i_i_i_i_i = v_r22_sroa_0_0_copyload_i_i_i_i_i_i_i_i; p_v_r3_sroa_6_07_i_i279_i_i_i_i_i_i_i = v_r22_sroa_3_0_copyload_i_i_i_i_i_i_i_i; goto L_then_3_i_i277_i_i_i_i_i_i_i; }
+L_then_3_i_i277_i_i_i_i_i_i_i:;
+    v_r3_sroa_0_08_i_i278_i_i_i_i_i_i_i = p_v_r3_sroa_0_08_i_i278_i_i_i_i_i_i_i;
+    v_r3_sroa_6_07_i_i279_i_i_i_i_i_i_i = p_v_r3_sroa_6_07_i_i279_i_i_i_i_i_i_i;
+    v_r21_i_i280_i_i_i_i_i_i_i = get_u8(v_r3_sroa_0_08_i_i278_i_i_i_i_i_i_i);
+    v_r23_i_i281_i_i_i_i_i_i_i = v_r21_i_i280_i_i_i_i_i_i_i == 0u;
+    if (v_r23_i_i281_i_i_i_i_i_i_i) { goto L_join_5_i_i289_i_i_i_i_i_i_i; } else { goto L_join_3_i282_i_i_i_i_i_i_i; }
+L_join_5_i_i289_i_i_i_i_i_i_i:;
+    v_r31_i_i290_i_i_i_i_i_i_i = v_r3_sroa_0_08_i_i278_i_i_i_i_i_i_i + 1;
+    v_r34_i_i291_i_i_i_i_i_i_i = (u64)((u64)(v_r3_sroa_6_07_i_i279_i_i_i_i_i_i_i) + (u64)(18446744073709551615ull));
+    v_r14_i_i292_i_i_i_i_i_i_i = v_r34_i_i291_i_i_i_i_i_i_i > 1u;
+    if (v_r14_i_i292_i_i_i_i_i_i_i) { p_v_r3_sroa_0_08_i_i278_i_i_i_i_i_i_i = v_r31_i_i290_i_i_i_i_i_i_i; p_v_r3_sroa_6_07_i_i279_i_i_i_i_i_i_i = v_r34_i_i291_i_i_i_i_i_i_i; goto L_then_3_i_i277_i_i_i_i_i_i_i; } else { p_v_r12_sroa_10_i301_sroa_3_0_ph_ph_i_i_i_i_i_i_i = v_scevgep_i_i276_i_i_i_i_i_i_i; goto L_arm_1thread_pre_split_i_i_i_i_i_i_i; }
+L_der_core_integer_uint_strip_exit_i263_i_i_i_i_i_i_:;
+    v_r7_i_i264_i_i_i_i_i_i_i = v_r22_sroa_3_0_copyload_i_i_i_i_i_i_i_i == 0u;
+    if (v_r7_i_i264_i_i_i_i_i_i_i) { p_v_r7_sroa_130_8_i_i_i = v_r7_sroa_130_9_i_i_i; goto L_der_core_borrowed_BorrowedEncode_prepend_046aa0adc; } else { p_v_r12_sroa_10_i301_sroa_3_0_ph_ph_i_i_i_i_i_i_i = v_r22_sroa_0_0_copyload_i_i_i_i_i_i_i_i; goto L_arm_1thread_pre_split_i_i_i_i_i_i_i; }
+L_join_3_i282_i_i_i_i_i_i_i:;
+    v_r49_i283_i_i_i_i_i_i_i = v_r3_sroa_6_07_i_i279_i_i_i_i_i_i_i > 4294967295ull;
+    if (v_r49_i283_i_i_i_i_i_i_i) { p_v_r7_sroa_130_8_i_i_i = v_r7_sroa_130_9_i_i_i; goto L_der_core_borrowed_BorrowedEncode_prepend_046aa0adc; } else { p_v_r20_i100_i_i_i_i_i_i_i_i = v_r21_i_i280_i_i_i_i_i_i_i; p_v_r12_sroa_10_i301_sroa_5_0_ph_i_i_i_i_i_i_i = v_r3_sroa_6_07_i_i279_i_i_i_i_i_i_i; p_v_r12_sroa_10_i301_sroa_3_0_ph_i_i_i_i_i_i_i = v_r3_sroa_0_08_i_i278_i_i_i_i_i_i_i; goto L_arm_1_i_i_i_i_i_i_i; }
 L_arm_1thread_pre_split_i_i_i_i_i_i_i:;
-    v_r12_sroa_10_i201_sroa_3_0_ph_ph_i_i_i_i_i_i_i = p_v_r12_sroa_10_i201_sroa_3_0_ph_ph_i_i_i_i_i_i_i;
-    v_r20_i100_i_pr_i_i_i_i_i_i_i = get_u8(v_r12_sroa_10_i201_sroa_3_0_ph_ph_i_i_i_i_i_i_i);
-    { p_v_r20_i100_i_i_i_i_i_i_i_i = v_r20_i100_i_pr_i_i_i_i_i_i_i; p_v_r12_sroa_10_i201_sroa_3_0_ph_i_i_i_i_i_i_i = v_r12_sroa_10_i201_sroa_3_0_ph_ph_i_i_i_i_i_i_i; p_v_r1_sroa_3_0_copyload_i_i_i_i_i_i_i_i_i_i = 1u; goto L_arm_1_i_i_i_i_i_i_i; }
+    v_r12_sroa_10_i301_sroa_3_0_ph_ph_i_i_i_i_i_i_i = p_v_r12_sroa_10_i301_sroa_3_0_ph_ph_i_i_i_i_i_i_i;
+    v_r20_i100_i_pr_i_i_i_i_i_i_i = get_u8(v_r12_sroa_10_i301_sroa_3_0_ph_ph_i_i_i_i_i_i_i);
+    { p_v_r20_i100_i_i_i_i_i_i_i_i = v_r20_i100_i_pr_i_i_i_i_i_i_i; p_v_r12_sroa_10_i301_sroa_5_0_ph_i_i_i_i_i_i_i = 1u; p_v_r12_sroa_10_i301_sroa_3_0_ph_i_i_i_i_i_i_i = v_r12_sroa_10_i301_sroa_3_0_ph_ph_i_i_i_i_i_i_i; goto L_arm_1_i_i_i_i_i_i_i; }
 L_arm_1_i_i_i_i_i_i_i:;
     v_r20_i100_i_i_i_i_i_i_i_i = p_v_r20_i100_i_i_i_i_i_i_i_i;
-    v_r12_sroa_10_i201_sroa_3_0_ph_i_i_i_i_i_i_i = p_v_r12_sroa_10_i201_sroa_3_0_ph_i_i_i_i_i_i_i;
-    v_r1_sroa_3_0_copyload_i_i_i_i_i_i_i_i_i_i = p_v_r1_sroa_3_0_copyload_i_i_i_i_i_i_i_i_i_i;
+    v_r12_sroa_10_i301_sroa_5_0_ph_i_i_i_i_i_i_i = p_v_r12_sroa_10_i301_sroa_5_0_ph_i_i_i_i_i_i_i;
+    v_r12_sroa_10_i301_sroa_3_0_ph_i_i_i_i_i_i_i = p_v_r12_sroa_10_i301_sroa_3_0_ph_i_i_i_i_i_i_i;
     v_r20_i100_i_lobit_i_i_i_i_i_i_i = (u8)((u32)(v_r20_i100_i_i_i_i_i_i_i_i) >> (u32)((7u & 31)));
     v_i102_i_i_i_i_i_i_i_i = (u64)v_r20_i100_i_lobit_i_i_i_i_i_i_i;
-    put_P(v_r1_i_i_i_i_i_i_i, v_r12_sroa_10_i_sroa_3_0_ph_i_i_i_i_i_i_i);
-    put_u64(v_r4_sroa_22_sroa_6_3_r1_sroa_idx_i_i_i_i_i_i_i, v_r12_sroa_10_i_sroa_5_0_ph_i_i_i_i_i_i_i);
-    put_u64(v_r4_sroa_22_sroa_10_3_r1_sroa_idx_i_i_i_i_i_i_i, v_i_i_i_i_i_i_i_i_i);
-    put_P(v_r4_sroa_22_sroa_14_3_r1_sroa_idx_i_i_i_i_i_i_i, v_r12_sroa_10_i107_sroa_3_0_ph_i_i_i_i_i_i_i);
-    put_u64(v_r4_sroa_22_sroa_14_sroa_6_0_r4_sroa_22_sroa_14_3_r, v_r1_sroa_3_0_copyload_i_i9_i_i_i_i_i_i_i_i);
-    put_u64(v_r4_sroa_22_sroa_14_sroa_10_0_r4_sroa_22_sroa_14_3_, v_i92_i_i_i_i_i_i_i_i);
-    put_P(v_r4_sroa_22_sroa_18_3_r1_sroa_idx_i_i_i_i_i_i_i, v_r12_sroa_10_i201_sroa_3_0_ph_i_i_i_i_i_i_i);
-    put_u64(v_r4_sroa_22_sroa_18_sroa_6_0_r4_sroa_22_sroa_18_3_r, v_r1_sroa_3_0_copyload_i_i_i_i_i_i_i_i_i_i);
-    put_u64(v_r4_sroa_22_sroa_18_sroa_10_0_r4_sroa_22_sroa_18_3_, v_i102_i_i_i_i_i_i_i_i);
     v_r24_i_i_i_i_i_i_i = (u64)((u64)(v_r7_sroa_130_9_i_i_i) + (u64)(v_r22_neg_i_i_i_i_i_i));
-    v_r5_i13_i_i_i_i_i_i_i = (u64)((u64)(v_r12_sroa_10_i_sroa_5_0_ph_i_i_i_i_i_i_i) + (u64)(27u));
-    v_r5_i10_i_i_i_i_i_i_i = (u64)((u64)(v_r5_i13_i_i_i_i_i_i_i) + (u64)(v_r1_sroa_3_0_copyload_i_i9_i_i_i_i_i_i_i_i));
-    v_r24_i8_i_i_i_i_i_i_i = (u64)((u64)(v_r5_i10_i_i_i_i_i_i_i) + (u64)(v_r1_sroa_3_0_copyload_i_i_i_i_i_i_i_i_i_i));
-    v_r26_i_not_i_i_i_i_i_i_i = v_r24_i8_i_i_i_i_i_i_i > v_r24_i_i_i_i_i_i_i;
-    if (v_r26_i_not_i_i_i_i_i_i_i) { goto L_then_5_i_i_i_i_i_i_i; } else { goto L_join_7_i_i_i_i_i_i_i; }
+    v_r5_i107_i_i_i_i_i_i_i = (u64)((u64)(v_r12_sroa_10_i_sroa_5_0_ph_i_i_i_i_i_i_i) + (u64)(27u));
+    v_r5_i104_i_i_i_i_i_i_i = (u64)((u64)(v_r5_i107_i_i_i_i_i_i_i) + (u64)(v_r12_sroa_10_i207_sroa_5_0_ph_i_i_i_i_i_i_i));
+    v_r24_i100_i_i_i_i_i_i_i = (u64)((u64)(v_r5_i104_i_i_i_i_i_i_i) + (u64)(v_r12_sroa_10_i301_sroa_5_0_ph_i_i_i_i_i_i_i));
+    v_r26_i101_not_i_i_i_i_i_i_i = v_r24_i100_i_i_i_i_i_i_i > v_r24_i_i_i_i_i_i_i;
+    if (v_r26_i101_not_i_i_i_i_i_i_i) { goto L_then_5_i_i_i_i_i_i_i; } else { goto L_join_7_i_i_i_i_i_i_i; }
 L_then_5_i_i_i_i_i_i_i:;
-    f_der_core_encode_AnyEncode_encoded_len_7ae2cf0824c3(v_r10_i_i_i_i_i_i_i, v_r1_i_i_i_i_i_i_i);
-    v_r36_i_i_i_i_i_i_i = get_u8(v_r10_i_i_i_i_i_i_i);
-    v_23 = v_r36_i_i_i_i_i_i_i != 0u;
-    v_r3_sroa_0_0_copyload_i_i_i_i_i_i_i = get_u32(v_r37_i_i_i_i_i_i_i);
-    v_r3_i271_i_i_i_i_i_i_i = (u64)v_r3_sroa_0_0_copyload_i_i_i_i_i_i_i;
-    v_r42_not_i_i_i_i_i_i_i = v_r24_i_i_i_i_i_i_i < v_r3_i271_i_i_i_i_i_i_i;
-    v_or_cond_i_i_i_i_i_i_i = v_23 ? 1u : v_r42_not_i_i_i_i_i_i_i;
-    if (v_or_cond_i_i_i_i_i_i_i) { goto L_pkcs1_c_given_primes_prepend_given_exit_thread_i_i; } else { goto L_join_7_i_i_i_i_i_i_i; }
+    v_r9_i30_i_i_i_i_i_i_i = (u64)((u64)(v_r12_sroa_10_i_sroa_5_0_ph_i_i_i_i_i_i_i) + (u64)(v_i_i_i_i_i_i_i_i_i));
+    v_r2_i76_i_i_i_i_i_i_i = v_r9_i30_i_i_i_i_i_i_i < 128u;
+    if (v_r2_i76_i_i_i_i_i_i_i) { p_v_sink_i_i_i_i_i_i_i = 2u; goto L_pkcs1_c_given_primes_octets_with_tag_exit94_i_i_i_; } else { goto L_join_3_i77_i_i_i_i_i_i_i; }
+L_join_3_i77_i_i_i_i_i_i_i:;
+    v_r8_i78_i_i_i_i_i_i_i = v_r9_i30_i_i_i_i_i_i_i < 256u;
+    if (v_r8_i78_i_i_i_i_i_i_i) { p_v_sink_i_i_i_i_i_i_i = 3u; goto L_pkcs1_c_given_primes_octets_with_tag_exit94_i_i_i_; } else { goto L_join_6_i79_i_i_i_i_i_i_i; }
+L_join_6_i79_i_i_i_i_i_i_i:;
+    v_r14_i80_i_i_i_i_i_i_i = v_r9_i30_i_i_i_i_i_i_i < 65536u;
+    if (v_r14_i80_i_i_i_i_i_i_i) { p_v_sink_i_i_i_i_i_i_i = 4u; goto L_pkcs1_c_given_primes_octets_with_tag_exit94_i_i_i_; } else { goto L_join_9_i81_i_i_i_i_i_i_i; }
+L_join_9_i81_i_i_i_i_i_i_i:;
+    v_r20_i82_i_i_i_i_i_i_i = v_r9_i30_i_i_i_i_i_i_i < 16777216u;
+    v_i_i_i_i_i_i_i = v_r20_i82_i_i_i_i_i_i_i ? 5u : 6u;
+    { p_v_sink_i_i_i_i_i_i_i = v_i_i_i_i_i_i_i; goto L_pkcs1_c_given_primes_octets_with_tag_exit94_i_i_i_; }
+L_pkcs1_c_given_primes_octets_with_tag_exit94_i_i_i_:;
+    v_sink_i_i_i_i_i_i_i = p_v_sink_i_i_i_i_i_i_i;
+    v_r9_i25_i_i_i_i_i_i_i = (u64)((u64)(v_r12_sroa_10_i207_sroa_5_0_ph_i_i_i_i_i_i_i) + (u64)(v_i92_i_i_i_i_i_i_i_i));
+    v_r2_i57_i_i_i_i_i_i_i = v_r9_i25_i_i_i_i_i_i_i < 128u;
+    if (v_r2_i57_i_i_i_i_i_i_i) { p_v_sink658_i_i_i_i_i_i_i = 2u; goto L_pkcs1_c_given_primes_octets_with_tag_exit75_i_i_i_; } else { goto L_join_3_i58_i_i_i_i_i_i_i; }
+L_join_3_i58_i_i_i_i_i_i_i:;
+    v_r8_i59_i_i_i_i_i_i_i = v_r9_i25_i_i_i_i_i_i_i < 256u;
+    if (v_r8_i59_i_i_i_i_i_i_i) { p_v_sink658_i_i_i_i_i_i_i = 3u; goto L_pkcs1_c_given_primes_octets_with_tag_exit75_i_i_i_; } else { goto L_join_6_i60_i_i_i_i_i_i_i; }
+L_join_6_i60_i_i_i_i_i_i_i:;
+    v_r14_i61_i_i_i_i_i_i_i = v_r9_i25_i_i_i_i_i_i_i < 65536u;
+    if (v_r14_i61_i_i_i_i_i_i_i) { p_v_sink658_i_i_i_i_i_i_i = 4u; goto L_pkcs1_c_given_primes_octets_with_tag_exit75_i_i_i_; } else { goto L_join_9_i62_i_i_i_i_i_i_i; }
+L_join_9_i62_i_i_i_i_i_i_i:;
+    v_r20_i63_i_i_i_i_i_i_i = v_r9_i25_i_i_i_i_i_i_i < 16777216u;
+    v_660_i_i_i_i_i_i_i = v_r20_i63_i_i_i_i_i_i_i ? 5u : 6u;
+    { p_v_sink658_i_i_i_i_i_i_i = v_660_i_i_i_i_i_i_i; goto L_pkcs1_c_given_primes_octets_with_tag_exit75_i_i_i_; }
+L_pkcs1_c_given_primes_octets_with_tag_exit75_i_i_i_:;
+    v_sink658_i_i_i_i_i_i_i = p_v_sink658_i_i_i_i_i_i_i;
+    v_r9_i20_i_i_i_i_i_i_i = (u64)((u64)(v_r12_sroa_10_i301_sroa_5_0_ph_i_i_i_i_i_i_i) + (u64)(v_i102_i_i_i_i_i_i_i_i));
+    v_r2_i38_i_i_i_i_i_i_i = v_r9_i20_i_i_i_i_i_i_i < 128u;
+    if (v_r2_i38_i_i_i_i_i_i_i) { p_v_sink659_i_i_i_i_i_i_i = 2u; goto L_pkcs1_c_given_primes_octets_with_tag_exit56_i_i_i_; } else { goto L_join_3_i39_i_i_i_i_i_i_i; }
+L_join_3_i39_i_i_i_i_i_i_i:;
+    v_r8_i40_i_i_i_i_i_i_i = v_r9_i20_i_i_i_i_i_i_i < 256u;
+    if (v_r8_i40_i_i_i_i_i_i_i) { p_v_sink659_i_i_i_i_i_i_i = 3u; goto L_pkcs1_c_given_primes_octets_with_tag_exit56_i_i_i_; } else { goto L_join_6_i41_i_i_i_i_i_i_i; }
+L_join_6_i41_i_i_i_i_i_i_i:;
+    v_r14_i42_i_i_i_i_i_i_i = v_r9_i20_i_i_i_i_i_i_i < 65536u;
+    if (v_r14_i42_i_i_i_i_i_i_i) { p_v_sink659_i_i_i_i_i_i_i = 4u; goto L_pkcs1_c_given_primes_octets_with_tag_exit56_i_i_i_; } else { goto L_join_9_i43_i_i_i_i_i_i_i; }
+L_join_9_i43_i_i_i_i_i_i_i:;
+    v_r20_i44_i_i_i_i_i_i_i = v_r9_i20_i_i_i_i_i_i_i < 16777216u;
+    v_661_i_i_i_i_i_i_i = v_r20_i44_i_i_i_i_i_i_i ? 5u : 6u;
+    { p_v_sink659_i_i_i_i_i_i_i = v_661_i_i_i_i_i_i_i; goto L_pkcs1_c_given_primes_octets_with_tag_exit56_i_i_i_; }
+L_pkcs1_c_given_primes_octets_with_tag_exit56_i_i_i_:;
+    v_sink659_i_i_i_i_i_i_i = p_v_sink659_i_i_i_i_i_i_i;
+    v_r6_i55_i_i_i_i_i_i_i = (u64)((u64)(v_r9_i25_i_i_i_i_i_i_i) + (u64)(v_r9_i30_i_i_i_i_i_i_i));
+    v_r6_i74_i_i_i_i_i_i_i = (u64)((u64)(v_r6_i55_i_i_i_i_i_i_i) + (u64)(v_r9_i20_i_i_i_i_i_i_i));
+    v_r6_i93_i_i_i_i_i_i_i = (u64)((u64)(v_r6_i74_i_i_i_i_i_i_i) + (u64)(v_sink_i_i_i_i_i_i_i));
+    v_r23_i9_i_i_i_i_i_i_i = (u64)((u64)(v_r6_i93_i_i_i_i_i_i_i) + (u64)(v_sink658_i_i_i_i_i_i_i));
+    v_r31_i11_i_i_i_i_i_i_i = (u64)((u64)(v_r23_i9_i_i_i_i_i_i_i) + (u64)(v_sink659_i_i_i_i_i_i_i));
+    v_r2_i_i_i_i_i_i_i_i = v_r31_i11_i_i_i_i_i_i_i < 128u;
+    if (v_r2_i_i_i_i_i_i_i_i) { goto L_then_1_i_i_i_i_i_i_i_i; } else { goto L_join_3_i_i_i_i_i_i_i_i; }
+L_then_1_i_i_i_i_i_i_i_i:;
+    v_r6_i37_i_i_i_i_i_i_i = (u64)((u64)(v_r31_i11_i_i_i_i_i_i_i) + (u64)(2u));
+    { p_v_r4_sroa_10_0_i633_in_i_i_i_i_i_i_i = v_r6_i37_i_i_i_i_i_i_i; goto L_arm_10_i_i_i_i_i_i_i; }
+L_join_3_i_i_i_i_i_i_i_i:;
+    v_r8_i31_i_i_i_i_i_i_i = v_r31_i11_i_i_i_i_i_i_i < 256u;
+    if (v_r8_i31_i_i_i_i_i_i_i) { goto L_then_4_i_i_i_i_i_i_i_i; } else { goto L_join_6_i_i_i_i_i_i_i_i; }
+L_then_4_i_i_i_i_i_i_i_i:;
+    v_r12_i36_i_i_i_i_i_i_i = (u64)((u64)(v_r31_i11_i_i_i_i_i_i_i) + (u64)(3u));
+    { p_v_r4_sroa_10_0_i633_in_i_i_i_i_i_i_i = v_r12_i36_i_i_i_i_i_i_i; goto L_arm_10_i_i_i_i_i_i_i; }
+L_join_6_i_i_i_i_i_i_i_i:;
+    v_r14_i32_i_i_i_i_i_i_i = v_r31_i11_i_i_i_i_i_i_i < 65536u;
+    if (v_r14_i32_i_i_i_i_i_i_i) { goto L_then_7_i_i_i_i_i_i_i_i; } else { goto L_join_9_i_i_i_i_i_i_i_i; }
+L_then_7_i_i_i_i_i_i_i_i:;
+    v_r18_i35_i_i_i_i_i_i_i = (u64)((u64)(v_r31_i11_i_i_i_i_i_i_i) + (u64)(4u));
+    { p_v_r4_sroa_10_0_i633_in_i_i_i_i_i_i_i = v_r18_i35_i_i_i_i_i_i_i; goto L_arm_10_i_i_i_i_i_i_i; }
+L_join_9_i_i_i_i_i_i_i_i:;
+    v_r20_i33_i_i_i_i_i_i_i = v_r31_i11_i_i_i_i_i_i_i < 16777216u;
+    if (v_r20_i33_i_i_i_i_i_i_i) { goto L_then_10_i_i_i_i_i_i_i_i; } else { goto L_pkcs1_c_given_primes_octets_with_tag_exit_i_i_i_i_; }
+L_then_10_i_i_i_i_i_i_i_i:;
+    v_r24_i34_i_i_i_i_i_i_i = (u64)((u64)(v_r31_i11_i_i_i_i_i_i_i) + (u64)(5u));
+    { p_v_r4_sroa_10_0_i633_in_i_i_i_i_i_i_i = v_r24_i34_i_i_i_i_i_i_i; goto L_arm_10_i_i_i_i_i_i_i; }
+L_pkcs1_c_given_primes_octets_with_tag_exit_i_i_i_i_:;
+    v_r12_not_i_i_i_i_i_i_i_i = v_r31_i11_i_i_i_i_i_i_i < 4294967290ull;
+    v_r4_sroa_10_0_i634_i_i_i_i_i_i_i = (u64)((u64)(v_r31_i11_i_i_i_i_i_i_i) + (u64)(6u));
+    if (v_r12_not_i_i_i_i_i_i_i_i) { p_v_r4_sroa_10_0_i633_in_i_i_i_i_i_i_i = v_r4_sroa_10_0_i634_i_i_i_i_i_i_i; goto L_arm_10_i_i_i_i_i_i_i; } else { p_v_r7_sroa_130_8_i_i_i = v_r7_sroa_130_9_i_i_i; goto L_der_core_borrowed_BorrowedEncode_prepend_046aa0adc; }
+L_arm_10_i_i_i_i_i_i_i:;
+    v_r4_sroa_10_0_i633_in_i_i_i_i_i_i_i = p_v_r4_sroa_10_0_i633_in_i_i_i_i_i_i_i;
+    v_r42_not_i_i_i_i_i_i_i = v_r4_sroa_10_0_i633_in_i_i_i_i_i_i_i > v_r24_i_i_i_i_i_i_i;
+    if (v_r42_not_i_i_i_i_i_i_i) { p_v_r7_sroa_130_8_i_i_i = v_r7_sroa_130_9_i_i_i; goto L_der_core_borrowed_BorrowedEncode_prepend_046aa0adc; } else { goto L_join_7_i_i_i_i_i_i_i; }
 L_join_7_i_i_i_i_i_i_i:;
-    v_r17_i_i_i_i_i_i_i_i_i_i_i = (u64)((u64)(v_r7_sroa_130_9_i_i_i) - (u64)(v_r1_sroa_3_0_copyload_i_i_i_i_i_i_i_i_i_i));
+    v_r17_i_i_i_i_i_i_i_i_i_i_i = (u64)((u64)(v_r7_sroa_130_9_i_i_i) - (u64)(v_r12_sroa_10_i301_sroa_5_0_ph_i_i_i_i_i_i_i));
     v_r26_i_i_i_i_i_i_i_i_i_i_i = (P)((uintptr_t)v_r13 + (u64)(v_r17_i_i_i_i_i_i_i_i_i_i_i));
     v_r8_i_i_i_i_i_i_i_i_i_i_i_i_i_i_i_i_i = (u64)((uintptr_t)v_r26_i_i_i_i_i_i_i_i_i_i_i);
-    v_r9_i_i_i_i_i_i_i_i_i_i_i_i_i_i_i_i_i = (u64)((uintptr_t)v_r12_sroa_10_i201_sroa_3_0_ph_i_i_i_i_i_i_i);
+    v_r9_i_i_i_i_i_i_i_i_i_i_i_i_i_i_i_i_i = (u64)((uintptr_t)v_r12_sroa_10_i301_sroa_3_0_ph_i_i_i_i_i_i_i);
     v_r10_i_i_i_i_i_i_i_i_i_i_i_i_i_i_i_i_i = (u64)((u64)(v_r8_i_i_i_i_i_i_i_i_i_i_i_i_i_i_i_i_i) - (u64)(v_r9_i_i_i_i_i_i_i_i_i_i_i_i_i_i_i_i_i));
-    v_r11_i_i_i_i_i_i_i_i_i_i_i_i_i_i_i_i_i = v_r10_i_i_i_i_i_i_i_i_i_i_i_i_i_i_i_i_i < v_r1_sroa_3_0_copyload_i_i_i_i_i_i_i_i_i_i;
+    v_r11_i_i_i_i_i_i_i_i_i_i_i_i_i_i_i_i_i = v_r10_i_i_i_i_i_i_i_i_i_i_i_i_i_i_i_i_i < v_r12_sroa_10_i301_sroa_5_0_ph_i_i_i_i_i_i_i;
     if (v_r11_i_i_i_i_i_i_i_i_i_i_i_i_i_i_i_i_i) { goto L_join_7_i_i_i_i_i_i_i_i_i_i_i_i_i_i_i_i_i_preheader; } else { goto L_apart_2_i_i_i_i_i_i_i_i_i_i_i_i_i_i_i_i_i; }
 L_join_7_i_i_i_i_i_i_i_i_i_i_i_i_i_i_i_i_i_preheader:;
-    v_xtraiter = (u64)((u64)(v_r1_sroa_3_0_copyload_i_i_i_i_i_i_i_i_i_i) & (u64)(3u));
-    v_24 = v_r1_sroa_3_0_copyload_i_i_i_i_i_i_i_i_i_i < 4u;
-    if (v_24) { p_v_r0_04_i_i_i_i_i_i_i_i_i_i_i_i_i_i_i_i_i_epil_init = 0u; goto L_join_7_i_i_i_i_i_i_i_i_i_i_i_i_i_i_i_i_i_epil_preh; } else { goto L_join_7_i_i_i_i_i_i_i_i_i_i_i_i_i_i_i_i_i_preheader__2; }
+    v_xtraiter = (u64)((u64)(v_r12_sroa_10_i301_sroa_5_0_ph_i_i_i_i_i_i_i) & (u64)(3u));
+    v_20 = v_r12_sroa_10_i301_sroa_5_0_ph_i_i_i_i_i_i_i < 4u;
+    if (v_20) { p_v_r0_04_i_i_i_i_i_i_i_i_i_i_i_i_i_i_i_i_i_epil_init = 0u; goto L_join_7_i_i_i_i_i_i_i_i_i_i_i_i_i_i_i_i_i_epil_preh; } else { goto L_join_7_i_i_i_i_i_i_i_i_i_i_i_i_i_i_i_i_i_preheader__2; }
 L_join_7_i_i_i_i_i_i_i_i_i_i_i_i_i_i_i_i_i_preheader__2:;
-    v_unroll_iter = (u64)((u64)(v_r1_sroa_3_0_copyload_i_i_i_i_i_i_i_i_i_i) & (u64)(4294967292ull));
+    v_unroll_iter = (u64)((u64)(v_r12_sroa_10_i301_sroa_5_0_ph_i_i_i_i_i_i_i) & (u64)(4294967292ull));
     { p_v_r0_04_i_i_i_i_i_i_i_i_i_i_i_i_i_i_i_i_i = 0u; p_v_niter = 0u; goto L_join_7_i_i_i_i_i_i_i_i_i_i_i_i_i_i_i_i_i; }
 L_apart_2_i_i_i_i_i_i_i_i_i_i_i_i_i_i_i_i_i:;
-    move(v_r26_i_i_i_i_i_i_i_i_i_i_i, v_r12_sroa_10_i201_sroa_3_0_ph_i_i_i_i_i_i_i, v_r1_sroa_3_0_copyload_i_i_i_i_i_i_i_i_i_i);
+    move(v_r26_i_i_i_i_i_i_i_i_i_i_i, v_r12_sroa_10_i301_sroa_3_0_ph_i_i_i_i_i_i_i, v_r12_sroa_10_i301_sroa_5_0_ph_i_i_i_i_i_i_i);
     { goto L_der_core_back_writer_BackWriter_prepend_exit_i_i_i; }
 L_join_7_i_i_i_i_i_i_i_i_i_i_i_i_i_i_i_i_i:;
     v_r0_04_i_i_i_i_i_i_i_i_i_i_i_i_i_i_i_i_i = p_v_r0_04_i_i_i_i_i_i_i_i_i_i_i_i_i_i_i_i_i;
     v_niter = p_v_niter;
     v_r20_i_i_i_i_i_i_i_i_i_i_i_i_i_i_i_i_i = v_r26_i_i_i_i_i_i_i_i_i_i_i + (int64_t)(v_r0_04_i_i_i_i_i_i_i_i_i_i_i_i_i_i_i_i_i);
-    v_r24_i_i_i_i_i_i_i_i_i_i_i_i_i_i_i_i_i = v_r12_sroa_10_i201_sroa_3_0_ph_i_i_i_i_i_i_i + (int64_t)(v_r0_04_i_i_i_i_i_i_i_i_i_i_i_i_i_i_i_i_i);
+    v_r24_i_i_i_i_i_i_i_i_i_i_i_i_i_i_i_i_i = v_r12_sroa_10_i301_sroa_3_0_ph_i_i_i_i_i_i_i + (int64_t)(v_r0_04_i_i_i_i_i_i_i_i_i_i_i_i_i_i_i_i_i);
     v_r26_i_i_i_i_i_i_i_i_i_i_i_i_i_i_i_i_i = get_u8(v_r24_i_i_i_i_i_i_i_i_i_i_i_i_i_i_i_i_i);
     put_u8(v_r20_i_i_i_i_i_i_i_i_i_i_i_i_i_i_i_i_i, v_r26_i_i_i_i_i_i_i_i_i_i_i_i_i_i_i_i_i);
     v_r30_i_i_i_i_i_i_i_i_i_i_i_i_i_i_i_i_i = (u64)((u64)(v_r0_04_i_i_i_i_i_i_i_i_i_i_i_i_i_i_i_i_i) | (u64)(1u));
     v_r20_i_i_i_i_i_i_i_i_i_i_i_i_i_i_i_i_i_1 = v_r26_i_i_i_i_i_i_i_i_i_i_i + (int64_t)(v_r30_i_i_i_i_i_i_i_i_i_i_i_i_i_i_i_i_i);
-    v_r24_i_i_i_i_i_i_i_i_i_i_i_i_i_i_i_i_i_1 = v_r12_sroa_10_i201_sroa_3_0_ph_i_i_i_i_i_i_i + (int64_t)(v_r30_i_i_i_i_i_i_i_i_i_i_i_i_i_i_i_i_i);
+    v_r24_i_i_i_i_i_i_i_i_i_i_i_i_i_i_i_i_i_1 = v_r12_sroa_10_i301_sroa_3_0_ph_i_i_i_i_i_i_i + (int64_t)(v_r30_i_i_i_i_i_i_i_i_i_i_i_i_i_i_i_i_i);
     v_r26_i_i_i_i_i_i_i_i_i_i_i_i_i_i_i_i_i_1 = get_u8(v_r24_i_i_i_i_i_i_i_i_i_i_i_i_i_i_i_i_i_1);
     put_u8(v_r20_i_i_i_i_i_i_i_i_i_i_i_i_i_i_i_i_i_1, v_r26_i_i_i_i_i_i_i_i_i_i_i_i_i_i_i_i_i_1);
     v_r30_i_i_i_i_i_i_i_i_i_i_i_i_i_i_i_i_i_1 = (u64)((u64)(v_r0_04_i_i_i_i_i_i_i_i_i_i_i_i_i_i_i_i_i) | (u64)(2u));
     v_r20_i_i_i_i_i_i_i_i_i_i_i_i_i_i_i_i_i_2 = v_r26_i_i_i_i_i_i_i_i_i_i_i + (int64_t)(v_r30_i_i_i_i_i_i_i_i_i_i_i_i_i_i_i_i_i_1);
-    v_r24_i_i_i_i_i_i_i_i_i_i_i_i_i_i_i_i_i_2 = v_r12_sroa_10_i201_sroa_3_0_ph_i_i_i_i_i_i_i + (int64_t)(v_r30_i_i_i_i_i_i_i_i_i_i_i_i_i_i_i_i_i_1);
+    v_r24_i_i_i_i_i_i_i_i_i_i_i_i_i_i_i_i_i_2 = v_r12_sroa_10_i301_sroa_3_0_ph_i_i_i_i_i_i_i + (int64_t)(v_r30_i_i_i_i_i_i_i_i_i_i_i_i_i_i_i_i_i_1);
     v_r26_i_i_i_i_i_i_i_i_i_i_i_i_i_i_i_i_i_2 = get_u8(v_r24_i_i_i_i_i_i_i_i_i_i_i_i_i_i_i_i_i_2);
     put_u8(v_r20_i_i_i_i_i_i_i_i_i_i_i_i_i_i_i_i_i_2, v_r26_i_i_i_i_i_i_i_i_i_i_i_i_i_i_i_i_i_2);
     v_r30_i_i_i_i_i_i_i_i_i_i_i_i_i_i_i_i_i_2 = (u64)((u64)(v_r0_04_i_i_i_i_i_i_i_i_i_i_i_i_i_i_i_i_i) | (u64)(3u));
     v_r20_i_i_i_i_i_i_i_i_i_i_i_i_i_i_i_i_i_3 = v_r26_i_i_i_i_i_i_i_i_i_i_i + (int64_t)(v_r30_i_i_i_i_i_i_i_i_i_i_i_i_i_i_i_i_i_2);
-    v_r24_i_i_i_i_i_i_i_i_i_i_i_i_i_i_i_i_i_3 = v_r12_sroa_10_i201_sroa_3_0_ph_i_i_i_i_i_i_i + (int64_t)(v_r30_i_i_i_i_i_i_i_i_i_i_i_i_i_i_i_i_i_2);
+    v_r24_i_i_i_i_i_i_i_i_i_i_i_i_i_i_i_i_i_3 = v_r12_sroa_10_i301_sroa_3_0_ph_i_i_i_i_i_i_i + (int64_t)(v_r30_i_i_i_i_i_i_i_i_i_i_i_i_i_i_i_i_i_2);
     v_r26_i_i_i_i_i_i_i_i_i_i_i_i_i_i_i_i_i_3 = get_u8(v_r24_i_i_i_i_i_i_i_i_i_i_i_i_i_i_i_i_i_3);
     put_u8(v_r20_i_i_i_i_i_i_i_i_i_i_i_i_i_i_i_i_i_3, v_r26_i_i_i_i_i_i_i_i_i_i_i_i_i_i_i_i_i_3);
     v_r30_i_i_i_i_i_i_i_i_i_i_i_i_i_i_i_i_i_3 = (u64)((u64)(v_r0_04_i_i_i_i_i_i_i_i_i_i_i_i_i_i_i_i_i) + (u64)(4u));
@@ -37269,7 +37103,7 @@ L_join_7_i_i_i_i_i_i_i_i_i_i_i_i_i_i_i_i_i_epil:;
     v_r0_04_i_i_i_i_i_i_i_i_i_i_i_i_i_i_i_i_i_epil = p_v_r0_04_i_i_i_i_i_i_i_i_i_i_i_i_i_i_i_i_i_epil;
     v_epil_iter = p_v_epil_iter;
     v_r20_i_i_i_i_i_i_i_i_i_i_i_i_i_i_i_i_i_epil = v_r26_i_i_i_i_i_i_i_i_i_i_i + (int64_t)(v_r0_04_i_i_i_i_i_i_i_i_i_i_i_i_i_i_i_i_i_epil);
-    v_r24_i_i_i_i_i_i_i_i_i_i_i_i_i_i_i_i_i_epil = v_r12_sroa_10_i201_sroa_3_0_ph_i_i_i_i_i_i_i + (int64_t)(v_r0_04_i_i_i_i_i_i_i_i_i_i_i_i_i_i_i_i_i_epil);
+    v_r24_i_i_i_i_i_i_i_i_i_i_i_i_i_i_i_i_i_epil = v_r12_sroa_10_i301_sroa_3_0_ph_i_i_i_i_i_i_i + (int64_t)(v_r0_04_i_i_i_i_i_i_i_i_i_i_i_i_i_i_i_i_i_epil);
     v_r26_i_i_i_i_i_i_i_i_i_i_i_i_i_i_i_i_i_epil = get_u8(v_r24_i_i_i_i_i_i_i_i_i_i_i_i_i_i_i_i_i_epil);
     put_u8(v_r20_i_i_i_i_i_i_i_i_i_i_i_i_i_i_i_i_i_epil, v_r26_i_i_i_i_i_i_i_i_i_i_i_i_i_i_i_i_i_epil);
     v_r30_i_i_i_i_i_i_i_i_i_i_i_i_i_i_i_i_i_epil = (u64)((u64)(v_r0_04_i_i_i_i_i_i_i_i_i_i_i_i_i_i_i_i_i_epil) + (u64)(1u));
@@ -37286,10 +37120,10 @@ L_then_1_i_i_i_i_i_i_i_i_i_i:;
     { p_v_r7_sroa_130_10_i_i_i = v_r17_i3_i_i_i_i_i_i_i_i_i_i; goto L_der_core_borrowed_BorrowedEncode_prepend_f4fc96f16; }
 L_der_core_borrowed_BorrowedEncode_prepend_f4fc96f16:;
     v_r7_sroa_130_10_i_i_i = p_v_r7_sroa_130_10_i_i_i;
-    v_25 = (u64)((u64)(v_r7_sroa_130_10_i_i_i) + (u64)(v_r3_i8_i_i_i));
-    v_26 = (u64)((u64)(v_r7_sroa_130_9_i_i_i) - (u64)(v_25));
-    v_27 = (u32)(v_26);
-    v_r2_i_i_i_i_i_i_i_i_i_i = (u32)((u32)(v_r1_sroa_9_4_copyload_i_i_i_i) + (u32)(v_27));
+    v_21 = (u64)((u64)(v_r7_sroa_130_10_i_i_i) + (u64)(v_r3_i8_i_i_i));
+    v_22 = (u64)((u64)(v_r7_sroa_130_9_i_i_i) - (u64)(v_21));
+    v_23 = (u32)(v_22);
+    v_r2_i_i_i_i_i_i_i_i_i_i = (u32)((u32)(v_r1_sroa_9_4_copyload_i_i_i_i) + (u32)(v_23));
     v_r59_i1013_i_i_i = v_r2_i_i_i_i_i_i_i_i_i_i < 128u;
     if (v_r59_i1013_i_i_i) { goto L_then_1_i1074_i_i_i; } else { goto L_else_2_i1014_i_i_i; }
 L_then_1_i1074_i_i_i:;
@@ -37299,7 +37133,7 @@ L_then_1_i1074_i_i_i:;
     v_r8_i1008_sroa_4_0_insert_shift_i_i_i = (u16)((u32)(v_r64_i1075_i_i_i) << (u32)((8u & 31)));
     v_r8_i1008_sroa_0_0_insert_insert_i_i_i = (u16)((u32)(v_r8_i1008_sroa_4_0_insert_shift_i_i_i) | (u32)(2u));
     put_u16(v_r26_i_i1081_i_i_i, v_r8_i1008_sroa_0_0_insert_insert_i_i_i);
-    { p_v_r7_sroa_130_27_i_i_i = v_r17_i_i1079_i_i_i; goto L_der_core_back_writer_BackWriter_prepend_header_exi; }
+    { p_v_r7_sroa_130_28_i_i_i = v_r17_i_i1079_i_i_i; goto L_der_core_back_writer_BackWriter_prepend_header_exi; }
 L_else_2_i1014_i_i_i:;
     v_r75_i1015_i_i_i = v_r2_i_i_i_i_i_i_i_i_i_i < 256u;
     if (v_r75_i1015_i_i_i) { goto L_then_4_i1065_i_i_i; } else { goto L_else_5_i1016_i_i_i; }
@@ -37312,17 +37146,17 @@ L_then_4_i1065_i_i_i:;
     put_u8(v_r14_i1009_sroa_4_0_r26_i30_i1073_sroa_idx_i_i_i, 129u);
     v_r14_i1009_sroa_5_0_r26_i30_i1073_sroa_idx_i_i_i = v_r26_i30_i1073_i_i_i + 2;
     put_u8(v_r14_i1009_sroa_5_0_r26_i30_i1073_sroa_idx_i_i_i, v_r80_i1066_i_i_i);
-    { p_v_r7_sroa_130_27_i_i_i = v_r17_i28_i1071_i_i_i; goto L_der_core_back_writer_BackWriter_prepend_header_exi; }
+    { p_v_r7_sroa_130_28_i_i_i = v_r17_i28_i1071_i_i_i; goto L_der_core_back_writer_BackWriter_prepend_header_exi; }
 L_else_5_i1016_i_i_i:;
     v_r92_i1017_i_i_i = v_r2_i_i_i_i_i_i_i_i_i_i < 65536u;
     if (v_r92_i1017_i_i_i) { goto L_then_7_i1053_i_i_i; } else { goto L_else_8_i1018_i_i_i; }
 L_then_7_i1053_i_i_i:;
     v_r17_i46_i1061_i_i_i = (u64)((u64)(v_r7_sroa_130_10_i_i_i) + (u64)(18446744073709551612ull));
     v_r26_i48_i1063_i_i_i = (P)((uintptr_t)v_r13 + (u64)(v_r17_i46_i1061_i_i_i));
-    v_28 = (u32)((u32)(v_r2_i_i_i_i_i_i_i_i_i_i) | (u32)(42074112u));
-    v_r20_i1010_sroa_0_0_insert_insert_i_i_i = __builtin_bswap32(v_28);
+    v_24 = (u32)((u32)(v_r2_i_i_i_i_i_i_i_i_i_i) | (u32)(42074112u));
+    v_r20_i1010_sroa_0_0_insert_insert_i_i_i = __builtin_bswap32(v_24);
     put_u32(v_r26_i48_i1063_i_i_i, v_r20_i1010_sroa_0_0_insert_insert_i_i_i);
-    { p_v_r7_sroa_130_27_i_i_i = v_r17_i46_i1061_i_i_i; goto L_der_core_back_writer_BackWriter_prepend_header_exi; }
+    { p_v_r7_sroa_130_28_i_i_i = v_r17_i46_i1061_i_i_i; goto L_der_core_back_writer_BackWriter_prepend_header_exi; }
 L_else_8_i1018_i_i_i:;
     v_r117_i1019_i_i_i = v_r2_i_i_i_i_i_i_i_i_i_i < 16777216u;
     if (v_r117_i1019_i_i_i) { goto L_then_10_i1038_i_i_i; } else { goto L_else_11_i1020_i_i_i; }
@@ -37343,7 +37177,7 @@ L_then_10_i1038_i_i_i:;
     put_u8(v_r29_i1011_sroa_6_0_r26_i66_i1052_sroa_idx_i_i_i, v_r130_i1042_i_i_i);
     v_r29_i1011_sroa_7_0_r26_i66_i1052_sroa_idx_i_i_i = v_r26_i66_i1052_i_i_i + 4;
     put_u8(v_r29_i1011_sroa_7_0_r26_i66_i1052_sroa_idx_i_i_i, v_r134_i1043_i_i_i);
-    { p_v_r7_sroa_130_27_i_i_i = v_r17_i64_i1050_i_i_i; goto L_der_core_back_writer_BackWriter_prepend_header_exi; }
+    { p_v_r7_sroa_130_28_i_i_i = v_r17_i64_i1050_i_i_i; goto L_der_core_back_writer_BackWriter_prepend_header_exi; }
 L_else_11_i1020_i_i_i:;
     v_r15020_i1021_i_i_i = (u32)((u32)(v_r2_i_i_i_i_i_i_i_i_i_i) >> (u32)((24u & 31)));
     v_r152_i1022_i_i_i = (u8)(v_r15020_i1021_i_i_i);
@@ -37365,69 +37199,69 @@ L_else_11_i1020_i_i_i:;
     put_u8(v_r40_i1012_sroa_7_0_r26_i84_i1037_sroa_idx_i_i_i, v_r164_i1026_i_i_i);
     v_r40_i1012_sroa_8_0_r26_i84_i1037_sroa_idx_i_i_i = v_r26_i84_i1037_i_i_i + 5;
     put_u8(v_r40_i1012_sroa_8_0_r26_i84_i1037_sroa_idx_i_i_i, v_r168_i1027_i_i_i);
-    { p_v_r7_sroa_130_27_i_i_i = v_r17_i82_i1035_i_i_i; goto L_der_core_back_writer_BackWriter_prepend_header_exi; }
+    { p_v_r7_sroa_130_28_i_i_i = v_r17_i82_i1035_i_i_i; goto L_der_core_back_writer_BackWriter_prepend_header_exi; }
 L_der_core_back_writer_BackWriter_prepend_header_exi:;
-    v_r7_sroa_130_27_i_i_i = p_v_r7_sroa_130_27_i_i_i;
-    v_r17_i_i_i10_i_i_i_i_i_i_i_i = (u64)((u64)(v_r7_sroa_130_27_i_i_i) - (u64)(v_r1_sroa_3_0_copyload_i_i9_i_i_i_i_i_i_i_i));
+    v_r7_sroa_130_28_i_i_i = p_v_r7_sroa_130_28_i_i_i;
+    v_r17_i_i_i10_i_i_i_i_i_i_i_i = (u64)((u64)(v_r7_sroa_130_28_i_i_i) - (u64)(v_r12_sroa_10_i207_sroa_5_0_ph_i_i_i_i_i_i_i));
     v_r26_i_i_i12_i_i_i_i_i_i_i_i = (P)((uintptr_t)v_r13 + (u64)(v_r17_i_i_i10_i_i_i_i_i_i_i_i));
     v_r8_i_i_i_i_i_i_i_i_i13_i_i_i_i_i_i_i_i = (u64)((uintptr_t)v_r26_i_i_i12_i_i_i_i_i_i_i_i);
-    v_r9_i_i_i_i_i_i_i_i_i14_i_i_i_i_i_i_i_i = (u64)((uintptr_t)v_r12_sroa_10_i107_sroa_3_0_ph_i_i_i_i_i_i_i);
+    v_r9_i_i_i_i_i_i_i_i_i14_i_i_i_i_i_i_i_i = (u64)((uintptr_t)v_r12_sroa_10_i207_sroa_3_0_ph_i_i_i_i_i_i_i);
     v_r10_i_i_i_i_i_i_i_i_i15_i_i_i_i_i_i_i_i = (u64)((u64)(v_r8_i_i_i_i_i_i_i_i_i13_i_i_i_i_i_i_i_i) - (u64)(v_r9_i_i_i_i_i_i_i_i_i14_i_i_i_i_i_i_i_i));
-    v_r11_i_i_i_i_i_i_i_i_i16_i_i_i_i_i_i_i_i = v_r10_i_i_i_i_i_i_i_i_i15_i_i_i_i_i_i_i_i < v_r1_sroa_3_0_copyload_i_i9_i_i_i_i_i_i_i_i;
+    v_r11_i_i_i_i_i_i_i_i_i16_i_i_i_i_i_i_i_i = v_r10_i_i_i_i_i_i_i_i_i15_i_i_i_i_i_i_i_i < v_r12_sroa_10_i207_sroa_5_0_ph_i_i_i_i_i_i_i;
     if (v_r11_i_i_i_i_i_i_i_i_i16_i_i_i_i_i_i_i_i) { goto L_join_7_i_i_i_i_i_i_i_i_i30_i_i_i_i_i_i_i_i_prehead; } else { goto L_apart_2_i_i_i_i_i_i_i_i_i17_i_i_i_i_i_i_i_i; }
 L_join_7_i_i_i_i_i_i_i_i_i30_i_i_i_i_i_i_i_i_prehead:;
-    v_xtraiter207 = (u64)((u64)(v_r1_sroa_3_0_copyload_i_i9_i_i_i_i_i_i_i_i) & (u64)(3u));
-    v_29 = v_r1_sroa_3_0_copyload_i_i9_i_i_i_i_i_i_i_i < 4u;
-    if (v_29) { p_v_r0_04_i_i_i_i_i_i_i_i_i31_i_i_i_i_i_i_i_i_epil_ini = 0u; goto L_join_7_i_i_i_i_i_i_i_i_i30_i_i_i_i_i_i_i_i_epil_pr; } else { goto L_join_7_i_i_i_i_i_i_i_i_i30_i_i_i_i_i_i_i_i_prehead__2; }
+    v_xtraiter192 = (u64)((u64)(v_r12_sroa_10_i207_sroa_5_0_ph_i_i_i_i_i_i_i) & (u64)(3u));
+    v_25 = v_r12_sroa_10_i207_sroa_5_0_ph_i_i_i_i_i_i_i < 4u;
+    if (v_25) { p_v_r0_04_i_i_i_i_i_i_i_i_i31_i_i_i_i_i_i_i_i_epil_ini = 0u; goto L_join_7_i_i_i_i_i_i_i_i_i30_i_i_i_i_i_i_i_i_epil_pr; } else { goto L_join_7_i_i_i_i_i_i_i_i_i30_i_i_i_i_i_i_i_i_prehead__2; }
 L_join_7_i_i_i_i_i_i_i_i_i30_i_i_i_i_i_i_i_i_prehead__2:;
-    v_unroll_iter211 = (u64)((u64)(v_r1_sroa_3_0_copyload_i_i9_i_i_i_i_i_i_i_i) & (u64)(4294967292ull));
-    { p_v_r0_04_i_i_i_i_i_i_i_i_i31_i_i_i_i_i_i_i_i = 0u; p_v_niter212 = 0u; goto L_join_7_i_i_i_i_i_i_i_i_i30_i_i_i_i_i_i_i_i; }
+    v_unroll_iter196 = (u64)((u64)(v_r12_sroa_10_i207_sroa_5_0_ph_i_i_i_i_i_i_i) & (u64)(4294967292ull));
+    { p_v_r0_04_i_i_i_i_i_i_i_i_i31_i_i_i_i_i_i_i_i = 0u; p_v_niter197 = 0u; goto L_join_7_i_i_i_i_i_i_i_i_i30_i_i_i_i_i_i_i_i; }
 L_apart_2_i_i_i_i_i_i_i_i_i17_i_i_i_i_i_i_i_i:;
-    move(v_r26_i_i_i12_i_i_i_i_i_i_i_i, v_r12_sroa_10_i107_sroa_3_0_ph_i_i_i_i_i_i_i, v_r1_sroa_3_0_copyload_i_i9_i_i_i_i_i_i_i_i);
+    move(v_r26_i_i_i12_i_i_i_i_i_i_i_i, v_r12_sroa_10_i207_sroa_3_0_ph_i_i_i_i_i_i_i, v_r12_sroa_10_i207_sroa_5_0_ph_i_i_i_i_i_i_i);
     { goto L_der_core_back_writer_BackWriter_prepend_exit_i_i18; }
 L_join_7_i_i_i_i_i_i_i_i_i30_i_i_i_i_i_i_i_i:;
     v_r0_04_i_i_i_i_i_i_i_i_i31_i_i_i_i_i_i_i_i = p_v_r0_04_i_i_i_i_i_i_i_i_i31_i_i_i_i_i_i_i_i;
-    v_niter212 = p_v_niter212;
+    v_niter197 = p_v_niter197;
     v_r20_i_i_i_i_i_i_i_i_i32_i_i_i_i_i_i_i_i = v_r26_i_i_i12_i_i_i_i_i_i_i_i + (int64_t)(v_r0_04_i_i_i_i_i_i_i_i_i31_i_i_i_i_i_i_i_i);
-    v_r24_i_i_i_i_i_i_i_i_i33_i_i_i_i_i_i_i_i = v_r12_sroa_10_i107_sroa_3_0_ph_i_i_i_i_i_i_i + (int64_t)(v_r0_04_i_i_i_i_i_i_i_i_i31_i_i_i_i_i_i_i_i);
+    v_r24_i_i_i_i_i_i_i_i_i33_i_i_i_i_i_i_i_i = v_r12_sroa_10_i207_sroa_3_0_ph_i_i_i_i_i_i_i + (int64_t)(v_r0_04_i_i_i_i_i_i_i_i_i31_i_i_i_i_i_i_i_i);
     v_r26_i_i_i_i_i_i_i_i_i34_i_i_i_i_i_i_i_i = get_u8(v_r24_i_i_i_i_i_i_i_i_i33_i_i_i_i_i_i_i_i);
     put_u8(v_r20_i_i_i_i_i_i_i_i_i32_i_i_i_i_i_i_i_i, v_r26_i_i_i_i_i_i_i_i_i34_i_i_i_i_i_i_i_i);
     v_r30_i_i_i_i_i_i_i_i_i35_i_i_i_i_i_i_i_i = (u64)((u64)(v_r0_04_i_i_i_i_i_i_i_i_i31_i_i_i_i_i_i_i_i) | (u64)(1u));
     v_r20_i_i_i_i_i_i_i_i_i32_i_i_i_i_i_i_i_i_1 = v_r26_i_i_i12_i_i_i_i_i_i_i_i + (int64_t)(v_r30_i_i_i_i_i_i_i_i_i35_i_i_i_i_i_i_i_i);
-    v_r24_i_i_i_i_i_i_i_i_i33_i_i_i_i_i_i_i_i_1 = v_r12_sroa_10_i107_sroa_3_0_ph_i_i_i_i_i_i_i + (int64_t)(v_r30_i_i_i_i_i_i_i_i_i35_i_i_i_i_i_i_i_i);
+    v_r24_i_i_i_i_i_i_i_i_i33_i_i_i_i_i_i_i_i_1 = v_r12_sroa_10_i207_sroa_3_0_ph_i_i_i_i_i_i_i + (int64_t)(v_r30_i_i_i_i_i_i_i_i_i35_i_i_i_i_i_i_i_i);
     v_r26_i_i_i_i_i_i_i_i_i34_i_i_i_i_i_i_i_i_1 = get_u8(v_r24_i_i_i_i_i_i_i_i_i33_i_i_i_i_i_i_i_i_1);
     put_u8(v_r20_i_i_i_i_i_i_i_i_i32_i_i_i_i_i_i_i_i_1, v_r26_i_i_i_i_i_i_i_i_i34_i_i_i_i_i_i_i_i_1);
     v_r30_i_i_i_i_i_i_i_i_i35_i_i_i_i_i_i_i_i_1 = (u64)((u64)(v_r0_04_i_i_i_i_i_i_i_i_i31_i_i_i_i_i_i_i_i) | (u64)(2u));
     v_r20_i_i_i_i_i_i_i_i_i32_i_i_i_i_i_i_i_i_2 = v_r26_i_i_i12_i_i_i_i_i_i_i_i + (int64_t)(v_r30_i_i_i_i_i_i_i_i_i35_i_i_i_i_i_i_i_i_1);
-    v_r24_i_i_i_i_i_i_i_i_i33_i_i_i_i_i_i_i_i_2 = v_r12_sroa_10_i107_sroa_3_0_ph_i_i_i_i_i_i_i + (int64_t)(v_r30_i_i_i_i_i_i_i_i_i35_i_i_i_i_i_i_i_i_1);
+    v_r24_i_i_i_i_i_i_i_i_i33_i_i_i_i_i_i_i_i_2 = v_r12_sroa_10_i207_sroa_3_0_ph_i_i_i_i_i_i_i + (int64_t)(v_r30_i_i_i_i_i_i_i_i_i35_i_i_i_i_i_i_i_i_1);
     v_r26_i_i_i_i_i_i_i_i_i34_i_i_i_i_i_i_i_i_2 = get_u8(v_r24_i_i_i_i_i_i_i_i_i33_i_i_i_i_i_i_i_i_2);
     put_u8(v_r20_i_i_i_i_i_i_i_i_i32_i_i_i_i_i_i_i_i_2, v_r26_i_i_i_i_i_i_i_i_i34_i_i_i_i_i_i_i_i_2);
     v_r30_i_i_i_i_i_i_i_i_i35_i_i_i_i_i_i_i_i_2 = (u64)((u64)(v_r0_04_i_i_i_i_i_i_i_i_i31_i_i_i_i_i_i_i_i) | (u64)(3u));
     v_r20_i_i_i_i_i_i_i_i_i32_i_i_i_i_i_i_i_i_3 = v_r26_i_i_i12_i_i_i_i_i_i_i_i + (int64_t)(v_r30_i_i_i_i_i_i_i_i_i35_i_i_i_i_i_i_i_i_2);
-    v_r24_i_i_i_i_i_i_i_i_i33_i_i_i_i_i_i_i_i_3 = v_r12_sroa_10_i107_sroa_3_0_ph_i_i_i_i_i_i_i + (int64_t)(v_r30_i_i_i_i_i_i_i_i_i35_i_i_i_i_i_i_i_i_2);
+    v_r24_i_i_i_i_i_i_i_i_i33_i_i_i_i_i_i_i_i_3 = v_r12_sroa_10_i207_sroa_3_0_ph_i_i_i_i_i_i_i + (int64_t)(v_r30_i_i_i_i_i_i_i_i_i35_i_i_i_i_i_i_i_i_2);
     v_r26_i_i_i_i_i_i_i_i_i34_i_i_i_i_i_i_i_i_3 = get_u8(v_r24_i_i_i_i_i_i_i_i_i33_i_i_i_i_i_i_i_i_3);
     put_u8(v_r20_i_i_i_i_i_i_i_i_i32_i_i_i_i_i_i_i_i_3, v_r26_i_i_i_i_i_i_i_i_i34_i_i_i_i_i_i_i_i_3);
     v_r30_i_i_i_i_i_i_i_i_i35_i_i_i_i_i_i_i_i_3 = (u64)((u64)(v_r0_04_i_i_i_i_i_i_i_i_i31_i_i_i_i_i_i_i_i) + (u64)(4u));
-    v_niter212_next_3 = (u64)((u64)(v_niter212) + (u64)(4u));
-    v_niter212_ncmp_3 = v_niter212_next_3 == v_unroll_iter211;
-    if (v_niter212_ncmp_3) { goto L_der_core_back_writer_BackWriter_prepend_exit_i_i18__2; } else { p_v_r0_04_i_i_i_i_i_i_i_i_i31_i_i_i_i_i_i_i_i = v_r30_i_i_i_i_i_i_i_i_i35_i_i_i_i_i_i_i_i_3; p_v_niter212 = v_niter212_next_3; goto L_join_7_i_i_i_i_i_i_i_i_i30_i_i_i_i_i_i_i_i; }
+    v_niter197_next_3 = (u64)((u64)(v_niter197) + (u64)(4u));
+    v_niter197_ncmp_3 = v_niter197_next_3 == v_unroll_iter196;
+    if (v_niter197_ncmp_3) { goto L_der_core_back_writer_BackWriter_prepend_exit_i_i18__2; } else { p_v_r0_04_i_i_i_i_i_i_i_i_i31_i_i_i_i_i_i_i_i = v_r30_i_i_i_i_i_i_i_i_i35_i_i_i_i_i_i_i_i_3; p_v_niter197 = v_niter197_next_3; goto L_join_7_i_i_i_i_i_i_i_i_i30_i_i_i_i_i_i_i_i; }
 L_der_core_back_writer_BackWriter_prepend_exit_i_i18__2:;
-    v_lcmp_mod209_not = v_xtraiter207 == 0u;
-    if (v_lcmp_mod209_not) { goto L_der_core_back_writer_BackWriter_prepend_exit_i_i18; } else { p_v_r0_04_i_i_i_i_i_i_i_i_i31_i_i_i_i_i_i_i_i_epil_ini = v_r30_i_i_i_i_i_i_i_i_i35_i_i_i_i_i_i_i_i_3; goto L_join_7_i_i_i_i_i_i_i_i_i30_i_i_i_i_i_i_i_i_epil_pr; }
+    v_lcmp_mod194_not = v_xtraiter192 == 0u;
+    if (v_lcmp_mod194_not) { goto L_der_core_back_writer_BackWriter_prepend_exit_i_i18; } else { p_v_r0_04_i_i_i_i_i_i_i_i_i31_i_i_i_i_i_i_i_i_epil_ini = v_r30_i_i_i_i_i_i_i_i_i35_i_i_i_i_i_i_i_i_3; goto L_join_7_i_i_i_i_i_i_i_i_i30_i_i_i_i_i_i_i_i_epil_pr; }
 L_join_7_i_i_i_i_i_i_i_i_i30_i_i_i_i_i_i_i_i_epil_pr:;
     v_r0_04_i_i_i_i_i_i_i_i_i31_i_i_i_i_i_i_i_i_epil_ini = p_v_r0_04_i_i_i_i_i_i_i_i_i31_i_i_i_i_i_i_i_i_epil_ini;
-    { p_v_r0_04_i_i_i_i_i_i_i_i_i31_i_i_i_i_i_i_i_i_epil = v_r0_04_i_i_i_i_i_i_i_i_i31_i_i_i_i_i_i_i_i_epil_ini; p_v_epil_iter208 = 0u; goto L_join_7_i_i_i_i_i_i_i_i_i30_i_i_i_i_i_i_i_i_epil; }
+    { p_v_r0_04_i_i_i_i_i_i_i_i_i31_i_i_i_i_i_i_i_i_epil = v_r0_04_i_i_i_i_i_i_i_i_i31_i_i_i_i_i_i_i_i_epil_ini; p_v_epil_iter193 = 0u; goto L_join_7_i_i_i_i_i_i_i_i_i30_i_i_i_i_i_i_i_i_epil; }
 L_join_7_i_i_i_i_i_i_i_i_i30_i_i_i_i_i_i_i_i_epil:;
     v_r0_04_i_i_i_i_i_i_i_i_i31_i_i_i_i_i_i_i_i_epil = p_v_r0_04_i_i_i_i_i_i_i_i_i31_i_i_i_i_i_i_i_i_epil;
-    v_epil_iter208 = p_v_epil_iter208;
+    v_epil_iter193 = p_v_epil_iter193;
     v_r20_i_i_i_i_i_i_i_i_i32_i_i_i_i_i_i_i_i_epil = v_r26_i_i_i12_i_i_i_i_i_i_i_i + (int64_t)(v_r0_04_i_i_i_i_i_i_i_i_i31_i_i_i_i_i_i_i_i_epil);
-    v_r24_i_i_i_i_i_i_i_i_i33_i_i_i_i_i_i_i_i_epil = v_r12_sroa_10_i107_sroa_3_0_ph_i_i_i_i_i_i_i + (int64_t)(v_r0_04_i_i_i_i_i_i_i_i_i31_i_i_i_i_i_i_i_i_epil);
+    v_r24_i_i_i_i_i_i_i_i_i33_i_i_i_i_i_i_i_i_epil = v_r12_sroa_10_i207_sroa_3_0_ph_i_i_i_i_i_i_i + (int64_t)(v_r0_04_i_i_i_i_i_i_i_i_i31_i_i_i_i_i_i_i_i_epil);
     v_r26_i_i_i_i_i_i_i_i_i34_i_i_i_i_i_i_i_i_epil = get_u8(v_r24_i_i_i_i_i_i_i_i_i33_i_i_i_i_i_i_i_i_epil);
     put_u8(v_r20_i_i_i_i_i_i_i_i_i32_i_i_i_i_i_i_i_i_epil, v_r26_i_i_i_i_i_i_i_i_i34_i_i_i_i_i_i_i_i_epil);
     v_r30_i_i_i_i_i_i_i_i_i35_i_i_i_i_i_i_i_i_epil = (u64)((u64)(v_r0_04_i_i_i_i_i_i_i_i_i31_i_i_i_i_i_i_i_i_epil) + (u64)(1u));
-    v_epil_iter208_next = (u64)((u64)(v_epil_iter208) + (u64)(1u));
-    v_epil_iter208_cmp_not = v_epil_iter208_next == v_xtraiter207;
-    if (v_epil_iter208_cmp_not) { goto L_der_core_back_writer_BackWriter_prepend_exit_i_i18; } else { p_v_r0_04_i_i_i_i_i_i_i_i_i31_i_i_i_i_i_i_i_i_epil = v_r30_i_i_i_i_i_i_i_i_i35_i_i_i_i_i_i_i_i_epil; p_v_epil_iter208 = v_epil_iter208_next; goto L_join_7_i_i_i_i_i_i_i_i_i30_i_i_i_i_i_i_i_i_epil; }
+    v_epil_iter193_next = (u64)((u64)(v_epil_iter193) + (u64)(1u));
+    v_epil_iter193_cmp_not = v_epil_iter193_next == v_xtraiter192;
+    if (v_epil_iter193_cmp_not) { goto L_der_core_back_writer_BackWriter_prepend_exit_i_i18; } else { p_v_r0_04_i_i_i_i_i_i_i_i_i31_i_i_i_i_i_i_i_i_epil = v_r30_i_i_i_i_i_i_i_i_i35_i_i_i_i_i_i_i_i_epil; p_v_epil_iter193 = v_epil_iter193_next; goto L_join_7_i_i_i_i_i_i_i_i_i30_i_i_i_i_i_i_i_i_epil; }
 L_der_core_back_writer_BackWriter_prepend_exit_i_i18:;
     v_r15_not_i_i21_i_i_i_i_i_i_i_i = (u8)(v_r20_i90_i_i_i_i_i_i_i_i ^ ((u8)1 << 7)) > (u8)(255u ^ ((u8)1 << 7));
     if (v_r15_not_i_i21_i_i_i_i_i_i_i_i) { p_v_r7_sroa_130_11_i_i_i = v_r17_i_i_i10_i_i_i_i_i_i_i_i; goto L_der_core_borrowed_BorrowedEncode_prepend_f4fc96f16__2; } else { goto L_then_1_i_i22_i_i_i_i_i_i_i_i; }
@@ -37438,10 +37272,10 @@ L_then_1_i_i22_i_i_i_i_i_i_i_i:;
     { p_v_r7_sroa_130_11_i_i_i = v_r17_i3_i_i23_i_i_i_i_i_i_i_i; goto L_der_core_borrowed_BorrowedEncode_prepend_f4fc96f16__2; }
 L_der_core_borrowed_BorrowedEncode_prepend_f4fc96f16__2:;
     v_r7_sroa_130_11_i_i_i = p_v_r7_sroa_130_11_i_i_i;
-    v_30 = (u64)((u64)(v_r7_sroa_130_11_i_i_i) + (u64)(v_r3_i8_i_i_i));
-    v_31 = (u64)((u64)(v_r7_sroa_130_27_i_i_i) - (u64)(v_30));
-    v_32 = (u32)(v_31);
-    v_r2_i_i29_i_i_i_i_i_i_i_i = (u32)((u32)(v_r1_sroa_9_4_copyload_i_i_i_i) + (u32)(v_32));
+    v_26 = (u64)((u64)(v_r7_sroa_130_11_i_i_i) + (u64)(v_r3_i8_i_i_i));
+    v_27 = (u64)((u64)(v_r7_sroa_130_28_i_i_i) - (u64)(v_26));
+    v_28 = (u32)(v_27);
+    v_r2_i_i29_i_i_i_i_i_i_i_i = (u32)((u32)(v_r1_sroa_9_4_copyload_i_i_i_i) + (u32)(v_28));
     v_r59_i937_i_i_i = v_r2_i_i29_i_i_i_i_i_i_i_i < 128u;
     if (v_r59_i937_i_i_i) { goto L_then_1_i998_i_i_i; } else { goto L_else_2_i938_i_i_i; }
 L_then_1_i998_i_i_i:;
@@ -37451,7 +37285,7 @@ L_then_1_i998_i_i_i:;
     v_r8_i932_sroa_4_0_insert_shift_i_i_i = (u16)((u32)(v_r64_i999_i_i_i) << (u32)((8u & 31)));
     v_r8_i932_sroa_0_0_insert_insert_i_i_i = (u16)((u32)(v_r8_i932_sroa_4_0_insert_shift_i_i_i) | (u32)(2u));
     put_u16(v_r26_i_i1005_i_i_i, v_r8_i932_sroa_0_0_insert_insert_i_i_i);
-    { p_v_r7_sroa_130_26_i_i_i = v_r17_i_i1003_i_i_i; goto L_der_core_back_writer_BackWriter_prepend_header_exi__2; }
+    { p_v_r7_sroa_130_27_i_i_i = v_r17_i_i1003_i_i_i; goto L_der_core_back_writer_BackWriter_prepend_header_exi__2; }
 L_else_2_i938_i_i_i:;
     v_r75_i939_i_i_i = v_r2_i_i29_i_i_i_i_i_i_i_i < 256u;
     if (v_r75_i939_i_i_i) { goto L_then_4_i989_i_i_i; } else { goto L_else_5_i940_i_i_i; }
@@ -37464,17 +37298,17 @@ L_then_4_i989_i_i_i:;
     put_u8(v_r14_i933_sroa_4_0_r26_i30_i997_sroa_idx_i_i_i, 129u);
     v_r14_i933_sroa_5_0_r26_i30_i997_sroa_idx_i_i_i = v_r26_i30_i997_i_i_i + 2;
     put_u8(v_r14_i933_sroa_5_0_r26_i30_i997_sroa_idx_i_i_i, v_r80_i990_i_i_i);
-    { p_v_r7_sroa_130_26_i_i_i = v_r17_i28_i995_i_i_i; goto L_der_core_back_writer_BackWriter_prepend_header_exi__2; }
+    { p_v_r7_sroa_130_27_i_i_i = v_r17_i28_i995_i_i_i; goto L_der_core_back_writer_BackWriter_prepend_header_exi__2; }
 L_else_5_i940_i_i_i:;
     v_r92_i941_i_i_i = v_r2_i_i29_i_i_i_i_i_i_i_i < 65536u;
     if (v_r92_i941_i_i_i) { goto L_then_7_i977_i_i_i; } else { goto L_else_8_i942_i_i_i; }
 L_then_7_i977_i_i_i:;
     v_r17_i46_i985_i_i_i = (u64)((u64)(v_r7_sroa_130_11_i_i_i) + (u64)(18446744073709551612ull));
     v_r26_i48_i987_i_i_i = (P)((uintptr_t)v_r13 + (u64)(v_r17_i46_i985_i_i_i));
-    v_33 = (u32)((u32)(v_r2_i_i29_i_i_i_i_i_i_i_i) | (u32)(42074112u));
-    v_r20_i934_sroa_0_0_insert_insert_i_i_i = __builtin_bswap32(v_33);
+    v_29 = (u32)((u32)(v_r2_i_i29_i_i_i_i_i_i_i_i) | (u32)(42074112u));
+    v_r20_i934_sroa_0_0_insert_insert_i_i_i = __builtin_bswap32(v_29);
     put_u32(v_r26_i48_i987_i_i_i, v_r20_i934_sroa_0_0_insert_insert_i_i_i);
-    { p_v_r7_sroa_130_26_i_i_i = v_r17_i46_i985_i_i_i; goto L_der_core_back_writer_BackWriter_prepend_header_exi__2; }
+    { p_v_r7_sroa_130_27_i_i_i = v_r17_i46_i985_i_i_i; goto L_der_core_back_writer_BackWriter_prepend_header_exi__2; }
 L_else_8_i942_i_i_i:;
     v_r117_i943_i_i_i = v_r2_i_i29_i_i_i_i_i_i_i_i < 16777216u;
     if (v_r117_i943_i_i_i) { goto L_then_10_i962_i_i_i; } else { goto L_else_11_i944_i_i_i; }
@@ -37495,7 +37329,7 @@ L_then_10_i962_i_i_i:;
     put_u8(v_r29_i935_sroa_6_0_r26_i66_i976_sroa_idx_i_i_i, v_r130_i966_i_i_i);
     v_r29_i935_sroa_7_0_r26_i66_i976_sroa_idx_i_i_i = v_r26_i66_i976_i_i_i + 4;
     put_u8(v_r29_i935_sroa_7_0_r26_i66_i976_sroa_idx_i_i_i, v_r134_i967_i_i_i);
-    { p_v_r7_sroa_130_26_i_i_i = v_r17_i64_i974_i_i_i; goto L_der_core_back_writer_BackWriter_prepend_header_exi__2; }
+    { p_v_r7_sroa_130_27_i_i_i = v_r17_i64_i974_i_i_i; goto L_der_core_back_writer_BackWriter_prepend_header_exi__2; }
 L_else_11_i944_i_i_i:;
     v_r15020_i945_i_i_i = (u32)((u32)(v_r2_i_i29_i_i_i_i_i_i_i_i) >> (u32)((24u & 31)));
     v_r152_i946_i_i_i = (u8)(v_r15020_i945_i_i_i);
@@ -37517,10 +37351,10 @@ L_else_11_i944_i_i_i:;
     put_u8(v_r40_i936_sroa_7_0_r26_i84_i961_sroa_idx_i_i_i, v_r164_i950_i_i_i);
     v_r40_i936_sroa_8_0_r26_i84_i961_sroa_idx_i_i_i = v_r26_i84_i961_i_i_i + 5;
     put_u8(v_r40_i936_sroa_8_0_r26_i84_i961_sroa_idx_i_i_i, v_r168_i951_i_i_i);
-    { p_v_r7_sroa_130_26_i_i_i = v_r17_i82_i959_i_i_i; goto L_der_core_back_writer_BackWriter_prepend_header_exi__2; }
+    { p_v_r7_sroa_130_27_i_i_i = v_r17_i82_i959_i_i_i; goto L_der_core_back_writer_BackWriter_prepend_header_exi__2; }
 L_der_core_back_writer_BackWriter_prepend_header_exi__2:;
-    v_r7_sroa_130_26_i_i_i = p_v_r7_sroa_130_26_i_i_i;
-    v_r17_i_i_i43_i_i_i_i_i_i_i_i = (u64)((u64)(v_r7_sroa_130_26_i_i_i) - (u64)(v_r12_sroa_10_i_sroa_5_0_ph_i_i_i_i_i_i_i));
+    v_r7_sroa_130_27_i_i_i = p_v_r7_sroa_130_27_i_i_i;
+    v_r17_i_i_i43_i_i_i_i_i_i_i_i = (u64)((u64)(v_r7_sroa_130_27_i_i_i) - (u64)(v_r12_sroa_10_i_sroa_5_0_ph_i_i_i_i_i_i_i));
     v_r26_i_i_i45_i_i_i_i_i_i_i_i = (P)((uintptr_t)v_r13 + (u64)(v_r17_i_i_i43_i_i_i_i_i_i_i_i));
     v_r8_i_i_i_i_i_i_i_i_i46_i_i_i_i_i_i_i_i = (u64)((uintptr_t)v_r26_i_i_i45_i_i_i_i_i_i_i_i);
     v_r9_i_i_i_i_i_i_i_i_i47_i_i_i_i_i_i_i_i = (u64)((uintptr_t)v_r12_sroa_10_i_sroa_3_0_ph_i_i_i_i_i_i_i);
@@ -37528,18 +37362,18 @@ L_der_core_back_writer_BackWriter_prepend_header_exi__2:;
     v_r11_i_i_i_i_i_i_i_i_i49_i_i_i_i_i_i_i_i = v_r10_i_i_i_i_i_i_i_i_i48_i_i_i_i_i_i_i_i < v_r12_sroa_10_i_sroa_5_0_ph_i_i_i_i_i_i_i;
     if (v_r11_i_i_i_i_i_i_i_i_i49_i_i_i_i_i_i_i_i) { goto L_join_7_i_i_i_i_i_i_i_i_i63_i_i_i_i_i_i_i_i_prehead; } else { goto L_apart_2_i_i_i_i_i_i_i_i_i50_i_i_i_i_i_i_i_i; }
 L_join_7_i_i_i_i_i_i_i_i_i63_i_i_i_i_i_i_i_i_prehead:;
-    v_xtraiter213 = (u64)((u64)(v_r12_sroa_10_i_sroa_5_0_ph_i_i_i_i_i_i_i) & (u64)(3u));
-    v_34 = v_r12_sroa_10_i_sroa_5_0_ph_i_i_i_i_i_i_i < 4u;
-    if (v_34) { p_v_r0_04_i_i_i_i_i_i_i_i_i64_i_i_i_i_i_i_i_i_epil_ini = 0u; goto L_join_7_i_i_i_i_i_i_i_i_i63_i_i_i_i_i_i_i_i_epil_pr; } else { goto L_join_7_i_i_i_i_i_i_i_i_i63_i_i_i_i_i_i_i_i_prehead__2; }
+    v_xtraiter198 = (u64)((u64)(v_r12_sroa_10_i_sroa_5_0_ph_i_i_i_i_i_i_i) & (u64)(3u));
+    v_30 = v_r12_sroa_10_i_sroa_5_0_ph_i_i_i_i_i_i_i < 4u;
+    if (v_30) { p_v_r0_04_i_i_i_i_i_i_i_i_i64_i_i_i_i_i_i_i_i_epil_ini = 0u; goto L_join_7_i_i_i_i_i_i_i_i_i63_i_i_i_i_i_i_i_i_epil_pr; } else { goto L_join_7_i_i_i_i_i_i_i_i_i63_i_i_i_i_i_i_i_i_prehead__2; }
 L_join_7_i_i_i_i_i_i_i_i_i63_i_i_i_i_i_i_i_i_prehead__2:;
-    v_unroll_iter217 = (u64)((u64)(v_r12_sroa_10_i_sroa_5_0_ph_i_i_i_i_i_i_i) & (u64)(4294967292ull));
-    { p_v_r0_04_i_i_i_i_i_i_i_i_i64_i_i_i_i_i_i_i_i = 0u; p_v_niter218 = 0u; goto L_join_7_i_i_i_i_i_i_i_i_i63_i_i_i_i_i_i_i_i; }
+    v_unroll_iter202 = (u64)((u64)(v_r12_sroa_10_i_sroa_5_0_ph_i_i_i_i_i_i_i) & (u64)(4294967292ull));
+    { p_v_r0_04_i_i_i_i_i_i_i_i_i64_i_i_i_i_i_i_i_i = 0u; p_v_niter203 = 0u; goto L_join_7_i_i_i_i_i_i_i_i_i63_i_i_i_i_i_i_i_i; }
 L_apart_2_i_i_i_i_i_i_i_i_i50_i_i_i_i_i_i_i_i:;
     move(v_r26_i_i_i45_i_i_i_i_i_i_i_i, v_r12_sroa_10_i_sroa_3_0_ph_i_i_i_i_i_i_i, v_r12_sroa_10_i_sroa_5_0_ph_i_i_i_i_i_i_i);
     { goto L_der_core_back_writer_BackWriter_prepend_exit_i_i51; }
 L_join_7_i_i_i_i_i_i_i_i_i63_i_i_i_i_i_i_i_i:;
     v_r0_04_i_i_i_i_i_i_i_i_i64_i_i_i_i_i_i_i_i = p_v_r0_04_i_i_i_i_i_i_i_i_i64_i_i_i_i_i_i_i_i;
-    v_niter218 = p_v_niter218;
+    v_niter203 = p_v_niter203;
     v_r20_i_i_i_i_i_i_i_i_i65_i_i_i_i_i_i_i_i = v_r26_i_i_i45_i_i_i_i_i_i_i_i + (int64_t)(v_r0_04_i_i_i_i_i_i_i_i_i64_i_i_i_i_i_i_i_i);
     v_r24_i_i_i_i_i_i_i_i_i66_i_i_i_i_i_i_i_i = v_r12_sroa_10_i_sroa_3_0_ph_i_i_i_i_i_i_i + (int64_t)(v_r0_04_i_i_i_i_i_i_i_i_i64_i_i_i_i_i_i_i_i);
     v_r26_i_i_i_i_i_i_i_i_i67_i_i_i_i_i_i_i_i = get_u8(v_r24_i_i_i_i_i_i_i_i_i66_i_i_i_i_i_i_i_i);
@@ -37560,26 +37394,26 @@ L_join_7_i_i_i_i_i_i_i_i_i63_i_i_i_i_i_i_i_i:;
     v_r26_i_i_i_i_i_i_i_i_i67_i_i_i_i_i_i_i_i_3 = get_u8(v_r24_i_i_i_i_i_i_i_i_i66_i_i_i_i_i_i_i_i_3);
     put_u8(v_r20_i_i_i_i_i_i_i_i_i65_i_i_i_i_i_i_i_i_3, v_r26_i_i_i_i_i_i_i_i_i67_i_i_i_i_i_i_i_i_3);
     v_r30_i_i_i_i_i_i_i_i_i68_i_i_i_i_i_i_i_i_3 = (u64)((u64)(v_r0_04_i_i_i_i_i_i_i_i_i64_i_i_i_i_i_i_i_i) + (u64)(4u));
-    v_niter218_next_3 = (u64)((u64)(v_niter218) + (u64)(4u));
-    v_niter218_ncmp_3 = v_niter218_next_3 == v_unroll_iter217;
-    if (v_niter218_ncmp_3) { goto L_der_core_back_writer_BackWriter_prepend_exit_i_i51__2; } else { p_v_r0_04_i_i_i_i_i_i_i_i_i64_i_i_i_i_i_i_i_i = v_r30_i_i_i_i_i_i_i_i_i68_i_i_i_i_i_i_i_i_3; p_v_niter218 = v_niter218_next_3; goto L_join_7_i_i_i_i_i_i_i_i_i63_i_i_i_i_i_i_i_i; }
+    v_niter203_next_3 = (u64)((u64)(v_niter203) + (u64)(4u));
+    v_niter203_ncmp_3 = v_niter203_next_3 == v_unroll_iter202;
+    if (v_niter203_ncmp_3) { goto L_der_core_back_writer_BackWriter_prepend_exit_i_i51__2; } else { p_v_r0_04_i_i_i_i_i_i_i_i_i64_i_i_i_i_i_i_i_i = v_r30_i_i_i_i_i_i_i_i_i68_i_i_i_i_i_i_i_i_3; p_v_niter203 = v_niter203_next_3; goto L_join_7_i_i_i_i_i_i_i_i_i63_i_i_i_i_i_i_i_i; }
 L_der_core_back_writer_BackWriter_prepend_exit_i_i51__2:;
-    v_lcmp_mod215_not = v_xtraiter213 == 0u;
-    if (v_lcmp_mod215_not) { goto L_der_core_back_writer_BackWriter_prepend_exit_i_i51; } else { p_v_r0_04_i_i_i_i_i_i_i_i_i64_i_i_i_i_i_i_i_i_epil_ini = v_r30_i_i_i_i_i_i_i_i_i68_i_i_i_i_i_i_i_i_3; goto L_join_7_i_i_i_i_i_i_i_i_i63_i_i_i_i_i_i_i_i_epil_pr; }
+    v_lcmp_mod200_not = v_xtraiter198 == 0u;
+    if (v_lcmp_mod200_not) { goto L_der_core_back_writer_BackWriter_prepend_exit_i_i51; } else { p_v_r0_04_i_i_i_i_i_i_i_i_i64_i_i_i_i_i_i_i_i_epil_ini = v_r30_i_i_i_i_i_i_i_i_i68_i_i_i_i_i_i_i_i_3; goto L_join_7_i_i_i_i_i_i_i_i_i63_i_i_i_i_i_i_i_i_epil_pr; }
 L_join_7_i_i_i_i_i_i_i_i_i63_i_i_i_i_i_i_i_i_epil_pr:;
     v_r0_04_i_i_i_i_i_i_i_i_i64_i_i_i_i_i_i_i_i_epil_ini = p_v_r0_04_i_i_i_i_i_i_i_i_i64_i_i_i_i_i_i_i_i_epil_ini;
-    { p_v_r0_04_i_i_i_i_i_i_i_i_i64_i_i_i_i_i_i_i_i_epil = v_r0_04_i_i_i_i_i_i_i_i_i64_i_i_i_i_i_i_i_i_epil_ini; p_v_epil_iter214 = 0u; goto L_join_7_i_i_i_i_i_i_i_i_i63_i_i_i_i_i_i_i_i_epil; }
+    { p_v_r0_04_i_i_i_i_i_i_i_i_i64_i_i_i_i_i_i_i_i_epil = v_r0_04_i_i_i_i_i_i_i_i_i64_i_i_i_i_i_i_i_i_epil_ini; p_v_epil_iter199 = 0u; goto L_join_7_i_i_i_i_i_i_i_i_i63_i_i_i_i_i_i_i_i_epil; }
 L_join_7_i_i_i_i_i_i_i_i_i63_i_i_i_i_i_i_i_i_epil:;
     v_r0_04_i_i_i_i_i_i_i_i_i64_i_i_i_i_i_i_i_i_epil = p_v_r0_04_i_i_i_i_i_i_i_i_i64_i_i_i_i_i_i_i_i_epil;
-    v_epil_iter214 = p_v_epil_iter214;
+    v_epil_iter199 = p_v_epil_iter199;
     v_r20_i_i_i_i_i_i_i_i_i65_i_i_i_i_i_i_i_i_epil = v_r26_i_i_i45_i_i_i_i_i_i_i_i + (int64_t)(v_r0_04_i_i_i_i_i_i_i_i_i64_i_i_i_i_i_i_i_i_epil);
     v_r24_i_i_i_i_i_i_i_i_i66_i_i_i_i_i_i_i_i_epil = v_r12_sroa_10_i_sroa_3_0_ph_i_i_i_i_i_i_i + (int64_t)(v_r0_04_i_i_i_i_i_i_i_i_i64_i_i_i_i_i_i_i_i_epil);
     v_r26_i_i_i_i_i_i_i_i_i67_i_i_i_i_i_i_i_i_epil = get_u8(v_r24_i_i_i_i_i_i_i_i_i66_i_i_i_i_i_i_i_i_epil);
     put_u8(v_r20_i_i_i_i_i_i_i_i_i65_i_i_i_i_i_i_i_i_epil, v_r26_i_i_i_i_i_i_i_i_i67_i_i_i_i_i_i_i_i_epil);
     v_r30_i_i_i_i_i_i_i_i_i68_i_i_i_i_i_i_i_i_epil = (u64)((u64)(v_r0_04_i_i_i_i_i_i_i_i_i64_i_i_i_i_i_i_i_i_epil) + (u64)(1u));
-    v_epil_iter214_next = (u64)((u64)(v_epil_iter214) + (u64)(1u));
-    v_epil_iter214_cmp_not = v_epil_iter214_next == v_xtraiter213;
-    if (v_epil_iter214_cmp_not) { goto L_der_core_back_writer_BackWriter_prepend_exit_i_i51; } else { p_v_r0_04_i_i_i_i_i_i_i_i_i64_i_i_i_i_i_i_i_i_epil = v_r30_i_i_i_i_i_i_i_i_i68_i_i_i_i_i_i_i_i_epil; p_v_epil_iter214 = v_epil_iter214_next; goto L_join_7_i_i_i_i_i_i_i_i_i63_i_i_i_i_i_i_i_i_epil; }
+    v_epil_iter199_next = (u64)((u64)(v_epil_iter199) + (u64)(1u));
+    v_epil_iter199_cmp_not = v_epil_iter199_next == v_xtraiter198;
+    if (v_epil_iter199_cmp_not) { goto L_der_core_back_writer_BackWriter_prepend_exit_i_i51; } else { p_v_r0_04_i_i_i_i_i_i_i_i_i64_i_i_i_i_i_i_i_i_epil = v_r30_i_i_i_i_i_i_i_i_i68_i_i_i_i_i_i_i_i_epil; p_v_epil_iter199 = v_epil_iter199_next; goto L_join_7_i_i_i_i_i_i_i_i_i63_i_i_i_i_i_i_i_i_epil; }
 L_der_core_back_writer_BackWriter_prepend_exit_i_i51:;
     v_r15_not_i_i54_i_i_i_i_i_i_i_i = (u8)(v_r20_i83_i_i_i_i_i_i_i_i ^ ((u8)1 << 7)) > (u8)(255u ^ ((u8)1 << 7));
     if (v_r15_not_i_i54_i_i_i_i_i_i_i_i) { p_v_r7_sroa_130_12_i_i_i = v_r17_i_i_i43_i_i_i_i_i_i_i_i; goto L_pkcs1_c_given_primes_prepend_given_exit_i_i_i_i_i_; } else { goto L_then_1_i_i55_i_i_i_i_i_i_i_i; }
@@ -37588,14 +37422,12 @@ L_then_1_i_i55_i_i_i_i_i_i_i_i:;
     v_r26_i5_i_i58_i_i_i_i_i_i_i_i = (P)((uintptr_t)v_r13 + (u64)(v_r17_i3_i_i56_i_i_i_i_i_i_i_i));
     put_u8(v_r26_i5_i_i58_i_i_i_i_i_i_i_i, 0u);
     { p_v_r7_sroa_130_12_i_i_i = v_r17_i3_i_i56_i_i_i_i_i_i_i_i; goto L_pkcs1_c_given_primes_prepend_given_exit_i_i_i_i_i_; }
-L_pkcs1_c_given_primes_prepend_given_exit_thread_i_i:;
-    { p_v_r7_sroa_130_8_i_i_i = v_r7_sroa_130_9_i_i_i; goto L_der_core_borrowed_BorrowedEncode_prepend_046aa0adc; }
 L_pkcs1_c_given_primes_prepend_given_exit_i_i_i_i_i_:;
     v_r7_sroa_130_12_i_i_i = p_v_r7_sroa_130_12_i_i_i;
-    v_35 = (u64)((u64)(v_r7_sroa_130_12_i_i_i) + (u64)(v_r3_i8_i_i_i));
-    v_36 = (u64)((u64)(v_r7_sroa_130_26_i_i_i) - (u64)(v_35));
-    v_37 = (u32)(v_36);
-    v_r2_i_i62_i_i_i_i_i_i_i_i = (u32)((u32)(v_r1_sroa_9_4_copyload_i_i_i_i) + (u32)(v_37));
+    v_31 = (u64)((u64)(v_r7_sroa_130_12_i_i_i) + (u64)(v_r3_i8_i_i_i));
+    v_32 = (u64)((u64)(v_r7_sroa_130_27_i_i_i) - (u64)(v_31));
+    v_33 = (u32)(v_32);
+    v_r2_i_i62_i_i_i_i_i_i_i_i = (u32)((u32)(v_r1_sroa_9_4_copyload_i_i_i_i) + (u32)(v_33));
     v_r59_i861_i_i_i = v_r2_i_i62_i_i_i_i_i_i_i_i < 128u;
     if (v_r59_i861_i_i_i) { goto L_then_1_i922_i_i_i; } else { goto L_else_2_i862_i_i_i; }
 L_then_1_i922_i_i_i:;
@@ -37605,7 +37437,7 @@ L_then_1_i922_i_i_i:;
     v_r8_i856_sroa_4_0_insert_shift_i_i_i = (u16)((u32)(v_r64_i923_i_i_i) << (u32)((8u & 31)));
     v_r8_i856_sroa_0_0_insert_insert_i_i_i = (u16)((u32)(v_r8_i856_sroa_4_0_insert_shift_i_i_i) | (u32)(2u));
     put_u16(v_r26_i_i929_i_i_i, v_r8_i856_sroa_0_0_insert_insert_i_i_i);
-    { p_v_r7_sroa_130_25_i_i_i = v_r17_i_i927_i_i_i; goto L_der_core_back_writer_BackWriter_prepend_header_exi__3; }
+    { p_v_r7_sroa_130_26_i_i_i = v_r17_i_i927_i_i_i; goto L_der_core_back_writer_BackWriter_prepend_header_exi__3; }
 L_else_2_i862_i_i_i:;
     v_r75_i863_i_i_i = v_r2_i_i62_i_i_i_i_i_i_i_i < 256u;
     if (v_r75_i863_i_i_i) { goto L_then_4_i913_i_i_i; } else { goto L_else_5_i864_i_i_i; }
@@ -37618,17 +37450,17 @@ L_then_4_i913_i_i_i:;
     put_u8(v_r14_i857_sroa_4_0_r26_i30_i921_sroa_idx_i_i_i, 129u);
     v_r14_i857_sroa_5_0_r26_i30_i921_sroa_idx_i_i_i = v_r26_i30_i921_i_i_i + 2;
     put_u8(v_r14_i857_sroa_5_0_r26_i30_i921_sroa_idx_i_i_i, v_r80_i914_i_i_i);
-    { p_v_r7_sroa_130_25_i_i_i = v_r17_i28_i919_i_i_i; goto L_der_core_back_writer_BackWriter_prepend_header_exi__3; }
+    { p_v_r7_sroa_130_26_i_i_i = v_r17_i28_i919_i_i_i; goto L_der_core_back_writer_BackWriter_prepend_header_exi__3; }
 L_else_5_i864_i_i_i:;
     v_r92_i865_i_i_i = v_r2_i_i62_i_i_i_i_i_i_i_i < 65536u;
     if (v_r92_i865_i_i_i) { goto L_then_7_i901_i_i_i; } else { goto L_else_8_i866_i_i_i; }
 L_then_7_i901_i_i_i:;
     v_r17_i46_i909_i_i_i = (u64)((u64)(v_r7_sroa_130_12_i_i_i) + (u64)(18446744073709551612ull));
     v_r26_i48_i911_i_i_i = (P)((uintptr_t)v_r13 + (u64)(v_r17_i46_i909_i_i_i));
-    v_38 = (u32)((u32)(v_r2_i_i62_i_i_i_i_i_i_i_i) | (u32)(42074112u));
-    v_r20_i858_sroa_0_0_insert_insert_i_i_i = __builtin_bswap32(v_38);
+    v_34 = (u32)((u32)(v_r2_i_i62_i_i_i_i_i_i_i_i) | (u32)(42074112u));
+    v_r20_i858_sroa_0_0_insert_insert_i_i_i = __builtin_bswap32(v_34);
     put_u32(v_r26_i48_i911_i_i_i, v_r20_i858_sroa_0_0_insert_insert_i_i_i);
-    { p_v_r7_sroa_130_25_i_i_i = v_r17_i46_i909_i_i_i; goto L_der_core_back_writer_BackWriter_prepend_header_exi__3; }
+    { p_v_r7_sroa_130_26_i_i_i = v_r17_i46_i909_i_i_i; goto L_der_core_back_writer_BackWriter_prepend_header_exi__3; }
 L_else_8_i866_i_i_i:;
     v_r117_i867_i_i_i = v_r2_i_i62_i_i_i_i_i_i_i_i < 16777216u;
     if (v_r117_i867_i_i_i) { goto L_then_10_i886_i_i_i; } else { goto L_else_11_i868_i_i_i; }
@@ -37649,7 +37481,7 @@ L_then_10_i886_i_i_i:;
     put_u8(v_r29_i859_sroa_6_0_r26_i66_i900_sroa_idx_i_i_i, v_r130_i890_i_i_i);
     v_r29_i859_sroa_7_0_r26_i66_i900_sroa_idx_i_i_i = v_r26_i66_i900_i_i_i + 4;
     put_u8(v_r29_i859_sroa_7_0_r26_i66_i900_sroa_idx_i_i_i, v_r134_i891_i_i_i);
-    { p_v_r7_sroa_130_25_i_i_i = v_r17_i64_i898_i_i_i; goto L_der_core_back_writer_BackWriter_prepend_header_exi__3; }
+    { p_v_r7_sroa_130_26_i_i_i = v_r17_i64_i898_i_i_i; goto L_der_core_back_writer_BackWriter_prepend_header_exi__3; }
 L_else_11_i868_i_i_i:;
     v_r15020_i869_i_i_i = (u32)((u32)(v_r2_i_i62_i_i_i_i_i_i_i_i) >> (u32)((24u & 31)));
     v_r152_i870_i_i_i = (u8)(v_r15020_i869_i_i_i);
@@ -37671,54 +37503,54 @@ L_else_11_i868_i_i_i:;
     put_u8(v_r40_i860_sroa_7_0_r26_i84_i885_sroa_idx_i_i_i, v_r164_i874_i_i_i);
     v_r40_i860_sroa_8_0_r26_i84_i885_sroa_idx_i_i_i = v_r26_i84_i885_i_i_i + 5;
     put_u8(v_r40_i860_sroa_8_0_r26_i84_i885_sroa_idx_i_i_i, v_r168_i875_i_i_i);
-    { p_v_r7_sroa_130_25_i_i_i = v_r17_i82_i883_i_i_i; goto L_der_core_back_writer_BackWriter_prepend_header_exi__3; }
+    { p_v_r7_sroa_130_26_i_i_i = v_r17_i82_i883_i_i_i; goto L_der_core_back_writer_BackWriter_prepend_header_exi__3; }
 L_der_core_back_writer_BackWriter_prepend_header_exi__3:;
-    v_r7_sroa_130_25_i_i_i = p_v_r7_sroa_130_25_i_i_i;
-    v_r17_i19_i_i_i_i_i_i_i = (u64)((u64)(v_r7_sroa_130_9_i_i_i) - (u64)(v_r7_sroa_130_25_i_i_i));
-    v_r2_i276_i_i_i_i_i_i_i = (u32)(v_r17_i19_i_i_i_i_i_i_i);
-    v_r59_i785_i_i_i = v_r2_i276_i_i_i_i_i_i_i < 128u;
+    v_r7_sroa_130_26_i_i_i = p_v_r7_sroa_130_26_i_i_i;
+    v_r17_i113_i_i_i_i_i_i_i = (u64)((u64)(v_r7_sroa_130_9_i_i_i) - (u64)(v_r7_sroa_130_26_i_i_i));
+    v_r2_i379_i_i_i_i_i_i_i = (u32)(v_r17_i113_i_i_i_i_i_i_i);
+    v_r59_i785_i_i_i = v_r2_i379_i_i_i_i_i_i_i < 128u;
     if (v_r59_i785_i_i_i) { goto L_then_1_i846_i_i_i; } else { goto L_else_2_i786_i_i_i; }
 L_then_1_i846_i_i_i:;
-    v_r64_i847_i_i_i = (u16)(v_r17_i19_i_i_i_i_i_i_i);
-    v_r17_i_i851_i_i_i = (u64)((u64)(v_r7_sroa_130_25_i_i_i) + (u64)(18446744073709551614ull));
+    v_r64_i847_i_i_i = (u16)(v_r17_i113_i_i_i_i_i_i_i);
+    v_r17_i_i851_i_i_i = (u64)((u64)(v_r7_sroa_130_26_i_i_i) + (u64)(18446744073709551614ull));
     v_r26_i_i853_i_i_i = (P)((uintptr_t)v_r13 + (u64)(v_r17_i_i851_i_i_i));
     v_r8_i780_sroa_4_0_insert_shift_i_i_i = (u16)((u32)(v_r64_i847_i_i_i) << (u32)((8u & 31)));
     v_r8_i780_sroa_0_0_insert_insert_i_i_i = (u16)((u32)(v_r8_i780_sroa_4_0_insert_shift_i_i_i) | (u32)(48u));
     put_u16(v_r26_i_i853_i_i_i, v_r8_i780_sroa_0_0_insert_insert_i_i_i);
-    { p_v_r7_sroa_130_24_i_i_i = v_r17_i_i851_i_i_i; goto L_der_core_back_writer_BackWriter_prepend_header_exi__4; }
+    { p_v_r7_sroa_130_25_i_i_i = v_r17_i_i851_i_i_i; goto L_der_core_back_writer_BackWriter_prepend_header_exi__4; }
 L_else_2_i786_i_i_i:;
-    v_r75_i787_i_i_i = v_r2_i276_i_i_i_i_i_i_i < 256u;
+    v_r75_i787_i_i_i = v_r2_i379_i_i_i_i_i_i_i < 256u;
     if (v_r75_i787_i_i_i) { goto L_then_4_i837_i_i_i; } else { goto L_else_5_i788_i_i_i; }
 L_then_4_i837_i_i_i:;
-    v_r80_i838_i_i_i = (u8)(v_r17_i19_i_i_i_i_i_i_i);
-    v_r17_i28_i843_i_i_i = (u64)((u64)(v_r7_sroa_130_25_i_i_i) + (u64)(18446744073709551613ull));
+    v_r80_i838_i_i_i = (u8)(v_r17_i113_i_i_i_i_i_i_i);
+    v_r17_i28_i843_i_i_i = (u64)((u64)(v_r7_sroa_130_26_i_i_i) + (u64)(18446744073709551613ull));
     v_r26_i30_i845_i_i_i = (P)((uintptr_t)v_r13 + (u64)(v_r17_i28_i843_i_i_i));
     put_u8(v_r26_i30_i845_i_i_i, 48u);
     v_r14_i781_sroa_4_0_r26_i30_i845_sroa_idx_i_i_i = v_r26_i30_i845_i_i_i + 1;
     put_u8(v_r14_i781_sroa_4_0_r26_i30_i845_sroa_idx_i_i_i, 129u);
     v_r14_i781_sroa_5_0_r26_i30_i845_sroa_idx_i_i_i = v_r26_i30_i845_i_i_i + 2;
     put_u8(v_r14_i781_sroa_5_0_r26_i30_i845_sroa_idx_i_i_i, v_r80_i838_i_i_i);
-    { p_v_r7_sroa_130_24_i_i_i = v_r17_i28_i843_i_i_i; goto L_der_core_back_writer_BackWriter_prepend_header_exi__4; }
+    { p_v_r7_sroa_130_25_i_i_i = v_r17_i28_i843_i_i_i; goto L_der_core_back_writer_BackWriter_prepend_header_exi__4; }
 L_else_5_i788_i_i_i:;
-    v_r92_i789_i_i_i = v_r2_i276_i_i_i_i_i_i_i < 65536u;
+    v_r92_i789_i_i_i = v_r2_i379_i_i_i_i_i_i_i < 65536u;
     if (v_r92_i789_i_i_i) { goto L_then_7_i825_i_i_i; } else { goto L_else_8_i790_i_i_i; }
 L_then_7_i825_i_i_i:;
-    v_r17_i46_i833_i_i_i = (u64)((u64)(v_r7_sroa_130_25_i_i_i) + (u64)(18446744073709551612ull));
+    v_r17_i46_i833_i_i_i = (u64)((u64)(v_r7_sroa_130_26_i_i_i) + (u64)(18446744073709551612ull));
     v_r26_i48_i835_i_i_i = (P)((uintptr_t)v_r13 + (u64)(v_r17_i46_i833_i_i_i));
-    v_39 = (u32)((u32)(v_r2_i276_i_i_i_i_i_i_i) | (u32)(813826048u));
-    v_r20_i782_sroa_0_0_insert_insert_i_i_i = __builtin_bswap32(v_39);
+    v_35 = (u32)((u32)(v_r2_i379_i_i_i_i_i_i_i) | (u32)(813826048u));
+    v_r20_i782_sroa_0_0_insert_insert_i_i_i = __builtin_bswap32(v_35);
     put_u32(v_r26_i48_i835_i_i_i, v_r20_i782_sroa_0_0_insert_insert_i_i_i);
-    { p_v_r7_sroa_130_24_i_i_i = v_r17_i46_i833_i_i_i; goto L_der_core_back_writer_BackWriter_prepend_header_exi__4; }
+    { p_v_r7_sroa_130_25_i_i_i = v_r17_i46_i833_i_i_i; goto L_der_core_back_writer_BackWriter_prepend_header_exi__4; }
 L_else_8_i790_i_i_i:;
-    v_r117_i791_i_i_i = v_r2_i276_i_i_i_i_i_i_i < 16777216u;
+    v_r117_i791_i_i_i = v_r2_i379_i_i_i_i_i_i_i < 16777216u;
     if (v_r117_i791_i_i_i) { goto L_then_10_i810_i_i_i; } else { goto L_else_11_i792_i_i_i; }
 L_then_10_i810_i_i_i:;
-    v_r12223_i8111243_i_i_i = (u64)((u64)(v_r17_i19_i_i_i_i_i_i_i) >> (u64)((16u & 63)));
+    v_r12223_i8111243_i_i_i = (u64)((u64)(v_r17_i113_i_i_i_i_i_i_i) >> (u64)((16u & 63)));
     v_r124_i812_i_i_i = (u8)(v_r12223_i8111243_i_i_i);
-    v_r12624_i8131244_i_i_i = (u64)((u64)(v_r17_i19_i_i_i_i_i_i_i) >> (u64)((8u & 63)));
+    v_r12624_i8131244_i_i_i = (u64)((u64)(v_r17_i113_i_i_i_i_i_i_i) >> (u64)((8u & 63)));
     v_r130_i814_i_i_i = (u8)(v_r12624_i8131244_i_i_i);
-    v_r134_i815_i_i_i = (u8)(v_r17_i19_i_i_i_i_i_i_i);
-    v_r17_i64_i822_i_i_i = (u64)((u64)(v_r7_sroa_130_25_i_i_i) + (u64)(18446744073709551611ull));
+    v_r134_i815_i_i_i = (u8)(v_r17_i113_i_i_i_i_i_i_i);
+    v_r17_i64_i822_i_i_i = (u64)((u64)(v_r7_sroa_130_26_i_i_i) + (u64)(18446744073709551611ull));
     v_r26_i66_i824_i_i_i = (P)((uintptr_t)v_r13 + (u64)(v_r17_i64_i822_i_i_i));
     put_u8(v_r26_i66_i824_i_i_i, 48u);
     v_r29_i783_sroa_4_0_r26_i66_i824_sroa_idx_i_i_i = v_r26_i66_i824_i_i_i + 1;
@@ -37729,16 +37561,16 @@ L_then_10_i810_i_i_i:;
     put_u8(v_r29_i783_sroa_6_0_r26_i66_i824_sroa_idx_i_i_i, v_r130_i814_i_i_i);
     v_r29_i783_sroa_7_0_r26_i66_i824_sroa_idx_i_i_i = v_r26_i66_i824_i_i_i + 4;
     put_u8(v_r29_i783_sroa_7_0_r26_i66_i824_sroa_idx_i_i_i, v_r134_i815_i_i_i);
-    { p_v_r7_sroa_130_24_i_i_i = v_r17_i64_i822_i_i_i; goto L_der_core_back_writer_BackWriter_prepend_header_exi__4; }
+    { p_v_r7_sroa_130_25_i_i_i = v_r17_i64_i822_i_i_i; goto L_der_core_back_writer_BackWriter_prepend_header_exi__4; }
 L_else_11_i792_i_i_i:;
-    v_r15020_i7931240_i_i_i = (u64)((u64)(v_r17_i19_i_i_i_i_i_i_i) >> (u64)((24u & 63)));
+    v_r15020_i7931240_i_i_i = (u64)((u64)(v_r17_i113_i_i_i_i_i_i_i) >> (u64)((24u & 63)));
     v_r152_i794_i_i_i = (u8)(v_r15020_i7931240_i_i_i);
-    v_r15421_i7951241_i_i_i = (u64)((u64)(v_r17_i19_i_i_i_i_i_i_i) >> (u64)((16u & 63)));
+    v_r15421_i7951241_i_i_i = (u64)((u64)(v_r17_i113_i_i_i_i_i_i_i) >> (u64)((16u & 63)));
     v_r158_i796_i_i_i = (u8)(v_r15421_i7951241_i_i_i);
-    v_r16022_i7971242_i_i_i = (u64)((u64)(v_r17_i19_i_i_i_i_i_i_i) >> (u64)((8u & 63)));
+    v_r16022_i7971242_i_i_i = (u64)((u64)(v_r17_i113_i_i_i_i_i_i_i) >> (u64)((8u & 63)));
     v_r164_i798_i_i_i = (u8)(v_r16022_i7971242_i_i_i);
-    v_r168_i799_i_i_i = (u8)(v_r17_i19_i_i_i_i_i_i_i);
-    v_r17_i82_i807_i_i_i = (u64)((u64)(v_r7_sroa_130_25_i_i_i) + (u64)(18446744073709551610ull));
+    v_r168_i799_i_i_i = (u8)(v_r17_i113_i_i_i_i_i_i_i);
+    v_r17_i82_i807_i_i_i = (u64)((u64)(v_r7_sroa_130_26_i_i_i) + (u64)(18446744073709551610ull));
     v_r26_i84_i809_i_i_i = (P)((uintptr_t)v_r13 + (u64)(v_r17_i82_i807_i_i_i));
     put_u8(v_r26_i84_i809_i_i_i, 48u);
     v_r40_i784_sroa_4_0_r26_i84_i809_sroa_idx_i_i_i = v_r26_i84_i809_i_i_i + 1;
@@ -37751,19 +37583,19 @@ L_else_11_i792_i_i_i:;
     put_u8(v_r40_i784_sroa_7_0_r26_i84_i809_sroa_idx_i_i_i, v_r164_i798_i_i_i);
     v_r40_i784_sroa_8_0_r26_i84_i809_sroa_idx_i_i_i = v_r26_i84_i809_i_i_i + 5;
     put_u8(v_r40_i784_sroa_8_0_r26_i84_i809_sroa_idx_i_i_i, v_r168_i799_i_i_i);
-    { p_v_r7_sroa_130_24_i_i_i = v_r17_i82_i807_i_i_i; goto L_der_core_back_writer_BackWriter_prepend_header_exi__4; }
+    { p_v_r7_sroa_130_25_i_i_i = v_r17_i82_i807_i_i_i; goto L_der_core_back_writer_BackWriter_prepend_header_exi__4; }
 L_der_core_back_writer_BackWriter_prepend_header_exi__4:;
-    v_r7_sroa_130_24_i_i_i = p_v_r7_sroa_130_24_i_i_i;
+    v_r7_sroa_130_25_i_i_i = p_v_r7_sroa_130_25_i_i_i;
     v_r26_not_i_i_i_i_i_i = v_r31_i_i_i_i_i_i == 0u;
-    if (v_r26_not_i_i_i_i_i_i) { p_v_r7_sroa_130_8_i_i_i = v_r7_sroa_130_24_i_i_i; goto L_der_core_borrowed_BorrowedEncode_prepend_046aa0adc; } else { p_v_r7_sroa_130_9_i_i_i = v_r7_sroa_130_24_i_i_i; p_v_r2_018_i_i_i_i_i_i = v_r31_i_i_i_i_i_i; goto L_join_9_i_i_i_i_i_i; }
+    if (v_r26_not_i_i_i_i_i_i) { p_v_r7_sroa_130_8_i_i_i = v_r7_sroa_130_25_i_i_i; goto L_der_core_borrowed_BorrowedEncode_prepend_046aa0adc; } else { p_v_r7_sroa_130_9_i_i_i = v_r7_sroa_130_25_i_i_i; p_v_r2_018_i_i_i_i_i_i = v_r31_i_i_i_i_i_i; goto L_join_9_i_i_i_i_i_i; }
 L_der_core_borrowed_BorrowedEncode_prepend_046aa0adc:;
     v_r7_sroa_130_8_i_i_i = p_v_r7_sroa_130_8_i_i_i;
-    v_r17_i_i_i_i_i_i = (u64)((u64)(v_r3_i8_i_i_i) - (u64)(v_r7_sroa_130_8_i_i_i));
-    v_r2_i_i_i_i_i_i = (u32)(v_r17_i_i_i_i_i_i);
+    v_36 = (u32)(v_r7_sroa_130_8_i_i_i);
+    v_r2_i_i_i_i_i_i = (u32)((u32)(v_r1_sroa_9_4_copyload_i_i_i_i) - (u32)(v_36));
     v_r59_i709_i_i_i = v_r2_i_i_i_i_i_i < 128u;
     if (v_r59_i709_i_i_i) { goto L_then_1_i770_i_i_i; } else { goto L_else_2_i710_i_i_i; }
 L_then_1_i770_i_i_i:;
-    v_r64_i771_i_i_i = (u16)(v_r17_i_i_i_i_i_i);
+    v_r64_i771_i_i_i = (u16)(v_r2_i_i_i_i_i_i);
     v_r17_i_i775_i_i_i = (u64)((u64)(v_r7_sroa_130_8_i_i_i) + (u64)(18446744073709551614ull));
     v_r26_i_i777_i_i_i = (P)((uintptr_t)v_r13 + (u64)(v_r17_i_i775_i_i_i));
     v_r8_i704_sroa_4_0_insert_shift_i_i_i = (u16)((u32)(v_r64_i771_i_i_i) << (u32)((8u & 31)));
@@ -37774,7 +37606,7 @@ L_else_2_i710_i_i_i:;
     v_r75_i711_i_i_i = v_r2_i_i_i_i_i_i < 256u;
     if (v_r75_i711_i_i_i) { goto L_then_4_i761_i_i_i; } else { goto L_else_5_i712_i_i_i; }
 L_then_4_i761_i_i_i:;
-    v_r80_i762_i_i_i = (u8)(v_r17_i_i_i_i_i_i);
+    v_r80_i762_i_i_i = (u8)(v_r2_i_i_i_i_i_i);
     v_r17_i28_i767_i_i_i = (u64)((u64)(v_r7_sroa_130_8_i_i_i) + (u64)(18446744073709551613ull));
     v_r26_i30_i769_i_i_i = (P)((uintptr_t)v_r13 + (u64)(v_r17_i28_i767_i_i_i));
     put_u8(v_r26_i30_i769_i_i_i, 48u);
@@ -37789,19 +37621,19 @@ L_else_5_i712_i_i_i:;
 L_then_7_i749_i_i_i:;
     v_r17_i46_i757_i_i_i = (u64)((u64)(v_r7_sroa_130_8_i_i_i) + (u64)(18446744073709551612ull));
     v_r26_i48_i759_i_i_i = (P)((uintptr_t)v_r13 + (u64)(v_r17_i46_i757_i_i_i));
-    v_40 = (u32)((u32)(v_r2_i_i_i_i_i_i) | (u32)(813826048u));
-    v_r20_i706_sroa_0_0_insert_insert_i_i_i = __builtin_bswap32(v_40);
+    v_37 = (u32)((u32)(v_r2_i_i_i_i_i_i) | (u32)(813826048u));
+    v_r20_i706_sroa_0_0_insert_insert_i_i_i = __builtin_bswap32(v_37);
     put_u32(v_r26_i48_i759_i_i_i, v_r20_i706_sroa_0_0_insert_insert_i_i_i);
     { p_v_r7_sroa_130_0_i_i_i = v_r17_i46_i757_i_i_i; goto L_der_core_last_part_LastEncodeValue_prepend_value_b; }
 L_else_8_i714_i_i_i:;
     v_r117_i715_i_i_i = v_r2_i_i_i_i_i_i < 16777216u;
     if (v_r117_i715_i_i_i) { goto L_then_10_i734_i_i_i; } else { goto L_else_11_i716_i_i_i; }
 L_then_10_i734_i_i_i:;
-    v_r12223_i7351249_i_i_i = (u64)((u64)(v_r17_i_i_i_i_i_i) >> (u64)((16u & 63)));
-    v_r124_i736_i_i_i = (u8)(v_r12223_i7351249_i_i_i);
-    v_r12624_i7371250_i_i_i = (u64)((u64)(v_r17_i_i_i_i_i_i) >> (u64)((8u & 63)));
-    v_r130_i738_i_i_i = (u8)(v_r12624_i7371250_i_i_i);
-    v_r134_i739_i_i_i = (u8)(v_r17_i_i_i_i_i_i);
+    v_r12223_i735_i_i_i = (u32)((u32)(v_r2_i_i_i_i_i_i) >> (u32)((16u & 31)));
+    v_r124_i736_i_i_i = (u8)(v_r12223_i735_i_i_i);
+    v_r12624_i737_i_i_i = (u32)((u32)(v_r2_i_i_i_i_i_i) >> (u32)((8u & 31)));
+    v_r130_i738_i_i_i = (u8)(v_r12624_i737_i_i_i);
+    v_r134_i739_i_i_i = (u8)(v_r2_i_i_i_i_i_i);
     v_r17_i64_i746_i_i_i = (u64)((u64)(v_r7_sroa_130_8_i_i_i) + (u64)(18446744073709551611ull));
     v_r26_i66_i748_i_i_i = (P)((uintptr_t)v_r13 + (u64)(v_r17_i64_i746_i_i_i));
     put_u8(v_r26_i66_i748_i_i_i, 48u);
@@ -37815,13 +37647,13 @@ L_then_10_i734_i_i_i:;
     put_u8(v_r29_i707_sroa_7_0_r26_i66_i748_sroa_idx_i_i_i, v_r134_i739_i_i_i);
     { p_v_r7_sroa_130_0_i_i_i = v_r17_i64_i746_i_i_i; goto L_der_core_last_part_LastEncodeValue_prepend_value_b; }
 L_else_11_i716_i_i_i:;
-    v_r15020_i7171246_i_i_i = (u64)((u64)(v_r17_i_i_i_i_i_i) >> (u64)((24u & 63)));
-    v_r152_i718_i_i_i = (u8)(v_r15020_i7171246_i_i_i);
-    v_r15421_i7191247_i_i_i = (u64)((u64)(v_r17_i_i_i_i_i_i) >> (u64)((16u & 63)));
-    v_r158_i720_i_i_i = (u8)(v_r15421_i7191247_i_i_i);
-    v_r16022_i7211248_i_i_i = (u64)((u64)(v_r17_i_i_i_i_i_i) >> (u64)((8u & 63)));
-    v_r164_i722_i_i_i = (u8)(v_r16022_i7211248_i_i_i);
-    v_r168_i723_i_i_i = (u8)(v_r17_i_i_i_i_i_i);
+    v_r15020_i717_i_i_i = (u32)((u32)(v_r2_i_i_i_i_i_i) >> (u32)((24u & 31)));
+    v_r152_i718_i_i_i = (u8)(v_r15020_i717_i_i_i);
+    v_r15421_i719_i_i_i = (u32)((u32)(v_r2_i_i_i_i_i_i) >> (u32)((16u & 31)));
+    v_r158_i720_i_i_i = (u8)(v_r15421_i719_i_i_i);
+    v_r16022_i721_i_i_i = (u32)((u32)(v_r2_i_i_i_i_i_i) >> (u32)((8u & 31)));
+    v_r164_i722_i_i_i = (u8)(v_r16022_i721_i_i_i);
+    v_r168_i723_i_i_i = (u8)(v_r2_i_i_i_i_i_i);
     v_r17_i82_i731_i_i_i = (u64)((u64)(v_r7_sroa_130_8_i_i_i) + (u64)(18446744073709551610ull));
     v_r26_i84_i733_i_i_i = (P)((uintptr_t)v_r13 + (u64)(v_r17_i82_i731_i_i_i));
     put_u8(v_r26_i84_i733_i_i_i, 48u);
@@ -37846,18 +37678,18 @@ L_der_core_last_part_LastEncodeValue_prepend_value_b:;
     v_r11_i_i_i_i_i_i_i_i_i_i_i_i_i = v_r10_i_i_i_i_i_i_i_i_i_i_i_i_i < v_r1_sroa_3_0_copyload_i_i_i_i_i_i;
     if (v_r11_i_i_i_i_i_i_i_i_i_i_i_i_i) { goto L_join_7_i_i_i_i_i_i_i_i_i_i_i_i_i_preheader; } else { goto L_apart_2_i_i_i_i_i_i_i_i_i_i_i_i_i; }
 L_join_7_i_i_i_i_i_i_i_i_i_i_i_i_i_preheader:;
-    v_xtraiter219 = (u64)((u64)(v_r1_sroa_3_0_copyload_i_i_i_i_i_i) & (u64)(3u));
-    v_41 = v_r1_sroa_3_0_copyload_i_i_i_i_i_i < 4u;
-    if (v_41) { p_v_r0_04_i_i_i_i_i_i_i_i_i_i_i_i_i_epil_init = 0u; goto L_join_7_i_i_i_i_i_i_i_i_i_i_i_i_i_epil_preheader; } else { goto L_join_7_i_i_i_i_i_i_i_i_i_i_i_i_i_preheader_new; }
+    v_xtraiter204 = (u64)((u64)(v_r1_sroa_3_0_copyload_i_i_i_i_i_i) & (u64)(3u));
+    v_38 = v_r1_sroa_3_0_copyload_i_i_i_i_i_i < 4u;
+    if (v_38) { p_v_r0_04_i_i_i_i_i_i_i_i_i_i_i_i_i_epil_init = 0u; goto L_join_7_i_i_i_i_i_i_i_i_i_i_i_i_i_epil_preheader; } else { goto L_join_7_i_i_i_i_i_i_i_i_i_i_i_i_i_preheader_new; }
 L_join_7_i_i_i_i_i_i_i_i_i_i_i_i_i_preheader_new:;
-    v_unroll_iter223 = (u64)((u64)(v_r1_sroa_3_0_copyload_i_i_i_i_i_i) & (u64)(4294967292ull));
-    { p_v_r0_04_i_i_i_i_i_i_i_i_i_i_i_i_i = 0u; p_v_niter224 = 0u; goto L_join_7_i_i_i_i_i_i_i_i_i_i_i_i_i; }
+    v_unroll_iter208 = (u64)((u64)(v_r1_sroa_3_0_copyload_i_i_i_i_i_i) & (u64)(4294967292ull));
+    { p_v_r0_04_i_i_i_i_i_i_i_i_i_i_i_i_i = 0u; p_v_niter209 = 0u; goto L_join_7_i_i_i_i_i_i_i_i_i_i_i_i_i; }
 L_apart_2_i_i_i_i_i_i_i_i_i_i_i_i_i:;
     move(v_r26_i_i_i_i_i_i_i, v_r1_sroa_0_0_copyload_i_i_i_i_i_i, v_r1_sroa_3_0_copyload_i_i_i_i_i_i);
     { goto L_der_core_back_writer_BackWriter_prepend_exit_i_i_i__3; }
 L_join_7_i_i_i_i_i_i_i_i_i_i_i_i_i:;
     v_r0_04_i_i_i_i_i_i_i_i_i_i_i_i_i = p_v_r0_04_i_i_i_i_i_i_i_i_i_i_i_i_i;
-    v_niter224 = p_v_niter224;
+    v_niter209 = p_v_niter209;
     v_r20_i_i_i_i_i_i_i_i_i_i_i_i_i = v_r26_i_i_i_i_i_i_i + (int64_t)(v_r0_04_i_i_i_i_i_i_i_i_i_i_i_i_i);
     v_r24_i_i_i_i_i_i_i_i_i_i_i_i_i = v_r1_sroa_0_0_copyload_i_i_i_i_i_i + (int64_t)(v_r0_04_i_i_i_i_i_i_i_i_i_i_i_i_i);
     v_r26_i_i_i_i_i_i_i_i_i_i_i_i_i = get_u8(v_r24_i_i_i_i_i_i_i_i_i_i_i_i_i);
@@ -37878,26 +37710,26 @@ L_join_7_i_i_i_i_i_i_i_i_i_i_i_i_i:;
     v_r26_i_i_i_i_i_i_i_i_i_i_i_i_i_3 = get_u8(v_r24_i_i_i_i_i_i_i_i_i_i_i_i_i_3);
     put_u8(v_r20_i_i_i_i_i_i_i_i_i_i_i_i_i_3, v_r26_i_i_i_i_i_i_i_i_i_i_i_i_i_3);
     v_r30_i_i_i_i_i_i_i_i_i_i_i_i_i_3 = (u64)((u64)(v_r0_04_i_i_i_i_i_i_i_i_i_i_i_i_i) + (u64)(4u));
-    v_niter224_next_3 = (u64)((u64)(v_niter224) + (u64)(4u));
-    v_niter224_ncmp_3 = v_niter224_next_3 == v_unroll_iter223;
-    if (v_niter224_ncmp_3) { goto L_der_core_back_writer_BackWriter_prepend_exit_i_i_i__4; } else { p_v_r0_04_i_i_i_i_i_i_i_i_i_i_i_i_i = v_r30_i_i_i_i_i_i_i_i_i_i_i_i_i_3; p_v_niter224 = v_niter224_next_3; goto L_join_7_i_i_i_i_i_i_i_i_i_i_i_i_i; }
+    v_niter209_next_3 = (u64)((u64)(v_niter209) + (u64)(4u));
+    v_niter209_ncmp_3 = v_niter209_next_3 == v_unroll_iter208;
+    if (v_niter209_ncmp_3) { goto L_der_core_back_writer_BackWriter_prepend_exit_i_i_i__4; } else { p_v_r0_04_i_i_i_i_i_i_i_i_i_i_i_i_i = v_r30_i_i_i_i_i_i_i_i_i_i_i_i_i_3; p_v_niter209 = v_niter209_next_3; goto L_join_7_i_i_i_i_i_i_i_i_i_i_i_i_i; }
 L_der_core_back_writer_BackWriter_prepend_exit_i_i_i__4:;
-    v_lcmp_mod221_not = v_xtraiter219 == 0u;
-    if (v_lcmp_mod221_not) { goto L_der_core_back_writer_BackWriter_prepend_exit_i_i_i__3; } else { p_v_r0_04_i_i_i_i_i_i_i_i_i_i_i_i_i_epil_init = v_r30_i_i_i_i_i_i_i_i_i_i_i_i_i_3; goto L_join_7_i_i_i_i_i_i_i_i_i_i_i_i_i_epil_preheader; }
+    v_lcmp_mod206_not = v_xtraiter204 == 0u;
+    if (v_lcmp_mod206_not) { goto L_der_core_back_writer_BackWriter_prepend_exit_i_i_i__3; } else { p_v_r0_04_i_i_i_i_i_i_i_i_i_i_i_i_i_epil_init = v_r30_i_i_i_i_i_i_i_i_i_i_i_i_i_3; goto L_join_7_i_i_i_i_i_i_i_i_i_i_i_i_i_epil_preheader; }
 L_join_7_i_i_i_i_i_i_i_i_i_i_i_i_i_epil_preheader:;
     v_r0_04_i_i_i_i_i_i_i_i_i_i_i_i_i_epil_init = p_v_r0_04_i_i_i_i_i_i_i_i_i_i_i_i_i_epil_init;
-    { p_v_r0_04_i_i_i_i_i_i_i_i_i_i_i_i_i_epil = v_r0_04_i_i_i_i_i_i_i_i_i_i_i_i_i_epil_init; p_v_epil_iter220 = 0u; goto L_join_7_i_i_i_i_i_i_i_i_i_i_i_i_i_epil; }
+    { p_v_r0_04_i_i_i_i_i_i_i_i_i_i_i_i_i_epil = v_r0_04_i_i_i_i_i_i_i_i_i_i_i_i_i_epil_init; p_v_epil_iter205 = 0u; goto L_join_7_i_i_i_i_i_i_i_i_i_i_i_i_i_epil; }
 L_join_7_i_i_i_i_i_i_i_i_i_i_i_i_i_epil:;
     v_r0_04_i_i_i_i_i_i_i_i_i_i_i_i_i_epil = p_v_r0_04_i_i_i_i_i_i_i_i_i_i_i_i_i_epil;
-    v_epil_iter220 = p_v_epil_iter220;
+    v_epil_iter205 = p_v_epil_iter205;
     v_r20_i_i_i_i_i_i_i_i_i_i_i_i_i_epil = v_r26_i_i_i_i_i_i_i + (int64_t)(v_r0_04_i_i_i_i_i_i_i_i_i_i_i_i_i_epil);
     v_r24_i_i_i_i_i_i_i_i_i_i_i_i_i_epil = v_r1_sroa_0_0_copyload_i_i_i_i_i_i + (int64_t)(v_r0_04_i_i_i_i_i_i_i_i_i_i_i_i_i_epil);
     v_r26_i_i_i_i_i_i_i_i_i_i_i_i_i_epil = get_u8(v_r24_i_i_i_i_i_i_i_i_i_i_i_i_i_epil);
     put_u8(v_r20_i_i_i_i_i_i_i_i_i_i_i_i_i_epil, v_r26_i_i_i_i_i_i_i_i_i_i_i_i_i_epil);
     v_r30_i_i_i_i_i_i_i_i_i_i_i_i_i_epil = (u64)((u64)(v_r0_04_i_i_i_i_i_i_i_i_i_i_i_i_i_epil) + (u64)(1u));
-    v_epil_iter220_next = (u64)((u64)(v_epil_iter220) + (u64)(1u));
-    v_epil_iter220_cmp_not = v_epil_iter220_next == v_xtraiter219;
-    if (v_epil_iter220_cmp_not) { goto L_der_core_back_writer_BackWriter_prepend_exit_i_i_i__3; } else { p_v_r0_04_i_i_i_i_i_i_i_i_i_i_i_i_i_epil = v_r30_i_i_i_i_i_i_i_i_i_i_i_i_i_epil; p_v_epil_iter220 = v_epil_iter220_next; goto L_join_7_i_i_i_i_i_i_i_i_i_i_i_i_i_epil; }
+    v_epil_iter205_next = (u64)((u64)(v_epil_iter205) + (u64)(1u));
+    v_epil_iter205_cmp_not = v_epil_iter205_next == v_xtraiter204;
+    if (v_epil_iter205_cmp_not) { goto L_der_core_back_writer_BackWriter_prepend_exit_i_i_i__3; } else { p_v_r0_04_i_i_i_i_i_i_i_i_i_i_i_i_i_epil = v_r30_i_i_i_i_i_i_i_i_i_i_i_i_i_epil; p_v_epil_iter205 = v_epil_iter205_next; goto L_join_7_i_i_i_i_i_i_i_i_i_i_i_i_i_epil; }
 L_der_core_back_writer_BackWriter_prepend_exit_i_i_i__3:;
     v_r15_not_i_i_i_i_i_i = (u8)(v_r20_i386_i ^ ((u8)1 << 7)) > (u8)(255u ^ ((u8)1 << 7));
     if (v_r15_not_i_i_i_i_i_i) { p_v_r7_sroa_130_1_i_i_i = v_r17_i_i_i_i_i_i_i; goto L_der_core_borrowed_BorrowedEncode_prepend_f4fc96f16__3; } else { goto L_then_1_i_i_i_i_i_i; }
@@ -37908,10 +37740,10 @@ L_then_1_i_i_i_i_i_i:;
     { p_v_r7_sroa_130_1_i_i_i = v_r17_i3_i_i_i_i_i_i; goto L_der_core_borrowed_BorrowedEncode_prepend_f4fc96f16__3; }
 L_der_core_borrowed_BorrowedEncode_prepend_f4fc96f16__3:;
     v_r7_sroa_130_1_i_i_i = p_v_r7_sroa_130_1_i_i_i;
-    v_42 = (u64)((u64)(v_r7_sroa_130_1_i_i_i) + (u64)(v_r3_i8_i_i_i));
-    v_43 = (u64)((u64)(v_r7_sroa_130_0_i_i_i) - (u64)(v_42));
-    v_44 = (u32)(v_43);
-    v_r2_i_i23_i_i_i_i = (u32)((u32)(v_r1_sroa_9_4_copyload_i_i_i_i) + (u32)(v_44));
+    v_39 = (u64)((u64)(v_r7_sroa_130_1_i_i_i) + (u64)(v_r3_i8_i_i_i));
+    v_40 = (u64)((u64)(v_r7_sroa_130_0_i_i_i) - (u64)(v_39));
+    v_41 = (u32)(v_40);
+    v_r2_i_i23_i_i_i_i = (u32)((u32)(v_r1_sroa_9_4_copyload_i_i_i_i) + (u32)(v_41));
     v_r59_i633_i_i_i = v_r2_i_i23_i_i_i_i < 128u;
     if (v_r59_i633_i_i_i) { goto L_then_1_i694_i_i_i; } else { goto L_else_2_i634_i_i_i; }
 L_then_1_i694_i_i_i:;
@@ -37921,7 +37753,7 @@ L_then_1_i694_i_i_i:;
     v_r8_i628_sroa_4_0_insert_shift_i_i_i = (u16)((u32)(v_r64_i695_i_i_i) << (u32)((8u & 31)));
     v_r8_i628_sroa_0_0_insert_insert_i_i_i = (u16)((u32)(v_r8_i628_sroa_4_0_insert_shift_i_i_i) | (u32)(2u));
     put_u16(v_r26_i_i701_i_i_i, v_r8_i628_sroa_0_0_insert_insert_i_i_i);
-    { p_v_r7_sroa_130_22_i_i_i = v_r17_i_i699_i_i_i; goto L_der_core_back_writer_BackWriter_prepend_header_exi__5; }
+    { p_v_r7_sroa_130_23_i_i_i = v_r17_i_i699_i_i_i; goto L_der_core_back_writer_BackWriter_prepend_header_exi__5; }
 L_else_2_i634_i_i_i:;
     v_r75_i635_i_i_i = v_r2_i_i23_i_i_i_i < 256u;
     if (v_r75_i635_i_i_i) { goto L_then_4_i685_i_i_i; } else { goto L_else_5_i636_i_i_i; }
@@ -37934,17 +37766,17 @@ L_then_4_i685_i_i_i:;
     put_u8(v_r14_i629_sroa_4_0_r26_i30_i693_sroa_idx_i_i_i, 129u);
     v_r14_i629_sroa_5_0_r26_i30_i693_sroa_idx_i_i_i = v_r26_i30_i693_i_i_i + 2;
     put_u8(v_r14_i629_sroa_5_0_r26_i30_i693_sroa_idx_i_i_i, v_r80_i686_i_i_i);
-    { p_v_r7_sroa_130_22_i_i_i = v_r17_i28_i691_i_i_i; goto L_der_core_back_writer_BackWriter_prepend_header_exi__5; }
+    { p_v_r7_sroa_130_23_i_i_i = v_r17_i28_i691_i_i_i; goto L_der_core_back_writer_BackWriter_prepend_header_exi__5; }
 L_else_5_i636_i_i_i:;
     v_r92_i637_i_i_i = v_r2_i_i23_i_i_i_i < 65536u;
     if (v_r92_i637_i_i_i) { goto L_then_7_i673_i_i_i; } else { goto L_else_8_i638_i_i_i; }
 L_then_7_i673_i_i_i:;
     v_r17_i46_i681_i_i_i = (u64)((u64)(v_r7_sroa_130_1_i_i_i) + (u64)(18446744073709551612ull));
     v_r26_i48_i683_i_i_i = (P)((uintptr_t)v_r13 + (u64)(v_r17_i46_i681_i_i_i));
-    v_45 = (u32)((u32)(v_r2_i_i23_i_i_i_i) | (u32)(42074112u));
-    v_r20_i630_sroa_0_0_insert_insert_i_i_i = __builtin_bswap32(v_45);
+    v_42 = (u32)((u32)(v_r2_i_i23_i_i_i_i) | (u32)(42074112u));
+    v_r20_i630_sroa_0_0_insert_insert_i_i_i = __builtin_bswap32(v_42);
     put_u32(v_r26_i48_i683_i_i_i, v_r20_i630_sroa_0_0_insert_insert_i_i_i);
-    { p_v_r7_sroa_130_22_i_i_i = v_r17_i46_i681_i_i_i; goto L_der_core_back_writer_BackWriter_prepend_header_exi__5; }
+    { p_v_r7_sroa_130_23_i_i_i = v_r17_i46_i681_i_i_i; goto L_der_core_back_writer_BackWriter_prepend_header_exi__5; }
 L_else_8_i638_i_i_i:;
     v_r117_i639_i_i_i = v_r2_i_i23_i_i_i_i < 16777216u;
     if (v_r117_i639_i_i_i) { goto L_then_10_i658_i_i_i; } else { goto L_else_11_i640_i_i_i; }
@@ -37965,7 +37797,7 @@ L_then_10_i658_i_i_i:;
     put_u8(v_r29_i631_sroa_6_0_r26_i66_i672_sroa_idx_i_i_i, v_r130_i662_i_i_i);
     v_r29_i631_sroa_7_0_r26_i66_i672_sroa_idx_i_i_i = v_r26_i66_i672_i_i_i + 4;
     put_u8(v_r29_i631_sroa_7_0_r26_i66_i672_sroa_idx_i_i_i, v_r134_i663_i_i_i);
-    { p_v_r7_sroa_130_22_i_i_i = v_r17_i64_i670_i_i_i; goto L_der_core_back_writer_BackWriter_prepend_header_exi__5; }
+    { p_v_r7_sroa_130_23_i_i_i = v_r17_i64_i670_i_i_i; goto L_der_core_back_writer_BackWriter_prepend_header_exi__5; }
 L_else_11_i640_i_i_i:;
     v_r15020_i641_i_i_i = (u32)((u32)(v_r2_i_i23_i_i_i_i) >> (u32)((24u & 31)));
     v_r152_i642_i_i_i = (u8)(v_r15020_i641_i_i_i);
@@ -37987,10 +37819,10 @@ L_else_11_i640_i_i_i:;
     put_u8(v_r40_i632_sroa_7_0_r26_i84_i657_sroa_idx_i_i_i, v_r164_i646_i_i_i);
     v_r40_i632_sroa_8_0_r26_i84_i657_sroa_idx_i_i_i = v_r26_i84_i657_i_i_i + 5;
     put_u8(v_r40_i632_sroa_8_0_r26_i84_i657_sroa_idx_i_i_i, v_r168_i647_i_i_i);
-    { p_v_r7_sroa_130_22_i_i_i = v_r17_i82_i655_i_i_i; goto L_der_core_back_writer_BackWriter_prepend_header_exi__5; }
+    { p_v_r7_sroa_130_23_i_i_i = v_r17_i82_i655_i_i_i; goto L_der_core_back_writer_BackWriter_prepend_header_exi__5; }
 L_der_core_back_writer_BackWriter_prepend_header_exi__5:;
-    v_r7_sroa_130_22_i_i_i = p_v_r7_sroa_130_22_i_i_i;
-    v_r17_i_i_i29_i_i_i_i = (u64)((u64)(v_r7_sroa_130_22_i_i_i) - (u64)(v_r1_sroa_3_0_copyload_i_i28_i_i_i_i));
+    v_r7_sroa_130_23_i_i_i = p_v_r7_sroa_130_23_i_i_i;
+    v_r17_i_i_i29_i_i_i_i = (u64)((u64)(v_r7_sroa_130_23_i_i_i) - (u64)(v_r1_sroa_3_0_copyload_i_i28_i_i_i_i));
     v_r26_i_i_i31_i_i_i_i = (P)((uintptr_t)v_r13 + (u64)(v_r17_i_i_i29_i_i_i_i));
     v_r8_i_i_i_i_i_i_i_i_i32_i_i_i_i = (u64)((uintptr_t)v_r26_i_i_i31_i_i_i_i);
     v_r9_i_i_i_i_i_i_i_i_i33_i_i_i_i = (u64)((uintptr_t)v_r1_sroa_0_0_copyload_i_i26_i_i_i_i);
@@ -37998,18 +37830,18 @@ L_der_core_back_writer_BackWriter_prepend_header_exi__5:;
     v_r11_i_i_i_i_i_i_i_i_i35_i_i_i_i = v_r10_i_i_i_i_i_i_i_i_i34_i_i_i_i < v_r1_sroa_3_0_copyload_i_i28_i_i_i_i;
     if (v_r11_i_i_i_i_i_i_i_i_i35_i_i_i_i) { goto L_join_7_i_i_i_i_i_i_i_i_i49_i_i_i_i_preheader; } else { goto L_apart_2_i_i_i_i_i_i_i_i_i36_i_i_i_i; }
 L_join_7_i_i_i_i_i_i_i_i_i49_i_i_i_i_preheader:;
-    v_xtraiter225 = (u64)((u64)(v_r1_sroa_3_0_copyload_i_i28_i_i_i_i) & (u64)(3u));
-    v_46 = v_r1_sroa_3_0_copyload_i_i28_i_i_i_i < 4u;
-    if (v_46) { p_v_r0_04_i_i_i_i_i_i_i_i_i50_i_i_i_i_epil_init = 0u; goto L_join_7_i_i_i_i_i_i_i_i_i49_i_i_i_i_epil_preheader; } else { goto L_join_7_i_i_i_i_i_i_i_i_i49_i_i_i_i_preheader_new; }
+    v_xtraiter210 = (u64)((u64)(v_r1_sroa_3_0_copyload_i_i28_i_i_i_i) & (u64)(3u));
+    v_43 = v_r1_sroa_3_0_copyload_i_i28_i_i_i_i < 4u;
+    if (v_43) { p_v_r0_04_i_i_i_i_i_i_i_i_i50_i_i_i_i_epil_init = 0u; goto L_join_7_i_i_i_i_i_i_i_i_i49_i_i_i_i_epil_preheader; } else { goto L_join_7_i_i_i_i_i_i_i_i_i49_i_i_i_i_preheader_new; }
 L_join_7_i_i_i_i_i_i_i_i_i49_i_i_i_i_preheader_new:;
-    v_unroll_iter229 = (u64)((u64)(v_r1_sroa_3_0_copyload_i_i28_i_i_i_i) & (u64)(4294967292ull));
-    { p_v_r0_04_i_i_i_i_i_i_i_i_i50_i_i_i_i = 0u; p_v_niter230 = 0u; goto L_join_7_i_i_i_i_i_i_i_i_i49_i_i_i_i; }
+    v_unroll_iter214 = (u64)((u64)(v_r1_sroa_3_0_copyload_i_i28_i_i_i_i) & (u64)(4294967292ull));
+    { p_v_r0_04_i_i_i_i_i_i_i_i_i50_i_i_i_i = 0u; p_v_niter215 = 0u; goto L_join_7_i_i_i_i_i_i_i_i_i49_i_i_i_i; }
 L_apart_2_i_i_i_i_i_i_i_i_i36_i_i_i_i:;
     move(v_r26_i_i_i31_i_i_i_i, v_r1_sroa_0_0_copyload_i_i26_i_i_i_i, v_r1_sroa_3_0_copyload_i_i28_i_i_i_i);
     { goto L_der_core_back_writer_BackWriter_prepend_exit_i_i37; }
 L_join_7_i_i_i_i_i_i_i_i_i49_i_i_i_i:;
     v_r0_04_i_i_i_i_i_i_i_i_i50_i_i_i_i = p_v_r0_04_i_i_i_i_i_i_i_i_i50_i_i_i_i;
-    v_niter230 = p_v_niter230;
+    v_niter215 = p_v_niter215;
     v_r20_i_i_i_i_i_i_i_i_i51_i_i_i_i = v_r26_i_i_i31_i_i_i_i + (int64_t)(v_r0_04_i_i_i_i_i_i_i_i_i50_i_i_i_i);
     v_r24_i_i_i_i_i_i_i_i_i52_i_i_i_i = v_r1_sroa_0_0_copyload_i_i26_i_i_i_i + (int64_t)(v_r0_04_i_i_i_i_i_i_i_i_i50_i_i_i_i);
     v_r26_i_i_i_i_i_i_i_i_i53_i_i_i_i = get_u8(v_r24_i_i_i_i_i_i_i_i_i52_i_i_i_i);
@@ -38030,26 +37862,26 @@ L_join_7_i_i_i_i_i_i_i_i_i49_i_i_i_i:;
     v_r26_i_i_i_i_i_i_i_i_i53_i_i_i_i_3 = get_u8(v_r24_i_i_i_i_i_i_i_i_i52_i_i_i_i_3);
     put_u8(v_r20_i_i_i_i_i_i_i_i_i51_i_i_i_i_3, v_r26_i_i_i_i_i_i_i_i_i53_i_i_i_i_3);
     v_r30_i_i_i_i_i_i_i_i_i54_i_i_i_i_3 = (u64)((u64)(v_r0_04_i_i_i_i_i_i_i_i_i50_i_i_i_i) + (u64)(4u));
-    v_niter230_next_3 = (u64)((u64)(v_niter230) + (u64)(4u));
-    v_niter230_ncmp_3 = v_niter230_next_3 == v_unroll_iter229;
-    if (v_niter230_ncmp_3) { goto L_der_core_back_writer_BackWriter_prepend_exit_i_i37__2; } else { p_v_r0_04_i_i_i_i_i_i_i_i_i50_i_i_i_i = v_r30_i_i_i_i_i_i_i_i_i54_i_i_i_i_3; p_v_niter230 = v_niter230_next_3; goto L_join_7_i_i_i_i_i_i_i_i_i49_i_i_i_i; }
+    v_niter215_next_3 = (u64)((u64)(v_niter215) + (u64)(4u));
+    v_niter215_ncmp_3 = v_niter215_next_3 == v_unroll_iter214;
+    if (v_niter215_ncmp_3) { goto L_der_core_back_writer_BackWriter_prepend_exit_i_i37__2; } else { p_v_r0_04_i_i_i_i_i_i_i_i_i50_i_i_i_i = v_r30_i_i_i_i_i_i_i_i_i54_i_i_i_i_3; p_v_niter215 = v_niter215_next_3; goto L_join_7_i_i_i_i_i_i_i_i_i49_i_i_i_i; }
 L_der_core_back_writer_BackWriter_prepend_exit_i_i37__2:;
-    v_lcmp_mod227_not = v_xtraiter225 == 0u;
-    if (v_lcmp_mod227_not) { goto L_der_core_back_writer_BackWriter_prepend_exit_i_i37; } else { p_v_r0_04_i_i_i_i_i_i_i_i_i50_i_i_i_i_epil_init = v_r30_i_i_i_i_i_i_i_i_i54_i_i_i_i_3; goto L_join_7_i_i_i_i_i_i_i_i_i49_i_i_i_i_epil_preheader; }
+    v_lcmp_mod212_not = v_xtraiter210 == 0u;
+    if (v_lcmp_mod212_not) { goto L_der_core_back_writer_BackWriter_prepend_exit_i_i37; } else { p_v_r0_04_i_i_i_i_i_i_i_i_i50_i_i_i_i_epil_init = v_r30_i_i_i_i_i_i_i_i_i54_i_i_i_i_3; goto L_join_7_i_i_i_i_i_i_i_i_i49_i_i_i_i_epil_preheader; }
 L_join_7_i_i_i_i_i_i_i_i_i49_i_i_i_i_epil_preheader:;
     v_r0_04_i_i_i_i_i_i_i_i_i50_i_i_i_i_epil_init = p_v_r0_04_i_i_i_i_i_i_i_i_i50_i_i_i_i_epil_init;
-    { p_v_r0_04_i_i_i_i_i_i_i_i_i50_i_i_i_i_epil = v_r0_04_i_i_i_i_i_i_i_i_i50_i_i_i_i_epil_init; p_v_epil_iter226 = 0u; goto L_join_7_i_i_i_i_i_i_i_i_i49_i_i_i_i_epil; }
+    { p_v_r0_04_i_i_i_i_i_i_i_i_i50_i_i_i_i_epil = v_r0_04_i_i_i_i_i_i_i_i_i50_i_i_i_i_epil_init; p_v_epil_iter211 = 0u; goto L_join_7_i_i_i_i_i_i_i_i_i49_i_i_i_i_epil; }
 L_join_7_i_i_i_i_i_i_i_i_i49_i_i_i_i_epil:;
     v_r0_04_i_i_i_i_i_i_i_i_i50_i_i_i_i_epil = p_v_r0_04_i_i_i_i_i_i_i_i_i50_i_i_i_i_epil;
-    v_epil_iter226 = p_v_epil_iter226;
+    v_epil_iter211 = p_v_epil_iter211;
     v_r20_i_i_i_i_i_i_i_i_i51_i_i_i_i_epil = v_r26_i_i_i31_i_i_i_i + (int64_t)(v_r0_04_i_i_i_i_i_i_i_i_i50_i_i_i_i_epil);
     v_r24_i_i_i_i_i_i_i_i_i52_i_i_i_i_epil = v_r1_sroa_0_0_copyload_i_i26_i_i_i_i + (int64_t)(v_r0_04_i_i_i_i_i_i_i_i_i50_i_i_i_i_epil);
     v_r26_i_i_i_i_i_i_i_i_i53_i_i_i_i_epil = get_u8(v_r24_i_i_i_i_i_i_i_i_i52_i_i_i_i_epil);
     put_u8(v_r20_i_i_i_i_i_i_i_i_i51_i_i_i_i_epil, v_r26_i_i_i_i_i_i_i_i_i53_i_i_i_i_epil);
     v_r30_i_i_i_i_i_i_i_i_i54_i_i_i_i_epil = (u64)((u64)(v_r0_04_i_i_i_i_i_i_i_i_i50_i_i_i_i_epil) + (u64)(1u));
-    v_epil_iter226_next = (u64)((u64)(v_epil_iter226) + (u64)(1u));
-    v_epil_iter226_cmp_not = v_epil_iter226_next == v_xtraiter225;
-    if (v_epil_iter226_cmp_not) { goto L_der_core_back_writer_BackWriter_prepend_exit_i_i37; } else { p_v_r0_04_i_i_i_i_i_i_i_i_i50_i_i_i_i_epil = v_r30_i_i_i_i_i_i_i_i_i54_i_i_i_i_epil; p_v_epil_iter226 = v_epil_iter226_next; goto L_join_7_i_i_i_i_i_i_i_i_i49_i_i_i_i_epil; }
+    v_epil_iter211_next = (u64)((u64)(v_epil_iter211) + (u64)(1u));
+    v_epil_iter211_cmp_not = v_epil_iter211_next == v_xtraiter210;
+    if (v_epil_iter211_cmp_not) { goto L_der_core_back_writer_BackWriter_prepend_exit_i_i37; } else { p_v_r0_04_i_i_i_i_i_i_i_i_i50_i_i_i_i_epil = v_r30_i_i_i_i_i_i_i_i_i54_i_i_i_i_epil; p_v_epil_iter211 = v_epil_iter211_next; goto L_join_7_i_i_i_i_i_i_i_i_i49_i_i_i_i_epil; }
 L_der_core_back_writer_BackWriter_prepend_exit_i_i37:;
     v_r15_not_i_i40_i_i_i_i = (u8)(v_r20_i376_i ^ ((u8)1 << 7)) > (u8)(255u ^ ((u8)1 << 7));
     if (v_r15_not_i_i40_i_i_i_i) { p_v_r7_sroa_130_2_i_i_i = v_r17_i_i_i29_i_i_i_i; goto L_der_core_borrowed_BorrowedEncode_prepend_f4fc96f16__4; } else { goto L_then_1_i_i41_i_i_i_i; }
@@ -38060,10 +37892,10 @@ L_then_1_i_i41_i_i_i_i:;
     { p_v_r7_sroa_130_2_i_i_i = v_r17_i3_i_i42_i_i_i_i; goto L_der_core_borrowed_BorrowedEncode_prepend_f4fc96f16__4; }
 L_der_core_borrowed_BorrowedEncode_prepend_f4fc96f16__4:;
     v_r7_sroa_130_2_i_i_i = p_v_r7_sroa_130_2_i_i_i;
-    v_47 = (u64)((u64)(v_r7_sroa_130_2_i_i_i) + (u64)(v_r3_i8_i_i_i));
-    v_48 = (u64)((u64)(v_r7_sroa_130_22_i_i_i) - (u64)(v_47));
-    v_49 = (u32)(v_48);
-    v_r2_i_i48_i_i_i_i = (u32)((u32)(v_r1_sroa_9_4_copyload_i_i_i_i) + (u32)(v_49));
+    v_44 = (u64)((u64)(v_r7_sroa_130_2_i_i_i) + (u64)(v_r3_i8_i_i_i));
+    v_45 = (u64)((u64)(v_r7_sroa_130_23_i_i_i) - (u64)(v_44));
+    v_46 = (u32)(v_45);
+    v_r2_i_i48_i_i_i_i = (u32)((u32)(v_r1_sroa_9_4_copyload_i_i_i_i) + (u32)(v_46));
     v_r59_i557_i_i_i = v_r2_i_i48_i_i_i_i < 128u;
     if (v_r59_i557_i_i_i) { goto L_then_1_i618_i_i_i; } else { goto L_else_2_i558_i_i_i; }
 L_then_1_i618_i_i_i:;
@@ -38073,7 +37905,7 @@ L_then_1_i618_i_i_i:;
     v_r8_i552_sroa_4_0_insert_shift_i_i_i = (u16)((u32)(v_r64_i619_i_i_i) << (u32)((8u & 31)));
     v_r8_i552_sroa_0_0_insert_insert_i_i_i = (u16)((u32)(v_r8_i552_sroa_4_0_insert_shift_i_i_i) | (u32)(2u));
     put_u16(v_r26_i_i625_i_i_i, v_r8_i552_sroa_0_0_insert_insert_i_i_i);
-    { p_v_r7_sroa_130_21_i_i_i = v_r17_i_i623_i_i_i; goto L_der_core_back_writer_BackWriter_prepend_header_exi__6; }
+    { p_v_r7_sroa_130_22_i_i_i = v_r17_i_i623_i_i_i; goto L_der_core_back_writer_BackWriter_prepend_header_exi__6; }
 L_else_2_i558_i_i_i:;
     v_r75_i559_i_i_i = v_r2_i_i48_i_i_i_i < 256u;
     if (v_r75_i559_i_i_i) { goto L_then_4_i609_i_i_i; } else { goto L_else_5_i560_i_i_i; }
@@ -38086,17 +37918,17 @@ L_then_4_i609_i_i_i:;
     put_u8(v_r14_i553_sroa_4_0_r26_i30_i617_sroa_idx_i_i_i, 129u);
     v_r14_i553_sroa_5_0_r26_i30_i617_sroa_idx_i_i_i = v_r26_i30_i617_i_i_i + 2;
     put_u8(v_r14_i553_sroa_5_0_r26_i30_i617_sroa_idx_i_i_i, v_r80_i610_i_i_i);
-    { p_v_r7_sroa_130_21_i_i_i = v_r17_i28_i615_i_i_i; goto L_der_core_back_writer_BackWriter_prepend_header_exi__6; }
+    { p_v_r7_sroa_130_22_i_i_i = v_r17_i28_i615_i_i_i; goto L_der_core_back_writer_BackWriter_prepend_header_exi__6; }
 L_else_5_i560_i_i_i:;
     v_r92_i561_i_i_i = v_r2_i_i48_i_i_i_i < 65536u;
     if (v_r92_i561_i_i_i) { goto L_then_7_i597_i_i_i; } else { goto L_else_8_i562_i_i_i; }
 L_then_7_i597_i_i_i:;
     v_r17_i46_i605_i_i_i = (u64)((u64)(v_r7_sroa_130_2_i_i_i) + (u64)(18446744073709551612ull));
     v_r26_i48_i607_i_i_i = (P)((uintptr_t)v_r13 + (u64)(v_r17_i46_i605_i_i_i));
-    v_50 = (u32)((u32)(v_r2_i_i48_i_i_i_i) | (u32)(42074112u));
-    v_r20_i554_sroa_0_0_insert_insert_i_i_i = __builtin_bswap32(v_50);
+    v_47 = (u32)((u32)(v_r2_i_i48_i_i_i_i) | (u32)(42074112u));
+    v_r20_i554_sroa_0_0_insert_insert_i_i_i = __builtin_bswap32(v_47);
     put_u32(v_r26_i48_i607_i_i_i, v_r20_i554_sroa_0_0_insert_insert_i_i_i);
-    { p_v_r7_sroa_130_21_i_i_i = v_r17_i46_i605_i_i_i; goto L_der_core_back_writer_BackWriter_prepend_header_exi__6; }
+    { p_v_r7_sroa_130_22_i_i_i = v_r17_i46_i605_i_i_i; goto L_der_core_back_writer_BackWriter_prepend_header_exi__6; }
 L_else_8_i562_i_i_i:;
     v_r117_i563_i_i_i = v_r2_i_i48_i_i_i_i < 16777216u;
     if (v_r117_i563_i_i_i) { goto L_then_10_i582_i_i_i; } else { goto L_else_11_i564_i_i_i; }
@@ -38117,7 +37949,7 @@ L_then_10_i582_i_i_i:;
     put_u8(v_r29_i555_sroa_6_0_r26_i66_i596_sroa_idx_i_i_i, v_r130_i586_i_i_i);
     v_r29_i555_sroa_7_0_r26_i66_i596_sroa_idx_i_i_i = v_r26_i66_i596_i_i_i + 4;
     put_u8(v_r29_i555_sroa_7_0_r26_i66_i596_sroa_idx_i_i_i, v_r134_i587_i_i_i);
-    { p_v_r7_sroa_130_21_i_i_i = v_r17_i64_i594_i_i_i; goto L_der_core_back_writer_BackWriter_prepend_header_exi__6; }
+    { p_v_r7_sroa_130_22_i_i_i = v_r17_i64_i594_i_i_i; goto L_der_core_back_writer_BackWriter_prepend_header_exi__6; }
 L_else_11_i564_i_i_i:;
     v_r15020_i565_i_i_i = (u32)((u32)(v_r2_i_i48_i_i_i_i) >> (u32)((24u & 31)));
     v_r152_i566_i_i_i = (u8)(v_r15020_i565_i_i_i);
@@ -38139,10 +37971,10 @@ L_else_11_i564_i_i_i:;
     put_u8(v_r40_i556_sroa_7_0_r26_i84_i581_sroa_idx_i_i_i, v_r164_i570_i_i_i);
     v_r40_i556_sroa_8_0_r26_i84_i581_sroa_idx_i_i_i = v_r26_i84_i581_i_i_i + 5;
     put_u8(v_r40_i556_sroa_8_0_r26_i84_i581_sroa_idx_i_i_i, v_r168_i571_i_i_i);
-    { p_v_r7_sroa_130_21_i_i_i = v_r17_i82_i579_i_i_i; goto L_der_core_back_writer_BackWriter_prepend_header_exi__6; }
+    { p_v_r7_sroa_130_22_i_i_i = v_r17_i82_i579_i_i_i; goto L_der_core_back_writer_BackWriter_prepend_header_exi__6; }
 L_der_core_back_writer_BackWriter_prepend_header_exi__6:;
-    v_r7_sroa_130_21_i_i_i = p_v_r7_sroa_130_21_i_i_i;
-    v_r17_i_i_i62_i_i_i_i = (u64)((u64)(v_r7_sroa_130_21_i_i_i) - (u64)(v_r1_sroa_3_0_copyload_i_i61_i_i_i_i));
+    v_r7_sroa_130_22_i_i_i = p_v_r7_sroa_130_22_i_i_i;
+    v_r17_i_i_i62_i_i_i_i = (u64)((u64)(v_r7_sroa_130_22_i_i_i) - (u64)(v_r1_sroa_3_0_copyload_i_i61_i_i_i_i));
     v_r26_i_i_i64_i_i_i_i = (P)((uintptr_t)v_r13 + (u64)(v_r17_i_i_i62_i_i_i_i));
     v_r8_i_i_i_i_i_i_i_i_i65_i_i_i_i = (u64)((uintptr_t)v_r26_i_i_i64_i_i_i_i);
     v_r9_i_i_i_i_i_i_i_i_i66_i_i_i_i = (u64)((uintptr_t)v_r1_sroa_0_0_copyload_i_i59_i_i_i_i);
@@ -38150,18 +37982,18 @@ L_der_core_back_writer_BackWriter_prepend_header_exi__6:;
     v_r11_i_i_i_i_i_i_i_i_i68_i_i_i_i = v_r10_i_i_i_i_i_i_i_i_i67_i_i_i_i < v_r1_sroa_3_0_copyload_i_i61_i_i_i_i;
     if (v_r11_i_i_i_i_i_i_i_i_i68_i_i_i_i) { goto L_join_7_i_i_i_i_i_i_i_i_i82_i_i_i_i_preheader; } else { goto L_apart_2_i_i_i_i_i_i_i_i_i69_i_i_i_i; }
 L_join_7_i_i_i_i_i_i_i_i_i82_i_i_i_i_preheader:;
-    v_xtraiter231 = (u64)((u64)(v_r1_sroa_3_0_copyload_i_i61_i_i_i_i) & (u64)(3u));
-    v_51 = v_r1_sroa_3_0_copyload_i_i61_i_i_i_i < 4u;
-    if (v_51) { p_v_r0_04_i_i_i_i_i_i_i_i_i83_i_i_i_i_epil_init = 0u; goto L_join_7_i_i_i_i_i_i_i_i_i82_i_i_i_i_epil_preheader; } else { goto L_join_7_i_i_i_i_i_i_i_i_i82_i_i_i_i_preheader_new; }
+    v_xtraiter216 = (u64)((u64)(v_r1_sroa_3_0_copyload_i_i61_i_i_i_i) & (u64)(3u));
+    v_48 = v_r1_sroa_3_0_copyload_i_i61_i_i_i_i < 4u;
+    if (v_48) { p_v_r0_04_i_i_i_i_i_i_i_i_i83_i_i_i_i_epil_init = 0u; goto L_join_7_i_i_i_i_i_i_i_i_i82_i_i_i_i_epil_preheader; } else { goto L_join_7_i_i_i_i_i_i_i_i_i82_i_i_i_i_preheader_new; }
 L_join_7_i_i_i_i_i_i_i_i_i82_i_i_i_i_preheader_new:;
-    v_unroll_iter235 = (u64)((u64)(v_r1_sroa_3_0_copyload_i_i61_i_i_i_i) & (u64)(4294967292ull));
-    { p_v_r0_04_i_i_i_i_i_i_i_i_i83_i_i_i_i = 0u; p_v_niter236 = 0u; goto L_join_7_i_i_i_i_i_i_i_i_i82_i_i_i_i; }
+    v_unroll_iter220 = (u64)((u64)(v_r1_sroa_3_0_copyload_i_i61_i_i_i_i) & (u64)(4294967292ull));
+    { p_v_r0_04_i_i_i_i_i_i_i_i_i83_i_i_i_i = 0u; p_v_niter221 = 0u; goto L_join_7_i_i_i_i_i_i_i_i_i82_i_i_i_i; }
 L_apart_2_i_i_i_i_i_i_i_i_i69_i_i_i_i:;
     move(v_r26_i_i_i64_i_i_i_i, v_r1_sroa_0_0_copyload_i_i59_i_i_i_i, v_r1_sroa_3_0_copyload_i_i61_i_i_i_i);
     { goto L_der_core_back_writer_BackWriter_prepend_exit_i_i70; }
 L_join_7_i_i_i_i_i_i_i_i_i82_i_i_i_i:;
     v_r0_04_i_i_i_i_i_i_i_i_i83_i_i_i_i = p_v_r0_04_i_i_i_i_i_i_i_i_i83_i_i_i_i;
-    v_niter236 = p_v_niter236;
+    v_niter221 = p_v_niter221;
     v_r20_i_i_i_i_i_i_i_i_i84_i_i_i_i = v_r26_i_i_i64_i_i_i_i + (int64_t)(v_r0_04_i_i_i_i_i_i_i_i_i83_i_i_i_i);
     v_r24_i_i_i_i_i_i_i_i_i85_i_i_i_i = v_r1_sroa_0_0_copyload_i_i59_i_i_i_i + (int64_t)(v_r0_04_i_i_i_i_i_i_i_i_i83_i_i_i_i);
     v_r26_i_i_i_i_i_i_i_i_i86_i_i_i_i = get_u8(v_r24_i_i_i_i_i_i_i_i_i85_i_i_i_i);
@@ -38182,26 +38014,26 @@ L_join_7_i_i_i_i_i_i_i_i_i82_i_i_i_i:;
     v_r26_i_i_i_i_i_i_i_i_i86_i_i_i_i_3 = get_u8(v_r24_i_i_i_i_i_i_i_i_i85_i_i_i_i_3);
     put_u8(v_r20_i_i_i_i_i_i_i_i_i84_i_i_i_i_3, v_r26_i_i_i_i_i_i_i_i_i86_i_i_i_i_3);
     v_r30_i_i_i_i_i_i_i_i_i87_i_i_i_i_3 = (u64)((u64)(v_r0_04_i_i_i_i_i_i_i_i_i83_i_i_i_i) + (u64)(4u));
-    v_niter236_next_3 = (u64)((u64)(v_niter236) + (u64)(4u));
-    v_niter236_ncmp_3 = v_niter236_next_3 == v_unroll_iter235;
-    if (v_niter236_ncmp_3) { goto L_der_core_back_writer_BackWriter_prepend_exit_i_i70__2; } else { p_v_r0_04_i_i_i_i_i_i_i_i_i83_i_i_i_i = v_r30_i_i_i_i_i_i_i_i_i87_i_i_i_i_3; p_v_niter236 = v_niter236_next_3; goto L_join_7_i_i_i_i_i_i_i_i_i82_i_i_i_i; }
+    v_niter221_next_3 = (u64)((u64)(v_niter221) + (u64)(4u));
+    v_niter221_ncmp_3 = v_niter221_next_3 == v_unroll_iter220;
+    if (v_niter221_ncmp_3) { goto L_der_core_back_writer_BackWriter_prepend_exit_i_i70__2; } else { p_v_r0_04_i_i_i_i_i_i_i_i_i83_i_i_i_i = v_r30_i_i_i_i_i_i_i_i_i87_i_i_i_i_3; p_v_niter221 = v_niter221_next_3; goto L_join_7_i_i_i_i_i_i_i_i_i82_i_i_i_i; }
 L_der_core_back_writer_BackWriter_prepend_exit_i_i70__2:;
-    v_lcmp_mod233_not = v_xtraiter231 == 0u;
-    if (v_lcmp_mod233_not) { goto L_der_core_back_writer_BackWriter_prepend_exit_i_i70; } else { p_v_r0_04_i_i_i_i_i_i_i_i_i83_i_i_i_i_epil_init = v_r30_i_i_i_i_i_i_i_i_i87_i_i_i_i_3; goto L_join_7_i_i_i_i_i_i_i_i_i82_i_i_i_i_epil_preheader; }
+    v_lcmp_mod218_not = v_xtraiter216 == 0u;
+    if (v_lcmp_mod218_not) { goto L_der_core_back_writer_BackWriter_prepend_exit_i_i70; } else { p_v_r0_04_i_i_i_i_i_i_i_i_i83_i_i_i_i_epil_init = v_r30_i_i_i_i_i_i_i_i_i87_i_i_i_i_3; goto L_join_7_i_i_i_i_i_i_i_i_i82_i_i_i_i_epil_preheader; }
 L_join_7_i_i_i_i_i_i_i_i_i82_i_i_i_i_epil_preheader:;
     v_r0_04_i_i_i_i_i_i_i_i_i83_i_i_i_i_epil_init = p_v_r0_04_i_i_i_i_i_i_i_i_i83_i_i_i_i_epil_init;
-    { p_v_r0_04_i_i_i_i_i_i_i_i_i83_i_i_i_i_epil = v_r0_04_i_i_i_i_i_i_i_i_i83_i_i_i_i_epil_init; p_v_epil_iter232 = 0u; goto L_join_7_i_i_i_i_i_i_i_i_i82_i_i_i_i_epil; }
+    { p_v_r0_04_i_i_i_i_i_i_i_i_i83_i_i_i_i_epil = v_r0_04_i_i_i_i_i_i_i_i_i83_i_i_i_i_epil_init; p_v_epil_iter217 = 0u; goto L_join_7_i_i_i_i_i_i_i_i_i82_i_i_i_i_epil; }
 L_join_7_i_i_i_i_i_i_i_i_i82_i_i_i_i_epil:;
     v_r0_04_i_i_i_i_i_i_i_i_i83_i_i_i_i_epil = p_v_r0_04_i_i_i_i_i_i_i_i_i83_i_i_i_i_epil;
-    v_epil_iter232 = p_v_epil_iter232;
+    v_epil_iter217 = p_v_epil_iter217;
     v_r20_i_i_i_i_i_i_i_i_i84_i_i_i_i_epil = v_r26_i_i_i64_i_i_i_i + (int64_t)(v_r0_04_i_i_i_i_i_i_i_i_i83_i_i_i_i_epil);
     v_r24_i_i_i_i_i_i_i_i_i85_i_i_i_i_epil = v_r1_sroa_0_0_copyload_i_i59_i_i_i_i + (int64_t)(v_r0_04_i_i_i_i_i_i_i_i_i83_i_i_i_i_epil);
     v_r26_i_i_i_i_i_i_i_i_i86_i_i_i_i_epil = get_u8(v_r24_i_i_i_i_i_i_i_i_i85_i_i_i_i_epil);
     put_u8(v_r20_i_i_i_i_i_i_i_i_i84_i_i_i_i_epil, v_r26_i_i_i_i_i_i_i_i_i86_i_i_i_i_epil);
     v_r30_i_i_i_i_i_i_i_i_i87_i_i_i_i_epil = (u64)((u64)(v_r0_04_i_i_i_i_i_i_i_i_i83_i_i_i_i_epil) + (u64)(1u));
-    v_epil_iter232_next = (u64)((u64)(v_epil_iter232) + (u64)(1u));
-    v_epil_iter232_cmp_not = v_epil_iter232_next == v_xtraiter231;
-    if (v_epil_iter232_cmp_not) { goto L_der_core_back_writer_BackWriter_prepend_exit_i_i70; } else { p_v_r0_04_i_i_i_i_i_i_i_i_i83_i_i_i_i_epil = v_r30_i_i_i_i_i_i_i_i_i87_i_i_i_i_epil; p_v_epil_iter232 = v_epil_iter232_next; goto L_join_7_i_i_i_i_i_i_i_i_i82_i_i_i_i_epil; }
+    v_epil_iter217_next = (u64)((u64)(v_epil_iter217) + (u64)(1u));
+    v_epil_iter217_cmp_not = v_epil_iter217_next == v_xtraiter216;
+    if (v_epil_iter217_cmp_not) { goto L_der_core_back_writer_BackWriter_prepend_exit_i_i70; } else { p_v_r0_04_i_i_i_i_i_i_i_i_i83_i_i_i_i_epil = v_r30_i_i_i_i_i_i_i_i_i87_i_i_i_i_epil; p_v_epil_iter217 = v_epil_iter217_next; goto L_join_7_i_i_i_i_i_i_i_i_i82_i_i_i_i_epil; }
 L_der_core_back_writer_BackWriter_prepend_exit_i_i70:;
     v_r15_not_i_i73_i_i_i_i = (u8)(v_r20_i366_i ^ ((u8)1 << 7)) > (u8)(255u ^ ((u8)1 << 7));
     if (v_r15_not_i_i73_i_i_i_i) { p_v_r7_sroa_130_3_i_i_i = v_r17_i_i_i62_i_i_i_i; goto L_der_core_borrowed_BorrowedEncode_prepend_f4fc96f16__5; } else { goto L_then_1_i_i74_i_i_i_i; }
@@ -38212,10 +38044,10 @@ L_then_1_i_i74_i_i_i_i:;
     { p_v_r7_sroa_130_3_i_i_i = v_r17_i3_i_i75_i_i_i_i; goto L_der_core_borrowed_BorrowedEncode_prepend_f4fc96f16__5; }
 L_der_core_borrowed_BorrowedEncode_prepend_f4fc96f16__5:;
     v_r7_sroa_130_3_i_i_i = p_v_r7_sroa_130_3_i_i_i;
-    v_52 = (u64)((u64)(v_r7_sroa_130_3_i_i_i) + (u64)(v_r3_i8_i_i_i));
-    v_53 = (u64)((u64)(v_r7_sroa_130_21_i_i_i) - (u64)(v_52));
-    v_54 = (u32)(v_53);
-    v_r2_i_i81_i_i_i_i = (u32)((u32)(v_r1_sroa_9_4_copyload_i_i_i_i) + (u32)(v_54));
+    v_49 = (u64)((u64)(v_r7_sroa_130_3_i_i_i) + (u64)(v_r3_i8_i_i_i));
+    v_50 = (u64)((u64)(v_r7_sroa_130_22_i_i_i) - (u64)(v_49));
+    v_51 = (u32)(v_50);
+    v_r2_i_i81_i_i_i_i = (u32)((u32)(v_r1_sroa_9_4_copyload_i_i_i_i) + (u32)(v_51));
     v_r59_i481_i_i_i = v_r2_i_i81_i_i_i_i < 128u;
     if (v_r59_i481_i_i_i) { goto L_then_1_i542_i_i_i; } else { goto L_else_2_i482_i_i_i; }
 L_then_1_i542_i_i_i:;
@@ -38225,7 +38057,7 @@ L_then_1_i542_i_i_i:;
     v_r8_i476_sroa_4_0_insert_shift_i_i_i = (u16)((u32)(v_r64_i543_i_i_i) << (u32)((8u & 31)));
     v_r8_i476_sroa_0_0_insert_insert_i_i_i = (u16)((u32)(v_r8_i476_sroa_4_0_insert_shift_i_i_i) | (u32)(2u));
     put_u16(v_r26_i_i549_i_i_i, v_r8_i476_sroa_0_0_insert_insert_i_i_i);
-    { p_v_r7_sroa_130_20_i_i_i = v_r17_i_i547_i_i_i; goto L_der_core_back_writer_BackWriter_prepend_header_exi__7; }
+    { p_v_r7_sroa_130_21_i_i_i = v_r17_i_i547_i_i_i; goto L_der_core_back_writer_BackWriter_prepend_header_exi__7; }
 L_else_2_i482_i_i_i:;
     v_r75_i483_i_i_i = v_r2_i_i81_i_i_i_i < 256u;
     if (v_r75_i483_i_i_i) { goto L_then_4_i533_i_i_i; } else { goto L_else_5_i484_i_i_i; }
@@ -38238,17 +38070,17 @@ L_then_4_i533_i_i_i:;
     put_u8(v_r14_i477_sroa_4_0_r26_i30_i541_sroa_idx_i_i_i, 129u);
     v_r14_i477_sroa_5_0_r26_i30_i541_sroa_idx_i_i_i = v_r26_i30_i541_i_i_i + 2;
     put_u8(v_r14_i477_sroa_5_0_r26_i30_i541_sroa_idx_i_i_i, v_r80_i534_i_i_i);
-    { p_v_r7_sroa_130_20_i_i_i = v_r17_i28_i539_i_i_i; goto L_der_core_back_writer_BackWriter_prepend_header_exi__7; }
+    { p_v_r7_sroa_130_21_i_i_i = v_r17_i28_i539_i_i_i; goto L_der_core_back_writer_BackWriter_prepend_header_exi__7; }
 L_else_5_i484_i_i_i:;
     v_r92_i485_i_i_i = v_r2_i_i81_i_i_i_i < 65536u;
     if (v_r92_i485_i_i_i) { goto L_then_7_i521_i_i_i; } else { goto L_else_8_i486_i_i_i; }
 L_then_7_i521_i_i_i:;
     v_r17_i46_i529_i_i_i = (u64)((u64)(v_r7_sroa_130_3_i_i_i) + (u64)(18446744073709551612ull));
     v_r26_i48_i531_i_i_i = (P)((uintptr_t)v_r13 + (u64)(v_r17_i46_i529_i_i_i));
-    v_55 = (u32)((u32)(v_r2_i_i81_i_i_i_i) | (u32)(42074112u));
-    v_r20_i478_sroa_0_0_insert_insert_i_i_i = __builtin_bswap32(v_55);
+    v_52 = (u32)((u32)(v_r2_i_i81_i_i_i_i) | (u32)(42074112u));
+    v_r20_i478_sroa_0_0_insert_insert_i_i_i = __builtin_bswap32(v_52);
     put_u32(v_r26_i48_i531_i_i_i, v_r20_i478_sroa_0_0_insert_insert_i_i_i);
-    { p_v_r7_sroa_130_20_i_i_i = v_r17_i46_i529_i_i_i; goto L_der_core_back_writer_BackWriter_prepend_header_exi__7; }
+    { p_v_r7_sroa_130_21_i_i_i = v_r17_i46_i529_i_i_i; goto L_der_core_back_writer_BackWriter_prepend_header_exi__7; }
 L_else_8_i486_i_i_i:;
     v_r117_i487_i_i_i = v_r2_i_i81_i_i_i_i < 16777216u;
     if (v_r117_i487_i_i_i) { goto L_then_10_i506_i_i_i; } else { goto L_else_11_i488_i_i_i; }
@@ -38269,7 +38101,7 @@ L_then_10_i506_i_i_i:;
     put_u8(v_r29_i479_sroa_6_0_r26_i66_i520_sroa_idx_i_i_i, v_r130_i510_i_i_i);
     v_r29_i479_sroa_7_0_r26_i66_i520_sroa_idx_i_i_i = v_r26_i66_i520_i_i_i + 4;
     put_u8(v_r29_i479_sroa_7_0_r26_i66_i520_sroa_idx_i_i_i, v_r134_i511_i_i_i);
-    { p_v_r7_sroa_130_20_i_i_i = v_r17_i64_i518_i_i_i; goto L_der_core_back_writer_BackWriter_prepend_header_exi__7; }
+    { p_v_r7_sroa_130_21_i_i_i = v_r17_i64_i518_i_i_i; goto L_der_core_back_writer_BackWriter_prepend_header_exi__7; }
 L_else_11_i488_i_i_i:;
     v_r15020_i489_i_i_i = (u32)((u32)(v_r2_i_i81_i_i_i_i) >> (u32)((24u & 31)));
     v_r152_i490_i_i_i = (u8)(v_r15020_i489_i_i_i);
@@ -38291,10 +38123,10 @@ L_else_11_i488_i_i_i:;
     put_u8(v_r40_i480_sroa_7_0_r26_i84_i505_sroa_idx_i_i_i, v_r164_i494_i_i_i);
     v_r40_i480_sroa_8_0_r26_i84_i505_sroa_idx_i_i_i = v_r26_i84_i505_i_i_i + 5;
     put_u8(v_r40_i480_sroa_8_0_r26_i84_i505_sroa_idx_i_i_i, v_r168_i495_i_i_i);
-    { p_v_r7_sroa_130_20_i_i_i = v_r17_i82_i503_i_i_i; goto L_der_core_back_writer_BackWriter_prepend_header_exi__7; }
+    { p_v_r7_sroa_130_21_i_i_i = v_r17_i82_i503_i_i_i; goto L_der_core_back_writer_BackWriter_prepend_header_exi__7; }
 L_der_core_back_writer_BackWriter_prepend_header_exi__7:;
-    v_r7_sroa_130_20_i_i_i = p_v_r7_sroa_130_20_i_i_i;
-    v_r17_i_i_i95_i_i_i_i = (u64)((u64)(v_r7_sroa_130_20_i_i_i) - (u64)(v_r1_sroa_3_0_copyload_i_i94_i_i_i_i));
+    v_r7_sroa_130_21_i_i_i = p_v_r7_sroa_130_21_i_i_i;
+    v_r17_i_i_i95_i_i_i_i = (u64)((u64)(v_r7_sroa_130_21_i_i_i) - (u64)(v_r1_sroa_3_0_copyload_i_i94_i_i_i_i));
     v_r26_i_i_i97_i_i_i_i = (P)((uintptr_t)v_r13 + (u64)(v_r17_i_i_i95_i_i_i_i));
     v_r8_i_i_i_i_i_i_i_i_i98_i_i_i_i = (u64)((uintptr_t)v_r26_i_i_i97_i_i_i_i);
     v_r9_i_i_i_i_i_i_i_i_i99_i_i_i_i = (u64)((uintptr_t)v_r1_sroa_0_0_copyload_i_i92_i_i_i_i);
@@ -38302,18 +38134,18 @@ L_der_core_back_writer_BackWriter_prepend_header_exi__7:;
     v_r11_i_i_i_i_i_i_i_i_i101_i_i_i_i = v_r10_i_i_i_i_i_i_i_i_i100_i_i_i_i < v_r1_sroa_3_0_copyload_i_i94_i_i_i_i;
     if (v_r11_i_i_i_i_i_i_i_i_i101_i_i_i_i) { goto L_join_7_i_i_i_i_i_i_i_i_i115_i_i_i_i_preheader; } else { goto L_apart_2_i_i_i_i_i_i_i_i_i102_i_i_i_i; }
 L_join_7_i_i_i_i_i_i_i_i_i115_i_i_i_i_preheader:;
-    v_xtraiter237 = (u64)((u64)(v_r1_sroa_3_0_copyload_i_i94_i_i_i_i) & (u64)(3u));
-    v_56 = v_r1_sroa_3_0_copyload_i_i94_i_i_i_i < 4u;
-    if (v_56) { p_v_r0_04_i_i_i_i_i_i_i_i_i116_i_i_i_i_epil_init = 0u; goto L_join_7_i_i_i_i_i_i_i_i_i115_i_i_i_i_epil_preheader; } else { goto L_join_7_i_i_i_i_i_i_i_i_i115_i_i_i_i_preheader_new; }
+    v_xtraiter222 = (u64)((u64)(v_r1_sroa_3_0_copyload_i_i94_i_i_i_i) & (u64)(3u));
+    v_53 = v_r1_sroa_3_0_copyload_i_i94_i_i_i_i < 4u;
+    if (v_53) { p_v_r0_04_i_i_i_i_i_i_i_i_i116_i_i_i_i_epil_init = 0u; goto L_join_7_i_i_i_i_i_i_i_i_i115_i_i_i_i_epil_preheader; } else { goto L_join_7_i_i_i_i_i_i_i_i_i115_i_i_i_i_preheader_new; }
 L_join_7_i_i_i_i_i_i_i_i_i115_i_i_i_i_preheader_new:;
-    v_unroll_iter241 = (u64)((u64)(v_r1_sroa_3_0_copyload_i_i94_i_i_i_i) & (u64)(4294967292ull));
-    { p_v_r0_04_i_i_i_i_i_i_i_i_i116_i_i_i_i = 0u; p_v_niter242 = 0u; goto L_join_7_i_i_i_i_i_i_i_i_i115_i_i_i_i; }
+    v_unroll_iter226 = (u64)((u64)(v_r1_sroa_3_0_copyload_i_i94_i_i_i_i) & (u64)(4294967292ull));
+    { p_v_r0_04_i_i_i_i_i_i_i_i_i116_i_i_i_i = 0u; p_v_niter227 = 0u; goto L_join_7_i_i_i_i_i_i_i_i_i115_i_i_i_i; }
 L_apart_2_i_i_i_i_i_i_i_i_i102_i_i_i_i:;
     move(v_r26_i_i_i97_i_i_i_i, v_r1_sroa_0_0_copyload_i_i92_i_i_i_i, v_r1_sroa_3_0_copyload_i_i94_i_i_i_i);
     { goto L_der_core_back_writer_BackWriter_prepend_exit_i_i10; }
 L_join_7_i_i_i_i_i_i_i_i_i115_i_i_i_i:;
     v_r0_04_i_i_i_i_i_i_i_i_i116_i_i_i_i = p_v_r0_04_i_i_i_i_i_i_i_i_i116_i_i_i_i;
-    v_niter242 = p_v_niter242;
+    v_niter227 = p_v_niter227;
     v_r20_i_i_i_i_i_i_i_i_i117_i_i_i_i = v_r26_i_i_i97_i_i_i_i + (int64_t)(v_r0_04_i_i_i_i_i_i_i_i_i116_i_i_i_i);
     v_r24_i_i_i_i_i_i_i_i_i118_i_i_i_i = v_r1_sroa_0_0_copyload_i_i92_i_i_i_i + (int64_t)(v_r0_04_i_i_i_i_i_i_i_i_i116_i_i_i_i);
     v_r26_i_i_i_i_i_i_i_i_i119_i_i_i_i = get_u8(v_r24_i_i_i_i_i_i_i_i_i118_i_i_i_i);
@@ -38334,26 +38166,26 @@ L_join_7_i_i_i_i_i_i_i_i_i115_i_i_i_i:;
     v_r26_i_i_i_i_i_i_i_i_i119_i_i_i_i_3 = get_u8(v_r24_i_i_i_i_i_i_i_i_i118_i_i_i_i_3);
     put_u8(v_r20_i_i_i_i_i_i_i_i_i117_i_i_i_i_3, v_r26_i_i_i_i_i_i_i_i_i119_i_i_i_i_3);
     v_r30_i_i_i_i_i_i_i_i_i120_i_i_i_i_3 = (u64)((u64)(v_r0_04_i_i_i_i_i_i_i_i_i116_i_i_i_i) + (u64)(4u));
-    v_niter242_next_3 = (u64)((u64)(v_niter242) + (u64)(4u));
-    v_niter242_ncmp_3 = v_niter242_next_3 == v_unroll_iter241;
-    if (v_niter242_ncmp_3) { goto L_der_core_back_writer_BackWriter_prepend_exit_i_i10__2; } else { p_v_r0_04_i_i_i_i_i_i_i_i_i116_i_i_i_i = v_r30_i_i_i_i_i_i_i_i_i120_i_i_i_i_3; p_v_niter242 = v_niter242_next_3; goto L_join_7_i_i_i_i_i_i_i_i_i115_i_i_i_i; }
+    v_niter227_next_3 = (u64)((u64)(v_niter227) + (u64)(4u));
+    v_niter227_ncmp_3 = v_niter227_next_3 == v_unroll_iter226;
+    if (v_niter227_ncmp_3) { goto L_der_core_back_writer_BackWriter_prepend_exit_i_i10__2; } else { p_v_r0_04_i_i_i_i_i_i_i_i_i116_i_i_i_i = v_r30_i_i_i_i_i_i_i_i_i120_i_i_i_i_3; p_v_niter227 = v_niter227_next_3; goto L_join_7_i_i_i_i_i_i_i_i_i115_i_i_i_i; }
 L_der_core_back_writer_BackWriter_prepend_exit_i_i10__2:;
-    v_lcmp_mod239_not = v_xtraiter237 == 0u;
-    if (v_lcmp_mod239_not) { goto L_der_core_back_writer_BackWriter_prepend_exit_i_i10; } else { p_v_r0_04_i_i_i_i_i_i_i_i_i116_i_i_i_i_epil_init = v_r30_i_i_i_i_i_i_i_i_i120_i_i_i_i_3; goto L_join_7_i_i_i_i_i_i_i_i_i115_i_i_i_i_epil_preheader; }
+    v_lcmp_mod224_not = v_xtraiter222 == 0u;
+    if (v_lcmp_mod224_not) { goto L_der_core_back_writer_BackWriter_prepend_exit_i_i10; } else { p_v_r0_04_i_i_i_i_i_i_i_i_i116_i_i_i_i_epil_init = v_r30_i_i_i_i_i_i_i_i_i120_i_i_i_i_3; goto L_join_7_i_i_i_i_i_i_i_i_i115_i_i_i_i_epil_preheader; }
 L_join_7_i_i_i_i_i_i_i_i_i115_i_i_i_i_epil_preheader:;
     v_r0_04_i_i_i_i_i_i_i_i_i116_i_i_i_i_epil_init = p_v_r0_04_i_i_i_i_i_i_i_i_i116_i_i_i_i_epil_init;
-    { p_v_r0_04_i_i_i_i_i_i_i_i_i116_i_i_i_i_epil = v_r0_04_i_i_i_i_i_i_i_i_i116_i_i_i_i_epil_init; p_v_epil_iter238 = 0u; goto L_join_7_i_i_i_i_i_i_i_i_i115_i_i_i_i_epil; }
+    { p_v_r0_04_i_i_i_i_i_i_i_i_i116_i_i_i_i_epil = v_r0_04_i_i_i_i_i_i_i_i_i116_i_i_i_i_epil_init; p_v_epil_iter223 = 0u; goto L_join_7_i_i_i_i_i_i_i_i_i115_i_i_i_i_epil; }
 L_join_7_i_i_i_i_i_i_i_i_i115_i_i_i_i_epil:;
     v_r0_04_i_i_i_i_i_i_i_i_i116_i_i_i_i_epil = p_v_r0_04_i_i_i_i_i_i_i_i_i116_i_i_i_i_epil;
-    v_epil_iter238 = p_v_epil_iter238;
+    v_epil_iter223 = p_v_epil_iter223;
     v_r20_i_i_i_i_i_i_i_i_i117_i_i_i_i_epil = v_r26_i_i_i97_i_i_i_i + (int64_t)(v_r0_04_i_i_i_i_i_i_i_i_i116_i_i_i_i_epil);
     v_r24_i_i_i_i_i_i_i_i_i118_i_i_i_i_epil = v_r1_sroa_0_0_copyload_i_i92_i_i_i_i + (int64_t)(v_r0_04_i_i_i_i_i_i_i_i_i116_i_i_i_i_epil);
     v_r26_i_i_i_i_i_i_i_i_i119_i_i_i_i_epil = get_u8(v_r24_i_i_i_i_i_i_i_i_i118_i_i_i_i_epil);
     put_u8(v_r20_i_i_i_i_i_i_i_i_i117_i_i_i_i_epil, v_r26_i_i_i_i_i_i_i_i_i119_i_i_i_i_epil);
     v_r30_i_i_i_i_i_i_i_i_i120_i_i_i_i_epil = (u64)((u64)(v_r0_04_i_i_i_i_i_i_i_i_i116_i_i_i_i_epil) + (u64)(1u));
-    v_epil_iter238_next = (u64)((u64)(v_epil_iter238) + (u64)(1u));
-    v_epil_iter238_cmp_not = v_epil_iter238_next == v_xtraiter237;
-    if (v_epil_iter238_cmp_not) { goto L_der_core_back_writer_BackWriter_prepend_exit_i_i10; } else { p_v_r0_04_i_i_i_i_i_i_i_i_i116_i_i_i_i_epil = v_r30_i_i_i_i_i_i_i_i_i120_i_i_i_i_epil; p_v_epil_iter238 = v_epil_iter238_next; goto L_join_7_i_i_i_i_i_i_i_i_i115_i_i_i_i_epil; }
+    v_epil_iter223_next = (u64)((u64)(v_epil_iter223) + (u64)(1u));
+    v_epil_iter223_cmp_not = v_epil_iter223_next == v_xtraiter222;
+    if (v_epil_iter223_cmp_not) { goto L_der_core_back_writer_BackWriter_prepend_exit_i_i10; } else { p_v_r0_04_i_i_i_i_i_i_i_i_i116_i_i_i_i_epil = v_r30_i_i_i_i_i_i_i_i_i120_i_i_i_i_epil; p_v_epil_iter223 = v_epil_iter223_next; goto L_join_7_i_i_i_i_i_i_i_i_i115_i_i_i_i_epil; }
 L_der_core_back_writer_BackWriter_prepend_exit_i_i10:;
     v_r15_not_i_i106_i_i_i_i = (u8)(v_r20_i356_i ^ ((u8)1 << 7)) > (u8)(255u ^ ((u8)1 << 7));
     if (v_r15_not_i_i106_i_i_i_i) { p_v_r7_sroa_130_4_i_i_i = v_r17_i_i_i95_i_i_i_i; goto L_der_core_borrowed_BorrowedEncode_prepend_f4fc96f16__6; } else { goto L_then_1_i_i107_i_i_i_i; }
@@ -38364,10 +38196,10 @@ L_then_1_i_i107_i_i_i_i:;
     { p_v_r7_sroa_130_4_i_i_i = v_r17_i3_i_i108_i_i_i_i; goto L_der_core_borrowed_BorrowedEncode_prepend_f4fc96f16__6; }
 L_der_core_borrowed_BorrowedEncode_prepend_f4fc96f16__6:;
     v_r7_sroa_130_4_i_i_i = p_v_r7_sroa_130_4_i_i_i;
-    v_57 = (u64)((u64)(v_r7_sroa_130_4_i_i_i) + (u64)(v_r3_i8_i_i_i));
-    v_58 = (u64)((u64)(v_r7_sroa_130_20_i_i_i) - (u64)(v_57));
-    v_59 = (u32)(v_58);
-    v_r2_i_i114_i_i_i_i = (u32)((u32)(v_r1_sroa_9_4_copyload_i_i_i_i) + (u32)(v_59));
+    v_54 = (u64)((u64)(v_r7_sroa_130_4_i_i_i) + (u64)(v_r3_i8_i_i_i));
+    v_55 = (u64)((u64)(v_r7_sroa_130_21_i_i_i) - (u64)(v_54));
+    v_56 = (u32)(v_55);
+    v_r2_i_i114_i_i_i_i = (u32)((u32)(v_r1_sroa_9_4_copyload_i_i_i_i) + (u32)(v_56));
     v_r59_i405_i_i_i = v_r2_i_i114_i_i_i_i < 128u;
     if (v_r59_i405_i_i_i) { goto L_then_1_i466_i_i_i; } else { goto L_else_2_i406_i_i_i; }
 L_then_1_i466_i_i_i:;
@@ -38377,7 +38209,7 @@ L_then_1_i466_i_i_i:;
     v_r8_i400_sroa_4_0_insert_shift_i_i_i = (u16)((u32)(v_r64_i467_i_i_i) << (u32)((8u & 31)));
     v_r8_i400_sroa_0_0_insert_insert_i_i_i = (u16)((u32)(v_r8_i400_sroa_4_0_insert_shift_i_i_i) | (u32)(2u));
     put_u16(v_r26_i_i473_i_i_i, v_r8_i400_sroa_0_0_insert_insert_i_i_i);
-    { p_v_r7_sroa_130_19_i_i_i = v_r17_i_i471_i_i_i; goto L_der_core_back_writer_BackWriter_prepend_header_exi__8; }
+    { p_v_r7_sroa_130_20_i_i_i = v_r17_i_i471_i_i_i; goto L_der_core_back_writer_BackWriter_prepend_header_exi__8; }
 L_else_2_i406_i_i_i:;
     v_r75_i407_i_i_i = v_r2_i_i114_i_i_i_i < 256u;
     if (v_r75_i407_i_i_i) { goto L_then_4_i457_i_i_i; } else { goto L_else_5_i408_i_i_i; }
@@ -38390,17 +38222,17 @@ L_then_4_i457_i_i_i:;
     put_u8(v_r14_i401_sroa_4_0_r26_i30_i465_sroa_idx_i_i_i, 129u);
     v_r14_i401_sroa_5_0_r26_i30_i465_sroa_idx_i_i_i = v_r26_i30_i465_i_i_i + 2;
     put_u8(v_r14_i401_sroa_5_0_r26_i30_i465_sroa_idx_i_i_i, v_r80_i458_i_i_i);
-    { p_v_r7_sroa_130_19_i_i_i = v_r17_i28_i463_i_i_i; goto L_der_core_back_writer_BackWriter_prepend_header_exi__8; }
+    { p_v_r7_sroa_130_20_i_i_i = v_r17_i28_i463_i_i_i; goto L_der_core_back_writer_BackWriter_prepend_header_exi__8; }
 L_else_5_i408_i_i_i:;
     v_r92_i409_i_i_i = v_r2_i_i114_i_i_i_i < 65536u;
     if (v_r92_i409_i_i_i) { goto L_then_7_i445_i_i_i; } else { goto L_else_8_i410_i_i_i; }
 L_then_7_i445_i_i_i:;
     v_r17_i46_i453_i_i_i = (u64)((u64)(v_r7_sroa_130_4_i_i_i) + (u64)(18446744073709551612ull));
     v_r26_i48_i455_i_i_i = (P)((uintptr_t)v_r13 + (u64)(v_r17_i46_i453_i_i_i));
-    v_60 = (u32)((u32)(v_r2_i_i114_i_i_i_i) | (u32)(42074112u));
-    v_r20_i402_sroa_0_0_insert_insert_i_i_i = __builtin_bswap32(v_60);
+    v_57 = (u32)((u32)(v_r2_i_i114_i_i_i_i) | (u32)(42074112u));
+    v_r20_i402_sroa_0_0_insert_insert_i_i_i = __builtin_bswap32(v_57);
     put_u32(v_r26_i48_i455_i_i_i, v_r20_i402_sroa_0_0_insert_insert_i_i_i);
-    { p_v_r7_sroa_130_19_i_i_i = v_r17_i46_i453_i_i_i; goto L_der_core_back_writer_BackWriter_prepend_header_exi__8; }
+    { p_v_r7_sroa_130_20_i_i_i = v_r17_i46_i453_i_i_i; goto L_der_core_back_writer_BackWriter_prepend_header_exi__8; }
 L_else_8_i410_i_i_i:;
     v_r117_i411_i_i_i = v_r2_i_i114_i_i_i_i < 16777216u;
     if (v_r117_i411_i_i_i) { goto L_then_10_i430_i_i_i; } else { goto L_else_11_i412_i_i_i; }
@@ -38421,7 +38253,7 @@ L_then_10_i430_i_i_i:;
     put_u8(v_r29_i403_sroa_6_0_r26_i66_i444_sroa_idx_i_i_i, v_r130_i434_i_i_i);
     v_r29_i403_sroa_7_0_r26_i66_i444_sroa_idx_i_i_i = v_r26_i66_i444_i_i_i + 4;
     put_u8(v_r29_i403_sroa_7_0_r26_i66_i444_sroa_idx_i_i_i, v_r134_i435_i_i_i);
-    { p_v_r7_sroa_130_19_i_i_i = v_r17_i64_i442_i_i_i; goto L_der_core_back_writer_BackWriter_prepend_header_exi__8; }
+    { p_v_r7_sroa_130_20_i_i_i = v_r17_i64_i442_i_i_i; goto L_der_core_back_writer_BackWriter_prepend_header_exi__8; }
 L_else_11_i412_i_i_i:;
     v_r15020_i413_i_i_i = (u32)((u32)(v_r2_i_i114_i_i_i_i) >> (u32)((24u & 31)));
     v_r152_i414_i_i_i = (u8)(v_r15020_i413_i_i_i);
@@ -38443,10 +38275,10 @@ L_else_11_i412_i_i_i:;
     put_u8(v_r40_i404_sroa_7_0_r26_i84_i429_sroa_idx_i_i_i, v_r164_i418_i_i_i);
     v_r40_i404_sroa_8_0_r26_i84_i429_sroa_idx_i_i_i = v_r26_i84_i429_i_i_i + 5;
     put_u8(v_r40_i404_sroa_8_0_r26_i84_i429_sroa_idx_i_i_i, v_r168_i419_i_i_i);
-    { p_v_r7_sroa_130_19_i_i_i = v_r17_i82_i427_i_i_i; goto L_der_core_back_writer_BackWriter_prepend_header_exi__8; }
+    { p_v_r7_sroa_130_20_i_i_i = v_r17_i82_i427_i_i_i; goto L_der_core_back_writer_BackWriter_prepend_header_exi__8; }
 L_der_core_back_writer_BackWriter_prepend_header_exi__8:;
-    v_r7_sroa_130_19_i_i_i = p_v_r7_sroa_130_19_i_i_i;
-    v_r17_i_i_i128_i_i_i_i = (u64)((u64)(v_r7_sroa_130_19_i_i_i) - (u64)(v_r1_sroa_3_0_copyload_i_i127_i_i_i_i));
+    v_r7_sroa_130_20_i_i_i = p_v_r7_sroa_130_20_i_i_i;
+    v_r17_i_i_i128_i_i_i_i = (u64)((u64)(v_r7_sroa_130_20_i_i_i) - (u64)(v_r1_sroa_3_0_copyload_i_i127_i_i_i_i));
     v_r26_i_i_i130_i_i_i_i = (P)((uintptr_t)v_r13 + (u64)(v_r17_i_i_i128_i_i_i_i));
     v_r8_i_i_i_i_i_i_i_i_i131_i_i_i_i = (u64)((uintptr_t)v_r26_i_i_i130_i_i_i_i);
     v_r9_i_i_i_i_i_i_i_i_i132_i_i_i_i = (u64)((uintptr_t)v_r1_sroa_0_0_copyload_i_i125_i_i_i_i);
@@ -38454,18 +38286,18 @@ L_der_core_back_writer_BackWriter_prepend_header_exi__8:;
     v_r11_i_i_i_i_i_i_i_i_i134_i_i_i_i = v_r10_i_i_i_i_i_i_i_i_i133_i_i_i_i < v_r1_sroa_3_0_copyload_i_i127_i_i_i_i;
     if (v_r11_i_i_i_i_i_i_i_i_i134_i_i_i_i) { goto L_join_7_i_i_i_i_i_i_i_i_i148_i_i_i_i_preheader; } else { goto L_apart_2_i_i_i_i_i_i_i_i_i135_i_i_i_i; }
 L_join_7_i_i_i_i_i_i_i_i_i148_i_i_i_i_preheader:;
-    v_xtraiter243 = (u64)((u64)(v_r1_sroa_3_0_copyload_i_i127_i_i_i_i) & (u64)(3u));
-    v_61 = v_r1_sroa_3_0_copyload_i_i127_i_i_i_i < 4u;
-    if (v_61) { p_v_r0_04_i_i_i_i_i_i_i_i_i149_i_i_i_i_epil_init = 0u; goto L_join_7_i_i_i_i_i_i_i_i_i148_i_i_i_i_epil_preheader; } else { goto L_join_7_i_i_i_i_i_i_i_i_i148_i_i_i_i_preheader_new; }
+    v_xtraiter228 = (u64)((u64)(v_r1_sroa_3_0_copyload_i_i127_i_i_i_i) & (u64)(3u));
+    v_58 = v_r1_sroa_3_0_copyload_i_i127_i_i_i_i < 4u;
+    if (v_58) { p_v_r0_04_i_i_i_i_i_i_i_i_i149_i_i_i_i_epil_init = 0u; goto L_join_7_i_i_i_i_i_i_i_i_i148_i_i_i_i_epil_preheader; } else { goto L_join_7_i_i_i_i_i_i_i_i_i148_i_i_i_i_preheader_new; }
 L_join_7_i_i_i_i_i_i_i_i_i148_i_i_i_i_preheader_new:;
-    v_unroll_iter247 = (u64)((u64)(v_r1_sroa_3_0_copyload_i_i127_i_i_i_i) & (u64)(4294967292ull));
-    { p_v_r0_04_i_i_i_i_i_i_i_i_i149_i_i_i_i = 0u; p_v_niter248 = 0u; goto L_join_7_i_i_i_i_i_i_i_i_i148_i_i_i_i; }
+    v_unroll_iter232 = (u64)((u64)(v_r1_sroa_3_0_copyload_i_i127_i_i_i_i) & (u64)(4294967292ull));
+    { p_v_r0_04_i_i_i_i_i_i_i_i_i149_i_i_i_i = 0u; p_v_niter233 = 0u; goto L_join_7_i_i_i_i_i_i_i_i_i148_i_i_i_i; }
 L_apart_2_i_i_i_i_i_i_i_i_i135_i_i_i_i:;
     move(v_r26_i_i_i130_i_i_i_i, v_r1_sroa_0_0_copyload_i_i125_i_i_i_i, v_r1_sroa_3_0_copyload_i_i127_i_i_i_i);
     { goto L_der_core_back_writer_BackWriter_prepend_exit_i_i13; }
 L_join_7_i_i_i_i_i_i_i_i_i148_i_i_i_i:;
     v_r0_04_i_i_i_i_i_i_i_i_i149_i_i_i_i = p_v_r0_04_i_i_i_i_i_i_i_i_i149_i_i_i_i;
-    v_niter248 = p_v_niter248;
+    v_niter233 = p_v_niter233;
     v_r20_i_i_i_i_i_i_i_i_i150_i_i_i_i = v_r26_i_i_i130_i_i_i_i + (int64_t)(v_r0_04_i_i_i_i_i_i_i_i_i149_i_i_i_i);
     v_r24_i_i_i_i_i_i_i_i_i151_i_i_i_i = v_r1_sroa_0_0_copyload_i_i125_i_i_i_i + (int64_t)(v_r0_04_i_i_i_i_i_i_i_i_i149_i_i_i_i);
     v_r26_i_i_i_i_i_i_i_i_i152_i_i_i_i = get_u8(v_r24_i_i_i_i_i_i_i_i_i151_i_i_i_i);
@@ -38486,26 +38318,26 @@ L_join_7_i_i_i_i_i_i_i_i_i148_i_i_i_i:;
     v_r26_i_i_i_i_i_i_i_i_i152_i_i_i_i_3 = get_u8(v_r24_i_i_i_i_i_i_i_i_i151_i_i_i_i_3);
     put_u8(v_r20_i_i_i_i_i_i_i_i_i150_i_i_i_i_3, v_r26_i_i_i_i_i_i_i_i_i152_i_i_i_i_3);
     v_r30_i_i_i_i_i_i_i_i_i153_i_i_i_i_3 = (u64)((u64)(v_r0_04_i_i_i_i_i_i_i_i_i149_i_i_i_i) + (u64)(4u));
-    v_niter248_next_3 = (u64)((u64)(v_niter248) + (u64)(4u));
-    v_niter248_ncmp_3 = v_niter248_next_3 == v_unroll_iter247;
-    if (v_niter248_ncmp_3) { goto L_der_core_back_writer_BackWriter_prepend_exit_i_i13__2; } else { p_v_r0_04_i_i_i_i_i_i_i_i_i149_i_i_i_i = v_r30_i_i_i_i_i_i_i_i_i153_i_i_i_i_3; p_v_niter248 = v_niter248_next_3; goto L_join_7_i_i_i_i_i_i_i_i_i148_i_i_i_i; }
+    v_niter233_next_3 = (u64)((u64)(v_niter233) + (u64)(4u));
+    v_niter233_ncmp_3 = v_niter233_next_3 == v_unroll_iter232;
+    if (v_niter233_ncmp_3) { goto L_der_core_back_writer_BackWriter_prepend_exit_i_i13__2; } else { p_v_r0_04_i_i_i_i_i_i_i_i_i149_i_i_i_i = v_r30_i_i_i_i_i_i_i_i_i153_i_i_i_i_3; p_v_niter233 = v_niter233_next_3; goto L_join_7_i_i_i_i_i_i_i_i_i148_i_i_i_i; }
 L_der_core_back_writer_BackWriter_prepend_exit_i_i13__2:;
-    v_lcmp_mod245_not = v_xtraiter243 == 0u;
-    if (v_lcmp_mod245_not) { goto L_der_core_back_writer_BackWriter_prepend_exit_i_i13; } else { p_v_r0_04_i_i_i_i_i_i_i_i_i149_i_i_i_i_epil_init = v_r30_i_i_i_i_i_i_i_i_i153_i_i_i_i_3; goto L_join_7_i_i_i_i_i_i_i_i_i148_i_i_i_i_epil_preheader; }
+    v_lcmp_mod230_not = v_xtraiter228 == 0u;
+    if (v_lcmp_mod230_not) { goto L_der_core_back_writer_BackWriter_prepend_exit_i_i13; } else { p_v_r0_04_i_i_i_i_i_i_i_i_i149_i_i_i_i_epil_init = v_r30_i_i_i_i_i_i_i_i_i153_i_i_i_i_3; goto L_join_7_i_i_i_i_i_i_i_i_i148_i_i_i_i_epil_preheader; }
 L_join_7_i_i_i_i_i_i_i_i_i148_i_i_i_i_epil_preheader:;
     v_r0_04_i_i_i_i_i_i_i_i_i149_i_i_i_i_epil_init = p_v_r0_04_i_i_i_i_i_i_i_i_i149_i_i_i_i_epil_init;
-    { p_v_r0_04_i_i_i_i_i_i_i_i_i149_i_i_i_i_epil = v_r0_04_i_i_i_i_i_i_i_i_i149_i_i_i_i_epil_init; p_v_epil_iter244 = 0u; goto L_join_7_i_i_i_i_i_i_i_i_i148_i_i_i_i_epil; }
+    { p_v_r0_04_i_i_i_i_i_i_i_i_i149_i_i_i_i_epil = v_r0_04_i_i_i_i_i_i_i_i_i149_i_i_i_i_epil_init; p_v_epil_iter229 = 0u; goto L_join_7_i_i_i_i_i_i_i_i_i148_i_i_i_i_epil; }
 L_join_7_i_i_i_i_i_i_i_i_i148_i_i_i_i_epil:;
     v_r0_04_i_i_i_i_i_i_i_i_i149_i_i_i_i_epil = p_v_r0_04_i_i_i_i_i_i_i_i_i149_i_i_i_i_epil;
-    v_epil_iter244 = p_v_epil_iter244;
+    v_epil_iter229 = p_v_epil_iter229;
     v_r20_i_i_i_i_i_i_i_i_i150_i_i_i_i_epil = v_r26_i_i_i130_i_i_i_i + (int64_t)(v_r0_04_i_i_i_i_i_i_i_i_i149_i_i_i_i_epil);
     v_r24_i_i_i_i_i_i_i_i_i151_i_i_i_i_epil = v_r1_sroa_0_0_copyload_i_i125_i_i_i_i + (int64_t)(v_r0_04_i_i_i_i_i_i_i_i_i149_i_i_i_i_epil);
     v_r26_i_i_i_i_i_i_i_i_i152_i_i_i_i_epil = get_u8(v_r24_i_i_i_i_i_i_i_i_i151_i_i_i_i_epil);
     put_u8(v_r20_i_i_i_i_i_i_i_i_i150_i_i_i_i_epil, v_r26_i_i_i_i_i_i_i_i_i152_i_i_i_i_epil);
     v_r30_i_i_i_i_i_i_i_i_i153_i_i_i_i_epil = (u64)((u64)(v_r0_04_i_i_i_i_i_i_i_i_i149_i_i_i_i_epil) + (u64)(1u));
-    v_epil_iter244_next = (u64)((u64)(v_epil_iter244) + (u64)(1u));
-    v_epil_iter244_cmp_not = v_epil_iter244_next == v_xtraiter243;
-    if (v_epil_iter244_cmp_not) { goto L_der_core_back_writer_BackWriter_prepend_exit_i_i13; } else { p_v_r0_04_i_i_i_i_i_i_i_i_i149_i_i_i_i_epil = v_r30_i_i_i_i_i_i_i_i_i153_i_i_i_i_epil; p_v_epil_iter244 = v_epil_iter244_next; goto L_join_7_i_i_i_i_i_i_i_i_i148_i_i_i_i_epil; }
+    v_epil_iter229_next = (u64)((u64)(v_epil_iter229) + (u64)(1u));
+    v_epil_iter229_cmp_not = v_epil_iter229_next == v_xtraiter228;
+    if (v_epil_iter229_cmp_not) { goto L_der_core_back_writer_BackWriter_prepend_exit_i_i13; } else { p_v_r0_04_i_i_i_i_i_i_i_i_i149_i_i_i_i_epil = v_r30_i_i_i_i_i_i_i_i_i153_i_i_i_i_epil; p_v_epil_iter229 = v_epil_iter229_next; goto L_join_7_i_i_i_i_i_i_i_i_i148_i_i_i_i_epil; }
 L_der_core_back_writer_BackWriter_prepend_exit_i_i13:;
     v_r15_not_i_i139_i_i_i_i = (u8)(v_r20_i346_i ^ ((u8)1 << 7)) > (u8)(255u ^ ((u8)1 << 7));
     if (v_r15_not_i_i139_i_i_i_i) { p_v_r7_sroa_130_5_i_i_i = v_r17_i_i_i128_i_i_i_i; goto L_der_core_borrowed_BorrowedEncode_prepend_f4fc96f16__7; } else { goto L_then_1_i_i140_i_i_i_i; }
@@ -38516,10 +38348,10 @@ L_then_1_i_i140_i_i_i_i:;
     { p_v_r7_sroa_130_5_i_i_i = v_r17_i3_i_i141_i_i_i_i; goto L_der_core_borrowed_BorrowedEncode_prepend_f4fc96f16__7; }
 L_der_core_borrowed_BorrowedEncode_prepend_f4fc96f16__7:;
     v_r7_sroa_130_5_i_i_i = p_v_r7_sroa_130_5_i_i_i;
-    v_62 = (u64)((u64)(v_r7_sroa_130_5_i_i_i) + (u64)(v_r3_i8_i_i_i));
-    v_63 = (u64)((u64)(v_r7_sroa_130_19_i_i_i) - (u64)(v_62));
-    v_64 = (u32)(v_63);
-    v_r2_i_i147_i_i_i_i = (u32)((u32)(v_r1_sroa_9_4_copyload_i_i_i_i) + (u32)(v_64));
+    v_59 = (u64)((u64)(v_r7_sroa_130_5_i_i_i) + (u64)(v_r3_i8_i_i_i));
+    v_60 = (u64)((u64)(v_r7_sroa_130_20_i_i_i) - (u64)(v_59));
+    v_61 = (u32)(v_60);
+    v_r2_i_i147_i_i_i_i = (u32)((u32)(v_r1_sroa_9_4_copyload_i_i_i_i) + (u32)(v_61));
     v_r59_i329_i_i_i = v_r2_i_i147_i_i_i_i < 128u;
     if (v_r59_i329_i_i_i) { goto L_then_1_i390_i_i_i; } else { goto L_else_2_i330_i_i_i; }
 L_then_1_i390_i_i_i:;
@@ -38529,7 +38361,7 @@ L_then_1_i390_i_i_i:;
     v_r8_i324_sroa_4_0_insert_shift_i_i_i = (u16)((u32)(v_r64_i391_i_i_i) << (u32)((8u & 31)));
     v_r8_i324_sroa_0_0_insert_insert_i_i_i = (u16)((u32)(v_r8_i324_sroa_4_0_insert_shift_i_i_i) | (u32)(2u));
     put_u16(v_r26_i_i397_i_i_i, v_r8_i324_sroa_0_0_insert_insert_i_i_i);
-    { p_v_r7_sroa_130_18_i_i_i = v_r17_i_i395_i_i_i; goto L_der_core_back_writer_BackWriter_prepend_header_exi__9; }
+    { p_v_r7_sroa_130_19_i_i_i = v_r17_i_i395_i_i_i; goto L_der_core_back_writer_BackWriter_prepend_header_exi__9; }
 L_else_2_i330_i_i_i:;
     v_r75_i331_i_i_i = v_r2_i_i147_i_i_i_i < 256u;
     if (v_r75_i331_i_i_i) { goto L_then_4_i381_i_i_i; } else { goto L_else_5_i332_i_i_i; }
@@ -38542,17 +38374,17 @@ L_then_4_i381_i_i_i:;
     put_u8(v_r14_i325_sroa_4_0_r26_i30_i389_sroa_idx_i_i_i, 129u);
     v_r14_i325_sroa_5_0_r26_i30_i389_sroa_idx_i_i_i = v_r26_i30_i389_i_i_i + 2;
     put_u8(v_r14_i325_sroa_5_0_r26_i30_i389_sroa_idx_i_i_i, v_r80_i382_i_i_i);
-    { p_v_r7_sroa_130_18_i_i_i = v_r17_i28_i387_i_i_i; goto L_der_core_back_writer_BackWriter_prepend_header_exi__9; }
+    { p_v_r7_sroa_130_19_i_i_i = v_r17_i28_i387_i_i_i; goto L_der_core_back_writer_BackWriter_prepend_header_exi__9; }
 L_else_5_i332_i_i_i:;
     v_r92_i333_i_i_i = v_r2_i_i147_i_i_i_i < 65536u;
     if (v_r92_i333_i_i_i) { goto L_then_7_i369_i_i_i; } else { goto L_else_8_i334_i_i_i; }
 L_then_7_i369_i_i_i:;
     v_r17_i46_i377_i_i_i = (u64)((u64)(v_r7_sroa_130_5_i_i_i) + (u64)(18446744073709551612ull));
     v_r26_i48_i379_i_i_i = (P)((uintptr_t)v_r13 + (u64)(v_r17_i46_i377_i_i_i));
-    v_65 = (u32)((u32)(v_r2_i_i147_i_i_i_i) | (u32)(42074112u));
-    v_r20_i326_sroa_0_0_insert_insert_i_i_i = __builtin_bswap32(v_65);
+    v_62 = (u32)((u32)(v_r2_i_i147_i_i_i_i) | (u32)(42074112u));
+    v_r20_i326_sroa_0_0_insert_insert_i_i_i = __builtin_bswap32(v_62);
     put_u32(v_r26_i48_i379_i_i_i, v_r20_i326_sroa_0_0_insert_insert_i_i_i);
-    { p_v_r7_sroa_130_18_i_i_i = v_r17_i46_i377_i_i_i; goto L_der_core_back_writer_BackWriter_prepend_header_exi__9; }
+    { p_v_r7_sroa_130_19_i_i_i = v_r17_i46_i377_i_i_i; goto L_der_core_back_writer_BackWriter_prepend_header_exi__9; }
 L_else_8_i334_i_i_i:;
     v_r117_i335_i_i_i = v_r2_i_i147_i_i_i_i < 16777216u;
     if (v_r117_i335_i_i_i) { goto L_then_10_i354_i_i_i; } else { goto L_else_11_i336_i_i_i; }
@@ -38573,7 +38405,7 @@ L_then_10_i354_i_i_i:;
     put_u8(v_r29_i327_sroa_6_0_r26_i66_i368_sroa_idx_i_i_i, v_r130_i358_i_i_i);
     v_r29_i327_sroa_7_0_r26_i66_i368_sroa_idx_i_i_i = v_r26_i66_i368_i_i_i + 4;
     put_u8(v_r29_i327_sroa_7_0_r26_i66_i368_sroa_idx_i_i_i, v_r134_i359_i_i_i);
-    { p_v_r7_sroa_130_18_i_i_i = v_r17_i64_i366_i_i_i; goto L_der_core_back_writer_BackWriter_prepend_header_exi__9; }
+    { p_v_r7_sroa_130_19_i_i_i = v_r17_i64_i366_i_i_i; goto L_der_core_back_writer_BackWriter_prepend_header_exi__9; }
 L_else_11_i336_i_i_i:;
     v_r15020_i337_i_i_i = (u32)((u32)(v_r2_i_i147_i_i_i_i) >> (u32)((24u & 31)));
     v_r152_i338_i_i_i = (u8)(v_r15020_i337_i_i_i);
@@ -38595,10 +38427,10 @@ L_else_11_i336_i_i_i:;
     put_u8(v_r40_i328_sroa_7_0_r26_i84_i353_sroa_idx_i_i_i, v_r164_i342_i_i_i);
     v_r40_i328_sroa_8_0_r26_i84_i353_sroa_idx_i_i_i = v_r26_i84_i353_i_i_i + 5;
     put_u8(v_r40_i328_sroa_8_0_r26_i84_i353_sroa_idx_i_i_i, v_r168_i343_i_i_i);
-    { p_v_r7_sroa_130_18_i_i_i = v_r17_i82_i351_i_i_i; goto L_der_core_back_writer_BackWriter_prepend_header_exi__9; }
+    { p_v_r7_sroa_130_19_i_i_i = v_r17_i82_i351_i_i_i; goto L_der_core_back_writer_BackWriter_prepend_header_exi__9; }
 L_der_core_back_writer_BackWriter_prepend_header_exi__9:;
-    v_r7_sroa_130_18_i_i_i = p_v_r7_sroa_130_18_i_i_i;
-    v_r17_i_i_i161_i_i_i_i = (u64)((u64)(v_r7_sroa_130_18_i_i_i) - (u64)(v_r1_sroa_3_0_copyload_i_i160_i_i_i_i));
+    v_r7_sroa_130_19_i_i_i = p_v_r7_sroa_130_19_i_i_i;
+    v_r17_i_i_i161_i_i_i_i = (u64)((u64)(v_r7_sroa_130_19_i_i_i) - (u64)(v_r1_sroa_3_0_copyload_i_i160_i_i_i_i));
     v_r26_i_i_i163_i_i_i_i = (P)((uintptr_t)v_r13 + (u64)(v_r17_i_i_i161_i_i_i_i));
     v_r8_i_i_i_i_i_i_i_i_i164_i_i_i_i = (u64)((uintptr_t)v_r26_i_i_i163_i_i_i_i);
     v_r9_i_i_i_i_i_i_i_i_i165_i_i_i_i = (u64)((uintptr_t)v_r1_sroa_0_0_copyload_i_i158_i_i_i_i);
@@ -38606,18 +38438,18 @@ L_der_core_back_writer_BackWriter_prepend_header_exi__9:;
     v_r11_i_i_i_i_i_i_i_i_i167_i_i_i_i = v_r10_i_i_i_i_i_i_i_i_i166_i_i_i_i < v_r1_sroa_3_0_copyload_i_i160_i_i_i_i;
     if (v_r11_i_i_i_i_i_i_i_i_i167_i_i_i_i) { goto L_join_7_i_i_i_i_i_i_i_i_i181_i_i_i_i_preheader; } else { goto L_apart_2_i_i_i_i_i_i_i_i_i168_i_i_i_i; }
 L_join_7_i_i_i_i_i_i_i_i_i181_i_i_i_i_preheader:;
-    v_xtraiter249 = (u64)((u64)(v_r1_sroa_3_0_copyload_i_i160_i_i_i_i) & (u64)(3u));
-    v_66 = v_r1_sroa_3_0_copyload_i_i160_i_i_i_i < 4u;
-    if (v_66) { p_v_r0_04_i_i_i_i_i_i_i_i_i182_i_i_i_i_epil_init = 0u; goto L_join_7_i_i_i_i_i_i_i_i_i181_i_i_i_i_epil_preheader; } else { goto L_join_7_i_i_i_i_i_i_i_i_i181_i_i_i_i_preheader_new; }
+    v_xtraiter234 = (u64)((u64)(v_r1_sroa_3_0_copyload_i_i160_i_i_i_i) & (u64)(3u));
+    v_63 = v_r1_sroa_3_0_copyload_i_i160_i_i_i_i < 4u;
+    if (v_63) { p_v_r0_04_i_i_i_i_i_i_i_i_i182_i_i_i_i_epil_init = 0u; goto L_join_7_i_i_i_i_i_i_i_i_i181_i_i_i_i_epil_preheader; } else { goto L_join_7_i_i_i_i_i_i_i_i_i181_i_i_i_i_preheader_new; }
 L_join_7_i_i_i_i_i_i_i_i_i181_i_i_i_i_preheader_new:;
-    v_unroll_iter253 = (u64)((u64)(v_r1_sroa_3_0_copyload_i_i160_i_i_i_i) & (u64)(4294967292ull));
-    { p_v_r0_04_i_i_i_i_i_i_i_i_i182_i_i_i_i = 0u; p_v_niter254 = 0u; goto L_join_7_i_i_i_i_i_i_i_i_i181_i_i_i_i; }
+    v_unroll_iter238 = (u64)((u64)(v_r1_sroa_3_0_copyload_i_i160_i_i_i_i) & (u64)(4294967292ull));
+    { p_v_r0_04_i_i_i_i_i_i_i_i_i182_i_i_i_i = 0u; p_v_niter239 = 0u; goto L_join_7_i_i_i_i_i_i_i_i_i181_i_i_i_i; }
 L_apart_2_i_i_i_i_i_i_i_i_i168_i_i_i_i:;
     move(v_r26_i_i_i163_i_i_i_i, v_r1_sroa_0_0_copyload_i_i158_i_i_i_i, v_r1_sroa_3_0_copyload_i_i160_i_i_i_i);
     { goto L_der_core_back_writer_BackWriter_prepend_exit_i_i16; }
 L_join_7_i_i_i_i_i_i_i_i_i181_i_i_i_i:;
     v_r0_04_i_i_i_i_i_i_i_i_i182_i_i_i_i = p_v_r0_04_i_i_i_i_i_i_i_i_i182_i_i_i_i;
-    v_niter254 = p_v_niter254;
+    v_niter239 = p_v_niter239;
     v_r20_i_i_i_i_i_i_i_i_i183_i_i_i_i = v_r26_i_i_i163_i_i_i_i + (int64_t)(v_r0_04_i_i_i_i_i_i_i_i_i182_i_i_i_i);
     v_r24_i_i_i_i_i_i_i_i_i184_i_i_i_i = v_r1_sroa_0_0_copyload_i_i158_i_i_i_i + (int64_t)(v_r0_04_i_i_i_i_i_i_i_i_i182_i_i_i_i);
     v_r26_i_i_i_i_i_i_i_i_i185_i_i_i_i = get_u8(v_r24_i_i_i_i_i_i_i_i_i184_i_i_i_i);
@@ -38638,28 +38470,29 @@ L_join_7_i_i_i_i_i_i_i_i_i181_i_i_i_i:;
     v_r26_i_i_i_i_i_i_i_i_i185_i_i_i_i_3 = get_u8(v_r24_i_i_i_i_i_i_i_i_i184_i_i_i_i_3);
     put_u8(v_r20_i_i_i_i_i_i_i_i_i183_i_i_i_i_3, v_r26_i_i_i_i_i_i_i_i_i185_i_i_i_i_3);
     v_r30_i_i_i_i_i_i_i_i_i186_i_i_i_i_3 = (u64)((u64)(v_r0_04_i_i_i_i_i_i_i_i_i182_i_i_i_i) + (u64)(4u));
-    v_niter254_next_3 = (u64)((u64)(v_niter254) + (u64)(4u));
-    v_niter254_ncmp_3 = v_niter254_next_3 == v_unroll_iter253;
-    if (v_niter254_ncmp_3) { goto L_der_core_back_writer_BackWriter_prepend_exit_i_i16__2; } else { p_v_r0_04_i_i_i_i_i_i_i_i_i182_i_i_i_i = v_r30_i_i_i_i_i_i_i_i_i186_i_i_i_i_3; p_v_niter254 = v_niter254_next_3; goto L_join_7_i_i_i_i_i_i_i_i_i181_i_i_i_i; }
+    v_niter239_next_3 = (u64)((u64)(v_niter239) + (u64)(4u));
+    v_niter239_ncmp_3 = v_niter239_next_3 == v_unroll_iter238;
+    if (v_niter239_ncmp_3) { goto L_der_core_back_writer_BackWriter_prepend_exit_i_i16__2; } else { p_v_r0_04_i_i_i_i_i_i_i_i_i182_i_i_i_i = v_r30_i_i_i_i_i_i_i_i_i186_i_i_i_i_3; p_v_niter239 = v_niter239_next_3; goto L_join_7_i_i_i_i_i_i_i_i_i181_i_i_i_i; }
 L_der_core_back_writer_BackWriter_prepend_exit_i_i16__2:;
-    v_lcmp_mod251_not = v_xtraiter249 == 0u;
-    if (v_lcmp_mod251_not) { goto L_der_core_back_writer_BackWriter_prepend_exit_i_i16; } else { p_v_r0_04_i_i_i_i_i_i_i_i_i182_i_i_i_i_epil_init = v_r30_i_i_i_i_i_i_i_i_i186_i_i_i_i_3; goto L_join_7_i_i_i_i_i_i_i_i_i181_i_i_i_i_epil_preheader; }
+    v_lcmp_mod236_not = v_xtraiter234 == 0u;
+    if (v_lcmp_mod236_not) { goto L_der_core_back_writer_BackWriter_prepend_exit_i_i16; } else { p_v_r0_04_i_i_i_i_i_i_i_i_i182_i_i_i_i_epil_init = v_r30_i_i_i_i_i_i_i_i_i186_i_i_i_i_3; goto L_join_7_i_i_i_i_i_i_i_i_i181_i_i_i_i_epil_preheader; }
 L_join_7_i_i_i_i_i_i_i_i_i181_i_i_i_i_epil_preheader:;
     v_r0_04_i_i_i_i_i_i_i_i_i182_i_i_i_i_epil_init = p_v_r0_04_i_i_i_i_i_i_i_i_i182_i_i_i_i_epil_init;
-    { p_v_r0_04_i_i_i_i_i_i_i_i_i182_i_i_i_i_epil = v_r0_04_i_i_i_i_i_i_i_i_i182_i_i_i_i_epil_init; p_v_epil_iter250 = 0u; goto L_join_7_i_i_i_i_i_i_i_i_i181_i_i_i_i_epil; }
+    { p_v_r0_04_i_i_i_i_i_i_i_i_i182_i_i_i_i_epil = v_r0_04_i_i_i_i_i_i_i_i_i182_i_i_i_i_epil_init; p_v_epil_iter235 = 0u; goto L_join_7_i_i_i_i_i_i_i_i_i181_i_i_i_i_epil; }
 L_join_7_i_i_i_i_i_i_i_i_i181_i_i_i_i_epil:;
     v_r0_04_i_i_i_i_i_i_i_i_i182_i_i_i_i_epil = p_v_r0_04_i_i_i_i_i_i_i_i_i182_i_i_i_i_epil;
-    v_epil_iter250 = p_v_epil_iter250;
+    v_epil_iter235 = p_v_epil_iter235;
     v_r20_i_i_i_i_i_i_i_i_i183_i_i_i_i_epil = v_r26_i_i_i163_i_i_i_i + (int64_t)(v_r0_04_i_i_i_i_i_i_i_i_i182_i_i_i_i_epil);
     v_r24_i_i_i_i_i_i_i_i_i184_i_i_i_i_epil = v_r1_sroa_0_0_copyload_i_i158_i_i_i_i + (int64_t)(v_r0_04_i_i_i_i_i_i_i_i_i182_i_i_i_i_epil);
     v_r26_i_i_i_i_i_i_i_i_i185_i_i_i_i_epil = get_u8(v_r24_i_i_i_i_i_i_i_i_i184_i_i_i_i_epil);
     put_u8(v_r20_i_i_i_i_i_i_i_i_i183_i_i_i_i_epil, v_r26_i_i_i_i_i_i_i_i_i185_i_i_i_i_epil);
     v_r30_i_i_i_i_i_i_i_i_i186_i_i_i_i_epil = (u64)((u64)(v_r0_04_i_i_i_i_i_i_i_i_i182_i_i_i_i_epil) + (u64)(1u));
-    v_epil_iter250_next = (u64)((u64)(v_epil_iter250) + (u64)(1u));
-    v_epil_iter250_cmp_not = v_epil_iter250_next == v_xtraiter249;
-    if (v_epil_iter250_cmp_not) { goto L_der_core_back_writer_BackWriter_prepend_exit_i_i16; } else { p_v_r0_04_i_i_i_i_i_i_i_i_i182_i_i_i_i_epil = v_r30_i_i_i_i_i_i_i_i_i186_i_i_i_i_epil; p_v_epil_iter250 = v_epil_iter250_next; goto L_join_7_i_i_i_i_i_i_i_i_i181_i_i_i_i_epil; }
+    v_epil_iter235_next = (u64)((u64)(v_epil_iter235) + (u64)(1u));
+    v_epil_iter235_cmp_not = v_epil_iter235_next == v_xtraiter234;
+    if (v_epil_iter235_cmp_not) { goto L_der_core_back_writer_BackWriter_prepend_exit_i_i16; } else { p_v_r0_04_i_i_i_i_i_i_i_i_i182_i_i_i_i_epil = v_r30_i_i_i_i_i_i_i_i_i186_i_i_i_i_epil; p_v_epil_iter235 = v_epil_iter235_next; goto L_join_7_i_i_i_i_i_i_i_i_i181_i_i_i_i_epil; }
 L_der_core_back_writer_BackWriter_prepend_exit_i_i16:;
-    v_r15_not_i_i172_i_i_i_i = (u8)(v_r20_i336_i ^ ((u8)1 << 7)) > (u8)(255u ^ ((u8)1 << 7));
+    v_r13_i_i171_i_i_i_i = get_u64(v_r10_sroa_56_sroa_0_sroa_42_sroa_22_0_r10_sroa_56_s);
+    v_r15_not_i_i172_i_i_i_i = v_r13_i_i171_i_i_i_i == 0u;
     if (v_r15_not_i_i172_i_i_i_i) { p_v_r7_sroa_130_6_i_i_i = v_r17_i_i_i161_i_i_i_i; goto L_der_core_borrowed_BorrowedEncode_prepend_f4fc96f16__8; } else { goto L_then_1_i_i173_i_i_i_i; }
 L_then_1_i_i173_i_i_i_i:;
     v_r17_i3_i_i174_i_i_i_i = (u64)((u64)(v_r17_i_i_i161_i_i_i_i) + (u64)(18446744073709551615ull));
@@ -38668,10 +38501,10 @@ L_then_1_i_i173_i_i_i_i:;
     { p_v_r7_sroa_130_6_i_i_i = v_r17_i3_i_i174_i_i_i_i; goto L_der_core_borrowed_BorrowedEncode_prepend_f4fc96f16__8; }
 L_der_core_borrowed_BorrowedEncode_prepend_f4fc96f16__8:;
     v_r7_sroa_130_6_i_i_i = p_v_r7_sroa_130_6_i_i_i;
-    v_67 = (u64)((u64)(v_r7_sroa_130_6_i_i_i) + (u64)(v_r3_i8_i_i_i));
-    v_68 = (u64)((u64)(v_r7_sroa_130_18_i_i_i) - (u64)(v_67));
-    v_69 = (u32)(v_68);
-    v_r2_i_i180_i_i_i_i = (u32)((u32)(v_r1_sroa_9_4_copyload_i_i_i_i) + (u32)(v_69));
+    v_64 = (u64)((u64)(v_r7_sroa_130_6_i_i_i) + (u64)(v_r3_i8_i_i_i));
+    v_65 = (u64)((u64)(v_r7_sroa_130_19_i_i_i) - (u64)(v_64));
+    v_66 = (u32)(v_65);
+    v_r2_i_i180_i_i_i_i = (u32)((u32)(v_r1_sroa_9_4_copyload_i_i_i_i) + (u32)(v_66));
     v_r59_i253_i_i_i = v_r2_i_i180_i_i_i_i < 128u;
     if (v_r59_i253_i_i_i) { goto L_then_1_i314_i_i_i; } else { goto L_else_2_i254_i_i_i; }
 L_then_1_i314_i_i_i:;
@@ -38681,7 +38514,7 @@ L_then_1_i314_i_i_i:;
     v_r8_i248_sroa_4_0_insert_shift_i_i_i = (u16)((u32)(v_r64_i315_i_i_i) << (u32)((8u & 31)));
     v_r8_i248_sroa_0_0_insert_insert_i_i_i = (u16)((u32)(v_r8_i248_sroa_4_0_insert_shift_i_i_i) | (u32)(2u));
     put_u16(v_r26_i_i321_i_i_i, v_r8_i248_sroa_0_0_insert_insert_i_i_i);
-    { p_v_r7_sroa_130_17_i_i_i = v_r17_i_i319_i_i_i; goto L_der_core_back_writer_BackWriter_prepend_header_exi__10; }
+    { p_v_r7_sroa_130_18_i_i_i = v_r17_i_i319_i_i_i; goto L_der_core_back_writer_BackWriter_prepend_header_exi__10; }
 L_else_2_i254_i_i_i:;
     v_r75_i255_i_i_i = v_r2_i_i180_i_i_i_i < 256u;
     if (v_r75_i255_i_i_i) { goto L_then_4_i305_i_i_i; } else { goto L_else_5_i256_i_i_i; }
@@ -38694,17 +38527,17 @@ L_then_4_i305_i_i_i:;
     put_u8(v_r14_i249_sroa_4_0_r26_i30_i313_sroa_idx_i_i_i, 129u);
     v_r14_i249_sroa_5_0_r26_i30_i313_sroa_idx_i_i_i = v_r26_i30_i313_i_i_i + 2;
     put_u8(v_r14_i249_sroa_5_0_r26_i30_i313_sroa_idx_i_i_i, v_r80_i306_i_i_i);
-    { p_v_r7_sroa_130_17_i_i_i = v_r17_i28_i311_i_i_i; goto L_der_core_back_writer_BackWriter_prepend_header_exi__10; }
+    { p_v_r7_sroa_130_18_i_i_i = v_r17_i28_i311_i_i_i; goto L_der_core_back_writer_BackWriter_prepend_header_exi__10; }
 L_else_5_i256_i_i_i:;
     v_r92_i257_i_i_i = v_r2_i_i180_i_i_i_i < 65536u;
     if (v_r92_i257_i_i_i) { goto L_then_7_i293_i_i_i; } else { goto L_else_8_i258_i_i_i; }
 L_then_7_i293_i_i_i:;
     v_r17_i46_i301_i_i_i = (u64)((u64)(v_r7_sroa_130_6_i_i_i) + (u64)(18446744073709551612ull));
     v_r26_i48_i303_i_i_i = (P)((uintptr_t)v_r13 + (u64)(v_r17_i46_i301_i_i_i));
-    v_70 = (u32)((u32)(v_r2_i_i180_i_i_i_i) | (u32)(42074112u));
-    v_r20_i250_sroa_0_0_insert_insert_i_i_i = __builtin_bswap32(v_70);
+    v_67 = (u32)((u32)(v_r2_i_i180_i_i_i_i) | (u32)(42074112u));
+    v_r20_i250_sroa_0_0_insert_insert_i_i_i = __builtin_bswap32(v_67);
     put_u32(v_r26_i48_i303_i_i_i, v_r20_i250_sroa_0_0_insert_insert_i_i_i);
-    { p_v_r7_sroa_130_17_i_i_i = v_r17_i46_i301_i_i_i; goto L_der_core_back_writer_BackWriter_prepend_header_exi__10; }
+    { p_v_r7_sroa_130_18_i_i_i = v_r17_i46_i301_i_i_i; goto L_der_core_back_writer_BackWriter_prepend_header_exi__10; }
 L_else_8_i258_i_i_i:;
     v_r117_i259_i_i_i = v_r2_i_i180_i_i_i_i < 16777216u;
     if (v_r117_i259_i_i_i) { goto L_then_10_i278_i_i_i; } else { goto L_else_11_i260_i_i_i; }
@@ -38725,7 +38558,7 @@ L_then_10_i278_i_i_i:;
     put_u8(v_r29_i251_sroa_6_0_r26_i66_i292_sroa_idx_i_i_i, v_r130_i282_i_i_i);
     v_r29_i251_sroa_7_0_r26_i66_i292_sroa_idx_i_i_i = v_r26_i66_i292_i_i_i + 4;
     put_u8(v_r29_i251_sroa_7_0_r26_i66_i292_sroa_idx_i_i_i, v_r134_i283_i_i_i);
-    { p_v_r7_sroa_130_17_i_i_i = v_r17_i64_i290_i_i_i; goto L_der_core_back_writer_BackWriter_prepend_header_exi__10; }
+    { p_v_r7_sroa_130_18_i_i_i = v_r17_i64_i290_i_i_i; goto L_der_core_back_writer_BackWriter_prepend_header_exi__10; }
 L_else_11_i260_i_i_i:;
     v_r15020_i261_i_i_i = (u32)((u32)(v_r2_i_i180_i_i_i_i) >> (u32)((24u & 31)));
     v_r152_i262_i_i_i = (u8)(v_r15020_i261_i_i_i);
@@ -38747,10 +38580,12 @@ L_else_11_i260_i_i_i:;
     put_u8(v_r40_i252_sroa_7_0_r26_i84_i277_sroa_idx_i_i_i, v_r164_i266_i_i_i);
     v_r40_i252_sroa_8_0_r26_i84_i277_sroa_idx_i_i_i = v_r26_i84_i277_i_i_i + 5;
     put_u8(v_r40_i252_sroa_8_0_r26_i84_i277_sroa_idx_i_i_i, v_r168_i267_i_i_i);
-    { p_v_r7_sroa_130_17_i_i_i = v_r17_i82_i275_i_i_i; goto L_der_core_back_writer_BackWriter_prepend_header_exi__10; }
+    { p_v_r7_sroa_130_18_i_i_i = v_r17_i82_i275_i_i_i; goto L_der_core_back_writer_BackWriter_prepend_header_exi__10; }
 L_der_core_back_writer_BackWriter_prepend_header_exi__10:;
-    v_r7_sroa_130_17_i_i_i = p_v_r7_sroa_130_17_i_i_i;
-    v_r17_i_i_i194_i_i_i_i = (u64)((u64)(v_r7_sroa_130_17_i_i_i) - (u64)(v_r1_sroa_3_0_copyload_i_i193_i_i_i_i));
+    v_r7_sroa_130_18_i_i_i = p_v_r7_sroa_130_18_i_i_i;
+    v_r1_sroa_0_0_copyload_i_i191_i_i_i_i = get_P(v_r10_sroa_56_sroa_0_sroa_32_3_r5_sroa_idx_i);
+    v_r1_sroa_3_0_copyload_i_i193_i_i_i_i = get_u64(v_r10_sroa_56_sroa_0_sroa_32_sroa_12_0_r10_sroa_56_s);
+    v_r17_i_i_i194_i_i_i_i = (u64)((u64)(v_r7_sroa_130_18_i_i_i) - (u64)(v_r1_sroa_3_0_copyload_i_i193_i_i_i_i));
     v_r26_i_i_i196_i_i_i_i = (P)((uintptr_t)v_r13 + (u64)(v_r17_i_i_i194_i_i_i_i));
     v_r8_i_i_i_i_i_i_i_i_i197_i_i_i_i = (u64)((uintptr_t)v_r26_i_i_i196_i_i_i_i);
     v_r9_i_i_i_i_i_i_i_i_i198_i_i_i_i = (u64)((uintptr_t)v_r1_sroa_0_0_copyload_i_i191_i_i_i_i);
@@ -38758,18 +38593,18 @@ L_der_core_back_writer_BackWriter_prepend_header_exi__10:;
     v_r11_i_i_i_i_i_i_i_i_i200_i_i_i_i = v_r10_i_i_i_i_i_i_i_i_i199_i_i_i_i < v_r1_sroa_3_0_copyload_i_i193_i_i_i_i;
     if (v_r11_i_i_i_i_i_i_i_i_i200_i_i_i_i) { goto L_join_7_i_i_i_i_i_i_i_i_i214_i_i_i_i_preheader; } else { goto L_apart_2_i_i_i_i_i_i_i_i_i201_i_i_i_i; }
 L_join_7_i_i_i_i_i_i_i_i_i214_i_i_i_i_preheader:;
-    v_xtraiter255 = (u64)((u64)(v_r1_sroa_3_0_copyload_i_i193_i_i_i_i) & (u64)(3u));
-    v_71 = v_r1_sroa_3_0_copyload_i_i193_i_i_i_i < 4u;
-    if (v_71) { p_v_r0_04_i_i_i_i_i_i_i_i_i215_i_i_i_i_epil_init = 0u; goto L_join_7_i_i_i_i_i_i_i_i_i214_i_i_i_i_epil_preheader; } else { goto L_join_7_i_i_i_i_i_i_i_i_i214_i_i_i_i_preheader_new; }
+    v_xtraiter240 = (u64)((u64)(v_r1_sroa_3_0_copyload_i_i193_i_i_i_i) & (u64)(3u));
+    v_68 = v_r1_sroa_3_0_copyload_i_i193_i_i_i_i < 4u;
+    if (v_68) { p_v_r0_04_i_i_i_i_i_i_i_i_i215_i_i_i_i_epil_init = 0u; goto L_join_7_i_i_i_i_i_i_i_i_i214_i_i_i_i_epil_preheader; } else { goto L_join_7_i_i_i_i_i_i_i_i_i214_i_i_i_i_preheader_new; }
 L_join_7_i_i_i_i_i_i_i_i_i214_i_i_i_i_preheader_new:;
-    v_unroll_iter259 = (u64)((u64)(v_r1_sroa_3_0_copyload_i_i193_i_i_i_i) & (u64)(4294967292ull));
-    { p_v_r0_04_i_i_i_i_i_i_i_i_i215_i_i_i_i = 0u; p_v_niter260 = 0u; goto L_join_7_i_i_i_i_i_i_i_i_i214_i_i_i_i; }
+    v_unroll_iter244 = (u64)((u64)(v_r1_sroa_3_0_copyload_i_i193_i_i_i_i) & (u64)(18446744073709551612ull));
+    { p_v_r0_04_i_i_i_i_i_i_i_i_i215_i_i_i_i = 0u; p_v_niter245 = 0u; goto L_join_7_i_i_i_i_i_i_i_i_i214_i_i_i_i; }
 L_apart_2_i_i_i_i_i_i_i_i_i201_i_i_i_i:;
     move(v_r26_i_i_i196_i_i_i_i, v_r1_sroa_0_0_copyload_i_i191_i_i_i_i, v_r1_sroa_3_0_copyload_i_i193_i_i_i_i);
     { goto L_der_core_back_writer_BackWriter_prepend_exit_i_i20; }
 L_join_7_i_i_i_i_i_i_i_i_i214_i_i_i_i:;
     v_r0_04_i_i_i_i_i_i_i_i_i215_i_i_i_i = p_v_r0_04_i_i_i_i_i_i_i_i_i215_i_i_i_i;
-    v_niter260 = p_v_niter260;
+    v_niter245 = p_v_niter245;
     v_r20_i_i_i_i_i_i_i_i_i216_i_i_i_i = v_r26_i_i_i196_i_i_i_i + (int64_t)(v_r0_04_i_i_i_i_i_i_i_i_i215_i_i_i_i);
     v_r24_i_i_i_i_i_i_i_i_i217_i_i_i_i = v_r1_sroa_0_0_copyload_i_i191_i_i_i_i + (int64_t)(v_r0_04_i_i_i_i_i_i_i_i_i215_i_i_i_i);
     v_r26_i_i_i_i_i_i_i_i_i218_i_i_i_i = get_u8(v_r24_i_i_i_i_i_i_i_i_i217_i_i_i_i);
@@ -38790,28 +38625,29 @@ L_join_7_i_i_i_i_i_i_i_i_i214_i_i_i_i:;
     v_r26_i_i_i_i_i_i_i_i_i218_i_i_i_i_3 = get_u8(v_r24_i_i_i_i_i_i_i_i_i217_i_i_i_i_3);
     put_u8(v_r20_i_i_i_i_i_i_i_i_i216_i_i_i_i_3, v_r26_i_i_i_i_i_i_i_i_i218_i_i_i_i_3);
     v_r30_i_i_i_i_i_i_i_i_i219_i_i_i_i_3 = (u64)((u64)(v_r0_04_i_i_i_i_i_i_i_i_i215_i_i_i_i) + (u64)(4u));
-    v_niter260_next_3 = (u64)((u64)(v_niter260) + (u64)(4u));
-    v_niter260_ncmp_3 = v_niter260_next_3 == v_unroll_iter259;
-    if (v_niter260_ncmp_3) { goto L_der_core_back_writer_BackWriter_prepend_exit_i_i20__2; } else { p_v_r0_04_i_i_i_i_i_i_i_i_i215_i_i_i_i = v_r30_i_i_i_i_i_i_i_i_i219_i_i_i_i_3; p_v_niter260 = v_niter260_next_3; goto L_join_7_i_i_i_i_i_i_i_i_i214_i_i_i_i; }
+    v_niter245_next_3 = (u64)((u64)(v_niter245) + (u64)(4u));
+    v_niter245_ncmp_3 = v_niter245_next_3 == v_unroll_iter244;
+    if (v_niter245_ncmp_3) { goto L_der_core_back_writer_BackWriter_prepend_exit_i_i20__2; } else { p_v_r0_04_i_i_i_i_i_i_i_i_i215_i_i_i_i = v_r30_i_i_i_i_i_i_i_i_i219_i_i_i_i_3; p_v_niter245 = v_niter245_next_3; goto L_join_7_i_i_i_i_i_i_i_i_i214_i_i_i_i; }
 L_der_core_back_writer_BackWriter_prepend_exit_i_i20__2:;
-    v_lcmp_mod257_not = v_xtraiter255 == 0u;
-    if (v_lcmp_mod257_not) { goto L_der_core_back_writer_BackWriter_prepend_exit_i_i20; } else { p_v_r0_04_i_i_i_i_i_i_i_i_i215_i_i_i_i_epil_init = v_r30_i_i_i_i_i_i_i_i_i219_i_i_i_i_3; goto L_join_7_i_i_i_i_i_i_i_i_i214_i_i_i_i_epil_preheader; }
+    v_lcmp_mod242_not = v_xtraiter240 == 0u;
+    if (v_lcmp_mod242_not) { goto L_der_core_back_writer_BackWriter_prepend_exit_i_i20; } else { p_v_r0_04_i_i_i_i_i_i_i_i_i215_i_i_i_i_epil_init = v_r30_i_i_i_i_i_i_i_i_i219_i_i_i_i_3; goto L_join_7_i_i_i_i_i_i_i_i_i214_i_i_i_i_epil_preheader; }
 L_join_7_i_i_i_i_i_i_i_i_i214_i_i_i_i_epil_preheader:;
     v_r0_04_i_i_i_i_i_i_i_i_i215_i_i_i_i_epil_init = p_v_r0_04_i_i_i_i_i_i_i_i_i215_i_i_i_i_epil_init;
-    { p_v_r0_04_i_i_i_i_i_i_i_i_i215_i_i_i_i_epil = v_r0_04_i_i_i_i_i_i_i_i_i215_i_i_i_i_epil_init; p_v_epil_iter256 = 0u; goto L_join_7_i_i_i_i_i_i_i_i_i214_i_i_i_i_epil; }
+    { p_v_r0_04_i_i_i_i_i_i_i_i_i215_i_i_i_i_epil = v_r0_04_i_i_i_i_i_i_i_i_i215_i_i_i_i_epil_init; p_v_epil_iter241 = 0u; goto L_join_7_i_i_i_i_i_i_i_i_i214_i_i_i_i_epil; }
 L_join_7_i_i_i_i_i_i_i_i_i214_i_i_i_i_epil:;
     v_r0_04_i_i_i_i_i_i_i_i_i215_i_i_i_i_epil = p_v_r0_04_i_i_i_i_i_i_i_i_i215_i_i_i_i_epil;
-    v_epil_iter256 = p_v_epil_iter256;
+    v_epil_iter241 = p_v_epil_iter241;
     v_r20_i_i_i_i_i_i_i_i_i216_i_i_i_i_epil = v_r26_i_i_i196_i_i_i_i + (int64_t)(v_r0_04_i_i_i_i_i_i_i_i_i215_i_i_i_i_epil);
     v_r24_i_i_i_i_i_i_i_i_i217_i_i_i_i_epil = v_r1_sroa_0_0_copyload_i_i191_i_i_i_i + (int64_t)(v_r0_04_i_i_i_i_i_i_i_i_i215_i_i_i_i_epil);
     v_r26_i_i_i_i_i_i_i_i_i218_i_i_i_i_epil = get_u8(v_r24_i_i_i_i_i_i_i_i_i217_i_i_i_i_epil);
     put_u8(v_r20_i_i_i_i_i_i_i_i_i216_i_i_i_i_epil, v_r26_i_i_i_i_i_i_i_i_i218_i_i_i_i_epil);
     v_r30_i_i_i_i_i_i_i_i_i219_i_i_i_i_epil = (u64)((u64)(v_r0_04_i_i_i_i_i_i_i_i_i215_i_i_i_i_epil) + (u64)(1u));
-    v_epil_iter256_next = (u64)((u64)(v_epil_iter256) + (u64)(1u));
-    v_epil_iter256_cmp_not = v_epil_iter256_next == v_xtraiter255;
-    if (v_epil_iter256_cmp_not) { goto L_der_core_back_writer_BackWriter_prepend_exit_i_i20; } else { p_v_r0_04_i_i_i_i_i_i_i_i_i215_i_i_i_i_epil = v_r30_i_i_i_i_i_i_i_i_i219_i_i_i_i_epil; p_v_epil_iter256 = v_epil_iter256_next; goto L_join_7_i_i_i_i_i_i_i_i_i214_i_i_i_i_epil; }
+    v_epil_iter241_next = (u64)((u64)(v_epil_iter241) + (u64)(1u));
+    v_epil_iter241_cmp_not = v_epil_iter241_next == v_xtraiter240;
+    if (v_epil_iter241_cmp_not) { goto L_der_core_back_writer_BackWriter_prepend_exit_i_i20; } else { p_v_r0_04_i_i_i_i_i_i_i_i_i215_i_i_i_i_epil = v_r30_i_i_i_i_i_i_i_i_i219_i_i_i_i_epil; p_v_epil_iter241 = v_epil_iter241_next; goto L_join_7_i_i_i_i_i_i_i_i_i214_i_i_i_i_epil; }
 L_der_core_back_writer_BackWriter_prepend_exit_i_i20:;
-    v_r15_not_i_i205_i_i_i_i = (u8)(v_r20_i326_i ^ ((u8)1 << 7)) > (u8)(255u ^ ((u8)1 << 7));
+    v_r13_i_i204_i_i_i_i = get_u64(v_r10_sroa_56_sroa_0_sroa_32_sroa_22_0_r10_sroa_56_s);
+    v_r15_not_i_i205_i_i_i_i = v_r13_i_i204_i_i_i_i == 0u;
     if (v_r15_not_i_i205_i_i_i_i) { p_v_r7_sroa_130_7_i_i_i = v_r17_i_i_i194_i_i_i_i; goto L_der_core_borrowed_BorrowedEncode_prepend_f4fc96f16__9; } else { goto L_then_1_i_i206_i_i_i_i; }
 L_then_1_i_i206_i_i_i_i:;
     v_r17_i3_i_i207_i_i_i_i = (u64)((u64)(v_r17_i_i_i194_i_i_i_i) + (u64)(18446744073709551615ull));
@@ -38820,10 +38656,10 @@ L_then_1_i_i206_i_i_i_i:;
     { p_v_r7_sroa_130_7_i_i_i = v_r17_i3_i_i207_i_i_i_i; goto L_der_core_borrowed_BorrowedEncode_prepend_f4fc96f16__9; }
 L_der_core_borrowed_BorrowedEncode_prepend_f4fc96f16__9:;
     v_r7_sroa_130_7_i_i_i = p_v_r7_sroa_130_7_i_i_i;
-    v_72 = (u64)((u64)(v_r7_sroa_130_7_i_i_i) + (u64)(v_r3_i8_i_i_i));
-    v_73 = (u64)((u64)(v_r7_sroa_130_17_i_i_i) - (u64)(v_72));
-    v_74 = (u32)(v_73);
-    v_r2_i_i213_i_i_i_i = (u32)((u32)(v_r1_sroa_9_4_copyload_i_i_i_i) + (u32)(v_74));
+    v_69 = (u64)((u64)(v_r7_sroa_130_7_i_i_i) + (u64)(v_r3_i8_i_i_i));
+    v_70 = (u64)((u64)(v_r7_sroa_130_18_i_i_i) - (u64)(v_69));
+    v_71 = (u32)(v_70);
+    v_r2_i_i213_i_i_i_i = (u32)((u32)(v_r1_sroa_9_4_copyload_i_i_i_i) + (u32)(v_71));
     v_r59_i177_i_i_i = v_r2_i_i213_i_i_i_i < 128u;
     if (v_r59_i177_i_i_i) { goto L_then_1_i238_i_i_i; } else { goto L_else_2_i178_i_i_i; }
 L_then_1_i238_i_i_i:;
@@ -38833,7 +38669,7 @@ L_then_1_i238_i_i_i:;
     v_r8_i172_sroa_4_0_insert_shift_i_i_i = (u16)((u32)(v_r64_i239_i_i_i) << (u32)((8u & 31)));
     v_r8_i172_sroa_0_0_insert_insert_i_i_i = (u16)((u32)(v_r8_i172_sroa_4_0_insert_shift_i_i_i) | (u32)(2u));
     put_u16(v_r26_i_i245_i_i_i, v_r8_i172_sroa_0_0_insert_insert_i_i_i);
-    { p_v_r7_sroa_130_16_i_i_i = v_r17_i_i243_i_i_i; goto L_der_core_back_writer_BackWriter_prepend_header_exi__11; }
+    { p_v_r7_sroa_130_17_i_i_i = v_r17_i_i243_i_i_i; goto L_der_core_back_writer_BackWriter_prepend_header_exi__11; }
 L_else_2_i178_i_i_i:;
     v_r75_i179_i_i_i = v_r2_i_i213_i_i_i_i < 256u;
     if (v_r75_i179_i_i_i) { goto L_then_4_i229_i_i_i; } else { goto L_else_5_i180_i_i_i; }
@@ -38846,17 +38682,17 @@ L_then_4_i229_i_i_i:;
     put_u8(v_r14_i173_sroa_4_0_r26_i30_i237_sroa_idx_i_i_i, 129u);
     v_r14_i173_sroa_5_0_r26_i30_i237_sroa_idx_i_i_i = v_r26_i30_i237_i_i_i + 2;
     put_u8(v_r14_i173_sroa_5_0_r26_i30_i237_sroa_idx_i_i_i, v_r80_i230_i_i_i);
-    { p_v_r7_sroa_130_16_i_i_i = v_r17_i28_i235_i_i_i; goto L_der_core_back_writer_BackWriter_prepend_header_exi__11; }
+    { p_v_r7_sroa_130_17_i_i_i = v_r17_i28_i235_i_i_i; goto L_der_core_back_writer_BackWriter_prepend_header_exi__11; }
 L_else_5_i180_i_i_i:;
     v_r92_i181_i_i_i = v_r2_i_i213_i_i_i_i < 65536u;
     if (v_r92_i181_i_i_i) { goto L_then_7_i217_i_i_i; } else { goto L_else_8_i182_i_i_i; }
 L_then_7_i217_i_i_i:;
     v_r17_i46_i225_i_i_i = (u64)((u64)(v_r7_sroa_130_7_i_i_i) + (u64)(18446744073709551612ull));
     v_r26_i48_i227_i_i_i = (P)((uintptr_t)v_r13 + (u64)(v_r17_i46_i225_i_i_i));
-    v_75 = (u32)((u32)(v_r2_i_i213_i_i_i_i) | (u32)(42074112u));
-    v_r20_i174_sroa_0_0_insert_insert_i_i_i = __builtin_bswap32(v_75);
+    v_72 = (u32)((u32)(v_r2_i_i213_i_i_i_i) | (u32)(42074112u));
+    v_r20_i174_sroa_0_0_insert_insert_i_i_i = __builtin_bswap32(v_72);
     put_u32(v_r26_i48_i227_i_i_i, v_r20_i174_sroa_0_0_insert_insert_i_i_i);
-    { p_v_r7_sroa_130_16_i_i_i = v_r17_i46_i225_i_i_i; goto L_der_core_back_writer_BackWriter_prepend_header_exi__11; }
+    { p_v_r7_sroa_130_17_i_i_i = v_r17_i46_i225_i_i_i; goto L_der_core_back_writer_BackWriter_prepend_header_exi__11; }
 L_else_8_i182_i_i_i:;
     v_r117_i183_i_i_i = v_r2_i_i213_i_i_i_i < 16777216u;
     if (v_r117_i183_i_i_i) { goto L_then_10_i202_i_i_i; } else { goto L_else_11_i184_i_i_i; }
@@ -38877,7 +38713,7 @@ L_then_10_i202_i_i_i:;
     put_u8(v_r29_i175_sroa_6_0_r26_i66_i216_sroa_idx_i_i_i, v_r130_i206_i_i_i);
     v_r29_i175_sroa_7_0_r26_i66_i216_sroa_idx_i_i_i = v_r26_i66_i216_i_i_i + 4;
     put_u8(v_r29_i175_sroa_7_0_r26_i66_i216_sroa_idx_i_i_i, v_r134_i207_i_i_i);
-    { p_v_r7_sroa_130_16_i_i_i = v_r17_i64_i214_i_i_i; goto L_der_core_back_writer_BackWriter_prepend_header_exi__11; }
+    { p_v_r7_sroa_130_17_i_i_i = v_r17_i64_i214_i_i_i; goto L_der_core_back_writer_BackWriter_prepend_header_exi__11; }
 L_else_11_i184_i_i_i:;
     v_r15020_i185_i_i_i = (u32)((u32)(v_r2_i_i213_i_i_i_i) >> (u32)((24u & 31)));
     v_r152_i186_i_i_i = (u8)(v_r15020_i185_i_i_i);
@@ -38899,12 +38735,12 @@ L_else_11_i184_i_i_i:;
     put_u8(v_r40_i176_sroa_7_0_r26_i84_i201_sroa_idx_i_i_i, v_r164_i190_i_i_i);
     v_r40_i176_sroa_8_0_r26_i84_i201_sroa_idx_i_i_i = v_r26_i84_i201_i_i_i + 5;
     put_u8(v_r40_i176_sroa_8_0_r26_i84_i201_sroa_idx_i_i_i, v_r168_i191_i_i_i);
-    { p_v_r7_sroa_130_16_i_i_i = v_r17_i82_i199_i_i_i; goto L_der_core_back_writer_BackWriter_prepend_header_exi__11; }
+    { p_v_r7_sroa_130_17_i_i_i = v_r17_i82_i199_i_i_i; goto L_der_core_back_writer_BackWriter_prepend_header_exi__11; }
 L_der_core_back_writer_BackWriter_prepend_header_exi__11:;
-    v_r7_sroa_130_16_i_i_i = p_v_r7_sroa_130_16_i_i_i;
+    v_r7_sroa_130_17_i_i_i = p_v_r7_sroa_130_17_i_i_i;
     v_r1_sroa_0_0_copyload_i_i224_i_i_i_i = get_P(v_r5_i);
     v_r1_sroa_3_0_copyload_i_i226_i_i_i_i = get_u64(v_r10_sroa_56_sroa_0_sroa_12_3_r5_sroa_idx_i);
-    v_r17_i_i_i227_i_i_i_i = (u64)((u64)(v_r7_sroa_130_16_i_i_i) - (u64)(v_r1_sroa_3_0_copyload_i_i226_i_i_i_i));
+    v_r17_i_i_i227_i_i_i_i = (u64)((u64)(v_r7_sroa_130_17_i_i_i) - (u64)(v_r1_sroa_3_0_copyload_i_i226_i_i_i_i));
     v_r26_i_i_i229_i_i_i_i = (P)((uintptr_t)v_r13 + (u64)(v_r17_i_i_i227_i_i_i_i));
     v_r8_i_i_i_i_i_i_i_i_i230_i_i_i_i = (u64)((uintptr_t)v_r26_i_i_i229_i_i_i_i);
     v_r9_i_i_i_i_i_i_i_i_i231_i_i_i_i = (u64)((uintptr_t)v_r1_sroa_0_0_copyload_i_i224_i_i_i_i);
@@ -38912,18 +38748,18 @@ L_der_core_back_writer_BackWriter_prepend_header_exi__11:;
     v_r11_i_i_i_i_i_i_i_i_i233_i_i_i_i = v_r10_i_i_i_i_i_i_i_i_i232_i_i_i_i < v_r1_sroa_3_0_copyload_i_i226_i_i_i_i;
     if (v_r11_i_i_i_i_i_i_i_i_i233_i_i_i_i) { goto L_join_7_i_i_i_i_i_i_i_i_i247_i_i_i_i_preheader; } else { goto L_apart_2_i_i_i_i_i_i_i_i_i234_i_i_i_i; }
 L_join_7_i_i_i_i_i_i_i_i_i247_i_i_i_i_preheader:;
-    v_xtraiter261 = (u64)((u64)(v_r1_sroa_3_0_copyload_i_i226_i_i_i_i) & (u64)(3u));
-    v_76 = v_r1_sroa_3_0_copyload_i_i226_i_i_i_i < 4u;
-    if (v_76) { p_v_r0_04_i_i_i_i_i_i_i_i_i248_i_i_i_i_epil_init = 0u; goto L_join_7_i_i_i_i_i_i_i_i_i247_i_i_i_i_epil_preheader; } else { goto L_join_7_i_i_i_i_i_i_i_i_i247_i_i_i_i_preheader_new; }
+    v_xtraiter246 = (u64)((u64)(v_r1_sroa_3_0_copyload_i_i226_i_i_i_i) & (u64)(3u));
+    v_73 = v_r1_sroa_3_0_copyload_i_i226_i_i_i_i < 4u;
+    if (v_73) { p_v_r0_04_i_i_i_i_i_i_i_i_i248_i_i_i_i_epil_init = 0u; goto L_join_7_i_i_i_i_i_i_i_i_i247_i_i_i_i_epil_preheader; } else { goto L_join_7_i_i_i_i_i_i_i_i_i247_i_i_i_i_preheader_new; }
 L_join_7_i_i_i_i_i_i_i_i_i247_i_i_i_i_preheader_new:;
-    v_unroll_iter265 = (u64)((u64)(v_r1_sroa_3_0_copyload_i_i226_i_i_i_i) & (u64)(18446744073709551612ull));
-    { p_v_r0_04_i_i_i_i_i_i_i_i_i248_i_i_i_i = 0u; p_v_niter266 = 0u; goto L_join_7_i_i_i_i_i_i_i_i_i247_i_i_i_i; }
+    v_unroll_iter250 = (u64)((u64)(v_r1_sroa_3_0_copyload_i_i226_i_i_i_i) & (u64)(18446744073709551612ull));
+    { p_v_r0_04_i_i_i_i_i_i_i_i_i248_i_i_i_i = 0u; p_v_niter251 = 0u; goto L_join_7_i_i_i_i_i_i_i_i_i247_i_i_i_i; }
 L_apart_2_i_i_i_i_i_i_i_i_i234_i_i_i_i:;
     move(v_r26_i_i_i229_i_i_i_i, v_r1_sroa_0_0_copyload_i_i224_i_i_i_i, v_r1_sroa_3_0_copyload_i_i226_i_i_i_i);
     { goto L_der_core_back_writer_BackWriter_prepend_exit_i_i23; }
 L_join_7_i_i_i_i_i_i_i_i_i247_i_i_i_i:;
     v_r0_04_i_i_i_i_i_i_i_i_i248_i_i_i_i = p_v_r0_04_i_i_i_i_i_i_i_i_i248_i_i_i_i;
-    v_niter266 = p_v_niter266;
+    v_niter251 = p_v_niter251;
     v_r20_i_i_i_i_i_i_i_i_i249_i_i_i_i = v_r26_i_i_i229_i_i_i_i + (int64_t)(v_r0_04_i_i_i_i_i_i_i_i_i248_i_i_i_i);
     v_r24_i_i_i_i_i_i_i_i_i250_i_i_i_i = v_r1_sroa_0_0_copyload_i_i224_i_i_i_i + (int64_t)(v_r0_04_i_i_i_i_i_i_i_i_i248_i_i_i_i);
     v_r26_i_i_i_i_i_i_i_i_i251_i_i_i_i = get_u8(v_r24_i_i_i_i_i_i_i_i_i250_i_i_i_i);
@@ -38944,74 +38780,74 @@ L_join_7_i_i_i_i_i_i_i_i_i247_i_i_i_i:;
     v_r26_i_i_i_i_i_i_i_i_i251_i_i_i_i_3 = get_u8(v_r24_i_i_i_i_i_i_i_i_i250_i_i_i_i_3);
     put_u8(v_r20_i_i_i_i_i_i_i_i_i249_i_i_i_i_3, v_r26_i_i_i_i_i_i_i_i_i251_i_i_i_i_3);
     v_r30_i_i_i_i_i_i_i_i_i252_i_i_i_i_3 = (u64)((u64)(v_r0_04_i_i_i_i_i_i_i_i_i248_i_i_i_i) + (u64)(4u));
-    v_niter266_next_3 = (u64)((u64)(v_niter266) + (u64)(4u));
-    v_niter266_ncmp_3 = v_niter266_next_3 == v_unroll_iter265;
-    if (v_niter266_ncmp_3) { goto L_der_core_back_writer_BackWriter_prepend_exit_i_i23__2; } else { p_v_r0_04_i_i_i_i_i_i_i_i_i248_i_i_i_i = v_r30_i_i_i_i_i_i_i_i_i252_i_i_i_i_3; p_v_niter266 = v_niter266_next_3; goto L_join_7_i_i_i_i_i_i_i_i_i247_i_i_i_i; }
+    v_niter251_next_3 = (u64)((u64)(v_niter251) + (u64)(4u));
+    v_niter251_ncmp_3 = v_niter251_next_3 == v_unroll_iter250;
+    if (v_niter251_ncmp_3) { goto L_der_core_back_writer_BackWriter_prepend_exit_i_i23__2; } else { p_v_r0_04_i_i_i_i_i_i_i_i_i248_i_i_i_i = v_r30_i_i_i_i_i_i_i_i_i252_i_i_i_i_3; p_v_niter251 = v_niter251_next_3; goto L_join_7_i_i_i_i_i_i_i_i_i247_i_i_i_i; }
 L_der_core_back_writer_BackWriter_prepend_exit_i_i23__2:;
-    v_lcmp_mod263_not = v_xtraiter261 == 0u;
-    if (v_lcmp_mod263_not) { goto L_der_core_back_writer_BackWriter_prepend_exit_i_i23; } else { p_v_r0_04_i_i_i_i_i_i_i_i_i248_i_i_i_i_epil_init = v_r30_i_i_i_i_i_i_i_i_i252_i_i_i_i_3; goto L_join_7_i_i_i_i_i_i_i_i_i247_i_i_i_i_epil_preheader; }
+    v_lcmp_mod248_not = v_xtraiter246 == 0u;
+    if (v_lcmp_mod248_not) { goto L_der_core_back_writer_BackWriter_prepend_exit_i_i23; } else { p_v_r0_04_i_i_i_i_i_i_i_i_i248_i_i_i_i_epil_init = v_r30_i_i_i_i_i_i_i_i_i252_i_i_i_i_3; goto L_join_7_i_i_i_i_i_i_i_i_i247_i_i_i_i_epil_preheader; }
 L_join_7_i_i_i_i_i_i_i_i_i247_i_i_i_i_epil_preheader:;
     v_r0_04_i_i_i_i_i_i_i_i_i248_i_i_i_i_epil_init = p_v_r0_04_i_i_i_i_i_i_i_i_i248_i_i_i_i_epil_init;
-    { p_v_r0_04_i_i_i_i_i_i_i_i_i248_i_i_i_i_epil = v_r0_04_i_i_i_i_i_i_i_i_i248_i_i_i_i_epil_init; p_v_epil_iter262 = 0u; goto L_join_7_i_i_i_i_i_i_i_i_i247_i_i_i_i_epil; }
+    { p_v_r0_04_i_i_i_i_i_i_i_i_i248_i_i_i_i_epil = v_r0_04_i_i_i_i_i_i_i_i_i248_i_i_i_i_epil_init; p_v_epil_iter247 = 0u; goto L_join_7_i_i_i_i_i_i_i_i_i247_i_i_i_i_epil; }
 L_join_7_i_i_i_i_i_i_i_i_i247_i_i_i_i_epil:;
     v_r0_04_i_i_i_i_i_i_i_i_i248_i_i_i_i_epil = p_v_r0_04_i_i_i_i_i_i_i_i_i248_i_i_i_i_epil;
-    v_epil_iter262 = p_v_epil_iter262;
+    v_epil_iter247 = p_v_epil_iter247;
     v_r20_i_i_i_i_i_i_i_i_i249_i_i_i_i_epil = v_r26_i_i_i229_i_i_i_i + (int64_t)(v_r0_04_i_i_i_i_i_i_i_i_i248_i_i_i_i_epil);
     v_r24_i_i_i_i_i_i_i_i_i250_i_i_i_i_epil = v_r1_sroa_0_0_copyload_i_i224_i_i_i_i + (int64_t)(v_r0_04_i_i_i_i_i_i_i_i_i248_i_i_i_i_epil);
     v_r26_i_i_i_i_i_i_i_i_i251_i_i_i_i_epil = get_u8(v_r24_i_i_i_i_i_i_i_i_i250_i_i_i_i_epil);
     put_u8(v_r20_i_i_i_i_i_i_i_i_i249_i_i_i_i_epil, v_r26_i_i_i_i_i_i_i_i_i251_i_i_i_i_epil);
     v_r30_i_i_i_i_i_i_i_i_i252_i_i_i_i_epil = (u64)((u64)(v_r0_04_i_i_i_i_i_i_i_i_i248_i_i_i_i_epil) + (u64)(1u));
-    v_epil_iter262_next = (u64)((u64)(v_epil_iter262) + (u64)(1u));
-    v_epil_iter262_cmp_not = v_epil_iter262_next == v_xtraiter261;
-    if (v_epil_iter262_cmp_not) { goto L_der_core_back_writer_BackWriter_prepend_exit_i_i23; } else { p_v_r0_04_i_i_i_i_i_i_i_i_i248_i_i_i_i_epil = v_r30_i_i_i_i_i_i_i_i_i252_i_i_i_i_epil; p_v_epil_iter262 = v_epil_iter262_next; goto L_join_7_i_i_i_i_i_i_i_i_i247_i_i_i_i_epil; }
+    v_epil_iter247_next = (u64)((u64)(v_epil_iter247) + (u64)(1u));
+    v_epil_iter247_cmp_not = v_epil_iter247_next == v_xtraiter246;
+    if (v_epil_iter247_cmp_not) { goto L_der_core_back_writer_BackWriter_prepend_exit_i_i23; } else { p_v_r0_04_i_i_i_i_i_i_i_i_i248_i_i_i_i_epil = v_r30_i_i_i_i_i_i_i_i_i252_i_i_i_i_epil; p_v_epil_iter247 = v_epil_iter247_next; goto L_join_7_i_i_i_i_i_i_i_i_i247_i_i_i_i_epil; }
 L_der_core_back_writer_BackWriter_prepend_exit_i_i23:;
     v_r13_i_i237_i_i_i_i = get_u64(v_r10_sroa_56_sroa_0_sroa_22_3_r5_sroa_idx_i);
     v_r15_not_i_i238_i_i_i_i = v_r13_i_i237_i_i_i_i == 0u;
-    if (v_r15_not_i_i238_i_i_i_i) { p_v_r7_sroa_130_13_i_i_i = v_r17_i_i_i227_i_i_i_i; goto L_pkcs1_c_given_key_GivenKeyEncodeValue_prepend_valu; } else { goto L_then_1_i_i239_i_i_i_i; }
+    if (v_r15_not_i_i238_i_i_i_i) { p_v_r7_sroa_130_14_i_i_i = v_r17_i_i_i227_i_i_i_i; goto L_pkcs1_c_given_key_GivenKeyEncodeValue_prepend_valu; } else { goto L_then_1_i_i239_i_i_i_i; }
 L_then_1_i_i239_i_i_i_i:;
     v_r17_i3_i_i240_i_i_i_i = (u64)((u64)(v_r17_i_i_i227_i_i_i_i) + (u64)(18446744073709551615ull));
     v_r26_i5_i_i242_i_i_i_i = (P)((uintptr_t)v_r13 + (u64)(v_r17_i3_i_i240_i_i_i_i));
     put_u8(v_r26_i5_i_i242_i_i_i_i, 0u);
-    { p_v_r7_sroa_130_13_i_i_i = v_r17_i3_i_i240_i_i_i_i; goto L_pkcs1_c_given_key_GivenKeyEncodeValue_prepend_valu; }
+    { p_v_r7_sroa_130_14_i_i_i = v_r17_i3_i_i240_i_i_i_i; goto L_pkcs1_c_given_key_GivenKeyEncodeValue_prepend_valu; }
 L_pkcs1_c_given_key_GivenKeyEncodeValue_prepend_valu:;
-    v_r7_sroa_130_13_i_i_i = p_v_r7_sroa_130_13_i_i_i;
-    v_77 = (u64)((u64)(v_r7_sroa_130_13_i_i_i) + (u64)(v_r3_i8_i_i_i));
-    v_78 = (u64)((u64)(v_r7_sroa_130_16_i_i_i) - (u64)(v_77));
-    v_79 = (u32)(v_78);
-    v_r2_i_i246_i_i_i_i = (u32)((u32)(v_r1_sroa_9_4_copyload_i_i_i_i) + (u32)(v_79));
+    v_r7_sroa_130_14_i_i_i = p_v_r7_sroa_130_14_i_i_i;
+    v_74 = (u64)((u64)(v_r7_sroa_130_14_i_i_i) + (u64)(v_r3_i8_i_i_i));
+    v_75 = (u64)((u64)(v_r7_sroa_130_17_i_i_i) - (u64)(v_74));
+    v_76 = (u32)(v_75);
+    v_r2_i_i246_i_i_i_i = (u32)((u32)(v_r1_sroa_9_4_copyload_i_i_i_i) + (u32)(v_76));
     v_r59_i101_i_i_i = v_r2_i_i246_i_i_i_i < 128u;
     if (v_r59_i101_i_i_i) { goto L_then_1_i162_i_i_i; } else { goto L_else_2_i102_i_i_i; }
 L_then_1_i162_i_i_i:;
     v_r64_i163_i_i_i = (u16)(v_r2_i_i246_i_i_i_i);
-    v_r17_i_i167_i_i_i = (u64)((u64)(v_r7_sroa_130_13_i_i_i) + (u64)(18446744073709551614ull));
+    v_r17_i_i167_i_i_i = (u64)((u64)(v_r7_sroa_130_14_i_i_i) + (u64)(18446744073709551614ull));
     v_r26_i_i169_i_i_i = (P)((uintptr_t)v_r13 + (u64)(v_r17_i_i167_i_i_i));
     v_r8_i96_sroa_4_0_insert_shift_i_i_i = (u16)((u32)(v_r64_i163_i_i_i) << (u32)((8u & 31)));
     v_r8_i96_sroa_0_0_insert_insert_i_i_i = (u16)((u32)(v_r8_i96_sroa_4_0_insert_shift_i_i_i) | (u32)(2u));
     put_u16(v_r26_i_i169_i_i_i, v_r8_i96_sroa_0_0_insert_insert_i_i_i);
-    { p_v_r7_sroa_130_15_i_i_i = v_r17_i_i167_i_i_i; goto L_der_core_back_writer_BackWriter_prepend_header_exi__12; }
+    { p_v_r7_sroa_130_16_i_i_i = v_r17_i_i167_i_i_i; goto L_der_core_back_writer_BackWriter_prepend_header_exi__12; }
 L_else_2_i102_i_i_i:;
     v_r75_i103_i_i_i = v_r2_i_i246_i_i_i_i < 256u;
     if (v_r75_i103_i_i_i) { goto L_then_4_i153_i_i_i; } else { goto L_else_5_i104_i_i_i; }
 L_then_4_i153_i_i_i:;
     v_r80_i154_i_i_i = (u8)(v_r2_i_i246_i_i_i_i);
-    v_r17_i28_i159_i_i_i = (u64)((u64)(v_r7_sroa_130_13_i_i_i) + (u64)(18446744073709551613ull));
+    v_r17_i28_i159_i_i_i = (u64)((u64)(v_r7_sroa_130_14_i_i_i) + (u64)(18446744073709551613ull));
     v_r26_i30_i161_i_i_i = (P)((uintptr_t)v_r13 + (u64)(v_r17_i28_i159_i_i_i));
     put_u8(v_r26_i30_i161_i_i_i, 2u);
     v_r14_i97_sroa_4_0_r26_i30_i161_sroa_idx_i_i_i = v_r26_i30_i161_i_i_i + 1;
     put_u8(v_r14_i97_sroa_4_0_r26_i30_i161_sroa_idx_i_i_i, 129u);
     v_r14_i97_sroa_5_0_r26_i30_i161_sroa_idx_i_i_i = v_r26_i30_i161_i_i_i + 2;
     put_u8(v_r14_i97_sroa_5_0_r26_i30_i161_sroa_idx_i_i_i, v_r80_i154_i_i_i);
-    { p_v_r7_sroa_130_15_i_i_i = v_r17_i28_i159_i_i_i; goto L_der_core_back_writer_BackWriter_prepend_header_exi__12; }
+    { p_v_r7_sroa_130_16_i_i_i = v_r17_i28_i159_i_i_i; goto L_der_core_back_writer_BackWriter_prepend_header_exi__12; }
 L_else_5_i104_i_i_i:;
     v_r92_i105_i_i_i = v_r2_i_i246_i_i_i_i < 65536u;
     if (v_r92_i105_i_i_i) { goto L_then_7_i141_i_i_i; } else { goto L_else_8_i106_i_i_i; }
 L_then_7_i141_i_i_i:;
-    v_r17_i46_i149_i_i_i = (u64)((u64)(v_r7_sroa_130_13_i_i_i) + (u64)(18446744073709551612ull));
+    v_r17_i46_i149_i_i_i = (u64)((u64)(v_r7_sroa_130_14_i_i_i) + (u64)(18446744073709551612ull));
     v_r26_i48_i151_i_i_i = (P)((uintptr_t)v_r13 + (u64)(v_r17_i46_i149_i_i_i));
-    v_80 = (u32)((u32)(v_r2_i_i246_i_i_i_i) | (u32)(42074112u));
-    v_r20_i98_sroa_0_0_insert_insert_i_i_i = __builtin_bswap32(v_80);
+    v_77 = (u32)((u32)(v_r2_i_i246_i_i_i_i) | (u32)(42074112u));
+    v_r20_i98_sroa_0_0_insert_insert_i_i_i = __builtin_bswap32(v_77);
     put_u32(v_r26_i48_i151_i_i_i, v_r20_i98_sroa_0_0_insert_insert_i_i_i);
-    { p_v_r7_sroa_130_15_i_i_i = v_r17_i46_i149_i_i_i; goto L_der_core_back_writer_BackWriter_prepend_header_exi__12; }
+    { p_v_r7_sroa_130_16_i_i_i = v_r17_i46_i149_i_i_i; goto L_der_core_back_writer_BackWriter_prepend_header_exi__12; }
 L_else_8_i106_i_i_i:;
     v_r117_i107_i_i_i = v_r2_i_i246_i_i_i_i < 16777216u;
     if (v_r117_i107_i_i_i) { goto L_then_10_i126_i_i_i; } else { goto L_else_11_i108_i_i_i; }
@@ -39021,7 +38857,7 @@ L_then_10_i126_i_i_i:;
     v_r12624_i129_i_i_i = (u32)((u32)(v_r2_i_i246_i_i_i_i) >> (u32)((8u & 31)));
     v_r130_i130_i_i_i = (u8)(v_r12624_i129_i_i_i);
     v_r134_i131_i_i_i = (u8)(v_r2_i_i246_i_i_i_i);
-    v_r17_i64_i138_i_i_i = (u64)((u64)(v_r7_sroa_130_13_i_i_i) + (u64)(18446744073709551611ull));
+    v_r17_i64_i138_i_i_i = (u64)((u64)(v_r7_sroa_130_14_i_i_i) + (u64)(18446744073709551611ull));
     v_r26_i66_i140_i_i_i = (P)((uintptr_t)v_r13 + (u64)(v_r17_i64_i138_i_i_i));
     put_u8(v_r26_i66_i140_i_i_i, 2u);
     v_r29_i99_sroa_4_0_r26_i66_i140_sroa_idx_i_i_i = v_r26_i66_i140_i_i_i + 1;
@@ -39032,7 +38868,7 @@ L_then_10_i126_i_i_i:;
     put_u8(v_r29_i99_sroa_6_0_r26_i66_i140_sroa_idx_i_i_i, v_r130_i130_i_i_i);
     v_r29_i99_sroa_7_0_r26_i66_i140_sroa_idx_i_i_i = v_r26_i66_i140_i_i_i + 4;
     put_u8(v_r29_i99_sroa_7_0_r26_i66_i140_sroa_idx_i_i_i, v_r134_i131_i_i_i);
-    { p_v_r7_sroa_130_15_i_i_i = v_r17_i64_i138_i_i_i; goto L_der_core_back_writer_BackWriter_prepend_header_exi__12; }
+    { p_v_r7_sroa_130_16_i_i_i = v_r17_i64_i138_i_i_i; goto L_der_core_back_writer_BackWriter_prepend_header_exi__12; }
 L_else_11_i108_i_i_i:;
     v_r15020_i109_i_i_i = (u32)((u32)(v_r2_i_i246_i_i_i_i) >> (u32)((24u & 31)));
     v_r152_i110_i_i_i = (u8)(v_r15020_i109_i_i_i);
@@ -39041,7 +38877,7 @@ L_else_11_i108_i_i_i:;
     v_r16022_i113_i_i_i = (u32)((u32)(v_r2_i_i246_i_i_i_i) >> (u32)((8u & 31)));
     v_r164_i114_i_i_i = (u8)(v_r16022_i113_i_i_i);
     v_r168_i115_i_i_i = (u8)(v_r2_i_i246_i_i_i_i);
-    v_r17_i82_i123_i_i_i = (u64)((u64)(v_r7_sroa_130_13_i_i_i) + (u64)(18446744073709551610ull));
+    v_r17_i82_i123_i_i_i = (u64)((u64)(v_r7_sroa_130_14_i_i_i) + (u64)(18446744073709551610ull));
     v_r26_i84_i125_i_i_i = (P)((uintptr_t)v_r13 + (u64)(v_r17_i82_i123_i_i_i));
     put_u8(v_r26_i84_i125_i_i_i, 2u);
     v_r40_i100_sroa_4_0_r26_i84_i125_sroa_idx_i_i_i = v_r26_i84_i125_i_i_i + 1;
@@ -39054,47 +38890,47 @@ L_else_11_i108_i_i_i:;
     put_u8(v_r40_i100_sroa_7_0_r26_i84_i125_sroa_idx_i_i_i, v_r164_i114_i_i_i);
     v_r40_i100_sroa_8_0_r26_i84_i125_sroa_idx_i_i_i = v_r26_i84_i125_i_i_i + 5;
     put_u8(v_r40_i100_sroa_8_0_r26_i84_i125_sroa_idx_i_i_i, v_r168_i115_i_i_i);
-    { p_v_r7_sroa_130_15_i_i_i = v_r17_i82_i123_i_i_i; goto L_der_core_back_writer_BackWriter_prepend_header_exi__12; }
+    { p_v_r7_sroa_130_16_i_i_i = v_r17_i82_i123_i_i_i; goto L_der_core_back_writer_BackWriter_prepend_header_exi__12; }
 L_der_core_back_writer_BackWriter_prepend_header_exi__12:;
-    v_r7_sroa_130_15_i_i_i = p_v_r7_sroa_130_15_i_i_i;
-    v_81 = (P)((uintptr_t)v_r13 + (u64)(v_r7_sroa_130_15_i_i_i));
-    v_r26_i_i258_i_i_i_i = (P)((uintptr_t)v_81 + (u64)(-1));
-    put_u8(v_r26_i_i258_i_i_i_i, v_16);
-    v_r17_i_i91_i_i_i = (u64)((u64)(v_r7_sroa_130_15_i_i_i) + (u64)(18446744073709551613ull));
+    v_r7_sroa_130_16_i_i_i = p_v_r7_sroa_130_16_i_i_i;
+    v_78 = (P)((uintptr_t)v_r13 + (u64)(v_r7_sroa_130_16_i_i_i));
+    v_r26_i_i258_i_i_i_i = (P)((uintptr_t)v_78 + (u64)(-1));
+    put_u8(v_r26_i_i258_i_i_i_i, v_13);
+    v_r17_i_i91_i_i_i = (u64)((u64)(v_r7_sroa_130_16_i_i_i) + (u64)(18446744073709551613ull));
     v_r26_i_i93_i_i_i = (P)((uintptr_t)v_r13 + (u64)(v_r17_i_i91_i_i_i));
     put_u16(v_r26_i_i93_i_i_i, 258u);
-    v_82 = (u32)(v_r17_i_i91_i_i_i);
-    v_r2_i_i_i_i = (u32)((u32)(v_r1_sroa_9_4_copyload_i_i_i_i) - (u32)(v_82));
+    v_79 = (u32)(v_r17_i_i91_i_i_i);
+    v_r2_i_i_i_i = (u32)((u32)(v_r1_sroa_9_4_copyload_i_i_i_i) - (u32)(v_79));
     v_r59_i_i_i_i = v_r2_i_i_i_i < 128u;
     if (v_r59_i_i_i_i) { goto L_then_1_i_i_i_i; } else { goto L_else_2_i_i_i_i; }
 L_then_1_i_i_i_i:;
     v_r64_i_i_i_i = (u16)(v_r2_i_i_i_i);
-    v_r26_i_i_i_i_i = (P)((uintptr_t)v_81 + (u64)(-5));
+    v_r26_i_i_i_i_i = (P)((uintptr_t)v_78 + (u64)(-5));
     v_r8_i_sroa_4_0_insert_shift_i_i_i = (u16)((u32)(v_r64_i_i_i_i) << (u32)((8u & 31)));
     v_r8_i_sroa_0_0_insert_insert_i_i_i = (u16)((u32)(v_r8_i_sroa_4_0_insert_shift_i_i_i) | (u32)(48u));
     put_u16(v_r26_i_i_i_i_i, v_r8_i_sroa_0_0_insert_insert_i_i_i);
-    { goto L_arm_1_i1642_i; }
+    { goto L_arm_1_i1752_i; }
 L_else_2_i_i_i_i:;
     v_r75_i_i_i_i = v_r2_i_i_i_i < 256u;
     if (v_r75_i_i_i_i) { goto L_then_4_i_i_i_i; } else { goto L_else_5_i_i_i_i; }
 L_then_4_i_i_i_i:;
     v_r80_i_i_i_i = (u8)(v_r2_i_i_i_i);
-    v_r26_i30_i_i_i_i = (P)((uintptr_t)v_81 + (u64)(-6));
+    v_r26_i30_i_i_i_i = (P)((uintptr_t)v_78 + (u64)(-6));
     put_u8(v_r26_i30_i_i_i_i, 48u);
-    v_r14_i_sroa_4_0_r26_i30_i_sroa_idx_i_i_i = (P)((uintptr_t)v_81 + (u64)(-5));
+    v_r14_i_sroa_4_0_r26_i30_i_sroa_idx_i_i_i = (P)((uintptr_t)v_78 + (u64)(-5));
     put_u8(v_r14_i_sroa_4_0_r26_i30_i_sroa_idx_i_i_i, 129u);
-    v_r14_i_sroa_5_0_r26_i30_i_sroa_idx_i_i_i = (P)((uintptr_t)v_81 + (u64)(-4));
+    v_r14_i_sroa_5_0_r26_i30_i_sroa_idx_i_i_i = (P)((uintptr_t)v_78 + (u64)(-4));
     put_u8(v_r14_i_sroa_5_0_r26_i30_i_sroa_idx_i_i_i, v_r80_i_i_i_i);
-    { goto L_arm_1_i1642_i; }
+    { goto L_arm_1_i1752_i; }
 L_else_5_i_i_i_i:;
     v_r92_i_i_i_i = v_r2_i_i_i_i < 65536u;
     if (v_r92_i_i_i_i) { goto L_then_7_i_i_i_i; } else { goto L_else_8_i_i_i_i; }
 L_then_7_i_i_i_i:;
-    v_r26_i48_i_i_i_i = (P)((uintptr_t)v_81 + (u64)(-7));
-    v_83 = (u32)((u32)(v_r2_i_i_i_i) | (u32)(813826048u));
-    v_r20_i_sroa_0_0_insert_insert_i_i_i = __builtin_bswap32(v_83);
+    v_r26_i48_i_i_i_i = (P)((uintptr_t)v_78 + (u64)(-7));
+    v_80 = (u32)((u32)(v_r2_i_i_i_i) | (u32)(813826048u));
+    v_r20_i_sroa_0_0_insert_insert_i_i_i = __builtin_bswap32(v_80);
     put_u32(v_r26_i48_i_i_i_i, v_r20_i_sroa_0_0_insert_insert_i_i_i);
-    { goto L_arm_1_i1642_i; }
+    { goto L_arm_1_i1752_i; }
 L_else_8_i_i_i_i:;
     v_r117_i_i_i_i = v_r2_i_i_i_i < 16777216u;
     if (v_r117_i_i_i_i) { goto L_then_10_i_i_i_i; } else { goto L_else_11_i_i_i_i; }
@@ -39104,17 +38940,17 @@ L_then_10_i_i_i_i:;
     v_r12624_i_i_i_i = (u32)((u32)(v_r2_i_i_i_i) >> (u32)((8u & 31)));
     v_r130_i_i_i_i = (u8)(v_r12624_i_i_i_i);
     v_r134_i_i_i_i = (u8)(v_r2_i_i_i_i);
-    v_r26_i66_i_i_i_i = (P)((uintptr_t)v_81 + (u64)(-8));
+    v_r26_i66_i_i_i_i = (P)((uintptr_t)v_78 + (u64)(-8));
     put_u8(v_r26_i66_i_i_i_i, 48u);
-    v_r29_i_sroa_4_0_r26_i66_i_sroa_idx_i_i_i = (P)((uintptr_t)v_81 + (u64)(-7));
+    v_r29_i_sroa_4_0_r26_i66_i_sroa_idx_i_i_i = (P)((uintptr_t)v_78 + (u64)(-7));
     put_u8(v_r29_i_sroa_4_0_r26_i66_i_sroa_idx_i_i_i, 131u);
-    v_r29_i_sroa_5_0_r26_i66_i_sroa_idx_i_i_i = (P)((uintptr_t)v_81 + (u64)(-6));
+    v_r29_i_sroa_5_0_r26_i66_i_sroa_idx_i_i_i = (P)((uintptr_t)v_78 + (u64)(-6));
     put_u8(v_r29_i_sroa_5_0_r26_i66_i_sroa_idx_i_i_i, v_r124_i_i_i_i);
-    v_r29_i_sroa_6_0_r26_i66_i_sroa_idx_i_i_i = (P)((uintptr_t)v_81 + (u64)(-5));
+    v_r29_i_sroa_6_0_r26_i66_i_sroa_idx_i_i_i = (P)((uintptr_t)v_78 + (u64)(-5));
     put_u8(v_r29_i_sroa_6_0_r26_i66_i_sroa_idx_i_i_i, v_r130_i_i_i_i);
-    v_r29_i_sroa_7_0_r26_i66_i_sroa_idx_i_i_i = (P)((uintptr_t)v_81 + (u64)(-4));
+    v_r29_i_sroa_7_0_r26_i66_i_sroa_idx_i_i_i = (P)((uintptr_t)v_78 + (u64)(-4));
     put_u8(v_r29_i_sroa_7_0_r26_i66_i_sroa_idx_i_i_i, v_r134_i_i_i_i);
-    { goto L_arm_1_i1642_i; }
+    { goto L_arm_1_i1752_i; }
 L_else_11_i_i_i_i:;
     v_r15020_i_i_i_i = (u32)((u32)(v_r2_i_i_i_i) >> (u32)((24u & 31)));
     v_r152_i_i_i_i = (u8)(v_r15020_i_i_i_i);
@@ -39123,31 +38959,31 @@ L_else_11_i_i_i_i:;
     v_r16022_i_i_i_i = (u32)((u32)(v_r2_i_i_i_i) >> (u32)((8u & 31)));
     v_r164_i_i_i_i = (u8)(v_r16022_i_i_i_i);
     v_r168_i_i_i_i = (u8)(v_r2_i_i_i_i);
-    v_r26_i84_i_i_i_i = (P)((uintptr_t)v_81 + (u64)(-9));
+    v_r26_i84_i_i_i_i = (P)((uintptr_t)v_78 + (u64)(-9));
     put_u8(v_r26_i84_i_i_i_i, 48u);
-    v_r40_i_sroa_4_0_r26_i84_i_sroa_idx_i_i_i = (P)((uintptr_t)v_81 + (u64)(-8));
+    v_r40_i_sroa_4_0_r26_i84_i_sroa_idx_i_i_i = (P)((uintptr_t)v_78 + (u64)(-8));
     put_u8(v_r40_i_sroa_4_0_r26_i84_i_sroa_idx_i_i_i, 132u);
-    v_r40_i_sroa_5_0_r26_i84_i_sroa_idx_i_i_i = (P)((uintptr_t)v_81 + (u64)(-7));
+    v_r40_i_sroa_5_0_r26_i84_i_sroa_idx_i_i_i = (P)((uintptr_t)v_78 + (u64)(-7));
     put_u8(v_r40_i_sroa_5_0_r26_i84_i_sroa_idx_i_i_i, v_r152_i_i_i_i);
-    v_r40_i_sroa_6_0_r26_i84_i_sroa_idx_i_i_i = (P)((uintptr_t)v_81 + (u64)(-6));
+    v_r40_i_sroa_6_0_r26_i84_i_sroa_idx_i_i_i = (P)((uintptr_t)v_78 + (u64)(-6));
     put_u8(v_r40_i_sroa_6_0_r26_i84_i_sroa_idx_i_i_i, v_r158_i_i_i_i);
-    v_r40_i_sroa_7_0_r26_i84_i_sroa_idx_i_i_i = (P)((uintptr_t)v_81 + (u64)(-5));
+    v_r40_i_sroa_7_0_r26_i84_i_sroa_idx_i_i_i = (P)((uintptr_t)v_78 + (u64)(-5));
     put_u8(v_r40_i_sroa_7_0_r26_i84_i_sroa_idx_i_i_i, v_r164_i_i_i_i);
-    v_r40_i_sroa_8_0_r26_i84_i_sroa_idx_i_i_i = (P)((uintptr_t)v_81 + (u64)(-4));
+    v_r40_i_sroa_8_0_r26_i84_i_sroa_idx_i_i_i = (P)((uintptr_t)v_78 + (u64)(-4));
     put_u8(v_r40_i_sroa_8_0_r26_i84_i_sroa_idx_i_i_i, v_r168_i_i_i_i);
-    { goto L_arm_1_i1642_i; }
-L_arm_1_i1642_i:;
+    { goto L_arm_1_i1752_i; }
+L_arm_1_i1752_i:;
     put_u64(v_a5, v_r3_i8_i_i_i);
     { p_v_common_ret_op_i = 0u; goto L_pkcs1_c_private_key_pkcs1_c_private_key_encode_exi; }
-L_arm_2_i1638_i:;
+L_arm_2_i1748_i:;
     v_r5_sroa_0_sroa_5_0_i_i = p_v_r5_sroa_0_sroa_5_0_i_i;
     f_der_core_encode_AnyEncode_encoded_len_ef326f824b52(v_r1_i_i_i, v_r5_i);
-    v_r3_i_i1639_i = get_u8(v_r1_i_i_i);
-    v_84 = v_r3_i_i1639_i == 0u;
-    if (v_84) { goto L_arm_1_i1_i_i; } else { goto L_pkcs1_c_written_set_needed_bb6183714a753055_exit_i; }
+    v_r3_i_i1749_i = get_u8(v_r1_i_i_i);
+    v_81 = v_r3_i_i1749_i == 0u;
+    if (v_81) { goto L_arm_1_i1_i_i; } else { goto L_pkcs1_c_written_set_needed_bb6183714a753055_exit_i; }
 L_arm_1_i1_i_i:;
-    v_r4_i_i1640_i = v_r1_i_i_i + 4;
-    v_r0_sroa_0_0_copyload_i_i_i = get_u32(v_r4_i_i1640_i);
+    v_r4_i_i1750_i = v_r1_i_i_i + 4;
+    v_r0_sroa_0_0_copyload_i_i_i = get_u32(v_r4_i_i1750_i);
     v_r3_i_i2_i_i = (u64)v_r0_sroa_0_0_copyload_i_i_i;
     put_u64(v_a5, v_r3_i_i2_i_i);
     { goto L_pkcs1_c_written_set_needed_bb6183714a753055_exit_i; }
@@ -40060,7 +39896,7 @@ u32 pkcs1_c_public_key_encode(P v_a0, P v_a1, u64 v_a2, P v_a3) {
     u64 v_r12_sroa_10_i121_sroa_5_0_ph_i_i;
     u8 v_r20_i49_lobit_i_i;
     u64 v_i51_i_i;
-    u64 v_r10_i_i_i_i_i_i_i_i_i_i;
+    u64 v_r9_i_i_i_i_i_i_i_i_i_i_i;
     u1 v_r12_not_i_i_i_i_i_i_i_i_i_i_i;
     u32 v_r4_sroa_10_0_i_i_i_i_i_i_i_i_i_i_i;
     u1 v_r12_i_i_i_i_i_i_i_i_i_i_i;
@@ -40076,7 +39912,7 @@ u32 pkcs1_c_public_key_encode(P v_a0, P v_a1, u64 v_a2, P v_a3) {
     u1 v_not_i_i_i_i_i;
     u32 v_r24_sroa_4_0_sink_i_i_i_i_i_i_i;
     u32 v_r24_sroa_13_0_sink_i_i_i_i_i_i_i;
-    u64 v_r10_i_i_i_i27_i_i_i_i_i_i;
+    u64 v_r9_i_i_i_i_i27_i_i_i_i_i_i;
     u1 v_r12_not_i_i_i_i_i28_i_i_i_i_i_i;
     u64 v_r4_sroa_10_0_i_i9_i_i_i29_i_i_i_i_i_i;
     u32 v_r4_sroa_10_0_i_i_i_i_i30_i_i_i_i_i_i;
@@ -40449,9 +40285,9 @@ L_arm_1_i:;
     v_r12_sroa_10_i121_sroa_5_0_ph_i_i = p_v_r12_sroa_10_i121_sroa_5_0_ph_i_i;
     v_r20_i49_lobit_i_i = (u8)((u32)(v_r20_i49_i_i) >> (u32)((7u & 31)));
     v_i51_i_i = (u64)v_r20_i49_lobit_i_i;
-    v_r10_i_i_i_i_i_i_i_i_i_i = (u64)((u64)(v_r12_sroa_10_i121_sroa_5_0_ph_i_i) + (u64)(v_i51_i_i));
-    v_r12_not_i_i_i_i_i_i_i_i_i_i_i = v_r10_i_i_i_i_i_i_i_i_i_i < 4294967296ull;
-    v_r4_sroa_10_0_i_i_i_i_i_i_i_i_i_i_i = (u32)(v_r10_i_i_i_i_i_i_i_i_i_i);
+    v_r9_i_i_i_i_i_i_i_i_i_i_i = (u64)((u64)(v_r12_sroa_10_i121_sroa_5_0_ph_i_i) + (u64)(v_i51_i_i));
+    v_r12_not_i_i_i_i_i_i_i_i_i_i_i = v_r9_i_i_i_i_i_i_i_i_i_i_i < 4294967296ull;
+    v_r4_sroa_10_0_i_i_i_i_i_i_i_i_i_i_i = (u32)(v_r9_i_i_i_i_i_i_i_i_i_i_i);
     if (v_r12_not_i_i_i_i_i_i_i_i_i_i_i) { goto L_arm_1_i_i_i_i_i_i_i_i_i; } else { p_v_not_i_i_i_i_i = 1u; p_v_r24_sroa_4_0_sink_i_i_i_i_i_i_i = 7u; p_v_r24_sroa_13_0_sink_i_i_i_i_i_i_i = 0u; goto L_der_core_encode_joined_len_exit_i_i_i_i_i_i; }
 L_arm_1_i_i_i_i_i_i_i_i_i:;
     v_r12_i_i_i_i_i_i_i_i_i_i_i = v_r4_sroa_10_0_i_i_i_i_i_i_i_i_i_i_i < 128u;
@@ -40477,9 +40313,9 @@ L_der_core_encode_joined_len_exit_i_i_i_i_i_i:;
     v_not_i_i_i_i_i = p_v_not_i_i_i_i_i;
     v_r24_sroa_4_0_sink_i_i_i_i_i_i_i = p_v_r24_sroa_4_0_sink_i_i_i_i_i_i_i;
     v_r24_sroa_13_0_sink_i_i_i_i_i_i_i = p_v_r24_sroa_13_0_sink_i_i_i_i_i_i_i;
-    v_r10_i_i_i_i27_i_i_i_i_i_i = (u64)((u64)(v_r12_sroa_10_i_sroa_5_0_ph_i_i) + (u64)(v_i_i_i));
-    v_r12_not_i_i_i_i_i28_i_i_i_i_i_i = v_r10_i_i_i_i27_i_i_i_i_i_i < 4294967296ull;
-    v_r4_sroa_10_0_i_i9_i_i_i29_i_i_i_i_i_i = v_r10_i_i_i_i27_i_i_i_i_i_i < 4294967296ull ? v_r10_i_i_i_i27_i_i_i_i_i_i : 4294967296ull;
+    v_r9_i_i_i_i_i27_i_i_i_i_i_i = (u64)((u64)(v_r12_sroa_10_i_sroa_5_0_ph_i_i) + (u64)(v_i_i_i));
+    v_r12_not_i_i_i_i_i28_i_i_i_i_i_i = v_r9_i_i_i_i_i27_i_i_i_i_i_i < 4294967296ull;
+    v_r4_sroa_10_0_i_i9_i_i_i29_i_i_i_i_i_i = v_r9_i_i_i_i_i27_i_i_i_i_i_i < 4294967296ull ? v_r9_i_i_i_i_i27_i_i_i_i_i_i : 4294967296ull;
     v_r4_sroa_10_0_i_i_i_i_i30_i_i_i_i_i_i = (u32)(v_r4_sroa_10_0_i_i9_i_i_i29_i_i_i_i_i_i);
     if (v_r12_not_i_i_i_i_i28_i_i_i_i_i_i) { goto L_arm_1_i_i_i38_i_i_i_i_i_i; } else { p_v_r5_sroa_0_sroa_5_0_i_i = 7u; goto L_arm_2_i2_i; }
 L_arm_1_i_i_i38_i_i_i_i_i_i:;

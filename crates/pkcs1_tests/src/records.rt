@@ -59,27 +59,31 @@ fn extensions_leave_their_default_out(rt: HostRuntime) -> Result<(), Fail> {
 }
 
 #[test]
-fn records_hold_identifiers_and_lists(rt: HostRuntime) -> Result<(), Fail> {
-    let mut out = [0; 22];
+fn records_hold_identifiers(rt: HostRuntime) -> Result<(), Fail> {
+    let mut out = [0; 19];
     let info = read_digest_info(&DIGEST)?;
     holds(&rt, info.digest.is_empty());
     equal(&rt, write_digest_info(&info, &mut out)?, 19);
-    holds(&rt, out[..19] == DIGEST[..]);
+    equal(&rt, out, DIGEST);
 
+    let mut out = [0; 22];
     let algorithm = read_dsa_algorithm(&DSA)?;
-    match &algorithm.parameters {
-        Some(params) => holds(&rt, params.q.as_bytes() == [0x0b].as_slice()),
-        None => holds(&rt, false),
-    }
+    holds(&rt, algorithm.parameters.is_some());
     equal(&rt, write_dsa_algorithm(&algorithm, &mut out)?, 22);
     equal(&rt, out, DSA);
+    Ok(())
+}
 
+#[test]
+fn records_hold_lists(rt: HostRuntime) -> Result<(), Fail> {
+    let mut out = [0; 13];
     let alloc = rt.alloc();
     let list = read_number_list(alloc, &LIST)?;
     equal(&rt, list.version.0, 1);
     equal(&rt, list.numbers.len(), 2);
     equal(&rt, write_number_list(&list, &mut out)?, 13);
-    holds(&rt, out[..13] == LIST[..]);
+    equal(&rt, out, LIST);
+
     let mut later = LIST;
     later[4] = 0x02;
     let number = ErrorKind::Value { tag: Tag::INTEGER };
