@@ -25,3 +25,4 @@ pub mod SourceMoves
 pub mod StoppedWriting
 pub mod TaggedReadings
 pub mod WorkedLengths
+pub mod QuickReading

@@ -28,7 +28,8 @@ pub use Rattle.der_core.specs.Reading.{ReadsAll, ReadsEncoding, ReadsFront, Read
 pub use Rattle.der_core.specs.Reading.{TellsNext, TellsOfBytes}
 pub use Rattle.der_core.specs.Readings.{FrontReading, Reading, ReadsBy, ReadsContents, ReadsFronts, alone, expected}
 pub use Rattle.der_core.specs.Readings.{front_done, front_made, front_parts, in_range, is_next, items, last, made}
-pub use Rattle.der_core.specs.Readings.{no_parts, optional, parts, ranged, such, tagged, unless, whole, ◌>>=◌}
+pub use Rattle.der_core.specs.Readings.{no_parts, octets_of_all, optional, parts, ranged, such, tagged, unless, whole}
+pub use Rattle.der_core.specs.Readings.{◌>>=◌}
 pub use Rattle.der_core.specs.SequenceOf.{AllHave, ItemsContents, all_encodings}
 pub use Rattle.der_core.specs.SliceReaders.{left_of}
 pub use Rattle.der_core.specs.SourcesSinks.{AppendsFront, CountsFailure, GivesAll, GivesMore, GivesSome, OneFailed}

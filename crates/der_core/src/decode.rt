@@ -1,13 +1,14 @@
 //! Reading of values.
-ghost use Rattle.std.specs.Prelude.{ℕ, List};
+ghost use Rattle.std.specs.Prelude.{◌≡◌, ◌≤◌, ℕ, List, length, Ok, IfSome};
 ghost use Rattle.der_core.specs.Words.{Tlv, AllocatesIn, HoldsBytes, ReadsAll, ReadsFront, ReadsWhole, Returns};
 ghost use Rattle.der_core.specs.Words.{DecodesOrMemory, Prints, Spells, TellsNext};
-ghost use Rattle.der_core.specs.Words.{optional, tagged, whole};
+ghost use Rattle.der_core.specs.Words.{limit, octets_of_all, optional, tagged, whole};
 ghost use Rattle.std.specs.Option.{option_map};
 
 use crate::error::{ErrorKind, Result};
 use crate::grammar::{Contents, Encoding, FixedTag};
 use crate::header::Header;
+use crate::length::Length;
 use crate::memory::Memory;
 use crate::reader::{Octets, Reader, reject_if_failed};
 use crate::slice_reader::SliceReader;
@@ -23,6 +24,25 @@ pub trait DecodeValue<B: Octets, M: Memory>: Contents + Sized + Drop {
         requires { HoldsBytes (R.left reader.old) header.length }
         ensures { let before = R.left reader.old in
             ReadsWhole Self.value Self.read may_allocate result before (R.left reader.new) };
+
+    /// The contents octets of the encoding in front, if it has the tag, and what follows it, if that is quickly told.
+    #[inline(always)]
+    fn quick_split(_bytes: B, _tag: Tag) -> Option<(B, B)>
+        ensures contents { IfSome result (λ split.
+            tagged _tag octets_of_all (B.octets _bytes) ≡ Ok (B.octets split.0, B.octets split.1)) }
+        ensures bound { IfSome result (λ split. length (B.octets split.0) ≤ limit) }
+    {
+        None
+    }
+
+    /// The value with these contents octets, if that is quickly told.
+    #[inline(always)]
+    fn quick_value(_memory: M, _contents: B) -> Option<Self>
+        requires { length (B.octets _contents) ≤ limit }
+        ensures { IfSome result (λ x. Self.read (B.octets _contents) ≡ Ok (Self.value x)) }
+    {
+        None
+    }
 }
 
 /// A type whose values are read from their encodings.
@@ -34,6 +54,15 @@ pub trait Decode<B: Octets, M: Memory>: Encoding + Sized + Drop {
     fn decode<R: Reader<B>>(memory: M, reader: &mut R) -> Result<Self>
         ensures { let before = R.left reader.old in
             ReadsFront Self.value Self.read_front may_allocate result before (R.left reader.new) };
+
+    /// The value whose encoding is in front, and what follows it, if that is quickly told.
+    #[inline(always)]
+    fn quick(_memory: M, _bytes: B) -> Option<(Self, B)>
+        ensures { IfSome result (λ split.
+            Self.read_front (B.octets _bytes) ≡ Ok (Self.value split.0, B.octets split.1)) }
+    {
+        None
+    }
 
     /// Reads a whole slice: `Overflow` if it is longer than `Length::MAX`, `TrailingData` if bytes follow the encoding.
     fn from_der(memory: M, bytes: B) -> Result<Self>
@@ -52,12 +81,43 @@ impl<'a, M: Memory, T: DecodeValue<&'a [u8], M> + FixedTag> Decode<&'a [u8], M> 
     }
 
     #[inline(always)]
-    fn from_der(memory: M, bytes: &'a [u8]) -> Result<T> {
-        let mut reader = SliceReader::new(bytes)?;
-        let value = T::decode(memory, &mut reader)?;
-        reader.finish()?;
-        Ok(value)
+    fn quick(memory: M, bytes: &'a [u8]) -> Option<(T, &'a [u8])> {
+        match T::quick_split(bytes, T::TAG) {
+            Some((contents, rest)) => match T::quick_value(memory, contents) {
+                Some(value) => Some((value, rest)),
+                None => None,
+            },
+            None => None,
+        }
     }
+
+    #[inline(always)]
+    fn from_der(memory: M, bytes: &'a [u8]) -> Result<T> {
+        if bytes.len() <= Length::MAX.to_usize() {
+            if let Some((contents, [])) = T::quick_split(bytes, T::TAG) {
+                if let Some(value) = T::quick_value(memory, contents) {
+                    return Ok(value);
+                }
+            }
+        }
+        read_slowly(memory, bytes)
+    }
+}
+
+/// Reads a whole slice part by part.
+#[cold]
+#[inline(never)]
+fn read_slowly<'a, T: DecodeValue<&'a [u8], M> + FixedTag, M: Memory>(
+    memory: M,
+    bytes: &'a [u8],
+) -> Result<T>
+    ensures { let may = AllocatesIn (Tlv T.TAG.octet T.DecodeValue.may_allocate) bytes.now in
+        Returns T.value (whole (tagged T.TAG T.read) bytes.now) may result }
+{
+    let mut reader = SliceReader::new(bytes)?;
+    let value = read_encoding(memory, &mut reader)?;
+    reader.finish()?;
+    Ok(value)
 }
 
 /// Reads a whole slice of a type that may take memory: the value that it means, or the error of its first fault, or

@@ -10,6 +10,7 @@ use crate::grammar::{Contents, IntegerTag, TaggedBy};
 use crate::header::Header;
 use crate::length::Length;
 use crate::memory::Memory;
+use crate::quick::quick_short;
 use crate::reader::Reader;
 use crate::tag::Tag;
 use crate::writer::Writer;
@@ -60,6 +61,20 @@ impl<'a, M: Memory, const N: u8> DecodeValue<&'a [u8], M> for Expected<N> {
             return Err(reader.error(ErrorKind::Value { tag: Tag::INTEGER }));
         }
         Ok(Expected)
+    }
+
+    #[inline(always)]
+    fn quick_split(bytes: &'a [u8], tag: Tag) -> Option<(&'a [u8], &'a [u8])> {
+        quick_short(bytes, tag)
+    }
+
+    #[inline(always)]
+    fn quick_value(memory: M, contents: &'a [u8]) -> Option<Expected<N>> {
+        if u8::quick_value(memory, contents)? == N {
+            Some(Expected)
+        } else {
+            None
+        }
     }
 }
 

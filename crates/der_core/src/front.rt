@@ -1,5 +1,5 @@
 //! Rows of parts at the front of contents whose rest depends on them.
-ghost use Rattle.std.specs.Prelude.{List, [], ℕ};
+ghost use Rattle.std.specs.Prelude.{◌≡◌, List, [], ℕ, Ok, IfSome};
 ghost use Rattle.der_core.specs.Words.{AllocatesInParts, FrontReading, Prints, ReadsFrontAlike, ReadsFrontPrinted};
 ghost use Rattle.der_core.specs.Words.{ReadsRow, front_alike, front_done, front_end_law, front_parts, front_row_alike};
 ghost use Rattle.der_core.specs.Words.{front_row_law, row};
@@ -52,6 +52,15 @@ pub trait DecodeFront<B: Octets, M: Memory>: FrontRow + Sized + Drop {
     fn decode_front<R: Reader<B>>(memory: M, reader: &mut R) -> Result<Self>
         ensures { let before = R.left reader.old in
             ReadsRow Self.value Self.read_row may_allocate result before (R.left reader.new) };
+
+    /// The row in front, and what follows it, if that is quickly told.
+    #[inline(always)]
+    fn quick_front(_memory: M, _bytes: B) -> Option<(Self, B)>
+        ensures { IfSome result (λ split.
+            Self.read_row (B.octets _bytes) ≡ Ok (Self.value split.0, B.octets split.1)) }
+    {
+        None
+    }
 }
 
 impl FrontRow for () {
@@ -105,6 +114,11 @@ impl<'a, M: Memory> DecodeFront<&'a [u8], M> for () {
     fn decode_front<R: Reader<&'a [u8]>>(_memory: M, _reader: &mut R) -> Result<()> {
         Ok(())
     }
+
+    #[inline(always)]
+    fn quick_front(_memory: M, bytes: &'a [u8]) -> Option<((), &'a [u8])> {
+        Some(((), bytes))
+    }
 }
 
 impl<'a, M: Memory, A: Decode<&'a [u8], M>, B: DecodeFront<&'a [u8], M>> DecodeFront<&'a [u8], M>
@@ -117,5 +131,16 @@ impl<'a, M: Memory, A: Decode<&'a [u8], M>, B: DecodeFront<&'a [u8], M>> DecodeF
         let first = A::decode(memory, reader)?;
         let rest = B::decode_front(memory, reader)?;
         Ok((first, rest))
+    }
+
+    #[inline(always)]
+    fn quick_front(memory: M, bytes: &'a [u8]) -> Option<((A, B), &'a [u8])> {
+        match A::quick(memory, bytes) {
+            Some((first, behind)) => match B::quick_front(memory, behind) {
+                Some((rest, left)) => Some(((first, rest), left)),
+                None => None,
+            },
+            None => None,
+        }
     }
 }

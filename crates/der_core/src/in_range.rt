@@ -10,6 +10,7 @@ use crate::grammar::{Contents, IntegerTag, TaggedBy};
 use crate::header::Header;
 use crate::length::Length;
 use crate::memory::Memory;
+use crate::quick::quick_short;
 use crate::reader::Reader;
 use crate::tag::Tag;
 use crate::writer::Writer;
@@ -71,6 +72,21 @@ impl<'a, M: Memory, const MIN: u8, const MAX: u8> DecodeValue<&'a [u8], M> for I
             return Err(reader.error(ErrorKind::Value { tag: Tag::INTEGER }));
         }
         Ok(number)
+    }
+
+    #[inline(always)]
+    fn quick_split(bytes: &'a [u8], tag: Tag) -> Option<(&'a [u8], &'a [u8])> {
+        quick_short(bytes, tag)
+    }
+
+    #[inline(always)]
+    fn quick_value(memory: M, contents: &'a [u8]) -> Option<InRange<MIN, MAX>> {
+        let number = InRange(u8::quick_value(memory, contents)?);
+        if number.is_within() {
+            Some(number)
+        } else {
+            None
+        }
     }
 }
 

@@ -15,6 +15,7 @@ use crate::grammar::{Contents, Encoding, FixedTag};
 use crate::length::Length;
 use crate::memory::Memory;
 use crate::parts::DecodeParts;
+use crate::quick::quick_alone;
 use crate::reader::Reader;
 use crate::writer::Writer;
 
@@ -68,6 +69,15 @@ impl<'a, M: Memory, T: Decode<&'a [u8], M>> DecodeParts<&'a [u8], M> for Last<T>
     fn decode_parts<R: Reader<&'a [u8]>>(memory: M, reader: &mut R) -> Result<Last<T>> {
         let part = decode_last(memory, reader)?;
         Ok(Last(part))
+    }
+
+    #[inline(always)]
+    fn quick_parts(memory: M, contents: &'a [u8]) -> Option<Last<T>> {
+        if contents.is_empty() {
+            return Some(Last(None));
+        }
+        let part = quick_alone(memory, contents)?;
+        Some(Last(Some(part)))
     }
 }
 
@@ -135,6 +145,18 @@ impl<'a, M: Memory, T: DecodeValue<&'a [u8], M> + FixedTag> DecodeParts<&'a [u8]
         let part = decode_optional(memory, reader)?;
         reader.finish()?;
         Ok(LastByTag(Last(part)))
+    }
+
+    #[inline(always)]
+    fn quick_parts(memory: M, contents: &'a [u8]) -> Option<LastByTag<T>> {
+        match contents {
+            [] => Some(LastByTag(Last(None))),
+            [first, ..] if *first == T::TAG.octet() => {
+                let part = quick_alone(memory, contents)?;
+                Some(LastByTag(Last(Some(part))))
+            }
+            _ => None,
+        }
     }
 }
 

@@ -16,6 +16,7 @@ use crate::grammar::{Contents, EqualByValue, TagMarker, TaggedBy};
 use crate::header::Header;
 use crate::length::Length;
 use crate::memory::Memory;
+use crate::quick::quick_contents;
 use crate::reader::Reader;
 use crate::tag::Tag;
 use crate::writer::Writer;
@@ -122,6 +123,16 @@ impl<'a, M: Memory> DecodeValue<&'a [u8], M> for OctetStringRef<'a> {
     ) -> Result<OctetStringRef<'a>> {
         let bytes = reader.read_slice(header.length)?;
         Ok(OctetStringRef { bytes })
+    }
+
+    #[inline(always)]
+    fn quick_split(bytes: &'a [u8], tag: Tag) -> Option<(&'a [u8], &'a [u8])> {
+        quick_contents(bytes, tag)
+    }
+
+    #[inline(always)]
+    fn quick_value(_memory: M, contents: &'a [u8]) -> Option<OctetStringRef<'a>> {
+        Some(OctetStringRef { bytes: contents })
     }
 }
 

@@ -98,6 +98,24 @@ where
         let rest = decode_behind(memory, reader, T::TAG)?;
         Ok(OptionalThen(part, rest))
     }
+
+    #[inline(always)]
+    fn quick_parts(memory: M, contents: &'a [u8]) -> Option<OptionalThen<T, (A, B)>> {
+        if A::may_start_with(T::TAG) {
+            return None;
+        }
+        match contents {
+            [first, ..] if *first == T::TAG.octet() => {
+                let (part, behind) = T::quick(memory, contents)?;
+                let rest = <(A, B)>::quick_parts(memory, behind)?;
+                Some(OptionalThen(Some(part), rest))
+            }
+            _ => {
+                let rest = <(A, B)>::quick_parts(memory, contents)?;
+                Some(OptionalThen(None, rest))
+            }
+        }
+    }
 }
 
 impl<T, A, B> EncodeValue for OptionalThen<T, (A, B)>

@@ -1,6 +1,6 @@
 //! Parts of contents in a row, as a type: a nested pair that ends with `()`, as `(A, (B, ()))`, or with an OPTIONAL last
 //! part, as `(A, Last<B>)`. A row is written as contents, `(Borrowed(&self.a), (Borrowed(&self.b), ())).value_len()`.
-ghost use Rattle.std.specs.Prelude.{List, [], ℕ};
+ghost use Rattle.std.specs.Prelude.{◌≡◌, List, [], ℕ, Ok, IfSome};
 ghost use Rattle.der_core.specs.Words.{AllocatesInParts, Prints, ReadsWhole, alike, end_law, no_parts, one_spelling};
 ghost use Rattle.der_core.specs.Words.{parts, row, row_alike, row_law, row_shortest};
 
@@ -23,6 +23,14 @@ pub trait DecodeParts<B: Octets, M: Memory>: Contents + Sized + Drop {
     fn decode_parts<R: Reader<B>>(memory: M, reader: &mut R) -> Result<Self>
         ensures { let before = R.left reader.old in
             ReadsWhole Self.value Self.read may_allocate result before (R.left reader.new) };
+
+    /// The value with these contents octets, if that is quickly told.
+    #[inline(always)]
+    fn quick_parts(_memory: M, _contents: B) -> Option<Self>
+        ensures { IfSome result (λ x. Self.read (B.octets _contents) ≡ Ok (Self.value x)) }
+    {
+        None
+    }
 }
 
 impl Contents for () {
@@ -84,6 +92,11 @@ impl<'a, M: Memory> DecodeParts<&'a [u8], M> for () {
     fn decode_parts<R: Reader<&'a [u8]>>(_memory: M, reader: &mut R) -> Result<()> {
         reader.finish()
     }
+
+    #[inline(always)]
+    fn quick_parts(_memory: M, contents: &'a [u8]) -> Option<()> {
+        if contents.is_empty() { Some(()) } else { None }
+    }
 }
 
 impl<'a, M: Memory, A: Decode<&'a [u8], M>, B: DecodeParts<&'a [u8], M>> DecodeParts<&'a [u8], M>
@@ -96,6 +109,17 @@ impl<'a, M: Memory, A: Decode<&'a [u8], M>, B: DecodeParts<&'a [u8], M>> DecodeP
         let first = A::decode(memory, reader)?;
         let rest = B::decode_parts(memory, reader)?;
         Ok((first, rest))
+    }
+
+    #[inline(always)]
+    fn quick_parts(memory: M, contents: &'a [u8]) -> Option<(A, B)> {
+        match A::quick(memory, contents) {
+            Some((first, behind)) => match B::quick_parts(memory, behind) {
+                Some(rest) => Some((first, rest)),
+                None => None,
+            },
+            None => None,
+        }
     }
 }
 

@@ -12,7 +12,9 @@ use crate::header::Header;
 use crate::length::Length;
 use crate::memory::Memory;
 use crate::parts::DecodeParts;
+use crate::quick::quick_contents;
 use crate::reader::Reader;
+use crate::tag::Tag;
 use crate::writer::Writer;
 
 /// A type whose contents are a row of parts.
@@ -42,6 +44,17 @@ where
     fn decode_value<R: Reader<&'a [u8]>>(memory: M, reader: &mut R, _header: Header) -> Result<T> {
         let parts = T::Parts::decode_parts(memory, reader)?;
         Ok(T::from_parts(parts))
+    }
+
+    #[inline(always)]
+    fn quick_split(bytes: &'a [u8], tag: Tag) -> Option<(&'a [u8], &'a [u8])> {
+        quick_contents(bytes, tag)
+    }
+
+    #[inline(always)]
+    fn quick_value(memory: M, contents: &'a [u8]) -> Option<T> {
+        let parts = T::Parts::quick_parts(memory, contents)?;
+        Some(T::from_parts(parts))
     }
 }
 

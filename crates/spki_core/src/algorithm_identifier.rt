@@ -12,7 +12,7 @@ use crate::object_identifier::{AssociatedOid, ObjectIdentifier};
 use der_core::{
     BackWriter, Contents, Decode, DecodeParts, DecodeValue, Encode, EncodeValue, Encoding,
     EqualByValue, Error, ErrorKind, Header, Last, Length, Memory, Reader, Result, Sequence,
-    SequenceTag, TaggedBy, TryClone, Writer,
+    SequenceTag, Tag, TaggedBy, TryClone, Writer, quick_short,
 };
 use std::alloc::Global;
 use std::fmt;
@@ -111,6 +111,19 @@ impl<'a, M: Memory, O: ReadIdentifier<'a>, P: Decode<&'a [u8], M>> DecodeValue<&
             memory, reader,
         )?;
         Ok(O::algorithm_from_view(AlgorithmView { oid, parameters }))
+    }
+
+    #[inline(always)]
+    fn quick_split(bytes: &'a [u8], tag: Tag) -> Option<(&'a [u8], &'a [u8])> {
+        quick_short(bytes, tag)
+    }
+
+    #[inline(always)]
+    fn quick_value(memory: M, contents: &'a [u8]) -> Option<AlgorithmIdentifierOf<O, P>> {
+        let (oid, Last(parameters)) = <(IdentifierView<'a>, Last<P>)>::quick_parts(
+            memory, contents,
+        )?;
+        Some(O::algorithm_from_view(AlgorithmView { oid, parameters }))
     }
 }
 

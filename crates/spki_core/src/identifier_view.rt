@@ -13,7 +13,7 @@ use crate::object_identifier::{
 };
 use der_core::{
     BackWriter, Contents, DecodeValue, EncodeValue, Error, ErrorKind, Header, Length, Memory,
-    Reader, Result, TaggedBy, Writer,
+    Reader, Result, Tag, TaggedBy, Writer, quick_short,
 };
 
 /// An object identifier over its contents octets (X.690 8.19). Only `to_object_identifier` copies them.
@@ -178,6 +178,16 @@ impl<'a, M: Memory> DecodeValue<&'a [u8], M> for IdentifierView<'a> {
             Ok(oid) => Ok(oid),
             Err(e) => Err(reader.error(e.kind())),
         }
+    }
+
+    #[inline(always)]
+    fn quick_split(bytes: &'a [u8], tag: Tag) -> Option<(&'a [u8], &'a [u8])> {
+        quick_short(bytes, tag)
+    }
+
+    #[inline(always)]
+    fn quick_value(_memory: M, contents: &'a [u8]) -> Option<IdentifierView<'a>> {
+        IdentifierView::from_bytes(contents).ok()
     }
 }
 

@@ -17,7 +17,7 @@ ghost use Rattle.der_core.specs.Words.{object_identifier};
 
 use der_core::{
     BackWriter, Contents, DecodeValue, EncodeValue, EqualByValue, Error, ErrorKind, Header, Length,
-    Memory, Reader, Result, Tag, TagMarker, TaggedBy, Writer,
+    Memory, Reader, Result, Tag, TagMarker, TaggedBy, Writer, quick_short,
 };
 use std::hash::{Hash, Hasher};
 
@@ -270,6 +270,16 @@ impl<'a, M: Memory> DecodeValue<&'a [u8], M> for ObjectIdentifier {
             Ok(oid) => Ok(oid),
             Err(e) => Err(reader.error(e.kind())),
         }
+    }
+
+    #[inline(always)]
+    fn quick_split(bytes: &'a [u8], tag: Tag) -> Option<(&'a [u8], &'a [u8])> {
+        quick_short(bytes, tag)
+    }
+
+    #[inline(always)]
+    fn quick_value(_memory: M, contents: &'a [u8]) -> Option<ObjectIdentifier> {
+        ObjectIdentifier::from_bytes(contents).ok()
     }
 }
 

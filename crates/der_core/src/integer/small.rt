@@ -11,6 +11,7 @@ use crate::header::Header;
 use crate::integer::uint::integer;
 use crate::length::Length;
 use crate::memory::Memory;
+use crate::quick::quick_short;
 use crate::reader::Reader;
 use crate::tag::Tag;
 use crate::writer::Writer;
@@ -73,6 +74,20 @@ impl<'a, M: Memory> DecodeValue<&'a [u8], M> for u8 {
         match small(contents) {
             Ok(value) => Ok(value),
             Err(e) => Err(reader.error(e.kind())),
+        }
+    }
+
+    #[inline(always)]
+    fn quick_split(bytes: &'a [u8], tag: Tag) -> Option<(&'a [u8], &'a [u8])> {
+        quick_short(bytes, tag)
+    }
+
+    #[inline(always)]
+    fn quick_value(_memory: M, contents: &'a [u8]) -> Option<u8> {
+        match contents {
+            [value] if *value < 0x80 => Some(*value),
+            [0, value] if *value >= 0x80 => Some(*value),
+            _ => None,
         }
     }
 }

@@ -17,6 +17,7 @@ use crate::grammar::{Contents, Encoding, EqualByValue, IntegerTag, TaggedBy};
 use crate::header::Header;
 use crate::length::Length;
 use crate::memory::Memory;
+use crate::quick::quick_contents;
 use crate::reader::Reader;
 use crate::tag::Tag;
 use crate::try_clone::TryClone;
@@ -207,6 +208,24 @@ impl<'a, M: Memory> DecodeValue<&'a [u8], M> for UintRef<'a> {
         match integer(contents) {
             Ok(value) => Ok(value),
             Err(e) => Err(reader.error(e.kind())),
+        }
+    }
+
+    #[inline(always)]
+    fn quick_split(bytes: &'a [u8], tag: Tag) -> Option<(&'a [u8], &'a [u8])> {
+        quick_contents(bytes, tag)
+    }
+
+    #[inline(always)]
+    fn quick_value(_memory: M, contents: &'a [u8]) -> Option<UintRef<'a>> {
+        match contents {
+            [0, rest @ ..] => match rest {
+                [] => Some(UintRef { bytes: contents }),
+                [second, ..] if *second >= 0x80 => Some(UintRef { bytes: rest }),
+                _ => None,
+            },
+            [first, ..] if *first < 0x80 => Some(UintRef { bytes: contents }),
+            _ => None,
         }
     }
 }

@@ -1,0 +1,173 @@
+-- Quick reading: what it takes is what the functions of reading give.
+use Rattle.std.proofs.Common.{ℕ, suc, true, false, List, [], ◌∷◌, ◌≡◌, ◌≤◌, ◌<◌, ◌-◌, ◌+◌, ◌*◌, length, take, drop}
+use Rattle.std.proofs.Common.{refl, sym, ap, ◌∙◌, arith, Ok, Option, Some, None, slice_index_or, take_all}
+use Rattle.std.proofs.lemmas.Bool.Decides.{nat_tests}
+use Rattle.std.specs.Prelude.{nat_lt, ◌==◌, MatchOption, IfSome}
+use Rattle.std.specs.List.{IsSplitAt}
+use Rattle.std.specs.Int.Digits.{number_from_digits}
+use Rattle.der_core.specs.declared.tag.Tag.{Tag}
+use Rattle.der_core.specs.Input.{header_at, length_at}
+use Rattle.der_core.specs.Integer.{HoldsNumber}
+use Rattle.der_core.specs.Laws.Input.{ok_pair}
+use Rattle.der_core.specs.Laws.LengthReading.{length_at-complete}
+use Rattle.der_core.specs.Laws.Readings.{bind_ok}
+use Rattle.der_core.specs.Length.{IsBase256, IsLength, short, long, limit}
+use Rattle.der_core.specs.Readings.{Reading, FrontReading, ◌>>=◌, alone, contents_behind, ended, inside}
+use Rattle.der_core.specs.Readings.{octets_of_all, tagged, whole}
+use Rattle.der_core.specs.Tag.{is_allowed}
+
+-- Length octets: one, and one or two behind the first.
+pub one_octet : (b rest : List ℕ) (n : ℕ) → 1 ≤ length b → n ≡ slice_index_or b 0 0 → slice_index_or b 0 0 < 128
+    → rest ≡ take (length b - 1) (drop 1 b) → length_at b ≡ Ok (n, rest)
+one_octet [] rest n l is small r = absurd (omega (arith, l))
+one_octet (x ∷ xs) rest n l is small r =
+    let all : take (length (x ∷ xs) - 1) xs ≡ xs = take_all _ xs (omega arith) in
+    rw (is, r, all) (length_at-complete x (x ∷ []) xs (short small refl) (omega (arith, small)))
+
+pub two_octets : (b rest : List ℕ) (n : ℕ) → 2 ≤ length b → ((i : ℕ) → slice_index_or b i 0 < 256)
+    → slice_index_or b 0 0 ≡ 129 → 128 ≤ slice_index_or b 1 0 → n ≡ slice_index_or b 1 0
+    → rest ≡ take (length b - 2) (drop 2 b) → length_at b ≡ Ok (n, rest)
+two_octets [] rest n l bytes f high is r = absurd (omega (arith, l))
+two_octets (x ∷ []) rest n l bytes f high is r = absurd (omega (arith, l))
+two_octets (x ∷ y ∷ ys) rest n l bytes f high is r =
+    let all : take (length (x ∷ y ∷ ys) - 2) ys ≡ ys = take_all _ ys (omega arith) in
+    let value : number_from_digits 256 (y ∷ []) ≡ y = omega arith in
+    let base : IsBase256 y (y ∷ []) =
+    record { bytes = (bytes 1, tt); value = value; no_leading_zero = omega (arith, high) } in
+    let counted : IsLength y (129 ∷ y ∷ []) = long (y ∷ []) high (omega arith) base refl in
+    rw (f, is, r, all) (length_at-complete y (129 ∷ y ∷ []) ys counted (omega (arith, bytes 1)))
+
+pub three_octets : (b rest : List ℕ) (n : ℕ) → 3 ≤ length b → ((i : ℕ) → slice_index_or b i 0 < 256)
+    → slice_index_or b 0 0 ≡ 130 → 0 < slice_index_or b 1 0
+    → n ≡ slice_index_or b 1 0 * 256 + slice_index_or b 2 0
+    → rest ≡ take (length b - 3) (drop 3 b) → length_at b ≡ Ok (n, rest)
+three_octets [] rest n l bytes f high is r = absurd (omega (arith, l))
+three_octets (x ∷ []) rest n l bytes f high is r = absurd (omega (arith, l))
+three_octets (x ∷ y ∷ []) rest n l bytes f high is r = absurd (omega (arith, l))
+three_octets (x ∷ y ∷ z ∷ zs) rest n l bytes f high is r =
+    let all : take (length (x ∷ y ∷ z ∷ zs) - 3) zs ≡ zs = take_all _ zs (omega arith) in
+    let m : ℕ = y * 256 + z in
+    let value : number_from_digits 256 (y ∷ z ∷ []) ≡ y * 256 + z = omega arith in
+    let base : IsBase256 (y * 256 + z) (y ∷ z ∷ []) =
+    record { bytes = (bytes 1, (bytes 2, tt)); value = value; no_leading_zero = high } in
+    let counted : IsLength (y * 256 + z) (130 ∷ y ∷ z ∷ []) =
+    long (y ∷ z ∷ []) (omega (arith, high)) (omega arith) base refl in
+    rw (f, is, r, all)
+    (length_at-complete (y * 256 + z) (130 ∷ y ∷ z ∷ []) zs counted (omega (arith, bytes 1, bytes 2)))
+
+-- A tag, a length, and contents that are split there.
+header_is : (t n : ℕ) (b rest : List ℕ) → is_allowed t ≡ true → length_at b ≡ Ok (n, rest)
+    → header_at (t ∷ b) ≡ Ok ((t, n), rest)
+unfolding header_at
+header_is t n b rest allowed read = rw (allowed, read) refl
+
+split_there : (tag : Tag) (n : ℕ) (b front back : List ℕ) → IsSplitAt b n front back
+    → contents_behind tag ((tag.octet, n), b) ≡ Ok (front, back)
+split_there tag n b front back (within, is_front, is_back, front_len, back_len) =
+    let is : (tag.octet == tag.octet) ≡ true = grind (arith, nat_tests) in
+    let enough : nat_lt (length b) n ≡ false = grind (arith, nat_tests, within) in
+    rw (is, enough) (ap (λ x. Ok (x, drop n b)) (sym is_front) ∙ ap (λ y. Ok (front, y)) (sym is_back))
+
+tag_in_front : (tag : Tag) (n : ℕ) (b behind rest front back : List ℕ) → 1 ≤ length b
+    → slice_index_or b 0 0 ≡ tag.octet → behind ≡ take (length b - 1) (drop 1 b) → length_at behind ≡ Ok (n, rest)
+    → IsSplitAt rest n front back → tagged tag octets_of_all b ≡ Ok (front, back)
+tag_in_front tag n [] behind rest front back l t is read s = absurd (omega (arith, l))
+tag_in_front tag n (x ∷ xs) behind rest front back l t is read s =
+    let all : take (length (x ∷ xs) - 1) xs ≡ xs = take_all _ xs (omega arith) in
+    let read_there : length_at xs ≡ Ok (n, rest) = rw (is ∙ all) at read in
+    let header : header_at (x ∷ xs) ≡ Ok ((tag.octet, n), rest) =
+    rw t (header_is tag.octet n xs rest tag.allowed read_there) in
+    ap (λ r. r >>= λ h. contents_behind tag h >>= inside octets_of_all) header
+    ∙ ap (λ r. r >>= inside octets_of_all) (split_there tag n rest front back s)
+
+module _ {X : Type 0} (none : Type 0) (front back : X → List ℕ) (tag : Tag) where
+  split_found : (n : ℕ) (b behind rest : List ℕ) → 1 ≤ length b → slice_index_or b 0 0 ≡ tag.octet
+      → behind ≡ take (length b - 1) (drop 1 b) → length_at behind ≡ Ok (n, rest) → (r : Option X)
+      → MatchOption r none (λ p. IsSplitAt rest n (front p) (back p))
+      → IfSome r (λ p. tagged tag octets_of_all b ≡ Ok (front p, back p))
+  split_found n b behind rest l t is read None s = tt
+  split_found n b behind rest l t is read (Some p) s = tag_in_front tag n b behind rest (front p) (back p) l t is read s
+
+  pub short_found : (b : List ℕ) → 2 ≤ length b → slice_index_or b 0 0 ≡ tag.octet → slice_index_or b 1 0 < 128
+      → (r : Option X)
+      → MatchOption r none (λ p. IsSplitAt (take (length b - 2) (drop 2 b)) (slice_index_or b 1 0) (front p) (back p))
+      → IfSome r (λ p. tagged tag octets_of_all b ≡ Ok (front p, back p))
+  short_found [] l t small r s = absurd (omega (arith, l))
+  short_found (x ∷ []) l t small r s = absurd (omega (arith, l))
+  short_found (x ∷ y ∷ ys) l t small r s =
+      let all : take (length (x ∷ y ∷ ys) - 1) (y ∷ ys) ≡ y ∷ ys = take_all _ (y ∷ ys) (omega arith) in
+      let same : take (length (x ∷ y ∷ ys) - 2) ys ≡ take (length (y ∷ ys) - 1) ys =
+      take_all _ ys (omega arith) ∙ sym (take_all _ ys (omega arith)) in
+      split_found y (x ∷ y ∷ ys) (y ∷ ys) (take (length (x ∷ y ∷ ys) - 2) ys) (omega arith) t (sym all)
+      (one_octet (y ∷ ys) _ y (omega arith) refl small same) r s
+
+  pub two_found : (b c : List ℕ) → 2 ≤ length b → ((i : ℕ) → slice_index_or b i 0 < 256)
+      → slice_index_or b 0 0 ≡ tag.octet → c ≡ take (length b - 2) (drop 2 b) → 1 ≤ length c
+      → slice_index_or b 1 0 ≡ 129 → 128 ≤ slice_index_or c 0 0 → (r : Option X)
+      → MatchOption r none (λ p. IsSplitAt (take (length c - 1) (drop 1 c)) (slice_index_or c 0 0) (front p) (back p))
+      → IfSome r (λ p. tagged tag octets_of_all b ≡ Ok (front p, back p))
+  two_found [] c l bytes t is m f high r s = absurd (omega (arith, l))
+  two_found (x ∷ []) c l bytes t is m f high r s = absurd (omega (arith, l))
+  two_found (x ∷ y ∷ ys) c l bytes t is m f high r s =
+      let whole : c ≡ ys = is ∙ take_all _ ys (omega arith) in
+      let all : take (length (x ∷ y ∷ ys) - 1) (y ∷ ys) ≡ y ∷ ys = take_all _ (y ∷ ys) (omega arith) in
+      let some : 1 ≤ length ys = omega (arith, m, ap length whole) in
+      let same : take (length c - 1) (drop 1 c) ≡ take (length (y ∷ ys) - 2) (drop 1 ys) =
+      rw whole (ap (λ k. take k (drop 1 ys)) (omega (arith, some))) in
+      split_found (slice_index_or c 0 0) (x ∷ y ∷ ys) (y ∷ ys) (take (length c - 1) (drop 1 c)) (omega arith) t (sym all)
+      (two_octets (y ∷ ys) _ (slice_index_or c 0 0) (omega (arith, some)) (λ i. bytes (suc i)) f (rw whole at high)
+      (ap (λ z. slice_index_or z 0 0) whole) same) r s
+
+  pub three_found : (b c : List ℕ) → 2 ≤ length b → ((i : ℕ) → slice_index_or b i 0 < 256)
+      → slice_index_or b 0 0 ≡ tag.octet → c ≡ take (length b - 2) (drop 2 b) → 2 ≤ length c
+      → slice_index_or b 1 0 ≡ 130 → 0 < slice_index_or c 0 0 → (r : Option X)
+      → MatchOption r none (λ p. IsSplitAt (take (length c - 2) (drop 2 c))
+      (slice_index_or c 0 0 * 256 + slice_index_or c 1 0) (front p) (back p))
+      → IfSome r (λ p. tagged tag octets_of_all b ≡ Ok (front p, back p))
+  three_found [] c l bytes t is m f high r s = absurd (omega (arith, l))
+  three_found (x ∷ []) c l bytes t is m f high r s = absurd (omega (arith, l))
+  three_found (x ∷ y ∷ ys) c l bytes t is m f high r s =
+      let whole : c ≡ ys = is ∙ take_all _ ys (omega arith) in
+      let all : take (length (x ∷ y ∷ ys) - 1) (y ∷ ys) ≡ y ∷ ys = take_all _ (y ∷ ys) (omega arith) in
+      let some : 2 ≤ length ys = omega (arith, m, ap length whole) in
+      let same : take (length c - 2) (drop 2 c) ≡ take (length (y ∷ ys) - 3) (drop 2 ys) =
+      rw whole (ap (λ k. take k (drop 2 ys)) (omega (arith, some))) in
+      split_found _ (x ∷ y ∷ ys) (y ∷ ys) (take (length c - 2) (drop 2 c)) (omega arith) t (sym all)
+      (three_octets (y ∷ ys) _ _ (omega (arith, some)) (λ i. bytes (suc i)) f (rw whole at high)
+      (ap (λ z. slice_index_or z 0 0 * 256 + slice_index_or z 1 0) whole) same) r s
+
+-- The contents are read as a value.
+pub read_inside : {V : Type 0} (tag : Tag) (read : Reading V) (b front back : List ℕ) (v : V)
+    → tagged tag octets_of_all b ≡ Ok (front, back) → read front ≡ Ok v → tagged tag read b ≡ Ok (v, back)
+read_inside tag read b front back v e given =
+    let s = bind_ok (header_at b) (λ h. contents_behind tag h >>= inside octets_of_all) e in
+    let u = bind_ok (contents_behind tag s.0) (inside octets_of_all) s.2 in
+    let same = ok_pair u.0.0 front u.0.1 back u.2 in
+    ap (λ r. r >>= λ h. contents_behind tag h >>= inside read) s.1 ∙ ap (λ r. r >>= inside read) u.1
+    ∙ ap (λ x. read x >>= λ w. Ok (w, u.0.1)) same.0 ∙ ap (λ r. r >>= λ w. Ok (w, u.0.1)) given
+    ∙ ap (λ y. Ok (v, y)) same.1
+
+-- Nothing follows.
+pub read_alone : {V : Type 0} (at : FrontReading V) (b rest : List ℕ) (v : V) → at b ≡ Ok (v, rest) → rest ≡ []
+    → alone at b ≡ Ok v
+read_alone at b rest v e none = ap (λ r. r >>= λ p. ended p.0 p.1) e ∙ ap (λ r. ended v r) none
+
+pub read_whole : {V : Type 0} (at : FrontReading V) (b rest : List ℕ) (v : V) → length b ≤ limit
+    → at b ≡ Ok (v, rest) → rest ≡ [] → whole at b ≡ Ok v
+read_whole at b rest v within e none =
+    let small : nat_lt limit (length b) ≡ false = grind (arith, nat_tests, within) in
+    rw small (read_alone at b rest v e none)
+
+-- What is left behind a padding zero.
+starts_high : (xs : List ℕ) → 1 ≤ length xs → 128 ≤ slice_index_or xs 0 0 → ((i : ℕ) → slice_index_or xs i 0 < 256)
+    → HoldsNumber xs
+starts_high [] n h b = absurd (omega (arith, n))
+starts_high (x ∷ xs) n h b = (omega arith, (λ _. omega (arith, h)), b)
+
+pub rest_holds : (xs : List ℕ) → 1 ≤ length xs → 1 ≤ length (take (length xs - 1) (drop 1 xs))
+    → 128 ≤ slice_index_or (take (length xs - 1) (drop 1 xs)) 0 0 → ((i : ℕ) → slice_index_or xs i 0 < 256)
+    → HoldsNumber (take (length xs - 1) (drop 1 xs))
+rest_holds [] l n h b = absurd (omega (arith, l))
+rest_holds (x ∷ xs) l n h b =
+    let all : take (length (x ∷ xs) - 1) xs ≡ xs = take_all _ xs (omega arith) in
+    rw all (starts_high xs (rw all at n) (rw all at h) (λ i. b (suc i)))

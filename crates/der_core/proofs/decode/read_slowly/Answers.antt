@@ -1,0 +1,12 @@
+use Rattle.std.proofs.Common.{inr}
+use Rattle.std.proofs.lemmas.Result.{err_from_is_err_and}
+use Rattle.der_core.specs.Laws.SliceReaders.{left_of-bounded}
+use Rattle.der_core.specs.Readings.{tagged}
+use Rattle.der_core.proofs.ReadSteps.{whole_trailing}
+use Rattle.der_core.proofs.decode.read_slowly.Goals as goal
+
+pub returns-in_err-finish : goal.returns-in_err-finish
+returns-in_err-finish g c =
+    let p = err_from_is_err_and c.from_residual-in_err-finish.result c.from_residual-in_err-finish.ensures.1 in
+    rw (p.1, p.2) (inr (whole_trailing (tagged g.T.FixedTag.TAG g.T.Contents.read) _ _ _ _ _ c.in_ok-reader.ensures.ok
+    (left_of-bounded c.in_ok-reader.reader) c.in_ok-value.ensures c.in_err-finish.ensures.0))

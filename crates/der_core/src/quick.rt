@@ -1,0 +1,60 @@
+//! Quick reading: of what is met most, from slices, without kinds of errors. `None` says nothing of the bytes.
+ghost use Rattle.std.specs.Prelude.{◌≡◌, ◌≤◌, length, Ok, IfSome};
+ghost use Rattle.der_core.specs.Words.{alone, limit, octets_of_all, tagged};
+
+use crate::decode::Decode;
+use crate::memory::Memory;
+use crate::tag::Tag;
+
+/// The contents octets of the encoding in front, if it has the tag and a length of at most two octets behind the first,
+/// and what follows it.
+#[inline(always)]
+pub fn quick_contents(bytes: &[u8], tag: Tag) -> Option<(&[u8], &[u8])>
+    ensures contents { IfSome result (λ split.
+        tagged tag octets_of_all bytes.now ≡ Ok (split.0.now, split.1.now)) }
+    ensures bound { IfSome result (λ split. length split.0.now ≤ limit) }
+{
+    match bytes {
+        [first, form, rest @ ..] if *first == tag.octet() => {
+            if *form < 0x80 {
+                return rest.split_at_checked(*form as usize);
+            }
+            match rest {
+                [length, left @ ..] if *form == 0x81 && *length >= 0x80 => {
+                    left.split_at_checked(*length as usize)
+                }
+                [high, low, left @ ..] if *form == 0x82 && *high > 0 => {
+                    left.split_at_checked(*high as usize * 0x100 + *low as usize)
+                }
+                _ => None,
+            }
+        }
+        _ => None,
+    }
+}
+
+/// The same of an encoding with a length of one octet.
+#[inline(always)]
+pub fn quick_short(bytes: &[u8], tag: Tag) -> Option<(&[u8], &[u8])>
+    ensures contents { IfSome result (λ split.
+        tagged tag octets_of_all bytes.now ≡ Ok (split.0.now, split.1.now)) }
+    ensures bound { IfSome result (λ split. length split.0.now ≤ limit) }
+{
+    match bytes {
+        [first, length, rest @ ..] if *first == tag.octet() && *length < 0x80 => {
+            rest.split_at_checked(*length as usize)
+        }
+        _ => None,
+    }
+}
+
+/// The value that all of the bytes encode.
+#[inline(always)]
+pub fn quick_alone<'a, T: Decode<&'a [u8], M>, M: Memory>(memory: M, bytes: &'a [u8]) -> Option<T>
+    ensures { IfSome result (λ x. alone T.read_front bytes.now ≡ Ok (T.value x)) }
+{
+    match T::quick(memory, bytes) {
+        Some((value, rest)) if rest.is_empty() => Some(value),
+        _ => None,
+    }
+}
