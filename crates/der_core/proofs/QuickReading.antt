@@ -1,18 +1,19 @@
 -- Quick reading: what it takes is what the functions of reading give.
 use Rattle.std.proofs.Common.{ℕ, suc, true, false, List, [], ◌∷◌, ◌≡◌, ◌≤◌, ◌<◌, ◌-◌, ◌+◌, ◌*◌, length, take, drop}
-use Rattle.std.proofs.Common.{refl, sym, ap, ◌∙◌, arith, Ok, Option, Some, None, slice_index_or, take_all}
+use Rattle.std.proofs.Common.{refl, sym, ap, ◌∙◌, arith, Ok, Option, Some, None, slice_index_or, take_all, ⊎_elim}
 use Rattle.std.proofs.lemmas.Bool.Decides.{nat_tests}
 use Rattle.std.specs.Prelude.{nat_lt, ◌==◌, MatchOption, IfSome}
 use Rattle.std.specs.List.{IsSplitAt}
 use Rattle.std.specs.Int.Digits.{number_from_digits}
 use Rattle.der_core.specs.declared.tag.Tag.{Tag}
-use Rattle.der_core.specs.Input.{header_at, length_at}
+use Rattle.der_core.specs.Input.{front_of, header_at, length_at}
 use Rattle.der_core.specs.Integer.{HoldsNumber}
 use Rattle.der_core.specs.Laws.Input.{ok_pair}
-use Rattle.der_core.specs.Laws.LengthReading.{length_at-complete}
+use Rattle.der_core.specs.Laws.LengthReading.{chosen, length_at-complete}
 use Rattle.der_core.specs.Laws.Readings.{bind_ok}
+use Rattle.der_core.specs.Laws.TaggedReadings.{unexpected_not}
 use Rattle.der_core.specs.Length.{IsBase256, IsLength, short, long, limit}
-use Rattle.der_core.specs.Readings.{Reading, FrontReading, ◌>>=◌, alone, contents_behind, ended, inside}
+use Rattle.der_core.specs.Readings.{Reading, FrontReading, ◌>>=◌, alone, by_tag, contents_behind, ended, inside}
 use Rattle.der_core.specs.Readings.{octets_of_all, tagged, whole}
 use Rattle.der_core.specs.Tag.{is_allowed}
 
@@ -145,6 +146,26 @@ read_inside tag read b front back v e given =
     let same = ok_pair u.0.0 front u.0.1 back u.2 in
     ap (λ r. r >>= λ h. contents_behind tag h >>= inside read) s.1 ∙ ap (λ r. r >>= inside read) u.1
     ∙ ap (λ x. read x >>= λ w. Ok (w, u.0.1)) same.0 ∙ ap (λ r. r >>= λ w. Ok (w, u.0.1)) given
+    ∙ ap (λ y. Ok (v, y)) same.1
+
+-- The same where the tag's octet tells how they are read.
+tag_there : (tag : Tag) (h : (ℕ × ℕ) × List ℕ) (p : List ℕ × List ℕ) → contents_behind tag h ≡ Ok p
+    → (h.0.0 ≡ tag.octet) × (front_of h.0.1 h.1 ≡ Ok p)
+tag_there tag h p e =
+    ⊎_elim (λ w. let same : h.0.0 ≡ tag.octet = grind (arith, nat_tests, w.0) in (same, w.1))
+    (λ w. absurd (unexpected_not tag h.0.0 p w.1)) (chosen (h.0.0 == tag.octet) _ _ _ e)
+
+pub read_by_tag : {V : Type 0} (tag : Tag) (read : ℕ → Reading V) (b front back : List ℕ) (v : V)
+    → tagged tag octets_of_all b ≡ Ok (front, back) → read tag.octet front ≡ Ok v → by_tag read b ≡ Ok (v, back)
+read_by_tag tag read b front back v e given =
+    let s = bind_ok (header_at b) (λ h. contents_behind tag h >>= inside octets_of_all) e in
+    let u = bind_ok (contents_behind tag s.0) (inside octets_of_all) s.2 in
+    let same = ok_pair u.0.0 front u.0.1 back u.2 in
+    let there = tag_there tag s.0 u.0 u.1 in
+    ap (λ r. r >>= λ h. front_of h.0.1 h.1 >>= inside (read h.0.0)) s.1
+    ∙ ap (λ r. r >>= inside (read s.0.0.0)) there.1
+    ∙ ap (λ t. read t u.0.0 >>= λ w. Ok (w, u.0.1)) there.0
+    ∙ ap (λ x. read tag.octet x >>= λ w. Ok (w, u.0.1)) same.0 ∙ ap (λ r. r >>= λ w. Ok (w, u.0.1)) given
     ∙ ap (λ y. Ok (v, y)) same.1
 
 -- Nothing follows.

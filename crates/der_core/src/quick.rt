@@ -48,6 +48,18 @@ pub fn quick_short(bytes: &[u8], tag: Tag) -> Option<(&[u8], &[u8])>
     }
 }
 
+/// An encoding of any tag in front, with a length of one octet: its tag, its contents octets, and what follows it.
+#[inline(always)]
+pub fn quick_any(bytes: &[u8]) -> Option<(Tag, &[u8], &[u8])>
+    ensures contents { IfSome result (λ split.
+        tagged split.0 octets_of_all bytes.now ≡ Ok (split.1.now, split.2.now)) }
+    ensures bound { IfSome result (λ split. length split.1.now ≤ limit) }
+{
+    let tag = Tag::from_octet(*bytes.first()?).ok()?;
+    let (contents, rest) = quick_short(bytes, tag)?;
+    Some((tag, contents, rest))
+}
+
 /// The value that all of the bytes encode.
 #[inline(always)]
 pub fn quick_alone<'a, T: Decode<&'a [u8], M>, M: Memory>(memory: M, bytes: &'a [u8]) -> Option<T>

@@ -32,17 +32,21 @@ module _ {V : Type 0} (at : FrontReading V) where
       × ((i : List ℕ) → before ≡ Some i
       → (rest : List ℕ) × (front_read at i ≡ Ok (front, rest)) × (after ≡ Some rest))
 
+  -- They are in front of other primes that are read of what follows.
+  pub key_taken : (front : ℕ × Eight V (Unit {0})) (primes : Option (List (OtherPrime V))) (i rest : List ℕ)
+      → front_read at i ≡ Ok (front, rest) → others_read at front.0 rest ≡ Ok primes
+      → private_key_read at i ≡ Ok (key_from front.1 primes)
+  key_taken front primes i rest read others =
+      ap (λ r. r >>= λ q. made (key_from q.0.1) (others_read at q.0.0) q.1) read
+      ∙ ap (λ r. r >>= λ o. Ok (key_from front.1 o)) others
+
   pub key_gives : (front : ℕ × Eight V (Unit {0})) (primes : Option (List (OtherPrime V))) (before mid after : Input)
       (n : ℕ) → HoldsBytes before n → FrontGives front before mid
       → (read_from mid (others_read at front.0) ≡ Ok primes) × (after ≡ Some [])
       → (read_from before (private_key_read at) ≡ Ok (key_from front.1 primes)) × (after ≡ Some [])
   key_gives front primes None mid after n holds gives others = absurd holds
   key_gives front primes (Some i) mid after n holds gives others =
-      let g = gives.1 i refl in (
-        ap (λ r. r >>= λ q. made (key_from q.0.1) (others_read at q.0.0) q.1) g.1
-            ∙ ap (λ r. r >>= λ o. Ok (key_from front.1 o)) (rw g.2 at others.0),
-        others.1,
-      )
+      let g = gives.1 i refl in (key_taken front primes i g.0 g.1 (rw g.2 at others.0), others.1)
 
   others_fault : (e : ErrorKind) (front : ℕ × Eight V (Unit {0})) (i : List ℕ) (mid : Input)
       → FrontGives front (Some i) mid → read_from mid (others_read at front.0) ≡ Err e

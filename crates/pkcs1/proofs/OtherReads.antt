@@ -1,14 +1,16 @@
 -- Reading the other primes of a private key, whatever holds them.
 use Rattle.std.proofs.Common.{◌≡◌, ◌↔◌, ℕ, ◌==◌, List, [], ◌∷◌, length, refl, sym, ap, ◌∙◌, arith, Option, inr}
 use Rattle.std.proofs.Common.{Some, None, Ok, Err, Bool, true, false, IsTrue, is_some}
-use Rattle.std.specs.Prelude.{not}
+use Rattle.std.proofs.lemmas.Bool.Decides.{nat_tests}
+use Rattle.std.specs.Prelude.{if◌then◌else◌, not, ◌≤◌, slice_index_or, Result}
 use Rattle.std.specs.Option.{option_map}
 use mathlib.Core.Bool.{beq}
 use Rattle.der_core.specs.declared.error.ErrorKind.{ErrorKind}
 use Rattle.der_core.specs.declared.error.ErrorKind.TheVariants as kind
 use Rattle.der_core.specs.Input.{Input, read_from, end_of}
 use Rattle.der_core.specs.Laws.Input.{ok_pair}
-use Rattle.der_core.specs.Readings.{FrontReading, ended, optional, tagged}
+use Rattle.der_core.specs.Laws.Readings.{bind_ok, ok_same}
+use Rattle.der_core.specs.Readings.{FrontReading, ◌>>=◌, alone, ended, optional, tagged}
 use Rattle.der_core.specs.Tags.{integer, sequence}
 use Rattle.der_core.proofs.ReadSteps.{Fails, Gives, chain_from}
 use Rattle.pkcs1.specs.declared.version.Version.{Version}
@@ -16,6 +18,30 @@ use Rattle.pkcs1.specs.declared.version.Version.TheVariants.{TwoPrime, Multi}
 use Rattle.pkcs1.specs.KeyReadings.{agreed, lists_none, others_read, primes_read}
 use Rattle.pkcs1.specs.Keys.{OtherPrime, version_of}
 use Rattle.pkcs1.specs.Versions.{number_of}
+
+-- All of some bytes are a list that isn't empty.
+pub others_taken : {V : Type 0} (at : FrontReading V) (b : List ℕ) (primes : List (OtherPrime V)) → 1 ≤ length b
+    → slice_index_or b 0 0 ≡ 48 → alone (tagged sequence (primes_read at)) b ≡ Ok primes → (length primes ≡ 0 → ⊥)
+    → others_read at 1 b ≡ Ok (Some primes)
+others_taken at [] primes l t read some = absurd (omega (arith, l))
+others_taken {V} at (x ∷ xs) primes l t read some =
+    let s = bind_ok (tagged sequence (primes_read at) (x ∷ xs)) (λ p. ended p.0 p.1) read in
+    let next : (x == 48) ≡ true = grind (arith, nat_tests, t) in
+    ap (λ b. judged (if b then found (tagged sequence (primes_read at) (x ∷ xs)) else Ok (None, x ∷ xs))) next
+    ∙ ap (λ r. judged (found r)) s.1
+    ∙ go s.0.0 s.0.1 s.2
+  where
+    found : Result (List (OtherPrime V) × List ℕ) ErrorKind → Result (Option (List (OtherPrime V)) × List ℕ) ErrorKind
+    found r = r >>= λ p. Ok (Some p.0, p.1)
+
+    judged : Result (Option (List (OtherPrime V)) × List ℕ) ErrorKind → Result (Option (List (OtherPrime V))) ErrorKind
+    judged r = r >>= λ q. agreed 1 q.0 q.1
+
+    go : (v : List (OtherPrime V)) (rest : List ℕ) → ended v rest ≡ Ok primes
+        → agreed 1 (Some v) rest ≡ Ok (Some primes)
+    go [] [] e = absurd (some (ap length (sym (ok_same e))))
+    go (o ∷ os) [] e = ap (λ p. Ok (Some p)) (ok_same e)
+    go v (y ∷ ys) e = cc
 
 is_not : (b : Bool) → not b ≡ true → b ≡ false
 is_not true e = cc

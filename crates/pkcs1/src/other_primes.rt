@@ -16,7 +16,7 @@ ghost use Rattle.standard.specs.Statement as standard;
 use crate::private_key::other_prime_info::OtherPrimeInfo;
 use der_core::{
     Contents, Decode, DecodeValue, Header, Memory, NoMemory, Reader, Result, SequenceTag,
-    SliceReader, TaggedBy, UintRef,
+    SliceReader, Tag, TaggedBy, UintRef, quick_contents,
 };
 
 /// An iterator over the other primes of a private key, in order. It borrows the input, allocates nothing, and knows how
@@ -48,6 +48,33 @@ fn read_other<'a, M: Memory>(
     Ok(other)
 }
 
+/// The first other prime, and the bytes after it, if that is quickly told.
+#[inline(always)]
+fn quick_other<'a>(bytes: &'a [u8]) -> Option<(OtherPrimeInfo<UintRef<'a>>, &'a [u8])>
+    ensures some { let value = ⟦<OtherPrimeInfo<UintRef<'static>> as Contents>⟧.value in
+        IfSome result (λ p. next_prime bytes.now ≡ Ok (value p.0, p.1.now)) }
+    ensures octets { AreBytes bytes.now }
+{
+    let split = OtherPrimeInfo::quick(NoMemory, bytes)?;
+    Some(split)
+}
+
+/// Counts the other primes whose encodings, in a row, are the bytes, if that is quickly told.
+#[inline(always)]
+fn quick_count(bytes: &[u8]) -> Option<usize>
+    requires { length bytes.now ≤ limit }
+    ensures { IfSome result (HoldsPrimes bytes.now) }
+{
+    let mut rest = bytes;
+    let mut count = 0;
+    while !rest.is_empty() {
+        let (_other, behind) = quick_other(rest)?;
+        rest = behind;
+        count += 1;
+    }
+    Some(count)
+}
+
 /// Decodes the first other prime, and returns it with the bytes after it. The bytes are octets.
 fn first_other<'a>(bytes: &'a [u8]) -> Result<(OtherPrimeInfo<UintRef<'a>>, &'a [u8])>
     requires { length bytes.now ≤ limit }
@@ -56,6 +83,9 @@ fn first_other<'a>(bytes: &'a [u8]) -> Result<(OtherPrimeInfo<UintRef<'a>>, &'a 
     ensures err { IfErr result (λ e. next_prime bytes.now ≡ Err e.kind) }
     ensures octets { AreBytes bytes.now }
 {
+    if let Some(split) = quick_other(bytes) {
+        return Ok(split);
+    }
     let mut reader = SliceReader::new(bytes)?;
     let other = read_other(NoMemory, &mut reader)?;
     let rest = reader.read_slice(reader.remaining_len())?;
@@ -161,6 +191,20 @@ impl<'a, M: Memory> DecodeValue<&'a [u8], M> for OtherPrimes<'a> {
             Ok(left) => Ok(OtherPrimes { bytes, left }),
             Err(e) => Err(reader.error(e.kind())),
         }
+    }
+
+    #[inline(always)]
+    fn quick_split(bytes: &'a [u8], tag: Tag) -> Option<(&'a [u8], &'a [u8])> {
+        quick_contents(bytes, tag)
+    }
+
+    #[inline(always)]
+    fn quick_value(_memory: M, contents: &'a [u8]) -> Option<OtherPrimes<'a>> {
+        let left = quick_count(contents)?;
+        Some(OtherPrimes {
+            bytes: contents,
+            left,
+        })
     }
 }
 

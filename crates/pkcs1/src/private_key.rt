@@ -15,7 +15,7 @@ use crate::version::Version;
 use der_core::{
     BackWriter, Contents, Decode, DecodeFront, DecodeValue, Encode, EncodeValue, Encoding,
     ErrorKind, Header, Length, Reader, Result, Sequence, SequenceTag, Tag, TaggedBy, Uint,
-    UintEncoding, UintRef, Writer,
+    UintEncoding, UintRef, Writer, quick_contents,
 };
 use other_prime_info::{OtherPrimeInfos, lists_none, read_other_primes};
 use std::alloc::{AllocError, Global};
@@ -159,6 +159,19 @@ impl<'a, U: Decode<&'a [u8], Global>> DecodeValue<&'a [u8], Global> for RsaPriva
         let (version, numbers) = KeyFront::<U>::decode_front(memory, reader)?;
         let others = read_other_primes(memory, reader, version)?;
         Ok(key_of(numbers, others))
+    }
+
+    #[inline(always)]
+    fn quick_split(bytes: &'a [u8], tag: Tag) -> Option<(&'a [u8], &'a [u8])> {
+        quick_contents(bytes, tag)
+    }
+
+    #[inline(always)]
+    fn quick_value(memory: Global, contents: &'a [u8]) -> Option<RsaPrivateKey<U>> {
+        match KeyFront::<U>::quick_front(memory, contents) {
+            Some(((Version::TwoPrime, numbers), [])) => Some(key_of(numbers, None)),
+            _ => None,
+        }
     }
 }
 

@@ -9,7 +9,7 @@ ghost use Rattle.pkcs1.specs.Words.{IsVersionOf, number_of, version_law, version
 
 use der_core::{
     BackWriter, Contents, DecodeValue, EncodeValue, ErrorKind, Header, IntegerTag, Length, Memory,
-    Reader, Result, Tag, TaggedBy, Writer,
+    Reader, Result, Tag, TaggedBy, Writer, quick_short,
 };
 use pkcs1_params::Error;
 use std::cmp::Ordering;
@@ -144,6 +144,16 @@ impl<'a, M: Memory> DecodeValue<&'a [u8], M> for Version {
             Ok(version) => Ok(version),
             Err(_) => Err(reader.error(ErrorKind::Value { tag: Tag::INTEGER })),
         }
+    }
+
+    #[inline(always)]
+    fn quick_split(bytes: &'a [u8], tag: Tag) -> Option<(&'a [u8], &'a [u8])> {
+        quick_short(bytes, tag)
+    }
+
+    #[inline(always)]
+    fn quick_value(memory: M, contents: &'a [u8]) -> Option<Version> {
+        Version::try_from(u8::quick_value(memory, contents)?).ok()
     }
 }
 

@@ -1,5 +1,5 @@
 //! RSA private keys over the input, without a list of their other primes.
-ghost use Rattle.std.specs.Prelude.{◌≡◌, ℕ, IsTrue, IsSome, IfOk, ◌↔◌};
+ghost use Rattle.std.specs.Prelude.{◌≡◌, ℕ, IsTrue, IsSome, IfOk, IfSome, Ok, Some, ◌↔◌};
 ghost use Rattle.std.specs.Option.{option_map};
 ghost use Rattle.der_core.specs.Words.{ReadsWhole, alike, bytes_of, one_spelling};
 ghost use Rattle.pkcs1.specs.Words.{AnyNumber, HoldsNone, PrivateIsValid, PrivateKey, held_other_primes};
@@ -15,7 +15,7 @@ use crate::public_key::{RsaPublicKey, RsaPublicKeyRef};
 use crate::version::Version;
 use der_core::{
     Contents, Decode, DecodeFront, DecodeValue, ErrorKind, Header, NoMemory, Reader, Result, Tag,
-    UintRef, decode_optional,
+    UintRef, decode_optional, quick_alone, quick_contents,
 };
 use pkcs1_params::Error;
 use std::fmt;
@@ -50,6 +50,40 @@ fn read_listed<'a, R: Reader<&'a [u8]>>(
     }
     reader.finish()?;
     Ok(others)
+}
+
+/// The other primes of a key of several that all of the bytes encode, if that is quickly told.
+#[inline(never)]
+fn quick_others(bytes: &[u8]) -> Option<OtherPrimes<'_>>
+    ensures { IfSome result (λ others. others_read number 1 bytes.now ≡ Ok (Some (others_left others))) }
+{
+    match bytes {
+        [first, ..] if *first == Tag::SEQUENCE.octet() => {
+            let others: OtherPrimes<'_> = quick_alone(NoMemory, bytes)?;
+            if others.remaining() == 0 {
+                None
+            } else {
+                Some(others)
+            }
+        }
+        _ => None,
+    }
+}
+
+/// What `read_listed` gives of all of the bytes, if that is quickly told.
+#[inline(always)]
+fn quick_listed(bytes: &[u8], version: Version) -> Option<Option<OtherPrimes<'_>>>
+    ensures { IfSome result (λ others.
+        others_read number (number_of version) bytes.now ≡ Ok (option_map others_left others)) }
+{
+    match version {
+        Version::Multi => match quick_others(bytes) {
+            Some(others) => Some(Some(others)),
+            None => None,
+        },
+        Version::TwoPrime if bytes.is_empty() => Some(None),
+        Version::TwoPrime => None,
+    }
 }
 
 impl Contents for ViewedKey<'_> {
@@ -89,6 +123,22 @@ impl<'a> DecodeValue<&'a [u8], NoMemory> for ViewedKey<'a> {
         let (version, numbers) = KeyFront::<UintRef<'a>>::decode_front(memory, reader)?;
         let others = read_listed(reader, version)?;
         Ok(key_of(numbers, others))
+    }
+
+    #[inline(always)]
+    fn quick_split(bytes: &'a [u8], tag: Tag) -> Option<(&'a [u8], &'a [u8])> {
+        quick_contents(bytes, tag)
+    }
+
+    #[inline(always)]
+    fn quick_value(memory: NoMemory, contents: &'a [u8]) -> Option<ViewedKey<'a>> {
+        match KeyFront::<UintRef<'a>>::quick_front(memory, contents) {
+            Some(((version, numbers), rest)) => match quick_listed(rest, version) {
+                Some(others) => Some(key_of(numbers, others)),
+                None => None,
+            },
+            None => None,
+        }
     }
 }
 

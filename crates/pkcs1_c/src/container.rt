@@ -2,7 +2,8 @@
 ghost use Rattle.std.specs.Prelude.{◌≡◌, ◌≢◌, length, IfErr, IfOk, OnErr, OnOk, Some, None};
 ghost use Rattle.pkcs1.specs.Words.{held_view, rsa_private_key};
 ghost use Rattle.pkcs1_params.specs.Words.{ErrsAs, IsAsn1};
-ghost use Rattle.pkcs8_core.specs.Words.{ContainedKey, IsContainer, info_of, rsa_encryption, rsa_private_key_info};
+ghost use Rattle.pkcs8_core.specs.Words.{ContainedKey, IsContainer, info_of, info_viewed, rsa_encryption};
+ghost use Rattle.pkcs8_core.specs.Words.{rsa_private_key_info};
 ghost use Rattle.pkcs1_c.specs.Words.{DecodesPrivate, HasKey, If, InfoError, InfoIsTidy, IsErrorOf, IsStatusOf};
 ghost use Rattle.pkcs1_c.specs.Words.{WritesOrTells, private_key_info};
 ghost use Rattle.standard.specs.Statement.{ContainedKeyEncoding, ContainerEncoding, Decodes};
@@ -13,7 +14,7 @@ use crate::status::{OK, status};
 use crate::written::write_encoding;
 use der_core::OctetStringRef;
 use pkcs1::{RsaPrivateKeyView, algorithm_id};
-use pkcs8_core::PrivateKeyInfoRef;
+use pkcs8_core::{PrivateKeyInfoRef, PrivateKeyInfoView};
 
 /// A container (PrivateKeyInfo of RFC 5208 5) of an RSA key, whose algorithm is rsaEncryption with NULL.
 #[repr(C)]
@@ -30,21 +31,21 @@ pub struct PrivateKeyInfo<'a> {
 /// Decodes a container and the RSA key in it.
 fn read_container<'a>(
     encoding: &'a [u8],
-) -> pkcs1::Result<(PrivateKeyInfoRef<'a>, RsaPrivateKeyView<'a>)>
-    ensures container { IfOk result (λ read. Decodes ContainerEncoding encoding.now (Some (info_of read.0))) }
-    ensures key { IfOk result (λ read. let c = info_of read.0 in
+) -> pkcs1::Result<(PrivateKeyInfoView<'a>, RsaPrivateKeyView<'a>)>
+    ensures container { IfOk result (λ read. Decodes ContainerEncoding encoding.now (Some (info_viewed read.0))) }
+    ensures key { IfOk result (λ read. let c = info_viewed read.0 in
         Decodes (ContainedKey c) c.private_key (Some (held_view read.1))) }
     ensures err { OnErr result (Decodes ContainedKeyEncoding encoding.now None) }
     ensures exact { ErrsAs (λ read. held_view read.1) (rsa_private_key_info encoding.now) result }
 {
-    let info = PrivateKeyInfoRef::try_from(encoding)?;
+    let info = PrivateKeyInfoView::try_from(encoding)?;
     let view = info.rsa_view()?;
     Ok((info, view))
 }
 
 /// The C struct of a container of an RSA key.
-fn to_c_info<'a>(info: &PrivateKeyInfoRef<'a>) -> PrivateKeyInfo<'a>
-    ensures seen { (info_of info.now).algorithm ≡ rsa_encryption → private_key_info result ≡ info_of info.now }
+fn to_c_info<'a>(info: &PrivateKeyInfoView<'a>) -> PrivateKeyInfo<'a>
+    ensures seen { (info_viewed info.now).algorithm ≡ rsa_encryption → private_key_info result ≡ info_viewed info.now }
     ensures tidy { InfoIsTidy result }
 {
     let private_key = info.private_key.as_bytes();

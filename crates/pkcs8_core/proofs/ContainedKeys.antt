@@ -74,19 +74,6 @@ pub containers_delimited : AreDelimited ContainerEncoding
 containers_delimited = (λ v p. let never = p.4 in cc, container_follow)
 
 module _ (bytes : List ℕ) (are : AreBytes bytes) where
-  -- A whole slice that encodes a container.
-  pub container_read : (c : Container) → ContainerEncoding c bytes → private_key_info bytes ≡ Ok c
-  container_read c is = go (private_key_info bytes) refl (containers_decode bytes are)
-    where
-      go : (r : Result Container ErrorKind) → private_key_info bytes ≡ r → Decodes ContainerEncoding bytes (value_in r)
-          → private_key_info bytes ≡ Ok c
-      go (Ok d) e p = e ∙ ap (λ x. Ok x) (sym (p.1 c is))
-      go (Err k) e never = absurd (never c is)
-
-  pub container_only : (c : Container) → ContainerEncoding c bytes → Decodes ContainerEncoding bytes (Some c)
-  container_only c is =
-      subst (λ r. Decodes ContainerEncoding bytes (value_in r)) (container_read c is) (containers_decode bytes are)
-
   -- A whole slice, as one of an RSA key.
   pub contained_keys_decode : Decodes ContainedKeyEncoding bytes (value_in (rsa_private_key_info bytes))
   contained_keys_decode = go (private_key_info bytes) (containers_decode bytes are)

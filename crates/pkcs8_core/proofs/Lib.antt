@@ -1,6 +1,5 @@
 pub mod ContainerWrites
 mod Exclusion
 pub mod ReadingsRows
-pub mod UsualContainers
 pub mod RsaOnly
 pub mod ContainedKeys

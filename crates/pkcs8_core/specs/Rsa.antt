@@ -1,12 +1,8 @@
 -- RSA keys in containers.
-use Rattle.std.specs.Prelude.{ℕ, List, ◌≡◌, Option}
+use Rattle.std.specs.Prelude.{ℕ, List, ◌≡◌}
 use Rattle.standard.specs.Statement.{Container, PrivateKey, PrivateKeyEncoding}
 -- rsaEncryption with NULL (RFC 8017 A.1).
 pub use Rattle.standard.specs.Statement.{rsa_encryption}
-
--- A container of these octets as the RSA key, with these attributes.
-abbrev pub with_rsa_key : List ℕ → Option (List ℕ) → Container
-with_rsa_key key attributes = record { algorithm = rsa_encryption; private_key = key; attributes = attributes }
 
 -- The algorithm of the container is rsaEncryption, and the octets encode this key.
 abbrev pub ContainedKey : Container → PrivateKey → List ℕ → Type 0

@@ -2,7 +2,7 @@
 pub use Rattle.pkcs8_core.specs.Container.{Container, info_parts}
 pub use Rattle.pkcs8_core.specs.ContainerReadings.{info_read, key_in, of_info_parts, private_key_info, rsa_held}
 pub use Rattle.pkcs8_core.specs.ContainerReadings.{rsa_only, rsa_private_key_info}
-pub use Rattle.pkcs8_core.specs.ContainerValue.{attributes_of, info_of, slice_now}
+pub use Rattle.pkcs8_core.specs.ContainerValue.{attributes_of, info_in, info_of, info_viewed, slice_now}
 pub use Rattle.pkcs8_core.specs.PrintedContainers.{IsContainer, container_printed}
-pub use Rattle.pkcs8_core.specs.Rsa.{ContainedKey, rsa_encryption, with_rsa_key}
+pub use Rattle.pkcs8_core.specs.Rsa.{ContainedKey, rsa_encryption}
 pub use Rattle.pkcs8_core.specs.Laws.PrintedContainers.{container_law}

@@ -5,8 +5,8 @@ ghost use Rattle.der_core.specs.Words.{AreBytes, alike, octets_law, one_spelling
 ghost use Rattle.pkcs8_core.specs.Tags.{attributes_tag};
 
 use pkcs1::der::{
-    BackWriter, Contents, DecodeValue, EncodeValue, Header, Length, Memory, Reader, Result, Tag,
-    TagMarker, TaggedBy, Writer,
+    BackWriter, Contents, ContentsAskNone, DecodeValue, EncodeValue, Header, Length, Memory,
+    Reader, Result, Tag, TagMarker, TaggedBy, Writer, quick_contents,
 };
 
 /// The tag of attributes.
@@ -30,6 +30,7 @@ impl<'a> Attributes<'a> {
     ghost use Rattle.pkcs8_core.specs.ContainerValue.{attributes_of};
 
     /// Attributes with these contents.
+    #[inline(always)]
     pub(crate) fn new(bytes: &'a [u8]) -> Attributes<'a>
         ensures { attributes_of result ≡ bytes.now }
     {
@@ -80,6 +81,20 @@ impl<'a, M: Memory> DecodeValue<&'a [u8], M> for Attributes<'a> {
         let bytes = reader.read_slice(header.length)?;
         Ok(Attributes::new(bytes))
     }
+
+    #[inline(always)]
+    fn quick_split(bytes: &'a [u8], tag: Tag) -> Option<(&'a [u8], &'a [u8])> {
+        quick_contents(bytes, tag)
+    }
+
+    #[inline(always)]
+    fn quick_value(_memory: M, contents: &'a [u8]) -> Option<Attributes<'a>> {
+        Some(Attributes::new(contents))
+    }
+}
+
+impl<'a> ContentsAskNone<&'a [u8]> for Attributes<'a> {
+    ghost contents_ask_none = { λ c no. no };
 }
 
 impl EncodeValue for Attributes<'_> {

@@ -4,25 +4,27 @@ ghost use Rattle.std.specs.Option.{option_map};
 ghost use Rattle.der_core.specs.Words.{Answers, AreBytes, Excludes, alike, encode_error, itself_once, made_errs};
 ghost use Rattle.der_core.specs.Words.{ok_of, one_spelling, value_in};
 ghost use Rattle.pkcs8_core.specs.Words.{Container, IsContainer, attributes_of, container_law, container_printed};
-ghost use Rattle.pkcs8_core.specs.Words.{info_of, info_read, of_info_parts, private_key_info, rsa_private_key_info};
-ghost use Rattle.pkcs8_core.specs.Words.{slice_now};
-ghost use Rattle.pkcs8_core.specs.declared.info.PrivateKeyInfoRef as containers;
+ghost use Rattle.pkcs8_core.specs.Words.{info_in, info_of, info_read, of_info_parts, private_key_info};
+ghost use Rattle.pkcs8_core.specs.Words.{rsa_private_key_info, slice_now};
+ghost use Rattle.pkcs8_core.specs.declared.info.PrivateKeyInfoOf as containers;
 ghost use Rattle.der_core.specs.Writing.{Unwritten};
 ghost use Rattle.standard.specs.Statement.{AtMostOne, ContainedKeyEncoding, ContainerEncoding, Decodes, Encodes};
 ghost use Rattle.standard.specs.Statement.{OaepEncoding, PrivateKeyEncoding, PssEncoding, PublicKeyEncoding};
 ghost use Rattle.standard.specs.Statement.{SameByShortest};
 
 use crate::attributes::Attributes;
-use crate::usual::usual_parts;
-use pkcs1::algorithm_id;
 use pkcs1::der::{
     BackWriter, Borrowed, Contents, Decode, Encode, EncodeInParts, EncodeValue, Error, Expected,
-    InParts, Last, LastByTag, Length, Memory, NoMemory, OctetStringRef, Result, Sequence,
-    SequenceTag, TaggedBy, Writer,
+    InParts, Last, LastByTag, Length, Memory, OctetStringRef, Result, Sequence, SequenceTag,
+    TaggedBy, Writer, read_borrowed,
 };
-use pkcs1::spki::AlgorithmIdentifierRef;
+use pkcs1::spki::{
+    AlgorithmIdentifierOf, AnyRef, IdentifierValue, IdentifierView, ObjectIdentifier,
+    ReadIdentifier,
+};
 
-/// A private key with its algorithm and attributes (RFC 5208 5). The version is always 0.
+/// A private key with its algorithm and attributes (RFC 5208 5). The version is always 0. An `O` holds the object
+/// identifier of the algorithm: see `PrivateKeyInfoRef` and `PrivateKeyInfoView`.
 ///
 /// ```text
 /// PrivateKeyInfo ::= SEQUENCE {
@@ -33,14 +35,20 @@ use pkcs1::spki::AlgorithmIdentifierRef;
 /// }
 /// ```
 #[derive(Clone, Copy, Drop)]
-pub struct PrivateKeyInfoRef<'a> {
+pub struct PrivateKeyInfoOf<'a, O> {
     /// The algorithm that the private key is for.
-    pub algorithm: AlgorithmIdentifierRef<'a>,
+    pub algorithm: AlgorithmIdentifierOf<O, AnyRef<'a>>,
     /// The octets of the private key, in the format of its algorithm.
     pub private_key: OctetStringRef<'a>,
     /// The contents octets of the attributes, which aren't checked.
     pub attributes: Option<&'a [u8]>,
 }
+
+/// A container that holds the identifier of its algorithm.
+pub type PrivateKeyInfoRef<'a> = PrivateKeyInfoOf<'a, ObjectIdentifier>;
+
+/// A container over its encoding, whose octets are the identifier of its algorithm.
+pub type PrivateKeyInfoView<'a> = PrivateKeyInfoOf<'a, IdentifierView<'a>>;
 
 /// The contents octets of the attributes, if there are any.
 fn contents_of<'a>(attributes: Option<Attributes<'a>>) -> Option<&'a [u8]>
@@ -53,18 +61,18 @@ fn contents_of<'a>(attributes: Option<Attributes<'a>>) -> Option<&'a [u8]>
 }
 
 /// The parts of a container: its version, its algorithm, its private key, and its attributes.
-type InfoParts<'a> = (
+type InfoParts<'a, O> = (
     Expected<0>,
     (
-        AlgorithmIdentifierRef<'a>,
+        AlgorithmIdentifierOf<O, AnyRef<'a>>,
         (OctetStringRef<'a>, LastByTag<Attributes<'a>>),
     ),
 );
 
-impl Contents for PrivateKeyInfoRef<'_> {
+impl<O: IdentifierValue> Contents for PrivateKeyInfoOf<'_, O> {
     ghost Value = { Container };
 
-    ghost value = { info_of };
+    ghost value = { info_in O.octets };
 
     ghost Spelling = { Container };
 
@@ -87,20 +95,21 @@ impl Contents for PrivateKeyInfoRef<'_> {
     ghost reads_alike = { alike info_read };
 }
 
-impl TaggedBy for PrivateKeyInfoRef<'_> {
+impl<O> TaggedBy for PrivateKeyInfoOf<'_, O> {
     type Marker = SequenceTag;
 }
 
-impl<'a> Sequence<'a> for PrivateKeyInfoRef<'_> {
+impl<'a, O> Sequence<'a> for PrivateKeyInfoOf<'_, O> {
     ghost is_sequence = { refl };
 }
 
-impl<'a> InParts for PrivateKeyInfoRef<'a> {
-    type Parts = InfoParts<'a>;
+impl<'a, O: ReadIdentifier<'a>> InParts for PrivateKeyInfoOf<'a, O> {
+    type Parts = InfoParts<'a, O>;
 
-    fn from_parts(parts: InfoParts<'a>) -> PrivateKeyInfoRef<'a> {
+    #[inline(always)]
+    fn from_parts(parts: InfoParts<'a, O>) -> PrivateKeyInfoOf<'a, O> {
         let (_version, (algorithm, (private_key, LastByTag(Last(attributes))))) = parts;
-        PrivateKeyInfoRef {
+        PrivateKeyInfoOf {
             algorithm,
             private_key,
             attributes: contents_of(attributes),
@@ -112,7 +121,7 @@ impl<'a> InParts for PrivateKeyInfoRef<'a> {
     ghost once = { λ _. itself_once };
 }
 
-impl EncodeInParts for PrivateKeyInfoRef<'_> {
+impl<'a, O: ReadIdentifier<'a>> EncodeInParts for PrivateKeyInfoOf<'a, O> {
     fn parts_len(&self) -> Result<Length> {
         let key = (
             Borrowed(&self.private_key),
@@ -138,17 +147,17 @@ impl EncodeInParts for PrivateKeyInfoRef<'_> {
     }
 }
 
-impl<'a> PrivateKeyInfoRef<'a> {
+impl<'a, O: ReadIdentifier<'a>> PrivateKeyInfoOf<'a, O> {
     /// The contents octets of the attributes, if there are any.
     pub fn attributes(&self) -> Option<&'a [u8]>
-        ensures { option_map slice_now result ≡ (info_of self.now).attributes }
+        ensures { option_map slice_now result ≡ (info_in O.octets self.now).attributes }
     {
         self.attributes
     }
 
     /// The attributes, as a type that can be encoded.
     fn attributes_encoding(&self) -> Option<Attributes<'a>>
-        ensures { option_map attributes_of result ≡ (info_of self.now).attributes }
+        ensures { option_map attributes_of result ≡ (info_in O.octets self.now).attributes }
     {
         match self.attributes {
             Some(bytes) => Some(Attributes::new(bytes)),
@@ -159,7 +168,7 @@ impl<'a> PrivateKeyInfoRef<'a> {
     /// Does nothing. Its contract: each container has an encoding, within the limit or not, so no call that encodes one
     /// returns `Value`.
     pub fn lemma_has_encoding(&self)
-        ensures { IsContainer (info_of self.now) }
+        ensures { IsContainer (info_in O.octets self.now) }
     {
         let _attributes = self.attributes_encoding();
     }
@@ -167,32 +176,26 @@ impl<'a> PrivateKeyInfoRef<'a> {
     /// Writes the container's only encoding to the front of a slice and returns its length, as `encode_into` does.
     /// Returns `Overflow` if the encoding is longer than `Length::MAX`, `NoRoom` if it is longer than the slice.
     pub fn encode_info(&self, out: &mut [u8]) -> Result<usize>
-        ensures written { Encodes ContainerEncoding (info_of self.now) out.old out.new (ok_of (λ n. n) result) }
-        ensures err { IfErr result (λ e. Unwritten (λ _. ⊤) ContainerEncoding (info_of self.now) (length out.old)
-            (encode_error e.kind)) }
+        ensures written { let c = info_in O.octets self.now in
+            Encodes ContainerEncoding c out.old out.new (ok_of (λ n. n) result) }
+        ensures err { let c = info_in O.octets self.now in
+            IfErr result (λ e. Unwritten (λ _. ⊤) ContainerEncoding c (length out.old) (encode_error e.kind)) }
     {
         self.lemma_has_encoding();
         self.encode_into(out)
     }
 }
 
-impl<'a> TryFrom<&'a [u8]> for PrivateKeyInfoRef<'a> {
+impl<'a, O: ReadIdentifier<'a>> TryFrom<&'a [u8]> for PrivateKeyInfoOf<'a, O> {
     type Error = Error;
 
     /// Decodes a whole slice, and allocates nothing. Returns `Value` of INTEGER for a version other than 0.
-    fn try_from(bytes: &'a [u8]) -> Result<PrivateKeyInfoRef<'a>>
-        ensures read { Decodes ContainerEncoding bytes.now (ok_of info_of result) }
-        ensures exact { Answers info_of result (private_key_info bytes.now) }
+    #[inline(always)]
+    fn try_from(bytes: &'a [u8]) -> Result<PrivateKeyInfoOf<'a, O>>
+        ensures read { Decodes ContainerEncoding bytes.now (ok_of (info_in O.octets) result) }
+        ensures exact { Answers (info_in O.octets) result (private_key_info bytes.now) }
     {
-        if let Some((private_key, attributes)) = usual_parts(bytes) {
-            return Ok(PrivateKeyInfoRef {
-                algorithm: algorithm_id(),
-                private_key,
-                attributes,
-            });
-        }
-        lemma_containers_take_no_memory::<NoMemory>();
-        PrivateKeyInfoRef::from_der(NoMemory, bytes)
+        read_borrowed(bytes)
     }
 }
 
@@ -227,6 +230,6 @@ pub fn lemma_containers_exclude_other_types()
 
 /// A clone of a container means the same as the original.
 pub fn lemma_container_clones_mean_the_same()
-    ensures { (a b : containers.PrivateKeyInfoRef)
+    ensures { (a b : containers.PrivateKeyInfoOf ObjectIdentifier)
         → ⟦<PrivateKeyInfoRef<'static> as Clone>⟧.is_clone a b → info_of b ≡ info_of a }
 {}

@@ -5,12 +5,11 @@ mod attributes;
 mod faults;
 mod info;
 mod rsa;
-mod usual;
 
 pub use faults::fault_of_private_key_info;
 pub use info::{
-    PrivateKeyInfoRef, lemma_container_clones_mean_the_same, lemma_containers_decode,
-    lemma_containers_exclude_other_types, lemma_containers_have_one_encoding,
-    lemma_containers_take_no_memory,
+    PrivateKeyInfoOf, PrivateKeyInfoRef, PrivateKeyInfoView, lemma_container_clones_mean_the_same,
+    lemma_containers_decode, lemma_containers_exclude_other_types,
+    lemma_containers_have_one_encoding, lemma_containers_take_no_memory,
 };
 pub use rsa::rsa_from_pkcs8_der;

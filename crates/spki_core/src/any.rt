@@ -11,7 +11,7 @@ ghost use Rattle.standard.specs.Statement as standard;
 use crate::wide_tag::WideTag;
 use der_core::{
     BackWriter, Decode, DecodeValue, Encode, Encoding, EqualByValue, Error, ErrorKind, FixedTag,
-    Header, Length, Memory, Reader, Result, SliceReader, Tag, TryClone, Writer,
+    Header, Length, Memory, Reader, Result, SliceReader, Tag, TryClone, Writer, quick_any,
 };
 use std::alloc::Global;
 use std::fmt;
@@ -155,6 +155,15 @@ impl<'a, M: Memory> Decode<&'a [u8], M> for AnyRef<'a> {
     #[inline(always)]
     fn decode<R: Reader<&'a [u8]>>(_memory: M, reader: &mut R) -> Result<AnyRef<'a>> {
         read_any(reader)
+    }
+
+    #[inline(always)]
+    fn quick(_memory: M, bytes: &'a [u8]) -> Option<(AnyRef<'a>, &'a [u8])> {
+        let (tag, contents, rest) = quick_any(bytes)?;
+        match AnyRef::new(tag, contents) {
+            Ok(any) => Some((any, rest)),
+            Err(_) => None,
+        }
     }
 
     fn from_der(_memory: M, bytes: &'a [u8]) -> Result<AnyRef<'a>> {

@@ -1,0 +1,6 @@
+use Rattle.std.proofs.Common.{arith}
+use Rattle.der_core.specs.Laws.Input.{are_bytes}
+use Rattle.pkcs1.proofs.other_primes.quick_other.Goals as goal
+
+pub returns-clause-octets : goal.returns-clause-octets
+returns-clause-octets c = are_bytes c.args.bytes.now (λ i. omega (arith, c.type_inv.bytes i))

@@ -1,0 +1,11 @@
+use Rattle.std.proofs.Common.{◌∙◌, sym}
+use Rattle.pkcs1.specs.KeyReadings.{number}
+use Rattle.pkcs1.proofs.OtherPrimesHeld.{held_length}
+use Rattle.pkcs1.proofs.OtherReads.{others_taken}
+use Rattle.pkcs1.proofs.view.quick_others.Goals as goal
+
+pub returns-else-remaining-eq0 : goal.returns-else-remaining-eq0
+returns-else-remaining-eq0 c =
+    others_taken number _ _ c.in-len1-up.len_at_least (c.if-first-octet.true ∙ c.octet.ensures)
+    c.in_ok-others-in-len1-up.ensures
+    (λ none. c.if-remaining-eq0.false (c.remaining.ensures ∙ sym (held_length _) ∙ none))

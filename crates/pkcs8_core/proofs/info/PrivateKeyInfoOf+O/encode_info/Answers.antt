@@ -1,0 +1,14 @@
+use Rattle.pkcs8_core.specs.ContainerValue.{info_in}
+use Rattle.pkcs8_core.proofs.ContainerWrites.{container_refused, container_written}
+use Rattle.pkcs8_core.proofs.info.PrivateKeyInfoOf+O.encode_info.Goals as goal
+
+pub returns-clause-written : goal.returns-clause-written
+returns-clause-written g c =
+    container_written (info_in g.O.IdentifierValue.octets c.args.self.now) c.lemma_has_encoding.ensures c.args.out.now c.encode_into.new.out
+    c.encode_into.result c.encode_into.ensures.ok c.encode_into.ensures.shortest c.encode_into.ensures.err
+    c.encode_into.ensures.unchanged c.encode_into.auto.out
+
+pub returns-clause-err : goal.returns-clause-err
+returns-clause-err g c =
+    container_refused (info_in g.O.IdentifierValue.octets c.args.self.now) c.lemma_has_encoding.ensures c.args.out.now c.encode_into.new.out
+    c.encode_into.result c.encode_into.ensures.err

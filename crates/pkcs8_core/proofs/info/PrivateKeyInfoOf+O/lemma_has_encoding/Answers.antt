@@ -1,0 +1,17 @@
+use Rattle.std.proofs.Common.{arith}
+use Rattle.der_core.specs.Laws.Input.{are_bytes}
+use Rattle.der_core.specs.OctetStringRefValue.{octets_of}
+use Rattle.spki_core.specs.AnyRefValue.{any_of}
+use Rattle.spki_core.specs.Laws.HaveEncodings.{algorithm_held, any_held}
+use Rattle.pkcs8_core.proofs.ContainerWrites.{attributes_held}
+use Rattle.pkcs8_core.proofs.info.PrivateKeyInfoOf+O.lemma_has_encoding.Goals as goal
+use Rattle.standard.specs.Statement.{IsAny}
+
+pub returns : goal.returns
+returns g c =
+    let info = c.args.self.now in
+    let key = are_bytes (octets_of info.private_key) info.private_key.octets in
+    let held = attributes_held c.attributes_encoding-attributes.result in
+    let attributes = rw c.attributes_encoding-attributes.ensures at held in
+    let algorithm = algorithm_held g.O.IdentifierValue.octets g.O.IdentifierValue.identifies any_of IsAny any_held info.algorithm in
+    (omega arith, (algorithm, (key, attributes)))

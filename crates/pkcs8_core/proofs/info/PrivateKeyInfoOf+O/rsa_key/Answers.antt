@@ -1,0 +1,51 @@
+use Rattle.std.proofs.Common.{◌≡◌, rules, subst, sym}
+use Rattle.der_core.specs.Laws.Input.{are_bytes}
+use Rattle.der_core.specs.UintRefValue.{bytes_of}
+use Rattle.pkcs1.proofs.Decoded.{decoded_err, decoded_ok}
+use Rattle.pkcs1.specs.Allocating.{MayAllocate}
+use Rattle.pkcs1.specs.Held.{held_private_key}
+use Rattle.pkcs1_params.specs.Meanings.{ErrsOrAsks}
+use Rattle.pkcs8_core.proofs.ContainedKeys.{asked_held, contained_decode}
+use Rattle.pkcs8_core.proofs.RsaOnly.{key_tells}
+use Rattle.pkcs8_core.specs.ContainerReadings.{key_in, rsa_held}
+use Rattle.pkcs8_core.specs.ContainerValue.{info_in}
+use Rattle.pkcs8_core.specs.Rsa.{ContainedKey, rsa_encryption}
+use Rattle.standard.specs.Statement.{PrivateKeyEncoding}
+use Rattle.pkcs8_core.proofs.info.PrivateKeyInfoOf+O.rsa_key.Goals as goal
+
+pub returns-clause-ok : goal.returns-clause-ok
+returns-clause-ok g c =
+    let info = info_in g.O.IdentifierValue.octets c.args.self.now in
+    let told = asked_held (held_private_key bytes_of) info c.as_bytes.result.now c.as_bytes.ensures.octets
+    c.in_ok-require_rsa.ensures.ok c.decode_key.result c.decode_key.ensures.exact in
+    decoded_ok (ContainedKey info) (key_in info)
+    info.private_key
+    (contained_decode info info.private_key (are_bytes info.private_key c.args.self.now.private_key.octets))
+    (held_private_key bytes_of) ((info.algorithm ≡ rsa_encryption) × MayAllocate info.private_key)
+    c.decode_key.result told
+
+pub returns-clause-err : goal.returns-clause-err
+returns-clause-err g c =
+    let info = info_in g.O.IdentifierValue.octets c.args.self.now in
+    let told = asked_held (held_private_key bytes_of) info c.as_bytes.result.now c.as_bytes.ensures.octets
+    c.in_ok-require_rsa.ensures.ok c.decode_key.result c.decode_key.ensures.exact in
+    decoded_err (ContainedKey info) (key_in info)
+    info.private_key
+    (contained_decode info info.private_key (are_bytes info.private_key c.args.self.now.private_key.octets))
+    (held_private_key bytes_of) ((info.algorithm ≡ rsa_encryption) × MayAllocate info.private_key) (key_tells info)
+    c.decode_key.result told
+
+pub returns-in_err-require_rsa-clause-err : goal.returns-in_err-require_rsa-clause-err
+returns-in_err-require_rsa-clause-err g c =
+    let info = info_in g.O.IdentifierValue.octets c.args.self.now in
+    let asked : Type 0 = (info.algorithm ≡ rsa_encryption) × MayAllocate info.private_key in
+    let told : ErrsOrAsks (held_private_key bytes_of) (rsa_held info) asked c.from_residual.result = search rules in
+    decoded_err (ContainedKey info) (key_in info)
+    info.private_key
+    (contained_decode info info.private_key (are_bytes info.private_key c.args.self.now.private_key.octets))
+    (held_private_key bytes_of) asked (key_tells info) c.from_residual.result told
+
+pub returns-clause-two_primes : goal.returns-clause-two_primes
+returns-clause-two_primes g c = λ key two holds.
+    c.decode_key.ensures.two_primes key two
+    (subst (PrivateKeyEncoding key) (sym c.as_bytes.ensures.octets) holds.1)

@@ -1,0 +1,28 @@
+use Rattle.std.proofs.Common.{rules, subst, sym}
+use Rattle.der_core.specs.Laws.Input.{are_bytes}
+use Rattle.pkcs1.proofs.Decoded.{decoded}
+use Rattle.pkcs1.specs.Held.{held_view}
+use Rattle.pkcs1_params.specs.Meanings.{ErrsAs}
+use Rattle.pkcs8_core.proofs.ContainedKeys.{contained_decode, read_held}
+use Rattle.pkcs8_core.specs.ContainerReadings.{key_in, rsa_held}
+use Rattle.pkcs8_core.specs.ContainerValue.{info_in}
+use Rattle.pkcs8_core.specs.Rsa.{ContainedKey}
+use Rattle.pkcs8_core.proofs.info.PrivateKeyInfoOf+O.rsa_view.Goals as goal
+
+pub returns-clause-read : goal.returns-clause-read
+returns-clause-read g c =
+    let info = info_in g.O.IdentifierValue.octets c.args.self.now in
+    let told = subst (λ given. ErrsAs held_view given c.try_from.result)
+    (sym (read_held info c.as_bytes.result.now c.as_bytes.ensures.octets c.in_ok-require_rsa.ensures.ok))
+    c.try_from.ensures.exact in
+    decoded (ContainedKey info) (key_in info) info.private_key
+    (contained_decode info info.private_key (are_bytes info.private_key c.args.self.now.private_key.octets))
+    held_view c.try_from.result told
+
+pub returns-in_err-require_rsa-clause-read : goal.returns-in_err-require_rsa-clause-read
+returns-in_err-require_rsa-clause-read g c =
+    let info = info_in g.O.IdentifierValue.octets c.args.self.now in
+    let told : ErrsAs held_view (rsa_held info) c.from_residual.result = search rules in
+    decoded (ContainedKey info) (key_in info) info.private_key
+    (contained_decode info info.private_key (are_bytes info.private_key c.args.self.now.private_key.octets))
+    held_view c.from_residual.result told

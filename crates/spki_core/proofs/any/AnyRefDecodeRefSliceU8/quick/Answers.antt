@@ -1,0 +1,8 @@
+use Rattle.std.proofs.Common.{ap, sym, Ok}
+use Rattle.der_core.proofs.QuickReading.{read_by_tag}
+use Rattle.spki_core.specs.Readings.{opaque}
+use Rattle.spki_core.proofs.any.AnyRefDecodeRefSliceU8.quick.Goals as goal
+
+pub returns-in-Ok : goal.returns-in-Ok
+returns-in-Ok g c =
+    read_by_tag _ opaque _ _ _ _ c.in_ok-tag.ensures.contents (ap (λ v. Ok v) (sym c.in-Ok.ensures.ok))
