@@ -1,5 +1,5 @@
 -- The algorithms that the function takes for rsaEncryption, and those that it rejects.
-use Rattle.std.proofs.Common.{ℕ, Bool, true, false, List, [], ◌≡◌, ◌≢◌, ◌==◌, refl, sym, ap, ◌∙◌, ⊎_elim}
+use Rattle.std.proofs.Common.{ℕ, Bool, true, false, List, [], ◌≡◌, ◌==◌, refl, sym, ap, ◌∙◌, ⊎_elim}
 use Rattle.std.proofs.Common.{Option, Some, None, Ok, Err}
 use Rattle.std.specs.Bool.{Decides}
 use Rattle.std.specs.Prelude.{◌&&◌, if◌then◌else◌}
@@ -14,7 +14,7 @@ use Rattle.der_core.specs.Laws.Tags.{same_tag}
 use Rattle.der_core.specs.Reading.{TellsOfBytes}
 use Rattle.der_core.specs.Readings.{checked}
 use Rattle.der_core.specs.Tag.{is_allowed}
-use Rattle.spki_core.specs.AlgorithmIdentifier.{Algorithm}
+use Rattle.spki_core.specs.AlgorithmIdentifier.{Algorithm, same_any}
 use Rattle.spki_core.specs.Any.{TagAndContents, null_value}
 use Rattle.spki_core.specs.Laws.AnyEncodings.{any_decides}
 use Rattle.pkcs1_params.specs.Parameters.{id_rsa_encryption}
@@ -24,26 +24,19 @@ use Rattle.pkcs8_core.specs.ContainerReadings.{key_in, null_only, rsa_only}
 use Rattle.pkcs8_core.specs.Rsa.{rsa_encryption}
 
 -- Algorithms that the function rejects.
-differs : {P : Type 0} (b : Bool) → Decides b P → (P → ⊥) → b ≡ false
-differs true d other = absurd (other (d.0 refl))
-differs false d other = refl
-
-not_null : (v : TagAndContents) (tag : Tag) → tag.octet ≡ v.tag → v ≢ null_value
+not_null : (v : TagAndContents) (tag : Tag) → tag.octet ≡ v.tag → same_any v null_value ≡ false
     → null_only (Some v) ≡ Err (kind.Value tag)
-not_null v tag same other =
-    let test : (v.tag == 5 && bytes_eq v.contents []) ≡ false =
-    differs (v.tag == 5 && bytes_eq v.contents []) (any_decides v.tag 5 v.contents []) other in
+not_null v tag same test =
     let allowed : is_allowed v.tag ≡ true = ap is_allowed (sym same) ∙ tag.allowed in
     let r =
     checked_as (is_allowed v.tag) (λ ok. Err (kind.Value (record { octet = v.tag; allowed = ok })))
     (Err (kind.TagUnknown v.tag)) allowed in
     rw test (r.1 ∙ ap (λ t. Err (kind.Value t)) (same_tag (record { octet = v.tag; allowed = r.0 }) tag (sym same)))
 
-pub rsa_other : (a : Algorithm TagAndContents) (v : TagAndContents) (tag : Tag) → a.oid ≡ id_rsa_encryption
-    → a.parameters ≡ Some v → tag.octet ≡ v.tag → v ≢ null_value → rsa_only a ≡ Err (kind.Value tag)
-rsa_other a v tag is some same other =
-    let test : bytes_eq a.oid id_rsa_encryption ≡ true = (bytes_decide a.oid id_rsa_encryption).1 is in
-    rw (test, some) (not_null v tag same other)
+pub rsa_other : (a : Algorithm TagAndContents) (v : TagAndContents) (tag : Tag)
+    → bytes_eq a.oid id_rsa_encryption ≡ true → a.parameters ≡ Some v → tag.octet ≡ v.tag
+    → same_any v null_value ≡ false → rsa_only a ≡ Err (kind.Value tag)
+rsa_other a v tag is some same test = rw (is, some) (not_null v tag same test)
 
 -- Its errors are about the bytes.
 null_tells : (p : Option TagAndContents) (k : ErrorKind) → null_only p ≡ Err k → TellsOfBytes k

@@ -195,7 +195,12 @@ impl<'a, O: ReadIdentifier<'a>> TryFrom<&'a [u8]> for PrivateKeyInfoOf<'a, O> {
         ensures read { Decodes ContainerEncoding bytes.now (ok_of (info_in O.octets) result) }
         ensures exact { Answers (info_in O.octets) result (private_key_info bytes.now) }
     {
-        read_borrowed(bytes)
+        let view: PrivateKeyInfoView<'a> = read_borrowed(bytes)?;
+        Ok(PrivateKeyInfoOf {
+            algorithm: O::algorithm_from_view(view.algorithm),
+            private_key: view.private_key,
+            attributes: view.attributes,
+        })
     }
 }
 

@@ -37,8 +37,13 @@ fn require_rsa<O: IdentifierValue>(algorithm: &AlgorithmIdentifierOf<O, AnyRef<'
         return Err(Error::new(ErrorKind::OidUnknown));
     }
     match algorithm.parameters {
-        Some(any) if any.is_alone(Tag::NULL) => Ok(()),
-        Some(any) => Err(Error::new(ErrorKind::Value { tag: any.tag() })),
+        Some(any) => {
+            if any.is_alone(Tag::NULL) {
+                Ok(())
+            } else {
+                Err(Error::new(ErrorKind::Value { tag: any.tag() }))
+            }
+        }
         None => Err(Error::new(ErrorKind::ParametersMissing)),
     }
 }

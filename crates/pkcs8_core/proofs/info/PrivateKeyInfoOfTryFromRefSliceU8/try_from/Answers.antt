@@ -1,10 +1,36 @@
-use Rattle.std.proofs.Common.{arith}
+use Rattle.std.proofs.Common.{◌≡◌, arith, subst, sym, Err, Ok, Some}
+use Rattle.std.proofs.lemmas.Result.{err_from_is_err_and}
+use Rattle.std.specs.Option.{option_map}
 use Rattle.der_core.specs.Laws.Input.{are_bytes}
+use Rattle.der_core.specs.OctetStringRefValue.{octets_of}
+use Rattle.spki_core.specs.AlgorithmValue.{algorithm_in}
+use Rattle.spki_core.specs.AnyRefValue.{any_of}
 use Rattle.pkcs8_core.proofs.ContainedKeys.{container_told}
-use Rattle.pkcs8_core.specs.ContainerValue.{info_in}
+use Rattle.pkcs8_core.specs.ContainerValue.{info_viewed, slice_now}
+use Rattle.standard.specs.Statement.{ContainerEncoding, Decodes}
 use Rattle.pkcs8_core.proofs.info.PrivateKeyInfoOfTryFromRefSliceU8.try_from.Goals as goal
+
+pub returns-in_err-view-clause-read : goal.returns-in_err-view-clause-read
+returns-in_err-view-clause-read g c =
+    let bytes = c.args.bytes.now in
+    let p = err_from_is_err_and c.from_residual.result c.from_residual.ensures.1 in
+    rw p.1 (container_told bytes (are_bytes bytes (λ i. omega (arith, c.type_inv.bytes i))) info_viewed
+    (Err c.in_err-view.field-0.0) c.in_err-view.ensures.exact)
 
 pub returns-clause-read : goal.returns-clause-read
 returns-clause-read g c =
-    container_told c.args.bytes.now (are_bytes _ (λ i. omega (arith, c.type_inv.bytes i)))
-    (info_in g.O.IdentifierValue.octets) c.read_borrowed.result c.read_borrowed.ensures.exact
+    let bytes = c.args.bytes.now in
+    let view = c.in_ok-view.view in
+    let told = c.algorithm_from_view.ensures in
+    let same : info_viewed view ≡ record {
+      algorithm = algorithm_in g.O.IdentifierValue.octets any_of c.algorithm_from_view.result;
+      private_key = octets_of view.private_key;
+      attributes = option_map slice_now view.attributes;
+    } = λ i. record {
+      algorithm = record { oid = sym told.oid i; parameters = option_map any_of (sym told.parameters i) };
+      private_key = octets_of view.private_key;
+      attributes = option_map slice_now view.attributes;
+    } in
+    subst (λ x. Decodes ContainerEncoding bytes (Some x)) same
+    (container_told bytes (are_bytes bytes (λ i. omega (arith, c.type_inv.bytes i))) info_viewed (Ok view)
+    c.in_ok-view.ensures.exact)

@@ -11,7 +11,7 @@ use Rattle.pkcs8_core.specs.ContainerReadings.{key_in, rsa_held}
 use Rattle.pkcs8_core.specs.ContainerValue.{info_in}
 use Rattle.pkcs8_core.specs.Rsa.{ContainedKey, rsa_encryption}
 use Rattle.standard.specs.Statement.{PrivateKeyEncoding}
-use Rattle.pkcs8_core.proofs.info.PrivateKeyInfoOf+O.rsa_key.Goals as goal
+use Rattle.pkcs8_core.proofs.info.PrivateKeyInfoOf.rsa_key.Goals as goal
 
 pub returns-clause-ok : goal.returns-clause-ok
 returns-clause-ok g c =

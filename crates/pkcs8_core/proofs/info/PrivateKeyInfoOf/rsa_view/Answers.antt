@@ -7,7 +7,7 @@ use Rattle.pkcs8_core.proofs.ContainedKeys.{contained_decode, read_held}
 use Rattle.pkcs8_core.specs.ContainerReadings.{key_in, rsa_held}
 use Rattle.pkcs8_core.specs.ContainerValue.{info_in}
 use Rattle.pkcs8_core.specs.Rsa.{ContainedKey}
-use Rattle.pkcs8_core.proofs.info.PrivateKeyInfoOf+O.rsa_view.Goals as goal
+use Rattle.pkcs8_core.proofs.info.PrivateKeyInfoOf.rsa_view.Goals as goal
 
 pub returns-clause-read : goal.returns-clause-read
 returns-clause-read g c =

@@ -4,7 +4,7 @@ use Rattle.der_core.specs.OctetStringRefValue.{octets_of}
 use Rattle.spki_core.specs.AnyRefValue.{any_of}
 use Rattle.spki_core.specs.Laws.HaveEncodings.{algorithm_held, any_held}
 use Rattle.pkcs8_core.proofs.ContainerWrites.{attributes_held}
-use Rattle.pkcs8_core.proofs.info.PrivateKeyInfoOf+O.lemma_has_encoding.Goals as goal
+use Rattle.pkcs8_core.proofs.info.PrivateKeyInfoOf.lemma_has_encoding.Goals as goal
 use Rattle.standard.specs.Statement.{IsAny}
 
 pub returns : goal.returns
@@ -13,5 +13,5 @@ returns g c =
     let key = are_bytes (octets_of info.private_key) info.private_key.octets in
     let held = attributes_held c.attributes_encoding-attributes.result in
     let attributes = rw c.attributes_encoding-attributes.ensures at held in
-    let algorithm = algorithm_held g.O.IdentifierValue.octets g.O.IdentifierValue.identifies any_of IsAny any_held info.algorithm in
+    let algorithm = algorithm_held g.O.IdentifierValue.octets g.met.O.IdentifierValue.identifies any_of IsAny any_held info.algorithm in
     (omega arith, (algorithm, (key, attributes)))

@@ -1,6 +1,6 @@
 use Rattle.pkcs8_core.specs.ContainerValue.{info_in}
 use Rattle.pkcs8_core.proofs.ContainerWrites.{container_refused, container_written}
-use Rattle.pkcs8_core.proofs.info.PrivateKeyInfoOf+O.encode_info.Goals as goal
+use Rattle.pkcs8_core.proofs.info.PrivateKeyInfoOf.encode_info.Goals as goal
 
 pub returns-clause-written : goal.returns-clause-written
 returns-clause-written g c =
