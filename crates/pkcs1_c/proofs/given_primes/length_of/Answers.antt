@@ -4,7 +4,7 @@ use Rattle.std.proofs.lemmas.Bool.{cases_lt}
 use Rattle.std.specs.Prelude.{IfErr, IfOk}
 use Rattle.der_core.specs.Length.{length_octets, limit, tlv_len}
 use Rattle.der_core.specs.Printed.{number_contents}
-use Rattle.der_core.specs.Writing.{Counts, WhyOctetsNotCounted, encode_error}
+use Rattle.der_core.specs.Writing.{Counts}
 use Rattle.der_core.specs.declared.error.Error.{Error}
 use Rattle.der_core.specs.declared.error.ErrorKind.TheVariants.{Overflow}
 use Rattle.pkcs1.specs.Held.{held_other_prime}
