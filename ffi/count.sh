@@ -1,0 +1,87 @@
+#!/usr/bin/env bash
+# Counts the instructions of the calls in c/count.c, and compares them with the table ffi/counts. It fails where a call
+# has 3 % more or fewer, or where a row is missing or new. Contracts say nothing of time. Where a function is large, the
+# proof's own compiler leaves an inline(always) out without a message, and a call may take a fifth more: it's seen here.
+#
+#     ffi/count.sh [LIBRARY]    LIBRARY: a libpkcs1.a, in place of the one that make builds of ffi/rust/generated
+#     ffi/count.sh --write      writes the table anew
+#
+# It needs make, gcc, binutils and valgrind, on x86-64. Counts depend neither on the processor nor on the C library, but
+# on the gcc that compiles pkcs1.c. The table names the one that it was made with.
+set -eu
+export LC_ALL=C
+table=ffi/counts
+tolerance=3
+
+stop() {
+    printf 'ffi/count.sh: %s\n' "$*" >&2
+    exit 1
+}
+library=
+case $#:${1-} in
+    0: | 1:--write) ;;
+    1:[!-]*) library=$(realpath "$1") ;;
+    *) stop "usage: ffi/count.sh [LIBRARY | --write]" ;;
+esac
+cd "$(dirname "$0")/.."
+for tool in make gcc objcopy valgrind; do
+    command -v "$tool" > /dev/null || stop "$tool isn't installed, and is needed"
+done
+[ "$(ffi/machine.sh gcc)" = x86_64 ] || stop "the table is of x86-64, which gcc doesn't build for here"
+room=$(mktemp -d)
+trap 'rm -rf "$room"' EXIT
+
+# quietly COMMAND..: what it prints is shown only if it fails.
+quietly() {
+    "$@" > "$room/log" 2>&1 || {
+        cat "$room/log" >&2
+        stop "$1 fails"
+    }
+}
+# count: leaves a row for each call in $room/counts, less what is counted without a call.
+count() {
+    local wraps
+    if [ -z "$library" ]; then
+        library=$room/out/libpkcs1.a
+        quietly make OUT="$room/out" CC=gcc CFLAGS=-O2 LDFLAGS= CODE=assembly "$library"
+    fi
+    wraps=$(sed -n 's/^UNCOUNTED([^,]*, \([a-z]*\),.*/-Wl,--wrap=\1/p' ffi/c/count.c)
+    quietly gcc -std=c99 -O2 -Wall -Wextra -Werror -pedantic -Iffi/include ffi/c/count.c "$library" $wraps \
+        -o "$room/count"
+    quietly valgrind --tool=callgrind --collect-atstart=no --combine-dumps=yes --callgrind-out-file="$room/dumps" \
+        "$room/count" ffi/rust/tests/keys
+    awk -v gcc="$(gcc -dumpfullversion)" '
+        BEGIN { print "# instructions of a call on an input, with gcc", gcc }
+        sub(/^desc: Trigger: Client Request: /, "") { call = $1; input = $2; next }
+        /^totals: / && call == "nothing" { besides = $2 }
+        /^totals: / && call ~ /^pkcs1_/ { printf "%-33s %-18s %5d\n", call, input, $2 - besides }
+        /^totals: / { call = "" }' "$room/dumps" > "$room/counts"
+}
+# compare: prints each row that differs too much, and then how many.
+compare() {
+    awk -v tolerance="$tolerance" '
+        function fails(how) { failures++; print row ": " how }
+        /^#/ && NR == FNR { then = $NF }
+        /^#/ { now = $NF; next }
+        { row = $1 " " $2 }
+        NR == FNR { was[row] = $3; next }
+        { calls++ }
+        !(row in was) { fails("new, is " $3); next }
+        { change = 100 * ($3 / was[row] - 1) }
+        change < -tolerance || change > tolerance { fails(sprintf("was %d, is %d, %+.1f %%", was[row], $3, change)) }
+        { delete was[row] }
+        END {
+            for (row in was) fails("missing, was " was[row])
+            if (failures && then != now) print "the table was made with gcc " then ", and this is " now
+            printf "%d calls counted, %d failures\n", calls, failures
+            exit failures > 0
+        }' "$table" "$room/counts"
+}
+
+count
+if [ "${1-}" = --write ]; then
+    cp "$room/counts" "$table"
+    echo "$(grep -vc '^#' "$table") rows written to $table"
+else
+    compare
+fi
