@@ -19,12 +19,17 @@ pub fn quick_contents(bytes: &[u8], tag: Tag) -> Option<(&[u8], &[u8])>
             if *form < 0x80 {
                 return rest.split_at_checked(*form as usize);
             }
+            if *form == 0x82 {
+                return match rest {
+                    [high, low, left @ ..] if *high > 0 => {
+                        left.split_at_checked(*high as usize * 0x100 + *low as usize)
+                    }
+                    _ => None,
+                };
+            }
             match rest {
                 [length, left @ ..] if *form == 0x81 && *length >= 0x80 => {
                     left.split_at_checked(*length as usize)
-                }
-                [high, low, left @ ..] if *form == 0x82 && *high > 0 => {
-                    left.split_at_checked(*high as usize * 0x100 + *low as usize)
                 }
                 _ => None,
             }

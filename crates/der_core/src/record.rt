@@ -53,8 +53,10 @@ where
 
     #[inline(always)]
     fn quick_value(memory: M, contents: &'a [u8]) -> Option<T> {
-        let parts = T::Parts::quick_parts(memory, contents)?;
-        Some(T::from_parts(parts))
+        match T::Parts::quick_parts(memory, contents) {
+            Some(parts) => Some(T::from_parts(parts)),
+            None => None,
+        }
     }
 }
 

@@ -251,6 +251,7 @@ impl<'a> TryFrom<&'a [u8]> for RsaPrivateKeyView<'a> {
 
     /// Decodes a whole slice, and allocates nothing, however many primes there are. The errors are those of
     /// `RsaPrivateKeyRef::from_der`, except `OutOfMemory`, in `Error::Asn1`.
+    #[inline(always)]
     fn try_from(bytes: &'a [u8]) -> crate::Result<RsaPrivateKeyView<'a>>
         ensures read { Decodes PrivateKeyEncoding bytes.now (ok_of held_view result) }
         ensures exact { ErrsAs held_view (rsa_private_key bytes.now) result }

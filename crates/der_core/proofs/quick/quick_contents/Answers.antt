@@ -12,12 +12,12 @@ pub returns-in-len1-up-clause-contents : goal.returns-in-len1-up-clause-contents
 returns-in-len1-up-clause-contents c =
     two_found _ (λ p. p.0.now) (λ p. p.1.now) c.args.tag _ _ c.in-len2-up.len_at_least
     (λ i. omega (arith, c.type_inv.bytes i)) (c.if-first-octet.true ∙ c.octet.ensures) refl c.in-len1-up.len_at_least
-    c.if-form.true c.if-length-ge128.true c.split_at_checked-in-len1-up.result
+    c.if-form-2.true c.if-length-ge128.true c.split_at_checked-in-len1-up.result
     c.split_at_checked-in-len1-up.ensures.cases
 
 pub returns-in-len2-up-rest-clause-contents : goal.returns-in-len2-up-rest-clause-contents
 returns-in-len2-up-rest-clause-contents c =
     three_found _ (λ p. p.0.now) (λ p. p.1.now) c.args.tag _ _ c.in-len2-up.len_at_least
     (λ i. omega (arith, c.type_inv.bytes i)) (c.if-first-octet.true ∙ c.octet.ensures) refl
-    c.in-len2-up-rest.len_at_least c.if-form-2.true c.if-high-gt0.true c.split_at_checked-in-len2-up-rest.result
+    c.in-len2-up-rest.len_at_least c.if-form.true c.if-high-gt0.true c.split_at_checked-in-len2-up-rest.result
     c.split_at_checked-in-len2-up-rest.ensures.cases
