@@ -30,7 +30,7 @@ use Rattle.spki_core.specs.Laws.FieldSpellings.Records.{spelled_from, spelled_to
 use Rattle.spki_core.specs.Laws.FieldSpellings.Masks.{under_valid}
 use Rattle.spki_core.specs.Laws.Printed.Shortest.{algorithm_writes_shortest}
 use Rattle.spki_core.specs.Laws.Printed.Readings.{algorithm_law}
-use Rattle.spki_core.specs.Readings.{algorithm_read}
+use Rattle.spki_core.specs.Readings.{algorithm_read, any_as}
 use Rattle.spki_core.proofs.Fielded.{are_all, counted, default_count, each_within, made, record_decodes}
 use Rattle.spki_core.proofs.StrictFields.{back_bytes, contents_bytes, front_bytes, strict_decodes}
 use Rattle.pkcs1_params.specs.Algorithms.{Identifies, identified, parameters_as, whole_algorithm}
@@ -53,6 +53,12 @@ holding oid c = record { oid = oid; parameters = Some (record { tag = 48; conten
 pub identified_is : {V : Type 0} (oid : List ℕ) (read : Reading V) (c : List ℕ)
     → identified oid read (holding oid c) ≡ read c
 identified_is oid read c = let same : bytes_eq oid oid ≡ true = (bytes_eq-Decides oid oid).1 refl in rw same refl
+
+-- What a whole slice is read as, by its identifier.
+pub behind_any : {V : Type 0} (oid bytes : List ℕ) (a : Algorithm TagAndContents) (x : TagAndContents)
+    → whole plain_front bytes ≡ Ok a → ((read : Reading V) → identified oid read a ≡ any_as tags.sequence read x)
+    → (read : Reading V) → whole_algorithm oid read bytes ≡ any_as tags.sequence read x
+behind_any oid bytes a x is given read = ap (λ r. r >>= identified oid read) is ∙ given read
 
 -- And nothing is read of another one.
 pub identified_holds : {V : Type 0} (oid : List ℕ) (read : Reading V) (a : Algorithm TagAndContents) (v : V)
@@ -188,6 +194,11 @@ module _ (oid : List ℕ) (valid : is_identifier oid ≡ true) where
               λ w q. ok_same (sym (read_of w bytes are q) ∙ was),
             )
         go (Err k) was = λ w q. let no = sym (read_of w bytes are q) ∙ was in cc
+
+    pub algorithm_encodes : (v : V) (bytes : List ℕ) → AreBytes bytes
+        → whole_algorithm oid (record_read r) bytes ≡ Ok v → A v bytes
+    algorithm_encodes v bytes are is =
+        (subst (λ x. Decodes A bytes (value_in x)) is (algorithm_decodes bytes are)).0
 
     one_value : (v w : V) (p : List ℕ) → AreBytes p → E v p → E w p → v ≡ w
     one_value v w p are a b = go (value_in (whole (tagged tags.sequence (record_read r)) p)) (record_decodes r p are)

@@ -2,7 +2,6 @@ pub mod Algorithms
 pub mod Bare
 pub mod Excluded
 pub mod FirstDefault
-pub mod ShortSequences
 pub mod FieldReads
 pub mod ParameterReads
 pub mod UsualParameters
@@ -11,6 +10,7 @@ pub mod FaultsTell
 pub mod FaultsTold
 pub mod Labels
 pub mod Masks
+pub mod Read
 pub mod Same
 pub mod UnderMask
 pub mod Written

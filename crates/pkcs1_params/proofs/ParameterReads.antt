@@ -4,7 +4,7 @@ use Rattle.der_core.specs.Encodings.{AreBytes}
 use Rattle.der_core.specs.declared.error.ErrorKind.{ErrorKind}
 use Rattle.der_core.specs.Input.{Input, left_in, read_from}
 use Rattle.der_core.specs.Laws.Readings.{made_errs}
-use Rattle.der_core.specs.Reading.{AllocatesIn, Asks}
+use Rattle.der_core.specs.Reading.{Asks}
 use Rattle.der_core.specs.declared.error.ErrorKind.TheVariants.{OutOfMemory}
 use Rattle.der_core.specs.Readings.{Reading, made}
 use Rattle.der_core.specs.Tlv.{Tlv}
@@ -29,10 +29,6 @@ mask_never = algorithm_never plain_never
 
 pub number_never : (b : List ℕ) → Tlv 2 (λ _. ⊥) b → ⊥
 number_never b p = p.holds
-
--- A SEQUENCE of parameters asks for none either.
-pub sequence_never : (b : List ℕ) → AllocatesIn (Tlv 48 (λ _. ⊥)) b → ⊥
-sequence_never b w = w.3.holds
 
 pub made_fails : {A B : Type 0} (make : A → B) (read : Reading A) {e : ErrorKind} (before : Input) {after : Input}
     → Fails read (λ _. ⊥) e before after → Fails (made make read) (λ _. ⊥) e before after

@@ -17,8 +17,7 @@ pub use Rattle.pkcs1_params.specs.OaepValue.{oaep_in, oaep_of, oaep_viewed, oaep
 pub use Rattle.pkcs1_params.specs.ParameterReadings.{oaep_kinds, oaep_read, of_oaep_fields, of_pss_fields, pss_kinds}
 pub use Rattle.pkcs1_params.specs.ParameterReadings.{pss_read, rsa_oaep_params, rsa_pss_params, strict_oaep_params}
 pub use Rattle.pkcs1_params.specs.ParameterReadings.{strict_pss_params, trailer_read}
-pub use Rattle.pkcs1_params.specs.UsualParameters.{AreUsual, HaveUsualHash, IsUsualOaep, IsUsualOaepEncoding}
-pub use Rattle.pkcs1_params.specs.UsualParameters.{IsUsualPss, IsUsualPssEncoding}
+pub use Rattle.pkcs1_params.specs.UsualParameters.{AreUsual, HaveUsualHash, IsUsualOaep, IsUsualPss}
 pub use Rattle.pkcs1_params.specs.Parameters.{OaepParameters, PssParameters, id_mgf1, id_p_specified}
 pub use Rattle.pkcs1_params.specs.Parameters.{id_rsa_encryption, id_sha1, octets_value, with_parameters}
 pub use Rattle.pkcs1_params.specs.PssValue.{pss_in, pss_of, pss_viewed, pss_with}
