@@ -16,17 +16,16 @@ use Rattle.der_core.specs.Length.{limit}
 use Rattle.der_core.specs.Laws.Printed.Shortest.{tagged_shortest}
 use Rattle.der_core.specs.Printed.{ReadsFrontPrinted, Spells, WritesShortest, value_in}
 use Rattle.der_core.specs.Readings.{Reading, tagged, unexpected, whole, ◌>>=◌}
-use Rattle.der_core.specs.Tags as tags
 use Rattle.der_core.specs.declared.error.ErrorKind.{ErrorKind}
 use Rattle.der_core.specs.declared.error.ErrorKind.TheVariants.{OidUnknown}
 use Rattle.spki_core.specs.IdentifierTest.{is_identifier}
 use Rattle.spki_core.specs.Laws.IdentifierTest.{is_identifier-sound}
 use Rattle.spki_core.specs.AlgorithmIdentifier.{algorithm_contents, algorithm_map}
-use Rattle.spki_core.specs.FieldSpellings.{AreSpelled, FieldRecord, Spelling, record_means, record_read, record_strictly, spelled}
-use Rattle.spki_core.specs.FieldSpellings.{record_under, spelling_read, strict_value, strict_whole, upto}
+use Rattle.spki_core.specs.FieldSpellings.{AreSpelled, FieldRecord, Spelling, record_means, record_read}
+use Rattle.spki_core.specs.FieldSpellings.{record_strictly, spelled, record_under, spelling_read, strict_value}
+use Rattle.spki_core.specs.FieldSpellings.{strict_whole, upto}
 use Rattle.spki_core.specs.Laws.FieldSpellings.Records.{record_alike, record_front_law, record_law, record_reads}
-use Rattle.spki_core.specs.Laws.FieldSpellings.Records.{record_shortest}
-use Rattle.spki_core.specs.Laws.FieldSpellings.Records.{spelled_from, spelled_to}
+use Rattle.spki_core.specs.Laws.FieldSpellings.Records.{record_shortest, spelled_from, spelled_to}
 use Rattle.spki_core.specs.Laws.FieldSpellings.Masks.{under_valid}
 use Rattle.spki_core.specs.Laws.Printed.Shortest.{algorithm_writes_shortest}
 use Rattle.spki_core.specs.Laws.Printed.Readings.{algorithm_law}
@@ -38,12 +37,12 @@ use Rattle.pkcs1_params.specs.Laws.Records.{plain_law}
 use Rattle.pkcs1_params.specs.Meanings.{AreDelimited}
 use Rattle.pkcs1_params.specs.ParameterReadings.{plain_front}
 use Rattle.pkcs1_params.specs.Parameters.{with_parameters}
-use Rattle.pkcs1_params.proofs.Wrapped.{are_all_in, same_contents, shortest_inside, shortest_outside, wrapped, wrapped_fit}
-use Rattle.pkcs1_params.proofs.Wrapped.{wrapped_one}
-use Rattle.standard.specs.Statement.{Algorithm, AlgorithmEncoding, AreAll, Decodes, Field, Fields, IfPresent, IsAlgorithm}
-use Rattle.standard.specs.Statement.{IsAny, IsIdentifier, IsShortest, SequenceOf, TagAndContents}
-use Rattle.standard.specs.Statement.{optional}
+use Rattle.pkcs1_params.proofs.Wrapped.{are_all_in, same_contents, shortest_inside, shortest_outside, wrapped}
+use Rattle.pkcs1_params.proofs.Wrapped.{wrapped_fit, wrapped_one}
+use Rattle.standard.specs.Statement.{Algorithm, AlgorithmEncoding, AreAll, Decodes, Field, Fields, IfPresent}
+use Rattle.standard.specs.Statement.{IsAlgorithm, IsAny, IsIdentifier, IsShortest, SequenceOf, TagAndContents, optional}
 use Rattle.standard.specs.Statement.{TwoToTheDefaultsIn, algorithm, any, longest, sequence, tlv}
+use Rattle.der_core.specs.Tags as tags
 
 -- The algorithm with a SEQUENCE of these contents as parameters.
 abbrev pub holding : List ℕ → List ℕ → Algorithm TagAndContents

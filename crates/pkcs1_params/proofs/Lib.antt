@@ -1,8 +1,6 @@
 pub mod Algorithms
-pub mod Bare
 pub mod Excluded
 pub mod FirstDefault
-pub mod FieldReads
 pub mod ParameterReads
 pub mod UsualParameters
 pub mod Errors
@@ -10,8 +8,6 @@ pub mod FaultsTell
 pub mod FaultsTold
 pub mod Labels
 pub mod Masks
-pub mod Read
 pub mod Same
-pub mod UnderMask
 pub mod Written
 pub mod Wrapped

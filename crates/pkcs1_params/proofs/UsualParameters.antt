@@ -1,30 +1,40 @@
--- Parameters that begin with the usual two fields: what reads parameters computes them, strictly too.
-use Rattle.std.proofs.Common.{ℕ, Bool, List, [], ◌∷◌, ◌++◌, ◌==◌, ◌&&◌, ◌≡◌, ◌≤◌, ◌<◌, ◌∙◌, refl, ap, sym, Ok, true, false}
-use Rattle.std.proofs.Common.{arith, length, take, drop, eqb}
+-- Whole slices that are read as parameters. Those that begin with the usual two fields: what reads parameters computes
+-- them, strictly too.
+use Rattle.std.proofs.Common.{ℕ, Bool, List, [], ◌∷◌, ◌++◌, ◌==◌, ◌&&◌, ◌≡◌, ◌≤◌, ◌<◌, ◌∙◌, refl, ap, sym, Ok, true}
+use Rattle.std.proofs.Common.{false, arith, length, take, drop, eqb}
 use Rattle.std.specs.Int.Digits.{number_from_digits}
-use Rattle.std.specs.Prelude.{nat_lt, if◌then◌else◌}
+use Rattle.std.specs.Prelude.{nat_lt, if◌then◌else◌, Result}
 use Rattle.std.proofs.lemmas.Bool.Decides.{nat_tests}
 use Rattle.std.proofs.lemmas.List.{drop_all, take-append-drop, take_all}
 use Rattle.der_core.specs.Input.{header_at, length_at}
 use Rattle.der_core.specs.Length.{limit}
-use Rattle.der_core.specs.Readings.{Reading, tagged, whole}
+use Rattle.der_core.specs.Readings.{Reading, tagged, whole, ◌>>=◌}
 use Rattle.der_core.specs.Tags.{sequence}
 use Rattle.spki_core.specs.Any.{null_value}
-use Rattle.spki_core.specs.FieldSpellings.{record_read, record_strictly}
-use Rattle.spki_core.specs.Readings.{any_as}
+use Rattle.spki_core.specs.FieldSpellings.{record_read, record_strictly, FieldRecord, record_whole, spelling_read}
+use Rattle.spki_core.specs.FieldSpellings.{strict_value, strict_whole}
 use Rattle.pkcs1_params.specs.HashFunctions.{hash_algorithm}
 use Rattle.pkcs1_params.specs.Laws.Records.{oaep_record, pss_record}
 use Rattle.pkcs1_params.specs.Parameters.{with_parameters}
 use Rattle.pkcs1_params.specs.UsualParameters.{IsUsualOaep, IsUsualPss, fields_with_hash, oaep_with_hash, pss_with_hash}
 use Rattle.pkcs1_params.specs.UsualParameters.{salt_field}
-use Rattle.standard.specs.Statement.{OaepParameters, PssParameters, TagAndContents}
+use Rattle.standard.specs.Statement.{OaepParameters, PssParameters, Decodes, Field, IsShortest}
+use Rattle.der_core.specs.Encodings.{AreBytes}
+use Rattle.der_core.specs.Laws.Readings.{bind_ok}
+use Rattle.der_core.specs.Printed.{ok_of}
+use Rattle.spki_core.proofs.Fielded.{record_decodes}
+use Rattle.spki_core.proofs.StrictFields.{strict_decodes}
+use Rattle.pkcs1_params.specs.Meanings.{ErrsAs}
+use Rattle.pkcs1_params.specs.Spellings.{Encoded}
+use Rattle.pkcs1_params.specs.declared.error.Error.{Error}
+use Rattle.pkcs1_params.proofs.FaultsTold.{errs_decode}
 
 pub joined : (n : ℕ) (c front back last : List ℕ) → front ≡ take n c → back ≡ drop n c → back ≡ last → c ≡ front ++ last
 joined n c front back last f b l =
     sym (take-append-drop n c) ∙ ap (λ x. x ++ drop n c) (sym f) ∙ ap (λ x. front ++ x) (sym b ∙ l)
 
 -- A SEQUENCE of fewer than 128 octets alone in a slice is read as its contents are.
-pub whole_sequence : {V : Type 0} (read : Reading V) (v : V) (c b : List ℕ) → length c < 128
+whole_sequence : {V : Type 0} (read : Reading V) (v : V) (c b : List ℕ) → length c < 128
     → b ≡ 0x30 ∷ length c ∷ c → read c ≡ Ok v → whole (tagged sequence read) b ≡ Ok v
 unfolding header_at length_at
 whole_sequence read v c b few is value =
@@ -35,11 +45,6 @@ whole_sequence read v c b few is value =
     let all : take n c ≡ c = take_all n c (omega arith) in
     let none : drop n c ≡ [] = drop_all n c (omega arith) in
     rw (is, within, test, there, all, none, value) refl
-
--- A tag with contents that are read.
-pub any_read : {V : Type 0} (read : Reading V) (any : TagAndContents) (v : V) → any.tag ≡ 48 → read any.contents ≡ Ok v
-    → any_as sequence read any ≡ Ok v
-any_read read any v tag is = rw (tag, is) refl
 
 -- The two fields are read as the hash function that they begin with, and no default is written in them.
 module _ (n : ℕ) (few : n ≤ 6) where
@@ -87,3 +92,21 @@ pub oaep_usual : (strict : Bool) (p : OaepParameters) (c : List ℕ) → IsUsual
 oaep_usual strict p c ((n, some, few, h, f), is) =
     let read = if strict then record_strictly oaep_record else record_read oaep_record in
     ap read f ∙ oaep_fields_read n few strict ∙ ap (λ x. Ok x) (sym (is ∙ ap oaep_with_hash h))
+
+module _ {V : Type 0} {Is : V → Type 0} {fields : V → List Field} (r : FieldRecord Is fields) (bytes : List ℕ) where
+  pub short_read : (strict : Bool) (c : List ℕ) (v : V) → length c < 128 → bytes ≡ 0x30 ∷ length c ∷ c
+      → (if strict then record_strictly r else record_read r) c ≡ Ok v
+      → (if strict then strict_whole r else record_whole r) bytes ≡ Ok v
+  short_read true c v few is read =
+      let s = bind_ok (spelling_read r.kinds c) _ read in
+      ap (λ x. x >>= strict_value r.kinds r.join) (whole_sequence (spelling_read r.kinds) s.0 c bytes few is s.1) ∙ s.2
+  short_read false c v few is read = whole_sequence (record_read r) v c bytes few is read
+
+  pub whole_decodes : {X : Type 0} (value : X → V) (result : Result X Error) → AreBytes bytes
+      → ErrsAs value (record_whole r bytes) result → Decodes (Encoded Is fields) bytes (ok_of value result)
+  whole_decodes value result are = errs_decode (Encoded Is fields) bytes value _ (record_decodes r bytes are) result
+
+  pub shortest_decodes : {X : Type 0} (value : X → V) (result : Result X Error) → AreBytes bytes
+      → ErrsAs value (strict_whole r bytes) result → Decodes (IsShortest (Encoded Is fields)) bytes (ok_of value result)
+  shortest_decodes value result are =
+      errs_decode (IsShortest (Encoded Is fields)) bytes value _ (strict_decodes r bytes are) result

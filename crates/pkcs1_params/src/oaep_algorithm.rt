@@ -2,8 +2,7 @@
 ghost use Rattle.std.specs.Prelude.{◌≡◌, ◌↔◌, ⊤, None, length, refl, IfErr};
 ghost use Rattle.der_core.specs.Words.{ok_of};
 ghost use Rattle.spki_core.specs.Words.{own_octets_of, viewed_with};
-ghost use Rattle.pkcs1_params.specs.Words.{IsEncoded, Refuses, fault_in, oaep_in};
-ghost use Rattle.pkcs1_params.specs.Words.{rsa_oaep_algorithm, with_parameters};
+ghost use Rattle.pkcs1_params.specs.Words.{IsEncoded, Refuses, fault_in, oaep_in, rsa_oaep_algorithm, with_parameters};
 ghost use Rattle.standard.specs.Statement.{Encodes, IsOaep, OaepAlgorithmEncoding, id_rsaes_oaep};
 
 use crate::algorithm::{FromAlgorithm, encode_identifier};

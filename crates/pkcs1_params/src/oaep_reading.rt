@@ -9,7 +9,7 @@ use crate::error::{Error, Result};
 use crate::from_view::ReadParams;
 use crate::hash_fields::{mgf1_with, with_null};
 use crate::hash_functions::Sha1;
-use crate::oaep::{OaepParamsOf, RsaOaepParams, RsaOaepParamsRef, RsaOaepParamsView};
+use crate::oaep::{OaepParamsOf, RsaOaepParamsRef, RsaOaepParamsView};
 use crate::oaep_algorithm::RsaesOaep;
 use crate::p_source::empty_source;
 use crate::reading::{

@@ -9,7 +9,7 @@ use crate::error::{Error, Result};
 use crate::from_view::ReadParams;
 use crate::hash_fields::{mgf1_with, with_null};
 use crate::hash_functions::Sha1;
-use crate::pss::{PssParamsOf, RsaPssParams, RsaPssParamsRef, RsaPssParamsView};
+use crate::pss::{PssParamsOf, RsaPssParamsRef, RsaPssParamsView};
 use crate::pss_algorithm::RsassaPss;
 use crate::reading::{
     AlgorithmParams, decode_borrowed, decode_whole, read_params, read_params_strict,

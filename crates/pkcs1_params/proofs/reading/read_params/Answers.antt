@@ -1,6 +1,6 @@
 use Rattle.std.proofs.Common.{arith, Ok}
 use Rattle.der_core.specs.Laws.Input.{are_bytes}
-use Rattle.pkcs1_params.proofs.Read.{whole_decodes}
+use Rattle.pkcs1_params.proofs.UsualParameters.{whole_decodes}
 use Rattle.pkcs1_params.proofs.reading.read_params.Goals as goal
 
 pub returns-in-Some-clause-read : goal.returns-in-Some-clause-read

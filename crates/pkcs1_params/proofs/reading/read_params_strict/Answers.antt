@@ -1,6 +1,6 @@
 use Rattle.std.proofs.Common.{arith}
 use Rattle.der_core.specs.Laws.Input.{are_bytes}
-use Rattle.pkcs1_params.proofs.Read.{shortest_decodes}
+use Rattle.pkcs1_params.proofs.UsualParameters.{shortest_decodes}
 use Rattle.pkcs1_params.proofs.reading.read_params_strict.Goals as goal
 
 pub returns-clause-read : goal.returns-clause-read

@@ -1,4 +1,4 @@
-use Rattle.pkcs1_params.proofs.Read.{short_read}
+use Rattle.pkcs1_params.proofs.UsualParameters.{short_read}
 use Rattle.pkcs1_params.proofs.reading.usual_encoding.Goals as goal
 
 pub returns : goal.returns
