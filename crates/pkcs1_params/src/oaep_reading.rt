@@ -75,7 +75,7 @@ impl<'a, O: ReadParams<'a>> AlgorithmParams<'a> for OaepParamsOf<O, AnyRef<'a>> 
         if contents.is_empty() {
             return Some(OaepParamsOf::default());
         }
-        let view = usual_oaep(contents)?;
+        let view = usual_oaep(contents)?; // in which no default can be written, so they are strict
         Some(O::oaep_from_view(view))
     }
 
@@ -84,6 +84,7 @@ impl<'a, O: ReadParams<'a>> AlgorithmParams<'a> for OaepParamsOf<O, AnyRef<'a>> 
         Ok(O::oaep_from_view(view))
     }
 
+    #[inline(always)]
     fn read_whole(bytes: &'a [u8]) -> Result<OaepParamsOf<O, AnyRef<'a>>> {
         let view = decode_whole::<RsaOaepParamsView<'a>>(bytes)?;
         Ok(O::oaep_from_view(view))

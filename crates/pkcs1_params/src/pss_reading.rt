@@ -87,6 +87,7 @@ impl<'a, O: ReadParams<'a>> AlgorithmParams<'a> for PssParamsOf<O, AnyRef<'a>> {
         Ok(O::pss_from_view(view))
     }
 
+    #[inline(always)]
     fn read_whole(bytes: &'a [u8]) -> Result<PssParamsOf<O, AnyRef<'a>>> {
         let view = decode_whole::<RsaPssParamsView<'a>>(bytes)?;
         Ok(O::pss_from_view(view))
