@@ -16,21 +16,20 @@ use Rattle.der_core.specs.Length.{limit}
 use Rattle.der_core.specs.Laws.Printed.Shortest.{tagged_shortest}
 use Rattle.der_core.specs.Printed.{ReadsFrontPrinted, Spells, WritesShortest, value_in}
 use Rattle.der_core.specs.Readings.{Reading, tagged, unexpected, whole, ◌>>=◌}
-use Rattle.der_core.specs.Tags as tags
 use Rattle.der_core.specs.declared.error.ErrorKind.{ErrorKind}
 use Rattle.der_core.specs.declared.error.ErrorKind.TheVariants.{OidUnknown}
 use Rattle.spki_core.specs.IdentifierTest.{is_identifier}
 use Rattle.spki_core.specs.Laws.IdentifierTest.{is_identifier-sound}
 use Rattle.spki_core.specs.AlgorithmIdentifier.{algorithm_contents, algorithm_map}
-use Rattle.spki_core.specs.FieldSpellings.{AreSpelled, FieldRecord, Spelling, record_means, record_read, record_strictly, spelled}
-use Rattle.spki_core.specs.FieldSpellings.{record_under, spelling_read, strict_value, strict_whole, upto}
+use Rattle.spki_core.specs.FieldSpellings.{AreSpelled, FieldRecord, Spelling, record_means, record_read}
+use Rattle.spki_core.specs.FieldSpellings.{record_strictly, spelled, record_under, spelling_read, strict_value}
+use Rattle.spki_core.specs.FieldSpellings.{strict_whole, upto}
 use Rattle.spki_core.specs.Laws.FieldSpellings.Records.{record_alike, record_front_law, record_law, record_reads}
-use Rattle.spki_core.specs.Laws.FieldSpellings.Records.{record_shortest}
-use Rattle.spki_core.specs.Laws.FieldSpellings.Records.{spelled_from, spelled_to}
+use Rattle.spki_core.specs.Laws.FieldSpellings.Records.{record_shortest, spelled_from, spelled_to}
 use Rattle.spki_core.specs.Laws.FieldSpellings.Masks.{under_valid}
 use Rattle.spki_core.specs.Laws.Printed.Shortest.{algorithm_writes_shortest}
 use Rattle.spki_core.specs.Laws.Printed.Readings.{algorithm_law}
-use Rattle.spki_core.specs.Readings.{algorithm_read}
+use Rattle.spki_core.specs.Readings.{algorithm_read, any_as}
 use Rattle.spki_core.proofs.Fielded.{are_all, counted, default_count, each_within, made, record_decodes}
 use Rattle.spki_core.proofs.StrictFields.{back_bytes, contents_bytes, front_bytes, strict_decodes}
 use Rattle.pkcs1_params.specs.Algorithms.{Identifies, identified, parameters_as, whole_algorithm}
@@ -38,12 +37,12 @@ use Rattle.pkcs1_params.specs.Laws.Records.{plain_law}
 use Rattle.pkcs1_params.specs.Meanings.{AreDelimited}
 use Rattle.pkcs1_params.specs.ParameterReadings.{plain_front}
 use Rattle.pkcs1_params.specs.Parameters.{with_parameters}
-use Rattle.pkcs1_params.proofs.Wrapped.{are_all_in, same_contents, shortest_inside, shortest_outside, wrapped, wrapped_fit}
-use Rattle.pkcs1_params.proofs.Wrapped.{wrapped_one}
-use Rattle.standard.specs.Statement.{Algorithm, AlgorithmEncoding, AreAll, Decodes, Field, Fields, IfPresent, IsAlgorithm}
-use Rattle.standard.specs.Statement.{IsAny, IsIdentifier, IsShortest, SequenceOf, TagAndContents}
-use Rattle.standard.specs.Statement.{optional}
+use Rattle.pkcs1_params.proofs.Wrapped.{are_all_in, same_contents, shortest_inside, shortest_outside, wrapped}
+use Rattle.pkcs1_params.proofs.Wrapped.{wrapped_fit, wrapped_one}
+use Rattle.standard.specs.Statement.{Algorithm, AlgorithmEncoding, AreAll, Decodes, Field, Fields, IfPresent}
+use Rattle.standard.specs.Statement.{IsAlgorithm, IsAny, IsIdentifier, IsShortest, SequenceOf, TagAndContents, optional}
 use Rattle.standard.specs.Statement.{TwoToTheDefaultsIn, algorithm, any, longest, sequence, tlv}
+use Rattle.der_core.specs.Tags as tags
 
 -- The algorithm with a SEQUENCE of these contents as parameters.
 abbrev pub holding : List ℕ → List ℕ → Algorithm TagAndContents
@@ -53,6 +52,12 @@ holding oid c = record { oid = oid; parameters = Some (record { tag = 48; conten
 pub identified_is : {V : Type 0} (oid : List ℕ) (read : Reading V) (c : List ℕ)
     → identified oid read (holding oid c) ≡ read c
 identified_is oid read c = let same : bytes_eq oid oid ≡ true = (bytes_eq-Decides oid oid).1 refl in rw same refl
+
+-- What a whole slice is read as, by its identifier.
+pub behind_any : {V : Type 0} (oid bytes : List ℕ) (a : Algorithm TagAndContents) (x : TagAndContents)
+    → whole plain_front bytes ≡ Ok a → ((read : Reading V) → identified oid read a ≡ any_as tags.sequence read x)
+    → (read : Reading V) → whole_algorithm oid read bytes ≡ any_as tags.sequence read x
+behind_any oid bytes a x is given read = ap (λ r. r >>= identified oid read) is ∙ given read
 
 -- And nothing is read of another one.
 pub identified_holds : {V : Type 0} (oid : List ℕ) (read : Reading V) (a : Algorithm TagAndContents) (v : V)
@@ -188,6 +193,11 @@ module _ (oid : List ℕ) (valid : is_identifier oid ≡ true) where
               λ w q. ok_same (sym (read_of w bytes are q) ∙ was),
             )
         go (Err k) was = λ w q. let no = sym (read_of w bytes are q) ∙ was in cc
+
+    pub algorithm_encodes : (v : V) (bytes : List ℕ) → AreBytes bytes
+        → whole_algorithm oid (record_read r) bytes ≡ Ok v → A v bytes
+    algorithm_encodes v bytes are is =
+        (subst (λ x. Decodes A bytes (value_in x)) is (algorithm_decodes bytes are)).0
 
     one_value : (v w : V) (p : List ℕ) → AreBytes p → E v p → E w p → v ≡ w
     one_value v w p are a b = go (value_in (whole (tagged tags.sequence (record_read r)) p)) (record_decodes r p are)

@@ -31,6 +31,11 @@ told_as given k is error.Crypto p = absurd p
 told_as given k is error.KeyMalformed p = absurd p
 told_as given k is error.Version p = absurd p
 
+-- The same error of a function that gives the same.
+pub told_same : {V : Type 0} {given other : Result V ErrorKind} → given ≡ other → (e : Error)
+    → IsAsn1 (λ a. other ≡ Err a.kind) e → IsAsn1 (λ a. given ≡ Err a.kind) e
+told_same same e p = subst (λ r. IsAsn1 (λ a. r ≡ Err a.kind) e) (sym same) p
+
 -- A call that returns what a function gives decodes what the function does.
 pub errs_decode : {X V B : Type 0} (E : V → B → Type 0) (bytes : B) (value : X → V) (given : Result V ErrorKind)
     → Decodes E bytes (value_in given) → (r : Result X Error) → ErrsAs value given r → Decodes E bytes (ok_of value r)

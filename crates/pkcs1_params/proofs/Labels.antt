@@ -13,12 +13,12 @@ use Rattle.der_core.specs.declared.error.ErrorKind.TheVariants as kind
 use Rattle.spki_core.specs.FieldSpellings.{WrittenField, field_with, octets_under, out_under, record_under, rest_under}
 use Rattle.spki_core.specs.FieldSpellings.{spelled}
 use Rattle.spki_core.proofs.Fielded.{made, shortest_is, zero_least}
-use Rattle.pkcs1_params.specs.LabelWriting.{CountsLabelled, source_with, written_labelled, written_source}
+use Rattle.pkcs1_params.specs.Labels.{CountsLabelled, source_with, written_labelled, written_source}
 use Rattle.pkcs1_params.specs.Laws.Records.{mgf1_identifier, oaep_record, source_identifier}
 use Rattle.pkcs1_params.specs.OaepValue.{LabelFits, NoLabelFits, labelled}
 use Rattle.pkcs1_params.specs.ParameterReadings.{hash_kind, mask_kind, oaep_kinds, source_kind}
 use Rattle.pkcs1_params.specs.Parameters.{id_p_specified}
-use Rattle.pkcs1_params.proofs.UnderMask.{octets_are}
+use Rattle.pkcs1_params.proofs.Masks.{octets_are}
 use Rattle.standard.specs.Statement.{IsIdentifier, IsOaep, OaepParameters, sequence, tlv}
 
 -- The source of a label that isn't empty is written.

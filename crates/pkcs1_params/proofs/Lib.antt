@@ -1,9 +1,6 @@
 pub mod Algorithms
-pub mod Bare
 pub mod Excluded
 pub mod FirstDefault
-pub mod ShortSequences
-pub mod FieldReads
 pub mod ParameterReads
 pub mod UsualParameters
 pub mod Errors
@@ -12,6 +9,5 @@ pub mod FaultsTold
 pub mod Labels
 pub mod Masks
 pub mod Same
-pub mod UnderMask
 pub mod Written
 pub mod Wrapped

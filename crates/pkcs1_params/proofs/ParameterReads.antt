@@ -1,18 +1,81 @@
--- Reading parameters: the fields ask for no memory, and what is made of them has their faults.
-use Rattle.std.proofs.Common.{ℕ, List, ◌≡◌, inl, Ok, Some, None}
-use Rattle.der_core.specs.Encodings.{AreBytes}
+-- Reading a list of fields with `?`: each exit of the code is one lemma. Nothing asks for memory, and what is made of
+-- the fields has their faults.
+use Rattle.std.proofs.Common.{◌≡◌, ℕ, List, [], ◌∷◌, refl, sym, ap, ◌∙◌, inl, inr, Ok, Err, Some, None}
 use Rattle.der_core.specs.declared.error.ErrorKind.{ErrorKind}
-use Rattle.der_core.specs.Input.{Input, left_in, read_from}
-use Rattle.der_core.specs.Laws.Readings.{made_errs}
+use Rattle.der_core.specs.Input.{Input, end_of, read_from, left_in}
+use Rattle.der_core.specs.Laws.Input.{ok_pair}
 use Rattle.der_core.specs.Reading.{AllocatesIn, Asks}
+use Rattle.der_core.specs.Readings.{FrontReading, Reading, ◌>>=◌, made, no_parts}
+use Rattle.spki_core.specs.Allocating.{FieldAllocates, AlgorithmAllocates}
+use Rattle.spki_core.specs.FieldSpellings.{Kind, Values, values_read, FieldRecord, record_read}
+use Rattle.spki_core.specs.Readings.{defaulted}
+use Rattle.der_core.proofs.ReadSteps.{Fails, Gives, chain_from, fails_so}
+use Rattle.der_core.specs.Encodings.{AreBytes}
+use Rattle.der_core.specs.Laws.Readings.{made_errs}
 use Rattle.der_core.specs.declared.error.ErrorKind.TheVariants.{OutOfMemory}
-use Rattle.der_core.specs.Readings.{Reading, made}
 use Rattle.der_core.specs.Tlv.{Tlv}
-use Rattle.spki_core.specs.Allocating.{AlgorithmAllocates}
-use Rattle.spki_core.specs.FieldSpellings.{FieldRecord, record_read}
 use Rattle.spki_core.specs.Laws.FieldSpellings.Records.{record_reads}
 use Rattle.standard.specs.Statement.{Field, Fields}
-use Rattle.der_core.proofs.ReadSteps.{Fails, fails_so}
+
+-- A value that is made of another.
+pub made_gives : {A B : Type 0} (make : A → B) (read : Reading A) {a : A} (before : Input)
+    → read_from before read ≡ Ok a → read_from before (made make read) ≡ Ok (make a)
+made_gives make read None p = cc
+made_gives make read (Some c) p = ap (λ r. r >>= λ a. Ok (make a)) p
+
+-- One field and those behind it, with the number and the default of the first as the code has them.
+module _ (k : Kind) (ks : List Kind) {given : k.Value} {n : ℕ} (same : given ≡ k.default) (is : n ≡ k.number) where
+  abbrev at : FrontReading k.Value
+  at = defaulted k.number k.at k.default
+
+  -- it has a fault
+  pub field_fails : {asks : List ℕ → Type 0} → ((b : List ℕ) → asks b → ⊥) → {e : ErrorKind} (before : Input)
+      {after : Input} → Fails (defaulted n k.at given) (AllocatesIn (FieldAllocates n asks)) e before after
+      → Fails (values_read (k ∷ ks)) (λ _. ⊥) e before after
+  field_fails {asks} never {e} before {after} fails =
+      let known : Fails at (AllocatesIn (FieldAllocates k.number asks)) e before after = rw (is, same) at fails in
+      fails_so at (values_read (k ∷ ks)) (λ k c p. ap (λ r. r >>= λ p. values_read ks p.1 >>= λ b. Ok (p.0, b)) p)
+      (AllocatesIn (FieldAllocates k.number asks)) (λ _. ⊥)
+      (λ c w. let inner = w.3.holds in never inner.0 inner.3) e before after known
+
+  -- it was read
+  module _ {v : k.Value} (before : Input) {mid : Input} (read : Gives (defaulted n k.at given) v before mid) where
+    known : Gives at v before mid
+    known = rw (is, same) at read
+
+    pub behind_field : {e : ErrorKind} {after : Input} → Fails (values_read ks) (λ _. ⊥) e mid after
+        → Fails (values_read (k ∷ ks)) (λ _. ⊥) e before after
+    behind_field {e} {after} = go before known
+      where
+        go : (input : Input) → Gives at v input mid → Fails (values_read ks) (λ _. ⊥) e mid after
+            → Fails (values_read (k ∷ ks)) (λ _. ⊥) e input after
+        go None (left, p, there) fails = let no = p in cc
+        go (Some i) (left, p, there) (failed, inl w) = let asked = rw there at w.1 in absurd asked
+        go (Some i) (left, p, there) (failed, inr q) = (
+          failed,
+          inr
+              (ap (λ r. r >>= λ p. values_read ks p.1 >>= λ b. Ok (p.0, b)) p
+              ∙ ap (λ r. r >>= λ b. Ok (v, b)) (rw there at q)),
+        )
+
+    pub field_gives : {w : Values ks} → read_from mid (values_read ks) ≡ Ok w
+        → read_from before (values_read (k ∷ ks)) ≡ Ok (v, w)
+    field_gives {w} p =
+        chain_from at (λ a. made (λ b. (a, b)) (values_read ks)) v before mid known
+        ∙ made_gives (λ b. (v, b)) (values_read ks) mid p
+
+-- The end.
+pub end_gives : (before : Input) {after : Input} → Gives end_of tt before after
+    → (read_from before no_parts ≡ Ok tt) × (after ≡ Some [])
+end_gives None (rest, p, is) = let no = p in cc
+end_gives (Some []) (rest, p, is) = (refl, is ∙ ap (λ l. Some l) (sym (ok_pair tt tt [] rest p).1))
+end_gives (Some (x ∷ xs)) (rest, p, is) = let no = p in cc
+
+pub end_fails : {e : ErrorKind} (before : Input) {after : Input} → (read_from before end_of ≡ Err e) × (after ≡ None)
+    → Fails no_parts (λ _. ⊥) e before after
+end_fails None (p, failed) = (failed, inr (let q = p in cc))
+end_fails (Some []) (p, failed) = let no = p in cc
+end_fails (Some (x ∷ xs)) (p, failed) = (failed, inr (let q = p in cc))
 
 pub never : (b : List ℕ) → ⊥ → ⊥
 never b h = h
@@ -29,10 +92,6 @@ mask_never = algorithm_never plain_never
 
 pub number_never : (b : List ℕ) → Tlv 2 (λ _. ⊥) b → ⊥
 number_never b p = p.holds
-
--- A SEQUENCE of parameters asks for none either.
-pub sequence_never : (b : List ℕ) → AllocatesIn (Tlv 48 (λ _. ⊥)) b → ⊥
-sequence_never b w = w.3.holds
 
 pub made_fails : {A B : Type 0} (make : A → B) (read : Reading A) {e : ErrorKind} (before : Input) {after : Input}
     → Fails read (λ _. ⊥) e before after → Fails (made make read) (λ _. ⊥) e before after

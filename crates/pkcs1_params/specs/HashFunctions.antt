@@ -6,7 +6,7 @@ use Rattle.spki_core.specs.HashAlgorithms.{IsHash}
 use Rattle.pkcs1_params.specs.Parameters.{id_mgf1}
 
 -- The contents of identifiers, { nistalgorithm hashalgs(2) n } (RFC 8017 appendix C). That of SHA-1 is a default's.
-abbrev hash_algorithm : ℕ → List ℕ
+abbrev pub hash_algorithm : ℕ → List ℕ
 hash_algorithm n = 0x60 ∷ 0x86 ∷ 0x48 ∷ 0x01 ∷ 0x65 ∷ 0x03 ∷ 0x04 ∷ 0x02 ∷ n ∷ []
 
 abbrev pub id_sha256 : List ℕ

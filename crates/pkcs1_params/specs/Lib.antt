@@ -5,11 +5,9 @@ pub mod Allocating
 pub mod PssValue
 pub mod OaepValue
 pub mod Spellings
-pub mod ErrorText
 pub mod Errors
 pub mod Meanings
 pub mod FieldRefs
-pub mod LabelWriting
 pub mod ParameterReadings
 pub mod DefaultBits
 pub mod Algorithms

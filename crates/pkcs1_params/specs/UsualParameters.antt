@@ -1,9 +1,9 @@
--- hashAlgorithm and maskGenAlgorithm of SHA-256, SHA-384 or SHA-512, with NULL, and MGF1 with the same hash function
--- (RFC 8017 A.2.1, A.2.3, B.1): most parameters begin with them.
-use Rattle.std.specs.Prelude.{ℕ, List, [], ◌∷◌, ◌++◌, ◌≡◌, ◌<◌, ◌⊎◌}
+-- hashAlgorithm and maskGenAlgorithm of a SHA-2 hash function with NULL, and MGF1 with the same hash function (RFC 8017
+-- A.2.1, A.2.3, B.1): most parameters begin with them.
+use Rattle.std.specs.Prelude.{ℕ, List, [], ◌∷◌, ◌++◌, ◌≡◌, ◌<◌, ◌≤◌}
 use Rattle.spki_core.specs.AlgorithmIdentifier.{Algorithm}
 use Rattle.spki_core.specs.Any.{TagAndContents, null_value}
-use Rattle.pkcs1_params.specs.HashFunctions.{id_sha256, id_sha384, id_sha512}
+use Rattle.pkcs1_params.specs.HashFunctions.{hash_algorithm}
 use Rattle.pkcs1_params.specs.Parameters.{id_mgf1, with_parameters, OaepParameters, PssParameters}
 use Rattle.standard.specs.Statement.{empty_label}
 
@@ -16,16 +16,15 @@ abbrev pub fields_with_hash : List ℕ → List ℕ
 fields_with_hash oid =
     0xa0 ∷ 0x0f ∷ hash_with_null oid ++ 0xa1 ∷ 0x1c ∷ 0x30 ∷ 0x1a ∷ 0x06 ∷ 0x09 ∷ id_mgf1 ++ hash_with_null oid
 
--- The octets are those of the two fields with one of the three hash functions.
+-- The octets are those of the two fields with one of the six hash functions, from id_sha256 (1) to id_sha512_256 (6).
 abbrev pub HaveUsualHash : List ℕ → Type 0
-HaveUsualHash fields =
-    (oid : List ℕ) × ((oid ≡ id_sha256) ⊎ ((oid ≡ id_sha384) ⊎ (oid ≡ id_sha512))) × (fields ≡ fields_with_hash oid)
+HaveUsualHash fields = (n : ℕ) × (1 ≤ n) × (n ≤ 6) × (fields ≡ fields_with_hash (hash_algorithm n))
 
 -- The same, with the hash function itself.
 abbrev pub AreUsual : Algorithm TagAndContents → List ℕ → Type 0
 AreUsual hash fields =
-    (oid : List ℕ) × ((oid ≡ id_sha256) ⊎ ((oid ≡ id_sha384) ⊎ (oid ≡ id_sha512)))
-    × (hash ≡ with_parameters oid null_value) × (fields ≡ fields_with_hash oid)
+    (n : ℕ) × (1 ≤ n) × (n ≤ 6) × (hash ≡ with_parameters (hash_algorithm n) null_value)
+    × (fields ≡ fields_with_hash (hash_algorithm n))
 
 -- The parameters with this hash function, and no field behind a salt length.
 abbrev pub pss_with_hash : Algorithm TagAndContents → ℕ → PssParameters
@@ -47,10 +46,3 @@ IsUsualPss p contents =
 
 abbrev pub IsUsualOaep : OaepParameters → List ℕ → Type 0
 IsUsualOaep p contents = AreUsual p.hash contents × (p ≡ oaep_with_hash p.hash)
-
--- The same as whole encodings.
-abbrev pub IsUsualPssEncoding : PssParameters → List ℕ → Type 0
-IsUsualPssEncoding p bytes = (contents : List ℕ) × (bytes ≡ 0x30 ∷ 52 ∷ contents) × IsUsualPss p contents
-
-abbrev pub IsUsualOaepEncoding : OaepParameters → List ℕ → Type 0
-IsUsualOaepEncoding p bytes = (contents : List ℕ) × (bytes ≡ 0x30 ∷ 47 ∷ contents) × IsUsualOaep p contents

@@ -1,49 +1,20 @@
 //! Parameters in their algorithm identifier (RFC 8017 A.2.3, A.2.1; RFC 5280 4.1.1.2).
-ghost use Rattle.std.specs.Prelude.{◌≡◌, ◌++◌, ⊤, ℕ, List, drop, length, IfErr};
-ghost use Rattle.der_core.specs.Words.{Answers, ok_of, sequence as sequence_kind, tlv};
-ghost use Rattle.spki_core.specs.Words.{FieldRecord, algorithm_in, algorithm_of, any_as, any_of, record_read};
-ghost use Rattle.spki_core.specs.Words.{record_strictly, strict_whole};
-ghost use Rattle.pkcs1_params.specs.Words.{Encoded, ErrsAs, Identifies, Refuses, identified, whole_algorithm};
-ghost use Rattle.standard.specs.Statement.{AlgorithmEncoding, Decodes, Encodes, Field, IsShortest, sequence};
+ghost use Rattle.std.specs.Prelude.{◌≡◌, ◌++◌, ⊤, drop, length, Err, IfErr, IfOk};
+ghost use Rattle.der_core.specs.Readings.{Reading};
+ghost use Rattle.der_core.specs.Words.{ok_of, sequence as sequence_kind, tlv};
+ghost use Rattle.spki_core.specs.Words.{algorithm_in, algorithm_of, any_as, any_of, record_read, record_strictly};
+ghost use Rattle.pkcs1_params.specs.Words.{Encoded, ErrsAs, Identifies, IsAsn1, Refuses, identified, whole_algorithm};
+ghost use Rattle.standard.specs.Statement.{AlgorithmEncoding, Decodes, Encodes, IsShortest, sequence};
 
 use crate::error::{Error, Result};
+use crate::reading::{AlgorithmParams, usual_any};
 use crate::shortest::Shortest;
 use crate::spelling::EncodeParams;
-use der_core::{Decode, DecodeValue, Encode, ErrorKind, FixedTag, NoMemory};
+use der_core::{Decode, Encode, ErrorKind, NoMemory};
 use spki_core::{
     AlgorithmIdentifierOf, AlgorithmIdentifierRef, AlgorithmView, AnyRef, AssociatedOid,
-    IdentifierValue,
+    IdentifierValue, IdentifierView,
 };
-
-/// Borrowed parameters of an algorithm.
-pub trait AlgorithmParams<'a>: Sized + Drop {
-    /// The object identifier of the algorithm.
-    type Oid: AssociatedOid;
-
-    /// What the parameters mean.
-    ghost Params: { Type 0 };
-
-    /// What a value means.
-    ghost params: { Self → Params };
-
-    /// Which parameters may be encoded.
-    ghost Is: { Params → Type 0 };
-
-    /// The fields of their SEQUENCE.
-    ghost fields_of: { Params → List Field };
-
-    /// The kinds of these fields, with their laws.
-    ghost form: { FieldRecord Is fields_of };
-
-    /// Reads the parameters of an algorithm: `TagUnexpected` if they are no SEQUENCE.
-    fn from_any(any: AnyRef<'a>) -> der_core::Result<Self>
-        ensures { Answers params result (any_as sequence_kind (record_read form) (any_of any.entry)) };
-
-    /// Rejects an encoding of the parameters in which a default is written: `Noncanonical` with the tag of the first.
-    fn reject_defaults(&self, encoding: &[u8]) -> Result<()>
-        requires { Encoded Is fields_of (params self.now) encoding.now }
-        ensures { ErrsAs (λ _. params self.now) (strict_whole form encoding.now) result };
-}
 
 /// Borrowed parameters that are read from the algorithm identifier that they stand in: `RsaPssParamsRef`,
 /// `RsaPssParamsView`, `RsaOaepParamsRef`, `RsaOaepParamsView`. Nothing is allocated.
@@ -84,9 +55,27 @@ impl<'a, T: AlgorithmParams<'a>> FromAlgorithm<'a> for T {
     }
 
     fn from_algorithm_der_strict(bytes: &'a [u8]) -> Result<T> {
-        let params = T::from_algorithm_der(bytes)?;
-        params.reject_defaults(encoded_parameters::<T>(bytes))?;
-        Ok(params)
+        from_identifier_strict(bytes)
+    }
+}
+
+/// The parameters in an algorithm identifier, whatever holds its object identifier, as they are before they are read.
+#[inline(always)]
+fn parameters_of<'a, O: IdentifierValue, T: AlgorithmParams<'a>>(
+    algorithm: &AlgorithmIdentifierOf<O, AnyRef<'a>>,
+) -> Result<AnyRef<'a>>
+    ensures ok { let a = algorithm_in O.octets any_of algorithm.now in (read : Reading T.Params) →
+        IfOk result (λ any. identified T.Oid.contents read a ≡ any_as sequence_kind read (any_of any)) }
+    ensures err { let a = algorithm_in O.octets any_of algorithm.now in (read : Reading T.Params) →
+        IfErr result (IsAsn1 (λ e. identified T.Oid.contents read a ≡ Err e.kind)) }
+{
+    let oid = algorithm.oid.as_identifier_view();
+    if oid.as_bytes() != T::Oid::octets() {
+        return Err(Error::Asn1(der_core::Error::new(ErrorKind::OidUnknown)));
+    }
+    match algorithm.parameters {
+        Some(any) => Ok(any),
+        None => Err(Error::Asn1(der_core::Error::new(ErrorKind::ParametersMissing))),
     }
 }
 
@@ -98,14 +87,26 @@ fn from_identifier<'a, O: IdentifierValue, T: AlgorithmParams<'a>>(
     ensures { let a = algorithm_in O.octets any_of algorithm.now in
         ErrsAs T.params (identified T.Oid.contents (record_read T.form) a) result }
 {
-    let oid = algorithm.oid.as_identifier_view();
-    if oid.as_bytes() != T::Oid::octets() {
-        return Err(Error::Asn1(der_core::Error::new(ErrorKind::OidUnknown)));
+    let any = parameters_of::<O, T>(algorithm)?;
+    match usual_any(&any, false) {
+        Some(params) => Ok(params),
+        None => T::read_any(any),
     }
-    match algorithm.parameters {
-        Some(any) => Ok(T::from_any(any)?),
-        None => Err(Error::Asn1(der_core::Error::new(ErrorKind::ParametersMissing))),
+}
+
+/// The parameters in a whole slice that is an algorithm identifier, unless a default is written in them.
+fn from_identifier_strict<'a, T: AlgorithmParams<'a>>(bytes: &'a [u8]) -> Result<T>
+    ensures { let read = whole_algorithm T.Oid.contents (record_strictly T.form) in
+        ErrsAs T.params (read bytes.now) result }
+{
+    let algorithm = AlgorithmView::from_der(NoMemory, bytes)?;
+    let any = parameters_of::<IdentifierView<'a>, T>(&algorithm)?;
+    if let Some(params) = usual_any::<T>(&any, true) {
+        return Ok(params);
     }
+    let params = T::read_any(any)?;
+    params.reject_defaults(encoded_parameters::<T>(bytes))?;
+    Ok(params)
 }
 
 /// The octets behind the first `count`, or none if there are fewer.
@@ -129,16 +130,6 @@ fn encoded_parameters<'a, T: AlgorithmParams<'a>>(identifier: &'a [u8]) -> &'a [
         Ok(any) => behind(any.value(), 2 + T::Oid::octets().len()),
         Err(_) => &[],
     }
-}
-
-/// `AnyRef::decode_as` of a type that asks for no memory.
-pub(crate) fn decode_borrowed<'a, T: DecodeValue<&'a [u8], NoMemory> + FixedTag>(
-    any: AnyRef<'a>,
-) -> der_core::Result<T>
-    requires { (contents : List ℕ) → T.may_allocate contents → ⊥ }
-    ensures { Answers T.value result (any_as T.TAG T.read (any_of any.entry)) }
-{
-    any.decode_as(NoMemory)
 }
 
 /// Writes the shortest encoding of the algorithm identifier of D with these parameters to the front of a slice and

@@ -4,9 +4,7 @@
 mod algorithm;
 mod contents;
 mod default_salt;
-mod defaults;
 mod error;
-mod faults;
 mod fields;
 mod from_view;
 mod hash_fields;
@@ -25,6 +23,7 @@ mod pss;
 mod pss_algorithm;
 mod pss_reading;
 mod pss_spelling;
+mod reading;
 mod shortest;
 mod spelling;
 mod strict;
@@ -34,7 +33,6 @@ mod usual;
 pub use algorithm::FromAlgorithm;
 pub use default_salt::DefaultSalt;
 pub use error::{Error, Result};
-pub use faults::{fault_of_oaep_params, fault_of_pss_params};
 pub use hash_fields::with_null;
 pub use hash_functions::{Mgf1, Sha1, Sha224, Sha256, Sha384, Sha512, Sha512_224, Sha512_256};
 pub use laws::{
@@ -45,9 +43,11 @@ pub use oaep::{
     OaepParamsOf, RsaOaepParams, RsaOaepParamsOwned, RsaOaepParamsRef, RsaOaepParamsView,
 };
 pub use oaep_algorithm::{RsaesOaep, fault_of_oaep_algorithm, rsaes_oaep_oid};
+pub use oaep_reading::fault_of_oaep_params;
 pub use p_source::PSpecified;
 pub use pss::{PssParamsOf, RsaPssParams, RsaPssParamsOwned, RsaPssParamsRef, RsaPssParamsView};
 pub use pss_algorithm::{RsassaPss, fault_of_pss_algorithm, rsassa_pss_oid};
+pub use pss_reading::fault_of_pss_params;
 pub use shortest::Shortest;
 pub use spelling::EncodeParams;
 pub use trailer_field::TrailerField;

@@ -1,22 +1,17 @@
 //! The algorithm identifier id-RSAES-OAEP with its parameters (RFC 8017 A.2.1).
 ghost use Rattle.std.specs.Prelude.{◌≡◌, ◌↔◌, ⊤, None, length, refl, IfErr};
 ghost use Rattle.der_core.specs.Words.{ok_of};
-ghost use Rattle.spki_core.specs.Words.{any_of, own_octets_of, viewed_with};
-ghost use Rattle.pkcs1_params.specs.Words.{IsEncoded, OaepParameters, Refuses, fault_in, oaep_in, oaep_record};
-ghost use Rattle.pkcs1_params.specs.Words.{rsa_oaep_algorithm, with_parameters};
-ghost use Rattle.standard.specs.Statement.{Encodes, IsOaep, OaepAlgorithmEncoding, id_rsaes_oaep, oaep_fields};
+ghost use Rattle.spki_core.specs.Words.{own_octets_of, viewed_with};
+ghost use Rattle.pkcs1_params.specs.Words.{IsEncoded, Refuses, fault_in, oaep_in, rsa_oaep_algorithm, with_parameters};
+ghost use Rattle.standard.specs.Statement.{Encodes, IsOaep, OaepAlgorithmEncoding, id_rsaes_oaep};
 
-use crate::algorithm::{AlgorithmParams, FromAlgorithm, decode_borrowed, encode_identifier};
+use crate::algorithm::{FromAlgorithm, encode_identifier};
 use crate::error::{Error, Result};
-use crate::from_view::ReadParams;
 use crate::oaep::{OaepParamsOf, RsaOaepParamsView};
 use crate::spelling::EncodeParams;
-use crate::strict;
-use crate::usual::{usual_oaep, usual_oaep_encoding};
-use der_core::{Borrowed, ErrorKind, Tag};
+use der_core::{Borrowed, ErrorKind};
 use spki_core::{
-    AlgorithmView, AnyRef, AnyValue, AssociatedOid, IdentifierValue, IdentifierView,
-    ObjectIdentifier,
+    AlgorithmView, AnyValue, AssociatedOid, IdentifierValue, IdentifierView, ObjectIdentifier,
 };
 
 /// id-RSAES-OAEP, as a type.
@@ -39,37 +34,6 @@ pub fn rsaes_oaep_oid() -> ObjectIdentifier
     ensures { own_octets_of result ≡ id_rsaes_oaep }
 {
     ObjectIdentifier::of::<RsaesOaep>()
-}
-
-impl<'a, O: ReadParams<'a>> AlgorithmParams<'a> for OaepParamsOf<O, AnyRef<'a>> {
-    type Oid = RsaesOaep;
-
-    ghost Params = { OaepParameters };
-
-    ghost params = { oaep_in O.octets any_of };
-
-    ghost Is = { IsOaep };
-
-    ghost fields_of = { oaep_fields };
-
-    ghost form = { oaep_record };
-
-    fn from_any(any: AnyRef<'a>) -> der_core::Result<OaepParamsOf<O, AnyRef<'a>>> {
-        if any.tag() == Tag::SEQUENCE {
-            if let Some(view) = usual_oaep(any.value()) {
-                return Ok(O::oaep_from_view(view));
-            }
-        }
-        let view = decode_borrowed::<RsaOaepParamsView<'a>>(any)?;
-        Ok(O::oaep_from_view(view))
-    }
-
-    fn reject_defaults(&self, encoding: &[u8]) -> Result<()> {
-        if let Some(_usual) = usual_oaep_encoding(encoding) {
-            return Ok(()); // the hash functions aren't defaults, and the source is left out
-        }
-        strict::reject_defaults(self, encoding)
-    }
 }
 
 impl<O: IdentifierValue, P: AnyValue> OaepParamsOf<O, P> {

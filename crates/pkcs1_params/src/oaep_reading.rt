@@ -1,19 +1,23 @@
 //! Reading of RSAES-OAEP parameters.
-ghost use Rattle.std.specs.Prelude.{◌≡◌};
-ghost use Rattle.pkcs1_params.specs.Words.{oaep_in, oaep_of, oaep_viewed, rsa_oaep_params, strict_oaep_params};
+ghost use Rattle.std.specs.Prelude.{◌≡◌, ◌↔◌, None};
+ghost use Rattle.pkcs1_params.specs.Words.{IsEncoded, OaepParameters, fault_in, oaep_in, oaep_of, oaep_record, oaep_viewed};
+ghost use Rattle.pkcs1_params.specs.Words.{rsa_oaep_params, strict_oaep_params};
 ghost use Rattle.spki_core.specs.Words.{any_of};
-ghost use Rattle.standard.specs.Statement.{empty_label, mgf1_sha1, sha1};
+ghost use Rattle.standard.specs.Statement.{IsOaep, OaepEncoding, empty_label, mgf1_sha1, oaep_fields, sha1};
 
-use crate::algorithm::AlgorithmParams;
-use crate::defaults::is_empty_sequence;
 use crate::error::{Error, Result};
 use crate::from_view::ReadParams;
 use crate::hash_fields::{mgf1_with, with_null};
 use crate::hash_functions::Sha1;
-use crate::oaep::{OaepParamsOf, RsaOaepParams, RsaOaepParamsRef, RsaOaepParamsView};
+use crate::oaep::{OaepParamsOf, RsaOaepParamsRef, RsaOaepParamsView};
+use crate::oaep_algorithm::RsaesOaep;
 use crate::p_source::empty_source;
-use crate::usual::usual_oaep_encoding;
-use der_core::{Decode, DecodeValue, Header, Memory, NoMemory, Reader, TagNumber};
+use crate::reading::{
+    AlgorithmParams, decode_borrowed, decode_whole, read_params, read_params_strict,
+};
+use crate::strict;
+use crate::usual::usual_oaep;
+use der_core::{DecodeValue, ErrorKind, Header, Memory, NoMemory, Reader, TagNumber};
 use spki_core::{AnyRef, IdentifierValue, ObjectIdentifier, read_field};
 
 impl<'a> RsaOaepParamsView<'a> {
@@ -29,7 +33,7 @@ impl<'a> RsaOaepParamsView<'a> {
 impl<'a, O: ReadParams<'a>> OaepParamsOf<O, AnyRef<'a>> {
     ghost use Rattle.der_core.specs.Words.{ok_of};
     ghost use Rattle.pkcs1_params.specs.Words.{ErrsAs};
-    ghost use Rattle.standard.specs.Statement.{Decodes, IsShortest, OaepEncoding};
+    ghost use Rattle.standard.specs.Statement.{Decodes, IsShortest};
 
     /// Like `try_from`, but rejects an encoding in which a default is written: `Noncanonical` with the tag of the first
     /// such field. So what is read is the shortest encoding of its value.
@@ -37,8 +41,7 @@ impl<'a, O: ReadParams<'a>> OaepParamsOf<O, AnyRef<'a>> {
         ensures read { Decodes (IsShortest OaepEncoding) bytes.now (ok_of (oaep_in O.octets any_of) result) }
         ensures exact { ErrsAs (oaep_in O.octets any_of) (strict_oaep_params bytes.now) result }
     {
-        let view = RsaOaepParamsView::try_from(bytes)?;
-        view.reject_defaults(bytes)?;
+        let view = read_params_strict::<RsaOaepParamsView<'a>>(bytes)?;
         Ok(O::oaep_from_view(view))
     }
 }
@@ -54,10 +57,48 @@ impl<'a, O: IdentifierValue> Default for OaepParamsOf<O, AnyRef<'a>> {
     }
 }
 
+impl<'a, O: ReadParams<'a>> AlgorithmParams<'a> for OaepParamsOf<O, AnyRef<'a>> {
+    type Oid = RsaesOaep;
+
+    ghost Params = { OaepParameters };
+
+    ghost params = { oaep_in O.octets any_of };
+
+    ghost Is = { IsOaep };
+
+    ghost fields_of = { oaep_fields };
+
+    ghost form = { oaep_record };
+
+    #[inline(always)]
+    fn usual(contents: &'a [u8], strict: bool) -> Option<OaepParamsOf<O, AnyRef<'a>>> {
+        if contents.is_empty() {
+            return Some(OaepParamsOf::default());
+        }
+        let view = usual_oaep(contents)?; // in which no default can be written, so they are strict
+        Some(O::oaep_from_view(view))
+    }
+
+    fn read_any(any: AnyRef<'a>) -> Result<OaepParamsOf<O, AnyRef<'a>>> {
+        let view = decode_borrowed::<RsaOaepParamsView<'a>>(any)?;
+        Ok(O::oaep_from_view(view))
+    }
+
+    #[inline(always)]
+    fn read_whole(bytes: &'a [u8]) -> Result<OaepParamsOf<O, AnyRef<'a>>> {
+        let view = decode_whole::<RsaOaepParamsView<'a>>(bytes)?;
+        Ok(O::oaep_from_view(view))
+    }
+
+    fn reject_defaults(&self, encoding: &[u8]) -> Result<()> {
+        strict::reject_defaults(self, encoding)
+    }
+}
+
 impl<'a, O: ReadParams<'a>> TryFrom<&'a [u8]> for OaepParamsOf<O, AnyRef<'a>> {
     ghost use Rattle.der_core.specs.Words.{ok_of};
     ghost use Rattle.pkcs1_params.specs.Words.{ErrsAs};
-    ghost use Rattle.standard.specs.Statement.{Decodes, OaepEncoding};
+    ghost use Rattle.standard.specs.Statement.{Decodes};
 
     type Error = Error;
 
@@ -66,13 +107,7 @@ impl<'a, O: ReadParams<'a>> TryFrom<&'a [u8]> for OaepParamsOf<O, AnyRef<'a>> {
         ensures read { Decodes OaepEncoding bytes.now (ok_of (oaep_in O.octets any_of) result) }
         ensures exact { ErrsAs (oaep_in O.octets any_of) (rsa_oaep_params bytes.now) result }
     {
-        if is_empty_sequence(bytes) {
-            return Ok(OaepParamsOf::default());
-        }
-        if let Some(view) = usual_oaep_encoding(bytes) {
-            return Ok(O::oaep_from_view(view));
-        }
-        let view = RsaOaepParamsView::from_der(NoMemory, bytes)?;
+        let view = read_params::<RsaOaepParamsView<'a>>(bytes)?;
         Ok(O::oaep_from_view(view))
     }
 }
@@ -110,5 +145,18 @@ impl<'a, M: Memory, O: ReadParams<'a>> DecodeValue<&'a [u8], M> for OaepParamsOf
             mask_gen,
             p_source,
         }))
+    }
+}
+
+/// The first fault of bytes that aren't RSAES-OAEP parameters, of which they have exactly one; `None` if they are such
+/// parameters.
+pub fn fault_of_oaep_params(bytes: &[u8]) -> Option<ErrorKind>
+    ensures fault { result ≡ fault_in (rsa_oaep_params bytes.now) }
+    ensures encodes { (result ≡ None) ↔ IsEncoded OaepEncoding bytes.now }
+{
+    match RsaOaepParamsView::try_from(bytes) {
+        Ok(_) => None,
+        Err(Error::Asn1(error)) => Some(error.kind()),
+        Err(_) => unreachable!(),
     }
 }

@@ -1,22 +1,17 @@
 //! The algorithm identifier id-RSASSA-PSS with its parameters (RFC 8017 A.2.3).
 ghost use Rattle.std.specs.Prelude.{◌≡◌, ◌↔◌, ⊤, None, length, refl, IfErr};
 ghost use Rattle.der_core.specs.Words.{ok_of};
-ghost use Rattle.spki_core.specs.Words.{any_of, own_octets_of, viewed_with};
-ghost use Rattle.pkcs1_params.specs.Words.{IsEncoded, PssParameters, Refuses, fault_in, pss_in, pss_record};
-ghost use Rattle.pkcs1_params.specs.Words.{rsa_pss_algorithm, with_parameters};
-ghost use Rattle.standard.specs.Statement.{Encodes, IsPss, PssAlgorithmEncoding, id_rsassa_pss, pss_fields};
+ghost use Rattle.spki_core.specs.Words.{own_octets_of, viewed_with};
+ghost use Rattle.pkcs1_params.specs.Words.{IsEncoded, Refuses, fault_in, pss_in, rsa_pss_algorithm, with_parameters};
+ghost use Rattle.standard.specs.Statement.{Encodes, IsPss, PssAlgorithmEncoding, id_rsassa_pss};
 
-use crate::algorithm::{AlgorithmParams, FromAlgorithm, decode_borrowed, encode_identifier};
+use crate::algorithm::{FromAlgorithm, encode_identifier};
 use crate::error::{Error, Result};
-use crate::from_view::ReadParams;
-use crate::pss::{PssParamsOf, RsaPssParamsRef, RsaPssParamsView};
+use crate::pss::{PssParamsOf, RsaPssParamsView};
 use crate::spelling::EncodeParams;
-use crate::strict;
-use crate::usual::{usual_pss, usual_pss_encoding};
-use der_core::{Borrowed, ErrorKind, Tag};
+use der_core::{Borrowed, ErrorKind};
 use spki_core::{
-    AlgorithmView, AnyRef, AnyValue, AssociatedOid, IdentifierValue, IdentifierView,
-    ObjectIdentifier,
+    AlgorithmView, AnyValue, AssociatedOid, IdentifierValue, IdentifierView, ObjectIdentifier,
 };
 
 /// id-RSASSA-PSS, as a type.
@@ -39,39 +34,6 @@ pub fn rsassa_pss_oid() -> ObjectIdentifier
     ensures { own_octets_of result ≡ id_rsassa_pss }
 {
     ObjectIdentifier::of::<RsassaPss>()
-}
-
-impl<'a, O: ReadParams<'a>> AlgorithmParams<'a> for PssParamsOf<O, AnyRef<'a>> {
-    type Oid = RsassaPss;
-
-    ghost Params = { PssParameters };
-
-    ghost params = { pss_in O.octets any_of };
-
-    ghost Is = { IsPss };
-
-    ghost fields_of = { pss_fields };
-
-    ghost form = { pss_record };
-
-    fn from_any(any: AnyRef<'a>) -> der_core::Result<PssParamsOf<O, AnyRef<'a>>> {
-        if any.tag() == Tag::SEQUENCE {
-            if let Some(view) = usual_pss(any.value()) {
-                return Ok(O::pss_from_view(view));
-            }
-        }
-        let view = decode_borrowed::<RsaPssParamsView<'a>>(any)?;
-        Ok(O::pss_from_view(view))
-    }
-
-    fn reject_defaults(&self, encoding: &[u8]) -> Result<()> {
-        if self.salt_len != RsaPssParamsRef::SALT_LEN_DEFAULT {
-            if let Some(_usual) = usual_pss_encoding(encoding) {
-                return Ok(()); // the hash functions aren't defaults, and the trailer field is left out
-            }
-        }
-        strict::reject_defaults(self, encoding)
-    }
 }
 
 impl<O: IdentifierValue, P: AnyValue> PssParamsOf<O, P> {

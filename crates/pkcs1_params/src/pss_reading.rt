@@ -1,19 +1,23 @@
 //! Reading of RSASSA-PSS parameters.
-ghost use Rattle.std.specs.Prelude.{◌≡◌};
-ghost use Rattle.pkcs1_params.specs.Words.{pss_in, pss_of, pss_viewed, rsa_pss_params, strict_pss_params};
+ghost use Rattle.std.specs.Prelude.{◌≡◌, ◌↔◌, None};
+ghost use Rattle.pkcs1_params.specs.Words.{IsEncoded, PssParameters, fault_in, pss_in, pss_of, pss_record, pss_viewed};
+ghost use Rattle.pkcs1_params.specs.Words.{rsa_pss_params, strict_pss_params};
 ghost use Rattle.spki_core.specs.Words.{any_of};
-ghost use Rattle.standard.specs.Statement.{mgf1_sha1, sha1};
+ghost use Rattle.standard.specs.Statement.{IsPss, PssEncoding, mgf1_sha1, pss_fields, sha1};
 
-use crate::algorithm::AlgorithmParams;
-use crate::defaults::is_empty_sequence;
 use crate::error::{Error, Result};
 use crate::from_view::ReadParams;
 use crate::hash_fields::{mgf1_with, with_null};
 use crate::hash_functions::Sha1;
-use crate::pss::{PssParamsOf, RsaPssParams, RsaPssParamsRef, RsaPssParamsView};
+use crate::pss::{PssParamsOf, RsaPssParamsRef, RsaPssParamsView};
+use crate::pss_algorithm::RsassaPss;
+use crate::reading::{
+    AlgorithmParams, decode_borrowed, decode_whole, read_params, read_params_strict,
+};
+use crate::strict;
 use crate::trailer_field::TrailerField;
-use crate::usual::usual_pss_encoding;
-use der_core::{Decode, DecodeValue, Header, Memory, NoMemory, Reader, TagNumber};
+use crate::usual::usual_pss;
+use der_core::{DecodeValue, ErrorKind, Header, Memory, NoMemory, Reader, TagNumber};
 use spki_core::{AnyRef, IdentifierValue, ObjectIdentifier, read_field};
 
 impl<'a> RsaPssParamsView<'a> {
@@ -29,7 +33,7 @@ impl<'a> RsaPssParamsView<'a> {
 impl<'a, O: ReadParams<'a>> PssParamsOf<O, AnyRef<'a>> {
     ghost use Rattle.der_core.specs.Words.{ok_of};
     ghost use Rattle.pkcs1_params.specs.Words.{ErrsAs};
-    ghost use Rattle.standard.specs.Statement.{Decodes, IsShortest, PssEncoding};
+    ghost use Rattle.standard.specs.Statement.{Decodes, IsShortest};
 
     /// Like `try_from`, but rejects an encoding in which a default is written: `Noncanonical` with the tag of the first
     /// such field. So what is read is the shortest encoding of its value.
@@ -37,8 +41,7 @@ impl<'a, O: ReadParams<'a>> PssParamsOf<O, AnyRef<'a>> {
         ensures read { Decodes (IsShortest PssEncoding) bytes.now (ok_of (pss_in O.octets any_of) result) }
         ensures exact { ErrsAs (pss_in O.octets any_of) (strict_pss_params bytes.now) result }
     {
-        let view = RsaPssParamsView::try_from(bytes)?;
-        view.reject_defaults(bytes)?;
+        let view = read_params_strict::<RsaPssParamsView<'a>>(bytes)?;
         Ok(O::pss_from_view(view))
     }
 }
@@ -54,10 +57,51 @@ impl<'a, O: IdentifierValue> Default for PssParamsOf<O, AnyRef<'a>> {
     }
 }
 
+impl<'a, O: ReadParams<'a>> AlgorithmParams<'a> for PssParamsOf<O, AnyRef<'a>> {
+    type Oid = RsassaPss;
+
+    ghost Params = { PssParameters };
+
+    ghost params = { pss_in O.octets any_of };
+
+    ghost Is = { IsPss };
+
+    ghost fields_of = { pss_fields };
+
+    ghost form = { pss_record };
+
+    #[inline(always)]
+    fn usual(contents: &'a [u8], strict: bool) -> Option<PssParamsOf<O, AnyRef<'a>>> {
+        if contents.is_empty() {
+            return Some(PssParamsOf::default());
+        }
+        let view = usual_pss(contents)?;
+        if strict && view.salt_len == RsaPssParamsRef::SALT_LEN_DEFAULT {
+            return None;
+        }
+        Some(O::pss_from_view(view))
+    }
+
+    fn read_any(any: AnyRef<'a>) -> Result<PssParamsOf<O, AnyRef<'a>>> {
+        let view = decode_borrowed::<RsaPssParamsView<'a>>(any)?;
+        Ok(O::pss_from_view(view))
+    }
+
+    #[inline(always)]
+    fn read_whole(bytes: &'a [u8]) -> Result<PssParamsOf<O, AnyRef<'a>>> {
+        let view = decode_whole::<RsaPssParamsView<'a>>(bytes)?;
+        Ok(O::pss_from_view(view))
+    }
+
+    fn reject_defaults(&self, encoding: &[u8]) -> Result<()> {
+        strict::reject_defaults(self, encoding)
+    }
+}
+
 impl<'a, O: ReadParams<'a>> TryFrom<&'a [u8]> for PssParamsOf<O, AnyRef<'a>> {
     ghost use Rattle.der_core.specs.Words.{ok_of};
     ghost use Rattle.pkcs1_params.specs.Words.{ErrsAs};
-    ghost use Rattle.standard.specs.Statement.{Decodes, PssEncoding};
+    ghost use Rattle.standard.specs.Statement.{Decodes};
 
     type Error = Error;
 
@@ -66,13 +110,7 @@ impl<'a, O: ReadParams<'a>> TryFrom<&'a [u8]> for PssParamsOf<O, AnyRef<'a>> {
         ensures read { Decodes PssEncoding bytes.now (ok_of (pss_in O.octets any_of) result) }
         ensures exact { ErrsAs (pss_in O.octets any_of) (rsa_pss_params bytes.now) result }
     {
-        if is_empty_sequence(bytes) {
-            return Ok(PssParamsOf::default());
-        }
-        if let Some(view) = usual_pss_encoding(bytes) {
-            return Ok(O::pss_from_view(view));
-        }
-        let view = RsaPssParamsView::from_der(NoMemory, bytes)?;
+        let view = read_params::<RsaPssParamsView<'a>>(bytes)?;
         Ok(O::pss_from_view(view))
     }
 }
@@ -112,5 +150,18 @@ impl<'a, M: Memory, O: ReadParams<'a>> DecodeValue<&'a [u8], M> for PssParamsOf<
             salt_len,
             trailer_field,
         }))
+    }
+}
+
+/// The first fault of bytes that aren't RSASSA-PSS parameters, of which they have exactly one; `None` if they are such
+/// parameters.
+pub fn fault_of_pss_params(bytes: &[u8]) -> Option<ErrorKind>
+    ensures fault { result ≡ fault_in (rsa_pss_params bytes.now) }
+    ensures encodes { (result ≡ None) ↔ IsEncoded PssEncoding bytes.now }
+{
+    match RsaPssParamsView::try_from(bytes) {
+        Ok(_) => None,
+        Err(Error::Asn1(error)) => Some(error.kind()),
+        Err(_) => unreachable!(),
     }
 }

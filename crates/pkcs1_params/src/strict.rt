@@ -3,7 +3,6 @@ ghost use Rattle.std.specs.Prelude.{◌≡◌};
 ghost use Rattle.spki_core.specs.Words.{noncanonical, number_in, strict_whole};
 ghost use Rattle.pkcs1_params.specs.Words.{Encoded, ErrsAs, IsAsn1};
 
-use crate::defaults::is_empty_sequence;
 use crate::error::{Error, Result};
 use crate::spelling::EncodeParams;
 use der_core::{ErrorKind, Tag, TagNumber};
@@ -22,9 +21,6 @@ pub(crate) fn reject_defaults<T: EncodeParams>(params: T, bytes: &[u8]) -> Resul
     requires { Encoded T.Is T.fields_of (T.params params) bytes.now }
     ensures { ErrsAs (λ _. T.params params) (strict_whole T.form bytes.now) result }
 {
-    if is_empty_sequence(bytes) {
-        return Ok(());
-    }
     match params.written_default(bytes) {
         Some(number) => Err(is_written(number)),
         None => Ok(()),

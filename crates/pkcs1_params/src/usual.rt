@@ -1,10 +1,10 @@
-//! Parameters that begin with SHA-256, SHA-384 or SHA-512, with NULL, and MGF1 with the same hash function. Most do, so
-//! their octets are compared before they are read field by field.
-ghost use Rattle.std.specs.Prelude.{◌≡◌, ◌<◌, ◌∷◌, [], IfSome, IsTrue};
+//! Parameters that begin with a SHA-2 hash function with NULL, and MGF1 with the same hash function. Most do, so their
+//! octets are compared before they are read field by field.
+ghost use Rattle.std.specs.Prelude.{◌≡◌, ◌<◌, ◌∷◌, [], length, IfSome, IsTrue};
 ghost use Rattle.der_core.specs.Words.{sequence_tag};
 ghost use Rattle.spki_core.specs.Words.{any_of, mask_in, octets_of, viewed_with};
-ghost use Rattle.pkcs1_params.specs.Words.{AreUsual, HaveUsualHash, IsUsualOaep, IsUsualOaepEncoding, IsUsualPss};
-ghost use Rattle.pkcs1_params.specs.Words.{IsUsualPssEncoding, id_mgf1, oaep_viewed, pss_viewed, with_parameters};
+ghost use Rattle.pkcs1_params.specs.Words.{AreUsual, HaveUsualHash, IsUsualOaep, IsUsualPss, id_mgf1, oaep_viewed};
+ghost use Rattle.pkcs1_params.specs.Words.{pss_viewed, with_parameters};
 
 use crate::oaep::RsaOaepParamsView;
 use crate::p_source::empty_source;
@@ -34,7 +34,28 @@ const SHA512_FIELDS: &[u8] = &[
     0x30, 0x0d, 0x06, 0x09, 0x60, 0x86, 0x48, 0x01, 0x65, 0x03, 0x04, 0x02, 0x03, 0x05, 0x00,
 ];
 
-/// Whether these are the octets of both fields with one of the three hash functions.
+/// The same with SHA-224.
+const SHA224_FIELDS: &[u8] = &[
+    0xa0, 0x0f, 0x30, 0x0d, 0x06, 0x09, 0x60, 0x86, 0x48, 0x01, 0x65, 0x03, 0x04, 0x02, 0x04, 0x05,
+    0x00, 0xa1, 0x1c, 0x30, 0x1a, 0x06, 0x09, 0x2a, 0x86, 0x48, 0x86, 0xf7, 0x0d, 0x01, 0x01, 0x08,
+    0x30, 0x0d, 0x06, 0x09, 0x60, 0x86, 0x48, 0x01, 0x65, 0x03, 0x04, 0x02, 0x04, 0x05, 0x00,
+];
+
+/// The same with SHA-512/224.
+const SHA512_224_FIELDS: &[u8] = &[
+    0xa0, 0x0f, 0x30, 0x0d, 0x06, 0x09, 0x60, 0x86, 0x48, 0x01, 0x65, 0x03, 0x04, 0x02, 0x05, 0x05,
+    0x00, 0xa1, 0x1c, 0x30, 0x1a, 0x06, 0x09, 0x2a, 0x86, 0x48, 0x86, 0xf7, 0x0d, 0x01, 0x01, 0x08,
+    0x30, 0x0d, 0x06, 0x09, 0x60, 0x86, 0x48, 0x01, 0x65, 0x03, 0x04, 0x02, 0x05, 0x05, 0x00,
+];
+
+/// The same with SHA-512/256.
+const SHA512_256_FIELDS: &[u8] = &[
+    0xa0, 0x0f, 0x30, 0x0d, 0x06, 0x09, 0x60, 0x86, 0x48, 0x01, 0x65, 0x03, 0x04, 0x02, 0x06, 0x05,
+    0x00, 0xa1, 0x1c, 0x30, 0x1a, 0x06, 0x09, 0x2a, 0x86, 0x48, 0x86, 0xf7, 0x0d, 0x01, 0x01, 0x08,
+    0x30, 0x0d, 0x06, 0x09, 0x60, 0x86, 0x48, 0x01, 0x65, 0x03, 0x04, 0x02, 0x06, 0x05, 0x00,
+];
+
+/// Whether these are the octets of both fields with one of the six hash functions.
 #[inline(always)]
 fn have_usual_hash(fields: &[u8]) -> bool
     ensures { IsTrue result → HaveUsualHash fields.now }
@@ -43,6 +64,9 @@ fn have_usual_hash(fields: &[u8]) -> bool
         Some(1) => fields == SHA256_FIELDS,
         Some(2) => fields == SHA384_FIELDS,
         Some(3) => fields == SHA512_FIELDS,
+        Some(4) => fields == SHA224_FIELDS,
+        Some(5) => fields == SHA512_224_FIELDS,
+        Some(6) => fields == SHA512_256_FIELDS,
         _ => false,
     }
 }
@@ -54,7 +78,7 @@ struct UsualAlgorithms<'a> {
     mask_gen: AlgorithmView<'a, AlgorithmView<'a, AnyRef<'a>>>,
 }
 
-/// The algorithms in these octets of both fields, if the hash function is one of the three.
+/// The algorithms in these octets of both fields, if the hash function is one of the six.
 fn usual_algorithms(fields: &[u8]) -> Option<UsualAlgorithms<'_>>
     ensures hash { IfSome result (λ it. AreUsual (viewed_with any_of it.hash) fields.now) }
     ensures mask_gen { IfSome result (λ it. mask_in octets_of any_of it.mask_gen
@@ -121,31 +145,16 @@ pub(crate) fn usual_oaep(contents: &[u8]) -> Option<RsaOaepParamsView<'_>>
     })
 }
 
-/// What follows the tag of SEQUENCE and a length of one octet, if these octets begin with them.
+/// The contents octets of a SEQUENCE of fewer than 128, if a slice is its encoding.
 #[inline(always)]
-#[tactic(auto, using(crate::proofs::ShortSequences::header_and_rest))]
-fn behind_header(bytes: &[u8], length: u8) -> Option<&[u8]>
-    ensures { IfSome result (λ contents. bytes.now ≡ sequence_tag ∷ length ∷ contents.now) }
+pub(crate) fn short_contents(bytes: &[u8]) -> Option<&[u8]>
+    ensures { IfSome result (λ contents. (length contents.now < 128)
+        × (bytes.now ≡ sequence_tag ∷ length contents.now ∷ contents.now)) }
 {
-    if bytes.len() >= 2 && bytes[0] == 0x30 && bytes[1] == length {
-        Some(&bytes[2..])
-    } else {
-        None
+    match bytes {
+        [0x30, count, contents @ ..] if *count < 0x80 && usize::from(*count) == contents.len() => {
+            Some(contents)
+        }
+        _ => None,
     }
-}
-
-/// The parameters with this encoding, as of `usual_pss`.
-#[inline(always)]
-pub(crate) fn usual_pss_encoding(bytes: &[u8]) -> Option<RsaPssParamsView<'_>>
-    ensures { IfSome result (λ v. IsUsualPssEncoding (pss_viewed v) bytes.now) }
-{
-    usual_pss(behind_header(bytes, 52)?)
-}
-
-/// The parameters with this encoding, as of `usual_oaep`.
-#[inline(always)]
-pub(crate) fn usual_oaep_encoding(bytes: &[u8]) -> Option<RsaOaepParamsView<'_>>
-    ensures { IfSome result (λ v. IsUsualOaepEncoding (oaep_viewed v) bytes.now) }
-{
-    usual_oaep(behind_header(bytes, 47)?)
 }

@@ -2,7 +2,7 @@ use Rattle.std.proofs.Common.{arith, subst, sym, length, ◌≡◌, ◌≤◌, �
 use Rattle.std.proofs.lemmas.Bool.Decides.{nat_tests}
 use Rattle.der_core.specs.BackWriters.{Prepends, free_of}
 use Rattle.der_core.specs.Length.{limit}
-use Rattle.pkcs1_params.proofs.UnderMask.{none_spelled, octets_are}
+use Rattle.pkcs1_params.proofs.Masks.{none_spelled, octets_are}
 use Rattle.pkcs1_params.proofs.contents.prepend_contents.Goals as goal
 
 pub returns-then-mask-eq0 : goal.returns-then-mask-eq0

@@ -1,9 +1,9 @@
 use Rattle.std.proofs.Common.{[], ap, subst, sym}
 use Rattle.spki_core.specs.Laws.HaveEncodings.{identifier_held}
-use Rattle.pkcs1_params.specs.LabelWriting.{written_labelled}
+use Rattle.pkcs1_params.specs.Labels.{written_labelled}
 use Rattle.pkcs1_params.specs.OaepValue.{oaep_of}
 use Rattle.pkcs1_params.proofs.Labels.{labelled_counted, labelled_is}
-use Rattle.pkcs1_params.proofs.UnderMask.{is_spelled}
+use Rattle.pkcs1_params.proofs.Masks.{is_spelled}
 use Rattle.pkcs1_params.specs.Laws.Records.{oaep_record}
 use Rattle.pkcs1_params.proofs.Written.{counts_as}
 use Rattle.standard.specs.Statement.{IsOaep, OaepParameters, sequence}

@@ -1,7 +1,28 @@
+use Rattle.std.proofs.Common.{ℕ, List, ◌≡◌, ◌≤◌, length, length-append, sym, subst, ap, arith, refl}
+use Rattle.der_core.specs.Laws.ContentsShorter.{tlv_recast}
+use Rattle.der_core.specs.Laws.Printed.Leaves.{tlv_is}
+use Rattle.der_core.specs.Length.{limit}
+use Rattle.der_core.specs.Reading.{AllocatesIn}
+use Rattle.der_core.specs.Tlv.{Tlv}
+use Rattle.spki_core.specs.FieldSpellings.{FieldRecord}
+use Rattle.pkcs1_params.proofs.Same.{record_delimited}
+use Rattle.standard.specs.Statement.{Field, Fields, SequenceOf, sequence}
 use Rattle.pkcs1_params.specs.Allocating.{IsBareOaep, IsBarePss}
 use Rattle.pkcs1_params.specs.Laws.Records.{oaep_record, pss_record}
-use Rattle.pkcs1_params.proofs.Bare.{bare_asks_none}
 use Rattle.pkcs1_params.proofs.laws.lemma_bare_params_take_no_memory.Goals as goal
+
+-- Of an encoding of bare parameters no beginning is one of others, so reading it asks for no memory.
+module _ {V : Type 0} {Is : V → Type 0} {fields : V → List Field} (r : FieldRecord Is fields) (IsBare : V → Type 0) where
+  bare_asks_none : (v : V) (bytes : List ℕ) → SequenceOf Is fields Fields v bytes → IsBare v
+      → AllocatesIn (Tlv 48 (λ c. (w : V) × Is w × Fields (fields w) c × (IsBare w → ⊥))) bytes → ⊥
+  bare_asks_none v bytes encodes bare (b, rest, is, t) =
+      let (w, ok, has, octets) = t.holds in
+      let alone : Tlv 48 (λ c. c ≡ t.contents) b = tlv_recast b t refl in
+      let same : b ≡ sequence t.contents = tlv_is 48 t.contents b (λ c e. e) alone in
+      let few : length b ≤ limit = omega (arith, encodes.1, ap length is, length-append b rest) in
+      let there : SequenceOf Is fields Fields w b = (ok, few, t.contents, has, same) in
+      let one = (record_delimited r).1 w v b rest there (subst (SequenceOf Is fields Fields v) is encodes) in
+      octets (subst IsBare (sym one.0) bare)
 
 pub returns : goal.returns
 returns c = record {

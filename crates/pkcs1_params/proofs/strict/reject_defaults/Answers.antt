@@ -3,17 +3,7 @@ use Rattle.der_core.specs.Laws.Input.{are_bytes}
 use Rattle.spki_core.specs.StrictFields.{unless_found}
 use Rattle.spki_core.proofs.StrictFields.{strict_walks}
 use Rattle.pkcs1_params.proofs.FaultsTold.{told_as}
-use Rattle.pkcs1_params.proofs.UsualParameters.{none_in_empty}
 use Rattle.pkcs1_params.proofs.strict.reject_defaults.Goals as goal
-
-pub returns-then-is_empty_sequence : goal.returns-then-is_empty_sequence
-returns-then-is_empty_sequence g c =
-    let t = g.T.EncodeParams in
-    let v = t.params c.args.params in
-    let bytes = are_bytes _ (λ i. omega (arith, c.type_inv.bytes i)) in
-    strict_walks t.form v c.args.bytes.now bytes c.requires
-    ∙ ap (λ found. unless_found found v)
-    (none_in_empty _ _ (c.is_empty_sequence.ensures c.if-is_empty_sequence.true))
 
 pub returns-in-Some : goal.returns-in-Some
 returns-in-Some g c =

@@ -1,6 +1,5 @@
 use Rattle.std.proofs.lemmas.Result.{err_from_is_err_and}
-use Rattle.pkcs1_params.proofs.UnderMask.{is_spelled}
-use Rattle.pkcs1_params.proofs.Masks.{encoding_of}
+use Rattle.pkcs1_params.proofs.Masks.{is_spelled, encoding_of}
 use Rattle.pkcs1_params.proofs.Written.{uncounted_as}
 use Rattle.spki_core.specs.FieldSpellings.{record_under}
 use Rattle.pkcs1_params.proofs.spelling.Spelling.len.Goals as goal

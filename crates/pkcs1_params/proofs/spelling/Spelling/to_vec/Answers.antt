@@ -1,6 +1,6 @@
 use Rattle.std.proofs.Common.{drop, take, length, ap, ◌∙◌, ◌≡◌, ◌++◌, arith}
 use Rattle.std.proofs.Math.Seq.{take-append_seam}
-use Rattle.pkcs1_params.proofs.UnderMask.{is_spelled}
+use Rattle.pkcs1_params.proofs.Masks.{is_spelled}
 use Rattle.pkcs1_params.proofs.spelling.Spelling.to_vec.Goals as goal
 
 pub write_over-requires-clause-has : goal.write_over-requires-clause-has

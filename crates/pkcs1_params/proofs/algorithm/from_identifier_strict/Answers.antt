@@ -1,0 +1,81 @@
+use Rattle.std.proofs.Common.{arith, ap, refl, ◌∙◌}
+use Rattle.std.proofs.lemmas.Result.{err_from_is_err_and}
+use Rattle.der_core.specs.Laws.Input.{are_bytes}
+use Rattle.der_core.specs.Readings.{◌>>=◌}
+use Rattle.spki_core.specs.AnyRefValue.{any_of}
+use Rattle.spki_core.specs.FieldSpellings.{record_read, record_strictly}
+use Rattle.pkcs1_params.specs.Algorithms.{identified}
+use Rattle.pkcs1_params.specs.Spellings.{Encoded}
+use Rattle.pkcs1_params.proofs.Algorithms.{algorithm_encodes, behind_any, strict_algorithm_errs, strict_in}
+use Rattle.pkcs1_params.proofs.Errors.{asn1_as}
+use Rattle.pkcs1_params.proofs.FaultsTold.{told_same}
+use Rattle.pkcs1_params.proofs.Wrapped.{inner_is}
+use Rattle.pkcs1_params.proofs.algorithm.from_identifier_strict.Goals as goal
+
+pub returns-in_err-any : goal.returns-in_err-any
+returns-in_err-any g c =
+    let read = record_strictly g.T.AlgorithmParams.form in
+    let p = err_from_is_err_and c.from_residual-in_err-any.result c.from_residual-in_err-any.ensures.1 in
+    rw (p.1, p.2)
+    (told_same (ap (λ r. r >>= identified g.T.Oid.AssociatedOid.contents read) c.in_ok-algorithm.ensures.exact)
+    c.in_err-any.field-0.0 (c.in_err-any.ensures.err read))
+
+pub returns-in_err-params : goal.returns-in_err-params
+returns-in_err-params g c =
+    let t = g.T.AlgorithmParams in
+    let oid = g.T.Oid.AssociatedOid in
+    let p = err_from_is_err_and c.from_residual-in_err-params.result c.from_residual-in_err-params.ensures.1 in
+    let is =
+    behind_any oid.contents _ _ (any_of c.in_ok-any.any) c.in_ok-algorithm.ensures.exact c.in_ok-any.ensures.ok
+    (record_read t.form) in
+    rw (p.1, p.2)
+    (asn1_as (λ e. strict_algorithm_errs oid.contents oid.valid t.form _ e.kind) c.in_err-params.field-0.0
+    (told_same is c.in_err-params.field-0.0 c.in_err-params.ensures))
+
+pub encoded_parameters-requires : goal.encoded_parameters-requires
+encoded_parameters-requires g c κs =
+    let t = g.T.AlgorithmParams in
+    let oid = g.T.Oid.AssociatedOid in
+    let bytes = are_bytes _ (λ i. omega (arith, c.type_inv.bytes i)) in
+    let is =
+    behind_any oid.contents _ _ (any_of c.in_ok-any.any) c.in_ok-algorithm.ensures.exact c.in_ok-any.ensures.ok
+    (record_read t.form) in
+    let v = t.params c.in_ok-params.params in
+    ((refl, tt), (v, algorithm_encodes oid.contents oid.valid t.form v _ bytes (is ∙ c.in_ok-params.ensures)))
+
+pub reject_defaults-requires : goal.reject_defaults-requires
+reject_defaults-requires g c κs =
+    let t = g.T.AlgorithmParams in
+    let oid = g.T.Oid.AssociatedOid in
+    let bytes = are_bytes _ (λ i. omega (arith, c.type_inv.bytes i)) in
+    let is =
+    behind_any oid.contents _ _ (any_of c.in_ok-any.any) c.in_ok-algorithm.ensures.exact c.in_ok-any.ensures.ok
+    (record_read t.form) in
+    let holds = algorithm_encodes oid.contents oid.valid t.form _ _ bytes (is ∙ c.in_ok-params.ensures) in
+    ((refl, tt), inner_is oid.contents (Encoded t.Is t.fields_of) _ _ _ holds c.encoded_parameters.ensures)
+
+pub returns-in_err-reject_defaults : goal.returns-in_err-reject_defaults
+returns-in_err-reject_defaults g c =
+    let t = g.T.AlgorithmParams in
+    let oid = g.T.Oid.AssociatedOid in
+    let bytes = are_bytes _ (λ i. omega (arith, c.type_inv.bytes i)) in
+    let p =
+    err_from_is_err_and c.from_residual-in_err-reject_defaults.result
+    c.from_residual-in_err-reject_defaults.ensures.1 in
+    let is =
+    behind_any oid.contents _ _ (any_of c.in_ok-any.any) c.in_ok-algorithm.ensures.exact c.in_ok-any.ensures.ok
+    (record_read t.form) in
+    let holds = algorithm_encodes oid.contents oid.valid t.form _ _ bytes (is ∙ c.in_ok-params.ensures) in
+    let same = strict_in oid.contents oid.valid t.form _ _ _ bytes holds c.encoded_parameters.ensures in
+    rw (p.1, p.2) (told_same same c.in_err-reject_defaults.field-0.0 c.in_err-reject_defaults.ensures)
+
+pub returns : goal.returns
+returns g c =
+    let t = g.T.AlgorithmParams in
+    let oid = g.T.Oid.AssociatedOid in
+    let bytes = are_bytes _ (λ i. omega (arith, c.type_inv.bytes i)) in
+    let is =
+    behind_any oid.contents _ _ (any_of c.in_ok-any.any) c.in_ok-algorithm.ensures.exact c.in_ok-any.ensures.ok
+    (record_read t.form) in
+    let holds = algorithm_encodes oid.contents oid.valid t.form _ _ bytes (is ∙ c.in_ok-params.ensures) in
+    strict_in oid.contents oid.valid t.form _ _ _ bytes holds c.encoded_parameters.ensures ∙ c.in_ok-reject_defaults.ensures

@@ -1,0 +1,7 @@
+use Rattle.std.proofs.Common.{◌∙◌, ap, sym, Ok}
+use Rattle.pkcs1_params.proofs.UsualParameters.{oaep_usual}
+use Rattle.pkcs1_params.proofs.oaep_reading.OaepParamsOfAnyRefAlgorithmParams.usual.Goals as goal
+
+pub returns : goal.returns
+returns g c =
+    oaep_usual c.args.strict _ _ c.in_ok-view.ensures ∙ ap (λ v. Ok v) (sym c.oaep_from_view.ensures)

@@ -1,0 +1,7 @@
+use Rattle.pkcs1_params.proofs.UsualParameters.{short_read}
+use Rattle.pkcs1_params.proofs.reading.usual_encoding.Goals as goal
+
+pub returns : goal.returns
+returns g c =
+    let contents = c.in_ok-contents.ensures in
+    short_read g.T.AlgorithmParams.form _ c.args.strict _ _ contents.0 contents.1 c.in_ok-params.ensures

@@ -1,0 +1,130 @@
+//! Reading of parameters: the octets that most have are known, and others are read field by field.
+ghost use Rattle.std.specs.Prelude.{◌≡◌, ℕ, List, IfSome, if◌then◌else◌};
+ghost use Rattle.der_core.specs.Words.{Answers, ok_of, sequence as sequence_kind, tagged, whole};
+ghost use Rattle.spki_core.specs.Words.{FieldRecord, any_as, any_of, record_read, record_strictly, strict_whole};
+ghost use Rattle.pkcs1_params.specs.Words.{Encoded, ErrsAs};
+ghost use Rattle.spki_core.specs.FieldSpellings.{record_whole};
+ghost use Rattle.standard.specs.Statement.{Decodes, Field, IsShortest};
+
+use crate::error::Result;
+use crate::usual::short_contents;
+use der_core::{Decode, DecodeValue, FixedTag, NoMemory, Tag};
+use spki_core::{AnyRef, AssociatedOid};
+
+/// Borrowed parameters of an algorithm.
+pub trait AlgorithmParams<'a>: Sized + Drop {
+    /// The object identifier of the algorithm.
+    type Oid: AssociatedOid;
+
+    /// What the parameters mean.
+    ghost Params: { Type 0 };
+
+    /// What a value means.
+    ghost params: { Self → Params };
+
+    /// Which parameters may be encoded.
+    ghost Is: { Params → Type 0 };
+
+    /// The fields of their SEQUENCE.
+    ghost fields_of: { Params → List Field };
+
+    /// The kinds of these fields, with their laws.
+    ghost form: { FieldRecord Is fields_of };
+
+    /// The parameters with these contents octets, if they are among those that are known; if `strict`, only where no
+    /// default is written.
+    fn usual(contents: &'a [u8], strict: bool) -> Option<Self>
+        ensures { let read = if strict then record_strictly form else record_read form in
+            IfSome result (λ it. read contents.now ≡ Ok (params it)) };
+
+    /// Reads the parameters of an algorithm field by field: `TagUnexpected` if they are no SEQUENCE.
+    fn read_any(any: AnyRef<'a>) -> Result<Self>
+        ensures { ErrsAs params (any_as sequence_kind (record_read form) (any_of any.entry)) result };
+
+    /// Reads a whole slice field by field.
+    fn read_whole(bytes: &'a [u8]) -> Result<Self>
+        ensures { ErrsAs params (record_whole form bytes.now) result };
+
+    /// Rejects an encoding of the parameters in which a default is written: `Noncanonical` with the tag of the first.
+    fn reject_defaults(&self, encoding: &[u8]) -> Result<()>
+        requires { Encoded Is fields_of (params self.now) encoding.now }
+        ensures { ErrsAs (λ _. params self.now) (strict_whole form encoding.now) result };
+}
+
+/// The parameters in a whole slice, if their octets are known.
+#[inline(always)]
+fn usual_encoding<'a, T: AlgorithmParams<'a>>(bytes: &'a [u8], strict: bool) -> Option<T>
+    ensures { let read = if strict then strict_whole T.form else record_whole T.form in
+        IfSome result (λ it. read bytes.now ≡ Ok (T.params it)) }
+{
+    let contents = short_contents(bytes)?;
+    let params = T::usual(contents, strict)?;
+    Some(params)
+}
+
+/// The parameters of an algorithm, if their octets are known.
+#[inline(always)]
+pub(crate) fn usual_any<'a, T: AlgorithmParams<'a>>(any: &AnyRef<'a>, strict: bool) -> Option<T>
+    ensures { let read = if strict then record_strictly T.form else record_read T.form in
+        IfSome result (λ it. any_as sequence_kind read (any_of any.now) ≡ Ok (T.params it)) }
+{
+    if any.tag() != Tag::SEQUENCE {
+        return None;
+    }
+    T::usual(any.value(), strict)
+}
+
+/// Reads a whole slice. Nothing is allocated.
+#[inline(always)]
+pub(crate) fn read_params<'a, T: AlgorithmParams<'a>>(bytes: &'a [u8]) -> Result<T>
+    ensures read { Decodes (Encoded T.Is T.fields_of) bytes.now (ok_of T.params result) }
+    ensures exact { ErrsAs T.params (record_whole T.form bytes.now) result }
+{
+    match usual_encoding(bytes, false) {
+        Some(params) => Ok(params),
+        None => T::read_whole(bytes),
+    }
+}
+
+/// Like `read_params`, but rejects an encoding in which a default is written.
+#[inline(always)]
+pub(crate) fn read_params_strict<'a, T: AlgorithmParams<'a>>(bytes: &'a [u8]) -> Result<T>
+    ensures read { Decodes (IsShortest (Encoded T.Is T.fields_of)) bytes.now (ok_of T.params result) }
+    ensures exact { ErrsAs T.params (strict_whole T.form bytes.now) result }
+{
+    shortest_params(bytes)
+}
+
+/// The parameters in a whole slice, unless a default is written in them.
+#[inline(always)]
+fn shortest_params<'a, T: AlgorithmParams<'a>>(bytes: &'a [u8]) -> Result<T>
+    ensures { ErrsAs T.params (strict_whole T.form bytes.now) result }
+{
+    if let Some(params) = usual_encoding::<T>(bytes, true) {
+        return Ok(params);
+    }
+    let params = T::read_whole(bytes)?;
+    params.reject_defaults(bytes)?;
+    Ok(params)
+}
+
+/// `AnyRef::decode_as` of a type that asks for no memory.
+pub(crate) fn decode_borrowed<'a, T: DecodeValue<&'a [u8], NoMemory> + FixedTag>(
+    any: AnyRef<'a>,
+) -> der_core::Result<T>
+    requires { (contents : List ℕ) → T.may_allocate contents → ⊥ }
+    ensures { Answers T.value result (any_as T.TAG T.read (any_of any.entry)) }
+{
+    any.decode_as(NoMemory)
+}
+
+/// `from_der` of a type that asks for no memory.
+#[inline(always)]
+pub(crate) fn decode_whole<'a, T: DecodeValue<&'a [u8], NoMemory> + FixedTag>(
+    bytes: &'a [u8],
+) -> der_core::Result<T>
+    requires { (contents : List ℕ) → T.may_allocate contents → ⊥ }
+    ensures { Answers T.value result (whole (tagged T.TAG T.read) bytes.now) }
+{
+    T::from_der(NoMemory, bytes)
+}
