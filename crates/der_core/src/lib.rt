@@ -72,7 +72,7 @@ pub use octet_string::{OctetStringRef, OctetStringTag};
 pub use one_encoding::{OneContents, OneEncoding, lemma_one_encoding, write_only};
 pub use optional_part::OptionalThen;
 pub use parts::DecodeParts;
-pub use quick::{quick_alone, quick_any, quick_contents, quick_short};
+pub use quick::{begins_with, quick_alone, quick_any, quick_contents, quick_short};
 pub use reader::{BytesLeft, Octets, Reader};
 pub use record::{EncodeInParts, InParts, Record};
 pub use slice_reader::SliceReader;

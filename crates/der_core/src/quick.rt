@@ -1,6 +1,6 @@
 //! Quick reading: of what is met most, from slices, without kinds of errors. `None` says nothing of the bytes.
 ghost use Rattle.std.specs.Prelude.{◌≡◌, ◌≤◌, length, Ok, IfSome};
-ghost use Rattle.der_core.specs.Words.{alone, limit, octets_of_all, tagged};
+ghost use Rattle.der_core.specs.Words.{alone, is_next, limit, octets_of_all, tagged};
 
 use crate::decode::Decode;
 use crate::memory::Memory;
@@ -63,6 +63,17 @@ pub fn quick_any(bytes: &[u8]) -> Option<(Tag, &[u8], &[u8])>
     let tag = Tag::from_octet(*bytes.first()?).ok()?;
     let (contents, rest) = quick_short(bytes, tag)?;
     Some((tag, contents, rest))
+}
+
+/// Whether the first octet is that of the tag.
+#[inline(always)]
+pub fn begins_with(bytes: &[u8], tag: Tag) -> bool
+    ensures { result ≡ is_next tag.octet bytes.now }
+{
+    match bytes {
+        [first, ..] => *first == tag.octet(),
+        [] => false,
+    }
 }
 
 /// The value that all of the bytes encode.

@@ -17,8 +17,11 @@ use crate::reading::{
 };
 use crate::strict;
 use crate::usual::usual_oaep;
-use der_core::{DecodeValue, ErrorKind, Header, Memory, NoMemory, Reader, TagNumber};
-use spki_core::{AnyRef, IdentifierValue, ObjectIdentifier, read_field};
+use der_core::{
+    DecodeParts, DecodeValue, ErrorKind, Header, Memory, NoMemory, Reader, Tag, TagNumber,
+    quick_short,
+};
+use spki_core::{AnyRef, IdentifierValue, ObjectIdentifier, quick_field, read_field};
 
 impl<'a> RsaOaepParamsView<'a> {
     /// The parameters as a struct that holds its identifiers.
@@ -141,6 +144,39 @@ impl<'a, M: Memory, O: ReadParams<'a>> DecodeValue<&'a [u8], M> for OaepParamsOf
         )?;
         reader.finish()?;
         Ok(O::oaep_from_view(RsaOaepParamsView {
+            hash,
+            mask_gen,
+            p_source,
+        }))
+    }
+
+    #[inline(always)]
+    fn quick_split(bytes: &'a [u8], tag: Tag) -> Option<(&'a [u8], &'a [u8])> {
+        quick_short(bytes, tag)
+    }
+
+    #[inline(always)]
+    fn quick_value(memory: M, contents: &'a [u8]) -> Option<OaepParamsOf<O, AnyRef<'a>>> {
+        let (hash, rest) = quick_field(
+            memory,
+            contents,
+            TagNumber::new(0),
+            with_null::<Sha1, _, _, _>(NoMemory),
+        )?;
+        let (mask_gen, rest) = quick_field(
+            memory,
+            rest,
+            TagNumber::new(1),
+            mgf1_with::<Sha1, _, _, _>(NoMemory),
+        )?;
+        let (p_source, rest) = quick_field(
+            memory,
+            rest,
+            TagNumber::new(2),
+            empty_source::<_, _, _>(NoMemory),
+        )?;
+        <()>::quick_parts(memory, rest)?;
+        Some(O::oaep_from_view(RsaOaepParamsView {
             hash,
             mask_gen,
             p_source,

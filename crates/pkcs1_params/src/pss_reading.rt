@@ -17,8 +17,11 @@ use crate::reading::{
 use crate::strict;
 use crate::trailer_field::TrailerField;
 use crate::usual::usual_pss;
-use der_core::{DecodeValue, ErrorKind, Header, Memory, NoMemory, Reader, TagNumber};
-use spki_core::{AnyRef, IdentifierValue, ObjectIdentifier, read_field};
+use der_core::{
+    DecodeParts, DecodeValue, ErrorKind, Header, Memory, NoMemory, Reader, Tag, TagNumber,
+    quick_short,
+};
+use spki_core::{AnyRef, IdentifierValue, ObjectIdentifier, quick_field, read_field};
 
 impl<'a> RsaPssParamsView<'a> {
     /// The parameters as a struct that holds its identifiers.
@@ -145,6 +148,41 @@ impl<'a, M: Memory, O: ReadParams<'a>> DecodeValue<&'a [u8], M> for PssParamsOf<
         let trailer_field = read_field(memory, reader, TagNumber::new(3), TrailerField::BC)?;
         reader.finish()?;
         Ok(O::pss_from_view(RsaPssParamsView {
+            hash,
+            mask_gen,
+            salt_len,
+            trailer_field,
+        }))
+    }
+
+    #[inline(always)]
+    fn quick_split(bytes: &'a [u8], tag: Tag) -> Option<(&'a [u8], &'a [u8])> {
+        quick_short(bytes, tag)
+    }
+
+    #[inline(always)]
+    fn quick_value(memory: M, contents: &'a [u8]) -> Option<PssParamsOf<O, AnyRef<'a>>> {
+        let (hash, rest) = quick_field(
+            memory,
+            contents,
+            TagNumber::new(0),
+            with_null::<Sha1, _, _, _>(NoMemory),
+        )?;
+        let (mask_gen, rest) = quick_field(
+            memory,
+            rest,
+            TagNumber::new(1),
+            mgf1_with::<Sha1, _, _, _>(NoMemory),
+        )?;
+        let (salt_len, rest) = quick_field(
+            memory,
+            rest,
+            TagNumber::new(2),
+            RsaPssParamsRef::SALT_LEN_DEFAULT,
+        )?;
+        let (trailer_field, rest) = quick_field(memory, rest, TagNumber::new(3), TrailerField::BC)?;
+        <()>::quick_parts(memory, rest)?;
+        Some(O::pss_from_view(RsaPssParamsView {
             hash,
             mask_gen,
             salt_len,

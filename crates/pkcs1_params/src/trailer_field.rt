@@ -5,7 +5,7 @@ ghost use Rattle.pkcs1_params.specs.Words.{trailer_law, trailer_read};
 
 use der_core::{
     BackWriter, Contents, DecodeValue, EncodeValue, EqualByValue, ErrorKind, Header, IntegerTag,
-    Length, Memory, Reader, Result, Tag, TaggedBy, Writer,
+    Length, Memory, Reader, Result, Tag, TaggedBy, Writer, quick_short,
 };
 
 /// The trailer field, of which one is known (RFC 8017 A.2.3).
@@ -70,6 +70,19 @@ impl<'a, M: Memory> DecodeValue<&'a [u8], M> for TrailerField {
         match u8::decode_value(memory, reader, header)? {
             1 => Ok(TrailerField::BC),
             _ => Err(reader.error(ErrorKind::Value { tag: Tag::INTEGER })),
+        }
+    }
+
+    #[inline(always)]
+    fn quick_split(bytes: &'a [u8], tag: Tag) -> Option<(&'a [u8], &'a [u8])> {
+        quick_short(bytes, tag)
+    }
+
+    #[inline(always)]
+    fn quick_value(memory: M, contents: &'a [u8]) -> Option<TrailerField> {
+        match u8::quick_value(memory, contents)? {
+            1 => Some(TrailerField::BC),
+            _ => None,
         }
     }
 }

@@ -1,5 +1,5 @@
 -- What the functions give for an encoding of any tag that has to be of one type.
-use Rattle.std.proofs.Common.{ℕ, false, List, ◌≡◌, sym, ap, ◌∙◌, arith, subst, Ok}
+use Rattle.std.proofs.Common.{ℕ, true, false, List, ◌≡◌, refl, sym, ap, ◌∙◌, arith, subst, Ok}
 use Rattle.std.proofs.Common.{Err, Some, Result, ◌≢◌}
 use Rattle.std.proofs.lemmas.Bool.Decides.{nat_tests}
 use Rattle.std.specs.Prelude.{◌==◌, IfOk}
@@ -9,13 +9,15 @@ use Rattle.der_core.specs.declared.tag.Tag.{Tag}
 use Rattle.der_core.specs.declared.error.Error.{Error}
 use Rattle.der_core.specs.Encodings.{AreBytes}
 use Rattle.der_core.specs.Input.{Input}
+use Rattle.der_core.proofs.QuickReading.{read_inside}
 use Rattle.der_core.proofs.TaggedReadings.{other_is}
 use Rattle.der_core.specs.Reading.{ReadsFront, ReadsWhole}
-use Rattle.der_core.specs.Readings.{FrontReading, Reading, alone, tagged, unexpected, ReadsContents}
+use Rattle.der_core.specs.Readings.{FrontReading, Reading, alone, is_next, octets_of_all, tagged, unexpected}
+use Rattle.der_core.specs.Readings.{ReadsContents}
 use Rattle.der_core.specs.Tag.{context_tag}
 use Rattle.der_core.specs.Tlv.{Tlv}
 use Rattle.spki_core.specs.Any.{TagAndContents}
-use Rattle.spki_core.specs.Readings.{any_as, explicit}
+use Rattle.spki_core.specs.Readings.{any_as, defaulted, explicit}
 use Rattle.spki_core.specs.Laws.Readings.{explicit_is}
 
 -- Another tag than that of the type; and a call that read the contents of the type's tag.
@@ -32,6 +34,19 @@ pub read_as_any : {X V : Type 0} {contents : V → List ℕ → Type 0} {read : 
 read_as_any value tag law v may bytes same before after is (Ok x) p =
     (same, law.gives v.contents (value x) bytes (rw is at p.0))
 read_as_any value tag law v may bytes same before after is (Err e) p = tt
+
+-- A field that was found quickly, and one that isn't there.
+pub field_taken : {V : Type 0} (at : FrontReading V) (n : ℕ) (default v : V) (tag : Tag) (b front back : List ℕ)
+    → tag.octet ≡ context_tag n → is_next tag.octet b ≡ true → tagged tag octets_of_all b ≡ Ok (front, back)
+    → alone at front ≡ Ok v → defaulted n at default b ≡ Ok (v, back)
+field_taken at n default v tag b front back is next split read =
+    let there : is_next (context_tag n) b ≡ true = ap (λ o. is_next o b) (sym is) ∙ next in
+    rw there (explicit_is at n tag b is ∙ read_inside tag (alone at) b front back v split read)
+
+pub field_left_out : {V : Type 0} (at : FrontReading V) (n : ℕ) (default : V) (tag : Tag) (b : List ℕ)
+    → tag.octet ≡ context_tag n → is_next tag.octet b ≡ false → defaulted n at default b ≡ Ok (default, b)
+field_left_out at n default tag b is next =
+    let gone : is_next (context_tag n) b ≡ false = ap (λ o. is_next o b) (sym is) ∙ next in rw gone refl
 
 -- Where the tag of a number was read.
 pub reads_at_tag : {X V : Type 0} (value : X → V) (at : FrontReading V) (may : List ℕ → Type 0) (n : ℕ) (tag : Tag)

@@ -1,12 +1,13 @@
 //! Explicit fields with defaults (X.690 8.14.2, 11.5).
-ghost use Rattle.std.specs.Prelude.{◌≤◌, ◌+◌, ℕ, length};
+ghost use Rattle.std.specs.Prelude.{◌≡◌, ◌≤◌, ◌+◌, ℕ, length, IfSome, Ok};
 ghost use Rattle.der_core.specs.Words.{limit, free_of, Prepends, Counts, Appends, context_tag, tlv, ReadsFront};
 ghost use Rattle.der_core.specs.Words.{OptionalRead, Prints, ReadsBy, ReadsFronts, Tlv, optional};
 ghost use Rattle.spki_core.specs.Words.{FieldAllocates, FieldRead, defaulted, explicit};
 
 use crate::context_specific::{ContextSpecificRef, is_field_next, read_explicit};
 use der_core::{
-    BackWriter, Decode, Encode, Encoding, Length, Memory, Reader, Result, TagNumber, Writer,
+    BackWriter, Decode, Encode, Encoding, Length, Memory, Reader, Result, Tag, TagNumber, Writer,
+    begins_with, quick_alone, quick_short,
 };
 
 /// Reads an explicit field, or returns its default if the next octet isn't that of its tag. If the default is costly to
@@ -27,6 +28,26 @@ pub fn read_field<'a, T: Decode<&'a [u8], M>, M: Memory, R: Reader<&'a [u8]>>(
     } else {
         Ok(default)
     }
+}
+
+/// What `read_field` reads of a slice, with what follows it, if that is quickly told.
+#[inline(always)]
+pub fn quick_field<'a, T: Decode<&'a [u8], M>, M: Memory>(
+    memory: M,
+    bytes: &'a [u8],
+    number: TagNumber,
+    default: T,
+) -> Option<(T, &'a [u8])>
+    ensures { let at = defaulted number.value T.read_front (T.value default) in
+        IfSome result (λ split. at bytes.now ≡ Ok (T.value split.0, split.1.now)) }
+{
+    let tag = Tag::context(number);
+    if !begins_with(bytes, tag) {
+        return Some((default, bytes));
+    }
+    let (contents, rest) = quick_short(bytes, tag)?;
+    let value = quick_alone(memory, contents)?;
+    Some((value, rest))
 }
 
 /// The length of a field that is written.

@@ -1,6 +1,6 @@
 -- Algorithm identifiers as parts of records. No memory is asked for one if none is for its parameters; and it has one
 -- spelling if they have.
-use Rattle.std.proofs.Common.{ℕ, List, ap, inr}
+use Rattle.std.proofs.Common.{ℕ, List, ap}
 use Rattle.der_core.specs.Laws.Parts.{last_part_asks_none}
 use Rattle.der_core.specs.Laws.Printed.Once.{last_once}
 use Rattle.der_core.specs.Printed.{AreSpelledOnce}
