@@ -7,7 +7,7 @@ ghost use Rattle.pkcs1_params.specs.Words.{Encoded, ErrsAs, Identifies, IsAsn1, 
 ghost use Rattle.standard.specs.Statement.{AlgorithmEncoding, Decodes, Encodes, IsShortest, sequence};
 
 use crate::error::{Error, Result};
-use crate::reading::{AlgorithmParams, usual_any};
+use crate::reading::{AlgorithmParams, quick_parameters};
 use crate::shortest::Shortest;
 use crate::spelling::EncodeParams;
 use der_core::{Decode, Encode, ErrorKind, NoMemory};
@@ -88,7 +88,7 @@ fn from_identifier<'a, O: IdentifierValue, T: AlgorithmParams<'a>>(
         ErrsAs T.params (identified T.Oid.contents (record_read T.form) a) result }
 {
     let any = parameters_of::<O, T>(algorithm)?;
-    match usual_any(&any, false) {
+    match quick_parameters(&any, false) {
         Some(params) => Ok(params),
         None => T::read_any(any),
     }
@@ -101,7 +101,7 @@ fn from_identifier_strict<'a, T: AlgorithmParams<'a>>(bytes: &'a [u8]) -> Result
 {
     let algorithm = AlgorithmView::from_der(NoMemory, bytes)?;
     let any = parameters_of::<IdentifierView<'a>, T>(&algorithm)?;
-    if let Some(params) = usual_any::<T>(&any, true) {
+    if let Some(params) = quick_parameters::<T>(&any, true) {
         return Ok(params);
     }
     let params = T::read_any(any)?;

@@ -23,6 +23,7 @@ mod pss;
 mod pss_algorithm;
 mod pss_reading;
 mod pss_spelling;
+mod quick;
 mod reading;
 mod shortest;
 mod spelling;

@@ -12,16 +12,16 @@ use crate::hash_functions::Sha1;
 use crate::oaep::{OaepParamsOf, RsaOaepParamsRef, RsaOaepParamsView};
 use crate::oaep_algorithm::RsaesOaep;
 use crate::p_source::empty_source;
+use crate::quick::quick_oaep;
 use crate::reading::{
     AlgorithmParams, decode_borrowed, decode_whole, read_params, read_params_strict,
 };
 use crate::strict;
 use crate::usual::usual_oaep;
 use der_core::{
-    DecodeParts, DecodeValue, ErrorKind, Header, Memory, NoMemory, Reader, Tag, TagNumber,
-    quick_short,
+    DecodeValue, ErrorKind, Header, Memory, NoMemory, Reader, Tag, TagNumber, quick_short,
 };
-use spki_core::{AnyRef, IdentifierValue, ObjectIdentifier, quick_field, read_field};
+use spki_core::{AnyRef, IdentifierValue, ObjectIdentifier, read_field};
 
 impl<'a> RsaOaepParamsView<'a> {
     /// The parameters as a struct that holds its identifiers.
@@ -79,6 +79,11 @@ impl<'a, O: ReadParams<'a>> AlgorithmParams<'a> for OaepParamsOf<O, AnyRef<'a>> 
             return Some(OaepParamsOf::default());
         }
         let view = usual_oaep(contents)?; // in which no default can be written, so they are strict
+        Some(O::oaep_from_view(view))
+    }
+
+    fn quick_strictly(contents: &'a [u8]) -> Option<OaepParamsOf<O, AnyRef<'a>>> {
+        let view = quick_oaep(contents, true)?;
         Some(O::oaep_from_view(view))
     }
 
@@ -156,31 +161,9 @@ impl<'a, M: Memory, O: ReadParams<'a>> DecodeValue<&'a [u8], M> for OaepParamsOf
     }
 
     #[inline(always)]
-    fn quick_value(memory: M, contents: &'a [u8]) -> Option<OaepParamsOf<O, AnyRef<'a>>> {
-        let (hash, rest) = quick_field(
-            memory,
-            contents,
-            TagNumber::new(0),
-            with_null::<Sha1, _, _, _>(NoMemory),
-        )?;
-        let (mask_gen, rest) = quick_field(
-            memory,
-            rest,
-            TagNumber::new(1),
-            mgf1_with::<Sha1, _, _, _>(NoMemory),
-        )?;
-        let (p_source, rest) = quick_field(
-            memory,
-            rest,
-            TagNumber::new(2),
-            empty_source::<_, _, _>(NoMemory),
-        )?;
-        <()>::quick_parts(memory, rest)?;
-        Some(O::oaep_from_view(RsaOaepParamsView {
-            hash,
-            mask_gen,
-            p_source,
-        }))
+    fn quick_value(_memory: M, contents: &'a [u8]) -> Option<OaepParamsOf<O, AnyRef<'a>>> {
+        let view = quick_oaep(contents, false)?;
+        Some(O::oaep_from_view(view))
     }
 }
 

@@ -11,6 +11,7 @@ use crate::hash_fields::{mgf1_with, with_null};
 use crate::hash_functions::Sha1;
 use crate::pss::{PssParamsOf, RsaPssParamsRef, RsaPssParamsView};
 use crate::pss_algorithm::RsassaPss;
+use crate::quick::quick_pss;
 use crate::reading::{
     AlgorithmParams, decode_borrowed, decode_whole, read_params, read_params_strict,
 };
@@ -18,10 +19,9 @@ use crate::strict;
 use crate::trailer_field::TrailerField;
 use crate::usual::usual_pss;
 use der_core::{
-    DecodeParts, DecodeValue, ErrorKind, Header, Memory, NoMemory, Reader, Tag, TagNumber,
-    quick_short,
+    DecodeValue, ErrorKind, Header, Memory, NoMemory, Reader, Tag, TagNumber, quick_short,
 };
-use spki_core::{AnyRef, IdentifierValue, ObjectIdentifier, quick_field, read_field};
+use spki_core::{AnyRef, IdentifierValue, ObjectIdentifier, read_field};
 
 impl<'a> RsaPssParamsView<'a> {
     /// The parameters as a struct that holds its identifiers.
@@ -82,6 +82,11 @@ impl<'a, O: ReadParams<'a>> AlgorithmParams<'a> for PssParamsOf<O, AnyRef<'a>> {
         if strict && view.salt_len == RsaPssParamsRef::SALT_LEN_DEFAULT {
             return None;
         }
+        Some(O::pss_from_view(view))
+    }
+
+    fn quick_strictly(contents: &'a [u8]) -> Option<PssParamsOf<O, AnyRef<'a>>> {
+        let view = quick_pss(contents, true)?;
         Some(O::pss_from_view(view))
     }
 
@@ -161,33 +166,9 @@ impl<'a, M: Memory, O: ReadParams<'a>> DecodeValue<&'a [u8], M> for PssParamsOf<
     }
 
     #[inline(always)]
-    fn quick_value(memory: M, contents: &'a [u8]) -> Option<PssParamsOf<O, AnyRef<'a>>> {
-        let (hash, rest) = quick_field(
-            memory,
-            contents,
-            TagNumber::new(0),
-            with_null::<Sha1, _, _, _>(NoMemory),
-        )?;
-        let (mask_gen, rest) = quick_field(
-            memory,
-            rest,
-            TagNumber::new(1),
-            mgf1_with::<Sha1, _, _, _>(NoMemory),
-        )?;
-        let (salt_len, rest) = quick_field(
-            memory,
-            rest,
-            TagNumber::new(2),
-            RsaPssParamsRef::SALT_LEN_DEFAULT,
-        )?;
-        let (trailer_field, rest) = quick_field(memory, rest, TagNumber::new(3), TrailerField::BC)?;
-        <()>::quick_parts(memory, rest)?;
-        Some(O::pss_from_view(RsaPssParamsView {
-            hash,
-            mask_gen,
-            salt_len,
-            trailer_field,
-        }))
+    fn quick_value(_memory: M, contents: &'a [u8]) -> Option<PssParamsOf<O, AnyRef<'a>>> {
+        let view = quick_pss(contents, false)?;
+        Some(O::pss_from_view(view))
     }
 }
 

@@ -37,6 +37,10 @@ pub trait AlgorithmParams<'a>: Sized + Drop {
         ensures { let read = if strict then record_strictly form else record_read form in
             IfSome result (λ it. read contents.now ≡ Ok (params it)) };
 
+    /// The parameters with these contents octets, if that is quickly told, and no default is written.
+    fn quick_strictly(contents: &'a [u8]) -> Option<Self>
+        ensures { IfSome result (λ it. record_strictly form contents.now ≡ Ok (params it)) };
+
     /// Reads the parameters of an algorithm field by field: `TagUnexpected` if they are no SEQUENCE.
     fn read_any(any: AnyRef<'a>) -> Result<Self>
         ensures { ErrsAs params (any_as sequence_kind (record_read form) (any_of any.entry)) result };
@@ -51,27 +55,45 @@ pub trait AlgorithmParams<'a>: Sized + Drop {
         ensures { ErrsAs (λ _. params self.now) (strict_whole form encoding.now) result };
 }
 
-/// The parameters in a whole slice, if their octets are known.
+/// The parameters with these contents octets, if they are known. If `strict`, where that is quickly told too.
 #[inline(always)]
-fn usual_encoding<'a, T: AlgorithmParams<'a>>(bytes: &'a [u8], strict: bool) -> Option<T>
+fn known_or_quick<'a, T: AlgorithmParams<'a>>(contents: &'a [u8], strict: bool) -> Option<T>
+    ensures { let read = if strict then record_strictly T.form else record_read T.form in
+        IfSome result (λ it. read contents.now ≡ Ok (T.params it)) }
+{
+    if let Some(params) = T::usual(contents, strict) {
+        return Some(params);
+    }
+    if strict {
+        return T::quick_strictly(contents);
+    }
+    None
+}
+
+/// The same of a whole slice.
+#[inline(always)]
+fn quick_encoding<'a, T: AlgorithmParams<'a>>(bytes: &'a [u8], strict: bool) -> Option<T>
     ensures { let read = if strict then strict_whole T.form else record_whole T.form in
         IfSome result (λ it. read bytes.now ≡ Ok (T.params it)) }
 {
     let contents = short_contents(bytes)?;
-    let params = T::usual(contents, strict)?;
+    let params = known_or_quick::<T>(contents, strict)?;
     Some(params)
 }
 
-/// The parameters of an algorithm, if their octets are known.
+/// The same of the parameters of an algorithm.
 #[inline(always)]
-pub(crate) fn usual_any<'a, T: AlgorithmParams<'a>>(any: &AnyRef<'a>, strict: bool) -> Option<T>
+pub(crate) fn quick_parameters<'a, T: AlgorithmParams<'a>>(
+    any: &AnyRef<'a>,
+    strict: bool,
+) -> Option<T>
     ensures { let read = if strict then record_strictly T.form else record_read T.form in
         IfSome result (λ it. any_as sequence_kind read (any_of any.now) ≡ Ok (T.params it)) }
 {
     if any.tag() != Tag::SEQUENCE {
         return None;
     }
-    T::usual(any.value(), strict)
+    known_or_quick(any.value(), strict)
 }
 
 /// Reads a whole slice. Nothing is allocated.
@@ -80,7 +102,7 @@ pub(crate) fn read_params<'a, T: AlgorithmParams<'a>>(bytes: &'a [u8]) -> Result
     ensures read { Decodes (Encoded T.Is T.fields_of) bytes.now (ok_of T.params result) }
     ensures exact { ErrsAs T.params (record_whole T.form bytes.now) result }
 {
-    match usual_encoding(bytes, false) {
+    match quick_encoding(bytes, false) {
         Some(params) => Ok(params),
         None => T::read_whole(bytes),
     }
@@ -100,7 +122,7 @@ pub(crate) fn read_params_strict<'a, T: AlgorithmParams<'a>>(bytes: &'a [u8]) ->
 fn shortest_params<'a, T: AlgorithmParams<'a>>(bytes: &'a [u8]) -> Result<T>
     ensures { ErrsAs T.params (strict_whole T.form bytes.now) result }
 {
-    if let Some(params) = usual_encoding::<T>(bytes, true) {
+    if let Some(params) = quick_encoding::<T>(bytes, true) {
         return Ok(params);
     }
     let params = T::read_whole(bytes)?;

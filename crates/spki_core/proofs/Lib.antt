@@ -3,4 +3,5 @@ pub mod Copies
 pub mod MappedValues
 pub mod Readings
 pub mod Fielded
+pub mod QuickFields
 pub mod StrictFields

@@ -1,5 +1,5 @@
 use Rattle.pkcs1_params.proofs.UsualParameters.{short_read}
-use Rattle.pkcs1_params.proofs.reading.usual_encoding.Goals as goal
+use Rattle.pkcs1_params.proofs.reading.quick_encoding.Goals as goal
 
 pub returns : goal.returns
 returns g c =

@@ -1,0 +1,45 @@
+use Rattle.std.proofs.Common.{[], ◌∷◌, ◌∙◌, List, Ok, refl}
+use Rattle.spki_core.proofs.QuickFields.{NoneRefused, accepted, field_meant, field_spelled, record_found, there}
+use Rattle.spki_core.specs.AlgorithmValue.{viewed_with}
+use Rattle.spki_core.specs.AnyRefValue.{any_of}
+use Rattle.spki_core.specs.FieldSpellings.{Kind, Spelling}
+use Rattle.pkcs1_params.specs.Laws.Records.{pss_record}
+use Rattle.pkcs1_params.specs.ParameterReadings.{hash_kind, mask_kind, of_pss_fields, pss_kinds, salt_kind, trailer_kind}
+use Rattle.pkcs1_params.proofs.quick.quick_pss.Goals as goal
+
+pub returns : goal.returns
+returns c =
+    let strict = c.args.strict in
+    let last : List Kind = trailer_kind ∷ [] in
+    let first = c.args.contents.now in
+    let second = c.in_ok-hash.mask_part.now in
+    let third = c.in_ok-mask_gen.salt_part.now in
+    let fourth = c.in_ok-salt_len.last_part.now in
+    let hash = viewed_with any_of c.in_ok-hash.hash in
+    let mask = viewed_with (viewed_with any_of) c.in_ok-mask_gen.mask_gen in
+    let salt = c.in_ok-salt_len.salt_len in
+    let found : Spelling pss_kinds = (
+      there hash_kind hash first,
+      (there mask_kind mask second, (there salt_kind salt third, (there trailer_kind 1 fourth, tt))),
+    ) in
+    let read =
+    field_spelled hash_kind (mask_kind ∷ salt_kind ∷ last) c.with_null-default.ensures c.new.ensures first second c.in_ok-hash.ensures _
+    (field_spelled mask_kind (salt_kind ∷ last) c.mgf1_with-default.ensures c.new-2.ensures second third c.in_ok-mask_gen.ensures _
+    (field_spelled salt_kind last refl c.new-3.ensures third fourth c.in_ok-salt_len.ensures _
+    (field_spelled trailer_kind [] refl c.new-5.ensures fourth _ c.in_ok-trailer_field.ensures _ c.in_ok-quick_parts.ensures))) in
+    let none : NoneRefused strict pss_kinds found = (
+      accepted hash_kind hash first strict c.in_ok-accept_hash.ensures,
+      (
+        accepted mask_kind mask second strict c.in_ok-accept_mask_gen.ensures,
+        (
+          accepted salt_kind salt third strict (rw c.new-4.ensures at c.in_ok-accept_number.ensures),
+          (accepted trailer_kind 1 fourth strict (rw c.new-6.ensures at c.in_ok-accept_number-2.ensures), tt),
+        ),
+      ),
+    ) in
+    let hash_is = field_meant hash_kind (mask_kind ∷ salt_kind ∷ last) c.with_null-default.ensures c.new.ensures first second c.in_ok-hash.ensures in
+    let mask_is = field_meant mask_kind (salt_kind ∷ last) c.mgf1_with-default.ensures c.new-2.ensures second third c.in_ok-mask_gen.ensures in
+    let salt_is = field_meant salt_kind last refl c.new-3.ensures third fourth c.in_ok-salt_len.ensures in
+    let one = field_meant trailer_kind [] refl c.new-5.ensures fourth _ c.in_ok-trailer_field.ensures in
+    record_found pss_record strict first found read none
+    ∙ λ i. Ok (of_pss_fields (hash_is i, (mask_is i, (salt_is i, (one i, tt)))))
