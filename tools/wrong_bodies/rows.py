@@ -37,7 +37,7 @@ class Program(NamedTuple):
 VECTORS = Program("pkcs1_vectors", "stdin", " = ", ("#", "changed-", "joined-"))
 TOOL = Program("pkcs1_tool", "rows", " => ", ("#",))
 # The crates that only the tool uses.
-OF_TOOL = ("pkcs1_lines", "pkcs1_program")
+OF_TOOL = ("pkcs1_program",)
 # The lowest crate, which each of the others uses: which edit is meant is said there, by the first line of the input.
 LOWEST = "der_core"
 CHOICE = """//! Which edit is tried.

@@ -1,14 +1,28 @@
-//! Uses of keys and parameters: the examples of docs/USING.md.
+//! The examples of the documents: uses of keys and parameters, and types of one's own over `der_core` and `spki_core`.
 #![tactic(auto)]
 
+mod by_grammar;
 mod bytes;
+mod digest_info;
+mod dsa;
+mod dss_sig;
 mod errors;
+mod extension;
 mod files;
+mod number_list;
+mod optional_salt;
 mod primes;
 mod signatures;
 
+pub use by_grammar::{read_signature, write_signature};
 pub use bytes::{modulus_of, public_half};
+pub use digest_info::{DigestInfo, DigestInfoRef, read_digest_info, write_digest_info};
+pub use dsa::{DsaAlgorithmRef, DsaParams, DsaParamsRef, read_dsa_algorithm, write_dsa_algorithm};
+pub use dss_sig::{DssSigValue, DssSigValueRef, read, write};
 pub use errors::Advice;
+pub use extension::{BooleanTag, Extension, ExtensionRef, True, read_extension, write_extension};
 pub use files::publish;
+pub use number_list::{NumberList, NumberListRef, read_number_list, write_number_list};
+pub use optional_salt::{OptionalSalt, OptionalSaltRef, read_optional_salt, write_optional_salt};
 pub use primes::primes_of;
 pub use signatures::{is_accepted, salt_with_sha256};

@@ -8,7 +8,7 @@ use Rattle.std.proofs.Math.Seq.{take-append-add}
 use Rattle.std.proofs.lemmas.List.{take-append-le, take_min}
 use Rattle.der_core.specs.SourcesSinks.{AppendsFront}
 use Rattle.der_core.specs.Encodings.{AtMostOne}
-use Rattle.pkcs1_lines.specs.Answer.{Answer, Outputs}
+use Rattle.pkcs1_program.specs.Answer.{Answer, Outputs}
 use Rattle.pkcs1_program.specs.Written.{Makes, Writes, WritesFront, WritesFrontOfAll}
 
 -- one more answer

@@ -17,18 +17,18 @@ task_of (CopyPub input output) = copy_pub input.now output.now
 task_of (CopyPriv input output) = copy_priv input.now output.now
 
 -- `copy pub IN OUT`, `copy priv IN OUT`, or no word.
-abbrev pub asked_by : List (List ℕ) → Task
-asked_by [] = lines
-asked_by (a ∷ []) = usage
-asked_by (a ∷ b ∷ []) = usage
-asked_by (a ∷ b ∷ c ∷ []) = usage
-asked_by (a ∷ b ∷ input ∷ output ∷ []) =
+abbrev pub planned_by : List (List ℕ) → Task
+planned_by [] = lines
+planned_by (a ∷ []) = usage
+planned_by (a ∷ b ∷ []) = usage
+planned_by (a ∷ b ∷ c ∷ []) = usage
+planned_by (a ∷ b ∷ input ∷ output ∷ []) =
     if bytes_eq a (codes "copy") then
     (if bytes_eq b (codes "pub") then copy_pub input output
     else if bytes_eq b (codes "priv") then copy_priv input output
     else usage)
     else usage
-asked_by (a ∷ b ∷ c ∷ d ∷ e ∷ more) = usage
+planned_by (a ∷ b ∷ c ∷ d ∷ e ∷ more) = usage
 
 abbrev pub status_of : Plan → Bool → ℕ
 status_of Usage ok = 2

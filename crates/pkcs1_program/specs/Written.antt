@@ -2,7 +2,7 @@
 use Rattle.std.specs.Prelude.{◌≡◌, ℕ, List, ◌++◌, Option, Result, Ok, Err}
 use Rattle.std.specs.Io.KnownBytes.{Appends}
 use Rattle.der_core.specs.SourcesSinks.{AppendsFront, OneFailed}
-use Rattle.pkcs1_lines.specs.Answer.{Outputs}
+use Rattle.pkcs1_program.specs.Answer.{Outputs}
 use Rattle.pkcs1_program.specs.declared.fault.Fault.{Fault}
 use Rattle.pkcs1_program.specs.declared.fault.Fault.TheVariants.{Write}
 

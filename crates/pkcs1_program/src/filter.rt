@@ -2,13 +2,16 @@
 ghost use Rattle.std.specs.Prelude.{◌≡◌, ◌<◌, ◌≤◌, ◌⊎◌, ℕ, List, [], length, IfSome, IfOk, OnOk, IsErrOf, vec_len};
 ghost use Rattle.std.specs.Io.KnownBytes.{Appends, Keeps, IsAtEnd};
 ghost use Rattle.der_core.specs.Words.{piece, AppendsFront, GivesAll, GivesMore, GivesSome, OneFailed, AtMostOne};
-ghost use Rattle.pkcs1_lines.specs.Words.{Answer, Output, lines_of};
+ghost use Rattle.pkcs1_program.specs.Words.{Answer, Output, lines_of};
 ghost use Rattle.pkcs1_program.specs.Words.{Makes, MakesFirst, Writes, WritesFirst, WritesFront, WritesFrontOfAll};
 ghost use Rattle.pkcs1_program.specs.Words.{WritesHeld, WritesOut};
 
+use crate::answer::answer_line;
 use crate::fault::Fault;
+use crate::laws::lemma_answers_are_one;
+use crate::lines::split_line;
+use crate::request::Encodings;
 use der_core::{ErrorKind, Length, Sink, Source, put_all, read_all};
-use pkcs1_lines::{Encodings, answer_line, lemma_answers_are_one, split_line};
 use std::alloc::Global;
 
 /// The longest input, in bytes.

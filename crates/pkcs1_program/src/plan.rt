@@ -1,7 +1,7 @@
 //! What the program is to do.
 ghost use Rattle.std.specs.Prelude.{◌≡◌, drop, map};
 ghost use Rattle.std.specs.String.{string_bytes};
-ghost use Rattle.pkcs1_program.specs.Words.{asked_by, status_of, task_of};
+ghost use Rattle.pkcs1_program.specs.Words.{planned_by, status_of, task_of};
 
 /// What the program is to do.
 #[derive(Clone, Copy, Debug, PartialEq, Eq)]
@@ -29,7 +29,7 @@ pub fn behind_name(arguments: &[String]) -> &[String]
 /// The plan for these arguments (without the program's name): `Lines` for none, a copy for exactly `copy pub IN OUT` or
 /// `copy priv IN OUT`, else `Usage`.
 pub fn plan_of(words: &[String]) -> Plan<'_>
-    ensures { task_of result ≡ asked_by (map string_bytes words.now) }
+    ensures { task_of result ≡ planned_by (map string_bytes words.now) }
 {
     match words {
         [] => Plan::Lines,

@@ -41,13 +41,13 @@ fn documents_go_to_sinks(rt: HostRuntime) -> Result<(), Fail> {
     let alloc = rt.alloc();
     let document = Document::from_der(alloc, TEXT)?;
     let secret = SecretDocument::from_der(alloc, TEXT)?;
-    let mut sink = taking(alloc, 0);
+    let mut sink = taking(alloc, 3, 0);
     document.write_to(&mut sink)?;
     equal(&rt, (sink.taken.as_slice(), sink.flushes), (TEXT, 1));
-    let mut sink = taking(alloc, 0);
+    let mut sink = taking(alloc, 3, 0);
     secret.write_to(&mut sink)?;
     equal(&rt, (sink.taken.as_slice(), sink.flushes), (TEXT, 1));
-    let mut sink = taking(alloc, 2);
+    let mut sink = taking(alloc, 3, 2);
     equal(&rt, document.write_to(&mut sink), Err(FILE_ERROR));
     equal(&rt, sink.taken.as_slice(), [0x30, 0x06, 0x02].as_slice());
     let mut sink = ToWrite::new(Full);
@@ -74,7 +74,7 @@ fn long_documents_come_and_go_in_pieces(rt: HostRuntime) -> Result<(), Fail> {
     source.most = 40_000;
     let document = Document::read_from(alloc, &mut source)?;
     holds(&rt, document.as_bytes() == encoding.as_slice());
-    let mut sink = taking(alloc, 0);
+    let mut sink = taking(alloc, 3, 0);
     sink.most = 40_000;
     document.write_to(&mut sink)?;
     holds(&rt, sink.taken == encoding);

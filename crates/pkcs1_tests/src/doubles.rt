@@ -1,5 +1,5 @@
 //! Sources and sinks that move a few bytes per call, or fail at one.
-ghost use Rattle.std.specs.Prelude.{◌<◌, Some};
+ghost use Rattle.std.specs.Prelude.{◌<◌, Some, None};
 
 use der_core::{Error, ErrorKind, Result, Sink, Source, ToWrite};
 use std::alloc::Global;
@@ -50,6 +50,30 @@ pub fn giving(left: &[u8], failing: u64) -> Slow<'_> {
     }
 }
 
+/// A source that gives `left` bytes, each of them `byte`.
+#[derive(Drop)]
+pub struct Many {
+    pub byte: u8,
+    pub left: u64,
+}
+
+impl Source for Many {
+    ghost remaining = { λ _. None };
+
+    ghost failures = { λ _. 0 };
+
+    fn read(&mut self, buf: &mut [u8]) -> Result<usize> {
+        let count = self.left.min(buf.len() as u64) as usize;
+        buf[..count].fill(self.byte);
+        self.left -= count as u64;
+        Ok(count)
+    }
+
+    fn faults(&self) -> u64 {
+        0
+    }
+}
+
 /// A sink that takes up to `most` bytes per call and fails at call number `failing`, counted from 1.
 #[derive(Drop)]
 pub struct Narrow {
@@ -88,11 +112,11 @@ impl Sink for Narrow {
     }
 }
 
-/// A sink that takes up to three bytes per call.
-pub fn taking(alloc: Global, failing: u64) -> Narrow {
+/// A sink that takes up to `most` bytes per call.
+pub fn taking(alloc: Global, most: usize, failing: u64) -> Narrow {
     Narrow {
         taken: Vec::new(alloc),
-        most: 3,
+        most,
         failing,
         calls: 0,
         flushes: 0,

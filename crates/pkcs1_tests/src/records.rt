@@ -1,7 +1,7 @@
 //! Types of one's own, by rows that are read, written again, and refused.
 use crate::checks::{equal, holds};
 use der_core::{ErrorKind, Tag, TagMarker};
-use own_types::{
+use examples::{
     BooleanTag, read_digest_info, read_dsa_algorithm, read_extension, read_number_list,
     write_digest_info, write_dsa_algorithm, write_extension, write_number_list,
 };

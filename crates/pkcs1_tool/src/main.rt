@@ -1,16 +1,15 @@
 //! Without arguments the program reads lines and writes one for each: `pub HEX` asks for the RSA public key with this
 //! encoding, `priv HEX` for the private key, `pss HEX` and `oaep HEX` for parameters of RSASSA-PSS and RSAES-OAEP;
-//! `pkcs1_lines` has the other words. `copy pub IN OUT` and `copy priv IN OUT` copy a key from file to file.
+//! `pkcs1_program` has the other words. `copy pub IN OUT` and `copy priv IN OUT` copy a key from file to file.
 #![tactic(auto)]
 
 ghost use Rattle.std.specs.Prelude.{◌≡◌, ℕ, List, Bool, is_ok};
 ghost use Rattle.der_core.specs.Words.{FileTakes, GivesAll};
 ghost use Rattle.standard.specs.Statement.{PrivateKeyEncoding, PublicKeyEncoding};
-ghost use Rattle.pkcs1_lines.specs.Words.{lines_of};
-ghost use Rattle.pkcs1_program.specs.Words.{CopiesAt, IsDone, Writes, status_of};
+ghost use Rattle.pkcs1_program.specs.Words.{CopiesAt, IsDone, Writes, lines_of, status_of};
 
 use der_core::{FileSystem, FromRead, Sink, Source, ToWrite};
-pub use pkcs1_program::{Fault, Plan, behind_name, copy_priv, copy_pub, plan_of, run, status};
+use pkcs1_program::{Fault, Plan, behind_name, copy_priv, copy_pub, plan_of, run, status};
 use std::alloc::Global;
 use std::fmt::Display;
 use std::path::Path;
@@ -87,6 +86,3 @@ fn main(rt: HostRuntime) -> ExitCode {
     };
     ExitCode::from(status)
 }
-
-#[cfg(test)]
-mod tests;

@@ -1,0 +1,30 @@
+-- What is printed of the row is what its grammar says.
+use Rattle.std.proofs.Common.{ℕ, List, ◌++◌, refl}
+use Rattle.std.specs.Prelude.{Option}
+use Rattle.std.specs.Option.{option_map}
+use Rattle.der_core.specs.Laws.Printed.Relations.{StatedAs, optional_itself, stated}
+use Rattle.der_core.specs.Printed.{Spells}
+use Rattle.examples.specs.Salt.{IsSalt, Salt, SaltEncoding}
+use Rattle.standard.specs.Statement.{AreOctets, IfPresent, integer, optional, sequence, tlv}
+
+abbrev Row : Type 0
+Row = ℕ × Option (List ℕ)
+
+abbrev IsRow : Row → Type 0
+IsRow v = Unit {0} × IfPresent AreOctets v.1
+
+abbrev printed : Row → List ℕ
+printed v = sequence (integer v.0 ++ optional (tlv 4) v.1)
+
+-- A salt that is there is spelled as itself.
+abbrev spelled : Row → Row
+spelled v = (v.0, option_map (λ o. o) v.1)
+
+abbrev salt : Row → Salt
+salt v = record { iterations = v.0; salt = v.1 }
+
+pub salt_law : StatedAs (λ v. IsRow (spelled v)) (Spells IsRow printed spelled) IsSalt SaltEncoding salt
+salt_law =
+    stated spelled (λ v i. (v.0, optional_itself v.1 i)) (λ w. (w.iterations, w.salt)) (λ w. refl)
+    (λ v. (λ p. p.1, λ p. (tt, p)))
+    (λ v bytes. (λ (few, ok, is). (few, ok.1, is), λ (few, ok, is). (few, (tt, ok), is)))

@@ -1,0 +1,203 @@
+//! A record with a part that is there or not, in front of another.
+ghost use Rattle.std.specs.Prelude.{◌≡◌, ◌∷◌, [], IfErr, length, refl};
+ghost use Rattle.std.specs.Str.{bytes_eq};
+ghost use Rattle.standard.specs.Statement as standard;
+ghost use Rattle.der_core.specs.Words.{Answers, Spells, Unwritten, alike, encode_error, ok_of, one_spelling, whole};
+ghost use Rattle.der_core.specs.Words.{itself_once};
+ghost use Rattle.examples.specs.Extension.{IsTrueOctet, critical_part, true_law, true_octets, true_read};
+
+use der_core::{
+    BackWriter, Borrowed, Contents, ContentsAskNone, DecodeValue, Encode, EncodeInParts,
+    EncodeValue, Encoding, Error, ErrorKind, Header, Length, Memory, OctetStringRef, OneContents,
+    OptionalThen, Reader, Record, Result, Tag, TagMarker, TaggedBy, Writer, read_borrowed,
+    write_only,
+};
+use spki_core::ObjectIdentifier;
+
+/// The tag of BOOLEAN.
+pub struct BooleanTag;
+
+impl TagMarker for BooleanTag {
+    ghost TAG = { record { octet = 1; allowed = refl } };
+
+    const TAG: Tag = Tag { octet: 0x01 };
+}
+
+/// The BOOLEAN TRUE and no other (X.690 8.2, 11.1). It is what stands in the place of `BOOLEAN DEFAULT FALSE`, if
+/// anything does: DER leaves the default out (11.5).
+#[derive(Clone, Copy, Debug, Drop)]
+pub struct True;
+
+impl Contents for True {
+    ghost Value = { Unit {0} };
+
+    ghost value = { λ _. tt };
+
+    ghost Spelling = { Unit {0} };
+
+    ghost means = { λ s. s };
+
+    ghost written = { λ v. v };
+
+    ghost valid = { IsTrueOctet };
+
+    ghost printed = { true_octets };
+
+    ghost read_spelling = { true_read };
+
+    ghost read = { true_read };
+
+    ghost law = { true_law };
+
+    ghost shortest = { one_spelling IsTrueOctet true_octets };
+
+    ghost reads_alike = { alike true_read };
+}
+
+impl TaggedBy for True {
+    type Marker = BooleanTag;
+}
+
+/// Whether these are the contents octets of TRUE.
+fn is_true(contents: &[u8]) -> bool
+    ensures { result ≡ bytes_eq contents.now (255 ∷ []) }
+{
+    matches!(contents, [0xff])
+}
+
+/// TRUE, if these are its contents octets.
+fn true_of(contents: &[u8]) -> Result<True>
+    ensures { Answers (λ _. tt) result (true_read contents.now) }
+{
+    if is_true(contents) {
+        Ok(True)
+    } else {
+        Err(Error::new(ErrorKind::Value {
+            tag: BooleanTag::TAG,
+        }))
+    }
+}
+
+impl<'a, M: Memory> DecodeValue<&'a [u8], M> for True {
+    ghost may_allocate = { λ _. ⊥ };
+
+    fn decode_value<R: Reader<&'a [u8]>>(
+        _memory: M,
+        reader: &mut R,
+        header: Header,
+    ) -> Result<True> {
+        let contents = reader.read_slice(header.length)?;
+        match true_of(contents) {
+            Ok(value) => Ok(value),
+            Err(e) => Err(reader.error(e.kind())),
+        }
+    }
+}
+
+impl EncodeValue for True {
+    fn value_len(&self) -> Result<Length> {
+        Length::try_from(1)
+    }
+
+    fn append_value<W: Writer>(&self, writer: &mut W) -> Result<()> {
+        writer.write(&[0xff])
+    }
+
+    fn prepend_value(&self, writer: &mut BackWriter<'_>) {
+        writer.prepend(&[0xff]);
+    }
+}
+
+impl<'a> ContentsAskNone<&'a [u8]> for True {
+    ghost contents_ask_none = { λ c no. no };
+}
+
+impl OneContents for True {
+    ghost once = { itself_once };
+}
+
+/// An extension of a certificate (RFC 5280 4.1).
+///
+/// ```text
+/// Extension ::= SEQUENCE {
+///     extnID     OBJECT IDENTIFIER,
+///     critical   BOOLEAN DEFAULT FALSE,
+///     extnValue  OCTET STRING
+/// }
+/// ```
+#[derive(Clone, Copy, Debug, Drop)]
+pub struct Extension<V> {
+    /// What it is about.
+    pub id: ObjectIdentifier,
+    /// Whether who doesn't know it has to reject the certificate.
+    pub critical: bool,
+    /// What it says.
+    pub value: V,
+}
+
+/// One that borrows its value.
+pub type ExtensionRef<'a> = Extension<OctetStringRef<'a>>;
+
+impl<V: Encoding> Record for Extension<V> {
+    type Fields = (ObjectIdentifier, OptionalThen<True, (V, ())>);
+
+    ghost fields = { λ it. (it.id, record { 0 = critical_part it.critical; 1 = (it.value, tt) }) };
+
+    fn from_fields(row: (ObjectIdentifier, OptionalThen<True, (V, ())>)) -> Extension<V> {
+        let (id, OptionalThen(critical, (value, ()))) = row;
+        Extension {
+            id,
+            critical: critical.is_some(),
+            value,
+        }
+    }
+}
+
+impl<V: Encode> Extension<V> {
+    /// The part for `critical`.
+    fn critical_part(&self) -> Option<True>
+        ensures { result ≡ critical_part self.now.critical }
+    {
+        if self.critical { Some(True) } else { None }
+    }
+}
+
+impl<V: Encode> EncodeInParts for Extension<V> {
+    fn parts_len(&self) -> Result<Length> {
+        let later = OptionalThen(self.critical_part(), (Borrowed(&self.value), ()));
+        (Borrowed(&self.id), later).value_len()
+    }
+
+    fn append_parts<W: Writer>(&self, writer: &mut W) -> Result<()> {
+        let later = OptionalThen(self.critical_part(), (Borrowed(&self.value), ()));
+        (Borrowed(&self.id), later).append_value(writer)
+    }
+
+    fn prepend_parts(&self, writer: &mut BackWriter<'_>) {
+        let later = OptionalThen(self.critical_part(), (Borrowed(&self.value), ()));
+        (Borrowed(&self.id), later).prepend_value(writer);
+    }
+}
+
+/// What a slice encodes, read without memory; or the error of its first fault.
+pub fn read_extension<'a>(bytes: &'a [u8]) -> Result<ExtensionRef<'a>>
+    ensures read { let T = ⟦<ExtensionRef<'a> as Encoding>⟧ in
+        standard.Decodes (Spells T.valid T.printed T.means) bytes.now (ok_of T.value result) }
+    ensures exact { let T = ⟦<ExtensionRef<'a> as Encoding>⟧ in
+        Answers T.value result (whole T.read_front bytes.now) }
+{
+    read_borrowed(bytes)
+}
+
+/// Writes the only encoding to the front of a slice and returns its length.
+pub fn write_extension<'a>(extension: &ExtensionRef<'a>, out: &mut [u8]) -> Result<usize>
+    ensures written { let T = ⟦<ExtensionRef<'a> as Encoding>⟧ in let v = T.value extension.now in
+        standard.Encodes (Spells T.valid T.printed T.means) v out.old out.new (ok_of (λ n. n) result) }
+    ensures only { let T = ⟦<ExtensionRef<'a> as Encoding>⟧ in
+        standard.AtMostOne (Spells T.valid T.printed T.means) }
+    ensures err { let T = ⟦<ExtensionRef<'a> as Encoding>⟧ in let v = T.value extension.now in
+        let encodings = Spells T.valid T.printed T.means in
+        IfErr result (λ e. Unwritten (λ v. T.valid (T.written v)) encodings v (length out.old) (encode_error e.kind)) }
+{
+    write_only(extension, out)
+}

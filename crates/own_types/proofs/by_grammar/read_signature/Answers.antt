@@ -1,7 +1,0 @@
-use Rattle.der_core.specs.Laws.Printed.Relations.{decodes_stated}
-use Rattle.own_types.proofs.Signature.{signature_law}
-use Rattle.own_types.proofs.by_grammar.read_signature.Goals as goal
-
-pub returns-clause-read : goal.returns-clause-read
-returns-clause-read c =
-    decodes_stated signature_law _ c.args.bytes.now c.read_borrowed.result c.read_borrowed.ensures.read

@@ -1,4 +1,0 @@
-pub mod Signature
-pub mod Salt
-pub mod Extension
-pub mod NumberList

@@ -1,6 +1,0 @@
-pub mod CutAtByte
-pub mod Requests
-pub mod OneAnswer
-pub mod PutBehind
-pub mod Verdicts
-pub mod Spelled

@@ -1,9 +1,0 @@
-use Rattle.std.proofs.lemmas.Result.{on_ok_weaker}
-use Rattle.pkcs1_lines.proofs.PutBehind.{four}
-use Rattle.pkcs1_lines.proofs.keys.put_p8.Goals as goal
-
-pub returns : goal.returns
-returns c =
-    on_ok_weaker c.put_field.result
-    (λ put. four _ _ _ _ _ _ _ _ _ c.in_ok-extend_from_slice.ensures.items c.in_ok-put_key.ensures
-    c.in_ok-put_attributes.ensures put) c.put_field.ensures

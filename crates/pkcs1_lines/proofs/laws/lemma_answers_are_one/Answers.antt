@@ -1,5 +1,0 @@
-use Rattle.pkcs1_lines.proofs.OneAnswer.{answers_at_most_one, output_at_most_one}
-use Rattle.pkcs1_lines.proofs.laws.lemma_answers_are_one.Goals as goal
-
-pub returns : goal.returns
-returns c = (answers_at_most_one, output_at_most_one)

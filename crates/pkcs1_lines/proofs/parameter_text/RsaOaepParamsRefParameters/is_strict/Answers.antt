@@ -1,9 +1,0 @@
-use Rattle.pkcs1_params.specs.OaepValue.{oaep_of}
-use Rattle.standard.specs.Statement.{IsShortest, OaepEncoding}
-use Rattle.pkcs1_lines.proofs.Verdicts.{read_is_ok}
-use Rattle.pkcs1_lines.proofs.parameter_text.RsaOaepParamsRefParameters.is_strict.Goals as goal
-
-pub returns : goal.returns
-returns c =
-    rw c.is_ok.ensures.value
-    (read_is_ok (IsShortest OaepEncoding) c.args.encoding.now oaep_of _ c.from_der_strict.ensures.read)

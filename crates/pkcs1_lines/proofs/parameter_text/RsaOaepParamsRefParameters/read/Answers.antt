@@ -1,7 +1,0 @@
-use Rattle.pkcs1_params.specs.OaepValue.{oaep_of}
-use Rattle.standard.specs.Statement.{OaepEncoding}
-use Rattle.pkcs1_lines.proofs.Verdicts.{read_some}
-use Rattle.pkcs1_lines.proofs.parameter_text.RsaOaepParamsRefParameters.read.Goals as goal
-
-pub returns : goal.returns
-returns c = rw c.ok.ensures.value (read_some OaepEncoding c.args.encoding.now oaep_of _ c.try_from.ensures.read)

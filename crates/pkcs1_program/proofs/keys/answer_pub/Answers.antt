@@ -1,0 +1,17 @@
+use Rattle.der_core.specs.UintRefValue.{bytes_of}
+use Rattle.pkcs1.proofs.OneKey.{public_one}
+use Rattle.pkcs1.specs.Held.{held_public_key}
+use Rattle.standard.specs.Statement.{PublicKeyEncoding}
+use Rattle.pkcs1_program.specs.Told.{pub_answer}
+use Rattle.pkcs1_program.proofs.PutBehind.{key_told, refused}
+use Rattle.pkcs1_program.proofs.keys.answer_pub.Goals as goal
+
+pub returns-in-Ok : goal.returns-in-Ok
+returns-in-Ok c =
+    key_told PublicKeyEncoding c.args.encoding.now _ _ c.put_pub.result pub_answer public_one
+    (held_public_key bytes_of c.in-Ok.key) c.in-Ok.ensures.read.0 c.put_pub.ensures
+
+pub returns-in-Err : goal.returns-in-Err
+returns-in-Err c =
+    refused PublicKeyEncoding c.args.encoding.now _ _ c.put_refused.result _ c.in-Err.ensures.read
+    c.put_refused.ensures

@@ -1,0 +1,11 @@
+use Rattle.std.proofs.Common.{subst}
+use Rattle.pkcs8_core.specs.Rsa.{ContainedKey}
+use Rattle.pkcs1_program.proofs.keys.read_container.Goals as goal
+
+pub returns-in-Err-clause-none : goal.returns-in-Err-clause-none
+returns-in-Err-clause-none c = λ held p.
+    let same = c.in-Ok.ensures.read.1 held.info p.0 in
+    c.in-Err.ensures.read held.key (subst (λ i. ContainedKey i held.key i.private_key) same p.1)
+
+pub returns-in_default-clause-none : goal.returns-in_default-clause-none
+returns-in_default-clause-none c = λ held p. c.in_default.ensures.read held.info p.0

@@ -1,0 +1,7 @@
+use Rattle.pkcs1_params.specs.PssValue.{pss_of}
+use Rattle.standard.specs.Statement.{PssEncoding}
+use Rattle.pkcs1_program.proofs.Verdicts.{read_some}
+use Rattle.pkcs1_program.proofs.parameter_text.RsaPssParamsRefParameters.read.Goals as goal
+
+pub returns : goal.returns
+returns c = rw c.ok.ensures.value (read_some PssEncoding c.args.encoding.now pss_of _ c.try_from.ensures.read)

@@ -1,0 +1,26 @@
+use Rattle.der_core.specs.Printed.{Spells}
+use Rattle.der_core.specs.Writing.{encode_error}
+use Rattle.pkcs1_params.proofs.Written.{shortest_as}
+use Rattle.pkcs1_params.specs.Spellings.{Encoded}
+use Rattle.pkcs1_program.proofs.Verdicts.{is_written}
+use Rattle.pkcs1_program.proofs.shortest.shortest.Goals as goal
+
+pub returns : goal.returns
+returns g c =
+    let claim : g.claim c.lifetimes = assumption in
+    let t = g.T.Encoding in
+    let a = g.T.Parameters in
+    let params = c.args.params.now in
+    let is = c.in-Ok.ensures.shortest in
+    shortest_as (Spells t.valid t.printed t.means) (Encoded a.Is a.fields_of) (t.value params) (a.params params)
+    ((g.met.T.Parameters c.lifetimes claim).encodings_are params) c.in-Ok.shortest.now (is.spells, is.least)
+
+pub unreachable-requires : goal.unreachable-requires
+unreachable-requires g c =
+    let claim : g.claim c.lifetimes = assumption in
+    let t = g.T.Encoding in
+    let params = c.args.params.now in
+    let encoding = c.args.encoding.now in
+    is_written t.valid t.printed t.means _ (t.value params) _ encoding (encode_error c.in-Err.field-0.kind)
+    (((g.met.T.Parameters c.lifetimes claim).encodings_are params encoding).1 c.requires.encodes) c.requires.room
+    c.in-Err.ensures.err

@@ -1,0 +1,73 @@
+-- What a line asks for.
+use Rattle.std.specs.Prelude.{ℕ, List, [], ◌∷◌, Option, Some, None, codes}
+use Rattle.std.specs.List.{find}
+use Rattle.std.specs.Option.{option_map}
+use Rattle.std.specs.Str.{bytes_eq}
+use Rattle.std.specs.declared.result.Result.{Result}
+use Rattle.std.specs.declared.result.Result.TheVariants.{Ok, Err}
+use Rattle.hex.specs.Hex.{decode_of}
+use Rattle.hex.specs.declared.error.FromHexError.{FromHexError}
+use Rattle.pkcs1_program.specs.declared.request.Word.{Word}
+use Rattle.pkcs1_program.specs.declared.request.Word.TheVariants as word
+use Rattle.pkcs1_program.specs.declared.request.PairWord.{PairWord}
+use Rattle.pkcs1_program.specs.declared.request.PairWord.TheVariants as pair
+use Rattle.pkcs1_program.specs.Lines.{parts_of}
+
+-- The words of lines with one HEX part.
+abbrev pub words : List (List ℕ × Word)
+words =
+    (codes "pub", word.Pub)
+    ∷ (codes "priv", word.Priv)
+    ∷ (codes "pss", word.Pss)
+    ∷ (codes "oaep", word.Oaep)
+    ∷ (codes "p8", word.P8)
+    ∷ (codes "spell-pss", word.SpellPss)
+    ∷ (codes "spell-oaep", word.SpellOaep)
+    ∷ (codes "strict-pss", word.StrictPss)
+    ∷ (codes "strict-oaep", word.StrictOaep)
+    ∷ []
+
+-- The words of lines with two HEX parts.
+abbrev pub pair_words : List (List ℕ × PairWord)
+pair_words = (codes "same-pss", pair.SamePss) ∷ (codes "same-oaep", pair.SameOaep) ∷ []
+
+-- a word with the bytes of its HEX parts, or a line of another form
+pub data Asked : Type 0 where
+  bad_line : Asked
+  asks : Word → List ℕ → Asked
+  asks_pair : PairWord → List ℕ → List ℕ → Asked
+
+abbrev pub decoded : Result (List ℕ) FromHexError → Option (List ℕ)
+decoded (Ok encoding) = Some encoding
+decoded (Err e) = None
+
+-- the bytes of an even number of hexadecimal digits, of either case
+abbrev pub encoding_of : List ℕ → Option (List ℕ)
+encoding_of hex = decoded (decode_of hex)
+
+-- the value beside the name in a list
+abbrev pub named : {W : Type 0} → List (List ℕ × W) → List ℕ → Option W
+named rows name = option_map (λ row. row.1) (find (λ row. bytes_eq row.0 name) rows)
+
+abbrev pub asked_with : Option Word → Option (List ℕ) → Asked
+asked_with (Some word) (Some encoding) = asks word encoding
+asked_with (Some word) None = bad_line
+asked_with None encoding = bad_line
+
+abbrev pub pair_asked_with : Option PairWord → Option (List ℕ) → Option (List ℕ) → Asked
+pair_asked_with (Some word) (Some first) (Some second) = asks_pair word first second
+pair_asked_with (Some word) (Some first) None = bad_line
+pair_asked_with (Some word) None second = bad_line
+pair_asked_with None first second = bad_line
+
+abbrev pub asked_by_parts : List (List ℕ) → Asked
+asked_by_parts [] = bad_line
+asked_by_parts (word ∷ []) = bad_line
+asked_by_parts (word ∷ hex ∷ []) = asked_with (named words word) (encoding_of hex)
+asked_by_parts (word ∷ hex ∷ second ∷ []) =
+    pair_asked_with (named pair_words word) (encoding_of hex) (encoding_of second)
+asked_by_parts (word ∷ hex ∷ second ∷ more ∷ rest) = bad_line
+
+-- what the line asks for
+abbrev pub asked_by : List ℕ → Asked
+asked_by line = asked_by_parts (parts_of line)
