@@ -74,7 +74,14 @@
  * Pointers: no call keeps one.
  * Memory: no call allocates. Of the C library they call memcpy, memmove, memset and memcmp alone, or bcmp in its place
  *   where clang compiles them. So a signal handler may make each call, and a program without a C library.
- * Secrets: nothing is wiped from memory, and nothing is promised about the time that a call takes. */
+ * Stack: in the tests, with gcc 12 and -O2 on x86-64, however many primes a key has, a call takes at most so many octets.
+ *   The assembly: 1720 to decode, 1032 to encode. The generated C: 1800 to decode, 1056 to encode. What functions of the
+ *   C library take comes on top.
+ * Time: which way a call takes on a valid private key depends on the lengths in its encoding alone. This is tested on
+ *   x86-64, not proved. Leading zeros that you pass are counted by a loop. Of other octets, status and time tell where
+ *   the first fault is. If you decrypt keys without authentication, show neither to the sender.
+ * Secrets: no call leaves octets of a secret number elsewhere than in `out`, but for the first, which may stay on the
+ *   stack. This is tested, not proved. Nothing is wiped from memory. */
 #ifndef PKCS1_H
 #define PKCS1_H
 
