@@ -2,7 +2,7 @@
 # Tests what pkcs1.h says that the calls do besides, of the assembly and of the generated C, as make builds them with
 # gcc: secret octets of a private key don't change the path of a call, and stay nowhere but in `out`; a call takes no
 # more stack than is said; nothing is kept between calls, and nothing allocated. Then mistakes are planted in copies of
-# pkcs1.c, and each must be noticed. It needs make, gcc, binutils and valgrind, on x86-64.
+# pkcs1.c, and each must be noticed. It needs make, gcc, binutils, python3 and valgrind, on x86-64.
 set -eu
 cd "$(dirname "$0")/.."
 room=$(mktemp -d)
@@ -39,20 +39,26 @@ first_octets_are_alike() {
 leaves_nothing() {
     link_secrets "$1" && "$1/secrets" ffi/rust/tests/keys traces
 }
-stack_suffices() {
-    # shellcheck disable=SC2086
-    link "$1" stack "$room"/{stack,painted,test,rows}.o ${coders//pkcs1_/-Wl,--wrap=pkcs1_} &&
-        "$1/stack" ffi/rust/tests/statuses > "$1/taken" || return
-    awk -v of="$([ "$1" = "$room/c" ] && echo C || echo assembly)" '
-        match($0, " " of ": [0-9]+ to decode, [0-9]+ to encode") { split(substr($0, RSTART), may, /[^0-9]+/) }
-        /^stack / { decode = $2; encode = $3 }
+# takes FOLDER DECODE ENCODE: whether pkcs1.h says so many octets of stack, or more, of the code in this folder.
+takes() {
+    awk -v of="$([ "$1" = "$room/c" ] && echo C || echo Assembly)" -v decode="${2-}" -v encode="${3-}" '
+        match($0, of ": [0-9]+ to decode, [0-9]+ to encode") { split(substr($0, RSTART), may, /[^0-9]+/) }
         END {
-            print "of stack calls take", decode, encode
-            exit !(decode > 0 && decode <= may[2] && encode > 0 && encode <= may[3])
-        }' ffi/include/pkcs1.h "$1/taken"
+            print "calls take " decode " and " encode " octets of stack"
+            exit !(0 < decode && decode + 0 <= may[2] + 0 && 0 < encode && encode + 0 <= may[3] + 0)
+        }' ffi/include/pkcs1.h
+}
+stack_suffices() {
+    # shellcheck disable=SC2046
+    takes "$1" $(ffi/deepest.py "$1/libpkcs1.so")
+}
+stack_suffices_in_tests() {
+    # shellcheck disable=SC2046,SC2086
+    link "$1" stack "$room"/{stack,painted,test,rows}.o ${coders//pkcs1_/-Wl,--wrap=pkcs1_} &&
+        takes "$1" $("$1/stack" ffi/rust/tests/statuses | sed -n 's/^stack //p')
 }
 keeps_nothing() {
-    ffi/link.sh "$1" && ffi/check_object.sh "$1"
+    ffi/check_object.sh "$1"
 }
 
 # notices TEST TEXT WHERE MISTAKE: with the mistake planted behind each such line of pkcs1.c, the test prints this text.
@@ -64,6 +70,7 @@ notices() {
         ffi/c/pkcs1.c > "$planted/pkcs1.c" || stop "pkcs1.c has no one line $3"
     # shellcheck disable=SC2086
     gcc $warned -O2 -fPIC -fasynchronous-unwind-tables -c "$planted/pkcs1.c" -o "$planted/calls.o"
+    ffi/link.sh "$planted"
     ! "$1" "$planted" > "$room/log" 2>&1 || stop "$1 doesn't notice $4"
     grep -qE "$2" "$room/log" || stop "$1 notices $4 otherwise: $(cat "$room/log")"
 }
@@ -74,7 +81,7 @@ for name in painted secrets stack test rows; do
 done
 for code in assembly c; do
     make --silent OUT="$room/$code" CODE=$code "$room/$code/libpkcs1.a"
-    for test in path_is_public first_octets_are_alike leaves_nothing stack_suffices keeps_nothing; do
+    for test in path_is_public first_octets_are_alike leaves_nothing stack_suffices{,_in_tests} keeps_nothing; do
         "$test" "$room/$code" > "$room/log" 2>&1 || {
             cat "$room/log" >&2
             stop "$test fails with $code, by gcc $(gcc -dumpfullversion)"
@@ -84,7 +91,7 @@ done
 
 on_read='*key = *read;'
 on_write='struct pkcs1_private_key given = private_key(key);'
-frame='volatile uint8_t frame[2048]; frame[0] = 1; (void)frame;'
+frame='volatile uint8_t frame[2048]; *frame = 1;'
 notices path_is_public 'jump .* uninit' "$on_read" 'if (read->prime1.data[1] & 1) __asm__ volatile("nop");'
 notices path_is_public 'jump .* uninit' "$on_write" 'if (given.exponent2.data[9] & 1) __asm__ volatile("nop");'
 notices path_is_public 'Use of uninit' "$on_read" \
@@ -94,8 +101,13 @@ notices leaves_nothing 'sizeof left' "$on_read" 'volatile uint8_t copy = read->c
 notices leaves_nothing 'sizeof left' "$on_write" \
     '__asm__ volatile("movd %0, %%xmm9" : : "r"(0u + given.prime1.data[1]));'
 notices leaves_nothing 'sizeof filled_in' "$on_read" 'key->prime2.len -= read->prime1.data[1] & 1;'
-notices stack_suffices 'take [2-9][0-9]{3} ' "$on_read" "$frame"
-notices stack_suffices 'take .* [2-9][0-9]{3}$' "$on_write" "$frame"
+for test in stack_suffices{,_in_tests}; do
+    notices $test 'take [2-9][0-9]{3} and ' "$on_read" "$frame"
+    notices $test 'and [2-9][0-9]{3} octets' "$on_write" "$frame"
+done
+notices stack_suffices 'no fixed size' "$on_read" 'volatile uint8_t frame[read->prime1.len]; *frame = 1;'
+notices stack_suffices 'calls an address' "$on_read" 'void (*volatile none)(void) = 0; if (none) none();'
+notices stack_suffices 'comes back' "$on_read" 'if (others_room > 9) put_key(read, listed, key, others, 9), key->other_primes++;'
 notices keeps_nothing 'share data' "$on_read" 'static volatile size_t calls; calls++;'
 notices keeps_nothing 'asks for malloc' "$on_read" \
     'extern void *malloc(size_t); void *volatile taken = malloc(9); (void)taken;'

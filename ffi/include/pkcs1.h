@@ -74,9 +74,8 @@
  * Pointers: no call keeps one.
  * Memory: no call allocates. Of the C library they call memcpy, memmove, memset and memcmp alone, or bcmp in its place
  *   where clang compiles them. So a signal handler may make each call, and a program without a C library.
- * Stack: in the tests, with gcc 12 and -O2 on x86-64, however many primes a key has, a call takes at most so many octets.
- *   The assembly: 1720 to decode, 1032 to encode. The generated C: 1800 to decode, 1056 to encode. What functions of the
- *   C library take comes on top.
+ * Stack: on x86-64, compiled by gcc 12 with -O2, calls take at most so many octets, whatever is passed. Functions of the
+ *   C library come on top. Assembly: 1816 to decode, 1032 to encode. Generated C: 1880 to decode, 1056 to encode.
  * Time: which way a call takes on a valid private key depends on the lengths in its encoding alone. This is tested on
  *   x86-64, not proved. Leading zeros that you pass are counted by a loop. Of other octets, status and time tell where
  *   the first fault is. If you decrypt keys without authentication, show neither to the sender.
