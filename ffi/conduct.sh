@@ -55,7 +55,7 @@ stack_suffices() {
 stack_suffices_in_tests() {
     # shellcheck disable=SC2046,SC2086
     link "$1" stack "$room"/{stack,painted,test,rows}.o ${coders//pkcs1_/-Wl,--wrap=pkcs1_} &&
-        takes "$1" $("$1/stack" ffi/rust/tests/statuses | sed -n 's/^stack //p')
+        "$1/stack" ffi/rust/tests/statuses > "$1/taken" && takes "$1" $(sed -n 's/^stack //p' "$1/taken")
 }
 keeps_nothing() {
     ffi/check_object.sh "$1"
@@ -107,7 +107,8 @@ for test in stack_suffices{,_in_tests}; do
 done
 notices stack_suffices 'no fixed size' "$on_read" 'volatile uint8_t frame[read->prime1.len]; *frame = 1;'
 notices stack_suffices 'calls an address' "$on_read" 'void (*volatile none)(void) = 0; if (none) none();'
-notices stack_suffices 'comes back' "$on_read" 'if (others_room > 9) put_key(read, listed, key, others, 9), key->other_primes++;'
+notices stack_suffices 'comes back' "$on_read" \
+    'if (others_room > 9) put_key(read, listed, key, others, 9), key->other_primes++;'
 notices keeps_nothing 'share data' "$on_read" 'static volatile size_t calls; calls++;'
 notices keeps_nothing 'asks for malloc' "$on_read" \
     'extern void *malloc(size_t); void *volatile taken = malloc(9); (void)taken;'

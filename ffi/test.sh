@@ -65,8 +65,12 @@ CFLAGS=$warned "$here/check_freestanding.sh" "$out" "$room/freestanding"
 "$room/dlopen" "$out/libpkcs1.so"
 if have valgrind "the C test runs under the sanitizers alone"; then
     valgrind --quiet --error-exitcode=9 --leak-check=full "$room/test" "$statuses"
-    "$here/conduct.sh"
 fi
+conduct=$here/conduct.sh
+for tool in gcc make python3 valgrind; do
+    have $tool "path, traces and stack of the calls aren't tested" || conduct=
+done
+[ -z "$conduct" ] || "$conduct"
 
 # Octets that change during a call; two threads a mode.
 "$CC" -std=c99 "${flags[@]}" "$here/c/races.c" "$out/libpkcs1.a" -lpthread -o "$room/races"

@@ -1,5 +1,5 @@
-/* What the calls do with the secret numbers of private keys. A number's lengths, and whether its first octet is 128 or
- * more, which the length of its encoding shows, aren't secret here.
+/* What the calls do with the secret numbers of private keys. Not secret are their lengths, and whether their first octets
+ * are 128 or more, which the lengths of their encodings show.
  *
  *     secrets KEYS traces                   leaves anything of them a trace elsewhere than in `out`? The calls are made
  *                                           twice, with keys that differ in each octet of a secret number behind the
