@@ -102,8 +102,8 @@ notices leaves_nothing 'sizeof left' "$on_write" \
     '__asm__ volatile("movd %0, %%xmm9" : : "r"(0u + given.prime1.data[1]));'
 notices leaves_nothing 'sizeof filled_in' "$on_read" 'key->prime2.len -= read->prime1.data[1] & 1;'
 for test in stack_suffices{,_in_tests}; do
-    notices $test 'take [2-9][0-9]{3} and ' "$on_read" "$frame"
-    notices $test 'and [2-9][0-9]{3} octets' "$on_write" "$frame"
+    notices "$test" 'take [2-9][0-9]{3} and ' "$on_read" "$frame"
+    notices "$test" 'and [2-9][0-9]{3} octets' "$on_write" "$frame"
 done
 notices stack_suffices 'no fixed size' "$on_read" 'volatile uint8_t frame[read->prime1.len]; *frame = 1;'
 notices stack_suffices 'calls an address' "$on_read" 'void (*volatile none)(void) = 0; if (none) none();'

@@ -1,5 +1,5 @@
-/* What the calls do with the secret numbers of private keys. Not secret are their lengths, and whether their first octets
- * are 128 or more, which the lengths of their encodings show.
+/* What the calls do with the secret numbers of private keys. Not secret are their lengths, and which first octets are
+ * 128 or more, as the lengths of their encodings show it.
  *
  *     secrets KEYS traces                   leaves anything of them a trace elsewhere than in `out`? The calls are made
  *                                           twice, with keys that differ in each octet of a secret number behind the
