@@ -17,9 +17,11 @@ AT_PLACE = "\thint\t#36\n"
 UNTRACKED = "\tnotrack"
 # The kind of the property in the note, and the marks: IBT and SHSTK, or BTI.
 PROPERTY = {"x86_64": (0xC0000002, 3), "aarch64": (0xC0000000, 1)}
+# A jump by a table, with the instructions in front of it that find the place, and a few others between them.
+OTHERS = r"(?:\t(?!jmp|b[lr]*\t).*\n){0,8}?"
 BY_TABLE = {
-    "x86_64": re.compile(r"(\tmovslq\t\((%\w+),%\w+,4\), (%\w+)\n\taddq\t\2, \3\n)(\tjmpq\t\*\3\n)"),
-    "aarch64": re.compile(r"(\tadd\t(x\d+), \2, x\d+, lsl #2\n(?:\tmov\tw\d+, #\d+\n)?)(\tbr\t\2\n)"),
+    "x86_64": re.compile(rf"(\tmovslq\t\((%\w+),%\w+,4\), (%\w+)\n{OTHERS}\taddq\t\2, \3\n{OTHERS})(\tjmpq\t\*\3\n)"),
+    "aarch64": re.compile(rf"(\tadd\t(x\d+), \2, x\d+(?:, lsl #2)?\n{OTHERS})(\tbr\t\2\n)"),
 }
 BY_ADDRESS = {"x86_64": re.compile(r"\t(?:jmp|call)q\t\*"), "aarch64": re.compile(r"\tbl?r\tx")}
 PLACE = re.compile(r"^\t\.(?:byte|hword|word)\t\(?(\.LBB\d+_\d+)-\.LBB\d+_\d+", re.M)
