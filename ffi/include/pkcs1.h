@@ -80,7 +80,8 @@
  *   x86-64, not proved. Leading zeros that you pass are counted by a loop. Of other octets, status and time tell where
  *   the first fault is. If you decrypt keys without authentication, show neither to the sender.
  * Secrets: no call leaves octets of a secret number elsewhere than in `out`, but for the first, which may stay on the
- *   stack. This is tested, not proved. Nothing is wiped from memory. */
+ *   stack, and for those that memcpy of the C library leaves in registers. This is tested, not proved. Nothing is wiped
+ *   from memory. */
 #ifndef PKCS1_H
 #define PKCS1_H
 
