@@ -1,13 +1,13 @@
 #!/usr/bin/env bash
-# Fails where a document names in backquotes a file, call, type, clause or definition that isn't there, or links to what
-# isn't. A word is there if it stands in code, not in a comment or in proofs/. In tables, `src/` and `specs/` head files
-# of the crate in the heading, with their "definitions". check_promises.sh has clauses.
+# Fails where a document names in backquotes a file, call, type, clause or definition that isn't there, or in a block of
+# `text` a file, or links to what isn't. A word is there if it stands in code, not in a comment or in proofs/. In tables,
+# `src/` and `specs/` head files of the crate in the heading, with their "definitions". check_promises.sh has clauses.
 set -eu
 cd "$(dirname "$0")/.."
 exec python3 - <<'END'
 import fnmatch, glob, os, re, sys
 
-ALLOWED = set('rt selftest umask start_lib bazel holes lemma'.split())
+ALLOWED = set('rt selftest umask start_lib bazel holes lemma meson'.split())
 PLACEHOLDER = r'[A-Z0-9]+|[0-9a-f]*\d[0-9a-f]*|\w'
 COMMENT = {'.rt': r'//.*', '.rs': r'//.*', '.c': r'/[/*].*', '.h': r'/\*.*', '.antt': r'--.*'}
 
@@ -55,10 +55,13 @@ def headings(path):
 
 documents = ['README.md', 'CONTRIBUTING.md', 'SECURITY.md', *glob.glob('docs/*.md'), *glob.glob('crates/*/README.md'), 'ffi/rust/README.md', *glob.glob('tools/*/README.md')]
 for document in documents:
-    crate, head, fenced = '', [], False
+    crate, head, fenced = '', [], ''
     for number, line in enumerate(open(document), 1):
         say = lambda what, name: wrong.append(f'{document}:{number}: no such {what}: {name}')
-        fenced ^= line.startswith('```')
+        if line.startswith('```'):
+            fenced = '' if fenced else line[3:].strip() or 'code'
+        for path in re.findall(r'[\w.]+(?:/[\w.]*\w)+', line) if fenced == 'text' else []:
+            path in paths or say('file', path)
         if fenced or line.startswith(('    ', '- Rust crate only:')):
             continue
         crate = (names(line) or [''])[0] if line[0] == '#' else crate

@@ -1,4 +1,4 @@
-//! Uses of keys and parameters: the examples of docs/USING.md.
+//! Uses of keys and parameters: the examples of docs/RATTLE.md.
 #![tactic(auto)]
 
 mod bytes;
