@@ -97,7 +97,7 @@ wanted() {
         <<< "$(openssl asn1parse -inform DER -in key.der | sed -n 's/.*INTEGER *://p' | tr 'A-F\n' 'a-f ')"
     public="pub n=$n e=$e again=$(hex pub.der)"
     private="priv version=${version#0} n=$n e=$e d=$d p=$p q=$q dp=$dp dq=$dq qi=$qi again=$(hex key.der)"
-    printf '%s\n' "$public" "$public" "$private" "pss $printed_params"
+    printf '%s\n' '2048 bits' "$public" "$private" "pss $printed_params"
     printf '%s\n' "keys/a key.der $public" 'keys/private.der refused' 'keys/short.der refused'
     yes 'pub n=07 e=03 again=3006020107020103' | head -n 800000
     printf '%s\n' "keys/private.der: $error bytes follow the value" "keys/short.der: $error the input ends too early"
