@@ -91,7 +91,7 @@ class Entry:
             return [row for comment in dict.fromkeys(comments.values())
                     for row in self.lines([name for name in self.names if comments[name] == comment], comment, rows)]
         comment = next(filter(None, comments.values()), "")
-        if len(rows) > 1 and rows[0][0] != HEAD and comment:
+        if len(rows) > 1 and rows[0][0] != HEAD and comment and "///" not in (text for _, text in rows):
             rows.insert(0, (HEAD, re.split(r"(?<=\.) (?=[A-Z`])", comment)[0]))
         return self.lines(self.names, comment, rows)
 
