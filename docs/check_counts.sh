@@ -1,5 +1,5 @@
 #!/usr/bin/env bash
-# Fails where docs/CLAIM.md has other numbers of definitions and lines to be read than tools/count_definitions.py counts.
+# Fails where docs/CLAIM.md has other numbers of definitions and lines than tools/count_definitions.py counts.
 set -eu
 cd "$(dirname "$0")/.."
 counted=$(tools/count_definitions.py | sed -n 's/^[a-z].*: \([0-9]*\) definitions, \([0-9]*\) lines.*/| \1 | \2 |/p')
