@@ -47,7 +47,8 @@ done
 for compiler in $clang "$CC"; do
     warns "$compiler"
     "$compiler" -std=c99 "${flags[@]}" "${test[@]}" "$out/libpkcs1.a" -o "$room/test"
-    for name in sizes bits modulus read_key public_half open_container make_container make_params signature_algorithm; do
+    for name in sizes bits modulus read_key public_half open_container make_container make_params \
+        signature_algorithm; do
         "$compiler" -std=c99 "${flags[@]}" "$here/c/$name.c" "$out/libpkcs1.a" -o "$room/$name"
     done
     "$room/test" "$statuses"
@@ -151,8 +152,8 @@ fi
 head -c 65537 /dev/zero > "$room/long"
 programs=("$room/modulus" "$room/shared" "$room/static" "$out/target/debug/examples/modulus")
 if have python3 "the program in Python isn't run"; then
-    printf '%s\n' '#!/bin/sh' "export LD_LIBRARY_PATH='$room/a b/lib'" "exec python3 '$here/python/modulus.py' \"\$@\"" \
-        > "$room/python"
+    printf '%s\n' '#!/bin/sh' "export LD_LIBRARY_PATH='$room/a b/lib'" \
+        "exec python3 '$here/python/modulus.py' \"\$@\"" > "$room/python"
     chmod +x "$room/python"
     programs+=("$room/python")
 fi
