@@ -1,7 +1,7 @@
 #!/usr/bin/env bash
-# Fails where a document names in backquotes a file, call, type, clause or definition that isn't there, or in a block of
-# `text` a file, or links to what isn't. A word is there if it stands in code, not in a comment or in proofs/. In tables,
-# `src/` and `specs/` head files of the crate in the heading, with their "definitions". check_promises.sh has clauses.
+# Fails where a document names in backquotes a file, call, type, clause or definition that isn't there, or links to what
+# isn't. A word is there if it stands in code, not in a comment or in proofs/. In tables, `src/` and `specs/` head files
+# of the crate in the heading, with their "definitions". check_promises.sh has clauses.
 set -eu
 cd "$(dirname "$0")/.."
 exec python3 - <<'END'
@@ -60,6 +60,7 @@ for document in documents:
         say = lambda what, name: wrong.append(f'{document}:{number}: no such {what}: {name}')
         if line.startswith('```'):
             fenced = '' if fenced else line[3:].strip() or 'code'
+        # A picture is a block of `text`: its files are there.
         for path in re.findall(r'[\w.]+(?:/[\w.]*\w)+', line) if fenced == 'text' else []:
             path in paths or say('file', path)
         if fenced or line.startswith(('    ', '- Rust crate only:')):
