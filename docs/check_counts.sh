@@ -2,8 +2,8 @@
 # Fails where docs/CLAIM.md has other numbers of definitions and lines than tools/count_definitions.py counts.
 set -eu
 cd "$(dirname "$0")/.."
-counted=$(tools/count_definitions.py | sed -n 's/^[a-z].*: \([0-9]*\) definitions, \([0-9]*\) lines.*/| \1 | \2 |/p')
-written=$(sed -n '/^| to check |/,/^$/s/.*\(| [0-9]* | [0-9]* |\)$/\1/p' docs/CLAIM.md)
+counted=$(tools/count_definitions.py | sed -nE 's/^[a-z].*: ([0-9]+) d.*, ([0-9]+) l.*; ([0-9]+) in .*/| \1 | \2 | \3 |/p')
+written=$(sed -nE '/^\| to check/,/^$/s/.*(\| [0-9]+ \| [0-9]+ \| [0-9]+ \|)$/\1/p' docs/CLAIM.md)
 [ -n "$counted" ] && [ "$counted" = "$written" ] || {
     printf 'docs/CLAIM.md has other counts than tools/count_definitions.py, which are:\n%s\n' "$counted" >&2
     exit 1
