@@ -2,9 +2,11 @@
 # Runs each block of `sh` in README.md and docs/USING.md, and each example of the tool's man page, as it stands, where
 # the files that it names are there: keys and a certificate that OpenSSL made, programs in C, and the library and the
 # tool that make built and installed. A block finds few tools, which a small Debian has too, and so no xxd. What the
-# blocks print and write is compared with what OpenSSL says.
+# blocks print and write is compared with what OpenSSL says. The blocks on CMake and Meson build a program, where these
+# are installed.
 set -eu
 cd "$(dirname "$0")/.."
+top=$PWD
 allowed='grep ls od openssl paste pkg-config sed sh split tail tr'
 # The parameters in the certificate, and all that stands in front of them in their algorithm identifier.
 params=3034a00f300d06096086480165030402010500a11c301a06092a864886f70d010108300d06096086480165030402010500a203020120
@@ -56,6 +58,35 @@ files() {
 run() {
     PATH=$room/bin sh -eu "$1" 2> log
 }
+# block LANGUAGE: the only block in this language of docs/USING.md.
+block() {
+    LANGUAGE=$1 perl -ne 'if (/^```(\w*)/) { $in = $1 eq $ENV{LANGUAGE}; next } print if $in' "$top/docs/USING.md"
+}
+# have TOOL: whether it is installed; if not, says that its block isn't tested.
+have() {
+    command -v "$1" > /dev/null && return
+    echo "docs/check_commands.sh: $1 is not installed: its block isn't tested" >&2
+    return 1
+}
+# prints_modulus PROGRAM: it prints that of the key in pub.der.
+prints_modulus() {
+    [ "$(LD_LIBRARY_PATH=$PREFIX/lib "$1" pub.der)" = "$(openssl rsa -in key.pem -noout -modulus |
+        sed 's/Modulus=//' | tr A-F a-f)" ] || stop "$1 prints another modulus"
+}
+# built: CMake and Meson build a program, as their blocks say.
+built() {
+    export PKG_CONFIG_PATH=$PREFIX/lib/pkgconfig
+    if have cmake; then
+        printf '%s\n' 'cmake_minimum_required(VERSION 3.7)' 'project(program C)' "$(block cmake)" > CMakeLists.txt
+        cmake -S . -B by_cmake > log 2>&1 && cmake --build by_cmake > log 2>&1 || stop "CMake fails: $(cat log)"
+        prints_modulus by_cmake/program
+    fi
+    if have meson; then
+        block meson > meson.build
+        meson setup by_meson > log 2>&1 && meson compile -C by_meson > log 2>&1 || stop "Meson fails: $(cat log)"
+        prints_modulus by_meson/program
+    fi
+}
 hex() {
     perl -0777 -ne 'print unpack("H*", $_)' "$1"
 }
@@ -66,7 +97,7 @@ wanted() {
         <<< "$(openssl asn1parse -inform DER -in key.der | sed -n 's/.*INTEGER *://p' | tr 'A-F\n' 'a-f ')"
     public="pub n=$n e=$e again=$(hex pub.der)"
     private="priv version=${version#0} n=$n e=$e d=$d p=$p q=$q dp=$dp dq=$dq qi=$qi again=$(hex key.der)"
-    printf '%s\n' "$public" "$public" "$private" "pss $printed_params"
+    printf '%s\n' '2048 bits' "$public" "$private" "pss $printed_params"
     printf '%s\n' "keys/a key.der $public" 'keys/private.der refused' 'keys/short.der refused'
     yes 'pub n=07 e=03 again=3006020107020103' | head -n 800000
     printf '%s\n' "keys/private.der: $error bytes follow the value" "keys/short.der: $error the input ends too early"
@@ -115,7 +146,7 @@ cmp ../printed ../wanted || stop "the blocks print something else: $(diff ../pri
 cmp key.der checked.der
 [ "$(hex params.der) $(hex again.der) $(hex alg.der)" = "$params $params $identifier$params" ] ||
     stop "parameters are cut out or written otherwise: $(hex params.der) $(hex again.der) $(hex alg.der)"
-[ "$(./a.out pub.der)" = "$(openssl rsa -in key.pem -noout -modulus | sed 's/Modulus=//' | tr A-F a-f)" ] ||
-    stop "the program in C prints another modulus"
+prints_modulus ./a.out
+built
 refusals
 echo "$count blocks of commands do what they are for"

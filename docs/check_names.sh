@@ -7,7 +7,7 @@ cd "$(dirname "$0")/.."
 exec python3 - <<'END'
 import fnmatch, glob, os, re, sys
 
-ALLOWED = set('rt selftest umask start_lib bazel holes lemma'.split())
+ALLOWED = set('rt selftest umask start_lib bazel holes lemma meson'.split())
 PLACEHOLDER = r'[A-Z0-9]+|[0-9a-f]*\d[0-9a-f]*|\w'
 COMMENT = {'.rt': r'//.*', '.rs': r'//.*', '.c': r'/[/*].*', '.h': r'/\*.*', '.antt': r'--.*'}
 
@@ -55,10 +55,14 @@ def headings(path):
 
 documents = ['README.md', 'CONTRIBUTING.md', 'SECURITY.md', *glob.glob('docs/*.md'), *glob.glob('crates/*/README.md'), 'ffi/rust/README.md', *glob.glob('tools/*/README.md')]
 for document in documents:
-    crate, head, fenced = '', [], False
+    crate, head, fenced = '', [], ''
     for number, line in enumerate(open(document), 1):
         say = lambda what, name: wrong.append(f'{document}:{number}: no such {what}: {name}')
-        fenced ^= line.startswith('```')
+        if line.startswith('```'):
+            fenced = '' if fenced else line[3:].strip() or 'code'
+        # A picture is a block of `text`: its files are there.
+        for path in re.findall(r'[\w.]+(?:/[\w.]*\w)+', line) if fenced == 'text' else []:
+            path in paths or say('file', path)
         if fenced or line.startswith(('    ', '- Rust crate only:')):
             continue
         crate = (names(line) or [''])[0] if line[0] == '#' else crate

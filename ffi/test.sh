@@ -47,7 +47,8 @@ done
 for compiler in $clang "$CC"; do
     warns "$compiler"
     "$compiler" -std=c99 "${flags[@]}" "${test[@]}" "$out/libpkcs1.a" -o "$room/test"
-    for name in sizes modulus read_key public_half open_container make_container make_params signature_algorithm; do
+    for name in sizes bits modulus read_key public_half open_container make_container make_params \
+        signature_algorithm; do
         "$compiler" -std=c99 "${flags[@]}" "$here/c/$name.c" "$out/libpkcs1.a" -o "$room/$name"
     done
     "$room/test" "$statuses"
@@ -152,10 +153,23 @@ fi
 : > "$room/empty"
 head -c 65537 /dev/zero > "$room/long"
 programs=("$room/modulus" "$room/shared" "$room/static" "$out/target/debug/examples/modulus")
+if have python3 "the program in Python isn't run"; then
+    printf '%s\n' '#!/bin/sh' "export LD_LIBRARY_PATH='$room/a b/lib'" \
+        "exec python3 '$here/python/modulus.py' \"\$@\"" > "$room/python"
+    chmod +x "$room/python"
+    programs+=("$room/python")
+fi
 for program in "${programs[@]}"; do
     [ "$("$program" "$room/pub.der")" = c17f ] || stop "$program doesn't print the modulus"
     for file in none empty long; do
         "$program" "$room/$file" > "$room/text" 2>&1 && stop "$program reads a key in $file"
+        [ -s "$room/text" ] || stop "$program doesn't say what is wrong with $file"
+    done
+done
+for program in "$room/bits" "$out/target/debug/examples/bits"; do
+    [ "$("$program" < "$room/pub.der")" = '16 bits' ] || stop "$program prints another bit length"
+    for file in empty long; do
+        "$program" < "$room/$file" > "$room/text" 2>&1 && stop "$program reads a key in $file"
         [ -s "$room/text" ] || stop "$program doesn't say what is wrong with $file"
     done
 done

@@ -2,8 +2,9 @@
 """What a reader of the claim needs: the definitions that contracts cite of the calls that read and write keys,
 containers and parameters, and those that these cite in turn, down to the kit. Of types with private fields (PRIVATE)
 the getters say what they hold, and of a record's parts that are proofs (PROOFS) nothing has to be read. Prints how many
-definitions, lines of code and modules there are: without the kinds of errors (the clauses and laws in ERRORS), with
-these, and with the bytes for which reading may ask for memory (MEMORY, ALLOCATING). README quotes these lines."""
+definitions, lines of code and modules there are: of the calls for public keys (PUBLIC_KEY), then of all, without the
+kinds of errors (the clauses and laws in ERRORS), with these, and with the bytes for which reading may ask for memory
+(MEMORY, ALLOCATING). docs/CLAIM.md quotes these lines, and docs/check_counts.sh compares them."""
 import pathlib
 import re
 
@@ -24,6 +25,7 @@ CALLS = """try_from encode_key decode_key decode_owned_key from_pkcs1_der to_pkc
     default default_in new new_with_label label_fits label uses_hash is_hash fault_of_pss_params fault_of_oaep_params
     fault_of_pss_algorithm fault_of_oaep_algorithm lemma_pss_spellings lemma_oaep_spellings lemma_params_decode
     lemma_algorithms lemma_bare_params_take_no_memory""".split()
+PUBLIC_KEY = {"pkcs1": "public_key"}
 ERRORS = {*"exact no_primes fault encodes lemma_keys_decode lemma_containers_decode lemma_params_decode".split()}
 ERRORS |= {f"lemma_algorithms {what}{of}" for what in ("", "strict_", "faults_", "first_") for of in ("pss", "oaep")}
 GHOSTS = {"params", "Is", "fields_of", "form"}
@@ -107,20 +109,20 @@ def level_of(*names):
     return 2 if not MEMORY.isdisjoint(names) else 1 if not ERRORS.isdisjoint(names) else 0
 
 
-def clauses_of(level):
+def clauses_of(level, of, calls):
     """What the contracts cite, and the ghosts of parameters that their traits' contracts speak of."""
-    for crate, files in FILES.items():
+    for crate, files in of.items():
         for file in files.split():
             text = (CRATES / crate / "src" / file).with_suffix(".rt").read_text()
-            said = [clause for name, clauses in contracts(text) if name in CALLS for what, clause in clauses
+            said = [clause for name, clauses in contracts(text) if name in calls for what, clause in clauses
                     if level_of(name, what, f"{name} {what}") <= level]
             said += [ghost for name, ghost in GHOST.findall(text) if name in GHOSTS and (level or name != "form")]
             yield from cited("\n".join(said), *imports(text, "ghost use"))
 
 
-def needed(level):
+def needed(level, of=FILES, calls=CALLS):
     """What these contracts need: their definitions and their number of lines."""
-    todo, seen, lines = [*clauses_of(level)], set(), 0
+    todo, seen, lines = [*clauses_of(level, of, calls)], set(), 0
     while todo:
         module, name = todo.pop()
         outside = module.startswith("Rattle.std") or ".declared." in module or module.endswith(PRIVATE)
@@ -141,8 +143,7 @@ def needed(level):
     return seen, lines
 
 
-def report(what, level):
-    seen, lines = needed(level)
+def report(what, seen, lines):
     modules = {module for module, _ in seen}
     stated = sum(module.startswith("Rattle.standard.") for module, _ in seen)
     print(f"{what}: {len(seen)} definitions, {lines} lines, {len(modules)} modules; {stated} in Statement.antt")
@@ -152,5 +153,7 @@ def report(what, level):
 
 
 if __name__ == "__main__":
+    report("reading a public key", *needed(0, PUBLIC_KEY, ["try_from"]))
+    report("reading and writing one", *needed(0, PUBLIC_KEY, ["try_from", "encode_key"]))
     for level, what in enumerate(["reading and writing", "with the kinds of errors", "with memory"]):
-        report(what, level)
+        report(what, *needed(level))

@@ -9,6 +9,7 @@ contents=(
     docs/{USING,PROMISES,DIFFERENCES,DECISIONS}.md
     ffi/{machine,link,install,check,check_object,check_passed,check_freestanding}.sh ffi/libpkcs1.pc.in ffi/include ffi/rust
     ffi/c/{pkcs1,os,heap,test,rows,passed,freestanding,modulus,read_key,public_half}.c ffi/c/test.h
+    docs/CLAIM.md ffi/c/bits.c ffi/python
     ffi/c/{open_container,make_container,make_params,signature_algorithm}.c
     crates/pkcs1_tool/{run_built.sh,refuse_memory.sh,refuse_memory.c,rows,stdin,stdout,pkcs1_tool.1}
 )
