@@ -14,7 +14,8 @@ export LC_ALL=C
     grep -h '^extern const' "$headers/pkcs1.h" "$headers/pkcs1_c.h" | grep -o 'pkcs1_oid_[a-z0-9_]*'
 } | sort -u > "$out/declared"
 $CC ${CFLAGS-} -fno-lto -fno-sanitize=all -r -nostdlib -o "$out/pkcs1.o" "$out/proved.o" "$out/calls.o"
-${OBJCOPY:-objcopy} --keep-global-symbols="$out/declared" "$out/pkcs1.o"
+# On i386 each object has the same functions that tell where it is, of which a program keeps one.
+${OBJCOPY:-objcopy} -w --keep-global-symbols="$out/declared" --keep-global-symbol='__x86.get_pc_thunk.*' "$out/pkcs1.o"
 rm -f "$out"/libpkcs1.*
 # Else a C library's own start files, as those of musl, may add names.
 printf '{ global: %s local: *; };\n' "$(sed 's/$/;/' "$out/declared")" > "$out/exports.map"
@@ -30,7 +31,7 @@ ${AR:-ar} rcs "$out/libpkcs1.a" "$out/pkcs1.o"
 
 # exports WORD..: what nm, called with these words, prints of the symbols that are defined.
 exports() {
-    ${NM:-nm} --defined-only "$@" | sed -n 's/^[0-9a-f]* [A-Z] //p' | sort
+    ${NM:-nm} --defined-only "$@" | sed -n 's/^[0-9a-f]* [A-Z] //p' | grep -v '^__x86\.get_pc_thunk\.' | sort
 }
 exports -g "$out/libpkcs1.a" > "$out/exports.a"
 exports -D "$out/libpkcs1.so" > "$out/exports.so"

@@ -9,7 +9,9 @@
 #     tools/clean_room.sh --needs     whether all is there that the first needs
 set -eu
 here=$(cd "$(dirname "$0")" && pwd)
-others='aarch64 riscv64'
+# Machines as qemu names them, each with the name that its compiler begins with.
+others='aarch64:aarch64-linux-gnu riscv64:riscv64-linux-gnu i386:i686-linux-gnu arm:arm-linux-gnueabihf
+    s390x:s390x-linux-gnu mips:mips-linux-gnu'
 
 stop() {
     printf 'tools/clean_room.sh: %s\n' "$*" >&2
@@ -161,9 +163,9 @@ release() {
     mv "$room"/pkcs1-proved-* "$room/unpacked"
     (cd "$room/unpacked" && sha256sum --quiet -c SHA256SUMS)
 }
-# for_machine MACHINE: by the compiler for it, under qemu.
+# for_machine MACHINE:COMPILER: by the compiler for it, under qemu.
 for_machine() {
-    make check OUT="out/$1" CC="$1-linux-gnu-gcc" RUN="qemu-$1"
+    make check OUT="out/${1%:*}" CC="${1#*:}-gcc" RUN="qemu-${1%:*}"
 }
 
 # In the room: $1 is its folder, which holds the tree, and $2 says whether to do all.
@@ -186,7 +188,7 @@ inside() {
     use release
     step "release: the crate's tests" crate_tests
     for it in $others; do
-        step "release: make check for $it" for_machine "$it"
+        step "release: make check for ${it%:*}" for_machine "$it"
     done
 }
 # enter FOLDER WORD: goes on in a room of this folder. What is mounted there is seen there only.
@@ -213,7 +215,7 @@ needs unshare make cc ar objcopy readelf pkg-config cargo
 case $#:${1-} in
     0: | 1:--needs)
         for machine in $others; do
-            needs "$machine-linux-gnu-gcc" "qemu-$machine"
+            needs "${machine#*:}-gcc" "qemu-${machine%:*}"
         done
         needs git clang
         echo 'int main(void) { return 0; }' > "$room/empty.c"

@@ -118,7 +118,7 @@ enum pkcs1_status {
                                       allowed: a public key read as a private one, perhaps */
     PKCS1_NO_ROOM = 15,            /* `out` is too short: `*len` is the length that is needed */
     PKCS1_FILE = 16,               /* not returned by these calls */
-    PKCS1_OUT_OF_MEMORY = 17,      /* not returned by these calls */
+    PKCS1_OUT_OF_MEMORY = 17,      /* writing, on a 32-bit or big-endian machine: over 64 other primes */
     PKCS1_OTHER_PRIMES = 21        /* writing: key->other_primes isn't others_len */
 };
 
