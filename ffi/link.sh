@@ -1,12 +1,13 @@
 #!/bin/sh
 # link.sh OUT: links OUT/proved.o, the proved calls, and OUT/calls.o, those of pkcs1.h over them, into libpkcs1.a and
-# libpkcs1.so.VERSION, in which only what the headers declare is global. No other definition of a proved call takes its
-# place there. The Makefile and build.sh call it. CC, CFLAGS, LDFLAGS, AR, OBJCOPY and NM are as in the Makefile.
+# libpkcs1.so.VERSION, in which only what the headers declare is global, with the version PKCS1_MAJOR. No other definition
+# of a proved call takes its place there. The Makefile and build.sh call it. CC, CFLAGS, LDFLAGS, AR, OBJCOPY and NM are as in the Makefile.
 set -eu
 out=$1
 headers=$(dirname "$0")/include
 version=$(sed -n 's/^#define PKCS1_VERSION_[A-Z]* //p' "$headers/pkcs1.h" | paste -s -d .)
 soname=libpkcs1.so.${version%%.*}
+symbols=PKCS1_${version%%.*}
 export LC_ALL=C
 
 {
@@ -18,7 +19,7 @@ $CC ${CFLAGS-} -fno-lto -fno-sanitize=all -r -nostdlib -o "$out/pkcs1.o" "$out/p
 ${OBJCOPY:-objcopy} -w --keep-global-symbols="$out/declared" --keep-global-symbol='__x86.get_pc_thunk.*' "$out/pkcs1.o"
 rm -f "$out"/libpkcs1.*
 # Else a C library's own start files, as those of musl, may add names.
-printf '{ global: %s local: *; };\n' "$(sed 's/$/;/' "$out/declared")" > "$out/exports.map"
+printf '%s { global: %s local: *; };\n' "$symbols" "$(sed 's/$/;/' "$out/declared")" > "$out/exports.map"
 # A sanitizer's calls are in the program that is linked with it.
 hardened=-Wl,-Bsymbolic,-z,relro,-z,now
 case "$CC ${CFLAGS-}" in *-fsanitize=*) ;; *) hardened=$hardened,-z,defs ;; esac
@@ -34,7 +35,7 @@ exports() {
     ${NM:-nm} --defined-only "$@" | sed -n 's/^[0-9a-f]* [A-Z] //p' | grep -v '^__x86\.get_pc_thunk\.' | sort
 }
 exports -g "$out/libpkcs1.a" > "$out/exports.a"
-exports -D "$out/libpkcs1.so" > "$out/exports.so"
+exports -D "$out/libpkcs1.so" | sed -n "s/@@$symbols\$//p" > "$out/exports.so"
 for of in a so; do
     diff "$out/declared" "$out/exports.$of" || {
         echo "ffi/link.sh: what the headers declare (<) and what libpkcs1.$of exports (>) differ" >&2

@@ -133,7 +133,7 @@ make_in() {
     wait $!
     translate
     version=$("$kit/toolchain/bin/clang" --version | sed -n 's/^clang version //p')
-    $parts/provenance.py "$kit_version" "$($parts/sources.py hash)" "$version" \
+    $parts/provenance.py "$kit_version" "$kit" "$($parts/sources.py hash)" "$version" \
         "$room/pkcs1_c.x86_64/kept/0/tables.ll" "$room/pkcs1_tool.x86_64/kept/0/tables.ll" \
         > "$room/generated/PROVENANCE"
     library_files | cmp -s - "$room/libraries" || stop 1 "libraries were proved again meanwhile: let rt ci end first"
