@@ -21,7 +21,7 @@ typedef uint64_t u64;
 __extension__ typedef unsigned __int128 u128;
 #endif
 
-/* P: an address. AT: that of an object. OCTETS: what is there. NAME: a call that is declared for others. */
+/* P: an address. AT: that of an object. OCTETS: what is there. NAME and LINKAGE: those of a call that others make. */
 #ifdef PKCS1_FOREIGN
 typedef u64 P;
 #define AT(it) ((P)(uintptr_t)(it))
