@@ -54,7 +54,7 @@ CC='gcc -DA' AR=none fails 'there is no none: install gcc' check --offline
 fails "x86_64-pc-windows-msvc isn't supported" check --offline --target x86_64-pc-windows-msvc
 fails 'name the C compiler for x86_64-pc-windows-gnu' check --offline --target x86_64-pc-windows-gnu
 # For other machines the C library is built, though Rust's own library for them may not be here.
-for of in i686:gnu s390x:gnu arm:gnueabihf mips:gnu; do
+for of in i686:gnu arm:gnueabihf s390x:gnu; do
     machine=${of%:*} abi=${of#*:}
     command -v "$machine-linux-$abi-gcc" > /dev/null || continue
     cargo check --offline --target "$machine-unknown-linux-$abi" > "$room/log" 2>&1 || true
