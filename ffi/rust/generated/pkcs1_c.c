@@ -30038,38 +30038,69 @@ L_pkcs1_c_public_key_pkcs1_c_public_key_decode_exit:;
 void NAME(status_text)(u32 v_a0, P v_a1) {
     u64 p_v_r1_sroa_22_0_i_i;
     P p_v_r1_sroa_0_0_i_i;
-    u1 v_0;
     u64 v_r1_sroa_22_0_i_i;
     P v_r1_sroa_0_0_i_i;
     P v_r0_sroa_3_0_a1_sroa_idx_i;
-    v_0 = v_a0 < 22u;
-    if (v_0) { goto L_switch_lookup; } else { p_v_r1_sroa_22_0_i_i = 14u; p_v_r1_sroa_0_0_i_i = AT(f_static_21); goto L_pkcs1_c_status_pkcs1_c_status_text_exit; }
-L_switch_lookup:;
     switch (v_a0) {
     case 0u: { p_v_r1_sroa_22_0_i_i = 9u; p_v_r1_sroa_0_0_i_i = AT(f_static_2); goto L_pkcs1_c_status_pkcs1_c_status_text_exit; }
-    case 1u: { p_v_r1_sroa_22_0_i_i = 23u; p_v_r1_sroa_0_0_i_i = AT(f_static_3); goto L_pkcs1_c_status_pkcs1_c_status_text_exit; }
-    case 2u: { p_v_r1_sroa_22_0_i_i = 72u; p_v_r1_sroa_0_0_i_i = AT(f_static_4); goto L_pkcs1_c_status_pkcs1_c_status_text_exit; }
-    case 3u: { p_v_r1_sroa_22_0_i_i = 47u; p_v_r1_sroa_0_0_i_i = AT(f_static_5); goto L_pkcs1_c_status_pkcs1_c_status_text_exit; }
-    case 4u: { p_v_r1_sroa_22_0_i_i = 57u; p_v_r1_sroa_0_0_i_i = AT(f_static_6); goto L_pkcs1_c_status_pkcs1_c_status_text_exit; }
-    case 5u: { p_v_r1_sroa_22_0_i_i = 98u; p_v_r1_sroa_0_0_i_i = AT(f_static_7); goto L_pkcs1_c_status_pkcs1_c_status_text_exit; }
-    case 6u: { p_v_r1_sroa_22_0_i_i = 92u; p_v_r1_sroa_0_0_i_i = AT(f_static_8); goto L_pkcs1_c_status_pkcs1_c_status_text_exit; }
-    case 7u: { p_v_r1_sroa_22_0_i_i = 102u; p_v_r1_sroa_0_0_i_i = AT(f_static_9); goto L_pkcs1_c_status_pkcs1_c_status_text_exit; }
-    case 8u: { p_v_r1_sroa_22_0_i_i = 83u; p_v_r1_sroa_0_0_i_i = AT(f_static_10); goto L_pkcs1_c_status_pkcs1_c_status_text_exit; }
-    case 9u: { p_v_r1_sroa_22_0_i_i = 52u; p_v_r1_sroa_0_0_i_i = AT(f_static_11); goto L_pkcs1_c_status_pkcs1_c_status_text_exit; }
-    case 10u: { p_v_r1_sroa_22_0_i_i = 101u; p_v_r1_sroa_0_0_i_i = AT(f_static_12); goto L_pkcs1_c_status_pkcs1_c_status_text_exit; }
-    case 11u: { p_v_r1_sroa_22_0_i_i = 107u; p_v_r1_sroa_0_0_i_i = AT(f_static_13); goto L_pkcs1_c_status_pkcs1_c_status_text_exit; }
-    case 12u: { p_v_r1_sroa_22_0_i_i = 70u; p_v_r1_sroa_0_0_i_i = AT(f_static_14); goto L_pkcs1_c_status_pkcs1_c_status_text_exit; }
-    case 13u: { p_v_r1_sroa_22_0_i_i = 102u; p_v_r1_sroa_0_0_i_i = AT(f_static_15); goto L_pkcs1_c_status_pkcs1_c_status_text_exit; }
-    case 14u: { p_v_r1_sroa_22_0_i_i = 107u; p_v_r1_sroa_0_0_i_i = AT(f_static_16); goto L_pkcs1_c_status_pkcs1_c_status_text_exit; }
-    case 15u: { p_v_r1_sroa_22_0_i_i = 42u; p_v_r1_sroa_0_0_i_i = AT(f_static_17); goto L_pkcs1_c_status_pkcs1_c_status_text_exit; }
-    case 16u: { p_v_r1_sroa_22_0_i_i = 25u; p_v_r1_sroa_0_0_i_i = AT(f_static_18); goto L_pkcs1_c_status_pkcs1_c_status_text_exit; }
-    case 17u: { p_v_r1_sroa_22_0_i_i = 20u; p_v_r1_sroa_0_0_i_i = AT(f_static_19); goto L_pkcs1_c_status_pkcs1_c_status_text_exit; }
-    case 18u: { p_v_r1_sroa_22_0_i_i = 14u; p_v_r1_sroa_0_0_i_i = AT(f_static_21); goto L_pkcs1_c_status_pkcs1_c_status_text_exit; }
-    case 19u: { p_v_r1_sroa_22_0_i_i = 14u; p_v_r1_sroa_0_0_i_i = AT(f_static_21); goto L_pkcs1_c_status_pkcs1_c_status_text_exit; }
-    case 20u: { p_v_r1_sroa_22_0_i_i = 14u; p_v_r1_sroa_0_0_i_i = AT(f_static_21); goto L_pkcs1_c_status_pkcs1_c_status_text_exit; }
-    case 21u: { p_v_r1_sroa_22_0_i_i = 49u; p_v_r1_sroa_0_0_i_i = AT(f_static_20); goto L_pkcs1_c_status_pkcs1_c_status_text_exit; }
-    default: { p_v_r1_sroa_22_0_i_i = 14u; p_v_r1_sroa_0_0_i_i = AT(f_static_21); goto L_pkcs1_c_status_pkcs1_c_status_text_exit; }
+    case 1u: { goto L_arm_2_i_i; }
+    case 2u: { goto L_arm_3_i_i; }
+    case 3u: { goto L_arm_4_i_i; }
+    case 4u: { goto L_arm_5_i_i; }
+    case 5u: { goto L_arm_6_i_i; }
+    case 6u: { goto L_arm_7_i_i; }
+    case 7u: { goto L_arm_8_i_i; }
+    case 8u: { goto L_arm_9_i_i; }
+    case 9u: { goto L_arm_10_i_i; }
+    case 10u: { goto L_arm_11_i_i; }
+    case 11u: { goto L_arm_12_i_i; }
+    case 12u: { goto L_arm_13_i_i; }
+    case 13u: { goto L_arm_14_i_i; }
+    case 14u: { goto L_arm_15_i_i; }
+    case 15u: { goto L_arm_16_i_i; }
+    case 16u: { goto L_arm_17_i_i; }
+    case 17u: { goto L_arm_18_i_i; }
+    case 21u: { goto L_arm_19_i_i; }
+    default: { goto L_default_20_i_i; }
     }
+L_arm_2_i_i:;
+    { p_v_r1_sroa_22_0_i_i = 23u; p_v_r1_sroa_0_0_i_i = AT(f_static_3); goto L_pkcs1_c_status_pkcs1_c_status_text_exit; }
+L_arm_3_i_i:;
+    { p_v_r1_sroa_22_0_i_i = 72u; p_v_r1_sroa_0_0_i_i = AT(f_static_4); goto L_pkcs1_c_status_pkcs1_c_status_text_exit; }
+L_arm_4_i_i:;
+    { p_v_r1_sroa_22_0_i_i = 47u; p_v_r1_sroa_0_0_i_i = AT(f_static_5); goto L_pkcs1_c_status_pkcs1_c_status_text_exit; }
+L_arm_5_i_i:;
+    { p_v_r1_sroa_22_0_i_i = 57u; p_v_r1_sroa_0_0_i_i = AT(f_static_6); goto L_pkcs1_c_status_pkcs1_c_status_text_exit; }
+L_arm_6_i_i:;
+    { p_v_r1_sroa_22_0_i_i = 98u; p_v_r1_sroa_0_0_i_i = AT(f_static_7); goto L_pkcs1_c_status_pkcs1_c_status_text_exit; }
+L_arm_7_i_i:;
+    { p_v_r1_sroa_22_0_i_i = 92u; p_v_r1_sroa_0_0_i_i = AT(f_static_8); goto L_pkcs1_c_status_pkcs1_c_status_text_exit; }
+L_arm_8_i_i:;
+    { p_v_r1_sroa_22_0_i_i = 102u; p_v_r1_sroa_0_0_i_i = AT(f_static_9); goto L_pkcs1_c_status_pkcs1_c_status_text_exit; }
+L_arm_9_i_i:;
+    { p_v_r1_sroa_22_0_i_i = 83u; p_v_r1_sroa_0_0_i_i = AT(f_static_10); goto L_pkcs1_c_status_pkcs1_c_status_text_exit; }
+L_arm_10_i_i:;
+    { p_v_r1_sroa_22_0_i_i = 52u; p_v_r1_sroa_0_0_i_i = AT(f_static_11); goto L_pkcs1_c_status_pkcs1_c_status_text_exit; }
+L_arm_11_i_i:;
+    { p_v_r1_sroa_22_0_i_i = 101u; p_v_r1_sroa_0_0_i_i = AT(f_static_12); goto L_pkcs1_c_status_pkcs1_c_status_text_exit; }
+L_arm_12_i_i:;
+    { p_v_r1_sroa_22_0_i_i = 107u; p_v_r1_sroa_0_0_i_i = AT(f_static_13); goto L_pkcs1_c_status_pkcs1_c_status_text_exit; }
+L_arm_13_i_i:;
+    { p_v_r1_sroa_22_0_i_i = 70u; p_v_r1_sroa_0_0_i_i = AT(f_static_14); goto L_pkcs1_c_status_pkcs1_c_status_text_exit; }
+L_arm_14_i_i:;
+    { p_v_r1_sroa_22_0_i_i = 102u; p_v_r1_sroa_0_0_i_i = AT(f_static_15); goto L_pkcs1_c_status_pkcs1_c_status_text_exit; }
+L_arm_15_i_i:;
+    { p_v_r1_sroa_22_0_i_i = 107u; p_v_r1_sroa_0_0_i_i = AT(f_static_16); goto L_pkcs1_c_status_pkcs1_c_status_text_exit; }
+L_arm_16_i_i:;
+    { p_v_r1_sroa_22_0_i_i = 42u; p_v_r1_sroa_0_0_i_i = AT(f_static_17); goto L_pkcs1_c_status_pkcs1_c_status_text_exit; }
+L_arm_17_i_i:;
+    { p_v_r1_sroa_22_0_i_i = 25u; p_v_r1_sroa_0_0_i_i = AT(f_static_18); goto L_pkcs1_c_status_pkcs1_c_status_text_exit; }
+L_arm_18_i_i:;
+    { p_v_r1_sroa_22_0_i_i = 20u; p_v_r1_sroa_0_0_i_i = AT(f_static_19); goto L_pkcs1_c_status_pkcs1_c_status_text_exit; }
+L_arm_19_i_i:;
+    { p_v_r1_sroa_22_0_i_i = 49u; p_v_r1_sroa_0_0_i_i = AT(f_static_20); goto L_pkcs1_c_status_pkcs1_c_status_text_exit; }
+L_default_20_i_i:;
+    { p_v_r1_sroa_22_0_i_i = 14u; p_v_r1_sroa_0_0_i_i = AT(f_static_21); goto L_pkcs1_c_status_pkcs1_c_status_text_exit; }
 L_pkcs1_c_status_pkcs1_c_status_text_exit:;
     v_r1_sroa_22_0_i_i = p_v_r1_sroa_22_0_i_i;
     v_r1_sroa_0_0_i_i = p_v_r1_sroa_0_0_i_i;
@@ -50752,7 +50783,7 @@ L_der_core_last_part_LastEncodeValue_prepend_value_1:;
     v_20 = (P)((u64)v_r20_i_i11_i_i_i_i_i + (u64)(v_a1_val6_i_i_i_i_i));
     v_r26_i_i_i_i_i_i_i = (P)((u64)v_20 + (u64)(-9));
     v_r8_i_i_i_i_i_i_i_i_i_i_i_i_i = (u64)((u64)v_r26_i_i_i_i_i_i_i);
-    v_r10_i_i_i_i_i_i_i_i_i_i_i_i_i = (u64)((u64)(v_r8_i_i_i_i_i_i_i_i_i_i_i_i_i) - (u64)((u64)(u64)AT(f_static_23)));
+    v_r10_i_i_i_i_i_i_i_i_i_i_i_i_i = (u64)((u64)(v_r8_i_i_i_i_i_i_i_i_i_i_i_i_i) - (u64)((u64)AT(f_static_23)));
     v_r11_i_i_i_i_i_i_i_i_i_i_i_i_i = v_r10_i_i_i_i_i_i_i_i_i_i_i_i_i < 9u;
     if (v_r11_i_i_i_i_i_i_i_i_i_i_i_i_i) { goto L_join_7_i_i_i_i_i_i_i_i_i_i_i_preheader_i_i; } else { goto L_apart_2_i_i_i_i_i_i_i_i_i_i_i_i_i; }
 L_join_7_i_i_i_i_i_i_i_i_i_i_i_preheader_i_i:;
@@ -52099,7 +52130,7 @@ L_der_core_last_part_LastEncodeValue_prepend_value_0:;
     v_17 = (P)((u64)v_r20_i_i11_i_i_i_i_i + (u64)(v_a1_val6_i_i_i_i_i));
     v_r26_i_i_i_i_i_i_i = (P)((u64)v_17 + (u64)(-9));
     v_r8_i_i_i_i_i_i_i_i_i_i_i_i_i = (u64)((u64)v_r26_i_i_i_i_i_i_i);
-    v_r10_i_i_i_i_i_i_i_i_i_i_i_i_i = (u64)((u64)(v_r8_i_i_i_i_i_i_i_i_i_i_i_i_i) - (u64)((u64)(u64)AT(f_static_32)));
+    v_r10_i_i_i_i_i_i_i_i_i_i_i_i_i = (u64)((u64)(v_r8_i_i_i_i_i_i_i_i_i_i_i_i_i) - (u64)((u64)AT(f_static_32)));
     v_r11_i_i_i_i_i_i_i_i_i_i_i_i_i = v_r10_i_i_i_i_i_i_i_i_i_i_i_i_i < 9u;
     if (v_r11_i_i_i_i_i_i_i_i_i_i_i_i_i) { goto L_join_7_i_i_i_i_i_i_i_i_i_i_i_preheader_i_i; } else { goto L_apart_2_i_i_i_i_i_i_i_i_i_i_i_i_i; }
 L_join_7_i_i_i_i_i_i_i_i_i_i_i_preheader_i_i:;
