@@ -148,9 +148,10 @@ plain_program() {
 crate_tests() {
     (cd ffi/rust && cargo test --offline --quiet)
 }
-# Made in another folder, of sources that can't be written.
+# Made in another folder, of sources that can't be written, as for a machine that isn't like x86-64.
 read_only() {
-    unshare --mount sh -euc 'mount --bind -o ro . .; cd "$PWD"; make check OUT="$1" CODE=c' sh "$room/c"
+    unshare --mount sh -euc 'mount --bind -o ro . .; cd "$PWD"; make check OUT="$1" CODE=c CFLAGS="$2"' sh "$room/c" \
+        '-O2 -DPKCS1_FOREIGN'
 }
 release() {
     local it

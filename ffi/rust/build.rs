@@ -90,9 +90,14 @@ fn default_compiler() -> String {
     if target("OS") != "linux" {
         stop(&format!("name the C compiler for {name} by CC_{}", name.replace('-', "_")));
     }
-    let arch = Some(target("ARCH")).filter(|arch| arch != "x86").unwrap_or("i686".to_string());
-    let abi = Some(target("ABI")).filter(|abi| abi.starts_with("eabi")).unwrap_or_default();
-    format!("{arch}-linux-gnu{abi}-gcc")
+    let arch = target("ARCH");
+    let machine = match arch.as_str() {
+        "x86" => "i686",
+        "arm" | "riscv64" => &arch,
+        _ => name.split('-').next().unwrap_or_default(),
+    };
+    let abi = Some(target("ABI")).filter(|abi| !abi.starts_with("elf")).unwrap_or_default();
+    format!("{machine}-linux-gnu{abi}-gcc")
 }
 
 /// Builds the library in cargo's folder, which is returned.
