@@ -55629,14 +55629,11 @@ static void give_back(void *given, const unsigned char *own, const char *fields)
         }
 }
 
-u64 pkcs1_c_bit_len(const u8 *number, size_t number_len);
 u64 pkcs1_c_bit_len(const u8 *number, size_t number_len) {
     return NAME(bit_len)(AT(number), number_len);
 }
 
-/* Each is declared, as compilers may ask that what other files call is. */
 #define DECODER(name, FIELDS)                                                 \
-    u32 pkcs1_c_##name(const u8 *der, size_t der_len, void *value);           \
     u32 pkcs1_c_##name(const u8 *der, size_t der_len, void *value) {          \
         unsigned char own[LARGEST];                                           \
         u32 status = NAME(name)(AT(der), der_len, taken(own, value, FIELDS)); \
@@ -55645,7 +55642,6 @@ u64 pkcs1_c_bit_len(const u8 *number, size_t number_len) {
         return status;                                                        \
     }
 #define ENCODER(name, FIELDS)                                                      \
-    u32 pkcs1_c_##name(const void *value, u8 *out, size_t room, size_t *len);      \
     u32 pkcs1_c_##name(const void *value, u8 *out, size_t room, size_t *len) {     \
         unsigned char own[LARGEST], own_len[8];                                    \
         P at_len = taken(own_len, len, "w");                                       \
@@ -55658,7 +55654,6 @@ u64 pkcs1_c_bit_len(const u8 *number, size_t number_len) {
     DECODER(name##_decode_strict, FIELDS) \
     ENCODER(name##_encode, FIELDS)
 #define TEST(name, FIELDS)                                                  \
-    bool pkcs1_c_##name(const void *value, const u8 *oid, size_t oid_len);  \
     bool pkcs1_c_##name(const void *value, const u8 *oid, size_t oid_len) { \
         unsigned char own[LARGEST];                                         \
         return NAME(name)(taken(own, value, FIELDS), AT(oid), oid_len);     \
@@ -55674,7 +55669,6 @@ TEST(algorithm_is, ALGORITHM)
 TEST(pss_is, PSS)
 TEST(oaep_is, OAEP)
 
-u32 pkcs1_c_private_key_decode(const u8 *der, size_t der_len, void *key, void *listed);
 u32 pkcs1_c_private_key_decode(const u8 *der, size_t der_len, void *key, void *listed) {
     unsigned char own[LARGEST], own_listed[16];
     P at_listed = taken(own_listed, listed, BYTES);
@@ -55686,7 +55680,6 @@ u32 pkcs1_c_private_key_decode(const u8 *der, size_t der_len, void *key, void *l
     return status;
 }
 
-u32 pkcs1_c_private_key_info_decode(const u8 *der, size_t der_len, void *info, void *key, void *listed);
 u32 pkcs1_c_private_key_info_decode(const u8 *der, size_t der_len, void *info, void *key, void *listed) {
     unsigned char own_info[LARGEST], own[LARGEST], own_listed[16];
     P at_info = taken(own_info, info, INFO), at_listed = taken(own_listed, listed, BYTES);
@@ -55700,7 +55693,6 @@ u32 pkcs1_c_private_key_info_decode(const u8 *der, size_t der_len, void *info, v
 }
 
 /* One prime at a time, as there may be any number of them. The next one stands where the coefficient ends. */
-void pkcs1_c_other_primes(const u8 *listed, size_t listed_len, void *others, size_t others_room);
 void pkcs1_c_other_primes(const u8 *listed, size_t listed_len, void *others, size_t others_room) {
     unsigned char own[PRIME], *other = others;
     P at = AT(listed), end = at + listed_len, coefficient = AT(own + COEFFICIENT);
@@ -55725,8 +55717,6 @@ static u32 private_key_encode(P key, const unsigned char *others, size_t others_
 
 /* Of more other primes than the stack should hold it says that there is no memory. */
 u32 pkcs1_c_private_key_encode(const void *key, const void *others, size_t others_len, u8 *out, size_t room,
-                               size_t *len);
-u32 pkcs1_c_private_key_encode(const void *key, const void *others, size_t others_len, u8 *out, size_t room,
                                size_t *len) {
     unsigned char own[LARGEST], own_len[8];
     P at_key = taken(own, key, PRIVATE_KEY), at_len = taken(own_len, len, "w");
@@ -55737,7 +55727,6 @@ u32 pkcs1_c_private_key_encode(const void *key, const void *others, size_t other
     return status;
 }
 
-bool pkcs1_c_oaep_label(const void *params, void *label);
 bool pkcs1_c_oaep_label(const void *params, void *label) {
     unsigned char own[LARGEST], own_label[16];
     P at_label = taken(own_label, label, BYTES);
@@ -55747,14 +55736,12 @@ bool pkcs1_c_oaep_label(const void *params, void *label) {
     return has_label;
 }
 
-void pkcs1_c_status_text(u32 status, void *text);
 void pkcs1_c_status_text(u32 status, void *text) {
     unsigned char own[16];
     NAME(status_text)(status, taken(own, text, BYTES));
     give_back(text, own, BYTES);
 }
 
-void pkcs1_c_version(void *text);
 void pkcs1_c_version(void *text) {
     unsigned char own[16];
     NAME(version)(taken(own, text, BYTES));
