@@ -1,7 +1,7 @@
 #!/bin/sh
 # check_object.sh OUT: what a linker, a loader and a debugger ask of the objects there, of libpkcs1.so and of
-# pkcs1_tool, where it was built; and that the library allocates nothing. CC, CFLAGS, NM and READELF are as in the
-# Makefile.
+# pkcs1_tool, where it was built; and that the library keeps nothing between calls, and allocates nothing. CC, CFLAGS,
+# NM and READELF are as in the Makefile.
 set -eu
 out=$1
 nm=${NM:-nm}
@@ -27,7 +27,13 @@ done
 # It asks for four functions of C alone, and for what a compiler calls by itself: to find addresses, to guard the stack,
 # for numbers that the machine has no instruction for, and where CFLAGS ask for it.
 own='\.TOC\.|_GLOBAL_OFFSET_TABLE_|_gp_disp|__aeabi_.*|__stack_chk_(fail|guard)|__mem[a-z]*_chk|__[a-z]*[sdt]i[2-4]'
-case "${CC-} ${CFLAGS-}" in *-fsanitize=* | *--coverage*) own='__.*' ;; esac
+case "${CC-} ${CFLAGS-}" in
+    *-fsanitize=* | *--coverage*) own='__.*' ;;
+    *)
+        ! $nm -f sysv "$out/pkcs1.o" | grep -E '\|(\.data|\.bss|\*COM\*)[.a-z0-9_]*$' | grep -v '\.data\.rel\.ro' ||
+            stop "the calls share data"
+        ;;
+esac
 asked=$({ $nm -u "$out/libpkcs1.a" && $nm -D -u "$out/libpkcs1.so"; } | sed -n 's/^ *U \([^@]*\).*/\1/p' | sort -u |
     grep -vxE "mem(cpy|move|set|cmp)|bcmp|$own" | paste -s -d ' ')
 [ -z "$asked" ] || stop "the library asks for $asked"

@@ -5,7 +5,8 @@
 
 rattle has clang compile the module in one call, or, for some processors, in two, between which it changes the IR. The
 last call is made again, with assembly for an object, and no comments. Then rattle_* gets pkcs1_ in front, so that two
-libraries made by rattle link together, and the program's main, which ffi/c/os.c calls, is pkcs1_tool_main.
+libraries made by rattle link together, and the program's main, which ffi/c/os.c calls, is pkcs1_tool_main. In the end
+marks.py adds marks of control flow.
 
 A debugger goes back from a call by tables, which the object hasn't. LLVM writes them if it is asked, but then orders
 some instructions otherwise. So the assembly is made twice, and the tables of the second are put into the first.
@@ -14,6 +15,8 @@ import os
 import re
 import subprocess
 import sys
+
+import marks
 
 SETS_FRAME_POINTER = re.compile(r"\t(mov\tx29, sp|add\tx29, sp, #\d+)")
 
@@ -120,6 +123,15 @@ def renamed(text):
     return text.replace(".text.main,", ".text.pkcs1_tool_main,").replace("-main\n", "-pkcs1_tool_main\n")
 
 
+def with_marks(text, words):
+    """Assembly with marks of control flow, for the processor that these words name."""
+    processor = [it[len("--target="):].split("-")[0] for it in words if it.startswith("--target=")]
+    try:
+        return marks.add(text, *processor)
+    except (KeyError, TypeError, ValueError) as it:
+        refuse(str(it))
+
+
 def main():
     toolchain, out = os.path.realpath(sys.argv[1]), sys.argv[2]
     folder, words = last_call(toolchain)
@@ -129,7 +141,7 @@ def main():
     words += ["-fno-addrsig", "-fno-verbose-asm", "-x", "ir"]
     made = with_tables(clang(toolchain, folder, [*words, source]), clang(toolchain, folder, [*words, "tables.ll"]))
     with open(out, "w", encoding="utf-8") as it:
-        it.write(renamed(made))
+        it.write(with_marks(renamed(made), words))
 
 
 main()

@@ -5,12 +5,15 @@
 
 The kit's clang assembles. The same are all instructions with their octets and places, all constants, and what the
 linker is to put where. Not compared are instructions that do nothing, between others, the tables by which a debugger
-goes back from a call, and the names that assembly.py changes.
+goes back from a call, and the names that assembly.py changes. The marks of control flow are taken away before. They
+have to be those that marks.py adds, and where it adds them.
 """
 import re
 import subprocess
 import sys
 import tempfile
+
+import marks
 
 NOTHING = re.compile(r"\t(data16 )*(cs )?nop|\txchg   %ax,%ax$")
 LEFT_OUT = re.compile(r"\.(text|eh_frame|rela\.|comment|note\.GNU-stack|llvm_addrsig|symtab|strtab|shstrtab)")
@@ -40,10 +43,22 @@ def content(objdump, path):
     return [with_names(it) for it in made]
 
 
+def unmarked(assembly, processor):
+    """The assembly in this file, without its marks."""
+    with open(assembly, encoding="utf-8") as it:
+        text = it.read()
+    plain = marks.remove(text, processor)
+    if marks.add(plain, processor) != text:
+        sys.exit(f"same_code.py: {assembly} has other marks")
+    return plain
+
+
 def main():
     clang, objdump, triple, path, assembly = sys.argv[1:]
-    with tempfile.NamedTemporaryFile(suffix=".o") as assembled:
-        printed(clang, f"--target={triple}", "-c", assembly, "-o", assembled.name)
+    with tempfile.NamedTemporaryFile(suffix=".o") as assembled, tempfile.NamedTemporaryFile("w", suffix=".s") as plain:
+        plain.write(unmarked(assembly, triple.split("-")[0]))
+        plain.flush()
+        printed(clang, f"--target={triple}", "-c", plain.name, "-o", assembled.name)
         proved, made = content(objdump, path), content(objdump, assembled.name)
     if len(proved) < 1000:
         sys.exit(f"same_code.py: {path} has no code")

@@ -23,12 +23,16 @@ for tool in gcc clang readelf nm python3; do
     }
 done
 
+# links OBJECT CC: it can be moved, and has the marks of control flow that $asked has the linker look for.
+links() {
+    "$2" -shared -nostdlib "-Wl,-z,text,-z,$asked" "$1" -o "$room/shared" > "$room/said" 2>&1 && [ ! -s "$room/said" ]
+}
 # object_is_right OBJECT CC EXPORTS IMPORTS: no part of the stack is executed, nothing in the code depends on where it
-# is loaded, and these names alone are given and asked for.
+# is loaded, control flow is marked, and these names alone are given and asked for.
 object_is_right() {
     local object=$1
     readelf -SW "$object" | grep -F .note.GNU-stack | grep -qv ' X ' || stop "$object: its stack would be executable"
-    "$2" -shared -nostdlib -Wl,-z,text "$object" -o "$room/shared" || stop "$object: it can't be moved"
+    links "$object" "$2" || stop "$object: $(cat "$room/said")"
     nm -g --defined-only "$object" | sed 's/.* //' | grep -vxE "$3" && stop "$object gives other names"
     nm -u "$object" | sed 's/.* //' | grep -vxE "$4" && stop "$object asks for other names"
     return 0
@@ -52,8 +56,32 @@ leads_back() {
         "-I$ffi/include" "$here/way_back.c" "$ffi/c/pkcs1.c" "$room/c.o" -o "$room/way_back"
     "${run[@]}" "$room/way_back" || stop "$1: a debugger doesn't come back to main"
 }
+# calls_run OUT CC OPTION: the library there runs where the processor looks for marks, and each call goes to an address.
+calls_run() {
+    CC=$2 CFLAGS="-O2 -fPIC -fno-plt $3 -Wl,-z,force-bti" RUN='qemu-aarch64 -cpu max' \
+        "$ffi/check_freestanding.sh" "$1" "$1/program" > "$room/said" 2>&1
+}
+# library_is_marked PROCESSOR CC OPTION: by a compiler with this option, the library has the marks of its calls and of
+# the assembly. Where those of the assembly are gone, the linker misses them, and so does the processor.
+library_is_marked() {
+    local from=$generated it
+    mkdir -p "$room/plain/$1"
+    "$here/marks.py" remove "$1" < "$generated/$1/pkcs1_c.s" > "$room/plain/$1/pkcs1_c.s"
+    for it in marked unmarked; do
+        make --silent -C "$here/../.." CC="$2" CFLAGS="-O2 -fPIC -fno-plt $3" OUT="$room/$it" GENERATED="$from" \
+            "$room/$it/libpkcs1.a"
+        from=$room/plain
+    done
+    links "$room/marked/pkcs1.o" "$2" || stop "$1: the library isn't marked: $(cat "$room/said")"
+    ! links "$room/unmarked/pkcs1.o" "$2" || stop "$1: the linker misses no marks"
+    grep -qE 'IBT and SHSTK|BTI' "$room/said" || stop "$1: marks are missed otherwise: $(cat "$room/said")"
+    [ "$1" = aarch64 ] && command -v qemu-aarch64 > /dev/null || return 0
+    calls_run "$room/marked" "$2" "$3" || stop "$1: marks stop the calls: $(cat "$room/said")"
+    ! calls_run "$room/unmarked" "$2" "$3" || stop "$1: the processor misses no marks"
+    grep -q 'Illegal instruction' "$room/said" || stop "$1: calls stop otherwise: $(cat "$room/said")"
+}
 objects_are_right() {
-    local calls='pkcs1_c_[a-z0-9_]*' processor cc option
+    local calls='pkcs1_c_[a-z0-9_]*' processor cc option asked marking
     local of_c='memcpy|memmove|memset|memcmp|bcmp' of_tool
     of_tool="$of_c|read|write|open|close|__sysv_signal|pkcs1_rattle_(alloc|realloc|dealloc)"
     of_tool="$of_tool|pkcs1_rattle_(arg|arg_count|env|env_at|errno|set_errno)"
@@ -64,13 +92,18 @@ objects_are_right() {
             echo "tools/generate/test.sh: $cc is not installed: the code for $processor isn't tested"
             continue
         }
+        case $processor in
+            x86_64) asked=cet-report=error marking=-fcf-protection=full ;;
+            aarch64) asked=force-bti marking=-mbranch-protection=bti ;;
+        esac
         $cc -c "$generated/$processor/pkcs1_c.s" -o "$room/c.o"
         $cc -c "$generated/$processor/pkcs1_tool.s" -o "$room/tool.o"
         object_is_right "$room/c.o" $cc "$calls" "$of_c"
         object_is_right "$room/tool.o" $cc pkcs1_tool_main "$of_tool"
         leads_back $processor $cc
+        library_is_marked $processor $cc $marking
         for option in -UPKCS1_FOREIGN -DPKCS1_FOREIGN; do
-            $cc -std=c99 -Wall -Wextra -Werror -pedantic -O2 -fPIC $option -c "$generated/pkcs1_c.c" \
+            $cc -std=c99 -Wall -Wextra -Werror -pedantic -O2 -fPIC $marking $option -c "$generated/pkcs1_c.c" \
                 -o "$room/portable.o"
             object_is_right "$room/portable.o" $cc "$calls" "$of_c"
         done
@@ -189,17 +222,28 @@ other_builds_are_told() {
     grep -q 'made of other sources' "$room/said" || stop "other sources are told otherwise: $(cat "$room/said")"
 }
 
-# What differs from the code of an object is told: an instruction, a constant, a name.
+# What differs from the code of an object is told: an instruction, a constant, a name, a mark of control flow.
 other_code_is_told() {
     local assembly=$generated/x86_64/pkcs1_c.s words edit
     words=("$1" objdump x86_64-unknown-linux-gnu "$room/code.o")
-    "$1" --target=x86_64-unknown-linux-gnu -c "$assembly" -o "$room/code.o"
+    "$here/marks.py" remove x86_64 < "$assembly" > "$room/unmarked.s"
+    "$1" --target=x86_64-unknown-linux-gnu -c "$room/unmarked.s" -o "$room/code.o"
     "$here/same_code.py" "${words[@]}" "$assembly"
-    for edit in 's/cmpb\t\$5/cmpb\t$6/' 's/no error/no Error/' 's/callq\tmemcpy/callq\tmemmove/'; do
+    for edit in 's/cmpb\t\$5/cmpb\t$6/' 's/no error/no Error/' 's/callq\tmemcpy/callq\tmemmove/' \
+        '/^\tendbr64$/d' 's/^\tpushq\t%rbx$/\tendbr64\n&/' 's/\tnotrack\t/\t/'; do
         sed "$edit" "$assembly" > "$room/other.s"
         cmp -s "$assembly" "$room/other.s" && stop "nothing is changed by $edit"
         "$here/same_code.py" "${words[@]}" "$room/other.s" 2> "$room/error" && stop "$edit isn't told"
-        grep -q 'what was proved and' "$room/error" || stop "$edit is told otherwise"
+        grep -qE 'what was proved and|has other marks' "$room/error" || stop "$edit is told otherwise"
+    done
+}
+# Code that goes to an address in a way that isn't known gets no marks.
+unknown_ways_are_refused() {
+    local line
+    for line in 'x86_64 jmpq\t*%rax' 'x86_64 callq\t*8(%rdi)' 'aarch64 br\tx8' 'aarch64 blr\tx8'; do
+        printf '\t%b\n' "${line#* }" | "$here/marks.py" add "${line%% *}" > "$room/it.s" 2> "$room/error" &&
+            stop "$line gets marks"
+        grep -q "isn't known" "$room/error" || stop "$line is refused otherwise: $(cat "$room/error")"
     done
 }
 
@@ -208,6 +252,7 @@ library_passes
 other_compilers_are_refused
 unknown_is_refused
 another_kit_is_refused
+unknown_ways_are_refused
 hash_is_of_code
 other_builds_are_told
 if command -v rt > /dev/null; then

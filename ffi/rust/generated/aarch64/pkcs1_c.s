@@ -15029,6 +15029,7 @@
 	.type	pkcs1_c_algorithm_is,@function
 pkcs1_c_algorithm_is:
 	.cfi_startproc
+	hint	#34
 	ldrb	w9, [x0, #17]
 	mov	w8, #4096
 	cmp	x1, #0
@@ -15122,6 +15123,7 @@ pkcs1_c_algorithm_is:
 	.type	pkcs1_c_bit_len,@function
 pkcs1_c_bit_len:
 	.cfi_startproc
+	hint	#34
 	mov	w8, #4096
 	cmp	x0, #0
 	csel	x8, x8, xzr, eq
@@ -15173,6 +15175,7 @@ pkcs1_c_bit_len:
 	.type	pkcs1_c_oaep_label,@function
 pkcs1_c_oaep_label:
 	.cfi_startproc
+	hint	#34
 	ldrb	w8, [x0, #120]
 	cmp	w8, #1
 	b.ne	.LBB40_7
@@ -15229,6 +15232,7 @@ pkcs1_c_oaep_label:
 	.type	pkcs1_c_version,@function
 pkcs1_c_version:
 	.cfi_startproc
+	hint	#34
 	adrp	x8, .Lstatic.1
 	add	x8, x8, :lo12:.Lstatic.1
 	mov	w9, #6
@@ -15244,6 +15248,7 @@ pkcs1_c_version:
 	.type	pkcs1_c_public_key_decode,@function
 pkcs1_c_public_key_decode:
 	.cfi_startproc
+	hint	#34
 	sub	sp, sp, #80
 	movi	v0.2d, #0000000000000000
 	mov	w8, #4096
@@ -15454,6 +15459,7 @@ pkcs1_c_public_key_decode:
 	.type	pkcs1_c_status_text,@function
 pkcs1_c_status_text:
 	.cfi_startproc
+	hint	#34
 	cmp	w0, #21
 	b.hi	.LBB43_2
 	adrp	x9, .Lswitch.table.pkcs1_c_status_text.152.rel
@@ -15481,6 +15487,7 @@ pkcs1_c_status_text:
 	.type	pkcs1_c_private_key_decode,@function
 pkcs1_c_private_key_decode:
 	.cfi_startproc
+	hint	#34
 	sub	sp, sp, #464
 	movi	v0.2d, #0000000000000000
 	cmp	x0, #0
@@ -16137,6 +16144,7 @@ pkcs1_c_private_key_decode:
 	.type	pkcs1_c_private_key_info_decode,@function
 pkcs1_c_private_key_info_decode:
 	.cfi_startproc
+	hint	#34
 	sub	sp, sp, #496
 	movi	v0.2d, #0000000000000000
 	stp	x24, x23, [sp, #448]
@@ -17241,6 +17249,7 @@ pkcs1_c_private_key_info_decode:
 	.type	pkcs1_c_oaep_algorithm_decode,@function
 pkcs1_c_oaep_algorithm_decode:
 	.cfi_startproc
+	hint	#34
 	sub	sp, sp, #416
 	movi	v0.2d, #0000000000000000
 	mov	w9, #4096
@@ -17601,6 +17610,7 @@ pkcs1_c_oaep_algorithm_decode:
 	.type	pkcs1_c_oaep_algorithm_decode_strict,@function
 pkcs1_c_oaep_algorithm_decode_strict:
 	.cfi_startproc
+	hint	#34
 	stp	x29, x30, [sp, #-96]!
 	stp	x28, x27, [sp, #16]
 	mov	x29, sp
@@ -18037,6 +18047,7 @@ pkcs1_c_oaep_algorithm_decode_strict:
 	.type	pkcs1_c_oaep_params_decode,@function
 pkcs1_c_oaep_params_decode:
 	.cfi_startproc
+	hint	#34
 	sub	sp, sp, #416
 	cmp	x0, #0
 	mov	w8, #4096
@@ -18316,6 +18327,7 @@ pkcs1_c_oaep_params_decode:
 	.type	pkcs1_c_oaep_params_decode_strict,@function
 pkcs1_c_oaep_params_decode_strict:
 	.cfi_startproc
+	hint	#34
 	stp	x29, x30, [sp, #-80]!
 	stp	x28, x25, [sp, #16]
 	mov	x29, sp
@@ -18720,6 +18732,7 @@ pkcs1_c_oaep_params_decode_strict:
 	.type	pkcs1_c_other_primes,@function
 pkcs1_c_other_primes:
 	.cfi_startproc
+	hint	#34
 	lsr	x9, x1, #32
 	cmp	x2, #0
 	mov	w8, #4096
@@ -19078,6 +19091,7 @@ pkcs1_c_other_primes:
 	.type	pkcs1_c_pss_algorithm_decode,@function
 pkcs1_c_pss_algorithm_decode:
 	.cfi_startproc
+	hint	#34
 	sub	sp, sp, #384
 	movi	v0.2d, #0000000000000000
 	mov	w9, #4096
@@ -19438,6 +19452,7 @@ pkcs1_c_pss_algorithm_decode:
 	.type	pkcs1_c_pss_algorithm_decode_strict,@function
 pkcs1_c_pss_algorithm_decode_strict:
 	.cfi_startproc
+	hint	#34
 	sub	sp, sp, #496
 	movi	v0.2d, #0000000000000000
 	cmp	x0, #0
@@ -19863,6 +19878,7 @@ pkcs1_c_pss_algorithm_decode_strict:
 	.type	pkcs1_c_pss_params_decode,@function
 pkcs1_c_pss_params_decode:
 	.cfi_startproc
+	hint	#34
 	sub	sp, sp, #352
 	cmp	x0, #0
 	mov	w8, #4096
@@ -20113,6 +20129,7 @@ pkcs1_c_pss_params_decode:
 	.type	pkcs1_c_pss_params_decode_strict,@function
 pkcs1_c_pss_params_decode_strict:
 	.cfi_startproc
+	hint	#34
 	stp	x29, x30, [sp, #-80]!
 	stp	x28, x25, [sp, #16]
 	mov	x29, sp
@@ -20451,6 +20468,7 @@ pkcs1_c_pss_params_decode_strict:
 	.type	pkcs1_c_oaep_is,@function
 pkcs1_c_oaep_is:
 	.cfi_startproc
+	hint	#34
 	stp	x29, x30, [sp, #-16]!
 	cmp	x1, #0
 	mov	w9, #4096
@@ -20476,6 +20494,7 @@ pkcs1_c_oaep_is:
 	.type	pkcs1_c_pss_is,@function
 pkcs1_c_pss_is:
 	.cfi_startproc
+	hint	#34
 	stp	x29, x30, [sp, #-16]!
 	cmp	x1, #0
 	mov	w9, #4096
@@ -20508,6 +20527,7 @@ pkcs1_c_pss_is:
 	.type	pkcs1_c_private_key_encode,@function
 pkcs1_c_private_key_encode:
 	.cfi_startproc
+	hint	#34
 	stp	x29, x30, [sp, #-96]!
 	stp	x28, x27, [sp, #16]
 	mov	x29, sp
@@ -22946,6 +22966,7 @@ pkcs1_c_private_key_encode:
 	.type	pkcs1_c_private_key_info_encode,@function
 pkcs1_c_private_key_info_encode:
 	.cfi_startproc
+	hint	#34
 	sub	sp, sp, #464
 	stp	x22, x21, [sp, #432]
 	mov	x21, x2
@@ -23932,6 +23953,7 @@ pkcs1_c_private_key_info_encode:
 	.type	pkcs1_c_public_key_encode,@function
 pkcs1_c_public_key_encode:
 	.cfi_startproc
+	hint	#34
 	stp	x29, x30, [sp, #-96]!
 	stp	x20, x19, [sp, #80]
 	ldp	x19, x20, [x0]
@@ -24559,6 +24581,7 @@ pkcs1_c_public_key_encode:
 	.type	pkcs1_c_oaep_algorithm_encode,@function
 pkcs1_c_oaep_algorithm_encode:
 	.cfi_startproc
+	hint	#34
 	sub	sp, sp, #496
 	movi	v0.2d, #0000000000000000
 	stp	x20, x19, [sp, #480]
@@ -25279,6 +25302,7 @@ pkcs1_c_oaep_algorithm_encode:
 	.type	pkcs1_c_pss_algorithm_encode,@function
 pkcs1_c_pss_algorithm_encode:
 	.cfi_startproc
+	hint	#34
 	sub	sp, sp, #416
 	movi	v0.2d, #0000000000000000
 	stp	x20, x19, [sp, #400]
@@ -25943,6 +25967,7 @@ pkcs1_c_pss_algorithm_encode:
 	.type	pkcs1_c_oaep_params_encode,@function
 pkcs1_c_oaep_params_encode:
 	.cfi_startproc
+	hint	#34
 	stp	x29, x30, [sp, #-96]!
 	stp	x28, x27, [sp, #16]
 	mov	x29, sp
@@ -26872,6 +26897,7 @@ pkcs1_c_oaep_params_encode:
 	.type	pkcs1_c_pss_params_encode,@function
 pkcs1_c_pss_params_encode:
 	.cfi_startproc
+	hint	#34
 	sub	sp, sp, #432
 	movi	v0.2d, #0000000000000000
 	stp	x20, x19, [sp, #416]
@@ -27860,3 +27886,13 @@ pkcs1_c_pss_params_encode:
 
 	.ident	"rattle logic=dac8208d650f15bf3e2dc313a14fa4c783a3acf887bdfab66e1714b038d9e11b"
 	.section	".note.GNU-stack","",@progbits
+	.section	".note.gnu.property","a",@note
+	.p2align	3
+	.long	4
+	.long	16
+	.long	5
+	.asciz	"GNU"
+	.long	3221225472
+	.long	4
+	.long	1
+	.long	0

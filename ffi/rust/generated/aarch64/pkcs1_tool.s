@@ -516,11 +516,14 @@
 	mov	w8, #1
 	br	x10
 .LBB3_3:
+	hint	#36
 	mov	w8, #36
 	b	.LBB3_5
 .LBB3_4:
+	hint	#36
 	mov	w8, #41
 .LBB3_5:
+	hint	#36
 	movi	v0.2d, #0000000000000000
 	strb	wzr, [x0]
 	strb	w8, [x0, #1]
@@ -533,108 +536,143 @@
 	stur	q0, [x0, #72]
 	ret
 .LBB3_6:
+	hint	#36
 	mov	w8, #4
 	b	.LBB3_5
 .LBB3_7:
+	hint	#36
 	mov	w8, #7
 	b	.LBB3_5
 .LBB3_8:
+	hint	#36
 	mov	w8, #26
 	b	.LBB3_5
 .LBB3_9:
+	hint	#36
 	mov	w8, #39
 	b	.LBB3_5
 .LBB3_10:
+	hint	#36
 	mov	w8, #9
 	b	.LBB3_5
 .LBB3_11:
+	hint	#36
 	mov	w8, #8
 	b	.LBB3_5
 .LBB3_12:
+	hint	#36
 	mov	w8, #30
 	b	.LBB3_5
 .LBB3_13:
+	hint	#36
 	mov	w8, #25
 	b	.LBB3_5
 .LBB3_14:
+	hint	#36
 	mov	w8, #32
 	b	.LBB3_5
 .LBB3_15:
+	hint	#36
 	mov	w8, #33
 	b	.LBB3_5
 .LBB3_16:
+	hint	#36
 	mov	w8, #22
 	b	.LBB3_5
 .LBB3_17:
+	hint	#36
 	mov	w8, #31
 	b	.LBB3_5
 .LBB3_18:
+	hint	#36
 	mov	w8, #29
 	b	.LBB3_5
 .LBB3_19:
+	hint	#36
 	mov	w8, #18
 	b	.LBB3_5
 .LBB3_20:
+	hint	#36
 	mov	w8, #10
 	b	.LBB3_5
 .LBB3_21:
+	hint	#36
 	mov	w8, #28
 	b	.LBB3_5
 .LBB3_22:
+	hint	#36
 	mov	w8, #14
 	b	.LBB3_5
 .LBB3_23:
+	hint	#36
 	mov	w8, #12
 	b	.LBB3_5
 .LBB3_24:
+	hint	#36
 	mov	w8, #5
 	b	.LBB3_5
 .LBB3_25:
+	hint	#36
 	mov	w8, #3
 	b	.LBB3_5
 .LBB3_26:
+	hint	#36
 	mov	w8, wzr
 	b	.LBB3_5
 .LBB3_27:
+	hint	#36
 	mov	w8, #13
 	b	.LBB3_5
 .LBB3_28:
+	hint	#36
 	mov	w8, #38
 	b	.LBB3_5
 .LBB3_29:
+	hint	#36
 	mov	w8, #11
 	b	.LBB3_5
 .LBB3_30:
+	hint	#36
 	mov	w8, #35
 	b	.LBB3_5
 .LBB3_31:
+	hint	#36
 	mov	w8, #34
 	b	.LBB3_5
 .LBB3_32:
+	hint	#36
 	mov	w8, #20
 	b	.LBB3_5
 .LBB3_33:
+	hint	#36
 	mov	w8, #15
 	b	.LBB3_5
 .LBB3_34:
+	hint	#36
 	mov	w8, #19
 	b	.LBB3_5
 .LBB3_35:
+	hint	#36
 	mov	w8, #16
 	b	.LBB3_5
 .LBB3_36:
+	hint	#36
 	mov	w8, #6
 	b	.LBB3_5
 .LBB3_37:
+	hint	#36
 	mov	w8, #27
 	b	.LBB3_5
 .LBB3_38:
+	hint	#36
 	mov	w8, #24
 	b	.LBB3_5
 .LBB3_39:
+	hint	#36
 	mov	w8, #2
 	b	.LBB3_5
 .LBB3_40:
+	hint	#36
 	mov	w8, #17
 	b	.LBB3_5
 .Lfunc_end3:
@@ -25896,21 +25934,25 @@
 	add	x9, x9, x10, lsl #2
 	br	x9
 .LBB52_150:
+	hint	#36
 	adrp	x20, .Lstatic.84
 	add	x20, x20, :lo12:.Lstatic.84
 	mov	w21, #24
 	b	.LBB52_445
 .LBB52_151:
+	hint	#36
 	adrp	x20, .Lstatic.94
 	add	x20, x20, :lo12:.Lstatic.94
 	mov	w21, #19
 	b	.LBB52_445
 .LBB52_152:
+	hint	#36
 	adrp	x20, .Lstatic.92
 	add	x20, x20, :lo12:.Lstatic.92
 	mov	w21, #21
 	b	.LBB52_445
 .LBB52_153:
+	hint	#36
 	mov	w8, #32
 	mov	x9, #-1
 	sturb	w24, [x29, #-8]
@@ -26106,6 +26148,7 @@
 	str	x8, [x19, #1032]
 	b	.LBB52_457
 .LBB52_197:
+	hint	#36
 	mov	w8, #32
 	ldr	x9, [x19, #1160]
 	str	xzr, [x23]
@@ -26378,26 +26421,31 @@
 	str	x8, [x19, #1032]
 	b	.LBB52_500
 .LBB52_259:
+	hint	#36
 	adrp	x20, .Lstatic.91
 	add	x20, x20, :lo12:.Lstatic.91
 	mov	w21, #22
 	b	.LBB52_445
 .LBB52_260:
+	hint	#36
 	adrp	x20, .Lstatic.90
 	add	x20, x20, :lo12:.Lstatic.90
 	mov	w21, #36
 	b	.LBB52_445
 .LBB52_261:
+	hint	#36
 	adrp	x20, .Lstatic.85
 	add	x20, x20, :lo12:.Lstatic.85
 	mov	w21, #24
 	b	.LBB52_445
 .LBB52_262:
+	hint	#36
 	adrp	x20, .Lstatic.93
 	add	x20, x20, :lo12:.Lstatic.93
 	mov	w21, #24
 	b	.LBB52_445
 .LBB52_263:
+	hint	#36
 	mov	w8, #32
 	ldr	x9, [x19, #1160]
 	str	xzr, [x23]
@@ -26670,15 +26718,18 @@
 	str	x8, [x19, #1032]
 	b	.LBB52_508
 .LBB52_325:
+	hint	#36
 	adrp	x20, .Lstatic.88
 	add	x20, x20, :lo12:.Lstatic.88
 	mov	w21, #25
 	b	.LBB52_445
 .LBB52_326:
+	hint	#36
 	adrp	x20, .Lstatic.86
 	add	x20, x20, :lo12:.Lstatic.86
 	b	.LBB52_444
 .LBB52_327:
+	hint	#36
 	mov	w8, #32
 	ldr	x9, [x19, #1160]
 	str	xzr, [x23]
@@ -26912,11 +26963,13 @@
 	str	x8, [x19, #1032]
 	b	.LBB52_572
 .LBB52_380:
+	hint	#36
 	adrp	x20, .Lstatic.87
 	add	x20, x20, :lo12:.Lstatic.87
 	mov	w21, #36
 	b	.LBB52_445
 .LBB52_381:
+	hint	#36
 	mov	w8, #32
 	ldr	x9, [x19, #1160]
 	str	xzr, [x23]
@@ -27197,11 +27250,13 @@
 	str	x8, [x19, #1032]
 	b	.LBB52_626
 .LBB52_443:
+	hint	#36
 	adrp	x20, .Lstatic.89
 	add	x20, x20, :lo12:.Lstatic.89
 .LBB52_444:
 	mov	w21, #34
 .LBB52_445:
+	hint	#36
 	ldr	x8, [x19, #1160]
 	cbnz	x8, .LBB52_453
 	ldr	x8, [x19, #1032]
@@ -29657,6 +29712,7 @@
 	.type	pkcs1_tool_main,@function
 pkcs1_tool_main:
 	.cfi_startproc
+	hint	#34
 	stp	x29, x30, [sp, #-96]!
 	sub	x9, sp, #15, lsl #12
 	stp	x28, x27, [sp, #16]
@@ -32697,3 +32753,13 @@ pkcs1_tool_main:
 
 	.ident	"rattle logic=dac8208d650f15bf3e2dc313a14fa4c783a3acf887bdfab66e1714b038d9e11b"
 	.section	".note.GNU-stack","",@progbits
+	.section	".note.gnu.property","a",@note
+	.p2align	3
+	.long	4
+	.long	16
+	.long	5
+	.asciz	"GNU"
+	.long	3221225472
+	.long	4
+	.long	1
+	.long	0

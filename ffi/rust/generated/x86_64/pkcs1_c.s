@@ -4228,7 +4228,7 @@
 	leaq	.LJTI9_0(%rip), %rcx
 	movslq	(%rcx,%rax,4), %rax
 	addq	%rcx, %rax
-	jmpq	*%rax
+	notrack	jmpq	*%rax
 .LBB9_3:
 	cmpq	$47, %rdx
 	jne	.LBB9_22
@@ -16230,6 +16230,7 @@
 	.type	pkcs1_c_algorithm_is,@function
 pkcs1_c_algorithm_is:
 	.cfi_startproc
+	endbr64
 	xorl	%eax, %eax
 	testq	%rsi, %rsi
 	sete	%cl
@@ -16313,6 +16314,7 @@ pkcs1_c_algorithm_is:
 	.type	pkcs1_c_bit_len,@function
 pkcs1_c_bit_len:
 	.cfi_startproc
+	endbr64
 	xorl	%ecx, %ecx
 	testq	%rdi, %rdi
 	sete	%cl
@@ -16365,6 +16367,7 @@ pkcs1_c_bit_len:
 	.type	pkcs1_c_oaep_label,@function
 pkcs1_c_oaep_label:
 	.cfi_startproc
+	endbr64
 	cmpb	$1, 120(%rdi)
 	jne	.LBB40_6
 	cmpb	$4, 121(%rdi)
@@ -16429,6 +16432,7 @@ pkcs1_c_oaep_label:
 	.type	pkcs1_c_version,@function
 pkcs1_c_version:
 	.cfi_startproc
+	endbr64
 	leaq	.Lstatic.1(%rip), %rax
 	movq	%rax, (%rdi)
 	movq	$6, 8(%rdi)
@@ -16443,6 +16447,7 @@ pkcs1_c_version:
 	.type	pkcs1_c_public_key_decode,@function
 pkcs1_c_public_key_decode:
 	.cfi_startproc
+	endbr64
 	pushq	%rbx
 	.cfi_def_cfa_offset 16
 	subq	$48, %rsp
@@ -16694,6 +16699,7 @@ pkcs1_c_public_key_decode:
 	.type	pkcs1_c_status_text,@function
 pkcs1_c_status_text:
 	.cfi_startproc
+	endbr64
 	cmpl	$21, %edi
 	ja	.LBB43_1
 	movl	%edi, %ecx
@@ -16721,6 +16727,7 @@ pkcs1_c_status_text:
 	.type	pkcs1_c_private_key_decode,@function
 pkcs1_c_private_key_decode:
 	.cfi_startproc
+	endbr64
 	pushq	%rbp
 	.cfi_def_cfa_offset 16
 	pushq	%r15
@@ -17682,6 +17689,7 @@ pkcs1_c_private_key_decode:
 	.type	pkcs1_c_private_key_info_decode,@function
 pkcs1_c_private_key_info_decode:
 	.cfi_startproc
+	endbr64
 	pushq	%rbp
 	.cfi_def_cfa_offset 16
 	pushq	%r15
@@ -19049,6 +19057,7 @@ pkcs1_c_private_key_info_decode:
 	.type	pkcs1_c_oaep_algorithm_decode,@function
 pkcs1_c_oaep_algorithm_decode:
 	.cfi_startproc
+	endbr64
 	pushq	%rbp
 	.cfi_def_cfa_offset 16
 	pushq	%r15
@@ -19316,7 +19325,7 @@ pkcs1_c_oaep_algorithm_decode:
 	leaq	.LJTI46_0(%rip), %rcx
 	movslq	(%rcx,%rax,4), %rax
 	addq	%rcx, %rax
-	jmpq	*%rax
+	notrack	jmpq	*%rax
 .LBB46_59:
 	movzbl	98(%rsp), %ebp
 .LBB46_60:
@@ -19534,6 +19543,7 @@ pkcs1_c_oaep_algorithm_decode:
 	.type	pkcs1_c_oaep_algorithm_decode_strict,@function
 pkcs1_c_oaep_algorithm_decode_strict:
 	.cfi_startproc
+	endbr64
 	pushq	%rbp
 	.cfi_def_cfa_offset 16
 	pushq	%r15
@@ -19846,7 +19856,7 @@ pkcs1_c_oaep_algorithm_decode_strict:
 	leaq	.LJTI47_0(%rip), %rdx
 	movslq	(%rdx,%rcx,4), %rcx
 	addq	%rdx, %rcx
-	jmpq	*%rcx
+	notrack	jmpq	*%rcx
 .LBB47_54:
 	movq	328(%rsp), %rax
 	movq	%rax, 64(%rsp)
@@ -19933,7 +19943,7 @@ pkcs1_c_oaep_algorithm_decode_strict:
 	leaq	.LJTI47_0(%rip), %rdx
 	movslq	(%rdx,%rcx,4), %rcx
 	addq	%rdx, %rcx
-	jmpq	*%rcx
+	notrack	jmpq	*%rcx
 .LBB47_19:
 	movzbl	%bl, %eax
 	incl	%eax
@@ -20065,6 +20075,7 @@ pkcs1_c_oaep_algorithm_decode_strict:
 	.type	pkcs1_c_oaep_params_decode,@function
 pkcs1_c_oaep_params_decode:
 	.cfi_startproc
+	endbr64
 	pushq	%rbp
 	.cfi_def_cfa_offset 16
 	pushq	%r15
@@ -20423,6 +20434,7 @@ pkcs1_c_oaep_params_decode:
 	.type	pkcs1_c_oaep_params_decode_strict,@function
 pkcs1_c_oaep_params_decode_strict:
 	.cfi_startproc
+	endbr64
 	pushq	%rbp
 	.cfi_def_cfa_offset 16
 	pushq	%r15
@@ -20666,7 +20678,7 @@ pkcs1_c_oaep_params_decode_strict:
 	leaq	.LJTI49_0(%rip), %rcx
 	movslq	(%rcx,%rax,4), %rax
 	addq	%rcx, %rax
-	jmpq	*%rax
+	notrack	jmpq	*%rax
 .LBB49_26:
 	movzbl	82(%rsp), %ebp
 	jmp	.LBB49_27
@@ -20833,6 +20845,7 @@ pkcs1_c_oaep_params_decode_strict:
 	.type	pkcs1_c_other_primes,@function
 pkcs1_c_other_primes:
 	.cfi_startproc
+	endbr64
 	pushq	%rbp
 	.cfi_def_cfa_offset 16
 	pushq	%r15
@@ -21309,6 +21322,7 @@ pkcs1_c_other_primes:
 	.type	pkcs1_c_pss_algorithm_decode,@function
 pkcs1_c_pss_algorithm_decode:
 	.cfi_startproc
+	endbr64
 	pushq	%rbp
 	.cfi_def_cfa_offset 16
 	pushq	%r15
@@ -21584,7 +21598,7 @@ pkcs1_c_pss_algorithm_decode:
 	leaq	.LJTI51_0(%rip), %rcx
 	movslq	(%rcx,%rax,4), %rax
 	addq	%rcx, %rax
-	jmpq	*%rax
+	notrack	jmpq	*%rax
 .LBB51_64:
 	movzbl	50(%rsp), %ebp
 .LBB51_65:
@@ -21771,6 +21785,7 @@ pkcs1_c_pss_algorithm_decode:
 	.type	pkcs1_c_pss_algorithm_decode_strict,@function
 pkcs1_c_pss_algorithm_decode_strict:
 	.cfi_startproc
+	endbr64
 	pushq	%rbp
 	.cfi_def_cfa_offset 16
 	pushq	%r15
@@ -22040,7 +22055,7 @@ pkcs1_c_pss_algorithm_decode_strict:
 	leaq	.LJTI52_0(%rip), %rdx
 	movslq	(%rdx,%rcx,4), %rcx
 	addq	%rdx, %rcx
-	jmpq	*%rcx
+	notrack	jmpq	*%rcx
 .LBB52_59:
 	movq	264(%rsp), %r13
 	movq	272(%rsp), %rax
@@ -22125,7 +22140,7 @@ pkcs1_c_pss_algorithm_decode_strict:
 	leaq	.LJTI52_0(%rip), %rdx
 	movslq	(%rdx,%rcx,4), %rcx
 	addq	%rdx, %rcx
-	jmpq	*%rcx
+	notrack	jmpq	*%rcx
 .LBB52_19:
 	movzbl	%bl, %eax
 	incl	%eax
@@ -22277,6 +22292,7 @@ pkcs1_c_pss_algorithm_decode_strict:
 	.type	pkcs1_c_pss_params_decode,@function
 pkcs1_c_pss_params_decode:
 	.cfi_startproc
+	endbr64
 	pushq	%rbp
 	.cfi_def_cfa_offset 16
 	pushq	%r15
@@ -22596,6 +22612,7 @@ pkcs1_c_pss_params_decode:
 	.type	pkcs1_c_pss_params_decode_strict,@function
 pkcs1_c_pss_params_decode_strict:
 	.cfi_startproc
+	endbr64
 	pushq	%rbp
 	.cfi_def_cfa_offset 16
 	pushq	%r15
@@ -22789,7 +22806,7 @@ pkcs1_c_pss_params_decode_strict:
 	leaq	.LJTI54_0(%rip), %rcx
 	movslq	(%rcx,%rax,4), %rax
 	addq	%rcx, %rax
-	jmpq	*%rax
+	notrack	jmpq	*%rax
 .LBB54_30:
 	movzbl	50(%rsp), %eax
 	jmp	.LBB54_31
@@ -23011,6 +23028,7 @@ pkcs1_c_pss_params_decode_strict:
 	.type	pkcs1_c_oaep_is,@function
 pkcs1_c_oaep_is:
 	.cfi_startproc
+	endbr64
 	pushq	%rax
 	.cfi_def_cfa_offset 16
 	movq	%rdx, %rcx
@@ -23034,6 +23052,7 @@ pkcs1_c_oaep_is:
 	.type	pkcs1_c_pss_is,@function
 pkcs1_c_pss_is:
 	.cfi_startproc
+	endbr64
 	pushq	%rax
 	.cfi_def_cfa_offset 16
 	movq	%rdx, %rcx
@@ -23057,6 +23076,7 @@ pkcs1_c_pss_is:
 	.type	pkcs1_c_private_key_encode,@function
 pkcs1_c_private_key_encode:
 	.cfi_startproc
+	endbr64
 	pushq	%rbp
 	.cfi_def_cfa_offset 16
 	pushq	%r15
@@ -26062,6 +26082,7 @@ pkcs1_c_private_key_encode:
 	.type	pkcs1_c_private_key_info_encode,@function
 pkcs1_c_private_key_info_encode:
 	.cfi_startproc
+	endbr64
 	pushq	%rbp
 	.cfi_def_cfa_offset 16
 	pushq	%r15
@@ -27247,6 +27268,7 @@ pkcs1_c_private_key_info_encode:
 	.type	pkcs1_c_public_key_encode,@function
 pkcs1_c_public_key_encode:
 	.cfi_startproc
+	endbr64
 	pushq	%rbp
 	.cfi_def_cfa_offset 16
 	pushq	%r15
@@ -27931,6 +27953,7 @@ pkcs1_c_public_key_encode:
 	.type	pkcs1_c_oaep_algorithm_encode,@function
 pkcs1_c_oaep_algorithm_encode:
 	.cfi_startproc
+	endbr64
 	pushq	%rbp
 	.cfi_def_cfa_offset 16
 	pushq	%r15
@@ -27977,7 +28000,7 @@ pkcs1_c_oaep_algorithm_encode:
 	leaq	.LJTI60_0(%rip), %rcx
 	movslq	(%rcx,%rax,4), %rax
 	addq	%rcx, %rax
-	jmpq	*%rax
+	notrack	jmpq	*%rax
 .LBB60_2:
 	movzbl	242(%rsp), %eax
 	jmp	.LBB60_49
@@ -28588,6 +28611,7 @@ pkcs1_c_oaep_algorithm_encode:
 	.type	pkcs1_c_pss_algorithm_encode,@function
 pkcs1_c_pss_algorithm_encode:
 	.cfi_startproc
+	endbr64
 	pushq	%rbp
 	.cfi_def_cfa_offset 16
 	pushq	%r15
@@ -28632,7 +28656,7 @@ pkcs1_c_pss_algorithm_encode:
 	leaq	.LJTI61_0(%rip), %rcx
 	movslq	(%rcx,%rax,4), %rax
 	addq	%rcx, %rax
-	jmpq	*%rax
+	notrack	jmpq	*%rax
 .LBB61_2:
 	movzbl	66(%rsp), %eax
 	jmp	.LBB61_31
@@ -29223,6 +29247,7 @@ pkcs1_c_pss_algorithm_encode:
 	.type	pkcs1_c_oaep_params_encode,@function
 pkcs1_c_oaep_params_encode:
 	.cfi_startproc
+	endbr64
 	pushq	%rbp
 	.cfi_def_cfa_offset 16
 	pushq	%r15
@@ -29270,7 +29295,7 @@ pkcs1_c_oaep_params_encode:
 	leaq	.LJTI62_0(%rip), %rcx
 	movslq	(%rcx,%rax,4), %rax
 	addq	%rcx, %rax
-	jmpq	*%rax
+	notrack	jmpq	*%rax
 .LBB62_2:
 	movzbl	242(%rsp), %eax
 	jmp	.LBB62_148
@@ -30125,6 +30150,7 @@ pkcs1_c_oaep_params_encode:
 	.type	pkcs1_c_pss_params_encode,@function
 pkcs1_c_pss_params_encode:
 	.cfi_startproc
+	endbr64
 	pushq	%rbp
 	.cfi_def_cfa_offset 16
 	pushq	%r15
@@ -30169,7 +30195,7 @@ pkcs1_c_pss_params_encode:
 	leaq	.LJTI63_0(%rip), %rcx
 	movslq	(%rcx,%rax,4), %rax
 	addq	%rcx, %rax
-	jmpq	*%rax
+	notrack	jmpq	*%rax
 .LBB63_2:
 	movzbl	194(%rsp), %eax
 	jmp	.LBB63_146
@@ -31071,3 +31097,13 @@ pkcs1_c_pss_params_encode:
 
 	.ident	"rattle logic=dac8208d650f15bf3e2dc313a14fa4c783a3acf887bdfab66e1714b038d9e11b"
 	.section	".note.GNU-stack","",@progbits
+	.section	".note.gnu.property","a",@note
+	.p2align	3
+	.long	4
+	.long	16
+	.long	5
+	.asciz	"GNU"
+	.long	3221225474
+	.long	4
+	.long	3
+	.long	0

@@ -351,7 +351,7 @@
 	leaq	.LJTI2_0(%rip), %rdx
 	movslq	(%rdx,%rcx,4), %rcx
 	addq	%rdx, %rcx
-	jmpq	*%rcx
+	notrack	jmpq	*%rcx
 .LBB2_3:
 	movb	$1, %al
 	jmp	.LBB2_40
@@ -1137,7 +1137,7 @@
 	leaq	.LJTI7_0(%rip), %rcx
 	movslq	(%rcx,%rax,4), %rax
 	addq	%rcx, %rax
-	jmpq	*%rax
+	notrack	jmpq	*%rax
 .LBB7_1:
 	pxor	%xmm0, %xmm0
 	movdqa	%xmm0, 880(%rsp)
@@ -11004,7 +11004,7 @@
 	leaq	.LJTI16_0(%rip), %rcx
 	movslq	(%rcx,%rax,4), %rax
 	addq	%rcx, %rax
-	jmpq	*%rax
+	notrack	jmpq	*%rax
 .LBB16_3:
 	cmpq	$47, %rdx
 	jne	.LBB16_22
@@ -25278,7 +25278,7 @@
 	leaq	.LJTI47_1(%rip), %rcx
 	movslq	(%rcx,%rax,4), %rax
 	addq	%rcx, %rax
-	jmpq	*%rax
+	notrack	jmpq	*%rax
 .LBB47_46:
 	leaq	4760(%rsp), %rdi
 	movl	$524545, %esi
@@ -25290,7 +25290,7 @@
 	leaq	.LJTI47_0(%rip), %rcx
 	movslq	(%rcx,%rax,4), %rax
 	addq	%rcx, %rax
-	jmpq	*%rax
+	notrack	jmpq	*%rax
 .LBB47_49:
 	leaq	4760(%rsp), %rdi
 	movl	$524546, %esi
@@ -26137,7 +26137,7 @@
 	leaq	.LJTI51_0(%rip), %rcx
 	movslq	(%rcx,%rax,4), %rax
 	addq	%rcx, %rax
-	jmpq	*%rax
+	notrack	jmpq	*%rax
 .LBB51_1:
 	movzbl	1(%rdi), %ebp
 	movzbl	2(%rdi), %r13d
@@ -26885,7 +26885,7 @@
 	leaq	.LJTI51_1(%rip), %rcx
 	movslq	(%rcx,%rax,4), %rax
 	addq	%rcx, %rax
-	jmpq	*%rax
+	notrack	jmpq	*%rax
 .LBB51_143:
 	leaq	.Lstatic.83(%rip), %r15
 	jmp	.LBB51_442
@@ -31044,6 +31044,7 @@
 	.type	pkcs1_tool_main,@function
 pkcs1_tool_main:
 	.cfi_startproc
+	endbr64
 	pushq	%rbp
 	.cfi_def_cfa_offset 16
 	pushq	%r15
@@ -31744,7 +31745,7 @@ pkcs1_tool_main:
 	leaq	.LJTI59_0(%rip), %rcx
 	movslq	(%rcx,%rax,4), %rax
 	addq	%rcx, %rax
-	jmpq	*%rax
+	notrack	jmpq	*%rax
 .LBB59_102:
 	movzbl	(%r14), %esi
 	movzbl	1(%r14), %edx
@@ -34263,3 +34264,13 @@ pkcs1_tool_main:
 
 	.ident	"rattle logic=dac8208d650f15bf3e2dc313a14fa4c783a3acf887bdfab66e1714b038d9e11b"
 	.section	".note.GNU-stack","",@progbits
+	.section	".note.gnu.property","a",@note
+	.p2align	3
+	.long	4
+	.long	16
+	.long	5
+	.asciz	"GNU"
+	.long	3221225474
+	.long	4
+	.long	3
+	.long	0
