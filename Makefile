@@ -58,9 +58,9 @@ assemble = $(CC) $(CFLAGS) -g0 -Wno-unused-command-line-argument -c $< -o $@
 
 all: fresh $(OUT)/libpkcs1.a $(tool)
 
-# Says in one line if the proved code has other sources than the generated files were made of; no release has it.
+# Says in one line if the proved code has other sources than the generated files were made of.
 fresh:
-	@[ ! -x tools/fresh.sh ] || tools/fresh.sh || true
+	@tools/fresh.sh || true
 
 # All is made again if it would be made in another way.
 export settings := $(CC) $(CFLAGS) $(library) $(LDFLAGS) $(AR) $(OBJCOPY) $(code)

@@ -2,9 +2,10 @@
 # Fails where a document names in backquotes a file, call, type, clause or definition that isn't there, or links to what
 # isn't. A word is there if it stands in code, not in a comment or in proofs/. In tables, `src/` and `specs/` head files
 # of the crate in the heading, with their "definitions". check_promises.sh has clauses.
+#     check_names.sh [FOLDER DOCUMENT..]    of these documents, in the tree in FOLDER, in place of all documents here
 set -eu
-cd "$(dirname "$0")/.."
-exec python3 - <<'END'
+cd "${1:-$(dirname "$0")/..}"
+exec python3 - "${@:2}" <<'END'
 import fnmatch, glob, os, re, sys
 
 ALLOWED = set('rt selftest umask start_lib bazel holes lemma meson'.split())
@@ -53,7 +54,7 @@ def check_files(head, cells):
 def headings(path):
     return {re.sub(r'[^\w -]', '', line.strip('# \n').lower()).replace(' ', '-') for line in open(path) if line[0] == '#'}
 
-documents = ['README.md', 'CONTRIBUTING.md', 'SECURITY.md', *glob.glob('docs/*.md'), *glob.glob('crates/*/README.md'), 'ffi/rust/README.md', *glob.glob('tools/*/README.md')]
+documents = sys.argv[1:] or ['README.md', 'CONTRIBUTING.md', 'SECURITY.md', *glob.glob('docs/*.md'), *glob.glob('crates/*/README.md'), 'ffi/rust/README.md', *glob.glob('tools/*/README.md')]
 for document in documents:
     crate, head, fenced = '', [], ''
     for number, line in enumerate(open(document), 1):

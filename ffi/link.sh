@@ -1,12 +1,13 @@
 #!/bin/sh
 # link.sh OUT: links OUT/proved.o, the proved calls, and OUT/calls.o, those of pkcs1.h over them, into libpkcs1.a and
-# libpkcs1.so.VERSION, in which only what the headers declare is global. No other definition of a proved call takes its
-# place there. The Makefile and build.sh call it. CC, CFLAGS, LDFLAGS, AR, OBJCOPY and NM are as in the Makefile.
+# libpkcs1.so.VERSION, in which only what the headers declare is global, with the version PKCS1_MAJOR. No other definition
+# of a proved call takes its place there. The Makefile and build.sh call it. CC, CFLAGS, LDFLAGS, AR, OBJCOPY and NM are as in the Makefile.
 set -eu
 out=$1
 headers=$(dirname "$0")/include
 version=$(sed -n 's/^#define PKCS1_VERSION_[A-Z]* //p' "$headers/pkcs1.h" | paste -s -d .)
 soname=libpkcs1.so.${version%%.*}
+symbols=PKCS1_${version%%.*}
 export LC_ALL=C
 
 {
@@ -14,10 +15,11 @@ export LC_ALL=C
     grep -h '^extern const' "$headers/pkcs1.h" "$headers/pkcs1_c.h" | grep -o 'pkcs1_oid_[a-z0-9_]*'
 } | sort -u > "$out/declared"
 $CC ${CFLAGS-} -fno-lto -fno-sanitize=all -r -nostdlib -o "$out/pkcs1.o" "$out/proved.o" "$out/calls.o"
-${OBJCOPY:-objcopy} --keep-global-symbols="$out/declared" "$out/pkcs1.o"
+# On i386 each object has the same functions that tell where it is, of which a program keeps one.
+${OBJCOPY:-objcopy} -w --keep-global-symbols="$out/declared" --keep-global-symbol='__x86.get_pc_thunk.*' "$out/pkcs1.o"
 rm -f "$out"/libpkcs1.*
 # Else a C library's own start files, as those of musl, may add names.
-printf '{ global: %s local: *; };\n' "$(sed 's/$/;/' "$out/declared")" > "$out/exports.map"
+printf '%s { global: %s local: *; };\n' "$symbols" "$(sed 's/$/;/' "$out/declared")" > "$out/exports.map"
 # A sanitizer's calls are in the program that is linked with it.
 hardened=-Wl,-Bsymbolic,-z,relro,-z,now
 case "$CC ${CFLAGS-}" in *-fsanitize=*) ;; *) hardened=$hardened,-z,defs ;; esac
@@ -30,10 +32,10 @@ ${AR:-ar} rcs "$out/libpkcs1.a" "$out/pkcs1.o"
 
 # exports WORD..: what nm, called with these words, prints of the symbols that are defined.
 exports() {
-    ${NM:-nm} --defined-only "$@" | sed -n 's/^[0-9a-f]* [A-Z] //p' | sort
+    ${NM:-nm} --defined-only "$@" | sed -n 's/^[0-9a-f]* [A-Z] //p' | grep -v '^__x86\.get_pc_thunk\.' | sort
 }
 exports -g "$out/libpkcs1.a" > "$out/exports.a"
-exports -D "$out/libpkcs1.so" > "$out/exports.so"
+exports -D "$out/libpkcs1.so" | sed -n "s/@@$symbols\$//p" > "$out/exports.so"
 for of in a so; do
     diff "$out/declared" "$out/exports.$of" || {
         echo "ffi/link.sh: what the headers declare (<) and what libpkcs1.$of exports (>) differ" >&2

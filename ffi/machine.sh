@@ -11,22 +11,20 @@ say() {
 command -v "${1-}" > /dev/null 2>&1 ||
     say "there is no compiler ${1-}: install gcc or clang, or name yours, as in make CC=clang"
 machine=$("$@" -E -P -x c - 2> /dev/null << 'END' | tail -n 1
-#if !defined __BYTE_ORDER__ || __BYTE_ORDER__ != __ORDER_LITTLE_ENDIAN__
-big_endian
-#elif __SIZEOF_POINTER__ != 8 || __SIZEOF_SIZE_T__ != 8
-narrow
-#elif defined __x86_64__ && defined __linux__
+#ifdef __BYTE_ORDER__
+#if __BYTE_ORDER__ != __ORDER_LITTLE_ENDIAN__ || __SIZEOF_POINTER__ != 8 || !defined __linux__
+other
+#elif defined __x86_64__
 x86_64
-#elif defined __aarch64__ && defined __linux__
+#elif defined __aarch64__
 aarch64
 #else
 other
 #endif
+#endif
 END
 )
 case $machine in
-    big_endian) say "$compiler builds for a big-endian machine: the proved code is for little-endian ones only" ;;
-    narrow) say "$compiler builds for a machine without 64-bit addresses: the proved code is for 64-bit ones only" ;;
     x86_64 | aarch64 | other) ;;
     *) say "$compiler doesn't compile C: name gcc or clang, as in make CC=clang, and look at CFLAGS" ;;
 esac

@@ -9,7 +9,9 @@
 #     tools/clean_room.sh --needs     whether all is there that the first needs
 set -eu
 here=$(cd "$(dirname "$0")" && pwd)
-others='aarch64 riscv64'
+# Machines as qemu names them, each with the name that its compiler begins with.
+others='aarch64:aarch64-linux-gnu riscv64:riscv64-linux-gnu i386:i686-linux-gnu arm:arm-linux-gnueabihf
+    s390x:s390x-linux-gnu mips:mips-linux-gnu'
 
 stop() {
     printf 'tools/clean_room.sh: %s\n' "$*" >&2
@@ -121,6 +123,7 @@ shared_library() {
     sed -i 's/^\(#define PKCS1_VERSION_MAJOR\) .*/\1 7/' "$room/other/ffi/include/pkcs1.h"
     make -C "$room/other" install PREFIX="$prefix"
     readelf -d "$prefix/lib/libpkcs1.so" | grep -q 'SONAME.*\.so\.7\]' || stop "the soname has another number"
+    nm -D "$prefix/lib/libpkcs1.so" | grep -q ' pkcs1_version@@PKCS1_7$' || stop "calls have another version"
     [ "$(readlink "$prefix/lib/libpkcs1.so")" = libpkcs1.so.7 ] || stop "the library is installed by another number"
     make -C "$room/other" uninstall PREFIX="$prefix"
     [ -z "$(find "$prefix" ! -type d)" ] || stop "uninstall leaves a library of another number"
@@ -145,11 +148,13 @@ plain_program() {
 crate_tests() {
     (cd ffi/rust && cargo test --offline --quiet)
 }
-# Made in another folder, of sources that can't be written.
+# Made in another folder, of sources that can't be written, as for a machine that isn't like x86-64.
 read_only() {
-    unshare --mount sh -euc 'mount --bind -o ro . .; cd "$PWD"; make check OUT="$1" CODE=c' sh "$room/c"
+    unshare --mount sh -euc 'mount --bind -o ro . .; cd "$PWD"; make check OUT="$1" CODE=c CFLAGS="$2"' sh "$room/c" \
+        '-O2 -DPKCS1_FOREIGN'
 }
 release() {
+    local it
     tools/release.sh "$room/release"
     git clone --quiet . "$room/again"
     (umask 077 && cd "$room/again" && tools/release.sh "$room/release_again")
@@ -157,13 +162,35 @@ release() {
     echo > "$room/again/new"
     ! "$room/again/tools/release.sh" "$room/refused" || stop "a release is made of what isn't committed"
     [ ! -e "$room/refused" ] || stop "a release is refused, and made in part"
+    (cd "$room/release" && sha256sum --quiet -c -- *.sha256)
     tar xzf "$room"/release/*.tar.gz -C "$room"
     mv "$room"/pkcs1-proved-* "$room/unpacked"
-    (cd "$room/unpacked" && sha256sum --quiet -c SHA256SUMS)
+    (cd "$room/unpacked" && sha256sum --quiet -c SHA256SUMS && tools/fresh.sh)
+    for it in crates/*/{src,specs,proofs}; do
+        [ ! -d "$it" ] || diff -r "$it" "$room/unpacked/$it"
+    done
+    docs/check_names.sh "$room/unpacked" README.md
+    grep -qx "commit: $(git rev-parse HEAD)" "$room/unpacked/ffi/rust/generated/PROVENANCE" || stop "no commit is named"
+    parts "$room/unpacked"
 }
-# for_machine MACHINE: by the compiler for it, under qemu.
+# parts FOLDER: the list of a release's parts has each crate whose functions PROVENANCE counts, and the hashes of the
+# compilers.
+parts() {
+    python3 - "$1/SBOM.spdx.json" "$1/ffi/rust/generated/PROVENANCE" << 'END'
+import json, re, sys
+list_, said = json.load(open(sys.argv[1])), open(sys.argv[2]).read()
+parts = {it["name"]: it for it in list_["packages"]}
+counted = re.findall(r"(\w+) \d+", " ".join(re.findall(r"^    (?:library|tool): (.*)", said, re.M)))
+assert len(counted) > 20 and parts.keys() >= {*counted, "pkcs1-proved", "clang", "rattle"}, parts.keys()
+hashes = {it["checksums"][0]["checksumValue"] for it in parts.values() if "checksums" in it}
+assert len(hashes) == 2 and hashes == set(re.findall(r"sha256 ([0-9a-f]{64})", said)), hashes
+ends = {it[end] for it in list_["relationships"] for end in ("spdxElementId", "relatedSpdxElement")}
+assert ends == {"SPDXRef-DOCUMENT", *(it["SPDXID"] for it in parts.values())}, ends
+END
+}
+# for_machine MACHINE:COMPILER: by the compiler for it, under qemu.
 for_machine() {
-    make check OUT="out/$1" CC="$1-linux-gnu-gcc" RUN="qemu-$1"
+    make check OUT="out/${1%:*}" CC="${1#*:}-gcc" RUN="qemu-${1%:*}"
 }
 
 # In the room: $1 is its folder, which holds the tree, and $2 says whether to do all.
@@ -186,7 +213,7 @@ inside() {
     use release
     step "release: the crate's tests" crate_tests
     for it in $others; do
-        step "release: make check for $it" for_machine "$it"
+        step "release: make check for ${it%:*}" for_machine "$it"
     done
 }
 # enter FOLDER WORD: goes on in a room of this folder. What is mounted there is seen there only.
@@ -213,9 +240,9 @@ needs unshare make cc ar objcopy readelf pkg-config cargo
 case $#:${1-} in
     0: | 1:--needs)
         for machine in $others; do
-            needs "$machine-linux-gnu-gcc" "qemu-$machine"
+            needs "${machine#*:}-gcc" "qemu-${machine%:*}"
         done
-        needs git clang
+        needs git clang python3
         echo 'int main(void) { return 0; }' > "$room/empty.c"
         clang -fsanitize=address,undefined "$room/empty.c" -o "$room/empty" 2> /dev/null ||
             stop "clang's sanitizers (libclang-rt-14-dev) aren't installed, and are needed"

@@ -109,13 +109,14 @@ build() {
     done
 }
 
-# The library's module as C, after LLVM's passes on IR, but for those that compute several values at once.
+# The library's module as C, after LLVM's passes on IR, but for those that compute several values at once, and those that
+# make tables of addresses, which not each machine can hold.
 translate() {
     local clang=$kit/toolchain/bin/clang
     (cd "$room/pkcs1_c.x86_64/kept/0" && "$clang" --target=x86_64-unknown-linux-gnu -fno-pic -O3 -fno-vectorize \
-        -fno-slp-vectorize -x ir -S -emit-llvm module.bc -o "$room/portable.ll") ||
+        -fno-slp-vectorize -mllvm -switch-to-lookup=false -x ir -S -emit-llvm module.bc -o "$room/portable.ll") ||
         stop 2 "this fits another kit: no module"
-    python3 $parts/ir2c "$room/portable.ll" "$room/generated/pkcs1_c.c" || exit 2
+    python3 $parts/ir2c "$room/portable.ll" $parts/border.c "$room/generated/pkcs1_c.c" || exit 2
     say "C"
 }
 
@@ -132,7 +133,7 @@ make_in() {
     wait $!
     translate
     version=$("$kit/toolchain/bin/clang" --version | sed -n 's/^clang version //p')
-    $parts/provenance.py "$kit_version" "$($parts/sources.py hash)" "$version" \
+    $parts/provenance.py "$kit_version" "$kit" "$($parts/sources.py hash)" "$version" \
         "$room/pkcs1_c.x86_64/kept/0/tables.ll" "$room/pkcs1_tool.x86_64/kept/0/tables.ll" \
         > "$room/generated/PROVENANCE"
     library_files | cmp -s - "$room/libraries" || stop 1 "libraries were proved again meanwhile: let rt ci end first"

@@ -1,28 +1,43 @@
 #!/usr/bin/env bash
 # release.sh OUT: packs pkcs1-proved-VERSION.tar.gz into this folder, from what is committed: what `make` and cargo
-# need, with the documents for users. Two checkouts of a commit give the same bytes. A tree with changes that aren't
-# committed is refused, and one whose generated files are made of other sources. A release must not be published before
-# the licence of the kit's library is settled: docs/DECISIONS.md.
+# need, the sources of the proofs, the documents for users, and a list of its parts (sbom.py). Its hash stands beside it.
+# Two checkouts of a commit give the same bytes. A tree with changes that aren't committed is refused, and one whose
+# generated files are made of other sources. A release must not be published before the licence of the kit's library is
+# settled: docs/DECISIONS.md.
 set -eu
 contents=(
     Makefile README.md CHANGELOG.md SECURITY.md LICENSE-APACHE LICENSE-MIT
-    docs/{USING,PROMISES,DIFFERENCES,DECISIONS}.md
-    ffi/{machine,link,install,check,check_object,check_passed,check_freestanding}.sh ffi/libpkcs1.pc.in ffi/include ffi/rust
+    docs/{USING,PROMISES,DIFFERENCES,DECISIONS,RELEASE}.md
+    ffi/{machine,link,install,check,check_object,check_passed,check_freestanding}.sh ffi/libpkcs1.pc.in
+    ffi/include ffi/rust
     ffi/c/{pkcs1,os,heap,test,rows,passed,freestanding,modulus,read_key,public_half}.c ffi/c/test.h
     docs/CLAIM.md ffi/c/bits.c ffi/python
     ffi/c/{open_container,make_container,make_params,signature_algorithm}.c
     crates/pkcs1_tool/{run_built.sh,refuse_memory.sh,refuse_memory.c,rows,stdin,stdout,pkcs1_tool.1}
+    crates.txt ffi/prove.sh ffi/proof tools/{fresh.sh,generate.sh,generate,count_definitions.py}
 )
 
 stop() {
     printf 'tools/release.sh: %s\n' "$*" >&2
     exit 2
 }
+# readme: makes README that of the release: without what is for a clone, and lines of tables that lead to what isn't
+# packed, and with RELEASE.
+readme() {
+    perl -0pi -e '
+        s/<!-- clone -->.*?<!-- end -->\n?//sg;
+        s/<!-- release -->\n/`cat docs\/RELEASE.md`/e;
+        s{\]\(\.\./}{](}g;
+        s{^\|.*\]\((?!https?:)([^)#]+).*\n}{-e $1 ? $& : ""}gme' README.md
+    rm docs/RELEASE.md
+}
 [ $# = 1 ] && [ -n "$1" ] || stop "usage: tools/release.sh OUT"
 out=$(realpath -m "$1")
 cd "$(dirname "$0")/.."
 [ -z "$(git status --porcelain)" ] || stop "there are changes that aren't committed: git status tells which"
+command -v python3 > /dev/null || stop "python3 isn't installed, and is needed"
 tools/fresh.sh || exit 2
+commit=$(git rev-parse HEAD)
 date=$(git log -1 --format=%ct)
 version=$(sed -n 's/^#define PKCS1_VERSION_[A-Z]* //p' ffi/include/pkcs1.h | paste -s -d .)
 name=pkcs1-proved-$version
@@ -30,8 +45,11 @@ room=$(mktemp -d)
 trap 'rm -rf "$room"' EXIT
 export LC_ALL=C
 
-git archive --prefix="$name/" HEAD "${contents[@]}" | tar x -C "$room"
+git archive --prefix="$name/" HEAD "${contents[@]}" crates/*/{src,specs,proofs} | tar x -C "$room"
+tools/sbom.py "$version" "$commit" "$date" > "$room/$name/SBOM.spdx.json"
 cd "$room/$name"
+sed -i "s/^sources: .*/&\ncommit: $commit/" ffi/rust/generated/PROVENANCE
+readme
 # A link to what isn't packed is its text alone.
 for document in *.md docs/*.md ffi/rust/README.md; do
     FOLDER=$(dirname "$document") perl -pi -e \
@@ -41,7 +59,8 @@ find . -type f ! -name SHA256SUMS | sed 's,^\./,,' | sort | tr '\n' '\0' | xargs
 cd "$room"
 tar c --format=ustar --sort=name --owner=0 --group=0 --numeric-owner --mode=u=rwX,go=rX --mtime="@$date" "$name" |
     gzip -9n > packed
-[ "$(stat -c %s packed)" -lt 1000000 ] || stop "a release has less than 1000000 bytes, and this $(stat -c %s packed)"
+[ "$(stat -c %s packed)" -lt 2000000 ] || stop "a release has less than 2000000 bytes, and this $(stat -c %s packed)"
 mkdir -p "$out"
 mv packed "$out/$name.tar.gz"
+(cd "$out" && sha256sum "$name.tar.gz" > "$name.tar.gz.sha256")
 echo "$out/$name.tar.gz"

@@ -25,7 +25,7 @@
 static volatile uint8_t sum;
 
 static void bytes(struct pkcs1_bytes b) {
-    VALID(b.data != NULL && b.len < (size_t)1 << 40);
+    VALID(b.data != NULL && b.len < (uint64_t)1 << 40);
     for (size_t i = 0; i < b.len; i++)
         sum ^= b.data[i];
 }

@@ -94,7 +94,7 @@ static void one_other_prime(void) {
     CHECK(memcmp(&others[1], &marks[1], sizeof marks[1]) == 0);
     CHECK(pkcs1_private_key_encode(&key, NULL, 0, out, sizeof out, &len) == PKCS1_OTHER_PRIMES && len == 77);
     CHECK(pkcs1_private_key_encode(&key, others, 2, out, sizeof out, &len) == PKCS1_OTHER_PRIMES && len == 77);
-    CHECK(pkcs1_private_key_encode(&key, others, (size_t)1 << 60, out, sizeof out, &len) == PKCS1_OTHER_PRIMES && len == 77);
+    CHECK(pkcs1_private_key_encode(&key, others, SIZE_MAX / 16, out, sizeof out, &len) == PKCS1_OTHER_PRIMES && len == 77);
     CHECK(pkcs1_private_key_encode(&key, others, 1, out, 3, &len) == PKCS1_NO_ROOM && len == sizeof three);
     CHECK(pkcs1_private_key_encode(&key, others, 1, out, sizeof out, &len) == PKCS1_OK && len == sizeof three);
     CHECK(memcmp(out, three, len) == 0);
@@ -183,7 +183,15 @@ static void other_primes(void) {
     }
 }
 
-/* Each number of other primes up to 260, written and read again; not written, for lack of room or of a number. */
+/* Where structs are copied for the proved calls, no more primes are. */
+#if defined PKCS1_FOREIGN || SIZE_MAX != UINT64_MAX || __BYTE_ORDER__ != __ORDER_LITTLE_ENDIAN__
+enum { MOST_PRIMES = 64 };
+#else
+enum { MOST_PRIMES = 260 };
+#endif
+
+/* Each number of other primes that is written, up to 260, written and read again; not written, for lack of room or of
+ * a number. */
 static void many_other_primes(void) {
     uint8_t octets[260], out[4000];
     struct pkcs1_other_prime others[260], read[260];
@@ -196,6 +204,12 @@ static void many_other_primes(void) {
         others[count - 1].coefficient = others[count - 1].prime;
         CHECK(pkcs1_private_key_decode(two, sizeof two, &key, NULL, 0) == PKCS1_OK);
         key.other_primes = count;
+        if (count > MOST_PRIMES) {
+            CHECK(pkcs1_private_key_encode(&key, others, count, out, sizeof out, &len) == PKCS1_OUT_OF_MEMORY && len == 0);
+            key.other_primes--;
+            CHECK(pkcs1_c_private_key_encode(&key, others, count, out, sizeof out, &len) == PKCS1_OTHER_PRIMES);
+            return;
+        }
         CHECK(pkcs1_private_key_encode(&key, others, count, NULL, 0, &len) == PKCS1_NO_ROOM);
         others[count - 1].coefficient = (struct pkcs1_bytes){NULL, 0};
         CHECK(pkcs1_private_key_encode(&key, others, count, out, sizeof out, &len) == PKCS1_LENGTH);

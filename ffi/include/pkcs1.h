@@ -51,7 +51,8 @@
  * Any other status: nothing was written, and `*len` is unchanged. The value has no encoding of at most 4294967295
  *   octets. The status is that of the first field, in their order, that can't be held, such as a number without octets.
  *   If each can, the encoding is too long, and it is PKCS1_OVERFLOW.
- * pkcs1_private_key_encode: if there aren't as many other primes as the key says, it is PKCS1_OTHER_PRIMES.
+ * pkcs1_private_key_encode: if there aren't as many other primes as the key says, it is PKCS1_OTHER_PRIMES. On a 32-bit
+ *   or big-endian machine over 64 of them aren't written, and it is PKCS1_OUT_OF_MEMORY.
  * pkcs1_private_key_info_encode: the key that it is given is read first. If that fails, the status is that of decoding.
  * Errors: after any of them `out` is unchanged.
  * Numbers: leading zeros are accepted. There must be at least one octet.
@@ -125,7 +126,7 @@ enum pkcs1_status {
                                       allowed: a public key read as a private one, perhaps */
     PKCS1_NO_ROOM = 15,            /* `out` is too short: `*len` is the length that is needed */
     PKCS1_FILE = 16,               /* not returned by these calls */
-    PKCS1_OUT_OF_MEMORY = 17,      /* not returned by these calls */
+    PKCS1_OUT_OF_MEMORY = 17,      /* writing: over 64 other primes, on a 32-bit or big-endian machine */
     PKCS1_OTHER_PRIMES = 21        /* writing: key->other_primes isn't others_len */
 };
 

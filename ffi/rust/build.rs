@@ -64,29 +64,40 @@ fn run(program: &[String], words: &[&str]) -> String {
     }
 }
 
+/// What cargo tells of the target.
+fn target(name: &str) -> String {
+    told(&format!("CARGO_CFG_TARGET_{name}"))
+}
+
 /// The file in `generated` for the target.
 fn code() -> &'static str {
-    let of = |name| told(&format!("CARGO_CFG_TARGET_{name}"));
-    if of("POINTER_WIDTH") != "64" || of("ENDIAN") != "little" || of("ENV") == "msvc" {
-        stop(&format!("{} isn't supported: the target must be 64-bit, little-endian and not MSVC's", told("TARGET")));
+    if target("ENV") == "msvc" {
+        stop(&format!("{} isn't supported: its C compiler is neither gcc nor clang", told("TARGET")));
     }
-    match (of("ARCH").as_str(), of("OS").as_str()) {
-        ("x86_64", "linux") => "generated/x86_64/pkcs1_c.s",
-        ("aarch64", "linux") => "generated/aarch64/pkcs1_c.s",
+    match ["ARCH", "OS", "POINTER_WIDTH", "ENDIAN"].map(target).each_ref().map(String::as_str) {
+        ["x86_64", "linux", "64", "little"] => "generated/x86_64/pkcs1_c.s",
+        ["aarch64", "linux", "64", "little"] => "generated/aarch64/pkcs1_c.s",
         _ => "generated/pkcs1_c.c",
     }
 }
 
-/// The compiler that is called where CC names none.
+/// The compiler that is called where CC names none: by the name that Debian gives it.
 fn default_compiler() -> String {
-    let target = told("TARGET");
-    if target == told("HOST") {
+    let name = told("TARGET");
+    if name == told("HOST") {
         return "cc".to_string();
     }
-    if told("CARGO_CFG_TARGET_OS") != "linux" {
-        stop(&format!("name the C compiler for {target} by CC_{}", target.replace('-', "_")));
+    if target("OS") != "linux" {
+        stop(&format!("name the C compiler for {name} by CC_{}", name.replace('-', "_")));
     }
-    told("CARGO_CFG_TARGET_ARCH") + "-linux-gnu-gcc"
+    let arch = target("ARCH");
+    let machine = match arch.as_str() {
+        "x86" => "i686",
+        "arm" | "riscv64" => &arch,
+        _ => name.split('-').next().unwrap_or_default(),
+    };
+    let abi = Some(target("ABI")).filter(|abi| !abi.starts_with("elf")).unwrap_or_default();
+    format!("{machine}-linux-gnu{abi}-gcc")
 }
 
 /// Builds the library in cargo's folder, which is returned.

@@ -1,14 +1,17 @@
 #!/usr/bin/env python3
-"""Writes what PROVENANCE says: provenance.py KIT HASH CLANG X86_64.ll TOOL.ll, whose functions it counts by crate."""
+"""Writes what PROVENANCE says: provenance.py NAME KIT HASH CLANG X86_64.ll TOOL.ll. NAME is that of the kit in the folder
+KIT, HASH that of the sources, and CLANG a version. It counts the functions of the last two by crate."""
 import collections
+import hashlib
 import re
 import sys
 
 TEXT = """\
 Made by tools/generate.sh, as are the files beside it. None is changed by hand.
 
-kit: {kit}
-clang: {clang}
+kit: {name}
+rattle: sha256 {rattle}
+clang: {clang}, sha256 {compiler}
 sources: {hash}
 
 The kit's clang gets each module from rattle, which proved the crate. It makes
@@ -43,10 +46,17 @@ def counts(path):
     return ", ".join(f"{name} {count}" for name, count in sorted(made.items(), key=lambda it: (-it[1], it[0])))
 
 
+def sha256(path):
+    """The hash of a file."""
+    with open(path, "rb") as it:
+        return hashlib.sha256(it.read()).hexdigest()
+
+
 def main():
-    kit, made_of, clang, library, tool = sys.argv[1:]
+    name, kit, made_of, clang, library, tool = sys.argv[1:]
     listed = f"    library: {counts(library)}\n    tool: {counts(tool)}"
-    print(TEXT.format(kit=kit, hash=made_of, clang=clang, counts=listed), end="")
+    print(TEXT.format(name=name, rattle=sha256(f"{kit}/bin/rattle"), clang=clang, hash=made_of, counts=listed,
+                      compiler=sha256(f"{kit}/toolchain/bin/clang")), end="")
 
 
 main()

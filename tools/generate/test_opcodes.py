@@ -2,10 +2,13 @@
 """Compares what ir2c makes of each instruction with what the kit's clang makes of it: test_opcodes.py CLANG FOLDER.
 
 Each function of a module of LLVM IR takes two numbers, and gives one: for each instruction and width one function.
-Both programs of it print the same for the same numbers, of which some lie at the ends of a width.
+All programs of it print the same for the same numbers, of which some lie at the ends of a width: that of clang, and of
+the C as it is built here, as for another machine, and, where their compilers and qemu are here, for other machines.
 """
 import os
 import random
+import re
+import shutil
 import subprocess
 import sys
 
@@ -151,18 +154,26 @@ def of_width(width):
                "d:", "br label %f", "e:", "br label %f", "f:", f"%z = phi {t} [ %x, %c ], [ 2, %d ], [ %y, %e ]", *end]
 
 
-def built(folder, name, *words):
+def lines_of(program, compiler, run):
     """What a program prints that is built so."""
-    subprocess.run(["gcc", "-O1", "-w", f"{folder}/harness.c", *words, "-o", f"{folder}/{name}"], check=True)
-    return subprocess.run([f"{folder}/{name}"], capture_output=True, check=True).stdout
+    subprocess.run([*compiler, "-O1", "-w", "-static", "-o", program], check=True)
+    return subprocess.run([*run, program], capture_output=True, check=True).stdout.splitlines()
 
 
-def main():
-    clang, folder = sys.argv[1:]
-    functions = [it for width in WIDTHS for it in of_width(width)]
-    functions += [it.strip().splitlines() for it in OTHERS.split("\n\n")]
+def numbers():
+    """Numbers that are passed to the functions."""
+    chance = random.Random(1)
+    made = {0, 1, 2, 3, *(chance.getrandbits(64) for _ in range(6))}
+    for width in WIDTHS[1:9]:
+        made |= {(1 << width) - 1, (1 << (width - 1)), (1 << (width - 1)) - 1}
+    return sorted(made)
+
+
+def translated(clang, functions, place):
+    """Makes a folder with a harness, with the functions as IR, with clang's code of that, and with ours in C."""
     names = [f"pkcs1_c_{number}" for number in range(len(functions))]
-    with open(f"{folder}/opcodes.ll", "w", encoding="utf-8") as it:
+    os.mkdir(place)
+    with open(f"{place}/opcodes.ll", "w", encoding="utf-8") as it:
         print('target triple = "x86_64-unknown-linux-gnu"', DECLARED, file=it)
         for name in ("umin", "umax", "usub.sat"):
             for width in (8, 16, 32, 64, 128):
@@ -172,22 +183,42 @@ def main():
         for name, lines in zip(names, functions):
             print(f"define i64 @{name}(i64 %a, i64 %b) {{\nbegin:", file=it)
             print(*(f"  {line}" if line[-1] != ":" else line for line in lines), "}\n", sep="\n", file=it)
-    chance = random.Random(1)
-    numbers = {0, 1, 2, 3, *(chance.getrandbits(64) for _ in range(6))}
-    for width in WIDTHS[1:9]:
-        numbers |= {(1 << width) - 1, (1 << (width - 1)), (1 << (width - 1)) - 1}
-    with open(f"{folder}/harness.c", "w", encoding="utf-8") as it:
+    with open(f"{place}/harness.c", "w", encoding="utf-8") as it:
         it.write(HARNESS.format(prototypes="\n".join(f"uint64_t {name}(uint64_t, uint64_t);" for name in names),
-                                names=", ".join(names), numbers=", ".join(f"{it}ull" for it in sorted(numbers))))
-    subprocess.run([clang, "-c", "-w", "-x", "ir", f"{folder}/opcodes.ll", "-o", f"{folder}/opcodes.o"], check=True)
+                                names=", ".join(names), numbers=", ".join(f"{it}ull" for it in numbers())))
+    with open(f"{place}/border.c", "w", encoding="utf-8") as it:
+        for number, name in enumerate(names):
+            print(f"u64 {name}(u64 a, u64 b) {{ return NAME({number})(a, b); }}", file=it)
+    subprocess.run([clang, "-c", "-w", "-x", "ir", f"{place}/opcodes.ll", "-o", f"{place}/opcodes.o"], check=True)
     here = os.path.dirname(os.path.realpath(__file__))
-    subprocess.run([sys.executable, f"{here}/ir2c", f"{folder}/opcodes.ll", f"{folder}/opcodes.c"], check=True)
-    wanted, made = built(folder, "wanted", f"{folder}/opcodes.o"), built(folder, "made", f"{folder}/opcodes.c")
-    for left, right in zip(wanted.splitlines(), made.splitlines()):
-        if left != right:
-            number = int(left.split()[0])
-            sys.exit("\n".join(["test_opcodes.py: C gives another number:", *functions[number]]))
-    print(f"opcodes: {len(functions)} functions, {len(wanted.splitlines())} calls")
+    subprocess.run([sys.executable, f"{here}/ir2c", f"{place}/opcodes.ll", f"{place}/border.c", f"{place}/opcodes.c"],
+                   check=True)
+
+
+def compared(functions, place, ways):
+    """Compares what clang's code gives with what the C gives in each of these ways to build and to run it."""
+    wanted = lines_of(f"{place}/wanted", ["gcc", f"{place}/harness.c", f"{place}/opcodes.o"], [])
+    for compiler, run in ways:
+        made = lines_of(f"{place}/made", [*compiler, f"{place}/harness.c", f"{place}/opcodes.c"], run)
+        for left, right in zip(wanted, made, strict=True):
+            if left != right:
+                lines = functions[int(left.split()[0])]
+                sys.exit("\n".join([f"test_opcodes.py: C gives another number by {' '.join(compiler)}:", *lines]))
+    print(f"opcodes: {len(functions)} functions, {len(wanted)} calls, in {len(ways)} ways")
+
+
+def main():
+    clang, folder = sys.argv[1:]
+    functions = [it for width in WIDTHS for it in of_width(width)]
+    functions += [it.strip().splitlines() for it in OTHERS.split("\n\n")]
+    narrow = [it for it in functions if not re.search(r"\bi(77|128)\b", " ".join(it))]
+    others = {it: ([f"{it}-linux-gnu-gcc"], [f"qemu-{it}"]) for it in ("s390x", "mips")}
+    others = {it: way for it, way in others.items() if all(map(shutil.which, way[0] + way[1]))}
+    foreign = (["gcc", "-DPKCS1_FOREIGN"], [])
+    for place, them, ways in ((f"{folder}/wide", functions, [(["gcc"], []), foreign, others.get("s390x")]),
+                              (f"{folder}/narrow", narrow, [foreign, others.get("mips")])):
+        translated(clang, them, place)
+        compared(them, place, [it for it in ways if it])
 
 
 main()

@@ -1,31 +1,62 @@
 /* Made by tools/generate.sh of the proved library: not to be read, nor changed. PROVENANCE says from what. */
 #include <stdint.h>
-
-#if UINTPTR_MAX != 0xffffffffffffffffu || !defined __SIZEOF_INT128__
-#error "pkcs1: this code is for machines with addresses of 64 bits, and compilers that have __int128, as gcc and clang"
-#endif
-#if __BYTE_ORDER__ != __ORDER_LITTLE_ENDIAN__
-#error "pkcs1: this code is for machines that have the least octet of a number first"
-#endif
-
 #include <string.h>
 
+/* The code is that of a module for x86-64: an address has 64 bits, and the least octet of a number stands first. On
+ * another machine an address is held as a number of 64 bits, numbers are read and written in that order, and what
+ * stands last here copies the structs of callers. PKCS1_FOREIGN has it so on any machine. */
+#if !defined __BYTE_ORDER__ || SIZE_MAX != UINTPTR_MAX
+#error "pkcs1: this code is for gcc and clang, and for machines on which an address is as long as a size_t"
+#elif __BYTE_ORDER__ != __ORDER_LITTLE_ENDIAN__ || UINTPTR_MAX != 0xffffffffffffffffu
+#undef PKCS1_FOREIGN
+#define PKCS1_FOREIGN
+#endif
+
 #define ALIGNED(n) __attribute__((aligned(n)))
-typedef unsigned char *P;
 typedef uint8_t u1, u8;
 typedef uint16_t u16;
 typedef uint32_t u32;
 typedef uint64_t u64;
+#ifdef __SIZEOF_INT128__
 __extension__ typedef unsigned __int128 u128;
+#endif
 
-#define GET(type) \
-    static inline type get_##type(const unsigned char *at) { type it; memcpy(&it, at, sizeof it); return it; }
-#define PUT(type) static inline void put_##type(unsigned char *at, type it) { memcpy(at, &it, sizeof it); }
+/* P: an address. AT: that of an object. OCTETS: what is there. NAME and LINKAGE: those of a call that others make. */
+#ifdef PKCS1_FOREIGN
+typedef u64 P;
+#define AT(it) ((P)(uintptr_t)(it))
+#define OCTETS(at) ((unsigned char *)(uintptr_t)(at))
+#define NAME(it) proved_##it
+#define LINKAGE static
+#else
+typedef unsigned char *P;
+#define AT(it) ((P)(it))
+#define OCTETS(at) (at)
+#define NAME(it) pkcs1_c_##it
+#define LINKAGE
+#endif
+
+#if __BYTE_ORDER__ == __ORDER_LITTLE_ENDIAN__
+#define ORDER(type, it) (it)
+#else
+#define ORDER(type, it) ORDER_##type(it)
+#define ORDER_u1(it) (it)
+#define ORDER_u8(it) (it)
+#define ORDER_u16(it) __builtin_bswap16(it)
+#define ORDER_u32(it) __builtin_bswap32(it)
+#define ORDER_u64(it) __builtin_bswap64(it)
+#define ORDER_u128(it) ((u128)ORDER_u64((u64)(it)) << 64 | ORDER_u64((u64)((it) >> 64)))
+#define ORDER_P(it) ORDER_u64(it)
+#endif
+#define GET(type) static inline type get_##type(P at) { \
+    type it; memcpy(&it, OCTETS(at), sizeof it); return ORDER(type, it); }
+#define PUT(type) static inline void put_##type(P at, type it) { \
+    it = ORDER(type, it); memcpy(OCTETS(at), &it, sizeof it); }
 
 /* Of no octets, as C's own may not be asked with no address. */
-static inline void copy(P to, const unsigned char *from, u64 n) { if (n != 0) memcpy(to, from, n); }
-static inline void move(P to, const unsigned char *from, u64 n) { if (n != 0) memmove(to, from, n); }
-static inline void fill(P to, u8 with, u64 n) { if (n != 0) memset(to, with, n); }
+static inline void copy(P to, P from, u64 n) { if (n != 0) memcpy(OCTETS(to), OCTETS(from), (size_t)n); }
+static inline void move(P to, P from, u64 n) { if (n != 0) memmove(OCTETS(to), OCTETS(from), (size_t)n); }
+static inline void fill(P to, u8 with, u64 n) { if (n != 0) memset(OCTETS(to), with, (size_t)n); }
 
 GET(P)
 GET(u32)
@@ -70,8 +101,6 @@ static const unsigned char f_static_29[47] = {160, 15, 48, 13, 6, 9, 96, 134, 72
 static const unsigned char f_static_30[47] = {160, 15, 48, 13, 6, 9, 96, 134, 72, 1, 101, 3, 4, 2, 5, 5, 0, 161, 28, 48, 26, 6, 9, 42, 134, 72, 134, 247, 13, 1, 1, 8, 48, 13, 6, 9, 96, 134, 72, 1, 101, 3, 4, 2, 5, 5, 0};
 static const unsigned char f_static_31[47] = {160, 15, 48, 13, 6, 9, 96, 134, 72, 1, 101, 3, 4, 2, 6, 5, 0, 161, 28, 48, 26, 6, 9, 42, 134, 72, 134, 247, 13, 1, 1, 8, 48, 13, 6, 9, 96, 134, 72, 1, 101, 3, 4, 2, 6, 5, 0};
 static const unsigned char f_static_32[9] = {42, 134, 72, 134, 247, 13, 1, 1, 10};
-static const u64 f_switch_table_pkcs1_c_status_text[22] = {9u, 23u, 72u, 47u, 57u, 98u, 92u, 102u, 83u, 52u, 101u, 107u, 70u, 102u, 107u, 42u, 25u, 20u, 14u, 14u, 14u, 49u};
-static const P f_switch_table_pkcs1_c_status_text_152[22] = {(P)f_static_2, (P)f_static_3, (P)f_static_4, (P)f_static_5, (P)f_static_6, (P)f_static_7, (P)f_static_8, (P)f_static_9, (P)f_static_10, (P)f_static_11, (P)f_static_12, (P)f_static_13, (P)f_static_14, (P)f_static_15, (P)f_static_16, (P)f_static_17, (P)f_static_18, (P)f_static_19, (P)f_static_21, (P)f_static_21, (P)f_static_21, (P)f_static_20};
 static u1 f_core_cmp_slices_groups_equal_i8_31_core_cmp_number(P v_a0, u64 v_a1, P v_a2);
 static void f_der_core_decode_read_slowly_f6b5580abe373ff8(P v_a0, P v_a1, u64 v_a2);
 static void f_pkcs1_view_quick_others(P v_a0, P v_a1, u64 v_a2);
@@ -110,32 +139,32 @@ static void f_spki_core_field_prepend_field_0f274667a4ba0225(u8 v_a0, P v_a1, P 
 static void f_spki_core_algorithm_identifier_AlgorithmIdentifier(P v_a0, P v_a1);
 static void f_pkcs1_c_pss_from_c_pss(P v_a0, P v_a1);
 static void f_der_core_encode_AnyEncode_encoded_len_5a57132c6d95(P v_a0, P v_a1_0_val, u8 v_a1_8_val);
-u1 pkcs1_c_algorithm_is(P v_a0, P v_a1, u64 v_a2);
-u64 pkcs1_c_bit_len(P v_a0, u64 v_a1);
-u1 pkcs1_c_oaep_label(P v_a0, P v_a1);
-void pkcs1_c_version(P v_a0);
-u32 pkcs1_c_public_key_decode(P v_a0, u64 v_a1, P v_a2);
-void pkcs1_c_status_text(u32 v_a0, P v_a1);
-u32 pkcs1_c_private_key_decode(P v_a0, u64 v_a1, P v_a2, P v_a3);
-u32 pkcs1_c_private_key_info_decode(P v_a0, u64 v_a1, P v_a2, P v_a3, P v_a4);
-u32 pkcs1_c_oaep_algorithm_decode(P v_a0, u64 v_a1, P v_a2);
-u32 pkcs1_c_oaep_algorithm_decode_strict(P v_a0, u64 v_a1, P v_a2);
-u32 pkcs1_c_oaep_params_decode(P v_a0, u64 v_a1, P v_a2);
-u32 pkcs1_c_oaep_params_decode_strict(P v_a0, u64 v_a1, P v_a2);
-void pkcs1_c_other_primes(P v_a0, u64 v_a1, P v_a2, u64 v_a3);
-u32 pkcs1_c_pss_algorithm_decode(P v_a0, u64 v_a1, P v_a2);
-u32 pkcs1_c_pss_algorithm_decode_strict(P v_a0, u64 v_a1, P v_a2);
-u32 pkcs1_c_pss_params_decode(P v_a0, u64 v_a1, P v_a2);
-u32 pkcs1_c_pss_params_decode_strict(P v_a0, u64 v_a1, P v_a2);
-u1 pkcs1_c_oaep_is(P v_a0, P v_a1, u64 v_a2);
-u1 pkcs1_c_pss_is(P v_a0, P v_a1, u64 v_a2);
-u32 pkcs1_c_private_key_encode(P v_a0, P v_a1, u64 v_a2, P v_a3, u64 v_a4, P v_a5);
-u32 pkcs1_c_private_key_info_encode(P v_a0, P v_a1, u64 v_a2, P v_a3);
-u32 pkcs1_c_public_key_encode(P v_a0, P v_a1, u64 v_a2, P v_a3);
-u32 pkcs1_c_oaep_algorithm_encode(P v_a0, P v_a1, u64 v_a2, P v_a3);
-u32 pkcs1_c_pss_algorithm_encode(P v_a0, P v_a1, u64 v_a2, P v_a3);
-u32 pkcs1_c_oaep_params_encode(P v_a0, P v_a1, u64 v_a2, P v_a3);
-u32 pkcs1_c_pss_params_encode(P v_a0, P v_a1, u64 v_a2, P v_a3);
+LINKAGE u1 NAME(algorithm_is)(P v_a0, P v_a1, u64 v_a2);
+LINKAGE u64 NAME(bit_len)(P v_a0, u64 v_a1);
+LINKAGE u1 NAME(oaep_label)(P v_a0, P v_a1);
+LINKAGE void NAME(version)(P v_a0);
+LINKAGE u32 NAME(public_key_decode)(P v_a0, u64 v_a1, P v_a2);
+LINKAGE void NAME(status_text)(u32 v_a0, P v_a1);
+LINKAGE u32 NAME(private_key_decode)(P v_a0, u64 v_a1, P v_a2, P v_a3);
+LINKAGE u32 NAME(private_key_info_decode)(P v_a0, u64 v_a1, P v_a2, P v_a3, P v_a4);
+LINKAGE u32 NAME(oaep_algorithm_decode)(P v_a0, u64 v_a1, P v_a2);
+LINKAGE u32 NAME(oaep_algorithm_decode_strict)(P v_a0, u64 v_a1, P v_a2);
+LINKAGE u32 NAME(oaep_params_decode)(P v_a0, u64 v_a1, P v_a2);
+LINKAGE u32 NAME(oaep_params_decode_strict)(P v_a0, u64 v_a1, P v_a2);
+LINKAGE void NAME(other_primes)(P v_a0, u64 v_a1, P v_a2, u64 v_a3);
+LINKAGE u32 NAME(pss_algorithm_decode)(P v_a0, u64 v_a1, P v_a2);
+LINKAGE u32 NAME(pss_algorithm_decode_strict)(P v_a0, u64 v_a1, P v_a2);
+LINKAGE u32 NAME(pss_params_decode)(P v_a0, u64 v_a1, P v_a2);
+LINKAGE u32 NAME(pss_params_decode_strict)(P v_a0, u64 v_a1, P v_a2);
+LINKAGE u1 NAME(oaep_is)(P v_a0, P v_a1, u64 v_a2);
+LINKAGE u1 NAME(pss_is)(P v_a0, P v_a1, u64 v_a2);
+LINKAGE u32 NAME(private_key_encode)(P v_a0, P v_a1, u64 v_a2, P v_a3, u64 v_a4, P v_a5);
+LINKAGE u32 NAME(private_key_info_encode)(P v_a0, P v_a1, u64 v_a2, P v_a3);
+LINKAGE u32 NAME(public_key_encode)(P v_a0, P v_a1, u64 v_a2, P v_a3);
+LINKAGE u32 NAME(oaep_algorithm_encode)(P v_a0, P v_a1, u64 v_a2, P v_a3);
+LINKAGE u32 NAME(pss_algorithm_encode)(P v_a0, P v_a1, u64 v_a2, P v_a3);
+LINKAGE u32 NAME(oaep_params_encode)(P v_a0, P v_a1, u64 v_a2, P v_a3);
+LINKAGE u32 NAME(pss_params_encode)(P v_a0, P v_a1, u64 v_a2, P v_a3);
 static u1 f_core_cmp_slices_groups_equal_i8_31_core_cmp_number(P v_a0, u64 v_a1, P v_a2) {
     u64 p_v_r1_03_i;
     u1 p_v_r1_07_i_i42;
@@ -1336,28 +1365,28 @@ L_join_5_i_i_preheader:;
     v_r16_val_i_i_i_3 = get_u8(v_r16_i_i_i_3);
     v_r21_val_i_i_i_3 = get_u8(v_r21_i_i_i_3);
     v_r6_i = (u64)((u64)(v_a1) + (u64)(18446744073709551612ull));
-    v_r16_i_i6_i = (P)((uintptr_t)v_a0 + (u64)(v_r6_i));
-    v_r21_i_i7_i = (P)((uintptr_t)v_a2 + (u64)(v_r6_i));
+    v_r16_i_i6_i = (P)((u64)v_a0 + (u64)(v_r6_i));
+    v_r21_i_i7_i = (P)((u64)v_a2 + (u64)(v_r6_i));
     v_r16_val_i_i8_i = get_u8(v_r16_i_i6_i);
     v_r21_val_i_i9_i = get_u8(v_r21_i_i7_i);
     v_r7_i_i_i10_i = v_r16_val_i_i8_i != v_r21_val_i_i9_i;
     v_r12_i_i_1 = (u64)((u64)(v_a1) + (u64)(18446744073709551613ull));
-    v_r16_i_i6_i_1 = (P)((uintptr_t)v_a0 + (u64)(v_r12_i_i_1));
-    v_r21_i_i7_i_1 = (P)((uintptr_t)v_a2 + (u64)(v_r12_i_i_1));
+    v_r16_i_i6_i_1 = (P)((u64)v_a0 + (u64)(v_r12_i_i_1));
+    v_r21_i_i7_i_1 = (P)((u64)v_a2 + (u64)(v_r12_i_i_1));
     v_r16_val_i_i8_i_1 = get_u8(v_r16_i_i6_i_1);
     v_r21_val_i_i9_i_1 = get_u8(v_r21_i_i7_i_1);
     v_r7_i_i_i10_i_1 = v_r16_val_i_i8_i_1 != v_r21_val_i_i9_i_1;
     v_r20_i11_i_1 = (u1)(((u32)(v_r7_i_i_i10_i) | (u32)(v_r7_i_i_i10_i_1)) & 1);
     v_r12_i_i_2 = (u64)((u64)(v_a1) + (u64)(18446744073709551614ull));
-    v_r16_i_i6_i_2 = (P)((uintptr_t)v_a0 + (u64)(v_r12_i_i_2));
-    v_r21_i_i7_i_2 = (P)((uintptr_t)v_a2 + (u64)(v_r12_i_i_2));
+    v_r16_i_i6_i_2 = (P)((u64)v_a0 + (u64)(v_r12_i_i_2));
+    v_r21_i_i7_i_2 = (P)((u64)v_a2 + (u64)(v_r12_i_i_2));
     v_r16_val_i_i8_i_2 = get_u8(v_r16_i_i6_i_2);
     v_r21_val_i_i9_i_2 = get_u8(v_r21_i_i7_i_2);
     v_r7_i_i_i10_i_2 = v_r16_val_i_i8_i_2 != v_r21_val_i_i9_i_2;
     v_r20_i11_i_2 = (u1)(((u32)(v_r20_i11_i_1) | (u32)(v_r7_i_i_i10_i_2)) & 1);
     v_r12_i_i_3 = (u64)((u64)(v_a1) + (u64)(18446744073709551615ull));
-    v_r16_i_i6_i_3 = (P)((uintptr_t)v_a0 + (u64)(v_r12_i_i_3));
-    v_r21_i_i7_i_3 = (P)((uintptr_t)v_a2 + (u64)(v_r12_i_i_3));
+    v_r16_i_i6_i_3 = (P)((u64)v_a0 + (u64)(v_r12_i_i_3));
+    v_r21_i_i7_i_3 = (P)((u64)v_a2 + (u64)(v_r12_i_i_3));
     v_r16_val_i_i8_i_3 = get_u8(v_r16_i_i6_i_3);
     v_r21_val_i_i9_i_3 = get_u8(v_r21_i_i7_i_3);
     v_r7_i_i_i10_i_3 = v_r16_val_i_i8_i_3 != v_r21_val_i_i9_i_3;
@@ -1407,135 +1436,135 @@ L_then_13_i:;
     v_r21_val_i_i_7_i = get_u8(v_r21_i_i_7_i);
     v_r11_i = (u64)((u64)(v_a1) + (u64)(18446744073709551608ull));
     v_a1_a0_i_i = v_r11_i < 8u ? v_r11_i : 8u;
-    v_r16_i_i8_i = (P)((uintptr_t)v_a0 + (u64)(v_a1_a0_i_i));
-    v_r21_i_i9_i = (P)((uintptr_t)v_a2 + (u64)(v_a1_a0_i_i));
+    v_r16_i_i8_i = (P)((u64)v_a0 + (u64)(v_a1_a0_i_i));
+    v_r21_i_i9_i = (P)((u64)v_a2 + (u64)(v_a1_a0_i_i));
     v_r16_val_i_i10_i = get_u8(v_r16_i_i8_i);
     v_r21_val_i_i11_i = get_u8(v_r21_i_i9_i);
     v_r12_i_1_i = (u64)((u64)(v_a1_a0_i_i) + (u64)(1u));
-    v_r16_i_i8_1_i = (P)((uintptr_t)v_a0 + (u64)(v_r12_i_1_i));
-    v_r21_i_i9_1_i = (P)((uintptr_t)v_a2 + (u64)(v_r12_i_1_i));
+    v_r16_i_i8_1_i = (P)((u64)v_a0 + (u64)(v_r12_i_1_i));
+    v_r21_i_i9_1_i = (P)((u64)v_a2 + (u64)(v_r12_i_1_i));
     v_r16_val_i_i10_1_i = get_u8(v_r16_i_i8_1_i);
     v_r21_val_i_i11_1_i = get_u8(v_r21_i_i9_1_i);
     v_r12_i_2_i = (u64)((u64)(v_a1_a0_i_i) + (u64)(2u));
-    v_r16_i_i8_2_i = (P)((uintptr_t)v_a0 + (u64)(v_r12_i_2_i));
-    v_r21_i_i9_2_i = (P)((uintptr_t)v_a2 + (u64)(v_r12_i_2_i));
+    v_r16_i_i8_2_i = (P)((u64)v_a0 + (u64)(v_r12_i_2_i));
+    v_r21_i_i9_2_i = (P)((u64)v_a2 + (u64)(v_r12_i_2_i));
     v_r16_val_i_i10_2_i = get_u8(v_r16_i_i8_2_i);
     v_r21_val_i_i11_2_i = get_u8(v_r21_i_i9_2_i);
     v_r12_i_3_i = (u64)((u64)(v_a1_a0_i_i) + (u64)(3u));
-    v_r16_i_i8_3_i = (P)((uintptr_t)v_a0 + (u64)(v_r12_i_3_i));
-    v_r21_i_i9_3_i = (P)((uintptr_t)v_a2 + (u64)(v_r12_i_3_i));
+    v_r16_i_i8_3_i = (P)((u64)v_a0 + (u64)(v_r12_i_3_i));
+    v_r21_i_i9_3_i = (P)((u64)v_a2 + (u64)(v_r12_i_3_i));
     v_r16_val_i_i10_3_i = get_u8(v_r16_i_i8_3_i);
     v_r21_val_i_i11_3_i = get_u8(v_r21_i_i9_3_i);
     v_r12_i_4_i = (u64)((u64)(v_a1_a0_i_i) + (u64)(4u));
-    v_r16_i_i8_4_i = (P)((uintptr_t)v_a0 + (u64)(v_r12_i_4_i));
-    v_r21_i_i9_4_i = (P)((uintptr_t)v_a2 + (u64)(v_r12_i_4_i));
+    v_r16_i_i8_4_i = (P)((u64)v_a0 + (u64)(v_r12_i_4_i));
+    v_r21_i_i9_4_i = (P)((u64)v_a2 + (u64)(v_r12_i_4_i));
     v_r16_val_i_i10_4_i = get_u8(v_r16_i_i8_4_i);
     v_r21_val_i_i11_4_i = get_u8(v_r21_i_i9_4_i);
     v_r12_i_5_i = (u64)((u64)(v_a1_a0_i_i) + (u64)(5u));
-    v_r16_i_i8_5_i = (P)((uintptr_t)v_a0 + (u64)(v_r12_i_5_i));
-    v_r21_i_i9_5_i = (P)((uintptr_t)v_a2 + (u64)(v_r12_i_5_i));
+    v_r16_i_i8_5_i = (P)((u64)v_a0 + (u64)(v_r12_i_5_i));
+    v_r21_i_i9_5_i = (P)((u64)v_a2 + (u64)(v_r12_i_5_i));
     v_r16_val_i_i10_5_i = get_u8(v_r16_i_i8_5_i);
     v_r21_val_i_i11_5_i = get_u8(v_r21_i_i9_5_i);
     v_r12_i_6_i = (u64)((u64)(v_a1_a0_i_i) + (u64)(6u));
-    v_r16_i_i8_6_i = (P)((uintptr_t)v_a0 + (u64)(v_r12_i_6_i));
-    v_r21_i_i9_6_i = (P)((uintptr_t)v_a2 + (u64)(v_r12_i_6_i));
+    v_r16_i_i8_6_i = (P)((u64)v_a0 + (u64)(v_r12_i_6_i));
+    v_r21_i_i9_6_i = (P)((u64)v_a2 + (u64)(v_r12_i_6_i));
     v_r16_val_i_i10_6_i = get_u8(v_r16_i_i8_6_i);
     v_r21_val_i_i11_6_i = get_u8(v_r21_i_i9_6_i);
     v_r12_i_7_i = (u64)((u64)(v_a1_a0_i_i) + (u64)(7u));
-    v_r16_i_i8_7_i = (P)((uintptr_t)v_a0 + (u64)(v_r12_i_7_i));
-    v_r21_i_i9_7_i = (P)((uintptr_t)v_a2 + (u64)(v_r12_i_7_i));
+    v_r16_i_i8_7_i = (P)((u64)v_a0 + (u64)(v_r12_i_7_i));
+    v_r21_i_i9_7_i = (P)((u64)v_a2 + (u64)(v_r12_i_7_i));
     v_r16_val_i_i10_7_i = get_u8(v_r16_i_i8_7_i);
     v_r21_val_i_i11_7_i = get_u8(v_r21_i_i9_7_i);
     v_a1_a0_i17_i = v_r11_i < 16u ? v_r11_i : 16u;
-    v_r16_i_i24_i = (P)((uintptr_t)v_a0 + (u64)(v_a1_a0_i17_i));
-    v_r21_i_i25_i = (P)((uintptr_t)v_a2 + (u64)(v_a1_a0_i17_i));
+    v_r16_i_i24_i = (P)((u64)v_a0 + (u64)(v_a1_a0_i17_i));
+    v_r21_i_i25_i = (P)((u64)v_a2 + (u64)(v_a1_a0_i17_i));
     v_r16_val_i_i26_i = get_u8(v_r16_i_i24_i);
     v_r21_val_i_i27_i = get_u8(v_r21_i_i25_i);
     v_r12_i23_1_i = (u64)((u64)(v_a1_a0_i17_i) + (u64)(1u));
-    v_r16_i_i24_1_i = (P)((uintptr_t)v_a0 + (u64)(v_r12_i23_1_i));
-    v_r21_i_i25_1_i = (P)((uintptr_t)v_a2 + (u64)(v_r12_i23_1_i));
+    v_r16_i_i24_1_i = (P)((u64)v_a0 + (u64)(v_r12_i23_1_i));
+    v_r21_i_i25_1_i = (P)((u64)v_a2 + (u64)(v_r12_i23_1_i));
     v_r16_val_i_i26_1_i = get_u8(v_r16_i_i24_1_i);
     v_r21_val_i_i27_1_i = get_u8(v_r21_i_i25_1_i);
     v_r12_i23_2_i = (u64)((u64)(v_a1_a0_i17_i) + (u64)(2u));
-    v_r16_i_i24_2_i = (P)((uintptr_t)v_a0 + (u64)(v_r12_i23_2_i));
-    v_r21_i_i25_2_i = (P)((uintptr_t)v_a2 + (u64)(v_r12_i23_2_i));
+    v_r16_i_i24_2_i = (P)((u64)v_a0 + (u64)(v_r12_i23_2_i));
+    v_r21_i_i25_2_i = (P)((u64)v_a2 + (u64)(v_r12_i23_2_i));
     v_r16_val_i_i26_2_i = get_u8(v_r16_i_i24_2_i);
     v_r21_val_i_i27_2_i = get_u8(v_r21_i_i25_2_i);
     v_r12_i23_3_i = (u64)((u64)(v_a1_a0_i17_i) + (u64)(3u));
-    v_r16_i_i24_3_i = (P)((uintptr_t)v_a0 + (u64)(v_r12_i23_3_i));
-    v_r21_i_i25_3_i = (P)((uintptr_t)v_a2 + (u64)(v_r12_i23_3_i));
+    v_r16_i_i24_3_i = (P)((u64)v_a0 + (u64)(v_r12_i23_3_i));
+    v_r21_i_i25_3_i = (P)((u64)v_a2 + (u64)(v_r12_i23_3_i));
     v_r16_val_i_i26_3_i = get_u8(v_r16_i_i24_3_i);
     v_r21_val_i_i27_3_i = get_u8(v_r21_i_i25_3_i);
     v_r12_i23_4_i = (u64)((u64)(v_a1_a0_i17_i) + (u64)(4u));
-    v_r16_i_i24_4_i = (P)((uintptr_t)v_a0 + (u64)(v_r12_i23_4_i));
-    v_r21_i_i25_4_i = (P)((uintptr_t)v_a2 + (u64)(v_r12_i23_4_i));
+    v_r16_i_i24_4_i = (P)((u64)v_a0 + (u64)(v_r12_i23_4_i));
+    v_r21_i_i25_4_i = (P)((u64)v_a2 + (u64)(v_r12_i23_4_i));
     v_r16_val_i_i26_4_i = get_u8(v_r16_i_i24_4_i);
     v_r21_val_i_i27_4_i = get_u8(v_r21_i_i25_4_i);
     v_r12_i23_5_i = (u64)((u64)(v_a1_a0_i17_i) + (u64)(5u));
-    v_r16_i_i24_5_i = (P)((uintptr_t)v_a0 + (u64)(v_r12_i23_5_i));
-    v_r21_i_i25_5_i = (P)((uintptr_t)v_a2 + (u64)(v_r12_i23_5_i));
+    v_r16_i_i24_5_i = (P)((u64)v_a0 + (u64)(v_r12_i23_5_i));
+    v_r21_i_i25_5_i = (P)((u64)v_a2 + (u64)(v_r12_i23_5_i));
     v_r16_val_i_i26_5_i = get_u8(v_r16_i_i24_5_i);
     v_r21_val_i_i27_5_i = get_u8(v_r21_i_i25_5_i);
     v_r12_i23_6_i = (u64)((u64)(v_a1_a0_i17_i) + (u64)(6u));
-    v_r16_i_i24_6_i = (P)((uintptr_t)v_a0 + (u64)(v_r12_i23_6_i));
-    v_r21_i_i25_6_i = (P)((uintptr_t)v_a2 + (u64)(v_r12_i23_6_i));
+    v_r16_i_i24_6_i = (P)((u64)v_a0 + (u64)(v_r12_i23_6_i));
+    v_r21_i_i25_6_i = (P)((u64)v_a2 + (u64)(v_r12_i23_6_i));
     v_r16_val_i_i26_6_i = get_u8(v_r16_i_i24_6_i);
     v_r21_val_i_i27_6_i = get_u8(v_r21_i_i25_6_i);
     v_r12_i23_7_i = (u64)((u64)(v_a1_a0_i17_i) + (u64)(7u));
-    v_r16_i_i24_7_i = (P)((uintptr_t)v_a0 + (u64)(v_r12_i23_7_i));
-    v_r21_i_i25_7_i = (P)((uintptr_t)v_a2 + (u64)(v_r12_i23_7_i));
+    v_r16_i_i24_7_i = (P)((u64)v_a0 + (u64)(v_r12_i23_7_i));
+    v_r21_i_i25_7_i = (P)((u64)v_a2 + (u64)(v_r12_i23_7_i));
     v_r16_val_i_i26_7_i = get_u8(v_r16_i_i24_7_i);
     v_r21_val_i_i27_7_i = get_u8(v_r21_i_i25_7_i);
-    v_r16_i_i39_i = (P)((uintptr_t)v_a0 + (u64)(v_r11_i));
-    v_r21_i_i40_i = (P)((uintptr_t)v_a2 + (u64)(v_r11_i));
+    v_r16_i_i39_i = (P)((u64)v_a0 + (u64)(v_r11_i));
+    v_r21_i_i40_i = (P)((u64)v_a2 + (u64)(v_r11_i));
     v_r16_val_i_i41_i = get_u8(v_r16_i_i39_i);
     v_r21_val_i_i42_i = get_u8(v_r21_i_i40_i);
     v_r7_i_i_i43_i = v_r16_val_i_i41_i != v_r21_val_i_i42_i;
     v_r12_i38_1_i = (u64)((u64)(v_a1) + (u64)(18446744073709551609ull));
-    v_r16_i_i39_1_i = (P)((uintptr_t)v_a0 + (u64)(v_r12_i38_1_i));
-    v_r21_i_i40_1_i = (P)((uintptr_t)v_a2 + (u64)(v_r12_i38_1_i));
+    v_r16_i_i39_1_i = (P)((u64)v_a0 + (u64)(v_r12_i38_1_i));
+    v_r21_i_i40_1_i = (P)((u64)v_a2 + (u64)(v_r12_i38_1_i));
     v_r16_val_i_i41_1_i = get_u8(v_r16_i_i39_1_i);
     v_r21_val_i_i42_1_i = get_u8(v_r21_i_i40_1_i);
     v_r7_i_i_i43_1_i = v_r16_val_i_i41_1_i != v_r21_val_i_i42_1_i;
     v_r20_i44_1_i = (u1)(((u32)(v_r7_i_i_i43_i) | (u32)(v_r7_i_i_i43_1_i)) & 1);
     v_r12_i38_2_i = (u64)((u64)(v_a1) + (u64)(18446744073709551610ull));
-    v_r16_i_i39_2_i = (P)((uintptr_t)v_a0 + (u64)(v_r12_i38_2_i));
-    v_r21_i_i40_2_i = (P)((uintptr_t)v_a2 + (u64)(v_r12_i38_2_i));
+    v_r16_i_i39_2_i = (P)((u64)v_a0 + (u64)(v_r12_i38_2_i));
+    v_r21_i_i40_2_i = (P)((u64)v_a2 + (u64)(v_r12_i38_2_i));
     v_r16_val_i_i41_2_i = get_u8(v_r16_i_i39_2_i);
     v_r21_val_i_i42_2_i = get_u8(v_r21_i_i40_2_i);
     v_r7_i_i_i43_2_i = v_r16_val_i_i41_2_i != v_r21_val_i_i42_2_i;
     v_r20_i44_2_i = (u1)(((u32)(v_r20_i44_1_i) | (u32)(v_r7_i_i_i43_2_i)) & 1);
     v_r12_i38_3_i = (u64)((u64)(v_a1) + (u64)(18446744073709551611ull));
-    v_r16_i_i39_3_i = (P)((uintptr_t)v_a0 + (u64)(v_r12_i38_3_i));
-    v_r21_i_i40_3_i = (P)((uintptr_t)v_a2 + (u64)(v_r12_i38_3_i));
+    v_r16_i_i39_3_i = (P)((u64)v_a0 + (u64)(v_r12_i38_3_i));
+    v_r21_i_i40_3_i = (P)((u64)v_a2 + (u64)(v_r12_i38_3_i));
     v_r16_val_i_i41_3_i = get_u8(v_r16_i_i39_3_i);
     v_r21_val_i_i42_3_i = get_u8(v_r21_i_i40_3_i);
     v_r7_i_i_i43_3_i = v_r16_val_i_i41_3_i != v_r21_val_i_i42_3_i;
     v_r20_i44_3_i = (u1)(((u32)(v_r20_i44_2_i) | (u32)(v_r7_i_i_i43_3_i)) & 1);
     v_r12_i38_4_i = (u64)((u64)(v_a1) + (u64)(18446744073709551612ull));
-    v_r16_i_i39_4_i = (P)((uintptr_t)v_a0 + (u64)(v_r12_i38_4_i));
-    v_r21_i_i40_4_i = (P)((uintptr_t)v_a2 + (u64)(v_r12_i38_4_i));
+    v_r16_i_i39_4_i = (P)((u64)v_a0 + (u64)(v_r12_i38_4_i));
+    v_r21_i_i40_4_i = (P)((u64)v_a2 + (u64)(v_r12_i38_4_i));
     v_r16_val_i_i41_4_i = get_u8(v_r16_i_i39_4_i);
     v_r21_val_i_i42_4_i = get_u8(v_r21_i_i40_4_i);
     v_r7_i_i_i43_4_i = v_r16_val_i_i41_4_i != v_r21_val_i_i42_4_i;
     v_r20_i44_4_i = (u1)(((u32)(v_r20_i44_3_i) | (u32)(v_r7_i_i_i43_4_i)) & 1);
     v_r12_i38_5_i = (u64)((u64)(v_a1) + (u64)(18446744073709551613ull));
-    v_r16_i_i39_5_i = (P)((uintptr_t)v_a0 + (u64)(v_r12_i38_5_i));
-    v_r21_i_i40_5_i = (P)((uintptr_t)v_a2 + (u64)(v_r12_i38_5_i));
+    v_r16_i_i39_5_i = (P)((u64)v_a0 + (u64)(v_r12_i38_5_i));
+    v_r21_i_i40_5_i = (P)((u64)v_a2 + (u64)(v_r12_i38_5_i));
     v_r16_val_i_i41_5_i = get_u8(v_r16_i_i39_5_i);
     v_r21_val_i_i42_5_i = get_u8(v_r21_i_i40_5_i);
     v_r7_i_i_i43_5_i = v_r16_val_i_i41_5_i != v_r21_val_i_i42_5_i;
     v_r20_i44_5_i = (u1)(((u32)(v_r20_i44_4_i) | (u32)(v_r7_i_i_i43_5_i)) & 1);
     v_r12_i38_6_i = (u64)((u64)(v_a1) + (u64)(18446744073709551614ull));
-    v_r16_i_i39_6_i = (P)((uintptr_t)v_a0 + (u64)(v_r12_i38_6_i));
-    v_r21_i_i40_6_i = (P)((uintptr_t)v_a2 + (u64)(v_r12_i38_6_i));
+    v_r16_i_i39_6_i = (P)((u64)v_a0 + (u64)(v_r12_i38_6_i));
+    v_r21_i_i40_6_i = (P)((u64)v_a2 + (u64)(v_r12_i38_6_i));
     v_r16_val_i_i41_6_i = get_u8(v_r16_i_i39_6_i);
     v_r21_val_i_i42_6_i = get_u8(v_r21_i_i40_6_i);
     v_r7_i_i_i43_6_i = v_r16_val_i_i41_6_i != v_r21_val_i_i42_6_i;
     v_r20_i44_6_i = (u1)(((u32)(v_r20_i44_5_i) | (u32)(v_r7_i_i_i43_6_i)) & 1);
     v_r12_i38_7_i = (u64)((u64)(v_a1) + (u64)(18446744073709551615ull));
-    v_r16_i_i39_7_i = (P)((uintptr_t)v_a0 + (u64)(v_r12_i38_7_i));
-    v_r21_i_i40_7_i = (P)((uintptr_t)v_a2 + (u64)(v_r12_i38_7_i));
+    v_r16_i_i39_7_i = (P)((u64)v_a0 + (u64)(v_r12_i38_7_i));
+    v_r21_i_i40_7_i = (P)((u64)v_a2 + (u64)(v_r12_i38_7_i));
     v_r16_val_i_i41_7_i = get_u8(v_r16_i_i39_7_i);
     v_r21_val_i_i42_7_i = get_u8(v_r21_i_i40_7_i);
     v_r7_i_i_i43_7_i = v_r16_val_i_i41_7_i != v_r21_val_i_i42_7_i;
@@ -1720,224 +1749,224 @@ L_join_5_i_i14_preheader:;
     v_r16_val_i_i_i19_31 = get_u8(v_r16_i_i_i17_31);
     v_r21_val_i_i_i20_31 = get_u8(v_r21_i_i_i18_31);
     v_r6_i26 = (u64)((u64)(v_a1) + (u64)(18446744073709551584ull));
-    v_r16_i_i6_i31 = (P)((uintptr_t)v_a0 + (u64)(v_r6_i26));
-    v_r21_i_i7_i32 = (P)((uintptr_t)v_a2 + (u64)(v_r6_i26));
+    v_r16_i_i6_i31 = (P)((u64)v_a0 + (u64)(v_r6_i26));
+    v_r21_i_i7_i32 = (P)((u64)v_a2 + (u64)(v_r6_i26));
     v_r16_val_i_i8_i33 = get_u8(v_r16_i_i6_i31);
     v_r21_val_i_i9_i34 = get_u8(v_r21_i_i7_i32);
     v_r7_i_i_i10_i35 = v_r16_val_i_i8_i33 != v_r21_val_i_i9_i34;
     v_r12_i_i30_1 = (u64)((u64)(v_a1) + (u64)(18446744073709551585ull));
-    v_r16_i_i6_i31_1 = (P)((uintptr_t)v_a0 + (u64)(v_r12_i_i30_1));
-    v_r21_i_i7_i32_1 = (P)((uintptr_t)v_a2 + (u64)(v_r12_i_i30_1));
+    v_r16_i_i6_i31_1 = (P)((u64)v_a0 + (u64)(v_r12_i_i30_1));
+    v_r21_i_i7_i32_1 = (P)((u64)v_a2 + (u64)(v_r12_i_i30_1));
     v_r16_val_i_i8_i33_1 = get_u8(v_r16_i_i6_i31_1);
     v_r21_val_i_i9_i34_1 = get_u8(v_r21_i_i7_i32_1);
     v_r7_i_i_i10_i35_1 = v_r16_val_i_i8_i33_1 != v_r21_val_i_i9_i34_1;
     v_r20_i11_i36_1 = (u1)(((u32)(v_r7_i_i_i10_i35) | (u32)(v_r7_i_i_i10_i35_1)) & 1);
     v_r12_i_i30_2 = (u64)((u64)(v_a1) + (u64)(18446744073709551586ull));
-    v_r16_i_i6_i31_2 = (P)((uintptr_t)v_a0 + (u64)(v_r12_i_i30_2));
-    v_r21_i_i7_i32_2 = (P)((uintptr_t)v_a2 + (u64)(v_r12_i_i30_2));
+    v_r16_i_i6_i31_2 = (P)((u64)v_a0 + (u64)(v_r12_i_i30_2));
+    v_r21_i_i7_i32_2 = (P)((u64)v_a2 + (u64)(v_r12_i_i30_2));
     v_r16_val_i_i8_i33_2 = get_u8(v_r16_i_i6_i31_2);
     v_r21_val_i_i9_i34_2 = get_u8(v_r21_i_i7_i32_2);
     v_r7_i_i_i10_i35_2 = v_r16_val_i_i8_i33_2 != v_r21_val_i_i9_i34_2;
     v_r20_i11_i36_2 = (u1)(((u32)(v_r20_i11_i36_1) | (u32)(v_r7_i_i_i10_i35_2)) & 1);
     v_r12_i_i30_3 = (u64)((u64)(v_a1) + (u64)(18446744073709551587ull));
-    v_r16_i_i6_i31_3 = (P)((uintptr_t)v_a0 + (u64)(v_r12_i_i30_3));
-    v_r21_i_i7_i32_3 = (P)((uintptr_t)v_a2 + (u64)(v_r12_i_i30_3));
+    v_r16_i_i6_i31_3 = (P)((u64)v_a0 + (u64)(v_r12_i_i30_3));
+    v_r21_i_i7_i32_3 = (P)((u64)v_a2 + (u64)(v_r12_i_i30_3));
     v_r16_val_i_i8_i33_3 = get_u8(v_r16_i_i6_i31_3);
     v_r21_val_i_i9_i34_3 = get_u8(v_r21_i_i7_i32_3);
     v_r7_i_i_i10_i35_3 = v_r16_val_i_i8_i33_3 != v_r21_val_i_i9_i34_3;
     v_r20_i11_i36_3 = (u1)(((u32)(v_r20_i11_i36_2) | (u32)(v_r7_i_i_i10_i35_3)) & 1);
     v_r12_i_i30_4 = (u64)((u64)(v_a1) + (u64)(18446744073709551588ull));
-    v_r16_i_i6_i31_4 = (P)((uintptr_t)v_a0 + (u64)(v_r12_i_i30_4));
-    v_r21_i_i7_i32_4 = (P)((uintptr_t)v_a2 + (u64)(v_r12_i_i30_4));
+    v_r16_i_i6_i31_4 = (P)((u64)v_a0 + (u64)(v_r12_i_i30_4));
+    v_r21_i_i7_i32_4 = (P)((u64)v_a2 + (u64)(v_r12_i_i30_4));
     v_r16_val_i_i8_i33_4 = get_u8(v_r16_i_i6_i31_4);
     v_r21_val_i_i9_i34_4 = get_u8(v_r21_i_i7_i32_4);
     v_r7_i_i_i10_i35_4 = v_r16_val_i_i8_i33_4 != v_r21_val_i_i9_i34_4;
     v_r20_i11_i36_4 = (u1)(((u32)(v_r20_i11_i36_3) | (u32)(v_r7_i_i_i10_i35_4)) & 1);
     v_r12_i_i30_5 = (u64)((u64)(v_a1) + (u64)(18446744073709551589ull));
-    v_r16_i_i6_i31_5 = (P)((uintptr_t)v_a0 + (u64)(v_r12_i_i30_5));
-    v_r21_i_i7_i32_5 = (P)((uintptr_t)v_a2 + (u64)(v_r12_i_i30_5));
+    v_r16_i_i6_i31_5 = (P)((u64)v_a0 + (u64)(v_r12_i_i30_5));
+    v_r21_i_i7_i32_5 = (P)((u64)v_a2 + (u64)(v_r12_i_i30_5));
     v_r16_val_i_i8_i33_5 = get_u8(v_r16_i_i6_i31_5);
     v_r21_val_i_i9_i34_5 = get_u8(v_r21_i_i7_i32_5);
     v_r7_i_i_i10_i35_5 = v_r16_val_i_i8_i33_5 != v_r21_val_i_i9_i34_5;
     v_r20_i11_i36_5 = (u1)(((u32)(v_r20_i11_i36_4) | (u32)(v_r7_i_i_i10_i35_5)) & 1);
     v_r12_i_i30_6 = (u64)((u64)(v_a1) + (u64)(18446744073709551590ull));
-    v_r16_i_i6_i31_6 = (P)((uintptr_t)v_a0 + (u64)(v_r12_i_i30_6));
-    v_r21_i_i7_i32_6 = (P)((uintptr_t)v_a2 + (u64)(v_r12_i_i30_6));
+    v_r16_i_i6_i31_6 = (P)((u64)v_a0 + (u64)(v_r12_i_i30_6));
+    v_r21_i_i7_i32_6 = (P)((u64)v_a2 + (u64)(v_r12_i_i30_6));
     v_r16_val_i_i8_i33_6 = get_u8(v_r16_i_i6_i31_6);
     v_r21_val_i_i9_i34_6 = get_u8(v_r21_i_i7_i32_6);
     v_r7_i_i_i10_i35_6 = v_r16_val_i_i8_i33_6 != v_r21_val_i_i9_i34_6;
     v_r20_i11_i36_6 = (u1)(((u32)(v_r20_i11_i36_5) | (u32)(v_r7_i_i_i10_i35_6)) & 1);
     v_r12_i_i30_7 = (u64)((u64)(v_a1) + (u64)(18446744073709551591ull));
-    v_r16_i_i6_i31_7 = (P)((uintptr_t)v_a0 + (u64)(v_r12_i_i30_7));
-    v_r21_i_i7_i32_7 = (P)((uintptr_t)v_a2 + (u64)(v_r12_i_i30_7));
+    v_r16_i_i6_i31_7 = (P)((u64)v_a0 + (u64)(v_r12_i_i30_7));
+    v_r21_i_i7_i32_7 = (P)((u64)v_a2 + (u64)(v_r12_i_i30_7));
     v_r16_val_i_i8_i33_7 = get_u8(v_r16_i_i6_i31_7);
     v_r21_val_i_i9_i34_7 = get_u8(v_r21_i_i7_i32_7);
     v_r7_i_i_i10_i35_7 = v_r16_val_i_i8_i33_7 != v_r21_val_i_i9_i34_7;
     v_r20_i11_i36_7 = (u1)(((u32)(v_r20_i11_i36_6) | (u32)(v_r7_i_i_i10_i35_7)) & 1);
     v_r12_i_i30_8 = (u64)((u64)(v_a1) + (u64)(18446744073709551592ull));
-    v_r16_i_i6_i31_8 = (P)((uintptr_t)v_a0 + (u64)(v_r12_i_i30_8));
-    v_r21_i_i7_i32_8 = (P)((uintptr_t)v_a2 + (u64)(v_r12_i_i30_8));
+    v_r16_i_i6_i31_8 = (P)((u64)v_a0 + (u64)(v_r12_i_i30_8));
+    v_r21_i_i7_i32_8 = (P)((u64)v_a2 + (u64)(v_r12_i_i30_8));
     v_r16_val_i_i8_i33_8 = get_u8(v_r16_i_i6_i31_8);
     v_r21_val_i_i9_i34_8 = get_u8(v_r21_i_i7_i32_8);
     v_r7_i_i_i10_i35_8 = v_r16_val_i_i8_i33_8 != v_r21_val_i_i9_i34_8;
     v_r20_i11_i36_8 = (u1)(((u32)(v_r20_i11_i36_7) | (u32)(v_r7_i_i_i10_i35_8)) & 1);
     v_r12_i_i30_9 = (u64)((u64)(v_a1) + (u64)(18446744073709551593ull));
-    v_r16_i_i6_i31_9 = (P)((uintptr_t)v_a0 + (u64)(v_r12_i_i30_9));
-    v_r21_i_i7_i32_9 = (P)((uintptr_t)v_a2 + (u64)(v_r12_i_i30_9));
+    v_r16_i_i6_i31_9 = (P)((u64)v_a0 + (u64)(v_r12_i_i30_9));
+    v_r21_i_i7_i32_9 = (P)((u64)v_a2 + (u64)(v_r12_i_i30_9));
     v_r16_val_i_i8_i33_9 = get_u8(v_r16_i_i6_i31_9);
     v_r21_val_i_i9_i34_9 = get_u8(v_r21_i_i7_i32_9);
     v_r7_i_i_i10_i35_9 = v_r16_val_i_i8_i33_9 != v_r21_val_i_i9_i34_9;
     v_r20_i11_i36_9 = (u1)(((u32)(v_r20_i11_i36_8) | (u32)(v_r7_i_i_i10_i35_9)) & 1);
     v_r12_i_i30_10 = (u64)((u64)(v_a1) + (u64)(18446744073709551594ull));
-    v_r16_i_i6_i31_10 = (P)((uintptr_t)v_a0 + (u64)(v_r12_i_i30_10));
-    v_r21_i_i7_i32_10 = (P)((uintptr_t)v_a2 + (u64)(v_r12_i_i30_10));
+    v_r16_i_i6_i31_10 = (P)((u64)v_a0 + (u64)(v_r12_i_i30_10));
+    v_r21_i_i7_i32_10 = (P)((u64)v_a2 + (u64)(v_r12_i_i30_10));
     v_r16_val_i_i8_i33_10 = get_u8(v_r16_i_i6_i31_10);
     v_r21_val_i_i9_i34_10 = get_u8(v_r21_i_i7_i32_10);
     v_r7_i_i_i10_i35_10 = v_r16_val_i_i8_i33_10 != v_r21_val_i_i9_i34_10;
     v_r20_i11_i36_10 = (u1)(((u32)(v_r20_i11_i36_9) | (u32)(v_r7_i_i_i10_i35_10)) & 1);
     v_r12_i_i30_11 = (u64)((u64)(v_a1) + (u64)(18446744073709551595ull));
-    v_r16_i_i6_i31_11 = (P)((uintptr_t)v_a0 + (u64)(v_r12_i_i30_11));
-    v_r21_i_i7_i32_11 = (P)((uintptr_t)v_a2 + (u64)(v_r12_i_i30_11));
+    v_r16_i_i6_i31_11 = (P)((u64)v_a0 + (u64)(v_r12_i_i30_11));
+    v_r21_i_i7_i32_11 = (P)((u64)v_a2 + (u64)(v_r12_i_i30_11));
     v_r16_val_i_i8_i33_11 = get_u8(v_r16_i_i6_i31_11);
     v_r21_val_i_i9_i34_11 = get_u8(v_r21_i_i7_i32_11);
     v_r7_i_i_i10_i35_11 = v_r16_val_i_i8_i33_11 != v_r21_val_i_i9_i34_11;
     v_r20_i11_i36_11 = (u1)(((u32)(v_r20_i11_i36_10) | (u32)(v_r7_i_i_i10_i35_11)) & 1);
     v_r12_i_i30_12 = (u64)((u64)(v_a1) + (u64)(18446744073709551596ull));
-    v_r16_i_i6_i31_12 = (P)((uintptr_t)v_a0 + (u64)(v_r12_i_i30_12));
-    v_r21_i_i7_i32_12 = (P)((uintptr_t)v_a2 + (u64)(v_r12_i_i30_12));
+    v_r16_i_i6_i31_12 = (P)((u64)v_a0 + (u64)(v_r12_i_i30_12));
+    v_r21_i_i7_i32_12 = (P)((u64)v_a2 + (u64)(v_r12_i_i30_12));
     v_r16_val_i_i8_i33_12 = get_u8(v_r16_i_i6_i31_12);
     v_r21_val_i_i9_i34_12 = get_u8(v_r21_i_i7_i32_12);
     v_r7_i_i_i10_i35_12 = v_r16_val_i_i8_i33_12 != v_r21_val_i_i9_i34_12;
     v_r20_i11_i36_12 = (u1)(((u32)(v_r20_i11_i36_11) | (u32)(v_r7_i_i_i10_i35_12)) & 1);
     v_r12_i_i30_13 = (u64)((u64)(v_a1) + (u64)(18446744073709551597ull));
-    v_r16_i_i6_i31_13 = (P)((uintptr_t)v_a0 + (u64)(v_r12_i_i30_13));
-    v_r21_i_i7_i32_13 = (P)((uintptr_t)v_a2 + (u64)(v_r12_i_i30_13));
+    v_r16_i_i6_i31_13 = (P)((u64)v_a0 + (u64)(v_r12_i_i30_13));
+    v_r21_i_i7_i32_13 = (P)((u64)v_a2 + (u64)(v_r12_i_i30_13));
     v_r16_val_i_i8_i33_13 = get_u8(v_r16_i_i6_i31_13);
     v_r21_val_i_i9_i34_13 = get_u8(v_r21_i_i7_i32_13);
     v_r7_i_i_i10_i35_13 = v_r16_val_i_i8_i33_13 != v_r21_val_i_i9_i34_13;
     v_r20_i11_i36_13 = (u1)(((u32)(v_r20_i11_i36_12) | (u32)(v_r7_i_i_i10_i35_13)) & 1);
     v_r12_i_i30_14 = (u64)((u64)(v_a1) + (u64)(18446744073709551598ull));
-    v_r16_i_i6_i31_14 = (P)((uintptr_t)v_a0 + (u64)(v_r12_i_i30_14));
-    v_r21_i_i7_i32_14 = (P)((uintptr_t)v_a2 + (u64)(v_r12_i_i30_14));
+    v_r16_i_i6_i31_14 = (P)((u64)v_a0 + (u64)(v_r12_i_i30_14));
+    v_r21_i_i7_i32_14 = (P)((u64)v_a2 + (u64)(v_r12_i_i30_14));
     v_r16_val_i_i8_i33_14 = get_u8(v_r16_i_i6_i31_14);
     v_r21_val_i_i9_i34_14 = get_u8(v_r21_i_i7_i32_14);
     v_r7_i_i_i10_i35_14 = v_r16_val_i_i8_i33_14 != v_r21_val_i_i9_i34_14;
     v_r20_i11_i36_14 = (u1)(((u32)(v_r20_i11_i36_13) | (u32)(v_r7_i_i_i10_i35_14)) & 1);
     v_r12_i_i30_15 = (u64)((u64)(v_a1) + (u64)(18446744073709551599ull));
-    v_r16_i_i6_i31_15 = (P)((uintptr_t)v_a0 + (u64)(v_r12_i_i30_15));
-    v_r21_i_i7_i32_15 = (P)((uintptr_t)v_a2 + (u64)(v_r12_i_i30_15));
+    v_r16_i_i6_i31_15 = (P)((u64)v_a0 + (u64)(v_r12_i_i30_15));
+    v_r21_i_i7_i32_15 = (P)((u64)v_a2 + (u64)(v_r12_i_i30_15));
     v_r16_val_i_i8_i33_15 = get_u8(v_r16_i_i6_i31_15);
     v_r21_val_i_i9_i34_15 = get_u8(v_r21_i_i7_i32_15);
     v_r7_i_i_i10_i35_15 = v_r16_val_i_i8_i33_15 != v_r21_val_i_i9_i34_15;
     v_r20_i11_i36_15 = (u1)(((u32)(v_r20_i11_i36_14) | (u32)(v_r7_i_i_i10_i35_15)) & 1);
     v_r12_i_i30_16 = (u64)((u64)(v_a1) + (u64)(18446744073709551600ull));
-    v_r16_i_i6_i31_16 = (P)((uintptr_t)v_a0 + (u64)(v_r12_i_i30_16));
-    v_r21_i_i7_i32_16 = (P)((uintptr_t)v_a2 + (u64)(v_r12_i_i30_16));
+    v_r16_i_i6_i31_16 = (P)((u64)v_a0 + (u64)(v_r12_i_i30_16));
+    v_r21_i_i7_i32_16 = (P)((u64)v_a2 + (u64)(v_r12_i_i30_16));
     v_r16_val_i_i8_i33_16 = get_u8(v_r16_i_i6_i31_16);
     v_r21_val_i_i9_i34_16 = get_u8(v_r21_i_i7_i32_16);
     v_r7_i_i_i10_i35_16 = v_r16_val_i_i8_i33_16 != v_r21_val_i_i9_i34_16;
     v_r20_i11_i36_16 = (u1)(((u32)(v_r20_i11_i36_15) | (u32)(v_r7_i_i_i10_i35_16)) & 1);
     v_r12_i_i30_17 = (u64)((u64)(v_a1) + (u64)(18446744073709551601ull));
-    v_r16_i_i6_i31_17 = (P)((uintptr_t)v_a0 + (u64)(v_r12_i_i30_17));
-    v_r21_i_i7_i32_17 = (P)((uintptr_t)v_a2 + (u64)(v_r12_i_i30_17));
+    v_r16_i_i6_i31_17 = (P)((u64)v_a0 + (u64)(v_r12_i_i30_17));
+    v_r21_i_i7_i32_17 = (P)((u64)v_a2 + (u64)(v_r12_i_i30_17));
     v_r16_val_i_i8_i33_17 = get_u8(v_r16_i_i6_i31_17);
     v_r21_val_i_i9_i34_17 = get_u8(v_r21_i_i7_i32_17);
     v_r7_i_i_i10_i35_17 = v_r16_val_i_i8_i33_17 != v_r21_val_i_i9_i34_17;
     v_r20_i11_i36_17 = (u1)(((u32)(v_r20_i11_i36_16) | (u32)(v_r7_i_i_i10_i35_17)) & 1);
     v_r12_i_i30_18 = (u64)((u64)(v_a1) + (u64)(18446744073709551602ull));
-    v_r16_i_i6_i31_18 = (P)((uintptr_t)v_a0 + (u64)(v_r12_i_i30_18));
-    v_r21_i_i7_i32_18 = (P)((uintptr_t)v_a2 + (u64)(v_r12_i_i30_18));
+    v_r16_i_i6_i31_18 = (P)((u64)v_a0 + (u64)(v_r12_i_i30_18));
+    v_r21_i_i7_i32_18 = (P)((u64)v_a2 + (u64)(v_r12_i_i30_18));
     v_r16_val_i_i8_i33_18 = get_u8(v_r16_i_i6_i31_18);
     v_r21_val_i_i9_i34_18 = get_u8(v_r21_i_i7_i32_18);
     v_r7_i_i_i10_i35_18 = v_r16_val_i_i8_i33_18 != v_r21_val_i_i9_i34_18;
     v_r20_i11_i36_18 = (u1)(((u32)(v_r20_i11_i36_17) | (u32)(v_r7_i_i_i10_i35_18)) & 1);
     v_r12_i_i30_19 = (u64)((u64)(v_a1) + (u64)(18446744073709551603ull));
-    v_r16_i_i6_i31_19 = (P)((uintptr_t)v_a0 + (u64)(v_r12_i_i30_19));
-    v_r21_i_i7_i32_19 = (P)((uintptr_t)v_a2 + (u64)(v_r12_i_i30_19));
+    v_r16_i_i6_i31_19 = (P)((u64)v_a0 + (u64)(v_r12_i_i30_19));
+    v_r21_i_i7_i32_19 = (P)((u64)v_a2 + (u64)(v_r12_i_i30_19));
     v_r16_val_i_i8_i33_19 = get_u8(v_r16_i_i6_i31_19);
     v_r21_val_i_i9_i34_19 = get_u8(v_r21_i_i7_i32_19);
     v_r7_i_i_i10_i35_19 = v_r16_val_i_i8_i33_19 != v_r21_val_i_i9_i34_19;
     v_r20_i11_i36_19 = (u1)(((u32)(v_r20_i11_i36_18) | (u32)(v_r7_i_i_i10_i35_19)) & 1);
     v_r12_i_i30_20 = (u64)((u64)(v_a1) + (u64)(18446744073709551604ull));
-    v_r16_i_i6_i31_20 = (P)((uintptr_t)v_a0 + (u64)(v_r12_i_i30_20));
-    v_r21_i_i7_i32_20 = (P)((uintptr_t)v_a2 + (u64)(v_r12_i_i30_20));
+    v_r16_i_i6_i31_20 = (P)((u64)v_a0 + (u64)(v_r12_i_i30_20));
+    v_r21_i_i7_i32_20 = (P)((u64)v_a2 + (u64)(v_r12_i_i30_20));
     v_r16_val_i_i8_i33_20 = get_u8(v_r16_i_i6_i31_20);
     v_r21_val_i_i9_i34_20 = get_u8(v_r21_i_i7_i32_20);
     v_r7_i_i_i10_i35_20 = v_r16_val_i_i8_i33_20 != v_r21_val_i_i9_i34_20;
     v_r20_i11_i36_20 = (u1)(((u32)(v_r20_i11_i36_19) | (u32)(v_r7_i_i_i10_i35_20)) & 1);
     v_r12_i_i30_21 = (u64)((u64)(v_a1) + (u64)(18446744073709551605ull));
-    v_r16_i_i6_i31_21 = (P)((uintptr_t)v_a0 + (u64)(v_r12_i_i30_21));
-    v_r21_i_i7_i32_21 = (P)((uintptr_t)v_a2 + (u64)(v_r12_i_i30_21));
+    v_r16_i_i6_i31_21 = (P)((u64)v_a0 + (u64)(v_r12_i_i30_21));
+    v_r21_i_i7_i32_21 = (P)((u64)v_a2 + (u64)(v_r12_i_i30_21));
     v_r16_val_i_i8_i33_21 = get_u8(v_r16_i_i6_i31_21);
     v_r21_val_i_i9_i34_21 = get_u8(v_r21_i_i7_i32_21);
     v_r7_i_i_i10_i35_21 = v_r16_val_i_i8_i33_21 != v_r21_val_i_i9_i34_21;
     v_r20_i11_i36_21 = (u1)(((u32)(v_r20_i11_i36_20) | (u32)(v_r7_i_i_i10_i35_21)) & 1);
     v_r12_i_i30_22 = (u64)((u64)(v_a1) + (u64)(18446744073709551606ull));
-    v_r16_i_i6_i31_22 = (P)((uintptr_t)v_a0 + (u64)(v_r12_i_i30_22));
-    v_r21_i_i7_i32_22 = (P)((uintptr_t)v_a2 + (u64)(v_r12_i_i30_22));
+    v_r16_i_i6_i31_22 = (P)((u64)v_a0 + (u64)(v_r12_i_i30_22));
+    v_r21_i_i7_i32_22 = (P)((u64)v_a2 + (u64)(v_r12_i_i30_22));
     v_r16_val_i_i8_i33_22 = get_u8(v_r16_i_i6_i31_22);
     v_r21_val_i_i9_i34_22 = get_u8(v_r21_i_i7_i32_22);
     v_r7_i_i_i10_i35_22 = v_r16_val_i_i8_i33_22 != v_r21_val_i_i9_i34_22;
     v_r20_i11_i36_22 = (u1)(((u32)(v_r20_i11_i36_21) | (u32)(v_r7_i_i_i10_i35_22)) & 1);
     v_r12_i_i30_23 = (u64)((u64)(v_a1) + (u64)(18446744073709551607ull));
-    v_r16_i_i6_i31_23 = (P)((uintptr_t)v_a0 + (u64)(v_r12_i_i30_23));
-    v_r21_i_i7_i32_23 = (P)((uintptr_t)v_a2 + (u64)(v_r12_i_i30_23));
+    v_r16_i_i6_i31_23 = (P)((u64)v_a0 + (u64)(v_r12_i_i30_23));
+    v_r21_i_i7_i32_23 = (P)((u64)v_a2 + (u64)(v_r12_i_i30_23));
     v_r16_val_i_i8_i33_23 = get_u8(v_r16_i_i6_i31_23);
     v_r21_val_i_i9_i34_23 = get_u8(v_r21_i_i7_i32_23);
     v_r7_i_i_i10_i35_23 = v_r16_val_i_i8_i33_23 != v_r21_val_i_i9_i34_23;
     v_r20_i11_i36_23 = (u1)(((u32)(v_r20_i11_i36_22) | (u32)(v_r7_i_i_i10_i35_23)) & 1);
     v_r12_i_i30_24 = (u64)((u64)(v_a1) + (u64)(18446744073709551608ull));
-    v_r16_i_i6_i31_24 = (P)((uintptr_t)v_a0 + (u64)(v_r12_i_i30_24));
-    v_r21_i_i7_i32_24 = (P)((uintptr_t)v_a2 + (u64)(v_r12_i_i30_24));
+    v_r16_i_i6_i31_24 = (P)((u64)v_a0 + (u64)(v_r12_i_i30_24));
+    v_r21_i_i7_i32_24 = (P)((u64)v_a2 + (u64)(v_r12_i_i30_24));
     v_r16_val_i_i8_i33_24 = get_u8(v_r16_i_i6_i31_24);
     v_r21_val_i_i9_i34_24 = get_u8(v_r21_i_i7_i32_24);
     v_r7_i_i_i10_i35_24 = v_r16_val_i_i8_i33_24 != v_r21_val_i_i9_i34_24;
     v_r20_i11_i36_24 = (u1)(((u32)(v_r20_i11_i36_23) | (u32)(v_r7_i_i_i10_i35_24)) & 1);
     v_r12_i_i30_25 = (u64)((u64)(v_a1) + (u64)(18446744073709551609ull));
-    v_r16_i_i6_i31_25 = (P)((uintptr_t)v_a0 + (u64)(v_r12_i_i30_25));
-    v_r21_i_i7_i32_25 = (P)((uintptr_t)v_a2 + (u64)(v_r12_i_i30_25));
+    v_r16_i_i6_i31_25 = (P)((u64)v_a0 + (u64)(v_r12_i_i30_25));
+    v_r21_i_i7_i32_25 = (P)((u64)v_a2 + (u64)(v_r12_i_i30_25));
     v_r16_val_i_i8_i33_25 = get_u8(v_r16_i_i6_i31_25);
     v_r21_val_i_i9_i34_25 = get_u8(v_r21_i_i7_i32_25);
     v_r7_i_i_i10_i35_25 = v_r16_val_i_i8_i33_25 != v_r21_val_i_i9_i34_25;
     v_r20_i11_i36_25 = (u1)(((u32)(v_r20_i11_i36_24) | (u32)(v_r7_i_i_i10_i35_25)) & 1);
     v_r12_i_i30_26 = (u64)((u64)(v_a1) + (u64)(18446744073709551610ull));
-    v_r16_i_i6_i31_26 = (P)((uintptr_t)v_a0 + (u64)(v_r12_i_i30_26));
-    v_r21_i_i7_i32_26 = (P)((uintptr_t)v_a2 + (u64)(v_r12_i_i30_26));
+    v_r16_i_i6_i31_26 = (P)((u64)v_a0 + (u64)(v_r12_i_i30_26));
+    v_r21_i_i7_i32_26 = (P)((u64)v_a2 + (u64)(v_r12_i_i30_26));
     v_r16_val_i_i8_i33_26 = get_u8(v_r16_i_i6_i31_26);
     v_r21_val_i_i9_i34_26 = get_u8(v_r21_i_i7_i32_26);
     v_r7_i_i_i10_i35_26 = v_r16_val_i_i8_i33_26 != v_r21_val_i_i9_i34_26;
     v_r20_i11_i36_26 = (u1)(((u32)(v_r20_i11_i36_25) | (u32)(v_r7_i_i_i10_i35_26)) & 1);
     v_r12_i_i30_27 = (u64)((u64)(v_a1) + (u64)(18446744073709551611ull));
-    v_r16_i_i6_i31_27 = (P)((uintptr_t)v_a0 + (u64)(v_r12_i_i30_27));
-    v_r21_i_i7_i32_27 = (P)((uintptr_t)v_a2 + (u64)(v_r12_i_i30_27));
+    v_r16_i_i6_i31_27 = (P)((u64)v_a0 + (u64)(v_r12_i_i30_27));
+    v_r21_i_i7_i32_27 = (P)((u64)v_a2 + (u64)(v_r12_i_i30_27));
     v_r16_val_i_i8_i33_27 = get_u8(v_r16_i_i6_i31_27);
     v_r21_val_i_i9_i34_27 = get_u8(v_r21_i_i7_i32_27);
     v_r7_i_i_i10_i35_27 = v_r16_val_i_i8_i33_27 != v_r21_val_i_i9_i34_27;
     v_r20_i11_i36_27 = (u1)(((u32)(v_r20_i11_i36_26) | (u32)(v_r7_i_i_i10_i35_27)) & 1);
     v_r12_i_i30_28 = (u64)((u64)(v_a1) + (u64)(18446744073709551612ull));
-    v_r16_i_i6_i31_28 = (P)((uintptr_t)v_a0 + (u64)(v_r12_i_i30_28));
-    v_r21_i_i7_i32_28 = (P)((uintptr_t)v_a2 + (u64)(v_r12_i_i30_28));
+    v_r16_i_i6_i31_28 = (P)((u64)v_a0 + (u64)(v_r12_i_i30_28));
+    v_r21_i_i7_i32_28 = (P)((u64)v_a2 + (u64)(v_r12_i_i30_28));
     v_r16_val_i_i8_i33_28 = get_u8(v_r16_i_i6_i31_28);
     v_r21_val_i_i9_i34_28 = get_u8(v_r21_i_i7_i32_28);
     v_r7_i_i_i10_i35_28 = v_r16_val_i_i8_i33_28 != v_r21_val_i_i9_i34_28;
     v_r20_i11_i36_28 = (u1)(((u32)(v_r20_i11_i36_27) | (u32)(v_r7_i_i_i10_i35_28)) & 1);
     v_r12_i_i30_29 = (u64)((u64)(v_a1) + (u64)(18446744073709551613ull));
-    v_r16_i_i6_i31_29 = (P)((uintptr_t)v_a0 + (u64)(v_r12_i_i30_29));
-    v_r21_i_i7_i32_29 = (P)((uintptr_t)v_a2 + (u64)(v_r12_i_i30_29));
+    v_r16_i_i6_i31_29 = (P)((u64)v_a0 + (u64)(v_r12_i_i30_29));
+    v_r21_i_i7_i32_29 = (P)((u64)v_a2 + (u64)(v_r12_i_i30_29));
     v_r16_val_i_i8_i33_29 = get_u8(v_r16_i_i6_i31_29);
     v_r21_val_i_i9_i34_29 = get_u8(v_r21_i_i7_i32_29);
     v_r7_i_i_i10_i35_29 = v_r16_val_i_i8_i33_29 != v_r21_val_i_i9_i34_29;
     v_r20_i11_i36_29 = (u1)(((u32)(v_r20_i11_i36_28) | (u32)(v_r7_i_i_i10_i35_29)) & 1);
     v_r12_i_i30_30 = (u64)((u64)(v_a1) + (u64)(18446744073709551614ull));
-    v_r16_i_i6_i31_30 = (P)((uintptr_t)v_a0 + (u64)(v_r12_i_i30_30));
-    v_r21_i_i7_i32_30 = (P)((uintptr_t)v_a2 + (u64)(v_r12_i_i30_30));
+    v_r16_i_i6_i31_30 = (P)((u64)v_a0 + (u64)(v_r12_i_i30_30));
+    v_r21_i_i7_i32_30 = (P)((u64)v_a2 + (u64)(v_r12_i_i30_30));
     v_r16_val_i_i8_i33_30 = get_u8(v_r16_i_i6_i31_30);
     v_r21_val_i_i9_i34_30 = get_u8(v_r21_i_i7_i32_30);
     v_r7_i_i_i10_i35_30 = v_r16_val_i_i8_i33_30 != v_r21_val_i_i9_i34_30;
     v_r20_i11_i36_30 = (u1)(((u32)(v_r20_i11_i36_29) | (u32)(v_r7_i_i_i10_i35_30)) & 1);
     v_r12_i_i30_31 = (u64)((u64)(v_a1) + (u64)(18446744073709551615ull));
-    v_r16_i_i6_i31_31 = (P)((uintptr_t)v_a0 + (u64)(v_r12_i_i30_31));
-    v_r21_i_i7_i32_31 = (P)((uintptr_t)v_a2 + (u64)(v_r12_i_i30_31));
+    v_r16_i_i6_i31_31 = (P)((u64)v_a0 + (u64)(v_r12_i_i30_31));
+    v_r21_i_i7_i32_31 = (P)((u64)v_a2 + (u64)(v_r12_i_i30_31));
     v_r16_val_i_i8_i33_31 = get_u8(v_r16_i_i6_i31_31);
     v_r21_val_i_i9_i34_31 = get_u8(v_r21_i_i7_i32_31);
     v_r7_i_i_i10_i35_31 = v_r16_val_i_i8_i33_31 != v_r21_val_i_i9_i34_31;
@@ -2014,32 +2043,32 @@ L_join_5_i_i41:;
     v_r1_07_i_i42 = p_v_r1_07_i_i42;
     v_r2_06_i_i43 = p_v_r2_06_i_i43;
     v_r12_i_i44 = (u64)((u64)(v_r2_06_i_i43) + (u64)(v_r1_03_i));
-    v_r16_i_i_i45 = (P)((uintptr_t)v_a0 + (u64)(v_r12_i_i44));
-    v_r21_i_i_i46 = (P)((uintptr_t)v_a2 + (u64)(v_r12_i_i44));
+    v_r16_i_i_i45 = (P)((u64)v_a0 + (u64)(v_r12_i_i44));
+    v_r21_i_i_i46 = (P)((u64)v_a2 + (u64)(v_r12_i_i44));
     v_r16_val_i_i_i47 = get_u8(v_r16_i_i_i45);
     v_r21_val_i_i_i48 = get_u8(v_r21_i_i_i46);
     v_r7_i_i_i_i49 = v_r16_val_i_i_i47 != v_r21_val_i_i_i48;
     v_r20_i_i50 = (u1)(((u32)(v_r1_07_i_i42) | (u32)(v_r7_i_i_i_i49)) & 1);
     v_r23_i_i51 = (u64)((u64)(v_r2_06_i_i43) | (u64)(1u));
     v_r12_i_i44_1 = (u64)((u64)(v_r23_i_i51) + (u64)(v_r1_03_i));
-    v_r16_i_i_i45_1 = (P)((uintptr_t)v_a0 + (u64)(v_r12_i_i44_1));
-    v_r21_i_i_i46_1 = (P)((uintptr_t)v_a2 + (u64)(v_r12_i_i44_1));
+    v_r16_i_i_i45_1 = (P)((u64)v_a0 + (u64)(v_r12_i_i44_1));
+    v_r21_i_i_i46_1 = (P)((u64)v_a2 + (u64)(v_r12_i_i44_1));
     v_r16_val_i_i_i47_1 = get_u8(v_r16_i_i_i45_1);
     v_r21_val_i_i_i48_1 = get_u8(v_r21_i_i_i46_1);
     v_r7_i_i_i_i49_1 = v_r16_val_i_i_i47_1 != v_r21_val_i_i_i48_1;
     v_r20_i_i50_1 = (u1)(((u32)(v_r20_i_i50) | (u32)(v_r7_i_i_i_i49_1)) & 1);
     v_r23_i_i51_1 = (u64)((u64)(v_r2_06_i_i43) | (u64)(2u));
     v_r12_i_i44_2 = (u64)((u64)(v_r23_i_i51_1) + (u64)(v_r1_03_i));
-    v_r16_i_i_i45_2 = (P)((uintptr_t)v_a0 + (u64)(v_r12_i_i44_2));
-    v_r21_i_i_i46_2 = (P)((uintptr_t)v_a2 + (u64)(v_r12_i_i44_2));
+    v_r16_i_i_i45_2 = (P)((u64)v_a0 + (u64)(v_r12_i_i44_2));
+    v_r21_i_i_i46_2 = (P)((u64)v_a2 + (u64)(v_r12_i_i44_2));
     v_r16_val_i_i_i47_2 = get_u8(v_r16_i_i_i45_2);
     v_r21_val_i_i_i48_2 = get_u8(v_r21_i_i_i46_2);
     v_r7_i_i_i_i49_2 = v_r16_val_i_i_i47_2 != v_r21_val_i_i_i48_2;
     v_r20_i_i50_2 = (u1)(((u32)(v_r20_i_i50_1) | (u32)(v_r7_i_i_i_i49_2)) & 1);
     v_r23_i_i51_2 = (u64)((u64)(v_r2_06_i_i43) | (u64)(3u));
     v_r12_i_i44_3 = (u64)((u64)(v_r23_i_i51_2) + (u64)(v_r1_03_i));
-    v_r16_i_i_i45_3 = (P)((uintptr_t)v_a0 + (u64)(v_r12_i_i44_3));
-    v_r21_i_i_i46_3 = (P)((uintptr_t)v_a2 + (u64)(v_r12_i_i44_3));
+    v_r16_i_i_i45_3 = (P)((u64)v_a0 + (u64)(v_r12_i_i44_3));
+    v_r21_i_i_i46_3 = (P)((u64)v_a2 + (u64)(v_r12_i_i44_3));
     v_r16_val_i_i_i47_3 = get_u8(v_r16_i_i_i45_3);
     v_r21_val_i_i_i48_3 = get_u8(v_r21_i_i_i46_3);
     v_r7_i_i_i_i49_3 = v_r16_val_i_i_i47_3 != v_r21_val_i_i_i48_3;
@@ -2064,224 +2093,224 @@ L_core_slice_scan_skip_groups_953750c03e87c3e2_exit:;
     if (v_r14_not2_i54) { goto L_join_21_i; } else { p_v_r1_03_i56 = v_r1_0_lcssa_i; goto L_join_5_i_preheader_i55; }
 L_join_5_i_preheader_i55:;
     v_r1_03_i56 = p_v_r1_03_i56;
-    v_r16_i_i_i61 = (P)((uintptr_t)v_a0 + (u64)(v_r1_03_i56));
-    v_r21_i_i_i62 = (P)((uintptr_t)v_a2 + (u64)(v_r1_03_i56));
+    v_r16_i_i_i61 = (P)((u64)v_a0 + (u64)(v_r1_03_i56));
+    v_r21_i_i_i62 = (P)((u64)v_a2 + (u64)(v_r1_03_i56));
     v_r16_val_i_i_i63 = get_u8(v_r16_i_i_i61);
     v_r21_val_i_i_i64 = get_u8(v_r21_i_i_i62);
     v_r7_i_i_i_i65 = v_r16_val_i_i_i63 != v_r21_val_i_i_i64;
     v_r12_i_i60_1 = (u64)((u64)(v_r1_03_i56) + (u64)(1u));
-    v_r16_i_i_i61_1 = (P)((uintptr_t)v_a0 + (u64)(v_r12_i_i60_1));
-    v_r21_i_i_i62_1 = (P)((uintptr_t)v_a2 + (u64)(v_r12_i_i60_1));
+    v_r16_i_i_i61_1 = (P)((u64)v_a0 + (u64)(v_r12_i_i60_1));
+    v_r21_i_i_i62_1 = (P)((u64)v_a2 + (u64)(v_r12_i_i60_1));
     v_r16_val_i_i_i63_1 = get_u8(v_r16_i_i_i61_1);
     v_r21_val_i_i_i64_1 = get_u8(v_r21_i_i_i62_1);
     v_r7_i_i_i_i65_1 = v_r16_val_i_i_i63_1 != v_r21_val_i_i_i64_1;
     v_r20_i_i66_1 = (u1)(((u32)(v_r7_i_i_i_i65) | (u32)(v_r7_i_i_i_i65_1)) & 1);
     v_r12_i_i60_2 = (u64)((u64)(v_r1_03_i56) + (u64)(2u));
-    v_r16_i_i_i61_2 = (P)((uintptr_t)v_a0 + (u64)(v_r12_i_i60_2));
-    v_r21_i_i_i62_2 = (P)((uintptr_t)v_a2 + (u64)(v_r12_i_i60_2));
+    v_r16_i_i_i61_2 = (P)((u64)v_a0 + (u64)(v_r12_i_i60_2));
+    v_r21_i_i_i62_2 = (P)((u64)v_a2 + (u64)(v_r12_i_i60_2));
     v_r16_val_i_i_i63_2 = get_u8(v_r16_i_i_i61_2);
     v_r21_val_i_i_i64_2 = get_u8(v_r21_i_i_i62_2);
     v_r7_i_i_i_i65_2 = v_r16_val_i_i_i63_2 != v_r21_val_i_i_i64_2;
     v_r20_i_i66_2 = (u1)(((u32)(v_r20_i_i66_1) | (u32)(v_r7_i_i_i_i65_2)) & 1);
     v_r12_i_i60_3 = (u64)((u64)(v_r1_03_i56) + (u64)(3u));
-    v_r16_i_i_i61_3 = (P)((uintptr_t)v_a0 + (u64)(v_r12_i_i60_3));
-    v_r21_i_i_i62_3 = (P)((uintptr_t)v_a2 + (u64)(v_r12_i_i60_3));
+    v_r16_i_i_i61_3 = (P)((u64)v_a0 + (u64)(v_r12_i_i60_3));
+    v_r21_i_i_i62_3 = (P)((u64)v_a2 + (u64)(v_r12_i_i60_3));
     v_r16_val_i_i_i63_3 = get_u8(v_r16_i_i_i61_3);
     v_r21_val_i_i_i64_3 = get_u8(v_r21_i_i_i62_3);
     v_r7_i_i_i_i65_3 = v_r16_val_i_i_i63_3 != v_r21_val_i_i_i64_3;
     v_r20_i_i66_3 = (u1)(((u32)(v_r20_i_i66_2) | (u32)(v_r7_i_i_i_i65_3)) & 1);
     v_r12_i_i60_4 = (u64)((u64)(v_r1_03_i56) + (u64)(4u));
-    v_r16_i_i_i61_4 = (P)((uintptr_t)v_a0 + (u64)(v_r12_i_i60_4));
-    v_r21_i_i_i62_4 = (P)((uintptr_t)v_a2 + (u64)(v_r12_i_i60_4));
+    v_r16_i_i_i61_4 = (P)((u64)v_a0 + (u64)(v_r12_i_i60_4));
+    v_r21_i_i_i62_4 = (P)((u64)v_a2 + (u64)(v_r12_i_i60_4));
     v_r16_val_i_i_i63_4 = get_u8(v_r16_i_i_i61_4);
     v_r21_val_i_i_i64_4 = get_u8(v_r21_i_i_i62_4);
     v_r7_i_i_i_i65_4 = v_r16_val_i_i_i63_4 != v_r21_val_i_i_i64_4;
     v_r20_i_i66_4 = (u1)(((u32)(v_r20_i_i66_3) | (u32)(v_r7_i_i_i_i65_4)) & 1);
     v_r12_i_i60_5 = (u64)((u64)(v_r1_03_i56) + (u64)(5u));
-    v_r16_i_i_i61_5 = (P)((uintptr_t)v_a0 + (u64)(v_r12_i_i60_5));
-    v_r21_i_i_i62_5 = (P)((uintptr_t)v_a2 + (u64)(v_r12_i_i60_5));
+    v_r16_i_i_i61_5 = (P)((u64)v_a0 + (u64)(v_r12_i_i60_5));
+    v_r21_i_i_i62_5 = (P)((u64)v_a2 + (u64)(v_r12_i_i60_5));
     v_r16_val_i_i_i63_5 = get_u8(v_r16_i_i_i61_5);
     v_r21_val_i_i_i64_5 = get_u8(v_r21_i_i_i62_5);
     v_r7_i_i_i_i65_5 = v_r16_val_i_i_i63_5 != v_r21_val_i_i_i64_5;
     v_r20_i_i66_5 = (u1)(((u32)(v_r20_i_i66_4) | (u32)(v_r7_i_i_i_i65_5)) & 1);
     v_r12_i_i60_6 = (u64)((u64)(v_r1_03_i56) + (u64)(6u));
-    v_r16_i_i_i61_6 = (P)((uintptr_t)v_a0 + (u64)(v_r12_i_i60_6));
-    v_r21_i_i_i62_6 = (P)((uintptr_t)v_a2 + (u64)(v_r12_i_i60_6));
+    v_r16_i_i_i61_6 = (P)((u64)v_a0 + (u64)(v_r12_i_i60_6));
+    v_r21_i_i_i62_6 = (P)((u64)v_a2 + (u64)(v_r12_i_i60_6));
     v_r16_val_i_i_i63_6 = get_u8(v_r16_i_i_i61_6);
     v_r21_val_i_i_i64_6 = get_u8(v_r21_i_i_i62_6);
     v_r7_i_i_i_i65_6 = v_r16_val_i_i_i63_6 != v_r21_val_i_i_i64_6;
     v_r20_i_i66_6 = (u1)(((u32)(v_r20_i_i66_5) | (u32)(v_r7_i_i_i_i65_6)) & 1);
     v_r12_i_i60_7 = (u64)((u64)(v_r1_03_i56) + (u64)(7u));
-    v_r16_i_i_i61_7 = (P)((uintptr_t)v_a0 + (u64)(v_r12_i_i60_7));
-    v_r21_i_i_i62_7 = (P)((uintptr_t)v_a2 + (u64)(v_r12_i_i60_7));
+    v_r16_i_i_i61_7 = (P)((u64)v_a0 + (u64)(v_r12_i_i60_7));
+    v_r21_i_i_i62_7 = (P)((u64)v_a2 + (u64)(v_r12_i_i60_7));
     v_r16_val_i_i_i63_7 = get_u8(v_r16_i_i_i61_7);
     v_r21_val_i_i_i64_7 = get_u8(v_r21_i_i_i62_7);
     v_r7_i_i_i_i65_7 = v_r16_val_i_i_i63_7 != v_r21_val_i_i_i64_7;
     v_r20_i_i66_7 = (u1)(((u32)(v_r20_i_i66_6) | (u32)(v_r7_i_i_i_i65_7)) & 1);
     v_r12_i_i60_8 = (u64)((u64)(v_r1_03_i56) + (u64)(8u));
-    v_r16_i_i_i61_8 = (P)((uintptr_t)v_a0 + (u64)(v_r12_i_i60_8));
-    v_r21_i_i_i62_8 = (P)((uintptr_t)v_a2 + (u64)(v_r12_i_i60_8));
+    v_r16_i_i_i61_8 = (P)((u64)v_a0 + (u64)(v_r12_i_i60_8));
+    v_r21_i_i_i62_8 = (P)((u64)v_a2 + (u64)(v_r12_i_i60_8));
     v_r16_val_i_i_i63_8 = get_u8(v_r16_i_i_i61_8);
     v_r21_val_i_i_i64_8 = get_u8(v_r21_i_i_i62_8);
     v_r7_i_i_i_i65_8 = v_r16_val_i_i_i63_8 != v_r21_val_i_i_i64_8;
     v_r20_i_i66_8 = (u1)(((u32)(v_r20_i_i66_7) | (u32)(v_r7_i_i_i_i65_8)) & 1);
     v_r12_i_i60_9 = (u64)((u64)(v_r1_03_i56) + (u64)(9u));
-    v_r16_i_i_i61_9 = (P)((uintptr_t)v_a0 + (u64)(v_r12_i_i60_9));
-    v_r21_i_i_i62_9 = (P)((uintptr_t)v_a2 + (u64)(v_r12_i_i60_9));
+    v_r16_i_i_i61_9 = (P)((u64)v_a0 + (u64)(v_r12_i_i60_9));
+    v_r21_i_i_i62_9 = (P)((u64)v_a2 + (u64)(v_r12_i_i60_9));
     v_r16_val_i_i_i63_9 = get_u8(v_r16_i_i_i61_9);
     v_r21_val_i_i_i64_9 = get_u8(v_r21_i_i_i62_9);
     v_r7_i_i_i_i65_9 = v_r16_val_i_i_i63_9 != v_r21_val_i_i_i64_9;
     v_r20_i_i66_9 = (u1)(((u32)(v_r20_i_i66_8) | (u32)(v_r7_i_i_i_i65_9)) & 1);
     v_r12_i_i60_10 = (u64)((u64)(v_r1_03_i56) + (u64)(10u));
-    v_r16_i_i_i61_10 = (P)((uintptr_t)v_a0 + (u64)(v_r12_i_i60_10));
-    v_r21_i_i_i62_10 = (P)((uintptr_t)v_a2 + (u64)(v_r12_i_i60_10));
+    v_r16_i_i_i61_10 = (P)((u64)v_a0 + (u64)(v_r12_i_i60_10));
+    v_r21_i_i_i62_10 = (P)((u64)v_a2 + (u64)(v_r12_i_i60_10));
     v_r16_val_i_i_i63_10 = get_u8(v_r16_i_i_i61_10);
     v_r21_val_i_i_i64_10 = get_u8(v_r21_i_i_i62_10);
     v_r7_i_i_i_i65_10 = v_r16_val_i_i_i63_10 != v_r21_val_i_i_i64_10;
     v_r20_i_i66_10 = (u1)(((u32)(v_r20_i_i66_9) | (u32)(v_r7_i_i_i_i65_10)) & 1);
     v_r12_i_i60_11 = (u64)((u64)(v_r1_03_i56) + (u64)(11u));
-    v_r16_i_i_i61_11 = (P)((uintptr_t)v_a0 + (u64)(v_r12_i_i60_11));
-    v_r21_i_i_i62_11 = (P)((uintptr_t)v_a2 + (u64)(v_r12_i_i60_11));
+    v_r16_i_i_i61_11 = (P)((u64)v_a0 + (u64)(v_r12_i_i60_11));
+    v_r21_i_i_i62_11 = (P)((u64)v_a2 + (u64)(v_r12_i_i60_11));
     v_r16_val_i_i_i63_11 = get_u8(v_r16_i_i_i61_11);
     v_r21_val_i_i_i64_11 = get_u8(v_r21_i_i_i62_11);
     v_r7_i_i_i_i65_11 = v_r16_val_i_i_i63_11 != v_r21_val_i_i_i64_11;
     v_r20_i_i66_11 = (u1)(((u32)(v_r20_i_i66_10) | (u32)(v_r7_i_i_i_i65_11)) & 1);
     v_r12_i_i60_12 = (u64)((u64)(v_r1_03_i56) + (u64)(12u));
-    v_r16_i_i_i61_12 = (P)((uintptr_t)v_a0 + (u64)(v_r12_i_i60_12));
-    v_r21_i_i_i62_12 = (P)((uintptr_t)v_a2 + (u64)(v_r12_i_i60_12));
+    v_r16_i_i_i61_12 = (P)((u64)v_a0 + (u64)(v_r12_i_i60_12));
+    v_r21_i_i_i62_12 = (P)((u64)v_a2 + (u64)(v_r12_i_i60_12));
     v_r16_val_i_i_i63_12 = get_u8(v_r16_i_i_i61_12);
     v_r21_val_i_i_i64_12 = get_u8(v_r21_i_i_i62_12);
     v_r7_i_i_i_i65_12 = v_r16_val_i_i_i63_12 != v_r21_val_i_i_i64_12;
     v_r20_i_i66_12 = (u1)(((u32)(v_r20_i_i66_11) | (u32)(v_r7_i_i_i_i65_12)) & 1);
     v_r12_i_i60_13 = (u64)((u64)(v_r1_03_i56) + (u64)(13u));
-    v_r16_i_i_i61_13 = (P)((uintptr_t)v_a0 + (u64)(v_r12_i_i60_13));
-    v_r21_i_i_i62_13 = (P)((uintptr_t)v_a2 + (u64)(v_r12_i_i60_13));
+    v_r16_i_i_i61_13 = (P)((u64)v_a0 + (u64)(v_r12_i_i60_13));
+    v_r21_i_i_i62_13 = (P)((u64)v_a2 + (u64)(v_r12_i_i60_13));
     v_r16_val_i_i_i63_13 = get_u8(v_r16_i_i_i61_13);
     v_r21_val_i_i_i64_13 = get_u8(v_r21_i_i_i62_13);
     v_r7_i_i_i_i65_13 = v_r16_val_i_i_i63_13 != v_r21_val_i_i_i64_13;
     v_r20_i_i66_13 = (u1)(((u32)(v_r20_i_i66_12) | (u32)(v_r7_i_i_i_i65_13)) & 1);
     v_r12_i_i60_14 = (u64)((u64)(v_r1_03_i56) + (u64)(14u));
-    v_r16_i_i_i61_14 = (P)((uintptr_t)v_a0 + (u64)(v_r12_i_i60_14));
-    v_r21_i_i_i62_14 = (P)((uintptr_t)v_a2 + (u64)(v_r12_i_i60_14));
+    v_r16_i_i_i61_14 = (P)((u64)v_a0 + (u64)(v_r12_i_i60_14));
+    v_r21_i_i_i62_14 = (P)((u64)v_a2 + (u64)(v_r12_i_i60_14));
     v_r16_val_i_i_i63_14 = get_u8(v_r16_i_i_i61_14);
     v_r21_val_i_i_i64_14 = get_u8(v_r21_i_i_i62_14);
     v_r7_i_i_i_i65_14 = v_r16_val_i_i_i63_14 != v_r21_val_i_i_i64_14;
     v_r20_i_i66_14 = (u1)(((u32)(v_r20_i_i66_13) | (u32)(v_r7_i_i_i_i65_14)) & 1);
     v_r12_i_i60_15 = (u64)((u64)(v_r1_03_i56) + (u64)(15u));
-    v_r16_i_i_i61_15 = (P)((uintptr_t)v_a0 + (u64)(v_r12_i_i60_15));
-    v_r21_i_i_i62_15 = (P)((uintptr_t)v_a2 + (u64)(v_r12_i_i60_15));
+    v_r16_i_i_i61_15 = (P)((u64)v_a0 + (u64)(v_r12_i_i60_15));
+    v_r21_i_i_i62_15 = (P)((u64)v_a2 + (u64)(v_r12_i_i60_15));
     v_r16_val_i_i_i63_15 = get_u8(v_r16_i_i_i61_15);
     v_r21_val_i_i_i64_15 = get_u8(v_r21_i_i_i62_15);
     v_r7_i_i_i_i65_15 = v_r16_val_i_i_i63_15 != v_r21_val_i_i_i64_15;
     v_r20_i_i66_15 = (u1)(((u32)(v_r20_i_i66_14) | (u32)(v_r7_i_i_i_i65_15)) & 1);
     v_r12_i_i60_16 = (u64)((u64)(v_r1_03_i56) + (u64)(16u));
-    v_r16_i_i_i61_16 = (P)((uintptr_t)v_a0 + (u64)(v_r12_i_i60_16));
-    v_r21_i_i_i62_16 = (P)((uintptr_t)v_a2 + (u64)(v_r12_i_i60_16));
+    v_r16_i_i_i61_16 = (P)((u64)v_a0 + (u64)(v_r12_i_i60_16));
+    v_r21_i_i_i62_16 = (P)((u64)v_a2 + (u64)(v_r12_i_i60_16));
     v_r16_val_i_i_i63_16 = get_u8(v_r16_i_i_i61_16);
     v_r21_val_i_i_i64_16 = get_u8(v_r21_i_i_i62_16);
     v_r7_i_i_i_i65_16 = v_r16_val_i_i_i63_16 != v_r21_val_i_i_i64_16;
     v_r20_i_i66_16 = (u1)(((u32)(v_r20_i_i66_15) | (u32)(v_r7_i_i_i_i65_16)) & 1);
     v_r12_i_i60_17 = (u64)((u64)(v_r1_03_i56) + (u64)(17u));
-    v_r16_i_i_i61_17 = (P)((uintptr_t)v_a0 + (u64)(v_r12_i_i60_17));
-    v_r21_i_i_i62_17 = (P)((uintptr_t)v_a2 + (u64)(v_r12_i_i60_17));
+    v_r16_i_i_i61_17 = (P)((u64)v_a0 + (u64)(v_r12_i_i60_17));
+    v_r21_i_i_i62_17 = (P)((u64)v_a2 + (u64)(v_r12_i_i60_17));
     v_r16_val_i_i_i63_17 = get_u8(v_r16_i_i_i61_17);
     v_r21_val_i_i_i64_17 = get_u8(v_r21_i_i_i62_17);
     v_r7_i_i_i_i65_17 = v_r16_val_i_i_i63_17 != v_r21_val_i_i_i64_17;
     v_r20_i_i66_17 = (u1)(((u32)(v_r20_i_i66_16) | (u32)(v_r7_i_i_i_i65_17)) & 1);
     v_r12_i_i60_18 = (u64)((u64)(v_r1_03_i56) + (u64)(18u));
-    v_r16_i_i_i61_18 = (P)((uintptr_t)v_a0 + (u64)(v_r12_i_i60_18));
-    v_r21_i_i_i62_18 = (P)((uintptr_t)v_a2 + (u64)(v_r12_i_i60_18));
+    v_r16_i_i_i61_18 = (P)((u64)v_a0 + (u64)(v_r12_i_i60_18));
+    v_r21_i_i_i62_18 = (P)((u64)v_a2 + (u64)(v_r12_i_i60_18));
     v_r16_val_i_i_i63_18 = get_u8(v_r16_i_i_i61_18);
     v_r21_val_i_i_i64_18 = get_u8(v_r21_i_i_i62_18);
     v_r7_i_i_i_i65_18 = v_r16_val_i_i_i63_18 != v_r21_val_i_i_i64_18;
     v_r20_i_i66_18 = (u1)(((u32)(v_r20_i_i66_17) | (u32)(v_r7_i_i_i_i65_18)) & 1);
     v_r12_i_i60_19 = (u64)((u64)(v_r1_03_i56) + (u64)(19u));
-    v_r16_i_i_i61_19 = (P)((uintptr_t)v_a0 + (u64)(v_r12_i_i60_19));
-    v_r21_i_i_i62_19 = (P)((uintptr_t)v_a2 + (u64)(v_r12_i_i60_19));
+    v_r16_i_i_i61_19 = (P)((u64)v_a0 + (u64)(v_r12_i_i60_19));
+    v_r21_i_i_i62_19 = (P)((u64)v_a2 + (u64)(v_r12_i_i60_19));
     v_r16_val_i_i_i63_19 = get_u8(v_r16_i_i_i61_19);
     v_r21_val_i_i_i64_19 = get_u8(v_r21_i_i_i62_19);
     v_r7_i_i_i_i65_19 = v_r16_val_i_i_i63_19 != v_r21_val_i_i_i64_19;
     v_r20_i_i66_19 = (u1)(((u32)(v_r20_i_i66_18) | (u32)(v_r7_i_i_i_i65_19)) & 1);
     v_r12_i_i60_20 = (u64)((u64)(v_r1_03_i56) + (u64)(20u));
-    v_r16_i_i_i61_20 = (P)((uintptr_t)v_a0 + (u64)(v_r12_i_i60_20));
-    v_r21_i_i_i62_20 = (P)((uintptr_t)v_a2 + (u64)(v_r12_i_i60_20));
+    v_r16_i_i_i61_20 = (P)((u64)v_a0 + (u64)(v_r12_i_i60_20));
+    v_r21_i_i_i62_20 = (P)((u64)v_a2 + (u64)(v_r12_i_i60_20));
     v_r16_val_i_i_i63_20 = get_u8(v_r16_i_i_i61_20);
     v_r21_val_i_i_i64_20 = get_u8(v_r21_i_i_i62_20);
     v_r7_i_i_i_i65_20 = v_r16_val_i_i_i63_20 != v_r21_val_i_i_i64_20;
     v_r20_i_i66_20 = (u1)(((u32)(v_r20_i_i66_19) | (u32)(v_r7_i_i_i_i65_20)) & 1);
     v_r12_i_i60_21 = (u64)((u64)(v_r1_03_i56) + (u64)(21u));
-    v_r16_i_i_i61_21 = (P)((uintptr_t)v_a0 + (u64)(v_r12_i_i60_21));
-    v_r21_i_i_i62_21 = (P)((uintptr_t)v_a2 + (u64)(v_r12_i_i60_21));
+    v_r16_i_i_i61_21 = (P)((u64)v_a0 + (u64)(v_r12_i_i60_21));
+    v_r21_i_i_i62_21 = (P)((u64)v_a2 + (u64)(v_r12_i_i60_21));
     v_r16_val_i_i_i63_21 = get_u8(v_r16_i_i_i61_21);
     v_r21_val_i_i_i64_21 = get_u8(v_r21_i_i_i62_21);
     v_r7_i_i_i_i65_21 = v_r16_val_i_i_i63_21 != v_r21_val_i_i_i64_21;
     v_r20_i_i66_21 = (u1)(((u32)(v_r20_i_i66_20) | (u32)(v_r7_i_i_i_i65_21)) & 1);
     v_r12_i_i60_22 = (u64)((u64)(v_r1_03_i56) + (u64)(22u));
-    v_r16_i_i_i61_22 = (P)((uintptr_t)v_a0 + (u64)(v_r12_i_i60_22));
-    v_r21_i_i_i62_22 = (P)((uintptr_t)v_a2 + (u64)(v_r12_i_i60_22));
+    v_r16_i_i_i61_22 = (P)((u64)v_a0 + (u64)(v_r12_i_i60_22));
+    v_r21_i_i_i62_22 = (P)((u64)v_a2 + (u64)(v_r12_i_i60_22));
     v_r16_val_i_i_i63_22 = get_u8(v_r16_i_i_i61_22);
     v_r21_val_i_i_i64_22 = get_u8(v_r21_i_i_i62_22);
     v_r7_i_i_i_i65_22 = v_r16_val_i_i_i63_22 != v_r21_val_i_i_i64_22;
     v_r20_i_i66_22 = (u1)(((u32)(v_r20_i_i66_21) | (u32)(v_r7_i_i_i_i65_22)) & 1);
     v_r12_i_i60_23 = (u64)((u64)(v_r1_03_i56) + (u64)(23u));
-    v_r16_i_i_i61_23 = (P)((uintptr_t)v_a0 + (u64)(v_r12_i_i60_23));
-    v_r21_i_i_i62_23 = (P)((uintptr_t)v_a2 + (u64)(v_r12_i_i60_23));
+    v_r16_i_i_i61_23 = (P)((u64)v_a0 + (u64)(v_r12_i_i60_23));
+    v_r21_i_i_i62_23 = (P)((u64)v_a2 + (u64)(v_r12_i_i60_23));
     v_r16_val_i_i_i63_23 = get_u8(v_r16_i_i_i61_23);
     v_r21_val_i_i_i64_23 = get_u8(v_r21_i_i_i62_23);
     v_r7_i_i_i_i65_23 = v_r16_val_i_i_i63_23 != v_r21_val_i_i_i64_23;
     v_r20_i_i66_23 = (u1)(((u32)(v_r20_i_i66_22) | (u32)(v_r7_i_i_i_i65_23)) & 1);
     v_r12_i_i60_24 = (u64)((u64)(v_r1_03_i56) + (u64)(24u));
-    v_r16_i_i_i61_24 = (P)((uintptr_t)v_a0 + (u64)(v_r12_i_i60_24));
-    v_r21_i_i_i62_24 = (P)((uintptr_t)v_a2 + (u64)(v_r12_i_i60_24));
+    v_r16_i_i_i61_24 = (P)((u64)v_a0 + (u64)(v_r12_i_i60_24));
+    v_r21_i_i_i62_24 = (P)((u64)v_a2 + (u64)(v_r12_i_i60_24));
     v_r16_val_i_i_i63_24 = get_u8(v_r16_i_i_i61_24);
     v_r21_val_i_i_i64_24 = get_u8(v_r21_i_i_i62_24);
     v_r7_i_i_i_i65_24 = v_r16_val_i_i_i63_24 != v_r21_val_i_i_i64_24;
     v_r20_i_i66_24 = (u1)(((u32)(v_r20_i_i66_23) | (u32)(v_r7_i_i_i_i65_24)) & 1);
     v_r12_i_i60_25 = (u64)((u64)(v_r1_03_i56) + (u64)(25u));
-    v_r16_i_i_i61_25 = (P)((uintptr_t)v_a0 + (u64)(v_r12_i_i60_25));
-    v_r21_i_i_i62_25 = (P)((uintptr_t)v_a2 + (u64)(v_r12_i_i60_25));
+    v_r16_i_i_i61_25 = (P)((u64)v_a0 + (u64)(v_r12_i_i60_25));
+    v_r21_i_i_i62_25 = (P)((u64)v_a2 + (u64)(v_r12_i_i60_25));
     v_r16_val_i_i_i63_25 = get_u8(v_r16_i_i_i61_25);
     v_r21_val_i_i_i64_25 = get_u8(v_r21_i_i_i62_25);
     v_r7_i_i_i_i65_25 = v_r16_val_i_i_i63_25 != v_r21_val_i_i_i64_25;
     v_r20_i_i66_25 = (u1)(((u32)(v_r20_i_i66_24) | (u32)(v_r7_i_i_i_i65_25)) & 1);
     v_r12_i_i60_26 = (u64)((u64)(v_r1_03_i56) + (u64)(26u));
-    v_r16_i_i_i61_26 = (P)((uintptr_t)v_a0 + (u64)(v_r12_i_i60_26));
-    v_r21_i_i_i62_26 = (P)((uintptr_t)v_a2 + (u64)(v_r12_i_i60_26));
+    v_r16_i_i_i61_26 = (P)((u64)v_a0 + (u64)(v_r12_i_i60_26));
+    v_r21_i_i_i62_26 = (P)((u64)v_a2 + (u64)(v_r12_i_i60_26));
     v_r16_val_i_i_i63_26 = get_u8(v_r16_i_i_i61_26);
     v_r21_val_i_i_i64_26 = get_u8(v_r21_i_i_i62_26);
     v_r7_i_i_i_i65_26 = v_r16_val_i_i_i63_26 != v_r21_val_i_i_i64_26;
     v_r20_i_i66_26 = (u1)(((u32)(v_r20_i_i66_25) | (u32)(v_r7_i_i_i_i65_26)) & 1);
     v_r12_i_i60_27 = (u64)((u64)(v_r1_03_i56) + (u64)(27u));
-    v_r16_i_i_i61_27 = (P)((uintptr_t)v_a0 + (u64)(v_r12_i_i60_27));
-    v_r21_i_i_i62_27 = (P)((uintptr_t)v_a2 + (u64)(v_r12_i_i60_27));
+    v_r16_i_i_i61_27 = (P)((u64)v_a0 + (u64)(v_r12_i_i60_27));
+    v_r21_i_i_i62_27 = (P)((u64)v_a2 + (u64)(v_r12_i_i60_27));
     v_r16_val_i_i_i63_27 = get_u8(v_r16_i_i_i61_27);
     v_r21_val_i_i_i64_27 = get_u8(v_r21_i_i_i62_27);
     v_r7_i_i_i_i65_27 = v_r16_val_i_i_i63_27 != v_r21_val_i_i_i64_27;
     v_r20_i_i66_27 = (u1)(((u32)(v_r20_i_i66_26) | (u32)(v_r7_i_i_i_i65_27)) & 1);
     v_r12_i_i60_28 = (u64)((u64)(v_r1_03_i56) + (u64)(28u));
-    v_r16_i_i_i61_28 = (P)((uintptr_t)v_a0 + (u64)(v_r12_i_i60_28));
-    v_r21_i_i_i62_28 = (P)((uintptr_t)v_a2 + (u64)(v_r12_i_i60_28));
+    v_r16_i_i_i61_28 = (P)((u64)v_a0 + (u64)(v_r12_i_i60_28));
+    v_r21_i_i_i62_28 = (P)((u64)v_a2 + (u64)(v_r12_i_i60_28));
     v_r16_val_i_i_i63_28 = get_u8(v_r16_i_i_i61_28);
     v_r21_val_i_i_i64_28 = get_u8(v_r21_i_i_i62_28);
     v_r7_i_i_i_i65_28 = v_r16_val_i_i_i63_28 != v_r21_val_i_i_i64_28;
     v_r20_i_i66_28 = (u1)(((u32)(v_r20_i_i66_27) | (u32)(v_r7_i_i_i_i65_28)) & 1);
     v_r12_i_i60_29 = (u64)((u64)(v_r1_03_i56) + (u64)(29u));
-    v_r16_i_i_i61_29 = (P)((uintptr_t)v_a0 + (u64)(v_r12_i_i60_29));
-    v_r21_i_i_i62_29 = (P)((uintptr_t)v_a2 + (u64)(v_r12_i_i60_29));
+    v_r16_i_i_i61_29 = (P)((u64)v_a0 + (u64)(v_r12_i_i60_29));
+    v_r21_i_i_i62_29 = (P)((u64)v_a2 + (u64)(v_r12_i_i60_29));
     v_r16_val_i_i_i63_29 = get_u8(v_r16_i_i_i61_29);
     v_r21_val_i_i_i64_29 = get_u8(v_r21_i_i_i62_29);
     v_r7_i_i_i_i65_29 = v_r16_val_i_i_i63_29 != v_r21_val_i_i_i64_29;
     v_r20_i_i66_29 = (u1)(((u32)(v_r20_i_i66_28) | (u32)(v_r7_i_i_i_i65_29)) & 1);
     v_r12_i_i60_30 = (u64)((u64)(v_r1_03_i56) + (u64)(30u));
-    v_r16_i_i_i61_30 = (P)((uintptr_t)v_a0 + (u64)(v_r12_i_i60_30));
-    v_r21_i_i_i62_30 = (P)((uintptr_t)v_a2 + (u64)(v_r12_i_i60_30));
+    v_r16_i_i_i61_30 = (P)((u64)v_a0 + (u64)(v_r12_i_i60_30));
+    v_r21_i_i_i62_30 = (P)((u64)v_a2 + (u64)(v_r12_i_i60_30));
     v_r16_val_i_i_i63_30 = get_u8(v_r16_i_i_i61_30);
     v_r21_val_i_i_i64_30 = get_u8(v_r21_i_i_i62_30);
     v_r7_i_i_i_i65_30 = v_r16_val_i_i_i63_30 != v_r21_val_i_i_i64_30;
     v_r20_i_i66_30 = (u1)(((u32)(v_r20_i_i66_29) | (u32)(v_r7_i_i_i_i65_30)) & 1);
     v_r12_i_i60_31 = (u64)((u64)(v_r1_03_i56) + (u64)(31u));
-    v_r16_i_i_i61_31 = (P)((uintptr_t)v_a0 + (u64)(v_r12_i_i60_31));
-    v_r21_i_i_i62_31 = (P)((uintptr_t)v_a2 + (u64)(v_r12_i_i60_31));
+    v_r16_i_i_i61_31 = (P)((u64)v_a0 + (u64)(v_r12_i_i60_31));
+    v_r21_i_i_i62_31 = (P)((u64)v_a2 + (u64)(v_r12_i_i60_31));
     v_r16_val_i_i_i63_31 = get_u8(v_r16_i_i_i61_31);
     v_r21_val_i_i_i64_31 = get_u8(v_r21_i_i_i62_31);
     v_r7_i_i_i_i65_31 = v_r16_val_i_i_i63_31 != v_r21_val_i_i_i64_31;
@@ -2298,224 +2327,224 @@ L_core_slice_scan_skip_groups_953750c03e87c3e2_exit7:;
     if (v_0) { p_v_common_ret_op_i = 1u; goto L_core_slice_scan_any_by_groups_953750c03e87c3e2_exi; } else { goto L_join_21_i; }
 L_join_21_i:;
     v_r80_i = (u64)((u64)(v_a1) + (u64)(18446744073709551584ull));
-    v_r16_i_i = (P)((uintptr_t)v_a0 + (u64)(v_r80_i));
-    v_r21_i_i = (P)((uintptr_t)v_a2 + (u64)(v_r80_i));
+    v_r16_i_i = (P)((u64)v_a0 + (u64)(v_r80_i));
+    v_r21_i_i = (P)((u64)v_a2 + (u64)(v_r80_i));
     v_r16_val_i_i = get_u8(v_r16_i_i);
     v_r21_val_i_i = get_u8(v_r21_i_i);
     v_r7_i_i_i = v_r16_val_i_i != v_r21_val_i_i;
     v_r12_i77_1 = (u64)((u64)(v_a1) + (u64)(18446744073709551585ull));
-    v_r16_i_i_1 = (P)((uintptr_t)v_a0 + (u64)(v_r12_i77_1));
-    v_r21_i_i_1 = (P)((uintptr_t)v_a2 + (u64)(v_r12_i77_1));
+    v_r16_i_i_1 = (P)((u64)v_a0 + (u64)(v_r12_i77_1));
+    v_r21_i_i_1 = (P)((u64)v_a2 + (u64)(v_r12_i77_1));
     v_r16_val_i_i_1 = get_u8(v_r16_i_i_1);
     v_r21_val_i_i_1 = get_u8(v_r21_i_i_1);
     v_r7_i_i_i_1 = v_r16_val_i_i_1 != v_r21_val_i_i_1;
     v_r20_i_1 = (u1)(((u32)(v_r7_i_i_i) | (u32)(v_r7_i_i_i_1)) & 1);
     v_r12_i77_2 = (u64)((u64)(v_a1) + (u64)(18446744073709551586ull));
-    v_r16_i_i_2 = (P)((uintptr_t)v_a0 + (u64)(v_r12_i77_2));
-    v_r21_i_i_2 = (P)((uintptr_t)v_a2 + (u64)(v_r12_i77_2));
+    v_r16_i_i_2 = (P)((u64)v_a0 + (u64)(v_r12_i77_2));
+    v_r21_i_i_2 = (P)((u64)v_a2 + (u64)(v_r12_i77_2));
     v_r16_val_i_i_2 = get_u8(v_r16_i_i_2);
     v_r21_val_i_i_2 = get_u8(v_r21_i_i_2);
     v_r7_i_i_i_2 = v_r16_val_i_i_2 != v_r21_val_i_i_2;
     v_r20_i_2 = (u1)(((u32)(v_r20_i_1) | (u32)(v_r7_i_i_i_2)) & 1);
     v_r12_i77_3 = (u64)((u64)(v_a1) + (u64)(18446744073709551587ull));
-    v_r16_i_i_3 = (P)((uintptr_t)v_a0 + (u64)(v_r12_i77_3));
-    v_r21_i_i_3 = (P)((uintptr_t)v_a2 + (u64)(v_r12_i77_3));
+    v_r16_i_i_3 = (P)((u64)v_a0 + (u64)(v_r12_i77_3));
+    v_r21_i_i_3 = (P)((u64)v_a2 + (u64)(v_r12_i77_3));
     v_r16_val_i_i_3 = get_u8(v_r16_i_i_3);
     v_r21_val_i_i_3 = get_u8(v_r21_i_i_3);
     v_r7_i_i_i_3 = v_r16_val_i_i_3 != v_r21_val_i_i_3;
     v_r20_i_3 = (u1)(((u32)(v_r20_i_2) | (u32)(v_r7_i_i_i_3)) & 1);
     v_r12_i77_4 = (u64)((u64)(v_a1) + (u64)(18446744073709551588ull));
-    v_r16_i_i_4 = (P)((uintptr_t)v_a0 + (u64)(v_r12_i77_4));
-    v_r21_i_i_4 = (P)((uintptr_t)v_a2 + (u64)(v_r12_i77_4));
+    v_r16_i_i_4 = (P)((u64)v_a0 + (u64)(v_r12_i77_4));
+    v_r21_i_i_4 = (P)((u64)v_a2 + (u64)(v_r12_i77_4));
     v_r16_val_i_i_4 = get_u8(v_r16_i_i_4);
     v_r21_val_i_i_4 = get_u8(v_r21_i_i_4);
     v_r7_i_i_i_4 = v_r16_val_i_i_4 != v_r21_val_i_i_4;
     v_r20_i_4 = (u1)(((u32)(v_r20_i_3) | (u32)(v_r7_i_i_i_4)) & 1);
     v_r12_i77_5 = (u64)((u64)(v_a1) + (u64)(18446744073709551589ull));
-    v_r16_i_i_5 = (P)((uintptr_t)v_a0 + (u64)(v_r12_i77_5));
-    v_r21_i_i_5 = (P)((uintptr_t)v_a2 + (u64)(v_r12_i77_5));
+    v_r16_i_i_5 = (P)((u64)v_a0 + (u64)(v_r12_i77_5));
+    v_r21_i_i_5 = (P)((u64)v_a2 + (u64)(v_r12_i77_5));
     v_r16_val_i_i_5 = get_u8(v_r16_i_i_5);
     v_r21_val_i_i_5 = get_u8(v_r21_i_i_5);
     v_r7_i_i_i_5 = v_r16_val_i_i_5 != v_r21_val_i_i_5;
     v_r20_i_5 = (u1)(((u32)(v_r20_i_4) | (u32)(v_r7_i_i_i_5)) & 1);
     v_r12_i77_6 = (u64)((u64)(v_a1) + (u64)(18446744073709551590ull));
-    v_r16_i_i_6 = (P)((uintptr_t)v_a0 + (u64)(v_r12_i77_6));
-    v_r21_i_i_6 = (P)((uintptr_t)v_a2 + (u64)(v_r12_i77_6));
+    v_r16_i_i_6 = (P)((u64)v_a0 + (u64)(v_r12_i77_6));
+    v_r21_i_i_6 = (P)((u64)v_a2 + (u64)(v_r12_i77_6));
     v_r16_val_i_i_6 = get_u8(v_r16_i_i_6);
     v_r21_val_i_i_6 = get_u8(v_r21_i_i_6);
     v_r7_i_i_i_6 = v_r16_val_i_i_6 != v_r21_val_i_i_6;
     v_r20_i_6 = (u1)(((u32)(v_r20_i_5) | (u32)(v_r7_i_i_i_6)) & 1);
     v_r12_i77_7 = (u64)((u64)(v_a1) + (u64)(18446744073709551591ull));
-    v_r16_i_i_7 = (P)((uintptr_t)v_a0 + (u64)(v_r12_i77_7));
-    v_r21_i_i_7 = (P)((uintptr_t)v_a2 + (u64)(v_r12_i77_7));
+    v_r16_i_i_7 = (P)((u64)v_a0 + (u64)(v_r12_i77_7));
+    v_r21_i_i_7 = (P)((u64)v_a2 + (u64)(v_r12_i77_7));
     v_r16_val_i_i_7 = get_u8(v_r16_i_i_7);
     v_r21_val_i_i_7 = get_u8(v_r21_i_i_7);
     v_r7_i_i_i_7 = v_r16_val_i_i_7 != v_r21_val_i_i_7;
     v_r20_i_7 = (u1)(((u32)(v_r20_i_6) | (u32)(v_r7_i_i_i_7)) & 1);
     v_r12_i77_8 = (u64)((u64)(v_a1) + (u64)(18446744073709551592ull));
-    v_r16_i_i_8 = (P)((uintptr_t)v_a0 + (u64)(v_r12_i77_8));
-    v_r21_i_i_8 = (P)((uintptr_t)v_a2 + (u64)(v_r12_i77_8));
+    v_r16_i_i_8 = (P)((u64)v_a0 + (u64)(v_r12_i77_8));
+    v_r21_i_i_8 = (P)((u64)v_a2 + (u64)(v_r12_i77_8));
     v_r16_val_i_i_8 = get_u8(v_r16_i_i_8);
     v_r21_val_i_i_8 = get_u8(v_r21_i_i_8);
     v_r7_i_i_i_8 = v_r16_val_i_i_8 != v_r21_val_i_i_8;
     v_r20_i_8 = (u1)(((u32)(v_r20_i_7) | (u32)(v_r7_i_i_i_8)) & 1);
     v_r12_i77_9 = (u64)((u64)(v_a1) + (u64)(18446744073709551593ull));
-    v_r16_i_i_9 = (P)((uintptr_t)v_a0 + (u64)(v_r12_i77_9));
-    v_r21_i_i_9 = (P)((uintptr_t)v_a2 + (u64)(v_r12_i77_9));
+    v_r16_i_i_9 = (P)((u64)v_a0 + (u64)(v_r12_i77_9));
+    v_r21_i_i_9 = (P)((u64)v_a2 + (u64)(v_r12_i77_9));
     v_r16_val_i_i_9 = get_u8(v_r16_i_i_9);
     v_r21_val_i_i_9 = get_u8(v_r21_i_i_9);
     v_r7_i_i_i_9 = v_r16_val_i_i_9 != v_r21_val_i_i_9;
     v_r20_i_9 = (u1)(((u32)(v_r20_i_8) | (u32)(v_r7_i_i_i_9)) & 1);
     v_r12_i77_10 = (u64)((u64)(v_a1) + (u64)(18446744073709551594ull));
-    v_r16_i_i_10 = (P)((uintptr_t)v_a0 + (u64)(v_r12_i77_10));
-    v_r21_i_i_10 = (P)((uintptr_t)v_a2 + (u64)(v_r12_i77_10));
+    v_r16_i_i_10 = (P)((u64)v_a0 + (u64)(v_r12_i77_10));
+    v_r21_i_i_10 = (P)((u64)v_a2 + (u64)(v_r12_i77_10));
     v_r16_val_i_i_10 = get_u8(v_r16_i_i_10);
     v_r21_val_i_i_10 = get_u8(v_r21_i_i_10);
     v_r7_i_i_i_10 = v_r16_val_i_i_10 != v_r21_val_i_i_10;
     v_r20_i_10 = (u1)(((u32)(v_r20_i_9) | (u32)(v_r7_i_i_i_10)) & 1);
     v_r12_i77_11 = (u64)((u64)(v_a1) + (u64)(18446744073709551595ull));
-    v_r16_i_i_11 = (P)((uintptr_t)v_a0 + (u64)(v_r12_i77_11));
-    v_r21_i_i_11 = (P)((uintptr_t)v_a2 + (u64)(v_r12_i77_11));
+    v_r16_i_i_11 = (P)((u64)v_a0 + (u64)(v_r12_i77_11));
+    v_r21_i_i_11 = (P)((u64)v_a2 + (u64)(v_r12_i77_11));
     v_r16_val_i_i_11 = get_u8(v_r16_i_i_11);
     v_r21_val_i_i_11 = get_u8(v_r21_i_i_11);
     v_r7_i_i_i_11 = v_r16_val_i_i_11 != v_r21_val_i_i_11;
     v_r20_i_11 = (u1)(((u32)(v_r20_i_10) | (u32)(v_r7_i_i_i_11)) & 1);
     v_r12_i77_12 = (u64)((u64)(v_a1) + (u64)(18446744073709551596ull));
-    v_r16_i_i_12 = (P)((uintptr_t)v_a0 + (u64)(v_r12_i77_12));
-    v_r21_i_i_12 = (P)((uintptr_t)v_a2 + (u64)(v_r12_i77_12));
+    v_r16_i_i_12 = (P)((u64)v_a0 + (u64)(v_r12_i77_12));
+    v_r21_i_i_12 = (P)((u64)v_a2 + (u64)(v_r12_i77_12));
     v_r16_val_i_i_12 = get_u8(v_r16_i_i_12);
     v_r21_val_i_i_12 = get_u8(v_r21_i_i_12);
     v_r7_i_i_i_12 = v_r16_val_i_i_12 != v_r21_val_i_i_12;
     v_r20_i_12 = (u1)(((u32)(v_r20_i_11) | (u32)(v_r7_i_i_i_12)) & 1);
     v_r12_i77_13 = (u64)((u64)(v_a1) + (u64)(18446744073709551597ull));
-    v_r16_i_i_13 = (P)((uintptr_t)v_a0 + (u64)(v_r12_i77_13));
-    v_r21_i_i_13 = (P)((uintptr_t)v_a2 + (u64)(v_r12_i77_13));
+    v_r16_i_i_13 = (P)((u64)v_a0 + (u64)(v_r12_i77_13));
+    v_r21_i_i_13 = (P)((u64)v_a2 + (u64)(v_r12_i77_13));
     v_r16_val_i_i_13 = get_u8(v_r16_i_i_13);
     v_r21_val_i_i_13 = get_u8(v_r21_i_i_13);
     v_r7_i_i_i_13 = v_r16_val_i_i_13 != v_r21_val_i_i_13;
     v_r20_i_13 = (u1)(((u32)(v_r20_i_12) | (u32)(v_r7_i_i_i_13)) & 1);
     v_r12_i77_14 = (u64)((u64)(v_a1) + (u64)(18446744073709551598ull));
-    v_r16_i_i_14 = (P)((uintptr_t)v_a0 + (u64)(v_r12_i77_14));
-    v_r21_i_i_14 = (P)((uintptr_t)v_a2 + (u64)(v_r12_i77_14));
+    v_r16_i_i_14 = (P)((u64)v_a0 + (u64)(v_r12_i77_14));
+    v_r21_i_i_14 = (P)((u64)v_a2 + (u64)(v_r12_i77_14));
     v_r16_val_i_i_14 = get_u8(v_r16_i_i_14);
     v_r21_val_i_i_14 = get_u8(v_r21_i_i_14);
     v_r7_i_i_i_14 = v_r16_val_i_i_14 != v_r21_val_i_i_14;
     v_r20_i_14 = (u1)(((u32)(v_r20_i_13) | (u32)(v_r7_i_i_i_14)) & 1);
     v_r12_i77_15 = (u64)((u64)(v_a1) + (u64)(18446744073709551599ull));
-    v_r16_i_i_15 = (P)((uintptr_t)v_a0 + (u64)(v_r12_i77_15));
-    v_r21_i_i_15 = (P)((uintptr_t)v_a2 + (u64)(v_r12_i77_15));
+    v_r16_i_i_15 = (P)((u64)v_a0 + (u64)(v_r12_i77_15));
+    v_r21_i_i_15 = (P)((u64)v_a2 + (u64)(v_r12_i77_15));
     v_r16_val_i_i_15 = get_u8(v_r16_i_i_15);
     v_r21_val_i_i_15 = get_u8(v_r21_i_i_15);
     v_r7_i_i_i_15 = v_r16_val_i_i_15 != v_r21_val_i_i_15;
     v_r20_i_15 = (u1)(((u32)(v_r20_i_14) | (u32)(v_r7_i_i_i_15)) & 1);
     v_r12_i77_16 = (u64)((u64)(v_a1) + (u64)(18446744073709551600ull));
-    v_r16_i_i_16 = (P)((uintptr_t)v_a0 + (u64)(v_r12_i77_16));
-    v_r21_i_i_16 = (P)((uintptr_t)v_a2 + (u64)(v_r12_i77_16));
+    v_r16_i_i_16 = (P)((u64)v_a0 + (u64)(v_r12_i77_16));
+    v_r21_i_i_16 = (P)((u64)v_a2 + (u64)(v_r12_i77_16));
     v_r16_val_i_i_16 = get_u8(v_r16_i_i_16);
     v_r21_val_i_i_16 = get_u8(v_r21_i_i_16);
     v_r7_i_i_i_16 = v_r16_val_i_i_16 != v_r21_val_i_i_16;
     v_r20_i_16 = (u1)(((u32)(v_r20_i_15) | (u32)(v_r7_i_i_i_16)) & 1);
     v_r12_i77_17 = (u64)((u64)(v_a1) + (u64)(18446744073709551601ull));
-    v_r16_i_i_17 = (P)((uintptr_t)v_a0 + (u64)(v_r12_i77_17));
-    v_r21_i_i_17 = (P)((uintptr_t)v_a2 + (u64)(v_r12_i77_17));
+    v_r16_i_i_17 = (P)((u64)v_a0 + (u64)(v_r12_i77_17));
+    v_r21_i_i_17 = (P)((u64)v_a2 + (u64)(v_r12_i77_17));
     v_r16_val_i_i_17 = get_u8(v_r16_i_i_17);
     v_r21_val_i_i_17 = get_u8(v_r21_i_i_17);
     v_r7_i_i_i_17 = v_r16_val_i_i_17 != v_r21_val_i_i_17;
     v_r20_i_17 = (u1)(((u32)(v_r20_i_16) | (u32)(v_r7_i_i_i_17)) & 1);
     v_r12_i77_18 = (u64)((u64)(v_a1) + (u64)(18446744073709551602ull));
-    v_r16_i_i_18 = (P)((uintptr_t)v_a0 + (u64)(v_r12_i77_18));
-    v_r21_i_i_18 = (P)((uintptr_t)v_a2 + (u64)(v_r12_i77_18));
+    v_r16_i_i_18 = (P)((u64)v_a0 + (u64)(v_r12_i77_18));
+    v_r21_i_i_18 = (P)((u64)v_a2 + (u64)(v_r12_i77_18));
     v_r16_val_i_i_18 = get_u8(v_r16_i_i_18);
     v_r21_val_i_i_18 = get_u8(v_r21_i_i_18);
     v_r7_i_i_i_18 = v_r16_val_i_i_18 != v_r21_val_i_i_18;
     v_r20_i_18 = (u1)(((u32)(v_r20_i_17) | (u32)(v_r7_i_i_i_18)) & 1);
     v_r12_i77_19 = (u64)((u64)(v_a1) + (u64)(18446744073709551603ull));
-    v_r16_i_i_19 = (P)((uintptr_t)v_a0 + (u64)(v_r12_i77_19));
-    v_r21_i_i_19 = (P)((uintptr_t)v_a2 + (u64)(v_r12_i77_19));
+    v_r16_i_i_19 = (P)((u64)v_a0 + (u64)(v_r12_i77_19));
+    v_r21_i_i_19 = (P)((u64)v_a2 + (u64)(v_r12_i77_19));
     v_r16_val_i_i_19 = get_u8(v_r16_i_i_19);
     v_r21_val_i_i_19 = get_u8(v_r21_i_i_19);
     v_r7_i_i_i_19 = v_r16_val_i_i_19 != v_r21_val_i_i_19;
     v_r20_i_19 = (u1)(((u32)(v_r20_i_18) | (u32)(v_r7_i_i_i_19)) & 1);
     v_r12_i77_20 = (u64)((u64)(v_a1) + (u64)(18446744073709551604ull));
-    v_r16_i_i_20 = (P)((uintptr_t)v_a0 + (u64)(v_r12_i77_20));
-    v_r21_i_i_20 = (P)((uintptr_t)v_a2 + (u64)(v_r12_i77_20));
+    v_r16_i_i_20 = (P)((u64)v_a0 + (u64)(v_r12_i77_20));
+    v_r21_i_i_20 = (P)((u64)v_a2 + (u64)(v_r12_i77_20));
     v_r16_val_i_i_20 = get_u8(v_r16_i_i_20);
     v_r21_val_i_i_20 = get_u8(v_r21_i_i_20);
     v_r7_i_i_i_20 = v_r16_val_i_i_20 != v_r21_val_i_i_20;
     v_r20_i_20 = (u1)(((u32)(v_r20_i_19) | (u32)(v_r7_i_i_i_20)) & 1);
     v_r12_i77_21 = (u64)((u64)(v_a1) + (u64)(18446744073709551605ull));
-    v_r16_i_i_21 = (P)((uintptr_t)v_a0 + (u64)(v_r12_i77_21));
-    v_r21_i_i_21 = (P)((uintptr_t)v_a2 + (u64)(v_r12_i77_21));
+    v_r16_i_i_21 = (P)((u64)v_a0 + (u64)(v_r12_i77_21));
+    v_r21_i_i_21 = (P)((u64)v_a2 + (u64)(v_r12_i77_21));
     v_r16_val_i_i_21 = get_u8(v_r16_i_i_21);
     v_r21_val_i_i_21 = get_u8(v_r21_i_i_21);
     v_r7_i_i_i_21 = v_r16_val_i_i_21 != v_r21_val_i_i_21;
     v_r20_i_21 = (u1)(((u32)(v_r20_i_20) | (u32)(v_r7_i_i_i_21)) & 1);
     v_r12_i77_22 = (u64)((u64)(v_a1) + (u64)(18446744073709551606ull));
-    v_r16_i_i_22 = (P)((uintptr_t)v_a0 + (u64)(v_r12_i77_22));
-    v_r21_i_i_22 = (P)((uintptr_t)v_a2 + (u64)(v_r12_i77_22));
+    v_r16_i_i_22 = (P)((u64)v_a0 + (u64)(v_r12_i77_22));
+    v_r21_i_i_22 = (P)((u64)v_a2 + (u64)(v_r12_i77_22));
     v_r16_val_i_i_22 = get_u8(v_r16_i_i_22);
     v_r21_val_i_i_22 = get_u8(v_r21_i_i_22);
     v_r7_i_i_i_22 = v_r16_val_i_i_22 != v_r21_val_i_i_22;
     v_r20_i_22 = (u1)(((u32)(v_r20_i_21) | (u32)(v_r7_i_i_i_22)) & 1);
     v_r12_i77_23 = (u64)((u64)(v_a1) + (u64)(18446744073709551607ull));
-    v_r16_i_i_23 = (P)((uintptr_t)v_a0 + (u64)(v_r12_i77_23));
-    v_r21_i_i_23 = (P)((uintptr_t)v_a2 + (u64)(v_r12_i77_23));
+    v_r16_i_i_23 = (P)((u64)v_a0 + (u64)(v_r12_i77_23));
+    v_r21_i_i_23 = (P)((u64)v_a2 + (u64)(v_r12_i77_23));
     v_r16_val_i_i_23 = get_u8(v_r16_i_i_23);
     v_r21_val_i_i_23 = get_u8(v_r21_i_i_23);
     v_r7_i_i_i_23 = v_r16_val_i_i_23 != v_r21_val_i_i_23;
     v_r20_i_23 = (u1)(((u32)(v_r20_i_22) | (u32)(v_r7_i_i_i_23)) & 1);
     v_r12_i77_24 = (u64)((u64)(v_a1) + (u64)(18446744073709551608ull));
-    v_r16_i_i_24 = (P)((uintptr_t)v_a0 + (u64)(v_r12_i77_24));
-    v_r21_i_i_24 = (P)((uintptr_t)v_a2 + (u64)(v_r12_i77_24));
+    v_r16_i_i_24 = (P)((u64)v_a0 + (u64)(v_r12_i77_24));
+    v_r21_i_i_24 = (P)((u64)v_a2 + (u64)(v_r12_i77_24));
     v_r16_val_i_i_24 = get_u8(v_r16_i_i_24);
     v_r21_val_i_i_24 = get_u8(v_r21_i_i_24);
     v_r7_i_i_i_24 = v_r16_val_i_i_24 != v_r21_val_i_i_24;
     v_r20_i_24 = (u1)(((u32)(v_r20_i_23) | (u32)(v_r7_i_i_i_24)) & 1);
     v_r12_i77_25 = (u64)((u64)(v_a1) + (u64)(18446744073709551609ull));
-    v_r16_i_i_25 = (P)((uintptr_t)v_a0 + (u64)(v_r12_i77_25));
-    v_r21_i_i_25 = (P)((uintptr_t)v_a2 + (u64)(v_r12_i77_25));
+    v_r16_i_i_25 = (P)((u64)v_a0 + (u64)(v_r12_i77_25));
+    v_r21_i_i_25 = (P)((u64)v_a2 + (u64)(v_r12_i77_25));
     v_r16_val_i_i_25 = get_u8(v_r16_i_i_25);
     v_r21_val_i_i_25 = get_u8(v_r21_i_i_25);
     v_r7_i_i_i_25 = v_r16_val_i_i_25 != v_r21_val_i_i_25;
     v_r20_i_25 = (u1)(((u32)(v_r20_i_24) | (u32)(v_r7_i_i_i_25)) & 1);
     v_r12_i77_26 = (u64)((u64)(v_a1) + (u64)(18446744073709551610ull));
-    v_r16_i_i_26 = (P)((uintptr_t)v_a0 + (u64)(v_r12_i77_26));
-    v_r21_i_i_26 = (P)((uintptr_t)v_a2 + (u64)(v_r12_i77_26));
+    v_r16_i_i_26 = (P)((u64)v_a0 + (u64)(v_r12_i77_26));
+    v_r21_i_i_26 = (P)((u64)v_a2 + (u64)(v_r12_i77_26));
     v_r16_val_i_i_26 = get_u8(v_r16_i_i_26);
     v_r21_val_i_i_26 = get_u8(v_r21_i_i_26);
     v_r7_i_i_i_26 = v_r16_val_i_i_26 != v_r21_val_i_i_26;
     v_r20_i_26 = (u1)(((u32)(v_r20_i_25) | (u32)(v_r7_i_i_i_26)) & 1);
     v_r12_i77_27 = (u64)((u64)(v_a1) + (u64)(18446744073709551611ull));
-    v_r16_i_i_27 = (P)((uintptr_t)v_a0 + (u64)(v_r12_i77_27));
-    v_r21_i_i_27 = (P)((uintptr_t)v_a2 + (u64)(v_r12_i77_27));
+    v_r16_i_i_27 = (P)((u64)v_a0 + (u64)(v_r12_i77_27));
+    v_r21_i_i_27 = (P)((u64)v_a2 + (u64)(v_r12_i77_27));
     v_r16_val_i_i_27 = get_u8(v_r16_i_i_27);
     v_r21_val_i_i_27 = get_u8(v_r21_i_i_27);
     v_r7_i_i_i_27 = v_r16_val_i_i_27 != v_r21_val_i_i_27;
     v_r20_i_27 = (u1)(((u32)(v_r20_i_26) | (u32)(v_r7_i_i_i_27)) & 1);
     v_r12_i77_28 = (u64)((u64)(v_a1) + (u64)(18446744073709551612ull));
-    v_r16_i_i_28 = (P)((uintptr_t)v_a0 + (u64)(v_r12_i77_28));
-    v_r21_i_i_28 = (P)((uintptr_t)v_a2 + (u64)(v_r12_i77_28));
+    v_r16_i_i_28 = (P)((u64)v_a0 + (u64)(v_r12_i77_28));
+    v_r21_i_i_28 = (P)((u64)v_a2 + (u64)(v_r12_i77_28));
     v_r16_val_i_i_28 = get_u8(v_r16_i_i_28);
     v_r21_val_i_i_28 = get_u8(v_r21_i_i_28);
     v_r7_i_i_i_28 = v_r16_val_i_i_28 != v_r21_val_i_i_28;
     v_r20_i_28 = (u1)(((u32)(v_r20_i_27) | (u32)(v_r7_i_i_i_28)) & 1);
     v_r12_i77_29 = (u64)((u64)(v_a1) + (u64)(18446744073709551613ull));
-    v_r16_i_i_29 = (P)((uintptr_t)v_a0 + (u64)(v_r12_i77_29));
-    v_r21_i_i_29 = (P)((uintptr_t)v_a2 + (u64)(v_r12_i77_29));
+    v_r16_i_i_29 = (P)((u64)v_a0 + (u64)(v_r12_i77_29));
+    v_r21_i_i_29 = (P)((u64)v_a2 + (u64)(v_r12_i77_29));
     v_r16_val_i_i_29 = get_u8(v_r16_i_i_29);
     v_r21_val_i_i_29 = get_u8(v_r21_i_i_29);
     v_r7_i_i_i_29 = v_r16_val_i_i_29 != v_r21_val_i_i_29;
     v_r20_i_29 = (u1)(((u32)(v_r20_i_28) | (u32)(v_r7_i_i_i_29)) & 1);
     v_r12_i77_30 = (u64)((u64)(v_a1) + (u64)(18446744073709551614ull));
-    v_r16_i_i_30 = (P)((uintptr_t)v_a0 + (u64)(v_r12_i77_30));
-    v_r21_i_i_30 = (P)((uintptr_t)v_a2 + (u64)(v_r12_i77_30));
+    v_r16_i_i_30 = (P)((u64)v_a0 + (u64)(v_r12_i77_30));
+    v_r21_i_i_30 = (P)((u64)v_a2 + (u64)(v_r12_i77_30));
     v_r16_val_i_i_30 = get_u8(v_r16_i_i_30);
     v_r21_val_i_i_30 = get_u8(v_r21_i_i_30);
     v_r7_i_i_i_30 = v_r16_val_i_i_30 != v_r21_val_i_i_30;
     v_r20_i_30 = (u1)(((u32)(v_r20_i_29) | (u32)(v_r7_i_i_i_30)) & 1);
     v_r12_i77_31 = (u64)((u64)(v_a1) + (u64)(18446744073709551615ull));
-    v_r16_i_i_31 = (P)((uintptr_t)v_a0 + (u64)(v_r12_i77_31));
-    v_r21_i_i_31 = (P)((uintptr_t)v_a2 + (u64)(v_r12_i77_31));
+    v_r16_i_i_31 = (P)((u64)v_a0 + (u64)(v_r12_i77_31));
+    v_r21_i_i_31 = (P)((u64)v_a2 + (u64)(v_r12_i77_31));
     v_r16_val_i_i_31 = get_u8(v_r16_i_i_31);
     v_r21_val_i_i_31 = get_u8(v_r21_i_i_31);
     v_r7_i_i_i_31 = v_r16_val_i_i_31 != v_r21_val_i_i_31;
@@ -2846,7 +2875,7 @@ L_join_3_i:;
     v_r39_i642 = v_r19_i_i_i598 < v_r3_i25_i;
     if (v_r39_i642) { p_v_r15_sroa_7_0_ph = 1u; p_v_r15_sroa_13_0_ph = 0u; p_v_r15_sroa_19_0_ph = 0u; goto L_arm_6; } else { goto L_arm_14_i; }
 L_arm_14_i:;
-    v_r16_i_i644 = (P)((uintptr_t)v_r16_i_i_i597 + (u64)(v_r3_i25_i));
+    v_r16_i_i644 = (P)((u64)v_r16_i_i_i597 + (u64)(v_r3_i25_i));
     v_r19_i_i645 = (u64)((u64)(v_r19_i_i_i598) - (u64)(v_r3_i25_i));
     switch (v_r106_i107) {
     case 0u: { p_v_r15_sroa_7_0_ph = 8u; p_v_r15_sroa_13_0_ph = v_r106_i107; p_v_r15_sroa_19_0_ph = v_r106_i107; goto L_arm_6; }
@@ -2962,7 +2991,7 @@ L_join_3_i890:;
     v_r39_i894 = v_r19_i_i_i848 < v_r3_i25_i891;
     if (v_r39_i894) { p_v_r15_sroa_7_0_ph = 1u; p_v_r15_sroa_13_0_ph = 0u; p_v_r15_sroa_19_0_ph = 0u; goto L_arm_6; } else { goto L_arm_14_i_i; }
 L_arm_14_i_i:;
-    v_r16_i_i898 = (P)((uintptr_t)v_r16_i_i_i847 + (u64)(v_r3_i25_i891));
+    v_r16_i_i898 = (P)((u64)v_r16_i_i_i847 + (u64)(v_r3_i25_i891));
     v_r19_i_i899 = (u64)((u64)(v_r19_i_i_i848) - (u64)(v_r3_i25_i891));
     switch (v_r106_i_i) {
     case 0u: { p_v_r15_sroa_7_0_ph = 8u; p_v_r15_sroa_13_0_ph = v_r106_i_i; p_v_r15_sroa_19_0_ph = v_r106_i_i; goto L_arm_6; }
@@ -3042,7 +3071,7 @@ L_join_3_i_i1021:;
     v_r39_i_i1025 = v_r6_i_sroa_22_32387 < v_r3_i25_i_i1022;
     if (v_r39_i_i1025) { p_v_r15_sroa_7_0_ph = 1u; p_v_r15_sroa_13_0_ph = 0u; p_v_r15_sroa_19_0_ph = 0u; goto L_arm_6; } else { goto L_join_3_i_i1064; }
 L_join_3_i_i1064:;
-    v_r16_i_i_i1028 = (P)((uintptr_t)v_r6_i_sroa_0_32385 + (u64)(v_r3_i25_i_i1022));
+    v_r16_i_i_i1028 = (P)((u64)v_r6_i_sroa_0_32385 + (u64)(v_r3_i25_i_i1022));
     v_r7_i_i_i1073 = v_r12_sroa_10_0_i962 == 0u;
     if (v_r7_i_i_i1073) { p_v_r15_sroa_7_0_ph = 3u; p_v_r15_sroa_13_0_ph = 2u; p_v_r15_sroa_19_0_ph = 0u; goto L_arm_6; } else { goto L_join_8_i_i; }
 L_join_8_i_i:;
@@ -3106,7 +3135,7 @@ L_join_3_i1230:;
     v_r39_i1234 = v_r19_i_i_i1188 < v_r3_i25_i1231;
     if (v_r39_i1234) { p_v_r15_sroa_7_0_ph = 1u; p_v_r15_sroa_13_0_ph = 0u; p_v_r15_sroa_19_0_ph = 0u; goto L_arm_6; } else { goto L_arm_14_i_i_i; }
 L_arm_14_i_i_i:;
-    v_r16_i_i1238 = (P)((uintptr_t)v_r16_i_i_i1187 + (u64)(v_r3_i25_i1231));
+    v_r16_i_i1238 = (P)((u64)v_r16_i_i_i1187 + (u64)(v_r3_i25_i1231));
     v_r19_i_i1239 = (u64)((u64)(v_r19_i_i_i1188) - (u64)(v_r3_i25_i1231));
     switch (v_r106_i_i_i) {
     case 0u: { p_v_r15_sroa_7_0_ph = 8u; p_v_r15_sroa_13_0_ph = v_r106_i_i_i; p_v_r15_sroa_19_0_ph = v_r106_i_i_i; goto L_arm_6; }
@@ -3633,7 +3662,7 @@ L_then_6_i_i87:;
 L_then_9_i_i131:;
     v_r92_i_i132 = (u64)v_r83_i_i89;
     v_r15_i191 = v_r65_i_i73 < v_r92_i_i132;
-    v_r29_i193 = (P)((uintptr_t)v_r62_i_i72 + (u64)(v_r92_i_i132));
+    v_r29_i193 = (P)((u64)v_r62_i_i72 + (u64)(v_r92_i_i132));
     v_r32_i194 = (u64)((u64)(v_r65_i_i73) - (u64)(v_r92_i_i132));
     v_r53_i_i_i = v_r83_i_i89 < 2u;
     v_or_cond1294 = (u1)(((u32)(v_r15_i191) | (u32)(v_r53_i_i_i)) & 1);
@@ -3660,7 +3689,7 @@ L_then_20_i_i113:;
     if (v_r15_i201) { goto L_arm_10; } else { goto L_join_3_i202; }
 L_join_3_i202:;
     v_r119_i_i115 = v_r3_sroa_0_0_i1216 + 4;
-    v_r29_i203 = (P)((uintptr_t)v_r119_i_i115 + (u64)(v_r148_i_i121));
+    v_r29_i203 = (P)((u64)v_r119_i_i115 + (u64)(v_r148_i_i121));
     v_r32_i204 = (u64)((u64)(v_r122_i_i114) - (u64)(v_r148_i_i121));
     { p_v_r0_i69_sroa_11_11252 = v_r148_i_i121; p_v_r0_i69_sroa_12_sroa_7_11250 = v_r32_i204; p_v_r0_i69_sroa_12_sroa_0_11248 = v_r29_i203; p_v_r0_i_i65_sroa_9_11247 = v_r119_i_i115; goto L_join_5_i_i_i; }
 L_join_14_i_i93:;
@@ -3680,7 +3709,7 @@ L_then_31_i_i106:;
     v_r15_i211 = v_r173_i_i97 < v_r199_i_i107;
     if (v_r15_i211) { goto L_arm_10; } else { goto L_join_3_i212; }
 L_join_3_i212:;
-    v_r29_i213 = (P)((uintptr_t)v_r170_i_i96 + (u64)(v_r199_i_i107));
+    v_r29_i213 = (P)((u64)v_r170_i_i96 + (u64)(v_r199_i_i107));
     v_r32_i214 = (u64)((u64)(v_r173_i_i97) - (u64)(v_r199_i_i107));
     { p_v_r0_i69_sroa_11_11252 = v_r199_i_i107; p_v_r0_i69_sroa_12_sroa_7_11250 = v_r32_i214; p_v_r0_i69_sroa_12_sroa_0_11248 = v_r29_i213; p_v_r0_i_i65_sroa_9_11247 = v_r170_i_i96; goto L_join_5_i_i_i; }
 L_join_5_i_i_i:;
@@ -3703,7 +3732,7 @@ L_then_9_i_i_i:;
     v_r15_i221 = v_r65_i_i_i < v_r92_i_i_i;
     if (v_r15_i221) { goto L_arm_10; } else { goto L_join_3_i222; }
 L_join_3_i222:;
-    v_r29_i223 = (P)((uintptr_t)v_r62_i_i_i + (u64)(v_r92_i_i_i));
+    v_r29_i223 = (P)((u64)v_r62_i_i_i + (u64)(v_r92_i_i_i));
     v_r32_i224 = (u64)((u64)(v_r65_i_i_i) - (u64)(v_r92_i_i_i));
     { p_v_r0_i_i_i_sroa_9_2 = v_r62_i_i_i; p_v_r0_i_i_i_sroa_15_2 = v_r92_i_i_i; p_v_r0_i_i_i_sroa_21_2 = v_r29_i223; p_v_r0_i_i_i_sroa_27_2 = v_r32_i224; goto L_der_core_integer_uint_UintRefDecodeValueRefSliceU8; }
 L_join_11_i_i_i:;
@@ -3728,7 +3757,7 @@ L_then_20_i_i_i:;
     if (v_r15_i231) { goto L_arm_10; } else { goto L_join_3_i232; }
 L_join_3_i232:;
     v_r119_i_i_i = v_r0_i_i65_sroa_9_11247 + 4;
-    v_r29_i233 = (P)((uintptr_t)v_r119_i_i_i + (u64)(v_r148_i_i_i));
+    v_r29_i233 = (P)((u64)v_r119_i_i_i + (u64)(v_r148_i_i_i));
     v_r32_i234 = (u64)((u64)(v_r122_i_i_i) - (u64)(v_r148_i_i_i));
     { p_v_r0_i_i_i_sroa_9_2 = v_r119_i_i_i; p_v_r0_i_i_i_sroa_15_2 = v_r148_i_i_i; p_v_r0_i_i_i_sroa_21_2 = v_r29_i233; p_v_r0_i_i_i_sroa_27_2 = v_r32_i234; goto L_der_core_integer_uint_UintRefDecodeValueRefSliceU8; }
 L_join_14_i_i_i:;
@@ -3748,7 +3777,7 @@ L_then_31_i_i_i:;
     v_r15_i241 = v_r173_i_i_i < v_r199_i_i_i;
     if (v_r15_i241) { goto L_arm_10; } else { goto L_join_3_i242; }
 L_join_3_i242:;
-    v_r29_i243 = (P)((uintptr_t)v_r170_i_i_i + (u64)(v_r199_i_i_i));
+    v_r29_i243 = (P)((u64)v_r170_i_i_i + (u64)(v_r199_i_i_i));
     v_r32_i244 = (u64)((u64)(v_r173_i_i_i) - (u64)(v_r199_i_i_i));
     { p_v_r0_i_i_i_sroa_9_2 = v_r170_i_i_i; p_v_r0_i_i_i_sroa_15_2 = v_r199_i_i_i; p_v_r0_i_i_i_sroa_21_2 = v_r29_i243; p_v_r0_i_i_i_sroa_27_2 = v_r32_i244; goto L_der_core_integer_uint_UintRefDecodeValueRefSliceU8; }
 L_der_core_integer_uint_UintRefDecodeValueRefSliceU8:;
@@ -3796,7 +3825,7 @@ L_then_9_i_i104_i:;
     v_r15_i251 = v_r65_i_i46_i < v_r92_i_i105_i;
     if (v_r15_i251) { goto L_arm_10; } else { goto L_join_3_i252; }
 L_join_3_i252:;
-    v_r29_i253 = (P)((uintptr_t)v_r62_i_i45_i + (u64)(v_r92_i_i105_i));
+    v_r29_i253 = (P)((u64)v_r62_i_i45_i + (u64)(v_r92_i_i105_i));
     v_r32_i254 = (u64)((u64)(v_r65_i_i46_i) - (u64)(v_r92_i_i105_i));
     { p_v_r0_i_i38_i_sroa_9_2 = v_r62_i_i45_i; p_v_r0_i_i38_i_sroa_15_2 = v_r92_i_i105_i; p_v_r0_i_i38_i_sroa_21_2 = v_r29_i253; p_v_r0_i_i38_i_sroa_27_2 = v_r32_i254; goto L_der_core_integer_uint_UintRefDecodeValueRefSliceU8__3; }
 L_join_11_i_i64_i:;
@@ -3821,7 +3850,7 @@ L_then_20_i_i86_i:;
     if (v_r15_i261) { goto L_arm_10; } else { goto L_join_3_i262; }
 L_join_3_i262:;
     v_r119_i_i88_i = v_r0_i_i_i_sroa_21_2 + 4;
-    v_r29_i263 = (P)((uintptr_t)v_r119_i_i88_i + (u64)(v_r148_i_i94_i));
+    v_r29_i263 = (P)((u64)v_r119_i_i88_i + (u64)(v_r148_i_i94_i));
     v_r32_i264 = (u64)((u64)(v_r122_i_i87_i) - (u64)(v_r148_i_i94_i));
     { p_v_r0_i_i38_i_sroa_9_2 = v_r119_i_i88_i; p_v_r0_i_i38_i_sroa_15_2 = v_r148_i_i94_i; p_v_r0_i_i38_i_sroa_21_2 = v_r29_i263; p_v_r0_i_i38_i_sroa_27_2 = v_r32_i264; goto L_der_core_integer_uint_UintRefDecodeValueRefSliceU8__3; }
 L_join_14_i_i66_i:;
@@ -3841,7 +3870,7 @@ L_then_31_i_i79_i:;
     v_r15_i271 = v_r173_i_i70_i < v_r199_i_i80_i;
     if (v_r15_i271) { goto L_arm_10; } else { goto L_join_3_i272; }
 L_join_3_i272:;
-    v_r29_i273 = (P)((uintptr_t)v_r170_i_i69_i + (u64)(v_r199_i_i80_i));
+    v_r29_i273 = (P)((u64)v_r170_i_i69_i + (u64)(v_r199_i_i80_i));
     v_r32_i274 = (u64)((u64)(v_r173_i_i70_i) - (u64)(v_r199_i_i80_i));
     { p_v_r0_i_i38_i_sroa_9_2 = v_r170_i_i69_i; p_v_r0_i_i38_i_sroa_15_2 = v_r199_i_i80_i; p_v_r0_i_i38_i_sroa_21_2 = v_r29_i273; p_v_r0_i_i38_i_sroa_27_2 = v_r32_i274; goto L_der_core_integer_uint_UintRefDecodeValueRefSliceU8__3; }
 L_der_core_integer_uint_UintRefDecodeValueRefSliceU8__3:;
@@ -5027,14 +5056,14 @@ static void f_der_core_decode_read_slowly_025ef17fb6cfc887(P v_a0, P v_a1, u64 v
     P v_r66;
     P v_r68;
     P v_r70;
-    v_r6_i26_i_i_i = m_v_r6_i26_i_i_i;
-    v_r30_i39_i_i_i = m_v_r30_i39_i_i_i;
-    v_r0_i19_sroa_27_i_i_sroa_0_i = m_v_r0_i19_sroa_27_i_i_sroa_0_i;
-    v_r17_sroa_9_i_sroa_0_i_i = m_v_r17_sroa_9_i_sroa_0_i_i;
-    v_r7_sroa_20_sroa_0_i_i = m_v_r7_sroa_20_sroa_0_i_i;
-    v_r17_sroa_28_i = m_v_r17_sroa_28_i;
-    v_r30_i_sroa_36 = m_v_r30_i_sroa_36;
-    v_r15_sroa_25_sroa_87 = m_v_r15_sroa_25_sroa_87;
+    v_r6_i26_i_i_i = AT(m_v_r6_i26_i_i_i);
+    v_r30_i39_i_i_i = AT(m_v_r30_i39_i_i_i);
+    v_r0_i19_sroa_27_i_i_sroa_0_i = AT(m_v_r0_i19_sroa_27_i_i_sroa_0_i);
+    v_r17_sroa_9_i_sroa_0_i_i = AT(m_v_r17_sroa_9_i_sroa_0_i_i);
+    v_r7_sroa_20_sroa_0_i_i = AT(m_v_r7_sroa_20_sroa_0_i_i);
+    v_r17_sroa_28_i = AT(m_v_r17_sroa_28_i);
+    v_r30_i_sroa_36 = AT(m_v_r30_i_sroa_36);
+    v_r15_sroa_25_sroa_87 = AT(m_v_r15_sroa_25_sroa_87);
     fill(v_r15_sroa_25_sroa_87, 0u, 16u);
     v_r16_i = v_a2 < 4294967296ull;
     if (v_r16_i) { goto L_join_3_i_i; } else { goto L_arm_2; }
@@ -5079,7 +5108,7 @@ L_join_3_i:;
     v_r39_i85 = v_r19_i_i_i43 < v_r3_i25_i;
     if (v_r39_i85) { p_v_r15_sroa_7_0_ph = 1u; p_v_r15_sroa_13_0_ph = 0u; p_v_r15_sroa_19_0_ph = 0u; goto L_arm_6; } else { goto L_arm_14_i_i; }
 L_arm_14_i_i:;
-    v_r16_i_i87 = (P)((uintptr_t)v_r16_i_i_i42 + (u64)(v_r3_i25_i));
+    v_r16_i_i87 = (P)((u64)v_r16_i_i_i42 + (u64)(v_r3_i25_i));
     v_r19_i_i88 = (u64)((u64)(v_r19_i_i_i43) - (u64)(v_r3_i25_i));
     switch (v_r106_i_i) {
     case 0u: { p_v_r15_sroa_7_0_ph = 8u; p_v_r15_sroa_13_0_ph = v_r106_i_i; p_v_r15_sroa_19_0_ph = v_r106_i_i; goto L_arm_6; }
@@ -5197,7 +5226,7 @@ L_join_3_i_i230:;
     v_r39_i762_i = v_r19_i_i_i718_i < v_r3_i25_i_i231;
     if (v_r39_i762_i) { p_v_r30_i_sroa_0_sroa_7_0_ph = 1u; p_v_r30_i_sroa_0_sroa_10_0_ph = 0u; p_v_r30_i_sroa_0_sroa_13_0_ph = 0u; goto L_arm_12_i; } else { goto L_arm_14_i_i_i; }
 L_arm_14_i_i_i:;
-    v_r16_i_i764_i = (P)((uintptr_t)v_r16_i_i_i717_i + (u64)(v_r3_i25_i_i231));
+    v_r16_i_i764_i = (P)((u64)v_r16_i_i_i717_i + (u64)(v_r3_i25_i_i231));
     v_r19_i_i765_i = (u64)((u64)(v_r19_i_i_i718_i) - (u64)(v_r3_i25_i_i231));
     switch (v_r106_i_i_i) {
     case 0u: { p_v_r30_i_sroa_0_sroa_7_0_ph = 8u; p_v_r30_i_sroa_0_sroa_10_0_ph = v_r106_i_i_i; p_v_r30_i_sroa_0_sroa_13_0_ph = v_r106_i_i_i; goto L_arm_12_i; }
@@ -5276,7 +5305,7 @@ L_join_3_i_i865_i:;
     v_r39_i_i868_i = v_r36_i_i867_i < v_r3_i25_i_i_i;
     if (v_r39_i_i868_i) { p_v_r30_i_sroa_0_sroa_7_0_ph = 1u; p_v_r30_i_sroa_0_sroa_10_0_ph = 0u; p_v_r30_i_sroa_0_sroa_13_0_ph = 0u; goto L_arm_12_i; } else { goto L_join_3_i_i900_i; }
 L_join_3_i_i900_i:;
-    v_r16_i_i_i871_i = (P)((uintptr_t)v_r13_sroa_0_0_copyload_i_i870_i + (u64)(v_r3_i25_i_i_i));
+    v_r16_i_i_i871_i = (P)((u64)v_r13_sroa_0_0_copyload_i_i870_i + (u64)(v_r3_i25_i_i_i));
     v_r19_i_i_i872_i = (u64)((u64)(v_r36_i_i867_i) - (u64)(v_r3_i25_i_i_i));
     v_r7_i_i_i_i_i = v_r12_sroa_10_0_i_i == 0u;
     if (v_r7_i_i_i_i_i) { p_v_r30_i_sroa_0_sroa_7_0_ph = 3u; p_v_r30_i_sroa_0_sroa_10_0_ph = 2u; p_v_r30_i_sroa_0_sroa_13_0_ph = 0u; goto L_arm_12_i; } else { goto L_join_8_i_i_i_i; }
@@ -5339,7 +5368,7 @@ L_join_3_i1048_i:;
     v_r39_i1052_i = v_r19_i_i_i1006_i < v_r3_i25_i1049_i;
     if (v_r39_i1052_i) { p_v_r30_i_sroa_0_sroa_7_0_ph = 1u; p_v_r30_i_sroa_0_sroa_10_0_ph = 0u; p_v_r30_i_sroa_0_sroa_13_0_ph = 0u; goto L_arm_12_i; } else { goto L_arm_14_i_i_i_i; }
 L_arm_14_i_i_i_i:;
-    v_r16_i_i1056_i = (P)((uintptr_t)v_r16_i_i_i1005_i + (u64)(v_r3_i25_i1049_i));
+    v_r16_i_i1056_i = (P)((u64)v_r16_i_i_i1005_i + (u64)(v_r3_i25_i1049_i));
     v_r19_i_i1057_i = (u64)((u64)(v_r19_i_i_i1006_i) - (u64)(v_r3_i25_i1049_i));
     switch (v_r106_i_i_i_i) {
     case 0u: { p_v_r30_i_sroa_0_sroa_7_0_ph = 8u; p_v_r30_i_sroa_0_sroa_10_0_ph = v_r106_i_i_i_i; p_v_r30_i_sroa_0_sroa_13_0_ph = v_r106_i_i_i_i; goto L_arm_12_i; }
@@ -5418,7 +5447,7 @@ L_join_3_i_i1179_i:;
     v_r39_i_i1183_i = v_r36_i_i1182_i < v_r3_i25_i_i1180_i;
     if (v_r39_i_i1183_i) { p_v_r30_i_sroa_0_sroa_7_0_ph = 1u; p_v_r30_i_sroa_0_sroa_10_0_ph = 0u; p_v_r30_i_sroa_0_sroa_13_0_ph = 0u; goto L_arm_12_i; } else { goto L_join_3_i_i1222_i; }
 L_join_3_i_i1222_i:;
-    v_r16_i_i_i1186_i = (P)((uintptr_t)v_r13_sroa_0_0_copyload_i_i1185_i + (u64)(v_r3_i25_i_i1180_i));
+    v_r16_i_i_i1186_i = (P)((u64)v_r13_sroa_0_0_copyload_i_i1185_i + (u64)(v_r3_i25_i_i1180_i));
     v_r19_i_i_i1187_i = (u64)((u64)(v_r36_i_i1182_i) - (u64)(v_r3_i25_i_i1180_i));
     v_r7_i_i_i1231_i = v_r12_sroa_10_0_i1120_i == 0u;
     if (v_r7_i_i_i1231_i) { p_v_r30_i_sroa_0_sroa_7_0_ph = 3u; p_v_r30_i_sroa_0_sroa_10_0_ph = 2u; p_v_r30_i_sroa_0_sroa_13_0_ph = 0u; goto L_arm_12_i; } else { goto L_join_8_i_i_i; }
@@ -5480,7 +5509,7 @@ L_join_3_i1385_i:;
     v_r39_i1389_i = v_r19_i_i_i1343_i < v_r3_i25_i1386_i;
     if (v_r39_i1389_i) { p_v_r30_i_sroa_0_sroa_7_0_ph = 1u; p_v_r30_i_sroa_0_sroa_10_0_ph = 0u; p_v_r30_i_sroa_0_sroa_13_0_ph = 0u; goto L_arm_12_i; } else { goto L_arm_14_i_i_i561_i; }
 L_arm_14_i_i_i561_i:;
-    v_r16_i_i1393_i = (P)((uintptr_t)v_r16_i_i_i1342_i + (u64)(v_r3_i25_i1386_i));
+    v_r16_i_i1393_i = (P)((u64)v_r16_i_i_i1342_i + (u64)(v_r3_i25_i1386_i));
     v_r19_i_i1394_i = (u64)((u64)(v_r19_i_i_i1343_i) - (u64)(v_r3_i25_i1386_i));
     switch (v_r106_i_i_i544_i) {
     case 0u: { p_v_r30_i_sroa_0_sroa_7_0_ph = 8u; p_v_r30_i_sroa_0_sroa_10_0_ph = v_r106_i_i_i544_i; p_v_r30_i_sroa_0_sroa_13_0_ph = v_r106_i_i_i544_i; goto L_arm_12_i; }
@@ -5559,7 +5588,7 @@ L_join_3_i_i1516_i:;
     v_r39_i_i1520_i = v_r36_i_i1519_i < v_r3_i25_i_i1517_i;
     if (v_r39_i_i1520_i) { p_v_r30_i_sroa_0_sroa_7_0_ph = 1u; p_v_r30_i_sroa_0_sroa_10_0_ph = 0u; p_v_r30_i_sroa_0_sroa_13_0_ph = 0u; goto L_arm_12_i; } else { goto L_join_3_i_i1559_i; }
 L_join_3_i_i1559_i:;
-    v_r16_i_i_i1523_i = (P)((uintptr_t)v_r13_sroa_0_0_copyload_i_i1522_i + (u64)(v_r3_i25_i_i1517_i));
+    v_r16_i_i_i1523_i = (P)((u64)v_r13_sroa_0_0_copyload_i_i1522_i + (u64)(v_r3_i25_i_i1517_i));
     v_r19_i_i_i1524_i = (u64)((u64)(v_r36_i_i1519_i) - (u64)(v_r3_i25_i_i1517_i));
     v_r7_i_i_i1568_i = v_r12_sroa_10_0_i1457_i == 0u;
     if (v_r7_i_i_i1568_i) { p_v_r30_i_sroa_0_sroa_7_0_ph = 3u; p_v_r30_i_sroa_0_sroa_10_0_ph = 2u; p_v_r30_i_sroa_0_sroa_13_0_ph = 0u; goto L_arm_12_i; } else { goto L_join_8_i_i1569_i; }
@@ -5621,7 +5650,7 @@ L_join_3_i_i1653_i:;
     v_r39_i2088_i_i = v_r19_i_i_i2045_i_i < v_r3_i25_i_i1655_i;
     if (v_r39_i2088_i_i) { p_v_r30_i_sroa_0_sroa_7_0_ph = 1u; p_v_r30_i_sroa_0_sroa_10_0_ph = 0u; p_v_r30_i_sroa_0_sroa_13_0_ph = 0u; goto L_arm_12_i; } else { goto L_arm_14_i_i_i1656_i; }
 L_arm_14_i_i_i1656_i:;
-    v_r16_i_i2090_i_i = (P)((uintptr_t)v_r16_i_i_i2044_i_i + (u64)(v_r3_i25_i_i1655_i));
+    v_r16_i_i2090_i_i = (P)((u64)v_r16_i_i_i2044_i_i + (u64)(v_r3_i25_i_i1655_i));
     v_r19_i_i2091_i_i = (u64)((u64)(v_r19_i_i_i2045_i_i) - (u64)(v_r3_i25_i_i1655_i));
     switch (v_r106_i_i_i1654_i) {
     case 0u: { p_v_r30_i_sroa_0_sroa_7_0_ph = 8u; p_v_r30_i_sroa_0_sroa_10_0_ph = v_r106_i_i_i1654_i; p_v_r30_i_sroa_0_sroa_13_0_ph = v_r106_i_i_i1654_i; goto L_arm_12_i; }
@@ -5700,7 +5729,7 @@ L_join_3_i_i2192_i_i:;
     v_r39_i_i2195_i_i = v_r36_i_i2194_i_i < v_r3_i25_i_i_i_i;
     if (v_r39_i_i2195_i_i) { p_v_r30_i_sroa_0_sroa_7_0_ph = 1u; p_v_r30_i_sroa_0_sroa_10_0_ph = 0u; p_v_r30_i_sroa_0_sroa_13_0_ph = 0u; goto L_arm_12_i; } else { goto L_join_3_i_i2229_i_i; }
 L_join_3_i_i2229_i_i:;
-    v_r16_i_i_i2198_i_i = (P)((uintptr_t)v_r13_sroa_0_0_copyload_i_i2197_i_i + (u64)(v_r3_i25_i_i_i_i));
+    v_r16_i_i_i2198_i_i = (P)((u64)v_r13_sroa_0_0_copyload_i_i2197_i_i + (u64)(v_r3_i25_i_i_i_i));
     v_r19_i_i_i2199_i_i = (u64)((u64)(v_r36_i_i2194_i_i) - (u64)(v_r3_i25_i_i_i_i));
     v_r7_i_i_i2238_i_i = v_r12_sroa_10_0_i_i_i == 0u;
     if (v_r7_i_i_i2238_i_i) { p_v_r30_i_sroa_0_sroa_7_0_ph = 3u; p_v_r30_i_sroa_0_sroa_10_0_ph = 2u; p_v_r30_i_sroa_0_sroa_13_0_ph = 0u; goto L_arm_12_i; } else { goto L_join_8_i_i_i1660_i; }
@@ -5762,7 +5791,7 @@ L_join_3_i2391_i_i:;
     v_r39_i2395_i_i = v_r19_i_i_i2349_i_i < v_r3_i25_i2392_i_i;
     if (v_r39_i2395_i_i) { p_v_r30_i_sroa_0_sroa_7_0_ph = 1u; p_v_r30_i_sroa_0_sroa_10_0_ph = 0u; p_v_r30_i_sroa_0_sroa_13_0_ph = 0u; goto L_arm_12_i; } else { goto L_arm_14_i_i_i_i_i; }
 L_arm_14_i_i_i_i_i:;
-    v_r16_i_i2399_i_i = (P)((uintptr_t)v_r16_i_i_i2348_i_i + (u64)(v_r3_i25_i2392_i_i));
+    v_r16_i_i2399_i_i = (P)((u64)v_r16_i_i_i2348_i_i + (u64)(v_r3_i25_i2392_i_i));
     v_r19_i_i2400_i_i = (u64)((u64)(v_r19_i_i_i2349_i_i) - (u64)(v_r3_i25_i2392_i_i));
     switch (v_r106_i_i_i_i_i) {
     case 0u: { p_v_r30_i_sroa_0_sroa_7_0_ph = 8u; p_v_r30_i_sroa_0_sroa_10_0_ph = v_r106_i_i_i_i_i; p_v_r30_i_sroa_0_sroa_13_0_ph = v_r106_i_i_i_i_i; goto L_arm_12_i; }
@@ -5841,7 +5870,7 @@ L_join_3_i_i2522_i_i:;
     v_r39_i_i2526_i_i = v_r36_i_i2525_i_i < v_r3_i25_i_i2523_i_i;
     if (v_r39_i_i2526_i_i) { p_v_r30_i_sroa_0_sroa_7_0_ph = 1u; p_v_r30_i_sroa_0_sroa_10_0_ph = 0u; p_v_r30_i_sroa_0_sroa_13_0_ph = 0u; goto L_arm_12_i; } else { goto L_join_3_i_i2565_i_i; }
 L_join_3_i_i2565_i_i:;
-    v_r16_i_i_i2529_i_i = (P)((uintptr_t)v_r13_sroa_0_0_copyload_i_i2528_i_i + (u64)(v_r3_i25_i_i2523_i_i));
+    v_r16_i_i_i2529_i_i = (P)((u64)v_r13_sroa_0_0_copyload_i_i2528_i_i + (u64)(v_r3_i25_i_i2523_i_i));
     v_r19_i_i_i2530_i_i = (u64)((u64)(v_r36_i_i2525_i_i) - (u64)(v_r3_i25_i_i2523_i_i));
     v_r7_i_i_i2574_i_i = v_r12_sroa_10_0_i2463_i_i == 0u;
     if (v_r7_i_i_i2574_i_i) { p_v_r30_i_sroa_0_sroa_7_0_ph = 3u; p_v_r30_i_sroa_0_sroa_10_0_ph = 2u; p_v_r30_i_sroa_0_sroa_13_0_ph = 0u; goto L_arm_12_i; } else { goto L_join_8_i_i2575_i_i; }
@@ -5903,7 +5932,7 @@ L_join_3_i2744_i_i:;
     v_r39_i2748_i_i = v_r19_i_i_i2702_i_i < v_r3_i25_i2745_i_i;
     if (v_r39_i2748_i_i) { p_v_r30_i_sroa_0_sroa_7_0_ph = 1u; p_v_r30_i_sroa_0_sroa_10_0_ph = 0u; p_v_r30_i_sroa_0_sroa_13_0_ph = 0u; goto L_arm_12_i; } else { goto L_arm_14_i_i_i490_i_i; }
 L_arm_14_i_i_i490_i_i:;
-    v_r16_i_i2752_i_i = (P)((uintptr_t)v_r16_i_i_i2701_i_i + (u64)(v_r3_i25_i2745_i_i));
+    v_r16_i_i2752_i_i = (P)((u64)v_r16_i_i_i2701_i_i + (u64)(v_r3_i25_i2745_i_i));
     v_r19_i_i2753_i_i = (u64)((u64)(v_r19_i_i_i2702_i_i) - (u64)(v_r3_i25_i2745_i_i));
     switch (v_r106_i_i_i473_i_i) {
     case 0u: { p_v_r30_i_sroa_0_sroa_7_0_ph = 8u; p_v_r30_i_sroa_0_sroa_10_0_ph = v_r106_i_i_i473_i_i; p_v_r30_i_sroa_0_sroa_13_0_ph = v_r106_i_i_i473_i_i; goto L_arm_12_i; }
@@ -5982,7 +6011,7 @@ L_join_3_i_i2875_i_i:;
     v_r39_i_i2879_i_i = v_r36_i_i2878_i_i < v_r3_i25_i_i2876_i_i;
     if (v_r39_i_i2879_i_i) { p_v_r30_i_sroa_0_sroa_7_0_ph = 1u; p_v_r30_i_sroa_0_sroa_10_0_ph = 0u; p_v_r30_i_sroa_0_sroa_13_0_ph = 0u; goto L_arm_12_i; } else { goto L_join_3_i_i2918_i_i; }
 L_join_3_i_i2918_i_i:;
-    v_r16_i_i_i2882_i_i = (P)((uintptr_t)v_r13_sroa_0_0_copyload_i_i2881_i_i + (u64)(v_r3_i25_i_i2876_i_i));
+    v_r16_i_i_i2882_i_i = (P)((u64)v_r13_sroa_0_0_copyload_i_i2881_i_i + (u64)(v_r3_i25_i_i2876_i_i));
     v_r19_i_i_i2883_i_i = (u64)((u64)(v_r36_i_i2878_i_i) - (u64)(v_r3_i25_i_i2876_i_i));
     v_r7_i_i_i2927_i_i = v_r12_sroa_10_0_i2816_i_i == 0u;
     if (v_r7_i_i_i2927_i_i) { p_v_r30_i_sroa_0_sroa_7_0_ph = 3u; p_v_r30_i_sroa_0_sroa_10_0_ph = 2u; p_v_r30_i_sroa_0_sroa_13_0_ph = 0u; goto L_arm_12_i; } else { goto L_join_8_i_i2928_i_i; }
@@ -6044,7 +6073,7 @@ L_join_3_i3097_i_i:;
     v_r39_i3101_i_i = v_r19_i_i_i3055_i_i < v_r3_i25_i3098_i_i;
     if (v_r39_i3101_i_i) { p_v_r30_i_sroa_0_sroa_7_0_ph = 1u; p_v_r30_i_sroa_0_sroa_10_0_ph = 0u; p_v_r30_i_sroa_0_sroa_13_0_ph = 0u; goto L_arm_12_i; } else { goto L_arm_14_i_i_i959_i_i; }
 L_arm_14_i_i_i959_i_i:;
-    v_r16_i_i3105_i_i = (P)((uintptr_t)v_r16_i_i_i3054_i_i + (u64)(v_r3_i25_i3098_i_i));
+    v_r16_i_i3105_i_i = (P)((u64)v_r16_i_i_i3054_i_i + (u64)(v_r3_i25_i3098_i_i));
     v_r19_i_i3106_i_i = (u64)((u64)(v_r19_i_i_i3055_i_i) - (u64)(v_r3_i25_i3098_i_i));
     switch (v_r106_i_i_i942_i_i) {
     case 0u: { p_v_r30_i_sroa_0_sroa_7_0_ph = 8u; p_v_r30_i_sroa_0_sroa_10_0_ph = v_r106_i_i_i942_i_i; p_v_r30_i_sroa_0_sroa_13_0_ph = v_r106_i_i_i942_i_i; goto L_arm_12_i; }
@@ -6123,7 +6152,7 @@ L_join_3_i_i3228_i_i:;
     v_r39_i_i3232_i_i = v_r36_i_i3231_i_i < v_r3_i25_i_i3229_i_i;
     if (v_r39_i_i3232_i_i) { p_v_r30_i_sroa_0_sroa_7_0_ph = 1u; p_v_r30_i_sroa_0_sroa_10_0_ph = 0u; p_v_r30_i_sroa_0_sroa_13_0_ph = 0u; goto L_arm_12_i; } else { goto L_join_3_i_i3271_i_i; }
 L_join_3_i_i3271_i_i:;
-    v_r16_i_i_i3235_i_i = (P)((uintptr_t)v_r13_sroa_0_0_copyload_i_i3234_i_i + (u64)(v_r3_i25_i_i3229_i_i));
+    v_r16_i_i_i3235_i_i = (P)((u64)v_r13_sroa_0_0_copyload_i_i3234_i_i + (u64)(v_r3_i25_i_i3229_i_i));
     v_r19_i_i_i3236_i_i = (u64)((u64)(v_r36_i_i3231_i_i) - (u64)(v_r3_i25_i_i3229_i_i));
     v_r7_i_i_i3280_i_i = v_r12_sroa_10_0_i3169_i_i == 0u;
     if (v_r7_i_i_i3280_i_i) { p_v_r30_i_sroa_0_sroa_7_0_ph = 3u; p_v_r30_i_sroa_0_sroa_10_0_ph = 2u; p_v_r30_i_sroa_0_sroa_13_0_ph = 0u; goto L_arm_12_i; } else { goto L_join_8_i_i3281_i_i; }
@@ -6185,7 +6214,7 @@ L_join_3_i3450_i_i:;
     v_r39_i3454_i_i = v_r19_i_i_i3408_i_i < v_r3_i25_i3451_i_i;
     if (v_r39_i3454_i_i) { p_v_r30_i_sroa_0_sroa_7_0_ph = 1u; p_v_r30_i_sroa_0_sroa_10_0_ph = 0u; p_v_r30_i_sroa_0_sroa_13_0_ph = 0u; goto L_arm_12_i; } else { goto L_arm_14_i_i_i1428_i_i; }
 L_arm_14_i_i_i1428_i_i:;
-    v_r16_i_i3458_i_i = (P)((uintptr_t)v_r16_i_i_i3407_i_i + (u64)(v_r3_i25_i3451_i_i));
+    v_r16_i_i3458_i_i = (P)((u64)v_r16_i_i_i3407_i_i + (u64)(v_r3_i25_i3451_i_i));
     v_r19_i_i3459_i_i = (u64)((u64)(v_r19_i_i_i3408_i_i) - (u64)(v_r3_i25_i3451_i_i));
     switch (v_r106_i_i_i1411_i_i) {
     case 0u: { p_v_r30_i_sroa_0_sroa_7_0_ph = 8u; p_v_r30_i_sroa_0_sroa_10_0_ph = v_r106_i_i_i1411_i_i; p_v_r30_i_sroa_0_sroa_13_0_ph = v_r106_i_i_i1411_i_i; goto L_arm_12_i; }
@@ -6264,7 +6293,7 @@ L_join_3_i_i3581_i_i:;
     v_r39_i_i3585_i_i = v_r36_i_i3584_i_i < v_r3_i25_i_i3582_i_i;
     if (v_r39_i_i3585_i_i) { p_v_r30_i_sroa_0_sroa_7_0_ph = 1u; p_v_r30_i_sroa_0_sroa_10_0_ph = 0u; p_v_r30_i_sroa_0_sroa_13_0_ph = 0u; goto L_arm_12_i; } else { goto L_join_3_i_i3624_i_i; }
 L_join_3_i_i3624_i_i:;
-    v_r16_i_i_i3588_i_i = (P)((uintptr_t)v_r13_sroa_0_0_copyload_i_i3587_i_i + (u64)(v_r3_i25_i_i3582_i_i));
+    v_r16_i_i_i3588_i_i = (P)((u64)v_r13_sroa_0_0_copyload_i_i3587_i_i + (u64)(v_r3_i25_i_i3582_i_i));
     v_r19_i_i_i3589_i_i = (u64)((u64)(v_r36_i_i3584_i_i) - (u64)(v_r3_i25_i_i3582_i_i));
     v_r7_i_i_i3633_i_i = v_r12_sroa_10_0_i3522_i_i == 0u;
     if (v_r7_i_i_i3633_i_i) { p_v_r30_i_sroa_0_sroa_7_0_ph = 3u; p_v_r30_i_sroa_0_sroa_10_0_ph = 2u; p_v_r30_i_sroa_0_sroa_13_0_ph = 0u; goto L_arm_12_i; } else { goto L_join_8_i_i3634_i_i; }
@@ -6326,7 +6355,7 @@ L_join_3_i3803_i_i:;
     v_r39_i3807_i_i = v_r19_i_i_i3761_i_i < v_r3_i25_i3804_i_i;
     if (v_r39_i3807_i_i) { p_v_r30_i_sroa_0_sroa_7_0_ph = 1u; p_v_r30_i_sroa_0_sroa_10_0_ph = 0u; p_v_r30_i_sroa_0_sroa_13_0_ph = 0u; goto L_arm_12_i; } else { goto L_arm_14_i_i_i1885_i_i; }
 L_arm_14_i_i_i1885_i_i:;
-    v_r16_i_i3811_i_i = (P)((uintptr_t)v_r16_i_i_i3760_i_i + (u64)(v_r3_i25_i3804_i_i));
+    v_r16_i_i3811_i_i = (P)((u64)v_r16_i_i_i3760_i_i + (u64)(v_r3_i25_i3804_i_i));
     v_r19_i_i3812_i_i = (u64)((u64)(v_r19_i_i_i3761_i_i) - (u64)(v_r3_i25_i3804_i_i));
     switch (v_r106_i_i_i1868_i_i) {
     case 0u: { p_v_r30_i_sroa_0_sroa_7_0_ph = 8u; p_v_r30_i_sroa_0_sroa_10_0_ph = v_r106_i_i_i1868_i_i; p_v_r30_i_sroa_0_sroa_13_0_ph = v_r106_i_i_i1868_i_i; goto L_arm_12_i; }
@@ -6405,7 +6434,7 @@ L_join_3_i_i3934_i_i:;
     v_r39_i_i3938_i_i = v_r36_i_i3937_i_i < v_r3_i25_i_i3935_i_i;
     if (v_r39_i_i3938_i_i) { p_v_r30_i_sroa_0_sroa_7_0_ph = 1u; p_v_r30_i_sroa_0_sroa_10_0_ph = 0u; p_v_r30_i_sroa_0_sroa_13_0_ph = 0u; goto L_arm_12_i; } else { goto L_join_3_i_i3977_i_i; }
 L_join_3_i_i3977_i_i:;
-    v_r16_i_i_i3941_i_i = (P)((uintptr_t)v_r13_sroa_0_0_copyload_i_i3940_i_i + (u64)(v_r3_i25_i_i3935_i_i));
+    v_r16_i_i_i3941_i_i = (P)((u64)v_r13_sroa_0_0_copyload_i_i3940_i_i + (u64)(v_r3_i25_i_i3935_i_i));
     v_r19_i_i_i3942_i_i = (u64)((u64)(v_r36_i_i3937_i_i) - (u64)(v_r3_i25_i_i3935_i_i));
     v_r7_i_i_i3986_i_i = v_r12_sroa_10_0_i3875_i_i == 0u;
     if (v_r7_i_i_i3986_i_i) { p_v_r30_i_sroa_0_sroa_7_0_ph = 3u; p_v_r30_i_sroa_0_sroa_10_0_ph = 2u; p_v_r30_i_sroa_0_sroa_13_0_ph = 0u; goto L_arm_12_i; } else { goto L_join_8_i_i3987_i_i; }
@@ -6475,7 +6504,7 @@ L_join_3_i210_i_i_i:;
     v_r39_i213_i_i_i = v_r19_i_i_i168_i_i_i < v_r3_i25_i_i_i1869_i;
     if (v_r39_i213_i_i_i) { p_v_r0_i19_sroa_9_0_ph_i_i_i = 1u; p_v_r0_i19_sroa_15_0_ph_i_i_i = 0u; p_v_r0_i19_sroa_21_0_ph_i_i_i = 0u; goto L_arm_2_i1857_i; } else { goto L_arm_14_i_i_i_i1870_i; }
 L_arm_14_i_i_i_i1870_i:;
-    v_r16_i_i216_i_i_i = (P)((uintptr_t)v_r16_i_i_i167_i_i_i + (u64)(v_r3_i25_i_i_i1869_i));
+    v_r16_i_i216_i_i_i = (P)((u64)v_r16_i_i_i167_i_i_i + (u64)(v_r3_i25_i_i_i1869_i));
     v_r19_i_i217_i_i_i = (u64)((u64)(v_r19_i_i_i168_i_i_i) - (u64)(v_r3_i25_i_i_i1869_i));
     switch (v_r106_i_i_i_i1868_i) {
     case 0u: { p_v_r0_i19_sroa_9_0_ph_i_i_i = 8u; p_v_r0_i19_sroa_15_0_ph_i_i_i = v_r106_i_i_i_i1868_i; p_v_r0_i19_sroa_21_0_ph_i_i_i = v_r106_i_i_i_i1868_i; goto L_arm_2_i1857_i; }
@@ -7081,7 +7110,7 @@ L_then_4_i:;
     { p_v_r10_sroa_0_sroa_5_0_ph = 1u; goto L_arm_2; }
 L_loop_6_preheader_i:;
     v_r13_sroa_0_0_copyload_i = get_P(v_a1);
-    v_r16_i_i = (P)((uintptr_t)v_r13_sroa_0_0_copyload_i + (u64)(v_r3_i25_i));
+    v_r16_i_i = (P)((u64)v_r13_sroa_0_0_copyload_i + (u64)(v_r3_i25_i));
     v_r19_i_i = (u64)((u64)(v_r36_i) - (u64)(v_r3_i25_i));
     put_P(v_a1, v_r16_i_i);
     put_u64(v_r35_i, v_r19_i_i);
@@ -7126,7 +7155,7 @@ L_join_3_i_i:;
     v_r39_i1201_i = v_r19_i_i_i1157_i < v_r3_i25_i_i;
     if (v_r39_i1201_i) { p_v_r14_sroa_0_sroa_5_0_ph = 1u; p_v_r14_sroa_0_sroa_8_0_ph = 0u; p_v_r14_sroa_0_sroa_11_0_ph = 0u; goto L_arm_6; } else { goto L_arm_14_i_i; }
 L_arm_14_i_i:;
-    v_r16_i_i1203_i = (P)((uintptr_t)v_r16_i_i_i1156_i + (u64)(v_r3_i25_i_i));
+    v_r16_i_i1203_i = (P)((u64)v_r16_i_i_i1156_i + (u64)(v_r3_i25_i_i));
     v_r19_i_i1204_i = (u64)((u64)(v_r19_i_i_i1157_i) - (u64)(v_r3_i25_i_i));
     switch (v_r106_i136_i) {
     case 0u: { p_v_r14_sroa_0_sroa_5_0_ph = 8u; p_v_r14_sroa_0_sroa_8_0_ph = v_r106_i136_i; p_v_r14_sroa_0_sroa_11_0_ph = v_r106_i136_i; goto L_arm_6; }
@@ -7204,7 +7233,7 @@ L_join_3_i_i1314_i:;
     v_r39_i_i1317_i = v_r3_sroa_11_43422_i < v_r12_sroa_10_0_i_i;
     if (v_r39_i_i1317_i) { p_v_r14_sroa_0_sroa_5_0_ph = 1u; p_v_r14_sroa_0_sroa_8_0_ph = 0u; p_v_r14_sroa_0_sroa_11_0_ph = 0u; goto L_arm_6; } else { goto L_join_3_i_i1352_i; }
 L_join_3_i_i1352_i:;
-    v_r16_i_i_i1320_i = (P)((uintptr_t)v_r3_sroa_0_43420_i + (u64)(v_r12_sroa_10_0_i_i));
+    v_r16_i_i_i1320_i = (P)((u64)v_r3_sroa_0_43420_i + (u64)(v_r12_sroa_10_0_i_i));
     v_r19_i_i_i1321_i = (u64)((u64)(v_r3_sroa_11_43422_i) - (u64)(v_r12_sroa_10_0_i_i));
     v_r39_i_i1355_i = v_r12_sroa_10_0_i_i == 0u;
     if (v_r39_i_i1355_i) { p_v_r14_sroa_0_sroa_5_0_ph = 1u; p_v_r14_sroa_0_sroa_8_0_ph = 0u; p_v_r14_sroa_0_sroa_11_0_ph = 0u; goto L_arm_6; } else { goto L_arm_1_i_i_i; }
@@ -7244,7 +7273,7 @@ L_join_3_i1449_i:;
     v_r39_i1453_i = v_r19_i_i_i1407_i < v_r3_i25_i1450_i;
     if (v_r39_i1453_i) { p_v_r14_sroa_0_sroa_5_0_ph = 1u; p_v_r14_sroa_0_sroa_8_0_ph = 0u; p_v_r14_sroa_0_sroa_11_0_ph = 0u; goto L_arm_6; } else { goto L_arm_14_i_i_i; }
 L_arm_14_i_i_i:;
-    v_r16_i_i1457_i = (P)((uintptr_t)v_r16_i_i_i1406_i + (u64)(v_r3_i25_i1450_i));
+    v_r16_i_i1457_i = (P)((u64)v_r16_i_i_i1406_i + (u64)(v_r3_i25_i1450_i));
     v_r19_i_i1458_i = (u64)((u64)(v_r19_i_i_i1407_i) - (u64)(v_r3_i25_i1450_i));
     switch (v_r106_i_i406_i) {
     case 0u: { p_v_r14_sroa_0_sroa_5_0_ph = 8u; p_v_r14_sroa_0_sroa_8_0_ph = v_r106_i_i406_i; p_v_r14_sroa_0_sroa_11_0_ph = v_r106_i_i406_i; goto L_arm_6; }
@@ -7323,7 +7352,7 @@ L_join_3_i_i1580_i:;
     v_r39_i_i1584_i = v_r6_i12_sroa_30_53863_i < v_r3_i25_i_i1581_i;
     if (v_r39_i_i1584_i) { p_v_r14_sroa_0_sroa_5_0_ph = 1u; p_v_r14_sroa_0_sroa_8_0_ph = 0u; p_v_r14_sroa_0_sroa_11_0_ph = 0u; goto L_arm_6; } else { goto L_join_3_i_i1623_i; }
 L_join_3_i_i1623_i:;
-    v_r16_i_i_i1587_i = (P)((uintptr_t)v_r6_i12_sroa_0_53861_i + (u64)(v_r3_i25_i_i1581_i));
+    v_r16_i_i_i1587_i = (P)((u64)v_r6_i12_sroa_0_53861_i + (u64)(v_r3_i25_i_i1581_i));
     v_r19_i_i_i1588_i = (u64)((u64)(v_r6_i12_sroa_30_53863_i) - (u64)(v_r3_i25_i_i1581_i));
     v_r7_i_i_i1632_i = v_r12_sroa_10_0_i1521_i == 0u;
     if (v_r7_i_i_i1632_i) { p_v_r14_sroa_0_sroa_5_0_ph = 3u; p_v_r14_sroa_0_sroa_8_0_ph = 2u; p_v_r14_sroa_0_sroa_11_0_ph = 0u; goto L_arm_6; } else { goto L_join_8_i_i_i; }
@@ -7380,7 +7409,7 @@ L_join_3_i1789_i:;
     v_r39_i1793_i = v_r19_i_i_i1747_i < v_r3_i25_i1790_i;
     if (v_r39_i1793_i) { p_v_r14_sroa_0_sroa_5_0_ph = 1u; p_v_r14_sroa_0_sroa_8_0_ph = 0u; p_v_r14_sroa_0_sroa_11_0_ph = 0u; goto L_arm_6; } else { goto L_arm_14_i_i_i_i; }
 L_arm_14_i_i_i_i:;
-    v_r16_i_i1797_i = (P)((uintptr_t)v_r16_i_i_i1746_i + (u64)(v_r3_i25_i1790_i));
+    v_r16_i_i1797_i = (P)((u64)v_r16_i_i_i1746_i + (u64)(v_r3_i25_i1790_i));
     v_r19_i_i1798_i = (u64)((u64)(v_r19_i_i_i1747_i) - (u64)(v_r3_i25_i1790_i));
     switch (v_r106_i_i_i598_i) {
     case 0u: { p_v_r14_sroa_0_sroa_5_0_ph = 8u; p_v_r14_sroa_0_sroa_8_0_ph = v_r106_i_i_i598_i; p_v_r14_sroa_0_sroa_11_0_ph = v_r106_i_i_i598_i; goto L_arm_6; }
@@ -7459,7 +7488,7 @@ L_join_3_i_i1920_i:;
     v_r39_i_i1924_i = v_r6_i12_sroa_30_104449_i < v_r3_i25_i_i1921_i;
     if (v_r39_i_i1924_i) { p_v_r14_sroa_0_sroa_5_0_ph = 1u; p_v_r14_sroa_0_sroa_8_0_ph = 0u; p_v_r14_sroa_0_sroa_11_0_ph = 0u; goto L_arm_6; } else { goto L_join_3_i_i1963_i; }
 L_join_3_i_i1963_i:;
-    v_r16_i_i_i1927_i = (P)((uintptr_t)v_r6_i12_sroa_0_104447_i + (u64)(v_r3_i25_i_i1921_i));
+    v_r16_i_i_i1927_i = (P)((u64)v_r6_i12_sroa_0_104447_i + (u64)(v_r3_i25_i_i1921_i));
     v_r19_i_i_i1928_i = (u64)((u64)(v_r6_i12_sroa_30_104449_i) - (u64)(v_r3_i25_i_i1921_i));
     v_r7_i_i_i1972_i = v_r12_sroa_10_0_i1861_i == 0u;
     if (v_r7_i_i_i1972_i) { p_v_r14_sroa_0_sroa_5_0_ph = 3u; p_v_r14_sroa_0_sroa_8_0_ph = 2u; p_v_r14_sroa_0_sroa_11_0_ph = 0u; goto L_arm_6; } else { goto L_join_8_i_i1973_i; }
@@ -7516,7 +7545,7 @@ L_join_3_i2142_i:;
     v_r39_i2146_i = v_r19_i_i_i2100_i < v_r3_i25_i2143_i;
     if (v_r39_i2146_i) { p_v_r14_sroa_0_sroa_5_0_ph = 1u; p_v_r14_sroa_0_sroa_8_0_ph = 0u; p_v_r14_sroa_0_sroa_11_0_ph = 0u; goto L_arm_6; } else { goto L_arm_14_i_i_i968_i; }
 L_arm_14_i_i_i968_i:;
-    v_r16_i_i2150_i = (P)((uintptr_t)v_r16_i_i_i2099_i + (u64)(v_r3_i25_i2143_i));
+    v_r16_i_i2150_i = (P)((u64)v_r16_i_i_i2099_i + (u64)(v_r3_i25_i2143_i));
     v_r19_i_i2151_i = (u64)((u64)(v_r19_i_i_i2100_i) - (u64)(v_r3_i25_i2143_i));
     switch (v_r106_i_i_i951_i) {
     case 0u: { p_v_r14_sroa_0_sroa_5_0_ph = 8u; p_v_r14_sroa_0_sroa_8_0_ph = v_r106_i_i_i951_i; p_v_r14_sroa_0_sroa_11_0_ph = v_r106_i_i_i951_i; goto L_arm_6; }
@@ -7736,7 +7765,7 @@ L_tailrecurse_backedge:;
     v_sink18 = p_v_sink18;
     v_sink = p_v_sink;
     v_r99 = (u64)((u64)(v_a1_tr14) + (u64)(v_sink18));
-    v_r96 = (P)((uintptr_t)v_a0_tr13 + (u64)(v_sink));
+    v_r96 = (P)((u64)v_a0_tr13 + (u64)(v_sink));
     v_r82 = v_r99 == 0u;
     if (v_r82) { p_v_r21_0_shrunk = 1u; goto L_after_1; } else { p_v_a1_tr14 = v_r99; p_v_a0_tr13 = v_r96; goto L_join_4; }
 L_join_7:;
@@ -7832,7 +7861,7 @@ L_join_5:;
     v_r29 = v_r27 == 128u;
     if (v_r29) { goto L_spki_core_object_identifier_is_start_exit; } else { goto L_after_6; }
 L_spki_core_object_identifier_is_start_exit:;
-    v_r14_i = (P)((uintptr_t)v_r25 + (u64)(-1));
+    v_r14_i = (P)((u64)v_r25 + (u64)(-1));
     v_r16_i = get_u8(v_r14_i);
     v_r18_i = (u8)(v_r16_i ^ ((u8)1 << 7)) > (u8)(255u ^ ((u8)1 << 7));
     if (v_r18_i) { p_v_common_ret_op = 0u; goto L_common_ret; } else { goto L_after_6; }
@@ -7844,8 +7873,8 @@ L_after_6:;
     v_exitcond_not = v_r48 == v_a1;
     if (v_exitcond_not) { goto L_spki_core_object_identifier_is_start_exit19; } else { p_v_r3_024 = v_r48; goto L_join_5; }
 L_spki_core_object_identifier_is_start_exit19:;
-    v_0 = (P)((uintptr_t)v_a0 + (u64)(v_a1));
-    v_r14_i15 = (P)((uintptr_t)v_0 + (u64)(-1));
+    v_0 = (P)((u64)v_a0 + (u64)(v_a1));
+    v_r14_i15 = (P)((u64)v_0 + (u64)(-1));
     v_r16_i16 = get_u8(v_r14_i15);
     v_r18_i17 = (u8)(v_r16_i16 ^ ((u8)1 << 7)) > (u8)(255u ^ ((u8)1 << 7));
     { p_v_r11_0_in = v_r18_i17; goto L_join_17; }
@@ -8465,7 +8494,7 @@ L_join_3_i:;
     v_r39_i122 = v_r19_i_i_i78 < v_r3_i25_i;
     if (v_r39_i122) { p_v_r15_sroa_7_0_ph = 1u; p_v_r15_sroa_13_0_ph = 0u; p_v_r15_sroa_19_0_ph = 0u; goto L_arm_6; } else { goto L_arm_14_i_i; }
 L_arm_14_i_i:;
-    v_r16_i_i124 = (P)((uintptr_t)v_r16_i_i_i77 + (u64)(v_r3_i25_i));
+    v_r16_i_i124 = (P)((u64)v_r16_i_i_i77 + (u64)(v_r3_i25_i));
     v_r19_i_i125 = (u64)((u64)(v_r19_i_i_i78) - (u64)(v_r3_i25_i));
     switch (v_r106_i_i) {
     case 0u: { p_v_r15_sroa_7_0_ph = 8u; p_v_r15_sroa_13_0_ph = v_r106_i_i; p_v_r15_sroa_19_0_ph = v_r106_i_i; goto L_arm_6; }
@@ -8580,7 +8609,7 @@ L_join_3_i2010_i:;
     v_r39_i2013_i = v_r19_i_i_i1968_i < v_r3_i25_i_i272;
     if (v_r39_i2013_i) { p_v_r15_sroa_7_0_ph = 1u; p_v_r15_sroa_13_0_ph = 0u; p_v_r15_sroa_19_0_ph = 0u; goto L_arm_6; } else { goto L_arm_14_i_i_i; }
 L_arm_14_i_i_i:;
-    v_r16_i_i2015_i = (P)((uintptr_t)v_r16_i_i_i1967_i + (u64)(v_r3_i25_i_i272));
+    v_r16_i_i2015_i = (P)((u64)v_r16_i_i_i1967_i + (u64)(v_r3_i25_i_i272));
     v_r19_i_i2016_i = (u64)((u64)(v_r19_i_i_i1968_i) - (u64)(v_r3_i25_i_i272));
     switch (v_r106_i_i_i) {
     case 0u: { p_v_r15_sroa_7_0_ph = 8u; p_v_r15_sroa_13_0_ph = v_r106_i_i_i; p_v_r15_sroa_19_0_ph = v_r106_i_i_i; goto L_arm_6; }
@@ -8659,7 +8688,7 @@ L_join_3_i_i2117_i:;
     v_r39_i_i2120_i = v_r36_i_i2119_i < v_r3_i25_i_i_i;
     if (v_r39_i_i2120_i) { p_v_r15_sroa_7_0_ph = 1u; p_v_r15_sroa_13_0_ph = 0u; p_v_r15_sroa_19_0_ph = 0u; goto L_arm_6; } else { goto L_join_3_i_i2152_i; }
 L_join_3_i_i2152_i:;
-    v_r16_i_i_i2123_i = (P)((uintptr_t)v_r13_sroa_0_0_copyload_i_i2122_i + (u64)(v_r3_i25_i_i_i));
+    v_r16_i_i_i2123_i = (P)((u64)v_r13_sroa_0_0_copyload_i_i2122_i + (u64)(v_r3_i25_i_i_i));
     v_r19_i_i_i2124_i = (u64)((u64)(v_r36_i_i2119_i) - (u64)(v_r3_i25_i_i_i));
     v_r7_i_i_i_i_i = v_r12_sroa_10_0_i_i == 0u;
     if (v_r7_i_i_i_i_i) { p_v_r15_sroa_7_0_ph = 3u; p_v_r15_sroa_13_0_ph = 2u; p_v_r15_sroa_19_0_ph = 0u; goto L_arm_6; } else { goto L_join_8_i_i_i_i; }
@@ -8721,7 +8750,7 @@ L_join_3_i2292_i:;
     v_r39_i2296_i = v_r19_i_i_i2250_i < v_r3_i25_i2293_i;
     if (v_r39_i2296_i) { p_v_r15_sroa_7_0_ph = 1u; p_v_r15_sroa_13_0_ph = 0u; p_v_r15_sroa_19_0_ph = 0u; goto L_arm_6; } else { goto L_arm_14_i_i273_i; }
 L_arm_14_i_i273_i:;
-    v_r16_i_i2300_i = (P)((uintptr_t)v_r16_i_i_i2249_i + (u64)(v_r3_i25_i2293_i));
+    v_r16_i_i2300_i = (P)((u64)v_r16_i_i_i2249_i + (u64)(v_r3_i25_i2293_i));
     v_r19_i_i2301_i = (u64)((u64)(v_r19_i_i_i2250_i) - (u64)(v_r3_i25_i2293_i));
     switch (v_r106_i_i256_i) {
     case 0u: { p_v_r15_sroa_7_0_ph = 8u; p_v_r15_sroa_13_0_ph = v_r106_i_i256_i; p_v_r15_sroa_19_0_ph = v_r106_i_i256_i; goto L_arm_6; }
@@ -8799,7 +8828,7 @@ L_join_3_i_i2423_i:;
     v_r39_i_i2427_i = v_r36_i_i2426_i < v_r12_sroa_10_0_i2364_i;
     if (v_r39_i_i2427_i) { p_v_r15_sroa_7_0_ph = 1u; p_v_r15_sroa_13_0_ph = 0u; p_v_r15_sroa_19_0_ph = 0u; goto L_arm_6; } else { goto L_join_3_i_i2466_i; }
 L_join_3_i_i2466_i:;
-    v_r16_i_i_i2430_i = (P)((uintptr_t)v_r13_sroa_0_0_copyload_i_i2429_i + (u64)(v_r12_sroa_10_0_i2364_i));
+    v_r16_i_i_i2430_i = (P)((u64)v_r13_sroa_0_0_copyload_i_i2429_i + (u64)(v_r12_sroa_10_0_i2364_i));
     v_r19_i_i_i2431_i = (u64)((u64)(v_r36_i_i2426_i) - (u64)(v_r12_sroa_10_0_i2364_i));
     v_r39_i_i2469_i = v_r12_sroa_10_0_i2364_i == 0u;
     if (v_r39_i_i2469_i) { p_v_r15_sroa_7_0_ph = 1u; p_v_r15_sroa_13_0_ph = 0u; p_v_r15_sroa_19_0_ph = 0u; goto L_arm_6; } else { goto L_arm_1_i_i633_i; }
@@ -8839,7 +8868,7 @@ L_join_3_i2563_i:;
     v_r39_i2567_i = v_r19_i_i_i2521_i < v_r3_i25_i2564_i;
     if (v_r39_i2567_i) { p_v_r15_sroa_7_0_ph = 1u; p_v_r15_sroa_13_0_ph = 0u; p_v_r15_sroa_19_0_ph = 0u; goto L_arm_6; } else { goto L_arm_14_i_i750_i; }
 L_arm_14_i_i750_i:;
-    v_r16_i_i2571_i = (P)((uintptr_t)v_r16_i_i_i2520_i + (u64)(v_r3_i25_i2564_i));
+    v_r16_i_i2571_i = (P)((u64)v_r16_i_i_i2520_i + (u64)(v_r3_i25_i2564_i));
     v_r19_i_i2572_i = (u64)((u64)(v_r19_i_i_i2521_i) - (u64)(v_r3_i25_i2564_i));
     switch (v_r106_i_i733_i) {
     case 0u: { p_v_r15_sroa_7_0_ph = 8u; p_v_r15_sroa_13_0_ph = v_r106_i_i733_i; p_v_r15_sroa_19_0_ph = v_r106_i_i733_i; goto L_arm_6; }
@@ -8918,12 +8947,12 @@ L_join_3_i_i2694_i:;
     v_r39_i_i2698_i = v_r6_i71_sroa_23_35121_i < v_r3_i25_i_i2695_i;
     if (v_r39_i_i2698_i) { p_v_r15_sroa_7_0_ph = 1u; p_v_r15_sroa_13_0_ph = 0u; p_v_r15_sroa_19_0_ph = 0u; goto L_arm_6; } else { goto L_join_3_i2737_i; }
 L_join_3_i2737_i:;
-    v_r16_i_i_i2701_i = (P)((uintptr_t)v_r6_i71_sroa_0_35119_i + (u64)(v_r3_i25_i_i2695_i));
+    v_r16_i_i_i2701_i = (P)((u64)v_r6_i71_sroa_0_35119_i + (u64)(v_r3_i25_i_i2695_i));
     v_r15_i_i_i = v_r12_sroa_10_0_i2635_i == 0u;
     if (v_r15_i_i_i) { goto L_spki_core_object_identifier_is_identifier_exit_i_i; } else { goto L_join_4_i_i_i; }
 L_join_4_i_i_i:;
     v_r22_i_i_i = (u64)((u64)(v_r3_i25_i_i2695_i) + (u64)(18446744073709551615ull));
-    v_r25_i_i_i = (P)((uintptr_t)v_r6_i71_sroa_0_35119_i + (u64)(v_r22_i_i_i));
+    v_r25_i_i_i = (P)((u64)v_r6_i71_sroa_0_35119_i + (u64)(v_r22_i_i_i));
     v_r35_i8_i_i = get_u8(v_r25_i_i_i);
     v_r37_i9_i_i = (u8)(v_r35_i8_i_i ^ ((u8)1 << 7)) > (u8)(255u ^ ((u8)1 << 7));
     if (v_r37_i9_i_i) { goto L_spki_core_object_identifier_ends_plainly_exit_i_i; } else { goto L_spki_core_object_identifier_is_identifier_exit_i_i; }
@@ -8977,7 +9006,7 @@ L_join_3_i2970_i:;
     v_r39_i2974_i = v_r19_i_i_i2928_i < v_r3_i25_i2971_i;
     if (v_r39_i2974_i) { p_v_r15_sroa_7_0_ph = 1u; p_v_r15_sroa_13_0_ph = 0u; p_v_r15_sroa_19_0_ph = 0u; goto L_arm_6; } else { goto L_arm_14_i_i1298_i; }
 L_arm_14_i_i1298_i:;
-    v_r16_i_i2978_i = (P)((uintptr_t)v_r16_i_i_i2927_i + (u64)(v_r3_i25_i2971_i));
+    v_r16_i_i2978_i = (P)((u64)v_r16_i_i_i2927_i + (u64)(v_r3_i25_i2971_i));
     v_r19_i_i2979_i = (u64)((u64)(v_r19_i_i_i2928_i) - (u64)(v_r3_i25_i2971_i));
     switch (v_r106_i_i1281_i) {
     case 0u: { p_v_r15_sroa_7_0_ph = 8u; p_v_r15_sroa_13_0_ph = v_r106_i_i1281_i; p_v_r15_sroa_19_0_ph = v_r106_i_i1281_i; goto L_arm_6; }
@@ -9099,7 +9128,7 @@ L_join_3_i3451_i:;
     v_r39_i3455_i = v_r19_i_i_i3409_i < v_r3_i25_i3452_i;
     if (v_r39_i3455_i) { p_v_r15_sroa_7_0_ph = 1u; p_v_r15_sroa_13_0_ph = 0u; p_v_r15_sroa_19_0_ph = 0u; goto L_arm_6; } else { goto L_arm_14_i_i1740_i; }
 L_arm_14_i_i1740_i:;
-    v_r16_i_i3459_i = (P)((uintptr_t)v_r16_i_i_i3408_i + (u64)(v_r3_i25_i3452_i));
+    v_r16_i_i3459_i = (P)((u64)v_r16_i_i_i3408_i + (u64)(v_r3_i25_i3452_i));
     v_r19_i_i3460_i = (u64)((u64)(v_r19_i_i_i3409_i) - (u64)(v_r3_i25_i3452_i));
     switch (v_r106_i_i1723_i) {
     case 0u: { p_v_r15_sroa_7_0_ph = 8u; p_v_r15_sroa_13_0_ph = v_r106_i_i1723_i; p_v_r15_sroa_19_0_ph = v_r106_i_i1723_i; goto L_arm_6; }
@@ -9177,7 +9206,7 @@ L_join_3_i_i3582_i:;
     v_r39_i_i3586_i = v_r36_i_i3585_i < v_r12_sroa_10_0_i3523_i;
     if (v_r39_i_i3586_i) { p_v_r15_sroa_7_0_ph = 1u; p_v_r15_sroa_13_0_ph = 0u; p_v_r15_sroa_19_0_ph = 0u; goto L_arm_6; } else { goto L_else_2_i_i3675_i; }
 L_else_2_i_i3675_i:;
-    v_r16_i_i_i3589_i = (P)((uintptr_t)v_r13_sroa_0_0_copyload_i_i3588_i + (u64)(v_r12_sroa_10_0_i3523_i));
+    v_r16_i_i_i3589_i = (P)((u64)v_r13_sroa_0_0_copyload_i_i3588_i + (u64)(v_r12_sroa_10_0_i3523_i));
     v_r19_i_i_i3590_i = (u64)((u64)(v_r36_i_i3585_i) - (u64)(v_r12_sroa_10_0_i3523_i));
     v_r12_i_i_i_not_i_i_i = v_r36_i_i3585_i == v_r12_sroa_10_0_i3523_i;
     if (v_r12_i_i_i_not_i_i_i) { p_v_r12_sroa_10_i330_sroa_12_0_ph = 0u; p_v_r12_sroa_10_i330_sroa_13_0_ph = (P)0; p_v_r12_sroa_10_i330_sroa_14_0_ph = 0u; goto L_join_3_i351; } else { goto L_arm_1_i3676_i; }
@@ -9210,7 +9239,7 @@ L_join_3_i210_i_i:;
     v_r39_i213_i_i = v_r19_i_i_i168_i_i < v_r3_i25_i_i3685_i;
     if (v_r39_i213_i_i) { p_v_r15_sroa_7_0_ph = 1u; p_v_r15_sroa_13_0_ph = 0u; p_v_r15_sroa_19_0_ph = 0u; goto L_arm_6; } else { goto L_arm_14_i_i_i_i; }
 L_arm_14_i_i_i_i:;
-    v_r16_i_i216_i_i = (P)((uintptr_t)v_r16_i_i_i167_i_i + (u64)(v_r3_i25_i_i3685_i));
+    v_r16_i_i216_i_i = (P)((u64)v_r16_i_i_i167_i_i + (u64)(v_r3_i25_i_i3685_i));
     v_r19_i_i217_i_i = (u64)((u64)(v_r19_i_i_i168_i_i) - (u64)(v_r3_i25_i_i3685_i));
     switch (v_r106_i_i_i_i) {
     case 0u: { p_v_r15_sroa_7_0_ph = 8u; p_v_r15_sroa_13_0_ph = v_r106_i_i_i_i; p_v_r15_sroa_19_0_ph = v_r106_i_i_i_i; goto L_arm_6; }
@@ -9667,7 +9696,7 @@ L_join_3_i734:;
     v_r39_i737 = v_r19_i_i_i692 < v_r3_i25_i;
     if (v_r39_i737) { p_v_r15_sroa_7_0_ph = 1u; p_v_r15_sroa_13_0_ph = 0u; p_v_r15_sroa_19_0_ph = 0u; goto L_arm_6; } else { goto L_arm_14_i_i; }
 L_arm_14_i_i:;
-    v_r16_i_i739 = (P)((uintptr_t)v_r16_i_i_i691 + (u64)(v_r3_i25_i));
+    v_r16_i_i739 = (P)((u64)v_r16_i_i_i691 + (u64)(v_r3_i25_i));
     v_r19_i_i740 = (u64)((u64)(v_r19_i_i_i692) - (u64)(v_r3_i25_i));
     switch (v_r106_i_i) {
     case 0u: { p_v_r15_sroa_7_0_ph = 8u; p_v_r15_sroa_13_0_ph = v_r106_i_i; p_v_r15_sroa_19_0_ph = v_r106_i_i; goto L_arm_6; }
@@ -9783,7 +9812,7 @@ L_join_3_i986:;
     v_r39_i990 = v_r19_i_i_i944 < v_r3_i25_i987;
     if (v_r39_i990) { p_v_r15_sroa_7_0_ph = 1u; p_v_r15_sroa_13_0_ph = 0u; p_v_r15_sroa_19_0_ph = 0u; goto L_arm_6; } else { goto L_arm_14_i_i_i; }
 L_arm_14_i_i_i:;
-    v_r16_i_i994 = (P)((uintptr_t)v_r16_i_i_i943 + (u64)(v_r3_i25_i987));
+    v_r16_i_i994 = (P)((u64)v_r16_i_i_i943 + (u64)(v_r3_i25_i987));
     v_r19_i_i995 = (u64)((u64)(v_r19_i_i_i944) - (u64)(v_r3_i25_i987));
     switch (v_r106_i_i_i) {
     case 0u: { p_v_r15_sroa_7_0_ph = 8u; p_v_r15_sroa_13_0_ph = v_r106_i_i_i; p_v_r15_sroa_19_0_ph = v_r106_i_i_i; goto L_arm_6; }
@@ -9863,12 +9892,12 @@ L_join_3_i_i1117:;
     v_r39_i_i1121 = v_r6_i_sroa_23_32722 < v_r3_i25_i_i1118;
     if (v_r39_i_i1121) { p_v_r15_sroa_7_0_ph = 1u; p_v_r15_sroa_13_0_ph = 0u; p_v_r15_sroa_19_0_ph = 0u; goto L_arm_6; } else { goto L_join_3_i1160; }
 L_join_3_i1160:;
-    v_r16_i_i_i1124 = (P)((uintptr_t)v_r6_i_sroa_0_32720 + (u64)(v_r3_i25_i_i1118));
+    v_r16_i_i_i1124 = (P)((u64)v_r6_i_sroa_0_32720 + (u64)(v_r3_i25_i_i1118));
     v_r15_i_i_i = v_r12_sroa_10_0_i1058 == 0u;
     if (v_r15_i_i_i) { goto L_spki_core_object_identifier_is_identifier_exit_i_i; } else { goto L_join_4_i_i_i; }
 L_join_4_i_i_i:;
     v_r22_i_i_i = (u64)((u64)(v_r3_i25_i_i1118) + (u64)(18446744073709551615ull));
-    v_r25_i_i_i = (P)((uintptr_t)v_r6_i_sroa_0_32720 + (u64)(v_r22_i_i_i));
+    v_r25_i_i_i = (P)((u64)v_r6_i_sroa_0_32720 + (u64)(v_r22_i_i_i));
     v_r35_i8_i_i = get_u8(v_r25_i_i_i);
     v_r37_i9_i_i = (u8)(v_r35_i8_i_i ^ ((u8)1 << 7)) > (u8)(255u ^ ((u8)1 << 7));
     if (v_r37_i9_i_i) { goto L_spki_core_object_identifier_ends_plainly_exit_i_i; } else { goto L_spki_core_object_identifier_is_identifier_exit_i_i; }
@@ -9923,7 +9952,7 @@ L_join_3_i1392:;
     v_r39_i1396 = v_r19_i_i_i1350 < v_r3_i25_i1393;
     if (v_r39_i1396) { p_v_r15_sroa_7_0_ph = 1u; p_v_r15_sroa_13_0_ph = 0u; p_v_r15_sroa_19_0_ph = 0u; goto L_arm_6; } else { goto L_arm_14_i_i_i570; }
 L_arm_14_i_i_i570:;
-    v_r16_i_i1400 = (P)((uintptr_t)v_r16_i_i_i1349 + (u64)(v_r3_i25_i1393));
+    v_r16_i_i1400 = (P)((u64)v_r16_i_i_i1349 + (u64)(v_r3_i25_i1393));
     v_r19_i_i1401 = (u64)((u64)(v_r19_i_i_i1350) - (u64)(v_r3_i25_i1393));
     switch (v_r106_i_i_i553) {
     case 0u: { p_v_r15_sroa_7_0_ph = 8u; p_v_r15_sroa_13_0_ph = v_r106_i_i_i553; p_v_r15_sroa_19_0_ph = v_r106_i_i_i553; goto L_arm_6; }
@@ -10217,7 +10246,7 @@ L_join_5_i_preheader:;
     v_r20_i_3 = (u1)(((u32)(v_r20_i_2) | (u32)(v_r7_i_i_i_3)) & 1);
     if (v_r20_i_3) { goto L_then_1; } else { goto L_join_12_i_i; }
 L_join_12_i_i:;
-    v_r83_i_i = f_core_cmp_slices_groups_equal_i8_31_core_cmp_number(v_a1, 47u, (P)f_static_26);
+    v_r83_i_i = f_core_cmp_slices_groups_equal_i8_31_core_cmp_number(v_a1, 47u, AT(f_static_26));
     if (v_r83_i_i) { goto L_arm_8; } else { goto L_then_1; }
 L_arm_8_i:;
     v_r21_not_i37_i = v_a2 == 47u;
@@ -10239,7 +10268,7 @@ L_join_5_i30_preheader:;
     v_r20_i38_3 = (u1)(((u32)(v_r20_i38_2) | (u32)(v_r7_i_i_i37_3)) & 1);
     if (v_r20_i38_3) { goto L_then_1; } else { goto L_join_12_i48_i; }
 L_join_12_i48_i:;
-    v_r83_i49_i = f_core_cmp_slices_groups_equal_i8_31_core_cmp_number(v_a1, 47u, (P)f_static_27);
+    v_r83_i49_i = f_core_cmp_slices_groups_equal_i8_31_core_cmp_number(v_a1, 47u, AT(f_static_27));
     if (v_r83_i49_i) { goto L_arm_8; } else { goto L_then_1; }
 L_arm_9_i:;
     v_r21_not_i55_i = v_a2 == 47u;
@@ -10261,7 +10290,7 @@ L_join_5_i59_preheader:;
     v_r20_i67_3 = (u1)(((u32)(v_r20_i67_2) | (u32)(v_r7_i_i_i66_3)) & 1);
     if (v_r20_i67_3) { goto L_then_1; } else { goto L_join_12_i66_i; }
 L_join_12_i66_i:;
-    v_r83_i67_i = f_core_cmp_slices_groups_equal_i8_31_core_cmp_number(v_a1, 47u, (P)f_static_28);
+    v_r83_i67_i = f_core_cmp_slices_groups_equal_i8_31_core_cmp_number(v_a1, 47u, AT(f_static_28));
     if (v_r83_i67_i) { goto L_arm_8; } else { goto L_then_1; }
 L_arm_10_i:;
     v_r21_not_i73_i = v_a2 == 47u;
@@ -10283,7 +10312,7 @@ L_join_5_i88_preheader:;
     v_r20_i96_3 = (u1)(((u32)(v_r20_i96_2) | (u32)(v_r7_i_i_i95_3)) & 1);
     if (v_r20_i96_3) { goto L_then_1; } else { goto L_join_12_i84_i; }
 L_join_12_i84_i:;
-    v_r83_i85_i = f_core_cmp_slices_groups_equal_i8_31_core_cmp_number(v_a1, 47u, (P)f_static_29);
+    v_r83_i85_i = f_core_cmp_slices_groups_equal_i8_31_core_cmp_number(v_a1, 47u, AT(f_static_29));
     if (v_r83_i85_i) { goto L_arm_8; } else { goto L_then_1; }
 L_arm_11_i:;
     v_r21_not_i91_i = v_a2 == 47u;
@@ -10324,10 +10353,10 @@ L_join_5_i146_preheader:;
     v_r20_i154_3 = (u1)(((u32)(v_r20_i154_2) | (u32)(v_r7_i_i_i153_3)) & 1);
     if (v_r20_i154_3) { goto L_then_1; } else { goto L_join_12_i120_i; }
 L_join_12_i120_i:;
-    v_r83_i121_i = f_core_cmp_slices_groups_equal_i8_31_core_cmp_number(v_a1, 47u, (P)f_static_31);
+    v_r83_i121_i = f_core_cmp_slices_groups_equal_i8_31_core_cmp_number(v_a1, 47u, AT(f_static_31));
     if (v_r83_i121_i) { goto L_arm_8; } else { goto L_then_1; }
 L_pkcs1_params_usual_have_usual_hash_exit:;
-    v_r83_i103_i = f_core_cmp_slices_groups_equal_i8_31_core_cmp_number(v_a1, 47u, (P)f_static_30);
+    v_r83_i103_i = f_core_cmp_slices_groups_equal_i8_31_core_cmp_number(v_a1, 47u, AT(f_static_30));
     if (v_r83_i103_i) { goto L_arm_8; } else { goto L_then_1; }
 L_common_ret:;
     return;
@@ -11276,8 +11305,8 @@ static void f_pkcs1_params_oaep_reading_OaepParamsOfAnyRefAlgori(P v_a0, P v_a1)
     P v_r22;
     P v_r24;
     P v_r26;
-    v_r10_i494_i_i_i = m_v_r10_i494_i_i_i;
-    v_r6_i355_i_i_i = m_v_r6_i355_i_i_i;
+    v_r10_i494_i_i_i = AT(m_v_r10_i494_i_i_i);
+    v_r6_i355_i_i_i = AT(m_v_r6_i355_i_i_i);
     v_r1_sroa_0_0_copyload = get_u64(v_a1);
     v_r1_sroa_3_0_a1_sroa_idx = v_a1 + 8;
     v_r1_sroa_3_0_copyload = get_P(v_r1_sroa_3_0_a1_sroa_idx);
@@ -11291,11 +11320,11 @@ L_join_3_i_i:;
     if (v_r16_i_i_i) { goto L_else_2_i_i_i_i; } else { p_v_r0_sroa_5_0_i_ph = 7u; p_v_r0_sroa_9_0_i_ph = 0u; p_v_r0_sroa_13_0_i_ph = 0u; goto L_arm_2; }
 L_else_2_i_i_i_i:;
     v_r12_i_i_i_not_i_i_i_i = v_r1_sroa_4_0_copyload == 0u;
-    if (v_r12_i_i_i_not_i_i_i_i) { p_v_r12_sroa_10_i_sroa_3_0_ph = (P)f_static_24; p_v_r12_sroa_10_i_sroa_5_0_ph = 5u; p_v_r12_sroa_10_i_sroa_6_0_ph = 1u; p_v_r12_sroa_10_i_sroa_7_0_ph = 5u; p_v_r12_sroa_10_i_sroa_8_0_ph = (P)f_static_22; p_v_r12_sroa_10_i_sroa_9_0_ph = 0u; p_v_r12_sroa_10_i_sroa_10_0_ph = (P)f_static_25; p_v_r12_sroa_10_i_sroa_11_0_ph = 9u; p_v_r12_sroa_10_i_sroa_12_0_ph = 1u; p_v_r12_sroa_10_i_sroa_13_0_ph = (P)f_static_24; p_v_r12_sroa_10_i_sroa_14_0_ph = 5u; p_v_r12_sroa_10_i_sroa_15_0_ph = 1u; p_v_r12_sroa_10_i_sroa_16_0_ph = 5u; p_v_r12_sroa_10_i_sroa_17_0_ph = (P)f_static_22; p_v_r12_sroa_10_i_sroa_18_0_ph = 0u; p_v_r12_sroa_10_i_sroa_19_0_ph = (P)f_static_0; p_v_r12_sroa_10_i_sroa_20_0_ph = 9u; p_v_r12_sroa_10_i_sroa_21_0_ph = 1u; p_v_r12_sroa_10_i_sroa_22_0_ph = 4u; p_v_r12_sroa_10_i_sroa_23_0_ph = (P)f_static_22; p_v_r12_sroa_10_i_sroa_24_0_ph = 0u; goto L_arm_1; } else { goto L_arm_1_i720_i_i_i; }
+    if (v_r12_i_i_i_not_i_i_i_i) { p_v_r12_sroa_10_i_sroa_3_0_ph = AT(f_static_24); p_v_r12_sroa_10_i_sroa_5_0_ph = 5u; p_v_r12_sroa_10_i_sroa_6_0_ph = 1u; p_v_r12_sroa_10_i_sroa_7_0_ph = 5u; p_v_r12_sroa_10_i_sroa_8_0_ph = AT(f_static_22); p_v_r12_sroa_10_i_sroa_9_0_ph = 0u; p_v_r12_sroa_10_i_sroa_10_0_ph = AT(f_static_25); p_v_r12_sroa_10_i_sroa_11_0_ph = 9u; p_v_r12_sroa_10_i_sroa_12_0_ph = 1u; p_v_r12_sroa_10_i_sroa_13_0_ph = AT(f_static_24); p_v_r12_sroa_10_i_sroa_14_0_ph = 5u; p_v_r12_sroa_10_i_sroa_15_0_ph = 1u; p_v_r12_sroa_10_i_sroa_16_0_ph = 5u; p_v_r12_sroa_10_i_sroa_17_0_ph = AT(f_static_22); p_v_r12_sroa_10_i_sroa_18_0_ph = 0u; p_v_r12_sroa_10_i_sroa_19_0_ph = AT(f_static_0); p_v_r12_sroa_10_i_sroa_20_0_ph = 9u; p_v_r12_sroa_10_i_sroa_21_0_ph = 1u; p_v_r12_sroa_10_i_sroa_22_0_ph = 4u; p_v_r12_sroa_10_i_sroa_23_0_ph = AT(f_static_22); p_v_r12_sroa_10_i_sroa_24_0_ph = 0u; goto L_arm_1; } else { goto L_arm_1_i720_i_i_i; }
 L_arm_1_i720_i_i_i:;
     v_r18_i_i3416_i_i_i = get_u8(v_r1_sroa_3_0_copyload);
     v_r7_i_i3420_i_i_i = v_r18_i_i3416_i_i_i == 160u;
-    if (v_r7_i_i3420_i_i_i) { goto L_join_3_i_i3484_i_i_i; } else { p_v_r18_i_i5019_i_i_i = v_r18_i_i3416_i_i_i; p_v_r4_sroa_0_0_i_i = v_r1_sroa_3_0_copyload; p_v_r17_i657_sroa_12_sroa_3_01085612077_i_i_i = (P)f_static_24; p_v_r17_i657_sroa_12_sroa_6_01085712076_i_i_i = 5u; p_v_r17_i657_sroa_18_sroa_0_01085812075_i_i_i = 5u; p_v_r17_i657_sroa_18_sroa_6_01085912074_i_i_i = (P)f_static_22; p_v_r17_i657_sroa_18_sroa_7_01086012073_i_i_i = 0u; p_v_r17_i657_sroa_15_sroa_0_01086112072_i_i_i = 1u; p_v_r36_i_i506512071_i_i_i = v_r1_sroa_4_0_copyload; goto L_arm_1_i_i_i_i; }
+    if (v_r7_i_i3420_i_i_i) { goto L_join_3_i_i3484_i_i_i; } else { p_v_r18_i_i5019_i_i_i = v_r18_i_i3416_i_i_i; p_v_r4_sroa_0_0_i_i = v_r1_sroa_3_0_copyload; p_v_r17_i657_sroa_12_sroa_3_01085612077_i_i_i = AT(f_static_24); p_v_r17_i657_sroa_12_sroa_6_01085712076_i_i_i = 5u; p_v_r17_i657_sroa_18_sroa_0_01085812075_i_i_i = 5u; p_v_r17_i657_sroa_18_sroa_6_01085912074_i_i_i = AT(f_static_22); p_v_r17_i657_sroa_18_sroa_7_01086012073_i_i_i = 0u; p_v_r17_i657_sroa_15_sroa_0_01086112072_i_i_i = 1u; p_v_r36_i_i506512071_i_i_i = v_r1_sroa_4_0_copyload; goto L_arm_1_i_i_i_i; }
 L_join_3_i_i3484_i_i_i:;
     v_r39_i_i3487_i_i_i = v_r1_sroa_4_0_copyload == 1u;
     if (v_r39_i_i3487_i_i_i) { p_v_r0_sroa_5_0_i_ph = 1u; p_v_r0_sroa_9_0_i_ph = 0u; p_v_r0_sroa_13_0_i_ph = 0u; goto L_arm_2; } else { goto L_arm_1_i51_i3218_i_i_i; }
@@ -11321,7 +11350,7 @@ L_join_3_i3533_i_i_i:;
     v_r39_i3536_i_i_i = v_r19_i_i_i3491_i_i_i < v_r3_i25_i_i_i_i;
     if (v_r39_i3536_i_i_i) { p_v_r0_sroa_5_0_i_ph = 1u; p_v_r0_sroa_9_0_i_ph = 0u; p_v_r0_sroa_13_0_i_ph = 0u; goto L_arm_2; } else { goto L_arm_14_i_i3244_i_i_i; }
 L_arm_14_i_i3244_i_i_i:;
-    v_r16_i_i3539_i_i_i = (P)((uintptr_t)v_r16_i_i_i3490_i_i_i + (u64)(v_r3_i25_i_i_i_i));
+    v_r16_i_i3539_i_i_i = (P)((u64)v_r16_i_i_i3490_i_i_i + (u64)(v_r3_i25_i_i_i_i));
     v_r19_i_i3540_i_i_i = (u64)((u64)(v_r19_i_i_i3491_i_i_i) - (u64)(v_r3_i25_i_i_i_i));
     switch (v_r106_i_i3227_i_i_i) {
     case 0u: { p_v_r0_sroa_5_0_i_ph = 8u; p_v_r0_sroa_9_0_i_ph = v_r106_i_i3227_i_i_i; p_v_r0_sroa_13_0_i_ph = v_r106_i_i3227_i_i_i; goto L_arm_2; }
@@ -11397,7 +11426,7 @@ L_join_3_i_i3653_i_i_i:;
     v_r39_i_i3656_i_i_i = v_r36_i_i3655_i_i_i < v_r12_sroa_10_0_i_i_i_i;
     if (v_r39_i_i3656_i_i_i) { p_v_r0_sroa_5_0_i_ph = 1u; p_v_r0_sroa_9_0_i_ph = 0u; p_v_r0_sroa_13_0_i_ph = 0u; goto L_arm_2; } else { goto L_join_3_i_i3690_i_i_i; }
 L_join_3_i_i3690_i_i_i:;
-    v_r16_i_i_i3659_i_i_i = (P)((uintptr_t)v_r13_sroa_0_0_copyload_i_i3658_i_i_i + (u64)(v_r12_sroa_10_0_i_i_i_i));
+    v_r16_i_i_i3659_i_i_i = (P)((u64)v_r13_sroa_0_0_copyload_i_i3658_i_i_i + (u64)(v_r12_sroa_10_0_i_i_i_i));
     v_r19_i_i_i3660_i_i_i = (u64)((u64)(v_r36_i_i3655_i_i_i) - (u64)(v_r12_sroa_10_0_i_i_i_i));
     v_r39_i_i3693_i_i_i = v_r12_sroa_10_0_i_i_i_i == 0u;
     if (v_r39_i_i3693_i_i_i) { p_v_r0_sroa_5_0_i_ph = 1u; p_v_r0_sroa_9_0_i_ph = 0u; p_v_r0_sroa_13_0_i_ph = 0u; goto L_arm_2; } else { goto L_arm_1_i_i_i2870_i_i_i; }
@@ -11437,7 +11466,7 @@ L_join_3_i3787_i_i_i:;
     v_r39_i3791_i_i_i = v_r19_i_i_i3745_i_i_i < v_r3_i25_i3788_i_i_i;
     if (v_r39_i3791_i_i_i) { p_v_r0_sroa_5_0_i_ph = 1u; p_v_r0_sroa_9_0_i_ph = 0u; p_v_r0_sroa_13_0_i_ph = 0u; goto L_arm_2; } else { goto L_arm_14_i_i_i2987_i_i_i; }
 L_arm_14_i_i_i2987_i_i_i:;
-    v_r16_i_i3795_i_i_i = (P)((uintptr_t)v_r16_i_i_i3744_i_i_i + (u64)(v_r3_i25_i3788_i_i_i));
+    v_r16_i_i3795_i_i_i = (P)((u64)v_r16_i_i_i3744_i_i_i + (u64)(v_r3_i25_i3788_i_i_i));
     v_r19_i_i3796_i_i_i = (u64)((u64)(v_r19_i_i_i3745_i_i_i) - (u64)(v_r3_i25_i3788_i_i_i));
     switch (v_r106_i_i263_i2970_i_i_i) {
     case 0u: { p_v_r0_sroa_5_0_i_ph = 8u; p_v_r0_sroa_9_0_i_ph = v_r106_i_i263_i2970_i_i_i; p_v_r0_sroa_13_0_i_ph = v_r106_i_i263_i2970_i_i_i; goto L_arm_2; }
@@ -11551,7 +11580,7 @@ L_join_3_i4058_i_i_i:;
     v_r39_i4062_i_i_i = v_r19_i_i_i4016_i_i_i < v_r3_i25_i4059_i_i_i;
     if (v_r39_i4062_i_i_i) { p_v_r0_sroa_5_0_i_ph = 1u; p_v_r0_sroa_9_0_i_ph = 0u; p_v_r0_sroa_13_0_i_ph = 0u; goto L_arm_2; } else { goto L_arm_14_i_i_i_i2730_i_i_i; }
 L_arm_14_i_i_i_i2730_i_i_i:;
-    v_r16_i_i4066_i_i_i = (P)((uintptr_t)v_r16_i_i_i4015_i_i_i + (u64)(v_r3_i25_i4059_i_i_i));
+    v_r16_i_i4066_i_i_i = (P)((u64)v_r16_i_i_i4015_i_i_i + (u64)(v_r3_i25_i4059_i_i_i));
     v_r19_i_i4067_i_i_i = (u64)((u64)(v_r19_i_i_i4016_i_i_i) - (u64)(v_r3_i25_i4059_i_i_i));
     switch (v_r106_i_i_i562_i2713_i_i_i) {
     case 0u: { p_v_r0_sroa_5_0_i_ph = 8u; p_v_r0_sroa_9_0_i_ph = v_r106_i_i_i562_i2713_i_i_i; p_v_r0_sroa_13_0_i_ph = v_r106_i_i_i562_i2713_i_i_i; goto L_arm_2; }
@@ -11630,12 +11659,12 @@ L_join_3_i_i4189_i_i_i:;
     v_r39_i_i4193_i_i_i = v_r6_i161_i1372_sroa_23_910381_i_i_i < v_r3_i25_i_i4190_i_i_i;
     if (v_r39_i_i4193_i_i_i) { p_v_r0_sroa_5_0_i_ph = 1u; p_v_r0_sroa_9_0_i_ph = 0u; p_v_r0_sroa_13_0_i_ph = 0u; goto L_arm_2; } else { goto L_join_3_i4232_i_i_i; }
 L_join_3_i4232_i_i_i:;
-    v_r16_i_i_i4196_i_i_i = (P)((uintptr_t)v_r6_i161_i1372_sroa_0_910379_i_i_i + (u64)(v_r3_i25_i_i4190_i_i_i));
+    v_r16_i_i_i4196_i_i_i = (P)((u64)v_r6_i161_i1372_sroa_0_910379_i_i_i + (u64)(v_r3_i25_i_i4190_i_i_i));
     v_r15_i_i_i_i2532_i_i_i = v_r12_sroa_10_0_i4130_i_i_i == 0u;
     if (v_r15_i_i_i_i2532_i_i_i) { goto L_spki_core_object_identifier_is_identifier_exit_i_i; } else { goto L_join_4_i_i_i_i2533_i_i_i; }
 L_join_4_i_i_i_i2533_i_i_i:;
     v_r22_i_i_i_i2534_i_i_i = (u64)((u64)(v_r3_i25_i_i4190_i_i_i) + (u64)(18446744073709551615ull));
-    v_r25_i_i_i_i2535_i_i_i = (P)((uintptr_t)v_r6_i161_i1372_sroa_0_910379_i_i_i + (u64)(v_r22_i_i_i_i2534_i_i_i));
+    v_r25_i_i_i_i2535_i_i_i = (P)((u64)v_r6_i161_i1372_sroa_0_910379_i_i_i + (u64)(v_r22_i_i_i_i2534_i_i_i));
     v_r35_i8_i_i_i2536_i_i_i = get_u8(v_r25_i_i_i_i2535_i_i_i);
     v_r37_i9_i_i_i2537_i_i_i = (u8)(v_r35_i8_i_i_i2536_i_i_i ^ ((u8)1 << 7)) > (u8)(255u ^ ((u8)1 << 7));
     if (v_r37_i9_i_i_i2537_i_i_i) { goto L_spki_core_object_identifier_ends_plainly_exit_i_i_; } else { goto L_spki_core_object_identifier_is_identifier_exit_i_i; }
@@ -11689,7 +11718,7 @@ L_join_3_i4478_i_i_i:;
     v_r39_i4482_i_i_i = v_r19_i_i_i4436_i_i_i < v_r3_i25_i4479_i_i_i;
     if (v_r39_i4482_i_i_i) { p_v_r0_sroa_5_0_i_ph = 1u; p_v_r0_sroa_9_0_i_ph = 0u; p_v_r0_sroa_13_0_i_ph = 0u; goto L_arm_2; } else { goto L_arm_14_i_i964_i2301_i_i_i; }
 L_arm_14_i_i964_i2301_i_i_i:;
-    v_r16_i_i4486_i_i_i = (P)((uintptr_t)v_r16_i_i_i4435_i_i_i + (u64)(v_r3_i25_i4479_i_i_i));
+    v_r16_i_i4486_i_i_i = (P)((u64)v_r16_i_i_i4435_i_i_i + (u64)(v_r3_i25_i4479_i_i_i));
     v_r19_i_i4487_i_i_i = (u64)((u64)(v_r19_i_i_i4436_i_i_i) - (u64)(v_r3_i25_i4479_i_i_i));
     switch (v_r106_i_i947_i2284_i_i_i) {
     case 0u: { p_v_r0_sroa_5_0_i_ph = 8u; p_v_r0_sroa_9_0_i_ph = v_r106_i_i947_i2284_i_i_i; p_v_r0_sroa_13_0_i_ph = v_r106_i_i947_i2284_i_i_i; goto L_arm_2; }
@@ -11777,7 +11806,7 @@ L_join_3_i4862_i_i_i:;
     if (v_r7_i_i4865_i_i_i) { goto L_else_2_i5013_i_i_i; } else { p_v_r0_sroa_5_0_i_ph = 12u; p_v_r0_sroa_9_0_i_ph = 0u; p_v_r0_sroa_13_0_i_ph = 0u; goto L_arm_2; }
 L_else_2_i5013_i_i_i:;
     v_r12_i_i_i_not_i5016_i_i_i = v_r19_i_i_i3660_i_i_i == 0u;
-    if (v_r12_i_i_i_not_i5016_i_i_i) { p_v_r12_sroa_10_i_sroa_3_0_ph = v_r6_i161_i1372_sroa_0_910379_i_i_i; p_v_r12_sroa_10_i_sroa_5_0_ph = v_r3_i25_i_i4190_i_i_i; p_v_r12_sroa_10_i_sroa_6_0_ph = v_r6_i592_i1242_sroa_239393_sroa_0_0_i_i_i; p_v_r12_sroa_10_i_sroa_7_0_ph = v_r6_i592_i1242_sroa_28_sroa_0_0_i_i_i; p_v_r12_sroa_10_i_sroa_8_0_ph = v_r6_i592_i1242_sroa_28_sroa_8_0_i_i_i; p_v_r12_sroa_10_i_sroa_9_0_ph = v_r6_i592_i1242_sroa_28_sroa_12_0_i_i_i; p_v_r12_sroa_10_i_sroa_10_0_ph = (P)f_static_25; p_v_r12_sroa_10_i_sroa_11_0_ph = 9u; p_v_r12_sroa_10_i_sroa_12_0_ph = 1u; p_v_r12_sroa_10_i_sroa_13_0_ph = (P)f_static_24; p_v_r12_sroa_10_i_sroa_14_0_ph = 5u; p_v_r12_sroa_10_i_sroa_15_0_ph = 1u; p_v_r12_sroa_10_i_sroa_16_0_ph = 5u; p_v_r12_sroa_10_i_sroa_17_0_ph = (P)f_static_22; p_v_r12_sroa_10_i_sroa_18_0_ph = 0u; p_v_r12_sroa_10_i_sroa_19_0_ph = (P)f_static_0; p_v_r12_sroa_10_i_sroa_20_0_ph = 9u; p_v_r12_sroa_10_i_sroa_21_0_ph = 1u; p_v_r12_sroa_10_i_sroa_22_0_ph = 4u; p_v_r12_sroa_10_i_sroa_23_0_ph = (P)f_static_22; p_v_r12_sroa_10_i_sroa_24_0_ph = 0u; goto L_arm_1; } else { goto L_else_2_i5013_i_arm_1_i_i_crit_edge_i_i; }
+    if (v_r12_i_i_i_not_i5016_i_i_i) { p_v_r12_sroa_10_i_sroa_3_0_ph = v_r6_i161_i1372_sroa_0_910379_i_i_i; p_v_r12_sroa_10_i_sroa_5_0_ph = v_r3_i25_i_i4190_i_i_i; p_v_r12_sroa_10_i_sroa_6_0_ph = v_r6_i592_i1242_sroa_239393_sroa_0_0_i_i_i; p_v_r12_sroa_10_i_sroa_7_0_ph = v_r6_i592_i1242_sroa_28_sroa_0_0_i_i_i; p_v_r12_sroa_10_i_sroa_8_0_ph = v_r6_i592_i1242_sroa_28_sroa_8_0_i_i_i; p_v_r12_sroa_10_i_sroa_9_0_ph = v_r6_i592_i1242_sroa_28_sroa_12_0_i_i_i; p_v_r12_sroa_10_i_sroa_10_0_ph = AT(f_static_25); p_v_r12_sroa_10_i_sroa_11_0_ph = 9u; p_v_r12_sroa_10_i_sroa_12_0_ph = 1u; p_v_r12_sroa_10_i_sroa_13_0_ph = AT(f_static_24); p_v_r12_sroa_10_i_sroa_14_0_ph = 5u; p_v_r12_sroa_10_i_sroa_15_0_ph = 1u; p_v_r12_sroa_10_i_sroa_16_0_ph = 5u; p_v_r12_sroa_10_i_sroa_17_0_ph = AT(f_static_22); p_v_r12_sroa_10_i_sroa_18_0_ph = 0u; p_v_r12_sroa_10_i_sroa_19_0_ph = AT(f_static_0); p_v_r12_sroa_10_i_sroa_20_0_ph = 9u; p_v_r12_sroa_10_i_sroa_21_0_ph = 1u; p_v_r12_sroa_10_i_sroa_22_0_ph = 4u; p_v_r12_sroa_10_i_sroa_23_0_ph = AT(f_static_22); p_v_r12_sroa_10_i_sroa_24_0_ph = 0u; goto L_arm_1; } else { goto L_else_2_i5013_i_arm_1_i_i_crit_edge_i_i; }
 L_else_2_i5013_i_arm_1_i_i_crit_edge_i_i:;
     v_r18_i_i5019_i_pre_i_i = get_u8(v_r16_i_i_i3659_i_i_i);
     { p_v_r18_i_i5019_i_i_i = v_r18_i_i5019_i_pre_i_i; p_v_r4_sroa_0_0_i_i = v_r16_i_i_i3659_i_i_i; p_v_r17_i657_sroa_12_sroa_3_01085612077_i_i_i = v_r6_i161_i1372_sroa_0_910379_i_i_i; p_v_r17_i657_sroa_12_sroa_6_01085712076_i_i_i = v_r3_i25_i_i4190_i_i_i; p_v_r17_i657_sroa_18_sroa_0_01085812075_i_i_i = v_r6_i592_i1242_sroa_28_sroa_0_0_i_i_i; p_v_r17_i657_sroa_18_sroa_6_01085912074_i_i_i = v_r6_i592_i1242_sroa_28_sroa_8_0_i_i_i; p_v_r17_i657_sroa_18_sroa_7_01086012073_i_i_i = v_r6_i592_i1242_sroa_28_sroa_12_0_i_i_i; p_v_r17_i657_sroa_15_sroa_0_01086112072_i_i_i = v_r6_i592_i1242_sroa_239393_sroa_0_0_i_i_i; p_v_r36_i_i506512071_i_i_i = v_r19_i_i_i3660_i_i_i; goto L_arm_1_i_i_i_i; }
@@ -11792,7 +11821,7 @@ L_arm_1_i_i_i_i:;
     v_r17_i657_sroa_15_sroa_0_01086112072_i_i_i = p_v_r17_i657_sroa_15_sroa_0_01086112072_i_i_i;
     v_r36_i_i506512071_i_i_i = p_v_r36_i_i506512071_i_i_i;
     v_r7_i_i5029_i_i_i = v_r18_i_i5019_i_i_i == 161u;
-    if (v_r7_i_i5029_i_i_i) { goto L_join_3_i_i5110_i_i_i; } else { p_v_r18_i_i5819_i_i_i = v_r18_i_i5019_i_i_i; p_v_r4_sroa_0_1_i_i = v_r4_sroa_0_0_i_i; p_v_r12_sroa_10_i5726_sroa_12_0_ph12143_i_i_i = 0u; p_v_r12_sroa_10_i5726_sroa_11_0_ph12142_i_i_i = (P)f_static_22; p_v_r12_sroa_10_i5726_sroa_10_0_ph12141_i_i_i = 5u; p_v_r12_sroa_10_i5726_sroa_9_0_ph12140_i_i_i = 1u; p_v_r12_sroa_10_i5726_sroa_8_0_ph12139_i_i_i = 5u; p_v_r12_sroa_10_i5726_sroa_7_0_ph12138_i_i_i = (P)f_static_24; p_v_r12_sroa_10_i5726_sroa_6_0_ph12137_i_i_i = 1u; p_v_r12_sroa_10_i5726_sroa_5_0_ph12136_i_i_i = 9u; p_v_r12_sroa_10_i5726_sroa_3_0_ph12135_i_i_i = (P)f_static_25; p_v_r36_i_i586512134_i_i_i = v_r36_i_i506512071_i_i_i; goto L_arm_1_i587_i_i_i; }
+    if (v_r7_i_i5029_i_i_i) { goto L_join_3_i_i5110_i_i_i; } else { p_v_r18_i_i5819_i_i_i = v_r18_i_i5019_i_i_i; p_v_r4_sroa_0_1_i_i = v_r4_sroa_0_0_i_i; p_v_r12_sroa_10_i5726_sroa_12_0_ph12143_i_i_i = 0u; p_v_r12_sroa_10_i5726_sroa_11_0_ph12142_i_i_i = AT(f_static_22); p_v_r12_sroa_10_i5726_sroa_10_0_ph12141_i_i_i = 5u; p_v_r12_sroa_10_i5726_sroa_9_0_ph12140_i_i_i = 1u; p_v_r12_sroa_10_i5726_sroa_8_0_ph12139_i_i_i = 5u; p_v_r12_sroa_10_i5726_sroa_7_0_ph12138_i_i_i = AT(f_static_24); p_v_r12_sroa_10_i5726_sroa_6_0_ph12137_i_i_i = 1u; p_v_r12_sroa_10_i5726_sroa_5_0_ph12136_i_i_i = 9u; p_v_r12_sroa_10_i5726_sroa_3_0_ph12135_i_i_i = AT(f_static_25); p_v_r36_i_i586512134_i_i_i = v_r36_i_i506512071_i_i_i; goto L_arm_1_i587_i_i_i; }
 L_join_3_i_i5110_i_i_i:;
     v_r39_i_i5113_i_i_i = v_r36_i_i506512071_i_i_i == 1u;
     if (v_r39_i_i5113_i_i_i) { p_v_r0_sroa_5_0_i_ph = 1u; p_v_r0_sroa_9_0_i_ph = 0u; p_v_r0_sroa_13_0_i_ph = 0u; goto L_arm_2; } else { goto L_arm_1_i236_i_i_i; }
@@ -11818,7 +11847,7 @@ L_join_3_i5159_i_i_i:;
     v_r39_i5163_i_i_i = v_r19_i_i_i5117_i_i_i < v_r3_i25_i5160_i_i_i;
     if (v_r39_i5163_i_i_i) { p_v_r0_sroa_5_0_i_ph = 1u; p_v_r0_sroa_9_0_i_ph = 0u; p_v_r0_sroa_13_0_i_ph = 0u; goto L_arm_2; } else { goto L_arm_14_i_i_i_i; }
 L_arm_14_i_i_i_i:;
-    v_r16_i_i5167_i_i_i = (P)((uintptr_t)v_r16_i_i_i5116_i_i_i + (u64)(v_r3_i25_i5160_i_i_i));
+    v_r16_i_i5167_i_i_i = (P)((u64)v_r16_i_i_i5116_i_i_i + (u64)(v_r3_i25_i5160_i_i_i));
     v_r19_i_i5168_i_i_i = (u64)((u64)(v_r19_i_i_i5117_i_i_i) - (u64)(v_r3_i25_i5160_i_i_i));
     switch (v_r106_i_i_i_i) {
     case 0u: { p_v_r0_sroa_5_0_i_ph = 8u; p_v_r0_sroa_9_0_i_ph = v_r106_i_i_i_i; p_v_r0_sroa_13_0_i_ph = v_r106_i_i_i_i; goto L_arm_2; }
@@ -11894,7 +11923,7 @@ L_join_3_i_i5290_i_i_i:;
     v_r39_i_i5294_i_i_i = v_r36_i_i5293_i_i_i < v_r12_sroa_10_0_i5231_i_i_i;
     if (v_r39_i_i5294_i_i_i) { p_v_r0_sroa_5_0_i_ph = 1u; p_v_r0_sroa_9_0_i_ph = 0u; p_v_r0_sroa_13_0_i_ph = 0u; goto L_arm_2; } else { goto L_join_3_i_i5333_i_i_i; }
 L_join_3_i_i5333_i_i_i:;
-    v_r16_i_i_i5297_i_i_i = (P)((uintptr_t)v_r13_sroa_0_0_copyload_i_i5296_i_i_i + (u64)(v_r12_sroa_10_0_i5231_i_i_i));
+    v_r16_i_i_i5297_i_i_i = (P)((u64)v_r13_sroa_0_0_copyload_i_i5296_i_i_i + (u64)(v_r12_sroa_10_0_i5231_i_i_i));
     v_r19_i_i_i5298_i_i_i = (u64)((u64)(v_r36_i_i5293_i_i_i) - (u64)(v_r12_sroa_10_0_i5231_i_i_i));
     v_r39_i_i5336_i_i_i = v_r12_sroa_10_0_i5231_i_i_i == 0u;
     if (v_r39_i_i5336_i_i_i) { p_v_r0_i336_sroa_9_0_ph_i_i_i = 1u; p_v_r0_i336_sroa_15_0_ph_i_i_i = 0u; p_v_r0_i336_sroa_21_0_ph_i_i_i = 0u; goto L_arm_2_i296_i_i_i; } else { goto L_arm_1_i_i_i_i_i; }
@@ -11934,7 +11963,7 @@ L_join_3_i5430_i_i_i:;
     v_r39_i5434_i_i_i = v_r19_i_i_i5388_i_i_i < v_r3_i25_i5431_i_i_i;
     if (v_r39_i5434_i_i_i) { p_v_r0_i336_sroa_9_0_ph_i_i_i = 1u; p_v_r0_i336_sroa_15_0_ph_i_i_i = 0u; p_v_r0_i336_sroa_21_0_ph_i_i_i = 0u; goto L_arm_2_i296_i_i_i; } else { goto L_arm_14_i_i_i_i_i; }
 L_arm_14_i_i_i_i_i:;
-    v_r16_i_i5438_i_i_i = (P)((uintptr_t)v_r16_i_i_i5387_i_i_i + (u64)(v_r3_i25_i5431_i_i_i));
+    v_r16_i_i5438_i_i_i = (P)((u64)v_r16_i_i_i5387_i_i_i + (u64)(v_r3_i25_i5431_i_i_i));
     v_r19_i_i5439_i_i_i = (u64)((u64)(v_r19_i_i_i5388_i_i_i) - (u64)(v_r3_i25_i5431_i_i_i));
     switch (v_r106_i_i462_i_i_i) {
     case 0u: { p_v_r0_i336_sroa_9_0_ph_i_i_i = 8u; p_v_r0_i336_sroa_15_0_ph_i_i_i = v_r106_i_i462_i_i_i; p_v_r0_i336_sroa_21_0_ph_i_i_i = v_r106_i_i462_i_i_i; goto L_arm_2_i296_i_i_i; }
@@ -12060,7 +12089,7 @@ L_else_2_i5813_i_i_i:;
     v_r41_i516_i_i_i = (u64)v_r12_sroa_10_i5608_sroa_7_4_copyload_i_i_i;
     v_r35_i515_i_i_i = (u64)v_r12_sroa_10_i5608_sroa_5_4_copyload_i_i_i;
     v_r12_i_i_i_not_i5816_i_i_i = v_r19_i_i_i5298_i_i_i == 0u;
-    if (v_r12_i_i_i_not_i5816_i_i_i) { p_v_r12_sroa_10_i_sroa_3_0_ph = v_r17_i657_sroa_12_sroa_3_01085612077_i_i_i; p_v_r12_sroa_10_i_sroa_5_0_ph = v_r17_i657_sroa_12_sroa_6_01085712076_i_i_i; p_v_r12_sroa_10_i_sroa_6_0_ph = v_r17_i657_sroa_15_sroa_0_01086112072_i_i_i; p_v_r12_sroa_10_i_sroa_7_0_ph = v_r17_i657_sroa_18_sroa_0_01085812075_i_i_i; p_v_r12_sroa_10_i_sroa_8_0_ph = v_r17_i657_sroa_18_sroa_6_01085912074_i_i_i; p_v_r12_sroa_10_i_sroa_9_0_ph = v_r17_i657_sroa_18_sroa_7_01086012073_i_i_i; p_v_r12_sroa_10_i_sroa_10_0_ph = v_r12_sroa_10_i5608_sroa_0_sroa_3_4_copyload_i_i_i; p_v_r12_sroa_10_i_sroa_11_0_ph = v_r12_sroa_10_i5608_sroa_0_sroa_5_4_copyload_i_i_i; p_v_r12_sroa_10_i_sroa_12_0_ph = v_r35_i515_i_i_i; p_v_r12_sroa_10_i_sroa_13_0_ph = v_r12_sroa_10_i5608_sroa_6_sroa_5_0_copyload_i_i_i; p_v_r12_sroa_10_i_sroa_14_0_ph = v_r12_sroa_10_i5608_sroa_6_sroa_6_0_copyload_i_i_i; p_v_r12_sroa_10_i_sroa_15_0_ph = v_r41_i516_i_i_i; p_v_r12_sroa_10_i_sroa_16_0_ph = v_r12_sroa_10_i5608_sroa_8_sroa_5_0_copyload_i_i_i; p_v_r12_sroa_10_i_sroa_17_0_ph = v_r12_sroa_10_i5608_sroa_8_sroa_6_0_copyload_i_i_i; p_v_r12_sroa_10_i_sroa_18_0_ph = v_r12_sroa_10_i5608_sroa_8_sroa_7_0_copyload_i_i_i; p_v_r12_sroa_10_i_sroa_19_0_ph = (P)f_static_0; p_v_r12_sroa_10_i_sroa_20_0_ph = 9u; p_v_r12_sroa_10_i_sroa_21_0_ph = 1u; p_v_r12_sroa_10_i_sroa_22_0_ph = 4u; p_v_r12_sroa_10_i_sroa_23_0_ph = (P)f_static_22; p_v_r12_sroa_10_i_sroa_24_0_ph = 0u; goto L_arm_1; } else { goto L_else_2_i5813_i_arm_1_i587_i_crit_edge_i_i; }
+    if (v_r12_i_i_i_not_i5816_i_i_i) { p_v_r12_sroa_10_i_sroa_3_0_ph = v_r17_i657_sroa_12_sroa_3_01085612077_i_i_i; p_v_r12_sroa_10_i_sroa_5_0_ph = v_r17_i657_sroa_12_sroa_6_01085712076_i_i_i; p_v_r12_sroa_10_i_sroa_6_0_ph = v_r17_i657_sroa_15_sroa_0_01086112072_i_i_i; p_v_r12_sroa_10_i_sroa_7_0_ph = v_r17_i657_sroa_18_sroa_0_01085812075_i_i_i; p_v_r12_sroa_10_i_sroa_8_0_ph = v_r17_i657_sroa_18_sroa_6_01085912074_i_i_i; p_v_r12_sroa_10_i_sroa_9_0_ph = v_r17_i657_sroa_18_sroa_7_01086012073_i_i_i; p_v_r12_sroa_10_i_sroa_10_0_ph = v_r12_sroa_10_i5608_sroa_0_sroa_3_4_copyload_i_i_i; p_v_r12_sroa_10_i_sroa_11_0_ph = v_r12_sroa_10_i5608_sroa_0_sroa_5_4_copyload_i_i_i; p_v_r12_sroa_10_i_sroa_12_0_ph = v_r35_i515_i_i_i; p_v_r12_sroa_10_i_sroa_13_0_ph = v_r12_sroa_10_i5608_sroa_6_sroa_5_0_copyload_i_i_i; p_v_r12_sroa_10_i_sroa_14_0_ph = v_r12_sroa_10_i5608_sroa_6_sroa_6_0_copyload_i_i_i; p_v_r12_sroa_10_i_sroa_15_0_ph = v_r41_i516_i_i_i; p_v_r12_sroa_10_i_sroa_16_0_ph = v_r12_sroa_10_i5608_sroa_8_sroa_5_0_copyload_i_i_i; p_v_r12_sroa_10_i_sroa_17_0_ph = v_r12_sroa_10_i5608_sroa_8_sroa_6_0_copyload_i_i_i; p_v_r12_sroa_10_i_sroa_18_0_ph = v_r12_sroa_10_i5608_sroa_8_sroa_7_0_copyload_i_i_i; p_v_r12_sroa_10_i_sroa_19_0_ph = AT(f_static_0); p_v_r12_sroa_10_i_sroa_20_0_ph = 9u; p_v_r12_sroa_10_i_sroa_21_0_ph = 1u; p_v_r12_sroa_10_i_sroa_22_0_ph = 4u; p_v_r12_sroa_10_i_sroa_23_0_ph = AT(f_static_22); p_v_r12_sroa_10_i_sroa_24_0_ph = 0u; goto L_arm_1; } else { goto L_else_2_i5813_i_arm_1_i587_i_crit_edge_i_i; }
 L_else_2_i5813_i_arm_1_i587_i_crit_edge_i_i:;
     v_r18_i_i5819_i_pre_i_i = get_u8(v_r16_i_i_i5297_i_i_i);
     { p_v_r18_i_i5819_i_i_i = v_r18_i_i5819_i_pre_i_i; p_v_r4_sroa_0_1_i_i = v_r16_i_i_i5297_i_i_i; p_v_r12_sroa_10_i5726_sroa_12_0_ph12143_i_i_i = v_r12_sroa_10_i5608_sroa_8_sroa_7_0_copyload_i_i_i; p_v_r12_sroa_10_i5726_sroa_11_0_ph12142_i_i_i = v_r12_sroa_10_i5608_sroa_8_sroa_6_0_copyload_i_i_i; p_v_r12_sroa_10_i5726_sroa_10_0_ph12141_i_i_i = v_r12_sroa_10_i5608_sroa_8_sroa_5_0_copyload_i_i_i; p_v_r12_sroa_10_i5726_sroa_9_0_ph12140_i_i_i = v_r41_i516_i_i_i; p_v_r12_sroa_10_i5726_sroa_8_0_ph12139_i_i_i = v_r12_sroa_10_i5608_sroa_6_sroa_6_0_copyload_i_i_i; p_v_r12_sroa_10_i5726_sroa_7_0_ph12138_i_i_i = v_r12_sroa_10_i5608_sroa_6_sroa_5_0_copyload_i_i_i; p_v_r12_sroa_10_i5726_sroa_6_0_ph12137_i_i_i = v_r35_i515_i_i_i; p_v_r12_sroa_10_i5726_sroa_5_0_ph12136_i_i_i = v_r12_sroa_10_i5608_sroa_0_sroa_5_4_copyload_i_i_i; p_v_r12_sroa_10_i5726_sroa_3_0_ph12135_i_i_i = v_r12_sroa_10_i5608_sroa_0_sroa_3_4_copyload_i_i_i; p_v_r36_i_i586512134_i_i_i = v_r19_i_i_i5298_i_i_i; goto L_arm_1_i587_i_i_i; }
@@ -12104,7 +12133,7 @@ L_join_3_i5960_i_i_i:;
     v_r39_i5964_i_i_i = v_r19_i_i_i5918_i_i_i < v_r3_i25_i5961_i_i_i;
     if (v_r39_i5964_i_i_i) { p_v_r0_sroa_5_0_i_ph = 1u; p_v_r0_sroa_9_0_i_ph = 0u; p_v_r0_sroa_13_0_i_ph = 0u; goto L_arm_2; } else { goto L_arm_14_i_i1070_i_i_i; }
 L_arm_14_i_i1070_i_i_i:;
-    v_r16_i_i5968_i_i_i = (P)((uintptr_t)v_r16_i_i_i5917_i_i_i + (u64)(v_r3_i25_i5961_i_i_i));
+    v_r16_i_i5968_i_i_i = (P)((u64)v_r16_i_i_i5917_i_i_i + (u64)(v_r3_i25_i5961_i_i_i));
     v_r19_i_i5969_i_i_i = (u64)((u64)(v_r19_i_i_i5918_i_i_i) - (u64)(v_r3_i25_i5961_i_i_i));
     switch (v_r106_i_i1053_i_i_i) {
     case 0u: { p_v_r0_sroa_5_0_i_ph = 8u; p_v_r0_sroa_9_0_i_ph = v_r106_i_i1053_i_i_i; p_v_r0_sroa_13_0_i_ph = v_r106_i_i1053_i_i_i; goto L_arm_2; }
@@ -12216,7 +12245,7 @@ L_join_3_i6231_i_i_i:;
     v_r39_i6235_i_i_i = v_r19_i_i_i6189_i_i_i < v_r3_i25_i6232_i_i_i;
     if (v_r39_i6235_i_i_i) { p_v_r0_sroa_5_0_i_ph = 1u; p_v_r0_sroa_9_0_i_ph = 0u; p_v_r0_sroa_13_0_i_ph = 0u; goto L_arm_2; } else { goto L_arm_14_i_i_i_i_i_i; }
 L_arm_14_i_i_i_i_i_i:;
-    v_r16_i_i6239_i_i_i = (P)((uintptr_t)v_r16_i_i_i6188_i_i_i + (u64)(v_r3_i25_i6232_i_i_i));
+    v_r16_i_i6239_i_i_i = (P)((u64)v_r16_i_i_i6188_i_i_i + (u64)(v_r3_i25_i6232_i_i_i));
     v_r19_i_i6240_i_i_i = (u64)((u64)(v_r19_i_i_i6189_i_i_i) - (u64)(v_r3_i25_i6232_i_i_i));
     switch (v_r106_i_i263_i_i_i_i) {
     case 0u: { p_v_r0_sroa_5_0_i_ph = 8u; p_v_r0_sroa_9_0_i_ph = v_r106_i_i263_i_i_i_i; p_v_r0_sroa_13_0_i_ph = v_r106_i_i263_i_i_i_i; goto L_arm_2; }
@@ -12330,7 +12359,7 @@ L_join_3_i6502_i_i_i:;
     v_r39_i6506_i_i_i = v_r19_i_i_i6460_i_i_i < v_r3_i25_i6503_i_i_i;
     if (v_r39_i6506_i_i_i) { p_v_r0_sroa_5_0_i_ph = 1u; p_v_r0_sroa_9_0_i_ph = 0u; p_v_r0_sroa_13_0_i_ph = 0u; goto L_arm_2; } else { goto L_arm_14_i_i_i_i_i_i_i; }
 L_arm_14_i_i_i_i_i_i_i:;
-    v_r16_i_i6510_i_i_i = (P)((uintptr_t)v_r16_i_i_i6459_i_i_i + (u64)(v_r3_i25_i6503_i_i_i));
+    v_r16_i_i6510_i_i_i = (P)((u64)v_r16_i_i_i6459_i_i_i + (u64)(v_r3_i25_i6503_i_i_i));
     v_r19_i_i6511_i_i_i = (u64)((u64)(v_r19_i_i_i6460_i_i_i) - (u64)(v_r3_i25_i6503_i_i_i));
     switch (v_r106_i_i_i562_i_i_i_i) {
     case 0u: { p_v_r0_sroa_5_0_i_ph = 8u; p_v_r0_sroa_9_0_i_ph = v_r106_i_i_i562_i_i_i_i; p_v_r0_sroa_13_0_i_ph = v_r106_i_i_i562_i_i_i_i; goto L_arm_2; }
@@ -12409,12 +12438,12 @@ L_join_3_i_i6633_i_i_i:;
     v_r39_i_i6637_i_i_i = v_r6_i161_i_sroa_23_911521_i_i_i < v_r3_i25_i_i6634_i_i_i;
     if (v_r39_i_i6637_i_i_i) { p_v_r0_sroa_5_0_i_ph = 1u; p_v_r0_sroa_9_0_i_ph = 0u; p_v_r0_sroa_13_0_i_ph = 0u; goto L_arm_2; } else { goto L_join_3_i6676_i_i_i; }
 L_join_3_i6676_i_i_i:;
-    v_r16_i_i_i6640_i_i_i = (P)((uintptr_t)v_r6_i161_i_sroa_0_911519_i_i_i + (u64)(v_r3_i25_i_i6634_i_i_i));
+    v_r16_i_i_i6640_i_i_i = (P)((u64)v_r6_i161_i_sroa_0_911519_i_i_i + (u64)(v_r3_i25_i_i6634_i_i_i));
     v_r15_i_i_i_i_i_i_i = v_r12_sroa_10_0_i6574_i_i_i == 0u;
     if (v_r15_i_i_i_i_i_i_i) { goto L_spki_core_object_identifier_is_identifier_exit_i_i__2; } else { goto L_join_4_i_i_i_i_i_i_i; }
 L_join_4_i_i_i_i_i_i_i:;
     v_r22_i_i_i_i_i_i_i = (u64)((u64)(v_r3_i25_i_i6634_i_i_i) + (u64)(18446744073709551615ull));
-    v_r25_i_i_i_i_i_i_i = (P)((uintptr_t)v_r6_i161_i_sroa_0_911519_i_i_i + (u64)(v_r22_i_i_i_i_i_i_i));
+    v_r25_i_i_i_i_i_i_i = (P)((u64)v_r6_i161_i_sroa_0_911519_i_i_i + (u64)(v_r22_i_i_i_i_i_i_i));
     v_r35_i8_i_i_i_i_i_i = get_u8(v_r25_i_i_i_i_i_i_i);
     v_r37_i9_i_i_i_i_i_i = (u8)(v_r35_i8_i_i_i_i_i_i ^ ((u8)1 << 7)) > (u8)(255u ^ ((u8)1 << 7));
     if (v_r37_i9_i_i_i_i_i_i) { goto L_spki_core_object_identifier_ends_plainly_exit_i_i___2; } else { goto L_spki_core_object_identifier_is_identifier_exit_i_i__2; }
@@ -12468,7 +12497,7 @@ L_join_3_i6925_i_i_i:;
     v_r39_i6929_i_i_i = v_r19_i_i_i6883_i_i_i < v_r3_i25_i6926_i_i_i;
     if (v_r39_i6929_i_i_i) { p_v_r0_sroa_5_0_i_ph = 1u; p_v_r0_sroa_9_0_i_ph = 0u; p_v_r0_sroa_13_0_i_ph = 0u; goto L_arm_2; } else { goto L_arm_14_i_i964_i_i_i_i; }
 L_arm_14_i_i964_i_i_i_i:;
-    v_r16_i_i6933_i_i_i = (P)((uintptr_t)v_r16_i_i_i6882_i_i_i + (u64)(v_r3_i25_i6926_i_i_i));
+    v_r16_i_i6933_i_i_i = (P)((u64)v_r16_i_i_i6882_i_i_i + (u64)(v_r3_i25_i6926_i_i_i));
     v_r19_i_i6934_i_i_i = (u64)((u64)(v_r19_i_i_i6883_i_i_i) - (u64)(v_r3_i25_i6926_i_i_i));
     switch (v_r106_i_i947_i_i_i_i) {
     case 0u: { p_v_r0_sroa_5_0_i_ph = 8u; p_v_r0_sroa_9_0_i_ph = v_r106_i_i947_i_i_i_i; p_v_r0_sroa_13_0_i_ph = v_r106_i_i947_i_i_i_i; goto L_arm_2; }
@@ -13078,7 +13107,7 @@ L_join_3_i1499:;
     v_r39_i1502 = v_r19_i_i_i1457 < v_r3_i25_i;
     if (v_r39_i1502) { p_v_r0_i_sroa_9_0_ph_ph = 1u; p_v_r0_i_sroa_15_0_ph_ph = 0u; p_v_r0_i_sroa_21_0_ph_ph = 0u; goto L_arm_2_sink_split; } else { goto L_arm_14_i_i; }
 L_arm_14_i_i:;
-    v_r16_i_i1504 = (P)((uintptr_t)v_r16_i_i_i1456 + (u64)(v_r3_i25_i));
+    v_r16_i_i1504 = (P)((u64)v_r16_i_i_i1456 + (u64)(v_r3_i25_i));
     v_r19_i_i1505 = (u64)((u64)(v_r19_i_i_i1457) - (u64)(v_r3_i25_i));
     put_P(v_a1, v_r16_i_i1504);
     put_u64(v_r35_i_i1419, v_r19_i_i1505);
@@ -13160,7 +13189,7 @@ L_join_3_i_i1608:;
     v_r39_i_i1611 = v_r36_i_i1610 < v_r3_i25_i_i;
     if (v_r39_i_i1611) { p_v_r0_i_sroa_9_0_ph_ph = 1u; p_v_r0_i_sroa_15_0_ph_ph = 0u; p_v_r0_i_sroa_21_0_ph_ph = 0u; goto L_arm_2_sink_split; } else { goto L_join_3_i1645; }
 L_join_3_i1645:;
-    v_r16_i_i_i1614 = (P)((uintptr_t)v_r13_sroa_0_0_copyload_i_i1613 + (u64)(v_r3_i25_i_i));
+    v_r16_i_i_i1614 = (P)((u64)v_r13_sroa_0_0_copyload_i_i1613 + (u64)(v_r3_i25_i_i));
     v_r19_i_i_i1615 = (u64)((u64)(v_r36_i_i1610) - (u64)(v_r3_i25_i_i));
     put_P(v_a1, v_r16_i_i_i1614);
     put_u64(v_r35_i_i1419, v_r19_i_i_i1615);
@@ -13168,7 +13197,7 @@ L_join_3_i1645:;
     if (v_r15_i_i) { goto L_spki_core_object_identifier_is_identifier_exit_i; } else { goto L_join_4_i_i; }
 L_join_4_i_i:;
     v_r22_i_i = (u64)((u64)(v_r3_i25_i_i) + (u64)(18446744073709551615ull));
-    v_r25_i_i = (P)((uintptr_t)v_r13_sroa_0_0_copyload_i_i1613 + (u64)(v_r22_i_i));
+    v_r25_i_i = (P)((u64)v_r13_sroa_0_0_copyload_i_i1613 + (u64)(v_r22_i_i));
     v_r35_i8_i = get_u8(v_r25_i_i);
     v_r37_i9_i = (u8)(v_r35_i8_i ^ ((u8)1 << 7)) > (u8)(255u ^ ((u8)1 << 7));
     if (v_r37_i9_i) { goto L_spki_core_object_identifier_ends_plainly_exit_i; } else { goto L_spki_core_object_identifier_is_identifier_exit_i; }
@@ -13226,7 +13255,7 @@ L_join_3_i1876:;
     v_r39_i1880 = v_r19_i_i_i1834 < v_r3_i25_i1877;
     if (v_r39_i1880) { p_v_r6_i57_sroa_8_0_ph = 1u; p_v_r6_i57_sroa_13_0_ph = 0u; p_v_r6_i57_sroa_18_0_ph = 0u; goto L_arm_6; } else { goto L_arm_14_i_i527; }
 L_arm_14_i_i527:;
-    v_r16_i_i1884 = (P)((uintptr_t)v_r16_i_i_i1833 + (u64)(v_r3_i25_i1877));
+    v_r16_i_i1884 = (P)((u64)v_r16_i_i_i1833 + (u64)(v_r3_i25_i1877));
     v_r19_i_i1885 = (u64)((u64)(v_r19_i_i_i1834) - (u64)(v_r3_i25_i1877));
     put_P(v_a1, v_r16_i_i1884);
     put_u64(v_r35_i_i1419, v_r19_i_i1885);
@@ -13307,7 +13336,7 @@ L_join_3_i_i2007:;
     v_r39_i_i2011 = v_r36_i_i2010 < v_r12_sroa_10_0_i1948;
     if (v_r39_i_i2011) { p_v_r6_i57_sroa_8_0_ph = 1u; p_v_r6_i57_sroa_13_0_ph = 0u; p_v_r6_i57_sroa_18_0_ph = 0u; goto L_arm_6; } else { goto L_join_3_i_i2050; }
 L_join_3_i_i2050:;
-    v_r16_i_i_i2014 = (P)((uintptr_t)v_r13_sroa_0_0_copyload_i_i2013 + (u64)(v_r12_sroa_10_0_i1948));
+    v_r16_i_i_i2014 = (P)((u64)v_r13_sroa_0_0_copyload_i_i2013 + (u64)(v_r12_sroa_10_0_i1948));
     v_r19_i_i_i2015 = (u64)((u64)(v_r36_i_i2010) - (u64)(v_r12_sroa_10_0_i1948));
     put_P(v_a1, v_r16_i_i_i2014);
     put_u64(v_r35_i_i1419, v_r19_i_i_i2015);
@@ -13350,7 +13379,7 @@ L_join_3_i2147:;
     v_r39_i2151 = v_r19_i_i_i2105 < v_r3_i25_i2148;
     if (v_r39_i2151) { p_v_r6_i57_sroa_8_0_ph = 1u; p_v_r6_i57_sroa_13_0_ph = 0u; p_v_r6_i57_sroa_18_0_ph = 0u; goto L_arm_6; } else { goto L_arm_14_i_i_i; }
 L_arm_14_i_i_i:;
-    v_r16_i_i2155 = (P)((uintptr_t)v_r16_i_i_i2104 + (u64)(v_r3_i25_i2148));
+    v_r16_i_i2155 = (P)((u64)v_r16_i_i_i2104 + (u64)(v_r3_i25_i2148));
     v_r19_i_i2156 = (u64)((u64)(v_r19_i_i_i2105) - (u64)(v_r3_i25_i2148));
     switch (v_r106_i_i_i901) {
     case 0u: { p_v_r6_i57_sroa_8_0_ph = 8u; p_v_r6_i57_sroa_13_0_ph = v_r106_i_i_i901; p_v_r6_i57_sroa_18_0_ph = v_r106_i_i_i901; goto L_arm_6; }
@@ -13430,12 +13459,12 @@ L_join_3_i_i2278:;
     v_r39_i_i2282 = v_r6_i288_sroa_23_34325 < v_r3_i25_i_i2279;
     if (v_r39_i_i2282) { p_v_r6_i57_sroa_8_0_ph = 1u; p_v_r6_i57_sroa_13_0_ph = 0u; p_v_r6_i57_sroa_18_0_ph = 0u; goto L_arm_6; } else { goto L_join_3_i2321; }
 L_join_3_i2321:;
-    v_r16_i_i_i2285 = (P)((uintptr_t)v_r6_i288_sroa_0_34323 + (u64)(v_r3_i25_i_i2279));
+    v_r16_i_i_i2285 = (P)((u64)v_r6_i288_sroa_0_34323 + (u64)(v_r3_i25_i_i2279));
     v_r15_i_i_i = v_r12_sroa_10_0_i2219 == 0u;
     if (v_r15_i_i_i) { goto L_spki_core_object_identifier_is_identifier_exit_i_i; } else { goto L_join_4_i_i_i; }
 L_join_4_i_i_i:;
     v_r22_i_i_i = (u64)((u64)(v_r3_i25_i_i2279) + (u64)(18446744073709551615ull));
-    v_r25_i_i_i = (P)((uintptr_t)v_r6_i288_sroa_0_34323 + (u64)(v_r22_i_i_i));
+    v_r25_i_i_i = (P)((u64)v_r6_i288_sroa_0_34323 + (u64)(v_r22_i_i_i));
     v_r35_i8_i_i = get_u8(v_r25_i_i_i);
     v_r37_i9_i_i = (u8)(v_r35_i8_i_i ^ ((u8)1 << 7)) > (u8)(255u ^ ((u8)1 << 7));
     if (v_r37_i9_i_i) { goto L_spki_core_object_identifier_ends_plainly_exit_i_i; } else { goto L_spki_core_object_identifier_is_identifier_exit_i_i; }
@@ -13490,7 +13519,7 @@ L_join_3_i2570:;
     v_r39_i2574 = v_r19_i_i_i2528 < v_r3_i25_i2571;
     if (v_r39_i2574) { p_v_r6_i57_sroa_8_0_ph = 1u; p_v_r6_i57_sroa_13_0_ph = 0u; p_v_r6_i57_sroa_18_0_ph = 0u; goto L_arm_6; } else { goto L_arm_14_i_i1313; }
 L_arm_14_i_i1313:;
-    v_r16_i_i2578 = (P)((uintptr_t)v_r16_i_i_i2527 + (u64)(v_r3_i25_i2571));
+    v_r16_i_i2578 = (P)((u64)v_r16_i_i_i2527 + (u64)(v_r3_i25_i2571));
     v_r19_i_i2579 = (u64)((u64)(v_r19_i_i_i2528) - (u64)(v_r3_i25_i2571));
     switch (v_r106_i_i1296) {
     case 0u: { p_v_r6_i57_sroa_8_0_ph = 8u; p_v_r6_i57_sroa_13_0_ph = v_r106_i_i1296; p_v_r6_i57_sroa_18_0_ph = v_r106_i_i1296; goto L_arm_6; }
@@ -13779,7 +13808,7 @@ L_join_3_i:;
     v_r39_i100 = v_r19_i_i_i58 < v_r3_i25_i;
     if (v_r39_i100) { p_v_r15_sroa_5_0_ph = 1u; p_v_r15_sroa_9_0_ph = 0u; goto L_arm_6; } else { goto L_arm_14_i_i; }
 L_arm_14_i_i:;
-    v_r16_i_i101 = (P)((uintptr_t)v_r16_i_i_i57 + (u64)(v_r3_i25_i));
+    v_r16_i_i101 = (P)((u64)v_r16_i_i_i57 + (u64)(v_r3_i25_i));
     v_r19_i_i102 = (u64)((u64)(v_r19_i_i_i58) - (u64)(v_r3_i25_i));
     switch (v_r106_i_i) {
     case 0u: { p_v_r15_sroa_5_0_ph = 8u; p_v_r15_sroa_9_0_ph = v_r106_i_i; goto L_arm_6; }
@@ -14013,8 +14042,8 @@ static void f_pkcs1_params_strict_reject_defaults_297cddf97b264c(P v_a0, P v_a1,
     P v_r35;
     P v_r37;
     P v_r39;
-    v_r6_i_i = m_v_r6_i_i;
-    v_r3_i = m_v_r3_i;
+    v_r6_i_i = AT(m_v_r6_i_i);
+    v_r3_i = AT(m_v_r3_i);
     v_r14_i_i = v_a1 + 16;
     v_r16_i_i = get_u8(v_r14_i_i);
     v_0 = v_r16_i_i == 1u;
@@ -14501,7 +14530,7 @@ L_join_3_i_i:;
     v_r39_i110_i = v_r19_i_i_i68_i < v_r3_i25_i_i;
     if (v_r39_i110_i) { p_v_r0_sroa_6_0 = 0u; p_v_r0_sroa_0_0 = 0u; goto L_return_4; } else { goto L_arm_14_i_i_i; }
 L_arm_14_i_i_i:;
-    v_r16_i_i111_i = (P)((uintptr_t)v_r16_i_i_i67_i + (u64)(v_r3_i25_i_i));
+    v_r16_i_i111_i = (P)((u64)v_r16_i_i_i67_i + (u64)(v_r3_i25_i_i));
     v_r19_i_i112_i = (u64)((u64)(v_r19_i_i_i68_i) - (u64)(v_r3_i25_i_i));
     switch (v_r106_i_i_i) {
     case 0u: { p_v_r0_sroa_6_0 = v_r106_i_i_i; p_v_r0_sroa_0_0 = v_r106_i_i_i; goto L_return_4; }
@@ -14578,7 +14607,7 @@ L_join_3_i206_i:;
     if (v_r39_i210_i) { p_v_r0_sroa_6_0 = 0u; p_v_r0_sroa_0_0 = 0u; goto L_return_4; } else { goto L_arm_12; }
 L_arm_12:;
     v_r19_i_i215_i = (u64)((u64)(v_r3_sroa_12_2582_i) - (u64)(v_r12_sroa_10_0_i_i));
-    v_r16_i_i214_i = (P)((uintptr_t)v_r3_sroa_0_2580_i + (u64)(v_r12_sroa_10_0_i_i));
+    v_r16_i_i214_i = (P)((u64)v_r3_sroa_0_2580_i + (u64)(v_r12_sroa_10_0_i_i));
     v_r72 = (u8)((u32)(v_a2) + (u32)(1u));
     v_r80 = f_spki_core_strict_first_written(v_r16_i_i214_i, v_r19_i_i215_i, v_r72, v_r46, v_r49);
     v_r81 = v_r80.f0;
@@ -14980,11 +15009,11 @@ static void f_pkcs1_params_oaep_reading_OaepParamsOfAnyRefDecode(P v_a0, P v_a1,
     P v_r0_sroa_10_sroa_16_sroa_11_0_r0_sroa_10_sroa_16_0_;
     P v_r0_sroa_10_sroa_16_sroa_12_0_r0_sroa_10_sroa_16_0_;
     v_r12_i_i636 = v_a2 == 0u;
-    if (v_r12_i_i636) { p_v_r26_sroa_6_sroa_34_0_ph4126 = 0u; p_v_r26_sroa_6_sroa_30_0_ph4125 = (P)f_static_22; p_v_r26_sroa_6_sroa_26_0_ph4124 = 5u; p_v_r26_sroa_6_sroa_22_0_ph4123 = 1u; p_v_r26_sroa_6_sroa_18_0_ph4122 = 5u; p_v_r26_sroa_6_sroa_14_0_ph4121 = (P)f_static_24; p_v_r26_sroa_6_sroa_10_0_ph4120 = 1u; p_v_r26_sroa_6_sroa_6_0_ph4119 = 9u; p_v_r26_sroa_6_sroa_0_0_ph4118 = (P)f_static_25; p_v_r19_sroa_11_sroa_0_1_ph40704117 = (P)f_static_24; p_v_r19_sroa_11_sroa_11_1_ph40714116 = 5u; p_v_r19_sroa_31_sroa_0_1_ph40724115 = 5u; p_v_r19_sroa_31_sroa_11_1_ph40734114 = (P)f_static_22; p_v_r19_sroa_31_sroa_15_1_ph40744113 = 0u; p_v_r19_sroa_21_sroa_0_1_ph40754112 = 1u; p_v_r19_sroa_21_sroa_0_0_ph4034 = 1u; p_v_r19_sroa_31_sroa_15_0_ph4033 = 0u; p_v_r19_sroa_31_sroa_11_0_ph4032 = (P)f_static_22; p_v_r19_sroa_31_sroa_0_0_ph4031 = 4u; p_v_r19_sroa_11_sroa_11_0_ph4030 = 9u; p_v_r19_sroa_11_sroa_0_0_ph4029 = (P)f_static_0; goto L_arm_11; } else { goto L_der_core_quick_begins_with_exit_i641; }
+    if (v_r12_i_i636) { p_v_r26_sroa_6_sroa_34_0_ph4126 = 0u; p_v_r26_sroa_6_sroa_30_0_ph4125 = AT(f_static_22); p_v_r26_sroa_6_sroa_26_0_ph4124 = 5u; p_v_r26_sroa_6_sroa_22_0_ph4123 = 1u; p_v_r26_sroa_6_sroa_18_0_ph4122 = 5u; p_v_r26_sroa_6_sroa_14_0_ph4121 = AT(f_static_24); p_v_r26_sroa_6_sroa_10_0_ph4120 = 1u; p_v_r26_sroa_6_sroa_6_0_ph4119 = 9u; p_v_r26_sroa_6_sroa_0_0_ph4118 = AT(f_static_25); p_v_r19_sroa_11_sroa_0_1_ph40704117 = AT(f_static_24); p_v_r19_sroa_11_sroa_11_1_ph40714116 = 5u; p_v_r19_sroa_31_sroa_0_1_ph40724115 = 5u; p_v_r19_sroa_31_sroa_11_1_ph40734114 = AT(f_static_22); p_v_r19_sroa_31_sroa_15_1_ph40744113 = 0u; p_v_r19_sroa_21_sroa_0_1_ph40754112 = 1u; p_v_r19_sroa_21_sroa_0_0_ph4034 = 1u; p_v_r19_sroa_31_sroa_15_0_ph4033 = 0u; p_v_r19_sroa_31_sroa_11_0_ph4032 = AT(f_static_22); p_v_r19_sroa_31_sroa_0_0_ph4031 = 4u; p_v_r19_sroa_11_sroa_11_0_ph4030 = 9u; p_v_r19_sroa_11_sroa_0_0_ph4029 = AT(f_static_0); goto L_arm_11; } else { goto L_der_core_quick_begins_with_exit_i641; }
 L_der_core_quick_begins_with_exit_i641:;
     v_r21_i_i638 = get_u8(v_a1);
     v_r26_i_i640 = v_r21_i_i638 == 160u;
-    if (v_r26_i_i640) { goto L_join_3_i660; } else { p_v_r19_sroa_21_sroa_0_1_ph4093 = 1u; p_v_r19_sroa_41_sroa_11_1_ph4092 = v_a2; p_v_r19_sroa_41_sroa_0_1_ph4091 = v_a1; p_v_r19_sroa_31_sroa_15_1_ph4090 = 0u; p_v_r19_sroa_31_sroa_11_1_ph4089 = (P)f_static_22; p_v_r19_sroa_31_sroa_0_1_ph4088 = 5u; p_v_r19_sroa_11_sroa_11_1_ph4087 = 5u; p_v_r19_sroa_11_sroa_0_1_ph4086 = (P)f_static_24; goto L_der_core_quick_begins_with_exit; }
+    if (v_r26_i_i640) { goto L_join_3_i660; } else { p_v_r19_sroa_21_sroa_0_1_ph4093 = 1u; p_v_r19_sroa_41_sroa_11_1_ph4092 = v_a2; p_v_r19_sroa_41_sroa_0_1_ph4091 = v_a1; p_v_r19_sroa_31_sroa_15_1_ph4090 = 0u; p_v_r19_sroa_31_sroa_11_1_ph4089 = AT(f_static_22); p_v_r19_sroa_31_sroa_0_1_ph4088 = 5u; p_v_r19_sroa_11_sroa_11_1_ph4087 = 5u; p_v_r19_sroa_11_sroa_0_1_ph4086 = AT(f_static_24); goto L_der_core_quick_begins_with_exit; }
 L_join_3_i660:;
     v_r23_i_i661 = v_a2 == 1u;
     if (v_r23_i_i661) { goto L_arm_2; } else { goto L_then_6_i_i1088; }
@@ -15000,7 +15029,7 @@ L_then_9_i_i1092:;
     v_r15_i1097 = v_r35_i_i664 < v_r65_i_i1093;
     if (v_r15_i1097) { goto L_arm_2; } else { goto L_arm_4_i690; }
 L_arm_4_i690:;
-    v_r29_i1099 = (P)((uintptr_t)v_r32_i_i663 + (u64)(v_r65_i_i1093));
+    v_r29_i1099 = (P)((u64)v_r32_i_i663 + (u64)(v_r65_i_i1093));
     v_r32_i1100 = (u64)((u64)(v_r35_i_i664) - (u64)(v_r65_i_i1093));
     v_r23_i_i_i_i697 = v_r53_i_i1090 < 2u;
     if (v_r23_i_i_i_i697) { goto L_arm_2; } else { goto L_join_5_i_i_i_i698; }
@@ -15037,13 +15066,13 @@ L_then_9_i_i_i_i_i1080:;
     v_r15_i1116 = v_r35_i_i_i_i_i799 < v_r65_i_i_i_i_i1081;
     if (v_r15_i1116) { goto L_arm_2; } else { goto L_arm_1_i_i_i_i1025; }
 L_arm_1_i_i_i_i1025:;
-    v_r29_i1118 = (P)((uintptr_t)v_r32_i_i_i_i_i798 + (u64)(v_r65_i_i_i_i_i1081));
+    v_r29_i1118 = (P)((u64)v_r32_i_i_i_i_i798 + (u64)(v_r65_i_i_i_i_i1081));
     v_r32_i1119 = (u64)((u64)(v_r35_i_i_i_i_i799) - (u64)(v_r65_i_i_i_i_i1081));
     v_r15_i_i_i_i1031 = v_r53_i_i_i_i_i1078 == 0u;
     if (v_r15_i_i_i_i1031) { goto L_arm_2; } else { goto L_join_4_i_i_i_i1032; }
 L_join_4_i_i_i_i1032:;
     v_r22_i19_i_i_i1033 = (u64)((u64)(v_r65_i_i_i_i_i1081) + (u64)(18446744073709551615ull));
-    v_r25_i_i_i_i1034 = (P)((uintptr_t)v_r32_i_i_i_i_i798 + (u64)(v_r22_i19_i_i_i1033));
+    v_r25_i_i_i_i1034 = (P)((u64)v_r32_i_i_i_i_i798 + (u64)(v_r22_i19_i_i_i1033));
     v_r35_i20_i_i_i1035 = get_u8(v_r25_i_i_i_i1034);
     v_r37_i21_i_i_i1036 = (u8)(v_r35_i20_i_i_i1035 ^ ((u8)1 << 7)) > (u8)(255u ^ ((u8)1 << 7));
     if (v_r37_i21_i_i_i1036) { goto L_spki_core_object_identifier_ends_plainly_exit_i_i_; } else { goto L_join_5_preheader_i; }
@@ -15067,7 +15096,7 @@ L_join_5_i:;
     v_r29_i1128 = v_r27_i1127 == 128u;
     if (v_r29_i1128) { goto L_spki_core_object_identifier_is_start_exit_i; } else { goto L_after_6_i; }
 L_spki_core_object_identifier_is_start_exit_i:;
-    v_r14_i_i1131 = (P)((uintptr_t)v_r25_i1126 + (u64)(-1));
+    v_r14_i_i1131 = (P)((u64)v_r25_i1126 + (u64)(-1));
     v_r16_i_i1132 = get_u8(v_r14_i_i1131);
     v_r18_i_i1133 = (u8)(v_r16_i_i1132 ^ ((u8)1 << 7)) > (u8)(255u ^ ((u8)1 << 7));
     if (v_r18_i_i1133) { goto L_arm_2; } else { goto L_after_6_i; }
@@ -15114,7 +15143,7 @@ L_der_core_parts_Tuple2DecodePartsRefSliceU8_quick_p:;
     if (v_r7_i1211) { goto L_arm_1; } else { goto L_arm_2; }
 L_arm_1:;
     v_r12_i22 = v_r32_i1100 == 0u;
-    if (v_r12_i22) { p_v_r26_sroa_6_sroa_34_0_ph4126 = 0u; p_v_r26_sroa_6_sroa_30_0_ph4125 = (P)f_static_22; p_v_r26_sroa_6_sroa_26_0_ph4124 = 5u; p_v_r26_sroa_6_sroa_22_0_ph4123 = 1u; p_v_r26_sroa_6_sroa_18_0_ph4122 = 5u; p_v_r26_sroa_6_sroa_14_0_ph4121 = (P)f_static_24; p_v_r26_sroa_6_sroa_10_0_ph4120 = 1u; p_v_r26_sroa_6_sroa_6_0_ph4119 = 9u; p_v_r26_sroa_6_sroa_0_0_ph4118 = (P)f_static_25; p_v_r19_sroa_11_sroa_0_1_ph40704117 = v_r32_i_i_i_i_i798; p_v_r19_sroa_11_sroa_11_1_ph40714116 = v_r65_i_i_i_i_i1081; p_v_r19_sroa_31_sroa_0_1_ph40724115 = v_r9_i9_i_i543_sroa_11_sroa_0_0_ph; p_v_r19_sroa_31_sroa_11_1_ph40734114 = v_r9_i9_i_i543_sroa_11_sroa_7_0_ph; p_v_r19_sroa_31_sroa_15_1_ph40744113 = v_r9_i9_i_i543_sroa_11_sroa_10_0_ph; p_v_r19_sroa_21_sroa_0_1_ph40754112 = v_r9_i9_i_i543_sroa_7_sroa_0_0_ph; p_v_r19_sroa_21_sroa_0_0_ph4034 = 1u; p_v_r19_sroa_31_sroa_15_0_ph4033 = 0u; p_v_r19_sroa_31_sroa_11_0_ph4032 = (P)f_static_22; p_v_r19_sroa_31_sroa_0_0_ph4031 = 4u; p_v_r19_sroa_11_sroa_11_0_ph4030 = 9u; p_v_r19_sroa_11_sroa_0_0_ph4029 = (P)f_static_0; goto L_arm_11; } else { p_v_r19_sroa_21_sroa_0_1_ph4093 = v_r9_i9_i_i543_sroa_7_sroa_0_0_ph; p_v_r19_sroa_41_sroa_11_1_ph4092 = v_r32_i1100; p_v_r19_sroa_41_sroa_0_1_ph4091 = v_r29_i1099; p_v_r19_sroa_31_sroa_15_1_ph4090 = v_r9_i9_i_i543_sroa_11_sroa_10_0_ph; p_v_r19_sroa_31_sroa_11_1_ph4089 = v_r9_i9_i_i543_sroa_11_sroa_7_0_ph; p_v_r19_sroa_31_sroa_0_1_ph4088 = v_r9_i9_i_i543_sroa_11_sroa_0_0_ph; p_v_r19_sroa_11_sroa_11_1_ph4087 = v_r65_i_i_i_i_i1081; p_v_r19_sroa_11_sroa_0_1_ph4086 = v_r32_i_i_i_i_i798; goto L_der_core_quick_begins_with_exit; }
+    if (v_r12_i22) { p_v_r26_sroa_6_sroa_34_0_ph4126 = 0u; p_v_r26_sroa_6_sroa_30_0_ph4125 = AT(f_static_22); p_v_r26_sroa_6_sroa_26_0_ph4124 = 5u; p_v_r26_sroa_6_sroa_22_0_ph4123 = 1u; p_v_r26_sroa_6_sroa_18_0_ph4122 = 5u; p_v_r26_sroa_6_sroa_14_0_ph4121 = AT(f_static_24); p_v_r26_sroa_6_sroa_10_0_ph4120 = 1u; p_v_r26_sroa_6_sroa_6_0_ph4119 = 9u; p_v_r26_sroa_6_sroa_0_0_ph4118 = AT(f_static_25); p_v_r19_sroa_11_sroa_0_1_ph40704117 = v_r32_i_i_i_i_i798; p_v_r19_sroa_11_sroa_11_1_ph40714116 = v_r65_i_i_i_i_i1081; p_v_r19_sroa_31_sroa_0_1_ph40724115 = v_r9_i9_i_i543_sroa_11_sroa_0_0_ph; p_v_r19_sroa_31_sroa_11_1_ph40734114 = v_r9_i9_i_i543_sroa_11_sroa_7_0_ph; p_v_r19_sroa_31_sroa_15_1_ph40744113 = v_r9_i9_i_i543_sroa_11_sroa_10_0_ph; p_v_r19_sroa_21_sroa_0_1_ph40754112 = v_r9_i9_i_i543_sroa_7_sroa_0_0_ph; p_v_r19_sroa_21_sroa_0_0_ph4034 = 1u; p_v_r19_sroa_31_sroa_15_0_ph4033 = 0u; p_v_r19_sroa_31_sroa_11_0_ph4032 = AT(f_static_22); p_v_r19_sroa_31_sroa_0_0_ph4031 = 4u; p_v_r19_sroa_11_sroa_11_0_ph4030 = 9u; p_v_r19_sroa_11_sroa_0_0_ph4029 = AT(f_static_0); goto L_arm_11; } else { p_v_r19_sroa_21_sroa_0_1_ph4093 = v_r9_i9_i_i543_sroa_7_sroa_0_0_ph; p_v_r19_sroa_41_sroa_11_1_ph4092 = v_r32_i1100; p_v_r19_sroa_41_sroa_0_1_ph4091 = v_r29_i1099; p_v_r19_sroa_31_sroa_15_1_ph4090 = v_r9_i9_i_i543_sroa_11_sroa_10_0_ph; p_v_r19_sroa_31_sroa_11_1_ph4089 = v_r9_i9_i_i543_sroa_11_sroa_7_0_ph; p_v_r19_sroa_31_sroa_0_1_ph4088 = v_r9_i9_i_i543_sroa_11_sroa_0_0_ph; p_v_r19_sroa_11_sroa_11_1_ph4087 = v_r65_i_i_i_i_i1081; p_v_r19_sroa_11_sroa_0_1_ph4086 = v_r32_i_i_i_i_i798; goto L_der_core_quick_begins_with_exit; }
 L_der_core_quick_begins_with_exit:;
     v_r19_sroa_21_sroa_0_1_ph4093 = p_v_r19_sroa_21_sroa_0_1_ph4093;
     v_r19_sroa_41_sroa_11_1_ph4092 = p_v_r19_sroa_41_sroa_11_1_ph4092;
@@ -15126,7 +15155,7 @@ L_der_core_quick_begins_with_exit:;
     v_r19_sroa_11_sroa_0_1_ph4086 = p_v_r19_sroa_11_sroa_0_1_ph4086;
     v_r21_i23 = get_u8(v_r19_sroa_41_sroa_0_1_ph4091);
     v_r26_i25 = v_r21_i23 == 161u;
-    if (v_r26_i25) { goto L_join_3_i; } else { p_v_r26_sroa_6_sroa_42_0_ph4162 = v_r19_sroa_41_sroa_11_1_ph4092; p_v_r26_sroa_6_sroa_38_0_ph4161 = v_r19_sroa_41_sroa_0_1_ph4091; p_v_r26_sroa_6_sroa_34_0_ph4160 = 0u; p_v_r26_sroa_6_sroa_30_0_ph4159 = (P)f_static_22; p_v_r26_sroa_6_sroa_26_0_ph4158 = 5u; p_v_r26_sroa_6_sroa_22_0_ph4157 = 1u; p_v_r26_sroa_6_sroa_18_0_ph4156 = 5u; p_v_r26_sroa_6_sroa_14_0_ph4155 = (P)f_static_24; p_v_r26_sroa_6_sroa_10_0_ph4154 = 1u; p_v_r26_sroa_6_sroa_6_0_ph4153 = 9u; p_v_r26_sroa_6_sroa_0_0_ph4152 = (P)f_static_25; goto L_der_core_quick_begins_with_exit_i; }
+    if (v_r26_i25) { goto L_join_3_i; } else { p_v_r26_sroa_6_sroa_42_0_ph4162 = v_r19_sroa_41_sroa_11_1_ph4092; p_v_r26_sroa_6_sroa_38_0_ph4161 = v_r19_sroa_41_sroa_0_1_ph4091; p_v_r26_sroa_6_sroa_34_0_ph4160 = 0u; p_v_r26_sroa_6_sroa_30_0_ph4159 = AT(f_static_22); p_v_r26_sroa_6_sroa_26_0_ph4158 = 5u; p_v_r26_sroa_6_sroa_22_0_ph4157 = 1u; p_v_r26_sroa_6_sroa_18_0_ph4156 = 5u; p_v_r26_sroa_6_sroa_14_0_ph4155 = AT(f_static_24); p_v_r26_sroa_6_sroa_10_0_ph4154 = 1u; p_v_r26_sroa_6_sroa_6_0_ph4153 = 9u; p_v_r26_sroa_6_sroa_0_0_ph4152 = AT(f_static_25); goto L_der_core_quick_begins_with_exit_i; }
 L_join_3_i:;
     v_r23_i_i = v_r19_sroa_41_sroa_11_1_ph4092 == 1u;
     if (v_r23_i_i) { goto L_arm_6; } else { goto L_then_6_i_i; }
@@ -15142,7 +15171,7 @@ L_then_9_i_i:;
     v_r15_i1243 = v_r35_i_i < v_r65_i_i;
     if (v_r15_i1243) { goto L_arm_6; } else { goto L_arm_4_i; }
 L_arm_4_i:;
-    v_r29_i1245 = (P)((uintptr_t)v_r32_i_i + (u64)(v_r65_i_i));
+    v_r29_i1245 = (P)((u64)v_r32_i_i + (u64)(v_r65_i_i));
     v_r32_i1246 = (u64)((u64)(v_r35_i_i) - (u64)(v_r65_i_i));
     v_r23_i_i54 = v_r53_i_i < 2u;
     if (v_r23_i_i54) { goto L_arm_6; } else { goto L_join_5_i_i55; }
@@ -15179,13 +15208,13 @@ L_then_9_i_i_i:;
     v_r15_i1273 = v_r35_i_i_i < v_r65_i_i_i;
     if (v_r15_i1273) { goto L_arm_6; } else { goto L_arm_1_i_i; }
 L_arm_1_i_i:;
-    v_r29_i1275 = (P)((uintptr_t)v_r32_i_i_i + (u64)(v_r65_i_i_i));
+    v_r29_i1275 = (P)((u64)v_r32_i_i_i + (u64)(v_r65_i_i_i));
     v_r32_i1276 = (u64)((u64)(v_r35_i_i_i) - (u64)(v_r65_i_i_i));
     v_r15_i_i = v_r53_i_i_i == 0u;
     if (v_r15_i_i) { goto L_spki_core_object_identifier_is_identifier_exit_i; } else { goto L_join_4_i_i; }
 L_join_4_i_i:;
     v_r22_i19_i = (u64)((u64)(v_r65_i_i_i) + (u64)(18446744073709551615ull));
-    v_r25_i_i = (P)((uintptr_t)v_r32_i_i_i + (u64)(v_r22_i19_i));
+    v_r25_i_i = (P)((u64)v_r32_i_i_i + (u64)(v_r22_i19_i));
     v_r35_i20_i = get_u8(v_r25_i_i);
     v_r37_i21_i = (u8)(v_r35_i20_i ^ ((u8)1 << 7)) > (u8)(255u ^ ((u8)1 << 7));
     if (v_r37_i21_i) { goto L_spki_core_object_identifier_ends_plainly_exit_i; } else { goto L_spki_core_object_identifier_is_identifier_exit_i; }
@@ -15237,13 +15266,13 @@ L_then_9_i_i_i_i:;
     v_r15_i1305 = v_r35_i_i_i_i < v_r65_i_i_i_i;
     if (v_r15_i1305) { goto L_arm_6; } else { goto L_arm_1_i_i_i; }
 L_arm_1_i_i_i:;
-    v_r29_i1307 = (P)((uintptr_t)v_r32_i_i_i_i + (u64)(v_r65_i_i_i_i));
+    v_r29_i1307 = (P)((u64)v_r32_i_i_i_i + (u64)(v_r65_i_i_i_i));
     v_r32_i1308 = (u64)((u64)(v_r35_i_i_i_i) - (u64)(v_r65_i_i_i_i));
     v_r15_i_i_i = v_r53_i_i_i_i == 0u;
     if (v_r15_i_i_i) { goto L_spki_core_object_identifier_is_identifier_exit_i_i__2; } else { goto L_join_4_i_i_i; }
 L_join_4_i_i_i:;
     v_r22_i19_i_i = (u64)((u64)(v_r65_i_i_i_i) + (u64)(18446744073709551615ull));
-    v_r25_i_i_i = (P)((uintptr_t)v_r32_i_i_i_i + (u64)(v_r22_i19_i_i));
+    v_r25_i_i_i = (P)((u64)v_r32_i_i_i_i + (u64)(v_r22_i19_i_i));
     v_r35_i20_i_i = get_u8(v_r25_i_i_i);
     v_r37_i21_i_i = (u8)(v_r35_i20_i_i ^ ((u8)1 << 7)) > (u8)(255u ^ ((u8)1 << 7));
     if (v_r37_i21_i_i) { goto L_spki_core_object_identifier_ends_plainly_exit_i_i; } else { goto L_spki_core_object_identifier_is_identifier_exit_i_i__2; }
@@ -15306,7 +15335,7 @@ L_arm_2:;
     { goto L_common_ret; }
 L_arm_5:;
     v_r12_i_i319 = v_r32_i1246 == 0u;
-    if (v_r12_i_i319) { p_v_r26_sroa_6_sroa_34_0_ph4126 = v_r9_i100_sroa_19_sroa_10_0_ph; p_v_r26_sroa_6_sroa_30_0_ph4125 = v_r9_i100_sroa_19_sroa_7_0_ph; p_v_r26_sroa_6_sroa_26_0_ph4124 = v_r9_i100_sroa_19_sroa_0_0_ph; p_v_r26_sroa_6_sroa_22_0_ph4123 = v_r9_i100_sroa_15_sroa_0_0_ph; p_v_r26_sroa_6_sroa_18_0_ph4122 = v_r9_i100_sroa_11_sroa_7_0_ph; p_v_r26_sroa_6_sroa_14_0_ph4121 = v_r9_i100_sroa_11_sroa_0_0_ph; p_v_r26_sroa_6_sroa_10_0_ph4120 = v_r9_i100_sroa_7_sroa_0_0_ph; p_v_r26_sroa_6_sroa_6_0_ph4119 = v_r65_i_i_i; p_v_r26_sroa_6_sroa_0_0_ph4118 = v_r32_i_i_i; p_v_r19_sroa_11_sroa_0_1_ph40704117 = v_r19_sroa_11_sroa_0_1_ph4086; p_v_r19_sroa_11_sroa_11_1_ph40714116 = v_r19_sroa_11_sroa_11_1_ph4087; p_v_r19_sroa_31_sroa_0_1_ph40724115 = v_r19_sroa_31_sroa_0_1_ph4088; p_v_r19_sroa_31_sroa_11_1_ph40734114 = v_r19_sroa_31_sroa_11_1_ph4089; p_v_r19_sroa_31_sroa_15_1_ph40744113 = v_r19_sroa_31_sroa_15_1_ph4090; p_v_r19_sroa_21_sroa_0_1_ph40754112 = v_r19_sroa_21_sroa_0_1_ph4093; p_v_r19_sroa_21_sroa_0_0_ph4034 = 1u; p_v_r19_sroa_31_sroa_15_0_ph4033 = 0u; p_v_r19_sroa_31_sroa_11_0_ph4032 = (P)f_static_22; p_v_r19_sroa_31_sroa_0_0_ph4031 = 4u; p_v_r19_sroa_11_sroa_11_0_ph4030 = 9u; p_v_r19_sroa_11_sroa_0_0_ph4029 = (P)f_static_0; goto L_arm_11; } else { p_v_r26_sroa_6_sroa_42_0_ph4162 = v_r32_i1246; p_v_r26_sroa_6_sroa_38_0_ph4161 = v_r29_i1245; p_v_r26_sroa_6_sroa_34_0_ph4160 = v_r9_i100_sroa_19_sroa_10_0_ph; p_v_r26_sroa_6_sroa_30_0_ph4159 = v_r9_i100_sroa_19_sroa_7_0_ph; p_v_r26_sroa_6_sroa_26_0_ph4158 = v_r9_i100_sroa_19_sroa_0_0_ph; p_v_r26_sroa_6_sroa_22_0_ph4157 = v_r9_i100_sroa_15_sroa_0_0_ph; p_v_r26_sroa_6_sroa_18_0_ph4156 = v_r9_i100_sroa_11_sroa_7_0_ph; p_v_r26_sroa_6_sroa_14_0_ph4155 = v_r9_i100_sroa_11_sroa_0_0_ph; p_v_r26_sroa_6_sroa_10_0_ph4154 = v_r9_i100_sroa_7_sroa_0_0_ph; p_v_r26_sroa_6_sroa_6_0_ph4153 = v_r65_i_i_i; p_v_r26_sroa_6_sroa_0_0_ph4152 = v_r32_i_i_i; goto L_der_core_quick_begins_with_exit_i; }
+    if (v_r12_i_i319) { p_v_r26_sroa_6_sroa_34_0_ph4126 = v_r9_i100_sroa_19_sroa_10_0_ph; p_v_r26_sroa_6_sroa_30_0_ph4125 = v_r9_i100_sroa_19_sroa_7_0_ph; p_v_r26_sroa_6_sroa_26_0_ph4124 = v_r9_i100_sroa_19_sroa_0_0_ph; p_v_r26_sroa_6_sroa_22_0_ph4123 = v_r9_i100_sroa_15_sroa_0_0_ph; p_v_r26_sroa_6_sroa_18_0_ph4122 = v_r9_i100_sroa_11_sroa_7_0_ph; p_v_r26_sroa_6_sroa_14_0_ph4121 = v_r9_i100_sroa_11_sroa_0_0_ph; p_v_r26_sroa_6_sroa_10_0_ph4120 = v_r9_i100_sroa_7_sroa_0_0_ph; p_v_r26_sroa_6_sroa_6_0_ph4119 = v_r65_i_i_i; p_v_r26_sroa_6_sroa_0_0_ph4118 = v_r32_i_i_i; p_v_r19_sroa_11_sroa_0_1_ph40704117 = v_r19_sroa_11_sroa_0_1_ph4086; p_v_r19_sroa_11_sroa_11_1_ph40714116 = v_r19_sroa_11_sroa_11_1_ph4087; p_v_r19_sroa_31_sroa_0_1_ph40724115 = v_r19_sroa_31_sroa_0_1_ph4088; p_v_r19_sroa_31_sroa_11_1_ph40734114 = v_r19_sroa_31_sroa_11_1_ph4089; p_v_r19_sroa_31_sroa_15_1_ph40744113 = v_r19_sroa_31_sroa_15_1_ph4090; p_v_r19_sroa_21_sroa_0_1_ph40754112 = v_r19_sroa_21_sroa_0_1_ph4093; p_v_r19_sroa_21_sroa_0_0_ph4034 = 1u; p_v_r19_sroa_31_sroa_15_0_ph4033 = 0u; p_v_r19_sroa_31_sroa_11_0_ph4032 = AT(f_static_22); p_v_r19_sroa_31_sroa_0_0_ph4031 = 4u; p_v_r19_sroa_11_sroa_11_0_ph4030 = 9u; p_v_r19_sroa_11_sroa_0_0_ph4029 = AT(f_static_0); goto L_arm_11; } else { p_v_r26_sroa_6_sroa_42_0_ph4162 = v_r32_i1246; p_v_r26_sroa_6_sroa_38_0_ph4161 = v_r29_i1245; p_v_r26_sroa_6_sroa_34_0_ph4160 = v_r9_i100_sroa_19_sroa_10_0_ph; p_v_r26_sroa_6_sroa_30_0_ph4159 = v_r9_i100_sroa_19_sroa_7_0_ph; p_v_r26_sroa_6_sroa_26_0_ph4158 = v_r9_i100_sroa_19_sroa_0_0_ph; p_v_r26_sroa_6_sroa_22_0_ph4157 = v_r9_i100_sroa_15_sroa_0_0_ph; p_v_r26_sroa_6_sroa_18_0_ph4156 = v_r9_i100_sroa_11_sroa_7_0_ph; p_v_r26_sroa_6_sroa_14_0_ph4155 = v_r9_i100_sroa_11_sroa_0_0_ph; p_v_r26_sroa_6_sroa_10_0_ph4154 = v_r9_i100_sroa_7_sroa_0_0_ph; p_v_r26_sroa_6_sroa_6_0_ph4153 = v_r65_i_i_i; p_v_r26_sroa_6_sroa_0_0_ph4152 = v_r32_i_i_i; goto L_der_core_quick_begins_with_exit_i; }
 L_der_core_quick_begins_with_exit_i:;
     v_r26_sroa_6_sroa_42_0_ph4162 = p_v_r26_sroa_6_sroa_42_0_ph4162;
     v_r26_sroa_6_sroa_38_0_ph4161 = p_v_r26_sroa_6_sroa_38_0_ph4161;
@@ -15371,13 +15400,13 @@ L_then_9_i_i_i_i_i:;
     v_r15_i1503 = v_r35_i_i_i_i_i < v_r65_i_i_i_i_i;
     if (v_r15_i1503) { goto L_arm_9; } else { goto L_arm_1_i_i_i_i; }
 L_arm_1_i_i_i_i:;
-    v_r29_i1505 = (P)((uintptr_t)v_r32_i_i_i_i_i + (u64)(v_r65_i_i_i_i_i));
+    v_r29_i1505 = (P)((u64)v_r32_i_i_i_i_i + (u64)(v_r65_i_i_i_i_i));
     v_r32_i1506 = (u64)((u64)(v_r35_i_i_i_i_i) - (u64)(v_r65_i_i_i_i_i));
     v_r15_i_i_i_i = v_r53_i_i_i_i_i == 0u;
     if (v_r15_i_i_i_i) { goto L_spki_core_object_identifier_is_identifier_exit_i_i__3; } else { goto L_join_4_i_i_i_i; }
 L_join_4_i_i_i_i:;
     v_r22_i19_i_i_i = (u64)((u64)(v_r65_i_i_i_i_i) + (u64)(18446744073709551615ull));
-    v_r25_i_i_i_i = (P)((uintptr_t)v_r32_i_i_i_i_i + (u64)(v_r22_i19_i_i_i));
+    v_r25_i_i_i_i = (P)((u64)v_r32_i_i_i_i_i + (u64)(v_r22_i19_i_i_i));
     v_r35_i20_i_i_i = get_u8(v_r25_i_i_i_i);
     v_r37_i21_i_i_i = (u8)(v_r35_i20_i_i_i ^ ((u8)1 << 7)) > (u8)(255u ^ ((u8)1 << 7));
     if (v_r37_i21_i_i_i) { goto L_spki_core_object_identifier_ends_plainly_exit_i_i___2; } else { goto L_spki_core_object_identifier_is_identifier_exit_i_i__3; }
@@ -16479,8 +16508,8 @@ static void f_der_core_decode_read_slowly_1334d836ffe71f34(P v_a0, P v_a1, u64 v
     P v_r66;
     P v_r68;
     P v_r70;
-    v_r10_i538_i = m_v_r10_i538_i;
-    v_r6_i196_i = m_v_r6_i196_i;
+    v_r10_i538_i = AT(m_v_r10_i538_i);
+    v_r6_i196_i = AT(m_v_r6_i196_i);
     v_r16_i = v_a2 < 4294967296ull;
     if (v_r16_i) { goto L_join_3_i_i; } else { goto L_arm_2; }
 L_join_3_i_i:;
@@ -16523,7 +16552,7 @@ L_join_3_i:;
     v_r39_i85 = v_r19_i_i_i43 < v_r3_i25_i;
     if (v_r39_i85) { p_v_r15_sroa_7_0_ph = 1u; p_v_r15_sroa_13_0_ph = 0u; p_v_r15_sroa_19_0_ph = 0u; goto L_arm_6; } else { goto L_arm_14_i_i; }
 L_arm_14_i_i:;
-    v_r16_i_i87 = (P)((uintptr_t)v_r16_i_i_i42 + (u64)(v_r3_i25_i));
+    v_r16_i_i87 = (P)((u64)v_r16_i_i_i42 + (u64)(v_r3_i25_i));
     v_r19_i_i88 = (u64)((u64)(v_r19_i_i_i43) - (u64)(v_r3_i25_i));
     switch (v_r106_i_i) {
     case 0u: { p_v_r15_sroa_7_0_ph = 8u; p_v_r15_sroa_13_0_ph = v_r106_i_i; p_v_r15_sroa_19_0_ph = v_r106_i_i; goto L_arm_6; }
@@ -16603,11 +16632,11 @@ L_join_3_i_i191:;
     if (v_r39_i_i194) { p_v_r15_sroa_7_0_ph = 1u; p_v_r15_sroa_13_0_ph = 0u; p_v_r15_sroa_19_0_ph = 0u; goto L_arm_6; } else { goto L_else_2_i_i226; }
 L_else_2_i_i226:;
     v_r12_i_i_i_not_i_i = v_r12_sroa_10_0_i == 0u;
-    if (v_r12_i_i_i_not_i_i) { p_v_r12_sroa_10_i260_sroa_3_0_ph = (P)f_static_24; p_v_r12_sroa_10_i260_sroa_5_0_ph = 5u; p_v_r12_sroa_10_i260_sroa_6_0_ph = 1u; p_v_r12_sroa_10_i260_sroa_7_0_ph = 5u; p_v_r12_sroa_10_i260_sroa_8_0_ph = (P)f_static_22; p_v_r12_sroa_10_i260_sroa_9_0_ph = 0u; p_v_r12_sroa_10_i260_sroa_10_0_ph = (P)f_static_25; p_v_r12_sroa_10_i260_sroa_11_0_ph = 9u; p_v_r12_sroa_10_i260_sroa_12_0_ph = 1u; p_v_r12_sroa_10_i260_sroa_13_0_ph = (P)f_static_24; p_v_r12_sroa_10_i260_sroa_14_0_ph = 5u; p_v_r12_sroa_10_i260_sroa_15_0_ph = 1u; p_v_r12_sroa_10_i260_sroa_16_0_ph = 5u; p_v_r12_sroa_10_i260_sroa_17_0_ph = (P)f_static_22; p_v_r12_sroa_10_i260_sroa_18_0_ph = 0u; p_v_r12_sroa_10_i260_sroa_19_0_ph = (P)f_static_0; p_v_r12_sroa_10_i260_sroa_20_0_ph = 9u; p_v_r12_sroa_10_i260_sroa_21_0_ph = 1u; p_v_r12_sroa_10_i260_sroa_22_0_ph = 4u; p_v_r12_sroa_10_i260_sroa_23_0_ph = (P)f_static_22; p_v_r12_sroa_10_i260_sroa_24_0_ph = 0u; goto L_join_3_i281; } else { goto L_arm_1_i732_i; }
+    if (v_r12_i_i_i_not_i_i) { p_v_r12_sroa_10_i260_sroa_3_0_ph = AT(f_static_24); p_v_r12_sroa_10_i260_sroa_5_0_ph = 5u; p_v_r12_sroa_10_i260_sroa_6_0_ph = 1u; p_v_r12_sroa_10_i260_sroa_7_0_ph = 5u; p_v_r12_sroa_10_i260_sroa_8_0_ph = AT(f_static_22); p_v_r12_sroa_10_i260_sroa_9_0_ph = 0u; p_v_r12_sroa_10_i260_sroa_10_0_ph = AT(f_static_25); p_v_r12_sroa_10_i260_sroa_11_0_ph = 9u; p_v_r12_sroa_10_i260_sroa_12_0_ph = 1u; p_v_r12_sroa_10_i260_sroa_13_0_ph = AT(f_static_24); p_v_r12_sroa_10_i260_sroa_14_0_ph = 5u; p_v_r12_sroa_10_i260_sroa_15_0_ph = 1u; p_v_r12_sroa_10_i260_sroa_16_0_ph = 5u; p_v_r12_sroa_10_i260_sroa_17_0_ph = AT(f_static_22); p_v_r12_sroa_10_i260_sroa_18_0_ph = 0u; p_v_r12_sroa_10_i260_sroa_19_0_ph = AT(f_static_0); p_v_r12_sroa_10_i260_sroa_20_0_ph = 9u; p_v_r12_sroa_10_i260_sroa_21_0_ph = 1u; p_v_r12_sroa_10_i260_sroa_22_0_ph = 4u; p_v_r12_sroa_10_i260_sroa_23_0_ph = AT(f_static_22); p_v_r12_sroa_10_i260_sroa_24_0_ph = 0u; goto L_join_3_i281; } else { goto L_arm_1_i732_i; }
 L_arm_1_i732_i:;
     v_r18_i_i3406_i = get_u8(v_r4_sroa_0_2982);
     v_r7_i_i3410_i = v_r18_i_i3406_i == 160u;
-    if (v_r7_i_i3410_i) { goto L_join_3_i_i3473_i; } else { p_v_r18_i_i5008_i = v_r18_i_i3406_i; p_v_r6_i_sroa_0_0 = v_r4_sroa_0_2982; p_v_r6_i_sroa_21_0 = v_r12_sroa_10_0_i; p_v_r17_i669_sroa_12_sroa_3_01084612067_i = (P)f_static_24; p_v_r17_i669_sroa_12_sroa_6_01084712066_i = 5u; p_v_r17_i669_sroa_18_sroa_0_01084812065_i = 5u; p_v_r17_i669_sroa_18_sroa_6_01084912064_i = (P)f_static_22; p_v_r17_i669_sroa_18_sroa_7_01085012063_i = 0u; p_v_r17_i669_sroa_15_sroa_0_01085112062_i = 1u; goto L_arm_1_i_i227; }
+    if (v_r7_i_i3410_i) { goto L_join_3_i_i3473_i; } else { p_v_r18_i_i5008_i = v_r18_i_i3406_i; p_v_r6_i_sroa_0_0 = v_r4_sroa_0_2982; p_v_r6_i_sroa_21_0 = v_r12_sroa_10_0_i; p_v_r17_i669_sroa_12_sroa_3_01084612067_i = AT(f_static_24); p_v_r17_i669_sroa_12_sroa_6_01084712066_i = 5u; p_v_r17_i669_sroa_18_sroa_0_01084812065_i = 5u; p_v_r17_i669_sroa_18_sroa_6_01084912064_i = AT(f_static_22); p_v_r17_i669_sroa_18_sroa_7_01085012063_i = 0u; p_v_r17_i669_sroa_15_sroa_0_01085112062_i = 1u; goto L_arm_1_i_i227; }
 L_join_3_i_i3473_i:;
     v_r39_i_i3476_i = v_r12_sroa_10_0_i == 1u;
     if (v_r39_i_i3476_i) { p_v_r15_sroa_7_0_ph = 1u; p_v_r15_sroa_13_0_ph = 0u; p_v_r15_sroa_19_0_ph = 0u; goto L_arm_6; } else { goto L_arm_1_i60_i3208_i; }
@@ -16633,7 +16662,7 @@ L_join_3_i3522_i:;
     v_r39_i3525_i = v_r19_i_i_i3480_i < v_r3_i25_i_i237;
     if (v_r39_i3525_i) { p_v_r15_sroa_7_0_ph = 1u; p_v_r15_sroa_13_0_ph = 0u; p_v_r15_sroa_19_0_ph = 0u; goto L_arm_6; } else { goto L_arm_14_i_i3234_i; }
 L_arm_14_i_i3234_i:;
-    v_r16_i_i3528_i = (P)((uintptr_t)v_r16_i_i_i3479_i + (u64)(v_r3_i25_i_i237));
+    v_r16_i_i3528_i = (P)((u64)v_r16_i_i_i3479_i + (u64)(v_r3_i25_i_i237));
     v_r19_i_i3529_i = (u64)((u64)(v_r19_i_i_i3480_i) - (u64)(v_r3_i25_i_i237));
     switch (v_r106_i_i3217_i) {
     case 0u: { p_v_r15_sroa_7_0_ph = 8u; p_v_r15_sroa_13_0_ph = v_r106_i_i3217_i; p_v_r15_sroa_19_0_ph = v_r106_i_i3217_i; goto L_arm_6; }
@@ -16709,7 +16738,7 @@ L_join_3_i_i3642_i:;
     v_r39_i_i3645_i = v_r36_i_i3644_i < v_r12_sroa_10_0_i_i;
     if (v_r39_i_i3645_i) { p_v_r15_sroa_7_0_ph = 1u; p_v_r15_sroa_13_0_ph = 0u; p_v_r15_sroa_19_0_ph = 0u; goto L_arm_6; } else { goto L_join_3_i_i3679_i; }
 L_join_3_i_i3679_i:;
-    v_r16_i_i_i3648_i = (P)((uintptr_t)v_r13_sroa_0_0_copyload_i_i3647_i + (u64)(v_r12_sroa_10_0_i_i));
+    v_r16_i_i_i3648_i = (P)((u64)v_r13_sroa_0_0_copyload_i_i3647_i + (u64)(v_r12_sroa_10_0_i_i));
     v_r19_i_i_i3649_i = (u64)((u64)(v_r36_i_i3644_i) - (u64)(v_r12_sroa_10_0_i_i));
     v_r39_i_i3682_i = v_r12_sroa_10_0_i_i == 0u;
     if (v_r39_i_i3682_i) { p_v_r15_sroa_7_0_ph = 1u; p_v_r15_sroa_13_0_ph = 0u; p_v_r15_sroa_19_0_ph = 0u; goto L_arm_6; } else { goto L_arm_1_i_i_i_i2860_i; }
@@ -16749,7 +16778,7 @@ L_join_3_i3776_i:;
     v_r39_i3780_i = v_r19_i_i_i3734_i < v_r3_i25_i3777_i;
     if (v_r39_i3780_i) { p_v_r15_sroa_7_0_ph = 1u; p_v_r15_sroa_13_0_ph = 0u; p_v_r15_sroa_19_0_ph = 0u; goto L_arm_6; } else { goto L_arm_14_i_i_i_i2977_i; }
 L_arm_14_i_i_i_i2977_i:;
-    v_r16_i_i3784_i = (P)((uintptr_t)v_r16_i_i_i3733_i + (u64)(v_r3_i25_i3777_i));
+    v_r16_i_i3784_i = (P)((u64)v_r16_i_i_i3733_i + (u64)(v_r3_i25_i3777_i));
     v_r19_i_i3785_i = (u64)((u64)(v_r19_i_i_i3734_i) - (u64)(v_r3_i25_i3777_i));
     switch (v_r106_i_i_i_i2960_i) {
     case 0u: { p_v_r15_sroa_7_0_ph = 8u; p_v_r15_sroa_13_0_ph = v_r106_i_i_i_i2960_i; p_v_r15_sroa_19_0_ph = v_r106_i_i_i_i2960_i; goto L_arm_6; }
@@ -16863,7 +16892,7 @@ L_join_3_i4047_i:;
     v_r39_i4051_i = v_r19_i_i_i4005_i < v_r3_i25_i4048_i;
     if (v_r39_i4051_i) { p_v_r15_sroa_7_0_ph = 1u; p_v_r15_sroa_13_0_ph = 0u; p_v_r15_sroa_19_0_ph = 0u; goto L_arm_6; } else { goto L_arm_14_i_i_i_i_i2720_i; }
 L_arm_14_i_i_i_i_i2720_i:;
-    v_r16_i_i4055_i = (P)((uintptr_t)v_r16_i_i_i4004_i + (u64)(v_r3_i25_i4048_i));
+    v_r16_i_i4055_i = (P)((u64)v_r16_i_i_i4004_i + (u64)(v_r3_i25_i4048_i));
     v_r19_i_i4056_i = (u64)((u64)(v_r19_i_i_i4005_i) - (u64)(v_r3_i25_i4048_i));
     switch (v_r106_i_i_i_i_i2703_i) {
     case 0u: { p_v_r15_sroa_7_0_ph = 8u; p_v_r15_sroa_13_0_ph = v_r106_i_i_i_i_i2703_i; p_v_r15_sroa_19_0_ph = v_r106_i_i_i_i_i2703_i; goto L_arm_6; }
@@ -16942,12 +16971,12 @@ L_join_3_i_i4178_i:;
     v_r39_i_i4182_i = v_r6_i_i_i1362_sroa_23_910371_i < v_r3_i25_i_i4179_i;
     if (v_r39_i_i4182_i) { p_v_r15_sroa_7_0_ph = 1u; p_v_r15_sroa_13_0_ph = 0u; p_v_r15_sroa_19_0_ph = 0u; goto L_arm_6; } else { goto L_join_3_i4221_i; }
 L_join_3_i4221_i:;
-    v_r16_i_i_i4185_i = (P)((uintptr_t)v_r6_i_i_i1362_sroa_0_910369_i + (u64)(v_r3_i25_i_i4179_i));
+    v_r16_i_i_i4185_i = (P)((u64)v_r6_i_i_i1362_sroa_0_910369_i + (u64)(v_r3_i25_i_i4179_i));
     v_r15_i_i_i_i_i2522_i = v_r12_sroa_10_0_i4119_i == 0u;
     if (v_r15_i_i_i_i_i2522_i) { goto L_spki_core_object_identifier_is_identifier_exit_i_i; } else { goto L_join_4_i_i_i_i_i2523_i; }
 L_join_4_i_i_i_i_i2523_i:;
     v_r22_i_i_i_i_i2524_i = (u64)((u64)(v_r3_i25_i_i4179_i) + (u64)(18446744073709551615ull));
-    v_r25_i_i_i_i_i2525_i = (P)((uintptr_t)v_r6_i_i_i1362_sroa_0_910369_i + (u64)(v_r22_i_i_i_i_i2524_i));
+    v_r25_i_i_i_i_i2525_i = (P)((u64)v_r6_i_i_i1362_sroa_0_910369_i + (u64)(v_r22_i_i_i_i_i2524_i));
     v_r35_i8_i_i_i_i2526_i = get_u8(v_r25_i_i_i_i_i2525_i);
     v_r37_i9_i_i_i_i2527_i = (u8)(v_r35_i8_i_i_i_i2526_i ^ ((u8)1 << 7)) > (u8)(255u ^ ((u8)1 << 7));
     if (v_r37_i9_i_i_i_i2527_i) { goto L_spki_core_object_identifier_ends_plainly_exit_i_i_; } else { goto L_spki_core_object_identifier_is_identifier_exit_i_i; }
@@ -17001,7 +17030,7 @@ L_join_3_i4467_i:;
     v_r39_i4471_i = v_r19_i_i_i4425_i < v_r3_i25_i4468_i;
     if (v_r39_i4471_i) { p_v_r15_sroa_7_0_ph = 1u; p_v_r15_sroa_13_0_ph = 0u; p_v_r15_sroa_19_0_ph = 0u; goto L_arm_6; } else { goto L_arm_14_i_i_i570_i_i2291_i; }
 L_arm_14_i_i_i570_i_i2291_i:;
-    v_r16_i_i4475_i = (P)((uintptr_t)v_r16_i_i_i4424_i + (u64)(v_r3_i25_i4468_i));
+    v_r16_i_i4475_i = (P)((u64)v_r16_i_i_i4424_i + (u64)(v_r3_i25_i4468_i));
     v_r19_i_i4476_i = (u64)((u64)(v_r19_i_i_i4425_i) - (u64)(v_r3_i25_i4468_i));
     switch (v_r106_i_i_i553_i_i2274_i) {
     case 0u: { p_v_r15_sroa_7_0_ph = 8u; p_v_r15_sroa_13_0_ph = v_r106_i_i_i553_i_i2274_i; p_v_r15_sroa_19_0_ph = v_r106_i_i_i553_i_i2274_i; goto L_arm_6; }
@@ -17089,7 +17118,7 @@ L_join_3_i4851_i:;
     if (v_r7_i_i4854_i) { goto L_else_2_i5002_i; } else { p_v_r15_sroa_7_0_ph = 12u; p_v_r15_sroa_13_0_ph = 0u; p_v_r15_sroa_19_0_ph = 0u; goto L_arm_6; }
 L_else_2_i5002_i:;
     v_r12_i_i_i_not_i5005_i = v_r19_i_i_i3649_i == 0u;
-    if (v_r12_i_i_i_not_i5005_i) { p_v_r12_sroa_10_i260_sroa_3_0_ph = v_r6_i_i_i1362_sroa_0_910369_i; p_v_r12_sroa_10_i260_sroa_5_0_ph = v_r3_i25_i_i4179_i; p_v_r12_sroa_10_i260_sroa_6_0_ph = v_r6_i230_i_i1232_sroa_239383_sroa_0_0_i; p_v_r12_sroa_10_i260_sroa_7_0_ph = v_r6_i230_i_i1232_sroa_28_sroa_0_0_i; p_v_r12_sroa_10_i260_sroa_8_0_ph = v_r6_i230_i_i1232_sroa_28_sroa_8_0_i; p_v_r12_sroa_10_i260_sroa_9_0_ph = v_r6_i230_i_i1232_sroa_28_sroa_12_0_i; p_v_r12_sroa_10_i260_sroa_10_0_ph = (P)f_static_25; p_v_r12_sroa_10_i260_sroa_11_0_ph = 9u; p_v_r12_sroa_10_i260_sroa_12_0_ph = 1u; p_v_r12_sroa_10_i260_sroa_13_0_ph = (P)f_static_24; p_v_r12_sroa_10_i260_sroa_14_0_ph = 5u; p_v_r12_sroa_10_i260_sroa_15_0_ph = 1u; p_v_r12_sroa_10_i260_sroa_16_0_ph = 5u; p_v_r12_sroa_10_i260_sroa_17_0_ph = (P)f_static_22; p_v_r12_sroa_10_i260_sroa_18_0_ph = 0u; p_v_r12_sroa_10_i260_sroa_19_0_ph = (P)f_static_0; p_v_r12_sroa_10_i260_sroa_20_0_ph = 9u; p_v_r12_sroa_10_i260_sroa_21_0_ph = 1u; p_v_r12_sroa_10_i260_sroa_22_0_ph = 4u; p_v_r12_sroa_10_i260_sroa_23_0_ph = (P)f_static_22; p_v_r12_sroa_10_i260_sroa_24_0_ph = 0u; goto L_join_3_i281; } else { goto L_else_2_i5002_i_arm_1_i_i227_crit_edge; }
+    if (v_r12_i_i_i_not_i5005_i) { p_v_r12_sroa_10_i260_sroa_3_0_ph = v_r6_i_i_i1362_sroa_0_910369_i; p_v_r12_sroa_10_i260_sroa_5_0_ph = v_r3_i25_i_i4179_i; p_v_r12_sroa_10_i260_sroa_6_0_ph = v_r6_i230_i_i1232_sroa_239383_sroa_0_0_i; p_v_r12_sroa_10_i260_sroa_7_0_ph = v_r6_i230_i_i1232_sroa_28_sroa_0_0_i; p_v_r12_sroa_10_i260_sroa_8_0_ph = v_r6_i230_i_i1232_sroa_28_sroa_8_0_i; p_v_r12_sroa_10_i260_sroa_9_0_ph = v_r6_i230_i_i1232_sroa_28_sroa_12_0_i; p_v_r12_sroa_10_i260_sroa_10_0_ph = AT(f_static_25); p_v_r12_sroa_10_i260_sroa_11_0_ph = 9u; p_v_r12_sroa_10_i260_sroa_12_0_ph = 1u; p_v_r12_sroa_10_i260_sroa_13_0_ph = AT(f_static_24); p_v_r12_sroa_10_i260_sroa_14_0_ph = 5u; p_v_r12_sroa_10_i260_sroa_15_0_ph = 1u; p_v_r12_sroa_10_i260_sroa_16_0_ph = 5u; p_v_r12_sroa_10_i260_sroa_17_0_ph = AT(f_static_22); p_v_r12_sroa_10_i260_sroa_18_0_ph = 0u; p_v_r12_sroa_10_i260_sroa_19_0_ph = AT(f_static_0); p_v_r12_sroa_10_i260_sroa_20_0_ph = 9u; p_v_r12_sroa_10_i260_sroa_21_0_ph = 1u; p_v_r12_sroa_10_i260_sroa_22_0_ph = 4u; p_v_r12_sroa_10_i260_sroa_23_0_ph = AT(f_static_22); p_v_r12_sroa_10_i260_sroa_24_0_ph = 0u; goto L_join_3_i281; } else { goto L_else_2_i5002_i_arm_1_i_i227_crit_edge; }
 L_else_2_i5002_i_arm_1_i_i227_crit_edge:;
     v_r18_i_i5008_i_pre = get_u8(v_r16_i_i_i3648_i);
     { p_v_r18_i_i5008_i = v_r18_i_i5008_i_pre; p_v_r6_i_sroa_0_0 = v_r16_i_i_i3648_i; p_v_r6_i_sroa_21_0 = v_r19_i_i_i3649_i; p_v_r17_i669_sroa_12_sroa_3_01084612067_i = v_r6_i_i_i1362_sroa_0_910369_i; p_v_r17_i669_sroa_12_sroa_6_01084712066_i = v_r3_i25_i_i4179_i; p_v_r17_i669_sroa_18_sroa_0_01084812065_i = v_r6_i230_i_i1232_sroa_28_sroa_0_0_i; p_v_r17_i669_sroa_18_sroa_6_01084912064_i = v_r6_i230_i_i1232_sroa_28_sroa_8_0_i; p_v_r17_i669_sroa_18_sroa_7_01085012063_i = v_r6_i230_i_i1232_sroa_28_sroa_12_0_i; p_v_r17_i669_sroa_15_sroa_0_01085112062_i = v_r6_i230_i_i1232_sroa_239383_sroa_0_0_i; goto L_arm_1_i_i227; }
@@ -17104,7 +17133,7 @@ L_arm_1_i_i227:;
     v_r17_i669_sroa_18_sroa_7_01085012063_i = p_v_r17_i669_sroa_18_sroa_7_01085012063_i;
     v_r17_i669_sroa_15_sroa_0_01085112062_i = p_v_r17_i669_sroa_15_sroa_0_01085112062_i;
     v_r7_i_i5018_i = v_r18_i_i5008_i == 161u;
-    if (v_r7_i_i5018_i) { goto L_join_3_i_i5100_i; } else { p_v_r18_i_i5809_i = v_r18_i_i5008_i; p_v_r6_i_sroa_0_1 = v_r6_i_sroa_0_0; p_v_r6_i_sroa_21_1 = v_r6_i_sroa_21_0; p_v_r12_sroa_10_i5716_sroa_12_0_ph12133_i = 0u; p_v_r12_sroa_10_i5716_sroa_11_0_ph12132_i = (P)f_static_22; p_v_r12_sroa_10_i5716_sroa_10_0_ph12131_i = 5u; p_v_r12_sroa_10_i5716_sroa_9_0_ph12130_i = 1u; p_v_r12_sroa_10_i5716_sroa_8_0_ph12129_i = 5u; p_v_r12_sroa_10_i5716_sroa_7_0_ph12128_i = (P)f_static_24; p_v_r12_sroa_10_i5716_sroa_6_0_ph12127_i = 1u; p_v_r12_sroa_10_i5716_sroa_5_0_ph12126_i = 9u; p_v_r12_sroa_10_i5716_sroa_3_0_ph12125_i = (P)f_static_25; goto L_arm_1_i614_i; }
+    if (v_r7_i_i5018_i) { goto L_join_3_i_i5100_i; } else { p_v_r18_i_i5809_i = v_r18_i_i5008_i; p_v_r6_i_sroa_0_1 = v_r6_i_sroa_0_0; p_v_r6_i_sroa_21_1 = v_r6_i_sroa_21_0; p_v_r12_sroa_10_i5716_sroa_12_0_ph12133_i = 0u; p_v_r12_sroa_10_i5716_sroa_11_0_ph12132_i = AT(f_static_22); p_v_r12_sroa_10_i5716_sroa_10_0_ph12131_i = 5u; p_v_r12_sroa_10_i5716_sroa_9_0_ph12130_i = 1u; p_v_r12_sroa_10_i5716_sroa_8_0_ph12129_i = 5u; p_v_r12_sroa_10_i5716_sroa_7_0_ph12128_i = AT(f_static_24); p_v_r12_sroa_10_i5716_sroa_6_0_ph12127_i = 1u; p_v_r12_sroa_10_i5716_sroa_5_0_ph12126_i = 9u; p_v_r12_sroa_10_i5716_sroa_3_0_ph12125_i = AT(f_static_25); goto L_arm_1_i614_i; }
 L_join_3_i_i5100_i:;
     v_r39_i_i5103_i = v_r6_i_sroa_21_0 == 1u;
     if (v_r39_i_i5103_i) { p_v_r15_sroa_7_0_ph = 1u; p_v_r15_sroa_13_0_ph = 0u; p_v_r15_sroa_19_0_ph = 0u; goto L_arm_6; } else { goto L_arm_1_i59_i_i; }
@@ -17130,7 +17159,7 @@ L_join_3_i5149_i:;
     v_r39_i5153_i = v_r19_i_i_i5107_i < v_r3_i25_i5150_i;
     if (v_r39_i5153_i) { p_v_r15_sroa_7_0_ph = 1u; p_v_r15_sroa_13_0_ph = 0u; p_v_r15_sroa_19_0_ph = 0u; goto L_arm_6; } else { goto L_arm_14_i_i_i; }
 L_arm_14_i_i_i:;
-    v_r16_i_i5157_i = (P)((uintptr_t)v_r16_i_i_i5106_i + (u64)(v_r3_i25_i5150_i));
+    v_r16_i_i5157_i = (P)((u64)v_r16_i_i_i5106_i + (u64)(v_r3_i25_i5150_i));
     v_r19_i_i5158_i = (u64)((u64)(v_r19_i_i_i5107_i) - (u64)(v_r3_i25_i5150_i));
     switch (v_r106_i_i_i) {
     case 0u: { p_v_r15_sroa_7_0_ph = 8u; p_v_r15_sroa_13_0_ph = v_r106_i_i_i; p_v_r15_sroa_19_0_ph = v_r106_i_i_i; goto L_arm_6; }
@@ -17206,7 +17235,7 @@ L_join_3_i_i5280_i:;
     v_r39_i_i5284_i = v_r36_i_i5283_i < v_r12_sroa_10_0_i5221_i;
     if (v_r39_i_i5284_i) { p_v_r15_sroa_7_0_ph = 1u; p_v_r15_sroa_13_0_ph = 0u; p_v_r15_sroa_19_0_ph = 0u; goto L_arm_6; } else { goto L_join_3_i_i5323_i; }
 L_join_3_i_i5323_i:;
-    v_r16_i_i_i5287_i = (P)((uintptr_t)v_r13_sroa_0_0_copyload_i_i5286_i + (u64)(v_r12_sroa_10_0_i5221_i));
+    v_r16_i_i_i5287_i = (P)((u64)v_r13_sroa_0_0_copyload_i_i5286_i + (u64)(v_r12_sroa_10_0_i5221_i));
     v_r19_i_i_i5288_i = (u64)((u64)(v_r36_i_i5283_i) - (u64)(v_r12_sroa_10_0_i5221_i));
     v_r39_i_i5326_i = v_r12_sroa_10_0_i5221_i == 0u;
     if (v_r39_i_i5326_i) { p_v_r0_i157_sroa_9_0_ph_i = 1u; p_v_r0_i157_sroa_15_0_ph_i = 0u; p_v_r0_i157_sroa_21_0_ph_i = 0u; goto L_arm_2_i123_i; } else { goto L_arm_1_i_i298_i; }
@@ -17246,7 +17275,7 @@ L_join_3_i5420_i:;
     v_r39_i5424_i = v_r19_i_i_i5378_i < v_r3_i25_i5421_i;
     if (v_r39_i5424_i) { p_v_r0_i157_sroa_9_0_ph_i = 1u; p_v_r0_i157_sroa_15_0_ph_i = 0u; p_v_r0_i157_sroa_21_0_ph_i = 0u; goto L_arm_2_i123_i; } else { goto L_arm_14_i_i415_i; }
 L_arm_14_i_i415_i:;
-    v_r16_i_i5428_i = (P)((uintptr_t)v_r16_i_i_i5377_i + (u64)(v_r3_i25_i5421_i));
+    v_r16_i_i5428_i = (P)((u64)v_r16_i_i_i5377_i + (u64)(v_r3_i25_i5421_i));
     v_r19_i_i5429_i = (u64)((u64)(v_r19_i_i_i5378_i) - (u64)(v_r3_i25_i5421_i));
     switch (v_r106_i_i398_i) {
     case 0u: { p_v_r0_i157_sroa_9_0_ph_i = 8u; p_v_r0_i157_sroa_15_0_ph_i = v_r106_i_i398_i; p_v_r0_i157_sroa_21_0_ph_i = v_r106_i_i398_i; goto L_arm_2_i123_i; }
@@ -17372,7 +17401,7 @@ L_else_2_i5803_i:;
     v_r41_i560_i = (u64)v_r12_sroa_10_i5598_sroa_7_4_copyload_i;
     v_r35_i559_i = (u64)v_r12_sroa_10_i5598_sroa_5_4_copyload_i;
     v_r12_i_i_i_not_i5806_i = v_r19_i_i_i5288_i == 0u;
-    if (v_r12_i_i_i_not_i5806_i) { p_v_r12_sroa_10_i260_sroa_3_0_ph = v_r17_i669_sroa_12_sroa_3_01084612067_i; p_v_r12_sroa_10_i260_sroa_5_0_ph = v_r17_i669_sroa_12_sroa_6_01084712066_i; p_v_r12_sroa_10_i260_sroa_6_0_ph = v_r17_i669_sroa_15_sroa_0_01085112062_i; p_v_r12_sroa_10_i260_sroa_7_0_ph = v_r17_i669_sroa_18_sroa_0_01084812065_i; p_v_r12_sroa_10_i260_sroa_8_0_ph = v_r17_i669_sroa_18_sroa_6_01084912064_i; p_v_r12_sroa_10_i260_sroa_9_0_ph = v_r17_i669_sroa_18_sroa_7_01085012063_i; p_v_r12_sroa_10_i260_sroa_10_0_ph = v_r12_sroa_10_i5598_sroa_0_sroa_3_4_copyload_i; p_v_r12_sroa_10_i260_sroa_11_0_ph = v_r12_sroa_10_i5598_sroa_0_sroa_5_4_copyload_i; p_v_r12_sroa_10_i260_sroa_12_0_ph = v_r35_i559_i; p_v_r12_sroa_10_i260_sroa_13_0_ph = v_r12_sroa_10_i5598_sroa_6_sroa_5_0_copyload_i; p_v_r12_sroa_10_i260_sroa_14_0_ph = v_r12_sroa_10_i5598_sroa_6_sroa_6_0_copyload_i; p_v_r12_sroa_10_i260_sroa_15_0_ph = v_r41_i560_i; p_v_r12_sroa_10_i260_sroa_16_0_ph = v_r12_sroa_10_i5598_sroa_8_sroa_5_0_copyload_i; p_v_r12_sroa_10_i260_sroa_17_0_ph = v_r12_sroa_10_i5598_sroa_8_sroa_6_0_copyload_i; p_v_r12_sroa_10_i260_sroa_18_0_ph = v_r12_sroa_10_i5598_sroa_8_sroa_7_0_copyload_i; p_v_r12_sroa_10_i260_sroa_19_0_ph = (P)f_static_0; p_v_r12_sroa_10_i260_sroa_20_0_ph = 9u; p_v_r12_sroa_10_i260_sroa_21_0_ph = 1u; p_v_r12_sroa_10_i260_sroa_22_0_ph = 4u; p_v_r12_sroa_10_i260_sroa_23_0_ph = (P)f_static_22; p_v_r12_sroa_10_i260_sroa_24_0_ph = 0u; goto L_join_3_i281; } else { goto L_else_2_i5803_i_arm_1_i614_i_crit_edge; }
+    if (v_r12_i_i_i_not_i5806_i) { p_v_r12_sroa_10_i260_sroa_3_0_ph = v_r17_i669_sroa_12_sroa_3_01084612067_i; p_v_r12_sroa_10_i260_sroa_5_0_ph = v_r17_i669_sroa_12_sroa_6_01084712066_i; p_v_r12_sroa_10_i260_sroa_6_0_ph = v_r17_i669_sroa_15_sroa_0_01085112062_i; p_v_r12_sroa_10_i260_sroa_7_0_ph = v_r17_i669_sroa_18_sroa_0_01084812065_i; p_v_r12_sroa_10_i260_sroa_8_0_ph = v_r17_i669_sroa_18_sroa_6_01084912064_i; p_v_r12_sroa_10_i260_sroa_9_0_ph = v_r17_i669_sroa_18_sroa_7_01085012063_i; p_v_r12_sroa_10_i260_sroa_10_0_ph = v_r12_sroa_10_i5598_sroa_0_sroa_3_4_copyload_i; p_v_r12_sroa_10_i260_sroa_11_0_ph = v_r12_sroa_10_i5598_sroa_0_sroa_5_4_copyload_i; p_v_r12_sroa_10_i260_sroa_12_0_ph = v_r35_i559_i; p_v_r12_sroa_10_i260_sroa_13_0_ph = v_r12_sroa_10_i5598_sroa_6_sroa_5_0_copyload_i; p_v_r12_sroa_10_i260_sroa_14_0_ph = v_r12_sroa_10_i5598_sroa_6_sroa_6_0_copyload_i; p_v_r12_sroa_10_i260_sroa_15_0_ph = v_r41_i560_i; p_v_r12_sroa_10_i260_sroa_16_0_ph = v_r12_sroa_10_i5598_sroa_8_sroa_5_0_copyload_i; p_v_r12_sroa_10_i260_sroa_17_0_ph = v_r12_sroa_10_i5598_sroa_8_sroa_6_0_copyload_i; p_v_r12_sroa_10_i260_sroa_18_0_ph = v_r12_sroa_10_i5598_sroa_8_sroa_7_0_copyload_i; p_v_r12_sroa_10_i260_sroa_19_0_ph = AT(f_static_0); p_v_r12_sroa_10_i260_sroa_20_0_ph = 9u; p_v_r12_sroa_10_i260_sroa_21_0_ph = 1u; p_v_r12_sroa_10_i260_sroa_22_0_ph = 4u; p_v_r12_sroa_10_i260_sroa_23_0_ph = AT(f_static_22); p_v_r12_sroa_10_i260_sroa_24_0_ph = 0u; goto L_join_3_i281; } else { goto L_else_2_i5803_i_arm_1_i614_i_crit_edge; }
 L_else_2_i5803_i_arm_1_i614_i_crit_edge:;
     v_r18_i_i5809_i_pre = get_u8(v_r16_i_i_i5287_i);
     { p_v_r18_i_i5809_i = v_r18_i_i5809_i_pre; p_v_r6_i_sroa_0_1 = v_r16_i_i_i5287_i; p_v_r6_i_sroa_21_1 = v_r19_i_i_i5288_i; p_v_r12_sroa_10_i5716_sroa_12_0_ph12133_i = v_r12_sroa_10_i5598_sroa_8_sroa_7_0_copyload_i; p_v_r12_sroa_10_i5716_sroa_11_0_ph12132_i = v_r12_sroa_10_i5598_sroa_8_sroa_6_0_copyload_i; p_v_r12_sroa_10_i5716_sroa_10_0_ph12131_i = v_r12_sroa_10_i5598_sroa_8_sroa_5_0_copyload_i; p_v_r12_sroa_10_i5716_sroa_9_0_ph12130_i = v_r41_i560_i; p_v_r12_sroa_10_i5716_sroa_8_0_ph12129_i = v_r12_sroa_10_i5598_sroa_6_sroa_6_0_copyload_i; p_v_r12_sroa_10_i5716_sroa_7_0_ph12128_i = v_r12_sroa_10_i5598_sroa_6_sroa_5_0_copyload_i; p_v_r12_sroa_10_i5716_sroa_6_0_ph12127_i = v_r35_i559_i; p_v_r12_sroa_10_i5716_sroa_5_0_ph12126_i = v_r12_sroa_10_i5598_sroa_0_sroa_5_4_copyload_i; p_v_r12_sroa_10_i5716_sroa_3_0_ph12125_i = v_r12_sroa_10_i5598_sroa_0_sroa_3_4_copyload_i; goto L_arm_1_i614_i; }
@@ -17416,7 +17445,7 @@ L_join_3_i5950_i:;
     v_r39_i5954_i = v_r19_i_i_i5908_i < v_r3_i25_i5951_i;
     if (v_r39_i5954_i) { p_v_r15_sroa_7_0_ph = 1u; p_v_r15_sroa_13_0_ph = 0u; p_v_r15_sroa_19_0_ph = 0u; goto L_arm_6; } else { goto L_arm_14_i_i1093_i; }
 L_arm_14_i_i1093_i:;
-    v_r16_i_i5958_i = (P)((uintptr_t)v_r16_i_i_i5907_i + (u64)(v_r3_i25_i5951_i));
+    v_r16_i_i5958_i = (P)((u64)v_r16_i_i_i5907_i + (u64)(v_r3_i25_i5951_i));
     v_r19_i_i5959_i = (u64)((u64)(v_r19_i_i_i5908_i) - (u64)(v_r3_i25_i5951_i));
     switch (v_r106_i_i1076_i) {
     case 0u: { p_v_r15_sroa_7_0_ph = 8u; p_v_r15_sroa_13_0_ph = v_r106_i_i1076_i; p_v_r15_sroa_19_0_ph = v_r106_i_i1076_i; goto L_arm_6; }
@@ -17528,7 +17557,7 @@ L_join_3_i6221_i:;
     v_r39_i6225_i = v_r19_i_i_i6179_i < v_r3_i25_i6222_i;
     if (v_r39_i6225_i) { p_v_r15_sroa_7_0_ph = 1u; p_v_r15_sroa_13_0_ph = 0u; p_v_r15_sroa_19_0_ph = 0u; goto L_arm_6; } else { goto L_arm_14_i_i_i_i_i; }
 L_arm_14_i_i_i_i_i:;
-    v_r16_i_i6229_i = (P)((uintptr_t)v_r16_i_i_i6178_i + (u64)(v_r3_i25_i6222_i));
+    v_r16_i_i6229_i = (P)((u64)v_r16_i_i_i6178_i + (u64)(v_r3_i25_i6222_i));
     v_r19_i_i6230_i = (u64)((u64)(v_r19_i_i_i6179_i) - (u64)(v_r3_i25_i6222_i));
     switch (v_r106_i_i_i_i_i) {
     case 0u: { p_v_r15_sroa_7_0_ph = 8u; p_v_r15_sroa_13_0_ph = v_r106_i_i_i_i_i; p_v_r15_sroa_19_0_ph = v_r106_i_i_i_i_i; goto L_arm_6; }
@@ -17642,7 +17671,7 @@ L_join_3_i6492_i:;
     v_r39_i6496_i = v_r19_i_i_i6450_i < v_r3_i25_i6493_i;
     if (v_r39_i6496_i) { p_v_r15_sroa_7_0_ph = 1u; p_v_r15_sroa_13_0_ph = 0u; p_v_r15_sroa_19_0_ph = 0u; goto L_arm_6; } else { goto L_arm_14_i_i_i_i_i_i; }
 L_arm_14_i_i_i_i_i_i:;
-    v_r16_i_i6500_i = (P)((uintptr_t)v_r16_i_i_i6449_i + (u64)(v_r3_i25_i6493_i));
+    v_r16_i_i6500_i = (P)((u64)v_r16_i_i_i6449_i + (u64)(v_r3_i25_i6493_i));
     v_r19_i_i6501_i = (u64)((u64)(v_r19_i_i_i6450_i) - (u64)(v_r3_i25_i6493_i));
     switch (v_r106_i_i_i_i_i_i) {
     case 0u: { p_v_r15_sroa_7_0_ph = 8u; p_v_r15_sroa_13_0_ph = v_r106_i_i_i_i_i_i; p_v_r15_sroa_19_0_ph = v_r106_i_i_i_i_i_i; goto L_arm_6; }
@@ -17721,12 +17750,12 @@ L_join_3_i_i6623_i:;
     v_r39_i_i6627_i = v_r6_i_i_i_sroa_23_911511_i < v_r3_i25_i_i6624_i;
     if (v_r39_i_i6627_i) { p_v_r15_sroa_7_0_ph = 1u; p_v_r15_sroa_13_0_ph = 0u; p_v_r15_sroa_19_0_ph = 0u; goto L_arm_6; } else { goto L_join_3_i6666_i; }
 L_join_3_i6666_i:;
-    v_r16_i_i_i6630_i = (P)((uintptr_t)v_r6_i_i_i_sroa_0_911509_i + (u64)(v_r3_i25_i_i6624_i));
+    v_r16_i_i_i6630_i = (P)((u64)v_r6_i_i_i_sroa_0_911509_i + (u64)(v_r3_i25_i_i6624_i));
     v_r15_i_i_i_i_i_i = v_r12_sroa_10_0_i6564_i == 0u;
     if (v_r15_i_i_i_i_i_i) { goto L_spki_core_object_identifier_is_identifier_exit_i_i__2; } else { goto L_join_4_i_i_i_i_i_i; }
 L_join_4_i_i_i_i_i_i:;
     v_r22_i_i_i_i_i_i = (u64)((u64)(v_r3_i25_i_i6624_i) + (u64)(18446744073709551615ull));
-    v_r25_i_i_i_i_i_i = (P)((uintptr_t)v_r6_i_i_i_sroa_0_911509_i + (u64)(v_r22_i_i_i_i_i_i));
+    v_r25_i_i_i_i_i_i = (P)((u64)v_r6_i_i_i_sroa_0_911509_i + (u64)(v_r22_i_i_i_i_i_i));
     v_r35_i8_i_i_i_i_i = get_u8(v_r25_i_i_i_i_i_i);
     v_r37_i9_i_i_i_i_i = (u8)(v_r35_i8_i_i_i_i_i ^ ((u8)1 << 7)) > (u8)(255u ^ ((u8)1 << 7));
     if (v_r37_i9_i_i_i_i_i) { goto L_spki_core_object_identifier_ends_plainly_exit_i_i___2; } else { goto L_spki_core_object_identifier_is_identifier_exit_i_i__2; }
@@ -17780,7 +17809,7 @@ L_join_3_i6915_i:;
     v_r39_i6919_i = v_r19_i_i_i6873_i < v_r3_i25_i6916_i;
     if (v_r39_i6919_i) { p_v_r15_sroa_7_0_ph = 1u; p_v_r15_sroa_13_0_ph = 0u; p_v_r15_sroa_19_0_ph = 0u; goto L_arm_6; } else { goto L_arm_14_i_i_i570_i_i_i; }
 L_arm_14_i_i_i570_i_i_i:;
-    v_r16_i_i6923_i = (P)((uintptr_t)v_r16_i_i_i6872_i + (u64)(v_r3_i25_i6916_i));
+    v_r16_i_i6923_i = (P)((u64)v_r16_i_i_i6872_i + (u64)(v_r3_i25_i6916_i));
     v_r19_i_i6924_i = (u64)((u64)(v_r19_i_i_i6873_i) - (u64)(v_r3_i25_i6916_i));
     switch (v_r106_i_i_i553_i_i_i) {
     case 0u: { p_v_r15_sroa_7_0_ph = 8u; p_v_r15_sroa_13_0_ph = v_r106_i_i_i553_i_i_i; p_v_r15_sroa_19_0_ph = v_r106_i_i_i553_i_i_i; goto L_arm_6; }
@@ -18413,7 +18442,7 @@ L_join_3_i493:;
     v_r39_i496 = v_r19_i_i_i451 < v_r3_i25_i;
     if (v_r39_i496) { p_v_r0_i_sroa_9_0_ph_ph = 1u; p_v_r0_i_sroa_15_0_ph_ph = 0u; p_v_r0_i_sroa_21_0_ph_ph = 0u; goto L_arm_2_sink_split; } else { goto L_arm_14_i_i; }
 L_arm_14_i_i:;
-    v_r16_i_i498 = (P)((uintptr_t)v_r16_i_i_i450 + (u64)(v_r3_i25_i));
+    v_r16_i_i498 = (P)((u64)v_r16_i_i_i450 + (u64)(v_r3_i25_i));
     v_r19_i_i499 = (u64)((u64)(v_r19_i_i_i451) - (u64)(v_r3_i25_i));
     put_P(v_a1, v_r16_i_i498);
     put_u64(v_r35_i_i413, v_r19_i_i499);
@@ -18495,7 +18524,7 @@ L_join_3_i_i602:;
     v_r39_i_i605 = v_r36_i_i604 < v_r3_i25_i_i;
     if (v_r39_i_i605) { p_v_r0_i_sroa_9_0_ph_ph = 1u; p_v_r0_i_sroa_15_0_ph_ph = 0u; p_v_r0_i_sroa_21_0_ph_ph = 0u; goto L_arm_2_sink_split; } else { goto L_join_3_i639; }
 L_join_3_i639:;
-    v_r16_i_i_i608 = (P)((uintptr_t)v_r13_sroa_0_0_copyload_i_i607 + (u64)(v_r3_i25_i_i));
+    v_r16_i_i_i608 = (P)((u64)v_r13_sroa_0_0_copyload_i_i607 + (u64)(v_r3_i25_i_i));
     v_r19_i_i_i609 = (u64)((u64)(v_r36_i_i604) - (u64)(v_r3_i25_i_i));
     put_P(v_a1, v_r16_i_i_i608);
     put_u64(v_r35_i_i413, v_r19_i_i_i609);
@@ -18503,7 +18532,7 @@ L_join_3_i639:;
     if (v_r15_i_i) { goto L_spki_core_object_identifier_is_identifier_exit_i; } else { goto L_join_4_i_i; }
 L_join_4_i_i:;
     v_r22_i_i = (u64)((u64)(v_r3_i25_i_i) + (u64)(18446744073709551615ull));
-    v_r25_i_i = (P)((uintptr_t)v_r13_sroa_0_0_copyload_i_i607 + (u64)(v_r22_i_i));
+    v_r25_i_i = (P)((u64)v_r13_sroa_0_0_copyload_i_i607 + (u64)(v_r22_i_i));
     v_r35_i8_i = get_u8(v_r25_i_i);
     v_r37_i9_i = (u8)(v_r35_i8_i ^ ((u8)1 << 7)) > (u8)(255u ^ ((u8)1 << 7));
     if (v_r37_i9_i) { goto L_spki_core_object_identifier_ends_plainly_exit_i; } else { goto L_spki_core_object_identifier_is_identifier_exit_i; }
@@ -18561,7 +18590,7 @@ L_join_3_i870:;
     v_r39_i874 = v_r19_i_i_i828 < v_r3_i25_i871;
     if (v_r39_i874) { p_v_r6_i59_sroa_8_0_ph = 1u; p_v_r6_i59_sroa_13_0_ph = 0u; p_v_r6_i59_sroa_18_0_ph = 0u; goto L_arm_6; } else { goto L_arm_14_i_i_i; }
 L_arm_14_i_i_i:;
-    v_r16_i_i878 = (P)((uintptr_t)v_r16_i_i_i827 + (u64)(v_r3_i25_i871));
+    v_r16_i_i878 = (P)((u64)v_r16_i_i_i827 + (u64)(v_r3_i25_i871));
     v_r19_i_i879 = (u64)((u64)(v_r19_i_i_i828) - (u64)(v_r3_i25_i871));
     put_P(v_a1, v_r16_i_i878);
     put_u64(v_r35_i_i413, v_r19_i_i879);
@@ -18642,7 +18671,7 @@ L_join_3_i_i1001:;
     v_r39_i_i1005 = v_r36_i_i1004 < v_r12_sroa_10_0_i942;
     if (v_r39_i_i1005) { p_v_r6_i59_sroa_8_0_ph = 1u; p_v_r6_i59_sroa_13_0_ph = 0u; p_v_r6_i59_sroa_18_0_ph = 0u; goto L_arm_6; } else { goto L_join_3_i_i1044; }
 L_join_3_i_i1044:;
-    v_r16_i_i_i1008 = (P)((uintptr_t)v_r13_sroa_0_0_copyload_i_i1007 + (u64)(v_r12_sroa_10_0_i942));
+    v_r16_i_i_i1008 = (P)((u64)v_r13_sroa_0_0_copyload_i_i1007 + (u64)(v_r12_sroa_10_0_i942));
     v_r19_i_i_i1009 = (u64)((u64)(v_r36_i_i1004) - (u64)(v_r12_sroa_10_0_i942));
     put_P(v_a1, v_r16_i_i_i1008);
     put_u64(v_r35_i_i413, v_r19_i_i_i1009);
@@ -18685,7 +18714,7 @@ L_join_3_i1141:;
     v_r39_i1145 = v_r19_i_i_i1099 < v_r3_i25_i1142;
     if (v_r39_i1145) { p_v_r6_i59_sroa_8_0_ph = 1u; p_v_r6_i59_sroa_13_0_ph = 0u; p_v_r6_i59_sroa_18_0_ph = 0u; goto L_arm_6; } else { goto L_arm_14_i_i_i_i; }
 L_arm_14_i_i_i_i:;
-    v_r16_i_i1149 = (P)((uintptr_t)v_r16_i_i_i1098 + (u64)(v_r3_i25_i1142));
+    v_r16_i_i1149 = (P)((u64)v_r16_i_i_i1098 + (u64)(v_r3_i25_i1142));
     v_r19_i_i1150 = (u64)((u64)(v_r19_i_i_i1099) - (u64)(v_r3_i25_i1142));
     switch (v_r106_i_i_i_i) {
     case 0u: { p_v_r6_i59_sroa_8_0_ph = 8u; p_v_r6_i59_sroa_13_0_ph = v_r106_i_i_i_i; p_v_r6_i59_sroa_18_0_ph = v_r106_i_i_i_i; goto L_arm_6; }
@@ -18765,12 +18794,12 @@ L_join_3_i_i1272:;
     v_r39_i_i1276 = v_r6_i_i269_sroa_23_93319 < v_r3_i25_i_i1273;
     if (v_r39_i_i1276) { p_v_r6_i59_sroa_8_0_ph = 1u; p_v_r6_i59_sroa_13_0_ph = 0u; p_v_r6_i59_sroa_18_0_ph = 0u; goto L_arm_6; } else { goto L_join_3_i1315; }
 L_join_3_i1315:;
-    v_r16_i_i_i1279 = (P)((uintptr_t)v_r6_i_i269_sroa_0_93317 + (u64)(v_r3_i25_i_i1273));
+    v_r16_i_i_i1279 = (P)((u64)v_r6_i_i269_sroa_0_93317 + (u64)(v_r3_i25_i_i1273));
     v_r15_i_i_i_i = v_r12_sroa_10_0_i1213 == 0u;
     if (v_r15_i_i_i_i) { goto L_spki_core_object_identifier_is_identifier_exit_i_i; } else { goto L_join_4_i_i_i_i; }
 L_join_4_i_i_i_i:;
     v_r22_i_i_i_i = (u64)((u64)(v_r3_i25_i_i1273) + (u64)(18446744073709551615ull));
-    v_r25_i_i_i_i = (P)((uintptr_t)v_r6_i_i269_sroa_0_93317 + (u64)(v_r22_i_i_i_i));
+    v_r25_i_i_i_i = (P)((u64)v_r6_i_i269_sroa_0_93317 + (u64)(v_r22_i_i_i_i));
     v_r35_i8_i_i_i = get_u8(v_r25_i_i_i_i);
     v_r37_i9_i_i_i = (u8)(v_r35_i8_i_i_i ^ ((u8)1 << 7)) > (u8)(255u ^ ((u8)1 << 7));
     if (v_r37_i9_i_i_i) { goto L_spki_core_object_identifier_ends_plainly_exit_i_i_; } else { goto L_spki_core_object_identifier_is_identifier_exit_i_i; }
@@ -18825,7 +18854,7 @@ L_join_3_i1564:;
     v_r39_i1568 = v_r19_i_i_i1522 < v_r3_i25_i1565;
     if (v_r39_i1568) { p_v_r6_i59_sroa_8_0_ph = 1u; p_v_r6_i59_sroa_13_0_ph = 0u; p_v_r6_i59_sroa_18_0_ph = 0u; goto L_arm_6; } else { goto L_arm_14_i_i_i570_i; }
 L_arm_14_i_i_i570_i:;
-    v_r16_i_i1572 = (P)((uintptr_t)v_r16_i_i_i1521 + (u64)(v_r3_i25_i1565));
+    v_r16_i_i1572 = (P)((u64)v_r16_i_i_i1521 + (u64)(v_r3_i25_i1565));
     v_r19_i_i1573 = (u64)((u64)(v_r19_i_i_i1522) - (u64)(v_r3_i25_i1565));
     switch (v_r106_i_i_i553_i) {
     case 0u: { p_v_r6_i59_sroa_8_0_ph = 8u; p_v_r6_i59_sroa_13_0_ph = v_r106_i_i_i553_i; p_v_r6_i59_sroa_18_0_ph = v_r106_i_i_i553_i; goto L_arm_6; }
@@ -19897,10 +19926,10 @@ static void f_pkcs1_params_pss_reading_PssParamsOfAnyRefAlgorith(P v_a0, P v_a1)
     P v_r22;
     P v_r24;
     P v_r26;
-    v_r6_i2500_i_i_i = m_v_r6_i2500_i_i_i;
-    v_r30_i2512_i_i_i = m_v_r30_i2512_i_i_i;
-    v_r10_i485_i_i_i = m_v_r10_i485_i_i_i;
-    v_r6_i346_i_i_i = m_v_r6_i346_i_i_i;
+    v_r6_i2500_i_i_i = AT(m_v_r6_i2500_i_i_i);
+    v_r30_i2512_i_i_i = AT(m_v_r30_i2512_i_i_i);
+    v_r10_i485_i_i_i = AT(m_v_r10_i485_i_i_i);
+    v_r6_i346_i_i_i = AT(m_v_r6_i346_i_i_i);
     v_r1_sroa_0_0_copyload = get_u64(v_a1);
     v_r1_sroa_3_0_a1_sroa_idx = v_a1 + 8;
     v_r1_sroa_3_0_copyload = get_P(v_r1_sroa_3_0_a1_sroa_idx);
@@ -19914,11 +19943,11 @@ L_join_3_i_i:;
     if (v_r16_i_i_i) { goto L_else_2_i_i_i_i; } else { p_v_r12_sroa_4_0_i_ph = 7u; p_v_r12_sroa_6_0_i_ph = 0u; p_v_r12_sroa_8_0_i_ph = 0u; goto L_arm_2; }
 L_else_2_i_i_i_i:;
     v_r12_i_i_i_not_i_i_i_i = v_r1_sroa_4_0_copyload == 0u;
-    if (v_r12_i_i_i_not_i_i_i_i) { p_v_r0_sroa_0_sroa_22_0_ph_i_i = 0u; p_v_r0_sroa_0_sroa_32_0_ph_i_i = 0u; p_v_r0_sroa_0_sroa_12_0_ph_i_i = 0u; p_v_r0_sroa_4226_0_ph_i_i = (P)f_static_24; p_v_r0_sroa_52_0_ph_i_i = 5u; p_v_r0_sroa_53_0_ph_i_i = 1u; p_v_r0_sroa_54_0_ph_i_i = 5u; p_v_r0_sroa_55_0_ph_i_i = (P)f_static_22; p_v_r0_sroa_56_0_ph_i_i = 0u; p_v_r0_sroa_57_0_ph_i_i = (P)f_static_25; p_v_r0_sroa_58_0_ph_i_i = 9u; p_v_r0_sroa_59_0_ph_i_i = 1u; p_v_r0_sroa_60_0_ph_i_i = (P)f_static_24; p_v_r0_sroa_61_0_ph_i_i = 5u; p_v_r0_sroa_62_0_ph_i_i = 1u; p_v_r0_sroa_63_0_ph_i_i = 5u; p_v_r0_sroa_64_0_ph_i_i = (P)f_static_22; p_v_r0_sroa_65_0_ph_i_i = 0u; p_v_r0_sroa_66_0_ph_i_i = 20u; p_v_r0_sroa_67_0_ph_i_i = 0u; p_v_18 = 1u; goto L_pkcs1_params_reading_decode_borrowed_ef2588d04bc5b; } else { goto L_arm_1_i577_i_i_i; }
+    if (v_r12_i_i_i_not_i_i_i_i) { p_v_r0_sroa_0_sroa_22_0_ph_i_i = 0u; p_v_r0_sroa_0_sroa_32_0_ph_i_i = 0u; p_v_r0_sroa_0_sroa_12_0_ph_i_i = 0u; p_v_r0_sroa_4226_0_ph_i_i = AT(f_static_24); p_v_r0_sroa_52_0_ph_i_i = 5u; p_v_r0_sroa_53_0_ph_i_i = 1u; p_v_r0_sroa_54_0_ph_i_i = 5u; p_v_r0_sroa_55_0_ph_i_i = AT(f_static_22); p_v_r0_sroa_56_0_ph_i_i = 0u; p_v_r0_sroa_57_0_ph_i_i = AT(f_static_25); p_v_r0_sroa_58_0_ph_i_i = 9u; p_v_r0_sroa_59_0_ph_i_i = 1u; p_v_r0_sroa_60_0_ph_i_i = AT(f_static_24); p_v_r0_sroa_61_0_ph_i_i = 5u; p_v_r0_sroa_62_0_ph_i_i = 1u; p_v_r0_sroa_63_0_ph_i_i = 5u; p_v_r0_sroa_64_0_ph_i_i = AT(f_static_22); p_v_r0_sroa_65_0_ph_i_i = 0u; p_v_r0_sroa_66_0_ph_i_i = 20u; p_v_r0_sroa_67_0_ph_i_i = 0u; p_v_18 = 1u; goto L_pkcs1_params_reading_decode_borrowed_ef2588d04bc5b; } else { goto L_arm_1_i577_i_i_i; }
 L_arm_1_i577_i_i_i:;
     v_r18_i_i2906_i_i_i = get_u8(v_r1_sroa_3_0_copyload);
     v_r7_i_i2910_i_i_i = v_r18_i_i2906_i_i_i == 160u;
-    if (v_r7_i_i2910_i_i_i) { goto L_join_3_i_i2974_i_i_i; } else { p_v_r18_i_i4509_i_i_i = v_r18_i_i2906_i_i_i; p_v_r4_sroa_0_0_i_i = v_r1_sroa_3_0_copyload; p_v_r17_i533_sroa_12_sroa_3_0973610701_i_i_i = (P)f_static_24; p_v_r17_i533_sroa_12_sroa_6_0973710700_i_i_i = 5u; p_v_r17_i533_sroa_18_sroa_0_0973810699_i_i_i = 5u; p_v_r17_i533_sroa_18_sroa_6_0973910698_i_i_i = (P)f_static_22; p_v_r17_i533_sroa_18_sroa_7_0974010697_i_i_i = 0u; p_v_r17_i533_sroa_15_sroa_0_0974110696_i_i_i = 1u; p_v_r36_i_i455510695_i_i_i = v_r1_sroa_4_0_copyload; goto L_arm_1_i_i_i_i; }
+    if (v_r7_i_i2910_i_i_i) { goto L_join_3_i_i2974_i_i_i; } else { p_v_r18_i_i4509_i_i_i = v_r18_i_i2906_i_i_i; p_v_r4_sroa_0_0_i_i = v_r1_sroa_3_0_copyload; p_v_r17_i533_sroa_12_sroa_3_0973610701_i_i_i = AT(f_static_24); p_v_r17_i533_sroa_12_sroa_6_0973710700_i_i_i = 5u; p_v_r17_i533_sroa_18_sroa_0_0973810699_i_i_i = 5u; p_v_r17_i533_sroa_18_sroa_6_0973910698_i_i_i = AT(f_static_22); p_v_r17_i533_sroa_18_sroa_7_0974010697_i_i_i = 0u; p_v_r17_i533_sroa_15_sroa_0_0974110696_i_i_i = 1u; p_v_r36_i_i455510695_i_i_i = v_r1_sroa_4_0_copyload; goto L_arm_1_i_i_i_i; }
 L_join_3_i_i2974_i_i_i:;
     v_r39_i_i2977_i_i_i = v_r1_sroa_4_0_copyload == 1u;
     if (v_r39_i_i2977_i_i_i) { p_v_r12_sroa_4_0_i_ph = 1u; p_v_r12_sroa_6_0_i_ph = 0u; p_v_r12_sroa_8_0_i_ph = 0u; goto L_arm_2; } else { goto L_arm_1_i51_i_i_i_i; }
@@ -19944,7 +19973,7 @@ L_join_3_i3023_i_i_i:;
     v_r39_i3026_i_i_i = v_r19_i_i_i2981_i_i_i < v_r3_i25_i_i_i_i;
     if (v_r39_i3026_i_i_i) { p_v_r12_sroa_4_0_i_ph = 1u; p_v_r12_sroa_6_0_i_ph = 0u; p_v_r12_sroa_8_0_i_ph = 0u; goto L_arm_2; } else { goto L_arm_14_i_i903_i_i_i; }
 L_arm_14_i_i903_i_i_i:;
-    v_r16_i_i3029_i_i_i = (P)((uintptr_t)v_r16_i_i_i2980_i_i_i + (u64)(v_r3_i25_i_i_i_i));
+    v_r16_i_i3029_i_i_i = (P)((u64)v_r16_i_i_i2980_i_i_i + (u64)(v_r3_i25_i_i_i_i));
     v_r19_i_i3030_i_i_i = (u64)((u64)(v_r19_i_i_i2981_i_i_i) - (u64)(v_r3_i25_i_i_i_i));
     switch (v_r106_i_i886_i_i_i) {
     case 0u: { p_v_r12_sroa_4_0_i_ph = 8u; p_v_r12_sroa_6_0_i_ph = v_r106_i_i886_i_i_i; p_v_r12_sroa_8_0_i_ph = v_r106_i_i886_i_i_i; goto L_arm_2; }
@@ -20020,7 +20049,7 @@ L_join_3_i_i3143_i_i_i:;
     v_r39_i_i3146_i_i_i = v_r36_i_i3145_i_i_i < v_r12_sroa_10_0_i_i_i_i;
     if (v_r39_i_i3146_i_i_i) { p_v_r12_sroa_4_0_i_ph = 1u; p_v_r12_sroa_6_0_i_ph = 0u; p_v_r12_sroa_8_0_i_ph = 0u; goto L_arm_2; } else { goto L_join_3_i_i3180_i_i_i; }
 L_join_3_i_i3180_i_i_i:;
-    v_r16_i_i_i3149_i_i_i = (P)((uintptr_t)v_r13_sroa_0_0_copyload_i_i3148_i_i_i + (u64)(v_r12_sroa_10_0_i_i_i_i));
+    v_r16_i_i_i3149_i_i_i = (P)((u64)v_r13_sroa_0_0_copyload_i_i3148_i_i_i + (u64)(v_r12_sroa_10_0_i_i_i_i));
     v_r19_i_i_i3150_i_i_i = (u64)((u64)(v_r36_i_i3145_i_i_i) - (u64)(v_r12_sroa_10_0_i_i_i_i));
     v_r39_i_i3183_i_i_i = v_r12_sroa_10_0_i_i_i_i == 0u;
     if (v_r39_i_i3183_i_i_i) { p_v_r12_sroa_4_0_i_ph = 1u; p_v_r12_sroa_6_0_i_ph = 0u; p_v_r12_sroa_8_0_i_ph = 0u; goto L_arm_2; } else { goto L_arm_1_i_i_i_i_i_i; }
@@ -20060,7 +20089,7 @@ L_join_3_i3277_i_i_i:;
     v_r39_i3281_i_i_i = v_r19_i_i_i3235_i_i_i < v_r3_i25_i3278_i_i_i;
     if (v_r39_i3281_i_i_i) { p_v_r12_sroa_4_0_i_ph = 1u; p_v_r12_sroa_6_0_i_ph = 0u; p_v_r12_sroa_8_0_i_ph = 0u; goto L_arm_2; } else { goto L_arm_14_i_i_i_i_i_i; }
 L_arm_14_i_i_i_i_i_i:;
-    v_r16_i_i3285_i_i_i = (P)((uintptr_t)v_r16_i_i_i3234_i_i_i + (u64)(v_r3_i25_i3278_i_i_i));
+    v_r16_i_i3285_i_i_i = (P)((u64)v_r16_i_i_i3234_i_i_i + (u64)(v_r3_i25_i3278_i_i_i));
     v_r19_i_i3286_i_i_i = (u64)((u64)(v_r19_i_i_i3235_i_i_i) - (u64)(v_r3_i25_i3278_i_i_i));
     switch (v_r106_i_i263_i_i_i_i) {
     case 0u: { p_v_r12_sroa_4_0_i_ph = 8u; p_v_r12_sroa_6_0_i_ph = v_r106_i_i263_i_i_i_i; p_v_r12_sroa_8_0_i_ph = v_r106_i_i263_i_i_i_i; goto L_arm_2; }
@@ -20174,7 +20203,7 @@ L_join_3_i3548_i_i_i:;
     v_r39_i3552_i_i_i = v_r19_i_i_i3506_i_i_i < v_r3_i25_i3549_i_i_i;
     if (v_r39_i3552_i_i_i) { p_v_r12_sroa_4_0_i_ph = 1u; p_v_r12_sroa_6_0_i_ph = 0u; p_v_r12_sroa_8_0_i_ph = 0u; goto L_arm_2; } else { goto L_arm_14_i_i_i_i_i_i_i; }
 L_arm_14_i_i_i_i_i_i_i:;
-    v_r16_i_i3556_i_i_i = (P)((uintptr_t)v_r16_i_i_i3505_i_i_i + (u64)(v_r3_i25_i3549_i_i_i));
+    v_r16_i_i3556_i_i_i = (P)((u64)v_r16_i_i_i3505_i_i_i + (u64)(v_r3_i25_i3549_i_i_i));
     v_r19_i_i3557_i_i_i = (u64)((u64)(v_r19_i_i_i3506_i_i_i) - (u64)(v_r3_i25_i3549_i_i_i));
     switch (v_r106_i_i_i562_i_i_i_i) {
     case 0u: { p_v_r12_sroa_4_0_i_ph = 8u; p_v_r12_sroa_6_0_i_ph = v_r106_i_i_i562_i_i_i_i; p_v_r12_sroa_8_0_i_ph = v_r106_i_i_i562_i_i_i_i; goto L_arm_2; }
@@ -20253,12 +20282,12 @@ L_join_3_i_i3679_i_i_i:;
     v_r39_i_i3683_i_i_i = v_r6_i161_i_sroa_23_99261_i_i_i < v_r3_i25_i_i3680_i_i_i;
     if (v_r39_i_i3683_i_i_i) { p_v_r12_sroa_4_0_i_ph = 1u; p_v_r12_sroa_6_0_i_ph = 0u; p_v_r12_sroa_8_0_i_ph = 0u; goto L_arm_2; } else { goto L_join_3_i3722_i_i_i; }
 L_join_3_i3722_i_i_i:;
-    v_r16_i_i_i3686_i_i_i = (P)((uintptr_t)v_r6_i161_i_sroa_0_99259_i_i_i + (u64)(v_r3_i25_i_i3680_i_i_i));
+    v_r16_i_i_i3686_i_i_i = (P)((u64)v_r6_i161_i_sroa_0_99259_i_i_i + (u64)(v_r3_i25_i_i3680_i_i_i));
     v_r15_i_i_i_i_i_i_i = v_r12_sroa_10_0_i3620_i_i_i == 0u;
     if (v_r15_i_i_i_i_i_i_i) { goto L_spki_core_object_identifier_is_identifier_exit_i_i; } else { goto L_join_4_i_i_i_i_i_i_i; }
 L_join_4_i_i_i_i_i_i_i:;
     v_r22_i_i_i_i_i_i_i = (u64)((u64)(v_r3_i25_i_i3680_i_i_i) + (u64)(18446744073709551615ull));
-    v_r25_i_i_i_i_i_i_i = (P)((uintptr_t)v_r6_i161_i_sroa_0_99259_i_i_i + (u64)(v_r22_i_i_i_i_i_i_i));
+    v_r25_i_i_i_i_i_i_i = (P)((u64)v_r6_i161_i_sroa_0_99259_i_i_i + (u64)(v_r22_i_i_i_i_i_i_i));
     v_r35_i8_i_i_i_i_i_i = get_u8(v_r25_i_i_i_i_i_i_i);
     v_r37_i9_i_i_i_i_i_i = (u8)(v_r35_i8_i_i_i_i_i_i ^ ((u8)1 << 7)) > (u8)(255u ^ ((u8)1 << 7));
     if (v_r37_i9_i_i_i_i_i_i) { goto L_spki_core_object_identifier_ends_plainly_exit_i_i_; } else { goto L_spki_core_object_identifier_is_identifier_exit_i_i; }
@@ -20312,7 +20341,7 @@ L_join_3_i3968_i_i_i:;
     v_r39_i3972_i_i_i = v_r19_i_i_i3926_i_i_i < v_r3_i25_i3969_i_i_i;
     if (v_r39_i3972_i_i_i) { p_v_r12_sroa_4_0_i_ph = 1u; p_v_r12_sroa_6_0_i_ph = 0u; p_v_r12_sroa_8_0_i_ph = 0u; goto L_arm_2; } else { goto L_arm_14_i_i964_i_i_i_i; }
 L_arm_14_i_i964_i_i_i_i:;
-    v_r16_i_i3976_i_i_i = (P)((uintptr_t)v_r16_i_i_i3925_i_i_i + (u64)(v_r3_i25_i3969_i_i_i));
+    v_r16_i_i3976_i_i_i = (P)((u64)v_r16_i_i_i3925_i_i_i + (u64)(v_r3_i25_i3969_i_i_i));
     v_r19_i_i3977_i_i_i = (u64)((u64)(v_r19_i_i_i3926_i_i_i) - (u64)(v_r3_i25_i3969_i_i_i));
     switch (v_r106_i_i947_i_i_i_i) {
     case 0u: { p_v_r12_sroa_4_0_i_ph = 8u; p_v_r12_sroa_6_0_i_ph = v_r106_i_i947_i_i_i_i; p_v_r12_sroa_8_0_i_ph = v_r106_i_i947_i_i_i_i; goto L_arm_2; }
@@ -20400,7 +20429,7 @@ L_join_3_i4352_i_i_i:;
     if (v_r7_i_i4355_i_i_i) { goto L_else_2_i4503_i_i_i; } else { p_v_r12_sroa_4_0_i_ph = 12u; p_v_r12_sroa_6_0_i_ph = 0u; p_v_r12_sroa_8_0_i_ph = 0u; goto L_arm_2; }
 L_else_2_i4503_i_i_i:;
     v_r12_i_i_i_not_i4506_i_i_i = v_r19_i_i_i3150_i_i_i == 0u;
-    if (v_r12_i_i_i_not_i4506_i_i_i) { p_v_r0_sroa_0_sroa_22_0_ph_i_i = 0u; p_v_r0_sroa_0_sroa_32_0_ph_i_i = 0u; p_v_r0_sroa_0_sroa_12_0_ph_i_i = 0u; p_v_r0_sroa_4226_0_ph_i_i = v_r6_i161_i_sroa_0_99259_i_i_i; p_v_r0_sroa_52_0_ph_i_i = v_r3_i25_i_i3680_i_i_i; p_v_r0_sroa_53_0_ph_i_i = v_r6_i592_i_sroa_237995_sroa_0_0_i_i_i; p_v_r0_sroa_54_0_ph_i_i = v_r6_i592_i_sroa_28_sroa_0_0_i_i_i; p_v_r0_sroa_55_0_ph_i_i = v_r6_i592_i_sroa_28_sroa_8_0_i_i_i; p_v_r0_sroa_56_0_ph_i_i = v_r6_i592_i_sroa_28_sroa_12_0_i_i_i; p_v_r0_sroa_57_0_ph_i_i = (P)f_static_25; p_v_r0_sroa_58_0_ph_i_i = 9u; p_v_r0_sroa_59_0_ph_i_i = 1u; p_v_r0_sroa_60_0_ph_i_i = (P)f_static_24; p_v_r0_sroa_61_0_ph_i_i = 5u; p_v_r0_sroa_62_0_ph_i_i = 1u; p_v_r0_sroa_63_0_ph_i_i = 5u; p_v_r0_sroa_64_0_ph_i_i = (P)f_static_22; p_v_r0_sroa_65_0_ph_i_i = 0u; p_v_r0_sroa_66_0_ph_i_i = 20u; p_v_r0_sroa_67_0_ph_i_i = 0u; p_v_18 = 1u; goto L_pkcs1_params_reading_decode_borrowed_ef2588d04bc5b; } else { goto L_else_2_i4503_i_arm_1_i_i_crit_edge_i_i; }
+    if (v_r12_i_i_i_not_i4506_i_i_i) { p_v_r0_sroa_0_sroa_22_0_ph_i_i = 0u; p_v_r0_sroa_0_sroa_32_0_ph_i_i = 0u; p_v_r0_sroa_0_sroa_12_0_ph_i_i = 0u; p_v_r0_sroa_4226_0_ph_i_i = v_r6_i161_i_sroa_0_99259_i_i_i; p_v_r0_sroa_52_0_ph_i_i = v_r3_i25_i_i3680_i_i_i; p_v_r0_sroa_53_0_ph_i_i = v_r6_i592_i_sroa_237995_sroa_0_0_i_i_i; p_v_r0_sroa_54_0_ph_i_i = v_r6_i592_i_sroa_28_sroa_0_0_i_i_i; p_v_r0_sroa_55_0_ph_i_i = v_r6_i592_i_sroa_28_sroa_8_0_i_i_i; p_v_r0_sroa_56_0_ph_i_i = v_r6_i592_i_sroa_28_sroa_12_0_i_i_i; p_v_r0_sroa_57_0_ph_i_i = AT(f_static_25); p_v_r0_sroa_58_0_ph_i_i = 9u; p_v_r0_sroa_59_0_ph_i_i = 1u; p_v_r0_sroa_60_0_ph_i_i = AT(f_static_24); p_v_r0_sroa_61_0_ph_i_i = 5u; p_v_r0_sroa_62_0_ph_i_i = 1u; p_v_r0_sroa_63_0_ph_i_i = 5u; p_v_r0_sroa_64_0_ph_i_i = AT(f_static_22); p_v_r0_sroa_65_0_ph_i_i = 0u; p_v_r0_sroa_66_0_ph_i_i = 20u; p_v_r0_sroa_67_0_ph_i_i = 0u; p_v_18 = 1u; goto L_pkcs1_params_reading_decode_borrowed_ef2588d04bc5b; } else { goto L_else_2_i4503_i_arm_1_i_i_crit_edge_i_i; }
 L_else_2_i4503_i_arm_1_i_i_crit_edge_i_i:;
     v_r18_i_i4509_i_pre_i_i = get_u8(v_r16_i_i_i3149_i_i_i);
     { p_v_r18_i_i4509_i_i_i = v_r18_i_i4509_i_pre_i_i; p_v_r4_sroa_0_0_i_i = v_r16_i_i_i3149_i_i_i; p_v_r17_i533_sroa_12_sroa_3_0973610701_i_i_i = v_r6_i161_i_sroa_0_99259_i_i_i; p_v_r17_i533_sroa_12_sroa_6_0973710700_i_i_i = v_r3_i25_i_i3680_i_i_i; p_v_r17_i533_sroa_18_sroa_0_0973810699_i_i_i = v_r6_i592_i_sroa_28_sroa_0_0_i_i_i; p_v_r17_i533_sroa_18_sroa_6_0973910698_i_i_i = v_r6_i592_i_sroa_28_sroa_8_0_i_i_i; p_v_r17_i533_sroa_18_sroa_7_0974010697_i_i_i = v_r6_i592_i_sroa_28_sroa_12_0_i_i_i; p_v_r17_i533_sroa_15_sroa_0_0974110696_i_i_i = v_r6_i592_i_sroa_237995_sroa_0_0_i_i_i; p_v_r36_i_i455510695_i_i_i = v_r19_i_i_i3150_i_i_i; goto L_arm_1_i_i_i_i; }
@@ -20415,7 +20444,7 @@ L_arm_1_i_i_i_i:;
     v_r17_i533_sroa_15_sroa_0_0974110696_i_i_i = p_v_r17_i533_sroa_15_sroa_0_0974110696_i_i_i;
     v_r36_i_i455510695_i_i_i = p_v_r36_i_i455510695_i_i_i;
     v_r7_i_i4519_i_i_i = v_r18_i_i4509_i_i_i == 161u;
-    if (v_r7_i_i4519_i_i_i) { goto L_join_3_i_i4600_i_i_i; } else { p_v_r18_i_i5307_i_i_i = v_r18_i_i4509_i_i_i; p_v_r4_sroa_0_1_i_i = v_r4_sroa_0_0_i_i; p_v_r12_sroa_10_i5216_sroa_3_0_ph10767_i_i_i = (P)f_static_25; p_v_r12_sroa_10_i5216_sroa_5_0_ph10766_i_i_i = 9u; p_v_r12_sroa_10_i5216_sroa_6_0_ph10765_i_i_i = 1u; p_v_r12_sroa_10_i5216_sroa_7_0_ph10764_i_i_i = (P)f_static_24; p_v_r12_sroa_10_i5216_sroa_8_0_ph10763_i_i_i = 5u; p_v_r12_sroa_10_i5216_sroa_9_0_ph10762_i_i_i = 1u; p_v_r12_sroa_10_i5216_sroa_10_0_ph10761_i_i_i = 5u; p_v_r12_sroa_10_i5216_sroa_11_0_ph10760_i_i_i = (P)f_static_22; p_v_r12_sroa_10_i5216_sroa_12_0_ph10759_i_i_i = 0u; p_v_r36_i_i535210758_i_i_i = v_r36_i_i455510695_i_i_i; goto L_arm_1_i1054_i_i_i; }
+    if (v_r7_i_i4519_i_i_i) { goto L_join_3_i_i4600_i_i_i; } else { p_v_r18_i_i5307_i_i_i = v_r18_i_i4509_i_i_i; p_v_r4_sroa_0_1_i_i = v_r4_sroa_0_0_i_i; p_v_r12_sroa_10_i5216_sroa_3_0_ph10767_i_i_i = AT(f_static_25); p_v_r12_sroa_10_i5216_sroa_5_0_ph10766_i_i_i = 9u; p_v_r12_sroa_10_i5216_sroa_6_0_ph10765_i_i_i = 1u; p_v_r12_sroa_10_i5216_sroa_7_0_ph10764_i_i_i = AT(f_static_24); p_v_r12_sroa_10_i5216_sroa_8_0_ph10763_i_i_i = 5u; p_v_r12_sroa_10_i5216_sroa_9_0_ph10762_i_i_i = 1u; p_v_r12_sroa_10_i5216_sroa_10_0_ph10761_i_i_i = 5u; p_v_r12_sroa_10_i5216_sroa_11_0_ph10760_i_i_i = AT(f_static_22); p_v_r12_sroa_10_i5216_sroa_12_0_ph10759_i_i_i = 0u; p_v_r36_i_i535210758_i_i_i = v_r36_i_i455510695_i_i_i; goto L_arm_1_i1054_i_i_i; }
 L_join_3_i_i4600_i_i_i:;
     v_r39_i_i4603_i_i_i = v_r36_i_i455510695_i_i_i == 1u;
     if (v_r39_i_i4603_i_i_i) { p_v_r0_sroa_0_sroa_22_0_ph_i_i = 0u; p_v_r0_sroa_0_sroa_32_0_ph_i_i = 0u; p_v_r0_sroa_0_sroa_12_0_ph_i_i = 1u; p_v_r0_sroa_4226_0_ph_i_i = (P)0; p_v_r0_sroa_52_0_ph_i_i = 0u; p_v_r0_sroa_53_0_ph_i_i = 0u; p_v_r0_sroa_54_0_ph_i_i = 0u; p_v_r0_sroa_55_0_ph_i_i = (P)0; p_v_r0_sroa_56_0_ph_i_i = 0u; p_v_r0_sroa_57_0_ph_i_i = (P)0; p_v_r0_sroa_58_0_ph_i_i = 0u; p_v_r0_sroa_59_0_ph_i_i = 0u; p_v_r0_sroa_60_0_ph_i_i = (P)0; p_v_r0_sroa_61_0_ph_i_i = 0u; p_v_r0_sroa_62_0_ph_i_i = 0u; p_v_r0_sroa_63_0_ph_i_i = 0u; p_v_r0_sroa_64_0_ph_i_i = (P)0; p_v_r0_sroa_65_0_ph_i_i = 0u; p_v_r0_sroa_66_0_ph_i_i = 0u; p_v_r0_sroa_67_0_ph_i_i = 0u; p_v_18 = 0u; goto L_pkcs1_params_reading_decode_borrowed_ef2588d04bc5b; } else { goto L_arm_1_i227_i_i_i; }
@@ -20441,7 +20470,7 @@ L_join_3_i4649_i_i_i:;
     v_r39_i4653_i_i_i = v_r19_i_i_i4607_i_i_i < v_r3_i25_i4650_i_i_i;
     if (v_r39_i4653_i_i_i) { p_v_r0_sroa_0_sroa_22_0_ph_i_i = 0u; p_v_r0_sroa_0_sroa_32_0_ph_i_i = 0u; p_v_r0_sroa_0_sroa_12_0_ph_i_i = 1u; p_v_r0_sroa_4226_0_ph_i_i = (P)0; p_v_r0_sroa_52_0_ph_i_i = 0u; p_v_r0_sroa_53_0_ph_i_i = 0u; p_v_r0_sroa_54_0_ph_i_i = 0u; p_v_r0_sroa_55_0_ph_i_i = (P)0; p_v_r0_sroa_56_0_ph_i_i = 0u; p_v_r0_sroa_57_0_ph_i_i = (P)0; p_v_r0_sroa_58_0_ph_i_i = 0u; p_v_r0_sroa_59_0_ph_i_i = 0u; p_v_r0_sroa_60_0_ph_i_i = (P)0; p_v_r0_sroa_61_0_ph_i_i = 0u; p_v_r0_sroa_62_0_ph_i_i = 0u; p_v_r0_sroa_63_0_ph_i_i = 0u; p_v_r0_sroa_64_0_ph_i_i = (P)0; p_v_r0_sroa_65_0_ph_i_i = 0u; p_v_r0_sroa_66_0_ph_i_i = 0u; p_v_r0_sroa_67_0_ph_i_i = 0u; p_v_18 = 0u; goto L_pkcs1_params_reading_decode_borrowed_ef2588d04bc5b; } else { goto L_arm_14_i_i_i_i; }
 L_arm_14_i_i_i_i:;
-    v_r16_i_i4657_i_i_i = (P)((uintptr_t)v_r16_i_i_i4606_i_i_i + (u64)(v_r3_i25_i4650_i_i_i));
+    v_r16_i_i4657_i_i_i = (P)((u64)v_r16_i_i_i4606_i_i_i + (u64)(v_r3_i25_i4650_i_i_i));
     v_r19_i_i4658_i_i_i = (u64)((u64)(v_r19_i_i_i4607_i_i_i) - (u64)(v_r3_i25_i4650_i_i_i));
     switch (v_r106_i_i_i_i) {
     case 0u: { p_v_r0_sroa_0_sroa_22_0_ph_i_i = v_r106_i_i_i_i; p_v_r0_sroa_0_sroa_32_0_ph_i_i = v_r106_i_i_i_i; p_v_r0_sroa_0_sroa_12_0_ph_i_i = 8u; p_v_r0_sroa_4226_0_ph_i_i = (P)0; p_v_r0_sroa_52_0_ph_i_i = 0u; p_v_r0_sroa_53_0_ph_i_i = 0u; p_v_r0_sroa_54_0_ph_i_i = 0u; p_v_r0_sroa_55_0_ph_i_i = (P)0; p_v_r0_sroa_56_0_ph_i_i = 0u; p_v_r0_sroa_57_0_ph_i_i = (P)0; p_v_r0_sroa_58_0_ph_i_i = 0u; p_v_r0_sroa_59_0_ph_i_i = 0u; p_v_r0_sroa_60_0_ph_i_i = (P)0; p_v_r0_sroa_61_0_ph_i_i = 0u; p_v_r0_sroa_62_0_ph_i_i = 0u; p_v_r0_sroa_63_0_ph_i_i = 0u; p_v_r0_sroa_64_0_ph_i_i = (P)0; p_v_r0_sroa_65_0_ph_i_i = 0u; p_v_r0_sroa_66_0_ph_i_i = v_r106_i_i_i_i; p_v_r0_sroa_67_0_ph_i_i = v_r106_i_i_i_i; p_v_18 = 0u; goto L_pkcs1_params_reading_decode_borrowed_ef2588d04bc5b; }
@@ -20517,7 +20546,7 @@ L_join_3_i_i4780_i_i_i:;
     v_r39_i_i4784_i_i_i = v_r36_i_i4783_i_i_i < v_r12_sroa_10_0_i4721_i_i_i;
     if (v_r39_i_i4784_i_i_i) { p_v_r0_sroa_0_sroa_22_0_ph_i_i = 0u; p_v_r0_sroa_0_sroa_32_0_ph_i_i = 0u; p_v_r0_sroa_0_sroa_12_0_ph_i_i = 1u; p_v_r0_sroa_4226_0_ph_i_i = (P)0; p_v_r0_sroa_52_0_ph_i_i = 0u; p_v_r0_sroa_53_0_ph_i_i = 0u; p_v_r0_sroa_54_0_ph_i_i = 0u; p_v_r0_sroa_55_0_ph_i_i = (P)0; p_v_r0_sroa_56_0_ph_i_i = 0u; p_v_r0_sroa_57_0_ph_i_i = (P)0; p_v_r0_sroa_58_0_ph_i_i = 0u; p_v_r0_sroa_59_0_ph_i_i = 0u; p_v_r0_sroa_60_0_ph_i_i = (P)0; p_v_r0_sroa_61_0_ph_i_i = 0u; p_v_r0_sroa_62_0_ph_i_i = 0u; p_v_r0_sroa_63_0_ph_i_i = 0u; p_v_r0_sroa_64_0_ph_i_i = (P)0; p_v_r0_sroa_65_0_ph_i_i = 0u; p_v_r0_sroa_66_0_ph_i_i = 0u; p_v_r0_sroa_67_0_ph_i_i = 0u; p_v_18 = 0u; goto L_pkcs1_params_reading_decode_borrowed_ef2588d04bc5b; } else { goto L_join_3_i_i4823_i_i_i; }
 L_join_3_i_i4823_i_i_i:;
-    v_r16_i_i_i4787_i_i_i = (P)((uintptr_t)v_r13_sroa_0_0_copyload_i_i4786_i_i_i + (u64)(v_r12_sroa_10_0_i4721_i_i_i));
+    v_r16_i_i_i4787_i_i_i = (P)((u64)v_r13_sroa_0_0_copyload_i_i4786_i_i_i + (u64)(v_r12_sroa_10_0_i4721_i_i_i));
     v_r19_i_i_i4788_i_i_i = (u64)((u64)(v_r36_i_i4783_i_i_i) - (u64)(v_r12_sroa_10_0_i4721_i_i_i));
     v_r39_i_i4826_i_i_i = v_r12_sroa_10_0_i4721_i_i_i == 0u;
     if (v_r39_i_i4826_i_i_i) { p_v_r0_i327_sroa_9_0_ph_i_i_i = 1u; p_v_r0_i327_sroa_15_0_ph_i_i_i = 0u; p_v_r0_i327_sroa_21_0_ph_i_i_i = 0u; goto L_arm_2_i287_i_i_i; } else { goto L_arm_1_i_i_i_i_i; }
@@ -20557,7 +20586,7 @@ L_join_3_i4920_i_i_i:;
     v_r39_i4924_i_i_i = v_r19_i_i_i4878_i_i_i < v_r3_i25_i4921_i_i_i;
     if (v_r39_i4924_i_i_i) { p_v_r0_i327_sroa_9_0_ph_i_i_i = 1u; p_v_r0_i327_sroa_15_0_ph_i_i_i = 0u; p_v_r0_i327_sroa_21_0_ph_i_i_i = 0u; goto L_arm_2_i287_i_i_i; } else { goto L_arm_14_i_i_i_i_i; }
 L_arm_14_i_i_i_i_i:;
-    v_r16_i_i4928_i_i_i = (P)((uintptr_t)v_r16_i_i_i4877_i_i_i + (u64)(v_r3_i25_i4921_i_i_i));
+    v_r16_i_i4928_i_i_i = (P)((u64)v_r16_i_i_i4877_i_i_i + (u64)(v_r3_i25_i4921_i_i_i));
     v_r19_i_i4929_i_i_i = (u64)((u64)(v_r19_i_i_i4878_i_i_i) - (u64)(v_r3_i25_i4921_i_i_i));
     switch (v_r106_i_i453_i_i_i) {
     case 0u: { p_v_r0_i327_sroa_9_0_ph_i_i_i = 8u; p_v_r0_i327_sroa_15_0_ph_i_i_i = v_r106_i_i453_i_i_i; p_v_r0_i327_sroa_21_0_ph_i_i_i = v_r106_i_i453_i_i_i; goto L_arm_2_i287_i_i_i; }
@@ -20727,7 +20756,7 @@ L_join_3_i5447_i_i_i:;
     v_r39_i5451_i_i_i = v_r19_i_i_i5405_i_i_i < v_r3_i25_i5448_i_i_i;
     if (v_r39_i5451_i_i_i) { p_v_r0_sroa_0_sroa_22_0_ph_i_i = 0u; p_v_r0_sroa_0_sroa_32_0_ph_i_i = 0u; p_v_r0_sroa_0_sroa_12_0_ph_i_i = 1u; p_v_r0_sroa_4226_0_ph_i_i = (P)0; p_v_r0_sroa_52_0_ph_i_i = 0u; p_v_r0_sroa_53_0_ph_i_i = 0u; p_v_r0_sroa_54_0_ph_i_i = 0u; p_v_r0_sroa_55_0_ph_i_i = (P)0; p_v_r0_sroa_56_0_ph_i_i = 0u; p_v_r0_sroa_57_0_ph_i_i = (P)0; p_v_r0_sroa_58_0_ph_i_i = 0u; p_v_r0_sroa_59_0_ph_i_i = 0u; p_v_r0_sroa_60_0_ph_i_i = (P)0; p_v_r0_sroa_61_0_ph_i_i = 0u; p_v_r0_sroa_62_0_ph_i_i = 0u; p_v_r0_sroa_63_0_ph_i_i = 0u; p_v_r0_sroa_64_0_ph_i_i = (P)0; p_v_r0_sroa_65_0_ph_i_i = 0u; p_v_r0_sroa_66_0_ph_i_i = 0u; p_v_r0_sroa_67_0_ph_i_i = 0u; p_v_18 = 0u; goto L_pkcs1_params_reading_decode_borrowed_ef2588d04bc5b; } else { goto L_arm_14_i_i1357_i_i_i; }
 L_arm_14_i_i1357_i_i_i:;
-    v_r16_i_i5455_i_i_i = (P)((uintptr_t)v_r16_i_i_i5404_i_i_i + (u64)(v_r3_i25_i5448_i_i_i));
+    v_r16_i_i5455_i_i_i = (P)((u64)v_r16_i_i_i5404_i_i_i + (u64)(v_r3_i25_i5448_i_i_i));
     v_r19_i_i5456_i_i_i = (u64)((u64)(v_r19_i_i_i5405_i_i_i) - (u64)(v_r3_i25_i5448_i_i_i));
     switch (v_r106_i_i1340_i_i_i) {
     case 0u: { p_v_r0_sroa_0_sroa_22_0_ph_i_i = v_r106_i_i1340_i_i_i; p_v_r0_sroa_0_sroa_32_0_ph_i_i = v_r106_i_i1340_i_i_i; p_v_r0_sroa_0_sroa_12_0_ph_i_i = 8u; p_v_r0_sroa_4226_0_ph_i_i = (P)0; p_v_r0_sroa_52_0_ph_i_i = 0u; p_v_r0_sroa_53_0_ph_i_i = 0u; p_v_r0_sroa_54_0_ph_i_i = 0u; p_v_r0_sroa_55_0_ph_i_i = (P)0; p_v_r0_sroa_56_0_ph_i_i = 0u; p_v_r0_sroa_57_0_ph_i_i = (P)0; p_v_r0_sroa_58_0_ph_i_i = 0u; p_v_r0_sroa_59_0_ph_i_i = 0u; p_v_r0_sroa_60_0_ph_i_i = (P)0; p_v_r0_sroa_61_0_ph_i_i = 0u; p_v_r0_sroa_62_0_ph_i_i = 0u; p_v_r0_sroa_63_0_ph_i_i = 0u; p_v_r0_sroa_64_0_ph_i_i = (P)0; p_v_r0_sroa_65_0_ph_i_i = 0u; p_v_r0_sroa_66_0_ph_i_i = v_r106_i_i1340_i_i_i; p_v_r0_sroa_67_0_ph_i_i = v_r106_i_i1340_i_i_i; p_v_18 = 0u; goto L_pkcs1_params_reading_decode_borrowed_ef2588d04bc5b; }
@@ -20803,7 +20832,7 @@ L_join_3_i_i5577_i_i_i:;
     v_r39_i_i5581_i_i_i = v_r36_i_i5580_i_i_i < v_r12_sroa_10_0_i5519_i_i_i;
     if (v_r39_i_i5581_i_i_i) { p_v_r0_sroa_0_sroa_22_0_ph_i_i = 0u; p_v_r0_sroa_0_sroa_32_0_ph_i_i = 0u; p_v_r0_sroa_0_sroa_12_0_ph_i_i = 1u; p_v_r0_sroa_4226_0_ph_i_i = (P)0; p_v_r0_sroa_52_0_ph_i_i = 0u; p_v_r0_sroa_53_0_ph_i_i = 0u; p_v_r0_sroa_54_0_ph_i_i = 0u; p_v_r0_sroa_55_0_ph_i_i = (P)0; p_v_r0_sroa_56_0_ph_i_i = 0u; p_v_r0_sroa_57_0_ph_i_i = (P)0; p_v_r0_sroa_58_0_ph_i_i = 0u; p_v_r0_sroa_59_0_ph_i_i = 0u; p_v_r0_sroa_60_0_ph_i_i = (P)0; p_v_r0_sroa_61_0_ph_i_i = 0u; p_v_r0_sroa_62_0_ph_i_i = 0u; p_v_r0_sroa_63_0_ph_i_i = 0u; p_v_r0_sroa_64_0_ph_i_i = (P)0; p_v_r0_sroa_65_0_ph_i_i = 0u; p_v_r0_sroa_66_0_ph_i_i = 0u; p_v_r0_sroa_67_0_ph_i_i = 0u; p_v_18 = 0u; goto L_pkcs1_params_reading_decode_borrowed_ef2588d04bc5b; } else { goto L_join_3_i_i5620_i_i_i; }
 L_join_3_i_i5620_i_i_i:;
-    v_r16_i_i_i5584_i_i_i = (P)((uintptr_t)v_r13_sroa_0_0_copyload_i_i5583_i_i_i + (u64)(v_r12_sroa_10_0_i5519_i_i_i));
+    v_r16_i_i_i5584_i_i_i = (P)((u64)v_r13_sroa_0_0_copyload_i_i5583_i_i_i + (u64)(v_r12_sroa_10_0_i5519_i_i_i));
     v_r19_i_i_i5585_i_i_i = (u64)((u64)(v_r36_i_i5580_i_i_i) - (u64)(v_r12_sroa_10_0_i5519_i_i_i));
     v_r39_i_i5623_i_i_i = v_r12_sroa_10_0_i5519_i_i_i == 0u;
     if (v_r39_i_i5623_i_i_i) { p_v_r0_sroa_0_sroa_22_0_ph_i_i = 0u; p_v_r0_sroa_0_sroa_32_0_ph_i_i = 0u; p_v_r0_sroa_0_sroa_12_0_ph_i_i = 1u; p_v_r0_sroa_4226_0_ph_i_i = (P)0; p_v_r0_sroa_52_0_ph_i_i = 0u; p_v_r0_sroa_53_0_ph_i_i = 0u; p_v_r0_sroa_54_0_ph_i_i = 0u; p_v_r0_sroa_55_0_ph_i_i = (P)0; p_v_r0_sroa_56_0_ph_i_i = 0u; p_v_r0_sroa_57_0_ph_i_i = (P)0; p_v_r0_sroa_58_0_ph_i_i = 0u; p_v_r0_sroa_59_0_ph_i_i = 0u; p_v_r0_sroa_60_0_ph_i_i = (P)0; p_v_r0_sroa_61_0_ph_i_i = 0u; p_v_r0_sroa_62_0_ph_i_i = 0u; p_v_r0_sroa_63_0_ph_i_i = 0u; p_v_r0_sroa_64_0_ph_i_i = (P)0; p_v_r0_sroa_65_0_ph_i_i = 0u; p_v_r0_sroa_66_0_ph_i_i = 0u; p_v_r0_sroa_67_0_ph_i_i = 0u; p_v_18 = 0u; goto L_pkcs1_params_reading_decode_borrowed_ef2588d04bc5b; } else { goto L_arm_1_i_i1674_i_i_i; }
@@ -20843,7 +20872,7 @@ L_join_3_i5717_i_i_i:;
     v_r39_i5721_i_i_i = v_r19_i_i_i5675_i_i_i < v_r3_i25_i5718_i_i_i;
     if (v_r39_i5721_i_i_i) { p_v_r0_sroa_0_sroa_22_0_ph_i_i = 0u; p_v_r0_sroa_0_sroa_32_0_ph_i_i = 0u; p_v_r0_sroa_0_sroa_12_0_ph_i_i = 1u; p_v_r0_sroa_4226_0_ph_i_i = (P)0; p_v_r0_sroa_52_0_ph_i_i = 0u; p_v_r0_sroa_53_0_ph_i_i = 0u; p_v_r0_sroa_54_0_ph_i_i = 0u; p_v_r0_sroa_55_0_ph_i_i = (P)0; p_v_r0_sroa_56_0_ph_i_i = 0u; p_v_r0_sroa_57_0_ph_i_i = (P)0; p_v_r0_sroa_58_0_ph_i_i = 0u; p_v_r0_sroa_59_0_ph_i_i = 0u; p_v_r0_sroa_60_0_ph_i_i = (P)0; p_v_r0_sroa_61_0_ph_i_i = 0u; p_v_r0_sroa_62_0_ph_i_i = 0u; p_v_r0_sroa_63_0_ph_i_i = 0u; p_v_r0_sroa_64_0_ph_i_i = (P)0; p_v_r0_sroa_65_0_ph_i_i = 0u; p_v_r0_sroa_66_0_ph_i_i = 0u; p_v_r0_sroa_67_0_ph_i_i = 0u; p_v_18 = 0u; goto L_pkcs1_params_reading_decode_borrowed_ef2588d04bc5b; } else { goto L_arm_14_i_i1791_i_i_i; }
 L_arm_14_i_i1791_i_i_i:;
-    v_r16_i_i5725_i_i_i = (P)((uintptr_t)v_r16_i_i_i5674_i_i_i + (u64)(v_r3_i25_i5718_i_i_i));
+    v_r16_i_i5725_i_i_i = (P)((u64)v_r16_i_i_i5674_i_i_i + (u64)(v_r3_i25_i5718_i_i_i));
     v_r19_i_i5726_i_i_i = (u64)((u64)(v_r19_i_i_i5675_i_i_i) - (u64)(v_r3_i25_i5718_i_i_i));
     switch (v_r106_i_i1774_i_i_i) {
     case 0u: { p_v_r0_sroa_0_sroa_22_0_ph_i_i = v_r106_i_i1774_i_i_i; p_v_r0_sroa_0_sroa_32_0_ph_i_i = v_r106_i_i1774_i_i_i; p_v_r0_sroa_0_sroa_12_0_ph_i_i = 8u; p_v_r0_sroa_4226_0_ph_i_i = (P)0; p_v_r0_sroa_52_0_ph_i_i = 0u; p_v_r0_sroa_53_0_ph_i_i = 0u; p_v_r0_sroa_54_0_ph_i_i = 0u; p_v_r0_sroa_55_0_ph_i_i = (P)0; p_v_r0_sroa_56_0_ph_i_i = 0u; p_v_r0_sroa_57_0_ph_i_i = (P)0; p_v_r0_sroa_58_0_ph_i_i = 0u; p_v_r0_sroa_59_0_ph_i_i = 0u; p_v_r0_sroa_60_0_ph_i_i = (P)0; p_v_r0_sroa_61_0_ph_i_i = 0u; p_v_r0_sroa_62_0_ph_i_i = 0u; p_v_r0_sroa_63_0_ph_i_i = 0u; p_v_r0_sroa_64_0_ph_i_i = (P)0; p_v_r0_sroa_65_0_ph_i_i = 0u; p_v_r0_sroa_66_0_ph_i_i = v_r106_i_i1774_i_i_i; p_v_r0_sroa_67_0_ph_i_i = v_r106_i_i1774_i_i_i; p_v_18 = 0u; goto L_pkcs1_params_reading_decode_borrowed_ef2588d04bc5b; }
@@ -20987,7 +21016,7 @@ L_join_3_i6282_i_i_i:;
     v_r39_i6286_i_i_i = v_r19_i_i_i6240_i_i_i < v_r3_i25_i6283_i_i_i;
     if (v_r39_i6286_i_i_i) { p_v_r0_sroa_0_sroa_22_0_ph_i_i = 0u; p_v_r0_sroa_0_sroa_32_0_ph_i_i = 0u; p_v_r0_sroa_0_sroa_12_0_ph_i_i = 1u; p_v_r0_sroa_4226_0_ph_i_i = (P)0; p_v_r0_sroa_52_0_ph_i_i = 0u; p_v_r0_sroa_53_0_ph_i_i = 0u; p_v_r0_sroa_54_0_ph_i_i = 0u; p_v_r0_sroa_55_0_ph_i_i = (P)0; p_v_r0_sroa_56_0_ph_i_i = 0u; p_v_r0_sroa_57_0_ph_i_i = (P)0; p_v_r0_sroa_58_0_ph_i_i = 0u; p_v_r0_sroa_59_0_ph_i_i = 0u; p_v_r0_sroa_60_0_ph_i_i = (P)0; p_v_r0_sroa_61_0_ph_i_i = 0u; p_v_r0_sroa_62_0_ph_i_i = 0u; p_v_r0_sroa_63_0_ph_i_i = 0u; p_v_r0_sroa_64_0_ph_i_i = (P)0; p_v_r0_sroa_65_0_ph_i_i = 0u; p_v_r0_sroa_66_0_ph_i_i = 0u; p_v_r0_sroa_67_0_ph_i_i = 0u; p_v_18 = 0u; goto L_pkcs1_params_reading_decode_borrowed_ef2588d04bc5b; } else { goto L_arm_14_i_i2304_i_i_i; }
 L_arm_14_i_i2304_i_i_i:;
-    v_r16_i_i6290_i_i_i = (P)((uintptr_t)v_r16_i_i_i6239_i_i_i + (u64)(v_r3_i25_i6283_i_i_i));
+    v_r16_i_i6290_i_i_i = (P)((u64)v_r16_i_i_i6239_i_i_i + (u64)(v_r3_i25_i6283_i_i_i));
     v_r19_i_i6291_i_i_i = (u64)((u64)(v_r19_i_i_i6240_i_i_i) - (u64)(v_r3_i25_i6283_i_i_i));
     switch (v_r106_i_i2287_i_i_i) {
     case 0u: { p_v_r0_sroa_0_sroa_22_0_ph_i_i = v_r106_i_i2287_i_i_i; p_v_r0_sroa_0_sroa_32_0_ph_i_i = v_r106_i_i2287_i_i_i; p_v_r0_sroa_0_sroa_12_0_ph_i_i = 8u; p_v_r0_sroa_4226_0_ph_i_i = (P)0; p_v_r0_sroa_52_0_ph_i_i = 0u; p_v_r0_sroa_53_0_ph_i_i = 0u; p_v_r0_sroa_54_0_ph_i_i = 0u; p_v_r0_sroa_55_0_ph_i_i = (P)0; p_v_r0_sroa_56_0_ph_i_i = 0u; p_v_r0_sroa_57_0_ph_i_i = (P)0; p_v_r0_sroa_58_0_ph_i_i = 0u; p_v_r0_sroa_59_0_ph_i_i = 0u; p_v_r0_sroa_60_0_ph_i_i = (P)0; p_v_r0_sroa_61_0_ph_i_i = 0u; p_v_r0_sroa_62_0_ph_i_i = 0u; p_v_r0_sroa_63_0_ph_i_i = 0u; p_v_r0_sroa_64_0_ph_i_i = (P)0; p_v_r0_sroa_65_0_ph_i_i = 0u; p_v_r0_sroa_66_0_ph_i_i = v_r106_i_i2287_i_i_i; p_v_r0_sroa_67_0_ph_i_i = v_r106_i_i2287_i_i_i; p_v_18 = 0u; goto L_pkcs1_params_reading_decode_borrowed_ef2588d04bc5b; }
@@ -21101,7 +21130,7 @@ L_join_3_i6552_i_i_i:;
     v_r39_i6556_i_i_i = v_r19_i_i_i6510_i_i_i < v_r3_i25_i6553_i_i_i;
     if (v_r39_i6556_i_i_i) { p_v_r0_i2463_sroa_21_0_ph_i_i_i = 0u; p_v_r0_i2463_sroa_15_0_ph_i_i_i = 0u; p_v_r0_i2463_sroa_9_0_ph_i_i_i = 1u; goto L_arm_2_i2429_i_i_i; } else { goto L_arm_14_i_i2733_i_i_i; }
 L_arm_14_i_i2733_i_i_i:;
-    v_r16_i_i6560_i_i_i = (P)((uintptr_t)v_r16_i_i_i6509_i_i_i + (u64)(v_r3_i25_i6553_i_i_i));
+    v_r16_i_i6560_i_i_i = (P)((u64)v_r16_i_i_i6509_i_i_i + (u64)(v_r3_i25_i6553_i_i_i));
     v_r19_i_i6561_i_i_i = (u64)((u64)(v_r19_i_i_i6510_i_i_i) - (u64)(v_r3_i25_i6553_i_i_i));
     switch (v_r106_i_i2716_i_i_i) {
     case 0u: { p_v_r0_i2463_sroa_21_0_ph_i_i_i = v_r106_i_i2716_i_i_i; p_v_r0_i2463_sroa_15_0_ph_i_i_i = v_r106_i_i2716_i_i_i; p_v_r0_i2463_sroa_9_0_ph_i_i_i = 8u; goto L_arm_2_i2429_i_i_i; }
@@ -21344,7 +21373,7 @@ L_join_3_i:;
     if (v_r39_i8) { p_v_r11_sroa_4_0_sink_ph = 1u; p_v_r11_sroa_7_0_sink_ph = 0u; goto L_common_ret_sink_split; } else { goto L_arm_1_i; }
 L_arm_1_i:;
     v_r13_sroa_0_0_copyload_i = get_P(v_a1);
-    v_r16_i_i = (P)((uintptr_t)v_r13_sroa_0_0_copyload_i + (u64)(v_r3_i25_i));
+    v_r16_i_i = (P)((u64)v_r13_sroa_0_0_copyload_i + (u64)(v_r3_i25_i));
     v_r19_i_i = (u64)((u64)(v_r36_i) - (u64)(v_r3_i25_i));
     put_P(v_a1, v_r16_i_i);
     put_u64(v_r35_i7, v_r19_i_i);
@@ -21459,8 +21488,8 @@ static void f_pkcs1_params_strict_reject_defaults_2a8ca97c434130(P v_a0, P v_a1,
     P v_r35;
     P v_r37;
     P v_r39;
-    v_r6_i_i = m_v_r6_i_i;
-    v_r3_i = m_v_r3_i;
+    v_r6_i_i = AT(m_v_r6_i_i);
+    v_r3_i = AT(m_v_r3_i);
     v_r14_i_i = v_a1 + 16;
     v_r16_i_i = get_u8(v_r14_i_i);
     v_0 = v_r16_i_i == 1u;
@@ -21920,11 +21949,11 @@ static void f_pkcs1_params_pss_reading_PssParamsOfAnyRefDecodeVa(P v_a0, P v_a1,
     P v_r0_sroa_12_sroa_16_0_r164_sroa_idx;
     P v_r0_sroa_12_sroa_17_0_r164_sroa_idx;
     v_r12_i_i311 = v_a2 == 0u;
-    if (v_r12_i_i311) { p_v_r30_sroa_6_sroa_34_0_ph332933873474 = 0u; p_v_r30_sroa_6_sroa_30_0_ph332833883473 = (P)f_static_22; p_v_r30_sroa_6_sroa_26_0_ph332733893472 = 5u; p_v_r30_sroa_6_sroa_22_0_ph332633903471 = 1u; p_v_r30_sroa_6_sroa_18_0_ph332533913470 = 5u; p_v_r30_sroa_6_sroa_14_0_ph332433923469 = (P)f_static_24; p_v_r30_sroa_6_sroa_10_0_ph332333933468 = 1u; p_v_r30_sroa_6_sroa_6_0_ph332233943467 = 9u; p_v_r30_sroa_6_sroa_0_0_ph332133953466 = (P)f_static_25; p_v_r23_sroa_6_sroa_0_0_ph3273332033963465 = (P)f_static_24; p_v_r23_sroa_6_sroa_6_0_ph3274331933973464 = 5u; p_v_r23_sroa_16_sroa_0_0_ph3275331833983463 = 5u; p_v_r23_sroa_16_sroa_6_0_ph3276331733993462 = (P)f_static_22; p_v_r23_sroa_16_sroa_10_0_ph3277331634003461 = 0u; p_v_r23_sroa_11_sroa_0_0_ph3278331534013460 = 1u; p_v_r35_sroa_6_sroa_0_0_ph34023459 = 20u; goto L_arm_14; } else { goto L_der_core_quick_begins_with_exit_i; }
+    if (v_r12_i_i311) { p_v_r30_sroa_6_sroa_34_0_ph332933873474 = 0u; p_v_r30_sroa_6_sroa_30_0_ph332833883473 = AT(f_static_22); p_v_r30_sroa_6_sroa_26_0_ph332733893472 = 5u; p_v_r30_sroa_6_sroa_22_0_ph332633903471 = 1u; p_v_r30_sroa_6_sroa_18_0_ph332533913470 = 5u; p_v_r30_sroa_6_sroa_14_0_ph332433923469 = AT(f_static_24); p_v_r30_sroa_6_sroa_10_0_ph332333933468 = 1u; p_v_r30_sroa_6_sroa_6_0_ph332233943467 = 9u; p_v_r30_sroa_6_sroa_0_0_ph332133953466 = AT(f_static_25); p_v_r23_sroa_6_sroa_0_0_ph3273332033963465 = AT(f_static_24); p_v_r23_sroa_6_sroa_6_0_ph3274331933973464 = 5u; p_v_r23_sroa_16_sroa_0_0_ph3275331833983463 = 5u; p_v_r23_sroa_16_sroa_6_0_ph3276331733993462 = AT(f_static_22); p_v_r23_sroa_16_sroa_10_0_ph3277331634003461 = 0u; p_v_r23_sroa_11_sroa_0_0_ph3278331534013460 = 1u; p_v_r35_sroa_6_sroa_0_0_ph34023459 = 20u; goto L_arm_14; } else { goto L_der_core_quick_begins_with_exit_i; }
 L_der_core_quick_begins_with_exit_i:;
     v_r21_i_i313 = get_u8(v_a1);
     v_r26_i_i314 = v_r21_i_i313 == 160u;
-    if (v_r26_i_i314) { goto L_join_3_i331; } else { p_v_r23_sroa_11_sroa_0_0_ph3296 = 1u; p_v_r23_sroa_21_sroa_6_0_ph3295 = v_a2; p_v_r23_sroa_21_sroa_0_0_ph3294 = v_a1; p_v_r23_sroa_16_sroa_10_0_ph3293 = 0u; p_v_r23_sroa_16_sroa_6_0_ph3292 = (P)f_static_22; p_v_r23_sroa_16_sroa_0_0_ph3291 = 5u; p_v_r23_sroa_6_sroa_6_0_ph3290 = 5u; p_v_r23_sroa_6_sroa_0_0_ph3289 = (P)f_static_24; goto L_der_core_quick_begins_with_exit; }
+    if (v_r26_i_i314) { goto L_join_3_i331; } else { p_v_r23_sroa_11_sroa_0_0_ph3296 = 1u; p_v_r23_sroa_21_sroa_6_0_ph3295 = v_a2; p_v_r23_sroa_21_sroa_0_0_ph3294 = v_a1; p_v_r23_sroa_16_sroa_10_0_ph3293 = 0u; p_v_r23_sroa_16_sroa_6_0_ph3292 = AT(f_static_22); p_v_r23_sroa_16_sroa_0_0_ph3291 = 5u; p_v_r23_sroa_6_sroa_6_0_ph3290 = 5u; p_v_r23_sroa_6_sroa_0_0_ph3289 = AT(f_static_24); goto L_der_core_quick_begins_with_exit; }
 L_join_3_i331:;
     v_r23_i_i332 = v_a2 == 1u;
     if (v_r23_i_i332) { goto L_arm_2; } else { goto L_then_6_i_i464; }
@@ -21940,7 +21969,7 @@ L_then_9_i_i468:;
     v_r15_i761 = v_r35_i_i335 < v_r65_i_i469;
     if (v_r15_i761) { goto L_arm_2; } else { goto L_arm_4_i347; }
 L_arm_4_i347:;
-    v_r29_i763 = (P)((uintptr_t)v_r32_i_i334 + (u64)(v_r65_i_i469));
+    v_r29_i763 = (P)((u64)v_r32_i_i334 + (u64)(v_r65_i_i469));
     v_r32_i764 = (u64)((u64)(v_r35_i_i335) - (u64)(v_r65_i_i469));
     v_r23_i_i_i_i350 = v_r53_i_i466 < 2u;
     if (v_r23_i_i_i_i350) { goto L_arm_2; } else { goto L_join_5_i_i_i_i351; }
@@ -21977,13 +22006,13 @@ L_then_9_i_i_i_i_i:;
     v_r15_i781 = v_r35_i_i_i_i_i < v_r65_i_i_i_i_i;
     if (v_r15_i781) { goto L_arm_2; } else { goto L_arm_1_i_i_i_i; }
 L_arm_1_i_i_i_i:;
-    v_r29_i783 = (P)((uintptr_t)v_r32_i_i_i_i_i + (u64)(v_r65_i_i_i_i_i));
+    v_r29_i783 = (P)((u64)v_r32_i_i_i_i_i + (u64)(v_r65_i_i_i_i_i));
     v_r32_i784 = (u64)((u64)(v_r35_i_i_i_i_i) - (u64)(v_r65_i_i_i_i_i));
     v_r15_i_i_i_i = v_r53_i_i_i_i_i == 0u;
     if (v_r15_i_i_i_i) { goto L_arm_2; } else { goto L_join_4_i_i_i_i; }
 L_join_4_i_i_i_i:;
     v_r22_i19_i_i_i = (u64)((u64)(v_r65_i_i_i_i_i) + (u64)(18446744073709551615ull));
-    v_r25_i_i_i_i = (P)((uintptr_t)v_r32_i_i_i_i_i + (u64)(v_r22_i19_i_i_i));
+    v_r25_i_i_i_i = (P)((u64)v_r32_i_i_i_i_i + (u64)(v_r22_i19_i_i_i));
     v_r35_i20_i_i_i = get_u8(v_r25_i_i_i_i);
     v_r37_i21_i_i_i = (u8)(v_r35_i20_i_i_i ^ ((u8)1 << 7)) > (u8)(255u ^ ((u8)1 << 7));
     if (v_r37_i21_i_i_i) { goto L_spki_core_object_identifier_ends_plainly_exit_i_i_; } else { goto L_join_5_preheader_i; }
@@ -22007,7 +22036,7 @@ L_join_5_i:;
     v_r29_i793 = v_r27_i792 == 128u;
     if (v_r29_i793) { goto L_spki_core_object_identifier_is_start_exit_i; } else { goto L_after_6_i; }
 L_spki_core_object_identifier_is_start_exit_i:;
-    v_r14_i_i796 = (P)((uintptr_t)v_r25_i791 + (u64)(-1));
+    v_r14_i_i796 = (P)((u64)v_r25_i791 + (u64)(-1));
     v_r16_i_i797 = get_u8(v_r14_i_i796);
     v_r18_i_i798 = (u8)(v_r16_i_i797 ^ ((u8)1 << 7)) > (u8)(255u ^ ((u8)1 << 7));
     if (v_r18_i_i798) { goto L_arm_2; } else { goto L_after_6_i; }
@@ -22054,7 +22083,7 @@ L_der_core_parts_Tuple2DecodePartsRefSliceU8_quick_p:;
     if (v_r7_i876) { goto L_arm_1; } else { goto L_arm_2; }
 L_arm_1:;
     v_r12_i14 = v_r32_i764 == 0u;
-    if (v_r12_i14) { p_v_r30_sroa_6_sroa_34_0_ph332933873474 = 0u; p_v_r30_sroa_6_sroa_30_0_ph332833883473 = (P)f_static_22; p_v_r30_sroa_6_sroa_26_0_ph332733893472 = 5u; p_v_r30_sroa_6_sroa_22_0_ph332633903471 = 1u; p_v_r30_sroa_6_sroa_18_0_ph332533913470 = 5u; p_v_r30_sroa_6_sroa_14_0_ph332433923469 = (P)f_static_24; p_v_r30_sroa_6_sroa_10_0_ph332333933468 = 1u; p_v_r30_sroa_6_sroa_6_0_ph332233943467 = 9u; p_v_r30_sroa_6_sroa_0_0_ph332133953466 = (P)f_static_25; p_v_r23_sroa_6_sroa_0_0_ph3273332033963465 = v_r32_i_i_i_i_i; p_v_r23_sroa_6_sroa_6_0_ph3274331933973464 = v_r65_i_i_i_i_i; p_v_r23_sroa_16_sroa_0_0_ph3275331833983463 = v_r9_i9_i_i_sroa_11_sroa_0_0_ph; p_v_r23_sroa_16_sroa_6_0_ph3276331733993462 = v_r9_i9_i_i_sroa_11_sroa_7_0_ph; p_v_r23_sroa_16_sroa_10_0_ph3277331634003461 = v_r9_i9_i_i_sroa_11_sroa_10_0_ph; p_v_r23_sroa_11_sroa_0_0_ph3278331534013460 = v_r9_i9_i_i_sroa_7_sroa_0_0_ph; p_v_r35_sroa_6_sroa_0_0_ph34023459 = 20u; goto L_arm_14; } else { p_v_r23_sroa_11_sroa_0_0_ph3296 = v_r9_i9_i_i_sroa_7_sroa_0_0_ph; p_v_r23_sroa_21_sroa_6_0_ph3295 = v_r32_i764; p_v_r23_sroa_21_sroa_0_0_ph3294 = v_r29_i763; p_v_r23_sroa_16_sroa_10_0_ph3293 = v_r9_i9_i_i_sroa_11_sroa_10_0_ph; p_v_r23_sroa_16_sroa_6_0_ph3292 = v_r9_i9_i_i_sroa_11_sroa_7_0_ph; p_v_r23_sroa_16_sroa_0_0_ph3291 = v_r9_i9_i_i_sroa_11_sroa_0_0_ph; p_v_r23_sroa_6_sroa_6_0_ph3290 = v_r65_i_i_i_i_i; p_v_r23_sroa_6_sroa_0_0_ph3289 = v_r32_i_i_i_i_i; goto L_der_core_quick_begins_with_exit; }
+    if (v_r12_i14) { p_v_r30_sroa_6_sroa_34_0_ph332933873474 = 0u; p_v_r30_sroa_6_sroa_30_0_ph332833883473 = AT(f_static_22); p_v_r30_sroa_6_sroa_26_0_ph332733893472 = 5u; p_v_r30_sroa_6_sroa_22_0_ph332633903471 = 1u; p_v_r30_sroa_6_sroa_18_0_ph332533913470 = 5u; p_v_r30_sroa_6_sroa_14_0_ph332433923469 = AT(f_static_24); p_v_r30_sroa_6_sroa_10_0_ph332333933468 = 1u; p_v_r30_sroa_6_sroa_6_0_ph332233943467 = 9u; p_v_r30_sroa_6_sroa_0_0_ph332133953466 = AT(f_static_25); p_v_r23_sroa_6_sroa_0_0_ph3273332033963465 = v_r32_i_i_i_i_i; p_v_r23_sroa_6_sroa_6_0_ph3274331933973464 = v_r65_i_i_i_i_i; p_v_r23_sroa_16_sroa_0_0_ph3275331833983463 = v_r9_i9_i_i_sroa_11_sroa_0_0_ph; p_v_r23_sroa_16_sroa_6_0_ph3276331733993462 = v_r9_i9_i_i_sroa_11_sroa_7_0_ph; p_v_r23_sroa_16_sroa_10_0_ph3277331634003461 = v_r9_i9_i_i_sroa_11_sroa_10_0_ph; p_v_r23_sroa_11_sroa_0_0_ph3278331534013460 = v_r9_i9_i_i_sroa_7_sroa_0_0_ph; p_v_r35_sroa_6_sroa_0_0_ph34023459 = 20u; goto L_arm_14; } else { p_v_r23_sroa_11_sroa_0_0_ph3296 = v_r9_i9_i_i_sroa_7_sroa_0_0_ph; p_v_r23_sroa_21_sroa_6_0_ph3295 = v_r32_i764; p_v_r23_sroa_21_sroa_0_0_ph3294 = v_r29_i763; p_v_r23_sroa_16_sroa_10_0_ph3293 = v_r9_i9_i_i_sroa_11_sroa_10_0_ph; p_v_r23_sroa_16_sroa_6_0_ph3292 = v_r9_i9_i_i_sroa_11_sroa_7_0_ph; p_v_r23_sroa_16_sroa_0_0_ph3291 = v_r9_i9_i_i_sroa_11_sroa_0_0_ph; p_v_r23_sroa_6_sroa_6_0_ph3290 = v_r65_i_i_i_i_i; p_v_r23_sroa_6_sroa_0_0_ph3289 = v_r32_i_i_i_i_i; goto L_der_core_quick_begins_with_exit; }
 L_der_core_quick_begins_with_exit:;
     v_r23_sroa_11_sroa_0_0_ph3296 = p_v_r23_sroa_11_sroa_0_0_ph3296;
     v_r23_sroa_21_sroa_6_0_ph3295 = p_v_r23_sroa_21_sroa_6_0_ph3295;
@@ -22066,7 +22095,7 @@ L_der_core_quick_begins_with_exit:;
     v_r23_sroa_6_sroa_0_0_ph3289 = p_v_r23_sroa_6_sroa_0_0_ph3289;
     v_r21_i15 = get_u8(v_r23_sroa_21_sroa_0_0_ph3294);
     v_r26_i17 = v_r21_i15 == 161u;
-    if (v_r26_i17) { goto L_join_3_i; } else { p_v_r30_sroa_6_sroa_42_0_ph3365 = v_r23_sroa_21_sroa_6_0_ph3295; p_v_r30_sroa_6_sroa_38_0_ph3364 = v_r23_sroa_21_sroa_0_0_ph3294; p_v_r30_sroa_6_sroa_34_0_ph3363 = 0u; p_v_r30_sroa_6_sroa_30_0_ph3362 = (P)f_static_22; p_v_r30_sroa_6_sroa_26_0_ph3361 = 5u; p_v_r30_sroa_6_sroa_22_0_ph3360 = 1u; p_v_r30_sroa_6_sroa_18_0_ph3359 = 5u; p_v_r30_sroa_6_sroa_14_0_ph3358 = (P)f_static_24; p_v_r30_sroa_6_sroa_10_0_ph3357 = 1u; p_v_r30_sroa_6_sroa_6_0_ph3356 = 9u; p_v_r30_sroa_6_sroa_0_0_ph3355 = (P)f_static_25; goto L_der_core_quick_begins_with_exit_i483; }
+    if (v_r26_i17) { goto L_join_3_i; } else { p_v_r30_sroa_6_sroa_42_0_ph3365 = v_r23_sroa_21_sroa_6_0_ph3295; p_v_r30_sroa_6_sroa_38_0_ph3364 = v_r23_sroa_21_sroa_0_0_ph3294; p_v_r30_sroa_6_sroa_34_0_ph3363 = 0u; p_v_r30_sroa_6_sroa_30_0_ph3362 = AT(f_static_22); p_v_r30_sroa_6_sroa_26_0_ph3361 = 5u; p_v_r30_sroa_6_sroa_22_0_ph3360 = 1u; p_v_r30_sroa_6_sroa_18_0_ph3359 = 5u; p_v_r30_sroa_6_sroa_14_0_ph3358 = AT(f_static_24); p_v_r30_sroa_6_sroa_10_0_ph3357 = 1u; p_v_r30_sroa_6_sroa_6_0_ph3356 = 9u; p_v_r30_sroa_6_sroa_0_0_ph3355 = AT(f_static_25); goto L_der_core_quick_begins_with_exit_i483; }
 L_join_3_i:;
     v_r23_i_i = v_r23_sroa_21_sroa_6_0_ph3295 == 1u;
     if (v_r23_i_i) { goto L_arm_6; } else { goto L_then_6_i_i; }
@@ -22082,7 +22111,7 @@ L_then_9_i_i:;
     v_r15_i908 = v_r35_i_i < v_r65_i_i;
     if (v_r15_i908) { goto L_arm_6; } else { goto L_arm_4_i; }
 L_arm_4_i:;
-    v_r29_i910 = (P)((uintptr_t)v_r32_i_i + (u64)(v_r65_i_i));
+    v_r29_i910 = (P)((u64)v_r32_i_i + (u64)(v_r65_i_i));
     v_r32_i911 = (u64)((u64)(v_r35_i_i) - (u64)(v_r65_i_i));
     v_r23_i_i46 = v_r53_i_i < 2u;
     if (v_r23_i_i46) { goto L_arm_6; } else { goto L_join_5_i_i47; }
@@ -22119,13 +22148,13 @@ L_then_9_i_i_i:;
     v_r15_i938 = v_r35_i_i_i < v_r65_i_i_i;
     if (v_r15_i938) { goto L_arm_6; } else { goto L_arm_1_i_i; }
 L_arm_1_i_i:;
-    v_r29_i940 = (P)((uintptr_t)v_r32_i_i_i + (u64)(v_r65_i_i_i));
+    v_r29_i940 = (P)((u64)v_r32_i_i_i + (u64)(v_r65_i_i_i));
     v_r32_i941 = (u64)((u64)(v_r35_i_i_i) - (u64)(v_r65_i_i_i));
     v_r15_i_i = v_r53_i_i_i == 0u;
     if (v_r15_i_i) { goto L_spki_core_object_identifier_is_identifier_exit_i; } else { goto L_join_4_i_i; }
 L_join_4_i_i:;
     v_r22_i19_i = (u64)((u64)(v_r65_i_i_i) + (u64)(18446744073709551615ull));
-    v_r25_i_i = (P)((uintptr_t)v_r32_i_i_i + (u64)(v_r22_i19_i));
+    v_r25_i_i = (P)((u64)v_r32_i_i_i + (u64)(v_r22_i19_i));
     v_r35_i20_i = get_u8(v_r25_i_i);
     v_r37_i21_i = (u8)(v_r35_i20_i ^ ((u8)1 << 7)) > (u8)(255u ^ ((u8)1 << 7));
     if (v_r37_i21_i) { goto L_spki_core_object_identifier_ends_plainly_exit_i; } else { goto L_spki_core_object_identifier_is_identifier_exit_i; }
@@ -22177,13 +22206,13 @@ L_then_9_i_i_i_i:;
     v_r15_i970 = v_r35_i_i_i_i < v_r65_i_i_i_i;
     if (v_r15_i970) { goto L_arm_6; } else { goto L_arm_1_i_i_i; }
 L_arm_1_i_i_i:;
-    v_r29_i972 = (P)((uintptr_t)v_r32_i_i_i_i + (u64)(v_r65_i_i_i_i));
+    v_r29_i972 = (P)((u64)v_r32_i_i_i_i + (u64)(v_r65_i_i_i_i));
     v_r32_i973 = (u64)((u64)(v_r35_i_i_i_i) - (u64)(v_r65_i_i_i_i));
     v_r15_i_i_i = v_r53_i_i_i_i == 0u;
     if (v_r15_i_i_i) { goto L_spki_core_object_identifier_is_identifier_exit_i_i__2; } else { goto L_join_4_i_i_i; }
 L_join_4_i_i_i:;
     v_r22_i19_i_i = (u64)((u64)(v_r65_i_i_i_i) + (u64)(18446744073709551615ull));
-    v_r25_i_i_i = (P)((uintptr_t)v_r32_i_i_i_i + (u64)(v_r22_i19_i_i));
+    v_r25_i_i_i = (P)((u64)v_r32_i_i_i_i + (u64)(v_r22_i19_i_i));
     v_r35_i20_i_i = get_u8(v_r25_i_i_i);
     v_r37_i21_i_i = (u8)(v_r35_i20_i_i ^ ((u8)1 << 7)) > (u8)(255u ^ ((u8)1 << 7));
     if (v_r37_i21_i_i) { goto L_spki_core_object_identifier_ends_plainly_exit_i_i; } else { goto L_spki_core_object_identifier_is_identifier_exit_i_i__2; }
@@ -22277,7 +22306,7 @@ L_then_9_i_i529:;
     v_r15_i1136 = v_r35_i_i494 < v_r65_i_i530;
     if (v_r15_i1136) { goto L_arm_9; } else { goto L_arm_4_i510; }
 L_arm_4_i510:;
-    v_r29_i1138 = (P)((uintptr_t)v_r32_i_i493 + (u64)(v_r65_i_i530));
+    v_r29_i1138 = (P)((u64)v_r32_i_i493 + (u64)(v_r65_i_i530));
     v_r32_i1139 = (u64)((u64)(v_r35_i_i494) - (u64)(v_r65_i_i530));
     v_r23_i_i575 = v_r53_i_i527 < 2u;
     if (v_r23_i_i575) { goto L_arm_9; } else { goto L_join_5_i_i576; }
@@ -23430,10 +23459,10 @@ static void f_der_core_decode_read_slowly_cdb4c436e23d2e77(P v_a0, P v_a1, u64 v
     P v_r66;
     P v_r68;
     P v_r70;
-    v_r6_i2491_i = m_v_r6_i2491_i;
-    v_r30_i2503_i = m_v_r30_i2503_i;
-    v_r10_i529_i = m_v_r10_i529_i;
-    v_r6_i187_i = m_v_r6_i187_i;
+    v_r6_i2491_i = AT(m_v_r6_i2491_i);
+    v_r30_i2503_i = AT(m_v_r30_i2503_i);
+    v_r10_i529_i = AT(m_v_r10_i529_i);
+    v_r6_i187_i = AT(m_v_r6_i187_i);
     v_r16_i = v_a2 < 4294967296ull;
     if (v_r16_i) { goto L_join_3_i_i; } else { goto L_arm_2; }
 L_join_3_i_i:;
@@ -23476,7 +23505,7 @@ L_join_3_i:;
     v_r39_i85 = v_r19_i_i_i43 < v_r3_i25_i;
     if (v_r39_i85) { p_v_r15_sroa_7_0_ph = 1u; p_v_r15_sroa_13_0_ph = 0u; p_v_r15_sroa_19_0_ph = 0u; goto L_arm_6; } else { goto L_arm_14_i_i; }
 L_arm_14_i_i:;
-    v_r16_i_i87 = (P)((uintptr_t)v_r16_i_i_i42 + (u64)(v_r3_i25_i));
+    v_r16_i_i87 = (P)((u64)v_r16_i_i_i42 + (u64)(v_r3_i25_i));
     v_r19_i_i88 = (u64)((u64)(v_r19_i_i_i43) - (u64)(v_r3_i25_i));
     switch (v_r106_i_i) {
     case 0u: { p_v_r15_sroa_7_0_ph = 8u; p_v_r15_sroa_13_0_ph = v_r106_i_i; p_v_r15_sroa_19_0_ph = v_r106_i_i; goto L_arm_6; }
@@ -23556,11 +23585,11 @@ L_join_3_i_i191:;
     if (v_r39_i_i194) { p_v_r15_sroa_7_0_ph = 1u; p_v_r15_sroa_13_0_ph = 0u; p_v_r15_sroa_19_0_ph = 0u; goto L_arm_6; } else { goto L_else_2_i_i226; }
 L_else_2_i_i226:;
     v_r12_i_i_i_not_i_i = v_r12_sroa_10_0_i == 0u;
-    if (v_r12_i_i_i_not_i_i) { p_v_r34_sroa_4_010639_i1030 = 0u; p_v_r12_sroa_10_i5207_sroa_3_0_ph1072410777_i1029 = (P)f_static_25; p_v_r12_sroa_10_i5207_sroa_5_0_ph1072310778_i1028 = 9u; p_v_r12_sroa_10_i5207_sroa_6_0_ph1072210779_i1027 = 1u; p_v_r12_sroa_10_i5207_sroa_7_0_ph1072110780_i1026 = (P)f_static_24; p_v_r12_sroa_10_i5207_sroa_8_0_ph1072010781_i1025 = 5u; p_v_r12_sroa_10_i5207_sroa_9_0_ph1071910782_i1024 = 1u; p_v_r12_sroa_10_i5207_sroa_10_0_ph1071810783_i1023 = 5u; p_v_r12_sroa_10_i5207_sroa_11_0_ph1071710784_i1022 = (P)f_static_22; p_v_r12_sroa_10_i5207_sroa_12_0_ph1071610785_i1021 = 0u; p_v_r17_i572_sroa_15_sroa_0_09732106711071510786_i1020 = 1u; p_v_r17_i572_sroa_18_sroa_7_09731106721071410787_i1019 = 0u; p_v_r17_i572_sroa_18_sroa_6_09730106731071310788_i1018 = (P)f_static_22; p_v_r17_i572_sroa_18_sroa_0_09729106741071210789_i1017 = 5u; p_v_r17_i572_sroa_12_sroa_6_09728106751071110790_i1016 = 5u; p_v_r17_i572_sroa_12_sroa_3_09727106761071010791_i1015 = (P)f_static_24; p_v_r30_sroa_4_01038510792_i1014 = 20u; goto L_join_3_i285; } else { goto L_arm_1_i605_i; }
+    if (v_r12_i_i_i_not_i_i) { p_v_r34_sroa_4_010639_i1030 = 0u; p_v_r12_sroa_10_i5207_sroa_3_0_ph1072410777_i1029 = AT(f_static_25); p_v_r12_sroa_10_i5207_sroa_5_0_ph1072310778_i1028 = 9u; p_v_r12_sroa_10_i5207_sroa_6_0_ph1072210779_i1027 = 1u; p_v_r12_sroa_10_i5207_sroa_7_0_ph1072110780_i1026 = AT(f_static_24); p_v_r12_sroa_10_i5207_sroa_8_0_ph1072010781_i1025 = 5u; p_v_r12_sroa_10_i5207_sroa_9_0_ph1071910782_i1024 = 1u; p_v_r12_sroa_10_i5207_sroa_10_0_ph1071810783_i1023 = 5u; p_v_r12_sroa_10_i5207_sroa_11_0_ph1071710784_i1022 = AT(f_static_22); p_v_r12_sroa_10_i5207_sroa_12_0_ph1071610785_i1021 = 0u; p_v_r17_i572_sroa_15_sroa_0_09732106711071510786_i1020 = 1u; p_v_r17_i572_sroa_18_sroa_7_09731106721071410787_i1019 = 0u; p_v_r17_i572_sroa_18_sroa_6_09730106731071310788_i1018 = AT(f_static_22); p_v_r17_i572_sroa_18_sroa_0_09729106741071210789_i1017 = 5u; p_v_r17_i572_sroa_12_sroa_6_09728106751071110790_i1016 = 5u; p_v_r17_i572_sroa_12_sroa_3_09727106761071010791_i1015 = AT(f_static_24); p_v_r30_sroa_4_01038510792_i1014 = 20u; goto L_join_3_i285; } else { goto L_arm_1_i605_i; }
 L_arm_1_i605_i:;
     v_r18_i_i2897_i = get_u8(v_r4_sroa_0_2932);
     v_r7_i_i2901_i = v_r18_i_i2897_i == 160u;
-    if (v_r7_i_i2901_i) { goto L_join_3_i_i2964_i; } else { p_v_r18_i_i4499_i = v_r18_i_i2897_i; p_v_r6_i_sroa_0_0 = v_r4_sroa_0_2932; p_v_r6_i_sroa_26_0 = v_r12_sroa_10_0_i; p_v_r17_i572_sroa_12_sroa_3_0972710692_i = (P)f_static_24; p_v_r17_i572_sroa_12_sroa_6_0972810691_i = 5u; p_v_r17_i572_sroa_18_sroa_0_0972910690_i = 5u; p_v_r17_i572_sroa_18_sroa_6_0973010689_i = (P)f_static_22; p_v_r17_i572_sroa_18_sroa_7_0973110688_i = 0u; p_v_r17_i572_sroa_15_sroa_0_0973210687_i = 1u; goto L_arm_1_i_i227; }
+    if (v_r7_i_i2901_i) { goto L_join_3_i_i2964_i; } else { p_v_r18_i_i4499_i = v_r18_i_i2897_i; p_v_r6_i_sroa_0_0 = v_r4_sroa_0_2932; p_v_r6_i_sroa_26_0 = v_r12_sroa_10_0_i; p_v_r17_i572_sroa_12_sroa_3_0972710692_i = AT(f_static_24); p_v_r17_i572_sroa_12_sroa_6_0972810691_i = 5u; p_v_r17_i572_sroa_18_sroa_0_0972910690_i = 5u; p_v_r17_i572_sroa_18_sroa_6_0973010689_i = AT(f_static_22); p_v_r17_i572_sroa_18_sroa_7_0973110688_i = 0u; p_v_r17_i572_sroa_15_sroa_0_0973210687_i = 1u; goto L_arm_1_i_i227; }
 L_join_3_i_i2964_i:;
     v_r39_i_i2967_i = v_r12_sroa_10_0_i == 1u;
     if (v_r39_i_i2967_i) { p_v_r15_sroa_7_0_ph = 1u; p_v_r15_sroa_13_0_ph = 0u; p_v_r15_sroa_19_0_ph = 0u; goto L_arm_6; } else { goto L_arm_1_i60_i_i; }
@@ -23586,7 +23615,7 @@ L_join_3_i3013_i:;
     v_r39_i3016_i = v_r19_i_i_i2971_i < v_r3_i25_i_i241;
     if (v_r39_i3016_i) { p_v_r15_sroa_7_0_ph = 1u; p_v_r15_sroa_13_0_ph = 0u; p_v_r15_sroa_19_0_ph = 0u; goto L_arm_6; } else { goto L_arm_14_i_i927_i; }
 L_arm_14_i_i927_i:;
-    v_r16_i_i3019_i = (P)((uintptr_t)v_r16_i_i_i2970_i + (u64)(v_r3_i25_i_i241));
+    v_r16_i_i3019_i = (P)((u64)v_r16_i_i_i2970_i + (u64)(v_r3_i25_i_i241));
     v_r19_i_i3020_i = (u64)((u64)(v_r19_i_i_i2971_i) - (u64)(v_r3_i25_i_i241));
     switch (v_r106_i_i910_i) {
     case 0u: { p_v_r15_sroa_7_0_ph = 8u; p_v_r15_sroa_13_0_ph = v_r106_i_i910_i; p_v_r15_sroa_19_0_ph = v_r106_i_i910_i; goto L_arm_6; }
@@ -23662,7 +23691,7 @@ L_join_3_i_i3133_i:;
     v_r39_i_i3136_i = v_r36_i_i3135_i < v_r12_sroa_10_0_i_i;
     if (v_r39_i_i3136_i) { p_v_r15_sroa_7_0_ph = 1u; p_v_r15_sroa_13_0_ph = 0u; p_v_r15_sroa_19_0_ph = 0u; goto L_arm_6; } else { goto L_join_3_i_i3170_i; }
 L_join_3_i_i3170_i:;
-    v_r16_i_i_i3139_i = (P)((uintptr_t)v_r13_sroa_0_0_copyload_i_i3138_i + (u64)(v_r12_sroa_10_0_i_i));
+    v_r16_i_i_i3139_i = (P)((u64)v_r13_sroa_0_0_copyload_i_i3138_i + (u64)(v_r12_sroa_10_0_i_i));
     v_r19_i_i_i3140_i = (u64)((u64)(v_r36_i_i3135_i) - (u64)(v_r12_sroa_10_0_i_i));
     v_r39_i_i3173_i = v_r12_sroa_10_0_i_i == 0u;
     if (v_r39_i_i3173_i) { p_v_r15_sroa_7_0_ph = 1u; p_v_r15_sroa_13_0_ph = 0u; p_v_r15_sroa_19_0_ph = 0u; goto L_arm_6; } else { goto L_arm_1_i_i_i_i_i; }
@@ -23702,7 +23731,7 @@ L_join_3_i3267_i:;
     v_r39_i3271_i = v_r19_i_i_i3225_i < v_r3_i25_i3268_i;
     if (v_r39_i3271_i) { p_v_r15_sroa_7_0_ph = 1u; p_v_r15_sroa_13_0_ph = 0u; p_v_r15_sroa_19_0_ph = 0u; goto L_arm_6; } else { goto L_arm_14_i_i_i_i_i; }
 L_arm_14_i_i_i_i_i:;
-    v_r16_i_i3275_i = (P)((uintptr_t)v_r16_i_i_i3224_i + (u64)(v_r3_i25_i3268_i));
+    v_r16_i_i3275_i = (P)((u64)v_r16_i_i_i3224_i + (u64)(v_r3_i25_i3268_i));
     v_r19_i_i3276_i = (u64)((u64)(v_r19_i_i_i3225_i) - (u64)(v_r3_i25_i3268_i));
     switch (v_r106_i_i_i_i_i) {
     case 0u: { p_v_r15_sroa_7_0_ph = 8u; p_v_r15_sroa_13_0_ph = v_r106_i_i_i_i_i; p_v_r15_sroa_19_0_ph = v_r106_i_i_i_i_i; goto L_arm_6; }
@@ -23816,7 +23845,7 @@ L_join_3_i3538_i:;
     v_r39_i3542_i = v_r19_i_i_i3496_i < v_r3_i25_i3539_i;
     if (v_r39_i3542_i) { p_v_r15_sroa_7_0_ph = 1u; p_v_r15_sroa_13_0_ph = 0u; p_v_r15_sroa_19_0_ph = 0u; goto L_arm_6; } else { goto L_arm_14_i_i_i_i_i_i; }
 L_arm_14_i_i_i_i_i_i:;
-    v_r16_i_i3546_i = (P)((uintptr_t)v_r16_i_i_i3495_i + (u64)(v_r3_i25_i3539_i));
+    v_r16_i_i3546_i = (P)((u64)v_r16_i_i_i3495_i + (u64)(v_r3_i25_i3539_i));
     v_r19_i_i3547_i = (u64)((u64)(v_r19_i_i_i3496_i) - (u64)(v_r3_i25_i3539_i));
     switch (v_r106_i_i_i_i_i_i) {
     case 0u: { p_v_r15_sroa_7_0_ph = 8u; p_v_r15_sroa_13_0_ph = v_r106_i_i_i_i_i_i; p_v_r15_sroa_19_0_ph = v_r106_i_i_i_i_i_i; goto L_arm_6; }
@@ -23895,12 +23924,12 @@ L_join_3_i_i3669_i:;
     v_r39_i_i3673_i = v_r6_i_i_i_sroa_23_99252_i < v_r3_i25_i_i3670_i;
     if (v_r39_i_i3673_i) { p_v_r15_sroa_7_0_ph = 1u; p_v_r15_sroa_13_0_ph = 0u; p_v_r15_sroa_19_0_ph = 0u; goto L_arm_6; } else { goto L_join_3_i3712_i; }
 L_join_3_i3712_i:;
-    v_r16_i_i_i3676_i = (P)((uintptr_t)v_r6_i_i_i_sroa_0_99250_i + (u64)(v_r3_i25_i_i3670_i));
+    v_r16_i_i_i3676_i = (P)((u64)v_r6_i_i_i_sroa_0_99250_i + (u64)(v_r3_i25_i_i3670_i));
     v_r15_i_i_i_i_i_i = v_r12_sroa_10_0_i3610_i == 0u;
     if (v_r15_i_i_i_i_i_i) { goto L_spki_core_object_identifier_is_identifier_exit_i_i; } else { goto L_join_4_i_i_i_i_i_i; }
 L_join_4_i_i_i_i_i_i:;
     v_r22_i_i_i_i_i_i = (u64)((u64)(v_r3_i25_i_i3670_i) + (u64)(18446744073709551615ull));
-    v_r25_i_i_i_i_i_i = (P)((uintptr_t)v_r6_i_i_i_sroa_0_99250_i + (u64)(v_r22_i_i_i_i_i_i));
+    v_r25_i_i_i_i_i_i = (P)((u64)v_r6_i_i_i_sroa_0_99250_i + (u64)(v_r22_i_i_i_i_i_i));
     v_r35_i8_i_i_i_i_i = get_u8(v_r25_i_i_i_i_i_i);
     v_r37_i9_i_i_i_i_i = (u8)(v_r35_i8_i_i_i_i_i ^ ((u8)1 << 7)) > (u8)(255u ^ ((u8)1 << 7));
     if (v_r37_i9_i_i_i_i_i) { goto L_spki_core_object_identifier_ends_plainly_exit_i_i_; } else { goto L_spki_core_object_identifier_is_identifier_exit_i_i; }
@@ -23954,7 +23983,7 @@ L_join_3_i3958_i:;
     v_r39_i3962_i = v_r19_i_i_i3916_i < v_r3_i25_i3959_i;
     if (v_r39_i3962_i) { p_v_r15_sroa_7_0_ph = 1u; p_v_r15_sroa_13_0_ph = 0u; p_v_r15_sroa_19_0_ph = 0u; goto L_arm_6; } else { goto L_arm_14_i_i_i570_i_i_i; }
 L_arm_14_i_i_i570_i_i_i:;
-    v_r16_i_i3966_i = (P)((uintptr_t)v_r16_i_i_i3915_i + (u64)(v_r3_i25_i3959_i));
+    v_r16_i_i3966_i = (P)((u64)v_r16_i_i_i3915_i + (u64)(v_r3_i25_i3959_i));
     v_r19_i_i3967_i = (u64)((u64)(v_r19_i_i_i3916_i) - (u64)(v_r3_i25_i3959_i));
     switch (v_r106_i_i_i553_i_i_i) {
     case 0u: { p_v_r15_sroa_7_0_ph = 8u; p_v_r15_sroa_13_0_ph = v_r106_i_i_i553_i_i_i; p_v_r15_sroa_19_0_ph = v_r106_i_i_i553_i_i_i; goto L_arm_6; }
@@ -24042,7 +24071,7 @@ L_join_3_i4342_i:;
     if (v_r7_i_i4345_i) { goto L_else_2_i4493_i; } else { p_v_r15_sroa_7_0_ph = 12u; p_v_r15_sroa_13_0_ph = 0u; p_v_r15_sroa_19_0_ph = 0u; goto L_arm_6; }
 L_else_2_i4493_i:;
     v_r12_i_i_i_not_i4496_i = v_r19_i_i_i3140_i == 0u;
-    if (v_r12_i_i_i_not_i4496_i) { p_v_r34_sroa_4_010639_i1030 = 0u; p_v_r12_sroa_10_i5207_sroa_3_0_ph1072410777_i1029 = (P)f_static_25; p_v_r12_sroa_10_i5207_sroa_5_0_ph1072310778_i1028 = 9u; p_v_r12_sroa_10_i5207_sroa_6_0_ph1072210779_i1027 = 1u; p_v_r12_sroa_10_i5207_sroa_7_0_ph1072110780_i1026 = (P)f_static_24; p_v_r12_sroa_10_i5207_sroa_8_0_ph1072010781_i1025 = 5u; p_v_r12_sroa_10_i5207_sroa_9_0_ph1071910782_i1024 = 1u; p_v_r12_sroa_10_i5207_sroa_10_0_ph1071810783_i1023 = 5u; p_v_r12_sroa_10_i5207_sroa_11_0_ph1071710784_i1022 = (P)f_static_22; p_v_r12_sroa_10_i5207_sroa_12_0_ph1071610785_i1021 = 0u; p_v_r17_i572_sroa_15_sroa_0_09732106711071510786_i1020 = v_r6_i230_i_i_sroa_237986_sroa_0_0_i; p_v_r17_i572_sroa_18_sroa_7_09731106721071410787_i1019 = v_r6_i230_i_i_sroa_28_sroa_12_0_i; p_v_r17_i572_sroa_18_sroa_6_09730106731071310788_i1018 = v_r6_i230_i_i_sroa_28_sroa_8_0_i; p_v_r17_i572_sroa_18_sroa_0_09729106741071210789_i1017 = v_r6_i230_i_i_sroa_28_sroa_0_0_i; p_v_r17_i572_sroa_12_sroa_6_09728106751071110790_i1016 = v_r3_i25_i_i3670_i; p_v_r17_i572_sroa_12_sroa_3_09727106761071010791_i1015 = v_r6_i_i_i_sroa_0_99250_i; p_v_r30_sroa_4_01038510792_i1014 = 20u; goto L_join_3_i285; } else { goto L_else_2_i4493_i_arm_1_i_i227_crit_edge; }
+    if (v_r12_i_i_i_not_i4496_i) { p_v_r34_sroa_4_010639_i1030 = 0u; p_v_r12_sroa_10_i5207_sroa_3_0_ph1072410777_i1029 = AT(f_static_25); p_v_r12_sroa_10_i5207_sroa_5_0_ph1072310778_i1028 = 9u; p_v_r12_sroa_10_i5207_sroa_6_0_ph1072210779_i1027 = 1u; p_v_r12_sroa_10_i5207_sroa_7_0_ph1072110780_i1026 = AT(f_static_24); p_v_r12_sroa_10_i5207_sroa_8_0_ph1072010781_i1025 = 5u; p_v_r12_sroa_10_i5207_sroa_9_0_ph1071910782_i1024 = 1u; p_v_r12_sroa_10_i5207_sroa_10_0_ph1071810783_i1023 = 5u; p_v_r12_sroa_10_i5207_sroa_11_0_ph1071710784_i1022 = AT(f_static_22); p_v_r12_sroa_10_i5207_sroa_12_0_ph1071610785_i1021 = 0u; p_v_r17_i572_sroa_15_sroa_0_09732106711071510786_i1020 = v_r6_i230_i_i_sroa_237986_sroa_0_0_i; p_v_r17_i572_sroa_18_sroa_7_09731106721071410787_i1019 = v_r6_i230_i_i_sroa_28_sroa_12_0_i; p_v_r17_i572_sroa_18_sroa_6_09730106731071310788_i1018 = v_r6_i230_i_i_sroa_28_sroa_8_0_i; p_v_r17_i572_sroa_18_sroa_0_09729106741071210789_i1017 = v_r6_i230_i_i_sroa_28_sroa_0_0_i; p_v_r17_i572_sroa_12_sroa_6_09728106751071110790_i1016 = v_r3_i25_i_i3670_i; p_v_r17_i572_sroa_12_sroa_3_09727106761071010791_i1015 = v_r6_i_i_i_sroa_0_99250_i; p_v_r30_sroa_4_01038510792_i1014 = 20u; goto L_join_3_i285; } else { goto L_else_2_i4493_i_arm_1_i_i227_crit_edge; }
 L_else_2_i4493_i_arm_1_i_i227_crit_edge:;
     v_r18_i_i4499_i_pre = get_u8(v_r16_i_i_i3139_i);
     { p_v_r18_i_i4499_i = v_r18_i_i4499_i_pre; p_v_r6_i_sroa_0_0 = v_r16_i_i_i3139_i; p_v_r6_i_sroa_26_0 = v_r19_i_i_i3140_i; p_v_r17_i572_sroa_12_sroa_3_0972710692_i = v_r6_i_i_i_sroa_0_99250_i; p_v_r17_i572_sroa_12_sroa_6_0972810691_i = v_r3_i25_i_i3670_i; p_v_r17_i572_sroa_18_sroa_0_0972910690_i = v_r6_i230_i_i_sroa_28_sroa_0_0_i; p_v_r17_i572_sroa_18_sroa_6_0973010689_i = v_r6_i230_i_i_sroa_28_sroa_8_0_i; p_v_r17_i572_sroa_18_sroa_7_0973110688_i = v_r6_i230_i_i_sroa_28_sroa_12_0_i; p_v_r17_i572_sroa_15_sroa_0_0973210687_i = v_r6_i230_i_i_sroa_237986_sroa_0_0_i; goto L_arm_1_i_i227; }
@@ -24057,7 +24086,7 @@ L_arm_1_i_i227:;
     v_r17_i572_sroa_18_sroa_7_0973110688_i = p_v_r17_i572_sroa_18_sroa_7_0973110688_i;
     v_r17_i572_sroa_15_sroa_0_0973210687_i = p_v_r17_i572_sroa_15_sroa_0_0973210687_i;
     v_r7_i_i4509_i = v_r18_i_i4499_i == 161u;
-    if (v_r7_i_i4509_i) { goto L_join_3_i_i4591_i; } else { p_v_r18_i_i5298_i = v_r18_i_i4499_i; p_v_r6_i_sroa_0_1 = v_r6_i_sroa_0_0; p_v_r6_i_sroa_26_1 = v_r6_i_sroa_26_0; p_v_r12_sroa_10_i5207_sroa_3_0_ph10758_i = (P)f_static_25; p_v_r12_sroa_10_i5207_sroa_5_0_ph10757_i = 9u; p_v_r12_sroa_10_i5207_sroa_6_0_ph10756_i = 1u; p_v_r12_sroa_10_i5207_sroa_7_0_ph10755_i = (P)f_static_24; p_v_r12_sroa_10_i5207_sroa_8_0_ph10754_i = 5u; p_v_r12_sroa_10_i5207_sroa_9_0_ph10753_i = 1u; p_v_r12_sroa_10_i5207_sroa_10_0_ph10752_i = 5u; p_v_r12_sroa_10_i5207_sroa_11_0_ph10751_i = (P)f_static_22; p_v_r12_sroa_10_i5207_sroa_12_0_ph10750_i = 0u; goto L_arm_1_i1061_i; }
+    if (v_r7_i_i4509_i) { goto L_join_3_i_i4591_i; } else { p_v_r18_i_i5298_i = v_r18_i_i4499_i; p_v_r6_i_sroa_0_1 = v_r6_i_sroa_0_0; p_v_r6_i_sroa_26_1 = v_r6_i_sroa_26_0; p_v_r12_sroa_10_i5207_sroa_3_0_ph10758_i = AT(f_static_25); p_v_r12_sroa_10_i5207_sroa_5_0_ph10757_i = 9u; p_v_r12_sroa_10_i5207_sroa_6_0_ph10756_i = 1u; p_v_r12_sroa_10_i5207_sroa_7_0_ph10755_i = AT(f_static_24); p_v_r12_sroa_10_i5207_sroa_8_0_ph10754_i = 5u; p_v_r12_sroa_10_i5207_sroa_9_0_ph10753_i = 1u; p_v_r12_sroa_10_i5207_sroa_10_0_ph10752_i = 5u; p_v_r12_sroa_10_i5207_sroa_11_0_ph10751_i = AT(f_static_22); p_v_r12_sroa_10_i5207_sroa_12_0_ph10750_i = 0u; goto L_arm_1_i1061_i; }
 L_join_3_i_i4591_i:;
     v_r39_i_i4594_i = v_r6_i_sroa_26_0 == 1u;
     if (v_r39_i_i4594_i) { p_v_r15_sroa_7_0_ph = 1u; p_v_r15_sroa_13_0_ph = 0u; p_v_r15_sroa_19_0_ph = 0u; goto L_arm_6; } else { goto L_arm_1_i59_i_i; }
@@ -24083,7 +24112,7 @@ L_join_3_i4640_i:;
     v_r39_i4644_i = v_r19_i_i_i4598_i < v_r3_i25_i4641_i;
     if (v_r39_i4644_i) { p_v_r15_sroa_7_0_ph = 1u; p_v_r15_sroa_13_0_ph = 0u; p_v_r15_sroa_19_0_ph = 0u; goto L_arm_6; } else { goto L_arm_14_i_i_i; }
 L_arm_14_i_i_i:;
-    v_r16_i_i4648_i = (P)((uintptr_t)v_r16_i_i_i4597_i + (u64)(v_r3_i25_i4641_i));
+    v_r16_i_i4648_i = (P)((u64)v_r16_i_i_i4597_i + (u64)(v_r3_i25_i4641_i));
     v_r19_i_i4649_i = (u64)((u64)(v_r19_i_i_i4598_i) - (u64)(v_r3_i25_i4641_i));
     switch (v_r106_i_i_i) {
     case 0u: { p_v_r15_sroa_7_0_ph = 8u; p_v_r15_sroa_13_0_ph = v_r106_i_i_i; p_v_r15_sroa_19_0_ph = v_r106_i_i_i; goto L_arm_6; }
@@ -24159,7 +24188,7 @@ L_join_3_i_i4771_i:;
     v_r39_i_i4775_i = v_r36_i_i4774_i < v_r12_sroa_10_0_i4712_i;
     if (v_r39_i_i4775_i) { p_v_r15_sroa_7_0_ph = 1u; p_v_r15_sroa_13_0_ph = 0u; p_v_r15_sroa_19_0_ph = 0u; goto L_arm_6; } else { goto L_join_3_i_i4814_i; }
 L_join_3_i_i4814_i:;
-    v_r16_i_i_i4778_i = (P)((uintptr_t)v_r13_sroa_0_0_copyload_i_i4777_i + (u64)(v_r12_sroa_10_0_i4712_i));
+    v_r16_i_i_i4778_i = (P)((u64)v_r13_sroa_0_0_copyload_i_i4777_i + (u64)(v_r12_sroa_10_0_i4712_i));
     v_r19_i_i_i4779_i = (u64)((u64)(v_r36_i_i4774_i) - (u64)(v_r12_sroa_10_0_i4712_i));
     v_r39_i_i4817_i = v_r12_sroa_10_0_i4712_i == 0u;
     if (v_r39_i_i4817_i) { p_v_r0_i148_sroa_9_0_ph_i = 1u; p_v_r0_i148_sroa_15_0_ph_i = 0u; p_v_r0_i148_sroa_21_0_ph_i = 0u; goto L_arm_2_i114_i; } else { goto L_arm_1_i_i289_i; }
@@ -24199,7 +24228,7 @@ L_join_3_i4911_i:;
     v_r39_i4915_i = v_r19_i_i_i4869_i < v_r3_i25_i4912_i;
     if (v_r39_i4915_i) { p_v_r0_i148_sroa_9_0_ph_i = 1u; p_v_r0_i148_sroa_15_0_ph_i = 0u; p_v_r0_i148_sroa_21_0_ph_i = 0u; goto L_arm_2_i114_i; } else { goto L_arm_14_i_i406_i; }
 L_arm_14_i_i406_i:;
-    v_r16_i_i4919_i = (P)((uintptr_t)v_r16_i_i_i4868_i + (u64)(v_r3_i25_i4912_i));
+    v_r16_i_i4919_i = (P)((u64)v_r16_i_i_i4868_i + (u64)(v_r3_i25_i4912_i));
     v_r19_i_i4920_i = (u64)((u64)(v_r19_i_i_i4869_i) - (u64)(v_r3_i25_i4912_i));
     switch (v_r106_i_i389_i) {
     case 0u: { p_v_r0_i148_sroa_9_0_ph_i = 8u; p_v_r0_i148_sroa_15_0_ph_i = v_r106_i_i389_i; p_v_r0_i148_sroa_21_0_ph_i = v_r106_i_i389_i; goto L_arm_2_i114_i; }
@@ -24369,7 +24398,7 @@ L_join_3_i5438_i:;
     v_r39_i5442_i = v_r19_i_i_i5396_i < v_r3_i25_i5439_i;
     if (v_r39_i5442_i) { p_v_r15_sroa_7_0_ph = 1u; p_v_r15_sroa_13_0_ph = 0u; p_v_r15_sroa_19_0_ph = 0u; goto L_arm_6; } else { goto L_arm_14_i_i1369_i; }
 L_arm_14_i_i1369_i:;
-    v_r16_i_i5446_i = (P)((uintptr_t)v_r16_i_i_i5395_i + (u64)(v_r3_i25_i5439_i));
+    v_r16_i_i5446_i = (P)((u64)v_r16_i_i_i5395_i + (u64)(v_r3_i25_i5439_i));
     v_r19_i_i5447_i = (u64)((u64)(v_r19_i_i_i5396_i) - (u64)(v_r3_i25_i5439_i));
     switch (v_r106_i_i1352_i) {
     case 0u: { p_v_r15_sroa_7_0_ph = 8u; p_v_r15_sroa_13_0_ph = v_r106_i_i1352_i; p_v_r15_sroa_19_0_ph = v_r106_i_i1352_i; goto L_arm_6; }
@@ -24445,7 +24474,7 @@ L_join_3_i_i5568_i:;
     v_r39_i_i5572_i = v_r36_i_i5571_i < v_r12_sroa_10_0_i5510_i;
     if (v_r39_i_i5572_i) { p_v_r15_sroa_7_0_ph = 1u; p_v_r15_sroa_13_0_ph = 0u; p_v_r15_sroa_19_0_ph = 0u; goto L_arm_6; } else { goto L_join_3_i_i5611_i; }
 L_join_3_i_i5611_i:;
-    v_r16_i_i_i5575_i = (P)((uintptr_t)v_r13_sroa_0_0_copyload_i_i5574_i + (u64)(v_r12_sroa_10_0_i5510_i));
+    v_r16_i_i_i5575_i = (P)((u64)v_r13_sroa_0_0_copyload_i_i5574_i + (u64)(v_r12_sroa_10_0_i5510_i));
     v_r19_i_i_i5576_i = (u64)((u64)(v_r36_i_i5571_i) - (u64)(v_r12_sroa_10_0_i5510_i));
     v_r39_i_i5614_i = v_r12_sroa_10_0_i5510_i == 0u;
     if (v_r39_i_i5614_i) { p_v_r15_sroa_7_0_ph = 1u; p_v_r15_sroa_13_0_ph = 0u; p_v_r15_sroa_19_0_ph = 0u; goto L_arm_6; } else { goto L_arm_1_i_i1689_i; }
@@ -24485,7 +24514,7 @@ L_join_3_i5708_i:;
     v_r39_i5712_i = v_r19_i_i_i5666_i < v_r3_i25_i5709_i;
     if (v_r39_i5712_i) { p_v_r15_sroa_7_0_ph = 1u; p_v_r15_sroa_13_0_ph = 0u; p_v_r15_sroa_19_0_ph = 0u; goto L_arm_6; } else { goto L_arm_14_i_i1806_i; }
 L_arm_14_i_i1806_i:;
-    v_r16_i_i5716_i = (P)((uintptr_t)v_r16_i_i_i5665_i + (u64)(v_r3_i25_i5709_i));
+    v_r16_i_i5716_i = (P)((u64)v_r16_i_i_i5665_i + (u64)(v_r3_i25_i5709_i));
     v_r19_i_i5717_i = (u64)((u64)(v_r19_i_i_i5666_i) - (u64)(v_r3_i25_i5709_i));
     switch (v_r106_i_i1789_i) {
     case 0u: { p_v_r15_sroa_7_0_ph = 8u; p_v_r15_sroa_13_0_ph = v_r106_i_i1789_i; p_v_r15_sroa_19_0_ph = v_r106_i_i1789_i; goto L_arm_6; }
@@ -24629,7 +24658,7 @@ L_join_3_i6273_i:;
     v_r39_i6277_i = v_r19_i_i_i6231_i < v_r3_i25_i6274_i;
     if (v_r39_i6277_i) { p_v_r15_sroa_7_0_ph = 1u; p_v_r15_sroa_13_0_ph = 0u; p_v_r15_sroa_19_0_ph = 0u; goto L_arm_6; } else { goto L_arm_14_i_i2295_i; }
 L_arm_14_i_i2295_i:;
-    v_r16_i_i6281_i = (P)((uintptr_t)v_r16_i_i_i6230_i + (u64)(v_r3_i25_i6274_i));
+    v_r16_i_i6281_i = (P)((u64)v_r16_i_i_i6230_i + (u64)(v_r3_i25_i6274_i));
     v_r19_i_i6282_i = (u64)((u64)(v_r19_i_i_i6231_i) - (u64)(v_r3_i25_i6274_i));
     switch (v_r106_i_i2278_i) {
     case 0u: { p_v_r15_sroa_7_0_ph = 8u; p_v_r15_sroa_13_0_ph = v_r106_i_i2278_i; p_v_r15_sroa_19_0_ph = v_r106_i_i2278_i; goto L_arm_6; }
@@ -24743,7 +24772,7 @@ L_join_3_i6543_i:;
     v_r39_i6547_i = v_r19_i_i_i6501_i < v_r3_i25_i6544_i;
     if (v_r39_i6547_i) { p_v_r0_i2454_sroa_21_0_ph_i = 0u; p_v_r0_i2454_sroa_15_0_ph_i = 0u; p_v_r0_i2454_sroa_9_0_ph_i = 1u; goto L_arm_2_i2420_i; } else { goto L_arm_14_i_i2724_i; }
 L_arm_14_i_i2724_i:;
-    v_r16_i_i6551_i = (P)((uintptr_t)v_r16_i_i_i6500_i + (u64)(v_r3_i25_i6544_i));
+    v_r16_i_i6551_i = (P)((u64)v_r16_i_i_i6500_i + (u64)(v_r3_i25_i6544_i));
     v_r19_i_i6552_i = (u64)((u64)(v_r19_i_i_i6501_i) - (u64)(v_r3_i25_i6544_i));
     switch (v_r106_i_i2707_i) {
     case 0u: { p_v_r0_i2454_sroa_21_0_ph_i = v_r106_i_i2707_i; p_v_r0_i2454_sroa_15_0_ph_i = v_r106_i_i2707_i; p_v_r0_i2454_sroa_9_0_ph_i = 8u; goto L_arm_2_i2420_i; }
@@ -25000,7 +25029,7 @@ L_join_3_i:;
     if (v_r39_i8) { p_v_r11_sroa_4_0_sink_ph = 1u; p_v_r11_sroa_7_0_sink_ph = 0u; goto L_common_ret_sink_split; } else { goto L_arm_1_i; }
 L_arm_1_i:;
     v_r13_sroa_0_0_copyload_i = get_P(v_a1);
-    v_r16_i_i = (P)((uintptr_t)v_r13_sroa_0_0_copyload_i + (u64)(v_r3_i25_i));
+    v_r16_i_i = (P)((u64)v_r13_sroa_0_0_copyload_i + (u64)(v_r3_i25_i));
     v_r19_i_i = (u64)((u64)(v_r36_i) - (u64)(v_r3_i25_i));
     put_P(v_a1, v_r16_i_i);
     put_u64(v_r35_i7, v_r19_i_i);
@@ -25219,7 +25248,7 @@ L_join_5_i_preheader:;
     v_r20_i_3 = (u1)(((u32)(v_r20_i_2) | (u32)(v_r7_i_i_i_3)) & 1);
     if (v_r20_i_3) { p_v_r3_0 = 0u; goto L_join_9; } else { goto L_join_3; }
 L_join_3:;
-    v_r83_i = f_core_cmp_slices_groups_equal_i8_31_core_cmp_number(v_r1_sroa_0_0_copyload_i, 9u, (P)f_static_25);
+    v_r83_i = f_core_cmp_slices_groups_equal_i8_31_core_cmp_number(v_r1_sroa_0_0_copyload_i, 9u, AT(f_static_25));
     if (v_r83_i) { goto L_then_4; } else { p_v_r3_0 = 0u; goto L_join_9; }
 L_then_4:;
     v_r15_i = v_a0 + 17;
@@ -26243,7 +26272,7 @@ L_then_1:;
     v_r12_i = get_u64(v_r11_i);
     v_r17_i = (u64)((u64)(v_r12_i) + (u64)(18446744073709551614ull));
     v_r20_i = get_P(v_a0);
-    v_r26_i = (P)((uintptr_t)v_r20_i + (u64)(v_r17_i));
+    v_r26_i = (P)((u64)v_r20_i + (u64)(v_r17_i));
     v_r8_sroa_2_0_insert_shift = (u16)((u32)(v_r64) << (u32)((8u & 31)));
     v_r8_sroa_0_0_insert_ext = (u16)v_a1;
     v_r8_sroa_0_0_insert_insert = (u16)((u32)(v_r8_sroa_2_0_insert_shift) | (u32)(v_r8_sroa_0_0_insert_ext));
@@ -26259,7 +26288,7 @@ L_then_4:;
     v_r12_i27 = get_u64(v_r11_i26);
     v_r17_i28 = (u64)((u64)(v_r12_i27) + (u64)(18446744073709551613ull));
     v_r20_i29 = get_P(v_a0);
-    v_r26_i30 = (P)((uintptr_t)v_r20_i29 + (u64)(v_r17_i28));
+    v_r26_i30 = (P)((u64)v_r20_i29 + (u64)(v_r17_i28));
     put_u8(v_r26_i30, v_a1);
     v_r14_sroa_2_0_r26_i30_sroa_idx = v_r26_i30 + 1;
     put_u8(v_r14_sroa_2_0_r26_i30_sroa_idx, 129u);
@@ -26275,7 +26304,7 @@ L_then_7:;
     v_r12_i45 = get_u64(v_r11_i44);
     v_r17_i46 = (u64)((u64)(v_r12_i45) + (u64)(18446744073709551612ull));
     v_r20_i47 = get_P(v_a0);
-    v_r26_i48 = (P)((uintptr_t)v_r20_i47 + (u64)(v_r17_i46));
+    v_r26_i48 = (P)((u64)v_r20_i47 + (u64)(v_r17_i46));
     v_0 = (u32)((u32)(v_a2) | (u32)(8519680u));
     v_r20_sroa_3_0_insert_insert = __builtin_bswap32(v_0);
     v_r20_sroa_0_0_insert_ext = (u32)v_a1;
@@ -26296,7 +26325,7 @@ L_then_10:;
     v_r12_i63 = get_u64(v_r11_i62);
     v_r17_i64 = (u64)((u64)(v_r12_i63) + (u64)(18446744073709551611ull));
     v_r20_i65 = get_P(v_a0);
-    v_r26_i66 = (P)((uintptr_t)v_r20_i65 + (u64)(v_r17_i64));
+    v_r26_i66 = (P)((u64)v_r20_i65 + (u64)(v_r17_i64));
     put_u8(v_r26_i66, v_a1);
     v_r29_sroa_2_0_r26_i66_sroa_idx = v_r26_i66 + 1;
     put_u8(v_r29_sroa_2_0_r26_i66_sroa_idx, 131u);
@@ -26320,7 +26349,7 @@ L_else_11:;
     v_r12_i81 = get_u64(v_r11_i80);
     v_r17_i82 = (u64)((u64)(v_r12_i81) + (u64)(18446744073709551610ull));
     v_r20_i83 = get_P(v_a0);
-    v_r26_i84 = (P)((uintptr_t)v_r20_i83 + (u64)(v_r17_i82));
+    v_r26_i84 = (P)((u64)v_r20_i83 + (u64)(v_r17_i82));
     put_u8(v_r26_i84, v_a1);
     v_r40_sroa_2_0_r26_i84_sroa_idx = v_r26_i84 + 1;
     put_u8(v_r40_sroa_2_0_r26_i84_sroa_idx, 132u);
@@ -26784,11 +26813,11 @@ static void f_pkcs1_c_oaep_from_c_oaep(P v_a0, P v_a1) {
     P v_r118;
     P v_r120;
     P v_r122;
-    v_r11_i14 = m_v_r11_i14;
-    v_r11_i = m_v_r11_i;
-    v_r9_sroa_18_sroa_0 = m_v_r9_sroa_18_sroa_0;
-    v_r15 = m_v_r15;
-    v_r21_sroa_18 = m_v_r21_sroa_18;
+    v_r11_i14 = AT(m_v_r11_i14);
+    v_r11_i = AT(m_v_r11_i);
+    v_r9_sroa_18_sroa_0 = AT(m_v_r9_sroa_18_sroa_0);
+    v_r15 = AT(m_v_r15);
+    v_r21_sroa_18 = AT(m_v_r21_sroa_18);
     fill(v_r15, 0u, 80u);
     fill(v_r21_sroa_18, 0u, 20u);
     fill(v_r11_i, 0u, 24u);
@@ -27064,10 +27093,10 @@ static void f_pkcs1_c_algorithm_from_c_mask_gen(P v_a0, P v_a1) {
     P v_r0_sroa_31_8_r135_sroa_idx;
     P v_r0_sroa_31_sroa_7_0_r0_sroa_31_8_r135_sroa_idx_sro;
     P v_r0_sroa_31_sroa_8_0_r0_sroa_31_8_r135_sroa_idx_sro;
-    v_r11_i = m_v_r11_i;
-    v_r8 = m_v_r8;
-    v_r13_sroa_4 = m_v_r13_sroa_4;
-    v_r16_sroa_18_sroa_0 = m_v_r16_sroa_18_sroa_0;
+    v_r11_i = AT(m_v_r11_i);
+    v_r8 = AT(m_v_r8);
+    v_r13_sroa_4 = AT(m_v_r13_sroa_4);
+    v_r16_sroa_18_sroa_0 = AT(m_v_r16_sroa_18_sroa_0);
     fill(v_r8, 0u, 24u);
     fill(v_r13_sroa_4, 0u, 16u);
     v_r9_sroa_0_0_copyload = get_P(v_a1);
@@ -27286,7 +27315,7 @@ static void f_pkcs1_c_algorithm_from_c_oid(P v_a0, P v_a1, u64 v_a2) {
     if (v_r15_i) { p_v_r0_sroa_0_0 = 1u; p_v_r0_sroa_4_0 = 5u; p_v_r0_sroa_1311_0 = (P)0; p_v_r0_sroa_16_0 = 0u; goto L_spki_core_identifier_view_IdentifierView_from_byte; } else { goto L_join_4_i; }
 L_join_4_i:;
     v_r22_i = (u64)((u64)(v_a2) + (u64)(18446744073709551615ull));
-    v_r25_i = (P)((uintptr_t)v_a1 + (u64)(v_r22_i));
+    v_r25_i = (P)((u64)v_a1 + (u64)(v_r22_i));
     v_r35_i4 = get_u8(v_r25_i);
     v_r37_i5 = (u8)(v_r35_i4 ^ ((u8)1 << 7)) > (u8)(255u ^ ((u8)1 << 7));
     if (v_r37_i5) { goto L_then_5_i; } else { goto L_join_5_preheader_i; }
@@ -27306,7 +27335,7 @@ L_tailrecurse_backedge_i:;
     v_sink18_i = p_v_sink18_i;
     v_sink_i = p_v_sink_i;
     v_r99_i = (u64)((u64)(v_sink18_i) + (u64)(v_a1_tr14_i));
-    v_r96_i = (P)((uintptr_t)v_a0_tr13_i + (u64)(v_sink_i));
+    v_r96_i = (P)((u64)v_a0_tr13_i + (u64)(v_sink_i));
     v_r82_i = v_r99_i == 0u;
     if (v_r82_i) { goto L_then_1_i3; } else { p_v_a1_tr14_i = v_r99_i; p_v_a0_tr13_i = v_r96_i; goto L_join_4_i7; }
 L_join_7_i:;
@@ -27374,7 +27403,7 @@ L_join_5_i:;
     v_r29_i = v_r27_i == 128u;
     if (v_r29_i) { goto L_spki_core_object_identifier_is_start_exit_i; } else { goto L_after_6_i; }
 L_spki_core_object_identifier_is_start_exit_i:;
-    v_r14_i_i = (P)((uintptr_t)v_r25_i9 + (u64)(-1));
+    v_r14_i_i = (P)((u64)v_r25_i9 + (u64)(-1));
     v_r16_i_i = get_u8(v_r14_i_i);
     v_r18_i_i = (u8)(v_r16_i_i ^ ((u8)1 << 7)) > (u8)(255u ^ ((u8)1 << 7));
     if (v_r18_i_i) { p_v_r0_sroa_0_0 = 1u; p_v_r0_sroa_4_0 = 5u; p_v_r0_sroa_1311_0 = (P)0; p_v_r0_sroa_16_0 = 0u; goto L_spki_core_identifier_view_IdentifierView_from_byte; } else { goto L_after_6_i; }
@@ -27617,7 +27646,7 @@ static void f_der_core_encode_AnyEncode_encoded_len_0e78a23a2762(P v_a0, P v_a1_
     P v_r3;
     P v_r5;
     P v_r7;
-    v_r7_i123_i_i = m_v_r7_i123_i_i;
+    v_r7_i123_i_i = AT(m_v_r7_i123_i_i);
     v_r8_i_i_i = v_a1_8_val == 0u;
     if (v_r8_i_i_i) { p_v_r12_sroa_10_0_i_ph28_i = 0u; p_v_r4_0_i_i_i = 2u; goto L_der_core_length_Length_for_tlv_exit_i; } else { goto L_after_1_i_i_i; }
 L_after_1_i_i_i:;
@@ -28264,9 +28293,9 @@ L_der_core_last_part_LastEncodeValue_prepend_value_a:;
     v_a1_val5_i_i = p_v_a1_val5_i_i;
     v_r17_i_i9_i_i = (u64)((u64)(v_a1_val6_i_i) - (u64)(v_r0_sroa_3_0_copyload_i_i_i));
     v_r20_i_i10_i_i = get_P(v_a2);
-    v_r26_i_i_i_i = (P)((uintptr_t)v_r20_i_i10_i_i + (u64)(v_r17_i_i9_i_i));
-    v_r8_i_i_i_i_i_i_i_i_i_i = (u64)((uintptr_t)v_r26_i_i_i_i);
-    v_r9_i_i_i_i_i_i_i_i_i_i = (u64)((uintptr_t)v_r0_sroa_0_0_copyload_i_i_i);
+    v_r26_i_i_i_i = (P)((u64)v_r20_i_i10_i_i + (u64)(v_r17_i_i9_i_i));
+    v_r8_i_i_i_i_i_i_i_i_i_i = (u64)((u64)v_r26_i_i_i_i);
+    v_r9_i_i_i_i_i_i_i_i_i_i = (u64)((u64)v_r0_sroa_0_0_copyload_i_i_i);
     v_r10_i_i_i_i_i_i_i_i_i_i = (u64)((u64)(v_r8_i_i_i_i_i_i_i_i_i_i) - (u64)(v_r9_i_i_i_i_i_i_i_i_i_i));
     v_r11_i_i_i_i_i_i_i_i_i_i = v_r10_i_i_i_i_i_i_i_i_i_i < v_r0_sroa_3_0_copyload_i_i_i;
     if (v_r11_i_i_i_i_i_i_i_i_i_i) { goto L_join_7_i_i_i_i_i_i_i_i_i_i_preheader; } else { goto L_apart_2_i_i_i_i_i_i_i_i_i_i; }
@@ -28480,9 +28509,9 @@ L_arm_1_i:;
     v_r12_i_i_i = get_u64(v_r11_i_i_i);
     v_r17_i_i_i = (u64)((u64)(v_r12_i_i_i) - (u64)(v_r1_sroa_3_0_copyload_i_i));
     v_r20_i_i_i = get_P(v_a1);
-    v_r26_i_i_i = (P)((uintptr_t)v_r20_i_i_i + (u64)(v_r17_i_i_i));
-    v_r8_i_i_i_i_i_i_i_i_i = (u64)((uintptr_t)v_r26_i_i_i);
-    v_r9_i_i_i_i_i_i_i_i_i = (u64)((uintptr_t)v_r1_sroa_0_0_copyload_i_i);
+    v_r26_i_i_i = (P)((u64)v_r20_i_i_i + (u64)(v_r17_i_i_i));
+    v_r8_i_i_i_i_i_i_i_i_i = (u64)((u64)v_r26_i_i_i);
+    v_r9_i_i_i_i_i_i_i_i_i = (u64)((u64)v_r1_sroa_0_0_copyload_i_i);
     v_r10_i_i_i_i_i_i_i_i_i = (u64)((u64)(v_r8_i_i_i_i_i_i_i_i_i) - (u64)(v_r9_i_i_i_i_i_i_i_i_i));
     v_r11_i_i_i_i_i_i_i_i_i = v_r10_i_i_i_i_i_i_i_i_i < v_r1_sroa_3_0_copyload_i_i;
     if (v_r11_i_i_i_i_i_i_i_i_i) { goto L_join_7_i_i_i_i_i_i_i_i_i_preheader; } else { goto L_apart_2_i_i_i_i_i_i_i_i_i; }
@@ -28554,9 +28583,9 @@ L_der_core_last_part_LastEncodeValue_prepend_value_4:;
     v_a1_val6 = get_u64(v_3);
     v_r17_i_i = (u64)((u64)(v_a1_val6) - (u64)(v_r0_sroa_3_0_copyload_i));
     v_r20_i_i = get_P(v_a1);
-    v_r26_i_i = (P)((uintptr_t)v_r20_i_i + (u64)(v_r17_i_i));
-    v_r8_i_i_i_i_i_i_i_i = (u64)((uintptr_t)v_r26_i_i);
-    v_r9_i_i_i_i_i_i_i_i = (u64)((uintptr_t)v_r0_sroa_0_0_copyload_i);
+    v_r26_i_i = (P)((u64)v_r20_i_i + (u64)(v_r17_i_i));
+    v_r8_i_i_i_i_i_i_i_i = (u64)((u64)v_r26_i_i);
+    v_r9_i_i_i_i_i_i_i_i = (u64)((u64)v_r0_sroa_0_0_copyload_i);
     v_r10_i_i_i_i_i_i_i_i = (u64)((u64)(v_r8_i_i_i_i_i_i_i_i) - (u64)(v_r9_i_i_i_i_i_i_i_i));
     v_r11_i_i_i_i_i_i_i_i = v_r10_i_i_i_i_i_i_i_i < v_r0_sroa_3_0_copyload_i;
     if (v_r11_i_i_i_i_i_i_i_i) { goto L_join_7_i_i_i_i_i_i_i_i_preheader; } else { goto L_apart_2_i_i_i_i_i_i_i_i; }
@@ -28709,9 +28738,9 @@ static void f_pkcs1_c_pss_from_c_pss(P v_a0, P v_a1) {
     P v_r0_sroa_46_8_r137_sroa_idx;
     P v_r0_sroa_47_8_r137_sroa_idx;
     P v_r0_sroa_48_8_r137_sroa_idx;
-    v_r11_i = m_v_r11_i;
-    v_r9_sroa_18_sroa_0 = m_v_r9_sroa_18_sroa_0;
-    v_r13 = m_v_r13;
+    v_r11_i = AT(m_v_r11_i);
+    v_r9_sroa_18_sroa_0 = AT(m_v_r9_sroa_18_sroa_0);
+    v_r13 = AT(m_v_r13);
     fill(v_r13, 0u, 80u);
     fill(v_r11_i, 0u, 24u);
     v_r12_sroa_0_0_copyload_i = get_P(v_a1);
@@ -29000,7 +29029,7 @@ static void f_der_core_encode_AnyEncode_encoded_len_5a57132c6d95(P v_a0, P v_a1_
     P v_r3;
     P v_r5;
     P v_r7;
-    v_r7_i148_i_i_i = m_v_r7_i148_i_i_i;
+    v_r7_i148_i_i_i = AT(m_v_r7_i148_i_i_i);
     v_r8_i_i_i = v_a1_8_val == 0u;
     if (v_r8_i_i_i) { p_v_r12_sroa_10_0_i_ph28_i = 0u; p_v_r4_0_i_i_i = 2u; goto L_der_core_length_Length_for_tlv_exit_i; } else { goto L_start_split_i_i_i; }
 L_start_split_i_i_i:;
@@ -29203,7 +29232,7 @@ L_der_core_encode_encoding_len_5a57132c6d95142a_exit:;
     put_u32(v_r7, v_r5_sroa_10_0_i_i_sink_i);
     return;
 }
-u1 pkcs1_c_algorithm_is(P v_a0, P v_a1, u64 v_a2) {
+u1 NAME(algorithm_is)(P v_a0, P v_a1, u64 v_a2) {
     u1 p_v_r5_0_in_i;
     u64 p_v_common_ret_op_i_ph_i_i;
     u1 p_v_r10_0_i;
@@ -29271,7 +29300,7 @@ u1 pkcs1_c_algorithm_is(P v_a0, P v_a1, u64 v_a2) {
     u1 v_r10_0_i;
     v_r1 = v_a1 == (P)0;
     v_r3 = v_r1 ? 4096u : 0u;
-    v_r4 = (P)((uintptr_t)v_a1 + (u64)(v_r3));
+    v_r4 = (P)((u64)v_a1 + (u64)(v_r3));
     v_r15_i = v_a0 + 17;
     v_r16_i = get_u8(v_r15_i);
     v_r21_i = v_r16_i == 5u;
@@ -29361,7 +29390,7 @@ L_pkcs1_c_algorithm_pkcs1_c_algorithm_is_exit:;
     v_r10_0_i = p_v_r10_0_i;
     return v_r10_0_i;
 }
-u64 pkcs1_c_bit_len(P v_a0, u64 v_a1) {
+u64 NAME(bit_len)(P v_a0, u64 v_a1) {
     P p_v_r3_sroa_0_08_i_i_i;
     u64 p_v_r3_sroa_6_07_i_i_i;
     u64 p_v_r3_sroa_6_0_lcssa_i3844_i_i;
@@ -29394,12 +29423,12 @@ u64 pkcs1_c_bit_len(P v_a0, u64 v_a1) {
     u64 v_r5_0_i;
     v_r1 = v_a0 == (P)0;
     v_r3 = v_r1 ? 4096u : 0u;
-    v_r4 = (P)((uintptr_t)v_a0 + (u64)(v_r3));
+    v_r4 = (P)((u64)v_a0 + (u64)(v_r3));
     v_r146_i_i_i = v_a1 > 1u;
     if (v_r146_i_i_i) { goto L_then_3_preheader_i_i_i; } else { goto L_der_core_integer_uint_strip_exit_i_i; }
 L_then_3_preheader_i_i_i:;
-    v_0 = (P)((uintptr_t)v_r4 + (u64)(v_a1));
-    v_scevgep_i_i_i = (P)((uintptr_t)v_0 + (u64)(-1));
+    v_0 = (P)((u64)v_r4 + (u64)(v_a1));
+    v_scevgep_i_i_i = (P)((u64)v_0 + (u64)(-1));
     { p_v_r3_sroa_0_08_i_i_i = v_r4; p_v_r3_sroa_6_07_i_i_i = v_a1; goto L_then_3_i_i_i; }
 L_then_3_i_i_i:;
     v_r3_sroa_0_08_i_i_i = p_v_r3_sroa_0_08_i_i_i;
@@ -29435,7 +29464,7 @@ L_pkcs1_c_numbers_pkcs1_c_bit_len_exit:;
     v_r5_0_i = p_v_r5_0_i;
     return v_r5_0_i;
 }
-u1 pkcs1_c_oaep_label(P v_a0, P v_a1) {
+u1 NAME(oaep_label)(P v_a0, P v_a1) {
     u1 p_v_r509_i;
     P v_r15_i;
     P v_r17_i;
@@ -29498,7 +29527,7 @@ L_join_5_i_preheader_i:;
     v_r20_i_3_i = (u1)(((u32)(v_r20_i_2_i) | (u32)(v_r7_i_i_i_3_i)) & 1);
     if (v_r20_i_3_i) { p_v_r509_i = 0u; goto L_pkcs1_c_oaep_pkcs1_c_oaep_label_exit; } else { goto L_join_6_i; }
 L_join_6_i:;
-    v_r83_i_i = f_core_cmp_slices_groups_equal_i8_31_core_cmp_number(v_r1_sroa_0_0_copyload_i_i, 9u, (P)f_static_0);
+    v_r83_i_i = f_core_cmp_slices_groups_equal_i8_31_core_cmp_number(v_r1_sroa_0_0_copyload_i_i, 9u, AT(f_static_0));
     if (v_r83_i_i) { goto L_then_7_i; } else { p_v_r509_i = 0u; goto L_pkcs1_c_oaep_pkcs1_c_oaep_label_exit; }
 L_then_7_i:;
     v_r58_i = v_a0 + 128;
@@ -29508,14 +29537,14 @@ L_pkcs1_c_oaep_pkcs1_c_oaep_label_exit:;
     v_r509_i = p_v_r509_i;
     return v_r509_i;
 }
-void pkcs1_c_version(P v_a0) {
+void NAME(version)(P v_a0) {
     P v_r2_sroa_3_0_a0_sroa_idx_i;
-    put_P(v_a0, (P)f_static_1);
+    put_P(v_a0, AT(f_static_1));
     v_r2_sroa_3_0_a0_sroa_idx_i = v_a0 + 8;
     put_u64(v_r2_sroa_3_0_a0_sroa_idx_i, 6u);
     return;
 }
-u32 pkcs1_c_public_key_decode(P v_a0, u64 v_a1, P v_a2) {
+u32 NAME(public_key_decode)(P v_a0, u64 v_a1, P v_a2) {
     ALIGNED(8) unsigned char m_v_r0_i_i_i[40];
     P p_v_r0_i1_sroa_7_0_i_i;
     u64 p_v_r0_i1_sroa_11_0_i_i;
@@ -29711,10 +29740,10 @@ u32 pkcs1_c_public_key_decode(P v_a0, u64 v_a1, P v_a2) {
     u32 v_switch_idx_cast_i_i_i;
     u32 v_switch_offset_i_i_i;
     u32 v_r6_0_i;
-    v_r0_i_i_i = m_v_r0_i_i_i;
+    v_r0_i_i_i = AT(m_v_r0_i_i_i);
     v_r1 = v_a0 == (P)0;
     v_r3 = v_r1 ? 4096u : 0u;
-    v_r4 = (P)((uintptr_t)v_a0 + (u64)(v_r3));
+    v_r4 = (P)((u64)v_a0 + (u64)(v_r3));
     fill(v_r0_i_i_i, 0u, 40u);
     v_0 = (u64)((u64)(v_a1) + (u64)(18446744069414584320ull));
     v_or_cond376_i_i = v_0 < 18446744069414584322ull;
@@ -29802,7 +29831,7 @@ L_then_6_i_i_i_i:;
 L_then_9_i_i_i_i:;
     v_r92_i_i_i_i = (u64)v_r83_i_i_i_i;
     v_r15_i86_i_i = v_r65_i_i_i_i < v_r92_i_i_i_i;
-    v_r29_i88_i_i = (P)((uintptr_t)v_r62_i_i_i_i + (u64)(v_r92_i_i_i_i));
+    v_r29_i88_i_i = (P)((u64)v_r62_i_i_i_i + (u64)(v_r92_i_i_i_i));
     v_r32_i89_i_i = (u64)((u64)(v_r65_i_i_i_i) - (u64)(v_r92_i_i_i_i));
     v_r27_i37_i_i = v_r83_i_i_i_i == 0u;
     v_or_cond_i = (u1)(((u32)(v_r27_i37_i_i) | (u32)(v_r15_i86_i_i)) & 1);
@@ -29829,7 +29858,7 @@ L_then_20_i_i_i_i:;
     if (v_r15_i96_i_i) { goto L_der_core_decode_AnyDecodeRefSliceU8_from_der_fcd42; } else { goto L_join_3_i97_i_i; }
 L_join_3_i97_i_i:;
     v_r119_i_i_i_i = v_r0_i1_sroa_7_0_i_i + 4;
-    v_r29_i98_i_i = (P)((uintptr_t)v_r119_i_i_i_i + (u64)(v_r148_i_i_i_i));
+    v_r29_i98_i_i = (P)((u64)v_r119_i_i_i_i + (u64)(v_r148_i_i_i_i));
     v_r32_i99_i_i = (u64)((u64)(v_r122_i_i_i_i) - (u64)(v_r148_i_i_i_i));
     { p_v_r0_i32_sroa_13_0_i27_i = v_r32_i99_i_i; p_v_r0_i32_sroa_12_0_i26_i = v_r29_i98_i_i; p_v_r0_i32_sroa_11_0_i25_i = v_r148_i_i_i_i; p_v_r0_i32_sroa_7_0_i24_i = v_r119_i_i_i_i; goto L_join_5_i38_i_i; }
 L_join_14_i_i_i_i:;
@@ -29849,7 +29878,7 @@ L_then_31_i_i_i_i:;
     v_r15_i106_i_i = v_r173_i_i_i_i < v_r199_i_i_i_i;
     if (v_r15_i106_i_i) { goto L_der_core_decode_AnyDecodeRefSliceU8_from_der_fcd42; } else { goto L_join_3_i107_i_i; }
 L_join_3_i107_i_i:;
-    v_r29_i108_i_i = (P)((uintptr_t)v_r170_i_i_i_i + (u64)(v_r199_i_i_i_i));
+    v_r29_i108_i_i = (P)((u64)v_r170_i_i_i_i + (u64)(v_r199_i_i_i_i));
     v_r32_i109_i_i = (u64)((u64)(v_r173_i_i_i_i) - (u64)(v_r199_i_i_i_i));
     { p_v_r0_i32_sroa_13_0_i27_i = v_r32_i109_i_i; p_v_r0_i32_sroa_12_0_i26_i = v_r29_i108_i_i; p_v_r0_i32_sroa_11_0_i25_i = v_r199_i_i_i_i; p_v_r0_i32_sroa_7_0_i24_i = v_r170_i_i_i_i; goto L_join_5_i38_i_i; }
 L_join_5_i38_i_i:;
@@ -30006,29 +30035,72 @@ L_pkcs1_c_public_key_pkcs1_c_public_key_decode_exit:;
     v_r6_0_i = p_v_r6_0_i;
     return v_r6_0_i;
 }
-void pkcs1_c_status_text(u32 v_a0, P v_a1) {
+void NAME(status_text)(u32 v_a0, P v_a1) {
     u64 p_v_r1_sroa_22_0_i_i;
     P p_v_r1_sroa_0_0_i_i;
-    u1 v_0;
-    u64 v_1;
-    P v_switch_gep;
-    u64 v_switch_load;
-    u64 v_2;
-    P v_switch_gep1;
-    P v_switch_load2;
     u64 v_r1_sroa_22_0_i_i;
     P v_r1_sroa_0_0_i_i;
     P v_r0_sroa_3_0_a1_sroa_idx_i;
-    v_0 = v_a0 < 22u;
-    if (v_0) { goto L_switch_lookup; } else { p_v_r1_sroa_22_0_i_i = 14u; p_v_r1_sroa_0_0_i_i = (P)f_static_21; goto L_pkcs1_c_status_pkcs1_c_status_text_exit; }
-L_switch_lookup:;
-    v_1 = (u64)v_a0;
-    v_switch_gep = (P)f_switch_table_pkcs1_c_status_text + (int64_t)(v_1 * 8);
-    v_switch_load = get_u64(v_switch_gep);
-    v_2 = (u64)v_a0;
-    v_switch_gep1 = (P)f_switch_table_pkcs1_c_status_text_152 + (int64_t)(v_2 * 8);
-    v_switch_load2 = get_P(v_switch_gep1);
-    { p_v_r1_sroa_22_0_i_i = v_switch_load; p_v_r1_sroa_0_0_i_i = v_switch_load2; goto L_pkcs1_c_status_pkcs1_c_status_text_exit; }
+    switch (v_a0) {
+    case 0u: { p_v_r1_sroa_22_0_i_i = 9u; p_v_r1_sroa_0_0_i_i = AT(f_static_2); goto L_pkcs1_c_status_pkcs1_c_status_text_exit; }
+    case 1u: { goto L_arm_2_i_i; }
+    case 2u: { goto L_arm_3_i_i; }
+    case 3u: { goto L_arm_4_i_i; }
+    case 4u: { goto L_arm_5_i_i; }
+    case 5u: { goto L_arm_6_i_i; }
+    case 6u: { goto L_arm_7_i_i; }
+    case 7u: { goto L_arm_8_i_i; }
+    case 8u: { goto L_arm_9_i_i; }
+    case 9u: { goto L_arm_10_i_i; }
+    case 10u: { goto L_arm_11_i_i; }
+    case 11u: { goto L_arm_12_i_i; }
+    case 12u: { goto L_arm_13_i_i; }
+    case 13u: { goto L_arm_14_i_i; }
+    case 14u: { goto L_arm_15_i_i; }
+    case 15u: { goto L_arm_16_i_i; }
+    case 16u: { goto L_arm_17_i_i; }
+    case 17u: { goto L_arm_18_i_i; }
+    case 21u: { goto L_arm_19_i_i; }
+    default: { goto L_default_20_i_i; }
+    }
+L_arm_2_i_i:;
+    { p_v_r1_sroa_22_0_i_i = 23u; p_v_r1_sroa_0_0_i_i = AT(f_static_3); goto L_pkcs1_c_status_pkcs1_c_status_text_exit; }
+L_arm_3_i_i:;
+    { p_v_r1_sroa_22_0_i_i = 72u; p_v_r1_sroa_0_0_i_i = AT(f_static_4); goto L_pkcs1_c_status_pkcs1_c_status_text_exit; }
+L_arm_4_i_i:;
+    { p_v_r1_sroa_22_0_i_i = 47u; p_v_r1_sroa_0_0_i_i = AT(f_static_5); goto L_pkcs1_c_status_pkcs1_c_status_text_exit; }
+L_arm_5_i_i:;
+    { p_v_r1_sroa_22_0_i_i = 57u; p_v_r1_sroa_0_0_i_i = AT(f_static_6); goto L_pkcs1_c_status_pkcs1_c_status_text_exit; }
+L_arm_6_i_i:;
+    { p_v_r1_sroa_22_0_i_i = 98u; p_v_r1_sroa_0_0_i_i = AT(f_static_7); goto L_pkcs1_c_status_pkcs1_c_status_text_exit; }
+L_arm_7_i_i:;
+    { p_v_r1_sroa_22_0_i_i = 92u; p_v_r1_sroa_0_0_i_i = AT(f_static_8); goto L_pkcs1_c_status_pkcs1_c_status_text_exit; }
+L_arm_8_i_i:;
+    { p_v_r1_sroa_22_0_i_i = 102u; p_v_r1_sroa_0_0_i_i = AT(f_static_9); goto L_pkcs1_c_status_pkcs1_c_status_text_exit; }
+L_arm_9_i_i:;
+    { p_v_r1_sroa_22_0_i_i = 83u; p_v_r1_sroa_0_0_i_i = AT(f_static_10); goto L_pkcs1_c_status_pkcs1_c_status_text_exit; }
+L_arm_10_i_i:;
+    { p_v_r1_sroa_22_0_i_i = 52u; p_v_r1_sroa_0_0_i_i = AT(f_static_11); goto L_pkcs1_c_status_pkcs1_c_status_text_exit; }
+L_arm_11_i_i:;
+    { p_v_r1_sroa_22_0_i_i = 101u; p_v_r1_sroa_0_0_i_i = AT(f_static_12); goto L_pkcs1_c_status_pkcs1_c_status_text_exit; }
+L_arm_12_i_i:;
+    { p_v_r1_sroa_22_0_i_i = 107u; p_v_r1_sroa_0_0_i_i = AT(f_static_13); goto L_pkcs1_c_status_pkcs1_c_status_text_exit; }
+L_arm_13_i_i:;
+    { p_v_r1_sroa_22_0_i_i = 70u; p_v_r1_sroa_0_0_i_i = AT(f_static_14); goto L_pkcs1_c_status_pkcs1_c_status_text_exit; }
+L_arm_14_i_i:;
+    { p_v_r1_sroa_22_0_i_i = 102u; p_v_r1_sroa_0_0_i_i = AT(f_static_15); goto L_pkcs1_c_status_pkcs1_c_status_text_exit; }
+L_arm_15_i_i:;
+    { p_v_r1_sroa_22_0_i_i = 107u; p_v_r1_sroa_0_0_i_i = AT(f_static_16); goto L_pkcs1_c_status_pkcs1_c_status_text_exit; }
+L_arm_16_i_i:;
+    { p_v_r1_sroa_22_0_i_i = 42u; p_v_r1_sroa_0_0_i_i = AT(f_static_17); goto L_pkcs1_c_status_pkcs1_c_status_text_exit; }
+L_arm_17_i_i:;
+    { p_v_r1_sroa_22_0_i_i = 25u; p_v_r1_sroa_0_0_i_i = AT(f_static_18); goto L_pkcs1_c_status_pkcs1_c_status_text_exit; }
+L_arm_18_i_i:;
+    { p_v_r1_sroa_22_0_i_i = 20u; p_v_r1_sroa_0_0_i_i = AT(f_static_19); goto L_pkcs1_c_status_pkcs1_c_status_text_exit; }
+L_arm_19_i_i:;
+    { p_v_r1_sroa_22_0_i_i = 49u; p_v_r1_sroa_0_0_i_i = AT(f_static_20); goto L_pkcs1_c_status_pkcs1_c_status_text_exit; }
+L_default_20_i_i:;
+    { p_v_r1_sroa_22_0_i_i = 14u; p_v_r1_sroa_0_0_i_i = AT(f_static_21); goto L_pkcs1_c_status_pkcs1_c_status_text_exit; }
 L_pkcs1_c_status_pkcs1_c_status_text_exit:;
     v_r1_sroa_22_0_i_i = p_v_r1_sroa_22_0_i_i;
     v_r1_sroa_0_0_i_i = p_v_r1_sroa_0_0_i_i;
@@ -30037,7 +30109,7 @@ L_pkcs1_c_status_pkcs1_c_status_text_exit:;
     put_u64(v_r0_sroa_3_0_a1_sroa_idx_i, v_r1_sroa_22_0_i_i);
     return;
 }
-u32 pkcs1_c_private_key_decode(P v_a0, u64 v_a1, P v_a2, P v_a3) {
+u32 NAME(private_key_decode)(P v_a0, u64 v_a1, P v_a2, P v_a3) {
     ALIGNED(8) unsigned char m_v_r6_i1233_i[32];
     ALIGNED(8) unsigned char m_v_r10_i14_sroa_7_i[24];
     ALIGNED(8) unsigned char m_v_r0_i1_i[168];
@@ -30732,13 +30804,13 @@ u32 pkcs1_c_private_key_decode(P v_a0, u64 v_a1, P v_a2, P v_a3) {
     u32 v_switch_idx_cast_i_i_i;
     u32 v_switch_offset_i_i_i;
     u32 v_r6_0_i;
-    v_r6_i1233_i = m_v_r6_i1233_i;
-    v_r10_i14_sroa_7_i = m_v_r10_i14_sroa_7_i;
-    v_r0_i1_i = m_v_r0_i1_i;
-    v_r14_i_sroa_5_sroa_6_i = m_v_r14_i_sroa_5_sroa_6_i;
+    v_r6_i1233_i = AT(m_v_r6_i1233_i);
+    v_r10_i14_sroa_7_i = AT(m_v_r10_i14_sroa_7_i);
+    v_r0_i1_i = AT(m_v_r0_i1_i);
+    v_r14_i_sroa_5_sroa_6_i = AT(m_v_r14_i_sroa_5_sroa_6_i);
     v_r1 = v_a0 == (P)0;
     v_r3 = v_r1 ? 4096u : 0u;
-    v_r4 = (P)((uintptr_t)v_a0 + (u64)(v_r3));
+    v_r4 = (P)((u64)v_a0 + (u64)(v_r3));
     fill(v_r0_i1_i, 0u, 168u);
     fill(v_r14_i_sroa_5_sroa_6_i, 0u, 24u);
     v_0 = (u64)((u64)(v_a1) + (u64)(18446744069414584320ull));
@@ -30831,7 +30903,7 @@ L_then_9_i_i:;
     v_r15_i1355_i = v_r35_i78_i < v_r65_i83_i;
     if (v_r15_i1355_i) { goto L_der_core_decode_AnyDecodeRefSliceU8_from_der_70ca1__2; } else { goto L_arm_1_i58_i; }
 L_arm_1_i58_i:;
-    v_r29_i1357_i = (P)((uintptr_t)v_r32_i77_i + (u64)(v_r65_i83_i));
+    v_r29_i1357_i = (P)((u64)v_r32_i77_i + (u64)(v_r65_i83_i));
     v_r32_i1358_i = (u64)((u64)(v_r35_i78_i) - (u64)(v_r65_i83_i));
     switch (v_r53_i82_i) {
     case 0u: { goto L_der_core_decode_AnyDecodeRefSliceU8_from_der_70ca1__2; }
@@ -30881,7 +30953,7 @@ L_then_6_i_i_i_i:;
 L_then_9_i_i_i_i:;
     v_r92_i_i_i_i = (u64)v_r83_i_i_i_i;
     v_r15_i1371_i = v_r65_i_i_i_i < v_r92_i_i_i_i;
-    v_r29_i1373_i = (P)((uintptr_t)v_r62_i_i_i_i + (u64)(v_r92_i_i_i_i));
+    v_r29_i1373_i = (P)((u64)v_r62_i_i_i_i + (u64)(v_r92_i_i_i_i));
     v_r32_i1374_i = (u64)((u64)(v_r65_i_i_i_i) - (u64)(v_r92_i_i_i_i));
     v_r27_i4_i_i = v_r83_i_i_i_i == 0u;
     v_or_cond = (u1)(((u32)(v_r27_i4_i_i) | (u32)(v_r15_i1371_i)) & 1);
@@ -30908,7 +30980,7 @@ L_then_20_i_i_i_i:;
     if (v_r15_i1381_i) { goto L_der_core_decode_AnyDecodeRefSliceU8_from_der_70ca1__2; } else { goto L_join_3_i1382_i; }
 L_join_3_i1382_i:;
     v_r119_i_i_i_i = v_r29_i1357_i + 4;
-    v_r29_i1383_i = (P)((uintptr_t)v_r119_i_i_i_i + (u64)(v_r148_i_i_i_i));
+    v_r29_i1383_i = (P)((u64)v_r119_i_i_i_i + (u64)(v_r148_i_i_i_i));
     v_r32_i1384_i = (u64)((u64)(v_r122_i_i_i_i) - (u64)(v_r148_i_i_i_i));
     { p_v_r0_i_i105_sroa_13_0_i9 = v_r32_i1384_i; p_v_r0_i_i105_sroa_12_0_i8 = v_r29_i1383_i; p_v_r0_i_i105_sroa_11_0_i7 = v_r148_i_i_i_i; p_v_r0_i_i105_sroa_7_0_i6 = v_r119_i_i_i_i; goto L_join_5_i_i129_i; }
 L_join_14_i_i_i_i:;
@@ -30928,7 +31000,7 @@ L_then_31_i_i_i_i:;
     v_r15_i1391_i = v_r173_i_i_i_i < v_r199_i_i_i_i;
     if (v_r15_i1391_i) { goto L_der_core_decode_AnyDecodeRefSliceU8_from_der_70ca1__2; } else { goto L_join_3_i1392_i; }
 L_join_3_i1392_i:;
-    v_r29_i1393_i = (P)((uintptr_t)v_r170_i_i_i_i + (u64)(v_r199_i_i_i_i));
+    v_r29_i1393_i = (P)((u64)v_r170_i_i_i_i + (u64)(v_r199_i_i_i_i));
     v_r32_i1394_i = (u64)((u64)(v_r173_i_i_i_i) - (u64)(v_r199_i_i_i_i));
     { p_v_r0_i_i105_sroa_13_0_i9 = v_r32_i1394_i; p_v_r0_i_i105_sroa_12_0_i8 = v_r29_i1393_i; p_v_r0_i_i105_sroa_11_0_i7 = v_r199_i_i_i_i; p_v_r0_i_i105_sroa_7_0_i6 = v_r170_i_i_i_i; goto L_join_5_i_i129_i; }
 L_join_5_i_i129_i:;
@@ -30973,7 +31045,7 @@ L_then_6_i_i_i241_i:;
 L_then_9_i_i_i285_i:;
     v_r92_i_i_i286_i = (u64)v_r83_i_i_i243_i;
     v_r15_i1401_i = v_r65_i_i_i163_i < v_r92_i_i_i286_i;
-    v_r29_i1403_i = (P)((uintptr_t)v_r62_i_i_i162_i + (u64)(v_r92_i_i_i286_i));
+    v_r29_i1403_i = (P)((u64)v_r62_i_i_i162_i + (u64)(v_r92_i_i_i286_i));
     v_r32_i1404_i = (u64)((u64)(v_r65_i_i_i163_i) - (u64)(v_r92_i_i_i286_i));
     v_r27_i4_i213_i = v_r83_i_i_i243_i == 0u;
     v_or_cond73 = (u1)(((u32)(v_r27_i4_i213_i) | (u32)(v_r15_i1401_i)) & 1);
@@ -31000,7 +31072,7 @@ L_then_20_i_i_i267_i:;
     if (v_r15_i1411_i) { goto L_der_core_decode_AnyDecodeRefSliceU8_from_der_70ca1__2; } else { goto L_join_3_i1412_i; }
 L_join_3_i1412_i:;
     v_r119_i_i_i269_i = v_r0_i_i105_sroa_12_0_i8 + 4;
-    v_r29_i1413_i = (P)((uintptr_t)v_r119_i_i_i269_i + (u64)(v_r148_i_i_i275_i));
+    v_r29_i1413_i = (P)((u64)v_r119_i_i_i269_i + (u64)(v_r148_i_i_i275_i));
     v_r32_i1414_i = (u64)((u64)(v_r122_i_i_i268_i) - (u64)(v_r148_i_i_i275_i));
     { p_v_r0_i_i135_sroa_13_0_i18 = v_r32_i1414_i; p_v_r0_i_i135_sroa_12_0_i17 = v_r29_i1413_i; p_v_r0_i_i135_sroa_11_0_i16 = v_r148_i_i_i275_i; p_v_r0_i_i135_sroa_7_0_i15 = v_r119_i_i_i269_i; goto L_join_5_i_i214_i; }
 L_join_14_i_i_i247_i:;
@@ -31020,7 +31092,7 @@ L_then_31_i_i_i260_i:;
     v_r15_i1421_i = v_r173_i_i_i251_i < v_r199_i_i_i261_i;
     if (v_r15_i1421_i) { goto L_der_core_decode_AnyDecodeRefSliceU8_from_der_70ca1__2; } else { goto L_join_3_i1422_i; }
 L_join_3_i1422_i:;
-    v_r29_i1423_i = (P)((uintptr_t)v_r170_i_i_i250_i + (u64)(v_r199_i_i_i261_i));
+    v_r29_i1423_i = (P)((u64)v_r170_i_i_i250_i + (u64)(v_r199_i_i_i261_i));
     v_r32_i1424_i = (u64)((u64)(v_r173_i_i_i251_i) - (u64)(v_r199_i_i_i261_i));
     { p_v_r0_i_i135_sroa_13_0_i18 = v_r32_i1424_i; p_v_r0_i_i135_sroa_12_0_i17 = v_r29_i1423_i; p_v_r0_i_i135_sroa_11_0_i16 = v_r199_i_i_i261_i; p_v_r0_i_i135_sroa_7_0_i15 = v_r170_i_i_i250_i; goto L_join_5_i_i214_i; }
 L_join_5_i_i214_i:;
@@ -31065,7 +31137,7 @@ L_then_6_i_i_i401_i:;
 L_then_9_i_i_i445_i:;
     v_r92_i_i_i446_i = (u64)v_r83_i_i_i403_i;
     v_r15_i1431_i = v_r65_i_i_i323_i < v_r92_i_i_i446_i;
-    v_r29_i1433_i = (P)((uintptr_t)v_r62_i_i_i322_i + (u64)(v_r92_i_i_i446_i));
+    v_r29_i1433_i = (P)((u64)v_r62_i_i_i322_i + (u64)(v_r92_i_i_i446_i));
     v_r32_i1434_i = (u64)((u64)(v_r65_i_i_i323_i) - (u64)(v_r92_i_i_i446_i));
     v_r27_i4_i373_i = v_r83_i_i_i403_i == 0u;
     v_or_cond74 = (u1)(((u32)(v_r27_i4_i373_i) | (u32)(v_r15_i1431_i)) & 1);
@@ -31092,7 +31164,7 @@ L_then_20_i_i_i427_i:;
     if (v_r15_i1441_i) { goto L_der_core_decode_AnyDecodeRefSliceU8_from_der_70ca1__2; } else { goto L_join_3_i1442_i; }
 L_join_3_i1442_i:;
     v_r119_i_i_i429_i = v_r0_i_i135_sroa_12_0_i17 + 4;
-    v_r29_i1443_i = (P)((uintptr_t)v_r119_i_i_i429_i + (u64)(v_r148_i_i_i435_i));
+    v_r29_i1443_i = (P)((u64)v_r119_i_i_i429_i + (u64)(v_r148_i_i_i435_i));
     v_r32_i1444_i = (u64)((u64)(v_r122_i_i_i428_i) - (u64)(v_r148_i_i_i435_i));
     { p_v_r0_i_i295_sroa_13_0_i27 = v_r32_i1444_i; p_v_r0_i_i295_sroa_12_0_i26 = v_r29_i1443_i; p_v_r0_i_i295_sroa_11_0_i25 = v_r148_i_i_i435_i; p_v_r0_i_i295_sroa_7_0_i24 = v_r119_i_i_i429_i; goto L_join_5_i_i374_i; }
 L_join_14_i_i_i407_i:;
@@ -31112,7 +31184,7 @@ L_then_31_i_i_i420_i:;
     v_r15_i1451_i = v_r173_i_i_i411_i < v_r199_i_i_i421_i;
     if (v_r15_i1451_i) { goto L_der_core_decode_AnyDecodeRefSliceU8_from_der_70ca1__2; } else { goto L_join_3_i1452_i; }
 L_join_3_i1452_i:;
-    v_r29_i1453_i = (P)((uintptr_t)v_r170_i_i_i410_i + (u64)(v_r199_i_i_i421_i));
+    v_r29_i1453_i = (P)((u64)v_r170_i_i_i410_i + (u64)(v_r199_i_i_i421_i));
     v_r32_i1454_i = (u64)((u64)(v_r173_i_i_i411_i) - (u64)(v_r199_i_i_i421_i));
     { p_v_r0_i_i295_sroa_13_0_i27 = v_r32_i1454_i; p_v_r0_i_i295_sroa_12_0_i26 = v_r29_i1453_i; p_v_r0_i_i295_sroa_11_0_i25 = v_r199_i_i_i421_i; p_v_r0_i_i295_sroa_7_0_i24 = v_r170_i_i_i410_i; goto L_join_5_i_i374_i; }
 L_join_5_i_i374_i:;
@@ -31157,7 +31229,7 @@ L_then_6_i_i_i561_i:;
 L_then_9_i_i_i605_i:;
     v_r92_i_i_i606_i = (u64)v_r83_i_i_i563_i;
     v_r15_i1461_i = v_r65_i_i_i483_i < v_r92_i_i_i606_i;
-    v_r29_i1463_i = (P)((uintptr_t)v_r62_i_i_i482_i + (u64)(v_r92_i_i_i606_i));
+    v_r29_i1463_i = (P)((u64)v_r62_i_i_i482_i + (u64)(v_r92_i_i_i606_i));
     v_r32_i1464_i = (u64)((u64)(v_r65_i_i_i483_i) - (u64)(v_r92_i_i_i606_i));
     v_r27_i4_i533_i = v_r83_i_i_i563_i == 0u;
     v_or_cond75 = (u1)(((u32)(v_r27_i4_i533_i) | (u32)(v_r15_i1461_i)) & 1);
@@ -31184,7 +31256,7 @@ L_then_20_i_i_i587_i:;
     if (v_r15_i1471_i) { goto L_der_core_decode_AnyDecodeRefSliceU8_from_der_70ca1__2; } else { goto L_join_3_i1472_i; }
 L_join_3_i1472_i:;
     v_r119_i_i_i589_i = v_r0_i_i295_sroa_12_0_i26 + 4;
-    v_r29_i1473_i = (P)((uintptr_t)v_r119_i_i_i589_i + (u64)(v_r148_i_i_i595_i));
+    v_r29_i1473_i = (P)((u64)v_r119_i_i_i589_i + (u64)(v_r148_i_i_i595_i));
     v_r32_i1474_i = (u64)((u64)(v_r122_i_i_i588_i) - (u64)(v_r148_i_i_i595_i));
     { p_v_r0_i_i455_sroa_13_0_i36 = v_r32_i1474_i; p_v_r0_i_i455_sroa_12_0_i35 = v_r29_i1473_i; p_v_r0_i_i455_sroa_11_0_i34 = v_r148_i_i_i595_i; p_v_r0_i_i455_sroa_7_0_i33 = v_r119_i_i_i589_i; goto L_join_5_i_i534_i; }
 L_join_14_i_i_i567_i:;
@@ -31204,7 +31276,7 @@ L_then_31_i_i_i580_i:;
     v_r15_i1481_i = v_r173_i_i_i571_i < v_r199_i_i_i581_i;
     if (v_r15_i1481_i) { goto L_der_core_decode_AnyDecodeRefSliceU8_from_der_70ca1__2; } else { goto L_join_3_i1482_i; }
 L_join_3_i1482_i:;
-    v_r29_i1483_i = (P)((uintptr_t)v_r170_i_i_i570_i + (u64)(v_r199_i_i_i581_i));
+    v_r29_i1483_i = (P)((u64)v_r170_i_i_i570_i + (u64)(v_r199_i_i_i581_i));
     v_r32_i1484_i = (u64)((u64)(v_r173_i_i_i571_i) - (u64)(v_r199_i_i_i581_i));
     { p_v_r0_i_i455_sroa_13_0_i36 = v_r32_i1484_i; p_v_r0_i_i455_sroa_12_0_i35 = v_r29_i1483_i; p_v_r0_i_i455_sroa_11_0_i34 = v_r199_i_i_i581_i; p_v_r0_i_i455_sroa_7_0_i33 = v_r170_i_i_i570_i; goto L_join_5_i_i534_i; }
 L_join_5_i_i534_i:;
@@ -31249,7 +31321,7 @@ L_then_6_i_i_i721_i:;
 L_then_9_i_i_i765_i:;
     v_r92_i_i_i766_i = (u64)v_r83_i_i_i723_i;
     v_r15_i1491_i = v_r65_i_i_i643_i < v_r92_i_i_i766_i;
-    v_r29_i1493_i = (P)((uintptr_t)v_r62_i_i_i642_i + (u64)(v_r92_i_i_i766_i));
+    v_r29_i1493_i = (P)((u64)v_r62_i_i_i642_i + (u64)(v_r92_i_i_i766_i));
     v_r32_i1494_i = (u64)((u64)(v_r65_i_i_i643_i) - (u64)(v_r92_i_i_i766_i));
     v_r27_i4_i693_i = v_r83_i_i_i723_i == 0u;
     v_or_cond76 = (u1)(((u32)(v_r27_i4_i693_i) | (u32)(v_r15_i1491_i)) & 1);
@@ -31276,7 +31348,7 @@ L_then_20_i_i_i747_i:;
     if (v_r15_i1501_i) { goto L_der_core_decode_AnyDecodeRefSliceU8_from_der_70ca1__2; } else { goto L_join_3_i1502_i; }
 L_join_3_i1502_i:;
     v_r119_i_i_i749_i = v_r0_i_i455_sroa_12_0_i35 + 4;
-    v_r29_i1503_i = (P)((uintptr_t)v_r119_i_i_i749_i + (u64)(v_r148_i_i_i755_i));
+    v_r29_i1503_i = (P)((u64)v_r119_i_i_i749_i + (u64)(v_r148_i_i_i755_i));
     v_r32_i1504_i = (u64)((u64)(v_r122_i_i_i748_i) - (u64)(v_r148_i_i_i755_i));
     { p_v_r0_i_i615_sroa_13_0_i45 = v_r32_i1504_i; p_v_r0_i_i615_sroa_12_0_i44 = v_r29_i1503_i; p_v_r0_i_i615_sroa_11_0_i43 = v_r148_i_i_i755_i; p_v_r0_i_i615_sroa_7_0_i42 = v_r119_i_i_i749_i; goto L_join_5_i_i694_i; }
 L_join_14_i_i_i727_i:;
@@ -31296,7 +31368,7 @@ L_then_31_i_i_i740_i:;
     v_r15_i1511_i = v_r173_i_i_i731_i < v_r199_i_i_i741_i;
     if (v_r15_i1511_i) { goto L_der_core_decode_AnyDecodeRefSliceU8_from_der_70ca1__2; } else { goto L_join_3_i1512_i; }
 L_join_3_i1512_i:;
-    v_r29_i1513_i = (P)((uintptr_t)v_r170_i_i_i730_i + (u64)(v_r199_i_i_i741_i));
+    v_r29_i1513_i = (P)((u64)v_r170_i_i_i730_i + (u64)(v_r199_i_i_i741_i));
     v_r32_i1514_i = (u64)((u64)(v_r173_i_i_i731_i) - (u64)(v_r199_i_i_i741_i));
     { p_v_r0_i_i615_sroa_13_0_i45 = v_r32_i1514_i; p_v_r0_i_i615_sroa_12_0_i44 = v_r29_i1513_i; p_v_r0_i_i615_sroa_11_0_i43 = v_r199_i_i_i741_i; p_v_r0_i_i615_sroa_7_0_i42 = v_r170_i_i_i730_i; goto L_join_5_i_i694_i; }
 L_join_5_i_i694_i:;
@@ -31341,7 +31413,7 @@ L_then_6_i_i_i881_i:;
 L_then_9_i_i_i925_i:;
     v_r92_i_i_i926_i = (u64)v_r83_i_i_i883_i;
     v_r15_i1521_i = v_r65_i_i_i803_i < v_r92_i_i_i926_i;
-    v_r29_i1523_i = (P)((uintptr_t)v_r62_i_i_i802_i + (u64)(v_r92_i_i_i926_i));
+    v_r29_i1523_i = (P)((u64)v_r62_i_i_i802_i + (u64)(v_r92_i_i_i926_i));
     v_r32_i1524_i = (u64)((u64)(v_r65_i_i_i803_i) - (u64)(v_r92_i_i_i926_i));
     v_r27_i4_i853_i = v_r83_i_i_i883_i == 0u;
     v_or_cond77 = (u1)(((u32)(v_r27_i4_i853_i) | (u32)(v_r15_i1521_i)) & 1);
@@ -31368,7 +31440,7 @@ L_then_20_i_i_i907_i:;
     if (v_r15_i1531_i) { goto L_der_core_decode_AnyDecodeRefSliceU8_from_der_70ca1__2; } else { goto L_join_3_i1532_i; }
 L_join_3_i1532_i:;
     v_r119_i_i_i909_i = v_r0_i_i615_sroa_12_0_i44 + 4;
-    v_r29_i1533_i = (P)((uintptr_t)v_r119_i_i_i909_i + (u64)(v_r148_i_i_i915_i));
+    v_r29_i1533_i = (P)((u64)v_r119_i_i_i909_i + (u64)(v_r148_i_i_i915_i));
     v_r32_i1534_i = (u64)((u64)(v_r122_i_i_i908_i) - (u64)(v_r148_i_i_i915_i));
     { p_v_r0_i_i775_sroa_13_0_i54 = v_r32_i1534_i; p_v_r0_i_i775_sroa_12_0_i53 = v_r29_i1533_i; p_v_r0_i_i775_sroa_11_0_i52 = v_r148_i_i_i915_i; p_v_r0_i_i775_sroa_7_0_i51 = v_r119_i_i_i909_i; goto L_join_5_i_i854_i; }
 L_join_14_i_i_i887_i:;
@@ -31388,7 +31460,7 @@ L_then_31_i_i_i900_i:;
     v_r15_i1541_i = v_r173_i_i_i891_i < v_r199_i_i_i901_i;
     if (v_r15_i1541_i) { goto L_der_core_decode_AnyDecodeRefSliceU8_from_der_70ca1__2; } else { goto L_join_3_i1542_i; }
 L_join_3_i1542_i:;
-    v_r29_i1543_i = (P)((uintptr_t)v_r170_i_i_i890_i + (u64)(v_r199_i_i_i901_i));
+    v_r29_i1543_i = (P)((u64)v_r170_i_i_i890_i + (u64)(v_r199_i_i_i901_i));
     v_r32_i1544_i = (u64)((u64)(v_r173_i_i_i891_i) - (u64)(v_r199_i_i_i901_i));
     { p_v_r0_i_i775_sroa_13_0_i54 = v_r32_i1544_i; p_v_r0_i_i775_sroa_12_0_i53 = v_r29_i1543_i; p_v_r0_i_i775_sroa_11_0_i52 = v_r199_i_i_i901_i; p_v_r0_i_i775_sroa_7_0_i51 = v_r170_i_i_i890_i; goto L_join_5_i_i854_i; }
 L_join_5_i_i854_i:;
@@ -31433,7 +31505,7 @@ L_then_6_i_i_i1041_i:;
 L_then_9_i_i_i1085_i:;
     v_r92_i_i_i1086_i = (u64)v_r83_i_i_i1043_i;
     v_r15_i1551_i = v_r65_i_i_i963_i < v_r92_i_i_i1086_i;
-    v_r29_i1553_i = (P)((uintptr_t)v_r62_i_i_i962_i + (u64)(v_r92_i_i_i1086_i));
+    v_r29_i1553_i = (P)((u64)v_r62_i_i_i962_i + (u64)(v_r92_i_i_i1086_i));
     v_r32_i1554_i = (u64)((u64)(v_r65_i_i_i963_i) - (u64)(v_r92_i_i_i1086_i));
     v_r27_i4_i1013_i = v_r83_i_i_i1043_i == 0u;
     v_or_cond78 = (u1)(((u32)(v_r27_i4_i1013_i) | (u32)(v_r15_i1551_i)) & 1);
@@ -31460,7 +31532,7 @@ L_then_20_i_i_i1067_i:;
     if (v_r15_i1561_i) { goto L_der_core_decode_AnyDecodeRefSliceU8_from_der_70ca1__2; } else { goto L_join_3_i1562_i; }
 L_join_3_i1562_i:;
     v_r119_i_i_i1069_i = v_r0_i_i775_sroa_12_0_i53 + 4;
-    v_r29_i1563_i = (P)((uintptr_t)v_r119_i_i_i1069_i + (u64)(v_r148_i_i_i1075_i));
+    v_r29_i1563_i = (P)((u64)v_r119_i_i_i1069_i + (u64)(v_r148_i_i_i1075_i));
     v_r32_i1564_i = (u64)((u64)(v_r122_i_i_i1068_i) - (u64)(v_r148_i_i_i1075_i));
     { p_v_r0_i_i935_sroa_13_0_i63 = v_r32_i1564_i; p_v_r0_i_i935_sroa_12_0_i62 = v_r29_i1563_i; p_v_r0_i_i935_sroa_11_0_i61 = v_r148_i_i_i1075_i; p_v_r0_i_i935_sroa_7_0_i60 = v_r119_i_i_i1069_i; goto L_join_5_i_i1014_i; }
 L_join_14_i_i_i1047_i:;
@@ -31480,7 +31552,7 @@ L_then_31_i_i_i1060_i:;
     v_r15_i1571_i = v_r173_i_i_i1051_i < v_r199_i_i_i1061_i;
     if (v_r15_i1571_i) { goto L_der_core_decode_AnyDecodeRefSliceU8_from_der_70ca1__2; } else { goto L_join_3_i1572_i; }
 L_join_3_i1572_i:;
-    v_r29_i1573_i = (P)((uintptr_t)v_r170_i_i_i1050_i + (u64)(v_r199_i_i_i1061_i));
+    v_r29_i1573_i = (P)((u64)v_r170_i_i_i1050_i + (u64)(v_r199_i_i_i1061_i));
     v_r32_i1574_i = (u64)((u64)(v_r173_i_i_i1051_i) - (u64)(v_r199_i_i_i1061_i));
     { p_v_r0_i_i935_sroa_13_0_i63 = v_r32_i1574_i; p_v_r0_i_i935_sroa_12_0_i62 = v_r29_i1573_i; p_v_r0_i_i935_sroa_11_0_i61 = v_r199_i_i_i1061_i; p_v_r0_i_i935_sroa_7_0_i60 = v_r170_i_i_i1050_i; goto L_join_5_i_i1014_i; }
 L_join_5_i_i1014_i:;
@@ -31525,7 +31597,7 @@ L_then_6_i_i_i1180_i:;
 L_then_9_i_i_i1224_i:;
     v_r92_i_i_i1225_i = (u64)v_r83_i_i_i1182_i;
     v_r15_i1581_i = v_r65_i_i_i1113_i < v_r92_i_i_i1225_i;
-    v_r29_i1583_i = (P)((uintptr_t)v_r62_i_i_i1112_i + (u64)(v_r92_i_i_i1225_i));
+    v_r29_i1583_i = (P)((u64)v_r62_i_i_i1112_i + (u64)(v_r92_i_i_i1225_i));
     v_r32_i1584_i = (u64)((u64)(v_r65_i_i_i1113_i) - (u64)(v_r92_i_i_i1225_i));
     v_r27_i4_i1152_i = v_r83_i_i_i1182_i == 0u;
     v_or_cond79 = (u1)(((u32)(v_r27_i4_i1152_i) | (u32)(v_r15_i1581_i)) & 1);
@@ -31552,7 +31624,7 @@ L_then_20_i_i_i1206_i:;
     if (v_r15_i1591_i) { goto L_der_core_decode_AnyDecodeRefSliceU8_from_der_70ca1__2; } else { goto L_join_3_i1592_i; }
 L_join_3_i1592_i:;
     v_r119_i_i_i1208_i = v_r0_i_i935_sroa_12_0_i62 + 4;
-    v_r29_i1593_i = (P)((uintptr_t)v_r119_i_i_i1208_i + (u64)(v_r148_i_i_i1214_i));
+    v_r29_i1593_i = (P)((u64)v_r119_i_i_i1208_i + (u64)(v_r148_i_i_i1214_i));
     v_r32_i1594_i = (u64)((u64)(v_r122_i_i_i1207_i) - (u64)(v_r148_i_i_i1214_i));
     { p_v_r0_i_i1095_sroa_13_0_i72 = v_r32_i1594_i; p_v_r0_i_i1095_sroa_12_0_i71 = v_r29_i1593_i; p_v_r0_i_i1095_sroa_11_0_i70 = v_r148_i_i_i1214_i; p_v_r0_i_i1095_sroa_7_0_i69 = v_r119_i_i_i1208_i; goto L_join_5_i_i1153_i; }
 L_join_14_i_i_i1186_i:;
@@ -31572,7 +31644,7 @@ L_then_31_i_i_i1199_i:;
     v_r15_i1601_i = v_r173_i_i_i1190_i < v_r199_i_i_i1200_i;
     if (v_r15_i1601_i) { goto L_der_core_decode_AnyDecodeRefSliceU8_from_der_70ca1__2; } else { goto L_join_3_i1602_i; }
 L_join_3_i1602_i:;
-    v_r29_i1603_i = (P)((uintptr_t)v_r170_i_i_i1189_i + (u64)(v_r199_i_i_i1200_i));
+    v_r29_i1603_i = (P)((u64)v_r170_i_i_i1189_i + (u64)(v_r199_i_i_i1200_i));
     v_r32_i1604_i = (u64)((u64)(v_r173_i_i_i1190_i) - (u64)(v_r199_i_i_i1200_i));
     { p_v_r0_i_i1095_sroa_13_0_i72 = v_r32_i1604_i; p_v_r0_i_i1095_sroa_12_0_i71 = v_r29_i1603_i; p_v_r0_i_i1095_sroa_11_0_i70 = v_r199_i_i_i1200_i; p_v_r0_i_i1095_sroa_7_0_i69 = v_r170_i_i_i1189_i; goto L_join_5_i_i1153_i; }
 L_join_5_i_i1153_i:;
@@ -31737,7 +31809,7 @@ L_arm_1_i:;
     v_r7_sroa_18_0_a2_sroa_idx_i = v_a2 + 128;
     put_u64(v_r7_sroa_18_0_a2_sroa_idx_i, v_spec_select_i);
     v_r2_i_sroa_5_0_i = v_5 ? v_r7_i_sroa_15_sroa_24_02716_i : 0u;
-    v_static_22_sink_i1665_i = v_5 ? v_r7_i_sroa_15_sroa_23_02715_i : (P)f_static_22;
+    v_static_22_sink_i1665_i = v_5 ? v_r7_i_sroa_15_sroa_23_02715_i : AT(f_static_22);
     put_P(v_a3, v_static_22_sink_i1665_i);
     v_r9_sroa_3_0_a3_sroa_idx_i = v_a3 + 8;
     put_u64(v_r9_sroa_3_0_a3_sroa_idx_i, v_r2_i_sroa_5_0_i);
@@ -31750,7 +31822,7 @@ L_pkcs1_c_private_key_pkcs1_c_private_key_decode_exi:;
     v_r6_0_i = p_v_r6_0_i;
     return v_r6_0_i;
 }
-u32 pkcs1_c_private_key_info_decode(P v_a0, u64 v_a1, P v_a2, P v_a3, P v_a4) {
+u32 NAME(private_key_info_decode)(P v_a0, u64 v_a1, P v_a2, P v_a3, P v_a4) {
     ALIGNED(8) unsigned char m_v_r6_i1233_i_i_i[32];
     ALIGNED(8) unsigned char m_v_r10_i14_sroa_7_i_i_i[24];
     ALIGNED(8) unsigned char m_v_r0_i1_i_i_i[168];
@@ -32814,14 +32886,14 @@ u32 pkcs1_c_private_key_info_decode(P v_a0, u64 v_a1, P v_a2, P v_a3, P v_a4) {
     u32 v_switch_idx_cast_i_i_i;
     u32 v_switch_offset_i_i_i;
     u32 v_r7_0_i;
-    v_r6_i1233_i_i_i = m_v_r6_i1233_i_i_i;
-    v_r10_i14_sroa_7_i_i_i = m_v_r10_i14_sroa_7_i_i_i;
-    v_r0_i1_i_i_i = m_v_r0_i1_i_i_i;
-    v_r14_i_sroa_5_sroa_6_i_i_i = m_v_r14_i_sroa_5_sroa_6_i_i_i;
-    v_r0_i6_i_i = m_v_r0_i6_i_i;
+    v_r6_i1233_i_i_i = AT(m_v_r6_i1233_i_i_i);
+    v_r10_i14_sroa_7_i_i_i = AT(m_v_r10_i14_sroa_7_i_i_i);
+    v_r0_i1_i_i_i = AT(m_v_r0_i1_i_i_i);
+    v_r14_i_sroa_5_sroa_6_i_i_i = AT(m_v_r14_i_sroa_5_sroa_6_i_i_i);
+    v_r0_i6_i_i = AT(m_v_r0_i6_i_i);
     v_r1 = v_a0 == (P)0;
     v_r3 = v_r1 ? 4096u : 0u;
-    v_r4 = (P)((uintptr_t)v_a0 + (u64)(v_r3));
+    v_r4 = (P)((u64)v_a0 + (u64)(v_r3));
     fill(v_r0_i6_i_i, 0u, 96u);
     v_0 = (u64)((u64)(v_a1) + (u64)(18446744069414584320ull));
     v_or_cond2173_i_i = v_0 < 18446744069414584322ull;
@@ -32911,7 +32983,7 @@ L_then_9_i_i74_i_i:;
     v_r15_i796_i_i = v_r35_i_i_i_i < v_r65_i_i75_i_i;
     if (v_r15_i796_i_i) { goto L_der_core_decode_AnyDecodeRefSliceU8_from_der_0a39d; } else { goto L_arm_1_i57_i_i; }
 L_arm_1_i57_i_i:;
-    v_r29_i798_i_i = (P)((uintptr_t)v_r32_i_i_i_i + (u64)(v_r65_i_i75_i_i));
+    v_r29_i798_i_i = (P)((u64)v_r32_i_i_i_i + (u64)(v_r65_i_i75_i_i));
     v_r32_i799_i_i = (u64)((u64)(v_r35_i_i_i_i) - (u64)(v_r65_i_i75_i_i));
     v_cond_i_i = v_r53_i_i73_i_i == 1u;
     if (v_cond_i_i) { goto L_then_6_i_i76_i_i; } else { goto L_der_core_decode_AnyDecodeRefSliceU8_from_der_0a39d; }
@@ -32940,7 +33012,7 @@ L_then_9_i_i174_i_i:;
     v_r15_i807_i_i = v_r35_i_i157_i_i < v_r65_i_i175_i_i;
     if (v_r15_i807_i_i) { goto L_der_core_decode_AnyDecodeRefSliceU8_from_der_0a39d; } else { goto L_arm_1_i138_i_i; }
 L_arm_1_i138_i_i:;
-    v_r29_i809_i_i = (P)((uintptr_t)v_r32_i_i156_i_i + (u64)(v_r65_i_i175_i_i));
+    v_r29_i809_i_i = (P)((u64)v_r32_i_i156_i_i + (u64)(v_r65_i_i175_i_i));
     v_r32_i810_i_i = (u64)((u64)(v_r35_i_i157_i_i) - (u64)(v_r65_i_i175_i_i));
     v_r23_i_i260_i_i = v_r53_i_i172_i_i < 2u;
     if (v_r23_i_i260_i_i) { goto L_der_core_decode_AnyDecodeRefSliceU8_from_der_0a39d; } else { goto L_join_5_i_i261_i_i; }
@@ -32960,13 +33032,13 @@ L_then_9_i_i280_i_i:;
     v_r15_i817_i_i = v_r35_i_i263_i_i < v_r65_i_i281_i_i;
     if (v_r15_i817_i_i) { goto L_der_core_decode_AnyDecodeRefSliceU8_from_der_0a39d; } else { goto L_arm_1_i246_i_i; }
 L_arm_1_i246_i_i:;
-    v_r29_i819_i_i = (P)((uintptr_t)v_r32_i_i262_i_i + (u64)(v_r65_i_i281_i_i));
+    v_r29_i819_i_i = (P)((u64)v_r32_i_i262_i_i + (u64)(v_r65_i_i281_i_i));
     v_r32_i820_i_i = (u64)((u64)(v_r35_i_i263_i_i) - (u64)(v_r65_i_i281_i_i));
     v_r15_i311_i_i = v_r53_i_i278_i_i == 0u;
     if (v_r15_i311_i_i) { goto L_der_core_decode_AnyDecodeRefSliceU8_from_der_0a39d; } else { goto L_join_4_i_i_i; }
 L_join_4_i_i_i:;
     v_r22_i312_i_i = (u64)((u64)(v_r65_i_i281_i_i) + (u64)(18446744073709551615ull));
-    v_r25_i313_i_i = (P)((uintptr_t)v_r32_i_i262_i_i + (u64)(v_r22_i312_i_i));
+    v_r25_i313_i_i = (P)((u64)v_r32_i_i262_i_i + (u64)(v_r22_i312_i_i));
     v_r35_i314_i_i = get_u8(v_r25_i313_i_i);
     v_r37_i315_i_i = (u8)(v_r35_i314_i_i ^ ((u8)1 << 7)) > (u8)(255u ^ ((u8)1 << 7));
     if (v_r37_i315_i_i) { goto L_then_5_i_i_i; } else { goto L_join_5_preheader_i_i_i; }
@@ -32986,7 +33058,7 @@ L_tailrecurse_backedge_i_i_i:;
     v_sink18_i_i_i = p_v_sink18_i_i_i;
     v_sink_i831_i_i = p_v_sink_i831_i_i;
     v_r99_i832_i_i = (u64)((u64)(v_sink18_i_i_i) + (u64)(v_a1_tr14_i_i_i));
-    v_r96_i833_i_i = (P)((uintptr_t)v_a0_tr13_i_i_i + (u64)(v_sink_i831_i_i));
+    v_r96_i833_i_i = (P)((u64)v_a0_tr13_i_i_i + (u64)(v_sink_i831_i_i));
     v_r82_i834_i_i = v_r99_i832_i_i == 0u;
     if (v_r82_i834_i_i) { goto L_then_1_i309_i_i; } else { p_v_a1_tr14_i_i_i = v_r99_i832_i_i; p_v_a0_tr13_i_i_i = v_r96_i833_i_i; goto L_join_4_i827_i_i; }
 L_join_7_i829_i_i:;
@@ -33054,7 +33126,7 @@ L_join_5_i_i_i:;
     v_r29_i838_i_i = v_r27_i837_i_i == 128u;
     if (v_r29_i838_i_i) { goto L_spki_core_object_identifier_is_start_exit_i_i_i; } else { goto L_after_6_i_i_i; }
 L_spki_core_object_identifier_is_start_exit_i_i_i:;
-    v_r14_i_i_i_i = (P)((uintptr_t)v_r25_i836_i_i + (u64)(-1));
+    v_r14_i_i_i_i = (P)((u64)v_r25_i836_i_i + (u64)(-1));
     v_r16_i_i_i_i = get_u8(v_r14_i_i_i_i);
     v_r18_i_i_i_i = (u8)(v_r16_i_i_i_i ^ ((u8)1 << 7)) > (u8)(255u ^ ((u8)1 << 7));
     if (v_r18_i_i_i_i) { goto L_der_core_decode_AnyDecodeRefSliceU8_from_der_0a39d; } else { goto L_after_6_i_i_i; }
@@ -33113,7 +33185,7 @@ L_then_9_i_i574_i_i:;
     v_r15_i916_i_i = v_r65_i_i516_i_i < v_r92_i_i575_i_i;
     if (v_r15_i916_i_i) { goto L_der_core_decode_AnyDecodeRefSliceU8_from_der_0a39d; } else { goto L_join_3_i917_i_i; }
 L_join_3_i917_i_i:;
-    v_r29_i918_i_i = (P)((uintptr_t)v_r62_i_i515_i_i + (u64)(v_r92_i_i575_i_i));
+    v_r29_i918_i_i = (P)((u64)v_r62_i_i515_i_i + (u64)(v_r92_i_i575_i_i));
     v_r32_i919_i_i = (u64)((u64)(v_r65_i_i516_i_i) - (u64)(v_r92_i_i575_i_i));
     { p_v_r0_i512_sroa_7_0_i_i = v_r62_i_i515_i_i; p_v_r0_i512_sroa_11_0_i_i = v_r92_i_i575_i_i; p_v_r0_i512_sroa_12_0_i_i = v_r29_i918_i_i; p_v_r0_i512_sroa_13_0_i_i = v_r32_i919_i_i; goto L_arm_1_i464_i_i; }
 L_join_11_i_i534_i_i:;
@@ -33138,7 +33210,7 @@ L_then_20_i_i556_i_i:;
     if (v_r15_i926_i_i) { goto L_der_core_decode_AnyDecodeRefSliceU8_from_der_0a39d; } else { goto L_join_3_i927_i_i; }
 L_join_3_i927_i_i:;
     v_r119_i_i558_i_i = v_r29_i809_i_i + 4;
-    v_r29_i928_i_i = (P)((uintptr_t)v_r119_i_i558_i_i + (u64)(v_r148_i_i564_i_i));
+    v_r29_i928_i_i = (P)((u64)v_r119_i_i558_i_i + (u64)(v_r148_i_i564_i_i));
     v_r32_i929_i_i = (u64)((u64)(v_r122_i_i557_i_i) - (u64)(v_r148_i_i564_i_i));
     { p_v_r0_i512_sroa_7_0_i_i = v_r119_i_i558_i_i; p_v_r0_i512_sroa_11_0_i_i = v_r148_i_i564_i_i; p_v_r0_i512_sroa_12_0_i_i = v_r29_i928_i_i; p_v_r0_i512_sroa_13_0_i_i = v_r32_i929_i_i; goto L_arm_1_i464_i_i; }
 L_join_14_i_i536_i_i:;
@@ -33158,7 +33230,7 @@ L_then_31_i_i549_i_i:;
     v_r15_i936_i_i = v_r173_i_i540_i_i < v_r199_i_i550_i_i;
     if (v_r15_i936_i_i) { goto L_der_core_decode_AnyDecodeRefSliceU8_from_der_0a39d; } else { goto L_join_3_i937_i_i; }
 L_join_3_i937_i_i:;
-    v_r29_i938_i_i = (P)((uintptr_t)v_r170_i_i539_i_i + (u64)(v_r199_i_i550_i_i));
+    v_r29_i938_i_i = (P)((u64)v_r170_i_i539_i_i + (u64)(v_r199_i_i550_i_i));
     v_r32_i939_i_i = (u64)((u64)(v_r173_i_i540_i_i) - (u64)(v_r199_i_i550_i_i));
     { p_v_r0_i512_sroa_7_0_i_i = v_r170_i_i539_i_i; p_v_r0_i512_sroa_11_0_i_i = v_r199_i_i550_i_i; p_v_r0_i512_sroa_12_0_i_i = v_r29_i938_i_i; p_v_r0_i512_sroa_13_0_i_i = v_r32_i939_i_i; goto L_arm_1_i464_i_i; }
 L_arm_1_i464_i_i:;
@@ -33430,7 +33502,7 @@ L_then_9_i_i1056_i_i:;
     v_r15_i1383_i_i_i = v_r35_i78_i_i_i < v_r65_i83_i_i_i;
     if (v_r15_i1383_i_i_i) { goto L_der_core_decode_AnyDecodeRefSliceU8_from_der_70ca1__2; } else { goto L_arm_1_i58_i_i_i; }
 L_arm_1_i58_i_i_i:;
-    v_r29_i1385_i_i_i = (P)((uintptr_t)v_r32_i77_i_i_i + (u64)(v_r65_i83_i_i_i));
+    v_r29_i1385_i_i_i = (P)((u64)v_r32_i77_i_i_i + (u64)(v_r65_i83_i_i_i));
     v_r32_i1386_i_i_i = (u64)((u64)(v_r35_i78_i_i_i) - (u64)(v_r65_i83_i_i_i));
     switch (v_r53_i82_i_i_i) {
     case 0u: { goto L_der_core_decode_AnyDecodeRefSliceU8_from_der_70ca1__2; }
@@ -33480,7 +33552,7 @@ L_then_6_i_i_i_i_i_i:;
 L_then_9_i_i_i_i_i_i:;
     v_r92_i_i_i_i_i_i = (u64)v_r83_i_i_i_i_i_i;
     v_r15_i1400_i_i_i = v_r65_i_i_i_i_i_i < v_r92_i_i_i_i_i_i;
-    v_r29_i1402_i_i_i = (P)((uintptr_t)v_r62_i_i_i_i_i_i + (u64)(v_r92_i_i_i_i_i_i));
+    v_r29_i1402_i_i_i = (P)((u64)v_r62_i_i_i_i_i_i + (u64)(v_r92_i_i_i_i_i_i));
     v_r32_i1403_i_i_i = (u64)((u64)(v_r65_i_i_i_i_i_i) - (u64)(v_r92_i_i_i_i_i_i));
     v_r27_i4_i_i_i_i = v_r83_i_i_i_i_i_i == 0u;
     v_or_cond2103_i_i = (u1)(((u32)(v_r27_i4_i_i_i_i) | (u32)(v_r15_i1400_i_i_i)) & 1);
@@ -33507,7 +33579,7 @@ L_then_20_i_i_i_i_i_i:;
     if (v_r15_i1410_i_i_i) { goto L_der_core_decode_AnyDecodeRefSliceU8_from_der_70ca1__2; } else { goto L_join_3_i1411_i_i_i; }
 L_join_3_i1411_i_i_i:;
     v_r119_i_i_i_i_i_i = v_r29_i1385_i_i_i + 4;
-    v_r29_i1412_i_i_i = (P)((uintptr_t)v_r119_i_i_i_i_i_i + (u64)(v_r148_i_i_i_i_i_i));
+    v_r29_i1412_i_i_i = (P)((u64)v_r119_i_i_i_i_i_i + (u64)(v_r148_i_i_i_i_i_i));
     v_r32_i1413_i_i_i = (u64)((u64)(v_r122_i_i_i_i_i_i) - (u64)(v_r148_i_i_i_i_i_i));
     { p_v_r0_i_i105_sroa_13_0_i2017_i_i = v_r32_i1413_i_i_i; p_v_r0_i_i105_sroa_12_0_i2016_i_i = v_r29_i1412_i_i_i; p_v_r0_i_i105_sroa_11_0_i2015_i_i = v_r148_i_i_i_i_i_i; p_v_r0_i_i105_sroa_7_0_i2014_i_i = v_r119_i_i_i_i_i_i; goto L_join_5_i_i129_i_i_i; }
 L_join_14_i_i_i_i_i_i:;
@@ -33527,7 +33599,7 @@ L_then_31_i_i_i_i_i_i:;
     v_r15_i1420_i_i_i = v_r173_i_i_i_i_i_i < v_r199_i_i_i_i_i_i;
     if (v_r15_i1420_i_i_i) { goto L_der_core_decode_AnyDecodeRefSliceU8_from_der_70ca1__2; } else { goto L_join_3_i1421_i_i_i; }
 L_join_3_i1421_i_i_i:;
-    v_r29_i1422_i_i_i = (P)((uintptr_t)v_r170_i_i_i_i_i_i + (u64)(v_r199_i_i_i_i_i_i));
+    v_r29_i1422_i_i_i = (P)((u64)v_r170_i_i_i_i_i_i + (u64)(v_r199_i_i_i_i_i_i));
     v_r32_i1423_i_i_i = (u64)((u64)(v_r173_i_i_i_i_i_i) - (u64)(v_r199_i_i_i_i_i_i));
     { p_v_r0_i_i105_sroa_13_0_i2017_i_i = v_r32_i1423_i_i_i; p_v_r0_i_i105_sroa_12_0_i2016_i_i = v_r29_i1422_i_i_i; p_v_r0_i_i105_sroa_11_0_i2015_i_i = v_r199_i_i_i_i_i_i; p_v_r0_i_i105_sroa_7_0_i2014_i_i = v_r170_i_i_i_i_i_i; goto L_join_5_i_i129_i_i_i; }
 L_join_5_i_i129_i_i_i:;
@@ -33572,7 +33644,7 @@ L_then_6_i_i_i241_i_i_i:;
 L_then_9_i_i_i285_i_i_i:;
     v_r92_i_i_i286_i_i_i = (u64)v_r83_i_i_i243_i_i_i;
     v_r15_i1430_i_i_i = v_r65_i_i_i163_i_i_i < v_r92_i_i_i286_i_i_i;
-    v_r29_i1432_i_i_i = (P)((uintptr_t)v_r62_i_i_i162_i_i_i + (u64)(v_r92_i_i_i286_i_i_i));
+    v_r29_i1432_i_i_i = (P)((u64)v_r62_i_i_i162_i_i_i + (u64)(v_r92_i_i_i286_i_i_i));
     v_r32_i1433_i_i_i = (u64)((u64)(v_r65_i_i_i163_i_i_i) - (u64)(v_r92_i_i_i286_i_i_i));
     v_r27_i4_i213_i_i_i = v_r83_i_i_i243_i_i_i == 0u;
     v_or_cond2104_i_i = (u1)(((u32)(v_r27_i4_i213_i_i_i) | (u32)(v_r15_i1430_i_i_i)) & 1);
@@ -33599,7 +33671,7 @@ L_then_20_i_i_i267_i_i_i:;
     if (v_r15_i1440_i_i_i) { goto L_der_core_decode_AnyDecodeRefSliceU8_from_der_70ca1__2; } else { goto L_join_3_i1441_i_i_i; }
 L_join_3_i1441_i_i_i:;
     v_r119_i_i_i269_i_i_i = v_r0_i_i105_sroa_12_0_i2016_i_i + 4;
-    v_r29_i1442_i_i_i = (P)((uintptr_t)v_r119_i_i_i269_i_i_i + (u64)(v_r148_i_i_i275_i_i_i));
+    v_r29_i1442_i_i_i = (P)((u64)v_r119_i_i_i269_i_i_i + (u64)(v_r148_i_i_i275_i_i_i));
     v_r32_i1443_i_i_i = (u64)((u64)(v_r122_i_i_i268_i_i_i) - (u64)(v_r148_i_i_i275_i_i_i));
     { p_v_r0_i_i135_sroa_13_0_i2026_i_i = v_r32_i1443_i_i_i; p_v_r0_i_i135_sroa_12_0_i2025_i_i = v_r29_i1442_i_i_i; p_v_r0_i_i135_sroa_11_0_i2024_i_i = v_r148_i_i_i275_i_i_i; p_v_r0_i_i135_sroa_7_0_i2023_i_i = v_r119_i_i_i269_i_i_i; goto L_join_5_i_i214_i_i_i; }
 L_join_14_i_i_i247_i_i_i:;
@@ -33619,7 +33691,7 @@ L_then_31_i_i_i260_i_i_i:;
     v_r15_i1450_i_i_i = v_r173_i_i_i251_i_i_i < v_r199_i_i_i261_i_i_i;
     if (v_r15_i1450_i_i_i) { goto L_der_core_decode_AnyDecodeRefSliceU8_from_der_70ca1__2; } else { goto L_join_3_i1451_i_i_i; }
 L_join_3_i1451_i_i_i:;
-    v_r29_i1452_i_i_i = (P)((uintptr_t)v_r170_i_i_i250_i_i_i + (u64)(v_r199_i_i_i261_i_i_i));
+    v_r29_i1452_i_i_i = (P)((u64)v_r170_i_i_i250_i_i_i + (u64)(v_r199_i_i_i261_i_i_i));
     v_r32_i1453_i_i_i = (u64)((u64)(v_r173_i_i_i251_i_i_i) - (u64)(v_r199_i_i_i261_i_i_i));
     { p_v_r0_i_i135_sroa_13_0_i2026_i_i = v_r32_i1453_i_i_i; p_v_r0_i_i135_sroa_12_0_i2025_i_i = v_r29_i1452_i_i_i; p_v_r0_i_i135_sroa_11_0_i2024_i_i = v_r199_i_i_i261_i_i_i; p_v_r0_i_i135_sroa_7_0_i2023_i_i = v_r170_i_i_i250_i_i_i; goto L_join_5_i_i214_i_i_i; }
 L_join_5_i_i214_i_i_i:;
@@ -33664,7 +33736,7 @@ L_then_6_i_i_i401_i_i_i:;
 L_then_9_i_i_i445_i_i_i:;
     v_r92_i_i_i446_i_i_i = (u64)v_r83_i_i_i403_i_i_i;
     v_r15_i1460_i_i_i = v_r65_i_i_i323_i_i_i < v_r92_i_i_i446_i_i_i;
-    v_r29_i1462_i_i_i = (P)((uintptr_t)v_r62_i_i_i322_i_i_i + (u64)(v_r92_i_i_i446_i_i_i));
+    v_r29_i1462_i_i_i = (P)((u64)v_r62_i_i_i322_i_i_i + (u64)(v_r92_i_i_i446_i_i_i));
     v_r32_i1463_i_i_i = (u64)((u64)(v_r65_i_i_i323_i_i_i) - (u64)(v_r92_i_i_i446_i_i_i));
     v_r27_i4_i373_i_i_i = v_r83_i_i_i403_i_i_i == 0u;
     v_or_cond2105_i_i = (u1)(((u32)(v_r27_i4_i373_i_i_i) | (u32)(v_r15_i1460_i_i_i)) & 1);
@@ -33691,7 +33763,7 @@ L_then_20_i_i_i427_i_i_i:;
     if (v_r15_i1470_i_i_i) { goto L_der_core_decode_AnyDecodeRefSliceU8_from_der_70ca1__2; } else { goto L_join_3_i1471_i_i_i; }
 L_join_3_i1471_i_i_i:;
     v_r119_i_i_i429_i_i_i = v_r0_i_i135_sroa_12_0_i2025_i_i + 4;
-    v_r29_i1472_i_i_i = (P)((uintptr_t)v_r119_i_i_i429_i_i_i + (u64)(v_r148_i_i_i435_i_i_i));
+    v_r29_i1472_i_i_i = (P)((u64)v_r119_i_i_i429_i_i_i + (u64)(v_r148_i_i_i435_i_i_i));
     v_r32_i1473_i_i_i = (u64)((u64)(v_r122_i_i_i428_i_i_i) - (u64)(v_r148_i_i_i435_i_i_i));
     { p_v_r0_i_i295_sroa_13_0_i2035_i_i = v_r32_i1473_i_i_i; p_v_r0_i_i295_sroa_12_0_i2034_i_i = v_r29_i1472_i_i_i; p_v_r0_i_i295_sroa_11_0_i2033_i_i = v_r148_i_i_i435_i_i_i; p_v_r0_i_i295_sroa_7_0_i2032_i_i = v_r119_i_i_i429_i_i_i; goto L_join_5_i_i374_i_i_i; }
 L_join_14_i_i_i407_i_i_i:;
@@ -33711,7 +33783,7 @@ L_then_31_i_i_i420_i_i_i:;
     v_r15_i1480_i_i_i = v_r173_i_i_i411_i_i_i < v_r199_i_i_i421_i_i_i;
     if (v_r15_i1480_i_i_i) { goto L_der_core_decode_AnyDecodeRefSliceU8_from_der_70ca1__2; } else { goto L_join_3_i1481_i_i_i; }
 L_join_3_i1481_i_i_i:;
-    v_r29_i1482_i_i_i = (P)((uintptr_t)v_r170_i_i_i410_i_i_i + (u64)(v_r199_i_i_i421_i_i_i));
+    v_r29_i1482_i_i_i = (P)((u64)v_r170_i_i_i410_i_i_i + (u64)(v_r199_i_i_i421_i_i_i));
     v_r32_i1483_i_i_i = (u64)((u64)(v_r173_i_i_i411_i_i_i) - (u64)(v_r199_i_i_i421_i_i_i));
     { p_v_r0_i_i295_sroa_13_0_i2035_i_i = v_r32_i1483_i_i_i; p_v_r0_i_i295_sroa_12_0_i2034_i_i = v_r29_i1482_i_i_i; p_v_r0_i_i295_sroa_11_0_i2033_i_i = v_r199_i_i_i421_i_i_i; p_v_r0_i_i295_sroa_7_0_i2032_i_i = v_r170_i_i_i410_i_i_i; goto L_join_5_i_i374_i_i_i; }
 L_join_5_i_i374_i_i_i:;
@@ -33756,7 +33828,7 @@ L_then_6_i_i_i561_i_i_i:;
 L_then_9_i_i_i605_i_i_i:;
     v_r92_i_i_i606_i_i_i = (u64)v_r83_i_i_i563_i_i_i;
     v_r15_i1490_i_i_i = v_r65_i_i_i483_i_i_i < v_r92_i_i_i606_i_i_i;
-    v_r29_i1492_i_i_i = (P)((uintptr_t)v_r62_i_i_i482_i_i_i + (u64)(v_r92_i_i_i606_i_i_i));
+    v_r29_i1492_i_i_i = (P)((u64)v_r62_i_i_i482_i_i_i + (u64)(v_r92_i_i_i606_i_i_i));
     v_r32_i1493_i_i_i = (u64)((u64)(v_r65_i_i_i483_i_i_i) - (u64)(v_r92_i_i_i606_i_i_i));
     v_r27_i4_i533_i_i_i = v_r83_i_i_i563_i_i_i == 0u;
     v_or_cond2106_i_i = (u1)(((u32)(v_r27_i4_i533_i_i_i) | (u32)(v_r15_i1490_i_i_i)) & 1);
@@ -33783,7 +33855,7 @@ L_then_20_i_i_i587_i_i_i:;
     if (v_r15_i1500_i_i_i) { goto L_der_core_decode_AnyDecodeRefSliceU8_from_der_70ca1__2; } else { goto L_join_3_i1501_i_i_i; }
 L_join_3_i1501_i_i_i:;
     v_r119_i_i_i589_i_i_i = v_r0_i_i295_sroa_12_0_i2034_i_i + 4;
-    v_r29_i1502_i_i_i = (P)((uintptr_t)v_r119_i_i_i589_i_i_i + (u64)(v_r148_i_i_i595_i_i_i));
+    v_r29_i1502_i_i_i = (P)((u64)v_r119_i_i_i589_i_i_i + (u64)(v_r148_i_i_i595_i_i_i));
     v_r32_i1503_i_i_i = (u64)((u64)(v_r122_i_i_i588_i_i_i) - (u64)(v_r148_i_i_i595_i_i_i));
     { p_v_r0_i_i455_sroa_13_0_i2044_i_i = v_r32_i1503_i_i_i; p_v_r0_i_i455_sroa_12_0_i2043_i_i = v_r29_i1502_i_i_i; p_v_r0_i_i455_sroa_11_0_i2042_i_i = v_r148_i_i_i595_i_i_i; p_v_r0_i_i455_sroa_7_0_i2041_i_i = v_r119_i_i_i589_i_i_i; goto L_join_5_i_i534_i_i_i; }
 L_join_14_i_i_i567_i_i_i:;
@@ -33803,7 +33875,7 @@ L_then_31_i_i_i580_i_i_i:;
     v_r15_i1510_i_i_i = v_r173_i_i_i571_i_i_i < v_r199_i_i_i581_i_i_i;
     if (v_r15_i1510_i_i_i) { goto L_der_core_decode_AnyDecodeRefSliceU8_from_der_70ca1__2; } else { goto L_join_3_i1511_i_i_i; }
 L_join_3_i1511_i_i_i:;
-    v_r29_i1512_i_i_i = (P)((uintptr_t)v_r170_i_i_i570_i_i_i + (u64)(v_r199_i_i_i581_i_i_i));
+    v_r29_i1512_i_i_i = (P)((u64)v_r170_i_i_i570_i_i_i + (u64)(v_r199_i_i_i581_i_i_i));
     v_r32_i1513_i_i_i = (u64)((u64)(v_r173_i_i_i571_i_i_i) - (u64)(v_r199_i_i_i581_i_i_i));
     { p_v_r0_i_i455_sroa_13_0_i2044_i_i = v_r32_i1513_i_i_i; p_v_r0_i_i455_sroa_12_0_i2043_i_i = v_r29_i1512_i_i_i; p_v_r0_i_i455_sroa_11_0_i2042_i_i = v_r199_i_i_i581_i_i_i; p_v_r0_i_i455_sroa_7_0_i2041_i_i = v_r170_i_i_i570_i_i_i; goto L_join_5_i_i534_i_i_i; }
 L_join_5_i_i534_i_i_i:;
@@ -33848,7 +33920,7 @@ L_then_6_i_i_i721_i_i_i:;
 L_then_9_i_i_i765_i_i_i:;
     v_r92_i_i_i766_i_i_i = (u64)v_r83_i_i_i723_i_i_i;
     v_r15_i1520_i_i_i = v_r65_i_i_i643_i_i_i < v_r92_i_i_i766_i_i_i;
-    v_r29_i1522_i_i_i = (P)((uintptr_t)v_r62_i_i_i642_i_i_i + (u64)(v_r92_i_i_i766_i_i_i));
+    v_r29_i1522_i_i_i = (P)((u64)v_r62_i_i_i642_i_i_i + (u64)(v_r92_i_i_i766_i_i_i));
     v_r32_i1523_i_i_i = (u64)((u64)(v_r65_i_i_i643_i_i_i) - (u64)(v_r92_i_i_i766_i_i_i));
     v_r27_i4_i693_i_i_i = v_r83_i_i_i723_i_i_i == 0u;
     v_or_cond2107_i_i = (u1)(((u32)(v_r27_i4_i693_i_i_i) | (u32)(v_r15_i1520_i_i_i)) & 1);
@@ -33875,7 +33947,7 @@ L_then_20_i_i_i747_i_i_i:;
     if (v_r15_i1530_i_i_i) { goto L_der_core_decode_AnyDecodeRefSliceU8_from_der_70ca1__2; } else { goto L_join_3_i1531_i_i_i; }
 L_join_3_i1531_i_i_i:;
     v_r119_i_i_i749_i_i_i = v_r0_i_i455_sroa_12_0_i2043_i_i + 4;
-    v_r29_i1532_i_i_i = (P)((uintptr_t)v_r119_i_i_i749_i_i_i + (u64)(v_r148_i_i_i755_i_i_i));
+    v_r29_i1532_i_i_i = (P)((u64)v_r119_i_i_i749_i_i_i + (u64)(v_r148_i_i_i755_i_i_i));
     v_r32_i1533_i_i_i = (u64)((u64)(v_r122_i_i_i748_i_i_i) - (u64)(v_r148_i_i_i755_i_i_i));
     { p_v_r0_i_i615_sroa_13_0_i2053_i_i = v_r32_i1533_i_i_i; p_v_r0_i_i615_sroa_12_0_i2052_i_i = v_r29_i1532_i_i_i; p_v_r0_i_i615_sroa_11_0_i2051_i_i = v_r148_i_i_i755_i_i_i; p_v_r0_i_i615_sroa_7_0_i2050_i_i = v_r119_i_i_i749_i_i_i; goto L_join_5_i_i694_i_i_i; }
 L_join_14_i_i_i727_i_i_i:;
@@ -33895,7 +33967,7 @@ L_then_31_i_i_i740_i_i_i:;
     v_r15_i1540_i_i_i = v_r173_i_i_i731_i_i_i < v_r199_i_i_i741_i_i_i;
     if (v_r15_i1540_i_i_i) { goto L_der_core_decode_AnyDecodeRefSliceU8_from_der_70ca1__2; } else { goto L_join_3_i1541_i_i_i; }
 L_join_3_i1541_i_i_i:;
-    v_r29_i1542_i_i_i = (P)((uintptr_t)v_r170_i_i_i730_i_i_i + (u64)(v_r199_i_i_i741_i_i_i));
+    v_r29_i1542_i_i_i = (P)((u64)v_r170_i_i_i730_i_i_i + (u64)(v_r199_i_i_i741_i_i_i));
     v_r32_i1543_i_i_i = (u64)((u64)(v_r173_i_i_i731_i_i_i) - (u64)(v_r199_i_i_i741_i_i_i));
     { p_v_r0_i_i615_sroa_13_0_i2053_i_i = v_r32_i1543_i_i_i; p_v_r0_i_i615_sroa_12_0_i2052_i_i = v_r29_i1542_i_i_i; p_v_r0_i_i615_sroa_11_0_i2051_i_i = v_r199_i_i_i741_i_i_i; p_v_r0_i_i615_sroa_7_0_i2050_i_i = v_r170_i_i_i730_i_i_i; goto L_join_5_i_i694_i_i_i; }
 L_join_5_i_i694_i_i_i:;
@@ -33940,7 +34012,7 @@ L_then_6_i_i_i881_i_i_i:;
 L_then_9_i_i_i925_i_i_i:;
     v_r92_i_i_i926_i_i_i = (u64)v_r83_i_i_i883_i_i_i;
     v_r15_i1550_i_i_i = v_r65_i_i_i803_i_i_i < v_r92_i_i_i926_i_i_i;
-    v_r29_i1552_i_i_i = (P)((uintptr_t)v_r62_i_i_i802_i_i_i + (u64)(v_r92_i_i_i926_i_i_i));
+    v_r29_i1552_i_i_i = (P)((u64)v_r62_i_i_i802_i_i_i + (u64)(v_r92_i_i_i926_i_i_i));
     v_r32_i1553_i_i_i = (u64)((u64)(v_r65_i_i_i803_i_i_i) - (u64)(v_r92_i_i_i926_i_i_i));
     v_r27_i4_i853_i_i_i = v_r83_i_i_i883_i_i_i == 0u;
     v_or_cond2108_i_i = (u1)(((u32)(v_r27_i4_i853_i_i_i) | (u32)(v_r15_i1550_i_i_i)) & 1);
@@ -33967,7 +34039,7 @@ L_then_20_i_i_i907_i_i_i:;
     if (v_r15_i1560_i_i_i) { goto L_der_core_decode_AnyDecodeRefSliceU8_from_der_70ca1__2; } else { goto L_join_3_i1561_i_i_i; }
 L_join_3_i1561_i_i_i:;
     v_r119_i_i_i909_i_i_i = v_r0_i_i615_sroa_12_0_i2052_i_i + 4;
-    v_r29_i1562_i_i_i = (P)((uintptr_t)v_r119_i_i_i909_i_i_i + (u64)(v_r148_i_i_i915_i_i_i));
+    v_r29_i1562_i_i_i = (P)((u64)v_r119_i_i_i909_i_i_i + (u64)(v_r148_i_i_i915_i_i_i));
     v_r32_i1563_i_i_i = (u64)((u64)(v_r122_i_i_i908_i_i_i) - (u64)(v_r148_i_i_i915_i_i_i));
     { p_v_r0_i_i775_sroa_13_0_i2062_i_i = v_r32_i1563_i_i_i; p_v_r0_i_i775_sroa_12_0_i2061_i_i = v_r29_i1562_i_i_i; p_v_r0_i_i775_sroa_11_0_i2060_i_i = v_r148_i_i_i915_i_i_i; p_v_r0_i_i775_sroa_7_0_i2059_i_i = v_r119_i_i_i909_i_i_i; goto L_join_5_i_i854_i_i_i; }
 L_join_14_i_i_i887_i_i_i:;
@@ -33987,7 +34059,7 @@ L_then_31_i_i_i900_i_i_i:;
     v_r15_i1570_i_i_i = v_r173_i_i_i891_i_i_i < v_r199_i_i_i901_i_i_i;
     if (v_r15_i1570_i_i_i) { goto L_der_core_decode_AnyDecodeRefSliceU8_from_der_70ca1__2; } else { goto L_join_3_i1571_i_i_i; }
 L_join_3_i1571_i_i_i:;
-    v_r29_i1572_i_i_i = (P)((uintptr_t)v_r170_i_i_i890_i_i_i + (u64)(v_r199_i_i_i901_i_i_i));
+    v_r29_i1572_i_i_i = (P)((u64)v_r170_i_i_i890_i_i_i + (u64)(v_r199_i_i_i901_i_i_i));
     v_r32_i1573_i_i_i = (u64)((u64)(v_r173_i_i_i891_i_i_i) - (u64)(v_r199_i_i_i901_i_i_i));
     { p_v_r0_i_i775_sroa_13_0_i2062_i_i = v_r32_i1573_i_i_i; p_v_r0_i_i775_sroa_12_0_i2061_i_i = v_r29_i1572_i_i_i; p_v_r0_i_i775_sroa_11_0_i2060_i_i = v_r199_i_i_i901_i_i_i; p_v_r0_i_i775_sroa_7_0_i2059_i_i = v_r170_i_i_i890_i_i_i; goto L_join_5_i_i854_i_i_i; }
 L_join_5_i_i854_i_i_i:;
@@ -34032,7 +34104,7 @@ L_then_6_i_i_i1041_i_i_i:;
 L_then_9_i_i_i1085_i_i_i:;
     v_r92_i_i_i1086_i_i_i = (u64)v_r83_i_i_i1043_i_i_i;
     v_r15_i1580_i_i_i = v_r65_i_i_i963_i_i_i < v_r92_i_i_i1086_i_i_i;
-    v_r29_i1582_i_i_i = (P)((uintptr_t)v_r62_i_i_i962_i_i_i + (u64)(v_r92_i_i_i1086_i_i_i));
+    v_r29_i1582_i_i_i = (P)((u64)v_r62_i_i_i962_i_i_i + (u64)(v_r92_i_i_i1086_i_i_i));
     v_r32_i1583_i_i_i = (u64)((u64)(v_r65_i_i_i963_i_i_i) - (u64)(v_r92_i_i_i1086_i_i_i));
     v_r27_i4_i1013_i_i_i = v_r83_i_i_i1043_i_i_i == 0u;
     v_or_cond2109_i_i = (u1)(((u32)(v_r27_i4_i1013_i_i_i) | (u32)(v_r15_i1580_i_i_i)) & 1);
@@ -34059,7 +34131,7 @@ L_then_20_i_i_i1067_i_i_i:;
     if (v_r15_i1590_i_i_i) { goto L_der_core_decode_AnyDecodeRefSliceU8_from_der_70ca1__2; } else { goto L_join_3_i1591_i_i_i; }
 L_join_3_i1591_i_i_i:;
     v_r119_i_i_i1069_i_i_i = v_r0_i_i775_sroa_12_0_i2061_i_i + 4;
-    v_r29_i1592_i_i_i = (P)((uintptr_t)v_r119_i_i_i1069_i_i_i + (u64)(v_r148_i_i_i1075_i_i_i));
+    v_r29_i1592_i_i_i = (P)((u64)v_r119_i_i_i1069_i_i_i + (u64)(v_r148_i_i_i1075_i_i_i));
     v_r32_i1593_i_i_i = (u64)((u64)(v_r122_i_i_i1068_i_i_i) - (u64)(v_r148_i_i_i1075_i_i_i));
     { p_v_r0_i_i935_sroa_13_0_i2071_i_i = v_r32_i1593_i_i_i; p_v_r0_i_i935_sroa_12_0_i2070_i_i = v_r29_i1592_i_i_i; p_v_r0_i_i935_sroa_11_0_i2069_i_i = v_r148_i_i_i1075_i_i_i; p_v_r0_i_i935_sroa_7_0_i2068_i_i = v_r119_i_i_i1069_i_i_i; goto L_join_5_i_i1014_i_i_i; }
 L_join_14_i_i_i1047_i_i_i:;
@@ -34079,7 +34151,7 @@ L_then_31_i_i_i1060_i_i_i:;
     v_r15_i1600_i_i_i = v_r173_i_i_i1051_i_i_i < v_r199_i_i_i1061_i_i_i;
     if (v_r15_i1600_i_i_i) { goto L_der_core_decode_AnyDecodeRefSliceU8_from_der_70ca1__2; } else { goto L_join_3_i1601_i_i_i; }
 L_join_3_i1601_i_i_i:;
-    v_r29_i1602_i_i_i = (P)((uintptr_t)v_r170_i_i_i1050_i_i_i + (u64)(v_r199_i_i_i1061_i_i_i));
+    v_r29_i1602_i_i_i = (P)((u64)v_r170_i_i_i1050_i_i_i + (u64)(v_r199_i_i_i1061_i_i_i));
     v_r32_i1603_i_i_i = (u64)((u64)(v_r173_i_i_i1051_i_i_i) - (u64)(v_r199_i_i_i1061_i_i_i));
     { p_v_r0_i_i935_sroa_13_0_i2071_i_i = v_r32_i1603_i_i_i; p_v_r0_i_i935_sroa_12_0_i2070_i_i = v_r29_i1602_i_i_i; p_v_r0_i_i935_sroa_11_0_i2069_i_i = v_r199_i_i_i1061_i_i_i; p_v_r0_i_i935_sroa_7_0_i2068_i_i = v_r170_i_i_i1050_i_i_i; goto L_join_5_i_i1014_i_i_i; }
 L_join_5_i_i1014_i_i_i:;
@@ -34124,7 +34196,7 @@ L_then_6_i_i_i1180_i_i_i:;
 L_then_9_i_i_i1224_i_i_i:;
     v_r92_i_i_i1225_i_i_i = (u64)v_r83_i_i_i1182_i_i_i;
     v_r15_i1610_i_i_i = v_r65_i_i_i1113_i_i_i < v_r92_i_i_i1225_i_i_i;
-    v_r29_i1612_i_i_i = (P)((uintptr_t)v_r62_i_i_i1112_i_i_i + (u64)(v_r92_i_i_i1225_i_i_i));
+    v_r29_i1612_i_i_i = (P)((u64)v_r62_i_i_i1112_i_i_i + (u64)(v_r92_i_i_i1225_i_i_i));
     v_r32_i1613_i_i_i = (u64)((u64)(v_r65_i_i_i1113_i_i_i) - (u64)(v_r92_i_i_i1225_i_i_i));
     v_r27_i4_i1152_i_i_i = v_r83_i_i_i1182_i_i_i == 0u;
     v_or_cond2110_i_i = (u1)(((u32)(v_r27_i4_i1152_i_i_i) | (u32)(v_r15_i1610_i_i_i)) & 1);
@@ -34151,7 +34223,7 @@ L_then_20_i_i_i1206_i_i_i:;
     if (v_r15_i1620_i_i_i) { goto L_der_core_decode_AnyDecodeRefSliceU8_from_der_70ca1__2; } else { goto L_join_3_i1621_i_i_i; }
 L_join_3_i1621_i_i_i:;
     v_r119_i_i_i1208_i_i_i = v_r0_i_i935_sroa_12_0_i2070_i_i + 4;
-    v_r29_i1622_i_i_i = (P)((uintptr_t)v_r119_i_i_i1208_i_i_i + (u64)(v_r148_i_i_i1214_i_i_i));
+    v_r29_i1622_i_i_i = (P)((u64)v_r119_i_i_i1208_i_i_i + (u64)(v_r148_i_i_i1214_i_i_i));
     v_r32_i1623_i_i_i = (u64)((u64)(v_r122_i_i_i1207_i_i_i) - (u64)(v_r148_i_i_i1214_i_i_i));
     { p_v_r0_i_i1095_sroa_13_0_i2080_i_i = v_r32_i1623_i_i_i; p_v_r0_i_i1095_sroa_12_0_i2079_i_i = v_r29_i1622_i_i_i; p_v_r0_i_i1095_sroa_11_0_i2078_i_i = v_r148_i_i_i1214_i_i_i; p_v_r0_i_i1095_sroa_7_0_i2077_i_i = v_r119_i_i_i1208_i_i_i; goto L_join_5_i_i1153_i_i_i; }
 L_join_14_i_i_i1186_i_i_i:;
@@ -34171,7 +34243,7 @@ L_then_31_i_i_i1199_i_i_i:;
     v_r15_i1630_i_i_i = v_r173_i_i_i1190_i_i_i < v_r199_i_i_i1200_i_i_i;
     if (v_r15_i1630_i_i_i) { goto L_der_core_decode_AnyDecodeRefSliceU8_from_der_70ca1__2; } else { goto L_join_3_i1631_i_i_i; }
 L_join_3_i1631_i_i_i:;
-    v_r29_i1632_i_i_i = (P)((uintptr_t)v_r170_i_i_i1189_i_i_i + (u64)(v_r199_i_i_i1200_i_i_i));
+    v_r29_i1632_i_i_i = (P)((u64)v_r170_i_i_i1189_i_i_i + (u64)(v_r199_i_i_i1200_i_i_i));
     v_r32_i1633_i_i_i = (u64)((u64)(v_r173_i_i_i1190_i_i_i) - (u64)(v_r199_i_i_i1200_i_i_i));
     { p_v_r0_i_i1095_sroa_13_0_i2080_i_i = v_r32_i1633_i_i_i; p_v_r0_i_i1095_sroa_12_0_i2079_i_i = v_r29_i1632_i_i_i; p_v_r0_i_i1095_sroa_11_0_i2078_i_i = v_r199_i_i_i1200_i_i_i; p_v_r0_i_i1095_sroa_7_0_i2077_i_i = v_r170_i_i_i1189_i_i_i; goto L_join_5_i_i1153_i_i_i; }
 L_join_5_i_i1153_i_i_i:;
@@ -34301,7 +34373,7 @@ L_arm_1_i:;
     v_r7_i_sroa_15_i_i_sroa_25_0_i = p_v_r7_i_sroa_15_i_i_sroa_25_0_i;
     v_r7_i_sroa_15_i_i_sroa_26_0_i = p_v_r7_i_sroa_15_i_i_sroa_26_0_i;
     v_13 = v_r0_i1_sroa_15_sroa_9_02158_i_i == 1u;
-    v_spec_select_i = v_13 ? v_r7_i_sroa_11_sroa_9_i_sroa_6_0_i : (P)f_static_22;
+    v_spec_select_i = v_13 ? v_r7_i_sroa_11_sroa_9_i_sroa_6_0_i : AT(f_static_22);
     v_spec_select220_i = v_13 ? v_r7_i_sroa_11_sroa_9_i_sroa_7_0_i : 0u;
     put_P(v_a2, v_r0_i1_sroa_15_sroa_8_sroa_0_02151_i_i);
     v_r8_sroa_3_0_a2_sroa_idx_i = v_a2 + 8;
@@ -34350,7 +34422,7 @@ L_arm_1_i:;
     v_r10_sroa_18_0_a3_sroa_idx_i = v_a3 + 128;
     put_u64(v_r10_sroa_18_0_a3_sroa_idx_i, v_r34_i_sroa_7_0_i);
     v_r2_i_sroa_5_0_i = v_14 ? v_r7_i_sroa_15_i_i_sroa_25_0_i : 0u;
-    v_static_22_sink_i76_i = v_14 ? v_r7_i_sroa_15_i_i_sroa_24_0_i : (P)f_static_22;
+    v_static_22_sink_i76_i = v_14 ? v_r7_i_sroa_15_i_i_sroa_24_0_i : AT(f_static_22);
     put_P(v_a4, v_static_22_sink_i76_i);
     v_r12_sroa_3_0_a4_sroa_idx_i = v_a4 + 8;
     put_u64(v_r12_sroa_3_0_a4_sroa_idx_i, v_r2_i_sroa_5_0_i);
@@ -34364,7 +34436,7 @@ L_pkcs1_c_container_pkcs1_c_private_key_info_decode_:;
     v_r7_0_i = p_v_r7_0_i;
     return v_r7_0_i;
 }
-u32 pkcs1_c_oaep_algorithm_decode(P v_a0, u64 v_a1, P v_a2) {
+u32 NAME(oaep_algorithm_decode)(P v_a0, u64 v_a1, P v_a2) {
     ALIGNED(8) unsigned char m_v_r7_i303_i_i[128];
     ALIGNED(8) unsigned char m_v_r10_i130_i_i[176];
     ALIGNED(8) unsigned char m_v_r12_i132_i_i[24];
@@ -34767,13 +34839,13 @@ u32 pkcs1_c_oaep_algorithm_decode(P v_a0, u64 v_a1, P v_a2) {
     u32 v_switch_idx_cast_i_i_i;
     u32 v_switch_offset_i_i_i;
     u32 v_r6_0_i;
-    v_r7_i303_i_i = m_v_r7_i303_i_i;
-    v_r10_i130_i_i = m_v_r10_i130_i_i;
-    v_r12_i132_i_i = m_v_r12_i132_i_i;
-    v_r0_i_i_i = m_v_r0_i_i_i;
+    v_r7_i303_i_i = AT(m_v_r7_i303_i_i);
+    v_r10_i130_i_i = AT(m_v_r10_i130_i_i);
+    v_r12_i132_i_i = AT(m_v_r12_i132_i_i);
+    v_r0_i_i_i = AT(m_v_r0_i_i_i);
     v_r1 = v_a0 == (P)0;
     v_r3 = v_r1 ? 4096u : 0u;
-    v_r4 = (P)((uintptr_t)v_a0 + (u64)(v_r3));
+    v_r4 = (P)((u64)v_a0 + (u64)(v_r3));
     fill(v_r0_i_i_i, 0u, 56u);
     v_0 = (u64)((u64)(v_a1) + (u64)(18446744069414584320ull));
     v_or_cond_i_i = v_0 < 18446744069414584322ull;
@@ -34811,13 +34883,13 @@ L_then_9_i_i_i_i_i:;
     v_r15_i344_i_i = v_r35_i_i_i_i_i < v_r65_i_i_i_i_i;
     if (v_r15_i344_i_i) { goto L_der_core_decode_AnyDecodeRefSliceU8_from_der_f3668; } else { goto L_arm_1_i_i_i_i; }
 L_arm_1_i_i_i_i:;
-    v_r29_i346_i_i = (P)((uintptr_t)v_r32_i_i_i_i_i + (u64)(v_r65_i_i_i_i_i));
+    v_r29_i346_i_i = (P)((u64)v_r32_i_i_i_i_i + (u64)(v_r65_i_i_i_i_i));
     v_r32_i347_i_i = (u64)((u64)(v_r35_i_i_i_i_i) - (u64)(v_r65_i_i_i_i_i));
     v_r15_i_i_i_i = v_r53_i_i_i_i_i == 0u;
     if (v_r15_i_i_i_i) { goto L_der_core_decode_AnyDecodeRefSliceU8_from_der_f3668; } else { goto L_join_4_i_i_i_i; }
 L_join_4_i_i_i_i:;
     v_r22_i19_i_i_i = (u64)((u64)(v_r65_i_i_i_i_i) + (u64)(18446744073709551615ull));
-    v_r25_i_i_i_i = (P)((uintptr_t)v_r32_i_i_i_i_i + (u64)(v_r22_i19_i_i_i));
+    v_r25_i_i_i_i = (P)((u64)v_r32_i_i_i_i_i + (u64)(v_r22_i19_i_i_i));
     v_r35_i20_i_i_i = get_u8(v_r25_i_i_i_i);
     v_r37_i21_i_i_i = (u8)(v_r35_i20_i_i_i ^ ((u8)1 << 7)) > (u8)(255u ^ ((u8)1 << 7));
     if (v_r37_i21_i_i_i) { goto L_then_5_i_i_i_i; } else { goto L_join_5_preheader_i_i_i; }
@@ -34837,7 +34909,7 @@ L_tailrecurse_backedge_i_i_i:;
     v_sink18_i_i_i = p_v_sink18_i_i_i;
     v_sink_i356_i_i = p_v_sink_i356_i_i;
     v_r99_i_i_i = (u64)((u64)(v_sink18_i_i_i) + (u64)(v_a1_tr14_i_i_i));
-    v_r96_i357_i_i = (P)((uintptr_t)v_a0_tr13_i_i_i + (u64)(v_sink_i356_i_i));
+    v_r96_i357_i_i = (P)((u64)v_a0_tr13_i_i_i + (u64)(v_sink_i356_i_i));
     v_r82_i358_i_i = v_r99_i_i_i == 0u;
     if (v_r82_i358_i_i) { goto L_then_1_i18_i_i_i; } else { p_v_a1_tr14_i_i_i = v_r99_i_i_i; p_v_a0_tr13_i_i_i = v_r96_i357_i_i; goto L_join_4_i_i_i; }
 L_join_7_i355_i_i:;
@@ -34905,7 +34977,7 @@ L_join_5_i_i_i:;
     v_r29_i361_i_i = v_r27_i360_i_i == 128u;
     if (v_r29_i361_i_i) { goto L_spki_core_object_identifier_is_start_exit_i_i_i; } else { goto L_after_6_i_i_i; }
 L_spki_core_object_identifier_is_start_exit_i_i_i:;
-    v_r14_i_i364_i_i = (P)((uintptr_t)v_r25_i359_i_i + (u64)(-1));
+    v_r14_i_i364_i_i = (P)((u64)v_r25_i359_i_i + (u64)(-1));
     v_r16_i_i365_i_i = get_u8(v_r14_i_i364_i_i);
     v_r18_i_i366_i_i = (u8)(v_r16_i_i365_i_i ^ ((u8)1 << 7)) > (u8)(255u ^ ((u8)1 << 7));
     if (v_r18_i_i366_i_i) { goto L_der_core_decode_AnyDecodeRefSliceU8_from_der_f3668; } else { goto L_after_6_i_i_i; }
@@ -34996,7 +35068,7 @@ L_join_5_i_preheader_i_i_i:;
     v_r20_i_3_i_i_i = (u1)(((u32)(v_r20_i_2_i_i_i) | (u32)(v_r7_i_i_i_3_i_i_i)) & 1);
     if (v_r20_i_3_i_i_i) { p_v_r0_sroa_11_0_i_ph_i = 6u; goto L_arm_2_thread_i; } else { goto L_core_cmp_PartialEq_ne_4f69ed2539eb7fe9_exit_i_i; }
 L_core_cmp_PartialEq_ne_4f69ed2539eb7fe9_exit_i_i:;
-    v_r83_i_i_i_i = f_core_cmp_slices_groups_equal_i8_31_core_cmp_number(v_r7_sroa_13_sroa_1_01201_i_i, 9u, (P)f_static_23);
+    v_r83_i_i_i_i = f_core_cmp_slices_groups_equal_i8_31_core_cmp_number(v_r7_sroa_13_sroa_1_01201_i_i, 9u, AT(f_static_23));
     if (v_r83_i_i_i_i) { goto L_join_3_i188_i_i; } else { p_v_r0_sroa_11_0_i_ph_i = 6u; goto L_arm_2_thread_i; }
 L_join_3_i188_i_i:;
     v_6 = v_r7_sroa_16_sroa_0_01203_i_i == 1u;
@@ -35007,7 +35079,7 @@ L_arm_1_i152_i_i:;
     if (v_r7_i_i_i484_not_i_i) { goto L_join_3_i210_i_i; } else { goto L_pkcs1_params_algorithm_AnyFromAlgorithm_from_algor; }
 L_join_3_i210_i_i:;
     v_r7_i485_i_i = v_r7_sroa_19_sroa_5_01200_i_i == 0u;
-    if (v_r7_i485_i_i) { p_v_r0_i205_sroa_8_sroa_14_sroa_20_sroa_0_0_ph_i_i = 5u; p_v_r0_i205_sroa_8_sroa_14_sroa_20_sroa_8_0_ph_i_i = (P)f_static_22; p_v_r0_i205_sroa_8_sroa_14_sroa_20_sroa_11_0_ph_i_i = 0u; p_v_r0_i205_sroa_8_sroa_14_sroa_14_sroa_0_0_ph_i_i = (P)f_static_24; p_v_r0_i205_sroa_8_sroa_14_sroa_14_sroa_8_0_ph_i_i = 5u; p_v_r0_i205_sroa_8_sroa_11_sroa_0_0_ph_i_i = 5u; p_v_r0_i205_sroa_8_sroa_11_sroa_8_0_ph_i_i = (P)f_static_22; p_v_r0_i205_sroa_8_sroa_11_sroa_11_0_ph_i_i = 0u; p_v_r0_i205_sroa_8_sroa_0_sroa_0_0_ph_i_i = (P)f_static_24; p_v_r0_i205_sroa_8_sroa_0_sroa_8_0_ph_i_i = 5u; p_v_r0_i205_sroa_8_sroa_14_sroa_0_0_ph_i_i = (P)f_static_25; p_v_r0_i205_sroa_8_sroa_14_sroa_8_0_ph_i_i = 9u; p_v_r0_i205_sroa_8_sroa_14_sroa_11_0_ph_i_i = 1u; p_v_r0_i205_sroa_8_sroa_14_sroa_17_0_ph_i_i = 1u; p_v_r0_i205_sroa_8_sroa_8_0_ph_i_i = 1u; goto L_pkcs1_params_algorithm_AnyFromAlgorithm_from_algor__2; } else { goto L_join_3_i231_i_i; }
+    if (v_r7_i485_i_i) { p_v_r0_i205_sroa_8_sroa_14_sroa_20_sroa_0_0_ph_i_i = 5u; p_v_r0_i205_sroa_8_sroa_14_sroa_20_sroa_8_0_ph_i_i = AT(f_static_22); p_v_r0_i205_sroa_8_sroa_14_sroa_20_sroa_11_0_ph_i_i = 0u; p_v_r0_i205_sroa_8_sroa_14_sroa_14_sroa_0_0_ph_i_i = AT(f_static_24); p_v_r0_i205_sroa_8_sroa_14_sroa_14_sroa_8_0_ph_i_i = 5u; p_v_r0_i205_sroa_8_sroa_11_sroa_0_0_ph_i_i = 5u; p_v_r0_i205_sroa_8_sroa_11_sroa_8_0_ph_i_i = AT(f_static_22); p_v_r0_i205_sroa_8_sroa_11_sroa_11_0_ph_i_i = 0u; p_v_r0_i205_sroa_8_sroa_0_sroa_0_0_ph_i_i = AT(f_static_24); p_v_r0_i205_sroa_8_sroa_0_sroa_8_0_ph_i_i = 5u; p_v_r0_i205_sroa_8_sroa_14_sroa_0_0_ph_i_i = AT(f_static_25); p_v_r0_i205_sroa_8_sroa_14_sroa_8_0_ph_i_i = 9u; p_v_r0_i205_sroa_8_sroa_14_sroa_11_0_ph_i_i = 1u; p_v_r0_i205_sroa_8_sroa_14_sroa_17_0_ph_i_i = 1u; p_v_r0_i205_sroa_8_sroa_8_0_ph_i_i = 1u; goto L_pkcs1_params_algorithm_AnyFromAlgorithm_from_algor__2; } else { goto L_join_3_i231_i_i; }
 L_join_3_i231_i_i:;
     fill(v_r7_i303_i_i, 0u, 128u);
     f_pkcs1_params_usual_usual_algorithms(v_r7_i303_i_i, v_r7_sroa_19_sroa_4_01199_i_i, v_r7_sroa_19_sroa_5_01200_i_i);
@@ -35068,7 +35140,7 @@ L_pkcs1_params_algorithm_AnyFromAlgorithm_from_algor__2:;
     v_r0_i205_sroa_8_sroa_14_sroa_11_0_ph_i_i = p_v_r0_i205_sroa_8_sroa_14_sroa_11_0_ph_i_i;
     v_r0_i205_sroa_8_sroa_14_sroa_17_0_ph_i_i = p_v_r0_i205_sroa_8_sroa_14_sroa_17_0_ph_i_i;
     v_r0_i205_sroa_8_sroa_8_0_ph_i_i = p_v_r0_i205_sroa_8_sroa_8_0_ph_i_i;
-    { p_v_19 = v_r0_i205_sroa_8_sroa_14_sroa_20_sroa_0_0_ph_i_i; p_v_20 = v_r0_i205_sroa_8_sroa_11_sroa_0_0_ph_i_i; p_v_r0_sroa_26_i_sroa_3_3_copyload166_i = v_r0_i205_sroa_8_sroa_0_sroa_0_0_ph_i_i; p_v_r0_sroa_26_i_sroa_6_3_copyload165_i = v_r0_i205_sroa_8_sroa_0_sroa_8_0_ph_i_i; p_v_r0_sroa_26_i_sroa_7_3_copyload164_i = v_r0_i205_sroa_8_sroa_8_0_ph_i_i; p_v_r0_sroa_26_i_sroa_10_3_copyload163_i = v_r0_i205_sroa_8_sroa_11_sroa_8_0_ph_i_i; p_v_r0_sroa_26_i_sroa_11_3_copyload162_i = v_r0_i205_sroa_8_sroa_11_sroa_11_0_ph_i_i; p_v_r0_sroa_26_i_sroa_12_3_copyload161_i = v_r0_i205_sroa_8_sroa_14_sroa_0_0_ph_i_i; p_v_r0_sroa_26_i_sroa_13_3_copyload160_i = v_r0_i205_sroa_8_sroa_14_sroa_8_0_ph_i_i; p_v_r0_sroa_26_i_sroa_14_3_copyload159_i = v_r0_i205_sroa_8_sroa_14_sroa_11_0_ph_i_i; p_v_r0_sroa_26_i_sroa_16_3_copyload158_i = v_r0_i205_sroa_8_sroa_14_sroa_14_sroa_0_0_ph_i_i; p_v_r0_sroa_26_i_sroa_17_3_copyload157_i = v_r0_i205_sroa_8_sroa_14_sroa_14_sroa_8_0_ph_i_i; p_v_r0_sroa_26_i_sroa_18_3_copyload156_i = v_r0_i205_sroa_8_sroa_14_sroa_17_0_ph_i_i; p_v_r0_sroa_26_i_sroa_21_3_copyload155_i = v_r0_i205_sroa_8_sroa_14_sroa_20_sroa_8_0_ph_i_i; p_v_r0_sroa_26_i_sroa_22_3_copyload154_i = v_r0_i205_sroa_8_sroa_14_sroa_20_sroa_11_0_ph_i_i; p_v_r0_sroa_26_i_sroa_23_3_copyload153_i = (P)f_static_0; p_v_r0_sroa_26_i_sroa_24_3_copyload152_i = 9u; p_v_r0_sroa_26_i_sroa_25_3_copyload151_i = 1u; p_v_r0_sroa_26_i_sroa_27_3_copyload150_i = 4u; p_v_r0_sroa_26_i_sroa_28_3_copyload149_i = (P)f_static_22; p_v_r0_sroa_26_i_sroa_29_3_copyload148_i = 0u; goto L_arm_1_i; }
+    { p_v_19 = v_r0_i205_sroa_8_sroa_14_sroa_20_sroa_0_0_ph_i_i; p_v_20 = v_r0_i205_sroa_8_sroa_11_sroa_0_0_ph_i_i; p_v_r0_sroa_26_i_sroa_3_3_copyload166_i = v_r0_i205_sroa_8_sroa_0_sroa_0_0_ph_i_i; p_v_r0_sroa_26_i_sroa_6_3_copyload165_i = v_r0_i205_sroa_8_sroa_0_sroa_8_0_ph_i_i; p_v_r0_sroa_26_i_sroa_7_3_copyload164_i = v_r0_i205_sroa_8_sroa_8_0_ph_i_i; p_v_r0_sroa_26_i_sroa_10_3_copyload163_i = v_r0_i205_sroa_8_sroa_11_sroa_8_0_ph_i_i; p_v_r0_sroa_26_i_sroa_11_3_copyload162_i = v_r0_i205_sroa_8_sroa_11_sroa_11_0_ph_i_i; p_v_r0_sroa_26_i_sroa_12_3_copyload161_i = v_r0_i205_sroa_8_sroa_14_sroa_0_0_ph_i_i; p_v_r0_sroa_26_i_sroa_13_3_copyload160_i = v_r0_i205_sroa_8_sroa_14_sroa_8_0_ph_i_i; p_v_r0_sroa_26_i_sroa_14_3_copyload159_i = v_r0_i205_sroa_8_sroa_14_sroa_11_0_ph_i_i; p_v_r0_sroa_26_i_sroa_16_3_copyload158_i = v_r0_i205_sroa_8_sroa_14_sroa_14_sroa_0_0_ph_i_i; p_v_r0_sroa_26_i_sroa_17_3_copyload157_i = v_r0_i205_sroa_8_sroa_14_sroa_14_sroa_8_0_ph_i_i; p_v_r0_sroa_26_i_sroa_18_3_copyload156_i = v_r0_i205_sroa_8_sroa_14_sroa_17_0_ph_i_i; p_v_r0_sroa_26_i_sroa_21_3_copyload155_i = v_r0_i205_sroa_8_sroa_14_sroa_20_sroa_8_0_ph_i_i; p_v_r0_sroa_26_i_sroa_22_3_copyload154_i = v_r0_i205_sroa_8_sroa_14_sroa_20_sroa_11_0_ph_i_i; p_v_r0_sroa_26_i_sroa_23_3_copyload153_i = AT(f_static_0); p_v_r0_sroa_26_i_sroa_24_3_copyload152_i = 9u; p_v_r0_sroa_26_i_sroa_25_3_copyload151_i = 1u; p_v_r0_sroa_26_i_sroa_27_3_copyload150_i = 4u; p_v_r0_sroa_26_i_sroa_28_3_copyload149_i = AT(f_static_22); p_v_r0_sroa_26_i_sroa_29_3_copyload148_i = 0u; goto L_arm_1_i; }
 L_arm_2_thread_i:;
     v_r0_sroa_11_0_i_ph_i = p_v_r0_sroa_11_0_i_ph_i;
     { p_v_r5_sroa_7_07376_i = v_r0_sroa_11_0_i_ph_i; goto L_arm_1_i3_i; }
@@ -35155,13 +35227,13 @@ L_arm_1_i:;
     v_r0_sroa_26_i_sroa_29_3_copyload148_i = p_v_r0_sroa_26_i_sroa_29_3_copyload148_i;
     v_21 = v_r0_sroa_26_i_sroa_7_3_copyload164_i == 0u;
     v_r5_sroa_6_0_i_i_i = v_21 ? 0u : v_20;
-    v_r5_sroa_81_0_i_i_i = v_21 ? (P)f_static_22 : v_r0_sroa_26_i_sroa_10_3_copyload163_i;
+    v_r5_sroa_81_0_i_i_i = v_21 ? AT(f_static_22) : v_r0_sroa_26_i_sroa_10_3_copyload163_i;
     v_r5_sroa_10_0_i_i_i = v_21 ? 0u : v_r0_sroa_26_i_sroa_11_3_copyload162_i;
     v_22 = v_r0_sroa_26_i_sroa_14_3_copyload159_i == 0u;
-    if (v_22) { p_v_r5_sroa_61_0_i_i_i = (P)f_static_22; p_v_r5_sroa_8_0_i_i_i = 0u; p_v_r5_sroa_9_0_i_i_i = 0u; p_v_r5_sroa_10_0_i6_i_i = 0u; p_v_r5_sroa_12_0_i_i_i = (P)f_static_22; p_v_r5_sroa_13_0_i_i_i = 0u; goto L_pkcs1_c_algorithm_to_c_mask_gen_exit_i_i; } else { goto L_arm_2_i5_i_i; }
+    if (v_22) { p_v_r5_sroa_61_0_i_i_i = AT(f_static_22); p_v_r5_sroa_8_0_i_i_i = 0u; p_v_r5_sroa_9_0_i_i_i = 0u; p_v_r5_sroa_10_0_i6_i_i = 0u; p_v_r5_sroa_12_0_i_i_i = AT(f_static_22); p_v_r5_sroa_13_0_i_i_i = 0u; goto L_pkcs1_c_algorithm_to_c_mask_gen_exit_i_i; } else { goto L_arm_2_i5_i_i; }
 L_arm_2_i5_i_i:;
     v_23 = v_r0_sroa_26_i_sroa_18_3_copyload156_i == 0u;
-    if (v_23) { p_v_r5_sroa_61_0_i_i_i = v_r0_sroa_26_i_sroa_16_3_copyload158_i; p_v_r5_sroa_8_0_i_i_i = v_r0_sroa_26_i_sroa_17_3_copyload157_i; p_v_r5_sroa_9_0_i_i_i = 0u; p_v_r5_sroa_10_0_i6_i_i = 0u; p_v_r5_sroa_12_0_i_i_i = (P)f_static_22; p_v_r5_sroa_13_0_i_i_i = 0u; goto L_pkcs1_c_algorithm_to_c_mask_gen_exit_i_i; } else { goto L_arm_2_i_i_i_i; }
+    if (v_23) { p_v_r5_sroa_61_0_i_i_i = v_r0_sroa_26_i_sroa_16_3_copyload158_i; p_v_r5_sroa_8_0_i_i_i = v_r0_sroa_26_i_sroa_17_3_copyload157_i; p_v_r5_sroa_9_0_i_i_i = 0u; p_v_r5_sroa_10_0_i6_i_i = 0u; p_v_r5_sroa_12_0_i_i_i = AT(f_static_22); p_v_r5_sroa_13_0_i_i_i = 0u; goto L_pkcs1_c_algorithm_to_c_mask_gen_exit_i_i; } else { goto L_arm_2_i_i_i_i; }
 L_arm_2_i_i_i_i:;
     { p_v_r5_sroa_61_0_i_i_i = v_r0_sroa_26_i_sroa_16_3_copyload158_i; p_v_r5_sroa_8_0_i_i_i = v_r0_sroa_26_i_sroa_17_3_copyload157_i; p_v_r5_sroa_9_0_i_i_i = v_r0_sroa_26_i_sroa_18_3_copyload156_i; p_v_r5_sroa_10_0_i6_i_i = v_19; p_v_r5_sroa_12_0_i_i_i = v_r0_sroa_26_i_sroa_21_3_copyload155_i; p_v_r5_sroa_13_0_i_i_i = v_r0_sroa_26_i_sroa_22_3_copyload154_i; goto L_pkcs1_c_algorithm_to_c_mask_gen_exit_i_i; }
 L_pkcs1_c_algorithm_to_c_mask_gen_exit_i_i:;
@@ -35173,7 +35245,7 @@ L_pkcs1_c_algorithm_to_c_mask_gen_exit_i_i:;
     v_r5_sroa_13_0_i_i_i = p_v_r5_sroa_13_0_i_i_i;
     v_24 = v_r0_sroa_26_i_sroa_25_3_copyload151_i == 0u;
     v_r5_sroa_6_0_i24_i_i = v_24 ? 0u : v_r0_sroa_26_i_sroa_27_3_copyload150_i;
-    v_r5_sroa_81_0_i25_i_i = v_24 ? (P)f_static_22 : v_r0_sroa_26_i_sroa_28_3_copyload149_i;
+    v_r5_sroa_81_0_i25_i_i = v_24 ? AT(f_static_22) : v_r0_sroa_26_i_sroa_28_3_copyload149_i;
     v_r5_sroa_10_0_i26_i_i = v_24 ? 0u : v_r0_sroa_26_i_sroa_29_3_copyload148_i;
     put_P(v_a2, v_r0_sroa_26_i_sroa_3_3_copyload166_i);
     v_r7_sroa_3_0_a2_sroa_idx_i = v_a2 + 8;
@@ -35248,7 +35320,7 @@ L_pkcs1_c_oaep_algorithm_pkcs1_c_oaep_algorithm_deco:;
     v_r6_0_i = p_v_r6_0_i;
     return v_r6_0_i;
 }
-u32 pkcs1_c_oaep_algorithm_decode_strict(P v_a0, u64 v_a1, P v_a2) {
+u32 NAME(oaep_algorithm_decode_strict)(P v_a0, u64 v_a1, P v_a2) {
     ALIGNED(1) unsigned char m_v_r0_i506_i_i_i[5];
     ALIGNED(8) unsigned char m_v_r4_i500_i_i_i[32];
     ALIGNED(8) unsigned char m_v_r7_i251_i_i_i[128];
@@ -35731,15 +35803,15 @@ u32 pkcs1_c_oaep_algorithm_decode_strict(P v_a0, u64 v_a1, P v_a2) {
     u32 v_switch_idx_cast_i_i_i;
     u32 v_switch_offset_i_i_i;
     u32 v_r6_0_i;
-    v_r0_i506_i_i_i = m_v_r0_i506_i_i_i;
-    v_r4_i500_i_i_i = m_v_r4_i500_i_i_i;
-    v_r7_i251_i_i_i = m_v_r7_i251_i_i_i;
-    v_r0_i_i_i_i = m_v_r0_i_i_i_i;
-    v_r26_i_i_i = m_v_r26_i_i_i;
-    v_r27_i_i_i = m_v_r27_i_i_i;
+    v_r0_i506_i_i_i = AT(m_v_r0_i506_i_i_i);
+    v_r4_i500_i_i_i = AT(m_v_r4_i500_i_i_i);
+    v_r7_i251_i_i_i = AT(m_v_r7_i251_i_i_i);
+    v_r0_i_i_i_i = AT(m_v_r0_i_i_i_i);
+    v_r26_i_i_i = AT(m_v_r26_i_i_i);
+    v_r27_i_i_i = AT(m_v_r27_i_i_i);
     v_r1 = v_a0 == (P)0;
     v_r3 = v_r1 ? 4096u : 0u;
-    v_r4 = (P)((uintptr_t)v_a0 + (u64)(v_r3));
+    v_r4 = (P)((u64)v_a0 + (u64)(v_r3));
     fill(v_r26_i_i_i, 0u, 176u);
     fill(v_r27_i_i_i, 0u, 24u);
     fill(v_r0_i_i_i_i, 0u, 56u);
@@ -35779,13 +35851,13 @@ L_then_9_i_i_i_i_i_i:;
     v_r15_i292_i_i_i = v_r35_i_i_i_i_i_i < v_r65_i_i_i_i_i_i;
     if (v_r15_i292_i_i_i) { goto L_der_core_decode_AnyDecodeRefSliceU8_from_der_f3668; } else { goto L_arm_1_i_i_i_i_i; }
 L_arm_1_i_i_i_i_i:;
-    v_r29_i294_i_i_i = (P)((uintptr_t)v_r32_i_i_i_i_i_i + (u64)(v_r65_i_i_i_i_i_i));
+    v_r29_i294_i_i_i = (P)((u64)v_r32_i_i_i_i_i_i + (u64)(v_r65_i_i_i_i_i_i));
     v_r32_i295_i_i_i = (u64)((u64)(v_r35_i_i_i_i_i_i) - (u64)(v_r65_i_i_i_i_i_i));
     v_r15_i_i_i_i_i = v_r53_i_i_i_i_i_i == 0u;
     if (v_r15_i_i_i_i_i) { goto L_der_core_decode_AnyDecodeRefSliceU8_from_der_f3668; } else { goto L_join_4_i_i_i_i_i; }
 L_join_4_i_i_i_i_i:;
     v_r22_i19_i_i_i_i = (u64)((u64)(v_r65_i_i_i_i_i_i) + (u64)(18446744073709551615ull));
-    v_r25_i_i_i_i_i = (P)((uintptr_t)v_r32_i_i_i_i_i_i + (u64)(v_r22_i19_i_i_i_i));
+    v_r25_i_i_i_i_i = (P)((u64)v_r32_i_i_i_i_i_i + (u64)(v_r22_i19_i_i_i_i));
     v_r35_i20_i_i_i_i = get_u8(v_r25_i_i_i_i_i);
     v_r37_i21_i_i_i_i = (u8)(v_r35_i20_i_i_i_i ^ ((u8)1 << 7)) > (u8)(255u ^ ((u8)1 << 7));
     if (v_r37_i21_i_i_i_i) { goto L_then_5_i_i_i_i_i; } else { goto L_join_5_preheader_i_i_i_i; }
@@ -35805,7 +35877,7 @@ L_tailrecurse_backedge_i_i_i_i:;
     v_sink18_i_i_i_i = p_v_sink18_i_i_i_i;
     v_sink_i304_i_i_i = p_v_sink_i304_i_i_i;
     v_r99_i_i_i_i = (u64)((u64)(v_sink18_i_i_i_i) + (u64)(v_a1_tr14_i_i_i_i));
-    v_r96_i305_i_i_i = (P)((uintptr_t)v_a0_tr13_i_i_i_i + (u64)(v_sink_i304_i_i_i));
+    v_r96_i305_i_i_i = (P)((u64)v_a0_tr13_i_i_i_i + (u64)(v_sink_i304_i_i_i));
     v_r82_i306_i_i_i = v_r99_i_i_i_i == 0u;
     if (v_r82_i306_i_i_i) { goto L_then_1_i18_i_i_i_i; } else { p_v_a1_tr14_i_i_i_i = v_r99_i_i_i_i; p_v_a0_tr13_i_i_i_i = v_r96_i305_i_i_i; goto L_join_4_i_i_i_i; }
 L_join_7_i303_i_i_i:;
@@ -35873,7 +35945,7 @@ L_join_5_i_i_i_i:;
     v_r29_i309_i_i_i = v_r27_i308_i_i_i == 128u;
     if (v_r29_i309_i_i_i) { goto L_spki_core_object_identifier_is_start_exit_i_i_i_i; } else { goto L_after_6_i_i_i_i; }
 L_spki_core_object_identifier_is_start_exit_i_i_i_i:;
-    v_r14_i_i312_i_i_i = (P)((uintptr_t)v_r25_i307_i_i_i + (u64)(-1));
+    v_r14_i_i312_i_i_i = (P)((u64)v_r25_i307_i_i_i + (u64)(-1));
     v_r16_i_i313_i_i_i = get_u8(v_r14_i_i312_i_i_i);
     v_r18_i_i314_i_i_i = (u8)(v_r16_i_i313_i_i_i ^ ((u8)1 << 7)) > (u8)(255u ^ ((u8)1 << 7));
     if (v_r18_i_i314_i_i_i) { goto L_der_core_decode_AnyDecodeRefSliceU8_from_der_f3668; } else { goto L_after_6_i_i_i_i; }
@@ -35962,7 +36034,7 @@ L_join_5_i_preheader_i_i_i_i:;
     v_r20_i_3_i_i_i_i = (u1)(((u32)(v_r20_i_2_i_i_i_i) | (u32)(v_r7_i_i_i_3_i_i_i_i)) & 1);
     if (v_r20_i_3_i_i_i_i) { p_v_r0_sroa_13_0_i_ph_ph_i = 6u; goto L_arm_2_thread_i; } else { goto L_core_cmp_PartialEq_ne_4f69ed2539eb7fe9_exit_i_i_i; }
 L_core_cmp_PartialEq_ne_4f69ed2539eb7fe9_exit_i_i_i:;
-    v_r83_i_i_i_i_i = f_core_cmp_slices_groups_equal_i8_31_core_cmp_number(v_r15_sroa_13_sroa_1_01508_i_i_i, 9u, (P)f_static_23);
+    v_r83_i_i_i_i_i = f_core_cmp_slices_groups_equal_i8_31_core_cmp_number(v_r15_sroa_13_sroa_1_01508_i_i_i, 9u, AT(f_static_23));
     if (v_r83_i_i_i_i_i) { goto L_join_3_i138_i_i_i; } else { p_v_r0_sroa_13_0_i_ph_ph_i = 6u; goto L_arm_2_thread_i; }
 L_join_3_i138_i_i_i:;
     v_6 = v_r15_sroa_16_sroa_0_01510_i_i_i == 1u;
@@ -35975,7 +36047,7 @@ L_join_3_i160_i_i_i:;
     v_r7_i438_i_i_i = v_r15_sroa_19_sroa_5_01507_i_i_i == 0u;
     if (v_r7_i438_i_i_i) { goto L_arm_1_thread_i; } else { goto L_join_3_i180_i_i_i; }
 L_arm_1_thread_i:;
-    { p_v_r3_sroa_35_sroa_0_0_extract_trunc100_i = 1u; p_v_r3_sroa_23_sroa_0_0_extract_trunc98_i = 1u; p_v_r3_sroa_17_sroa_0_0_extract_trunc96_i = 1u; p_v_r3_sroa_5_sroa_0_0_extract_trunc94_i = 1u; p_v_r0_sroa_73_0_i92_i = 0u; p_v_r0_sroa_71_0_i90_i = (P)f_static_22; p_v_r0_sroa_69_0_i88_i = 4u; p_v_r0_sroa_65_0_i86_i = 9u; p_v_r0_sroa_63_0_i84_i = (P)f_static_0; p_v_r0_sroa_61_0_i82_i = 0u; p_v_r0_sroa_59_0_i80_i = (P)f_static_22; p_v_r0_sroa_57_0_i78_i = 5u; p_v_r0_sroa_53_0_i76_i = 5u; p_v_r0_sroa_51_0_i74_i = (P)f_static_24; p_v_r0_sroa_47_0_i72_i = 9u; p_v_r0_sroa_45_0_i70_i = (P)f_static_25; p_v_r0_sroa_43_0_i69_i = 0u; p_v_r0_sroa_41_0_i68_i = (P)f_static_22; p_v_r0_sroa_39_0_i67_i = 5u; p_v_r0_sroa_35_0_i65_i = 5u; p_v_r0_sroa_281_0_i63_i = (P)f_static_24; goto L_arm_2_i_i_i; }
+    { p_v_r3_sroa_35_sroa_0_0_extract_trunc100_i = 1u; p_v_r3_sroa_23_sroa_0_0_extract_trunc98_i = 1u; p_v_r3_sroa_17_sroa_0_0_extract_trunc96_i = 1u; p_v_r3_sroa_5_sroa_0_0_extract_trunc94_i = 1u; p_v_r0_sroa_73_0_i92_i = 0u; p_v_r0_sroa_71_0_i90_i = AT(f_static_22); p_v_r0_sroa_69_0_i88_i = 4u; p_v_r0_sroa_65_0_i86_i = 9u; p_v_r0_sroa_63_0_i84_i = AT(f_static_0); p_v_r0_sroa_61_0_i82_i = 0u; p_v_r0_sroa_59_0_i80_i = AT(f_static_22); p_v_r0_sroa_57_0_i78_i = 5u; p_v_r0_sroa_53_0_i76_i = 5u; p_v_r0_sroa_51_0_i74_i = AT(f_static_24); p_v_r0_sroa_47_0_i72_i = 9u; p_v_r0_sroa_45_0_i70_i = AT(f_static_25); p_v_r0_sroa_43_0_i69_i = 0u; p_v_r0_sroa_41_0_i68_i = AT(f_static_22); p_v_r0_sroa_39_0_i67_i = 5u; p_v_r0_sroa_35_0_i65_i = 5u; p_v_r0_sroa_281_0_i63_i = AT(f_static_24); goto L_arm_2_i_i_i; }
 L_join_3_i180_i_i_i:;
     fill(v_r7_i251_i_i_i, 0u, 128u);
     f_pkcs1_params_usual_usual_algorithms(v_r7_i251_i_i_i, v_r15_sroa_19_sroa_4_01506_i_i_i, v_r15_sroa_19_sroa_5_01507_i_i_i);
@@ -36014,7 +36086,7 @@ L_arm_4_i186_i_i_i:;
     v_r15_sroa_10_i_sroa_12_0_r13_i453_sroa_idx_i_i_i = v_r7_i251_i_i_i + 120;
     v_r15_sroa_10_i_sroa_12_0_copyload_i_i_i = get_u64(v_r15_sroa_10_i_sroa_12_0_r13_i453_sroa_idx_i_i_i);
     v_r22_i267_i_i_i = (u64)v_r8_i447_i_i_i;
-    { p_v_r0_sroa_281_0_i_i = v_r15_sroa_4_i_sroa_3_7_copyload_i_i_i; p_v_r0_sroa_35_0_i_i = v_r15_sroa_4_i_sroa_5_7_copyload_i_i_i; p_v_r0_sroa_37_0_i_i = v_r22_i267_i_i_i; p_v_r0_sroa_39_0_i_i = v_r15_sroa_8_i_sroa_0_0_copyload_i_i_i; p_v_r0_sroa_41_0_i_i = v_r15_sroa_8_i_sroa_5_0_copyload_i_i_i; p_v_r0_sroa_43_0_i_i = v_r15_sroa_8_i_sroa_6_0_copyload_i_i_i; p_v_r0_sroa_45_0_i_i = v_r15_sroa_10_i_sroa_0_0_copyload_i_i_i; p_v_r0_sroa_47_0_i_i = v_r15_sroa_10_i_sroa_5_0_copyload_i_i_i; p_v_r0_sroa_49_0_i_i = v_r15_sroa_10_i_sroa_6_0_copyload_i_i_i; p_v_r0_sroa_51_0_i_i = v_r15_sroa_10_i_sroa_7_0_copyload_i_i_i; p_v_r0_sroa_53_0_i_i = v_r15_sroa_10_i_sroa_8_0_copyload_i_i_i; p_v_r0_sroa_55_0_i_i = v_r15_sroa_10_i_sroa_9_0_copyload_i_i_i; p_v_r0_sroa_57_0_i_i = v_r15_sroa_10_i_sroa_10_0_copyload_i_i_i; p_v_r0_sroa_59_0_i_i = v_r15_sroa_10_i_sroa_11_0_copyload_i_i_i; p_v_r0_sroa_61_0_i_i = v_r15_sroa_10_i_sroa_12_0_copyload_i_i_i; p_v_r0_sroa_63_0_i_i = (P)f_static_0; p_v_r0_sroa_65_0_i_i = 9u; p_v_r0_sroa_67_0_i_i = 1u; p_v_r0_sroa_69_0_i_i = 4u; p_v_r0_sroa_71_0_i_i = (P)f_static_22; p_v_r0_sroa_73_0_i_i = 0u; goto L_arm_1_i; }
+    { p_v_r0_sroa_281_0_i_i = v_r15_sroa_4_i_sroa_3_7_copyload_i_i_i; p_v_r0_sroa_35_0_i_i = v_r15_sroa_4_i_sroa_5_7_copyload_i_i_i; p_v_r0_sroa_37_0_i_i = v_r22_i267_i_i_i; p_v_r0_sroa_39_0_i_i = v_r15_sroa_8_i_sroa_0_0_copyload_i_i_i; p_v_r0_sroa_41_0_i_i = v_r15_sroa_8_i_sroa_5_0_copyload_i_i_i; p_v_r0_sroa_43_0_i_i = v_r15_sroa_8_i_sroa_6_0_copyload_i_i_i; p_v_r0_sroa_45_0_i_i = v_r15_sroa_10_i_sroa_0_0_copyload_i_i_i; p_v_r0_sroa_47_0_i_i = v_r15_sroa_10_i_sroa_5_0_copyload_i_i_i; p_v_r0_sroa_49_0_i_i = v_r15_sroa_10_i_sroa_6_0_copyload_i_i_i; p_v_r0_sroa_51_0_i_i = v_r15_sroa_10_i_sroa_7_0_copyload_i_i_i; p_v_r0_sroa_53_0_i_i = v_r15_sroa_10_i_sroa_8_0_copyload_i_i_i; p_v_r0_sroa_55_0_i_i = v_r15_sroa_10_i_sroa_9_0_copyload_i_i_i; p_v_r0_sroa_57_0_i_i = v_r15_sroa_10_i_sroa_10_0_copyload_i_i_i; p_v_r0_sroa_59_0_i_i = v_r15_sroa_10_i_sroa_11_0_copyload_i_i_i; p_v_r0_sroa_61_0_i_i = v_r15_sroa_10_i_sroa_12_0_copyload_i_i_i; p_v_r0_sroa_63_0_i_i = AT(f_static_0); p_v_r0_sroa_65_0_i_i = 9u; p_v_r0_sroa_67_0_i_i = 1u; p_v_r0_sroa_69_0_i_i = 4u; p_v_r0_sroa_71_0_i_i = AT(f_static_22); p_v_r0_sroa_73_0_i_i = 0u; goto L_arm_1_i; }
 L_pkcs1_params_reading_usual_any_9db093795a5f6c9f_ex:;
     { goto L_join_10_i_i_i; }
 L_join_10_i_i_i:;
@@ -36074,7 +36146,7 @@ L_arm_11_i_i_i:;
     f_spki_core_any_AnyRefDecodeRefSliceU8_from_der_45c7(v_r4_i500_i_i_i, v_r4, v_a1);
     v_r17_i501_i_i_i = get_u8(v_r4_i500_i_i_i);
     v_10 = v_r17_i501_i_i_i == 0u;
-    if (v_10) { goto L_arm_1_i503_i_i_i; } else { p_v_r6_sroa_4_0_i_i_i_i = 0u; p_v_r6_sroa_0_0_i_i_i_i = (P)f_static_22; goto L_pkcs1_params_algorithm_encoded_parameters_9db09379; }
+    if (v_10) { goto L_arm_1_i503_i_i_i; } else { p_v_r6_sroa_4_0_i_i_i_i = 0u; p_v_r6_sroa_0_0_i_i_i_i = AT(f_static_22); goto L_pkcs1_params_algorithm_encoded_parameters_9db09379; }
 L_arm_1_i503_i_i_i:;
     v_r3_sroa_2_0_r18_sroa_idx_i_i_i_i = v_r4_i500_i_i_i + 16;
     v_r3_sroa_2_0_copyload_i_i_i_i = get_P(v_r3_sroa_2_0_r18_sroa_idx_i_i_i_i);
@@ -36083,7 +36155,7 @@ L_arm_1_i503_i_i_i:;
     v_r14_i_i504_i_i_i = v_r3_sroa_3_0_copyload_i_i_i_i > 10u;
     v_r19_i_i505_i_i_i = v_r3_sroa_2_0_copyload_i_i_i_i + 11;
     v_r5_sroa_4_0_i_i_i_i_i = v_r3_sroa_3_0_copyload_i_i_i_i > 11u ? v_r3_sroa_3_0_copyload_i_i_i_i - 11u : 0u;
-    v_r5_sroa_0_0_i_i_i_i_i = v_r14_i_i504_i_i_i ? v_r19_i_i505_i_i_i : (P)f_static_22;
+    v_r5_sroa_0_0_i_i_i_i_i = v_r14_i_i504_i_i_i ? v_r19_i_i505_i_i_i : AT(f_static_22);
     { p_v_r6_sroa_4_0_i_i_i_i = v_r5_sroa_4_0_i_i_i_i_i; p_v_r6_sroa_0_0_i_i_i_i = v_r5_sroa_0_0_i_i_i_i_i; goto L_pkcs1_params_algorithm_encoded_parameters_9db09379; }
 L_pkcs1_params_algorithm_encoded_parameters_9db09379:;
     v_r6_sroa_4_0_i_i_i_i = p_v_r6_sroa_4_0_i_i_i_i;
@@ -36129,7 +36201,7 @@ L_arm_1_i:;
     v_r3_sroa_23_sroa_0_0_extract_trunc_i = (u8)(v_r0_sroa_55_0_i_i);
     v_r3_sroa_35_sroa_0_0_extract_trunc_i = (u8)(v_r0_sroa_67_0_i_i);
     v_15 = v_r3_sroa_5_sroa_0_0_extract_trunc_i == 0u;
-    if (v_15) { p_v_r3_sroa_35_sroa_0_0_extract_trunc101_i = v_r3_sroa_35_sroa_0_0_extract_trunc_i; p_v_r3_sroa_23_sroa_0_0_extract_trunc99_i = v_r3_sroa_23_sroa_0_0_extract_trunc_i; p_v_r3_sroa_17_sroa_0_0_extract_trunc97_i = v_r3_sroa_17_sroa_0_0_extract_trunc_i; p_v_r3_sroa_5_sroa_0_0_extract_trunc95_i = 0u; p_v_r0_sroa_73_0_i93_i = v_r0_sroa_73_0_i_i; p_v_r0_sroa_71_0_i91_i = v_r0_sroa_71_0_i_i; p_v_r0_sroa_69_0_i89_i = v_r0_sroa_69_0_i_i; p_v_r0_sroa_65_0_i87_i = v_r0_sroa_65_0_i_i; p_v_r0_sroa_63_0_i85_i = v_r0_sroa_63_0_i_i; p_v_r0_sroa_61_0_i83_i = v_r0_sroa_61_0_i_i; p_v_r0_sroa_59_0_i81_i = v_r0_sroa_59_0_i_i; p_v_r0_sroa_57_0_i79_i = v_r0_sroa_57_0_i_i; p_v_r0_sroa_53_0_i77_i = v_r0_sroa_53_0_i_i; p_v_r0_sroa_51_0_i75_i = v_r0_sroa_51_0_i_i; p_v_r0_sroa_47_0_i73_i = v_r0_sroa_47_0_i_i; p_v_r0_sroa_45_0_i71_i = v_r0_sroa_45_0_i_i; p_v_r0_sroa_35_0_i66_i = v_r0_sroa_35_0_i_i; p_v_r0_sroa_281_0_i64_i = v_r0_sroa_281_0_i_i; p_v_r5_sroa_6_0_i_i_i = 0u; p_v_r5_sroa_81_0_i_i_i = (P)f_static_22; p_v_r5_sroa_10_0_i_i_i = 0u; goto L_pkcs1_c_algorithm_to_c_algorithm_exit_i_i; } else { p_v_r3_sroa_35_sroa_0_0_extract_trunc100_i = v_r3_sroa_35_sroa_0_0_extract_trunc_i; p_v_r3_sroa_23_sroa_0_0_extract_trunc98_i = v_r3_sroa_23_sroa_0_0_extract_trunc_i; p_v_r3_sroa_17_sroa_0_0_extract_trunc96_i = v_r3_sroa_17_sroa_0_0_extract_trunc_i; p_v_r3_sroa_5_sroa_0_0_extract_trunc94_i = v_r3_sroa_5_sroa_0_0_extract_trunc_i; p_v_r0_sroa_73_0_i92_i = v_r0_sroa_73_0_i_i; p_v_r0_sroa_71_0_i90_i = v_r0_sroa_71_0_i_i; p_v_r0_sroa_69_0_i88_i = v_r0_sroa_69_0_i_i; p_v_r0_sroa_65_0_i86_i = v_r0_sroa_65_0_i_i; p_v_r0_sroa_63_0_i84_i = v_r0_sroa_63_0_i_i; p_v_r0_sroa_61_0_i82_i = v_r0_sroa_61_0_i_i; p_v_r0_sroa_59_0_i80_i = v_r0_sroa_59_0_i_i; p_v_r0_sroa_57_0_i78_i = v_r0_sroa_57_0_i_i; p_v_r0_sroa_53_0_i76_i = v_r0_sroa_53_0_i_i; p_v_r0_sroa_51_0_i74_i = v_r0_sroa_51_0_i_i; p_v_r0_sroa_47_0_i72_i = v_r0_sroa_47_0_i_i; p_v_r0_sroa_45_0_i70_i = v_r0_sroa_45_0_i_i; p_v_r0_sroa_43_0_i69_i = v_r0_sroa_43_0_i_i; p_v_r0_sroa_41_0_i68_i = v_r0_sroa_41_0_i_i; p_v_r0_sroa_39_0_i67_i = v_r0_sroa_39_0_i_i; p_v_r0_sroa_35_0_i65_i = v_r0_sroa_35_0_i_i; p_v_r0_sroa_281_0_i63_i = v_r0_sroa_281_0_i_i; goto L_arm_2_i_i_i; }
+    if (v_15) { p_v_r3_sroa_35_sroa_0_0_extract_trunc101_i = v_r3_sroa_35_sroa_0_0_extract_trunc_i; p_v_r3_sroa_23_sroa_0_0_extract_trunc99_i = v_r3_sroa_23_sroa_0_0_extract_trunc_i; p_v_r3_sroa_17_sroa_0_0_extract_trunc97_i = v_r3_sroa_17_sroa_0_0_extract_trunc_i; p_v_r3_sroa_5_sroa_0_0_extract_trunc95_i = 0u; p_v_r0_sroa_73_0_i93_i = v_r0_sroa_73_0_i_i; p_v_r0_sroa_71_0_i91_i = v_r0_sroa_71_0_i_i; p_v_r0_sroa_69_0_i89_i = v_r0_sroa_69_0_i_i; p_v_r0_sroa_65_0_i87_i = v_r0_sroa_65_0_i_i; p_v_r0_sroa_63_0_i85_i = v_r0_sroa_63_0_i_i; p_v_r0_sroa_61_0_i83_i = v_r0_sroa_61_0_i_i; p_v_r0_sroa_59_0_i81_i = v_r0_sroa_59_0_i_i; p_v_r0_sroa_57_0_i79_i = v_r0_sroa_57_0_i_i; p_v_r0_sroa_53_0_i77_i = v_r0_sroa_53_0_i_i; p_v_r0_sroa_51_0_i75_i = v_r0_sroa_51_0_i_i; p_v_r0_sroa_47_0_i73_i = v_r0_sroa_47_0_i_i; p_v_r0_sroa_45_0_i71_i = v_r0_sroa_45_0_i_i; p_v_r0_sroa_35_0_i66_i = v_r0_sroa_35_0_i_i; p_v_r0_sroa_281_0_i64_i = v_r0_sroa_281_0_i_i; p_v_r5_sroa_6_0_i_i_i = 0u; p_v_r5_sroa_81_0_i_i_i = AT(f_static_22); p_v_r5_sroa_10_0_i_i_i = 0u; goto L_pkcs1_c_algorithm_to_c_algorithm_exit_i_i; } else { p_v_r3_sroa_35_sroa_0_0_extract_trunc100_i = v_r3_sroa_35_sroa_0_0_extract_trunc_i; p_v_r3_sroa_23_sroa_0_0_extract_trunc98_i = v_r3_sroa_23_sroa_0_0_extract_trunc_i; p_v_r3_sroa_17_sroa_0_0_extract_trunc96_i = v_r3_sroa_17_sroa_0_0_extract_trunc_i; p_v_r3_sroa_5_sroa_0_0_extract_trunc94_i = v_r3_sroa_5_sroa_0_0_extract_trunc_i; p_v_r0_sroa_73_0_i92_i = v_r0_sroa_73_0_i_i; p_v_r0_sroa_71_0_i90_i = v_r0_sroa_71_0_i_i; p_v_r0_sroa_69_0_i88_i = v_r0_sroa_69_0_i_i; p_v_r0_sroa_65_0_i86_i = v_r0_sroa_65_0_i_i; p_v_r0_sroa_63_0_i84_i = v_r0_sroa_63_0_i_i; p_v_r0_sroa_61_0_i82_i = v_r0_sroa_61_0_i_i; p_v_r0_sroa_59_0_i80_i = v_r0_sroa_59_0_i_i; p_v_r0_sroa_57_0_i78_i = v_r0_sroa_57_0_i_i; p_v_r0_sroa_53_0_i76_i = v_r0_sroa_53_0_i_i; p_v_r0_sroa_51_0_i74_i = v_r0_sroa_51_0_i_i; p_v_r0_sroa_47_0_i72_i = v_r0_sroa_47_0_i_i; p_v_r0_sroa_45_0_i70_i = v_r0_sroa_45_0_i_i; p_v_r0_sroa_43_0_i69_i = v_r0_sroa_43_0_i_i; p_v_r0_sroa_41_0_i68_i = v_r0_sroa_41_0_i_i; p_v_r0_sroa_39_0_i67_i = v_r0_sroa_39_0_i_i; p_v_r0_sroa_35_0_i65_i = v_r0_sroa_35_0_i_i; p_v_r0_sroa_281_0_i63_i = v_r0_sroa_281_0_i_i; goto L_arm_2_i_i_i; }
 L_arm_2_i_i_i:;
     v_r3_sroa_35_sroa_0_0_extract_trunc100_i = p_v_r3_sroa_35_sroa_0_0_extract_trunc100_i;
     v_r3_sroa_23_sroa_0_0_extract_trunc98_i = p_v_r3_sroa_23_sroa_0_0_extract_trunc98_i;
@@ -36177,10 +36249,10 @@ L_pkcs1_c_algorithm_to_c_algorithm_exit_i_i:;
     v_r5_sroa_81_0_i_i_i = p_v_r5_sroa_81_0_i_i_i;
     v_r5_sroa_10_0_i_i_i = p_v_r5_sroa_10_0_i_i_i;
     v_16 = v_r3_sroa_17_sroa_0_0_extract_trunc97_i == 0u;
-    if (v_16) { p_v_r5_sroa_61_0_i_i_i = (P)f_static_22; p_v_r5_sroa_8_0_i_i_i = 0u; p_v_r5_sroa_9_0_i_i_i = 0u; p_v_r5_sroa_10_0_i6_i_i = 0u; p_v_r5_sroa_12_0_i_i_i = (P)f_static_22; p_v_r5_sroa_13_0_i_i_i = 0u; goto L_pkcs1_c_algorithm_to_c_mask_gen_exit_i_i; } else { goto L_arm_2_i5_i_i; }
+    if (v_16) { p_v_r5_sroa_61_0_i_i_i = AT(f_static_22); p_v_r5_sroa_8_0_i_i_i = 0u; p_v_r5_sroa_9_0_i_i_i = 0u; p_v_r5_sroa_10_0_i6_i_i = 0u; p_v_r5_sroa_12_0_i_i_i = AT(f_static_22); p_v_r5_sroa_13_0_i_i_i = 0u; goto L_pkcs1_c_algorithm_to_c_mask_gen_exit_i_i; } else { goto L_arm_2_i5_i_i; }
 L_arm_2_i5_i_i:;
     v_17 = v_r3_sroa_23_sroa_0_0_extract_trunc99_i == 0u;
-    if (v_17) { p_v_r5_sroa_61_0_i_i_i = v_r0_sroa_51_0_i75_i; p_v_r5_sroa_8_0_i_i_i = v_r0_sroa_53_0_i77_i; p_v_r5_sroa_9_0_i_i_i = 0u; p_v_r5_sroa_10_0_i6_i_i = 0u; p_v_r5_sroa_12_0_i_i_i = (P)f_static_22; p_v_r5_sroa_13_0_i_i_i = 0u; goto L_pkcs1_c_algorithm_to_c_mask_gen_exit_i_i; } else { goto L_arm_2_i_i_i_i; }
+    if (v_17) { p_v_r5_sroa_61_0_i_i_i = v_r0_sroa_51_0_i75_i; p_v_r5_sroa_8_0_i_i_i = v_r0_sroa_53_0_i77_i; p_v_r5_sroa_9_0_i_i_i = 0u; p_v_r5_sroa_10_0_i6_i_i = 0u; p_v_r5_sroa_12_0_i_i_i = AT(f_static_22); p_v_r5_sroa_13_0_i_i_i = 0u; goto L_pkcs1_c_algorithm_to_c_mask_gen_exit_i_i; } else { goto L_arm_2_i_i_i_i; }
 L_arm_2_i_i_i_i:;
     v_r4_i_i_i_i_i_i = (u8)(v_r0_sroa_57_0_i79_i);
     { p_v_r5_sroa_61_0_i_i_i = v_r0_sroa_51_0_i75_i; p_v_r5_sroa_8_0_i_i_i = v_r0_sroa_53_0_i77_i; p_v_r5_sroa_9_0_i_i_i = v_r3_sroa_23_sroa_0_0_extract_trunc99_i; p_v_r5_sroa_10_0_i6_i_i = v_r4_i_i_i_i_i_i; p_v_r5_sroa_12_0_i_i_i = v_r0_sroa_59_0_i81_i; p_v_r5_sroa_13_0_i_i_i = v_r0_sroa_61_0_i83_i; goto L_pkcs1_c_algorithm_to_c_mask_gen_exit_i_i; }
@@ -36194,7 +36266,7 @@ L_pkcs1_c_algorithm_to_c_mask_gen_exit_i_i:;
     v_18 = v_r3_sroa_35_sroa_0_0_extract_trunc101_i == 0u;
     v_r4_i_i_i21_i_i = (u8)(v_r0_sroa_69_0_i89_i);
     v_r5_sroa_6_0_i24_i_i = v_18 ? 0u : v_r4_i_i_i21_i_i;
-    v_r5_sroa_81_0_i25_i_i = v_18 ? (P)f_static_22 : v_r0_sroa_71_0_i91_i;
+    v_r5_sroa_81_0_i25_i_i = v_18 ? AT(f_static_22) : v_r0_sroa_71_0_i91_i;
     v_r5_sroa_10_0_i26_i_i = v_18 ? 0u : v_r0_sroa_73_0_i93_i;
     put_P(v_a2, v_r0_sroa_281_0_i64_i);
     v_r7_sroa_3_0_a2_sroa_idx_i = v_a2 + 8;
@@ -36274,7 +36346,7 @@ L_pkcs1_c_oaep_algorithm_pkcs1_c_oaep_algorithm_deco:;
     v_r6_0_i = p_v_r6_0_i;
     return v_r6_0_i;
 }
-u32 pkcs1_c_oaep_params_decode(P v_a0, u64 v_a1, P v_a2) {
+u32 NAME(oaep_params_decode)(P v_a0, u64 v_a1, P v_a2) {
     ALIGNED(8) unsigned char m_v_r0_i87_i_i[176];
     ALIGNED(8) unsigned char m_v_r14_i90_i_i[176];
     ALIGNED(8) unsigned char m_v_r7_i36_i_i_i[128];
@@ -36615,12 +36687,12 @@ u32 pkcs1_c_oaep_params_decode(P v_a0, u64 v_a1, P v_a2) {
     u32 v_switch_idx_cast_i_i_i;
     u32 v_switch_offset_i_i_i;
     u32 v_r6_0_i;
-    v_r0_i87_i_i = m_v_r0_i87_i_i;
-    v_r14_i90_i_i = m_v_r14_i90_i_i;
-    v_r7_i36_i_i_i = m_v_r7_i36_i_i_i;
+    v_r0_i87_i_i = AT(m_v_r0_i87_i_i);
+    v_r14_i90_i_i = AT(m_v_r14_i90_i_i);
+    v_r7_i36_i_i_i = AT(m_v_r7_i36_i_i_i);
     v_r1 = v_a0 == (P)0;
     v_r3 = v_r1 ? 4096u : 0u;
-    v_r4 = (P)((uintptr_t)v_a0 + (u64)(v_r3));
+    v_r4 = (P)((u64)v_a0 + (u64)(v_r3));
     v_r21_i17_i_i = v_a1 < 2u;
     if (v_r21_i17_i_i) { goto L_arm_2_i_i_thread_i; } else { goto L_join_5_i_i_i; }
 L_arm_2_i_i_thread_i:;
@@ -36642,7 +36714,7 @@ L_arm_6_i19_i_i:;
     if (v_or_cond_i_i) { goto L_arm_1_i12_i_i; } else { goto L_arm_2_i_i_i; }
 L_arm_1_i12_i_i:;
     v_r7_i116_i_i = v_r36_i21_i_i == 0u;
-    if (v_r7_i116_i_i) { p_v_r3_sroa_35_sroa_0_0_extract_trunc143_i = 1u; p_v_r3_sroa_23_sroa_0_0_extract_trunc141_i = 1u; p_v_r3_sroa_17_sroa_0_0_extract_trunc139_i = 1u; p_v_r3_sroa_5_sroa_0_0_extract_trunc137_i = 1u; p_v_r5_sroa_34_0_ph135_i = 0u; p_v_r5_sroa_33_0_ph133_i = (P)f_static_22; p_v_r5_sroa_32_0_ph131_i = 4u; p_v_r5_sroa_30_0_ph129_i = 9u; p_v_r5_sroa_29_0_ph127_i = (P)f_static_0; p_v_r5_sroa_28_0_ph125_i = 0u; p_v_r5_sroa_27_0_ph123_i = (P)f_static_22; p_v_r5_sroa_26_0_ph121_i = 5u; p_v_r5_sroa_24_0_ph119_i = 5u; p_v_r5_sroa_23_0_ph117_i = (P)f_static_24; p_v_r5_sroa_21_0_ph115_i = 9u; p_v_r5_sroa_20_0_ph113_i = (P)f_static_25; p_v_r5_sroa_19_0_ph112_i = 0u; p_v_r5_sroa_18_0_ph111_i = (P)f_static_22; p_v_r5_sroa_17_0_ph110_i = 5u; p_v_r5_sroa_15_0_ph108_i = 5u; p_v_r5_sroa_124_0_ph106_i = (P)f_static_24; goto L_arm_2_i_i2_i; } else { goto L_join_3_i_i_i; }
+    if (v_r7_i116_i_i) { p_v_r3_sroa_35_sroa_0_0_extract_trunc143_i = 1u; p_v_r3_sroa_23_sroa_0_0_extract_trunc141_i = 1u; p_v_r3_sroa_17_sroa_0_0_extract_trunc139_i = 1u; p_v_r3_sroa_5_sroa_0_0_extract_trunc137_i = 1u; p_v_r5_sroa_34_0_ph135_i = 0u; p_v_r5_sroa_33_0_ph133_i = AT(f_static_22); p_v_r5_sroa_32_0_ph131_i = 4u; p_v_r5_sroa_30_0_ph129_i = 9u; p_v_r5_sroa_29_0_ph127_i = AT(f_static_0); p_v_r5_sroa_28_0_ph125_i = 0u; p_v_r5_sroa_27_0_ph123_i = AT(f_static_22); p_v_r5_sroa_26_0_ph121_i = 5u; p_v_r5_sroa_24_0_ph119_i = 5u; p_v_r5_sroa_23_0_ph117_i = AT(f_static_24); p_v_r5_sroa_21_0_ph115_i = 9u; p_v_r5_sroa_20_0_ph113_i = AT(f_static_25); p_v_r5_sroa_19_0_ph112_i = 0u; p_v_r5_sroa_18_0_ph111_i = AT(f_static_22); p_v_r5_sroa_17_0_ph110_i = 5u; p_v_r5_sroa_15_0_ph108_i = 5u; p_v_r5_sroa_124_0_ph106_i = AT(f_static_24); goto L_arm_2_i_i2_i; } else { goto L_join_3_i_i_i; }
 L_join_3_i_i_i:;
     f_pkcs1_params_usual_usual_algorithms(v_r7_i36_i_i_i, v_r33_i20_i_i, v_r36_i21_i_i);
     v_r2_i121_i_i = get_u8(v_r7_i36_i_i_i);
@@ -36680,7 +36752,7 @@ L_arm_4_i_i_i:;
     v_r15_sroa_10_i_sroa_12_0_r13_i128_sroa_idx_i_i = v_r7_i36_i_i_i + 120;
     v_r15_sroa_10_i_sroa_12_0_copyload_i_i = get_u64(v_r15_sroa_10_i_sroa_12_0_r13_i128_sroa_idx_i_i);
     v_r22_i_i_i_i = (u64)v_r8_i123_i_i;
-    { p_v_r5_sroa_124_0_ph_i = v_r15_sroa_4_i_sroa_3_7_copyload_i_i; p_v_r5_sroa_15_0_ph_i = v_r15_sroa_4_i_sroa_5_7_copyload_i_i; p_v_r5_sroa_16_0_ph_i = v_r22_i_i_i_i; p_v_r5_sroa_17_0_ph_i = v_r15_sroa_8_i_sroa_0_0_copyload_i_i; p_v_r5_sroa_18_0_ph_i = v_r15_sroa_8_i_sroa_5_0_copyload_i_i; p_v_r5_sroa_19_0_ph_i = v_r15_sroa_8_i_sroa_6_0_copyload_i_i; p_v_r5_sroa_20_0_ph_i = v_r15_sroa_10_i_sroa_0_0_copyload_i_i; p_v_r5_sroa_21_0_ph_i = v_r15_sroa_10_i_sroa_5_0_copyload_i_i; p_v_r5_sroa_22_0_ph_i = v_r15_sroa_10_i_sroa_6_0_copyload_i_i; p_v_r5_sroa_23_0_ph_i = v_r15_sroa_10_i_sroa_7_0_copyload_i_i; p_v_r5_sroa_24_0_ph_i = v_r15_sroa_10_i_sroa_8_0_copyload_i_i; p_v_r5_sroa_25_0_ph_i = v_r15_sroa_10_i_sroa_9_0_copyload_i_i; p_v_r5_sroa_26_0_ph_i = v_r15_sroa_10_i_sroa_10_0_copyload_i_i; p_v_r5_sroa_27_0_ph_i = v_r15_sroa_10_i_sroa_11_0_copyload_i_i; p_v_r5_sroa_28_0_ph_i = v_r15_sroa_10_i_sroa_12_0_copyload_i_i; p_v_r5_sroa_29_0_ph_i = (P)f_static_0; p_v_r5_sroa_30_0_ph_i = 9u; p_v_r5_sroa_31_0_ph_i = 1u; p_v_r5_sroa_32_0_ph_i = 4u; p_v_r5_sroa_33_0_ph_i = (P)f_static_22; p_v_r5_sroa_34_0_ph_i = 0u; goto L_arm_1_i; }
+    { p_v_r5_sroa_124_0_ph_i = v_r15_sroa_4_i_sroa_3_7_copyload_i_i; p_v_r5_sroa_15_0_ph_i = v_r15_sroa_4_i_sroa_5_7_copyload_i_i; p_v_r5_sroa_16_0_ph_i = v_r22_i_i_i_i; p_v_r5_sroa_17_0_ph_i = v_r15_sroa_8_i_sroa_0_0_copyload_i_i; p_v_r5_sroa_18_0_ph_i = v_r15_sroa_8_i_sroa_5_0_copyload_i_i; p_v_r5_sroa_19_0_ph_i = v_r15_sroa_8_i_sroa_6_0_copyload_i_i; p_v_r5_sroa_20_0_ph_i = v_r15_sroa_10_i_sroa_0_0_copyload_i_i; p_v_r5_sroa_21_0_ph_i = v_r15_sroa_10_i_sroa_5_0_copyload_i_i; p_v_r5_sroa_22_0_ph_i = v_r15_sroa_10_i_sroa_6_0_copyload_i_i; p_v_r5_sroa_23_0_ph_i = v_r15_sroa_10_i_sroa_7_0_copyload_i_i; p_v_r5_sroa_24_0_ph_i = v_r15_sroa_10_i_sroa_8_0_copyload_i_i; p_v_r5_sroa_25_0_ph_i = v_r15_sroa_10_i_sroa_9_0_copyload_i_i; p_v_r5_sroa_26_0_ph_i = v_r15_sroa_10_i_sroa_10_0_copyload_i_i; p_v_r5_sroa_27_0_ph_i = v_r15_sroa_10_i_sroa_11_0_copyload_i_i; p_v_r5_sroa_28_0_ph_i = v_r15_sroa_10_i_sroa_12_0_copyload_i_i; p_v_r5_sroa_29_0_ph_i = AT(f_static_0); p_v_r5_sroa_30_0_ph_i = 9u; p_v_r5_sroa_31_0_ph_i = 1u; p_v_r5_sroa_32_0_ph_i = 4u; p_v_r5_sroa_33_0_ph_i = AT(f_static_22); p_v_r5_sroa_34_0_ph_i = 0u; goto L_arm_1_i; }
 L_arm_2_i_i_thread31_i:;
     fill(v_r0_i87_i_i, 0u, 176u);
     fill(v_r14_i90_i_i, 0u, 176u);
@@ -36835,7 +36907,7 @@ L_arm_1_i:;
     v_r3_sroa_23_sroa_0_0_extract_trunc_i = (u8)(v_r5_sroa_25_0_ph_i);
     v_r3_sroa_35_sroa_0_0_extract_trunc_i = (u8)(v_r5_sroa_31_0_ph_i);
     v_6 = v_r3_sroa_5_sroa_0_0_extract_trunc_i == 0u;
-    if (v_6) { p_v_r3_sroa_35_sroa_0_0_extract_trunc144_i = v_r3_sroa_35_sroa_0_0_extract_trunc_i; p_v_r3_sroa_23_sroa_0_0_extract_trunc142_i = v_r3_sroa_23_sroa_0_0_extract_trunc_i; p_v_r3_sroa_17_sroa_0_0_extract_trunc140_i = v_r3_sroa_17_sroa_0_0_extract_trunc_i; p_v_r3_sroa_5_sroa_0_0_extract_trunc138_i = 0u; p_v_r5_sroa_34_0_ph136_i = v_r5_sroa_34_0_ph_i; p_v_r5_sroa_33_0_ph134_i = v_r5_sroa_33_0_ph_i; p_v_r5_sroa_32_0_ph132_i = v_r5_sroa_32_0_ph_i; p_v_r5_sroa_30_0_ph130_i = v_r5_sroa_30_0_ph_i; p_v_r5_sroa_29_0_ph128_i = v_r5_sroa_29_0_ph_i; p_v_r5_sroa_28_0_ph126_i = v_r5_sroa_28_0_ph_i; p_v_r5_sroa_27_0_ph124_i = v_r5_sroa_27_0_ph_i; p_v_r5_sroa_26_0_ph122_i = v_r5_sroa_26_0_ph_i; p_v_r5_sroa_24_0_ph120_i = v_r5_sroa_24_0_ph_i; p_v_r5_sroa_23_0_ph118_i = v_r5_sroa_23_0_ph_i; p_v_r5_sroa_21_0_ph116_i = v_r5_sroa_21_0_ph_i; p_v_r5_sroa_20_0_ph114_i = v_r5_sroa_20_0_ph_i; p_v_r5_sroa_15_0_ph109_i = v_r5_sroa_15_0_ph_i; p_v_r5_sroa_124_0_ph107_i = v_r5_sroa_124_0_ph_i; p_v_r5_sroa_6_0_i_i_i = 0u; p_v_r5_sroa_81_0_i_i_i = (P)f_static_22; p_v_r5_sroa_10_0_i_i_i = 0u; goto L_pkcs1_c_algorithm_to_c_algorithm_exit_i_i; } else { p_v_r3_sroa_35_sroa_0_0_extract_trunc143_i = v_r3_sroa_35_sroa_0_0_extract_trunc_i; p_v_r3_sroa_23_sroa_0_0_extract_trunc141_i = v_r3_sroa_23_sroa_0_0_extract_trunc_i; p_v_r3_sroa_17_sroa_0_0_extract_trunc139_i = v_r3_sroa_17_sroa_0_0_extract_trunc_i; p_v_r3_sroa_5_sroa_0_0_extract_trunc137_i = v_r3_sroa_5_sroa_0_0_extract_trunc_i; p_v_r5_sroa_34_0_ph135_i = v_r5_sroa_34_0_ph_i; p_v_r5_sroa_33_0_ph133_i = v_r5_sroa_33_0_ph_i; p_v_r5_sroa_32_0_ph131_i = v_r5_sroa_32_0_ph_i; p_v_r5_sroa_30_0_ph129_i = v_r5_sroa_30_0_ph_i; p_v_r5_sroa_29_0_ph127_i = v_r5_sroa_29_0_ph_i; p_v_r5_sroa_28_0_ph125_i = v_r5_sroa_28_0_ph_i; p_v_r5_sroa_27_0_ph123_i = v_r5_sroa_27_0_ph_i; p_v_r5_sroa_26_0_ph121_i = v_r5_sroa_26_0_ph_i; p_v_r5_sroa_24_0_ph119_i = v_r5_sroa_24_0_ph_i; p_v_r5_sroa_23_0_ph117_i = v_r5_sroa_23_0_ph_i; p_v_r5_sroa_21_0_ph115_i = v_r5_sroa_21_0_ph_i; p_v_r5_sroa_20_0_ph113_i = v_r5_sroa_20_0_ph_i; p_v_r5_sroa_19_0_ph112_i = v_r5_sroa_19_0_ph_i; p_v_r5_sroa_18_0_ph111_i = v_r5_sroa_18_0_ph_i; p_v_r5_sroa_17_0_ph110_i = v_r5_sroa_17_0_ph_i; p_v_r5_sroa_15_0_ph108_i = v_r5_sroa_15_0_ph_i; p_v_r5_sroa_124_0_ph106_i = v_r5_sroa_124_0_ph_i; goto L_arm_2_i_i2_i; }
+    if (v_6) { p_v_r3_sroa_35_sroa_0_0_extract_trunc144_i = v_r3_sroa_35_sroa_0_0_extract_trunc_i; p_v_r3_sroa_23_sroa_0_0_extract_trunc142_i = v_r3_sroa_23_sroa_0_0_extract_trunc_i; p_v_r3_sroa_17_sroa_0_0_extract_trunc140_i = v_r3_sroa_17_sroa_0_0_extract_trunc_i; p_v_r3_sroa_5_sroa_0_0_extract_trunc138_i = 0u; p_v_r5_sroa_34_0_ph136_i = v_r5_sroa_34_0_ph_i; p_v_r5_sroa_33_0_ph134_i = v_r5_sroa_33_0_ph_i; p_v_r5_sroa_32_0_ph132_i = v_r5_sroa_32_0_ph_i; p_v_r5_sroa_30_0_ph130_i = v_r5_sroa_30_0_ph_i; p_v_r5_sroa_29_0_ph128_i = v_r5_sroa_29_0_ph_i; p_v_r5_sroa_28_0_ph126_i = v_r5_sroa_28_0_ph_i; p_v_r5_sroa_27_0_ph124_i = v_r5_sroa_27_0_ph_i; p_v_r5_sroa_26_0_ph122_i = v_r5_sroa_26_0_ph_i; p_v_r5_sroa_24_0_ph120_i = v_r5_sroa_24_0_ph_i; p_v_r5_sroa_23_0_ph118_i = v_r5_sroa_23_0_ph_i; p_v_r5_sroa_21_0_ph116_i = v_r5_sroa_21_0_ph_i; p_v_r5_sroa_20_0_ph114_i = v_r5_sroa_20_0_ph_i; p_v_r5_sroa_15_0_ph109_i = v_r5_sroa_15_0_ph_i; p_v_r5_sroa_124_0_ph107_i = v_r5_sroa_124_0_ph_i; p_v_r5_sroa_6_0_i_i_i = 0u; p_v_r5_sroa_81_0_i_i_i = AT(f_static_22); p_v_r5_sroa_10_0_i_i_i = 0u; goto L_pkcs1_c_algorithm_to_c_algorithm_exit_i_i; } else { p_v_r3_sroa_35_sroa_0_0_extract_trunc143_i = v_r3_sroa_35_sroa_0_0_extract_trunc_i; p_v_r3_sroa_23_sroa_0_0_extract_trunc141_i = v_r3_sroa_23_sroa_0_0_extract_trunc_i; p_v_r3_sroa_17_sroa_0_0_extract_trunc139_i = v_r3_sroa_17_sroa_0_0_extract_trunc_i; p_v_r3_sroa_5_sroa_0_0_extract_trunc137_i = v_r3_sroa_5_sroa_0_0_extract_trunc_i; p_v_r5_sroa_34_0_ph135_i = v_r5_sroa_34_0_ph_i; p_v_r5_sroa_33_0_ph133_i = v_r5_sroa_33_0_ph_i; p_v_r5_sroa_32_0_ph131_i = v_r5_sroa_32_0_ph_i; p_v_r5_sroa_30_0_ph129_i = v_r5_sroa_30_0_ph_i; p_v_r5_sroa_29_0_ph127_i = v_r5_sroa_29_0_ph_i; p_v_r5_sroa_28_0_ph125_i = v_r5_sroa_28_0_ph_i; p_v_r5_sroa_27_0_ph123_i = v_r5_sroa_27_0_ph_i; p_v_r5_sroa_26_0_ph121_i = v_r5_sroa_26_0_ph_i; p_v_r5_sroa_24_0_ph119_i = v_r5_sroa_24_0_ph_i; p_v_r5_sroa_23_0_ph117_i = v_r5_sroa_23_0_ph_i; p_v_r5_sroa_21_0_ph115_i = v_r5_sroa_21_0_ph_i; p_v_r5_sroa_20_0_ph113_i = v_r5_sroa_20_0_ph_i; p_v_r5_sroa_19_0_ph112_i = v_r5_sroa_19_0_ph_i; p_v_r5_sroa_18_0_ph111_i = v_r5_sroa_18_0_ph_i; p_v_r5_sroa_17_0_ph110_i = v_r5_sroa_17_0_ph_i; p_v_r5_sroa_15_0_ph108_i = v_r5_sroa_15_0_ph_i; p_v_r5_sroa_124_0_ph106_i = v_r5_sroa_124_0_ph_i; goto L_arm_2_i_i2_i; }
 L_arm_2_i_i2_i:;
     v_r3_sroa_35_sroa_0_0_extract_trunc143_i = p_v_r3_sroa_35_sroa_0_0_extract_trunc143_i;
     v_r3_sroa_23_sroa_0_0_extract_trunc141_i = p_v_r3_sroa_23_sroa_0_0_extract_trunc141_i;
@@ -36883,10 +36955,10 @@ L_pkcs1_c_algorithm_to_c_algorithm_exit_i_i:;
     v_r5_sroa_81_0_i_i_i = p_v_r5_sroa_81_0_i_i_i;
     v_r5_sroa_10_0_i_i_i = p_v_r5_sroa_10_0_i_i_i;
     v_7 = v_r3_sroa_17_sroa_0_0_extract_trunc140_i == 0u;
-    if (v_7) { p_v_r5_sroa_61_0_i_i_i = (P)f_static_22; p_v_r5_sroa_8_0_i_i_i = 0u; p_v_r5_sroa_9_0_i_i_i = 0u; p_v_r5_sroa_10_0_i6_i_i = 0u; p_v_r5_sroa_12_0_i_i_i = (P)f_static_22; p_v_r5_sroa_13_0_i_i_i = 0u; goto L_pkcs1_c_algorithm_to_c_mask_gen_exit_i_i; } else { goto L_arm_2_i5_i_i; }
+    if (v_7) { p_v_r5_sroa_61_0_i_i_i = AT(f_static_22); p_v_r5_sroa_8_0_i_i_i = 0u; p_v_r5_sroa_9_0_i_i_i = 0u; p_v_r5_sroa_10_0_i6_i_i = 0u; p_v_r5_sroa_12_0_i_i_i = AT(f_static_22); p_v_r5_sroa_13_0_i_i_i = 0u; goto L_pkcs1_c_algorithm_to_c_mask_gen_exit_i_i; } else { goto L_arm_2_i5_i_i; }
 L_arm_2_i5_i_i:;
     v_8 = v_r3_sroa_23_sroa_0_0_extract_trunc142_i == 0u;
-    if (v_8) { p_v_r5_sroa_61_0_i_i_i = v_r5_sroa_23_0_ph118_i; p_v_r5_sroa_8_0_i_i_i = v_r5_sroa_24_0_ph120_i; p_v_r5_sroa_9_0_i_i_i = 0u; p_v_r5_sroa_10_0_i6_i_i = 0u; p_v_r5_sroa_12_0_i_i_i = (P)f_static_22; p_v_r5_sroa_13_0_i_i_i = 0u; goto L_pkcs1_c_algorithm_to_c_mask_gen_exit_i_i; } else { goto L_arm_2_i_i_i_i; }
+    if (v_8) { p_v_r5_sroa_61_0_i_i_i = v_r5_sroa_23_0_ph118_i; p_v_r5_sroa_8_0_i_i_i = v_r5_sroa_24_0_ph120_i; p_v_r5_sroa_9_0_i_i_i = 0u; p_v_r5_sroa_10_0_i6_i_i = 0u; p_v_r5_sroa_12_0_i_i_i = AT(f_static_22); p_v_r5_sroa_13_0_i_i_i = 0u; goto L_pkcs1_c_algorithm_to_c_mask_gen_exit_i_i; } else { goto L_arm_2_i_i_i_i; }
 L_arm_2_i_i_i_i:;
     v_r4_i_i_i_i_i_i = (u8)(v_r5_sroa_26_0_ph122_i);
     { p_v_r5_sroa_61_0_i_i_i = v_r5_sroa_23_0_ph118_i; p_v_r5_sroa_8_0_i_i_i = v_r5_sroa_24_0_ph120_i; p_v_r5_sroa_9_0_i_i_i = v_r3_sroa_23_sroa_0_0_extract_trunc142_i; p_v_r5_sroa_10_0_i6_i_i = v_r4_i_i_i_i_i_i; p_v_r5_sroa_12_0_i_i_i = v_r5_sroa_27_0_ph124_i; p_v_r5_sroa_13_0_i_i_i = v_r5_sroa_28_0_ph126_i; goto L_pkcs1_c_algorithm_to_c_mask_gen_exit_i_i; }
@@ -36900,7 +36972,7 @@ L_pkcs1_c_algorithm_to_c_mask_gen_exit_i_i:;
     v_9 = v_r3_sroa_35_sroa_0_0_extract_trunc144_i == 0u;
     v_r4_i_i_i21_i_i = (u8)(v_r5_sroa_32_0_ph132_i);
     v_r5_sroa_6_0_i24_i_i = v_9 ? 0u : v_r4_i_i_i21_i_i;
-    v_r5_sroa_81_0_i25_i_i = v_9 ? (P)f_static_22 : v_r5_sroa_33_0_ph134_i;
+    v_r5_sroa_81_0_i25_i_i = v_9 ? AT(f_static_22) : v_r5_sroa_33_0_ph134_i;
     v_r5_sroa_10_0_i26_i_i = v_9 ? 0u : v_r5_sroa_34_0_ph136_i;
     put_P(v_a2, v_r5_sroa_124_0_ph107_i);
     v_r7_sroa_3_0_a2_sroa_idx_i = v_a2 + 8;
@@ -36960,7 +37032,7 @@ L_pkcs1_c_oaep_pkcs1_c_oaep_params_decode_exit:;
     v_r6_0_i = p_v_r6_0_i;
     return v_r6_0_i;
 }
-u32 pkcs1_c_oaep_params_decode_strict(P v_a0, u64 v_a1, P v_a2) {
+u32 NAME(oaep_params_decode_strict)(P v_a0, u64 v_a1, P v_a2) {
     ALIGNED(1) unsigned char m_v_r0_i85_i_i[5];
     ALIGNED(8) unsigned char m_v_r0_i63_i_i_i[176];
     ALIGNED(8) unsigned char m_v_r14_i66_i_i_i[176];
@@ -37280,17 +37352,17 @@ u32 pkcs1_c_oaep_params_decode_strict(P v_a0, u64 v_a1, P v_a2) {
     u32 v_switch_idx_cast_i_i_i;
     u32 v_switch_offset_i_i_i;
     u32 v_r6_0_i;
-    v_r0_i85_i_i = m_v_r0_i85_i_i;
-    v_r0_i63_i_i_i = m_v_r0_i63_i_i_i;
-    v_r14_i66_i_i_i = m_v_r14_i66_i_i_i;
-    v_r0_i54_i_sroa_15_i_i = m_v_r0_i54_i_sroa_15_i_i;
-    v_r7_i27_i_sroa_11_i_i = m_v_r7_i27_i_sroa_11_i_i;
-    v_r7_i36_i_i_i_i = m_v_r7_i36_i_i_i_i;
-    v_r4_i_i_i = m_v_r4_i_i_i;
-    v_r11_i8_sroa_18_i_i = m_v_r11_i8_sroa_18_i_i;
+    v_r0_i85_i_i = AT(m_v_r0_i85_i_i);
+    v_r0_i63_i_i_i = AT(m_v_r0_i63_i_i_i);
+    v_r14_i66_i_i_i = AT(m_v_r14_i66_i_i_i);
+    v_r0_i54_i_sroa_15_i_i = AT(m_v_r0_i54_i_sroa_15_i_i);
+    v_r7_i27_i_sroa_11_i_i = AT(m_v_r7_i27_i_sroa_11_i_i);
+    v_r7_i36_i_i_i_i = AT(m_v_r7_i36_i_i_i_i);
+    v_r4_i_i_i = AT(m_v_r4_i_i_i);
+    v_r11_i8_sroa_18_i_i = AT(m_v_r11_i8_sroa_18_i_i);
     v_r1 = v_a0 == (P)0;
     v_r3 = v_r1 ? 4096u : 0u;
-    v_r4 = (P)((uintptr_t)v_a0 + (u64)(v_r3));
+    v_r4 = (P)((u64)v_a0 + (u64)(v_r3));
     fill(v_r11_i8_sroa_18_i_i, 0u, 171u);
     v_r21_i_i_i_i = v_a1 < 2u;
     if (v_r21_i_i_i_i) { goto L_join_4_i_i_i; } else { goto L_join_5_i_i_i_i; }
@@ -37312,7 +37384,7 @@ L_arm_1_i_i_i_i:;
     v_r7_i17_i_i = v_r36_i5_i_i_i == 0u;
     if (v_r7_i17_i_i) { goto L_arm_1_thread_i; } else { goto L_join_3_i_i_i_i; }
 L_arm_1_thread_i:;
-    { p_v_r3_sroa_35_sroa_0_0_extract_trunc141_i = 1u; p_v_r3_sroa_23_sroa_0_0_extract_trunc139_i = 1u; p_v_r3_sroa_17_sroa_0_0_extract_trunc137_i = 1u; p_v_r3_sroa_5_sroa_0_0_extract_trunc135_i = 1u; p_v_r0_i1_sroa_28_sroa_84_0_ph_i133_i = 0u; p_v_r0_i1_sroa_28_sroa_80_0_ph_i131_i = (P)f_static_22; p_v_r0_i1_sroa_28_sroa_76_0_ph_i129_i = 4u; p_v_r0_i1_sroa_28_sroa_68_0_ph_i127_i = 9u; p_v_r0_i1_sroa_28_sroa_64_0_ph_i125_i = (P)f_static_0; p_v_r0_i1_sroa_28_sroa_60_0_ph_i123_i = 0u; p_v_r0_i1_sroa_28_sroa_56_0_ph_i121_i = (P)f_static_22; p_v_r0_i1_sroa_28_sroa_52_0_ph_i119_i = 5u; p_v_r0_i1_sroa_28_sroa_44_0_ph_i117_i = 5u; p_v_r0_i1_sroa_28_sroa_40_0_ph_i115_i = (P)f_static_24; p_v_r0_i1_sroa_28_sroa_32_0_ph_i113_i = 9u; p_v_r0_i1_sroa_28_sroa_28_0_ph_i111_i = (P)f_static_25; p_v_r0_i1_sroa_28_sroa_24_0_ph_i110_i = 0u; p_v_r0_i1_sroa_28_sroa_20_0_ph_i109_i = (P)f_static_22; p_v_r0_i1_sroa_28_sroa_16_0_ph_i108_i = 5u; p_v_r0_i1_sroa_28_sroa_8_0_ph_i106_i = 5u; p_v_r0_i1_sroa_28_sroa_3_0_ph_i104_i = (P)f_static_24; goto L_arm_2_i_i_i; }
+    { p_v_r3_sroa_35_sroa_0_0_extract_trunc141_i = 1u; p_v_r3_sroa_23_sroa_0_0_extract_trunc139_i = 1u; p_v_r3_sroa_17_sroa_0_0_extract_trunc137_i = 1u; p_v_r3_sroa_5_sroa_0_0_extract_trunc135_i = 1u; p_v_r0_i1_sroa_28_sroa_84_0_ph_i133_i = 0u; p_v_r0_i1_sroa_28_sroa_80_0_ph_i131_i = AT(f_static_22); p_v_r0_i1_sroa_28_sroa_76_0_ph_i129_i = 4u; p_v_r0_i1_sroa_28_sroa_68_0_ph_i127_i = 9u; p_v_r0_i1_sroa_28_sroa_64_0_ph_i125_i = AT(f_static_0); p_v_r0_i1_sroa_28_sroa_60_0_ph_i123_i = 0u; p_v_r0_i1_sroa_28_sroa_56_0_ph_i121_i = AT(f_static_22); p_v_r0_i1_sroa_28_sroa_52_0_ph_i119_i = 5u; p_v_r0_i1_sroa_28_sroa_44_0_ph_i117_i = 5u; p_v_r0_i1_sroa_28_sroa_40_0_ph_i115_i = AT(f_static_24); p_v_r0_i1_sroa_28_sroa_32_0_ph_i113_i = 9u; p_v_r0_i1_sroa_28_sroa_28_0_ph_i111_i = AT(f_static_25); p_v_r0_i1_sroa_28_sroa_24_0_ph_i110_i = 0u; p_v_r0_i1_sroa_28_sroa_20_0_ph_i109_i = AT(f_static_22); p_v_r0_i1_sroa_28_sroa_16_0_ph_i108_i = 5u; p_v_r0_i1_sroa_28_sroa_8_0_ph_i106_i = 5u; p_v_r0_i1_sroa_28_sroa_3_0_ph_i104_i = AT(f_static_24); goto L_arm_2_i_i_i; }
 L_join_3_i_i_i_i:;
     f_pkcs1_params_usual_usual_algorithms(v_r7_i36_i_i_i_i, v_r33_i4_i_i_i, v_r36_i5_i_i_i);
     v_r2_i22_i_i = get_u8(v_r7_i36_i_i_i_i);
@@ -37349,7 +37421,7 @@ L_arm_4_i_i_i_i:;
     v_r15_sroa_10_i_sroa_11_0_copyload_i_i = get_P(v_r15_sroa_10_i_sroa_11_0_r13_i29_sroa_idx_i_i);
     v_r15_sroa_10_i_sroa_12_0_r13_i29_sroa_idx_i_i = v_r7_i36_i_i_i_i + 120;
     v_r15_sroa_10_i_sroa_12_0_copyload_i_i = get_u64(v_r15_sroa_10_i_sroa_12_0_r13_i29_sroa_idx_i_i);
-    { p_v_r0_i1_sroa_28_sroa_3_0_ph_i_i = v_r15_sroa_4_i_sroa_3_7_copyload_i_i; p_v_r0_i1_sroa_28_sroa_8_0_ph_i_i = v_r15_sroa_4_i_sroa_5_7_copyload_i_i; p_v_r0_i1_sroa_28_sroa_12_0_ph_i_i = v_r8_i24_i_i; p_v_r0_i1_sroa_28_sroa_16_0_ph_i_i = v_r15_sroa_8_i_sroa_0_0_copyload_i_i; p_v_r0_i1_sroa_28_sroa_20_0_ph_i_i = v_r15_sroa_8_i_sroa_5_0_copyload_i_i; p_v_r0_i1_sroa_28_sroa_24_0_ph_i_i = v_r15_sroa_8_i_sroa_6_0_copyload_i_i; p_v_r0_i1_sroa_28_sroa_28_0_ph_i_i = v_r15_sroa_10_i_sroa_0_0_copyload_i_i; p_v_r0_i1_sroa_28_sroa_32_0_ph_i_i = v_r15_sroa_10_i_sroa_5_0_copyload_i_i; p_v_r0_i1_sroa_28_sroa_36_0_ph_i_i = v_r15_sroa_10_i_sroa_6_0_copyload_i_i; p_v_r0_i1_sroa_28_sroa_40_0_ph_i_i = v_r15_sroa_10_i_sroa_7_0_copyload_i_i; p_v_r0_i1_sroa_28_sroa_44_0_ph_i_i = v_r15_sroa_10_i_sroa_8_0_copyload_i_i; p_v_r0_i1_sroa_28_sroa_48_0_ph_i_i = v_r15_sroa_10_i_sroa_9_0_copyload_i_i; p_v_r0_i1_sroa_28_sroa_52_0_ph_i_i = v_r15_sroa_10_i_sroa_10_0_copyload_i_i; p_v_r0_i1_sroa_28_sroa_56_0_ph_i_i = v_r15_sroa_10_i_sroa_11_0_copyload_i_i; p_v_r0_i1_sroa_28_sroa_60_0_ph_i_i = v_r15_sroa_10_i_sroa_12_0_copyload_i_i; p_v_r0_i1_sroa_28_sroa_64_0_ph_i_i = (P)f_static_0; p_v_r0_i1_sroa_28_sroa_68_0_ph_i_i = 9u; p_v_r0_i1_sroa_28_sroa_72_0_ph_i_i = 1u; p_v_r0_i1_sroa_28_sroa_76_0_ph_i_i = 4u; p_v_r0_i1_sroa_28_sroa_80_0_ph_i_i = (P)f_static_22; p_v_r0_i1_sroa_28_sroa_84_0_ph_i_i = 0u; goto L_arm_1_i; }
+    { p_v_r0_i1_sroa_28_sroa_3_0_ph_i_i = v_r15_sroa_4_i_sroa_3_7_copyload_i_i; p_v_r0_i1_sroa_28_sroa_8_0_ph_i_i = v_r15_sroa_4_i_sroa_5_7_copyload_i_i; p_v_r0_i1_sroa_28_sroa_12_0_ph_i_i = v_r8_i24_i_i; p_v_r0_i1_sroa_28_sroa_16_0_ph_i_i = v_r15_sroa_8_i_sroa_0_0_copyload_i_i; p_v_r0_i1_sroa_28_sroa_20_0_ph_i_i = v_r15_sroa_8_i_sroa_5_0_copyload_i_i; p_v_r0_i1_sroa_28_sroa_24_0_ph_i_i = v_r15_sroa_8_i_sroa_6_0_copyload_i_i; p_v_r0_i1_sroa_28_sroa_28_0_ph_i_i = v_r15_sroa_10_i_sroa_0_0_copyload_i_i; p_v_r0_i1_sroa_28_sroa_32_0_ph_i_i = v_r15_sroa_10_i_sroa_5_0_copyload_i_i; p_v_r0_i1_sroa_28_sroa_36_0_ph_i_i = v_r15_sroa_10_i_sroa_6_0_copyload_i_i; p_v_r0_i1_sroa_28_sroa_40_0_ph_i_i = v_r15_sroa_10_i_sroa_7_0_copyload_i_i; p_v_r0_i1_sroa_28_sroa_44_0_ph_i_i = v_r15_sroa_10_i_sroa_8_0_copyload_i_i; p_v_r0_i1_sroa_28_sroa_48_0_ph_i_i = v_r15_sroa_10_i_sroa_9_0_copyload_i_i; p_v_r0_i1_sroa_28_sroa_52_0_ph_i_i = v_r15_sroa_10_i_sroa_10_0_copyload_i_i; p_v_r0_i1_sroa_28_sroa_56_0_ph_i_i = v_r15_sroa_10_i_sroa_11_0_copyload_i_i; p_v_r0_i1_sroa_28_sroa_60_0_ph_i_i = v_r15_sroa_10_i_sroa_12_0_copyload_i_i; p_v_r0_i1_sroa_28_sroa_64_0_ph_i_i = AT(f_static_0); p_v_r0_i1_sroa_28_sroa_68_0_ph_i_i = 9u; p_v_r0_i1_sroa_28_sroa_72_0_ph_i_i = 1u; p_v_r0_i1_sroa_28_sroa_76_0_ph_i_i = 4u; p_v_r0_i1_sroa_28_sroa_80_0_ph_i_i = AT(f_static_22); p_v_r0_i1_sroa_28_sroa_84_0_ph_i_i = 0u; goto L_arm_1_i; }
 L_arm_6_i_i_i_i:;
     { goto L_join_4_i_i_i; }
 L_join_4_i_i_i:;
@@ -37483,7 +37555,7 @@ L_arm_1_i:;
     v_r3_sroa_17_sroa_0_0_extract_trunc_i = (u8)(v_r0_i1_sroa_28_sroa_36_0_ph_i_i);
     v_r3_sroa_23_sroa_0_0_extract_trunc_i = (u8)(v_r0_i1_sroa_28_sroa_48_0_ph_i_i);
     v_12 = v_r0_i1_sroa_28_sroa_12_0_ph_i_i == 0u;
-    if (v_12) { p_v_r3_sroa_35_sroa_0_0_extract_trunc142_i = v_r0_i1_sroa_28_sroa_72_0_ph_i_i; p_v_r3_sroa_23_sroa_0_0_extract_trunc140_i = v_r3_sroa_23_sroa_0_0_extract_trunc_i; p_v_r3_sroa_17_sroa_0_0_extract_trunc138_i = v_r3_sroa_17_sroa_0_0_extract_trunc_i; p_v_r3_sroa_5_sroa_0_0_extract_trunc136_i = 0u; p_v_r0_i1_sroa_28_sroa_84_0_ph_i134_i = v_r0_i1_sroa_28_sroa_84_0_ph_i_i; p_v_r0_i1_sroa_28_sroa_80_0_ph_i132_i = v_r0_i1_sroa_28_sroa_80_0_ph_i_i; p_v_r0_i1_sroa_28_sroa_76_0_ph_i130_i = v_r0_i1_sroa_28_sroa_76_0_ph_i_i; p_v_r0_i1_sroa_28_sroa_68_0_ph_i128_i = v_r0_i1_sroa_28_sroa_68_0_ph_i_i; p_v_r0_i1_sroa_28_sroa_64_0_ph_i126_i = v_r0_i1_sroa_28_sroa_64_0_ph_i_i; p_v_r0_i1_sroa_28_sroa_60_0_ph_i124_i = v_r0_i1_sroa_28_sroa_60_0_ph_i_i; p_v_r0_i1_sroa_28_sroa_56_0_ph_i122_i = v_r0_i1_sroa_28_sroa_56_0_ph_i_i; p_v_r0_i1_sroa_28_sroa_52_0_ph_i120_i = v_r0_i1_sroa_28_sroa_52_0_ph_i_i; p_v_r0_i1_sroa_28_sroa_44_0_ph_i118_i = v_r0_i1_sroa_28_sroa_44_0_ph_i_i; p_v_r0_i1_sroa_28_sroa_40_0_ph_i116_i = v_r0_i1_sroa_28_sroa_40_0_ph_i_i; p_v_r0_i1_sroa_28_sroa_32_0_ph_i114_i = v_r0_i1_sroa_28_sroa_32_0_ph_i_i; p_v_r0_i1_sroa_28_sroa_28_0_ph_i112_i = v_r0_i1_sroa_28_sroa_28_0_ph_i_i; p_v_r0_i1_sroa_28_sroa_8_0_ph_i107_i = v_r0_i1_sroa_28_sroa_8_0_ph_i_i; p_v_r0_i1_sroa_28_sroa_3_0_ph_i105_i = v_r0_i1_sroa_28_sroa_3_0_ph_i_i; p_v_r5_sroa_6_0_i_i_i = 0u; p_v_r5_sroa_81_0_i_i_i = (P)f_static_22; p_v_r5_sroa_10_0_i_i_i = 0u; goto L_pkcs1_c_algorithm_to_c_algorithm_exit_i_i; } else { p_v_r3_sroa_35_sroa_0_0_extract_trunc141_i = v_r0_i1_sroa_28_sroa_72_0_ph_i_i; p_v_r3_sroa_23_sroa_0_0_extract_trunc139_i = v_r3_sroa_23_sroa_0_0_extract_trunc_i; p_v_r3_sroa_17_sroa_0_0_extract_trunc137_i = v_r3_sroa_17_sroa_0_0_extract_trunc_i; p_v_r3_sroa_5_sroa_0_0_extract_trunc135_i = v_r0_i1_sroa_28_sroa_12_0_ph_i_i; p_v_r0_i1_sroa_28_sroa_84_0_ph_i133_i = v_r0_i1_sroa_28_sroa_84_0_ph_i_i; p_v_r0_i1_sroa_28_sroa_80_0_ph_i131_i = v_r0_i1_sroa_28_sroa_80_0_ph_i_i; p_v_r0_i1_sroa_28_sroa_76_0_ph_i129_i = v_r0_i1_sroa_28_sroa_76_0_ph_i_i; p_v_r0_i1_sroa_28_sroa_68_0_ph_i127_i = v_r0_i1_sroa_28_sroa_68_0_ph_i_i; p_v_r0_i1_sroa_28_sroa_64_0_ph_i125_i = v_r0_i1_sroa_28_sroa_64_0_ph_i_i; p_v_r0_i1_sroa_28_sroa_60_0_ph_i123_i = v_r0_i1_sroa_28_sroa_60_0_ph_i_i; p_v_r0_i1_sroa_28_sroa_56_0_ph_i121_i = v_r0_i1_sroa_28_sroa_56_0_ph_i_i; p_v_r0_i1_sroa_28_sroa_52_0_ph_i119_i = v_r0_i1_sroa_28_sroa_52_0_ph_i_i; p_v_r0_i1_sroa_28_sroa_44_0_ph_i117_i = v_r0_i1_sroa_28_sroa_44_0_ph_i_i; p_v_r0_i1_sroa_28_sroa_40_0_ph_i115_i = v_r0_i1_sroa_28_sroa_40_0_ph_i_i; p_v_r0_i1_sroa_28_sroa_32_0_ph_i113_i = v_r0_i1_sroa_28_sroa_32_0_ph_i_i; p_v_r0_i1_sroa_28_sroa_28_0_ph_i111_i = v_r0_i1_sroa_28_sroa_28_0_ph_i_i; p_v_r0_i1_sroa_28_sroa_24_0_ph_i110_i = v_r0_i1_sroa_28_sroa_24_0_ph_i_i; p_v_r0_i1_sroa_28_sroa_20_0_ph_i109_i = v_r0_i1_sroa_28_sroa_20_0_ph_i_i; p_v_r0_i1_sroa_28_sroa_16_0_ph_i108_i = v_r0_i1_sroa_28_sroa_16_0_ph_i_i; p_v_r0_i1_sroa_28_sroa_8_0_ph_i106_i = v_r0_i1_sroa_28_sroa_8_0_ph_i_i; p_v_r0_i1_sroa_28_sroa_3_0_ph_i104_i = v_r0_i1_sroa_28_sroa_3_0_ph_i_i; goto L_arm_2_i_i_i; }
+    if (v_12) { p_v_r3_sroa_35_sroa_0_0_extract_trunc142_i = v_r0_i1_sroa_28_sroa_72_0_ph_i_i; p_v_r3_sroa_23_sroa_0_0_extract_trunc140_i = v_r3_sroa_23_sroa_0_0_extract_trunc_i; p_v_r3_sroa_17_sroa_0_0_extract_trunc138_i = v_r3_sroa_17_sroa_0_0_extract_trunc_i; p_v_r3_sroa_5_sroa_0_0_extract_trunc136_i = 0u; p_v_r0_i1_sroa_28_sroa_84_0_ph_i134_i = v_r0_i1_sroa_28_sroa_84_0_ph_i_i; p_v_r0_i1_sroa_28_sroa_80_0_ph_i132_i = v_r0_i1_sroa_28_sroa_80_0_ph_i_i; p_v_r0_i1_sroa_28_sroa_76_0_ph_i130_i = v_r0_i1_sroa_28_sroa_76_0_ph_i_i; p_v_r0_i1_sroa_28_sroa_68_0_ph_i128_i = v_r0_i1_sroa_28_sroa_68_0_ph_i_i; p_v_r0_i1_sroa_28_sroa_64_0_ph_i126_i = v_r0_i1_sroa_28_sroa_64_0_ph_i_i; p_v_r0_i1_sroa_28_sroa_60_0_ph_i124_i = v_r0_i1_sroa_28_sroa_60_0_ph_i_i; p_v_r0_i1_sroa_28_sroa_56_0_ph_i122_i = v_r0_i1_sroa_28_sroa_56_0_ph_i_i; p_v_r0_i1_sroa_28_sroa_52_0_ph_i120_i = v_r0_i1_sroa_28_sroa_52_0_ph_i_i; p_v_r0_i1_sroa_28_sroa_44_0_ph_i118_i = v_r0_i1_sroa_28_sroa_44_0_ph_i_i; p_v_r0_i1_sroa_28_sroa_40_0_ph_i116_i = v_r0_i1_sroa_28_sroa_40_0_ph_i_i; p_v_r0_i1_sroa_28_sroa_32_0_ph_i114_i = v_r0_i1_sroa_28_sroa_32_0_ph_i_i; p_v_r0_i1_sroa_28_sroa_28_0_ph_i112_i = v_r0_i1_sroa_28_sroa_28_0_ph_i_i; p_v_r0_i1_sroa_28_sroa_8_0_ph_i107_i = v_r0_i1_sroa_28_sroa_8_0_ph_i_i; p_v_r0_i1_sroa_28_sroa_3_0_ph_i105_i = v_r0_i1_sroa_28_sroa_3_0_ph_i_i; p_v_r5_sroa_6_0_i_i_i = 0u; p_v_r5_sroa_81_0_i_i_i = AT(f_static_22); p_v_r5_sroa_10_0_i_i_i = 0u; goto L_pkcs1_c_algorithm_to_c_algorithm_exit_i_i; } else { p_v_r3_sroa_35_sroa_0_0_extract_trunc141_i = v_r0_i1_sroa_28_sroa_72_0_ph_i_i; p_v_r3_sroa_23_sroa_0_0_extract_trunc139_i = v_r3_sroa_23_sroa_0_0_extract_trunc_i; p_v_r3_sroa_17_sroa_0_0_extract_trunc137_i = v_r3_sroa_17_sroa_0_0_extract_trunc_i; p_v_r3_sroa_5_sroa_0_0_extract_trunc135_i = v_r0_i1_sroa_28_sroa_12_0_ph_i_i; p_v_r0_i1_sroa_28_sroa_84_0_ph_i133_i = v_r0_i1_sroa_28_sroa_84_0_ph_i_i; p_v_r0_i1_sroa_28_sroa_80_0_ph_i131_i = v_r0_i1_sroa_28_sroa_80_0_ph_i_i; p_v_r0_i1_sroa_28_sroa_76_0_ph_i129_i = v_r0_i1_sroa_28_sroa_76_0_ph_i_i; p_v_r0_i1_sroa_28_sroa_68_0_ph_i127_i = v_r0_i1_sroa_28_sroa_68_0_ph_i_i; p_v_r0_i1_sroa_28_sroa_64_0_ph_i125_i = v_r0_i1_sroa_28_sroa_64_0_ph_i_i; p_v_r0_i1_sroa_28_sroa_60_0_ph_i123_i = v_r0_i1_sroa_28_sroa_60_0_ph_i_i; p_v_r0_i1_sroa_28_sroa_56_0_ph_i121_i = v_r0_i1_sroa_28_sroa_56_0_ph_i_i; p_v_r0_i1_sroa_28_sroa_52_0_ph_i119_i = v_r0_i1_sroa_28_sroa_52_0_ph_i_i; p_v_r0_i1_sroa_28_sroa_44_0_ph_i117_i = v_r0_i1_sroa_28_sroa_44_0_ph_i_i; p_v_r0_i1_sroa_28_sroa_40_0_ph_i115_i = v_r0_i1_sroa_28_sroa_40_0_ph_i_i; p_v_r0_i1_sroa_28_sroa_32_0_ph_i113_i = v_r0_i1_sroa_28_sroa_32_0_ph_i_i; p_v_r0_i1_sroa_28_sroa_28_0_ph_i111_i = v_r0_i1_sroa_28_sroa_28_0_ph_i_i; p_v_r0_i1_sroa_28_sroa_24_0_ph_i110_i = v_r0_i1_sroa_28_sroa_24_0_ph_i_i; p_v_r0_i1_sroa_28_sroa_20_0_ph_i109_i = v_r0_i1_sroa_28_sroa_20_0_ph_i_i; p_v_r0_i1_sroa_28_sroa_16_0_ph_i108_i = v_r0_i1_sroa_28_sroa_16_0_ph_i_i; p_v_r0_i1_sroa_28_sroa_8_0_ph_i106_i = v_r0_i1_sroa_28_sroa_8_0_ph_i_i; p_v_r0_i1_sroa_28_sroa_3_0_ph_i104_i = v_r0_i1_sroa_28_sroa_3_0_ph_i_i; goto L_arm_2_i_i_i; }
 L_arm_2_i_i_i:;
     v_r3_sroa_35_sroa_0_0_extract_trunc141_i = p_v_r3_sroa_35_sroa_0_0_extract_trunc141_i;
     v_r3_sroa_23_sroa_0_0_extract_trunc139_i = p_v_r3_sroa_23_sroa_0_0_extract_trunc139_i;
@@ -37531,10 +37603,10 @@ L_pkcs1_c_algorithm_to_c_algorithm_exit_i_i:;
     v_r5_sroa_81_0_i_i_i = p_v_r5_sroa_81_0_i_i_i;
     v_r5_sroa_10_0_i_i_i = p_v_r5_sroa_10_0_i_i_i;
     v_13 = v_r3_sroa_17_sroa_0_0_extract_trunc138_i == 0u;
-    if (v_13) { p_v_r5_sroa_61_0_i_i_i = (P)f_static_22; p_v_r5_sroa_8_0_i_i_i = 0u; p_v_r5_sroa_9_0_i_i_i = 0u; p_v_r5_sroa_10_0_i6_i_i = 0u; p_v_r5_sroa_12_0_i_i_i = (P)f_static_22; p_v_r5_sroa_13_0_i_i_i = 0u; goto L_pkcs1_c_algorithm_to_c_mask_gen_exit_i_i; } else { goto L_arm_2_i5_i_i; }
+    if (v_13) { p_v_r5_sroa_61_0_i_i_i = AT(f_static_22); p_v_r5_sroa_8_0_i_i_i = 0u; p_v_r5_sroa_9_0_i_i_i = 0u; p_v_r5_sroa_10_0_i6_i_i = 0u; p_v_r5_sroa_12_0_i_i_i = AT(f_static_22); p_v_r5_sroa_13_0_i_i_i = 0u; goto L_pkcs1_c_algorithm_to_c_mask_gen_exit_i_i; } else { goto L_arm_2_i5_i_i; }
 L_arm_2_i5_i_i:;
     v_14 = v_r3_sroa_23_sroa_0_0_extract_trunc140_i == 0u;
-    if (v_14) { p_v_r5_sroa_61_0_i_i_i = v_r0_i1_sroa_28_sroa_40_0_ph_i116_i; p_v_r5_sroa_8_0_i_i_i = v_r0_i1_sroa_28_sroa_44_0_ph_i118_i; p_v_r5_sroa_9_0_i_i_i = 0u; p_v_r5_sroa_10_0_i6_i_i = 0u; p_v_r5_sroa_12_0_i_i_i = (P)f_static_22; p_v_r5_sroa_13_0_i_i_i = 0u; goto L_pkcs1_c_algorithm_to_c_mask_gen_exit_i_i; } else { goto L_arm_2_i_i_i_i; }
+    if (v_14) { p_v_r5_sroa_61_0_i_i_i = v_r0_i1_sroa_28_sroa_40_0_ph_i116_i; p_v_r5_sroa_8_0_i_i_i = v_r0_i1_sroa_28_sroa_44_0_ph_i118_i; p_v_r5_sroa_9_0_i_i_i = 0u; p_v_r5_sroa_10_0_i6_i_i = 0u; p_v_r5_sroa_12_0_i_i_i = AT(f_static_22); p_v_r5_sroa_13_0_i_i_i = 0u; goto L_pkcs1_c_algorithm_to_c_mask_gen_exit_i_i; } else { goto L_arm_2_i_i_i_i; }
 L_arm_2_i_i_i_i:;
     v_r4_i_i_i_i_i_i = (u8)(v_r0_i1_sroa_28_sroa_52_0_ph_i120_i);
     { p_v_r5_sroa_61_0_i_i_i = v_r0_i1_sroa_28_sroa_40_0_ph_i116_i; p_v_r5_sroa_8_0_i_i_i = v_r0_i1_sroa_28_sroa_44_0_ph_i118_i; p_v_r5_sroa_9_0_i_i_i = v_r3_sroa_23_sroa_0_0_extract_trunc140_i; p_v_r5_sroa_10_0_i6_i_i = v_r4_i_i_i_i_i_i; p_v_r5_sroa_12_0_i_i_i = v_r0_i1_sroa_28_sroa_56_0_ph_i122_i; p_v_r5_sroa_13_0_i_i_i = v_r0_i1_sroa_28_sroa_60_0_ph_i124_i; goto L_pkcs1_c_algorithm_to_c_mask_gen_exit_i_i; }
@@ -37548,7 +37620,7 @@ L_pkcs1_c_algorithm_to_c_mask_gen_exit_i_i:;
     v_15 = v_r3_sroa_35_sroa_0_0_extract_trunc142_i == 0u;
     v_r4_i_i_i21_i_i = (u8)(v_r0_i1_sroa_28_sroa_76_0_ph_i130_i);
     v_r5_sroa_6_0_i24_i_i = v_15 ? 0u : v_r4_i_i_i21_i_i;
-    v_r5_sroa_81_0_i25_i_i = v_15 ? (P)f_static_22 : v_r0_i1_sroa_28_sroa_80_0_ph_i132_i;
+    v_r5_sroa_81_0_i25_i_i = v_15 ? AT(f_static_22) : v_r0_i1_sroa_28_sroa_80_0_ph_i132_i;
     v_r5_sroa_10_0_i26_i_i = v_15 ? 0u : v_r0_i1_sroa_28_sroa_84_0_ph_i134_i;
     put_P(v_a2, v_r0_i1_sroa_28_sroa_3_0_ph_i105_i);
     v_r7_sroa_3_0_a2_sroa_idx_i = v_a2 + 8;
@@ -37623,7 +37695,7 @@ L_pkcs1_c_oaep_pkcs1_c_oaep_params_decode_strict_exi:;
     v_r6_0_i = p_v_r6_0_i;
     return v_r6_0_i;
 }
-void pkcs1_c_other_primes(P v_a0, u64 v_a1, P v_a2, u64 v_a3) {
+void NAME(other_primes)(P v_a0, u64 v_a1, P v_a2, u64 v_a3) {
     u64 p_v_r5_05756_i;
     u64 p_v_r4_sroa_10_05755_i;
     P p_v_r4_sroa_0_05754_i;
@@ -38002,7 +38074,7 @@ void pkcs1_c_other_primes(P v_a0, u64 v_a1, P v_a2, u64 v_a3) {
     u1 v_or_cond5746_i;
     v_r10 = v_a2 == (P)0;
     v_r12 = v_r10 ? 4096u : 0u;
-    v_r13 = (P)((uintptr_t)v_a2 + (u64)(v_r12));
+    v_r13 = (P)((u64)v_a2 + (u64)(v_r12));
     v_r16_i1092_i = v_a1 < 4294967296ull;
     if (v_r16_i1092_i) { goto L_loop_6_preheader_i; } else { goto L_pkcs1_c_private_key_pkcs1_c_other_primes_exit; }
 L_loop_6_preheader_i:;
@@ -38013,7 +38085,7 @@ L_loop_6_preheader_i:;
 L_arm_1_i60_i_preheader:;
     v_r1 = v_a0 == (P)0;
     v_r3 = v_r1 ? 4096u : 0u;
-    v_r4 = (P)((uintptr_t)v_a0 + (u64)(v_r3));
+    v_r4 = (P)((u64)v_a0 + (u64)(v_r3));
     { p_v_r5_05756_i = 0u; p_v_r4_sroa_10_05755_i = v_a1; p_v_r4_sroa_0_05754_i = v_r4; goto L_arm_1_i60_i; }
 L_arm_1_i60_i:;
     v_r5_05756_i = p_v_r5_05756_i;
@@ -38056,7 +38128,7 @@ L_join_3_i_i:;
     v_r39_i1177_i = v_r19_i_i_i1133_i < v_r3_i25_i_i;
     if (v_r39_i1177_i) { goto L_pkcs1_c_private_key_pkcs1_c_other_primes_exit; } else { goto L_arm_14_i_i; }
 L_arm_14_i_i:;
-    v_r16_i_i1179_i = (P)((uintptr_t)v_r16_i_i_i1132_i + (u64)(v_r3_i25_i_i));
+    v_r16_i_i1179_i = (P)((u64)v_r16_i_i_i1132_i + (u64)(v_r3_i25_i_i));
     v_r19_i_i1180_i = (u64)((u64)(v_r19_i_i_i1133_i) - (u64)(v_r3_i25_i_i));
     switch (v_r106_i136_i) {
     case 0u: { goto L_pkcs1_c_private_key_pkcs1_c_other_primes_exit; }
@@ -38133,7 +38205,7 @@ L_arm_1_i27_i:;
     v_or_cond5772_i = v_r8_i_i_i ? 1u : v_r39_i_i1285_i;
     if (v_or_cond5772_i) { goto L_pkcs1_c_private_key_pkcs1_c_other_primes_exit; } else { goto L_join_3_i_i1319_i; }
 L_join_3_i_i1319_i:;
-    v_r16_i_i_i1288_i = (P)((uintptr_t)v_r4_sroa_0_43355_i + (u64)(v_r12_sroa_10_0_i_i));
+    v_r16_i_i_i1288_i = (P)((u64)v_r4_sroa_0_43355_i + (u64)(v_r12_sroa_10_0_i_i));
     v_r19_i_i_i1289_i = (u64)((u64)(v_r4_sroa_10_43357_i) - (u64)(v_r12_sroa_10_0_i_i));
     v_r39_i_i1322_i = v_r12_sroa_10_0_i_i == 0u;
     if (v_r39_i_i1322_i) { goto L_pkcs1_c_private_key_pkcs1_c_other_primes_exit; } else { goto L_arm_1_i_i_i; }
@@ -38175,7 +38247,7 @@ L_join_3_i1416_i:;
     v_r39_i1420_i = v_r19_i_i_i1374_i < v_r3_i25_i1417_i;
     if (v_r39_i1420_i) { goto L_pkcs1_c_private_key_pkcs1_c_other_primes_exit; } else { goto L_arm_14_i_i_i; }
 L_arm_14_i_i_i:;
-    v_r16_i_i1424_i = (P)((uintptr_t)v_r16_i_i_i1373_i + (u64)(v_r3_i25_i1417_i));
+    v_r16_i_i1424_i = (P)((u64)v_r16_i_i_i1373_i + (u64)(v_r3_i25_i1417_i));
     v_r19_i_i1425_i = (u64)((u64)(v_r19_i_i_i1374_i) - (u64)(v_r3_i25_i1417_i));
     switch (v_r106_i_i406_i) {
     case 0u: { goto L_pkcs1_c_private_key_pkcs1_c_other_primes_exit; }
@@ -38254,7 +38326,7 @@ L_join_3_i_i1547_i:;
     v_r39_i_i1551_i = v_r6_i12_sroa_30_53798_i < v_r3_i25_i_i1548_i;
     if (v_r39_i_i1551_i) { goto L_pkcs1_c_private_key_pkcs1_c_other_primes_exit; } else { goto L_join_3_i_i1590_i; }
 L_join_3_i_i1590_i:;
-    v_r16_i_i_i1554_i = (P)((uintptr_t)v_r6_i12_sroa_0_53796_i + (u64)(v_r3_i25_i_i1548_i));
+    v_r16_i_i_i1554_i = (P)((u64)v_r6_i12_sroa_0_53796_i + (u64)(v_r3_i25_i_i1548_i));
     v_r19_i_i_i1555_i = (u64)((u64)(v_r6_i12_sroa_30_53798_i) - (u64)(v_r3_i25_i_i1548_i));
     v_r7_i_i_i1599_i = v_r12_sroa_10_0_i1488_i == 0u;
     if (v_r7_i_i_i1599_i) { goto L_pkcs1_c_private_key_pkcs1_c_other_primes_exit; } else { goto L_join_8_i_i_i; }
@@ -38318,7 +38390,7 @@ L_join_3_i1756_i:;
     v_r39_i1760_i = v_r19_i_i_i1714_i < v_r3_i25_i1757_i;
     if (v_r39_i1760_i) { goto L_pkcs1_c_private_key_pkcs1_c_other_primes_exit; } else { goto L_arm_14_i_i_i_i; }
 L_arm_14_i_i_i_i:;
-    v_r16_i_i1764_i = (P)((uintptr_t)v_r16_i_i_i1713_i + (u64)(v_r3_i25_i1757_i));
+    v_r16_i_i1764_i = (P)((u64)v_r16_i_i_i1713_i + (u64)(v_r3_i25_i1757_i));
     v_r19_i_i1765_i = (u64)((u64)(v_r19_i_i_i1714_i) - (u64)(v_r3_i25_i1757_i));
     switch (v_r106_i_i_i598_i) {
     case 0u: { goto L_pkcs1_c_private_key_pkcs1_c_other_primes_exit; }
@@ -38397,7 +38469,7 @@ L_join_3_i_i1887_i:;
     v_r39_i_i1891_i = v_r6_i12_sroa_30_104384_i < v_r3_i25_i_i1888_i;
     if (v_r39_i_i1891_i) { goto L_pkcs1_c_private_key_pkcs1_c_other_primes_exit; } else { goto L_join_3_i_i1930_i; }
 L_join_3_i_i1930_i:;
-    v_r16_i_i_i1894_i = (P)((uintptr_t)v_r6_i12_sroa_0_104382_i + (u64)(v_r3_i25_i_i1888_i));
+    v_r16_i_i_i1894_i = (P)((u64)v_r6_i12_sroa_0_104382_i + (u64)(v_r3_i25_i_i1888_i));
     v_r19_i_i_i1895_i = (u64)((u64)(v_r6_i12_sroa_30_104384_i) - (u64)(v_r3_i25_i_i1888_i));
     v_r7_i_i_i1939_i = v_r12_sroa_10_0_i1828_i == 0u;
     if (v_r7_i_i_i1939_i) { goto L_pkcs1_c_private_key_pkcs1_c_other_primes_exit; } else { goto L_join_8_i_i1940_i; }
@@ -38461,7 +38533,7 @@ L_join_3_i2109_i:;
     v_r39_i2113_i = v_r19_i_i_i2067_i < v_r3_i25_i2110_i;
     if (v_r39_i2113_i) { goto L_pkcs1_c_private_key_pkcs1_c_other_primes_exit; } else { goto L_arm_14_i_i_i968_i; }
 L_arm_14_i_i_i968_i:;
-    v_r16_i_i2117_i = (P)((uintptr_t)v_r16_i_i_i2066_i + (u64)(v_r3_i25_i2110_i));
+    v_r16_i_i2117_i = (P)((u64)v_r16_i_i_i2066_i + (u64)(v_r3_i25_i2110_i));
     v_r19_i_i2118_i = (u64)((u64)(v_r19_i_i_i2067_i) - (u64)(v_r3_i25_i2110_i));
     switch (v_r106_i_i_i951_i) {
     case 0u: { goto L_pkcs1_c_private_key_pkcs1_c_other_primes_exit; }
@@ -38585,7 +38657,7 @@ L_arm_10_i:;
 L_pkcs1_c_private_key_pkcs1_c_other_primes_exit:;
     return;
 }
-u32 pkcs1_c_pss_algorithm_decode(P v_a0, u64 v_a1, P v_a2) {
+u32 NAME(pss_algorithm_decode)(P v_a0, u64 v_a1, P v_a2) {
     ALIGNED(8) unsigned char m_v_r18_i269_i_i[128];
     ALIGNED(8) unsigned char m_v_r10_i130_i_i[136];
     ALIGNED(8) unsigned char m_v_r12_i132_i_i[24];
@@ -38977,13 +39049,13 @@ u32 pkcs1_c_pss_algorithm_decode(P v_a0, u64 v_a1, P v_a2) {
     u32 v_switch_idx_cast_i_i_i;
     u32 v_switch_offset_i_i_i;
     u32 v_r6_0_i;
-    v_r18_i269_i_i = m_v_r18_i269_i_i;
-    v_r10_i130_i_i = m_v_r10_i130_i_i;
-    v_r12_i132_i_i = m_v_r12_i132_i_i;
-    v_r0_i_i_i = m_v_r0_i_i_i;
+    v_r18_i269_i_i = AT(m_v_r18_i269_i_i);
+    v_r10_i130_i_i = AT(m_v_r10_i130_i_i);
+    v_r12_i132_i_i = AT(m_v_r12_i132_i_i);
+    v_r0_i_i_i = AT(m_v_r0_i_i_i);
     v_r1 = v_a0 == (P)0;
     v_r3 = v_r1 ? 4096u : 0u;
-    v_r4 = (P)((uintptr_t)v_a0 + (u64)(v_r3));
+    v_r4 = (P)((u64)v_a0 + (u64)(v_r3));
     fill(v_r0_i_i_i, 0u, 56u);
     v_0 = (u64)((u64)(v_a1) + (u64)(18446744069414584320ull));
     v_or_cond_i_i = v_0 < 18446744069414584322ull;
@@ -39021,13 +39093,13 @@ L_then_9_i_i_i_i_i:;
     v_r15_i324_i_i = v_r35_i_i_i_i_i < v_r65_i_i_i_i_i;
     if (v_r15_i324_i_i) { goto L_der_core_decode_AnyDecodeRefSliceU8_from_der_f3668; } else { goto L_arm_1_i_i_i_i; }
 L_arm_1_i_i_i_i:;
-    v_r29_i326_i_i = (P)((uintptr_t)v_r32_i_i_i_i_i + (u64)(v_r65_i_i_i_i_i));
+    v_r29_i326_i_i = (P)((u64)v_r32_i_i_i_i_i + (u64)(v_r65_i_i_i_i_i));
     v_r32_i327_i_i = (u64)((u64)(v_r35_i_i_i_i_i) - (u64)(v_r65_i_i_i_i_i));
     v_r15_i_i_i_i = v_r53_i_i_i_i_i == 0u;
     if (v_r15_i_i_i_i) { goto L_der_core_decode_AnyDecodeRefSliceU8_from_der_f3668; } else { goto L_join_4_i_i_i_i; }
 L_join_4_i_i_i_i:;
     v_r22_i19_i_i_i = (u64)((u64)(v_r65_i_i_i_i_i) + (u64)(18446744073709551615ull));
-    v_r25_i_i_i_i = (P)((uintptr_t)v_r32_i_i_i_i_i + (u64)(v_r22_i19_i_i_i));
+    v_r25_i_i_i_i = (P)((u64)v_r32_i_i_i_i_i + (u64)(v_r22_i19_i_i_i));
     v_r35_i20_i_i_i = get_u8(v_r25_i_i_i_i);
     v_r37_i21_i_i_i = (u8)(v_r35_i20_i_i_i ^ ((u8)1 << 7)) > (u8)(255u ^ ((u8)1 << 7));
     if (v_r37_i21_i_i_i) { goto L_then_5_i_i_i_i; } else { goto L_join_5_preheader_i_i_i; }
@@ -39047,7 +39119,7 @@ L_tailrecurse_backedge_i_i_i:;
     v_sink18_i_i_i = p_v_sink18_i_i_i;
     v_sink_i336_i_i = p_v_sink_i336_i_i;
     v_r99_i_i_i = (u64)((u64)(v_sink18_i_i_i) + (u64)(v_a1_tr14_i_i_i));
-    v_r96_i337_i_i = (P)((uintptr_t)v_a0_tr13_i_i_i + (u64)(v_sink_i336_i_i));
+    v_r96_i337_i_i = (P)((u64)v_a0_tr13_i_i_i + (u64)(v_sink_i336_i_i));
     v_r82_i338_i_i = v_r99_i_i_i == 0u;
     if (v_r82_i338_i_i) { goto L_then_1_i18_i_i_i; } else { p_v_a1_tr14_i_i_i = v_r99_i_i_i; p_v_a0_tr13_i_i_i = v_r96_i337_i_i; goto L_join_4_i_i_i; }
 L_join_7_i335_i_i:;
@@ -39115,7 +39187,7 @@ L_join_5_i_i_i:;
     v_r29_i341_i_i = v_r27_i340_i_i == 128u;
     if (v_r29_i341_i_i) { goto L_spki_core_object_identifier_is_start_exit_i_i_i; } else { goto L_after_6_i_i_i; }
 L_spki_core_object_identifier_is_start_exit_i_i_i:;
-    v_r14_i_i344_i_i = (P)((uintptr_t)v_r25_i339_i_i + (u64)(-1));
+    v_r14_i_i344_i_i = (P)((u64)v_r25_i339_i_i + (u64)(-1));
     v_r16_i_i345_i_i = get_u8(v_r14_i_i344_i_i);
     v_r18_i_i346_i_i = (u8)(v_r16_i_i345_i_i ^ ((u8)1 << 7)) > (u8)(255u ^ ((u8)1 << 7));
     if (v_r18_i_i346_i_i) { goto L_der_core_decode_AnyDecodeRefSliceU8_from_der_f3668; } else { goto L_after_6_i_i_i; }
@@ -39206,7 +39278,7 @@ L_join_5_i_preheader_i_i_i:;
     v_r20_i_3_i_i_i = (u1)(((u32)(v_r20_i_2_i_i_i) | (u32)(v_r7_i_i_i_3_i_i_i)) & 1);
     if (v_r20_i_3_i_i_i) { p_v_r0_sroa_11_0_i_ph_i = 6u; goto L_arm_2_thread_i; } else { goto L_core_cmp_PartialEq_ne_4f69ed2539eb7fe9_exit_i_i; }
 L_core_cmp_PartialEq_ne_4f69ed2539eb7fe9_exit_i_i:;
-    v_r83_i_i_i_i = f_core_cmp_slices_groups_equal_i8_31_core_cmp_number(v_r7_sroa_13_sroa_1_01258_i_i, 9u, (P)f_static_32);
+    v_r83_i_i_i_i = f_core_cmp_slices_groups_equal_i8_31_core_cmp_number(v_r7_sroa_13_sroa_1_01258_i_i, 9u, AT(f_static_32));
     if (v_r83_i_i_i_i) { goto L_join_3_i188_i_i; } else { p_v_r0_sroa_11_0_i_ph_i = 6u; goto L_arm_2_thread_i; }
 L_join_3_i188_i_i:;
     v_6 = v_r7_sroa_16_sroa_0_01260_i_i == 1u;
@@ -39217,7 +39289,7 @@ L_arm_1_i152_i_i:;
     if (v_r7_i_i_i463_not_i_i) { goto L_join_3_i210_i_i; } else { goto L_pkcs1_params_algorithm_AnyFromAlgorithm_from_algor; }
 L_join_3_i210_i_i:;
     v_r7_i464_i_i = v_r7_sroa_19_sroa_5_01257_i_i == 0u;
-    if (v_r7_i464_i_i) { p_v_r0_i205_sroa_8_sroa_14_sroa_20_sroa_0_0_ph_i_i = 5u; p_v_r0_i205_sroa_8_sroa_14_sroa_20_sroa_8_0_ph_i_i = (P)f_static_22; p_v_r0_i205_sroa_8_sroa_14_sroa_20_sroa_11_0_ph_i_i = 0u; p_v_r0_i205_sroa_8_sroa_14_sroa_14_sroa_0_0_ph_i_i = (P)f_static_24; p_v_r0_i205_sroa_8_sroa_14_sroa_14_sroa_8_0_ph_i_i = 5u; p_v_r0_i205_sroa_8_sroa_11_sroa_0_0_ph_i_i = 5u; p_v_r0_i205_sroa_8_sroa_11_sroa_8_0_ph_i_i = (P)f_static_22; p_v_r0_i205_sroa_8_sroa_11_sroa_11_0_ph_i_i = 0u; p_v_r0_i205_sroa_8_sroa_0_sroa_0_0_ph_i_i = (P)f_static_24; p_v_r0_i205_sroa_8_sroa_0_sroa_8_0_ph_i_i = 5u; p_v_r0_i205_sroa_8_sroa_14_sroa_0_0_ph_i_i = (P)f_static_25; p_v_r0_i205_sroa_8_sroa_14_sroa_8_0_ph_i_i = 9u; p_v_r0_i205_sroa_8_sroa_14_sroa_11_0_ph_i_i = 1u; p_v_r0_i205_sroa_8_sroa_14_sroa_17_0_ph_i_i = 1u; p_v_r0_i205_sroa_8_sroa_8_0_ph_i_i = 1u; p_v_r0_i205_sroa_8_sroa_17_0_ph_i_i = 20u; goto L_pkcs1_params_algorithm_AnyFromAlgorithm_from_algor__2; } else { goto L_join_3_i228_i_i; }
+    if (v_r7_i464_i_i) { p_v_r0_i205_sroa_8_sroa_14_sroa_20_sroa_0_0_ph_i_i = 5u; p_v_r0_i205_sroa_8_sroa_14_sroa_20_sroa_8_0_ph_i_i = AT(f_static_22); p_v_r0_i205_sroa_8_sroa_14_sroa_20_sroa_11_0_ph_i_i = 0u; p_v_r0_i205_sroa_8_sroa_14_sroa_14_sroa_0_0_ph_i_i = AT(f_static_24); p_v_r0_i205_sroa_8_sroa_14_sroa_14_sroa_8_0_ph_i_i = 5u; p_v_r0_i205_sroa_8_sroa_11_sroa_0_0_ph_i_i = 5u; p_v_r0_i205_sroa_8_sroa_11_sroa_8_0_ph_i_i = AT(f_static_22); p_v_r0_i205_sroa_8_sroa_11_sroa_11_0_ph_i_i = 0u; p_v_r0_i205_sroa_8_sroa_0_sroa_0_0_ph_i_i = AT(f_static_24); p_v_r0_i205_sroa_8_sroa_0_sroa_8_0_ph_i_i = 5u; p_v_r0_i205_sroa_8_sroa_14_sroa_0_0_ph_i_i = AT(f_static_25); p_v_r0_i205_sroa_8_sroa_14_sroa_8_0_ph_i_i = 9u; p_v_r0_i205_sroa_8_sroa_14_sroa_11_0_ph_i_i = 1u; p_v_r0_i205_sroa_8_sroa_14_sroa_17_0_ph_i_i = 1u; p_v_r0_i205_sroa_8_sroa_8_0_ph_i_i = 1u; p_v_r0_i205_sroa_8_sroa_17_0_ph_i_i = 20u; goto L_pkcs1_params_algorithm_AnyFromAlgorithm_from_algor__2; } else { goto L_join_3_i228_i_i; }
 L_join_3_i228_i_i:;
     fill(v_r18_i269_i_i, 0u, 128u);
     v_r27_not_i_i_i = v_r7_sroa_19_sroa_5_01257_i_i == 52u;
@@ -39378,13 +39450,13 @@ L_arm_1_i:;
     v_r0_sroa_26_i_sroa_23_3_copyload119_i = p_v_r0_sroa_26_i_sroa_23_3_copyload119_i;
     v_20 = v_r0_sroa_26_i_sroa_7_3_copyload130_i == 0u;
     v_r5_sroa_6_0_i_i_i = v_20 ? 0u : v_19;
-    v_r5_sroa_81_0_i_i_i = v_20 ? (P)f_static_22 : v_r0_sroa_26_i_sroa_10_3_copyload129_i;
+    v_r5_sroa_81_0_i_i_i = v_20 ? AT(f_static_22) : v_r0_sroa_26_i_sroa_10_3_copyload129_i;
     v_r5_sroa_10_0_i_i_i = v_20 ? 0u : v_r0_sroa_26_i_sroa_11_3_copyload128_i;
     v_21 = v_r0_sroa_26_i_sroa_14_3_copyload125_i == 0u;
-    if (v_21) { p_v_r5_sroa_61_0_i_i_i = (P)f_static_22; p_v_r5_sroa_8_0_i_i_i = 0u; p_v_r5_sroa_9_0_i_i_i = 0u; p_v_r5_sroa_10_0_i6_i_i = 0u; p_v_r5_sroa_12_0_i_i_i = (P)f_static_22; p_v_r5_sroa_13_0_i_i_i = 0u; goto L_pkcs1_c_pss_to_c_pss_exit_i; } else { goto L_arm_2_i5_i_i; }
+    if (v_21) { p_v_r5_sroa_61_0_i_i_i = AT(f_static_22); p_v_r5_sroa_8_0_i_i_i = 0u; p_v_r5_sroa_9_0_i_i_i = 0u; p_v_r5_sroa_10_0_i6_i_i = 0u; p_v_r5_sroa_12_0_i_i_i = AT(f_static_22); p_v_r5_sroa_13_0_i_i_i = 0u; goto L_pkcs1_c_pss_to_c_pss_exit_i; } else { goto L_arm_2_i5_i_i; }
 L_arm_2_i5_i_i:;
     v_22 = v_r0_sroa_26_i_sroa_18_3_copyload122_i == 0u;
-    if (v_22) { p_v_r5_sroa_61_0_i_i_i = v_r0_sroa_26_i_sroa_16_3_copyload124_i; p_v_r5_sroa_8_0_i_i_i = v_r0_sroa_26_i_sroa_17_3_copyload123_i; p_v_r5_sroa_9_0_i_i_i = 0u; p_v_r5_sroa_10_0_i6_i_i = 0u; p_v_r5_sroa_12_0_i_i_i = (P)f_static_22; p_v_r5_sroa_13_0_i_i_i = 0u; goto L_pkcs1_c_pss_to_c_pss_exit_i; } else { goto L_arm_2_i_i_i_i; }
+    if (v_22) { p_v_r5_sroa_61_0_i_i_i = v_r0_sroa_26_i_sroa_16_3_copyload124_i; p_v_r5_sroa_8_0_i_i_i = v_r0_sroa_26_i_sroa_17_3_copyload123_i; p_v_r5_sroa_9_0_i_i_i = 0u; p_v_r5_sroa_10_0_i6_i_i = 0u; p_v_r5_sroa_12_0_i_i_i = AT(f_static_22); p_v_r5_sroa_13_0_i_i_i = 0u; goto L_pkcs1_c_pss_to_c_pss_exit_i; } else { goto L_arm_2_i_i_i_i; }
 L_arm_2_i_i_i_i:;
     { p_v_r5_sroa_61_0_i_i_i = v_r0_sroa_26_i_sroa_16_3_copyload124_i; p_v_r5_sroa_8_0_i_i_i = v_r0_sroa_26_i_sroa_17_3_copyload123_i; p_v_r5_sroa_9_0_i_i_i = v_r0_sroa_26_i_sroa_18_3_copyload122_i; p_v_r5_sroa_10_0_i6_i_i = v_18; p_v_r5_sroa_12_0_i_i_i = v_r0_sroa_26_i_sroa_21_3_copyload121_i; p_v_r5_sroa_13_0_i_i_i = v_r0_sroa_26_i_sroa_22_3_copyload120_i; goto L_pkcs1_c_pss_to_c_pss_exit_i; }
 L_pkcs1_c_pss_to_c_pss_exit_i:;
@@ -39459,7 +39531,7 @@ L_pkcs1_c_pss_algorithm_pkcs1_c_pss_algorithm_decode:;
     v_r6_0_i = p_v_r6_0_i;
     return v_r6_0_i;
 }
-u32 pkcs1_c_pss_algorithm_decode_strict(P v_a0, u64 v_a1, P v_a2) {
+u32 NAME(pss_algorithm_decode_strict)(P v_a0, u64 v_a1, P v_a2) {
     ALIGNED(1) unsigned char m_v_r0_i489_i_i_i[5];
     ALIGNED(8) unsigned char m_v_r4_i482_i_i_i[32];
     ALIGNED(8) unsigned char m_v_r18_i217_i_i_i[128];
@@ -39900,15 +39972,15 @@ u32 pkcs1_c_pss_algorithm_decode_strict(P v_a0, u64 v_a1, P v_a2) {
     u32 v_switch_idx_cast_i_i_i;
     u32 v_switch_offset_i_i_i;
     u32 v_r6_0_i;
-    v_r0_i489_i_i_i = m_v_r0_i489_i_i_i;
-    v_r4_i482_i_i_i = m_v_r4_i482_i_i_i;
-    v_r18_i217_i_i_i = m_v_r18_i217_i_i_i;
-    v_r0_i_i_i_i = m_v_r0_i_i_i_i;
-    v_r26_i_i_i = m_v_r26_i_i_i;
-    v_r27_i_i_i = m_v_r27_i_i_i;
+    v_r0_i489_i_i_i = AT(m_v_r0_i489_i_i_i);
+    v_r4_i482_i_i_i = AT(m_v_r4_i482_i_i_i);
+    v_r18_i217_i_i_i = AT(m_v_r18_i217_i_i_i);
+    v_r0_i_i_i_i = AT(m_v_r0_i_i_i_i);
+    v_r26_i_i_i = AT(m_v_r26_i_i_i);
+    v_r27_i_i_i = AT(m_v_r27_i_i_i);
     v_r1 = v_a0 == (P)0;
     v_r3 = v_r1 ? 4096u : 0u;
-    v_r4 = (P)((uintptr_t)v_a0 + (u64)(v_r3));
+    v_r4 = (P)((u64)v_a0 + (u64)(v_r3));
     fill(v_r26_i_i_i, 0u, 136u);
     fill(v_r27_i_i_i, 0u, 24u);
     fill(v_r0_i_i_i_i, 0u, 56u);
@@ -39948,13 +40020,13 @@ L_then_9_i_i_i_i_i_i:;
     v_r15_i271_i_i_i = v_r35_i_i_i_i_i_i < v_r65_i_i_i_i_i_i;
     if (v_r15_i271_i_i_i) { goto L_der_core_decode_AnyDecodeRefSliceU8_from_der_f3668; } else { goto L_arm_1_i_i_i_i_i; }
 L_arm_1_i_i_i_i_i:;
-    v_r29_i273_i_i_i = (P)((uintptr_t)v_r32_i_i_i_i_i_i + (u64)(v_r65_i_i_i_i_i_i));
+    v_r29_i273_i_i_i = (P)((u64)v_r32_i_i_i_i_i_i + (u64)(v_r65_i_i_i_i_i_i));
     v_r32_i274_i_i_i = (u64)((u64)(v_r35_i_i_i_i_i_i) - (u64)(v_r65_i_i_i_i_i_i));
     v_r15_i_i_i_i_i = v_r53_i_i_i_i_i_i == 0u;
     if (v_r15_i_i_i_i_i) { goto L_der_core_decode_AnyDecodeRefSliceU8_from_der_f3668; } else { goto L_join_4_i_i_i_i_i; }
 L_join_4_i_i_i_i_i:;
     v_r22_i19_i_i_i_i = (u64)((u64)(v_r65_i_i_i_i_i_i) + (u64)(18446744073709551615ull));
-    v_r25_i_i_i_i_i = (P)((uintptr_t)v_r32_i_i_i_i_i_i + (u64)(v_r22_i19_i_i_i_i));
+    v_r25_i_i_i_i_i = (P)((u64)v_r32_i_i_i_i_i_i + (u64)(v_r22_i19_i_i_i_i));
     v_r35_i20_i_i_i_i = get_u8(v_r25_i_i_i_i_i);
     v_r37_i21_i_i_i_i = (u8)(v_r35_i20_i_i_i_i ^ ((u8)1 << 7)) > (u8)(255u ^ ((u8)1 << 7));
     if (v_r37_i21_i_i_i_i) { goto L_then_5_i_i_i_i_i; } else { goto L_join_5_preheader_i_i_i_i; }
@@ -39974,7 +40046,7 @@ L_tailrecurse_backedge_i_i_i_i:;
     v_sink18_i_i_i_i = p_v_sink18_i_i_i_i;
     v_sink_i283_i_i_i = p_v_sink_i283_i_i_i;
     v_r99_i_i_i_i = (u64)((u64)(v_sink18_i_i_i_i) + (u64)(v_a1_tr14_i_i_i_i));
-    v_r96_i284_i_i_i = (P)((uintptr_t)v_a0_tr13_i_i_i_i + (u64)(v_sink_i283_i_i_i));
+    v_r96_i284_i_i_i = (P)((u64)v_a0_tr13_i_i_i_i + (u64)(v_sink_i283_i_i_i));
     v_r82_i285_i_i_i = v_r99_i_i_i_i == 0u;
     if (v_r82_i285_i_i_i) { goto L_then_1_i18_i_i_i_i; } else { p_v_a1_tr14_i_i_i_i = v_r99_i_i_i_i; p_v_a0_tr13_i_i_i_i = v_r96_i284_i_i_i; goto L_join_4_i_i_i_i; }
 L_join_7_i282_i_i_i:;
@@ -40042,7 +40114,7 @@ L_join_5_i_i_i_i:;
     v_r29_i288_i_i_i = v_r27_i287_i_i_i == 128u;
     if (v_r29_i288_i_i_i) { goto L_spki_core_object_identifier_is_start_exit_i_i_i_i; } else { goto L_after_6_i_i_i_i; }
 L_spki_core_object_identifier_is_start_exit_i_i_i_i:;
-    v_r14_i_i291_i_i_i = (P)((uintptr_t)v_r25_i286_i_i_i + (u64)(-1));
+    v_r14_i_i291_i_i_i = (P)((u64)v_r25_i286_i_i_i + (u64)(-1));
     v_r16_i_i292_i_i_i = get_u8(v_r14_i_i291_i_i_i);
     v_r18_i_i293_i_i_i = (u8)(v_r16_i_i292_i_i_i ^ ((u8)1 << 7)) > (u8)(255u ^ ((u8)1 << 7));
     if (v_r18_i_i293_i_i_i) { goto L_der_core_decode_AnyDecodeRefSliceU8_from_der_f3668; } else { goto L_after_6_i_i_i_i; }
@@ -40131,7 +40203,7 @@ L_join_5_i_preheader_i_i_i_i:;
     v_r20_i_3_i_i_i_i = (u1)(((u32)(v_r20_i_2_i_i_i_i) | (u32)(v_r7_i_i_i_3_i_i_i_i)) & 1);
     if (v_r20_i_3_i_i_i_i) { p_v_r0_sroa_13_0_i_ph_ph_i = 6u; goto L_arm_2_thread_i; } else { goto L_core_cmp_PartialEq_ne_4f69ed2539eb7fe9_exit_i_i_i; }
 L_core_cmp_PartialEq_ne_4f69ed2539eb7fe9_exit_i_i_i:;
-    v_r83_i_i_i_i_i = f_core_cmp_slices_groups_equal_i8_31_core_cmp_number(v_r15_sroa_13_sroa_1_01567_i_i_i, 9u, (P)f_static_32);
+    v_r83_i_i_i_i_i = f_core_cmp_slices_groups_equal_i8_31_core_cmp_number(v_r15_sroa_13_sroa_1_01567_i_i_i, 9u, AT(f_static_32));
     if (v_r83_i_i_i_i_i) { goto L_join_3_i138_i_i_i; } else { p_v_r0_sroa_13_0_i_ph_ph_i = 6u; goto L_arm_2_thread_i; }
 L_join_3_i138_i_i_i:;
     v_6 = v_r15_sroa_16_sroa_0_01569_i_i_i == 1u;
@@ -40144,7 +40216,7 @@ L_join_3_i160_i_i_i:;
     v_r7_i416_i_i_i = v_r15_sroa_19_sroa_5_01566_i_i_i == 0u;
     if (v_r7_i416_i_i_i) { goto L_arm_2_i5_i_thread_i; } else { goto L_join_3_i178_i_i_i; }
 L_arm_2_i5_i_thread_i:;
-    { p_v_r0_sroa_281_0_i52109_i = (P)f_static_24; p_v_r0_sroa_35_0_i54108_i = 5u; p_v_r0_sroa_45_0_i56107_i = (P)f_static_25; p_v_r0_sroa_47_0_i58106_i = 9u; p_v_r0_sroa_51_0_i60105_i = (P)f_static_24; p_v_r0_sroa_53_0_i61104_i = 5u; p_v_r0_sroa_57_0_i62103_i = 5u; p_v_r0_sroa_59_0_i63102_i = (P)f_static_22; p_v_r0_sroa_61_0_i64101_i = 0u; p_v_r0_sroa_63_0_i65100_i = 20u; p_v_r3_sroa_5_sroa_0_0_extract_trunc6799_i = 1u; p_v_r3_sroa_17_sroa_0_0_extract_trunc6998_i = 1u; p_v_r3_sroa_23_sroa_0_0_extract_trunc7197_i = 1u; p_v_r5_sroa_6_0_i_i7296_i = 5u; p_v_r5_sroa_81_0_i_i7495_i = (P)f_static_22; p_v_r5_sroa_10_0_i_i7694_i = 0u; goto L_arm_2_i_i_i_i; }
+    { p_v_r0_sroa_281_0_i52109_i = AT(f_static_24); p_v_r0_sroa_35_0_i54108_i = 5u; p_v_r0_sroa_45_0_i56107_i = AT(f_static_25); p_v_r0_sroa_47_0_i58106_i = 9u; p_v_r0_sroa_51_0_i60105_i = AT(f_static_24); p_v_r0_sroa_53_0_i61104_i = 5u; p_v_r0_sroa_57_0_i62103_i = 5u; p_v_r0_sroa_59_0_i63102_i = AT(f_static_22); p_v_r0_sroa_61_0_i64101_i = 0u; p_v_r0_sroa_63_0_i65100_i = 20u; p_v_r3_sroa_5_sroa_0_0_extract_trunc6799_i = 1u; p_v_r3_sroa_17_sroa_0_0_extract_trunc6998_i = 1u; p_v_r3_sroa_23_sroa_0_0_extract_trunc7197_i = 1u; p_v_r5_sroa_6_0_i_i7296_i = 5u; p_v_r5_sroa_81_0_i_i7495_i = AT(f_static_22); p_v_r5_sroa_10_0_i_i7694_i = 0u; goto L_arm_2_i_i_i_i; }
 L_join_3_i178_i_i_i:;
     fill(v_r18_i217_i_i_i, 0u, 128u);
     v_r27_not_i_i_i_i = v_r15_sroa_19_sroa_5_01566_i_i_i == 52u;
@@ -40264,7 +40336,7 @@ L_arm_11_i_i_i:;
     f_spki_core_any_AnyRefDecodeRefSliceU8_from_der_45c7(v_r4_i482_i_i_i, v_r4, v_a1);
     v_r17_i483_i_i_i = get_u8(v_r4_i482_i_i_i);
     v_10 = v_r17_i483_i_i_i == 0u;
-    if (v_10) { goto L_arm_1_i485_i_i_i; } else { p_v_r6_sroa_4_0_i_i_i_i = 0u; p_v_r6_sroa_0_0_i_i_i_i = (P)f_static_22; goto L_pkcs1_params_algorithm_encoded_parameters_bb79543d; }
+    if (v_10) { goto L_arm_1_i485_i_i_i; } else { p_v_r6_sroa_4_0_i_i_i_i = 0u; p_v_r6_sroa_0_0_i_i_i_i = AT(f_static_22); goto L_pkcs1_params_algorithm_encoded_parameters_bb79543d; }
 L_arm_1_i485_i_i_i:;
     v_r3_sroa_2_0_r18_sroa_idx_i_i_i_i = v_r4_i482_i_i_i + 16;
     v_r3_sroa_2_0_copyload_i_i_i_i = get_P(v_r3_sroa_2_0_r18_sroa_idx_i_i_i_i);
@@ -40273,7 +40345,7 @@ L_arm_1_i485_i_i_i:;
     v_r14_i_i487_i_i_i = v_r3_sroa_3_0_copyload_i486_i_i_i > 10u;
     v_r19_i_i488_i_i_i = v_r3_sroa_2_0_copyload_i_i_i_i + 11;
     v_r5_sroa_4_0_i_i_i_i_i = v_r3_sroa_3_0_copyload_i486_i_i_i > 11u ? v_r3_sroa_3_0_copyload_i486_i_i_i - 11u : 0u;
-    v_r5_sroa_0_0_i_i_i_i_i = v_r14_i_i487_i_i_i ? v_r19_i_i488_i_i_i : (P)f_static_22;
+    v_r5_sroa_0_0_i_i_i_i_i = v_r14_i_i487_i_i_i ? v_r19_i_i488_i_i_i : AT(f_static_22);
     { p_v_r6_sroa_4_0_i_i_i_i = v_r5_sroa_4_0_i_i_i_i_i; p_v_r6_sroa_0_0_i_i_i_i = v_r5_sroa_0_0_i_i_i_i_i; goto L_pkcs1_params_algorithm_encoded_parameters_bb79543d; }
 L_pkcs1_params_algorithm_encoded_parameters_bb79543d:;
     v_r6_sroa_4_0_i_i_i_i = p_v_r6_sroa_4_0_i_i_i_i;
@@ -40314,14 +40386,14 @@ L_arm_1_i:;
     v_15 = v_r3_sroa_5_sroa_0_0_extract_trunc_i == 0u;
     v_r4_i_i_i_i_i = (u8)(v_r0_sroa_39_0_i_i);
     v_r5_sroa_6_0_i_i_i = v_15 ? 0u : v_r4_i_i_i_i_i;
-    v_r5_sroa_81_0_i_i_i = v_15 ? (P)f_static_22 : v_r0_sroa_41_0_i_i;
+    v_r5_sroa_81_0_i_i_i = v_15 ? AT(f_static_22) : v_r0_sroa_41_0_i_i;
     v_r5_sroa_10_0_i_i_i = v_15 ? 0u : v_r0_sroa_43_0_i_i;
     v_16 = v_r3_sroa_17_sroa_0_0_extract_trunc_i == 0u;
-    if (v_16) { p_v_r5_sroa_10_0_i_i77_i = v_r5_sroa_10_0_i_i_i; p_v_r5_sroa_81_0_i_i75_i = v_r5_sroa_81_0_i_i_i; p_v_r5_sroa_6_0_i_i73_i = v_r5_sroa_6_0_i_i_i; p_v_r3_sroa_17_sroa_0_0_extract_trunc70_i = 0u; p_v_r3_sroa_5_sroa_0_0_extract_trunc68_i = v_r3_sroa_5_sroa_0_0_extract_trunc_i; p_v_r0_sroa_63_0_i66_i = v_r0_sroa_63_0_i_i; p_v_r0_sroa_47_0_i59_i = v_r0_sroa_47_0_i_i; p_v_r0_sroa_45_0_i57_i = v_r0_sroa_45_0_i_i; p_v_r0_sroa_35_0_i55_i = v_r0_sroa_35_0_i_i; p_v_r0_sroa_281_0_i53_i = v_r0_sroa_281_0_i_i; p_v_r5_sroa_61_0_i_i_i = (P)f_static_22; p_v_r5_sroa_8_0_i_i_i = 0u; p_v_r5_sroa_9_0_i_i_i = 0u; p_v_r5_sroa_10_0_i6_i_i = 0u; p_v_r5_sroa_12_0_i_i_i = (P)f_static_22; p_v_r5_sroa_13_0_i_i_i = 0u; goto L_pkcs1_c_pss_to_c_pss_exit_i; } else { goto L_arm_2_i5_i_i; }
+    if (v_16) { p_v_r5_sroa_10_0_i_i77_i = v_r5_sroa_10_0_i_i_i; p_v_r5_sroa_81_0_i_i75_i = v_r5_sroa_81_0_i_i_i; p_v_r5_sroa_6_0_i_i73_i = v_r5_sroa_6_0_i_i_i; p_v_r3_sroa_17_sroa_0_0_extract_trunc70_i = 0u; p_v_r3_sroa_5_sroa_0_0_extract_trunc68_i = v_r3_sroa_5_sroa_0_0_extract_trunc_i; p_v_r0_sroa_63_0_i66_i = v_r0_sroa_63_0_i_i; p_v_r0_sroa_47_0_i59_i = v_r0_sroa_47_0_i_i; p_v_r0_sroa_45_0_i57_i = v_r0_sroa_45_0_i_i; p_v_r0_sroa_35_0_i55_i = v_r0_sroa_35_0_i_i; p_v_r0_sroa_281_0_i53_i = v_r0_sroa_281_0_i_i; p_v_r5_sroa_61_0_i_i_i = AT(f_static_22); p_v_r5_sroa_8_0_i_i_i = 0u; p_v_r5_sroa_9_0_i_i_i = 0u; p_v_r5_sroa_10_0_i6_i_i = 0u; p_v_r5_sroa_12_0_i_i_i = AT(f_static_22); p_v_r5_sroa_13_0_i_i_i = 0u; goto L_pkcs1_c_pss_to_c_pss_exit_i; } else { goto L_arm_2_i5_i_i; }
 L_arm_2_i5_i_i:;
     v_r3_sroa_23_sroa_0_0_extract_trunc_i = (u8)(v_r0_sroa_55_0_i_i);
     v_17 = v_r3_sroa_23_sroa_0_0_extract_trunc_i == 0u;
-    if (v_17) { p_v_r5_sroa_10_0_i_i77_i = v_r5_sroa_10_0_i_i_i; p_v_r5_sroa_81_0_i_i75_i = v_r5_sroa_81_0_i_i_i; p_v_r5_sroa_6_0_i_i73_i = v_r5_sroa_6_0_i_i_i; p_v_r3_sroa_17_sroa_0_0_extract_trunc70_i = v_r3_sroa_17_sroa_0_0_extract_trunc_i; p_v_r3_sroa_5_sroa_0_0_extract_trunc68_i = v_r3_sroa_5_sroa_0_0_extract_trunc_i; p_v_r0_sroa_63_0_i66_i = v_r0_sroa_63_0_i_i; p_v_r0_sroa_47_0_i59_i = v_r0_sroa_47_0_i_i; p_v_r0_sroa_45_0_i57_i = v_r0_sroa_45_0_i_i; p_v_r0_sroa_35_0_i55_i = v_r0_sroa_35_0_i_i; p_v_r0_sroa_281_0_i53_i = v_r0_sroa_281_0_i_i; p_v_r5_sroa_61_0_i_i_i = v_r0_sroa_51_0_i_i; p_v_r5_sroa_8_0_i_i_i = v_r0_sroa_53_0_i_i; p_v_r5_sroa_9_0_i_i_i = 0u; p_v_r5_sroa_10_0_i6_i_i = 0u; p_v_r5_sroa_12_0_i_i_i = (P)f_static_22; p_v_r5_sroa_13_0_i_i_i = 0u; goto L_pkcs1_c_pss_to_c_pss_exit_i; } else { p_v_r0_sroa_281_0_i52109_i = v_r0_sroa_281_0_i_i; p_v_r0_sroa_35_0_i54108_i = v_r0_sroa_35_0_i_i; p_v_r0_sroa_45_0_i56107_i = v_r0_sroa_45_0_i_i; p_v_r0_sroa_47_0_i58106_i = v_r0_sroa_47_0_i_i; p_v_r0_sroa_51_0_i60105_i = v_r0_sroa_51_0_i_i; p_v_r0_sroa_53_0_i61104_i = v_r0_sroa_53_0_i_i; p_v_r0_sroa_57_0_i62103_i = v_r0_sroa_57_0_i_i; p_v_r0_sroa_59_0_i63102_i = v_r0_sroa_59_0_i_i; p_v_r0_sroa_61_0_i64101_i = v_r0_sroa_61_0_i_i; p_v_r0_sroa_63_0_i65100_i = v_r0_sroa_63_0_i_i; p_v_r3_sroa_5_sroa_0_0_extract_trunc6799_i = v_r3_sroa_5_sroa_0_0_extract_trunc_i; p_v_r3_sroa_17_sroa_0_0_extract_trunc6998_i = v_r3_sroa_17_sroa_0_0_extract_trunc_i; p_v_r3_sroa_23_sroa_0_0_extract_trunc7197_i = v_r3_sroa_23_sroa_0_0_extract_trunc_i; p_v_r5_sroa_6_0_i_i7296_i = v_r5_sroa_6_0_i_i_i; p_v_r5_sroa_81_0_i_i7495_i = v_r5_sroa_81_0_i_i_i; p_v_r5_sroa_10_0_i_i7694_i = v_r5_sroa_10_0_i_i_i; goto L_arm_2_i_i_i_i; }
+    if (v_17) { p_v_r5_sroa_10_0_i_i77_i = v_r5_sroa_10_0_i_i_i; p_v_r5_sroa_81_0_i_i75_i = v_r5_sroa_81_0_i_i_i; p_v_r5_sroa_6_0_i_i73_i = v_r5_sroa_6_0_i_i_i; p_v_r3_sroa_17_sroa_0_0_extract_trunc70_i = v_r3_sroa_17_sroa_0_0_extract_trunc_i; p_v_r3_sroa_5_sroa_0_0_extract_trunc68_i = v_r3_sroa_5_sroa_0_0_extract_trunc_i; p_v_r0_sroa_63_0_i66_i = v_r0_sroa_63_0_i_i; p_v_r0_sroa_47_0_i59_i = v_r0_sroa_47_0_i_i; p_v_r0_sroa_45_0_i57_i = v_r0_sroa_45_0_i_i; p_v_r0_sroa_35_0_i55_i = v_r0_sroa_35_0_i_i; p_v_r0_sroa_281_0_i53_i = v_r0_sroa_281_0_i_i; p_v_r5_sroa_61_0_i_i_i = v_r0_sroa_51_0_i_i; p_v_r5_sroa_8_0_i_i_i = v_r0_sroa_53_0_i_i; p_v_r5_sroa_9_0_i_i_i = 0u; p_v_r5_sroa_10_0_i6_i_i = 0u; p_v_r5_sroa_12_0_i_i_i = AT(f_static_22); p_v_r5_sroa_13_0_i_i_i = 0u; goto L_pkcs1_c_pss_to_c_pss_exit_i; } else { p_v_r0_sroa_281_0_i52109_i = v_r0_sroa_281_0_i_i; p_v_r0_sroa_35_0_i54108_i = v_r0_sroa_35_0_i_i; p_v_r0_sroa_45_0_i56107_i = v_r0_sroa_45_0_i_i; p_v_r0_sroa_47_0_i58106_i = v_r0_sroa_47_0_i_i; p_v_r0_sroa_51_0_i60105_i = v_r0_sroa_51_0_i_i; p_v_r0_sroa_53_0_i61104_i = v_r0_sroa_53_0_i_i; p_v_r0_sroa_57_0_i62103_i = v_r0_sroa_57_0_i_i; p_v_r0_sroa_59_0_i63102_i = v_r0_sroa_59_0_i_i; p_v_r0_sroa_61_0_i64101_i = v_r0_sroa_61_0_i_i; p_v_r0_sroa_63_0_i65100_i = v_r0_sroa_63_0_i_i; p_v_r3_sroa_5_sroa_0_0_extract_trunc6799_i = v_r3_sroa_5_sroa_0_0_extract_trunc_i; p_v_r3_sroa_17_sroa_0_0_extract_trunc6998_i = v_r3_sroa_17_sroa_0_0_extract_trunc_i; p_v_r3_sroa_23_sroa_0_0_extract_trunc7197_i = v_r3_sroa_23_sroa_0_0_extract_trunc_i; p_v_r5_sroa_6_0_i_i7296_i = v_r5_sroa_6_0_i_i_i; p_v_r5_sroa_81_0_i_i7495_i = v_r5_sroa_81_0_i_i_i; p_v_r5_sroa_10_0_i_i7694_i = v_r5_sroa_10_0_i_i_i; goto L_arm_2_i_i_i_i; }
 L_arm_2_i_i_i_i:;
     v_r0_sroa_281_0_i52109_i = p_v_r0_sroa_281_0_i52109_i;
     v_r0_sroa_35_0_i54108_i = p_v_r0_sroa_35_0_i54108_i;
@@ -40428,7 +40500,7 @@ L_pkcs1_c_pss_algorithm_pkcs1_c_pss_algorithm_decode:;
     v_r6_0_i = p_v_r6_0_i;
     return v_r6_0_i;
 }
-u32 pkcs1_c_pss_params_decode(P v_a0, u64 v_a1, P v_a2) {
+u32 NAME(pss_params_decode)(P v_a0, u64 v_a1, P v_a2) {
     ALIGNED(8) unsigned char m_v_r0_i84_i_i[136];
     ALIGNED(8) unsigned char m_v_r14_i87_i_i[136];
     ALIGNED(8) unsigned char m_v_r18_i_i_i_i[128];
@@ -40718,12 +40790,12 @@ u32 pkcs1_c_pss_params_decode(P v_a0, u64 v_a1, P v_a2) {
     u32 v_switch_idx_cast_i_i_i;
     u32 v_switch_offset_i_i_i;
     u32 v_r6_0_i;
-    v_r0_i84_i_i = m_v_r0_i84_i_i;
-    v_r14_i87_i_i = m_v_r14_i87_i_i;
-    v_r18_i_i_i_i = m_v_r18_i_i_i_i;
+    v_r0_i84_i_i = AT(m_v_r0_i84_i_i);
+    v_r14_i87_i_i = AT(m_v_r14_i87_i_i);
+    v_r18_i_i_i_i = AT(m_v_r18_i_i_i_i);
     v_r1 = v_a0 == (P)0;
     v_r3 = v_r1 ? 4096u : 0u;
-    v_r4 = (P)((uintptr_t)v_a0 + (u64)(v_r3));
+    v_r4 = (P)((u64)v_a0 + (u64)(v_r3));
     v_r21_i_i_i_i = v_a1 < 2u;
     if (v_r21_i_i_i_i) { goto L_arm_2_i_i_thread_i; } else { goto L_join_5_i_i_i_i; }
 L_arm_2_i_i_thread_i:;
@@ -40745,7 +40817,7 @@ L_arm_6_i_i_i_i:;
     if (v_or_cond_i_i) { goto L_arm_1_i12_i_i; } else { goto L_arm_2_i_i_i; }
 L_arm_1_i12_i_i:;
     v_r7_i120_i_i = v_r36_i_i_i_i == 0u;
-    if (v_r7_i120_i_i) { p_v_r5_i_sroa_19_sroa_21_01140_i83140_i = 20u; p_v_r5_i_sroa_19_sroa_20_01139_i85139_i = 0u; p_v_r5_i_sroa_19_sroa_19_01138_i86138_i = (P)f_static_22; p_v_r5_i_sroa_19_sroa_18_01137_i87137_i = 5u; p_v_r5_i_sroa_19_sroa_16_01135_i88136_i = 5u; p_v_r5_i_sroa_19_sroa_15_01134_i89135_i = (P)f_static_24; p_v_r5_i_sroa_19_sroa_13_01132_i90134_i = 9u; p_v_r5_i_sroa_19_sroa_12_01131_i92133_i = (P)f_static_25; p_v_r5_i_sroa_19_sroa_7_01126_i94132_i = 5u; p_v_r5_i_sroa_19_sroa_3_01125_i96131_i = (P)f_static_24; p_v_r3_sroa_5_sroa_0_0_extract_trunc98130_i = 1u; p_v_r3_sroa_17_sroa_0_0_extract_trunc100129_i = 1u; p_v_r3_sroa_23_sroa_0_0_extract_trunc102128_i = 1u; p_v_r5_sroa_6_0_i_i103127_i = 5u; p_v_r5_sroa_81_0_i_i105126_i = (P)f_static_22; p_v_r5_sroa_10_0_i_i107125_i = 0u; goto L_arm_2_i_i_i_i; } else { goto L_join_3_i_i_i; }
+    if (v_r7_i120_i_i) { p_v_r5_i_sroa_19_sroa_21_01140_i83140_i = 20u; p_v_r5_i_sroa_19_sroa_20_01139_i85139_i = 0u; p_v_r5_i_sroa_19_sroa_19_01138_i86138_i = AT(f_static_22); p_v_r5_i_sroa_19_sroa_18_01137_i87137_i = 5u; p_v_r5_i_sroa_19_sroa_16_01135_i88136_i = 5u; p_v_r5_i_sroa_19_sroa_15_01134_i89135_i = AT(f_static_24); p_v_r5_i_sroa_19_sroa_13_01132_i90134_i = 9u; p_v_r5_i_sroa_19_sroa_12_01131_i92133_i = AT(f_static_25); p_v_r5_i_sroa_19_sroa_7_01126_i94132_i = 5u; p_v_r5_i_sroa_19_sroa_3_01125_i96131_i = AT(f_static_24); p_v_r3_sroa_5_sroa_0_0_extract_trunc98130_i = 1u; p_v_r3_sroa_17_sroa_0_0_extract_trunc100129_i = 1u; p_v_r3_sroa_23_sroa_0_0_extract_trunc102128_i = 1u; p_v_r5_sroa_6_0_i_i103127_i = 5u; p_v_r5_sroa_81_0_i_i105126_i = AT(f_static_22); p_v_r5_sroa_10_0_i_i107125_i = 0u; goto L_arm_2_i_i_i_i; } else { goto L_join_3_i_i_i; }
 L_join_3_i_i_i:;
     v_r27_not_i_i_i_i = v_r36_i_i_i_i == 52u;
     if (v_r27_not_i_i_i_i) { goto L_then_6_i_i_i_i; } else { p_v_r43_i_i103_i_i_pre = 48u; goto L_arm_2_i_i_thread58_i; }
@@ -40944,14 +41016,14 @@ L_arm_1_i:;
     v_6 = v_r3_sroa_5_sroa_0_0_extract_trunc_i == 0u;
     v_r4_i_i_i_i_i = (u8)(v_r5_i_sroa_19_sroa_9_01128_i_i);
     v_r5_sroa_6_0_i_i_i = v_6 ? 0u : v_r4_i_i_i_i_i;
-    v_r5_sroa_81_0_i_i_i = v_6 ? (P)f_static_22 : v_r5_i_sroa_19_sroa_10_01129_i_i;
+    v_r5_sroa_81_0_i_i_i = v_6 ? AT(f_static_22) : v_r5_i_sroa_19_sroa_10_01129_i_i;
     v_r5_sroa_10_0_i_i_i = v_6 ? 0u : v_r5_i_sroa_19_sroa_11_01130_i_i;
     v_7 = v_r3_sroa_17_sroa_0_0_extract_trunc_i == 0u;
-    if (v_7) { p_v_r5_sroa_10_0_i_i108_i = v_r5_sroa_10_0_i_i_i; p_v_r5_sroa_81_0_i_i106_i = v_r5_sroa_81_0_i_i_i; p_v_r5_sroa_6_0_i_i104_i = v_r5_sroa_6_0_i_i_i; p_v_r3_sroa_17_sroa_0_0_extract_trunc101_i = 0u; p_v_r3_sroa_5_sroa_0_0_extract_trunc99_i = v_r3_sroa_5_sroa_0_0_extract_trunc_i; p_v_r5_i_sroa_19_sroa_3_01125_i97_i = v_r5_i_sroa_19_sroa_3_01125_i_i; p_v_r5_i_sroa_19_sroa_7_01126_i95_i = v_r5_i_sroa_19_sroa_7_01126_i_i; p_v_r5_i_sroa_19_sroa_12_01131_i93_i = v_r5_i_sroa_19_sroa_12_01131_i_i; p_v_r5_i_sroa_19_sroa_13_01132_i91_i = v_r5_i_sroa_19_sroa_13_01132_i_i; p_v_r5_i_sroa_19_sroa_21_01140_i84_i = v_r5_i_sroa_19_sroa_21_01140_i_i; p_v_r5_sroa_61_0_i_i_i = (P)f_static_22; p_v_r5_sroa_8_0_i_i_i = 0u; p_v_r5_sroa_9_0_i_i_i = 0u; p_v_r5_sroa_10_0_i6_i_i = 0u; p_v_r5_sroa_12_0_i_i_i = (P)f_static_22; p_v_r5_sroa_13_0_i_i_i = 0u; goto L_pkcs1_c_pss_to_c_pss_exit_i; } else { goto L_arm_2_i5_i_i; }
+    if (v_7) { p_v_r5_sroa_10_0_i_i108_i = v_r5_sroa_10_0_i_i_i; p_v_r5_sroa_81_0_i_i106_i = v_r5_sroa_81_0_i_i_i; p_v_r5_sroa_6_0_i_i104_i = v_r5_sroa_6_0_i_i_i; p_v_r3_sroa_17_sroa_0_0_extract_trunc101_i = 0u; p_v_r3_sroa_5_sroa_0_0_extract_trunc99_i = v_r3_sroa_5_sroa_0_0_extract_trunc_i; p_v_r5_i_sroa_19_sroa_3_01125_i97_i = v_r5_i_sroa_19_sroa_3_01125_i_i; p_v_r5_i_sroa_19_sroa_7_01126_i95_i = v_r5_i_sroa_19_sroa_7_01126_i_i; p_v_r5_i_sroa_19_sroa_12_01131_i93_i = v_r5_i_sroa_19_sroa_12_01131_i_i; p_v_r5_i_sroa_19_sroa_13_01132_i91_i = v_r5_i_sroa_19_sroa_13_01132_i_i; p_v_r5_i_sroa_19_sroa_21_01140_i84_i = v_r5_i_sroa_19_sroa_21_01140_i_i; p_v_r5_sroa_61_0_i_i_i = AT(f_static_22); p_v_r5_sroa_8_0_i_i_i = 0u; p_v_r5_sroa_9_0_i_i_i = 0u; p_v_r5_sroa_10_0_i6_i_i = 0u; p_v_r5_sroa_12_0_i_i_i = AT(f_static_22); p_v_r5_sroa_13_0_i_i_i = 0u; goto L_pkcs1_c_pss_to_c_pss_exit_i; } else { goto L_arm_2_i5_i_i; }
 L_arm_2_i5_i_i:;
     v_r3_sroa_23_sroa_0_0_extract_trunc_i = (u8)(v_r5_i_sroa_19_sroa_17_01136_i_i);
     v_8 = v_r3_sroa_23_sroa_0_0_extract_trunc_i == 0u;
-    if (v_8) { p_v_r5_sroa_10_0_i_i108_i = v_r5_sroa_10_0_i_i_i; p_v_r5_sroa_81_0_i_i106_i = v_r5_sroa_81_0_i_i_i; p_v_r5_sroa_6_0_i_i104_i = v_r5_sroa_6_0_i_i_i; p_v_r3_sroa_17_sroa_0_0_extract_trunc101_i = v_r3_sroa_17_sroa_0_0_extract_trunc_i; p_v_r3_sroa_5_sroa_0_0_extract_trunc99_i = v_r3_sroa_5_sroa_0_0_extract_trunc_i; p_v_r5_i_sroa_19_sroa_3_01125_i97_i = v_r5_i_sroa_19_sroa_3_01125_i_i; p_v_r5_i_sroa_19_sroa_7_01126_i95_i = v_r5_i_sroa_19_sroa_7_01126_i_i; p_v_r5_i_sroa_19_sroa_12_01131_i93_i = v_r5_i_sroa_19_sroa_12_01131_i_i; p_v_r5_i_sroa_19_sroa_13_01132_i91_i = v_r5_i_sroa_19_sroa_13_01132_i_i; p_v_r5_i_sroa_19_sroa_21_01140_i84_i = v_r5_i_sroa_19_sroa_21_01140_i_i; p_v_r5_sroa_61_0_i_i_i = v_r5_i_sroa_19_sroa_15_01134_i_i; p_v_r5_sroa_8_0_i_i_i = v_r5_i_sroa_19_sroa_16_01135_i_i; p_v_r5_sroa_9_0_i_i_i = 0u; p_v_r5_sroa_10_0_i6_i_i = 0u; p_v_r5_sroa_12_0_i_i_i = (P)f_static_22; p_v_r5_sroa_13_0_i_i_i = 0u; goto L_pkcs1_c_pss_to_c_pss_exit_i; } else { p_v_r5_i_sroa_19_sroa_21_01140_i83140_i = v_r5_i_sroa_19_sroa_21_01140_i_i; p_v_r5_i_sroa_19_sroa_20_01139_i85139_i = v_r5_i_sroa_19_sroa_20_01139_i_i; p_v_r5_i_sroa_19_sroa_19_01138_i86138_i = v_r5_i_sroa_19_sroa_19_01138_i_i; p_v_r5_i_sroa_19_sroa_18_01137_i87137_i = v_r5_i_sroa_19_sroa_18_01137_i_i; p_v_r5_i_sroa_19_sroa_16_01135_i88136_i = v_r5_i_sroa_19_sroa_16_01135_i_i; p_v_r5_i_sroa_19_sroa_15_01134_i89135_i = v_r5_i_sroa_19_sroa_15_01134_i_i; p_v_r5_i_sroa_19_sroa_13_01132_i90134_i = v_r5_i_sroa_19_sroa_13_01132_i_i; p_v_r5_i_sroa_19_sroa_12_01131_i92133_i = v_r5_i_sroa_19_sroa_12_01131_i_i; p_v_r5_i_sroa_19_sroa_7_01126_i94132_i = v_r5_i_sroa_19_sroa_7_01126_i_i; p_v_r5_i_sroa_19_sroa_3_01125_i96131_i = v_r5_i_sroa_19_sroa_3_01125_i_i; p_v_r3_sroa_5_sroa_0_0_extract_trunc98130_i = v_r3_sroa_5_sroa_0_0_extract_trunc_i; p_v_r3_sroa_17_sroa_0_0_extract_trunc100129_i = v_r3_sroa_17_sroa_0_0_extract_trunc_i; p_v_r3_sroa_23_sroa_0_0_extract_trunc102128_i = v_r3_sroa_23_sroa_0_0_extract_trunc_i; p_v_r5_sroa_6_0_i_i103127_i = v_r5_sroa_6_0_i_i_i; p_v_r5_sroa_81_0_i_i105126_i = v_r5_sroa_81_0_i_i_i; p_v_r5_sroa_10_0_i_i107125_i = v_r5_sroa_10_0_i_i_i; goto L_arm_2_i_i_i_i; }
+    if (v_8) { p_v_r5_sroa_10_0_i_i108_i = v_r5_sroa_10_0_i_i_i; p_v_r5_sroa_81_0_i_i106_i = v_r5_sroa_81_0_i_i_i; p_v_r5_sroa_6_0_i_i104_i = v_r5_sroa_6_0_i_i_i; p_v_r3_sroa_17_sroa_0_0_extract_trunc101_i = v_r3_sroa_17_sroa_0_0_extract_trunc_i; p_v_r3_sroa_5_sroa_0_0_extract_trunc99_i = v_r3_sroa_5_sroa_0_0_extract_trunc_i; p_v_r5_i_sroa_19_sroa_3_01125_i97_i = v_r5_i_sroa_19_sroa_3_01125_i_i; p_v_r5_i_sroa_19_sroa_7_01126_i95_i = v_r5_i_sroa_19_sroa_7_01126_i_i; p_v_r5_i_sroa_19_sroa_12_01131_i93_i = v_r5_i_sroa_19_sroa_12_01131_i_i; p_v_r5_i_sroa_19_sroa_13_01132_i91_i = v_r5_i_sroa_19_sroa_13_01132_i_i; p_v_r5_i_sroa_19_sroa_21_01140_i84_i = v_r5_i_sroa_19_sroa_21_01140_i_i; p_v_r5_sroa_61_0_i_i_i = v_r5_i_sroa_19_sroa_15_01134_i_i; p_v_r5_sroa_8_0_i_i_i = v_r5_i_sroa_19_sroa_16_01135_i_i; p_v_r5_sroa_9_0_i_i_i = 0u; p_v_r5_sroa_10_0_i6_i_i = 0u; p_v_r5_sroa_12_0_i_i_i = AT(f_static_22); p_v_r5_sroa_13_0_i_i_i = 0u; goto L_pkcs1_c_pss_to_c_pss_exit_i; } else { p_v_r5_i_sroa_19_sroa_21_01140_i83140_i = v_r5_i_sroa_19_sroa_21_01140_i_i; p_v_r5_i_sroa_19_sroa_20_01139_i85139_i = v_r5_i_sroa_19_sroa_20_01139_i_i; p_v_r5_i_sroa_19_sroa_19_01138_i86138_i = v_r5_i_sroa_19_sroa_19_01138_i_i; p_v_r5_i_sroa_19_sroa_18_01137_i87137_i = v_r5_i_sroa_19_sroa_18_01137_i_i; p_v_r5_i_sroa_19_sroa_16_01135_i88136_i = v_r5_i_sroa_19_sroa_16_01135_i_i; p_v_r5_i_sroa_19_sroa_15_01134_i89135_i = v_r5_i_sroa_19_sroa_15_01134_i_i; p_v_r5_i_sroa_19_sroa_13_01132_i90134_i = v_r5_i_sroa_19_sroa_13_01132_i_i; p_v_r5_i_sroa_19_sroa_12_01131_i92133_i = v_r5_i_sroa_19_sroa_12_01131_i_i; p_v_r5_i_sroa_19_sroa_7_01126_i94132_i = v_r5_i_sroa_19_sroa_7_01126_i_i; p_v_r5_i_sroa_19_sroa_3_01125_i96131_i = v_r5_i_sroa_19_sroa_3_01125_i_i; p_v_r3_sroa_5_sroa_0_0_extract_trunc98130_i = v_r3_sroa_5_sroa_0_0_extract_trunc_i; p_v_r3_sroa_17_sroa_0_0_extract_trunc100129_i = v_r3_sroa_17_sroa_0_0_extract_trunc_i; p_v_r3_sroa_23_sroa_0_0_extract_trunc102128_i = v_r3_sroa_23_sroa_0_0_extract_trunc_i; p_v_r5_sroa_6_0_i_i103127_i = v_r5_sroa_6_0_i_i_i; p_v_r5_sroa_81_0_i_i105126_i = v_r5_sroa_81_0_i_i_i; p_v_r5_sroa_10_0_i_i107125_i = v_r5_sroa_10_0_i_i_i; goto L_arm_2_i_i_i_i; }
 L_arm_2_i_i_i_i:;
     v_r5_i_sroa_19_sroa_21_01140_i83140_i = p_v_r5_i_sroa_19_sroa_21_01140_i83140_i;
     v_r5_i_sroa_19_sroa_20_01139_i85139_i = p_v_r5_i_sroa_19_sroa_20_01139_i85139_i;
@@ -41038,7 +41110,7 @@ L_pkcs1_c_pss_pkcs1_c_pss_params_decode_exit:;
     v_r6_0_i = p_v_r6_0_i;
     return v_r6_0_i;
 }
-u32 pkcs1_c_pss_params_decode_strict(P v_a0, u64 v_a1, P v_a2) {
+u32 NAME(pss_params_decode_strict)(P v_a0, u64 v_a1, P v_a2) {
     ALIGNED(1) unsigned char m_v_r0_i84_i_i[5];
     ALIGNED(8) unsigned char m_v_r0_i60_i_i_i[136];
     ALIGNED(8) unsigned char m_v_r14_i63_i_i_i[136];
@@ -41316,17 +41388,17 @@ u32 pkcs1_c_pss_params_decode_strict(P v_a0, u64 v_a1, P v_a2) {
     u32 v_switch_idx_cast_i_i_i;
     u32 v_switch_offset_i_i_i;
     u32 v_r6_0_i;
-    v_r0_i84_i_i = m_v_r0_i84_i_i;
-    v_r0_i60_i_i_i = m_v_r0_i60_i_i_i;
-    v_r14_i63_i_i_i = m_v_r14_i63_i_i_i;
-    v_r0_i52_i_sroa_15_i_i = m_v_r0_i52_i_sroa_15_i_i;
-    v_r7_i27_i_sroa_11_i_i = m_v_r7_i27_i_sroa_11_i_i;
-    v_r18_i_i_i_i_i = m_v_r18_i_i_i_i_i;
-    v_r4_i_i_i = m_v_r4_i_i_i;
-    v_r11_i8_sroa_18_i_i = m_v_r11_i8_sroa_18_i_i;
+    v_r0_i84_i_i = AT(m_v_r0_i84_i_i);
+    v_r0_i60_i_i_i = AT(m_v_r0_i60_i_i_i);
+    v_r14_i63_i_i_i = AT(m_v_r14_i63_i_i_i);
+    v_r0_i52_i_sroa_15_i_i = AT(m_v_r0_i52_i_sroa_15_i_i);
+    v_r7_i27_i_sroa_11_i_i = AT(m_v_r7_i27_i_sroa_11_i_i);
+    v_r18_i_i_i_i_i = AT(m_v_r18_i_i_i_i_i);
+    v_r4_i_i_i = AT(m_v_r4_i_i_i);
+    v_r11_i8_sroa_18_i_i = AT(m_v_r11_i8_sroa_18_i_i);
     v_r1 = v_a0 == (P)0;
     v_r3 = v_r1 ? 4096u : 0u;
-    v_r4 = (P)((uintptr_t)v_a0 + (u64)(v_r3));
+    v_r4 = (P)((u64)v_a0 + (u64)(v_r3));
     fill(v_r11_i8_sroa_18_i_i, 0u, 131u);
     v_r21_i_i_i_i_i = v_a1 < 2u;
     if (v_r21_i_i_i_i_i) { goto L_join_4_i_i_i; } else { goto L_join_5_i_i_i_i_i; }
@@ -41348,7 +41420,7 @@ L_arm_1_i_i_i_i:;
     v_r7_i17_i_i = v_r36_i_i_i_i_i == 0u;
     if (v_r7_i17_i_i) { goto L_arm_2_i5_i_thread_i; } else { goto L_join_3_i_i_i_i; }
 L_arm_2_i5_i_thread_i:;
-    { p_v_r0_i1_sroa_28_sroa_3_0_ph_i83140_i = (P)f_static_24; p_v_r0_i1_sroa_28_sroa_8_0_ph_i85139_i = 5u; p_v_r0_i1_sroa_28_sroa_12_0_ph_i87138_i = 1u; p_v_r0_i1_sroa_28_sroa_28_0_ph_i89137_i = (P)f_static_25; p_v_r0_i1_sroa_28_sroa_32_0_ph_i91136_i = 9u; p_v_r0_i1_sroa_28_sroa_40_0_ph_i93135_i = (P)f_static_24; p_v_r0_i1_sroa_28_sroa_44_0_ph_i94134_i = 5u; p_v_r0_i1_sroa_28_sroa_52_0_ph_i95133_i = 5u; p_v_r0_i1_sroa_28_sroa_56_0_ph_i96132_i = (P)f_static_22; p_v_r0_i1_sroa_28_sroa_60_0_ph_i97131_i = 0u; p_v_r0_i1_sroa_28_sroa_64_0_ph_i98130_i = 20u; p_v_r3_sroa_17_sroa_0_0_extract_trunc100129_i = 1u; p_v_r3_sroa_23_sroa_0_0_extract_trunc102128_i = 1u; p_v_r5_sroa_6_0_i_i103127_i = 5u; p_v_r5_sroa_81_0_i_i105126_i = (P)f_static_22; p_v_r5_sroa_10_0_i_i107125_i = 0u; goto L_arm_2_i_i_i_i; }
+    { p_v_r0_i1_sroa_28_sroa_3_0_ph_i83140_i = AT(f_static_24); p_v_r0_i1_sroa_28_sroa_8_0_ph_i85139_i = 5u; p_v_r0_i1_sroa_28_sroa_12_0_ph_i87138_i = 1u; p_v_r0_i1_sroa_28_sroa_28_0_ph_i89137_i = AT(f_static_25); p_v_r0_i1_sroa_28_sroa_32_0_ph_i91136_i = 9u; p_v_r0_i1_sroa_28_sroa_40_0_ph_i93135_i = AT(f_static_24); p_v_r0_i1_sroa_28_sroa_44_0_ph_i94134_i = 5u; p_v_r0_i1_sroa_28_sroa_52_0_ph_i95133_i = 5u; p_v_r0_i1_sroa_28_sroa_56_0_ph_i96132_i = AT(f_static_22); p_v_r0_i1_sroa_28_sroa_60_0_ph_i97131_i = 0u; p_v_r0_i1_sroa_28_sroa_64_0_ph_i98130_i = 20u; p_v_r3_sroa_17_sroa_0_0_extract_trunc100129_i = 1u; p_v_r3_sroa_23_sroa_0_0_extract_trunc102128_i = 1u; p_v_r5_sroa_6_0_i_i103127_i = 5u; p_v_r5_sroa_81_0_i_i105126_i = AT(f_static_22); p_v_r5_sroa_10_0_i_i107125_i = 0u; goto L_arm_2_i_i_i_i; }
 L_join_3_i_i_i_i:;
     v_r27_not_i_i_i_i_i = v_r36_i_i_i_i_i == 52u;
     if (v_r27_not_i_i_i_i_i) { goto L_then_6_i_i_i_i_i; } else { goto L_arm_5_i11_i_i_i; }
@@ -41533,14 +41605,14 @@ L_arm_1_i:;
     v_11 = v_r0_i1_sroa_28_sroa_12_0_ph_i_i == 0u;
     v_r4_i_i_i_i_i = (u8)(v_r0_i1_sroa_28_sroa_16_0_ph_i_i);
     v_r5_sroa_6_0_i_i_i = v_11 ? 0u : v_r4_i_i_i_i_i;
-    v_r5_sroa_81_0_i_i_i = v_11 ? (P)f_static_22 : v_r0_i1_sroa_28_sroa_20_0_ph_i_i;
+    v_r5_sroa_81_0_i_i_i = v_11 ? AT(f_static_22) : v_r0_i1_sroa_28_sroa_20_0_ph_i_i;
     v_r5_sroa_10_0_i_i_i = v_11 ? 0u : v_r0_i1_sroa_28_sroa_24_0_ph_i_i;
     v_12 = v_r3_sroa_17_sroa_0_0_extract_trunc_i == 0u;
-    if (v_12) { p_v_r5_sroa_10_0_i_i108_i = v_r5_sroa_10_0_i_i_i; p_v_r5_sroa_81_0_i_i106_i = v_r5_sroa_81_0_i_i_i; p_v_r5_sroa_6_0_i_i104_i = v_r5_sroa_6_0_i_i_i; p_v_r3_sroa_17_sroa_0_0_extract_trunc101_i = 0u; p_v_r0_i1_sroa_28_sroa_64_0_ph_i99_i = v_r0_i1_sroa_28_sroa_64_0_ph_i_i; p_v_r0_i1_sroa_28_sroa_32_0_ph_i92_i = v_r0_i1_sroa_28_sroa_32_0_ph_i_i; p_v_r0_i1_sroa_28_sroa_28_0_ph_i90_i = v_r0_i1_sroa_28_sroa_28_0_ph_i_i; p_v_r0_i1_sroa_28_sroa_12_0_ph_i88_i = v_r0_i1_sroa_28_sroa_12_0_ph_i_i; p_v_r0_i1_sroa_28_sroa_8_0_ph_i86_i = v_r0_i1_sroa_28_sroa_8_0_ph_i_i; p_v_r0_i1_sroa_28_sroa_3_0_ph_i84_i = v_r0_i1_sroa_28_sroa_3_0_ph_i_i; p_v_r5_sroa_61_0_i_i_i = (P)f_static_22; p_v_r5_sroa_8_0_i_i_i = 0u; p_v_r5_sroa_9_0_i_i_i = 0u; p_v_r5_sroa_10_0_i6_i_i = 0u; p_v_r5_sroa_12_0_i_i_i = (P)f_static_22; p_v_r5_sroa_13_0_i_i_i = 0u; goto L_pkcs1_c_pss_to_c_pss_exit_i; } else { goto L_arm_2_i5_i_i; }
+    if (v_12) { p_v_r5_sroa_10_0_i_i108_i = v_r5_sroa_10_0_i_i_i; p_v_r5_sroa_81_0_i_i106_i = v_r5_sroa_81_0_i_i_i; p_v_r5_sroa_6_0_i_i104_i = v_r5_sroa_6_0_i_i_i; p_v_r3_sroa_17_sroa_0_0_extract_trunc101_i = 0u; p_v_r0_i1_sroa_28_sroa_64_0_ph_i99_i = v_r0_i1_sroa_28_sroa_64_0_ph_i_i; p_v_r0_i1_sroa_28_sroa_32_0_ph_i92_i = v_r0_i1_sroa_28_sroa_32_0_ph_i_i; p_v_r0_i1_sroa_28_sroa_28_0_ph_i90_i = v_r0_i1_sroa_28_sroa_28_0_ph_i_i; p_v_r0_i1_sroa_28_sroa_12_0_ph_i88_i = v_r0_i1_sroa_28_sroa_12_0_ph_i_i; p_v_r0_i1_sroa_28_sroa_8_0_ph_i86_i = v_r0_i1_sroa_28_sroa_8_0_ph_i_i; p_v_r0_i1_sroa_28_sroa_3_0_ph_i84_i = v_r0_i1_sroa_28_sroa_3_0_ph_i_i; p_v_r5_sroa_61_0_i_i_i = AT(f_static_22); p_v_r5_sroa_8_0_i_i_i = 0u; p_v_r5_sroa_9_0_i_i_i = 0u; p_v_r5_sroa_10_0_i6_i_i = 0u; p_v_r5_sroa_12_0_i_i_i = AT(f_static_22); p_v_r5_sroa_13_0_i_i_i = 0u; goto L_pkcs1_c_pss_to_c_pss_exit_i; } else { goto L_arm_2_i5_i_i; }
 L_arm_2_i5_i_i:;
     v_r3_sroa_23_sroa_0_0_extract_trunc_i = (u8)(v_r0_i1_sroa_28_sroa_48_0_ph_i_i);
     v_13 = v_r3_sroa_23_sroa_0_0_extract_trunc_i == 0u;
-    if (v_13) { p_v_r5_sroa_10_0_i_i108_i = v_r5_sroa_10_0_i_i_i; p_v_r5_sroa_81_0_i_i106_i = v_r5_sroa_81_0_i_i_i; p_v_r5_sroa_6_0_i_i104_i = v_r5_sroa_6_0_i_i_i; p_v_r3_sroa_17_sroa_0_0_extract_trunc101_i = v_r3_sroa_17_sroa_0_0_extract_trunc_i; p_v_r0_i1_sroa_28_sroa_64_0_ph_i99_i = v_r0_i1_sroa_28_sroa_64_0_ph_i_i; p_v_r0_i1_sroa_28_sroa_32_0_ph_i92_i = v_r0_i1_sroa_28_sroa_32_0_ph_i_i; p_v_r0_i1_sroa_28_sroa_28_0_ph_i90_i = v_r0_i1_sroa_28_sroa_28_0_ph_i_i; p_v_r0_i1_sroa_28_sroa_12_0_ph_i88_i = v_r0_i1_sroa_28_sroa_12_0_ph_i_i; p_v_r0_i1_sroa_28_sroa_8_0_ph_i86_i = v_r0_i1_sroa_28_sroa_8_0_ph_i_i; p_v_r0_i1_sroa_28_sroa_3_0_ph_i84_i = v_r0_i1_sroa_28_sroa_3_0_ph_i_i; p_v_r5_sroa_61_0_i_i_i = v_r0_i1_sroa_28_sroa_40_0_ph_i_i; p_v_r5_sroa_8_0_i_i_i = v_r0_i1_sroa_28_sroa_44_0_ph_i_i; p_v_r5_sroa_9_0_i_i_i = 0u; p_v_r5_sroa_10_0_i6_i_i = 0u; p_v_r5_sroa_12_0_i_i_i = (P)f_static_22; p_v_r5_sroa_13_0_i_i_i = 0u; goto L_pkcs1_c_pss_to_c_pss_exit_i; } else { p_v_r0_i1_sroa_28_sroa_3_0_ph_i83140_i = v_r0_i1_sroa_28_sroa_3_0_ph_i_i; p_v_r0_i1_sroa_28_sroa_8_0_ph_i85139_i = v_r0_i1_sroa_28_sroa_8_0_ph_i_i; p_v_r0_i1_sroa_28_sroa_12_0_ph_i87138_i = v_r0_i1_sroa_28_sroa_12_0_ph_i_i; p_v_r0_i1_sroa_28_sroa_28_0_ph_i89137_i = v_r0_i1_sroa_28_sroa_28_0_ph_i_i; p_v_r0_i1_sroa_28_sroa_32_0_ph_i91136_i = v_r0_i1_sroa_28_sroa_32_0_ph_i_i; p_v_r0_i1_sroa_28_sroa_40_0_ph_i93135_i = v_r0_i1_sroa_28_sroa_40_0_ph_i_i; p_v_r0_i1_sroa_28_sroa_44_0_ph_i94134_i = v_r0_i1_sroa_28_sroa_44_0_ph_i_i; p_v_r0_i1_sroa_28_sroa_52_0_ph_i95133_i = v_r0_i1_sroa_28_sroa_52_0_ph_i_i; p_v_r0_i1_sroa_28_sroa_56_0_ph_i96132_i = v_r0_i1_sroa_28_sroa_56_0_ph_i_i; p_v_r0_i1_sroa_28_sroa_60_0_ph_i97131_i = v_r0_i1_sroa_28_sroa_60_0_ph_i_i; p_v_r0_i1_sroa_28_sroa_64_0_ph_i98130_i = v_r0_i1_sroa_28_sroa_64_0_ph_i_i; p_v_r3_sroa_17_sroa_0_0_extract_trunc100129_i = v_r3_sroa_17_sroa_0_0_extract_trunc_i; p_v_r3_sroa_23_sroa_0_0_extract_trunc102128_i = v_r3_sroa_23_sroa_0_0_extract_trunc_i; p_v_r5_sroa_6_0_i_i103127_i = v_r5_sroa_6_0_i_i_i; p_v_r5_sroa_81_0_i_i105126_i = v_r5_sroa_81_0_i_i_i; p_v_r5_sroa_10_0_i_i107125_i = v_r5_sroa_10_0_i_i_i; goto L_arm_2_i_i_i_i; }
+    if (v_13) { p_v_r5_sroa_10_0_i_i108_i = v_r5_sroa_10_0_i_i_i; p_v_r5_sroa_81_0_i_i106_i = v_r5_sroa_81_0_i_i_i; p_v_r5_sroa_6_0_i_i104_i = v_r5_sroa_6_0_i_i_i; p_v_r3_sroa_17_sroa_0_0_extract_trunc101_i = v_r3_sroa_17_sroa_0_0_extract_trunc_i; p_v_r0_i1_sroa_28_sroa_64_0_ph_i99_i = v_r0_i1_sroa_28_sroa_64_0_ph_i_i; p_v_r0_i1_sroa_28_sroa_32_0_ph_i92_i = v_r0_i1_sroa_28_sroa_32_0_ph_i_i; p_v_r0_i1_sroa_28_sroa_28_0_ph_i90_i = v_r0_i1_sroa_28_sroa_28_0_ph_i_i; p_v_r0_i1_sroa_28_sroa_12_0_ph_i88_i = v_r0_i1_sroa_28_sroa_12_0_ph_i_i; p_v_r0_i1_sroa_28_sroa_8_0_ph_i86_i = v_r0_i1_sroa_28_sroa_8_0_ph_i_i; p_v_r0_i1_sroa_28_sroa_3_0_ph_i84_i = v_r0_i1_sroa_28_sroa_3_0_ph_i_i; p_v_r5_sroa_61_0_i_i_i = v_r0_i1_sroa_28_sroa_40_0_ph_i_i; p_v_r5_sroa_8_0_i_i_i = v_r0_i1_sroa_28_sroa_44_0_ph_i_i; p_v_r5_sroa_9_0_i_i_i = 0u; p_v_r5_sroa_10_0_i6_i_i = 0u; p_v_r5_sroa_12_0_i_i_i = AT(f_static_22); p_v_r5_sroa_13_0_i_i_i = 0u; goto L_pkcs1_c_pss_to_c_pss_exit_i; } else { p_v_r0_i1_sroa_28_sroa_3_0_ph_i83140_i = v_r0_i1_sroa_28_sroa_3_0_ph_i_i; p_v_r0_i1_sroa_28_sroa_8_0_ph_i85139_i = v_r0_i1_sroa_28_sroa_8_0_ph_i_i; p_v_r0_i1_sroa_28_sroa_12_0_ph_i87138_i = v_r0_i1_sroa_28_sroa_12_0_ph_i_i; p_v_r0_i1_sroa_28_sroa_28_0_ph_i89137_i = v_r0_i1_sroa_28_sroa_28_0_ph_i_i; p_v_r0_i1_sroa_28_sroa_32_0_ph_i91136_i = v_r0_i1_sroa_28_sroa_32_0_ph_i_i; p_v_r0_i1_sroa_28_sroa_40_0_ph_i93135_i = v_r0_i1_sroa_28_sroa_40_0_ph_i_i; p_v_r0_i1_sroa_28_sroa_44_0_ph_i94134_i = v_r0_i1_sroa_28_sroa_44_0_ph_i_i; p_v_r0_i1_sroa_28_sroa_52_0_ph_i95133_i = v_r0_i1_sroa_28_sroa_52_0_ph_i_i; p_v_r0_i1_sroa_28_sroa_56_0_ph_i96132_i = v_r0_i1_sroa_28_sroa_56_0_ph_i_i; p_v_r0_i1_sroa_28_sroa_60_0_ph_i97131_i = v_r0_i1_sroa_28_sroa_60_0_ph_i_i; p_v_r0_i1_sroa_28_sroa_64_0_ph_i98130_i = v_r0_i1_sroa_28_sroa_64_0_ph_i_i; p_v_r3_sroa_17_sroa_0_0_extract_trunc100129_i = v_r3_sroa_17_sroa_0_0_extract_trunc_i; p_v_r3_sroa_23_sroa_0_0_extract_trunc102128_i = v_r3_sroa_23_sroa_0_0_extract_trunc_i; p_v_r5_sroa_6_0_i_i103127_i = v_r5_sroa_6_0_i_i_i; p_v_r5_sroa_81_0_i_i105126_i = v_r5_sroa_81_0_i_i_i; p_v_r5_sroa_10_0_i_i107125_i = v_r5_sroa_10_0_i_i_i; goto L_arm_2_i_i_i_i; }
 L_arm_2_i_i_i_i:;
     v_r0_i1_sroa_28_sroa_3_0_ph_i83140_i = p_v_r0_i1_sroa_28_sroa_3_0_ph_i83140_i;
     v_r0_i1_sroa_28_sroa_8_0_ph_i85139_i = p_v_r0_i1_sroa_28_sroa_8_0_ph_i85139_i;
@@ -41642,7 +41714,7 @@ L_pkcs1_c_pss_pkcs1_c_pss_params_decode_strict_exit:;
     v_r6_0_i = p_v_r6_0_i;
     return v_r6_0_i;
 }
-u1 pkcs1_c_oaep_is(P v_a0, P v_a1, u64 v_a2) {
+u1 NAME(oaep_is)(P v_a0, P v_a1, u64 v_a2) {
     u1 v_r1;
     u64 v_r3;
     P v_r4;
@@ -41650,12 +41722,12 @@ u1 pkcs1_c_oaep_is(P v_a0, P v_a1, u64 v_a2) {
     u1 v_r11_i;
     v_r1 = v_a1 == (P)0;
     v_r3 = v_r1 ? 4096u : 0u;
-    v_r4 = (P)((uintptr_t)v_a1 + (u64)(v_r3));
+    v_r4 = (P)((u64)v_a1 + (u64)(v_r3));
     v_r5_i = v_a0 + 40;
     v_r11_i = f_pkcs1_c_algorithm_uses_hash(v_a0, v_r5_i, v_r4, v_a2);
     return v_r11_i;
 }
-u1 pkcs1_c_pss_is(P v_a0, P v_a1, u64 v_a2) {
+u1 NAME(pss_is)(P v_a0, P v_a1, u64 v_a2) {
     u1 v_r1;
     u64 v_r3;
     P v_r4;
@@ -41663,12 +41735,12 @@ u1 pkcs1_c_pss_is(P v_a0, P v_a1, u64 v_a2) {
     u1 v_r11_i;
     v_r1 = v_a1 == (P)0;
     v_r3 = v_r1 ? 4096u : 0u;
-    v_r4 = (P)((uintptr_t)v_a1 + (u64)(v_r3));
+    v_r4 = (P)((u64)v_a1 + (u64)(v_r3));
     v_r5_i = v_a0 + 40;
     v_r11_i = f_pkcs1_c_algorithm_uses_hash(v_a0, v_r5_i, v_r4, v_a2);
     return v_r11_i;
 }
-u32 pkcs1_c_private_key_encode(P v_a0, P v_a1, u64 v_a2, P v_a3, u64 v_a4, P v_a5) {
+u32 NAME(private_key_encode)(P v_a0, P v_a1, u64 v_a2, P v_a3, u64 v_a4, P v_a5) {
     ALIGNED(4) unsigned char m_v_r1_i_i_i[8];
     ALIGNED(4) unsigned char m_v_r10_i_i_i[8];
     ALIGNED(8) unsigned char m_v_r5_i[224];
@@ -43474,15 +43546,15 @@ u32 pkcs1_c_private_key_encode(P v_a0, P v_a1, u64 v_a2, P v_a3, u64 v_a4, P v_a
     u32 v_r0_sroa_0_0_copyload_i_i_i;
     u64 v_r3_i_i2_i_i;
     u32 v_common_ret_op_i;
-    v_r1_i_i_i = m_v_r1_i_i_i;
-    v_r10_i_i_i = m_v_r10_i_i_i;
-    v_r5_i = m_v_r5_i;
+    v_r1_i_i_i = AT(m_v_r1_i_i_i);
+    v_r10_i_i_i = AT(m_v_r10_i_i_i);
+    v_r5_i = AT(m_v_r5_i);
     v_r1 = v_a1 == (P)0;
     v_r3 = v_r1 ? 4096u : 0u;
-    v_r4 = (P)((uintptr_t)v_a1 + (u64)(v_r3));
+    v_r4 = (P)((u64)v_a1 + (u64)(v_r3));
     v_r10 = v_a3 == (P)0;
     v_r12 = v_r10 ? 4096u : 0u;
-    v_r13 = (P)((uintptr_t)v_a3 + (u64)(v_r12));
+    v_r13 = (P)((u64)v_a3 + (u64)(v_r12));
     fill(v_r5_i, 0u, 224u);
     v_r17_i = v_a0 + 128;
     v_r18_i = get_u64(v_r17_i);
@@ -43495,8 +43567,8 @@ L_join_3_i:;
     v_r146_i_i_i = v_r24_sroa_3_0_copyload_i_i > 1u;
     if (v_r146_i_i_i) { goto L_then_3_preheader_i_i_i; } else { goto L_der_core_integer_uint_strip_exit_i_i; }
 L_then_3_preheader_i_i_i:;
-    v_0 = (P)((uintptr_t)v_r24_sroa_0_0_copyload_i_i + (u64)(v_r24_sroa_3_0_copyload_i_i));
-    v_scevgep_i_i_i = (P)((uintptr_t)v_0 + (u64)(-1));
+    v_0 = (P)((u64)v_r24_sroa_0_0_copyload_i_i + (u64)(v_r24_sroa_3_0_copyload_i_i));
+    v_scevgep_i_i_i = (P)((u64)v_0 + (u64)(-1));
     { p_v_r3_sroa_0_08_i_i_i = v_r24_sroa_0_0_copyload_i_i; p_v_r3_sroa_6_07_i_i_i = v_r24_sroa_3_0_copyload_i_i; goto L_then_3_i_i_i; }
 L_then_3_i_i_i:;
     v_r3_sroa_0_08_i_i_i = p_v_r3_sroa_0_08_i_i_i;
@@ -43528,8 +43600,8 @@ L_arm_1_i_i:;
     v_r146_i_i706_i = v_r30_sroa_3_0_copyload_i_i > 1u;
     if (v_r146_i_i706_i) { goto L_then_3_preheader_i_i719_i; } else { goto L_der_core_integer_uint_strip_exit_i707_i; }
 L_then_3_preheader_i_i719_i:;
-    v_1 = (P)((uintptr_t)v_r30_sroa_0_0_copyload_i_i + (u64)(v_r30_sroa_3_0_copyload_i_i));
-    v_scevgep_i_i720_i = (P)((uintptr_t)v_1 + (u64)(-1));
+    v_1 = (P)((u64)v_r30_sroa_0_0_copyload_i_i + (u64)(v_r30_sroa_3_0_copyload_i_i));
+    v_scevgep_i_i720_i = (P)((u64)v_1 + (u64)(-1));
     { p_v_r3_sroa_0_08_i_i722_i = v_r30_sroa_0_0_copyload_i_i; p_v_r3_sroa_6_07_i_i723_i = v_r30_sroa_3_0_copyload_i_i; goto L_then_3_i_i721_i; }
 L_then_3_i_i721_i:;
     v_r3_sroa_0_08_i_i722_i = p_v_r3_sroa_0_08_i_i722_i;
@@ -43561,8 +43633,8 @@ L_arm_5_i_i:;
     v_r146_i_i800_i = v_r36_sroa_3_0_copyload_i_i > 1u;
     if (v_r146_i_i800_i) { goto L_then_3_preheader_i_i813_i; } else { goto L_der_core_integer_uint_strip_exit_i801_i; }
 L_then_3_preheader_i_i813_i:;
-    v_2 = (P)((uintptr_t)v_r36_sroa_0_0_copyload_i_i + (u64)(v_r36_sroa_3_0_copyload_i_i));
-    v_scevgep_i_i814_i = (P)((uintptr_t)v_2 + (u64)(-1));
+    v_2 = (P)((u64)v_r36_sroa_0_0_copyload_i_i + (u64)(v_r36_sroa_3_0_copyload_i_i));
+    v_scevgep_i_i814_i = (P)((u64)v_2 + (u64)(-1));
     { p_v_r3_sroa_0_08_i_i816_i = v_r36_sroa_0_0_copyload_i_i; p_v_r3_sroa_6_07_i_i817_i = v_r36_sroa_3_0_copyload_i_i; goto L_then_3_i_i815_i; }
 L_then_3_i_i815_i:;
     v_r3_sroa_0_08_i_i816_i = p_v_r3_sroa_0_08_i_i816_i;
@@ -43594,8 +43666,8 @@ L_arm_8_i_i:;
     v_r146_i_i897_i = v_r42_sroa_3_0_copyload_i_i > 1u;
     if (v_r146_i_i897_i) { goto L_then_3_preheader_i_i910_i; } else { goto L_der_core_integer_uint_strip_exit_i898_i; }
 L_then_3_preheader_i_i910_i:;
-    v_3 = (P)((uintptr_t)v_r42_sroa_0_0_copyload_i_i + (u64)(v_r42_sroa_3_0_copyload_i_i));
-    v_scevgep_i_i911_i = (P)((uintptr_t)v_3 + (u64)(-1));
+    v_3 = (P)((u64)v_r42_sroa_0_0_copyload_i_i + (u64)(v_r42_sroa_3_0_copyload_i_i));
+    v_scevgep_i_i911_i = (P)((u64)v_3 + (u64)(-1));
     { p_v_r3_sroa_0_08_i_i913_i = v_r42_sroa_0_0_copyload_i_i; p_v_r3_sroa_6_07_i_i914_i = v_r42_sroa_3_0_copyload_i_i; goto L_then_3_i_i912_i; }
 L_then_3_i_i912_i:;
     v_r3_sroa_0_08_i_i913_i = p_v_r3_sroa_0_08_i_i913_i;
@@ -43631,8 +43703,8 @@ L_arm_11_i_i:;
     v_r146_i_i994_i = v_r48_sroa_3_0_copyload_i_i > 1u;
     if (v_r146_i_i994_i) { goto L_then_3_preheader_i_i1007_i; } else { goto L_der_core_integer_uint_strip_exit_i995_i; }
 L_then_3_preheader_i_i1007_i:;
-    v_4 = (P)((uintptr_t)v_r48_sroa_0_0_copyload_i_i + (u64)(v_r48_sroa_3_0_copyload_i_i));
-    v_scevgep_i_i1008_i = (P)((uintptr_t)v_4 + (u64)(-1));
+    v_4 = (P)((u64)v_r48_sroa_0_0_copyload_i_i + (u64)(v_r48_sroa_3_0_copyload_i_i));
+    v_scevgep_i_i1008_i = (P)((u64)v_4 + (u64)(-1));
     { p_v_r3_sroa_0_08_i_i1010_i = v_r48_sroa_0_0_copyload_i_i; p_v_r3_sroa_6_07_i_i1011_i = v_r48_sroa_3_0_copyload_i_i; goto L_then_3_i_i1009_i; }
 L_then_3_i_i1009_i:;
     v_r3_sroa_0_08_i_i1010_i = p_v_r3_sroa_0_08_i_i1010_i;
@@ -43668,8 +43740,8 @@ L_arm_14_i_i:;
     v_r146_i_i1091_i = v_r54_sroa_3_0_copyload_i_i > 1u;
     if (v_r146_i_i1091_i) { goto L_then_3_preheader_i_i1104_i; } else { goto L_der_core_integer_uint_strip_exit_i1092_i; }
 L_then_3_preheader_i_i1104_i:;
-    v_5 = (P)((uintptr_t)v_r54_sroa_0_0_copyload_i_i + (u64)(v_r54_sroa_3_0_copyload_i_i));
-    v_scevgep_i_i1105_i = (P)((uintptr_t)v_5 + (u64)(-1));
+    v_5 = (P)((u64)v_r54_sroa_0_0_copyload_i_i + (u64)(v_r54_sroa_3_0_copyload_i_i));
+    v_scevgep_i_i1105_i = (P)((u64)v_5 + (u64)(-1));
     { p_v_r3_sroa_0_08_i_i1107_i = v_r54_sroa_0_0_copyload_i_i; p_v_r3_sroa_6_07_i_i1108_i = v_r54_sroa_3_0_copyload_i_i; goto L_then_3_i_i1106_i; }
 L_then_3_i_i1106_i:;
     v_r3_sroa_0_08_i_i1107_i = p_v_r3_sroa_0_08_i_i1107_i;
@@ -43705,8 +43777,8 @@ L_arm_17_i_i:;
     v_r146_i_i1188_i = v_r60_sroa_3_0_copyload_i_i > 1u;
     if (v_r146_i_i1188_i) { goto L_then_3_preheader_i_i1201_i; } else { goto L_der_core_integer_uint_strip_exit_i1189_i; }
 L_then_3_preheader_i_i1201_i:;
-    v_6 = (P)((uintptr_t)v_r60_sroa_0_0_copyload_i_i + (u64)(v_r60_sroa_3_0_copyload_i_i));
-    v_scevgep_i_i1202_i = (P)((uintptr_t)v_6 + (u64)(-1));
+    v_6 = (P)((u64)v_r60_sroa_0_0_copyload_i_i + (u64)(v_r60_sroa_3_0_copyload_i_i));
+    v_scevgep_i_i1202_i = (P)((u64)v_6 + (u64)(-1));
     { p_v_r3_sroa_0_08_i_i1204_i = v_r60_sroa_0_0_copyload_i_i; p_v_r3_sroa_6_07_i_i1205_i = v_r60_sroa_3_0_copyload_i_i; goto L_then_3_i_i1203_i; }
 L_then_3_i_i1203_i:;
     v_r3_sroa_0_08_i_i1204_i = p_v_r3_sroa_0_08_i_i1204_i;
@@ -43742,8 +43814,8 @@ L_arm_20_i_i:;
     v_r146_i_i1285_i = v_r66_sroa_3_0_copyload_i_i > 1u;
     if (v_r146_i_i1285_i) { goto L_then_3_preheader_i_i1298_i; } else { goto L_der_core_integer_uint_strip_exit_i1286_i; }
 L_then_3_preheader_i_i1298_i:;
-    v_7 = (P)((uintptr_t)v_r66_sroa_0_0_copyload_i_i + (u64)(v_r66_sroa_3_0_copyload_i_i));
-    v_scevgep_i_i1299_i = (P)((uintptr_t)v_7 + (u64)(-1));
+    v_7 = (P)((u64)v_r66_sroa_0_0_copyload_i_i + (u64)(v_r66_sroa_3_0_copyload_i_i));
+    v_scevgep_i_i1299_i = (P)((u64)v_7 + (u64)(-1));
     { p_v_r3_sroa_0_08_i_i1301_i = v_r66_sroa_0_0_copyload_i_i; p_v_r3_sroa_6_07_i_i1302_i = v_r66_sroa_3_0_copyload_i_i; goto L_then_3_i_i1300_i; }
 L_then_3_i_i1300_i:;
     v_r3_sroa_0_08_i_i1301_i = p_v_r3_sroa_0_08_i_i1301_i;
@@ -43780,15 +43852,15 @@ L_join_9_i_i:;
     v_r3_i393_sroa_7_03796_i = p_v_r3_i393_sroa_7_03796_i;
     v_r3_i393_sroa_16_03795_i = p_v_r3_i393_sroa_16_03795_i;
     v_r59_i414_i = (u64)((u64)(v_r4_0_i3798_i) * (u64)(48u));
-    v_r62_i415_i = (P)((uintptr_t)v_r4 + (u64)(v_r59_i414_i));
+    v_r62_i415_i = (P)((u64)v_r4 + (u64)(v_r59_i414_i));
     v_r10_sroa_0_0_copyload_i461_i = get_P(v_r62_i415_i);
     v_r10_sroa_3_0_a1_sroa_idx_i_i = v_r62_i415_i + 8;
     v_r10_sroa_3_0_copyload_i_i = get_u64(v_r10_sroa_3_0_a1_sroa_idx_i_i);
     v_r146_i_i1383_i = v_r10_sroa_3_0_copyload_i_i > 1u;
     if (v_r146_i_i1383_i) { goto L_then_3_preheader_i_i1396_i; } else { goto L_der_core_integer_uint_strip_exit_i1384_i; }
 L_then_3_preheader_i_i1396_i:;
-    v_8 = (P)((uintptr_t)v_r10_sroa_0_0_copyload_i461_i + (u64)(v_r10_sroa_3_0_copyload_i_i));
-    v_scevgep_i_i1397_i = (P)((uintptr_t)v_8 + (u64)(-1));
+    v_8 = (P)((u64)v_r10_sroa_0_0_copyload_i461_i + (u64)(v_r10_sroa_3_0_copyload_i_i));
+    v_scevgep_i_i1397_i = (P)((u64)v_8 + (u64)(-1));
     { p_v_r3_sroa_0_08_i_i1399_i = v_r10_sroa_0_0_copyload_i461_i; p_v_r3_sroa_6_07_i_i1400_i = v_r10_sroa_3_0_copyload_i_i; goto L_then_3_i_i1398_i; }
 L_then_3_i_i1398_i:;
     v_r3_sroa_0_08_i_i1399_i = p_v_r3_sroa_0_08_i_i1399_i;
@@ -43820,8 +43892,8 @@ L_arm_1_i481_i:;
     v_r146_i_i1468_i = v_r16_sroa_3_0_copyload_i_i > 1u;
     if (v_r146_i_i1468_i) { goto L_then_3_preheader_i_i1481_i; } else { goto L_der_core_integer_uint_strip_exit_i1469_i; }
 L_then_3_preheader_i_i1481_i:;
-    v_9 = (P)((uintptr_t)v_r16_sroa_0_0_copyload_i484_i + (u64)(v_r16_sroa_3_0_copyload_i_i));
-    v_scevgep_i_i1482_i = (P)((uintptr_t)v_9 + (u64)(-1));
+    v_9 = (P)((u64)v_r16_sroa_0_0_copyload_i484_i + (u64)(v_r16_sroa_3_0_copyload_i_i));
+    v_scevgep_i_i1482_i = (P)((u64)v_9 + (u64)(-1));
     { p_v_r3_sroa_0_08_i_i1484_i = v_r16_sroa_0_0_copyload_i484_i; p_v_r3_sroa_6_07_i_i1485_i = v_r16_sroa_3_0_copyload_i_i; goto L_then_3_i_i1483_i; }
 L_then_3_i_i1483_i:;
     v_r3_sroa_0_08_i_i1484_i = p_v_r3_sroa_0_08_i_i1484_i;
@@ -43853,8 +43925,8 @@ L_arm_5_i507_i:;
     v_r146_i_i1565_i = v_r22_sroa_3_0_copyload_i_i > 1u;
     if (v_r146_i_i1565_i) { goto L_then_3_preheader_i_i1578_i; } else { goto L_der_core_integer_uint_strip_exit_i1566_i; }
 L_then_3_preheader_i_i1578_i:;
-    v_10 = (P)((uintptr_t)v_r22_sroa_0_0_copyload_i_i + (u64)(v_r22_sroa_3_0_copyload_i_i));
-    v_scevgep_i_i1579_i = (P)((uintptr_t)v_10 + (u64)(-1));
+    v_10 = (P)((u64)v_r22_sroa_0_0_copyload_i_i + (u64)(v_r22_sroa_3_0_copyload_i_i));
+    v_scevgep_i_i1579_i = (P)((u64)v_10 + (u64)(-1));
     { p_v_r3_sroa_0_08_i_i1581_i = v_r22_sroa_0_0_copyload_i_i; p_v_r3_sroa_6_07_i_i1582_i = v_r22_sroa_3_0_copyload_i_i; goto L_then_3_i_i1580_i; }
 L_then_3_i_i1580_i:;
     v_r3_sroa_0_08_i_i1581_i = p_v_r3_sroa_0_08_i_i1581_i;
@@ -44069,15 +44141,15 @@ L_join_9_i_i_i_i_i_i:;
     v_r2_018_i_i_i_i_i_i = p_v_r2_018_i_i_i_i_i_i;
     v_r31_i_i_i_i_i_i = (u64)((u64)(v_r2_018_i_i_i_i_i_i) + (u64)(18446744073709551615ull));
     v_r33_i_i_i_i_i_i = (u64)((u64)(v_r31_i_i_i_i_i_i) * (u64)(48u));
-    v_r36_i_i_i_i_i_i = (P)((uintptr_t)v_r70_i_sroa_27_sroa_0_0_ph_i + (u64)(v_r33_i_i_i_i_i_i));
+    v_r36_i_i_i_i_i_i = (P)((u64)v_r70_i_sroa_27_sroa_0_0_ph_i + (u64)(v_r33_i_i_i_i_i_i));
     v_r10_sroa_0_0_copyload_i_i_i_i_i_i_i_i = get_P(v_r36_i_i_i_i_i_i);
     v_r10_sroa_3_0_a1_sroa_idx_i_i_i_i_i_i_i_i = v_r36_i_i_i_i_i_i + 8;
     v_r10_sroa_3_0_copyload_i_i_i_i_i_i_i_i = get_u64(v_r10_sroa_3_0_a1_sroa_idx_i_i_i_i_i_i_i_i);
     v_r146_i_i_i_i_i_i_i_i_i = v_r10_sroa_3_0_copyload_i_i_i_i_i_i_i_i > 1u;
     if (v_r146_i_i_i_i_i_i_i_i_i) { goto L_then_3_preheader_i_i_i_i_i_i_i_i_i; } else { goto L_der_core_integer_uint_strip_exit_i_i_i_i_i_i_i_i; }
 L_then_3_preheader_i_i_i_i_i_i_i_i_i:;
-    v_17 = (P)((uintptr_t)v_r10_sroa_0_0_copyload_i_i_i_i_i_i_i_i + (u64)(v_r10_sroa_3_0_copyload_i_i_i_i_i_i_i_i));
-    v_scevgep_i_i_i_i_i_i_i_i_i = (P)((uintptr_t)v_17 + (u64)(-1));
+    v_17 = (P)((u64)v_r10_sroa_0_0_copyload_i_i_i_i_i_i_i_i + (u64)(v_r10_sroa_3_0_copyload_i_i_i_i_i_i_i_i));
+    v_scevgep_i_i_i_i_i_i_i_i_i = (P)((u64)v_17 + (u64)(-1));
     { p_v_r3_sroa_0_08_i_i_i_i_i_i_i_i_i = v_r10_sroa_0_0_copyload_i_i_i_i_i_i_i_i; p_v_r3_sroa_6_07_i_i_i_i_i_i_i_i_i = v_r10_sroa_3_0_copyload_i_i_i_i_i_i_i_i; goto L_then_3_i_i_i_i_i_i_i_i_i; }
 L_then_3_i_i_i_i_i_i_i_i_i:;
     v_r3_sroa_0_08_i_i_i_i_i_i_i_i_i = p_v_r3_sroa_0_08_i_i_i_i_i_i_i_i_i;
@@ -44113,8 +44185,8 @@ L_arm_1_i_i_i_i_i_i_i_i:;
     v_r146_i_i168_i_i_i_i_i_i_i = v_r16_sroa_3_0_copyload_i_i_i_i_i_i_i_i > 1u;
     if (v_r146_i_i168_i_i_i_i_i_i_i) { goto L_then_3_preheader_i_i181_i_i_i_i_i_i_i; } else { goto L_der_core_integer_uint_strip_exit_i169_i_i_i_i_i_i_; }
 L_then_3_preheader_i_i181_i_i_i_i_i_i_i:;
-    v_18 = (P)((uintptr_t)v_r16_sroa_0_0_copyload_i_i_i_i_i_i_i_i + (u64)(v_r16_sroa_3_0_copyload_i_i_i_i_i_i_i_i));
-    v_scevgep_i_i182_i_i_i_i_i_i_i = (P)((uintptr_t)v_18 + (u64)(-1));
+    v_18 = (P)((u64)v_r16_sroa_0_0_copyload_i_i_i_i_i_i_i_i + (u64)(v_r16_sroa_3_0_copyload_i_i_i_i_i_i_i_i));
+    v_scevgep_i_i182_i_i_i_i_i_i_i = (P)((u64)v_18 + (u64)(-1));
     { p_v_r3_sroa_0_08_i_i184_i_i_i_i_i_i_i = v_r16_sroa_0_0_copyload_i_i_i_i_i_i_i_i; p_v_r3_sroa_6_07_i_i185_i_i_i_i_i_i_i = v_r16_sroa_3_0_copyload_i_i_i_i_i_i_i_i; goto L_then_3_i_i183_i_i_i_i_i_i_i; }
 L_then_3_i_i183_i_i_i_i_i_i_i:;
     v_r3_sroa_0_08_i_i184_i_i_i_i_i_i_i = p_v_r3_sroa_0_08_i_i184_i_i_i_i_i_i_i;
@@ -44150,8 +44222,8 @@ L_arm_5_i_i_i_i_i_i_i_i:;
     v_r146_i_i262_i_i_i_i_i_i_i = v_r22_sroa_3_0_copyload_i_i_i_i_i_i_i_i > 1u;
     if (v_r146_i_i262_i_i_i_i_i_i_i) { goto L_then_3_preheader_i_i275_i_i_i_i_i_i_i; } else { goto L_der_core_integer_uint_strip_exit_i263_i_i_i_i_i_i_; }
 L_then_3_preheader_i_i275_i_i_i_i_i_i_i:;
-    v_19 = (P)((uintptr_t)v_r22_sroa_0_0_copyload_i_i_i_i_i_i_i_i + (u64)(v_r22_sroa_3_0_copyload_i_i_i_i_i_i_i_i));
-    v_scevgep_i_i276_i_i_i_i_i_i_i = (P)((uintptr_t)v_19 + (u64)(-1));
+    v_19 = (P)((u64)v_r22_sroa_0_0_copyload_i_i_i_i_i_i_i_i + (u64)(v_r22_sroa_3_0_copyload_i_i_i_i_i_i_i_i));
+    v_scevgep_i_i276_i_i_i_i_i_i_i = (P)((u64)v_19 + (u64)(-1));
     { p_v_r3_sroa_0_08_i_i278_i_i_i_i_i_i_i = v_r22_sroa_0_0_copyload_i_i_i_i_i_i_i_i; p_v_r3_sroa_6_07_i_i279_i_i_i_i_i_i_i = v_r22_sroa_3_0_copyload_i_i_i_i_i_i_i_i; goto L_then_3_i_i277_i_i_i_i_i_i_i; }
 L_then_3_i_i277_i_i_i_i_i_i_i:;
     v_r3_sroa_0_08_i_i278_i_i_i_i_i_i_i = p_v_r3_sroa_0_08_i_i278_i_i_i_i_i_i_i;
@@ -44270,9 +44342,9 @@ L_arm_10_i_i_i_i_i_i_i:;
     if (v_r42_not_i_i_i_i_i_i_i) { p_v_r7_sroa_130_8_i_i_i = v_r7_sroa_130_9_i_i_i; goto L_der_core_borrowed_BorrowedEncode_prepend_046aa0adc; } else { goto L_join_7_i_i_i_i_i_i_i; }
 L_join_7_i_i_i_i_i_i_i:;
     v_r17_i_i_i_i_i_i_i_i_i_i_i = (u64)((u64)(v_r7_sroa_130_9_i_i_i) - (u64)(v_r12_sroa_10_i301_sroa_5_0_ph_i_i_i_i_i_i_i));
-    v_r26_i_i_i_i_i_i_i_i_i_i_i = (P)((uintptr_t)v_r13 + (u64)(v_r17_i_i_i_i_i_i_i_i_i_i_i));
-    v_r8_i_i_i_i_i_i_i_i_i_i_i_i_i_i_i_i_i = (u64)((uintptr_t)v_r26_i_i_i_i_i_i_i_i_i_i_i);
-    v_r9_i_i_i_i_i_i_i_i_i_i_i_i_i_i_i_i_i = (u64)((uintptr_t)v_r12_sroa_10_i301_sroa_3_0_ph_i_i_i_i_i_i_i);
+    v_r26_i_i_i_i_i_i_i_i_i_i_i = (P)((u64)v_r13 + (u64)(v_r17_i_i_i_i_i_i_i_i_i_i_i));
+    v_r8_i_i_i_i_i_i_i_i_i_i_i_i_i_i_i_i_i = (u64)((u64)v_r26_i_i_i_i_i_i_i_i_i_i_i);
+    v_r9_i_i_i_i_i_i_i_i_i_i_i_i_i_i_i_i_i = (u64)((u64)v_r12_sroa_10_i301_sroa_3_0_ph_i_i_i_i_i_i_i);
     v_r10_i_i_i_i_i_i_i_i_i_i_i_i_i_i_i_i_i = (u64)((u64)(v_r8_i_i_i_i_i_i_i_i_i_i_i_i_i_i_i_i_i) - (u64)(v_r9_i_i_i_i_i_i_i_i_i_i_i_i_i_i_i_i_i));
     v_r11_i_i_i_i_i_i_i_i_i_i_i_i_i_i_i_i_i = v_r10_i_i_i_i_i_i_i_i_i_i_i_i_i_i_i_i_i < v_r12_sroa_10_i301_sroa_5_0_ph_i_i_i_i_i_i_i;
     if (v_r11_i_i_i_i_i_i_i_i_i_i_i_i_i_i_i_i_i) { goto L_join_7_i_i_i_i_i_i_i_i_i_i_i_i_i_i_i_i_i_preheader; } else { goto L_apart_2_i_i_i_i_i_i_i_i_i_i_i_i_i_i_i_i_i; }
@@ -44334,7 +44406,7 @@ L_der_core_back_writer_BackWriter_prepend_exit_i_i_i:;
     if (v_r15_not_i_i_i_i_i_i_i_i_i_i) { p_v_r7_sroa_130_10_i_i_i = v_r17_i_i_i_i_i_i_i_i_i_i_i; goto L_der_core_borrowed_BorrowedEncode_prepend_f4fc96f16; } else { goto L_then_1_i_i_i_i_i_i_i_i_i_i; }
 L_then_1_i_i_i_i_i_i_i_i_i_i:;
     v_r17_i3_i_i_i_i_i_i_i_i_i_i = (u64)((u64)(v_r17_i_i_i_i_i_i_i_i_i_i_i) + (u64)(18446744073709551615ull));
-    v_r26_i5_i_i_i_i_i_i_i_i_i_i = (P)((uintptr_t)v_r13 + (u64)(v_r17_i3_i_i_i_i_i_i_i_i_i_i));
+    v_r26_i5_i_i_i_i_i_i_i_i_i_i = (P)((u64)v_r13 + (u64)(v_r17_i3_i_i_i_i_i_i_i_i_i_i));
     put_u8(v_r26_i5_i_i_i_i_i_i_i_i_i_i, 0u);
     { p_v_r7_sroa_130_10_i_i_i = v_r17_i3_i_i_i_i_i_i_i_i_i_i; goto L_der_core_borrowed_BorrowedEncode_prepend_f4fc96f16; }
 L_der_core_borrowed_BorrowedEncode_prepend_f4fc96f16:;
@@ -44348,7 +44420,7 @@ L_der_core_borrowed_BorrowedEncode_prepend_f4fc96f16:;
 L_then_1_i1074_i_i_i:;
     v_r64_i1075_i_i_i = (u16)(v_r2_i_i_i_i_i_i_i_i_i_i);
     v_r17_i_i1079_i_i_i = (u64)((u64)(v_r7_sroa_130_10_i_i_i) + (u64)(18446744073709551614ull));
-    v_r26_i_i1081_i_i_i = (P)((uintptr_t)v_r13 + (u64)(v_r17_i_i1079_i_i_i));
+    v_r26_i_i1081_i_i_i = (P)((u64)v_r13 + (u64)(v_r17_i_i1079_i_i_i));
     v_r8_i1008_sroa_4_0_insert_shift_i_i_i = (u16)((u32)(v_r64_i1075_i_i_i) << (u32)((8u & 31)));
     v_r8_i1008_sroa_0_0_insert_insert_i_i_i = (u16)((u32)(v_r8_i1008_sroa_4_0_insert_shift_i_i_i) | (u32)(2u));
     put_u16(v_r26_i_i1081_i_i_i, v_r8_i1008_sroa_0_0_insert_insert_i_i_i);
@@ -44359,7 +44431,7 @@ L_else_2_i1014_i_i_i:;
 L_then_4_i1065_i_i_i:;
     v_r80_i1066_i_i_i = (u8)(v_r2_i_i_i_i_i_i_i_i_i_i);
     v_r17_i28_i1071_i_i_i = (u64)((u64)(v_r7_sroa_130_10_i_i_i) + (u64)(18446744073709551613ull));
-    v_r26_i30_i1073_i_i_i = (P)((uintptr_t)v_r13 + (u64)(v_r17_i28_i1071_i_i_i));
+    v_r26_i30_i1073_i_i_i = (P)((u64)v_r13 + (u64)(v_r17_i28_i1071_i_i_i));
     put_u8(v_r26_i30_i1073_i_i_i, 2u);
     v_r14_i1009_sroa_4_0_r26_i30_i1073_sroa_idx_i_i_i = v_r26_i30_i1073_i_i_i + 1;
     put_u8(v_r14_i1009_sroa_4_0_r26_i30_i1073_sroa_idx_i_i_i, 129u);
@@ -44371,7 +44443,7 @@ L_else_5_i1016_i_i_i:;
     if (v_r92_i1017_i_i_i) { goto L_then_7_i1053_i_i_i; } else { goto L_else_8_i1018_i_i_i; }
 L_then_7_i1053_i_i_i:;
     v_r17_i46_i1061_i_i_i = (u64)((u64)(v_r7_sroa_130_10_i_i_i) + (u64)(18446744073709551612ull));
-    v_r26_i48_i1063_i_i_i = (P)((uintptr_t)v_r13 + (u64)(v_r17_i46_i1061_i_i_i));
+    v_r26_i48_i1063_i_i_i = (P)((u64)v_r13 + (u64)(v_r17_i46_i1061_i_i_i));
     v_24 = (u32)((u32)(v_r2_i_i_i_i_i_i_i_i_i_i) | (u32)(42074112u));
     v_r20_i1010_sroa_0_0_insert_insert_i_i_i = __builtin_bswap32(v_24);
     put_u32(v_r26_i48_i1063_i_i_i, v_r20_i1010_sroa_0_0_insert_insert_i_i_i);
@@ -44386,7 +44458,7 @@ L_then_10_i1038_i_i_i:;
     v_r130_i1042_i_i_i = (u8)(v_r12624_i1041_i_i_i);
     v_r134_i1043_i_i_i = (u8)(v_r2_i_i_i_i_i_i_i_i_i_i);
     v_r17_i64_i1050_i_i_i = (u64)((u64)(v_r7_sroa_130_10_i_i_i) + (u64)(18446744073709551611ull));
-    v_r26_i66_i1052_i_i_i = (P)((uintptr_t)v_r13 + (u64)(v_r17_i64_i1050_i_i_i));
+    v_r26_i66_i1052_i_i_i = (P)((u64)v_r13 + (u64)(v_r17_i64_i1050_i_i_i));
     put_u8(v_r26_i66_i1052_i_i_i, 2u);
     v_r29_i1011_sroa_4_0_r26_i66_i1052_sroa_idx_i_i_i = v_r26_i66_i1052_i_i_i + 1;
     put_u8(v_r29_i1011_sroa_4_0_r26_i66_i1052_sroa_idx_i_i_i, 131u);
@@ -44406,7 +44478,7 @@ L_else_11_i1020_i_i_i:;
     v_r164_i1026_i_i_i = (u8)(v_r16022_i1025_i_i_i);
     v_r168_i1027_i_i_i = (u8)(v_r2_i_i_i_i_i_i_i_i_i_i);
     v_r17_i82_i1035_i_i_i = (u64)((u64)(v_r7_sroa_130_10_i_i_i) + (u64)(18446744073709551610ull));
-    v_r26_i84_i1037_i_i_i = (P)((uintptr_t)v_r13 + (u64)(v_r17_i82_i1035_i_i_i));
+    v_r26_i84_i1037_i_i_i = (P)((u64)v_r13 + (u64)(v_r17_i82_i1035_i_i_i));
     put_u8(v_r26_i84_i1037_i_i_i, 2u);
     v_r40_i1012_sroa_4_0_r26_i84_i1037_sroa_idx_i_i_i = v_r26_i84_i1037_i_i_i + 1;
     put_u8(v_r40_i1012_sroa_4_0_r26_i84_i1037_sroa_idx_i_i_i, 132u);
@@ -44422,9 +44494,9 @@ L_else_11_i1020_i_i_i:;
 L_der_core_back_writer_BackWriter_prepend_header_exi:;
     v_r7_sroa_130_28_i_i_i = p_v_r7_sroa_130_28_i_i_i;
     v_r17_i_i_i10_i_i_i_i_i_i_i_i = (u64)((u64)(v_r7_sroa_130_28_i_i_i) - (u64)(v_r12_sroa_10_i207_sroa_5_0_ph_i_i_i_i_i_i_i));
-    v_r26_i_i_i12_i_i_i_i_i_i_i_i = (P)((uintptr_t)v_r13 + (u64)(v_r17_i_i_i10_i_i_i_i_i_i_i_i));
-    v_r8_i_i_i_i_i_i_i_i_i13_i_i_i_i_i_i_i_i = (u64)((uintptr_t)v_r26_i_i_i12_i_i_i_i_i_i_i_i);
-    v_r9_i_i_i_i_i_i_i_i_i14_i_i_i_i_i_i_i_i = (u64)((uintptr_t)v_r12_sroa_10_i207_sroa_3_0_ph_i_i_i_i_i_i_i);
+    v_r26_i_i_i12_i_i_i_i_i_i_i_i = (P)((u64)v_r13 + (u64)(v_r17_i_i_i10_i_i_i_i_i_i_i_i));
+    v_r8_i_i_i_i_i_i_i_i_i13_i_i_i_i_i_i_i_i = (u64)((u64)v_r26_i_i_i12_i_i_i_i_i_i_i_i);
+    v_r9_i_i_i_i_i_i_i_i_i14_i_i_i_i_i_i_i_i = (u64)((u64)v_r12_sroa_10_i207_sroa_3_0_ph_i_i_i_i_i_i_i);
     v_r10_i_i_i_i_i_i_i_i_i15_i_i_i_i_i_i_i_i = (u64)((u64)(v_r8_i_i_i_i_i_i_i_i_i13_i_i_i_i_i_i_i_i) - (u64)(v_r9_i_i_i_i_i_i_i_i_i14_i_i_i_i_i_i_i_i));
     v_r11_i_i_i_i_i_i_i_i_i16_i_i_i_i_i_i_i_i = v_r10_i_i_i_i_i_i_i_i_i15_i_i_i_i_i_i_i_i < v_r12_sroa_10_i207_sroa_5_0_ph_i_i_i_i_i_i_i;
     if (v_r11_i_i_i_i_i_i_i_i_i16_i_i_i_i_i_i_i_i) { goto L_join_7_i_i_i_i_i_i_i_i_i30_i_i_i_i_i_i_i_i_prehead; } else { goto L_apart_2_i_i_i_i_i_i_i_i_i17_i_i_i_i_i_i_i_i; }
@@ -44486,7 +44558,7 @@ L_der_core_back_writer_BackWriter_prepend_exit_i_i18:;
     if (v_r15_not_i_i21_i_i_i_i_i_i_i_i) { p_v_r7_sroa_130_11_i_i_i = v_r17_i_i_i10_i_i_i_i_i_i_i_i; goto L_der_core_borrowed_BorrowedEncode_prepend_f4fc96f16__2; } else { goto L_then_1_i_i22_i_i_i_i_i_i_i_i; }
 L_then_1_i_i22_i_i_i_i_i_i_i_i:;
     v_r17_i3_i_i23_i_i_i_i_i_i_i_i = (u64)((u64)(v_r17_i_i_i10_i_i_i_i_i_i_i_i) + (u64)(18446744073709551615ull));
-    v_r26_i5_i_i25_i_i_i_i_i_i_i_i = (P)((uintptr_t)v_r13 + (u64)(v_r17_i3_i_i23_i_i_i_i_i_i_i_i));
+    v_r26_i5_i_i25_i_i_i_i_i_i_i_i = (P)((u64)v_r13 + (u64)(v_r17_i3_i_i23_i_i_i_i_i_i_i_i));
     put_u8(v_r26_i5_i_i25_i_i_i_i_i_i_i_i, 0u);
     { p_v_r7_sroa_130_11_i_i_i = v_r17_i3_i_i23_i_i_i_i_i_i_i_i; goto L_der_core_borrowed_BorrowedEncode_prepend_f4fc96f16__2; }
 L_der_core_borrowed_BorrowedEncode_prepend_f4fc96f16__2:;
@@ -44500,7 +44572,7 @@ L_der_core_borrowed_BorrowedEncode_prepend_f4fc96f16__2:;
 L_then_1_i998_i_i_i:;
     v_r64_i999_i_i_i = (u16)(v_r2_i_i29_i_i_i_i_i_i_i_i);
     v_r17_i_i1003_i_i_i = (u64)((u64)(v_r7_sroa_130_11_i_i_i) + (u64)(18446744073709551614ull));
-    v_r26_i_i1005_i_i_i = (P)((uintptr_t)v_r13 + (u64)(v_r17_i_i1003_i_i_i));
+    v_r26_i_i1005_i_i_i = (P)((u64)v_r13 + (u64)(v_r17_i_i1003_i_i_i));
     v_r8_i932_sroa_4_0_insert_shift_i_i_i = (u16)((u32)(v_r64_i999_i_i_i) << (u32)((8u & 31)));
     v_r8_i932_sroa_0_0_insert_insert_i_i_i = (u16)((u32)(v_r8_i932_sroa_4_0_insert_shift_i_i_i) | (u32)(2u));
     put_u16(v_r26_i_i1005_i_i_i, v_r8_i932_sroa_0_0_insert_insert_i_i_i);
@@ -44511,7 +44583,7 @@ L_else_2_i938_i_i_i:;
 L_then_4_i989_i_i_i:;
     v_r80_i990_i_i_i = (u8)(v_r2_i_i29_i_i_i_i_i_i_i_i);
     v_r17_i28_i995_i_i_i = (u64)((u64)(v_r7_sroa_130_11_i_i_i) + (u64)(18446744073709551613ull));
-    v_r26_i30_i997_i_i_i = (P)((uintptr_t)v_r13 + (u64)(v_r17_i28_i995_i_i_i));
+    v_r26_i30_i997_i_i_i = (P)((u64)v_r13 + (u64)(v_r17_i28_i995_i_i_i));
     put_u8(v_r26_i30_i997_i_i_i, 2u);
     v_r14_i933_sroa_4_0_r26_i30_i997_sroa_idx_i_i_i = v_r26_i30_i997_i_i_i + 1;
     put_u8(v_r14_i933_sroa_4_0_r26_i30_i997_sroa_idx_i_i_i, 129u);
@@ -44523,7 +44595,7 @@ L_else_5_i940_i_i_i:;
     if (v_r92_i941_i_i_i) { goto L_then_7_i977_i_i_i; } else { goto L_else_8_i942_i_i_i; }
 L_then_7_i977_i_i_i:;
     v_r17_i46_i985_i_i_i = (u64)((u64)(v_r7_sroa_130_11_i_i_i) + (u64)(18446744073709551612ull));
-    v_r26_i48_i987_i_i_i = (P)((uintptr_t)v_r13 + (u64)(v_r17_i46_i985_i_i_i));
+    v_r26_i48_i987_i_i_i = (P)((u64)v_r13 + (u64)(v_r17_i46_i985_i_i_i));
     v_29 = (u32)((u32)(v_r2_i_i29_i_i_i_i_i_i_i_i) | (u32)(42074112u));
     v_r20_i934_sroa_0_0_insert_insert_i_i_i = __builtin_bswap32(v_29);
     put_u32(v_r26_i48_i987_i_i_i, v_r20_i934_sroa_0_0_insert_insert_i_i_i);
@@ -44538,7 +44610,7 @@ L_then_10_i962_i_i_i:;
     v_r130_i966_i_i_i = (u8)(v_r12624_i965_i_i_i);
     v_r134_i967_i_i_i = (u8)(v_r2_i_i29_i_i_i_i_i_i_i_i);
     v_r17_i64_i974_i_i_i = (u64)((u64)(v_r7_sroa_130_11_i_i_i) + (u64)(18446744073709551611ull));
-    v_r26_i66_i976_i_i_i = (P)((uintptr_t)v_r13 + (u64)(v_r17_i64_i974_i_i_i));
+    v_r26_i66_i976_i_i_i = (P)((u64)v_r13 + (u64)(v_r17_i64_i974_i_i_i));
     put_u8(v_r26_i66_i976_i_i_i, 2u);
     v_r29_i935_sroa_4_0_r26_i66_i976_sroa_idx_i_i_i = v_r26_i66_i976_i_i_i + 1;
     put_u8(v_r29_i935_sroa_4_0_r26_i66_i976_sroa_idx_i_i_i, 131u);
@@ -44558,7 +44630,7 @@ L_else_11_i944_i_i_i:;
     v_r164_i950_i_i_i = (u8)(v_r16022_i949_i_i_i);
     v_r168_i951_i_i_i = (u8)(v_r2_i_i29_i_i_i_i_i_i_i_i);
     v_r17_i82_i959_i_i_i = (u64)((u64)(v_r7_sroa_130_11_i_i_i) + (u64)(18446744073709551610ull));
-    v_r26_i84_i961_i_i_i = (P)((uintptr_t)v_r13 + (u64)(v_r17_i82_i959_i_i_i));
+    v_r26_i84_i961_i_i_i = (P)((u64)v_r13 + (u64)(v_r17_i82_i959_i_i_i));
     put_u8(v_r26_i84_i961_i_i_i, 2u);
     v_r40_i936_sroa_4_0_r26_i84_i961_sroa_idx_i_i_i = v_r26_i84_i961_i_i_i + 1;
     put_u8(v_r40_i936_sroa_4_0_r26_i84_i961_sroa_idx_i_i_i, 132u);
@@ -44574,9 +44646,9 @@ L_else_11_i944_i_i_i:;
 L_der_core_back_writer_BackWriter_prepend_header_exi__2:;
     v_r7_sroa_130_27_i_i_i = p_v_r7_sroa_130_27_i_i_i;
     v_r17_i_i_i43_i_i_i_i_i_i_i_i = (u64)((u64)(v_r7_sroa_130_27_i_i_i) - (u64)(v_r12_sroa_10_i_sroa_5_0_ph_i_i_i_i_i_i_i));
-    v_r26_i_i_i45_i_i_i_i_i_i_i_i = (P)((uintptr_t)v_r13 + (u64)(v_r17_i_i_i43_i_i_i_i_i_i_i_i));
-    v_r8_i_i_i_i_i_i_i_i_i46_i_i_i_i_i_i_i_i = (u64)((uintptr_t)v_r26_i_i_i45_i_i_i_i_i_i_i_i);
-    v_r9_i_i_i_i_i_i_i_i_i47_i_i_i_i_i_i_i_i = (u64)((uintptr_t)v_r12_sroa_10_i_sroa_3_0_ph_i_i_i_i_i_i_i);
+    v_r26_i_i_i45_i_i_i_i_i_i_i_i = (P)((u64)v_r13 + (u64)(v_r17_i_i_i43_i_i_i_i_i_i_i_i));
+    v_r8_i_i_i_i_i_i_i_i_i46_i_i_i_i_i_i_i_i = (u64)((u64)v_r26_i_i_i45_i_i_i_i_i_i_i_i);
+    v_r9_i_i_i_i_i_i_i_i_i47_i_i_i_i_i_i_i_i = (u64)((u64)v_r12_sroa_10_i_sroa_3_0_ph_i_i_i_i_i_i_i);
     v_r10_i_i_i_i_i_i_i_i_i48_i_i_i_i_i_i_i_i = (u64)((u64)(v_r8_i_i_i_i_i_i_i_i_i46_i_i_i_i_i_i_i_i) - (u64)(v_r9_i_i_i_i_i_i_i_i_i47_i_i_i_i_i_i_i_i));
     v_r11_i_i_i_i_i_i_i_i_i49_i_i_i_i_i_i_i_i = v_r10_i_i_i_i_i_i_i_i_i48_i_i_i_i_i_i_i_i < v_r12_sroa_10_i_sroa_5_0_ph_i_i_i_i_i_i_i;
     if (v_r11_i_i_i_i_i_i_i_i_i49_i_i_i_i_i_i_i_i) { goto L_join_7_i_i_i_i_i_i_i_i_i63_i_i_i_i_i_i_i_i_prehead; } else { goto L_apart_2_i_i_i_i_i_i_i_i_i50_i_i_i_i_i_i_i_i; }
@@ -44638,7 +44710,7 @@ L_der_core_back_writer_BackWriter_prepend_exit_i_i51:;
     if (v_r15_not_i_i54_i_i_i_i_i_i_i_i) { p_v_r7_sroa_130_12_i_i_i = v_r17_i_i_i43_i_i_i_i_i_i_i_i; goto L_pkcs1_c_given_primes_prepend_given_exit_i_i_i_i_i_; } else { goto L_then_1_i_i55_i_i_i_i_i_i_i_i; }
 L_then_1_i_i55_i_i_i_i_i_i_i_i:;
     v_r17_i3_i_i56_i_i_i_i_i_i_i_i = (u64)((u64)(v_r17_i_i_i43_i_i_i_i_i_i_i_i) + (u64)(18446744073709551615ull));
-    v_r26_i5_i_i58_i_i_i_i_i_i_i_i = (P)((uintptr_t)v_r13 + (u64)(v_r17_i3_i_i56_i_i_i_i_i_i_i_i));
+    v_r26_i5_i_i58_i_i_i_i_i_i_i_i = (P)((u64)v_r13 + (u64)(v_r17_i3_i_i56_i_i_i_i_i_i_i_i));
     put_u8(v_r26_i5_i_i58_i_i_i_i_i_i_i_i, 0u);
     { p_v_r7_sroa_130_12_i_i_i = v_r17_i3_i_i56_i_i_i_i_i_i_i_i; goto L_pkcs1_c_given_primes_prepend_given_exit_i_i_i_i_i_; }
 L_pkcs1_c_given_primes_prepend_given_exit_i_i_i_i_i_:;
@@ -44652,7 +44724,7 @@ L_pkcs1_c_given_primes_prepend_given_exit_i_i_i_i_i_:;
 L_then_1_i922_i_i_i:;
     v_r64_i923_i_i_i = (u16)(v_r2_i_i62_i_i_i_i_i_i_i_i);
     v_r17_i_i927_i_i_i = (u64)((u64)(v_r7_sroa_130_12_i_i_i) + (u64)(18446744073709551614ull));
-    v_r26_i_i929_i_i_i = (P)((uintptr_t)v_r13 + (u64)(v_r17_i_i927_i_i_i));
+    v_r26_i_i929_i_i_i = (P)((u64)v_r13 + (u64)(v_r17_i_i927_i_i_i));
     v_r8_i856_sroa_4_0_insert_shift_i_i_i = (u16)((u32)(v_r64_i923_i_i_i) << (u32)((8u & 31)));
     v_r8_i856_sroa_0_0_insert_insert_i_i_i = (u16)((u32)(v_r8_i856_sroa_4_0_insert_shift_i_i_i) | (u32)(2u));
     put_u16(v_r26_i_i929_i_i_i, v_r8_i856_sroa_0_0_insert_insert_i_i_i);
@@ -44663,7 +44735,7 @@ L_else_2_i862_i_i_i:;
 L_then_4_i913_i_i_i:;
     v_r80_i914_i_i_i = (u8)(v_r2_i_i62_i_i_i_i_i_i_i_i);
     v_r17_i28_i919_i_i_i = (u64)((u64)(v_r7_sroa_130_12_i_i_i) + (u64)(18446744073709551613ull));
-    v_r26_i30_i921_i_i_i = (P)((uintptr_t)v_r13 + (u64)(v_r17_i28_i919_i_i_i));
+    v_r26_i30_i921_i_i_i = (P)((u64)v_r13 + (u64)(v_r17_i28_i919_i_i_i));
     put_u8(v_r26_i30_i921_i_i_i, 2u);
     v_r14_i857_sroa_4_0_r26_i30_i921_sroa_idx_i_i_i = v_r26_i30_i921_i_i_i + 1;
     put_u8(v_r14_i857_sroa_4_0_r26_i30_i921_sroa_idx_i_i_i, 129u);
@@ -44675,7 +44747,7 @@ L_else_5_i864_i_i_i:;
     if (v_r92_i865_i_i_i) { goto L_then_7_i901_i_i_i; } else { goto L_else_8_i866_i_i_i; }
 L_then_7_i901_i_i_i:;
     v_r17_i46_i909_i_i_i = (u64)((u64)(v_r7_sroa_130_12_i_i_i) + (u64)(18446744073709551612ull));
-    v_r26_i48_i911_i_i_i = (P)((uintptr_t)v_r13 + (u64)(v_r17_i46_i909_i_i_i));
+    v_r26_i48_i911_i_i_i = (P)((u64)v_r13 + (u64)(v_r17_i46_i909_i_i_i));
     v_34 = (u32)((u32)(v_r2_i_i62_i_i_i_i_i_i_i_i) | (u32)(42074112u));
     v_r20_i858_sroa_0_0_insert_insert_i_i_i = __builtin_bswap32(v_34);
     put_u32(v_r26_i48_i911_i_i_i, v_r20_i858_sroa_0_0_insert_insert_i_i_i);
@@ -44690,7 +44762,7 @@ L_then_10_i886_i_i_i:;
     v_r130_i890_i_i_i = (u8)(v_r12624_i889_i_i_i);
     v_r134_i891_i_i_i = (u8)(v_r2_i_i62_i_i_i_i_i_i_i_i);
     v_r17_i64_i898_i_i_i = (u64)((u64)(v_r7_sroa_130_12_i_i_i) + (u64)(18446744073709551611ull));
-    v_r26_i66_i900_i_i_i = (P)((uintptr_t)v_r13 + (u64)(v_r17_i64_i898_i_i_i));
+    v_r26_i66_i900_i_i_i = (P)((u64)v_r13 + (u64)(v_r17_i64_i898_i_i_i));
     put_u8(v_r26_i66_i900_i_i_i, 2u);
     v_r29_i859_sroa_4_0_r26_i66_i900_sroa_idx_i_i_i = v_r26_i66_i900_i_i_i + 1;
     put_u8(v_r29_i859_sroa_4_0_r26_i66_i900_sroa_idx_i_i_i, 131u);
@@ -44710,7 +44782,7 @@ L_else_11_i868_i_i_i:;
     v_r164_i874_i_i_i = (u8)(v_r16022_i873_i_i_i);
     v_r168_i875_i_i_i = (u8)(v_r2_i_i62_i_i_i_i_i_i_i_i);
     v_r17_i82_i883_i_i_i = (u64)((u64)(v_r7_sroa_130_12_i_i_i) + (u64)(18446744073709551610ull));
-    v_r26_i84_i885_i_i_i = (P)((uintptr_t)v_r13 + (u64)(v_r17_i82_i883_i_i_i));
+    v_r26_i84_i885_i_i_i = (P)((u64)v_r13 + (u64)(v_r17_i82_i883_i_i_i));
     put_u8(v_r26_i84_i885_i_i_i, 2u);
     v_r40_i860_sroa_4_0_r26_i84_i885_sroa_idx_i_i_i = v_r26_i84_i885_i_i_i + 1;
     put_u8(v_r40_i860_sroa_4_0_r26_i84_i885_sroa_idx_i_i_i, 132u);
@@ -44732,7 +44804,7 @@ L_der_core_back_writer_BackWriter_prepend_header_exi__3:;
 L_then_1_i846_i_i_i:;
     v_r64_i847_i_i_i = (u16)(v_r17_i113_i_i_i_i_i_i_i);
     v_r17_i_i851_i_i_i = (u64)((u64)(v_r7_sroa_130_26_i_i_i) + (u64)(18446744073709551614ull));
-    v_r26_i_i853_i_i_i = (P)((uintptr_t)v_r13 + (u64)(v_r17_i_i851_i_i_i));
+    v_r26_i_i853_i_i_i = (P)((u64)v_r13 + (u64)(v_r17_i_i851_i_i_i));
     v_r8_i780_sroa_4_0_insert_shift_i_i_i = (u16)((u32)(v_r64_i847_i_i_i) << (u32)((8u & 31)));
     v_r8_i780_sroa_0_0_insert_insert_i_i_i = (u16)((u32)(v_r8_i780_sroa_4_0_insert_shift_i_i_i) | (u32)(48u));
     put_u16(v_r26_i_i853_i_i_i, v_r8_i780_sroa_0_0_insert_insert_i_i_i);
@@ -44743,7 +44815,7 @@ L_else_2_i786_i_i_i:;
 L_then_4_i837_i_i_i:;
     v_r80_i838_i_i_i = (u8)(v_r17_i113_i_i_i_i_i_i_i);
     v_r17_i28_i843_i_i_i = (u64)((u64)(v_r7_sroa_130_26_i_i_i) + (u64)(18446744073709551613ull));
-    v_r26_i30_i845_i_i_i = (P)((uintptr_t)v_r13 + (u64)(v_r17_i28_i843_i_i_i));
+    v_r26_i30_i845_i_i_i = (P)((u64)v_r13 + (u64)(v_r17_i28_i843_i_i_i));
     put_u8(v_r26_i30_i845_i_i_i, 48u);
     v_r14_i781_sroa_4_0_r26_i30_i845_sroa_idx_i_i_i = v_r26_i30_i845_i_i_i + 1;
     put_u8(v_r14_i781_sroa_4_0_r26_i30_i845_sroa_idx_i_i_i, 129u);
@@ -44755,7 +44827,7 @@ L_else_5_i788_i_i_i:;
     if (v_r92_i789_i_i_i) { goto L_then_7_i825_i_i_i; } else { goto L_else_8_i790_i_i_i; }
 L_then_7_i825_i_i_i:;
     v_r17_i46_i833_i_i_i = (u64)((u64)(v_r7_sroa_130_26_i_i_i) + (u64)(18446744073709551612ull));
-    v_r26_i48_i835_i_i_i = (P)((uintptr_t)v_r13 + (u64)(v_r17_i46_i833_i_i_i));
+    v_r26_i48_i835_i_i_i = (P)((u64)v_r13 + (u64)(v_r17_i46_i833_i_i_i));
     v_35 = (u32)((u32)(v_r2_i379_i_i_i_i_i_i_i) | (u32)(813826048u));
     v_r20_i782_sroa_0_0_insert_insert_i_i_i = __builtin_bswap32(v_35);
     put_u32(v_r26_i48_i835_i_i_i, v_r20_i782_sroa_0_0_insert_insert_i_i_i);
@@ -44770,7 +44842,7 @@ L_then_10_i810_i_i_i:;
     v_r130_i814_i_i_i = (u8)(v_r12624_i8131244_i_i_i);
     v_r134_i815_i_i_i = (u8)(v_r17_i113_i_i_i_i_i_i_i);
     v_r17_i64_i822_i_i_i = (u64)((u64)(v_r7_sroa_130_26_i_i_i) + (u64)(18446744073709551611ull));
-    v_r26_i66_i824_i_i_i = (P)((uintptr_t)v_r13 + (u64)(v_r17_i64_i822_i_i_i));
+    v_r26_i66_i824_i_i_i = (P)((u64)v_r13 + (u64)(v_r17_i64_i822_i_i_i));
     put_u8(v_r26_i66_i824_i_i_i, 48u);
     v_r29_i783_sroa_4_0_r26_i66_i824_sroa_idx_i_i_i = v_r26_i66_i824_i_i_i + 1;
     put_u8(v_r29_i783_sroa_4_0_r26_i66_i824_sroa_idx_i_i_i, 131u);
@@ -44790,7 +44862,7 @@ L_else_11_i792_i_i_i:;
     v_r164_i798_i_i_i = (u8)(v_r16022_i7971242_i_i_i);
     v_r168_i799_i_i_i = (u8)(v_r17_i113_i_i_i_i_i_i_i);
     v_r17_i82_i807_i_i_i = (u64)((u64)(v_r7_sroa_130_26_i_i_i) + (u64)(18446744073709551610ull));
-    v_r26_i84_i809_i_i_i = (P)((uintptr_t)v_r13 + (u64)(v_r17_i82_i807_i_i_i));
+    v_r26_i84_i809_i_i_i = (P)((u64)v_r13 + (u64)(v_r17_i82_i807_i_i_i));
     put_u8(v_r26_i84_i809_i_i_i, 48u);
     v_r40_i784_sroa_4_0_r26_i84_i809_sroa_idx_i_i_i = v_r26_i84_i809_i_i_i + 1;
     put_u8(v_r40_i784_sroa_4_0_r26_i84_i809_sroa_idx_i_i_i, 132u);
@@ -44816,7 +44888,7 @@ L_der_core_borrowed_BorrowedEncode_prepend_046aa0adc:;
 L_then_1_i770_i_i_i:;
     v_r64_i771_i_i_i = (u16)(v_r2_i_i_i_i_i_i);
     v_r17_i_i775_i_i_i = (u64)((u64)(v_r7_sroa_130_8_i_i_i) + (u64)(18446744073709551614ull));
-    v_r26_i_i777_i_i_i = (P)((uintptr_t)v_r13 + (u64)(v_r17_i_i775_i_i_i));
+    v_r26_i_i777_i_i_i = (P)((u64)v_r13 + (u64)(v_r17_i_i775_i_i_i));
     v_r8_i704_sroa_4_0_insert_shift_i_i_i = (u16)((u32)(v_r64_i771_i_i_i) << (u32)((8u & 31)));
     v_r8_i704_sroa_0_0_insert_insert_i_i_i = (u16)((u32)(v_r8_i704_sroa_4_0_insert_shift_i_i_i) | (u32)(48u));
     put_u16(v_r26_i_i777_i_i_i, v_r8_i704_sroa_0_0_insert_insert_i_i_i);
@@ -44827,7 +44899,7 @@ L_else_2_i710_i_i_i:;
 L_then_4_i761_i_i_i:;
     v_r80_i762_i_i_i = (u8)(v_r2_i_i_i_i_i_i);
     v_r17_i28_i767_i_i_i = (u64)((u64)(v_r7_sroa_130_8_i_i_i) + (u64)(18446744073709551613ull));
-    v_r26_i30_i769_i_i_i = (P)((uintptr_t)v_r13 + (u64)(v_r17_i28_i767_i_i_i));
+    v_r26_i30_i769_i_i_i = (P)((u64)v_r13 + (u64)(v_r17_i28_i767_i_i_i));
     put_u8(v_r26_i30_i769_i_i_i, 48u);
     v_r14_i705_sroa_4_0_r26_i30_i769_sroa_idx_i_i_i = v_r26_i30_i769_i_i_i + 1;
     put_u8(v_r14_i705_sroa_4_0_r26_i30_i769_sroa_idx_i_i_i, 129u);
@@ -44839,7 +44911,7 @@ L_else_5_i712_i_i_i:;
     if (v_r92_i713_i_i_i) { goto L_then_7_i749_i_i_i; } else { goto L_else_8_i714_i_i_i; }
 L_then_7_i749_i_i_i:;
     v_r17_i46_i757_i_i_i = (u64)((u64)(v_r7_sroa_130_8_i_i_i) + (u64)(18446744073709551612ull));
-    v_r26_i48_i759_i_i_i = (P)((uintptr_t)v_r13 + (u64)(v_r17_i46_i757_i_i_i));
+    v_r26_i48_i759_i_i_i = (P)((u64)v_r13 + (u64)(v_r17_i46_i757_i_i_i));
     v_37 = (u32)((u32)(v_r2_i_i_i_i_i_i) | (u32)(813826048u));
     v_r20_i706_sroa_0_0_insert_insert_i_i_i = __builtin_bswap32(v_37);
     put_u32(v_r26_i48_i759_i_i_i, v_r20_i706_sroa_0_0_insert_insert_i_i_i);
@@ -44854,7 +44926,7 @@ L_then_10_i734_i_i_i:;
     v_r130_i738_i_i_i = (u8)(v_r12624_i737_i_i_i);
     v_r134_i739_i_i_i = (u8)(v_r2_i_i_i_i_i_i);
     v_r17_i64_i746_i_i_i = (u64)((u64)(v_r7_sroa_130_8_i_i_i) + (u64)(18446744073709551611ull));
-    v_r26_i66_i748_i_i_i = (P)((uintptr_t)v_r13 + (u64)(v_r17_i64_i746_i_i_i));
+    v_r26_i66_i748_i_i_i = (P)((u64)v_r13 + (u64)(v_r17_i64_i746_i_i_i));
     put_u8(v_r26_i66_i748_i_i_i, 48u);
     v_r29_i707_sroa_4_0_r26_i66_i748_sroa_idx_i_i_i = v_r26_i66_i748_i_i_i + 1;
     put_u8(v_r29_i707_sroa_4_0_r26_i66_i748_sroa_idx_i_i_i, 131u);
@@ -44874,7 +44946,7 @@ L_else_11_i716_i_i_i:;
     v_r164_i722_i_i_i = (u8)(v_r16022_i721_i_i_i);
     v_r168_i723_i_i_i = (u8)(v_r2_i_i_i_i_i_i);
     v_r17_i82_i731_i_i_i = (u64)((u64)(v_r7_sroa_130_8_i_i_i) + (u64)(18446744073709551610ull));
-    v_r26_i84_i733_i_i_i = (P)((uintptr_t)v_r13 + (u64)(v_r17_i82_i731_i_i_i));
+    v_r26_i84_i733_i_i_i = (P)((u64)v_r13 + (u64)(v_r17_i82_i731_i_i_i));
     put_u8(v_r26_i84_i733_i_i_i, 48u);
     v_r40_i708_sroa_4_0_r26_i84_i733_sroa_idx_i_i_i = v_r26_i84_i733_i_i_i + 1;
     put_u8(v_r40_i708_sroa_4_0_r26_i84_i733_sroa_idx_i_i_i, 132u);
@@ -44890,9 +44962,9 @@ L_else_11_i716_i_i_i:;
 L_der_core_last_part_LastEncodeValue_prepend_value_b:;
     v_r7_sroa_130_0_i_i_i = p_v_r7_sroa_130_0_i_i_i;
     v_r17_i_i_i_i_i_i_i = (u64)((u64)(v_r7_sroa_130_0_i_i_i) - (u64)(v_r1_sroa_3_0_copyload_i_i_i_i_i_i));
-    v_r26_i_i_i_i_i_i_i = (P)((uintptr_t)v_r13 + (u64)(v_r17_i_i_i_i_i_i_i));
-    v_r8_i_i_i_i_i_i_i_i_i_i_i_i_i = (u64)((uintptr_t)v_r26_i_i_i_i_i_i_i);
-    v_r9_i_i_i_i_i_i_i_i_i_i_i_i_i = (u64)((uintptr_t)v_r1_sroa_0_0_copyload_i_i_i_i_i_i);
+    v_r26_i_i_i_i_i_i_i = (P)((u64)v_r13 + (u64)(v_r17_i_i_i_i_i_i_i));
+    v_r8_i_i_i_i_i_i_i_i_i_i_i_i_i = (u64)((u64)v_r26_i_i_i_i_i_i_i);
+    v_r9_i_i_i_i_i_i_i_i_i_i_i_i_i = (u64)((u64)v_r1_sroa_0_0_copyload_i_i_i_i_i_i);
     v_r10_i_i_i_i_i_i_i_i_i_i_i_i_i = (u64)((u64)(v_r8_i_i_i_i_i_i_i_i_i_i_i_i_i) - (u64)(v_r9_i_i_i_i_i_i_i_i_i_i_i_i_i));
     v_r11_i_i_i_i_i_i_i_i_i_i_i_i_i = v_r10_i_i_i_i_i_i_i_i_i_i_i_i_i < v_r1_sroa_3_0_copyload_i_i_i_i_i_i;
     if (v_r11_i_i_i_i_i_i_i_i_i_i_i_i_i) { goto L_join_7_i_i_i_i_i_i_i_i_i_i_i_i_i_preheader; } else { goto L_apart_2_i_i_i_i_i_i_i_i_i_i_i_i_i; }
@@ -44954,7 +45026,7 @@ L_der_core_back_writer_BackWriter_prepend_exit_i_i_i__3:;
     if (v_r15_not_i_i_i_i_i_i) { p_v_r7_sroa_130_1_i_i_i = v_r17_i_i_i_i_i_i_i; goto L_der_core_borrowed_BorrowedEncode_prepend_f4fc96f16__3; } else { goto L_then_1_i_i_i_i_i_i; }
 L_then_1_i_i_i_i_i_i:;
     v_r17_i3_i_i_i_i_i_i = (u64)((u64)(v_r17_i_i_i_i_i_i_i) + (u64)(18446744073709551615ull));
-    v_r26_i5_i_i_i_i_i_i = (P)((uintptr_t)v_r13 + (u64)(v_r17_i3_i_i_i_i_i_i));
+    v_r26_i5_i_i_i_i_i_i = (P)((u64)v_r13 + (u64)(v_r17_i3_i_i_i_i_i_i));
     put_u8(v_r26_i5_i_i_i_i_i_i, 0u);
     { p_v_r7_sroa_130_1_i_i_i = v_r17_i3_i_i_i_i_i_i; goto L_der_core_borrowed_BorrowedEncode_prepend_f4fc96f16__3; }
 L_der_core_borrowed_BorrowedEncode_prepend_f4fc96f16__3:;
@@ -44968,7 +45040,7 @@ L_der_core_borrowed_BorrowedEncode_prepend_f4fc96f16__3:;
 L_then_1_i694_i_i_i:;
     v_r64_i695_i_i_i = (u16)(v_r2_i_i23_i_i_i_i);
     v_r17_i_i699_i_i_i = (u64)((u64)(v_r7_sroa_130_1_i_i_i) + (u64)(18446744073709551614ull));
-    v_r26_i_i701_i_i_i = (P)((uintptr_t)v_r13 + (u64)(v_r17_i_i699_i_i_i));
+    v_r26_i_i701_i_i_i = (P)((u64)v_r13 + (u64)(v_r17_i_i699_i_i_i));
     v_r8_i628_sroa_4_0_insert_shift_i_i_i = (u16)((u32)(v_r64_i695_i_i_i) << (u32)((8u & 31)));
     v_r8_i628_sroa_0_0_insert_insert_i_i_i = (u16)((u32)(v_r8_i628_sroa_4_0_insert_shift_i_i_i) | (u32)(2u));
     put_u16(v_r26_i_i701_i_i_i, v_r8_i628_sroa_0_0_insert_insert_i_i_i);
@@ -44979,7 +45051,7 @@ L_else_2_i634_i_i_i:;
 L_then_4_i685_i_i_i:;
     v_r80_i686_i_i_i = (u8)(v_r2_i_i23_i_i_i_i);
     v_r17_i28_i691_i_i_i = (u64)((u64)(v_r7_sroa_130_1_i_i_i) + (u64)(18446744073709551613ull));
-    v_r26_i30_i693_i_i_i = (P)((uintptr_t)v_r13 + (u64)(v_r17_i28_i691_i_i_i));
+    v_r26_i30_i693_i_i_i = (P)((u64)v_r13 + (u64)(v_r17_i28_i691_i_i_i));
     put_u8(v_r26_i30_i693_i_i_i, 2u);
     v_r14_i629_sroa_4_0_r26_i30_i693_sroa_idx_i_i_i = v_r26_i30_i693_i_i_i + 1;
     put_u8(v_r14_i629_sroa_4_0_r26_i30_i693_sroa_idx_i_i_i, 129u);
@@ -44991,7 +45063,7 @@ L_else_5_i636_i_i_i:;
     if (v_r92_i637_i_i_i) { goto L_then_7_i673_i_i_i; } else { goto L_else_8_i638_i_i_i; }
 L_then_7_i673_i_i_i:;
     v_r17_i46_i681_i_i_i = (u64)((u64)(v_r7_sroa_130_1_i_i_i) + (u64)(18446744073709551612ull));
-    v_r26_i48_i683_i_i_i = (P)((uintptr_t)v_r13 + (u64)(v_r17_i46_i681_i_i_i));
+    v_r26_i48_i683_i_i_i = (P)((u64)v_r13 + (u64)(v_r17_i46_i681_i_i_i));
     v_42 = (u32)((u32)(v_r2_i_i23_i_i_i_i) | (u32)(42074112u));
     v_r20_i630_sroa_0_0_insert_insert_i_i_i = __builtin_bswap32(v_42);
     put_u32(v_r26_i48_i683_i_i_i, v_r20_i630_sroa_0_0_insert_insert_i_i_i);
@@ -45006,7 +45078,7 @@ L_then_10_i658_i_i_i:;
     v_r130_i662_i_i_i = (u8)(v_r12624_i661_i_i_i);
     v_r134_i663_i_i_i = (u8)(v_r2_i_i23_i_i_i_i);
     v_r17_i64_i670_i_i_i = (u64)((u64)(v_r7_sroa_130_1_i_i_i) + (u64)(18446744073709551611ull));
-    v_r26_i66_i672_i_i_i = (P)((uintptr_t)v_r13 + (u64)(v_r17_i64_i670_i_i_i));
+    v_r26_i66_i672_i_i_i = (P)((u64)v_r13 + (u64)(v_r17_i64_i670_i_i_i));
     put_u8(v_r26_i66_i672_i_i_i, 2u);
     v_r29_i631_sroa_4_0_r26_i66_i672_sroa_idx_i_i_i = v_r26_i66_i672_i_i_i + 1;
     put_u8(v_r29_i631_sroa_4_0_r26_i66_i672_sroa_idx_i_i_i, 131u);
@@ -45026,7 +45098,7 @@ L_else_11_i640_i_i_i:;
     v_r164_i646_i_i_i = (u8)(v_r16022_i645_i_i_i);
     v_r168_i647_i_i_i = (u8)(v_r2_i_i23_i_i_i_i);
     v_r17_i82_i655_i_i_i = (u64)((u64)(v_r7_sroa_130_1_i_i_i) + (u64)(18446744073709551610ull));
-    v_r26_i84_i657_i_i_i = (P)((uintptr_t)v_r13 + (u64)(v_r17_i82_i655_i_i_i));
+    v_r26_i84_i657_i_i_i = (P)((u64)v_r13 + (u64)(v_r17_i82_i655_i_i_i));
     put_u8(v_r26_i84_i657_i_i_i, 2u);
     v_r40_i632_sroa_4_0_r26_i84_i657_sroa_idx_i_i_i = v_r26_i84_i657_i_i_i + 1;
     put_u8(v_r40_i632_sroa_4_0_r26_i84_i657_sroa_idx_i_i_i, 132u);
@@ -45042,9 +45114,9 @@ L_else_11_i640_i_i_i:;
 L_der_core_back_writer_BackWriter_prepend_header_exi__5:;
     v_r7_sroa_130_23_i_i_i = p_v_r7_sroa_130_23_i_i_i;
     v_r17_i_i_i29_i_i_i_i = (u64)((u64)(v_r7_sroa_130_23_i_i_i) - (u64)(v_r1_sroa_3_0_copyload_i_i28_i_i_i_i));
-    v_r26_i_i_i31_i_i_i_i = (P)((uintptr_t)v_r13 + (u64)(v_r17_i_i_i29_i_i_i_i));
-    v_r8_i_i_i_i_i_i_i_i_i32_i_i_i_i = (u64)((uintptr_t)v_r26_i_i_i31_i_i_i_i);
-    v_r9_i_i_i_i_i_i_i_i_i33_i_i_i_i = (u64)((uintptr_t)v_r1_sroa_0_0_copyload_i_i26_i_i_i_i);
+    v_r26_i_i_i31_i_i_i_i = (P)((u64)v_r13 + (u64)(v_r17_i_i_i29_i_i_i_i));
+    v_r8_i_i_i_i_i_i_i_i_i32_i_i_i_i = (u64)((u64)v_r26_i_i_i31_i_i_i_i);
+    v_r9_i_i_i_i_i_i_i_i_i33_i_i_i_i = (u64)((u64)v_r1_sroa_0_0_copyload_i_i26_i_i_i_i);
     v_r10_i_i_i_i_i_i_i_i_i34_i_i_i_i = (u64)((u64)(v_r8_i_i_i_i_i_i_i_i_i32_i_i_i_i) - (u64)(v_r9_i_i_i_i_i_i_i_i_i33_i_i_i_i));
     v_r11_i_i_i_i_i_i_i_i_i35_i_i_i_i = v_r10_i_i_i_i_i_i_i_i_i34_i_i_i_i < v_r1_sroa_3_0_copyload_i_i28_i_i_i_i;
     if (v_r11_i_i_i_i_i_i_i_i_i35_i_i_i_i) { goto L_join_7_i_i_i_i_i_i_i_i_i49_i_i_i_i_preheader; } else { goto L_apart_2_i_i_i_i_i_i_i_i_i36_i_i_i_i; }
@@ -45106,7 +45178,7 @@ L_der_core_back_writer_BackWriter_prepend_exit_i_i37:;
     if (v_r15_not_i_i40_i_i_i_i) { p_v_r7_sroa_130_2_i_i_i = v_r17_i_i_i29_i_i_i_i; goto L_der_core_borrowed_BorrowedEncode_prepend_f4fc96f16__4; } else { goto L_then_1_i_i41_i_i_i_i; }
 L_then_1_i_i41_i_i_i_i:;
     v_r17_i3_i_i42_i_i_i_i = (u64)((u64)(v_r17_i_i_i29_i_i_i_i) + (u64)(18446744073709551615ull));
-    v_r26_i5_i_i44_i_i_i_i = (P)((uintptr_t)v_r13 + (u64)(v_r17_i3_i_i42_i_i_i_i));
+    v_r26_i5_i_i44_i_i_i_i = (P)((u64)v_r13 + (u64)(v_r17_i3_i_i42_i_i_i_i));
     put_u8(v_r26_i5_i_i44_i_i_i_i, 0u);
     { p_v_r7_sroa_130_2_i_i_i = v_r17_i3_i_i42_i_i_i_i; goto L_der_core_borrowed_BorrowedEncode_prepend_f4fc96f16__4; }
 L_der_core_borrowed_BorrowedEncode_prepend_f4fc96f16__4:;
@@ -45120,7 +45192,7 @@ L_der_core_borrowed_BorrowedEncode_prepend_f4fc96f16__4:;
 L_then_1_i618_i_i_i:;
     v_r64_i619_i_i_i = (u16)(v_r2_i_i48_i_i_i_i);
     v_r17_i_i623_i_i_i = (u64)((u64)(v_r7_sroa_130_2_i_i_i) + (u64)(18446744073709551614ull));
-    v_r26_i_i625_i_i_i = (P)((uintptr_t)v_r13 + (u64)(v_r17_i_i623_i_i_i));
+    v_r26_i_i625_i_i_i = (P)((u64)v_r13 + (u64)(v_r17_i_i623_i_i_i));
     v_r8_i552_sroa_4_0_insert_shift_i_i_i = (u16)((u32)(v_r64_i619_i_i_i) << (u32)((8u & 31)));
     v_r8_i552_sroa_0_0_insert_insert_i_i_i = (u16)((u32)(v_r8_i552_sroa_4_0_insert_shift_i_i_i) | (u32)(2u));
     put_u16(v_r26_i_i625_i_i_i, v_r8_i552_sroa_0_0_insert_insert_i_i_i);
@@ -45131,7 +45203,7 @@ L_else_2_i558_i_i_i:;
 L_then_4_i609_i_i_i:;
     v_r80_i610_i_i_i = (u8)(v_r2_i_i48_i_i_i_i);
     v_r17_i28_i615_i_i_i = (u64)((u64)(v_r7_sroa_130_2_i_i_i) + (u64)(18446744073709551613ull));
-    v_r26_i30_i617_i_i_i = (P)((uintptr_t)v_r13 + (u64)(v_r17_i28_i615_i_i_i));
+    v_r26_i30_i617_i_i_i = (P)((u64)v_r13 + (u64)(v_r17_i28_i615_i_i_i));
     put_u8(v_r26_i30_i617_i_i_i, 2u);
     v_r14_i553_sroa_4_0_r26_i30_i617_sroa_idx_i_i_i = v_r26_i30_i617_i_i_i + 1;
     put_u8(v_r14_i553_sroa_4_0_r26_i30_i617_sroa_idx_i_i_i, 129u);
@@ -45143,7 +45215,7 @@ L_else_5_i560_i_i_i:;
     if (v_r92_i561_i_i_i) { goto L_then_7_i597_i_i_i; } else { goto L_else_8_i562_i_i_i; }
 L_then_7_i597_i_i_i:;
     v_r17_i46_i605_i_i_i = (u64)((u64)(v_r7_sroa_130_2_i_i_i) + (u64)(18446744073709551612ull));
-    v_r26_i48_i607_i_i_i = (P)((uintptr_t)v_r13 + (u64)(v_r17_i46_i605_i_i_i));
+    v_r26_i48_i607_i_i_i = (P)((u64)v_r13 + (u64)(v_r17_i46_i605_i_i_i));
     v_47 = (u32)((u32)(v_r2_i_i48_i_i_i_i) | (u32)(42074112u));
     v_r20_i554_sroa_0_0_insert_insert_i_i_i = __builtin_bswap32(v_47);
     put_u32(v_r26_i48_i607_i_i_i, v_r20_i554_sroa_0_0_insert_insert_i_i_i);
@@ -45158,7 +45230,7 @@ L_then_10_i582_i_i_i:;
     v_r130_i586_i_i_i = (u8)(v_r12624_i585_i_i_i);
     v_r134_i587_i_i_i = (u8)(v_r2_i_i48_i_i_i_i);
     v_r17_i64_i594_i_i_i = (u64)((u64)(v_r7_sroa_130_2_i_i_i) + (u64)(18446744073709551611ull));
-    v_r26_i66_i596_i_i_i = (P)((uintptr_t)v_r13 + (u64)(v_r17_i64_i594_i_i_i));
+    v_r26_i66_i596_i_i_i = (P)((u64)v_r13 + (u64)(v_r17_i64_i594_i_i_i));
     put_u8(v_r26_i66_i596_i_i_i, 2u);
     v_r29_i555_sroa_4_0_r26_i66_i596_sroa_idx_i_i_i = v_r26_i66_i596_i_i_i + 1;
     put_u8(v_r29_i555_sroa_4_0_r26_i66_i596_sroa_idx_i_i_i, 131u);
@@ -45178,7 +45250,7 @@ L_else_11_i564_i_i_i:;
     v_r164_i570_i_i_i = (u8)(v_r16022_i569_i_i_i);
     v_r168_i571_i_i_i = (u8)(v_r2_i_i48_i_i_i_i);
     v_r17_i82_i579_i_i_i = (u64)((u64)(v_r7_sroa_130_2_i_i_i) + (u64)(18446744073709551610ull));
-    v_r26_i84_i581_i_i_i = (P)((uintptr_t)v_r13 + (u64)(v_r17_i82_i579_i_i_i));
+    v_r26_i84_i581_i_i_i = (P)((u64)v_r13 + (u64)(v_r17_i82_i579_i_i_i));
     put_u8(v_r26_i84_i581_i_i_i, 2u);
     v_r40_i556_sroa_4_0_r26_i84_i581_sroa_idx_i_i_i = v_r26_i84_i581_i_i_i + 1;
     put_u8(v_r40_i556_sroa_4_0_r26_i84_i581_sroa_idx_i_i_i, 132u);
@@ -45194,9 +45266,9 @@ L_else_11_i564_i_i_i:;
 L_der_core_back_writer_BackWriter_prepend_header_exi__6:;
     v_r7_sroa_130_22_i_i_i = p_v_r7_sroa_130_22_i_i_i;
     v_r17_i_i_i62_i_i_i_i = (u64)((u64)(v_r7_sroa_130_22_i_i_i) - (u64)(v_r1_sroa_3_0_copyload_i_i61_i_i_i_i));
-    v_r26_i_i_i64_i_i_i_i = (P)((uintptr_t)v_r13 + (u64)(v_r17_i_i_i62_i_i_i_i));
-    v_r8_i_i_i_i_i_i_i_i_i65_i_i_i_i = (u64)((uintptr_t)v_r26_i_i_i64_i_i_i_i);
-    v_r9_i_i_i_i_i_i_i_i_i66_i_i_i_i = (u64)((uintptr_t)v_r1_sroa_0_0_copyload_i_i59_i_i_i_i);
+    v_r26_i_i_i64_i_i_i_i = (P)((u64)v_r13 + (u64)(v_r17_i_i_i62_i_i_i_i));
+    v_r8_i_i_i_i_i_i_i_i_i65_i_i_i_i = (u64)((u64)v_r26_i_i_i64_i_i_i_i);
+    v_r9_i_i_i_i_i_i_i_i_i66_i_i_i_i = (u64)((u64)v_r1_sroa_0_0_copyload_i_i59_i_i_i_i);
     v_r10_i_i_i_i_i_i_i_i_i67_i_i_i_i = (u64)((u64)(v_r8_i_i_i_i_i_i_i_i_i65_i_i_i_i) - (u64)(v_r9_i_i_i_i_i_i_i_i_i66_i_i_i_i));
     v_r11_i_i_i_i_i_i_i_i_i68_i_i_i_i = v_r10_i_i_i_i_i_i_i_i_i67_i_i_i_i < v_r1_sroa_3_0_copyload_i_i61_i_i_i_i;
     if (v_r11_i_i_i_i_i_i_i_i_i68_i_i_i_i) { goto L_join_7_i_i_i_i_i_i_i_i_i82_i_i_i_i_preheader; } else { goto L_apart_2_i_i_i_i_i_i_i_i_i69_i_i_i_i; }
@@ -45258,7 +45330,7 @@ L_der_core_back_writer_BackWriter_prepend_exit_i_i70:;
     if (v_r15_not_i_i73_i_i_i_i) { p_v_r7_sroa_130_3_i_i_i = v_r17_i_i_i62_i_i_i_i; goto L_der_core_borrowed_BorrowedEncode_prepend_f4fc96f16__5; } else { goto L_then_1_i_i74_i_i_i_i; }
 L_then_1_i_i74_i_i_i_i:;
     v_r17_i3_i_i75_i_i_i_i = (u64)((u64)(v_r17_i_i_i62_i_i_i_i) + (u64)(18446744073709551615ull));
-    v_r26_i5_i_i77_i_i_i_i = (P)((uintptr_t)v_r13 + (u64)(v_r17_i3_i_i75_i_i_i_i));
+    v_r26_i5_i_i77_i_i_i_i = (P)((u64)v_r13 + (u64)(v_r17_i3_i_i75_i_i_i_i));
     put_u8(v_r26_i5_i_i77_i_i_i_i, 0u);
     { p_v_r7_sroa_130_3_i_i_i = v_r17_i3_i_i75_i_i_i_i; goto L_der_core_borrowed_BorrowedEncode_prepend_f4fc96f16__5; }
 L_der_core_borrowed_BorrowedEncode_prepend_f4fc96f16__5:;
@@ -45272,7 +45344,7 @@ L_der_core_borrowed_BorrowedEncode_prepend_f4fc96f16__5:;
 L_then_1_i542_i_i_i:;
     v_r64_i543_i_i_i = (u16)(v_r2_i_i81_i_i_i_i);
     v_r17_i_i547_i_i_i = (u64)((u64)(v_r7_sroa_130_3_i_i_i) + (u64)(18446744073709551614ull));
-    v_r26_i_i549_i_i_i = (P)((uintptr_t)v_r13 + (u64)(v_r17_i_i547_i_i_i));
+    v_r26_i_i549_i_i_i = (P)((u64)v_r13 + (u64)(v_r17_i_i547_i_i_i));
     v_r8_i476_sroa_4_0_insert_shift_i_i_i = (u16)((u32)(v_r64_i543_i_i_i) << (u32)((8u & 31)));
     v_r8_i476_sroa_0_0_insert_insert_i_i_i = (u16)((u32)(v_r8_i476_sroa_4_0_insert_shift_i_i_i) | (u32)(2u));
     put_u16(v_r26_i_i549_i_i_i, v_r8_i476_sroa_0_0_insert_insert_i_i_i);
@@ -45283,7 +45355,7 @@ L_else_2_i482_i_i_i:;
 L_then_4_i533_i_i_i:;
     v_r80_i534_i_i_i = (u8)(v_r2_i_i81_i_i_i_i);
     v_r17_i28_i539_i_i_i = (u64)((u64)(v_r7_sroa_130_3_i_i_i) + (u64)(18446744073709551613ull));
-    v_r26_i30_i541_i_i_i = (P)((uintptr_t)v_r13 + (u64)(v_r17_i28_i539_i_i_i));
+    v_r26_i30_i541_i_i_i = (P)((u64)v_r13 + (u64)(v_r17_i28_i539_i_i_i));
     put_u8(v_r26_i30_i541_i_i_i, 2u);
     v_r14_i477_sroa_4_0_r26_i30_i541_sroa_idx_i_i_i = v_r26_i30_i541_i_i_i + 1;
     put_u8(v_r14_i477_sroa_4_0_r26_i30_i541_sroa_idx_i_i_i, 129u);
@@ -45295,7 +45367,7 @@ L_else_5_i484_i_i_i:;
     if (v_r92_i485_i_i_i) { goto L_then_7_i521_i_i_i; } else { goto L_else_8_i486_i_i_i; }
 L_then_7_i521_i_i_i:;
     v_r17_i46_i529_i_i_i = (u64)((u64)(v_r7_sroa_130_3_i_i_i) + (u64)(18446744073709551612ull));
-    v_r26_i48_i531_i_i_i = (P)((uintptr_t)v_r13 + (u64)(v_r17_i46_i529_i_i_i));
+    v_r26_i48_i531_i_i_i = (P)((u64)v_r13 + (u64)(v_r17_i46_i529_i_i_i));
     v_52 = (u32)((u32)(v_r2_i_i81_i_i_i_i) | (u32)(42074112u));
     v_r20_i478_sroa_0_0_insert_insert_i_i_i = __builtin_bswap32(v_52);
     put_u32(v_r26_i48_i531_i_i_i, v_r20_i478_sroa_0_0_insert_insert_i_i_i);
@@ -45310,7 +45382,7 @@ L_then_10_i506_i_i_i:;
     v_r130_i510_i_i_i = (u8)(v_r12624_i509_i_i_i);
     v_r134_i511_i_i_i = (u8)(v_r2_i_i81_i_i_i_i);
     v_r17_i64_i518_i_i_i = (u64)((u64)(v_r7_sroa_130_3_i_i_i) + (u64)(18446744073709551611ull));
-    v_r26_i66_i520_i_i_i = (P)((uintptr_t)v_r13 + (u64)(v_r17_i64_i518_i_i_i));
+    v_r26_i66_i520_i_i_i = (P)((u64)v_r13 + (u64)(v_r17_i64_i518_i_i_i));
     put_u8(v_r26_i66_i520_i_i_i, 2u);
     v_r29_i479_sroa_4_0_r26_i66_i520_sroa_idx_i_i_i = v_r26_i66_i520_i_i_i + 1;
     put_u8(v_r29_i479_sroa_4_0_r26_i66_i520_sroa_idx_i_i_i, 131u);
@@ -45330,7 +45402,7 @@ L_else_11_i488_i_i_i:;
     v_r164_i494_i_i_i = (u8)(v_r16022_i493_i_i_i);
     v_r168_i495_i_i_i = (u8)(v_r2_i_i81_i_i_i_i);
     v_r17_i82_i503_i_i_i = (u64)((u64)(v_r7_sroa_130_3_i_i_i) + (u64)(18446744073709551610ull));
-    v_r26_i84_i505_i_i_i = (P)((uintptr_t)v_r13 + (u64)(v_r17_i82_i503_i_i_i));
+    v_r26_i84_i505_i_i_i = (P)((u64)v_r13 + (u64)(v_r17_i82_i503_i_i_i));
     put_u8(v_r26_i84_i505_i_i_i, 2u);
     v_r40_i480_sroa_4_0_r26_i84_i505_sroa_idx_i_i_i = v_r26_i84_i505_i_i_i + 1;
     put_u8(v_r40_i480_sroa_4_0_r26_i84_i505_sroa_idx_i_i_i, 132u);
@@ -45346,9 +45418,9 @@ L_else_11_i488_i_i_i:;
 L_der_core_back_writer_BackWriter_prepend_header_exi__7:;
     v_r7_sroa_130_21_i_i_i = p_v_r7_sroa_130_21_i_i_i;
     v_r17_i_i_i95_i_i_i_i = (u64)((u64)(v_r7_sroa_130_21_i_i_i) - (u64)(v_r1_sroa_3_0_copyload_i_i94_i_i_i_i));
-    v_r26_i_i_i97_i_i_i_i = (P)((uintptr_t)v_r13 + (u64)(v_r17_i_i_i95_i_i_i_i));
-    v_r8_i_i_i_i_i_i_i_i_i98_i_i_i_i = (u64)((uintptr_t)v_r26_i_i_i97_i_i_i_i);
-    v_r9_i_i_i_i_i_i_i_i_i99_i_i_i_i = (u64)((uintptr_t)v_r1_sroa_0_0_copyload_i_i92_i_i_i_i);
+    v_r26_i_i_i97_i_i_i_i = (P)((u64)v_r13 + (u64)(v_r17_i_i_i95_i_i_i_i));
+    v_r8_i_i_i_i_i_i_i_i_i98_i_i_i_i = (u64)((u64)v_r26_i_i_i97_i_i_i_i);
+    v_r9_i_i_i_i_i_i_i_i_i99_i_i_i_i = (u64)((u64)v_r1_sroa_0_0_copyload_i_i92_i_i_i_i);
     v_r10_i_i_i_i_i_i_i_i_i100_i_i_i_i = (u64)((u64)(v_r8_i_i_i_i_i_i_i_i_i98_i_i_i_i) - (u64)(v_r9_i_i_i_i_i_i_i_i_i99_i_i_i_i));
     v_r11_i_i_i_i_i_i_i_i_i101_i_i_i_i = v_r10_i_i_i_i_i_i_i_i_i100_i_i_i_i < v_r1_sroa_3_0_copyload_i_i94_i_i_i_i;
     if (v_r11_i_i_i_i_i_i_i_i_i101_i_i_i_i) { goto L_join_7_i_i_i_i_i_i_i_i_i115_i_i_i_i_preheader; } else { goto L_apart_2_i_i_i_i_i_i_i_i_i102_i_i_i_i; }
@@ -45410,7 +45482,7 @@ L_der_core_back_writer_BackWriter_prepend_exit_i_i10:;
     if (v_r15_not_i_i106_i_i_i_i) { p_v_r7_sroa_130_4_i_i_i = v_r17_i_i_i95_i_i_i_i; goto L_der_core_borrowed_BorrowedEncode_prepend_f4fc96f16__6; } else { goto L_then_1_i_i107_i_i_i_i; }
 L_then_1_i_i107_i_i_i_i:;
     v_r17_i3_i_i108_i_i_i_i = (u64)((u64)(v_r17_i_i_i95_i_i_i_i) + (u64)(18446744073709551615ull));
-    v_r26_i5_i_i110_i_i_i_i = (P)((uintptr_t)v_r13 + (u64)(v_r17_i3_i_i108_i_i_i_i));
+    v_r26_i5_i_i110_i_i_i_i = (P)((u64)v_r13 + (u64)(v_r17_i3_i_i108_i_i_i_i));
     put_u8(v_r26_i5_i_i110_i_i_i_i, 0u);
     { p_v_r7_sroa_130_4_i_i_i = v_r17_i3_i_i108_i_i_i_i; goto L_der_core_borrowed_BorrowedEncode_prepend_f4fc96f16__6; }
 L_der_core_borrowed_BorrowedEncode_prepend_f4fc96f16__6:;
@@ -45424,7 +45496,7 @@ L_der_core_borrowed_BorrowedEncode_prepend_f4fc96f16__6:;
 L_then_1_i466_i_i_i:;
     v_r64_i467_i_i_i = (u16)(v_r2_i_i114_i_i_i_i);
     v_r17_i_i471_i_i_i = (u64)((u64)(v_r7_sroa_130_4_i_i_i) + (u64)(18446744073709551614ull));
-    v_r26_i_i473_i_i_i = (P)((uintptr_t)v_r13 + (u64)(v_r17_i_i471_i_i_i));
+    v_r26_i_i473_i_i_i = (P)((u64)v_r13 + (u64)(v_r17_i_i471_i_i_i));
     v_r8_i400_sroa_4_0_insert_shift_i_i_i = (u16)((u32)(v_r64_i467_i_i_i) << (u32)((8u & 31)));
     v_r8_i400_sroa_0_0_insert_insert_i_i_i = (u16)((u32)(v_r8_i400_sroa_4_0_insert_shift_i_i_i) | (u32)(2u));
     put_u16(v_r26_i_i473_i_i_i, v_r8_i400_sroa_0_0_insert_insert_i_i_i);
@@ -45435,7 +45507,7 @@ L_else_2_i406_i_i_i:;
 L_then_4_i457_i_i_i:;
     v_r80_i458_i_i_i = (u8)(v_r2_i_i114_i_i_i_i);
     v_r17_i28_i463_i_i_i = (u64)((u64)(v_r7_sroa_130_4_i_i_i) + (u64)(18446744073709551613ull));
-    v_r26_i30_i465_i_i_i = (P)((uintptr_t)v_r13 + (u64)(v_r17_i28_i463_i_i_i));
+    v_r26_i30_i465_i_i_i = (P)((u64)v_r13 + (u64)(v_r17_i28_i463_i_i_i));
     put_u8(v_r26_i30_i465_i_i_i, 2u);
     v_r14_i401_sroa_4_0_r26_i30_i465_sroa_idx_i_i_i = v_r26_i30_i465_i_i_i + 1;
     put_u8(v_r14_i401_sroa_4_0_r26_i30_i465_sroa_idx_i_i_i, 129u);
@@ -45447,7 +45519,7 @@ L_else_5_i408_i_i_i:;
     if (v_r92_i409_i_i_i) { goto L_then_7_i445_i_i_i; } else { goto L_else_8_i410_i_i_i; }
 L_then_7_i445_i_i_i:;
     v_r17_i46_i453_i_i_i = (u64)((u64)(v_r7_sroa_130_4_i_i_i) + (u64)(18446744073709551612ull));
-    v_r26_i48_i455_i_i_i = (P)((uintptr_t)v_r13 + (u64)(v_r17_i46_i453_i_i_i));
+    v_r26_i48_i455_i_i_i = (P)((u64)v_r13 + (u64)(v_r17_i46_i453_i_i_i));
     v_57 = (u32)((u32)(v_r2_i_i114_i_i_i_i) | (u32)(42074112u));
     v_r20_i402_sroa_0_0_insert_insert_i_i_i = __builtin_bswap32(v_57);
     put_u32(v_r26_i48_i455_i_i_i, v_r20_i402_sroa_0_0_insert_insert_i_i_i);
@@ -45462,7 +45534,7 @@ L_then_10_i430_i_i_i:;
     v_r130_i434_i_i_i = (u8)(v_r12624_i433_i_i_i);
     v_r134_i435_i_i_i = (u8)(v_r2_i_i114_i_i_i_i);
     v_r17_i64_i442_i_i_i = (u64)((u64)(v_r7_sroa_130_4_i_i_i) + (u64)(18446744073709551611ull));
-    v_r26_i66_i444_i_i_i = (P)((uintptr_t)v_r13 + (u64)(v_r17_i64_i442_i_i_i));
+    v_r26_i66_i444_i_i_i = (P)((u64)v_r13 + (u64)(v_r17_i64_i442_i_i_i));
     put_u8(v_r26_i66_i444_i_i_i, 2u);
     v_r29_i403_sroa_4_0_r26_i66_i444_sroa_idx_i_i_i = v_r26_i66_i444_i_i_i + 1;
     put_u8(v_r29_i403_sroa_4_0_r26_i66_i444_sroa_idx_i_i_i, 131u);
@@ -45482,7 +45554,7 @@ L_else_11_i412_i_i_i:;
     v_r164_i418_i_i_i = (u8)(v_r16022_i417_i_i_i);
     v_r168_i419_i_i_i = (u8)(v_r2_i_i114_i_i_i_i);
     v_r17_i82_i427_i_i_i = (u64)((u64)(v_r7_sroa_130_4_i_i_i) + (u64)(18446744073709551610ull));
-    v_r26_i84_i429_i_i_i = (P)((uintptr_t)v_r13 + (u64)(v_r17_i82_i427_i_i_i));
+    v_r26_i84_i429_i_i_i = (P)((u64)v_r13 + (u64)(v_r17_i82_i427_i_i_i));
     put_u8(v_r26_i84_i429_i_i_i, 2u);
     v_r40_i404_sroa_4_0_r26_i84_i429_sroa_idx_i_i_i = v_r26_i84_i429_i_i_i + 1;
     put_u8(v_r40_i404_sroa_4_0_r26_i84_i429_sroa_idx_i_i_i, 132u);
@@ -45498,9 +45570,9 @@ L_else_11_i412_i_i_i:;
 L_der_core_back_writer_BackWriter_prepend_header_exi__8:;
     v_r7_sroa_130_20_i_i_i = p_v_r7_sroa_130_20_i_i_i;
     v_r17_i_i_i128_i_i_i_i = (u64)((u64)(v_r7_sroa_130_20_i_i_i) - (u64)(v_r1_sroa_3_0_copyload_i_i127_i_i_i_i));
-    v_r26_i_i_i130_i_i_i_i = (P)((uintptr_t)v_r13 + (u64)(v_r17_i_i_i128_i_i_i_i));
-    v_r8_i_i_i_i_i_i_i_i_i131_i_i_i_i = (u64)((uintptr_t)v_r26_i_i_i130_i_i_i_i);
-    v_r9_i_i_i_i_i_i_i_i_i132_i_i_i_i = (u64)((uintptr_t)v_r1_sroa_0_0_copyload_i_i125_i_i_i_i);
+    v_r26_i_i_i130_i_i_i_i = (P)((u64)v_r13 + (u64)(v_r17_i_i_i128_i_i_i_i));
+    v_r8_i_i_i_i_i_i_i_i_i131_i_i_i_i = (u64)((u64)v_r26_i_i_i130_i_i_i_i);
+    v_r9_i_i_i_i_i_i_i_i_i132_i_i_i_i = (u64)((u64)v_r1_sroa_0_0_copyload_i_i125_i_i_i_i);
     v_r10_i_i_i_i_i_i_i_i_i133_i_i_i_i = (u64)((u64)(v_r8_i_i_i_i_i_i_i_i_i131_i_i_i_i) - (u64)(v_r9_i_i_i_i_i_i_i_i_i132_i_i_i_i));
     v_r11_i_i_i_i_i_i_i_i_i134_i_i_i_i = v_r10_i_i_i_i_i_i_i_i_i133_i_i_i_i < v_r1_sroa_3_0_copyload_i_i127_i_i_i_i;
     if (v_r11_i_i_i_i_i_i_i_i_i134_i_i_i_i) { goto L_join_7_i_i_i_i_i_i_i_i_i148_i_i_i_i_preheader; } else { goto L_apart_2_i_i_i_i_i_i_i_i_i135_i_i_i_i; }
@@ -45562,7 +45634,7 @@ L_der_core_back_writer_BackWriter_prepend_exit_i_i13:;
     if (v_r15_not_i_i139_i_i_i_i) { p_v_r7_sroa_130_5_i_i_i = v_r17_i_i_i128_i_i_i_i; goto L_der_core_borrowed_BorrowedEncode_prepend_f4fc96f16__7; } else { goto L_then_1_i_i140_i_i_i_i; }
 L_then_1_i_i140_i_i_i_i:;
     v_r17_i3_i_i141_i_i_i_i = (u64)((u64)(v_r17_i_i_i128_i_i_i_i) + (u64)(18446744073709551615ull));
-    v_r26_i5_i_i143_i_i_i_i = (P)((uintptr_t)v_r13 + (u64)(v_r17_i3_i_i141_i_i_i_i));
+    v_r26_i5_i_i143_i_i_i_i = (P)((u64)v_r13 + (u64)(v_r17_i3_i_i141_i_i_i_i));
     put_u8(v_r26_i5_i_i143_i_i_i_i, 0u);
     { p_v_r7_sroa_130_5_i_i_i = v_r17_i3_i_i141_i_i_i_i; goto L_der_core_borrowed_BorrowedEncode_prepend_f4fc96f16__7; }
 L_der_core_borrowed_BorrowedEncode_prepend_f4fc96f16__7:;
@@ -45576,7 +45648,7 @@ L_der_core_borrowed_BorrowedEncode_prepend_f4fc96f16__7:;
 L_then_1_i390_i_i_i:;
     v_r64_i391_i_i_i = (u16)(v_r2_i_i147_i_i_i_i);
     v_r17_i_i395_i_i_i = (u64)((u64)(v_r7_sroa_130_5_i_i_i) + (u64)(18446744073709551614ull));
-    v_r26_i_i397_i_i_i = (P)((uintptr_t)v_r13 + (u64)(v_r17_i_i395_i_i_i));
+    v_r26_i_i397_i_i_i = (P)((u64)v_r13 + (u64)(v_r17_i_i395_i_i_i));
     v_r8_i324_sroa_4_0_insert_shift_i_i_i = (u16)((u32)(v_r64_i391_i_i_i) << (u32)((8u & 31)));
     v_r8_i324_sroa_0_0_insert_insert_i_i_i = (u16)((u32)(v_r8_i324_sroa_4_0_insert_shift_i_i_i) | (u32)(2u));
     put_u16(v_r26_i_i397_i_i_i, v_r8_i324_sroa_0_0_insert_insert_i_i_i);
@@ -45587,7 +45659,7 @@ L_else_2_i330_i_i_i:;
 L_then_4_i381_i_i_i:;
     v_r80_i382_i_i_i = (u8)(v_r2_i_i147_i_i_i_i);
     v_r17_i28_i387_i_i_i = (u64)((u64)(v_r7_sroa_130_5_i_i_i) + (u64)(18446744073709551613ull));
-    v_r26_i30_i389_i_i_i = (P)((uintptr_t)v_r13 + (u64)(v_r17_i28_i387_i_i_i));
+    v_r26_i30_i389_i_i_i = (P)((u64)v_r13 + (u64)(v_r17_i28_i387_i_i_i));
     put_u8(v_r26_i30_i389_i_i_i, 2u);
     v_r14_i325_sroa_4_0_r26_i30_i389_sroa_idx_i_i_i = v_r26_i30_i389_i_i_i + 1;
     put_u8(v_r14_i325_sroa_4_0_r26_i30_i389_sroa_idx_i_i_i, 129u);
@@ -45599,7 +45671,7 @@ L_else_5_i332_i_i_i:;
     if (v_r92_i333_i_i_i) { goto L_then_7_i369_i_i_i; } else { goto L_else_8_i334_i_i_i; }
 L_then_7_i369_i_i_i:;
     v_r17_i46_i377_i_i_i = (u64)((u64)(v_r7_sroa_130_5_i_i_i) + (u64)(18446744073709551612ull));
-    v_r26_i48_i379_i_i_i = (P)((uintptr_t)v_r13 + (u64)(v_r17_i46_i377_i_i_i));
+    v_r26_i48_i379_i_i_i = (P)((u64)v_r13 + (u64)(v_r17_i46_i377_i_i_i));
     v_62 = (u32)((u32)(v_r2_i_i147_i_i_i_i) | (u32)(42074112u));
     v_r20_i326_sroa_0_0_insert_insert_i_i_i = __builtin_bswap32(v_62);
     put_u32(v_r26_i48_i379_i_i_i, v_r20_i326_sroa_0_0_insert_insert_i_i_i);
@@ -45614,7 +45686,7 @@ L_then_10_i354_i_i_i:;
     v_r130_i358_i_i_i = (u8)(v_r12624_i357_i_i_i);
     v_r134_i359_i_i_i = (u8)(v_r2_i_i147_i_i_i_i);
     v_r17_i64_i366_i_i_i = (u64)((u64)(v_r7_sroa_130_5_i_i_i) + (u64)(18446744073709551611ull));
-    v_r26_i66_i368_i_i_i = (P)((uintptr_t)v_r13 + (u64)(v_r17_i64_i366_i_i_i));
+    v_r26_i66_i368_i_i_i = (P)((u64)v_r13 + (u64)(v_r17_i64_i366_i_i_i));
     put_u8(v_r26_i66_i368_i_i_i, 2u);
     v_r29_i327_sroa_4_0_r26_i66_i368_sroa_idx_i_i_i = v_r26_i66_i368_i_i_i + 1;
     put_u8(v_r29_i327_sroa_4_0_r26_i66_i368_sroa_idx_i_i_i, 131u);
@@ -45634,7 +45706,7 @@ L_else_11_i336_i_i_i:;
     v_r164_i342_i_i_i = (u8)(v_r16022_i341_i_i_i);
     v_r168_i343_i_i_i = (u8)(v_r2_i_i147_i_i_i_i);
     v_r17_i82_i351_i_i_i = (u64)((u64)(v_r7_sroa_130_5_i_i_i) + (u64)(18446744073709551610ull));
-    v_r26_i84_i353_i_i_i = (P)((uintptr_t)v_r13 + (u64)(v_r17_i82_i351_i_i_i));
+    v_r26_i84_i353_i_i_i = (P)((u64)v_r13 + (u64)(v_r17_i82_i351_i_i_i));
     put_u8(v_r26_i84_i353_i_i_i, 2u);
     v_r40_i328_sroa_4_0_r26_i84_i353_sroa_idx_i_i_i = v_r26_i84_i353_i_i_i + 1;
     put_u8(v_r40_i328_sroa_4_0_r26_i84_i353_sroa_idx_i_i_i, 132u);
@@ -45650,9 +45722,9 @@ L_else_11_i336_i_i_i:;
 L_der_core_back_writer_BackWriter_prepend_header_exi__9:;
     v_r7_sroa_130_19_i_i_i = p_v_r7_sroa_130_19_i_i_i;
     v_r17_i_i_i161_i_i_i_i = (u64)((u64)(v_r7_sroa_130_19_i_i_i) - (u64)(v_r1_sroa_3_0_copyload_i_i160_i_i_i_i));
-    v_r26_i_i_i163_i_i_i_i = (P)((uintptr_t)v_r13 + (u64)(v_r17_i_i_i161_i_i_i_i));
-    v_r8_i_i_i_i_i_i_i_i_i164_i_i_i_i = (u64)((uintptr_t)v_r26_i_i_i163_i_i_i_i);
-    v_r9_i_i_i_i_i_i_i_i_i165_i_i_i_i = (u64)((uintptr_t)v_r1_sroa_0_0_copyload_i_i158_i_i_i_i);
+    v_r26_i_i_i163_i_i_i_i = (P)((u64)v_r13 + (u64)(v_r17_i_i_i161_i_i_i_i));
+    v_r8_i_i_i_i_i_i_i_i_i164_i_i_i_i = (u64)((u64)v_r26_i_i_i163_i_i_i_i);
+    v_r9_i_i_i_i_i_i_i_i_i165_i_i_i_i = (u64)((u64)v_r1_sroa_0_0_copyload_i_i158_i_i_i_i);
     v_r10_i_i_i_i_i_i_i_i_i166_i_i_i_i = (u64)((u64)(v_r8_i_i_i_i_i_i_i_i_i164_i_i_i_i) - (u64)(v_r9_i_i_i_i_i_i_i_i_i165_i_i_i_i));
     v_r11_i_i_i_i_i_i_i_i_i167_i_i_i_i = v_r10_i_i_i_i_i_i_i_i_i166_i_i_i_i < v_r1_sroa_3_0_copyload_i_i160_i_i_i_i;
     if (v_r11_i_i_i_i_i_i_i_i_i167_i_i_i_i) { goto L_join_7_i_i_i_i_i_i_i_i_i181_i_i_i_i_preheader; } else { goto L_apart_2_i_i_i_i_i_i_i_i_i168_i_i_i_i; }
@@ -45715,7 +45787,7 @@ L_der_core_back_writer_BackWriter_prepend_exit_i_i16:;
     if (v_r15_not_i_i172_i_i_i_i) { p_v_r7_sroa_130_6_i_i_i = v_r17_i_i_i161_i_i_i_i; goto L_der_core_borrowed_BorrowedEncode_prepend_f4fc96f16__8; } else { goto L_then_1_i_i173_i_i_i_i; }
 L_then_1_i_i173_i_i_i_i:;
     v_r17_i3_i_i174_i_i_i_i = (u64)((u64)(v_r17_i_i_i161_i_i_i_i) + (u64)(18446744073709551615ull));
-    v_r26_i5_i_i176_i_i_i_i = (P)((uintptr_t)v_r13 + (u64)(v_r17_i3_i_i174_i_i_i_i));
+    v_r26_i5_i_i176_i_i_i_i = (P)((u64)v_r13 + (u64)(v_r17_i3_i_i174_i_i_i_i));
     put_u8(v_r26_i5_i_i176_i_i_i_i, 0u);
     { p_v_r7_sroa_130_6_i_i_i = v_r17_i3_i_i174_i_i_i_i; goto L_der_core_borrowed_BorrowedEncode_prepend_f4fc96f16__8; }
 L_der_core_borrowed_BorrowedEncode_prepend_f4fc96f16__8:;
@@ -45729,7 +45801,7 @@ L_der_core_borrowed_BorrowedEncode_prepend_f4fc96f16__8:;
 L_then_1_i314_i_i_i:;
     v_r64_i315_i_i_i = (u16)(v_r2_i_i180_i_i_i_i);
     v_r17_i_i319_i_i_i = (u64)((u64)(v_r7_sroa_130_6_i_i_i) + (u64)(18446744073709551614ull));
-    v_r26_i_i321_i_i_i = (P)((uintptr_t)v_r13 + (u64)(v_r17_i_i319_i_i_i));
+    v_r26_i_i321_i_i_i = (P)((u64)v_r13 + (u64)(v_r17_i_i319_i_i_i));
     v_r8_i248_sroa_4_0_insert_shift_i_i_i = (u16)((u32)(v_r64_i315_i_i_i) << (u32)((8u & 31)));
     v_r8_i248_sroa_0_0_insert_insert_i_i_i = (u16)((u32)(v_r8_i248_sroa_4_0_insert_shift_i_i_i) | (u32)(2u));
     put_u16(v_r26_i_i321_i_i_i, v_r8_i248_sroa_0_0_insert_insert_i_i_i);
@@ -45740,7 +45812,7 @@ L_else_2_i254_i_i_i:;
 L_then_4_i305_i_i_i:;
     v_r80_i306_i_i_i = (u8)(v_r2_i_i180_i_i_i_i);
     v_r17_i28_i311_i_i_i = (u64)((u64)(v_r7_sroa_130_6_i_i_i) + (u64)(18446744073709551613ull));
-    v_r26_i30_i313_i_i_i = (P)((uintptr_t)v_r13 + (u64)(v_r17_i28_i311_i_i_i));
+    v_r26_i30_i313_i_i_i = (P)((u64)v_r13 + (u64)(v_r17_i28_i311_i_i_i));
     put_u8(v_r26_i30_i313_i_i_i, 2u);
     v_r14_i249_sroa_4_0_r26_i30_i313_sroa_idx_i_i_i = v_r26_i30_i313_i_i_i + 1;
     put_u8(v_r14_i249_sroa_4_0_r26_i30_i313_sroa_idx_i_i_i, 129u);
@@ -45752,7 +45824,7 @@ L_else_5_i256_i_i_i:;
     if (v_r92_i257_i_i_i) { goto L_then_7_i293_i_i_i; } else { goto L_else_8_i258_i_i_i; }
 L_then_7_i293_i_i_i:;
     v_r17_i46_i301_i_i_i = (u64)((u64)(v_r7_sroa_130_6_i_i_i) + (u64)(18446744073709551612ull));
-    v_r26_i48_i303_i_i_i = (P)((uintptr_t)v_r13 + (u64)(v_r17_i46_i301_i_i_i));
+    v_r26_i48_i303_i_i_i = (P)((u64)v_r13 + (u64)(v_r17_i46_i301_i_i_i));
     v_67 = (u32)((u32)(v_r2_i_i180_i_i_i_i) | (u32)(42074112u));
     v_r20_i250_sroa_0_0_insert_insert_i_i_i = __builtin_bswap32(v_67);
     put_u32(v_r26_i48_i303_i_i_i, v_r20_i250_sroa_0_0_insert_insert_i_i_i);
@@ -45767,7 +45839,7 @@ L_then_10_i278_i_i_i:;
     v_r130_i282_i_i_i = (u8)(v_r12624_i281_i_i_i);
     v_r134_i283_i_i_i = (u8)(v_r2_i_i180_i_i_i_i);
     v_r17_i64_i290_i_i_i = (u64)((u64)(v_r7_sroa_130_6_i_i_i) + (u64)(18446744073709551611ull));
-    v_r26_i66_i292_i_i_i = (P)((uintptr_t)v_r13 + (u64)(v_r17_i64_i290_i_i_i));
+    v_r26_i66_i292_i_i_i = (P)((u64)v_r13 + (u64)(v_r17_i64_i290_i_i_i));
     put_u8(v_r26_i66_i292_i_i_i, 2u);
     v_r29_i251_sroa_4_0_r26_i66_i292_sroa_idx_i_i_i = v_r26_i66_i292_i_i_i + 1;
     put_u8(v_r29_i251_sroa_4_0_r26_i66_i292_sroa_idx_i_i_i, 131u);
@@ -45787,7 +45859,7 @@ L_else_11_i260_i_i_i:;
     v_r164_i266_i_i_i = (u8)(v_r16022_i265_i_i_i);
     v_r168_i267_i_i_i = (u8)(v_r2_i_i180_i_i_i_i);
     v_r17_i82_i275_i_i_i = (u64)((u64)(v_r7_sroa_130_6_i_i_i) + (u64)(18446744073709551610ull));
-    v_r26_i84_i277_i_i_i = (P)((uintptr_t)v_r13 + (u64)(v_r17_i82_i275_i_i_i));
+    v_r26_i84_i277_i_i_i = (P)((u64)v_r13 + (u64)(v_r17_i82_i275_i_i_i));
     put_u8(v_r26_i84_i277_i_i_i, 2u);
     v_r40_i252_sroa_4_0_r26_i84_i277_sroa_idx_i_i_i = v_r26_i84_i277_i_i_i + 1;
     put_u8(v_r40_i252_sroa_4_0_r26_i84_i277_sroa_idx_i_i_i, 132u);
@@ -45805,9 +45877,9 @@ L_der_core_back_writer_BackWriter_prepend_header_exi__10:;
     v_r1_sroa_0_0_copyload_i_i191_i_i_i_i = get_P(v_r10_sroa_56_sroa_0_sroa_32_3_r5_sroa_idx_i);
     v_r1_sroa_3_0_copyload_i_i193_i_i_i_i = get_u64(v_r10_sroa_56_sroa_0_sroa_32_sroa_12_0_r10_sroa_56_s);
     v_r17_i_i_i194_i_i_i_i = (u64)((u64)(v_r7_sroa_130_18_i_i_i) - (u64)(v_r1_sroa_3_0_copyload_i_i193_i_i_i_i));
-    v_r26_i_i_i196_i_i_i_i = (P)((uintptr_t)v_r13 + (u64)(v_r17_i_i_i194_i_i_i_i));
-    v_r8_i_i_i_i_i_i_i_i_i197_i_i_i_i = (u64)((uintptr_t)v_r26_i_i_i196_i_i_i_i);
-    v_r9_i_i_i_i_i_i_i_i_i198_i_i_i_i = (u64)((uintptr_t)v_r1_sroa_0_0_copyload_i_i191_i_i_i_i);
+    v_r26_i_i_i196_i_i_i_i = (P)((u64)v_r13 + (u64)(v_r17_i_i_i194_i_i_i_i));
+    v_r8_i_i_i_i_i_i_i_i_i197_i_i_i_i = (u64)((u64)v_r26_i_i_i196_i_i_i_i);
+    v_r9_i_i_i_i_i_i_i_i_i198_i_i_i_i = (u64)((u64)v_r1_sroa_0_0_copyload_i_i191_i_i_i_i);
     v_r10_i_i_i_i_i_i_i_i_i199_i_i_i_i = (u64)((u64)(v_r8_i_i_i_i_i_i_i_i_i197_i_i_i_i) - (u64)(v_r9_i_i_i_i_i_i_i_i_i198_i_i_i_i));
     v_r11_i_i_i_i_i_i_i_i_i200_i_i_i_i = v_r10_i_i_i_i_i_i_i_i_i199_i_i_i_i < v_r1_sroa_3_0_copyload_i_i193_i_i_i_i;
     if (v_r11_i_i_i_i_i_i_i_i_i200_i_i_i_i) { goto L_join_7_i_i_i_i_i_i_i_i_i214_i_i_i_i_preheader; } else { goto L_apart_2_i_i_i_i_i_i_i_i_i201_i_i_i_i; }
@@ -45870,7 +45942,7 @@ L_der_core_back_writer_BackWriter_prepend_exit_i_i20:;
     if (v_r15_not_i_i205_i_i_i_i) { p_v_r7_sroa_130_7_i_i_i = v_r17_i_i_i194_i_i_i_i; goto L_der_core_borrowed_BorrowedEncode_prepend_f4fc96f16__9; } else { goto L_then_1_i_i206_i_i_i_i; }
 L_then_1_i_i206_i_i_i_i:;
     v_r17_i3_i_i207_i_i_i_i = (u64)((u64)(v_r17_i_i_i194_i_i_i_i) + (u64)(18446744073709551615ull));
-    v_r26_i5_i_i209_i_i_i_i = (P)((uintptr_t)v_r13 + (u64)(v_r17_i3_i_i207_i_i_i_i));
+    v_r26_i5_i_i209_i_i_i_i = (P)((u64)v_r13 + (u64)(v_r17_i3_i_i207_i_i_i_i));
     put_u8(v_r26_i5_i_i209_i_i_i_i, 0u);
     { p_v_r7_sroa_130_7_i_i_i = v_r17_i3_i_i207_i_i_i_i; goto L_der_core_borrowed_BorrowedEncode_prepend_f4fc96f16__9; }
 L_der_core_borrowed_BorrowedEncode_prepend_f4fc96f16__9:;
@@ -45884,7 +45956,7 @@ L_der_core_borrowed_BorrowedEncode_prepend_f4fc96f16__9:;
 L_then_1_i238_i_i_i:;
     v_r64_i239_i_i_i = (u16)(v_r2_i_i213_i_i_i_i);
     v_r17_i_i243_i_i_i = (u64)((u64)(v_r7_sroa_130_7_i_i_i) + (u64)(18446744073709551614ull));
-    v_r26_i_i245_i_i_i = (P)((uintptr_t)v_r13 + (u64)(v_r17_i_i243_i_i_i));
+    v_r26_i_i245_i_i_i = (P)((u64)v_r13 + (u64)(v_r17_i_i243_i_i_i));
     v_r8_i172_sroa_4_0_insert_shift_i_i_i = (u16)((u32)(v_r64_i239_i_i_i) << (u32)((8u & 31)));
     v_r8_i172_sroa_0_0_insert_insert_i_i_i = (u16)((u32)(v_r8_i172_sroa_4_0_insert_shift_i_i_i) | (u32)(2u));
     put_u16(v_r26_i_i245_i_i_i, v_r8_i172_sroa_0_0_insert_insert_i_i_i);
@@ -45895,7 +45967,7 @@ L_else_2_i178_i_i_i:;
 L_then_4_i229_i_i_i:;
     v_r80_i230_i_i_i = (u8)(v_r2_i_i213_i_i_i_i);
     v_r17_i28_i235_i_i_i = (u64)((u64)(v_r7_sroa_130_7_i_i_i) + (u64)(18446744073709551613ull));
-    v_r26_i30_i237_i_i_i = (P)((uintptr_t)v_r13 + (u64)(v_r17_i28_i235_i_i_i));
+    v_r26_i30_i237_i_i_i = (P)((u64)v_r13 + (u64)(v_r17_i28_i235_i_i_i));
     put_u8(v_r26_i30_i237_i_i_i, 2u);
     v_r14_i173_sroa_4_0_r26_i30_i237_sroa_idx_i_i_i = v_r26_i30_i237_i_i_i + 1;
     put_u8(v_r14_i173_sroa_4_0_r26_i30_i237_sroa_idx_i_i_i, 129u);
@@ -45907,7 +45979,7 @@ L_else_5_i180_i_i_i:;
     if (v_r92_i181_i_i_i) { goto L_then_7_i217_i_i_i; } else { goto L_else_8_i182_i_i_i; }
 L_then_7_i217_i_i_i:;
     v_r17_i46_i225_i_i_i = (u64)((u64)(v_r7_sroa_130_7_i_i_i) + (u64)(18446744073709551612ull));
-    v_r26_i48_i227_i_i_i = (P)((uintptr_t)v_r13 + (u64)(v_r17_i46_i225_i_i_i));
+    v_r26_i48_i227_i_i_i = (P)((u64)v_r13 + (u64)(v_r17_i46_i225_i_i_i));
     v_72 = (u32)((u32)(v_r2_i_i213_i_i_i_i) | (u32)(42074112u));
     v_r20_i174_sroa_0_0_insert_insert_i_i_i = __builtin_bswap32(v_72);
     put_u32(v_r26_i48_i227_i_i_i, v_r20_i174_sroa_0_0_insert_insert_i_i_i);
@@ -45922,7 +45994,7 @@ L_then_10_i202_i_i_i:;
     v_r130_i206_i_i_i = (u8)(v_r12624_i205_i_i_i);
     v_r134_i207_i_i_i = (u8)(v_r2_i_i213_i_i_i_i);
     v_r17_i64_i214_i_i_i = (u64)((u64)(v_r7_sroa_130_7_i_i_i) + (u64)(18446744073709551611ull));
-    v_r26_i66_i216_i_i_i = (P)((uintptr_t)v_r13 + (u64)(v_r17_i64_i214_i_i_i));
+    v_r26_i66_i216_i_i_i = (P)((u64)v_r13 + (u64)(v_r17_i64_i214_i_i_i));
     put_u8(v_r26_i66_i216_i_i_i, 2u);
     v_r29_i175_sroa_4_0_r26_i66_i216_sroa_idx_i_i_i = v_r26_i66_i216_i_i_i + 1;
     put_u8(v_r29_i175_sroa_4_0_r26_i66_i216_sroa_idx_i_i_i, 131u);
@@ -45942,7 +46014,7 @@ L_else_11_i184_i_i_i:;
     v_r164_i190_i_i_i = (u8)(v_r16022_i189_i_i_i);
     v_r168_i191_i_i_i = (u8)(v_r2_i_i213_i_i_i_i);
     v_r17_i82_i199_i_i_i = (u64)((u64)(v_r7_sroa_130_7_i_i_i) + (u64)(18446744073709551610ull));
-    v_r26_i84_i201_i_i_i = (P)((uintptr_t)v_r13 + (u64)(v_r17_i82_i199_i_i_i));
+    v_r26_i84_i201_i_i_i = (P)((u64)v_r13 + (u64)(v_r17_i82_i199_i_i_i));
     put_u8(v_r26_i84_i201_i_i_i, 2u);
     v_r40_i176_sroa_4_0_r26_i84_i201_sroa_idx_i_i_i = v_r26_i84_i201_i_i_i + 1;
     put_u8(v_r40_i176_sroa_4_0_r26_i84_i201_sroa_idx_i_i_i, 132u);
@@ -45960,9 +46032,9 @@ L_der_core_back_writer_BackWriter_prepend_header_exi__11:;
     v_r1_sroa_0_0_copyload_i_i224_i_i_i_i = get_P(v_r5_i);
     v_r1_sroa_3_0_copyload_i_i226_i_i_i_i = get_u64(v_r10_sroa_56_sroa_0_sroa_12_3_r5_sroa_idx_i);
     v_r17_i_i_i227_i_i_i_i = (u64)((u64)(v_r7_sroa_130_17_i_i_i) - (u64)(v_r1_sroa_3_0_copyload_i_i226_i_i_i_i));
-    v_r26_i_i_i229_i_i_i_i = (P)((uintptr_t)v_r13 + (u64)(v_r17_i_i_i227_i_i_i_i));
-    v_r8_i_i_i_i_i_i_i_i_i230_i_i_i_i = (u64)((uintptr_t)v_r26_i_i_i229_i_i_i_i);
-    v_r9_i_i_i_i_i_i_i_i_i231_i_i_i_i = (u64)((uintptr_t)v_r1_sroa_0_0_copyload_i_i224_i_i_i_i);
+    v_r26_i_i_i229_i_i_i_i = (P)((u64)v_r13 + (u64)(v_r17_i_i_i227_i_i_i_i));
+    v_r8_i_i_i_i_i_i_i_i_i230_i_i_i_i = (u64)((u64)v_r26_i_i_i229_i_i_i_i);
+    v_r9_i_i_i_i_i_i_i_i_i231_i_i_i_i = (u64)((u64)v_r1_sroa_0_0_copyload_i_i224_i_i_i_i);
     v_r10_i_i_i_i_i_i_i_i_i232_i_i_i_i = (u64)((u64)(v_r8_i_i_i_i_i_i_i_i_i230_i_i_i_i) - (u64)(v_r9_i_i_i_i_i_i_i_i_i231_i_i_i_i));
     v_r11_i_i_i_i_i_i_i_i_i233_i_i_i_i = v_r10_i_i_i_i_i_i_i_i_i232_i_i_i_i < v_r1_sroa_3_0_copyload_i_i226_i_i_i_i;
     if (v_r11_i_i_i_i_i_i_i_i_i233_i_i_i_i) { goto L_join_7_i_i_i_i_i_i_i_i_i247_i_i_i_i_preheader; } else { goto L_apart_2_i_i_i_i_i_i_i_i_i234_i_i_i_i; }
@@ -46025,7 +46097,7 @@ L_der_core_back_writer_BackWriter_prepend_exit_i_i23:;
     if (v_r15_not_i_i238_i_i_i_i) { p_v_r7_sroa_130_14_i_i_i = v_r17_i_i_i227_i_i_i_i; goto L_pkcs1_c_given_key_GivenKeyEncodeValue_prepend_valu; } else { goto L_then_1_i_i239_i_i_i_i; }
 L_then_1_i_i239_i_i_i_i:;
     v_r17_i3_i_i240_i_i_i_i = (u64)((u64)(v_r17_i_i_i227_i_i_i_i) + (u64)(18446744073709551615ull));
-    v_r26_i5_i_i242_i_i_i_i = (P)((uintptr_t)v_r13 + (u64)(v_r17_i3_i_i240_i_i_i_i));
+    v_r26_i5_i_i242_i_i_i_i = (P)((u64)v_r13 + (u64)(v_r17_i3_i_i240_i_i_i_i));
     put_u8(v_r26_i5_i_i242_i_i_i_i, 0u);
     { p_v_r7_sroa_130_14_i_i_i = v_r17_i3_i_i240_i_i_i_i; goto L_pkcs1_c_given_key_GivenKeyEncodeValue_prepend_valu; }
 L_pkcs1_c_given_key_GivenKeyEncodeValue_prepend_valu:;
@@ -46039,7 +46111,7 @@ L_pkcs1_c_given_key_GivenKeyEncodeValue_prepend_valu:;
 L_then_1_i162_i_i_i:;
     v_r64_i163_i_i_i = (u16)(v_r2_i_i246_i_i_i_i);
     v_r17_i_i167_i_i_i = (u64)((u64)(v_r7_sroa_130_14_i_i_i) + (u64)(18446744073709551614ull));
-    v_r26_i_i169_i_i_i = (P)((uintptr_t)v_r13 + (u64)(v_r17_i_i167_i_i_i));
+    v_r26_i_i169_i_i_i = (P)((u64)v_r13 + (u64)(v_r17_i_i167_i_i_i));
     v_r8_i96_sroa_4_0_insert_shift_i_i_i = (u16)((u32)(v_r64_i163_i_i_i) << (u32)((8u & 31)));
     v_r8_i96_sroa_0_0_insert_insert_i_i_i = (u16)((u32)(v_r8_i96_sroa_4_0_insert_shift_i_i_i) | (u32)(2u));
     put_u16(v_r26_i_i169_i_i_i, v_r8_i96_sroa_0_0_insert_insert_i_i_i);
@@ -46050,7 +46122,7 @@ L_else_2_i102_i_i_i:;
 L_then_4_i153_i_i_i:;
     v_r80_i154_i_i_i = (u8)(v_r2_i_i246_i_i_i_i);
     v_r17_i28_i159_i_i_i = (u64)((u64)(v_r7_sroa_130_14_i_i_i) + (u64)(18446744073709551613ull));
-    v_r26_i30_i161_i_i_i = (P)((uintptr_t)v_r13 + (u64)(v_r17_i28_i159_i_i_i));
+    v_r26_i30_i161_i_i_i = (P)((u64)v_r13 + (u64)(v_r17_i28_i159_i_i_i));
     put_u8(v_r26_i30_i161_i_i_i, 2u);
     v_r14_i97_sroa_4_0_r26_i30_i161_sroa_idx_i_i_i = v_r26_i30_i161_i_i_i + 1;
     put_u8(v_r14_i97_sroa_4_0_r26_i30_i161_sroa_idx_i_i_i, 129u);
@@ -46062,7 +46134,7 @@ L_else_5_i104_i_i_i:;
     if (v_r92_i105_i_i_i) { goto L_then_7_i141_i_i_i; } else { goto L_else_8_i106_i_i_i; }
 L_then_7_i141_i_i_i:;
     v_r17_i46_i149_i_i_i = (u64)((u64)(v_r7_sroa_130_14_i_i_i) + (u64)(18446744073709551612ull));
-    v_r26_i48_i151_i_i_i = (P)((uintptr_t)v_r13 + (u64)(v_r17_i46_i149_i_i_i));
+    v_r26_i48_i151_i_i_i = (P)((u64)v_r13 + (u64)(v_r17_i46_i149_i_i_i));
     v_77 = (u32)((u32)(v_r2_i_i246_i_i_i_i) | (u32)(42074112u));
     v_r20_i98_sroa_0_0_insert_insert_i_i_i = __builtin_bswap32(v_77);
     put_u32(v_r26_i48_i151_i_i_i, v_r20_i98_sroa_0_0_insert_insert_i_i_i);
@@ -46077,7 +46149,7 @@ L_then_10_i126_i_i_i:;
     v_r130_i130_i_i_i = (u8)(v_r12624_i129_i_i_i);
     v_r134_i131_i_i_i = (u8)(v_r2_i_i246_i_i_i_i);
     v_r17_i64_i138_i_i_i = (u64)((u64)(v_r7_sroa_130_14_i_i_i) + (u64)(18446744073709551611ull));
-    v_r26_i66_i140_i_i_i = (P)((uintptr_t)v_r13 + (u64)(v_r17_i64_i138_i_i_i));
+    v_r26_i66_i140_i_i_i = (P)((u64)v_r13 + (u64)(v_r17_i64_i138_i_i_i));
     put_u8(v_r26_i66_i140_i_i_i, 2u);
     v_r29_i99_sroa_4_0_r26_i66_i140_sroa_idx_i_i_i = v_r26_i66_i140_i_i_i + 1;
     put_u8(v_r29_i99_sroa_4_0_r26_i66_i140_sroa_idx_i_i_i, 131u);
@@ -46097,7 +46169,7 @@ L_else_11_i108_i_i_i:;
     v_r164_i114_i_i_i = (u8)(v_r16022_i113_i_i_i);
     v_r168_i115_i_i_i = (u8)(v_r2_i_i246_i_i_i_i);
     v_r17_i82_i123_i_i_i = (u64)((u64)(v_r7_sroa_130_14_i_i_i) + (u64)(18446744073709551610ull));
-    v_r26_i84_i125_i_i_i = (P)((uintptr_t)v_r13 + (u64)(v_r17_i82_i123_i_i_i));
+    v_r26_i84_i125_i_i_i = (P)((u64)v_r13 + (u64)(v_r17_i82_i123_i_i_i));
     put_u8(v_r26_i84_i125_i_i_i, 2u);
     v_r40_i100_sroa_4_0_r26_i84_i125_sroa_idx_i_i_i = v_r26_i84_i125_i_i_i + 1;
     put_u8(v_r40_i100_sroa_4_0_r26_i84_i125_sroa_idx_i_i_i, 132u);
@@ -46112,11 +46184,11 @@ L_else_11_i108_i_i_i:;
     { p_v_r7_sroa_130_16_i_i_i = v_r17_i82_i123_i_i_i; goto L_der_core_back_writer_BackWriter_prepend_header_exi__12; }
 L_der_core_back_writer_BackWriter_prepend_header_exi__12:;
     v_r7_sroa_130_16_i_i_i = p_v_r7_sroa_130_16_i_i_i;
-    v_78 = (P)((uintptr_t)v_r13 + (u64)(v_r7_sroa_130_16_i_i_i));
-    v_r26_i_i258_i_i_i_i = (P)((uintptr_t)v_78 + (u64)(-1));
+    v_78 = (P)((u64)v_r13 + (u64)(v_r7_sroa_130_16_i_i_i));
+    v_r26_i_i258_i_i_i_i = (P)((u64)v_78 + (u64)(-1));
     put_u8(v_r26_i_i258_i_i_i_i, v_13);
     v_r17_i_i91_i_i_i = (u64)((u64)(v_r7_sroa_130_16_i_i_i) + (u64)(18446744073709551613ull));
-    v_r26_i_i93_i_i_i = (P)((uintptr_t)v_r13 + (u64)(v_r17_i_i91_i_i_i));
+    v_r26_i_i93_i_i_i = (P)((u64)v_r13 + (u64)(v_r17_i_i91_i_i_i));
     put_u16(v_r26_i_i93_i_i_i, 258u);
     v_79 = (u32)(v_r17_i_i91_i_i_i);
     v_r2_i_i_i_i = (u32)((u32)(v_r1_sroa_9_4_copyload_i_i_i_i) - (u32)(v_79));
@@ -46124,7 +46196,7 @@ L_der_core_back_writer_BackWriter_prepend_header_exi__12:;
     if (v_r59_i_i_i_i) { goto L_then_1_i_i_i_i; } else { goto L_else_2_i_i_i_i; }
 L_then_1_i_i_i_i:;
     v_r64_i_i_i_i = (u16)(v_r2_i_i_i_i);
-    v_r26_i_i_i_i_i = (P)((uintptr_t)v_78 + (u64)(-5));
+    v_r26_i_i_i_i_i = (P)((u64)v_78 + (u64)(-5));
     v_r8_i_sroa_4_0_insert_shift_i_i_i = (u16)((u32)(v_r64_i_i_i_i) << (u32)((8u & 31)));
     v_r8_i_sroa_0_0_insert_insert_i_i_i = (u16)((u32)(v_r8_i_sroa_4_0_insert_shift_i_i_i) | (u32)(48u));
     put_u16(v_r26_i_i_i_i_i, v_r8_i_sroa_0_0_insert_insert_i_i_i);
@@ -46134,18 +46206,18 @@ L_else_2_i_i_i_i:;
     if (v_r75_i_i_i_i) { goto L_then_4_i_i_i_i; } else { goto L_else_5_i_i_i_i; }
 L_then_4_i_i_i_i:;
     v_r80_i_i_i_i = (u8)(v_r2_i_i_i_i);
-    v_r26_i30_i_i_i_i = (P)((uintptr_t)v_78 + (u64)(-6));
+    v_r26_i30_i_i_i_i = (P)((u64)v_78 + (u64)(-6));
     put_u8(v_r26_i30_i_i_i_i, 48u);
-    v_r14_i_sroa_4_0_r26_i30_i_sroa_idx_i_i_i = (P)((uintptr_t)v_78 + (u64)(-5));
+    v_r14_i_sroa_4_0_r26_i30_i_sroa_idx_i_i_i = (P)((u64)v_78 + (u64)(-5));
     put_u8(v_r14_i_sroa_4_0_r26_i30_i_sroa_idx_i_i_i, 129u);
-    v_r14_i_sroa_5_0_r26_i30_i_sroa_idx_i_i_i = (P)((uintptr_t)v_78 + (u64)(-4));
+    v_r14_i_sroa_5_0_r26_i30_i_sroa_idx_i_i_i = (P)((u64)v_78 + (u64)(-4));
     put_u8(v_r14_i_sroa_5_0_r26_i30_i_sroa_idx_i_i_i, v_r80_i_i_i_i);
     { goto L_arm_1_i1752_i; }
 L_else_5_i_i_i_i:;
     v_r92_i_i_i_i = v_r2_i_i_i_i < 65536u;
     if (v_r92_i_i_i_i) { goto L_then_7_i_i_i_i; } else { goto L_else_8_i_i_i_i; }
 L_then_7_i_i_i_i:;
-    v_r26_i48_i_i_i_i = (P)((uintptr_t)v_78 + (u64)(-7));
+    v_r26_i48_i_i_i_i = (P)((u64)v_78 + (u64)(-7));
     v_80 = (u32)((u32)(v_r2_i_i_i_i) | (u32)(813826048u));
     v_r20_i_sroa_0_0_insert_insert_i_i_i = __builtin_bswap32(v_80);
     put_u32(v_r26_i48_i_i_i_i, v_r20_i_sroa_0_0_insert_insert_i_i_i);
@@ -46159,15 +46231,15 @@ L_then_10_i_i_i_i:;
     v_r12624_i_i_i_i = (u32)((u32)(v_r2_i_i_i_i) >> (u32)((8u & 31)));
     v_r130_i_i_i_i = (u8)(v_r12624_i_i_i_i);
     v_r134_i_i_i_i = (u8)(v_r2_i_i_i_i);
-    v_r26_i66_i_i_i_i = (P)((uintptr_t)v_78 + (u64)(-8));
+    v_r26_i66_i_i_i_i = (P)((u64)v_78 + (u64)(-8));
     put_u8(v_r26_i66_i_i_i_i, 48u);
-    v_r29_i_sroa_4_0_r26_i66_i_sroa_idx_i_i_i = (P)((uintptr_t)v_78 + (u64)(-7));
+    v_r29_i_sroa_4_0_r26_i66_i_sroa_idx_i_i_i = (P)((u64)v_78 + (u64)(-7));
     put_u8(v_r29_i_sroa_4_0_r26_i66_i_sroa_idx_i_i_i, 131u);
-    v_r29_i_sroa_5_0_r26_i66_i_sroa_idx_i_i_i = (P)((uintptr_t)v_78 + (u64)(-6));
+    v_r29_i_sroa_5_0_r26_i66_i_sroa_idx_i_i_i = (P)((u64)v_78 + (u64)(-6));
     put_u8(v_r29_i_sroa_5_0_r26_i66_i_sroa_idx_i_i_i, v_r124_i_i_i_i);
-    v_r29_i_sroa_6_0_r26_i66_i_sroa_idx_i_i_i = (P)((uintptr_t)v_78 + (u64)(-5));
+    v_r29_i_sroa_6_0_r26_i66_i_sroa_idx_i_i_i = (P)((u64)v_78 + (u64)(-5));
     put_u8(v_r29_i_sroa_6_0_r26_i66_i_sroa_idx_i_i_i, v_r130_i_i_i_i);
-    v_r29_i_sroa_7_0_r26_i66_i_sroa_idx_i_i_i = (P)((uintptr_t)v_78 + (u64)(-4));
+    v_r29_i_sroa_7_0_r26_i66_i_sroa_idx_i_i_i = (P)((u64)v_78 + (u64)(-4));
     put_u8(v_r29_i_sroa_7_0_r26_i66_i_sroa_idx_i_i_i, v_r134_i_i_i_i);
     { goto L_arm_1_i1752_i; }
 L_else_11_i_i_i_i:;
@@ -46178,17 +46250,17 @@ L_else_11_i_i_i_i:;
     v_r16022_i_i_i_i = (u32)((u32)(v_r2_i_i_i_i) >> (u32)((8u & 31)));
     v_r164_i_i_i_i = (u8)(v_r16022_i_i_i_i);
     v_r168_i_i_i_i = (u8)(v_r2_i_i_i_i);
-    v_r26_i84_i_i_i_i = (P)((uintptr_t)v_78 + (u64)(-9));
+    v_r26_i84_i_i_i_i = (P)((u64)v_78 + (u64)(-9));
     put_u8(v_r26_i84_i_i_i_i, 48u);
-    v_r40_i_sroa_4_0_r26_i84_i_sroa_idx_i_i_i = (P)((uintptr_t)v_78 + (u64)(-8));
+    v_r40_i_sroa_4_0_r26_i84_i_sroa_idx_i_i_i = (P)((u64)v_78 + (u64)(-8));
     put_u8(v_r40_i_sroa_4_0_r26_i84_i_sroa_idx_i_i_i, 132u);
-    v_r40_i_sroa_5_0_r26_i84_i_sroa_idx_i_i_i = (P)((uintptr_t)v_78 + (u64)(-7));
+    v_r40_i_sroa_5_0_r26_i84_i_sroa_idx_i_i_i = (P)((u64)v_78 + (u64)(-7));
     put_u8(v_r40_i_sroa_5_0_r26_i84_i_sroa_idx_i_i_i, v_r152_i_i_i_i);
-    v_r40_i_sroa_6_0_r26_i84_i_sroa_idx_i_i_i = (P)((uintptr_t)v_78 + (u64)(-6));
+    v_r40_i_sroa_6_0_r26_i84_i_sroa_idx_i_i_i = (P)((u64)v_78 + (u64)(-6));
     put_u8(v_r40_i_sroa_6_0_r26_i84_i_sroa_idx_i_i_i, v_r158_i_i_i_i);
-    v_r40_i_sroa_7_0_r26_i84_i_sroa_idx_i_i_i = (P)((uintptr_t)v_78 + (u64)(-5));
+    v_r40_i_sroa_7_0_r26_i84_i_sroa_idx_i_i_i = (P)((u64)v_78 + (u64)(-5));
     put_u8(v_r40_i_sroa_7_0_r26_i84_i_sroa_idx_i_i_i, v_r164_i_i_i_i);
-    v_r40_i_sroa_8_0_r26_i84_i_sroa_idx_i_i_i = (P)((uintptr_t)v_78 + (u64)(-4));
+    v_r40_i_sroa_8_0_r26_i84_i_sroa_idx_i_i_i = (P)((u64)v_78 + (u64)(-4));
     put_u8(v_r40_i_sroa_8_0_r26_i84_i_sroa_idx_i_i_i, v_r168_i_i_i_i);
     { goto L_arm_1_i1752_i; }
 L_arm_1_i1752_i:;
@@ -46212,7 +46284,7 @@ L_pkcs1_c_private_key_pkcs1_c_private_key_encode_exi:;
     v_common_ret_op_i = p_v_common_ret_op_i;
     return v_common_ret_op_i;
 }
-u32 pkcs1_c_private_key_info_encode(P v_a0, P v_a1, u64 v_a2, P v_a3) {
+u32 NAME(private_key_info_encode)(P v_a0, P v_a1, u64 v_a2, P v_a3) {
     ALIGNED(4) unsigned char m_v_r1_i_i_i[8];
     ALIGNED(4) unsigned char m_v_r10_i_i_i[8];
     ALIGNED(8) unsigned char m_v_r6_i1237_i_i[32];
@@ -47051,16 +47123,16 @@ u32 pkcs1_c_private_key_info_encode(P v_a0, P v_a1, u64 v_a2, P v_a3) {
     u64 v_r3_i_i2_i_i;
     u32 v_r5_sroa_8_0_ph_i;
     u32 v_r6_0_i;
-    v_r1_i_i_i = m_v_r1_i_i_i;
-    v_r10_i_i_i = m_v_r10_i_i_i;
-    v_r6_i1237_i_i = m_v_r6_i1237_i_i;
-    v_r0_i5_i_i = m_v_r0_i5_i_i;
-    v_r17_sroa_4_i_i = m_v_r17_sroa_4_i_i;
-    v_r3_i = m_v_r3_i;
-    v_r5_sroa_38_i = m_v_r5_sroa_38_i;
+    v_r1_i_i_i = AT(m_v_r1_i_i_i);
+    v_r10_i_i_i = AT(m_v_r10_i_i_i);
+    v_r6_i1237_i_i = AT(m_v_r6_i1237_i_i);
+    v_r0_i5_i_i = AT(m_v_r0_i5_i_i);
+    v_r17_sroa_4_i_i = AT(m_v_r17_sroa_4_i_i);
+    v_r3_i = AT(m_v_r3_i);
+    v_r5_sroa_38_i = AT(m_v_r5_sroa_38_i);
     v_r1 = v_a1 == (P)0;
     v_r3 = v_r1 ? 4096u : 0u;
-    v_r4 = (P)((uintptr_t)v_a1 + (u64)(v_r3));
+    v_r4 = (P)((u64)v_a1 + (u64)(v_r3));
     fill(v_r3_i, 0u, 112u);
     fill(v_r5_sroa_38_i, 0u, 16u);
     fill(v_r17_sroa_4_i_i, 0u, 16u);
@@ -47156,7 +47228,7 @@ L_then_9_i_i_i:;
     v_r15_i1299_i_i = v_r35_i82_i_i < v_r65_i87_i_i;
     if (v_r15_i1299_i_i) { goto L_der_core_decode_AnyDecodeRefSliceU8_from_der_70ca1; } else { goto L_arm_1_i62_i_i; }
 L_arm_1_i62_i_i:;
-    v_r29_i1301_i_i = (P)((uintptr_t)v_r32_i81_i_i + (u64)(v_r65_i87_i_i));
+    v_r29_i1301_i_i = (P)((u64)v_r32_i81_i_i + (u64)(v_r65_i87_i_i));
     v_r32_i1302_i_i = (u64)((u64)(v_r35_i82_i_i) - (u64)(v_r65_i87_i_i));
     switch (v_r53_i86_i_i) {
     case 0u: { goto L_der_core_decode_AnyDecodeRefSliceU8_from_der_70ca1; }
@@ -47206,7 +47278,7 @@ L_then_6_i_i_i_i_i:;
 L_then_9_i_i_i_i_i:;
     v_r92_i_i_i_i_i = (u64)v_r83_i_i_i_i_i;
     v_r15_i1315_i_i = v_r65_i_i_i_i_i < v_r92_i_i_i_i_i;
-    v_r29_i1317_i_i = (P)((uintptr_t)v_r62_i_i_i_i_i + (u64)(v_r92_i_i_i_i_i));
+    v_r29_i1317_i_i = (P)((u64)v_r62_i_i_i_i_i + (u64)(v_r92_i_i_i_i_i));
     v_r32_i1318_i_i = (u64)((u64)(v_r65_i_i_i_i_i) - (u64)(v_r92_i_i_i_i_i));
     v_r27_i4_i_i_i = v_r83_i_i_i_i_i == 0u;
     v_or_cond140_i = (u1)(((u32)(v_r27_i4_i_i_i) | (u32)(v_r15_i1315_i_i)) & 1);
@@ -47233,7 +47305,7 @@ L_then_20_i_i_i_i_i:;
     if (v_r15_i1325_i_i) { goto L_der_core_decode_AnyDecodeRefSliceU8_from_der_70ca1; } else { goto L_join_3_i1326_i_i; }
 L_join_3_i1326_i_i:;
     v_r119_i_i_i_i_i = v_r29_i1301_i_i + 4;
-    v_r29_i1327_i_i = (P)((uintptr_t)v_r119_i_i_i_i_i + (u64)(v_r148_i_i_i_i_i));
+    v_r29_i1327_i_i = (P)((u64)v_r119_i_i_i_i_i + (u64)(v_r148_i_i_i_i_i));
     v_r32_i1328_i_i = (u64)((u64)(v_r122_i_i_i_i_i) - (u64)(v_r148_i_i_i_i_i));
     { p_v_r0_i_i109_sroa_13_0_i57_i = v_r32_i1328_i_i; p_v_r0_i_i109_sroa_12_0_i56_i = v_r29_i1327_i_i; p_v_r0_i_i109_sroa_11_0_i55_i = v_r148_i_i_i_i_i; p_v_r0_i_i109_sroa_7_0_i54_i = v_r119_i_i_i_i_i; goto L_join_5_i_i133_i_i; }
 L_join_14_i_i_i_i_i:;
@@ -47253,7 +47325,7 @@ L_then_31_i_i_i_i_i:;
     v_r15_i1335_i_i = v_r173_i_i_i_i_i < v_r199_i_i_i_i_i;
     if (v_r15_i1335_i_i) { goto L_der_core_decode_AnyDecodeRefSliceU8_from_der_70ca1; } else { goto L_join_3_i1336_i_i; }
 L_join_3_i1336_i_i:;
-    v_r29_i1337_i_i = (P)((uintptr_t)v_r170_i_i_i_i_i + (u64)(v_r199_i_i_i_i_i));
+    v_r29_i1337_i_i = (P)((u64)v_r170_i_i_i_i_i + (u64)(v_r199_i_i_i_i_i));
     v_r32_i1338_i_i = (u64)((u64)(v_r173_i_i_i_i_i) - (u64)(v_r199_i_i_i_i_i));
     { p_v_r0_i_i109_sroa_13_0_i57_i = v_r32_i1338_i_i; p_v_r0_i_i109_sroa_12_0_i56_i = v_r29_i1337_i_i; p_v_r0_i_i109_sroa_11_0_i55_i = v_r199_i_i_i_i_i; p_v_r0_i_i109_sroa_7_0_i54_i = v_r170_i_i_i_i_i; goto L_join_5_i_i133_i_i; }
 L_join_5_i_i133_i_i:;
@@ -47296,7 +47368,7 @@ L_then_6_i_i_i245_i_i:;
 L_then_9_i_i_i289_i_i:;
     v_r92_i_i_i290_i_i = (u64)v_r83_i_i_i247_i_i;
     v_r15_i1345_i_i = v_r65_i_i_i167_i_i < v_r92_i_i_i290_i_i;
-    v_r29_i1347_i_i = (P)((uintptr_t)v_r62_i_i_i166_i_i + (u64)(v_r92_i_i_i290_i_i));
+    v_r29_i1347_i_i = (P)((u64)v_r62_i_i_i166_i_i + (u64)(v_r92_i_i_i290_i_i));
     v_r32_i1348_i_i = (u64)((u64)(v_r65_i_i_i167_i_i) - (u64)(v_r92_i_i_i290_i_i));
     v_r27_i4_i217_i_i = v_r83_i_i_i247_i_i == 0u;
     v_or_cond141_i = (u1)(((u32)(v_r27_i4_i217_i_i) | (u32)(v_r15_i1345_i_i)) & 1);
@@ -47323,7 +47395,7 @@ L_then_20_i_i_i271_i_i:;
     if (v_r15_i1355_i_i) { goto L_der_core_decode_AnyDecodeRefSliceU8_from_der_70ca1; } else { goto L_join_3_i1356_i_i; }
 L_join_3_i1356_i_i:;
     v_r119_i_i_i273_i_i = v_r0_i_i109_sroa_12_0_i56_i + 4;
-    v_r29_i1357_i_i = (P)((uintptr_t)v_r119_i_i_i273_i_i + (u64)(v_r148_i_i_i279_i_i));
+    v_r29_i1357_i_i = (P)((u64)v_r119_i_i_i273_i_i + (u64)(v_r148_i_i_i279_i_i));
     v_r32_i1358_i_i = (u64)((u64)(v_r122_i_i_i272_i_i) - (u64)(v_r148_i_i_i279_i_i));
     { p_v_r0_i_i139_sroa_13_0_i66_i = v_r32_i1358_i_i; p_v_r0_i_i139_sroa_12_0_i65_i = v_r29_i1357_i_i; p_v_r0_i_i139_sroa_11_0_i64_i = v_r148_i_i_i279_i_i; p_v_r0_i_i139_sroa_7_0_i63_i = v_r119_i_i_i273_i_i; goto L_join_5_i_i218_i_i; }
 L_join_14_i_i_i251_i_i:;
@@ -47343,7 +47415,7 @@ L_then_31_i_i_i264_i_i:;
     v_r15_i1365_i_i = v_r173_i_i_i255_i_i < v_r199_i_i_i265_i_i;
     if (v_r15_i1365_i_i) { goto L_der_core_decode_AnyDecodeRefSliceU8_from_der_70ca1; } else { goto L_join_3_i1366_i_i; }
 L_join_3_i1366_i_i:;
-    v_r29_i1367_i_i = (P)((uintptr_t)v_r170_i_i_i254_i_i + (u64)(v_r199_i_i_i265_i_i));
+    v_r29_i1367_i_i = (P)((u64)v_r170_i_i_i254_i_i + (u64)(v_r199_i_i_i265_i_i));
     v_r32_i1368_i_i = (u64)((u64)(v_r173_i_i_i255_i_i) - (u64)(v_r199_i_i_i265_i_i));
     { p_v_r0_i_i139_sroa_13_0_i66_i = v_r32_i1368_i_i; p_v_r0_i_i139_sroa_12_0_i65_i = v_r29_i1367_i_i; p_v_r0_i_i139_sroa_11_0_i64_i = v_r199_i_i_i265_i_i; p_v_r0_i_i139_sroa_7_0_i63_i = v_r170_i_i_i254_i_i; goto L_join_5_i_i218_i_i; }
 L_join_5_i_i218_i_i:;
@@ -47386,7 +47458,7 @@ L_then_6_i_i_i405_i_i:;
 L_then_9_i_i_i449_i_i:;
     v_r92_i_i_i450_i_i = (u64)v_r83_i_i_i407_i_i;
     v_r15_i1375_i_i = v_r65_i_i_i327_i_i < v_r92_i_i_i450_i_i;
-    v_r29_i1377_i_i = (P)((uintptr_t)v_r62_i_i_i326_i_i + (u64)(v_r92_i_i_i450_i_i));
+    v_r29_i1377_i_i = (P)((u64)v_r62_i_i_i326_i_i + (u64)(v_r92_i_i_i450_i_i));
     v_r32_i1378_i_i = (u64)((u64)(v_r65_i_i_i327_i_i) - (u64)(v_r92_i_i_i450_i_i));
     v_r27_i4_i377_i_i = v_r83_i_i_i407_i_i == 0u;
     v_or_cond142_i = (u1)(((u32)(v_r27_i4_i377_i_i) | (u32)(v_r15_i1375_i_i)) & 1);
@@ -47413,7 +47485,7 @@ L_then_20_i_i_i431_i_i:;
     if (v_r15_i1385_i_i) { goto L_der_core_decode_AnyDecodeRefSliceU8_from_der_70ca1; } else { goto L_join_3_i1386_i_i; }
 L_join_3_i1386_i_i:;
     v_r119_i_i_i433_i_i = v_r0_i_i139_sroa_12_0_i65_i + 4;
-    v_r29_i1387_i_i = (P)((uintptr_t)v_r119_i_i_i433_i_i + (u64)(v_r148_i_i_i439_i_i));
+    v_r29_i1387_i_i = (P)((u64)v_r119_i_i_i433_i_i + (u64)(v_r148_i_i_i439_i_i));
     v_r32_i1388_i_i = (u64)((u64)(v_r122_i_i_i432_i_i) - (u64)(v_r148_i_i_i439_i_i));
     { p_v_r0_i_i299_sroa_13_0_i75_i = v_r32_i1388_i_i; p_v_r0_i_i299_sroa_12_0_i74_i = v_r29_i1387_i_i; p_v_r0_i_i299_sroa_11_0_i73_i = v_r148_i_i_i439_i_i; p_v_r0_i_i299_sroa_7_0_i72_i = v_r119_i_i_i433_i_i; goto L_join_5_i_i378_i_i; }
 L_join_14_i_i_i411_i_i:;
@@ -47433,7 +47505,7 @@ L_then_31_i_i_i424_i_i:;
     v_r15_i1395_i_i = v_r173_i_i_i415_i_i < v_r199_i_i_i425_i_i;
     if (v_r15_i1395_i_i) { goto L_der_core_decode_AnyDecodeRefSliceU8_from_der_70ca1; } else { goto L_join_3_i1396_i_i; }
 L_join_3_i1396_i_i:;
-    v_r29_i1397_i_i = (P)((uintptr_t)v_r170_i_i_i414_i_i + (u64)(v_r199_i_i_i425_i_i));
+    v_r29_i1397_i_i = (P)((u64)v_r170_i_i_i414_i_i + (u64)(v_r199_i_i_i425_i_i));
     v_r32_i1398_i_i = (u64)((u64)(v_r173_i_i_i415_i_i) - (u64)(v_r199_i_i_i425_i_i));
     { p_v_r0_i_i299_sroa_13_0_i75_i = v_r32_i1398_i_i; p_v_r0_i_i299_sroa_12_0_i74_i = v_r29_i1397_i_i; p_v_r0_i_i299_sroa_11_0_i73_i = v_r199_i_i_i425_i_i; p_v_r0_i_i299_sroa_7_0_i72_i = v_r170_i_i_i414_i_i; goto L_join_5_i_i378_i_i; }
 L_join_5_i_i378_i_i:;
@@ -47476,7 +47548,7 @@ L_then_6_i_i_i565_i_i:;
 L_then_9_i_i_i609_i_i:;
     v_r92_i_i_i610_i_i = (u64)v_r83_i_i_i567_i_i;
     v_r15_i1405_i_i = v_r65_i_i_i487_i_i < v_r92_i_i_i610_i_i;
-    v_r29_i1407_i_i = (P)((uintptr_t)v_r62_i_i_i486_i_i + (u64)(v_r92_i_i_i610_i_i));
+    v_r29_i1407_i_i = (P)((u64)v_r62_i_i_i486_i_i + (u64)(v_r92_i_i_i610_i_i));
     v_r32_i1408_i_i = (u64)((u64)(v_r65_i_i_i487_i_i) - (u64)(v_r92_i_i_i610_i_i));
     v_r27_i4_i537_i_i = v_r83_i_i_i567_i_i == 0u;
     v_or_cond143_i = (u1)(((u32)(v_r27_i4_i537_i_i) | (u32)(v_r15_i1405_i_i)) & 1);
@@ -47503,7 +47575,7 @@ L_then_20_i_i_i591_i_i:;
     if (v_r15_i1415_i_i) { goto L_der_core_decode_AnyDecodeRefSliceU8_from_der_70ca1; } else { goto L_join_3_i1416_i_i; }
 L_join_3_i1416_i_i:;
     v_r119_i_i_i593_i_i = v_r0_i_i299_sroa_12_0_i74_i + 4;
-    v_r29_i1417_i_i = (P)((uintptr_t)v_r119_i_i_i593_i_i + (u64)(v_r148_i_i_i599_i_i));
+    v_r29_i1417_i_i = (P)((u64)v_r119_i_i_i593_i_i + (u64)(v_r148_i_i_i599_i_i));
     v_r32_i1418_i_i = (u64)((u64)(v_r122_i_i_i592_i_i) - (u64)(v_r148_i_i_i599_i_i));
     { p_v_r0_i_i459_sroa_13_0_i84_i = v_r32_i1418_i_i; p_v_r0_i_i459_sroa_12_0_i83_i = v_r29_i1417_i_i; p_v_r0_i_i459_sroa_11_0_i82_i = v_r148_i_i_i599_i_i; p_v_r0_i_i459_sroa_7_0_i81_i = v_r119_i_i_i593_i_i; goto L_join_5_i_i538_i_i; }
 L_join_14_i_i_i571_i_i:;
@@ -47523,7 +47595,7 @@ L_then_31_i_i_i584_i_i:;
     v_r15_i1425_i_i = v_r173_i_i_i575_i_i < v_r199_i_i_i585_i_i;
     if (v_r15_i1425_i_i) { goto L_der_core_decode_AnyDecodeRefSliceU8_from_der_70ca1; } else { goto L_join_3_i1426_i_i; }
 L_join_3_i1426_i_i:;
-    v_r29_i1427_i_i = (P)((uintptr_t)v_r170_i_i_i574_i_i + (u64)(v_r199_i_i_i585_i_i));
+    v_r29_i1427_i_i = (P)((u64)v_r170_i_i_i574_i_i + (u64)(v_r199_i_i_i585_i_i));
     v_r32_i1428_i_i = (u64)((u64)(v_r173_i_i_i575_i_i) - (u64)(v_r199_i_i_i585_i_i));
     { p_v_r0_i_i459_sroa_13_0_i84_i = v_r32_i1428_i_i; p_v_r0_i_i459_sroa_12_0_i83_i = v_r29_i1427_i_i; p_v_r0_i_i459_sroa_11_0_i82_i = v_r199_i_i_i585_i_i; p_v_r0_i_i459_sroa_7_0_i81_i = v_r170_i_i_i574_i_i; goto L_join_5_i_i538_i_i; }
 L_join_5_i_i538_i_i:;
@@ -47566,7 +47638,7 @@ L_then_6_i_i_i725_i_i:;
 L_then_9_i_i_i769_i_i:;
     v_r92_i_i_i770_i_i = (u64)v_r83_i_i_i727_i_i;
     v_r15_i1435_i_i = v_r65_i_i_i647_i_i < v_r92_i_i_i770_i_i;
-    v_r29_i1437_i_i = (P)((uintptr_t)v_r62_i_i_i646_i_i + (u64)(v_r92_i_i_i770_i_i));
+    v_r29_i1437_i_i = (P)((u64)v_r62_i_i_i646_i_i + (u64)(v_r92_i_i_i770_i_i));
     v_r32_i1438_i_i = (u64)((u64)(v_r65_i_i_i647_i_i) - (u64)(v_r92_i_i_i770_i_i));
     v_r27_i4_i697_i_i = v_r83_i_i_i727_i_i == 0u;
     v_or_cond144_i = (u1)(((u32)(v_r27_i4_i697_i_i) | (u32)(v_r15_i1435_i_i)) & 1);
@@ -47593,7 +47665,7 @@ L_then_20_i_i_i751_i_i:;
     if (v_r15_i1445_i_i) { goto L_der_core_decode_AnyDecodeRefSliceU8_from_der_70ca1; } else { goto L_join_3_i1446_i_i; }
 L_join_3_i1446_i_i:;
     v_r119_i_i_i753_i_i = v_r0_i_i459_sroa_12_0_i83_i + 4;
-    v_r29_i1447_i_i = (P)((uintptr_t)v_r119_i_i_i753_i_i + (u64)(v_r148_i_i_i759_i_i));
+    v_r29_i1447_i_i = (P)((u64)v_r119_i_i_i753_i_i + (u64)(v_r148_i_i_i759_i_i));
     v_r32_i1448_i_i = (u64)((u64)(v_r122_i_i_i752_i_i) - (u64)(v_r148_i_i_i759_i_i));
     { p_v_r0_i_i619_sroa_13_0_i93_i = v_r32_i1448_i_i; p_v_r0_i_i619_sroa_12_0_i92_i = v_r29_i1447_i_i; p_v_r0_i_i619_sroa_11_0_i91_i = v_r148_i_i_i759_i_i; p_v_r0_i_i619_sroa_7_0_i90_i = v_r119_i_i_i753_i_i; goto L_join_5_i_i698_i_i; }
 L_join_14_i_i_i731_i_i:;
@@ -47613,7 +47685,7 @@ L_then_31_i_i_i744_i_i:;
     v_r15_i1455_i_i = v_r173_i_i_i735_i_i < v_r199_i_i_i745_i_i;
     if (v_r15_i1455_i_i) { goto L_der_core_decode_AnyDecodeRefSliceU8_from_der_70ca1; } else { goto L_join_3_i1456_i_i; }
 L_join_3_i1456_i_i:;
-    v_r29_i1457_i_i = (P)((uintptr_t)v_r170_i_i_i734_i_i + (u64)(v_r199_i_i_i745_i_i));
+    v_r29_i1457_i_i = (P)((u64)v_r170_i_i_i734_i_i + (u64)(v_r199_i_i_i745_i_i));
     v_r32_i1458_i_i = (u64)((u64)(v_r173_i_i_i735_i_i) - (u64)(v_r199_i_i_i745_i_i));
     { p_v_r0_i_i619_sroa_13_0_i93_i = v_r32_i1458_i_i; p_v_r0_i_i619_sroa_12_0_i92_i = v_r29_i1457_i_i; p_v_r0_i_i619_sroa_11_0_i91_i = v_r199_i_i_i745_i_i; p_v_r0_i_i619_sroa_7_0_i90_i = v_r170_i_i_i734_i_i; goto L_join_5_i_i698_i_i; }
 L_join_5_i_i698_i_i:;
@@ -47656,7 +47728,7 @@ L_then_6_i_i_i885_i_i:;
 L_then_9_i_i_i929_i_i:;
     v_r92_i_i_i930_i_i = (u64)v_r83_i_i_i887_i_i;
     v_r15_i1465_i_i = v_r65_i_i_i807_i_i < v_r92_i_i_i930_i_i;
-    v_r29_i1467_i_i = (P)((uintptr_t)v_r62_i_i_i806_i_i + (u64)(v_r92_i_i_i930_i_i));
+    v_r29_i1467_i_i = (P)((u64)v_r62_i_i_i806_i_i + (u64)(v_r92_i_i_i930_i_i));
     v_r32_i1468_i_i = (u64)((u64)(v_r65_i_i_i807_i_i) - (u64)(v_r92_i_i_i930_i_i));
     v_r27_i4_i857_i_i = v_r83_i_i_i887_i_i == 0u;
     v_or_cond145_i = (u1)(((u32)(v_r27_i4_i857_i_i) | (u32)(v_r15_i1465_i_i)) & 1);
@@ -47683,7 +47755,7 @@ L_then_20_i_i_i911_i_i:;
     if (v_r15_i1475_i_i) { goto L_der_core_decode_AnyDecodeRefSliceU8_from_der_70ca1; } else { goto L_join_3_i1476_i_i; }
 L_join_3_i1476_i_i:;
     v_r119_i_i_i913_i_i = v_r0_i_i619_sroa_12_0_i92_i + 4;
-    v_r29_i1477_i_i = (P)((uintptr_t)v_r119_i_i_i913_i_i + (u64)(v_r148_i_i_i919_i_i));
+    v_r29_i1477_i_i = (P)((u64)v_r119_i_i_i913_i_i + (u64)(v_r148_i_i_i919_i_i));
     v_r32_i1478_i_i = (u64)((u64)(v_r122_i_i_i912_i_i) - (u64)(v_r148_i_i_i919_i_i));
     { p_v_r0_i_i779_sroa_13_0_i102_i = v_r32_i1478_i_i; p_v_r0_i_i779_sroa_12_0_i101_i = v_r29_i1477_i_i; p_v_r0_i_i779_sroa_11_0_i100_i = v_r148_i_i_i919_i_i; p_v_r0_i_i779_sroa_7_0_i99_i = v_r119_i_i_i913_i_i; goto L_join_5_i_i858_i_i; }
 L_join_14_i_i_i891_i_i:;
@@ -47703,7 +47775,7 @@ L_then_31_i_i_i904_i_i:;
     v_r15_i1485_i_i = v_r173_i_i_i895_i_i < v_r199_i_i_i905_i_i;
     if (v_r15_i1485_i_i) { goto L_der_core_decode_AnyDecodeRefSliceU8_from_der_70ca1; } else { goto L_join_3_i1486_i_i; }
 L_join_3_i1486_i_i:;
-    v_r29_i1487_i_i = (P)((uintptr_t)v_r170_i_i_i894_i_i + (u64)(v_r199_i_i_i905_i_i));
+    v_r29_i1487_i_i = (P)((u64)v_r170_i_i_i894_i_i + (u64)(v_r199_i_i_i905_i_i));
     v_r32_i1488_i_i = (u64)((u64)(v_r173_i_i_i895_i_i) - (u64)(v_r199_i_i_i905_i_i));
     { p_v_r0_i_i779_sroa_13_0_i102_i = v_r32_i1488_i_i; p_v_r0_i_i779_sroa_12_0_i101_i = v_r29_i1487_i_i; p_v_r0_i_i779_sroa_11_0_i100_i = v_r199_i_i_i905_i_i; p_v_r0_i_i779_sroa_7_0_i99_i = v_r170_i_i_i894_i_i; goto L_join_5_i_i858_i_i; }
 L_join_5_i_i858_i_i:;
@@ -47746,7 +47818,7 @@ L_then_6_i_i_i1045_i_i:;
 L_then_9_i_i_i1089_i_i:;
     v_r92_i_i_i1090_i_i = (u64)v_r83_i_i_i1047_i_i;
     v_r15_i1495_i_i = v_r65_i_i_i967_i_i < v_r92_i_i_i1090_i_i;
-    v_r29_i1497_i_i = (P)((uintptr_t)v_r62_i_i_i966_i_i + (u64)(v_r92_i_i_i1090_i_i));
+    v_r29_i1497_i_i = (P)((u64)v_r62_i_i_i966_i_i + (u64)(v_r92_i_i_i1090_i_i));
     v_r32_i1498_i_i = (u64)((u64)(v_r65_i_i_i967_i_i) - (u64)(v_r92_i_i_i1090_i_i));
     v_r27_i4_i1017_i_i = v_r83_i_i_i1047_i_i == 0u;
     v_or_cond146_i = (u1)(((u32)(v_r27_i4_i1017_i_i) | (u32)(v_r15_i1495_i_i)) & 1);
@@ -47773,7 +47845,7 @@ L_then_20_i_i_i1071_i_i:;
     if (v_r15_i1505_i_i) { goto L_der_core_decode_AnyDecodeRefSliceU8_from_der_70ca1; } else { goto L_join_3_i1506_i_i; }
 L_join_3_i1506_i_i:;
     v_r119_i_i_i1073_i_i = v_r0_i_i779_sroa_12_0_i101_i + 4;
-    v_r29_i1507_i_i = (P)((uintptr_t)v_r119_i_i_i1073_i_i + (u64)(v_r148_i_i_i1079_i_i));
+    v_r29_i1507_i_i = (P)((u64)v_r119_i_i_i1073_i_i + (u64)(v_r148_i_i_i1079_i_i));
     v_r32_i1508_i_i = (u64)((u64)(v_r122_i_i_i1072_i_i) - (u64)(v_r148_i_i_i1079_i_i));
     { p_v_r0_i_i939_sroa_13_0_i111_i = v_r32_i1508_i_i; p_v_r0_i_i939_sroa_12_0_i110_i = v_r29_i1507_i_i; p_v_r0_i_i939_sroa_11_0_i109_i = v_r148_i_i_i1079_i_i; p_v_r0_i_i939_sroa_7_0_i108_i = v_r119_i_i_i1073_i_i; goto L_join_5_i_i1018_i_i; }
 L_join_14_i_i_i1051_i_i:;
@@ -47793,7 +47865,7 @@ L_then_31_i_i_i1064_i_i:;
     v_r15_i1515_i_i = v_r173_i_i_i1055_i_i < v_r199_i_i_i1065_i_i;
     if (v_r15_i1515_i_i) { goto L_der_core_decode_AnyDecodeRefSliceU8_from_der_70ca1; } else { goto L_join_3_i1516_i_i; }
 L_join_3_i1516_i_i:;
-    v_r29_i1517_i_i = (P)((uintptr_t)v_r170_i_i_i1054_i_i + (u64)(v_r199_i_i_i1065_i_i));
+    v_r29_i1517_i_i = (P)((u64)v_r170_i_i_i1054_i_i + (u64)(v_r199_i_i_i1065_i_i));
     v_r32_i1518_i_i = (u64)((u64)(v_r173_i_i_i1055_i_i) - (u64)(v_r199_i_i_i1065_i_i));
     { p_v_r0_i_i939_sroa_13_0_i111_i = v_r32_i1518_i_i; p_v_r0_i_i939_sroa_12_0_i110_i = v_r29_i1517_i_i; p_v_r0_i_i939_sroa_11_0_i109_i = v_r199_i_i_i1065_i_i; p_v_r0_i_i939_sroa_7_0_i108_i = v_r170_i_i_i1054_i_i; goto L_join_5_i_i1018_i_i; }
 L_join_5_i_i1018_i_i:;
@@ -47836,7 +47908,7 @@ L_then_6_i_i_i1184_i_i:;
 L_then_9_i_i_i1228_i_i:;
     v_r92_i_i_i1229_i_i = (u64)v_r83_i_i_i1186_i_i;
     v_r15_i1525_i_i = v_r65_i_i_i1117_i_i < v_r92_i_i_i1229_i_i;
-    v_r29_i1527_i_i = (P)((uintptr_t)v_r62_i_i_i1116_i_i + (u64)(v_r92_i_i_i1229_i_i));
+    v_r29_i1527_i_i = (P)((u64)v_r62_i_i_i1116_i_i + (u64)(v_r92_i_i_i1229_i_i));
     v_r32_i1528_i_i = (u64)((u64)(v_r65_i_i_i1117_i_i) - (u64)(v_r92_i_i_i1229_i_i));
     v_r27_i4_i1156_i_i = v_r83_i_i_i1186_i_i == 0u;
     v_or_cond147_i = (u1)(((u32)(v_r27_i4_i1156_i_i) | (u32)(v_r15_i1525_i_i)) & 1);
@@ -47863,7 +47935,7 @@ L_then_20_i_i_i1210_i_i:;
     if (v_r15_i1535_i_i) { goto L_der_core_decode_AnyDecodeRefSliceU8_from_der_70ca1; } else { goto L_join_3_i1536_i_i; }
 L_join_3_i1536_i_i:;
     v_r119_i_i_i1212_i_i = v_r0_i_i939_sroa_12_0_i110_i + 4;
-    v_r29_i1537_i_i = (P)((uintptr_t)v_r119_i_i_i1212_i_i + (u64)(v_r148_i_i_i1218_i_i));
+    v_r29_i1537_i_i = (P)((u64)v_r119_i_i_i1212_i_i + (u64)(v_r148_i_i_i1218_i_i));
     v_r32_i1538_i_i = (u64)((u64)(v_r122_i_i_i1211_i_i) - (u64)(v_r148_i_i_i1218_i_i));
     { p_v_r0_i_i1099_sroa_13_0_i120_i = v_r32_i1538_i_i; p_v_r0_i_i1099_sroa_12_0_i119_i = v_r29_i1537_i_i; p_v_r0_i_i1099_sroa_11_0_i118_i = v_r148_i_i_i1218_i_i; p_v_r0_i_i1099_sroa_7_0_i117_i = v_r119_i_i_i1212_i_i; goto L_join_5_i_i1157_i_i; }
 L_join_14_i_i_i1190_i_i:;
@@ -47883,7 +47955,7 @@ L_then_31_i_i_i1203_i_i:;
     v_r15_i1545_i_i = v_r173_i_i_i1194_i_i < v_r199_i_i_i1204_i_i;
     if (v_r15_i1545_i_i) { goto L_der_core_decode_AnyDecodeRefSliceU8_from_der_70ca1; } else { goto L_join_3_i1546_i_i; }
 L_join_3_i1546_i_i:;
-    v_r29_i1547_i_i = (P)((uintptr_t)v_r170_i_i_i1193_i_i + (u64)(v_r199_i_i_i1204_i_i));
+    v_r29_i1547_i_i = (P)((u64)v_r170_i_i_i1193_i_i + (u64)(v_r199_i_i_i1204_i_i));
     v_r32_i1548_i_i = (u64)((u64)(v_r173_i_i_i1194_i_i) - (u64)(v_r199_i_i_i1204_i_i));
     { p_v_r0_i_i1099_sroa_13_0_i120_i = v_r32_i1548_i_i; p_v_r0_i_i1099_sroa_12_0_i119_i = v_r29_i1547_i_i; p_v_r0_i_i1099_sroa_11_0_i118_i = v_r199_i_i_i1204_i_i; p_v_r0_i_i1099_sroa_7_0_i117_i = v_r170_i_i_i1193_i_i; goto L_join_5_i_i1157_i_i; }
 L_join_5_i_i1157_i_i:;
@@ -47974,7 +48046,7 @@ L_arm_1_i:;
     v_r5_sroa_32_8_r3_sroa_idx_i = v_r3_i + 48;
     put_u64(v_r5_sroa_32_8_r3_sroa_idx_i, 5u);
     v_r5_sroa_33_8_r3_sroa_idx_i = v_r3_i + 56;
-    put_P(v_r5_sroa_33_8_r3_sroa_idx_i, (P)f_static_22);
+    put_P(v_r5_sroa_33_8_r3_sroa_idx_i, AT(f_static_22));
     v_r5_sroa_34_8_r3_sroa_idx_i = v_r3_i + 64;
     put_u64(v_r5_sroa_34_8_r3_sroa_idx_i, 0u);
     v_r5_sroa_35_8_r3_sroa_idx_i = v_r3_i + 72;
@@ -48008,9 +48080,9 @@ L_arm_1_i_i_i_i_i:;
     v_r1_sroa_3_0_r7_sroa_idx_i_i_i_i_i = v_r3_i + 104;
     v_r1_sroa_3_0_copyload_i_i_i_i_i = get_u64(v_r1_sroa_3_0_r7_sroa_idx_i_i_i_i_i);
     v_r17_i_i_i_i_i_i = (u64)((u64)(v_r3_i8_i_i_i) - (u64)(v_r1_sroa_3_0_copyload_i_i_i_i_i));
-    v_r26_i_i_i_i_i_i = (P)((uintptr_t)v_r4 + (u64)(v_r17_i_i_i_i_i_i));
-    v_r8_i_i_i_i_i_i_i_i_i_i_i_i = (u64)((uintptr_t)v_r26_i_i_i_i_i_i);
-    v_r9_i_i_i_i_i_i_i_i_i_i_i_i = (u64)((uintptr_t)v_r1_sroa_0_0_copyload_i_i_i_i_i);
+    v_r26_i_i_i_i_i_i = (P)((u64)v_r4 + (u64)(v_r17_i_i_i_i_i_i));
+    v_r8_i_i_i_i_i_i_i_i_i_i_i_i = (u64)((u64)v_r26_i_i_i_i_i_i);
+    v_r9_i_i_i_i_i_i_i_i_i_i_i_i = (u64)((u64)v_r1_sroa_0_0_copyload_i_i_i_i_i);
     v_r10_i_i_i_i_i_i_i_i_i_i_i_i = (u64)((u64)(v_r8_i_i_i_i_i_i_i_i_i_i_i_i) - (u64)(v_r9_i_i_i_i_i_i_i_i_i_i_i_i));
     v_r11_i_i_i_i_i_i_i_i_i_i_i_i = v_r10_i_i_i_i_i_i_i_i_i_i_i_i < v_r1_sroa_3_0_copyload_i_i_i_i_i;
     if (v_r11_i_i_i_i_i_i_i_i_i_i_i_i) { goto L_join_7_i_i_i_i_i_i_i_i_i_i_i_i_preheader; } else { goto L_apart_2_i_i_i_i_i_i_i_i_i_i_i_i; }
@@ -48074,7 +48146,7 @@ L_pkcs8_core_attributes_AttributesEncodeValue_prepen:;
 L_then_1_i466_i_i_i:;
     v_r64_i467_i_i_i = (u16)(v_r1_sroa_3_0_copyload_i_i_i_i_i);
     v_r17_i_i471_i_i_i = (u64)((u64)(v_r17_i_i_i_i_i_i) + (u64)(18446744073709551614ull));
-    v_r26_i_i473_i_i_i = (P)((uintptr_t)v_r4 + (u64)(v_r17_i_i471_i_i_i));
+    v_r26_i_i473_i_i_i = (P)((u64)v_r4 + (u64)(v_r17_i_i471_i_i_i));
     v_r8_i400_sroa_4_0_insert_shift_i_i_i = (u16)((u32)(v_r64_i467_i_i_i) << (u32)((8u & 31)));
     v_r8_i400_sroa_0_0_insert_insert_i_i_i = (u16)((u32)(v_r8_i400_sroa_4_0_insert_shift_i_i_i) | (u32)(160u));
     put_u16(v_r26_i_i473_i_i_i, v_r8_i400_sroa_0_0_insert_insert_i_i_i);
@@ -48085,7 +48157,7 @@ L_else_2_i406_i_i_i:;
 L_then_4_i457_i_i_i:;
     v_r80_i458_i_i_i = (u8)(v_r1_sroa_3_0_copyload_i_i_i_i_i);
     v_r17_i28_i463_i_i_i = (u64)((u64)(v_r17_i_i_i_i_i_i) + (u64)(18446744073709551613ull));
-    v_r26_i30_i465_i_i_i = (P)((uintptr_t)v_r4 + (u64)(v_r17_i28_i463_i_i_i));
+    v_r26_i30_i465_i_i_i = (P)((u64)v_r4 + (u64)(v_r17_i28_i463_i_i_i));
     put_u8(v_r26_i30_i465_i_i_i, 160u);
     v_r14_i401_sroa_4_0_r26_i30_i465_sroa_idx_i_i_i = v_r26_i30_i465_i_i_i + 1;
     put_u8(v_r14_i401_sroa_4_0_r26_i30_i465_sroa_idx_i_i_i, 129u);
@@ -48097,7 +48169,7 @@ L_else_5_i408_i_i_i:;
     if (v_r92_i409_i_i_i) { goto L_then_7_i445_i_i_i; } else { goto L_else_8_i410_i_i_i; }
 L_then_7_i445_i_i_i:;
     v_r17_i46_i453_i_i_i = (u64)((u64)(v_r17_i_i_i_i_i_i) + (u64)(18446744073709551612ull));
-    v_r26_i48_i455_i_i_i = (P)((uintptr_t)v_r4 + (u64)(v_r17_i46_i453_i_i_i));
+    v_r26_i48_i455_i_i_i = (P)((u64)v_r4 + (u64)(v_r17_i46_i453_i_i_i));
     v_11 = (u32)((u32)(v_r2_i_i_i_i_i) | (u32)(2692874240ull));
     v_r20_i402_sroa_0_0_insert_insert_i_i_i = __builtin_bswap32(v_11);
     put_u32(v_r26_i48_i455_i_i_i, v_r20_i402_sroa_0_0_insert_insert_i_i_i);
@@ -48112,7 +48184,7 @@ L_then_10_i430_i_i_i:;
     v_r130_i434_i_i_i = (u8)(v_r12624_i433562_i_i_i);
     v_r134_i435_i_i_i = (u8)(v_r1_sroa_3_0_copyload_i_i_i_i_i);
     v_r17_i64_i442_i_i_i = (u64)((u64)(v_r17_i_i_i_i_i_i) + (u64)(18446744073709551611ull));
-    v_r26_i66_i444_i_i_i = (P)((uintptr_t)v_r4 + (u64)(v_r17_i64_i442_i_i_i));
+    v_r26_i66_i444_i_i_i = (P)((u64)v_r4 + (u64)(v_r17_i64_i442_i_i_i));
     put_u8(v_r26_i66_i444_i_i_i, 160u);
     v_r29_i403_sroa_4_0_r26_i66_i444_sroa_idx_i_i_i = v_r26_i66_i444_i_i_i + 1;
     put_u8(v_r29_i403_sroa_4_0_r26_i66_i444_sroa_idx_i_i_i, 131u);
@@ -48132,7 +48204,7 @@ L_else_11_i412_i_i_i:;
     v_r164_i418_i_i_i = (u8)(v_r16022_i417560_i_i_i);
     v_r168_i419_i_i_i = (u8)(v_r1_sroa_3_0_copyload_i_i_i_i_i);
     v_r17_i82_i427_i_i_i = (u64)((u64)(v_r17_i_i_i_i_i_i) + (u64)(18446744073709551610ull));
-    v_r26_i84_i429_i_i_i = (P)((uintptr_t)v_r4 + (u64)(v_r17_i82_i427_i_i_i));
+    v_r26_i84_i429_i_i_i = (P)((u64)v_r4 + (u64)(v_r17_i82_i427_i_i_i));
     put_u8(v_r26_i84_i429_i_i_i, 160u);
     v_r40_i404_sroa_4_0_r26_i84_i429_sroa_idx_i_i_i = v_r26_i84_i429_i_i_i + 1;
     put_u8(v_r40_i404_sroa_4_0_r26_i84_i429_sroa_idx_i_i_i, 132u);
@@ -48148,9 +48220,9 @@ L_else_11_i412_i_i_i:;
 L_der_core_last_part_LastEncodeValue_prepend_value_0:;
     v_r7_sroa_55_0_i_i_i = p_v_r7_sroa_55_0_i_i_i;
     v_r17_i_i_i_i_i_i_i = (u64)((u64)(v_r7_sroa_55_0_i_i_i) - (u64)(v_r11_sroa_5_0_copyload3_i_i));
-    v_r26_i_i_i_i_i_i_i = (P)((uintptr_t)v_r4 + (u64)(v_r17_i_i_i_i_i_i_i));
-    v_r8_i_i_i_i_i_i_i_i_i_i_i_i_i = (u64)((uintptr_t)v_r26_i_i_i_i_i_i_i);
-    v_r9_i_i_i_i_i_i_i_i_i_i_i_i_i = (u64)((uintptr_t)v_r11_sroa_0_0_copyload1_i_i);
+    v_r26_i_i_i_i_i_i_i = (P)((u64)v_r4 + (u64)(v_r17_i_i_i_i_i_i_i));
+    v_r8_i_i_i_i_i_i_i_i_i_i_i_i_i = (u64)((u64)v_r26_i_i_i_i_i_i_i);
+    v_r9_i_i_i_i_i_i_i_i_i_i_i_i_i = (u64)((u64)v_r11_sroa_0_0_copyload1_i_i);
     v_r10_i_i_i_i_i_i_i_i_i_i_i_i_i = (u64)((u64)(v_r8_i_i_i_i_i_i_i_i_i_i_i_i_i) - (u64)(v_r9_i_i_i_i_i_i_i_i_i_i_i_i_i));
     v_r11_i_i_i_i_i_i_i_i_i_i_i_i_i = v_r10_i_i_i_i_i_i_i_i_i_i_i_i_i < v_r11_sroa_5_0_copyload3_i_i;
     if (v_r11_i_i_i_i_i_i_i_i_i_i_i_i_i) { goto L_join_7_i_i_i_i_i_i_i_i_i_i_i_i_i_preheader; } else { goto L_apart_2_i_i_i_i_i_i_i_i_i_i_i_i_i; }
@@ -48217,7 +48289,7 @@ L_der_core_borrowed_BorrowedEncode_prepend_e1f0bc65e:;
 L_then_1_i390_i_i_i:;
     v_r64_i391_i_i_i = (u16)(v_r2_i_i_i_i_i_i);
     v_r17_i_i395_i_i_i = (u64)((u64)(v_r17_i_i_i_i_i_i_i) + (u64)(18446744073709551614ull));
-    v_r26_i_i397_i_i_i = (P)((uintptr_t)v_r4 + (u64)(v_r17_i_i395_i_i_i));
+    v_r26_i_i397_i_i_i = (P)((u64)v_r4 + (u64)(v_r17_i_i395_i_i_i));
     v_r8_i324_sroa_4_0_insert_shift_i_i_i = (u16)((u32)(v_r64_i391_i_i_i) << (u32)((8u & 31)));
     v_r8_i324_sroa_0_0_insert_insert_i_i_i = (u16)((u32)(v_r8_i324_sroa_4_0_insert_shift_i_i_i) | (u32)(4u));
     put_u16(v_r26_i_i397_i_i_i, v_r8_i324_sroa_0_0_insert_insert_i_i_i);
@@ -48228,7 +48300,7 @@ L_else_2_i330_i_i_i:;
 L_then_4_i381_i_i_i:;
     v_r80_i382_i_i_i = (u8)(v_r2_i_i_i_i_i_i);
     v_r17_i28_i387_i_i_i = (u64)((u64)(v_r17_i_i_i_i_i_i_i) + (u64)(18446744073709551613ull));
-    v_r26_i30_i389_i_i_i = (P)((uintptr_t)v_r4 + (u64)(v_r17_i28_i387_i_i_i));
+    v_r26_i30_i389_i_i_i = (P)((u64)v_r4 + (u64)(v_r17_i28_i387_i_i_i));
     put_u8(v_r26_i30_i389_i_i_i, 4u);
     v_r14_i325_sroa_4_0_r26_i30_i389_sroa_idx_i_i_i = v_r26_i30_i389_i_i_i + 1;
     put_u8(v_r14_i325_sroa_4_0_r26_i30_i389_sroa_idx_i_i_i, 129u);
@@ -48240,7 +48312,7 @@ L_else_5_i332_i_i_i:;
     if (v_r92_i333_i_i_i) { goto L_then_7_i369_i_i_i; } else { goto L_else_8_i334_i_i_i; }
 L_then_7_i369_i_i_i:;
     v_r17_i46_i377_i_i_i = (u64)((u64)(v_r17_i_i_i_i_i_i_i) + (u64)(18446744073709551612ull));
-    v_r26_i48_i379_i_i_i = (P)((uintptr_t)v_r4 + (u64)(v_r17_i46_i377_i_i_i));
+    v_r26_i48_i379_i_i_i = (P)((u64)v_r4 + (u64)(v_r17_i46_i377_i_i_i));
     v_15 = (u32)((u32)(v_r2_i_i_i_i_i_i) | (u32)(75628544u));
     v_r20_i326_sroa_0_0_insert_insert_i_i_i = __builtin_bswap32(v_15);
     put_u32(v_r26_i48_i379_i_i_i, v_r20_i326_sroa_0_0_insert_insert_i_i_i);
@@ -48255,7 +48327,7 @@ L_then_10_i354_i_i_i:;
     v_r130_i358_i_i_i = (u8)(v_r12624_i357_i_i_i);
     v_r134_i359_i_i_i = (u8)(v_r2_i_i_i_i_i_i);
     v_r17_i64_i366_i_i_i = (u64)((u64)(v_r17_i_i_i_i_i_i_i) + (u64)(18446744073709551611ull));
-    v_r26_i66_i368_i_i_i = (P)((uintptr_t)v_r4 + (u64)(v_r17_i64_i366_i_i_i));
+    v_r26_i66_i368_i_i_i = (P)((u64)v_r4 + (u64)(v_r17_i64_i366_i_i_i));
     put_u8(v_r26_i66_i368_i_i_i, 4u);
     v_r29_i327_sroa_4_0_r26_i66_i368_sroa_idx_i_i_i = v_r26_i66_i368_i_i_i + 1;
     put_u8(v_r29_i327_sroa_4_0_r26_i66_i368_sroa_idx_i_i_i, 131u);
@@ -48275,7 +48347,7 @@ L_else_11_i336_i_i_i:;
     v_r164_i342_i_i_i = (u8)(v_r16022_i341_i_i_i);
     v_r168_i343_i_i_i = (u8)(v_r2_i_i_i_i_i_i);
     v_r17_i82_i351_i_i_i = (u64)((u64)(v_r17_i_i_i_i_i_i_i) + (u64)(18446744073709551610ull));
-    v_r26_i84_i353_i_i_i = (P)((uintptr_t)v_r4 + (u64)(v_r17_i82_i351_i_i_i));
+    v_r26_i84_i353_i_i_i = (P)((u64)v_r4 + (u64)(v_r17_i82_i351_i_i_i));
     put_u8(v_r26_i84_i353_i_i_i, 4u);
     v_r40_i328_sroa_4_0_r26_i84_i353_sroa_idx_i_i_i = v_r26_i84_i353_i_i_i + 1;
     put_u8(v_r40_i328_sroa_4_0_r26_i84_i353_sroa_idx_i_i_i, 132u);
@@ -48290,19 +48362,19 @@ L_else_11_i336_i_i_i:;
     { p_v_r7_sroa_55_5_i_i_i = v_r17_i82_i351_i_i_i; goto L_der_core_last_part_LastEncodeValue_prepend_value_4; }
 L_der_core_last_part_LastEncodeValue_prepend_value_4:;
     v_r7_sroa_55_5_i_i_i = p_v_r7_sroa_55_5_i_i_i;
-    v_16 = (P)((uintptr_t)v_r4 + (u64)(v_r7_sroa_55_5_i_i_i));
-    v_r26_i_i321_i_i_i = (P)((uintptr_t)v_16 + (u64)(-2));
+    v_16 = (P)((u64)v_r4 + (u64)(v_r7_sroa_55_5_i_i_i));
+    v_r26_i_i321_i_i_i = (P)((u64)v_16 + (u64)(-2));
     put_u16(v_r26_i_i321_i_i_i, 5u);
-    v_r26_i_i_i_i_i_i_i_i = (P)((uintptr_t)v_16 + (u64)(-11));
+    v_r26_i_i_i_i_i_i_i_i = (P)((u64)v_16 + (u64)(-11));
     copy(v_r26_i_i_i_i_i_i_i_i, v_r3_i, 9u);
-    v_r26_i_i245_i_i_i = (P)((uintptr_t)v_16 + (u64)(-13));
+    v_r26_i_i245_i_i_i = (P)((u64)v_16 + (u64)(-13));
     put_u16(v_r26_i_i245_i_i_i, 2310u);
-    v_r26_i_i169_i_i_i = (P)((uintptr_t)v_16 + (u64)(-15));
+    v_r26_i_i169_i_i_i = (P)((u64)v_16 + (u64)(-15));
     put_u16(v_r26_i_i169_i_i_i, 3376u);
-    v_r26_i_i_i33_i_i_i_i = (P)((uintptr_t)v_16 + (u64)(-16));
+    v_r26_i_i_i33_i_i_i_i = (P)((u64)v_16 + (u64)(-16));
     put_u8(v_r26_i_i_i33_i_i_i_i, 0u);
     v_r17_i_i91_i_i_i = (u64)((u64)(v_r7_sroa_55_5_i_i_i) + (u64)(18446744073709551598ull));
-    v_r26_i_i93_i_i_i = (P)((uintptr_t)v_r4 + (u64)(v_r17_i_i91_i_i_i));
+    v_r26_i_i93_i_i_i = (P)((u64)v_r4 + (u64)(v_r17_i_i91_i_i_i));
     put_u16(v_r26_i_i93_i_i_i, 258u);
     v_17 = (u32)(v_r17_i_i91_i_i_i);
     v_r2_i_i_i_i = (u32)((u32)(v_r1_sroa_9_4_copyload_i_i_i_i) - (u32)(v_17));
@@ -48310,7 +48382,7 @@ L_der_core_last_part_LastEncodeValue_prepend_value_4:;
     if (v_r59_i_i_i_i) { goto L_then_1_i_i_i_i; } else { goto L_else_2_i_i_i_i; }
 L_then_1_i_i_i_i:;
     v_r64_i_i_i_i = (u16)(v_r2_i_i_i_i);
-    v_r26_i_i_i_i_i = (P)((uintptr_t)v_16 + (u64)(-20));
+    v_r26_i_i_i_i_i = (P)((u64)v_16 + (u64)(-20));
     v_r8_i_sroa_4_0_insert_shift_i_i_i = (u16)((u32)(v_r64_i_i_i_i) << (u32)((8u & 31)));
     v_r8_i_sroa_0_0_insert_insert_i_i_i = (u16)((u32)(v_r8_i_sroa_4_0_insert_shift_i_i_i) | (u32)(48u));
     put_u16(v_r26_i_i_i_i_i, v_r8_i_sroa_0_0_insert_insert_i_i_i);
@@ -48320,18 +48392,18 @@ L_else_2_i_i_i_i:;
     if (v_r75_i_i_i_i) { goto L_then_4_i_i_i_i; } else { goto L_else_5_i_i_i_i; }
 L_then_4_i_i_i_i:;
     v_r80_i_i_i_i = (u8)(v_r2_i_i_i_i);
-    v_r26_i30_i_i_i_i = (P)((uintptr_t)v_16 + (u64)(-21));
+    v_r26_i30_i_i_i_i = (P)((u64)v_16 + (u64)(-21));
     put_u8(v_r26_i30_i_i_i_i, 48u);
-    v_r14_i_sroa_4_0_r26_i30_i_sroa_idx_i_i_i = (P)((uintptr_t)v_16 + (u64)(-20));
+    v_r14_i_sroa_4_0_r26_i30_i_sroa_idx_i_i_i = (P)((u64)v_16 + (u64)(-20));
     put_u8(v_r14_i_sroa_4_0_r26_i30_i_sroa_idx_i_i_i, 129u);
-    v_r14_i_sroa_5_0_r26_i30_i_sroa_idx_i_i_i = (P)((uintptr_t)v_16 + (u64)(-19));
+    v_r14_i_sroa_5_0_r26_i30_i_sroa_idx_i_i_i = (P)((u64)v_16 + (u64)(-19));
     put_u8(v_r14_i_sroa_5_0_r26_i30_i_sroa_idx_i_i_i, v_r80_i_i_i_i);
     { goto L_arm_1_i6_i; }
 L_else_5_i_i_i_i:;
     v_r92_i_i_i4_i = v_r2_i_i_i_i < 65536u;
     if (v_r92_i_i_i4_i) { goto L_then_7_i_i_i_i; } else { goto L_else_8_i_i_i_i; }
 L_then_7_i_i_i_i:;
-    v_r26_i48_i_i_i_i = (P)((uintptr_t)v_16 + (u64)(-22));
+    v_r26_i48_i_i_i_i = (P)((u64)v_16 + (u64)(-22));
     v_18 = (u32)((u32)(v_r2_i_i_i_i) | (u32)(813826048u));
     v_r20_i_sroa_0_0_insert_insert_i_i_i = __builtin_bswap32(v_18);
     put_u32(v_r26_i48_i_i_i_i, v_r20_i_sroa_0_0_insert_insert_i_i_i);
@@ -48345,15 +48417,15 @@ L_then_10_i_i_i_i:;
     v_r12624_i_i_i_i = (u32)((u32)(v_r2_i_i_i_i) >> (u32)((8u & 31)));
     v_r130_i_i_i7_i = (u8)(v_r12624_i_i_i_i);
     v_r134_i_i_i_i = (u8)(v_r2_i_i_i_i);
-    v_r26_i66_i_i_i_i = (P)((uintptr_t)v_16 + (u64)(-23));
+    v_r26_i66_i_i_i_i = (P)((u64)v_16 + (u64)(-23));
     put_u8(v_r26_i66_i_i_i_i, 48u);
-    v_r29_i_sroa_4_0_r26_i66_i_sroa_idx_i_i_i = (P)((uintptr_t)v_16 + (u64)(-22));
+    v_r29_i_sroa_4_0_r26_i66_i_sroa_idx_i_i_i = (P)((u64)v_16 + (u64)(-22));
     put_u8(v_r29_i_sroa_4_0_r26_i66_i_sroa_idx_i_i_i, 131u);
-    v_r29_i_sroa_5_0_r26_i66_i_sroa_idx_i_i_i = (P)((uintptr_t)v_16 + (u64)(-21));
+    v_r29_i_sroa_5_0_r26_i66_i_sroa_idx_i_i_i = (P)((u64)v_16 + (u64)(-21));
     put_u8(v_r29_i_sroa_5_0_r26_i66_i_sroa_idx_i_i_i, v_r124_i_i_i_i);
-    v_r29_i_sroa_6_0_r26_i66_i_sroa_idx_i_i_i = (P)((uintptr_t)v_16 + (u64)(-20));
+    v_r29_i_sroa_6_0_r26_i66_i_sroa_idx_i_i_i = (P)((u64)v_16 + (u64)(-20));
     put_u8(v_r29_i_sroa_6_0_r26_i66_i_sroa_idx_i_i_i, v_r130_i_i_i7_i);
-    v_r29_i_sroa_7_0_r26_i66_i_sroa_idx_i_i_i = (P)((uintptr_t)v_16 + (u64)(-19));
+    v_r29_i_sroa_7_0_r26_i66_i_sroa_idx_i_i_i = (P)((u64)v_16 + (u64)(-19));
     put_u8(v_r29_i_sroa_7_0_r26_i66_i_sroa_idx_i_i_i, v_r134_i_i_i_i);
     { goto L_arm_1_i6_i; }
 L_else_11_i_i_i_i:;
@@ -48364,17 +48436,17 @@ L_else_11_i_i_i_i:;
     v_r16022_i_i_i_i = (u32)((u32)(v_r2_i_i_i_i) >> (u32)((8u & 31)));
     v_r164_i_i_i_i = (u8)(v_r16022_i_i_i_i);
     v_r168_i_i_i_i = (u8)(v_r2_i_i_i_i);
-    v_r26_i84_i_i_i_i = (P)((uintptr_t)v_16 + (u64)(-24));
+    v_r26_i84_i_i_i_i = (P)((u64)v_16 + (u64)(-24));
     put_u8(v_r26_i84_i_i_i_i, 48u);
-    v_r40_i_sroa_4_0_r26_i84_i_sroa_idx_i_i_i = (P)((uintptr_t)v_16 + (u64)(-23));
+    v_r40_i_sroa_4_0_r26_i84_i_sroa_idx_i_i_i = (P)((u64)v_16 + (u64)(-23));
     put_u8(v_r40_i_sroa_4_0_r26_i84_i_sroa_idx_i_i_i, 132u);
-    v_r40_i_sroa_5_0_r26_i84_i_sroa_idx_i_i_i = (P)((uintptr_t)v_16 + (u64)(-22));
+    v_r40_i_sroa_5_0_r26_i84_i_sroa_idx_i_i_i = (P)((u64)v_16 + (u64)(-22));
     put_u8(v_r40_i_sroa_5_0_r26_i84_i_sroa_idx_i_i_i, v_r152_i_i_i_i);
-    v_r40_i_sroa_6_0_r26_i84_i_sroa_idx_i_i_i = (P)((uintptr_t)v_16 + (u64)(-21));
+    v_r40_i_sroa_6_0_r26_i84_i_sroa_idx_i_i_i = (P)((u64)v_16 + (u64)(-21));
     put_u8(v_r40_i_sroa_6_0_r26_i84_i_sroa_idx_i_i_i, v_r158_i_i_i_i);
-    v_r40_i_sroa_7_0_r26_i84_i_sroa_idx_i_i_i = (P)((uintptr_t)v_16 + (u64)(-20));
+    v_r40_i_sroa_7_0_r26_i84_i_sroa_idx_i_i_i = (P)((u64)v_16 + (u64)(-20));
     put_u8(v_r40_i_sroa_7_0_r26_i84_i_sroa_idx_i_i_i, v_r164_i_i_i_i);
-    v_r40_i_sroa_8_0_r26_i84_i_sroa_idx_i_i_i = (P)((uintptr_t)v_16 + (u64)(-19));
+    v_r40_i_sroa_8_0_r26_i84_i_sroa_idx_i_i_i = (P)((u64)v_16 + (u64)(-19));
     put_u8(v_r40_i_sroa_8_0_r26_i84_i_sroa_idx_i_i_i, v_r168_i_i_i_i);
     { goto L_arm_1_i6_i; }
 L_arm_1_i6_i:;
@@ -48401,7 +48473,7 @@ L_pkcs1_c_container_pkcs1_c_private_key_info_encode_:;
     v_r6_0_i = p_v_r6_0_i;
     return v_r6_0_i;
 }
-u32 pkcs1_c_public_key_encode(P v_a0, P v_a1, u64 v_a2, P v_a3) {
+u32 NAME(public_key_encode)(P v_a0, P v_a1, u64 v_a2, P v_a3) {
     P p_v_r3_sroa_0_08_i_i_i_i;
     u64 p_v_r3_sroa_6_07_i_i_i_i;
     P p_v_r12_sroa_10_i_sroa_3_0_ph_i_ph_i;
@@ -48804,15 +48876,15 @@ u32 pkcs1_c_public_key_encode(P v_a0, P v_a1, u64 v_a2, P v_a3) {
     u32 v_r6_0_i;
     v_r1 = v_a1 == (P)0;
     v_r3 = v_r1 ? 4096u : 0u;
-    v_r4 = (P)((uintptr_t)v_a1 + (u64)(v_r3));
+    v_r4 = (P)((u64)v_a1 + (u64)(v_r3));
     v_r8_sroa_0_0_copyload_i_i = get_P(v_a0);
     v_r8_sroa_3_0_a1_sroa_idx_i_i = v_a0 + 8;
     v_r8_sroa_3_0_copyload_i_i = get_u64(v_r8_sroa_3_0_a1_sroa_idx_i_i);
     v_r146_i_i_i_i = v_r8_sroa_3_0_copyload_i_i > 1u;
     if (v_r146_i_i_i_i) { goto L_then_3_preheader_i_i_i_i; } else { goto L_der_core_integer_uint_strip_exit_i_i_i; }
 L_then_3_preheader_i_i_i_i:;
-    v_0 = (P)((uintptr_t)v_r8_sroa_0_0_copyload_i_i + (u64)(v_r8_sroa_3_0_copyload_i_i));
-    v_scevgep_i_i_i_i = (P)((uintptr_t)v_0 + (u64)(-1));
+    v_0 = (P)((u64)v_r8_sroa_0_0_copyload_i_i + (u64)(v_r8_sroa_3_0_copyload_i_i));
+    v_scevgep_i_i_i_i = (P)((u64)v_0 + (u64)(-1));
     { p_v_r3_sroa_0_08_i_i_i_i = v_r8_sroa_0_0_copyload_i_i; p_v_r3_sroa_6_07_i_i_i_i = v_r8_sroa_3_0_copyload_i_i; goto L_then_3_i_i_i_i; }
 L_then_3_i_i_i_i:;
     v_r3_sroa_0_08_i_i_i_i = p_v_r3_sroa_0_08_i_i_i_i;
@@ -48848,8 +48920,8 @@ L_arm_1_i_i:;
     v_r146_i_i82_i_i = v_r14_sroa_3_0_copyload_i_i > 1u;
     if (v_r146_i_i82_i_i) { goto L_then_3_preheader_i_i95_i_i; } else { goto L_der_core_integer_uint_strip_exit_i83_i_i; }
 L_then_3_preheader_i_i95_i_i:;
-    v_1 = (P)((uintptr_t)v_r14_sroa_0_0_copyload_i_i + (u64)(v_r14_sroa_3_0_copyload_i_i));
-    v_scevgep_i_i96_i_i = (P)((uintptr_t)v_1 + (u64)(-1));
+    v_1 = (P)((u64)v_r14_sroa_0_0_copyload_i_i + (u64)(v_r14_sroa_3_0_copyload_i_i));
+    v_scevgep_i_i96_i_i = (P)((u64)v_1 + (u64)(-1));
     { p_v_r3_sroa_0_08_i_i98_i_i = v_r14_sroa_0_0_copyload_i_i; p_v_r3_sroa_6_07_i_i99_i_i = v_r14_sroa_3_0_copyload_i_i; goto L_then_3_i_i97_i_i; }
 L_then_3_i_i97_i_i:;
     v_r3_sroa_0_08_i_i98_i_i = p_v_r3_sroa_0_08_i_i98_i_i;
@@ -48960,9 +49032,9 @@ L_arm_1_i_i_i:;
     if (v_r56_i_i_i) { p_v_r5_sroa_0_sroa_5_0_i_i = 14u; goto L_arm_2_i2_i; } else { goto L_join_7_i_i_i; }
 L_join_7_i_i_i:;
     v_r17_i_i_i_i22_i_i_i = (u64)((u64)(v_r3_i11_i_i_i) - (u64)(v_r12_sroa_10_i121_sroa_5_0_ph_i_i));
-    v_r26_i_i_i_i_i_i_i = (P)((uintptr_t)v_r4 + (u64)(v_r17_i_i_i_i22_i_i_i));
-    v_r8_i_i_i_i_i_i_i_i_i_i_i_i_i = (u64)((uintptr_t)v_r26_i_i_i_i_i_i_i);
-    v_r9_i_i_i_i_i_i_i_i_i_i_i_i_i = (u64)((uintptr_t)v_r12_sroa_10_i121_sroa_3_0_ph_i_i);
+    v_r26_i_i_i_i_i_i_i = (P)((u64)v_r4 + (u64)(v_r17_i_i_i_i22_i_i_i));
+    v_r8_i_i_i_i_i_i_i_i_i_i_i_i_i = (u64)((u64)v_r26_i_i_i_i_i_i_i);
+    v_r9_i_i_i_i_i_i_i_i_i_i_i_i_i = (u64)((u64)v_r12_sroa_10_i121_sroa_3_0_ph_i_i);
     v_r10_i_i_i_i_i_i_i_i_i_i_i_i_i = (u64)((u64)(v_r8_i_i_i_i_i_i_i_i_i_i_i_i_i) - (u64)(v_r9_i_i_i_i_i_i_i_i_i_i_i_i_i));
     v_r11_i_i_i_i_i_i_i_i_i_i_i_i_i = v_r10_i_i_i_i_i_i_i_i_i_i_i_i_i < v_r12_sroa_10_i121_sroa_5_0_ph_i_i;
     if (v_r11_i_i_i_i_i_i_i_i_i_i_i_i_i) { goto L_join_7_i_i_i_i_i_i_i_i_i_i_i_i_i_preheader; } else { goto L_apart_2_i_i_i_i_i_i_i_i_i_i_i_i_i; }
@@ -49024,7 +49096,7 @@ L_der_core_back_writer_BackWriter_prepend_exit_i_i_i:;
     if (v_r15_not_i_i_i_i_i_i) { p_v_r7_sroa_28_0_i_i_i = v_r17_i_i_i_i22_i_i_i; goto L_der_core_borrowed_BorrowedEncode_prepend_f4fc96f16; } else { goto L_then_1_i_i_i_i_i_i; }
 L_then_1_i_i_i_i_i_i:;
     v_r17_i3_i_i_i_i_i_i = (u64)((u64)(v_r17_i_i_i_i22_i_i_i) + (u64)(18446744073709551615ull));
-    v_r26_i5_i_i_i_i_i_i = (P)((uintptr_t)v_r4 + (u64)(v_r17_i3_i_i_i_i_i_i));
+    v_r26_i5_i_i_i_i_i_i = (P)((u64)v_r4 + (u64)(v_r17_i3_i_i_i_i_i_i));
     put_u8(v_r26_i5_i_i_i_i_i_i, 0u);
     { p_v_r7_sroa_28_0_i_i_i = v_r17_i3_i_i_i_i_i_i; goto L_der_core_borrowed_BorrowedEncode_prepend_f4fc96f16; }
 L_der_core_borrowed_BorrowedEncode_prepend_f4fc96f16:;
@@ -49036,7 +49108,7 @@ L_der_core_borrowed_BorrowedEncode_prepend_f4fc96f16:;
 L_then_1_i166_i_i_i:;
     v_r64_i167_i_i_i = (u16)(v_r2_i_i_i_i_i_i);
     v_r17_i_i171_i_i_i = (u64)((u64)(v_r7_sroa_28_0_i_i_i) + (u64)(18446744073709551614ull));
-    v_r26_i_i173_i_i_i = (P)((uintptr_t)v_r4 + (u64)(v_r17_i_i171_i_i_i));
+    v_r26_i_i173_i_i_i = (P)((u64)v_r4 + (u64)(v_r17_i_i171_i_i_i));
     v_r8_i100_sroa_4_0_insert_shift_i_i_i = (u16)((u32)(v_r64_i167_i_i_i) << (u32)((8u & 31)));
     v_r8_i100_sroa_0_0_insert_insert_i_i_i = (u16)((u32)(v_r8_i100_sroa_4_0_insert_shift_i_i_i) | (u32)(2u));
     put_u16(v_r26_i_i173_i_i_i, v_r8_i100_sroa_0_0_insert_insert_i_i_i);
@@ -49047,7 +49119,7 @@ L_else_2_i106_i_i_i:;
 L_then_4_i157_i_i_i:;
     v_r80_i158_i_i_i = (u8)(v_r2_i_i_i_i_i_i);
     v_r17_i28_i163_i_i_i = (u64)((u64)(v_r7_sroa_28_0_i_i_i) + (u64)(18446744073709551613ull));
-    v_r26_i30_i165_i_i_i = (P)((uintptr_t)v_r4 + (u64)(v_r17_i28_i163_i_i_i));
+    v_r26_i30_i165_i_i_i = (P)((u64)v_r4 + (u64)(v_r17_i28_i163_i_i_i));
     put_u8(v_r26_i30_i165_i_i_i, 2u);
     v_r14_i101_sroa_4_0_r26_i30_i165_sroa_idx_i_i_i = v_r26_i30_i165_i_i_i + 1;
     put_u8(v_r14_i101_sroa_4_0_r26_i30_i165_sroa_idx_i_i_i, 129u);
@@ -49059,7 +49131,7 @@ L_else_5_i108_i_i_i:;
     if (v_r92_i109_i_i_i) { goto L_then_7_i145_i_i_i; } else { goto L_else_8_i110_i_i_i; }
 L_then_7_i145_i_i_i:;
     v_r17_i46_i153_i_i_i = (u64)((u64)(v_r7_sroa_28_0_i_i_i) + (u64)(18446744073709551612ull));
-    v_r26_i48_i155_i_i_i = (P)((uintptr_t)v_r4 + (u64)(v_r17_i46_i153_i_i_i));
+    v_r26_i48_i155_i_i_i = (P)((u64)v_r4 + (u64)(v_r17_i46_i153_i_i_i));
     v_4 = (u32)((u32)(v_r2_i_i_i_i_i_i) | (u32)(42074112u));
     v_r20_i102_sroa_0_0_insert_insert_i_i_i = __builtin_bswap32(v_4);
     put_u32(v_r26_i48_i155_i_i_i, v_r20_i102_sroa_0_0_insert_insert_i_i_i);
@@ -49074,7 +49146,7 @@ L_then_10_i130_i_i_i:;
     v_r130_i134_i_i_i = (u8)(v_r12624_i133_i_i_i);
     v_r134_i135_i_i_i = (u8)(v_r2_i_i_i_i_i_i);
     v_r17_i64_i142_i_i_i = (u64)((u64)(v_r7_sroa_28_0_i_i_i) + (u64)(18446744073709551611ull));
-    v_r26_i66_i144_i_i_i = (P)((uintptr_t)v_r4 + (u64)(v_r17_i64_i142_i_i_i));
+    v_r26_i66_i144_i_i_i = (P)((u64)v_r4 + (u64)(v_r17_i64_i142_i_i_i));
     put_u8(v_r26_i66_i144_i_i_i, 2u);
     v_r29_i103_sroa_4_0_r26_i66_i144_sroa_idx_i_i_i = v_r26_i66_i144_i_i_i + 1;
     put_u8(v_r29_i103_sroa_4_0_r26_i66_i144_sroa_idx_i_i_i, 131u);
@@ -49094,7 +49166,7 @@ L_else_11_i112_i_i_i:;
     v_r164_i118_i_i_i = (u8)(v_r16022_i117_i_i_i);
     v_r168_i119_i_i_i = (u8)(v_r2_i_i_i_i_i_i);
     v_r17_i82_i127_i_i_i = (u64)((u64)(v_r7_sroa_28_0_i_i_i) + (u64)(18446744073709551610ull));
-    v_r26_i84_i129_i_i_i = (P)((uintptr_t)v_r4 + (u64)(v_r17_i82_i127_i_i_i));
+    v_r26_i84_i129_i_i_i = (P)((u64)v_r4 + (u64)(v_r17_i82_i127_i_i_i));
     put_u8(v_r26_i84_i129_i_i_i, 2u);
     v_r40_i104_sroa_4_0_r26_i84_i129_sroa_idx_i_i_i = v_r26_i84_i129_i_i_i + 1;
     put_u8(v_r40_i104_sroa_4_0_r26_i84_i129_sroa_idx_i_i_i, 132u);
@@ -49110,9 +49182,9 @@ L_else_11_i112_i_i_i:;
 L_der_core_back_writer_BackWriter_prepend_header_exi:;
     v_r7_sroa_28_3_i_i_i = p_v_r7_sroa_28_3_i_i_i;
     v_r17_i_i_i8_i_i_i_i = (u64)((u64)(v_r7_sroa_28_3_i_i_i) - (u64)(v_r12_sroa_10_i_sroa_5_0_ph_i_i));
-    v_r26_i_i_i10_i_i_i_i = (P)((uintptr_t)v_r4 + (u64)(v_r17_i_i_i8_i_i_i_i));
-    v_r8_i_i_i_i_i_i_i_i_i11_i_i_i_i = (u64)((uintptr_t)v_r26_i_i_i10_i_i_i_i);
-    v_r9_i_i_i_i_i_i_i_i_i12_i_i_i_i = (u64)((uintptr_t)v_r12_sroa_10_i_sroa_3_0_ph_i_i);
+    v_r26_i_i_i10_i_i_i_i = (P)((u64)v_r4 + (u64)(v_r17_i_i_i8_i_i_i_i));
+    v_r8_i_i_i_i_i_i_i_i_i11_i_i_i_i = (u64)((u64)v_r26_i_i_i10_i_i_i_i);
+    v_r9_i_i_i_i_i_i_i_i_i12_i_i_i_i = (u64)((u64)v_r12_sroa_10_i_sroa_3_0_ph_i_i);
     v_r10_i_i_i_i_i_i_i_i_i13_i_i_i_i = (u64)((u64)(v_r8_i_i_i_i_i_i_i_i_i11_i_i_i_i) - (u64)(v_r9_i_i_i_i_i_i_i_i_i12_i_i_i_i));
     v_r11_i_i_i_i_i_i_i_i_i14_i_i_i_i = v_r10_i_i_i_i_i_i_i_i_i13_i_i_i_i < v_r12_sroa_10_i_sroa_5_0_ph_i_i;
     if (v_r11_i_i_i_i_i_i_i_i_i14_i_i_i_i) { goto L_join_7_i_i_i_i_i_i_i_i_i28_i_i_i_i_preheader; } else { goto L_apart_2_i_i_i_i_i_i_i_i_i15_i_i_i_i; }
@@ -49174,7 +49246,7 @@ L_der_core_back_writer_BackWriter_prepend_exit_i_i16:;
     if (v_r15_not_i_i19_i_i_i_i) { p_v_r7_sroa_28_1_i_i_i = v_r17_i_i_i8_i_i_i_i; goto L_pkcs1_public_key_RsaPublicKeyEncodeInParts_prepend; } else { goto L_then_1_i_i20_i_i_i_i; }
 L_then_1_i_i20_i_i_i_i:;
     v_r17_i3_i_i21_i_i_i_i = (u64)((u64)(v_r17_i_i_i8_i_i_i_i) + (u64)(18446744073709551615ull));
-    v_r26_i5_i_i23_i_i_i_i = (P)((uintptr_t)v_r4 + (u64)(v_r17_i3_i_i21_i_i_i_i));
+    v_r26_i5_i_i23_i_i_i_i = (P)((u64)v_r4 + (u64)(v_r17_i3_i_i21_i_i_i_i));
     put_u8(v_r26_i5_i_i23_i_i_i_i, 0u);
     { p_v_r7_sroa_28_1_i_i_i = v_r17_i3_i_i21_i_i_i_i; goto L_pkcs1_public_key_RsaPublicKeyEncodeInParts_prepend; }
 L_pkcs1_public_key_RsaPublicKeyEncodeInParts_prepend:;
@@ -49188,7 +49260,7 @@ L_pkcs1_public_key_RsaPublicKeyEncodeInParts_prepend:;
 L_then_1_i90_i_i_i:;
     v_r64_i91_i_i_i = (u16)(v_r2_i_i27_i_i_i_i);
     v_r17_i_i95_i_i_i = (u64)((u64)(v_r7_sroa_28_1_i_i_i) + (u64)(18446744073709551614ull));
-    v_r26_i_i97_i_i_i = (P)((uintptr_t)v_r4 + (u64)(v_r17_i_i95_i_i_i));
+    v_r26_i_i97_i_i_i = (P)((u64)v_r4 + (u64)(v_r17_i_i95_i_i_i));
     v_r8_i24_sroa_4_0_insert_shift_i_i_i = (u16)((u32)(v_r64_i91_i_i_i) << (u32)((8u & 31)));
     v_r8_i24_sroa_0_0_insert_insert_i_i_i = (u16)((u32)(v_r8_i24_sroa_4_0_insert_shift_i_i_i) | (u32)(2u));
     put_u16(v_r26_i_i97_i_i_i, v_r8_i24_sroa_0_0_insert_insert_i_i_i);
@@ -49199,7 +49271,7 @@ L_else_2_i30_i_i_i:;
 L_then_4_i81_i_i_i:;
     v_r80_i82_i_i_i = (u8)(v_r2_i_i27_i_i_i_i);
     v_r17_i28_i87_i_i_i = (u64)((u64)(v_r7_sroa_28_1_i_i_i) + (u64)(18446744073709551613ull));
-    v_r26_i30_i89_i_i_i = (P)((uintptr_t)v_r4 + (u64)(v_r17_i28_i87_i_i_i));
+    v_r26_i30_i89_i_i_i = (P)((u64)v_r4 + (u64)(v_r17_i28_i87_i_i_i));
     put_u8(v_r26_i30_i89_i_i_i, 2u);
     v_r14_i25_sroa_4_0_r26_i30_i89_sroa_idx_i_i_i = v_r26_i30_i89_i_i_i + 1;
     put_u8(v_r14_i25_sroa_4_0_r26_i30_i89_sroa_idx_i_i_i, 129u);
@@ -49211,7 +49283,7 @@ L_else_5_i32_i_i_i:;
     if (v_r92_i33_i_i_i) { goto L_then_7_i69_i_i_i; } else { goto L_else_8_i34_i_i_i; }
 L_then_7_i69_i_i_i:;
     v_r17_i46_i77_i_i_i = (u64)((u64)(v_r7_sroa_28_1_i_i_i) + (u64)(18446744073709551612ull));
-    v_r26_i48_i79_i_i_i = (P)((uintptr_t)v_r4 + (u64)(v_r17_i46_i77_i_i_i));
+    v_r26_i48_i79_i_i_i = (P)((u64)v_r4 + (u64)(v_r17_i46_i77_i_i_i));
     v_9 = (u32)((u32)(v_r2_i_i27_i_i_i_i) | (u32)(42074112u));
     v_r20_i26_sroa_0_0_insert_insert_i_i_i = __builtin_bswap32(v_9);
     put_u32(v_r26_i48_i79_i_i_i, v_r20_i26_sroa_0_0_insert_insert_i_i_i);
@@ -49226,7 +49298,7 @@ L_then_10_i54_i_i_i:;
     v_r130_i58_i_i_i = (u8)(v_r12624_i57_i_i_i);
     v_r134_i59_i_i_i = (u8)(v_r2_i_i27_i_i_i_i);
     v_r17_i64_i66_i_i_i = (u64)((u64)(v_r7_sroa_28_1_i_i_i) + (u64)(18446744073709551611ull));
-    v_r26_i66_i68_i_i_i = (P)((uintptr_t)v_r4 + (u64)(v_r17_i64_i66_i_i_i));
+    v_r26_i66_i68_i_i_i = (P)((u64)v_r4 + (u64)(v_r17_i64_i66_i_i_i));
     put_u8(v_r26_i66_i68_i_i_i, 2u);
     v_r29_i27_sroa_4_0_r26_i66_i68_sroa_idx_i_i_i = v_r26_i66_i68_i_i_i + 1;
     put_u8(v_r29_i27_sroa_4_0_r26_i66_i68_sroa_idx_i_i_i, 131u);
@@ -49246,7 +49318,7 @@ L_else_11_i36_i_i_i:;
     v_r164_i42_i_i_i = (u8)(v_r16022_i41_i_i_i);
     v_r168_i43_i_i_i = (u8)(v_r2_i_i27_i_i_i_i);
     v_r17_i82_i51_i_i_i = (u64)((u64)(v_r7_sroa_28_1_i_i_i) + (u64)(18446744073709551610ull));
-    v_r26_i84_i53_i_i_i = (P)((uintptr_t)v_r4 + (u64)(v_r17_i82_i51_i_i_i));
+    v_r26_i84_i53_i_i_i = (P)((u64)v_r4 + (u64)(v_r17_i82_i51_i_i_i));
     put_u8(v_r26_i84_i53_i_i_i, 2u);
     v_r40_i28_sroa_4_0_r26_i84_i53_sroa_idx_i_i_i = v_r26_i84_i53_i_i_i + 1;
     put_u8(v_r40_i28_sroa_4_0_r26_i84_i53_sroa_idx_i_i_i, 132u);
@@ -49267,8 +49339,8 @@ L_der_core_back_writer_BackWriter_prepend_header_exi__2:;
     if (v_r59_i_i_i_i) { goto L_then_1_i_i_i_i; } else { goto L_else_2_i_i_i_i; }
 L_then_1_i_i_i_i:;
     v_r64_i_i_i_i = (u16)(v_r2_i_i_i_i);
-    v_11 = (P)((uintptr_t)v_r4 + (u64)(v_r7_sroa_28_2_i_i_i));
-    v_r26_i_i_i_i_i = (P)((uintptr_t)v_11 + (u64)(-2));
+    v_11 = (P)((u64)v_r4 + (u64)(v_r7_sroa_28_2_i_i_i));
+    v_r26_i_i_i_i_i = (P)((u64)v_11 + (u64)(-2));
     v_r8_i_sroa_4_0_insert_shift_i_i_i = (u16)((u32)(v_r64_i_i_i_i) << (u32)((8u & 31)));
     v_r8_i_sroa_0_0_insert_insert_i_i_i = (u16)((u32)(v_r8_i_sroa_4_0_insert_shift_i_i_i) | (u32)(48u));
     put_u16(v_r26_i_i_i_i_i, v_r8_i_sroa_0_0_insert_insert_i_i_i);
@@ -49278,20 +49350,20 @@ L_else_2_i_i_i_i:;
     if (v_r75_i_i_i_i) { goto L_then_4_i_i_i_i; } else { goto L_else_5_i_i_i_i; }
 L_then_4_i_i_i_i:;
     v_r80_i_i_i_i = (u8)(v_r2_i_i_i_i);
-    v_12 = (P)((uintptr_t)v_r4 + (u64)(v_r7_sroa_28_2_i_i_i));
-    v_r26_i30_i_i_i_i = (P)((uintptr_t)v_12 + (u64)(-3));
+    v_12 = (P)((u64)v_r4 + (u64)(v_r7_sroa_28_2_i_i_i));
+    v_r26_i30_i_i_i_i = (P)((u64)v_12 + (u64)(-3));
     put_u8(v_r26_i30_i_i_i_i, 48u);
-    v_r14_i_sroa_4_0_r26_i30_i_sroa_idx_i_i_i = (P)((uintptr_t)v_12 + (u64)(-2));
+    v_r14_i_sroa_4_0_r26_i30_i_sroa_idx_i_i_i = (P)((u64)v_12 + (u64)(-2));
     put_u8(v_r14_i_sroa_4_0_r26_i30_i_sroa_idx_i_i_i, 129u);
-    v_r14_i_sroa_5_0_r26_i30_i_sroa_idx_i_i_i = (P)((uintptr_t)v_12 + (u64)(-1));
+    v_r14_i_sroa_5_0_r26_i30_i_sroa_idx_i_i_i = (P)((u64)v_12 + (u64)(-1));
     put_u8(v_r14_i_sroa_5_0_r26_i30_i_sroa_idx_i_i_i, v_r80_i_i_i_i);
     { goto L_arm_1_i3_i; }
 L_else_5_i_i_i_i:;
     v_r92_i_i_i_i = v_r2_i_i_i_i < 65536u;
     if (v_r92_i_i_i_i) { goto L_then_7_i_i_i_i; } else { goto L_else_8_i_i_i_i; }
 L_then_7_i_i_i_i:;
-    v_13 = (P)((uintptr_t)v_r4 + (u64)(v_r7_sroa_28_2_i_i_i));
-    v_r26_i48_i_i_i_i = (P)((uintptr_t)v_13 + (u64)(-4));
+    v_13 = (P)((u64)v_r4 + (u64)(v_r7_sroa_28_2_i_i_i));
+    v_r26_i48_i_i_i_i = (P)((u64)v_13 + (u64)(-4));
     v_14 = (u32)((u32)(v_r2_i_i_i_i) | (u32)(813826048u));
     v_r20_i_sroa_0_0_insert_insert_i_i_i = __builtin_bswap32(v_14);
     put_u32(v_r26_i48_i_i_i_i, v_r20_i_sroa_0_0_insert_insert_i_i_i);
@@ -49305,16 +49377,16 @@ L_then_10_i_i_i_i:;
     v_r12624_i_i_i_i = (u32)((u32)(v_r2_i_i_i_i) >> (u32)((8u & 31)));
     v_r130_i_i_i_i = (u8)(v_r12624_i_i_i_i);
     v_r134_i_i_i_i = (u8)(v_r2_i_i_i_i);
-    v_15 = (P)((uintptr_t)v_r4 + (u64)(v_r7_sroa_28_2_i_i_i));
-    v_r26_i66_i_i_i_i = (P)((uintptr_t)v_15 + (u64)(-5));
+    v_15 = (P)((u64)v_r4 + (u64)(v_r7_sroa_28_2_i_i_i));
+    v_r26_i66_i_i_i_i = (P)((u64)v_15 + (u64)(-5));
     put_u8(v_r26_i66_i_i_i_i, 48u);
-    v_r29_i_sroa_4_0_r26_i66_i_sroa_idx_i_i_i = (P)((uintptr_t)v_15 + (u64)(-4));
+    v_r29_i_sroa_4_0_r26_i66_i_sroa_idx_i_i_i = (P)((u64)v_15 + (u64)(-4));
     put_u8(v_r29_i_sroa_4_0_r26_i66_i_sroa_idx_i_i_i, 131u);
-    v_r29_i_sroa_5_0_r26_i66_i_sroa_idx_i_i_i = (P)((uintptr_t)v_15 + (u64)(-3));
+    v_r29_i_sroa_5_0_r26_i66_i_sroa_idx_i_i_i = (P)((u64)v_15 + (u64)(-3));
     put_u8(v_r29_i_sroa_5_0_r26_i66_i_sroa_idx_i_i_i, v_r124_i_i_i_i);
-    v_r29_i_sroa_6_0_r26_i66_i_sroa_idx_i_i_i = (P)((uintptr_t)v_15 + (u64)(-2));
+    v_r29_i_sroa_6_0_r26_i66_i_sroa_idx_i_i_i = (P)((u64)v_15 + (u64)(-2));
     put_u8(v_r29_i_sroa_6_0_r26_i66_i_sroa_idx_i_i_i, v_r130_i_i_i_i);
-    v_r29_i_sroa_7_0_r26_i66_i_sroa_idx_i_i_i = (P)((uintptr_t)v_15 + (u64)(-1));
+    v_r29_i_sroa_7_0_r26_i66_i_sroa_idx_i_i_i = (P)((u64)v_15 + (u64)(-1));
     put_u8(v_r29_i_sroa_7_0_r26_i66_i_sroa_idx_i_i_i, v_r134_i_i_i_i);
     { goto L_arm_1_i3_i; }
 L_else_11_i_i_i_i:;
@@ -49325,18 +49397,18 @@ L_else_11_i_i_i_i:;
     v_r16022_i_i_i_i = (u32)((u32)(v_r2_i_i_i_i) >> (u32)((8u & 31)));
     v_r164_i_i_i_i = (u8)(v_r16022_i_i_i_i);
     v_r168_i_i_i_i = (u8)(v_r2_i_i_i_i);
-    v_16 = (P)((uintptr_t)v_r4 + (u64)(v_r7_sroa_28_2_i_i_i));
-    v_r26_i84_i_i_i_i = (P)((uintptr_t)v_16 + (u64)(-6));
+    v_16 = (P)((u64)v_r4 + (u64)(v_r7_sroa_28_2_i_i_i));
+    v_r26_i84_i_i_i_i = (P)((u64)v_16 + (u64)(-6));
     put_u8(v_r26_i84_i_i_i_i, 48u);
-    v_r40_i_sroa_4_0_r26_i84_i_sroa_idx_i_i_i = (P)((uintptr_t)v_16 + (u64)(-5));
+    v_r40_i_sroa_4_0_r26_i84_i_sroa_idx_i_i_i = (P)((u64)v_16 + (u64)(-5));
     put_u8(v_r40_i_sroa_4_0_r26_i84_i_sroa_idx_i_i_i, 132u);
-    v_r40_i_sroa_5_0_r26_i84_i_sroa_idx_i_i_i = (P)((uintptr_t)v_16 + (u64)(-4));
+    v_r40_i_sroa_5_0_r26_i84_i_sroa_idx_i_i_i = (P)((u64)v_16 + (u64)(-4));
     put_u8(v_r40_i_sroa_5_0_r26_i84_i_sroa_idx_i_i_i, v_r152_i_i_i_i);
-    v_r40_i_sroa_6_0_r26_i84_i_sroa_idx_i_i_i = (P)((uintptr_t)v_16 + (u64)(-3));
+    v_r40_i_sroa_6_0_r26_i84_i_sroa_idx_i_i_i = (P)((u64)v_16 + (u64)(-3));
     put_u8(v_r40_i_sroa_6_0_r26_i84_i_sroa_idx_i_i_i, v_r158_i_i_i_i);
-    v_r40_i_sroa_7_0_r26_i84_i_sroa_idx_i_i_i = (P)((uintptr_t)v_16 + (u64)(-2));
+    v_r40_i_sroa_7_0_r26_i84_i_sroa_idx_i_i_i = (P)((u64)v_16 + (u64)(-2));
     put_u8(v_r40_i_sroa_7_0_r26_i84_i_sroa_idx_i_i_i, v_r164_i_i_i_i);
-    v_r40_i_sroa_8_0_r26_i84_i_sroa_idx_i_i_i = (P)((uintptr_t)v_16 + (u64)(-1));
+    v_r40_i_sroa_8_0_r26_i84_i_sroa_idx_i_i_i = (P)((u64)v_16 + (u64)(-1));
     put_u8(v_r40_i_sroa_8_0_r26_i84_i_sroa_idx_i_i_i, v_r168_i_i_i_i);
     { goto L_arm_1_i3_i; }
 L_arm_1_i3_i:;
@@ -49421,7 +49493,7 @@ L_pkcs1_c_public_key_pkcs1_c_public_key_encode_exit:;
     v_r6_0_i = p_v_r6_0_i;
     return v_r6_0_i;
 }
-u32 pkcs1_c_oaep_algorithm_encode(P v_a0, P v_a1, u64 v_a2, P v_a3) {
+u32 NAME(oaep_algorithm_encode)(P v_a0, P v_a1, u64 v_a2, P v_a3) {
     ALIGNED(4) unsigned char m_v_r0_i10_i_i_i_i1_i_i_i[8];
     ALIGNED(4) unsigned char m_v_r0_i10_i_i_i_i_i_i_i[8];
     ALIGNED(8) unsigned char m_v_r7_i_i263_i_i[24];
@@ -49973,14 +50045,14 @@ u32 pkcs1_c_oaep_algorithm_encode(P v_a0, P v_a1, u64 v_a2, P v_a3) {
     u32 v_switch_idx_cast_i_i_i;
     u32 v_switch_offset_i_i_i;
     u32 v_r6_0_i;
-    v_r0_i10_i_i_i_i1_i_i_i = m_v_r0_i10_i_i_i_i1_i_i_i;
-    v_r0_i10_i_i_i_i_i_i_i = m_v_r0_i10_i_i_i_i_i_i_i;
-    v_r7_i_i263_i_i = m_v_r7_i_i263_i_i;
-    v_r3_i = m_v_r3_i;
-    v_r5_i = m_v_r5_i;
+    v_r0_i10_i_i_i_i1_i_i_i = AT(m_v_r0_i10_i_i_i_i1_i_i_i);
+    v_r0_i10_i_i_i_i_i_i_i = AT(m_v_r0_i10_i_i_i_i_i_i_i);
+    v_r7_i_i263_i_i = AT(m_v_r7_i_i263_i_i);
+    v_r3_i = AT(m_v_r3_i);
+    v_r5_i = AT(m_v_r5_i);
     v_r1 = v_a1 == (P)0;
     v_r3 = v_r1 ? 4096u : 0u;
-    v_r4 = (P)((uintptr_t)v_a1 + (u64)(v_r3));
+    v_r4 = (P)((u64)v_a1 + (u64)(v_r3));
     fill(v_r5_i, 0u, 176u);
     f_pkcs1_c_oaep_from_c_oaep(v_r5_i, v_a0);
     v_r12_i = get_u8(v_r5_i);
@@ -50276,7 +50348,7 @@ L_then_1_i472_i_i_i_i:;
     v_r64_i473_i_i_i_i = (u16)(v_r17_i_i_i128_i_i_i_i_i_i_i);
     v_r17_i_i477_i_i_i_i = (u64)((u64)(v_a1_val2_i_i126_i_i_i_i_i_i_i) + (u64)(18446744073709551614ull));
     v_r20_i_i478_i_i_i_i = get_P(v_r7_i_i263_i_i);
-    v_r26_i_i479_i_i_i_i = (P)((uintptr_t)v_r20_i_i478_i_i_i_i + (u64)(v_r17_i_i477_i_i_i_i));
+    v_r26_i_i479_i_i_i_i = (P)((u64)v_r20_i_i478_i_i_i_i + (u64)(v_r17_i_i477_i_i_i_i));
     v_r8_i406_sroa_4_0_insert_shift_i_i_i_i = (u16)((u32)(v_r64_i473_i_i_i_i) << (u32)((8u & 31)));
     v_r8_i406_sroa_0_0_insert_insert_i_i_i_i = (u16)((u32)(v_r8_i406_sroa_4_0_insert_shift_i_i_i_i) | (u32)(48u));
     put_u16(v_r26_i_i479_i_i_i_i, v_r8_i406_sroa_0_0_insert_insert_i_i_i_i);
@@ -50288,7 +50360,7 @@ L_then_4_i463_i_i_i_i:;
     v_r80_i464_i_i_i_i = (u8)(v_r17_i_i_i128_i_i_i_i_i_i_i);
     v_r17_i28_i469_i_i_i_i = (u64)((u64)(v_a1_val2_i_i126_i_i_i_i_i_i_i) + (u64)(18446744073709551613ull));
     v_r20_i29_i470_i_i_i_i = get_P(v_r7_i_i263_i_i);
-    v_r26_i30_i471_i_i_i_i = (P)((uintptr_t)v_r20_i29_i470_i_i_i_i + (u64)(v_r17_i28_i469_i_i_i_i));
+    v_r26_i30_i471_i_i_i_i = (P)((u64)v_r20_i29_i470_i_i_i_i + (u64)(v_r17_i28_i469_i_i_i_i));
     put_u8(v_r26_i30_i471_i_i_i_i, 48u);
     v_r14_i407_sroa_4_0_r26_i30_i471_sroa_idx_i_i_i_i = v_r26_i30_i471_i_i_i_i + 1;
     put_u8(v_r14_i407_sroa_4_0_r26_i30_i471_sroa_idx_i_i_i_i, 129u);
@@ -50301,7 +50373,7 @@ L_else_5_i414_i_i_i_i:;
 L_then_7_i451_i_i_i_i:;
     v_r17_i46_i459_i_i_i_i = (u64)((u64)(v_a1_val2_i_i126_i_i_i_i_i_i_i) + (u64)(18446744073709551612ull));
     v_r20_i47_i460_i_i_i_i = get_P(v_r7_i_i263_i_i);
-    v_r26_i48_i461_i_i_i_i = (P)((uintptr_t)v_r20_i47_i460_i_i_i_i + (u64)(v_r17_i46_i459_i_i_i_i));
+    v_r26_i48_i461_i_i_i_i = (P)((u64)v_r20_i47_i460_i_i_i_i + (u64)(v_r17_i46_i459_i_i_i_i));
     v_15 = (u32)((u32)(v_r2_i_i_i129_i_i_i_i_i_i_i) | (u32)(813826048u));
     v_r20_i408_sroa_0_0_insert_insert_i_i_i_i = __builtin_bswap32(v_15);
     put_u32(v_r26_i48_i461_i_i_i_i, v_r20_i408_sroa_0_0_insert_insert_i_i_i_i);
@@ -50317,7 +50389,7 @@ L_then_10_i436_i_i_i_i:;
     v_r134_i441_i_i_i_i = (u8)(v_r17_i_i_i128_i_i_i_i_i_i_i);
     v_r17_i64_i448_i_i_i_i = (u64)((u64)(v_a1_val2_i_i126_i_i_i_i_i_i_i) + (u64)(18446744073709551611ull));
     v_r20_i65_i449_i_i_i_i = get_P(v_r7_i_i263_i_i);
-    v_r26_i66_i450_i_i_i_i = (P)((uintptr_t)v_r20_i65_i449_i_i_i_i + (u64)(v_r17_i64_i448_i_i_i_i));
+    v_r26_i66_i450_i_i_i_i = (P)((u64)v_r20_i65_i449_i_i_i_i + (u64)(v_r17_i64_i448_i_i_i_i));
     put_u8(v_r26_i66_i450_i_i_i_i, 48u);
     v_r29_i409_sroa_4_0_r26_i66_i450_sroa_idx_i_i_i_i = v_r26_i66_i450_i_i_i_i + 1;
     put_u8(v_r29_i409_sroa_4_0_r26_i66_i450_sroa_idx_i_i_i_i, 131u);
@@ -50338,7 +50410,7 @@ L_else_11_i418_i_i_i_i:;
     v_r168_i425_i_i_i_i = (u8)(v_r17_i_i_i128_i_i_i_i_i_i_i);
     v_r17_i82_i433_i_i_i_i = (u64)((u64)(v_a1_val2_i_i126_i_i_i_i_i_i_i) + (u64)(18446744073709551610ull));
     v_r20_i83_i434_i_i_i_i = get_P(v_r7_i_i263_i_i);
-    v_r26_i84_i435_i_i_i_i = (P)((uintptr_t)v_r20_i83_i434_i_i_i_i + (u64)(v_r17_i82_i433_i_i_i_i));
+    v_r26_i84_i435_i_i_i_i = (P)((u64)v_r20_i83_i434_i_i_i_i + (u64)(v_r17_i82_i433_i_i_i_i));
     put_u8(v_r26_i84_i435_i_i_i_i, 48u);
     v_r40_i410_sroa_4_0_r26_i84_i435_sroa_idx_i_i_i_i = v_r26_i84_i435_i_i_i_i + 1;
     put_u8(v_r40_i410_sroa_4_0_r26_i84_i435_sroa_idx_i_i_i_i, 132u);
@@ -50361,7 +50433,7 @@ L_der_core_back_writer_BackWriter_prepend_header_exi:;
 L_then_1_i396_i_i_i_i:;
     v_r64_i397_i_i_i_i = (u16)(v_r21_i_i133_i_i_i_i_i_i_i);
     v_r17_i_i401_i_i_i_i = (u64)((u64)(v_a1_val6_i_i131_i_i_i_i_i_i_i) + (u64)(18446744073709551614ull));
-    v_r26_i_i403_i_i_i_i = (P)((uintptr_t)v_r20_i_i402_i_i_i_i + (u64)(v_r17_i_i401_i_i_i_i));
+    v_r26_i_i403_i_i_i_i = (P)((u64)v_r20_i_i402_i_i_i_i + (u64)(v_r17_i_i401_i_i_i_i));
     v_r8_i330_sroa_4_0_insert_shift_i_i_i_i = (u16)((u32)(v_r64_i397_i_i_i_i) << (u32)((8u & 31)));
     v_r8_i330_sroa_0_0_insert_insert_i_i_i_i = (u16)((u32)(v_r8_i330_sroa_4_0_insert_shift_i_i_i_i) | (u32)(162u));
     put_u16(v_r26_i_i403_i_i_i_i, v_r8_i330_sroa_0_0_insert_insert_i_i_i_i);
@@ -50372,7 +50444,7 @@ L_else_2_i336_i_i_i_i:;
 L_then_4_i387_i_i_i_i:;
     v_r80_i388_i_i_i_i = (u8)(v_r21_i_i133_i_i_i_i_i_i_i);
     v_r17_i28_i393_i_i_i_i = (u64)((u64)(v_a1_val6_i_i131_i_i_i_i_i_i_i) + (u64)(18446744073709551613ull));
-    v_r26_i30_i395_i_i_i_i = (P)((uintptr_t)v_r20_i_i402_i_i_i_i + (u64)(v_r17_i28_i393_i_i_i_i));
+    v_r26_i30_i395_i_i_i_i = (P)((u64)v_r20_i_i402_i_i_i_i + (u64)(v_r17_i28_i393_i_i_i_i));
     put_u8(v_r26_i30_i395_i_i_i_i, 162u);
     v_r14_i331_sroa_4_0_r26_i30_i395_sroa_idx_i_i_i_i = v_r26_i30_i395_i_i_i_i + 1;
     put_u8(v_r14_i331_sroa_4_0_r26_i30_i395_sroa_idx_i_i_i_i, 129u);
@@ -50384,7 +50456,7 @@ L_else_5_i338_i_i_i_i:;
     if (v_r92_i339_i_i_i_i) { goto L_then_7_i375_i_i_i_i; } else { goto L_else_8_i340_i_i_i_i; }
 L_then_7_i375_i_i_i_i:;
     v_r17_i46_i383_i_i_i_i = (u64)((u64)(v_a1_val6_i_i131_i_i_i_i_i_i_i) + (u64)(18446744073709551612ull));
-    v_r26_i48_i385_i_i_i_i = (P)((uintptr_t)v_r20_i_i402_i_i_i_i + (u64)(v_r17_i46_i383_i_i_i_i));
+    v_r26_i48_i385_i_i_i_i = (P)((u64)v_r20_i_i402_i_i_i_i + (u64)(v_r17_i46_i383_i_i_i_i));
     v_16 = (u32)((u32)(v_r2_i12_i_i134_i_i_i_i_i_i_i) | (u32)(2726428672ull));
     v_r20_i332_sroa_0_0_insert_insert_i_i_i_i = __builtin_bswap32(v_16);
     put_u32(v_r26_i48_i385_i_i_i_i, v_r20_i332_sroa_0_0_insert_insert_i_i_i_i);
@@ -50399,7 +50471,7 @@ L_then_10_i360_i_i_i_i:;
     v_r130_i364_i_i_i_i = (u8)(v_r12624_i363531_i_i_i_i);
     v_r134_i365_i_i_i_i = (u8)(v_r21_i_i133_i_i_i_i_i_i_i);
     v_r17_i64_i372_i_i_i_i = (u64)((u64)(v_a1_val6_i_i131_i_i_i_i_i_i_i) + (u64)(18446744073709551611ull));
-    v_r26_i66_i374_i_i_i_i = (P)((uintptr_t)v_r20_i_i402_i_i_i_i + (u64)(v_r17_i64_i372_i_i_i_i));
+    v_r26_i66_i374_i_i_i_i = (P)((u64)v_r20_i_i402_i_i_i_i + (u64)(v_r17_i64_i372_i_i_i_i));
     put_u8(v_r26_i66_i374_i_i_i_i, 162u);
     v_r29_i333_sroa_4_0_r26_i66_i374_sroa_idx_i_i_i_i = v_r26_i66_i374_i_i_i_i + 1;
     put_u8(v_r29_i333_sroa_4_0_r26_i66_i374_sroa_idx_i_i_i_i, 131u);
@@ -50419,7 +50491,7 @@ L_else_11_i342_i_i_i_i:;
     v_r164_i348_i_i_i_i = (u8)(v_r16022_i347529_i_i_i_i);
     v_r168_i349_i_i_i_i = (u8)(v_r21_i_i133_i_i_i_i_i_i_i);
     v_r17_i82_i357_i_i_i_i = (u64)((u64)(v_a1_val6_i_i131_i_i_i_i_i_i_i) + (u64)(18446744073709551610ull));
-    v_r26_i84_i359_i_i_i_i = (P)((uintptr_t)v_r20_i_i402_i_i_i_i + (u64)(v_r17_i82_i357_i_i_i_i));
+    v_r26_i84_i359_i_i_i_i = (P)((u64)v_r20_i_i402_i_i_i_i + (u64)(v_r17_i82_i357_i_i_i_i));
     put_u8(v_r26_i84_i359_i_i_i_i, 162u);
     v_r40_i334_sroa_4_0_r26_i84_i359_sroa_idx_i_i_i_i = v_r26_i84_i359_i_i_i_i + 1;
     put_u8(v_r40_i334_sroa_4_0_r26_i84_i359_sroa_idx_i_i_i_i, 132u);
@@ -50463,7 +50535,7 @@ L_then_1_i320_i_i_i_i:;
     v_r64_i321_i_i_i_i = (u16)(v_r17_i_i_i220_i_i_i_i_i_i_i);
     v_r17_i_i325_i_i_i_i = (u64)((u64)(v_a1_val2_i_i218_i_i_i_i_i_i_i) + (u64)(18446744073709551614ull));
     v_r20_i_i326_i_i_i_i = get_P(v_r7_i_i263_i_i);
-    v_r26_i_i327_i_i_i_i = (P)((uintptr_t)v_r20_i_i326_i_i_i_i + (u64)(v_r17_i_i325_i_i_i_i));
+    v_r26_i_i327_i_i_i_i = (P)((u64)v_r20_i_i326_i_i_i_i + (u64)(v_r17_i_i325_i_i_i_i));
     v_r8_i254_sroa_4_0_insert_shift_i_i_i_i = (u16)((u32)(v_r64_i321_i_i_i_i) << (u32)((8u & 31)));
     v_r8_i254_sroa_0_0_insert_insert_i_i_i_i = (u16)((u32)(v_r8_i254_sroa_4_0_insert_shift_i_i_i_i) | (u32)(48u));
     put_u16(v_r26_i_i327_i_i_i_i, v_r8_i254_sroa_0_0_insert_insert_i_i_i_i);
@@ -50475,7 +50547,7 @@ L_then_4_i311_i_i_i_i:;
     v_r80_i312_i_i_i_i = (u8)(v_r17_i_i_i220_i_i_i_i_i_i_i);
     v_r17_i28_i317_i_i_i_i = (u64)((u64)(v_a1_val2_i_i218_i_i_i_i_i_i_i) + (u64)(18446744073709551613ull));
     v_r20_i29_i318_i_i_i_i = get_P(v_r7_i_i263_i_i);
-    v_r26_i30_i319_i_i_i_i = (P)((uintptr_t)v_r20_i29_i318_i_i_i_i + (u64)(v_r17_i28_i317_i_i_i_i));
+    v_r26_i30_i319_i_i_i_i = (P)((u64)v_r20_i29_i318_i_i_i_i + (u64)(v_r17_i28_i317_i_i_i_i));
     put_u8(v_r26_i30_i319_i_i_i_i, 48u);
     v_r14_i255_sroa_4_0_r26_i30_i319_sroa_idx_i_i_i_i = v_r26_i30_i319_i_i_i_i + 1;
     put_u8(v_r14_i255_sroa_4_0_r26_i30_i319_sroa_idx_i_i_i_i, 129u);
@@ -50488,7 +50560,7 @@ L_else_5_i262_i_i_i_i:;
 L_then_7_i299_i_i_i_i:;
     v_r17_i46_i307_i_i_i_i = (u64)((u64)(v_a1_val2_i_i218_i_i_i_i_i_i_i) + (u64)(18446744073709551612ull));
     v_r20_i47_i308_i_i_i_i = get_P(v_r7_i_i263_i_i);
-    v_r26_i48_i309_i_i_i_i = (P)((uintptr_t)v_r20_i47_i308_i_i_i_i + (u64)(v_r17_i46_i307_i_i_i_i));
+    v_r26_i48_i309_i_i_i_i = (P)((u64)v_r20_i47_i308_i_i_i_i + (u64)(v_r17_i46_i307_i_i_i_i));
     v_17 = (u32)((u32)(v_r2_i_i_i221_i_i_i_i_i_i_i) | (u32)(813826048u));
     v_r20_i256_sroa_0_0_insert_insert_i_i_i_i = __builtin_bswap32(v_17);
     put_u32(v_r26_i48_i309_i_i_i_i, v_r20_i256_sroa_0_0_insert_insert_i_i_i_i);
@@ -50504,7 +50576,7 @@ L_then_10_i284_i_i_i_i:;
     v_r134_i289_i_i_i_i = (u8)(v_r17_i_i_i220_i_i_i_i_i_i_i);
     v_r17_i64_i296_i_i_i_i = (u64)((u64)(v_a1_val2_i_i218_i_i_i_i_i_i_i) + (u64)(18446744073709551611ull));
     v_r20_i65_i297_i_i_i_i = get_P(v_r7_i_i263_i_i);
-    v_r26_i66_i298_i_i_i_i = (P)((uintptr_t)v_r20_i65_i297_i_i_i_i + (u64)(v_r17_i64_i296_i_i_i_i));
+    v_r26_i66_i298_i_i_i_i = (P)((u64)v_r20_i65_i297_i_i_i_i + (u64)(v_r17_i64_i296_i_i_i_i));
     put_u8(v_r26_i66_i298_i_i_i_i, 48u);
     v_r29_i257_sroa_4_0_r26_i66_i298_sroa_idx_i_i_i_i = v_r26_i66_i298_i_i_i_i + 1;
     put_u8(v_r29_i257_sroa_4_0_r26_i66_i298_sroa_idx_i_i_i_i, 131u);
@@ -50525,7 +50597,7 @@ L_else_11_i266_i_i_i_i:;
     v_r168_i273_i_i_i_i = (u8)(v_r17_i_i_i220_i_i_i_i_i_i_i);
     v_r17_i82_i281_i_i_i_i = (u64)((u64)(v_a1_val2_i_i218_i_i_i_i_i_i_i) + (u64)(18446744073709551610ull));
     v_r20_i83_i282_i_i_i_i = get_P(v_r7_i_i263_i_i);
-    v_r26_i84_i283_i_i_i_i = (P)((uintptr_t)v_r20_i83_i282_i_i_i_i + (u64)(v_r17_i82_i281_i_i_i_i));
+    v_r26_i84_i283_i_i_i_i = (P)((u64)v_r20_i83_i282_i_i_i_i + (u64)(v_r17_i82_i281_i_i_i_i));
     put_u8(v_r26_i84_i283_i_i_i_i, 48u);
     v_r40_i258_sroa_4_0_r26_i84_i283_sroa_idx_i_i_i_i = v_r26_i84_i283_i_i_i_i + 1;
     put_u8(v_r40_i258_sroa_4_0_r26_i84_i283_sroa_idx_i_i_i_i, 132u);
@@ -50548,7 +50620,7 @@ L_der_core_back_writer_BackWriter_prepend_header_exi__2:;
 L_then_1_i244_i_i_i_i:;
     v_r64_i245_i_i_i_i = (u16)(v_r21_i_i225_i_i_i_i_i_i_i);
     v_r17_i_i249_i_i_i_i = (u64)((u64)(v_a1_val6_i_i223_i_i_i_i_i_i_i) + (u64)(18446744073709551614ull));
-    v_r26_i_i251_i_i_i_i = (P)((uintptr_t)v_r20_i_i250_i_i_i_i + (u64)(v_r17_i_i249_i_i_i_i));
+    v_r26_i_i251_i_i_i_i = (P)((u64)v_r20_i_i250_i_i_i_i + (u64)(v_r17_i_i249_i_i_i_i));
     v_r8_i178_sroa_4_0_insert_shift_i_i_i_i = (u16)((u32)(v_r64_i245_i_i_i_i) << (u32)((8u & 31)));
     v_r8_i178_sroa_0_0_insert_insert_i_i_i_i = (u16)((u32)(v_r8_i178_sroa_4_0_insert_shift_i_i_i_i) | (u32)(160u));
     put_u16(v_r26_i_i251_i_i_i_i, v_r8_i178_sroa_0_0_insert_insert_i_i_i_i);
@@ -50559,7 +50631,7 @@ L_else_2_i184_i_i_i_i:;
 L_then_4_i235_i_i_i_i:;
     v_r80_i236_i_i_i_i = (u8)(v_r21_i_i225_i_i_i_i_i_i_i);
     v_r17_i28_i241_i_i_i_i = (u64)((u64)(v_a1_val6_i_i223_i_i_i_i_i_i_i) + (u64)(18446744073709551613ull));
-    v_r26_i30_i243_i_i_i_i = (P)((uintptr_t)v_r20_i_i250_i_i_i_i + (u64)(v_r17_i28_i241_i_i_i_i));
+    v_r26_i30_i243_i_i_i_i = (P)((u64)v_r20_i_i250_i_i_i_i + (u64)(v_r17_i28_i241_i_i_i_i));
     put_u8(v_r26_i30_i243_i_i_i_i, 160u);
     v_r14_i179_sroa_4_0_r26_i30_i243_sroa_idx_i_i_i_i = v_r26_i30_i243_i_i_i_i + 1;
     put_u8(v_r14_i179_sroa_4_0_r26_i30_i243_sroa_idx_i_i_i_i, 129u);
@@ -50571,7 +50643,7 @@ L_else_5_i186_i_i_i_i:;
     if (v_r92_i187_i_i_i_i) { goto L_then_7_i223_i_i_i_i; } else { goto L_else_8_i188_i_i_i_i; }
 L_then_7_i223_i_i_i_i:;
     v_r17_i46_i231_i_i_i_i = (u64)((u64)(v_a1_val6_i_i223_i_i_i_i_i_i_i) + (u64)(18446744073709551612ull));
-    v_r26_i48_i233_i_i_i_i = (P)((uintptr_t)v_r20_i_i250_i_i_i_i + (u64)(v_r17_i46_i231_i_i_i_i));
+    v_r26_i48_i233_i_i_i_i = (P)((u64)v_r20_i_i250_i_i_i_i + (u64)(v_r17_i46_i231_i_i_i_i));
     v_18 = (u32)((u32)(v_r2_i12_i_i226_i_i_i_i_i_i_i) | (u32)(2692874240ull));
     v_r20_i180_sroa_0_0_insert_insert_i_i_i_i = __builtin_bswap32(v_18);
     put_u32(v_r26_i48_i233_i_i_i_i, v_r20_i180_sroa_0_0_insert_insert_i_i_i_i);
@@ -50586,7 +50658,7 @@ L_then_10_i208_i_i_i_i:;
     v_r130_i212_i_i_i_i = (u8)(v_r12624_i211545_i_i_i_i);
     v_r134_i213_i_i_i_i = (u8)(v_r21_i_i225_i_i_i_i_i_i_i);
     v_r17_i64_i220_i_i_i_i = (u64)((u64)(v_a1_val6_i_i223_i_i_i_i_i_i_i) + (u64)(18446744073709551611ull));
-    v_r26_i66_i222_i_i_i_i = (P)((uintptr_t)v_r20_i_i250_i_i_i_i + (u64)(v_r17_i64_i220_i_i_i_i));
+    v_r26_i66_i222_i_i_i_i = (P)((u64)v_r20_i_i250_i_i_i_i + (u64)(v_r17_i64_i220_i_i_i_i));
     put_u8(v_r26_i66_i222_i_i_i_i, 160u);
     v_r29_i181_sroa_4_0_r26_i66_i222_sroa_idx_i_i_i_i = v_r26_i66_i222_i_i_i_i + 1;
     put_u8(v_r29_i181_sroa_4_0_r26_i66_i222_sroa_idx_i_i_i_i, 131u);
@@ -50606,7 +50678,7 @@ L_else_11_i190_i_i_i_i:;
     v_r164_i196_i_i_i_i = (u8)(v_r16022_i195543_i_i_i_i);
     v_r168_i197_i_i_i_i = (u8)(v_r21_i_i225_i_i_i_i_i_i_i);
     v_r17_i82_i205_i_i_i_i = (u64)((u64)(v_a1_val6_i_i223_i_i_i_i_i_i_i) + (u64)(18446744073709551610ull));
-    v_r26_i84_i207_i_i_i_i = (P)((uintptr_t)v_r20_i_i250_i_i_i_i + (u64)(v_r17_i82_i205_i_i_i_i));
+    v_r26_i84_i207_i_i_i_i = (P)((u64)v_r20_i_i250_i_i_i_i + (u64)(v_r17_i82_i205_i_i_i_i));
     put_u8(v_r26_i84_i207_i_i_i_i, 160u);
     v_r40_i182_sroa_4_0_r26_i84_i207_sroa_idx_i_i_i_i = v_r26_i84_i207_i_i_i_i + 1;
     put_u8(v_r40_i182_sroa_4_0_r26_i84_i207_sroa_idx_i_i_i_i, 132u);
@@ -50630,7 +50702,7 @@ L_then_1_i168_i_i_i_i:;
     v_r64_i169_i_i_i_i = (u16)(v_r17_i_i9_i_i_i_i_i);
     v_r17_i_i173_i_i_i_i = (u64)((u64)(v_r12_i_i172_i_i_i_i) + (u64)(18446744073709551614ull));
     v_r20_i_i174_i_i_i_i = get_P(v_r7_i_i263_i_i);
-    v_r26_i_i175_i_i_i_i = (P)((uintptr_t)v_r20_i_i174_i_i_i_i + (u64)(v_r17_i_i173_i_i_i_i));
+    v_r26_i_i175_i_i_i_i = (P)((u64)v_r20_i_i174_i_i_i_i + (u64)(v_r17_i_i173_i_i_i_i));
     v_r8_i102_sroa_4_0_insert_shift_i_i_i_i = (u16)((u32)(v_r64_i169_i_i_i_i) << (u32)((8u & 31)));
     v_r8_i102_sroa_0_0_insert_insert_i_i_i_i = (u16)((u32)(v_r8_i102_sroa_4_0_insert_shift_i_i_i_i) | (u32)(48u));
     put_u16(v_r26_i_i175_i_i_i_i, v_r8_i102_sroa_0_0_insert_insert_i_i_i_i);
@@ -50642,7 +50714,7 @@ L_then_4_i159_i_i_i_i:;
     v_r80_i160_i_i_i_i = (u8)(v_r17_i_i9_i_i_i_i_i);
     v_r17_i28_i165_i_i_i_i = (u64)((u64)(v_r12_i_i172_i_i_i_i) + (u64)(18446744073709551613ull));
     v_r20_i29_i166_i_i_i_i = get_P(v_r7_i_i263_i_i);
-    v_r26_i30_i167_i_i_i_i = (P)((uintptr_t)v_r20_i29_i166_i_i_i_i + (u64)(v_r17_i28_i165_i_i_i_i));
+    v_r26_i30_i167_i_i_i_i = (P)((u64)v_r20_i29_i166_i_i_i_i + (u64)(v_r17_i28_i165_i_i_i_i));
     put_u8(v_r26_i30_i167_i_i_i_i, 48u);
     v_r14_i103_sroa_4_0_r26_i30_i167_sroa_idx_i_i_i_i = v_r26_i30_i167_i_i_i_i + 1;
     put_u8(v_r14_i103_sroa_4_0_r26_i30_i167_sroa_idx_i_i_i_i, 129u);
@@ -50655,7 +50727,7 @@ L_else_5_i110_i_i_i_i:;
 L_then_7_i147_i_i_i_i:;
     v_r17_i46_i155_i_i_i_i = (u64)((u64)(v_r12_i_i172_i_i_i_i) + (u64)(18446744073709551612ull));
     v_r20_i47_i156_i_i_i_i = get_P(v_r7_i_i263_i_i);
-    v_r26_i48_i157_i_i_i_i = (P)((uintptr_t)v_r20_i47_i156_i_i_i_i + (u64)(v_r17_i46_i155_i_i_i_i));
+    v_r26_i48_i157_i_i_i_i = (P)((u64)v_r20_i47_i156_i_i_i_i + (u64)(v_r17_i46_i155_i_i_i_i));
     v_19 = (u32)((u32)(v_r2_i_i_i_i_i_i_i) | (u32)(813826048u));
     v_r20_i104_sroa_0_0_insert_insert_i_i_i_i = __builtin_bswap32(v_19);
     put_u32(v_r26_i48_i157_i_i_i_i, v_r20_i104_sroa_0_0_insert_insert_i_i_i_i);
@@ -50671,7 +50743,7 @@ L_then_10_i132_i_i_i_i:;
     v_r134_i137_i_i_i_i = (u8)(v_r17_i_i9_i_i_i_i_i);
     v_r17_i64_i144_i_i_i_i = (u64)((u64)(v_r12_i_i172_i_i_i_i) + (u64)(18446744073709551611ull));
     v_r20_i65_i145_i_i_i_i = get_P(v_r7_i_i263_i_i);
-    v_r26_i66_i146_i_i_i_i = (P)((uintptr_t)v_r20_i65_i145_i_i_i_i + (u64)(v_r17_i64_i144_i_i_i_i));
+    v_r26_i66_i146_i_i_i_i = (P)((u64)v_r20_i65_i145_i_i_i_i + (u64)(v_r17_i64_i144_i_i_i_i));
     put_u8(v_r26_i66_i146_i_i_i_i, 48u);
     v_r29_i105_sroa_4_0_r26_i66_i146_sroa_idx_i_i_i_i = v_r26_i66_i146_i_i_i_i + 1;
     put_u8(v_r29_i105_sroa_4_0_r26_i66_i146_sroa_idx_i_i_i_i, 131u);
@@ -50692,7 +50764,7 @@ L_else_11_i114_i_i_i_i:;
     v_r168_i121_i_i_i_i = (u8)(v_r17_i_i9_i_i_i_i_i);
     v_r17_i82_i129_i_i_i_i = (u64)((u64)(v_r12_i_i172_i_i_i_i) + (u64)(18446744073709551610ull));
     v_r20_i83_i130_i_i_i_i = get_P(v_r7_i_i263_i_i);
-    v_r26_i84_i131_i_i_i_i = (P)((uintptr_t)v_r20_i83_i130_i_i_i_i + (u64)(v_r17_i82_i129_i_i_i_i));
+    v_r26_i84_i131_i_i_i_i = (P)((u64)v_r20_i83_i130_i_i_i_i + (u64)(v_r17_i82_i129_i_i_i_i));
     put_u8(v_r26_i84_i131_i_i_i_i, 48u);
     v_r40_i106_sroa_4_0_r26_i84_i131_sroa_idx_i_i_i_i = v_r26_i84_i131_i_i_i_i + 1;
     put_u8(v_r40_i106_sroa_4_0_r26_i84_i131_sroa_idx_i_i_i_i, 132u);
@@ -50708,37 +50780,37 @@ L_else_11_i114_i_i_i_i:;
 L_der_core_last_part_LastEncodeValue_prepend_value_1:;
     v_r20_i_i11_i_i_i_i_i = p_v_r20_i_i11_i_i_i_i_i;
     v_a1_val6_i_i_i_i_i = p_v_a1_val6_i_i_i_i_i;
-    v_20 = (P)((uintptr_t)v_r20_i_i11_i_i_i_i_i + (u64)(v_a1_val6_i_i_i_i_i));
-    v_r26_i_i_i_i_i_i_i = (P)((uintptr_t)v_20 + (u64)(-9));
-    v_r8_i_i_i_i_i_i_i_i_i_i_i_i_i = (u64)((uintptr_t)v_r26_i_i_i_i_i_i_i);
-    v_r10_i_i_i_i_i_i_i_i_i_i_i_i_i = (u64)((u64)(v_r8_i_i_i_i_i_i_i_i_i_i_i_i_i) - (u64)((u64)(uintptr_t)(P)f_static_23));
+    v_20 = (P)((u64)v_r20_i_i11_i_i_i_i_i + (u64)(v_a1_val6_i_i_i_i_i));
+    v_r26_i_i_i_i_i_i_i = (P)((u64)v_20 + (u64)(-9));
+    v_r8_i_i_i_i_i_i_i_i_i_i_i_i_i = (u64)((u64)v_r26_i_i_i_i_i_i_i);
+    v_r10_i_i_i_i_i_i_i_i_i_i_i_i_i = (u64)((u64)(v_r8_i_i_i_i_i_i_i_i_i_i_i_i_i) - (u64)((u64)AT(f_static_23)));
     v_r11_i_i_i_i_i_i_i_i_i_i_i_i_i = v_r10_i_i_i_i_i_i_i_i_i_i_i_i_i < 9u;
     if (v_r11_i_i_i_i_i_i_i_i_i_i_i_i_i) { goto L_join_7_i_i_i_i_i_i_i_i_i_i_i_preheader_i_i; } else { goto L_apart_2_i_i_i_i_i_i_i_i_i_i_i_i_i; }
 L_join_7_i_i_i_i_i_i_i_i_i_i_i_preheader_i_i:;
     put_u8(v_r26_i_i_i_i_i_i_i, 42u);
-    v_r20_i_i_i_i_i_i_i_i_i_i_i_1_i_i = (P)((uintptr_t)v_20 + (u64)(-8));
+    v_r20_i_i_i_i_i_i_i_i_i_i_i_1_i_i = (P)((u64)v_20 + (u64)(-8));
     put_u8(v_r20_i_i_i_i_i_i_i_i_i_i_i_1_i_i, 134u);
-    v_r20_i_i_i_i_i_i_i_i_i_i_i_2_i_i = (P)((uintptr_t)v_20 + (u64)(-7));
+    v_r20_i_i_i_i_i_i_i_i_i_i_i_2_i_i = (P)((u64)v_20 + (u64)(-7));
     put_u8(v_r20_i_i_i_i_i_i_i_i_i_i_i_2_i_i, 72u);
-    v_r20_i_i_i_i_i_i_i_i_i_i_i_3_i_i = (P)((uintptr_t)v_20 + (u64)(-6));
+    v_r20_i_i_i_i_i_i_i_i_i_i_i_3_i_i = (P)((u64)v_20 + (u64)(-6));
     put_u8(v_r20_i_i_i_i_i_i_i_i_i_i_i_3_i_i, 134u);
-    v_r20_i_i_i_i_i_i_i_i_i_i_i_4_i_i = (P)((uintptr_t)v_20 + (u64)(-5));
+    v_r20_i_i_i_i_i_i_i_i_i_i_i_4_i_i = (P)((u64)v_20 + (u64)(-5));
     put_u8(v_r20_i_i_i_i_i_i_i_i_i_i_i_4_i_i, 247u);
-    v_r20_i_i_i_i_i_i_i_i_i_i_i_5_i_i = (P)((uintptr_t)v_20 + (u64)(-4));
+    v_r20_i_i_i_i_i_i_i_i_i_i_i_5_i_i = (P)((u64)v_20 + (u64)(-4));
     put_u8(v_r20_i_i_i_i_i_i_i_i_i_i_i_5_i_i, 13u);
-    v_r20_i_i_i_i_i_i_i_i_i_i_i_6_i_i = (P)((uintptr_t)v_20 + (u64)(-3));
+    v_r20_i_i_i_i_i_i_i_i_i_i_i_6_i_i = (P)((u64)v_20 + (u64)(-3));
     put_u8(v_r20_i_i_i_i_i_i_i_i_i_i_i_6_i_i, 1u);
-    v_r20_i_i_i_i_i_i_i_i_i_i_i_7_i_i = (P)((uintptr_t)v_20 + (u64)(-2));
+    v_r20_i_i_i_i_i_i_i_i_i_i_i_7_i_i = (P)((u64)v_20 + (u64)(-2));
     put_u8(v_r20_i_i_i_i_i_i_i_i_i_i_i_7_i_i, 1u);
-    v_r20_i_i_i_i_i_i_i_i_i_i_i_8_i_i = (P)((uintptr_t)v_20 + (u64)(-1));
+    v_r20_i_i_i_i_i_i_i_i_i_i_i_8_i_i = (P)((u64)v_20 + (u64)(-1));
     put_u8(v_r20_i_i_i_i_i_i_i_i_i_i_i_8_i_i, 7u);
     { goto L_der_core_back_writer_BackWriter_prepend_header_exi__3; }
 L_apart_2_i_i_i_i_i_i_i_i_i_i_i_i_i:;
-    copy(v_r26_i_i_i_i_i_i_i, (P)f_static_23, 9u);
+    copy(v_r26_i_i_i_i_i_i_i, AT(f_static_23), 9u);
     { goto L_der_core_back_writer_BackWriter_prepend_header_exi__3; }
 L_der_core_back_writer_BackWriter_prepend_header_exi__3:;
     v_r17_i_i97_i_i_i_i = (u64)((u64)(v_a1_val6_i_i_i_i_i) + (u64)(18446744073709551605ull));
-    v_r26_i_i99_i_i_i_i = (P)((uintptr_t)v_r20_i_i11_i_i_i_i_i + (u64)(v_r17_i_i97_i_i_i_i));
+    v_r26_i_i99_i_i_i_i = (P)((u64)v_r20_i_i11_i_i_i_i_i + (u64)(v_r17_i_i97_i_i_i_i));
     put_u16(v_r26_i_i99_i_i_i_i, 2310u);
     v_r9_i25_i_i_i_i = (u64)((u64)(v_a1_val_i_i_i_i_i_i) - (u64)(v_r17_i_i97_i_i_i_i));
     v_r2_i_i_i_i_i = (u32)(v_r9_i25_i_i_i_i);
@@ -50746,7 +50818,7 @@ L_der_core_back_writer_BackWriter_prepend_header_exi__3:;
     if (v_r59_i_i_i_i_i) { goto L_then_1_i_i_i_i_i; } else { goto L_else_2_i_i_i_i_i; }
 L_then_1_i_i_i_i_i:;
     v_r64_i_i_i_i_i = (u16)(v_r9_i25_i_i_i_i);
-    v_r26_i_i_i_i_i_i = (P)((uintptr_t)v_r26_i_i99_i_i_i_i + (u64)(-2));
+    v_r26_i_i_i_i_i_i = (P)((u64)v_r26_i_i99_i_i_i_i + (u64)(-2));
     v_r8_i_sroa_4_0_insert_shift_i_i_i_i = (u16)((u32)(v_r64_i_i_i_i_i) << (u32)((8u & 31)));
     v_r8_i_sroa_0_0_insert_insert_i_i_i_i = (u16)((u32)(v_r8_i_sroa_4_0_insert_shift_i_i_i_i) | (u32)(48u));
     put_u16(v_r26_i_i_i_i_i_i, v_r8_i_sroa_0_0_insert_insert_i_i_i_i);
@@ -50756,18 +50828,18 @@ L_else_2_i_i_i_i_i:;
     if (v_r75_i_i_i_i_i) { goto L_then_4_i_i_i_i_i; } else { goto L_else_5_i_i_i_i_i; }
 L_then_4_i_i_i_i_i:;
     v_r80_i_i_i_i_i = (u8)(v_r9_i25_i_i_i_i);
-    v_r26_i30_i_i_i_i_i = (P)((uintptr_t)v_r26_i_i99_i_i_i_i + (u64)(-3));
+    v_r26_i30_i_i_i_i_i = (P)((u64)v_r26_i_i99_i_i_i_i + (u64)(-3));
     put_u8(v_r26_i30_i_i_i_i_i, 48u);
-    v_r14_i_sroa_4_0_r26_i30_i_sroa_idx_i_i_i_i = (P)((uintptr_t)v_r26_i_i99_i_i_i_i + (u64)(-2));
+    v_r14_i_sroa_4_0_r26_i30_i_sroa_idx_i_i_i_i = (P)((u64)v_r26_i_i99_i_i_i_i + (u64)(-2));
     put_u8(v_r14_i_sroa_4_0_r26_i30_i_sroa_idx_i_i_i_i, 129u);
-    v_r14_i_sroa_5_0_r26_i30_i_sroa_idx_i_i_i_i = (P)((uintptr_t)v_r26_i_i99_i_i_i_i + (u64)(-1));
+    v_r14_i_sroa_5_0_r26_i30_i_sroa_idx_i_i_i_i = (P)((u64)v_r26_i_i99_i_i_i_i + (u64)(-1));
     put_u8(v_r14_i_sroa_5_0_r26_i30_i_sroa_idx_i_i_i_i, v_r80_i_i_i_i_i);
     { goto L_arm_1_i266_i_i; }
 L_else_5_i_i_i_i_i:;
     v_r92_i_i_i_i_i = v_r2_i_i_i_i_i < 65536u;
     if (v_r92_i_i_i_i_i) { goto L_then_7_i_i_i_i_i; } else { goto L_else_8_i_i_i_i_i; }
 L_then_7_i_i_i_i_i:;
-    v_r26_i48_i_i_i_i_i = (P)((uintptr_t)v_r26_i_i99_i_i_i_i + (u64)(-4));
+    v_r26_i48_i_i_i_i_i = (P)((u64)v_r26_i_i99_i_i_i_i + (u64)(-4));
     v_21 = (u32)((u32)(v_r2_i_i_i_i_i) | (u32)(813826048u));
     v_r20_i_sroa_0_0_insert_insert_i_i_i_i = __builtin_bswap32(v_21);
     put_u32(v_r26_i48_i_i_i_i_i, v_r20_i_sroa_0_0_insert_insert_i_i_i_i);
@@ -50781,15 +50853,15 @@ L_then_10_i_i_i_i_i:;
     v_r12624_i566_i_i_i_i = (u64)((u64)(v_r9_i25_i_i_i_i) >> (u64)((8u & 63)));
     v_r130_i_i_i_i_i = (u8)(v_r12624_i566_i_i_i_i);
     v_r134_i_i_i_i_i = (u8)(v_r9_i25_i_i_i_i);
-    v_r26_i66_i_i_i_i_i = (P)((uintptr_t)v_r26_i_i99_i_i_i_i + (u64)(-5));
+    v_r26_i66_i_i_i_i_i = (P)((u64)v_r26_i_i99_i_i_i_i + (u64)(-5));
     put_u8(v_r26_i66_i_i_i_i_i, 48u);
-    v_r29_i_sroa_4_0_r26_i66_i_sroa_idx_i_i_i_i = (P)((uintptr_t)v_r26_i_i99_i_i_i_i + (u64)(-4));
+    v_r29_i_sroa_4_0_r26_i66_i_sroa_idx_i_i_i_i = (P)((u64)v_r26_i_i99_i_i_i_i + (u64)(-4));
     put_u8(v_r29_i_sroa_4_0_r26_i66_i_sroa_idx_i_i_i_i, 131u);
-    v_r29_i_sroa_5_0_r26_i66_i_sroa_idx_i_i_i_i = (P)((uintptr_t)v_r26_i_i99_i_i_i_i + (u64)(-3));
+    v_r29_i_sroa_5_0_r26_i66_i_sroa_idx_i_i_i_i = (P)((u64)v_r26_i_i99_i_i_i_i + (u64)(-3));
     put_u8(v_r29_i_sroa_5_0_r26_i66_i_sroa_idx_i_i_i_i, v_r124_i_i_i_i_i);
-    v_r29_i_sroa_6_0_r26_i66_i_sroa_idx_i_i_i_i = (P)((uintptr_t)v_r26_i_i99_i_i_i_i + (u64)(-2));
+    v_r29_i_sroa_6_0_r26_i66_i_sroa_idx_i_i_i_i = (P)((u64)v_r26_i_i99_i_i_i_i + (u64)(-2));
     put_u8(v_r29_i_sroa_6_0_r26_i66_i_sroa_idx_i_i_i_i, v_r130_i_i_i_i_i);
-    v_r29_i_sroa_7_0_r26_i66_i_sroa_idx_i_i_i_i = (P)((uintptr_t)v_r26_i_i99_i_i_i_i + (u64)(-1));
+    v_r29_i_sroa_7_0_r26_i66_i_sroa_idx_i_i_i_i = (P)((u64)v_r26_i_i99_i_i_i_i + (u64)(-1));
     put_u8(v_r29_i_sroa_7_0_r26_i66_i_sroa_idx_i_i_i_i, v_r134_i_i_i_i_i);
     { goto L_arm_1_i266_i_i; }
 L_else_11_i_i_i_i_i:;
@@ -50800,17 +50872,17 @@ L_else_11_i_i_i_i_i:;
     v_r16022_i564_i_i_i_i = (u64)((u64)(v_r9_i25_i_i_i_i) >> (u64)((8u & 63)));
     v_r164_i_i_i_i_i = (u8)(v_r16022_i564_i_i_i_i);
     v_r168_i_i_i_i_i = (u8)(v_r9_i25_i_i_i_i);
-    v_r26_i84_i_i_i_i_i = (P)((uintptr_t)v_r26_i_i99_i_i_i_i + (u64)(-6));
+    v_r26_i84_i_i_i_i_i = (P)((u64)v_r26_i_i99_i_i_i_i + (u64)(-6));
     put_u8(v_r26_i84_i_i_i_i_i, 48u);
-    v_r40_i_sroa_4_0_r26_i84_i_sroa_idx_i_i_i_i = (P)((uintptr_t)v_r26_i_i99_i_i_i_i + (u64)(-5));
+    v_r40_i_sroa_4_0_r26_i84_i_sroa_idx_i_i_i_i = (P)((u64)v_r26_i_i99_i_i_i_i + (u64)(-5));
     put_u8(v_r40_i_sroa_4_0_r26_i84_i_sroa_idx_i_i_i_i, 132u);
-    v_r40_i_sroa_5_0_r26_i84_i_sroa_idx_i_i_i_i = (P)((uintptr_t)v_r26_i_i99_i_i_i_i + (u64)(-4));
+    v_r40_i_sroa_5_0_r26_i84_i_sroa_idx_i_i_i_i = (P)((u64)v_r26_i_i99_i_i_i_i + (u64)(-4));
     put_u8(v_r40_i_sroa_5_0_r26_i84_i_sroa_idx_i_i_i_i, v_r152_i_i_i_i_i);
-    v_r40_i_sroa_6_0_r26_i84_i_sroa_idx_i_i_i_i = (P)((uintptr_t)v_r26_i_i99_i_i_i_i + (u64)(-3));
+    v_r40_i_sroa_6_0_r26_i84_i_sroa_idx_i_i_i_i = (P)((u64)v_r26_i_i99_i_i_i_i + (u64)(-3));
     put_u8(v_r40_i_sroa_6_0_r26_i84_i_sroa_idx_i_i_i_i, v_r158_i_i_i_i_i);
-    v_r40_i_sroa_7_0_r26_i84_i_sroa_idx_i_i_i_i = (P)((uintptr_t)v_r26_i_i99_i_i_i_i + (u64)(-2));
+    v_r40_i_sroa_7_0_r26_i84_i_sroa_idx_i_i_i_i = (P)((u64)v_r26_i_i99_i_i_i_i + (u64)(-2));
     put_u8(v_r40_i_sroa_7_0_r26_i84_i_sroa_idx_i_i_i_i, v_r164_i_i_i_i_i);
-    v_r40_i_sroa_8_0_r26_i84_i_sroa_idx_i_i_i_i = (P)((uintptr_t)v_r26_i_i99_i_i_i_i + (u64)(-1));
+    v_r40_i_sroa_8_0_r26_i84_i_sroa_idx_i_i_i_i = (P)((u64)v_r26_i_i99_i_i_i_i + (u64)(-1));
     put_u8(v_r40_i_sroa_8_0_r26_i84_i_sroa_idx_i_i_i_i, v_r168_i_i_i_i_i);
     { goto L_arm_1_i266_i_i; }
 L_arm_1_i266_i_i:;
@@ -50880,7 +50952,7 @@ L_pkcs1_c_oaep_algorithm_pkcs1_c_oaep_algorithm_enco:;
     v_r6_0_i = p_v_r6_0_i;
     return v_r6_0_i;
 }
-u32 pkcs1_c_pss_algorithm_encode(P v_a0, P v_a1, u64 v_a2, P v_a3) {
+u32 NAME(pss_algorithm_encode)(P v_a0, P v_a1, u64 v_a2, P v_a3) {
     ALIGNED(4) unsigned char m_v_r0_i10_i_i_i_i1_i_i_i[8];
     ALIGNED(4) unsigned char m_v_r0_i10_i_i_i_i_i_i_i[8];
     ALIGNED(8) unsigned char m_v_r7_i_i309_i_i[24];
@@ -51385,14 +51457,14 @@ u32 pkcs1_c_pss_algorithm_encode(P v_a0, P v_a1, u64 v_a2, P v_a3) {
     u32 v_switch_idx_cast_i_i_i;
     u32 v_switch_offset_i_i_i;
     u32 v_r6_0_i;
-    v_r0_i10_i_i_i_i1_i_i_i = m_v_r0_i10_i_i_i_i1_i_i_i;
-    v_r0_i10_i_i_i_i_i_i_i = m_v_r0_i10_i_i_i_i_i_i_i;
-    v_r7_i_i309_i_i = m_v_r7_i_i309_i_i;
-    v_r3_i = m_v_r3_i;
-    v_r5_i = m_v_r5_i;
+    v_r0_i10_i_i_i_i1_i_i_i = AT(m_v_r0_i10_i_i_i_i1_i_i_i);
+    v_r0_i10_i_i_i_i_i_i_i = AT(m_v_r0_i10_i_i_i_i_i_i_i);
+    v_r7_i_i309_i_i = AT(m_v_r7_i_i309_i_i);
+    v_r3_i = AT(m_v_r3_i);
+    v_r5_i = AT(m_v_r5_i);
     v_r1 = v_a1 == (P)0;
     v_r3 = v_r1 ? 4096u : 0u;
-    v_r4 = (P)((uintptr_t)v_a1 + (u64)(v_r3));
+    v_r4 = (P)((u64)v_a1 + (u64)(v_r3));
     fill(v_r5_i, 0u, 136u);
     f_pkcs1_c_pss_from_c_pss(v_r5_i, v_a0);
     v_r12_i = get_u8(v_r5_i);
@@ -51610,13 +51682,13 @@ L_start_split_i_i_i_i_i_i_i_i:;
     if (v_r24_i_i_i_not_i_i) { p_v_a1_val1_pre5_i_i735_i_i_i_i = v_r3_i11_i_i_i_i; goto L_pkcs1_params_fields_FieldThenFields_prepend_0ba80a; } else { goto L_arm_3_i47_i_i_i_i_i_i_i_i; }
 L_arm_3_i47_i_i_i_i_i_i_i_i:;
     v_r17_i_i_i_i61_i_i_i_i_i_i_i = (u64)((u64)(v_r3_i11_i_i_i_i) + (u64)(18446744073709551615ull));
-    v_r26_i_i_i_i63_i_i_i_i_i_i_i = (P)((uintptr_t)v_r4 + (u64)(v_r17_i_i_i_i61_i_i_i_i_i_i_i));
+    v_r26_i_i_i_i63_i_i_i_i_i_i_i = (P)((u64)v_r4 + (u64)(v_r17_i_i_i_i61_i_i_i_i_i_i_i));
     put_u8(v_r26_i_i_i_i63_i_i_i_i_i_i_i, v_r19_i_i_i);
     v_r20_i10_i_i65_i_i_i_i_i_i_i = (u8)(v_r19_i_i_i ^ ((u8)1 << 7)) < (u8)(0u ^ ((u8)1 << 7));
     if (v_r20_i10_i_i65_i_i_i_i_i_i_i) { goto L_then_1_i_i_i78_i_i_i_i_i_i_i; } else { p_v_r12_i_i476_i_i_i_i = v_r17_i_i_i_i61_i_i_i_i_i_i_i; goto L_pkcs1_params_fields_FieldRef_prepend_7700fbca592c3; }
 L_then_1_i_i_i78_i_i_i_i_i_i_i:;
     v_r17_i4_i_i_i79_i_i_i_i_i_i_i = (u64)((u64)(v_r3_i11_i_i_i_i) + (u64)(18446744073709551614ull));
-    v_r26_i6_i_i_i81_i_i_i_i_i_i_i = (P)((uintptr_t)v_r4 + (u64)(v_r17_i4_i_i_i79_i_i_i_i_i_i_i));
+    v_r26_i6_i_i_i81_i_i_i_i_i_i_i = (P)((u64)v_r4 + (u64)(v_r17_i4_i_i_i79_i_i_i_i_i_i_i));
     put_u8(v_r26_i6_i_i_i81_i_i_i_i_i_i_i, 0u);
     put_u64(v_r23_sroa_4_0_r7_sroa_idx_i_i_i_i, v_r17_i4_i_i_i79_i_i_i_i_i_i_i);
     { p_v_r12_i_i476_i_i_i_i = v_r17_i4_i_i_i79_i_i_i_i_i_i_i; goto L_pkcs1_params_fields_FieldRef_prepend_7700fbca592c3; }
@@ -51629,7 +51701,7 @@ L_pkcs1_params_fields_FieldRef_prepend_7700fbca592c3:;
 L_then_1_i472_i_i_i_i:;
     v_r64_i473_i_i_i_i = (u16)(v_r17_i_i_i70_i_i_i_i_i_i_i);
     v_r17_i_i477_i_i_i_i = (u64)((u64)(v_r12_i_i476_i_i_i_i) + (u64)(18446744073709551614ull));
-    v_r26_i_i479_i_i_i_i = (P)((uintptr_t)v_r4 + (u64)(v_r17_i_i477_i_i_i_i));
+    v_r26_i_i479_i_i_i_i = (P)((u64)v_r4 + (u64)(v_r17_i_i477_i_i_i_i));
     v_r8_i406_sroa_4_0_insert_shift_i_i_i_i = (u16)((u32)(v_r64_i473_i_i_i_i) << (u32)((8u & 31)));
     v_r8_i406_sroa_0_0_insert_insert_i_i_i_i = (u16)((u32)(v_r8_i406_sroa_4_0_insert_shift_i_i_i_i) | (u32)(2u));
     put_u16(v_r26_i_i479_i_i_i_i, v_r8_i406_sroa_0_0_insert_insert_i_i_i_i);
@@ -51640,7 +51712,7 @@ L_else_2_i412_i_i_i_i:;
 L_then_4_i463_i_i_i_i:;
     v_r80_i464_i_i_i_i = (u8)(v_r17_i_i_i70_i_i_i_i_i_i_i);
     v_r17_i28_i469_i_i_i_i = (u64)((u64)(v_r12_i_i476_i_i_i_i) + (u64)(18446744073709551613ull));
-    v_r26_i30_i471_i_i_i_i = (P)((uintptr_t)v_r4 + (u64)(v_r17_i28_i469_i_i_i_i));
+    v_r26_i30_i471_i_i_i_i = (P)((u64)v_r4 + (u64)(v_r17_i28_i469_i_i_i_i));
     put_u8(v_r26_i30_i471_i_i_i_i, 2u);
     v_r14_i407_sroa_4_0_r26_i30_i471_sroa_idx_i_i_i_i = v_r26_i30_i471_i_i_i_i + 1;
     put_u8(v_r14_i407_sroa_4_0_r26_i30_i471_sroa_idx_i_i_i_i, 129u);
@@ -51652,7 +51724,7 @@ L_else_5_i414_i_i_i_i:;
     if (v_r92_i415_i_i_i_i) { goto L_then_7_i451_i_i_i_i; } else { goto L_else_8_i416_i_i_i_i; }
 L_then_7_i451_i_i_i_i:;
     v_r17_i46_i459_i_i_i_i = (u64)((u64)(v_r12_i_i476_i_i_i_i) + (u64)(18446744073709551612ull));
-    v_r26_i48_i461_i_i_i_i = (P)((uintptr_t)v_r4 + (u64)(v_r17_i46_i459_i_i_i_i));
+    v_r26_i48_i461_i_i_i_i = (P)((u64)v_r4 + (u64)(v_r17_i46_i459_i_i_i_i));
     v_12 = (u32)((u32)(v_r2_i_i_i71_i_i_i_i_i_i_i) | (u32)(42074112u));
     v_r20_i408_sroa_0_0_insert_insert_i_i_i_i = __builtin_bswap32(v_12);
     put_u32(v_r26_i48_i461_i_i_i_i, v_r20_i408_sroa_0_0_insert_insert_i_i_i_i);
@@ -51667,7 +51739,7 @@ L_then_10_i436_i_i_i_i:;
     v_r130_i440_i_i_i_i = (u8)(v_r12624_i439685_i_i_i_i);
     v_r134_i441_i_i_i_i = (u8)(v_r17_i_i_i70_i_i_i_i_i_i_i);
     v_r17_i64_i448_i_i_i_i = (u64)((u64)(v_r12_i_i476_i_i_i_i) + (u64)(18446744073709551611ull));
-    v_r26_i66_i450_i_i_i_i = (P)((uintptr_t)v_r4 + (u64)(v_r17_i64_i448_i_i_i_i));
+    v_r26_i66_i450_i_i_i_i = (P)((u64)v_r4 + (u64)(v_r17_i64_i448_i_i_i_i));
     put_u8(v_r26_i66_i450_i_i_i_i, 2u);
     v_r29_i409_sroa_4_0_r26_i66_i450_sroa_idx_i_i_i_i = v_r26_i66_i450_i_i_i_i + 1;
     put_u8(v_r29_i409_sroa_4_0_r26_i66_i450_sroa_idx_i_i_i_i, 131u);
@@ -51687,7 +51759,7 @@ L_else_11_i418_i_i_i_i:;
     v_r164_i424_i_i_i_i = (u8)(v_r16022_i423683_i_i_i_i);
     v_r168_i425_i_i_i_i = (u8)(v_r17_i_i_i70_i_i_i_i_i_i_i);
     v_r17_i82_i433_i_i_i_i = (u64)((u64)(v_r12_i_i476_i_i_i_i) + (u64)(18446744073709551610ull));
-    v_r26_i84_i435_i_i_i_i = (P)((uintptr_t)v_r4 + (u64)(v_r17_i82_i433_i_i_i_i));
+    v_r26_i84_i435_i_i_i_i = (P)((u64)v_r4 + (u64)(v_r17_i82_i433_i_i_i_i));
     put_u8(v_r26_i84_i435_i_i_i_i, 2u);
     v_r40_i410_sroa_4_0_r26_i84_i435_sroa_idx_i_i_i_i = v_r26_i84_i435_i_i_i_i + 1;
     put_u8(v_r40_i410_sroa_4_0_r26_i84_i435_sroa_idx_i_i_i_i, 132u);
@@ -51709,7 +51781,7 @@ L_der_core_back_writer_BackWriter_prepend_header_exi:;
 L_then_1_i396_i_i_i_i:;
     v_r64_i397_i_i_i_i = (u16)(v_r21_i_i75_i_i_i_i_i_i_i);
     v_r17_i_i401_i_i_i_i = (u64)((u64)(v_a1_val6_i_i73_i_i_i_i_i_i_i) + (u64)(18446744073709551614ull));
-    v_r26_i_i403_i_i_i_i = (P)((uintptr_t)v_r4 + (u64)(v_r17_i_i401_i_i_i_i));
+    v_r26_i_i403_i_i_i_i = (P)((u64)v_r4 + (u64)(v_r17_i_i401_i_i_i_i));
     v_r8_i330_sroa_4_0_insert_shift_i_i_i_i = (u16)((u32)(v_r64_i397_i_i_i_i) << (u32)((8u & 31)));
     v_r8_i330_sroa_0_0_insert_insert_i_i_i_i = (u16)((u32)(v_r8_i330_sroa_4_0_insert_shift_i_i_i_i) | (u32)(162u));
     put_u16(v_r26_i_i403_i_i_i_i, v_r8_i330_sroa_0_0_insert_insert_i_i_i_i);
@@ -51720,7 +51792,7 @@ L_else_2_i336_i_i_i_i:;
 L_then_4_i387_i_i_i_i:;
     v_r80_i388_i_i_i_i = (u8)(v_r21_i_i75_i_i_i_i_i_i_i);
     v_r17_i28_i393_i_i_i_i = (u64)((u64)(v_a1_val6_i_i73_i_i_i_i_i_i_i) + (u64)(18446744073709551613ull));
-    v_r26_i30_i395_i_i_i_i = (P)((uintptr_t)v_r4 + (u64)(v_r17_i28_i393_i_i_i_i));
+    v_r26_i30_i395_i_i_i_i = (P)((u64)v_r4 + (u64)(v_r17_i28_i393_i_i_i_i));
     put_u8(v_r26_i30_i395_i_i_i_i, 162u);
     v_r14_i331_sroa_4_0_r26_i30_i395_sroa_idx_i_i_i_i = v_r26_i30_i395_i_i_i_i + 1;
     put_u8(v_r14_i331_sroa_4_0_r26_i30_i395_sroa_idx_i_i_i_i, 129u);
@@ -51732,7 +51804,7 @@ L_else_5_i338_i_i_i_i:;
     if (v_r92_i339_i_i_i_i) { goto L_then_7_i375_i_i_i_i; } else { goto L_else_8_i340_i_i_i_i; }
 L_then_7_i375_i_i_i_i:;
     v_r17_i46_i383_i_i_i_i = (u64)((u64)(v_a1_val6_i_i73_i_i_i_i_i_i_i) + (u64)(18446744073709551612ull));
-    v_r26_i48_i385_i_i_i_i = (P)((uintptr_t)v_r4 + (u64)(v_r17_i46_i383_i_i_i_i));
+    v_r26_i48_i385_i_i_i_i = (P)((u64)v_r4 + (u64)(v_r17_i46_i383_i_i_i_i));
     v_13 = (u32)((u32)(v_r2_i13_i_i76_i_i_i_i_i_i_i) | (u32)(2726428672ull));
     v_r20_i332_sroa_0_0_insert_insert_i_i_i_i = __builtin_bswap32(v_13);
     put_u32(v_r26_i48_i385_i_i_i_i, v_r20_i332_sroa_0_0_insert_insert_i_i_i_i);
@@ -51747,7 +51819,7 @@ L_then_10_i360_i_i_i_i:;
     v_r130_i364_i_i_i_i = (u8)(v_r12624_i363692_i_i_i_i);
     v_r134_i365_i_i_i_i = (u8)(v_r21_i_i75_i_i_i_i_i_i_i);
     v_r17_i64_i372_i_i_i_i = (u64)((u64)(v_a1_val6_i_i73_i_i_i_i_i_i_i) + (u64)(18446744073709551611ull));
-    v_r26_i66_i374_i_i_i_i = (P)((uintptr_t)v_r4 + (u64)(v_r17_i64_i372_i_i_i_i));
+    v_r26_i66_i374_i_i_i_i = (P)((u64)v_r4 + (u64)(v_r17_i64_i372_i_i_i_i));
     put_u8(v_r26_i66_i374_i_i_i_i, 162u);
     v_r29_i333_sroa_4_0_r26_i66_i374_sroa_idx_i_i_i_i = v_r26_i66_i374_i_i_i_i + 1;
     put_u8(v_r29_i333_sroa_4_0_r26_i66_i374_sroa_idx_i_i_i_i, 131u);
@@ -51767,7 +51839,7 @@ L_else_11_i342_i_i_i_i:;
     v_r164_i348_i_i_i_i = (u8)(v_r16022_i347690_i_i_i_i);
     v_r168_i349_i_i_i_i = (u8)(v_r21_i_i75_i_i_i_i_i_i_i);
     v_r17_i82_i357_i_i_i_i = (u64)((u64)(v_a1_val6_i_i73_i_i_i_i_i_i_i) + (u64)(18446744073709551610ull));
-    v_r26_i84_i359_i_i_i_i = (P)((uintptr_t)v_r4 + (u64)(v_r17_i82_i357_i_i_i_i));
+    v_r26_i84_i359_i_i_i_i = (P)((u64)v_r4 + (u64)(v_r17_i82_i357_i_i_i_i));
     put_u8(v_r26_i84_i359_i_i_i_i, 162u);
     v_r40_i334_sroa_4_0_r26_i84_i359_sroa_idx_i_i_i_i = v_r26_i84_i359_i_i_i_i + 1;
     put_u8(v_r40_i334_sroa_4_0_r26_i84_i359_sroa_idx_i_i_i_i, 132u);
@@ -51810,7 +51882,7 @@ L_then_1_i320_i_i_i_i:;
     v_r64_i321_i_i_i_i = (u16)(v_r17_i_i_i206_i_i_i_i_i_i_i);
     v_r17_i_i325_i_i_i_i = (u64)((u64)(v_a1_val2_i_i204_i_i_i_i_i_i_i) + (u64)(18446744073709551614ull));
     v_r20_i_i326_i_i_i_i = get_P(v_r7_i_i309_i_i);
-    v_r26_i_i327_i_i_i_i = (P)((uintptr_t)v_r20_i_i326_i_i_i_i + (u64)(v_r17_i_i325_i_i_i_i));
+    v_r26_i_i327_i_i_i_i = (P)((u64)v_r20_i_i326_i_i_i_i + (u64)(v_r17_i_i325_i_i_i_i));
     v_r8_i254_sroa_4_0_insert_shift_i_i_i_i = (u16)((u32)(v_r64_i321_i_i_i_i) << (u32)((8u & 31)));
     v_r8_i254_sroa_0_0_insert_insert_i_i_i_i = (u16)((u32)(v_r8_i254_sroa_4_0_insert_shift_i_i_i_i) | (u32)(48u));
     put_u16(v_r26_i_i327_i_i_i_i, v_r8_i254_sroa_0_0_insert_insert_i_i_i_i);
@@ -51822,7 +51894,7 @@ L_then_4_i311_i_i_i_i:;
     v_r80_i312_i_i_i_i = (u8)(v_r17_i_i_i206_i_i_i_i_i_i_i);
     v_r17_i28_i317_i_i_i_i = (u64)((u64)(v_a1_val2_i_i204_i_i_i_i_i_i_i) + (u64)(18446744073709551613ull));
     v_r20_i29_i318_i_i_i_i = get_P(v_r7_i_i309_i_i);
-    v_r26_i30_i319_i_i_i_i = (P)((uintptr_t)v_r20_i29_i318_i_i_i_i + (u64)(v_r17_i28_i317_i_i_i_i));
+    v_r26_i30_i319_i_i_i_i = (P)((u64)v_r20_i29_i318_i_i_i_i + (u64)(v_r17_i28_i317_i_i_i_i));
     put_u8(v_r26_i30_i319_i_i_i_i, 48u);
     v_r14_i255_sroa_4_0_r26_i30_i319_sroa_idx_i_i_i_i = v_r26_i30_i319_i_i_i_i + 1;
     put_u8(v_r14_i255_sroa_4_0_r26_i30_i319_sroa_idx_i_i_i_i, 129u);
@@ -51835,7 +51907,7 @@ L_else_5_i262_i_i_i_i:;
 L_then_7_i299_i_i_i_i:;
     v_r17_i46_i307_i_i_i_i = (u64)((u64)(v_a1_val2_i_i204_i_i_i_i_i_i_i) + (u64)(18446744073709551612ull));
     v_r20_i47_i308_i_i_i_i = get_P(v_r7_i_i309_i_i);
-    v_r26_i48_i309_i_i_i_i = (P)((uintptr_t)v_r20_i47_i308_i_i_i_i + (u64)(v_r17_i46_i307_i_i_i_i));
+    v_r26_i48_i309_i_i_i_i = (P)((u64)v_r20_i47_i308_i_i_i_i + (u64)(v_r17_i46_i307_i_i_i_i));
     v_14 = (u32)((u32)(v_r2_i_i_i207_i_i_i_i_i_i_i) | (u32)(813826048u));
     v_r20_i256_sroa_0_0_insert_insert_i_i_i_i = __builtin_bswap32(v_14);
     put_u32(v_r26_i48_i309_i_i_i_i, v_r20_i256_sroa_0_0_insert_insert_i_i_i_i);
@@ -51851,7 +51923,7 @@ L_then_10_i284_i_i_i_i:;
     v_r134_i289_i_i_i_i = (u8)(v_r17_i_i_i206_i_i_i_i_i_i_i);
     v_r17_i64_i296_i_i_i_i = (u64)((u64)(v_a1_val2_i_i204_i_i_i_i_i_i_i) + (u64)(18446744073709551611ull));
     v_r20_i65_i297_i_i_i_i = get_P(v_r7_i_i309_i_i);
-    v_r26_i66_i298_i_i_i_i = (P)((uintptr_t)v_r20_i65_i297_i_i_i_i + (u64)(v_r17_i64_i296_i_i_i_i));
+    v_r26_i66_i298_i_i_i_i = (P)((u64)v_r20_i65_i297_i_i_i_i + (u64)(v_r17_i64_i296_i_i_i_i));
     put_u8(v_r26_i66_i298_i_i_i_i, 48u);
     v_r29_i257_sroa_4_0_r26_i66_i298_sroa_idx_i_i_i_i = v_r26_i66_i298_i_i_i_i + 1;
     put_u8(v_r29_i257_sroa_4_0_r26_i66_i298_sroa_idx_i_i_i_i, 131u);
@@ -51872,7 +51944,7 @@ L_else_11_i266_i_i_i_i:;
     v_r168_i273_i_i_i_i = (u8)(v_r17_i_i_i206_i_i_i_i_i_i_i);
     v_r17_i82_i281_i_i_i_i = (u64)((u64)(v_a1_val2_i_i204_i_i_i_i_i_i_i) + (u64)(18446744073709551610ull));
     v_r20_i83_i282_i_i_i_i = get_P(v_r7_i_i309_i_i);
-    v_r26_i84_i283_i_i_i_i = (P)((uintptr_t)v_r20_i83_i282_i_i_i_i + (u64)(v_r17_i82_i281_i_i_i_i));
+    v_r26_i84_i283_i_i_i_i = (P)((u64)v_r20_i83_i282_i_i_i_i + (u64)(v_r17_i82_i281_i_i_i_i));
     put_u8(v_r26_i84_i283_i_i_i_i, 48u);
     v_r40_i258_sroa_4_0_r26_i84_i283_sroa_idx_i_i_i_i = v_r26_i84_i283_i_i_i_i + 1;
     put_u8(v_r40_i258_sroa_4_0_r26_i84_i283_sroa_idx_i_i_i_i, 132u);
@@ -51895,7 +51967,7 @@ L_der_core_back_writer_BackWriter_prepend_header_exi__2:;
 L_then_1_i244_i_i_i_i:;
     v_r64_i245_i_i_i_i = (u16)(v_r21_i_i211_i_i_i_i_i_i_i);
     v_r17_i_i249_i_i_i_i = (u64)((u64)(v_a1_val6_i_i209_i_i_i_i_i_i_i) + (u64)(18446744073709551614ull));
-    v_r26_i_i251_i_i_i_i = (P)((uintptr_t)v_r20_i_i250_i_i_i_i + (u64)(v_r17_i_i249_i_i_i_i));
+    v_r26_i_i251_i_i_i_i = (P)((u64)v_r20_i_i250_i_i_i_i + (u64)(v_r17_i_i249_i_i_i_i));
     v_r8_i178_sroa_4_0_insert_shift_i_i_i_i = (u16)((u32)(v_r64_i245_i_i_i_i) << (u32)((8u & 31)));
     v_r8_i178_sroa_0_0_insert_insert_i_i_i_i = (u16)((u32)(v_r8_i178_sroa_4_0_insert_shift_i_i_i_i) | (u32)(160u));
     put_u16(v_r26_i_i251_i_i_i_i, v_r8_i178_sroa_0_0_insert_insert_i_i_i_i);
@@ -51906,7 +51978,7 @@ L_else_2_i184_i_i_i_i:;
 L_then_4_i235_i_i_i_i:;
     v_r80_i236_i_i_i_i = (u8)(v_r21_i_i211_i_i_i_i_i_i_i);
     v_r17_i28_i241_i_i_i_i = (u64)((u64)(v_a1_val6_i_i209_i_i_i_i_i_i_i) + (u64)(18446744073709551613ull));
-    v_r26_i30_i243_i_i_i_i = (P)((uintptr_t)v_r20_i_i250_i_i_i_i + (u64)(v_r17_i28_i241_i_i_i_i));
+    v_r26_i30_i243_i_i_i_i = (P)((u64)v_r20_i_i250_i_i_i_i + (u64)(v_r17_i28_i241_i_i_i_i));
     put_u8(v_r26_i30_i243_i_i_i_i, 160u);
     v_r14_i179_sroa_4_0_r26_i30_i243_sroa_idx_i_i_i_i = v_r26_i30_i243_i_i_i_i + 1;
     put_u8(v_r14_i179_sroa_4_0_r26_i30_i243_sroa_idx_i_i_i_i, 129u);
@@ -51918,7 +51990,7 @@ L_else_5_i186_i_i_i_i:;
     if (v_r92_i187_i_i_i_i) { goto L_then_7_i223_i_i_i_i; } else { goto L_else_8_i188_i_i_i_i; }
 L_then_7_i223_i_i_i_i:;
     v_r17_i46_i231_i_i_i_i = (u64)((u64)(v_a1_val6_i_i209_i_i_i_i_i_i_i) + (u64)(18446744073709551612ull));
-    v_r26_i48_i233_i_i_i_i = (P)((uintptr_t)v_r20_i_i250_i_i_i_i + (u64)(v_r17_i46_i231_i_i_i_i));
+    v_r26_i48_i233_i_i_i_i = (P)((u64)v_r20_i_i250_i_i_i_i + (u64)(v_r17_i46_i231_i_i_i_i));
     v_15 = (u32)((u32)(v_r2_i12_i_i212_i_i_i_i_i_i_i) | (u32)(2692874240ull));
     v_r20_i180_sroa_0_0_insert_insert_i_i_i_i = __builtin_bswap32(v_15);
     put_u32(v_r26_i48_i233_i_i_i_i, v_r20_i180_sroa_0_0_insert_insert_i_i_i_i);
@@ -51933,7 +52005,7 @@ L_then_10_i208_i_i_i_i:;
     v_r130_i212_i_i_i_i = (u8)(v_r12624_i211706_i_i_i_i);
     v_r134_i213_i_i_i_i = (u8)(v_r21_i_i211_i_i_i_i_i_i_i);
     v_r17_i64_i220_i_i_i_i = (u64)((u64)(v_a1_val6_i_i209_i_i_i_i_i_i_i) + (u64)(18446744073709551611ull));
-    v_r26_i66_i222_i_i_i_i = (P)((uintptr_t)v_r20_i_i250_i_i_i_i + (u64)(v_r17_i64_i220_i_i_i_i));
+    v_r26_i66_i222_i_i_i_i = (P)((u64)v_r20_i_i250_i_i_i_i + (u64)(v_r17_i64_i220_i_i_i_i));
     put_u8(v_r26_i66_i222_i_i_i_i, 160u);
     v_r29_i181_sroa_4_0_r26_i66_i222_sroa_idx_i_i_i_i = v_r26_i66_i222_i_i_i_i + 1;
     put_u8(v_r29_i181_sroa_4_0_r26_i66_i222_sroa_idx_i_i_i_i, 131u);
@@ -51953,7 +52025,7 @@ L_else_11_i190_i_i_i_i:;
     v_r164_i196_i_i_i_i = (u8)(v_r16022_i195704_i_i_i_i);
     v_r168_i197_i_i_i_i = (u8)(v_r21_i_i211_i_i_i_i_i_i_i);
     v_r17_i82_i205_i_i_i_i = (u64)((u64)(v_a1_val6_i_i209_i_i_i_i_i_i_i) + (u64)(18446744073709551610ull));
-    v_r26_i84_i207_i_i_i_i = (P)((uintptr_t)v_r20_i_i250_i_i_i_i + (u64)(v_r17_i82_i205_i_i_i_i));
+    v_r26_i84_i207_i_i_i_i = (P)((u64)v_r20_i_i250_i_i_i_i + (u64)(v_r17_i82_i205_i_i_i_i));
     put_u8(v_r26_i84_i207_i_i_i_i, 160u);
     v_r40_i182_sroa_4_0_r26_i84_i207_sroa_idx_i_i_i_i = v_r26_i84_i207_i_i_i_i + 1;
     put_u8(v_r40_i182_sroa_4_0_r26_i84_i207_sroa_idx_i_i_i_i, 132u);
@@ -51977,7 +52049,7 @@ L_then_1_i168_i_i_i_i:;
     v_r64_i169_i_i_i_i = (u16)(v_r17_i_i9_i_i_i_i_i);
     v_r17_i_i173_i_i_i_i = (u64)((u64)(v_r12_i_i172_i_i_i_i) + (u64)(18446744073709551614ull));
     v_r20_i_i174_i_i_i_i = get_P(v_r7_i_i309_i_i);
-    v_r26_i_i175_i_i_i_i = (P)((uintptr_t)v_r20_i_i174_i_i_i_i + (u64)(v_r17_i_i173_i_i_i_i));
+    v_r26_i_i175_i_i_i_i = (P)((u64)v_r20_i_i174_i_i_i_i + (u64)(v_r17_i_i173_i_i_i_i));
     v_r8_i102_sroa_4_0_insert_shift_i_i_i_i = (u16)((u32)(v_r64_i169_i_i_i_i) << (u32)((8u & 31)));
     v_r8_i102_sroa_0_0_insert_insert_i_i_i_i = (u16)((u32)(v_r8_i102_sroa_4_0_insert_shift_i_i_i_i) | (u32)(48u));
     put_u16(v_r26_i_i175_i_i_i_i, v_r8_i102_sroa_0_0_insert_insert_i_i_i_i);
@@ -51989,7 +52061,7 @@ L_then_4_i159_i_i_i_i:;
     v_r80_i160_i_i_i_i = (u8)(v_r17_i_i9_i_i_i_i_i);
     v_r17_i28_i165_i_i_i_i = (u64)((u64)(v_r12_i_i172_i_i_i_i) + (u64)(18446744073709551613ull));
     v_r20_i29_i166_i_i_i_i = get_P(v_r7_i_i309_i_i);
-    v_r26_i30_i167_i_i_i_i = (P)((uintptr_t)v_r20_i29_i166_i_i_i_i + (u64)(v_r17_i28_i165_i_i_i_i));
+    v_r26_i30_i167_i_i_i_i = (P)((u64)v_r20_i29_i166_i_i_i_i + (u64)(v_r17_i28_i165_i_i_i_i));
     put_u8(v_r26_i30_i167_i_i_i_i, 48u);
     v_r14_i103_sroa_4_0_r26_i30_i167_sroa_idx_i_i_i_i = v_r26_i30_i167_i_i_i_i + 1;
     put_u8(v_r14_i103_sroa_4_0_r26_i30_i167_sroa_idx_i_i_i_i, 129u);
@@ -52002,7 +52074,7 @@ L_else_5_i110_i_i_i_i:;
 L_then_7_i147_i_i_i_i:;
     v_r17_i46_i155_i_i_i_i = (u64)((u64)(v_r12_i_i172_i_i_i_i) + (u64)(18446744073709551612ull));
     v_r20_i47_i156_i_i_i_i = get_P(v_r7_i_i309_i_i);
-    v_r26_i48_i157_i_i_i_i = (P)((uintptr_t)v_r20_i47_i156_i_i_i_i + (u64)(v_r17_i46_i155_i_i_i_i));
+    v_r26_i48_i157_i_i_i_i = (P)((u64)v_r20_i47_i156_i_i_i_i + (u64)(v_r17_i46_i155_i_i_i_i));
     v_16 = (u32)((u32)(v_r2_i_i_i_i_i_i_i) | (u32)(813826048u));
     v_r20_i104_sroa_0_0_insert_insert_i_i_i_i = __builtin_bswap32(v_16);
     put_u32(v_r26_i48_i157_i_i_i_i, v_r20_i104_sroa_0_0_insert_insert_i_i_i_i);
@@ -52018,7 +52090,7 @@ L_then_10_i132_i_i_i_i:;
     v_r134_i137_i_i_i_i = (u8)(v_r17_i_i9_i_i_i_i_i);
     v_r17_i64_i144_i_i_i_i = (u64)((u64)(v_r12_i_i172_i_i_i_i) + (u64)(18446744073709551611ull));
     v_r20_i65_i145_i_i_i_i = get_P(v_r7_i_i309_i_i);
-    v_r26_i66_i146_i_i_i_i = (P)((uintptr_t)v_r20_i65_i145_i_i_i_i + (u64)(v_r17_i64_i144_i_i_i_i));
+    v_r26_i66_i146_i_i_i_i = (P)((u64)v_r20_i65_i145_i_i_i_i + (u64)(v_r17_i64_i144_i_i_i_i));
     put_u8(v_r26_i66_i146_i_i_i_i, 48u);
     v_r29_i105_sroa_4_0_r26_i66_i146_sroa_idx_i_i_i_i = v_r26_i66_i146_i_i_i_i + 1;
     put_u8(v_r29_i105_sroa_4_0_r26_i66_i146_sroa_idx_i_i_i_i, 131u);
@@ -52039,7 +52111,7 @@ L_else_11_i114_i_i_i_i:;
     v_r168_i121_i_i_i_i = (u8)(v_r17_i_i9_i_i_i_i_i);
     v_r17_i82_i129_i_i_i_i = (u64)((u64)(v_r12_i_i172_i_i_i_i) + (u64)(18446744073709551610ull));
     v_r20_i83_i130_i_i_i_i = get_P(v_r7_i_i309_i_i);
-    v_r26_i84_i131_i_i_i_i = (P)((uintptr_t)v_r20_i83_i130_i_i_i_i + (u64)(v_r17_i82_i129_i_i_i_i));
+    v_r26_i84_i131_i_i_i_i = (P)((u64)v_r20_i83_i130_i_i_i_i + (u64)(v_r17_i82_i129_i_i_i_i));
     put_u8(v_r26_i84_i131_i_i_i_i, 48u);
     v_r40_i106_sroa_4_0_r26_i84_i131_sroa_idx_i_i_i_i = v_r26_i84_i131_i_i_i_i + 1;
     put_u8(v_r40_i106_sroa_4_0_r26_i84_i131_sroa_idx_i_i_i_i, 132u);
@@ -52055,37 +52127,37 @@ L_else_11_i114_i_i_i_i:;
 L_der_core_last_part_LastEncodeValue_prepend_value_0:;
     v_r20_i_i11_i_i_i_i_i = p_v_r20_i_i11_i_i_i_i_i;
     v_a1_val6_i_i_i_i_i = p_v_a1_val6_i_i_i_i_i;
-    v_17 = (P)((uintptr_t)v_r20_i_i11_i_i_i_i_i + (u64)(v_a1_val6_i_i_i_i_i));
-    v_r26_i_i_i_i_i_i_i = (P)((uintptr_t)v_17 + (u64)(-9));
-    v_r8_i_i_i_i_i_i_i_i_i_i_i_i_i = (u64)((uintptr_t)v_r26_i_i_i_i_i_i_i);
-    v_r10_i_i_i_i_i_i_i_i_i_i_i_i_i = (u64)((u64)(v_r8_i_i_i_i_i_i_i_i_i_i_i_i_i) - (u64)((u64)(uintptr_t)(P)f_static_32));
+    v_17 = (P)((u64)v_r20_i_i11_i_i_i_i_i + (u64)(v_a1_val6_i_i_i_i_i));
+    v_r26_i_i_i_i_i_i_i = (P)((u64)v_17 + (u64)(-9));
+    v_r8_i_i_i_i_i_i_i_i_i_i_i_i_i = (u64)((u64)v_r26_i_i_i_i_i_i_i);
+    v_r10_i_i_i_i_i_i_i_i_i_i_i_i_i = (u64)((u64)(v_r8_i_i_i_i_i_i_i_i_i_i_i_i_i) - (u64)((u64)AT(f_static_32)));
     v_r11_i_i_i_i_i_i_i_i_i_i_i_i_i = v_r10_i_i_i_i_i_i_i_i_i_i_i_i_i < 9u;
     if (v_r11_i_i_i_i_i_i_i_i_i_i_i_i_i) { goto L_join_7_i_i_i_i_i_i_i_i_i_i_i_preheader_i_i; } else { goto L_apart_2_i_i_i_i_i_i_i_i_i_i_i_i_i; }
 L_join_7_i_i_i_i_i_i_i_i_i_i_i_preheader_i_i:;
     put_u8(v_r26_i_i_i_i_i_i_i, 42u);
-    v_r20_i_i_i_i_i_i_i_i_i_i_i_1_i_i = (P)((uintptr_t)v_17 + (u64)(-8));
+    v_r20_i_i_i_i_i_i_i_i_i_i_i_1_i_i = (P)((u64)v_17 + (u64)(-8));
     put_u8(v_r20_i_i_i_i_i_i_i_i_i_i_i_1_i_i, 134u);
-    v_r20_i_i_i_i_i_i_i_i_i_i_i_2_i_i = (P)((uintptr_t)v_17 + (u64)(-7));
+    v_r20_i_i_i_i_i_i_i_i_i_i_i_2_i_i = (P)((u64)v_17 + (u64)(-7));
     put_u8(v_r20_i_i_i_i_i_i_i_i_i_i_i_2_i_i, 72u);
-    v_r20_i_i_i_i_i_i_i_i_i_i_i_3_i_i = (P)((uintptr_t)v_17 + (u64)(-6));
+    v_r20_i_i_i_i_i_i_i_i_i_i_i_3_i_i = (P)((u64)v_17 + (u64)(-6));
     put_u8(v_r20_i_i_i_i_i_i_i_i_i_i_i_3_i_i, 134u);
-    v_r20_i_i_i_i_i_i_i_i_i_i_i_4_i_i = (P)((uintptr_t)v_17 + (u64)(-5));
+    v_r20_i_i_i_i_i_i_i_i_i_i_i_4_i_i = (P)((u64)v_17 + (u64)(-5));
     put_u8(v_r20_i_i_i_i_i_i_i_i_i_i_i_4_i_i, 247u);
-    v_r20_i_i_i_i_i_i_i_i_i_i_i_5_i_i = (P)((uintptr_t)v_17 + (u64)(-4));
+    v_r20_i_i_i_i_i_i_i_i_i_i_i_5_i_i = (P)((u64)v_17 + (u64)(-4));
     put_u8(v_r20_i_i_i_i_i_i_i_i_i_i_i_5_i_i, 13u);
-    v_r20_i_i_i_i_i_i_i_i_i_i_i_6_i_i = (P)((uintptr_t)v_17 + (u64)(-3));
+    v_r20_i_i_i_i_i_i_i_i_i_i_i_6_i_i = (P)((u64)v_17 + (u64)(-3));
     put_u8(v_r20_i_i_i_i_i_i_i_i_i_i_i_6_i_i, 1u);
-    v_r20_i_i_i_i_i_i_i_i_i_i_i_7_i_i = (P)((uintptr_t)v_17 + (u64)(-2));
+    v_r20_i_i_i_i_i_i_i_i_i_i_i_7_i_i = (P)((u64)v_17 + (u64)(-2));
     put_u8(v_r20_i_i_i_i_i_i_i_i_i_i_i_7_i_i, 1u);
-    v_r20_i_i_i_i_i_i_i_i_i_i_i_8_i_i = (P)((uintptr_t)v_17 + (u64)(-1));
+    v_r20_i_i_i_i_i_i_i_i_i_i_i_8_i_i = (P)((u64)v_17 + (u64)(-1));
     put_u8(v_r20_i_i_i_i_i_i_i_i_i_i_i_8_i_i, 10u);
     { goto L_der_core_back_writer_BackWriter_prepend_header_exi__3; }
 L_apart_2_i_i_i_i_i_i_i_i_i_i_i_i_i:;
-    copy(v_r26_i_i_i_i_i_i_i, (P)f_static_32, 9u);
+    copy(v_r26_i_i_i_i_i_i_i, AT(f_static_32), 9u);
     { goto L_der_core_back_writer_BackWriter_prepend_header_exi__3; }
 L_der_core_back_writer_BackWriter_prepend_header_exi__3:;
     v_r17_i_i97_i_i_i_i = (u64)((u64)(v_a1_val6_i_i_i_i_i) + (u64)(18446744073709551605ull));
-    v_r26_i_i99_i_i_i_i = (P)((uintptr_t)v_r20_i_i11_i_i_i_i_i + (u64)(v_r17_i_i97_i_i_i_i));
+    v_r26_i_i99_i_i_i_i = (P)((u64)v_r20_i_i11_i_i_i_i_i + (u64)(v_r17_i_i97_i_i_i_i));
     put_u16(v_r26_i_i99_i_i_i_i, 2310u);
     v_r9_i25_i_i_i_i = (u64)((u64)(v_a1_val_i_i_i_i_i_i) - (u64)(v_r17_i_i97_i_i_i_i));
     v_r2_i_i_i_i_i = (u32)(v_r9_i25_i_i_i_i);
@@ -52093,7 +52165,7 @@ L_der_core_back_writer_BackWriter_prepend_header_exi__3:;
     if (v_r59_i_i_i_i_i) { goto L_then_1_i_i_i_i_i; } else { goto L_else_2_i_i_i_i_i; }
 L_then_1_i_i_i_i_i:;
     v_r64_i_i_i_i_i = (u16)(v_r9_i25_i_i_i_i);
-    v_r26_i_i_i_i_i_i = (P)((uintptr_t)v_r26_i_i99_i_i_i_i + (u64)(-2));
+    v_r26_i_i_i_i_i_i = (P)((u64)v_r26_i_i99_i_i_i_i + (u64)(-2));
     v_r8_i_sroa_4_0_insert_shift_i_i_i_i = (u16)((u32)(v_r64_i_i_i_i_i) << (u32)((8u & 31)));
     v_r8_i_sroa_0_0_insert_insert_i_i_i_i = (u16)((u32)(v_r8_i_sroa_4_0_insert_shift_i_i_i_i) | (u32)(48u));
     put_u16(v_r26_i_i_i_i_i_i, v_r8_i_sroa_0_0_insert_insert_i_i_i_i);
@@ -52103,18 +52175,18 @@ L_else_2_i_i_i_i_i:;
     if (v_r75_i_i_i_i_i) { goto L_then_4_i_i_i_i_i; } else { goto L_else_5_i_i_i_i_i; }
 L_then_4_i_i_i_i_i:;
     v_r80_i_i_i_i_i = (u8)(v_r9_i25_i_i_i_i);
-    v_r26_i30_i_i_i_i_i = (P)((uintptr_t)v_r26_i_i99_i_i_i_i + (u64)(-3));
+    v_r26_i30_i_i_i_i_i = (P)((u64)v_r26_i_i99_i_i_i_i + (u64)(-3));
     put_u8(v_r26_i30_i_i_i_i_i, 48u);
-    v_r14_i_sroa_4_0_r26_i30_i_sroa_idx_i_i_i_i = (P)((uintptr_t)v_r26_i_i99_i_i_i_i + (u64)(-2));
+    v_r14_i_sroa_4_0_r26_i30_i_sroa_idx_i_i_i_i = (P)((u64)v_r26_i_i99_i_i_i_i + (u64)(-2));
     put_u8(v_r14_i_sroa_4_0_r26_i30_i_sroa_idx_i_i_i_i, 129u);
-    v_r14_i_sroa_5_0_r26_i30_i_sroa_idx_i_i_i_i = (P)((uintptr_t)v_r26_i_i99_i_i_i_i + (u64)(-1));
+    v_r14_i_sroa_5_0_r26_i30_i_sroa_idx_i_i_i_i = (P)((u64)v_r26_i_i99_i_i_i_i + (u64)(-1));
     put_u8(v_r14_i_sroa_5_0_r26_i30_i_sroa_idx_i_i_i_i, v_r80_i_i_i_i_i);
     { goto L_arm_1_i312_i_i; }
 L_else_5_i_i_i_i_i:;
     v_r92_i_i_i_i_i = v_r2_i_i_i_i_i < 65536u;
     if (v_r92_i_i_i_i_i) { goto L_then_7_i_i_i_i_i; } else { goto L_else_8_i_i_i_i_i; }
 L_then_7_i_i_i_i_i:;
-    v_r26_i48_i_i_i_i_i = (P)((uintptr_t)v_r26_i_i99_i_i_i_i + (u64)(-4));
+    v_r26_i48_i_i_i_i_i = (P)((u64)v_r26_i_i99_i_i_i_i + (u64)(-4));
     v_18 = (u32)((u32)(v_r2_i_i_i_i_i) | (u32)(813826048u));
     v_r20_i_sroa_0_0_insert_insert_i_i_i_i = __builtin_bswap32(v_18);
     put_u32(v_r26_i48_i_i_i_i_i, v_r20_i_sroa_0_0_insert_insert_i_i_i_i);
@@ -52128,15 +52200,15 @@ L_then_10_i_i_i_i_i:;
     v_r12624_i727_i_i_i_i = (u64)((u64)(v_r9_i25_i_i_i_i) >> (u64)((8u & 63)));
     v_r130_i_i_i_i_i = (u8)(v_r12624_i727_i_i_i_i);
     v_r134_i_i_i_i_i = (u8)(v_r9_i25_i_i_i_i);
-    v_r26_i66_i_i_i_i_i = (P)((uintptr_t)v_r26_i_i99_i_i_i_i + (u64)(-5));
+    v_r26_i66_i_i_i_i_i = (P)((u64)v_r26_i_i99_i_i_i_i + (u64)(-5));
     put_u8(v_r26_i66_i_i_i_i_i, 48u);
-    v_r29_i_sroa_4_0_r26_i66_i_sroa_idx_i_i_i_i = (P)((uintptr_t)v_r26_i_i99_i_i_i_i + (u64)(-4));
+    v_r29_i_sroa_4_0_r26_i66_i_sroa_idx_i_i_i_i = (P)((u64)v_r26_i_i99_i_i_i_i + (u64)(-4));
     put_u8(v_r29_i_sroa_4_0_r26_i66_i_sroa_idx_i_i_i_i, 131u);
-    v_r29_i_sroa_5_0_r26_i66_i_sroa_idx_i_i_i_i = (P)((uintptr_t)v_r26_i_i99_i_i_i_i + (u64)(-3));
+    v_r29_i_sroa_5_0_r26_i66_i_sroa_idx_i_i_i_i = (P)((u64)v_r26_i_i99_i_i_i_i + (u64)(-3));
     put_u8(v_r29_i_sroa_5_0_r26_i66_i_sroa_idx_i_i_i_i, v_r124_i_i_i_i_i);
-    v_r29_i_sroa_6_0_r26_i66_i_sroa_idx_i_i_i_i = (P)((uintptr_t)v_r26_i_i99_i_i_i_i + (u64)(-2));
+    v_r29_i_sroa_6_0_r26_i66_i_sroa_idx_i_i_i_i = (P)((u64)v_r26_i_i99_i_i_i_i + (u64)(-2));
     put_u8(v_r29_i_sroa_6_0_r26_i66_i_sroa_idx_i_i_i_i, v_r130_i_i_i_i_i);
-    v_r29_i_sroa_7_0_r26_i66_i_sroa_idx_i_i_i_i = (P)((uintptr_t)v_r26_i_i99_i_i_i_i + (u64)(-1));
+    v_r29_i_sroa_7_0_r26_i66_i_sroa_idx_i_i_i_i = (P)((u64)v_r26_i_i99_i_i_i_i + (u64)(-1));
     put_u8(v_r29_i_sroa_7_0_r26_i66_i_sroa_idx_i_i_i_i, v_r134_i_i_i_i_i);
     { goto L_arm_1_i312_i_i; }
 L_else_11_i_i_i_i_i:;
@@ -52147,17 +52219,17 @@ L_else_11_i_i_i_i_i:;
     v_r16022_i725_i_i_i_i = (u64)((u64)(v_r9_i25_i_i_i_i) >> (u64)((8u & 63)));
     v_r164_i_i_i_i_i = (u8)(v_r16022_i725_i_i_i_i);
     v_r168_i_i_i_i_i = (u8)(v_r9_i25_i_i_i_i);
-    v_r26_i84_i_i_i_i_i = (P)((uintptr_t)v_r26_i_i99_i_i_i_i + (u64)(-6));
+    v_r26_i84_i_i_i_i_i = (P)((u64)v_r26_i_i99_i_i_i_i + (u64)(-6));
     put_u8(v_r26_i84_i_i_i_i_i, 48u);
-    v_r40_i_sroa_4_0_r26_i84_i_sroa_idx_i_i_i_i = (P)((uintptr_t)v_r26_i_i99_i_i_i_i + (u64)(-5));
+    v_r40_i_sroa_4_0_r26_i84_i_sroa_idx_i_i_i_i = (P)((u64)v_r26_i_i99_i_i_i_i + (u64)(-5));
     put_u8(v_r40_i_sroa_4_0_r26_i84_i_sroa_idx_i_i_i_i, 132u);
-    v_r40_i_sroa_5_0_r26_i84_i_sroa_idx_i_i_i_i = (P)((uintptr_t)v_r26_i_i99_i_i_i_i + (u64)(-4));
+    v_r40_i_sroa_5_0_r26_i84_i_sroa_idx_i_i_i_i = (P)((u64)v_r26_i_i99_i_i_i_i + (u64)(-4));
     put_u8(v_r40_i_sroa_5_0_r26_i84_i_sroa_idx_i_i_i_i, v_r152_i_i_i_i_i);
-    v_r40_i_sroa_6_0_r26_i84_i_sroa_idx_i_i_i_i = (P)((uintptr_t)v_r26_i_i99_i_i_i_i + (u64)(-3));
+    v_r40_i_sroa_6_0_r26_i84_i_sroa_idx_i_i_i_i = (P)((u64)v_r26_i_i99_i_i_i_i + (u64)(-3));
     put_u8(v_r40_i_sroa_6_0_r26_i84_i_sroa_idx_i_i_i_i, v_r158_i_i_i_i_i);
-    v_r40_i_sroa_7_0_r26_i84_i_sroa_idx_i_i_i_i = (P)((uintptr_t)v_r26_i_i99_i_i_i_i + (u64)(-2));
+    v_r40_i_sroa_7_0_r26_i84_i_sroa_idx_i_i_i_i = (P)((u64)v_r26_i_i99_i_i_i_i + (u64)(-2));
     put_u8(v_r40_i_sroa_7_0_r26_i84_i_sroa_idx_i_i_i_i, v_r164_i_i_i_i_i);
-    v_r40_i_sroa_8_0_r26_i84_i_sroa_idx_i_i_i_i = (P)((uintptr_t)v_r26_i_i99_i_i_i_i + (u64)(-1));
+    v_r40_i_sroa_8_0_r26_i84_i_sroa_idx_i_i_i_i = (P)((u64)v_r26_i_i99_i_i_i_i + (u64)(-1));
     put_u8(v_r40_i_sroa_8_0_r26_i84_i_sroa_idx_i_i_i_i, v_r168_i_i_i_i_i);
     { goto L_arm_1_i312_i_i; }
 L_arm_1_i312_i_i:;
@@ -52227,7 +52299,7 @@ L_pkcs1_c_pss_algorithm_pkcs1_c_pss_algorithm_encode:;
     v_r6_0_i = p_v_r6_0_i;
     return v_r6_0_i;
 }
-u32 pkcs1_c_oaep_params_encode(P v_a0, P v_a1, u64 v_a2, P v_a3) {
+u32 NAME(oaep_params_encode)(P v_a0, P v_a1, u64 v_a2, P v_a3) {
     ALIGNED(4) unsigned char m_v_r1_i273_i_i[8];
     ALIGNED(4) unsigned char m_v_r7_i126_i_i_i_i_i_i_i[8];
     ALIGNED(8) unsigned char m_v_r7_i255_i_i_i[24];
@@ -52929,14 +53001,14 @@ u32 pkcs1_c_oaep_params_encode(P v_a0, P v_a1, u64 v_a2, P v_a3) {
     u32 v_switch_idx_cast_i_i_i;
     u32 v_switch_offset_i_i_i;
     u32 v_r6_0_i;
-    v_r1_i273_i_i = m_v_r1_i273_i_i;
-    v_r7_i126_i_i_i_i_i_i_i = m_v_r7_i126_i_i_i_i_i_i_i;
-    v_r7_i255_i_i_i = m_v_r7_i255_i_i_i;
-    v_r3_i = m_v_r3_i;
-    v_r5_i = m_v_r5_i;
+    v_r1_i273_i_i = AT(m_v_r1_i273_i_i);
+    v_r7_i126_i_i_i_i_i_i_i = AT(m_v_r7_i126_i_i_i_i_i_i_i);
+    v_r7_i255_i_i_i = AT(m_v_r7_i255_i_i_i);
+    v_r3_i = AT(m_v_r3_i);
+    v_r5_i = AT(m_v_r5_i);
     v_r1 = v_a1 == (P)0;
     v_r3 = v_r1 ? 4096u : 0u;
-    v_r4 = (P)((uintptr_t)v_a1 + (u64)(v_r3));
+    v_r4 = (P)((u64)v_a1 + (u64)(v_r3));
     fill(v_r5_i, 0u, 176u);
     f_pkcs1_c_oaep_from_c_oaep(v_r5_i, v_a0);
     v_r12_i = get_u8(v_r5_i);
@@ -53440,7 +53512,7 @@ L_then_1_i320_i_i_i_i:;
     v_r64_i321_i_i_i_i = (u16)(v_r17_i_i_i136_i_i_i_i_i);
     v_r17_i_i325_i_i_i_i = (u64)((u64)(v_a1_val2_i_i134_i_i_i_i_i) + (u64)(18446744073709551614ull));
     v_r20_i_i326_i_i_i_i = get_P(v_r7_i255_i_i_i);
-    v_r26_i_i327_i_i_i_i = (P)((uintptr_t)v_r20_i_i326_i_i_i_i + (u64)(v_r17_i_i325_i_i_i_i));
+    v_r26_i_i327_i_i_i_i = (P)((u64)v_r20_i_i326_i_i_i_i + (u64)(v_r17_i_i325_i_i_i_i));
     v_r8_i254_sroa_4_0_insert_shift_i_i_i_i = (u16)((u32)(v_r64_i321_i_i_i_i) << (u32)((8u & 31)));
     v_r8_i254_sroa_0_0_insert_insert_i_i_i_i = (u16)((u32)(v_r8_i254_sroa_4_0_insert_shift_i_i_i_i) | (u32)(48u));
     put_u16(v_r26_i_i327_i_i_i_i, v_r8_i254_sroa_0_0_insert_insert_i_i_i_i);
@@ -53452,7 +53524,7 @@ L_then_4_i311_i_i_i_i:;
     v_r80_i312_i_i_i_i = (u8)(v_r17_i_i_i136_i_i_i_i_i);
     v_r17_i28_i317_i_i_i_i = (u64)((u64)(v_a1_val2_i_i134_i_i_i_i_i) + (u64)(18446744073709551613ull));
     v_r20_i29_i318_i_i_i_i = get_P(v_r7_i255_i_i_i);
-    v_r26_i30_i319_i_i_i_i = (P)((uintptr_t)v_r20_i29_i318_i_i_i_i + (u64)(v_r17_i28_i317_i_i_i_i));
+    v_r26_i30_i319_i_i_i_i = (P)((u64)v_r20_i29_i318_i_i_i_i + (u64)(v_r17_i28_i317_i_i_i_i));
     put_u8(v_r26_i30_i319_i_i_i_i, 48u);
     v_r14_i255_sroa_4_0_r26_i30_i319_sroa_idx_i_i_i_i = v_r26_i30_i319_i_i_i_i + 1;
     put_u8(v_r14_i255_sroa_4_0_r26_i30_i319_sroa_idx_i_i_i_i, 129u);
@@ -53465,7 +53537,7 @@ L_else_5_i262_i_i_i_i:;
 L_then_7_i299_i_i_i_i:;
     v_r17_i46_i307_i_i_i_i = (u64)((u64)(v_a1_val2_i_i134_i_i_i_i_i) + (u64)(18446744073709551612ull));
     v_r20_i47_i308_i_i_i_i = get_P(v_r7_i255_i_i_i);
-    v_r26_i48_i309_i_i_i_i = (P)((uintptr_t)v_r20_i47_i308_i_i_i_i + (u64)(v_r17_i46_i307_i_i_i_i));
+    v_r26_i48_i309_i_i_i_i = (P)((u64)v_r20_i47_i308_i_i_i_i + (u64)(v_r17_i46_i307_i_i_i_i));
     v_18 = (u32)((u32)(v_r2_i_i_i137_i_i_i_i_i) | (u32)(813826048u));
     v_r20_i256_sroa_0_0_insert_insert_i_i_i_i = __builtin_bswap32(v_18);
     put_u32(v_r26_i48_i309_i_i_i_i, v_r20_i256_sroa_0_0_insert_insert_i_i_i_i);
@@ -53481,7 +53553,7 @@ L_then_10_i284_i_i_i_i:;
     v_r134_i289_i_i_i_i = (u8)(v_r17_i_i_i136_i_i_i_i_i);
     v_r17_i64_i296_i_i_i_i = (u64)((u64)(v_a1_val2_i_i134_i_i_i_i_i) + (u64)(18446744073709551611ull));
     v_r20_i65_i297_i_i_i_i = get_P(v_r7_i255_i_i_i);
-    v_r26_i66_i298_i_i_i_i = (P)((uintptr_t)v_r20_i65_i297_i_i_i_i + (u64)(v_r17_i64_i296_i_i_i_i));
+    v_r26_i66_i298_i_i_i_i = (P)((u64)v_r20_i65_i297_i_i_i_i + (u64)(v_r17_i64_i296_i_i_i_i));
     put_u8(v_r26_i66_i298_i_i_i_i, 48u);
     v_r29_i257_sroa_4_0_r26_i66_i298_sroa_idx_i_i_i_i = v_r26_i66_i298_i_i_i_i + 1;
     put_u8(v_r29_i257_sroa_4_0_r26_i66_i298_sroa_idx_i_i_i_i, 131u);
@@ -53502,7 +53574,7 @@ L_else_11_i266_i_i_i_i:;
     v_r168_i273_i_i_i_i = (u8)(v_r17_i_i_i136_i_i_i_i_i);
     v_r17_i82_i281_i_i_i_i = (u64)((u64)(v_a1_val2_i_i134_i_i_i_i_i) + (u64)(18446744073709551610ull));
     v_r20_i83_i282_i_i_i_i = get_P(v_r7_i255_i_i_i);
-    v_r26_i84_i283_i_i_i_i = (P)((uintptr_t)v_r20_i83_i282_i_i_i_i + (u64)(v_r17_i82_i281_i_i_i_i));
+    v_r26_i84_i283_i_i_i_i = (P)((u64)v_r20_i83_i282_i_i_i_i + (u64)(v_r17_i82_i281_i_i_i_i));
     put_u8(v_r26_i84_i283_i_i_i_i, 48u);
     v_r40_i258_sroa_4_0_r26_i84_i283_sroa_idx_i_i_i_i = v_r26_i84_i283_i_i_i_i + 1;
     put_u8(v_r40_i258_sroa_4_0_r26_i84_i283_sroa_idx_i_i_i_i, 132u);
@@ -53525,7 +53597,7 @@ L_der_core_back_writer_BackWriter_prepend_header_exi:;
 L_then_1_i244_i_i_i_i:;
     v_r64_i245_i_i_i_i = (u16)(v_r21_i_i141_i_i_i_i_i);
     v_r17_i_i249_i_i_i_i = (u64)((u64)(v_a1_val6_i_i139_i_i_i_i_i) + (u64)(18446744073709551614ull));
-    v_r26_i_i251_i_i_i_i = (P)((uintptr_t)v_r20_i_i250_i_i_i_i + (u64)(v_r17_i_i249_i_i_i_i));
+    v_r26_i_i251_i_i_i_i = (P)((u64)v_r20_i_i250_i_i_i_i + (u64)(v_r17_i_i249_i_i_i_i));
     v_r8_i178_sroa_4_0_insert_shift_i_i_i_i = (u16)((u32)(v_r64_i245_i_i_i_i) << (u32)((8u & 31)));
     v_r8_i178_sroa_0_0_insert_insert_i_i_i_i = (u16)((u32)(v_r8_i178_sroa_4_0_insert_shift_i_i_i_i) | (u32)(162u));
     put_u16(v_r26_i_i251_i_i_i_i, v_r8_i178_sroa_0_0_insert_insert_i_i_i_i);
@@ -53536,7 +53608,7 @@ L_else_2_i184_i_i_i_i:;
 L_then_4_i235_i_i_i_i:;
     v_r80_i236_i_i_i_i = (u8)(v_r21_i_i141_i_i_i_i_i);
     v_r17_i28_i241_i_i_i_i = (u64)((u64)(v_a1_val6_i_i139_i_i_i_i_i) + (u64)(18446744073709551613ull));
-    v_r26_i30_i243_i_i_i_i = (P)((uintptr_t)v_r20_i_i250_i_i_i_i + (u64)(v_r17_i28_i241_i_i_i_i));
+    v_r26_i30_i243_i_i_i_i = (P)((u64)v_r20_i_i250_i_i_i_i + (u64)(v_r17_i28_i241_i_i_i_i));
     put_u8(v_r26_i30_i243_i_i_i_i, 162u);
     v_r14_i179_sroa_4_0_r26_i30_i243_sroa_idx_i_i_i_i = v_r26_i30_i243_i_i_i_i + 1;
     put_u8(v_r14_i179_sroa_4_0_r26_i30_i243_sroa_idx_i_i_i_i, 129u);
@@ -53548,7 +53620,7 @@ L_else_5_i186_i_i_i_i:;
     if (v_r92_i187_i_i_i_i) { goto L_then_7_i223_i_i_i_i; } else { goto L_else_8_i188_i_i_i_i; }
 L_then_7_i223_i_i_i_i:;
     v_r17_i46_i231_i_i_i_i = (u64)((u64)(v_a1_val6_i_i139_i_i_i_i_i) + (u64)(18446744073709551612ull));
-    v_r26_i48_i233_i_i_i_i = (P)((uintptr_t)v_r20_i_i250_i_i_i_i + (u64)(v_r17_i46_i231_i_i_i_i));
+    v_r26_i48_i233_i_i_i_i = (P)((u64)v_r20_i_i250_i_i_i_i + (u64)(v_r17_i46_i231_i_i_i_i));
     v_19 = (u32)((u32)(v_r2_i12_i_i142_i_i_i_i_i) | (u32)(2726428672ull));
     v_r20_i180_sroa_0_0_insert_insert_i_i_i_i = __builtin_bswap32(v_19);
     put_u32(v_r26_i48_i233_i_i_i_i, v_r20_i180_sroa_0_0_insert_insert_i_i_i_i);
@@ -53563,7 +53635,7 @@ L_then_10_i208_i_i_i_i:;
     v_r130_i212_i_i_i_i = (u8)(v_r12624_i211377_i_i_i_i);
     v_r134_i213_i_i_i_i = (u8)(v_r21_i_i141_i_i_i_i_i);
     v_r17_i64_i220_i_i_i_i = (u64)((u64)(v_a1_val6_i_i139_i_i_i_i_i) + (u64)(18446744073709551611ull));
-    v_r26_i66_i222_i_i_i_i = (P)((uintptr_t)v_r20_i_i250_i_i_i_i + (u64)(v_r17_i64_i220_i_i_i_i));
+    v_r26_i66_i222_i_i_i_i = (P)((u64)v_r20_i_i250_i_i_i_i + (u64)(v_r17_i64_i220_i_i_i_i));
     put_u8(v_r26_i66_i222_i_i_i_i, 162u);
     v_r29_i181_sroa_4_0_r26_i66_i222_sroa_idx_i_i_i_i = v_r26_i66_i222_i_i_i_i + 1;
     put_u8(v_r29_i181_sroa_4_0_r26_i66_i222_sroa_idx_i_i_i_i, 131u);
@@ -53583,7 +53655,7 @@ L_else_11_i190_i_i_i_i:;
     v_r164_i196_i_i_i_i = (u8)(v_r16022_i195375_i_i_i_i);
     v_r168_i197_i_i_i_i = (u8)(v_r21_i_i141_i_i_i_i_i);
     v_r17_i82_i205_i_i_i_i = (u64)((u64)(v_a1_val6_i_i139_i_i_i_i_i) + (u64)(18446744073709551610ull));
-    v_r26_i84_i207_i_i_i_i = (P)((uintptr_t)v_r20_i_i250_i_i_i_i + (u64)(v_r17_i82_i205_i_i_i_i));
+    v_r26_i84_i207_i_i_i_i = (P)((u64)v_r20_i_i250_i_i_i_i + (u64)(v_r17_i82_i205_i_i_i_i));
     put_u8(v_r26_i84_i207_i_i_i_i, 162u);
     v_r40_i182_sroa_4_0_r26_i84_i207_sroa_idx_i_i_i_i = v_r26_i84_i207_i_i_i_i + 1;
     put_u8(v_r40_i182_sroa_4_0_r26_i84_i207_sroa_idx_i_i_i_i, 132u);
@@ -53627,7 +53699,7 @@ L_then_1_i168_i_i_i_i:;
     v_r64_i169_i_i_i_i = (u16)(v_r17_i_i_i228_i_i_i_i_i);
     v_r17_i_i173_i_i_i_i = (u64)((u64)(v_a1_val2_i_i226_i_i_i_i_i) + (u64)(18446744073709551614ull));
     v_r20_i_i174_i_i_i_i = get_P(v_r7_i255_i_i_i);
-    v_r26_i_i175_i_i_i_i = (P)((uintptr_t)v_r20_i_i174_i_i_i_i + (u64)(v_r17_i_i173_i_i_i_i));
+    v_r26_i_i175_i_i_i_i = (P)((u64)v_r20_i_i174_i_i_i_i + (u64)(v_r17_i_i173_i_i_i_i));
     v_r8_i102_sroa_4_0_insert_shift_i_i_i_i = (u16)((u32)(v_r64_i169_i_i_i_i) << (u32)((8u & 31)));
     v_r8_i102_sroa_0_0_insert_insert_i_i_i_i = (u16)((u32)(v_r8_i102_sroa_4_0_insert_shift_i_i_i_i) | (u32)(48u));
     put_u16(v_r26_i_i175_i_i_i_i, v_r8_i102_sroa_0_0_insert_insert_i_i_i_i);
@@ -53639,7 +53711,7 @@ L_then_4_i159_i_i_i_i:;
     v_r80_i160_i_i_i_i = (u8)(v_r17_i_i_i228_i_i_i_i_i);
     v_r17_i28_i165_i_i_i_i = (u64)((u64)(v_a1_val2_i_i226_i_i_i_i_i) + (u64)(18446744073709551613ull));
     v_r20_i29_i166_i_i_i_i = get_P(v_r7_i255_i_i_i);
-    v_r26_i30_i167_i_i_i_i = (P)((uintptr_t)v_r20_i29_i166_i_i_i_i + (u64)(v_r17_i28_i165_i_i_i_i));
+    v_r26_i30_i167_i_i_i_i = (P)((u64)v_r20_i29_i166_i_i_i_i + (u64)(v_r17_i28_i165_i_i_i_i));
     put_u8(v_r26_i30_i167_i_i_i_i, 48u);
     v_r14_i103_sroa_4_0_r26_i30_i167_sroa_idx_i_i_i_i = v_r26_i30_i167_i_i_i_i + 1;
     put_u8(v_r14_i103_sroa_4_0_r26_i30_i167_sroa_idx_i_i_i_i, 129u);
@@ -53652,7 +53724,7 @@ L_else_5_i110_i_i_i_i:;
 L_then_7_i147_i_i_i_i:;
     v_r17_i46_i155_i_i_i_i = (u64)((u64)(v_a1_val2_i_i226_i_i_i_i_i) + (u64)(18446744073709551612ull));
     v_r20_i47_i156_i_i_i_i = get_P(v_r7_i255_i_i_i);
-    v_r26_i48_i157_i_i_i_i = (P)((uintptr_t)v_r20_i47_i156_i_i_i_i + (u64)(v_r17_i46_i155_i_i_i_i));
+    v_r26_i48_i157_i_i_i_i = (P)((u64)v_r20_i47_i156_i_i_i_i + (u64)(v_r17_i46_i155_i_i_i_i));
     v_20 = (u32)((u32)(v_r2_i_i_i229_i_i_i_i_i) | (u32)(813826048u));
     v_r20_i104_sroa_0_0_insert_insert_i_i_i_i = __builtin_bswap32(v_20);
     put_u32(v_r26_i48_i157_i_i_i_i, v_r20_i104_sroa_0_0_insert_insert_i_i_i_i);
@@ -53668,7 +53740,7 @@ L_then_10_i132_i_i_i_i:;
     v_r134_i137_i_i_i_i = (u8)(v_r17_i_i_i228_i_i_i_i_i);
     v_r17_i64_i144_i_i_i_i = (u64)((u64)(v_a1_val2_i_i226_i_i_i_i_i) + (u64)(18446744073709551611ull));
     v_r20_i65_i145_i_i_i_i = get_P(v_r7_i255_i_i_i);
-    v_r26_i66_i146_i_i_i_i = (P)((uintptr_t)v_r20_i65_i145_i_i_i_i + (u64)(v_r17_i64_i144_i_i_i_i));
+    v_r26_i66_i146_i_i_i_i = (P)((u64)v_r20_i65_i145_i_i_i_i + (u64)(v_r17_i64_i144_i_i_i_i));
     put_u8(v_r26_i66_i146_i_i_i_i, 48u);
     v_r29_i105_sroa_4_0_r26_i66_i146_sroa_idx_i_i_i_i = v_r26_i66_i146_i_i_i_i + 1;
     put_u8(v_r29_i105_sroa_4_0_r26_i66_i146_sroa_idx_i_i_i_i, 131u);
@@ -53689,7 +53761,7 @@ L_else_11_i114_i_i_i_i:;
     v_r168_i121_i_i_i_i = (u8)(v_r17_i_i_i228_i_i_i_i_i);
     v_r17_i82_i129_i_i_i_i = (u64)((u64)(v_a1_val2_i_i226_i_i_i_i_i) + (u64)(18446744073709551610ull));
     v_r20_i83_i130_i_i_i_i = get_P(v_r7_i255_i_i_i);
-    v_r26_i84_i131_i_i_i_i = (P)((uintptr_t)v_r20_i83_i130_i_i_i_i + (u64)(v_r17_i82_i129_i_i_i_i));
+    v_r26_i84_i131_i_i_i_i = (P)((u64)v_r20_i83_i130_i_i_i_i + (u64)(v_r17_i82_i129_i_i_i_i));
     put_u8(v_r26_i84_i131_i_i_i_i, 48u);
     v_r40_i106_sroa_4_0_r26_i84_i131_sroa_idx_i_i_i_i = v_r26_i84_i131_i_i_i_i + 1;
     put_u8(v_r40_i106_sroa_4_0_r26_i84_i131_sroa_idx_i_i_i_i, 132u);
@@ -53712,7 +53784,7 @@ L_der_core_back_writer_BackWriter_prepend_header_exi__2:;
 L_then_1_i92_i_i_i_i:;
     v_r64_i93_i_i_i_i = (u16)(v_r21_i_i233_i_i_i_i_i);
     v_r17_i_i97_i_i_i_i = (u64)((u64)(v_a1_val6_i_i231_i_i_i_i_i) + (u64)(18446744073709551614ull));
-    v_r26_i_i99_i_i_i_i = (P)((uintptr_t)v_r20_i_i98_i_i_i_i + (u64)(v_r17_i_i97_i_i_i_i));
+    v_r26_i_i99_i_i_i_i = (P)((u64)v_r20_i_i98_i_i_i_i + (u64)(v_r17_i_i97_i_i_i_i));
     v_r8_i26_sroa_4_0_insert_shift_i_i_i_i = (u16)((u32)(v_r64_i93_i_i_i_i) << (u32)((8u & 31)));
     v_r8_i26_sroa_0_0_insert_insert_i_i_i_i = (u16)((u32)(v_r8_i26_sroa_4_0_insert_shift_i_i_i_i) | (u32)(160u));
     put_u16(v_r26_i_i99_i_i_i_i, v_r8_i26_sroa_0_0_insert_insert_i_i_i_i);
@@ -53723,7 +53795,7 @@ L_else_2_i32_i_i_i_i:;
 L_then_4_i83_i_i_i_i:;
     v_r80_i84_i_i_i_i = (u8)(v_r21_i_i233_i_i_i_i_i);
     v_r17_i28_i89_i_i_i_i = (u64)((u64)(v_a1_val6_i_i231_i_i_i_i_i) + (u64)(18446744073709551613ull));
-    v_r26_i30_i91_i_i_i_i = (P)((uintptr_t)v_r20_i_i98_i_i_i_i + (u64)(v_r17_i28_i89_i_i_i_i));
+    v_r26_i30_i91_i_i_i_i = (P)((u64)v_r20_i_i98_i_i_i_i + (u64)(v_r17_i28_i89_i_i_i_i));
     put_u8(v_r26_i30_i91_i_i_i_i, 160u);
     v_r14_i27_sroa_4_0_r26_i30_i91_sroa_idx_i_i_i_i = v_r26_i30_i91_i_i_i_i + 1;
     put_u8(v_r14_i27_sroa_4_0_r26_i30_i91_sroa_idx_i_i_i_i, 129u);
@@ -53735,7 +53807,7 @@ L_else_5_i34_i_i_i_i:;
     if (v_r92_i35_i_i_i_i) { goto L_then_7_i71_i_i_i_i; } else { goto L_else_8_i36_i_i_i_i; }
 L_then_7_i71_i_i_i_i:;
     v_r17_i46_i79_i_i_i_i = (u64)((u64)(v_a1_val6_i_i231_i_i_i_i_i) + (u64)(18446744073709551612ull));
-    v_r26_i48_i81_i_i_i_i = (P)((uintptr_t)v_r20_i_i98_i_i_i_i + (u64)(v_r17_i46_i79_i_i_i_i));
+    v_r26_i48_i81_i_i_i_i = (P)((u64)v_r20_i_i98_i_i_i_i + (u64)(v_r17_i46_i79_i_i_i_i));
     v_21 = (u32)((u32)(v_r2_i12_i_i234_i_i_i_i_i) | (u32)(2692874240ull));
     v_r20_i28_sroa_0_0_insert_insert_i_i_i_i = __builtin_bswap32(v_21);
     put_u32(v_r26_i48_i81_i_i_i_i, v_r20_i28_sroa_0_0_insert_insert_i_i_i_i);
@@ -53750,7 +53822,7 @@ L_then_10_i56_i_i_i_i:;
     v_r130_i60_i_i_i_i = (u8)(v_r12624_i59391_i_i_i_i);
     v_r134_i61_i_i_i_i = (u8)(v_r21_i_i233_i_i_i_i_i);
     v_r17_i64_i68_i_i_i_i = (u64)((u64)(v_a1_val6_i_i231_i_i_i_i_i) + (u64)(18446744073709551611ull));
-    v_r26_i66_i70_i_i_i_i = (P)((uintptr_t)v_r20_i_i98_i_i_i_i + (u64)(v_r17_i64_i68_i_i_i_i));
+    v_r26_i66_i70_i_i_i_i = (P)((u64)v_r20_i_i98_i_i_i_i + (u64)(v_r17_i64_i68_i_i_i_i));
     put_u8(v_r26_i66_i70_i_i_i_i, 160u);
     v_r29_i29_sroa_4_0_r26_i66_i70_sroa_idx_i_i_i_i = v_r26_i66_i70_i_i_i_i + 1;
     put_u8(v_r29_i29_sroa_4_0_r26_i66_i70_sroa_idx_i_i_i_i, 131u);
@@ -53770,7 +53842,7 @@ L_else_11_i38_i_i_i_i:;
     v_r164_i44_i_i_i_i = (u8)(v_r16022_i43389_i_i_i_i);
     v_r168_i45_i_i_i_i = (u8)(v_r21_i_i233_i_i_i_i_i);
     v_r17_i82_i53_i_i_i_i = (u64)((u64)(v_a1_val6_i_i231_i_i_i_i_i) + (u64)(18446744073709551610ull));
-    v_r26_i84_i55_i_i_i_i = (P)((uintptr_t)v_r20_i_i98_i_i_i_i + (u64)(v_r17_i82_i53_i_i_i_i));
+    v_r26_i84_i55_i_i_i_i = (P)((u64)v_r20_i_i98_i_i_i_i + (u64)(v_r17_i82_i53_i_i_i_i));
     put_u8(v_r26_i84_i55_i_i_i_i, 160u);
     v_r40_i30_sroa_4_0_r26_i84_i55_sroa_idx_i_i_i_i = v_r26_i84_i55_i_i_i_i + 1;
     put_u8(v_r40_i30_sroa_4_0_r26_i84_i55_sroa_idx_i_i_i_i, 132u);
@@ -53793,8 +53865,8 @@ L_pkcs1_params_spelling_SpellingEncodeValue_prepend_:;
 L_then_1_i_i260_i_i_i:;
     v_r64_i_i_i_i_i = (u16)(v_r9_i23_i_i_i_i);
     v_r20_i_i_i_i_i_i = get_P(v_r7_i255_i_i_i);
-    v_22 = (P)((uintptr_t)v_r20_i_i_i_i_i_i + (u64)(v_r7_val5_i_i_i_i));
-    v_r26_i_i_i_i_i_i = (P)((uintptr_t)v_22 + (u64)(-2));
+    v_22 = (P)((u64)v_r20_i_i_i_i_i_i + (u64)(v_r7_val5_i_i_i_i));
+    v_r26_i_i_i_i_i_i = (P)((u64)v_22 + (u64)(-2));
     v_r8_i24_sroa_4_0_insert_shift_i_i_i_i = (u16)((u32)(v_r64_i_i_i_i_i) << (u32)((8u & 31)));
     v_r8_i24_sroa_0_0_insert_insert_i_i_i_i = (u16)((u32)(v_r8_i24_sroa_4_0_insert_shift_i_i_i_i) | (u32)(48u));
     put_u16(v_r26_i_i_i_i_i_i, v_r8_i24_sroa_0_0_insert_insert_i_i_i_i);
@@ -53805,12 +53877,12 @@ L_else_2_i_i_i_i_i:;
 L_then_4_i_i_i_i_i:;
     v_r80_i_i_i_i_i = (u8)(v_r9_i23_i_i_i_i);
     v_r20_i29_i_i_i_i_i = get_P(v_r7_i255_i_i_i);
-    v_23 = (P)((uintptr_t)v_r20_i29_i_i_i_i_i + (u64)(v_r7_val5_i_i_i_i));
-    v_r26_i30_i_i_i_i_i = (P)((uintptr_t)v_23 + (u64)(-3));
+    v_23 = (P)((u64)v_r20_i29_i_i_i_i_i + (u64)(v_r7_val5_i_i_i_i));
+    v_r26_i30_i_i_i_i_i = (P)((u64)v_23 + (u64)(-3));
     put_u8(v_r26_i30_i_i_i_i_i, 48u);
-    v_r14_i_sroa_4_0_r26_i30_i_sroa_idx_i_i_i_i = (P)((uintptr_t)v_23 + (u64)(-2));
+    v_r14_i_sroa_4_0_r26_i30_i_sroa_idx_i_i_i_i = (P)((u64)v_23 + (u64)(-2));
     put_u8(v_r14_i_sroa_4_0_r26_i30_i_sroa_idx_i_i_i_i, 129u);
-    v_r14_i_sroa_5_0_r26_i30_i_sroa_idx_i_i_i_i = (P)((uintptr_t)v_23 + (u64)(-1));
+    v_r14_i_sroa_5_0_r26_i30_i_sroa_idx_i_i_i_i = (P)((u64)v_23 + (u64)(-1));
     put_u8(v_r14_i_sroa_5_0_r26_i30_i_sroa_idx_i_i_i_i, v_r80_i_i_i_i_i);
     { goto L_arm_1_i_i; }
 L_else_5_i_i_i_i_i:;
@@ -53818,8 +53890,8 @@ L_else_5_i_i_i_i_i:;
     if (v_r92_i_i259_i_i_i) { goto L_then_7_i_i_i_i_i; } else { goto L_else_8_i_i_i_i_i; }
 L_then_7_i_i_i_i_i:;
     v_r20_i47_i_i_i_i_i = get_P(v_r7_i255_i_i_i);
-    v_24 = (P)((uintptr_t)v_r20_i47_i_i_i_i_i + (u64)(v_r7_val5_i_i_i_i));
-    v_r26_i48_i_i_i_i_i = (P)((uintptr_t)v_24 + (u64)(-4));
+    v_24 = (P)((u64)v_r20_i47_i_i_i_i_i + (u64)(v_r7_val5_i_i_i_i));
+    v_r26_i48_i_i_i_i_i = (P)((u64)v_24 + (u64)(-4));
     v_25 = (u32)((u32)(v_r2_i_i_i_i_i) | (u32)(813826048u));
     v_r20_i_sroa_0_0_insert_insert_i_i_i_i = __builtin_bswap32(v_25);
     put_u32(v_r26_i48_i_i_i_i_i, v_r20_i_sroa_0_0_insert_insert_i_i_i_i);
@@ -53834,16 +53906,16 @@ L_then_10_i_i_i_i_i:;
     v_r130_i_i_i_i_i = (u8)(v_r12624_i398_i_i_i_i);
     v_r134_i_i_i_i_i = (u8)(v_r9_i23_i_i_i_i);
     v_r20_i65_i_i_i_i_i = get_P(v_r7_i255_i_i_i);
-    v_26 = (P)((uintptr_t)v_r20_i65_i_i_i_i_i + (u64)(v_r7_val5_i_i_i_i));
-    v_r26_i66_i_i_i_i_i = (P)((uintptr_t)v_26 + (u64)(-5));
+    v_26 = (P)((u64)v_r20_i65_i_i_i_i_i + (u64)(v_r7_val5_i_i_i_i));
+    v_r26_i66_i_i_i_i_i = (P)((u64)v_26 + (u64)(-5));
     put_u8(v_r26_i66_i_i_i_i_i, 48u);
-    v_r29_i_sroa_4_0_r26_i66_i_sroa_idx_i_i_i_i = (P)((uintptr_t)v_26 + (u64)(-4));
+    v_r29_i_sroa_4_0_r26_i66_i_sroa_idx_i_i_i_i = (P)((u64)v_26 + (u64)(-4));
     put_u8(v_r29_i_sroa_4_0_r26_i66_i_sroa_idx_i_i_i_i, 131u);
-    v_r29_i_sroa_5_0_r26_i66_i_sroa_idx_i_i_i_i = (P)((uintptr_t)v_26 + (u64)(-3));
+    v_r29_i_sroa_5_0_r26_i66_i_sroa_idx_i_i_i_i = (P)((u64)v_26 + (u64)(-3));
     put_u8(v_r29_i_sroa_5_0_r26_i66_i_sroa_idx_i_i_i_i, v_r124_i_i_i_i_i);
-    v_r29_i_sroa_6_0_r26_i66_i_sroa_idx_i_i_i_i = (P)((uintptr_t)v_26 + (u64)(-2));
+    v_r29_i_sroa_6_0_r26_i66_i_sroa_idx_i_i_i_i = (P)((u64)v_26 + (u64)(-2));
     put_u8(v_r29_i_sroa_6_0_r26_i66_i_sroa_idx_i_i_i_i, v_r130_i_i_i_i_i);
-    v_r29_i_sroa_7_0_r26_i66_i_sroa_idx_i_i_i_i = (P)((uintptr_t)v_26 + (u64)(-1));
+    v_r29_i_sroa_7_0_r26_i66_i_sroa_idx_i_i_i_i = (P)((u64)v_26 + (u64)(-1));
     put_u8(v_r29_i_sroa_7_0_r26_i66_i_sroa_idx_i_i_i_i, v_r134_i_i_i_i_i);
     { goto L_arm_1_i_i; }
 L_else_11_i_i_i_i_i:;
@@ -53855,18 +53927,18 @@ L_else_11_i_i_i_i_i:;
     v_r164_i_i_i_i_i = (u8)(v_r16022_i396_i_i_i_i);
     v_r168_i_i_i_i_i = (u8)(v_r9_i23_i_i_i_i);
     v_r20_i83_i_i_i_i_i = get_P(v_r7_i255_i_i_i);
-    v_27 = (P)((uintptr_t)v_r20_i83_i_i_i_i_i + (u64)(v_r7_val5_i_i_i_i));
-    v_r26_i84_i_i_i_i_i = (P)((uintptr_t)v_27 + (u64)(-6));
+    v_27 = (P)((u64)v_r20_i83_i_i_i_i_i + (u64)(v_r7_val5_i_i_i_i));
+    v_r26_i84_i_i_i_i_i = (P)((u64)v_27 + (u64)(-6));
     put_u8(v_r26_i84_i_i_i_i_i, 48u);
-    v_r40_i_sroa_4_0_r26_i84_i_sroa_idx_i_i_i_i = (P)((uintptr_t)v_27 + (u64)(-5));
+    v_r40_i_sroa_4_0_r26_i84_i_sroa_idx_i_i_i_i = (P)((u64)v_27 + (u64)(-5));
     put_u8(v_r40_i_sroa_4_0_r26_i84_i_sroa_idx_i_i_i_i, 132u);
-    v_r40_i_sroa_5_0_r26_i84_i_sroa_idx_i_i_i_i = (P)((uintptr_t)v_27 + (u64)(-4));
+    v_r40_i_sroa_5_0_r26_i84_i_sroa_idx_i_i_i_i = (P)((u64)v_27 + (u64)(-4));
     put_u8(v_r40_i_sroa_5_0_r26_i84_i_sroa_idx_i_i_i_i, v_r152_i_i_i_i_i);
-    v_r40_i_sroa_6_0_r26_i84_i_sroa_idx_i_i_i_i = (P)((uintptr_t)v_27 + (u64)(-3));
+    v_r40_i_sroa_6_0_r26_i84_i_sroa_idx_i_i_i_i = (P)((u64)v_27 + (u64)(-3));
     put_u8(v_r40_i_sroa_6_0_r26_i84_i_sroa_idx_i_i_i_i, v_r158_i_i_i_i_i);
-    v_r40_i_sroa_7_0_r26_i84_i_sroa_idx_i_i_i_i = (P)((uintptr_t)v_27 + (u64)(-2));
+    v_r40_i_sroa_7_0_r26_i84_i_sroa_idx_i_i_i_i = (P)((u64)v_27 + (u64)(-2));
     put_u8(v_r40_i_sroa_7_0_r26_i84_i_sroa_idx_i_i_i_i, v_r164_i_i_i_i_i);
-    v_r40_i_sroa_8_0_r26_i84_i_sroa_idx_i_i_i_i = (P)((uintptr_t)v_27 + (u64)(-1));
+    v_r40_i_sroa_8_0_r26_i84_i_sroa_idx_i_i_i_i = (P)((u64)v_27 + (u64)(-1));
     put_u8(v_r40_i_sroa_8_0_r26_i84_i_sroa_idx_i_i_i_i, v_r168_i_i_i_i_i);
     { goto L_arm_1_i_i; }
 L_arm_1_i_i:;
@@ -54031,7 +54103,7 @@ L_pkcs1_c_oaep_pkcs1_c_oaep_params_encode_exit:;
     v_r6_0_i = p_v_r6_0_i;
     return v_r6_0_i;
 }
-u32 pkcs1_c_pss_params_encode(P v_a0, P v_a1, u64 v_a2, P v_a3) {
+u32 NAME(pss_params_encode)(P v_a0, P v_a1, u64 v_a2, P v_a3) {
     ALIGNED(4) unsigned char m_v_r1_i326_i_i[8];
     ALIGNED(4) unsigned char m_v_r7_i148_i14_i_i_i_i_i_i_i[8];
     ALIGNED(8) unsigned char m_v_r7_i_i_i_i[24];
@@ -54604,14 +54676,14 @@ u32 pkcs1_c_pss_params_encode(P v_a0, P v_a1, u64 v_a2, P v_a3) {
     u32 v_switch_idx_cast_i_i_i;
     u32 v_switch_offset_i_i_i;
     u32 v_r6_0_i;
-    v_r1_i326_i_i = m_v_r1_i326_i_i;
-    v_r7_i148_i14_i_i_i_i_i_i_i = m_v_r7_i148_i14_i_i_i_i_i_i_i;
-    v_r7_i_i_i_i = m_v_r7_i_i_i_i;
-    v_r3_i = m_v_r3_i;
-    v_r5_i = m_v_r5_i;
+    v_r1_i326_i_i = AT(m_v_r1_i326_i_i);
+    v_r7_i148_i14_i_i_i_i_i_i_i = AT(m_v_r7_i148_i14_i_i_i_i_i_i_i);
+    v_r7_i_i_i_i = AT(m_v_r7_i_i_i_i);
+    v_r3_i = AT(m_v_r3_i);
+    v_r5_i = AT(m_v_r5_i);
     v_r1 = v_a1 == (P)0;
     v_r3 = v_r1 ? 4096u : 0u;
-    v_r4 = (P)((uintptr_t)v_a1 + (u64)(v_r3));
+    v_r4 = (P)((u64)v_a1 + (u64)(v_r3));
     fill(v_r5_i, 0u, 136u);
     f_pkcs1_c_pss_from_c_pss(v_r5_i, v_a0);
     v_r12_i = get_u8(v_r5_i);
@@ -54955,13 +55027,13 @@ L_start_split_i_i_i_i_i_i:;
     if (v_r24_i_i_i_not_i_i_i14) { p_v_r7_val5_i_pre380_i_i_i = v_r3_i11_i_i_i_i; goto L_pkcs1_params_fields_FieldThenFields_prepend_0ba80a; } else { goto L_arm_3_i47_i119_i_i_i_i_i; }
 L_arm_3_i47_i119_i_i_i_i_i:;
     v_r17_i_i_i_i209_i_i_i_i_i = (u64)((u64)(v_r3_i11_i_i_i_i) + (u64)(18446744073709551615ull));
-    v_r26_i_i_i_i211_i_i_i_i_i = (P)((uintptr_t)v_r4 + (u64)(v_r17_i_i_i_i209_i_i_i_i_i));
+    v_r26_i_i_i_i211_i_i_i_i_i = (P)((u64)v_r4 + (u64)(v_r17_i_i_i_i209_i_i_i_i_i));
     put_u8(v_r26_i_i_i_i211_i_i_i_i_i, v_r19_i_i8_i_i);
     v_r20_i10_i_i213_i_i_i_i_i = (u8)(v_r19_i_i8_i_i ^ ((u8)1 << 7)) < (u8)(0u ^ ((u8)1 << 7));
     if (v_r20_i10_i_i213_i_i_i_i_i) { goto L_then_1_i_i_i226_i_i_i_i_i; } else { p_v_r12_i_i631_i_i_i_i = v_r17_i_i_i_i209_i_i_i_i_i; goto L_pkcs1_params_fields_FieldRef_prepend_7700fbca592c3; }
 L_then_1_i_i_i226_i_i_i_i_i:;
     v_r17_i4_i_i_i227_i_i_i_i_i = (u64)((u64)(v_r3_i11_i_i_i_i) + (u64)(18446744073709551614ull));
-    v_r26_i6_i_i_i229_i_i_i_i_i = (P)((uintptr_t)v_r4 + (u64)(v_r17_i4_i_i_i227_i_i_i_i_i));
+    v_r26_i6_i_i_i229_i_i_i_i_i = (P)((u64)v_r4 + (u64)(v_r17_i4_i_i_i227_i_i_i_i_i));
     put_u8(v_r26_i6_i_i_i229_i_i_i_i_i, 0u);
     put_u64(v_r23_sroa_4_0_r7_sroa_idx_i_i_i_i, v_r17_i4_i_i_i227_i_i_i_i_i);
     { p_v_r12_i_i631_i_i_i_i = v_r17_i4_i_i_i227_i_i_i_i_i; goto L_pkcs1_params_fields_FieldRef_prepend_7700fbca592c3; }
@@ -54974,7 +55046,7 @@ L_pkcs1_params_fields_FieldRef_prepend_7700fbca592c3:;
 L_then_1_i627_i_i_i_i:;
     v_r64_i628_i_i_i_i = (u16)(v_r17_i_i_i218_i_i_i_i_i);
     v_r17_i_i632_i_i_i_i = (u64)((u64)(v_r12_i_i631_i_i_i_i) + (u64)(18446744073709551614ull));
-    v_r26_i_i634_i_i_i_i = (P)((uintptr_t)v_r4 + (u64)(v_r17_i_i632_i_i_i_i));
+    v_r26_i_i634_i_i_i_i = (P)((u64)v_r4 + (u64)(v_r17_i_i632_i_i_i_i));
     v_r8_i561_sroa_4_0_insert_shift_i_i_i_i = (u16)((u32)(v_r64_i628_i_i_i_i) << (u32)((8u & 31)));
     v_r8_i561_sroa_0_0_insert_insert_i_i_i_i = (u16)((u32)(v_r8_i561_sroa_4_0_insert_shift_i_i_i_i) | (u32)(2u));
     put_u16(v_r26_i_i634_i_i_i_i, v_r8_i561_sroa_0_0_insert_insert_i_i_i_i);
@@ -54985,7 +55057,7 @@ L_else_2_i567_i_i_i_i:;
 L_then_4_i618_i_i_i_i:;
     v_r80_i619_i_i_i_i = (u8)(v_r17_i_i_i218_i_i_i_i_i);
     v_r17_i28_i624_i_i_i_i = (u64)((u64)(v_r12_i_i631_i_i_i_i) + (u64)(18446744073709551613ull));
-    v_r26_i30_i626_i_i_i_i = (P)((uintptr_t)v_r4 + (u64)(v_r17_i28_i624_i_i_i_i));
+    v_r26_i30_i626_i_i_i_i = (P)((u64)v_r4 + (u64)(v_r17_i28_i624_i_i_i_i));
     put_u8(v_r26_i30_i626_i_i_i_i, 2u);
     v_r14_i562_sroa_4_0_r26_i30_i626_sroa_idx_i_i_i_i = v_r26_i30_i626_i_i_i_i + 1;
     put_u8(v_r14_i562_sroa_4_0_r26_i30_i626_sroa_idx_i_i_i_i, 129u);
@@ -54997,7 +55069,7 @@ L_else_5_i569_i_i_i_i:;
     if (v_r92_i570_i_i_i_i) { goto L_then_7_i606_i_i_i_i; } else { goto L_else_8_i571_i_i_i_i; }
 L_then_7_i606_i_i_i_i:;
     v_r17_i46_i614_i_i_i_i = (u64)((u64)(v_r12_i_i631_i_i_i_i) + (u64)(18446744073709551612ull));
-    v_r26_i48_i616_i_i_i_i = (P)((uintptr_t)v_r4 + (u64)(v_r17_i46_i614_i_i_i_i));
+    v_r26_i48_i616_i_i_i_i = (P)((u64)v_r4 + (u64)(v_r17_i46_i614_i_i_i_i));
     v_12 = (u32)((u32)(v_r2_i_i_i219_i_i_i_i_i) | (u32)(42074112u));
     v_r20_i563_sroa_0_0_insert_insert_i_i_i_i = __builtin_bswap32(v_12);
     put_u32(v_r26_i48_i616_i_i_i_i, v_r20_i563_sroa_0_0_insert_insert_i_i_i_i);
@@ -55012,7 +55084,7 @@ L_then_10_i591_i_i_i_i:;
     v_r130_i595_i_i_i_i = (u8)(v_r12624_i594842_i_i_i_i);
     v_r134_i596_i_i_i_i = (u8)(v_r17_i_i_i218_i_i_i_i_i);
     v_r17_i64_i603_i_i_i_i = (u64)((u64)(v_r12_i_i631_i_i_i_i) + (u64)(18446744073709551611ull));
-    v_r26_i66_i605_i_i_i_i = (P)((uintptr_t)v_r4 + (u64)(v_r17_i64_i603_i_i_i_i));
+    v_r26_i66_i605_i_i_i_i = (P)((u64)v_r4 + (u64)(v_r17_i64_i603_i_i_i_i));
     put_u8(v_r26_i66_i605_i_i_i_i, 2u);
     v_r29_i564_sroa_4_0_r26_i66_i605_sroa_idx_i_i_i_i = v_r26_i66_i605_i_i_i_i + 1;
     put_u8(v_r29_i564_sroa_4_0_r26_i66_i605_sroa_idx_i_i_i_i, 131u);
@@ -55032,7 +55104,7 @@ L_else_11_i573_i_i_i_i:;
     v_r164_i579_i_i_i_i = (u8)(v_r16022_i578840_i_i_i_i);
     v_r168_i580_i_i_i_i = (u8)(v_r17_i_i_i218_i_i_i_i_i);
     v_r17_i82_i588_i_i_i_i = (u64)((u64)(v_r12_i_i631_i_i_i_i) + (u64)(18446744073709551610ull));
-    v_r26_i84_i590_i_i_i_i = (P)((uintptr_t)v_r4 + (u64)(v_r17_i82_i588_i_i_i_i));
+    v_r26_i84_i590_i_i_i_i = (P)((u64)v_r4 + (u64)(v_r17_i82_i588_i_i_i_i));
     put_u8(v_r26_i84_i590_i_i_i_i, 2u);
     v_r40_i565_sroa_4_0_r26_i84_i590_sroa_idx_i_i_i_i = v_r26_i84_i590_i_i_i_i + 1;
     put_u8(v_r40_i565_sroa_4_0_r26_i84_i590_sroa_idx_i_i_i_i, 132u);
@@ -55054,7 +55126,7 @@ L_der_core_back_writer_BackWriter_prepend_header_exi:;
 L_then_1_i551_i_i_i_i:;
     v_r64_i552_i_i_i_i = (u16)(v_r21_i_i223_i_i_i_i_i);
     v_r17_i_i556_i_i_i_i = (u64)((u64)(v_a1_val6_i_i221_i_i_i_i_i) + (u64)(18446744073709551614ull));
-    v_r26_i_i558_i_i_i_i = (P)((uintptr_t)v_r4 + (u64)(v_r17_i_i556_i_i_i_i));
+    v_r26_i_i558_i_i_i_i = (P)((u64)v_r4 + (u64)(v_r17_i_i556_i_i_i_i));
     v_r8_i485_sroa_4_0_insert_shift_i_i_i_i = (u16)((u32)(v_r64_i552_i_i_i_i) << (u32)((8u & 31)));
     v_r8_i485_sroa_0_0_insert_insert_i_i_i_i = (u16)((u32)(v_r8_i485_sroa_4_0_insert_shift_i_i_i_i) | (u32)(162u));
     put_u16(v_r26_i_i558_i_i_i_i, v_r8_i485_sroa_0_0_insert_insert_i_i_i_i);
@@ -55065,7 +55137,7 @@ L_else_2_i491_i_i_i_i:;
 L_then_4_i542_i_i_i_i:;
     v_r80_i543_i_i_i_i = (u8)(v_r21_i_i223_i_i_i_i_i);
     v_r17_i28_i548_i_i_i_i = (u64)((u64)(v_a1_val6_i_i221_i_i_i_i_i) + (u64)(18446744073709551613ull));
-    v_r26_i30_i550_i_i_i_i = (P)((uintptr_t)v_r4 + (u64)(v_r17_i28_i548_i_i_i_i));
+    v_r26_i30_i550_i_i_i_i = (P)((u64)v_r4 + (u64)(v_r17_i28_i548_i_i_i_i));
     put_u8(v_r26_i30_i550_i_i_i_i, 162u);
     v_r14_i486_sroa_4_0_r26_i30_i550_sroa_idx_i_i_i_i = v_r26_i30_i550_i_i_i_i + 1;
     put_u8(v_r14_i486_sroa_4_0_r26_i30_i550_sroa_idx_i_i_i_i, 129u);
@@ -55077,7 +55149,7 @@ L_else_5_i493_i_i_i_i:;
     if (v_r92_i494_i_i_i_i) { goto L_then_7_i530_i_i_i_i; } else { goto L_else_8_i495_i_i_i_i; }
 L_then_7_i530_i_i_i_i:;
     v_r17_i46_i538_i_i_i_i = (u64)((u64)(v_a1_val6_i_i221_i_i_i_i_i) + (u64)(18446744073709551612ull));
-    v_r26_i48_i540_i_i_i_i = (P)((uintptr_t)v_r4 + (u64)(v_r17_i46_i538_i_i_i_i));
+    v_r26_i48_i540_i_i_i_i = (P)((u64)v_r4 + (u64)(v_r17_i46_i538_i_i_i_i));
     v_13 = (u32)((u32)(v_r2_i13_i_i224_i_i_i_i_i) | (u32)(2726428672ull));
     v_r20_i487_sroa_0_0_insert_insert_i_i_i_i = __builtin_bswap32(v_13);
     put_u32(v_r26_i48_i540_i_i_i_i, v_r20_i487_sroa_0_0_insert_insert_i_i_i_i);
@@ -55092,7 +55164,7 @@ L_then_10_i515_i_i_i_i:;
     v_r130_i519_i_i_i_i = (u8)(v_r12624_i518849_i_i_i_i);
     v_r134_i520_i_i_i_i = (u8)(v_r21_i_i223_i_i_i_i_i);
     v_r17_i64_i527_i_i_i_i = (u64)((u64)(v_a1_val6_i_i221_i_i_i_i_i) + (u64)(18446744073709551611ull));
-    v_r26_i66_i529_i_i_i_i = (P)((uintptr_t)v_r4 + (u64)(v_r17_i64_i527_i_i_i_i));
+    v_r26_i66_i529_i_i_i_i = (P)((u64)v_r4 + (u64)(v_r17_i64_i527_i_i_i_i));
     put_u8(v_r26_i66_i529_i_i_i_i, 162u);
     v_r29_i488_sroa_4_0_r26_i66_i529_sroa_idx_i_i_i_i = v_r26_i66_i529_i_i_i_i + 1;
     put_u8(v_r29_i488_sroa_4_0_r26_i66_i529_sroa_idx_i_i_i_i, 131u);
@@ -55112,7 +55184,7 @@ L_else_11_i497_i_i_i_i:;
     v_r164_i503_i_i_i_i = (u8)(v_r16022_i502847_i_i_i_i);
     v_r168_i504_i_i_i_i = (u8)(v_r21_i_i223_i_i_i_i_i);
     v_r17_i82_i512_i_i_i_i = (u64)((u64)(v_a1_val6_i_i221_i_i_i_i_i) + (u64)(18446744073709551610ull));
-    v_r26_i84_i514_i_i_i_i = (P)((uintptr_t)v_r4 + (u64)(v_r17_i82_i512_i_i_i_i));
+    v_r26_i84_i514_i_i_i_i = (P)((u64)v_r4 + (u64)(v_r17_i82_i512_i_i_i_i));
     put_u8(v_r26_i84_i514_i_i_i_i, 162u);
     v_r40_i489_sroa_4_0_r26_i84_i514_sroa_idx_i_i_i_i = v_r26_i84_i514_i_i_i_i + 1;
     put_u8(v_r40_i489_sroa_4_0_r26_i84_i514_sroa_idx_i_i_i_i, 132u);
@@ -55155,7 +55227,7 @@ L_then_1_i171_i_i_i_i:;
     v_r64_i172_i_i_i_i = (u16)(v_r17_i_i_i354_i_i_i_i_i);
     v_r17_i_i176_i_i_i_i = (u64)((u64)(v_a1_val2_i_i352_i_i_i_i_i) + (u64)(18446744073709551614ull));
     v_r20_i_i177_i_i_i_i = get_P(v_r7_i_i_i_i);
-    v_r26_i_i178_i_i_i_i = (P)((uintptr_t)v_r20_i_i177_i_i_i_i + (u64)(v_r17_i_i176_i_i_i_i));
+    v_r26_i_i178_i_i_i_i = (P)((u64)v_r20_i_i177_i_i_i_i + (u64)(v_r17_i_i176_i_i_i_i));
     v_r8_i105_sroa_4_0_insert_shift_i_i_i_i = (u16)((u32)(v_r64_i172_i_i_i_i) << (u32)((8u & 31)));
     v_r8_i105_sroa_0_0_insert_insert_i_i_i_i = (u16)((u32)(v_r8_i105_sroa_4_0_insert_shift_i_i_i_i) | (u32)(48u));
     put_u16(v_r26_i_i178_i_i_i_i, v_r8_i105_sroa_0_0_insert_insert_i_i_i_i);
@@ -55167,7 +55239,7 @@ L_then_4_i162_i_i_i_i:;
     v_r80_i163_i_i_i_i = (u8)(v_r17_i_i_i354_i_i_i_i_i);
     v_r17_i28_i168_i_i_i_i = (u64)((u64)(v_a1_val2_i_i352_i_i_i_i_i) + (u64)(18446744073709551613ull));
     v_r20_i29_i169_i_i_i_i = get_P(v_r7_i_i_i_i);
-    v_r26_i30_i170_i_i_i_i = (P)((uintptr_t)v_r20_i29_i169_i_i_i_i + (u64)(v_r17_i28_i168_i_i_i_i));
+    v_r26_i30_i170_i_i_i_i = (P)((u64)v_r20_i29_i169_i_i_i_i + (u64)(v_r17_i28_i168_i_i_i_i));
     put_u8(v_r26_i30_i170_i_i_i_i, 48u);
     v_r14_i106_sroa_4_0_r26_i30_i170_sroa_idx_i_i_i_i = v_r26_i30_i170_i_i_i_i + 1;
     put_u8(v_r14_i106_sroa_4_0_r26_i30_i170_sroa_idx_i_i_i_i, 129u);
@@ -55180,7 +55252,7 @@ L_else_5_i113_i_i_i_i:;
 L_then_7_i150_i_i_i_i:;
     v_r17_i46_i158_i_i_i_i = (u64)((u64)(v_a1_val2_i_i352_i_i_i_i_i) + (u64)(18446744073709551612ull));
     v_r20_i47_i159_i_i_i_i = get_P(v_r7_i_i_i_i);
-    v_r26_i48_i160_i_i_i_i = (P)((uintptr_t)v_r20_i47_i159_i_i_i_i + (u64)(v_r17_i46_i158_i_i_i_i));
+    v_r26_i48_i160_i_i_i_i = (P)((u64)v_r20_i47_i159_i_i_i_i + (u64)(v_r17_i46_i158_i_i_i_i));
     v_14 = (u32)((u32)(v_r2_i_i_i355_i_i_i_i_i) | (u32)(813826048u));
     v_r20_i107_sroa_0_0_insert_insert_i_i_i_i = __builtin_bswap32(v_14);
     put_u32(v_r26_i48_i160_i_i_i_i, v_r20_i107_sroa_0_0_insert_insert_i_i_i_i);
@@ -55196,7 +55268,7 @@ L_then_10_i135_i_i_i_i:;
     v_r134_i140_i_i_i_i = (u8)(v_r17_i_i_i354_i_i_i_i_i);
     v_r17_i64_i147_i_i_i_i = (u64)((u64)(v_a1_val2_i_i352_i_i_i_i_i) + (u64)(18446744073709551611ull));
     v_r20_i65_i148_i_i_i_i = get_P(v_r7_i_i_i_i);
-    v_r26_i66_i149_i_i_i_i = (P)((uintptr_t)v_r20_i65_i148_i_i_i_i + (u64)(v_r17_i64_i147_i_i_i_i));
+    v_r26_i66_i149_i_i_i_i = (P)((u64)v_r20_i65_i148_i_i_i_i + (u64)(v_r17_i64_i147_i_i_i_i));
     put_u8(v_r26_i66_i149_i_i_i_i, 48u);
     v_r29_i108_sroa_4_0_r26_i66_i149_sroa_idx_i_i_i_i = v_r26_i66_i149_i_i_i_i + 1;
     put_u8(v_r29_i108_sroa_4_0_r26_i66_i149_sroa_idx_i_i_i_i, 131u);
@@ -55217,7 +55289,7 @@ L_else_11_i117_i_i_i_i:;
     v_r168_i124_i_i_i_i = (u8)(v_r17_i_i_i354_i_i_i_i_i);
     v_r17_i82_i132_i_i_i_i = (u64)((u64)(v_a1_val2_i_i352_i_i_i_i_i) + (u64)(18446744073709551610ull));
     v_r20_i83_i133_i_i_i_i = get_P(v_r7_i_i_i_i);
-    v_r26_i84_i134_i_i_i_i = (P)((uintptr_t)v_r20_i83_i133_i_i_i_i + (u64)(v_r17_i82_i132_i_i_i_i));
+    v_r26_i84_i134_i_i_i_i = (P)((u64)v_r20_i83_i133_i_i_i_i + (u64)(v_r17_i82_i132_i_i_i_i));
     put_u8(v_r26_i84_i134_i_i_i_i, 48u);
     v_r40_i109_sroa_4_0_r26_i84_i134_sroa_idx_i_i_i_i = v_r26_i84_i134_i_i_i_i + 1;
     put_u8(v_r40_i109_sroa_4_0_r26_i84_i134_sroa_idx_i_i_i_i, 132u);
@@ -55240,7 +55312,7 @@ L_der_core_back_writer_BackWriter_prepend_header_exi__2:;
 L_then_1_i95_i_i_i_i:;
     v_r64_i96_i_i_i_i = (u16)(v_r21_i_i359_i_i_i_i_i);
     v_r17_i_i100_i_i_i_i = (u64)((u64)(v_a1_val6_i_i357_i_i_i_i_i) + (u64)(18446744073709551614ull));
-    v_r26_i_i102_i_i_i_i = (P)((uintptr_t)v_r20_i_i101_i_i_i_i + (u64)(v_r17_i_i100_i_i_i_i));
+    v_r26_i_i102_i_i_i_i = (P)((u64)v_r20_i_i101_i_i_i_i + (u64)(v_r17_i_i100_i_i_i_i));
     v_r8_i29_sroa_4_0_insert_shift_i_i_i_i = (u16)((u32)(v_r64_i96_i_i_i_i) << (u32)((8u & 31)));
     v_r8_i29_sroa_0_0_insert_insert_i_i_i_i = (u16)((u32)(v_r8_i29_sroa_4_0_insert_shift_i_i_i_i) | (u32)(160u));
     put_u16(v_r26_i_i102_i_i_i_i, v_r8_i29_sroa_0_0_insert_insert_i_i_i_i);
@@ -55251,7 +55323,7 @@ L_else_2_i35_i_i_i_i:;
 L_then_4_i86_i_i_i_i:;
     v_r80_i87_i_i_i_i = (u8)(v_r21_i_i359_i_i_i_i_i);
     v_r17_i28_i92_i_i_i_i = (u64)((u64)(v_a1_val6_i_i357_i_i_i_i_i) + (u64)(18446744073709551613ull));
-    v_r26_i30_i94_i_i_i_i = (P)((uintptr_t)v_r20_i_i101_i_i_i_i + (u64)(v_r17_i28_i92_i_i_i_i));
+    v_r26_i30_i94_i_i_i_i = (P)((u64)v_r20_i_i101_i_i_i_i + (u64)(v_r17_i28_i92_i_i_i_i));
     put_u8(v_r26_i30_i94_i_i_i_i, 160u);
     v_r14_i30_sroa_4_0_r26_i30_i94_sroa_idx_i_i_i_i = v_r26_i30_i94_i_i_i_i + 1;
     put_u8(v_r14_i30_sroa_4_0_r26_i30_i94_sroa_idx_i_i_i_i, 129u);
@@ -55263,7 +55335,7 @@ L_else_5_i37_i_i_i_i:;
     if (v_r92_i38_i_i_i_i) { goto L_then_7_i74_i_i_i_i; } else { goto L_else_8_i39_i_i_i_i; }
 L_then_7_i74_i_i_i_i:;
     v_r17_i46_i82_i_i_i_i = (u64)((u64)(v_a1_val6_i_i357_i_i_i_i_i) + (u64)(18446744073709551612ull));
-    v_r26_i48_i84_i_i_i_i = (P)((uintptr_t)v_r20_i_i101_i_i_i_i + (u64)(v_r17_i46_i82_i_i_i_i));
+    v_r26_i48_i84_i_i_i_i = (P)((u64)v_r20_i_i101_i_i_i_i + (u64)(v_r17_i46_i82_i_i_i_i));
     v_15 = (u32)((u32)(v_r2_i12_i_i360_i_i_i_i_i) | (u32)(2692874240ull));
     v_r20_i31_sroa_0_0_insert_insert_i_i_i_i = __builtin_bswap32(v_15);
     put_u32(v_r26_i48_i84_i_i_i_i, v_r20_i31_sroa_0_0_insert_insert_i_i_i_i);
@@ -55278,7 +55350,7 @@ L_then_10_i59_i_i_i_i:;
     v_r130_i63_i_i_i_i = (u8)(v_r12624_i62884_i_i_i_i);
     v_r134_i64_i_i_i_i = (u8)(v_r21_i_i359_i_i_i_i_i);
     v_r17_i64_i71_i_i_i_i = (u64)((u64)(v_a1_val6_i_i357_i_i_i_i_i) + (u64)(18446744073709551611ull));
-    v_r26_i66_i73_i_i_i_i = (P)((uintptr_t)v_r20_i_i101_i_i_i_i + (u64)(v_r17_i64_i71_i_i_i_i));
+    v_r26_i66_i73_i_i_i_i = (P)((u64)v_r20_i_i101_i_i_i_i + (u64)(v_r17_i64_i71_i_i_i_i));
     put_u8(v_r26_i66_i73_i_i_i_i, 160u);
     v_r29_i32_sroa_4_0_r26_i66_i73_sroa_idx_i_i_i_i = v_r26_i66_i73_i_i_i_i + 1;
     put_u8(v_r29_i32_sroa_4_0_r26_i66_i73_sroa_idx_i_i_i_i, 131u);
@@ -55298,7 +55370,7 @@ L_else_11_i41_i_i_i_i:;
     v_r164_i47_i_i_i_i = (u8)(v_r16022_i46882_i_i_i_i);
     v_r168_i48_i_i_i_i = (u8)(v_r21_i_i359_i_i_i_i_i);
     v_r17_i82_i56_i_i_i_i = (u64)((u64)(v_a1_val6_i_i357_i_i_i_i_i) + (u64)(18446744073709551610ull));
-    v_r26_i84_i58_i_i_i_i = (P)((uintptr_t)v_r20_i_i101_i_i_i_i + (u64)(v_r17_i82_i56_i_i_i_i));
+    v_r26_i84_i58_i_i_i_i = (P)((u64)v_r20_i_i101_i_i_i_i + (u64)(v_r17_i82_i56_i_i_i_i));
     put_u8(v_r26_i84_i58_i_i_i_i, 160u);
     v_r40_i33_sroa_4_0_r26_i84_i58_sroa_idx_i_i_i_i = v_r26_i84_i58_i_i_i_i + 1;
     put_u8(v_r40_i33_sroa_4_0_r26_i84_i58_sroa_idx_i_i_i_i, 132u);
@@ -55321,8 +55393,8 @@ L_pkcs1_params_spelling_SpellingEncodeValue_prepend_:;
 L_then_1_i_i307_i_i_i:;
     v_r64_i_i_i_i_i = (u16)(v_r9_i26_i_i_i_i);
     v_r20_i_i_i_i_i_i = get_P(v_r7_i_i_i_i);
-    v_16 = (P)((uintptr_t)v_r20_i_i_i_i_i_i + (u64)(v_r7_val5_i_i_i_i));
-    v_r26_i_i_i308_i_i_i = (P)((uintptr_t)v_16 + (u64)(-2));
+    v_16 = (P)((u64)v_r20_i_i_i_i_i_i + (u64)(v_r7_val5_i_i_i_i));
+    v_r26_i_i_i308_i_i_i = (P)((u64)v_16 + (u64)(-2));
     v_r8_i27_sroa_4_0_insert_shift_i_i_i_i = (u16)((u32)(v_r64_i_i_i_i_i) << (u32)((8u & 31)));
     v_r8_i27_sroa_0_0_insert_insert_i_i_i_i = (u16)((u32)(v_r8_i27_sroa_4_0_insert_shift_i_i_i_i) | (u32)(48u));
     put_u16(v_r26_i_i_i308_i_i_i, v_r8_i27_sroa_0_0_insert_insert_i_i_i_i);
@@ -55333,12 +55405,12 @@ L_else_2_i_i_i_i_i:;
 L_then_4_i_i_i_i_i:;
     v_r80_i_i_i_i_i = (u8)(v_r9_i26_i_i_i_i);
     v_r20_i29_i_i_i_i_i = get_P(v_r7_i_i_i_i);
-    v_17 = (P)((uintptr_t)v_r20_i29_i_i_i_i_i + (u64)(v_r7_val5_i_i_i_i));
-    v_r26_i30_i_i_i_i_i = (P)((uintptr_t)v_17 + (u64)(-3));
+    v_17 = (P)((u64)v_r20_i29_i_i_i_i_i + (u64)(v_r7_val5_i_i_i_i));
+    v_r26_i30_i_i_i_i_i = (P)((u64)v_17 + (u64)(-3));
     put_u8(v_r26_i30_i_i_i_i_i, 48u);
-    v_r14_i_sroa_4_0_r26_i30_i_sroa_idx_i_i_i_i = (P)((uintptr_t)v_17 + (u64)(-2));
+    v_r14_i_sroa_4_0_r26_i30_i_sroa_idx_i_i_i_i = (P)((u64)v_17 + (u64)(-2));
     put_u8(v_r14_i_sroa_4_0_r26_i30_i_sroa_idx_i_i_i_i, 129u);
-    v_r14_i_sroa_5_0_r26_i30_i_sroa_idx_i_i_i_i = (P)((uintptr_t)v_17 + (u64)(-1));
+    v_r14_i_sroa_5_0_r26_i30_i_sroa_idx_i_i_i_i = (P)((u64)v_17 + (u64)(-1));
     put_u8(v_r14_i_sroa_5_0_r26_i30_i_sroa_idx_i_i_i_i, v_r80_i_i_i_i_i);
     { goto L_arm_1_i_i; }
 L_else_5_i_i_i_i_i:;
@@ -55346,8 +55418,8 @@ L_else_5_i_i_i_i_i:;
     if (v_r92_i_i306_i_i_i) { goto L_then_7_i_i_i_i_i; } else { goto L_else_8_i_i_i_i_i; }
 L_then_7_i_i_i_i_i:;
     v_r20_i47_i_i_i_i_i = get_P(v_r7_i_i_i_i);
-    v_18 = (P)((uintptr_t)v_r20_i47_i_i_i_i_i + (u64)(v_r7_val5_i_i_i_i));
-    v_r26_i48_i_i_i_i_i = (P)((uintptr_t)v_18 + (u64)(-4));
+    v_18 = (P)((u64)v_r20_i47_i_i_i_i_i + (u64)(v_r7_val5_i_i_i_i));
+    v_r26_i48_i_i_i_i_i = (P)((u64)v_18 + (u64)(-4));
     v_19 = (u32)((u32)(v_r2_i_i_i_i_i) | (u32)(813826048u));
     v_r20_i_sroa_0_0_insert_insert_i_i_i_i = __builtin_bswap32(v_19);
     put_u32(v_r26_i48_i_i_i_i_i, v_r20_i_sroa_0_0_insert_insert_i_i_i_i);
@@ -55362,16 +55434,16 @@ L_then_10_i_i_i_i_i:;
     v_r130_i_i_i_i_i = (u8)(v_r12624_i891_i_i_i_i);
     v_r134_i_i_i_i_i = (u8)(v_r9_i26_i_i_i_i);
     v_r20_i65_i_i_i_i_i = get_P(v_r7_i_i_i_i);
-    v_20 = (P)((uintptr_t)v_r20_i65_i_i_i_i_i + (u64)(v_r7_val5_i_i_i_i));
-    v_r26_i66_i_i_i_i_i = (P)((uintptr_t)v_20 + (u64)(-5));
+    v_20 = (P)((u64)v_r20_i65_i_i_i_i_i + (u64)(v_r7_val5_i_i_i_i));
+    v_r26_i66_i_i_i_i_i = (P)((u64)v_20 + (u64)(-5));
     put_u8(v_r26_i66_i_i_i_i_i, 48u);
-    v_r29_i_sroa_4_0_r26_i66_i_sroa_idx_i_i_i_i = (P)((uintptr_t)v_20 + (u64)(-4));
+    v_r29_i_sroa_4_0_r26_i66_i_sroa_idx_i_i_i_i = (P)((u64)v_20 + (u64)(-4));
     put_u8(v_r29_i_sroa_4_0_r26_i66_i_sroa_idx_i_i_i_i, 131u);
-    v_r29_i_sroa_5_0_r26_i66_i_sroa_idx_i_i_i_i = (P)((uintptr_t)v_20 + (u64)(-3));
+    v_r29_i_sroa_5_0_r26_i66_i_sroa_idx_i_i_i_i = (P)((u64)v_20 + (u64)(-3));
     put_u8(v_r29_i_sroa_5_0_r26_i66_i_sroa_idx_i_i_i_i, v_r124_i_i_i_i_i);
-    v_r29_i_sroa_6_0_r26_i66_i_sroa_idx_i_i_i_i = (P)((uintptr_t)v_20 + (u64)(-2));
+    v_r29_i_sroa_6_0_r26_i66_i_sroa_idx_i_i_i_i = (P)((u64)v_20 + (u64)(-2));
     put_u8(v_r29_i_sroa_6_0_r26_i66_i_sroa_idx_i_i_i_i, v_r130_i_i_i_i_i);
-    v_r29_i_sroa_7_0_r26_i66_i_sroa_idx_i_i_i_i = (P)((uintptr_t)v_20 + (u64)(-1));
+    v_r29_i_sroa_7_0_r26_i66_i_sroa_idx_i_i_i_i = (P)((u64)v_20 + (u64)(-1));
     put_u8(v_r29_i_sroa_7_0_r26_i66_i_sroa_idx_i_i_i_i, v_r134_i_i_i_i_i);
     { goto L_arm_1_i_i; }
 L_else_11_i_i_i_i_i:;
@@ -55383,18 +55455,18 @@ L_else_11_i_i_i_i_i:;
     v_r164_i_i_i_i_i = (u8)(v_r16022_i889_i_i_i_i);
     v_r168_i_i_i_i_i = (u8)(v_r9_i26_i_i_i_i);
     v_r20_i83_i_i_i_i_i = get_P(v_r7_i_i_i_i);
-    v_21 = (P)((uintptr_t)v_r20_i83_i_i_i_i_i + (u64)(v_r7_val5_i_i_i_i));
-    v_r26_i84_i_i_i_i_i = (P)((uintptr_t)v_21 + (u64)(-6));
+    v_21 = (P)((u64)v_r20_i83_i_i_i_i_i + (u64)(v_r7_val5_i_i_i_i));
+    v_r26_i84_i_i_i_i_i = (P)((u64)v_21 + (u64)(-6));
     put_u8(v_r26_i84_i_i_i_i_i, 48u);
-    v_r40_i_sroa_4_0_r26_i84_i_sroa_idx_i_i_i_i = (P)((uintptr_t)v_21 + (u64)(-5));
+    v_r40_i_sroa_4_0_r26_i84_i_sroa_idx_i_i_i_i = (P)((u64)v_21 + (u64)(-5));
     put_u8(v_r40_i_sroa_4_0_r26_i84_i_sroa_idx_i_i_i_i, 132u);
-    v_r40_i_sroa_5_0_r26_i84_i_sroa_idx_i_i_i_i = (P)((uintptr_t)v_21 + (u64)(-4));
+    v_r40_i_sroa_5_0_r26_i84_i_sroa_idx_i_i_i_i = (P)((u64)v_21 + (u64)(-4));
     put_u8(v_r40_i_sroa_5_0_r26_i84_i_sroa_idx_i_i_i_i, v_r152_i_i_i_i_i);
-    v_r40_i_sroa_6_0_r26_i84_i_sroa_idx_i_i_i_i = (P)((uintptr_t)v_21 + (u64)(-3));
+    v_r40_i_sroa_6_0_r26_i84_i_sroa_idx_i_i_i_i = (P)((u64)v_21 + (u64)(-3));
     put_u8(v_r40_i_sroa_6_0_r26_i84_i_sroa_idx_i_i_i_i, v_r158_i_i_i_i_i);
-    v_r40_i_sroa_7_0_r26_i84_i_sroa_idx_i_i_i_i = (P)((uintptr_t)v_21 + (u64)(-2));
+    v_r40_i_sroa_7_0_r26_i84_i_sroa_idx_i_i_i_i = (P)((u64)v_21 + (u64)(-2));
     put_u8(v_r40_i_sroa_7_0_r26_i84_i_sroa_idx_i_i_i_i, v_r164_i_i_i_i_i);
-    v_r40_i_sroa_8_0_r26_i84_i_sroa_idx_i_i_i_i = (P)((uintptr_t)v_21 + (u64)(-1));
+    v_r40_i_sroa_8_0_r26_i84_i_sroa_idx_i_i_i_i = (P)((u64)v_21 + (u64)(-1));
     put_u8(v_r40_i_sroa_8_0_r26_i84_i_sroa_idx_i_i_i_i, v_r168_i_i_i_i_i);
     { goto L_arm_1_i_i; }
 L_arm_1_i_i:;
@@ -55494,3 +55566,185 @@ L_pkcs1_c_pss_pkcs1_c_pss_params_encode_exit:;
     v_r6_0_i = p_v_r6_0_i;
     return v_r6_0_i;
 }
+
+#ifdef PKCS1_FOREIGN
+/* The calls of pkcs1_c.h. Each copies a caller's structs into the layout of the proved call, and what that filled back.
+ * None allocates. */
+#include <stdbool.h>
+#include <stddef.h>
+
+/* The fields of each struct: w is an address or a length, o an octet, and a dash goes to where a w can stand. */
+#define BYTES "ww"
+#define OTHER_PRIME BYTES BYTES BYTES
+#define PUBLIC_KEY BYTES BYTES
+#define PRIVATE_KEY PUBLIC_KEY OTHER_PRIME OTHER_PRIME "w"
+#define INFO BYTES "o-" BYTES
+#define ALGORITHM BYTES "oo-" BYTES
+#define MASK_GEN BYTES "o-" ALGORITHM
+#define PSS ALGORITHM MASK_GEN "oo"
+#define OAEP ALGORITHM MASK_GEN ALGORITHM
+
+/* Sizes, places in OTHER_PRIME and PRIVATE_KEY, the longest array that is copied, and statuses. */
+struct alignment { char octet; size_t word; };
+enum {
+    WORD = sizeof(size_t), ALIGNMENT = offsetof(struct alignment, word), LARGEST = 144, PRIME = 48,
+    COEFFICIENT = 32, OTHERS = 128, MOST_PRIMES = 64, OUT_OF_MEMORY = 17, OTHER_PRIMES = 21
+};
+
+/* The next multiple of `to`. */
+static size_t up(size_t at, size_t to) {
+    return (at + to - 1) / to * to;
+}
+
+/* Copies a caller's struct into the proved layout, and gives its place. */
+static P taken(unsigned char *own, const void *given, const char *fields) {
+    const unsigned char *from = given;
+    size_t at = 0, own_at = 0, word;
+    for (; *fields != 0; fields++)
+        if (*fields == 'w') {
+            memcpy(&word, from + at, WORD);
+            put_u64(AT(own + own_at), word);
+            at += WORD, own_at += 8;
+        } else if (*fields == 'o') {
+            own[own_at++] = from[at++];
+        } else {
+            at = up(at, ALIGNMENT), own_at = up(own_at, 8);
+        }
+    return AT(own);
+}
+
+/* Copies it back. */
+static void give_back(void *given, const unsigned char *own, const char *fields) {
+    unsigned char *to = given;
+    size_t at = 0, own_at = 0, word;
+    for (; *fields != 0; fields++)
+        if (*fields == 'w') {
+            word = (size_t)get_u64(AT(own + own_at));
+            memcpy(to + at, &word, WORD);
+            at += WORD, own_at += 8;
+        } else if (*fields == 'o') {
+            to[at++] = own[own_at++];
+        } else {
+            at = up(at, ALIGNMENT), own_at = up(own_at, 8);
+        }
+}
+
+u64 pkcs1_c_bit_len(const u8 *number, size_t number_len) {
+    return NAME(bit_len)(AT(number), number_len);
+}
+
+#define DECODER(name, FIELDS)                                                 \
+    u32 pkcs1_c_##name(const u8 *der, size_t der_len, void *value) {          \
+        unsigned char own[LARGEST];                                           \
+        u32 status = NAME(name)(AT(der), der_len, taken(own, value, FIELDS)); \
+        if (status == 0)                                                      \
+            give_back(value, own, FIELDS);                                    \
+        return status;                                                        \
+    }
+#define ENCODER(name, FIELDS)                                                      \
+    u32 pkcs1_c_##name(const void *value, u8 *out, size_t room, size_t *len) {     \
+        unsigned char own[LARGEST], own_len[8];                                    \
+        P at_len = taken(own_len, len, "w");                                       \
+        u32 status = NAME(name)(taken(own, value, FIELDS), AT(out), room, at_len); \
+        give_back(len, own_len, "w");                                              \
+        return status;                                                             \
+    }
+#define PARAMS(name, FIELDS)              \
+    DECODER(name##_decode, FIELDS)        \
+    DECODER(name##_decode_strict, FIELDS) \
+    ENCODER(name##_encode, FIELDS)
+#define TEST(name, FIELDS)                                                  \
+    bool pkcs1_c_##name(const void *value, const u8 *oid, size_t oid_len) { \
+        unsigned char own[LARGEST];                                         \
+        return NAME(name)(taken(own, value, FIELDS), AT(oid), oid_len);     \
+    }
+DECODER(public_key_decode, PUBLIC_KEY)
+ENCODER(public_key_encode, PUBLIC_KEY)
+ENCODER(private_key_info_encode, INFO)
+PARAMS(pss_params, PSS)
+PARAMS(pss_algorithm, PSS)
+PARAMS(oaep_params, OAEP)
+PARAMS(oaep_algorithm, OAEP)
+TEST(algorithm_is, ALGORITHM)
+TEST(pss_is, PSS)
+TEST(oaep_is, OAEP)
+
+u32 pkcs1_c_private_key_decode(const u8 *der, size_t der_len, void *key, void *listed) {
+    unsigned char own[LARGEST], own_listed[16];
+    P at_listed = taken(own_listed, listed, BYTES);
+    u32 status = NAME(private_key_decode)(AT(der), der_len, taken(own, key, PRIVATE_KEY), at_listed);
+    if (status == 0) {
+        give_back(key, own, PRIVATE_KEY);
+        give_back(listed, own_listed, BYTES);
+    }
+    return status;
+}
+
+u32 pkcs1_c_private_key_info_decode(const u8 *der, size_t der_len, void *info, void *key, void *listed) {
+    unsigned char own_info[LARGEST], own[LARGEST], own_listed[16];
+    P at_info = taken(own_info, info, INFO), at_listed = taken(own_listed, listed, BYTES);
+    u32 status = NAME(private_key_info_decode)(AT(der), der_len, at_info, taken(own, key, PRIVATE_KEY), at_listed);
+    if (status == 0) {
+        give_back(info, own_info, INFO);
+        give_back(key, own, PRIVATE_KEY);
+        give_back(listed, own_listed, BYTES);
+    }
+    return status;
+}
+
+/* One prime at a time, as there may be any number of them. The next one stands where the coefficient ends. */
+void pkcs1_c_other_primes(const u8 *listed, size_t listed_len, void *others, size_t others_room) {
+    unsigned char own[PRIME], *other = others;
+    P at = AT(listed), end = at + listed_len, coefficient = AT(own + COEFFICIENT);
+    for (; others_room > 0; others_room--, other += 6 * WORD) {
+        taken(own, other, OTHER_PRIME);
+        put_P(coefficient, at);
+        put_u64(coefficient + 8, 0);
+        NAME(other_primes)(at, end - at, AT(own), 1);
+        if (get_u64(coefficient + 8) == 0)
+            return;
+        give_back(other, own, OTHER_PRIME);
+        at = get_P(coefficient) + get_u64(coefficient + 8);
+    }
+}
+
+static u32 private_key_encode(P key, const unsigned char *others, size_t others_len, P out, u64 room, P len) {
+    unsigned char own[PRIME * (others_len + 1)];
+    for (size_t i = 0; i < others_len; i++)
+        taken(own + PRIME * i, others + 6 * WORD * i, OTHER_PRIME);
+    return NAME(private_key_encode)(key, AT(own), others_len, out, room, len);
+}
+
+/* Of more other primes than the stack should hold it says that there is no memory. */
+u32 pkcs1_c_private_key_encode(const void *key, const void *others, size_t others_len, u8 *out, size_t room,
+                               size_t *len) {
+    unsigned char own[LARGEST], own_len[8];
+    P at_key = taken(own, key, PRIVATE_KEY), at_len = taken(own_len, len, "w");
+    u32 status = get_u64(at_key + OTHERS) == others_len ? OUT_OF_MEMORY : OTHER_PRIMES;
+    if (others_len <= MOST_PRIMES)
+        status = private_key_encode(at_key, others, others_len, AT(out), room, at_len);
+    give_back(len, own_len, "w");
+    return status;
+}
+
+bool pkcs1_c_oaep_label(const void *params, void *label) {
+    unsigned char own[LARGEST], own_label[16];
+    P at_label = taken(own_label, label, BYTES);
+    bool has_label = NAME(oaep_label)(taken(own, params, OAEP), at_label);
+    if (has_label)
+        give_back(label, own_label, BYTES);
+    return has_label;
+}
+
+void pkcs1_c_status_text(u32 status, void *text) {
+    unsigned char own[16];
+    NAME(status_text)(status, taken(own, text, BYTES));
+    give_back(text, own, BYTES);
+}
+
+void pkcs1_c_version(void *text) {
+    unsigned char own[16];
+    NAME(version)(taken(own, text, BYTES));
+    give_back(text, own, BYTES);
+}
+#endif

@@ -1,9 +1,11 @@
 #!/usr/bin/env python3
-"""C for LLVM IR: python3 tools/generate/ir2c IN.ll OUT.c
+"""C for LLVM IR: python3 tools/generate/ir2c IN.ll BORDER.c OUT.c
 
 The IR is what LLVM's passes make of the module that rattle writes for a static library. The translation knows what
-such a module has today, and no more: it refuses the rest, with one line, the status 1, and no OUT.c.
+such a module has today, and no more: it refuses the rest, with one line, the status 1, and no OUT.c. head.c, which stands in
+front, says how memory is read on each machine. BORDER.c, which stands behind, is for those that aren't like x86-64.
 """
+import os
 import re
 import sys
 
@@ -14,36 +16,7 @@ from ir_types import Struct, type_of
 from operands import Globals
 from reading import Line, Refused
 
-HEAD = """\
-/* Made by tools/generate.sh of the proved library: not to be read, nor changed. PROVENANCE says from what. */
-#include <stdint.h>
-
-#if UINTPTR_MAX != 0xffffffffffffffffu || !defined __SIZEOF_INT128__
-#error "pkcs1: this code is for machines with addresses of 64 bits, and compilers that have __int128, as gcc and clang"
-#endif
-#if __BYTE_ORDER__ != __ORDER_LITTLE_ENDIAN__
-#error "pkcs1: this code is for machines that have the least octet of a number first"
-#endif
-
-#include <string.h>
-
-#define ALIGNED(n) __attribute__((aligned(n)))
-typedef unsigned char *P;
-typedef uint8_t u1, u8;
-typedef uint16_t u16;
-typedef uint32_t u32;
-typedef uint64_t u64;
-__extension__ typedef unsigned __int128 u128;
-
-#define GET(type) \\
-    static inline type get_##type(const unsigned char *at) { type it; memcpy(&it, at, sizeof it); return it; }
-#define PUT(type) static inline void put_##type(unsigned char *at, type it) { memcpy(at, &it, sizeof it); }
-
-/* Of no octets, as C's own may not be asked with no address. */
-static inline void copy(P to, const unsigned char *from, u64 n) { if (n != 0) memcpy(to, from, n); }
-static inline void move(P to, const unsigned char *from, u64 n) { if (n != 0) memmove(to, from, n); }
-static inline void fill(P to, u8 with, u64 n) { if (n != 0) memset(to, with, n); }
-"""
+HEAD = os.path.join(os.path.dirname(os.path.realpath(__file__)), "head.c")
 LINKAGE = {"internal", "fastcc", "local_unnamed_addr", "unnamed_addr", "dso_local", "private"}
 
 
@@ -95,7 +68,8 @@ class Module:
         _, made = self.header(line, scope)
         line.expect("{")
         line.end()
-        self.headers.append(made + ";")
+        linkage = "LINKAGE " if made.split("(")[0].endswith(" NAME") else ""
+        self.headers.append(f"{linkage}{made};")
         self.bodies.append("\n".join([made + " {", *scope.body(lines), "}"]))
 
     def read(self, lines):
@@ -103,7 +77,7 @@ class Module:
         lines = iter(lines)
         for text in lines:
             if text.startswith("@"):
-                self.constants.append(constant(text, Function(self)))
+                self.constants.append(constant(text, self.names))
             elif text.startswith("declare "):
                 self.declaration(text)
             elif text.startswith("define "):
@@ -112,23 +86,28 @@ class Module:
                 raise Refused(f"not known: {text[:200]}")
 
     def text(self):
-        """The C file."""
+        """What the C file has between its head and its border."""
         structs = [f"{it} {{ {' '.join(f'{of} f{n};' for n, of in enumerate(it.fields))} }};"
                    for it in sorted(self.structs, key=str)]
-        parts = [HEAD, *sorted(self.memory), *structs, *self.constants, *self.headers, *self.bodies]
+        parts = [*sorted(self.memory), *structs, *self.constants, *self.headers, *self.bodies]
         return "\n".join(parts) + "\n"
 
 
+def text_of(path):
+    """The text of a file."""
+    with open(path, encoding="utf-8") as it:
+        return it.read()
+
+
 def main():
-    source, out = sys.argv[1:]
+    source, border, out = sys.argv[1:]
     module = Module()
     try:
-        with open(source, encoding="utf-8") as it:
-            module.read(it.read().split("\n"))
+        module.read(text_of(source).split("\n"))
     except Refused as refusal:
         sys.exit(f"ir2c: {refusal}")
     with open(out, "w", encoding="utf-8") as it:
-        it.write(module.text())
+        it.write(f"{text_of(HEAD)}\n{module.text()}\n#ifdef PKCS1_FOREIGN\n{text_of(border)}#endif\n")
 
 
 main()

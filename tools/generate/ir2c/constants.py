@@ -1,8 +1,7 @@
-"""Constants: octets, and rows of numbers or of addresses."""
+"""Constants: octets, and rows of numbers."""
 import re
 
-from ir_types import Array, Integer, Pointer, type_of
-from operands import operand
+from ir_types import Array, Integer, type_of
 from reading import Line, Refused
 
 CONSTANT = re.compile(r'(@\S+|@"[^"]*") = (?:private |internal )(?:unnamed_addr )?constant (.*)$')
@@ -16,39 +15,35 @@ def octets_of(text):
     return made
 
 
-def elements_of(line, type_, scope):
-    """Takes what the constant holds, as expressions in C."""
+def elements_of(line, type_):
+    """Takes what the constant holds, as octets: those of a number in their order on x86-64."""
     if line.accept("zeroinitializer"):
-        return ["0"]
+        return bytes(type_.octets)
     if line.peek().startswith('c"'):
-        octets = octets_of(line.take()[2:-1])
-        if type_.element != Integer(8) or len(octets) != type_.count:
-            raise line.refused()
-        return [str(it) for it in octets]
+        return octets_of(line.take()[2:-1])
+    made = bytearray()
     line.expect("[")
-    made = []
     while not line.accept("]"):
         if type_of(line) != type_.element:
             raise line.refused()
-        made.append(operand(line, type_.element, scope))
+        made += (line.number() % (1 << type_.element.width)).to_bytes(type_.element.octets, "little")
         if line.peek() != "]":
             line.expect(",")
     return made
 
 
-def constant(text, scope):
+def constant(text, names):
     """The line of IR as a definition in C."""
     found = CONSTANT.match(text)
     if not found:
         raise Refused(f"not known: {text[:200]}")
     line = Line(found[2])
     type_ = type_of(line)
-    if not isinstance(type_, Array) or not isinstance(type_.element, (Integer, Pointer)):
+    if not isinstance(type_, Array) or not isinstance(type_.element, Integer):
         raise line.refused()
-    _ = type_.octets
-    element = "unsigned char" if type_.element == Integer(8) else str(type_.element)
-    values = ", ".join(elements_of(line, type_, scope)) or "0"
+    made = elements_of(line, type_)
+    if len(made) != type_.octets:
+        raise line.refused()
     line.end()
-    if isinstance(type_.element, Pointer):
-        element = "P"
-    return f"static const {element} {scope.module.names[found[1]]}[{max(type_.count, 1)}] = {{{values}}};"
+    values = ", ".join(map(str, made)) or "0"
+    return f"static const unsigned char {names[found[1]]}[{max(len(made), 1)}] = {{{values}}};"

@@ -1,7 +1,7 @@
 """Instructions: a table of opcodes, and a function for each kind, which takes its operands and gives C for it.
 
 Numbers are unsigned in C too, and their bits above those of their type are zero. So a sum is cut to the type, and a
-sign is told by its bit. Memory is read and written by memcpy, at any alignment.
+sign is told by its bit. Memory is read and written by memcpy, at any alignment. An address is a number where P is one.
 """
 from calls import call
 from ir_types import Integer, Pointer, Struct, type_of
@@ -60,7 +60,7 @@ def compare(line, result, scope):
     line.expect(",")
     right = operand(line, type_, scope)
     if isinstance(type_, Pointer) and predicate not in ("eq", "ne"):
-        left, right = f"(uintptr_t)({left})", f"(uintptr_t)({right})"
+        left, right = f"(u64)({left})", f"(u64)({right})"
     if predicate[0] == "s":
         if not isinstance(type_, Integer):
             raise line.refused()
@@ -109,14 +109,14 @@ def address(line, source, target, value):
     """ptrtoint, ptrtoaddr."""
     if not isinstance(source, Pointer) or not isinstance(target, Integer):
         raise line.refused()
-    return cut(target, f"(uintptr_t){value}")
+    return cut(target, f"(u64){value}")
 
 
 def pointer(line, source, target, value):
     """inttoptr."""
     if not isinstance(source, Integer) or not isinstance(target, Pointer):
         raise line.refused()
-    return f"(P)(uintptr_t){value}"
+    return f"(P)(u64){value}"
 
 
 def place(line, result, scope):
@@ -127,7 +127,7 @@ def place(line, result, scope):
     if not scope.is_first_block():
         raise line.refused()
     scope.declare(f"ALIGNED({alignment}) unsigned char m_{scope.registers[result]}[{max(type_.octets, 1)}]")
-    scope.let(result, Pointer(), f"m_{scope.registers[result]}")
+    scope.let(result, Pointer(), f"AT(m_{scope.registers[result]})")
 
 
 def load(line, result, scope):
@@ -167,7 +167,7 @@ def offset(line, result, scope):
         index = index if constant is not None else f"(int64_t)({index})"
         scope.let(result, Pointer(), f"{base} + {index}")
     else:
-        scope.let(result, Pointer(), f"(P)((uintptr_t){base} + (u64)({index}))")
+        scope.let(result, Pointer(), f"(P)((u64){base} + (u64)({index}))")
 
 
 def field(line, result, scope):

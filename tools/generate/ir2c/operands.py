@@ -27,12 +27,12 @@ class Names:
 
 
 class Globals(Names):
-    """Names of functions and constants: those that other files know are theirs, but for rattle's, which are ours."""
+    """Names of functions and constants: of those that other files know, by a macro of head.c, but for rattle's."""
 
     def __getitem__(self, name):
         if not EXTERNAL.fullmatch(name):
             return super().__getitem__(name)
-        return name[1:] if name.startswith("@pkcs1_c_") else f"pkcs1_{name[1:]}"
+        return f"NAME({name[9:]})" if name.startswith("@pkcs1_c_") else f"pkcs1_{name[1:]}"
 
 
 def of_register(token, _type, scope):
@@ -45,7 +45,7 @@ def of_global(token, type_, scope):
     """The address of a constant or a function."""
     if not isinstance(type_, Pointer):
         raise Refused(f"not known: the address {token} as another value")
-    return f"(P){scope.module.names[token]}"
+    return f"AT({scope.module.names[token]})"
 
 
 def of_number(token, type_, _scope):
@@ -70,7 +70,7 @@ def of_address(line, scope):
     line.expect("(", "ptr")
     value = of_global(line.take(), Pointer(), scope)
     line.expect("to", "i64", ")")
-    return f"(u64)(uintptr_t){value}"
+    return f"(u64){value}"
 
 
 def of_part(line, scope):
