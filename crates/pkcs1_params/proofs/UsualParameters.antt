@@ -18,7 +18,7 @@ use Rattle.pkcs1_params.specs.Laws.Records.{oaep_record, pss_record}
 use Rattle.pkcs1_params.specs.Parameters.{with_parameters}
 use Rattle.pkcs1_params.specs.UsualParameters.{IsUsualOaep, IsUsualPss, fields_with_hash, oaep_with_hash, pss_with_hash}
 use Rattle.pkcs1_params.specs.UsualParameters.{salt_field}
-use Rattle.standard.specs.Statement.{OaepParameters, PssParameters, Decodes, Field, IsShortest}
+use Rattle.standard.specs.Statement.{OaepParameters, PssParameters, Decodes, Field, IsShortest, sha1}
 use Rattle.der_core.specs.Encodings.{AreBytes}
 use Rattle.der_core.specs.Laws.Readings.{bind_ok}
 use Rattle.der_core.specs.Printed.{ok_of}
@@ -46,6 +46,25 @@ whole_sequence read v c b few is value =
     let none : drop n c ≡ [] = drop_all n c (omega arith) in
     rw (is, within, test, there, all, none, value) refl
 
+-- A salt length of one octet is read as that octet.
+module _ (s : ℕ) (small : s < 128) where
+  is_small : nat_lt s 128 ≡ true
+  is_small = grind (arith, nat_tests)
+
+  number : number_from_digits 256 (s ∷ []) ≡ s
+  number = omega arith
+
+  is_byte : nat_lt (number_from_digits 256 (s ∷ [])) 256 ≡ true
+  is_byte = let byte : nat_lt s 256 ≡ true = grind (arith, nat_tests) in rw number byte
+
+  -- Alone, it leaves the other fields at their defaults.
+  pub salt_usual : (strict : Bool) → (strict && eqb s 20) ≡ false
+      → (if strict then record_strictly pss_record else record_read pss_record) (salt_field s)
+      ≡ Ok (pss_with_hash sha1 s)
+  unfolding header_at length_at
+  salt_usual true other = rw (is_small, is_byte, number, other) refl
+  salt_usual false other = rw (is_small, is_byte, number) refl
+
 -- The two fields are read as the hash function that they begin with, and no default is written in them.
 module _ (n : ℕ) (few : n ≤ 6) where
   ends : nat_lt n 128 ≡ true
@@ -54,24 +73,15 @@ module _ (n : ℕ) (few : n ≤ 6) where
   starts : (n == 128) ≡ false
   starts = grind (arith, nat_tests)
 
-  -- A salt length of one octet is read as that octet.
-  module _ (s : ℕ) (small : s < 128) where
-    is_small : nat_lt s 128 ≡ true
-    is_small = grind (arith, nat_tests)
-
-    number : number_from_digits 256 (s ∷ []) ≡ s
-    number = omega arith
-
-    is_byte : nat_lt (number_from_digits 256 (s ∷ [])) 256 ≡ true
-    is_byte = let byte : nat_lt s 256 ≡ true = grind (arith, nat_tests) in rw number byte
-
-    pss_fields_read : (strict : Bool) → (strict && eqb s 20) ≡ false
-        → (if strict then record_strictly pss_record else record_read pss_record)
-        (fields_with_hash (hash_algorithm n) ++ salt_field s)
-        ≡ Ok (pss_with_hash (with_parameters (hash_algorithm n) null_value) s)
-    unfolding header_at length_at
-    pss_fields_read true other = rw (starts, ends, starts, ends, is_small, is_byte, number, other) refl
-    pss_fields_read false other = rw (starts, ends, starts, ends, is_small, is_byte, number) refl
+  pss_fields_read : (s : ℕ) → s < 128 → (strict : Bool) → (strict && eqb s 20) ≡ false
+      → (if strict then record_strictly pss_record else record_read pss_record)
+      (fields_with_hash (hash_algorithm n) ++ salt_field s)
+      ≡ Ok (pss_with_hash (with_parameters (hash_algorithm n) null_value) s)
+  unfolding header_at length_at
+  pss_fields_read s small true other =
+      rw (starts, ends, starts, ends, is_small s small, is_byte s small, number s small, other) refl
+  pss_fields_read s small false other =
+      rw (starts, ends, starts, ends, is_small s small, is_byte s small, number s small) refl
 
   oaep_fields_read : (strict : Bool)
       → (if strict then record_strictly oaep_record else record_read oaep_record) (fields_with_hash (hash_algorithm n))

@@ -17,7 +17,7 @@ use crate::reading::{
 };
 use crate::strict;
 use crate::trailer_field::TrailerField;
-use crate::usual::usual_pss;
+use crate::usual::{accept_salt, usual_pss, usual_salt};
 use der_core::{
     DecodeValue, ErrorKind, Header, Memory, NoMemory, Reader, Tag, TagNumber, quick_short,
 };
@@ -78,11 +78,13 @@ impl<'a, O: ReadParams<'a>> AlgorithmParams<'a> for PssParamsOf<O, AnyRef<'a>> {
         if contents.is_empty() {
             return Some(PssParamsOf::default());
         }
-        let view = usual_pss(contents)?;
-        if strict && view.salt_len == RsaPssParamsRef::SALT_LEN_DEFAULT {
-            return None;
+        if let Some(view) = usual_pss(contents) {
+            accept_salt(strict, view.salt_len)?;
+            return Some(O::pss_from_view(view));
         }
-        Some(O::pss_from_view(view))
+        let salt_len = usual_salt(contents)?;
+        accept_salt(strict, salt_len)?;
+        Some(PssParamsOf::of_hash::<Sha1, NoMemory>(NoMemory, salt_len))
     }
 
     fn quick_strictly(contents: &'a [u8]) -> Option<PssParamsOf<O, AnyRef<'a>>> {

@@ -1,6 +1,6 @@
-//! Parameters that begin with a SHA-2 hash function with NULL, and MGF1 with the same hash function. Most do, so their
-//! octets are compared before they are read field by field.
-ghost use Rattle.std.specs.Prelude.{◌≡◌, ◌<◌, ◌∷◌, [], length, IfSome, IsTrue};
+//! Parameters that begin with a SHA-2 hash function with NULL, and MGF1 with the same hash function, or have a salt length
+//! alone. Most are such, so their octets are compared before they are read field by field.
+ghost use Rattle.std.specs.Prelude.{◌≡◌, ◌<◌, ◌∷◌, ◌&&◌, [], eqb, false, length, IfSome, IsTrue};
 ghost use Rattle.der_core.specs.Words.{sequence_tag};
 ghost use Rattle.spki_core.specs.Words.{any_of, mask_in, octets_of, viewed_with};
 ghost use Rattle.pkcs1_params.specs.Words.{AreUsual, HaveUsualHash, IsUsualOaep, IsUsualPss, id_mgf1, oaep_viewed};
@@ -8,7 +8,7 @@ ghost use Rattle.pkcs1_params.specs.Words.{pss_viewed, with_parameters};
 
 use crate::oaep::RsaOaepParamsView;
 use crate::p_source::empty_source;
-use crate::pss::RsaPssParamsView;
+use crate::pss::{RsaPssParamsRef, RsaPssParamsView};
 use crate::trailer_field::TrailerField;
 use der_core::{NoMemory, Tag};
 use spki_core::{AlgorithmView, AnyRef, IdentifierView};
@@ -104,13 +104,24 @@ fn usual_algorithms(fields: &[u8]) -> Option<UsualAlgorithms<'_>>
 
 /// The salt length in these octets of its field, if it is below 128.
 #[inline(always)]
-fn usual_salt(field: &[u8]) -> Option<u8>
+pub(crate) fn usual_salt(field: &[u8]) -> Option<u8>
     ensures { IfSome result (λ s. (s < 128) × (field.now ≡ 0xa2 ∷ 0x03 ∷ 0x02 ∷ 0x01 ∷ s ∷ [])) }
 {
     match field {
         [0xa2, 0x03, 0x02, 0x01, salt_len] if *salt_len < 0x80 => Some(*salt_len),
         _ => None,
     }
+}
+
+/// `None` if strict reading refuses a salt length that is there, as it is the default.
+#[inline(always)]
+pub(crate) fn accept_salt(strict: bool, salt_len: u8) -> Option<()>
+    ensures { IfSome result (λ _. (strict && eqb salt_len 20) ≡ false) }
+{
+    if strict && salt_len == RsaPssParamsRef::SALT_LEN_DEFAULT {
+        return None;
+    }
+    Some(())
 }
 
 /// The parameters with these contents octets, if they are the two fields and a salt length below 128.

@@ -1,16 +1,18 @@
-use Rattle.std.proofs.Common.{◌&&◌, ◌≡◌, ◌∙◌, ap, eqb, false, refl, sym, Ok, arith}
-use Rattle.std.proofs.lemmas.Bool.Decides.{nat_tests}
-use Rattle.pkcs1_params.proofs.UsualParameters.{pss_usual}
+use Rattle.std.proofs.Common.{◌∙◌, ap, sym, Ok}
+use Rattle.std.specs.Prelude.{if◌then◌else◌}
+use Rattle.spki_core.specs.FieldSpellings.{record_read, record_strictly}
+use Rattle.pkcs1_params.specs.Laws.Records.{pss_record}
+use Rattle.pkcs1_params.proofs.UsualParameters.{pss_usual, salt_usual}
 use Rattle.pkcs1_params.proofs.pss_reading.PssParamsOfAnyRefAlgorithmParams.usual.Goals as goal
-use Rattle.pkcs1_params.proofs.pss_reading.PssParamsOfAnyRefAlgorithmParams.usual.Goals.{else-strict-via-else-strict}
-use Rattle.pkcs1_params.proofs.pss_reading.PssParamsOfAnyRefAlgorithmParams.usual.Goals.{else-strict-via-then-strict+else-view-eq-SALT_LEN_DEFAULT}
+
+pub returns-in-Some : goal.returns-in-Some
+returns-in-Some g c =
+    pss_usual c.args.strict _ _ c.in-Some.ensures c.in_ok-accept_salt.ensures
+    ∙ ap (λ v. Ok v) (sym c.pss_from_view.ensures)
 
 pub returns : goal.returns
 returns g c =
-    let other : (c.args.strict && eqb c.in_ok-view.view.salt_len 20) ≡ false = elim c.else-strict.branch [
-      | else-strict-via-then-strict+else-view-eq-SALT_LEN_DEFAULT w ↦
-          let not : eqb c.in_ok-view.view.salt_len 20 ≡ false = grind (arith, nat_tests, w.if-view-eq-SALT_LEN_DEFAULT.false) in
-          rw (w.if-strict.true, not) refl
-      | else-strict-via-else-strict w ↦ rw w.if-strict.false refl
-    ] in
-    pss_usual c.args.strict _ _ c.in_ok-view.ensures other ∙ ap (λ v. Ok v) (sym c.pss_from_view.ensures)
+    let salt = c.in_ok-salt_len.ensures in
+    let read = if c.args.strict then record_strictly pss_record else record_read pss_record in
+    ap read salt.1 ∙ salt_usual _ salt.0 c.args.strict c.in_ok-accept_salt-2.ensures
+    ∙ ap (λ v. Ok v) (sym c.of_hash.ensures)
