@@ -74,6 +74,27 @@ e:
 %r = sub i64 %x, %y
 ret i64 %r
 
+%m = alloca [16 x i8], align 8
+store i64 %a, ptr %m, align 8
+%x = trunc i64 %b to i56
+%p = getelementptr i8, ptr %m, i64 1
+store i56 %x, ptr %p, align 1
+%y = load i64, ptr %m, align 8
+%q = getelementptr i8, ptr %m, i64 2
+%z = load i24, ptr %q, align 1
+%w = zext i24 %z to i64
+%r = xor i64 %y, %w
+ret i64 %r
+
+%c = icmp ult i64 %a, %b
+br i1 %c, label %l, label %e
+l:
+br label %e
+e:
+%x = phi i64 [ ptrtoint (ptr @text to i64), %begin ], [ add (i64 ptrtoint (ptr @text to i64), i64 3), %l ]
+%r = sub i64 %x, ptrtoint (ptr @text to i64)
+ret i64 %r
+
 %s = insertvalue { i64, i8 } poison, i64 %a, 0
 %x = trunc i64 %b to i8
 %t = insertvalue { i64, i8 } %s, i8 %x, 1

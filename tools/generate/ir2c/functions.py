@@ -52,6 +52,9 @@ class Function:
         """The name of what reads (GET) or writes (PUT) values of this type."""
         if not isinstance(type_, (Integer, Pointer)):
             raise line.refused()
+        if isinstance(type_, Integer) and type_.is_part:
+            self.module.memory.add(f"{macro}_PART({type_.bits})")
+            return f"{macro.lower()}_{type_.bits}"
         _ = type_.octets
         self.module.memory.add(f"{macro}({type_})")
         return f"{macro.lower()}_{type_}"
@@ -83,7 +86,7 @@ class Function:
                 type_, arms = type_of(line), {}
                 while not arms or line.accept(","):
                     line.expect("[")
-                    value = line.take()
+                    value = line.until_comma()
                     line.expect(",")
                     arms[line.take()] = value
                     line.expect("]")

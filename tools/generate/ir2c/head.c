@@ -52,6 +52,10 @@ typedef unsigned char *P;
     type it; memcpy(&it, OCTETS(at), sizeof it); return ORDER(type, it); }
 #define PUT(type) static inline void put_##type(P at, type it) { \
     it = ORDER(type, it); memcpy(OCTETS(at), &it, sizeof it); }
+#define GET_PART(bits) static inline u64 get_##bits(P at) { \
+    u64 it = 0; for (unsigned i = bits / 8; i > 0; i--) it = it << 8 | OCTETS(at)[i - 1]; return it; }
+#define PUT_PART(bits) static inline void put_##bits(P at, u64 it) { \
+    for (unsigned i = 0; i < bits / 8; i++) OCTETS(at)[i] = (u8)(it >> 8 * i); }
 
 /* Of no octets, as C's own may not be asked with no address. */
 static inline void copy(P to, P from, u64 n) { if (n != 0) memcpy(OCTETS(to), OCTETS(from), (size_t)n); }

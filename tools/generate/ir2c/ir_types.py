@@ -22,6 +22,11 @@ class Integer:
         raise Refused(f"not known: a number of {self.bits} bits")
 
     @property
+    def is_part(self):
+        """Whether it has so many whole octets as no number of C has."""
+        return self.bits < 64 and self.bits % 8 == 0 and self.bits not in WIDTHS
+
+    @property
     def octets(self):
         """The octets that it takes in memory."""
         if self.bits != 1 and self.bits not in WIDTHS:

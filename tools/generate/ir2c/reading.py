@@ -48,6 +48,14 @@ class Line:
         if not self.accept(*wanted):
             raise self.refused()
 
+    def until_comma(self):
+        """Takes what stands in front of the next comma outside of brackets, as a text."""
+        taken, depth = [], 0
+        while depth > 0 or self.peek() != ",":
+            taken.append(self.take())
+            depth += (taken[-1] in ("(", "[", "{")) - (taken[-1] in (")", "]", "}"))
+        return " ".join(taken)
+
     def skip(self, words):
         """Takes all tokens that are next and among these, with what follows them in brackets."""
         while self.peek() in words:
