@@ -145,7 +145,7 @@ unknown_is_refused() {
     refuses '%2 = fadd double 1.0, 2.0' 'not known: the instruction fadd'
     refuses '%2 = sdiv i64 %1, 3' 'not known: the instruction sdiv'
     refuses '%2 = load volatile i64, ptr %0, align 8' 'not known: volatile'
-    refuses '%2 = load i24, ptr %0, align 1' 'a number of 24 bits in memory'
+    refuses '%2 = load i20, ptr %0, align 1' 'a number of 20 bits in memory'
     refuses 'call void @llvm.umul.with.overflow.i64(i64 %1, i64 1)' 'not known: @llvm.umul.with.overflow.i64'
     refuses 'call void @llvm.memset.p0.i64(ptr %0, i8 0, i64 %1, i1 true)' 'a volatile fill'
     refuses 'call void %0(i64 %1)' 'not known: %0'
