@@ -1,5 +1,6 @@
 -- What is printed of the row is what its grammar says.
 use Rattle.std.proofs.Common.{ℕ, List, [], ◌∷◌, ◌++◌, ◌≡◌, ◌∙◌, map, refl, ap, append-nil, arith, sym}
+use Rattle.std.proofs.lemmas.List.{map-id}
 use Rattle.std.specs.List.{AllByRecursion}
 use Rattle.der_core.specs.Laws.Printed.OptionalRows.{IsInRange}
 use Rattle.der_core.specs.Laws.Printed.Relations.{StatedAs, stated}
@@ -23,10 +24,6 @@ spelled v = (v.0, (map (λ n. n) v.1.0, tt))
 abbrev numbers : Row → NumberList
 numbers v = record { version = v.0; numbers = v.1.0 }
 
-same_numbers : (ns : List ℕ) → map (λ n. n) ns ≡ ns
-same_numbers [] = refl
-same_numbers (n ∷ ns) = ap (λ rest. n ∷ rest) (same_numbers ns)
-
 all_numbers : (ns : List ℕ) → AllByRecursion (λ _. Unit {0}) ns
 all_numbers [] = tt
 all_numbers (n ∷ ns) = (tt, all_numbers ns)
@@ -37,7 +34,7 @@ one_end v = ap (λ list. sequence (integer v.0 ++ list)) (append-nil (sequence (
 pub number_list_law : StatedAs (λ v. IsRow (spelled v)) (Spells IsRow printed spelled) IsNumberList NumberListEncoding
     numbers
 number_list_law =
-    stated spelled (λ v i. (v.0, (same_numbers v.1.0 i, tt))) (λ w. (w.version, (w.numbers, tt))) (λ w. refl)
+    stated spelled (λ v i. (v.0, (map-id v.1.0 i, tt))) (λ w. (w.version, (w.numbers, tt))) (λ w. refl)
     (λ v. (λ p. omega (arith, p.0.0.1), λ p. (((omega arith, omega (arith, p)), omega (arith, p)), (all_numbers v.1.0, tt))))
     (λ v bytes. (
       λ (few, ok, is). (few, omega (arith, ok.0.0.1), is ∙ one_end v),
