@@ -33,7 +33,7 @@ reads() {
 for command in 'rsa -in' 'rsa -pubin'; do
     grep -q "openssl $command" "$1" || stop "$1 has no command: openssl $command .."
 done
-# Those that write a file; docs/check_commands.sh runs the others, which write to a pipe or ask for a place.
+# Those that write a file; tools/docs/check_commands.sh runs the others, which write to a pipe or ask for a place.
 sed 's/\\-/-/g' "$@" | grep -oE 'openssl [a-z0-9]+ -[^`#|"]*' | grep -e ' -out ' | sed 's/ *$//' | sort -u > "$room/commands"
 cd "$room"
 openssl genrsa -out pkcs8.pem 2048 2> log

@@ -169,7 +169,7 @@ release() {
     for it in crates/*/{src,specs,proofs}; do
         [ ! -d "$it" ] || diff -r "$it" "$room/unpacked/$it"
     done
-    docs/check_names.sh "$room/unpacked" README.md
+    tools/docs/check_names.sh "$room/unpacked" README.md
     grep -qx "commit: $(git rev-parse HEAD)" "$room/unpacked/ffi/rust/generated/PROVENANCE" || stop "no commit is named"
     parts "$room/unpacked"
 }

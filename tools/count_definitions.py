@@ -4,7 +4,7 @@ containers and parameters, and those that these cite in turn, down to the kit. O
 the getters say what they hold, and of a record's parts that are proofs (PROOFS) nothing has to be read. Prints how many
 definitions, lines of code and modules there are: of the calls for public keys (PUBLIC_KEY), then of all, without the
 kinds of errors (the clauses and laws in ERRORS), with these, and with the bytes for which reading may ask for memory
-(MEMORY, ALLOCATING). docs/CLAIM.md quotes these lines, and docs/check_counts.sh compares them."""
+(MEMORY, ALLOCATING). docs/CLAIM.md quotes these lines, and tools/docs/check_counts.sh compares them."""
 import pathlib
 import re
 

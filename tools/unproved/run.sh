@@ -72,7 +72,7 @@ END
 documents() {
     local check
     needs python3 perl
-    for check in docs/check_*.sh; do
+    for check in tools/docs/check_*.sh; do
         "$check"
     done
 }

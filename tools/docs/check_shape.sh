@@ -2,7 +2,7 @@
 # The shape of src/: no line of a clause has more than 120 columns, and no file of code more than 300 lines. And src/ cites
 # no proofs/ of any crate here: what contracts and ghost members name stands in specs/. Each place that breaks this is named.
 set -eu
-cd "$(dirname "$0")/.."
+cd "$(dirname "$0")/../.."
 export LC_ALL=C.UTF-8
 
 find crates -name out -prune -o -path '*/src/*' -name '*.rt' -print | sort | perl -CSAD -e '

@@ -1,8 +1,8 @@
 #!/usr/bin/env python3
-"""Makes the chapters on calls of docs/PROMISES.md, between its two marks, of the sources and of docs/promises.txt.
+"""Makes the chapters on calls of docs/PROMISES.md, between its two marks, of the sources and of promises.txt here.
 
-    docs/make_promises.py            writes the document anew
-    docs/make_promises.py --check    fails if it would change, or if a call is left out
+    tools/docs/make_promises.py            writes the document anew
+    tools/docs/make_promises.py --check    fails if it would change, or if a call is left out
 
 Of each call the sources give its comment, the names of its clauses, and its file. promises.txt says in which order
 calls stand, and what a clause says where no comment says it:
@@ -26,8 +26,8 @@ import re
 import sys
 
 PRODUCTS = ["pkcs1_c", "pkcs1_tool"]
-DOCUMENT, DATA = "docs/PROMISES.md", "docs/promises.txt"
-BEGIN, END = "<!-- made by docs/make_promises.py -->", "<!-- end of what is made -->"
+DOCUMENT, DATA = "docs/PROMISES.md", "tools/docs/promises.txt"
+BEGIN, END = "<!-- made by tools/docs/make_promises.py -->", "<!-- end of what is made -->"
 ROW = re.compile(r"  ([\w, /-]+): (.*)")
 ITEM = re.compile(r"- `(\w+)`: (.*)")
 HEAD, HEADS = ["///"], ["| call | promise | clauses |", "|---|---|---|"]
@@ -242,7 +242,7 @@ def main():
     new = made() + "\n"
     public = check_all(exported, open_files)
     if sys.argv[1:] == ["--check"]:
-        old == new or wrong.append(f"{DOCUMENT} isn't what docs/make_promises.py makes: run it")
+        old == new or wrong.append(f"{DOCUMENT} isn't what tools/docs/make_promises.py makes: run it")
     elif not wrong:
         with open(DOCUMENT, "w") as document:
             document.write(before + BEGIN + "\n" + new + END + "\n" + after)

@@ -3,7 +3,7 @@
 # a line, in one file of the code that the gate proves or runs. check_commands.sh runs blocks of `sh`, `cmake` and
 # `meson`, and check_names.sh reads those of `text`.
 set -eu
-cd "$(dirname "$0")/.."
+cd "$(dirname "$0")/../.."
 exec python3 - <<'END'
 import glob, re, sys
 

@@ -5,7 +5,7 @@
 # blocks print and write is compared with what OpenSSL says. The blocks on CMake and Meson build a program, where these
 # are installed.
 set -eu
-cd "$(dirname "$0")/.."
+cd "$(dirname "$0")/../.."
 top=$PWD
 allowed='grep ls od openssl paste pkg-config sed sh split tail tr'
 # The parameters in the certificate, and all that stands in front of them in their algorithm identifier.
@@ -15,7 +15,7 @@ sha256=608648016503040201/05:
 printed_params="hash=$sha256 mask=2a864886f70d010108/[$sha256] salt=32 trailer=1 defaults=1 again=$params"
 
 stop() {
-    printf 'docs/check_commands.sh: %s\n' "$*" >&2
+    printf 'tools/docs/check_commands.sh: %s\n' "$*" >&2
     exit 1
 }
 # blocks FILE..: each block of these documents, in a file.
@@ -65,7 +65,7 @@ block() {
 # have TOOL: whether it is installed; if not, says that its block isn't tested.
 have() {
     command -v "$1" > /dev/null && return
-    echo "docs/check_commands.sh: $1 is not installed: its block isn't tested" >&2
+    echo "tools/docs/check_commands.sh: $1 is not installed: its block isn't tested" >&2
     return 1
 }
 # prints_modulus PROGRAM: it prints that of the key in pub.der.
