@@ -66,7 +66,7 @@ class Code:
         return self.tokens[at].text if at < len(self.tokens) else ""
 
     def behind(self, at, ends):
-        """Behind the first of these signs that stands in no brackets opened here, or at a bracket that closes before."""
+        """Behind the first of these signs that is in no brackets opened from here on, or at a bracket that closes."""
         depth = 0
         while at < len(self.tokens):
             depth += (self.word(at) in "([{") - (self.word(at) in ")]}") if len(self.word(at)) == 1 else 0

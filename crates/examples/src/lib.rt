@@ -13,6 +13,7 @@ mod number_list;
 mod optional_salt;
 mod primes;
 mod signatures;
+mod sizes;
 
 pub use by_grammar::{read_signature, write_signature};
 pub use bytes::{modulus_of, public_half};
@@ -26,3 +27,4 @@ pub use number_list::{NumberList, NumberListRef, read_number_list, write_number_
 pub use optional_salt::{OptionalSalt, OptionalSaltRef, read_optional_salt, write_optional_salt};
 pub use primes::primes_of;
 pub use signatures::{is_accepted, salt_with_sha256};
+pub use sizes::{modulus_len, salt_len};

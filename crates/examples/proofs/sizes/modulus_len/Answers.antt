@@ -1,6 +1,6 @@
 use Rattle.std.proofs.Common.{rules}
 use Rattle.der_core.specs.Laws.Printed.Leaves.{number_octets}
-use Rattle.example_crate.proofs.modulus_len.Goals as goal
+use Rattle.examples.proofs.sizes.modulus_len.Goals as goal
 
 -- The key is the one that was read. The octets of its modulus are the bytes that it holds.
 pub returns-clause-ok : goal.returns-clause-ok

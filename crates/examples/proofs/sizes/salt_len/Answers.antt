@@ -1,5 +1,5 @@
 use Rattle.std.proofs.Common.{refl}
-use Rattle.example_crate.proofs.salt_len.Goals as goal
+use Rattle.examples.proofs.sizes.salt_len.Goals as goal
 
 -- The parameters are those that were read.
 pub returns-clause-ok : goal.returns-clause-ok

@@ -1,6 +1,4 @@
-//! Sizes that a signer asks of keys and parameters: a small crate above the library.
-#![tactic(auto)]
-
+//! Sizes that a signer asks of keys and parameters. This is all the code of a crate of one's own.
 ghost use Rattle.std.specs.Prelude.{◌≡◌, length, IfOk, OnErr, Some, None};
 ghost use Rattle.standard.specs.Statement.{ContainedKeyEncoding, Decodes, IsShortest, PrivateKey, PssEncoding};
 ghost use Rattle.standard.specs.Statement.{PssParameters, octets};
