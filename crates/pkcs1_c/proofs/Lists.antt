@@ -1,9 +1,8 @@
 -- Lists of other primes, one prime longer.
-use Rattle.std.proofs.Common.{ℕ, List, [], ◌∷◌, ◌++◌, ◌≡◌, ◌+◌, ◌<◌, length, append_assoc, map, take, drop, get_or, sym}
+use Rattle.std.proofs.Common.{ℕ, List, [], ◌∷◌, ◌++◌, ◌≡◌, ◌+◌, ◌<◌, length, append_assoc, map, take, drop, sym}
 use Rattle.std.proofs.Common.{ap, ◌∙◌, arith}
 use Rattle.std.specs.Prelude.{set}
-use Rattle.std.proofs.lemmas.List.{drop-set-lt, drop-drop, map-set, take_more_set, map_more, length-map}
-use Rattle.std.proofs.lemmas.List.{map-append}
+use Rattle.std.proofs.lemmas.List.{drop-set-lt, drop-drop, map-set, take_more_set, length-map}
 
 -- One more is placed.
 pub place_step : {X Y : Type 0} (f : X → Y) (xs : List X) (i : ℕ) (v : X) (y : Y) (rest rest' all : List Y)
@@ -20,10 +19,3 @@ pub rest_step : {X : Type 0} (xs old : List X) (i : ℕ) (v : X) → drop i xs �
     → drop (i + 1) (set xs i v) ≡ drop (i + 1) old
 rest_step xs old i v e =
     drop-set-lt (i + 1) xs i v (omega arith) ∙ sym (drop-drop 1 i xs) ∙ ap (drop 1) e ∙ drop-drop 1 i old
-
--- One more is made.
-pub map_step : {X Z V : Type 0} (f : X → V) (g : Z → V) (xs : List X) (zs zs' : List Z) (i : ℕ) (d : X) (z : Z)
-    → i < length xs → map g zs ≡ map f (take i xs) → g z ≡ f (get_or xs i d) → zs' ≡ zs ++ z ∷ []
-    → map g zs' ≡ map f (take (i + 1) xs)
-map_step f g xs zs zs' i d z l p q e =
-    ap (map g) e ∙ map-append g zs (z ∷ []) ∙ (λ j. p j ++ q j ∷ []) ∙ sym (map_more f xs i d l)

@@ -14,11 +14,6 @@ use Rattle.pkcs1_params.specs.Meanings.{Refuses}
 use Rattle.pkcs1_c.specs.Status.{kind_number, status_of, IsErrorNumber, IsStatusOf}
 use Rattle.pkcs1_c.specs.StructErrors.{Unwritten}
 
--- What holds whatever the error is.
-pub err_all : {T E : Type 0} (P : E → Type 0) (r : Result T E) → ((e : E) → P e) → IfErr r P
-err_all P (Ok x) p = tt
-err_all P (Err e) p = p e
-
 -- What holds of an error that was handed on.
 pub err_handed : {T E : Type 0} (P : E → Type 0) (first : E) (r : Result T E) → IsErrAnd r (λ e. e ≡ first) → P first
     → IfErr r P

@@ -113,9 +113,3 @@ refused Encoding v old l s told none = record {
   rejected = λ _ _. none;
   unchanged = λ _. (refl, λ _. refl);
 }
-
-pub no_memory_asked : {V : Type 0} (Encoding : V → List ℕ → Type 0) (v : V) (room s : ℕ)
-    → IsErrorOf (Unwritten Encoding v room) s → s ≡ 17 → ⊥
-no_memory_asked Encoding v room zero none e = omega (arith, e)
-no_memory_asked Encoding v room (suc n) (inl p, only) e = omega (arith, e, p.0)
-no_memory_asked Encoding v room (suc n) (inr p, only) e = omega (arith, e, p.0)

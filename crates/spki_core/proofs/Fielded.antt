@@ -1,7 +1,7 @@
 -- What follows for every SEQUENCE of fields with defaults: what is read, the shortest encoding, the one under each mask,
 -- and how many there are.
 use Rattle.std.proofs.Common.{ℕ, zero, suc, ◌+◌, List, [], ◌∷◌, ◌++◌, ◌≡◌, ◌<◌, ◌≤◌, ◌^◌, length, map, refl, sym, Some, None}
-use Rattle.std.proofs.Common.{subst, ap, ◌∙◌, arith, length-append, append-nil, Option, Result, Ok, Err, inl, inr}
+use Rattle.std.proofs.Common.{subst, ap, ◌∙◌, arith, length-append, append-nil, Option, inl, inr}
 use Rattle.std.proofs.lemmas.Nat.{pow_pos}
 use Rattle.std.specs.List.{concat}
 use Rattle.std.specs.Prelude.{◌↔◌, slice_index_or}
@@ -12,7 +12,6 @@ use Rattle.der_core.specs.Laws.Printed.Rows.{meant_decodes, prints_one}
 use Rattle.der_core.specs.Laws.Printed.Shortest.{shortest_is as shortest_of, tagged_shortest}
 use Rattle.der_core.specs.Length.{limit}
 use Rattle.der_core.specs.Printed.{Spells, value_in}
-use Rattle.der_core.specs.declared.error.ErrorKind.{ErrorKind}
 use Rattle.der_core.specs.Tags as tags
 use Rattle.spki_core.specs.FieldSpellings.{AreSpelled, FieldRecord, defaults, fields_of, mask_of, meant, record_means}
 use Rattle.spki_core.specs.FieldSpellings.{record_under, record_whole, spelled, under, upto}
@@ -67,14 +66,6 @@ module _ {V : Type 0} {Is : V → Type 0} {fields : V → List Field} (r : Field
           → Decodes (SequenceOf Is fields Fields) bytes o
       go (Some v) p = (spelled_to r v bytes p.0, λ other q. p.1 other (spelled_from r other bytes q))
       go None p = λ v q. p v (spelled_from r v bytes q)
-
-  pub read_is : (v : V) (bytes : List ℕ) → AreBytes bytes → SequenceOf Is fields Fields v bytes
-      → record_whole r bytes ≡ Ok v
-  read_is v bytes octets p = go (record_whole r bytes) (record_decodes bytes octets)
-    where
-      go : (o : Result V ErrorKind) → Decodes (SequenceOf Is fields Fields) bytes (value_in o) → o ≡ Ok v
-      go (Ok w) d = ap (λ x. Ok x) (sym (d.1 v p))
-      go (Err k) d = absurd (d v p)
 
   -- The encoding under a mask, and the number of defaults.
   abbrev pub made : V → ℕ → List ℕ

@@ -1,13 +1,10 @@
 -- AlgorithmIdentifier (RFC 5280 4.1.1.2):
 -- SEQUENCE { algorithm OBJECT IDENTIFIER, parameters ANY DEFINED BY algorithm OPTIONAL }
-use Rattle.std.specs.Prelude.{ℕ, Bool, List, [], ◌∷◌, ◌++◌, ◌&&◌, eqb}
+use Rattle.std.specs.Prelude.{ℕ, Bool, List, ◌++◌, ◌&&◌, eqb}
 use Rattle.std.specs.Option.{option_eq, option_map}
 use Rattle.std.specs.Str.{bytes_eq}
-use Rattle.der_core.specs.Tag.{object_identifier_tag, sequence_tag}
-use Rattle.der_core.specs.Encodings.{Joins}
-use Rattle.der_core.specs.Tlv.{Tlv, tlv}
-use Rattle.der_core.specs.Optional.{Optional}
-use Rattle.spki_core.specs.ObjectIdentifier.{ObjectIdentifier}
+use Rattle.der_core.specs.Tag.{object_identifier_tag}
+use Rattle.der_core.specs.Tlv.{tlv}
 use Rattle.spki_core.specs.Any.{TagAndContents}
 use Rattle.standard.specs.Statement.{optional}
 -- An object identifier, and parameters that are there or not.
@@ -20,14 +17,6 @@ algorithm_map f a = record { oid = a.oid; parameters = option_map f a.parameters
 -- What is printed of it, without the tag of the SEQUENCE.
 abbrev pub algorithm_contents : {P : Type 0} → (P → List ℕ) → Algorithm P → List ℕ
 algorithm_contents printed a = tlv object_identifier_tag a.oid ++ optional printed a.parameters
-
--- The identifier, then the parameters if there are any.
-abbrev pub AlgorithmContents : {P : Type 0} → (P → List ℕ → Type 0) → Algorithm P → List ℕ → Type 0
-AlgorithmContents Parameters a contents =
-    Joins (ObjectIdentifier a.oid ∷ Optional Parameters a.parameters ∷ []) contents
-
-abbrev pub AlgorithmIdentifier : {P : Type 0} → (P → List ℕ → Type 0) → Algorithm P → List ℕ → Type 0
-AlgorithmIdentifier Parameters a encoding = Tlv sequence_tag (AlgorithmContents Parameters a) encoding
 
 -- Tests for equality.
 abbrev pub same_any : TagAndContents → TagAndContents → Bool

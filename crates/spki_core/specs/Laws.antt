@@ -6,7 +6,6 @@ pub mod ContextSpecific
 pub mod Readings
 pub mod FieldSpellings
 pub mod HaveEncodings
-pub mod Identifiers
 pub mod InRecords
 pub mod AnyValues
 pub mod IdentifierTest

@@ -1,5 +1,5 @@
 -- The words that contracts cite, from all files of specs.
-pub use Rattle.spki_core.specs.AlgorithmIdentifier.{Algorithm, AlgorithmContents}
+pub use Rattle.spki_core.specs.AlgorithmIdentifier.{Algorithm}
 pub use Rattle.spki_core.specs.AlgorithmIdentifier.{algorithm_contents, algorithm_map, same_mask, same_plain}
 pub use Rattle.spki_core.specs.AlgorithmValue.{algorithm_in, algorithm_of, algorithm_with, mask_in, mask_of}
 pub use Rattle.spki_core.specs.AlgorithmValue.{viewed_with}
@@ -17,7 +17,7 @@ pub use Rattle.spki_core.specs.HashAlgorithms.{IsHash}
 pub use Rattle.spki_core.specs.ObjectIdentifierValue.{octets_of, own_octets_of}
 pub use Rattle.spki_core.specs.OwnedAnyValue.{own_any_of}
 pub use Rattle.spki_core.specs.StrictFields.{first_default, noncanonical, number_in, unless_found, walked}
-pub use Rattle.spki_core.specs.Laws.Algorithms.{algorithm_decides, algorithm_means_one}
+pub use Rattle.spki_core.specs.Laws.Algorithms.{algorithm_decides}
 pub use Rattle.spki_core.specs.Laws.AnyValues.{holds_decides, holds_itself}
 pub use Rattle.spki_core.specs.Laws.FieldSpellings.Records.{record_alike, record_law, record_shortest}
 pub use Rattle.spki_core.specs.Laws.HaveEncodings.{algorithm_held}

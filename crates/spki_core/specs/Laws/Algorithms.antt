@@ -1,33 +1,18 @@
--- Algorithm identifiers: each encoding means one value and is bytes, and what is written of a value is the shortest of
--- its encodings.
+-- Algorithm identifiers: equality.
 use Rattle.std.proofs.Common.{ℕ, List, ◌≡◌, refl, ap, Option, Some, None}
-use Rattle.der_core.specs.Tag.{sequence_tag}
-use Rattle.der_core.specs.Encodings.{IsDelimited, MeansOne}
-use Rattle.der_core.specs.Laws.Encodings.{tlv_delimited, then_step}
-use Rattle.der_core.specs.Laws.Optional.{optional_last}
 use Rattle.std.specs.Bool.{Decides}
 use Rattle.std.specs.Prelude.{Bool, ◌&&◌}
 use Rattle.std.specs.Str.{bytes_eq}
 use Rattle.std.specs.Option.{option_eq, option_map}
 use Rattle.der_core.specs.Laws.Equality.{bytes_decide, option_decides, both_decide}
-use Rattle.spki_core.specs.Laws.Identifiers.{identifier_delimited}
 use Rattle.spki_core.specs.Any.{TagAndContents}
 use Rattle.spki_core.specs.Laws.AnyEncodings.{any_decides}
-use Rattle.spki_core.specs.AlgorithmIdentifier.{Algorithm, AlgorithmContents, AlgorithmIdentifier}
+use Rattle.spki_core.specs.AlgorithmIdentifier.{Algorithm}
 use Rattle.spki_core.specs.AlgorithmIdentifier.{same_any}
 use Rattle.spki_core.specs.AlgorithmIdentifier.{same_algorithm, same_plain, same_mask}
 
 algorithm_path : {P : Type 0} {v w : Algorithm P} → v.oid ≡ w.oid → v.parameters ≡ w.parameters → v ≡ w
 algorithm_path p q = λ i. record { oid = p i; parameters = q i }
-
-module _ {P : Type 0} (Parameters : P → List ℕ → Type 0) where
-  pub algorithm_means_one : IsDelimited Parameters → MeansOne (AlgorithmContents Parameters)
-  algorithm_means_one d v w c p q =
-      let s = then_step identifier_delimited v.oid w.oid c p q in
-      algorithm_path s.0 (optional_last Parameters d v.parameters w.parameters s.1 s.2 s.3)
-
-  pub algorithm_delimited : IsDelimited Parameters → IsDelimited (AlgorithmIdentifier Parameters)
-  algorithm_delimited d = tlv_delimited sequence_tag (AlgorithmContents Parameters) (algorithm_means_one d)
 
 -- Equality, by that of the parameters.
 pub algorithm_decides : {P V : Type 0} (value : P → V) (E : P → P → Bool)

@@ -20,7 +20,6 @@ use Rattle.der_core.specs.Readings.{FrontReading, alone, is_next, tagged, ReadsC
 use Rattle.der_core.specs.Tag.{context_tag, is_allowed}
 use Rattle.der_core.specs.Tlv.{Tlv}
 use Rattle.spki_core.specs.Any.{Any, IsAny, TagAndContents}
-use Rattle.spki_core.specs.ContextSpecific.{Numbered}
 use Rattle.spki_core.specs.Explicit.{FieldRead}
 use Rattle.spki_core.specs.IdentifierTest.{is_identifier}
 use Rattle.spki_core.specs.Laws.IdentifierTest.{is_identifier-sound, is_identifier-complete}
@@ -73,9 +72,6 @@ explicit_is at n tag bytes is =
 
 -- Explicit tags.
 module _ {V : Type 0} {encoding : V → List ℕ → Type 0} {at : FrontReading V} (law : ReadsFronts encoding at) where
-  abbrev In : Numbered V → List ℕ → Type 0
-  In v c = (v.number ≤ 30) × encoding v.value c
-
   -- a field, by the tag of its number
   module _ (n : ℕ) (tag : Tag) (is : tag.octet ≡ context_tag n) where
     pub explicit_reads : ReadsFronts (λ v. Tlv (context_tag n) (encoding v)) (explicit n at)

@@ -25,7 +25,7 @@ use Rattle.spki_core.specs.Laws.ContextSpecific.{number_allowed}
 use Rattle.spki_core.specs.Laws.Readings.{identifier_reads}
 use Rattle.spki_core.specs.Readings.{algorithm_read, any, identifier_read, numbered, numbered_in, of_algorithm_parts}
 use Rattle.spki_core.specs.Readings.{opaque}
-use Rattle.standard.specs.Statement.{Algorithm, IsAlgorithm, IsAny, IsIdentifier, TagAndContents, tlv}
+use Rattle.standard.specs.Statement.{IsAlgorithm, IsAny, IsIdentifier, TagAndContents, tlv}
 use Rattle.standard.specs.Statement as standard
 
 -- OBJECT IDENTIFIER
@@ -43,10 +43,6 @@ module _ {P : Type 0} {Is : P → Type 0} {printed : P → List ℕ} {at : Front
   algorithm_law =
       made_law (row_law (tagged_law oid_law object_identifier) (last_law law some)) of_algorithm_parts
       (λ a. (a.oid, a.parameters)) (λ p. refl) (λ a. refl)
-
-  -- With its tag it is what the standard says.
-  pub algorithm_is : (a : Algorithm P) → tlv 48 (algorithm_contents printed a) ≡ standard.algorithm printed a
-  algorithm_is a = refl
 
 -- Contents behind any tag, of which the value tells both.
 module _ {S : Type 0} {valid : S → Type 0} (octet : S → ℕ) (contents : S → List ℕ) (read : ℕ → Reading S)
