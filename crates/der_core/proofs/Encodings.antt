@@ -1,17 +1,10 @@
 -- An encoding of given contents: there is one, and how long it is. And grammars that a list of values is mapped to.
-use Rattle.std.proofs.Common.{ℕ, List, ◌∷◌, ◌++◌, ◌≡◌, ◌<◌, ◌+◌, ◌^◌, length, refl, ap, ◌∙◌, arith}
+use Rattle.std.proofs.Common.{ℕ, List, ◌≡◌, ◌+◌, length, ap, ◌∙◌, arith}
 use Rattle.std.proofs.Common.{length-append}
 use Rattle.der_core.specs.Length.{IsLength, length_octets}
 use Rattle.der_core.specs.Encodings.{Is}
 use Rattle.der_core.specs.Tlv.{Tlv}
-use Rattle.der_core.specs.Laws.Length.{length_made, length_octets-only}
-
--- Contents that aren't too long have an encoding.
-pub tlv_made : (t : ℕ) (P : List ℕ → Type 0) (c : List ℕ) → P c → length c < 2 ^ 128
-    → (encoding : List ℕ) × (p : Tlv t P encoding) × (p.contents ≡ c)
-tlv_made t P c p l =
-    let o = length_made (length c) l in
-    (t ∷ o.0 ++ c, record { octets = o.0; contents = c; counted = o.1; holds = p; written = refl }, refl)
+use Rattle.der_core.specs.Laws.Length.{length_octets-only}
 
 -- The length of an encoding, by that of its contents.
 pub tlv_length : (n t : ℕ) (c encoding : List ℕ) → length c ≡ n → Tlv t (Is c) encoding

@@ -10,7 +10,6 @@ pub mod ReadSteps
 pub mod BitLength
 pub mod Counting
 pub mod Encodings
-pub mod FrontsAreUnique
 pub mod Headers
 pub mod IntegerLaws
 pub mod IntegerLengths
@@ -18,7 +17,6 @@ pub mod Items
 pub mod LengthLaws
 pub mod NotWritten
 pub mod Readings
-pub mod Shortest
 pub mod SmallReading
 pub mod Spelled
 pub mod SourceMoves

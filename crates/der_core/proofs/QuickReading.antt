@@ -12,9 +12,9 @@ use Rattle.der_core.specs.Laws.Input.{ok_pair}
 use Rattle.der_core.specs.Laws.LengthReading.{chosen, length_at-complete}
 use Rattle.der_core.specs.Laws.Readings.{bind_ok}
 use Rattle.der_core.specs.Laws.TaggedReadings.{unexpected_not}
-use Rattle.der_core.specs.Length.{IsBase256, IsLength, short, long, limit}
-use Rattle.der_core.specs.Readings.{Reading, FrontReading, ◌>>=◌, alone, by_tag, contents_behind, ended, inside}
-use Rattle.der_core.specs.Readings.{octets_of_all, tagged, whole}
+use Rattle.der_core.specs.Length.{IsBase256, IsLength, short, long}
+use Rattle.der_core.specs.Readings.{Reading, ◌>>=◌, by_tag, contents_behind, inside}
+use Rattle.der_core.specs.Readings.{octets_of_all, tagged}
 use Rattle.der_core.specs.Tag.{is_allowed}
 
 -- Length octets: one, and one or two behind the first.
@@ -167,17 +167,6 @@ read_by_tag tag read b front back v e given =
     ∙ ap (λ t. read t u.0.0 >>= λ w. Ok (w, u.0.1)) there.0
     ∙ ap (λ x. read tag.octet x >>= λ w. Ok (w, u.0.1)) same.0 ∙ ap (λ r. r >>= λ w. Ok (w, u.0.1)) given
     ∙ ap (λ y. Ok (v, y)) same.1
-
--- Nothing follows.
-pub read_alone : {V : Type 0} (at : FrontReading V) (b rest : List ℕ) (v : V) → at b ≡ Ok (v, rest) → rest ≡ []
-    → alone at b ≡ Ok v
-read_alone at b rest v e none = ap (λ r. r >>= λ p. ended p.0 p.1) e ∙ ap (λ r. ended v r) none
-
-pub read_whole : {V : Type 0} (at : FrontReading V) (b rest : List ℕ) (v : V) → length b ≤ limit
-    → at b ≡ Ok (v, rest) → rest ≡ [] → whole at b ≡ Ok v
-read_whole at b rest v within e none =
-    let small : nat_lt limit (length b) ≡ false = grind (arith, nat_tests, within) in
-    rw small (read_alone at b rest v e none)
 
 -- What is left behind a padding zero.
 starts_high : (xs : List ℕ) → 1 ≤ length xs → 128 ≤ slice_index_or xs 0 0 → ((i : ℕ) → slice_index_or xs i 0 < 256)

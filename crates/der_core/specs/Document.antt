@@ -1,5 +1,5 @@
 -- Encodings as a whole, within the limit on their length.
-use Rattle.std.specs.Prelude.{ℕ, List, ◌≡◌, ◌<◌, ◌≤◌, ◌⊎◌, ◌↔◌, length}
+use Rattle.std.specs.Prelude.{ℕ, List, ◌≡◌, ◌<◌, ◌≤◌, ◌⊎◌, length}
 use Rattle.der_core.specs.Tag.{sequence_tag}
 use Rattle.der_core.specs.Length.{limit}
 use Rattle.der_core.specs.Encodings.{AreBytes}
@@ -21,17 +21,6 @@ Spellings Grammar v encoding = Means Grammar encoding v
 pub record IsShortest {V : Type 0} (Grammar : V → List ℕ → Type 0) (v : V) (encoding : List ℕ) : Type 0 where
   pub spells : Spellings Grammar v encoding
   pub least : (other : List ℕ) → Spellings Grammar v other → (other ≡ encoding) ⊎ (length encoding < length other)
-
--- Both encodings mean one value.
-abbrev pub MeanTheSame : {V : Type 0} → (V → List ℕ → Type 0) → List ℕ → List ℕ → Type 0
-MeanTheSame {V} Grammar a b = (v : V) × Means Grammar a v × Means Grammar b v
-
--- Two encodings that mean values mean the same one exactly if the shortest encodings of those values are equal.
-abbrev pub SameByShortest : {V : Type 0} → (V → List ℕ → Type 0) → Type 0
-SameByShortest {V} Grammar =
-    (v w : V) (a b s t : List ℕ) → Means Grammar a v → Means Grammar b w → IsShortest Grammar v s
-    → IsShortest Grammar w t
-    → MeanTheSame Grammar a b ↔ (s ≡ t)
 
 -- No encoding is one of both grammars.
 abbrev pub Excludes : {V W : Type 0} → (V → List ℕ → Type 0) → (W → List ℕ → Type 0) → Type 0

@@ -18,7 +18,6 @@ pub mod Readings
 pub mod Rows
 pub mod SequenceOf
 pub mod ShortEncodings
-pub mod Shortest
 pub mod SliceReaders
 pub mod Slices
 pub mod SmallNumbers

@@ -2,10 +2,10 @@
 pub use Rattle.der_core.specs.BackWriters.{Prepends, free_of}
 pub use Rattle.der_core.specs.Transfer.{WhyReadingStopped, WritesAll, piece}
 pub use Rattle.der_core.specs.Document.{Excludes, IsDocument, IsMeaning, IsShortest}
-pub use Rattle.der_core.specs.Document.{Means, SameByShortest, WhyNotCounted, WhyNotWritten}
+pub use Rattle.der_core.specs.Document.{Means, WhyNotCounted, WhyNotWritten}
 pub use Rattle.der_core.specs.DocumentValue.{encoding_of}
 pub use Rattle.der_core.specs.EncodeToSlice.{IsFront, LeavesRest}
-pub use Rattle.der_core.specs.Encodings.{AreBytes, AtMostOne, Is, IsDelimited, MeansOne}
+pub use Rattle.der_core.specs.Encodings.{AreBytes, AtMostOne, Is}
 pub use Rattle.der_core.specs.ErrorKinds.{IsFile}
 pub use Rattle.der_core.specs.ErrorText.{kind_text}
 pub use Rattle.der_core.specs.Files.{FileFault, FileGives, FileRefuses, FileTakes, Obtains}
@@ -41,11 +41,10 @@ pub use Rattle.der_core.specs.UintValue.{own_bytes_of}
 pub use Rattle.der_core.specs.StdIo.{IsCreated, IsOpened, read_faults, reader_of, write_faults, writer_of}
 pub use Rattle.der_core.specs.Writing.{Appends, Counts, Unwritten, WritesEncodings, WritesLeast, encode_error}
 pub use Rattle.der_core.specs.Writing.{is_no_encoding, joined}
-pub use Rattle.der_core.specs.Laws.Encodings.{tlv_delimited, tlv_relates}
+pub use Rattle.der_core.specs.Laws.Encodings.{tlv_relates}
 pub use Rattle.der_core.specs.Laws.Encodings.{tlv_shortest}
 pub use Rattle.der_core.specs.Laws.Equality.{bytes_decide, number_decides}
 pub use Rattle.der_core.specs.Laws.Integer.{contents_at_most_one}
-pub use Rattle.der_core.specs.Laws.Optional.{optional_last}
 pub use Rattle.der_core.specs.Laws.Parts.{last_part_asks_none}
 pub use Rattle.der_core.specs.Laws.Parts.{last_part_relates, last_part_shortest}
 pub use Rattle.der_core.specs.Laws.Parts.{no_parts_relate, no_parts_shortest}
@@ -53,7 +52,7 @@ pub use Rattle.der_core.specs.Laws.Parts.{parts_ask_none}
 pub use Rattle.der_core.specs.Laws.Parts.{parts_relate, parts_shortest}
 pub use Rattle.der_core.specs.Laws.Printed.Alike.{alike, alone_alike, chain_alike, front_alike, front_row_alike}
 pub use Rattle.der_core.specs.Laws.Printed.Alike.{items_alike, last_alike, made_alike, optional_alike, row_alike}
-pub use Rattle.der_core.specs.Laws.Printed.Alike.{such_alike, tagged_alike}
+pub use Rattle.der_core.specs.Laws.Printed.Alike.{tagged_alike}
 pub use Rattle.der_core.specs.Laws.Printed.Items.{items_law}
 pub use Rattle.der_core.specs.Laws.Printed.Leaves.{any_alike, any_shortest, number_law, numbers_decide, numbers_encode}
 pub use Rattle.der_core.specs.Laws.Printed.Leaves.{octets_law, small_law}

@@ -1,5 +1,5 @@
 -- What a call returned decodes, since what the function of the bytes gives does.
-use Rattle.std.proofs.Common.{List, ℕ, ◌≡◌, refl, sym, ap, subst, inl, inr}
+use Rattle.std.proofs.Common.{List, ℕ, ◌≡◌, ap, subst, inl, inr}
 use Rattle.std.specs.Prelude.{Some, Result, Ok, Err, IfOk, IfErr}
 use Rattle.der_core.specs.declared.error.ErrorKind.{ErrorKind}
 use Rattle.der_core.specs.Printed.{ok_of, value_in}
@@ -29,13 +29,6 @@ module _ {W : Type 0} (Encoding : W → List ℕ → Type 0) (read : Reading W) 
     (decodes : Decodes Encoding bytes (value_in (read bytes))) where
   given : (r : Result W ErrorKind) → read bytes ≡ r → Decodes Encoding bytes (value_in r)
   given r is = subst (λ g. Decodes Encoding bytes (value_in g)) is decodes
-
-  pub read_of : (w : W) → Encoding w bytes → read bytes ≡ Ok w
-  read_of w p = go (read bytes) refl
-    where
-      go : (r : Result W ErrorKind) → read bytes ≡ r → r ≡ Ok w
-      go (Ok v) is = ap (λ u. Ok u) (sym ((given (Ok v) is).1 w p))
-      go (Err k) is = absurd (given (Err k) is w p)
 
   module _ {X : Type 0} (held : X → W) where
     pub decoded : (r : Result X Error) → ErrsAs held (read bytes) r → Decodes Encoding bytes (ok_of held r)

@@ -9,7 +9,7 @@ use Rattle.std.proofs.lemmas.List.{take-append-le, take_min}
 use Rattle.der_core.specs.SourcesSinks.{AppendsFront}
 use Rattle.der_core.specs.Encodings.{AtMostOne}
 use Rattle.pkcs1_program.specs.Answer.{Answer, Outputs}
-use Rattle.pkcs1_program.specs.Written.{Makes, Writes, WritesFront, WritesFrontOfAll}
+use Rattle.pkcs1_program.specs.Written.{Makes, WritesFront, WritesFrontOfAll}
 
 -- one more answer
 pub Outputs-push : (lines : List (List ℕ)) (line output answer : List ℕ) → Outputs lines output → Answer line answer
@@ -34,12 +34,6 @@ Makes-push old mid new held all held2 lines line answer front made h e taken spl
       ∙ ap (λ o. made.0 ++ o) split
       ∙ sym (append_assoc made.0 front held2)) (Outputs-push lines line (made.0 ++ held) answer made.2 h),
 )
-
--- what is held was written
-pub Makes-writes : (old mid new : Option (List ℕ)) (held : List ℕ) (lines : List (List ℕ)) → Makes old mid held lines
-    → Appends mid new held → Writes old new lines
-Makes-writes old mid new held lines made taken =
-    (made.0 ++ held, made.2, Appends-trans old mid new _ _ made.1 taken)
 
 -- a beginning of what is held was written
 pub Makes-front : (old mid new : Option (List ℕ)) (held : List ℕ) (all lines rest : List (List ℕ))

@@ -1,9 +1,8 @@
 -- What the parts of an encoding say of the whole.
 use Rattle.std.proofs.Common.{ℕ, List, [], ◌∷◌, ◌++◌, ◌≡◌, ◌<◌, ◌≤◌, ◌^◌, length, refl, sym, ap, ◌∙◌, arith}
 use Rattle.std.proofs.Common.{append_assoc, length-append, append-nil}
-use Rattle.std.proofs.lemmas.List.{append_cancel_left}
 use Rattle.der_core.specs.Length.{IsLength, length_octets}
-use Rattle.der_core.specs.Encodings.{Joins, Then, IsDelimited, MeansOne}
+use Rattle.der_core.specs.Encodings.{Joins, Then}
 use Rattle.der_core.specs.Tlv.{Tlv, tlv}
 use Rattle.der_core.specs.Writing.{IsLeast}
 use Rattle.der_core.specs.Laws.Lists.{same_cons, same_fronts}
@@ -26,25 +25,6 @@ tlv_split {t} {u} {P} {Q} x y x' y' p q h =
 
 pub tlv_not_empty : {t : ℕ} {P : List ℕ → Type 0} (x : List ℕ) → Tlv t P x → 0 < length x
 tlv_not_empty x p = rw p.written (omega arith)
-
--- What has a tag of its own, and contents that mean one value, is delimited.
-pub tlv_delimited : {V : Type 0} (t : ℕ) (Contents : V → List ℕ → Type 0) → MeansOne Contents
-    → IsDelimited (λ v. Tlv t (Contents v))
-tlv_delimited t Contents m = record {
-  not_empty = λ v encoding p. tlv_not_empty encoding p;
-  one = λ v w x y x' y' p q e. let s = tlv_split x y x' y' p q e in (s.0, m v w s.3 s.4 s.5);
-}
-
--- A delimited part in front of two splits of the same bytes.
-pub then_step : {V : Type 0} {Grammar : V → List ℕ → Type 0} → IsDelimited Grammar
-    → {Ps Qs : List ℕ → Type 0} (v w : V) (c : List ℕ) → Then (Grammar v) Ps c → Then (Grammar w) Qs c
-    → (v ≡ w) × (rest : List ℕ) × Ps rest × Qs rest
-then_step {V} {Grammar} d {Ps} {Qs} v w c (x, y, p, i, e) (x', y', q, j, f) =
-    let h : x ++ y ≡ x' ++ y' = sym e ∙ f in
-    let s = d.one v w x y x' y' p q h in
-    let g : x ++ y ≡ x ++ y' = rw (← s.0) at h in
-    let k : y ≡ y' = append_cancel_left x y y' g in
-    (s.1, y', rw k at i, j)
 
 -- What is written.
 module _ {V : Type 0} (tag : ℕ) (Contents : V → List ℕ → Type 0) (written : V → List ℕ) where

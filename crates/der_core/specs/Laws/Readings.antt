@@ -46,15 +46,7 @@ pub bind_err : {A B : Type 0} (r : Result A ErrorKind) (f : A → Result B Error
 bind_err (Ok a) f e = inr (a, refl, e)
 bind_err (Err j) f {k} e = let same : j ≡ k = cc in inl (ap (λ x. Err x) same)
 
--- The same contents or encodings, said otherwise.
-pub contents_as : {V : Type 0} {P Q : V → List ℕ → Type 0} {read : Reading V} → ReadsContents P read
-    → ((v : V) (c : List ℕ) → P v c → Q v c) → ((v : V) (c : List ℕ) → Q v c → P v c) → ReadsContents Q read
-contents_as law to from = record {
-  gives = λ c v b e. to v c (law.gives c v b e);
-  takes = λ c v w p. law.takes c v w (from v c p);
-  tells = law.tells;
-}
-
+-- The same encodings, said otherwise.
 pub fronts_as : {V : Type 0} {P Q : V → List ℕ → Type 0} {at : FrontReading V} → ReadsFronts P at
     → ((v : V) (b : List ℕ) → P v b → Q v b) → ((v : V) (b : List ℕ) → Q v b → P v b) → ReadsFronts Q at
 fronts_as law to from = record {

@@ -12,7 +12,7 @@ use Rattle.der_core.specs.Length.{limit}
 use Rattle.der_core.specs.Printed.{ReadsAlike, ReadsFrontAlike, value_in}
 use Rattle.der_core.specs.Readings.{FrontReading, Reading, alone, chain, contents_behind, ended}
 use Rattle.der_core.specs.Readings.{front_parts, inside, is_next, items, items_within, last, made, optional, parts}
-use Rattle.der_core.specs.Readings.{such, tagged, whole, ◌>>=◌}
+use Rattle.der_core.specs.Readings.{tagged, whole, ◌>>=◌}
 
 -- The same function: values are spelled as themselves.
 pub alike : {V : Type 0} (read : Reading V) → ReadsAlike read (λ v. v) read
@@ -85,24 +85,6 @@ module _ {S V : Type 0} {read : Reading S} {means : S → V} {old : Reading V} (
       go : (r : Result S ErrorKind)
           → ((r >>= meant make) >>= meant meansT) ≡ ((r >>= meant means) >>= meant make_old)
       go (Ok s) = ap (λ w. Ok w) (new s)
-      go (Err k) = refl
-
-  -- Values that pass a test.
-  pub such_alike : (test : S → Bool) (test_old : V → Bool) (failure : ErrorKind)
-      → ((s : S) → test s ≡ test_old (means s)) → ReadsAlike (such test failure read) means (such test_old failure old)
-  such_alike test test_old failure agree = record {
-    same = λ c. go (read c) ∙ ap (λ r. r >>= λ v. if test_old v then Ok v else Err failure) (law.same c);
-  }
-    where
-      chosen : (s : S) (a : Bool)
-          → ((if a then Ok s else Err failure) >>= meant means) ≡ (if a then Ok (means s) else Err failure)
-      chosen s true = refl
-      chosen s false = refl
-
-      go : (r : Result S ErrorKind)
-          → ((r >>= λ s. if test s then Ok s else Err failure) >>= meant means)
-          ≡ ((r >>= meant means) >>= λ v. if test_old v then Ok v else Err failure)
-      go (Ok s) = chosen s (test s) ∙ ap (λ b. if b then Ok (means s) else Err failure) (agree s)
       go (Err k) = refl
 
   -- Contents behind a tag.
