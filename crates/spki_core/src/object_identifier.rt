@@ -15,8 +15,9 @@ ghost use Rattle.std.specs.Str.{bytes_eq};
 ghost use Rattle.std.specs.Cmp.Rules.{comparing, hashing};
 ghost use Rattle.der_core.specs.Words.{object_identifier};
 
+use crate::identifier_view::IdentifierView;
 use der_core::{
-    BackWriter, Contents, DecodeValue, EncodeValue, EqualByValue, Error, ErrorKind, Header, Length,
+    BackWriter, Contents, DecodeValue, EncodeValue, EqualByValue, ErrorKind, Header, Length,
     Memory, Reader, Result, Tag, TagMarker, TaggedBy, Writer, quick_short,
 };
 use std::hash::{Hash, Hasher};
@@ -155,10 +156,7 @@ impl ObjectIdentifier {
         ensures err { IfErr result (λ e. (e.kind ≡ ErrorKind.OidMalformed) × (IsIdentifier bytes.now → ⊥)) }
         ensures exact { Answers own_octets_of result (identifier_read bytes.now) }
     {
-        if !is_identifier(bytes) {
-            return Err(Error::new(ErrorKind::OidMalformed));
-        }
-        Ok(ObjectIdentifier::new(bytes))
+        Ok(IdentifierView::from_bytes(bytes)?.to_object_identifier())
     }
 
     /// The contents octets, at least one.
