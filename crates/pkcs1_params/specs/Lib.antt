@@ -1,7 +1,6 @@
 pub mod Parameters
 pub mod HashFunctions
 pub mod Labels
-pub mod Allocating
 pub mod PssValue
 pub mod OaepValue
 pub mod Spellings

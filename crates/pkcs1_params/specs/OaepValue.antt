@@ -1,4 +1,5 @@
--- What RSAES-OAEP parameters mean, by what holds their identifiers and the parameters of algorithms.
+-- What RSAES-OAEP parameters mean, by what holds their identifiers and the parameters of algorithms, and for which of
+-- them owned ones ask for memory.
 use Rattle.std.specs.Prelude.{ℕ, List, ◌≡◌, length}
 use Rattle.der_core.specs.Encodings.{AreBytes}
 use Rattle.spki_core.specs.Any.{TagAndContents, null_value}
@@ -7,7 +8,7 @@ use Rattle.spki_core.specs.declared.any.AnyRef.{AnyRef}
 use Rattle.spki_core.specs.AlgorithmValue.{algorithm_in, mask_in}
 use Rattle.spki_core.specs.ObjectIdentifierValue.{own_octets_of, octets_of}
 use Rattle.pkcs1_params.specs.Parameters.{id_mgf1, id_p_specified, with_parameters, octets_value, OaepParameters}
-use Rattle.standard.specs.Statement.{OaepEncoding}
+use Rattle.standard.specs.Statement.{Fields, IfPresent, IsBare, IsOaep, OaepEncoding, oaep_fields}
 use Rattle.pkcs1_params.specs.declared.oaep.OaepParamsOf.{OaepParamsOf}
 use Rattle.spki_core.specs.declared.identifier_view.IdentifierView.{IdentifierView}
 use Rattle.spki_core.specs.declared.object_identifier.ObjectIdentifier.{ObjectIdentifier}
@@ -50,3 +51,11 @@ abbrev pub NoLabelFits : List ℕ → ℕ → Type 0
 NoLabelFits oid n =
     (label : List ℕ) → AreBytes label → length label ≡ n → (encoding : List ℕ)
     → OaepEncoding (labelled oid label) encoding → ⊥
+
+-- No algorithm in them has parameters with octets.
+abbrev pub IsBareOaep : OaepParameters → Type 0
+IsBareOaep p = IsBare p.hash × IfPresent IsBare p.mask_gen.parameters × IsBare p.p_source
+
+-- Contents of parameters some of which have octets.
+abbrev pub OwnedOaepAllocates : List ℕ → Type 0
+OwnedOaepAllocates contents = (p : OaepParameters) × IsOaep p × Fields (oaep_fields p) contents × (IsBareOaep p → ⊥)

@@ -1,4 +1,5 @@
--- What RSASSA-PSS parameters mean, by what holds their identifiers and the parameters of algorithms.
+-- What RSASSA-PSS parameters mean, by what holds their identifiers and the parameters of algorithms, and for which of
+-- them owned ones ask for memory.
 use Rattle.std.specs.Prelude.{ℕ, List}
 use Rattle.spki_core.specs.Any.{TagAndContents}
 use Rattle.spki_core.specs.AnyRefValue.{any_of}
@@ -9,6 +10,7 @@ use Rattle.pkcs1_params.specs.Parameters.{PssParameters}
 use Rattle.pkcs1_params.specs.declared.pss.PssParamsOf.{PssParamsOf}
 use Rattle.spki_core.specs.declared.identifier_view.IdentifierView.{IdentifierView}
 use Rattle.spki_core.specs.declared.object_identifier.ObjectIdentifier.{ObjectIdentifier}
+use Rattle.standard.specs.Statement.{Fields, IfPresent, IsBare, IsPss, pss_fields}
 
 abbrev pub pss_in : {O X : Type 0} → (O → List ℕ) → (X → TagAndContents) → PssParamsOf O X → PssParameters
 pss_in octets any p =
@@ -30,3 +32,11 @@ pss_of = pss_with any_of
 -- that borrow from the input
 abbrev pub pss_viewed : PssParamsOf IdentifierView AnyRef → PssParameters
 pss_viewed = pss_in octets_of any_of
+
+-- No algorithm in them has parameters with octets.
+abbrev pub IsBarePss : PssParameters → Type 0
+IsBarePss p = IsBare p.hash × IfPresent IsBare p.mask_gen.parameters
+
+-- Contents of parameters some of which have octets.
+abbrev pub OwnedPssAllocates : List ℕ → Type 0
+OwnedPssAllocates contents = (p : PssParameters) × IsPss p × Fields (pss_fields p) contents × (IsBarePss p → ⊥)

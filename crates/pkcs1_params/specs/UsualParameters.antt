@@ -4,8 +4,8 @@ use Rattle.std.specs.Prelude.{ℕ, List, [], ◌∷◌, ◌++◌, ◌≡◌, ◌
 use Rattle.spki_core.specs.AlgorithmIdentifier.{Algorithm}
 use Rattle.spki_core.specs.Any.{TagAndContents, null_value}
 use Rattle.pkcs1_params.specs.HashFunctions.{hash_algorithm}
-use Rattle.pkcs1_params.specs.Parameters.{id_mgf1, with_parameters, OaepParameters, PssParameters}
-use Rattle.standard.specs.Statement.{empty_label}
+use Rattle.pkcs1_params.specs.OaepValue.{labelled}
+use Rattle.pkcs1_params.specs.Parameters.{id_mgf1, id_sha1, with_parameters, OaepParameters, PssParameters}
 
 -- The encoding of a hash function whose identifier has nine octets, with NULL.
 abbrev pub hash_with_null : List ℕ → List ℕ
@@ -32,7 +32,7 @@ pss_with_hash hash s =
     record { hash = hash; mask_gen = with_parameters id_mgf1 hash; salt_len = s; trailer_field = 1 }
 
 abbrev pub oaep_with_hash : Algorithm TagAndContents → OaepParameters
-oaep_with_hash hash = record { hash = hash; mask_gen = with_parameters id_mgf1 hash; p_source = empty_label }
+oaep_with_hash hash = record (labelled id_sha1 []) { hash = hash; mask_gen = with_parameters id_mgf1 hash }
 
 -- The octets of a salt length below 128 in its field.
 abbrev pub salt_field : ℕ → List ℕ

@@ -6,7 +6,7 @@ ghost use Rattle.spki_core.specs.Laws.WritesAs.{WritesAs, algorithm_writes};
 ghost use Rattle.standard.specs.Statement.{IsAlgorithm, IsAny, algorithm, any, empty_label, mgf1_sha1, sha1};
 
 use crate::hash_fields::{is_mgf1, is_sha1};
-use crate::p_source::is_p_specified;
+use crate::label::is_p_specified;
 use der_core::{Encode, Tag};
 use spki_core::{AlgorithmIdentifierOf, AnyValue, IdentifierValue};
 

@@ -18,7 +18,6 @@ mod oaep_algorithm;
 mod oaep_reading;
 mod oaep_spelling;
 mod owned;
-mod p_source;
 mod pss;
 mod pss_algorithm;
 mod pss_reading;
@@ -36,6 +35,7 @@ pub use default_salt::DefaultSalt;
 pub use error::{Error, Result};
 pub use hash_fields::with_null;
 pub use hash_functions::{Mgf1, Sha1, Sha224, Sha256, Sha384, Sha512, Sha512_224, Sha512_256};
+pub use label::PSpecified;
 pub use laws::{
     lemma_algorithms, lemma_algorithms_exclude_each_other, lemma_bare_params_take_no_memory,
     lemma_oaep_spellings, lemma_params_decode, lemma_pss_spellings,
@@ -45,7 +45,6 @@ pub use oaep::{
 };
 pub use oaep_algorithm::{RsaesOaep, fault_of_oaep_algorithm, rsaes_oaep_oid};
 pub use oaep_reading::fault_of_oaep_params;
-pub use p_source::PSpecified;
 pub use pss::{PssParamsOf, RsaPssParams, RsaPssParamsOwned, RsaPssParamsRef, RsaPssParamsView};
 pub use pss_algorithm::{RsassaPss, fault_of_pss_algorithm, rsassa_pss_oid};
 pub use pss_reading::fault_of_pss_params;

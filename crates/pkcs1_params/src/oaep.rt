@@ -9,7 +9,7 @@ use crate::contents::{append_contents, contents_len, prepend_contents};
 use crate::error::Result;
 use crate::hash_fields::{MaskGenOf, mgf1_with, with_null};
 use crate::hash_functions::Sha1;
-use crate::p_source::empty_source;
+use crate::label::empty_source;
 use crate::spelling::non_defaults_in;
 use der_core::{
     BackWriter, Contents, EncodeValue, EqualByValue, Length, Memory, NoMemory, Sequence,

@@ -9,9 +9,9 @@ use crate::error::{Error, Result};
 use crate::from_view::ReadParams;
 use crate::hash_fields::{mgf1_with, with_null};
 use crate::hash_functions::Sha1;
+use crate::label::empty_source;
 use crate::oaep::{OaepParamsOf, RsaOaepParamsRef, RsaOaepParamsView};
 use crate::oaep_algorithm::RsaesOaep;
-use crate::p_source::empty_source;
 use crate::quick::quick_oaep;
 use crate::reading::{
     AlgorithmParams, decode_borrowed, decode_whole, read_params, read_params_strict,

@@ -7,10 +7,9 @@ ghost use Rattle.pkcs1_params.specs.Words.{AreUsual, HaveUsualHash, IsUsualOaep,
 ghost use Rattle.pkcs1_params.specs.Words.{pss_viewed, with_parameters};
 
 use crate::oaep::RsaOaepParamsView;
-use crate::p_source::empty_source;
 use crate::pss::{RsaPssParamsRef, RsaPssParamsView};
 use crate::trailer_field::TrailerField;
-use der_core::{NoMemory, Tag};
+use der_core::Tag;
 use spki_core::{AlgorithmView, AnyRef, IdentifierView};
 
 /// hashAlgorithm and maskGenAlgorithm with SHA-256.
@@ -152,7 +151,7 @@ pub(crate) fn usual_oaep(contents: &[u8]) -> Option<RsaOaepParamsView<'_>>
     Some(RsaOaepParamsView {
         hash: algorithms.hash,
         mask_gen: algorithms.mask_gen,
-        p_source: empty_source(NoMemory),
+        ..RsaOaepParamsView::default()
     })
 }
 

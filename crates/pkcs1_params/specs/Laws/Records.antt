@@ -1,5 +1,5 @@
 -- The laws of parameters: of their fields, and of the records that hold these.
-use Rattle.std.proofs.Common.{◌≡◌, ◌<◌, ◌==◌, refl, arith, rules}
+use Rattle.std.proofs.Common.{List, [], ◌∷◌, ◌≡◌, ◌<◌, ◌==◌, refl, arith, rules}
 use Rattle.std.proofs.lemmas.Bool.Decides.{nat_tests}
 use Rattle.der_core.specs.Laws.Equality.{number_decides}
 use Rattle.der_core.specs.Laws.Printed.Leaves.{small_law}
@@ -7,13 +7,14 @@ use Rattle.der_core.specs.Laws.Printed.Rows.{such_law, tagged_law, valid_as}
 use Rattle.der_core.specs.Laws.Tells.{is_value}
 use Rattle.der_core.specs.Printed.{ReadsFrontPrinted, ReadsPrinted, number_contents}
 use Rattle.der_core.specs.Tags as tags
-use Rattle.spki_core.specs.FieldSpellings.{AreLawful, FieldRecord}
+use Rattle.spki_core.specs.FieldSpellings.{AreLawful, FieldRecord, Kind}
 use Rattle.spki_core.specs.Laws.Algorithms.{same_mask_decides, same_plain_decides}
 use Rattle.spki_core.specs.Laws.IdentifierTest.{is_identifier-sound}
 use Rattle.spki_core.specs.Laws.Printed.Readings.{algorithm_law, any_law}
 use Rattle.spki_core.specs.Laws.Printed.Shortest.{any_some}
-use Rattle.pkcs1_params.specs.ParameterReadings.{in_oaep_fields, in_pss_fields, mask_front, oaep_kinds, of_oaep_fields}
-use Rattle.pkcs1_params.specs.ParameterReadings.{of_pss_fields, plain_front, pss_kinds, trailer_read}
+use Rattle.pkcs1_params.specs.ParameterReadings.{hash_kind, in_oaep_fields, in_pss_fields, mask_front, mask_kind}
+use Rattle.pkcs1_params.specs.ParameterReadings.{oaep_kinds, of_oaep_fields, of_pss_fields, plain_front, pss_kinds}
+use Rattle.pkcs1_params.specs.ParameterReadings.{salt_kind, source_kind, trailer_kind, trailer_read}
 use Rattle.standard.specs.Statement.{IsAlgorithm, IsAny, IsIdentifier, IsOaep, IsPss, algorithm, any, empty_label}
 use Rattle.standard.specs.Statement.{id_rsaes_oaep, id_rsassa_pss, mgf1_sha1, oaep_fields, pss_fields, sha1}
 
@@ -46,27 +47,26 @@ oaep_identifier = is_identifier-sound id_rsaes_oaep (search rules) refl
 sha1_is : IsAlgorithm IsAny sha1
 sha1_is = (is_identifier-sound sha1.oid (search rules) refl, (refl, tt))
 
--- RSASSA-PSS-params.
-pub pss_lawful : AreLawful 0 pss_kinds
-pss_lawful = (
+-- The fields that both begin with, and those behind them.
+hash_lawful : (later : List Kind) → AreLawful 2 later → AreLawful 0 (hash_kind ∷ mask_kind ∷ later)
+hash_lawful later lawful = (
   omega arith,
   plain_law,
   (λ v. same_plain_decides v sha1),
   sha1_is,
-  (
-    omega arith,
-    mask_law,
-    (λ v. same_mask_decides v mgf1_sha1),
-    (mgf1_identifier, sha1_is),
-    (
+  (omega arith, mask_law, (λ v. same_mask_decides v mgf1_sha1), (mgf1_identifier, sha1_is), lawful),
+)
+
+-- RSASSA-PSS-params.
+pub pss_lawful : AreLawful 0 pss_kinds
+pss_lawful =
+    hash_lawful (salt_kind ∷ trailer_kind ∷ []) (
       omega arith,
       tagged_law small_law tags.integer,
       (λ n. number_decides n 20),
       omega arith,
       (omega arith, tagged_law trailer_law tags.integer, (λ n. number_decides n 1), refl, tt),
-    ),
-  ),
-)
+    )
 
 abbrev pub pss_record : FieldRecord IsPss pss_fields
 pss_record = record {
@@ -84,19 +84,9 @@ pss_record = record {
 
 -- RSAES-OAEP-params.
 pub oaep_lawful : AreLawful 0 oaep_kinds
-oaep_lawful = (
-  omega arith,
-  plain_law,
-  (λ v. same_plain_decides v sha1),
-  sha1_is,
-  (
-    omega arith,
-    mask_law,
-    (λ v. same_mask_decides v mgf1_sha1),
-    (mgf1_identifier, sha1_is),
-    (omega arith, plain_law, (λ v. same_plain_decides v empty_label), (source_identifier, (refl, tt)), tt),
-  ),
-)
+oaep_lawful =
+    hash_lawful (source_kind ∷ [])
+    (omega arith, plain_law, (λ v. same_plain_decides v empty_label), (source_identifier, (refl, tt)), tt)
 
 abbrev pub oaep_record : FieldRecord IsOaep oaep_fields
 oaep_record = record {

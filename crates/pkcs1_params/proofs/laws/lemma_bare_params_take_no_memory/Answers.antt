@@ -7,8 +7,9 @@ use Rattle.der_core.specs.Tlv.{Tlv}
 use Rattle.spki_core.specs.FieldSpellings.{FieldRecord}
 use Rattle.pkcs1_params.proofs.Same.{record_delimited}
 use Rattle.standard.specs.Statement.{Field, Fields, SequenceOf, sequence}
-use Rattle.pkcs1_params.specs.Allocating.{IsBareOaep, IsBarePss}
 use Rattle.pkcs1_params.specs.Laws.Records.{oaep_record, pss_record}
+use Rattle.pkcs1_params.specs.OaepValue.{IsBareOaep}
+use Rattle.pkcs1_params.specs.PssValue.{IsBarePss}
 use Rattle.pkcs1_params.proofs.laws.lemma_bare_params_take_no_memory.Goals as goal
 
 -- Of an encoding of bare parameters no beginning is one of others, so reading it asks for no memory.
