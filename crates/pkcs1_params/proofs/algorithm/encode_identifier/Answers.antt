@@ -31,8 +31,8 @@ returns-clause-written g c =
     (into_encodes (algorithm_written oid identifier t.form) (viewed_with (λ s. t.params s.params) it.result)
     c.args.out.now _ (Ok c.in_ok-encode_into.field-0) made.ok made.shortest tt tt c.encode_into.auto.out))
 
-pub returns-in_err-encode_into-clause-written : goal.returns-in_err-encode_into-clause-written
-returns-in_err-encode_into-clause-written g c =
+pub returns-in_err-encode_into : goal.returns-in_err-encode_into
+returns-in_err-encode_into g c =
     let p = err_from_is_err_and c.from_residual.result c.from_residual.ensures.1 in
     let t = g.T.EncodeParams in
     let oid = g.D.AssociatedOid.contents in
@@ -40,30 +40,25 @@ returns-in_err-encode_into-clause-written g c =
     let it = c.identified-algorithm in
     let identifier = subst (λ (a : Algorithm t.Params). IsIdentifier a.oid) it.ensures.means (viewed_held it.result.oid) in
     let told = c.in_err-encode_into.ensures in
-    rw p.1
-    (encodes_as (AlgorithmSpelled oid identifier t.form) (AlgorithmEncoding oid (Encoded t.Is t.fields_of))
-    (with_parameters oid v) v (algorithm_spelled oid identifier t.form v) c.args.out.now c.encode_into.new.out None
-    (subst
-    (λ a. Encodes (AlgorithmSpelled oid identifier t.form) a c.args.out.now c.encode_into.new.out None)
-    it.ensures.means
-    (into_encodes (algorithm_written oid identifier t.form) (viewed_with (λ s. t.params s.params) it.result)
-    c.args.out.now _ (Err c.in_err-encode_into.field-0.0) tt tt told.err told.unchanged c.encode_into.auto.out)))
-
-pub returns-in_err-encode_into-clause-err : goal.returns-in_err-encode_into-clause-err
-returns-in_err-encode_into-clause-err g c =
-    let p = err_from_is_err_and c.from_residual.result c.from_residual.ensures.1 in
-    let t = g.T.EncodeParams in
-    let oid = g.D.AssociatedOid.contents in
-    let v = t.params c.args.params in
-    let it = c.identified-algorithm in
-    let identifier = subst (λ (a : Algorithm t.Params). IsIdentifier a.oid) it.ensures.means (viewed_held it.result.oid) in
     let e = error.Asn1 c.in_err-encode_into.field-0.0 in
     let Written : Algorithm t.Params → Type 0 =
-    λ a. IsAlgorithm (AreSpelled t.form.kinds) (algorithm_map (record_under t.form 0) a) in
-    rw (p.1, p.2)
-    (refuses_as (AlgorithmSpelled oid identifier t.form) (AlgorithmEncoding oid (Encoded t.Is t.fields_of))
-    (with_parameters oid v) v (algorithm_spelled oid identifier t.form v) Written (λ _. Unit {0})
-    ((λ _. tt), (λ _. algorithm_valid oid identifier t.form v it.ensures.valid)) (length c.args.out.now) e
-    (subst (λ a. Refuses Written (AlgorithmSpelled oid identifier t.form) a (length c.args.out.now) e) it.ensures.means
-    (into_unwritten (algorithm_written oid identifier t.form) (viewed_with (λ s. t.params s.params) it.result) {X = ℕ} _
-    (Err c.in_err-encode_into.field-0.0) c.in_err-encode_into.ensures.err)))
+    λ a. IsAlgorithm (AreSpelled t.form.kinds) (algorithm_map (record_under t.form 0) a) in record {
+      written =
+          rw p.1
+          (encodes_as (AlgorithmSpelled oid identifier t.form) (AlgorithmEncoding oid (Encoded t.Is t.fields_of))
+          (with_parameters oid v) v (algorithm_spelled oid identifier t.form v) c.args.out.now c.encode_into.new.out None
+          (subst
+          (λ a. Encodes (AlgorithmSpelled oid identifier t.form) a c.args.out.now c.encode_into.new.out None)
+          it.ensures.means
+          (into_encodes (algorithm_written oid identifier t.form) (viewed_with (λ s. t.params s.params) it.result)
+          c.args.out.now _ (Err c.in_err-encode_into.field-0.0) tt tt told.err told.unchanged c.encode_into.auto.out)));
+      err =
+          rw (p.1, p.2)
+          (refuses_as (AlgorithmSpelled oid identifier t.form) (AlgorithmEncoding oid (Encoded t.Is t.fields_of))
+          (with_parameters oid v) v (algorithm_spelled oid identifier t.form v) Written (λ _. Unit {0})
+          ((λ _. tt), (λ _. algorithm_valid oid identifier t.form v it.ensures.valid)) (length c.args.out.now) e
+          (subst (λ a. Refuses Written (AlgorithmSpelled oid identifier t.form) a (length c.args.out.now) e)
+          it.ensures.means
+          (into_unwritten (algorithm_written oid identifier t.form) (viewed_with (λ s. t.params s.params) it.result)
+          {X = ℕ} _ (Err c.in_err-encode_into.field-0.0) told.err)));
+    }

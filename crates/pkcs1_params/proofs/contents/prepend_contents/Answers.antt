@@ -1,4 +1,4 @@
-use Rattle.std.proofs.Common.{arith, subst, sym, length, ◌≡◌, ◌≤◌, ◌∙◌, refl, take-append-drop}
+use Rattle.std.proofs.Common.{arith, rules, subst, sym, length, ◌≡◌, ◌≤◌, ◌∙◌, refl, take-append-drop}
 use Rattle.std.proofs.lemmas.Bool.Decides.{nat_tests}
 use Rattle.der_core.specs.BackWriters.{Prepends, free_of}
 use Rattle.der_core.specs.Length.{limit}
@@ -14,17 +14,14 @@ returns-then-mask-eq0 g c =
     (sym c.requires.non_defaults ∙ c.if-non_defaults-eq0.true) in
     rw none (refl, omega arith, sym (take-append-drop c.args.writer.now.free c.args.writer.now.slice.now))
 
-pub prepend-requires-clause-fits : goal.prepend-requires-clause-fits
-prepend-requires-clause-fits g c =
+pub prepend-requires : goal.prepend-requires
+prepend-requires g c =
     let t = g.T.EncodeParams in
-    subst (λ z. length z ≤ limit)
-    (sym (octets_are t.form (t.params c.args.params) c.args.mask _ c.fields.ensures.are)) c.requires.fits
-
-pub prepend-requires-clause-room : goal.prepend-requires-clause-room
-prepend-requires-clause-room g c =
-    let t = g.T.EncodeParams in
-    subst (λ z. length z ≤ free_of c.args.writer.now)
-    (sym (octets_are t.form (t.params c.args.params) c.args.mask _ c.fields.ensures.are)) c.requires.room
+    let is = octets_are t.form (t.params c.args.params) c.args.mask _ c.fields.ensures.are in record {
+      non_defaults = search rules;
+      fits = subst (λ z. length z ≤ limit) (sym is) c.requires.fits;
+      room = subst (λ z. length z ≤ free_of c.args.writer.now) (sym is) c.requires.room;
+    }
 
 pub returns : goal.returns
 returns g c =

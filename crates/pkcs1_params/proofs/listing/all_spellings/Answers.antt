@@ -72,22 +72,8 @@ returns-in_err-encodings_under-clause-err g c =
       all_within t.form (t.params c.args.params) _ known.count known.few _ c.in_ok-len.ensures.ok,
     ))
 
-pub returns-clause-listed : goal.returns-clause-listed
-returns-clause-listed g c =
-    let t = g.T.EncodeParams in
-    let v = t.params c.args.params in
-    let known = c.count_defaults-count.ensures in
-    let fit = all_within t.form v _ known.count known.few _ c.in_ok-len.ensures.ok in
-    let is =
-    c.in_ok-encodings_under.ensures.ok ∙ ap (λ n. upto n (made t.form v)) (count_is t.form v _ known.count known.few) in (
-      default_count t.form v,
-      counted_there t.form v,
-      subst (AreAll (λ E. E) t.Is t.fields_of v (default_count t.form v)) (sym is)
-          (are_all t.form v c.lemma_is_valid.ensures fit),
-    )
-
-pub returns-clause-shortest : goal.returns-clause-shortest
-returns-clause-shortest g c =
+pub returns : goal.returns
+returns g c =
     let t = g.T.EncodeParams in
     let v = t.params c.args.params in
     let known = c.count_defaults-count.ensures in
@@ -96,12 +82,16 @@ returns-clause-shortest g c =
     c.in_ok-encodings_under.ensures.ok ∙ ap (λ n. upto n (made t.form v)) (count_is t.form v _ known.count known.few) in
     let first =
     ap (λ all. slice_index_or all 0 []) is
-    ∙ index_upto (2 ^ default_count t.form v) (made t.form v) [] 0 (pow_pos (default_count t.form v)) in
-    subst (IsShortest (Encoded t.Is t.fields_of) v) (sym first)
-    (shortest_is t.form v c.lemma_is_valid.ensures (fits t.form v 0 fit))
-
-pub returns-clause-fit : goal.returns-clause-fit
-returns-clause-fit g c =
-    let t = g.T.EncodeParams in
-    let known = c.count_defaults-count.ensures in
-    all_within t.form (t.params c.args.params) _ known.count known.few _ c.in_ok-len.ensures.ok
+    ∙ index_upto (2 ^ default_count t.form v) (made t.form v) [] 0 (pow_pos (default_count t.form v)) in record {
+      listed = (
+        default_count t.form v,
+        counted_there t.form v,
+        subst (AreAll (λ E. E) t.Is t.fields_of v (default_count t.form v)) (sym is)
+            (are_all t.form v c.lemma_is_valid.ensures fit),
+      );
+      shortest =
+          subst (IsShortest (Encoded t.Is t.fields_of) v) (sym first)
+          (shortest_is t.form v c.lemma_is_valid.ensures (fits t.form v 0 fit));
+      fit = fit;
+      err = tt;
+    }

@@ -11,27 +11,25 @@ invariant_of-spelling g c =
     let t = g.Self.EncodeParams in
     record { range = in_range t.form (t.params c.args.self) c.args.mask c.requires; known = c.non_defaults_in.ensures }
 
-pub returns-in_err-encode_into-clause-written : goal.returns-in_err-encode_into-clause-written
-returns-in_err-encode_into-clause-written g c =
+pub returns-in_err-encode_into : goal.returns-in_err-encode_into
+returns-in_err-encode_into g c =
     let p = err_from_is_err_and c.from_residual.result c.from_residual.ensures.1 in
     let t = g.Self.EncodeParams in
     let v = t.params c.args.self in
-    let told = c.in_err-encode_into.ensures in
-    rw p.1
-    (under_encodes t.form v c.lemma_is_valid.ensures c.args.mask c.requires c.args.out.now c.encode_into.new.out None
-    (into_encodes (spelling_written t.form) (record_under t.form c.args.mask v) c.args.out.now _
-    (Err c.in_err-encode_into.field-0.0) tt tt told.err told.unchanged c.encode_into.auto.out))
-
-pub returns-in_err-encode_into-clause-err : goal.returns-in_err-encode_into-clause-err
-returns-in_err-encode_into-clause-err g c =
-    let p = err_from_is_err_and c.from_residual.result c.from_residual.ensures.1 in
-    let t = g.Self.EncodeParams in
-    let v = t.params c.args.self in
-    rw (p.1, p.2)
-    (under_refuses t.form v c.lemma_is_valid.ensures c.args.mask c.requires (length c.args.out.now)
-    (error.Asn1 c.in_err-encode_into.field-0.0)
-    (into_unwritten (spelling_written t.form) (record_under t.form c.args.mask v) {X = ℕ} _
-    (Err c.in_err-encode_into.field-0.0) c.in_err-encode_into.ensures.err))
+    let told = c.in_err-encode_into.ensures in record {
+      written =
+          rw p.1
+          (under_encodes t.form v c.lemma_is_valid.ensures c.args.mask c.requires c.args.out.now c.encode_into.new.out
+          None
+          (into_encodes (spelling_written t.form) (record_under t.form c.args.mask v) c.args.out.now _
+          (Err c.in_err-encode_into.field-0.0) tt tt told.err told.unchanged c.encode_into.auto.out));
+      err =
+          rw (p.1, p.2)
+          (under_refuses t.form v c.lemma_is_valid.ensures c.args.mask c.requires (length c.args.out.now)
+          (error.Asn1 c.in_err-encode_into.field-0.0)
+          (into_unwritten (spelling_written t.form) (record_under t.form c.args.mask v) {X = ℕ} _
+          (Err c.in_err-encode_into.field-0.0) told.err));
+    }
 
 pub returns-clause-written : goal.returns-clause-written
 returns-clause-written g c =
