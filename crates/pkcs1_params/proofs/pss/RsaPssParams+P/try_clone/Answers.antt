@@ -1,18 +1,16 @@
-use Rattle.std.proofs.Common.{◌≡◌}
 use Rattle.spki_core.specs.Laws.MappedValues.{same_carried}
 use Rattle.spki_core.proofs.MappedValues.{algorithm_carried}
-use Rattle.spki_core.specs.AlgorithmValue.{algorithm_with}
 use Rattle.pkcs1_params.proofs.pss.RsaPssParams+P.try_clone.Goals as goal
 
 pub returns-clause-ok : goal.returns-clause-ok
 returns-clause-ok g c =
     let p = c.args.self.now in
-    let any = g.P.AnyValue.any in
     let carried = g.met.P.AnyValue.holds.carried in
-    let hash : algorithm_with any c.in_ok-try_clone.field-0 ≡ algorithm_with any p.hash =
-    same_carried (algorithm_carried carried) c.in_ok-try_clone.field-0 p.hash c.in_ok-try_clone.ensures.ok in
-    let mask_gen : algorithm_with (algorithm_with any) c.in_ok-try_clone-2.field-0
-    ≡ algorithm_with (algorithm_with any) p.mask_gen =
-    same_carried (algorithm_carried (algorithm_carried carried)) c.in_ok-try_clone-2.field-0 p.mask_gen
-    c.in_ok-try_clone-2.ensures.ok in
-    λ i. record { hash = hash i; mask_gen = mask_gen i; salt_len = p.salt_len; trailer_field = 1 }
+    λ i. record {
+      hash = same_carried (algorithm_carried carried) c.in_ok-try_clone.field-0 p.hash c.in_ok-try_clone.ensures.ok i;
+      mask_gen =
+          same_carried (algorithm_carried (algorithm_carried carried)) c.in_ok-try_clone-2.field-0 p.mask_gen
+          c.in_ok-try_clone-2.ensures.ok i;
+      salt_len = p.salt_len;
+      trailer_field = 1;
+    }
