@@ -6,7 +6,7 @@ use Rattle.std.specs.Prelude.{◌↔◌}
 use Rattle.pkcs1_params.proofs.Written.{encodes_as, shortest_as}
 use Rattle.standard.specs.Statement.{Encodes}
 use Rattle.pkcs1_c.specs.Status.{IsErrorOf, NoStatus}
-use Rattle.pkcs1_c.specs.StructErrors.{PartThen, Unwritten}
+use Rattle.pkcs1_c.specs.StructErrors.{FieldsError, PartThen, Unwritten}
 use Rattle.pkcs1_c.specs.Structs.{If, IsLength, WritesOrTells}
 use Rattle.pkcs1_c.proofs.StructErrors.{IsOne, IsPart, fits_written, part_one, part_rest, unwritten_one}
 
@@ -113,3 +113,24 @@ refused Encoding v old l s told none = record {
   rejected = λ _ _. none;
   unchanged = λ _. (refl, λ _. refl);
 }
+
+-- A call whose status is that of a part that can't be held. What has the encoding that is asked for has such parts.
+pub part_told : (Part Rest : ℕ → Type 0) → IsPart Part → IsOne Rest → {V : Type 0} (Asked : V → List ℕ → Type 0) (v : V)
+    → ((bytes : List ℕ) → Asked v bytes → NoStatus Part) → (old : List ℕ) (l : ℕ) {s t : ℕ} → s ≡ t → Part t
+    → WritesOrTells Asked v old old l l s × IsErrorOf (PartThen Part Rest) s
+part_told Part Rest part rest Asked v fits old l {s} is p =
+    let q = subst Part (sym is) p in (
+      refused Asked v old l s (part.1 s q) (λ bytes e. fits bytes e s q),
+      error_first Part Rest s part rest q,
+    )
+
+-- One whose parts are held by an equal value, which was to be written.
+pub equal_told : {V : Type 0} (Part : V → ℕ → Type 0) (Encoding : V → List ℕ → Type 0) {u v : V} → u ≡ v
+    → NoStatus (Part v) → {old new : List ℕ} {l m s : ℕ} → WritesOrTells Encoding u old new l m s
+    → IsErrorOf (Unwritten Encoding u (length old)) s
+    → WritesOrTells Encoding v old new l m s × IsErrorOf (FieldsError Part Encoding v (length old)) s
+equal_told Part Encoding {u} {v} is none {old} {new} {l} {m} {s} writes exact = (
+  subst (λ w. WritesOrTells Encoding w old new l m s) is writes,
+  error_behind (Part v) (Unwritten Encoding v (length old)) s none
+      (subst (λ w. IsErrorOf (Unwritten Encoding w (length old)) s) is exact),
+)

@@ -13,41 +13,32 @@ use Rattle.pkcs1_c.proofs.container.pkcs1_c_private_key_info_encode.Goals as goa
 pub write_encoding-requires : goal.write_encoding-requires
 write_encoding-requires c = c.in-Ok.ensures.some
 
-pub returns-in-Ok-clause-writes : goal.returns-in-Ok-clause-writes
-returns-in-Ok-clause-writes c =
+pub returns-in-Ok : goal.returns-in-Ok
+returns-in-Ok c =
     let info = c.args.info.now in
-    held_written ContainerEncoding (private_key_info info) ContainerSpells (private_key_info info)
-    (container_spells (private_key_info info)) (HasKey info)
-    c.in-Ok.ensures.key (rw c.in-Ok.ensures.ok at c.write_encoding.ensures.writes)
-
-pub returns-in-Ok-clause-exact : goal.returns-in-Ok-clause-exact
-returns-in-Ok-clause-exact c =
-    let info = c.args.info.now in
+    let v = private_key_info info in
     let room = length c.args.out.now in
     let holds = c.in-Ok.ensures.key in
-    let told = rw c.in-Ok.ensures.ok at c.write_encoding.ensures.exact in
-    error_as (Unwritten ContainerEncoding (private_key_info info) room) (InfoError info room) _
-    (λ t p. inr (holds, p)) (info_rest info room holds)
-    (unwritten_so ContainerEncoding (private_key_info info) ContainerSpells (private_key_info info)
-    (container_spells (private_key_info info)) room _ told)
+    let told = c.write_encoding.ensures in record {
+      writes =
+          held_written ContainerEncoding v ContainerSpells v (container_spells v) (HasKey info) holds
+          (rw c.in-Ok.ensures.ok at told.writes);
+      exact =
+          error_as (Unwritten ContainerEncoding v room) (InfoError info room) _ (λ t p. inr (holds, p))
+          (info_rest info room holds)
+          (unwritten_so ContainerEncoding v ContainerSpells v (container_spells v) room _
+          (rw c.in-Ok.ensures.ok at told.exact));
+    }
 
-pub returns-in-Err-clause-writes : goal.returns-in-Err-clause-writes
-returns-in-Err-clause-writes c =
+pub returns-in-Err : goal.returns-in-Err
+returns-in-Err c =
     let info = c.args.info.now in
     let octets = info.private_key.now in
-    let e = status_known (rsa_private_key octets) (private_tells octets) c.in-Err.failure
-    c.in-Err.ensures.exact in
-    let is = c.status.ensures in
-    refused (If (HasKey info) ContainerEncoding) (private_key_info info) c.args.out.now c.args.len.now _
-    (omega (arith, is, e.0.0), λ full. omega (arith, is, full, e.0.1))
-    (λ bytes p. error_none info _ e.1 p.0)
-
-pub returns-in-Err-clause-exact : goal.returns-in-Err-clause-exact
-returns-in-Err-clause-exact c =
-    let info = c.args.info.now in
-    let octets = info.private_key.now in
-    let e = status_known (rsa_private_key octets) (private_tells octets) c.in-Err.failure
-    c.in-Err.ensures.exact in
-    let is = c.status.ensures in
-    is_error (InfoError info (length c.args.out.now)) _ (info_one info (length c.args.out.now))
-    (omega (arith, is, e.0.0)) (rw is (inl e.1))
+    let room = length c.args.out.now in
+    let e = status_known (rsa_private_key octets) (private_tells octets) c.in-Err.failure c.in-Err.ensures.exact in
+    let is = c.status.ensures in record {
+      writes =
+          refused (If (HasKey info) ContainerEncoding) (private_key_info info) c.args.out.now c.args.len.now _
+          (omega (arith, is, e.0.0), λ full. omega (arith, is, full, e.0.1)) (λ bytes p. error_none info _ e.1 p.0);
+      exact = is_error (InfoError info room) _ (info_one info room) (omega (arith, is, e.0.0)) (rw is (inl e.1));
+    }

@@ -1,6 +1,5 @@
 use Rattle.std.proofs.Common.{Some, subst, sym}
 use Rattle.pkcs1_params.specs.Laws.Records.{oaep_record}
-use Rattle.pkcs1_params.specs.ParameterReadings.{rsa_oaep_params}
 use Rattle.standard.specs.Statement.{Decodes, OaepEncoding}
 use Rattle.pkcs1_c.proofs.NotWritten.{status_exact}
 use Rattle.pkcs1_c.proofs.ParameterFaults.{record_tells}
@@ -8,11 +7,8 @@ use Rattle.pkcs1_c.proofs.oaep.pkcs1_c_oaep_params_decode.Goals as goal
 
 pub returns-in-Ok-clause-ok : goal.returns-in-Ok-clause-ok
 returns-in-Ok-clause-ok c = λ _.
-    let bytes = c.args.encoding.now in
-    subst (λ v. Decodes OaepEncoding bytes (Some v)) (sym c.to_c_oaep.ensures.seen) c.in-Ok.ensures.read
+    subst (λ v. Decodes OaepEncoding c.args.encoding.now (Some v)) (sym c.to_c_oaep.ensures.seen) c.in-Ok.ensures.read
 
 pub returns-in-Err-clause-exact : goal.returns-in-Err-clause-exact
 returns-in-Err-clause-exact c =
-    let bytes = c.args.encoding.now in
-    status_exact (rsa_oaep_params bytes) (record_tells oaep_record bytes)
-    c.in-Err.error _ c.status.ensures c.in-Err.ensures.exact
+    status_exact _ (record_tells oaep_record _) c.in-Err.error _ c.status.ensures c.in-Err.ensures.exact

@@ -1,6 +1,5 @@
 use Rattle.std.proofs.Common.{Some, subst, sym}
 use Rattle.pkcs1_params.specs.Laws.Records.{oaep_record}
-use Rattle.pkcs1_params.specs.ParameterReadings.{strict_oaep_params}
 use Rattle.pkcs1_params.proofs.FaultsTell.{strict_tells}
 use Rattle.standard.specs.Statement.{Decodes, IsShortest, OaepEncoding}
 use Rattle.pkcs1_c.proofs.NotWritten.{status_exact}
@@ -8,11 +7,9 @@ use Rattle.pkcs1_c.proofs.oaep.pkcs1_c_oaep_params_decode_strict.Goals as goal
 
 pub returns-in-Ok-clause-ok : goal.returns-in-Ok-clause-ok
 returns-in-Ok-clause-ok c = λ _.
-    let bytes = c.args.encoding.now in
-    subst (λ v. Decodes (IsShortest OaepEncoding) bytes (Some v)) (sym c.to_c_oaep.ensures.seen) c.in-Ok.ensures.read
+    subst (λ v. Decodes (IsShortest OaepEncoding) c.args.encoding.now (Some v)) (sym c.to_c_oaep.ensures.seen)
+    c.in-Ok.ensures.read
 
 pub returns-in-Err-clause-exact : goal.returns-in-Err-clause-exact
 returns-in-Err-clause-exact c =
-    let bytes = c.args.encoding.now in
-    status_exact (strict_oaep_params bytes) (strict_tells oaep_record bytes)
-    c.in-Err.error _ c.status.ensures c.in-Err.ensures.exact
+    status_exact _ (strict_tells oaep_record _) c.in-Err.error _ c.status.ensures c.in-Err.ensures.exact

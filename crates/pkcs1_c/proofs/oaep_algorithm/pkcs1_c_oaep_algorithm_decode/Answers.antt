@@ -1,6 +1,5 @@
 use Rattle.std.proofs.Common.{Some, subst, sym}
 use Rattle.spki_core.specs.Laws.FieldSpellings.Records.{record_reads}
-use Rattle.pkcs1_params.specs.Algorithms.{rsa_oaep_algorithm}
 use Rattle.pkcs1_params.specs.Laws.Records.{oaep_record}
 use Rattle.pkcs1_params.proofs.FaultsTell.{whole_algorithm_tells}
 use Rattle.standard.specs.Statement.{Decodes, OaepAlgorithmEncoding, id_rsaes_oaep}
@@ -9,11 +8,10 @@ use Rattle.pkcs1_c.proofs.oaep_algorithm.pkcs1_c_oaep_algorithm_decode.Goals as 
 
 pub returns-in-Ok-clause-ok : goal.returns-in-Ok-clause-ok
 returns-in-Ok-clause-ok c = λ _.
-    let bytes = c.args.encoding.now in
-    subst (λ v. Decodes OaepAlgorithmEncoding bytes (Some v)) (sym c.to_c_oaep.ensures.seen) c.in-Ok.ensures.read
+    subst (λ v. Decodes OaepAlgorithmEncoding c.args.encoding.now (Some v)) (sym c.to_c_oaep.ensures.seen)
+    c.in-Ok.ensures.read
 
 pub returns-in-Err-clause-exact : goal.returns-in-Err-clause-exact
 returns-in-Err-clause-exact c =
-    let bytes = c.args.encoding.now in
-    status_exact (rsa_oaep_algorithm bytes) (whole_algorithm_tells (record_reads oaep_record).tells id_rsaes_oaep bytes)
-    c.in-Err.error _ c.status.ensures c.in-Err.ensures.exact
+    status_exact _ (whole_algorithm_tells (record_reads oaep_record).tells id_rsaes_oaep _) c.in-Err.error _ c.status.ensures
+    c.in-Err.ensures.exact

@@ -1,5 +1,4 @@
 use Rattle.std.proofs.Common.{Some, subst, sym}
-use Rattle.pkcs1_params.specs.Algorithms.{strict_oaep_algorithm}
 use Rattle.pkcs1_params.specs.Laws.Records.{oaep_record}
 use Rattle.pkcs1_params.proofs.FaultsTell.{strictly_tells, whole_algorithm_tells}
 use Rattle.standard.specs.Statement.{Decodes, IsShortest, OaepAlgorithmEncoding, id_rsaes_oaep}
@@ -8,12 +7,10 @@ use Rattle.pkcs1_c.proofs.oaep_algorithm.pkcs1_c_oaep_algorithm_decode_strict.Go
 
 pub returns-in-Ok-clause-ok : goal.returns-in-Ok-clause-ok
 returns-in-Ok-clause-ok c = λ _.
-    let bytes = c.args.encoding.now in
-    subst (λ v. Decodes (IsShortest OaepAlgorithmEncoding) bytes (Some v)) (sym c.to_c_oaep.ensures.seen)
+    subst (λ v. Decodes (IsShortest OaepAlgorithmEncoding) c.args.encoding.now (Some v)) (sym c.to_c_oaep.ensures.seen)
     c.in-Ok.ensures.read
 
 pub returns-in-Err-clause-exact : goal.returns-in-Err-clause-exact
 returns-in-Err-clause-exact c =
-    let bytes = c.args.encoding.now in
-    status_exact (strict_oaep_algorithm bytes) (whole_algorithm_tells (strictly_tells oaep_record) id_rsaes_oaep bytes)
-    c.in-Err.error _ c.status.ensures c.in-Err.ensures.exact
+    status_exact _ (whole_algorithm_tells (strictly_tells oaep_record) id_rsaes_oaep _) c.in-Err.error _ c.status.ensures
+    c.in-Err.ensures.exact

@@ -1,42 +1,26 @@
-use Rattle.std.proofs.Common.{length, subst}
+use Rattle.std.proofs.Common.{length}
 use Rattle.standard.specs.Statement.{OaepAlgorithmEncoding}
-use Rattle.pkcs1_c.specs.Status.{IsErrorOf}
 use Rattle.pkcs1_c.specs.StructErrors.{OaepFieldError, Unwritten}
-use Rattle.pkcs1_c.specs.Structs.{WritesOrTells, oaep_seen}
+use Rattle.pkcs1_c.specs.Structs.{oaep_seen}
 use Rattle.pkcs1_c.proofs.Fits.{oaep_fits}
 use Rattle.pkcs1_c.proofs.HeldParameters.{oaep_none}
 use Rattle.pkcs1_c.proofs.StructErrors.{oaep_part, unwritten_one}
-use Rattle.pkcs1_c.proofs.Writes.{error_behind, error_first, refused}
+use Rattle.pkcs1_c.proofs.Writes.{equal_told, part_told}
 use Rattle.pkcs1_c.proofs.oaep_algorithm.pkcs1_c_oaep_algorithm_encode.Goals as goal
 
-pub returns-in-Ok-clause-writes : goal.returns-in-Ok-clause-writes
-returns-in-Ok-clause-writes c =
-    let told = c.write_algorithm in
-    subst (λ v. WritesOrTells OaepAlgorithmEncoding v c.args.out.now told.new.out c.args.len.now told.new.len
-    told.result) c.in-Ok.ensures.ok told.ensures.writes
+pub returns-in-Ok : goal.returns-in-Ok
+returns-in-Ok c =
+    let is = c.in-Ok.ensures.ok in
+    let written = c.write_algorithm.ensures in
+    let told =
+    equal_told OaepFieldError OaepAlgorithmEncoding is (oaep_none c.in-Ok.made _ is) written.writes written.exact in
+    record { writes = told.0; exact = told.1 }
 
-pub returns-in-Ok-clause-exact : goal.returns-in-Ok-clause-exact
-returns-in-Ok-clause-exact c =
+pub returns-in-Err : goal.returns-in-Err
+returns-in-Err c =
     let v = oaep_seen c.args.params.now in
     let room = length c.args.out.now in
-    let told = c.write_algorithm in
-    error_behind (OaepFieldError v) (Unwritten OaepAlgorithmEncoding v room) told.result
-    (oaep_none c.in-Ok.made v c.in-Ok.ensures.ok)
-    (subst (λ u. IsErrorOf (Unwritten OaepAlgorithmEncoding u room) told.result) c.in-Ok.ensures.ok told.ensures.exact)
-
-pub returns-in-Err-clause-writes : goal.returns-in-Err-clause-writes
-returns-in-Err-clause-writes c =
-    let v = oaep_seen c.args.params.now in
-    let s = c.status.result in
-    let rejected : OaepFieldError v s = rw c.status.ensures c.in-Err.ensures.err in
-    refused OaepAlgorithmEncoding v c.args.out.now c.args.len.now s ((oaep_part v).1 s rejected)
-    (λ bytes p. oaep_fits v p.1 p.2 s rejected)
-
-pub returns-in-Err-clause-exact : goal.returns-in-Err-clause-exact
-returns-in-Err-clause-exact c =
-    let v = oaep_seen c.args.params.now in
-    let room = length c.args.out.now in
-    let s = c.status.result in
-    let rejected : OaepFieldError v s = rw c.status.ensures c.in-Err.ensures.err in
-    error_first (OaepFieldError v) (Unwritten OaepAlgorithmEncoding v room) s (oaep_part v)
-    (unwritten_one OaepAlgorithmEncoding v room) rejected
+    let told =
+    part_told (OaepFieldError v) (Unwritten OaepAlgorithmEncoding v room) (oaep_part v) (unwritten_one OaepAlgorithmEncoding v room)
+    OaepAlgorithmEncoding v (λ bytes p. oaep_fits v p.1 p.2) c.args.out.now c.args.len.now c.status.ensures c.in-Err.ensures.err in
+    record { writes = told.0; exact = told.1 }

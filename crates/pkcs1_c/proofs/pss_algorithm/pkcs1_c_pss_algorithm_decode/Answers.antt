@@ -1,6 +1,5 @@
 use Rattle.std.proofs.Common.{Some, subst, sym}
 use Rattle.spki_core.specs.Laws.FieldSpellings.Records.{record_reads}
-use Rattle.pkcs1_params.specs.Algorithms.{rsa_pss_algorithm}
 use Rattle.pkcs1_params.specs.Laws.Records.{pss_record}
 use Rattle.pkcs1_params.proofs.FaultsTell.{whole_algorithm_tells}
 use Rattle.standard.specs.Statement.{Decodes, PssAlgorithmEncoding, id_rsassa_pss}
@@ -9,11 +8,10 @@ use Rattle.pkcs1_c.proofs.pss_algorithm.pkcs1_c_pss_algorithm_decode.Goals as go
 
 pub returns-in-Ok-clause-ok : goal.returns-in-Ok-clause-ok
 returns-in-Ok-clause-ok c = λ _.
-    let bytes = c.args.encoding.now in
-    subst (λ v. Decodes PssAlgorithmEncoding bytes (Some v)) (sym c.to_c_pss.ensures.seen) c.in-Ok.ensures.read
+    subst (λ v. Decodes PssAlgorithmEncoding c.args.encoding.now (Some v)) (sym c.to_c_pss.ensures.seen)
+    c.in-Ok.ensures.read
 
 pub returns-in-Err-clause-exact : goal.returns-in-Err-clause-exact
 returns-in-Err-clause-exact c =
-    let bytes = c.args.encoding.now in
-    status_exact (rsa_pss_algorithm bytes) (whole_algorithm_tells (record_reads pss_record).tells id_rsassa_pss bytes)
-    c.in-Err.error _ c.status.ensures c.in-Err.ensures.exact
+    status_exact _ (whole_algorithm_tells (record_reads pss_record).tells id_rsassa_pss _) c.in-Err.error _ c.status.ensures
+    c.in-Err.ensures.exact

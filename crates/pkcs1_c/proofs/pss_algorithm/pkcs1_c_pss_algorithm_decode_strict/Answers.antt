@@ -1,5 +1,4 @@
 use Rattle.std.proofs.Common.{Some, subst, sym}
-use Rattle.pkcs1_params.specs.Algorithms.{strict_pss_algorithm}
 use Rattle.pkcs1_params.specs.Laws.Records.{pss_record}
 use Rattle.pkcs1_params.proofs.FaultsTell.{strictly_tells, whole_algorithm_tells}
 use Rattle.standard.specs.Statement.{Decodes, IsShortest, PssAlgorithmEncoding, id_rsassa_pss}
@@ -8,12 +7,10 @@ use Rattle.pkcs1_c.proofs.pss_algorithm.pkcs1_c_pss_algorithm_decode_strict.Goal
 
 pub returns-in-Ok-clause-ok : goal.returns-in-Ok-clause-ok
 returns-in-Ok-clause-ok c = λ _.
-    let bytes = c.args.encoding.now in
-    subst (λ v. Decodes (IsShortest PssAlgorithmEncoding) bytes (Some v)) (sym c.to_c_pss.ensures.seen)
+    subst (λ v. Decodes (IsShortest PssAlgorithmEncoding) c.args.encoding.now (Some v)) (sym c.to_c_pss.ensures.seen)
     c.in-Ok.ensures.read
 
 pub returns-in-Err-clause-exact : goal.returns-in-Err-clause-exact
 returns-in-Err-clause-exact c =
-    let bytes = c.args.encoding.now in
-    status_exact (strict_pss_algorithm bytes) (whole_algorithm_tells (strictly_tells pss_record) id_rsassa_pss bytes)
-    c.in-Err.error _ c.status.ensures c.in-Err.ensures.exact
+    status_exact _ (whole_algorithm_tells (strictly_tells pss_record) id_rsassa_pss _) c.in-Err.error _ c.status.ensures
+    c.in-Err.ensures.exact

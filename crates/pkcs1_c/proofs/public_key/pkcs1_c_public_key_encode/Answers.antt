@@ -4,39 +4,35 @@ use Rattle.pkcs1_c.specs.StructErrors.{NumbersError, Unwritten, two_numbers}
 use Rattle.pkcs1_c.specs.Structs.{HasNumbers, If, public_key}
 use Rattle.pkcs1_c.proofs.GivenKeys.{PublicSpells, public_fits, public_has, public_law}
 use Rattle.pkcs1_c.proofs.StructErrors.{numbers_part, unwritten_one}
-use Rattle.pkcs1_c.proofs.Writes.{error_behind, error_first, held_written, refused, unwritten_so}
+use Rattle.pkcs1_c.proofs.Writes.{error_behind, held_written, part_told, unwritten_so}
 use Rattle.pkcs1_c.proofs.public_key.pkcs1_c_public_key_encode.Goals as goal
 
 pub write_encoding-requires : goal.write_encoding-requires
 write_encoding-requires c = (tt, (tt, tt))
 
-pub returns-in-Ok-clause-writes : goal.returns-in-Ok-clause-writes
-returns-in-Ok-clause-writes c =
+pub returns-in-Ok : goal.returns-in-Ok
+returns-in-Ok c =
     let key = c.args.key.now in
-    held_written PublicKeyEncoding (public_key key) PublicSpells _ (public_law key c.in-Ok.key c.in-Ok.ensures.ok)
-    (HasNumbers key) (public_has key c.in-Ok.ensures.held) c.write_encoding.ensures.writes
-
-pub returns-in-Ok-clause-exact : goal.returns-in-Ok-clause-exact
-returns-in-Ok-clause-exact c =
-    let key = c.args.key.now in
+    let v = public_key key in
     let room = length c.args.out.now in
-    error_behind (NumbersError (two_numbers key)) (Unwritten PublicKeyEncoding (public_key key) room) _
-    c.in-Ok.ensures.held
-    (unwritten_so PublicKeyEncoding (public_key key) PublicSpells _ (public_law key c.in-Ok.key c.in-Ok.ensures.ok) room
-    _ c.write_encoding.ensures.exact)
+    let law = public_law key c.in-Ok.key c.in-Ok.ensures.ok in
+    let told = c.write_encoding.ensures in
+    let held = c.in-Ok.ensures.held in record {
+      writes =
+          held_written PublicKeyEncoding v PublicSpells _ law (HasNumbers key) (public_has key held) told.writes;
+      exact =
+          error_behind (NumbersError (two_numbers key)) (Unwritten PublicKeyEncoding v room) _ held
+          (unwritten_so PublicKeyEncoding v PublicSpells _ law room _ told.exact);
+    }
 
-pub returns-in-Err-clause-writes : goal.returns-in-Err-clause-writes
-returns-in-Err-clause-writes c =
+pub returns-in-Err : goal.returns-in-Err
+returns-in-Err c =
     let key = c.args.key.now in
-    let s = c.status.result in
-    let rejected : NumbersError (two_numbers key) s = rw c.status.ensures c.in-Err.ensures.err in
-    refused (If (HasNumbers key) PublicKeyEncoding) (public_key key) c.args.out.now c.args.len.now s
-    ((numbers_part (two_numbers key)).1 s rejected) (λ bytes p. public_fits key p.0 bytes p.1 s rejected)
-
-pub returns-in-Err-clause-exact : goal.returns-in-Err-clause-exact
-returns-in-Err-clause-exact c =
-    let key = c.args.key.now in
+    let v = public_key key in
     let room = length c.args.out.now in
-    let rejected : NumbersError (two_numbers key) c.status.result = rw c.status.ensures c.in-Err.ensures.err in
-    error_first (NumbersError (two_numbers key)) (Unwritten PublicKeyEncoding (public_key key) room) _
-    (numbers_part (two_numbers key)) (unwritten_one PublicKeyEncoding (public_key key) room) rejected
+    let numbers = two_numbers key in
+    let told =
+    part_told (NumbersError numbers) (Unwritten PublicKeyEncoding v room) (numbers_part numbers)
+    (unwritten_one PublicKeyEncoding v room) (If (HasNumbers key) PublicKeyEncoding) v
+    (λ bytes p. public_fits key p.0 bytes p.1) c.args.out.now c.args.len.now c.status.ensures c.in-Err.ensures.err in
+    record { writes = told.0; exact = told.1 }

@@ -22,8 +22,8 @@ write_encoding-requires g c =
     subst (λ a. IsAlgorithm (AreSpelled t.form.kinds) (algorithm_map (record_under t.form 0) a)) (sym is)
     (algorithm_valid oid identifier t.form (t.params c.args.params) made.ensures.valid)
 
-pub returns-clause-writes : goal.returns-clause-writes
-returns-clause-writes g c =
+pub returns : goal.returns
+returns g c =
     let t = g.T.EncodeParams in
     let oid = g.D.AssociatedOid.contents in
     let v = t.params c.args.params in
@@ -31,21 +31,14 @@ returns-clause-writes g c =
     let is = made.ensures.means in
     let identifier = subst (λ (a : Algorithm t.Params). IsIdentifier a.oid) is (viewed_held made.result.oid) in
     let Spelled = AlgorithmSpelled oid identifier t.form in
-    written_as (AlgorithmEncoding oid (Encoded t.Is t.fields_of)) v Spelled (with_parameters oid v)
-    (algorithm_spelled oid identifier t.form v)
-    (subst (λ a. WritesOrTells Spelled a c.args.out.now c.write_encoding.new.out c.args.len.now
-    c.write_encoding.new.len c.write_encoding.result) is c.write_encoding.ensures.writes)
-
-pub returns-clause-exact : goal.returns-clause-exact
-returns-clause-exact g c =
-    let t = g.T.EncodeParams in
-    let oid = g.D.AssociatedOid.contents in
-    let v = t.params c.args.params in
-    let made = c.identified in
-    let is = made.ensures.means in
-    let identifier = subst (λ (a : Algorithm t.Params). IsIdentifier a.oid) is (viewed_held made.result.oid) in
-    let Spelled = AlgorithmSpelled oid identifier t.form in
-    let room = length c.args.out.now in
-    unwritten_so (AlgorithmEncoding oid (Encoded t.Is t.fields_of)) v Spelled (with_parameters oid v)
-    (algorithm_spelled oid identifier t.form v) room c.write_encoding.result
-    (subst (λ a. IsErrorOf (Unwritten Spelled a room) c.write_encoding.result) is c.write_encoding.ensures.exact)
+    let same = algorithm_spelled oid identifier t.form v in
+    let told = c.write_encoding in
+    let room = length c.args.out.now in record {
+      writes =
+          written_as (AlgorithmEncoding oid (Encoded t.Is t.fields_of)) v Spelled (with_parameters oid v) same
+          (subst (λ a. WritesOrTells Spelled a c.args.out.now told.new.out c.args.len.now told.new.len told.result) is
+          told.ensures.writes);
+      exact =
+          unwritten_so (AlgorithmEncoding oid (Encoded t.Is t.fields_of)) v Spelled (with_parameters oid v) same room
+          told.result (subst (λ a. IsErrorOf (Unwritten Spelled a room) told.result) is told.ensures.exact);
+    }

@@ -11,20 +11,20 @@ use Rattle.pkcs1_c.proofs.NotWritten.{status_unwritten}
 use Rattle.pkcs1_c.proofs.Writes.{not_written, unwritten_as, unwritten_is, written, written_as, written_well}
 use Rattle.pkcs1_c.proofs.written.write_params.Goals as goal
 
-pub returns-in-Ok-clause-writes : goal.returns-in-Ok-clause-writes
-returns-in-Ok-clause-writes g c =
+pub returns-in-Ok : goal.returns-in-Ok
+returns-in-Ok g c =
     let t = g.T.EncodeParams in
-    written (Encoded t.Is t.fields_of) (t.params c.args.params) c.args.out.now c.encode_params.new.out c.args.len.now
-    c.in-Ok.count c.in-Ok.ensures.written
+    let v = t.params c.args.params in
+    let made = c.in-Ok.ensures.written in record {
+      writes =
+          written (Encoded t.Is t.fields_of) v c.args.out.now c.encode_params.new.out c.args.len.now c.in-Ok.count made;
+      exact =
+          written_well (Encoded t.Is t.fields_of) v c.args.out.now c.encode_params.new.out c.args.len.now c.in-Ok.count
+          made c.encode_params.auto.out;
+    }
 
-pub returns-in-Ok-clause-exact : goal.returns-in-Ok-clause-exact
-returns-in-Ok-clause-exact g c =
-    let t = g.T.EncodeParams in
-    written_well (Encoded t.Is t.fields_of) (t.params c.args.params) c.args.out.now c.encode_params.new.out
-    c.args.len.now c.in-Ok.count c.in-Ok.ensures.written c.encode_params.auto.out
-
-pub returns-in-Err-clause-writes : goal.returns-in-Err-clause-writes
-returns-in-Err-clause-writes g c =
+pub returns-in-Err : goal.returns-in-Err
+returns-in-Err g c =
     let t = g.T.EncodeParams in
     let r = t.form in
     let v = t.params c.args.params in
@@ -34,16 +34,11 @@ returns-in-Err-clause-writes g c =
     let needed = rw c.of.ensures at c.set_needed.ensures in
     let why = status_unwritten (λ _. Unit {0}) (Encoded t.Is t.fields_of) v room tt c.in-Err.error c.in-Err.ensures.err
     in
-    let Spelled = Spells (AreSpelled r.kinds) (λ s. sequence (spelled r.kinds s)) (record_means r) in
-    written_as (Encoded t.Is t.fields_of) v Spelled v (λ b. (spelled_to r v b, spelled_from r v b))
-    (not_written Spelled v c.args.out.now _ c.args.len.now _ _ _ c.status.ensures
-    (unwritten_as Spelled v (Encoded t.Is t.fields_of) v (λ b. (spelled_from r v b, spelled_to r v b)) room _ why)
-    c.in-Err.ensures.written.0 (needed_is least v ok needed.needed) (needed_kept least v ok needed.kept))
-
-pub returns-in-Err-clause-exact : goal.returns-in-Err-clause-exact
-returns-in-Err-clause-exact g c =
-    let t = g.T.EncodeParams in
-    let v = t.params c.args.params in
-    let room = length c.args.out.now in
-    unwritten_is (Encoded t.Is t.fields_of) v room _ _ c.status.ensures
-    (status_unwritten (λ _. Unit {0}) (Encoded t.Is t.fields_of) v room tt c.in-Err.error c.in-Err.ensures.err)
+    let Spelled = Spells (AreSpelled r.kinds) (λ s. sequence (spelled r.kinds s)) (record_means r) in record {
+      writes =
+          written_as (Encoded t.Is t.fields_of) v Spelled v (λ b. (spelled_to r v b, spelled_from r v b))
+          (not_written Spelled v c.args.out.now _ c.args.len.now _ _ _ c.status.ensures
+          (unwritten_as Spelled v (Encoded t.Is t.fields_of) v (λ b. (spelled_from r v b, spelled_to r v b)) room _ why)
+          c.in-Err.ensures.written.0 (needed_is least v ok needed.needed) (needed_kept least v ok needed.kept));
+      exact = unwritten_is (Encoded t.Is t.fields_of) v room _ _ c.status.ensures why;
+    }

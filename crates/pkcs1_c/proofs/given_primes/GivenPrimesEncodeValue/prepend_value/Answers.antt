@@ -19,37 +19,28 @@ overflow_sub-least c =
     let counted = length_counted given.others.now given.len c.in-Ok.length given.counted c.in-Ok.is in
     omega (arith, c.requires.room, ap length is, counted, c.to_usize.ensures.value, c.free.ensures)
 
-pub prepend_given-requires-clause-held : goal.prepend_given-requires-clause-held
-prepend_given-requires-clause-held c =
-    let given = c.args.self.now in
-    held_at given.others.now (c.loop-left.left - 1) nothing (omega (arith, c.loop-left-test.true, c.loop-left.invariant.0)) given.held
-
-pub prepend_given-requires-clause-fits : goal.prepend_given-requires-clause-fits
-prepend_given-requires-clause-fits c =
-    let given = c.args.self.now in
-    let is = encoded_is given.others.now in
-    omega (
-      arith,
-      c.requires.fits,
-      ap length is,
-      behind_fits given.others.now c.loop-left.left nothing c.loop-left-test.true c.loop-left.invariant.0,
-    )
-
-pub prepend_given-requires-clause-room : goal.prepend_given-requires-clause-room
-prepend_given-requires-clause-room c =
+pub prepend_given-requires : goal.prepend_given-requires
+prepend_given-requires c =
     let given = c.args.self.now in
     let is = encoded_is given.others.now in
     let counted = length_counted given.others.now given.len c.in-Ok.length given.counted c.in-Ok.is in
-    omega (
-      arith,
-      c.requires.room,
-      ap length is,
-      counted,
-      c.to_usize.ensures.value,
-      c.free.ensures,
-      c.loop-left.invariant.1.1,
-      behind_fits given.others.now c.loop-left.left nothing c.loop-left-test.true c.loop-left.invariant.0,
-    )
+    let few = c.loop-left.invariant.0 in
+    let behind = behind_fits given.others.now c.loop-left.left nothing c.loop-left-test.true few in record {
+      held =
+          held_at given.others.now (c.loop-left.left - 1) nothing (omega (arith, c.loop-left-test.true, few))
+          given.held;
+      fits = omega (arith, c.requires.fits, ap length is, behind);
+      room = omega (
+        arith,
+        c.requires.room,
+        ap length is,
+        counted,
+        c.to_usize.ensures.value,
+        c.free.ensures,
+        c.loop-left.invariant.1.1,
+        behind,
+      );
+    }
 
 pub returns : goal.returns
 returns c =
