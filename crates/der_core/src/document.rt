@@ -197,6 +197,7 @@ impl<S: Drop> DocumentOf<S> {
     }
 
     /// Reads the document in a file, as `read_from` does. `File` also if the file can't be opened.
+    #[tactic(auto, using(crate::proofs::TaggedReadings::document_reads))]
     pub fn read_der_file<F: FileSystem>(
         files: &F,
         alloc: Global,

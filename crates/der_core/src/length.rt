@@ -222,6 +222,7 @@ impl Length {
 
     /// Reads the length octets.
     #[inline(always)]
+    #[tactic(auto, using(crate::proofs::Headers::length_reads))]
     pub fn decode<'a, R: Reader<&'a [u8]>>(reader: &mut R) -> Result<Length>
         ensures exact { Reads (λ n. n) result (R.left reader.old) (R.left reader.new) length_at }
         ensures encoding { ReadsEncoding (λ n. n) LengthEncoding (λ _. ⊥) result (R.left reader.old)

@@ -104,6 +104,7 @@ impl fmt::Display for PrintedOctet {
 
     ghost output = { λ printed. Some (octet_text printed.0) };
 
+    #[tactic(auto, using(std::proofs::lemmas::Fmt::hex_byte))]
     fn fmt<W: fmt::Write>(&self, f: &mut fmt::Formatter<W>) -> fmt::Result {
         let PrintedOctet(octet) = *self;
         write!(f, "0x{octet:02x}")

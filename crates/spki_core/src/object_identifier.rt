@@ -67,6 +67,7 @@ fn has_no_80(octets: &[u8]) -> bool
 
 /// Whether these are whole subidentifiers, for sure: no octet is 80, and the last one ends a subidentifier.
 #[inline(always)]
+#[tactic(auto, using(crate::proofs::Octets::ends_plain))]
 fn ends_plainly(octets: &[u8]) -> bool
     ensures { IsTrue result → (0 < length octets.now) × (specs.ends_well true octets.now ≡ true) }
 {
@@ -89,6 +90,7 @@ pub(crate) fn is_identifier(octets: &[u8]) -> bool
 }
 
 /// The same, octet by octet.
+#[tactic(auto, using(crate::proofs::Octets::next))]
 fn is_identifier_by_octets(octets: &[u8]) -> bool
     ensures { result ≡ specs.is_identifier octets.now }
 {
@@ -126,6 +128,7 @@ pub trait AssociatedOid {
 }
 
 /// The octets with zeros behind them.
+#[tactic(auto, using(std::proofs::Math::ListN::replicate))]
 fn with_zeros(octets: &[u8]) -> [u8; 39]
     requires { length octets.now ≤ 39 }
     ensures octets { take (length octets.now) result ≡ octets.now }

@@ -47,6 +47,7 @@ impl Uint {
     }
 
     /// The bytes, most significant first, at least one.
+    #[tactic(auto, using(crate::specs::Laws::Integer::holds_canonical))]
     pub fn as_bytes(&self) -> &[u8]
         ensures number { result.now ≡ own_bytes_of self.now }
         ensures canonical { IsCanonical result.now }

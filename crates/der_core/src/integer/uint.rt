@@ -110,6 +110,7 @@ impl<'a> UintRef<'a> {
     }
 
     /// The bytes, most significant first, at least one.
+    #[tactic(auto, using(crate::specs::Laws::Integer::holds_canonical))]
     pub fn as_bytes(&self) -> &'a [u8]
         ensures number { result.now ≡ bytes_of self.now }
         ensures canonical { IsCanonical result.now }

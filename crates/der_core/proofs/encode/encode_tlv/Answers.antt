@@ -2,7 +2,7 @@ use Rattle.std.proofs.Common.{arith, rules, ◌≡◌, ◌+◌, ◌<◌, ◌++�
 use Rattle.std.proofs.lemmas.Result.{err_from_is_err_and}
 use Rattle.der_core.specs.Length.{limit, length_octets}
 use Rattle.der_core.specs.Tlv.{tlv}
-use Rattle.der_core.proofs.StoppedWriting.{appends_nothing, appends_behind, appends_too_long}
+use Rattle.der_core.proofs.StoppedWriting.{appends_nothing, appends_behind}
 use Rattle.der_core.proofs.encode.encode_tlv.Goals as goal
 
 pub returns-in_err-write-clause-appends : goal.returns-in_err-write-clause-appends
@@ -52,23 +52,3 @@ returns-clause-appends g c =
     let mid : g.W.Writer.written c.write.new.self ≡ g.W.Writer.written c.args.writer.now ++ head = search rules in
     let room : g.W.Writer.room c.write.new.self + length head ≡ g.W.Writer.room c.args.writer.now = search rules in
     appends_behind _ _ _ has has encoding few mid room c.append_value.ensures.appends
-
-pub returns-in_err-for_tlv-clause-appends : goal.returns-in_err-for_tlv-clause-appends
-returns-in_err-for_tlv-clause-appends g c =
-    let p = err_from_is_err_and c.from_residual-in_err-for_tlv.result c.from_residual-in_err-for_tlv.ensures.1 in
-    let t = g.T.Contents in
-    let v = t.value c.args.value.now in
-    let size : length (length_octets c.in_ok-length.length) ≡ length (length_octets (length (t.printed (t.written v)))) =
-    ap (λ n. length (length_octets n)) c.in_ok-length.ensures.1 in
-    let many : limit < length (tlv g.T.FixedTag.TAG.octet (t.printed (t.written v))) =
-    omega (
-      arith,
-      size,
-      c.in_err-for_tlv.ensures.err.1,
-      c.in_ok-length.ensures,
-      length-append (length_octets (length (t.printed (t.written v)))) (t.printed (t.written v)),
-    ) in
-    rw (p.1, p.2) (appends_too_long c.in_ok-length.ensures.0 c.in_err-for_tlv.ensures.err.0 many)
-
-pub returns-clause-kept : goal.returns-clause-kept
-returns-clause-kept g c = g.met.W.Writer.keeps_through _ _ _ c.in_ok-write.ensures.kept c.append_value.ensures.kept

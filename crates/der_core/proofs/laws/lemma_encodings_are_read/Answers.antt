@@ -1,5 +1,3 @@
-use Rattle.der_core.specs.Laws.Printed.Rows.{prints_one}
-use Rattle.der_core.specs.Laws.Printed.Shortest.{shortest_is}
 use Rattle.der_core.specs.Laws.Printed.Values.{reads_front}
 use Rattle.der_core.proofs.Spelled.{answers_decode, values_decode}
 use Rattle.der_core.proofs.laws.lemma_encodings_are_read.Goals as goal
@@ -12,9 +10,3 @@ returns-clause-decodes g c = values_decode g.T.Encoding.law g.T.Encoding.reads_a
 
 pub returns-clause-answers : goal.returns-clause-answers
 returns-clause-answers g c = answers_decode g.T.Encoding.law g.T.Encoding.reads_alike g.T.Encoding.value
-
-pub returns-clause-one : goal.returns-clause-one
-returns-clause-one g c = prints_one g.T.Encoding.law
-
-pub returns-clause-shortest : goal.returns-clause-shortest
-returns-clause-shortest g c = shortest_is g.T.Encoding.shortest

@@ -1,5 +1,4 @@
 use Rattle.std.proofs.Common.{length}
-use Rattle.der_core.specs.Laws.Printed.Values.{prints_once}
 use Rattle.der_core.proofs.Spelled.{into_encodes, into_unwritten}
 use Rattle.der_core.proofs.one_encoding.write_only.Goals as goal
 
@@ -9,9 +8,6 @@ returns-clause-written g c =
     let made = c.encode_into.ensures in
     into_encodes t.shortest (t.value c.args.value.now) c.args.out.now _ c.encode_into.result made.ok made.shortest
     made.err made.unchanged c.encode_into.auto.out
-
-pub returns-clause-only : goal.returns-clause-only
-returns-clause-only g c = λ v a b p q. prints_once g.met.T.OneEncoding.once v a b p.1 q.1
 
 pub returns-clause-err : goal.returns-clause-err
 returns-clause-err g c =

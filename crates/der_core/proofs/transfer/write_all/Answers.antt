@@ -1,14 +1,8 @@
 use Rattle.std.proofs.Common.{rules, length}
 use Rattle.std.proofs.Math.Seq.{take-length}
-use Rattle.std.proofs.lemmas.Result.{err_from_is_err_and}
 use Rattle.std.specs.Io.KnownBytes.{Appends}
 use Rattle.der_core.specs.SourcesSinks.{OneFailed}
 use Rattle.der_core.proofs.transfer.write_all.Goals as goal
-
-pub returns-in_err-put_all-clause-written : goal.returns-in_err-put_all-clause-written
-returns-in_err-put_all-clause-written g c =
-    let p = err_from_is_err_and c.from_residual.result c.from_residual.ensures.1 in
-    rw (p.1, p.2) c.in_err-put_all.ensures
 
 -- all bytes were taken, and then the flush was rejected
 pub returns-in-Err-clause-written : goal.returns-in-Err-clause-written

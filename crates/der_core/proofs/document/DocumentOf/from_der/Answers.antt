@@ -1,18 +1,13 @@
 use Rattle.std.proofs.Common.{sym, subst, inl, inr}
 use Rattle.std.proofs.lemmas.Result.{err_from_is_err_and}
 use Rattle.der_core.specs.Document.{IsDocument}
-use Rattle.der_core.proofs.Documents.{means_document, no_document, the_fault}
+use Rattle.der_core.proofs.Documents.{means_document, no_document}
 use Rattle.der_core.proofs.document.DocumentOf.from_der.Goals as goal
 
 pub returns-in_err-from_der-clause-err : goal.returns-in_err-from_der-clause-err
 returns-in_err-from_der-clause-err g c =
     let p = err_from_is_err_and c.from_residual.result c.from_residual.ensures.1 in
     rw (p.1, p.2) (inr (no_document _ _ c.in_err-from_der.ensures.encoding))
-
-pub returns-in_err-from_der-clause-exact : goal.returns-in_err-from_der-clause-exact
-returns-in_err-from_der-clause-exact g c =
-    let p = err_from_is_err_and c.from_residual.result c.from_residual.ensures.1 in
-    rw (p.1, p.2) (inr (the_fault c.in_err-from_der.ensures.exact))
 
 pub invariant_of-result : goal.invariant_of-result
 invariant_of-result g c =
