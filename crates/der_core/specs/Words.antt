@@ -63,7 +63,7 @@ pub use Rattle.der_core.specs.Laws.Printed.OptionalRows.{unless_alike, unless_sh
 pub use Rattle.der_core.specs.Laws.Printed.Rows.{end_law, expected_law, made_law, row_law, tagged_law}
 pub use Rattle.der_core.specs.Laws.Printed.Shortest.{last_shortest, list_shortest, made_shortest, one_spelling}
 pub use Rattle.der_core.specs.Laws.Printed.Shortest.{row_shortest, tagged_shortest, tagged_some}
-pub use Rattle.der_core.specs.Laws.Printed.Values.{prints_once, reads, reads_front, written_prints}
+pub use Rattle.der_core.specs.Laws.Printed.Values.{reads, reads_front, written_prints}
 pub use Rattle.der_core.specs.Laws.Readings.{made_errs}
 pub use Rattle.der_core.specs.Laws.Readings.{small_reads}
 pub use Rattle.der_core.specs.Laws.SequenceOf.{items_relate, items_shortest}

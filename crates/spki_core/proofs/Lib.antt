@@ -1,5 +1,4 @@
 pub mod Octets
-pub mod Copies
 pub mod MappedValues
 pub mod Readings
 pub mod Fielded

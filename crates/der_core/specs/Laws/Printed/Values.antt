@@ -1,10 +1,9 @@
 -- What the laws of a type say of its values: what is read, what is written, and that each has one encoding at most.
 use Rattle.std.proofs.Common.{ℕ, List, ◌++◌, ◌<◌, length, refl, sym, ap, ◌∙◌, arith, Ok}
 use Rattle.std.proofs.Common.{inl, inr}
-use Rattle.der_core.specs.Encodings.{AtMostOne}
 use Rattle.der_core.specs.Laws.Input.{ok_pair}
 use Rattle.der_core.specs.Laws.Readings.{bind_err, bind_ok, ok_same}
-use Rattle.der_core.specs.Printed.{AreSpelledOnce, Prints, ReadsAlike, ReadsFrontAlike, ReadsFrontPrinted, ReadsPrinted}
+use Rattle.der_core.specs.Printed.{Prints, ReadsAlike, ReadsFrontAlike, ReadsFrontPrinted, ReadsPrinted}
 use Rattle.der_core.specs.Printed.{WritesShortest}
 use Rattle.der_core.specs.Readings.{FrontReading, Reading, ReadsContents, ReadsFronts, ◌>>=◌}
 
@@ -61,9 +60,3 @@ pub written_prints : {S V : Type 0} {valid : S → Type 0} {printed : S → List
     → WritesShortest valid printed means written → (v : V) → valid (written v)
     → Prints valid printed means v (printed (written v))
 written_prints {written = written} law v ok = (written v, law.back v, ok, refl)
-
--- A value has one encoding at most if it has one spelling at most.
-pub prints_once : {S V : Type 0} {valid : S → Type 0} {printed : S → List ℕ} {means : S → V} → AreSpelledOnce means
-    → (v : V) → AtMostOne (Prints valid printed means v)
-prints_once {printed = printed} once v x y (s, e, ok, is) (t, f, right, same) =
-    is ∙ ap printed (once s t (e ∙ sym f)) ∙ sym same
