@@ -128,7 +128,6 @@ pub trait AssociatedOid {
 }
 
 /// The octets with zeros behind them.
-#[tactic(auto, using(std::proofs::Math::ListN::replicate))]
 fn with_zeros(octets: &[u8]) -> [u8; 39]
     requires { length octets.now ≤ 39 }
     ensures octets { take (length octets.now) result ≡ octets.now }

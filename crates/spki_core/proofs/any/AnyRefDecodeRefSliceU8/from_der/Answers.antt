@@ -1,16 +1,29 @@
-use Rattle.std.proofs.Common.{arith, rules, Ok}
+use Rattle.std.proofs.Common.{arith, inr, rules, Ok}
+use Rattle.std.proofs.lemmas.Result.{err_from_is_err_and}
 use Rattle.der_core.specs.Laws.Input.{are_bytes}
 use Rattle.der_core.proofs.Readings.{whole_reads}
-use Rattle.der_core.proofs.ReadSteps.{reads_all}
+use Rattle.der_core.specs.Laws.SliceReaders.{left_of-bounded}
+use Rattle.der_core.proofs.ReadSteps.{reads_all, whole_trailing}
 use Rattle.spki_core.specs.AnyRefValue.{any_of}
 use Rattle.spki_core.specs.Laws.Printed.Readings.{any_values}
 use Rattle.spki_core.specs.Readings.{any}
 use Rattle.spki_core.proofs.any.AnyRefDecodeRefSliceU8.from_der.Goals as goal
 
+pub returns-in_err-reader-clause-encoding : goal.returns-in_err-reader-clause-encoding
+returns-in_err-reader-clause-encoding g c =
+    reads_all any_of any c.args.bytes.now (whole_reads any_values) _ c.from_residual.result
+    (are_bytes _ (λ i. omega (arith, c.type_inv.bytes i))) (search rules)
+
 pub returns-in_err-any-clause-encoding : goal.returns-in_err-any-clause-encoding
 returns-in_err-any-clause-encoding g c =
     reads_all any_of any c.args.bytes.now (whole_reads any_values) _ c.from_residual-in_err-any.result
     (are_bytes _ (λ i. omega (arith, c.type_inv.bytes i))) (search rules)
+
+pub returns-in_err-finish-clause-exact : goal.returns-in_err-finish-clause-exact
+returns-in_err-finish-clause-exact g c =
+    let p = err_from_is_err_and c.from_residual-in_err-finish.result c.from_residual-in_err-finish.ensures.1 in
+    rw (p.1, p.2) (inr (whole_trailing any _ _ _ _ _ c.in_ok-reader.ensures.ok
+    (left_of-bounded c.in_ok-reader.reader) c.in_ok-any.ensures c.in_err-finish.ensures.0))
 
 pub returns-in_err-finish-clause-encoding : goal.returns-in_err-finish-clause-encoding
 returns-in_err-finish-clause-encoding g c =

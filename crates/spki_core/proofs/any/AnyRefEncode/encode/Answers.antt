@@ -1,8 +1,8 @@
-use Rattle.std.proofs.Common.{arith, rules, ap, ◌≡◌, ◌+◌, ◌<◌, ◌≤◌, length, length-append}
+use Rattle.std.proofs.Common.{arith, rules, ap, ◌≡◌, ◌+◌, ◌<◌, ◌≤◌, ◌++◌, length, length-append}
 use Rattle.std.proofs.lemmas.Result.{err_from_is_err_and}
 use Rattle.der_core.specs.Length.{limit, length_octets}
 use Rattle.der_core.proofs.NotWritten.{stopped}
-use Rattle.der_core.proofs.StoppedWriting.{appends_nothing}
+use Rattle.der_core.proofs.StoppedWriting.{appends_nothing, appends_at_once, appends_behind}
 use Rattle.der_core.specs.Laws.Printed.Shortest.{one_spelling}
 use Rattle.spki_core.specs.Any.{IsAny, written_any}
 use Rattle.spki_core.specs.AnyRefValue.{any_of}
@@ -31,6 +31,20 @@ pub returns-in_err-write-clause-err : goal.returns-in_err-write-clause-err
 returns-in_err-write-clause-err g c =
     let any = any_of c.args.self.now in
     stopped (one_spelling IsAny written_any) any _ _ _ _ (returns-in_err-write-clause-appends g c).left
+
+pub returns-clause-appends : goal.returns-clause-appends
+returns-clause-appends g c =
+    let any = any_of c.args.self.now in
+    let head = c.to_bytes.result.items in
+    let all = c.in_ok-encoded_len.ensures.counted in
+    let few : length (written_any any) ≤ limit = omega (arith, all.1) in
+    let whole : written_any any ≡ head ++ any.contents = search rules in
+    let rest : length any.contents ≤ limit = c.args.self.now.bounded in
+    let mid : g.W.Writer.written c.write.new.self ≡ g.W.Writer.written c.args.writer.now ++ head = search rules in
+    let room : g.W.Writer.room c.write.new.self + length head ≡ g.W.Writer.room c.args.writer.now = search rules in
+    appends_behind {here = Unit {0}} _ _ _ tt all.0 whole few mid room
+    (appends_at_once _ tt rest c.write-2.ensures.written c.write-2.ensures.room c.write-2.ensures.err
+    c.write-2.ensures.nothing)
 
 pub returns-clause-err : goal.returns-clause-err
 returns-clause-err g c =

@@ -3,10 +3,24 @@ use Rattle.std.proofs.lemmas.Result.{err_from_is_err_and}
 use Rattle.der_core.specs.Length.{limit, length_octets}
 use Rattle.der_core.specs.Tlv.{tlv}
 use Rattle.der_core.proofs.NotWritten.{stopped}
-use Rattle.der_core.proofs.StoppedWriting.{appends_nothing, appends_behind}
+use Rattle.der_core.proofs.StoppedWriting.{appends_nothing, appends_too_long, appends_behind}
 use Rattle.spki_core.specs.ContextSpecific.{Numbered}
 use Rattle.spki_core.specs.Laws.Printed.Shortest.{numbered_writes_shortest}
 use Rattle.spki_core.proofs.context_specific.ContextSpecificRefEncode.encode.Goals as goal
+
+pub returns-in_err-for_tlv-clause-appends : goal.returns-in_err-for_tlv-clause-appends
+returns-in_err-for_tlv-clause-appends g c =
+    let p = err_from_is_err_and c.from_residual-in_err-for_tlv.result c.from_residual-in_err-for_tlv.ensures.1 in
+    let t = g.T.Encoding in
+    let number = c.args.self.now.tag_number in
+    let encoding = t.printed (t.written (t.value c.args.self.now.value.now)) in
+    let all = c.in_ok-length.ensures.counted in
+    let size : length (length_octets c.in_ok-length.length) ≡ length (length_octets (length encoding)) =
+    ap (λ n. length (length_octets n)) all.1 in
+    let many : limit < length (tlv (160 + number.value) encoding) =
+    omega (arith, size, c.in_err-for_tlv.ensures.err, all, length-append (length_octets (length encoding)) encoding)
+    in
+    rw (p.1, p.2) (appends_too_long (number.fits, all.0) c.in_err-for_tlv.ensures.err.0 many)
 
 pub returns-in_err-for_tlv-clause-err : goal.returns-in_err-for_tlv-clause-err
 returns-in_err-for_tlv-clause-err g c =

@@ -1,7 +1,16 @@
+use Rattle.std.proofs.Common.{◌+◌}
+use Rattle.der_core.proofs.Counting.{counts_encoding}
 use Rattle.der_core.proofs.NotWritten.{uncounted}
 use Rattle.spki_core.specs.ContextSpecific.{Numbered}
 use Rattle.spki_core.specs.Laws.Printed.Shortest.{numbered_writes_shortest}
 use Rattle.spki_core.proofs.context_specific.ContextSpecificRefEncode.encoded_len.Goals as goal
+
+pub returns-clause-counted : goal.returns-clause-counted
+returns-clause-counted g c =
+    let number = c.args.self.now.tag_number in
+    let all = c.in_ok-encoded_len.ensures.counted in
+    counts_encoding (160 + number.value) (g.T.Encoding.printed (g.T.Encoding.written (g.T.Encoding.value c.args.self.now.value.now)))
+    _ _ (number.fits, all.0) all.1 c.for_tlv.ensures.ok c.for_tlv.ensures.err
 
 pub returns-clause-err : goal.returns-clause-err
 returns-clause-err g c =
