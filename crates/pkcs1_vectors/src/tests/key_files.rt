@@ -1,5 +1,5 @@
 //! Keys in files.
-use crate::checks::equal;
+use crate::tests::checks::equal;
 use der_core::{Error, ErrorKind};
 use pkcs1::{
     DecodeRsaPrivateKey, DecodeRsaPublicKey, EncodeRsaPrivateKey, EncodeRsaPublicKey,
@@ -17,7 +17,7 @@ pub const PRIVATE: &[u8] = &[
 ];
 
 /// A public key.
-const PUBLIC: &[u8] = &[0x30, 0x06, 0x02, 0x01, 0x07, 0x02, 0x01, 0x03];
+pub const PUBLIC: &[u8] = &[0x30, 0x06, 0x02, 0x01, 0x07, 0x02, 0x01, 0x03];
 
 const FILE_ERROR: pkcs1::Error = pkcs1::Error::Asn1(Error {
     kind: ErrorKind::File,

@@ -1,5 +1,5 @@
 //! Values that are hashed, compared, copied and printed.
-use crate::checks::{equal, holds};
+use crate::tests::checks::{equal, holds};
 use der_core::{AsUintRef, Document, Error, ErrorKind, SecretDocument, Tag, UintRef};
 use pkcs1::{
     ALGORITHM_OID, EncodeParams, Mgf1, OtherPrimeInfo, PSpecified, RsaOaepParamsRef,

@@ -1,6 +1,7 @@
 //! Which calls on files are made, in order: no file is created before what goes into it is there, and no other file.
-use crate::checks::equal;
-use crate::recorded::{Call, Recorder};
+use crate::tests::checks::equal;
+use crate::tests::key_files::{PRIVATE, PUBLIC};
+use crate::tests::recorded::{Call, Recorder};
 use pkcs1::{
     DecodeRsaPrivateKey, DecodeRsaPublicKey, EncodeRsaPrivateKey, EncodeRsaPublicKey,
     RsaPrivateKeyOwned, RsaPublicKeyOwned, RsaPublicKeyRef,
@@ -9,13 +10,6 @@ use pkcs1_program::{copy_priv, copy_pub};
 use std::cell::RefCell;
 use std::path::Path;
 use std::test::Fail;
-
-const PUBLIC: &[u8] = &[0x30, 0x06, 0x02, 0x01, 0x07, 0x02, 0x01, 0x03];
-
-const PRIVATE: &[u8] = &[
-    0x30, 0x1b, 0x02, 0x01, 0x00, 0x02, 0x01, 0x07, 0x02, 0x01, 0x03, 0x02, 0x01, 0x05, 0x02, 0x01,
-    0x0b, 0x02, 0x01, 0x0d, 0x02, 0x01, 0x02, 0x02, 0x01, 0x04, 0x02, 0x01, 0x06,
-];
 
 const READ: &[Call] = &[Call::Open, Call::Read, Call::Read];
 

@@ -1,5 +1,5 @@
 //! The public half of a key from OpenSSL, compared with what OpenSSL writes.
-use crate::checks::equal;
+use crate::tests::checks::equal;
 use der_core::{Error, ErrorKind, Tag};
 use examples::publish;
 use std::fs;

@@ -4,8 +4,8 @@ ghost use Rattle.der_core.specs.Words.{IsDocument, encoding_of, NoValueOrMemory}
 ghost use Rattle.der_core.specs.declared.error.ErrorKind.TheVariants.{OutOfMemory};
 ghost use Rattle.pkcs1_params.specs.Words.{IsAsn1};
 
-use crate::checks::equal;
-use crate::key_files::PRIVATE;
+use crate::tests::checks::equal;
+use crate::tests::key_files::PRIVATE;
 use der_core::{Document, Error, ErrorKind, SecretDocument, Tag};
 use pkcs1::{DecodeRsaPrivateKey, EncodeRsaPrivateKey, EncodeRsaPublicKey, Result};
 use std::alloc::Global;

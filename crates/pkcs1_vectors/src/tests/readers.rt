@@ -1,5 +1,5 @@
 //! Readers, and what they return after an error.
-use crate::checks::equal;
+use crate::tests::checks::equal;
 use der_core::{
     Decode, Error, ErrorKind, Header, Length, NoMemory, Reader, SliceReader, TagNumber, UintRef,
     decode_last, decode_optional, decode_whole,

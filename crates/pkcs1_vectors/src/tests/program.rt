@@ -1,6 +1,6 @@
 //! Runs of the program over sources and sinks that move a few bytes per call and fail at one call; plans.
-use crate::checks::equal;
-use crate::doubles::{FailingReader, FailingWriter, Full, Many, failing_at, giving, taking};
+use crate::tests::checks::equal;
+use crate::tests::doubles::{FailingReader, FailingWriter, Full, Many, failing_at, giving, taking};
 use der_core::{FromRead, Sink, Source, ToWrite};
 use pkcs1_program::{Fault, Plan, behind_name, plan_of, run, status};
 use std::test::Fail;

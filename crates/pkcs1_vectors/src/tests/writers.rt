@@ -1,5 +1,5 @@
 //! Writers: what they append, prepend and leave unchanged.
-use crate::checks::{equal, holds};
+use crate::tests::checks::{equal, holds};
 use der_core::{
     BackWriter, Encode, EncodeValue, Error, ErrorKind, Header, Last, Length, SliceWriter, Tag,
     TagNumber, UintRef, Writer,

@@ -1,6 +1,6 @@
 //! Documents from sources and to sinks that move a few bytes per call, or fail at one; and documents in files.
-use crate::checks::{equal, holds};
-use crate::doubles::{FailingReader, Full, failing_at, giving, taking};
+use crate::tests::checks::{equal, holds};
+use crate::tests::doubles::{FailingReader, Full, failing_at, giving, taking};
 use der_core::{Document, Error, ErrorKind, FromRead, SecretDocument, Sink, Source, Tag, ToWrite};
 use std::alloc::Global;
 use std::fs;

@@ -1,5 +1,5 @@
 //! Types of one's own, by rows that are read, written again, and refused.
-use crate::checks::{equal, holds};
+use crate::tests::checks::{equal, holds};
 use der_core::{ErrorKind, Tag, TagMarker};
 use examples::{
     BooleanTag, read_digest_info, read_dsa_algorithm, read_extension, read_number_list,
