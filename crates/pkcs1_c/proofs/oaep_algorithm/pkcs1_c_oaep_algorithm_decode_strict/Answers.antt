@@ -12,5 +12,6 @@ returns-in-Ok-clause-ok c = λ _.
 
 pub returns-in-Err-clause-exact : goal.returns-in-Err-clause-exact
 returns-in-Err-clause-exact c =
-    status_exact _ (whole_algorithm_tells (strictly_tells oaep_record) id_rsaes_oaep _) c.in-Err.error _ c.status.ensures
+    status_exact _ (whole_algorithm_tells (strictly_tells oaep_record) id_rsaes_oaep _)
+    c.in-Err.error _ c.status.ensures
     c.in-Err.ensures.exact

@@ -21,6 +21,7 @@ returns-in-Err c =
     let v = oaep_seen c.args.params.now in
     let room = length c.args.out.now in
     let told =
-    part_told (OaepFieldError v) (Unwritten OaepAlgorithmEncoding v room) (oaep_part v) (unwritten_one OaepAlgorithmEncoding v room)
-    OaepAlgorithmEncoding v (λ bytes p. oaep_fits v p.1 p.2) c.args.out.now c.args.len.now c.status.ensures c.in-Err.ensures.err in
+    part_told (OaepFieldError v) (Unwritten OaepAlgorithmEncoding v room) (oaep_part v)
+    (unwritten_one OaepAlgorithmEncoding v room) OaepAlgorithmEncoding v (λ bytes p. oaep_fits v p.1 p.2)
+    c.args.out.now c.args.len.now c.status.ensures c.in-Err.ensures.err in
     record { writes = told.0; exact = told.1 }

@@ -76,5 +76,6 @@ returns-in-Err c =
     (λ bytes p. private_fits key others p.0 bytes p.1) c.args.out.now c.args.len.now c.status.ensures
     c.in-Err.ensures.err in record {
       writes = told.0;
-      exact = error_behind (Miscounted key others) (Counted key others room) _ (λ s p. p.1 c.if-key-others.false) told.1;
+      exact =
+          error_behind (Miscounted key others) (Counted key others room) _ (λ s p. p.1 c.if-key-others.false) told.1;
     }

@@ -13,5 +13,6 @@ returns-in-Ok-clause-ok c = λ _.
 
 pub returns-in-Err-clause-exact : goal.returns-in-Err-clause-exact
 returns-in-Err-clause-exact c =
-    status_exact _ (whole_algorithm_tells (record_reads pss_record).tells id_rsassa_pss _) c.in-Err.error _ c.status.ensures
+    status_exact _ (whole_algorithm_tells (record_reads pss_record).tells id_rsassa_pss _) c.in-Err.error _
+    c.status.ensures
     c.in-Err.ensures.exact

@@ -21,6 +21,7 @@ returns-in-Err c =
     let v = pss_seen c.args.params.now in
     let room = length c.args.out.now in
     let told =
-    part_told (PssFieldError v) (Unwritten PssAlgorithmEncoding v room) (pss_part v) (unwritten_one PssAlgorithmEncoding v room)
-    PssAlgorithmEncoding v (λ bytes p. pss_fits v p.1 p.2) c.args.out.now c.args.len.now c.status.ensures c.in-Err.ensures.err in
+    part_told (PssFieldError v) (Unwritten PssAlgorithmEncoding v room) (pss_part v)
+    (unwritten_one PssAlgorithmEncoding v room) PssAlgorithmEncoding v (λ bytes p. pss_fits v p.1 p.2)
+    c.args.out.now c.args.len.now c.status.ensures c.in-Err.ensures.err in
     record { writes = told.0; exact = told.1 }

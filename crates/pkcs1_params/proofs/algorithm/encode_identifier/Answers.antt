@@ -46,7 +46,8 @@ returns-in_err-encode_into g c =
       written =
           rw p.1
           (encodes_as (AlgorithmSpelled oid identifier t.form) (AlgorithmEncoding oid (Encoded t.Is t.fields_of))
-          (with_parameters oid v) v (algorithm_spelled oid identifier t.form v) c.args.out.now c.encode_into.new.out None
+          (with_parameters oid v) v (algorithm_spelled oid identifier t.form v) c.args.out.now
+          c.encode_into.new.out None
           (subst
           (λ a. Encodes (AlgorithmSpelled oid identifier t.form) a c.args.out.now c.encode_into.new.out None)
           it.ensures.means
