@@ -105,10 +105,17 @@ def owner_of(head, aliases):
 
 def words(type_, parameters):
     """A type in the prover's words: `&'a [u8]` is RefSliceU8. Parameters and lifetimes are left out."""
-    found = re.findall(r"&\s*mut\b|&|\[|(?<!')\b\w+\b(?!::)", type_)
+    found = re.finditer(r"&\s*mut\b|&|\[|\(|(?<!')\b\w+\b(?!::)", type_)
     named = {"&": "Ref", "[": "Array" if ";" in type_ else "Slice", "_": "", "dyn": ""} | dict.fromkeys(parameters, "")
-    tuple_ = "Unit" if type_ == "()" else f"Tuple{len(split(type_[1:-1]))}" if type_.startswith("(") else ""
-    return tuple_ + "".join("RefMut" if it.endswith("mut") else named.get(it, it[0].upper() + it[1:]) for it in found)
+    return "".join(
+        "RefMut" if it[0].endswith("mut") else tuple_word(type_[it.end() :]) if it[0] == "("
+        else named.get(it[0], it[0][0].upper() + it[0][1:]) for it in found)
+
+
+def tuple_word(text):
+    """The word of the tuple whose opening bracket stands before this text."""
+    count = len(split(text[: closing("(" + text, "([<", ")]>") - 1]))
+    return f"Tuple{count}" if count else "Unit"
 
 
 def base(type_):
@@ -116,17 +123,17 @@ def base(type_):
 
 
 def arguments_of(type_, parameters):
-    """The arguments of a type, without lifetimes; none if they are parameters alone."""
+    """The arguments of a type and theirs, without lifetimes; none if they are parameters alone."""
     arguments = split(type_[len(base(type_)) :].strip()[1:-1])
     if not any(words(it, parameters) for it in arguments):
         return []
-    return [it for it in (words(it, set()) for it in arguments) if it]
+    return [word for it in arguments for word in (words(base(it), set()), *arguments_of(it, set())) if word]
 
 
-def closing(text):
+def closing(text, opening="<", ending=">"):
     depth = 0
     for at, it in enumerate(text):
-        depth += (it == "<") - (it == ">" and text[at - 1] != "-")
+        depth += (it in opening) - (it in ending and text[at - 1] != "-")
         if not depth:
             return at
     return len(text)

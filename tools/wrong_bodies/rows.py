@@ -17,8 +17,9 @@ import tempfile
 from typing import NamedTuple
 
 sys.dont_write_bytecode = True
+from edits import read_edit
 from functions import functions, types_of
-from wrong_bodies import read_crates, read_edit
+from wrong_bodies import read_crates
 
 
 class Program(NamedTuple):

@@ -6,6 +6,7 @@
 README.md beside this file says what counts as refused. The last line is 'N refused, M failed'; the status is 0 exactly where M is 0.
 """
 import argparse
+import collections
 import concurrent.futures
 import os
 import re
@@ -13,10 +14,11 @@ import shutil
 import subprocess
 import sys
 import tempfile
-from typing import NamedTuple
 
 sys.dont_write_bytecode = True
+from edits import BadEdit, read_edit
 from functions import functions, types_of
+from holes import leave_open
 
 KIT = os.path.dirname(subprocess.run(["rt", "doc"], capture_output=True, text=True, check=True).stdout.strip())
 # Edits of one crate by which this tool itself is tested: it must give credit to those called wrong, and to no other.
@@ -26,65 +28,9 @@ NAMES_WHAT_IS_GONE = re.compile(r"has no |is not in scope|was not admitted|is no
 # How a goal is told whose answer no longer proves it, which weighs less than a goal without an answer.
 BROKEN = ", whose answer no longer proves it"
 UNREADABLE = re.compile(r"(?:\./)?(src/\S+?):(\d+):\d+: error")
+# A law that an impl no longer meets, which an edit of a definition may break.
+LAW = re.compile(r"(?:\./)?src/\S+?:\d+:\d+: error: `[^`]+`: (.*)")
 NOTE = re.compile(r"note: (src/\S+?):(\d+):\d+: .*\(`([^`]+)`\)")
-
-
-class BadEdit(Exception):
-    """An edit that cannot be tried, and why."""
-
-
-class Edit(NamedTuple):
-    path: str
-    pairs: list  # (file, old text, new text)
-    owned: frozenset  # (file, function) of each body that it changes
-
-    def applied(self, texts):
-        """The texts of the files that it changes."""
-        made = {}
-        for path, old, new in self.pairs:
-            text = made.get(path, texts.get(path, ""))
-            if text.count(old) != 1:
-                raise BadEdit(f"an 'old:' text stands {text.count(old)} times in {path}, and not once")
-            made[path] = text.replace(old, new)
-        return made
-
-
-def read_edit(path, texts, types):
-    """Reads an edit: lines 'file: src/..', and then pairs of lines 'old: TEXT' and 'new: TEXT'."""
-    pairs, file, old = [], None, None
-    with open(path, encoding="utf-8") as it:
-        for line in it.read().split("\n"):
-            word, _, rest = line.partition(":")
-            rest = rest.removeprefix(" ")
-            if word == "file":
-                file = rest.strip()
-            elif word == "old":
-                old = rest
-            elif word == "new":
-                pairs.append((file, old, rest))
-    edit = Edit(path, pairs, frozenset())
-    made = edit.applied(texts)
-    edit = edit._replace(owned=frozenset(it for file, new in made.items() for it in changed_bodies(file, texts[file], new, types)))
-    if not edit.owned:
-        raise BadEdit("it changes no body of a function")
-    return edit
-
-
-def changed_bodies(path, old, new, types):
-    """The functions whose bodies differ between two texts that are the same outside bodies."""
-    (outside, before), (outside_now, now) = cut(path, old, types), cut(path, new, types)
-    if outside != outside_now or before.keys() != now.keys():
-        raise BadEdit("it changes more than bodies of functions: must-fail/ is the place for it")
-    return [(path, name) for name in now if now[name] != before[name]]
-
-
-def cut(path, text, types):
-    """A text without the bodies of its functions, and these bodies."""
-    lines, bodies = text.split("\n"), {}
-    for it in reversed(functions(path, text, types)):
-        bodies[it.name] = lines[it.body : it.last]
-        del lines[it.body : it.last]
-    return lines, bodies
 
 
 class Crate:
@@ -99,9 +45,11 @@ class Crate:
                 with open(f"{at}/{file}", encoding="utf-8") as it:
                     self.texts[f"{at}/{file}".removeprefix(f"crates/{name}/")] = it.read()
         self.types = types_of(self.texts)
+        self.functions = {it.name for path, text in self.texts.items() for it in functions(path, text, self.types)}
 
     def check(self, texts, names):
-        """What the prover says of these functions of a copy of the crate with these texts in place of its own."""
+        """What the prover says of these functions of a copy of the crate with these texts in place of its own. What they
+        call is taken by its contract, unproved."""
         with tempfile.TemporaryDirectory(prefix="wrong-") as room:
             for part in ("src", "specs", "proofs"):
                 if os.path.isdir(f"crates/{self.name}/{part}"):
@@ -109,7 +57,8 @@ class Crate:
             for path, text in texts.items():
                 with open(f"{room}/{path}", "w", encoding="utf-8") as it:
                     it.write(text)
-            words = [f"{KIT}/bin/rattle", "check", *self.words, "--incremental", self.kept]
+            leave_open(f"{room}/proofs", self.name, self.functions.difference(names))
+            words = [f"{KIT}/bin/rattle", "check", *self.words, "--incremental", self.kept, "--allow-holes"]
             for it in names:
                 words += ["--only", it]
             with open(f"{room}/said", "w+", errors="replace") as said:
@@ -127,10 +76,17 @@ class Crate:
                 left.append(read_edit(path, self.texts, self.types))
             except BadEdit as why:
                 verdicts[path] = None, f"BAD EDIT: {why}"
+        for edit in [it for it in left if it.refused]:
+            self.try_apart(edit, verdicts)
+        left, tries = [it for it in left if not it.refused], collections.Counter()
         while left:
-            together, _ = self.round_of(left)
-            left = [it for it in left if it not in together]
-            self.settle(together, verdicts)
+            together, texts = self.round_of(left)
+            self.settle(together, texts, verdicts)
+            tries.update(it.path for it in together)
+            for edit in together:
+                if edit.path not in verdicts and tries[edit.path] == 2:
+                    self.settle([edit], edit.applied(self.texts), verdicts)
+            left = [it for it in left if it.path not in verdicts]
         shutil.rmtree(self.kept)
         return verdicts
 
@@ -147,30 +103,31 @@ class Crate:
                 owned |= edit.owned
         return together, texts
 
-    def settle(self, edits, verdicts):
-        """Tries a round in one check. Edits that it gives no credit are tried once more, each alone."""
-        _, texts = self.round_of(edits)
+    def settle(self, edits, texts, verdicts):
+        """Tries edits in one check, of these texts that they make. It gives no verdict on an edit without credit among others."""
         said = self.check(texts, sorted({name for it in edits for _, name in it.owned}))
         unread = [(it[1], int(it[2]), it.string) for it in map(UNREADABLE.match, said) if it]
-        again = []
         for edit in edits:
             spans = [(file, it) for file, text in texts.items() for it in functions(file, text, self.types) if (file, it.name) in edit.owned]
             errors = [told for at, line, told in unread if any(file == at and it.first <= line <= it.last for file, it in spans)]
+            goals = [] if unread else [goal for file, it in spans for goal in own_goals(said, self.name, it.name, lines_of(file, it))]
             if errors:
                 verdicts[edit.path] = None, f"BAD EDIT: {errors[0][:150]}"
-                continue
-            goals = [] if unread else [goal for file, it in spans for goal in own_goals(said, self.name, file, it)]
-            if goals:
+            elif goals:
                 verdicts[edit.path] = goals[0], None
             elif len(edits) == 1:
-                verdicts[edit.path] = None, why_not(said)
-            else:
-                again.append(edit)
-        if unread and len(again) < len(edits):
-            self.settle(again, verdicts)
-        else:
-            for edit in again:
-                self.settle([edit], verdicts)
+                verdicts[edit.path] = None, why_not(said, self.name, [it.name for _, it in spans])
+        readable = [it for it in edits if it.path not in verdicts]
+        if unread and 0 < len(readable) < len(edits):
+            self.settle(*self.round_of(readable), verdicts)
+
+    def try_apart(self, edit, verdicts):
+        """Tries an edit that changes more than bodies, by the function that it names."""
+        said = self.check(edit.applied(self.texts), [edit.refused])
+        laws = [it for it in map(LAW.match, said) if it and not names_what_is_gone(it[1])]
+        is_read = len(laws) == sum(bool(UNREADABLE.match(it)) for it in said)
+        goals = own_goals(said, self.name, edit.refused, lambda file, line: True) if is_read else []
+        verdicts[edit.path] = (goals[0], None) if goals else (None, why_not(said, self.name, [edit.refused]))
 
 
 def messages(said):
@@ -178,32 +135,41 @@ def messages(said):
     return re.sub(r"\n  +", " ", said.rstrip("\n")).split("\n")
 
 
-def own_goals(said, crate, file, function):
+def names_what_is_gone(told):
+    return NAMES_WHAT_IS_GONE.search(re.sub(r"`[^`]*`", "", told))
+
+
+def lines_of(file, function):
+    """Whether a line of a file is one of the function."""
+    return lambda at, line: at == file and function.first <= line <= function.last
+
+
+def own_goals(said, crate, name, is_own):
     """The goals by which a function counts as refused: answers of its own that no longer hold, or goals that are open at a
     line of its own; these only where no answer was lost because the edit took its goal away."""
-    name = function.name
     if not any(it.startswith((f"fn {crate}::{name}: not proved", f"fn {crate}::{name}: no proof")) for it in said):
         return []
     answer = re.compile(rf"(?:\./)?proofs/{re.escape(name.replace('::', '/'))}/[\w.+-]+\.antt:\d+:\d+: error: (?:`([^`]+)`: )?(.*)")
     broken, opened, is_lost = [], [], False
     for line in said:
-        if (at := NOTE.match(line)) and at[1] == file and function.first <= int(at[2]) <= function.last:
+        if (at := NOTE.match(line)) and is_own(at[1], int(at[2])):
             opened.append(f"{name}: `{at[3]}`")
         elif at := answer.match(line):
-            if NAMES_WHAT_IS_GONE.search(re.sub(r"`[^`]*`", "", at[2])):
+            if names_what_is_gone(at[2]):
                 is_lost = True
             elif at[1]:
                 broken.append(f"{name}: `{at[1]}`{BROKEN}")
     return broken or ([] if is_lost else opened)
 
 
-def why_not(said):
-    """Why an edit that was tried alone doesn't count as refused."""
-    at = re.match(r"only=(\d+) proved=(\d+)", said[-1])
+def why_not(said, crate, names):
+    """Why an edit of these functions that was tried alone doesn't count as refused."""
     told = next((it for it in said if ": error" in it), said[-1])[:150]
-    if not at:
+    if not re.match(r"only=\d+ ", said[-1]):
         return f"BAD EDIT: {told}"
-    return "NOT REFUSED: what it changes is still proved" if at[1] == at[2] else f"NOT REFUSED at a goal of its own: {told}"
+    holds = tuple(f"fn {crate}::{it}: {how}" for it in names for how in ("no holes", "depends on a hole"))
+    is_proved = sum(it.startswith(holds) for it in said) == len(names)
+    return "NOT REFUSED: what it changes is still proved" if is_proved else f"NOT REFUSED at a goal of its own: {told}"
 
 
 def read_crates():
