@@ -6,6 +6,7 @@ pub mod UsualParameters
 pub mod Errors
 pub mod FaultsTell
 pub mod FaultsTold
+pub mod KnownParameters
 pub mod Labels
 pub mod Masks
 pub mod Same

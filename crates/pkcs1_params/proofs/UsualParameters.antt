@@ -48,13 +48,13 @@ whole_sequence read v c b few is value =
 
 -- A salt length of one octet is read as that octet.
 module _ (s : ℕ) (small : s < 128) where
-  is_small : nat_lt s 128 ≡ true
+  pub is_small : nat_lt s 128 ≡ true
   is_small = grind (arith, nat_tests)
 
-  number : number_from_digits 256 (s ∷ []) ≡ s
+  pub number : number_from_digits 256 (s ∷ []) ≡ s
   number = omega arith
 
-  is_byte : nat_lt (number_from_digits 256 (s ∷ [])) 256 ≡ true
+  pub is_byte : nat_lt (number_from_digits 256 (s ∷ [])) 256 ≡ true
   is_byte = let byte : nat_lt s 256 ≡ true = grind (arith, nat_tests) in rw number byte
 
   -- Alone, it leaves the other fields at their defaults.
@@ -67,13 +67,13 @@ module _ (s : ℕ) (small : s < 128) where
 
 -- The two fields are read as the hash function that they begin with, and no default is written in them.
 module _ (n : ℕ) (few : n ≤ 6) where
-  ends : nat_lt n 128 ≡ true
+  pub ends : nat_lt n 128 ≡ true
   ends = grind (arith, nat_tests)
 
-  starts : (n == 128) ≡ false
+  pub starts : (n == 128) ≡ false
   starts = grind (arith, nat_tests)
 
-  pss_fields_read : (s : ℕ) → s < 128 → (strict : Bool) → (strict && eqb s 20) ≡ false
+  pub pss_fields_read : (s : ℕ) → s < 128 → (strict : Bool) → (strict && eqb s 20) ≡ false
       → (if strict then record_strictly pss_record else record_read pss_record)
       (fields_with_hash (hash_algorithm n) ++ salt_field s)
       ≡ Ok (pss_with_hash (with_parameters (hash_algorithm n) null_value) s)
@@ -83,7 +83,7 @@ module _ (n : ℕ) (few : n ≤ 6) where
   pss_fields_read s small false other =
       rw (starts, ends, starts, ends, is_small s small, is_byte s small, number s small) refl
 
-  oaep_fields_read : (strict : Bool)
+  pub oaep_fields_read : (strict : Bool)
       → (if strict then record_strictly oaep_record else record_read oaep_record) (fields_with_hash (hash_algorithm n))
       ≡ Ok (oaep_with_hash (with_parameters (hash_algorithm n) null_value))
   unfolding header_at length_at

@@ -1,5 +1,5 @@
 -- RSASSA-PSS-params and RSAES-OAEP-params (RFC 8017 A.2.3, A.2.1): identifiers, and algorithms with parameters.
-use Rattle.std.specs.Prelude.{ℕ, List, Some}
+use Rattle.std.specs.Prelude.{ℕ, List, Some, [], ◌∷◌}
 use Rattle.standard.specs.Statement.{Algorithm, TagAndContents, empty_label, mgf1_sha1, rsa_encryption, sha1}
 pub use Rattle.standard.specs.Statement.{OaepParameters, PssParameters}
 
@@ -15,6 +15,10 @@ id_mgf1 = mgf1_sha1.oid
 
 abbrev pub id_p_specified : List ℕ
 id_p_specified = empty_label.oid
+
+-- { pkcs-1 n } (RFC 8017 appendix C)
+abbrev pub pkcs1_algorithm : ℕ → List ℕ
+pkcs1_algorithm n = 0x2a ∷ 0x86 ∷ 0x48 ∷ 0x86 ∷ 0xf7 ∷ 0x0d ∷ 0x01 ∷ 0x01 ∷ n ∷ []
 
 -- An identifier with parameters.
 abbrev pub with_parameters : {P : Type 0} → List ℕ → P → Algorithm P

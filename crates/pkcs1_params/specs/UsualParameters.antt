@@ -1,20 +1,24 @@
 -- hashAlgorithm and maskGenAlgorithm of a SHA-2 hash function with NULL, and MGF1 with the same hash function (RFC 8017
 -- A.2.1, A.2.3, B.1): most parameters begin with them.
-use Rattle.std.specs.Prelude.{ℕ, List, [], ◌∷◌, ◌++◌, ◌≡◌, ◌<◌, ◌≤◌}
+use Rattle.std.specs.Prelude.{ℕ, List, [], ◌∷◌, ◌++◌, ◌≡◌, ◌<◌, ◌≤◌, ◌⊎◌}
 use Rattle.spki_core.specs.AlgorithmIdentifier.{Algorithm}
 use Rattle.spki_core.specs.Any.{TagAndContents, null_value}
 use Rattle.pkcs1_params.specs.HashFunctions.{hash_algorithm}
 use Rattle.pkcs1_params.specs.OaepValue.{labelled}
 use Rattle.pkcs1_params.specs.Parameters.{id_mgf1, id_sha1, with_parameters, OaepParameters, PssParameters}
+use Rattle.standard.specs.Statement.{empty_label}
 
 -- The encoding of a hash function whose identifier has nine octets, with NULL.
 abbrev pub hash_with_null : List ℕ → List ℕ
 hash_with_null oid = 0x30 ∷ 0x0d ∷ 0x06 ∷ 0x09 ∷ oid ++ 0x05 ∷ 0x00 ∷ []
 
--- The octets of both fields.
+-- The octets of hashAlgorithm, and of both fields.
+abbrev pub field_with_hash : List ℕ → List ℕ
+field_with_hash oid = 0xa0 ∷ 0x0f ∷ hash_with_null oid
+
 abbrev pub fields_with_hash : List ℕ → List ℕ
 fields_with_hash oid =
-    0xa0 ∷ 0x0f ∷ hash_with_null oid ++ 0xa1 ∷ 0x1c ∷ 0x30 ∷ 0x1a ∷ 0x06 ∷ 0x09 ∷ id_mgf1 ++ hash_with_null oid
+    field_with_hash oid ++ 0xa1 ∷ 0x1c ∷ 0x30 ∷ 0x1a ∷ 0x06 ∷ 0x09 ∷ id_mgf1 ++ hash_with_null oid
 
 -- The octets are those of the two fields with one of the six hash functions, from id_sha256 (1) to id_sha512_256 (6).
 abbrev pub HaveUsualHash : List ℕ → Type 0
@@ -46,3 +50,27 @@ IsUsualPss p contents =
 
 abbrev pub IsUsualOaep : OaepParameters → List ℕ → Type 0
 IsUsualOaep p contents = AreUsual p.hash contents × (p ≡ oaep_with_hash p.hash)
+
+-- What both fields with these identifiers and NULL are written as: SHA-1 is left out.
+abbrev pub AreKnown : List ℕ → List ℕ → List ℕ → List ℕ → Type 0
+AreKnown hash mask_gen under fields =
+    (mask_gen ≡ id_mgf1)
+    × (((hash ≡ id_sha1) × (under ≡ id_sha1) × (fields ≡ []))
+    ⊎ ((n : ℕ) × (n ≤ 6) × (hash ≡ hash_algorithm n)
+    × (((under ≡ id_sha1) × (fields ≡ field_with_hash (hash_algorithm n)))
+    ⊎ ((under ≡ hash_algorithm n) × (fields ≡ fields_with_hash (hash_algorithm n))))))
+
+abbrev pub pss_with_hashes : List ℕ → List ℕ → List ℕ → ℕ → PssParameters
+pss_with_hashes hash mask_gen under s = record {
+  hash = with_parameters hash null_value;
+  mask_gen = with_parameters mask_gen (with_parameters under null_value);
+  salt_len = s;
+  trailer_field = 1;
+}
+
+abbrev pub oaep_with_hashes : List ℕ → List ℕ → List ℕ → OaepParameters
+oaep_with_hashes hash mask_gen under = record {
+  hash = with_parameters hash null_value;
+  mask_gen = with_parameters mask_gen (with_parameters under null_value);
+  p_source = empty_label;
+}

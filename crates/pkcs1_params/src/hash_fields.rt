@@ -3,7 +3,7 @@ ghost use Rattle.std.specs.Bool.{Decides};
 ghost use Rattle.std.specs.Prelude.{◌≡◌};
 ghost use Rattle.spki_core.specs.Words.{null_value, algorithm_in, mask_in};
 ghost use Rattle.std.specs.Str.{bytes_eq};
-ghost use Rattle.pkcs1_params.specs.Words.{id_sha1, id_mgf1, with_parameters, UsesHash};
+ghost use Rattle.pkcs1_params.specs.Words.{UsesHash, id_mgf1, id_sha1, pkcs1_algorithm, with_parameters};
 
 use crate::hash_functions::Mgf1;
 use der_core::{Memory, Tag};
@@ -53,15 +53,34 @@ pub(crate) fn is_sha1(octets: &[u8]) -> bool
     matches!(octets, [0x2b, 0x0e, 0x03, 0x02, 0x1a])
 }
 
+/// Whether these are the octets of the identifier with this number, of those of PKCS #1. They are compared eight at a
+/// time.
+#[inline(always)]
+pub(crate) fn is_pkcs1(octets: &[u8], number: u8) -> bool
+    ensures { result ≡ bytes_eq octets.now (pkcs1_algorithm number) }
+{
+    match octets {
+        [a, b, c, d, e, f, g, h, last] => {
+            let front = (*a == 0x2a)
+                & (*b == 0x86)
+                & (*c == 0x48)
+                & (*d == 0x86)
+                & (*e == 0xf7)
+                & (*f == 0x0d)
+                & (*g == 0x01)
+                & (*h == 0x01);
+            front && *last == number
+        }
+        _ => false,
+    }
+}
+
 /// Whether these are the octets of id-mgf1.
 #[inline(always)]
 pub(crate) fn is_mgf1(octets: &[u8]) -> bool
     ensures { result ≡ bytes_eq octets.now id_mgf1 }
 {
-    match octets {
-        [0x2a, 0x86, 0x48, 0x86, later @ ..] => matches!(later, [0xf7, 0x0d, 0x01, 0x01, 0x08]),
-        _ => false,
-    }
+    is_pkcs1(octets, 8)
 }
 
 /// Whether the hash function is D, and the mask generation function is MGF1 with D.

@@ -10,6 +10,7 @@ ghost use Rattle.pkcs1_params.specs.Words.{oaep_of, oaep_viewed, oaep_with, octe
 ghost use Rattle.pkcs1_params.specs.Words.{written_source};
 ghost use Rattle.standard.specs.Statement.{empty_label};
 
+use crate::hash_fields::is_pkcs1;
 use crate::oaep::{RsaOaepParams, RsaOaepParamsRef, RsaOaepParamsView};
 use der_core::{Encode, EncodeValue, Length, Memory, Result, Tag, TagNumber, joined_len};
 use spki_core::{
@@ -47,13 +48,10 @@ pub(crate) fn empty_source<O: IdentifierValue, P: AnyParams<M>, M: Memory>(
 
 /// Whether these are the octets of id-pSpecified.
 #[inline(always)]
-pub(crate) fn is_p_specified(octets: &[u8]) -> bool
+pub fn is_p_specified(octets: &[u8]) -> bool
     ensures { result ≡ bytes_eq octets.now id_p_specified }
 {
-    match octets {
-        [0x2a, 0x86, 0x48, 0x86, later @ ..] => matches!(later, [0xf7, 0x0d, 0x01, 0x01, 0x09]),
-        _ => false,
-    }
+    is_pkcs1(octets, 9)
 }
 
 /// The label of a source, or `None` if it isn't pSpecified with an OCTET STRING.

@@ -1,10 +1,10 @@
 //! Parameters that begin with a SHA-2 hash function with NULL, and MGF1 with the same hash function, or have a salt length
 //! alone. Most are such, so their octets are compared before they are read field by field.
-ghost use Rattle.std.specs.Prelude.{◌≡◌, ◌<◌, ◌∷◌, ◌&&◌, [], eqb, false, length, IfSome, IsTrue};
+ghost use Rattle.std.specs.Prelude.{◌≡◌, ◌<◌, ◌≤◌, ◌∷◌, ◌&&◌, [], eqb, false, length, IfSome, IsTrue};
 ghost use Rattle.der_core.specs.Words.{sequence_tag};
 ghost use Rattle.spki_core.specs.Words.{any_of, mask_in, octets_of, viewed_with};
 ghost use Rattle.pkcs1_params.specs.Words.{AreUsual, HaveUsualHash, IsUsualOaep, IsUsualPss, id_mgf1, oaep_viewed};
-ghost use Rattle.pkcs1_params.specs.Words.{pss_viewed, with_parameters};
+ghost use Rattle.pkcs1_params.specs.Words.{fields_with_hash, hash_algorithm, pss_viewed, with_parameters};
 
 use crate::oaep::RsaOaepParamsView;
 use crate::pss::{RsaPssParamsRef, RsaPssParamsView};
@@ -54,19 +54,34 @@ const SHA512_256_FIELDS: &[u8] = &[
     0x30, 0x0d, 0x06, 0x09, 0x60, 0x86, 0x48, 0x01, 0x65, 0x03, 0x04, 0x02, 0x06, 0x05, 0x00,
 ];
 
+/// The octets of both fields with the hash function of this number, if it is one of the six.
+#[inline(always)]
+pub(crate) fn usual_fields(number: u8) -> Option<&'static [u8]>
+    ensures { IfSome result (λ fields. (1 ≤ number) × (number ≤ 6)
+        × (fields.now ≡ fields_with_hash (hash_algorithm number))) }
+{
+    match number {
+        1 => Some(SHA256_FIELDS),
+        2 => Some(SHA384_FIELDS),
+        3 => Some(SHA512_FIELDS),
+        4 => Some(SHA224_FIELDS),
+        5 => Some(SHA512_224_FIELDS),
+        6 => Some(SHA512_256_FIELDS),
+        _ => None,
+    }
+}
+
 /// Whether these are the octets of both fields with one of the six hash functions.
 #[inline(always)]
 fn have_usual_hash(fields: &[u8]) -> bool
     ensures { IsTrue result → HaveUsualHash fields.now }
 {
     match fields.get(14).copied() {
-        Some(1) => fields == SHA256_FIELDS,
-        Some(2) => fields == SHA384_FIELDS,
-        Some(3) => fields == SHA512_FIELDS,
-        Some(4) => fields == SHA224_FIELDS,
-        Some(5) => fields == SHA512_224_FIELDS,
-        Some(6) => fields == SHA512_256_FIELDS,
-        _ => false,
+        Some(number) => match usual_fields(number) {
+            Some(usual) => fields == usual,
+            None => false,
+        },
+        None => false,
     }
 }
 

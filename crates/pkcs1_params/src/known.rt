@@ -1,0 +1,129 @@
+//! Writing of parameters whose hash functions are known: SHA-1 and those of `usual`, with NULL. Most are such, so they
+//! are written as octets that are known, without a test of their identifiers.
+ghost use Rattle.std.specs.Prelude.{◌≡◌, ◌+◌, ◌<◌, ◌≤◌, ◌∷◌, ◌++◌, drop, length, IfSome, None, Some};
+ghost use Rattle.der_core.specs.Words.{AreBytes, Prepends, free_of, sequence_tag};
+ghost use Rattle.pkcs1_params.specs.Words.{AreKnown, hash_algorithm, oaep_with_hashes, pss_with_hashes};
+ghost use Rattle.standard.specs.Statement.{Encodes, OaepEncoding, PssEncoding};
+
+use crate::hash_fields::{is_mgf1, is_sha1};
+use crate::pss::RsaPssParamsRef;
+use crate::usual::usual_fields;
+use der_core::BackWriter;
+
+/// The number of the hash function of NIST with this identifier.
+#[inline(always)]
+fn hash_number(oid: &[u8]) -> Option<u8>
+    ensures { IfSome result (λ number. oid.now ≡ hash_algorithm number) }
+{
+    match oid {
+        [a, b, c, d, e, f, g, h, number] => {
+            let front = (*a == 0x60)
+                & (*b == 0x86)
+                & (*c == 0x48)
+                & (*d == 0x01)
+                & (*e == 0x65)
+                & (*f == 0x03)
+                & (*g == 0x04)
+                & (*h == 0x02);
+            if front { Some(*number) } else { None }
+        }
+        _ => None,
+    }
+}
+
+/// What the hash function and the mask generation function with these identifiers are written as, if that is known.
+#[inline(always)]
+fn known_fields(hash: &[u8], mask_gen: &[u8], under: &[u8]) -> Option<&'static [u8]>
+    ensures { IfSome result (λ fields. AreKnown hash.now mask_gen.now under.now fields.now) }
+{
+    if is_sha1(hash) {
+        if is_mgf1(mask_gen) && is_sha1(under) {
+            return Some(&[]);
+        }
+        return None;
+    }
+    let number = hash_number(hash)?;
+    let fields = usual_fields(number)?;
+    if !is_mgf1(mask_gen) {
+        return None;
+    }
+    if is_sha1(under) {
+        return Some(&fields[..17]);
+    }
+    if hash_number(under)? != number {
+        return None;
+    }
+    Some(fields)
+}
+
+/// Writes the octets, which may be none, in front of what is filled.
+#[inline(always)]
+fn prepend_any(octets: &[u8], writer: &mut BackWriter<'_>)
+    requires { length octets.now ≤ free_of writer.old }
+    ensures { Prepends octets.now writer.old writer.new }
+{
+    if !octets.is_empty() {
+        writer.prepend(octets);
+    }
+}
+
+/// Writes a SEQUENCE of these contents octets, in two parts, to the front of a slice, if there is room.
+#[inline(always)]
+fn put_sequence(fields: &[u8], later: &[u8], out: &mut [u8]) -> Option<usize>
+    requires { length fields.now + length later.now < 128 }
+    ensures written { let contents = fields.now ++ later.now in let encoding = sequence_tag ∷ length contents ∷ contents in
+        IfSome result (λ n. (n ≡ length encoding) × (out.new ≡ encoding ++ drop n out.old)) }
+    ensures unchanged { result ≡ None → out.new ≡ out.old }
+    ensures bytes { AreBytes (fields.now ++ later.now) }
+{
+    let count = fields.len() + later.len();
+    if out.len() < count + 2 {
+        return None;
+    }
+    let (region, _) = out.split_at_mut(count + 2);
+    let mut writer = BackWriter::new(region);
+    writer.prepend(later);
+    prepend_any(fields, &mut writer);
+    writer.prepend(&[0x30, count as u8]);
+    Some(count + 2)
+}
+
+/// Writes the shortest encoding of RSASSA-PSS parameters to the front of a slice, if it is known and there is room.
+/// The hash functions have NULL.
+#[inline(always)]
+pub fn encode_known_pss(
+    hash: &[u8],
+    mask_gen: &[u8],
+    under: &[u8],
+    salt_len: u8,
+    out: &mut [u8],
+) -> Option<usize>
+    ensures written { let params = pss_with_hashes hash.now mask_gen.now under.now salt_len in
+        IfSome result (λ n. Encodes PssEncoding params out.old out.new (Some n)) }
+    ensures unchanged { result ≡ None → out.new ≡ out.old }
+{
+    if salt_len >= 0x80 {
+        return None;
+    }
+    let fields = known_fields(hash, mask_gen, under)?;
+    if salt_len == RsaPssParamsRef::SALT_LEN_DEFAULT {
+        return put_sequence(fields, &[], out);
+    }
+    put_sequence(fields, &[0xa2, 0x03, 0x02, 0x01, salt_len], out)
+}
+
+/// The same of RSAES-OAEP parameters with the empty label.
+#[inline(always)]
+pub fn encode_known_oaep(
+    hash: &[u8],
+    mask_gen: &[u8],
+    under: &[u8],
+    out: &mut [u8],
+) -> Option<usize>
+    ensures written { let params = oaep_with_hashes hash.now mask_gen.now under.now in
+        IfSome result (λ n. Encodes OaepEncoding params out.old out.new (Some n)) }
+    ensures unchanged { result ≡ None → out.new ≡ out.old }
+{
+    let fields = known_fields(hash, mask_gen, under)?;
+    put_sequence(fields, &[], out)
+}
