@@ -1,8 +1,8 @@
 //! Algorithm identifiers.
 ghost use Rattle.std.specs.Bool.{Decides};
-ghost use Rattle.std.specs.Prelude.{◌≡◌, IfOk, IfErr};
-ghost use Rattle.spki_core.specs.Words.{IsHash, viewed_with, any_of, octets_of};
-ghost use Rattle.pkcs1_params.specs.Words.{UsesHash};
+ghost use Rattle.std.specs.Prelude.{◌≡◌, IfOk, IfErr, IsTrue};
+ghost use Rattle.spki_core.specs.Words.{IsHash, TagAndContents, any_of, null_value, octets_of, viewed_with};
+ghost use Rattle.pkcs1_params.specs.Words.{UsesHash, with_parameters};
 ghost use Rattle.pkcs1_c.specs.Words.{kind_number, algorithm_seen, mask_gen_seen, AlgorithmIsTidy, MaskGenIsTidy};
 ghost use Rattle.pkcs1_c.specs.Words.{OidError, PlainError, MaskError};
 
@@ -86,6 +86,7 @@ pub(crate) fn to_c_mask_gen<'a>(
 }
 
 /// The object identifier with these contents octets, or `OidMalformed`.
+#[inline(always)]
 fn from_c_oid<'a>(octets: &'a [u8]) -> Result<IdentifierView<'a>>
     ensures ok { IfOk result (λ made. octets_of made ≡ octets.now) }
     ensures err { IfErr result (λ e. OidError octets.now (kind_number e.kind)) }
@@ -94,6 +95,7 @@ fn from_c_oid<'a>(octets: &'a [u8]) -> Result<IdentifierView<'a>>
 }
 
 /// The algorithm of a C struct.
+#[inline(always)]
 pub(crate) fn from_c_algorithm<'a>(
     algorithm: &Algorithm<'a>,
 ) -> Result<AlgorithmView<'a, AnyRef<'a>>>
@@ -111,6 +113,7 @@ pub(crate) fn from_c_algorithm<'a>(
 }
 
 /// The mask generation function of a C struct.
+#[inline(always)]
 pub(crate) fn from_c_mask_gen<'a>(
     mask_gen: &MaskGen<'a>,
 ) -> Result<AlgorithmView<'a, AlgorithmView<'a, AnyRef<'a>>>>
@@ -124,6 +127,34 @@ pub(crate) fn from_c_mask_gen<'a>(
         None
     };
     Ok(AlgorithmView { oid, parameters })
+}
+
+/// Whether there are parameters with this tag.
+#[inline(always)]
+pub(crate) fn has_tag(algorithm: &Algorithm<'_>, tag: Tag) -> bool
+    ensures { let a = algorithm.now in
+        let value : TagAndContents = record { tag = tag.octet; contents = a.parameters.now } in
+        IsTrue result → algorithm_seen a ≡ with_parameters a.oid.now value }
+{
+    algorithm.has_parameters && algorithm.tag == tag.octet()
+}
+
+/// Whether the parameters are NULL.
+#[inline(always)]
+fn has_null(algorithm: &Algorithm<'_>) -> bool
+    ensures { let a = algorithm.now in IsTrue result → algorithm_seen a ≡ with_parameters a.oid.now null_value }
+{
+    has_tag(algorithm, Tag::NULL) && algorithm.parameters.is_empty()
+}
+
+/// Whether both hash functions have NULL.
+#[inline(always)]
+pub(crate) fn have_null(hash: &Algorithm<'_>, mask_gen: &MaskGen<'_>) -> bool
+    ensures hash { IsTrue result → algorithm_seen hash.now ≡ with_parameters hash.now.oid.now null_value }
+    ensures mask_gen { let under = with_parameters mask_gen.now.hash.oid.now null_value in
+        IsTrue result → mask_gen_seen mask_gen.now ≡ with_parameters mask_gen.now.oid.now under }
+{
+    has_null(hash) && mask_gen.has_hash && has_null(&mask_gen.hash)
 }
 
 /// Whether the algorithm is the hash function with this identifier: with NULL or without parameters, which mean the

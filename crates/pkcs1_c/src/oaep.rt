@@ -1,13 +1,14 @@
 //! Parameters of RSAES-OAEP.
 ghost use Rattle.std.specs.Bool.{Decides};
-ghost use Rattle.std.specs.Prelude.{◌≡◌, ◌≢◌, length, IfOk, IfErr, Some, None, true, false};
+ghost use Rattle.std.specs.Prelude.{◌≡◌, ◌≢◌, length, IfOk, IfErr, IfSome, Some, None, true, false};
 ghost use Rattle.pkcs1_params.specs.Words.{LabelOf, UsesHash, oaep_viewed, rsa_oaep_params, strict_oaep_params};
 ghost use Rattle.pkcs1_c.specs.Words.{FieldsError, IsErrorOf, IsStatusOf, OaepFieldError, OaepIsTidy, WritesOrTells};
 ghost use Rattle.pkcs1_c.specs.Words.{oaep_seen, status_of};
-ghost use Rattle.standard.specs.Statement.{Decodes, IsShortest, OaepEncoding};
+ghost use Rattle.standard.specs.Statement.{Decodes, Encodes, IsShortest, OaepEncoding};
 
 use crate::algorithm::{
-    Algorithm, MaskGen, from_c_algorithm, from_c_mask_gen, to_c_algorithm, to_c_mask_gen, uses_hash,
+    Algorithm, MaskGen, from_c_algorithm, from_c_mask_gen, has_tag, have_null, to_c_algorithm,
+    to_c_mask_gen, uses_hash,
 };
 use crate::bytes::Bytes;
 use crate::filled::fill;
@@ -15,6 +16,7 @@ use crate::status::{OK, status};
 use crate::written::write_params;
 use der_core::Tag;
 use pkcs1::{PSpecified, RsaOaepParamsView};
+use pkcs1_params::encode_known_oaep;
 use spki_core::AssociatedOid;
 
 /// Parameters of RSAES-OAEP.
@@ -89,6 +91,35 @@ pub extern "C" fn pkcs1_c_oaep_params_decode_strict<'a>(
     )
 }
 
+/// Writes the shortest encoding of the parameters, if that is known and there is room.
+#[inline(always)]
+fn write_known(params: &OaepParams<'_>, out: &mut [u8]) -> Option<usize>
+    ensures written { IfSome result (λ n. Encodes OaepEncoding (oaep_seen params.now) out.old out.new (Some n)) }
+    ensures unchanged { result ≡ None → out.new ≡ out.old }
+{
+    let source = &params.p_source;
+    if !have_null(&params.hash, &params.mask_gen) || !has_tag(source, Tag::OCTET_STRING) {
+        return None;
+    }
+    let hash = params.hash.oid;
+    let under = params.mask_gen.hash.oid;
+    let label = source.parameters;
+    encode_known_oaep(hash, params.mask_gen.oid, under, source.oid, label, out)
+}
+
+/// Writes the shortest encoding of the parameters, field by field, as `pkcs1_c_oaep_params_encode` does.
+#[inline(never)]
+fn write_fields(params: &OaepParams<'_>, out: &mut [u8], len: &mut usize) -> u32
+    ensures writes { WritesOrTells OaepEncoding (oaep_seen params.now) out.old out.new len.old len.new result }
+    ensures exact { let v = oaep_seen params.now in
+        IsErrorOf (FieldsError OaepFieldError OaepEncoding v (length out.old)) result }
+{
+    match from_c_oaep(params) {
+        Ok(made) => write_params(&made, out, len),
+        Err(failure) => status(&failure),
+    }
+}
+
 /// Writes the shortest encoding of parameters of RSAES-OAEP to the front of `out`. Returns 0, with its length in `len`,
 /// or `NO_ROOM`, with the needed length in `len`, or another status.
 #[unsafe(no_mangle)]
@@ -101,9 +132,12 @@ pub extern "C" fn pkcs1_c_oaep_params_encode(
     ensures exact { let v = oaep_seen params.now in
         IsErrorOf (FieldsError OaepFieldError OaepEncoding v (length out.old)) result }
 {
-    match from_c_oaep(params) {
-        Ok(made) => write_params(&made, out, len),
-        Err(failure) => status(&failure),
+    match write_known(params, out) {
+        Some(count) => {
+            *len = count;
+            OK
+        }
+        None => write_fields(params, out, len),
     }
 }
 

@@ -1,19 +1,21 @@
 //! Parameters of RSASSA-PSS.
 ghost use Rattle.std.specs.Bool.{Decides};
-ghost use Rattle.std.specs.Prelude.{◌≡◌, ◌≢◌, length, IfOk, IfErr, Some, None};
+ghost use Rattle.std.specs.Prelude.{◌≡◌, ◌≢◌, length, IfOk, IfErr, IfSome, Some, None};
 ghost use Rattle.pkcs1_params.specs.Words.{UsesHash, pss_viewed, rsa_pss_params, strict_pss_params};
 ghost use Rattle.pkcs1_c.specs.Words.{FieldsError, IsErrorOf, IsStatusOf, PssFieldError, PssIsTidy, WritesOrTells};
 ghost use Rattle.pkcs1_c.specs.Words.{pss_seen, status_of};
-ghost use Rattle.standard.specs.Statement.{Decodes, IsShortest, PssEncoding};
+ghost use Rattle.standard.specs.Statement.{Decodes, Encodes, IsShortest, PssEncoding};
 
 use crate::algorithm::{
-    Algorithm, MaskGen, from_c_algorithm, from_c_mask_gen, to_c_algorithm, to_c_mask_gen, uses_hash,
+    Algorithm, MaskGen, from_c_algorithm, from_c_mask_gen, have_null, to_c_algorithm,
+    to_c_mask_gen, uses_hash,
 };
 use crate::filled::fill;
 use crate::status::{OK, status};
 use crate::written::write_params;
 use der_core::{ErrorKind, Tag};
 use pkcs1::{Error, RsaPssParamsView, TrailerField};
+use pkcs1_params::encode_known_pss;
 
 /// Parameters of RSASSA-PSS.
 #[repr(C)]
@@ -97,6 +99,33 @@ pub extern "C" fn pkcs1_c_pss_params_decode_strict<'a>(
     )
 }
 
+/// Writes the shortest encoding of the parameters, if that is known and there is room.
+#[inline(always)]
+fn write_known(params: &PssParams<'_>, out: &mut [u8]) -> Option<usize>
+    ensures written { IfSome result (λ n. Encodes PssEncoding (pss_seen params.now) out.old out.new (Some n)) }
+    ensures unchanged { result ≡ None → out.new ≡ out.old }
+{
+    if params.trailer_field != 1 || !have_null(&params.hash, &params.mask_gen) {
+        return None;
+    }
+    let hash = params.hash.oid;
+    let under = params.mask_gen.hash.oid;
+    encode_known_pss(hash, params.mask_gen.oid, under, params.salt_len, out)
+}
+
+/// Writes the shortest encoding of the parameters, field by field, as `pkcs1_c_pss_params_encode` does.
+#[inline(never)]
+fn write_fields(params: &PssParams<'_>, out: &mut [u8], len: &mut usize) -> u32
+    ensures writes { WritesOrTells PssEncoding (pss_seen params.now) out.old out.new len.old len.new result }
+    ensures exact { let v = pss_seen params.now in
+        IsErrorOf (FieldsError PssFieldError PssEncoding v (length out.old)) result }
+{
+    match from_c_pss(params) {
+        Ok(made) => write_params(&made, out, len),
+        Err(failure) => status(&failure),
+    }
+}
+
 /// Writes the shortest encoding of parameters of RSASSA-PSS to the front of `out`. Returns 0, with its length in `len`,
 /// or `NO_ROOM`, with the needed length in `len`, or another status.
 #[unsafe(no_mangle)]
@@ -109,9 +138,12 @@ pub extern "C" fn pkcs1_c_pss_params_encode(
     ensures exact { let v = pss_seen params.now in
         IsErrorOf (FieldsError PssFieldError PssEncoding v (length out.old)) result }
 {
-    match from_c_pss(params) {
-        Ok(made) => write_params(&made, out, len),
-        Err(failure) => status(&failure),
+    match write_known(params, out) {
+        Some(count) => {
+            *len = count;
+            OK
+        }
+        None => write_fields(params, out, len),
     }
 }
 

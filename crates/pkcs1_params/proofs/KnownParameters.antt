@@ -1,7 +1,8 @@
 -- Parameters that are written as known octets: what reads strictly computes them, so they are the shortest encoding.
 use Rattle.std.proofs.Common.{ℕ, Bool, List, [], ◌∷◌, ◌++◌, ◌==◌, ◌≡◌, ◌≤◌, ◌<◌, refl, ap, Ok, true, false}
 use Rattle.std.proofs.Common.{arith, length, length-append, drop, inl, inr, Some}
-use Rattle.std.specs.Prelude.{if◌then◌else◌, IfSome, None, Option}
+use Rattle.std.specs.Prelude.{if◌then◌else◌, nat_lt, take, IfSome, None, Option, ◌+◌}
+use Rattle.std.proofs.lemmas.List.{drop_all, take_all}
 use Rattle.std.proofs.lemmas.Bool.Decides.{nat_tests}
 use Rattle.der_core.specs.Encodings.{AreBytes}
 use Rattle.der_core.specs.Input.{header_at, length_at}
@@ -9,9 +10,10 @@ use Rattle.der_core.specs.Laws.Printed.Relations.{written_encodes}
 use Rattle.spki_core.specs.FieldSpellings.{FieldRecord, record_strictly}
 use Rattle.pkcs1_params.specs.HashFunctions.{hash_algorithm}
 use Rattle.pkcs1_params.specs.Laws.Records.{oaep_record, pss_record}
-use Rattle.pkcs1_params.specs.Parameters.{id_mgf1, id_sha1}
+use Rattle.pkcs1_params.specs.Parameters.{id_mgf1, id_p_specified, id_sha1}
 use Rattle.pkcs1_params.specs.Spellings.{Encoded}
-use Rattle.pkcs1_params.specs.UsualParameters.{AreKnown, field_with_hash, fields_with_hash, oaep_with_hashes}
+use Rattle.pkcs1_params.specs.UsualParameters.{AreKnown, field_with_hash, fields_with_hash, hash_with_null}
+use Rattle.pkcs1_params.specs.UsualParameters.{oaep_with_hashes}
 use Rattle.pkcs1_params.specs.UsualParameters.{pss_with_hashes, salt_field}
 use Rattle.pkcs1_params.proofs.UsualParameters.{ends, is_byte, is_small, number, oaep_fields_read, pss_fields_read, salt_usual}
 use Rattle.pkcs1_params.proofs.UsualParameters.{short_read, shortest_decodes, starts}
@@ -20,7 +22,7 @@ use Rattle.standard.specs.Statement.{Encodes, Field}
 -- A SHA-2 hash function, with MGF1 with SHA-1, which is left out.
 module _ (n : ℕ) (few : n ≤ 6) where
   oaep_hash_read : record_strictly oaep_record (field_with_hash (hash_algorithm n))
-      ≡ Ok (oaep_with_hashes (hash_algorithm n) id_mgf1 id_sha1)
+      ≡ Ok (oaep_with_hashes (hash_algorithm n) id_mgf1 id_sha1 id_p_specified [])
   unfolding header_at length_at
   oaep_hash_read = rw (starts n few, ends n few) refl
 
@@ -42,7 +44,7 @@ module _ (n : ℕ) (few : n ≤ 6) where
       rw (starts n few, ends n few, is_small s small, is_byte s small, number s small, other) refl
 
 pub known_oaep : (h m u f : List ℕ) → AreKnown h m u f
-    → record_strictly oaep_record (f ++ []) ≡ Ok (oaep_with_hashes h m u)
+    → record_strictly oaep_record (f ++ []) ≡ Ok (oaep_with_hashes h m u id_p_specified [])
 known_oaep h m u f (mask, inl (hash, under, is)) = rw (mask, hash, under, is) refl
 known_oaep h m u f (mask, inr (n, few, hash, inl (under, is))) = rw (mask, hash, under, is) (oaep_hash_read n few)
 known_oaep h m u f (mask, inr (n, few, hash, inr (under, is))) =
@@ -63,14 +65,103 @@ known_pss h m u f s small false is (mask, inr (n, few, hash, inl (under, e))) =
 known_pss h m u f s small false is (mask, inr (n, few, hash, inr (under, e))) =
     rw (mask, hash, under, e) (pss_fields_read n few s small true is)
 
+-- A label of fewer than 64 octets, of which there is one at least.
+module _ (x : ℕ) (y : List ℕ) (few : length (x ∷ y) < 64) where
+  abbrev l : List ℕ
+  l = x ∷ y
+
+  abbrev inner : List ℕ
+  inner = 0x04 ∷ length l ∷ l
+
+  abbrev middle : List ℕ
+  middle = 0x06 ∷ 0x09 ∷ id_p_specified ++ inner
+
+  abbrev outer : List ℕ
+  outer = 0x30 ∷ (13 + length l) ∷ middle
+
+  abbrev label_field : List ℕ
+  label_field = 0xa2 ∷ (15 + length l) ∷ outer
+
+  -- Contents that are all that follows their header.
+  abbrev Fills : ℕ → List ℕ → Type 0
+  Fills n c = (nat_lt n 128 ≡ true) × (nat_lt (length c) n ≡ false) × (take n c ≡ c) × (drop n c ≡ [])
+
+  fills : (n : ℕ) (c : List ℕ) → length c ≡ n → n < 128 → Fills n c
+  fills n c is few = (
+    grind (arith, nat_tests),
+    grind (arith, nat_tests),
+    take_all n c (omega (arith, is)),
+    drop_all n c (omega (arith, is)),
+  )
+
+  a : Fills (15 + length l) outer
+  a = fills (15 + length l) outer (omega arith) (omega (arith, few))
+
+  b : Fills (13 + length l) middle
+  b = fills (13 + length l) middle (omega arith) (omega (arith, few))
+
+  c : Fills (length l) l
+  c = fills (length l) l refl (omega (arith, few))
+
+  enough : nat_lt (length (id_p_specified ++ inner)) 9 ≡ false
+  enough = grind (arith, nat_tests)
+
+  label_read : record_strictly oaep_record label_field ≡ Ok (oaep_with_hashes id_sha1 id_mgf1 id_sha1 id_p_specified l)
+  unfolding header_at length_at
+  label_read = rw (a.0, a.1, a.2, a.3, b.0, b.1, b.2, b.3, enough, c.0, c.1, c.2, c.3) refl
+
+  module _ (n : ℕ) (small : n ≤ 6) where
+    abbrev oid : List ℕ
+    oid = hash_algorithm n
+
+    abbrev mask : List ℕ
+    mask = 0x30 ∷ 0x1a ∷ 0x06 ∷ 0x09 ∷ id_mgf1 ++ hash_with_null oid
+
+    there : (later : List ℕ) → nat_lt (length (hash_with_null oid ++ later)) 15 ≡ false
+    there later = grind (arith, nat_tests)
+
+    mask_there : nat_lt (length (mask ++ label_field)) 28 ≡ false
+    mask_there = grind (arith, nat_tests)
+
+    hash_label_read : record_strictly oaep_record (field_with_hash oid ++ label_field)
+        ≡ Ok (oaep_with_hashes oid id_mgf1 id_sha1 id_p_specified l)
+    unfolding header_at length_at
+    hash_label_read =
+        rw (there label_field, starts n small, ends n small, a.0, a.1, a.2, a.3, b.0, b.1, b.2, b.3, enough, c.0, c.1, c.2, c.3)
+        refl
+
+    both_label_read : record_strictly oaep_record (fields_with_hash oid ++ label_field)
+        ≡ Ok (oaep_with_hashes oid id_mgf1 oid id_p_specified l)
+    unfolding header_at length_at
+    both_label_read =
+        rw (there (0xa1 ∷ 0x1c ∷ mask ++ label_field), starts n small, ends n small, mask_there, starts n small, ends n small)
+        (rw (a.0, a.1, a.2, a.3, b.0, b.1, b.2, b.3, enough, c.0, c.1, c.2, c.3) refl)
+
+  label_after : (h m u f : List ℕ) → AreKnown h m u f
+      → record_strictly oaep_record (f ++ label_field) ≡ Ok (oaep_with_hashes h m u id_p_specified l)
+  label_after h m u f (mask, inl (hash, under, is)) = rw (mask, hash, under, is) label_read
+  label_after h m u f (mask, inr (n, small, hash, inl (under, is))) = rw (mask, hash, under, is) (hash_label_read n small)
+  label_after h m u f (mask, inr (n, small, hash, inr (under, is))) = rw (mask, hash, under, is) (both_label_read n small)
+
+pub known_label : (h m u f l : List ℕ) → AreKnown h m u f → (length l == 0) ≡ false → length l < 64
+    → record_strictly oaep_record
+    (f ++ (0xa2 ∷ (15 + length l) ∷ 0x30 ∷ (13 + length l) ∷ 0x06 ∷ 0x09 ∷ id_p_specified ++ 0x04 ∷ length l ∷ l))
+    ≡ Ok (oaep_with_hashes h m u id_p_specified l)
+known_label h m u f [] known some few = absurd (grind (arith, nat_tests, some))
+known_label h m u f (x ∷ y) known some few = label_after x y few h m u f known
+
 pub known_few : (h m u f : List ℕ) → AreKnown h m u f → length f ≤ 47
 known_few h m u f (mask, inl (hash, under, is)) = omega (arith, ap length is)
 known_few h m u f (mask, inr (n, few, hash, inl (under, is))) = omega (arith, ap length is)
 known_few h m u f (mask, inr (n, few, hash, inr (under, is))) = omega (arith, ap length is)
 
+both_bytes : (x y : List ℕ) → AreBytes x → AreBytes y → AreBytes (x ++ y)
+both_bytes [] y a b = b
+both_bytes (n ∷ x) y a b = (a.0, both_bytes x y a.1 b)
+
 module _ {V : Type 0} {Is : V → Type 0} {fields : V → List Field} (r : FieldRecord Is fields) where
   pub put_encodes : (v : V) (f l old new : List ℕ) (result : Option ℕ) → record_strictly r (f ++ l) ≡ Ok v
-      → length f ≤ 47 → length l ≤ 5 → AreBytes (f ++ l) → length new ≡ length old
+      → length f ≤ 47 → length l ≤ 80 → AreBytes f × AreBytes l → length new ≡ length old
       → IfSome result (λ n. let bytes = 0x30 ∷ length (f ++ l) ∷ (f ++ l) in (n ≡ length bytes) × (new ≡ bytes ++ drop n old))
       → IfSome result (λ n. Encodes (Encoded Is fields) v old new (Some n))
   put_encodes v f l old new None read some few are kept put = tt
@@ -79,5 +170,5 @@ module _ {V : Type 0} {Is : V → Type 0} {fields : V → List Field} (r : Field
       let bytes = 0x30 ∷ length c ∷ c in
       let short : length c < 128 = omega (arith, length-append f l, some, few) in
       let whole = short_read r bytes true c v short refl read in
-      let least = shortest_decodes r bytes (λ x. x) (Ok v) (omega arith, (omega (arith, short), are)) whole in
+      let least = shortest_decodes r bytes (λ x. x) (Ok v) (omega arith, (omega (arith, short), both_bytes f l are.0 are.1)) whole in
       written_encodes (Encoded Is fields) v old new bytes n least.0 put.0 put.1 kept

@@ -5,7 +5,8 @@ use Rattle.spki_core.specs.AlgorithmIdentifier.{Algorithm}
 use Rattle.spki_core.specs.Any.{TagAndContents, null_value}
 use Rattle.pkcs1_params.specs.HashFunctions.{hash_algorithm}
 use Rattle.pkcs1_params.specs.OaepValue.{labelled}
-use Rattle.pkcs1_params.specs.Parameters.{id_mgf1, id_sha1, with_parameters, OaepParameters, PssParameters}
+use Rattle.pkcs1_params.specs.Parameters.{id_mgf1, id_sha1, octets_value, with_parameters}
+use Rattle.pkcs1_params.specs.Parameters.{OaepParameters, PssParameters}
 use Rattle.standard.specs.Statement.{empty_label}
 
 -- The encoding of a hash function whose identifier has nine octets, with NULL.
@@ -68,9 +69,9 @@ pss_with_hashes hash mask_gen under s = record {
   trailer_field = 1;
 }
 
-abbrev pub oaep_with_hashes : List ℕ → List ℕ → List ℕ → OaepParameters
-oaep_with_hashes hash mask_gen under = record {
+abbrev pub oaep_with_hashes : List ℕ → List ℕ → List ℕ → List ℕ → List ℕ → OaepParameters
+oaep_with_hashes hash mask_gen under source label = record {
   hash = with_parameters hash null_value;
   mask_gen = with_parameters mask_gen (with_parameters under null_value);
-  p_source = empty_label;
+  p_source = with_parameters source (octets_value label);
 }

@@ -6,6 +6,7 @@ ghost use Rattle.pkcs1_params.specs.Words.{AreKnown, hash_algorithm, oaep_with_h
 ghost use Rattle.standard.specs.Statement.{Encodes, OaepEncoding, PssEncoding};
 
 use crate::hash_fields::{is_mgf1, is_sha1};
+use crate::label::is_p_specified;
 use crate::pss::RsaPssParamsRef;
 use crate::usual::usual_fields;
 use der_core::BackWriter;
@@ -67,21 +68,23 @@ fn prepend_any(octets: &[u8], writer: &mut BackWriter<'_>)
     }
 }
 
-/// Writes a SEQUENCE of these contents octets, in two parts, to the front of a slice, if there is room.
+/// Writes a SEQUENCE of these contents octets, in three parts, to the front of a slice, if there is room.
 #[inline(always)]
-fn put_sequence(fields: &[u8], later: &[u8], out: &mut [u8]) -> Option<usize>
-    requires { length fields.now + length later.now < 128 }
-    ensures written { let contents = fields.now ++ later.now in let encoding = sequence_tag ∷ length contents ∷ contents in
+fn put_sequence(fields: &[u8], later: &[u8], last: &[u8], out: &mut [u8]) -> Option<usize>
+    requires { length fields.now + length later.now + length last.now < 128 }
+    ensures written { let contents = fields.now ++ (later.now ++ last.now) in
+        let encoding = sequence_tag ∷ length contents ∷ contents in
         IfSome result (λ n. (n ≡ length encoding) × (out.new ≡ encoding ++ drop n out.old)) }
     ensures unchanged { result ≡ None → out.new ≡ out.old }
-    ensures bytes { AreBytes (fields.now ++ later.now) }
+    ensures bytes { AreBytes fields.now × AreBytes (later.now ++ last.now) }
 {
-    let count = fields.len() + later.len();
+    let count = fields.len() + later.len() + last.len();
     if out.len() < count + 2 {
         return None;
     }
     let (region, _) = out.split_at_mut(count + 2);
     let mut writer = BackWriter::new(region);
+    writer.prepend(last);
     writer.prepend(later);
     prepend_any(fields, &mut writer);
     writer.prepend(&[0x30, count as u8]);
@@ -107,23 +110,51 @@ pub fn encode_known_pss(
     }
     let fields = known_fields(hash, mask_gen, under)?;
     if salt_len == RsaPssParamsRef::SALT_LEN_DEFAULT {
-        return put_sequence(fields, &[], out);
+        return put_sequence(fields, &[], &[], out);
     }
-    put_sequence(fields, &[0xa2, 0x03, 0x02, 0x01, salt_len], out)
+    put_sequence(fields, &[0xa2, 0x03, 0x02, 0x01, salt_len], &[], out)
 }
 
-/// The same of RSAES-OAEP parameters with the empty label.
+/// The same of RSAES-OAEP parameters, whose source has an OCTET STRING of fewer than 64 octets.
 #[inline(always)]
 pub fn encode_known_oaep(
     hash: &[u8],
     mask_gen: &[u8],
     under: &[u8],
+    source: &[u8],
+    label: &[u8],
     out: &mut [u8],
 ) -> Option<usize>
-    ensures written { let params = oaep_with_hashes hash.now mask_gen.now under.now in
+    ensures written { let params = oaep_with_hashes hash.now mask_gen.now under.now source.now label.now in
         IfSome result (λ n. Encodes OaepEncoding params out.old out.new (Some n)) }
     ensures unchanged { result ≡ None → out.new ≡ out.old }
 {
+    if label.len() >= 64 || !is_p_specified(source) {
+        return None;
+    }
     let fields = known_fields(hash, mask_gen, under)?;
-    put_sequence(fields, &[], out)
+    if label.is_empty() {
+        return put_sequence(fields, &[], &[], out);
+    }
+    let count = label.len() as u8;
+    let later = [
+        0xa2,
+        15 + count,
+        0x30,
+        13 + count,
+        0x06,
+        0x09,
+        0x2a,
+        0x86,
+        0x48,
+        0x86,
+        0xf7,
+        0x0d,
+        0x01,
+        0x01,
+        0x09,
+        0x04,
+        count,
+    ];
+    put_sequence(fields, &later, label, out)
 }

@@ -48,7 +48,7 @@ pub(crate) fn empty_source<O: IdentifierValue, P: AnyParams<M>, M: Memory>(
 
 /// Whether these are the octets of id-pSpecified.
 #[inline(always)]
-pub fn is_p_specified(octets: &[u8]) -> bool
+pub(crate) fn is_p_specified(octets: &[u8]) -> bool
     ensures { result ≡ bytes_eq octets.now id_p_specified }
 {
     is_pkcs1(octets, 9)

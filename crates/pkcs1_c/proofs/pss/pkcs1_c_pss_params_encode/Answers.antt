@@ -1,26 +1,36 @@
-use Rattle.std.proofs.Common.{length}
+use Rattle.std.proofs.Common.{length, subst}
 use Rattle.standard.specs.Statement.{PssEncoding}
-use Rattle.pkcs1_c.specs.StructErrors.{PssFieldError, Unwritten}
-use Rattle.pkcs1_c.specs.Structs.{pss_seen}
+use Rattle.pkcs1_c.specs.Status.{IsErrorOf}
+use Rattle.pkcs1_c.specs.StructErrors.{FieldsError, PssFieldError, Unwritten}
+use Rattle.pkcs1_c.specs.Structs.{WritesOrTells, pss_seen}
 use Rattle.pkcs1_c.proofs.Fits.{pss_fits}
-use Rattle.pkcs1_c.proofs.HeldParameters.{pss_none}
-use Rattle.pkcs1_c.proofs.StructErrors.{pss_part, unwritten_one}
-use Rattle.pkcs1_c.proofs.Writes.{equal_told, part_told}
+use Rattle.pkcs1_c.proofs.Writes.{error_behind, written, written_well}
 use Rattle.pkcs1_c.proofs.pss.pkcs1_c_pss_params_encode.Goals as goal
 
-pub returns-in-Ok : goal.returns-in-Ok
-returns-in-Ok c =
-    let is = c.in-Ok.ensures.ok in
-    let written = c.write_params.ensures in
-    let told =
-    equal_told PssFieldError PssEncoding is (pss_none c.in-Ok.made _ is) written.writes written.exact in
-    record { writes = told.0; exact = told.1 }
-
-pub returns-in-Err : goal.returns-in-Err
-returns-in-Err c =
+pub returns-in-Some-clause-writes : goal.returns-in-Some-clause-writes
+returns-in-Some-clause-writes c =
     let v = pss_seen c.args.params.now in
-    let room = length c.args.out.now in
-    let told =
-    part_told (PssFieldError v) (Unwritten PssEncoding v room) (pss_part v) (unwritten_one PssEncoding v room)
-    PssEncoding v (pss_fits v) c.args.out.now c.args.len.now c.status.ensures c.in-Err.ensures.err in
-    record { writes = told.0; exact = told.1 }
+    written PssEncoding v c.args.out.now _ c.args.len.now c.in-Some.count c.in-Some.ensures.written
+
+pub returns-in-Some-clause-exact : goal.returns-in-Some-clause-exact
+returns-in-Some-clause-exact c =
+    let v = pss_seen c.args.params.now in
+    let made = c.in-Some.ensures.written in
+    error_behind (PssFieldError v) (Unwritten PssEncoding v (length c.args.out.now)) 0
+    (pss_fits v _ made.1.0)
+    (written_well PssEncoding v c.args.out.now c.write_known.new.out c.args.len.now c.in-Some.count made
+    c.write_known.auto.out)
+
+pub returns-in-None-clause-writes : goal.returns-in-None-clause-writes
+returns-in-None-clause-writes c =
+    let v = pss_seen c.args.params.now in
+    let told = c.write_fields in
+    subst (λ out. WritesOrTells PssEncoding v out told.new.out c.args.len.now told.new.len told.result)
+    (c.write_known.ensures.unchanged c.in-None.is) told.ensures.writes
+
+pub returns-in-None-clause-exact : goal.returns-in-None-clause-exact
+returns-in-None-clause-exact c =
+    let v = pss_seen c.args.params.now in
+    let told = c.write_fields in
+    subst (λ out. IsErrorOf (FieldsError PssFieldError PssEncoding v (length out)) told.result)
+    (c.write_known.ensures.unchanged c.in-None.is) told.ensures.exact

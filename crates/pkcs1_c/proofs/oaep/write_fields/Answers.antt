@@ -1,0 +1,26 @@
+use Rattle.std.proofs.Common.{length}
+use Rattle.standard.specs.Statement.{OaepEncoding}
+use Rattle.pkcs1_c.specs.StructErrors.{OaepFieldError, Unwritten}
+use Rattle.pkcs1_c.specs.Structs.{oaep_seen}
+use Rattle.pkcs1_c.proofs.Fits.{oaep_fits}
+use Rattle.pkcs1_c.proofs.HeldParameters.{oaep_none}
+use Rattle.pkcs1_c.proofs.StructErrors.{oaep_part, unwritten_one}
+use Rattle.pkcs1_c.proofs.Writes.{equal_told, part_told}
+use Rattle.pkcs1_c.proofs.oaep.write_fields.Goals as goal
+
+pub returns-in-Ok : goal.returns-in-Ok
+returns-in-Ok c =
+    let is = c.in-Ok.ensures.ok in
+    let written = c.write_params.ensures in
+    let told =
+    equal_told OaepFieldError OaepEncoding is (oaep_none c.in-Ok.made _ is) written.writes written.exact in
+    record { writes = told.0; exact = told.1 }
+
+pub returns-in-Err : goal.returns-in-Err
+returns-in-Err c =
+    let v = oaep_seen c.args.params.now in
+    let room = length c.args.out.now in
+    let told =
+    part_told (OaepFieldError v) (Unwritten OaepEncoding v room) (oaep_part v) (unwritten_one OaepEncoding v room)
+    OaepEncoding v (oaep_fits v) c.args.out.now c.args.len.now c.status.ensures c.in-Err.ensures.err in
+    record { writes = told.0; exact = told.1 }
