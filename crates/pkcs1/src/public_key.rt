@@ -1,4 +1,5 @@
-//! RSA public keys.
+//! RSA public keys. `try_from` reads one: `from_der` of `der_core`, of the row of parts that `InParts` names. `traits.rt`
+//! has the calls for owned keys.
 ghost use Rattle.std.specs.Prelude.{refl};
 ghost use Rattle.der_core.specs.Words.{made_errs};
 ghost use Rattle.pkcs1.specs.Words.{PublicIsValid, PublicKey, of_public_parts, public_alike, public_as};
