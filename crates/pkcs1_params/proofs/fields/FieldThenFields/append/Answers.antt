@@ -1,9 +1,18 @@
-use Rattle.std.proofs.Common.{◌≡◌, false, refl}
+use Rattle.std.proofs.Common.{◌≡◌, true, false, refl}
 use Rattle.std.proofs.lemmas.Result.{err_from_is_err_and}
 use Rattle.der_core.proofs.StoppedWriting.{appends_in_front, appends_behind}
 use Rattle.spki_core.specs.FieldSpellings.{octets_under, out_under, rest_under}
 use Rattle.pkcs1_params.specs.FieldRefs.{field_in}
 use Rattle.pkcs1_params.proofs.fields.FieldThenFields.append.Goals as goal
+
+pub returns-then-left_out-clause-appends : goal.returns-then-left_out-clause-appends
+returns-then-left_out-clause-appends g c =
+    let p = field_in g.Plain.PlainHolder.plain g.Mask.MaskHolder.mask c.args.self.now.first in
+    let out : out_under p.is_default c.args.mask ≡ true =
+    rw (c.take_mask_bit-left_out.ensures, c.split_non_defaults-default.ensures) at c.if-left_out.true in
+    let later =
+    rw (c.take_mask_bit-left_out.ensures, c.split_non_defaults-default.ensures) at c.append.ensures.appends in
+    rw out later
 
 pub returns-in_err-encode-clause-appends : goal.returns-in_err-encode-clause-appends
 returns-in_err-encode-clause-appends g c =
