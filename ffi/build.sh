@@ -92,8 +92,8 @@ make_toolchain() {
     printf '#!/bin/sh\nexec "%s" -fforce-dwarf-frame "$@"\n' "$kit/toolchain/bin/clang" > "$toolchain/bin/clang"
     chmod +x "$toolchain/bin/clang"
 }
-# build_over WORD..: proves this crate again and builds it, over libraries that rt ci or rt lib proved and kept: rt ci
-# builds no static library, and rt lib takes no other toolchain.
+# Builds this crate over libraries that rt ci or rt lib proved and kept, and over what checks, rt lib or tools/generate.sh
+# kept of its own proof; rt ci keeps none of that. rt ci builds no static library, and rt lib takes no other toolchain.
 build_over() {
     local words=(--extern "std=$kit/rlibs/std.rlib" -L "dependency=$kit/rlibs") name
     for name in standard der_core spki_core pkcs1_params pkcs1 pkcs8_core; do
@@ -103,7 +103,7 @@ build_over() {
     make_toolchain
     "$kit/bin/rattle" build --crate-name pkcs1_c --crate-type staticlib src/lib.rt "${words[@]}" --jobs 2 \
         --antt-project "$kit/rattle/logic/antt-project.json" --logic-built "$kit/logic_built" \
-        --toolchain "$toolchain" --cpu x86-64 "$@" -o out/libpkcs1_c.a
+        --incremental out/incremental --toolchain "$toolchain" --cpu x86-64 -o out/libpkcs1_c.a
 }
 prove() {
     (cd "$crate" && "$@" > "$out/rt.log" 2>&1) || {
@@ -123,12 +123,8 @@ build_library() {
     fi
     rm -f "$out/stamp"
     say "proving and building the library, and the first time all below it, which takes 10 minutes and more; ffi/out/rt.log tells how far it is"
-    if [ "$action" = over-ci ]; then
-        prove build_over
-    else
-        prove rt lib
-        prove build_over --incremental out/incremental # what rt lib has proved
-    fi
+    [ "$action" = over-ci ] || prove rt lib
+    prove build_over
     printf '%s\n' "$made $(sha256sum < "$library")" > "$out/stamp"
     say "proved and built, after $SECONDS seconds"
 }

@@ -12,7 +12,7 @@ has the kind of its first token, or is blank. The kinds:
     law                        functions of src/ whose names begin with lemma_
     def, speclemma, speclaw    of specs/: definitions; what else is declared; all of specs/Laws
     lemma, answer              of proofs/: files right in it; those in the folders of functions
-    test                       test functions, and in TESTS all that would be code, contract, ghost or law
+    test                       test functions, and in TESTS and src/tests all that would be code, contract, ghost or law
     wrong                      edits in wrong/ and must-fail/, which no sum has
 
 Counts that were published before this program was here took all that stands in a block `module _ (..) where` for
@@ -181,7 +181,7 @@ def counts_of(path, parts):
     if path.suffix not in (".rt", ".antt"):
         return None
     file = Code(text) if path.suffix == ".rt" else Logic(text, kind_of_logic(parts[1:]))
-    renamed = IN_TESTS if parts[0] in TESTS else {}
+    renamed = IN_TESTS if parts[0] in TESTS or parts[1:3] in (("src", "tests"), ("src", "tests.rt")) else {}
     kinds = [renamed.get(it, it) for it in file.kinds()]
     owner, tokens = {}, collections.Counter()
     for token, kind in zip(file.tokens, kinds):

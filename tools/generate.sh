@@ -7,7 +7,8 @@
 #                                  made (generate/test.sh, make check). If they differ, it is made once more
 #     tools/generate.sh --fresh    whether it is made of the sources that are here (fresh.sh), in a second
 #
-# CRATES=FOLDER: another folder of the same crates, with their libraries. JOBS: how many proofs run at a time.
+# Proofs of pkcs1_c and pkcs1_tool begin with what is kept in their out/incremental, and are kept there.
+# CRATES=FOLDER: another folder of the same crates, with their libraries and kept work. JOBS: how many proofs run at a time.
 # The status is 1 if files differ or a crate isn't proved, and 2 if something is missing or the kit isn't known.
 # ffi/rust/generated is replaced in the end, and stays as it is if anything fails.
 set -eu
@@ -71,10 +72,11 @@ prove() {
         words+=(--extern "$library=$from/$library.rlib" -L "dependency=$from")
     done
     toolchain "$room/$crate.$processor"
+    mkdir -p "$crates/$crate/out"
     (cd "crates/$crate" && "$kit/bin/rattle" build --crate-name "$crate" "$file" "${words[@]}" \
         --extern "std=$kit/rlibs/std.rlib" -L "dependency=$kit/rlibs" --jobs $(((jobs + 1) / 2)) \
         --antt-project "$kit/rattle/logic/antt-project.json" --logic-built "$kit/logic_built" \
-        --incremental "$room/incremental.$crate" --toolchain "$room/$crate.$processor" \
+        --incremental "$crates/$crate/out/incremental" --toolchain "$room/$crate.$processor" \
         --target "$processor-unknown-linux-gnu" --cpu "$cpu" "${@:6}" -o "$output") > "$room/$crate.log" 2>&1 || {
         tail -20 "$room/$crate.log" >&2
         stop 1 "$crate isn't proved"

@@ -1,21 +1,7 @@
 -- Quick reading: what it takes is what the functions of reading give.
-use Rattle.std.proofs.Common.{ℕ, suc, true, false, List, [], ◌∷◌, ◌≡◌, ◌≤◌, ◌<◌, ◌-◌, ◌+◌, ◌*◌, length, take, drop}
-use Rattle.std.proofs.Common.{refl, sym, ap, ◌∙◌, arith, Ok, Option, Some, None, slice_index_or, take_all, ⊎_elim}
-use Rattle.std.proofs.lemmas.Bool.Decides.{nat_tests}
-use Rattle.std.specs.Prelude.{nat_lt, ◌==◌, MatchOption, IfSome}
+use Rattle.std.proofs.Common.{ℕ, suc, true, false, List, [], ◌∷◌, ◌≡◌, ◌≤◌, ◌<◌, ◌-◌, ◌+◌, ◌*◌, length, take, drop, refl, sym, ap, ◌∙◌, arith, Ok, Option, Some, None, slice_index_or, take_all, ⊎_elim, nat_lt, ◌==◌, MatchOption, IfSome}
+use Rattle.der_core.specs.Words.{nat_tests, number_from_digits, Tag, front_of, header_at, length_at, HoldsNumber, ok_pair, chosen, length_at-complete, bind_ok, unexpected_not, IsBase256, IsLength, short, long, Reading, ◌>>=◌, by_tag, contents_behind, inside, octets_of_all, tagged, is_allowed}
 use Rattle.std.specs.List.{IsSplitAt}
-use Rattle.std.specs.Int.Digits.{number_from_digits}
-use Rattle.der_core.specs.declared.tag.Tag.{Tag}
-use Rattle.der_core.specs.Input.{front_of, header_at, length_at}
-use Rattle.der_core.specs.Integer.{HoldsNumber}
-use Rattle.der_core.specs.Laws.Input.{ok_pair}
-use Rattle.der_core.specs.Laws.LengthReading.{chosen, length_at-complete}
-use Rattle.der_core.specs.Laws.Readings.{bind_ok}
-use Rattle.der_core.specs.Laws.TaggedReadings.{unexpected_not}
-use Rattle.der_core.specs.Length.{IsBase256, IsLength, short, long}
-use Rattle.der_core.specs.Readings.{Reading, ◌>>=◌, by_tag, contents_behind, inside}
-use Rattle.der_core.specs.Readings.{octets_of_all, tagged}
-use Rattle.der_core.specs.Tag.{is_allowed}
 
 -- Length octets: one, and one or two behind the first.
 pub one_octet : (b rest : List ℕ) (n : ℕ) → 1 ≤ length b → n ≡ slice_index_or b 0 0 → slice_index_or b 0 0 < 128

@@ -1,32 +1,8 @@
 -- Reading with `?`: each step of the code is one lemma.
-use Rattle.std.proofs.Common.{ℕ, Bool, true, false, List, [], ◌∷◌, ◌++◌, ◌≡◌, ◌≢◌, ◌≤◌, ◌==◌, length, take}
-use Rattle.std.proofs.Common.{drop, refl, sym, ap, ◌∙◌, arith, inl, inr, ⊎_elim, append_assoc, length-take, append-nil}
-use Rattle.std.proofs.Common.{take_all}
-use Rattle.std.proofs.Common.{Result, Ok, Err, Some, None}
-use Rattle.std.proofs.lemmas.Bool.Decides.{nat_tests}
-use Rattle.std.proofs.lemmas.List.{take-append-drop}
-use Rattle.std.specs.Prelude.{nat_lt, not, eqb, if◌then◌else◌, IfOk, IfErr}
-use Rattle.der_core.specs.declared.error.Error.{Error}
-use Rattle.der_core.specs.declared.error.ErrorKind.{ErrorKind}
+use Rattle.std.proofs.Common.{ℕ, Bool, true, false, List, [], ◌∷◌, ◌++◌, ◌≡◌, ◌≢◌, ◌≤◌, ◌==◌, length, take, drop, refl, sym, ap, ◌∙◌, arith, inl, inr, ⊎_elim, append_assoc, length-take, append-nil, take_all, Result, Ok, Err, Some, None, take-append-drop, nat_lt, not, eqb, if◌then◌else◌, IfOk, IfErr}
+use Rattle.der_core.specs.Words.{nat_tests, Error, ErrorKind, Tag, Means, AreBytes, Input, left_in, read_from, header_at, inner_of, end_of, front_of, small_of, header_at-sound, ok_pair, chosen, limit, AllocatesInParts, ReadsPrinted, AllocatesIn, Asks, FaultOrMemory, Returns, ReadsAll, Reading, FrontReading, ◌>>=◌, chain, ended, expected, front_parts, parts, such, alone, tagged, contents_behind, inside, whole, ReadsContents, ReadsFronts, integer, Tlv}
 use Rattle.der_core.specs.declared.error.ErrorKind.TheVariants.{OutOfMemory, TagUnexpected, Value}
-use Rattle.der_core.specs.declared.tag.Tag.{Tag}
-use Rattle.der_core.specs.Document.{Means}
-use Rattle.der_core.specs.Encodings.{AreBytes}
-use Rattle.der_core.specs.Input.{Input, left_in, read_from, header_at, inner_of, end_of, front_of}
-use Rattle.der_core.specs.IntegerReading.{small_of}
-use Rattle.der_core.specs.Laws.Headers.{header_at-sound}
-use Rattle.der_core.specs.Laws.Input.{ok_pair}
-use Rattle.der_core.specs.Laws.LengthReading.{chosen}
-use Rattle.der_core.proofs.TaggedReadings.{other_behind}
-use Rattle.der_core.specs.Length.{limit}
-use Rattle.der_core.specs.Parts.{AllocatesInParts}
-use Rattle.der_core.specs.Printed.{ReadsPrinted}
-use Rattle.der_core.specs.Reading.{AllocatesIn, Asks, FaultOrMemory, Returns, ReadsAll}
-use Rattle.der_core.specs.Readings.{Reading, FrontReading, ◌>>=◌, chain, ended, expected, front_parts, parts}
-use Rattle.der_core.specs.Readings.{such, alone, tagged}
-use Rattle.der_core.specs.Readings.{contents_behind, inside, whole, ReadsContents, ReadsFronts}
-use Rattle.der_core.specs.Tags.{integer}
-use Rattle.der_core.specs.Tlv.{Tlv}
+use Rattle.der_core.proofs.Readings.{other_behind}
 
 pub some_same : (a b : List ℕ) (e : ◌≡◌ {A = Input} (Some a) (Some b)) → a ≡ b
 some_same a b e = cc

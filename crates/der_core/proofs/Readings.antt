@@ -1,13 +1,7 @@
--- Whole slices are read by functions.
-use Rattle.std.proofs.Common.{ℕ, false, List, ◌≡◌, ◌≤◌, length, arith, ⊎_elim}
-use Rattle.std.proofs.lemmas.Bool.Decides.{nat_tests}
-use Rattle.std.specs.Prelude.{nat_lt}
-use Rattle.der_core.specs.declared.error.ErrorKind.TheVariants.{Overflow}
-use Rattle.der_core.specs.Document.{Means}
-use Rattle.der_core.specs.Laws.LengthReading.{chosen}
-use Rattle.der_core.specs.Length.{limit}
-use Rattle.der_core.specs.Readings.{FrontReading, whole, ReadsContents, ReadsFronts}
-use Rattle.der_core.specs.Laws.Readings.{alone_reads}
+-- What functions read: whole slices, other tags, documents, a list with a fault.
+use Rattle.std.proofs.Common.{ℕ, false, List, ◌≡◌, ◌≤◌, length, arith, ⊎_elim, nat_lt, zero, suc, [], ◌∷◌, ◌++◌, ◌≢◌, ◌<◌, ◌==◌, refl, ap, ◌∙◌, length-append, append_assoc, Ok, Err}
+use Rattle.der_core.specs.Words.{nat_tests, Means, chosen, limit, FrontReading, whole, ReadsContents, ReadsFronts, alone_reads, ErrorKind, Tag, AreBytes, behind_within, any_read, same_tag, ◌>>=◌, made, items_within, unexpected, contents_behind, read_document, ItemsContents, is_allowed, sequence, Tlv, checked_as, tagged_reads}
+use Rattle.der_core.specs.declared.error.ErrorKind.TheVariants.{Overflow, TagUnexpected, TagUnknown}
 
 -- One encoding alone, a last part, a whole slice.
 module _ {V : Type 0} {encoding : V → List ℕ → Type 0} {at : FrontReading V} (law : ReadsFronts encoding at) where
@@ -23,3 +17,48 @@ module _ {V : Type 0} {encoding : V → List ℕ → Type 0} {at : FrontReading 
     tells = λ b k e. ⊎_elim (λ w. let same : Overflow ≡ k = let is = w.1 in cc in (λ no. cc, λ no. cc, λ no. cc))
         (λ w. (alone_reads law).tells b k w.1) (chosen (nat_lt limit (length b)) _ _ _ e);
   }
+
+-- Reading by functions: other tags, documents, and an error in a list of encodings.
+pub other_is : {V : Type 0} (tag actual : Tag) → unexpected {V = V} tag actual.octet ≡ Err (TagUnexpected tag actual)
+other_is tag actual =
+    let r =
+    checked_as (is_allowed actual.octet)
+    (λ ok. Err (TagUnexpected tag (record { octet = actual.octet; allowed = ok }))) (Err (TagUnknown actual.octet))
+    actual.allowed in
+    r.1 ∙ ap (λ t. Err (TagUnexpected tag t)) (same_tag (record { octet = actual.octet; allowed = r.0 }) actual refl)
+
+pub other_behind : (tag actual : Tag) (n : ℕ) (rest : List ℕ) → actual.octet ≢ tag.octet
+    → contents_behind tag ((actual.octet, n), rest) ≡ Err (TagUnexpected tag actual)
+other_behind tag actual n rest ne =
+    let no : (actual.octet == tag.octet) ≡ false = grind (arith, nat_tests, ne) in
+    rw no (other_is tag actual)
+
+-- One whole SEQUENCE.
+pub document_reads : ReadsContents (λ (v : Unit {0}) b. Means (λ (_ : Unit {0}). Tlv sequence.octet AreBytes) b v)
+    read_document
+document_reads = whole_reads (tagged_reads sequence any_read)
+
+-- A list, up to the end.
+module _ {V : Type 0} {encoding : V → List ℕ → Type 0} {at : FrontReading V} (law : ReadsFronts encoding at)
+    (some : (v : V) (b : List ℕ) → encoding v b → 0 < length b) where
+  -- behind some items, another one has a fault
+  pub items_err : (vs : List V) (n : ℕ) (k : ErrorKind) (c read rest : List ℕ) → length c ≤ n → length c ≤ limit
+      → ItemsContents encoding vs read → c ≡ read ++ rest → 0 < length rest → at rest ≡ Err k
+      → items_within n at c ≡ Err k
+  items_err [] n k c read rest l w p is more e = one n c (is ∙ ap (λ y. y ++ rest) p) l
+    where
+      one : (n : ℕ) (c : List ℕ) → c ≡ rest → length c ≤ n → items_within n at c ≡ Err k
+      one n [] same l = absurd (omega (arith, more, ap length same))
+      one zero (x ∷ xs) same l = absurd (omega (arith, l))
+      one (suc n) (x ∷ xs) same l =
+          ap (λ r. r >>= λ p. made (λ vs. p.0 ∷ vs) (items_within n at) p.1) (ap at same ∙ e)
+  items_err (v ∷ vs) n k [] read rest l w p is more e =
+      absurd (omega (arith, more, ap length is, length-append read rest))
+  items_err (v ∷ vs) zero k (z ∷ zs) read rest l w p is more e = absurd (omega (arith, l))
+  items_err (v ∷ vs) (suc n) k (z ∷ zs) read rest l w (x, y, p, q, are) is more e =
+      let split : z ∷ zs ≡ x ++ (y ++ rest) = is ∙ ap (λ y. y ++ rest) are ∙ append_assoc x y rest in
+      let full = some v x p in
+      let few : length (y ++ rest) ≤ n = omega (arith, l, full, ap length split, length-append x (y ++ rest)) in
+      ap (λ r. r >>= λ p. made (λ vs. p.0 ∷ vs) (items_within n at) p.1) (law.takes (z ∷ zs) x (y ++ rest) v w split p)
+      ∙ ap (λ r. r >>= λ vs. Ok (v ∷ vs))
+      (items_err vs n k (y ++ rest) y rest few (behind_within x (y ++ rest) split w) q refl more e)

@@ -1,10 +1,8 @@
 -- What a reader has left, and what a call on it does.
-use Rattle.std.specs.Prelude.{◌==◌, ◌-◌, ◌≡◌, ℕ, Bool, true, List, [], ◌∷◌, Option, Some, None, Result, Ok, Err}
-use Rattle.std.specs.Prelude.{if◌then◌else◌, nat_lt, length, take, drop}
+use Rattle.std.specs.Prelude.{◌==◌, ◌-◌, ◌≡◌, ℕ, Bool, true, List, [], ◌∷◌, Option, Some, None, Result, Ok, Err, if◌then◌else◌, nat_lt, length, take, drop}
 use Rattle.der_core.specs.declared.error.Error.{Error}
 use Rattle.der_core.specs.declared.error.ErrorKind.{ErrorKind}
-use Rattle.der_core.specs.declared.error.ErrorKind.TheVariants.{Failed, Incomplete, IndefiniteLength, Overflow}
-use Rattle.der_core.specs.declared.error.ErrorKind.TheVariants.{Overlength, TagUnknown, TrailingData}
+use Rattle.der_core.specs.declared.error.ErrorKind.TheVariants.{Failed, Incomplete, IndefiniteLength, Overflow, Overlength, TagUnknown, TrailingData}
 use Rattle.std.specs.Int.Digits.{number_from_digits}
 use Rattle.der_core.specs.Length.{limit}
 use Rattle.der_core.specs.Tag.{is_allowed}

@@ -1,11 +1,9 @@
 -- Reading as a function of the bytes, in the order of reading: the value, or the kind of the first fault from the left.
 --
 -- Contents are read to their end, encodings from the front of bytes: so these give the bytes behind them too.
-use Rattle.std.specs.Prelude.{◌≡◌, ◌==◌, ◌≤◌, ◌++◌, ◌&&◌, ℕ, zero, suc, Bool, true, false, List, [], ◌∷◌, Option, Some, None}
-use Rattle.std.specs.Prelude.{Result, Ok, Err, if◌then◌else◌, nat_le, nat_lt, length, take, drop}
+use Rattle.std.specs.Prelude.{◌≡◌, ◌==◌, ◌≤◌, ◌++◌, ◌&&◌, ℕ, zero, suc, Bool, true, false, List, [], ◌∷◌, Option, Some, None, Result, Ok, Err, if◌then◌else◌, nat_le, nat_lt, length, take, drop}
 use Rattle.der_core.specs.declared.error.ErrorKind.{ErrorKind}
-use Rattle.der_core.specs.declared.error.ErrorKind.TheVariants.{Incomplete, Overflow, TagUnexpected, TagUnknown}
-use Rattle.der_core.specs.declared.error.ErrorKind.TheVariants.{TrailingData, Value}
+use Rattle.der_core.specs.declared.error.ErrorKind.TheVariants.{Incomplete, Overflow, TagUnexpected, TagUnknown, TrailingData, Value}
 use Rattle.der_core.specs.declared.tag.Tag.{Tag}
 use Rattle.der_core.specs.Encodings.{AreBytes}
 use Rattle.der_core.specs.Input.{header_at, front_of}

@@ -1,71 +1,54 @@
--- The words that contracts cite, from all files of specs.
+-- The words that contracts and proofs cite, from all files of specs, and three of std that most proofs cite.
 pub use Rattle.der_core.specs.BackWriters.{Prepends, free_of}
-pub use Rattle.der_core.specs.Transfer.{WhyReadingStopped, WritesAll, piece}
-pub use Rattle.der_core.specs.Document.{Excludes, IsDocument, IsMeaning, IsShortest}
-pub use Rattle.der_core.specs.Document.{Means, WhyNotCounted, WhyNotWritten}
+pub use Rattle.der_core.specs.Document.{EncodeError, Excludes, IsDocument, IsMeaning, IsShortest, Means, WhyNotCounted, WhyNotWritten, another, no_encoding, no_room, too_long}
 pub use Rattle.der_core.specs.DocumentValue.{encoding_of}
-pub use Rattle.der_core.specs.EncodeToSlice.{IsFront, LeavesRest}
-pub use Rattle.der_core.specs.Encodings.{AreBytes, AtMostOne, Is}
+pub use Rattle.der_core.specs.EncodeToSlice.{IsFront, LeavesRest, SliceRests}
+pub use Rattle.der_core.specs.Encodings.{AreBytes, AtMostOne, Is, Joins, Then}
 pub use Rattle.der_core.specs.ErrorKinds.{IsFile}
 pub use Rattle.der_core.specs.ErrorText.{kind_text}
 pub use Rattle.der_core.specs.Files.{FileFault, FileGives, FileRefuses, FileTakes, Obtains}
 pub use Rattle.der_core.specs.Headers.{HeaderEncoding, LengthEncoding}
-pub use Rattle.der_core.specs.Input.{Input, Reads, end_of, front_of, header_at, inner_of, left_in, length_at, octet_at}
-pub use Rattle.der_core.specs.Integer.{IntegerContents, IsBitLength, IsCanonical, SmallContents}
-pub use Rattle.der_core.specs.Integer.{integer_contents}
-pub use Rattle.der_core.specs.IntegerReading.{Answers, integer_of, small_of}
-pub use Rattle.der_core.specs.Length.{IsLength, length_octets, limit, tlv_len}
+pub use Rattle.der_core.specs.Input.{Input, Reads, end_of, front_of, inner_of, left_in, octet_at, read_from}
+unfoldable pub use Rattle.der_core.specs.Input.{header_at, length_at}
+pub use Rattle.der_core.specs.Integer.{HoldsNumber, IntegerContents, IsBitLength, IsCanonical, Small, SmallContents, integer_contents}
+pub use Rattle.der_core.specs.IntegerReading.{Answers, WhyNoNumber, integer_of, small_of}
+pub use Rattle.der_core.specs.Length.{IsBase256, IsLength, length_octets, limit, long, short, tlv_len}
 pub use Rattle.der_core.specs.OctetStringRefValue.{octets_of}
 pub use Rattle.der_core.specs.Optional.{HasOptional, IsNext, Optional, OptionalRead, written_optional}
-pub use Rattle.der_core.specs.Parts.{AllocatesInFront, AllocatesInParts, HaveParts, LastContents, NoParts}
-pub use Rattle.der_core.specs.Parts.{PartsContents, written_parts}
-pub use Rattle.der_core.specs.Printed.{AreSpelledOnce, Prints, PrintsOne, ReadsAlike, ReadsFrontAlike}
-pub use Rattle.der_core.specs.Printed.{ReadsFrontPrinted, ReadsPrinted, Spells, Starts, WritesShortest}
-pub use Rattle.der_core.specs.Printed.{number_contents, number_of, ok_of, row, starts_with_any, value_in}
-pub use Rattle.der_core.specs.Reading.{AllocatesForItems, AllocatesIn, AllocatesLast, DecodesOrMemory, FaultOrMemory}
-pub use Rattle.der_core.specs.Reading.{HoldsBytes, NoneIn}
-pub use Rattle.der_core.specs.Reading.{ReadsAll, ReadsEncoding, ReadsFront, ReadsRow, ReadsWhole, NoValueOrMemory, Returns}
-pub use Rattle.der_core.specs.Reading.{TellsNext, TellsOfBytes}
-pub use Rattle.der_core.specs.Readings.{FrontReading, Reading, ReadsBy, ReadsContents, ReadsFronts, alone, expected}
-pub use Rattle.der_core.specs.Readings.{front_done, front_made, front_parts, in_range, is_next, items, last, made}
-pub use Rattle.der_core.specs.Readings.{no_parts, octets_of_all, optional, parts, ranged, such, tagged, unless, whole}
-pub use Rattle.der_core.specs.Readings.{◌>>=◌}
+pub use Rattle.der_core.specs.Parts.{AllocatesInFront, AllocatesInParts, HaveParts, LastContents, NoParts, PartsContents, written_parts}
+pub use Rattle.der_core.specs.Printed.{AreSpelledOnce, Prints, PrintsOne, ReadsAlike, ReadsFrontAlike, ReadsFrontPrinted, ReadsPrinted, Spells, Starts, WritesShortest, number_contents, number_of, ok_of, row, starts_with_any, value_in}
+pub use Rattle.der_core.specs.Reading.{AllocatesBehind, AllocatesForItems, AllocatesIn, AllocatesLast, Asks, Begins, DecodesOrMemory, FaultOrMemory, HoldsBytes, NoValueOrMemory, NoneIn, ReadsAll, ReadsEncoding, ReadsFront, ReadsRow, ReadsWhole, Returns, TellsNext, TellsOfBytes}
+pub use Rattle.der_core.specs.Readings.{◌>>=◌, FrontReading, Reading, ReadsBy, ReadsContents, ReadsFronts, alone, by_tag, chain, checked, contents_behind, ended, expected, front_done, front_made, front_parts, in_range, inside, is_next, items, items_within, last, made, no_parts, octets_of_all, optional, parts, ranged, read_document, such, tagged, unexpected, unless, whole}
 pub use Rattle.der_core.specs.SequenceOf.{AllHave, ItemsContents, all_encodings}
 pub use Rattle.der_core.specs.SliceReaders.{left_of}
 pub use Rattle.der_core.specs.SourcesSinks.{AppendsFront, CountsFailure, GivesAll, GivesMore, GivesSome, OneFailed}
-pub use Rattle.der_core.specs.Tag.{context_tag, integer_tag, is_allowed, sequence_tag}
-pub use Rattle.der_core.specs.Tags.{integer, object_identifier, sequence}
+pub use Rattle.der_core.specs.StdIo.{IsCreated, IsOpened, read_faults, reader_of, write_faults, writer_of}
+pub use Rattle.der_core.specs.Tag.{context_tag, integer_tag, is_allowed, object_identifier_tag, sequence_tag}
+pub use Rattle.der_core.specs.Tags.{integer, null, object_identifier, octet_string, sequence}
 pub use Rattle.der_core.specs.Tlv.{Tlv, tlv}
+pub use Rattle.der_core.specs.Transfer.{GivesNone, WhyDocumentNotRead, WhyReadingStopped, WritesAll, piece}
 pub use Rattle.der_core.specs.UintRefValue.{bytes_of}
 pub use Rattle.der_core.specs.UintValue.{own_bytes_of}
-pub use Rattle.der_core.specs.StdIo.{IsCreated, IsOpened, read_faults, reader_of, write_faults, writer_of}
-pub use Rattle.der_core.specs.Writing.{Appends, Counts, Unwritten, WritesEncodings, WritesLeast, encode_error}
-pub use Rattle.der_core.specs.Writing.{is_no_encoding, joined}
-pub use Rattle.der_core.specs.Laws.Encodings.{tlv_relates}
-pub use Rattle.der_core.specs.Laws.Encodings.{tlv_shortest}
-pub use Rattle.der_core.specs.Laws.Equality.{bytes_decide, number_decides}
-pub use Rattle.der_core.specs.Laws.Integer.{contents_at_most_one}
-pub use Rattle.der_core.specs.Laws.Parts.{last_part_asks_none}
-pub use Rattle.der_core.specs.Laws.Parts.{last_part_relates, last_part_shortest}
-pub use Rattle.der_core.specs.Laws.Parts.{no_parts_relate, no_parts_shortest}
-pub use Rattle.der_core.specs.Laws.Parts.{parts_ask_none}
-pub use Rattle.der_core.specs.Laws.Parts.{parts_relate, parts_shortest}
-pub use Rattle.der_core.specs.Laws.Printed.Alike.{alike, alone_alike, chain_alike, front_alike, front_row_alike}
-pub use Rattle.der_core.specs.Laws.Printed.Alike.{items_alike, last_alike, made_alike, optional_alike, row_alike}
-pub use Rattle.der_core.specs.Laws.Printed.Alike.{tagged_alike}
-pub use Rattle.der_core.specs.Laws.Printed.Items.{items_law}
-pub use Rattle.der_core.specs.Laws.Printed.Leaves.{any_alike, any_shortest, number_law, numbers_decide, numbers_encode}
-pub use Rattle.der_core.specs.Laws.Printed.Leaves.{octets_law, small_law}
-pub use Rattle.der_core.specs.Laws.Printed.Once.{itself_once, last_once, list_once, made_once, row_once}
-pub use Rattle.der_core.specs.Laws.Printed.Optional.{front_end_law, front_row_law, last_by_tag_law, last_law}
-pub use Rattle.der_core.specs.Laws.Printed.OptionalRows.{IsInRange, optional_part_law, ranged_law, tagged_starts}
-pub use Rattle.der_core.specs.Laws.Printed.OptionalRows.{unless_alike, unless_shortest}
-pub use Rattle.der_core.specs.Laws.Printed.Rows.{end_law, expected_law, made_law, row_law, tagged_law}
-pub use Rattle.der_core.specs.Laws.Printed.Shortest.{last_shortest, list_shortest, made_shortest, one_spelling}
-pub use Rattle.der_core.specs.Laws.Printed.Shortest.{row_shortest, tagged_shortest, tagged_some}
-pub use Rattle.der_core.specs.Laws.Printed.Values.{reads, reads_front, written_prints}
-pub use Rattle.der_core.specs.Laws.Readings.{made_errs}
-pub use Rattle.der_core.specs.Laws.Readings.{small_reads}
-pub use Rattle.der_core.specs.Laws.SequenceOf.{items_relate, items_shortest}
-pub use Rattle.der_core.specs.Laws.TaggedReadings.{items_read, tagged_reads}
-pub use Rattle.der_core.specs.Laws.Tells.{is_value}
+pub use Rattle.der_core.specs.Writing.{Appends, Counts, IsOutOfMemory, Unwritten, WhyOctetsNotCounted, WhyOctetsNotWritten, WritesEncodings, WritesLeast, encode_error, is_no_encoding, joined}
+pub use Rattle.der_core.specs.declared.error.Error.{Error}
+pub use Rattle.der_core.specs.declared.error.ErrorKind.{ErrorKind}
+pub use Rattle.der_core.specs.declared.tag.Tag.{Tag}
+pub use Rattle.der_core.specs.Laws.Encodings.{items_relate, items_shortest, last_part_asks_none, last_part_relates, last_part_shortest, no_parts_relate, no_parts_shortest, parts_ask_none, parts_relate, parts_shortest, same_tag, tlv_not_empty, tlv_recast, tlv_relates, tlv_short, tlv_shortest, tlv_split}
+pub use Rattle.der_core.specs.Laws.Integer.{both_decide, bytes_decide, canonical_same, contents_at_most_one, holds_canonical, number_decides, option_decides, written_large}
+pub use Rattle.der_core.specs.Laws.Length.{length_octets-only, length_octets-short, length_octets-within}
+pub use Rattle.der_core.specs.Laws.LengthReading.{are_bytes, chosen, header_at-complete, header_at-sound, header_at-tells, header_sound, is_value, length_at-complete, length_at-sound, length_at-tells, ok_pair}
+pub use Rattle.der_core.specs.Laws.Numbers.{after_ge, base256_ge, same_cons}
+pub use Rattle.der_core.specs.Laws.OptionalReadings.{front_next, isnt_next, next_is, next_isnt, optional_reads}
+pub use Rattle.der_core.specs.Laws.Printed.Alike.{alike, alone_alike, chain_alike, front_alike, front_row_alike, items_alike, itself_once, last_alike, last_once, list_once, made_alike, made_once, optional_alike, row_alike, row_once, tagged_alike, values_alike, whole_alike}
+pub use Rattle.der_core.specs.Laws.Printed.Items.{items_law, meant, meant_front, paired, prints_some, reads, reads_front, written_prints}
+pub use Rattle.der_core.specs.Laws.Printed.Leaves.{any_alike, any_shortest, contents_as, number_law, number_octets, numbers_decide, numbers_encode, octets_canonical, octets_grow, octets_law, octets_number, small_contents_as, small_law, tlv_fit, tlv_is, tlv_made}
+pub use Rattle.der_core.specs.Laws.Printed.Optional.{IsInRange, agreed_law, chain_law, front_end_law, front_row_law, last_by_tag_law, last_law, optional_gives, optional_part_law, optional_row_law, ranged_law, tagged_starts, unless_alike, unless_shortest}
+pub use Rattle.der_core.specs.Laws.Printed.Relations.{StatedAs, decodes_stated, encodes_stated, memory_stated, optional_itself, spells_once, stated, unwritten_stated, written_encodes}
+pub use Rattle.der_core.specs.Laws.Printed.Rows.{alone_law, decodes_as, end_law, expected_law, made_law, meant_decodes, prints_one, row_law, such_law, tagged_law, valid_as, whole_decodes, whole_takes}
+pub use Rattle.der_core.specs.Laws.Printed.Shortest.{joined_shortest, last_shortest, list_shortest, made_shortest, one_spelling, row_shortest, shortest_is, tagged_shortest, tagged_some}
+pub use Rattle.der_core.specs.Laws.Readings.{alone_reads, any_read, back_bytes, behind_within, bind_err, bind_ok, carry, ended_is, ended_tells, fronts_as, made_errs, made_tells, ok_same, small_reads}
+pub use Rattle.der_core.specs.Laws.SliceReaders.{left_of-bounded, left_of-bytes}
+pub use Rattle.der_core.specs.Laws.TaggedReadings.{by_tag_reads, checked_as, items_read, tagged_reads, unexpected_not, unexpected_tells}
+pub use Rattle.std.proofs.lemmas.Bool.Decides.{nat_tests}
+pub use Rattle.std.proofs.lemmas.Result.{err_from_is_err_and}
+pub use Rattle.std.specs.Int.Digits.{number_from_digits}

@@ -1,8 +1,7 @@
 //! Types that are read without memory.
 ghost use Rattle.std.specs.Prelude.{List, ℕ};
 ghost use Rattle.standard.specs.Statement as standard;
-ghost use Rattle.der_core.specs.Words.{Answers, Optional, Prints, Spells, last_part_asks_none, ok_of, parts_ask_none};
-ghost use Rattle.der_core.specs.Words.{whole};
+ghost use Rattle.der_core.specs.Words.{Answers, Optional, Prints, Spells, last_part_asks_none, ok_of, parts_ask_none, whole};
 
 use crate::decode::{Decode, DecodeValue};
 use crate::error::Result;

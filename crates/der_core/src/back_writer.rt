@@ -52,7 +52,7 @@ impl<'b> BackWriter<'b> {
     }
 
     /// Writes a header in front of what is filled.
-    #[tactic(auto, using(crate::proofs::LengthOctets::known_lengths))]
+    #[tactic(auto, using(crate::proofs::Lengths::known_lengths))]
     pub fn prepend_header(&mut self, header: Header)
         requires { 1 + length (length_octets header.length) ≤ free_of self.old }
         ensures { Prepends (header.tag.octet ∷ length_octets header.length) self.old self.new }

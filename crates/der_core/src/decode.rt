@@ -1,9 +1,6 @@
 //! Reading of values.
-ghost use Rattle.std.specs.Prelude.{◌≡◌, ◌≤◌, ℕ, List, length, Ok, IfSome};
-ghost use Rattle.der_core.specs.Words.{Tlv, AllocatesIn, HoldsBytes, ReadsAll, ReadsFront, ReadsWhole, Returns};
-ghost use Rattle.der_core.specs.Words.{DecodesOrMemory, Prints, Spells, TellsNext};
-ghost use Rattle.der_core.specs.Words.{limit, octets_of_all, optional, tagged, whole};
-ghost use Rattle.std.specs.Option.{option_map};
+ghost use Rattle.std.specs.Prelude.{◌≡◌, ◌≤◌, ℕ, List, length, Ok, IfSome, option_map};
+ghost use Rattle.der_core.specs.Words.{Tlv, AllocatesIn, HoldsBytes, ReadsAll, ReadsFront, ReadsWhole, Returns, DecodesOrMemory, Prints, Spells, TellsNext, limit, octets_of_all, optional, tagged, whole};
 
 use crate::error::{ErrorKind, Result};
 use crate::grammar::{Contents, Encoding, FixedTag};

@@ -4,13 +4,12 @@ ghost use Rattle.std.specs.Path.{path_bytes};
 ghost use Rattle.der_core.specs.Transfer.{ReadsDocument, WritesAll};
 ghost use Rattle.der_core.specs.Files.{FileFault, FileGives, FileRefuses, FileTakes};
 ghost use Rattle.der_core.specs.Document.{IsDocument};
-ghost use Rattle.der_core.specs.Laws.Document.{IsDocument-prop};
+ghost use Rattle.der_core.specs.Laws.Length.{IsDocument-prop};
 ghost use Rattle.der_core.specs.Length.{limit};
 ghost use Rattle.der_core.specs.Laws.Printed.Leaves.{any_alike, any_shortest, octets_law};
 ghost use Rattle.der_core.specs.Printed.{Prints};
-ghost use Rattle.der_core.specs.Reading.{Returns};
+ghost use Rattle.der_core.specs.Reading.{Returns, NoValueOrMemory};
 ghost use Rattle.der_core.specs.Readings.{any_contents, octets_of_all, read_document};
-ghost use Rattle.der_core.specs.Reading.{NoValueOrMemory};
 ghost use Rattle.der_core.specs.ErrorKinds.{IsFile};
 ghost use Rattle.der_core.specs.Encodings.{AreBytes};
 ghost use Rattle.der_core.specs.Tlv.{tlv};
@@ -197,7 +196,7 @@ impl<S: Drop> DocumentOf<S> {
     }
 
     /// Reads the document in a file, as `read_from` does. `File` also if the file can't be opened.
-    #[tactic(auto, using(crate::proofs::TaggedReadings::document_reads))]
+    #[tactic(auto, using(crate::proofs::Readings::document_reads))]
     pub fn read_der_file<F: FileSystem>(
         files: &F,
         alloc: Global,

@@ -1,8 +1,6 @@
 //! Writing of values.
 ghost use Rattle.std.specs.Prelude.{◌≡◌, ◌≤◌, ◌++◌, length, drop, OnOk, OnErr, IfOk, IfErr};
-ghost use Rattle.der_core.specs.Words.{limit, length_octets, tlv, IsShortest, WhyNotCounted, WhyNotWritten};
-ghost use Rattle.der_core.specs.Words.{free_of, Prepends, Prints, IsFront, LeavesRest, Counts, Appends};
-ghost use Rattle.der_core.specs.Words.{encode_error, joined};
+ghost use Rattle.der_core.specs.Words.{limit, length_octets, tlv, IsShortest, WhyNotCounted, WhyNotWritten, free_of, Prepends, Prints, IsFront, LeavesRest, Counts, Appends, encode_error, joined};
 ghost use Rattle.std.specs.Borrow.{sem};
 
 use crate::back_writer::BackWriter;

@@ -1,8 +1,6 @@
 //! Rows of parts at the front of contents whose rest depends on them.
 ghost use Rattle.std.specs.Prelude.{◌≡◌, List, [], ℕ, Ok, IfSome};
-ghost use Rattle.der_core.specs.Words.{AllocatesInParts, FrontReading, Prints, ReadsFrontAlike, ReadsFrontPrinted};
-ghost use Rattle.der_core.specs.Words.{ReadsRow, front_alike, front_done, front_end_law, front_parts, front_row_alike};
-ghost use Rattle.der_core.specs.Words.{front_row_law, row};
+ghost use Rattle.der_core.specs.Words.{AllocatesInParts, FrontReading, Prints, ReadsFrontAlike, ReadsFrontPrinted, ReadsRow, front_alike, front_done, front_end_law, front_parts, front_row_alike, front_row_law, row};
 
 use crate::decode::Decode;
 use crate::error::Result;

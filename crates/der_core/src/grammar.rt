@@ -3,14 +3,10 @@
 //!
 //! The author of a type writes `Contents` (ghosts alone), `TaggedBy` (the tag), and then `DecodeValue` or `EncodeValue`
 //! or both.
-ghost use Rattle.std.specs.Prelude.{◌≡◌, ◌<◌, ℕ, List, length};
+ghost use Rattle.std.specs.Prelude.{◌≡◌, ◌<◌, ℕ, List, length, Decides};
 ghost use Rattle.standard.specs.Statement as standard;
-ghost use Rattle.der_core.specs.Words.{FrontReading, Reading, ReadsAlike, ReadsFrontAlike, ReadsFrontPrinted};
-ghost use Rattle.der_core.specs.Words.{ReadsPrinted, Starts, WritesShortest, integer, sequence, tagged, tagged_alike};
-ghost use Rattle.der_core.specs.Words.{tagged_law};
-ghost use Rattle.der_core.specs.Words.{tagged_shortest, tagged_some, tagged_starts};
+ghost use Rattle.der_core.specs.Words.{FrontReading, Reading, ReadsAlike, ReadsFrontAlike, ReadsFrontPrinted, ReadsPrinted, Starts, WritesShortest, integer, sequence, tagged, tagged_alike, tagged_law, tagged_shortest, tagged_some, tagged_starts};
 ghost use Rattle.der_core.specs.declared.tag.Tag.{Tag};
-ghost use Rattle.std.specs.Bool.{Decides};
 
 use crate::tag::Tag;
 

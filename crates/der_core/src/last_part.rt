@@ -1,10 +1,7 @@
 //! The last part of some contents: one encoding, or an OPTIONAL one.
-ghost use Rattle.std.specs.Prelude.{◌≡◌, Option};
-ghost use Rattle.std.specs.Option.{option_map};
+ghost use Rattle.std.specs.Prelude.{◌≡◌, Option, option_map};
 ghost use Rattle.standard.specs.Statement as standard;
-ghost use Rattle.der_core.specs.Words.{AllocatesIn, AllocatesLast, ReadsWhole, Tlv, alone, alone_alike, last};
-ghost use Rattle.der_core.specs.Words.{last_alike, last_by_tag_law, last_law, last_shortest, optional, optional_alike};
-ghost use Rattle.der_core.specs.Words.{tagged, tagged_alike, tagged_shortest};
+ghost use Rattle.der_core.specs.Words.{AllocatesIn, AllocatesLast, ReadsWhole, Tlv, alone, alone_alike, last, last_alike, last_by_tag_law, last_law, last_shortest, optional, optional_alike, tagged, tagged_alike, tagged_shortest};
 
 use crate::back_writer::BackWriter;
 use crate::borrowed::Borrowed;

@@ -1,13 +1,8 @@
 //! Laws of comparing, copying and reading: functions that do nothing, each with a law as its contract.
-ghost use Rattle.std.specs.Prelude.{◌≡◌, ◌≤◌, ℕ, List, length, Result, true, false};
-ghost use Rattle.std.specs.Bool.{Decides};
+ghost use Rattle.std.specs.Prelude.{◌≡◌, ◌≤◌, ℕ, List, length, Result, true, false, Decides};
 ghost use Rattle.std.specs.Ordering.{nat_cmp};
 ghost use Rattle.standard.specs.Statement as standard;
-ghost use Rattle.der_core.specs.Words.{encoding_of, octets_of, ReadsAlike, ReadsFrontPrinted, ReadsPrinted};
-ghost use Rattle.der_core.specs.Words.{ReadsContents, ReadsFronts, alone, last, optional, tagged};
-ghost use Rattle.der_core.specs.Words.{integer, sequence, bytes_of};
-ghost use Rattle.der_core.specs.Words.{Answers, AreBytes, Prints, PrintsOne, ReadsFrontAlike, Spells, limit, ok_of};
-ghost use Rattle.der_core.specs.Words.{WritesShortest, value_in, whole};
+ghost use Rattle.der_core.specs.Words.{encoding_of, octets_of, ReadsAlike, ReadsFrontPrinted, ReadsPrinted, ReadsContents, ReadsFronts, alone, last, optional, tagged, integer, sequence, bytes_of, Answers, AreBytes, Prints, PrintsOne, ReadsFrontAlike, Spells, limit, ok_of, WritesShortest, value_in, whole};
 ghost use Rattle.der_core.specs.declared.document.DocumentOf as documents;
 ghost use Rattle.der_core.specs.declared.document.Open as marks;
 ghost use Rattle.der_core.specs.declared.error.Error as errors;

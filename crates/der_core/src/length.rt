@@ -2,8 +2,7 @@
 ghost use Rattle.std.specs.Prelude.{◌≡◌, ℕ, List, ◌+◌, ◌≤◌, ◌<◌, length, IfOk, IfErr, MatchResult};
 ghost use Rattle.der_core.specs.declared.error.ErrorKind.TheVariants.{Overflow};
 ghost use Rattle.std.specs.Int.Digits.{number_from_digits};
-ghost use Rattle.der_core.specs.Words.{limit, IsLength, length_octets, tlv_len, Reads, length_at, ReadsEncoding};
-ghost use Rattle.der_core.specs.Words.{LengthEncoding, Is, Tlv};
+ghost use Rattle.der_core.specs.Words.{limit, IsLength, length_octets, tlv_len, Reads, length_at, ReadsEncoding, LengthEncoding, Is, Tlv};
 ghost use Rattle.der_core.specs.Input as specs;
 
 use crate::error::{Error, ErrorKind, Result};
@@ -160,7 +159,7 @@ impl Length {
     }
 
     /// How many octets the tag and the length take.
-    #[tactic(auto, using(crate::proofs::LengthOctets::known_lengths))]
+    #[tactic(auto, using(crate::proofs::Lengths::known_lengths))]
     fn header_len(self) -> Length
         ensures { result ≡ 1 + length (length_octets self) }
     {
@@ -188,7 +187,7 @@ impl Length {
     }
 
     /// The length octets.
-    #[tactic(auto, using(crate::proofs::LengthOctets::known_lengths))]
+    #[tactic(auto, using(crate::proofs::Lengths::known_lengths))]
     fn octets(self) -> ArrayVec<u8, 5>
         ensures written { result.items ≡ length_octets self }
         ensures few { length result.items ≤ 5 }
@@ -222,7 +221,7 @@ impl Length {
 
     /// Reads the length octets.
     #[inline(always)]
-    #[tactic(auto, using(crate::proofs::Headers::length_reads))]
+    #[tactic(auto, using(crate::proofs::Lengths::length_reads))]
     pub fn decode<'a, R: Reader<&'a [u8]>>(reader: &mut R) -> Result<Length>
         ensures exact { Reads (λ n. n) result (R.left reader.old) (R.left reader.new) length_at }
         ensures encoding { ReadsEncoding (λ n. n) LengthEncoding (λ _. ⊥) result (R.left reader.old)

@@ -108,7 +108,7 @@ impl TaggedBy for OctetStringRef<'_> {
 }
 
 impl EqualByValue for OctetStringRef<'_> {
-    ghost use Rattle.der_core.specs.Laws.Equality.{bytes_decide};
+    ghost use Rattle.der_core.specs.Laws.Integer.{bytes_decide};
 
     ghost decides = { λ a b. bytes_decide a.bytes.now b.bytes.now };
 }

@@ -1,8 +1,7 @@
 //! Types whose values have one encoding each: what is written is the only one.
 ghost use Rattle.std.specs.Prelude.{IfErr, length};
 ghost use Rattle.standard.specs.Statement as standard;
-ghost use Rattle.der_core.specs.Words.{AreSpelledOnce, AtMostOne, Prints, Spells, Unwritten, encode_error, itself_once};
-ghost use Rattle.der_core.specs.Words.{last_once, list_once, ok_of, row_once};
+ghost use Rattle.der_core.specs.Words.{AreSpelledOnce, AtMostOne, Prints, Spells, Unwritten, encode_error, itself_once, last_once, list_once, ok_of, row_once};
 
 use crate::encode::Encode;
 use crate::error::Result;

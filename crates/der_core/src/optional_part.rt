@@ -1,11 +1,8 @@
 //! An OPTIONAL part in front of others, which is known by its tag.
-ghost use Rattle.std.specs.Prelude.{◌≡◌, IsSome, Option, false};
-ghost use Rattle.std.specs.Option.{option_map};
+ghost use Rattle.std.specs.Prelude.{◌≡◌, IsSome, Option, false, option_map};
 ghost use Rattle.standard.specs.Statement as standard;
 ghost use Rattle.der_core.specs.declared.error.ErrorKind.TheVariants as kinds;
-ghost use Rattle.der_core.specs.Words.{AllocatesInParts, Optional, Prints, ReadsWhole, Tlv, last_shortest, optional};
-ghost use Rattle.der_core.specs.Words.{optional_alike, optional_part_law, parts, row, row_alike, row_law, row_shortest};
-ghost use Rattle.der_core.specs.Words.{tagged, tagged_alike, tagged_shortest, unless, unless_alike, unless_shortest};
+ghost use Rattle.der_core.specs.Words.{AllocatesInParts, Optional, Prints, ReadsWhole, Tlv, last_shortest, optional, optional_alike, optional_part_law, parts, row, row_alike, row_law, row_shortest, tagged, tagged_alike, tagged_shortest, unless, unless_alike, unless_shortest};
 
 use crate::back_writer::BackWriter;
 use crate::decode::{Decode, DecodeValue, decode_optional};

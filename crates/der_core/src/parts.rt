@@ -1,8 +1,7 @@
 //! Parts of contents in a row, as a type: a nested pair that ends with `()`, as `(A, (B, ()))`, or with an OPTIONAL last
 //! part, as `(A, Last<B>)`. A row is written as contents, `(Borrowed(&self.a), (Borrowed(&self.b), ())).value_len()`.
 ghost use Rattle.std.specs.Prelude.{◌≡◌, List, [], ℕ, Ok, IfSome};
-ghost use Rattle.der_core.specs.Words.{AllocatesInParts, Prints, ReadsWhole, alike, end_law, no_parts, one_spelling};
-ghost use Rattle.der_core.specs.Words.{parts, row, row_alike, row_law, row_shortest};
+ghost use Rattle.der_core.specs.Words.{AllocatesInParts, Prints, ReadsWhole, alike, end_law, no_parts, one_spelling, parts, row, row_alike, row_law, row_shortest};
 
 use crate::back_writer::BackWriter;
 use crate::decode::Decode;

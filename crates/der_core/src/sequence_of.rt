@@ -1,8 +1,7 @@
 //! SEQUENCE OF (X.690 8.10), as a `Vec` of its items.
 ghost use Rattle.std.specs.Prelude.{◌≤◌, List, length, map};
 ghost use Rattle.std.specs.List.{AllByRecursion, concat};
-ghost use Rattle.der_core.specs.Words.{limit, free_of, Prepends, AllocatesForItems, AllHave, all_encodings, items};
-ghost use Rattle.der_core.specs.Words.{Counts, Appends, Prints, items_alike, items_law, list_shortest};
+ghost use Rattle.der_core.specs.Words.{limit, free_of, Prepends, AllocatesForItems, AllHave, all_encodings, items, Counts, Appends, Prints, items_alike, items_law, list_shortest};
 
 use crate::back_writer::BackWriter;
 use crate::decode::{Decode, DecodeValue};

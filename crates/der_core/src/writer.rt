@@ -61,7 +61,7 @@ impl<'b> SliceWriter<'b> {
 
 impl Writer for SliceWriter<'_> {
     ghost use Rattle.der_core.specs.SliceWriters.{room_of, written_of, Keeps};
-    ghost use Rattle.der_core.specs.Laws.Slices.{Keeps-itself, Keeps-through};
+    ghost use Rattle.der_core.specs.Laws.Numbers.{Keeps-itself, Keeps-through};
 
     ghost room = { room_of };
 

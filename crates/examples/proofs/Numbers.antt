@@ -1,10 +1,7 @@
 -- What is printed of the row is what its grammar says.
-use Rattle.std.proofs.Common.{ℕ, List, [], ◌∷◌, ◌++◌, ◌≡◌, ◌∙◌, map, refl, ap, append-nil, arith, sym}
-use Rattle.std.proofs.lemmas.List.{map-id}
+use Rattle.std.proofs.Common.{ℕ, List, [], ◌∷◌, ◌++◌, ◌≡◌, ◌∙◌, map, refl, ap, append-nil, arith, sym, map-id}
 use Rattle.std.specs.List.{AllByRecursion}
-use Rattle.der_core.specs.Laws.Printed.OptionalRows.{IsInRange}
-use Rattle.der_core.specs.Laws.Printed.Relations.{StatedAs, stated}
-use Rattle.der_core.specs.Printed.{Spells}
+use Rattle.der_core.specs.Words.{IsInRange, StatedAs, stated, Spells}
 use Rattle.examples.specs.NumberList.{IsNumberList, NumberList, NumberListEncoding}
 use Rattle.standard.specs.Statement.{integer, integers, sequence}
 

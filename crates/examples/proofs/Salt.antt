@@ -1,9 +1,6 @@
 -- What is printed of the row is what its grammar says.
-use Rattle.std.proofs.Common.{ℕ, List, ◌++◌, refl}
-use Rattle.std.specs.Prelude.{Option}
-use Rattle.std.specs.Option.{option_map}
-use Rattle.der_core.specs.Laws.Printed.Relations.{StatedAs, optional_itself, stated}
-use Rattle.der_core.specs.Printed.{Spells}
+use Rattle.std.proofs.Common.{ℕ, List, ◌++◌, refl, Option, option_map}
+use Rattle.der_core.specs.Words.{StatedAs, optional_itself, stated, Spells}
 use Rattle.examples.specs.Salt.{IsSalt, Salt, SaltEncoding}
 use Rattle.standard.specs.Statement.{AreOctets, IfPresent, integer, optional, sequence, tlv}
 

@@ -1,7 +1,6 @@
 -- What is printed of a signature's row is what its grammar says.
 use Rattle.std.proofs.Common.{ℕ, List, [], ◌∷◌, refl}
-use Rattle.der_core.specs.Laws.Printed.Relations.{StatedAs, stated}
-use Rattle.der_core.specs.Printed.{Spells}
+use Rattle.der_core.specs.Words.{StatedAs, stated, Spells}
 use Rattle.examples.specs.Signature.{Signature, SignatureEncoding}
 use Rattle.standard.specs.Statement.{integers, sequence}
 

@@ -1,16 +1,8 @@
 -- The BOOLEAN TRUE, as contents octets (X.690 8.2.2, 11.1).
-use Rattle.std.proofs.Common.{ℕ, Bool, true, false, List, [], ◌∷◌, ◌≡◌, Option, Some, None, Ok, Err, refl, subst, sym}
-use Rattle.std.proofs.Common.{⊎_elim}
-use Rattle.std.specs.Prelude.{if◌then◌else◌}
-use Rattle.std.specs.Str.{bytes_eq}
+use Rattle.std.proofs.Common.{ℕ, Bool, true, false, List, [], ◌∷◌, ◌≡◌, Option, Some, None, Ok, Err, refl, subst, sym, ⊎_elim, if◌then◌else◌, bytes_eq}
 use Rattle.der_core.specs.declared.error.ErrorKind.TheVariants.{Value}
 use Rattle.der_core.specs.declared.tag.Tag.{Tag}
-use Rattle.der_core.specs.Encodings.{AreBytes}
-use Rattle.der_core.specs.Laws.Equality.{bytes_decide}
-use Rattle.der_core.specs.Laws.LengthReading.{chosen}
-use Rattle.der_core.specs.Laws.Tells.{is_value}
-use Rattle.der_core.specs.Printed.{ReadsPrinted}
-use Rattle.der_core.specs.Readings.{Reading}
+use Rattle.der_core.specs.Words.{AreBytes, bytes_decide, chosen, is_value, ReadsPrinted, Reading}
 use Rattle.examples.specs.declared.extension.True.{True}
 
 abbrev pub boolean : Tag

@@ -1,15 +1,8 @@
 -- NumberList ::= SEQUENCE { version INTEGER { v1(0), v2(1) }, numbers SEQUENCE OF INTEGER }
 use Rattle.std.specs.Prelude.{ℕ, List, map, ◌≡◌, ◌≤◌, ◌<◌, ◌++◌, length}
-use Rattle.std.specs.Int.Digits.{number_from_digits}
+use Rattle.der_core.specs.Words.{number_from_digits, AllocatesInParts, Prints, number_contents, number_of, AllocatesForItems, AllocatesIn, Reading, items, made, no_parts, parts, ranged, tagged, whole, Tlv, IsInRange, bytes_of}
 use Rattle.std.specs.List.{AllByRecursion}
-use Rattle.der_core.specs.Parts.{AllocatesInParts}
-use Rattle.der_core.specs.Printed.{Prints, number_contents, number_of}
-use Rattle.der_core.specs.Reading.{AllocatesForItems, AllocatesIn}
-use Rattle.der_core.specs.Readings.{Reading, items, made, no_parts, parts, ranged, tagged, whole}
 use Rattle.der_core.specs.Tags as tags
-use Rattle.der_core.specs.Tlv.{Tlv}
-use Rattle.der_core.specs.Laws.Printed.OptionalRows.{IsInRange}
-use Rattle.der_core.specs.UintRefValue.{bytes_of}
 use Rattle.der_core.specs.declared.integer.uint.UintRef.{UintRef}
 use Rattle.examples.specs.declared.number_list.NumberList as values
 use Rattle.standard.specs.Statement.{integer, integers, limit, sequence, tlv}

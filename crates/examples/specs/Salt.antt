@@ -1,12 +1,7 @@
 -- OptionalSalt ::= SEQUENCE { iterations INTEGER, salt OCTET STRING OPTIONAL }
-use Rattle.std.specs.Prelude.{ℕ, List, ◌≡◌, ◌≤◌, ◌++◌, length, Option}
-use Rattle.std.specs.Int.Digits.{number_from_digits}
-use Rattle.std.specs.Option.{option_map}
-use Rattle.der_core.specs.OctetStringRefValue.{octets_of}
-use Rattle.der_core.specs.Printed.{number_of}
-use Rattle.der_core.specs.Readings.{Reading, last, made, octets_of_all, parts, tagged, whole}
+use Rattle.std.specs.Prelude.{ℕ, List, ◌≡◌, ◌≤◌, ◌++◌, length, Option, option_map}
+use Rattle.der_core.specs.Words.{number_from_digits, octets_of, number_of, Reading, last, made, octets_of_all, parts, tagged, whole, bytes_of}
 use Rattle.der_core.specs.Tags as tags
-use Rattle.der_core.specs.UintRefValue.{bytes_of}
 use Rattle.der_core.specs.declared.integer.uint.UintRef.{UintRef}
 use Rattle.der_core.specs.declared.octet_string.OctetStringRef.{OctetStringRef}
 use Rattle.examples.specs.declared.optional_salt.OptionalSalt as values

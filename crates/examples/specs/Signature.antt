@@ -1,10 +1,7 @@
 -- Dss-Sig-Value ::= SEQUENCE { r INTEGER, s INTEGER } (RFC 3279 2.2.3)
 use Rattle.std.specs.Prelude.{ℕ, List, [], ◌∷◌, ◌≡◌, ◌≤◌, length}
-use Rattle.std.specs.Int.Digits.{number_from_digits}
-use Rattle.der_core.specs.Printed.{number_of}
-use Rattle.der_core.specs.Readings.{Reading, made, no_parts, parts, tagged, whole}
+use Rattle.der_core.specs.Words.{number_from_digits, number_of, Reading, made, no_parts, parts, tagged, whole, bytes_of}
 use Rattle.der_core.specs.Tags as tags
-use Rattle.der_core.specs.UintRefValue.{bytes_of}
 use Rattle.der_core.specs.declared.integer.uint.UintRef.{UintRef}
 use Rattle.examples.specs.declared.dss_sig.DssSigValue as values
 use Rattle.standard.specs.Statement.{integers, limit, sequence}

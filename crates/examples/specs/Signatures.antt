@@ -1,6 +1,6 @@
 -- What a verifier asks of RSASSA-PSS parameters.
 use Rattle.std.specs.Prelude.{ℕ, List, ◌≡◌, ◌⊎◌, Option, Some, None}
-use Rattle.pkcs1_params.specs.HashFunctions.{UsesHash, id_sha256, id_sha384}
+use Rattle.pkcs1_params.specs.Words.{UsesHash, id_sha256, id_sha384}
 use Rattle.standard.specs.Statement.{PssParameters}
 
 -- The hash function is SHA-256, and the mask generation function is MGF1 with SHA-256.

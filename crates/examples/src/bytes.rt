@@ -1,8 +1,7 @@
 //! Keys in memory.
 ghost use Rattle.std.specs.Prelude.{◌≡◌, ◌⊎◌, ⊤, IfOk, IfErr, OnErr, Some, None};
-ghost use Rattle.standard.specs.Statement.{Decodes, IsShortest, PrivateKey, PrivateKeyEncoding, PublicKey};
-ghost use Rattle.standard.specs.Statement.{PublicKeyEncoding, octets};
-ghost use Rattle.der_core.specs.DocumentValue.{encoding_of};
+ghost use Rattle.standard.specs.Statement.{Decodes, IsShortest, PrivateKey, PrivateKeyEncoding, PublicKey, PublicKeyEncoding, octets};
+ghost use Rattle.der_core.specs.Words.{encoding_of};
 ghost use Rattle.pkcs1.specs.Words.{MayAllocate, Rejects, Withholds};
 ghost use Rattle.examples.specs.Keys.{public_half_of};
 

@@ -1,8 +1,7 @@
 //! What errors mean for the caller.
 ghost use Rattle.std.specs.Prelude.{◌≡◌};
-ghost use Rattle.der_core.specs.Reading.{TellsOfBytes};
-ghost use Rattle.der_core.specs.ErrorKinds.{IsFile};
-ghost use Rattle.pkcs1_params.specs.Errors.{IsAsn1};
+ghost use Rattle.der_core.specs.Words.{TellsOfBytes, IsFile};
+ghost use Rattle.pkcs1_params.specs.Words.{IsAsn1};
 
 use pkcs1::Error;
 use pkcs1::der::ErrorKind;

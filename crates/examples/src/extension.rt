@@ -1,9 +1,7 @@
 //! A record with a part that is there or not, in front of another.
-ghost use Rattle.std.specs.Prelude.{◌≡◌, ◌∷◌, [], IfErr, length, refl};
-ghost use Rattle.std.specs.Str.{bytes_eq};
+ghost use Rattle.std.specs.Prelude.{◌≡◌, ◌∷◌, [], IfErr, length, refl, bytes_eq};
 ghost use Rattle.standard.specs.Statement as standard;
-ghost use Rattle.der_core.specs.Words.{Answers, Spells, Unwritten, alike, encode_error, ok_of, one_spelling, whole};
-ghost use Rattle.der_core.specs.Words.{itself_once};
+ghost use Rattle.der_core.specs.Words.{Answers, Spells, Unwritten, alike, encode_error, ok_of, one_spelling, whole, itself_once};
 ghost use Rattle.examples.specs.Extension.{IsTrueOctet, critical_part, true_law, true_octets, true_read};
 
 use der_core::{

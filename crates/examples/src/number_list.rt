@@ -2,8 +2,7 @@
 ghost use Rattle.std.specs.Prelude.{IfErr, length};
 ghost use Rattle.standard.specs.Statement.{Encodes};
 ghost use Rattle.der_core.specs.Words.{DecodesOrMemory, Returns, Unwritten, encode_error, ok_of};
-ghost use Rattle.examples.specs.NumberList.{IsNumberList, MayAskMemory, NumberListEncoding, number_list_read};
-ghost use Rattle.examples.specs.NumberList.{numbers_of};
+ghost use Rattle.examples.specs.NumberList.{IsNumberList, MayAskMemory, NumberListEncoding, number_list_read, numbers_of};
 
 use der_core::{
     BackWriter, Borrowed, Encode, EncodeInParts, EncodeValue, Encoding, InRange, Length, Record,

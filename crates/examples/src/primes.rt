@@ -1,8 +1,7 @@
 //! The other primes of a key.
 ghost use Rattle.std.specs.Prelude.{◌≡◌, map, IfOk};
-ghost use Rattle.der_core.specs.UintRefValue.{bytes_of};
-ghost use Rattle.pkcs1.specs.Held.{held_view, number_in};
-ghost use Rattle.pkcs1.specs.ViewParts.{listed_others};
+ghost use Rattle.der_core.specs.Words.{bytes_of};
+ghost use Rattle.pkcs1.specs.Words.{held_view, number_in, listed_others};
 
 use pkcs1::{RsaPrivateKeyView, UintRef};
 use std::alloc::{AllocError, Global};

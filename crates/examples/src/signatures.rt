@@ -1,6 +1,5 @@
 //! The algorithm of a signature.
-ghost use Rattle.std.specs.Bool.{Decides};
-ghost use Rattle.std.specs.Prelude.{IfOk, OnErr, Some, None};
+ghost use Rattle.std.specs.Prelude.{Decides, IfOk, OnErr, Some, None};
 ghost use Rattle.standard.specs.Statement.{Decodes, PssAlgorithmEncoding, PssParameters};
 ghost use Rattle.examples.specs.Signatures.{GivesSalt, IsAccepted};
 

@@ -1,7 +1,6 @@
 //! Sizes that a signer asks of keys and parameters. This is all the code of a crate of one's own.
 ghost use Rattle.std.specs.Prelude.{◌≡◌, length, IfOk, OnErr, Some, None};
-ghost use Rattle.standard.specs.Statement.{ContainedKeyEncoding, Decodes, IsShortest, PrivateKey, PssEncoding};
-ghost use Rattle.standard.specs.Statement.{PssParameters, octets};
+ghost use Rattle.standard.specs.Statement.{ContainedKeyEncoding, Decodes, IsShortest, PrivateKey, PssEncoding, PssParameters, octets};
 
 use pkcs1::{Result, RsaPssParamsRef};
 use pkcs8_core::rsa_from_pkcs8_der;

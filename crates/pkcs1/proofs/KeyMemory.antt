@@ -1,32 +1,10 @@
 -- Which encodings of keys need memory: none of two primes, where its numbers need none; and what borrowed and owned
 -- numbers make of it.
-use Rattle.std.proofs.Common.{ℕ, List, [], ◌∷◌, ◌++◌, ◌≡◌, ◌≤◌, length, map, refl, sym, subst, ap, ◌∙◌, arith}
-use Rattle.std.proofs.Common.{append_assoc, append-nil, length-append, inl, inr, ⊎_elim, Option, Some, None}
+use Rattle.std.proofs.Common.{ℕ, List, [], ◌∷◌, ◌++◌, ◌≡◌, ◌≤◌, length, map, refl, sym, subst, ap, ◌∙◌, arith, append_assoc, append-nil, length-append, inl, inr, ⊎_elim, Option, Some, None, option_map}
 use Rattle.std.specs.List.{concat}
-use Rattle.std.specs.Option.{option_map}
 use Rattle.der_core.specs.declared.error.ErrorKind.{ErrorKind}
-use Rattle.der_core.specs.Laws.ContentsShorter.{tlv_recast}
-use Rattle.der_core.specs.Laws.Encodings.{tlv_not_empty, tlv_split}
-use Rattle.der_core.specs.Laws.Parts.{parts_ask_none}
-use Rattle.der_core.specs.Laws.Printed.Leaves.{tlv_fit, tlv_is, tlv_made}
-use Rattle.der_core.specs.Laws.Printed.Rows.{prints_one}
-use Rattle.der_core.specs.Length.{limit}
-use Rattle.der_core.specs.Parts.{AllocatesInParts}
-use Rattle.der_core.specs.Printed.{ReadsFrontPrinted, number_contents}
-use Rattle.der_core.specs.Reading.{AllocatesBehind, AllocatesIn, Begins, FaultOrMemory, NoValueOrMemory}
-use Rattle.der_core.specs.Readings.{FrontReading}
-use Rattle.der_core.specs.Tlv.{Tlv, tlv}
-use Rattle.pkcs1.specs.Allocating.{AllocatesForKey, AllocatesInNumbers, AllocatesInOther, AllocatesInOthers}
-use Rattle.pkcs1.specs.Allocating.{NumberPrints, OthersFollow, VersionPrints}
-use Rattle.pkcs1.specs.KeyReadings.{key_from}
-use Rattle.pkcs1.specs.Keys.{OtherPrime, PrivateKey, front_parts, key_numbers}
-use Rattle.pkcs1.specs.Laws.PrintedNumbers.{integer_law}
-use Rattle.pkcs1.specs.Laws.PrintedPrivateKeys.{front_law, read_valid}
-use Rattle.pkcs1.specs.Laws.StatedPrivateKeys.{key_back, private_spelled}
-use Rattle.pkcs1.specs.PrintedKeys.{others_as}
-use Rattle.pkcs1.specs.Printing.{AnyNumber, FrontPrints, OtherPrints, PrivateIsValid, PrivateSpells, front_printed}
-use Rattle.pkcs1.specs.Printing.{others_printed, private_printed}
-use Rattle.pkcs1.specs.StatedKeys.{other_from, private_from}
+use Rattle.der_core.specs.Words.{tlv_recast, tlv_not_empty, tlv_split, parts_ask_none, tlv_fit, tlv_is, tlv_made, prints_one, limit, AllocatesInParts, ReadsFrontPrinted, number_contents, AllocatesBehind, AllocatesIn, Begins, FaultOrMemory, NoValueOrMemory, FrontReading, Tlv, tlv}
+use Rattle.pkcs1.specs.Words.{AllocatesForKey, AllocatesInNumbers, AllocatesInOther, AllocatesInOthers, NumberPrints, OthersFollow, VersionPrints, key_from, OtherPrime, PrivateKey, front_parts, key_numbers, integer_law, front_law, read_valid, key_back, private_spelled, others_as, AnyNumber, FrontPrints, OtherPrints, PrivateIsValid, PrivateSpells, front_printed, others_printed, private_printed, other_from, private_from}
 use Rattle.standard.specs.Statement as standard
 use Rattle.standard.specs.Statement.{integer}
 

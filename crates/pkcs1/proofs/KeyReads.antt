@@ -1,21 +1,17 @@
--- Reading a private key: what is in front of its other primes, and these.
-use Rattle.std.proofs.Common.{◌≡◌, ℕ, List, [], refl, ap, ◌∙◌, inl, inr, ⊎_elim, Option, Some, None, Ok}
-use Rattle.std.proofs.Common.{Err}
+-- Reading keys: a private one part by part, faults, what calls decode. A key has one encoding.
+use Rattle.std.proofs.Common.{◌≡◌, ℕ, List, [], refl, ap, ◌∙◌, inl, inr, ⊎_elim, Option, Some, None, Ok, Err, subst, Result, IfOk, IfErr, ◌++◌, ◌≤◌, length, sym, arith, append-nil}
 use Rattle.der_core.specs.declared.error.ErrorKind.{ErrorKind}
-use Rattle.der_core.specs.Encodings.{AreBytes}
-use Rattle.der_core.specs.Input.{Input, left_in, read_from}
-use Rattle.der_core.specs.Reading.{Asks, HoldsBytes}
-use Rattle.der_core.specs.Laws.Printed.Values.{reads_front}
-use Rattle.der_core.specs.Printed.{ReadsFrontAlike, ReadsFrontPrinted}
-use Rattle.der_core.specs.Readings.{FrontReading, ◌>>=◌, made}
+use Rattle.der_core.specs.Words.{AreBytes, Input, left_in, read_from, Asks, HoldsBytes, reads_front, ReadsFrontAlike, ReadsFrontPrinted, FrontReading, ◌>>=◌, made, tagged_law, made_tells, tagged, whole, ok_of, value_in, FaultOrMemory, Reading, prints_one, limit, PrintsOne}
 use Rattle.der_core.proofs.ReadSteps.{Fails}
-use Rattle.pkcs1.specs.Allocating.{AllocatesInKey}
-use Rattle.pkcs1.specs.KeyReadings.{front_read, key_from, others_read, private_key_read}
-use Rattle.pkcs1.specs.Keys.{Eight, OtherPrime}
-use Rattle.pkcs1.specs.Laws.KeysAlike.{fronts_alike}
-use Rattle.pkcs1.specs.Laws.PrintedPrivateKeys.{front_law}
-use Rattle.pkcs1.specs.Versions.{number_of}
+use Rattle.pkcs1.specs.Words.{AllocatesInKey, front_read, key_from, others_read, private_key_read, Eight, OtherPrime, fronts_alike, front_law, number_of, number, private_key, public_key_read, rsa_private_key, rsa_public_key, integer_law, private_law, public_law, private_stated, public_stated, Rejects, AreDelimited, public_encoding, key_back, private_encoding, private_spelled, private_as, AnyNumber, PrivateIsValid, PublicIsValid, private_from, public_from}
 use Rattle.pkcs1.specs.declared.version.Version.{Version}
+use Rattle.der_core.specs.Tags as tags
+use Rattle.pkcs1_params.specs.Words.{FaultsTell, ErrsAs, ErrsOrAsks}
+use Rattle.pkcs1_params.proofs.Faults.{whole_tells}
+use Rattle.pkcs1_params.specs.declared.error.Error.{Error}
+use Rattle.pkcs1_params.specs.declared.error.Error.TheVariants as error
+use Rattle.standard.specs.Statement.{Decodes, AtMostOne, PrivateKey, PrivateKeyEncoding, PublicKey, PublicKeyEncoding, SameByShortest}
+use Rattle.pkcs1_params.proofs.Masks.{same_by_shortest}
 
 -- What a version and eight numbers mean.
 abbrev pub front_of : {U V : Type 0} → (U → V) → Version → Eight U (Unit {0}) → ℕ × Eight V (Unit {0})
@@ -86,3 +82,116 @@ module _ {S V : Type 0} {valid : S → Type 0} {printed : S → List ℕ} {spell
         ⊎_elim (λ w. inl (w.0, inr (front, (s.0, g.0, s.2, rw g.2 at w.1, s.1))))
             (λ f. inr (others_fault at e front i mid gives f)) fails.1,
       )
+
+-- The faults of keys are about the bytes.
+pub public_tells : FaultsTell rsa_public_key
+public_tells bytes k e =
+    made_tells public_stated (whole (tagged tags.sequence (public_key_read number)) bytes)
+    (whole_tells (tagged_law (public_law integer_law) tags.sequence) bytes k) e
+
+pub private_tells : FaultsTell rsa_private_key
+private_tells bytes k e =
+    made_tells private_stated (private_key number bytes)
+    (whole_tells (tagged_law (private_law integer_law) tags.sequence) bytes k) e
+
+-- What a call returned decodes, since what the function of the bytes gives does.
+
+-- What is made of a value that a function gives; and its faults.
+module _ {V W : Type 0} (make : V → W) (read : Reading V) (bytes : List ℕ) where
+  pub made_ok : (v : V) → read bytes ≡ Ok v → made make read bytes ≡ Ok (make v)
+  made_ok v is = ap (λ r. r >>= λ v. Ok (make v)) is
+
+  pub made_fault : (k : ErrorKind) → read bytes ≡ Err k → made make read bytes ≡ Err k
+  made_fault k is = ap (λ r. r >>= λ v. Ok (make v)) is
+
+  pub made_faulty : (k : ErrorKind) (asked : Type 0) → FaultOrMemory k asked (read bytes ≡ Err k)
+      → FaultOrMemory k asked (made make read bytes ≡ Err k)
+  made_faulty k asked (inl w) = inl w
+  made_faulty k asked (inr f) = inr (made_fault k f)
+
+-- What the function of the bytes gives, and what a call returned that gives the same.
+module _ {W : Type 0} (Encoding : W → List ℕ → Type 0) (read : Reading W) (bytes : List ℕ)
+    (decodes : Decodes Encoding bytes (value_in (read bytes))) where
+  given : (r : Result W ErrorKind) → read bytes ≡ r → Decodes Encoding bytes (value_in r)
+  given r is = subst (λ g. Decodes Encoding bytes (value_in g)) is decodes
+
+  module _ {X : Type 0} (held : X → W) where
+    pub decoded : (r : Result X Error) → ErrsAs held (read bytes) r → Decodes Encoding bytes (ok_of held r)
+    decoded (Ok x) e = given (Ok (held x)) e
+    decoded (Err (error.Asn1 a)) e = given (Err a.kind) e
+    decoded (Err error.Crypto) e = absurd e
+    decoded (Err error.KeyMalformed) e = absurd e
+    decoded (Err error.Version) e = absurd e
+
+    -- The same of a call that may ask for memory.
+    module _ (asked : Type 0) where
+      pub decoded_ok : (r : Result X Error) → ErrsOrAsks held (read bytes) asked r
+          → IfOk r (λ x. Decodes Encoding bytes (Some (held x)))
+      decoded_ok (Ok x) e = given (Ok (held x)) e
+      decoded_ok (Err e) p = tt
+
+      pub decoded_err : FaultsTell read → (r : Result X Error) → ErrsOrAsks held (read bytes) asked r
+          → IfErr r (Rejects Encoding bytes asked)
+      decoded_err tells (Ok x) p = tt
+      decoded_err tells (Err (error.Asn1 a)) (inl w) = inl w
+      decoded_err tells (Err (error.Asn1 a)) (inr f) = inr (tells bytes a.kind f, given (Err a.kind) f)
+      decoded_err tells (Err error.Crypto) p = p
+      decoded_err tells (Err error.KeyMalformed) p = p
+      decoded_err tells (Err error.Version) p = p
+
+-- A key has one encoding, and an encoding is that of one key.
+pub public_one : AtMostOne PublicKeyEncoding
+public_one v a b p q = p.1 ∙ sym q.1
+
+pub private_one : AtMostOne PrivateKeyEncoding
+private_one v a b p q = p.2 ∙ sym q.2
+
+-- A whole encoding is that of one spelling, and no beginning of another.
+pub one_spelling : {S : Type 0} (valid : S → Type 0) (printed : S → List ℕ) → PrintsOne valid printed → (s t : S)
+    → valid s → valid t → (bytes rest : List ℕ) → length (bytes ++ rest) ≤ limit → bytes ≡ printed s
+    → bytes ++ rest ≡ printed t → (s ≡ t) × (rest ≡ [])
+one_spelling valid printed one s t p q bytes rest few is same =
+    let whole : printed s ++ rest ≡ printed t ++ [] =
+    ap (λ b. b ++ rest) (sym is) ∙ same ∙ sym (append-nil (printed t)) in
+    one s t rest [] p q (omega (arith, few, ap (λ b. length (b ++ rest)) is)) whole
+
+public_follow : (v w : PublicKey) (bytes rest : List ℕ) → PublicKeyEncoding v bytes
+    → PublicKeyEncoding w (bytes ++ rest)
+    → (v ≡ w) × (rest ≡ [])
+public_follow v w bytes rest p q =
+    let one =
+    one_spelling (PublicIsValid AnyNumber) public_encoding
+    (prints_one (tagged_law (public_law integer_law) tags.sequence)) (public_from v) (public_from w) (tt, (tt, tt))
+    (tt, (tt, tt)) bytes rest q.0 p.1 q.1 in
+    (ap public_stated one.0, one.1)
+
+private_follow : (v w : PrivateKey) (bytes rest : List ℕ) → PrivateKeyEncoding v bytes
+    → PrivateKeyEncoding w (bytes ++ rest)
+    → (v ≡ w) × (rest ≡ [])
+private_follow v w bytes rest p q =
+    let spelled = λ (key : PrivateKey) (b : List ℕ) (is : PrivateKeyEncoding key b).
+    let stated = subst (λ k. PrivateKeyEncoding k b) (sym (key_back key)) is in
+    ((private_spelled (private_from key) b).1 stated).1 in
+    let a = spelled v bytes p in
+    let b = spelled w (bytes ++ rest) q in
+    let one =
+    one_spelling (PrivateIsValid AnyNumber) private_encoding
+    (prints_one (tagged_law (private_law integer_law) tags.sequence)) a.0 b.0 a.2 b.2 bytes rest q.0 a.3 b.3 in (
+      sym (key_back v)
+          ∙ ap private_stated (sym a.1 ∙ ap (private_as (λ n. n)) one.0 ∙ b.1)
+          ∙ key_back w,
+      one.1,
+    )
+
+pub public_delimited : AreDelimited PublicKeyEncoding
+public_delimited = (λ v p. let never = p.1 in cc, public_follow)
+
+pub private_delimited : AreDelimited PrivateKeyEncoding
+private_delimited = (λ v p. let never = p.2 in cc, private_follow)
+
+-- So two encodings mean the same key exactly if their keys have the same encoding.
+pub public_same : SameByShortest PublicKeyEncoding
+public_same = same_by_shortest PublicKeyEncoding public_delimited
+
+pub private_same : SameByShortest PrivateKeyEncoding
+private_same = same_by_shortest PrivateKeyEncoding private_delimited

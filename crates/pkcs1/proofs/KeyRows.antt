@@ -3,19 +3,12 @@ use Rattle.std.proofs.Common.{ℕ, List, [], ◌∷◌, map, ◌≡◌, ◌<◌,
 use Rattle.std.specs.List.{AllByRecursion}
 use Rattle.std.specs.declared.alloc.Global.{Global}
 use Rattle.std.specs.declared.vec.Vec.{Vec}
-use Rattle.der_core.specs.BackWriters.{Prepends}
-use Rattle.der_core.specs.Length.{limit}
-use Rattle.der_core.specs.Writing.{Appends, Counts}
+use Rattle.der_core.specs.Words.{Prepends, limit, Appends, Counts}
 use Rattle.der_core.specs.declared.back_writer.BackWriter.{BackWriter}
 use Rattle.der_core.specs.declared.error.Error.{Error}
-use Rattle.pkcs1.specs.KeyRows.{Row, RowIsValid, row_printed, version_held}
-use Rattle.pkcs1.specs.Keys.{OtherPrime, PrivateKey, private_parts, version_of}
-use Rattle.pkcs1.specs.Laws.PrintedPrivateKeys.{private_row}
-use Rattle.pkcs1.specs.PrintedKeys.{other_as, others_as}
-use Rattle.pkcs1.specs.PrivateKeyValue.{ListsNone, other_of, others_of}
+use Rattle.pkcs1.specs.Words.{Row, RowIsValid, row_printed, version_held, OtherPrime, PrivateKey, private_parts, version_of, private_row, other_as, others_as, ListsNone, other_of, others_of, AreSome, OtherIsValid, PrivateIsValid, primes_printed, private_printed}
 use Rattle.pkcs1.specs.declared.private_key.other_prime_info.OtherPrimeInfo.{OtherPrimeInfo}
-use Rattle.pkcs1.specs.Printing.{AreSome, OtherIsValid, PrivateIsValid, primes_printed, private_printed}
-use Rattle.pkcs1_params.proofs.Written.{appends_as, counts_as}
+use Rattle.pkcs1_params.proofs.Masks.{appends_as, counts_as}
 use Rattle.standard.specs.Statement.{sequence}
 
 -- The version that is written.

@@ -1,27 +1,11 @@
 -- The other primes that an iterator has left: how many, and the first one.
-use Rattle.std.proofs.Common.{◌≡◌, ℕ, ◌-◌, ◌<◌, List, [], ◌∷◌, length, map, sym, ap, ◌∙◌, arith, drop, take, take_all}
-use Rattle.std.proofs.Common.{Some, None, Ok, false}
-use Rattle.std.proofs.lemmas.Bool.Decides.{nat_tests}
+use Rattle.std.proofs.Common.{◌≡◌, ℕ, ◌-◌, ◌<◌, List, [], ◌∷◌, length, map, sym, ap, ◌∙◌, arith, drop, take, take_all, Some, None, Ok, false, nat_lt, refl}
+use Rattle.der_core.specs.Words.{nat_tests, AreBytes, Input, front_of, read_from, ok_pair, HoldsBytes}
 use Rattle.std.proofs.lemmas.Grind.{common_steps}
 use Rattle.std.proofs.lemmas.List.{length-map}
-use Rattle.std.specs.Prelude.{nat_lt, refl}
-use Rattle.der_core.specs.Encodings.{AreBytes}
-use Rattle.der_core.specs.Input.{Input, front_of, read_from}
-use Rattle.der_core.specs.Laws.Input.{ok_pair}
-use Rattle.der_core.specs.Reading.{HoldsBytes}
 use Rattle.der_core.proofs.ReadSteps.{Gives, some_same}
-use Rattle.pkcs1.specs.Held.{held_other_primes, primes_encoded}
-use Rattle.pkcs1.specs.KeyReadings.{number, primes_read}
-use Rattle.pkcs1.specs.Keys.{OtherPrime}
-use Rattle.pkcs1.specs.Laws.ItemSteps.{item_shorter}
-use Rattle.pkcs1.specs.Laws.PrintedNumbers.{integer_law}
-use Rattle.pkcs1.specs.Laws.PrintedRows.{primes_law}
-use Rattle.pkcs1.specs.Laws.StatedPrivateKeys.{listed_printed}
+use Rattle.pkcs1.specs.Words.{held_other_primes, primes_encoded, number, primes_read, OtherPrime, item_shorter, integer_law, primes_law, listed_printed, held_behind, held_read, next_law, next_some, one_held, next_prime, others_left, others_left-is, other_stated}
 use Rattle.std.specs.List.{concat}
-use Rattle.pkcs1.specs.Laws.PrimesHeld.{held_behind, held_read, next_law, next_some, one_held}
-use Rattle.pkcs1.specs.OtherPrimesHeld.{next_prime}
-use Rattle.pkcs1.specs.OtherPrimesLeft.{others_left, others_left-is}
-use Rattle.pkcs1.specs.StatedKeys.{other_stated}
 use Rattle.pkcs1.specs.declared.other_primes.OtherPrimes.{OtherPrimes}
 
 pub held_length : (primes : OtherPrimes) → length (others_left primes) ≡ length (held_other_primes primes)

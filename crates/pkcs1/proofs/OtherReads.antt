@@ -1,23 +1,13 @@
 -- Reading the other primes of a private key, whatever holds them.
-use Rattle.std.proofs.Common.{◌≡◌, ◌↔◌, ℕ, ◌==◌, List, [], ◌∷◌, length, refl, sym, ap, ◌∙◌, arith, Option, inr}
-use Rattle.std.proofs.Common.{Some, None, Ok, Err, Bool, true, false, IsTrue, is_some}
-use Rattle.std.proofs.lemmas.Bool.Decides.{nat_tests}
-use Rattle.std.specs.Prelude.{if◌then◌else◌, not, ◌≤◌, slice_index_or, Result}
-use Rattle.std.specs.Option.{option_map}
+use Rattle.std.proofs.Common.{◌≡◌, ◌↔◌, ℕ, ◌==◌, List, [], ◌∷◌, length, refl, sym, ap, ◌∙◌, arith, Option, inr, Some, None, Ok, Err, Bool, true, false, IsTrue, is_some, if◌then◌else◌, not, ◌≤◌, slice_index_or, Result, option_map}
+use Rattle.der_core.specs.Words.{nat_tests, Input, read_from, end_of, ok_pair, bind_ok, ok_same, FrontReading, ◌>>=◌, alone, ended, optional, tagged, integer, sequence}
 use mathlib.Core.Bool.{beq}
 use Rattle.der_core.specs.declared.error.ErrorKind.{ErrorKind}
 use Rattle.der_core.specs.declared.error.ErrorKind.TheVariants as kind
-use Rattle.der_core.specs.Input.{Input, read_from, end_of}
-use Rattle.der_core.specs.Laws.Input.{ok_pair}
-use Rattle.der_core.specs.Laws.Readings.{bind_ok, ok_same}
-use Rattle.der_core.specs.Readings.{FrontReading, ◌>>=◌, alone, ended, optional, tagged}
-use Rattle.der_core.specs.Tags.{integer, sequence}
 use Rattle.der_core.proofs.ReadSteps.{Fails, Gives, chain_from}
 use Rattle.pkcs1.specs.declared.version.Version.{Version}
 use Rattle.pkcs1.specs.declared.version.Version.TheVariants.{TwoPrime, Multi}
-use Rattle.pkcs1.specs.KeyReadings.{agreed, lists_none, others_read, primes_read}
-use Rattle.pkcs1.specs.Keys.{OtherPrime, version_of}
-use Rattle.pkcs1.specs.Versions.{number_of}
+use Rattle.pkcs1.specs.Words.{agreed, lists_none, others_read, primes_read, OtherPrime, version_of, number_of}
 
 -- All of some bytes are a list that isn't empty.
 pub others_taken : {V : Type 0} (at : FrontReading V) (b : List ℕ) (primes : List (OtherPrime V)) → 1 ≤ length b

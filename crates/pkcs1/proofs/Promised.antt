@@ -1,15 +1,11 @@
 -- What is written of a value and why it isn't, in the words of `Statement.antt`; and of a value that another one stands
 -- for.
-use Rattle.std.proofs.Common.{ℕ, List, ◌≡◌, ◌⊎◌, sym, ap, ◌∙◌, inl, inr}
-use Rattle.std.specs.Prelude.{◌↔◌}
-use Rattle.der_core.specs.Document.{EncodeError, no_encoding, too_long, no_room, another, WhyNotCounted, WhyNotWritten}
+use Rattle.std.proofs.Common.{ℕ, List, ◌≡◌, ◌⊎◌, sym, ap, ◌∙◌, inl, inr, ◌↔◌}
+use Rattle.der_core.specs.Words.{EncodeError, no_encoding, too_long, no_room, another, WhyNotCounted, WhyNotWritten, written_prints, Prints, Spells, WritesShortest, IsOutOfMemory, WhyOctetsNotCounted, encode_error}
 use Rattle.der_core.specs.Document as documents
-use Rattle.der_core.specs.Laws.Printed.Values.{written_prints}
-use Rattle.der_core.specs.Printed.{Prints, Spells, WritesShortest}
-use Rattle.der_core.specs.Writing.{IsOutOfMemory, WhyOctetsNotCounted, encode_error}
 use Rattle.der_core.specs.declared.error.ErrorKind.{ErrorKind}
 use Rattle.der_core.specs.declared.error.ErrorKind.TheVariants.{OutOfMemory}
-use Rattle.pkcs1.specs.KeyEncodings.{Unmade, Withholds}
+use Rattle.pkcs1.specs.Words.{Unmade, Withholds}
 use Rattle.pkcs1_params.specs.declared.error.Error.{Error}
 use Rattle.pkcs1_params.specs.declared.error.Error.TheVariants as error
 use Rattle.standard.specs.Statement.{IsShortest}

@@ -1,8 +1,7 @@
 -- What keys hold, in the words of `Statement.antt`. `octets` gives the octets of a number, the highest first.
 use Rattle.std.specs.Prelude.{ℕ, List, [], ◌∷◌, ◌≡◌, ◌<◌, length, map, Option, Some, None}
-use Rattle.std.specs.Int.Digits.{number_from_digits}
+use Rattle.der_core.specs.Words.{number_from_digits, bytes_of}
 use Rattle.std.specs.List.{concat}
-use Rattle.der_core.specs.UintRefValue.{bytes_of}
 use Rattle.pkcs1.specs.OtherPrimesLeft.{others_left}
 use Rattle.pkcs1.specs.PrivateKeyValue.{Listed, key_with, other_of, private_key_with}
 use Rattle.pkcs1.specs.StatedKeys.{other_stated, private_stated}

@@ -1,12 +1,7 @@
 -- Keys as functions of the bytes (RFC 8017 A.1.1, A.1.2): the key, or the kind of the first fault.
-use Rattle.std.specs.Prelude.{ℕ, Bool, true, false, List, [], ◌∷◌, ◌==◌, nat_lt, if◌then◌else◌, Option, Some, None}
-use Rattle.std.specs.Prelude.{Err}
+use Rattle.std.specs.Prelude.{ℕ, Bool, true, false, List, [], ◌∷◌, ◌==◌, nat_lt, if◌then◌else◌, Option, Some, None, Err}
 use Rattle.der_core.specs.declared.error.ErrorKind.TheVariants.{Value}
-use Rattle.der_core.specs.IntegerReading.{small_of}
-use Rattle.der_core.specs.Printed.{number_of}
-use Rattle.der_core.specs.Readings.{FrontReading, Reading, chain, ended, front_done, front_parts, items, made}
-use Rattle.der_core.specs.Readings.{no_parts, optional, parts, such, tagged, whole}
-use Rattle.der_core.specs.Tags.{integer, sequence}
+use Rattle.der_core.specs.Words.{small_of, number_of, FrontReading, Reading, chain, ended, front_done, front_parts, items, made, no_parts, optional, parts, such, tagged, whole, integer, sequence}
 use Rattle.pkcs1.specs.Keys.{Eight, OtherPrime, PrivateKey, PublicKey, version_of}
 use Rattle.pkcs1.specs.StatedKeys.{private_stated, public_stated}
 pub use Rattle.pkcs1_params.specs.Meanings.{fault_in}

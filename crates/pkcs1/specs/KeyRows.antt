@@ -1,7 +1,6 @@
 -- The row of parts that a private key is written as, by what its numbers and its other primes mean.
-use Rattle.std.specs.Prelude.{ℕ, List, ◌<◌, Option, Some, None}
-use Rattle.std.specs.Option.{option_map}
-use Rattle.der_core.specs.Printed.{row}
+use Rattle.std.specs.Prelude.{ℕ, List, ◌<◌, Option, Some, None, option_map}
+use Rattle.der_core.specs.Words.{row}
 use Rattle.der_core.specs.declared.borrowed.Borrowed.{Borrowed}
 use Rattle.pkcs1.specs.Keys.{Eight, Three}
 use Rattle.pkcs1.specs.declared.private_key.PrivateKeyOf.{PrivateKeyOf}

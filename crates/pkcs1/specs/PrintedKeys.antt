@@ -1,6 +1,5 @@
 -- Keys whose numbers mean others.
-use Rattle.std.specs.Prelude.{ℕ, List, Option, None, map}
-use Rattle.std.specs.Option.{option_map}
+use Rattle.std.specs.Prelude.{ℕ, List, Option, None, map, option_map}
 use Rattle.pkcs1.specs.KeyReadings.{key_from}
 use Rattle.pkcs1.specs.Keys.{CrtRow, Eight, OtherPrime, PrivateKey, PublicKey, eight_numbers}
 

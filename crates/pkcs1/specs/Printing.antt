@@ -1,10 +1,9 @@
 -- RSA keys as they stand in the bytes, over numbers of any type: which ones are valid, and what is printed of them.
 use Rattle.std.specs.Prelude.{ℕ, List, ◌++◌, ◌<◌, length, map, ◌↔◌, Option, None}
 use Rattle.std.specs.List.{AllByRecursion, concat}
-use Rattle.der_core.specs.Printed.{Prints, Spells, row}
+use Rattle.der_core.specs.Words.{Prints, Spells, row}
 use Rattle.pkcs1.specs.KeyReadings.{key_from}
-use Rattle.pkcs1.specs.Keys.{CrtRow, Eight, OtherPrime, PrivateKey, PublicKey, crt_parts, key_numbers, other_numbers}
-use Rattle.pkcs1.specs.Keys.{public_numbers, version_of}
+use Rattle.pkcs1.specs.Keys.{CrtRow, Eight, OtherPrime, PrivateKey, PublicKey, crt_parts, key_numbers, other_numbers, public_numbers, version_of}
 use Rattle.pkcs1.specs.PrintedKeys.{front_as, other_as, private_as}
 use Rattle.standard.specs.Statement.{IfPresent, integer, optional, sequence}
 

@@ -1,6 +1,5 @@
 -- Keys of numbers, as those of the statement.
-use Rattle.std.specs.Prelude.{ℕ, map}
-use Rattle.std.specs.Option.{option_map}
+use Rattle.std.specs.Prelude.{ℕ, map, option_map}
 use Rattle.pkcs1.specs.Keys.{OtherPrime, PrivateKey, PublicKey}
 use Rattle.standard.specs.Statement as standard
 

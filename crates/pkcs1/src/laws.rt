@@ -1,11 +1,9 @@
 //! Laws of the grammars of keys and parameters: functions that do nothing, each with a law as its contract.
 ghost use Rattle.std.specs.Prelude.{◌≡◌, ℕ, List, true, false};
-ghost use Rattle.pkcs1.specs.Words.{AreDelimited, AreStated, held_other_primes, held_public_key, held_view};
-ghost use Rattle.pkcs1.specs.Words.{private_stated, public_stated, rsa_private_key, rsa_public_key};
+ghost use Rattle.pkcs1.specs.Words.{AreDelimited, AreStated, held_other_primes, held_public_key, held_view, private_stated, public_stated, rsa_private_key, rsa_public_key};
 ghost use Rattle.der_core.specs.Words.{AreBytes, Excludes, bytes_of, value_in};
 ghost use Rattle.pkcs1_params.specs.Words.{FaultsTell, oaep_of, pss_of};
-ghost use Rattle.standard.specs.Statement.{AtMostOne, Decodes, PrivateKeyEncoding, PublicKeyEncoding, SameByShortest};
-ghost use Rattle.standard.specs.Statement.{OaepEncoding, PssEncoding};
+ghost use Rattle.standard.specs.Statement.{AtMostOne, Decodes, PrivateKeyEncoding, PublicKeyEncoding, SameByShortest, OaepEncoding, PssEncoding};
 ghost use Rattle.der_core.specs.declared.error.ErrorKind as kinds;
 ghost use Rattle.der_core.specs.declared.integer.uint.UintRef as numbers;
 ghost use Rattle.spki_core.specs.Words.{any_of};

@@ -1,9 +1,7 @@
 //! RSA private keys.
 ghost use Rattle.std.specs.Prelude.{◌≡◌, ◌↔◌, ⊤, IsSome, IsErrAnd, refl};
 ghost use Rattle.der_core.specs.Words.{Appends, Counts, bytes_of, sequence};
-ghost use Rattle.pkcs1.specs.Words.{AllocatesForKey, ListsNone, PrivateIsValid, PrivateKey, held_private_key};
-ghost use Rattle.pkcs1.specs.Words.{held_public_key, private_alike, private_as, private_key_read, private_key_with};
-ghost use Rattle.pkcs1.specs.Words.{private_law, private_printed, private_shortest, public_part};
+ghost use Rattle.pkcs1.specs.Words.{AllocatesForKey, ListsNone, PrivateIsValid, PrivateKey, held_private_key, held_public_key, private_alike, private_as, private_key_read, private_key_with, private_law, private_printed, private_shortest, public_part};
 
 mod der;
 pub(crate) mod other_prime_info;

@@ -1,10 +1,8 @@
-//! RSA public keys. `try_from` reads one: `from_der` of `der_core`, of the row of parts that `InParts` names. `traits.rt`
-//! has the calls for owned keys.
+//! RSA public keys. `try_from` reads one. It calls `from_der` of `der_core/src/decode.rt`. `record.rt` and `parts.rt` there
+//! read the row of parts that `InParts` names. `traits.rt` has the calls for owned keys.
 ghost use Rattle.std.specs.Prelude.{refl};
 ghost use Rattle.der_core.specs.Words.{made_errs};
-ghost use Rattle.pkcs1.specs.Words.{PublicIsValid, PublicKey, of_public_parts, public_alike, public_as};
-ghost use Rattle.pkcs1.specs.Words.{public_key_read, public_key_with, public_law, public_once, public_printed};
-ghost use Rattle.pkcs1.specs.Words.{public_shortest};
+ghost use Rattle.pkcs1.specs.Words.{PublicIsValid, PublicKey, of_public_parts, public_alike, public_as, public_key_read, public_key_with, public_law, public_once, public_printed, public_shortest};
 
 use der_core::{
     BackWriter, Borrowed, Contents, Decode, Encode, EncodeInParts, EncodeValue, Encoding,

@@ -1,7 +1,6 @@
 //! Keys that are decoded and encoded again.
 ghost use Rattle.std.specs.Prelude.{◌≡◌, ◌⊎◌, IfOk, IfErr};
-ghost use Rattle.pkcs1.specs.Words.{OwnedKeyAllocates, OwnedPublicKeyAllocates, kept, rsa_private_key, rsa_public_key};
-ghost use Rattle.pkcs1.specs.Words.{IsEncoded, Rejects};
+ghost use Rattle.pkcs1.specs.Words.{OwnedKeyAllocates, OwnedPublicKeyAllocates, kept, rsa_private_key, rsa_public_key, IsEncoded, Rejects};
 ghost use Rattle.pkcs1_params.specs.Words.{ErrsOrAsks};
 ghost use Rattle.der_core.specs.Words.{encoding_of};
 ghost use Rattle.standard.specs.Statement.{PrivateKeyEncoding, PublicKeyEncoding};

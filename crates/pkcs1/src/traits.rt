@@ -1,10 +1,8 @@
 //! Traits for keys of any type: PKCS #1 encodings decoded and written, in memory and in files.
 ghost use Rattle.std.specs.Prelude.{◌≡◌, ◌⊎◌, ⊤, List, ℕ, Err, IfOk, IfErr, OnOk, IsErrAnd, Some};
 ghost use Rattle.std.specs.Path.{path_bytes};
-ghost use Rattle.der_core.specs.Words.{FileFault, FileGives, FileRefuses, FileTakes, IsDocument, encoding_of};
-ghost use Rattle.der_core.specs.Words.{FaultOrMemory, IsFile, sequence, bytes_of, own_bytes_of};
-ghost use Rattle.pkcs1.specs.Words.{OwnedKeyAllocates, OwnedPublicKeyAllocates, rsa_private_key, rsa_public_key};
-ghost use Rattle.pkcs1.specs.Words.{IsPrivateKey, ListsNone, Rejects, Withholds, held_private_key, held_public_key};
+ghost use Rattle.der_core.specs.Words.{FileFault, FileGives, FileRefuses, FileTakes, IsDocument, encoding_of, FaultOrMemory, IsFile, sequence, bytes_of, own_bytes_of};
+ghost use Rattle.pkcs1.specs.Words.{OwnedKeyAllocates, OwnedPublicKeyAllocates, rsa_private_key, rsa_public_key, IsPrivateKey, ListsNone, Rejects, Withholds, held_private_key, held_public_key};
 ghost use Rattle.pkcs1_params.specs.Words.{ErrsOrAsks, IsAsn1};
 ghost use Rattle.standard.specs.Statement.{Decodes, IsShortest, PrivateKeyEncoding, PublicKeyEncoding};
 ghost use Rattle.pkcs1_params.specs.declared.error.Error.{Error};

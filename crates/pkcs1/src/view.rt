@@ -1,11 +1,7 @@
 //! RSA private keys over the input, without a list of their other primes.
-ghost use Rattle.std.specs.Prelude.{◌≡◌, ℕ, IsTrue, IsSome, IfOk, IfSome, Ok, Some, ◌↔◌};
-ghost use Rattle.std.specs.Option.{option_map};
+ghost use Rattle.std.specs.Prelude.{◌≡◌, ℕ, IsTrue, IsSome, IfOk, IfSome, Ok, Some, ◌↔◌, option_map};
 ghost use Rattle.der_core.specs.Words.{ReadsWhole, alike, bytes_of, one_spelling};
-ghost use Rattle.pkcs1.specs.Words.{AnyNumber, HoldsNone, PrivateIsValid, PrivateKey, held_other_primes};
-ghost use Rattle.pkcs1.specs.Words.{held_public_key, held_view, integer_law, key_with, listed_others, number};
-ghost use Rattle.pkcs1.specs.Words.{number_in, number_of, others_left, others_read, private_key_read, private_law};
-ghost use Rattle.pkcs1.specs.Words.{private_printed, public_part, rsa_private_key, viewed_encoding};
+ghost use Rattle.pkcs1.specs.Words.{AnyNumber, HoldsNone, PrivateIsValid, PrivateKey, held_other_primes, held_public_key, held_view, integer_law, key_with, listed_others, number, number_in, number_of, others_left, others_read, private_key_read, private_law, private_printed, public_part, rsa_private_key, viewed_encoding};
 ghost use Rattle.standard.specs.Statement as standard;
 
 use crate::key_numbers::{KeyFront, key_of};

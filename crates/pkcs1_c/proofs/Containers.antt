@@ -1,32 +1,17 @@
 -- Containers: why one isn't read or written: one status at most.
-use Rattle.std.proofs.Common.{ℕ, List, ◌≡◌, ◌∙◌, ap, arith, false, inl, inr, length, subst, sym, ⊎_elim}
-use Rattle.std.proofs.lemmas.Bool.Decides.{nat_tests}
-use Rattle.std.specs.Prelude.{Err, Ok, if◌then◌else◌, nat_lt}
-use Rattle.der_core.specs.Laws.Printed.Rows.{alone_law, tagged_law}
-use Rattle.der_core.specs.Printed.{Spells}
-use Rattle.der_core.specs.Laws.Readings.{bind_err}
-use Rattle.der_core.specs.Length.{limit}
-use Rattle.der_core.specs.Reading.{TellsOfBytes}
-use Rattle.der_core.specs.Readings.{alone, tagged, whole, ◌>>=◌}
+use Rattle.std.proofs.Common.{ℕ, List, ◌≡◌, ◌∙◌, ap, arith, false, inl, inr, length, subst, sym, ⊎_elim, Err, Ok, if◌then◌else◌, nat_lt}
+use Rattle.der_core.specs.Words.{nat_tests, alone_law, tagged_law, Spells, bind_err, limit, TellsOfBytes, alone, tagged, whole, ◌>>=◌}
 use Rattle.der_core.specs.Tags as tags
 use Rattle.der_core.specs.declared.error.ErrorKind.{ErrorKind}
 use Rattle.der_core.specs.declared.error.ErrorKind.TheVariants.{Overflow}
-use Rattle.pkcs1.specs.KeyReadings.{number, private_key_read, rsa_private_key}
-use Rattle.pkcs1.specs.Laws.PrintedNumbers.{integer_law}
-use Rattle.pkcs1.specs.Laws.PrintedPrivateKeys.{private_law}
-use Rattle.pkcs1.specs.Laws.StatedPrivateKeys.{key_back, private_itself, private_spelled}
-use Rattle.pkcs1.specs.StatedKeys.{private_from, private_stated}
-use Rattle.pkcs1_params.proofs.FaultsTell.{whole_tells}
-use Rattle.pkcs8_core.proofs.RsaOnly.{key_tells}
+use Rattle.pkcs1.specs.Words.{number, private_key_read, rsa_private_key, integer_law, private_law, key_back, private_itself, private_spelled, private_from, private_stated}
+use Rattle.pkcs1_params.proofs.Faults.{whole_tells}
+use Rattle.pkcs8_core.proofs.ContainedKeys.{key_tells}
 use Rattle.pkcs8_core.specs.ContainerReadings as readings
-use Rattle.pkcs8_core.specs.ContainerReadings.{rsa_held, rsa_private_key_info}
-use Rattle.pkcs8_core.specs.Laws.PrintedContainers.{container_law}
-use Rattle.pkcs8_core.specs.PrintedContainers.{IsContainer, container_printed}
+use Rattle.pkcs8_core.specs.Words.{rsa_held, rsa_private_key_info, container_law, IsContainer, container_printed}
 use Rattle.standard.specs.Statement.{Container, ContainerEncoding, PrivateKey, PrivateKeyEncoding, sequence}
 use Rattle.pkcs1_c.specs.declared.container.PrivateKeyInfo.{PrivateKeyInfo}
-use Rattle.pkcs1_c.specs.Status.{kind_number, IsErrorNumber}
-use Rattle.pkcs1_c.specs.StructErrors.{InfoError, Unwritten}
-use Rattle.pkcs1_c.specs.Structs.{HasKey, private_key_info}
+use Rattle.pkcs1_c.specs.Words.{kind_number, IsErrorNumber, InfoError, Unwritten, HasKey, private_key_info}
 use Rattle.pkcs1_c.proofs.StructErrors.{IsOne, unwritten_one}
 
 -- Each fault of a container's RSA key is about the bytes.

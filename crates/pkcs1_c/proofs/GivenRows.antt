@@ -1,24 +1,15 @@
 -- A key that the caller passes, as the row that it is written as.
-use Rattle.std.proofs.Common.{ℕ, List, ◌≡◌, ◌≤◌, length, refl, sym, subst, ap, arith, Option, Some, None, Result}
+use Rattle.std.proofs.Common.{ℕ, List, ◌≡◌, ◌≤◌, length, refl, sym, subst, ap, arith, Option, Some, None, Result, option_map}
 use Rattle.std.proofs.lemmas.List.{length-map}
 use Rattle.std.specs.List.{AllByRecursion}
-use Rattle.std.specs.Option.{option_map}
-use Rattle.der_core.specs.BackWriters.{Prepends}
-use Rattle.der_core.specs.Length.{limit}
-use Rattle.der_core.specs.Writing.{Appends, Counts}
+use Rattle.der_core.specs.Words.{Prepends, limit, Appends, Counts}
 use Rattle.der_core.specs.declared.back_writer.BackWriter.{BackWriter}
 use Rattle.der_core.specs.declared.error.Error.{Error}
 use Rattle.pkcs1.proofs.KeyRows.{Parts, key_appended, key_counted, key_prepended, row_fits, row_room, row_valid}
-use Rattle.pkcs1.specs.Held.{number_in}
-use Rattle.pkcs1.specs.KeyRows.{Row, RowIsValid, key_row, row_as, row_printed, version_held}
-use Rattle.pkcs1.specs.Keys.{OtherPrime, version_of}
-use Rattle.pkcs1.specs.Printing.{AnyNumber, AreSome, OtherIsValid, PrivateIsValid, primes_printed, private_printed}
-use Rattle.pkcs1.specs.StatedKeys.{other_from}
+use Rattle.pkcs1.specs.Words.{number_in, Row, RowIsValid, key_row, row_as, row_printed, version_held, OtherPrime, version_of, AnyNumber, AreSome, OtherIsValid, PrivateIsValid, primes_printed, private_printed, other_from}
 use Rattle.pkcs1.specs.declared.private_key.PrivateKeyOf.{PrivateKeyOf}
 use Rattle.standard.specs.Statement.{integer, sequence}
-use Rattle.pkcs1_c.specs.GivenPrimesValue.{given_key, given_primes}
-use Rattle.pkcs1_c.specs.NumberValue.{number_of}
-use Rattle.pkcs1_c.specs.Structs.{other_prime}
+use Rattle.pkcs1_c.specs.Words.{given_key, given_primes, number_of, other_prime}
 use Rattle.pkcs1_c.specs.declared.given_number.Number.{Number}
 use Rattle.pkcs1_c.specs.declared.given_primes.GivenPrimes.{GivenPrimes}
 

@@ -1,26 +1,20 @@
--- Parameters that are held: their parts can be, and they have encodings.
-use Rattle.std.proofs.Common.{ℕ, List, ◌≡◌, arith, refl, subst}
-use Rattle.std.proofs.Common.{true, false, Option, Some, None, inl, inr}
-use Rattle.std.specs.Option.{option_map}
-use Rattle.spki_core.specs.AlgorithmValue.{viewed_with}
-use Rattle.spki_core.specs.AnyRefValue.{any_of}
-use Rattle.spki_core.specs.Laws.HaveEncodings.{viewed_held}
-use Rattle.spki_core.specs.ObjectIdentifierValue.{octets_of}
+-- Parameters that are held: their parts can be, and they have encodings. Their faults are about the bytes.
+use Rattle.std.proofs.Common.{ℕ, List, ◌≡◌, arith, refl, subst, true, false, Option, Some, None, inl, inr, option_map, ◌∙◌}
+use Rattle.spki_core.specs.Words.{viewed_with, any_of, viewed_held, octets_of, FieldRecord, record_means, record_whole, spelling_read, record_alike, record_front_law}
 use Rattle.spki_core.specs.declared.algorithm_identifier.AlgorithmIdentifierOf.{AlgorithmIdentifierOf}
 use Rattle.spki_core.specs.declared.any.AnyRef.{AnyRef}
 use Rattle.spki_core.specs.declared.identifier_view.IdentifierView.{IdentifierView}
-use Rattle.pkcs1_params.specs.OaepValue.{oaep_viewed}
-use Rattle.pkcs1_params.specs.PssValue.{pss_viewed}
+use Rattle.pkcs1_params.specs.Words.{oaep_viewed, pss_viewed, FaultsTell}
 use Rattle.pkcs1_params.specs.declared.oaep.OaepParamsOf.{OaepParamsOf}
 use Rattle.pkcs1_params.specs.declared.pss.PssParamsOf.{PssParamsOf}
-use Rattle.standard.specs.Statement.{Algorithm, IsIdentifier, OaepParameters, PssParameters, TagAndContents}
+use Rattle.standard.specs.Statement.{Algorithm, IsIdentifier, OaepParameters, PssParameters, TagAndContents, Field}
 use Rattle.pkcs1_c.specs.declared.algorithm.Algorithm as c
 use Rattle.pkcs1_c.specs.declared.algorithm.MaskGen as c_mask
-use Rattle.pkcs1_c.specs.Status.{NoStatus}
-use Rattle.pkcs1_c.specs.Structs.{algorithm_seen, mask_gen_seen}
-use Rattle.pkcs1_c.specs.StructErrors.{PartThen, OidError, AnyError, OptionError, AlgorithmError, PlainError, MaskError}
-use Rattle.pkcs1_c.specs.StructErrors.{HashFieldsThen, PssFieldError, OaepFieldError}
+use Rattle.pkcs1_c.specs.Words.{NoStatus, algorithm_seen, mask_gen_seen, PartThen, OidError, AnyError, OptionError, AlgorithmError, PlainError, MaskError, HashFieldsThen, PssFieldError, OaepFieldError}
 use Rattle.pkcs1_c.proofs.StructErrors.{part_none}
+use Rattle.der_core.specs.Words.{tagged_alike, whole_alike, made_tells, tagged, whole}
+use Rattle.der_core.specs.Tags as tags
+use Rattle.pkcs1_params.proofs.Faults.{whole_tells}
 
 abbrev AlgorithmView : Type 0 → Type 0
 AlgorithmView = AlgorithmIdentifierOf IdentifierView
@@ -89,3 +83,10 @@ module _ (oid : IdentifierView) where
   mask_rejected m s has is p =
       let q : OptionError PlainError (mask_gen_seen m).parameters s = rw has p in
       inr (oid_none m.oid.now is, q)
+
+-- The faults of parameters are about the bytes.
+pub record_tells : {V : Type 0} {Is : V → Type 0} {fields : V → List Field} (r : FieldRecord Is fields)
+    → FaultsTell (record_whole r)
+record_tells r b k e =
+    made_tells (record_means r) (whole (tagged tags.sequence (spelling_read r.kinds)) b)
+    (whole_tells (record_front_law r) b k) ((whole_alike (tagged_alike (record_alike r) tags.sequence)).same b ∙ e)

@@ -1,14 +1,9 @@
 pub mod Containers
 pub mod Fits
 pub mod GivenKeys
-pub mod GivenPrimes
 pub mod GivenRows
 pub mod HeldKeys
 pub mod HeldParameters
-pub mod Lists
-pub mod Needed
-pub mod NotWritten
-pub mod ParameterFaults
 pub mod Placing
-pub mod StructErrors
 pub mod Writes
+pub mod StructErrors

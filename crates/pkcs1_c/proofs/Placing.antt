@@ -1,24 +1,34 @@
--- Primes that are read from a list, and placed in an array.
-use Rattle.std.proofs.Common.{ℕ, List, [], ◌∷◌, ◌++◌, ◌≡◌, ◌+◌, ◌≤◌, ◌<◌, length, take, drop, map, refl, sym, ap, ◌∙◌, arith}
-use Rattle.std.proofs.Common.{Err, Ok, Result, Some, None, length-append}
+-- Other primes that are read from a list and placed in an array.
+use Rattle.std.proofs.Common.{ℕ, List, [], ◌∷◌, ◌++◌, ◌≡◌, ◌+◌, ◌<◌, length, append_assoc, map, take, drop, sym, ap, ◌∙◌, arith, set, drop-set-lt, drop-drop, ◌≤◌, refl, Err, Ok, Result, Some, None, length-append}
+use Rattle.std.proofs.lemmas.List.{map-set, take_more_set, length-map}
 use Rattle.std.proofs.lemmas.Grind.{common_steps}
-use Rattle.std.proofs.lemmas.List.{length-map}
-use Rattle.std.specs.Prelude.{set}
 use Rattle.der_core.proofs.ReadSteps.{Gives}
-use Rattle.der_core.specs.Input.{Input}
-use Rattle.der_core.specs.Length.{limit}
+use Rattle.der_core.specs.Words.{Input, limit}
 use Rattle.der_core.specs.declared.error.ErrorKind.{ErrorKind}
 use Rattle.pkcs1.proofs.OtherPrimesHeld.{front_shorter}
-use Rattle.pkcs1.specs.Held.{primes_encoded}
+use Rattle.pkcs1.specs.Words.{primes_encoded, next_law, next_prime, other_from, other_stated}
 use Rattle.pkcs1.specs.Keys as keys
-use Rattle.pkcs1.specs.Laws.PrimesHeld.{next_law}
-use Rattle.pkcs1.specs.OtherPrimesHeld.{next_prime}
-use Rattle.pkcs1.specs.StatedKeys.{other_from, other_stated}
 use Rattle.standard.specs.Statement.{OtherPrime}
-use Rattle.pkcs1_c.specs.PrimeLists.{prime_encoded}
-use Rattle.pkcs1_c.specs.Structs.{ArePlaced, numbers_of_prime, octets_of_prime}
+use Rattle.pkcs1_c.specs.Words.{prime_encoded, ArePlaced, numbers_of_prime, octets_of_prime}
 use Rattle.pkcs1_c.specs.declared.private_key.OtherPrime as struct
-use Rattle.pkcs1_c.proofs.Lists.{place_step, rest_step}
+
+-- One more is placed.
+pub place_step : {X Y : Type 0} (f : X → Y) (xs : List X) (i : ℕ) (v : X) (y : Y) (rest rest' all : List Y)
+    → i < length xs → f v ≡ y → rest ≡ y ∷ rest'
+    → take i (map f xs) ++ rest ≡ all → take (i + 1) (map f (set xs i v)) ++ rest' ≡ all
+place_step f xs i v y rest rest' all l e first is =
+    let one : take (i + 1) (map f (set xs i v)) ≡ take i (map f xs) ++ f v ∷ [] =
+    ap (take (i + 1)) (map-set f xs i v) ∙ take_more_set (map f xs) i (f v) (omega (arith, l, length-map xs f)) in
+    ap (λ t. t ++ rest') one ∙ append_assoc (take i (map f xs)) (f v ∷ []) rest'
+    ∙ (λ j. take i (map f xs) ++ e j ∷ rest') ∙ sym (ap (λ t. take i (map f xs) ++ t) first) ∙ is
+
+-- What is behind the next one is as it was.
+pub rest_step : {X : Type 0} (xs old : List X) (i : ℕ) (v : X) → drop i xs ≡ drop i old
+    → drop (i + 1) (set xs i v) ≡ drop (i + 1) old
+rest_step xs old i v e =
+    drop-set-lt (i + 1) xs i v (omega arith) ∙ sym (drop-drop 1 i xs) ∙ ap (drop 1) e ∙ drop-drop 1 i old
+
+-- Primes that are read from a list, and placed in an array.
 
 -- The first of the primes are placed, and the others are left of the list.
 pub record Placing (primes : List OtherPrime) (left : Input) (others old : List struct.OtherPrime) (i : ℕ) : Type 0 where

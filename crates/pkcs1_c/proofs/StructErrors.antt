@@ -1,19 +1,10 @@
 -- Why what a program gives isn't written: one status at most, neither 0 nor that of lack of room for a part.
-use Rattle.std.proofs.Common.{ℕ, zero, suc, List, [], ◌∷◌, ◌++◌, ◌≡◌, ◌≢◌, ◌<◌, ◌≤◌, length, take, get_or, refl}
-use Rattle.std.proofs.Common.{sym, ap, ◌∙◌, arith, Option, Some, None, inl, inr, ⊎_elim, true, false}
-use Rattle.der_core.specs.IntegerReading.{WhyNoNumber}
-use Rattle.der_core.specs.Length.{limit}
-use Rattle.der_core.specs.Laws.Printed.Leaves.{octets_canonical, octets_number}
-use Rattle.der_core.specs.SequenceOf.{AllHave}
+use Rattle.std.proofs.Common.{ℕ, zero, suc, List, [], ◌∷◌, ◌++◌, ◌≡◌, ◌≢◌, ◌<◌, ◌≤◌, length, take, get_or, refl, sym, ap, ◌∙◌, arith, Option, Some, None, inl, inr, ⊎_elim, true, false}
+use Rattle.der_core.specs.Words.{WhyNoNumber, limit, octets_canonical, octets_number, AllHave}
 use Rattle.der_core.specs.declared.error.ErrorKind.{ErrorKind}
-use Rattle.pkcs1_c.specs.Status.{NoStatus, kind_number}
-use Rattle.pkcs1_c.specs.StructErrors.{PartThen, NumberError, NumbersError, Unwritten, numbers_of_primes}
-use Rattle.pkcs1_c.specs.StructErrors.{OidError, AnyError, OptionError, AlgorithmError, PlainError, MaskError}
-use Rattle.pkcs1_c.specs.StructErrors.{HashFieldsThen, PssFieldError, OaepFieldError}
-use Rattle.pkcs1_c.specs.Structs.{HaveBytes, number, numbers_of_prime}
+use Rattle.pkcs1_c.specs.Words.{NoStatus, kind_number, PartThen, NumberError, NumbersError, Unwritten, numbers_of_primes, OidError, AnyError, OptionError, AlgorithmError, PlainError, MaskError, HashFieldsThen, PssFieldError, OaepFieldError, HaveBytes, number, numbers_of_prime}
 use Rattle.pkcs1_c.specs.declared.private_key.OtherPrime.{OtherPrime}
-use Rattle.standard.specs.Statement.{Algorithm, IsIdentifier, IsShortest, OaepParameters, PssParameters, TagAndContents}
-use Rattle.standard.specs.Statement.{octets}
+use Rattle.standard.specs.Statement.{Algorithm, IsIdentifier, IsShortest, OaepParameters, PssParameters, TagAndContents, octets}
 
 -- There is one status at most.
 abbrev pub IsOne : (ℕ → Type 0) → Type 0

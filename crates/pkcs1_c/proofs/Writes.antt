@@ -1,14 +1,17 @@
--- What is so of all calls that write.
-use Rattle.std.proofs.Common.{ℕ, zero, suc, List, ◌≡◌, ◌≢◌, ◌<◌, ◌∙◌, length, take, refl, sym, subst, arith, inl, inr}
-use Rattle.std.proofs.Common.{Some}
-use Rattle.std.proofs.lemmas.List.{length-take-le}
-use Rattle.std.specs.Prelude.{◌↔◌}
-use Rattle.pkcs1_params.proofs.Written.{encodes_as, shortest_as}
+-- What is so of all calls that write: the front, the reason, the code of an error, the needed length.
+use Rattle.std.proofs.Common.{ℕ, zero, suc, List, ◌≡◌, ◌≢◌, ◌<◌, ◌∙◌, length, take, refl, sym, subst, arith, inl, inr, Some, length-take-le, ◌↔◌, Result, Ok, Err, IfErr, IsErrAnd, ◌≤◌, ap}
+use Rattle.pkcs1_params.proofs.Masks.{encodes_as, shortest_as}
 use Rattle.standard.specs.Statement.{Encodes}
-use Rattle.pkcs1_c.specs.Status.{IsErrorOf, NoStatus}
-use Rattle.pkcs1_c.specs.StructErrors.{FieldsError, PartThen, Unwritten}
-use Rattle.pkcs1_c.specs.Structs.{If, IsLength, WritesOrTells}
+use Rattle.pkcs1_c.specs.Words.{IsErrorOf, NoStatus, FieldsError, PartThen, Unwritten, If, IsLength, WritesOrTells, kind_number, status_of, IsErrorNumber, IsStatusOf}
 use Rattle.pkcs1_c.proofs.StructErrors.{IsOne, IsPart, fits_written, part_one, part_rest, unwritten_one}
+use Rattle.der_core.specs.Words.{TellsOfBytes, encode_error, shortest_is, limit, Spells, WritesShortest}
+use Rattle.der_core.specs.Writing as writing
+use Rattle.der_core.specs.declared.error.ErrorKind.{ErrorKind}
+use Rattle.der_core.specs.declared.error.ErrorKind.TheVariants as kind
+use Rattle.pkcs1_params.specs.Words.{IsAsn1, Refuses}
+use Rattle.pkcs1_params.specs.declared.error.Error.{Error}
+use Rattle.pkcs1_params.specs.declared.error.Error.TheVariants as error
+use Rattle.std.proofs.lemmas.Bool.{cases_lt}
 
 pub is_error : (WhyNot : ℕ → Type 0) (s : ℕ) → IsOne WhyNot → 0 < s → WhyNot s → IsErrorOf WhyNot s
 is_error WhyNot zero one some p = absurd (omega (arith, some))
@@ -134,3 +137,106 @@ equal_told Part Encoding {u} {v} is none {old} {new} {l} {m} {s} writes exact = 
   error_behind (Part v) (Unwritten Encoding v (length old)) s none
       (subst (λ w. IsErrorOf (Unwritten Encoding w (length old)) s) is exact),
 )
+
+-- What the code of an error says.
+
+-- What holds of an error that was handed on.
+pub err_handed : {T E : Type 0} (P : E → Type 0) (first : E) (r : Result T E) → IsErrAnd r (λ e. e ≡ first) → P first
+    → IfErr r P
+err_handed P first (Ok x) same p = absurd same
+err_handed P first (Err e) same p = subst P (sym same) p
+
+-- An error that tells of bytes has a number, below that of lack of room.
+tells_below : (e : ErrorKind) → TellsOfBytes e → (0 < kind_number e) × (kind_number e < 15)
+tells_below kind.Failed t = (omega arith, omega arith)
+tells_below kind.Incomplete t = (omega arith, omega arith)
+tells_below kind.IndefiniteLength t = (omega arith, omega arith)
+tells_below (kind.Length tag) t = (omega arith, omega arith)
+tells_below (kind.Noncanonical tag) t = (omega arith, omega arith)
+tells_below kind.OidMalformed t = (omega arith, omega arith)
+tells_below kind.OidUnknown t = (omega arith, omega arith)
+tells_below kind.Overflow t = (omega arith, omega arith)
+tells_below kind.Overlength t = (omega arith, omega arith)
+tells_below kind.ParametersMissing t = (omega arith, omega arith)
+tells_below (kind.TagUnexpected expected actual) t = (omega arith, omega arith)
+tells_below (kind.TagUnknown octet) t = (omega arith, omega arith)
+tells_below kind.TrailingData t = (omega arith, omega arith)
+tells_below (kind.Value tag) t = (omega arith, omega arith)
+tells_below kind.NoRoom t = absurd (t.2 refl)
+tells_below kind.File t = absurd (t.1 refl)
+tells_below kind.OutOfMemory t = absurd (t.0 refl)
+
+-- What is known of an error, of its number.
+module _ {V : Type 0} (given : Result V ErrorKind) (tells : (k : ErrorKind) → given ≡ Err k → TellsOfBytes k) where
+  pub status_known : (e : Error) → IsAsn1 (λ a. given ≡ Err a.kind) e
+      → ((0 < status_of e) × (status_of e < 15)) × IsErrorNumber given (status_of e)
+  status_known (error.Asn1 a) p = (tells_below a.kind (tells a.kind p), (a.kind, p, refl))
+  status_known error.Crypto p = absurd p
+  status_known error.KeyMalformed p = absurd p
+  status_known error.Version p = absurd p
+
+  pub status_exact : (e : Error) (number : ℕ) → number ≡ status_of e → IsAsn1 (λ a. given ≡ Err a.kind) e
+      → IsStatusOf given number
+  status_exact e zero is p = absurd (omega (arith, is, (status_known e p).0.0))
+  status_exact e (suc n) is p =
+      let known = status_known e p in (omega (arith, is, known.0.1), (known.1.0, known.1.1, is ∙ known.1.2))
+
+-- What an error of writing says of a value that may be encoded.
+module _ {V : Type 0} (Is : V → Type 0) (Encoding : V → List ℕ → Type 0) (v : V) (room : ℕ) (ok : Is v) where
+  pub kind_unwritten : (k : ErrorKind) → writing.Unwritten Is Encoding v room (encode_error k)
+      → Unwritten Encoding v room (kind_number k)
+  kind_unwritten (kind.Value tag) p = absurd (p ok)
+  kind_unwritten kind.Overflow p = inl (refl, p.1)
+  kind_unwritten kind.NoRoom p = inr (refl, length p.0, (p.0, p.1, refl), p.2)
+  kind_unwritten kind.Failed p = absurd p
+  kind_unwritten kind.Incomplete p = absurd p
+  kind_unwritten kind.IndefiniteLength p = absurd p
+  kind_unwritten (kind.Length tag) p = absurd p
+  kind_unwritten (kind.Noncanonical tag) p = absurd p
+  kind_unwritten kind.OidMalformed p = absurd p
+  kind_unwritten kind.OidUnknown p = absurd p
+  kind_unwritten kind.Overlength p = absurd p
+  kind_unwritten kind.ParametersMissing p = absurd p
+  kind_unwritten (kind.TagUnexpected expected actual) p = absurd p
+  kind_unwritten (kind.TagUnknown octet) p = absurd p
+  kind_unwritten kind.TrailingData p = absurd p
+  kind_unwritten kind.File p = absurd p
+  kind_unwritten kind.OutOfMemory p = absurd p
+
+  pub status_unwritten : (e : Error) → Refuses Is Encoding v room e → Unwritten Encoding v room (status_of e)
+  status_unwritten (error.Asn1 e) p = kind_unwritten e.kind p
+  status_unwritten error.Crypto p = absurd p
+  status_unwritten error.KeyMalformed p = absurd p
+  status_unwritten error.Version p = absurd p
+
+-- The needed length: that of the shortest encoding, which is the one that is written.
+module _ {S V : Type 0} {valid : S → Type 0} {printed : S → List ℕ} {means : S → V} {written : V → S}
+    (law : WritesShortest valid printed means written) (v : V) (ok : valid (written v)) where
+  abbrev Needed : ℕ
+  Needed = length (printed (written v))
+
+  within : (bytes : List ℕ) → Spells valid printed means v bytes → Needed ≤ length bytes
+  within bytes (few, (s, e, known, is)) =
+      let same = ap (λ u. length (printed (written u))) e in
+      elim (law.least s known (omega (arith, few, ap length is))) [
+        | inl f ↦ omega (arith, same, ap (λ t. length (printed t)) f, ap length is)
+        | inr l ↦ omega (arith, same, l, ap length is)
+      ]
+
+  pub needed_is : {m : ℕ} → (valid (written v) → Needed ≤ limit → m ≡ Needed) → (n : ℕ)
+      → IsLength (Spells valid printed means) v n → m ≡ n
+  needed_is told n (bytes, short, is) =
+      let less = within bytes short.0 in
+      let few : Needed ≤ limit = omega (arith, less, short.0.0) in
+      let t = told ok few in
+      elim (short.1 (printed (written v)) (shortest_is law v ok few).0) [
+        | inl same ↦ omega (arith, t, is, ap length same)
+        | inr more ↦ omega (arith, less, more)
+      ]
+
+  pub needed_kept : {m l : ℕ} → (limit < Needed → m ≡ l) → ((bytes : List ℕ) → Spells valid printed means v bytes → ⊥)
+      → m ≡ l
+  needed_kept told none = elim (cases_lt limit Needed) [
+    | inl more ↦ told more
+    | inr few ↦ absurd (none (printed (written v)) (shortest_is law v ok (omega (arith, few))).0)
+  ]

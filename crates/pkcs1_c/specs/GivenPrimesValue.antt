@@ -1,9 +1,7 @@
 -- The keys that are written of structs that the caller passes.
 use Rattle.std.specs.Prelude.{ℕ, List, map}
-use Rattle.pkcs1.specs.Held.{number_in}
+use Rattle.pkcs1.specs.Words.{number_in, key_with, other_from, other_stated, private_stated}
 use Rattle.pkcs1.specs.Keys as keys
-use Rattle.pkcs1.specs.PrivateKeyValue.{key_with}
-use Rattle.pkcs1.specs.StatedKeys.{other_from, other_stated, private_stated}
 use Rattle.pkcs1.specs.declared.private_key.PrivateKeyOf.{PrivateKeyOf}
 use Rattle.standard.specs.Statement.{OtherPrime, PrivateKey}
 use Rattle.pkcs1_c.specs.NumberValue.{number_of}

@@ -2,9 +2,7 @@
 use Prim.{IsProp}
 use denote.Struct.Props.{props}
 use Rattle.std.specs.Prelude.{ℕ, List, [], ◌∷◌, Result, Ok, Err}
-use Rattle.der_core.specs.Document.{EncodeError, another, no_encoding, no_room, too_long}
-use Rattle.der_core.specs.SequenceOf.{all_encodings}
-use Rattle.der_core.specs.Writing.{Counts, WhyOctetsNotCounted, encode_error}
+use Rattle.der_core.specs.Words.{EncodeError, another, no_encoding, no_room, too_long, all_encodings, Counts, WhyOctetsNotCounted, encode_error}
 use Rattle.der_core.specs.declared.error.Error.{Error}
 use Rattle.standard.specs.Statement as standard
 use Rattle.standard.specs.Statement.{integers, sequence}

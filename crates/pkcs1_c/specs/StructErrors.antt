@@ -1,20 +1,16 @@
 -- Why a C struct isn't written, by status: the first of its parts that can't be held, in the order of the struct; else
 -- why the value that it means isn't written.
 use Rattle.std.specs.Prelude.{ℕ, List, [], ◌∷◌, ◌++◌, ◌≡◌, ◌≢◌, ◌<◌, ◌⊎◌, IsTrue, length, false, Option, Some, None}
-use Rattle.der_core.specs.Length.{limit}
-use Rattle.der_core.specs.Tag.{is_allowed}
-use Rattle.pkcs1.specs.KeyReadings.{rsa_private_key}
-use Rattle.standard.specs.Statement.{Algorithm, ContainerEncoding, IsIdentifier, OaepParameters, PrivateKeyEncoding}
-use Rattle.standard.specs.Statement.{PssParameters, PublicKeyEncoding, TagAndContents, octets}
+use Rattle.der_core.specs.Words.{limit, is_allowed}
+use Rattle.pkcs1.specs.Words.{rsa_private_key}
+use Rattle.standard.specs.Statement.{Algorithm, ContainerEncoding, IsIdentifier, OaepParameters, PrivateKeyEncoding, PssParameters, PublicKeyEncoding, TagAndContents, octets}
 use Rattle.pkcs1_c.specs.declared.container.PrivateKeyInfo.{PrivateKeyInfo}
 use Rattle.pkcs1_c.specs.declared.public_key.PublicKey.{PublicKey}
 use Rattle.pkcs1_c.specs.declared.private_key.PrivateKey.{PrivateKey}
 use Rattle.pkcs1_c.specs.declared.private_key.OtherPrime.{OtherPrime}
-use Rattle.pkcs1_c.specs.declared.status.TheConstants.{LENGTH, OID_MALFORMED, OVERFLOW, TAG_UNKNOWN, VALUE, NO_ROOM}
-use Rattle.pkcs1_c.specs.declared.status.TheConstants.{OTHER_PRIMES}
+use Rattle.pkcs1_c.specs.declared.status.TheConstants.{LENGTH, OID_MALFORMED, OVERFLOW, TAG_UNKNOWN, VALUE, NO_ROOM, OTHER_PRIMES}
 use Rattle.pkcs1_c.specs.Status.{IsErrorNumber, NoStatus}
-use Rattle.pkcs1_c.specs.Structs.{HasKey, IsLength, number, numbers_of_key, numbers_of_prime, private_key}
-use Rattle.pkcs1_c.specs.Structs.{private_key_info, public_key}
+use Rattle.pkcs1_c.specs.Structs.{HasKey, IsLength, number, numbers_of_key, numbers_of_prime, private_key, private_key_info, public_key}
 
 -- All parts can be held: the value has no encoding, or its shortest one is longer than the room.
 abbrev pub Unwritten : {V : Type 0} → (V → List ℕ → Type 0) → V → ℕ → ℕ → Type 0

@@ -1,11 +1,10 @@
 -- What the structs for C hold, in the words of `Statement.antt`, and what a call that writes says and leaves.
 -- One rule: the function that is named as a struct, in lower case with underscores, gives the value that it holds; of
 -- parameters it ends with `seen`.
-use Rattle.std.specs.Prelude.{ℕ, List, [], ◌∷◌, ◌≡◌, ◌≢◌, ◌<◌, length, take, map, Option, Some, None}
-use Rattle.std.specs.Prelude.{false, if◌then◌else◌}
-use Rattle.std.specs.Int.Digits.{number_from_digits}
+use Rattle.std.specs.Prelude.{ℕ, List, [], ◌∷◌, ◌≡◌, ◌≢◌, ◌<◌, length, take, map, Option, Some, None, false, if◌then◌else◌}
+use Rattle.der_core.specs.Words.{number_from_digits}
 use Rattle.std.specs.List.{AllByRecursion}
-use Rattle.pkcs1.specs.Held.{primes_encoded}
+use Rattle.pkcs1.specs.Words.{primes_encoded}
 use Rattle.pkcs1_c.specs.declared.algorithm.Algorithm as algorithms
 use Rattle.pkcs1_c.specs.declared.algorithm.MaskGen.{MaskGen}
 use Rattle.pkcs1_c.specs.declared.container.PrivateKeyInfo.{PrivateKeyInfo}
@@ -14,9 +13,7 @@ use Rattle.pkcs1_c.specs.declared.private_key.OtherPrime as prime_structs
 use Rattle.pkcs1_c.specs.declared.private_key.PrivateKey as key_structs
 use Rattle.pkcs1_c.specs.declared.pss.PssParams.{PssParams}
 use Rattle.pkcs1_c.specs.declared.public_key.PublicKey as public_structs
-use Rattle.standard.specs.Statement.{octets, PublicKey, PrivateKey, PrivateKeyEncoding, OtherPrime, TagAndContents}
-use Rattle.standard.specs.Statement.{Algorithm, PssParameters, OaepParameters, Container, rsa_encryption, IsShortest}
-use Rattle.standard.specs.Statement.{Encodes, Decodes}
+use Rattle.standard.specs.Statement.{octets, PublicKey, PrivateKey, PrivateKeyEncoding, OtherPrime, TagAndContents, Algorithm, PssParameters, OaepParameters, Container, rsa_encryption, IsShortest, Encodes, Decodes}
 
 -- == Writing ==
 -- The length of the value's shortest encoding.

@@ -1,10 +1,8 @@
 //! Algorithm identifiers.
-ghost use Rattle.std.specs.Bool.{Decides};
-ghost use Rattle.std.specs.Prelude.{◌≡◌, IfOk, IfErr, IsTrue};
+ghost use Rattle.std.specs.Prelude.{Decides, ◌≡◌, IfOk, IfErr, IsTrue};
 ghost use Rattle.spki_core.specs.Words.{IsHash, TagAndContents, any_of, null_value, octets_of, viewed_with};
 ghost use Rattle.pkcs1_params.specs.Words.{UsesHash, with_parameters};
-ghost use Rattle.pkcs1_c.specs.Words.{kind_number, algorithm_seen, mask_gen_seen, AlgorithmIsTidy, MaskGenIsTidy};
-ghost use Rattle.pkcs1_c.specs.Words.{OidError, PlainError, MaskError};
+ghost use Rattle.pkcs1_c.specs.Words.{kind_number, algorithm_seen, mask_gen_seen, AlgorithmIsTidy, MaskGenIsTidy, OidError, PlainError, MaskError};
 
 use der_core::{Result, Tag};
 use pkcs1::Mgf1;

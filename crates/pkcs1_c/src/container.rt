@@ -2,10 +2,8 @@
 ghost use Rattle.std.specs.Prelude.{◌≡◌, ◌≢◌, length, IfErr, IfOk, OnErr, OnOk, Some, None};
 ghost use Rattle.pkcs1.specs.Words.{held_view, rsa_private_key};
 ghost use Rattle.pkcs1_params.specs.Words.{ErrsAs, IsAsn1};
-ghost use Rattle.pkcs8_core.specs.Words.{ContainedKey, IsContainer, info_of, info_viewed, rsa_encryption};
-ghost use Rattle.pkcs8_core.specs.Words.{rsa_private_key_info};
-ghost use Rattle.pkcs1_c.specs.Words.{DecodesPrivate, HasKey, If, InfoError, InfoIsTidy, IsErrorOf, IsStatusOf};
-ghost use Rattle.pkcs1_c.specs.Words.{WritesOrTells, private_key_info};
+ghost use Rattle.pkcs8_core.specs.Words.{ContainedKey, IsContainer, info_of, info_viewed, rsa_encryption, rsa_private_key_info};
+ghost use Rattle.pkcs1_c.specs.Words.{DecodesPrivate, HasKey, If, InfoError, InfoIsTidy, IsErrorOf, IsStatusOf, WritesOrTells, private_key_info};
 ghost use Rattle.standard.specs.Statement.{ContainedKeyEncoding, ContainerEncoding, Decodes};
 
 use crate::bytes::Bytes;

@@ -1,10 +1,8 @@
 //! Private keys that the caller passes.
 ghost use Rattle.std.specs.Prelude.{◌≡◌, ℕ, IfErr, IfOk, OnOk};
 ghost use Rattle.der_core.specs.Words.{alike, one_spelling};
-ghost use Rattle.pkcs1.specs.Words.{AnyNumber, PrivateIsValid, PrivateKey as KeyOf, integer_law, number as number_at};
-ghost use Rattle.pkcs1.specs.Words.{private_key_read, private_law, private_printed};
-ghost use Rattle.pkcs1_c.specs.Words.{NoStatus, NumbersError, given_key, given_numbers, held_given_key, private_key};
-ghost use Rattle.pkcs1_c.specs.Words.{status_of};
+ghost use Rattle.pkcs1.specs.Words.{AnyNumber, PrivateIsValid, PrivateKey as KeyOf, integer_law, number as number_at, private_key_read, private_law, private_printed};
+ghost use Rattle.pkcs1_c.specs.Words.{NoStatus, NumbersError, given_key, given_numbers, held_given_key, private_key, status_of};
 ghost use Rattle.standard.specs.Statement.{integer};
 
 use crate::given_number::Number;

@@ -1,14 +1,8 @@
 //! Numbers to be written.
 ghost use Rattle.std.specs.Prelude.{◌≡◌, ◌+◌, ◌≤◌, length, slice_index, nat_lt, if◌then◌else◌, ℕ};
 ghost use Rattle.std.specs.Int.Digits.{number_from_digits};
-ghost use Rattle.der_core.specs.Integer.{HoldsNumber};
-ghost use Rattle.der_core.specs.Length.{limit};
-ghost use Rattle.der_core.specs.UintRefValue.{bytes_of};
-ghost use Rattle.der_core.specs.Laws.Printed.Alike.{alike};
-ghost use Rattle.der_core.specs.Laws.Printed.Leaves.{number_law};
-ghost use Rattle.der_core.specs.Laws.Printed.Shortest.{one_spelling};
+ghost use Rattle.der_core.specs.Words.{HoldsNumber, limit, bytes_of, alike, number_law, one_spelling, number_contents};
 ghost use Rattle.der_core.specs.Printed as printed;
-ghost use Rattle.der_core.specs.Printed.{number_contents};
 
 use der_core::{
     BackWriter, Contents, EncodeValue, IntegerTag, Length, Result, TaggedBy, UintRef, Writer,

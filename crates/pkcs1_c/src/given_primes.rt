@@ -1,9 +1,7 @@
 //! Other primes that the caller passes, written from the caller's array.
 ghost use Rattle.std.specs.Prelude.{◌≡◌, ◌+◌, ◌^◌, ◌≤◌, ◌<◌, length, IsTrue, IfOk, IfErr, OnOk};
-ghost use Rattle.der_core.specs.BackWriters.{Prepends, free_of};
-ghost use Rattle.der_core.specs.Length.{limit, tlv_len};
-ghost use Rattle.der_core.specs.Writing.{Appends, Counts};
-ghost use Rattle.pkcs1.specs.Held.{held_other_prime};
+ghost use Rattle.der_core.specs.Words.{Prepends, free_of, limit, tlv_len, Appends, Counts};
+ghost use Rattle.pkcs1.specs.Words.{held_other_prime};
 ghost use Rattle.pkcs1_c.specs.NumberValue.{number_of};
 ghost use Rattle.pkcs1_c.specs.PrimeLists.{AreCounted, AreCounted-prop, given_encoded, prime_encoded};
 ghost use Rattle.pkcs1_c.specs.Status.{NoStatus, status_of};
@@ -125,7 +123,7 @@ fn prepend_given(other: &OtherPrime<'_>, least: usize, writer: &mut BackWriter<'
 }
 
 impl<'a> GivenPrimes<'a> {
-    ghost use Rattle.std.specs.Option.{option_map};
+    ghost use Rattle.std.specs.Prelude.{option_map};
     ghost use Rattle.pkcs1_c.specs.GivenPrimesValue.{held_primes};
 
     /// The primes of the array, or `None` if it is empty; or why the first number that can't be held can't be.
@@ -150,13 +148,9 @@ impl<'a> GivenPrimes<'a> {
 impl Contents for GivenPrimes<'_> {
     ghost use Rattle.std.specs.Prelude.{List, ℕ};
     ghost use Rattle.std.specs.List.{AllByRecursion};
-    ghost use Rattle.der_core.specs.Laws.Printed.Alike.{alike};
-    ghost use Rattle.der_core.specs.Laws.Printed.Shortest.{one_spelling};
-    ghost use Rattle.pkcs1.specs.KeyReadings.{number, primes_read};
+    ghost use Rattle.der_core.specs.Words.{alike, one_spelling};
+    ghost use Rattle.pkcs1.specs.Words.{number, primes_read, integer_law, primes_law, AnyNumber, OtherIsValid, primes_printed};
     ghost use Rattle.pkcs1.specs.Keys as keys;
-    ghost use Rattle.pkcs1.specs.Laws.PrintedNumbers.{integer_law};
-    ghost use Rattle.pkcs1.specs.Laws.PrintedRows.{primes_law};
-    ghost use Rattle.pkcs1.specs.Printing.{AnyNumber, OtherIsValid, primes_printed};
     ghost use Rattle.pkcs1_c.specs.GivenPrimesValue.{given_primes};
     ghost use Rattle.standard.specs.Statement.{integer};
 

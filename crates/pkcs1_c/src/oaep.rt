@@ -1,9 +1,7 @@
 //! Parameters of RSAES-OAEP.
-ghost use Rattle.std.specs.Bool.{Decides};
-ghost use Rattle.std.specs.Prelude.{◌≡◌, ◌≢◌, length, IfOk, IfErr, IfSome, Some, None, true, false};
+ghost use Rattle.std.specs.Prelude.{Decides, ◌≡◌, ◌≢◌, length, IfOk, IfErr, IfSome, Some, None, true, false};
 ghost use Rattle.pkcs1_params.specs.Words.{LabelOf, UsesHash, oaep_viewed, rsa_oaep_params, strict_oaep_params};
-ghost use Rattle.pkcs1_c.specs.Words.{FieldsError, IsErrorOf, IsStatusOf, OaepFieldError, OaepIsTidy, WritesOrTells};
-ghost use Rattle.pkcs1_c.specs.Words.{oaep_seen, status_of};
+ghost use Rattle.pkcs1_c.specs.Words.{FieldsError, IsErrorOf, IsStatusOf, OaepFieldError, OaepIsTidy, WritesOrTells, oaep_seen, status_of};
 ghost use Rattle.standard.specs.Statement.{Decodes, Encodes, IsShortest, OaepEncoding};
 
 use crate::algorithm::{

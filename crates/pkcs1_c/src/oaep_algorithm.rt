@@ -1,8 +1,7 @@
 //! The algorithm identifier of RSAES-OAEP with its parameters.
 ghost use Rattle.std.specs.Prelude.{◌≡◌, ◌≢◌, length, Some, None};
 ghost use Rattle.pkcs1_params.specs.Words.{rsa_oaep_algorithm, strict_oaep_algorithm};
-ghost use Rattle.pkcs1_c.specs.Words.{FieldsError, IsErrorOf, IsStatusOf, OaepFieldError, OaepIsTidy, WritesOrTells};
-ghost use Rattle.pkcs1_c.specs.Words.{oaep_seen};
+ghost use Rattle.pkcs1_c.specs.Words.{FieldsError, IsErrorOf, IsStatusOf, OaepFieldError, OaepIsTidy, WritesOrTells, oaep_seen};
 ghost use Rattle.standard.specs.Statement.{Decodes, IsShortest, OaepAlgorithmEncoding};
 
 use crate::filled::fill;

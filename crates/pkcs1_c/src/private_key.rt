@@ -2,9 +2,7 @@
 ghost use Rattle.std.specs.Prelude.{length, drop, ◌≡◌, ◌≢◌, ◌≤◌, List, None};
 ghost use Rattle.der_core.specs.Words.{ReadsFront, bytes_of, left_of, limit};
 ghost use Rattle.pkcs1.specs.Words.{held_other_prime, held_view, next_prime, primes_encoded, rsa_private_key};
-ghost use Rattle.pkcs1_c.specs.Words.{ArePlaced, DecodesPrivate, HasPrivateNumbers, HoldsPrivate, If};
-ghost use Rattle.pkcs1_c.specs.Words.{IsErrorOf, IsStatusOf, PrivateKeyError, WritesOrTells, listed};
-ghost use Rattle.pkcs1_c.specs.Words.{numbers_of_prime, octets_of_prime, private_key};
+ghost use Rattle.pkcs1_c.specs.Words.{ArePlaced, DecodesPrivate, HasPrivateNumbers, HoldsPrivate, If, IsErrorOf, IsStatusOf, PrivateKeyError, WritesOrTells, listed, numbers_of_prime, octets_of_prime, private_key};
 ghost use Rattle.standard.specs.Statement.{Decodes, OtherPrime as Prime, PrivateKeyEncoding};
 
 use crate::bytes::Bytes;

@@ -1,9 +1,7 @@
 //! Parameters of RSASSA-PSS.
-ghost use Rattle.std.specs.Bool.{Decides};
-ghost use Rattle.std.specs.Prelude.{◌≡◌, ◌≢◌, length, IfOk, IfErr, IfSome, Some, None};
+ghost use Rattle.std.specs.Prelude.{Decides, ◌≡◌, ◌≢◌, length, IfOk, IfErr, IfSome, Some, None};
 ghost use Rattle.pkcs1_params.specs.Words.{UsesHash, pss_viewed, rsa_pss_params, strict_pss_params};
-ghost use Rattle.pkcs1_c.specs.Words.{FieldsError, IsErrorOf, IsStatusOf, PssFieldError, PssIsTidy, WritesOrTells};
-ghost use Rattle.pkcs1_c.specs.Words.{pss_seen, status_of};
+ghost use Rattle.pkcs1_c.specs.Words.{FieldsError, IsErrorOf, IsStatusOf, PssFieldError, PssIsTidy, WritesOrTells, pss_seen, status_of};
 ghost use Rattle.standard.specs.Statement.{Decodes, Encodes, IsShortest, PssEncoding};
 
 use crate::algorithm::{

@@ -1,8 +1,7 @@
 //! The algorithm identifier of RSASSA-PSS with its parameters.
 ghost use Rattle.std.specs.Prelude.{◌≡◌, ◌≢◌, length, Some, None};
 ghost use Rattle.pkcs1_params.specs.Words.{rsa_pss_algorithm, strict_pss_algorithm};
-ghost use Rattle.pkcs1_c.specs.Words.{FieldsError, IsErrorOf, IsStatusOf, PssFieldError, PssIsTidy, WritesOrTells};
-ghost use Rattle.pkcs1_c.specs.Words.{pss_seen};
+ghost use Rattle.pkcs1_c.specs.Words.{FieldsError, IsErrorOf, IsStatusOf, PssFieldError, PssIsTidy, WritesOrTells, pss_seen};
 ghost use Rattle.standard.specs.Statement.{Decodes, IsShortest, PssAlgorithmEncoding};
 
 use crate::filled::fill;

@@ -1,8 +1,7 @@
 //! Public keys.
 ghost use Rattle.std.specs.Prelude.{◌≡◌, ◌≢◌, length, IfOk, IfErr, OnOk, Some, None};
 ghost use Rattle.pkcs1.specs.Words.{held_public_key, rsa_public_key};
-ghost use Rattle.pkcs1_c.specs.Words.{HasNumbers, Holds, If, IsErrorOf, IsStatusOf, NoStatus, NumbersError};
-ghost use Rattle.pkcs1_c.specs.Words.{PublicKeyError, WritesOrTells, number_of, public_key, status_of, two_numbers};
+ghost use Rattle.pkcs1_c.specs.Words.{HasNumbers, Holds, If, IsErrorOf, IsStatusOf, NoStatus, NumbersError, PublicKeyError, WritesOrTells, number_of, public_key, status_of, two_numbers};
 ghost use Rattle.standard.specs.Statement as statement;
 ghost use Rattle.standard.specs.Statement.{Decodes, PublicKeyEncoding};
 

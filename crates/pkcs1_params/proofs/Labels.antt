@@ -1,23 +1,13 @@
 -- Parameters with a label: their encodings, by the length of the label.
-use Rattle.std.proofs.Common.{ℕ, List, [], ◌∷◌, ◌++◌, ◌≡◌, ◌<◌, ◌≤◌, length, true, false, subst, sym, ap, ◌∙◌, arith}
-use Rattle.std.proofs.Common.{length-append, append-nil, append_assoc, Bool, Result, Ok, Err, refl}
-use Rattle.std.specs.Prelude.{⊤, IfOk, IfErr, if◌then◌else◌, is_ok}
-use Rattle.der_core.proofs.Counting.{counts_joined}
-use Rattle.der_core.specs.Document.{EncodeError, another, no_encoding, no_room, too_long}
-use Rattle.der_core.specs.Encodings.{AreBytes}
-use Rattle.der_core.specs.Laws.Printed.Leaves.{tlv_fit}
-use Rattle.der_core.specs.Length.{limit}
-use Rattle.der_core.specs.Writing.{Counts, WhyOctetsNotCounted, encode_error, joined}
+use Rattle.std.proofs.Common.{ℕ, List, [], ◌∷◌, ◌++◌, ◌≡◌, ◌<◌, ◌≤◌, length, true, false, subst, sym, ap, ◌∙◌, arith, length-append, append-nil, append_assoc, Bool, Result, Ok, Err, refl, IfOk, IfErr, if◌then◌else◌, is_ok}
+use Rattle.std.specs.Prelude.{⊤}
+use Rattle.der_core.proofs.Writing.{counts_joined}
+use Rattle.der_core.specs.Words.{EncodeError, another, no_encoding, no_room, too_long, AreBytes, tlv_fit, limit, Counts, WhyOctetsNotCounted, encode_error, joined}
 use Rattle.der_core.specs.declared.error.Error.{Error}
 use Rattle.der_core.specs.declared.error.ErrorKind.TheVariants as kind
-use Rattle.spki_core.specs.FieldSpellings.{WrittenField, field_with, octets_under, out_under, record_under, rest_under}
-use Rattle.spki_core.specs.FieldSpellings.{spelled}
+use Rattle.spki_core.specs.Words.{WrittenField, field_with, octets_under, out_under, record_under, rest_under, spelled}
 use Rattle.spki_core.proofs.Fielded.{made, shortest_is, zero_least}
-use Rattle.pkcs1_params.specs.Labels.{CountsLabelled, source_with, written_labelled, written_source}
-use Rattle.pkcs1_params.specs.Laws.Records.{mgf1_identifier, oaep_record, source_identifier}
-use Rattle.pkcs1_params.specs.OaepValue.{LabelFits, NoLabelFits, labelled}
-use Rattle.pkcs1_params.specs.ParameterReadings.{hash_kind, mask_kind, oaep_kinds, source_kind}
-use Rattle.pkcs1_params.specs.Parameters.{id_p_specified}
+use Rattle.pkcs1_params.specs.Words.{CountsLabelled, source_with, written_labelled, written_source, mgf1_identifier, oaep_record, source_identifier, LabelFits, NoLabelFits, labelled, hash_kind, mask_kind, oaep_kinds, source_kind, id_p_specified}
 use Rattle.pkcs1_params.proofs.Masks.{octets_are}
 use Rattle.standard.specs.Statement.{IsIdentifier, IsOaep, OaepParameters, sequence, tlv}
 

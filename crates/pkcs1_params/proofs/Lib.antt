@@ -1,14 +1,8 @@
 pub mod Algorithms
-pub mod Excluded
-pub mod FirstDefault
+pub mod Masks
+pub mod Faults
 pub mod ParameterReads
 pub mod UsualParameters
-pub mod Errors
-pub mod FaultsTell
-pub mod FaultsTold
 pub mod KnownParameters
 pub mod Labels
-pub mod Masks
-pub mod Same
-pub mod Written
 pub mod Wrapped

@@ -1,25 +1,100 @@
--- What is written under a mask: what the code joins field by field is what is printed of the spelling.
-use Rattle.std.proofs.Common.{ℕ, List, [], ◌∷◌, ◌++◌, ◌≡◌, ◌+◌, ◌*◌, Bool, true, false, arith, ap, ◌∙◌, sym, refl, ◌<◌}
-use Rattle.std.proofs.Common.{◌^◌, subst, Some, None, take}
-use Rattle.spki_core.specs.FieldSpellings.{AreSpelled, FieldRecord, WrittenField, are_defaults, octets_under, out_under}
-use Rattle.spki_core.specs.FieldSpellings.{record_fields, record_under, rest_under, spelled, Spelling}
-use Rattle.spki_core.specs.Laws.FieldSpellings.Masks.{under_valid}
-use Rattle.spki_core.specs.Laws.FieldSpellings.Steps.{octets_spelled}
-use Rattle.std.specs.Prelude.{if◌then◌else◌, Option, ◌↔◌}
-use Rattle.pkcs1_params.specs.DefaultBits.{bit_of, bits_of}
-use Rattle.standard.specs.Statement.{Field, Encodes, IsShortest, sequence}
-use Rattle.std.proofs.lemmas.Nat.{pow_pos}
-use Rattle.der_core.specs.Document.{EncodeError, another, no_encoding, no_room, too_long}
-use Rattle.der_core.specs.Laws.Printed.Shortest.{one_spelling, tagged_shortest}
-use Rattle.der_core.specs.Printed.{Spells, WritesShortest}
-use Rattle.der_core.specs.Writing.{Unwritten, encode_error}
-use Rattle.spki_core.proofs.Fielded.{counted, counted_there, default_count, made, mask_fits, under_spelled, zero_least}
-use Rattle.spki_core.proofs.Fielded.{zero_shortest}
-use Rattle.pkcs1_params.specs.Meanings.{Refuses}
-use Rattle.pkcs1_params.specs.Spellings.{Encoded, EncodedUnder, InRange, IsMask}
-use Rattle.pkcs1_params.specs.declared.error.Error.{Error}
+-- What is written of parameters: of equal values, under a mask; and what their encodings exclude.
+use Rattle.std.proofs.Common.{ℕ, List, ◌≡◌, ◌<◌, length, refl, subst, take, Result, Ok, Err, ◌↔◌, Option, Some, None, [], ◌∷◌, ◌++◌, ◌+◌, ◌*◌, Bool, true, false, arith, ap, ◌∙◌, sym, ◌^◌, if◌then◌else◌, pow_pos, inl, inr, append-nil, ◌≤◌, slice_index}
+use Rattle.der_core.specs.Words.{limit, EncodeError, no_encoding, too_long, no_room, another, Appends, Counts, Unwritten, WhyOctetsNotCounted, WhyOctetsNotWritten, encode_error, one_spelling, tagged_shortest, Spells, WritesShortest, prints_one, Excludes}
+use Rattle.der_core.specs.declared.error.Error as errors
+use Rattle.der_core.specs.declared.error.ErrorKind.{ErrorKind}
+use Rattle.der_core.specs.declared.error.ErrorKind.TheVariants.{Overflow}
+use Rattle.der_core.specs.declared.error.ErrorKind.TheVariants as kinds
+use Rattle.pkcs1_params.specs.Words.{Refuses, Error, bit_of, bits_of, Encoded, EncodedUnder, InRange, IsMask, AreDelimited, AcceptedFits, DefaultsAreCounted, EachHasOneMask, EachMaskHasOne, ShortestHasNoDefaults, PlainEncoding}
 use Rattle.pkcs1_params.specs.declared.error.Error.TheVariants as error
-use Rattle.pkcs1_params.proofs.Written.{encodes_as, refuses_as, shortest_as}
+use Rattle.standard.specs.Statement.{Encodes, IsShortest, Field, sequence, Fields, SameByShortest, SequenceOf, IsOaep, IsPss, OaepAlgorithmEncoding, OaepEncoding, OaepParameters, PssEncoding, PssAlgorithmEncoding, PssParameters, id_rsaes_oaep, id_rsassa_pss, length_octets, oaep_fields, pss_fields, tlv}
+use Rattle.spki_core.specs.Words.{AreSpelled, FieldRecord, WrittenField, are_defaults, octets_under, out_under, record_fields, record_under, rest_under, spelled, Spelling, under_valid, octets_spelled, record_means, record_front_law, spelled_from}
+use Rattle.spki_core.proofs.Fielded.{counted, counted_there, default_count, made, mask_fits, under_spelled, zero_least, zero_shortest, has_one_mask, only_under, under_is_one}
+use Rattle.pkcs1_params.proofs.Wrapped.{same_contents}
+
+module _ {V W : Type 0} (Encoding : V → List ℕ → Type 0) (Other : W → List ℕ → Type 0) (v : V) (w : W)
+    (same : (bytes : List ℕ) → Encoding v bytes ↔ Other w bytes) where
+  pub shortest_as : (bytes : List ℕ) → IsShortest Encoding v bytes → IsShortest Other w bytes
+  shortest_as bytes s = ((same bytes).0 s.0, λ other p. s.1 other ((same other).1 p))
+
+  pub encodes_as : (old new : List ℕ) (n : Option ℕ) → Encodes Encoding v old new n → Encodes Other w old new n
+  encodes_as old new (Some n) e = (e.0, shortest_as (take n new) e.1, e.2)
+  encodes_as old new None e = (e.0, λ bytes p. e.1 bytes ((same bytes).1 p))
+
+  module _ (Is : V → Type 0) (Valid : W → Type 0) (valid : Is v ↔ Valid w) where
+    pub unwritten_so : (room : ℕ) (k : EncodeError) → Unwritten Is Encoding v room k → Unwritten Valid Other w room k
+    unwritten_so room no_encoding h = λ ok. h (valid.1 ok)
+    unwritten_so room too_long h = (valid.0 h.0, λ bytes p. h.1 bytes ((same bytes).1 p))
+    unwritten_so room no_room h = (h.0, shortest_as h.0 h.1, h.2)
+    unwritten_so room another h = h
+
+    pub refuses_as : (room : ℕ) (e : Error) → Refuses Is Encoding v room e → Refuses Valid Other w room e
+    refuses_as room (error.Asn1 e) h = unwritten_so room (encode_error e.kind) h
+    refuses_as room error.Crypto h = h
+    refuses_as room error.KeyMalformed h = h
+    refuses_as room error.Version h = h
+
+-- The same octets, of a value with an encoding.
+module _ (Has Is : Type 0) (has : Has) (is : Is) where
+  stopped_so : (octets : List ℕ) (room : ℕ) (old new : List ℕ) (k : EncodeError)
+      → WhyOctetsNotWritten Has octets room old new k → WhyOctetsNotWritten Is octets room old new k
+  stopped_so octets room old new no_encoding h = absurd (h.0 has)
+  stopped_so octets room old new too_long h = (is, h.1, h.2)
+  stopped_so octets room old new no_room h = (is, h.1, h.2, h.3)
+  stopped_so octets room old new another h = h
+
+  appends_so : {W A : Type 0} (octets : List ℕ) (Room : W → ℕ) (Written : W → List ℕ) (old new : W) (r : Result A errors.Error)
+      → Appends Has octets Room Written old new r → Appends Is octets Room Written old new r
+  appends_so octets Room Written old new (Ok x) a =
+      record { has = (is, a.has.1); written = a.written; room = a.room; left = a.left }
+  appends_so octets Room Written old new (Err e) a = record {
+    has = a.has;
+    written = a.written;
+    room = a.room;
+    left = stopped_so octets (Room old) (Written old) (Written new) (encode_error e.kind) a.left;
+  }
+
+  pub appends_as : {W A : Type 0} (octets others : List ℕ) (Room : W → ℕ) (Written : W → List ℕ) (old new : W)
+      (r : Result A errors.Error) → octets ≡ others → Appends Has octets Room Written old new r
+      → Appends Is others Room Written old new r
+  appends_as octets others Room Written old new r same a =
+      subst (λ o. Appends Is o Room Written old new r) same (appends_so octets Room Written old new r a)
+
+-- Octets that there are aren't counted only if there are too many.
+pub uncounted_as : {H : Type 0} (octets : List ℕ) (k : ErrorKind) → H → WhyOctetsNotCounted H octets (encode_error k)
+    → (k ≡ Overflow) × (limit < length octets)
+uncounted_as octets (kinds.Value tag) has h = absurd (h has)
+uncounted_as octets kinds.Overflow has h = (refl, h.1)
+uncounted_as octets kinds.NoRoom has h = absurd h
+uncounted_as octets kinds.Failed has h = absurd h
+uncounted_as octets kinds.Incomplete has h = absurd h
+uncounted_as octets kinds.IndefiniteLength has h = absurd h
+uncounted_as octets (kinds.Length tag) has h = absurd h
+uncounted_as octets (kinds.Noncanonical tag) has h = absurd h
+uncounted_as octets kinds.OidMalformed has h = absurd h
+uncounted_as octets kinds.OidUnknown has h = absurd h
+uncounted_as octets kinds.Overlength has h = absurd h
+uncounted_as octets kinds.ParametersMissing has h = absurd h
+uncounted_as octets (kinds.TagUnexpected expected actual) has h = absurd h
+uncounted_as octets (kinds.TagUnknown octet) has h = absurd h
+uncounted_as octets kinds.TrailingData has h = absurd h
+uncounted_as octets kinds.File has h = absurd h
+uncounted_as octets kinds.OutOfMemory has h = absurd h
+
+counts_why : {P Q : Type 0} (octets : List ℕ) → (P → Q) → (Q → P) → (k : EncodeError)
+    → WhyOctetsNotCounted P octets k → WhyOctetsNotCounted Q octets k
+counts_why octets there back no_encoding u = λ q. u (back q)
+counts_why octets there back too_long u = (there u.0, u.1)
+counts_why octets there back no_room u = u
+counts_why octets there back another u = u
+
+-- Counted under one premise is counted under another.
+pub counts_as : {P Q : Type 0} (octets : List ℕ) (r : Result ℕ errors.Error) → (P → Q) → (Q → P) → Counts P octets r
+    → Counts Q octets r
+counts_as octets (Ok n) there back c = (there c.0, c.1, c.2)
+counts_as octets (Err e) there back c = counts_why octets there back (encode_error e.kind) c
+
+-- What is written under a mask: what the code joins field by field is what is printed of the spelling.
 
 -- Of fields that all have their defaults, none is there under mask 0.
 none_under : (fs : List WrittenField) → bits_of (are_defaults fs) ≡ 0 → octets_under 0 fs ≡ []
@@ -102,3 +177,104 @@ module _ {V : Type 0} {Is : V → Type 0} {fields : V → List Field} (r : Field
     zero_refuses room error.Crypto h = h
     zero_refuses room error.KeyMalformed h = h
     zero_refuses room error.Version h = h
+
+-- Encodings of parameters: none is a proper beginning of another, and two mean the same by the shortest.
+module _ {V : Type 0} {Is : V → Type 0} {fields : V → List Field} (r : FieldRecord Is fields) where
+  follow : (v w : V) (bytes rest : List ℕ) → SequenceOf Is fields Fields v bytes
+      → SequenceOf Is fields Fields w (bytes ++ rest) → (v ≡ w) × (rest ≡ [])
+  follow v w bytes rest x y =
+      let (few, (s, e, ok, is)) = spelled_from r v bytes x in
+      let (within, (t, f, right, same)) = spelled_from r w (bytes ++ rest) y in
+      let all = ap (λ z. z ++ rest) (sym is) ∙ same ∙ sym (append-nil (sequence (spelled r.kinds t))) in
+      let one =
+      prints_one (record_front_law r) s t rest [] ok right (omega (arith, within, ap (λ z. length (z ++ rest)) is)) all in
+      (sym e ∙ ap (record_means r) one.0 ∙ f, one.1)
+
+  pub record_delimited : AreDelimited (SequenceOf Is fields Fields)
+  record_delimited = ((λ v p. let never = p.4 in cc), follow)
+
+  -- The laws of masks.
+  pub defaults_counted : DefaultsAreCounted fields
+  defaults_counted v = (default_count r v, counted_there r v, counted r v)
+
+  pub each_has_one_mask : EachHasOneMask Is fields
+  each_has_one_mask v bytes p =
+      let (mask, q, only) = has_one_mask r v bytes p in
+      (mask, (default_count r v, counted_there r v, (only_under r v mask bytes q).0), q, only)
+
+  pub each_mask_has_one : EachMaskHasOne Is fields
+  each_mask_has_one v mask x y p q =
+      let same = (only_under r v mask x p).1 ∙ sym (only_under r v mask y q).1 in
+      (same, under_is_one r v mask x p)
+
+  pub shortest_has_no_defaults : ShortestHasNoDefaults Is fields
+  shortest_has_no_defaults v bytes = (
+    zero_shortest r v bytes,
+    λ s.
+        let z = zero_least r v bytes s.0 in
+        elim (s.1 (made r v 0) (under_is_one r v 0 (made r v 0) z.0)) [
+          | inl same ↦ subst (EncodedUnder 0 Is fields v) same z.0
+          | inr l ↦ absurd (omega (arith, l, z.1))
+        ],
+  )
+
+  pub accepted_fits : AcceptedFits Is fields
+  accepted_fits v bytes p = let z = zero_least r v bytes p in (made r v 0, z.0, z.1)
+
+module _ {V : Type 0} (Encoding : V → List ℕ → Type 0) where
+  one_shortest : (v : V) (s t : List ℕ) → IsShortest Encoding v s → IsShortest Encoding v t → s ≡ t
+  one_shortest v s t p q = elim (p.1 t q.0) [
+    | inl e ↦ sym e
+    | inr l ↦ elim (q.1 s p.0) [ inl e ↦ e | inr k ↦ absurd (omega (arith, l, k)) ]
+  ]
+
+  pub same_by_shortest : AreDelimited Encoding → SameByShortest Encoding
+  same_by_shortest delimited v w a b s t p q x y = (
+    λ e. one_shortest w s t (subst (λ u. IsShortest Encoding u s) e x) y,
+    λ e. (delimited.1 v w t [] (subst (Encoding v) e x.0) (subst (Encoding w) (sym (append-nil t)) y.0)).0,
+  )
+
+-- No bytes encode parameters and something that begins with another tag, or identifiers of two algorithms.
+
+-- The fields of parameters have tags from 160 on.
+abbrev pub Begin : List Field → Type 0
+Begin [] = Unit {0}
+Begin (f ∷ fields) = (160 ≤ slice_index f.written 0) × Begin fields
+
+pub begins : (fields : List Field) (tag : ℕ) (rest : List ℕ) → tag < 160 → Begin fields → Fields fields (tag ∷ rest) → ⊥
+begins [] tag rest low ok e = cc
+begins (f ∷ fields) tag rest low ok (inl p) = begins fields tag rest low ok.1 p.1
+begins (f ∷ fields) tag rest low ok (inr (later, is, more)) = go f.written ok.0 is
+  where
+    go : (w : List ℕ) → 160 ≤ slice_index w 0 → tag ∷ rest ≡ w ++ later → ⊥
+    go [] high e = omega (arith, high)
+    go (x ∷ xs) high e = let same : tag ≡ x = ap (λ b. slice_index b 0) e in omega (arith, high, same, low)
+
+pub pss_begin : (v : PssParameters) → Begin (pss_fields v)
+pss_begin v = (omega arith, (omega arith, (omega arith, (omega arith, tt))))
+
+pub oaep_begin : (v : OaepParameters) → Begin (oaep_fields v)
+oaep_begin v = (omega arith, (omega arith, (omega arith, tt)))
+
+-- A SEQUENCE that begins with a lower tag, of such fields.
+pub differs : {V : Type 0} (Is : V → Type 0) (fields : V → List Field) (v : V) (tag : ℕ) (bytes rest : List ℕ)
+    → tag < 160 → Begin (fields v) → bytes ≡ sequence (tag ∷ rest) → SequenceOf Is fields Fields v bytes → ⊥
+differs Is fields v tag bytes rest low ok is (valid, few, c, holds, same) =
+    begins (fields v) tag rest low ok
+    (subst (Fields (fields v))
+    (same_contents c (tag ∷ rest) (omega (arith, few, ap length same)) (sym same ∙ is)) holds)
+
+pub pss_no_identifier : Excludes PssEncoding PlainEncoding
+pss_no_identifier v a bytes p q = differs IsPss pss_fields v 6 bytes _ (omega arith) (pss_begin v) q.2 p
+
+pub oaep_no_identifier : Excludes OaepEncoding PlainEncoding
+oaep_no_identifier v a bytes p q = differs IsOaep oaep_fields v 6 bytes _ (omega arith) (oaep_begin v) q.2 p
+
+pub algorithms_differ : Excludes PssAlgorithmEncoding OaepAlgorithmEncoding
+unfolding length_octets
+algorithms_differ v w bytes p q =
+    let same =
+    same_contents (tlv 6 id_rsassa_pss ++ p.1) (tlv 6 id_rsaes_oaep ++ q.1)
+    (omega (arith, p.0, ap length p.3)) (sym p.3 ∙ q.3) in
+    let last : 10 ≡ 7 = ap (λ (l : List ℕ). slice_index l 10) same in
+    omega (arith, last)

@@ -2,19 +2,10 @@
 -- the fields has their faults.
 use Rattle.std.proofs.Common.{◌≡◌, ℕ, List, [], ◌∷◌, refl, sym, ap, ◌∙◌, inl, inr, Ok, Err, Some, None}
 use Rattle.der_core.specs.declared.error.ErrorKind.{ErrorKind}
-use Rattle.der_core.specs.Input.{Input, end_of, read_from, left_in}
-use Rattle.der_core.specs.Laws.Input.{ok_pair}
-use Rattle.der_core.specs.Reading.{AllocatesIn, Asks}
-use Rattle.der_core.specs.Readings.{FrontReading, Reading, ◌>>=◌, made, no_parts}
-use Rattle.spki_core.specs.Allocating.{FieldAllocates, AlgorithmAllocates}
-use Rattle.spki_core.specs.FieldSpellings.{Kind, Values, values_read, FieldRecord, record_read}
-use Rattle.spki_core.specs.Readings.{defaulted}
+use Rattle.der_core.specs.Words.{Input, end_of, read_from, left_in, ok_pair, AllocatesIn, Asks, FrontReading, Reading, ◌>>=◌, made, no_parts, AreBytes, made_errs, Tlv}
+use Rattle.spki_core.specs.Words.{FieldAllocates, AlgorithmAllocates, Kind, Values, values_read, FieldRecord, record_read, defaulted, record_reads}
 use Rattle.der_core.proofs.ReadSteps.{Fails, Gives, chain_from, fails_so}
-use Rattle.der_core.specs.Encodings.{AreBytes}
-use Rattle.der_core.specs.Laws.Readings.{made_errs}
 use Rattle.der_core.specs.declared.error.ErrorKind.TheVariants.{OutOfMemory}
-use Rattle.der_core.specs.Tlv.{Tlv}
-use Rattle.spki_core.specs.Laws.FieldSpellings.Records.{record_reads}
 use Rattle.standard.specs.Statement.{Field, Fields}
 
 -- A value that is made of another.

@@ -1,33 +1,14 @@
 -- Whole slices that are read as parameters. Those that begin with the usual two fields: what reads parameters computes
 -- them, strictly too.
-use Rattle.std.proofs.Common.{ℕ, Bool, List, [], ◌∷◌, ◌++◌, ◌==◌, ◌&&◌, ◌≡◌, ◌≤◌, ◌<◌, ◌∙◌, refl, ap, sym, Ok, true}
-use Rattle.std.proofs.Common.{false, arith, length, take, drop, eqb}
-use Rattle.std.specs.Int.Digits.{number_from_digits}
-use Rattle.std.specs.Prelude.{nat_lt, if◌then◌else◌, Result}
-use Rattle.std.proofs.lemmas.Bool.Decides.{nat_tests}
-use Rattle.std.proofs.lemmas.List.{drop_all, take-append-drop, take_all}
-use Rattle.der_core.specs.Input.{header_at, length_at}
-use Rattle.der_core.specs.Length.{limit}
-use Rattle.der_core.specs.Readings.{Reading, tagged, whole, ◌>>=◌}
-use Rattle.der_core.specs.Tags.{sequence}
-use Rattle.spki_core.specs.Any.{null_value}
-use Rattle.spki_core.specs.FieldSpellings.{record_read, record_strictly, FieldRecord, record_whole, spelling_read}
-use Rattle.spki_core.specs.FieldSpellings.{strict_value, strict_whole}
-use Rattle.pkcs1_params.specs.HashFunctions.{hash_algorithm}
-use Rattle.pkcs1_params.specs.Laws.Records.{oaep_record, pss_record}
-use Rattle.pkcs1_params.specs.Parameters.{with_parameters}
-use Rattle.pkcs1_params.specs.UsualParameters.{IsUsualOaep, IsUsualPss, fields_with_hash, oaep_with_hash, pss_with_hash}
-use Rattle.pkcs1_params.specs.UsualParameters.{salt_field}
+use Rattle.std.proofs.Common.{ℕ, Bool, List, [], ◌∷◌, ◌++◌, ◌==◌, ◌&&◌, ◌≡◌, ◌≤◌, ◌<◌, ◌∙◌, refl, ap, sym, Ok, true, false, arith, length, take, drop, eqb, nat_lt, if◌then◌else◌, Result, take-append-drop, take_all}
+use Rattle.der_core.specs.Words.{number_from_digits, nat_tests, header_at, length_at, limit, Reading, tagged, whole, ◌>>=◌, sequence, AreBytes, bind_ok, ok_of}
+use Rattle.std.proofs.lemmas.List.{drop_all}
+use Rattle.spki_core.specs.Words.{null_value, record_read, record_strictly, FieldRecord, record_whole, spelling_read, strict_value, strict_whole}
+use Rattle.pkcs1_params.specs.Words.{hash_algorithm, oaep_record, pss_record, with_parameters, IsUsualOaep, IsUsualPss, fields_with_hash, oaep_with_hash, pss_with_hash, salt_field, ErrsAs, Encoded, Error}
 use Rattle.standard.specs.Statement.{OaepParameters, PssParameters, Decodes, Field, IsShortest, sha1}
-use Rattle.der_core.specs.Encodings.{AreBytes}
-use Rattle.der_core.specs.Laws.Readings.{bind_ok}
-use Rattle.der_core.specs.Printed.{ok_of}
 use Rattle.spki_core.proofs.Fielded.{record_decodes}
 use Rattle.spki_core.proofs.StrictFields.{strict_decodes}
-use Rattle.pkcs1_params.specs.Meanings.{ErrsAs}
-use Rattle.pkcs1_params.specs.Spellings.{Encoded}
-use Rattle.pkcs1_params.specs.declared.error.Error.{Error}
-use Rattle.pkcs1_params.proofs.FaultsTold.{errs_decode}
+use Rattle.pkcs1_params.proofs.Faults.{errs_decode}
 
 pub joined : (n : ℕ) (c front back last : List ℕ) → front ≡ take n c → back ≡ drop n c → back ≡ last → c ≡ front ++ last
 joined n c front back last f b l =

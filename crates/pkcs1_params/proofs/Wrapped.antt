@@ -1,16 +1,11 @@
 -- SEQUENCEs of an identifier and parameters: each encoding of the parameters stands in one.
-use Rattle.std.proofs.Common.{ℕ, List, [], ◌∷◌, ◌++◌, ◌≡◌, ◌<◌, ◌≤◌, ◌^◌, length, drop, map, refl, sym, subst, ap, ◌∙◌}
-use Rattle.std.proofs.Common.{arith, inl, inr, length-append, true}
+use Rattle.std.proofs.Common.{ℕ, List, [], ◌∷◌, ◌++◌, ◌≡◌, ◌<◌, ◌≤◌, ◌^◌, length, drop, map, refl, sym, subst, ap, ◌∙◌, arith, inl, inr, length-append, true, ◌+◌, nat_lt, slice_index_or}
 use Rattle.std.proofs.Math.Seq.{drop-append_seam}
 use Rattle.std.proofs.lemmas.Bool.{cases_lt}
 use Rattle.std.proofs.lemmas.List.{get_or-map, length-map}
-use Rattle.std.proofs.lemmas.Bool.Decides.{nat_tests}
-use Rattle.std.specs.Prelude.{◌+◌, nat_lt, slice_index_or}
-use Rattle.der_core.specs.Laws.Printed.Leaves.{octets_grow, tlv_fit}
-use Rattle.der_core.specs.Length.{limit}
+use Rattle.der_core.specs.Words.{nat_tests, octets_grow, tlv_fit, limit}
 use Rattle.spki_core.proofs.Fielded.{grows}
-use Rattle.standard.specs.Statement.{AlgorithmEncoding, AreAll, Field, Fields, FieldsUnder, IsShortest, SequenceOf}
-use Rattle.standard.specs.Statement.{length_octets, longest, sequence, tlv}
+use Rattle.standard.specs.Statement.{AlgorithmEncoding, AreAll, Field, Fields, FieldsUnder, IsShortest, SequenceOf, length_octets, longest, sequence, tlv}
 
 -- SEQUENCEs: longer contents make a longer one, and the same one has the same contents.
 longer : (c d : List ℕ) → length c < length d → length d ≤ limit → length (sequence c) < length (sequence d)

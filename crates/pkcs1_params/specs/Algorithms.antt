@@ -1,21 +1,15 @@
 -- Algorithm identifiers with parameters of their own: { id-RSASSA-PSS, RSASSA-PSS-params } and { id-RSAES-OAEP,
 -- RSAES-OAEP-params } (RFC 8017 A.2.3, A.2.1; RFC 4055 3.1, 4.1).
-use Rattle.std.specs.Prelude.{ℕ, List, ◌≡◌, ◌≤◌, ◌++◌, length, Option, Some, None, Result, Err, if◌then◌else◌}
-use Rattle.std.specs.Str.{bytes_eq}
+use Rattle.std.specs.Prelude.{ℕ, List, ◌≡◌, ◌≤◌, ◌++◌, length, Option, Some, None, Result, Err, if◌then◌else◌, bytes_eq}
 use Rattle.der_core.specs.declared.error.ErrorKind.{ErrorKind}
 use Rattle.der_core.specs.declared.error.ErrorKind.TheVariants.{Noncanonical, OidUnknown, ParametersMissing}
-use Rattle.der_core.specs.Encodings.{AreBytes}
-use Rattle.der_core.specs.Length.{limit}
-use Rattle.der_core.specs.Readings.{Reading, ◌>>=◌, whole}
-use Rattle.der_core.specs.Tag.{context_tag}
+use Rattle.der_core.specs.Words.{AreBytes, limit, Reading, ◌>>=◌, whole, context_tag}
 use Rattle.der_core.specs.Tags as tags
 use Rattle.der_core.specs.declared.tag.Tag.{Tag}
-use Rattle.spki_core.specs.Readings.{any_as}
+use Rattle.spki_core.specs.Words.{any_as}
 use Rattle.pkcs1_params.specs.ParameterReadings.{oaep_read, plain_front, pss_read, strict_oaep_read, strict_pss_read}
 use Rattle.pkcs1_params.specs.Spellings.{Encoded, FirstWritten}
-use Rattle.standard.specs.Statement.{Algorithm, AlgorithmEncoding, Field, Fields, IsAlgorithm, IsAny}
-use Rattle.standard.specs.Statement.{OaepParameters, PssParameters, TagAndContents, algorithm, any, id_rsaes_oaep}
-use Rattle.standard.specs.Statement.{id_rsassa_pss, sequence, tlv}
+use Rattle.standard.specs.Statement.{Algorithm, AlgorithmEncoding, Field, Fields, IsAlgorithm, IsAny, OaepParameters, PssParameters, TagAndContents, algorithm, any, id_rsaes_oaep, id_rsassa_pss, sequence, tlv}
 
 -- The algorithm has this identifier, and its parameters are the SEQUENCE of the fields of a value that may be encoded.
 abbrev pub Identifies : {V : Type 0} → List ℕ → (V → Type 0) → (V → List Field) → V → Algorithm TagAndContents → Type 0

@@ -1,6 +1,6 @@
 -- A borrowed field as it is written, by what its holder holds.
 use Rattle.std.specs.Prelude.{ℕ}
-use Rattle.spki_core.specs.FieldSpellings.{WrittenField, field_with}
+use Rattle.spki_core.specs.Words.{WrittenField, field_with}
 use Rattle.pkcs1_params.specs.ParameterReadings.{hash_kind, mask_kind, salt_kind, source_kind, trailer_kind}
 use Rattle.pkcs1_params.specs.declared.fields.FieldRef.{FieldRef}
 use Rattle.pkcs1_params.specs.declared.fields.FieldRef.TheVariants as ref

@@ -1,8 +1,6 @@
 -- The hash functions of RFC 8017 B.1, and which of them parameters use.
 use Rattle.std.specs.Prelude.{ℕ, List, [], ◌∷◌, ◌≡◌, IsSomeAnd}
-use Rattle.spki_core.specs.AlgorithmIdentifier.{Algorithm}
-use Rattle.spki_core.specs.Any.{TagAndContents}
-use Rattle.spki_core.specs.HashAlgorithms.{IsHash}
+use Rattle.spki_core.specs.Words.{Algorithm, TagAndContents, IsHash}
 use Rattle.pkcs1_params.specs.Parameters.{id_mgf1}
 
 -- The contents of identifiers, { nistalgorithm hashalgs(2) n } (RFC 8017 appendix C). That of SHA-1 is a default's.

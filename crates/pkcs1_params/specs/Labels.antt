@@ -1,11 +1,9 @@
 -- The label of RSAES-OAEP parameters (RFC 8017 A.2.1), and what is written for it.
 use Rattle.std.specs.Prelude.{ℕ, List, ◌≡◌, Option, Some, None, [], Result, if◌then◌else◌}
-use Rattle.spki_core.specs.AlgorithmIdentifier.{Algorithm}
-use Rattle.spki_core.specs.Any.{TagAndContents}
+use Rattle.spki_core.specs.Words.{Algorithm, TagAndContents, fields_with, octets_under, one_spelled}
 use Rattle.pkcs1_params.specs.Parameters.{id_p_specified, octets_value, with_parameters}
-use Rattle.der_core.specs.Writing.{Counts}
+use Rattle.der_core.specs.Words.{Counts}
 use Rattle.der_core.specs.declared.error.Error.{Error}
-use Rattle.spki_core.specs.FieldSpellings.{fields_with, octets_under, one_spelled}
 use Rattle.pkcs1_params.specs.OaepValue.{labelled}
 use Rattle.pkcs1_params.specs.ParameterReadings.{in_oaep_fields, oaep_kinds, source_kind}
 use Rattle.standard.specs.Statement.{Algorithm, IsOaep, TagAndContents, sequence}

@@ -1,9 +1,7 @@
 -- What calls return, and why, as errors of this crate.
 use Rattle.std.specs.Prelude.{ℕ, List, [], ◌++◌, ◌≡◌, Option, Some, None, Result, Ok, Err}
 use Rattle.der_core.specs.declared.error.ErrorKind.{ErrorKind}
-use Rattle.der_core.specs.Reading.{FaultOrMemory, TellsOfBytes}
-use Rattle.der_core.specs.Readings.{Reading}
-use Rattle.der_core.specs.Writing.{Unwritten, encode_error}
+use Rattle.der_core.specs.Words.{FaultOrMemory, TellsOfBytes, Reading, Unwritten, encode_error}
 use Rattle.pkcs1_params.specs.declared.error.Error.{Error}
 use Rattle.pkcs1_params.specs.Errors.{IsAsn1}
 

@@ -1,12 +1,9 @@
 -- What RSAES-OAEP parameters mean, by what holds their identifiers and the parameters of algorithms, and for which of
 -- them owned ones ask for memory.
 use Rattle.std.specs.Prelude.{ℕ, List, ◌≡◌, length}
-use Rattle.der_core.specs.Encodings.{AreBytes}
-use Rattle.spki_core.specs.Any.{TagAndContents, null_value}
-use Rattle.spki_core.specs.AnyRefValue.{any_of}
+use Rattle.der_core.specs.Words.{AreBytes}
+use Rattle.spki_core.specs.Words.{TagAndContents, null_value, any_of, algorithm_in, mask_in, own_octets_of, octets_of}
 use Rattle.spki_core.specs.declared.any.AnyRef.{AnyRef}
-use Rattle.spki_core.specs.AlgorithmValue.{algorithm_in, mask_in}
-use Rattle.spki_core.specs.ObjectIdentifierValue.{own_octets_of, octets_of}
 use Rattle.pkcs1_params.specs.Parameters.{id_mgf1, id_p_specified, with_parameters, octets_value, OaepParameters}
 use Rattle.standard.specs.Statement.{Fields, IfPresent, IsBare, IsOaep, OaepEncoding, oaep_fields}
 use Rattle.pkcs1_params.specs.declared.oaep.OaepParamsOf.{OaepParamsOf}

@@ -1,15 +1,10 @@
 -- Parameters as SEQUENCEs of fields with defaults, and reading them as functions of the bytes (RFC 8017 A.2.3, A.2.1).
 use Rattle.std.specs.Prelude.{ℕ, ◌+◌, ◌<◌, ◌≡◌, ◌==◌, List, [], ◌∷◌, IsTrue, true, eqb}
-use Rattle.der_core.specs.IntegerReading.{small_of}
-use Rattle.der_core.specs.Readings.{FrontReading, Reading, made, such, tagged, whole}
-use Rattle.der_core.specs.Tag.{is_allowed}
+use Rattle.der_core.specs.Words.{small_of, FrontReading, Reading, made, such, tagged, whole, is_allowed}
 use Rattle.der_core.specs.Tags as tags
 use Rattle.der_core.specs.declared.error.ErrorKind.TheVariants.{Value}
-use Rattle.spki_core.specs.AlgorithmIdentifier.{same_mask, same_plain}
-use Rattle.spki_core.specs.FieldSpellings.{Kind, Values, strict_contents, strict_slice, values_read}
-use Rattle.spki_core.specs.Readings.{algorithm_read, any as any_front}
-use Rattle.standard.specs.Statement.{Algorithm, IsAlgorithm, IsAny, OaepParameters, PssParameters, TagAndContents}
-use Rattle.standard.specs.Statement.{algorithm, any, empty_label, integer, mgf1_sha1, sha1}
+use Rattle.spki_core.specs.Words.{same_mask, same_plain, Kind, Values, strict_contents, strict_slice, values_read, algorithm_read, any as any_front}
+use Rattle.standard.specs.Statement.{Algorithm, IsAlgorithm, IsAny, OaepParameters, PssParameters, TagAndContents, algorithm, any, empty_label, integer, mgf1_sha1, sha1}
 
 -- Algorithm identifiers with parameters of any tag, and with such an identifier as parameters.
 abbrev pub plain_front : FrontReading (Algorithm TagAndContents)

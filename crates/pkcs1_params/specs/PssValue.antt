@@ -1,11 +1,8 @@
 -- What RSASSA-PSS parameters mean, by what holds their identifiers and the parameters of algorithms, and for which of
 -- them owned ones ask for memory.
 use Rattle.std.specs.Prelude.{ℕ, List}
-use Rattle.spki_core.specs.Any.{TagAndContents}
-use Rattle.spki_core.specs.AnyRefValue.{any_of}
+use Rattle.spki_core.specs.Words.{TagAndContents, any_of, algorithm_in, mask_in, own_octets_of, octets_of}
 use Rattle.spki_core.specs.declared.any.AnyRef.{AnyRef}
-use Rattle.spki_core.specs.AlgorithmValue.{algorithm_in, mask_in}
-use Rattle.spki_core.specs.ObjectIdentifierValue.{own_octets_of, octets_of}
 use Rattle.pkcs1_params.specs.Parameters.{PssParameters}
 use Rattle.pkcs1_params.specs.declared.pss.PssParamsOf.{PssParamsOf}
 use Rattle.spki_core.specs.declared.identifier_view.IdentifierView.{IdentifierView}

@@ -1,9 +1,7 @@
 -- The encodings of a SEQUENCE of fields with defaults: one under each mask, and why one isn't written or listed.
 use Rattle.std.specs.Prelude.{ℕ, List, [], ◌∷◌, ◌++◌, ◌+◌, ◌≡◌, ◌<◌, ◌≤◌, ◌^◌, ◌⊎◌, ◌↔◌, length, map, Err}
 use Rattle.std.specs.Global.{Vec}
-use Rattle.der_core.specs.Length.{limit}
-use Rattle.der_core.specs.Readings.{Reading}
-use Rattle.der_core.specs.Tag.{context_tag}
+use Rattle.der_core.specs.Words.{limit, Reading, context_tag}
 use Rattle.der_core.specs.declared.error.ErrorKind.{ErrorKind}
 use Rattle.der_core.specs.declared.error.ErrorKind.TheVariants.{Noncanonical, OutOfMemory, Overflow}
 use Rattle.der_core.specs.declared.tag.Tag.{Tag}

@@ -1,13 +1,10 @@
 -- hashAlgorithm and maskGenAlgorithm of a SHA-2 hash function with NULL, and MGF1 with the same hash function (RFC 8017
 -- A.2.1, A.2.3, B.1): most parameters begin with them.
-use Rattle.std.specs.Prelude.{ℕ, List, [], ◌∷◌, ◌++◌, ◌≡◌, ◌<◌, ◌≤◌, ◌⊎◌}
-use Rattle.spki_core.specs.AlgorithmIdentifier.{Algorithm}
-use Rattle.spki_core.specs.Any.{TagAndContents, null_value}
+use Rattle.std.specs.Prelude.{ℕ, List, [], ◌∷◌, ◌++◌, ◌≡◌, ◌<◌, ◌≤◌, ◌⊎◌, length}
+use Rattle.spki_core.specs.Words.{Algorithm, TagAndContents, null_value}
 use Rattle.pkcs1_params.specs.HashFunctions.{hash_algorithm}
 use Rattle.pkcs1_params.specs.OaepValue.{labelled}
-use Rattle.pkcs1_params.specs.Parameters.{id_mgf1, id_sha1, octets_value, with_parameters}
-use Rattle.pkcs1_params.specs.Parameters.{OaepParameters, PssParameters}
-use Rattle.standard.specs.Statement.{empty_label}
+use Rattle.pkcs1_params.specs.Parameters.{id_mgf1, id_p_specified, id_sha1, octets_value, with_parameters, OaepParameters, PssParameters}
 
 -- The encoding of a hash function whose identifier has nine octets, with NULL.
 abbrev pub hash_with_null : List ℕ → List ℕ
@@ -57,9 +54,17 @@ abbrev pub AreKnown : List ℕ → List ℕ → List ℕ → List ℕ → Type 0
 AreKnown hash mask_gen under fields =
     (mask_gen ≡ id_mgf1)
     × (((hash ≡ id_sha1) × (under ≡ id_sha1) × (fields ≡ []))
-    ⊎ ((n : ℕ) × (n ≤ 6) × (hash ≡ hash_algorithm n)
+    ⊎ ((n : ℕ) × (1 ≤ n) × (n ≤ 6) × (hash ≡ hash_algorithm n)
     × (((under ≡ id_sha1) × (fields ≡ field_with_hash (hash_algorithm n)))
     ⊎ ((under ≡ hash_algorithm n) × (fields ≡ fields_with_hash (hash_algorithm n))))))
+
+-- Identifiers and a salt length, or a label, of parameters that are written as known octets.
+abbrev pub IsKnownPss : List ℕ → List ℕ → List ℕ → ℕ → Type 0
+IsKnownPss hash mask_gen under s = (fields : List ℕ) × AreKnown hash mask_gen under fields × (s < 128)
+
+abbrev pub IsKnownOaep : List ℕ → List ℕ → List ℕ → List ℕ → List ℕ → Type 0
+IsKnownOaep hash mask_gen under source label =
+    (fields : List ℕ) × AreKnown hash mask_gen under fields × (source ≡ id_p_specified) × (length label < 64)
 
 abbrev pub pss_with_hashes : List ℕ → List ℕ → List ℕ → ℕ → PssParameters
 pss_with_hashes hash mask_gen under s = record {

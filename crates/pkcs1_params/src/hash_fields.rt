@@ -1,8 +1,6 @@
 //! hashAlgorithm and maskGenAlgorithm, which both sets of parameters begin with.
-ghost use Rattle.std.specs.Bool.{Decides};
-ghost use Rattle.std.specs.Prelude.{◌≡◌};
+ghost use Rattle.std.specs.Prelude.{Decides, ◌≡◌, bytes_eq};
 ghost use Rattle.spki_core.specs.Words.{null_value, algorithm_in, mask_in};
-ghost use Rattle.std.specs.Str.{bytes_eq};
 ghost use Rattle.pkcs1_params.specs.Words.{UsesHash, id_mgf1, id_sha1, pkcs1_algorithm, with_parameters};
 
 use crate::hash_functions::Mgf1;

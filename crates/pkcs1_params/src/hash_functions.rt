@@ -1,7 +1,6 @@
 //! Types that name the hash functions and the mask generation function of PKCS #1 (RFC 8017 B.1, B.2.1).
 ghost use Rattle.std.specs.Prelude.{refl};
-ghost use Rattle.pkcs1_params.specs.Words.{id_mgf1, id_sha1, id_sha224, id_sha256, id_sha384, id_sha512};
-ghost use Rattle.pkcs1_params.specs.Words.{id_sha512_224, id_sha512_256};
+ghost use Rattle.pkcs1_params.specs.Words.{id_mgf1, id_sha1, id_sha224, id_sha256, id_sha384, id_sha512, id_sha512_224, id_sha512_256};
 
 use spki_core::AssociatedOid;
 

@@ -1,8 +1,7 @@
 //! The algorithms in parameters, whatever holds their identifiers and parameters: how they are written.
 ghost use Rattle.std.specs.Prelude.{◌≡◌};
-ghost use Rattle.spki_core.specs.Words.{Algorithm, TagAndContents, algorithm_held, algorithm_in, algorithm_map, mask_in};
-ghost use Rattle.spki_core.specs.Words.{same_mask, same_plain};
-ghost use Rattle.spki_core.specs.Laws.WritesAs.{WritesAs, algorithm_writes};
+ghost use Rattle.spki_core.specs.Words.{Algorithm, TagAndContents, algorithm_held, algorithm_in, algorithm_map, mask_in, same_mask, same_plain};
+ghost use Rattle.spki_core.specs.Laws.HaveEncodings.{WritesAs, algorithm_writes};
 ghost use Rattle.standard.specs.Statement.{IsAlgorithm, IsAny, algorithm, any, empty_label, mgf1_sha1, sha1};
 
 use crate::hash_fields::{is_mgf1, is_sha1};

@@ -1,8 +1,8 @@
 //! Writing of parameters whose hash functions are known: SHA-1 and those of `usual`, with NULL. Most are such, so they
 //! are written as octets that are known, without a test of their identifiers.
-ghost use Rattle.std.specs.Prelude.{◌≡◌, ◌+◌, ◌<◌, ◌≤◌, ◌∷◌, ◌++◌, drop, length, IfSome, None, Some};
+ghost use Rattle.std.specs.Prelude.{◌≡◌, ◌+◌, ◌<◌, ◌≤◌, ◌∷◌, ◌++◌, drop, length, IfSome, List, None, Some, ℕ};
 ghost use Rattle.der_core.specs.Words.{AreBytes, Prepends, free_of, sequence_tag};
-ghost use Rattle.pkcs1_params.specs.Words.{AreKnown, hash_algorithm, oaep_with_hashes, pss_with_hashes};
+ghost use Rattle.pkcs1_params.specs.Words.{AreKnown, IsKnownOaep, IsKnownPss, hash_algorithm, oaep_with_hashes, pss_with_hashes};
 ghost use Rattle.standard.specs.Statement.{Encodes, OaepEncoding, PssEncoding};
 
 use crate::hash_fields::{is_mgf1, is_sha1};
@@ -14,7 +14,8 @@ use der_core::BackWriter;
 /// The number of the hash function of NIST with this identifier.
 #[inline(always)]
 fn hash_number(oid: &[u8]) -> Option<u8>
-    ensures { IfSome result (λ number. oid.now ≡ hash_algorithm number) }
+    ensures some { IfSome result (λ number. oid.now ≡ hash_algorithm number) }
+    ensures none { result ≡ None → (number : ℕ) → oid.now ≡ hash_algorithm number → ⊥ }
 {
     match oid {
         [a, b, c, d, e, f, g, h, number] => {
@@ -35,7 +36,8 @@ fn hash_number(oid: &[u8]) -> Option<u8>
 /// What the hash function and the mask generation function with these identifiers are written as, if that is known.
 #[inline(always)]
 fn known_fields(hash: &[u8], mask_gen: &[u8], under: &[u8]) -> Option<&'static [u8]>
-    ensures { IfSome result (λ fields. AreKnown hash.now mask_gen.now under.now fields.now) }
+    ensures some { IfSome result (λ fields. AreKnown hash.now mask_gen.now under.now fields.now) }
+    ensures none { result ≡ None → (fields : List ℕ) → AreKnown hash.now mask_gen.now under.now fields → ⊥ }
 {
     if is_sha1(hash) {
         if is_mgf1(mask_gen) && is_sha1(under) {
@@ -76,6 +78,8 @@ fn put_sequence(fields: &[u8], later: &[u8], last: &[u8], out: &mut [u8]) -> Opt
         let encoding = sequence_tag ∷ length contents ∷ contents in
         IfSome result (λ n. (n ≡ length encoding) × (out.new ≡ encoding ++ drop n out.old)) }
     ensures unchanged { result ≡ None → out.new ≡ out.old }
+    ensures none { let contents = fields.now ++ (later.now ++ last.now) in
+        result ≡ None → length out.old < length (sequence_tag ∷ length contents ∷ contents) }
     ensures bytes { AreBytes fields.now × AreBytes (later.now ++ last.now) }
 {
     let count = fields.len() + later.len() + last.len();
@@ -104,6 +108,10 @@ pub fn encode_known_pss(
     ensures written { let params = pss_with_hashes hash.now mask_gen.now under.now salt_len in
         IfSome result (λ n. Encodes PssEncoding params out.old out.new (Some n)) }
     ensures unchanged { result ≡ None → out.new ≡ out.old }
+    ensures known { IfSome result (λ n. IsKnownPss hash.now mask_gen.now under.now salt_len) }
+    ensures none { let params = pss_with_hashes hash.now mask_gen.now under.now salt_len in
+        result ≡ None → IsKnownPss hash.now mask_gen.now under.now salt_len
+        → Encodes PssEncoding params out.old out.new None }
 {
     if salt_len >= 0x80 {
         return None;
@@ -128,6 +136,10 @@ pub fn encode_known_oaep(
     ensures written { let params = oaep_with_hashes hash.now mask_gen.now under.now source.now label.now in
         IfSome result (λ n. Encodes OaepEncoding params out.old out.new (Some n)) }
     ensures unchanged { result ≡ None → out.new ≡ out.old }
+    ensures known { IfSome result (λ n. IsKnownOaep hash.now mask_gen.now under.now source.now label.now) }
+    ensures none { let params = oaep_with_hashes hash.now mask_gen.now under.now source.now label.now in
+        result ≡ None → IsKnownOaep hash.now mask_gen.now under.now source.now label.now
+        → Encodes OaepEncoding params out.old out.new None }
 {
     if label.len() >= 64 || !is_p_specified(source) {
         return None;

@@ -1,13 +1,9 @@
 //! pSourceAlgorithm, the source of the label of RSAES-OAEP (RFC 8017 A.2.1): parameters with a label, how long it may
 //! be, and the label of parameters.
-ghost use Rattle.std.specs.Option.{option_map};
-ghost use Rattle.std.specs.Prelude.{◌≡◌, ◌≤◌, ⊤, false, length, refl, true, ℕ, List};
-ghost use Rattle.std.specs.Str.{bytes_eq};
+ghost use Rattle.std.specs.Prelude.{option_map, ◌≡◌, ◌≤◌, ⊤, false, length, refl, true, ℕ, List, bytes_eq};
 ghost use Rattle.der_core.specs.Words.{AreBytes, Counts, limit, tlv};
 ghost use Rattle.spki_core.specs.Words.{algorithm_in, algorithm_of, any_of, viewed_with};
-ghost use Rattle.pkcs1_params.specs.Words.{CountsLabelled, LabelFits, LabelOf, NoLabelFits, id_p_specified, labelled};
-ghost use Rattle.pkcs1_params.specs.Words.{oaep_of, oaep_viewed, oaep_with, octets_value, with_parameters};
-ghost use Rattle.pkcs1_params.specs.Words.{written_source};
+ghost use Rattle.pkcs1_params.specs.Words.{CountsLabelled, LabelFits, LabelOf, NoLabelFits, id_p_specified, labelled, oaep_of, oaep_viewed, oaep_with, octets_value, with_parameters, written_source};
 ghost use Rattle.standard.specs.Statement.{empty_label};
 
 use crate::hash_fields::is_pkcs1;

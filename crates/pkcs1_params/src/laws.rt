@@ -1,15 +1,8 @@
 //! Laws of the encodings of parameters: functions that do nothing, each with a law as its contract.
 ghost use Rattle.std.specs.Prelude.{ℕ, List};
 ghost use Rattle.der_core.specs.Words.{AllocatesIn, AreBytes, Excludes, value_in};
-ghost use Rattle.pkcs1_params.specs.Words.{AcceptedFits, DefaultsAreCounted, EachHasOneMask, EachMaskHasOne};
-ghost use Rattle.pkcs1_params.specs.Words.{AreDelimited, FaultsTell, NamesFirstDefault, NamesFirstDefaultIn};
-ghost use Rattle.pkcs1_params.specs.Words.{IsBareOaep, IsBarePss, OaepParameters, PlainEncoding, PssParameters};
-ghost use Rattle.pkcs1_params.specs.Words.{rsa_oaep_algorithm, rsa_oaep_params, rsa_pss_algorithm, rsa_pss_params};
-ghost use Rattle.pkcs1_params.specs.Words.{strict_oaep_algorithm, strict_oaep_params, strict_pss_algorithm};
-ghost use Rattle.pkcs1_params.specs.Words.{ShortestHasNoDefaults, strict_pss_params};
-ghost use Rattle.standard.specs.Statement.{Decodes, IsOaep, IsPss, IsShortest, OaepAlgorithmEncoding, OaepEncoding};
-ghost use Rattle.standard.specs.Statement.{PssAlgorithmEncoding, PssEncoding, SameByShortest, TwoToTheDefaults};
-ghost use Rattle.standard.specs.Statement.{TwoToTheDefaultsIn, id_rsaes_oaep, id_rsassa_pss, oaep_fields, pss_fields};
+ghost use Rattle.pkcs1_params.specs.Words.{AcceptedFits, DefaultsAreCounted, EachHasOneMask, EachMaskHasOne, AreDelimited, FaultsTell, NamesFirstDefault, NamesFirstDefaultIn, IsBareOaep, IsBarePss, OaepParameters, PlainEncoding, PssParameters, rsa_oaep_algorithm, rsa_oaep_params, rsa_pss_algorithm, rsa_pss_params, strict_oaep_algorithm, strict_oaep_params, strict_pss_algorithm, ShortestHasNoDefaults, strict_pss_params};
+ghost use Rattle.standard.specs.Statement.{Decodes, IsOaep, IsPss, IsShortest, OaepAlgorithmEncoding, OaepEncoding, PssAlgorithmEncoding, PssEncoding, SameByShortest, TwoToTheDefaults, TwoToTheDefaultsIn, id_rsaes_oaep, id_rsassa_pss, oaep_fields, pss_fields};
 
 use crate::oaep::RsaOaepParamsOwned;
 use crate::pss::RsaPssParamsOwned;

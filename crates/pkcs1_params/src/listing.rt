@@ -2,8 +2,7 @@
 ghost use Rattle.std.specs.Prelude.{◌≡◌, ◌≤◌, ◌^◌, ℕ, List, [], length, slice_index_or, IfErr, IfOk, OnOk, Some};
 ghost use Rattle.der_core.specs.Words.{limit};
 ghost use Rattle.der_core.specs.declared.error.ErrorKind.{ErrorKind};
-ghost use Rattle.spki_core.specs.Words.{are_defaults, record_fields, record_under, spelled};
-ghost use Rattle.spki_core.specs.FieldSpellings.{defaults, upto};
+ghost use Rattle.spki_core.specs.Words.{are_defaults, record_fields, record_under, spelled, defaults, upto};
 ghost use Rattle.pkcs1_params.specs.DefaultBits.{bits_of};
 ghost use Rattle.pkcs1_params.specs.Spellings.{Encoded, IsListingError, encodings_in};
 ghost use Rattle.standard.specs.Statement.{IsShortest, Lists, longest, sequence};

@@ -1,8 +1,7 @@
 //! Parameters of RSAES-OAEP (RFC 8017 A.2.1).
 ghost use Rattle.std.specs.Prelude.{◌≡◌, [], refl};
 ghost use Rattle.pkcs1_params.specs.Words.{OaepParameters, oaep_in, oaep_kinds, oaep_read, oaep_record};
-ghost use Rattle.spki_core.specs.Words.{AreSpelled, Spelling, record_alike, record_law, record_means, record_shortest};
-ghost use Rattle.spki_core.specs.Words.{record_under, spelled, spelling_read};
+ghost use Rattle.spki_core.specs.Words.{AreSpelled, Spelling, record_alike, record_law, record_means, record_shortest, record_under, spelled, spelling_read};
 ghost use Rattle.standard.specs.Statement.{empty_label, mgf1_sha1, sha1};
 
 use crate::contents::{append_contents, contents_len, prepend_contents};

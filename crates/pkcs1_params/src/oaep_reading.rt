@@ -1,7 +1,6 @@
 //! Reading of RSAES-OAEP parameters.
 ghost use Rattle.std.specs.Prelude.{◌≡◌, ◌↔◌, None};
-ghost use Rattle.pkcs1_params.specs.Words.{IsEncoded, OaepParameters, fault_in, oaep_in, oaep_of, oaep_record, oaep_viewed};
-ghost use Rattle.pkcs1_params.specs.Words.{rsa_oaep_params, strict_oaep_params};
+ghost use Rattle.pkcs1_params.specs.Words.{IsEncoded, OaepParameters, fault_in, oaep_in, oaep_of, oaep_record, oaep_viewed, rsa_oaep_params, strict_oaep_params};
 ghost use Rattle.spki_core.specs.Words.{any_of};
 ghost use Rattle.standard.specs.Statement.{IsOaep, OaepEncoding, empty_label, mgf1_sha1, oaep_fields, sha1};
 

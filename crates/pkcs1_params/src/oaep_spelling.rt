@@ -2,8 +2,7 @@
 ghost use Rattle.std.specs.Prelude.{◌≡◌, ◌≤◌, [], ⊤, length, slice_index_or, IfErr, IfOk, OnOk, Some};
 ghost use Rattle.der_core.specs.Words.{limit};
 ghost use Rattle.pkcs1_params.specs.Words.{IsListingError, IsMask, OaepParameters, Refuses, encodings_in, oaep_in, oaep_record};
-ghost use Rattle.standard.specs.Statement.{Defaults, FieldsUnder, IsOaep, IsShortest, Lists, OaepEncoding, SequenceOf};
-ghost use Rattle.standard.specs.Statement.{longest, oaep_fields};
+ghost use Rattle.standard.specs.Statement.{Defaults, FieldsUnder, IsOaep, IsShortest, Lists, OaepEncoding, SequenceOf, longest, oaep_fields};
 
 use crate::error::Result;
 use crate::fields::{FieldRef, FieldThen, NoField};
@@ -60,7 +59,7 @@ impl<'b, O: IdentifierValue, P: AnyValue> EncodeParams for &'b OaepParamsOf<O, P
 }
 
 impl<O: IdentifierValue, P: AnyValue> OaepParamsOf<O, P> {
-    ghost use Rattle.std.specs.Bool.{Decides};
+    ghost use Rattle.std.specs.Prelude.{Decides};
     ghost use Rattle.pkcs1_params.specs.Words.{UsesHash};
 
     /// Whether the hash function is D, and the mask generation function is MGF1 with D: each of them by `is_hash`, so

@@ -1,8 +1,7 @@
 //! Reading parameters whose algorithms have owned parameters: those that borrow from the input, copied.
 ghost use Rattle.std.specs.Prelude.{◌≡◌, ◌≢◌, [], IfOk, IfErr};
 ghost use Rattle.der_core.specs.declared.error.ErrorKind.TheVariants.{OutOfMemory};
-ghost use Rattle.pkcs1_params.specs.Words.{IsBareOaep, IsBarePss, OwnedOaepAllocates, OwnedPssAllocates, oaep_of, oaep_with};
-ghost use Rattle.pkcs1_params.specs.Words.{pss_of, pss_with};
+ghost use Rattle.pkcs1_params.specs.Words.{IsBareOaep, IsBarePss, OwnedOaepAllocates, OwnedPssAllocates, oaep_of, oaep_with, pss_of, pss_with};
 ghost use Rattle.spki_core.specs.Words.{algorithm_with, algorithm_of, mask_of, any_of, own_any_of};
 ghost use Rattle.standard.specs.Statement.{IfPresent, IsBare};
 

@@ -1,9 +1,7 @@
 //! Parameters of RSASSA-PSS (RFC 8017 A.2.3).
 ghost use Rattle.std.specs.Prelude.{◌≡◌, refl};
-ghost use Rattle.pkcs1_params.specs.Words.{PssParameters, id_mgf1, pss_in, pss_kinds, pss_of, pss_read, pss_record, pss_with};
-ghost use Rattle.pkcs1_params.specs.Words.{with_parameters};
-ghost use Rattle.spki_core.specs.Words.{AreSpelled, Spelling, null_value, record_alike, record_law, record_means};
-ghost use Rattle.spki_core.specs.Words.{record_shortest, record_under, spelled, spelling_read};
+ghost use Rattle.pkcs1_params.specs.Words.{PssParameters, id_mgf1, pss_in, pss_kinds, pss_of, pss_read, pss_record, pss_with, with_parameters};
+ghost use Rattle.spki_core.specs.Words.{AreSpelled, Spelling, null_value, record_alike, record_law, record_means, record_shortest, record_under, spelled, spelling_read};
 ghost use Rattle.standard.specs.Statement.{mgf1_sha1, sha1};
 
 use crate::contents::{append_contents, contents_len, prepend_contents};

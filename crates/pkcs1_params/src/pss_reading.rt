@@ -1,7 +1,6 @@
 //! Reading of RSASSA-PSS parameters.
 ghost use Rattle.std.specs.Prelude.{◌≡◌, ◌↔◌, None};
-ghost use Rattle.pkcs1_params.specs.Words.{IsEncoded, PssParameters, fault_in, pss_in, pss_of, pss_record, pss_viewed};
-ghost use Rattle.pkcs1_params.specs.Words.{rsa_pss_params, strict_pss_params};
+ghost use Rattle.pkcs1_params.specs.Words.{IsEncoded, PssParameters, fault_in, pss_in, pss_of, pss_record, pss_viewed, rsa_pss_params, strict_pss_params};
 ghost use Rattle.spki_core.specs.Words.{any_of};
 ghost use Rattle.standard.specs.Statement.{IsPss, PssEncoding, mgf1_sha1, pss_fields, sha1};
 

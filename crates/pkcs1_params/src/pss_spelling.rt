@@ -2,8 +2,7 @@
 ghost use Rattle.std.specs.Prelude.{◌≡◌, ◌≤◌, [], ⊤, length, slice_index_or, IfErr, IfOk, OnOk, Some};
 ghost use Rattle.der_core.specs.Words.{limit};
 ghost use Rattle.pkcs1_params.specs.Words.{IsListingError, IsMask, PssParameters, Refuses, encodings_in, pss_in, pss_record};
-ghost use Rattle.standard.specs.Statement.{Defaults, FieldsUnder, IsPss, IsShortest, Lists, PssEncoding, SequenceOf};
-ghost use Rattle.standard.specs.Statement.{longest, pss_fields};
+ghost use Rattle.standard.specs.Statement.{Defaults, FieldsUnder, IsPss, IsShortest, Lists, PssEncoding, SequenceOf, longest, pss_fields};
 
 use crate::error::Result;
 use crate::fields::{FieldRef, FieldThen, NoField};
@@ -67,7 +66,7 @@ impl<'b, O: IdentifierValue, P: AnyValue> EncodeParams for &'b PssParamsOf<O, P>
 }
 
 impl<O: IdentifierValue, P: AnyValue> PssParamsOf<O, P> {
-    ghost use Rattle.std.specs.Bool.{Decides};
+    ghost use Rattle.std.specs.Prelude.{Decides};
     ghost use Rattle.pkcs1_params.specs.Words.{UsesHash};
 
     /// Whether the hash function is D, and the mask generation function is MGF1 with D: each of them by `is_hash`, so

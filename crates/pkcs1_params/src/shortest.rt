@@ -1,8 +1,6 @@
 //! Parameters as their shortest encoding.
 ghost use Rattle.std.specs.Prelude.{◌≡◌};
-ghost use Rattle.spki_core.specs.Words.{AreSpelled, are_defaults, record_alike, record_fields, record_law};
-ghost use Rattle.spki_core.specs.Words.{record_means, record_read, record_shortest, record_under, spelled};
-ghost use Rattle.spki_core.specs.Words.{spelling_read, viewed_with};
+ghost use Rattle.spki_core.specs.Words.{AreSpelled, are_defaults, record_alike, record_fields, record_law, record_means, record_read, record_shortest, record_under, spelled, spelling_read, viewed_with};
 ghost use Rattle.spki_core.specs.FieldSpellings as spellings;
 ghost use Rattle.pkcs1_params.specs.DefaultBits.{bits_of};
 ghost use Rattle.pkcs1_params.specs.Parameters.{with_parameters};

@@ -1,10 +1,8 @@
 //! Spellings of parameters: a mask says which of their defaults are written.
-ghost use Rattle.std.specs.Prelude.{◌≡◌, ◌≤◌, ◌<◌, ⊤, List, length, IfErr, IfOk};
-ghost use Rattle.std.specs.Option.{option_map};
+ghost use Rattle.std.specs.Prelude.{◌≡◌, ◌≤◌, ◌<◌, ⊤, List, length, IfErr, IfOk, option_map};
 ghost use Rattle.der_core.specs.Words.{alike, limit, ok_of, one_spelling};
 ghost use Rattle.der_core.specs.declared.error.ErrorKind.{ErrorKind};
-ghost use Rattle.spki_core.specs.Words.{AreSpelled, FieldRecord, are_defaults, first_default, number_in};
-ghost use Rattle.spki_core.specs.Words.{record_fields, record_law, record_under, spelled, spelling_read};
+ghost use Rattle.spki_core.specs.Words.{AreSpelled, FieldRecord, are_defaults, first_default, number_in, record_fields, record_law, record_under, spelled, spelling_read};
 ghost use Rattle.spki_core.specs.FieldSpellings as spellings;
 ghost use Rattle.pkcs1_params.specs.DefaultBits.{bits_of};
 ghost use Rattle.pkcs1_params.specs.Meanings.{Refuses};

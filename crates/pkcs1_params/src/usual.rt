@@ -1,10 +1,9 @@
 //! Parameters that begin with a SHA-2 hash function with NULL, and MGF1 with the same hash function, or have a salt length
 //! alone. Most are such, so their octets are compared before they are read field by field.
-ghost use Rattle.std.specs.Prelude.{◌≡◌, ◌<◌, ◌≤◌, ◌∷◌, ◌&&◌, [], eqb, false, length, IfSome, IsTrue};
+ghost use Rattle.std.specs.Prelude.{◌≡◌, ◌<◌, ◌≤◌, ◌∷◌, ◌&&◌, [], eqb, false, length, IfSome, IsTrue, None};
 ghost use Rattle.der_core.specs.Words.{sequence_tag};
 ghost use Rattle.spki_core.specs.Words.{any_of, mask_in, octets_of, viewed_with};
-ghost use Rattle.pkcs1_params.specs.Words.{AreUsual, HaveUsualHash, IsUsualOaep, IsUsualPss, id_mgf1, oaep_viewed};
-ghost use Rattle.pkcs1_params.specs.Words.{fields_with_hash, hash_algorithm, pss_viewed, with_parameters};
+ghost use Rattle.pkcs1_params.specs.Words.{AreUsual, HaveUsualHash, IsUsualOaep, IsUsualPss, id_mgf1, oaep_viewed, fields_with_hash, hash_algorithm, pss_viewed, with_parameters};
 
 use crate::oaep::RsaOaepParamsView;
 use crate::pss::{RsaPssParamsRef, RsaPssParamsView};
@@ -57,8 +56,9 @@ const SHA512_256_FIELDS: &[u8] = &[
 /// The octets of both fields with the hash function of this number, if it is one of the six.
 #[inline(always)]
 pub(crate) fn usual_fields(number: u8) -> Option<&'static [u8]>
-    ensures { IfSome result (λ fields. (1 ≤ number) × (number ≤ 6)
+    ensures some { IfSome result (λ fields. (1 ≤ number) × (number ≤ 6)
         × (fields.now ≡ fields_with_hash (hash_algorithm number))) }
+    ensures none { result ≡ None → 1 ≤ number → number ≤ 6 → ⊥ }
 {
     match number {
         1 => Some(SHA256_FIELDS),

@@ -1,19 +1,16 @@
 -- Copying a key stops.
-use Rattle.std.proofs.Common.{◌≡◌, ◌⊎◌, ℕ, List, inl, inr, refl, sym, Option, Some}
-use Rattle.std.specs.Prelude.{Result, Ok, Err, IfErr}
+use Rattle.std.proofs.Common.{◌≡◌, ◌⊎◌, ℕ, List, inl, inr, refl, sym, Option, Some, Result, Ok, Err, IfErr}
 use Rattle.std.proofs.lemmas.Option.{none-some, same_Some}
 use Rattle.std.proofs.lemmas.Result.{IfErr-weaker}
 use Rattle.der_core.specs.declared.error.Error as der
 use Rattle.der_core.specs.declared.error.ErrorKind.{ErrorKind}
-use Rattle.der_core.specs.Printed.{ok_of}
-use Rattle.der_core.specs.Readings.{Reading}
-use Rattle.der_core.specs.SourcesSinks.{GivesAll}
-use Rattle.pkcs1.specs.KeyEncodings.{IsEncoded}
+use Rattle.der_core.specs.Words.{ok_of, Reading, GivesAll}
+use Rattle.pkcs1.specs.Words.{IsEncoded}
 use Rattle.pkcs1_params.specs.declared.error.Error.{Error}
 use Rattle.pkcs1_params.specs.declared.error.Error.TheVariants as error
-use Rattle.pkcs1_params.specs.Errors.{IsAsn1}
+use Rattle.pkcs1_params.specs.Words.{IsAsn1}
 use Rattle.standard.specs.Statement.{Decodes}
-use Rattle.pkcs1_program.specs.Copied.{WhyKeyNotRead, WhyKeyNotWritten, WhyNotCopied}
+use Rattle.pkcs1_program.specs.Words.{WhyKeyNotRead, WhyKeyNotWritten, WhyNotCopied}
 
 -- What is said of an error of the library below says more.
 pub asn1_by : (P Q : der.Error → Type 0) → ((a : der.Error) → P a → Q a) → (e : Error) → IsAsn1 P e → IsAsn1 Q e

@@ -1,12 +1,11 @@
 -- An input and a line, cut at the first place of a byte.
-use Rattle.std.proofs.Common.{◌≡◌, ℕ, suc, ◌+◌, ◌<◌, ◌==◌, Bool, true, false, not, cond, List, [], ◌∷◌, length, take}
-use Rattle.std.proofs.Common.{drop, Some, None, refl, ◌∙◌, arith, one-add, add-one}
-use Rattle.std.specs.List.{position, position_or_len, onto_first}
-use Rattle.std.proofs.lemmas.Bool.Decides.{nat_tests}
-use Rattle.std.proofs.lemmas.List.{take_all, drop_all}
+use Rattle.std.proofs.Common.{◌≡◌, ℕ, suc, ◌+◌, ◌<◌, ◌==◌, Bool, true, false, not, cond, List, [], ◌∷◌, length, take, drop, Some, None, refl, ◌∙◌, arith, one-add, add-one, position, take_all}
+use Rattle.std.specs.List.{position_or_len, onto_first}
+use Rattle.der_core.specs.Words.{nat_tests}
+use Rattle.std.proofs.lemmas.List.{drop_all}
 use Rattle.std.proofs.lemmas.List.Sums.{prefix_len-le-length}
 use Rattle.std.proofs.lemmas.List.Splits.{length-slice_split}
-use Rattle.pkcs1_program.specs.Lines.{lines_of, parts_of}
+use Rattle.pkcs1_program.specs.Words.{lines_of, parts_of}
 
 -- where the first such byte is
 pub position-some : (at n : ℕ) (bytes : List ℕ) → position (λ other. other == at) bytes ≡ Some n

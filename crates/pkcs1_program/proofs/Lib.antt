@@ -1,8 +1,6 @@
 pub mod CutAtByte
-pub mod Requests
-pub mod OneAnswer
+pub mod Runs
+pub mod Answers
 pub mod PutBehind
 pub mod Verdicts
-pub mod Spelled
-pub mod Runs
 pub mod Copies

@@ -1,18 +1,13 @@
 -- What is put behind bytes, piece by piece.
-use Rattle.std.proofs.Common.{◌≡◌, ℕ, List, [], ◌∷◌, ◌++◌, ◌+◌, ◌<◌, length, take, inl, inr, refl, sym, ap, ◌∙◌}
-use Rattle.std.proofs.Common.{append_assoc, append-nil, get_or, None}
+use Rattle.std.proofs.Common.{◌≡◌, ℕ, List, [], ◌∷◌, ◌++◌, ◌+◌, ◌<◌, length, take, inl, inr, refl, sym, ap, ◌∙◌, append_assoc, append-nil, get_or, None, flat_map, Result, OnOk, codes}
 use Rattle.std.proofs.lemmas.Grind.{flat_map-append}
 use Rattle.std.proofs.lemmas.List.{take_more}
-use Rattle.std.specs.List.{flat_map}
-use Rattle.std.specs.Prelude.{Result, OnOk, codes}
 use Rattle.std.proofs.lemmas.Result.{on_ok_weaker}
-use Rattle.der_core.specs.Laws.Integer.{holds_canonical}
-use Rattle.der_core.specs.Laws.Printed.Leaves.{number_octets}
-use Rattle.der_core.specs.UintRefValue.{bytes_of}
+use Rattle.der_core.specs.Words.{holds_canonical, number_octets, bytes_of}
 use Rattle.der_core.specs.declared.integer.uint.UintRef.{UintRef}
-use Rattle.pkcs1.specs.Held.{number_in}
+use Rattle.pkcs1.specs.Words.{number_in}
 use Rattle.standard.specs.Statement.{AtMostOne, Decodes, IsShortest, octets}
-use Rattle.pkcs1_program.specs.Answer.{Answered, Tells}
+use Rattle.pkcs1_program.specs.Words.{Answered, Tells}
 
 -- one piece more in front of those that follow
 more : (old now new piece rest : List ℕ) → now ≡ old ++ piece → new ≡ now ++ rest → new ≡ old ++ (piece ++ rest)

@@ -1,15 +1,20 @@
--- Answers, line by line.
-use Rattle.std.proofs.Common.{◌≡◌, ℕ, ◌+◌, min, List, [], ◌∷◌, ◌++◌, length, take, refl, sym, ap, subst, ◌∙◌, arith}
-use Rattle.std.proofs.Common.{append_assoc}
-use Rattle.std.specs.Prelude.{Option}
+-- What a line asks for, and answers line by line.
+use Rattle.std.proofs.Common.{◌≡◌, ℕ, ◌+◌, min, List, [], ◌∷◌, ◌++◌, length, take, refl, sym, ap, subst, ◌∙◌, arith, append_assoc, Option, ◌==◌, true, false, Some, None, Result, Ok, Err, codes, bytes_eq, eqb-true}
 use Rattle.std.specs.Io.KnownBytes.{Appends}
 use Rattle.std.proofs.KnownBytes.{Appends-nil, Appends-trans}
 use Rattle.std.proofs.Math.Seq.{take-append-add}
 use Rattle.std.proofs.lemmas.List.{take-append-le, take_min}
-use Rattle.der_core.specs.SourcesSinks.{AppendsFront}
-use Rattle.der_core.specs.Encodings.{AtMostOne}
-use Rattle.pkcs1_program.specs.Answer.{Answer, Outputs}
-use Rattle.pkcs1_program.specs.Written.{Makes, WritesFront, WritesFrontOfAll}
+use Rattle.der_core.specs.Words.{AppendsFront, AtMostOne}
+use Rattle.pkcs1_program.specs.Words.{Answer, Outputs, Makes, WritesFront, WritesFrontOfAll, parts_of, bad_line, words, pair_words, named, decoded, encoding_of, asked_with, pair_asked_with, asked_by, asked_by_parts}
+use Rattle.std.specs.List.{join_with_byte}
+use Rattle.std.proofs.lemmas.List.Splits.{slice_split_none, join_with_byte-slice_split}
+use Rattle.std.proofs.lemmas.Slice.Eq.{bytes_eq-Decides}
+use Rattle.hex.specs.Hex.{decode_of, is_hex_digit}
+use Rattle.hex.specs.declared.error.FromHexError.{FromHexError}
+use Rattle.hex.proofs.HexLemmas.{decode_of-ok}
+use Rattle.pkcs1_program.specs.declared.request.Word.{Word}
+use Rattle.pkcs1_program.specs.declared.request.PairWord.{PairWord}
+use Rattle.pkcs1_program.proofs.CutAtByte.{parts_of-some}
 
 -- one more answer
 pub Outputs-push : (lines : List (List ℕ)) (line output answer : List ℕ) → Outputs lines output → Answer line answer
@@ -78,3 +83,100 @@ WritesFront-all one old new lines written all answers =
     let same : parts.0 ≡ output = one written.0 parts.0 output parts.2 written.4 in
     let whole : all ≡ output ++ parts.1 = parts.3 ∙ ap (λ o. o ++ parts.1) same in
     (min n (length output), rw (whole, take-front n output parts.1) written.5.1)
+
+-- What a line asks for.
+
+-- a space is no digit
+not_space : (b : ℕ) → is_hex_digit b ≡ true → (b == 32) ≡ false
+not_space b digit =
+    elim (b == 32) as (λ t. (b == 32) ≡ t → t ≡ false) [
+      | true ↦ λ e. let no : false ≡ true = subst (λ x. is_hex_digit x ≡ true) (eqb-true b 32 e) digit in cc
+      | false ↦ λ e. refl
+    ] refl
+
+decoded_ok : (r : Result (List ℕ) FromHexError) (encoding : List ℕ) → decoded r ≡ Some encoding
+    → (bytes : List ℕ) × (r ≡ Ok bytes)
+decoded_ok (Ok bytes) encoding e = (bytes, refl)
+decoded_ok (Err failure) encoding e = cc
+
+-- what stands for an encoding has no space
+hex_one_part : (hex encoding : List ℕ) → encoding_of hex ≡ Some encoding → parts_of hex ≡ hex ∷ []
+hex_one_part hex encoding e =
+    let ok = decoded_ok (decode_of hex) encoding e in
+    let digits = (decode_of-ok hex ok.0 ok.1).1 in
+    slice_split_none (λ byte. byte == 32) hex (λ k d below. not_space _ (digits k d below))
+
+-- what has a space stands for no encoding
+no_encoding_at : (encoding : Option (List ℕ)) (hex a b : List ℕ) (more : List (List ℕ)) → encoding_of hex ≡ encoding
+    → parts_of hex ≡ a ∷ b ∷ more → encoding ≡ None
+no_encoding_at None hex a b more e cut = refl
+no_encoding_at (Some encoding) hex a b more e cut =
+    let lengths : length (hex ∷ []) ≡ length (a ∷ b ∷ more) = ap length (sym (hex_one_part hex encoding e) ∙ cut) in
+    absurd (omega (arith, lengths))
+
+no_encoding : (hex a b : List ℕ) (more : List (List ℕ)) → parts_of hex ≡ a ∷ b ∷ more → encoding_of hex ≡ None
+no_encoding hex a b more cut = no_encoding_at (encoding_of hex) hex a b more refl cut
+
+-- the only part is the whole
+one_part : (line part : List ℕ) → parts_of line ≡ part ∷ [] → part ≡ line
+one_part line part cut = sym (ap (join_with_byte 32) cut) ∙ join_with_byte-slice_split 32 line
+
+no_parts : (line : List ℕ) → parts_of line ≡ [] → ⊥
+no_parts line cut =
+    let some = parts_of-some line in
+    let none : length (parts_of line) ≡ 0 = ap length cut in
+    omega (arith, some, none)
+
+-- a word of one encoding isn't one of two
+another_name : (name word : List ℕ) (w : Word) → named words name ≡ None → named words word ≡ Some w
+    → bytes_eq name word ≡ false
+another_name name word w none some =
+    elim (bytes_eq name word) as (λ t. bytes_eq name word ≡ t → t ≡ false) [
+      | true ↦ λ e. let no : None ≡ Some w =
+          sym none ∙ subst (λ n. named words n ≡ Some w) (sym ((bytes_eq-Decides name word).0 e)) some in cc
+      | false ↦ λ e. refl
+    ] refl
+
+no_pair_word : (word : List ℕ) (w : Word) → named words word ≡ Some w → named pair_words word ≡ None
+no_pair_word word w is =
+    rw (another_name (codes "same-pss") word w refl is, another_name (codes "same-oaep") word w refl is)
+
+-- What follows a word of one encoding is that encoding, or the line is bad.
+one_encoding : (word rest : List ℕ) (w : Word) (parts : List (List ℕ)) → parts_of rest ≡ parts
+    → named words word ≡ Some w
+    → asked_by_parts (word ∷ parts) ≡ asked_with (Some w) (encoding_of rest)
+one_encoding word rest w [] cut is = absurd (no_parts rest cut)
+one_encoding word rest w (hex ∷ []) cut is =
+    ap (λ n. asked_with n (encoding_of hex)) is ∙ ap (λ h. asked_with (Some w) (encoding_of h)) (one_part rest hex cut)
+one_encoding word rest w (hex ∷ second ∷ []) cut is =
+    ap (λ n. pair_asked_with n (encoding_of hex) (encoding_of second)) (no_pair_word word w is)
+    ∙ sym (ap (λ t. asked_with (Some w) t) (no_encoding rest hex second [] cut))
+one_encoding word rest w (hex ∷ second ∷ more ∷ parts) cut is =
+    sym (ap (λ t. asked_with (Some w) t) (no_encoding rest hex second (more ∷ parts) cut))
+
+pub asks_one : (line word rest : List ℕ) (w : Word) → parts_of line ≡ word ∷ parts_of rest → named words word ≡ Some w
+    → asked_by line ≡ asked_with (Some w) (encoding_of rest)
+asks_one line word rest w cut is = ap asked_by_parts cut ∙ one_encoding word rest w (parts_of rest) refl is
+
+-- What follows the first part of a word of two encodings is the second encoding, or the line is bad.
+no_second : (w : PairWord) (first : Option (List ℕ)) → pair_asked_with (Some w) first None ≡ bad_line
+no_second w (Some first) = refl
+no_second w None = refl
+
+two_encodings : (word first rest : List ℕ) (w : PairWord) (parts : List (List ℕ)) → parts_of rest ≡ parts
+    → named pair_words word ≡ Some w
+    → asked_by_parts (word ∷ first ∷ parts) ≡ pair_asked_with (Some w) (encoding_of first) (encoding_of rest)
+two_encodings word first rest w [] cut is = absurd (no_parts rest cut)
+two_encodings word first rest w (second ∷ []) cut is =
+    ap (λ n. pair_asked_with n (encoding_of first) (encoding_of second)) is
+    ∙ ap (λ s. pair_asked_with (Some w) (encoding_of first) (encoding_of s)) (one_part rest second cut)
+two_encodings word first rest w (second ∷ more ∷ parts) cut is =
+    sym (ap (λ t. pair_asked_with (Some w) (encoding_of first) t) (no_encoding rest second more parts cut)
+    ∙ no_second w (encoding_of first))
+
+pub asks_two : (line word rest first second : List ℕ) (w : PairWord) → parts_of line ≡ word ∷ parts_of rest
+    → parts_of rest ≡ first ∷ parts_of second
+    → named pair_words word ≡ Some w → asked_by line ≡ pair_asked_with (Some w) (encoding_of first) (encoding_of second)
+asks_two line word rest first second w cut cut2 is =
+    ap asked_by_parts (cut ∙ ap (λ parts. word ∷ parts) cut2)
+    ∙ two_encodings word first second w (parts_of second) refl is

@@ -1,14 +1,10 @@
 -- Whether something is so.
-use Rattle.std.proofs.Common.{◌≡◌, ℕ, inl, inr, List, ◌++◌, ◌≤◌, length, Bool, true, false, refl, subst, ap, arith}
-use Rattle.std.proofs.Common.{Some}
-use Rattle.std.specs.Option.{option_map}
-use Rattle.std.specs.Prelude.{Result, Ok, Err, ◌↔◌, codes, if◌then◌else◌, IsTrue}
-use Rattle.std.specs.Result.{is_ok, result_ok}
-use Rattle.der_core.specs.Document.{EncodeError, WhyNotWritten, another, no_encoding, no_room, too_long}
-use Rattle.der_core.specs.Printed.{Prints, Spells, ok_of}
-use Rattle.pkcs1_params.specs.Meanings.{IsEncoded}
+use Rattle.std.proofs.Common.{◌≡◌, ℕ, inl, inr, List, ◌++◌, ◌≤◌, length, Bool, true, false, refl, subst, ap, arith, Some, option_map, Result, Ok, Err, ◌↔◌, codes, if◌then◌else◌, IsTrue, is_ok}
+use Rattle.std.specs.Result.{result_ok}
+use Rattle.der_core.specs.Words.{EncodeError, WhyNotWritten, another, no_encoding, no_room, too_long, Prints, Spells, ok_of}
+use Rattle.pkcs1_params.specs.Words.{IsEncoded}
 use Rattle.standard.specs.Statement.{Decodes, IsShortest}
-use Rattle.pkcs1_program.specs.Answer.{SaysWhether}
+use Rattle.pkcs1_program.specs.Words.{SaysWhether}
 
 abbrev pub said : List ℕ → Bool → List ℕ
 said word holds = word ++ (if holds then codes " yes" else codes " no")

@@ -1,9 +1,7 @@
 -- The output for a line, and for an input.
 use Rattle.std.specs.Prelude.{◌≡◌, ℕ, ◌≤◌, ◌⊎◌, List, [], ◌∷◌, ◌++◌, Some, None, codes, length}
-use Rattle.pkcs8_core.specs.Rsa.{ContainedKey}
-use Rattle.standard.specs.Statement.{Container, ContainerEncoding, Decodes, Defaults, Field, Fields, IsOaep, IsPss}
-use Rattle.standard.specs.Statement.{IsShortest, Lists, OaepEncoding, PrivateKey, PrivateKeyEncoding, PssEncoding}
-use Rattle.standard.specs.Statement.{PublicKeyEncoding, SequenceOf, limit, longest, oaep_fields, pss_fields}
+use Rattle.pkcs8_core.specs.Words.{ContainedKey}
+use Rattle.standard.specs.Statement.{Container, ContainerEncoding, Decodes, Defaults, Field, Fields, IsOaep, IsPss, IsShortest, Lists, OaepEncoding, PrivateKey, PrivateKeyEncoding, PssEncoding, PublicKeyEncoding, SequenceOf, limit, longest, oaep_fields, pss_fields}
 use Rattle.pkcs1_program.specs.Lines.{lines_of}
 use Rattle.pkcs1_program.specs.declared.request.Word.{Word}
 use Rattle.pkcs1_program.specs.declared.request.Word.TheVariants as word

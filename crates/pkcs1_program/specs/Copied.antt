@@ -2,11 +2,8 @@
 use Rattle.std.specs.Prelude.{◌≡◌, ◌⊎◌, ℕ, List, Option, Some, None, Err}
 use Rattle.der_core.specs.declared.error.ErrorKind.{ErrorKind}
 use Rattle.der_core.specs.declared.error.ErrorKind.TheVariants.{File}
-use Rattle.der_core.specs.Transfer.{WhyDocumentNotRead}
-use Rattle.der_core.specs.Files.{FileFault, FileGives}
-use Rattle.der_core.specs.Readings.{Reading}
-use Rattle.der_core.specs.SourcesSinks.{GivesAll}
-use Rattle.pkcs1.specs.KeyEncodings.{IsEncoded}
+use Rattle.der_core.specs.Words.{WhyDocumentNotRead, FileFault, FileGives, Reading, GivesAll}
+use Rattle.pkcs1.specs.Words.{IsEncoded}
 
 -- All that the source gave until its end is the encoding of a key, and exactly that was written at the place.
 abbrev pub CopiesKey : {V Place : Type 0} → (V → List ℕ → Type 0) → Option (List ℕ) → Option (List ℕ)

@@ -1,10 +1,7 @@
 -- The output for keys and parameters.
-use Rattle.std.specs.Prelude.{ℕ, List, [], ◌∷◌, ◌++◌, Option, Some, None, length, codes}
-use Rattle.std.specs.List.{flat_map}
-use Rattle.std.specs.Fmt.{decimal}
+use Rattle.std.specs.Prelude.{ℕ, List, [], ◌∷◌, ◌++◌, Option, Some, None, length, codes, flat_map, decimal}
 use Rattle.hex.specs.Hex.{encode_lower}
-use Rattle.standard.specs.Statement.{Algorithm, OaepParameters, OtherPrime, PrivateKey, PssParameters, PublicKey}
-use Rattle.standard.specs.Statement.{TagAndContents, octets}
+use Rattle.standard.specs.Statement.{Algorithm, OaepParameters, OtherPrime, PrivateKey, PssParameters, PublicKey, TagAndContents, octets}
 
 -- a label, and bytes in hexadecimal digits
 abbrev pub field : List ℕ → List ℕ → List ℕ

@@ -1,7 +1,7 @@
 -- How much of the output was written.
 use Rattle.std.specs.Prelude.{◌≡◌, ℕ, List, ◌++◌, Option, Result, Ok, Err}
 use Rattle.std.specs.Io.KnownBytes.{Appends}
-use Rattle.der_core.specs.SourcesSinks.{AppendsFront, OneFailed}
+use Rattle.der_core.specs.Words.{AppendsFront, OneFailed}
 use Rattle.pkcs1_program.specs.Answer.{Outputs}
 use Rattle.pkcs1_program.specs.declared.fault.Fault.{Fault}
 use Rattle.pkcs1_program.specs.declared.fault.Fault.TheVariants.{Write}

@@ -2,9 +2,7 @@
 ghost use Rattle.std.specs.Prelude.{◌≡◌, ◌<◌, ◌≤◌, ◌⊎◌, ℕ, List, [], length, IfSome, IfOk, OnOk, IsErrOf, vec_len};
 ghost use Rattle.std.specs.Io.KnownBytes.{Appends, Keeps, IsAtEnd};
 ghost use Rattle.der_core.specs.Words.{piece, AppendsFront, GivesAll, GivesMore, GivesSome, OneFailed, AtMostOne};
-ghost use Rattle.pkcs1_program.specs.Words.{Answer, Output, lines_of};
-ghost use Rattle.pkcs1_program.specs.Words.{Makes, MakesFirst, Writes, WritesFirst, WritesFront, WritesFrontOfAll};
-ghost use Rattle.pkcs1_program.specs.Words.{WritesHeld, WritesOut};
+ghost use Rattle.pkcs1_program.specs.Words.{Answer, Output, lines_of, Makes, MakesFirst, Writes, WritesFirst, WritesFront, WritesFrontOfAll, WritesHeld, WritesOut};
 
 use crate::answer::answer_line;
 use crate::fault::Fault;

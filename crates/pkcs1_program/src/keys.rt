@@ -1,13 +1,10 @@
 //! The output for keys.
-ghost use Rattle.std.specs.Prelude.{◌≡◌, ◌++◌, OnOk, IfSome, IfNone, None};
-ghost use Rattle.std.specs.List.{flat_map};
+ghost use Rattle.std.specs.Prelude.{◌≡◌, ◌++◌, OnOk, IfSome, IfNone, None, flat_map};
 ghost use Rattle.der_core.specs.Words.{bytes_of};
 ghost use Rattle.pkcs1.specs.Words.{held_other_prime, held_public_key, held_view, number_in, viewed_encoding};
 ghost use Rattle.pkcs8_core.specs.Words.{info_of};
 ghost use Rattle.standard.specs.Statement.{Decodes, PrivateKeyEncoding, PublicKeyEncoding, octets};
-ghost use Rattle.pkcs1_program.specs.Words.{Tells, RsaContainerEncoding, TellsContainer, Puts, field, pub_answer};
-ghost use Rattle.pkcs1_program.specs.Words.{version_told, numbers_told, other_told, others_told, key_told, priv_answer};
-ghost use Rattle.pkcs1_program.specs.Words.{attributes_told, p8_answer};
+ghost use Rattle.pkcs1_program.specs.Words.{Tells, RsaContainerEncoding, TellsContainer, Puts, field, pub_answer, version_told, numbers_told, other_told, others_told, key_told, priv_answer, attributes_told, p8_answer};
 
 use crate::digits::put_field;
 use crate::verdict::put_refused;

@@ -1,6 +1,5 @@
 //! Splitting the input into lines, and a line into parts.
-ghost use Rattle.std.specs.Prelude.{◌≡◌, ◌<◌, ◌≤◌, ◌∷◌, ◌==◌, [], length};
-ghost use Rattle.std.specs.List.{position};
+ghost use Rattle.std.specs.Prelude.{◌≡◌, ◌<◌, ◌≤◌, ◌∷◌, ◌==◌, [], length, position};
 ghost use Rattle.std.specs.Option.{option_map_or};
 ghost use Rattle.pkcs1_program.specs.Words.{lines_of, parts_of};
 

@@ -1,9 +1,7 @@
 //! The output for lines with parameters.
-ghost use Rattle.std.specs.Prelude.{◌≡◌, ℕ, List, ◌++◌, OnOk, map, codes};
-ghost use Rattle.std.specs.List.{flat_map};
+ghost use Rattle.std.specs.Prelude.{◌≡◌, ℕ, List, ◌++◌, OnOk, map, codes, flat_map};
 ghost use Rattle.pkcs1_params.specs.Words.{Encoded};
-ghost use Rattle.pkcs1_program.specs.Words.{Puts, TellsParameters, TellsSame, TellsSpellings, TellsStrict, field};
-ghost use Rattle.pkcs1_program.specs.Words.{spell_answer};
+ghost use Rattle.pkcs1_program.specs.Words.{Puts, TellsParameters, TellsSame, TellsSpellings, TellsStrict, field, spell_answer};
 
 use crate::digits::{put_field, put_number};
 use crate::parameter_text::Parameters;

@@ -1,14 +1,10 @@
 //! Parameters, and the output for them.
-ghost use Rattle.std.specs.Prelude.{◌≡◌, ◌≤◌, ℕ, List, ◌++◌, ◌↔◌, length, IsTrue, OnOk, IfOk, IfSome, IfNone, IsErrAnd};
-ghost use Rattle.std.specs.Option.{option_map};
+ghost use Rattle.std.specs.Prelude.{◌≡◌, ◌≤◌, ℕ, List, ◌++◌, ◌↔◌, length, IsTrue, OnOk, IfOk, IfSome, IfNone, IsErrAnd, option_map};
 ghost use Rattle.der_core.specs.Words.{Spells};
-ghost use Rattle.spki_core.specs.Words.{FieldRecord, algorithm_of, any_of, mask_of, own_octets_of};
-ghost use Rattle.spki_core.specs.Laws.FieldSpellings.Records.{spelled_from, spelled_to};
+ghost use Rattle.spki_core.specs.Words.{FieldRecord, algorithm_of, any_of, mask_of, own_octets_of, spelled_from, spelled_to};
 ghost use Rattle.pkcs1_params.specs.Words.{Encoded, IsEncoded, encodings_in, oaep_of, oaep_record, pss_of, pss_record};
-ghost use Rattle.standard.specs.Statement.{Decodes, Defaults, Field, IsOaep, IsPss, IsShortest, Lists, OaepParameters};
-ghost use Rattle.standard.specs.Statement.{PssParameters, limit, longest, oaep_fields, pss_fields};
-ghost use Rattle.pkcs1_program.specs.Words.{IsMemoryError, any_told, identifier_told, plain_told, bracketed, mask_told};
-ghost use Rattle.pkcs1_program.specs.Words.{hash_fields_told, spelling_told, pss_answer, oaep_answer};
+ghost use Rattle.standard.specs.Statement.{Decodes, Defaults, Field, IsOaep, IsPss, IsShortest, Lists, OaepParameters, PssParameters, limit, longest, oaep_fields, pss_fields};
+ghost use Rattle.pkcs1_program.specs.Words.{IsMemoryError, any_told, identifier_told, plain_told, bracketed, mask_told, hash_fields_told, spelling_told, pss_answer, oaep_answer};
 
 use crate::digits::{put_field, put_hex, put_number};
 use der_core::{Encode, ErrorKind};

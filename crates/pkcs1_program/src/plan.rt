@@ -1,6 +1,5 @@
 //! What the program is to do.
-ghost use Rattle.std.specs.Prelude.{◌≡◌, drop, map};
-ghost use Rattle.std.specs.String.{string_bytes};
+ghost use Rattle.std.specs.Prelude.{◌≡◌, drop, map, string_bytes};
 ghost use Rattle.pkcs1_program.specs.Words.{planned_by, status_of, task_of};
 
 /// What the program is to do.

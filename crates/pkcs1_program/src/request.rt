@@ -1,7 +1,6 @@
 //! Parsing a line into a request.
 ghost use Rattle.std.specs.Prelude.{◌≡◌, IfOk, Some, None, if◌then◌else◌, map};
-ghost use Rattle.pkcs1_program.specs.Words.{asked_by, asked_with, named, pair_asked_with, pair_words, encoding_of, words};
-ghost use Rattle.pkcs1_program.specs.Words.{seen};
+ghost use Rattle.pkcs1_program.specs.Words.{asked_by, asked_with, named, pair_asked_with, pair_words, encoding_of, words, seen};
 
 use crate::lines::split_part;
 use std::alloc::{AllocError, Global};

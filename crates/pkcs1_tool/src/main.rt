@@ -8,6 +8,9 @@ ghost use Rattle.der_core.specs.Words.{FileTakes, GivesAll};
 ghost use Rattle.standard.specs.Statement.{PrivateKeyEncoding, PublicKeyEncoding};
 ghost use Rattle.pkcs1_program.specs.Words.{CopiesAt, IsDone, Writes, lines_of, status_of};
 
+#[cfg(test)]
+mod tests;
+
 use der_core::{FileSystem, FromRead, Sink, Source, ToWrite};
 use pkcs1_program::{Fault, Plan, behind_name, copy_priv, copy_pub, plan_of, run, status};
 use std::alloc::Global;

@@ -1,6 +1,6 @@
 //! Worked rows as data: each line of the input has a word, its parameters and the expected output. Prints the rows with
 //! another output, then how many rows held, and a hash of all rows. The hash shows when a row was changed by mistake
-//! into another one that holds. What no row can say stands in `tests`.
+//! into another one that holds. What no row can say stands in the tests of `pkcs1_tool`.
 #![tactic(auto)]
 
 mod algorithms;
@@ -17,11 +17,10 @@ mod lengths;
 mod parameters;
 mod parts;
 mod read;
+mod records;
 mod row;
 mod shown;
 mod spellings;
-#[cfg(test)]
-mod tests;
 mod told;
 mod values;
 mod words;

@@ -7,7 +7,7 @@ use crate::spellings::{spell, spellings};
 use crate::told::Told;
 use crate::written::written;
 use crate::{
-    algorithms, asked, containers, errors, identifiers, keys, lengths, parameters, values,
+    algorithms, asked, containers, errors, identifiers, keys, lengths, parameters, records, values,
 };
 use der_core::{OctetStringRef, Uint, UintRef};
 use examples::is_accepted;
@@ -72,6 +72,7 @@ pub fn of_bytes(to: &mut Told, word: &str, bytes: &[u8]) -> bool {
         || of_key_text(to, word, bytes)
         || of_parameter_text(to, word, bytes)
         || of_identifier_text(to, word, bytes)
+        || of_record_text(to, word, bytes)
         || of_damaged_text(to, word, bytes)
 }
 
@@ -110,6 +111,17 @@ fn of_algorithm_text(to: &mut Told, word: &str, bytes: &[u8]) -> bool {
             AlgorithmIdentifier<AlgorithmIdentifierRef>,
             AlgorithmIdentifier<AlgorithmIdentifier<Any>>,
         >(to, bytes),
+        _ => return false,
+    }
+    true
+}
+
+/// Types of one's own.
+fn of_record_text(to: &mut Told, word: &str, bytes: &[u8]) -> bool {
+    match word {
+        "extension" => records::extension(to, bytes),
+        "digest-info" => records::digest_info(to, bytes),
+        "dsa" => records::dsa_algorithm(to, bytes),
         _ => return false,
     }
     true

@@ -1,32 +1,88 @@
--- Containers and RSA keys in them, in the words of `Statement.antt`: what the functions of the bytes give, and what
--- calls return that give the same.
-use Rattle.std.proofs.Common.{ℕ, List, [], ◌++◌, ◌≡◌, refl, sym, subst, ap, ◌∙◌, inl, inr, ⊎_elim}
-use Rattle.std.proofs.Common.{Option, Some, None, Ok, Err}
-use Rattle.std.specs.Prelude.{IfOk, Result}
-use Rattle.der_core.specs.Encodings.{AreBytes}
-use Rattle.der_core.specs.IntegerReading.{Answers}
-use Rattle.der_core.specs.Laws.Printed.Rows.{prints_one, tagged_law}
-use Rattle.der_core.specs.Printed.{ok_of, value_in}
-use Rattle.der_core.specs.Readings.{◌>>=◌}
+-- Containers: algorithms that the function takes, faults, the key in one, and what they exclude.
+use Rattle.std.proofs.Common.{ℕ, Bool, true, false, List, [], ◌≡◌, ◌==◌, refl, sym, ap, ◌∙◌, ⊎_elim, Option, Some, None, Ok, Err, Decides, ◌&&◌, if◌then◌else◌, bytes_eq, ◌++◌, subst, inl, inr, IfOk, Result, ◌∷◌, ◌≤◌, length, arith, append-nil, append_assoc, slice_index}
+use Rattle.der_core.specs.declared.error.ErrorKind.{ErrorKind}
+use Rattle.der_core.specs.declared.error.ErrorKind.TheVariants as kind
+use Rattle.der_core.specs.declared.tag.Tag.{Tag}
+use Rattle.der_core.specs.Words.{bytes_decide, bind_err, checked_as, same_tag, TellsOfBytes, checked, is_allowed, AreBytes, Answers, prints_one, tagged_law, ok_of, value_in, ◌>>=◌, Excludes, tlv_fit, ok_same, limit, ReadsPrinted, number_contents, octets_of_all}
+use Rattle.spki_core.specs.Words.{Algorithm, same_any, TagAndContents, null_value, any_decides}
+use Rattle.pkcs1_params.specs.Words.{id_rsa_encryption, AreDelimited, ErrsOrAsks}
+use Rattle.pkcs1.proofs.KeyReads.{private_tells, one_spelling}
+use Rattle.pkcs8_core.specs.Words.{Container, key_in, null_only, rsa_only, rsa_encryption, private_key_info, rsa_held, rsa_private_key_info, container_encoded, container_law, containers_decode, IsContainer, container_printed, ContainedKey}
 use Rattle.der_core.specs.Tags as tags
 use Rattle.der_core.specs.declared.error.Error as der
-use Rattle.der_core.specs.declared.error.ErrorKind.{ErrorKind}
-use Rattle.pkcs1.specs.Allocating.{MayAllocate}
-use Rattle.pkcs1.proofs.OneKey.{one_spelling}
-use Rattle.pkcs1.specs.KeyReadings.{rsa_private_key}
-use Rattle.pkcs1.specs.Laws.StatedPrivateKeys.{private_decodes}
-use Rattle.pkcs1.specs.ViewParts.{viewed_encoding}
+use Rattle.pkcs1.specs.Words.{MayAllocate, rsa_private_key, private_decodes, viewed_encoding}
 use Rattle.pkcs1.specs.declared.view.RsaPrivateKeyView.{RsaPrivateKeyView}
-use Rattle.pkcs1_params.proofs.Errors.{asn1_as}
-use Rattle.pkcs1_params.specs.Meanings.{AreDelimited, ErrsOrAsks}
+use Rattle.pkcs1_params.proofs.Faults.{asn1_as}
 use Rattle.pkcs1_params.specs.declared.error.Error.{Error}
-use Rattle.pkcs8_core.proofs.RsaOnly.{rsa_gives, rsa_taken}
-use Rattle.pkcs8_core.specs.ContainerReadings.{key_in, private_key_info, rsa_held, rsa_only, rsa_private_key_info}
-use Rattle.pkcs8_core.specs.Laws.PrintedContainers.{container_encoded, container_law, containers_decode}
-use Rattle.pkcs8_core.specs.PrintedContainers.{IsContainer, container_printed}
-use Rattle.pkcs8_core.specs.Rsa.{ContainedKey, rsa_encryption}
-use Rattle.standard.specs.Statement.{ContainedKeyEncoding, Container, ContainerEncoding, Decodes, PrivateKey}
-use Rattle.standard.specs.Statement.{PrivateKeyEncoding, sequence}
+use Rattle.standard.specs.Statement.{ContainedKeyEncoding, Container, ContainerEncoding, Decodes, PrivateKey, PrivateKeyEncoding, sequence, IsOaep, IsPss, OaepEncoding, PssEncoding, PublicKeyEncoding, algorithm, any, integer, integers, oaep_fields, optional, other_primes, pss_fields, tlv, version}
+use Rattle.pkcs1_params.proofs.Masks.{differs, oaep_begin, pss_begin}
+
+-- Algorithms that the function rejects.
+not_null : (v : TagAndContents) (tag : Tag) → tag.octet ≡ v.tag → same_any v null_value ≡ false
+    → null_only (Some v) ≡ Err (kind.Value tag)
+not_null v tag same test =
+    let allowed : is_allowed v.tag ≡ true = ap is_allowed (sym same) ∙ tag.allowed in
+    let r =
+    checked_as (is_allowed v.tag) (λ ok. Err (kind.Value (record { octet = v.tag; allowed = ok })))
+    (Err (kind.TagUnknown v.tag)) allowed in
+    rw test (r.1 ∙ ap (λ t. Err (kind.Value t)) (same_tag (record { octet = v.tag; allowed = r.0 }) tag (sym same)))
+
+pub rsa_other : (a : Algorithm TagAndContents) (v : TagAndContents) (tag : Tag)
+    → bytes_eq a.oid id_rsa_encryption ≡ true → a.parameters ≡ Some v → tag.octet ≡ v.tag
+    → same_any v null_value ≡ false → rsa_only a ≡ Err (kind.Value tag)
+rsa_other a v tag is some same test = rw (is, some) (not_null v tag same test)
+
+-- Its errors are about the bytes.
+null_tells : (p : Option TagAndContents) (k : ErrorKind) → null_only p ≡ Err k → TellsOfBytes k
+null_tells None k e = let same : kind.ParametersMissing ≡ k = cc in rw (← same) (λ no. cc, λ no. cc, λ no. cc)
+null_tells (Some v) k e = chosen (v.tag == 5 && bytes_eq v.contents []) (is_allowed v.tag) _ e
+  where
+    chosen : (b c : Bool) (of : c ≡ true → Tag)
+        → (if b then Ok (tt {0}) else checked c (λ ok. Err (kind.Value (of ok))) (Err (kind.TagUnknown v.tag))) ≡ Err k
+        → TellsOfBytes k
+    chosen true c of e = cc
+    chosen false true of e = let same : kind.Value (of refl) ≡ k = cc in rw (← same) (λ no. cc, λ no. cc, λ no. cc)
+    chosen false false of e = let same : kind.TagUnknown v.tag ≡ k = cc in rw (← same) (λ no. cc, λ no. cc, λ no. cc)
+
+pub rsa_only_tells : (a : Algorithm TagAndContents) (k : ErrorKind) → rsa_only a ≡ Err k → TellsOfBytes k
+rsa_only_tells a k e = chosen (bytes_eq a.oid id_rsa_encryption) e
+  where
+    chosen : (b : Bool) → (if b then null_only a.parameters else Err kind.OidUnknown) ≡ Err k → TellsOfBytes k
+    chosen true e = null_tells a.parameters k e
+    chosen false e = let same : kind.OidUnknown ≡ k = cc in rw (← same) (λ no. cc, λ no. cc, λ no. cc)
+
+pub rsa_taken : (a : Algorithm TagAndContents) → a ≡ rsa_encryption → rsa_only a ≡ Ok tt
+rsa_taken a is = ap rsa_only is
+
+null_gives : (p : Option TagAndContents) {t : Unit {0}} → null_only p ≡ Ok t → p ≡ Some null_value
+null_gives None e = cc
+null_gives (Some v) {t} e =
+    chosen (v.tag == 5 && bytes_eq v.contents []) (is_allowed v.tag) _ (any_decides v.tag 5 v.contents []) e
+  where
+    chosen : (b c : Bool) (of : c ≡ true → Tag) → Decides b (v ≡ null_value)
+        → (if b then Ok (tt {0}) else checked c (λ ok. Err (kind.Value (of ok))) (Err (kind.TagUnknown v.tag))) ≡ Ok t
+        → Some v ≡ Some null_value
+    chosen true c of d e = ap (λ x. Some x) (d.0 refl)
+    chosen false true of d e = cc
+    chosen false false of d e = cc
+
+pub rsa_gives : (a : Algorithm TagAndContents) {t : Unit {0}} → rsa_only a ≡ Ok t → a ≡ rsa_encryption
+rsa_gives a {t} e = chosen (bytes_eq a.oid id_rsa_encryption) (bytes_decide a.oid id_rsa_encryption) e
+  where
+    chosen : (b : Bool) → Decides b (a.oid ≡ id_rsa_encryption)
+        → (if b then null_only a.parameters else Err kind.OidUnknown) ≡ Ok t → a ≡ rsa_encryption
+    chosen true d e =
+        let oid = d.0 refl in let p = null_gives a.parameters e in λ i. record { oid = oid i; parameters = p i }
+    chosen false d e = cc
+
+-- Faults of a key in a container are about the bytes.
+pub key_tells : (c : Container) (octets : List ℕ) (k : ErrorKind) → key_in c octets ≡ Err k → TellsOfBytes k
+key_tells c octets k e =
+    ⊎_elim (rsa_only_tells c.algorithm k) (λ s. private_tells octets k s.2)
+    (bind_err (rsa_only c.algorithm) _ e)
+
+-- Containers and RSA keys in them, in the words of `Statement.antt`: what the functions of the bytes give, and what
+-- calls return that give the same.
 
 -- Octets, as those of a container.
 pub contained_decode : (c : Container) (octets : List ℕ) → AreBytes octets
@@ -106,3 +162,60 @@ pub viewed_in : (c : Container) (bytes octets : List ℕ) → ContainerEncoding 
     → IfOk r (λ view. (d : Container) × ContainerEncoding d bytes × (viewed_encoding view ≡ d.private_key))
 viewed_in c bytes octets is same (Ok view) e = (c, is, e ∙ same)
 viewed_in c bytes octets is same (Err k) e = tt
+
+-- No bytes encode both a container and a key: behind the first INTEGER a container has a SEQUENCE, and a key a number.
+-- Nor do they encode both a container and parameters, whose contents begin with the tag of a field.
+
+-- Any octets behind a tag, and what follows them.
+raw_law : ReadsPrinted (λ (o : List ℕ). Unit {0}) (λ o. o) octets_of_all
+raw_law = record {
+  gives = λ c o bytes e. (tt, ok_same e);
+  takes = λ o ok few. refl;
+  tells = λ c k e. cc;
+}
+
+split : (tag : Tag) (x y r s : List ℕ) → length (tlv tag.octet x ++ r) ≤ limit
+    → tlv tag.octet x ++ r ≡ tlv tag.octet y ++ s → (x ≡ y) × (r ≡ s)
+split tag x y r s few same = prints_one (tagged_law raw_law tag) x y r s tt tt few same
+
+-- The contents of what encodes a container.
+contents_are : (c : Container) (bytes contents : List ℕ) → ContainerEncoding c bytes → bytes ≡ sequence contents
+    → (container_printed c ≡ contents) × (length (container_printed c) ≤ limit)
+contents_are c bytes contents p is =
+    let (few, ok, same) = (container_encoded c bytes).1 p in
+    let all = append-nil (sequence (container_printed c)) in
+    let same_bytes = all ∙ sym same ∙ is ∙ sym (append-nil (sequence contents)) in (
+      (split tags.sequence (container_printed c) contents [] [] (omega (arith, few, ap length same, ap length all))
+          same_bytes).0,
+      omega (arith, few, ap length same, tlv_fit 48 (container_printed c)),
+    )
+
+-- Keys.
+second_differs : (c : Container) (bytes : List ℕ) (n : ℕ) (rest : List ℕ) → ContainerEncoding c bytes
+    → bytes ≡ sequence (integer n ++ rest) → slice_index rest 0 ≡ 2 → ⊥
+second_differs c bytes n rest p is number =
+    let behind = algorithm any c.algorithm ++ (tlv 4 c.private_key ++ optional (tlv 160) c.attributes) in
+    let (same, few) = contents_are c bytes (integer n ++ rest) p is in
+    let next : behind ≡ rest =
+    (split tags.integer (number_contents 0) (number_contents n) behind rest few same).1 in
+    let octets : 48 ≡ 2 = ap (λ b. slice_index b 0) next ∙ number in absurd (omega (arith, octets))
+
+pub public_key : Excludes ContainerEncoding PublicKeyEncoding
+public_key c key bytes p q =
+    second_differs c bytes key.modulus (integers (key.public_exponent ∷ [])) p q.1 refl
+
+pub private_key : Excludes ContainerEncoding PrivateKeyEncoding
+private_key c key bytes p q =
+    let first = integer (version key.other_primes) in
+    let numbers = integers (key.modulus ∷ key.public_exponent ∷ key.private_exponent ∷ key.prime1 ∷ key.prime2
+    ∷ key.exponent1 ∷ key.exponent2 ∷ key.coefficient ∷ []) in
+    let others = optional other_primes key.other_primes in
+    second_differs c bytes (version key.other_primes) (numbers ++ others) p
+    (q.2 ∙ ap sequence (append_assoc first numbers others)) refl
+
+-- Parameters.
+pub pss : Excludes ContainerEncoding PssEncoding
+pss c v bytes p q = differs IsPss pss_fields v 2 bytes _ (omega arith) (pss_begin v) p.4 q
+
+pub oaep : Excludes ContainerEncoding OaepEncoding
+oaep c v bytes p q = differs IsOaep oaep_fields v 2 bytes _ (omega arith) (oaep_begin v) p.4 q

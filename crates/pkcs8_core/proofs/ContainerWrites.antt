@@ -1,20 +1,11 @@
 -- Writing of containers: each value that is held has an encoding, and no more than one.
-use Rattle.std.proofs.Common.{ℕ, List, ◌++◌, ◌≡◌, length, drop, Option, Some, None}
-use Rattle.std.specs.Option.{option_map}
-use Rattle.std.specs.Prelude.{Result, Ok, Err, IfOk, IfErr, OnErr, OnOk}
-use Rattle.der_core.specs.Document.{WhyNotWritten}
+use Rattle.std.proofs.Common.{ℕ, List, ◌++◌, ◌≡◌, length, drop, Option, Some, None, option_map, Result, Ok, Err, IfOk, IfErr, OnErr, OnOk}
+use Rattle.der_core.specs.Words.{WhyNotWritten, are_bytes, one_spelling, Prints, Spells, ok_of, Unwritten, encode_error}
 use Rattle.der_core.specs.Document as documents
-use Rattle.der_core.specs.Laws.Input.{are_bytes}
-use Rattle.der_core.specs.Laws.Printed.Shortest.{one_spelling}
-use Rattle.der_core.specs.Printed.{Prints, Spells, ok_of}
-use Rattle.der_core.specs.Writing.{Unwritten, encode_error}
 use Rattle.der_core.specs.declared.error.Error.{Error}
-use Rattle.der_core.proofs.Spelled.{into_encodes, into_unwritten}
-use Rattle.pkcs1_params.proofs.Written.{encodes_as, unwritten_so}
-use Rattle.pkcs8_core.specs.Container.{Container}
-use Rattle.pkcs8_core.specs.ContainerValue.{attributes_of}
-use Rattle.pkcs8_core.specs.Laws.PrintedContainers.{container_spells}
-use Rattle.pkcs8_core.specs.PrintedContainers.{IsContainer, container_printed}
+use Rattle.der_core.proofs.Writing.{into_encodes, into_unwritten}
+use Rattle.pkcs1_params.proofs.Masks.{encodes_as, unwritten_so}
+use Rattle.pkcs8_core.specs.Words.{Container, attributes_of, container_spells, IsContainer, container_printed}
 use Rattle.pkcs8_core.specs.declared.attributes.Attributes.{Attributes}
 use Rattle.standard.specs.Statement.{AreOctets, ContainerEncoding, Encodes, IfPresent, sequence}
 

@@ -1,5 +1,3 @@
 pub mod ContainerWrites
-mod Exclusion
-pub mod ReadingsRows
-pub mod RsaOnly
 pub mod ContainedKeys
+pub mod ReadingsRows

@@ -1,22 +1,14 @@
 -- Worked rows: encodings in hexadecimal digits, with the value that they mean, or with the kind of their first fault.
 -- The functions compute, and calls promise what they give.
-use Rattle.std.proofs.Common.{ℕ, List, [], ◌∷◌, ◌++◌, ◌≡◌, ◌+◌, ◌*◌, map, refl, Ok, Err, Option, Some, None}
-use Rattle.std.specs.Prelude.{codes, nat_lt, if◌then◌else◌, ◌-◌, ◌^◌, replicate}
-use Rattle.der_core.specs.Input.{header_at, length_at}
-use Rattle.der_core.specs.Tags.{integer, null, object_identifier, octet_string, sequence}
+use Rattle.std.proofs.Common.{ℕ, List, [], ◌∷◌, ◌++◌, ◌≡◌, ◌+◌, ◌*◌, map, refl, Ok, Err, Option, Some, None, codes, nat_lt, if◌then◌else◌, ◌-◌, ◌^◌, replicate}
+use Rattle.der_core.specs.Words.{header_at, length_at, integer, null, object_identifier, octet_string, sequence, FrontReading, Reading, alone, tagged}
 use Rattle.der_core.specs.declared.error.ErrorKind.{ErrorKind}
-use Rattle.der_core.specs.declared.error.ErrorKind.TheVariants.{Incomplete, IndefiniteLength, Length, Noncanonical}
-use Rattle.der_core.specs.declared.error.ErrorKind.TheVariants.{OidMalformed, OidUnknown, Overflow, Overlength}
-use Rattle.der_core.specs.declared.error.ErrorKind.TheVariants.{ParametersMissing, TagUnexpected, TagUnknown}
-use Rattle.der_core.specs.declared.error.ErrorKind.TheVariants.{TrailingData, Value}
-use Rattle.standard.specs.Statement.{PublicKey, PrivateKey, OtherPrime, PssParameters, OaepParameters, Algorithm}
-use Rattle.standard.specs.Statement.{TagAndContents, Container, rsa_encryption, sha1, mgf1_sha1, empty_label}
-use Rattle.der_core.specs.Readings.{FrontReading, Reading, alone, tagged}
-use Rattle.spki_core.specs.Readings.{algorithm_read, any, identifier_read}
-use Rattle.pkcs1.specs.KeyReadings.{rsa_private_key, rsa_public_key}
-use Rattle.pkcs1_params.specs.Algorithms.{rsa_oaep_algorithm, rsa_pss_algorithm}
-use Rattle.pkcs1_params.specs.ParameterReadings.{rsa_oaep_params, rsa_pss_params}
-use Rattle.pkcs8_core.specs.ContainerReadings.{private_key_info, rsa_private_key_info}
+use Rattle.der_core.specs.declared.error.ErrorKind.TheVariants.{Incomplete, IndefiniteLength, Length, Noncanonical, OidMalformed, OidUnknown, Overflow, Overlength, ParametersMissing, TagUnexpected, TagUnknown, TrailingData, Value}
+use Rattle.standard.specs.Statement.{PublicKey, PrivateKey, OtherPrime, PssParameters, OaepParameters, Algorithm, TagAndContents, Container, rsa_encryption, sha1, mgf1_sha1, empty_label}
+use Rattle.spki_core.specs.Words.{algorithm_read, any, identifier_read}
+use Rattle.pkcs1.specs.Words.{rsa_private_key, rsa_public_key}
+use Rattle.pkcs1_params.specs.Words.{rsa_oaep_algorithm, rsa_pss_algorithm, rsa_oaep_params, rsa_pss_params}
+use Rattle.pkcs8_core.specs.Words.{private_key_info, rsa_private_key_info}
 
 digit : ℕ → ℕ
 digit c = if nat_lt c 58 then c - 48 else c - 87

@@ -1,7 +1,6 @@
 -- PrivateKeyInfo (RFC 5208 5).
 use Rattle.std.specs.Prelude.{ℕ, List, Option}
-use Rattle.spki_core.specs.Any.{TagAndContents}
-use Rattle.spki_core.specs.AlgorithmIdentifier.{Algorithm}
+use Rattle.spki_core.specs.Words.{TagAndContents, Algorithm}
 -- An algorithm, the octets of a private key, and those of attributes, if there are any.
 pub use Rattle.standard.specs.Statement.{Container}
 

@@ -1,18 +1,12 @@
 -- Containers as functions of the bytes (RFC 5208 5): the container, or the RSA key in it, or the kind of the first
 -- fault.
-use Rattle.std.specs.Prelude.{ℕ, List, [], ◌==◌, ◌&&◌, Option, Some, None, Result, Ok, Err, if◌then◌else◌}
-use Rattle.std.specs.Str.{bytes_eq}
+use Rattle.std.specs.Prelude.{ℕ, List, [], ◌==◌, ◌&&◌, Option, Some, None, Result, Ok, Err, if◌then◌else◌, bytes_eq}
 use Rattle.der_core.specs.declared.error.ErrorKind.{ErrorKind}
 use Rattle.der_core.specs.declared.error.ErrorKind.TheVariants as kind
-use Rattle.der_core.specs.Readings.{Reading, ◌>>=◌, alone, checked, expected, made, octets_of_all, optional, parts}
-use Rattle.der_core.specs.Readings.{tagged, whole}
-use Rattle.der_core.specs.Tag.{is_allowed}
-use Rattle.der_core.specs.Tags.{integer, octet_string, sequence}
-use Rattle.spki_core.specs.AlgorithmIdentifier.{Algorithm}
-use Rattle.spki_core.specs.Any.{TagAndContents}
-use Rattle.spki_core.specs.Readings.{algorithm_read, any}
-use Rattle.pkcs1_params.specs.Parameters.{id_rsa_encryption}
-use Rattle.pkcs1.specs.KeyReadings.{rsa_private_key}
+use Rattle.der_core.specs.Words.{Reading, ◌>>=◌, alone, checked, expected, made, octets_of_all, optional, parts, tagged, whole, is_allowed, integer, octet_string, sequence}
+use Rattle.spki_core.specs.Words.{Algorithm, TagAndContents, algorithm_read, any}
+use Rattle.pkcs1_params.specs.Words.{id_rsa_encryption}
+use Rattle.pkcs1.specs.Words.{rsa_private_key}
 use Rattle.pkcs8_core.specs.Container.{Container}
 use Rattle.pkcs8_core.specs.Tags.{attributes_tag}
 use Rattle.standard.specs.Statement.{PrivateKey}

@@ -1,7 +1,6 @@
 -- What is printed of containers, and which of them have an encoding: a row of their parts, as the statement has them.
 use Rattle.std.specs.Prelude.{ℕ, List, ◌++◌, ◌<◌}
-use Rattle.standard.specs.Statement.{AreOctets, Container, IfPresent, IsAlgorithm, IsAny, algorithm, any, integer}
-use Rattle.standard.specs.Statement.{optional, tlv}
+use Rattle.standard.specs.Statement.{AreOctets, Container, IfPresent, IsAlgorithm, IsAny, algorithm, any, integer, optional, tlv}
 
 -- The version 0 fits an octet.
 abbrev pub IsContainer : Container → Type 0

@@ -1,7 +1,6 @@
 //! The attributes of containers, as opaque bytes.
 ghost use Rattle.std.specs.Prelude.{◌≡◌, ◌<◌, ◌^◌, ℕ, List, length, slice_index};
-ghost use Rattle.der_core.specs.Readings.{octets_of_all};
-ghost use Rattle.der_core.specs.Words.{AreBytes, alike, octets_law, one_spelling};
+ghost use Rattle.der_core.specs.Words.{octets_of_all, AreBytes, alike, octets_law, one_spelling};
 ghost use Rattle.pkcs8_core.specs.Tags.{attributes_tag};
 
 use pkcs1::der::{

@@ -1,16 +1,9 @@
 //! PKCS #8 containers of private keys.
-ghost use Rattle.std.specs.Prelude.{◌≡◌, ⊤, ℕ, List, length, IfErr, refl};
-ghost use Rattle.std.specs.Option.{option_map};
-ghost use Rattle.der_core.specs.Words.{Answers, AreBytes, Excludes, alike, encode_error, itself_once, made_errs};
-ghost use Rattle.der_core.specs.Words.{ok_of, one_spelling, value_in};
-ghost use Rattle.pkcs8_core.specs.Words.{Container, IsContainer, attributes_of, container_law, container_printed};
-ghost use Rattle.pkcs8_core.specs.Words.{info_in, info_of, info_read, of_info_parts, private_key_info};
-ghost use Rattle.pkcs8_core.specs.Words.{rsa_private_key_info, slice_now};
+ghost use Rattle.std.specs.Prelude.{◌≡◌, ⊤, ℕ, List, length, IfErr, refl, option_map};
+ghost use Rattle.der_core.specs.Words.{Answers, AreBytes, Excludes, alike, encode_error, itself_once, made_errs, ok_of, one_spelling, value_in, Unwritten};
+ghost use Rattle.pkcs8_core.specs.Words.{Container, IsContainer, attributes_of, container_law, container_printed, info_in, info_of, info_read, of_info_parts, private_key_info, rsa_private_key_info, slice_now};
 ghost use Rattle.pkcs8_core.specs.declared.info.PrivateKeyInfoOf as containers;
-ghost use Rattle.der_core.specs.Writing.{Unwritten};
-ghost use Rattle.standard.specs.Statement.{AtMostOne, ContainedKeyEncoding, ContainerEncoding, Decodes, Encodes};
-ghost use Rattle.standard.specs.Statement.{OaepEncoding, PrivateKeyEncoding, PssEncoding, PublicKeyEncoding};
-ghost use Rattle.standard.specs.Statement.{SameByShortest};
+ghost use Rattle.standard.specs.Statement.{AtMostOne, ContainedKeyEncoding, ContainerEncoding, Decodes, Encodes, OaepEncoding, PrivateKeyEncoding, PssEncoding, PublicKeyEncoding, SameByShortest};
 
 use crate::attributes::Attributes;
 use pkcs1::der::{

@@ -1,12 +1,10 @@
 //! RSA keys in containers.
-ghost use Rattle.std.specs.Prelude.{◌≡◌, IfOk, IfErr, IsOk, None, Some};
+ghost use Rattle.std.specs.Prelude.{◌≡◌, IfOk, IfErr, IsOk, None, Some, bytes_eq};
 ghost use Rattle.der_core.specs.Words.{Answers, bytes_of, ok_of};
-ghost use Rattle.std.specs.Str.{bytes_eq};
 ghost use Rattle.spki_core.specs.Words.{algorithm_in, any_of};
 ghost use Rattle.pkcs1.specs.Words.{MayAllocate, Rejects, held_private_key, held_view, viewed_encoding};
 ghost use Rattle.pkcs1_params.specs.Words.{ErrsAs, ErrsOrAsks, id_rsa_encryption};
-ghost use Rattle.pkcs8_core.specs.Words.{ContainedKey, info_in, rsa_encryption, rsa_held, rsa_only};
-ghost use Rattle.pkcs8_core.specs.Words.{rsa_private_key_info};
+ghost use Rattle.pkcs8_core.specs.Words.{ContainedKey, info_in, rsa_encryption, rsa_held, rsa_only, rsa_private_key_info};
 ghost use Rattle.standard.specs.Statement.{ContainedKeyEncoding, Container, ContainerEncoding, Decodes, PrivateKey};
 
 use crate::info::{PrivateKeyInfoOf, PrivateKeyInfoView};

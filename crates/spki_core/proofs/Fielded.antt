@@ -1,26 +1,12 @@
 -- What follows for every SEQUENCE of fields with defaults: what is read, the shortest encoding, the one under each mask,
 -- and how many there are.
-use Rattle.std.proofs.Common.{ℕ, zero, suc, ◌+◌, List, [], ◌∷◌, ◌++◌, ◌≡◌, ◌<◌, ◌≤◌, ◌^◌, length, map, refl, sym, Some, None}
-use Rattle.std.proofs.Common.{subst, ap, ◌∙◌, arith, length-append, append-nil, Option, inl, inr}
-use Rattle.std.proofs.lemmas.Nat.{pow_pos}
+use Rattle.std.proofs.Common.{ℕ, zero, suc, ◌+◌, List, [], ◌∷◌, ◌++◌, ◌≡◌, ◌<◌, ◌≤◌, ◌^◌, length, map, refl, sym, Some, None, subst, ap, ◌∙◌, arith, length-append, append-nil, Option, inl, inr, pow_pos, ◌↔◌, slice_index_or}
 use Rattle.std.specs.List.{concat}
-use Rattle.std.specs.Prelude.{◌↔◌, slice_index_or}
-use Rattle.der_core.specs.Encodings.{AreBytes}
-use Rattle.der_core.specs.Laws.Printed.Alike.{tagged_alike, values_alike, whole_alike}
-use Rattle.der_core.specs.Laws.Printed.Leaves.{octets_grow, tlv_fit}
-use Rattle.der_core.specs.Laws.Printed.Rows.{meant_decodes, prints_one}
-use Rattle.der_core.specs.Laws.Printed.Shortest.{shortest_is as shortest_of, tagged_shortest}
-use Rattle.der_core.specs.Length.{limit}
-use Rattle.der_core.specs.Printed.{Spells, value_in}
+use Rattle.der_core.specs.Words.{AreBytes, tagged_alike, values_alike, whole_alike, octets_grow, tlv_fit, meant_decodes, prints_one, shortest_is as shortest_of, tagged_shortest, limit, Spells, value_in}
 use Rattle.der_core.specs.Tags as tags
-use Rattle.spki_core.specs.FieldSpellings.{AreSpelled, FieldRecord, defaults, fields_of, mask_of, meant, record_means}
-use Rattle.spki_core.specs.FieldSpellings.{record_under, record_whole, spelled, under, upto}
-use Rattle.spki_core.specs.Laws.FieldSpellings.Masks.{defaults_are, defaults_there, full_last, full_there, mask_below}
-use Rattle.spki_core.specs.Laws.FieldSpellings.Masks.{mask_under, under_is, under_mask, under_means, under_only, under_valid}
-use Rattle.spki_core.specs.Laws.FieldSpellings.Records.{record_alike, record_front_law, record_shortest, spelled_from}
-use Rattle.spki_core.specs.Laws.FieldSpellings.Records.{spelled_to}
-use Rattle.standard.specs.Statement.{AreAll, Decodes, Defaults, Field, Fields, FieldsUnder, IsShortest, SequenceOf}
-use Rattle.standard.specs.Statement.{TwoToTheDefaults, length_octets, longest, sequence}
+use Rattle.spki_core.specs.Words.{AreSpelled, FieldRecord, defaults, fields_of, meant, record_means, record_under, record_whole, spelled, under, upto, defaults_are, defaults_there, full_last, full_there, mask_below, mask_under, under_is, under_mask, under_means, under_only, under_valid, record_alike, record_front_law, record_shortest, spelled_from, spelled_to}
+use Rattle.spki_core.specs.FieldSpellings.{mask_of}
+use Rattle.standard.specs.Statement.{AreAll, Decodes, Defaults, Field, Fields, FieldsUnder, IsShortest, SequenceOf, TwoToTheDefaults, length_octets, longest, sequence}
 
 -- Lists by a function.
 length_upto : {X : Type 0} (n : ℕ) (f : ℕ → X) → length (upto n f) ≡ n

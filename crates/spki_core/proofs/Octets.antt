@@ -1,10 +1,8 @@
 -- Steps of the test for identifiers.
-use Rattle.std.specs.Prelude.{Bool, true, false, ◌==◌, nat_lt}
-use Rattle.std.proofs.Common.{ℕ, zero, suc, List, [], ◌∷◌, ◌≡◌, ◌≢◌, ◌<◌, ◌≤◌, ◌+◌, ◌-◌, ◌⊎◌, inl, inr, length}
-use Rattle.std.proofs.Common.{take, drop, get_or, slice_index, refl, ap, ◌∙◌, arith}
+use Rattle.std.proofs.Common.{Bool, true, false, ◌==◌, nat_lt, ℕ, zero, suc, List, [], ◌∷◌, ◌≡◌, ◌≢◌, ◌<◌, ◌≤◌, ◌+◌, ◌-◌, ◌⊎◌, inl, inr, length, take, drop, get_or, slice_index, refl, ap, ◌∙◌, arith}
 use Rattle.std.proofs.lemmas.List.{at_drop_more}
-use Rattle.std.proofs.lemmas.Bool.Decides.{nat_tests}
-use Rattle.spki_core.specs.IdentifierTest.{ends_well, starts_at, has_no_128}
+use Rattle.der_core.specs.Words.{nat_tests}
+use Rattle.spki_core.specs.Words.{ends_well, starts_at, has_no_128}
 
 goes_on : (start : Bool) (b : ℕ) (bs : List ℕ) → (start ≡ false) ⊎ (b ≢ 128)
     → ends_well start (b ∷ bs) ≡ ends_well (nat_lt b 128) bs

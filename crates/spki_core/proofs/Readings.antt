@@ -1,24 +1,104 @@
--- What the functions give for an encoding of any tag that has to be of one type.
-use Rattle.std.proofs.Common.{ℕ, true, false, List, ◌≡◌, refl, sym, ap, ◌∙◌, arith, subst, Ok}
-use Rattle.std.proofs.Common.{Err, Some, Result, ◌≢◌}
-use Rattle.std.proofs.lemmas.Bool.Decides.{nat_tests}
-use Rattle.std.specs.Prelude.{◌==◌, IfOk}
+-- What the functions that read give: records by their fields, encodings of any tag, fields. Identifiers that are
+-- mapped.
+use Rattle.std.proofs.Common.{◌≡◌, ◌∙◌, ◌&&◌, ℕ, Bool, List, [], ◌∷◌, Option, Some, None, Ok, true, false, ap, refl, sym, ◌+◌, Result, if◌then◌else◌, option_map, arith, subst, Err, ◌≢◌, ◌==◌, IfOk}
+use Rattle.der_core.specs.Words.{ok_pair, alone, is_next, tagged, ◌>>=◌, nat_tests, AreBytes, Input, ReadsFront, ReadsWhole, FrontReading, Reading, octets_of_all, unexpected, ReadsContents, context_tag, Tlv}
 use Rattle.der_core.specs.declared.error.ErrorKind.{ErrorKind}
+use Rattle.spki_core.specs.Words.{FieldRecord, Kind, Spelling, first_written, or_default, record_means, record_read, record_strictly, spelling_read, strict_value, tag_of, record_alike, explicit_is, defaulted, explicit, unless_found, algorithm_map, algorithm_with, Carried, TagAndContents, any_as}
+use Rattle.standard.specs.Statement.{Field}
 use Rattle.der_core.specs.declared.error.ErrorKind.TheVariants.{TagUnexpected}
 use Rattle.der_core.specs.declared.tag.Tag.{Tag}
 use Rattle.der_core.specs.declared.error.Error.{Error}
-use Rattle.der_core.specs.Encodings.{AreBytes}
-use Rattle.der_core.specs.Input.{Input}
 use Rattle.der_core.proofs.QuickReading.{read_inside}
-use Rattle.der_core.proofs.TaggedReadings.{other_is}
-use Rattle.der_core.specs.Reading.{ReadsFront, ReadsWhole}
-use Rattle.der_core.specs.Readings.{FrontReading, Reading, alone, is_next, octets_of_all, tagged, unexpected}
-use Rattle.der_core.specs.Readings.{ReadsContents}
-use Rattle.der_core.specs.Tag.{context_tag}
-use Rattle.der_core.specs.Tlv.{Tlv}
-use Rattle.spki_core.specs.Any.{TagAndContents}
-use Rattle.spki_core.specs.Readings.{any_as, defaulted, explicit}
-use Rattle.spki_core.specs.Laws.Readings.{explicit_is}
+use Rattle.der_core.proofs.Readings.{other_is}
+
+-- Whether the field is there though it has its default; and strictly, that no field is.
+abbrev pub there_by_default : (k : Kind) → Option k.Value → Bool
+there_by_default k None = false
+there_by_default k (Some v) = k.is_default v
+
+abbrev pub NoneRefused : Bool → (ks : List Kind) → Spelling ks → Type 0
+NoneRefused strict [] s = Unit {0}
+NoneRefused strict (k ∷ ks) s = ((strict && there_by_default k s.0) ≡ false) × NoneRefused strict ks s.1
+
+-- A value that was read, if the octet of its field's tag is next.
+abbrev pub there : (k : Kind) → k.Value → List ℕ → Option k.Value
+there k v c = if is_next (160 + k.number) c then Some v else None
+
+-- One field and those behind it, with the number and the default of the first as the code has them.
+module _ (k : Kind) (ks : List Kind) {given v : k.Value} {n : ℕ} (same : given ≡ k.default) (is : n ≡ k.number)
+    (c rest : List ℕ) (read : defaulted n k.at given c ≡ Ok (v, rest)) where
+  known : defaulted k.number k.at k.default c ≡ Ok (v, rest)
+  known = rw (is, same) at read
+
+  spelled_by : (b : Bool) → (if b then explicit k.number k.at c else Ok (k.default, c)) ≡ Ok (v, rest)
+      → (if b then (tagged (tag_of k) (alone k.at) c >>= λ p. let q : Option k.Value × List ℕ = (Some p.0, p.1) in Ok q)
+      else Ok (None, c))
+      ≡ Ok ((if b then Some v else None), rest)
+  spelled_by true p =
+      ap (λ r. r >>= λ p. let q : Option k.Value × List ℕ = (Some p.0, p.1) in Ok q)
+      (sym (explicit_is k.at k.number (tag_of k) c refl) ∙ p)
+  spelled_by false p =
+      ap (λ l. let r : Result (Option k.Value × List ℕ) ErrorKind = Ok (None, l) in r)
+      (ok_pair k.default v c rest p).1
+
+  pub field_spelled : (s : Spelling ks) → spelling_read ks rest ≡ Ok s → spelling_read (k ∷ ks) c ≡ Ok (there k v c, s)
+  field_spelled s behind =
+      ap (λ r. r >>= λ p. spelling_read ks p.1 >>= λ y. let t : Spelling (k ∷ ks) = (p.0, y) in Ok t)
+      (spelled_by (is_next (160 + k.number) c) known)
+      ∙ ap (λ r. r >>= λ y. let t : Spelling (k ∷ ks) = (there k v c, y) in Ok t) behind
+
+  meant_by : (b : Bool) → (if b then explicit k.number k.at c else Ok (k.default, c)) ≡ Ok (v, rest)
+      → or_default k.default (if b then Some v else None) ≡ v
+  meant_by true p = refl
+  meant_by false p = (ok_pair k.default v c rest p).0
+
+  -- It means the value.
+  pub field_meant : or_default k.default (there k v c) ≡ v
+  field_meant = meant_by (is_next (160 + k.number) c) known
+
+-- Whether a field is there with its default, by the octet of its tag.
+pub refused_by : (k : Kind) (v : k.Value) (b : Bool)
+    → there_by_default k (if b then Some v else None) ≡ (b && k.is_default v)
+refused_by k v true = refl
+refused_by k v false = refl
+
+pub accepted : (k : Kind) (v : k.Value) (c : List ℕ) (strict : Bool)
+    → (strict && (is_next (160 + k.number) c && k.is_default v)) ≡ false
+    → (strict && there_by_default k (there k v c)) ≡ false
+accepted k v c strict p = ap (λ x. strict && x) (refused_by k v (is_next (160 + k.number) c)) ∙ p
+
+none_written : (ks : List Kind) (s : Spelling ks) → NoneRefused true ks s → first_written ks s ≡ None
+none_written [] s none = refl
+none_written (k ∷ ks) (None, s) none = none_written ks s none.1
+none_written (k ∷ ks) (Some v, s) none = rw none.0 (none_written ks s none.1)
+
+pub record_found : {V : Type 0} {Is : V → Type 0} {fields : V → List Field} (r : FieldRecord Is fields) (strict : Bool)
+    (c : List ℕ) (s : Spelling r.kinds) → spelling_read r.kinds c ≡ Ok s → NoneRefused strict r.kinds s
+    → (if strict then record_strictly r else record_read r) c ≡ Ok (record_means r s)
+record_found r true c s read none =
+    ap (λ x. x >>= strict_value r.kinds r.join) read
+    ∙ ap (λ f. unless_found f (record_means r s)) (none_written r.kinds s none)
+record_found r false c s read none =
+    sym ((record_alike r).same c) ∙ ap (λ x. x >>= λ y. Ok (record_means r y)) read
+
+-- Identifiers whose parameters are mapped to other values and back.
+option_meant : {X V W : Type 0} (value : X → V) (other : X → W) (f : V → W) → ((x : X) → other x ≡ f (value x))
+    → (o : Option X) → option_map other o ≡ option_map f (option_map value o)
+option_meant value other f same None = refl
+option_meant value other f same (Some x) = ap Some (same x)
+
+pub algorithm_carried : {X V W : Type 0} {value : X → V} {other : X → W} → Carried value other
+    → Carried (algorithm_with value) (algorithm_with other)
+algorithm_carried {X} {V} {W} {value} {other} k = record {
+  there = algorithm_map k.there;
+  back = algorithm_map k.back;
+  meant =
+      λ a. let p =
+      option_meant value other k.there k.meant a.parameters in
+      λ i. record { oid = (algorithm_with other a).oid; parameters = p i };
+}
+
+-- What the functions give for an encoding of any tag that has to be of one type.
 
 -- Another tag than that of the type; and a call that read the contents of the type's tag.
 pub any_as_other : {V : Type 0} (tag : Tag) (read : Reading V) (v : TagAndContents) (actual : Tag) (e : ErrorKind)

@@ -1,35 +1,12 @@
 -- Strict reading of fields with defaults: what is read is the shortest encoding, and the walk of the code finds what
 -- isn't.
-use Rattle.std.proofs.Common.{ℕ, List, [], ◌∷◌, ◌++◌, ◌≡◌, ◌≤◌, ◌+◌, length, refl, sym, subst, ap, ◌∙◌, arith}
-use Rattle.std.proofs.Common.{Bool, true, false, Option, Some, None, Result, Ok, Err, length-append, inl, inr}
-use Rattle.std.proofs.lemmas.Bool.Decides.{nat_tests}
-use Rattle.std.specs.Prelude.{if◌then◌else◌}
-use Rattle.der_core.specs.Encodings.{AreBytes}
-use Rattle.der_core.specs.Laws.Printed.Leaves.{tlv_fit}
-use Rattle.der_core.specs.Laws.Printed.Rows.{whole_decodes, whole_takes}
-use Rattle.der_core.specs.Laws.Printed.Alike.{tagged_alike, whole_alike}
-use Rattle.der_core.specs.Laws.Readings.{bind_err}
-use Rattle.der_core.specs.Length.{limit}
-use Rattle.der_core.specs.Printed.{value_in}
-use Rattle.der_core.specs.Readings.{is_next, tagged, whole, ◌>>=◌}
+use Rattle.std.proofs.Common.{ℕ, List, [], ◌∷◌, ◌++◌, ◌≡◌, ◌≤◌, ◌+◌, length, refl, sym, subst, ap, ◌∙◌, arith, Bool, true, false, Option, Some, None, Result, Ok, Err, length-append, inl, inr, if◌then◌else◌}
+use Rattle.der_core.specs.Words.{nat_tests, AreBytes, tlv_fit, whole_decodes, whole_takes, tagged_alike, whole_alike, bind_err, limit, value_in, is_next, tagged, whole, ◌>>=◌, checked_as, same_tag, context_tag, is_allowed, header_at, tagged_shortest}
 use Rattle.der_core.specs.declared.error.ErrorKind.{ErrorKind}
 use Rattle.der_core.specs.declared.error.ErrorKind.TheVariants.{Incomplete, Noncanonical, TagUnknown}
 use Rattle.der_core.specs.declared.tag.Tag.{Tag}
-use Rattle.der_core.specs.Laws.TaggedReadings.{checked_as}
-use Rattle.der_core.specs.Laws.Tags.{same_tag}
-use Rattle.der_core.specs.Tag.{context_tag, is_allowed}
-use Rattle.der_core.specs.Input.{header_at}
 use Rattle.der_core.specs.Tags as tags
-use Rattle.spki_core.specs.FieldSpellings.{AreLawful, AreNumbered, AreSpelled, FieldRecord, Kind, Spelling, Values}
-use Rattle.spki_core.specs.FieldSpellings.{are_defaults, fields_with, first_written, meant, one_spelled, record_fields}
-use Rattle.spki_core.specs.FieldSpellings.{record_means, record_whole, spelled, spelling_read, strict_value, strict_whole, under}
-use Rattle.spki_core.specs.Laws.FieldSpellings.Masks.{Step}
-use Rattle.der_core.specs.Laws.Printed.Shortest.{tagged_shortest}
-use Rattle.spki_core.specs.Laws.FieldSpellings.Records.{record_alike, record_front_law, record_shortest, spelled_from, spelled_to}
-use Rattle.spki_core.specs.Laws.FieldSpellings.Spellings.{not_next}
-use Rattle.spki_core.specs.Laws.Printed.Readings.{any_law}
-use Rattle.spki_core.specs.Readings.{any}
-use Rattle.spki_core.specs.StrictFields.{behind_any, first_default, noncanonical, unless_found, walked}
+use Rattle.spki_core.specs.Words.{AreLawful, AreNumbered, AreSpelled, FieldRecord, Kind, Spelling, Values, are_defaults, fields_with, first_written, meant, one_spelled, record_fields, record_means, record_whole, spelled, spelling_read, strict_value, strict_whole, under, Step, record_alike, record_front_law, record_shortest, spelled_from, spelled_to, not_next, any_law, any, behind_any, first_default, noncanonical, unless_found, walked}
 use Rattle.spki_core.proofs.Fielded.{made, shortest_is}
 use Rattle.standard.specs.Statement.{Decodes, Field, Fields, IsShortest, SequenceOf, TagAndContents, sequence, tlv}
 

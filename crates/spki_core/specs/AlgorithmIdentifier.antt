@@ -1,10 +1,8 @@
 -- AlgorithmIdentifier (RFC 5280 4.1.1.2):
 -- SEQUENCE { algorithm OBJECT IDENTIFIER, parameters ANY DEFINED BY algorithm OPTIONAL }
-use Rattle.std.specs.Prelude.{ℕ, Bool, List, ◌++◌, ◌&&◌, eqb}
-use Rattle.std.specs.Option.{option_eq, option_map}
-use Rattle.std.specs.Str.{bytes_eq}
-use Rattle.der_core.specs.Tag.{object_identifier_tag}
-use Rattle.der_core.specs.Tlv.{tlv}
+use Rattle.std.specs.Prelude.{ℕ, Bool, List, ◌++◌, ◌&&◌, eqb, option_map, bytes_eq}
+use Rattle.std.specs.Option.{option_eq}
+use Rattle.der_core.specs.Words.{object_identifier_tag, tlv}
 use Rattle.spki_core.specs.Any.{TagAndContents}
 use Rattle.standard.specs.Statement.{optional}
 -- An object identifier, and parameters that are there or not.

@@ -1,6 +1,5 @@
 -- What an algorithm identifier means, by what its parameters mean.
-use Rattle.std.specs.Prelude.{ℕ, List}
-use Rattle.std.specs.Option.{option_map}
+use Rattle.std.specs.Prelude.{ℕ, List, option_map}
 use Rattle.spki_core.specs.declared.any.AnyRef.{AnyRef}
 use Rattle.spki_core.specs.declared.algorithm_identifier.AlgorithmIdentifierOf.{AlgorithmIdentifierOf}
 use Rattle.spki_core.specs.declared.identifier_view.IdentifierView.{IdentifierView}

@@ -1,9 +1,6 @@
 -- Where reading algorithm identifiers and fields may ask for memory.
 use Rattle.std.specs.Prelude.{ℕ, List, ◌≡◌}
-use Rattle.der_core.specs.Printed.{Prints}
-use Rattle.der_core.specs.Tag.{context_tag, object_identifier_tag, sequence_tag}
-use Rattle.der_core.specs.Tlv.{Tlv, tlv}
-use Rattle.der_core.specs.Reading.{AllocatesIn, AllocatesBehind, AllocatesLast}
+use Rattle.der_core.specs.Words.{Prints, context_tag, object_identifier_tag, sequence_tag, Tlv, tlv, AllocatesIn, AllocatesBehind, AllocatesLast}
 use Rattle.spki_core.specs.ObjectIdentifier.{IsIdentifier}
 
 -- In the contents of an algorithm identifier: its parameters may ask for memory, the object identifier never does.

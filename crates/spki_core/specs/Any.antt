@@ -1,7 +1,6 @@
 -- An encoding of any tag (X.680 "open type"), whose contents are opaque.
 use Rattle.std.specs.Prelude.{ℕ, List, []}
-use Rattle.der_core.specs.Encodings.{Is}
-use Rattle.der_core.specs.Tlv.{Tlv}
+use Rattle.der_core.specs.Words.{Is, Tlv}
 -- A tag octet that is allowed, and contents that are any bytes; the encoding that is written.
 pub use Rattle.standard.specs.Statement.{IsAny, TagAndContents, any as written_any}
 

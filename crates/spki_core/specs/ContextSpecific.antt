@@ -1,7 +1,6 @@
 -- A value inside an explicit context-specific tag (X.690 8.14.2).
 use Rattle.std.specs.Prelude.{ℕ, List, ◌≤◌}
-use Rattle.der_core.specs.Tag.{context_tag}
-use Rattle.der_core.specs.Tlv.{tlv}
+use Rattle.der_core.specs.Words.{context_tag, tlv}
 
 pub record Numbered (V : Type 0) : Type 0 where
   pub number : ℕ

@@ -1,9 +1,6 @@
 -- Fields [n] EXPLICIT .. DEFAULT .. of a SEQUENCE (X.690 8.14.2, 11.5).
 use Rattle.std.specs.Prelude.{ℕ, List, ◌≡◌, ◌⊎◌}
-use Rattle.der_core.specs.Encodings.{Is, Then}
-use Rattle.der_core.specs.Optional.{IsNext}
-use Rattle.der_core.specs.Tag.{context_tag}
-use Rattle.der_core.specs.Tlv.{Tlv}
+use Rattle.der_core.specs.Words.{Is, Then, IsNext, context_tag, Tlv}
 
 -- What reading a field with a default gives: its value, and the bytes after it. The field is left out exactly if its
 -- octet isn't next.

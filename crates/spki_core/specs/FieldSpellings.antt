@@ -1,15 +1,9 @@
 -- Fields with defaults, of any kinds. A spelling says which fields stand there. A value has several spellings, and a
 -- mask names each.
-use Rattle.std.specs.Prelude.{ℕ, zero, suc, Bool, ◌+◌, ◌*◌, ◌/◌, ◌%◌, ◌==◌, ◌≡◌, ◌≤◌, List, [], ◌∷◌, ◌++◌, IsTrue}
-use Rattle.std.specs.Prelude.{Option, Some, None, Result, if◌then◌else◌, true, false, map}
+use Rattle.std.specs.Prelude.{ℕ, zero, suc, Bool, ◌+◌, ◌*◌, ◌/◌, ◌%◌, ◌==◌, ◌≡◌, ◌≤◌, List, [], ◌∷◌, ◌++◌, IsTrue, Option, Some, None, Result, if◌then◌else◌, true, false, map, Decides}
 use Rattle.der_core.specs.declared.error.ErrorKind.{ErrorKind}
-use Rattle.std.specs.Bool.{Decides}
-use Rattle.der_core.specs.Printed.{ReadsFrontPrinted}
-use Rattle.der_core.specs.Readings.{FrontReading, Reading, alone, no_parts, optional as optional_front, parts, tagged}
-use Rattle.der_core.specs.Tag.{is_allowed}
+use Rattle.der_core.specs.Words.{ReadsFrontPrinted, FrontReading, Reading, alone, no_parts, optional as optional_front, parts, tagged, is_allowed, made, whole, ◌>>=◌, sequence}
 use Rattle.der_core.specs.declared.tag.Tag.{Tag}
-use Rattle.der_core.specs.Readings.{made, whole, ◌>>=◌}
-use Rattle.der_core.specs.Tags.{sequence}
 use Rattle.spki_core.specs.Readings.{defaulted}
 use Rattle.spki_core.specs.StrictFields.{unless_found}
 use Rattle.standard.specs.Statement.{Field, IfPresent, optional, tlv}

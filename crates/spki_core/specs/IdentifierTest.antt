@@ -1,6 +1,5 @@
 -- A test for the contents of an identifier.
-use Rattle.std.specs.Prelude.{Bool, true, not, ◌&&◌, ◌==◌, nat_lt}
-use Rattle.std.proofs.Common.{ℕ, zero, suc, get_or, List, [], ◌∷◌, length}
+use Rattle.std.proofs.Common.{Bool, true, not, ◌&&◌, ◌==◌, nat_lt, ℕ, zero, suc, get_or, List, [], ◌∷◌, length}
 
 -- The octets end with a whole subidentifier, read from the start of one or from within one.
 abbrev pub ends_well : Bool → List ℕ → Bool

@@ -3,10 +3,7 @@ use Rattle.std.specs.Prelude.{◌==◌, ◌-◌, ◌||◌, ℕ, List, Option, Re
 use Rattle.der_core.specs.declared.error.ErrorKind.{ErrorKind}
 use Rattle.der_core.specs.declared.error.ErrorKind.TheVariants.{OidMalformed, TagUnknown}
 use Rattle.der_core.specs.declared.tag.Tag.{Tag}
-use Rattle.der_core.specs.Readings.{FrontReading, Reading, alone, by_tag, checked, is_next, last, made, parts, tagged}
-use Rattle.der_core.specs.Readings.{unexpected}
-use Rattle.der_core.specs.Tag.{context_tag, is_allowed}
-use Rattle.der_core.specs.Tags.{object_identifier}
+use Rattle.der_core.specs.Words.{FrontReading, Reading, alone, by_tag, checked, is_next, last, made, parts, tagged, unexpected, context_tag, is_allowed, object_identifier}
 use Rattle.spki_core.specs.AlgorithmIdentifier.{Algorithm}
 use Rattle.spki_core.specs.Any.{TagAndContents}
 use Rattle.spki_core.specs.ContextSpecific.{Numbered}

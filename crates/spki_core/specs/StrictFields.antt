@@ -1,8 +1,6 @@
 -- Fields with defaults, which are not to be written if they equal them (X.690 11.5).
-use Rattle.std.specs.Prelude.{ℕ, Bool, true, false, List, [], ◌∷◌, ◌+◌, Option, Some, None}
-use Rattle.std.specs.Prelude.{Result, Ok, Err, if◌then◌else◌}
-use Rattle.der_core.specs.Tag.{context_tag, is_allowed}
-use Rattle.der_core.specs.Readings.{checked, is_next, whole}
+use Rattle.std.specs.Prelude.{ℕ, Bool, true, false, List, [], ◌∷◌, ◌+◌, Option, Some, None, Result, Ok, Err, if◌then◌else◌}
+use Rattle.der_core.specs.Words.{context_tag, is_allowed, checked, is_next, whole}
 use Rattle.der_core.specs.declared.tag.TagNumber.{TagNumber}
 use Rattle.der_core.specs.declared.error.ErrorKind.{ErrorKind}
 use Rattle.der_core.specs.declared.error.ErrorKind.TheVariants.{Noncanonical, TagUnknown}

@@ -1,9 +1,6 @@
 //! Algorithm identifiers (RFC 5280 4.1.1.2).
-ghost use Rattle.std.specs.Prelude.{◌≡◌, ◌≢◌, refl, IfOk, IfErr, IfSome, IsOk};
-ghost use Rattle.std.specs.Option.{option_map};
-ghost use Rattle.spki_core.specs.Words.{AllocatesForParameters, NothingAskedAlone, TagAndContents, Algorithm};
-ghost use Rattle.spki_core.specs.Words.{algorithm_alike, algorithm_contents, algorithm_decides, algorithm_law};
-ghost use Rattle.spki_core.specs.Words.{algorithm_map, algorithm_read, algorithm_writes_shortest};
+ghost use Rattle.std.specs.Prelude.{◌≡◌, ◌≢◌, refl, IfOk, IfErr, IfSome, IsOk, option_map};
+ghost use Rattle.spki_core.specs.Words.{AllocatesForParameters, NothingAskedAlone, TagAndContents, Algorithm, algorithm_alike, algorithm_contents, algorithm_decides, algorithm_law, algorithm_map, algorithm_read, algorithm_writes_shortest};
 ghost use Rattle.standard.specs.Statement as standard;
 
 use crate::any::{AnyRef, AnyValue};
@@ -236,8 +233,7 @@ impl<'a> ReadIdentifier<'a> for ObjectIdentifier {
 }
 
 impl<O: IdentifierValue, P: AnyValue> AlgorithmIdentifierOf<O, P> {
-    ghost use Rattle.std.specs.Prelude.{Some, None};
-    ghost use Rattle.std.specs.Bool.{Decides};
+    ghost use Rattle.std.specs.Prelude.{Some, None, Decides};
     ghost use Rattle.spki_core.specs.Words.{any_of, algorithm_in, viewed_with, IsHash};
 
     /// The algorithm identifier, borrowed.

@@ -1,11 +1,10 @@
 //! Encodings of any tag.
 ghost use Rattle.std.specs.Prelude.{◌≡◌, ◌≤◌, ◌<◌, ℕ, [], length, slice_index, refl, true, ⊤, IfOk, IsOk, IfErr, IsTrue};
-ghost use Rattle.der_core.specs.Words.{limit, is_allowed, ReadsFront, NoValueOrMemory, Returns};
+ghost use Rattle.der_core.specs.Words.{limit, is_allowed, ReadsFront, NoValueOrMemory, Returns, Prints, front_alike, one_spelling, starts_with_any};
 ghost use Rattle.spki_core.specs.Readings.{any, any_as};
 ghost use Rattle.spki_core.specs.Any.{TagAndContents, null_value};
 ghost use Rattle.spki_core.specs.Laws.Printed.Readings.{any_law};
 ghost use Rattle.spki_core.specs.Laws.Printed.Shortest.{any_some};
-ghost use Rattle.der_core.specs.Words.{Prints, front_alike, one_spelling, starts_with_any};
 ghost use Rattle.standard.specs.Statement as standard;
 
 use crate::wide_tag::WideTag;
@@ -223,7 +222,7 @@ impl<'a> TryClone for AnyRef<'a> {
 pub trait AnyValue: EqualByValue + Encode {
     ghost use Rattle.spki_core.specs.AnyRefValue.{any_of};
     ghost use Rattle.spki_core.specs.Laws.AnyValues.{HoldsAny};
-    ghost use Rattle.spki_core.specs.Laws.WritesAs.{WritesAs};
+    ghost use Rattle.spki_core.specs.Laws.HaveEncodings.{WritesAs};
 
     /// The tag and contents that are held.
     ghost any: { Self → TagAndContents };
@@ -244,7 +243,7 @@ pub trait AnyValue: EqualByValue + Encode {
 }
 
 impl EqualByValue for AnyRef<'_> {
-    ghost use Rattle.spki_core.specs.Laws.AnyEncodings.{any_decides};
+    ghost use Rattle.spki_core.specs.Laws.AnyValues.{any_decides};
 
     ghost decides = { λ a b. any_decides a.tag.octet b.tag.octet a.contents.now b.contents.now };
 }
@@ -252,8 +251,7 @@ impl EqualByValue for AnyRef<'_> {
 impl AnyValue for AnyRef<'_> {
     ghost use Rattle.spki_core.specs.AnyRefValue.{any_of};
     ghost use Rattle.spki_core.specs.Laws.AnyValues.{holds_itself};
-    ghost use Rattle.spki_core.specs.Laws.HaveEncodings.{any_held};
-    ghost use Rattle.spki_core.specs.Laws.WritesAs.{writes_itself};
+    ghost use Rattle.spki_core.specs.Laws.HaveEncodings.{any_held, writes_itself};
 
     ghost any = { any_of };
 

@@ -1,11 +1,7 @@
 //! Values inside explicit context-specific tags (X.690 8.14.2).
-ghost use Rattle.std.specs.Prelude.{◌≡◌, ◌+◌, true};
-ghost use Rattle.std.specs.Option.{option_map};
-ghost use Rattle.der_core.specs.Words.{context_tag, Tlv, ReadsFront, alone, optional, tagged};
-ghost use Rattle.der_core.specs.Words.{AllocatesIn, TellsNext, starts_with_any};
-ghost use Rattle.spki_core.specs.Words.{FieldAllocates, explicit, numbered, Numbered, HasNumbered, numbered_alike};
-ghost use Rattle.spki_core.specs.Words.{numbered_law, numbered_map, numbered_some, numbered_writes_shortest};
-ghost use Rattle.spki_core.specs.Words.{written_numbered};
+ghost use Rattle.std.specs.Prelude.{◌≡◌, ◌+◌, true, option_map};
+ghost use Rattle.der_core.specs.Words.{context_tag, Tlv, ReadsFront, alone, optional, tagged, AllocatesIn, TellsNext, starts_with_any};
+ghost use Rattle.spki_core.specs.Words.{FieldAllocates, explicit, numbered, Numbered, HasNumbered, numbered_alike, numbered_law, numbered_map, numbered_some, numbered_writes_shortest, written_numbered};
 
 use der_core::{
     BackWriter, Decode, Encode, Encoding, ErrorKind, Header, Length, Memory, Reader, Result, Tag,

@@ -1,7 +1,6 @@
 //! Explicit fields with defaults (X.690 8.14.2, 11.5).
 ghost use Rattle.std.specs.Prelude.{◌≡◌, ◌≤◌, ◌+◌, ℕ, length, IfSome, Ok};
-ghost use Rattle.der_core.specs.Words.{limit, free_of, Prepends, Counts, Appends, context_tag, tlv, ReadsFront};
-ghost use Rattle.der_core.specs.Words.{OptionalRead, Prints, ReadsBy, ReadsFronts, Tlv, optional};
+ghost use Rattle.der_core.specs.Words.{limit, free_of, Prepends, Counts, Appends, context_tag, tlv, ReadsFront, OptionalRead, Prints, ReadsBy, ReadsFronts, Tlv, optional};
 ghost use Rattle.spki_core.specs.Words.{FieldAllocates, FieldRead, defaulted, explicit};
 
 use crate::context_specific::{ContextSpecificRef, is_field_next, read_explicit};

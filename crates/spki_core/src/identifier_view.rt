@@ -2,10 +2,9 @@
 ghost use Rattle.std.specs.Prelude.{◌≡◌, ℕ, ◌<◌, List, length, slice_index, IsTrue, IfOk, IfErr};
 ghost use Rattle.spki_core.specs.IdentifierTest as specs;
 ghost use Rattle.spki_core.specs.ObjectIdentifier.{IsIdentifier};
-ghost use Rattle.der_core.specs.Words.{Answers};
+ghost use Rattle.der_core.specs.Words.{Answers, alike, one_spelling};
 ghost use Rattle.spki_core.specs.Readings.{identifier_read};
 ghost use Rattle.spki_core.specs.Laws.Printed.Readings.{oid_law};
-ghost use Rattle.der_core.specs.Words.{alike, one_spelling};
 ghost use Rattle.standard.specs.Statement as standard;
 
 use crate::object_identifier::{

@@ -1,19 +1,15 @@
 //! Object identifiers.
-ghost use Rattle.std.specs.Prelude.{◌≡◌, ◌-◌, ℕ, ◌≤◌, ◌<◌, List, length, take, drop, slice_index};
-ghost use Rattle.std.specs.Prelude.{IsTrue, IfOk, IfErr, true};
+ghost use Rattle.std.specs.Prelude.{◌≡◌, ◌-◌, ℕ, ◌≤◌, ◌<◌, List, length, take, drop, slice_index, IsTrue, IfOk, IfErr, true, bytes_eq};
 ghost use Rattle.std.proofs.Math.ListN.{replicate};
 ghost use Rattle.spki_core.specs.IdentifierTest as specs;
 ghost use Rattle.spki_core.specs.ObjectIdentifier.{IsIdentifier};
-ghost use Rattle.der_core.specs.Words.{Answers};
+ghost use Rattle.der_core.specs.Words.{Answers, alike, one_spelling, object_identifier};
 ghost use Rattle.spki_core.specs.Readings.{identifier_read};
 ghost use Rattle.spki_core.specs.Laws.Printed.Readings.{oid_law};
-ghost use Rattle.der_core.specs.Words.{alike, one_spelling};
 ghost use Rattle.standard.specs.Statement as standard;
 ghost use Rattle.std.proofs.Common.{rules};
 ghost use Rattle.std.specs.Hash as fed;
-ghost use Rattle.std.specs.Str.{bytes_eq};
 ghost use Rattle.std.specs.Cmp.Rules.{comparing, hashing};
-ghost use Rattle.der_core.specs.Words.{object_identifier};
 
 use crate::identifier_view::IdentifierView;
 use der_core::{

@@ -1,11 +1,10 @@
 //! Encodings of any tag that own their contents.
 ghost use Rattle.std.specs.Prelude.{◌≡◌, ◌≤◌, ◌<◌, ◌⊎◌, ℕ, length, slice_index, true, IfOk, IfErr};
-ghost use Rattle.der_core.specs.Words.{limit};
+ghost use Rattle.der_core.specs.Words.{limit, Prints, front_alike, one_spelling, starts_with_any};
 ghost use Rattle.spki_core.specs.Readings.{any};
 ghost use Rattle.spki_core.specs.Any.{TagAndContents};
 ghost use Rattle.spki_core.specs.Laws.Printed.Readings.{any_law};
 ghost use Rattle.spki_core.specs.Laws.Printed.Shortest.{any_some};
-ghost use Rattle.der_core.specs.Words.{Prints, front_alike, one_spelling, starts_with_any};
 ghost use Rattle.standard.specs.Statement as standard;
 
 use crate::any::{AnyParams, AnyRef, AnyValue};
@@ -133,7 +132,7 @@ impl Encode for Any {
 }
 
 impl EqualByValue for Any {
-    ghost use Rattle.spki_core.specs.Laws.AnyEncodings.{any_decides};
+    ghost use Rattle.spki_core.specs.Laws.AnyValues.{any_decides};
 
     ghost decides = { λ a b. any_decides a.tag.octet b.tag.octet a.contents.items b.contents.items };
 }
@@ -141,8 +140,7 @@ impl EqualByValue for Any {
 impl AnyValue for Any {
     ghost use Rattle.spki_core.specs.OwnedAnyValue.{own_any_of};
     ghost use Rattle.spki_core.specs.Laws.AnyValues.{holds_itself};
-    ghost use Rattle.spki_core.specs.Laws.HaveEncodings.{own_any_held};
-    ghost use Rattle.spki_core.specs.Laws.WritesAs.{writes_itself};
+    ghost use Rattle.spki_core.specs.Laws.HaveEncodings.{own_any_held, writes_itself};
 
     ghost any = { own_any_of };
 

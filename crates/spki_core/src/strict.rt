@@ -1,6 +1,5 @@
 //! Fields that are written though they equal their defaults, which DER forbids (X.690 11.5).
-ghost use Rattle.std.specs.Prelude.{◌≡◌, ◌≤◌, ◌+◌, length};
-ghost use Rattle.std.specs.Option.{option_map};
+ghost use Rattle.std.specs.Prelude.{◌≡◌, ◌≤◌, ◌+◌, length, option_map};
 ghost use Rattle.der_core.specs.Words.{Answers, limit};
 ghost use Rattle.spki_core.specs.Words.{any, any_of, first_default, number_in, walked};
 

@@ -1,12 +1,7 @@
 -- Worked rows: what the definitions say of single values. Each is computed, so a mistake in a definition is a row that
 -- isn't proved.
-use Rattle.std.proofs.Common.{ℕ, List, [], ◌∷◌, ◌++◌, ◌≡◌, ◌<◌, ◌+◌, ◌*◌, ◌∙◌, length, refl, subst, ap, arith}
-use Rattle.std.proofs.Common.{Some, None, inl}
-use Rattle.std.specs.Prelude.{codes, nat_lt, if◌then◌else◌, ◌-◌, ◌^◌}
-use Rattle.standard.specs.Statement.{AlgorithmEncoding, Container, ContainerEncoding, Defaults, IfPresent}
-use Rattle.standard.specs.Statement.{IsAny, IsPss, OtherPrime, PrivateKey, PrivateKeyEncoding, PssParameters}
-use Rattle.standard.specs.Statement.{algorithm, any, empty_label, id_rsassa_pss, integer, length_octets, limit, longest}
-use Rattle.standard.specs.Statement.{mgf1_sha1, oaep_fields, pss_fields, rsa_encryption, sequence, sha1, tlv, version}
+use Rattle.std.proofs.Common.{ℕ, List, [], ◌∷◌, ◌++◌, ◌≡◌, ◌<◌, ◌+◌, ◌*◌, ◌∙◌, length, refl, subst, ap, arith, Some, None, inl, codes, nat_lt, if◌then◌else◌, ◌-◌, ◌^◌}
+use Rattle.standard.specs.Statement.{AlgorithmEncoding, Container, ContainerEncoding, Defaults, IfPresent, IsAny, IsPss, OtherPrime, PrivateKey, PrivateKeyEncoding, PssParameters, algorithm, any, empty_label, id_rsassa_pss, integer, length_octets, limit, longest, mgf1_sha1, oaep_fields, pss_fields, rsa_encryption, sequence, sha1, tlv, version}
 
 digit : ℕ → ℕ
 digit c = if nat_lt c 58 then c - 48 else c - 87

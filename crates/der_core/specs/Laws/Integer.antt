@@ -1,15 +1,19 @@
--- INTEGER: each encoding means one number, and each number has one encoding.
-use Rattle.std.proofs.Common.{ℕ, List, [], ◌∷◌, ◌≡◌, ◌<◌, ◌≤◌, refl, sym, ap, ◌∙◌, arith, inl, inr}
-use Rattle.std.specs.Prelude.{slice_index}
+-- INTEGER: one number for each encoding, one encoding for each number, how it is read. Equality of what values mean.
+use Rattle.std.proofs.Common.{ℕ, List, [], ◌∷◌, ◌≡◌, ◌<◌, ◌≤◌, refl, sym, ap, ◌∙◌, arith, inl, inr, slice_index, nat_lt, true, false, length, Result, Ok, Err, ◌==◌, Bool, ◌&&◌, eqb, Decides, option_map, bytes_eq, Option, Some, None, eqb-true, eq-eqb}
 use Rattle.std.specs.Int.Digits.{number_from_digits}
 use Rattle.der_core.specs.Encodings.{AtMostOne}
-use Rattle.der_core.specs.Integer.{IsCanonical, IntegerContents, HoldsNumber}
-use Rattle.der_core.specs.Integer.{integer_contents}
-use Rattle.der_core.specs.Laws.Input.{are_bytes}
+use Rattle.der_core.specs.Integer.{IsCanonical, IntegerContents, HoldsNumber, integer_contents, SmallContents}
+use Rattle.der_core.specs.Laws.LengthReading.{are_bytes, chosen, is_value}
 use Rattle.std.proofs.lemmas.Bool.{cases_lt}
 use Rattle.std.proofs.lemmas.Bool.Decides.{nat_tests}
-use Rattle.std.specs.Prelude.{nat_lt, true, false}
 use Rattle.der_core.specs.Laws.Numbers.{base256_same, base256_pos}
+use Rattle.der_core.specs.Reading.{TellsOfBytes}
+use Rattle.der_core.specs.IntegerReading.{integer_of, as_small, small_of}
+use Rattle.der_core.specs.declared.error.ErrorKind.{ErrorKind}
+use Rattle.der_core.specs.declared.error.ErrorKind.TheVariants as kind
+use Rattle.der_core.specs.Tags.{integer}
+use Rattle.std.specs.Option.{option_eq}
+use Rattle.std.proofs.lemmas.Slice.Eq.{bytes_eq-Decides}
 
 pub contents_at_most_one : (bytes : List ℕ) → AtMostOne (IntegerContents bytes)
 contents_at_most_one n x y (p, inl a) (q, inl b) = a.1 ∙ sym b.1
@@ -56,3 +60,111 @@ integer_relates bytes p = elim (cases_lt (slice_index bytes 0) 128) [
   | inl h ↦ (p, inl (h, written_small bytes h))
   | inr h ↦ (p, inr (h, written_large bytes h))
 ]
+
+-- INTEGER from 0 to 255: what is written, and what is read.
+
+-- The byte of a number below 256 is its canonical bytes.
+pub byte_canonical : (n : ℕ) → n < 256 → IsCanonical (n ∷ [])
+byte_canonical n l = elim (cases_lt 0 n) [
+  | inl h ↦ inr ((l, tt), h)
+  | inr h ↦ let z : n ≡ 0 = omega arith in inl (ap (λ k. k ∷ []) z)
+]
+
+pub byte_number : (n : ℕ) → number_from_digits 256 (n ∷ []) ≡ n
+byte_number n = omega arith
+
+-- Canonical bytes of a number below 256 are one byte.
+pub one_byte : (n : ℕ) (bytes : List ℕ) → n < 256 → IsCanonical bytes → number_from_digits 256 bytes ≡ n
+    → bytes ≡ n ∷ []
+one_byte n bytes l p e = canonical_same bytes (n ∷ []) p (byte_canonical n l) (e ∙ sym (byte_number n))
+
+-- Reading the contents of an INTEGER from 0 to 255.
+
+-- What is read of the contents of a number.
+pub contents_read : (bytes c : List ℕ) → IntegerContents bytes c → integer_of c ≡ Ok bytes
+contents_read [] c (p, inl i) = absurd (none p)
+  where
+    none : IsCanonical [] → ⊥
+    none (inl e) = cc
+    none (inr h) = omega (arith, h.1)
+contents_read [] c (p, inr i) = absurd (omega (arith, i.0))
+contents_read (x ∷ []) c (p, inl i) =
+    let less : nat_lt x 128 ≡ true = grind (arith, nat_tests, i.0) in
+    rw (i.1, less) refl
+contents_read (x ∷ y ∷ ys) c (inl e, inl i) = absurd (omega (arith, ap length e))
+contents_read (x ∷ y ∷ ys) c (inr h, inl i) =
+    let less : nat_lt x 128 ≡ true = grind (arith, nat_tests, i.0) in
+    let other : (x == 0) ≡ false = grind (arith, nat_tests, h.1) in
+    rw (i.1, less, other) refl
+contents_read (x ∷ xs) c (p, inr i) =
+    let more : nat_lt x 128 ≡ false = grind (arith, nat_tests, i.0) in
+    rw (i.1, more) refl
+
+pub small_read : (n : ℕ) (c : List ℕ) → SmallContents n c → small_of c ≡ Ok n
+small_read n c (l, bytes, e, i) =
+    let test : nat_lt (number_from_digits 256 bytes) 256 ≡ true = rw e (grind (arith, nat_tests)) in
+    rw (contents_read bytes c i, test, e) refl
+
+-- The errors are about the bytes.
+as_tells : (k : ErrorKind) (r : Result (List ℕ) ErrorKind) → ((d : ErrorKind) → r ≡ Err d → TellsOfBytes d)
+    → as_small r ≡ Err k → TellsOfBytes k
+as_tells k (Err d) h e = let same : d ≡ k = cc in h k (ap (λ x. Err x) same)
+as_tells k (Ok bytes) h e = elim (chosen (nat_lt (number_from_digits 256 bytes) 256) _ _ _ e) [
+  | inl w ↦ let no = w.1 in cc
+  | inr w ↦ value_tells k w.1
+]
+  where
+    value_tells : (k : ErrorKind) → ◌≡◌ {A = Result ℕ ErrorKind} (Err (kind.Value integer)) (Err k) → TellsOfBytes k
+    value_tells k e = let same : kind.Value integer ≡ k = cc in is_value (sym same)
+
+pub integer_tells : (c : List ℕ) (k : ErrorKind) → integer_of c ≡ Err k → TellsOfBytes k
+integer_tells [] k e = let same : kind.Length integer ≡ k = cc in (λ no. cc, λ no. cc, λ no. cc)
+integer_tells (x ∷ []) k e = elim (chosen (nat_lt x 128) _ _ _ e) [
+  | inl w ↦ let no = w.1 in cc
+  | inr w ↦ let is = w.1 in let same : kind.Value integer ≡ k = cc in is_value (sym same)
+]
+integer_tells (x ∷ y ∷ ys) k e = elim (chosen (nat_lt x 128) _ _ _ e) [
+  | inl w ↦ elim (chosen (x == 0) _ _ _ w.1) [
+    | inl v ↦ elim (chosen (nat_lt y 128) _ _ _ v.1) [
+      | inl u ↦ let is = u.1 in let same : kind.Noncanonical integer ≡ k = cc in (λ no. cc, λ no. cc, λ no. cc)
+      | inr u ↦ let no = u.1 in cc
+    ]
+    | inr v ↦ let no = v.1 in cc
+  ]
+  | inr w ↦ let is = w.1 in let same : kind.Value integer ≡ k = cc in is_value (sym same)
+]
+
+pub small_tells : (c : List ℕ) (k : ErrorKind) → small_of c ≡ Err k → TellsOfBytes k
+small_tells c k e = as_tells k (integer_of c) (integer_tells c) e
+
+-- Equality of what values mean, part by part.
+pub number_decides : (m n : ℕ) → Decides (eqb m n) (m ≡ n)
+number_decides m n = (λ e. eqb-true m n e, λ e. eq-eqb m n e)
+
+pub bytes_decide : (x y : List ℕ) → Decides (bytes_eq x y) (x ≡ y)
+bytes_decide x y = bytes_eq-Decides x y
+
+both : (a b : Bool) → (a && b) ≡ true → (a ≡ true) × (b ≡ true)
+both true true e = (refl, refl)
+both true false e = cc
+both false b e = cc
+
+-- Two parts that make up the whole.
+pub both_decide : {A B C : Type 0} {a b : Bool} → Decides a A → Decides b B → (A → B → C) → (C → A) → (C → B)
+    → Decides (a && b) C
+both_decide {A} {B} {C} {a} {b} p q make first second = (
+  λ e. let w = both a b e in make (p.0 w.0) (q.0 w.1),
+  λ e. rw (p.1 (first e), q.1 (second e)) refl,
+)
+
+some_same : {V : Type 0} (v w : V) → ◌≡◌ {A = Option V} (Some v) (Some w) → v ≡ w
+some_same v w e = cc
+
+pub option_decides : {P V : Type 0} (value : P → V) (E : P → P → Bool)
+    → ((a b : P) → Decides (E a b) (value a ≡ value b))
+    → (p q : Option P) → Decides (option_eq E p q) (option_map value p ≡ option_map value q)
+option_decides value E d None None = (λ e. refl, λ e. refl)
+option_decides value E d None (Some y) = (λ e. cc, λ e. cc)
+option_decides value E d (Some x) None = (λ e. cc, λ e. cc)
+option_decides value E d (Some x) (Some y) =
+    (λ e. ap (λ v. Some v) ((d x y).0 e), λ e. (d x y).1 (some_same (value x) (value y) e))

@@ -1,16 +1,17 @@
--- Length octets: told apart from what follows, one for each length, and no fewer for a greater length.
-use Rattle.std.proofs.Common.{ℕ, List, [], ◌∷◌, ◌++◌, ◌≡◌, ◌<◌, ◌≤◌, ◌+◌, ◌^◌, length, refl, sym, ap, ◌∙◌, arith, inl}
-use Rattle.std.proofs.Common.{inr}
+-- Length octets: told apart, one for each length, no fewer for a greater one. An encoding is a document in one way.
+use Rattle.std.proofs.Common.{ℕ, List, [], ◌∷◌, ◌++◌, ◌≡◌, ◌<◌, ◌≤◌, ◌+◌, ◌^◌, length, refl, sym, ap, ◌∙◌, arith, inl, inr, nat_lt, true, false}
 use Rattle.std.proofs.lemmas.Bool.{cases_lt}
-use Rattle.std.specs.Int.Digits.{digits_of}
-use Rattle.std.proofs.lemmas.Int.Digits.{all_below_base_digits_of, number_digits_of, first_digits_of}
-use Rattle.std.proofs.lemmas.Int.Digits.{length-digits_of-le}
-use Rattle.std.specs.Int.Digits.{number_from_digits}
+use Rattle.std.specs.Int.Digits.{digits_of, number_from_digits}
+use Rattle.std.proofs.lemmas.Int.Digits.{all_below_base_digits_of, number_digits_of, first_digits_of, length-digits_of-le}
 use Rattle.der_core.specs.Length.{IsLength, IsBase256, short, long, length_octets}
-use Rattle.std.specs.Prelude.{nat_lt, true, false}
 use Rattle.std.proofs.lemmas.Bool.Decides.{nat_tests}
-use Rattle.der_core.specs.Laws.Lists.{same_cons, same_fronts}
-use Rattle.der_core.specs.Laws.Numbers.{base256_grows, base256_same}
+use Rattle.der_core.specs.Laws.Numbers.{same_cons, same_fronts, base256_grows, base256_same}
+use mathlib.Core.HLevel.{is_prop→PathP, ×_prop, Unit-prop}
+use denote.Struct.Props.{props}
+use Rattle.std.specs.Coded.{le_prop}
+use Rattle.der_core.specs.Encodings.{AreBytes}
+use Rattle.der_core.specs.Tlv.{Tlv}
+use Rattle.der_core.specs.Document.{IsDocument}
 
 pub length_split : (m n : ℕ) (x y x' y' : List ℕ) → IsLength m x → IsLength n x' → x ++ y ≡ x' ++ y'
     → (x ≡ x') × (m ≡ n) × (y ≡ y')
@@ -116,3 +117,47 @@ length_octets-within n h = let made = length_made n h in length_octets-are n n m
 pub length_few : (n : ℕ) (s : List ℕ) → IsLength n s → length s ≤ 127
 length_few n s (short p e) = rw e (omega arith)
 length_few n s (long ds p k b e) = rw e (omega (arith, k))
+
+-- An encoding is a document in one way.
+bytes_set : IsSet (List ℕ)
+bytes_set = hlevel props
+
+AreBytes-prop : (x : List ℕ) → IsProp (AreBytes x)
+AreBytes-prop [] = Unit-prop
+AreBytes-prop (b ∷ x) = ×_prop le_prop (AreBytes-prop x)
+
+IsBase256-prop : (n : ℕ) (digits : List ℕ) → IsProp (IsBase256 n digits)
+IsBase256-prop n digits = hlevel (props, AreBytes-prop digits)
+
+IsLength-prop : (n : ℕ) (octets : List ℕ) → IsProp (IsLength n octets)
+IsLength-prop n octets (short p e) (short q f) = λ i. short (le_prop p q i) (bytes_set octets (n ∷ []) e f i)
+IsLength-prop n octets (short p e) (long ds q k b f) = absurd (omega arith)
+IsLength-prop n octets (long ds q k b f) (short p e) = absurd (omega arith)
+IsLength-prop n octets (long ds p j a e) (long ds' q k b f) =
+    let d : ds ≡ ds' = base256_same n ds ds' a b in λ i.
+    long (d i) (le_prop p q i)
+    (is_prop→PathP (λ h. length (d h) ≤ 126) (λ h. le_prop) j k i)
+    (is_prop→PathP (λ h. IsBase256 n (d h)) (λ h. IsBase256-prop n (d h)) a b i)
+    (is_prop→PathP (λ h. octets ≡ (128 + length (d h)) ∷ d h) (λ h. bytes_set octets ((128 + length (d h)) ∷ d h)) e f
+    i)
+
+Tlv-prop : (t : ℕ) (Contents : List ℕ → Type 0) → ((c : List ℕ) → IsProp (Contents c)) → (encoding : List ℕ)
+    → IsProp (Tlv t Contents encoding)
+Tlv-prop t Contents is_prop encoding p q =
+    let c = same_cons (sym p.written ∙ q.written) in
+    let s =
+    length_split (length p.contents) (length q.contents) p.octets p.contents q.octets q.contents p.counted q.counted
+    c.1 in λ i. record {
+      octets = s.0 i;
+      contents = s.2 i;
+      counted =
+          is_prop→PathP (λ h. IsLength (length (s.2 h)) (s.0 h)) (λ h. IsLength-prop (length (s.2 h)) (s.0 h)) p.counted
+          q.counted i;
+      holds = is_prop→PathP (λ h. Contents (s.2 h)) (λ h. is_prop (s.2 h)) p.holds q.holds i;
+      written =
+          is_prop→PathP (λ h. encoding ≡ t ∷ s.0 h ++ s.2 h) (λ h. bytes_set encoding (t ∷ s.0 h ++ s.2 h)) p.written
+          q.written i;
+    }
+
+pub IsDocument-prop : (encoding : List ℕ) → IsProp (IsDocument encoding)
+IsDocument-prop encoding = ×_prop le_prop (Tlv-prop 48 AreBytes AreBytes-prop encoding)

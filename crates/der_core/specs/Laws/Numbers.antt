@@ -1,12 +1,30 @@
--- A number has one list of digits without a leading zero, and a greater number has no fewer digits.
-use Rattle.std.proofs.Common.{ℕ, suc, List, [], ◌∷◌, ◌≡◌, ◌<◌, ◌≤◌, ◌+◌, ◌*◌, ◌^◌, length, refl, sym, ◌∙◌, arith, inl}
-use Rattle.std.proofs.Common.{inr, mul-le-mul_right, zero-le}
+-- Lists, digits of numbers, and what a writer to the front of a slice keeps.
+use Rattle.std.proofs.Common.{List, [], ◌∷◌, ◌++◌, ◌≡◌, length, refl, arith, ℕ, suc, ◌<◌, ◌≤◌, ◌+◌, ◌*◌, ◌^◌, sym, ◌∙◌, inl, inr, mul-le-mul_right, zero-le, ◌-◌, drop, ap, drop-drop}
 use Rattle.std.proofs.Math.Nat.{pow-suc, pow-le-pow_right}
 use Rattle.std.proofs.lemmas.Bool.{cases_lt}
 use Rattle.std.specs.Int.Digits.{number_from_digits, number_from_digits_after, AllBelowBase}
 use Rattle.std.proofs.lemmas.Int.Digits.{number_lt}
 use Rattle.der_core.specs.Length.{IsBase256}
-use Rattle.der_core.specs.Laws.Lists.{cons_path}
+use Rattle.der_core.specs.SliceWriters.{Keeps}
+use Rattle.der_core.specs.declared.writer.SliceWriter.{SliceWriter}
+
+pub cons_path : {A : Type 0} {a b : A} {x y : List A} → a ≡ b → x ≡ y → a ∷ x ≡ b ∷ y
+cons_path p q = cc
+
+pub same_cons : {A : Type 0} {a b : A} {x y : List A} → a ∷ x ≡ b ∷ y → (a ≡ b) × (x ≡ y)
+same_cons e = (cc, cc)
+
+-- Fronts of one length of one list are the same, and so is what follows.
+pub same_fronts : {A : Type 0} (x y x' y' : List A) → length x ≡ length x' → x ++ y ≡ x' ++ y' → (x ≡ x') × (y ≡ y')
+same_fronts [] y [] y' n e = (refl, e)
+same_fronts [] y (b ∷ x') y' n e = absurd (omega arith)
+same_fronts (a ∷ x) y [] y' n e = absurd (omega arith)
+same_fronts (a ∷ x) y (b ∷ x') y' n e =
+    let c = same_cons e in
+    let r = same_fronts x y x' y' (omega arith) c.1 in
+    (cons_path c.0 r.0, r.1)
+
+-- A number has one list of digits without a leading zero, and a greater number has no fewer digits.
 
 -- One digit more at the end.
 same_step : (m n x y : ℕ) → x < 256 → y < 256 → m * 256 + x ≡ n * 256 + y → (m ≡ n) × (x ≡ y)
@@ -62,3 +80,16 @@ base256_pos n (a ∷ x) p =
     let g : 256 ^ length x ≤ n = base256_ge n x a p.no_leading_zero (sym p.value) in
     let k : 256 ^ 0 ≤ 256 ^ length x = pow-le-pow_right (omega arith) zero-le in
     omega arith
+
+-- What a writer to the front of a slice keeps.
+pub Keeps-itself : (w : SliceWriter) → Keeps w w
+Keeps-itself w = (refl, refl, omega arith, refl)
+
+later : (xs ys : List ℕ) (m n : ℕ) → m ≤ n → drop m xs ≡ drop m ys → drop n xs ≡ drop n ys
+later xs ys m n h e =
+    let sum : m + (n - m) ≡ n = omega arith in
+    sym (drop-drop (n - m) m xs ∙ ap (λ k. drop k xs) sum) ∙ ap (drop (n - m)) e
+    ∙ (drop-drop (n - m) m ys ∙ ap (λ k. drop k ys) sum)
+
+pub Keeps-through : (u v w : SliceWriter) → Keeps u v → Keeps v w → Keeps u w
+Keeps-through u v w p q = (q.0 ∙ p.0, q.1 ∙ p.1, omega arith, q.3 ∙ later v.slice.now u.slice.now v.len w.len q.2 p.3)

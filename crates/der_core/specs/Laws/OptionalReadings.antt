@@ -1,22 +1,17 @@
 -- Reading by functions: a part that is there if its tag is next.
-use Rattle.std.proofs.Common.{ℕ, true, false, List, [], ◌∷◌, ◌++◌, ◌≡◌, ◌==◌, ◌⊎◌, ◌≤◌, length, refl, sym, ap, subst, ◌∙◌}
-use Rattle.std.proofs.Common.{arith, inl, inr, ⊎_elim, append-nil, append_assoc, Ok, Err, Option, Some, None}
+use Rattle.std.proofs.Common.{ℕ, true, false, List, [], ◌∷◌, ◌++◌, ◌≡◌, ◌==◌, ◌⊎◌, ◌≤◌, length, refl, sym, ap, subst, ◌∙◌, arith, inl, inr, ⊎_elim, append-nil, append_assoc, Ok, Err, Option, Some, None}
 use Rattle.std.proofs.lemmas.Bool.Decides.{nat_tests}
 use Rattle.der_core.specs.declared.error.ErrorKind.{ErrorKind}
 use Rattle.der_core.specs.declared.tag.Tag.{Tag}
-use Rattle.der_core.specs.Laws.Input.{ok_pair}
-use Rattle.der_core.specs.Laws.LengthReading.{chosen}
-use Rattle.der_core.specs.Laws.Lists.{same_cons}
+use Rattle.der_core.specs.Laws.LengthReading.{ok_pair, chosen}
+use Rattle.der_core.specs.Laws.Numbers.{same_cons}
 use Rattle.der_core.specs.Laws.Readings.{bind_err, bind_ok}
 use Rattle.der_core.specs.Laws.TaggedReadings.{tagged_reads}
 use Rattle.der_core.specs.Length.{limit}
 use Rattle.der_core.specs.Encodings.{AreBytes}
 use Rattle.der_core.specs.Optional.{IsNext, Optional, OptionalRead}
 use Rattle.der_core.specs.Reading.{TellsOfBytes}
-use Rattle.der_core.specs.Readings.{Reading, FrontReading, ReadsBy, ReadsContents, ReadsFronts, ◌>>=◌, alone, ended}
-use Rattle.der_core.specs.Readings.{is_next}
-use Rattle.der_core.specs.Readings.{optional}
-use Rattle.der_core.specs.Readings.{tagged}
+use Rattle.der_core.specs.Readings.{Reading, FrontReading, ReadsBy, ReadsContents, ReadsFronts, ◌>>=◌, alone, ended, is_next, optional, tagged}
 use Rattle.der_core.specs.Tlv.{Tlv}
 
 -- The octet that is next.

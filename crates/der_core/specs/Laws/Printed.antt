@@ -2,11 +2,7 @@
 pub mod Leaves
 pub mod Rows
 pub mod Optional
-pub mod OptionalRows
 pub mod Items
-pub mod Once
-pub mod Shortest
-pub mod Steps
 pub mod Alike
-pub mod Values
+pub mod Shortest
 pub mod Relations

@@ -4,7 +4,7 @@ use Rattle.der_core.specs.Length.{limit}
 use Rattle.der_core.specs.Encodings.{AreBytes}
 use Rattle.der_core.specs.Input.{left_in}
 use Rattle.der_core.specs.SliceReaders.{left_of}
-use Rattle.der_core.specs.Laws.Input.{left_bounded, left_bytes}
+use Rattle.der_core.specs.Laws.LengthReading.{left_bounded, left_bytes}
 use Rattle.der_core.specs.declared.slice_reader.SliceReader.{SliceReader}
 
 pub left_of-bounded : (reader : SliceReader) → length (left_in (left_of reader)) ≤ limit

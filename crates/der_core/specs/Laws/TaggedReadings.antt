@@ -1,27 +1,18 @@
 -- Reading by functions: an encoding by its tag, and lists of encodings.
-use Rattle.std.proofs.Common.{ℕ, zero, suc, Bool, true, false, List, [], ◌∷◌, ◌++◌, ◌≡◌, ◌<◌, ◌≤◌, ◌==◌, length, take}
-use Rattle.std.proofs.Common.{drop, refl, sym, ap, ◌∙◌, arith, ⊎_elim, length-append, append_assoc, length-take}
-use Rattle.std.proofs.Common.{Result, Ok, Err}
+use Rattle.std.proofs.Common.{ℕ, zero, suc, Bool, true, false, List, [], ◌∷◌, ◌++◌, ◌≡◌, ◌<◌, ◌≤◌, ◌==◌, length, take, drop, refl, sym, ap, ◌∙◌, arith, ⊎_elim, length-append, append_assoc, length-take, Result, Ok, Err, take-append-drop, nat_lt, IsTrue}
 use Rattle.std.proofs.Math.Seq.{take-append_seam, drop-append_seam}
 use Rattle.std.proofs.lemmas.Bool.Decides.{nat_tests}
-use Rattle.std.proofs.lemmas.List.{take-append-drop}
-use Rattle.std.specs.Prelude.{nat_lt, IsTrue}
 use Rattle.der_core.specs.declared.error.ErrorKind.{ErrorKind}
 use Rattle.der_core.specs.declared.error.ErrorKind.TheVariants.{Incomplete, TagUnexpected, TagUnknown, TrailingData}
 use Rattle.der_core.specs.declared.tag.Tag.{Tag}
 use Rattle.der_core.specs.Encodings.{AreBytes}
 use Rattle.der_core.specs.Headers.{HeaderEncoding}
 use Rattle.der_core.specs.Input.{header_at, front_of}
-use Rattle.der_core.specs.Laws.Headers.{tlv_header, header_sound, header_at-tells}
-use Rattle.der_core.specs.Laws.Input.{ok_pair}
-use Rattle.der_core.specs.Laws.LengthReading.{chosen}
-use Rattle.der_core.specs.Laws.Readings.{front_bytes, back_bytes, behind_bytes, behind_within, carry, ok_same}
-use Rattle.der_core.specs.Laws.Readings.{bind_ok, bind_err, made_tells}
-use Rattle.der_core.specs.Laws.Tells.{is_incomplete, is_other_tag, is_trailing}
+use Rattle.der_core.specs.Laws.LengthReading.{tlv_header, header_sound, header_at-tells, ok_pair, chosen, is_incomplete, is_other_tag, is_trailing}
+use Rattle.der_core.specs.Laws.Readings.{front_bytes, back_bytes, behind_bytes, behind_within, carry, ok_same, bind_ok, bind_err, made_tells}
 use Rattle.der_core.specs.Length.{limit}
 use Rattle.der_core.specs.Reading.{TellsOfBytes}
-use Rattle.der_core.specs.Readings.{Reading, FrontReading, ◌>>=◌, made, items_within, items, checked, unexpected}
-use Rattle.der_core.specs.Readings.{by_tag, contents_behind, inside, tagged, ReadsContents, ReadsFronts}
+use Rattle.der_core.specs.Readings.{Reading, FrontReading, ◌>>=◌, made, items_within, items, checked, unexpected, by_tag, contents_behind, inside, tagged, ReadsContents, ReadsFronts}
 use Rattle.der_core.specs.SequenceOf.{ItemsContents}
 use Rattle.der_core.specs.Tag.{is_allowed}
 use Rattle.der_core.specs.Tlv.{Tlv}

@@ -120,7 +120,7 @@ impl<'a> UintRef<'a> {
     }
 
     /// The bit length of the number, as 2048 of the modulus of an RSA-2048 key. It is 0 of 0.
-    #[tactic(auto, using(crate::proofs::BitLength::bit_length))]
+    #[tactic(auto, using(crate::proofs::Integers::bit_length))]
     pub fn bit_len(&self) -> u64
         ensures { IsBitLength (number_from_digits 256 (bytes_of self.now)) result }
     {

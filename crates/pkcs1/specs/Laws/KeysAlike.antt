@@ -1,17 +1,9 @@
 -- Keys are read as their spellings mean, over numbers of any type of which it is so.
-use Rattle.std.proofs.Common.{ℕ, Bool, true, false, List, [], ◌∷◌, ◌≡◌, ◌==◌, map, refl, sym, ◌∙◌}
-use Rattle.std.proofs.Common.{Option, Some, None, Ok, Err}
-use Rattle.std.specs.Prelude.{if◌then◌else◌}
+use Rattle.std.proofs.Common.{ℕ, Bool, true, false, List, [], ◌∷◌, ◌≡◌, ◌==◌, map, refl, sym, ◌∙◌, Option, Some, None, Ok, Err, if◌then◌else◌}
 use Rattle.der_core.specs.declared.error.ErrorKind.TheVariants.{Value}
-use Rattle.der_core.specs.Laws.Printed.Alike.{alike, chain_alike, front_alike, front_row_alike}
-use Rattle.der_core.specs.Laws.Printed.Alike.{items_alike, made_alike, optional_alike, row_alike}
-use Rattle.der_core.specs.Laws.Printed.Alike.{tagged_alike}
-use Rattle.der_core.specs.Printed.{ReadsAlike, ReadsFrontAlike}
-use Rattle.der_core.specs.Readings.{FrontReading, Reading, ended, front_done, made, no_parts, tagged, ◌>>=◌}
+use Rattle.der_core.specs.Words.{alike, chain_alike, front_alike, front_row_alike, items_alike, made_alike, optional_alike, row_alike, tagged_alike, ReadsAlike, ReadsFrontAlike, FrontReading, Reading, ended, front_done, made, no_parts, tagged, ◌>>=◌}
 use Rattle.der_core.specs.Tags as tags
-use Rattle.pkcs1.specs.KeyReadings.{agreed, front_read, key_from, lists_none, of_other_parts}
-use Rattle.pkcs1.specs.KeyReadings.{of_public_parts, other_read, others_read, primes_read, private_key_read}
-use Rattle.pkcs1.specs.KeyReadings.{public_key_read, version_read}
+use Rattle.pkcs1.specs.KeyReadings.{agreed, front_read, key_from, lists_none, of_other_parts, of_public_parts, other_read, others_read, primes_read, private_key_read, public_key_read, version_read}
 use Rattle.pkcs1.specs.Keys.{OtherPrime, version_of}
 use Rattle.pkcs1.specs.PrintedKeys.{front_as, other_as, others_as, private_as, public_as}
 

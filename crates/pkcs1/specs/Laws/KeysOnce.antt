@@ -1,7 +1,6 @@
 -- Keys have one spelling each, over numbers of any type of which it is so.
 use Rattle.std.proofs.Common.{ap, refl}
-use Rattle.der_core.specs.Laws.Printed.Once.{made_once}
-use Rattle.der_core.specs.Printed.{AreSpelledOnce}
+use Rattle.der_core.specs.Words.{made_once, AreSpelledOnce}
 use Rattle.pkcs1.specs.KeyReadings.{of_other_parts, of_public_parts}
 use Rattle.pkcs1.specs.Keys.{other_parts, public_parts}
 use Rattle.pkcs1.specs.PrintedKeys.{other_as, public_as}

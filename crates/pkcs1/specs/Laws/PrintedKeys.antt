@@ -1,23 +1,28 @@
--- Public keys: the function of this crate reads what the statement prints of them, and nothing else.
-use Rattle.std.proofs.Common.{ℕ, List, ◌≡◌, ◌≤◌, length, refl, subst, Result, Ok, Err}
-use Rattle.std.specs.Option.{option_map}
-use Rattle.std.specs.Prelude.{◌↔◌}
-use Rattle.der_core.specs.declared.error.ErrorKind.{ErrorKind}
-use Rattle.der_core.specs.Encodings.{AreBytes}
-use Rattle.der_core.specs.Laws.Printed.Relations.{spells_once}
-use Rattle.der_core.specs.Laws.Printed.Rows.{decodes_as, tagged_law, whole_decodes}
-use Rattle.der_core.specs.Printed.{Spells, value_in}
-use Rattle.der_core.specs.Readings.{Reading, tagged, whole, ◌>>=◌}
+-- Numbers of keys and versions; public keys, their reading and their equality.
+use Rattle.std.proofs.Common.{◌<◌, arith, refl, nat_lt, ℕ, List, ◌≡◌, ◌≤◌, length, subst, Result, Ok, Err, option_map, ◌↔◌, Bool, ◌&&◌, ap, Decides}
+use Rattle.der_core.specs.Words.{nat_tests, number_law, small_law, such_law, tagged_law, valid_as, is_value, ReadsFrontPrinted, ReadsPrinted, number_contents, AreBytes, spells_once, decodes_as, whole_decodes, Spells, value_in, Reading, tagged, whole, ◌>>=◌, both_decide}
 use Rattle.der_core.specs.Tags as tags
-use Rattle.pkcs1.specs.KeyReadings.{number, public_key_read, rsa_public_key}
+use Rattle.pkcs1.specs.KeyReadings.{number, version_read, public_key_read, rsa_public_key}
+use Rattle.pkcs1.specs.Printing.{AnyNumber, PublicIsValid, public_printed}
+use Rattle.standard.specs.Statement.{integer, Decodes, IsShortest, PublicKeyEncoding, limit, sequence}
+use Rattle.der_core.specs.declared.error.ErrorKind.{ErrorKind}
 use Rattle.pkcs1.specs.Keys.{PublicKey}
-use Rattle.pkcs1.specs.Laws.PrintedNumbers.{integer_law}
 use Rattle.pkcs1.specs.Laws.PrintedRows.{public_law}
 use Rattle.pkcs1.specs.PrintedKeys.{public_as}
-use Rattle.pkcs1.specs.Printing.{AnyNumber, PublicIsValid, public_printed}
 use Rattle.pkcs1.specs.StatedKeys.{public_from, public_stated}
 use Rattle.standard.specs.Statement as standard
-use Rattle.standard.specs.Statement.{Decodes, IsShortest, PublicKeyEncoding, limit, sequence}
+
+pub integer_law : ReadsFrontPrinted AnyNumber integer number
+integer_law = tagged_law number_law tags.integer
+
+-- Version ::= INTEGER { two-prime(0), multi(1) }
+pub version_law : ReadsPrinted (λ n. n < 2) number_contents version_read
+version_law =
+    valid_as
+    (such_law small_law (λ n. n < 2) (λ n. nat_lt n 2) _ (λ n e. grind (arith, nat_tests, e))
+    (λ n h. grind (arith, nat_tests, h)) (is_value refl)) (λ n ok. ok.0) (λ n less. (less, omega (arith, less)))
+
+-- Public keys: the function of this crate reads what the statement prints of them, and nothing else.
 
 -- The encoding of a public key of numbers, its spellings in the words of the statement, and the shortest.
 abbrev pub public_encoding : PublicKey ℕ → List ℕ
@@ -53,3 +58,14 @@ public_decodes bytes are =
     (decodes_as PublicEncodes PublicKeyEncoding public_stated public_from (λ key. refl) bytes (λ key p. (p.0, p.2))
     (λ key p. (p.0, (tt, (tt, tt)), p.1)) (value_in read)
     (whole_decodes (tagged_law (public_law integer_law) tags.sequence) bytes are))
+
+-- Public keys are equal exactly if their numbers are.
+
+-- Equality of keys, given that of numbers.
+pub public_key_decides : {U V : Type 0} (value : U → V) (E : U → U → Bool)
+    → ((a b : U) → Decides (E a b) (value a ≡ value b)) → (m n e f : U)
+    → Decides (E m n && E e f) (◌≡◌ {A = PublicKey V} (record { modulus = value m; public_exponent = value e })
+    (record { modulus = value n; public_exponent = value f }))
+public_key_decides {U} {V} value E d m n e f =
+    both_decide (d m n) (d e f) (λ p q. λ i. record { modulus = p i; public_exponent = q i })
+    (λ s. ap (λ (k : PublicKey V). k.modulus) s) (λ s. ap (λ (k : PublicKey V). k.public_exponent) s)

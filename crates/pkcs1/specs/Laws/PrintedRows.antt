@@ -1,17 +1,11 @@
 -- Keys and their other primes, over numbers of any type that are read as they are printed: so are these.
 use Rattle.std.proofs.Common.{ℕ, false, List, [], ◌∷◌, ◌≡◌, arith, refl, Option, Some, None}
 use Rattle.std.specs.List.{AllByRecursion}
-use Rattle.der_core.specs.Laws.Printed.Items.{items_law}
-use Rattle.der_core.specs.Laws.Printed.Rows.{end_law, made_law, row_law, tagged_law}
-use Rattle.der_core.specs.Laws.Printed.Shortest.{tagged_some}
-use Rattle.der_core.specs.Printed.{ReadsFrontPrinted, ReadsPrinted}
-use Rattle.der_core.specs.Readings.{FrontReading}
+use Rattle.der_core.specs.Words.{items_law, end_law, made_law, row_law, tagged_law, tagged_some, ReadsFrontPrinted, ReadsPrinted, FrontReading}
 use Rattle.der_core.specs.Tags as tags
-use Rattle.pkcs1.specs.KeyReadings.{lists_none, of_other_parts, of_public_parts, other_read}
-use Rattle.pkcs1.specs.KeyReadings.{primes_read, public_key_read}
+use Rattle.pkcs1.specs.KeyReadings.{lists_none, of_other_parts, of_public_parts, other_read, primes_read, public_key_read}
 use Rattle.pkcs1.specs.Keys.{OtherPrime, other_parts, public_parts}
-use Rattle.pkcs1.specs.Printing.{AreSome, OtherIsValid, PublicIsValid}
-use Rattle.pkcs1.specs.Printing.{other_printed, primes_printed, public_printed}
+use Rattle.pkcs1.specs.Printing.{AreSome, OtherIsValid, PublicIsValid, other_printed, primes_printed, public_printed}
 
 -- A list that is there isn't empty.
 pub some_listed : {N : Type 0} (primes : Option (List (OtherPrime N))) → AreSome primes → lists_none primes ≡ false

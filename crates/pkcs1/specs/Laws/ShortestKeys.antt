@@ -1,19 +1,13 @@
 -- What is written of keys is the shortest, over numbers of any type of which it is so.
-use Rattle.std.proofs.Common.{ℕ, List, [], ◌∷◌, ◌++◌, ◌≡◌, ◌<◌, length, map, refl, sym, subst, ap, ◌∙◌, inl, inr}
-use Rattle.std.proofs.Common.{arith, length-append, Option, Some, None}
+use Rattle.std.proofs.Common.{ℕ, List, [], ◌∷◌, ◌++◌, ◌≡◌, ◌<◌, length, map, refl, sym, subst, ap, ◌∙◌, inl, inr, arith, length-append, Option, Some, None}
 use Rattle.std.specs.List.{AllByRecursion}
-use Rattle.der_core.specs.Laws.Printed.Shortest.{last_shortest, list_shortest, made_shortest, one_spelling}
-use Rattle.der_core.specs.Laws.Printed.Shortest.{row_shortest, tagged_shortest}
-use Rattle.der_core.specs.Printed.{WritesShortest, number_contents}
+use Rattle.der_core.specs.Words.{last_shortest, list_shortest, made_shortest, one_spelling, row_shortest, tagged_shortest, WritesShortest, number_contents}
 use Rattle.pkcs1.specs.KeyReadings.{of_other_parts, of_public_parts}
-use Rattle.pkcs1.specs.Keys.{Eight, OtherPrime, PrivateKey, eight_numbers, other_parts, private_parts}
-use Rattle.pkcs1.specs.Keys.{public_parts, version_of}
+use Rattle.pkcs1.specs.Keys.{Eight, OtherPrime, PrivateKey, eight_numbers, other_parts, private_parts, public_parts, version_of}
 use Rattle.pkcs1.specs.Laws.KeysAlike.{version_as}
 use Rattle.pkcs1.specs.Laws.PrintedPrivateKeys.{private_row}
 use Rattle.pkcs1.specs.PrintedKeys.{crt_as, other_as, others_as, private_as, public_as}
-use Rattle.pkcs1.specs.Printing.{AreSome, CrtIsValid, OtherIsValid, OthersAreValid, PrivateIsValid, PublicIsValid}
-use Rattle.pkcs1.specs.Printing.{crt_printed, other_printed, others_printed, primes_printed, private_printed}
-use Rattle.pkcs1.specs.Printing.{private_row_printed, public_printed}
+use Rattle.pkcs1.specs.Printing.{AreSome, CrtIsValid, OtherIsValid, OthersAreValid, PrivateIsValid, PublicIsValid, crt_printed, other_printed, others_printed, primes_printed, private_printed, private_row_printed, public_printed}
 use Rattle.standard.specs.Statement.{integer}
 
 -- Spellings that pass a test, as does what is written of them; and octets in front that are the same of both.

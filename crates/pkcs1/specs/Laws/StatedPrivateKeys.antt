@@ -1,25 +1,17 @@
 -- Private keys: the function of this crate gives a key exactly of the bytes that encode one, as the statement has it.
-use Rattle.std.proofs.Common.{ℕ, List, [], ◌∷◌, ◌++◌, ◌≡◌, ◌<◌, ◌≤◌, length, refl, sym, subst, ap, map}
-use Rattle.std.proofs.Common.{◌∙◌, arith, Option, Some, None}
+use Rattle.std.proofs.Common.{ℕ, List, [], ◌∷◌, ◌++◌, ◌≡◌, ◌<◌, ◌≤◌, length, refl, sym, subst, ap, map, ◌∙◌, arith, Option, Some, None, option_map, ◌↔◌}
 use Rattle.std.specs.List.{AllByRecursion, concat}
-use Rattle.std.specs.Option.{option_map}
-use Rattle.std.specs.Prelude.{◌↔◌}
-use Rattle.der_core.specs.Encodings.{AreBytes}
-use Rattle.der_core.specs.Laws.Printed.Rows.{decodes_as, tagged_law, whole_decodes}
-use Rattle.der_core.specs.Printed.{value_in}
+use Rattle.der_core.specs.Words.{AreBytes, decodes_as, tagged_law, whole_decodes, value_in}
 use Rattle.der_core.specs.Tags as tags
 use Rattle.pkcs1.specs.KeyReadings.{key_from, number, private_key, rsa_private_key}
 use Rattle.pkcs1.specs.Keys.{OtherPrime, PrivateKey, eight_numbers, version_of}
-use Rattle.pkcs1.specs.Laws.PrintedKeys.{value_made}
-use Rattle.pkcs1.specs.Laws.PrintedNumbers.{integer_law}
+use Rattle.pkcs1.specs.Laws.PrintedKeys.{value_made, integer_law}
 use Rattle.pkcs1.specs.Laws.PrintedPrivateKeys.{private_law}
 use Rattle.pkcs1.specs.PrintedKeys.{other_as, others_as, private_as}
-use Rattle.pkcs1.specs.Printing.{AnyNumber, AreSome, OtherIsValid, PrivateIsValid, PrivateSpells, other_printed}
-use Rattle.pkcs1.specs.Printing.{others_printed, private_printed}
+use Rattle.pkcs1.specs.Printing.{AnyNumber, AreSome, OtherIsValid, PrivateIsValid, PrivateSpells, other_printed, others_printed, private_printed}
 use Rattle.pkcs1.specs.StatedKeys.{other_from, other_stated, private_from, private_stated}
 use Rattle.standard.specs.Statement as standard
-use Rattle.standard.specs.Statement.{Decodes, IfPresent, IsShortest, PrivateKeyEncoding, integers, limit}
-use Rattle.standard.specs.Statement.{optional, sequence}
+use Rattle.standard.specs.Statement.{Decodes, IfPresent, IsShortest, PrivateKeyEncoding, integers, limit, optional, sequence}
 
 abbrev Primes : Type 0
 Primes = Option (List (OtherPrime ℕ))

@@ -1,9 +1,7 @@
 //! Decoding private keys from whole slices; encoding them into slices and documents.
 ghost use Rattle.std.specs.Prelude.{◌≡◌, length, List, ℕ, IfOk, IfErr, IsOk, IsErrAnd, None, Some};
 ghost use Rattle.der_core.specs.Words.{AllocatesIn, Tlv, ok_of, sequence, sequence_tag};
-ghost use Rattle.pkcs1.specs.Words.{AllocatesForKey, IsPrivateKey, ListsNone, PrivateIsWritten, PrivateKey};
-ghost use Rattle.pkcs1.specs.Words.{PrivateSpells, Refuses, Rejects, Withholds, held_private_key, private_key};
-ghost use Rattle.pkcs1.specs.Words.{private_key_with, rsa_private_key};
+ghost use Rattle.pkcs1.specs.Words.{AllocatesForKey, IsPrivateKey, ListsNone, PrivateIsWritten, PrivateKey, PrivateSpells, Refuses, Rejects, Withholds, held_private_key, private_key, private_key_with, rsa_private_key};
 ghost use Rattle.pkcs1_params.specs.Words.{ErrsOrAsks, IsAsn1};
 ghost use Rattle.standard.specs.Statement.{Decodes, Encodes, IsShortest, PrivateKeyEncoding};
 ghost use Rattle.standard.specs.Statement as standard;

@@ -1,9 +1,7 @@
 //! Other primes of private keys.
 ghost use Rattle.std.specs.Prelude.{◌≡◌, ◌↔◌, IsTrue, None, IfOk, IsOk, IfErr, refl};
 ghost use Rattle.der_core.specs.Words.{ReadsWhole, made_errs};
-ghost use Rattle.pkcs1.specs.Words.{AllocatesInOthers, ListsNone, OtherIsValid, OtherPrime, number_of, of_other_parts};
-ghost use Rattle.pkcs1.specs.Words.{other_alike, other_as, other_law, other_of, other_once, other_printed, other_read};
-ghost use Rattle.pkcs1.specs.Words.{other_shortest, others_of, others_read};
+ghost use Rattle.pkcs1.specs.Words.{AllocatesInOthers, ListsNone, OtherIsValid, OtherPrime, number_of, of_other_parts, other_alike, other_as, other_law, other_of, other_once, other_printed, other_read, other_shortest, others_of, others_read};
 
 use crate::version::Version;
 use der_core::{

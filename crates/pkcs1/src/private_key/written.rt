@@ -1,10 +1,8 @@
 //! A private key as it is written: a row of its parts. The compiler takes rows of seven parts at most, so the end of the
 //! row is a type of its own.
 ghost use Rattle.std.specs.Prelude.{◌≡◌, ◌≤◌, Option, length};
-ghost use Rattle.der_core.specs.Words.{Appends, Counts, Prepends, free_of, last, last_alike, last_law, last_shortest};
-ghost use Rattle.der_core.specs.Words.{limit, parts, row_alike, row_law, row_shortest};
-ghost use Rattle.pkcs1.specs.Words.{CrtRowIsValid, RowIsValid, Three, crt_row, crt_row_as, crt_row_printed, key_row};
-ghost use Rattle.pkcs1.specs.Words.{parts_row, row_as, row_printed};
+ghost use Rattle.der_core.specs.Words.{Appends, Counts, Prepends, free_of, last, last_alike, last_law, last_shortest, limit, parts, row_alike, row_law, row_shortest};
+ghost use Rattle.pkcs1.specs.Words.{CrtRowIsValid, RowIsValid, Three, crt_row, crt_row_as, crt_row_printed, key_row, parts_row, row_as, row_printed};
 
 use super::PrivateKeyOf;
 use der_core::{

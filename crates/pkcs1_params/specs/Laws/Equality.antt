@@ -1,12 +1,9 @@
 -- Equality in the code of algorithm identifiers whose parameters are tags with contents, and of parameters, by that of
 -- their fields.
-use Rattle.std.proofs.Common.{Bool, true, ◌≡◌, ◌&&◌, eqb, refl, ap, Decides}
+use Rattle.std.proofs.Common.{Bool, true, ◌≡◌, ◌&&◌, eqb, refl, ap, Decides, bytes_eq}
 use Rattle.std.specs.Option.{option_eq}
-use Rattle.std.specs.Str.{bytes_eq}
-use Rattle.der_core.specs.Laws.Equality.{both_decide, number_decides}
-use Rattle.spki_core.specs.Laws.Algorithms.{algorithm_decides}
-use Rattle.spki_core.specs.AlgorithmValue.{algorithm_with}
-use Rattle.spki_core.specs.ObjectIdentifierValue.{own_octets_of}
+use Rattle.der_core.specs.Words.{both_decide, number_decides}
+use Rattle.spki_core.specs.Words.{algorithm_decides, algorithm_with, own_octets_of}
 use Rattle.spki_core.specs.declared.algorithm_identifier.AlgorithmIdentifierOf.{AlgorithmIdentifierOf}
 use Rattle.spki_core.specs.declared.object_identifier.ObjectIdentifier.{ObjectIdentifier}
 use Rattle.pkcs1_params.specs.Parameters.{PssParameters, OaepParameters}

@@ -1,22 +1,10 @@
 -- The laws of parameters: of their fields, and of the records that hold these.
 use Rattle.std.proofs.Common.{List, [], ◌∷◌, ◌≡◌, ◌<◌, ◌==◌, refl, arith, rules}
-use Rattle.std.proofs.lemmas.Bool.Decides.{nat_tests}
-use Rattle.der_core.specs.Laws.Equality.{number_decides}
-use Rattle.der_core.specs.Laws.Printed.Leaves.{small_law}
-use Rattle.der_core.specs.Laws.Printed.Rows.{such_law, tagged_law, valid_as}
-use Rattle.der_core.specs.Laws.Tells.{is_value}
-use Rattle.der_core.specs.Printed.{ReadsFrontPrinted, ReadsPrinted, number_contents}
+use Rattle.der_core.specs.Words.{nat_tests, number_decides, small_law, such_law, tagged_law, valid_as, is_value, ReadsFrontPrinted, ReadsPrinted, number_contents}
 use Rattle.der_core.specs.Tags as tags
-use Rattle.spki_core.specs.FieldSpellings.{AreLawful, FieldRecord, Kind}
-use Rattle.spki_core.specs.Laws.Algorithms.{same_mask_decides, same_plain_decides}
-use Rattle.spki_core.specs.Laws.IdentifierTest.{is_identifier-sound}
-use Rattle.spki_core.specs.Laws.Printed.Readings.{algorithm_law, any_law}
-use Rattle.spki_core.specs.Laws.Printed.Shortest.{any_some}
-use Rattle.pkcs1_params.specs.ParameterReadings.{hash_kind, in_oaep_fields, in_pss_fields, mask_front, mask_kind}
-use Rattle.pkcs1_params.specs.ParameterReadings.{oaep_kinds, of_oaep_fields, of_pss_fields, plain_front, pss_kinds}
-use Rattle.pkcs1_params.specs.ParameterReadings.{salt_kind, source_kind, trailer_kind, trailer_read}
-use Rattle.standard.specs.Statement.{IsAlgorithm, IsAny, IsIdentifier, IsOaep, IsPss, algorithm, any, empty_label}
-use Rattle.standard.specs.Statement.{id_rsaes_oaep, id_rsassa_pss, mgf1_sha1, oaep_fields, pss_fields, sha1}
+use Rattle.spki_core.specs.Words.{AreLawful, FieldRecord, Kind, same_mask_decides, same_plain_decides, is_identifier-sound, algorithm_law, any_law, any_some}
+use Rattle.pkcs1_params.specs.ParameterReadings.{hash_kind, in_oaep_fields, in_pss_fields, mask_front, mask_kind, oaep_kinds, of_oaep_fields, of_pss_fields, plain_front, pss_kinds, salt_kind, source_kind, trailer_kind, trailer_read}
+use Rattle.standard.specs.Statement.{IsAlgorithm, IsAny, IsIdentifier, IsOaep, IsPss, algorithm, any, empty_label, id_rsaes_oaep, id_rsassa_pss, mgf1_sha1, oaep_fields, pss_fields, sha1}
 
 pub plain_law : ReadsFrontPrinted (IsAlgorithm IsAny) (algorithm any) plain_front
 plain_law = tagged_law (algorithm_law any_law any_some) tags.sequence

@@ -1,5 +1,4 @@
-use Rattle.std.proofs.Common.{◌≡◌, ◌∙◌, ℕ, is_ok, sym, arith}
-use Rattle.std.specs.Prelude.{Result, Ok, Err, OnOk, if◌then◌else◌}
+use Rattle.std.proofs.Common.{◌≡◌, ◌∙◌, ℕ, is_ok, sym, arith, Result, Ok, Err, OnOk, if◌then◌else◌}
 use Rattle.pkcs1_tool.proofs.carry_out.Goals.{in-Usage, in-Lines, in-CopyPub, in-CopyPriv}
 use Rattle.pkcs1_tool.proofs.carry_out.Goals as goal
 

@@ -1,22 +1,13 @@
 -- Containers: the function reads what is printed of them, and nothing else; and this is what the statement says.
-use Rattle.std.proofs.Common.{ℕ, List, ◌++◌, ◌≡◌, ◌≤◌, length, refl, sym, ap, ◌∙◌, arith, append_assoc}
-use Rattle.std.proofs.Common.{Option, Some, None}
-use Rattle.std.specs.Prelude.{◌↔◌}
-use Rattle.der_core.specs.Encodings.{AreBytes}
-use Rattle.der_core.specs.Laws.Printed.Leaves.{octets_law}
-use Rattle.der_core.specs.Laws.Printed.Optional.{last_by_tag_law}
-use Rattle.der_core.specs.Laws.Printed.Relations.{spells_once}
-use Rattle.der_core.specs.Laws.Printed.Rows.{expected_law, made_law, row_law, tagged_law, whole_decodes}
-use Rattle.der_core.specs.Length.{limit}
-use Rattle.der_core.specs.Printed.{ReadsPrinted, Spells, value_in}
+use Rattle.std.proofs.Common.{ℕ, List, ◌++◌, ◌≡◌, ◌≤◌, length, refl, sym, ap, ◌∙◌, arith, append_assoc, Option, Some, None, ◌↔◌}
+use Rattle.der_core.specs.Words.{AreBytes, octets_law, last_by_tag_law, spells_once, expected_law, made_law, row_law, tagged_law, whole_decodes, limit, ReadsPrinted, Spells, value_in}
 use Rattle.der_core.specs.Tags as tags
-use Rattle.spki_core.specs.Laws.Printed.Readings.{algorithm_law, any_law}
+use Rattle.spki_core.specs.Words.{algorithm_law, any_law}
 use Rattle.pkcs8_core.specs.ContainerReadings.{info_read, of_info_parts, private_key_info}
 use Rattle.pkcs8_core.specs.Container.{info_parts}
 use Rattle.pkcs8_core.specs.PrintedContainers.{IsContainer, container_printed}
 use Rattle.pkcs8_core.specs.Tags.{attributes_tag}
-use Rattle.standard.specs.Statement.{AtMostOne, Container, ContainerEncoding, Decodes}
-use Rattle.standard.specs.Statement.{algorithm, any, integer, optional, sequence, tlv}
+use Rattle.standard.specs.Statement.{AtMostOne, Container, ContainerEncoding, Decodes, algorithm, any, integer, optional, sequence, tlv}
 
 pub container_law : ReadsPrinted IsContainer container_printed info_read
 container_law =

@@ -1,7 +1,4 @@
 -- Laws of fields with defaults: how their spellings are read, which of them a mask names, and which is the shortest.
-pub mod Spellings
-pub mod Masks
 pub mod Shortest
-pub mod SameReading
-pub mod Steps
+pub mod Masks
 pub mod Records

@@ -1,31 +1,15 @@
 -- The functions read the grammars of identifiers, of encodings of any tag and of fields, and nothing else.
-use Rattle.std.proofs.Common.{ℕ, true, false, List, ◌++◌, ◌≡◌, ◌≤◌, length, refl, sym, ap, ◌∙◌}
-use Rattle.std.proofs.Common.{inl, inr, subst, ⊎_elim, Ok, Err}
-use Rattle.std.specs.Prelude.{IsTrue}
+use Rattle.std.proofs.Common.{ℕ, true, false, List, ◌++◌, ◌≡◌, ◌≤◌, length, refl, sym, ap, ◌∙◌, inl, inr, subst, ⊎_elim, Ok, Err, IsTrue, arith}
 use Rattle.der_core.specs.declared.error.ErrorKind.{ErrorKind}
 use Rattle.der_core.specs.declared.error.ErrorKind.TheVariants.{OidMalformed, TagUnknown}
 use Rattle.der_core.specs.declared.tag.Tag.{Tag}
-use Rattle.der_core.specs.Encodings.{AreBytes}
-use Rattle.der_core.specs.Laws.ContentsShorter.{tlv_recast}
-use Rattle.der_core.specs.Laws.Input.{ok_pair}
-use Rattle.der_core.specs.Laws.LengthReading.{chosen}
-use Rattle.der_core.specs.Laws.OptionalReadings.{front_next, isnt_next, next_is, next_isnt}
-use Rattle.der_core.specs.Laws.Readings.{alone_reads, carry, fronts_as}
-use Rattle.der_core.specs.Laws.Readings.{ok_same}
-use Rattle.der_core.specs.Laws.TaggedReadings.{by_tag_reads, checked_as, tagged_reads}
-use Rattle.der_core.specs.Laws.Tags.{same_tag}
-use Rattle.der_core.specs.Length.{limit}
-use Rattle.der_core.specs.Reading.{TellsOfBytes}
-use Rattle.der_core.specs.Readings.{FrontReading, alone, is_next, tagged, ReadsContents, ReadsFronts}
-use Rattle.der_core.specs.Tag.{context_tag, is_allowed}
-use Rattle.der_core.specs.Tlv.{Tlv}
+use Rattle.der_core.specs.Words.{AreBytes, tlv_recast, ok_pair, chosen, front_next, isnt_next, next_is, next_isnt, alone_reads, carry, fronts_as, ok_same, by_tag_reads, checked_as, tagged_reads, same_tag, limit, TellsOfBytes, FrontReading, alone, is_next, tagged, ReadsContents, ReadsFronts, context_tag, is_allowed, Tlv, nat_tests}
 use Rattle.spki_core.specs.Any.{Any, IsAny, TagAndContents}
 use Rattle.spki_core.specs.Explicit.{FieldRead}
 use Rattle.spki_core.specs.IdentifierTest.{is_identifier}
 use Rattle.spki_core.specs.Laws.IdentifierTest.{is_identifier-sound, is_identifier-complete}
 use Rattle.spki_core.specs.ObjectIdentifier.{IdentifierContents}
-use Rattle.spki_core.specs.Readings.{any, defaulted, explicit, identifier_read}
-use Rattle.spki_core.specs.Readings.{opaque}
+use Rattle.spki_core.specs.Readings.{any, defaulted, explicit, identifier_read, opaque}
 
 -- OBJECT IDENTIFIER
 pub identifier_reads : ReadsContents IdentifierContents identifier_read
@@ -108,3 +92,10 @@ module _ {V : Type 0} {encoding : V → List ℕ → Type 0} {at : FrontReading 
     defaulted_tells default i k e =
         ⊎_elim (λ w. explicit_reads.tells i k w.1) (λ w. let no = w.1 in cc)
         (chosen (is_next (context_tag n) i) _ _ _ e)
+
+-- The octet of a number up to 30 is allowed.
+pub number_allowed : (n : ℕ) → n ≤ 30 → IsTrue (is_allowed (context_tag n))
+number_allowed n h = go n h
+  where
+    go : (n : ℕ) → n ≤ 30 → is_allowed (context_tag n) ≡ true
+    go n h = grind (arith, nat_tests)

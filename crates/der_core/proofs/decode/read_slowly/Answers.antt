@@ -1,7 +1,5 @@
 use Rattle.std.proofs.Common.{inr}
-use Rattle.std.proofs.lemmas.Result.{err_from_is_err_and}
-use Rattle.der_core.specs.Laws.SliceReaders.{left_of-bounded}
-use Rattle.der_core.specs.Readings.{tagged}
+use Rattle.der_core.specs.Words.{err_from_is_err_and, left_of-bounded, tagged}
 use Rattle.der_core.proofs.ReadSteps.{whole_trailing}
 use Rattle.der_core.proofs.decode.read_slowly.Goals as goal
 

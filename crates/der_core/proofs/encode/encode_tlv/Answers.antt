@@ -1,8 +1,6 @@
 use Rattle.std.proofs.Common.{arith, rules, ◌≡◌, ◌+◌, ◌<◌, ◌++◌, length, length-append, ◌≤◌, ap}
-use Rattle.std.proofs.lemmas.Result.{err_from_is_err_and}
-use Rattle.der_core.specs.Length.{limit, length_octets}
-use Rattle.der_core.specs.Tlv.{tlv}
-use Rattle.der_core.proofs.StoppedWriting.{appends_nothing, appends_behind}
+use Rattle.der_core.specs.Words.{err_from_is_err_and, limit, length_octets, tlv}
+use Rattle.der_core.proofs.Writing.{appends_nothing, appends_behind}
 use Rattle.der_core.proofs.encode.encode_tlv.Goals as goal
 
 pub returns-in_err-write-clause-appends : goal.returns-in_err-write-clause-appends

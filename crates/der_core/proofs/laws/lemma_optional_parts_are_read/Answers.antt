@@ -1,6 +1,4 @@
-use Rattle.der_core.specs.Laws.Printed.Optional.{last_by_tag_law, last_law}
-use Rattle.der_core.specs.Laws.Printed.Rows.{tagged_law}
-use Rattle.der_core.specs.Laws.Printed.Shortest.{tagged_some}
+use Rattle.der_core.specs.Words.{last_by_tag_law, last_law, tagged_law, tagged_some}
 use Rattle.der_core.proofs.laws.lemma_optional_parts_are_read.Goals as goal
 
 pub returns-clause-last : goal.returns-clause-last

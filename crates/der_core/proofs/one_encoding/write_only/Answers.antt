@@ -1,5 +1,5 @@
 use Rattle.std.proofs.Common.{length}
-use Rattle.der_core.proofs.Spelled.{into_encodes, into_unwritten}
+use Rattle.der_core.proofs.Writing.{into_encodes, into_unwritten}
 use Rattle.der_core.proofs.one_encoding.write_only.Goals as goal
 
 pub returns-clause-written : goal.returns-clause-written

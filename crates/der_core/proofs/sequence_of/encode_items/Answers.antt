@@ -1,10 +1,7 @@
-use Rattle.std.proofs.Common.{arith, rules, refl, ap, sym, ◌∙◌, subst, append_assoc, length-append, ◌≡◌, ◌+◌, ◌≤◌, ◌<◌}
-use Rattle.std.proofs.Common.{◌++◌, length, get_or, take, drop, List, ℕ}
-use Rattle.std.proofs.lemmas.Result.{err_from_is_err_and}
-use Rattle.der_core.specs.SequenceOf.{AllHave, all_encodings}
-use Rattle.der_core.specs.Length.{limit}
+use Rattle.std.proofs.Common.{arith, rules, refl, ap, sym, ◌∙◌, subst, append_assoc, length-append, ◌≡◌, ◌+◌, ◌≤◌, ◌<◌, ◌++◌, length, get_or, take, drop, List, ℕ}
+use Rattle.der_core.specs.Words.{err_from_is_err_and, AllHave, all_encodings, limit}
 use Rattle.der_core.proofs.Items.{encodings_more, encodings_around, have_at}
-use Rattle.der_core.proofs.StoppedWriting.{appends_in_front, appends_behind}
+use Rattle.der_core.proofs.Writing.{appends_in_front, appends_behind}
 use Rattle.der_core.proofs.sequence_of.encode_items.Goals as goal
 
 module _ {T : Type 0} (has : T → Type 0) (encoding : T → List ℕ) (xs : List T) (i : ℕ) (x : T) (h : i < length xs)

@@ -1,5 +1,5 @@
 use Rattle.std.proofs.Common.{◌≡◌, ◌+◌, ◌++◌, length, take}
-use Rattle.der_core.specs.SequenceOf.{all_encodings}
+use Rattle.der_core.specs.Words.{all_encodings}
 use Rattle.der_core.proofs.sequence_of.encode_items.Given as goal
 
 abbrev pub invariant-loop-item : goal.invariant-loop-item

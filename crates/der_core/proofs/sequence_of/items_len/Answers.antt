@@ -1,5 +1,5 @@
 use Rattle.std.proofs.Common.{subst}
-use Rattle.der_core.specs.Writing.{Counts}
+use Rattle.der_core.specs.Words.{Counts}
 use Rattle.der_core.proofs.Items.{counts_more}
 use Rattle.der_core.proofs.sequence_of.items_len.Goals as goal
 

@@ -1,6 +1,5 @@
 use Rattle.std.proofs.Common.{take}
-use Rattle.der_core.specs.Writing.{Counts}
-use Rattle.der_core.specs.SequenceOf.{AllHave, all_encodings}
+use Rattle.der_core.specs.Words.{Counts, AllHave, all_encodings}
 use Rattle.der_core.proofs.sequence_of.items_len.Given as goal
 
 abbrev pub invariant-loop-item : goal.invariant-loop-item

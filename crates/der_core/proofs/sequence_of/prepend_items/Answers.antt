@@ -1,5 +1,5 @@
 use Rattle.std.proofs.Common.{arith, ap, ◌≡◌, ◌+◌, ◌-◌, ◌≤◌, ◌<◌, length, get_or, drop, List, ℕ}
-use Rattle.der_core.specs.SequenceOf.{all_encodings}
+use Rattle.der_core.specs.Words.{all_encodings}
 use Rattle.der_core.proofs.Items.{encodings_behind_len}
 use Rattle.der_core.proofs.sequence_of.prepend_items.Goals as goal
 

@@ -1,6 +1,5 @@
 use Rattle.std.proofs.Common.{◌≤◌, drop, length}
-use Rattle.der_core.specs.BackWriters.{Prepends}
-use Rattle.der_core.specs.SequenceOf.{all_encodings}
+use Rattle.der_core.specs.Words.{Prepends, all_encodings}
 use Rattle.der_core.proofs.sequence_of.prepend_items.Given as goal
 
 abbrev pub invariant-loop-left : goal.invariant-loop-left

@@ -1,6 +1,6 @@
 use Rattle.std.proofs.Common.{◌++◌, ◌∙◌, take, ap, arith, length-append, length-take, inl, inr}
 use Rattle.std.proofs.KnownBytes.{Consumes-trans}
-use Rattle.std.proofs.lemmas.Result.{err_from_is_err_and}
+use Rattle.der_core.specs.Words.{err_from_is_err_and}
 use Rattle.der_core.proofs.transfer.read_all.Goals as goal
 
 pub returns-then-count-to_usize-clause-err : goal.returns-then-count-to_usize-clause-err

@@ -1,7 +1,7 @@
 use Rattle.std.proofs.Common.{rules, length}
 use Rattle.std.proofs.Math.Seq.{take-length}
 use Rattle.std.specs.Io.KnownBytes.{Appends}
-use Rattle.der_core.specs.SourcesSinks.{OneFailed}
+use Rattle.der_core.specs.Words.{OneFailed}
 use Rattle.der_core.proofs.transfer.write_all.Goals as goal
 
 -- all bytes were taken, and then the flush was rejected

@@ -1,18 +1,13 @@
--- Spellings are read as the values that they mean: of functions of which this holds it holds of those made of them.
-use Rattle.std.proofs.Common.{ℕ, zero, suc, Bool, true, false, List, [], ◌∷◌, ◌≡◌, length, map, refl, sym, ap, ◌∙◌}
-use Rattle.std.proofs.Common.{Result, Ok, Err, Some, None}
-use Rattle.std.specs.Option.{option_map}
-use Rattle.std.specs.Prelude.{if◌then◌else◌, nat_lt}
+-- Spellings are read as the values that they mean; and values with one spelling each.
+use Rattle.std.proofs.Common.{ℕ, zero, suc, Bool, true, false, List, [], ◌∷◌, ◌≡◌, length, map, refl, sym, ap, ◌∙◌, Result, Ok, Err, Some, None, option_map, if◌then◌else◌, nat_lt, Option}
 use Rattle.der_core.specs.declared.error.ErrorKind.{ErrorKind}
 use Rattle.der_core.specs.declared.error.ErrorKind.TheVariants.{Overflow}
 use Rattle.der_core.specs.declared.tag.Tag.{Tag}
 use Rattle.der_core.specs.Input.{header_at}
-use Rattle.der_core.specs.Laws.Printed.Steps.{both, joined, listed, meant, meant_front, paired, paired_front, present}
+use Rattle.der_core.specs.Laws.Printed.Items.{both, joined, listed, meant, meant_front, paired, paired_front, present}
 use Rattle.der_core.specs.Length.{limit}
-use Rattle.der_core.specs.Printed.{ReadsAlike, ReadsFrontAlike, value_in}
-use Rattle.der_core.specs.Readings.{FrontReading, Reading, alone, chain, contents_behind, ended}
-use Rattle.der_core.specs.Readings.{front_parts, inside, is_next, items, items_within, last, made, optional, parts}
-use Rattle.der_core.specs.Readings.{tagged, whole, ◌>>=◌}
+use Rattle.der_core.specs.Printed.{ReadsAlike, ReadsFrontAlike, value_in, AreSpelledOnce}
+use Rattle.der_core.specs.Readings.{FrontReading, Reading, alone, chain, contents_behind, ended, front_parts, inside, is_next, items, items_within, last, made, optional, parts, tagged, whole, ◌>>=◌}
 
 -- The same function: values are spelled as themselves.
 pub alike : {V : Type 0} (read : Reading V) → ReadsAlike read (λ v. v) read
@@ -182,3 +177,35 @@ module _ {S V : Type 0} {at : FrontReading S} {means : S → V} {old : FrontRead
           → ((if b then Err Overflow else alone at c) >>= meant means) ≡ (if b then Err Overflow else alone old c)
       go c true = refl
       go c false = alone_alike.same c
+
+-- Values with one spelling each: what is made of such values has one spelling too.
+pub itself_once : {V : Type 0} → AreSpelledOnce {S = V} (λ v. v)
+itself_once s t e = e
+
+pub row_once : {A B V W : Type 0} {meansA : A → V} {meansB : B → W} → AreSpelledOnce meansA → AreSpelledOnce meansB
+    → AreSpelledOnce (λ (s : A × B). let v : V × W = (meansA s.0, meansB s.1) in v)
+row_once a b s t e = λ i. (a s.0 t.0 (ap (λ v. v.0) e) i, b s.1 t.1 (ap (λ v. v.1) e) i)
+
+pub last_once : {S V : Type 0} {means : S → V} → AreSpelledOnce means → AreSpelledOnce (option_map means)
+last_once once None None e = refl
+last_once once None (Some t) e = cc
+last_once once (Some s) None e = cc
+last_once {means = means} once (Some s) (Some t) e =
+    let same : means s ≡ means t = let q : ◌≡◌ {A = Option _} (Some (means s)) (Some (means t)) = e in cc in
+    ap (λ x. Some x) (once s t same)
+
+pub list_once : {S V : Type 0} {means : S → V} → AreSpelledOnce means → AreSpelledOnce (map means)
+list_once once [] [] e = refl
+list_once once [] (t ∷ ts) e = cc
+list_once once (s ∷ ss) [] e = cc
+list_once {means = means} once (s ∷ ss) (t ∷ ts) e =
+    let first : means s ≡ means t = cc in let rest : map means ss ≡ map means ts = cc in
+    λ i. once s t first i ∷ list_once once ss ts rest i
+
+-- Values that are made of others.
+pub made_once : {S T V W : Type 0} {means : S → V} → AreSpelledOnce means → (back : T → S) (join : V → W) (split : W → V)
+    → ((s t : T) → back s ≡ back t → s ≡ t) → ((v : V) → split (join v) ≡ v)
+    → AreSpelledOnce (λ t. join (means (back t)))
+made_once {means = means} once back join split same there s t e =
+    same s t
+    (once (back s) (back t) (sym (there (means (back s))) ∙ ap split e ∙ there (means (back t))))

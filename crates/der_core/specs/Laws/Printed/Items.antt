@@ -1,16 +1,15 @@
--- SEQUENCE OF: a list of encodings, up to the end.
-use Rattle.std.proofs.Common.{ℕ, zero, suc, List, [], ◌∷◌, ◌++◌, ◌≡◌, ◌<◌, ◌≤◌, length, map, refl, sym, subst, ap, ◌∙◌}
-use Rattle.std.proofs.Common.{arith, ⊎_elim, length-append, Ok, Err}
+-- SEQUENCE OF; what the laws of a type say of its values; steps of reading.
+use Rattle.std.proofs.Common.{ℕ, zero, suc, List, [], ◌∷◌, ◌++◌, ◌≡◌, ◌<◌, ◌≤◌, length, map, refl, sym, subst, ap, ◌∙◌, arith, ⊎_elim, length-append, Ok, Err, inl, inr, Result, Option, Some}
 use Rattle.std.specs.List.{AllByRecursion, concat}
 use Rattle.der_core.specs.Encodings.{AreBytes}
 use Rattle.der_core.specs.Laws.Readings.{back_bytes, bind_err, bind_ok, made_tells, ok_same}
-use Rattle.der_core.specs.Laws.Tells.{is_trailing}
+use Rattle.der_core.specs.Laws.LengthReading.{is_trailing, ok_pair}
 use Rattle.der_core.specs.Length.{limit}
 use Rattle.der_core.specs.Reading.{TellsOfBytes}
-use Rattle.der_core.specs.Readings.{FrontReading, items, items_within, made, ◌>>=◌}
+use Rattle.der_core.specs.Readings.{FrontReading, items, items_within, made, ◌>>=◌, Reading, ReadsContents, ReadsFronts}
 use Rattle.der_core.specs.declared.error.ErrorKind.{ErrorKind}
 use Rattle.der_core.specs.declared.error.ErrorKind.TheVariants.{TrailingData}
-use Rattle.der_core.specs.Printed.{ReadsFrontPrinted, ReadsPrinted}
+use Rattle.der_core.specs.Printed.{ReadsFrontPrinted, ReadsPrinted, Prints, ReadsAlike, ReadsFrontAlike, WritesShortest}
 
 module _ {V : Type 0} {Is : V → Type 0} {printed : V → List ℕ} {at : FrontReading V}
     (law : ReadsFrontPrinted Is printed at)
@@ -57,3 +56,89 @@ module _ {V : Type 0} {Is : V → Type 0} {printed : V → List ℕ} {at : Front
     takes = λ vs ok few. take vs (length (Printed vs)) (Printed vs) refl (omega arith) few ok;
     tells = λ c k e. tell (length c) c k e;
   }
+
+-- What the laws of a type say of its values: what is read, what is written, and that each has one encoding at most.
+
+-- A type's function reads the contents of its values and no others, and its faults are about the bytes.
+pub reads : {S V : Type 0} {valid : S → Type 0} {printed : S → List ℕ} {spelling : Reading S} {means : S → V}
+    {read : Reading V} → ReadsPrinted valid printed spelling → ReadsAlike spelling means read
+    → ReadsContents (Prints valid printed means) read
+reads {spelling = spelling} {means} law alike = record {
+  gives = λ c v bytes e.
+      let s = bind_ok (spelling c) _ (alike.same c ∙ e) in
+      let g = law.gives c s.0 bytes s.1 in
+      (s.0, ok_same s.2, g.0, g.1);
+  takes = λ c v few p.
+      let (s, is, ok, same) = p in
+      sym (alike.same c)
+      ∙ ap (λ r. r >>= λ s. Ok (means s)) (ap spelling same ∙ law.takes s ok (omega (arith, few, ap length same)))
+      ∙ ap (λ v. Ok v) is;
+  tells = λ c k e. elim (bind_err (spelling c) _ (alike.same c ∙ e)) [
+    | inl p ↦ law.tells c k p
+    | inr s ↦ let never = s.2 in cc
+  ];
+}
+
+-- The same of encodings at the front of bytes.
+pub reads_front : {S V : Type 0} {valid : S → Type 0} {printed : S → List ℕ} {spelling : FrontReading S} {means : S → V}
+    {at : FrontReading V} → ReadsFrontPrinted valid printed spelling → ReadsFrontAlike spelling means at
+    → ReadsFronts (Prints valid printed means) at
+reads_front {printed = printed} {spelling} {means} law alike = record {
+  gives = λ i rest v bytes e.
+      let s = bind_ok (spelling i) _ (alike.same i ∙ e) in
+      let end = ok_pair (means s.0.0) v s.0.1 rest s.2 in
+      let g = law.gives i s.0.1 s.0.0 bytes s.1 in
+      (printed s.0.0, g.1 ∙ ap (λ r. printed s.0.0 ++ r) end.1, (s.0.0, end.0, g.0, refl));
+  takes = λ i b rest v few is p.
+      let (s, m, ok, same) = p in
+      let all = is ∙ ap (λ x. x ++ rest) same in
+      sym (alike.same i)
+      ∙ ap (λ r. r >>= λ p. Ok (means p.0, p.1))
+      (ap spelling all ∙ law.takes s rest ok (omega (arith, few, ap length all)))
+      ∙ ap (λ v. Ok (v, rest)) m;
+  tells = λ i k e. elim (bind_err (spelling i) _ (alike.same i ∙ e)) [
+    | inl p ↦ law.tells i k p
+    | inr s ↦ let never = s.2 in cc
+  ];
+}
+
+-- No encoding of a value is empty.
+pub prints_some : {S V : Type 0} {valid : S → Type 0} {printed : S → List ℕ} {means : S → V}
+    → ((s : S) → 0 < length (printed s)) → (v : V) (b : List ℕ) → Prints valid printed means v b → 0 < length b
+prints_some some v b (s, is, ok, same) = omega (arith, some s, ap length same)
+
+-- A value with a valid spelling has the encoding that is written.
+pub written_prints : {S V : Type 0} {valid : S → Type 0} {printed : S → List ℕ} {means : S → V} {written : V → S}
+    → WritesShortest valid printed means written → (v : V) → valid (written v)
+    → Prints valid printed means v (printed (written v))
+written_prints {written = written} law v ok = (written v, law.back v, ok, refl)
+
+-- What steps of reading give, and steps that are joined otherwise.
+
+-- What a step gives: a value, and the bytes behind it; a pair; a list.
+abbrev pub meant : {S M : Type 0} → (S → M) → S → Result M ErrorKind
+meant means s = Ok (means s)
+
+abbrev pub meant_front : {S M : Type 0} → (S → M) → S × List ℕ → Result (M × List ℕ) ErrorKind
+meant_front means p = Ok (means p.0, p.1)
+
+abbrev pub paired : {A B : Type 0} → A → B → Result (A × B) ErrorKind
+paired a b = Ok (a, b)
+
+abbrev pub paired_front : {A B : Type 0} → A → B × List ℕ → Result ((A × B) × List ℕ) ErrorKind
+paired_front a q = Ok ((a, q.0), q.1)
+
+abbrev pub both : {A B M N : Type 0} → (A → M) → (B → N) → A × B → M × N
+both f g p = (f p.0, g p.1)
+
+abbrev pub listed : {A : Type 0} → A → List A → Result (List A) ErrorKind
+listed a rest = Ok (a ∷ rest)
+
+abbrev pub present : {A : Type 0} → A × List ℕ → Result (Option A × List ℕ) ErrorKind
+present p = Ok (Some p.0, p.1)
+
+-- Steps of reading, joined otherwise.
+pub joined : {A B C : Type 0} (r : Result A ErrorKind) (f : A → Result B ErrorKind) (g : B → Result C ErrorKind)
+    → ((r >>= f) >>= g) ≡ (r >>= λ a. f a >>= g)
+joined (Ok a) f g = refl
+joined (Err k) f g = refl

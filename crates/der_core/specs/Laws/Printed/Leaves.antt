@@ -1,22 +1,16 @@
 -- The leaves: octets of numbers, length octets, INTEGER, OCTET STRING.
-use Rattle.std.proofs.Common.{ℕ, List, [], ◌∷◌, ◌++◌, ◌≡◌, ◌<◌, ◌≤◌, ◌⊎◌, ◌==◌, length, refl, sym, subst, ap, ◌∙◌, arith}
-use Rattle.std.proofs.Common.{inl, inr, true, false, Ok, length-append}
-use Rattle.std.specs.Bool.{Decides}
+use Rattle.std.proofs.Common.{ℕ, List, [], ◌∷◌, ◌++◌, ◌≡◌, ◌<◌, ◌≤◌, ◌⊎◌, ◌==◌, length, refl, sym, subst, ap, ◌∙◌, arith, inl, inr, true, false, Ok, length-append, Decides, bytes_eq}
 use Rattle.std.specs.Int.Digits.{number_from_digits, digits_of}
-use Rattle.std.specs.Str.{bytes_eq}
 use Rattle.std.proofs.lemmas.Bool.{cases_lt}
 use Rattle.std.proofs.lemmas.Bool.Decides.{nat_tests}
 use Rattle.std.proofs.lemmas.Int.Digits.{all_below_base_digits_of, number_digits_of, first_digits_of}
 use Rattle.der_core.specs.Encodings.{AreBytes}
-use Rattle.der_core.specs.Integer.{EncodesNumbers, HoldsNumber, IntegerContents, IsCanonical, SmallContents}
-use Rattle.der_core.specs.Integer.{integer_contents}
+use Rattle.der_core.specs.Integer.{EncodesNumbers, HoldsNumber, IntegerContents, IsCanonical, SmallContents, integer_contents}
 use Rattle.der_core.specs.IntegerReading.{integer_of, small_of}
 use Rattle.der_core.specs.Laws.Encodings.{tlv_relates}
-use Rattle.der_core.specs.Laws.Equality.{bytes_decide}
-use Rattle.der_core.specs.Laws.Integer.{canonical_same, contents_at_most_one, holds_canonical, integer_relates}
+use Rattle.der_core.specs.Laws.Integer.{bytes_decide, canonical_same, contents_at_most_one, holds_canonical, integer_relates, one_byte}
 use Rattle.der_core.specs.Laws.Length.{length_grows, length_octets-only, length_octets-within}
 use Rattle.der_core.specs.Laws.Readings.{bind_ok, integer_reads, made_tells, ok_same, small_reads}
-use Rattle.der_core.specs.Laws.SmallNumbers.{one_byte}
 use Rattle.der_core.specs.Printed.{Prints, ReadsAlike, ReadsPrinted, WritesShortest, number_contents, number_of}
 use Rattle.der_core.specs.Readings.{any_contents, octets_of_all, ◌>>=◌}
 use Rattle.der_core.specs.Tlv.{Tlv}

@@ -1,9 +1,6 @@
 -- From spellings to a relation that is written out, as `Statement.antt` has it.
-use Rattle.std.proofs.Common.{ℕ, List, ◌≡◌, ◌≤◌, length, refl, sym, subst, ap, ◌∙◌, arith, Option, Some, None}
-use Rattle.std.proofs.Common.{take, drop, length-append, inl, inr}
+use Rattle.std.proofs.Common.{ℕ, List, ◌≡◌, ◌≤◌, length, refl, sym, subst, ap, ◌∙◌, arith, Option, Some, None, take, drop, length-append, inl, inr, option_map, ◌↔◌, ◌++◌, IfErr, Result, Ok, Err}
 use Rattle.std.proofs.Math.Seq.{take-append_seam, drop-append_seam}
-use Rattle.std.specs.Option.{option_map}
-use Rattle.std.specs.Prelude.{◌↔◌, ◌++◌, IfErr, Result, Ok, Err}
 use Rattle.der_core.specs.declared.error.Error.{Error}
 use Rattle.der_core.specs.Document.{EncodeError, no_encoding, too_long, no_room, another}
 use Rattle.der_core.specs.Length.{limit}

@@ -1,26 +1,20 @@
 -- A row, a value that is made of another, a test, a tag in front, and a whole slice: each law of its parts' laws.
-use Rattle.std.proofs.Common.{ℕ, Bool, true, false, List, [], ◌++◌, ◌≡◌, ◌<◌, ◌≤◌, ◌==◌, length, refl, sym, subst}
-use Rattle.std.proofs.Common.{ap, ◌∙◌, arith, inl, inr, ⊎_elim, Result, Ok, Err, Option, Some, None, length-append}
-use Rattle.std.proofs.Common.{append-nil}
+use Rattle.std.proofs.Common.{ℕ, Bool, true, false, List, [], ◌++◌, ◌≡◌, ◌<◌, ◌≤◌, ◌==◌, length, refl, sym, subst, ap, ◌∙◌, arith, inl, inr, ⊎_elim, Result, Ok, Err, Option, Some, None, length-append, append-nil, option_map, nat_lt, if◌then◌else◌}
 use Rattle.std.proofs.lemmas.Bool.{cases_lt}
 use Rattle.std.proofs.lemmas.Bool.Decides.{nat_tests}
-use Rattle.std.specs.Option.{option_map}
-use Rattle.std.specs.Prelude.{nat_lt, if◌then◌else◌}
 use Rattle.der_core.specs.declared.error.ErrorKind.{ErrorKind}
 use Rattle.der_core.specs.declared.error.ErrorKind.TheVariants.{Overflow, Value}
 use Rattle.der_core.specs.declared.tag.Tag.{Tag}
 use Rattle.der_core.specs.Encodings.{AreBytes}
-use Rattle.der_core.specs.Laws.LengthReading.{chosen}
+use Rattle.der_core.specs.Laws.LengthReading.{chosen, is_value}
 use Rattle.der_core.specs.Laws.Printed.Leaves.{small_law, tlv_is, tlv_made}
 use Rattle.der_core.specs.Laws.Readings.{back_bytes, bind_err, bind_ok, ended_is, ended_tells, made_tells, ok_same}
 use Rattle.der_core.specs.Laws.TaggedReadings.{tagged_reads}
-use Rattle.der_core.specs.Laws.Tells.{is_value}
 use Rattle.der_core.specs.Tags.{integer}
 use Rattle.der_core.specs.Length.{limit}
 use Rattle.der_core.specs.Printed.{number_contents, PrintsOne, ReadsFrontPrinted, ReadsPrinted, Spells, row, value_in}
 use Rattle.der_core.specs.Reading.{TellsOfBytes}
-use Rattle.der_core.specs.Readings.{FrontReading, Reading, ReadsContents, alone, ended, expected, made, no_parts}
-use Rattle.der_core.specs.Readings.{parts, such, tagged, whole, ◌>>=◌}
+use Rattle.der_core.specs.Readings.{FrontReading, Reading, ReadsContents, alone, ended, expected, made, no_parts, parts, such, tagged, whole, ◌>>=◌}
 use Rattle.standard.specs.Statement.{Decodes, tlv}
 
 -- The same spellings, said otherwise.

@@ -1,8 +1,6 @@
 -- What is written is the shortest: each other spelling of the value is longer. This goes through rows, tags, lists.
-use Rattle.std.proofs.Common.{ℕ, List, [], ◌∷◌, ◌≡◌, ◌<◌, ◌≤◌, ◌⊎◌, length, map, refl, sym, subst, ap, ◌∙◌}
-use Rattle.std.proofs.Common.{arith, inl, inr, length-append, Option, Some, None}
+use Rattle.std.proofs.Common.{ℕ, List, [], ◌∷◌, ◌≡◌, ◌<◌, ◌≤◌, ◌⊎◌, length, map, refl, sym, subst, ap, ◌∙◌, arith, inl, inr, length-append, Option, Some, None, option_map}
 use Rattle.std.specs.List.{AllByRecursion, concat}
-use Rattle.std.specs.Option.{option_map}
 use Rattle.der_core.specs.Laws.Printed.Leaves.{octets_grow, tlv_fit}
 use Rattle.der_core.specs.Length.{limit}
 use Rattle.der_core.specs.Printed.{Spells, WritesShortest, row}

@@ -1,4 +1,4 @@
-use Rattle.der_core.specs.Laws.Printed.Relations.{decodes_stated}
+use Rattle.der_core.specs.Words.{decodes_stated}
 use Rattle.examples.proofs.Signature.{signature_law}
 use Rattle.examples.proofs.by_grammar.read_signature.Goals as goal
 

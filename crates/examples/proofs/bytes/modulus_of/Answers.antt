@@ -1,5 +1,5 @@
 use Rattle.std.proofs.Common.{rules}
-use Rattle.der_core.specs.Laws.Printed.Leaves.{number_octets}
+use Rattle.der_core.specs.Words.{number_octets}
 use Rattle.examples.proofs.bytes.modulus_of.Goals as goal
 
 -- The key is the one that was read. The octets of its modulus are the bytes that it holds.

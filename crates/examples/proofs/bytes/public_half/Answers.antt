@@ -1,14 +1,10 @@
-use Rattle.std.proofs.Common.{ℕ, List, ◌≡◌, ◌⊎◌, inr, subst, Result, Ok, Err, Some}
-use Rattle.std.specs.Prelude.{IfOk, IfErr}
-use Rattle.der_core.specs.DocumentValue.{encoding_of}
-use Rattle.der_core.specs.UintRefValue.{bytes_of}
+use Rattle.std.proofs.Common.{ℕ, List, ◌≡◌, ◌⊎◌, inr, subst, Result, Ok, Err, Some, IfOk, IfErr}
+use Rattle.der_core.specs.Words.{encoding_of, bytes_of}
 use Rattle.der_core.specs.declared.document.DocumentOf.{DocumentOf}
 use Rattle.der_core.specs.declared.document.Open.{Open}
-use Rattle.pkcs1.specs.Held.{held_private_key, held_public_key}
-use Rattle.pkcs1.specs.KeyEncodings.{Withholds}
+use Rattle.pkcs1.specs.Words.{held_private_key, held_public_key, Withholds}
 use Rattle.pkcs1_params.specs.declared.error.Error.{Error}
-use Rattle.standard.specs.Statement.{Decodes, IsShortest, PrivateKey, PrivateKeyEncoding, PublicKey}
-use Rattle.standard.specs.Statement.{PublicKeyEncoding}
+use Rattle.standard.specs.Statement.{Decodes, IsShortest, PrivateKey, PrivateKeyEncoding, PublicKey, PublicKeyEncoding}
 use Rattle.examples.specs.Keys.{public_half_of}
 use Rattle.examples.proofs.bytes.public_half.Goals as goal
 

@@ -1,4 +1,4 @@
-use Rattle.der_core.specs.Laws.Printed.Relations.{memory_stated}
+use Rattle.der_core.specs.Words.{memory_stated}
 use Rattle.examples.proofs.Numbers.{number_list_law}
 use Rattle.examples.proofs.number_list.read_number_list.Goals as goal
 

@@ -1,5 +1,5 @@
 use Rattle.std.proofs.Common.{length}
-use Rattle.der_core.specs.Laws.Printed.Relations.{encodes_stated, unwritten_stated}
+use Rattle.der_core.specs.Words.{encodes_stated, unwritten_stated}
 use Rattle.examples.proofs.Numbers.{number_list_law}
 use Rattle.examples.proofs.number_list.write_number_list.Goals as goal
 

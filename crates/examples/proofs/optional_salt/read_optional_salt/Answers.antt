@@ -1,4 +1,4 @@
-use Rattle.der_core.specs.Laws.Printed.Relations.{decodes_stated}
+use Rattle.der_core.specs.Words.{decodes_stated}
 use Rattle.examples.proofs.Salt.{salt_law}
 use Rattle.examples.proofs.optional_salt.read_optional_salt.Goals as goal
 

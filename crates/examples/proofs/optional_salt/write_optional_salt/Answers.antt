@@ -1,5 +1,5 @@
 use Rattle.std.proofs.Common.{length}
-use Rattle.der_core.specs.Laws.Printed.Relations.{encodes_stated, unwritten_stated}
+use Rattle.der_core.specs.Words.{encodes_stated, unwritten_stated}
 use Rattle.examples.proofs.Salt.{salt_law}
 use Rattle.examples.proofs.optional_salt.write_optional_salt.Goals as goal
 

@@ -1,7 +1,6 @@
 use Rattle.std.proofs.Common.{◌≡◌, ◌++◌, ℕ, map}
-use Rattle.der_core.specs.UintRefValue.{bytes_of}
-use Rattle.pkcs1.specs.Held.{held_other_primes, held_view, number_in}
-use Rattle.pkcs1.specs.ViewParts.{listed_others}
+use Rattle.der_core.specs.Words.{bytes_of}
+use Rattle.pkcs1.specs.Words.{held_other_primes, held_view, number_in, listed_others}
 use Rattle.standard.specs.Statement.{OtherPrime}
 use Rattle.examples.proofs.primes.primes_of.Given as goal
 

@@ -1,7 +1,6 @@
-use Rattle.std.proofs.Common.{List, ℕ, Bool, rules, subst, Some}
+use Rattle.std.proofs.Common.{List, ℕ, Bool, rules, subst, Some, Decides}
 use Rattle.std.proofs.lemmas.Bool.{false≢true}
-use Rattle.std.specs.Bool.{Decides}
-use Rattle.pkcs1_params.specs.PssValue.{pss_of}
+use Rattle.pkcs1_params.specs.Words.{pss_of}
 use Rattle.standard.specs.Statement.{Decodes, PssAlgorithmEncoding, PssParameters}
 use Rattle.examples.specs.Signatures.{IsAccepted}
 use Rattle.examples.proofs.signatures.is_accepted.Goals as goal

@@ -1,6 +1,6 @@
 use Rattle.std.proofs.Common.{refl}
 use Rattle.std.proofs.lemmas.Bool.Decides.{not_from_Decides}
-use Rattle.pkcs1_params.specs.PssValue.{pss_of}
+use Rattle.pkcs1_params.specs.Words.{pss_of}
 use Rattle.examples.proofs.signatures.salt_with_sha256.Goals as goal
 
 pub returns-then-not-uses_hash-clause-ok : goal.returns-then-not-uses_hash-clause-ok

@@ -1,6 +1,6 @@
-use Rattle.pkcs1.proofs.OneKey as keys
-use Rattle.pkcs1_params.specs.Laws.Records.{oaep_record, pss_record}
-use Rattle.pkcs1_params.proofs.Same.{record_delimited}
+use Rattle.pkcs1.proofs.KeyReads as keys
+use Rattle.pkcs1_params.specs.Words.{oaep_record, pss_record}
+use Rattle.pkcs1_params.proofs.Masks.{record_delimited}
 use Rattle.pkcs1.proofs.laws.lemma_encodings_are_delimited.Goals as goal
 
 pub returns : goal.returns

@@ -1,7 +1,6 @@
-use Rattle.pkcs1_params.specs.Laws.Records.{oaep_record, pss_record}
+use Rattle.pkcs1_params.specs.Words.{oaep_record, pss_record}
 use Rattle.spki_core.proofs.Fielded.{record_spelled}
-use Rattle.pkcs1.specs.Laws.PrintedKeys.{public_spelled}
-use Rattle.pkcs1.specs.Laws.StatedPrivateKeys.{private_spelled}
+use Rattle.pkcs1.specs.Words.{public_spelled, private_spelled}
 use Rattle.pkcs1.proofs.laws.lemma_forms_share_the_grammars.Goals as goal
 
 pub returns : goal.returns

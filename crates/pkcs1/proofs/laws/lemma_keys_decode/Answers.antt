@@ -1,6 +1,5 @@
-use Rattle.pkcs1.specs.Laws.PrintedKeys.{public_decodes}
-use Rattle.pkcs1.specs.Laws.StatedPrivateKeys.{private_decodes}
-use Rattle.pkcs1.proofs.KeyFaults.{private_tells, public_tells}
+use Rattle.pkcs1.specs.Words.{public_decodes, private_decodes}
+use Rattle.pkcs1.proofs.KeyReads.{private_tells, public_tells}
 use Rattle.pkcs1.proofs.laws.lemma_keys_decode.Goals as goal
 
 pub returns : goal.returns

@@ -1,4 +1,4 @@
-use Rattle.pkcs1.proofs.OneKey.{private_one, public_one}
+use Rattle.pkcs1.proofs.KeyReads.{private_one, public_one}
 use Rattle.pkcs1.proofs.laws.lemma_keys_have_one_encoding.Goals as goal
 
 pub returns-clause-public : goal.returns-clause-public

@@ -1,4 +1,4 @@
-use Rattle.pkcs1.proofs.OneKey.{private_same, public_same}
+use Rattle.pkcs1.proofs.KeyReads.{private_same, public_same}
 use Rattle.pkcs1.proofs.laws.lemma_same_keys_have_the_same_encoding.Goals as goal
 
 pub returns-clause-public : goal.returns-clause-public

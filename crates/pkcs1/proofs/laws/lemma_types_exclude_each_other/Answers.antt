@@ -1,5 +1,5 @@
-use Rattle.pkcs1.proofs.KeysExclude.{keys_exclude}
-use Rattle.pkcs1.proofs.ParameterLaws as parameters
+use Rattle.pkcs1.proofs.KeysWritten.{keys_exclude}
+use Rattle.pkcs1.proofs.KeysWritten as parameters
 use Rattle.pkcs1.proofs.laws.lemma_types_exclude_each_other.Goals as goal
 
 pub returns : goal.returns

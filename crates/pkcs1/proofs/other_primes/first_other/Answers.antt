@@ -1,11 +1,7 @@
 use Rattle.std.proofs.Common.{◌∙◌, Ok, ap, arith, sym}
-use Rattle.std.proofs.lemmas.Result.{err_from_is_err_and}
-use Rattle.der_core.specs.Laws.Input.{are_bytes}
-use Rattle.der_core.specs.UintRefValue.{bytes_of}
+use Rattle.der_core.specs.Words.{err_from_is_err_and, are_bytes, bytes_of}
 use Rattle.der_core.proofs.ReadSteps.{all_front, front_errs}
-use Rattle.pkcs1.specs.Held.{number_in}
-use Rattle.pkcs1.specs.OtherPrimesHeld.{next_prime}
-use Rattle.pkcs1.specs.PrivateKeyValue.{other_of}
+use Rattle.pkcs1.specs.Words.{number_in, next_prime, other_of}
 use Rattle.pkcs1.proofs.OtherPrimesHeld.{next_read}
 use Rattle.pkcs1.proofs.other_primes.first_other.Goals as goal
 

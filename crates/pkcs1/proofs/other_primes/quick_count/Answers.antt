@@ -1,5 +1,5 @@
 use Rattle.std.proofs.Common.{arith}
-use Rattle.pkcs1.specs.Laws.PrimesHeld.{more_counted, none_counted}
+use Rattle.pkcs1.specs.Words.{more_counted, none_counted}
 use Rattle.pkcs1.proofs.OtherPrimesHeld.{front_shorter}
 use Rattle.pkcs1.proofs.other_primes.quick_count.Goals as goal
 

@@ -1,5 +1,5 @@
 use Rattle.std.proofs.Common.{length}
-use Rattle.pkcs1.specs.Laws.PrimesHeld.{AreCounted}
+use Rattle.pkcs1.specs.Words.{AreCounted}
 use Rattle.pkcs1.proofs.other_primes.quick_count.Given as goal
 
 abbrev pub invariant-loop-rest : goal.invariant-loop-rest

@@ -1,5 +1,5 @@
 use Rattle.std.proofs.Common.{arith}
-use Rattle.der_core.specs.Laws.Input.{are_bytes}
+use Rattle.der_core.specs.Words.{are_bytes}
 use Rattle.pkcs1.proofs.other_primes.quick_other.Goals as goal
 
 pub returns-clause-octets : goal.returns-clause-octets

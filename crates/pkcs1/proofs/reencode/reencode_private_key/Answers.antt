@@ -1,10 +1,7 @@
-use Rattle.der_core.specs.DocumentValue.{encoding_of}
-use Rattle.der_core.specs.UintValue.{own_bytes_of}
-use Rattle.pkcs1.specs.Allocating.{OwnedKeyAllocates}
-use Rattle.pkcs1.specs.Held.{IsPrivateKey, held_private_key}
-use Rattle.pkcs1.specs.KeyReadings.{rsa_private_key}
-use Rattle.pkcs1.proofs.OneKey.{private_one}
-use Rattle.pkcs1.proofs.Reencoded.{comes_out, if_ok, memory_wanted, rejects}
+use Rattle.der_core.specs.Words.{encoding_of, own_bytes_of}
+use Rattle.pkcs1.specs.Words.{OwnedKeyAllocates, IsPrivateKey, held_private_key, rsa_private_key}
+use Rattle.pkcs1.proofs.KeyReads.{private_one}
+use Rattle.pkcs1.proofs.KeysWritten.{comes_out, if_ok, memory_wanted, rejects}
 use Rattle.pkcs1.proofs.reencode.reencode_private_key.Goals as goal
 
 pub returns-clause-same : goal.returns-clause-same

@@ -1,10 +1,7 @@
-use Rattle.der_core.specs.DocumentValue.{encoding_of}
-use Rattle.der_core.specs.UintValue.{own_bytes_of}
-use Rattle.pkcs1.specs.Allocating.{OwnedPublicKeyAllocates}
-use Rattle.pkcs1.specs.Held.{held_public_key}
-use Rattle.pkcs1.specs.KeyReadings.{rsa_public_key}
-use Rattle.pkcs1.proofs.OneKey.{public_one}
-use Rattle.pkcs1.proofs.Reencoded.{comes_out, if_ok, memory_wanted, rejects}
+use Rattle.der_core.specs.Words.{encoding_of, own_bytes_of}
+use Rattle.pkcs1.specs.Words.{OwnedPublicKeyAllocates, held_public_key, rsa_public_key}
+use Rattle.pkcs1.proofs.KeyReads.{public_one}
+use Rattle.pkcs1.proofs.KeysWritten.{comes_out, if_ok, memory_wanted, rejects}
 use Rattle.pkcs1.proofs.reencode.reencode_public_key.Goals as goal
 
 pub returns-clause-same : goal.returns-clause-same

@@ -1,5 +1,5 @@
 use Rattle.std.proofs.Common.{◌∙◌, sym}
-use Rattle.pkcs1.specs.KeyReadings.{number}
+use Rattle.pkcs1.specs.Words.{number}
 use Rattle.pkcs1.proofs.OtherPrimesHeld.{held_length}
 use Rattle.pkcs1.proofs.OtherReads.{others_taken}
 use Rattle.pkcs1.proofs.view.quick_others.Goals as goal

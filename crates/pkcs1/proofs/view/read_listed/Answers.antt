@@ -1,10 +1,7 @@
 use Rattle.std.proofs.Common.{length, ap, ◌∙◌, refl}
 use Rattle.der_core.specs.declared.error.ErrorKind.TheVariants as kind
-use Rattle.der_core.specs.Laws.Tags.{same_tag}
-use Rattle.der_core.specs.Tags.{integer, sequence}
-use Rattle.pkcs1.specs.Held.{held_other_primes}
-use Rattle.pkcs1.specs.KeyReadings.{number}
-use Rattle.pkcs1.specs.OtherPrimesLeft.{others_left}
+use Rattle.der_core.specs.Words.{same_tag, integer, sequence}
+use Rattle.pkcs1.specs.Words.{held_other_primes, number, others_left}
 use Rattle.pkcs1.proofs.OtherPrimesHeld.{held_length}
 use Rattle.pkcs1.proofs.OtherReads.{disagree_fails, empty_fails}
 use Rattle.pkcs1.proofs.view.read_listed.Goals as goal

@@ -1,10 +1,8 @@
 use Rattle.std.proofs.Common.{ap, inl, inr}
 use Rattle.der_core.specs.declared.error.Error.{Error}
 use Rattle.pkcs1_c.specs.declared.algorithm.Algorithm.{Algorithm}
-use Rattle.pkcs1_c.specs.Status.{kind_number}
-use Rattle.pkcs1_c.specs.Structs.{algorithm_seen}
-use Rattle.pkcs1_c.specs.StructErrors.{PlainError}
-use Rattle.pkcs1_c.proofs.NotWritten.{err_handed}
+use Rattle.pkcs1_c.specs.Words.{kind_number, algorithm_seen, PlainError}
+use Rattle.pkcs1_c.proofs.Writes.{err_handed}
 use Rattle.pkcs1_c.proofs.HeldParameters.{algorithm_rejected}
 use Rattle.pkcs1_c.proofs.algorithm.from_c_algorithm.Goals as goal
 

@@ -1,9 +1,7 @@
 use Rattle.der_core.specs.declared.error.Error.{Error}
 use Rattle.pkcs1_c.specs.declared.algorithm.MaskGen.{MaskGen}
-use Rattle.pkcs1_c.specs.Status.{kind_number}
-use Rattle.pkcs1_c.specs.Structs.{mask_gen_seen}
-use Rattle.pkcs1_c.specs.StructErrors.{MaskError}
-use Rattle.pkcs1_c.proofs.NotWritten.{err_handed}
+use Rattle.pkcs1_c.specs.Words.{kind_number, mask_gen_seen, MaskError}
+use Rattle.pkcs1_c.proofs.Writes.{err_handed}
 use Rattle.pkcs1_c.proofs.HeldParameters.{mask_rejected}
 use Rattle.pkcs1_c.proofs.algorithm.from_c_mask_gen.Goals as goal
 

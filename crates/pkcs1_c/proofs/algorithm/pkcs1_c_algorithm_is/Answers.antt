@@ -1,13 +1,11 @@
-use Rattle.std.proofs.Common.{◌≡◌, ◌∙◌, ◌⊎◌, ℕ, List, [], ◌∷◌, length, Bool, nat_eq, true, false, refl, sym, arith, inl}
-use Rattle.std.proofs.Common.{inr}
-use Rattle.std.proofs.lemmas.Bool.Decides.{Decides-at, nat_tests}
+use Rattle.std.proofs.Common.{◌≡◌, ◌∙◌, ◌⊎◌, ℕ, List, [], ◌∷◌, length, Bool, nat_eq, true, false, refl, sym, arith, inl, inr, Decides}
+use Rattle.std.proofs.lemmas.Bool.Decides.{Decides-at}
+use Rattle.der_core.specs.Words.{nat_tests}
 use Rattle.std.proofs.lemmas.Slice.Eq.{bytes_eq-Decides}
-use Rattle.std.specs.Bool.{Decides}
-use Rattle.spki_core.specs.HashAlgorithms.{IsHash}
-use Rattle.pkcs1_c.specs.Structs.{algorithm_seen}
+use Rattle.spki_core.specs.Words.{IsHash}
+use Rattle.pkcs1_c.specs.Words.{algorithm_seen}
 use Rattle.pkcs1_c.specs.declared.algorithm.Algorithm.{Algorithm}
-use Rattle.pkcs1_c.proofs.algorithm.pkcs1_c_algorithm_is.Goals.{then-algorithm-octet, else-algorithm-octet}
-use Rattle.pkcs1_c.proofs.algorithm.pkcs1_c_algorithm_is.Goals.{then-not-algorithm, else-not-algorithm}
+use Rattle.pkcs1_c.proofs.algorithm.pkcs1_c_algorithm_is.Goals.{then-algorithm-octet, else-algorithm-octet, then-not-algorithm, else-not-algorithm}
 use Rattle.pkcs1_c.proofs.algorithm.pkcs1_c_algorithm_is.Goals as goal
 
 -- Where the parameters are absent or NULL, the identifier decides.

@@ -1,4 +1,4 @@
-use Rattle.pkcs1.specs.Held.{held_view}
+use Rattle.pkcs1.specs.Words.{held_view}
 use Rattle.pkcs1_c.proofs.container.from_c_info.Goals as goal
 
 pub returns-clause-key : goal.returns-clause-key

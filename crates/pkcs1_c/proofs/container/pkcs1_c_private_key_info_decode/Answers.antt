@@ -1,9 +1,9 @@
 use Rattle.std.proofs.Common.{sym, ap, subst, Some}
-use Rattle.pkcs1.specs.Held.{held_view}
-use Rattle.pkcs8_core.specs.ContainerReadings.{rsa_private_key_info}
+use Rattle.pkcs1.specs.Words.{held_view}
+use Rattle.pkcs8_core.specs.Words.{rsa_private_key_info}
 use Rattle.standard.specs.Statement.{Container, ContainerEncoding, Decodes, PrivateKeyEncoding}
 use Rattle.pkcs1_c.proofs.Containers.{contained_keys_tell}
-use Rattle.pkcs1_c.proofs.NotWritten.{status_exact}
+use Rattle.pkcs1_c.proofs.Writes.{status_exact}
 use Rattle.pkcs1_c.proofs.container.pkcs1_c_private_key_info_decode.Goals as goal
 
 pub returns-in-Ok-clause-ok : goal.returns-in-Ok-clause-ok

@@ -1,13 +1,11 @@
 use Rattle.std.proofs.Common.{length, arith, inl, inr}
-use Rattle.pkcs1.proofs.KeyFaults.{private_tells}
-use Rattle.pkcs1.specs.KeyReadings.{rsa_private_key}
-use Rattle.pkcs8_core.specs.Laws.PrintedContainers.{container_spells}
+use Rattle.pkcs1.proofs.KeyReads.{private_tells}
+use Rattle.pkcs1.specs.Words.{rsa_private_key}
+use Rattle.pkcs8_core.specs.Words.{container_spells}
 use Rattle.standard.specs.Statement.{ContainerEncoding}
-use Rattle.pkcs1_c.specs.StructErrors.{InfoError, Unwritten}
-use Rattle.pkcs1_c.specs.Structs.{HasKey, If, private_key_info}
+use Rattle.pkcs1_c.specs.Words.{InfoError, Unwritten, HasKey, If, private_key_info}
 use Rattle.pkcs1_c.proofs.Containers.{ContainerSpells, error_none, info_one, info_rest}
-use Rattle.pkcs1_c.proofs.NotWritten.{status_known}
-use Rattle.pkcs1_c.proofs.Writes.{error_as, held_written, is_error, refused, unwritten_so}
+use Rattle.pkcs1_c.proofs.Writes.{status_known, error_as, held_written, is_error, refused, unwritten_so}
 use Rattle.pkcs1_c.proofs.container.pkcs1_c_private_key_info_encode.Goals as goal
 
 pub write_encoding-requires : goal.write_encoding-requires

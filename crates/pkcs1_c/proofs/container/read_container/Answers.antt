@@ -1,13 +1,9 @@
-use Rattle.std.proofs.Common.{ap, subst}
-use Rattle.std.specs.Prelude.{None, Ok, Err}
-use Rattle.std.proofs.lemmas.Result.{err_from_is_err_and}
-use Rattle.der_core.specs.Readings.{◌>>=◌}
-use Rattle.pkcs1.specs.Held.{held_view}
+use Rattle.std.proofs.Common.{ap, subst, None, Ok, Err}
+use Rattle.der_core.specs.Words.{err_from_is_err_and, ◌>>=◌}
+use Rattle.pkcs1.specs.Words.{held_view}
 use Rattle.pkcs1.specs.declared.view.RsaPrivateKeyView.{RsaPrivateKeyView}
-use Rattle.pkcs1_params.proofs.Errors.{on_err}
-use Rattle.pkcs1_params.proofs.FaultsTold.{errs_behind}
-use Rattle.pkcs8_core.specs.ContainerReadings.{private_key_info, rsa_held}
-use Rattle.pkcs8_core.specs.Rsa.{ContainedKey}
+use Rattle.pkcs1_params.proofs.Faults.{on_err, errs_behind}
+use Rattle.pkcs8_core.specs.Words.{private_key_info, rsa_held, ContainedKey}
 use Rattle.standard.specs.Statement.{ContainedKeyEncoding, Decodes}
 use Rattle.pkcs1_c.proofs.container.read_container.Goals as goal
 

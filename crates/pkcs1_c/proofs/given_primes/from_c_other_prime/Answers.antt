@@ -1,4 +1,4 @@
-use Rattle.pkcs1_c.specs.Structs.{numbers_of_prime}
+use Rattle.pkcs1_c.specs.Words.{numbers_of_prime}
 use Rattle.pkcs1_c.proofs.StructErrors.{held_none}
 use Rattle.pkcs1_c.proofs.given_primes.from_c_other_prime.Goals as goal
 

@@ -1,15 +1,10 @@
-use Rattle.std.proofs.Common.{ℕ, List, [], ◌∷◌, ◌++◌, ◌≡◌, ◌∙◌, ◌+◌, ◌≤◌, ◌<◌, ap, length, length-append, arith, sym}
-use Rattle.std.proofs.Common.{Result, Ok, Err, inl, inr}
+use Rattle.std.proofs.Common.{ℕ, List, [], ◌∷◌, ◌++◌, ◌≡◌, ◌∙◌, ◌+◌, ◌≤◌, ◌<◌, ap, length, length-append, arith, sym, Result, Ok, Err, inl, inr, IfErr, IfOk}
 use Rattle.std.proofs.lemmas.Bool.{cases_lt}
-use Rattle.std.specs.Prelude.{IfErr, IfOk}
-use Rattle.der_core.specs.Length.{length_octets, limit, tlv_len}
-use Rattle.der_core.specs.Printed.{number_contents}
-use Rattle.der_core.specs.Writing.{Counts}
+use Rattle.der_core.specs.Words.{length_octets, limit, tlv_len, number_contents, Counts}
 use Rattle.der_core.specs.declared.error.Error.{Error}
 use Rattle.der_core.specs.declared.error.ErrorKind.TheVariants.{Overflow}
-use Rattle.pkcs1.specs.Held.{held_other_prime}
-use Rattle.pkcs1_c.specs.NumberValue.{number_of}
-use Rattle.pkcs1_c.specs.PrimeLists.{prime_encoded}
+use Rattle.pkcs1.specs.Words.{held_other_prime}
+use Rattle.pkcs1_c.specs.Words.{number_of, prime_encoded}
 use Rattle.standard.specs.Statement.{OtherPrime, integer, integers, tlv}
 use Rattle.pkcs1_c.proofs.given_primes.length_of.Goals as goal
 

@@ -1,6 +1,6 @@
 use Rattle.std.proofs.Common.{ap, arith, length}
-use Rattle.der_core.proofs.LengthLaws.{length_octets-1, length_octets-2, length_octets-3, length_octets-4}
-use Rattle.der_core.specs.Laws.Length.{length_octets-short}
+use Rattle.der_core.proofs.Lengths.{length_octets-1, length_octets-2, length_octets-3, length_octets-4}
+use Rattle.der_core.specs.Words.{length_octets-short}
 use Rattle.pkcs1_c.proofs.given_primes.octets_with_tag.Goals as goal
 
 pub returns-then-contents-lt128-clause-within : goal.returns-then-contents-lt128-clause-within

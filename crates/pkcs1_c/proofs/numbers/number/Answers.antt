@@ -1,7 +1,5 @@
 use Rattle.std.proofs.Common.{ap, ◌∙◌, length, sym, arith}
-use Rattle.std.proofs.lemmas.Result.{err_from_is_err_and}
-use Rattle.der_core.specs.Laws.Printed.Leaves.{number_octets}
-use Rattle.der_core.specs.UintRefValue.{bytes_of}
+use Rattle.der_core.specs.Words.{err_from_is_err_and, number_octets, bytes_of}
 use Rattle.standard.specs.Statement.{octets}
 use Rattle.pkcs1_c.proofs.StructErrors.{number_none, number_rejected}
 use Rattle.pkcs1_c.proofs.numbers.number.Goals as goal

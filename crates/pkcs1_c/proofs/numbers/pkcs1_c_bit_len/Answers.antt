@@ -1,7 +1,5 @@
 use Rattle.std.proofs.Common.{◌∙◌, arith, ap, length, sym, inl, inr}
-use Rattle.std.specs.Int.Digits.{number_from_digits}
-use Rattle.der_core.specs.Laws.Printed.Leaves.{number_octets, octets_canonical, octets_number}
-use Rattle.der_core.specs.UintRefValue.{bytes_of}
+use Rattle.der_core.specs.Words.{number_from_digits, number_octets, octets_canonical, octets_number, bytes_of}
 use Rattle.standard.specs.Statement.{octets}
 use Rattle.pkcs1_c.proofs.numbers.pkcs1_c_bit_len.Goals as goal
 

@@ -1,5 +1,5 @@
 use Rattle.std.proofs.Common.{inl, inr}
-use Rattle.std.proofs.lemmas.Result.{err_from_is_err_and}
+use Rattle.der_core.specs.Words.{err_from_is_err_and}
 use Rattle.pkcs1_c.proofs.HeldParameters.{plain_none, mask_none}
 use Rattle.pkcs1_c.proofs.oaep.from_c_oaep.Goals as goal
 

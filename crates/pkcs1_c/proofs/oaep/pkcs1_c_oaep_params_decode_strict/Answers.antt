@@ -1,8 +1,8 @@
 use Rattle.std.proofs.Common.{Some, subst, sym}
-use Rattle.pkcs1_params.specs.Laws.Records.{oaep_record}
-use Rattle.pkcs1_params.proofs.FaultsTell.{strict_tells}
+use Rattle.pkcs1_params.specs.Words.{oaep_record}
+use Rattle.pkcs1_params.proofs.Faults.{strict_tells}
 use Rattle.standard.specs.Statement.{Decodes, IsShortest, OaepEncoding}
-use Rattle.pkcs1_c.proofs.NotWritten.{status_exact}
+use Rattle.pkcs1_c.proofs.Writes.{status_exact}
 use Rattle.pkcs1_c.proofs.oaep.pkcs1_c_oaep_params_decode_strict.Goals as goal
 
 pub returns-in-Ok-clause-ok : goal.returns-in-Ok-clause-ok

@@ -1,8 +1,6 @@
 use Rattle.std.proofs.Common.{length, subst}
 use Rattle.standard.specs.Statement.{OaepEncoding}
-use Rattle.pkcs1_c.specs.Status.{IsErrorOf}
-use Rattle.pkcs1_c.specs.StructErrors.{FieldsError, OaepFieldError, Unwritten}
-use Rattle.pkcs1_c.specs.Structs.{WritesOrTells, oaep_seen}
+use Rattle.pkcs1_c.specs.Words.{IsErrorOf, FieldsError, OaepFieldError, Unwritten, WritesOrTells, oaep_seen}
 use Rattle.pkcs1_c.proofs.Fits.{oaep_fits}
 use Rattle.pkcs1_c.proofs.Writes.{error_behind, written, written_well}
 use Rattle.pkcs1_c.proofs.oaep.pkcs1_c_oaep_params_encode.Goals as goal

@@ -1,8 +1,7 @@
-use Rattle.std.proofs.Common.{Some, ◌≡◌, refl, subst, sym}
-use Rattle.std.specs.Prelude.{IfSome}
-use Rattle.pkcs1_params.specs.UsualParameters.{oaep_with_hashes}
+use Rattle.std.proofs.Common.{Some, ◌≡◌, refl, subst, sym, IfSome}
+use Rattle.pkcs1_params.specs.Words.{oaep_with_hashes}
 use Rattle.standard.specs.Statement.{Encodes, OaepEncoding}
-use Rattle.pkcs1_c.specs.Structs.{oaep_seen}
+use Rattle.pkcs1_c.specs.Words.{oaep_seen}
 use Rattle.pkcs1_c.proofs.oaep.write_known.Goals as goal
 
 pub returns-clause-written : goal.returns-clause-written

@@ -1,9 +1,9 @@
 use Rattle.std.proofs.Common.{Some, subst, sym}
-use Rattle.spki_core.specs.Laws.FieldSpellings.Records.{record_reads}
-use Rattle.pkcs1_params.specs.Laws.Records.{oaep_record}
-use Rattle.pkcs1_params.proofs.FaultsTell.{whole_algorithm_tells}
+use Rattle.spki_core.specs.Words.{record_reads}
+use Rattle.pkcs1_params.specs.Words.{oaep_record}
+use Rattle.pkcs1_params.proofs.Faults.{whole_algorithm_tells}
 use Rattle.standard.specs.Statement.{Decodes, OaepAlgorithmEncoding, id_rsaes_oaep}
-use Rattle.pkcs1_c.proofs.NotWritten.{status_exact}
+use Rattle.pkcs1_c.proofs.Writes.{status_exact}
 use Rattle.pkcs1_c.proofs.oaep_algorithm.pkcs1_c_oaep_algorithm_decode.Goals as goal
 
 pub returns-in-Ok-clause-ok : goal.returns-in-Ok-clause-ok

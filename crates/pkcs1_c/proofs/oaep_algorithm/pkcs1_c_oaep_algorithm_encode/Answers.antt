@@ -1,7 +1,6 @@
 use Rattle.std.proofs.Common.{length}
 use Rattle.standard.specs.Statement.{OaepAlgorithmEncoding}
-use Rattle.pkcs1_c.specs.StructErrors.{OaepFieldError, Unwritten}
-use Rattle.pkcs1_c.specs.Structs.{oaep_seen}
+use Rattle.pkcs1_c.specs.Words.{OaepFieldError, Unwritten, oaep_seen}
 use Rattle.pkcs1_c.proofs.Fits.{oaep_fits}
 use Rattle.pkcs1_c.proofs.HeldParameters.{oaep_none}
 use Rattle.pkcs1_c.proofs.StructErrors.{oaep_part, unwritten_one}

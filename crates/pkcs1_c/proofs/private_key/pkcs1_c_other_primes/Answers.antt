@@ -1,9 +1,7 @@
 use Rattle.std.proofs.Common.{arith}
 use Rattle.der_core.proofs.ReadSteps.{front_errs}
-use Rattle.der_core.specs.UintRefValue.{bytes_of}
-use Rattle.pkcs1.specs.Held.{number_in}
-use Rattle.pkcs1.specs.OtherPrimesHeld.{next_prime}
-use Rattle.pkcs1.specs.PrivateKeyValue.{other_of}
+use Rattle.der_core.specs.Words.{bytes_of}
+use Rattle.pkcs1.specs.Words.{number_in, next_prime, other_of}
 use Rattle.pkcs1_c.proofs.Placing.{full, none_placed, one_placed, stopped}
 use Rattle.pkcs1_c.proofs.private_key.pkcs1_c_other_primes.Goals as goal
 

@@ -1,7 +1,6 @@
 use Rattle.std.proofs.Common.{◌≡◌, ◌≤◌, List, length}
-use Rattle.der_core.specs.Length.{limit}
-use Rattle.der_core.specs.SliceReaders.{left_of}
-use Rattle.pkcs1.specs.Held.{primes_encoded}
+use Rattle.der_core.specs.Words.{limit, left_of}
+use Rattle.pkcs1.specs.Words.{primes_encoded}
 use Rattle.standard.specs.Statement.{OtherPrime}
 use Rattle.pkcs1_c.proofs.Placing.{Placing}
 use Rattle.pkcs1_c.proofs.private_key.pkcs1_c_other_primes.Given as goal

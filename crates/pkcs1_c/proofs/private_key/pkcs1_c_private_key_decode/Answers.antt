@@ -1,7 +1,6 @@
-use Rattle.pkcs1.proofs.KeyFaults.{private_tells}
-use Rattle.pkcs1.specs.Held.{held_view}
-use Rattle.pkcs1.specs.KeyReadings.{rsa_private_key}
-use Rattle.pkcs1_c.proofs.NotWritten.{status_exact}
+use Rattle.pkcs1.proofs.KeyReads.{private_tells}
+use Rattle.pkcs1.specs.Words.{held_view, rsa_private_key}
+use Rattle.pkcs1_c.proofs.Writes.{status_exact}
 use Rattle.pkcs1_c.proofs.private_key.pkcs1_c_private_key_decode.Goals as goal
 
 pub returns-in-Ok-clause-ok : goal.returns-in-Ok-clause-ok

@@ -2,9 +2,7 @@ use Rattle.std.proofs.Common.{ℕ, List, length, refl, ◌≡◌, arith}
 use Rattle.standard.specs.Statement.{PrivateKeyEncoding}
 use Rattle.pkcs1_c.specs.declared.private_key.OtherPrime.{OtherPrime}
 use Rattle.pkcs1_c.specs.declared.private_key.PrivateKey.{PrivateKey}
-use Rattle.pkcs1_c.specs.GivenPrimesValue.{given_key}
-use Rattle.pkcs1_c.specs.StructErrors.{Miscounted, NumbersError, PartThen, Unwritten, given_numbers}
-use Rattle.pkcs1_c.specs.Structs.{HasPrivateNumbers, If, private_key}
+use Rattle.pkcs1_c.specs.Words.{given_key, Miscounted, NumbersError, PartThen, Unwritten, given_numbers, HasPrivateNumbers, If, private_key}
 use Rattle.pkcs1_c.proofs.GivenKeys.{PrivateSpells, private_fits, private_has, private_law, private_valid}
 use Rattle.pkcs1_c.proofs.StructErrors.{IsOne, IsPart, numbers_part, part_one, unless_part, unwritten_one}
 use Rattle.pkcs1_c.proofs.Writes.{error_behind, held_written, part_told, unwritten_so}

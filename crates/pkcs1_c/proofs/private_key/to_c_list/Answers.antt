@@ -1,5 +1,5 @@
 use Rattle.std.proofs.Common.{◌∙◌, ap}
-use Rattle.pkcs1.specs.Held.{primes_encoded}
+use Rattle.pkcs1.specs.Words.{primes_encoded}
 use Rattle.pkcs1_c.proofs.HeldKeys.{others_listed}
 use Rattle.pkcs1_c.proofs.private_key.to_c_list.Goals as goal
 

@@ -1,6 +1,6 @@
 use Rattle.std.proofs.Common.{ap, inl, inr}
-use Rattle.std.proofs.lemmas.Result.{err_from_is_err_and}
-use Rattle.pkcs1_c.specs.Status.{kind_number}
+use Rattle.der_core.specs.Words.{err_from_is_err_and}
+use Rattle.pkcs1_c.specs.Words.{kind_number}
 use Rattle.pkcs1_c.proofs.HeldParameters.{plain_none, mask_none}
 use Rattle.pkcs1_c.proofs.pss.from_c_pss.Goals as goal
 

@@ -1,8 +1,8 @@
 use Rattle.std.proofs.Common.{Some, subst, sym}
-use Rattle.pkcs1_params.specs.Laws.Records.{pss_record}
+use Rattle.pkcs1_params.specs.Words.{pss_record}
 use Rattle.standard.specs.Statement.{Decodes, PssEncoding}
-use Rattle.pkcs1_c.proofs.NotWritten.{status_exact}
-use Rattle.pkcs1_c.proofs.ParameterFaults.{record_tells}
+use Rattle.pkcs1_c.proofs.Writes.{status_exact}
+use Rattle.pkcs1_c.proofs.HeldParameters.{record_tells}
 use Rattle.pkcs1_c.proofs.pss.pkcs1_c_pss_params_decode.Goals as goal
 
 pub returns-in-Ok-clause-ok : goal.returns-in-Ok-clause-ok

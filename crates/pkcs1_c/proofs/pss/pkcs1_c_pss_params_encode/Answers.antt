@@ -1,8 +1,6 @@
 use Rattle.std.proofs.Common.{length, subst}
 use Rattle.standard.specs.Statement.{PssEncoding}
-use Rattle.pkcs1_c.specs.Status.{IsErrorOf}
-use Rattle.pkcs1_c.specs.StructErrors.{FieldsError, PssFieldError, Unwritten}
-use Rattle.pkcs1_c.specs.Structs.{WritesOrTells, pss_seen}
+use Rattle.pkcs1_c.specs.Words.{IsErrorOf, FieldsError, PssFieldError, Unwritten, WritesOrTells, pss_seen}
 use Rattle.pkcs1_c.proofs.Fits.{pss_fits}
 use Rattle.pkcs1_c.proofs.Writes.{error_behind, written, written_well}
 use Rattle.pkcs1_c.proofs.pss.pkcs1_c_pss_params_encode.Goals as goal

@@ -1,8 +1,7 @@
-use Rattle.std.proofs.Common.{Some, ◌≡◌, refl, subst, sym}
-use Rattle.std.specs.Prelude.{IfSome}
-use Rattle.pkcs1_params.specs.UsualParameters.{pss_with_hashes}
+use Rattle.std.proofs.Common.{Some, ◌≡◌, refl, subst, sym, IfSome}
+use Rattle.pkcs1_params.specs.Words.{pss_with_hashes}
 use Rattle.standard.specs.Statement.{Encodes, PssEncoding}
-use Rattle.pkcs1_c.specs.Structs.{pss_seen}
+use Rattle.pkcs1_c.specs.Words.{pss_seen}
 use Rattle.pkcs1_c.proofs.pss.write_known.Goals as goal
 
 pub returns-clause-written : goal.returns-clause-written

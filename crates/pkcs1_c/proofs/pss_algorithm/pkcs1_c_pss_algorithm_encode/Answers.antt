@@ -1,7 +1,6 @@
 use Rattle.std.proofs.Common.{length}
 use Rattle.standard.specs.Statement.{PssAlgorithmEncoding}
-use Rattle.pkcs1_c.specs.StructErrors.{PssFieldError, Unwritten}
-use Rattle.pkcs1_c.specs.Structs.{pss_seen}
+use Rattle.pkcs1_c.specs.Words.{PssFieldError, Unwritten, pss_seen}
 use Rattle.pkcs1_c.proofs.Fits.{pss_fits}
 use Rattle.pkcs1_c.proofs.HeldParameters.{pss_none}
 use Rattle.pkcs1_c.proofs.StructErrors.{pss_part, unwritten_one}

@@ -1,4 +1,4 @@
-use Rattle.pkcs1_c.specs.StructErrors.{two_numbers}
+use Rattle.pkcs1_c.specs.Words.{two_numbers}
 use Rattle.pkcs1_c.proofs.StructErrors.{held_none}
 use Rattle.pkcs1_c.proofs.public_key.from_c_key.Goals as goal
 

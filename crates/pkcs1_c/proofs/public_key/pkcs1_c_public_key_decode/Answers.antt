@@ -1,9 +1,8 @@
-use Rattle.pkcs1.proofs.KeyFaults.{public_tells}
-use Rattle.pkcs1.specs.Held.{held_public_key}
-use Rattle.pkcs1.specs.KeyReadings.{rsa_public_key}
-use Rattle.der_core.specs.UintRefValue.{bytes_of}
+use Rattle.pkcs1.proofs.KeyReads.{public_tells}
+use Rattle.pkcs1.specs.Words.{held_public_key, rsa_public_key}
+use Rattle.der_core.specs.Words.{bytes_of}
 use Rattle.pkcs1_c.proofs.HeldKeys.{octets_held}
-use Rattle.pkcs1_c.proofs.NotWritten.{status_exact}
+use Rattle.pkcs1_c.proofs.Writes.{status_exact}
 use Rattle.pkcs1_c.proofs.public_key.pkcs1_c_public_key_decode.Goals as goal
 
 pub returns-in-Ok-clause-ok : goal.returns-in-Ok-clause-ok

@@ -1,7 +1,6 @@
 use Rattle.std.proofs.Common.{length}
 use Rattle.standard.specs.Statement.{PublicKeyEncoding}
-use Rattle.pkcs1_c.specs.StructErrors.{NumbersError, Unwritten, two_numbers}
-use Rattle.pkcs1_c.specs.Structs.{HasNumbers, If, public_key}
+use Rattle.pkcs1_c.specs.Words.{NumbersError, Unwritten, two_numbers, HasNumbers, If, public_key}
 use Rattle.pkcs1_c.proofs.GivenKeys.{PublicSpells, public_fits, public_has, public_law}
 use Rattle.pkcs1_c.proofs.StructErrors.{numbers_part, unwritten_one}
 use Rattle.pkcs1_c.proofs.Writes.{error_behind, held_written, part_told, unwritten_so}

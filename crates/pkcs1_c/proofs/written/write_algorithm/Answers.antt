@@ -1,14 +1,9 @@
 use Rattle.std.proofs.Common.{length, subst, sym}
-use Rattle.spki_core.specs.AlgorithmIdentifier.{algorithm_map}
-use Rattle.spki_core.specs.FieldSpellings.{AreSpelled, record_under}
-use Rattle.spki_core.specs.Laws.HaveEncodings.{viewed_held}
-use Rattle.pkcs1_params.specs.Parameters.{with_parameters}
-use Rattle.pkcs1_params.specs.Spellings.{Encoded}
+use Rattle.spki_core.specs.Words.{algorithm_map, AreSpelled, record_under, viewed_held}
+use Rattle.pkcs1_params.specs.Words.{with_parameters, Encoded}
 use Rattle.pkcs1_params.proofs.Algorithms.{AlgorithmSpelled, algorithm_spelled, algorithm_valid}
 use Rattle.standard.specs.Statement.{Algorithm, AlgorithmEncoding, IsAlgorithm, IsIdentifier}
-use Rattle.pkcs1_c.specs.Status.{IsErrorOf}
-use Rattle.pkcs1_c.specs.StructErrors.{Unwritten}
-use Rattle.pkcs1_c.specs.Structs.{WritesOrTells}
+use Rattle.pkcs1_c.specs.Words.{IsErrorOf, Unwritten, WritesOrTells}
 use Rattle.pkcs1_c.proofs.Writes.{unwritten_so, written_as}
 use Rattle.pkcs1_c.proofs.written.write_algorithm.Goals as goal
 

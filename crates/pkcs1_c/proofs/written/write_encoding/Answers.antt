@@ -1,9 +1,7 @@
 use Rattle.std.proofs.Common.{ℕ, Ok, Err, length}
-use Rattle.der_core.proofs.Spelled.{into_encodes, into_unwritten}
-use Rattle.der_core.specs.Printed.{Spells}
-use Rattle.pkcs1_c.proofs.Needed.{needed_is, needed_kept}
-use Rattle.pkcs1_c.proofs.NotWritten.{kind_unwritten}
-use Rattle.pkcs1_c.proofs.Writes.{not_written, unwritten_is, written, written_well}
+use Rattle.der_core.proofs.Writing.{into_encodes, into_unwritten}
+use Rattle.der_core.specs.Words.{Spells}
+use Rattle.pkcs1_c.proofs.Writes.{needed_is, needed_kept, kind_unwritten, not_written, unwritten_is, written, written_well}
 use Rattle.pkcs1_c.proofs.written.write_encoding.Goals as goal
 
 pub returns-in-Ok : goal.returns-in-Ok

@@ -1,14 +1,9 @@
 use Rattle.std.proofs.Common.{length}
-use Rattle.der_core.specs.Laws.Printed.Shortest.{tagged_shortest}
-use Rattle.der_core.specs.Printed.{Spells}
-use Rattle.spki_core.specs.FieldSpellings.{AreSpelled, record_means, spelled}
-use Rattle.spki_core.specs.Laws.FieldSpellings.Masks.{under_valid}
-use Rattle.spki_core.specs.Laws.FieldSpellings.Records.{record_shortest, spelled_from, spelled_to}
-use Rattle.pkcs1_params.specs.Spellings.{Encoded}
+use Rattle.der_core.specs.Words.{tagged_shortest, Spells}
+use Rattle.spki_core.specs.Words.{AreSpelled, record_means, spelled, under_valid, record_shortest, spelled_from, spelled_to}
+use Rattle.pkcs1_params.specs.Words.{Encoded}
 use Rattle.standard.specs.Statement.{sequence}
-use Rattle.pkcs1_c.proofs.Needed.{needed_is, needed_kept}
-use Rattle.pkcs1_c.proofs.NotWritten.{status_unwritten}
-use Rattle.pkcs1_c.proofs.Writes.{not_written, unwritten_as, unwritten_is, written, written_as, written_well}
+use Rattle.pkcs1_c.proofs.Writes.{needed_is, needed_kept, status_unwritten, not_written, unwritten_as, unwritten_is, written, written_as, written_well}
 use Rattle.pkcs1_c.proofs.written.write_params.Goals as goal
 
 pub returns-in-Ok : goal.returns-in-Ok

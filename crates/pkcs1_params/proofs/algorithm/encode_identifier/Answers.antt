@@ -1,16 +1,11 @@
 use Rattle.std.proofs.Common.{ℕ, length, subst, Ok, Err, Some, None}
-use Rattle.std.proofs.lemmas.Result.{err_from_is_err_and}
-use Rattle.der_core.proofs.Spelled.{into_encodes, into_unwritten}
-use Rattle.spki_core.specs.AlgorithmIdentifier.{algorithm_map}
-use Rattle.spki_core.specs.AlgorithmValue.{viewed_with}
-use Rattle.spki_core.specs.FieldSpellings.{AreSpelled, record_under}
-use Rattle.spki_core.specs.Laws.HaveEncodings.{viewed_held}
-use Rattle.pkcs1_params.specs.Meanings.{Refuses}
-use Rattle.pkcs1_params.specs.Parameters.{with_parameters}
-use Rattle.pkcs1_params.specs.Spellings.{Encoded}
+use Rattle.der_core.specs.Words.{err_from_is_err_and}
+use Rattle.der_core.proofs.Writing.{into_encodes, into_unwritten}
+use Rattle.spki_core.specs.Words.{algorithm_map, viewed_with, AreSpelled, record_under, viewed_held}
+use Rattle.pkcs1_params.specs.Words.{Refuses, with_parameters, Encoded}
 use Rattle.pkcs1_params.specs.declared.error.Error.TheVariants as error
 use Rattle.pkcs1_params.proofs.Algorithms.{AlgorithmSpelled, algorithm_spelled, algorithm_valid, algorithm_written}
-use Rattle.pkcs1_params.proofs.Written.{encodes_as, refuses_as}
+use Rattle.pkcs1_params.proofs.Masks.{encodes_as, refuses_as}
 use Rattle.standard.specs.Statement.{Algorithm, AlgorithmEncoding, Encodes, IsAlgorithm, IsIdentifier}
 use Rattle.pkcs1_params.proofs.algorithm.encode_identifier.Goals as goal
 

@@ -1,15 +1,9 @@
 use Rattle.std.proofs.Common.{ℕ, List, ◌++◌, ◌≡◌, ◌≤◌, ◌∙◌, arith, ap, sym, subst, length, true, Ok}
-use Rattle.der_core.specs.Encodings.{AreBytes}
-use Rattle.der_core.specs.Laws.Input.{are_bytes}
-use Rattle.der_core.specs.Laws.Printed.Rows.{whole_takes}
-use Rattle.der_core.specs.Laws.Readings.{ok_same}
-use Rattle.der_core.specs.Length.{limit}
-use Rattle.der_core.specs.Readings.{whole}
-use Rattle.spki_core.specs.Laws.Printed.Readings.{any_law}
-use Rattle.spki_core.specs.Readings.{any}
+use Rattle.der_core.specs.Words.{AreBytes, are_bytes, whole_takes, ok_same, limit, whole}
+use Rattle.spki_core.specs.Words.{any_law, any}
 use Rattle.spki_core.proofs.StrictFields.{contents_bytes}
 use Rattle.pkcs1_params.proofs.Algorithms.{identifier_in}
-use Rattle.pkcs1_params.proofs.FaultsTold.{no_memory}
+use Rattle.pkcs1_params.proofs.Faults.{no_memory}
 use Rattle.pkcs1_params.proofs.Wrapped.{behind_oid}
 use Rattle.standard.specs.Statement.{TagAndContents, sequence, tlv}
 use Rattle.pkcs1_params.proofs.algorithm.encoded_parameters.Goals as goal

@@ -1,4 +1,4 @@
-use Rattle.std.proofs.lemmas.Result.{err_from_is_err_and}
+use Rattle.der_core.specs.Words.{err_from_is_err_and}
 use Rattle.pkcs1_params.proofs.algorithm.from_identifier.Goals as goal
 
 pub returns-in_err-any : goal.returns-in_err-any

@@ -1,14 +1,9 @@
 use Rattle.std.proofs.Common.{arith, ap, refl, ◌∙◌}
-use Rattle.std.proofs.lemmas.Result.{err_from_is_err_and}
-use Rattle.der_core.specs.Laws.Input.{are_bytes}
-use Rattle.der_core.specs.Readings.{◌>>=◌}
-use Rattle.spki_core.specs.AnyRefValue.{any_of}
-use Rattle.spki_core.specs.FieldSpellings.{record_read, record_strictly}
-use Rattle.pkcs1_params.specs.Algorithms.{identified}
-use Rattle.pkcs1_params.specs.Spellings.{Encoded}
+use Rattle.der_core.specs.Words.{err_from_is_err_and, are_bytes, ◌>>=◌}
+use Rattle.spki_core.specs.Words.{any_of, record_read, record_strictly}
+use Rattle.pkcs1_params.specs.Words.{identified, Encoded}
 use Rattle.pkcs1_params.proofs.Algorithms.{algorithm_encodes, behind_any, strict_algorithm_errs, strict_in}
-use Rattle.pkcs1_params.proofs.Errors.{asn1_as}
-use Rattle.pkcs1_params.proofs.FaultsTold.{told_same}
+use Rattle.pkcs1_params.proofs.Faults.{asn1_as, told_same}
 use Rattle.pkcs1_params.proofs.Wrapped.{inner_is}
 use Rattle.pkcs1_params.proofs.algorithm.from_identifier_strict.Goals as goal
 

@@ -1,7 +1,6 @@
 use Rattle.std.proofs.Common.{subst, sym, length, ◌≤◌}
 use Rattle.std.specs.Prelude.{⊤}
-use Rattle.der_core.specs.Length.{limit}
-use Rattle.der_core.specs.Writing.{Appends}
+use Rattle.der_core.specs.Words.{limit, Appends}
 use Rattle.pkcs1_params.proofs.Masks.{octets_are}
 use Rattle.pkcs1_params.proofs.contents.append_contents.Goals as goal
 

@@ -1,9 +1,7 @@
 use Rattle.std.proofs.Common.{arith, subst, sym, ◌≡◌, ◌∙◌, refl}
-use Rattle.std.proofs.lemmas.Bool.Decides.{nat_tests}
-use Rattle.der_core.specs.Writing.{Counts}
-use Rattle.spki_core.specs.FieldSpellings.{AreSpelled, record_under}
-use Rattle.pkcs1_params.proofs.Masks.{is_spelled, none_spelled, octets_are}
-use Rattle.pkcs1_params.proofs.Written.{counts_as}
+use Rattle.der_core.specs.Words.{nat_tests, Counts}
+use Rattle.spki_core.specs.Words.{AreSpelled, record_under}
+use Rattle.pkcs1_params.proofs.Masks.{is_spelled, none_spelled, octets_are, counts_as}
 use Rattle.pkcs1_params.proofs.contents.contents_len.Goals as goal
 
 pub returns-then-mask-eq0 : goal.returns-then-mask-eq0

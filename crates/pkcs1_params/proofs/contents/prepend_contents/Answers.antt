@@ -1,7 +1,5 @@
 use Rattle.std.proofs.Common.{arith, rules, subst, sym, length, ◌≡◌, ◌≤◌, ◌∙◌, refl, take-append-drop}
-use Rattle.std.proofs.lemmas.Bool.Decides.{nat_tests}
-use Rattle.der_core.specs.BackWriters.{Prepends, free_of}
-use Rattle.der_core.specs.Length.{limit}
+use Rattle.der_core.specs.Words.{nat_tests, Prepends, free_of, limit}
 use Rattle.pkcs1_params.proofs.Masks.{none_spelled, octets_are}
 use Rattle.pkcs1_params.proofs.contents.prepend_contents.Goals as goal
 

@@ -1,7 +1,6 @@
-use Rattle.std.proofs.Common.{ℕ, List, [], ◌∷◌, ◌≡◌, ap, arith, length, refl, slice_index}
-use Rattle.std.proofs.lemmas.Bool.Decides.{nat_tests}
-use Rattle.std.specs.Str.{bytes_eq}
-use Rattle.pkcs1_params.specs.Parameters.{pkcs1_algorithm}
+use Rattle.std.proofs.Common.{ℕ, List, [], ◌∷◌, ◌≡◌, ap, arith, length, refl, slice_index, bytes_eq}
+use Rattle.der_core.specs.Words.{nat_tests}
+use Rattle.pkcs1_params.specs.Words.{pkcs1_algorithm}
 use Rattle.pkcs1_params.proofs.hash_fields.is_pkcs1.Goals as goal
 
 nine : (l : List ℕ) → length l ≡ 9

@@ -1,11 +1,8 @@
 use Rattle.std.proofs.Common.{[], ap, subst, sym}
-use Rattle.spki_core.specs.Laws.HaveEncodings.{identifier_held}
-use Rattle.pkcs1_params.specs.Labels.{written_labelled}
-use Rattle.pkcs1_params.specs.OaepValue.{oaep_of}
+use Rattle.spki_core.specs.Words.{identifier_held}
+use Rattle.pkcs1_params.specs.Words.{written_labelled, oaep_of, oaep_record}
 use Rattle.pkcs1_params.proofs.Labels.{labelled_counted, labelled_is}
-use Rattle.pkcs1_params.proofs.Masks.{is_spelled}
-use Rattle.pkcs1_params.specs.Laws.Records.{oaep_record}
-use Rattle.pkcs1_params.proofs.Written.{counts_as}
+use Rattle.pkcs1_params.proofs.Masks.{is_spelled, counts_as}
 use Rattle.standard.specs.Statement.{IsOaep, OaepParameters, sequence}
 use Rattle.pkcs1_params.proofs.label.labelled_len.Goals as goal
 

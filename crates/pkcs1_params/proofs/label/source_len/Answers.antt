@@ -1,6 +1,6 @@
 use Rattle.std.proofs.Common.{arith, ◌++◌}
-use Rattle.der_core.specs.Tlv.{tlv}
-use Rattle.pkcs1_params.specs.Parameters.{id_p_specified}
+use Rattle.der_core.specs.Words.{tlv}
+use Rattle.pkcs1_params.specs.Words.{id_p_specified}
 use Rattle.pkcs1_params.proofs.Labels.{source_written, label_counted, source_counted}
 use Rattle.pkcs1_params.proofs.label.source_len.Goals as goal
 

@@ -1,10 +1,8 @@
 use Rattle.std.proofs.Common.{refl}
-use Rattle.pkcs1_params.specs.Laws.Records.{oaep_identifier, oaep_record, pss_identifier, pss_record}
-use Rattle.pkcs1_params.proofs.Algorithms.{algorithm_counted, algorithm_decodes, algorithm_delimited}
-use Rattle.pkcs1_params.proofs.Algorithms.{strict_algorithm_decodes}
-use Rattle.pkcs1_params.proofs.FaultsTell.{strictly_tells, whole_algorithm_tells}
-use Rattle.pkcs1_params.proofs.FirstDefault.{first_named_in}
-use Rattle.pkcs1_params.proofs.Same.{same_by_shortest}
+use Rattle.pkcs1_params.specs.Words.{oaep_identifier, oaep_record, pss_identifier, pss_record}
+use Rattle.pkcs1_params.proofs.Algorithms.{algorithm_counted, algorithm_decodes, algorithm_delimited, strict_algorithm_decodes}
+use Rattle.pkcs1_params.proofs.Faults.{strictly_tells, whole_algorithm_tells, first_named_in}
+use Rattle.pkcs1_params.proofs.Masks.{same_by_shortest}
 use Rattle.standard.specs.Statement.{OaepAlgorithmEncoding, PssAlgorithmEncoding, id_rsaes_oaep, id_rsassa_pss}
 use Rattle.pkcs1_params.proofs.laws.lemma_algorithms.Goals as goal
 

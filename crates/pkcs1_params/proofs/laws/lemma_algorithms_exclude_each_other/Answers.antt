@@ -1,4 +1,4 @@
-use Rattle.pkcs1_params.proofs.Excluded.{algorithms_differ, oaep_no_identifier, pss_no_identifier}
+use Rattle.pkcs1_params.proofs.Masks.{algorithms_differ, oaep_no_identifier, pss_no_identifier}
 use Rattle.pkcs1_params.proofs.laws.lemma_algorithms_exclude_each_other.Goals as goal
 
 pub returns : goal.returns

@@ -1,15 +1,9 @@
 use Rattle.std.proofs.Common.{ℕ, List, ◌≡◌, ◌≤◌, length, length-append, sym, subst, ap, arith, refl}
-use Rattle.der_core.specs.Laws.ContentsShorter.{tlv_recast}
-use Rattle.der_core.specs.Laws.Printed.Leaves.{tlv_is}
-use Rattle.der_core.specs.Length.{limit}
-use Rattle.der_core.specs.Reading.{AllocatesIn}
-use Rattle.der_core.specs.Tlv.{Tlv}
-use Rattle.spki_core.specs.FieldSpellings.{FieldRecord}
-use Rattle.pkcs1_params.proofs.Same.{record_delimited}
+use Rattle.der_core.specs.Words.{tlv_recast, tlv_is, limit, AllocatesIn, Tlv}
+use Rattle.spki_core.specs.Words.{FieldRecord}
+use Rattle.pkcs1_params.proofs.Masks.{record_delimited}
 use Rattle.standard.specs.Statement.{Field, Fields, SequenceOf, sequence}
-use Rattle.pkcs1_params.specs.Laws.Records.{oaep_record, pss_record}
-use Rattle.pkcs1_params.specs.OaepValue.{IsBareOaep}
-use Rattle.pkcs1_params.specs.PssValue.{IsBarePss}
+use Rattle.pkcs1_params.specs.Words.{oaep_record, pss_record, IsBareOaep, IsBarePss}
 use Rattle.pkcs1_params.proofs.laws.lemma_bare_params_take_no_memory.Goals as goal
 
 -- Of an encoding of bare parameters no beginning is one of others, so reading it asks for no memory.

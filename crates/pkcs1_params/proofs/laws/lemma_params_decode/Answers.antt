@@ -1,8 +1,7 @@
 use Rattle.spki_core.proofs.Fielded.{record_decodes}
 use Rattle.spki_core.proofs.StrictFields.{strict_decodes}
-use Rattle.pkcs1_params.specs.Laws.Records.{oaep_record, pss_record}
-use Rattle.pkcs1_params.proofs.FaultsTell.{strict_tells}
-use Rattle.pkcs1_params.proofs.FirstDefault.{first_named}
+use Rattle.pkcs1_params.specs.Words.{oaep_record, pss_record}
+use Rattle.pkcs1_params.proofs.Faults.{strict_tells, first_named}
 use Rattle.pkcs1_params.proofs.laws.lemma_params_decode.Goals as goal
 
 pub returns : goal.returns

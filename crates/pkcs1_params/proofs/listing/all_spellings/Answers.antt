@@ -1,12 +1,9 @@
-use Rattle.std.proofs.Common.{ℕ, List, [], ◌≡◌, ◌<◌, ◌≤◌, ◌+◌, ◌-◌, ◌*◌, ◌%◌, ◌^◌, ◌∙◌, length, subst, sym, ap, inl, inr, arith}
-use Rattle.std.specs.Prelude.{slice_index_or}
-use Rattle.std.proofs.lemmas.Nat.{one_shl, pow_pos}
-use Rattle.std.proofs.lemmas.Result.{err_from_is_err_and}
-use Rattle.der_core.specs.Length.{limit}
-use Rattle.spki_core.specs.FieldSpellings.{FieldRecord, upto}
-use Rattle.spki_core.proofs.Fielded.{are_all, counted, counted_there, default_count, fits, full_longest, index_upto, made}
-use Rattle.spki_core.proofs.Fielded.{shortest_is}
-use Rattle.pkcs1_params.specs.Spellings.{Encoded}
+use Rattle.std.proofs.Common.{ℕ, List, [], ◌≡◌, ◌<◌, ◌≤◌, ◌+◌, ◌-◌, ◌*◌, ◌%◌, ◌^◌, ◌∙◌, length, subst, sym, ap, inl, inr, arith, slice_index_or, pow_pos}
+use Rattle.std.proofs.lemmas.Nat.{one_shl}
+use Rattle.der_core.specs.Words.{err_from_is_err_and, limit}
+use Rattle.spki_core.specs.Words.{FieldRecord, upto}
+use Rattle.spki_core.proofs.Fielded.{are_all, counted, counted_there, default_count, fits, full_longest, index_upto, made, shortest_is}
+use Rattle.pkcs1_params.specs.Words.{Encoded}
 use Rattle.pkcs1_params.proofs.Masks.{in_range}
 use Rattle.standard.specs.Statement.{AreAll, Defaults, Field, IsShortest, longest}
 use Rattle.pkcs1_params.proofs.listing.all_spellings.Goals as goal

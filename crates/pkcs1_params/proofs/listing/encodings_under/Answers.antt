@@ -1,8 +1,8 @@
 use Rattle.std.proofs.Common.{ℕ, List, [], ◌∷◌, ◌++◌, ◌<◌, ◌^◌, ◌∙◌, map, subst, sym, ap, inl, inr, arith}
 use Rattle.std.specs.Global.{Vec}
 use Rattle.std.proofs.lemmas.List.{map-append}
-use Rattle.std.proofs.lemmas.Result.{err_from_is_err_and}
-use Rattle.spki_core.specs.FieldSpellings.{upto}
+use Rattle.der_core.specs.Words.{err_from_is_err_and}
+use Rattle.spki_core.specs.Words.{upto}
 use Rattle.spki_core.proofs.Fielded.{counted, fits, made, upto_more}
 use Rattle.pkcs1_params.proofs.listing.encodings_under.Goals as goal
 

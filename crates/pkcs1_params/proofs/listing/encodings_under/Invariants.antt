@@ -1,6 +1,6 @@
-use Rattle.std.specs.Prelude.{◌≡◌}
-use Rattle.spki_core.specs.FieldSpellings.{record_under, spelled, upto}
-use Rattle.pkcs1_params.specs.Spellings.{encodings_in}
+use Rattle.std.proofs.Common.{◌≡◌}
+use Rattle.spki_core.specs.Words.{record_under, spelled, upto}
+use Rattle.pkcs1_params.specs.Words.{encodings_in}
 use Rattle.standard.specs.Statement.{sequence}
 use Rattle.pkcs1_params.proofs.listing.encodings_under.Given as goal
 

@@ -1,10 +1,7 @@
 use Rattle.std.proofs.Common.{[], ◌∷◌, ◌∙◌, List, Ok, true}
-use Rattle.spki_core.proofs.QuickFields.{NoneRefused, accepted, field_meant, field_spelled, record_found, there}
-use Rattle.spki_core.specs.AlgorithmValue.{viewed_with}
-use Rattle.spki_core.specs.AnyRefValue.{any_of}
-use Rattle.spki_core.specs.FieldSpellings.{Kind, Spelling}
-use Rattle.pkcs1_params.specs.Laws.Records.{oaep_record}
-use Rattle.pkcs1_params.specs.ParameterReadings.{hash_kind, mask_kind, oaep_kinds, of_oaep_fields, source_kind}
+use Rattle.spki_core.proofs.Readings.{NoneRefused, accepted, field_meant, field_spelled, record_found, there}
+use Rattle.spki_core.specs.Words.{viewed_with, any_of, Kind, Spelling}
+use Rattle.pkcs1_params.specs.Words.{oaep_record, hash_kind, mask_kind, oaep_kinds, of_oaep_fields, source_kind}
 use Rattle.pkcs1_params.proofs.quick.quick_oaep.Goals as goal
 
 pub returns : goal.returns

@@ -1,10 +1,7 @@
 use Rattle.std.proofs.Common.{[], ◌∷◌, ◌∙◌, List, Ok, refl}
-use Rattle.spki_core.proofs.QuickFields.{NoneRefused, accepted, field_meant, field_spelled, record_found, there}
-use Rattle.spki_core.specs.AlgorithmValue.{viewed_with}
-use Rattle.spki_core.specs.AnyRefValue.{any_of}
-use Rattle.spki_core.specs.FieldSpellings.{Kind, Spelling}
-use Rattle.pkcs1_params.specs.Laws.Records.{pss_record}
-use Rattle.pkcs1_params.specs.ParameterReadings.{hash_kind, mask_kind, of_pss_fields, pss_kinds, salt_kind, trailer_kind}
+use Rattle.spki_core.proofs.Readings.{NoneRefused, accepted, field_meant, field_spelled, record_found, there}
+use Rattle.spki_core.specs.Words.{viewed_with, any_of, Kind, Spelling}
+use Rattle.pkcs1_params.specs.Words.{pss_record, hash_kind, mask_kind, of_pss_fields, pss_kinds, salt_kind, trailer_kind}
 use Rattle.pkcs1_params.proofs.quick.quick_pss.Goals as goal
 
 pub returns : goal.returns

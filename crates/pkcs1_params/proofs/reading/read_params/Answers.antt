@@ -1,5 +1,5 @@
 use Rattle.std.proofs.Common.{arith, Ok}
-use Rattle.der_core.specs.Laws.Input.{are_bytes}
+use Rattle.der_core.specs.Words.{are_bytes}
 use Rattle.pkcs1_params.proofs.UsualParameters.{whole_decodes}
 use Rattle.pkcs1_params.proofs.reading.read_params.Goals as goal
 

@@ -1,5 +1,5 @@
 use Rattle.std.proofs.Common.{arith}
-use Rattle.der_core.specs.Laws.Input.{are_bytes}
+use Rattle.der_core.specs.Words.{are_bytes}
 use Rattle.pkcs1_params.proofs.UsualParameters.{shortest_decodes}
 use Rattle.pkcs1_params.proofs.reading.read_params_strict.Goals as goal
 

@@ -1,8 +1,7 @@
 use Rattle.std.proofs.Common.{arith, refl, Ok}
-use Rattle.std.proofs.lemmas.Result.{err_from_is_err_and}
-use Rattle.der_core.specs.Laws.Input.{are_bytes}
+use Rattle.der_core.specs.Words.{err_from_is_err_and, are_bytes}
 use Rattle.spki_core.proofs.StrictFields.{strict_errs}
-use Rattle.pkcs1_params.proofs.Errors.{asn1_as}
+use Rattle.pkcs1_params.proofs.Faults.{asn1_as}
 use Rattle.pkcs1_params.proofs.UsualParameters.{whole_decodes}
 use Rattle.pkcs1_params.proofs.reading.shortest_params.Goals as goal
 

@@ -1,6 +1,5 @@
 use Rattle.std.proofs.Common.{sym, subst, ap, ◌∙◌}
-use Rattle.spki_core.specs.FieldSpellings.{defaults_in}
-use Rattle.spki_core.specs.Laws.FieldSpellings.Steps.{defaults_same}
+use Rattle.spki_core.specs.Words.{defaults_in, defaults_same}
 use Rattle.spki_core.proofs.Fielded.{counted_there}
 use Rattle.standard.specs.Statement.{Defaults}
 use Rattle.pkcs1_params.proofs.spelling.count_defaults.Goals as goal

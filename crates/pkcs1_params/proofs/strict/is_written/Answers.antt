@@ -1,7 +1,7 @@
 use Rattle.std.proofs.Common.{◌∙◌, ap, sym}
 use Rattle.der_core.specs.declared.error.Error as der
 use Rattle.spki_core.proofs.StrictFields.{noncanonical_is}
-use Rattle.spki_core.specs.StrictFields.{number_in}
+use Rattle.spki_core.specs.Words.{number_in}
 use Rattle.pkcs1_params.proofs.strict.is_written.Goals as goal
 
 pub returns : goal.returns

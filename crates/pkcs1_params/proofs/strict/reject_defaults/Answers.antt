@@ -1,8 +1,8 @@
 use Rattle.std.proofs.Common.{arith, ap, sym, ◌∙◌}
-use Rattle.der_core.specs.Laws.Input.{are_bytes}
-use Rattle.spki_core.specs.StrictFields.{unless_found}
+use Rattle.der_core.specs.Words.{are_bytes}
+use Rattle.spki_core.specs.Words.{unless_found}
 use Rattle.spki_core.proofs.StrictFields.{strict_walks}
-use Rattle.pkcs1_params.proofs.FaultsTold.{told_as}
+use Rattle.pkcs1_params.proofs.Faults.{told_as}
 use Rattle.pkcs1_params.proofs.strict.reject_defaults.Goals as goal
 
 pub returns-in-Some : goal.returns-in-Some

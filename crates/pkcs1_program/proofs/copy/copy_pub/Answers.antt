@@ -1,8 +1,8 @@
 use Rattle.std.proofs.Common.{sym, List, ℕ}
 use Rattle.std.specs.Path.{path_bytes}
-use Rattle.der_core.specs.Files.{FileRefuses}
+use Rattle.der_core.specs.Words.{FileRefuses}
 use Rattle.standard.specs.Statement.{PublicKeyEncoding}
-use Rattle.pkcs1.specs.KeyReadings.{rsa_public_key}
+use Rattle.pkcs1.specs.Words.{rsa_public_key}
 use Rattle.pkcs1_program.proofs.Copies.{not_copied}
 use Rattle.pkcs1_program.proofs.copy.copy_pub.Goals as goal
 

@@ -1,7 +1,6 @@
 use Rattle.std.proofs.Common.{rules}
-use Rattle.std.proofs.lemmas.Result.{err_from_is_err_and}
-use Rattle.pkcs1.specs.Held.{held_view}
-use Rattle.pkcs1.specs.KeyReadings.{rsa_private_key}
+use Rattle.der_core.specs.Words.{err_from_is_err_and}
+use Rattle.pkcs1.specs.Words.{held_view, rsa_private_key}
 use Rattle.standard.specs.Statement.{PrivateKeyEncoding}
 use Rattle.pkcs1_program.proofs.Copies.{no_key, some_key}
 use Rattle.pkcs1_program.proofs.copy.read_private_key.Goals as goal

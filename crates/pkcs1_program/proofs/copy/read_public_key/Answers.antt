@@ -1,6 +1,6 @@
 use Rattle.std.proofs.Common.{rules}
-use Rattle.der_core.specs.UintRefValue.{bytes_of}
-use Rattle.pkcs1.specs.Held.{held_public_key}
+use Rattle.der_core.specs.Words.{bytes_of}
+use Rattle.pkcs1.specs.Words.{held_public_key}
 use Rattle.standard.specs.Statement.{PublicKeyEncoding}
 use Rattle.pkcs1_program.proofs.Copies.{some_key}
 use Rattle.pkcs1_program.proofs.copy.read_public_key.Goals as goal

@@ -1,5 +1,5 @@
 use Rattle.std.proofs.Common.{[], sym, ap, append-nil, Err}
-use Rattle.pkcs1_program.specs.Lines.{lines_of}
+use Rattle.pkcs1_program.specs.Words.{lines_of}
 use Rattle.pkcs1_program.proofs.Runs.{Makes-front}
 use Rattle.pkcs1_program.proofs.filter.answer_input.Goals as goal
 

@@ -1,6 +1,5 @@
 use Rattle.std.proofs.Common.{◌≡◌, ◌≤◌, ℕ, ◌++◌, List, length}
-use Rattle.pkcs1_program.specs.Written.{Makes}
-use Rattle.pkcs1_program.specs.Lines.{lines_of}
+use Rattle.pkcs1_program.specs.Words.{Makes, lines_of}
 use Rattle.pkcs1_program.proofs.filter.answer_lines.Given as goal
 
 -- the lines whose output was made, with those that are left, are all lines

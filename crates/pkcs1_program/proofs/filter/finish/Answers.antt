@@ -1,7 +1,7 @@
 use Rattle.std.proofs.Common.{length, refl}
 use Rattle.std.proofs.KnownBytes.{Appends-kept}
 use Rattle.std.proofs.Math.Seq.{take-length}
-use Rattle.der_core.proofs.SourceMoves.{OneFailed-after}
+use Rattle.der_core.proofs.Documents.{OneFailed-after}
 use Rattle.pkcs1_program.proofs.filter.finish.Goals as goal
 
 pub returns-in-Err-clause-written : goal.returns-in-Err-clause-written

@@ -1,6 +1,5 @@
 use Rattle.std.proofs.KnownBytes.{Consumes-whole}
-use Rattle.pkcs1_program.specs.Lines.{lines_of}
-use Rattle.pkcs1_program.specs.Written.{WritesFrontOfAll}
+use Rattle.pkcs1_program.specs.Words.{lines_of, WritesFrontOfAll}
 use Rattle.pkcs1_program.proofs.Runs.{WritesFront-all}
 use Rattle.pkcs1_program.proofs.filter.run.Goals as goal
 

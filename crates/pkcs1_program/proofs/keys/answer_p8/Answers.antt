@@ -1,7 +1,7 @@
 use Rattle.std.proofs.Common.{refl}
-use Rattle.pkcs1.specs.Held.{held_view}
-use Rattle.pkcs8_core.specs.ContainerValue.{info_of}
-use Rattle.pkcs1_program.specs.Answer.{RsaContainerEncoding}
+use Rattle.pkcs1.specs.Words.{held_view}
+use Rattle.pkcs8_core.specs.Words.{info_of}
+use Rattle.pkcs1_program.specs.Words.{RsaContainerEncoding}
 use Rattle.pkcs1_program.proofs.PutBehind.{told}
 use Rattle.pkcs1_program.proofs.keys.answer_p8.Goals as goal
 

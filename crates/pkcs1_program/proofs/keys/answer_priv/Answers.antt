@@ -1,7 +1,7 @@
-use Rattle.pkcs1.proofs.OneKey.{private_one}
-use Rattle.pkcs1.specs.Held.{held_view}
+use Rattle.pkcs1.proofs.KeyReads.{private_one}
+use Rattle.pkcs1.specs.Words.{held_view}
 use Rattle.standard.specs.Statement.{PrivateKeyEncoding}
-use Rattle.pkcs1_program.specs.Told.{priv_answer}
+use Rattle.pkcs1_program.specs.Words.{priv_answer}
 use Rattle.pkcs1_program.proofs.PutBehind.{key_told, refused}
 use Rattle.pkcs1_program.proofs.keys.answer_priv.Goals as goal
 

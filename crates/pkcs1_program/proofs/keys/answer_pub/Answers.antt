@@ -1,8 +1,8 @@
-use Rattle.der_core.specs.UintRefValue.{bytes_of}
-use Rattle.pkcs1.proofs.OneKey.{public_one}
-use Rattle.pkcs1.specs.Held.{held_public_key}
+use Rattle.der_core.specs.Words.{bytes_of}
+use Rattle.pkcs1.proofs.KeyReads.{public_one}
+use Rattle.pkcs1.specs.Words.{held_public_key}
 use Rattle.standard.specs.Statement.{PublicKeyEncoding}
-use Rattle.pkcs1_program.specs.Told.{pub_answer}
+use Rattle.pkcs1_program.specs.Words.{pub_answer}
 use Rattle.pkcs1_program.proofs.PutBehind.{key_told, refused}
 use Rattle.pkcs1_program.proofs.keys.answer_pub.Goals as goal
 

@@ -1,8 +1,8 @@
 use Rattle.std.proofs.Common.{◌++◌, ◌∙◌, ap}
-use Rattle.der_core.specs.UintRefValue.{bytes_of}
-use Rattle.pkcs1.specs.Held.{number_in}
+use Rattle.der_core.specs.Words.{bytes_of}
+use Rattle.pkcs1.specs.Words.{number_in}
 use Rattle.standard.specs.Statement.{octets}
-use Rattle.pkcs1_program.specs.Told.{field}
+use Rattle.pkcs1_program.specs.Words.{field}
 use Rattle.pkcs1_program.proofs.PutBehind.{item_put, octets_held}
 use Rattle.pkcs1_program.proofs.keys.put_numbers.Goals as goal
 

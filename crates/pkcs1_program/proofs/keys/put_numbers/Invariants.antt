@@ -1,9 +1,8 @@
-use Rattle.std.proofs.Common.{◌≡◌, ◌++◌, take}
-use Rattle.std.specs.List.{flat_map}
-use Rattle.der_core.specs.UintRefValue.{bytes_of}
-use Rattle.pkcs1.specs.Held.{number_in}
+use Rattle.std.proofs.Common.{◌≡◌, ◌++◌, take, flat_map}
+use Rattle.der_core.specs.Words.{bytes_of}
+use Rattle.pkcs1.specs.Words.{number_in}
 use Rattle.standard.specs.Statement.{octets}
-use Rattle.pkcs1_program.specs.Told.{field}
+use Rattle.pkcs1_program.specs.Words.{field}
 use Rattle.pkcs1_program.proofs.keys.put_numbers.Given as goal
 
 -- so many of the numbers were put

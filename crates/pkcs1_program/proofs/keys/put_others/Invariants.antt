@@ -1,8 +1,6 @@
-use Rattle.std.proofs.Common.{◌≡◌, ◌++◌}
-use Rattle.std.specs.List.{flat_map}
-use Rattle.pkcs1.specs.Held.{held_other_primes, held_view}
-use Rattle.pkcs1.specs.ViewParts.{listed_others}
-use Rattle.pkcs1_program.specs.Told.{other_told}
+use Rattle.std.proofs.Common.{◌≡◌, ◌++◌, flat_map}
+use Rattle.pkcs1.specs.Words.{held_other_primes, held_view, listed_others}
+use Rattle.pkcs1_program.specs.Words.{other_told}
 use Rattle.pkcs1_program.proofs.keys.put_others.Given as goal
 
 -- what was put, and what is left, are the primes

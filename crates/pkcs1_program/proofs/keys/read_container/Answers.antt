@@ -1,5 +1,5 @@
 use Rattle.std.proofs.Common.{subst}
-use Rattle.pkcs8_core.specs.Rsa.{ContainedKey}
+use Rattle.pkcs8_core.specs.Words.{ContainedKey}
 use Rattle.pkcs1_program.proofs.keys.read_container.Goals as goal
 
 pub returns-in-Err-clause-none : goal.returns-in-Err-clause-none

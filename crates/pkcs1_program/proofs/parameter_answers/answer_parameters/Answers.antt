@@ -1,5 +1,5 @@
 use Rattle.std.proofs.Common.{refl}
-use Rattle.pkcs1_params.specs.Spellings.{Encoded}
+use Rattle.pkcs1_params.specs.Words.{Encoded}
 use Rattle.pkcs1_program.proofs.PutBehind.{told}
 use Rattle.pkcs1_program.proofs.parameter_answers.answer_parameters.Goals as goal
 

@@ -1,9 +1,8 @@
-use Rattle.std.proofs.Common.{◌≡◌, inr, sym, ◌∙◌}
-use Rattle.std.specs.Prelude.{IsTrue, ◌↔◌}
+use Rattle.std.proofs.Common.{◌≡◌, inr, sym, ◌∙◌, IsTrue, ◌↔◌}
 use Rattle.std.proofs.lemmas.Result.{on_ok_weaker}
 use Rattle.std.proofs.lemmas.Slice.Eq.{bytes_eq-Decides}
-use Rattle.pkcs1_params.proofs.Same.{record_delimited, same_by_shortest}
-use Rattle.pkcs1_params.specs.Spellings.{Encoded}
+use Rattle.pkcs1_params.proofs.Masks.{record_delimited, same_by_shortest}
+use Rattle.pkcs1_params.specs.Words.{Encoded}
 use Rattle.pkcs1_program.proofs.Verdicts.{said, says}
 use Rattle.pkcs1_program.proofs.parameter_answers.answer_same.Goals as goal
 

@@ -1,4 +1,4 @@
-use Rattle.pkcs1_params.specs.Spellings.{Encoded}
+use Rattle.pkcs1_params.specs.Words.{Encoded}
 use Rattle.pkcs1_program.proofs.PutBehind.{told}
 use Rattle.pkcs1_program.proofs.Verdicts.{own_shortest, says}
 use Rattle.pkcs1_program.proofs.parameter_answers.answer_strict.Goals as goal

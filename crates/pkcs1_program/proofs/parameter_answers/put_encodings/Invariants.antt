@@ -1,7 +1,5 @@
-use Rattle.std.proofs.Common.{◌≡◌, ◌++◌, take}
-use Rattle.std.specs.Prelude.{codes}
-use Rattle.std.specs.List.{flat_map}
-use Rattle.pkcs1_program.specs.Told.{field}
+use Rattle.std.proofs.Common.{◌≡◌, ◌++◌, take, codes, flat_map}
+use Rattle.pkcs1_program.specs.Words.{field}
 use Rattle.pkcs1_program.proofs.parameter_answers.put_encodings.Given as goal
 
 -- so many of the encodings were put

@@ -1,5 +1,5 @@
 use Rattle.std.proofs.Common.{◌≡◌, drop, map}
-use Rattle.pkcs1_program.specs.Request.{named}
+use Rattle.pkcs1_program.specs.Words.{named}
 use Rattle.pkcs1_program.proofs.request.find_named.Given as goal
 
 -- the rows so far have other names

@@ -1,7 +1,6 @@
-use Rattle.std.proofs.Common.{◌≡◌, sym, subst}
-use Rattle.std.specs.Prelude.{IfOk}
-use Rattle.pkcs1_program.specs.RequestValue.{seen}
-use Rattle.pkcs1_program.proofs.Requests.{asks_one, asks_two}
+use Rattle.std.proofs.Common.{◌≡◌, sym, subst, IfOk}
+use Rattle.pkcs1_program.specs.Words.{seen}
+use Rattle.pkcs1_program.proofs.Runs.{asks_one, asks_two}
 use Rattle.pkcs1_program.proofs.request.request_of.Goals as goal
 
 pub returns-in-Some-word_of : goal.returns-in-Some-word_of

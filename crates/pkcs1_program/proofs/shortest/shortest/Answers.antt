@@ -1,7 +1,6 @@
-use Rattle.der_core.specs.Printed.{Spells}
-use Rattle.der_core.specs.Writing.{encode_error}
-use Rattle.pkcs1_params.proofs.Written.{shortest_as}
-use Rattle.pkcs1_params.specs.Spellings.{Encoded}
+use Rattle.der_core.specs.Words.{Spells, encode_error}
+use Rattle.pkcs1_params.proofs.Masks.{shortest_as}
+use Rattle.pkcs1_params.specs.Words.{Encoded}
 use Rattle.pkcs1_program.proofs.Verdicts.{is_written}
 use Rattle.pkcs1_program.proofs.shortest.shortest.Goals as goal
 

@@ -1,5 +1,5 @@
 use Rattle.std.proofs.Common.{Ok, Err}
-use Rattle.pkcs1_params.proofs.FaultsTold.{no_fault}
+use Rattle.pkcs1_params.proofs.Faults.{no_fault}
 use Rattle.standard.specs.Statement.{Container, ContainerEncoding}
 use Rattle.pkcs8_core.proofs.faults.fault_of_private_key_info.Goals as goal
 

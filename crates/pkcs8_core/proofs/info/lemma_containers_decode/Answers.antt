@@ -1,5 +1,5 @@
 use Rattle.pkcs8_core.proofs.ContainedKeys.{contained_keys_decode}
-use Rattle.pkcs8_core.specs.Laws.PrintedContainers.{containers_decode}
+use Rattle.pkcs8_core.specs.Words.{containers_decode}
 use Rattle.pkcs8_core.proofs.info.lemma_containers_decode.Goals as goal
 
 pub returns-clause-container : goal.returns-clause-container

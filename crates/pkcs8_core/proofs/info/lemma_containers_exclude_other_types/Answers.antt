@@ -1,4 +1,4 @@
-use Rattle.pkcs8_core.proofs.Exclusion as exclusion
+use Rattle.pkcs8_core.proofs.ContainedKeys as exclusion
 use Rattle.pkcs8_core.proofs.info.lemma_containers_exclude_other_types.Goals as goal
 
 pub returns-clause-public_key : goal.returns-clause-public_key

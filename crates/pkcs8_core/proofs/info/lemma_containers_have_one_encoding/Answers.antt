@@ -1,6 +1,6 @@
-use Rattle.pkcs1_params.proofs.Same.{same_by_shortest}
+use Rattle.pkcs1_params.proofs.Masks.{same_by_shortest}
 use Rattle.pkcs8_core.proofs.ContainedKeys.{containers_delimited}
-use Rattle.pkcs8_core.specs.Laws.PrintedContainers.{containers_have_one}
+use Rattle.pkcs8_core.specs.Words.{containers_have_one}
 use Rattle.pkcs8_core.proofs.info.lemma_containers_have_one_encoding.Goals as goal
 use Rattle.standard.specs.Statement.{ContainerEncoding}
 

@@ -1,11 +1,8 @@
-use Rattle.std.proofs.Common.{◌∙◌, sym, ap, Err}
-use Rattle.std.specs.Option.{option_map}
-use Rattle.std.specs.Str.{bytes_eq}
+use Rattle.std.proofs.Common.{◌∙◌, sym, ap, Err, option_map, bytes_eq}
 use Rattle.der_core.specs.declared.error.Error.{Error}
-use Rattle.spki_core.specs.AlgorithmValue.{algorithm_in}
-use Rattle.spki_core.specs.AnyRefValue.{any_of}
-use Rattle.pkcs1_params.specs.Parameters.{id_rsa_encryption}
-use Rattle.pkcs8_core.proofs.RsaOnly.{rsa_other}
+use Rattle.spki_core.specs.Words.{algorithm_in, any_of}
+use Rattle.pkcs1_params.specs.Words.{id_rsa_encryption}
+use Rattle.pkcs8_core.proofs.ContainedKeys.{rsa_other}
 use Rattle.pkcs8_core.proofs.rsa.require_rsa.Goals as goal
 
 pub returns-else-is_alone-clause-exact : goal.returns-else-is_alone-clause-exact

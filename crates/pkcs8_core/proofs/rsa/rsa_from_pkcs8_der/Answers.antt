@@ -1,13 +1,12 @@
 use Rattle.std.proofs.Common.{arith, refl, rules}
-use Rattle.der_core.specs.Laws.Input.{are_bytes}
-use Rattle.spki_core.specs.ObjectIdentifierValue.{octets_of}
-use Rattle.pkcs1.proofs.Decoded.{decoded}
-use Rattle.pkcs1.specs.Held.{held_view}
-use Rattle.pkcs1_params.proofs.FaultsTold.{errs_behind}
-use Rattle.pkcs1_params.specs.Meanings.{ErrsAs}
+use Rattle.der_core.specs.Words.{are_bytes}
+use Rattle.spki_core.specs.Words.{octets_of}
+use Rattle.pkcs1.proofs.KeyReads.{decoded}
+use Rattle.pkcs1.specs.Words.{held_view}
+use Rattle.pkcs1_params.proofs.Faults.{errs_behind}
+use Rattle.pkcs1_params.specs.Words.{ErrsAs}
 use Rattle.pkcs8_core.proofs.ContainedKeys.{contained_keys_decode, viewed_in}
-use Rattle.pkcs8_core.specs.ContainerReadings.{private_key_info, rsa_held, rsa_private_key_info}
-use Rattle.pkcs8_core.specs.ContainerValue.{info_in}
+use Rattle.pkcs8_core.specs.Words.{private_key_info, rsa_held, rsa_private_key_info, info_in}
 use Rattle.standard.specs.Statement.{ContainedKeyEncoding}
 use Rattle.pkcs8_core.proofs.rsa.rsa_from_pkcs8_der.Goals as goal
 

@@ -1,13 +1,6 @@
 use Rattle.std.proofs.Common.{◌≡◌, ℕ, List, [], ◌++◌, ◌≤◌, length, refl, sym, subst, ap, ◌∙◌, arith, append-nil}
-use Rattle.der_core.specs.Encodings.{Is}
-use Rattle.der_core.specs.Laws.Encodings.{tlv_split}
-use Rattle.der_core.specs.Laws.Printed.Leaves.{tlv_made}
-use Rattle.der_core.specs.Laws.Printed.Rows.{prints_one, tagged_law}
-use Rattle.der_core.specs.Laws.ShortEncodings.{tlv_short}
-use Rattle.der_core.specs.Tags.{object_identifier}
-use Rattle.der_core.specs.Tlv.{Tlv, tlv}
-use Rattle.spki_core.specs.Allocating.{AlgorithmAllocates, NothingAskedAlone}
-use Rattle.spki_core.specs.Laws.Printed.Readings.{oid_law}
+use Rattle.der_core.specs.Words.{Is, tlv_split, tlv_made, prints_one, tagged_law, tlv_short, object_identifier, Tlv, tlv}
+use Rattle.spki_core.specs.Words.{AlgorithmAllocates, NothingAskedAlone, oid_law}
 use Rattle.spki_core.proofs.algorithm_identifier.lemma_identifier_alone_takes_no_memory.Goals as goal
 
 none_alone : (may_allocate : List ℕ → Type 0) → NothingAskedAlone (AlgorithmAllocates may_allocate)

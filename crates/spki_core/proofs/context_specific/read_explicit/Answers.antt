@@ -1,4 +1,4 @@
-use Rattle.der_core.specs.Reading.{AllocatesIn}
+use Rattle.der_core.specs.Words.{AllocatesIn}
 use Rattle.spki_core.proofs.Readings.{reads_at_tag}
 use Rattle.spki_core.proofs.context_specific.read_explicit.Goals as goal
 

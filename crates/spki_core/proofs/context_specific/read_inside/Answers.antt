@@ -1,6 +1,6 @@
 use Rattle.std.proofs.Common.{◌≡◌, refl, ◌∙◌}
 use Rattle.der_core.proofs.ReadSteps.{ne_true, ne_false, tag_fails, value_fails}
-use Rattle.der_core.specs.Readings.{alone}
+use Rattle.der_core.specs.Words.{alone}
 use Rattle.spki_core.proofs.context_specific.read_inside.Goals as goal
 
 pub returns-then-ne : goal.returns-then-ne

@@ -1,10 +1,7 @@
 use Rattle.std.proofs.Common.{ℕ, ◌≤◌, refl}
 use Rattle.der_core.specs.declared.tag.Tag.{Tag}
-use Rattle.der_core.specs.Laws.OptionalReadings.{front_next, optional_reads}
-use Rattle.der_core.specs.Laws.Printed.Values.{reads_front}
-use Rattle.der_core.specs.Tag.{context_tag}
-use Rattle.spki_core.specs.Laws.ContextSpecific.{number_allowed}
-use Rattle.spki_core.specs.Laws.Readings.{defaulted_gives, defaulted_takes, defaulted_tells, explicit_reads}
+use Rattle.der_core.specs.Words.{front_next, optional_reads, reads_front, context_tag}
+use Rattle.spki_core.specs.Words.{number_allowed, defaulted_gives, defaulted_takes, defaulted_tells, explicit_reads}
 use Rattle.spki_core.proofs.field.lemma_fields_are_read.Goals as goal
 
 abbrev tag_of : (n : ℕ) → n ≤ 30 → Tag

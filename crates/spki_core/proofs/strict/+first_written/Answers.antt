@@ -1,9 +1,7 @@
 use Rattle.std.proofs.Common.{arith, rules, ◌≡◌, length, sym}
-use Rattle.std.proofs.lemmas.Bool.Decides.{nat_tests}
+use Rattle.der_core.specs.Words.{nat_tests, are_bytes, behind_within}
 use Rattle.std.proofs.lemmas.List.{nil_from_length}
-use Rattle.der_core.specs.Laws.Input.{are_bytes}
-use Rattle.der_core.specs.Laws.Readings.{behind_within}
-use Rattle.spki_core.specs.Laws.Readings.{any_reads}
+use Rattle.spki_core.specs.Words.{any_reads}
 use Rattle.spki_core.proofs.StrictFields.{walked_end}
 use Rattle.spki_core.proofs.strict.+first_written.Goals as goal
 

@@ -1,12 +1,9 @@
 -- Masks number the spellings of a value: the shortest is under mask 0, and there are two to the number of defaults.
-use Rattle.std.proofs.Common.{ℕ, suc, List, [], ◌∷◌, ◌++◌, ◌≡◌, ◌<◌, ◌≤◌, ◌+◌, ◌*◌, ◌^◌, length, map, refl, sym}
-use Rattle.std.proofs.Common.{ap, ◌∙◌, arith, inl, inr, true, false, Bool, Some, None, length-append, ◌==◌}
-use Rattle.std.proofs.lemmas.Bool.Decides.{nat_tests}
+use Rattle.std.proofs.Common.{ℕ, suc, List, [], ◌∷◌, ◌++◌, ◌≡◌, ◌<◌, ◌≤◌, ◌+◌, ◌*◌, ◌^◌, length, map, refl, sym, ap, ◌∙◌, arith, inl, inr, true, false, Bool, Some, None, length-append, ◌==◌, ◌%◌, ◌/◌, if◌then◌else◌}
+use Rattle.der_core.specs.Words.{nat_tests}
 use Rattle.std.proofs.Math.Nat.{pow-suc}
 use Rattle.std.specs.List.{concat}
-use Rattle.std.specs.Prelude.{◌%◌, ◌/◌, if◌then◌else◌}
-use Rattle.spki_core.specs.FieldSpellings.{AreLawful, AreSpelled, AreValid, Kind, Spelling, Values, bit, defaults, fields_of}
-use Rattle.spki_core.specs.FieldSpellings.{mask_here, mask_of, meant, one_spelled, or_default, spelled, under}
+use Rattle.spki_core.specs.FieldSpellings.{AreLawful, AreSpelled, AreValid, Kind, Spelling, Values, bit, defaults, fields_of, mask_here, mask_of, meant, one_spelled, or_default, spelled, under}
 use Rattle.standard.specs.Statement.{Defaults, Field, FieldsUnder, IfPresent}
 
 two_pow : (d : ℕ) → 2 ^ (d + 1) ≡ 2 ^ d * 2

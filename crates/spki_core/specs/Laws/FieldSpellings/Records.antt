@@ -1,17 +1,10 @@
 -- The laws of a record that holds the values of fields: what reads it, and what is written of it.
 use Rattle.std.proofs.Common.{ℕ, List, sym, subst, ap, ◌∙◌}
 use Rattle.std.proofs.Math.Path.{subst₂}
-use Rattle.der_core.specs.Laws.Printed.Rows.{tagged_law}
-use Rattle.der_core.specs.Laws.Printed.Shortest.{joined_shortest}
-use Rattle.der_core.specs.Laws.Printed.Values.{reads}
-use Rattle.der_core.specs.Printed.{Prints, ReadsAlike, ReadsFrontPrinted, ReadsPrinted, Spells, WritesShortest}
-use Rattle.der_core.specs.Readings.{ReadsContents, tagged}
+use Rattle.der_core.specs.Words.{tagged_law, joined_shortest, reads, Prints, ReadsAlike, ReadsFrontPrinted, ReadsPrinted, Spells, WritesShortest, ReadsContents, tagged}
 use Rattle.der_core.specs.Tags as tags
-use Rattle.spki_core.specs.FieldSpellings.{AreSpelled, AreValid, FieldRecord, fields_of, meant, record_means}
-use Rattle.spki_core.specs.FieldSpellings.{record_read, record_under, spelled, spelling_read}
-use Rattle.spki_core.specs.Laws.FieldSpellings.SameReading.{fields_alike}
-use Rattle.spki_core.specs.Laws.FieldSpellings.Shortest.{fields_shortest}
-use Rattle.spki_core.specs.Laws.FieldSpellings.Spellings.{fields_spelled, spelled_fields, spelled_valid, spellings_law}
+use Rattle.spki_core.specs.FieldSpellings.{AreSpelled, AreValid, FieldRecord, fields_of, meant, record_means, record_read, record_under, spelled, spelling_read}
+use Rattle.spki_core.specs.Laws.FieldSpellings.Shortest.{fields_alike, fields_shortest, fields_spelled, spelled_fields, spelled_valid, spellings_law}
 use Rattle.standard.specs.Statement.{Field, Fields, SequenceOf, sequence}
 
 module _ {V : Type 0} {Is : V → Type 0} {fields : V → List Field} (r : FieldRecord Is fields) where

@@ -1,10 +1,53 @@
--- The shortest spelling of fields with defaults leaves each default out.
-use Rattle.std.proofs.Common.{ℕ, ◌+◌, List, [], ◌∷◌, ◌++◌, ◌≡◌, ◌<◌, ◌⊎◌, length, ap, arith, inl, inr, refl, true, false}
-use Rattle.std.proofs.Common.{Bool, Some, None, length-append}
-use Rattle.der_core.specs.Printed.{WritesShortest}
-use Rattle.spki_core.specs.FieldSpellings.{AreLawful, AreSpelled, Kind, Spelling, meant, one_spelled, spelled, under}
+-- Spellings of fields with defaults: how they are read, what they mean, which is the shortest, what stands under a
+-- mask.
+use Rattle.std.proofs.Common.{ℕ, List, [], ◌∷◌, ◌++◌, ◌≡◌, ◌<◌, ◌+◌, refl, sym, ap, ◌∙◌, arith, false, inl, inr, Some, None, ◌⊎◌, length, true, Bool, length-append, ◌/◌, ◌%◌, ◌==◌, if◌then◌else◌, Option, Result, Ok, Err}
+use Rattle.der_core.specs.Words.{nat_tests, optional_row_law, alone_law, end_law, tagged_law, ReadsPrinted, is_next, WritesShortest, ReadsAlike, alone, made, tagged, ◌>>=◌}
+use Rattle.spki_core.specs.FieldSpellings.{AreLawful, AreSpelled, AreValid, Kind, Spelling, Values, fields_of, meant, one_spelled, spelled, spelling_read, tag_of, under, defaults, defaults_in, fields_with, octets_under, out_under, rest_under, or_default, values_read}
+use Rattle.standard.specs.Statement.{Fields}
 use Rattle.spki_core.specs.Laws.FieldSpellings.Masks.{Step, under_means, under_valid}
-use Rattle.spki_core.specs.Laws.FieldSpellings.Spellings.{spelled_valid}
+use Rattle.der_core.specs.declared.error.ErrorKind.{ErrorKind}
+use Rattle.der_core.specs.Laws.Printed.Items.{joined}
+use Rattle.spki_core.specs.Laws.Readings.{explicit_is}
+use Rattle.spki_core.specs.Readings.{explicit}
+
+pub not_next : (ks : List Kind) (n m : ℕ) → m < n → AreLawful n ks → (s : Spelling ks)
+    → is_next (160 + m) (spelled ks s) ≡ false
+not_next [] n m less law s = refl
+not_next (k ∷ ks) n m less law (None, s) = not_next ks (k.number + 1) m (omega (arith, less, law.0)) law.4 s
+not_next (k ∷ ks) n m less law (Some v, s) =
+    let other : m < k.number = omega (arith, less, law.0) in grind (arith, nat_tests, other)
+
+pub spellings_law : (ks : List Kind) (n : ℕ) → AreLawful n ks
+    → ReadsPrinted (AreSpelled ks) (spelled ks) (spelling_read ks)
+spellings_law [] n law = end_law
+spellings_law (k ∷ ks) n law =
+    optional_row_law (tagged_law (alone_law law.1) (tag_of k)) (spellings_law ks (k.number + 1) law.4)
+    (160 + k.number) (λ v x. grind (arith, nat_tests))
+    (λ w ok. not_next ks (k.number + 1) k.number (omega arith) law.4 w)
+
+-- Spellings are what the standard calls fields.
+pub spelled_fields : (ks : List Kind) (s : Spelling ks) → Fields (fields_of ks (meant ks s)) (spelled ks s)
+spelled_fields [] s = refl
+spelled_fields (k ∷ ks) (None, s) = inl (refl, spelled_fields ks s)
+spelled_fields (k ∷ ks) (Some v, s) = inr (spelled ks s, refl, spelled_fields ks s)
+
+pub spelled_valid : (ks : List Kind) (n : ℕ) → AreLawful n ks → (s : Spelling ks) → AreSpelled ks s
+    → AreValid ks (meant ks s)
+spelled_valid [] n law s ok = tt
+spelled_valid (k ∷ ks) n law (None, s) ok = (law.3, spelled_valid ks (k.number + 1) law.4 s ok.1)
+spelled_valid (k ∷ ks) n law (Some v, s) ok = (ok.0, spelled_valid ks (k.number + 1) law.4 s ok.1)
+
+pub fields_spelled : (ks : List Kind) (v : Values ks) (c : List ℕ) → Fields (fields_of ks v) c
+    → (s : Spelling ks) × (meant ks s ≡ v) × (c ≡ spelled ks s) × (AreValid ks v → AreSpelled ks s)
+fields_spelled [] v c p = (tt, refl, p, λ ok. tt)
+fields_spelled (k ∷ ks) (x, v) c (inl (d, p)) =
+    let (s, e, is, ok) = fields_spelled ks v c p in
+    ((None, s), (λ i. (sym d i, e i)), is, λ valid. (tt, ok valid.1))
+fields_spelled (k ∷ ks) (x, v) c (inr (later, is, p)) =
+    let (s, e, same, ok) = fields_spelled ks v later p in
+    ((Some x, s), (λ i. (x, e i)), is ∙ ap (λ z. one_spelled k x ++ z) same, λ valid. (valid.0, ok valid.1))
+
+-- The shortest spelling of fields with defaults leaves each default out.
 
 -- Any spelling of the value is the one under mask 0, or longer.
 pub shortest_first : (ks : List Kind) (n : ℕ) → AreLawful n ks → (s : Spelling ks)
@@ -41,4 +84,72 @@ fields_shortest ks law = record {
   back = under_means ks 0 law 0;
   valid = λ s ok. under_valid ks 0 (meant ks s) (spelled_valid ks 0 law s ok);
   least = λ s ok few. shortest_first ks 0 law s;
+}
+
+-- Fields as they are written, whatever their kinds are: what stands under a mask, and how many have their defaults.
+pub octets_spelled : (ks : List Kind) (mask : ℕ) (v : Values ks)
+    → octets_under mask (fields_with ks v) ≡ spelled ks (under ks mask v)
+octets_spelled [] mask v = refl
+octets_spelled (k ∷ ks) mask (x, v) = go (λ m. octets_spelled ks m v) (k.is_default x)
+  where
+    go : ((m : ℕ) → octets_under m (fields_with ks v) ≡ spelled ks (under ks m v)) → (b : Bool)
+        → (if out_under b mask then [] else one_spelled k x) ++ octets_under (rest_under b mask) (fields_with ks v)
+        ≡ spelled (k ∷ ks) (Step k ks x v b mask)
+    go later false = ap (λ z. one_spelled k x ++ z) (later mask)
+    go later true = here (mask % 2 == 0) (later (mask / 2))
+      where
+        here : (e : Bool) → octets_under (mask / 2) (fields_with ks v) ≡ spelled ks (under ks (mask / 2) v)
+            → (if e then [] else one_spelled k x) ++ octets_under (mask / 2) (fields_with ks v)
+            ≡ spelled (k ∷ ks) ((if e then None else Some x), under ks (mask / 2) v)
+        here true is = is
+        here false is = ap (λ z. one_spelled k x ++ z) is
+
+pub defaults_same : (ks : List Kind) (v : Values ks) → defaults_in (fields_with ks v) ≡ defaults ks v
+defaults_same [] v = refl
+defaults_same (k ∷ ks) (x, v) = ap (λ n. if k.is_default x then n + 1 else n) (defaults_same ks v)
+
+-- Spellings of fields are read as the values that they mean, with the same faults.
+module _ (k : Kind) (ks : List Kind) (all : (c : List ℕ) → made (meant ks) (spelling_read ks) c ≡ values_read ks c) where
+  behind : (r : Result (Spelling ks) ErrorKind) (o : Option k.Value)
+      → ((r >>= λ y. let s : Spelling (k ∷ ks) = (o, y) in Ok s) >>= λ s. Ok (meant (k ∷ ks) s))
+      ≡ ((r >>= λ s. Ok (meant ks s)) >>= λ y. let v : Values (k ∷ ks) = (or_default k.default o, y) in Ok v)
+  behind (Ok s) o = refl
+  behind (Err e) o = refl
+
+  there : (r : Result (k.Value × List ℕ) ErrorKind)
+      → (((r >>= λ p. let q : Option k.Value × List ℕ = (Some p.0, p.1) in Ok q)
+      >>= λ p. spelling_read ks p.1 >>= λ y. let s : Spelling (k ∷ ks) = (p.0, y) in Ok s)
+      >>= λ s. Ok (meant (k ∷ ks) s))
+      ≡ (r >>= λ p. values_read ks p.1 >>= λ y. let v : Values (k ∷ ks) = (p.0, y) in Ok v)
+  there (Ok p) =
+      behind (spelling_read ks p.1) (Some p.0)
+      ∙ ap (λ r. r >>= λ y. let v : Values (k ∷ ks) = (p.0, y) in Ok v) (all p.1)
+  there (Err e) = refl
+
+  step : (c : List ℕ) (b : Bool)
+      → (((if b then (tagged (tag_of k) (alone k.at) c >>= λ p. let q : Option k.Value × List ℕ = (Some p.0, p.1) in Ok q)
+      else Ok (None, c)) >>= λ p. spelling_read ks p.1 >>= λ y. let s : Spelling (k ∷ ks) = (p.0, y) in Ok s)
+      >>= λ s. Ok (meant (k ∷ ks) s))
+      ≡ ((if b then explicit k.number k.at c else Ok (k.default, c))
+      >>= λ p. values_read ks p.1 >>= λ y. let v : Values (k ∷ ks) = (p.0, y) in Ok v)
+  step c true =
+      there (tagged (tag_of k) (alone k.at) c)
+      ∙ ap (λ r. r >>= λ p. values_read ks p.1 >>= λ y. let v : Values (k ∷ ks) = (p.0, y) in Ok v)
+      (sym (explicit_is k.at k.number (tag_of k) c refl))
+  step c false =
+      behind (spelling_read ks c) None
+      ∙ ap (λ r. r >>= λ y. let v : Values (k ∷ ks) = (k.default, y) in Ok v) (all c)
+
+pub same_reading : (ks : List Kind) (c : List ℕ) → made (meant ks) (spelling_read ks) c ≡ values_read ks c
+same_reading [] [] = refl
+same_reading [] (x ∷ xs) = refl
+same_reading (k ∷ ks) c = step k ks (same_reading ks) c (is_next (160 + k.number) c)
+
+-- Values that a record of any form holds.
+pub fields_alike : (ks : List Kind) {V : Type 0} (join : Values ks → V)
+    → ReadsAlike (spelling_read ks) (λ s. join (meant ks s)) (made join (values_read ks))
+fields_alike ks join = record {
+  same = λ c.
+      sym (joined (spelling_read ks c) (λ s. Ok (meant ks s)) (λ v. Ok (join v)))
+      ∙ ap (λ r. r >>= λ v. Ok (join v)) (same_reading ks c);
 }

@@ -1,16 +1,6 @@
 use Rattle.std.proofs.Common.{arith, rules, ℕ, List, Ok, Result}
-use Rattle.der_core.specs.declared.error.Error.{Error}
-use Rattle.der_core.specs.declared.tag.Tag.{Tag}
-use Rattle.der_core.specs.Encodings.{AreBytes}
-use Rattle.der_core.specs.Laws.Input.{are_bytes}
+use Rattle.der_core.specs.Words.{Error, Tag, AreBytes, are_bytes, tagged_alike, tagged_law, reads_front, Prints, ReadsAlike, ReadsPrinted, AllocatesIn, ReadsAll, Returns, Reading, tagged, whole, tlv}
 use Rattle.der_core.proofs.Readings.{whole_reads}
-use Rattle.der_core.specs.Laws.Printed.Alike.{tagged_alike}
-use Rattle.der_core.specs.Laws.Printed.Rows.{tagged_law}
-use Rattle.der_core.specs.Laws.Printed.Values.{reads_front}
-use Rattle.der_core.specs.Printed.{Prints, ReadsAlike, ReadsPrinted}
-use Rattle.der_core.specs.Reading.{AllocatesIn, ReadsAll, Returns}
-use Rattle.der_core.specs.Readings.{Reading, tagged, whole}
-use Rattle.der_core.specs.Tlv.{tlv}
 use Rattle.der_core.proofs.ReadSteps.{reads_all}
 use Rattle.der_core.proofs.decode.AnyDecodeRefSliceU8.from_der.Goals as goal
 

@@ -1,11 +1,6 @@
 use Rattle.std.proofs.Common.{◌∙◌, ◌≡◌, ◌≤◌, ◌++◌, length, take, drop, sym, subst, ap, arith}
-use Rattle.der_core.specs.Encodings.{AreBytes}
-use Rattle.der_core.specs.Length.{limit}
-use Rattle.der_core.specs.Tlv.{tlv}
-use Rattle.der_core.specs.Document.{IsDocument, IsShortest}
-use Rattle.der_core.specs.Laws.Printed.Shortest.{tagged_shortest}
-use Rattle.der_core.specs.Printed.{Prints}
-use Rattle.der_core.proofs.NotWritten.{is_shortest}
+use Rattle.der_core.specs.Words.{AreBytes, limit, tlv, IsDocument, IsShortest, tagged_shortest, Prints}
+use Rattle.der_core.proofs.Writing.{is_shortest}
 use Rattle.der_core.proofs.Documents.{written_document, written_over}
 use Rattle.der_core.proofs.document.DocumentOf.encode_msg.Goals as goal
 

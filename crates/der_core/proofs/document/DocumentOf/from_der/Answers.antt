@@ -1,6 +1,5 @@
 use Rattle.std.proofs.Common.{sym, subst, inl, inr}
-use Rattle.std.proofs.lemmas.Result.{err_from_is_err_and}
-use Rattle.der_core.specs.Document.{IsDocument}
+use Rattle.der_core.specs.Words.{err_from_is_err_and, IsDocument}
 use Rattle.der_core.proofs.Documents.{means_document, no_document}
 use Rattle.der_core.proofs.document.DocumentOf.from_der.Goals as goal
 

@@ -1,6 +1,5 @@
 use Rattle.std.proofs.Common.{subst, inr}
-use Rattle.std.proofs.lemmas.Result.{err_from_is_err_and}
-use Rattle.der_core.specs.Document.{IsDocument}
+use Rattle.der_core.specs.Words.{err_from_is_err_and, IsDocument}
 use Rattle.der_core.proofs.Documents.{means_document, no_document, none_given, the_fault}
 use Rattle.der_core.proofs.document.DocumentOf.read_from.Goals as goal
 

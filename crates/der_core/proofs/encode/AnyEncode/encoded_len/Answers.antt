@@ -1,5 +1,5 @@
-use Rattle.der_core.specs.Laws.Printed.Shortest.{tagged_shortest}
-use Rattle.der_core.proofs.NotWritten.{uncounted}
+use Rattle.der_core.specs.Words.{tagged_shortest}
+use Rattle.der_core.proofs.Writing.{uncounted}
 use Rattle.der_core.proofs.encode.AnyEncode.encoded_len.Goals as goal
 
 pub returns-clause-err : goal.returns-clause-err

@@ -1,6 +1,5 @@
 -- `encode_to_slice` lends the slice to `encode_into`, shares it for all of its own lifetime, and answers the front.
-use Rattle.std.proofs.Common.{◌≡◌, ℕ, ◌≤◌, ◌<◌, List, [], ◌∷◌, length, ◌^◌, refl, sym, ap, arith, Result, OnOk, OnErr}
-use Rattle.std.proofs.Common.{IfOk, IfErr, MatchResult, ◌++◌, drop as list-drop}
+use Rattle.std.proofs.Common.{◌≡◌, ℕ, ◌≤◌, ◌<◌, List, [], ◌∷◌, length, ◌^◌, refl, sym, ap, arith, Result, OnOk, OnErr, IfOk, IfErr, MatchResult, ◌++◌, drop as list-drop}
 use Rattle.std.proofs.raw_atomic.Walks.{proved, leaves}
 use mir.Syntax.{a_type, dcons, dnil, named, erased}
 use mir.Val.{Val, vptr}
@@ -8,8 +7,7 @@ use mir.MapTy.{inst_fn}
 use base.Logic.{SProp, emp, id⊢}
 use base.Fraction.{full_share}
 use base.Fml.{Lft, Share, GName, ftrue, flft}
-use types.Kit.{◌∵◌, ‵, raw, ◌⊛◌, some, given, later, ◌$◌, !, qed, by, move, keep, drop, use0, use1, use2, use3, split}
-use types.Kit.{split3, join, learn, fsplit, fjoin, pick, await, feq_i, feq_l}
+use types.Kit.{◌∵◌, ‵, raw, ◌⊛◌, some, given, later, ◌$◌, !, qed, by, move, keep, drop, use0, use1, use2, use3, split, split3, join, learn, fsplit, fjoin, pick, await, feq_i, feq_l}
 use types.Run.{from, addr, stop, fld, hop, no_more, and_then, returns, enter}
 use types.ByLocal.{alloc_all, pass_all, free_all, look_at, look_in_at, get, get_in, sets, lands_as, is}
 use types.Part.{agg, whole, sub}
@@ -41,8 +39,8 @@ use Rattle.der_core.specs.contracts.encode.Encode.encode_to_slice.Key.{name as #
 use Rattle.der_core.specs.contracts.encode.Encode.encode_into as g
 use Rattle.der_core.proofs.encode.Encode.encode_into.Met.{met as writes}
 use Rattle.der_core.specs.contracts.encode.front as h
-use Rattle.der_core.specs.EncodeToSlice.{IsFront, LeavesRest}
-use Rattle.der_core.proofs.EncodeToSlice.{rests, Wrote, fits, leaves_rest, on_front, on_error, within}
+use Rattle.der_core.specs.Words.{IsFront, LeavesRest, Error, IsShortest, WhyNotWritten, Prints, encode_error}
+use Rattle.der_core.proofs.Documents.{rests, Wrote, fits, leaves_rest, on_front, on_error, within}
 use Rattle.std.proofs.result.Result.TheLaws.{the_row_laws as result_laws}
 use denote.Param.Laws.{Laws, of_field}
 use denote.Param.Shared.{copy_shared}
@@ -51,10 +49,6 @@ use denote.Struct.Laws.{usize-laws, usize-copy, u8-laws, u8-copy, shr_slice_laws
 use Rattle.der_core.proofs.encode.front.Met.{met as answers}
 use Rattle.der_core.specs.contracts.error.Error.{the_row as ErrorRow}
 use Rattle.der_core.proofs.error.Error.TheLaws.{the_row_laws as error_laws}
-use Rattle.der_core.specs.declared.error.Error.{Error}
-use Rattle.der_core.specs.Document.{IsShortest, WhyNotWritten}
-use Rattle.der_core.specs.Printed.{Prints}
-use Rattle.der_core.specs.Writing.{encode_error}
 use Rattle.der_core.proofs.encode.Encode.encode_to_slice.Statement.{statement}
 use Rattle.der_core.proofs.encode.Encode.encode_to_slice.Code as code
 

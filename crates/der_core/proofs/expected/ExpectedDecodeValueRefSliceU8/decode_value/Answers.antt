@@ -1,7 +1,6 @@
 use Rattle.std.proofs.Common.{ap, refl, ◌∙◌, inr}
 use Rattle.der_core.specs.declared.error.ErrorKind.TheVariants as kind
-use Rattle.der_core.specs.Laws.Tags.{same_tag}
-use Rattle.der_core.specs.Tags.{integer}
+use Rattle.der_core.specs.Words.{same_tag, integer}
 use Rattle.der_core.proofs.ReadSteps.{expected_fails}
 use Rattle.der_core.proofs.expected.ExpectedDecodeValueRefSliceU8.decode_value.Goals as goal
 

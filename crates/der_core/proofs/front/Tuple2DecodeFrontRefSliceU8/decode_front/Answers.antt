@@ -1,5 +1,4 @@
-use Rattle.std.proofs.lemmas.Result.{err_from_is_err_and}
-use Rattle.der_core.specs.Laws.Printed.Values.{reads_front}
+use Rattle.der_core.specs.Words.{err_from_is_err_and, reads_front}
 use Rattle.der_core.proofs.ReadSteps.{row_fails}
 use Rattle.der_core.proofs.front.Tuple2DecodeFrontRefSliceU8.decode_front.Goals as goal
 

@@ -1,9 +1,6 @@
 use Rattle.std.proofs.Common.{ap, refl, sym, ◌∙◌, inr}
 use Rattle.der_core.specs.declared.error.ErrorKind.TheVariants as kind
-use Rattle.der_core.specs.IntegerReading.{small_of}
-use Rattle.der_core.specs.Laws.Tags.{same_tag}
-use Rattle.der_core.specs.Readings.{in_range}
-use Rattle.der_core.specs.Tags.{integer}
+use Rattle.der_core.specs.Words.{small_of, same_tag, in_range, integer}
 use Rattle.der_core.proofs.ReadSteps.{such_fails}
 use Rattle.der_core.proofs.in_range.InRangeDecodeValueRefSliceU8.decode_value.Goals as goal
 

@@ -1,5 +1,5 @@
 use Rattle.std.proofs.Common.{refl, ap}
-use Rattle.der_core.proofs.SmallReading.{is_large}
+use Rattle.der_core.proofs.Integers.{is_large}
 use Rattle.der_core.proofs.integer.small.small.Goals as goal
 
 pub returns-then-bytes-gt1 : goal.returns-then-bytes-gt1

@@ -1,7 +1,6 @@
 use Rattle.std.proofs.Common.{refl, ap, arith, length, ◌<◌}
-use Rattle.std.proofs.lemmas.Bool.Decides.{nat_tests}
-use Rattle.der_core.proofs.IntegerLaws.{tail_holds}
-use Rattle.der_core.proofs.IntegerFaults.{is_empty, is_negative, is_padded}
+use Rattle.der_core.specs.Words.{nat_tests}
+use Rattle.der_core.proofs.Integers.{tail_holds, is_empty, is_negative, is_padded}
 use Rattle.der_core.proofs.integer.uint.integer.Goals as goal
 
 pub invariant_of-result-clause-canonical : goal.invariant_of-result-clause-canonical

@@ -1,5 +1,5 @@
 use Rattle.std.proofs.Common.{◌≡◌, ◌≤◌, length}
-use Rattle.std.specs.Int.Digits.{number_from_digits}
+use Rattle.der_core.specs.Words.{number_from_digits}
 use Rattle.der_core.proofs.integer.uint.strip.Given as goal
 
 abbrev pub invariant-loop-rest : goal.invariant-loop-rest

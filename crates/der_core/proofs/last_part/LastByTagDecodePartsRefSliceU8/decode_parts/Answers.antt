@@ -1,5 +1,4 @@
-use Rattle.std.proofs.lemmas.Result.{err_from_is_err_and}
-use Rattle.der_core.specs.Readings.{optional, tagged}
+use Rattle.der_core.specs.Words.{err_from_is_err_and, optional, tagged}
 use Rattle.der_core.proofs.ReadSteps.{alone_fails}
 use Rattle.der_core.proofs.last_part.LastByTagDecodePartsRefSliceU8.decode_parts.Goals as goal
 

@@ -1,5 +1,5 @@
 use Rattle.std.proofs.Common.{arith}
-use Rattle.der_core.specs.Laws.Length.{length_octets-within}
+use Rattle.der_core.specs.Words.{length_octets-within}
 use Rattle.der_core.proofs.length.Length.to_bytes.Goals as goal
 
 pub returns-clause-counted : goal.returns-clause-counted

@@ -1,8 +1,4 @@
-use Rattle.std.proofs.lemmas.Result.{err_from_is_err_and}
-use Rattle.der_core.specs.Laws.Printed.OptionalRows.{optional_gives}
-use Rattle.der_core.specs.Laws.Printed.Alike.{tagged_alike}
-use Rattle.der_core.specs.Laws.Printed.Rows.{tagged_law}
-use Rattle.der_core.specs.Laws.Printed.Values.{reads_front}
+use Rattle.der_core.specs.Words.{err_from_is_err_and, optional_gives, tagged_alike, tagged_law, reads_front}
 use Rattle.der_core.proofs.ReadSteps.{parts_fail}
 use Rattle.der_core.proofs.optional_part.OptionalThenTuple2DecodePartsRefSliceU8.decode_parts.Goals as goal
 

@@ -1,6 +1,6 @@
 use Rattle.std.proofs.Common.{append-nil, arith, refl, sym}
-use Rattle.std.proofs.lemmas.Result.{err_from_is_err_and}
-use Rattle.der_core.proofs.StoppedWriting.{appends_behind, appends_in_front}
+use Rattle.der_core.specs.Words.{err_from_is_err_and}
+use Rattle.der_core.proofs.Writing.{appends_behind, appends_in_front}
 use Rattle.der_core.proofs.optional_part.OptionalThenTuple2EncodeValue.append_value.Goals as goal
 
 pub returns-in_err-encode-in-Some-clause-appends : goal.returns-in_err-encode-in-Some-clause-appends

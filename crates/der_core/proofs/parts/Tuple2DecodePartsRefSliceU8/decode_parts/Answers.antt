@@ -1,5 +1,4 @@
-use Rattle.std.proofs.lemmas.Result.{err_from_is_err_and}
-use Rattle.der_core.specs.Laws.Printed.Values.{reads_front}
+use Rattle.der_core.specs.Words.{err_from_is_err_and, reads_front}
 use Rattle.der_core.proofs.ReadSteps.{parts_fail}
 use Rattle.der_core.proofs.parts.Tuple2DecodePartsRefSliceU8.decode_parts.Goals as goal
 

@@ -1,6 +1,6 @@
 use Rattle.std.proofs.Common.{refl}
-use Rattle.std.proofs.lemmas.Result.{err_from_is_err_and}
-use Rattle.der_core.proofs.StoppedWriting.{appends_in_front, appends_behind}
+use Rattle.der_core.specs.Words.{err_from_is_err_and}
+use Rattle.der_core.proofs.Writing.{appends_in_front, appends_behind}
 use Rattle.der_core.proofs.parts.Tuple2EncodeValue.append_value.Goals as goal
 
 pub returns-in_err-encode-clause-appends : goal.returns-in_err-encode-clause-appends

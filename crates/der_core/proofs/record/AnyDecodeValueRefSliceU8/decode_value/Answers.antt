@@ -1,4 +1,4 @@
-use Rattle.std.proofs.lemmas.Result.{err_from_is_err_and}
+use Rattle.der_core.specs.Words.{err_from_is_err_and}
 use Rattle.der_core.proofs.ReadSteps.{fails_so, parts_taken}
 use Rattle.der_core.proofs.record.AnyDecodeValueRefSliceU8.decode_value.Goals as goal
 

@@ -1,6 +1,5 @@
-use Rattle.std.proofs.lemmas.Result.{err_from_is_err_and}
-use Rattle.pkcs1.specs.Allocating.{AllocatesInOthers}
-use Rattle.pkcs1.specs.PrivateKeyValue.{others_of}
+use Rattle.der_core.specs.Words.{err_from_is_err_and}
+use Rattle.pkcs1.specs.Words.{AllocatesInOthers, others_of}
 use Rattle.pkcs1.proofs.KeyReads.{front_of, key_gives, key_others_fail}
 use Rattle.pkcs1.proofs.private_key.RsaPrivateKeyDecodeValueRefSliceU8Global.decode_value.Goals as goal
 

@@ -1,5 +1,4 @@
-use Rattle.pkcs1.specs.PrintedKeys.{private_as}
-use Rattle.pkcs1.specs.PrivateKeyValue.{private_key_with}
+use Rattle.pkcs1.specs.Words.{private_as, private_key_with}
 use Rattle.pkcs1.proofs.KeyRows.{key_prepended, row_fits, row_room, row_valid, version_is}
 use Rattle.pkcs1.proofs.private_key.RsaPrivateKeyEncodeValue.prepend_value.Goals as goal
 

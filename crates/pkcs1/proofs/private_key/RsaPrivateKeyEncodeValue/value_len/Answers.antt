@@ -1,8 +1,7 @@
 use Rattle.std.proofs.Common.{ap, ◌∙◌, ◌≡◌, false, refl, true}
 use Rattle.der_core.specs.declared.error.ErrorKind.TheVariants as kind
-use Rattle.der_core.specs.Laws.Tags.{same_tag}
-use Rattle.pkcs1.specs.PrintedKeys.{private_as}
-use Rattle.pkcs1.specs.PrivateKeyValue.{private_key_with}
+use Rattle.der_core.specs.Words.{same_tag}
+use Rattle.pkcs1.specs.Words.{private_as, private_key_with}
 use Rattle.pkcs1.proofs.KeyRows.{key_counted, listed_some, version_is}
 use Rattle.pkcs1.proofs.private_key.RsaPrivateKeyEncodeValue.value_len.Goals as goal
 

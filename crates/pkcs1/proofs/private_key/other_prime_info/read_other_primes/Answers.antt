@@ -1,15 +1,11 @@
 use Rattle.std.proofs.Common.{◌≡◌, ℕ, List, length, map, ap, ◌∙◌, refl}
 use Rattle.std.proofs.lemmas.List.{length-map}
-use Rattle.std.proofs.lemmas.Result.{err_from_is_err_and}
+use Rattle.der_core.specs.Words.{err_from_is_err_and, same_tag, integer, sequence}
 use Rattle.std.specs.declared.alloc.Global.{Global}
 use Rattle.std.specs.declared.vec.Vec.{Vec}
 use Rattle.der_core.specs.declared.error.ErrorKind.TheVariants as kind
-use Rattle.der_core.specs.Laws.Tags.{same_tag}
-use Rattle.der_core.specs.Tags.{integer, sequence}
 use Rattle.pkcs1.specs.declared.private_key.other_prime_info.OtherPrimeInfo.{OtherPrimeInfo}
-use Rattle.pkcs1.specs.Allocating.{AllocatesInOthers}
-use Rattle.pkcs1.specs.Keys.{OtherPrime}
-use Rattle.pkcs1.specs.PrivateKeyValue.{other_of}
+use Rattle.pkcs1.specs.Words.{AllocatesInOthers, OtherPrime, other_of}
 use Rattle.pkcs1.proofs.OtherReads.{disagree_fails, empty_fails, more_fails, others_give}
 use Rattle.pkcs1.proofs.private_key.other_prime_info.read_other_primes.Goals as goal
 

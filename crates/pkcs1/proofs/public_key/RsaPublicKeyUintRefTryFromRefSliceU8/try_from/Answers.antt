@@ -1,13 +1,8 @@
 use Rattle.std.proofs.Common.{arith, Ok, Err}
-use Rattle.std.proofs.lemmas.Result.{err_from_is_err_and}
-use Rattle.der_core.specs.Laws.Input.{are_bytes}
-use Rattle.der_core.specs.UintRefValue.{bytes_of}
-use Rattle.pkcs1.specs.Held.{held_public_key}
-use Rattle.pkcs1.specs.KeyReadings.{rsa_public_key}
-use Rattle.pkcs1.specs.Laws.PrintedKeys.{public_decodes, public_key_in}
-use Rattle.pkcs1.specs.StatedKeys.{public_stated}
+use Rattle.der_core.specs.Words.{err_from_is_err_and, are_bytes, bytes_of}
+use Rattle.pkcs1.specs.Words.{held_public_key, rsa_public_key, public_decodes, public_key_in, public_stated}
 use Rattle.pkcs1_params.specs.declared.error.Error.TheVariants as error
-use Rattle.pkcs1.proofs.Decoded.{decoded, made_fault, made_ok}
+use Rattle.pkcs1.proofs.KeyReads.{decoded, made_fault, made_ok}
 use Rattle.pkcs1.proofs.KeyMemory.{public_fault}
 use Rattle.standard.specs.Statement.{PublicKeyEncoding}
 use Rattle.pkcs1.proofs.public_key.RsaPublicKeyUintRefTryFromRefSliceU8.try_from.Goals as goal

@@ -1,7 +1,5 @@
-use Rattle.der_core.specs.DocumentValue.{encoding_of}
-use Rattle.der_core.specs.UintValue.{own_bytes_of}
-use Rattle.pkcs1.specs.Held.{number_in}
-use Rattle.pkcs1.specs.PrivateKeyValue.{private_key_with}
+use Rattle.der_core.specs.Words.{encoding_of, own_bytes_of}
+use Rattle.pkcs1.specs.Words.{number_in, private_key_with}
 use Rattle.pkcs1.proofs.KeysWritten.{private_shown, private_withholds}
 use Rattle.pkcs1.proofs.traits.RsaPrivateKeyUintEncodeRsaPrivateKey.to_pkcs1_der.Goals as goal
 

@@ -1,10 +1,6 @@
 use Rattle.std.proofs.Common.{subst}
-use Rattle.std.proofs.lemmas.Result.{err_from_is_err_and}
-use Rattle.der_core.specs.DocumentValue.{encoding_of}
-use Rattle.der_core.specs.UintRefValue.{bytes_of}
-use Rattle.pkcs1.specs.Held.{number_in}
-use Rattle.pkcs1.specs.KeyEncodings.{Withholds}
-use Rattle.pkcs1.specs.PublicKeyValue.{public_key_with}
+use Rattle.der_core.specs.Words.{err_from_is_err_and, encoding_of, bytes_of}
+use Rattle.pkcs1.specs.Words.{number_in, Withholds, public_key_with}
 use Rattle.pkcs1_params.specs.declared.error.Error.TheVariants as error
 use Rattle.pkcs1.proofs.KeysWritten.{public_shown, public_withholds, public_written}
 use Rattle.pkcs1.proofs.Promised.{shortest, unmade}

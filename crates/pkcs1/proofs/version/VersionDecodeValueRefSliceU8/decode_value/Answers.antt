@@ -1,10 +1,6 @@
-use Rattle.std.proofs.Common.{◌≡◌, ◌∙◌, ap, arith, false, inr, refl}
-use Rattle.std.proofs.lemmas.Bool.Decides.{nat_tests}
-use Rattle.std.specs.Prelude.{nat_lt}
+use Rattle.std.proofs.Common.{◌≡◌, ◌∙◌, ap, arith, false, inr, refl, nat_lt}
+use Rattle.der_core.specs.Words.{nat_tests, small_of, same_tag, integer}
 use Rattle.der_core.specs.declared.error.ErrorKind.TheVariants as kind
-use Rattle.der_core.specs.IntegerReading.{small_of}
-use Rattle.der_core.specs.Laws.Tags.{same_tag}
-use Rattle.der_core.specs.Tags.{integer}
 use Rattle.der_core.proofs.ReadSteps.{such_fails}
 use Rattle.pkcs1.proofs.version.VersionDecodeValueRefSliceU8.decode_value.Goals as goal
 

@@ -1,9 +1,6 @@
-use Rattle.std.proofs.lemmas.Result.{err_from_is_err_and}
-use Rattle.std.specs.Option.{option_map}
-use Rattle.der_core.specs.UintRefValue.{bytes_of}
-use Rattle.pkcs1.specs.Held.{number_in}
-use Rattle.pkcs1.specs.KeyReadings.{number}
-use Rattle.pkcs1.specs.OtherPrimesLeft.{others_left}
+use Rattle.der_core.specs.Words.{err_from_is_err_and, bytes_of}
+use Rattle.std.proofs.Common.{option_map}
+use Rattle.pkcs1.specs.Words.{number_in, number, others_left}
 use Rattle.pkcs1.proofs.KeyReads.{front_of, key_gives, key_others_fault}
 use Rattle.pkcs1.proofs.view.ViewedKeyDecodeValueRefSliceU8NoMemory.decode_value.Goals as goal
 

@@ -1,12 +1,8 @@
-use Rattle.std.proofs.Common.{◌≡◌, ◌∙◌, map, refl, Option, Some, None}
-use Rattle.std.specs.Option.{option_map}
-use Rattle.pkcs1.specs.StatedKeys.{other_stated}
-use Rattle.pkcs1_c.specs.GivenPrimesValue.{given_primes, held_primes}
+use Rattle.std.proofs.Common.{◌≡◌, ◌∙◌, map, refl, Option, Some, None, option_map}
+use Rattle.pkcs1.specs.Words.{other_stated}
+use Rattle.pkcs1_c.specs.Words.{given_primes, held_primes, NoStatus, status_of, NumberError, NumbersError, numbers_of_primes, numbers_of_key}
 use Rattle.pkcs1_c.specs.declared.given_primes.GivenPrimes.{GivenPrimes}
 use Rattle.pkcs1_c.specs.declared.private_key.PrivateKey.{PrivateKey}
-use Rattle.pkcs1_c.specs.Status.{NoStatus, status_of}
-use Rattle.pkcs1_c.specs.StructErrors.{NumberError, NumbersError, numbers_of_primes}
-use Rattle.pkcs1_c.specs.Structs.{numbers_of_key}
 use Rattle.pkcs1_c.proofs.StructErrors.{held_none, none_both, numbers_behind}
 use Rattle.pkcs1_c.proofs.given_key.GivenKey.of.Goals as goal
 

@@ -1,7 +1,5 @@
-use Rattle.std.proofs.Common.{ℕ, List, ◌∷◌, ◌+◌, ◌≡◌, ◌∙◌, ap, length, arith, Bool, true, false, nat_lt, sym}
-use Rattle.std.specs.Prelude.{slice_index, if◌then◌else◌}
-use Rattle.der_core.specs.Laws.Integer.{holds_canonical}
-use Rattle.der_core.specs.Laws.Printed.Leaves.{contents_as}
+use Rattle.std.proofs.Common.{ℕ, List, ◌∷◌, ◌+◌, ◌≡◌, ◌∙◌, ap, length, arith, Bool, true, false, nat_lt, sym, slice_index, if◌then◌else◌}
+use Rattle.der_core.specs.Words.{holds_canonical, contents_as}
 use Rattle.pkcs1_c.proofs.given_number.Number.size.Goals as goal
 
 counted : (bytes : List ℕ) (low : Bool)

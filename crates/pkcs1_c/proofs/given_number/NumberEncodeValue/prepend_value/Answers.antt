@@ -1,11 +1,6 @@
-use Rattle.std.proofs.Common.{ℕ, List, ◌∷◌, ◌≡◌, ◌<◌, ◌≤◌, ◌∙◌, length, refl, sym, subst, arith, rules}
-use Rattle.std.proofs.Common.{Bool, true, false, nat_lt}
-use Rattle.std.specs.Prelude.{slice_index, if◌then◌else◌}
+use Rattle.std.proofs.Common.{ℕ, List, ◌∷◌, ◌≡◌, ◌<◌, ◌≤◌, ◌∙◌, length, refl, sym, subst, arith, rules, Bool, true, false, nat_lt, slice_index, if◌then◌else◌}
 use Rattle.std.proofs.lemmas.Grind.{common_steps}
-use Rattle.der_core.specs.BackWriters.{Prepends, free_of}
-use Rattle.der_core.specs.Integer.{integer_contents}
-use Rattle.der_core.specs.Laws.Integer.{holds_canonical}
-use Rattle.der_core.specs.Laws.Printed.Leaves.{contents_as}
+use Rattle.der_core.specs.Words.{Prepends, free_of, integer_contents, holds_canonical, contents_as}
 use Rattle.pkcs1_c.proofs.given_number.NumberEncodeValue.prepend_value.Goals as goal
 
 pub prepend-requires : goal.prepend-requires

@@ -1,7 +1,6 @@
 use Rattle.std.proofs.Common.{ap, length, ◌∙◌}
-use Rattle.der_core.proofs.IntegerLengths.{counts_integer}
-use Rattle.der_core.specs.Laws.Integer.{holds_canonical}
-use Rattle.der_core.specs.Laws.Printed.Leaves.{contents_as}
+use Rattle.der_core.proofs.Integers.{counts_integer}
+use Rattle.der_core.specs.Words.{holds_canonical, contents_as}
 use Rattle.pkcs1_c.proofs.given_number.NumberEncodeValue.value_len.Goals as goal
 
 pub returns : goal.returns

@@ -1,11 +1,8 @@
 use Rattle.std.proofs.Common.{◌<◌, add-one, ap, arith, length, subst}
-use Rattle.std.proofs.lemmas.Bool.Decides.{nat_tests}
-use Rattle.der_core.specs.Writing.{Counts}
-use Rattle.pkcs1_c.specs.PrimeLists.{prime_encoded}
-use Rattle.pkcs1_c.specs.Status.{status_of}
-use Rattle.pkcs1_c.specs.StructErrors.{NumbersError, numbers_of_primes}
-use Rattle.pkcs1_c.proofs.GivenPrimes.{counted_more, given_some}
-use Rattle.pkcs1_c.proofs.NotWritten.{err_handed}
+use Rattle.der_core.specs.Words.{nat_tests, Counts}
+use Rattle.pkcs1_c.specs.Words.{prime_encoded, status_of, NumbersError, numbers_of_primes}
+use Rattle.pkcs1_c.proofs.GivenKeys.{counted_more, given_some}
+use Rattle.pkcs1_c.proofs.Writes.{err_handed}
 use Rattle.pkcs1_c.proofs.StructErrors.{others_at, others_held_more}
 use Rattle.pkcs1_c.proofs.given_primes.GivenPrimes.of.Goals as goal
 

@@ -1,7 +1,5 @@
 use Rattle.std.proofs.Common.{take}
-use Rattle.pkcs1_c.specs.PrimeLists.{AreCounted}
-use Rattle.pkcs1_c.specs.Status.{NoStatus}
-use Rattle.pkcs1_c.specs.StructErrors.{NumbersError, numbers_of_primes}
+use Rattle.pkcs1_c.specs.Words.{AreCounted, NoStatus, NumbersError, numbers_of_primes}
 use Rattle.pkcs1_c.proofs.given_primes.GivenPrimes.of.Given as goal
 
 -- The primes so far are counted, and can be held.

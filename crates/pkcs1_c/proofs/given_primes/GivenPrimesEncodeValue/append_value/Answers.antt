@@ -1,12 +1,9 @@
-use Rattle.std.proofs.Common.{◌≡◌, ◌≤◌, ◌++◌, ◌∙◌, ap, append_assoc, arith, drop, get_or, length, length-append, refl}
-use Rattle.std.proofs.Common.{◌+◌, sym, take, take_all, rules}
-use Rattle.std.proofs.lemmas.Result.{err_from_is_err_and}
+use Rattle.std.proofs.Common.{◌≡◌, ◌≤◌, ◌++◌, ◌∙◌, ap, append_assoc, arith, drop, get_or, length, length-append, refl, ◌+◌, sym, take, take_all, rules}
+use Rattle.der_core.specs.Words.{err_from_is_err_and, limit, all_encodings}
 use Rattle.der_core.proofs.Items.{encodings_around, encodings_more}
-use Rattle.der_core.proofs.StoppedWriting.{appends_behind, appends_in_front}
-use Rattle.der_core.specs.Length.{limit}
-use Rattle.der_core.specs.SequenceOf.{all_encodings}
-use Rattle.pkcs1_c.specs.PrimeLists.{given_encoded}
-use Rattle.pkcs1_c.proofs.GivenPrimes.{any_given, encoded_is, held_at, nothing}
+use Rattle.der_core.proofs.Writing.{appends_behind, appends_in_front}
+use Rattle.pkcs1_c.specs.Words.{given_encoded}
+use Rattle.pkcs1_c.proofs.GivenKeys.{any_given, encoded_is, held_at, nothing}
 use Rattle.pkcs1_c.proofs.given_primes.GivenPrimesEncodeValue.append_value.Goals as goal
 
 pub append_given-requires : goal.append_given-requires

@@ -1,6 +1,6 @@
 use Rattle.std.proofs.Common.{◌≡◌, ◌+◌, ◌++◌, length, take}
-use Rattle.der_core.specs.SequenceOf.{all_encodings}
-use Rattle.pkcs1_c.specs.PrimeLists.{given_encoded}
+use Rattle.der_core.specs.Words.{all_encodings}
+use Rattle.pkcs1_c.specs.Words.{given_encoded}
 use Rattle.pkcs1_c.proofs.given_primes.GivenPrimesEncodeValue.append_value.Given as goal
 
 -- The primes so far are appended.

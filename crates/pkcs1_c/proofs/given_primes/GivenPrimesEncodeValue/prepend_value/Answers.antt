@@ -1,8 +1,7 @@
 use Rattle.std.proofs.Common.{◌≡◌, ◌-◌, ◌∙◌, ap, arith, drop, length, subst}
-use Rattle.der_core.specs.BackWriters.{Prepends}
-use Rattle.der_core.specs.SequenceOf.{all_encodings}
-use Rattle.pkcs1_c.specs.PrimeLists.{given_encoded}
-use Rattle.pkcs1_c.proofs.GivenPrimes.{behind_fits, encoded_is, held_at, length_counted, not_uncounted, nothing}
+use Rattle.der_core.specs.Words.{Prepends, all_encodings}
+use Rattle.pkcs1_c.specs.Words.{given_encoded}
+use Rattle.pkcs1_c.proofs.GivenKeys.{behind_fits, encoded_is, held_at, length_counted, not_uncounted, nothing}
 use Rattle.pkcs1_c.proofs.given_primes.GivenPrimesEncodeValue.prepend_value.Goals as goal
 
 pub returns-in_default : goal.returns-in_default

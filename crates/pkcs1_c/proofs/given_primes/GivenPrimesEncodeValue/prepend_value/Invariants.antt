@@ -1,7 +1,6 @@
 use Rattle.std.proofs.Common.{◌≤◌, drop, length}
-use Rattle.der_core.specs.BackWriters.{Prepends}
-use Rattle.der_core.specs.SequenceOf.{all_encodings}
-use Rattle.pkcs1_c.specs.PrimeLists.{given_encoded}
+use Rattle.der_core.specs.Words.{Prepends, all_encodings}
+use Rattle.pkcs1_c.specs.Words.{given_encoded}
 use Rattle.pkcs1_c.proofs.given_primes.GivenPrimesEncodeValue.prepend_value.Given as goal
 
 -- The last primes are written.

@@ -1,12 +1,10 @@
 use Rattle.std.proofs.Common.{subst}
 use Rattle.std.specs.List.{AllByRecursion}
-use Rattle.der_core.specs.SequenceOf.{all_encodings}
-use Rattle.der_core.specs.Writing.{Counts}
-use Rattle.pkcs1.specs.Printing.{AnyNumber, OtherIsValid}
-use Rattle.pkcs1_params.proofs.Written.{counts_as}
-use Rattle.pkcs1_c.specs.GivenPrimesValue.{given_primes}
-use Rattle.pkcs1_c.specs.PrimeLists.{given_encoded}
-use Rattle.pkcs1_c.proofs.GivenPrimes.{any_given, encoded_is}
+use Rattle.der_core.specs.Words.{all_encodings, Counts}
+use Rattle.pkcs1.specs.Words.{AnyNumber, OtherIsValid}
+use Rattle.pkcs1_params.proofs.Masks.{counts_as}
+use Rattle.pkcs1_c.specs.Words.{given_primes, given_encoded}
+use Rattle.pkcs1_c.proofs.GivenKeys.{any_given, encoded_is}
 use Rattle.pkcs1_c.proofs.given_primes.GivenPrimesEncodeValue.value_len.Goals as goal
 
 pub returns : goal.returns

@@ -1,11 +1,10 @@
-use Rattle.std.proofs.Common.{Option, Some, None}
-use Rattle.std.specs.Option.{option_map}
-use Rattle.der_core.specs.Laws.Input.{are_bytes}
-use Rattle.spki_core.specs.AnyRefValue.{any_of}
+use Rattle.std.proofs.Common.{Option, Some, None, option_map}
+use Rattle.der_core.specs.Words.{are_bytes}
+use Rattle.spki_core.specs.Words.{any_of}
 use Rattle.spki_core.specs.declared.any.AnyRef.{AnyRef}
-use Rattle.pkcs1_params.specs.Algorithms.{Identifies}
+use Rattle.pkcs1_params.specs.Words.{Identifies}
 use Rattle.pkcs1_params.proofs.Algorithms.{AreHeld, identified_decodes}
-use Rattle.pkcs1_params.proofs.FaultsTold.{errs_decode}
+use Rattle.pkcs1_params.proofs.Faults.{errs_decode}
 use Rattle.standard.specs.Statement.{IfPresent}
 use Rattle.pkcs1_params.proofs.algorithm.AnyFromAlgorithm.from_algorithm.Goals as goal
 

@@ -1,13 +1,9 @@
 use Rattle.std.proofs.Common.{arith, ap, subst}
-use Rattle.std.proofs.lemmas.Result.{err_from_is_err_and}
-use Rattle.der_core.specs.Laws.Input.{are_bytes}
-use Rattle.der_core.specs.Printed.{value_in}
-use Rattle.der_core.specs.Readings.{◌>>=◌}
-use Rattle.spki_core.specs.FieldSpellings.{record_read}
-use Rattle.pkcs1_params.specs.Algorithms.{identified}
-use Rattle.pkcs1_params.specs.Spellings.{Encoded}
+use Rattle.der_core.specs.Words.{err_from_is_err_and, are_bytes, value_in, ◌>>=◌}
+use Rattle.spki_core.specs.Words.{record_read}
+use Rattle.pkcs1_params.specs.Words.{identified, Encoded}
 use Rattle.pkcs1_params.proofs.Algorithms.{algorithm_decodes}
-use Rattle.pkcs1_params.proofs.FaultsTold.{errs_behind, errs_decode, no_memory}
+use Rattle.pkcs1_params.proofs.Faults.{errs_behind, errs_decode, no_memory}
 use Rattle.pkcs1_params.proofs.ParameterReads.{plain_never}
 use Rattle.standard.specs.Statement.{AlgorithmEncoding, Decodes}
 use Rattle.pkcs1_params.proofs.algorithm.AnyFromAlgorithm.from_algorithm_der.Goals as goal

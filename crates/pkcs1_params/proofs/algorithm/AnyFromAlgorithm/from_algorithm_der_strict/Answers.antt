@@ -1,8 +1,8 @@
 use Rattle.std.proofs.Common.{arith}
-use Rattle.der_core.specs.Laws.Input.{are_bytes}
-use Rattle.pkcs1_params.specs.Spellings.{Encoded}
+use Rattle.der_core.specs.Words.{are_bytes}
+use Rattle.pkcs1_params.specs.Words.{Encoded}
 use Rattle.pkcs1_params.proofs.Algorithms.{strict_algorithm_decodes}
-use Rattle.pkcs1_params.proofs.FaultsTold.{errs_decode}
+use Rattle.pkcs1_params.proofs.Faults.{errs_decode}
 use Rattle.standard.specs.Statement.{AlgorithmEncoding, IsShortest}
 use Rattle.pkcs1_params.proofs.algorithm.AnyFromAlgorithm.from_algorithm_der_strict.Goals as goal
 

@@ -1,8 +1,8 @@
 use Rattle.std.proofs.Common.{◌≡◌, true, false, refl}
-use Rattle.std.proofs.lemmas.Result.{err_from_is_err_and}
-use Rattle.der_core.proofs.StoppedWriting.{appends_in_front, appends_behind}
-use Rattle.spki_core.specs.FieldSpellings.{octets_under, out_under, rest_under}
-use Rattle.pkcs1_params.specs.FieldRefs.{field_in}
+use Rattle.der_core.specs.Words.{err_from_is_err_and}
+use Rattle.der_core.proofs.Writing.{appends_in_front, appends_behind}
+use Rattle.spki_core.specs.Words.{octets_under, out_under, rest_under}
+use Rattle.pkcs1_params.specs.Words.{field_in}
 use Rattle.pkcs1_params.proofs.fields.FieldThenFields.append.Goals as goal
 
 pub returns-then-left_out-clause-appends : goal.returns-then-left_out-clause-appends

@@ -1,5 +1,5 @@
 use Rattle.std.proofs.Common.{arith}
-use Rattle.der_core.specs.Laws.Input.{are_bytes}
+use Rattle.der_core.specs.Words.{are_bytes}
 use Rattle.pkcs1_params.proofs.Labels.{label_within}
 use Rattle.pkcs1_params.proofs.label.RsaOaepParams+AnyRef.new_with_label.Goals as goal
 

@@ -1,6 +1,5 @@
 use Rattle.std.proofs.Common.{◌∙◌}
-use Rattle.pkcs1_params.specs.Laws.Records.{oaep_record}
-use Rattle.pkcs1_params.specs.OaepValue.{OwnedOaepAllocates, oaep_of}
+use Rattle.pkcs1_params.specs.Words.{oaep_record, OwnedOaepAllocates, oaep_of}
 use Rattle.pkcs1_params.proofs.ParameterReads.{copy_fails}
 use Rattle.pkcs1_params.proofs.owned.RsaOaepParamsAnyDecodeValueRefSliceU8Global.decode_value.Goals as goal
 

@@ -1,6 +1,5 @@
 use Rattle.std.proofs.Common.{◌∙◌}
-use Rattle.pkcs1_params.specs.Laws.Records.{pss_record}
-use Rattle.pkcs1_params.specs.PssValue.{OwnedPssAllocates, pss_of}
+use Rattle.pkcs1_params.specs.Words.{pss_record, OwnedPssAllocates, pss_of}
 use Rattle.pkcs1_params.proofs.ParameterReads.{copy_fails}
 use Rattle.pkcs1_params.proofs.owned.RsaPssParamsAnyDecodeValueRefSliceU8Global.decode_value.Goals as goal
 

@@ -1,5 +1,5 @@
-use Rattle.spki_core.specs.Laws.MappedValues.{same_carried}
-use Rattle.spki_core.proofs.MappedValues.{algorithm_carried}
+use Rattle.spki_core.specs.Words.{same_carried}
+use Rattle.spki_core.proofs.Readings.{algorithm_carried}
 use Rattle.pkcs1_params.proofs.pss.RsaPssParams+P.try_clone.Goals as goal
 
 pub returns-clause-ok : goal.returns-clause-ok

@@ -1,7 +1,6 @@
-use Rattle.std.proofs.Common.{◌∙◌, ap, sym, Ok}
-use Rattle.std.specs.Prelude.{if◌then◌else◌}
-use Rattle.spki_core.specs.FieldSpellings.{record_read, record_strictly}
-use Rattle.pkcs1_params.specs.Laws.Records.{pss_record}
+use Rattle.std.proofs.Common.{◌∙◌, ap, sym, Ok, if◌then◌else◌}
+use Rattle.spki_core.specs.Words.{record_read, record_strictly}
+use Rattle.pkcs1_params.specs.Words.{pss_record}
 use Rattle.pkcs1_params.proofs.UsualParameters.{pss_usual, salt_usual}
 use Rattle.pkcs1_params.proofs.pss_reading.PssParamsOfAnyRefAlgorithmParams.usual.Goals as goal
 

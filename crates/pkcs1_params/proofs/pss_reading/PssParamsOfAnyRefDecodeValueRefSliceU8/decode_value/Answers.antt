@@ -1,9 +1,8 @@
 use Rattle.std.proofs.Common.{[], ◌∷◌, ◌∙◌, Ok, refl, sym, ap}
-use Rattle.std.proofs.lemmas.Result.{err_from_is_err_and}
-use Rattle.spki_core.specs.FieldSpellings.{values_read}
-use Rattle.pkcs1_params.specs.ParameterReadings.{hash_kind, mask_kind, of_pss_fields, pss_kinds, salt_kind, trailer_kind}
-use Rattle.pkcs1_params.proofs.ParameterReads.{behind_field, end_fails, end_gives, field_fails, field_gives, made_gives}
-use Rattle.pkcs1_params.proofs.ParameterReads.{made_fails, mask_never, number_never, plain_never}
+use Rattle.der_core.specs.Words.{err_from_is_err_and}
+use Rattle.spki_core.specs.Words.{values_read}
+use Rattle.pkcs1_params.specs.Words.{hash_kind, mask_kind, of_pss_fields, pss_kinds, salt_kind, trailer_kind}
+use Rattle.pkcs1_params.proofs.ParameterReads.{behind_field, end_fails, end_gives, field_fails, field_gives, made_gives, made_fails, mask_never, number_never, plain_never}
 use Rattle.pkcs1_params.proofs.pss_reading.PssParamsOfAnyRefDecodeValueRefSliceU8.decode_value.Goals as goal
 
 pub returns-in_err-hash : goal.returns-in_err-hash

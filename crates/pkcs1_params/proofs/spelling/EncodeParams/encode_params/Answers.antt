@@ -1,7 +1,7 @@
 use Rattle.std.proofs.Common.{length}
-use Rattle.der_core.specs.Printed.{ok_of}
+use Rattle.der_core.specs.Words.{ok_of}
 use Rattle.pkcs1_params.proofs.Masks.{zero_encodes, zero_mask, zero_refuses}
-use Rattle.pkcs1_params.proofs.Errors.{if_err_as}
+use Rattle.pkcs1_params.proofs.Faults.{if_err_as}
 use Rattle.pkcs1_params.proofs.spelling.EncodeParams.encode_params.Goals as goal
 
 pub encode_spelling_into-requires : goal.encode_spelling_into-requires

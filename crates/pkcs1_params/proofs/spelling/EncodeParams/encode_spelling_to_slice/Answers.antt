@@ -1,7 +1,7 @@
 use Rattle.std.proofs.Common.{ℕ, length, Err}
-use Rattle.std.proofs.lemmas.Result.{err_from_is_err_and}
-use Rattle.der_core.proofs.Spelled.{into_unwritten}
-use Rattle.spki_core.specs.FieldSpellings.{record_under}
+use Rattle.der_core.specs.Words.{err_from_is_err_and}
+use Rattle.der_core.proofs.Writing.{into_unwritten}
+use Rattle.spki_core.specs.Words.{record_under}
 use Rattle.pkcs1_params.specs.declared.error.Error.TheVariants as error
 use Rattle.pkcs1_params.proofs.Masks.{in_range, spelling_written, under_refuses, under_shortest}
 use Rattle.pkcs1_params.proofs.spelling.EncodeParams.encode_spelling_to_slice.Goals as goal

@@ -1,7 +1,6 @@
-use Rattle.std.proofs.lemmas.Result.{err_from_is_err_and}
-use Rattle.pkcs1_params.proofs.Masks.{is_spelled, encoding_of}
-use Rattle.pkcs1_params.proofs.Written.{uncounted_as}
-use Rattle.spki_core.specs.FieldSpellings.{record_under}
+use Rattle.der_core.specs.Words.{err_from_is_err_and}
+use Rattle.pkcs1_params.proofs.Masks.{is_spelled, encoding_of, uncounted_as}
+use Rattle.spki_core.specs.Words.{record_under}
 use Rattle.pkcs1_params.proofs.spelling.Spelling.len.Goals as goal
 
 pub returns-in_err-encoded_len-clause-err : goal.returns-in_err-encoded_len-clause-err

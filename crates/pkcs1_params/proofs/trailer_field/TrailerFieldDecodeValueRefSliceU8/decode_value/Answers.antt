@@ -1,9 +1,6 @@
 use Rattle.std.proofs.Common.{◌≡◌, ◌==◌, ◌∙◌, false, refl, ap, inr, arith}
-use Rattle.std.proofs.lemmas.Bool.Decides.{nat_tests}
+use Rattle.der_core.specs.Words.{nat_tests, small_of, same_tag, integer}
 use Rattle.der_core.specs.declared.error.ErrorKind.TheVariants as kind
-use Rattle.der_core.specs.IntegerReading.{small_of}
-use Rattle.der_core.specs.Laws.Tags.{same_tag}
-use Rattle.der_core.specs.Tags.{integer}
 use Rattle.der_core.proofs.ReadSteps.{such_fails}
 use Rattle.pkcs1_params.proofs.trailer_field.TrailerFieldDecodeValueRefSliceU8.decode_value.Goals as goal
 

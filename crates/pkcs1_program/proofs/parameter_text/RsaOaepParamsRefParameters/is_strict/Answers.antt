@@ -1,4 +1,4 @@
-use Rattle.pkcs1_params.specs.OaepValue.{oaep_of}
+use Rattle.pkcs1_params.specs.Words.{oaep_of}
 use Rattle.standard.specs.Statement.{IsShortest, OaepEncoding}
 use Rattle.pkcs1_program.proofs.Verdicts.{read_is_ok}
 use Rattle.pkcs1_program.proofs.parameter_text.RsaOaepParamsRefParameters.is_strict.Goals as goal

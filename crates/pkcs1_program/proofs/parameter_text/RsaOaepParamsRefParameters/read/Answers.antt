@@ -1,4 +1,4 @@
-use Rattle.pkcs1_params.specs.OaepValue.{oaep_of}
+use Rattle.pkcs1_params.specs.Words.{oaep_of}
 use Rattle.standard.specs.Statement.{OaepEncoding}
 use Rattle.pkcs1_program.proofs.Verdicts.{read_some}
 use Rattle.pkcs1_program.proofs.parameter_text.RsaOaepParamsRefParameters.read.Goals as goal

@@ -1,4 +1,4 @@
-use Rattle.pkcs1_params.specs.PssValue.{pss_of}
+use Rattle.pkcs1_params.specs.Words.{pss_of}
 use Rattle.standard.specs.Statement.{IsShortest, PssEncoding}
 use Rattle.pkcs1_program.proofs.Verdicts.{read_is_ok}
 use Rattle.pkcs1_program.proofs.parameter_text.RsaPssParamsRefParameters.is_strict.Goals as goal

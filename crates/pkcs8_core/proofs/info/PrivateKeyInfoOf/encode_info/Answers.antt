@@ -1,4 +1,4 @@
-use Rattle.pkcs8_core.specs.ContainerValue.{info_in}
+use Rattle.pkcs8_core.specs.Words.{info_in}
 use Rattle.pkcs8_core.proofs.ContainerWrites.{container_refused, container_written}
 use Rattle.pkcs8_core.proofs.info.PrivateKeyInfoOf.encode_info.Goals as goal
 

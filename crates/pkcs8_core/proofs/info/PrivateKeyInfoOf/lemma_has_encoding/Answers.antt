@@ -1,8 +1,6 @@
 use Rattle.std.proofs.Common.{arith}
-use Rattle.der_core.specs.Laws.Input.{are_bytes}
-use Rattle.der_core.specs.OctetStringRefValue.{octets_of}
-use Rattle.spki_core.specs.AnyRefValue.{any_of}
-use Rattle.spki_core.specs.Laws.HaveEncodings.{algorithm_held, any_held}
+use Rattle.der_core.specs.Words.{are_bytes, octets_of}
+use Rattle.spki_core.specs.Words.{any_of, algorithm_held, any_held}
 use Rattle.pkcs8_core.proofs.ContainerWrites.{attributes_held}
 use Rattle.pkcs8_core.proofs.info.PrivateKeyInfoOf.lemma_has_encoding.Goals as goal
 use Rattle.standard.specs.Statement.{IsAny}

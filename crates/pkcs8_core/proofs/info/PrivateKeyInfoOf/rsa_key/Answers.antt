@@ -1,15 +1,10 @@
 use Rattle.std.proofs.Common.{◌≡◌, rules, subst, sym}
-use Rattle.der_core.specs.Laws.Input.{are_bytes}
-use Rattle.der_core.specs.UintRefValue.{bytes_of}
-use Rattle.pkcs1.proofs.Decoded.{decoded_err, decoded_ok}
-use Rattle.pkcs1.specs.Allocating.{MayAllocate}
-use Rattle.pkcs1.specs.Held.{held_private_key}
-use Rattle.pkcs1_params.specs.Meanings.{ErrsOrAsks}
-use Rattle.pkcs8_core.proofs.ContainedKeys.{asked_held, contained_decode}
-use Rattle.pkcs8_core.proofs.RsaOnly.{key_tells}
-use Rattle.pkcs8_core.specs.ContainerReadings.{key_in, rsa_held}
-use Rattle.pkcs8_core.specs.ContainerValue.{info_in}
-use Rattle.pkcs8_core.specs.Rsa.{ContainedKey, rsa_encryption}
+use Rattle.der_core.specs.Words.{are_bytes, bytes_of}
+use Rattle.pkcs1.proofs.KeyReads.{decoded_err, decoded_ok}
+use Rattle.pkcs1.specs.Words.{MayAllocate, held_private_key}
+use Rattle.pkcs1_params.specs.Words.{ErrsOrAsks}
+use Rattle.pkcs8_core.proofs.ContainedKeys.{asked_held, contained_decode, key_tells}
+use Rattle.pkcs8_core.specs.Words.{key_in, rsa_held, info_in, ContainedKey, rsa_encryption}
 use Rattle.standard.specs.Statement.{PrivateKeyEncoding}
 use Rattle.pkcs8_core.proofs.info.PrivateKeyInfoOf.rsa_key.Goals as goal
 

@@ -1,12 +1,10 @@
 use Rattle.std.proofs.Common.{rules, subst, sym}
-use Rattle.der_core.specs.Laws.Input.{are_bytes}
-use Rattle.pkcs1.proofs.Decoded.{decoded}
-use Rattle.pkcs1.specs.Held.{held_view}
-use Rattle.pkcs1_params.specs.Meanings.{ErrsAs}
+use Rattle.der_core.specs.Words.{are_bytes}
+use Rattle.pkcs1.proofs.KeyReads.{decoded}
+use Rattle.pkcs1.specs.Words.{held_view}
+use Rattle.pkcs1_params.specs.Words.{ErrsAs}
 use Rattle.pkcs8_core.proofs.ContainedKeys.{contained_decode, read_held}
-use Rattle.pkcs8_core.specs.ContainerReadings.{key_in, rsa_held}
-use Rattle.pkcs8_core.specs.ContainerValue.{info_in}
-use Rattle.pkcs8_core.specs.Rsa.{ContainedKey}
+use Rattle.pkcs8_core.specs.Words.{key_in, rsa_held, info_in, ContainedKey}
 use Rattle.pkcs8_core.proofs.info.PrivateKeyInfoOf.rsa_view.Goals as goal
 
 pub returns-clause-read : goal.returns-clause-read

@@ -1,12 +1,8 @@
-use Rattle.std.proofs.Common.{◌≡◌, arith, subst, sym, Err, Ok, Some}
-use Rattle.std.proofs.lemmas.Result.{err_from_is_err_and}
-use Rattle.std.specs.Option.{option_map}
-use Rattle.der_core.specs.Laws.Input.{are_bytes}
-use Rattle.der_core.specs.OctetStringRefValue.{octets_of}
-use Rattle.spki_core.specs.AlgorithmValue.{algorithm_in}
-use Rattle.spki_core.specs.AnyRefValue.{any_of}
+use Rattle.std.proofs.Common.{◌≡◌, arith, subst, sym, Err, Ok, Some, option_map}
+use Rattle.der_core.specs.Words.{err_from_is_err_and, are_bytes, octets_of}
+use Rattle.spki_core.specs.Words.{algorithm_in, any_of}
 use Rattle.pkcs8_core.proofs.ContainedKeys.{container_told}
-use Rattle.pkcs8_core.specs.ContainerValue.{info_viewed, slice_now}
+use Rattle.pkcs8_core.specs.Words.{info_viewed, slice_now}
 use Rattle.standard.specs.Statement.{ContainerEncoding, Decodes}
 use Rattle.pkcs8_core.proofs.info.PrivateKeyInfoOfTryFromRefSliceU8.try_from.Goals as goal
 

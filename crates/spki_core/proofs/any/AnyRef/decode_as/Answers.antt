@@ -1,9 +1,8 @@
 use Rattle.std.proofs.Common.{ap, ◌∙◌, sym, inr}
 use Rattle.der_core.specs.declared.error.ErrorKind.TheVariants.{TagUnexpected}
-use Rattle.der_core.specs.Laws.Input.{are_bytes}
+use Rattle.der_core.specs.Words.{are_bytes, reads}
 use Rattle.der_core.proofs.ReadSteps.{ne_true, ne_false}
-use Rattle.der_core.specs.Laws.Printed.Values.{reads}
-use Rattle.spki_core.specs.AnyRefValue.{any_of}
+use Rattle.spki_core.specs.Words.{any_of}
 use Rattle.spki_core.proofs.Readings.{any_as_other, read_as_any}
 use Rattle.spki_core.proofs.any.AnyRef.decode_as.Goals as goal
 

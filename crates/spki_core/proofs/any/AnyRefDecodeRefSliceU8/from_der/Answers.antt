@@ -1,12 +1,8 @@
 use Rattle.std.proofs.Common.{arith, inr, rules, Ok}
-use Rattle.std.proofs.lemmas.Result.{err_from_is_err_and}
-use Rattle.der_core.specs.Laws.Input.{are_bytes}
+use Rattle.der_core.specs.Words.{err_from_is_err_and, are_bytes, left_of-bounded}
 use Rattle.der_core.proofs.Readings.{whole_reads}
-use Rattle.der_core.specs.Laws.SliceReaders.{left_of-bounded}
 use Rattle.der_core.proofs.ReadSteps.{reads_all, whole_trailing}
-use Rattle.spki_core.specs.AnyRefValue.{any_of}
-use Rattle.spki_core.specs.Laws.Printed.Readings.{any_values}
-use Rattle.spki_core.specs.Readings.{any}
+use Rattle.spki_core.specs.Words.{any_of, any_values, any}
 use Rattle.spki_core.proofs.any.AnyRefDecodeRefSliceU8.from_der.Goals as goal
 
 pub returns-in_err-reader-clause-encoding : goal.returns-in_err-reader-clause-encoding

@@ -1,6 +1,6 @@
 use Rattle.std.proofs.Common.{ap, sym, Ok}
 use Rattle.der_core.proofs.QuickReading.{read_by_tag}
-use Rattle.spki_core.specs.Readings.{opaque}
+use Rattle.spki_core.specs.Words.{opaque}
 use Rattle.spki_core.proofs.any.AnyRefDecodeRefSliceU8.quick.Goals as goal
 
 pub returns-in-Ok : goal.returns-in-Ok

@@ -1,11 +1,7 @@
 use Rattle.std.proofs.Common.{arith, rules, ap, ◌≡◌, ◌+◌, ◌<◌, ◌≤◌, ◌++◌, length, length-append}
-use Rattle.std.proofs.lemmas.Result.{err_from_is_err_and}
-use Rattle.der_core.specs.Length.{limit, length_octets}
-use Rattle.der_core.proofs.NotWritten.{stopped}
-use Rattle.der_core.proofs.StoppedWriting.{appends_nothing, appends_at_once, appends_behind}
-use Rattle.der_core.specs.Laws.Printed.Shortest.{one_spelling}
-use Rattle.spki_core.specs.Any.{IsAny, written_any}
-use Rattle.spki_core.specs.AnyRefValue.{any_of}
+use Rattle.der_core.specs.Words.{err_from_is_err_and, limit, length_octets, one_spelling}
+use Rattle.der_core.proofs.Writing.{stopped, appends_nothing, appends_at_once, appends_behind}
+use Rattle.spki_core.specs.Words.{IsAny, written_any, any_of}
 use Rattle.spki_core.proofs.any.AnyRefEncode.encode.Goals as goal
 
 pub returns-in_err-write-clause-appends : goal.returns-in_err-write-clause-appends

@@ -1,11 +1,7 @@
 use Rattle.std.proofs.Common.{arith, rules, ap, ◌≡◌, ◌+◌, ◌<◌, ◌≤◌, ◌++◌, length, length-append}
-use Rattle.std.proofs.lemmas.Result.{err_from_is_err_and}
-use Rattle.der_core.specs.Length.{limit, length_octets}
-use Rattle.der_core.specs.Tlv.{tlv}
-use Rattle.der_core.proofs.NotWritten.{stopped}
-use Rattle.der_core.proofs.StoppedWriting.{appends_nothing, appends_too_long, appends_behind}
-use Rattle.spki_core.specs.ContextSpecific.{Numbered}
-use Rattle.spki_core.specs.Laws.Printed.Shortest.{numbered_writes_shortest}
+use Rattle.der_core.specs.Words.{err_from_is_err_and, limit, length_octets, tlv}
+use Rattle.der_core.proofs.Writing.{stopped, appends_nothing, appends_too_long, appends_behind}
+use Rattle.spki_core.specs.Words.{Numbered, numbered_writes_shortest}
 use Rattle.spki_core.proofs.context_specific.ContextSpecificRefEncode.encode.Goals as goal
 
 pub returns-in_err-for_tlv-clause-appends : goal.returns-in_err-for_tlv-clause-appends

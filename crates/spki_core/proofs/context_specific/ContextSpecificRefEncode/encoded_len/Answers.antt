@@ -1,8 +1,6 @@
 use Rattle.std.proofs.Common.{◌+◌}
-use Rattle.der_core.proofs.Counting.{counts_encoding}
-use Rattle.der_core.proofs.NotWritten.{uncounted}
-use Rattle.spki_core.specs.ContextSpecific.{Numbered}
-use Rattle.spki_core.specs.Laws.Printed.Shortest.{numbered_writes_shortest}
+use Rattle.der_core.proofs.Writing.{counts_encoding, uncounted}
+use Rattle.spki_core.specs.Words.{Numbered, numbered_writes_shortest}
 use Rattle.spki_core.proofs.context_specific.ContextSpecificRefEncode.encoded_len.Goals as goal
 
 pub returns-clause-counted : goal.returns-clause-counted

@@ -1,6 +1,5 @@
-use Rattle.der_core.specs.Laws.Input.{are_bytes}
-use Rattle.spki_core.specs.Laws.IdentifierTest.{is_identifier-sound}
-use Rattle.spki_core.specs.ObjectIdentifierValue.{octets_of}
+use Rattle.der_core.specs.Words.{are_bytes}
+use Rattle.spki_core.specs.Words.{is_identifier-sound, octets_of}
 use Rattle.spki_core.proofs.identifier_view.IdentifierView.as_bytes.Goals as goal
 
 pub returns-clause-valid : goal.returns-clause-valid

@@ -1,7 +1,6 @@
 use Rattle.std.proofs.Common.{◌≡◌, ap, true, rules}
-use Rattle.der_core.specs.Laws.Input.{are_bytes}
-use Rattle.spki_core.specs.IdentifierTest.{is_identifier}
-use Rattle.spki_core.specs.Laws.IdentifierTest.{is_identifier-sound, is_identifier-complete}
+use Rattle.der_core.specs.Words.{are_bytes}
+use Rattle.spki_core.specs.Words.{is_identifier, is_identifier-sound, is_identifier-complete}
 use Rattle.spki_core.proofs.identifier_view.IdentifierView.from_bytes.Goals as goal
 
 pub returns-then-not-is_identifier-clause-err : goal.returns-then-not-is_identifier-clause-err

@@ -1,8 +1,6 @@
 use Rattle.std.proofs.Common.{◌≡◌, ◌≤◌, ◌∙◌, length, arith}
-use Rattle.der_core.specs.Laws.Input.{are_bytes}
-use Rattle.der_core.specs.Length.{limit}
-use Rattle.spki_core.specs.Laws.IdentifierTest.{is_identifier-sound}
-use Rattle.spki_core.specs.ObjectIdentifierValue.{octets_of}
+use Rattle.der_core.specs.Words.{are_bytes, limit}
+use Rattle.spki_core.specs.Words.{is_identifier-sound, octets_of}
 use Rattle.spki_core.proofs.identifier_view.IdentifierViewEncodeValue.value_len.Goals as goal
 
 pub returns : goal.returns

@@ -1,6 +1,6 @@
 use Rattle.std.proofs.Common.{◌∙◌, inl}
 use Rattle.der_core.proofs.ReadSteps.{front_asks}
-use Rattle.spki_core.specs.Laws.Printed.Readings.{any_values}
+use Rattle.spki_core.specs.Words.{any_values}
 use Rattle.spki_core.proofs.owned_any.AnyDecodeRefSliceU8Global.decode.Goals as goal
 
 pub returns-in-Err : goal.returns-in-Err

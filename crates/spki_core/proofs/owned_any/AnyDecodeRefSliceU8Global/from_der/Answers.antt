@@ -1,13 +1,8 @@
 use Rattle.std.proofs.Common.{arith}
-use Rattle.der_core.specs.Laws.Input.{are_bytes}
+use Rattle.der_core.specs.Words.{are_bytes, Prints}
 use Rattle.der_core.proofs.Readings.{whole_reads}
 use Rattle.der_core.proofs.ReadSteps.{copy_returns, reads_all}
-use Rattle.der_core.specs.Printed.{Prints}
-use Rattle.spki_core.specs.Any.{IsAny, written_any}
-use Rattle.spki_core.specs.AnyRefValue.{any_of}
-use Rattle.spki_core.specs.Laws.Printed.Readings.{any_values}
-use Rattle.spki_core.specs.OwnedAnyValue.{own_any_of}
-use Rattle.spki_core.specs.Readings.{any}
+use Rattle.spki_core.specs.Words.{IsAny, written_any, any_of, any_values, own_any_of, any}
 use Rattle.spki_core.proofs.owned_any.AnyDecodeRefSliceU8Global.from_der.Goals as goal
 
 pub returns-clause-exact : goal.returns-clause-exact

@@ -1,6 +1,6 @@
 use Rattle.std.proofs.Common.{◌∙◌, inl}
 use Rattle.der_core.proofs.ReadSteps.{asks_read}
-use Rattle.der_core.specs.Laws.Printed.Leaves.{number_law}
+use Rattle.der_core.specs.Words.{number_law}
 use Rattle.der_core.proofs.integer.owned.UintDecodeValueRefSliceU8Global.decode_value.Goals as goal
 
 pub returns-in-Err : goal.returns-in-Err

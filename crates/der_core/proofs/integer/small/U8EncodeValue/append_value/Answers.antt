@@ -1,8 +1,5 @@
 use Rattle.std.proofs.Common.{rules, sym, subst, [], ◌∷◌, ◌<◌, ◌≤◌, length}
-use Rattle.der_core.specs.Integer.{integer_contents}
-use Rattle.der_core.specs.Laws.Printed.Leaves.{small_contents_as}
-use Rattle.der_core.specs.Length.{limit}
-use Rattle.der_core.specs.Writing.{Appends}
+use Rattle.der_core.specs.Words.{integer_contents, small_contents_as, limit, Appends}
 use Rattle.der_core.proofs.integer.small.U8EncodeValue.append_value.Goals as goal
 
 pub returns-then-self-lt128-clause-appends : goal.returns-then-self-lt128-clause-appends

@@ -1,9 +1,6 @@
 use Rattle.std.proofs.Common.{arith, rules, sym, subst, [], ◌∷◌, ◌∙◌}
 use Rattle.std.proofs.lemmas.Grind.{common_steps}
-use Rattle.der_core.specs.BackWriters.{Prepends}
-use Rattle.der_core.specs.Integer.{integer_contents}
-use Rattle.der_core.specs.Laws.Integer.{written_large}
-use Rattle.der_core.specs.Laws.Printed.Leaves.{small_contents_as}
+use Rattle.der_core.specs.Words.{Prepends, integer_contents, written_large, small_contents_as}
 use Rattle.der_core.proofs.integer.small.U8EncodeValue.prepend_value.Goals as goal
 
 pub returns-then-self-ge128 : goal.returns-then-self-ge128

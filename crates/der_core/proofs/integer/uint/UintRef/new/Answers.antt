@@ -1,8 +1,6 @@
 use Rattle.std.proofs.Common.{rules, refl, ap, arith, inl, inr, sym, ◌<◌, ◌∙◌, ◌≡◌, length}
-use Rattle.std.proofs.lemmas.Bool.Decides.{nat_tests}
-use Rattle.der_core.specs.Laws.Integer.{holds_canonical, canonical_same}
+use Rattle.der_core.specs.Words.{nat_tests, holds_canonical, canonical_same, same_tag}
 use Rattle.der_core.specs.declared.error.ErrorKind.TheVariants as kind
-use Rattle.der_core.specs.Laws.Tags.{same_tag}
 use Rattle.der_core.proofs.integer.uint.UintRef.new.Goals as goal
 
 pub returns-then-is_empty-clause-err : goal.returns-then-is_empty-clause-err

@@ -1,10 +1,6 @@
 use Rattle.std.proofs.Common.{arith, sym, subst, ◌≤◌, length}
 use Rattle.std.proofs.lemmas.Grind.{common_steps}
-use Rattle.der_core.specs.Integer.{integer_contents}
-use Rattle.der_core.specs.Laws.Integer.{holds_canonical}
-use Rattle.der_core.specs.Laws.Printed.Leaves.{contents_as}
-use Rattle.der_core.specs.Length.{limit}
-use Rattle.der_core.specs.Writing.{Appends}
+use Rattle.der_core.specs.Words.{integer_contents, holds_canonical, contents_as, limit, Appends}
 use Rattle.der_core.proofs.integer.uint.UintRefEncodeValue.append_value.Goals as goal
 
 pub returns-clause-appends : goal.returns-clause-appends

@@ -1,9 +1,6 @@
 use Rattle.std.proofs.Common.{arith, rules, sym, subst, ◌≤◌, ◌∷◌, ◌∙◌, length}
 use Rattle.std.proofs.lemmas.Grind.{common_steps}
-use Rattle.der_core.specs.BackWriters.{Prepends, free_of}
-use Rattle.der_core.specs.Integer.{integer_contents}
-use Rattle.der_core.specs.Laws.Integer.{holds_canonical, written_large}
-use Rattle.der_core.specs.Laws.Printed.Leaves.{contents_as}
+use Rattle.der_core.specs.Words.{Prepends, free_of, integer_contents, holds_canonical, written_large, contents_as}
 use Rattle.der_core.proofs.integer.uint.UintRefEncodeValue.prepend_value.Goals as goal
 
 pub prepend-requires : goal.prepend-requires

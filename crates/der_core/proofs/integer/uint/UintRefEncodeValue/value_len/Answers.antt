@@ -1,4 +1,4 @@
-use Rattle.der_core.proofs.IntegerLengths.{counts_integer, length_small, length_large}
+use Rattle.der_core.proofs.Integers.{counts_integer, length_small, length_large}
 use Rattle.der_core.proofs.integer.uint.UintRefEncodeValue.value_len.Goals.{then-self-lt128, else-self-lt128}
 use Rattle.der_core.proofs.integer.uint.UintRefEncodeValue.value_len.Goals as goal
 

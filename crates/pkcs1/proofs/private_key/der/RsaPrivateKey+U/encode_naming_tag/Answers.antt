@@ -1,10 +1,8 @@
 use Rattle.std.proofs.Common.{ℕ, ap, ◌∙◌, refl, Ok, Err}
-use Rattle.std.proofs.lemmas.Result.{err_from_is_err_and}
-use Rattle.der_core.proofs.Spelled.{into_encodes, into_unwritten}
+use Rattle.der_core.specs.Words.{err_from_is_err_and, tagged_shortest, same_tag}
+use Rattle.der_core.proofs.Writing.{into_encodes, into_unwritten}
 use Rattle.der_core.specs.declared.error.ErrorKind.TheVariants as kind
-use Rattle.der_core.specs.Laws.Printed.Shortest.{tagged_shortest}
-use Rattle.der_core.specs.Laws.Tags.{same_tag}
-use Rattle.pkcs1.specs.Laws.ShortestKeys.{private_shortest}
+use Rattle.pkcs1.specs.Words.{private_shortest}
 use Rattle.pkcs1.proofs.private_key.der.RsaPrivateKey+U.encode_naming_tag.Goals as goal
 
 pub returns-then-lists_none-clause-no_primes : goal.returns-then-lists_none-clause-no_primes

@@ -1,4 +1,4 @@
-use Rattle.std.proofs.lemmas.Result.{err_from_is_err_and}
+use Rattle.der_core.specs.Words.{err_from_is_err_and}
 use Rattle.pkcs1.proofs.KeyMemory.{two_primes_rejected}
 use Rattle.pkcs1.proofs.private_key.der.RsaPrivateKey+U.from_octet_string.Goals as goal
 

@@ -1,9 +1,7 @@
 use Rattle.std.proofs.Common.{ap, ◌∙◌, refl}
-use Rattle.std.proofs.lemmas.Result.{err_from_is_err_and}
+use Rattle.der_core.specs.Words.{err_from_is_err_and, tagged_shortest, same_tag}
 use Rattle.der_core.specs.declared.error.ErrorKind.TheVariants as kind
-use Rattle.der_core.specs.Laws.Printed.Shortest.{tagged_shortest}
-use Rattle.der_core.specs.Laws.Tags.{same_tag}
-use Rattle.pkcs1.specs.Laws.ShortestKeys.{private_shortest}
+use Rattle.pkcs1.specs.Words.{private_shortest}
 use Rattle.pkcs1.proofs.Promised.{shortest, unmade}
 use Rattle.pkcs1.proofs.private_key.der.RsaPrivateKey+U.to_document.Goals as goal
 

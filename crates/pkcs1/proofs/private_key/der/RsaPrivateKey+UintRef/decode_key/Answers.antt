@@ -1,15 +1,8 @@
 use Rattle.std.proofs.Common.{arith, Ok, Err}
-use Rattle.std.proofs.lemmas.Result.{err_from_is_err_and}
-use Rattle.der_core.specs.Laws.Input.{are_bytes}
-use Rattle.der_core.specs.UintRefValue.{bytes_of}
-use Rattle.pkcs1.specs.Allocating.{MayAllocate}
-use Rattle.pkcs1.specs.Held.{held_private_key}
-use Rattle.pkcs1.specs.KeyReadings.{number, private_key, rsa_private_key}
-use Rattle.pkcs1.specs.Laws.StatedPrivateKeys.{private_decodes}
-use Rattle.pkcs1.specs.StatedKeys.{private_stated}
+use Rattle.der_core.specs.Words.{err_from_is_err_and, are_bytes, bytes_of}
+use Rattle.pkcs1.specs.Words.{MayAllocate, held_private_key, number, private_key, rsa_private_key, private_decodes, private_stated}
 use Rattle.pkcs1_params.specs.declared.error.Error.TheVariants as error
-use Rattle.pkcs1.proofs.Decoded.{decoded_err, decoded_ok, made_faulty, made_ok}
-use Rattle.pkcs1.proofs.KeyFaults.{private_tells}
+use Rattle.pkcs1.proofs.KeyReads.{decoded_err, decoded_ok, made_faulty, made_ok, private_tells}
 use Rattle.pkcs1.proofs.KeyMemory.{borrowed_ask, borrowed_key_asks, faulty_as, two_primes_read}
 use Rattle.standard.specs.Statement.{PrivateKeyEncoding}
 use Rattle.pkcs1.proofs.private_key.der.RsaPrivateKey+UintRef.decode_key.Goals as goal

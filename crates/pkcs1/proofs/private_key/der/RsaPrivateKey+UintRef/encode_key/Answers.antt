@@ -1,6 +1,5 @@
-use Rattle.der_core.specs.UintRefValue.{bytes_of}
-use Rattle.pkcs1.specs.Held.{number_in}
-use Rattle.pkcs1.specs.PrivateKeyValue.{private_key_with}
+use Rattle.der_core.specs.Words.{bytes_of}
+use Rattle.pkcs1.specs.Words.{number_in, private_key_with}
 use Rattle.pkcs1.proofs.KeysWritten.{private_encodes, private_refuses}
 use Rattle.pkcs1.proofs.private_key.der.RsaPrivateKey+UintRef.encode_key.Goals as goal
 

@@ -1,0 +1,176 @@
+-- Length octets: which they are, worked examples, known encodings, and how lengths and headers are read.
+use Rattle.std.proofs.Common.{◌/◌, ◌%◌, ℕ, [], ◌∷◌, ◌≡◌, ◌<◌, ◌≤◌, refl, sym, arith, List, map, Ok, Err, ◌++◌, ◌≢◌, inl, inr, length, ap, length-append, ◌∙◌, Result, Some, None}
+use Rattle.der_core.specs.Words.{IsLength, long, length_octets, length_octets-only, length_octets-short, length_at, ErrorKind, short, Is, Then, Tlv, Small, same_cons, tlv_split, tlv_not_empty, AreBytes, LengthEncoding, HeaderEncoding, ReadsEncoding, TellsOfBytes, Error, Input, left_in, Reads, header_at, length_at-sound, length_at-complete, header_at-complete, length_at-tells, header_at-tells, header_sound}
+use Rattle.der_core.specs.declared.error.ErrorKind.TheVariants.{Incomplete, IndefiniteLength, Overflow, Overlength}
+use Rattle.std.proofs.lemmas.Bool.{cases_lt}
+
+-- The length octets of the lengths below 2 ^ 32.
+length_1 : (n : ℕ) → 128 ≤ n → n < 256 → IsLength n (129 ∷ n ∷ [])
+length_1 n h l =
+    long (n ∷ []) h (omega arith) (record { bytes = (l, tt); value = omega arith; no_leading_zero = omega arith }) refl
+
+length_2 : (n : ℕ) → 256 ≤ n → n < 65536 → IsLength n (130 ∷ (n / 256) ∷ (n % 256) ∷ [])
+length_2 n h l =
+    long ((n / 256) ∷ (n % 256) ∷ []) (omega arith) (omega arith)
+    (record { bytes = (omega arith, (omega arith, tt)); value = omega arith; no_leading_zero = omega arith }) refl
+
+length_3 : (n : ℕ) → 65536 ≤ n → n < 16777216 → IsLength n (131 ∷ (n / 65536) ∷ (n / 256 % 256) ∷ (n % 256) ∷ [])
+length_3 n h l =
+    long ((n / 65536) ∷ (n / 256 % 256) ∷ (n % 256) ∷ []) (omega arith) (omega arith)
+    (record {
+      bytes = (omega arith, (omega arith, (omega arith, tt)));
+      value = omega arith;
+      no_leading_zero = omega arith;
+    }) refl
+
+length_4 : (n : ℕ) → 16777216 ≤ n → n < 4294967296
+    → IsLength n (132 ∷ (n / 16777216) ∷ (n / 65536 % 256) ∷ (n / 256 % 256) ∷ (n % 256) ∷ [])
+length_4 n h l =
+    long ((n / 16777216) ∷ (n / 65536 % 256) ∷ (n / 256 % 256) ∷ (n % 256) ∷ []) (omega arith) (omega arith)
+    (record {
+      bytes = (omega arith, (omega arith, (omega arith, (omega arith, tt))));
+      value = omega arith;
+      no_leading_zero = omega arith;
+    }) refl
+
+pub length_octets-1 : (n : ℕ) → 128 ≤ n → n < 256 → length_octets n ≡ 129 ∷ n ∷ []
+length_octets-1 n h l = sym (length_octets-only n (129 ∷ n ∷ []) (length_1 n h l))
+
+pub length_octets-2 : (n : ℕ) → 256 ≤ n → n < 65536 → length_octets n ≡ 130 ∷ (n / 256) ∷ (n % 256) ∷ []
+length_octets-2 n h l = sym (length_octets-only n (130 ∷ (n / 256) ∷ (n % 256) ∷ []) (length_2 n h l))
+
+pub length_octets-3 : (n : ℕ) → 65536 ≤ n → n < 16777216
+    → length_octets n ≡ 131 ∷ (n / 65536) ∷ (n / 256 % 256) ∷ (n % 256) ∷ []
+length_octets-3 n h l =
+    sym (length_octets-only n (131 ∷ (n / 65536) ∷ (n / 256 % 256) ∷ (n % 256) ∷ []) (length_3 n h l))
+
+pub length_octets-4 : (n : ℕ) → 16777216 ≤ n → n < 4294967296
+    → length_octets n ≡ 132 ∷ (n / 16777216) ∷ (n / 65536 % 256) ∷ (n / 256 % 256) ∷ (n % 256) ∷ []
+length_octets-4 n h l =
+    sym (length_octets-only n (132 ∷ (n / 16777216) ∷ (n / 65536 % 256) ∷ (n / 256 % 256) ∷ (n % 256) ∷ [])
+    (length_4 n h l))
+
+-- What is known of the length octets of numbers below 2 ^ 32.
+pub ruleset known_lengths = (length_octets-short, length_octets-1, length_octets-2, length_octets-3, length_octets-4)
+
+-- Length octets at worked examples: the length, with the octets behind it, or the kind of the fault.
+
+-- 7f, 8180, 81ff, 820100, 82ffff, 83010000, 8401000000, 840fffffff, 84ffffffff
+abbrev lengths : List (List ℕ × ℕ)
+lengths =
+    (0x7f ∷ [], 127)
+    ∷ (0x81 ∷ 0x80 ∷ [], 128)
+    ∷ (0x81 ∷ 0xff ∷ [], 255)
+    ∷ (0x82 ∷ 0x01 ∷ 0x00 ∷ [], 256)
+    ∷ (0x82 ∷ 0xff ∷ 0xff ∷ [], 65535)
+    ∷ (0x83 ∷ 0x01 ∷ 0x00 ∷ 0x00 ∷ [], 65536)
+    ∷ (0x84 ∷ 0x01 ∷ 0x00 ∷ 0x00 ∷ 0x00 ∷ [], 16777216)
+    ∷ (0x84 ∷ 0x0f ∷ 0xff ∷ 0xff ∷ 0xff ∷ [], 268435455)
+    ∷ (0x84 ∷ 0xff ∷ 0xff ∷ 0xff ∷ 0xff ∷ [], 4294967295)
+    ∷ []
+
+are_lengths : map (λ row. length_at row.0) lengths ≡ map (λ row. let p : ℕ × List ℕ = (row.1, []) in Ok p) lengths
+unfolding length_at
+are_lengths = refl
+
+-- 817f, 8100, 820080: a shorter form would do. 80: indefinite. 8201, and no octets: some are missing. 8501, ff: more
+-- octets than lengths within the limit have.
+abbrev faults : List (List ℕ × ErrorKind)
+faults =
+    (0x81 ∷ 0x7f ∷ [], Overlength)
+    ∷ (0x81 ∷ 0x00 ∷ [], Overlength)
+    ∷ (0x82 ∷ 0x00 ∷ 0x80 ∷ [], Overlength)
+    ∷ (0x80 ∷ [], IndefiniteLength)
+    ∷ (0x82 ∷ 0x01 ∷ [], Incomplete)
+    ∷ ([], Incomplete)
+    ∷ (0x85 ∷ 0x01 ∷ [], Overflow)
+    ∷ (0xff ∷ [], Overflow)
+    ∷ []
+
+are_faults : map (λ row. length_at row.0) faults ≡ map (λ row. Err row.1) faults
+unfolding length_at
+are_faults = refl
+
+-- Encodings that are written out: making one, taking one apart, and showing that there is none.
+
+-- With fewer than 128 bytes of contents.
+pub known_tlv : (t : ℕ) {P : List ℕ → Type 0} (c : List ℕ) → P c → length c < 128 → Tlv t P (t ∷ length c ∷ c)
+known_tlv t c p l = record { octets = length c ∷ []; contents = c; counted = short l refl; holds = p; written = refl }
+
+-- If an encoding stands at the front of known bytes, its contents are known, and so is what follows.
+pub known_front : {t u : ℕ} {P : List ℕ → Type 0} (c rest x y : List ℕ) → Tlv t P x
+    → (u ∷ length c ∷ c) ++ rest ≡ x ++ y → length c < 128 → (t ≡ u) × P c × (y ≡ rest)
+known_front {t} {u} c rest x y p e l =
+    let k : Tlv u (Is c) (u ∷ length c ∷ c) = known_tlv u c refl l in
+    let s = tlv_split x y (u ∷ length c ∷ c) rest p k (sym e) in
+    (s.1, rw s.5 at s.4, s.2)
+
+pub known_whole : {t u : ℕ} {P : List ℕ → Type 0} (c : List ℕ) → Tlv t P (u ∷ length c ∷ c) → length c < 128 → P c
+known_whole {t} {u} c p l = (known_front c [] (u ∷ length c ∷ c) [] p refl l).1
+
+-- INTEGER encodings of one byte.
+pub small_byte : (n : ℕ) → n < 128 → Small n (2 ∷ 1 ∷ n ∷ [])
+small_byte n l = elim (cases_lt 0 n) [
+  | inl h ↦ known_tlv 2 (n ∷ []) (omega arith, n ∷ [], omega arith, (inr ((omega arith, tt), h), inl (l, refl)))
+      (omega arith)
+  | inr h ↦ let z : n ≡ 0 =
+      omega arith in known_tlv 2 (n ∷ []) (omega arith, n ∷ [], omega arith, (inl (rw z refl), inl (l, refl)))
+      (omega arith)
+]
+
+-- An encoding isn't empty, and its first byte is the tag.
+pub no_bytes_rejected : {t : ℕ} {P : List ℕ → Type 0} → Tlv t P [] → ⊥
+no_bytes_rejected p = let e = p.written in cc
+
+pub other_tag_rejected : {t : ℕ} {P : List ℕ → Type 0} (u : ℕ) (x : List ℕ) → u ≢ t → Tlv t P (u ∷ x) → ⊥
+other_tag_rejected u x other p = other (same_cons p.written).0
+
+-- Without bytes there is no encoding at their front.
+pub no_part_rejected : {t : ℕ} {P Rest : List ℕ → Type 0} → Then (Tlv t P) Rest [] → ⊥
+no_part_rejected (x, y, p, q, e) = omega (arith, tlv_not_empty x p, ap length e, length-append x y)
+
+-- The functions that read lengths and headers read their grammars, and nothing else.
+
+-- If f reads exactly the encodings, then a call that returns what f reads is one that ReadsEncoding describes.
+module _ {Y : Type 0} (f : List ℕ → Result (Y × List ℕ) ErrorKind) (encoding : Y → List ℕ → Type 0)
+    (sound : (i rest : List ℕ) (y : Y) → AreBytes i → f i ≡ Ok (y, rest)
+    → (b : List ℕ) × (i ≡ b ++ rest) × encoding y b)
+    (complete : (y : Y) (b rest : List ℕ) → encoding y b → f (b ++ rest) ≡ Ok (y, rest))
+    (tells : (i : List ℕ) (k : ErrorKind) → f i ≡ Err k → TellsOfBytes k) where
+  pub exact_reads : {X : Type 0} (view : X → Y) (r : Result X Error) (before after : Input) → AreBytes (left_in before)
+      → Reads view r before after f → ReadsEncoding view encoding (λ _. ⊥) r before after
+  exact_reads view (Ok x) None after bytes h = let no = h.1 in cc
+  exact_reads view (Ok x) (Some i) after bytes h =
+      let p = sound i h.0 (view x) bytes h.1 in
+      (p.0, h.0, ap (λ l. Some l) p.1, h.2, p.2)
+  exact_reads view (Err e) None after bytes h = let kind = h.0 in (h.1, λ _. cc, λ i is. cc)
+  exact_reads view (Err e) (Some i) after bytes h = (
+    h.1,
+    λ none. cc,
+    λ j is.
+        let same : i ≡ j = cc in
+        inr (
+          tells i e.kind h.0,
+          λ y b rest split t.
+              let found : f i ≡ Ok (y, rest) = ap f (same ∙ split) ∙ complete y b rest t in
+              let no = sym h.0 ∙ found in cc,
+        ),
+  )
+
+length_sound : (i rest : List ℕ) (n : ℕ) → AreBytes i → length_at i ≡ Ok (n, rest)
+    → (b : List ℕ) × (i ≡ b ++ rest) × LengthEncoding n b
+length_sound i rest n bytes e = let p = length_at-sound i rest n bytes e in (p.0, p.2, (p.3, p.1))
+
+pub length_reads : {X : Type 0} (view : X → ℕ) (r : Result X Error) (before after : Input) → AreBytes (left_in before)
+    → Reads view r before after length_at → ReadsEncoding view LengthEncoding (λ _. ⊥) r before after
+length_reads =
+    exact_reads length_at LengthEncoding length_sound (λ n b rest t. length_at-complete n b rest t.1 t.0)
+    length_at-tells
+
+pub header_complete : (h : ℕ × ℕ) (b rest : List ℕ) → HeaderEncoding h b → header_at (b ++ rest) ≡ Ok (h, rest)
+header_complete h b rest t = rw t.3 (header_at-complete h.0 h.1 t.1 rest t.0 t.2.1 t.2.0)
+
+pub header_reads : {X : Type 0} (view : X → ℕ × ℕ) (r : Result X Error) (before after : Input)
+    → AreBytes (left_in before) → Reads view r before after header_at
+    → ReadsEncoding view HeaderEncoding (λ _. ⊥) r before after
+header_reads = exact_reads header_at HeaderEncoding header_sound header_complete header_at-tells

@@ -1,0 +1,301 @@
+-- Why values aren't written, what writing one part after another leaves, and lengths. Also what reading a whole slice
+-- gives.
+use Rattle.std.proofs.Common.{ℕ, List, ◌<◌, ◌≤◌, length, subst, ap, ◌∙◌, arith, inl, inr, Result, Ok, Err, IfErr, ◌≡◌, ◌++◌, drop, refl, IfOk, OnErr, OnOk, ◌+◌, length-append, [], sym, append_assoc, append-nil, true, false, if◌then◌else◌, nat_le}
+use Rattle.der_core.specs.Words.{limit, Means, IsShortest, WhyNotCounted, WhyNotWritten, EncodeError, no_encoding, too_long, no_room, another, shortest_is, Prints, WritesShortest, WhyOctetsNotCounted, Counts, WhyOctetsNotWritten, encode_error, Error, AreBytes, Answers, values_alike, whole_alike, written_encodes, meant_decodes, ReadsFrontAlike, ReadsFrontPrinted, Spells, ok_of, value_in, DecodesOrMemory, Returns, FrontReading, whole, Unwritten, IsLength, length_octets, Is, Tlv, length_octets-only, Appends, tlv, joined, is_no_encoding}
+use Rattle.standard.specs.Statement.{Decodes, Encodes}
+use Rattle.der_core.specs.declared.error.ErrorKind.TheVariants.{NoRoom, Overflow}
+use Rattle.der_core.specs.declared.error.ErrorKind.TheVariants as kind
+
+module _ {S V : Type 0} {valid : S → Type 0} {printed : S → List ℕ} {means : S → V} {written : V → S}
+    (law : WritesShortest valid printed means written) (v : V) where
+  -- a value with an encoding has a valid spelling that is written
+  pub has_written : (encoding : List ℕ) → Prints valid printed means v encoding → valid (written v)
+  has_written encoding (s, e, ok, is) = subst (λ u. valid (written u)) e (law.valid s ok)
+
+  -- what is written is the shortest encoding
+  pub is_shortest : valid (written v) → length (printed (written v)) ≤ limit
+      → IsShortest (Prints valid printed means) v (printed (written v))
+  is_shortest ok few = let p = shortest_is law v ok few in record { spells = p.0; least = p.1 }
+
+  none_fits : limit < length (printed (written v)) → (encoding : List ℕ)
+      → Means (Prints valid printed means) encoding v → ⊥
+  none_fits long encoding (few, (s, e, ok, is)) = elim (law.least s ok (omega (arith, few, ap length is))) [
+    | inl same ↦ omega (arith, long, few, ap length is, ap (λ u. length (printed u)) (same ∙ ap written e))
+    | inr less ↦ omega (arith, long, few, ap length is, less, ap (λ u. length (printed (written u))) e)
+  ]
+
+  uncounted_as : (k : EncodeError) → WhyOctetsNotCounted (valid (written v)) (printed (written v)) k
+      → WhyNotCounted (valid (written v)) (Prints valid printed means) v k
+  uncounted_as no_encoding h = λ encoding p. h (has_written encoding p)
+  uncounted_as too_long h = (h.0, none_fits h.1)
+  uncounted_as no_room h = h
+  uncounted_as another h = h
+
+  pub uncounted : (r : Result ℕ Error) → Counts (valid (written v)) (printed (written v)) r
+      → IfErr r (λ e. WhyNotCounted (valid (written v)) (Prints valid printed means) v (encode_error e.kind))
+  uncounted (Ok n) h = tt
+  uncounted (Err e) h = uncounted_as (encode_error e.kind) h
+
+  stopped_as : (room : ℕ) (old new : List ℕ) (k : EncodeError)
+      → WhyOctetsNotWritten (valid (written v)) (printed (written v)) room old new k
+      → WhyNotWritten (valid (written v)) (Prints valid printed means) v room k
+  stopped_as room old new no_encoding h = λ encoding p. h.0 (has_written encoding p)
+  stopped_as room old new too_long h = (h.0, none_fits h.1)
+  stopped_as room old new no_room h = (printed (written v), is_shortest h.0 h.1, h.2)
+  stopped_as room old new another h = h
+
+  pub stopped : {A : Type 0} (room : ℕ) (old new : List ℕ) (r : Result A Error)
+      → IfErr r
+      (λ e. WhyOctetsNotWritten (valid (written v)) (printed (written v)) room old new (encode_error e.kind))
+      → IfErr r (λ e. WhyNotWritten (valid (written v)) (Prints valid printed means) v room (encode_error e.kind))
+  stopped room old new (Ok x) h = tt
+  stopped room old new (Err e) h = stopped_as room old new (encode_error e.kind) h
+
+-- What reading a whole slice gives, and what writing over one does, of the values that spellings mean.
+module _ {S V : Type 0} {valid : S → Type 0} {printed : S → List ℕ} {spelling : FrontReading S} {means : S → V}
+    {at : FrontReading V} (law : ReadsFrontPrinted valid printed spelling) (alike : ReadsFrontAlike spelling means at)
+  where
+    -- The function that reads values decodes what is printed.
+    pub values_decode : (bytes : List ℕ) → AreBytes bytes
+        → Decodes (Spells valid printed means) bytes (value_in (whole at bytes))
+    values_decode bytes are =
+        subst (Decodes (Spells valid printed means) bytes) (values_alike (whole_alike alike) bytes)
+        (meant_decodes law means bytes are)
+
+    -- So does a call that returns what it gives.
+    pub answers_decode : {X : Type 0} (value : X → V) (bytes : List ℕ) (r : Result X Error) → AreBytes bytes
+        → Answers value r (whole at bytes) → Decodes (Spells valid printed means) bytes (ok_of value r)
+    answers_decode value bytes (Ok x) are was =
+        subst (Decodes (Spells valid printed means) bytes) (ap value_in was) (values_decode bytes are)
+    answers_decode value bytes (Err e) are was =
+        subst (Decodes (Spells valid printed means) bytes) (ap value_in was) (values_decode bytes are)
+
+    -- And one that may ask for memory.
+    pub returns_decode : {X : Type 0} (value : X → V) (bytes : List ℕ) (asked : Type 0) (r : Result X Error)
+        → AreBytes bytes → Returns value (whole at bytes) asked r
+        → DecodesOrMemory value (Spells valid printed means) asked bytes r
+    returns_decode value bytes asked (Ok x) are was = answers_decode value bytes (Ok x) are was
+    returns_decode value bytes asked (Err e) are (inl w) = inl w
+    returns_decode value bytes asked (Err e) are (inr was) = inr (answers_decode value bytes (Err e) are was)
+
+-- What the clauses of `encode_into` say, in the words of the statement.
+module _ {S V : Type 0} {valid : S → Type 0} {printed : S → List ℕ} {means : S → V} {written : V → S}
+    (law : WritesShortest valid printed means written) (v : V) where
+  abbrev Stopped : ℕ → EncodeError → Type 0
+  Stopped room k = WhyNotWritten (valid (written v)) (Prints valid printed means) v room k
+
+  no_room_for : (room : ℕ) (k : EncodeError) → Stopped room k → (bytes : List ℕ) → Spells valid printed means v bytes
+      → room < length bytes
+  no_room_for room no_encoding h bytes p = absurd (h bytes p.1)
+  no_room_for room too_long h bytes p = absurd (h.1 bytes p)
+  no_room_for room no_room h bytes p = elim (h.1.least bytes p) [
+    | inl same ↦ omega (arith, h.2, ap length same)
+    | inr longer ↦ omega (arith, h.2, longer)
+  ]
+  no_room_for room another h bytes p = absurd h
+
+  pub into_encodes : (old new : List ℕ) (r : Result ℕ Error)
+      → IfOk r (λ n. (n ≡ length (printed (written v))) × (new ≡ printed (written v) ++ drop n old))
+      → OnOk r (IsShortest (Prints valid printed means) v (printed (written v)))
+      → IfErr r (λ e. Stopped (length old) (encode_error e.kind)) → OnErr r (new ≡ old) → length new ≡ length old
+      → Encodes (Spells valid printed means) v old new (ok_of (λ n. n) r)
+  into_encodes old new (Ok n) is s why same kept =
+      written_encodes (Spells valid printed means) v old new (printed (written v)) n (s.spells, s.least) is.0 is.1 kept
+  into_encodes old new (Err e) is s why same kept = (same, no_room_for (length old) (encode_error e.kind) why)
+
+  unwritten_for : (room : ℕ) (k : EncodeError) → Stopped room k
+      → Unwritten (λ u. valid (written u)) (Spells valid printed means) v room k
+  unwritten_for room no_encoding h = λ ok. h (printed (written v)) (written v, law.back v, ok, refl)
+  unwritten_for room too_long h = h
+  unwritten_for room no_room h = (h.0, (h.1.spells, h.1.least), h.2)
+  unwritten_for room another h = h
+
+  pub into_unwritten : {X : Type 0} (room : ℕ) (r : Result X Error)
+      → IfErr r (λ e. Stopped room (encode_error e.kind))
+      → IfErr r (λ e. Unwritten (λ u. valid (written u)) (Spells valid printed means) v room (encode_error e.kind))
+  into_unwritten room (Ok x) h = tt
+  into_unwritten room (Err e) h = unwritten_for room (encode_error e.kind) h
+
+-- The length of an encoding, by that of its contents.
+pub tlv_length : (n t : ℕ) (c encoding : List ℕ) → length c ≡ n → Tlv t (Is c) encoding
+    → length encoding ≡ 1 + length (length_octets n) + n
+tlv_length n t c encoding e p =
+    let same : p.contents ≡ c = p.holds in
+    let count : length p.contents ≡ n = ap length same ∙ e in
+    let counted : IsLength n p.octets = rw count at p.counted in
+    let form : p.octets ≡ length_octets n = length_octets-only n p.octets counted in
+    omega (arith, ap length p.written, ap length form, count, length-append p.octets p.contents)
+
+-- Where the writing of one part after another stops.
+
+-- behind what was written whole
+stops_behind : {here has : Type 0} (encoding front back old mid new : List ℕ) (room left : ℕ) (k : EncodeError)
+    → here → has → encoding ≡ front ++ back → length encoding ≤ limit → mid ≡ old ++ front → left + length front ≡ room
+    → WhyOctetsNotWritten here back left mid new k → WhyOctetsNotWritten has encoding room old new k
+stops_behind encoding front back old mid new room left no_encoding y h t l m r s = absurd (s.0 y)
+stops_behind encoding front back old mid new room left too_long y h t l m r s =
+    absurd (omega (arith, s.1, l, ap length t, length-append front back))
+stops_behind encoding front back old mid new room left no_room y h t l m r s = (
+  h,
+  l,
+  omega (arith, s.2, r, ap length t, length-append front back),
+  (
+    front ++ s.3.0,
+    s.3.1,
+    append_assoc front s.3.0 s.3.1 ∙ ap (λ x. front ++ x) s.3.2 ∙ sym t,
+    s.3.3
+        ∙ ap (λ x. x ++ s.3.0) m ∙ append_assoc old front s.3.0,
+  ),
+)
+stops_behind encoding front back old mid new room left another y h t l m r s = absurd s
+
+-- in the first part
+stops_in_front : {here has : Type 0} (encoding front back old new : List ℕ) (room : ℕ) (k : EncodeError)
+    → here → has → encoding ≡ front ++ back → length encoding ≤ limit
+    → WhyOctetsNotWritten here front room old new k → WhyOctetsNotWritten has encoding room old new k
+stops_in_front encoding front back old new room no_encoding y h t l s = absurd (s.0 y)
+stops_in_front encoding front back old new room too_long y h t l s =
+    absurd (omega (arith, s.1, l, ap length t, length-append front back))
+stops_in_front encoding front back old new room no_room y h t l s = (
+  h,
+  l,
+  omega (arith, s.2, ap length t, length-append front back),
+  (s.3.0, s.3.1 ++ back, sym (append_assoc s.3.0 s.3.1 back) ∙ ap (λ x. x ++ back) s.3.2 ∙ sym t, s.3.3),
+)
+stops_in_front encoding front back old new room another y h t l s = absurd s
+
+-- before anything was written
+stops_at_once : {has : Type 0} (encoding old new : List ℕ) (room : ℕ) → has → length encoding ≤ limit
+    → room < length encoding → new ≡ old → WhyOctetsNotWritten has encoding room old new no_room
+stops_at_once encoding old new room h l r e = (h, l, r, ([], encoding, refl, e ∙ sym (append-nil old)))
+
+-- One part was appended, or a beginning of it, behind what was appended before.
+pub appends_behind : {W A here has : Type 0} {Room : W → ℕ} {Written : W → List ℕ} {old mid new : W}
+    {r : Result A Error} (encoding front back : List ℕ)
+    → here → has → encoding ≡ front ++ back → length encoding ≤ limit → Written mid ≡ Written old ++ front
+    → Room mid + length front ≡ Room old
+    → Appends here back Room Written mid new r → Appends has encoding Room Written old new r
+appends_behind {Room = Room} {Written} {old} {r = Ok x} encoding front back y h t l m n a = record {
+  has = (h, l);
+  written =
+      a.written ∙ ap (λ w. w ++ back) m ∙ append_assoc (Written old) front back ∙ ap (λ w. Written old ++ w) (sym t);
+  room = omega (arith, a.room, n, ap length t, length-append front back);
+  left = tt;
+}
+appends_behind {r = Err e} encoding front back y h t l m n a = record {
+  has = tt;
+  written = tt;
+  room = tt;
+  left = stops_behind encoding front back _ _ _ _ _ _ y h t l m n a.left;
+}
+
+-- Writing the first part fails, and so writing the whole does.
+pub appends_in_front : {W A B here has : Type 0} {Room : W → ℕ} {Written : W → List ℕ} {old new : W} {e : Error}
+    (encoding front back : List ℕ)
+    → here → has → encoding ≡ front ++ back → length encoding ≤ limit
+    → Appends {A = B} here front Room Written old new (Err e)
+    → Appends {A = A} has encoding Room Written old new (Err e)
+appends_in_front encoding front back y h t l a = record {
+  has = tt;
+  written = tt;
+  room = tt;
+  left = stops_in_front encoding front back _ _ _ _ y h t l a.left;
+}
+
+-- There was too little room for the first part, and nothing was written.
+pub appends_nothing : {W A has : Type 0} {Room : W → ℕ} {Written : W → List ℕ} {old new : W} {e : Error}
+    {encoding : List ℕ}
+    → has → length encoding ≤ limit → e.kind ≡ NoRoom → Room old < length encoding → Written new ≡ Written old
+    → Appends {A = A} has encoding Room Written old new (Err e)
+appends_nothing h l k full same =
+    record { has = tt; written = tt; room = tt; left = rw k (stops_at_once _ _ _ _ h l full same) }
+
+-- There are too many octets, and nothing was written.
+pub appends_too_long : {W A has : Type 0} {Room : W → ℕ} {Written : W → List ℕ} {old : W} {e : Error}
+    {encoding : List ℕ}
+    → has → e.kind ≡ Overflow → limit < length encoding → Appends {A = A} has encoding Room Written old old (Err e)
+appends_too_long h k many = record { has = tt; written = tt; room = tt; left = rw k (h, many, refl) }
+
+-- All octets were written by one call.
+pub appends_at_once : {W A has : Type 0} {Room : W → ℕ} {Written : W → List ℕ} {old new : W} {encoding : List ℕ}
+    (r : Result A Error) → has → length encoding ≤ limit
+    → OnOk r (Written new ≡ Written old ++ encoding) → OnOk r (Room new + length encoding ≡ Room old)
+    → IfErr r (λ e. (e.kind ≡ NoRoom) × (Room old < length encoding))
+    → OnErr r ((Written new ≡ Written old) × (Room new ≡ Room old))
+    → Appends has encoding Room Written old new r
+appends_at_once (Ok x) h l w n full same = record { has = (h, l); written = w; room = n; left = tt }
+appends_at_once (Err e) h l w n full same = appends_nothing h l full.0 full.1 same.0
+
+-- The length of two parts.
+module _ {P Q R : Type 0} (xs ys : List ℕ) (there : P → Q → R) (back : R → P × Q) where
+  second_uncounted : (k : EncodeError) → P → WhyOctetsNotCounted Q ys k → WhyOctetsNotCounted R (xs ++ ys) k
+  second_uncounted no_encoding p u = λ r. u (back r).1
+  second_uncounted too_long p u = (there p u.0, omega (arith, u.1, length-append xs ys))
+  second_uncounted no_room p u = absurd u
+  second_uncounted another p u = absurd u
+
+  first_uncounted : (k : EncodeError) → Q → WhyOctetsNotCounted P xs k → WhyOctetsNotCounted R (xs ++ ys) k
+  first_uncounted no_encoding q u = λ r. u (back r).0
+  first_uncounted too_long q u = (there u.0 q, omega (arith, u.1, length-append xs ys))
+  first_uncounted no_room q u = absurd u
+  first_uncounted another q u = absurd u
+
+  none_uncounted : (k : EncodeError) → is_no_encoding k ≡ true → WhyOctetsNotCounted P xs k
+      → WhyOctetsNotCounted R (xs ++ ys) k
+  none_uncounted no_encoding e u = λ r. u (back r).0
+  none_uncounted too_long e u = cc
+  none_uncounted no_room e u = absurd u
+  none_uncounted another e u = absurd u
+
+  other_uncounted : (k j : EncodeError) → is_no_encoding k ≡ false → WhyOctetsNotCounted P xs k
+      → WhyOctetsNotCounted Q ys j → WhyOctetsNotCounted R (xs ++ ys) j
+  other_uncounted no_encoding j e u v = cc
+  other_uncounted too_long j e u v = second_uncounted j u.0 v
+  other_uncounted no_room j e u v = absurd u
+  other_uncounted another j e u v = absurd u
+
+  pub counts_joined : (a b : Result ℕ Error) → Counts P xs a → Counts Q ys b → Counts R (xs ++ ys) (joined a b)
+  counts_joined (Ok m) (Ok n) p q =
+      elim (nat_le (m + n) limit) as (λ t. nat_le (m + n) limit ≡ t
+      → Counts R (xs ++ ys) (if t then Ok (m + n) else Err (record { kind = kind.Overflow }))) [
+        | true ↦ λ e. let le : m + n ≤ limit =
+            grind arith in (there p.0 q.0, omega (arith, p.1, q.1, length-append xs ys), le)
+        | false ↦ λ e. let gt : limit < m + n =
+            grind arith in (there p.0 q.0, omega (arith, p.1, q.1, length-append xs ys))
+      ] refl
+  counts_joined (Ok m) (Err f) p q = second_uncounted (encode_error f.kind) p.0 q
+  counts_joined (Err e) (Ok n) p q = first_uncounted (encode_error e.kind) q.0 p
+  counts_joined (Err e) (Err f) p q =
+      elim (is_no_encoding (encode_error e.kind))
+      as (λ t. is_no_encoding (encode_error e.kind) ≡ t → Counts R (xs ++ ys) (if t then Err e else Err f)) [
+        | true ↦ λ h. none_uncounted (encode_error e.kind) h p
+        | false ↦ λ h. other_uncounted (encode_error e.kind) (encode_error f.kind) h p q
+      ] refl
+
+-- What a call counts of an encoding, by the length of its contents.
+pub counts_encoding : {P : Type 0} (tag : ℕ) (contents : List ℕ) (n : ℕ) (r : Result ℕ Error) → P → n ≡ length contents
+    → IfOk r (λ total. (total ≡ 1 + length (length_octets n) + n) × (total ≤ limit))
+    → IfErr r (λ e. (e.kind ≡ kind.Overflow) × (limit < 1 + length (length_octets n) + n))
+    → Counts P (tlv tag contents) r
+counts_encoding tag contents n (Ok m) p e ok err = (
+  p,
+  omega (
+    arith,
+    ok.0,
+    e,
+    ap (λ k. length (length_octets k)) e,
+    length-append (length_octets (length contents)) contents,
+  ),
+  ok.1,
+)
+counts_encoding tag contents n (Err x) p e ok err =
+    rw err.0 (
+      p,
+      omega (
+        arith,
+        err.1,
+        e,
+        ap (λ k. length (length_octets k)) e,
+        length-append (length_octets (length contents)) contents,
+      ),
+    )

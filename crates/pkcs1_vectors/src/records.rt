@@ -1,0 +1,63 @@
+//! Types of one's own: a value that is read, and what is written of it.
+use crate::told::{PrintedError, Told};
+use der_core::Result;
+use examples::{
+    read_digest_info, read_dsa_algorithm, read_extension, write_digest_info, write_dsa_algorithm,
+    write_extension,
+};
+
+/// More octets than a row here has.
+const ROOM: usize = 32;
+
+/// The octets that were written to the front of a slice, or why none were.
+fn written_again(to: &mut Told, out: &[u8], count: Result<usize>) {
+    match count {
+        Ok(count) => match out.get(..count) {
+            Some(octets) => to.octets(octets),
+            None => to.malformed(),
+        },
+        Err(error) => error.told(to),
+    }
+}
+
+/// `extension HEX`: whether it is critical, and it again.
+pub fn extension(to: &mut Told, bytes: &[u8]) {
+    let mut out = [0; ROOM];
+    match read_extension(bytes) {
+        Ok(extension) => {
+            to.yes_or_no(extension.critical);
+            to.gap();
+            let count = write_extension(&extension, &mut out);
+            written_again(to, &out, count);
+        }
+        Err(error) => error.told(to),
+    }
+}
+
+/// `digest-info HEX`: the digest, and it again.
+pub fn digest_info(to: &mut Told, bytes: &[u8]) {
+    let mut out = [0; ROOM];
+    match read_digest_info(bytes) {
+        Ok(info) => {
+            to.digits(info.digest.as_bytes());
+            to.gap();
+            let count = write_digest_info(&info, &mut out);
+            written_again(to, &out, count);
+        }
+        Err(error) => error.told(to),
+    }
+}
+
+/// `dsa HEX`: whether it has parameters, and it again.
+pub fn dsa_algorithm(to: &mut Told, bytes: &[u8]) {
+    let mut out = [0; ROOM];
+    match read_dsa_algorithm(bytes) {
+        Ok(algorithm) => {
+            to.yes_or_no(algorithm.parameters.is_some());
+            to.gap();
+            let count = write_dsa_algorithm(&algorithm, &mut out);
+            written_again(to, &out, count);
+        }
+        Err(error) => error.told(to),
+    }
+}
