@@ -1,8 +1,9 @@
 #!/usr/bin/env bash
-# Does everything work? Builds and runs all that is tested, in a copy of the tree, and proves nothing: the documents'
-# checks, the worked rows, the tests, the tool, and the libraries for C and Rust. .ci/run proves all.
+# Does everything work? Builds and runs all that is tested, in a copy of the tree, and proves nothing: the layout that
+# `rt ci` asks for, the documents' checks, the worked rows, the tests, the tool, and the libraries for C and Rust.
+# .ci/run proves all.
 #
-#     tools/unproved/run.sh [documents|rows|tests|tool|ffi].. [--keep PREFIX]
+#     tools/unproved/run.sh [layout|documents|rows|tests|tool|ffi].. [--keep PREFIX]
 #
 # --keep: the library for C is installed below PREFIX. Its version and its libpkcs1.pc say that it isn't proved.
 # `rt try` builds a program without a proof, and keeps no file. Here it runs from a copy of the kit, of links, whose
@@ -69,6 +70,16 @@ END
     }
 }
 
+# In a copy, so that a file that isn't laid out stays as it is, and is shown.
+layout() {
+    local crate
+    mkdir "$room/laid_out"
+    cp -r crates crates.txt "$room/laid_out"
+    for crate in crates/*/; do
+        (cd "$room/laid_out/$crate" && rt fmt)
+    done
+    diff -r crates "$room/laid_out/crates"
+}
 documents() {
     local check
     needs python3 perl
@@ -128,13 +139,13 @@ step() {
 steps_of() {
     local it
     case $1 in
-    documents | tool | ffi | clean_room) echo "$1" ;;
+    layout | documents | tool | ffi | clean_room) echo "$1" ;;
     rows) for it in crates/*/src/main.rt; do
         it=${it#crates/} && it=${it%%/*}
         [ "$it" = pkcs1_tool ] || echo "rows $it"
     done ;;
     tests) grep -rl --include='*.rt' '#\[test\]' crates/*/src | sed 's,crates/\([^/]*\)/.*,tests \1,' | sort -u ;;
-    *) stop "there is no part $1: it knows documents, rows, tests, tool, ffi and clean_room" ;;
+    *) stop "there is no part $1: it knows layout, documents, rows, tests, tool, ffi and clean_room" ;;
     esac
 }
 
@@ -150,7 +161,7 @@ while [ $# -gt 0 ]; do
     esac
     shift
 done
-[ ${#parts[@]} -gt 0 ] || parts=(ffi clean_room tests rows tool documents)
+[ ${#parts[@]} -gt 0 ] || parts=(layout ffi clean_room tests rows tool documents)
 [ -z "$keep" ] || [[ " ${parts[*]} " = *" ffi "* ]] || stop "--keep needs the part ffi"
 for part in "${parts[@]}"; do
     steps_of "$part" >> "$room/steps"
