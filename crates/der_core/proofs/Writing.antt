@@ -1,7 +1,7 @@
 -- Why values aren't written, what writing one part after another leaves, and lengths. Also what reading a whole slice
 -- gives.
 use Rattle.std.proofs.Common.{ℕ, List, ◌<◌, ◌≤◌, length, subst, ap, ◌∙◌, arith, inl, inr, Result, Ok, Err, IfErr, ◌≡◌, ◌++◌, drop, refl, IfOk, OnErr, OnOk, ◌+◌, length-append, [], sym, append_assoc, append-nil, true, false, if◌then◌else◌, nat_le}
-use Rattle.der_core.specs.Words.{limit, Means, IsShortest, WhyNotCounted, WhyNotWritten, EncodeError, no_encoding, too_long, no_room, another, shortest_is, Prints, WritesShortest, WhyOctetsNotCounted, Counts, WhyOctetsNotWritten, encode_error, Error, AreBytes, Answers, values_alike, whole_alike, written_encodes, meant_decodes, ReadsFrontAlike, ReadsFrontPrinted, Spells, ok_of, value_in, DecodesOrMemory, Returns, FrontReading, whole, Unwritten, IsLength, length_octets, Is, Tlv, length_octets-only, Appends, tlv, joined, is_no_encoding}
+use Rattle.der_core.specs.Words.{limit, Means, IsShortest, WhyNotCounted, WhyNotWritten, EncodeError, no_encoding, too_long, no_room, another, shortest_is, Prints, WritesShortest, WhyOctetsNotCounted, Counts, WhyOctetsNotWritten, encode_error, Error, AreBytes, Answers, values_alike, whole_alike, written_encodes, meant_decodes, ReadsFrontAlike, ReadsFrontPrinted, Spells, ok_of, value_in, FrontReading, whole, Unwritten, IsLength, length_octets, Is, Tlv, length_octets-only, Appends, tlv, joined, is_no_encoding}
 use Rattle.standard.specs.Statement.{Decodes, Encodes}
 use Rattle.der_core.specs.declared.error.ErrorKind.TheVariants.{NoRoom, Overflow}
 use Rattle.der_core.specs.declared.error.ErrorKind.TheVariants as kind
@@ -69,14 +69,6 @@ module _ {S V : Type 0} {valid : S → Type 0} {printed : S → List ℕ} {spell
         subst (Decodes (Spells valid printed means) bytes) (ap value_in was) (values_decode bytes are)
     answers_decode value bytes (Err e) are was =
         subst (Decodes (Spells valid printed means) bytes) (ap value_in was) (values_decode bytes are)
-
-    -- And one that may ask for memory.
-    pub returns_decode : {X : Type 0} (value : X → V) (bytes : List ℕ) (asked : Type 0) (r : Result X Error)
-        → AreBytes bytes → Returns value (whole at bytes) asked r
-        → DecodesOrMemory value (Spells valid printed means) asked bytes r
-    returns_decode value bytes asked (Ok x) are was = answers_decode value bytes (Ok x) are was
-    returns_decode value bytes asked (Err e) are (inl w) = inl w
-    returns_decode value bytes asked (Err e) are (inr was) = inr (answers_decode value bytes (Err e) are was)
 
 -- What the clauses of `encode_into` say, in the words of the statement.
 module _ {S V : Type 0} {valid : S → Type 0} {printed : S → List ℕ} {means : S → V} {written : V → S}

@@ -1,7 +1,6 @@
 -- An OPTIONAL part (X.680 25.10): nothing, or one encoding.
 use Rattle.std.specs.Prelude.{ℕ, List, [], ◌∷◌, ◌≡◌, Option, Some, None}
 use Rattle.der_core.specs.Encodings.{Is, Then}
-use Rattle.standard.specs.Statement.{IfPresent, optional}
 
 abbrev pub Optional : {V : Type 0} → (V → List ℕ → Type 0) → Option V → List ℕ → Type 0
 Optional Grammar None encoding = encoding ≡ []
@@ -16,10 +15,3 @@ IsNext octet bytes = (rest : List ℕ) × (bytes ≡ octet ∷ rest)
 abbrev pub OptionalRead : {V : Type 0} → ℕ → (V → List ℕ → Type 0) → List ℕ → Option V → List ℕ → Type 0
 OptionalRead octet Grammar bytes None rest = (IsNext octet bytes → ⊥) × (rest ≡ bytes)
 OptionalRead octet Grammar bytes (Some v) rest = Then (Grammar v) (Is rest) bytes
-
--- Which parts can be written, and what is written.
-abbrev pub HasOptional : {V : Type 0} → (V → Type 0) → Option V → Type 0
-HasOptional has o = IfPresent has o
-
-abbrev pub written_optional : {V : Type 0} → (V → List ℕ) → Option V → List ℕ
-written_optional encoding o = optional encoding o

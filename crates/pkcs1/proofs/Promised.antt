@@ -1,7 +1,7 @@
 -- What is written of a value and why it isn't, in the words of `Statement.antt`; and of a value that another one stands
 -- for.
 use Rattle.std.proofs.Common.{ℕ, List, ◌≡◌, ◌⊎◌, sym, ap, ◌∙◌, inl, inr, ◌↔◌}
-use Rattle.der_core.specs.Words.{EncodeError, no_encoding, too_long, no_room, another, WhyNotCounted, WhyNotWritten, written_prints, Prints, Spells, WritesShortest, IsOutOfMemory, WhyOctetsNotCounted, encode_error}
+use Rattle.der_core.specs.Words.{EncodeError, no_encoding, too_long, no_room, another, WhyNotCounted, written_prints, Prints, Spells, WritesShortest, IsOutOfMemory, WhyOctetsNotCounted, encode_error}
 use Rattle.der_core.specs.Document as documents
 use Rattle.der_core.specs.declared.error.ErrorKind.{ErrorKind}
 use Rattle.der_core.specs.declared.error.ErrorKind.TheVariants.{OutOfMemory}

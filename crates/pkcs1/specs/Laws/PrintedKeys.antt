@@ -4,7 +4,7 @@ use Rattle.der_core.specs.Words.{nat_tests, number_law, small_law, such_law, tag
 use Rattle.der_core.specs.Tags as tags
 use Rattle.pkcs1.specs.KeyReadings.{number, version_read, public_key_read, rsa_public_key}
 use Rattle.pkcs1.specs.Printing.{AnyNumber, PublicIsValid, public_printed}
-use Rattle.standard.specs.Statement.{integer, Decodes, IsShortest, PublicKeyEncoding, limit, sequence}
+use Rattle.standard.specs.Statement.{integer, Decodes, PublicKeyEncoding, limit, sequence}
 use Rattle.der_core.specs.declared.error.ErrorKind.{ErrorKind}
 use Rattle.pkcs1.specs.Keys.{PublicKey}
 use Rattle.pkcs1.specs.Laws.PrintedRows.{public_law}

@@ -11,7 +11,7 @@ use Rattle.pkcs1.specs.PrintedKeys.{other_as, others_as, private_as}
 use Rattle.pkcs1.specs.Printing.{AnyNumber, AreSome, OtherIsValid, PrivateIsValid, PrivateSpells, other_printed, others_printed, private_printed}
 use Rattle.pkcs1.specs.StatedKeys.{other_from, other_stated, private_from, private_stated}
 use Rattle.standard.specs.Statement as standard
-use Rattle.standard.specs.Statement.{Decodes, IfPresent, IsShortest, PrivateKeyEncoding, integers, limit, optional, sequence}
+use Rattle.standard.specs.Statement.{Decodes, IfPresent, PrivateKeyEncoding, integers, limit, optional, sequence}
 
 abbrev Primes : Type 0
 Primes = Option (List (OtherPrime ℕ))
