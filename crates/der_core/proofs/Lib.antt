@@ -1,5 +1,6 @@
 pub mod Integers
 pub mod Documents
+pub mod EncodeToSlice
 pub mod Lengths
 pub mod Items
 pub mod ReadSteps

@@ -129,12 +129,17 @@ copy_returns value encoding given b v means is (Ok x) same memory = is ∙ ap (�
 copy_returns value encoding given b v means is (Err e) same memory =
     inl (memory, (b, [], sym (append-nil b), (v, means.1)))
 
--- An encoding, by its header.
-not_is : (b : Bool) → not b ≡ true → b ≡ false
+-- Where no memory is asked for, the error is the function's.
+pub no_memory : {e : ErrorKind} {asked fault : Type 0} → (asked → ⊥) → FaultOrMemory e asked fault → fault
+no_memory never (inl w) = absurd (never w.1)
+no_memory never (inr f) = f
+
+-- What the code tests by `!`, and by `!=`.
+pub not_is : (b : Bool) → not b ≡ true → b ≡ false
 not_is true e = cc
 not_is false e = refl
 
-not_isnt : (b : Bool) → not b ≡ false → b ≡ true
+pub not_isnt : (b : Bool) → not b ≡ false → b ≡ true
 not_isnt true e = refl
 not_isnt false e = cc
 

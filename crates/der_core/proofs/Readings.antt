@@ -1,9 +1,10 @@
--- What functions read: whole slices, other tags, documents, a list with a fault.
-use Rattle.std.proofs.Common.{ℕ, false, List, ◌≡◌, ◌≤◌, length, arith, ⊎_elim, nat_lt, zero, suc, [], ◌∷◌, ◌++◌, ◌≢◌, ◌<◌, ◌==◌, refl, ap, ◌∙◌, length-append, append_assoc, Ok, Err}
-use Rattle.der_core.specs.Words.{nat_tests, Means, chosen, limit, FrontReading, whole, ReadsContents, ReadsFronts, alone_reads, ErrorKind, Tag, AreBytes, behind_within, any_read, same_tag, ◌>>=◌, made, items_within, unexpected, contents_behind, read_document, ItemsContents, is_allowed, sequence, Tlv, checked_as, tagged_reads}
+-- What functions read: whole slices, other tags, documents, a list with a fault, values that spellings mean.
+use Rattle.std.proofs.Common.{ℕ, false, List, ◌≡◌, ◌≤◌, length, arith, ⊎_elim, nat_lt, zero, suc, [], ◌∷◌, ◌++◌, ◌≢◌, ◌<◌, ◌==◌, refl, ap, ◌∙◌, length-append, append_assoc, Ok, Err, subst, Result}
+use Rattle.der_core.specs.Words.{nat_tests, Means, chosen, limit, FrontReading, whole, ReadsContents, ReadsFronts, alone_reads, ErrorKind, Tag, AreBytes, behind_within, any_read, same_tag, ◌>>=◌, made, items_within, unexpected, contents_behind, read_document, ItemsContents, is_allowed, sequence, Tlv, checked_as, tagged_reads, ReadsFrontAlike, ReadsFrontPrinted, Spells, Answers, Error, ok_of, value_in, values_alike, whole_alike, meant_decodes}
+use Rattle.standard.specs.Statement.{Decodes}
 use Rattle.der_core.specs.declared.error.ErrorKind.TheVariants.{Overflow, TagUnexpected, TagUnknown}
 
--- One encoding alone, a last part, a whole slice.
+-- A whole slice.
 module _ {V : Type 0} {encoding : V → List ℕ → Type 0} {at : FrontReading V} (law : ReadsFronts encoding at) where
   pub whole_reads : ReadsContents (λ v b. Means encoding b v) (whole at)
   whole_reads = record {
@@ -18,7 +19,7 @@ module _ {V : Type 0} {encoding : V → List ℕ → Type 0} {at : FrontReading 
         (λ w. (alone_reads law).tells b k w.1) (chosen (nat_lt limit (length b)) _ _ _ e);
   }
 
--- Reading by functions: other tags, documents, and an error in a list of encodings.
+-- Another tag than the one that is asked for.
 pub other_is : {V : Type 0} (tag actual : Tag) → unexpected {V = V} tag actual.octet ≡ Err (TagUnexpected tag actual)
 other_is tag actual =
     let r =
@@ -62,3 +63,22 @@ module _ {V : Type 0} {encoding : V → List ℕ → Type 0} {at : FrontReading 
       ap (λ r. r >>= λ p. made (λ vs. p.0 ∷ vs) (items_within n at) p.1) (law.takes (z ∷ zs) x (y ++ rest) v w split p)
       ∙ ap (λ r. r >>= λ vs. Ok (v ∷ vs))
       (items_err vs n k (y ++ rest) y rest few (behind_within x (y ++ rest) split w) q refl more e)
+
+-- What reading a whole slice gives, of the values that spellings mean.
+module _ {S V : Type 0} {valid : S → Type 0} {printed : S → List ℕ} {spelling : FrontReading S} {means : S → V}
+    {at : FrontReading V} (law : ReadsFrontPrinted valid printed spelling) (alike : ReadsFrontAlike spelling means at)
+  where
+    -- The function that reads values decodes what is printed.
+    pub values_decode : (bytes : List ℕ) → AreBytes bytes
+        → Decodes (Spells valid printed means) bytes (value_in (whole at bytes))
+    values_decode bytes are =
+        subst (Decodes (Spells valid printed means) bytes) (values_alike (whole_alike alike) bytes)
+        (meant_decodes law means bytes are)
+
+    -- So does a call that returns what it gives.
+    pub answers_decode : {X : Type 0} (value : X → V) (bytes : List ℕ) (r : Result X Error) → AreBytes bytes
+        → Answers value r (whole at bytes) → Decodes (Spells valid printed means) bytes (ok_of value r)
+    answers_decode value bytes (Ok x) are was =
+        subst (Decodes (Spells valid printed means) bytes) (ap value_in was) (values_decode bytes are)
+    answers_decode value bytes (Err e) are was =
+        subst (Decodes (Spells valid printed means) bytes) (ap value_in was) (values_decode bytes are)

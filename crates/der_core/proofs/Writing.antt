@@ -1,8 +1,7 @@
--- Why values aren't written, what writing one part after another leaves, and lengths. Also what reading a whole slice
--- gives.
+-- Why values aren't written, what writing one part after another leaves, and lengths.
 use Rattle.std.proofs.Common.{ℕ, List, ◌<◌, ◌≤◌, length, subst, ap, ◌∙◌, arith, inl, inr, Result, Ok, Err, IfErr, ◌≡◌, ◌++◌, drop, refl, IfOk, OnErr, OnOk, ◌+◌, length-append, [], sym, append_assoc, append-nil, true, false, if◌then◌else◌, nat_le}
-use Rattle.der_core.specs.Words.{limit, Means, IsShortest, WhyNotCounted, WhyNotWritten, EncodeError, no_encoding, too_long, no_room, another, shortest_is, Prints, WritesShortest, WhyOctetsNotCounted, Counts, WhyOctetsNotWritten, encode_error, Error, AreBytes, Answers, values_alike, whole_alike, written_encodes, meant_decodes, ReadsFrontAlike, ReadsFrontPrinted, Spells, ok_of, value_in, FrontReading, whole, Unwritten, IsLength, length_octets, Is, Tlv, length_octets-only, Appends, tlv, joined, is_no_encoding}
-use Rattle.standard.specs.Statement.{Decodes, Encodes}
+use Rattle.der_core.specs.Words.{limit, Means, IsShortest, WhyNotCounted, WhyNotWritten, EncodeError, no_encoding, too_long, no_room, another, shortest_is, Prints, WritesShortest, WhyOctetsNotCounted, Counts, WhyOctetsNotWritten, encode_error, Error, written_encodes, Spells, ok_of, Unwritten, IsLength, length_octets, Is, Tlv, length_octets-only, Appends, tlv, joined, is_no_encoding}
+use Rattle.standard.specs.Statement.{Encodes}
 use Rattle.der_core.specs.declared.error.ErrorKind.TheVariants.{NoRoom, Overflow}
 use Rattle.der_core.specs.declared.error.ErrorKind.TheVariants as kind
 
@@ -50,25 +49,6 @@ module _ {S V : Type 0} {valid : S → Type 0} {printed : S → List ℕ} {means
       → IfErr r (λ e. WhyNotWritten (valid (written v)) (Prints valid printed means) v room (encode_error e.kind))
   stopped room old new (Ok x) h = tt
   stopped room old new (Err e) h = stopped_as room old new (encode_error e.kind) h
-
--- What reading a whole slice gives, and what writing over one does, of the values that spellings mean.
-module _ {S V : Type 0} {valid : S → Type 0} {printed : S → List ℕ} {spelling : FrontReading S} {means : S → V}
-    {at : FrontReading V} (law : ReadsFrontPrinted valid printed spelling) (alike : ReadsFrontAlike spelling means at)
-  where
-    -- The function that reads values decodes what is printed.
-    pub values_decode : (bytes : List ℕ) → AreBytes bytes
-        → Decodes (Spells valid printed means) bytes (value_in (whole at bytes))
-    values_decode bytes are =
-        subst (Decodes (Spells valid printed means) bytes) (values_alike (whole_alike alike) bytes)
-        (meant_decodes law means bytes are)
-
-    -- So does a call that returns what it gives.
-    pub answers_decode : {X : Type 0} (value : X → V) (bytes : List ℕ) (r : Result X Error) → AreBytes bytes
-        → Answers value r (whole at bytes) → Decodes (Spells valid printed means) bytes (ok_of value r)
-    answers_decode value bytes (Ok x) are was =
-        subst (Decodes (Spells valid printed means) bytes) (ap value_in was) (values_decode bytes are)
-    answers_decode value bytes (Err e) are was =
-        subst (Decodes (Spells valid printed means) bytes) (ap value_in was) (values_decode bytes are)
 
 -- What the clauses of `encode_into` say, in the words of the statement.
 module _ {S V : Type 0} {valid : S → Type 0} {printed : S → List ℕ} {means : S → V} {written : V → S}
@@ -118,9 +98,7 @@ tlv_length n t c encoding e p =
     let form : p.octets ≡ length_octets n = length_octets-only n p.octets counted in
     omega (arith, ap length p.written, ap length form, count, length-append p.octets p.contents)
 
--- Where the writing of one part after another stops.
-
--- behind what was written whole
+-- Where the writing of one part after another stops: behind what was written whole.
 stops_behind : {here has : Type 0} (encoding front back old mid new : List ℕ) (room left : ℕ) (k : EncodeError)
     → here → has → encoding ≡ front ++ back → length encoding ≤ limit → mid ≡ old ++ front → left + length front ≡ room
     → WhyOctetsNotWritten here back left mid new k → WhyOctetsNotWritten has encoding room old new k

@@ -99,25 +99,12 @@ none_in_parts : {rest : List ℕ → Type 0} → ((c : List ℕ) → rest c → 
     → AllocatesInParts NumberPrints Borrowed rest c → ⊥
 none_in_parts none = parts_ask_none NumberPrints borrowed_ask none
 
-none_in_public : (c : List ℕ)
+pub none_in_public : (c : List ℕ)
     → AllocatesInParts NumberPrints Borrowed (AllocatesInParts NumberPrints Borrowed (λ _. ⊥)) c → ⊥
 none_in_public = none_in_parts (none_in_parts (λ _ w. w))
 
 none_in_other : (c : List ℕ) → AllocatesInOther NumberPrints Borrowed c → ⊥
 none_in_other = none_in_parts none_in_public
-
--- Reading a view asks for none.
-pub view_fault : (kind : ErrorKind) (bytes : List ℕ) {fault : Type 0}
-    → FaultOrMemory kind (AllocatesIn (Tlv 48 (λ _. ⊥)) bytes) fault → fault
-view_fault kind bytes (inl w) = absurd w.1.3.holds
-view_fault kind bytes (inr f) = f
-
--- So reading a borrowed public key has the fault of the function.
-pub public_fault : (kind : ErrorKind) (bytes : List ℕ) {fault : Type 0}
-    → FaultOrMemory kind (AllocatesIn (Tlv 48 (AllocatesInParts NumberPrints Borrowed
-    (AllocatesInParts NumberPrints Borrowed (λ _. ⊥)))) bytes) fault → fault
-public_fault kind bytes (inl w) = let t = w.1.3 in absurd (none_in_public t.contents t.holds)
-public_fault kind bytes (inr f) = f
 
 others_begin : (c : List ℕ) → AllocatesInOthers AnyNumber integer (λ n. n) Borrowed c
     → AllocatesIn (Tlv 48 (Begins (OtherPrints AnyNumber integer (λ n. n)))) c

@@ -94,8 +94,6 @@ private_tells bytes k e =
     made_tells private_stated (private_key number bytes)
     (whole_tells (tagged_law (private_law integer_law) tags.sequence) bytes k) e
 
--- What a call returned decodes, since what the function of the bytes gives does.
-
 -- What is made of a value that a function gives; and its faults.
 module _ {V W : Type 0} (make : V → W) (read : Reading V) (bytes : List ℕ) where
   pub made_ok : (v : V) → read bytes ≡ Ok v → made make read bytes ≡ Ok (make v)

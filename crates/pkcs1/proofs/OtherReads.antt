@@ -4,7 +4,7 @@ use Rattle.der_core.specs.Words.{nat_tests, Input, read_from, end_of, ok_pair, b
 use mathlib.Core.Bool.{beq}
 use Rattle.der_core.specs.declared.error.ErrorKind.{ErrorKind}
 use Rattle.der_core.specs.declared.error.ErrorKind.TheVariants as kind
-use Rattle.der_core.proofs.ReadSteps.{Fails, Gives, chain_from}
+use Rattle.der_core.proofs.ReadSteps.{not_is, not_isnt, Fails, Gives, chain_from}
 use Rattle.pkcs1.specs.declared.version.Version.{Version}
 use Rattle.pkcs1.specs.declared.version.Version.TheVariants.{TwoPrime, Multi}
 use Rattle.pkcs1.specs.Words.{agreed, lists_none, others_read, primes_read, OtherPrime, version_of, number_of}
@@ -32,14 +32,6 @@ others_taken {V} at (x ∷ xs) primes l t read some =
     go [] [] e = absurd (some (ap length (sym (ok_same e))))
     go (o ∷ os) [] e = ap (λ p. Ok (Some p)) (ok_same e)
     go v (y ∷ ys) e = cc
-
-is_not : (b : Bool) → not b ≡ true → b ≡ false
-is_not true e = cc
-is_not false e = refl
-
-is_so : (b : Bool) → not b ≡ false → b ≡ true
-is_so true e = refl
-is_so false e = cc
 
 -- The version, as whether there are other primes.
 abbrev flag : Version → Bool
@@ -97,11 +89,11 @@ module _ {X V : Type 0} (items : X → List (OtherPrime V)) (count : X → ℕ)
       pub disagree_fails : (e : ErrorKind) → not (beq multi some) ≡ true → after ≡ None → e ≡ kind.Value integer
           → FailsThere e
       disagree_fails e differ failed told =
-          let isnt = compares ∙ is_not (beq multi some) differ in (failed, inr (there ∙ rw (isnt, told) refl))
+          let isnt = compares ∙ not_is (beq multi some) differ in (failed, inr (there ∙ rw (isnt, told) refl))
 
       module _ (alike : not (beq multi some) ≡ false) {none : Bool} (lists : IsTrue none ↔ CountsNone r) where
         same : (number_of v == version_of (option_map items r)) ≡ true
-        same = compares ∙ is_so (beq multi some) alike
+        same = compares ∙ not_isnt (beq multi some) alike
 
         -- There is a list of none.
         pub empty_fails : (e : ErrorKind) → none ≡ true → after ≡ None → e ≡ kind.Value sequence → FailsThere e

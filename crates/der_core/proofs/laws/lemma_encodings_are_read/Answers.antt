@@ -1,5 +1,5 @@
 use Rattle.der_core.specs.Words.{reads_front}
-use Rattle.der_core.proofs.Writing.{answers_decode, values_decode}
+use Rattle.der_core.proofs.Readings.{answers_decode, values_decode}
 use Rattle.der_core.proofs.laws.lemma_encodings_are_read.Goals as goal
 
 pub returns-clause-reads : goal.returns-clause-reads

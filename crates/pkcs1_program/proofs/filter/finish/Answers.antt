@@ -1,7 +1,6 @@
 use Rattle.std.proofs.Common.{length, refl}
 use Rattle.std.proofs.KnownBytes.{Appends-kept}
 use Rattle.std.proofs.Math.Seq.{take-length}
-use Rattle.der_core.proofs.Documents.{OneFailed-after}
 use Rattle.pkcs1_program.proofs.filter.finish.Goals as goal
 
 pub returns-in-Err-clause-written : goal.returns-in-Err-clause-written
@@ -9,5 +8,5 @@ returns-in-Err-clause-written g c =
     let written = c.in_ok-write_out.ensures in (
       refl,
       (length c.args.bytes.now, rw take-length (Appends-kept _ _ _ _ written.0 c.in-Err.ensures.bytes)),
-      OneFailed-after _ _ _ written.1 c.in-Err.ensures.faults,
+      rw written.1 at c.in-Err.ensures.faults,
     )

@@ -40,7 +40,7 @@ use Rattle.der_core.specs.contracts.encode.Encode.encode_into as g
 use Rattle.der_core.proofs.encode.Encode.encode_into.Met.{met as writes}
 use Rattle.der_core.specs.contracts.encode.front as h
 use Rattle.der_core.specs.Words.{IsFront, LeavesRest, Error, IsShortest, WhyNotWritten, Prints, encode_error}
-use Rattle.der_core.proofs.Documents.{rests, Wrote, fits, leaves_rest, on_front, on_error, within}
+use Rattle.der_core.proofs.EncodeToSlice.{rests, Wrote, fits, leaves_rest, on_front, on_error, within}
 use Rattle.std.proofs.result.Result.TheLaws.{the_row_laws as result_laws}
 use denote.Param.Laws.{Laws, of_field}
 use denote.Param.Shared.{copy_shared}

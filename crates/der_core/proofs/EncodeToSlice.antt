@@ -1,0 +1,69 @@
+-- What a call leaves in the slice that it answers the front of, from what the calls in it say.
+use Rattle.std.proofs.Common.{ℕ, List, ◌∷◌, ◌≡◌, ◌≤◌, length, take, ◌++◌, ◌∙◌, arith, sym, subst, ap, Err, [], Ok, drop, Result, IfOk, IfErr, OnOk, OnErr, MatchResult, length-append, length-take, Bor, MutBor}
+use Rattle.std.proofs.Math.Seq.{take-append_seam}
+use Rattle.der_core.specs.Words.{IsFront, SliceRests}
+use Rattle.std.specs.Bool.{⊤}
+use Rattle.std.specs.Borrow.{u8, Array}
+use mathlib.Core.Option.{none}
+use seplogic.Ra.Ura.{Ura}
+use base.Logic.{ent}
+use base.Fml.{fres}
+use base.Stored.{coded_list}
+use types.Logic.{Logic, sem}
+use types.Kit.{‵, ◌$◌, ◌∵◌, !, qed, use1, fpack, done}
+use denote.Slice.{finally}
+use denote.Follow.{such_by, follows_by}
+use denote.FollowSlice.{finally-res}
+
+-- A slice whose last list is known rests at it.
+module _ {M : Type 1} {𝓤 : Ura M} (𝓛 : Logic 𝓤) where
+  pub rests : (s : MutBor (List ℕ)) (ys : List ℕ) (P : List ℕ → Type 0) → P ys
+      → ent 𝓤 (sem 𝓛 (finally u8 s.ghost_name ys)) (sem 𝓛 (SliceRests s P))
+  unfolding such_by follows_by
+  rests s ys P p = qed 𝓛 (‵ (finally u8 s.ghost_name ys) ∷ []) ∵
+      use1 𝓛 (‵ (fres s.ghost_name ((coded_list u8.coded).code ys))) (finally-res 𝓛 u8 s.ghost_name ys) $
+      fpack ! ((t : (List ℕ → List ℕ) × List ℕ) × ((w : List ℕ) → ⊤) × P t.1)
+      (λ t. follows_by (List ℕ) (List ℕ) (Array u8 0).coded.code (Array u8 0).coded.code s.ghost_name none t.0.0
+      t.0.1) (((λ w. w), ys), (λ w. tt), p) $ done !
+
+-- An encoding was written over xs, which gave ys, and r is its length, or why it wasn't.
+abbrev pub Wrote : {E : Type 0} → List ℕ → List ℕ → List ℕ → Result ℕ E → Type 0
+Wrote encoding xs ys r = IfOk r (λ n. (n ≡ length encoding) × (ys ≡ encoding ++ drop n xs))
+
+module _ {E : Type 0} (encoding xs ys : List ℕ) where
+  pub fits : (r : Result ℕ E) → Wrote encoding xs ys r → IfOk r (λ n. n ≤ length ys)
+  fits (Ok n) w =
+      let l : length ys ≡ length (encoding ++ drop n xs) =
+      ap length w.1 in let k = length-append encoding (drop n xs) in let e = w.0 in omega arith
+  fits (Err e) w = tt
+
+  pub leaves_rest : (r : Result ℕ E) (t : Result (Bor (List ℕ)) E) → Wrote encoding xs ys r → OnErr r (ys ≡ xs)
+      → IsFront ys r t
+      → MatchResult t (λ _. ys ≡ encoding ++ drop (length encoding) xs) (λ _. ys ≡ xs)
+  leaves_rest (Ok n) (Ok front) w k a = rw w.0 at w.1
+  leaves_rest (Ok n) (Err e) w k a = absurd a
+  leaves_rest (Err e) (Ok front) w k a = absurd a
+  leaves_rest (Err e) (Err e') w k a = k
+
+  pub on_front : (H : Type 0) (P : List ℕ → Type 0) → (H → P encoding) → (r : Result ℕ E) (t : Result (Bor (List ℕ)) E)
+      → Wrote encoding xs ys r → OnOk r H → IsFront ys r t → IfOk t (λ front. P front.now)
+  on_front H P f (Ok n) (Ok front) w h a =
+      let seam =
+      take-append_seam encoding (drop n xs) in subst P (sym (a ∙ ap (λ l. take n l) w.1 ∙ (rw (sym w.0) at seam))) (f h)
+  on_front H P f (Ok n) (Err e) w h a = absurd a
+  on_front H P f (Err e) (Ok front) w h a = absurd a
+  on_front H P f (Err e) (Err e') w h a = tt
+
+  pub within : length ys ≡ length xs → (r : Result ℕ E) (t : Result (Bor (List ℕ)) E) → IsFront ys r t
+      → IfOk t (λ front. length front.now ≤ length xs)
+  within l (Ok n) (Ok front) a = rw a (omega (arith, length-take n ys))
+  within l (Ok n) (Err e) a = absurd a
+  within l (Err e) (Ok front) a = absurd a
+  within l (Err e) (Err e') a = tt
+
+pub on_error : {E : Type 0} (ys : List ℕ) (Q : E → Type 0) (r : Result ℕ E) (t : Result (Bor (List ℕ)) E) → IfErr r Q
+    → IsFront ys r t → IfErr t Q
+on_error ys Q (Ok n) (Ok front) h a = tt
+on_error ys Q (Ok n) (Err e) h a = absurd a
+on_error ys Q (Err e) (Ok front) h a = absurd a
+on_error ys Q (Err e) (Err e') h a = subst Q (sym a) h
