@@ -3,7 +3,7 @@
 # `rt ci` asks for, the documents' checks, the worked rows, the tests, the tool, and the libraries for C and Rust.
 # .ci/run proves all.
 #
-#     tools/unproved/run.sh [layout|documents|rows|tests|tool|ffi].. [--keep PREFIX]
+#     tools/unproved/run.sh [layout|documents|rows|tests|tool|ffi|clean_room].. [--keep PREFIX]
 #
 # --keep: the library for C is installed below PREFIX. Its version and its libpkcs1.pc say that it isn't proved.
 # `rt try` builds a program without a proof, and keeps no file. Here it runs from a copy of the kit, of links, whose
