@@ -46,7 +46,7 @@ is_padded (x ∷ y ∷ ys) k t n z h e o =
     let low : nat_lt y 128 ≡ true = grind (arith, nat_tests, h) in
     rw (less, zero, low) (ap (λ x. Err x) (sym (e ∙ ap kind.Noncanonical (same_tag t integer o))))
 
--- Contents octets of numbers at worked examples: the octets of the number, or the kind of the fault.
+-- == Worked rows: contents octets, with the octets of the number or the kind of the fault ==
 
 -- 07, 7f, 0080, 0080ff, 00
 abbrev numbers : List (List ℕ × List ℕ)
@@ -136,7 +136,7 @@ bit_length (suc x ∷ rest) h =
     let high : first < 2 ^ suc top.0 = omega (arith, top.3) in
     rw (sym bits) (behind_first first top.0 (length rest) _ low high least most)
 
--- An INTEGER above 255 is no number from 0 to 255.
+-- == An INTEGER above 255 is no number from 0 to 255 ==
 
 -- More than one canonical byte is more than 255.
 large : (bytes : List ℕ) → HoldsNumber bytes → 1 < length bytes → 256 ≤ number_from_digits 256 bytes

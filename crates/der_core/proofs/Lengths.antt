@@ -52,7 +52,7 @@ length_octets-4 n h l =
 -- What is known of the length octets of numbers below 2 ^ 32.
 pub ruleset known_lengths = (length_octets-short, length_octets-1, length_octets-2, length_octets-3, length_octets-4)
 
--- Length octets at worked examples: the length, with the octets behind it, or the kind of the fault.
+-- == Worked rows: length octets, with the length and the octets behind it, or the kind of the fault ==
 
 -- 7f, 8180, 81ff, 820100, 82ffff, 83010000, 8401000000, 840fffffff, 84ffffffff
 abbrev lengths : List (List ℕ × ℕ)
@@ -90,7 +90,7 @@ are_faults : map (λ row. length_at row.0) faults ≡ map (λ row. Err row.1) fa
 unfolding length_at
 are_faults = refl
 
--- The functions that read lengths and headers read their grammars, and nothing else.
+-- == The functions that read lengths and headers read their grammars, and nothing else ==
 
 -- If f reads exactly the encodings, then a call that returns what f reads is one that ReadsEncoding describes.
 module _ {Y : Type 0} (f : List ℕ → Result (Y × List ℕ) ErrorKind) (encoding : Y → List ℕ → Type 0)

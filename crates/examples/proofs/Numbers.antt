@@ -1,4 +1,4 @@
--- What is printed of the row is what its grammar says.
+-- A list of numbers with a version: what is printed of its row is what its grammar says.
 use Rattle.std.proofs.Common.{ℕ, List, [], ◌∷◌, ◌++◌, ◌≡◌, ◌∙◌, map, refl, ap, append-nil, arith, sym, map-id}
 use Rattle.std.specs.List.{AllByRecursion}
 use Rattle.der_core.specs.Words.{IsInRange, StatedAs, stated, Spells}

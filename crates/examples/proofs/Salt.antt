@@ -1,4 +1,4 @@
--- What is printed of the row is what its grammar says.
+-- An optional salt: what is printed of its row is what its grammar says.
 use Rattle.std.proofs.Common.{ℕ, List, ◌++◌, refl, Option, option_map}
 use Rattle.der_core.specs.Words.{StatedAs, optional_itself, stated, Spells}
 use Rattle.examples.specs.Salt.{IsSalt, Salt, SaltEncoding}

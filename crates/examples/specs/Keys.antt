@@ -1,4 +1,4 @@
--- Keys in keys.
+-- A key that is a part of another.
 use Rattle.standard.specs.Statement.{PrivateKey, PublicKey}
 
 -- The public key in a private key (RFC 8017 3.1, 3.2).

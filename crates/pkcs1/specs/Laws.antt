@@ -1,9 +1,7 @@
 -- Laws that contracts and ghost members name, and what those rest on. Other lemmas are in proofs/.
 pub mod PrimesHeld
 pub mod KeysAlike
-pub mod KeysOnce
 pub mod PrintedKeys
 pub mod PrintedPrivateKeys
-pub mod PrintedRows
 pub mod ShortestKeys
 pub mod StatedPrivateKeys

@@ -15,11 +15,9 @@ pub use Rattle.pkcs1.specs.PublicKeyValue.{public_key_with}
 pub use Rattle.pkcs1.specs.StatedKeys.{other_from, other_stated, private_from, private_stated, public_from, public_part, public_stated}
 pub use Rattle.pkcs1.specs.Versions.{IsVersionOf, number_of}
 pub use Rattle.pkcs1.specs.ViewParts.{listed_others, viewed_encoding}
-pub use Rattle.pkcs1.specs.Laws.KeysAlike.{fronts_alike, other_alike, private_alike, public_alike}
-pub use Rattle.pkcs1.specs.Laws.KeysOnce.{other_once, public_once}
+pub use Rattle.pkcs1.specs.Laws.KeysAlike.{fronts_alike, other_alike, other_once, private_alike, public_alike, public_once}
 pub use Rattle.pkcs1.specs.Laws.PrimesHeld.{AreCounted, all_counted, fault_counted, held_behind, held_first, held_read, item_shorter, more_counted, next_law, next_some, none_counted, one_held}
-pub use Rattle.pkcs1.specs.Laws.PrintedKeys.{integer_law, public_decodes, public_encoding, public_key_decides, public_key_in, public_spelled, version_law}
+pub use Rattle.pkcs1.specs.Laws.PrintedKeys.{integer_law, other_law, primes_law, public_decodes, public_encoding, public_key_decides, public_key_in, public_law, public_spelled, version_law}
 pub use Rattle.pkcs1.specs.Laws.PrintedPrivateKeys.{front_law, private_law, private_row, read_valid}
-pub use Rattle.pkcs1.specs.Laws.PrintedRows.{other_law, primes_law, public_law}
 pub use Rattle.pkcs1.specs.Laws.ShortestKeys.{other_shortest, private_shortest, public_shortest, version_shortest}
 pub use Rattle.pkcs1.specs.Laws.StatedPrivateKeys.{key_back, listed_printed, private_decodes, private_encoding, private_itself, private_spelled, private_valid, some_stated, stated_some}

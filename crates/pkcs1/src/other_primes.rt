@@ -7,8 +7,7 @@ ghost use Rattle.der_core.specs.Words.{AreBytes, ReadsFront, alike, bytes_of, le
 ghost use Rattle.pkcs1.specs.KeyReadings.{number, primes_read};
 ghost use Rattle.pkcs1.specs.Keys.{OtherPrime};
 ghost use Rattle.pkcs1.specs.Laws.PrimesHeld.{HoldsPrimes-prop};
-ghost use Rattle.pkcs1.specs.Laws.PrintedKeys.{integer_law};
-ghost use Rattle.pkcs1.specs.Laws.PrintedRows.{primes_law};
+ghost use Rattle.pkcs1.specs.Laws.PrintedKeys.{integer_law, primes_law};
 ghost use Rattle.pkcs1.specs.OtherPrimesHeld.{HoldsPrimes, next_prime};
 ghost use Rattle.pkcs1.specs.Printing.{AnyNumber, OtherIsValid, primes_printed};
 ghost use Rattle.standard.specs.Statement as standard;

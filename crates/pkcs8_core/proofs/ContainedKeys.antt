@@ -81,8 +81,7 @@ key_tells c octets k e =
     ⊎_elim (rsa_only_tells c.algorithm k) (λ s. private_tells octets k s.2)
     (bind_err (rsa_only c.algorithm) _ e)
 
--- Containers and RSA keys in them, in the words of `Statement.antt`: what the functions of the bytes give, and what
--- calls return that give the same.
+-- == Containers and RSA keys in them, in the words of the statement ==
 
 -- Octets, as those of a container.
 pub contained_decode : (c : Container) (octets : List ℕ) → AreBytes octets
@@ -163,8 +162,8 @@ pub viewed_in : (c : Container) (bytes octets : List ℕ) → ContainerEncoding 
 viewed_in c bytes octets is same (Ok view) e = (c, is, e ∙ same)
 viewed_in c bytes octets is same (Err k) e = tt
 
--- No bytes encode both a container and a key: behind the first INTEGER a container has a SEQUENCE, and a key a number.
--- Nor do they encode both a container and parameters, whose contents begin with the tag of a field.
+-- == No bytes encode both a container and a key, or both a container and parameters ==
+-- Behind the first INTEGER a container has a SEQUENCE, and a key a number. Parameters begin with the tag of a field.
 
 -- Any octets behind a tag, and what follows them.
 raw_law : ReadsPrinted (λ (o : List ℕ). Unit {0}) (λ o. o) octets_of_all

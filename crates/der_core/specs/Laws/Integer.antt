@@ -61,7 +61,7 @@ integer_relates bytes p = elim (cases_lt (slice_index bytes 0) 128) [
   | inr h ↦ (p, inr (h, written_large bytes h))
 ]
 
--- INTEGER from 0 to 255: what is written, and what is read.
+-- == INTEGER from 0 to 255 ==
 
 -- The byte of a number below 256 is its canonical bytes.
 pub byte_canonical : (n : ℕ) → n < 256 → IsCanonical (n ∷ [])
@@ -77,8 +77,6 @@ byte_number n = omega arith
 pub one_byte : (n : ℕ) (bytes : List ℕ) → n < 256 → IsCanonical bytes → number_from_digits 256 bytes ≡ n
     → bytes ≡ n ∷ []
 one_byte n bytes l p e = canonical_same bytes (n ∷ []) p (byte_canonical n l) (e ∙ sym (byte_number n))
-
--- Reading the contents of an INTEGER from 0 to 255.
 
 -- What is read of the contents of a number.
 pub contents_read : (bytes c : List ℕ) → IntegerContents bytes c → integer_of c ≡ Ok bytes

@@ -24,7 +24,7 @@ same_fronts (a ∷ x) y (b ∷ x') y' n e =
     let r = same_fronts x y x' y' (omega arith) c.1 in
     (cons_path c.0 r.0, r.1)
 
--- A number has one list of digits without a leading zero, and a greater number has no fewer digits.
+-- == A number has one list of digits without a leading zero, and a greater number has no fewer digits ==
 
 -- One digit more at the end.
 same_step : (m n x y : ℕ) → x < 256 → y < 256 → m * 256 + x ≡ n * 256 + y → (m ≡ n) × (x ≡ y)

@@ -62,7 +62,7 @@ small_gives_of c n b (Ok bytes) is e = elim (chosen (nat_lt (number_from_digits 
 pub small_gives : (c : List ℕ) (n : ℕ) → AreBytes c → small_of c ≡ Ok n → SmallContents n c
 small_gives c n b e = small_gives_of c n b (integer_of c) refl e
 
--- Reading by functions: a step, the end, contents of one kind, rows of parts, whole slices.
+-- == Reading by functions: a step, the end, one encoding alone, any octets ==
 
 -- Parts of bytes are bytes.
 pub front_bytes : (x y : List ℕ) → AreBytes (x ++ y) → AreBytes x
@@ -133,7 +133,7 @@ pub ended_tells : {V : Type 0} (v : V) (c : List ℕ) (k : ErrorKind) → ended 
 ended_tells v [] k e = cc
 ended_tells v (x ∷ xs) k e = let same : TrailingData ≡ k = cc in is_trailing (sym same)
 
--- One encoding alone, a last part, a whole slice.
+-- One encoding alone.
 module _ {V : Type 0} {encoding : V → List ℕ → Type 0} {at : FrontReading V} (law : ReadsFronts encoding at) where
   pub alone_reads : ReadsContents encoding (alone at)
   alone_reads = record {

@@ -9,8 +9,7 @@ use Rattle.der_core.specs.Tags as tags
 use Rattle.pkcs1.specs.KeyReadings.{number, primes_read}
 use Rattle.pkcs1.specs.Keys.{OtherPrime}
 use Rattle.pkcs1.specs.OtherPrimesHeld.{HoldsPrimes, next_prime}
-use Rattle.pkcs1.specs.Laws.PrintedKeys.{integer_law}
-use Rattle.pkcs1.specs.Laws.PrintedRows.{other_law}
+use Rattle.pkcs1.specs.Laws.PrintedKeys.{integer_law, other_law}
 use Rattle.pkcs1.specs.Printing.{AnyNumber, OtherIsValid, other_printed}
 use Rattle.standard.specs.Statement as standard
 use Rattle.standard.specs.Statement.{sequence}

@@ -1,4 +1,4 @@
--- Private keys, over numbers of any type that are read as they are printed: so are these.
+-- Private keys are read as they are printed, if their numbers are.
 use Rattle.std.proofs.Common.{ℕ, true, List, [], ◌∷◌, ◌++◌, ◌≡◌, ◌<◌, ◌==◌, refl, sym, subst, ap, map, ◌∙◌, arith, ⊎_elim, append_assoc, Option, Some, None, Result, Ok, Err}
 use Rattle.der_core.specs.Words.{nat_tests, chosen, agreed_law, chain_law, front_end_law, front_row_law, tagged_law, valid_as, bind_ok, ended_is, ended_tells, made_tells, ok_same, is_value, ReadsFrontPrinted, ReadsPrinted, TellsOfBytes, FrontReading, ended, made, ◌>>=◌}
 use Rattle.std.specs.List.{AllByRecursion, concat}
@@ -6,8 +6,7 @@ use Rattle.der_core.specs.declared.error.ErrorKind.{ErrorKind}
 use Rattle.der_core.specs.Tags as tags
 use Rattle.pkcs1.specs.KeyReadings.{agreed, front_read, key_from, lists_none, others_read, private_key_read}
 use Rattle.pkcs1.specs.Keys.{Eight, OtherPrime, PrivateKey, front_parts, key_numbers, private_parts, version_of}
-use Rattle.pkcs1.specs.Laws.PrintedKeys.{version_law}
-use Rattle.pkcs1.specs.Laws.PrintedRows.{are_some, primes_law, some_listed}
+use Rattle.pkcs1.specs.Laws.PrintedKeys.{are_some, primes_law, some_listed, version_law}
 use Rattle.pkcs1.specs.Printing.{AreSome, FrontIsValid, OtherIsValid, PrivateIsValid, front_printed, others_printed, private_printed, private_row_printed}
 use Rattle.standard.specs.Statement.{IfPresent, integer}
 

@@ -1,4 +1,4 @@
--- What is written of keys is the shortest, over numbers of any type of which it is so.
+-- What is written of keys is the shortest, if what is written of their numbers is.
 use Rattle.std.proofs.Common.{ℕ, List, [], ◌∷◌, ◌++◌, ◌≡◌, ◌<◌, length, map, refl, sym, subst, ap, ◌∙◌, inl, inr, arith, length-append, Option, Some, None}
 use Rattle.std.specs.List.{AllByRecursion}
 use Rattle.der_core.specs.Words.{last_shortest, list_shortest, made_shortest, one_spelling, row_shortest, tagged_shortest, WritesShortest, number_contents}

@@ -57,7 +57,7 @@ module _ {V : Type 0} {Is : V → Type 0} {printed : V → List ℕ} {at : Front
     tells = λ c k e. tell (length c) c k e;
   }
 
--- What the laws of a type say of its values: what is read, what is written, and that each has one encoding at most.
+-- == What the laws of a type say of its values: what is read, what is written, that each has one encoding ==
 
 -- A type's function reads the contents of its values and no others, and its faults are about the bytes.
 pub reads : {S V : Type 0} {valid : S → Type 0} {printed : S → List ℕ} {spelling : Reading S} {means : S → V}
@@ -113,7 +113,7 @@ pub written_prints : {S V : Type 0} {valid : S → Type 0} {printed : S → List
     → Prints valid printed means v (printed (written v))
 written_prints {written = written} law v ok = (written v, law.back v, ok, refl)
 
--- What steps of reading give, and steps that are joined otherwise.
+-- == What steps of reading give, and steps that are joined otherwise ==
 
 -- What a step gives: a value, and the bytes behind it; a pair; a list.
 abbrev pub meant : {S M : Type 0} → (S → M) → S → Result M ErrorKind

@@ -200,9 +200,6 @@ module _ {V : Type 0} {Is : V → Type 0} {printed : V → List ℕ} {read : Rea
       (λ o a. refl) (λ o p c e. let end = ended_is o p c e in (tt, end.0, end.1)) ended_tells) (λ o p. p.1)
       (λ o p. (tt, p))
 
--- Numbers in a range, and an OPTIONAL part that is known by its tag, in front of a row. Where the row may begin with that
--- tag too, the two can't be told apart: then nothing is read, and nothing is written.
-
 -- == Numbers in a range ==
 abbrev pub IsInRange : ℕ → ℕ → ℕ → Type 0
 IsInRange least most n = ((least ≤ n) × (n ≤ most)) × (n < 256)
@@ -214,6 +211,7 @@ ranged_law least most =
     (λ n ok. grind (arith, nat_tests, ok.0, ok.1)) (is_value refl)
 
 -- == Rows whose tags may clash ==
+-- Where a row may begin with the tag of the part in front, the two can't be told apart, so nothing is read or written.
 pub unless_law : {S : Type 0} {Is : S → Type 0} {printed : S → List ℕ} {read : Reading S} (clash : Bool)
     (failure : ErrorKind) → TellsOfBytes failure → ReadsPrinted Is printed read
     → ReadsPrinted (λ s. (clash ≡ false) × Is s) printed (unless clash failure read)
