@@ -21,56 +21,33 @@ module _ {T : Type 0} (has : T → Type 0) (encoding : T → List ℕ) (xs : Lis
 pub returns-in_err-encode-clause-appends : goal.returns-in_err-encode-clause-appends
 returns-in_err-encode-clause-appends g c =
     let p = err_from_is_err_and c.from_residual.result c.from_residual.ensures.1 in
+    let valid = λ (x : g.row.T.Denot). g.T.Encoding.valid (g.T.Encoding.written (g.T.Encoding.value x)) in
+    let printed = λ (x : g.row.T.Denot). g.T.Encoding.printed (g.T.Encoding.written (g.T.Encoding.value x)) in
     let xs = c.args.items.now in
-    let all : AllHave (λ (x : g.row.T.Denot). g.T.Encoding.valid (g.T.Encoding.written (g.T.Encoding.value x))) xs = c.requires.has in
-    let few : length (all_encodings (λ (x : g.row.T.Denot). g.T.Encoding.printed (g.T.Encoding.written (g.T.Encoding.value x)))
-    xs) ≤ limit = c.requires.fits in
     let x = c.item-item.result in
     let i = c.loop-item.item-index in
-    let has =
-    here (λ (x : g.row.T.Denot). g.T.Encoding.valid (g.T.Encoding.written (g.T.Encoding.value x)))
-    (λ (x : g.row.T.Denot). g.T.Encoding.printed (g.T.Encoding.written (g.T.Encoding.value x))) xs i x c.loop-item-test.true
-    c.item-item.is all in
-    let whole =
-    around (λ (x : g.row.T.Denot). g.T.Encoding.valid (g.T.Encoding.written (g.T.Encoding.value x)))
-    (λ (x : g.row.T.Denot). g.T.Encoding.printed (g.T.Encoding.written (g.T.Encoding.value x))) xs i x c.loop-item-test.true
-    c.item-item.is in
-    let rest =
-    all_encodings (λ (x : g.row.T.Denot). g.T.Encoding.printed (g.T.Encoding.written (g.T.Encoding.value x))) (drop (i + 1) xs) in
-    let less : length ((λ (x : g.row.T.Denot). g.T.Encoding.printed (g.T.Encoding.written (g.T.Encoding.value x))) x
-    ++ rest) ≤ limit = omega (
-      arith,
-      few,
-      ap length whole,
-      length-append (all_encodings (λ (x : g.row.T.Denot). g.T.Encoding.printed (g.T.Encoding.written (g.T.Encoding.value x)))
-          (take i xs)) ((λ (x : g.row.T.Denot). g.T.Encoding.printed (g.T.Encoding.written (g.T.Encoding.value x))) x ++ rest),
-    ) in
+    let all : AllHave valid xs = c.requires.has in
+    let few : length (all_encodings printed xs) ≤ limit = c.requires.fits in
+    let has = here valid printed xs i x c.loop-item-test.true c.item-item.is all in
+    let whole = around valid printed xs i x c.loop-item-test.true c.item-item.is in
+    let rest = all_encodings printed (drop (i + 1) xs) in
+    let front = length-append (all_encodings printed (take i xs)) (printed x ++ rest) in
+    let less : length (printed x ++ rest) ≤ limit = omega (arith, few, ap length whole, front) in
     rw (p.1, p.2) (appends_behind _ _ _ has all whole few c.loop-item.invariant.written c.loop-item.invariant.room
     (appends_in_front _ _ rest has has refl less c.in_err-encode.ensures.appends))
 
 pub loop-item-preserved : goal.loop-item-preserved
 loop-item-preserved g c =
-    let q =
-    more (λ (x : g.row.T.Denot). g.T.Encoding.valid (g.T.Encoding.written (g.T.Encoding.value x)))
-    (λ (x : g.row.T.Denot). g.T.Encoding.printed (g.T.Encoding.written (g.T.Encoding.value x))) c.args.items.now
-    c.loop-item.item-index c.item-item.result c.loop-item-test.true c.item-item.is in
+    let valid = λ (x : g.row.T.Denot). g.T.Encoding.valid (g.T.Encoding.written (g.T.Encoding.value x)) in
+    let printed = λ (x : g.row.T.Denot). g.T.Encoding.printed (g.T.Encoding.written (g.T.Encoding.value x)) in
+    let x = c.item-item.result in
+    let front = all_encodings printed (take c.loop-item.item-index c.args.items.now) in
+    let q = more valid printed c.args.items.now c.loop-item.item-index x c.loop-item-test.true c.item-item.is in
+    let appends = c.in_ok-encode.ensures.appends in
     record {
       written =
-          rw q (c.in_ok-encode.ensures.appends.written
-          ∙ ap (λ w. w ++ (λ (x : g.row.T.Denot). g.T.Encoding.printed (g.T.Encoding.written (g.T.Encoding.value x)))
-          c.item-item.result) c.loop-item.invariant.written
-          ∙ append_assoc (g.W.Writer.written c.args.writer.now)
-          (all_encodings (λ (x : g.row.T.Denot). g.T.Encoding.printed (g.T.Encoding.written (g.T.Encoding.value x)))
-          (take c.loop-item.item-index c.args.items.now))
-          ((λ (x : g.row.T.Denot). g.T.Encoding.printed (g.T.Encoding.written (g.T.Encoding.value x))) c.item-item.result));
-      room =
-          rw q (omega (
-            arith,
-            c.in_ok-encode.ensures.appends.room,
-            c.loop-item.invariant.room,
-            length-append (all_encodings (λ (x : g.row.T.Denot). g.T.Encoding.printed (g.T.Encoding.written (g.T.Encoding.value x)))
-                (take c.loop-item.item-index c.args.items.now))
-                ((λ (x : g.row.T.Denot). g.T.Encoding.printed (g.T.Encoding.written (g.T.Encoding.value x))) c.item-item.result),
-          ));
+          rw q (appends.written ∙ ap (λ w. w ++ printed x) c.loop-item.invariant.written
+          ∙ append_assoc (g.W.Writer.written c.args.writer.now) front (printed x));
+      room = rw q (omega (arith, appends.room, c.loop-item.invariant.room, length-append front (printed x)));
       kept = search rules;
     }

@@ -5,10 +5,9 @@ use Rattle.der_core.proofs.sequence_of.items_len.Goals as goal
 
 pub loop-item-preserved : goal.loop-item-preserved
 loop-item-preserved g c =
+    let valid = λ (x : g.row.T.Denot). g.T.Encoding.valid (g.T.Encoding.written (g.T.Encoding.value x)) in
+    let printed = λ (x : g.row.T.Denot). g.T.Encoding.printed (g.T.Encoding.written (g.T.Encoding.value x)) in
     let item =
-    subst (λ x. Counts ((λ (x : g.row.T.Denot). g.T.Encoding.valid (g.T.Encoding.written (g.T.Encoding.value x))) x)
-    ((λ (x : g.row.T.Denot). g.T.Encoding.printed (g.T.Encoding.written (g.T.Encoding.value x))) x) c.encoded_len.result)
-    c.item-item.is c.encoded_len.ensures.counted in
-    rw c.joined_len-total.ensures (counts_more (λ (x : g.row.T.Denot). g.T.Encoding.valid (g.T.Encoding.written (g.T.Encoding.value x)))
-    (λ (x : g.row.T.Denot). g.T.Encoding.printed (g.T.Encoding.written (g.T.Encoding.value x))) c.args.items.now
-    c.loop-item.item-index c.item-item.result c.loop-item-test.true _ _ c.loop-item.invariant item)
+    subst (λ x. Counts (valid x) (printed x) c.encoded_len.result) c.item-item.is c.encoded_len.ensures.counted in
+    rw c.joined_len-total.ensures (counts_more valid printed c.args.items.now c.loop-item.item-index c.item-item.result
+    c.loop-item-test.true _ _ c.loop-item.invariant item)

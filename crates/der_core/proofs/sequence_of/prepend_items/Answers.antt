@@ -19,23 +19,18 @@ fits has encoding xs left x p l e =
 
 pub prepend-requires-clause-fits : goal.prepend-requires-clause-fits
 prepend-requires-clause-fits g c =
-    omega (
-      arith,
-      c.requires.fits,
-      fits (λ (x : g.row.T.Denot). g.T.Encoding.valid (g.T.Encoding.written (g.T.Encoding.value x)))
-          (λ (x : g.row.T.Denot). g.T.Encoding.printed (g.T.Encoding.written (g.T.Encoding.value x))) c.args.items.now
-          c.loop-left.left
-          c.index-items-left.result c.loop-left-test.true c.loop-left.invariant.0 c.index-items-left.is,
-    )
+    let valid = λ (x : g.row.T.Denot). g.T.Encoding.valid (g.T.Encoding.written (g.T.Encoding.value x)) in
+    let printed = λ (x : g.row.T.Denot). g.T.Encoding.printed (g.T.Encoding.written (g.T.Encoding.value x)) in
+    let less =
+    fits valid printed c.args.items.now c.loop-left.left c.index-items-left.result c.loop-left-test.true
+    c.loop-left.invariant.0 c.index-items-left.is in
+    omega (arith, c.requires.fits, less)
 
 pub prepend-requires-clause-room : goal.prepend-requires-clause-room
 prepend-requires-clause-room g c =
-    omega (
-      arith,
-      c.requires.room,
-      c.loop-left.invariant.1.1,
-      fits (λ (x : g.row.T.Denot). g.T.Encoding.valid (g.T.Encoding.written (g.T.Encoding.value x)))
-          (λ (x : g.row.T.Denot). g.T.Encoding.printed (g.T.Encoding.written (g.T.Encoding.value x))) c.args.items.now
-          c.loop-left.left
-          c.index-items-left.result c.loop-left-test.true c.loop-left.invariant.0 c.index-items-left.is,
-    )
+    let valid = λ (x : g.row.T.Denot). g.T.Encoding.valid (g.T.Encoding.written (g.T.Encoding.value x)) in
+    let printed = λ (x : g.row.T.Denot). g.T.Encoding.printed (g.T.Encoding.written (g.T.Encoding.value x)) in
+    let less =
+    fits valid printed c.args.items.now c.loop-left.left c.index-items-left.result c.loop-left-test.true
+    c.loop-left.invariant.0 c.index-items-left.is in
+    omega (arith, c.requires.room, c.loop-left.invariant.1.1, less)
