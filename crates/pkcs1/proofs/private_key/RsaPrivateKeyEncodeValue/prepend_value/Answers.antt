@@ -24,4 +24,5 @@ pub returns : goal.returns
 returns g c =
     let u = g.U.Encoding in
     let key = private_as u.written (private_key_with u.value c.args.self.now) in
-    key_prepended u.valid u.printed key _ (version_is u.value u.written c.args.self.now.other_prime_infos) c.args.writer.now c.prepend_row.new.writer c.prepend_row.ensures
+    key_prepended u.valid u.printed key _ (version_is u.value u.written c.args.self.now.other_prime_infos)
+    c.args.writer.now c.prepend_row.new.writer c.prepend_row.ensures
