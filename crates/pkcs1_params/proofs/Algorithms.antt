@@ -1,12 +1,13 @@
 -- Algorithm identifiers with parameters of their own: what is read of them, and how many encodings there are.
 use Rattle.std.proofs.Common.{ℕ, Bool, true, List, [], ◌++◌, ◌≡◌, ◌≤◌, ◌^◌, length, refl, sym, subst, ap, ◌∙◌, arith, ⊎_elim, append-nil, map, Option, Some, None, Result, Ok, Err, inl, inr, false, ◌==◌, ◌↔◌, if◌then◌else◌, option_map, bytes_eq}
-use Rattle.der_core.specs.Words.{nat_tests, AreBytes, chosen, tlv_fit, prints_one, tagged_law, whole_decodes, whole_takes, bind_err, bind_ok, ok_same, unexpected_not, limit, tagged_shortest, ReadsFrontPrinted, Spells, WritesShortest, value_in, Reading, tagged, unexpected, whole, ◌>>=◌}
+use Rattle.der_core.specs.Laws.Readings.{front_bytes}
+use Rattle.der_core.specs.Words.{nat_tests, AreBytes, back_bytes, chosen, tlv_fit, prints_one, tagged_law, whole_decodes, whole_takes, bind_err, bind_ok, ok_same, unexpected_not, limit, tagged_shortest, ReadsFrontPrinted, Spells, WritesShortest, value_in, Reading, tagged, unexpected, whole, ◌>>=◌}
 use Rattle.std.proofs.lemmas.Slice.Eq.{bytes_eq-Decides}
 use Rattle.der_core.specs.declared.error.ErrorKind.{ErrorKind}
 use Rattle.der_core.specs.declared.error.ErrorKind.TheVariants.{OidUnknown}
 use Rattle.spki_core.specs.Words.{is_identifier, is_identifier-sound, algorithm_contents, algorithm_map, AreSpelled, FieldRecord, Spelling, record_means, record_read, record_strictly, spelled, record_under, spelling_read, strict_value, strict_whole, upto, record_alike, record_front_law, record_law, record_reads, record_shortest, spelled_from, spelled_to, under_valid, algorithm_writes_shortest, algorithm_law, algorithm_read, any_as}
 use Rattle.spki_core.proofs.Fielded.{are_all, counted, default_count, each_within, made, record_decodes}
-use Rattle.spki_core.proofs.StrictFields.{back_bytes, contents_bytes, front_bytes, strict_decodes}
+use Rattle.spki_core.proofs.StrictFields.{contents_bytes, strict_decodes}
 use Rattle.pkcs1_params.specs.Words.{Identifies, identified, parameters_as, whole_algorithm, plain_law, AreDelimited, plain_front, with_parameters}
 use Rattle.pkcs1_params.proofs.Wrapped.{are_all_in, same_contents, shortest_inside, shortest_outside, wrapped, wrapped_fit, wrapped_one}
 use Rattle.standard.specs.Statement.{Algorithm, AlgorithmEncoding, AreAll, Decodes, Field, Fields, IfPresent, IsAlgorithm, IsAny, IsIdentifier, IsShortest, SequenceOf, TagAndContents, optional, TwoToTheDefaultsIn, algorithm, any, longest, sequence, tlv}

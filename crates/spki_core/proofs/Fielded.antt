@@ -4,7 +4,7 @@ use Rattle.std.proofs.Common.{ℕ, zero, suc, ◌+◌, List, [], ◌∷◌, ◌+
 use Rattle.std.specs.List.{concat}
 use Rattle.der_core.specs.Words.{AreBytes, tagged_alike, values_alike, whole_alike, octets_grow, tlv_fit, meant_decodes, prints_one, shortest_is as shortest_of, tagged_shortest, limit, Spells, value_in}
 use Rattle.der_core.specs.Tags as tags
-use Rattle.spki_core.specs.Words.{AreSpelled, FieldRecord, defaults, fields_of, meant, record_means, record_under, record_whole, spelled, under, upto, defaults_are, defaults_there, full_last, full_there, mask_below, mask_under, under_is, under_mask, under_means, under_only, under_valid, record_alike, record_front_law, record_shortest, spelled_from, spelled_to}
+use Rattle.spki_core.specs.Words.{AreSpelled, FieldRecord, defaults, fields_of, meant, record_means, record_under, record_whole, spelled, under, upto, defaults_are, defaults_there, full, full_last, full_there, masked, under_is, under_mask, under_means, under_only, under_valid, record_alike, record_front_law, record_shortest, spelled_from, spelled_to}
 use Rattle.spki_core.specs.FieldSpellings.{mask_of}
 use Rattle.standard.specs.Statement.{AreAll, Decodes, Defaults, Field, Fields, FieldsUnder, IsShortest, SequenceOf, TwoToTheDefaults, length_octets, longest, sequence}
 
@@ -136,12 +136,9 @@ module _ {V : Type 0} {Is : V → Type 0} {fields : V → List Field} (r : Field
       → (mask : ℕ) × (mask < 2 ^ default_count v) × (bytes ≡ made v mask)
   has_mask v bytes q =
       let (within, (s, e, valid, is)) = spelled_from r v bytes q in
-      let same : meant r.kinds s ≡ r.split v = sym (r.parted (meant r.kinds s)) ∙ ap r.split e in (
-        mask_of r.kinds s,
-        subst (λ u. mask_of r.kinds s < 2 ^ defaults r.kinds u) same (mask_below r.kinds 0 r.lawful s),
-        is ∙ ap (λ z. sequence (spelled r.kinds z))
-            (sym (ap (under r.kinds (mask_of r.kinds s)) (sym same) ∙ mask_under r.kinds 0 r.lawful s)),
-      )
+      let same : meant r.kinds s ≡ r.split v = sym (r.parted (meant r.kinds s)) ∙ ap r.split e in
+      let (less, back, fields) = masked r.kinds 0 r.lawful s in
+      (mask_of r.kinds s, rw same at less, is ∙ ap (λ z. sequence (spelled r.kinds z)) (sym (rw same at back)))
 
   pub masks_differ : (v : V) (i j : ℕ) → Is v → i < 2 ^ default_count v → j < 2 ^ default_count v
       → length (made v i) ≤ limit → made v i ≡ made v j → i ≡ j
@@ -195,12 +192,10 @@ module _ {V : Type 0} {Is : V → Type 0} {fields : V → List Field} (r : Field
   below_longest : (v : V) (mask : ℕ) → length (longest (fields v)) ≤ limit
       → length (made v mask) ≤ length (longest (fields v))
   below_longest v mask few =
-      let all = concat (map (λ (f : Field). f.written) (fields_of r.kinds (r.split v))) in
+      let all = full r.kinds (r.split v) in
       let within : length (sequence all) ≤ limit = subst (λ fs. length (longest fs) ≤ limit) (r.fields_are v) few in
-      let l = subst (λ u. length (spelled r.kinds (record_under r mask v))
-      ≤ length (concat (map (λ (f : Field). f.written) (fields_of r.kinds u))))
-      (under_means r.kinds 0 r.lawful mask (r.split v))
-      (full_last r.kinds (record_under r mask v)) in
+      let l : length (spelled r.kinds (record_under r mask v)) ≤ length all =
+      rw (under_means r.kinds 0 r.lawful mask (r.split v)) at (full_last r.kinds (record_under r mask v)) in
       let g = grows (spelled r.kinds (record_under r mask v)) all l (omega (arith, within, tlv_fit 48 all)) in
       subst (λ fs. length (made v mask) ≤ length (longest fs)) (sym (r.fields_are v)) g
 

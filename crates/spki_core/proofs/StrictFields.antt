@@ -1,12 +1,15 @@
 -- Strict reading of fields with defaults: what is read is the shortest encoding, and the walk of the code finds what
 -- isn't.
-use Rattle.std.proofs.Common.{ℕ, List, [], ◌∷◌, ◌++◌, ◌≡◌, ◌≤◌, ◌+◌, length, refl, sym, subst, ap, ◌∙◌, arith, Bool, true, false, Option, Some, None, Result, Ok, Err, length-append, inl, inr, if◌then◌else◌}
-use Rattle.der_core.specs.Words.{nat_tests, AreBytes, tlv_fit, whole_decodes, whole_takes, tagged_alike, whole_alike, bind_err, limit, value_in, is_next, tagged, whole, ◌>>=◌, checked_as, same_tag, context_tag, is_allowed, header_at, tagged_shortest}
+use Rattle.std.proofs.Common.{ℕ, List, [], ◌∷◌, ◌++◌, ◌≡◌, ◌≤◌, ◌+◌, length, refl, sym, subst, ap, ◌∙◌, arith, Bool, true, false, Option, Some, None, Result, Ok, Err, length-append, inl, inr, ◌↔◌, pow_pos}
+use Rattle.std.proofs.lemmas.Bool.{cases_Bool}
+use Rattle.der_core.specs.Laws.Readings.{front_bytes}
+use Rattle.der_core.specs.Words.{nat_tests, AreBytes, back_bytes, tlv_fit, whole_decodes, whole_takes, tagged_alike, whole_alike, bind_err, limit, value_in, is_next, tagged, whole, ◌>>=◌, checked_as, same_tag, context_tag, is_allowed, header_at, tagged_shortest}
 use Rattle.der_core.specs.declared.error.ErrorKind.{ErrorKind}
 use Rattle.der_core.specs.declared.error.ErrorKind.TheVariants.{Incomplete, Noncanonical, TagUnknown}
 use Rattle.der_core.specs.declared.tag.Tag.{Tag}
 use Rattle.der_core.specs.Tags as tags
-use Rattle.spki_core.specs.Words.{AreLawful, AreNumbered, AreSpelled, FieldRecord, Kind, Spelling, Values, are_defaults, fields_with, first_written, meant, one_spelled, record_fields, record_means, record_whole, spelled, spelling_read, strict_value, strict_whole, under, Step, record_alike, record_front_law, record_shortest, spelled_from, spelled_to, not_next, any_law, any, behind_any, first_default, noncanonical, unless_found, walked}
+use Rattle.spki_core.specs.Words.{AreLawful, AreNumbered, AreSpelled, FieldRecord, Kind, Spelling, Values, are_defaults, fields_with, first_written, meant, one_spelled, record_fields, record_means, record_whole, spelled, spelling_read, strict_value, strict_whole, under, defaults, masked, under_mask, record_alike, record_front_law, record_shortest, spelled_from, spelled_to, not_next, any_law, any, behind_any, first_default, noncanonical, unless_found, walked}
+use Rattle.spki_core.specs.FieldSpellings.{mask_of}
 use Rattle.spki_core.proofs.Fielded.{made, shortest_is}
 use Rattle.standard.specs.Statement.{Decodes, Field, Fields, IsShortest, SequenceOf, TagAndContents, sequence, tlv}
 
@@ -30,37 +33,23 @@ noncanonical_is n tag is =
     r.1 ∙ ap Noncanonical (same_tag (record { octet = context_tag n; allowed = r.0 }) tag (sym is))
 
 -- No default is there in the spelling under mask 0 alone.
-none_first : (ks : List Kind) (v : Values ks) → first_written ks (under ks 0 v) ≡ None
-none_first [] v = refl
-none_first (k ∷ ks) (x, v) = go (none_first ks v) (k.is_default x) refl
-  where
-    go : first_written ks (under ks 0 v) ≡ None → (b : Bool) → k.is_default x ≡ b
-        → first_written (k ∷ ks) (Step k ks x v b 0) ≡ None
-    go later true is = later
-    go later false is = rw is later
+none_masked : (ks : List Kind) (s : Spelling ks) → (first_written ks s ≡ None) ↔ (mask_of ks s ≡ 0)
+none_masked [] s = (λ e. refl, λ e. refl)
+none_masked (k ∷ ks) (None, s) =
+    let later = none_masked ks s in (λ e. omega (arith, later.0 e), λ e. later.1 (omega (arith, e)))
+none_masked (k ∷ ks) (Some x, s) = elim (cases_Bool (k.is_default x)) [
+  | inl is ↦ rw is (λ e. cc, λ e. absurd (omega (arith, e)))
+  | inr isnt ↦ rw isnt (none_masked ks s)
+]
 
-only_first : (ks : List Kind) (n : ℕ) → AreLawful n ks → (s : Spelling ks) → first_written ks s ≡ None
+none_first : (ks : List Kind) → AreLawful 0 ks → (v : Values ks) → first_written ks (under ks 0 v) ≡ None
+none_first ks law v = (none_masked ks (under ks 0 v)).1 (under_mask ks 0 law 0 v (pow_pos (defaults ks v)))
+
+only_first : (ks : List Kind) → AreLawful 0 ks → (s : Spelling ks) → first_written ks s ≡ None
     → s ≡ under ks 0 (meant ks s)
-only_first [] n law s none = refl
-only_first (k ∷ ks) n law (None, s) none =
-    let is : k.is_default k.default ≡ true = (law.2 k.default).1 refl in
-    let same = only_first ks (k.number + 1) law.4 s none in rw is (λ i. (None, same i))
-only_first (k ∷ ks) n law (Some x, s) none = go (only_first ks (k.number + 1) law.4 s) (k.is_default x) none
-  where
-    go : (first_written ks s ≡ None → s ≡ under ks 0 (meant ks s)) → (b : Bool)
-        → (if b then Some k.number else first_written ks s) ≡ None → (Some x, s) ≡ Step k ks x (meant ks s) b 0
-    go later true none = cc
-    go later false none = let same = later none in λ i. (Some x, same i)
+only_first ks law s none = sym (rw ((none_masked ks s).0 none) at (masked ks 0 law s).1)
 
 -- The walk of the code, over what is there.
-pub front_bytes : (x y : List ℕ) → AreBytes (x ++ y) → AreBytes x
-front_bytes [] y bytes = tt
-front_bytes (b ∷ x) y bytes = (bytes.0, front_bytes x y bytes.1)
-
-pub back_bytes : (x y : List ℕ) → AreBytes (x ++ y) → AreBytes y
-back_bytes [] y bytes = bytes
-back_bytes (b ∷ x) y bytes = back_bytes x y bytes.1
-
 pub contents_bytes : (tag : ℕ) (c : List ℕ) → AreBytes (tlv tag c) → AreBytes c
 contents_bytes tag c bytes = back_bytes _ c bytes.1
 
@@ -85,21 +74,15 @@ walk_finds (k ∷ ks) n law numbered (None, s) bytes few =
     (walk_finds ks (n + 1) (subst (λ m. AreLawful m ks) step law.4) numbered.1 s bytes few)
 walk_finds (k ∷ ks) n law numbered (Some x, s) bytes few =
     let step : k.number + 1 ≡ n + 1 = omega (arith, numbered.0) in
-    let both = length-append (one_spelled k x) (spelled ks s) in
-    go
-    (walk_finds ks (n + 1) (subst (λ m. AreLawful m ks) step law.4) numbered.1 s
-    (back_bytes (one_spelled k x) (spelled ks s) bytes) (omega (arith, few, both)))
-    (any_next k x (spelled ks s) bytes few) (k.is_default x)
-  where
-    go : walked (n + 1) (are_defaults (fields_with ks (meant ks s))) (spelled ks s) ≡ first_written ks s
-        → any (one_spelled k x ++ spelled ks s)
-        ≡ Ok (record { tag = 160 + k.number; contents = k.printed x }, spelled ks s)
-        → (b : Bool) → walked n (b ∷ are_defaults (fields_with ks (meant ks s))) (one_spelled k x ++ spelled ks s)
-        ≡ (if b then Some k.number else first_written ks s)
-    go later is true =
-        let next : is_next (160 + n) (one_spelled k x ++ spelled ks s) ≡ true = grind (arith, nat_tests, numbered.0) in
-        rw next (ap (λ m. Some m) (sym numbered.0))
-    go later is false = rw is later
+    let later =
+    walk_finds ks (n + 1) (subst (λ m. AreLawful m ks) step law.4) numbered.1 s
+    (back_bytes (one_spelled k x) (spelled ks s) bytes)
+    (omega (arith, few, length-append (one_spelled k x) (spelled ks s))) in
+    let next : is_next (160 + n) (one_spelled k x ++ spelled ks s) ≡ true = grind (arith, nat_tests, numbered.0) in
+    elim (cases_Bool (k.is_default x)) [
+      | inl is ↦ rw (is, next) (ap (λ m. Some m) (sym numbered.0))
+      | inr isnt ↦ rw (isnt, any_next k x (spelled ks s) bytes few) later
+    ]
 
 module _ {V : Type 0} {Is : V → Type 0} {fields : V → List Field} (r : FieldRecord Is fields) where
   abbrev Encoding : V → List ℕ → Type 0
@@ -153,7 +136,7 @@ module _ {V : Type 0} {Is : V → Type 0} {fields : V → List Field} (r : Field
   is_shortest s bytes p none =
       let v = record_means r s in
       let same : bytes ≡ made r v 0 =
-      p.0.2 ∙ ap (λ z. sequence (spelled r.kinds z)) (only_first r.kinds 0 r.lawful s none ∙ sym (first_is s)) in
+      p.0.2 ∙ ap (λ z. sequence (spelled r.kinds z)) (only_first r.kinds r.lawful s none ∙ sym (first_is s)) in
       let holds = stands_for s bytes p.0 in
       subst (IsShortest Encoding v) (sym same) (shortest_is r v holds.0 (omega (arith, p.0.0, ap length same)))
 
@@ -164,7 +147,7 @@ module _ {V : Type 0} {Is : V → Type 0} {fields : V → List Field} (r : Field
       let least = (tagged_shortest (record_shortest r) 48).least s p.0.1 (omega (arith, p.0.0, ap length p.0.2)) in
       elim least [
         | inl e ↦
-            let none : first_written r.kinds s ≡ None = ap (first_written r.kinds) e ∙ none_first r.kinds (r.split w) in
+            let none : first_written r.kinds s ≡ None = ap (first_written r.kinds) e ∙ none_first r.kinds r.lawful (r.split w) in
             let never : None ≡ Some n = sym none ∙ found in cc
         | inr l ↦
             let few : length (made r w 0) ≤ limit = omega (arith, l, p.0.0, ap length p.0.2) in

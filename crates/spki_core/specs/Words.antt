@@ -14,7 +14,7 @@ pub use Rattle.spki_core.specs.OwnedAnyValue.{own_any_of}
 pub use Rattle.spki_core.specs.Readings.{algorithm_read, any, any_as, defaulted, explicit, identifier_read, numbered, opaque}
 pub use Rattle.spki_core.specs.StrictFields.{behind_any, first_default, noncanonical, number_in, unless_found, walked}
 pub use Rattle.spki_core.specs.Laws.AnyValues.{Carried, algorithm_decides, any_decides, holds_decides, holds_itself, same_carried, same_mask_decides, same_plain_decides}
-pub use Rattle.spki_core.specs.Laws.FieldSpellings.Masks.{Step, defaults_are, defaults_there, full_last, full_there, mask_below, mask_under, under_is, under_mask, under_means, under_only, under_valid}
+pub use Rattle.spki_core.specs.Laws.FieldSpellings.Masks.{by_field, defaults_are, defaults_there, full, full_last, full_there, masked, under_is, under_mask, under_means, under_only, under_valid}
 pub use Rattle.spki_core.specs.Laws.FieldSpellings.Records.{record_alike, record_front_law, record_law, record_reads, record_shortest, spelled_from, spelled_to}
 pub use Rattle.spki_core.specs.Laws.FieldSpellings.Shortest.{defaults_same, not_next, octets_spelled}
 pub use Rattle.spki_core.specs.Laws.HaveEncodings.{algorithm_asks_none, algorithm_held, algorithm_once, any_held, identifier_held, viewed_held}

@@ -1,14 +1,15 @@
 -- Spellings of fields with defaults: how they are read, what they mean, which is the shortest, what stands under a
 -- mask.
-use Rattle.std.proofs.Common.{ℕ, List, [], ◌∷◌, ◌++◌, ◌≡◌, ◌<◌, ◌+◌, refl, sym, ap, ◌∙◌, arith, false, inl, inr, Some, None, ◌⊎◌, length, true, Bool, length-append, ◌/◌, ◌%◌, ◌==◌, if◌then◌else◌, Option, Result, Ok, Err}
-use Rattle.der_core.specs.Words.{nat_tests, optional_row_law, alone_law, end_law, tagged_law, ReadsPrinted, is_next, WritesShortest, ReadsAlike, alone, made, tagged, ◌>>=◌}
-use Rattle.spki_core.specs.FieldSpellings.{AreLawful, AreSpelled, AreValid, Kind, Spelling, Values, fields_of, meant, one_spelled, spelled, spelling_read, tag_of, under, defaults, defaults_in, fields_with, octets_under, out_under, rest_under, or_default, values_read}
+use Rattle.std.proofs.Common.{ℕ, List, [], ◌∷◌, ◌++◌, ◌≡◌, ◌<◌, ◌+◌, refl, sym, ap, ◌∙◌, arith, false, inl, inr, Some, None, ◌⊎◌, length, true, Bool, length-append, ◌/◌, if◌then◌else◌, Result, Ok, Err}
+use Rattle.std.proofs.lemmas.Bool.{cases_Bool}
+use Rattle.der_core.specs.Words.{nat_tests, optional_row_law, alone_law, end_law, tagged_law, ReadsPrinted, is_next, WritesShortest, ReadsAlike, ReadsFrontAlike, alike, alone, made, meant_front, no_parts, optional, paired, row_alike, tagged, ◌>>=◌}
+use Rattle.spki_core.specs.FieldSpellings.{AreLawful, AreSpelled, AreValid, Kind, Spelling, Values, fields_of, meant, one_spelled, spelled, spelling_read, tag_of, under, defaults, defaults_in, fields_with, octets_under, or_default, values_read}
 use Rattle.standard.specs.Statement.{Fields}
-use Rattle.spki_core.specs.Laws.FieldSpellings.Masks.{Step, under_means, under_valid}
+use Rattle.spki_core.specs.Laws.FieldSpellings.Masks.{by_field, under_means, under_valid}
 use Rattle.der_core.specs.declared.error.ErrorKind.{ErrorKind}
-use Rattle.der_core.specs.Laws.Printed.Items.{joined}
+use Rattle.der_core.specs.Laws.Printed.Items.{joined, present}
 use Rattle.spki_core.specs.Laws.Readings.{explicit_is}
-use Rattle.spki_core.specs.Readings.{explicit}
+use Rattle.spki_core.specs.Readings.{defaulted, explicit}
 
 pub not_next : (ks : List Kind) (n m : ℕ) → m < n → AreLawful n ks → (s : Spelling ks)
     → is_next (160 + m) (spelled ks s) ≡ false
@@ -59,23 +60,17 @@ shortest_first (k ∷ ks) n law (None, s) =
       | inl e ↦ inl (λ i. (None, e i))
       | inr l ↦ inr l
     ])
-shortest_first (k ∷ ks) n law (Some x, s) = go (shortest_first ks (k.number + 1) law.4 s) (k.is_default x)
-  where
-    go : (s ≡ under ks 0 (meant ks s)) ⊎ (length (spelled ks (under ks 0 (meant ks s))) < length (spelled ks s))
-        → (b : Bool) → ((Some x, s) ≡ Step k ks x (meant ks s) b 0)
-        ⊎ (length (spelled (k ∷ ks) (Step k ks x (meant ks s) b 0)) < length (one_spelled k x ++ spelled ks s))
-    go later true = inr (elim later [
-      | inl e ↦ omega (arith, ap (λ z. length (spelled ks z)) e, length-append (one_spelled k x) (spelled ks s))
-      | inr l ↦ omega (arith, l, length-append (one_spelled k x) (spelled ks s))
-    ])
-    go later false = elim later [
-      | inl e ↦ inl (λ i. (Some x, e i))
-      | inr l ↦ inr (omega (
-        arith,
-        l,
-        length-append (one_spelled k x) (spelled ks s),
-        length-append (one_spelled k x) (spelled ks (under ks 0 (meant ks s))),
-      ))
+shortest_first (k ∷ ks) n law (Some x, s) =
+    let front = length-append (one_spelled k x) in
+    elim (cases_Bool (k.is_default x)) [
+      | inl is ↦ rw is (inr (elim (shortest_first ks (k.number + 1) law.4 s) [
+        | inl e ↦ omega (arith, ap (λ z. length (spelled ks z)) e, front (spelled ks s))
+        | inr l ↦ omega (arith, l, front (spelled ks s))
+      ]))
+      | inr isnt ↦ rw isnt (elim (shortest_first ks (k.number + 1) law.4 s) [
+        | inl e ↦ inl (λ i. (Some x, e i))
+        | inr l ↦ inr (omega (arith, l, front (spelled ks s), front (spelled ks (under ks 0 (meant ks s)))))
+      ])
     ]
 
 pub fields_shortest : (ks : List Kind) → AreLawful 0 ks
@@ -90,60 +85,37 @@ fields_shortest ks law = record {
 pub octets_spelled : (ks : List Kind) (mask : ℕ) (v : Values ks)
     → octets_under mask (fields_with ks v) ≡ spelled ks (under ks mask v)
 octets_spelled [] mask v = refl
-octets_spelled (k ∷ ks) mask (x, v) = go (λ m. octets_spelled ks m v) (k.is_default x)
-  where
-    go : ((m : ℕ) → octets_under m (fields_with ks v) ≡ spelled ks (under ks m v)) → (b : Bool)
-        → (if out_under b mask then [] else one_spelled k x) ++ octets_under (rest_under b mask) (fields_with ks v)
-        ≡ spelled (k ∷ ks) (Step k ks x v b mask)
-    go later false = ap (λ z. one_spelled k x ++ z) (later mask)
-    go later true = here (mask % 2 == 0) (later (mask / 2))
-      where
-        here : (e : Bool) → octets_under (mask / 2) (fields_with ks v) ≡ spelled ks (under ks (mask / 2) v)
-            → (if e then [] else one_spelled k x) ++ octets_under (mask / 2) (fields_with ks v)
-            ≡ spelled (k ∷ ks) ((if e then None else Some x), under ks (mask / 2) v)
-        here true is = is
-        here false is = ap (λ z. one_spelled k x ++ z) is
+octets_spelled (k ∷ ks) mask (x, v) =
+    let later = λ (m : ℕ). octets_spelled ks m v in
+    by_field k ks mask x v (λ s. octets_under mask (fields_with (k ∷ ks) (x, v)) ≡ spelled (k ∷ ks) s)
+    (λ is even. rw (is, even) (later (mask / 2)))
+    (λ is odd. rw (is, odd) (ap (λ z. one_spelled k x ++ z) (later (mask / 2))))
+    (λ isnt. rw isnt (ap (λ z. one_spelled k x ++ z) (later mask)))
 
 pub defaults_same : (ks : List Kind) (v : Values ks) → defaults_in (fields_with ks v) ≡ defaults ks v
 defaults_same [] v = refl
 defaults_same (k ∷ ks) (x, v) = ap (λ n. if k.is_default x then n + 1 else n) (defaults_same ks v)
 
 -- Spellings of fields are read as the values that they mean, with the same faults.
-module _ (k : Kind) (ks : List Kind) (all : (c : List ℕ) → made (meant ks) (spelling_read ks) c ≡ values_read ks c) where
-  behind : (r : Result (Spelling ks) ErrorKind) (o : Option k.Value)
-      → ((r >>= λ y. let s : Spelling (k ∷ ks) = (o, y) in Ok s) >>= λ s. Ok (meant (k ∷ ks) s))
-      ≡ ((r >>= λ s. Ok (meant ks s)) >>= λ y. let v : Values (k ∷ ks) = (or_default k.default o, y) in Ok v)
-  behind (Ok s) o = refl
-  behind (Err e) o = refl
+defaulted_alike : (k : Kind)
+    → ReadsFrontAlike (optional (160 + k.number) (tagged (tag_of k) (alone k.at))) (or_default k.default)
+    (defaulted k.number k.at k.default)
+defaulted_alike k = record { same = λ c. go c (is_next (160 + k.number) c) }
+  where
+    there : (r : Result (k.Value × List ℕ) ErrorKind) → ((r >>= present) >>= meant_front (or_default k.default)) ≡ r
+    there (Ok p) = refl
+    there (Err e) = refl
 
-  there : (r : Result (k.Value × List ℕ) ErrorKind)
-      → (((r >>= λ p. let q : Option k.Value × List ℕ = (Some p.0, p.1) in Ok q)
-      >>= λ p. spelling_read ks p.1 >>= λ y. let s : Spelling (k ∷ ks) = (p.0, y) in Ok s)
-      >>= λ s. Ok (meant (k ∷ ks) s))
-      ≡ (r >>= λ p. values_read ks p.1 >>= λ y. let v : Values (k ∷ ks) = (p.0, y) in Ok v)
-  there (Ok p) =
-      behind (spelling_read ks p.1) (Some p.0)
-      ∙ ap (λ r. r >>= λ y. let v : Values (k ∷ ks) = (p.0, y) in Ok v) (all p.1)
-  there (Err e) = refl
+    go : (c : List ℕ) (b : Bool)
+        → ((if b then (tagged (tag_of k) (alone k.at) c >>= present) else paired None c)
+        >>= meant_front (or_default k.default))
+        ≡ (if b then explicit k.number k.at c else Ok (k.default, c))
+    go c true = there (tagged (tag_of k) (alone k.at) c) ∙ sym (explicit_is k.at k.number (tag_of k) c refl)
+    go c false = refl
 
-  step : (c : List ℕ) (b : Bool)
-      → (((if b then (tagged (tag_of k) (alone k.at) c >>= λ p. let q : Option k.Value × List ℕ = (Some p.0, p.1) in Ok q)
-      else Ok (None, c)) >>= λ p. spelling_read ks p.1 >>= λ y. let s : Spelling (k ∷ ks) = (p.0, y) in Ok s)
-      >>= λ s. Ok (meant (k ∷ ks) s))
-      ≡ ((if b then explicit k.number k.at c else Ok (k.default, c))
-      >>= λ p. values_read ks p.1 >>= λ y. let v : Values (k ∷ ks) = (p.0, y) in Ok v)
-  step c true =
-      there (tagged (tag_of k) (alone k.at) c)
-      ∙ ap (λ r. r >>= λ p. values_read ks p.1 >>= λ y. let v : Values (k ∷ ks) = (p.0, y) in Ok v)
-      (sym (explicit_is k.at k.number (tag_of k) c refl))
-  step c false =
-      behind (spelling_read ks c) None
-      ∙ ap (λ r. r >>= λ y. let v : Values (k ∷ ks) = (k.default, y) in Ok v) (all c)
-
-pub same_reading : (ks : List Kind) (c : List ℕ) → made (meant ks) (spelling_read ks) c ≡ values_read ks c
-same_reading [] [] = refl
-same_reading [] (x ∷ xs) = refl
-same_reading (k ∷ ks) c = step k ks (same_reading ks) c (is_next (160 + k.number) c)
+pub same_reading : (ks : List Kind) → ReadsAlike (spelling_read ks) (meant ks) (values_read ks)
+same_reading [] = alike no_parts
+same_reading (k ∷ ks) = row_alike (defaulted_alike k) (same_reading ks)
 
 -- Values that a record of any form holds.
 pub fields_alike : (ks : List Kind) {V : Type 0} (join : Values ks → V)
@@ -151,5 +123,5 @@ pub fields_alike : (ks : List Kind) {V : Type 0} (join : Values ks → V)
 fields_alike ks join = record {
   same = λ c.
       sym (joined (spelling_read ks c) (λ s. Ok (meant ks s)) (λ v. Ok (join v)))
-      ∙ ap (λ r. r >>= λ v. Ok (join v)) (same_reading ks c);
+      ∙ ap (λ r. r >>= λ v. Ok (join v)) ((same_reading ks).same c);
 }
