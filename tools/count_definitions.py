@@ -31,8 +31,7 @@ ERRORS |= {f"lemma_algorithms {what}{of}" for what in ("", "strict_", "faults_",
 GHOSTS = {"params", "Is", "fields_of", "form"}
 MEMORY = {"lemma_bare_params_take_no_memory"}
 ALLOCATING = ".specs.Allocating"
-PRIVATE = ("UintRefValue", "UintValue", "DocumentValue", "OtherPrimesLeft", "OctetStringRefValue", "AnyRefValue",
-           "OwnedAnyValue", "ObjectIdentifierValue")
+PRIVATE = ("UintRefValue", "UintValue", "DocumentValue", "OtherPrimesLeft", "OctetStringRefValue", "HeldValues")
 PROOFS = {"AreLawful", "AreNumbered"}
 FUNCTION = re.compile(r"^ *(?:pub(?:\(crate\))? |final )*fn (?=\w)", re.M)
 CLAUSE = re.compile(r"\b(?:ensures|requires)\*? (?:(\w+) )?\{")

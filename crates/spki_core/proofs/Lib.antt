@@ -1,4 +1,5 @@
 pub mod Octets
 pub mod Readings
 pub mod Fielded
+pub mod Headers
 pub mod StrictFields

@@ -1,6 +1,7 @@
 -- What the functions that read give: records by their fields, encodings of any tag, fields. Identifiers that are
 -- mapped.
-use Rattle.std.proofs.Common.{◌≡◌, ◌∙◌, ◌&&◌, ℕ, Bool, List, [], ◌∷◌, Option, Some, None, Ok, true, false, ap, refl, sym, ◌+◌, Result, if◌then◌else◌, option_map, arith, subst, Err, ◌≢◌, ◌==◌, IfOk}
+use Rattle.std.proofs.Common.{◌≡◌, ◌∙◌, ◌&&◌, ℕ, Bool, List, [], ◌∷◌, Option, Some, None, Ok, true, false, ap, refl, sym, ◌+◌, Result, if◌then◌else◌, option_map, arith, subst, Err, ◌≢◌, ◌==◌, IfOk, inl, inr}
+use Rattle.std.proofs.lemmas.Bool.{cases_Bool}
 use Rattle.der_core.specs.Words.{ok_pair, alone, is_next, tagged, ◌>>=◌, nat_tests, AreBytes, Input, ReadsFront, ReadsWhole, FrontReading, Reading, octets_of_all, unexpected, ReadsContents, context_tag, Tlv}
 use Rattle.der_core.specs.declared.error.ErrorKind.{ErrorKind}
 use Rattle.spki_core.specs.Words.{FieldRecord, Kind, Spelling, first_written, or_default, record_means, record_read, record_strictly, spelling_read, strict_value, tag_of, record_alike, explicit_is, defaulted, explicit, unless_found, algorithm_map, algorithm_with, Carried, TagAndContents, any_as}
@@ -30,42 +31,30 @@ module _ (k : Kind) (ks : List Kind) {given v : k.Value} {n : ℕ} (same : given
   known : defaulted k.number k.at k.default c ≡ Ok (v, rest)
   known = rw (is, same) at read
 
-  spelled_by : (b : Bool) → (if b then explicit k.number k.at c else Ok (k.default, c)) ≡ Ok (v, rest)
-      → (if b then (tagged (tag_of k) (alone k.at) c >>= λ p. let q : Option k.Value × List ℕ = (Some p.0, p.1) in Ok q)
-      else Ok (None, c))
-      ≡ Ok ((if b then Some v else None), rest)
-  spelled_by true p =
-      ap (λ r. r >>= λ p. let q : Option k.Value × List ℕ = (Some p.0, p.1) in Ok q)
-      (sym (explicit_is k.at k.number (tag_of k) c refl) ∙ p)
-  spelled_by false p =
-      ap (λ l. let r : Result (Option k.Value × List ℕ) ErrorKind = Ok (None, l) in r)
-      (ok_pair k.default v c rest p).1
-
   pub field_spelled : (s : Spelling ks) → spelling_read ks rest ≡ Ok s → spelling_read (k ∷ ks) c ≡ Ok (there k v c, s)
-  field_spelled s behind =
-      ap (λ r. r >>= λ p. spelling_read ks p.1 >>= λ y. let t : Spelling (k ∷ ks) = (p.0, y) in Ok t)
-      (spelled_by (is_next (160 + k.number) c) known)
-      ∙ ap (λ r. r >>= λ y. let t : Spelling (k ∷ ks) = (there k v c, y) in Ok t) behind
-
-  meant_by : (b : Bool) → (if b then explicit k.number k.at c else Ok (k.default, c)) ≡ Ok (v, rest)
-      → or_default k.default (if b then Some v else None) ≡ v
-  meant_by true p = refl
-  meant_by false p = (ok_pair k.default v c rest p).0
+  field_spelled s behind = elim (cases_Bool (is_next (160 + k.number) c)) [
+    | inl next ↦
+        let front : tagged (tag_of k) (alone k.at) c ≡ Ok (v, rest) =
+        sym (explicit_is k.at k.number (tag_of k) c refl) ∙ rw next at known in
+        rw (next, front, behind) refl
+    | inr gone ↦ let p = ok_pair k.default v c rest (rw gone at known) in rw (gone, p.1, behind) refl
+  ]
 
   -- It means the value.
   pub field_meant : or_default k.default (there k v c) ≡ v
-  field_meant = meant_by (is_next (160 + k.number) c) known
+  field_meant = elim (cases_Bool (is_next (160 + k.number) c)) [
+    | inl next ↦ rw next refl
+    | inr gone ↦ rw gone (ok_pair k.default v c rest (rw gone at known)).0
+  ]
 
 -- Whether a field is there with its default, by the octet of its tag.
-pub refused_by : (k : Kind) (v : k.Value) (b : Bool)
-    → there_by_default k (if b then Some v else None) ≡ (b && k.is_default v)
-refused_by k v true = refl
-refused_by k v false = refl
-
 pub accepted : (k : Kind) (v : k.Value) (c : List ℕ) (strict : Bool)
     → (strict && (is_next (160 + k.number) c && k.is_default v)) ≡ false
     → (strict && there_by_default k (there k v c)) ≡ false
-accepted k v c strict p = ap (λ x. strict && x) (refused_by k v (is_next (160 + k.number) c)) ∙ p
+accepted k v c strict p = elim (cases_Bool (is_next (160 + k.number) c)) [
+  | inl next ↦ rw next (rw next at p)
+  | inr gone ↦ rw gone (rw gone at p)
+]
 
 none_written : (ks : List Kind) (s : Spelling ks) → NoneRefused true ks s → first_written ks s ≡ None
 none_written [] s none = refl

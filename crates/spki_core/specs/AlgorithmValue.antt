@@ -4,10 +4,8 @@ use Rattle.spki_core.specs.declared.any.AnyRef.{AnyRef}
 use Rattle.spki_core.specs.declared.algorithm_identifier.AlgorithmIdentifierOf.{AlgorithmIdentifierOf}
 use Rattle.spki_core.specs.declared.identifier_view.IdentifierView.{IdentifierView}
 use Rattle.spki_core.specs.declared.object_identifier.ObjectIdentifier.{ObjectIdentifier}
-use Rattle.spki_core.specs.Any.{TagAndContents}
-use Rattle.spki_core.specs.AnyRefValue.{any_of}
-use Rattle.spki_core.specs.ObjectIdentifierValue.{own_octets_of, octets_of}
-use Rattle.spki_core.specs.AlgorithmIdentifier.{Algorithm}
+use Rattle.spki_core.specs.Identifiers.{TagAndContents, Algorithm}
+use Rattle.spki_core.specs.HeldValues.{any_of, own_octets_of, octets_of}
 
 -- by the octets of its object identifier too
 abbrev pub algorithm_in : {O X V : Type 0} → (O → List ℕ) → (X → V) → AlgorithmIdentifierOf O X → Algorithm V

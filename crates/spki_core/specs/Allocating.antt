@@ -1,7 +1,7 @@
 -- Where reading algorithm identifiers and fields may ask for memory.
 use Rattle.std.specs.Prelude.{ℕ, List, ◌≡◌}
 use Rattle.der_core.specs.Words.{Prints, context_tag, object_identifier_tag, sequence_tag, Tlv, tlv, AllocatesIn, AllocatesBehind, AllocatesLast}
-use Rattle.spki_core.specs.ObjectIdentifier.{IsIdentifier}
+use Rattle.spki_core.specs.Identifiers.{IsIdentifier}
 
 -- In the contents of an algorithm identifier: its parameters may ask for memory, the object identifier never does.
 abbrev pub AllocatesForParameters : (List ℕ → Type 0) → List ℕ → Type 0

@@ -1,14 +1,8 @@
-pub mod ObjectIdentifier
-pub mod Any
-pub mod AlgorithmIdentifier
-pub mod ContextSpecific
+pub mod Identifiers
 pub mod Explicit
 pub mod Allocating
-pub mod ObjectIdentifierValue
-pub mod AnyRefValue
-pub mod OwnedAnyValue
+pub mod HeldValues
 pub mod AlgorithmValue
-pub mod HashAlgorithms
 pub mod IdentifierTest
 pub mod StrictFields
 pub mod Readings

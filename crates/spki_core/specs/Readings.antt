@@ -4,9 +4,8 @@ use Rattle.der_core.specs.declared.error.ErrorKind.{ErrorKind}
 use Rattle.der_core.specs.declared.error.ErrorKind.TheVariants.{OidMalformed, TagUnknown}
 use Rattle.der_core.specs.declared.tag.Tag.{Tag}
 use Rattle.der_core.specs.Words.{FrontReading, Reading, alone, by_tag, checked, is_next, last, made, parts, tagged, unexpected, context_tag, is_allowed, object_identifier}
-use Rattle.spki_core.specs.AlgorithmIdentifier.{Algorithm}
-use Rattle.spki_core.specs.Any.{TagAndContents}
-use Rattle.spki_core.specs.ContextSpecific.{Numbered}
+use Rattle.spki_core.specs.Identifiers.{Algorithm, TagAndContents}
+use Rattle.spki_core.specs.Explicit.{Numbered}
 use Rattle.spki_core.specs.IdentifierTest.{is_identifier}
 
 -- Contents of no identifier are malformed, whatever the reason is.

@@ -4,7 +4,7 @@ use Rattle.der_core.specs.Words.{context_tag, is_allowed, checked, is_next, whol
 use Rattle.der_core.specs.declared.tag.TagNumber.{TagNumber}
 use Rattle.der_core.specs.declared.error.ErrorKind.{ErrorKind}
 use Rattle.der_core.specs.declared.error.ErrorKind.TheVariants.{Noncanonical, TagUnknown}
-use Rattle.spki_core.specs.Any.{TagAndContents}
+use Rattle.spki_core.specs.Identifiers.{TagAndContents}
 use Rattle.spki_core.specs.Readings.{any}
 
 -- What a walk finds behind an encoding of any tag, and in its contents.

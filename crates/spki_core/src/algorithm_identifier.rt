@@ -1,6 +1,6 @@
 //! Algorithm identifiers (RFC 5280 4.1.1.2).
-ghost use Rattle.std.specs.Prelude.{◌≡◌, ◌≢◌, refl, IfOk, IfErr, IfSome, IsOk, option_map};
-ghost use Rattle.spki_core.specs.Words.{AllocatesForParameters, NothingAskedAlone, TagAndContents, Algorithm, algorithm_alike, algorithm_contents, algorithm_decides, algorithm_law, algorithm_map, algorithm_read, algorithm_writes_shortest};
+ghost use Rattle.std.specs.Prelude.{◌≡◌, ◌≢◌, refl, IfOk, IfErr, IfSome, IsOk, option_map, Some, None, Decides};
+ghost use Rattle.spki_core.specs.Words.{Algorithm, AllocatesForParameters, IsHash, NothingAskedAlone, TagAndContents, algorithm_alike, algorithm_contents, algorithm_decides, algorithm_in, algorithm_law, algorithm_map, algorithm_read, algorithm_with, algorithm_writes_shortest, any_of, octets_of, own_octets_of, viewed_with};
 ghost use Rattle.standard.specs.Statement as standard;
 
 use crate::any::{AnyRef, AnyValue};
@@ -52,8 +52,6 @@ impl<O: fmt::Debug, P: fmt::Debug> fmt::Debug for AlgorithmIdentifierOf<O, P> {
 }
 
 impl<O: IdentifierValue, P: Encoding> Contents for AlgorithmIdentifierOf<O, P> {
-    ghost use Rattle.spki_core.specs.Words.{algorithm_in};
-
     ghost Value = { Algorithm P.Value };
 
     ghost value = { algorithm_in O.octets P.value };
@@ -88,8 +86,6 @@ impl<'a, O, P> Sequence<'a> for AlgorithmIdentifierOf<O, P> {
 }
 
 impl<P: EqualByValue> EqualByValue for AlgorithmIdentifier<P> {
-    ghost use Rattle.spki_core.specs.Words.{own_octets_of};
-
     ghost decides = { λ a b. let left = own_octets_of a.oid in
         algorithm_decides P.value P.eq P.decides left (own_octets_of b.oid) a.parameters b.parameters };
 }
@@ -156,8 +152,6 @@ impl<P: TryClone> TryClone for AlgorithmIdentifier<P> {
 }
 
 impl<P: TryClone> AlgorithmIdentifier<P> {
-    ghost use Rattle.spki_core.specs.Words.{algorithm_with};
-
     /// The same identifier with a copy of the parameters, or `OutOfMemory`.
     pub fn try_clone(&self, alloc: Global) -> Result<AlgorithmIdentifier<P>>
         ensures ok { IfOk result (λ copy. algorithm_with P.value copy ≡ algorithm_with P.value self.now) }
@@ -176,8 +170,6 @@ impl<P: TryClone> AlgorithmIdentifier<P> {
 }
 
 impl<P> AlgorithmIdentifier<P> {
-    ghost use Rattle.spki_core.specs.Words.{own_octets_of};
-
     /// Returns the identifier if it is the expected one, else `OidUnknown`.
     pub fn assert_algorithm_oid(&self, expected: ObjectIdentifier) -> Result<ObjectIdentifier>
         ensures ok { IfOk result (λ oid. (oid ≡ self.now.oid) × (own_octets_of self.now.oid ≡ own_octets_of expected)) }
@@ -193,8 +185,6 @@ impl<P> AlgorithmIdentifier<P> {
 }
 
 impl<'a, P> AlgorithmView<'a, P> {
-    ghost use Rattle.spki_core.specs.Words.{own_octets_of, octets_of};
-
     /// Copies the octets of the identifier.
     #[inline(always)]
     pub fn to_algorithm_identifier(self) -> AlgorithmIdentifier<P>
@@ -207,8 +197,6 @@ impl<'a, P> AlgorithmView<'a, P> {
 
 /// What holds the object identifiers of algorithms that are read: `IdentifierView`, or `ObjectIdentifier` as a copy.
 pub trait ReadIdentifier<'a>: IdentifierValue + Drop {
-    ghost use Rattle.spki_core.specs.Words.{octets_of};
-
     /// The algorithm of a view.
     fn algorithm_from_view<P>(algorithm: AlgorithmView<'a, P>) -> AlgorithmIdentifierOf<Self, P>
         ensures oid { Self.octets result.oid ≡ octets_of algorithm.entry.oid }
@@ -233,9 +221,6 @@ impl<'a> ReadIdentifier<'a> for ObjectIdentifier {
 }
 
 impl<O: IdentifierValue, P: AnyValue> AlgorithmIdentifierOf<O, P> {
-    ghost use Rattle.std.specs.Prelude.{Some, None, Decides};
-    ghost use Rattle.spki_core.specs.Words.{any_of, algorithm_in, viewed_with, IsHash};
-
     /// The algorithm identifier, borrowed.
     #[inline(always)]
     pub fn as_view(&self) -> AlgorithmView<'_, AnyRef<'_>>

@@ -2,7 +2,7 @@
 ghost use Rattle.std.specs.Prelude.{◌≡◌, ◌≤◌, ◌<◌, ℕ, [], length, slice_index, refl, true, ⊤, IfOk, IsOk, IfErr, IsTrue};
 ghost use Rattle.der_core.specs.Words.{limit, is_allowed, ReadsFront, NoValueOrMemory, Returns, Prints, front_alike, one_spelling, starts_with_any};
 ghost use Rattle.spki_core.specs.Readings.{any, any_as};
-ghost use Rattle.spki_core.specs.Any.{TagAndContents, null_value};
+ghost use Rattle.spki_core.specs.Identifiers.{TagAndContents, null_value};
 ghost use Rattle.spki_core.specs.Laws.Printed.Readings.{any_law};
 ghost use Rattle.spki_core.specs.Laws.Printed.Shortest.{any_some};
 ghost use Rattle.standard.specs.Statement as standard;
@@ -25,8 +25,7 @@ pub struct AnyRef<'a> {
 }
 
 impl<'a> AnyRef<'a> {
-    ghost use Rattle.spki_core.specs.AnyRefValue.{any_of};
-    ghost use Rattle.spki_core.specs.AlgorithmIdentifier.{same_any};
+    ghost use Rattle.spki_core.specs.Words.{any_of, same_any};
 
     /// `Overflow` if the contents are longer than `Length::MAX`.
     pub fn new(tag: Tag, contents: &'a [u8]) -> Result<AnyRef<'a>>
@@ -111,7 +110,7 @@ impl<'a> AnyRef<'a> {
 }
 
 impl Encoding for AnyRef<'_> {
-    ghost use Rattle.spki_core.specs.AnyRefValue.{any_of};
+    ghost use Rattle.spki_core.specs.Words.{any_of};
 
     ghost Value = { TagAndContents };
 
@@ -204,7 +203,7 @@ impl Encode for AnyRef<'_> {
 }
 
 impl<'a> TryClone for AnyRef<'a> {
-    ghost use Rattle.spki_core.specs.AnyRefValue.{any_of};
+    ghost use Rattle.spki_core.specs.Words.{any_of};
 
     ghost never_out_of_memory = { λ _. ⊤ };
 
@@ -220,9 +219,7 @@ impl<'a> TryClone for AnyRef<'a> {
 
 /// A type that holds a tag with contents octets, and is encoded as these.
 pub trait AnyValue: EqualByValue + Encode {
-    ghost use Rattle.spki_core.specs.AnyRefValue.{any_of};
-    ghost use Rattle.spki_core.specs.Laws.AnyValues.{HoldsAny};
-    ghost use Rattle.spki_core.specs.Laws.HaveEncodings.{WritesAs};
+    ghost use Rattle.spki_core.specs.Words.{any_of, HoldsAny, WritesAs};
 
     /// The tag and contents that are held.
     ghost any: { Self → TagAndContents };
@@ -243,15 +240,13 @@ pub trait AnyValue: EqualByValue + Encode {
 }
 
 impl EqualByValue for AnyRef<'_> {
-    ghost use Rattle.spki_core.specs.Laws.AnyValues.{any_decides};
+    ghost use Rattle.spki_core.specs.Words.{any_decides};
 
     ghost decides = { λ a b. any_decides a.tag.octet b.tag.octet a.contents.now b.contents.now };
 }
 
 impl AnyValue for AnyRef<'_> {
-    ghost use Rattle.spki_core.specs.AnyRefValue.{any_of};
-    ghost use Rattle.spki_core.specs.Laws.AnyValues.{holds_itself};
-    ghost use Rattle.spki_core.specs.Laws.HaveEncodings.{any_held, writes_itself};
+    ghost use Rattle.spki_core.specs.Words.{any_of, holds_itself, any_held, writes_itself};
 
     ghost any = { any_of };
 

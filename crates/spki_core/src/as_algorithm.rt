@@ -1,14 +1,12 @@
 //! Types that hold an algorithm identifier.
 ghost use Rattle.std.specs.Prelude.{◌≡◌};
-ghost use Rattle.spki_core.specs.Words.{Algorithm, TagAndContents};
+ghost use Rattle.spki_core.specs.Words.{Algorithm, TagAndContents, algorithm_of, algorithm_with};
 
 use crate::algorithm_identifier::AlgorithmIdentifier;
 use crate::any::{AnyRef, AnyValue};
 
 /// A type that holds an algorithm identifier with parameters of any tag.
 pub trait AsAlgorithmIdentifierRef {
-    ghost use Rattle.spki_core.specs.Words.{algorithm_of};
-
     /// The value that is held.
     ghost algorithm: { Self → Algorithm TagAndContents };
 
@@ -18,8 +16,6 @@ pub trait AsAlgorithmIdentifierRef {
 }
 
 impl<P: AnyValue> AsAlgorithmIdentifierRef for AlgorithmIdentifier<P> {
-    ghost use Rattle.spki_core.specs.Words.{algorithm_with};
-
     ghost algorithm = { algorithm_with P.any };
 
     fn as_algo_ref(&self) -> AlgorithmIdentifier<AnyRef<'_>> {

@@ -1,7 +1,7 @@
 //! Object identifiers that borrow their octets from the input.
 ghost use Rattle.std.specs.Prelude.{◌≡◌, ℕ, ◌<◌, List, length, slice_index, IsTrue, IfOk, IfErr};
 ghost use Rattle.spki_core.specs.IdentifierTest as specs;
-ghost use Rattle.spki_core.specs.ObjectIdentifier.{IsIdentifier};
+ghost use Rattle.spki_core.specs.Identifiers.{IsIdentifier};
 ghost use Rattle.der_core.specs.Words.{Answers, alike, one_spelling};
 ghost use Rattle.spki_core.specs.Readings.{identifier_read};
 ghost use Rattle.spki_core.specs.Laws.Printed.Readings.{oid_law};
@@ -24,7 +24,7 @@ pub struct IdentifierView<'a> {
 }
 
 impl<'a> IdentifierView<'a> {
-    ghost use Rattle.spki_core.specs.ObjectIdentifierValue.{own_octets_of, octets_of};
+    ghost use Rattle.spki_core.specs.Words.{own_octets_of, octets_of};
 
     /// The identifier with these contents octets, which are known to be one. `from_bytes` tests them.
     #[inline(always)]
@@ -76,7 +76,7 @@ impl<'a> IdentifierView<'a> {
 
 /// A type that holds an object identifier: `ObjectIdentifier` or `IdentifierView`.
 pub trait IdentifierValue: Sized {
-    ghost use Rattle.spki_core.specs.ObjectIdentifierValue.{octets_of};
+    ghost use Rattle.spki_core.specs.Words.{octets_of};
 
     /// The contents octets that are held.
     ghost octets: { Self → List ℕ };
@@ -94,8 +94,7 @@ pub trait IdentifierValue: Sized {
 }
 
 impl<'a> IdentifierValue for IdentifierView<'a> {
-    ghost use Rattle.spki_core.specs.ObjectIdentifierValue.{octets_of};
-    ghost use Rattle.spki_core.specs.Laws.HaveEncodings.{viewed_held};
+    ghost use Rattle.spki_core.specs.Words.{octets_of, viewed_held};
 
     ghost octets = { octets_of };
 
@@ -113,8 +112,7 @@ impl<'a> IdentifierValue for IdentifierView<'a> {
 }
 
 impl IdentifierValue for ObjectIdentifier {
-    ghost use Rattle.spki_core.specs.ObjectIdentifierValue.{own_octets_of};
-    ghost use Rattle.spki_core.specs.Laws.HaveEncodings.{identifier_held};
+    ghost use Rattle.spki_core.specs.Words.{own_octets_of, identifier_held};
 
     ghost octets = { own_octets_of };
 
@@ -132,7 +130,7 @@ impl IdentifierValue for ObjectIdentifier {
 }
 
 impl Contents for IdentifierView<'_> {
-    ghost use Rattle.spki_core.specs.ObjectIdentifierValue.{octets_of};
+    ghost use Rattle.spki_core.specs.Words.{octets_of};
 
     ghost Value = { List ℕ };
 

@@ -2,7 +2,7 @@
 ghost use Rattle.std.specs.Prelude.{◌≡◌, ◌-◌, ℕ, ◌≤◌, ◌<◌, List, length, take, drop, slice_index, IsTrue, IfOk, IfErr, true, bytes_eq};
 ghost use Rattle.std.proofs.Math.ListN.{replicate};
 ghost use Rattle.spki_core.specs.IdentifierTest as specs;
-ghost use Rattle.spki_core.specs.ObjectIdentifier.{IsIdentifier};
+ghost use Rattle.spki_core.specs.Identifiers.{IsIdentifier};
 ghost use Rattle.der_core.specs.Words.{Answers, alike, one_spelling, object_identifier};
 ghost use Rattle.spki_core.specs.Readings.{identifier_read};
 ghost use Rattle.spki_core.specs.Laws.Printed.Readings.{oid_law};
@@ -135,7 +135,7 @@ fn with_zeros(octets: &[u8]) -> [u8; 39]
 }
 
 impl ObjectIdentifier {
-    ghost use Rattle.spki_core.specs.ObjectIdentifierValue.{own_octets_of};
+    ghost use Rattle.spki_core.specs.Words.{own_octets_of};
 
     /// The octets are known to be valid.
     pub(crate) fn new(bytes: &[u8]) -> ObjectIdentifier
@@ -178,7 +178,7 @@ impl ObjectIdentifier {
 }
 
 impl PartialEq for ObjectIdentifier {
-    ghost use Rattle.spki_core.specs.ObjectIdentifierValue.{own_octets_of};
+    ghost use Rattle.spki_core.specs.Words.{own_octets_of};
 
     ghost eq = { λ a b. bytes_eq (own_octets_of a) (own_octets_of b) };
 
@@ -194,7 +194,7 @@ impl Eq for ObjectIdentifier {
 }
 
 impl Hash for ObjectIdentifier {
-    ghost use Rattle.spki_core.specs.ObjectIdentifierValue.{own_octets_of};
+    ghost use Rattle.spki_core.specs.Words.{own_octets_of};
 
     ghost hash_input = { λ oid. fed.slice fed.u8 (own_octets_of oid) };
 
@@ -215,7 +215,7 @@ impl TagMarker for ObjectIdentifierTag {
 }
 
 impl Contents for ObjectIdentifier {
-    ghost use Rattle.spki_core.specs.ObjectIdentifierValue.{own_octets_of};
+    ghost use Rattle.spki_core.specs.Words.{own_octets_of};
 
     ghost Value = { List ℕ };
 
@@ -247,7 +247,7 @@ impl TaggedBy for ObjectIdentifier {
 }
 
 impl EqualByValue for ObjectIdentifier {
-    ghost use Rattle.spki_core.specs.ObjectIdentifierValue.{own_octets_of};
+    ghost use Rattle.spki_core.specs.Words.{own_octets_of};
     ghost use Rattle.der_core.specs.Words.{bytes_decide};
 
     ghost decides = { λ a b. bytes_decide (own_octets_of a) (own_octets_of b) };

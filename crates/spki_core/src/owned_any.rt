@@ -2,7 +2,7 @@
 ghost use Rattle.std.specs.Prelude.{◌≡◌, ◌≤◌, ◌<◌, ◌⊎◌, ℕ, length, slice_index, true, IfOk, IfErr};
 ghost use Rattle.der_core.specs.Words.{limit, Prints, front_alike, one_spelling, starts_with_any};
 ghost use Rattle.spki_core.specs.Readings.{any};
-ghost use Rattle.spki_core.specs.Any.{TagAndContents};
+ghost use Rattle.spki_core.specs.Identifiers.{TagAndContents};
 ghost use Rattle.spki_core.specs.Laws.Printed.Readings.{any_law};
 ghost use Rattle.spki_core.specs.Laws.Printed.Shortest.{any_some};
 ghost use Rattle.standard.specs.Statement as standard;
@@ -24,8 +24,7 @@ pub struct Any {
 }
 
 impl Any {
-    ghost use Rattle.spki_core.specs.OwnedAnyValue.{own_any_of};
-    ghost use Rattle.spki_core.specs.AnyRefValue.{any_of};
+    ghost use Rattle.spki_core.specs.Words.{own_any_of, any_of};
 
     /// Copies the contents. `Overflow` if they are longer than `Length::MAX`, else `OutOfMemory` if there is no memory
     /// for them.
@@ -63,7 +62,7 @@ impl Any {
 }
 
 impl Encoding for Any {
-    ghost use Rattle.spki_core.specs.OwnedAnyValue.{own_any_of};
+    ghost use Rattle.spki_core.specs.Words.{own_any_of};
 
     ghost Value = { TagAndContents };
 
@@ -132,15 +131,13 @@ impl Encode for Any {
 }
 
 impl EqualByValue for Any {
-    ghost use Rattle.spki_core.specs.Laws.AnyValues.{any_decides};
+    ghost use Rattle.spki_core.specs.Words.{any_decides};
 
     ghost decides = { λ a b. any_decides a.tag.octet b.tag.octet a.contents.items b.contents.items };
 }
 
 impl AnyValue for Any {
-    ghost use Rattle.spki_core.specs.OwnedAnyValue.{own_any_of};
-    ghost use Rattle.spki_core.specs.Laws.AnyValues.{holds_itself};
-    ghost use Rattle.spki_core.specs.Laws.HaveEncodings.{own_any_held, writes_itself};
+    ghost use Rattle.spki_core.specs.Words.{own_any_of, holds_itself, own_any_held, writes_itself};
 
     ghost any = { own_any_of };
 

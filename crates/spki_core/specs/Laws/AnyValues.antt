@@ -1,19 +1,16 @@
 -- Tags with contents and algorithm identifiers: equality, and values that are mapped to others.
 use Rattle.std.proofs.Common.{ℕ, List, ◌≡◌, ap, Decides, eqb, ◌&&◌, bytes_eq, sym, ◌∙◌, Bool, refl, Option, Some, None, option_map}
 use Rattle.der_core.specs.Words.{bytes_decide, number_decides, both_decide, option_decides}
-use Rattle.spki_core.specs.Any.{TagAndContents}
+use Rattle.spki_core.specs.Identifiers.{TagAndContents, Algorithm, same_any, same_algorithm, same_plain, same_mask}
+use Rattle.std.proofs.lemmas.Iterator.Adapters.{option_map_id}
 use Rattle.std.specs.Option.{option_eq}
-use Rattle.spki_core.specs.AlgorithmIdentifier.{Algorithm, same_any, same_algorithm, same_plain, same_mask}
-
-pub any_path : {v w : TagAndContents} → v.tag ≡ w.tag → v.contents ≡ w.contents → v ≡ w
-any_path p q = λ i. record { tag = p i; contents = q i }
 
 -- By tag and contents.
 pub any_decides : (t u : ℕ) (c d : List ℕ)
     → Decides (eqb t u && bytes_eq c d)
     (◌≡◌ {A = TagAndContents} (record { tag = t; contents = c }) (record { tag = u; contents = d }))
 any_decides t u c d =
-    both_decide (number_decides t u) (bytes_decide c d) (λ p q. any_path p q)
+    both_decide (number_decides t u) (bytes_decide c d) (λ p q i. record { tag = p i; contents = q i })
     (λ e. ap (λ (v : TagAndContents). v.tag) e) (λ e. ap (λ (v : TagAndContents). v.contents) e)
 
 -- Values that are mapped to other ones and back.
@@ -51,9 +48,6 @@ holds_decides E h d x y =
     )
 
 -- Algorithm identifiers: equality.
-algorithm_path : {P : Type 0} {v w : Algorithm P} → v.oid ≡ w.oid → v.parameters ≡ w.parameters → v ≡ w
-algorithm_path p q = λ i. record { oid = p i; parameters = q i }
-
 -- Equality, by that of the parameters.
 pub algorithm_decides : {P V : Type 0} (value : P → V) (E : P → P → Bool)
     → ((a b : P) → Decides (E a b) (value a ≡ value b)) → (x y : List ℕ) (p q : Option P)
@@ -61,20 +55,17 @@ pub algorithm_decides : {P V : Type 0} (value : P → V) (E : P → P → Bool)
     (◌≡◌ {A = Algorithm V} (record { oid = x; parameters = option_map value p })
     (record { oid = y; parameters = option_map value q }))
 algorithm_decides {P} {V} value E d x y p q =
-    both_decide (bytes_decide x y) (option_decides value E d p q) (λ a b. algorithm_path a b)
+    both_decide (bytes_decide x y) (option_decides value E d p q) (λ p q i. record { oid = p i; parameters = q i })
     (λ e. ap (λ (v : Algorithm V). v.oid) e) (λ e. ap (λ (v : Algorithm V). v.parameters) e)
 
 option_same : {V : Type 0} (E : V → V → Bool) → ((v w : V) → Decides (E v w) (v ≡ w)) → (p q : Option V)
     → Decides (option_eq E p q) (p ≡ q)
-option_same E d None None = (λ e. refl, λ e. refl)
-option_same E d None (Some w) = (λ e. cc, λ e. cc)
-option_same E d (Some v) None = (λ e. cc, λ e. cc)
-option_same E d (Some v) (Some w) = (λ e. ap Some ((d v w).0 e), λ e. (d v w).1 (let same : v ≡ w = cc in same))
+option_same E d p q = rw (option_map_id p, option_map_id q) at (option_decides (λ v. v) E d p q)
 
 pub same_algorithm_decides : {P : Type 0} (same : P → P → Bool) → ((v w : P) → Decides (same v w) (v ≡ w))
     → (a b : Algorithm P) → Decides (same_algorithm same a b) (a ≡ b)
 same_algorithm_decides {P} same d a b =
-    both_decide (bytes_decide a.oid b.oid) (option_same same d a.parameters b.parameters) (λ p q. algorithm_path p q)
+    both_decide (bytes_decide a.oid b.oid) (option_same same d a.parameters b.parameters) (λ p q i. record { oid = p i; parameters = q i })
     (λ e. ap (λ (v : Algorithm P). v.oid) e) (λ e. ap (λ (v : Algorithm P). v.parameters) e)
 
 pub same_plain_decides : (a b : Algorithm TagAndContents) → Decides (same_plain a b) (a ≡ b)

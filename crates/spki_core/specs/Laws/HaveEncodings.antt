@@ -2,17 +2,15 @@
 use Rattle.std.proofs.Common.{List, ℕ, Option, Some, None, option_map, ◌++◌, ◌≡◌, refl, ap}
 use Rattle.der_core.specs.Words.{are_bytes, object_identifier_tag, sequence_tag, tlv, last_part_asks_none, last_once, AreSpelledOnce}
 use Rattle.spki_core.specs.AlgorithmValue.{algorithm_in}
-use Rattle.spki_core.specs.AnyRefValue.{any_of}
+use Rattle.spki_core.specs.HeldValues.{any_of, own_octets_of, octets_of, own_any_of}
 use Rattle.spki_core.specs.Laws.IdentifierTest.{is_identifier-sound}
-use Rattle.spki_core.specs.ObjectIdentifierValue.{own_octets_of, octets_of}
-use Rattle.spki_core.specs.OwnedAnyValue.{own_any_of}
 use Rattle.spki_core.specs.declared.algorithm_identifier.AlgorithmIdentifierOf.{AlgorithmIdentifierOf}
 use Rattle.spki_core.specs.declared.any.AnyRef.{AnyRef}
 use Rattle.spki_core.specs.declared.identifier_view.IdentifierView.{IdentifierView}
 use Rattle.spki_core.specs.declared.object_identifier.ObjectIdentifier.{ObjectIdentifier}
 use Rattle.spki_core.specs.declared.owned_any.Any.{Any}
 use Rattle.standard.specs.Statement.{IfPresent, IsAlgorithm, IsAny, IsIdentifier, algorithm, optional}
-use Rattle.spki_core.specs.AlgorithmIdentifier.{algorithm_contents, algorithm_map}
+use Rattle.spki_core.specs.Identifiers.{algorithm_contents, algorithm_map}
 use Rattle.spki_core.specs.Allocating.{AllocatesForParameters}
 
 pub identifier_held : (oid : ObjectIdentifier) → IsIdentifier (own_octets_of oid)

@@ -1,7 +1,7 @@
 use Rattle.std.proofs.Common.{arith, rules, ◌≡◌, length, sym}
 use Rattle.der_core.specs.Words.{nat_tests, are_bytes, behind_within}
 use Rattle.std.proofs.lemmas.List.{nil_from_length}
-use Rattle.spki_core.specs.Words.{any_reads}
+use Rattle.spki_core.specs.Words.{any_values}
 use Rattle.spki_core.proofs.StrictFields.{walked_end}
 use Rattle.spki_core.proofs.strict.+first_written.Goals as goal
 
@@ -13,5 +13,5 @@ returns-then-is_empty t c =
 pub first_written-requires : goal.first_written-requires
 first_written-requires t c =
     let bytes = are_bytes _ (λ i. omega (arith, c.type_inv.contents i)) in
-    let x = any_reads.gives c.args.contents.now c.in-Ok.rest.now _ bytes c.in-Ok.ensures in
+    let x = any_values.gives c.args.contents.now c.in-Ok.rest.now _ bytes c.in-Ok.ensures in
     (search rules, (behind_within x.0 c.in-Ok.rest.now x.1 c.requires.fits, search rules))

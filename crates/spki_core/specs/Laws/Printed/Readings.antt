@@ -1,12 +1,15 @@
 -- The functions read what is printed of identifiers, of encodings of any tag, of algorithms and of values inside
 -- explicit tags, and nothing else. They read the values that spellings mean.
-use Rattle.std.proofs.Common.{ℕ, false, List, ◌++◌, ◌≡◌, ◌<◌, ◌≤◌, ◌-◌, length, length-append, refl, sym, ap, ◌∙◌, arith, subst, ⊎_elim, Ok, Err, ◌||◌, nat_lt, IsTrue, Bool, true, Result, if◌then◌else◌}
+use Rattle.std.proofs.Common.{ℕ, false, List, ◌++◌, ◌≡◌, ◌<◌, ◌≤◌, ◌-◌, length, length-append, refl, sym, ap, ◌∙◌, arith, subst, ⊎_elim, Ok, Err, ◌||◌, nat_lt, IsTrue, true, Result, inl, inr}
+use Rattle.std.proofs.lemmas.Bool.{cases_Bool}
 use Rattle.der_core.specs.Words.{nat_tests, chosen, front_alike, tlv_is, tlv_made, last_law, reads_front, alone_law, made_law, row_law, tagged_law, bind_ok, made_tells, ok_same, by_tag_reads, Prints, ReadsFrontPrinted, ReadsPrinted, TellsOfBytes, FrontReading, Reading, ReadsContents, ReadsFronts, alone, by_tag, ◌>>=◌, context_tag, is_allowed, object_identifier, front_of, header_at, alike, alone_alike, last_alike, made_alike, row_alike, tagged_alike, meant, meant_front, paired, ReadsAlike, ReadsFrontAlike, inside, made}
 use Rattle.der_core.specs.declared.error.ErrorKind.{ErrorKind}
-use Rattle.der_core.specs.declared.error.ErrorKind.TheVariants.{TagUnknown}
-use Rattle.spki_core.specs.AlgorithmIdentifier.{algorithm_contents, algorithm_map}
-use Rattle.spki_core.specs.ContextSpecific.{HasNumbered, Numbered, written_numbered, numbered_map}
-use Rattle.spki_core.specs.Laws.Readings.{number_allowed, identifier_reads}
+use Rattle.der_core.specs.declared.error.ErrorKind.TheVariants.{OidMalformed, TagUnknown}
+use Rattle.spki_core.specs.Identifiers.{algorithm_contents, algorithm_map}
+use Rattle.spki_core.specs.Explicit.{HasNumbered, Numbered, written_numbered, numbered_map}
+use Rattle.spki_core.specs.IdentifierTest.{is_identifier}
+use Rattle.spki_core.specs.Laws.IdentifierTest.{is_identifier-complete, is_identifier-sound}
+use Rattle.spki_core.specs.Laws.Readings.{number_allowed}
 use Rattle.spki_core.specs.Readings.{algorithm_read, any, identifier_read, numbered, numbered_in, of_algorithm_parts, opaque}
 use Rattle.standard.specs.Statement.{IsAlgorithm, IsAny, IsIdentifier, TagAndContents, tlv}
 use Rattle.standard.specs.Statement as standard
@@ -15,9 +18,15 @@ use Rattle.der_core.specs.Laws.Printed.Items.{joined}
 -- OBJECT IDENTIFIER
 pub oid_law : ReadsPrinted IsIdentifier (λ o. o) identifier_read
 oid_law = record {
-  gives = λ c o bytes e. let p = identifier_reads.gives c o bytes e in (subst IsIdentifier p.1 p.0, p.1);
-  takes = λ o ok few. identifier_reads.takes o o few (ok, refl);
-  tells = identifier_reads.tells;
+  gives = λ c o bytes e.
+      ⊎_elim
+      (λ w. let same : c ≡ o = ok_same w.1 in (subst IsIdentifier same (is_identifier-sound c bytes w.0), same))
+      (λ w. let no = w.1 in cc) (chosen (is_identifier c) _ _ _ e);
+  takes = λ o ok few. let yes : is_identifier o ≡ true = is_identifier-complete o ok in rw yes refl;
+  tells = λ c k e.
+      ⊎_elim (λ w. let no = w.1 in cc)
+      (λ w. let same : OidMalformed ≡ k = let q = w.1 in cc in (λ no. cc, λ no. cc, λ no. cc))
+      (chosen (is_identifier c) _ _ _ e);
 }
 
 -- AlgorithmIdentifier: an identifier, and parameters that are OPTIONAL and the last part.
@@ -150,13 +159,13 @@ module _ {S V : Type 0} {at : FrontReading S} {means : S → V} {old : FrontRead
   numbers t a = record { number = t - 160; value = a }
 
   in_alike : (t : ℕ) → ReadsAlike (numbered_in at t) (numbered_map means) (numbered_in old t)
-  in_alike t = record { same = λ c. go c (nat_lt t 160 || nat_lt 190 t) }
-    where
-      go : (c : List ℕ) (b : Bool)
-          → ((if b then Err (TagUnknown t) else made (numbers t) (alone at) c) >>= meant (numbered_map means))
-          ≡ (if b then Err (TagUnknown t) else made (numbers t) (alone old) c)
-      go c true = refl
-      go c false = (made_alike (alone_alike law) (numbers t) (numbers t) (numbered_map means) (λ s. refl)).same c
+  in_alike t = record {
+    same = λ c. elim (cases_Bool (nat_lt t 160 || nat_lt 190 t)) [
+      | inl out ↦ rw out refl
+      | inr within ↦ rw within
+          ((made_alike (alone_alike law) (numbers t) (numbers t) (numbered_map means) (λ s. refl)).same c)
+    ];
+  }
 
   pub numbered_alike : ReadsFrontAlike (numbered at) (numbered_map means) (numbered old)
   numbered_alike = by_tag_alike in_alike

@@ -1,8 +1,8 @@
 -- What is written is the shortest: of encodings of any tag, algorithms, and values inside explicit tags.
 use Rattle.std.proofs.Common.{ℕ, List, ◌<◌, length, refl, inl, inr, arith, Option}
 use Rattle.der_core.specs.Words.{last_shortest, made_shortest, one_spelling, row_shortest, tagged_shortest, WritesShortest, context_tag}
-use Rattle.spki_core.specs.AlgorithmIdentifier.{algorithm_contents, algorithm_map}
-use Rattle.spki_core.specs.ContextSpecific.{HasNumbered, Numbered, numbered_map, written_numbered}
+use Rattle.spki_core.specs.Identifiers.{algorithm_contents, algorithm_map}
+use Rattle.spki_core.specs.Explicit.{HasNumbered, Numbered, numbered_map, written_numbered}
 use Rattle.spki_core.specs.Readings.{of_algorithm_parts}
 use Rattle.standard.specs.Statement.{Algorithm, IsAlgorithm, IsIdentifier, TagAndContents, any}
 

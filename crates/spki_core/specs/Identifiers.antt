@@ -1,12 +1,19 @@
--- AlgorithmIdentifier (RFC 5280 4.1.1.2):
--- SEQUENCE { algorithm OBJECT IDENTIFIER, parameters ANY DEFINED BY algorithm OPTIONAL }
-use Rattle.std.specs.Prelude.{ℕ, Bool, List, ◌++◌, ◌&&◌, eqb, option_map, bytes_eq}
+-- Object identifiers (X.690 8.19), encodings of any tag (X.680 "open type"), whose contents are opaque, and algorithm
+-- identifiers (RFC 5280 4.1.1.2).
+use Rattle.std.specs.Prelude.{ℕ, Bool, List, [], Some, None, ◌≡◌, ◌⊎◌, ◌++◌, ◌&&◌, eqb, option_map, bytes_eq}
 use Rattle.std.specs.Option.{option_eq}
 use Rattle.der_core.specs.Words.{object_identifier_tag, tlv}
-use Rattle.spki_core.specs.Any.{TagAndContents}
 use Rattle.standard.specs.Statement.{optional}
--- An object identifier, and parameters that are there or not.
-pub use Rattle.standard.specs.Statement.{Algorithm}
+-- The contents of an identifier: one or more subidentifiers, of at most 39 octets together. A tag octet that is allowed,
+-- and contents that are any bytes; the encoding that is written. An object identifier, and parameters that are there or
+-- not.
+pub use Rattle.standard.specs.Statement.{Algorithm, IsAny, IsIdentifier, TagAndContents, any as written_any}
+
+-- NULL (X.690 8.8)
+abbrev pub null_value : TagAndContents
+null_value = record { tag = 5; contents = [] }
+
+-- SEQUENCE { algorithm OBJECT IDENTIFIER, parameters ANY DEFINED BY algorithm OPTIONAL }
 
 -- The same identifier, with parameters that are made of others.
 abbrev pub algorithm_map : {P Q : Type 0} → (P → Q) → Algorithm P → Algorithm Q
@@ -28,3 +35,8 @@ same_plain = same_algorithm same_any
 
 abbrev pub same_mask : Algorithm (Algorithm TagAndContents) → Algorithm (Algorithm TagAndContents) → Bool
 same_mask = same_algorithm same_plain
+
+-- The hash function with this identifier, which algorithm identifiers name in two ways (RFC 4055 2.1): its parameters
+-- are absent, or NULL.
+abbrev pub IsHash : List ℕ → Algorithm TagAndContents → Type 0
+IsHash oid a = (a.oid ≡ oid) × ((a.parameters ≡ None) ⊎ (a.parameters ≡ Some null_value))
