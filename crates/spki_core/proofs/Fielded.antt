@@ -1,10 +1,9 @@
 -- What follows for every SEQUENCE of fields with defaults: what is read, the shortest encoding, the one under each mask,
 -- and how many there are.
-use Rattle.std.proofs.Common.{ℕ, zero, suc, ◌+◌, List, [], ◌∷◌, ◌++◌, ◌≡◌, ◌<◌, ◌≤◌, ◌^◌, length, map, refl, sym, Some, None, subst, ap, ◌∙◌, arith, length-append, append-nil, Option, inl, inr, pow_pos, ◌↔◌, slice_index_or}
-use Rattle.std.specs.List.{concat}
-use Rattle.der_core.specs.Words.{AreBytes, tagged_alike, values_alike, whole_alike, octets_grow, tlv_fit, meant_decodes, prints_one, shortest_is as shortest_of, tagged_shortest, limit, Spells, value_in}
+use Rattle.std.proofs.Common.{ℕ, zero, suc, ◌+◌, List, [], ◌∷◌, ◌++◌, ◌≡◌, ◌<◌, ◌≤◌, ◌^◌, length, refl, sym, subst, ap, ◌∙◌, arith, length-append, append-nil, inl, inr, pow_pos, ◌↔◌, slice_index_or}
+use Rattle.der_core.specs.Words.{AreBytes, tagged_alike, values_alike, whole_alike, octets_grow, tlv_fit, decodes_as, meant_decodes, optional_itself, prints_one, shortest_is as shortest_of, tagged_shortest, limit, Spells, value_in}
 use Rattle.der_core.specs.Tags as tags
-use Rattle.spki_core.specs.Words.{AreSpelled, FieldRecord, defaults, fields_of, meant, record_means, record_under, record_whole, spelled, under, upto, defaults_are, defaults_there, full, full_last, full_there, masked, under_is, under_mask, under_means, under_only, under_valid, record_alike, record_front_law, record_shortest, spelled_from, spelled_to}
+use Rattle.spki_core.specs.Words.{AreSpelled, FieldRecord, defaults, meant, record_means, record_under, record_whole, spelled, upto, defaults_are, defaults_there, full, full_last, full_there, masked, under_is, under_mask, under_means, under_only, under_valid, record_alike, record_front_law, record_shortest, spelled_from, spelled_to}
 use Rattle.spki_core.specs.FieldSpellings.{mask_of}
 use Rattle.standard.specs.Statement.{AreAll, Decodes, Defaults, Field, Fields, FieldsUnder, IsShortest, SequenceOf, TwoToTheDefaults, length_octets, longest, sequence}
 
@@ -42,16 +41,12 @@ module _ {V : Type 0} {Is : V → Type 0} {fields : V → List Field} (r : Field
   pub record_decodes : (bytes : List ℕ) → AreBytes bytes
       → Decodes (SequenceOf Is fields Fields) bytes (value_in (record_whole r bytes))
   record_decodes bytes octets =
-      go (value_in (record_whole r bytes))
-      (subst (Decodes (Spells (AreSpelled r.kinds) (λ s. sequence (spelled r.kinds s)) (record_means r)) bytes)
-      (values_alike (whole_alike (tagged_alike (record_alike r) tags.sequence)) bytes)
-      (meant_decodes (record_front_law r) (record_means r) bytes octets))
-    where
-      go : (o : Option V)
-          → Decodes (Spells (AreSpelled r.kinds) (λ s. sequence (spelled r.kinds s)) (record_means r)) bytes o
-          → Decodes (SequenceOf Is fields Fields) bytes o
-      go (Some v) p = (spelled_to r v bytes p.0, λ other q. p.1 other (spelled_from r other bytes q))
-      go None p = λ v q. p v (spelled_from r v bytes q)
+      let E = Spells (AreSpelled r.kinds) (λ s. sequence (spelled r.kinds s)) (record_means r) in
+      let decoded : Decodes E bytes (value_in (record_whole r bytes)) =
+      subst (Decodes E bytes) (values_alike (whole_alike (tagged_alike (record_alike r) tags.sequence)) bytes)
+      (meant_decodes (record_front_law r) (record_means r) bytes octets) in
+      rw optional_itself at (decodes_as E (SequenceOf Is fields Fields) (λ v. v) (λ v. v) (λ v. refl) bytes
+      (λ v. spelled_to r v bytes) (λ v. spelled_from r v bytes) (value_in (record_whole r bytes)) decoded)
 
   -- The encoding under a mask, and the number of defaults.
   abbrev pub made : V → ℕ → List ℕ
@@ -61,58 +56,45 @@ module _ {V : Type 0} {Is : V → Type 0} {fields : V → List Field} (r : Field
   default_count v = defaults r.kinds (r.split v)
 
   pub counted : (v : V) (k : ℕ) → Defaults (fields v) k → k ≡ default_count v
-  counted v k d =
-      defaults_are r.kinds 0 r.lawful (r.split v) k (subst (λ fs. Defaults fs k) (r.fields_are v) d)
+  counted v k d = defaults_are r.kinds 0 r.lawful (r.split v) k (rw (r.fields_are v) at d)
 
   pub counted_there : (v : V) → Defaults (fields v) (default_count v)
-  counted_there v =
-      subst (λ fs. Defaults fs (default_count v)) (sym (r.fields_are v)) (defaults_there r.kinds 0 r.lawful (r.split v))
+  counted_there v = rw (r.fields_are v) (defaults_there r.kinds 0 r.lawful (r.split v))
+
+  pub valid_under : (v : V) (mask : ℕ) → Is v → AreSpelled r.kinds (record_under r mask v)
+  valid_under v mask ok = under_valid r.kinds mask (r.split v) (r.are v ok)
 
   spells : (v : V) (mask : ℕ) → Is v → length (made v mask) ≤ limit
       → SequenceOf Is fields Fields v (made v mask)
   spells v mask ok few =
-      spelled_to r v (made v mask) (
-        few,
-        (
-          record_under r mask v,
-          ap r.join (under_means r.kinds 0 r.lawful mask (r.split v)) ∙ r.whole v,
-          under_valid r.kinds mask (r.split v) (r.are v ok),
-          λ i. made v mask,
-        ),
-      )
+      let means = ap r.join (under_means r.kinds 0 r.lawful mask (r.split v)) ∙ r.whole v in
+      spelled_to r v (made v mask) (few, (record_under r mask v, means, valid_under v mask ok, refl))
 
   pub shortest_is : (v : V) → Is v → length (made v 0) ≤ limit
       → IsShortest (SequenceOf Is fields Fields) v (made v 0)
   shortest_is v ok few =
-      let least = tagged_shortest (record_shortest r) 48 in
-      let h = shortest_of least v (under_valid r.kinds 0 (r.split v) (r.are v ok)) few in
+      let h = shortest_of (tagged_shortest (record_shortest r) 48) v (valid_under v 0 ok) few in
       (spelled_to r v (made v 0) h.0, λ other q. h.1 other (spelled_from r v other q))
 
   -- Under a mask there is one.
   pub only_under : (v : V) (mask : ℕ) (bytes : List ℕ) → SequenceOf Is fields (FieldsUnder mask) v bytes
       → (mask < 2 ^ default_count v) × (bytes ≡ made v mask)
   only_under v mask bytes (ok, few, c, p, is) =
-      let h =
-      under_only r.kinds 0 r.lawful mask (r.split v) c (subst (λ fs. FieldsUnder mask fs c) (r.fields_are v) p) in
+      let h = under_only r.kinds 0 r.lawful mask (r.split v) c (rw (r.fields_are v) at p) in
       (h.0, is ∙ ap sequence h.1)
 
   pub written_under : (v : V) (mask : ℕ) → Is v → mask < 2 ^ default_count v → length (made v mask) ≤ limit
       → SequenceOf Is fields (FieldsUnder mask) v (made v mask)
-  written_under v mask ok less few = (
-    ok,
-    few,
-    spelled r.kinds (record_under r mask v),
-    subst (λ fs. FieldsUnder mask fs (spelled r.kinds (record_under r mask v))) (sym (r.fields_are v))
-        (under_is r.kinds 0 r.lawful mask (r.split v) less),
-    λ i. made v mask,
-  )
+  written_under v mask ok less few =
+      let there : FieldsUnder mask (fields v) (spelled r.kinds (record_under r mask v)) =
+      rw (r.fields_are v) (under_is r.kinds 0 r.lawful mask (r.split v) less) in
+      (ok, few, spelled r.kinds (record_under r mask v), there, refl)
 
   -- It is an encoding of the value.
   pub under_is_one : (v : V) (mask : ℕ) (bytes : List ℕ) → SequenceOf Is fields (FieldsUnder mask) v bytes
       → SequenceOf Is fields Fields v bytes
   under_is_one v mask bytes p =
-      let h = only_under v mask bytes p in
-      subst (SequenceOf Is fields Fields v) (sym h.1) (spells v mask p.0 (omega (arith, p.1, ap length h.1)))
+      let (less, is) = only_under v mask bytes p in rw is (spells v mask p.0 (rw is at p.1))
 
   -- As what the kernel prints of the spelling.
   pub under_spelled : (v : V) (mask : ℕ) → Is v → mask < 2 ^ default_count v → (bytes : List ℕ)
@@ -121,15 +103,13 @@ module _ {V : Type 0} {Is : V → Type 0} {fields : V → List Field} (r : Field
   under_spelled v mask ok less bytes = (
     (λ (few, (s, e, valid, is)).
         let same : bytes ≡ made v mask = is ∙ ap (λ z. sequence (spelled r.kinds z)) e in
-        subst (SequenceOf Is fields (FieldsUnder mask) v) (sym same)
-        (written_under v mask ok less (omega (arith, few, ap length same)))),
-    (λ q. let h = only_under v mask bytes q in
-        (q.1, (record_under r mask v, refl, under_valid r.kinds mask (r.split v) (r.are v ok), h.1))),
+        rw same (written_under v mask ok less (rw same at few))),
+    (λ q. (q.1, (record_under r mask v, refl, valid_under v mask ok, (only_under v mask bytes q).1))),
   )
 
   -- A mask is below two to the number of defaults.
   pub mask_fits : (v : V) (mask : ℕ) → (k : ℕ) × Defaults (fields v) k × (mask < 2 ^ k) → mask < 2 ^ default_count v
-  mask_fits v mask (k, d, less) = subst (λ n. mask < 2 ^ n) (counted v k d) less
+  mask_fits v mask (k, d, less) = rw (counted v k d) at less
 
   -- Each encoding stands under a mask, and under no other.
   pub has_mask : (v : V) (bytes : List ℕ) → SequenceOf Is fields Fields v bytes
@@ -143,10 +123,8 @@ module _ {V : Type 0} {Is : V → Type 0} {fields : V → List Field} (r : Field
   pub masks_differ : (v : V) (i j : ℕ) → Is v → i < 2 ^ default_count v → j < 2 ^ default_count v
       → length (made v i) ≤ limit → made v i ≡ made v j → i ≡ j
   masks_differ v i j ok less also few e =
-      let same : made v i ++ [] ≡ made v j ++ [] = ap (λ x. x ++ []) e in
-      let one = prints_one (record_front_law r) (record_under r i v) (record_under r j v) [] []
-      (under_valid r.kinds i (r.split v) (r.are v ok)) (under_valid r.kinds j (r.split v) (r.are v ok))
-      (omega (arith, few, ap length (append-nil (made v i)))) same in
+      let one = prints_one (record_front_law r) (record_under r i v) (record_under r j v) [] [] (valid_under v i ok)
+      (valid_under v j ok) (omega (arith, few, ap length (append-nil (made v i)))) (ap (λ x. x ++ []) e) in
       sym (under_mask r.kinds 0 r.lawful i (r.split v) less) ∙ ap (mask_of r.kinds) one.0
       ∙ under_mask r.kinds 0 r.lawful j (r.split v) also
 
@@ -155,7 +133,7 @@ module _ {V : Type 0} {Is : V → Type 0} {fields : V → List Field} (r : Field
       × ((other : ℕ) → SequenceOf Is fields (FieldsUnder other) v bytes → other ≡ mask)
   has_one_mask v bytes q =
       let (mask, less, is) = has_mask v bytes q in
-      let few : length (made v mask) ≤ limit = omega (arith, q.1, ap length is) in (
+      let few : length (made v mask) ≤ limit = rw is at q.1 in (
         mask,
         subst (SequenceOf Is fields (FieldsUnder mask) v) (sym is) (written_under v mask q.0 less few),
         λ other p.
@@ -166,25 +144,19 @@ module _ {V : Type 0} {Is : V → Type 0} {fields : V → List Field} (r : Field
   -- The one under mask 0 is the shortest.
   pub zero_shortest : (v : V) (bytes : List ℕ) → SequenceOf Is fields (FieldsUnder 0) v bytes
       → IsShortest (SequenceOf Is fields Fields) v bytes
-  zero_shortest v bytes p =
-      let h = only_under v 0 bytes p in
-      subst (IsShortest (SequenceOf Is fields Fields) v) (sym h.1)
-      (shortest_is v p.0 (omega (arith, p.1, ap length h.1)))
+  zero_shortest v bytes p = let is = (only_under v 0 bytes p).1 in rw is (shortest_is v p.0 (rw is at p.1))
 
   -- And it is there for each value that has an encoding.
   pub zero_least : (v : V) (bytes : List ℕ) → SequenceOf Is fields Fields v bytes
       → SequenceOf Is fields (FieldsUnder 0) v (made v 0) × (length (made v 0) ≤ length bytes)
   zero_least v bytes q =
       let (few, (s, e, ok, is)) = spelled_from r v bytes q in
+      let count = ap length is in
+      let under = ap (λ w. length (made w 0)) e in
       let less : length (made v 0) ≤ length bytes =
-      elim ((tagged_shortest (record_shortest r) 48).least s ok (omega (arith, few, ap length is))) [
-        | inl same ↦ omega (
-          arith,
-          ap length is,
-          ap (λ z. length (sequence (spelled r.kinds z))) same,
-          ap (λ w. length (made w 0)) e,
-        )
-        | inr l ↦ omega (arith, l, ap length is, ap (λ w. length (made w 0)) e)
+      elim ((tagged_shortest (record_shortest r) 48).least s ok (omega (arith, few, count))) [
+        | inl same ↦ omega (arith, count, ap (λ z. length (sequence (spelled r.kinds z))) same, under)
+        | inr l ↦ omega (arith, l, count, under)
       ] in
       (written_under v 0 q.0 (pow_pos (default_count v)) (omega (arith, less, few)), less)
 
@@ -193,11 +165,11 @@ module _ {V : Type 0} {Is : V → Type 0} {fields : V → List Field} (r : Field
       → length (made v mask) ≤ length (longest (fields v))
   below_longest v mask few =
       let all = full r.kinds (r.split v) in
-      let within : length (sequence all) ≤ limit = subst (λ fs. length (longest fs) ≤ limit) (r.fields_are v) few in
+      let within : length (sequence all) ≤ limit = rw (r.fields_are v) at few in
       let l : length (spelled r.kinds (record_under r mask v)) ≤ length all =
       rw (under_means r.kinds 0 r.lawful mask (r.split v)) at (full_last r.kinds (record_under r mask v)) in
-      let g = grows (spelled r.kinds (record_under r mask v)) all l (omega (arith, within, tlv_fit 48 all)) in
-      subst (λ fs. length (made v mask) ≤ length (longest fs)) (sym (r.fields_are v)) g
+      rw (r.fields_are v)
+      (grows (spelled r.kinds (record_under r mask v)) all l (omega (arith, within, tlv_fit 48 all)))
 
   pub fits : (v : V) (mask : ℕ) → length (longest (fields v)) ≤ limit → length (made v mask) ≤ limit
   fits v mask few = let g = below_longest v mask few in omega (arith, g, few)
@@ -212,12 +184,12 @@ module _ {V : Type 0} {Is : V → Type 0} {fields : V → List Field} (r : Field
   are_all v ok few = record {
     count = length_upto (2 ^ default_count v) (made v);
     under = λ i less.
-        subst (SequenceOf Is fields (FieldsUnder i) v) (sym (at i less)) (written_under v i ok less (fits v i few));
+        rw (at i less) (written_under v i ok less (fits v i few));
     different = λ i j less also e.
         masks_differ v i j ok less also (fits v i few) (sym (at i less) ∙ e ∙ at j also);
     every = λ bytes. (
       (λ q. let h = has_mask v bytes q in (h.0, h.1, at h.0 h.1 ∙ sym h.2)),
-      (λ p. subst (SequenceOf Is fields Fields v) (sym (at p.0 p.1) ∙ p.2) (spells v p.0 ok (fits v p.0 few))),
+      (λ p. rw (← p.2, at p.0 p.1) (spells v p.0 ok (fits v p.0 few))),
     );
   }
     where
@@ -231,5 +203,4 @@ module _ {V : Type 0} {Is : V → Type 0} {fields : V → List Field} (r : Field
 
   pub two_to_the_defaults : TwoToTheDefaults Is fields
   two_to_the_defaults v k ok d few =
-      subst (λ n. (all : List (List ℕ)) × AreAll (λ E. E) Is fields v n all) (sym (counted v k d))
-      (upto (2 ^ default_count v) (made v), are_all v ok few)
+      rw (counted v k d) (upto (2 ^ default_count v) (made v), are_all v ok few)

@@ -1,16 +1,12 @@
 -- What the functions that read give: records by their fields, encodings of any tag, fields. Identifiers that are
 -- mapped.
-use Rattle.std.proofs.Common.{◌≡◌, ◌∙◌, ◌&&◌, ℕ, Bool, List, [], ◌∷◌, Option, Some, None, Ok, true, false, ap, refl, sym, ◌+◌, Result, if◌then◌else◌, option_map, arith, subst, Err, ◌≢◌, ◌==◌, IfOk, inl, inr}
+use Rattle.std.proofs.Common.{◌≡◌, ◌∙◌, ◌&&◌, ℕ, Bool, List, [], ◌∷◌, Option, Some, None, Ok, true, false, ap, refl, sym, ◌+◌, Result, if◌then◌else◌, option_map, subst, Err, IfOk, inl, inr}
 use Rattle.std.proofs.lemmas.Bool.{cases_Bool}
-use Rattle.der_core.specs.Words.{ok_pair, alone, is_next, tagged, ◌>>=◌, nat_tests, AreBytes, Input, ReadsFront, ReadsWhole, FrontReading, Reading, octets_of_all, unexpected, ReadsContents, context_tag, Tlv}
-use Rattle.der_core.specs.declared.error.ErrorKind.{ErrorKind}
-use Rattle.spki_core.specs.Words.{FieldRecord, Kind, Spelling, first_written, or_default, record_means, record_read, record_strictly, spelling_read, strict_value, tag_of, record_alike, explicit_is, defaulted, explicit, unless_found, algorithm_map, algorithm_with, Carried, TagAndContents, any_as}
+use Rattle.der_core.specs.Words.{ok_pair, alone, is_next, tagged, ◌>>=◌, AreBytes, Input, ReadsFront, ReadsWhole, FrontReading, Reading, ReadsContents, context_tag, Tlv}
+use Rattle.spki_core.specs.Words.{FieldRecord, Kind, Spelling, first_written, or_default, record_means, record_read, record_strictly, spelling_read, strict_value, tag_of, record_alike, explicit_is, defaulted, explicit, unless_found, algorithm_map, algorithm_with, Carried, TagAndContents}
 use Rattle.standard.specs.Statement.{Field}
-use Rattle.der_core.specs.declared.error.ErrorKind.TheVariants.{TagUnexpected}
 use Rattle.der_core.specs.declared.tag.Tag.{Tag}
 use Rattle.der_core.specs.declared.error.Error.{Error}
-use Rattle.der_core.proofs.QuickReading.{read_inside}
-use Rattle.der_core.proofs.Readings.{other_is}
 
 -- Whether the field is there though it has its default; and strictly, that no field is.
 abbrev pub there_by_default : (k : Kind) → Option k.Value → Bool
@@ -87,15 +83,7 @@ algorithm_carried {X} {V} {W} {value} {other} k = record {
       λ i. record { oid = (algorithm_with other a).oid; parameters = p i };
 }
 
--- What the functions give for an encoding of any tag that has to be of one type.
-
--- Another tag than that of the type; and a call that read the contents of the type's tag.
-pub any_as_other : {V : Type 0} (tag : Tag) (read : Reading V) (v : TagAndContents) (actual : Tag) (e : ErrorKind)
-    → v.tag ≢ tag.octet → actual.octet ≡ v.tag → e ≡ TagUnexpected tag actual → any_as tag read v ≡ Err e
-any_as_other tag read v actual e other is kind =
-    let isnt : (v.tag == tag.octet) ≡ false = grind (arith, nat_tests, other) in
-    rw isnt (ap (unexpected tag) (sym is) ∙ other_is tag actual ∙ ap (λ k. Err k) (sym kind))
-
+-- What a call gives that reads the contents of an encoding of any tag, which is that of the type.
 pub read_as_any : {X V : Type 0} {contents : V → List ℕ → Type 0} {read : Reading V} (value : X → V) (tag : Tag)
     → ReadsContents contents read → (v : TagAndContents) (may : List ℕ → Type 0) → AreBytes v.contents
     → v.tag ≡ tag.octet → (before after : Input) → before ≡ Some v.contents → (r : Result X Error)
@@ -103,19 +91,6 @@ pub read_as_any : {X V : Type 0} {contents : V → List ℕ → Type 0} {read : 
 read_as_any value tag law v may bytes same before after is (Ok x) p =
     (same, law.gives v.contents (value x) bytes (rw is at p.0))
 read_as_any value tag law v may bytes same before after is (Err e) p = tt
-
--- A field that was found quickly, and one that isn't there.
-pub field_taken : {V : Type 0} (at : FrontReading V) (n : ℕ) (default v : V) (tag : Tag) (b front back : List ℕ)
-    → tag.octet ≡ context_tag n → is_next tag.octet b ≡ true → tagged tag octets_of_all b ≡ Ok (front, back)
-    → alone at front ≡ Ok v → defaulted n at default b ≡ Ok (v, back)
-field_taken at n default v tag b front back is next split read =
-    let there : is_next (context_tag n) b ≡ true = ap (λ o. is_next o b) (sym is) ∙ next in
-    rw there (explicit_is at n tag b is ∙ read_inside tag (alone at) b front back v split read)
-
-pub field_left_out : {V : Type 0} (at : FrontReading V) (n : ℕ) (default : V) (tag : Tag) (b : List ℕ)
-    → tag.octet ≡ context_tag n → is_next tag.octet b ≡ false → defaulted n at default b ≡ Ok (default, b)
-field_left_out at n default tag b is next =
-    let gone : is_next (context_tag n) b ≡ false = ap (λ o. is_next o b) (sym is) ∙ next in rw gone refl
 
 -- Where the tag of a number was read.
 pub reads_at_tag : {X V : Type 0} (value : X → V) (at : FrontReading V) (may : List ℕ → Type 0) (n : ℕ) (tag : Tag)

@@ -3,14 +3,14 @@
 use Rattle.std.proofs.Common.{ℕ, List, [], ◌∷◌, ◌++◌, ◌≡◌, ◌≤◌, ◌+◌, length, refl, sym, subst, ap, ◌∙◌, arith, Bool, true, false, Option, Some, None, Result, Ok, Err, length-append, inl, inr, ◌↔◌, pow_pos}
 use Rattle.std.proofs.lemmas.Bool.{cases_Bool}
 use Rattle.der_core.specs.Laws.Readings.{front_bytes}
-use Rattle.der_core.specs.Words.{nat_tests, AreBytes, back_bytes, tlv_fit, whole_decodes, whole_takes, tagged_alike, whole_alike, bind_err, limit, value_in, is_next, tagged, whole, ◌>>=◌, checked_as, same_tag, context_tag, is_allowed, header_at, tagged_shortest}
+use Rattle.der_core.specs.Words.{nat_tests, AreBytes, back_bytes, tlv_fit, whole_decodes, whole_takes, tagged_alike, whole_alike, bind_err, limit, value_in, is_next, tagged, whole, ◌>>=◌, checked_as, same_tag, context_tag, is_allowed, header_at}
 use Rattle.der_core.specs.declared.error.ErrorKind.{ErrorKind}
 use Rattle.der_core.specs.declared.error.ErrorKind.TheVariants.{Incomplete, Noncanonical, TagUnknown}
 use Rattle.der_core.specs.declared.tag.Tag.{Tag}
 use Rattle.der_core.specs.Tags as tags
-use Rattle.spki_core.specs.Words.{AreLawful, AreNumbered, AreSpelled, FieldRecord, Kind, Spelling, Values, are_defaults, fields_with, first_written, meant, one_spelled, record_fields, record_means, record_whole, spelled, spelling_read, strict_value, strict_whole, under, defaults, masked, under_mask, record_alike, record_front_law, record_shortest, spelled_from, spelled_to, not_next, any_law, any, behind_any, first_default, noncanonical, unless_found, walked}
+use Rattle.spki_core.specs.Words.{AreLawful, AreNumbered, AreSpelled, FieldRecord, Kind, Spelling, Values, are_defaults, fields_with, first_written, meant, one_spelled, record_fields, record_means, record_under, record_whole, spelled, spelling_read, strict_value, strict_whole, under, defaults, masked, under_mask, record_alike, record_front_law, spelled_from, spelled_to, not_next, any_law, any, behind_any, first_default, noncanonical, unless_found, walked}
 use Rattle.spki_core.specs.FieldSpellings.{mask_of}
-use Rattle.spki_core.proofs.Fielded.{made, shortest_is}
+use Rattle.spki_core.proofs.Fielded.{made, shortest_is, under_is_one, valid_under, zero_least}
 use Rattle.standard.specs.Statement.{Decodes, Field, Fields, IsShortest, SequenceOf, TagAndContents, sequence, tlv}
 
 -- Behind the last field nothing is found.
@@ -60,27 +60,22 @@ any_next k v rest bytes few =
     any_law.takes (record { tag = 160 + k.number; contents = k.printed v }) rest
     (k.allowed, contents_bytes (160 + k.number) (k.printed v) (front_bytes (one_spelled k v) rest bytes)) few
 
-walk_finds : (ks : List Kind) (n : ℕ) → AreLawful n ks → AreNumbered n ks → (s : Spelling ks)
+walk_finds : (ks : List Kind) (n m : ℕ) → AreLawful n ks → AreNumbered m ks → (s : Spelling ks)
     → AreBytes (spelled ks s) → length (spelled ks s) ≤ limit
-    → walked n (are_defaults (fields_with ks (meant ks s))) (spelled ks s) ≡ first_written ks s
-walk_finds [] n law numbered s bytes few = refl
-walk_finds (k ∷ ks) n law numbered (None, s) bytes few =
+    → walked m (are_defaults (fields_with ks (meant ks s))) (spelled ks s) ≡ first_written ks s
+walk_finds [] n m law numbered s bytes few = refl
+walk_finds (k ∷ ks) n m law numbered (None, s) bytes few =
     let is : k.is_default k.default ≡ true = (law.2 k.default).1 refl in
-    let step : k.number + 1 ≡ n + 1 = omega (arith, numbered.0) in
-    let other : is_next (160 + n) (spelled ks s) ≡ false =
-    subst (λ m. is_next (160 + m) (spelled ks s) ≡ false) numbered.0
-    (not_next ks (k.number + 1) k.number (omega arith) law.4 s) in
-    rw (is, other)
-    (walk_finds ks (n + 1) (subst (λ m. AreLawful m ks) step law.4) numbered.1 s bytes few)
-walk_finds (k ∷ ks) n law numbered (Some x, s) bytes few =
-    let step : k.number + 1 ≡ n + 1 = omega (arith, numbered.0) in
+    let other : is_next (160 + m) (spelled ks s) ≡ false =
+    not_next ks (k.number + 1) m (omega (arith, numbered.0)) law.4 s in
+    rw (is, other) (walk_finds ks (k.number + 1) (m + 1) law.4 numbered.1 s bytes few)
+walk_finds (k ∷ ks) n m law numbered (Some x, s) bytes few =
     let later =
-    walk_finds ks (n + 1) (subst (λ m. AreLawful m ks) step law.4) numbered.1 s
-    (back_bytes (one_spelled k x) (spelled ks s) bytes)
+    walk_finds ks (k.number + 1) (m + 1) law.4 numbered.1 s (back_bytes (one_spelled k x) (spelled ks s) bytes)
     (omega (arith, few, length-append (one_spelled k x) (spelled ks s))) in
-    let next : is_next (160 + n) (one_spelled k x ++ spelled ks s) ≡ true = grind (arith, nat_tests, numbered.0) in
+    let next : is_next (160 + m) (one_spelled k x ++ spelled ks s) ≡ true = grind (arith, nat_tests, numbered.0) in
     elim (cases_Bool (k.is_default x)) [
-      | inl is ↦ rw (is, next) (ap (λ m. Some m) (sym numbered.0))
+      | inl is ↦ rw (is, next) (ap (λ i. Some i) (sym numbered.0))
       | inr isnt ↦ rw (isnt, any_next k x (spelled ks s) bytes few) later
     ]
 
@@ -101,8 +96,7 @@ module _ {V : Type 0} {Is : V → Type 0} {fields : V → List Field} (r : Field
       let any_of : TagAndContents = record { tag = 48; contents = c } in
       let top : whole any bytes ≡ Ok any_of = whole_takes any_law any_of bytes (few, (λ i. true, held), is) in
       let found : first_default (are_defaults (record_fields r v)) bytes ≡ first_written r.kinds s =
-      subst (λ u. first_default (are_defaults (fields_with r.kinds u)) bytes ≡ first_written r.kinds s) same
-      (rw top (walk_finds r.kinds 0 r.lawful r.numbered s held within)) in
+      rw (← same, top) (walk_finds r.kinds 0 0 r.lawful r.numbered s held within) in
       rw (read, found, e) refl
 
   -- What isn't read isn't read strictly, for the same fault.
@@ -117,48 +111,6 @@ module _ {V : Type 0} {Is : V → Type 0} {fields : V → List Field} (r : Field
   abbrev Stands : Spelling r.kinds → List ℕ → Type 0
   Stands s b = (length b ≤ limit) × AreSpelled r.kinds s × (b ≡ sequence (spelled r.kinds s))
 
-  stands_for : (s : Spelling r.kinds) (bytes : List ℕ) → Stands s bytes → Encoding (record_means r s) bytes
-  stands_for s bytes p =
-      spelled_to r (record_means r s) bytes (p.0, (s, (λ i. record_means r s), p.1, p.2))
-
-  one_value : (s : Spelling r.kinds) (bytes : List ℕ) → Decodes Stands bytes (Some s) → (v : V) → Encoding v bytes
-      → v ≡ record_means r s
-  one_value s bytes p v q =
-      let (few, (t, e, ok, is)) = spelled_from r v bytes q in
-      sym e ∙ ap (record_means r) (p.1 t (few, ok, is))
-
-  -- The shortest encoding of what a spelling means.
-  first_is : (s : Spelling r.kinds) → under r.kinds 0 (r.split (record_means r s)) ≡ under r.kinds 0 (meant r.kinds s)
-  first_is s = ap (under r.kinds 0) (r.parted (meant r.kinds s))
-
-  is_shortest : (s : Spelling r.kinds) (bytes : List ℕ) → Decodes Stands bytes (Some s)
-      → first_written r.kinds s ≡ None → IsShortest Encoding (record_means r s) bytes
-  is_shortest s bytes p none =
-      let v = record_means r s in
-      let same : bytes ≡ made r v 0 =
-      p.0.2 ∙ ap (λ z. sequence (spelled r.kinds z)) (only_first r.kinds r.lawful s none ∙ sym (first_is s)) in
-      let holds = stands_for s bytes p.0 in
-      subst (IsShortest Encoding v) (sym same) (shortest_is r v holds.0 (omega (arith, p.0.0, ap length same)))
-
-  not_shortest : (s : Spelling r.kinds) (bytes : List ℕ) → Decodes Stands bytes (Some s) → (n : ℕ)
-      → first_written r.kinds s ≡ Some n → (v : V) → IsShortest Encoding v bytes → ⊥
-  not_shortest s bytes p n found v q =
-      let w = record_means r s in
-      let least = (tagged_shortest (record_shortest r) 48).least s p.0.1 (omega (arith, p.0.0, ap length p.0.2)) in
-      elim least [
-        | inl e ↦
-            let none : first_written r.kinds s ≡ None = ap (first_written r.kinds) e ∙ none_first r.kinds r.lawful (r.split w) in
-            let never : None ≡ Some n = sym none ∙ found in cc
-        | inr l ↦
-            let few : length (made r w 0) ≤ limit = omega (arith, l, p.0.0, ap length p.0.2) in
-            let other = shortest_is r w (stands_for s bytes p.0).0 few in
-            let same = one_value s bytes p v q.0 in
-            elim (q.1 (made r w 0) (subst (λ u. Encoding u (made r w 0)) (sym same) other.0)) [
-              | inl is ↦ omega (arith, l, ap length is, ap length p.0.2)
-              | inr longer ↦ omega (arith, l, longer, ap length p.0.2)
-            ]
-      ]
-
   -- What strict reading is promised to give.
   pub strict_decodes : (bytes : List ℕ) → AreBytes bytes
       → Decodes (IsShortest Encoding) bytes (value_in (strict_whole r bytes))
@@ -168,8 +120,27 @@ module _ {V : Type 0} {Is : V → Type 0} {fields : V → List Field} (r : Field
       chosen : (s : Spelling r.kinds) → Decodes Stands bytes (Some s) → (found : Option ℕ)
           → first_written r.kinds s ≡ found
           → Decodes (IsShortest Encoding) bytes (value_in (unless_found found (record_means r s)))
-      chosen s p None is = (is_shortest s bytes p is, λ other q. one_value s bytes p other q.0)
-      chosen s p (Some n) is = λ v q. not_shortest s bytes p n is v q
+      chosen s p None none =
+          let v = record_means r s in
+          let holds = spelled_to r v bytes (p.0.0, (s, refl, p.0.1, p.0.2)) in
+          let first : s ≡ record_under r 0 v =
+          only_first r.kinds r.lawful s none ∙ ap (under r.kinds 0) (sym (r.parted (meant r.kinds s))) in
+          let same : bytes ≡ made r v 0 = p.0.2 ∙ ap (λ z. sequence (spelled r.kinds z)) first in (
+            rw same (shortest_is r v holds.0 (rw same at p.0.0)),
+            λ other q.
+                let (few, (t, e, ok, is)) = spelled_from r other bytes q.0 in
+                sym e ∙ ap (record_means r) (p.1 t (few, ok, is)),
+          )
+      chosen s p (Some n) found = λ v q.
+          let (under, least) = zero_least r v bytes q.0 in
+          let is : bytes ≡ made r v 0 = elim (q.1 (made r v 0) (under_is_one r v 0 (made r v 0) under)) [
+            | inl e ↦ sym e
+            | inr longer ↦ absurd (omega (arith, longer, least))
+          ] in
+          let same : record_under r 0 v ≡ s = p.1 (record_under r 0 v) (q.0.1, valid_under r v 0 q.0.0, is) in
+          let none : first_written r.kinds s ≡ None =
+          ap (first_written r.kinds) (sym same) ∙ none_first r.kinds r.lawful (r.split v) in
+          let never : None ≡ Some n = sym none ∙ found in cc
 
       go : (o : Result (Spelling r.kinds) ErrorKind) → Decodes Stands bytes (value_in o)
           → Decodes (IsShortest Encoding) bytes

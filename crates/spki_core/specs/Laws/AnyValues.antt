@@ -1,8 +1,7 @@
 -- Tags with contents and algorithm identifiers: equality, and values that are mapped to others.
-use Rattle.std.proofs.Common.{ℕ, List, ◌≡◌, ap, Decides, eqb, ◌&&◌, bytes_eq, sym, ◌∙◌, Bool, refl, Option, Some, None, option_map}
-use Rattle.der_core.specs.Words.{bytes_decide, number_decides, both_decide, option_decides}
+use Rattle.std.proofs.Common.{ℕ, List, ◌≡◌, ap, Decides, eqb, ◌&&◌, bytes_eq, sym, ◌∙◌, Bool, refl, Option, option_map}
+use Rattle.der_core.specs.Words.{bytes_decide, number_decides, both_decide, option_decides, optional_itself}
 use Rattle.spki_core.specs.Identifiers.{TagAndContents, Algorithm, same_any, same_algorithm, same_plain, same_mask}
-use Rattle.std.proofs.lemmas.Iterator.Adapters.{option_map_id}
 use Rattle.std.specs.Option.{option_eq}
 
 -- By tag and contents.
@@ -60,7 +59,7 @@ algorithm_decides {P} {V} value E d x y p q =
 
 option_same : {V : Type 0} (E : V → V → Bool) → ((v w : V) → Decides (E v w) (v ≡ w)) → (p q : Option V)
     → Decides (option_eq E p q) (p ≡ q)
-option_same E d p q = rw (option_map_id p, option_map_id q) at (option_decides (λ v. v) E d p q)
+option_same E d p q = rw (optional_itself p, optional_itself q) at (option_decides (λ v. v) E d p q)
 
 pub same_algorithm_decides : {P : Type 0} (same : P → P → Bool) → ((v w : P) → Decides (same v w) (v ≡ w))
     → (a b : Algorithm P) → Decides (same_algorithm same a b) (a ≡ b)

@@ -1,10 +1,10 @@
-use Rattle.std.proofs.Common.{◌≡◌, ℕ, List, [], ◌++◌, ◌≤◌, length, refl, sym, subst, ap, ◌∙◌, arith, append-nil}
+use Rattle.std.proofs.Common.{◌≡◌, [], ◌++◌, ◌≤◌, length, refl, sym, subst, ap, ◌∙◌, arith, append-nil}
 use Rattle.der_core.specs.Words.{Is, tlv_split, tlv_made, prints_one, tagged_law, tlv_short, object_identifier, Tlv, tlv}
-use Rattle.spki_core.specs.Words.{AlgorithmAllocates, NothingAskedAlone, oid_law}
+use Rattle.spki_core.specs.Words.{oid_law}
 use Rattle.spki_core.proofs.algorithm_identifier.lemma_identifier_alone_takes_no_memory.Goals as goal
 
-none_alone : (may_allocate : List ℕ → Type 0) → NothingAskedAlone (AlgorithmAllocates may_allocate)
-none_alone may_allocate oid encoding held same (b, rest, is, asks) =
+pub returns : goal.returns
+returns g c oid encoding held same (b, rest, is, asks) =
     let few : length (tlv 6 oid) ≤ 167 = tlv_short 6 39 oid held.4 (omega arith) in
     let alone : Tlv 48 (Is (tlv 6 oid)) encoding =
     subst (Tlv 48 (Is (tlv 6 oid))) (sym same)
@@ -17,6 +17,3 @@ none_alone may_allocate oid encoding held same (b, rest, is, asks) =
     prints_one (tagged_law oid_law object_identifier) oid o [] last held identifier
     (omega (arith, few, ap length (append-nil (tlv 6 oid)))) both in
     omega (arith, more, ap length one.1)
-
-pub returns : goal.returns
-returns g c = none_alone g.P.Decode.may_allocate

@@ -1,13 +1,15 @@
-use Rattle.std.proofs.Common.{◌∙◌, sym}
-use Rattle.spki_core.proofs.Readings.{field_left_out, field_taken}
+use Rattle.std.proofs.Common.{◌≡◌, ◌∙◌, false, refl, true}
+use Rattle.der_core.proofs.QuickReading.{read_inside}
+use Rattle.der_core.specs.Words.{context_tag, is_next}
+use Rattle.spki_core.specs.Words.{explicit_is}
 use Rattle.spki_core.proofs.field.quick_field.Goals as goal
 
 pub returns-then-not-begins_with : goal.returns-then-not-begins_with
 returns-then-not-begins_with g c =
-    field_left_out g.T.Encoding.read_front c.args.number.value _ c.context-tag.result _ c.context-tag.ensures
-    (sym c.begins_with.ensures ∙ c.if-not-begins_with.true)
+    let gone : is_next (context_tag c.args.number.value) c.args.bytes.now ≡ false = cc in rw gone refl
 
 pub returns : goal.returns
 returns g c =
-    field_taken g.T.Encoding.read_front c.args.number.value _ _ c.context-tag.result _ _ _ c.context-tag.ensures
-    (sym c.begins_with.ensures ∙ c.if-not-begins_with.false) c.in_ok-contents.ensures.contents c.in_ok-value.ensures
+    let next : is_next (context_tag c.args.number.value) c.args.bytes.now ≡ true = cc in
+    rw next (explicit_is g.T.Encoding.read_front c.args.number.value c.context-tag.result _ c.context-tag.ensures
+    ∙ read_inside _ _ _ _ _ _ c.in_ok-contents.ensures.contents c.in_ok-value.ensures)

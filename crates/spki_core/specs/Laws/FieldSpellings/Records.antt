@@ -1,9 +1,8 @@
 -- The laws of a record that holds the values of fields: what reads it, and what is written of it.
-use Rattle.std.proofs.Common.{ℕ, List, sym, subst, ap, ◌∙◌}
-use Rattle.std.proofs.Math.Path.{subst₂}
+use Rattle.std.proofs.Common.{ℕ, List, refl, ap, ◌∙◌}
 use Rattle.der_core.specs.Words.{tagged_law, joined_shortest, reads, Prints, ReadsAlike, ReadsFrontPrinted, ReadsPrinted, Spells, WritesShortest, ReadsContents, tagged}
 use Rattle.der_core.specs.Tags as tags
-use Rattle.spki_core.specs.FieldSpellings.{AreSpelled, AreValid, FieldRecord, fields_of, meant, record_means, record_read, record_under, spelled, spelling_read}
+use Rattle.spki_core.specs.FieldSpellings.{AreSpelled, FieldRecord, record_means, record_read, record_under, spelled, spelling_read}
 use Rattle.spki_core.specs.Laws.FieldSpellings.Shortest.{fields_alike, fields_shortest, fields_spelled, spelled_fields, spelled_valid, spellings_law}
 use Rattle.standard.specs.Statement.{Field, Fields, SequenceOf, sequence}
 
@@ -25,19 +24,15 @@ module _ {V : Type 0} {Is : V → Type 0} {fields : V → List Field} (r : Field
   fields_to : (v : V) (c : List ℕ) → Prints (AreSpelled r.kinds) (spelled r.kinds) (record_means r) v c
       → Is v × Fields (fields v) c
   fields_to v c (s, e, ok, same) =
-      let back = sym (r.parted (meant r.kinds s)) in
       let w = record_means r s in
-      let held : Is w = r.is w (subst (AreValid r.kinds) back (spelled_valid r.kinds 0 r.lawful s ok)) in
-      let there : Fields (fields w) (spelled r.kinds s) =
-      subst (λ fs. Fields fs (spelled r.kinds s)) (sym (r.fields_are w))
-      (subst (λ u. Fields (fields_of r.kinds u) (spelled r.kinds s)) back (spelled_fields r.kinds s)) in
-      (subst Is e held, subst₂ (λ u x. Fields (fields u) x) e (sym same) there)
+      let held : Is w = r.is w (rw r.parted (spelled_valid r.kinds 0 r.lawful s ok)) in
+      let there : Fields (fields w) (spelled r.kinds s) = rw (r.fields_are w, r.parted) (spelled_fields r.kinds s) in
+      rw (same, ← e) (held, there)
 
   fields_from : (v : V) (c : List ℕ) → Is v → Fields (fields v) c
       → Prints (AreSpelled r.kinds) (spelled r.kinds) (record_means r) v c
   fields_from v c ok p =
-      let (s, e, same, valid) =
-      fields_spelled r.kinds (r.split v) c (subst (λ fs. Fields fs c) (r.fields_are v) p) in
+      let (s, e, same, valid) = fields_spelled r.kinds (r.split v) c (rw (r.fields_are v) at p) in
       (s, ap r.join e ∙ r.whole v, valid (r.are v ok), same)
 
   pub record_reads : ReadsContents (λ v c. Is v × Fields (fields v) c) (record_read r)
@@ -53,7 +48,7 @@ module _ {V : Type 0} {Is : V → Type 0} {fields : V → List Field} (r : Field
       → Spells (AreSpelled r.kinds) (λ s. sequence (spelled r.kinds s)) (record_means r) v b
       → SequenceOf Is fields Fields v b
   spelled_to v b (few, (s, e, ok, same)) =
-      let h = fields_to v (spelled r.kinds s) (s, e, ok, λ i. spelled r.kinds s) in
+      let h = fields_to v (spelled r.kinds s) (s, e, ok, refl) in
       (h.0, few, spelled r.kinds s, h.1, same)
 
   pub spelled_from : (v : V) (b : List ℕ) → SequenceOf Is fields Fields v b

@@ -2,7 +2,7 @@
 -- explicit tags, and nothing else. They read the values that spellings mean.
 use Rattle.std.proofs.Common.{ℕ, false, List, ◌++◌, ◌≡◌, ◌<◌, ◌≤◌, ◌-◌, length, length-append, refl, sym, ap, ◌∙◌, arith, subst, ⊎_elim, Ok, Err, ◌||◌, nat_lt, IsTrue, true, Result, inl, inr}
 use Rattle.std.proofs.lemmas.Bool.{cases_Bool}
-use Rattle.der_core.specs.Words.{nat_tests, chosen, front_alike, tlv_is, tlv_made, last_law, reads_front, alone_law, made_law, row_law, tagged_law, bind_ok, made_tells, ok_same, by_tag_reads, Prints, ReadsFrontPrinted, ReadsPrinted, TellsOfBytes, FrontReading, Reading, ReadsContents, ReadsFronts, alone, by_tag, ◌>>=◌, context_tag, is_allowed, object_identifier, front_of, header_at, alike, alone_alike, last_alike, made_alike, row_alike, tagged_alike, meant, meant_front, paired, ReadsAlike, ReadsFrontAlike, inside, made}
+use Rattle.der_core.specs.Words.{nat_tests, chosen, front_alike, tlv_is, tlv_made, last_law, reads_front, alone_law, made_law, row_law, tagged_law, bind_ok, made_tells, ok_same, by_tag_reads, Prints, ReadsFrontPrinted, ReadsPrinted, TellsOfBytes, FrontReading, Reading, ReadsContents, ReadsFronts, alone, by_tag, ◌>>=◌, context_tag, is_allowed, object_identifier, front_of, header_at, alike, alone_alike, last_alike, made_alike, row_alike, tagged_alike, meant, meant_front, paired, ReadsAlike, ReadsFrontAlike, inside}
 use Rattle.der_core.specs.declared.error.ErrorKind.{ErrorKind}
 use Rattle.der_core.specs.declared.error.ErrorKind.TheVariants.{OidMalformed, TagUnknown}
 use Rattle.spki_core.specs.Identifiers.{algorithm_contents, algorithm_map}

@@ -1,17 +1,19 @@
-use Rattle.std.proofs.Common.{ap, ◌∙◌, sym, inr}
+use Rattle.std.proofs.Common.{Err, arith, ap, false, inr, sym, ◌==◌, ◌≡◌, ◌∙◌}
+use Rattle.der_core.proofs.Readings.{other_is}
 use Rattle.der_core.specs.declared.error.ErrorKind.TheVariants.{TagUnexpected}
-use Rattle.der_core.specs.Words.{are_bytes, reads}
+use Rattle.der_core.specs.Words.{are_bytes, nat_tests, reads, unexpected}
 use Rattle.der_core.proofs.ReadSteps.{ne_true, ne_false}
 use Rattle.spki_core.specs.Words.{any_of}
-use Rattle.spki_core.proofs.Readings.{any_as_other, read_as_any}
+use Rattle.spki_core.proofs.Readings.{read_as_any}
 use Rattle.spki_core.proofs.any.AnyRef.decode_as.Goals as goal
 
 pub returns-then-ne-clause-exact : goal.returns-then-ne-clause-exact
 returns-then-ne-clause-exact g c =
-    let other = ne_true _ _ _ _ c.if-ne.true c.ne.ensures (ap (λ t. t.octet) c.TAG.ensures) in
+    let other = rw c.tag.ensures at (ne_true _ _ _ _ c.if-ne.true c.ne.ensures (ap (λ t. t.octet) c.TAG.ensures)) in
     let kind = ap (λ e. e.kind) c.new.ensures ∙ ap (λ t. TagUnexpected t c.tag-then-ne.result) c.TAG-then-ne.ensures in
-    inr (any_as_other g.T.FixedTag.TAG g.T.Contents.read (any_of c.args.self) c.tag-then-ne.result _
-    (rw c.tag.ensures at other) c.tag-then-ne.ensures kind)
+    let isnt : ((any_of c.args.self).tag == g.T.FixedTag.TAG.octet) ≡ false = grind (arith, nat_tests, other) in
+    inr (rw isnt (ap (unexpected g.T.FixedTag.TAG) (sym c.tag-then-ne.ensures) ∙ other_is _ c.tag-then-ne.result
+    ∙ ap (λ k. Err k) (sym kind)))
 
 pub returns-clause-ok : goal.returns-clause-ok
 returns-clause-ok g c =

@@ -1,7 +1,5 @@
-use Rattle.der_core.specs.Words.{are_bytes}
-use Rattle.spki_core.specs.Words.{is_identifier-sound, octets_of}
+use Rattle.spki_core.specs.Words.{viewed_held}
 use Rattle.spki_core.proofs.identifier_view.IdentifierView.as_bytes.Goals as goal
 
 pub returns-clause-valid : goal.returns-clause-valid
-returns-clause-valid c =
-    let oid = c.args.self.now in is_identifier-sound (octets_of oid) (are_bytes (octets_of oid) oid.bytes) oid.valid
+returns-clause-valid c = viewed_held c.args.self.now

@@ -14,6 +14,4 @@ returns-clause-exact c =
 pub returns-clause-encoding : goal.returns-clause-encoding
 returns-clause-encoding c =
     reads_all own_any_of any _ (whole_reads any_values) _ _ (are_bytes _ (λ i. omega (arith, c.type_inv.bytes i)))
-    (copy_returns own_any_of (Prints IsAny written_any (λ v. v)) _ c.args.bytes.now (any_of c.in_ok-any.any) c.in_ok-any.ensures.encoding.0
-    c.in_ok-any.ensures.exact c.copy_of.result (rw (c.tag.ensures, c.value.ensures.contents) at c.copy_of.ensures.ok)
-    c.copy_of.ensures.err)
+    (returns-clause-exact c)
