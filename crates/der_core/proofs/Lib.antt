@@ -5,5 +5,6 @@ pub mod Lengths
 pub mod Items
 pub mod ReadSteps
 pub mod Writing
+pub mod Headers
 pub mod Readings
 pub mod QuickReading

@@ -1,5 +1,4 @@
 pub mod Octets
 pub mod Readings
 pub mod Fielded
-pub mod Headers
 pub mod StrictFields

@@ -2,13 +2,7 @@
 use Rattle.std.proofs.Common.{Bool, true, false, ◌==◌, nat_lt, ℕ, zero, suc, List, [], ◌∷◌, ◌≡◌, ◌≢◌, ◌<◌, ◌≤◌, ◌+◌, ◌-◌, ◌⊎◌, inl, inr, length, take, drop, get_or, slice_index, refl, ap, ◌∙◌, arith}
 use Rattle.std.proofs.lemmas.List.{at_drop_more}
 use Rattle.der_core.specs.Words.{nat_tests}
-use Rattle.spki_core.specs.Words.{ends_well, starts_at, has_no_128}
-
-goes_on : (start : Bool) (b : ℕ) (bs : List ℕ) → (start ≡ false) ⊎ (b ≢ 128)
-    → ends_well start (b ∷ bs) ≡ ends_well (nat_lt b 128) bs
-goes_on start b bs (inl h) = rw h refl
-goes_on true b bs (inr other) = let no : (b == 128) ≡ false = grind (arith, nat_tests) in rw no refl
-goes_on false b bs (inr other) = refl
+use Rattle.spki_core.specs.Words.{ends_well, goes_on, has_no_128, starts_at}
 
 after : (c : List ℕ) (i : ℕ) → nat_lt (get_or c i 0) 128 ≡ starts_at c (i + 1)
 after c i = let more : i + 1 ≡ suc i = omega arith in rw more refl

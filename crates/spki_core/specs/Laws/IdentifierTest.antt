@@ -1,5 +1,5 @@
 -- The test for the contents of an identifier is exact.
-use Rattle.std.proofs.Common.{true, false, not, ◌&&◌, ◌==◌, nat_lt, ℕ, List, [], ◌∷◌, ◌++◌, ◌≡◌, ◌≢◌, ◌<◌, ◌≤◌, length, slice_index, refl, sym, ap, ◌∙◌, arith, append_assoc, length-append, inl, inr}
+use Rattle.std.proofs.Common.{Bool, ◌⊎◌, true, false, not, ◌&&◌, ◌==◌, nat_lt, ℕ, List, [], ◌∷◌, ◌++◌, ◌≡◌, ◌≢◌, ◌<◌, ◌≤◌, length, slice_index, refl, sym, ap, ◌∙◌, arith, append_assoc, length-append, inl, inr}
 use Rattle.std.proofs.lemmas.Bool.{and_parts, cases_Bool}
 use Rattle.der_core.specs.Words.{nat_tests, AreBytes}
 use Rattle.std.specs.List.{AllByRecursion, concat}
@@ -63,14 +63,18 @@ within_ends (b ∷ front) last rest all low =
     let large : nat_lt b 128 ≡ false = grind (arith, nat_tests, all.0.0) in
     rw large (within_ends front last rest all.1 low)
 
-begun : (b : ℕ) (bs : List ℕ) → b ≢ 128 → ends_well true (b ∷ bs) ≡ ends_well false (b ∷ bs)
-begun b bs other = let no : (b == 128) ≡ false = grind (arith, nat_tests) in rw no refl
+-- An octet other than 128 goes on alike from the start and from within.
+pub goes_on : (start : Bool) (b : ℕ) (bs : List ℕ) → (start ≡ false) ⊎ (b ≢ 128)
+    → ends_well start (b ∷ bs) ≡ ends_well (nat_lt b 128) bs
+goes_on start b bs (inl within) = rw within refl
+goes_on true b bs (inr other) = let no : (b == 128) ≡ false = grind (arith, nat_tests) in rw no refl
+goes_on false b bs (inr other) = refl
 
 one_ends : (front : List ℕ) (last : ℕ) (rest : List ℕ) → AreInner front → last < 128
     → slice_index (front ++ last ∷ []) 0 ≢ 128 → ends_well true (front ++ last ∷ rest) ≡ ends_well true rest
-one_ends [] last rest all low other = begun last rest other ∙ within_ends [] last rest all low
+one_ends [] last rest all low other = goes_on true last rest (inr other) ∙ within_ends [] last rest all low
 one_ends (b ∷ front) last rest all low other =
-    begun b (front ++ last ∷ rest) other ∙ within_ends (b ∷ front) last rest all low
+    goes_on true b (front ++ last ∷ rest) (inr other) ∙ within_ends (b ∷ front) last rest all low
 
 parts_end : (subs : List (List ℕ)) → AllByRecursion IsSubidentifier subs → ends_well true (concat subs) ≡ true
 parts_end [] all = refl

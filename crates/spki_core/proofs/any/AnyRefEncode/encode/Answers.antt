@@ -1,7 +1,7 @@
 use Rattle.std.proofs.Common.{rules, arith, ◌≤◌, length}
 use Rattle.der_core.specs.Words.{err_from_is_err_and, limit, one_spelling}
 use Rattle.der_core.proofs.Writing.{appends_at_once, stopped}
-use Rattle.spki_core.proofs.Headers.{behind_header, no_header}
+use Rattle.der_core.proofs.Headers.{behind_header, no_header}
 use Rattle.spki_core.specs.Words.{IsAny, any_of, written_any}
 use Rattle.spki_core.proofs.any.AnyRefEncode.encode.Goals as goal
 

@@ -2,7 +2,7 @@ use Rattle.std.proofs.Common.{◌+◌, rules}
 use Rattle.der_core.specs.Words.{err_from_is_err_and}
 use Rattle.der_core.proofs.Writing.{stopped}
 use Rattle.spki_core.specs.Words.{numbered_writes_shortest}
-use Rattle.spki_core.proofs.Headers.{behind_header, counted_fits, header_too_long, no_header}
+use Rattle.der_core.proofs.Headers.{behind_header, counted_fits, header_too_long, no_header}
 use Rattle.spki_core.proofs.context_specific.ContextSpecificRefEncode.encode.Goals as goal
 
 pub returns-in_err-for_tlv-clause-appends : goal.returns-in_err-for_tlv-clause-appends

@@ -1,6 +1,6 @@
 use Rattle.std.proofs.Common.{◌+◌}
 use Rattle.der_core.proofs.Writing.{counts_encoding, uncounted}
-use Rattle.spki_core.specs.Words.{Numbered, numbered_writes_shortest}
+use Rattle.spki_core.specs.Words.{numbered_writes_shortest}
 use Rattle.spki_core.proofs.context_specific.ContextSpecificRefEncode.encoded_len.Goals as goal
 
 pub returns-clause-counted : goal.returns-clause-counted
@@ -12,8 +12,4 @@ returns-clause-counted g c =
 
 pub returns-clause-err : goal.returns-clause-err
 returns-clause-err g c =
-    let t = g.T.Encoding in
-    let v : Numbered t.Value =
-    record { number = c.args.self.now.tag_number.value; value = t.value c.args.self.now.value.now } in
-    uncounted (numbered_writes_shortest t.shortest) v _
-    (returns-clause-counted g c)
+    uncounted (numbered_writes_shortest g.T.Encoding.shortest) _ _ (returns-clause-counted g c)
