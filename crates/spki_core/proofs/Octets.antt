@@ -1,5 +1,5 @@
 -- Steps of the test for identifiers.
-use Rattle.std.proofs.Common.{Bool, true, false, ◌==◌, nat_lt, ℕ, zero, suc, List, [], ◌∷◌, ◌≡◌, ◌≢◌, ◌<◌, ◌≤◌, ◌+◌, ◌-◌, ◌⊎◌, inl, inr, length, take, drop, get_or, slice_index, refl, ap, ◌∙◌, arith}
+use Rattle.std.proofs.Common.{Bool, true, false, nat_lt, ℕ, zero, suc, List, [], ◌∷◌, ◌≡◌, ◌≢◌, ◌<◌, ◌≤◌, ◌+◌, ◌-◌, ◌⊎◌, inr, length, take, drop, get_or, slice_index, refl, ap, ◌∙◌, arith}
 use Rattle.std.proofs.lemmas.List.{at_drop_more}
 use Rattle.der_core.specs.Words.{nat_tests}
 use Rattle.spki_core.specs.Words.{ends_well, goes_on, has_no_128, starts_at}

@@ -1,5 +1,5 @@
 -- What memory holds has an encoding, and is written as what it holds.
-use Rattle.std.proofs.Common.{List, ℕ, Option, Some, None, option_map, ◌++◌, ◌≡◌, refl, ap}
+use Rattle.std.proofs.Common.{List, ℕ, Option, Some, None, option_map, ◌++◌, ◌≡◌, ◌↔◌, refl, ap}
 use Rattle.der_core.specs.Words.{are_bytes, object_identifier_tag, sequence_tag, tlv, last_part_asks_none, last_once, AreSpelledOnce}
 use Rattle.spki_core.specs.AlgorithmValue.{algorithm_in}
 use Rattle.spki_core.specs.HeldValues.{any_of, own_octets_of, octets_of, own_any_of}
@@ -52,29 +52,20 @@ writes_itself value Has written = record { has_to = λ x h. h; has_of = λ x h. 
 module _ {O X V W S : Type 0} (oid_of : O → List ℕ) {value : X → V} (spelling : V → S) (valid : S → Type 0)
     (printed : S → List ℕ) {held : X → W} {Holds : W → Type 0} {octets : W → List ℕ}
     (w : WritesAs value (λ v. valid (spelling v)) (λ v. printed (spelling v)) held Holds octets) where
-  parameters_to : (p : Option X) → IfPresent valid (option_map spelling (option_map value p))
-      → IfPresent Holds (option_map held p)
-  parameters_to None h = tt
-  parameters_to (Some x) h = w.has_to x h
-
-  parameters_of : (p : Option X) → IfPresent Holds (option_map held p)
-      → IfPresent valid (option_map spelling (option_map value p))
-  parameters_of None h = tt
-  parameters_of (Some x) h = w.has_of x h
-
-  parameters_same : (p : Option X)
-      → optional printed (option_map spelling (option_map value p)) ≡ optional octets (option_map held p)
-  parameters_same None = refl
-  parameters_same (Some x) = w.same x
+  parameters_as : (p : Option X)
+      → (IfPresent valid (option_map spelling (option_map value p)) ↔ IfPresent Holds (option_map held p))
+      × (optional printed (option_map spelling (option_map value p)) ≡ optional octets (option_map held p))
+  parameters_as None = ((λ h. h, λ h. h), refl)
+  parameters_as (Some x) = ((w.has_to x, w.has_of x), w.same x)
 
   pub algorithm_writes : WritesAs (algorithm_in oid_of value) (λ a. IsAlgorithm valid (algorithm_map spelling a))
       (λ a. tlv sequence_tag (algorithm_contents printed (algorithm_map spelling a))) (algorithm_in oid_of held)
       (IsAlgorithm Holds) (algorithm octets)
   algorithm_writes = record {
-    has_to = λ (a : AlgorithmIdentifierOf O X) h. (h.0, parameters_to a.parameters h.1);
-    has_of = λ (a : AlgorithmIdentifierOf O X) h. (h.0, parameters_of a.parameters h.1);
+    has_to = λ (a : AlgorithmIdentifierOf O X) h. (h.0, (parameters_as a.parameters).0.0 h.1);
+    has_of = λ (a : AlgorithmIdentifierOf O X) h. (h.0, (parameters_as a.parameters).0.1 h.1);
     same = λ (a : AlgorithmIdentifierOf O X).
-        ap (λ p. tlv sequence_tag (tlv object_identifier_tag (oid_of a.oid) ++ p)) (parameters_same a.parameters);
+        ap (λ p. tlv sequence_tag (tlv object_identifier_tag (oid_of a.oid) ++ p)) (parameters_as a.parameters).1;
   }
 
 -- Algorithm identifiers as parts of records. No memory is asked for one if none is for its parameters; and it has one

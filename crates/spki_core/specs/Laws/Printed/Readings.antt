@@ -125,28 +125,25 @@ module _ {S : Type 0} {valid : S → Type 0} {printed : S → List ℕ} {at : Fr
 
 -- Algorithms and values inside explicit tags are read as the values that their spellings mean.
 
+-- Two steps are one that gives the same of each value.
+bind_same : {A B C : Type 0} (r : Result A ErrorKind) (f : A → Result B ErrorKind) (g : B → Result C ErrorKind)
+    (h : A → Result C ErrorKind) → ((a : A) → (f a >>= g) ≡ h a) → ((r >>= f) >>= g) ≡ (r >>= h)
+bind_same (Ok a) f g h e = e a
+bind_same (Err k) f g h e = refl
+
 -- Contents behind any tag.
 module _ {S V : Type 0} {read : ℕ → Reading S} {means : S → V} {old : ℕ → Reading V}
     (law : (t : ℕ) → ReadsAlike (read t) means (old t)) where
+  inside_alike : (t : ℕ) (p : List ℕ × List ℕ) → (inside (read t) p >>= meant_front means) ≡ inside (old t) p
+  inside_alike t p =
+      joined (read t p.0) (λ s. paired s p.1) (meant_front means)
+      ∙ sym (joined (read t p.0) (meant means) (λ v. paired v p.1))
+      ∙ ap (λ r. r >>= λ v. paired v p.1) ((law t).same p.0)
+
   pub by_tag_alike : ReadsFrontAlike (by_tag read) means (by_tag old)
-  by_tag_alike = record { same = λ i. go (header_at i) }
-    where
-      there : (t : ℕ) (p : List ℕ × List ℕ) → (inside (read t) p >>= meant_front means) ≡ inside (old t) p
-      there t p =
-          joined (read t p.0) (λ s. paired s p.1) (meant_front means)
-          ∙ sym (joined (read t p.0) (meant means) (λ v. paired v p.1))
-          ∙ ap (λ r. r >>= λ v. paired v p.1) ((law t).same p.0)
-
-      next : (t : ℕ) (r : Result (List ℕ × List ℕ) ErrorKind)
-          → ((r >>= inside (read t)) >>= meant_front means) ≡ (r >>= inside (old t))
-      next t (Ok p) = there t p
-      next t (Err k) = refl
-
-      go : (r : Result ((ℕ × ℕ) × List ℕ) ErrorKind)
-          → ((r >>= λ h. front_of h.0.1 h.1 >>= inside (read h.0.0)) >>= meant_front means)
-          ≡ (r >>= λ h. front_of h.0.1 h.1 >>= inside (old h.0.0))
-      go (Ok h) = next h.0.0 (front_of h.0.1 h.1)
-      go (Err k) = refl
+  by_tag_alike = record {
+    same = λ i. bind_same (header_at i) _ _ _ (λ h. bind_same (front_of h.0.1 h.1) _ _ _ (inside_alike h.0.0));
+  }
 
 module _ {S V : Type 0} {at : FrontReading S} {means : S → V} {old : FrontReading V}
     (law : ReadsFrontAlike at means old) where
