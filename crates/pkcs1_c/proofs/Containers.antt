@@ -43,8 +43,7 @@ module _ (info : PrivateKeyInfo) where
 
   module _ (room : ℕ) where
     pub info_one : IsOne (InfoError info room)
-    info_one s t (inl (j, p, a)) (inl (k, q, b)) =
-        let same : j ≡ k = let e = sym p ∙ q in cc in a ∙ ap kind_number same ∙ sym b
+    info_one s t (inl p) (inl q) = grind arith
     info_one s t (inl p) (inr q) = absurd (error_none s p q.0)
     info_one s t (inr p) (inl q) = absurd (error_none t q p.0)
     info_one s t (inr p) (inr q) = unwritten_one ContainerEncoding (private_key_info info) room s t p.1 q.1

@@ -8,40 +8,40 @@ use Rattle.pkcs1_c.specs.Words.{NoStatus, AlgorithmError, AnyError, HashFieldsTh
 use Rattle.pkcs1_c.proofs.StructErrors.{part_none}
 
 -- A value with an encoding within the limit has none of the errors.
-abbrev Fitting : {V : Type 0} → (V → Type 0) → (V → List ℕ) → (V → ℕ → Type 0) → Type 0
-Fitting {V} Is encoding WhyNot = (v : V) → Is v → length (encoding v) ≤ limit → NoStatus (WhyNot v)
+record Fitting {V : Type 0} (Is : V → Type 0) (encoding : V → List ℕ) (WhyNot : V → ℕ → Type 0) : Type 0 where
+  none : (v : V) → Is v → length (encoding v) ≤ limit → NoStatus (WhyNot v)
 
 any_fits : Fitting IsAny any AnyError
-any_fits v ok few s (inl q) = let f : true ≡ false = sym ok.0 ∙ q.1 in cc
-any_fits v ok few s (inr q) = omega (arith, q.2, tlv_fit v.tag v.contents, few)
+any_fits = record { none = λ v ok few s p. let fit = tlv_fit v.tag v.contents in grind arith }
 
 identified : {P : Type 0} (WhyNot : P → ℕ → Type 0) (a : Algorithm P) → IsIdentifier a.oid
     → NoStatus (OptionError WhyNot a.parameters) → NoStatus (AlgorithmError WhyNot a)
 identified WhyNot a is = part_none (OidError a.oid) (OptionError WhyNot a.parameters) (λ s q. q.1 is)
 
-module _ {P : Type 0} (Is : P → Type 0) (encoding : P → List ℕ) (WhyNot : P → ℕ → Type 0)
+module _ {P : Type 0} {Is : P → Type 0} {encoding : P → List ℕ} {WhyNot : P → ℕ → Type 0}
     (fit : Fitting Is encoding WhyNot) where
   option_fits : (o : Option P) → IfPresent Is o → length (optional encoding o) ≤ limit → NoStatus (OptionError WhyNot o)
   option_fits None ok few s q = q
-  option_fits (Some v) ok few s q = fit v ok few s q
+  option_fits (Some v) ok few s q = fit.none v ok few s q
 
   algorithm_fits : Fitting (IsAlgorithm Is) (algorithm encoding) (AlgorithmError WhyNot)
-  algorithm_fits a ok few =
-      let front = tlv 6 a.oid in
-      let back = optional encoding a.parameters in
-      identified WhyNot a ok.0
-      (option_fits a.parameters ok.1 (omega (arith, few, tlv_fit 48 (front ++ back), length-append front back)))
+  algorithm_fits = record {
+    none = λ a ok few.
+        let front = tlv 6 a.oid in
+        let back = optional encoding a.parameters in
+        identified WhyNot a ok.0
+        (option_fits a.parameters ok.1 (omega (arith, few, tlv_fit 48 (front ++ back), length-append front back)));
+  }
 
 plain_fits : Fitting (IsAlgorithm IsAny) (algorithm any) PlainError
-plain_fits = algorithm_fits IsAny any AnyError any_fits
+plain_fits = algorithm_fits any_fits
 
 mask_fits : Fitting (IsAlgorithm (IsAlgorithm IsAny)) (algorithm (algorithm any)) MaskError
-mask_fits = algorithm_fits (IsAlgorithm IsAny) (algorithm any) PlainError plain_fits
+mask_fits = algorithm_fits plain_fits
 
 -- The defaults can be held.
 empty_fits : (tag : ℕ) → is_allowed tag ≡ true → NoStatus (AnyError (record { tag = tag; contents = [] }))
-empty_fits tag allowed s (inl q) = let f : true ≡ false = sym allowed ∙ q.1 in cc
-empty_fits tag allowed s (inr q) = omega (arith, q.2)
+empty_fits tag allowed s p = grind arith
 
 sha1_fits : NoStatus (PlainError sha1)
 sha1_fits = identified AnyError sha1 pss_lawful.3.0 (empty_fits 5 refl)
@@ -53,7 +53,7 @@ label_fits : NoStatus (PlainError empty_label)
 label_fits = identified AnyError empty_label source_identifier (empty_fits 4 refl)
 
 -- A field that is first in contents within the limit, and what is behind it.
-module _ {V : Type 0} (Is : V → Type 0) (encoding : V → List ℕ) (WhyNot : V → ℕ → Type 0)
+module _ {V : Type 0} {Is : V → Type 0} {encoding : V → List ℕ} {WhyNot : V → ℕ → Type 0}
     (fit : Fitting Is encoding WhyNot) (number : ℕ) (default v : V) (none : NoStatus (WhyNot default)) (ok : Is v)
     (later : List Field) where
   field_fits : (c : List ℕ) → Fields (field number encoding default v ∷ later) c → length c ≤ limit
@@ -63,7 +63,7 @@ module _ {V : Type 0} (Is : V → Type 0) (encoding : V → List ℕ) (WhyNot : 
       let octets = tlv (160 + number) (encoding v) in
       let l = ap length e in
       let k = length-append octets d in (
-        fit v ok (omega (arith, few, l, k, tlv_fit (160 + number) (encoding v))),
+        fit.none v ok (omega (arith, few, l, k, tlv_fit (160 + number) (encoding v))),
         d,
         rest,
         omega (arith, few, l, k),
@@ -77,12 +77,8 @@ hash_fit : (hash : Algorithm TagAndContents) (mask : Algorithm (Algorithm TagAnd
     → length c ≤ limit → NoStatus (HashFieldsThen hash mask Rest)
 hash_fit hash mask is_hash is_mask later Rest rest c p few =
     let second = field 1 (algorithm (algorithm any)) mgf1_sha1 mask ∷ later in
-    let (a, d, q, fewer) =
-    field_fits (IsAlgorithm IsAny) (algorithm any) PlainError plain_fits 0 sha1 hash sha1_fits is_hash second c p few
-    in
-    let (b, r, behind, last) =
-    field_fits (IsAlgorithm (IsAlgorithm IsAny)) (algorithm (algorithm any)) MaskError mask_fits 1 mgf1_sha1 mask
-    mgf1_fits is_mask later d q fewer in
+    let (a, d, q, fewer) = field_fits plain_fits 0 sha1 hash sha1_fits is_hash second c p few in
+    let (b, r, behind, last) = field_fits mask_fits 1 mgf1_sha1 mask mgf1_fits is_mask later d q fewer in
     part_none (PlainError hash) (PartThen (MaskError mask) Rest) a
     (part_none (MaskError mask) Rest b (rest r behind last))
 
@@ -94,10 +90,5 @@ pss_fits p bytes (ok, few, c, held, is) =
 pub oaep_fits : (p : OaepParameters) (bytes : List ℕ) → OaepEncoding p bytes → NoStatus (OaepFieldError p)
 oaep_fits p bytes (ok, few, c, held, is) =
     hash_fit p.hash p.mask_gen ok.0 ok.1 (field 2 (algorithm any) empty_label p.p_source ∷ []) (PlainError p.p_source)
-    source c held (omega (arith, few, ap length is, tlv_fit 48 c))
-  where
-    source : (d : List ℕ) → Fields (field 2 (algorithm any) empty_label p.p_source ∷ []) d → length d ≤ limit
-        → NoStatus (PlainError p.p_source)
-    source d q fewer =
-        (field_fits (IsAlgorithm IsAny) (algorithm any) PlainError plain_fits 2 empty_label p.p_source label_fits ok.2
-        [] d q fewer).0
+    (λ d q fewer. (field_fits plain_fits 2 empty_label p.p_source label_fits ok.2 [] d q fewer).0) c held
+    (omega (arith, few, ap length is, tlv_fit 48 c))

@@ -13,7 +13,7 @@ use Rattle.pkcs1_c.specs.declared.private_key.OtherPrime.{OtherPrime}
 use Rattle.pkcs1_c.specs.declared.private_key.PrivateKey.{PrivateKey}
 use Rattle.pkcs1_c.specs.declared.public_key.PublicKey.{PublicKey}
 use Rattle.pkcs1_c.specs.Words.{number_of, NoStatus, NumberError, NumbersError, given_numbers, numbers_of_primes, two_numbers, HasNumbers, HasPrivateNumbers, HaveBytes, number, numbers_of_key, numbers_of_prime, other_prime, other_primes, private_key, public_key, AreCounted, given_encoded}
-use Rattle.pkcs1_c.proofs.StructErrors.{none_both, number_none, numbers_behind, numbers_before, numbers_have, part_none}
+use Rattle.pkcs1_c.proofs.StructErrors.{none_apart, none_both, number_none, numbers_have, part_none}
 use Rattle.der_core.proofs.Writing.{counts_joined}
 use Rattle.der_core.proofs.Items.{encodings_behind_len, encodings_more}
 use Rattle.der_core.specs.declared.error.Error.{Error}
@@ -21,8 +21,7 @@ use Rattle.pkcs1_params.proofs.Masks.{uncounted_as}
 
 -- == Numbers in an encoding within the limit ==
 contents_fit : (low : Bool) (o : List ℕ) → length o ≤ length (if low then o else (0 ∷ o))
-contents_fit true o = omega arith
-contents_fit false o = omega arith
+contents_fit low o = grind arith
 
 number_fits : (n : ℕ) → length (octets n) ≤ length (integer n)
 number_fits n =
@@ -89,21 +88,14 @@ public_has key none = let p = numbers_have (two_numbers key) none in (p.0, p.1.0
 primes_have : (others : List OtherPrime) → NoStatus (NumbersError (numbers_of_primes others)) → HavePrimes others
 primes_have [] none = tt
 primes_have (o ∷ others) none =
-    let first : NoStatus (NumbersError (numbers_of_prime o)) =
-    λ s p. none s (numbers_before (numbers_of_prime o) (numbers_of_primes others) s p) in (
-      numbers_have (numbers_of_prime o) first,
-      primes_have others (λ s p. none s (numbers_behind (numbers_of_prime o) (numbers_of_primes others) first s p)),
-    )
+    let p = none_apart (numbers_of_prime o) (numbers_of_primes others) none in
+    (numbers_have (numbers_of_prime o) p.0, primes_have others p.1)
 
 pub private_has : (key : PrivateKey) (others : List OtherPrime) → key.other_primes ≡ length others
     → NoStatus (NumbersError (given_numbers key others)) → HasPrivateNumbers key others
 private_has key others count none =
-    let ns = numbers_of_key key in
-    let first : NoStatus (NumbersError ns) = λ s p. none s (numbers_before ns (numbers_of_primes others) s p) in (
-      count,
-      numbers_have ns first,
-      primes_have others (λ s p. none s (numbers_behind ns (numbers_of_primes others) first s p)),
-    )
+    let p = none_apart (numbers_of_key key) (numbers_of_primes others) none in
+    (count, numbers_have (numbers_of_key key) p.0, primes_have others p.1)
 
 -- == What is made of them ==
 abbrev pub PublicSpells : keys.PublicKey ℕ → List ℕ → Type 0
@@ -177,18 +169,6 @@ pub counted_more : (others : List OtherPrime) (i : ℕ) (d : OtherPrime) → i <
 counted_more others i d less a b p q =
     rw (encodings_more (λ _. Unit {0}) given_encoded others i d less)
     (counts_joined _ _ (λ _ _. tt) (λ _. (tt, tt)) a b p q)
-
--- Each of them can be held.
-pub held_at : (others : List OtherPrime) (i : ℕ) (d : OtherPrime) → i < length others
-    → NoStatus (NumbersError (numbers_of_primes others)) → NoStatus (NumbersError (numbers_of_prime (get_or others i d)))
-held_at [] i d less none = absurd (omega (arith, less))
-held_at (o ∷ others) zero d less none =
-    λ s p. none s (numbers_before (numbers_of_prime o) (numbers_of_primes others) s p)
-held_at (o ∷ others) (suc i) d less none =
-    let first : NoStatus (NumbersError (numbers_of_prime o)) =
-    λ s p. none s (numbers_before (numbers_of_prime o) (numbers_of_primes others) s p) in
-    held_at others i d (omega (arith, less))
-    (λ s p. none s (numbers_behind (numbers_of_prime o) (numbers_of_primes others) first s p))
 
 -- What the compiler takes for an element that isn't there.
 abbrev pub nothing : OtherPrime

@@ -1,5 +1,6 @@
 -- A key that the caller passes, as the row that it is written as.
 use Rattle.std.proofs.Common.{ℕ, List, ◌≡◌, ◌≤◌, length, refl, sym, subst, ap, arith, Option, Some, None, Result, option_map}
+use Rattle.std.proofs.lemmas.Grind.{common_steps}
 use Rattle.std.proofs.lemmas.List.{length-map}
 use Rattle.std.specs.List.{AllByRecursion}
 use Rattle.der_core.specs.Words.{Prepends, limit, Appends, Counts}
@@ -14,8 +15,7 @@ use Rattle.pkcs1_c.specs.declared.given_number.Number.{Number}
 use Rattle.pkcs1_c.specs.declared.given_primes.GivenPrimes.{GivenPrimes}
 
 itself : {V : Type 0} (o : Option V) → option_map (λ v. v) o ≡ o
-itself None = refl
-itself (Some v) = refl
+itself o = grind (arith, common_steps)
 
 version_given : (o : Option GivenPrimes) → version_held o ≡ version_of (option_map given_primes o)
 version_given None = refl
@@ -40,29 +40,7 @@ module _ (key : PrivateKeyOf Number GivenPrimes) where
   version = version_given key.other_prime_infos
 
   parts : Spelled ≡ Parts AnyNumber integer (given_key key) (version_held key.other_prime_infos) version
-  parts =
-      ap (λ others. (
-        version_held key.other_prime_infos,
-        (
-          number_in number_of key.modulus,
-          (
-            number_in number_of key.public_exponent,
-            (
-              number_in number_of key.private_exponent,
-              (
-                number_in number_of key.prime1,
-                (
-                  number_in number_of key.prime2,
-                  (
-                    number_in number_of key.exponent1,
-                    (number_in number_of key.exponent2, (number_in number_of key.coefficient, others)),
-                  ),
-                ),
-              ),
-            ),
-          ),
-        ),
-      )) (itself (option_map given_primes key.other_prime_infos))
+  parts = simp itself
 
   pub given_counted : (r : Result ℕ Error) → Counts (IsValid Spelled) (octets_of Spelled) r
       → Counts (PrivateIsValid AnyNumber (given_key key)) (private_printed integer (given_key key)) r

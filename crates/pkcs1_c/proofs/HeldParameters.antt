@@ -8,9 +8,7 @@ use Rattle.pkcs1_params.specs.Words.{oaep_viewed, pss_viewed, FaultsTell}
 use Rattle.pkcs1_params.specs.declared.oaep.OaepParamsOf.{OaepParamsOf}
 use Rattle.pkcs1_params.specs.declared.pss.PssParamsOf.{PssParamsOf}
 use Rattle.standard.specs.Statement.{Algorithm, IsIdentifier, OaepParameters, PssParameters, TagAndContents, Field}
-use Rattle.pkcs1_c.specs.declared.algorithm.Algorithm as c
-use Rattle.pkcs1_c.specs.declared.algorithm.MaskGen as c_mask
-use Rattle.pkcs1_c.specs.Words.{NoStatus, algorithm_seen, mask_gen_seen, PartThen, OidError, AnyError, OptionError, AlgorithmError, PlainError, MaskError, HashFieldsThen, PssFieldError, OaepFieldError}
+use Rattle.pkcs1_c.specs.Words.{NoStatus, PartThen, OidError, AnyError, OptionError, AlgorithmError, PlainError, MaskError, HashFieldsThen, PssFieldError, OaepFieldError}
 use Rattle.pkcs1_c.proofs.StructErrors.{part_none}
 use Rattle.der_core.specs.Words.{tagged_alike, whole_alike, made_tells, tagged, whole}
 use Rattle.der_core.specs.Tags as tags
@@ -27,8 +25,7 @@ RsaOaepParamsView = OaepParamsOf IdentifierView AnyRef
 
 any_none : (any : Option AnyRef) → NoStatus (OptionError AnyError (option_map any_of any))
 any_none None s p = p
-any_none (Some any) s (inl p) = let f : false ≡ true = rw p.1 at any.tag.allowed in cc
-any_none (Some any) s (inr p) = omega (arith, p.2, any.bounded)
+any_none (Some any) s p = let allowed = any.tag.allowed in let bounded = any.bounded in grind arith
 
 module _ {P V : Type 0} (of : P → V) (WhyNot : V → ℕ → Type 0) (a : AlgorithmView P) where
   algorithm_none : NoStatus (OptionError WhyNot (option_map of a.parameters))
@@ -67,22 +64,8 @@ oaep_none p seen is =
     subst (λ v. NoStatus (OaepFieldError v)) is
     (hash_none p.hash p.mask_gen (PlainError (viewed_with any_of p.p_source)) (plain_none p.p_source _ refl))
 
--- What is rejected of the parameters of an algorithm is rejected of the algorithm.
-module _ (oid : IdentifierView) where
-  oid_none : (octets : List ℕ) → octets_of oid ≡ octets → NoStatus (OidError octets)
-  oid_none octets is s p = p.1 (subst IsIdentifier is (viewed_held oid))
-
-  pub algorithm_rejected : (a : c.Algorithm) (s : ℕ) → a.has_parameters ≡ true → octets_of oid ≡ a.oid.now
-      → AnyError (record { tag = a.tag; contents = a.parameters.now }) s → PlainError (algorithm_seen a) s
-  algorithm_rejected a s has is p =
-      let q : OptionError AnyError (algorithm_seen a).parameters s = rw has p in
-      inr (oid_none a.oid.now is, q)
-
-  pub mask_rejected : (m : c_mask.MaskGen) (s : ℕ) → m.has_hash ≡ true → octets_of oid ≡ m.oid.now
-      → PlainError (algorithm_seen m.hash) s → MaskError (mask_gen_seen m) s
-  mask_rejected m s has is p =
-      let q : OptionError PlainError (mask_gen_seen m).parameters s = rw has p in
-      inr (oid_none m.oid.now is, q)
+pub oid_none : (oid : IdentifierView) (octets : List ℕ) → octets_of oid ≡ octets → NoStatus (OidError octets)
+oid_none oid octets is s p = p.1 (subst IsIdentifier is (viewed_held oid))
 
 -- The faults of parameters are about the bytes.
 pub record_tells : {V : Type 0} {Is : V → Type 0} {fields : V → List Field} (r : FieldRecord Is fields)

@@ -1,5 +1,6 @@
 -- Why what a program gives isn't written: one status at most, neither 0 nor that of lack of room for a part.
-use Rattle.std.proofs.Common.{ℕ, zero, suc, List, [], ◌∷◌, ◌++◌, ◌≡◌, ◌≢◌, ◌<◌, ◌≤◌, length, take, get_or, refl, sym, ap, ◌∙◌, arith, Option, Some, None, inl, inr, ⊎_elim, true, false}
+use Rattle.std.proofs.Common.{ℕ, List, [], ◌∷◌, ◌++◌, ◌≡◌, ◌≢◌, ◌+◌, ◌<◌, ◌≤◌, ◌⊎◌, length, take, drop, take-append-drop, get_or, refl, subst, sym, ap, ◌∙◌, arith, rules, Option, Some, None, inl, inr, ⊎_elim, true, false}
+use Rattle.std.proofs.lemmas.List.{take_more, drop_more}
 use Rattle.der_core.specs.Words.{WhyNoNumber, limit, octets_canonical, octets_number, AllHave}
 use Rattle.der_core.specs.declared.error.ErrorKind.{ErrorKind}
 use Rattle.pkcs1_c.specs.Words.{NoStatus, kind_number, PartThen, NumberError, NumbersError, Unwritten, numbers_of_primes, OidError, AnyError, OptionError, AlgorithmError, PlainError, MaskError, HashFieldsThen, PssFieldError, OaepFieldError, HaveBytes, number, numbers_of_prime}
@@ -21,46 +22,31 @@ IsPart WhyNot = IsOne WhyNot × IsTold WhyNot
 -- Encodings.
 module _ {V : Type 0} (Encoding : V → List ℕ → Type 0) (v : V) (room : ℕ) where
   pub unwritten_one : IsOne (Unwritten Encoding v room)
-  unwritten_one s t (inl p) (inl q) = p.0 ∙ sym q.0
-  unwritten_one s t (inl p) (inr q) = absurd (p.1 q.2.0 q.2.1.0)
-  unwritten_one s t (inr p) (inl q) = absurd (q.1 p.2.0 p.2.1.0)
-  unwritten_one s t (inr p) (inr q) = p.0 ∙ sym q.0
+  unwritten_one s t p q = grind arith
 
   -- An encoding that fits is written.
   pub fits_written : (bytes : List ℕ) → IsShortest Encoding v bytes → length bytes ≤ room
       → NoStatus (Unwritten Encoding v room)
-  fits_written bytes shortest fits s (inl p) = p.1 bytes shortest.0
-  fits_written bytes shortest fits s (inr p) = elim (p.2.1.1 bytes shortest.0) [
-    | inl same ↦ omega (arith, p.3, p.2.2, fits, ap length same)
-    | inr longer ↦ omega (arith, p.3, p.2.2, fits, longer)
-  ]
+  fits_written bytes shortest fits s p = grind arith
 
 -- A part that is rejected by one status, where it can't be held.
 pub unless_part : (n : ℕ) (Fits : Type 0) → 0 < n → (n ≡ 15 → ⊥) → IsPart (λ s. (s ≡ n) × (Fits → ⊥))
-unless_part n Fits some other = (λ s t p q. p.0 ∙ sym q.0, λ s p. (omega (arith, p.0, some), λ e. other (sym p.0 ∙ e)))
+unless_part n Fits some other = (grind arith, search rules)
 
 -- Parts.
 module _ (WhyNot Rest : ℕ → Type 0) where
   pub part_one : IsOne WhyNot → IsOne Rest → IsOne (PartThen WhyNot Rest)
-  part_one one rest s t (inl p) (inl q) = one s t p q
-  part_one one rest s t (inl p) (inr q) = absurd (q.0 s p)
-  part_one one rest s t (inr p) (inl q) = absurd (p.0 t q)
-  part_one one rest s t (inr p) (inr q) = rest s t p.1 q.1
+  part_one one rest s t p q = grind (arith, one, rest)
 
   -- A part, then another.
   pub part_then : IsPart WhyNot → IsPart Rest → IsPart (PartThen WhyNot Rest)
-  part_then p q = (part_one p.0 q.0, λ s a. ⊎_elim (p.1 s) (λ b. q.1 s b.1) a)
-
-  -- Where the part can be held.
-  pub part_rest : NoStatus WhyNot → (s : ℕ) → PartThen WhyNot Rest s → Rest s
-  part_rest none s (inl p) = absurd (none s p)
-  part_rest none s (inr p) = p.1
+  part_then p q = search rules
 
   pub part_first : NoStatus (PartThen WhyNot Rest) → NoStatus WhyNot
   part_first none s p = none s (inl p)
 
   pub part_none : NoStatus WhyNot → NoStatus Rest → NoStatus (PartThen WhyNot Rest)
-  part_none none rest s p = rest s (part_rest none s p)
+  part_none none rest s p = search rules
 
 -- Numbers.
 pub number_rejected : (bytes : List ℕ) (k : ErrorKind) → WhyNoNumber bytes k → NumberError bytes (kind_number k)
@@ -71,25 +57,14 @@ number_rejected (b ∷ bytes) k (inr p) =
     inr (ap kind_number p.1, omega arith, p.0 (octets n) (octets_canonical n) (octets_number n))
 
 number_part : (bytes : List ℕ) → IsPart (NumberError bytes)
-number_part bytes = (one, told)
-  where
-    one : IsOne (NumberError bytes)
-    one s t (inl p) (inl q) = p.0 ∙ sym q.0
-    one s t (inl p) (inr q) = absurd (omega (arith, p.1, q.1))
-    one s t (inr p) (inl q) = absurd (omega (arith, p.1, q.1))
-    one s t (inr p) (inr q) = p.0 ∙ sym q.0
-
-    told : IsTold (NumberError bytes)
-    told s (inl p) = (omega (arith, p.0), λ e. omega (arith, e, p.0))
-    told s (inr p) = (omega (arith, p.0), λ e. omega (arith, e, p.0))
+number_part bytes = (grind arith, grind arith)
 
 pub number_none : (bytes : List ℕ) → 0 < length bytes → length (octets (number bytes)) ≤ limit
     → NoStatus (NumberError bytes)
-number_none bytes some few s (inl p) = omega (arith, p.1, some)
-number_none bytes some few s (inr p) = omega (arith, p.2, few)
+number_none bytes some few s p = omega (arith, p)
 
 number_has : (bytes : List ℕ) → NoStatus (NumberError bytes) → 0 < length bytes
-number_has [] none = absurd (none 4 (inl (refl, refl)))
+number_has [] none = absurd (none 4 (search rules))
 number_has (b ∷ bytes) none = omega arith
 
 pub numbers_part : (ns : List (List ℕ)) → IsPart (NumbersError ns)
@@ -104,20 +79,17 @@ held_none (n ∷ ns) none s p = part_none (NumberError n) (NumbersError ns) none
 pub numbers_have : (ns : List (List ℕ)) → NoStatus (NumbersError ns) → HaveBytes ns
 numbers_have [] none = tt
 numbers_have (n ∷ ns) none =
-    let first = part_first (NumberError n) (NumbersError ns) none in
-    (number_has n first, numbers_have ns (λ s p. none s (inr (first, p))))
+    let first = part_first (NumberError n) (NumbersError ns) none in search (rules, number_has, numbers_have ns)
 
 pub numbers_before : (ns ms : List (List ℕ)) (s : ℕ) → NumbersError ns s → NumbersError (ns ++ ms) s
 numbers_before [] ms s p = absurd p
-numbers_before (n ∷ ns) ms s (inl p) = inl p
-numbers_before (n ∷ ns) ms s (inr p) = inr (p.0, numbers_before ns ms s p.1)
+numbers_before (n ∷ ns) ms s p = search (rules, numbers_before ns ms s)
 
 pub numbers_behind : (ns ms : List (List ℕ)) → NoStatus (NumbersError ns) → (s : ℕ) → NumbersError ms s
     → NumbersError (ns ++ ms) s
 numbers_behind [] ms none s p = p
 numbers_behind (n ∷ ns) ms none s p =
-    let first = part_first (NumberError n) (NumbersError ns) none in
-    inr (first, numbers_behind ns ms (λ t q. none t (inr (first, q))) s p)
+    let first = part_first (NumberError n) (NumbersError ns) none in search (rules, numbers_behind ns ms)
 
 pub none_both : (ns ms : List (List ℕ)) → NoStatus (NumbersError ns) → NoStatus (NumbersError ms)
     → NoStatus (NumbersError (ns ++ ms))
@@ -126,47 +98,55 @@ none_both (n ∷ ns) ms none more =
     let first = part_first (NumberError n) (NumbersError ns) none in
     part_none (NumberError n) (NumbersError (ns ++ ms)) first (none_both ns ms (λ t q. none t (inr (first, q))) more)
 
--- One of the primes is rejected, and those before it can be held.
-pub others_at : (os : List OtherPrime) (i : ℕ) (d : OtherPrime) (s : ℕ) → i < length os
-    → NoStatus (NumbersError (numbers_of_primes (take i os)))
-    → NumbersError (numbers_of_prime (get_or os i d)) s → NumbersError (numbers_of_primes os) s
-others_at [] i d s l none p = absurd (omega (arith, l))
-others_at (o ∷ os) zero d s l none p = numbers_before (numbers_of_prime o) (numbers_of_primes os) s p
-others_at (o ∷ os) (suc i) d s l none p =
-    let before = numbers_of_primes (take i os) in
-    let first : NoStatus (NumbersError (numbers_of_prime o)) =
-    λ t q. none t (numbers_before (numbers_of_prime o) before t q) in
-    numbers_behind (numbers_of_prime o) (numbers_of_primes os) first s
-    (others_at os i d s (omega (arith, l)) (λ t q. none t (numbers_behind (numbers_of_prime o) before first t q)) p)
+-- Numbers that can be held, of which some are in front.
+pub none_apart : (ns ms : List (List ℕ)) → NoStatus (NumbersError (ns ++ ms))
+    → NoStatus (NumbersError ns) × NoStatus (NumbersError ms)
+none_apart ns ms none =
+    let first : NoStatus (NumbersError ns) = λ s p. none s (numbers_before ns ms s p) in
+    (first, λ s p. none s (numbers_behind ns ms first s p))
 
--- One more of them can be held.
-pub others_held_more : (os : List OtherPrime) (i : ℕ) (d : OtherPrime) → i < length os
-    → NoStatus (NumbersError (numbers_of_primes (take i os)))
-    → NoStatus (NumbersError (numbers_of_prime (get_or os i d)))
-    → NoStatus (NumbersError (numbers_of_primes (take (suc i) os)))
-others_held_more [] i d l none one = absurd (omega (arith, l))
-others_held_more (o ∷ os) zero d l none one = none_both (numbers_of_prime o) [] one none
-others_held_more (o ∷ os) (suc i) d l none one =
-    let before = numbers_of_primes (take i os) in
-    let first : NoStatus (NumbersError (numbers_of_prime o)) =
-    λ t q. none t (numbers_before (numbers_of_prime o) before t q) in
-    none_both (numbers_of_prime o) (numbers_of_primes (take (suc i) os)) first
-    (others_held_more os i d (omega (arith, l))
-    (λ t q. none t (numbers_behind (numbers_of_prime o) before first t q)) one)
+numbers_joined : (os more : List OtherPrime)
+    → numbers_of_primes (os ++ more) ≡ numbers_of_primes os ++ numbers_of_primes more
+numbers_joined [] more = refl
+numbers_joined (o ∷ os) more = ap (λ ns. numbers_of_prime o ++ ns) (numbers_joined os more)
+
+-- One of the primes, those before it, and those behind it.
+module _ (os : List OtherPrime) (i : ℕ) (d : OtherPrime) (l : i < length os) where
+  abbrev before : List (List ℕ)
+  before = numbers_of_primes (take i os)
+
+  abbrev here : List (List ℕ)
+  here = numbers_of_prime (get_or os i d)
+
+  abbrev behind : List (List ℕ)
+  behind = numbers_of_primes (drop (i + 1) os)
+
+  around : numbers_of_primes os ≡ before ++ (here ++ behind)
+  around =
+      ap numbers_of_primes (sym (take-append-drop i os)) ∙ numbers_joined (take i os) (drop i os)
+      ∙ ap (λ more. before ++ numbers_of_primes more) (drop_more os i d l)
+
+  -- It is rejected, and those before it can be held.
+  pub others_at : (s : ℕ) → NoStatus (NumbersError before) → NumbersError here s → NumbersError (numbers_of_primes os) s
+  others_at s none p =
+      subst (λ ns. NumbersError ns s) (sym around)
+      (numbers_behind before (here ++ behind) none s (numbers_before here behind s p))
+
+  -- All of them can be held.
+  pub held_at : NoStatus (NumbersError (numbers_of_primes os)) → NoStatus (NumbersError here)
+  held_at none =
+      let all = subst (λ ns. NoStatus (NumbersError ns)) around none in
+      (none_apart here behind (none_apart before (here ++ behind) all).1).0
+
+  -- One more of them can be held.
+  pub others_held_more : NoStatus (NumbersError before) → NoStatus (NumbersError here)
+      → NoStatus (NumbersError (numbers_of_primes (take (i + 1) os)))
+  others_held_more none one =
+      rw (take_more os i d l, numbers_joined (take i os) (get_or os i d ∷ [])) (none_both before here none one)
 
 -- Algorithms.
 any_part : (v : TagAndContents) → IsPart (AnyError v)
-any_part v = (one, told)
-  where
-    one : IsOne (AnyError v)
-    one s t (inl p) (inl q) = p.0 ∙ sym q.0
-    one s t (inl p) (inr q) = let f : false ≡ true = rw p.1 at q.1 in cc
-    one s t (inr p) (inl q) = let f : false ≡ true = rw q.1 at p.1 in cc
-    one s t (inr p) (inr q) = p.0 ∙ sym q.0
-
-    told : IsTold (AnyError v)
-    told s (inl p) = (omega (arith, p.0), λ e. omega (arith, e, p.0))
-    told s (inr p) = (omega (arith, p.0), λ e. omega (arith, e, p.0))
+any_part v = (grind arith, grind arith)
 
 module _ {P : Type 0} (WhyNot : P → ℕ → Type 0) (part : (v : P) → IsPart (WhyNot v)) where
   option_part : (o : Option P) → IsPart (OptionError WhyNot o)

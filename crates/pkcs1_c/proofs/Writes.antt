@@ -1,9 +1,8 @@
 -- What is so of all calls that write: the front, the reason, the code of an error, the needed length.
-use Rattle.std.proofs.Common.{ℕ, zero, suc, List, ◌≡◌, ◌≢◌, ◌<◌, ◌∙◌, length, take, refl, sym, subst, arith, inl, inr, Some, length-take-le, ◌↔◌, Result, Ok, Err, IfErr, IsErrAnd, ◌≤◌, ap}
-use Rattle.pkcs1_params.proofs.Masks.{encodes_as, shortest_as}
-use Rattle.standard.specs.Statement.{Encodes}
+use Rattle.std.proofs.Common.{ℕ, zero, suc, List, ◌≡◌, ◌≢◌, ◌<◌, ◌∙◌, length, take, refl, sym, subst, arith, rules, inl, inr, Some, length-take-le, ◌↔◌, Result, Ok, Err, IfErr, IsErrAnd, ◌≤◌, ap}
+use Rattle.standard.specs.Statement.{Decodes, Encodes}
 use Rattle.pkcs1_c.specs.Words.{IsErrorOf, NoStatus, FieldsError, PartThen, Unwritten, If, IsLength, WritesOrTells, kind_number, status_of, IsErrorNumber, IsStatusOf}
-use Rattle.pkcs1_c.proofs.StructErrors.{IsOne, IsPart, fits_written, part_one, part_rest, unwritten_one}
+use Rattle.pkcs1_c.proofs.StructErrors.{IsOne, IsPart, fits_written, unwritten_one}
 use Rattle.der_core.specs.Words.{TellsOfBytes, encode_error, shortest_is, limit, Spells, WritesShortest}
 use Rattle.der_core.specs.Writing as writing
 use Rattle.der_core.specs.declared.error.ErrorKind.{ErrorKind}
@@ -15,136 +14,83 @@ use Rattle.std.proofs.lemmas.Bool.{cases_lt}
 
 pub is_error : (WhyNot : ℕ → Type 0) (s : ℕ) → IsOne WhyNot → 0 < s → WhyNot s → IsErrorOf WhyNot s
 is_error WhyNot zero one some p = absurd (omega (arith, some))
-is_error WhyNot (suc n) one some p = (p, λ other q. one other (suc n) q p)
+is_error WhyNot (suc n) one some p = search rules
 
 pub error_as : (A B : ℕ → Type 0) (s : ℕ) → ((t : ℕ) → A t → B t) → ((t : ℕ) → B t → A t) → IsErrorOf A s
     → IsErrorOf B s
-error_as A B zero there back none = λ t p. none t (back t p)
-error_as A B (suc n) there back error = (there (suc n) error.0, λ t p. error.1 t (back t p))
+error_as A B zero there back none = search rules
+error_as A B (suc n) there back error = search rules
 
 module _ {V : Type 0} (Encoding : V → List ℕ → Type 0) (v : V) (old new : List ℕ) (l m : ℕ) where
   -- The shortest encoding is at the front.
-  pub written : Encodes Encoding v old new (Some m) → WritesOrTells Encoding v old new l m 0
-  written made = record {
-    ok = λ _. made;
-    no_room = λ full. absurd (omega (arith, full));
-    rejected = λ no. absurd (no refl);
-    unchanged = λ no. absurd (no refl);
-  }
-
-  pub written_well : Encodes Encoding v old new (Some m) → length new ≡ length old
-      → NoStatus (Unwritten Encoding v (length old))
-  written_well made same =
-      fits_written Encoding v (length old) (take m new) made.1
-      (omega (arith, length-take-le m new (omega (arith, made.0, same)), made.0))
+  pub written : Encodes Encoding v old new (Some m) → length new ≡ length old
+      → WritesOrTells Encoding v old new l m 0 × IsErrorOf (Unwritten Encoding v (length old)) 0
+  written made same = (
+    search rules,
+    fits_written Encoding v (length old) (take m new) made.1 (omega (arith, length-take-le {A = ℕ})),
+  )
 
   -- It isn't, and its length is told if it has one.
   pub not_written : (status s : ℕ) → status ≡ s → Unwritten Encoding v (length old) s → new ≡ old
       → ((n : ℕ) → IsLength Encoding v n → m ≡ n) → (((bytes : List ℕ) → Encoding v bytes → ⊥) → m ≡ l)
       → WritesOrTells Encoding v old new l m status
-  not_written status s is (inl p) same needed kept = record {
-    ok = λ zero. absurd (omega (arith, zero, is, p.0));
-    no_room = λ full. absurd (omega (arith, full, is, p.0));
-    rejected = λ _ _. p.1;
-    unchanged = λ _. (same, λ _. kept p.1);
-  }
-  not_written status s is (inr p) same needed kept = record {
-    ok = λ zero. absurd (omega (arith, zero, is, p.0));
-    no_room = λ _. let e = needed p.1 p.2 in ((p.2.0, p.2.1, e ∙ p.2.2), omega (arith, p.3, e));
-    rejected = λ _ other. absurd (other (is ∙ p.0));
-    unchanged = λ _. (same, λ other. absurd (other (is ∙ p.0)));
-  }
+  not_written status s is (inl p) same needed kept = search rules
+  not_written status s is (inr p) same needed kept = let e = needed p.1 p.2 in search rules
 
 -- Why it isn't, of all reasons the only one.
 module _ {V : Type 0} (Encoding : V → List ℕ → Type 0) (v : V) (room : ℕ) where
-  some_error : (s : ℕ) → Unwritten Encoding v room s → 0 < s
-  some_error s (inl p) = omega (arith, p.0)
-  some_error s (inr p) = omega (arith, p.0)
-
   pub unwritten_is : (status s : ℕ) → status ≡ s → Unwritten Encoding v room s
       → IsErrorOf (Unwritten Encoding v room) status
-  unwritten_is status s is p =
-      subst (IsErrorOf (Unwritten Encoding v room)) (sym is)
-      (is_error (Unwritten Encoding v room) s (unwritten_one Encoding v room) (some_error s p) p)
+  unwritten_is status s is p = search (rules, is_error)
 
 -- A value, and another that has the same encodings.
 module _ {V W : Type 0} (Encoding : V → List ℕ → Type 0) (v : V) (Other : W → List ℕ → Type 0) (w : W)
     (same : (bytes : List ℕ) → Other w bytes ↔ Encoding v bytes) where
-  length_as : (n : ℕ) → IsLength Other w n → IsLength Encoding v n
-  length_as n p = (p.0, shortest_as Other Encoding w v same p.0 p.1, p.2)
-
   pub written_as : {old new : List ℕ} {l m s : ℕ} → WritesOrTells Other w old new l m s
       → WritesOrTells Encoding v old new l m s
-  written_as {old} {new} {l} {m} told = record {
-    ok = λ zero. encodes_as Other Encoding w v same old new (Some m) (told.ok zero);
-    no_room = λ full. let p = told.no_room full in (length_as m p.0, p.1);
-    rejected = λ no other bytes e. told.rejected no other bytes ((same bytes).1 e);
-    unchanged = told.unchanged;
-  }
+  written_as told = search rules
 
   pub unwritten_as : (room s : ℕ) → Unwritten Other w room s → Unwritten Encoding v room s
-  unwritten_as room s (inl p) = inl (p.0, λ bytes e. p.1 bytes ((same bytes).1 e))
-  unwritten_as room s (inr p) = inr (p.0, p.1, length_as p.1 p.2, p.3)
+  unwritten_as room s p = search rules
 
-module _ {V W : Type 0} (Encoding : V → List ℕ → Type 0) (v : V) (Other : W → List ℕ → Type 0) (w : W)
-    (same : (bytes : List ℕ) → Other w bytes ↔ Encoding v bytes) where
   pub unwritten_so : (room s : ℕ) → IsErrorOf (Unwritten Other w room) s → IsErrorOf (Unwritten Encoding v room) s
   unwritten_so room s =
-      error_as (Unwritten Other w room) (Unwritten Encoding v room) s (unwritten_as Encoding v Other w same room)
-      (unwritten_as Other w Encoding v (λ bytes. ((same bytes).1, (same bytes).0)) room)
+      error_as (Unwritten Other w room) (Unwritten Encoding v room) s (λ t p. search rules) (λ t p. search rules)
 
   -- Parts of the value can be held.
   pub held_written : (Has : Type 0) → Has → {old new : List ℕ} {l m s : ℕ} → WritesOrTells Other w old new l m s
       → WritesOrTells (If Has Encoding) v old new l m s
-  held_written Has has =
-      written_as (If Has Encoding) v Other w (λ bytes. (λ p. (has, (same bytes).0 p), λ p. (same bytes).1 p.1))
+  held_written Has has told = search rules
 
 -- A part that can be held, or not.
-module _ (Part Rest : ℕ → Type 0) (s : ℕ) where
-  pub error_behind : NoStatus Part → IsErrorOf Rest s → IsErrorOf (PartThen Part Rest) s
-  error_behind none = error_as Rest (PartThen Part Rest) s (λ t p. inr (none, p)) (part_rest Part Rest none)
+pub error_behind : (Part Rest : ℕ → Type 0) (s : ℕ) → NoStatus Part → IsErrorOf Rest s
+    → IsErrorOf (PartThen Part Rest) s
+error_behind Part Rest zero none error = search rules
+error_behind Part Rest (suc n) none error = search rules
 
-  pub error_first : IsPart Part → IsOne Rest → Part s → IsErrorOf (PartThen Part Rest) s
-  error_first part rest p = is_error (PartThen Part Rest) s (part_one Part Rest part.0 rest) (part.1 s p).0 (inl p)
+error_first : (Part Rest : ℕ → Type 0) (s : ℕ) → IsPart Part → Part s → IsErrorOf (PartThen Part Rest) s
+error_first Part Rest zero part p = absurd (omega (arith, part.1 zero p))
+error_first Part Rest (suc n) part p = search rules
 
 -- Nothing is written.
 pub refused : {V : Type 0} (Encoding : V → List ℕ → Type 0) (v : V) (old : List ℕ) (l s : ℕ) → (0 < s) × (s ≢ 15)
     → ((bytes : List ℕ) → Encoding v bytes → ⊥) → WritesOrTells Encoding v old old l l s
-refused Encoding v old l s told none = record {
-  ok = λ zero. absurd (omega (arith, zero, told.0));
-  no_room = λ full. absurd (told.1 full);
-  rejected = λ _ _. none;
-  unchanged = λ _. (refl, λ _. refl);
-}
+refused Encoding v old l s told none = search rules
 
 -- A call whose status is that of a part that can't be held. What has the encoding that is asked for has such parts.
-pub part_told : (Part Rest : ℕ → Type 0) → IsPart Part → IsOne Rest → {V : Type 0} (Asked : V → List ℕ → Type 0) (v : V)
+pub part_told : (Part Rest : ℕ → Type 0) → IsPart Part → {V : Type 0} (Asked : V → List ℕ → Type 0) (v : V)
     → ((bytes : List ℕ) → Asked v bytes → NoStatus Part) → (old : List ℕ) (l : ℕ) {s t : ℕ} → s ≡ t → Part t
     → WritesOrTells Asked v old old l l s × IsErrorOf (PartThen Part Rest) s
-part_told Part Rest part rest Asked v fits old l {s} is p =
-    let q = subst Part (sym is) p in (
-      refused Asked v old l s (part.1 s q) (λ bytes e. fits bytes e s q),
-      error_first Part Rest s part rest q,
-    )
+part_told Part Rest part Asked v fits old l {s} is p =
+    let q = subst Part (sym is) p in
+    let told = part.1 s q in (search rules, error_first Part Rest s part q)
 
--- One whose parts are held by an equal value, which was to be written.
-pub equal_told : {V : Type 0} (Part : V → ℕ → Type 0) (Encoding : V → List ℕ → Type 0) {u v : V} → u ≡ v
-    → NoStatus (Part v) → {old new : List ℕ} {l m s : ℕ} → WritesOrTells Encoding u old new l m s
-    → IsErrorOf (Unwritten Encoding u (length old)) s
-    → WritesOrTells Encoding v old new l m s × IsErrorOf (FieldsError Part Encoding v (length old)) s
-equal_told Part Encoding {u} {v} is none {old} {new} {l} {m} {s} writes exact = (
-  subst (λ w. WritesOrTells Encoding w old new l m s) is writes,
-  error_behind (Part v) (Unwritten Encoding v (length old)) s none
-      (subst (λ w. IsErrorOf (Unwritten Encoding w (length old)) s) is exact),
-)
-
--- What the code of an error says.
-
--- What holds of an error that was handed on.
-pub err_handed : {T E : Type 0} (P : E → Type 0) (first : E) (r : Result T E) → IsErrAnd r (λ e. e ≡ first) → P first
-    → IfErr r P
-err_handed P first (Ok x) same p = absurd same
-err_handed P first (Err e) same p = subst P (sym same) p
+-- Parameters, a field of which can't be held.
+pub fields_told : {V : Type 0} (Part : V → ℕ → Type 0) (Encoding : V → List ℕ → Type 0) (v : V) → IsPart (Part v)
+    → ((bytes : List ℕ) → Encoding v bytes → NoStatus (Part v)) → (old : List ℕ) (l : ℕ) {s t : ℕ} → s ≡ t
+    → Part v t → WritesOrTells Encoding v old old l l s × IsErrorOf (FieldsError Part Encoding v (length old)) s
+fields_told Part Encoding v part fits old =
+    part_told (Part v) (Unwritten Encoding v (length old)) part Encoding v fits old
 
 -- An error that tells of bytes has a number, below that of lack of room.
 tells_below : (e : ErrorKind) → TellsOfBytes e → (0 < kind_number e) × (kind_number e < 15)
@@ -208,6 +154,11 @@ module _ {V : Type 0} (Is : V → Type 0) (Encoding : V → List ℕ → Type 0)
   status_unwritten error.Crypto p = absurd p
   status_unwritten error.KeyMalformed p = absurd p
   status_unwritten error.Version p = absurd p
+
+-- A value that was read, and the equal one that a struct has.
+pub decodes_as : {V : Type 0} (Encoding : V → List ℕ → Type 0) {bytes : List ℕ} {u v : V} → u ≡ v
+    → Decodes Encoding bytes (Some v) → Decodes Encoding bytes (Some u)
+decodes_as Encoding {bytes} is read = subst (λ v. Decodes Encoding bytes (Some v)) (sym is) read
 
 -- The needed length: that of the shortest encoding, which is the one that is written.
 module _ {S V : Type 0} {valid : S → Type 0} {printed : S → List ℕ} {means : S → V} {written : V → S}

@@ -4,7 +4,7 @@
 use Rattle.std.specs.Prelude.{ℕ, List, [], ◌∷◌, ◌≡◌, ◌≢◌, ◌<◌, length, take, map, Option, Some, None, false, if◌then◌else◌}
 use Rattle.der_core.specs.Words.{number_from_digits}
 use Rattle.std.specs.List.{AllByRecursion}
-use Rattle.pkcs1.specs.Words.{primes_encoded}
+use Rattle.pkcs1.specs.Words.{listed_others, primes_encoded}
 use Rattle.pkcs1_c.specs.declared.algorithm.Algorithm as algorithms
 use Rattle.pkcs1_c.specs.declared.algorithm.MaskGen.{MaskGen}
 use Rattle.pkcs1_c.specs.declared.container.PrivateKeyInfo.{PrivateKeyInfo}
@@ -137,10 +137,6 @@ private_key key others = record {
   other_primes = other_primes others;
 }
 
-abbrev pub listed : Option (List OtherPrime) → List OtherPrime
-listed None = []
-listed (Some others) = others
-
 abbrev pub octets_of_prime : OtherPrime → List (List ℕ)
 octets_of_prime o = octets o.prime ∷ octets o.exponent ∷ octets o.coefficient ∷ []
 
@@ -157,13 +153,13 @@ ArePlaced others array =
 -- The struct has the octets of the key and tells how many other primes it has.
 abbrev pub HoldsPrivate : key_structs.PrivateKey → PrivateKey → Type 0
 HoldsPrivate key v =
-    (numbers_of_key key ≡ octets_of_key v) × (key.other_primes ≡ length (listed v.other_primes))
+    (numbers_of_key key ≡ octets_of_key v) × (key.other_primes ≡ length (listed_others v.other_primes))
 
 -- The bytes encode one key. The struct has it, and the list has the encodings of its other primes.
 abbrev pub DecodesPrivate : List ℕ → key_structs.PrivateKey → List ℕ → Type 0
 DecodesPrivate bytes key list =
     (v : PrivateKey) × Decodes PrivateKeyEncoding bytes (Some v) × HoldsPrivate key v
-    × (list ≡ primes_encoded (listed v.other_primes))
+    × (list ≡ primes_encoded (listed_others v.other_primes))
 
 -- == Containers ==
 -- The algorithm is always rsaEncryption with NULL. Attributes count only if `has_attributes` is true.

@@ -1,8 +1,8 @@
 //! Private keys.
 ghost use Rattle.std.specs.Prelude.{length, drop, ◌≡◌, ◌≢◌, ◌≤◌, List, None};
 ghost use Rattle.der_core.specs.Words.{ReadsFront, bytes_of, left_of, limit};
-ghost use Rattle.pkcs1.specs.Words.{held_other_prime, held_view, next_prime, primes_encoded, rsa_private_key};
-ghost use Rattle.pkcs1_c.specs.Words.{ArePlaced, DecodesPrivate, HasPrivateNumbers, HoldsPrivate, If, IsErrorOf, IsStatusOf, PrivateKeyError, WritesOrTells, listed, numbers_of_prime, octets_of_prime, private_key};
+ghost use Rattle.pkcs1.specs.Words.{held_other_prime, held_view, listed_others, next_prime, primes_encoded, rsa_private_key};
+ghost use Rattle.pkcs1_c.specs.Words.{ArePlaced, DecodesPrivate, HasPrivateNumbers, HoldsPrivate, If, IsErrorOf, IsStatusOf, PrivateKeyError, WritesOrTells, numbers_of_prime, octets_of_prime, private_key};
 ghost use Rattle.standard.specs.Statement.{Decodes, OtherPrime as Prime, PrivateKeyEncoding};
 
 use crate::bytes::Bytes;
@@ -49,6 +49,7 @@ pub struct OtherPrime<'a> {
 }
 
 /// The C struct of a prime.
+#[tactic(auto, using(crate::proofs::HeldKeys::octets_held))]
 fn to_c_other_prime<'a>(info: &OtherPrimeInfo<UintRef<'a>>) -> OtherPrime<'a>
     ensures { numbers_of_prime result ≡ octets_of_prime (held_other_prime bytes_of info.now) }
 {
@@ -80,7 +81,7 @@ pub(crate) fn to_c_key<'a>(view: &RsaPrivateKeyView<'a>) -> PrivateKey<'a>
 /// The encodings of a key's other primes, one behind the other.
 #[inline(always)]
 pub(crate) fn to_c_list<'a>(view: &RsaPrivateKeyView<'a>) -> Bytes<'a>
-    ensures { result.octets.now ≡ primes_encoded (listed (held_view view.now).other_primes) }
+    ensures { result.octets.now ≡ primes_encoded (listed_others (held_view view.now).other_primes) }
 {
     Bytes {
         octets: view.other_primes().as_bytes(),

@@ -1,5 +1,6 @@
 use Rattle.std.proofs.Common.{◌≡◌, ◌∙◌, ◌⊎◌, ℕ, List, [], ◌∷◌, length, Bool, nat_eq, true, false, refl, sym, arith, inl, inr, Decides}
 use Rattle.std.proofs.lemmas.Bool.Decides.{Decides-at}
+use Rattle.std.proofs.lemmas.Grind.{common_steps}
 use Rattle.der_core.specs.Words.{nat_tests}
 use Rattle.std.proofs.lemmas.Slice.Eq.{bytes_eq-Decides}
 use Rattle.spki_core.specs.Words.{IsHash}
@@ -16,10 +17,7 @@ hash_is a oid r d (inl none) = (λ e. (d.0 e, inl (rw none refl)), λ p. d.1 p.0
 hash_is a oid r d (inr null) = (λ e. (d.0 e, inr (rw (null.0, null.1, null.2) refl)), λ p. d.1 p.0)
 
 no_octets : (xs : List ℕ) → nat_eq (length xs) 0 ≡ true → xs ≡ []
-no_octets [] e = refl
-no_octets (x ∷ xs) e =
-    let none : length (x ∷ xs) ≡ 0 = grind (arith, nat_tests, e) in
-    absurd (omega (arith, none))
+no_octets xs e = grind (arith, common_steps)
 
 pub returns-then-is_null : goal.returns-then-is_null
 returns-then-is_null c =

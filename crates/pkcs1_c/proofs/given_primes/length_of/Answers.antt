@@ -1,4 +1,4 @@
-use Rattle.std.proofs.Common.{ℕ, List, [], ◌∷◌, ◌++◌, ◌≡◌, ◌∙◌, ◌+◌, ◌≤◌, ◌<◌, ap, length, length-append, arith, sym, Result, Ok, Err, inl, inr, IfErr, IfOk}
+use Rattle.std.proofs.Common.{ℕ, List, [], ◌∷◌, ◌++◌, ◌≡◌, ◌∙◌, ◌+◌, ◌≤◌, ◌<◌, ◌⊎◌, ap, length, length-append, arith, Result, Ok, Err, inl, inr, IfErr, IfOk}
 use Rattle.std.proofs.lemmas.Bool.{cases_lt}
 use Rattle.der_core.specs.Words.{length_octets, limit, tlv_len, number_contents, Counts}
 use Rattle.der_core.specs.declared.error.Error.{Error}
@@ -16,65 +16,53 @@ record IsTold (contents result : ℕ) : Type 0 where
   within : contents ≤ limit → result ≡ tlv_len contents
   least : contents ≤ result
 
-module _ (o : OtherPrime) (p e c s : ℕ) (is-p : IsTold (length (number_contents o.prime)) p)
-    (is-e : IsTold (length (number_contents o.exponent)) e) (is-c : IsTold (length (number_contents o.coefficient)) c)
-    (is-s : IsTold (p + e + c) s) where
-  abbrev contents : List ℕ
-  contents = integers (o.prime ∷ o.exponent ∷ o.coefficient ∷ [])
-
-  parted : length contents ≡ length (integer o.prime) + length (integer o.exponent) + length (integer o.coefficient)
-  parted =
-      omega (
-        arith,
-        length-append (integer o.prime) (integer o.exponent ++ (integer o.coefficient ++ [])),
-        length-append (integer o.exponent) (integer o.coefficient ++ []),
-        length-append (integer o.coefficient) [],
-      )
-
-  -- Where the numbers are within the limit.
-  same_parts : length (number_contents o.prime) ≤ limit → length (number_contents o.exponent) ≤ limit
-      → length (number_contents o.coefficient) ≤ limit → p + e + c ≡ length contents
-  same_parts a b d =
-      omega (
-        arith,
-        parted,
-        tagged 2 (number_contents o.prime),
-        tagged 2 (number_contents o.exponent),
-        tagged 2 (number_contents o.coefficient),
-        is-p.within a,
-        is-e.within b,
-        is-c.within d,
-      )
-
-  same_whole : p + e + c ≡ length contents → p + e + c ≤ limit → s ≡ length (prime_encoded o)
-  same_whole same few = is-s.within few ∙ ap tlv_len same ∙ sym (tagged 48 contents)
-
-  told : (r : Result ℕ Error) → IfOk r (λ n. (n ≡ s) × (s ≤ limit)) → IfErr r (λ f. (f.kind ≡ Overflow) × (limit < s))
-      → Counts (Unit {0}) (prime_encoded o) r
-  told (Ok n) ok err =
-      let sum : p + e + c ≤ limit = omega (arith, is-s.least, ok.1) in
-      let same = same_parts (omega (arith, is-p.least, sum)) (omega (arith, is-e.least, sum)) (omega (arith, is-c.least, sum)) in
-      (tt, ok.0 ∙ same_whole same sum, omega (arith, ok.0, ok.1))
-  told (Err f) ok err =
-      rw err.0 (
-        tt,
-        elim (cases_lt limit (length (prime_encoded o))) [
-          | inl long ↦ long
-          | inr few ↦
-              let all = tagged 48 contents in
-              let same = same_parts
-              (omega (arith, few, all, parted, tagged 2 (number_contents o.prime)))
-              (omega (arith, few, all, parted, tagged 2 (number_contents o.exponent)))
-              (omega (arith, few, all, parted, tagged 2 (number_contents o.coefficient))) in
-              omega (arith, err.1, few, same_whole same (omega (arith, few, all, same)))
-        ],
-      )
-
 told_of : (n size result : ℕ) → size ≡ n → (size ≤ limit → result ≡ tlv_len size) → size ≤ result → IsTold n result
 told_of n size result is within least = record {
   within = λ few. within (omega (arith, few, is)) ∙ ap tlv_len is;
   least = omega (arith, least, is);
 }
+
+-- Three of them are the contents of another: as many octets as they are, if those or these are within the limit.
+module _ (a b d p e c s : ℕ) (is-p : IsTold a p) (is-e : IsTold b e) (is-c : IsTold d c) (is-s : IsTold (p + e + c) s)
+  where
+    abbrev parts : ℕ
+    parts = tlv_len a + tlv_len b + tlv_len d
+
+    same_parts : (p + e + c ≤ limit) ⊎ (parts ≤ limit) → p + e + c ≡ parts
+    same_parts (inl few) =
+        let k = is-p.within (omega (arith, few, is-p.least)) in
+        let l = is-e.within (omega (arith, few, is-e.least)) in
+        let m = is-c.within (omega (arith, few, is-c.least)) in omega (arith, k, l, m)
+    same_parts (inr few) =
+        let k = is-p.within (omega (arith, few)) in
+        let l = is-e.within (omega (arith, few)) in
+        let m = is-c.within (omega (arith, few)) in omega (arith, k, l, m)
+
+    same_whole : (s ≤ limit) ⊎ (tlv_len parts ≤ limit) → s ≡ tlv_len parts
+    same_whole (inl few) =
+        let is = same_parts (inl (omega (arith, few, is-s.least))) in
+        is-s.within (omega (arith, few, is-s.least)) ∙ ap tlv_len is
+    same_whole (inr few) =
+        let is = same_parts (inr (omega (arith, few))) in is-s.within (omega (arith, few, is)) ∙ ap tlv_len is
+
+prime_len : (o : OtherPrime) → length (prime_encoded o) ≡ tlv_len
+    (tlv_len (length (number_contents o.prime)) + tlv_len (length (number_contents o.exponent))
+    + tlv_len (length (number_contents o.coefficient)))
+prime_len o =
+    tagged 48 (integers (o.prime ∷ o.exponent ∷ o.coefficient ∷ [])) ∙ ap tlv_len (simp length-append (omega arith))
+
+told : (octets : List ℕ) (s n : ℕ) → length octets ≡ n → ((s ≤ limit) ⊎ (n ≤ limit) → s ≡ n) → (r : Result ℕ Error)
+    → IfOk r (λ m. (m ≡ s) × (s ≤ limit)) → IfErr r (λ f. (f.kind ≡ Overflow) × (limit < s))
+    → Counts (Unit {0}) octets r
+told octets s n is same (Ok m) ok err = (tt, omega (arith, ok, is, same (inl ok.1)), omega (arith, ok))
+told octets s n is same (Err f) ok err =
+    rw err.0 (
+      tt,
+      elim (cases_lt limit n) [
+        | inl long ↦ omega (arith, long, is)
+        | inr few ↦ omega (arith, err.1, few, same (inr few))
+      ],
+    )
 
 pub returns : goal.returns
 returns c =
@@ -82,7 +70,8 @@ returns c =
     let e = c.octets_with_tag-2.ensures in
     let d = c.octets_with_tag-3.ensures in
     let s = c.octets_with_tag-4.ensures in
-    told (held_other_prime number_of c.args.info.now) _ _ _ _
-    (told_of _ _ _ c.size.ensures.is p.within p.least) (told_of _ _ _ c.size-2.ensures.is e.within e.least)
-    (told_of _ _ _ c.size-3.ensures.is d.within d.least) (record { within = s.within; least = s.least }) c.try_from.result
-    c.try_from.ensures.ok c.try_from.ensures.err
+    let o = held_other_prime number_of c.args.info.now in
+    told (prime_encoded o) _ _ (prime_len o)
+    (same_whole _ _ _ _ _ _ _ (told_of _ _ _ c.size.ensures.is p.within p.least)
+    (told_of _ _ _ c.size-2.ensures.is e.within e.least) (told_of _ _ _ c.size-3.ensures.is d.within d.least)
+    (record { within = s.within; least = s.least })) c.try_from.result c.try_from.ensures.ok c.try_from.ensures.err

@@ -1,34 +1,22 @@
-use Rattle.std.proofs.Common.{length, subst}
+use Rattle.std.proofs.Common.{length}
 use Rattle.standard.specs.Statement.{OaepEncoding}
-use Rattle.pkcs1_c.specs.Words.{IsErrorOf, FieldsError, OaepFieldError, Unwritten, WritesOrTells, oaep_seen}
+use Rattle.pkcs1_c.specs.Words.{OaepFieldError, Unwritten, oaep_seen}
 use Rattle.pkcs1_c.proofs.Fits.{oaep_fits}
-use Rattle.pkcs1_c.proofs.Writes.{error_behind, written, written_well}
+use Rattle.pkcs1_c.proofs.Writes.{error_behind, written}
 use Rattle.pkcs1_c.proofs.oaep.pkcs1_c_oaep_params_encode.Goals as goal
 
-pub returns-in-Some-clause-writes : goal.returns-in-Some-clause-writes
-returns-in-Some-clause-writes c =
-    let v = oaep_seen c.args.params.now in
-    written OaepEncoding v c.args.out.now _ c.args.len.now c.in-Some.count c.in-Some.ensures.written
-
-pub returns-in-Some-clause-exact : goal.returns-in-Some-clause-exact
-returns-in-Some-clause-exact c =
+pub returns-in-Some : goal.returns-in-Some
+returns-in-Some c =
     let v = oaep_seen c.args.params.now in
     let made = c.in-Some.ensures.written in
-    error_behind (OaepFieldError v) (Unwritten OaepEncoding v (length c.args.out.now)) 0
-    (oaep_fits v _ made.1.0)
-    (written_well OaepEncoding v c.args.out.now c.write_known.new.out c.args.len.now c.in-Some.count made
-    c.write_known.auto.out)
+    let told = written OaepEncoding v _ _ c.args.len.now c.in-Some.count made c.write_known.auto.out in record {
+      writes = told.0;
+      exact =
+          error_behind (OaepFieldError v) (Unwritten OaepEncoding v (length c.args.out.now)) 0
+          (oaep_fits v _ made.1.0) told.1;
+    }
 
-pub returns-in-None-clause-writes : goal.returns-in-None-clause-writes
-returns-in-None-clause-writes c =
-    let v = oaep_seen c.args.params.now in
-    let told = c.write_fields in
-    subst (λ out. WritesOrTells OaepEncoding v out told.new.out c.args.len.now told.new.len told.result)
-    (c.write_known.ensures.unchanged c.in-None.is) told.ensures.writes
-
-pub returns-in-None-clause-exact : goal.returns-in-None-clause-exact
-returns-in-None-clause-exact c =
-    let v = oaep_seen c.args.params.now in
-    let told = c.write_fields in
-    subst (λ out. IsErrorOf (FieldsError OaepFieldError OaepEncoding v (length out)) told.result)
-    (c.write_known.ensures.unchanged c.in-None.is) told.ensures.exact
+pub returns-in-None : goal.returns-in-None
+returns-in-None c =
+    let same = c.write_known.ensures.unchanged c.in-None.is in
+    let told = c.write_fields.ensures in record { writes = rw same at told.writes; exact = rw same at told.exact }

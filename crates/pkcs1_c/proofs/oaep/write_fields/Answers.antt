@@ -3,23 +3,25 @@ use Rattle.standard.specs.Statement.{OaepEncoding}
 use Rattle.pkcs1_c.specs.Words.{OaepFieldError, Unwritten, oaep_seen}
 use Rattle.pkcs1_c.proofs.Fits.{oaep_fits}
 use Rattle.pkcs1_c.proofs.HeldParameters.{oaep_none}
-use Rattle.pkcs1_c.proofs.StructErrors.{oaep_part, unwritten_one}
-use Rattle.pkcs1_c.proofs.Writes.{equal_told, part_told}
+use Rattle.pkcs1_c.proofs.StructErrors.{oaep_part}
+use Rattle.pkcs1_c.proofs.Writes.{error_behind, fields_told}
 use Rattle.pkcs1_c.proofs.oaep.write_fields.Goals as goal
 
 pub returns-in-Ok : goal.returns-in-Ok
 returns-in-Ok c =
+    let v = oaep_seen c.args.params.now in
     let is = c.in-Ok.ensures.ok in
-    let written = c.write_params.ensures in
-    let told =
-    equal_told OaepFieldError OaepEncoding is (oaep_none c.in-Ok.made _ is) written.writes written.exact in
-    record { writes = told.0; exact = told.1 }
+    let told = c.write_params.ensures in record {
+      writes = rw is at told.writes;
+      exact =
+          error_behind (OaepFieldError v) (Unwritten OaepEncoding v (length c.args.out.now)) _
+          (oaep_none c.in-Ok.made _ is) (rw is at told.exact);
+    }
 
 pub returns-in-Err : goal.returns-in-Err
 returns-in-Err c =
     let v = oaep_seen c.args.params.now in
-    let room = length c.args.out.now in
     let told =
-    part_told (OaepFieldError v) (Unwritten OaepEncoding v room) (oaep_part v) (unwritten_one OaepEncoding v room)
-    OaepEncoding v (oaep_fits v) c.args.out.now c.args.len.now c.status.ensures c.in-Err.ensures.err in
+    fields_told OaepFieldError OaepEncoding v (oaep_part v) (oaep_fits v) c.args.out.now
+    c.args.len.now c.status.ensures c.in-Err.ensures.err in
     record { writes = told.0; exact = told.1 }

@@ -1,8 +1,8 @@
-use Rattle.std.proofs.Common.{arith}
+use Rattle.std.proofs.Common.{arith, inl}
 use Rattle.der_core.proofs.ReadSteps.{front_errs}
 use Rattle.der_core.specs.Words.{bytes_of}
 use Rattle.pkcs1.specs.Words.{number_in, next_prime, other_of}
-use Rattle.pkcs1_c.proofs.Placing.{full, none_placed, one_placed, stopped}
+use Rattle.pkcs1_c.proofs.Placing.{all_placed, none_placed, one_placed, stopped}
 use Rattle.pkcs1_c.proofs.private_key.pkcs1_c_other_primes.Goals as goal
 
 pub loop-i-init : goal.loop-i-init
@@ -22,6 +22,6 @@ returns-in-Err c = λ primes few whole.
 
 pub returns : goal.returns
 returns c = λ primes few whole.
-    full primes _ c.loop-i.others c.args.others.now c.loop-i.i
+    all_placed primes _ c.loop-i.others c.args.others.now c.loop-i.i
     (omega (arith, c.loop-i.auto.i-end, c.loop-i.auto.others)) c.loop-i.auto.others
-    (omega (arith, c.loop-i-test.false, c.loop-i.auto.i-end, c.loop-i.auto.others)) (c.loop-i.invariant primes few whole)
+    (c.loop-i.invariant primes few whole) (inl (omega (arith, c.loop-i-test.false, c.loop-i.auto.i-end)))

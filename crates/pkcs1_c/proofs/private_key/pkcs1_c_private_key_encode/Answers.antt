@@ -4,7 +4,7 @@ use Rattle.pkcs1_c.specs.declared.private_key.OtherPrime.{OtherPrime}
 use Rattle.pkcs1_c.specs.declared.private_key.PrivateKey.{PrivateKey}
 use Rattle.pkcs1_c.specs.Words.{given_key, Miscounted, NumbersError, PartThen, Unwritten, given_numbers, HasPrivateNumbers, If, private_key}
 use Rattle.pkcs1_c.proofs.GivenKeys.{PrivateSpells, private_fits, private_has, private_law, private_valid}
-use Rattle.pkcs1_c.proofs.StructErrors.{IsOne, IsPart, numbers_part, part_one, unless_part, unwritten_one}
+use Rattle.pkcs1_c.proofs.StructErrors.{IsPart, numbers_part, unless_part}
 use Rattle.pkcs1_c.proofs.Writes.{error_behind, held_written, part_told, unwritten_so}
 use Rattle.pkcs1_c.proofs.private_key.pkcs1_c_private_key_encode.Goals as goal
 
@@ -21,11 +21,6 @@ module _ (key : PrivateKey) (others : List OtherPrime) where
   miscounted : IsPart (Miscounted key others)
   miscounted = unless_part 21 (key.other_primes ≡ length others) (omega arith) (λ e. omega (arith, e))
 
-  counted_one : (room : ℕ) → IsOne (Counted room)
-  counted_one room =
-      part_one Unheld (Rest room) (numbers_part (given_numbers key others)).0
-      (unwritten_one PrivateKeyEncoding (private_key key others) room)
-
 pub write_encoding-requires : goal.write_encoding-requires
 write_encoding-requires c =
     let key = c.args.key.now in
@@ -38,7 +33,7 @@ returns-then-key-others c =
     let others = c.args.others.now in
     let room = length c.args.out.now in
     let told =
-    part_told (Miscounted key others) (Counted key others room) (miscounted key others) (counted_one key others room)
+    part_told (Miscounted key others) (Counted key others room) (miscounted key others)
     (If (HasPrivateNumbers key others) PrivateKeyEncoding) (private_key key others) (λ bytes p s q. q.1 p.0.0)
     c.args.out.now c.args.len.now refl (refl, c.if-key-others.true) in
     record { writes = told.0; exact = told.1 }
@@ -70,7 +65,7 @@ returns-in-Err c =
     let room = length c.args.out.now in
     let told =
     part_told (Unheld key others) (Rest key others room) (numbers_part (given_numbers key others))
-    (unwritten_one PrivateKeyEncoding v room) (If (HasPrivateNumbers key others) PrivateKeyEncoding) v
+    (If (HasPrivateNumbers key others) PrivateKeyEncoding) v
     (λ bytes p. private_fits key others p.0 bytes p.1) c.args.out.now c.args.len.now c.status.ensures
     c.in-Err.ensures.err in record {
       writes = told.0;

@@ -1,7 +1,7 @@
+use Rattle.std.proofs.Common.{rules}
 use Rattle.pkcs1_c.specs.Words.{two_numbers}
 use Rattle.pkcs1_c.proofs.StructErrors.{held_none}
 use Rattle.pkcs1_c.proofs.public_key.from_c_key.Goals as goal
 
 pub returns-clause-held : goal.returns-clause-held
-returns-clause-held c =
-    held_none (two_numbers c.args.key.now) (c.in_ok-number.ensures.held, (c.in_ok-number-2.ensures.held, tt))
+returns-clause-held c = held_none (two_numbers c.args.key.now) (search rules)

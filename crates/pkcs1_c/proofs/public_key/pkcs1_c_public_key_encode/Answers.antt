@@ -2,7 +2,7 @@ use Rattle.std.proofs.Common.{length}
 use Rattle.standard.specs.Statement.{PublicKeyEncoding}
 use Rattle.pkcs1_c.specs.Words.{NumbersError, Unwritten, two_numbers, HasNumbers, If, public_key}
 use Rattle.pkcs1_c.proofs.GivenKeys.{PublicSpells, public_fits, public_has, public_law}
-use Rattle.pkcs1_c.proofs.StructErrors.{numbers_part, unwritten_one}
+use Rattle.pkcs1_c.proofs.StructErrors.{numbers_part}
 use Rattle.pkcs1_c.proofs.Writes.{error_behind, held_written, part_told, unwritten_so}
 use Rattle.pkcs1_c.proofs.public_key.pkcs1_c_public_key_encode.Goals as goal
 
@@ -32,6 +32,5 @@ returns-in-Err c =
     let numbers = two_numbers key in
     let told =
     part_told (NumbersError numbers) (Unwritten PublicKeyEncoding v room) (numbers_part numbers)
-    (unwritten_one PublicKeyEncoding v room) (If (HasNumbers key) PublicKeyEncoding) v
-    (λ bytes p. public_fits key p.0 bytes p.1) c.args.out.now c.args.len.now c.status.ensures c.in-Err.ensures.err in
+    (If (HasNumbers key) PublicKeyEncoding) v (λ bytes p. public_fits key p.0 bytes p.1) c.args.out.now c.args.len.now c.status.ensures c.in-Err.ensures.err in
     record { writes = told.0; exact = told.1 }

@@ -1,7 +1,7 @@
 use Rattle.std.proofs.Common.{ℕ, Ok, Err, length}
 use Rattle.der_core.proofs.Writing.{into_encodes, into_unwritten}
 use Rattle.der_core.specs.Words.{Spells}
-use Rattle.pkcs1_c.proofs.Writes.{needed_is, needed_kept, kind_unwritten, not_written, unwritten_is, written, written_well}
+use Rattle.pkcs1_c.proofs.Writes.{needed_is, needed_kept, kind_unwritten, not_written, unwritten_is, written}
 use Rattle.pkcs1_c.proofs.written.write_encoding.Goals as goal
 
 pub returns-in-Ok : goal.returns-in-Ok
@@ -12,12 +12,9 @@ returns-in-Ok g c =
     let Encoding = Spells t.valid t.printed t.means in
     let encodes =
     into_encodes t.shortest v c.args.out.now c.encode_into.new.out (Ok c.in-Ok.written) made.ok made.shortest tt tt
-    c.encode_into.auto.out in record {
-      writes = written Encoding v c.args.out.now c.encode_into.new.out c.args.len.now c.in-Ok.written encodes;
-      exact =
-          written_well Encoding v c.args.out.now c.encode_into.new.out c.args.len.now c.in-Ok.written encodes
-          c.encode_into.auto.out;
-    }
+    c.encode_into.auto.out in
+    let told = written Encoding v _ _ c.args.len.now c.in-Ok.written encodes c.encode_into.auto.out in
+    record { writes = told.0; exact = told.1 }
 
 pub returns-in-Err : goal.returns-in-Err
 returns-in-Err g c =

@@ -1,41 +1,25 @@
-use Rattle.std.proofs.Common.{◌≡◌, ◌∙◌, map, refl, Option, Some, None, option_map}
+use Rattle.std.proofs.Common.{◌≡◌, ◌∙◌, arith, map, rules, Option, option_map}
+use Rattle.std.proofs.lemmas.Grind.{common_steps}
 use Rattle.pkcs1.specs.Words.{other_stated}
-use Rattle.pkcs1_c.specs.Words.{given_primes, held_primes, NoStatus, status_of, NumberError, NumbersError, numbers_of_primes, numbers_of_key}
+use Rattle.pkcs1_c.specs.Words.{given_primes, held_primes, status_of, numbers_of_primes, numbers_of_key}
 use Rattle.pkcs1_c.specs.declared.given_primes.GivenPrimes.{GivenPrimes}
-use Rattle.pkcs1_c.specs.declared.private_key.PrivateKey.{PrivateKey}
 use Rattle.pkcs1_c.proofs.StructErrors.{held_none, none_both, numbers_behind}
 use Rattle.pkcs1_c.proofs.given_key.GivenKey.of.Goals as goal
 
--- The eight numbers were made.
-eight_held : (key : PrivateKey) → NoStatus (NumberError key.modulus.now)
-    → NoStatus (NumberError key.public_exponent.now) → NoStatus (NumberError key.private_exponent.now)
-    → NoStatus (NumberError key.prime1.now)
-    → NoStatus (NumberError key.prime2.now) → NoStatus (NumberError key.exponent1.now)
-    → NoStatus (NumberError key.exponent2.now) → NoStatus (NumberError key.coefficient.now)
-    → NoStatus (NumbersError (numbers_of_key key))
-eight_held key n e d p q x y z =
-    held_none (numbers_of_key key) (n, (e, (d, (p, (q, (x, (y, (z, tt))))))))
-
 pub returns-in-Err-clause-err : goal.returns-in-Err-clause-err
 returns-in-Err-clause-err c =
-    let eight = eight_held c.args.key.now c.in_ok-number.ensures.held c.in_ok-number-2.ensures.held
-    c.in_ok-number-3.ensures.held c.in_ok-number-4.ensures.held c.in_ok-number-5.ensures.held
-    c.in_ok-number-6.ensures.held c.in_ok-number-7.ensures.held c.in_ok-number-8.ensures.held in
-    numbers_behind (numbers_of_key c.args.key.now) (numbers_of_primes c.args.others.now) eight
-    (status_of c.in-Err.error) c.in-Err.ensures.err
+    numbers_behind (numbers_of_key c.args.key.now) (numbers_of_primes c.args.others.now)
+    (held_none (numbers_of_key c.args.key.now) (search rules)) (status_of c.in-Err.error) c.in-Err.ensures.err
 
 pub returns-clause-held : goal.returns-clause-held
 returns-clause-held c =
-    let eight = eight_held c.args.key.now c.in_ok-number.ensures.held c.in_ok-number-2.ensures.held
-    c.in_ok-number-3.ensures.held c.in_ok-number-4.ensures.held c.in_ok-number-5.ensures.held
-    c.in_ok-number-6.ensures.held c.in_ok-number-7.ensures.held c.in_ok-number-8.ensures.held in
-    none_both (numbers_of_key c.args.key.now) (numbers_of_primes c.args.others.now) eight c.in-Ok.ensures.held
+    none_both (numbers_of_key c.args.key.now) (numbers_of_primes c.args.others.now)
+    (held_none (numbers_of_key c.args.key.now) (search rules)) c.in-Ok.ensures.held
 
 others_stated : (o : Option GivenPrimes)
     → option_map (map other_stated) (option_map given_primes o)
     ≡ option_map held_primes o
-others_stated None = refl
-others_stated (Some given) = refl
+others_stated o = grind (arith, common_steps)
 
 pub returns-clause-ok : goal.returns-clause-ok
 returns-clause-ok c =

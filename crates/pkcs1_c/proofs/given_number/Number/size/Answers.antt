@@ -4,8 +4,7 @@ use Rattle.pkcs1_c.proofs.given_number.Number.size.Goals as goal
 
 counted : (bytes : List ℕ) (low : Bool)
     → length bytes + (if low then 0 else 1) ≡ length (if low then bytes else (0 ∷ bytes))
-counted bytes true = omega arith
-counted bytes false = omega arith
+counted bytes low = grind arith
 
 pub returns-clause-is : goal.returns-clause-is
 returns-clause-is c =

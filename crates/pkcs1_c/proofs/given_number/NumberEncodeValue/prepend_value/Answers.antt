@@ -19,8 +19,7 @@ prepend-requires-then-self-gt0 c =
 
 with_zero : (bytes : List ℕ) (count : ℕ) (low : Bool) → count ≡ (if low then 0 else 1) → 0 < count
     → (if low then bytes else (0 ∷ bytes)) ≡ 0 ∷ bytes
-with_zero bytes count true told some = absurd (omega (arith, told, some))
-with_zero bytes count false told some = refl
+with_zero bytes count low told some = grind arith
 
 pub returns-then-self-gt0 : goal.returns-then-self-gt0
 returns-then-self-gt0 c =

@@ -1,8 +1,7 @@
-use Rattle.std.proofs.Common.{◌<◌, add-one, ap, arith, length, subst}
-use Rattle.der_core.specs.Words.{nat_tests, Counts}
-use Rattle.pkcs1_c.specs.Words.{prime_encoded, status_of, NumbersError, numbers_of_primes}
+use Rattle.std.proofs.Common.{◌<◌, ap, arith, length, subst}
+use Rattle.der_core.specs.Words.{err_from_is_err_and, nat_tests, Counts}
+use Rattle.pkcs1_c.specs.Words.{prime_encoded}
 use Rattle.pkcs1_c.proofs.GivenKeys.{counted_more, given_some}
-use Rattle.pkcs1_c.proofs.Writes.{err_handed}
 use Rattle.pkcs1_c.proofs.StructErrors.{others_at, others_held_more}
 use Rattle.pkcs1_c.proofs.given_primes.GivenPrimes.of.Goals as goal
 
@@ -16,16 +15,15 @@ loop-other-preserved c =
           rw c.joined_len-len.ensures (counted_more c.args.others.now c.loop-other.other-index _ c.loop-other-test.true _ _
           c.loop-other.invariant.counted one);
       held =
-          rw add-one (others_held_more c.args.others.now c.loop-other.other-index _ c.loop-other-test.true
-          c.loop-other.invariant.held c.in_ok-info.ensures.held);
+          others_held_more c.args.others.now c.loop-other.other-index _ c.loop-other-test.true
+          c.loop-other.invariant.held c.in_ok-info.ensures.held;
     }
 
 pub returns-in_err-info-clause-err : goal.returns-in_err-info-clause-err
 returns-in_err-info-clause-err c =
-    err_handed (λ e. NumbersError (numbers_of_primes c.args.others.now) (status_of e)) c.in_err-info.field-0.0 _
-    c.from_residual.ensures.1
-    (others_at c.args.others.now c.loop-other.other-index _ (status_of c.in_err-info.field-0.0)
-    c.loop-other-test.true c.loop-other.invariant.held c.in_err-info.ensures.err)
+    let p = err_from_is_err_and c.from_residual.result c.from_residual.ensures.1 in
+    rw (p.1, p.2) (others_at c.args.others.now c.loop-other.other-index _ c.loop-other-test.true _
+    c.loop-other.invariant.held c.in_err-info.ensures.err)
 
 pub returns-clause-ok : goal.returns-clause-ok
 returns-clause-ok c =

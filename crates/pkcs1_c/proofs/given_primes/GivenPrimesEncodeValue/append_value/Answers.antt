@@ -3,7 +3,8 @@ use Rattle.der_core.specs.Words.{err_from_is_err_and, limit, all_encodings}
 use Rattle.der_core.proofs.Items.{encodings_around, encodings_more}
 use Rattle.der_core.proofs.Writing.{appends_behind, appends_in_front}
 use Rattle.pkcs1_c.specs.Words.{given_encoded}
-use Rattle.pkcs1_c.proofs.GivenKeys.{any_given, encoded_is, held_at, nothing}
+use Rattle.pkcs1_c.proofs.GivenKeys.{any_given, encoded_is, nothing}
+use Rattle.pkcs1_c.proofs.StructErrors.{held_at}
 use Rattle.pkcs1_c.proofs.given_primes.GivenPrimesEncodeValue.append_value.Goals as goal
 
 pub append_given-requires : goal.append_given-requires

@@ -1,7 +1,8 @@
 use Rattle.std.proofs.Common.{◌≡◌, ◌-◌, ◌∙◌, ap, arith, drop, length, subst}
 use Rattle.der_core.specs.Words.{Prepends, all_encodings}
 use Rattle.pkcs1_c.specs.Words.{given_encoded}
-use Rattle.pkcs1_c.proofs.GivenKeys.{behind_fits, encoded_is, held_at, length_counted, not_uncounted, nothing}
+use Rattle.pkcs1_c.proofs.GivenKeys.{behind_fits, encoded_is, length_counted, not_uncounted, nothing}
+use Rattle.pkcs1_c.proofs.StructErrors.{held_at}
 use Rattle.pkcs1_c.proofs.given_primes.GivenPrimesEncodeValue.prepend_value.Goals as goal
 
 pub returns-in_default : goal.returns-in_default
