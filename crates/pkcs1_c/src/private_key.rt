@@ -61,6 +61,7 @@ fn to_c_other_prime<'a>(info: &OtherPrimeInfo<UintRef<'a>>) -> OtherPrime<'a>
 }
 
 /// The C struct of a key.
+#[tactic(auto, using(crate::proofs::HeldKeys::octets_held))]
 #[inline(always)]
 pub(crate) fn to_c_key<'a>(view: &RsaPrivateKeyView<'a>) -> PrivateKey<'a>
     ensures { HoldsPrivate result (held_view view.now) }
