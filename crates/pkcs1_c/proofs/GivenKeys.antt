@@ -190,14 +190,8 @@ behind_fits others left d some few =
       encodings_behind_len (λ _. Unit {0}) given_encoded others (left - 1) d (omega (arith, some, few)),
     )
 
--- They are counted, within the limit.
-pub length_counted : (others : List OtherPrime) (len : Result ℕ Error) (n : ℕ) → AreCounted others len → len ≡ Ok n
-    → n ≡ length (all_encodings given_encoded others)
-length_counted others (Ok m) n counted is = let same : m ≡ n = cc in omega (arith, same, counted.1)
-length_counted others (Err e) n counted is = cc
-
-pub not_uncounted : (others : List OtherPrime) (len : Result ℕ Error) (e : Error) → AreCounted others len → len ≡ Err e
+-- They are counted, if they are within the limit.
+pub not_uncounted : (others : List OtherPrime) (e : Error) → AreCounted others (Err e)
     → length (all_encodings given_encoded others) ≤ limit → ⊥
-not_uncounted others (Ok n) e counted is fits = cc
-not_uncounted others (Err f) e counted is fits =
-    let many = (uncounted_as (all_encodings given_encoded others) f.kind tt counted).1 in omega (arith, fits, many)
+not_uncounted others e counted fits =
+    let many = (uncounted_as (all_encodings given_encoded others) e.kind tt counted).1 in omega (arith, fits, many)

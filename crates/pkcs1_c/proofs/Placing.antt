@@ -33,16 +33,6 @@ pub record Placing (primes : List OtherPrime) (left : Input) (others old : List 
   pub placed : take i (map numbers_of_prime others) ++ map octets_of_prime behind ≡ map octets_of_prime primes
   pub kept : drop i others ≡ drop i old
 
-pub none_placed : (primes : List OtherPrime) (listed : List ℕ) (left : Input) (others : List struct.OtherPrime)
-    → left ≡ Some listed → length listed ≤ limit → listed ≡ primes_encoded primes → Placing primes left others others 0
-none_placed primes listed left others is few whole = record {
-  behind = primes;
-  few = omega (arith, few, ap length whole);
-  reads = is ∙ ap (λ l. Some l) whole;
-  placed = refl;
-  kept = refl;
-}
-
 -- What the reader finds of the primes that are left.
 found : (o : OtherPrime) (others : List OtherPrime) → length (primes_encoded (o ∷ others)) ≤ limit
     → next_prime (primes_encoded (o ∷ others)) ≡ Ok (other_from o, primes_encoded others)

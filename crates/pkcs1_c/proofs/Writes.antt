@@ -1,9 +1,9 @@
 -- What is so of all calls that write: the front, the reason, the code of an error, the needed length.
-use Rattle.std.proofs.Common.{ℕ, zero, suc, List, ◌≡◌, ◌≢◌, ◌<◌, ◌∙◌, length, take, refl, sym, subst, arith, rules, inl, inr, Some, length-take-le, ◌↔◌, Result, Ok, Err, IfErr, IsErrAnd, ◌≤◌, ap}
+use Rattle.std.proofs.Common.{ℕ, zero, suc, List, ◌≡◌, ◌≢◌, ◌<◌, ◌∙◌, ◌⊎◌, length, take, refl, sym, subst, arith, rules, inl, inr, Some, length-take-le, ◌↔◌, Result, Ok, Err, IfErr, IsErrAnd, ◌≤◌, ap}
 use Rattle.standard.specs.Statement.{Decodes, Encodes}
 use Rattle.pkcs1_c.specs.Words.{IsErrorOf, NoStatus, FieldsError, PartThen, Unwritten, If, IsLength, WritesOrTells, kind_number, status_of, IsErrorNumber, IsStatusOf}
 use Rattle.pkcs1_c.proofs.StructErrors.{IsOne, IsPart, fits_written, unwritten_one}
-use Rattle.der_core.specs.Words.{TellsOfBytes, encode_error, shortest_is, limit, Spells, WritesShortest}
+use Rattle.der_core.specs.Words.{EncodeError, TellsOfBytes, another, encode_error, no_encoding, no_room, shortest_is, too_long, limit, Spells, WritesShortest}
 use Rattle.der_core.specs.Writing as writing
 use Rattle.der_core.specs.declared.error.ErrorKind.{ErrorKind}
 use Rattle.der_core.specs.declared.error.ErrorKind.TheVariants as kind
@@ -94,23 +94,7 @@ fields_told Part Encoding v part fits old =
 
 -- An error that tells of bytes has a number, below that of lack of room.
 tells_below : (e : ErrorKind) → TellsOfBytes e → (0 < kind_number e) × (kind_number e < 15)
-tells_below kind.Failed t = (omega arith, omega arith)
-tells_below kind.Incomplete t = (omega arith, omega arith)
-tells_below kind.IndefiniteLength t = (omega arith, omega arith)
-tells_below (kind.Length tag) t = (omega arith, omega arith)
-tells_below (kind.Noncanonical tag) t = (omega arith, omega arith)
-tells_below kind.OidMalformed t = (omega arith, omega arith)
-tells_below kind.OidUnknown t = (omega arith, omega arith)
-tells_below kind.Overflow t = (omega arith, omega arith)
-tells_below kind.Overlength t = (omega arith, omega arith)
-tells_below kind.ParametersMissing t = (omega arith, omega arith)
-tells_below (kind.TagUnexpected expected actual) t = (omega arith, omega arith)
-tells_below (kind.TagUnknown octet) t = (omega arith, omega arith)
-tells_below kind.TrailingData t = (omega arith, omega arith)
-tells_below (kind.Value tag) t = (omega arith, omega arith)
-tells_below kind.NoRoom t = absurd (t.2 refl)
-tells_below kind.File t = absurd (t.1 refl)
-tells_below kind.OutOfMemory t = absurd (t.0 refl)
+tells_below e t = grind arith
 
 -- What is known of an error, of its number.
 module _ {V : Type 0} (given : Result V ErrorKind) (tells : (k : ErrorKind) → given ≡ Err k → TellsOfBytes k) where
@@ -129,25 +113,17 @@ module _ {V : Type 0} (given : Result V ErrorKind) (tells : (k : ErrorKind) → 
 
 -- What an error of writing says of a value that may be encoded.
 module _ {V : Type 0} (Is : V → Type 0) (Encoding : V → List ℕ → Type 0) (v : V) (room : ℕ) (ok : Is v) where
+  error_unwritten : (e : EncodeError) → writing.Unwritten Is Encoding v room e
+      → ((e ≡ too_long) × ((bytes : List ℕ) → Encoding v bytes → ⊥))
+      ⊎ ((e ≡ no_room) × (n : ℕ) × IsLength Encoding v n × (room < n))
+  error_unwritten no_encoding p = absurd (p ok)
+  error_unwritten too_long p = inl (refl, p.1)
+  error_unwritten no_room p = inr (refl, length p.0, (p.0, p.1, refl), p.2)
+  error_unwritten another p = absurd p
+
   pub kind_unwritten : (k : ErrorKind) → writing.Unwritten Is Encoding v room (encode_error k)
       → Unwritten Encoding v room (kind_number k)
-  kind_unwritten (kind.Value tag) p = absurd (p ok)
-  kind_unwritten kind.Overflow p = inl (refl, p.1)
-  kind_unwritten kind.NoRoom p = inr (refl, length p.0, (p.0, p.1, refl), p.2)
-  kind_unwritten kind.Failed p = absurd p
-  kind_unwritten kind.Incomplete p = absurd p
-  kind_unwritten kind.IndefiniteLength p = absurd p
-  kind_unwritten (kind.Length tag) p = absurd p
-  kind_unwritten (kind.Noncanonical tag) p = absurd p
-  kind_unwritten kind.OidMalformed p = absurd p
-  kind_unwritten kind.OidUnknown p = absurd p
-  kind_unwritten kind.Overlength p = absurd p
-  kind_unwritten kind.ParametersMissing p = absurd p
-  kind_unwritten (kind.TagUnexpected expected actual) p = absurd p
-  kind_unwritten (kind.TagUnknown octet) p = absurd p
-  kind_unwritten kind.TrailingData p = absurd p
-  kind_unwritten kind.File p = absurd p
-  kind_unwritten kind.OutOfMemory p = absurd p
+  kind_unwritten k p = let why = error_unwritten (encode_error k) p in grind arith
 
   pub status_unwritten : (e : Error) → Refuses Is Encoding v room e → Unwritten Encoding v room (status_of e)
   status_unwritten (error.Asn1 e) p = kind_unwritten e.kind p
@@ -169,10 +145,7 @@ module _ {S V : Type 0} {valid : S → Type 0} {printed : S → List ℕ} {means
   within : (bytes : List ℕ) → Spells valid printed means v bytes → Needed ≤ length bytes
   within bytes (few, (s, e, known, is)) =
       let same = ap (λ u. length (printed (written u))) e in
-      elim (law.least s known (omega (arith, few, ap length is))) [
-        | inl f ↦ omega (arith, same, ap (λ t. length (printed t)) f, ap length is)
-        | inr l ↦ omega (arith, same, l, ap length is)
-      ]
+      let least = law.least s known (omega (arith, few, ap length is)) in grind arith
 
   pub needed_is : {m : ℕ} → (valid (written v) → Needed ≤ limit → m ≡ Needed) → (n : ℕ)
       → IsLength (Spells valid printed means) v n → m ≡ n
@@ -180,10 +153,7 @@ module _ {S V : Type 0} {valid : S → Type 0} {printed : S → List ℕ} {means
       let less = within bytes short.0 in
       let few : Needed ≤ limit = omega (arith, less, short.0.0) in
       let t = told ok few in
-      elim (short.1 (printed (written v)) (shortest_is law v ok few).0) [
-        | inl same ↦ omega (arith, t, is, ap length same)
-        | inr more ↦ omega (arith, less, more)
-      ]
+      let least = short.1 (printed (written v)) (shortest_is law v ok few).0 in grind arith
 
   pub needed_kept : {m l : ℕ} → (limit < Needed → m ≡ l) → ((bytes : List ℕ) → Spells valid printed means v bytes → ⊥)
       → m ≡ l

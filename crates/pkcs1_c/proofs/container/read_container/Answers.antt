@@ -1,4 +1,4 @@
-use Rattle.std.proofs.Common.{ap, subst, None, Ok, Err}
+use Rattle.std.proofs.Common.{rules, ap, subst, None, Ok, Err}
 use Rattle.der_core.specs.Words.{err_from_is_err_and, ◌>>=◌}
 use Rattle.pkcs1.specs.Words.{held_view}
 use Rattle.pkcs1.specs.declared.view.RsaPrivateKeyView.{RsaPrivateKeyView}
@@ -9,7 +9,7 @@ use Rattle.pkcs1_c.proofs.container.read_container.Goals as goal
 
 pub returns-in_err-info-clause-err : goal.returns-in_err-info-clause-err
 returns-in_err-info-clause-err c =
-    on_err (Decodes ContainedKeyEncoding c.args.encoding.now None) _ (λ key p. c.in_err-info.ensures.read p.0 p.1)
+    search rules
 
 pub returns-in_err-view-clause-err : goal.returns-in_err-view-clause-err
 returns-in_err-view-clause-err c =

@@ -1,12 +1,18 @@
-use Rattle.std.proofs.Common.{arith, inl}
+use Rattle.std.proofs.Common.{arith, inl, refl}
 use Rattle.der_core.proofs.ReadSteps.{front_errs}
 use Rattle.der_core.specs.Words.{bytes_of}
 use Rattle.pkcs1.specs.Words.{number_in, next_prime, other_of}
-use Rattle.pkcs1_c.proofs.Placing.{all_placed, none_placed, one_placed, stopped}
+use Rattle.pkcs1_c.proofs.Placing.{all_placed, one_placed, stopped}
 use Rattle.pkcs1_c.proofs.private_key.pkcs1_c_other_primes.Goals as goal
 
 pub loop-i-init : goal.loop-i-init
-loop-i-init c = λ primes few whole. none_placed primes c.args.listed.now _ c.args.others.now c.in-Ok.ensures.ok few whole
+loop-i-init c = λ primes few whole. record {
+  behind = primes;
+  few = rw whole at few;
+  reads = rw whole at c.in-Ok.ensures.ok;
+  placed = refl;
+  kept = refl;
+}
 
 pub loop-i-preserved : goal.loop-i-preserved
 loop-i-preserved c = λ primes few whole.

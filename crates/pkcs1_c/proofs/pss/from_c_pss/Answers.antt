@@ -1,5 +1,4 @@
-use Rattle.std.proofs.Common.{ap, inl, inr}
-use Rattle.der_core.specs.Words.{err_from_is_err_and}
+use Rattle.std.proofs.Common.{ap, inr, rules}
 use Rattle.pkcs1_c.specs.Words.{kind_number}
 use Rattle.pkcs1_c.proofs.HeldParameters.{plain_none, mask_none}
 use Rattle.pkcs1_c.proofs.pss.from_c_pss.Goals as goal
@@ -7,8 +6,7 @@ use Rattle.pkcs1_c.proofs.pss.from_c_pss.Goals as goal
 pub returns-in_err-mask_gen-clause-err : goal.returns-in_err-mask_gen-clause-err
 returns-in_err-mask_gen-clause-err c =
     let hash = plain_none c.in_ok-hash.hash _ c.in_ok-hash.ensures.ok in
-    let p = err_from_is_err_and c.from_residual-in_err-mask_gen.result c.from_residual-in_err-mask_gen.ensures.1 in
-    rw (p.1, p.2) (inr (hash, inl c.in_err-mask_gen.ensures.err))
+    search rules
 
 pub returns-then-params-ne1-clause-err : goal.returns-then-params-ne1-clause-err
 returns-then-params-ne1-clause-err c =

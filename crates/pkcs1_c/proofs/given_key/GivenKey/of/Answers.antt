@@ -16,22 +16,5 @@ returns-clause-held c =
     none_both (numbers_of_key c.args.key.now) (numbers_of_primes c.args.others.now)
     (held_none (numbers_of_key c.args.key.now) (search rules)) c.in-Ok.ensures.held
 
-others_stated : (o : Option GivenPrimes)
-    → option_map (map other_stated) (option_map given_primes o)
-    ≡ option_map held_primes o
-others_stated o = grind (arith, common_steps)
-
 pub returns-clause-ok : goal.returns-clause-ok
-returns-clause-ok c =
-    let others = others_stated c.in-Ok.others ∙ c.in-Ok.ensures.ok in
-    λ i. record {
-      modulus = c.in_ok-number.ensures.ok i;
-      public_exponent = c.in_ok-number-2.ensures.ok i;
-      private_exponent = c.in_ok-number-3.ensures.ok i;
-      prime1 = c.in_ok-number-4.ensures.ok i;
-      prime2 = c.in_ok-number-5.ensures.ok i;
-      exponent1 = c.in_ok-number-6.ensures.ok i;
-      exponent2 = c.in_ok-number-7.ensures.ok i;
-      coefficient = c.in_ok-number-8.ensures.ok i;
-      other_primes = others i;
-    }
+returns-clause-ok c = grind (arith, common_steps)

@@ -1,7 +1,7 @@
 use Rattle.std.proofs.Common.{◌≡◌, ◌-◌, ◌∙◌, ap, arith, drop, length, subst}
 use Rattle.der_core.specs.Words.{Prepends, all_encodings}
 use Rattle.pkcs1_c.specs.Words.{given_encoded}
-use Rattle.pkcs1_c.proofs.GivenKeys.{behind_fits, encoded_is, length_counted, not_uncounted, nothing}
+use Rattle.pkcs1_c.proofs.GivenKeys.{behind_fits, encoded_is, not_uncounted, nothing}
 use Rattle.pkcs1_c.proofs.StructErrors.{held_at}
 use Rattle.pkcs1_c.proofs.given_primes.GivenPrimesEncodeValue.prepend_value.Goals as goal
 
@@ -9,21 +9,21 @@ pub returns-in_default : goal.returns-in_default
 returns-in_default c =
     let given = c.args.self.now in
     let is = encoded_is given.others.now in
-    absurd (not_uncounted given.others.now given.len c.in_default.field-0 given.counted c.in_default.is
+    absurd (not_uncounted given.others.now c.in_default.field-0 (rw c.in_default.is at given.counted)
     (omega (arith, c.requires.fits, ap length is)))
 
 pub overflow_sub-least : goal.overflow_sub-least
 overflow_sub-least c =
     let given = c.args.self.now in
     let is = encoded_is given.others.now in
-    let counted = length_counted given.others.now given.len c.in-Ok.length given.counted c.in-Ok.is in
+    let counted = rw c.in-Ok.is at given.counted in
     omega (arith, c.requires.room, ap length is, counted, c.to_usize.ensures.value, c.free.ensures)
 
 pub prepend_given-requires : goal.prepend_given-requires
 prepend_given-requires c =
     let given = c.args.self.now in
     let is = encoded_is given.others.now in
-    let counted = length_counted given.others.now given.len c.in-Ok.length given.counted c.in-Ok.is in
+    let counted = rw c.in-Ok.is at given.counted in
     let few = c.loop-left.invariant.0 in
     let behind = behind_fits given.others.now c.loop-left.left nothing c.loop-left-test.true few in record {
       held =
