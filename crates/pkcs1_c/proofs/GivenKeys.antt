@@ -1,6 +1,7 @@
 -- Keys and other primes that the caller passes: their numbers, their encodings, their length.
-use Rattle.std.proofs.Common.{ℕ, List, [], ◌∷◌, ◌++◌, ◌≡◌, ◌≤◌, ◌∙◌, length, length-append, map, subst, sym, ap, arith, Bool, true, false, nat_lt, ◌↔◌, slice_index, if◌then◌else◌, zero, suc, ◌+◌, ◌-◌, ◌<◌, take, drop, get_or, refl, Some, Result, Ok, Err}
+use Rattle.std.proofs.Common.{ℕ, List, [], ◌∷◌, ◌++◌, ◌≡◌, ◌≤◌, ◌∙◌, length, length-append, map, subst, sym, ap, arith, rules, Bool, true, false, nat_lt, ◌↔◌, slice_index, if◌then◌else◌, zero, suc, ◌+◌, ◌-◌, ◌<◌, take, drop, get_or, refl, Some, Result, Ok, Err}
 use Rattle.std.specs.List.{AllByRecursion, concat}
+use Rattle.std.proofs.lemmas.Grind.{common_steps}
 use Rattle.der_core.specs.Words.{tlv_fit, limit, Spells, all_encodings, Counts, joined}
 use Rattle.pkcs1.proofs.KeysWritten.{private_is_valid}
 use Rattle.pkcs1.specs.Words.{IsPrivateKey, held_public_key, number_in, public_encoding, public_spelled, private_encoding, private_itself, private_spelled, private_stated, private_as, public_as, AnyNumber, PrivateIsValid, PublicIsValid, public_key_with, OtherIsValid, primes_printed, other_from, other_stated}
@@ -129,8 +130,7 @@ private_law key others made same bytes =
     (λ p. spelled.0 (itself.0 p), λ p. itself.1 (spelled.1 p))
 
 is_private : (key : PrivateKey) (others : List OtherPrime) → IsPrivateKey (private_key key others)
-is_private key [] = tt
-is_private key (o ∷ others) = omega arith
+is_private key others = search rules
 
 pub private_valid : (key : PrivateKey) (others : List OtherPrime) (made : keys.PrivateKey ℕ)
     → private_stated made ≡ private_key key others → PrivateIsValid AnyNumber made
@@ -159,8 +159,7 @@ given_stated (o ∷ others) = ap (λ rest. other_prime o ∷ rest) (given_stated
 
 pub given_some : (others : List OtherPrime) → 0 < length others
     → Some (map other_stated (map (λ o. other_from (other_prime o)) others)) ≡ other_primes others
-given_some [] some = absurd (omega (arith, some))
-given_some (o ∷ others) some = ap (λ l. Some l) (given_stated (o ∷ others))
+given_some others some = grind (arith, common_steps, given_stated)
 
 -- One more is counted.
 pub counted_more : (others : List OtherPrime) (i : ℕ) (d : OtherPrime) → i < length others → (a b : Result ℕ Error)

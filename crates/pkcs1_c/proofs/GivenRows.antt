@@ -18,8 +18,7 @@ itself : {V : Type 0} (o : Option V) → option_map (λ v. v) o ≡ o
 itself o = grind (arith, common_steps)
 
 version_given : (o : Option GivenPrimes) → version_held o ≡ version_of (option_map given_primes o)
-version_given None = refl
-version_given (Some given) = refl
+version_given o = grind (arith, common_steps)
 
 given_some : (o : Option GivenPrimes) → AreSome (option_map given_primes o)
 given_some None = tt

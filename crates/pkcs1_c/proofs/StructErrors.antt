@@ -50,7 +50,7 @@ module _ (WhyNot Rest : ℕ → Type 0) where
 
 -- Numbers.
 pub number_rejected : (bytes : List ℕ) (k : ErrorKind) → WhyNoNumber bytes k → NumberError bytes (kind_number k)
-number_rejected bytes k (inl p) = inl (ap kind_number p.1, p.0)
+number_rejected bytes k (inl p) = search rules
 number_rejected [] k (inr p) = absurd (omega (arith, p.0 (0 ∷ []) (inl refl) refl))
 number_rejected (b ∷ bytes) k (inr p) =
     let n = number (b ∷ bytes) in

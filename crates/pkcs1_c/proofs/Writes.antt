@@ -72,11 +72,6 @@ error_first : (Part Rest : ℕ → Type 0) (s : ℕ) → IsPart Part → Part s 
 error_first Part Rest zero part p = absurd (omega (arith, part.1 zero p))
 error_first Part Rest (suc n) part p = search rules
 
--- Nothing is written.
-pub refused : {V : Type 0} (Encoding : V → List ℕ → Type 0) (v : V) (old : List ℕ) (l s : ℕ) → (0 < s) × (s ≢ 15)
-    → ((bytes : List ℕ) → Encoding v bytes → ⊥) → WritesOrTells Encoding v old old l l s
-refused Encoding v old l s told none = search rules
-
 -- A call whose status is that of a part that can't be held. What has the encoding that is asked for has such parts.
 pub part_told : (Part Rest : ℕ → Type 0) → IsPart Part → {V : Type 0} (Asked : V → List ℕ → Type 0) (v : V)
     → ((bytes : List ℕ) → Asked v bytes → NoStatus Part) → (old : List ℕ) (l : ℕ) {s t : ℕ} → s ≡ t → Part t

@@ -1,4 +1,4 @@
-use Rattle.std.proofs.Common.{◌≡◌, ◌∙◌, ◌⊎◌, ℕ, List, [], ◌∷◌, length, Bool, nat_eq, true, false, refl, sym, arith, inl, inr, Decides}
+use Rattle.std.proofs.Common.{◌≡◌, ◌⊎◌, ℕ, List, [], length, Bool, nat_eq, true, false, refl, arith, inl, inr, Decides}
 use Rattle.std.proofs.lemmas.Bool.Decides.{Decides-at}
 use Rattle.std.proofs.lemmas.Grind.{common_steps}
 use Rattle.der_core.specs.Words.{nat_tests}
@@ -21,20 +21,8 @@ no_octets xs e = grind (arith, common_steps)
 
 pub returns-then-is_null : goal.returns-then-is_null
 returns-then-is_null c =
-    hash_is c.args.algorithm.now c.args.oid.now c.eq.result (Decides-at _ _ c.eq.ensures (bytes_eq-Decides _ _))
-    (elim c.if-not-algorithm.branch [
-      | then-not-algorithm w ↦ inl w.if-not-algorithm.true
-      | else-not-algorithm w ↦ elim c.if-algorithm-octet.branch [
-        | then-algorithm-octet v ↦ inr (
-          w.if-not-algorithm.false,
-          v.if-algorithm-octet.true
-              ∙ c.octet.ensures,
-          no_octets _
-              (sym v.is_empty-is_null.ensures ∙ sym v.is_null-is ∙ sym w.value-is ∙ c.if-is_null.true),
-        )
-        | else-algorithm-octet v ↦
-            let null : c.args.algorithm.now.tag ≡ c.octet.result =
-            grind (arith, nat_tests, sym v.is_null-is ∙ sym w.value-is ∙ c.if-is_null.true) in
-            absurd (v.if-algorithm-octet.false null)
-      ]
-    ])
+    let a = c.args.algorithm.now in
+    let none = no_octets a.parameters.now in
+    let why : (a.has_parameters ≡ false) ⊎ ((a.has_parameters ≡ true) × (a.tag ≡ 5) × (a.parameters.now ≡ [])) =
+    grind (arith, nat_tests) in
+    hash_is a c.args.oid.now c.eq.result (Decides-at _ _ c.eq.ensures (bytes_eq-Decides _ _)) why

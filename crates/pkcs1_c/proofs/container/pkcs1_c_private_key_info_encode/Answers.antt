@@ -1,11 +1,11 @@
-use Rattle.std.proofs.Common.{length, arith, inl, inr}
+use Rattle.std.proofs.Common.{length, arith, rules, inl, inr}
 use Rattle.pkcs1.proofs.KeyReads.{private_tells}
 use Rattle.pkcs1.specs.Words.{rsa_private_key}
 use Rattle.pkcs8_core.specs.Words.{container_spells}
 use Rattle.standard.specs.Statement.{ContainerEncoding}
 use Rattle.pkcs1_c.specs.Words.{InfoError, Unwritten, HasKey, If, private_key_info}
 use Rattle.pkcs1_c.proofs.Containers.{ContainerSpells, error_none, info_one, info_rest}
-use Rattle.pkcs1_c.proofs.Writes.{status_known, error_as, held_written, is_error, refused, unwritten_so}
+use Rattle.pkcs1_c.proofs.Writes.{status_known, error_as, held_written, is_error, unwritten_so}
 use Rattle.pkcs1_c.proofs.container.pkcs1_c_private_key_info_encode.Goals as goal
 
 pub write_encoding-requires : goal.write_encoding-requires
@@ -35,8 +35,6 @@ returns-in-Err c =
     let room = length c.args.out.now in
     let e = status_known (rsa_private_key octets) (private_tells octets) c.in-Err.failure c.in-Err.ensures.exact in
     let is = c.status.ensures in record {
-      writes =
-          refused (If (HasKey info) ContainerEncoding) (private_key_info info) c.args.out.now c.args.len.now _
-          (omega (arith, is, e.0.0), λ full. omega (arith, is, full, e.0.1)) (λ bytes p. error_none info _ e.1 p.0);
+      writes = let none = error_none info _ e.1 in search rules;
       exact = is_error (InfoError info room) _ (info_one info room) (omega (arith, is, e.0.0)) (rw is (inl e.1));
     }

@@ -1,11 +1,11 @@
-use Rattle.std.proofs.Common.{ℕ, List, [], ◌∷◌, ◌++◌, ◌≡◌, ◌∙◌, ◌+◌, ◌≤◌, ◌<◌, ◌⊎◌, ap, length, length-append, arith, Result, Ok, Err, inl, inr, IfErr, IfOk}
+use Rattle.std.proofs.Common.{ℕ, List, [], ◌∷◌, ◌≡◌, ◌∙◌, ◌+◌, ◌≤◌, ◌<◌, ◌⊎◌, ap, length, length-append, arith, Result, Ok, Err, inl, inr, IfErr, IfOk}
 use Rattle.std.proofs.lemmas.Bool.{cases_lt}
 use Rattle.der_core.specs.Words.{length_octets, limit, tlv_len, number_contents, Counts}
 use Rattle.der_core.specs.declared.error.Error.{Error}
 use Rattle.der_core.specs.declared.error.ErrorKind.TheVariants.{Overflow}
 use Rattle.pkcs1.specs.Words.{held_other_prime}
 use Rattle.pkcs1_c.specs.Words.{number_of, prime_encoded}
-use Rattle.standard.specs.Statement.{OtherPrime, integer, integers, tlv}
+use Rattle.standard.specs.Statement.{OtherPrime, integers, tlv}
 use Rattle.pkcs1_c.proofs.given_primes.length_of.Goals as goal
 
 tagged : (tag : ℕ) (c : List ℕ) → length (tlv tag c) ≡ tlv_len (length c)

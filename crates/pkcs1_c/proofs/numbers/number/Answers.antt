@@ -1,13 +1,12 @@
-use Rattle.std.proofs.Common.{ap, ◌∙◌, length, sym, arith}
-use Rattle.der_core.specs.Words.{err_from_is_err_and, number_octets, bytes_of}
+use Rattle.std.proofs.Common.{ap, ◌∙◌, length, sym, arith, rules}
+use Rattle.der_core.specs.Words.{number_octets, bytes_of}
 use Rattle.standard.specs.Statement.{octets}
 use Rattle.pkcs1_c.proofs.StructErrors.{number_none, number_rejected}
 use Rattle.pkcs1_c.proofs.numbers.number.Goals as goal
 
 pub returns-in_err-new-clause-err : goal.returns-in_err-new-clause-err
 returns-in_err-new-clause-err c =
-    let p = err_from_is_err_and c.from_residual.result c.from_residual.ensures.1 in
-    rw (p.1, p.2) (number_rejected c.args.bytes.now _ c.in_err-new.ensures.err)
+    let rejected = number_rejected c.args.bytes.now _ c.in_err-new.ensures.err in search rules
 
 pub returns-clause-held : goal.returns-clause-held
 returns-clause-held c =

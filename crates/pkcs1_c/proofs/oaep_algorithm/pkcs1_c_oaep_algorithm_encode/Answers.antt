@@ -1,6 +1,6 @@
-use Rattle.std.proofs.Common.{length}
+use Rattle.std.proofs.Common.{rules}
 use Rattle.standard.specs.Statement.{OaepAlgorithmEncoding}
-use Rattle.pkcs1_c.specs.Words.{OaepFieldError, Unwritten, oaep_seen}
+use Rattle.pkcs1_c.specs.Words.{OaepFieldError, oaep_seen}
 use Rattle.pkcs1_c.proofs.Fits.{oaep_fits}
 use Rattle.pkcs1_c.proofs.HeldParameters.{oaep_none}
 use Rattle.pkcs1_c.proofs.StructErrors.{oaep_part}
@@ -9,14 +9,10 @@ use Rattle.pkcs1_c.proofs.oaep_algorithm.pkcs1_c_oaep_algorithm_encode.Goals as 
 
 pub returns-in-Ok : goal.returns-in-Ok
 returns-in-Ok c =
-    let v = oaep_seen c.args.params.now in
     let is = c.in-Ok.ensures.ok in
-    let told = c.write_algorithm.ensures in record {
-      writes = rw is at told.writes;
-      exact =
-          error_behind (OaepFieldError v) (Unwritten OaepAlgorithmEncoding v (length c.args.out.now)) _
-          (oaep_none c.in-Ok.made _ is) (rw is at told.exact);
-    }
+    let none = oaep_none c.in-Ok.made _ is in
+    let rest = rw is at c.write_algorithm.ensures.exact in
+    record { writes = rw is at c.write_algorithm.ensures.writes; exact = search (rules, error_behind) }
 
 pub returns-in-Err : goal.returns-in-Err
 returns-in-Err c =

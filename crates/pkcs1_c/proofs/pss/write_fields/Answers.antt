@@ -1,6 +1,6 @@
-use Rattle.std.proofs.Common.{length}
+use Rattle.std.proofs.Common.{rules}
 use Rattle.standard.specs.Statement.{PssEncoding}
-use Rattle.pkcs1_c.specs.Words.{PssFieldError, Unwritten, pss_seen}
+use Rattle.pkcs1_c.specs.Words.{PssFieldError, pss_seen}
 use Rattle.pkcs1_c.proofs.Fits.{pss_fits}
 use Rattle.pkcs1_c.proofs.HeldParameters.{pss_none}
 use Rattle.pkcs1_c.proofs.StructErrors.{pss_part}
@@ -9,14 +9,10 @@ use Rattle.pkcs1_c.proofs.pss.write_fields.Goals as goal
 
 pub returns-in-Ok : goal.returns-in-Ok
 returns-in-Ok c =
-    let v = pss_seen c.args.params.now in
     let is = c.in-Ok.ensures.ok in
-    let told = c.write_params.ensures in record {
-      writes = rw is at told.writes;
-      exact =
-          error_behind (PssFieldError v) (Unwritten PssEncoding v (length c.args.out.now)) _
-          (pss_none c.in-Ok.made _ is) (rw is at told.exact);
-    }
+    let none = pss_none c.in-Ok.made _ is in
+    let rest = rw is at c.write_params.ensures.exact in
+    record { writes = rw is at c.write_params.ensures.writes; exact = search (rules, error_behind) }
 
 pub returns-in-Err : goal.returns-in-Err
 returns-in-Err c =

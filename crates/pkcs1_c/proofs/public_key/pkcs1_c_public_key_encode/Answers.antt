@@ -1,4 +1,4 @@
-use Rattle.std.proofs.Common.{length}
+use Rattle.std.proofs.Common.{length, rules}
 use Rattle.standard.specs.Statement.{PublicKeyEncoding}
 use Rattle.pkcs1_c.specs.Words.{NumbersError, Unwritten, two_numbers, HasNumbers, If, public_key}
 use Rattle.pkcs1_c.proofs.GivenKeys.{PublicSpells, public_fits, public_has, public_law}
@@ -20,8 +20,8 @@ returns-in-Ok c =
       writes =
           held_written PublicKeyEncoding v PublicSpells _ law (HasNumbers key) (public_has key held) told.writes;
       exact =
-          error_behind (NumbersError (two_numbers key)) (Unwritten PublicKeyEncoding v room) _ held
-          (unwritten_so PublicKeyEncoding v PublicSpells _ law room _ told.exact);
+          let rest = unwritten_so PublicKeyEncoding v PublicSpells _ law room _ told.exact in
+          search (rules, error_behind);
     }
 
 pub returns-in-Err : goal.returns-in-Err

@@ -1,8 +1,6 @@
-use Rattle.std.proofs.Common.{◌≡◌, ◌∙◌, arith, map, rules, Option, option_map}
+use Rattle.std.proofs.Common.{arith, rules}
 use Rattle.std.proofs.lemmas.Grind.{common_steps}
-use Rattle.pkcs1.specs.Words.{other_stated}
-use Rattle.pkcs1_c.specs.Words.{given_primes, held_primes, status_of, numbers_of_primes, numbers_of_key}
-use Rattle.pkcs1_c.specs.declared.given_primes.GivenPrimes.{GivenPrimes}
+use Rattle.pkcs1_c.specs.Words.{status_of, numbers_of_primes, numbers_of_key}
 use Rattle.pkcs1_c.proofs.StructErrors.{held_none, none_both, numbers_behind}
 use Rattle.pkcs1_c.proofs.given_key.GivenKey.of.Goals as goal
 

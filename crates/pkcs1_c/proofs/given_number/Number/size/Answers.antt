@@ -1,4 +1,4 @@
-use Rattle.std.proofs.Common.{ℕ, List, ◌∷◌, ◌+◌, ◌≡◌, ◌∙◌, ap, length, arith, Bool, true, false, nat_lt, sym, slice_index, if◌then◌else◌}
+use Rattle.std.proofs.Common.{ℕ, List, ◌∷◌, ◌+◌, ◌≡◌, ◌∙◌, ap, length, arith, Bool, nat_lt, sym, slice_index, if◌then◌else◌}
 use Rattle.der_core.specs.Words.{holds_canonical, contents_as}
 use Rattle.pkcs1_c.proofs.given_number.Number.size.Goals as goal
 

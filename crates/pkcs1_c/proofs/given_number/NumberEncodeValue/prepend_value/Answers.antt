@@ -1,4 +1,4 @@
-use Rattle.std.proofs.Common.{ℕ, List, ◌∷◌, ◌≡◌, ◌<◌, ◌≤◌, ◌∙◌, length, refl, sym, subst, arith, rules, Bool, true, false, nat_lt, slice_index, if◌then◌else◌}
+use Rattle.std.proofs.Common.{ℕ, List, ◌∷◌, ◌≡◌, ◌<◌, ◌≤◌, ◌∙◌, length, sym, subst, arith, rules, Bool, nat_lt, slice_index, if◌then◌else◌}
 use Rattle.std.proofs.lemmas.Grind.{common_steps}
 use Rattle.der_core.specs.Words.{Prepends, free_of, integer_contents, holds_canonical, contents_as}
 use Rattle.pkcs1_c.proofs.given_number.NumberEncodeValue.prepend_value.Goals as goal
@@ -35,5 +35,4 @@ pub returns-else-self-gt0 : goal.returns-else-self-gt0
 returns-else-self-gt0 c =
     let bytes = c.args.self.now.bytes.now in
     let is = contents_as bytes (holds_canonical bytes c.args.self.now.canonical) in
-    let told : Prepends (integer_contents bytes) c.args.writer.now c.prepend.new.self = search rules in
-    subst (λ octets. Prepends octets c.args.writer.now c.prepend.new.self) (sym is) told
+    rw is (search rules)

@@ -1,5 +1,5 @@
-use Rattle.std.proofs.Common.{◌<◌, ap, arith, length, subst}
-use Rattle.der_core.specs.Words.{err_from_is_err_and, nat_tests, Counts}
+use Rattle.std.proofs.Common.{◌<◌, ap, arith, rules, length, subst}
+use Rattle.der_core.specs.Words.{nat_tests, Counts}
 use Rattle.pkcs1_c.specs.Words.{prime_encoded}
 use Rattle.pkcs1_c.proofs.GivenKeys.{counted_more, given_some}
 use Rattle.pkcs1_c.proofs.StructErrors.{others_at, others_held_more}
@@ -21,9 +21,8 @@ loop-other-preserved c =
 
 pub returns-in_err-info-clause-err : goal.returns-in_err-info-clause-err
 returns-in_err-info-clause-err c =
-    let p = err_from_is_err_and c.from_residual.result c.from_residual.ensures.1 in
-    rw (p.1, p.2) (others_at c.args.others.now c.loop-other.other-index _ c.loop-other-test.true _
-    c.loop-other.invariant.held c.in_err-info.ensures.err)
+    let rejected = others_at c.args.others.now c.loop-other.other-index _ c.loop-other-test.true _
+    c.loop-other.invariant.held c.in_err-info.ensures.err in search rules
 
 pub returns-clause-ok : goal.returns-clause-ok
 returns-clause-ok c =
