@@ -1,15 +1,13 @@
 -- Algorithm identifiers with parameters of their own: what is read of them, and how many encodings there are.
-use Rattle.std.proofs.Common.{ℕ, Bool, true, List, [], ◌++◌, ◌≡◌, ◌≤◌, ◌^◌, length, refl, sym, subst, ap, ◌∙◌, arith, ⊎_elim, append-nil, map, Option, Some, None, Result, Ok, Err, inl, inr, false, ◌==◌, ◌↔◌, if◌then◌else◌, option_map, bytes_eq}
-use Rattle.der_core.specs.Laws.Readings.{front_bytes}
-use Rattle.der_core.specs.Words.{nat_tests, AreBytes, back_bytes, chosen, tlv_fit, prints_one, tagged_law, whole_decodes, whole_takes, bind_err, bind_ok, ok_same, unexpected_not, limit, tagged_shortest, ReadsFrontPrinted, Spells, WritesShortest, value_in, Reading, tagged, unexpected, whole, ◌>>=◌}
+use Rattle.std.proofs.Common.{ℕ, Bool, true, List, ◌++◌, ◌≡◌, ◌≤◌, ◌^◌, length, refl, sym, subst, ap, ◌∙◌, arith, ⊎_elim, map, Option, Some, None, Result, Ok, Err, inl, inr, false, ◌==◌, ◌↔◌, if◌then◌else◌, option_map, bytes_eq}
+use Rattle.der_core.specs.Words.{nat_tests, AreBytes, back_bytes, front_bytes, chosen, tlv_fit, whole_decodes, whole_takes, bind_err, bind_ok, ok_same, unexpected_not, limit, tagged_shortest, Spells, WritesShortest, value_in, Reading, whole, ◌>>=◌}
 use Rattle.std.proofs.lemmas.Slice.Eq.{bytes_eq-Decides}
 use Rattle.der_core.specs.declared.error.ErrorKind.{ErrorKind}
-use Rattle.der_core.specs.declared.error.ErrorKind.TheVariants.{OidUnknown}
-use Rattle.spki_core.specs.Words.{is_identifier, is_identifier-sound, algorithm_contents, algorithm_map, AreSpelled, FieldRecord, Spelling, record_means, record_read, record_strictly, spelled, record_under, spelling_read, strict_value, strict_whole, upto, record_alike, record_front_law, record_law, record_reads, record_shortest, spelled_from, spelled_to, under_valid, algorithm_writes_shortest, algorithm_law, algorithm_read, any_as}
-use Rattle.spki_core.proofs.Fielded.{are_all, counted, default_count, each_within, made, record_decodes}
+use Rattle.spki_core.specs.Words.{is_identifier, is_identifier-sound, algorithm_contents, algorithm_map, AreSpelled, FieldRecord, Spelling, record_means, record_read, record_strictly, spelled, record_under, spelling_read, strict_value, strict_whole, upto, record_alike, record_front_law, record_law, record_reads, record_shortest, spelled_from, spelled_to, under_valid, algorithm_writes_shortest, any_as}
+use Rattle.spki_core.proofs.Fielded.{are_all, counted, default_count, each_within, made}
 use Rattle.spki_core.proofs.StrictFields.{contents_bytes, strict_decodes}
-use Rattle.pkcs1_params.specs.Words.{Identifies, identified, parameters_as, whole_algorithm, plain_law, AreDelimited, plain_front, with_parameters}
-use Rattle.pkcs1_params.proofs.Wrapped.{are_all_in, same_contents, shortest_inside, shortest_outside, wrapped, wrapped_fit, wrapped_one}
+use Rattle.pkcs1_params.specs.Words.{Identifies, PlainEncoding, identified, parameters_as, whole_algorithm, plain_law, plain_front, with_parameters}
+use Rattle.pkcs1_params.proofs.Wrapped.{are_all_in, same_contents, shortest_decodes, wrapped, wrapped_fit, wrapped_one}
 use Rattle.standard.specs.Statement.{Algorithm, AlgorithmEncoding, AreAll, Decodes, Field, Fields, IfPresent, IsAlgorithm, IsAny, IsIdentifier, IsShortest, SequenceOf, TagAndContents, optional, TwoToTheDefaultsIn, algorithm, any, longest, sequence, tlv}
 use Rattle.der_core.specs.Tags as tags
 
@@ -52,49 +50,44 @@ identified_holds {V} oid read a v is =
 abbrev pub AreHeld : TagAndContents → Type 0
 AreHeld x = AreBytes x.contents × (length x.contents ≤ limit)
 
+-- What a function promises that gives a value exactly for its encodings.
+decodes_by : {V B : Type 0} (E : V → B → Type 0) (b : B) (o : Result V ErrorKind) → ((v : V) → o ≡ Ok v → E v b)
+    → ((v : V) → E v b → o ≡ Ok v) → Decodes E b (value_in o)
+decodes_by E b (Ok v) gives takes = (gives v refl, λ w e. ok_same (sym (takes w e)))
+decodes_by E b (Err k) gives takes = λ w e. let no = takes w e in cc
+
 pub identified_decodes : {V : Type 0} {Is : V → Type 0} {fields : V → List Field} (r : FieldRecord Is fields)
     (oid : List ℕ) (a : Algorithm TagAndContents) → IfPresent AreHeld a.parameters
     → Decodes (Identifies oid Is fields) a (value_in (identified oid (record_read r) a))
-identified_decodes {V} {Is} {fields} r oid a held = go (identified oid (record_read r) a) refl
+identified_decodes {V} {Is} {fields} r oid a held =
+    decodes_by (Identifies oid Is fields) a (identified oid (record_read r) a)
+    (λ v was.
+    let (c, e, read) = identified_holds oid (record_read r) a v was in
+    let law = (record_reads r).gives c v (held_in c e).0 read in (c, e, law.0, law.1))
+    (λ v (c, e, ok, there).
+    ap (identified oid (record_read r)) e ∙ identified_is oid (record_read r) c
+    ∙ (record_reads r).takes c v (held_in c e).1 (ok, there))
   where
     held_in : (c : List ℕ) → a ≡ holding oid c → AreBytes c × (length c ≤ limit)
     held_in c e = subst (λ (x : Algorithm TagAndContents). IfPresent AreHeld x.parameters) e held
-
-    read_of : (v : V) → Identifies oid Is fields v a → identified oid (record_read r) a ≡ Ok v
-    read_of v (c, e, ok, there) =
-        ap (identified oid (record_read r)) e ∙ identified_is oid (record_read r) c
-        ∙ (record_reads r).takes c v (held_in c e).1 (ok, there)
-
-    go : (o : Result V ErrorKind) → identified oid (record_read r) a ≡ o
-        → Decodes (Identifies oid Is fields) a (value_in o)
-    go (Ok v) was =
-        let (c, e, read) = identified_holds oid (record_read r) a v was in
-        let law = (record_reads r).gives c v (held_in c e).0 read in
-        ((c, e, law.0, law.1), λ w q. ok_same (sym (read_of w q) ∙ was))
-    go (Err k) was = λ w q. let no = sym (read_of w q) ∙ was in cc
 
 -- What isn't read by one function isn't read by another one that refuses it too, for the same fault.
 pub algorithm_errs : {V : Type 0} (f g : Reading V) → ((c : List ℕ) (k : ErrorKind) → f c ≡ Err k → g c ≡ Err k)
     → (oid bytes : List ℕ) (k : ErrorKind) → whole_algorithm oid f bytes ≡ Err k → whole_algorithm oid g bytes ≡ Err k
 algorithm_errs {V} f g so oid bytes k = go (whole plain_front bytes)
   where
-    tagged_errs : (c : List ℕ) (t : ℕ) (b : Bool) → (if b then f c else unexpected tags.sequence t) ≡ Err k
-        → (if b then g c else unexpected tags.sequence t) ≡ Err k
-    tagged_errs c t true p = so c k p
-    tagged_errs c t false p = p
+    either : (b : Bool) (x y z : Result V ErrorKind) → (x ≡ Err k → y ≡ Err k) → (if b then x else z) ≡ Err k
+        → (if b then y else z) ≡ Err k
+    either true x y z h p = h p
+    either false x y z h p = p
 
     parameters_err : (o : Option TagAndContents) → parameters_as f o ≡ Err k → parameters_as g o ≡ Err k
     parameters_err None p = p
-    parameters_err (Some x) p = tagged_errs x.contents x.tag (x.tag == 48) p
-
-    chosen_err : (o : Option TagAndContents) (b : Bool) → (if b then parameters_as f o else Err OidUnknown) ≡ Err k
-        → (if b then parameters_as g o else Err OidUnknown) ≡ Err k
-    chosen_err o true p = parameters_err o p
-    chosen_err o false p = p
+    parameters_err (Some x) p = either (x.tag == 48) _ _ _ (so x.contents k) p
 
     go : (o : Result (Algorithm TagAndContents) ErrorKind) → (o >>= identified oid f) ≡ Err k
         → (o >>= identified oid g) ≡ Err k
-    go (Ok a) p = chosen_err a.parameters (bytes_eq a.oid oid) p
+    go (Ok a) p = either (bytes_eq a.oid oid) _ _ _ (parameters_err a.parameters) p
     go (Err e) p = p
 
 module _ (oid : List ℕ) (valid : is_identifier oid ≡ true) where
@@ -120,19 +113,11 @@ module _ (oid : List ℕ) (valid : is_identifier oid ≡ true) where
   pub algorithm_holds : {V : Type 0} (read : Reading V) (v : V) (bytes : List ℕ) → AreBytes bytes
       → whole_algorithm oid read bytes ≡ Ok v
       → (c : List ℕ) × (length bytes ≤ limit) × AreBytes c × (bytes ≡ wrapped oid (sequence c)) × (read c ≡ Ok v)
-  algorithm_holds {V} read v bytes are is =
+  algorithm_holds read v bytes are is =
       let s = bind_ok (whole plain_front bytes) _ is in
-      let h = identified_holds oid read s.0 v s.2 in
-      go s.0 (subst (λ r. Decodes Stands bytes (value_in r)) s.1 (whole_decodes plain_law bytes are)) h
-    where
-      Stands : Algorithm TagAndContents → List ℕ → Type 0
-      Stands a b = (length b ≤ limit) × IsAlgorithm IsAny a × (b ≡ algorithm any a)
-
-      go : (a : Algorithm TagAndContents) → Decodes Stands bytes (Some a)
-          → (c : List ℕ) × (a ≡ holding oid c) × (read c ≡ Ok v)
-          → (c : List ℕ) × (length bytes ≤ limit) × AreBytes c × (bytes ≡ wrapped oid (sequence c)) × (read c ≡ Ok v)
-      go a p (c, e, known) =
-          let held = subst (IsAlgorithm IsAny) e p.0.1 in (c, p.0.0, held.1.1, p.0.2 ∙ ap (algorithm any) e, known)
+      let (c, e, known) = identified_holds oid read s.0 v s.2 in
+      let d = subst (λ r. Decodes PlainEncoding bytes (value_in r)) s.1 (whole_decodes plain_law bytes are) in
+      let held = subst (IsAlgorithm IsAny) e d.0.1 in (c, d.0.0, held.1.1, d.0.2 ∙ ap (algorithm any) e, known)
 
   module _ {V : Type 0} {Is : V → Type 0} {fields : V → List Field} (r : FieldRecord Is fields) where
     abbrev E : V → List ℕ → Type 0
@@ -151,29 +136,19 @@ module _ (oid : List ℕ) (valid : is_identifier oid ≡ true) where
     -- What the function is promised to give.
     pub algorithm_decodes : (bytes : List ℕ) → AreBytes bytes
         → Decodes A bytes (value_in (whole_algorithm oid (record_read r) bytes))
-    algorithm_decodes bytes are = go (whole_algorithm oid (record_read r) bytes) refl
-      where
-        go : (o : Result V ErrorKind) → whole_algorithm oid (record_read r) bytes ≡ o → Decodes A bytes (value_in o)
-        go (Ok v) was =
-            let (c, few, held, is, read) = algorithm_holds (record_read r) v bytes are was in
-            let law = (record_reads r).gives c v held read in
-            let within : length (sequence c) ≤ limit = omega (arith, few, ap length is, wrapped_fit oid (sequence c)) in (
-              (few, sequence c, (law.0, within, c, law.1, refl), is),
-              λ w q. ok_same (sym (read_of w bytes are q) ∙ was),
-            )
-        go (Err k) was = λ w q. let no = sym (read_of w bytes are q) ∙ was in cc
+    algorithm_decodes bytes are =
+        decodes_by A bytes (whole_algorithm oid (record_read r) bytes)
+        (λ v was.
+        let (c, few, held, is, read) = algorithm_holds (record_read r) v bytes are was in
+        let law = (record_reads r).gives c v held read in
+        let within : length (sequence c) ≤ limit = omega (arith, few, ap length is, wrapped_fit oid (sequence c)) in
+        (few, sequence c, (law.0, within, c, law.1, refl), is))
+        (λ v e. read_of v bytes are e)
 
     pub algorithm_encodes : (v : V) (bytes : List ℕ) → AreBytes bytes
         → whole_algorithm oid (record_read r) bytes ≡ Ok v → A v bytes
     algorithm_encodes v bytes are is =
         (subst (λ x. Decodes A bytes (value_in x)) is (algorithm_decodes bytes are)).0
-
-    one_value : (v w : V) (p : List ℕ) → AreBytes p → E v p → E w p → v ≡ w
-    one_value v w p are a b = go (value_in (whole (tagged tags.sequence (record_read r)) p)) (record_decodes r p are)
-      where
-        go : (o : Option V) → Decodes E p o → v ≡ w
-        go (Some u) d = d.1 v a ∙ sym (d.1 w b)
-        go None d = absurd (d v a)
 
     -- Strict reading of the identifier is that of the parameters.
     strict_is : (v : V) (c : List ℕ) → AreBytes c → E v (sequence c) → strict_whole r (sequence c) ≡ record_strictly r c
@@ -206,38 +181,17 @@ module _ (oid : List ℕ) (valid : is_identifier oid ≡ true) where
 
     pub strict_algorithm_decodes : (bytes : List ℕ) → AreBytes bytes
         → Decodes (IsShortest A) bytes (value_in (whole_algorithm oid (record_strictly r) bytes))
-    strict_algorithm_decodes bytes are = go (whole_algorithm oid (record_strictly r) bytes) refl
+    strict_algorithm_decodes bytes are =
+        go (whole_algorithm oid (record_read r) bytes) refl (algorithm_decodes bytes are)
       where
-        bytes_of : (p : List ℕ) → bytes ≡ wrapped oid p → AreBytes p
-        bytes_of p is = back_bytes (tlv 6 oid) p (contents_bytes 48 (tlv 6 oid ++ p) (subst AreBytes is are))
-
-        go : (o : Result V ErrorKind) → whole_algorithm oid (record_strictly r) bytes ≡ o
-            → Decodes (IsShortest A) bytes (value_in o)
-        go (Ok v) was =
-            let (c, few, held, is, read) = algorithm_holds (record_strictly r) v bytes are was in
-            let p = sequence c in
-            let fit : length (wrapped oid p) ≤ limit = omega (arith, few, ap length is) in
-            let s = bind_ok (spelling_read r.kinds c) _ read in
-            let law = (record_law r).gives c s.0 held s.1 in
-            let within : length p ≤ limit = omega (arith, fit, wrapped_fit oid p) in
-            let whole_is = whole_takes (record_front_law r) s.0 p (within, law.0, ap sequence law.1) in
-            let strictly : strict_whole r p ≡ Ok v = ap (λ x. x >>= strict_value r.kinds r.join) whole_is ∙ s.2 in
-            let octets = bytes_of p is in
-            let d = subst (λ x. Decodes (IsShortest E) p (value_in x)) strictly (strict_decodes r p octets) in (
-              subst (IsShortest A v) (sym is) (shortest_outside oid E v p fit d.0),
-              λ w q.
-                  let (k, e, holds, same) = q.0 in
-                  let one : e ≡ p = wrapped_one oid e p (omega (arith, few, ap length same)) (sym same ∙ is) in
-                  one_value w v p octets (subst (E w) one holds) d.0.0,
-            )
-        go (Err k) was = λ w q.
-            let (few, p, holds, is) = q.0 in
-            let fit : length (wrapped oid p) ≤ limit = omega (arith, few, ap length is) in
-            let short = shortest_inside oid E w p fit holds (subst (IsShortest A w) is q) in
-            let none : strict_whole r p ≡ Err k = sym (strict_in w bytes p are q.0 is) ∙ was in
-            let d =
-            subst (λ x. Decodes (IsShortest E) p (value_in x)) none (strict_decodes r p (bytes_of p is)) in
-            d w short
+        go : (o : Result V ErrorKind) → whole_algorithm oid (record_read r) bytes ≡ o → Decodes A bytes (value_in o)
+            → Decodes (IsShortest A) bytes (value_in (whole_algorithm oid (record_strictly r) bytes))
+        go (Ok v) was ((few, p, holds, is), one) =
+            let octets = back_bytes (tlv 6 oid) p (contents_bytes 48 (tlv 6 oid ++ p) (subst AreBytes is are)) in
+            rw (strict_in v bytes p are (few, p, holds, is) is, is)
+            (shortest_decodes oid E p (omega (arith, few, ap length is)) (value_in (strict_whole r p))
+            (strict_decodes r p octets))
+        go (Err k) was none = rw (strict_algorithm_errs bytes k was) (λ v s. none v s.0)
 
 -- Of an identifier that is one.
 module _ (oid : List ℕ) (identifier : IsIdentifier oid) where
@@ -292,28 +246,6 @@ module _ (oid : List ℕ) (identifier : IsIdentifier oid) where
     pub algorithm_valid : (v : V) → Is v
         → IsAlgorithm (AreSpelled r.kinds) (algorithm_map (record_under r 0) (with_parameters oid v))
     algorithm_valid v ok = (identifier, under_valid r.kinds 0 (r.split v) (r.are v ok))
-
-    -- No encoding is empty, or a proper beginning of another.
-    identifier_law : ReadsFrontPrinted (IsAlgorithm (AreSpelled r.kinds))
-        (λ a. sequence (algorithm_contents (λ s. sequence (spelled r.kinds s)) a))
-        (tagged tags.sequence (algorithm_read (tagged tags.sequence (spelling_read r.kinds))))
-    identifier_law = tagged_law (algorithm_law (record_front_law r) (λ s. omega arith)) tags.sequence
-
-    follow : (v w : V) (bytes rest : List ℕ) → Outer v bytes → Outer w (bytes ++ rest) → (v ≡ w) × (rest ≡ [])
-    follow v w bytes rest (few, p, x, is) (within, q, y, same) =
-        let (i, (s, e, ok, made_p)) = spelled_from r v p x in
-        let (j, (t, f, right, made_q)) = spelled_from r w q y in
-        let a : Algorithm (Spelling r.kinds) = with_parameters oid s in
-        let b : Algorithm (Spelling r.kinds) = with_parameters oid t in
-        let front = is ∙ ap (wrapped oid) made_p in
-        let all = ap (λ z. z ++ rest) (sym front) ∙ same ∙ ap (wrapped oid) made_q ∙ sym (append-nil (wrapped oid (sequence (spelled r.kinds t)))) in
-        let one = prints_one identifier_law a b rest [] (identifier, ok) (identifier, right)
-        (omega (arith, within, ap (λ z. length (z ++ rest)) front)) all in
-        let spelling : Some s ≡ Some t = ap (λ (z : Algorithm (Spelling r.kinds)). z.parameters) one.0 in
-        (sym e ∙ ap (record_means r) (let same_one : s ≡ t = cc in same_one) ∙ f, one.1)
-
-    pub algorithm_delimited : AreDelimited Outer
-    algorithm_delimited = ((λ v p. let never = p.3 in cc), follow)
 
     -- Two to the number of defaults.
     pub algorithm_counted : TwoToTheDefaultsIn oid Is fields

@@ -2,13 +2,13 @@
 use Rattle.std.proofs.Common.{ℕ, List, [], ◌∷◌, ◌++◌, ◌≡◌, ◌<◌, ◌≤◌, length, true, false, subst, sym, ap, ◌∙◌, arith, length-append, append-nil, append_assoc, Bool, Result, Ok, Err, refl, IfOk, IfErr, if◌then◌else◌, is_ok}
 use Rattle.std.specs.Prelude.{⊤}
 use Rattle.der_core.proofs.Writing.{counts_joined}
-use Rattle.der_core.specs.Words.{EncodeError, another, no_encoding, no_room, too_long, AreBytes, tlv_fit, limit, Counts, WhyOctetsNotCounted, encode_error, joined}
+use Rattle.der_core.specs.Words.{AreBytes, tlv_fit, limit, Counts, joined}
 use Rattle.der_core.specs.declared.error.Error.{Error}
 use Rattle.der_core.specs.declared.error.ErrorKind.TheVariants as kind
 use Rattle.spki_core.specs.Words.{WrittenField, field_with, octets_under, out_under, record_under, rest_under, spelled}
 use Rattle.spki_core.proofs.Fielded.{made, shortest_is, zero_least}
 use Rattle.pkcs1_params.specs.Words.{CountsLabelled, source_with, written_labelled, written_source, mgf1_identifier, oaep_record, source_identifier, LabelFits, NoLabelFits, labelled, hash_kind, mask_kind, oaep_kinds, source_kind, id_p_specified}
-use Rattle.pkcs1_params.proofs.Masks.{octets_are}
+use Rattle.pkcs1_params.proofs.Masks.{octets_are, uncounted_as}
 use Rattle.standard.specs.Statement.{IsIdentifier, IsOaep, OaepParameters, sequence, tlv}
 
 -- The source of a label that isn't empty is written.
@@ -100,20 +100,10 @@ pub none_where_uncounted : (oid : List ℕ) (n : ℕ) (r : Result ℕ Error) →
 none_where_uncounted oid n (Ok m) ok all label bytes e encoding means = cc
 none_where_uncounted oid n (Err x) ok all label bytes e encoding means =
     let least = (zero_least oaep_record (labelled oid label) encoding means).1 in
-    go (encode_error x.kind) (sequence (written_labelled oid label)) means.0
-    (omega (arith, least, means.1, ap length (made_is oid label))) (all label bytes e)
-  where
-    go : {has : Type 0} (k : EncodeError) (octets : List ℕ) → has → length octets ≤ limit
-        → WhyOctetsNotCounted has octets k → ⊥
-    go no_encoding octets h few u = u h
-    go too_long octets h few u = omega (arith, few, u.1)
-    go no_room octets h few u = u
-    go another octets h few u = u
+    let long = uncounted_as (sequence (written_labelled oid label)) x.kind means.0 (all label bytes e) in
+    omega (arith, least, means.1, long.1, ap length (made_is oid label))
 
 -- A label is no longer than the encoding that holds it.
-tlv_longer : (tag : ℕ) (contents : List ℕ) → length contents ≤ length (tlv tag contents)
-tlv_longer tag contents = tlv_fit tag contents
-
 source_longer : (label : List ℕ) → length label ≤ length (written_source label)
 source_longer [] = omega arith
 source_longer (x ∷ xs) =
@@ -121,10 +111,10 @@ source_longer (x ∷ xs) =
     let source = tlv 6 id_p_specified ++ octets in
     omega (
       arith,
-      tlv_longer 4 (x ∷ xs),
+      tlv_fit 4 (x ∷ xs),
       length-append (tlv 6 id_p_specified) octets,
-      tlv_longer 48 source,
-      tlv_longer 162 (tlv 48 source),
+      tlv_fit 48 source,
+      tlv_fit 162 (tlv 48 source),
     )
 
 pub label_within : (oid label : List ℕ) → AreBytes label → LabelFits oid (length label) → length label ≤ limit
@@ -137,7 +127,7 @@ label_within oid label bytes fits =
       source_longer label,
       ap length written,
       length-append (written_before oid) (written_source label),
-      tlv_longer 48 (written_labelled oid label),
+      tlv_fit 48 (written_labelled oid label),
       ap length (made_is oid label),
       least,
       means.1.1,

@@ -7,10 +7,11 @@ use Rattle.der_core.specs.declared.error.ErrorKind.TheVariants.{Overflow}
 use Rattle.der_core.specs.declared.error.ErrorKind.TheVariants as kinds
 use Rattle.pkcs1_params.specs.Words.{Refuses, Error, bit_of, bits_of, Encoded, EncodedUnder, InRange, IsMask, AreDelimited, AcceptedFits, DefaultsAreCounted, EachHasOneMask, EachMaskHasOne, ShortestHasNoDefaults, PlainEncoding}
 use Rattle.pkcs1_params.specs.declared.error.Error.TheVariants as error
-use Rattle.standard.specs.Statement.{Encodes, IsShortest, Field, sequence, Fields, SameByShortest, SequenceOf, IsOaep, IsPss, OaepAlgorithmEncoding, OaepEncoding, OaepParameters, PssEncoding, PssAlgorithmEncoding, PssParameters, id_rsaes_oaep, id_rsassa_pss, length_octets, oaep_fields, pss_fields, tlv}
+use Rattle.standard.specs.Statement.{AlgorithmEncoding, Encodes, IsShortest, Field, sequence, Fields, SameByShortest, SequenceOf, IsOaep, IsPss, OaepAlgorithmEncoding, OaepEncoding, OaepParameters, PssEncoding, PssAlgorithmEncoding, PssParameters, id_rsaes_oaep, id_rsassa_pss, length_octets, oaep_fields, pss_fields, tlv}
 use Rattle.spki_core.specs.Words.{AreSpelled, FieldRecord, WrittenField, are_defaults, octets_under, out_under, record_fields, record_under, rest_under, spelled, Spelling, under_valid, octets_spelled, record_means, record_front_law, spelled_from}
 use Rattle.spki_core.proofs.Fielded.{counted, counted_there, default_count, made, mask_fits, under_spelled, zero_least, zero_shortest, has_one_mask, only_under, under_is_one}
-use Rattle.pkcs1_params.proofs.Wrapped.{same_contents}
+use Rattle.pkcs1_params.proofs.Faults.{asn1_as}
+use Rattle.pkcs1_params.proofs.Wrapped.{same_contents, wrapped_front}
 
 module _ {V W : Type 0} (Encoding : V → List ℕ → Type 0) (Other : W → List ℕ → Type 0) (v : V) (w : W)
     (same : (bytes : List ℕ) → Encoding v bytes ↔ Other w bytes) where
@@ -29,10 +30,7 @@ module _ {V W : Type 0} (Encoding : V → List ℕ → Type 0) (Other : W → Li
     unwritten_so room another h = h
 
     pub refuses_as : (room : ℕ) (e : Error) → Refuses Is Encoding v room e → Refuses Valid Other w room e
-    refuses_as room (error.Asn1 e) h = unwritten_so room (encode_error e.kind) h
-    refuses_as room error.Crypto h = h
-    refuses_as room error.KeyMalformed h = h
-    refuses_as room error.Version h = h
+    refuses_as room = asn1_as (λ e. unwritten_so room (encode_error e.kind))
 
 -- The same octets, of a value with an encoding.
 module _ (Has Is : Type 0) (has : Has) (is : Is) where
@@ -173,10 +171,7 @@ module _ {V : Type 0} {Is : V → Type 0} {fields : V → List Field} (r : Field
 
     pub zero_refuses : (room : ℕ) (e : Error) → Refuses (λ _. Unit {0}) (EncodedUnder 0 Is fields) v room e
         → Refuses (λ _. Unit {0}) (Encoded Is fields) v room e
-    zero_refuses room (error.Asn1 e) h = unwritten_zero room (encode_error e.kind) h
-    zero_refuses room error.Crypto h = h
-    zero_refuses room error.KeyMalformed h = h
-    zero_refuses room error.Version h = h
+    zero_refuses room = asn1_as (λ e. unwritten_zero room (encode_error e.kind))
 
 -- Encodings of parameters: none is a proper beginning of another, and two mean the same by the shortest.
 module _ {V : Type 0} {Is : V → Type 0} {fields : V → List Field} (r : FieldRecord Is fields) where
@@ -192,6 +187,18 @@ module _ {V : Type 0} {Is : V → Type 0} {fields : V → List Field} (r : Field
 
   pub record_delimited : AreDelimited (SequenceOf Is fields Fields)
   record_delimited = ((λ v p. let never = p.4 in cc), follow)
+
+  pub algorithm_delimited : (oid : List ℕ) → AreDelimited (AlgorithmEncoding oid (SequenceOf Is fields Fields))
+  algorithm_delimited oid = (
+    (λ v p. let never = p.3 in cc),
+    λ v w bytes rest (few, p, x, is) (within, q, y, same).
+        let one =
+        wrapped_front oid p q rest (omega (arith, few, ap length is)) (omega (arith, within, ap length same))
+        (ap (λ z. z ++ rest) (sym is) ∙ same) in
+        let other : SequenceOf Is fields Fields w (p ++ []) =
+        subst (SequenceOf Is fields Fields w) (sym (append-nil p ∙ one.0)) y in
+        ((follow v w p [] x other).0, one.1),
+  )
 
   -- The laws of masks.
   pub defaults_counted : DefaultsAreCounted fields

@@ -1,36 +1,23 @@
 -- SEQUENCEs of an identifier and parameters: each encoding of the parameters stands in one.
-use Rattle.std.proofs.Common.{ℕ, List, [], ◌∷◌, ◌++◌, ◌≡◌, ◌<◌, ◌≤◌, ◌^◌, length, drop, map, refl, sym, subst, ap, ◌∙◌, arith, inl, inr, length-append, true, ◌+◌, nat_lt, slice_index_or}
+use Rattle.std.proofs.Common.{ℕ, List, [], ◌++◌, ◌≡◌, ◌<◌, ◌≤◌, ◌^◌, length, drop, map, refl, sym, subst, ap, ◌∙◌, arith, inl, inr, length-append, append-nil, true, ◌+◌, nat_lt, slice_index_or, Option, Some, None}
 use Rattle.std.proofs.Math.Seq.{drop-append_seam}
 use Rattle.std.proofs.lemmas.Bool.{cases_lt}
 use Rattle.std.proofs.lemmas.List.{get_or-map, length-map}
-use Rattle.der_core.specs.Words.{nat_tests, octets_grow, tlv_fit, limit}
-use Rattle.spki_core.proofs.Fielded.{grows}
-use Rattle.standard.specs.Statement.{AlgorithmEncoding, AreAll, Field, Fields, FieldsUnder, IsShortest, SequenceOf, length_octets, longest, sequence, tlv}
+use Rattle.der_core.specs.Words.{nat_tests, octets_grow, tlv_fit, tlv_made, tlv_split, limit}
+use Rattle.standard.specs.Statement.{AlgorithmEncoding, AreAll, Decodes, Field, Fields, FieldsUnder, IsShortest, SequenceOf, length_octets, longest, sequence, tlv}
 
--- SEQUENCEs: longer contents make a longer one, and the same one has the same contents.
-longer : (c d : List ℕ) → length c < length d → length d ≤ limit → length (sequence c) < length (sequence d)
-longer c d less few =
-    let g = octets_grow (length c) (length d) (omega (arith, less)) few in
-    omega (arith, less, g, length-append (length_octets (length c)) c, length-append (length_octets (length d)) d)
-
-behind_header : (n : ℕ) (c : List ℕ) → length c ≡ n → drop (length (48 ∷ length_octets n)) (sequence c) ≡ c
-behind_header n c is =
-    subst (λ m. drop (length (48 ∷ length_octets m)) (sequence c) ≡ c) is
-    (drop-append_seam (48 ∷ length_octets (length c)) c)
+-- A SEQUENCE is no proper beginning of another, and the same one has the same contents.
+front_contents : (c d x y : List ℕ) → length (sequence c) ≤ limit → length (sequence d) ≤ limit
+    → sequence c ++ x ≡ sequence d ++ y → (c ≡ d) × (x ≡ y)
+front_contents c d x y few less is =
+    let s =
+    tlv_split (sequence c) x (sequence d) y (tlv_made {P = λ z. c ≡ z} 48 c refl few) (tlv_made {P = λ z. z ≡ d} 48 d refl less)
+    is in
+    (s.4 ∙ s.5, s.2)
 
 pub same_contents : (c d : List ℕ) → length (sequence c) ≤ limit → sequence c ≡ sequence d → c ≡ d
 same_contents c d few is =
-    let first : length c ≤ limit = omega (arith, few, tlv_fit 48 c) in
-    let second : length d ≤ limit = omega (arith, few, ap length is, tlv_fit 48 d) in
-    let counts : length c ≡ length d = elim (cases_lt (length c) (length d)) [
-      | inl l ↦ absurd (let g = longer c d l second in omega (arith, g, ap length is))
-      | inr l ↦ elim (cases_lt (length d) (length c)) [
-        | inl k ↦ absurd (let g = longer d c k first in omega (arith, g, ap length is))
-        | inr k ↦ omega (arith, l, k)
-      ]
-    ] in
-    sym (behind_header (length d) c counts) ∙ ap (drop (length (48 ∷ length_octets (length d)))) is
-    ∙ behind_header (length d) d refl
+    (front_contents c d [] [] few (omega (arith, few, ap length is)) (ap (λ x. x ++ []) is)).0
 
 module _ (oid : List ℕ) where
   abbrev pub wrapped : List ℕ → List ℕ
@@ -39,24 +26,29 @@ module _ (oid : List ℕ) where
   pub wrapped_fit : (p : List ℕ) → length p ≤ length (wrapped p)
   wrapped_fit p = omega (arith, tlv_fit 48 (tlv 6 oid ++ p), length-append (tlv 6 oid) p)
 
+  -- Longer parameters make a longer one, by as many octets at least.
   wrapped_grows : (p q : List ℕ) → length p ≤ length q → length (wrapped q) ≤ limit
-      → length (wrapped p) ≤ length (wrapped q)
+      → length (wrapped p) + length q ≤ length (wrapped q) + length p
   wrapped_grows p q less few =
-      grows (tlv 6 oid ++ p) (tlv 6 oid ++ q)
-      (omega (arith, less, length-append (tlv 6 oid) p, length-append (tlv 6 oid) q))
-      (omega (arith, few, tlv_fit 48 (tlv 6 oid ++ q)))
+      let c = tlv 6 oid ++ p in
+      let d = tlv 6 oid ++ q in
+      let first : length c ≡ length (tlv 6 oid) + length p = length-append (tlv 6 oid) p in
+      let second : length d ≡ length (tlv 6 oid) + length q = length-append (tlv 6 oid) q in
+      let g = octets_grow (length c) (length d) (omega (arith, less)) (omega (arith, few, tlv_fit 48 d)) in
+      omega (arith, g, length-append (length_octets (length c)) c, length-append (length_octets (length d)) d)
 
-  wrapped_longer : (p q : List ℕ) → length p < length q → length (wrapped q) ≤ limit
-      → length (wrapped p) < length (wrapped q)
-  wrapped_longer p q less few =
-      longer (tlv 6 oid ++ p) (tlv 6 oid ++ q)
-      (omega (arith, less, length-append (tlv 6 oid) p, length-append (tlv 6 oid) q))
-      (omega (arith, few, tlv_fit 48 (tlv 6 oid ++ q)))
+  pub wrapped_front : (p q rest : List ℕ) → length (wrapped p) ≤ limit → length (wrapped q) ≤ limit
+      → wrapped p ++ rest ≡ wrapped q → (p ≡ q) × (rest ≡ [])
+  wrapped_front p q rest few less is =
+      let both =
+      front_contents (tlv 6 oid ++ p) (tlv 6 oid ++ q) rest [] few less (is ∙ sym (append-nil (wrapped q))) in (
+        sym (drop-append_seam (tlv 6 oid) p) ∙ ap (drop (length (tlv 6 oid))) both.0 ∙ drop-append_seam (tlv 6 oid) q,
+        both.1,
+      )
 
   pub wrapped_one : (p q : List ℕ) → length (wrapped p) ≤ limit → wrapped p ≡ wrapped q → p ≡ q
   wrapped_one p q few is =
-      let both = same_contents (tlv 6 oid ++ p) (tlv 6 oid ++ q) few is in
-      sym (drop-append_seam (tlv 6 oid) p) ∙ ap (drop (length (tlv 6 oid))) both ∙ drop-append_seam (tlv 6 oid) q
+      (wrapped_front p q [] few (omega (arith, few, ap length is)) (append-nil (wrapped p) ∙ is)).0
 
   -- What the identifier holds encodes its parameters.
   pub inner_is : {V : Type 0} (E : V → List ℕ → Type 0) (v : V) (bytes p : List ℕ) → AlgorithmEncoding oid E v bytes
@@ -66,28 +58,36 @@ module _ (oid : List ℕ) where
 
   -- The shortest encoding of the identifier holds the shortest of the parameters.
   module _ {V : Type 0} (E : V → List ℕ → Type 0) (v : V) (p : List ℕ) (few : length (wrapped p) ≤ limit) where
-    pub shortest_outside : IsShortest E v p → IsShortest (AlgorithmEncoding oid E) v (wrapped p)
+    shortest_outside : IsShortest E v p → IsShortest (AlgorithmEncoding oid E) v (wrapped p)
     shortest_outside s = (
       (few, p, s.0, refl),
       λ other (within, q, holds, is). elim (s.1 q holds) [
         | inl same ↦ inl (is ∙ ap wrapped same)
-        | inr less ↦ inr (let g = wrapped_longer p q less (omega (arith, within, ap length is)) in omega (arith, g, ap length is))
+        | inr less ↦ inr (
+            let g = wrapped_grows p q (omega (arith, less)) (omega (arith, within, ap length is)) in
+            omega (arith, g, less, ap length is))
       ],
     )
 
-    pub shortest_inside : E v p → IsShortest (AlgorithmEncoding oid E) v (wrapped p) → IsShortest E v p
-    shortest_inside there s = (
-      there,
+    shortest_inside : IsShortest (AlgorithmEncoding oid E) v (wrapped p) → IsShortest E v p
+    shortest_inside s = (
+      inner_is E v (wrapped p) p s.0 refl,
       λ q holds. elim (cases_lt (length p) (length q)) [
         | inl less ↦ inr less
         | inr more ↦
             let g = wrapped_grows q p (omega (arith, more)) few in
-            elim (s.1 (wrapped q) (omega (arith, g, few), q, holds, refl)) [
+            elim (s.1 (wrapped q) (omega (arith, g, more, few), q, holds, refl)) [
               | inl same ↦ inl (sym (wrapped_one p q few (sym same)))
-              | inr l ↦ absurd (omega (arith, l, g))
+              | inr l ↦ absurd (omega (arith, l, g, more))
             ]
       ],
     )
+
+  pub shortest_decodes : {V : Type 0} (E : V → List ℕ → Type 0) (p : List ℕ) → length (wrapped p) ≤ limit
+      → (o : Option V) → Decodes (IsShortest E) p o → Decodes (IsShortest (AlgorithmEncoding oid E)) (wrapped p) o
+  shortest_decodes E p few (Some v) d =
+      (shortest_outside E v p few d.0, λ w s. d.1 w (shortest_inside E w p few s))
+  shortest_decodes E p few None d = λ w s. d w (shortest_inside E w p few s)
 
   -- All encodings, by those of the parameters.
   module _ {V : Type 0} (Is : V → Type 0) (fields : V → List Field) (v : V) (k : ℕ)
@@ -99,7 +99,7 @@ module _ (oid : List ℕ) where
 
     fit : (i : ℕ) → i < 2 ^ k → length (wrapped (slice_index_or all i [])) ≤ limit
     fit i h =
-        let g = wrapped_grows (slice_index_or all i []) (longest (fields v)) (each i h) few in omega (arith, g, few)
+        let g = wrapped_grows (slice_index_or all i []) (longest (fields v)) (each i h) few in omega (arith, g, each i h, few)
 
     entry : (E : V → List ℕ → Type 0) (i : ℕ) → i < 2 ^ k → E v (slice_index_or all i [])
         → AlgorithmEncoding oid E v (slice_index_or (map wrapped all) i [])

@@ -1,4 +1,4 @@
-use Rattle.std.proofs.Common.{◌<◌, ◌≡◌, arith, false, refl, rules, sym, true}
+use Rattle.std.proofs.Common.{◌≡◌, arith, false, refl, rules, sym, true}
 use Rattle.der_core.specs.Words.{are_bytes}
 use Rattle.pkcs1_params.specs.Words.{id_p_specified}
 use Rattle.pkcs1_params.proofs.KnownParameters.{known_oaep, not_put, put_encodes}

@@ -1,4 +1,4 @@
-use Rattle.std.proofs.Common.{◌<◌, ◌≡◌, ◌==◌, ap, arith, refl, true, false}
+use Rattle.std.proofs.Common.{◌≡◌, ◌==◌, ap, arith, refl, true, false}
 use Rattle.der_core.specs.Words.{nat_tests}
 use Rattle.pkcs1_params.proofs.KnownParameters.{known_pss, not_put, put_encodes}
 use Rattle.pkcs1_params.proofs.known.encode_known_pss.Goals as goal
