@@ -7,7 +7,7 @@ use Rattle.spki_core.specs.Words.{is_identifier, is_identifier-sound, algorithm_
 use Rattle.spki_core.proofs.Fielded.{are_all, counted, default_count, each_within, made}
 use Rattle.spki_core.proofs.StrictFields.{contents_bytes, strict_decodes}
 use Rattle.pkcs1_params.specs.Words.{Identifies, PlainEncoding, identified, parameters_as, whole_algorithm, plain_law, plain_front, with_parameters}
-use Rattle.pkcs1_params.proofs.Wrapped.{are_all_in, same_contents, shortest_decodes, wrapped, wrapped_fit, wrapped_one}
+use Rattle.pkcs1_params.proofs.Wrapped.{are_all_in, inner_is, shortest_decodes, wrapped, wrapped_fit, wrapped_one}
 use Rattle.standard.specs.Statement.{Algorithm, AlgorithmEncoding, AreAll, Decodes, Field, Fields, IfPresent, IsAlgorithm, IsAny, IsIdentifier, IsShortest, SequenceOf, TagAndContents, optional, TwoToTheDefaultsIn, algorithm, any, longest, sequence, tlv}
 use Rattle.der_core.specs.Tags as tags
 
@@ -151,24 +151,27 @@ module _ (oid : List ℕ) (valid : is_identifier oid ≡ true) where
         (subst (λ x. Decodes A bytes (value_in x)) is (algorithm_decodes bytes are)).0
 
     -- Strict reading of the identifier is that of the parameters.
-    strict_is : (v : V) (c : List ℕ) → AreBytes c → E v (sequence c) → strict_whole r (sequence c) ≡ record_strictly r c
-    strict_is v c are p =
-        let (few, (s, e, ok, is)) = spelled_from r v (sequence c) p in
-        let same : c ≡ spelled r.kinds s = same_contents c (spelled r.kinds s) few is in
-        let within : length (spelled r.kinds s) ≤ limit = omega (arith, few, ap length is, tlv_fit 48 (spelled r.kinds s)) in
-        ap (λ x. x >>= strict_value r.kinds r.join) (whole_takes (record_front_law r) s (sequence c) (few, ok, is))
-        ∙ sym (ap (λ x. x >>= strict_value r.kinds r.join)
-        (ap (spelling_read r.kinds) same ∙ (record_law r).takes s ok within))
-
     pub strict_in : (v : V) (bytes p : List ℕ) → AreBytes bytes → A v bytes → bytes ≡ wrapped oid p
         → whole_algorithm oid (record_strictly r) bytes ≡ strict_whole r p
-    strict_in v bytes p are (few, q, (ok, within, c, held, same), is) given =
+    strict_in v bytes p are (few, q, x, is) given =
         let one : q ≡ p = wrapped_one oid q p (omega (arith, few, ap length is)) (sym is ∙ given) in
-        let whole = is ∙ ap (wrapped oid) same in
-        let octets = bytes_in c bytes are whole in
-        let there : E v (sequence c) = subst (E v) same (ok, within, c, held, same) in
-        algorithm_is (record_strictly r) c bytes are few whole ∙ sym (strict_is v c octets there)
-        ∙ ap (strict_whole r) (sym same ∙ one)
+        let (within, (s, e, ok, there)) = spelled_from r v q x in
+        let c = spelled r.kinds s in
+        let less : length c ≤ limit = omega (arith, within, ap length there, tlv_fit 48 c) in
+        let fit : length p ≤ limit = omega (arith, within, ap length one) in
+        algorithm_is (record_strictly r) c bytes are few (is ∙ ap (wrapped oid) there)
+        ∙ ap (λ x. x >>= strict_value r.kinds r.join)
+        ((record_law r).takes s ok less ∙ sym (whole_takes (record_front_law r) s p (fit, ok, sym one ∙ there)))
+
+    -- What is read, where the parameters are found as an encoding of any tag.
+    pub behind_reads : (a : Algorithm TagAndContents) (x : TagAndContents) (v : V) (bytes : List ℕ) → AreBytes bytes
+        → whole plain_front bytes ≡ Ok a → ((read : Reading V) → identified oid read a ≡ any_as tags.sequence read x)
+        → any_as tags.sequence (record_read r) x ≡ Ok v
+        → A v bytes × ((p : List ℕ) → bytes ≡ wrapped oid p
+        → E v p × (whole_algorithm oid (record_strictly r) bytes ≡ strict_whole r p))
+    behind_reads a x v bytes are is given read =
+        let holds = algorithm_encodes v bytes are (behind_any oid bytes a x is given (record_read r) ∙ read) in
+        (holds, λ p at. (inner_is oid E v bytes p holds at, strict_in v bytes p are holds at))
 
     pub strict_algorithm_errs : (bytes : List ℕ) (k : ErrorKind) → whole_algorithm oid (record_read r) bytes ≡ Err k
         → whole_algorithm oid (record_strictly r) bytes ≡ Err k

@@ -97,10 +97,7 @@ no_memory never (inr f) = f
 -- The error of a fault.
 pub told_as : {V : Type 0} (given : Result V ErrorKind) (k : ErrorKind) → given ≡ Err k → (e : Error)
     → IsAsn1 (λ a. a.kind ≡ k) e → IsAsn1 (λ a. given ≡ Err a.kind) e
-told_as given k is (error.Asn1 a) p = is ∙ ap (λ k. Err k) (sym p)
-told_as given k is error.Crypto p = absurd p
-told_as given k is error.KeyMalformed p = absurd p
-told_as given k is error.Version p = absurd p
+told_as given k is = asn1_as (λ a p. is ∙ ap (λ k. Err k) (sym p))
 
 -- The same error of a function that gives the same.
 pub told_same : {V : Type 0} {given other : Result V ErrorKind} → given ≡ other → (e : Error)

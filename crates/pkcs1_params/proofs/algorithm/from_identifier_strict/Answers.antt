@@ -1,10 +1,9 @@
 use Rattle.std.proofs.Common.{arith, ap, refl, ◌∙◌}
 use Rattle.der_core.specs.Words.{err_from_is_err_and, are_bytes, ◌>>=◌}
 use Rattle.spki_core.specs.Words.{any_of, record_read, record_strictly}
-use Rattle.pkcs1_params.specs.Words.{identified, Encoded}
-use Rattle.pkcs1_params.proofs.Algorithms.{algorithm_encodes, behind_any, strict_algorithm_errs, strict_in}
+use Rattle.pkcs1_params.specs.Words.{identified}
+use Rattle.pkcs1_params.proofs.Algorithms.{behind_any, behind_reads, strict_algorithm_errs}
 use Rattle.pkcs1_params.proofs.Faults.{asn1_as, told_same}
-use Rattle.pkcs1_params.proofs.Wrapped.{inner_is}
 use Rattle.pkcs1_params.proofs.algorithm.from_identifier_strict.Goals as goal
 
 pub returns-in_err-any : goal.returns-in_err-any
@@ -32,45 +31,42 @@ encoded_parameters-requires g c κs =
     let t = g.T.AlgorithmParams in
     let oid = g.T.Oid.AssociatedOid in
     let bytes = are_bytes _ (λ i. omega (arith, c.type_inv.bytes i)) in
-    let is =
-    behind_any oid.contents _ _ (any_of c.in_ok-any.any) c.in_ok-algorithm.ensures.exact c.in_ok-any.ensures.ok
-    (record_read t.form) in
-    let v = t.params c.in_ok-params.params in
-    ((refl, tt), (v, algorithm_encodes oid.contents oid.valid t.form v _ bytes (is ∙ c.in_ok-params.ensures)))
+    let reads =
+    behind_reads oid.contents oid.valid t.form _ (any_of c.in_ok-any.any) _ _ bytes c.in_ok-algorithm.ensures.exact
+    c.in_ok-any.ensures.ok c.in_ok-params.ensures in
+    ((refl, tt), (t.params c.in_ok-params.params, reads.0))
 
 pub reject_defaults-requires : goal.reject_defaults-requires
 reject_defaults-requires g c κs =
     let t = g.T.AlgorithmParams in
     let oid = g.T.Oid.AssociatedOid in
     let bytes = are_bytes _ (λ i. omega (arith, c.type_inv.bytes i)) in
-    let is =
-    behind_any oid.contents _ _ (any_of c.in_ok-any.any) c.in_ok-algorithm.ensures.exact c.in_ok-any.ensures.ok
-    (record_read t.form) in
-    let holds = algorithm_encodes oid.contents oid.valid t.form _ _ bytes (is ∙ c.in_ok-params.ensures) in
-    ((refl, tt), inner_is oid.contents (Encoded t.Is t.fields_of) _ _ _ holds c.encoded_parameters.ensures)
+    let reads =
+    behind_reads oid.contents oid.valid t.form _ (any_of c.in_ok-any.any) _ _ bytes c.in_ok-algorithm.ensures.exact
+    c.in_ok-any.ensures.ok c.in_ok-params.ensures in
+    ((refl, tt), (reads.1 _ c.encoded_parameters.ensures).0)
 
 pub returns-in_err-reject_defaults : goal.returns-in_err-reject_defaults
 returns-in_err-reject_defaults g c =
-    let t = g.T.AlgorithmParams in
-    let oid = g.T.Oid.AssociatedOid in
-    let bytes = are_bytes _ (λ i. omega (arith, c.type_inv.bytes i)) in
     let p =
     err_from_is_err_and c.from_residual-in_err-reject_defaults.result
     c.from_residual-in_err-reject_defaults.ensures.1 in
-    let is =
-    behind_any oid.contents _ _ (any_of c.in_ok-any.any) c.in_ok-algorithm.ensures.exact c.in_ok-any.ensures.ok
-    (record_read t.form) in
-    let holds = algorithm_encodes oid.contents oid.valid t.form _ _ bytes (is ∙ c.in_ok-params.ensures) in
-    let same = strict_in oid.contents oid.valid t.form _ _ _ bytes holds c.encoded_parameters.ensures in
-    rw (p.1, p.2) (told_same same c.in_err-reject_defaults.field-0.0 c.in_err-reject_defaults.ensures)
+    let t = g.T.AlgorithmParams in
+    let oid = g.T.Oid.AssociatedOid in
+    let bytes = are_bytes _ (λ i. omega (arith, c.type_inv.bytes i)) in
+    let reads =
+    behind_reads oid.contents oid.valid t.form _ (any_of c.in_ok-any.any) _ _ bytes c.in_ok-algorithm.ensures.exact
+    c.in_ok-any.ensures.ok c.in_ok-params.ensures in
+    rw (p.1, p.2)
+    (told_same (reads.1 _ c.encoded_parameters.ensures).1 c.in_err-reject_defaults.field-0.0
+    c.in_err-reject_defaults.ensures)
 
 pub returns : goal.returns
 returns g c =
     let t = g.T.AlgorithmParams in
     let oid = g.T.Oid.AssociatedOid in
     let bytes = are_bytes _ (λ i. omega (arith, c.type_inv.bytes i)) in
-    let is =
-    behind_any oid.contents _ _ (any_of c.in_ok-any.any) c.in_ok-algorithm.ensures.exact c.in_ok-any.ensures.ok
-    (record_read t.form) in
-    let holds = algorithm_encodes oid.contents oid.valid t.form _ _ bytes (is ∙ c.in_ok-params.ensures) in
-    strict_in oid.contents oid.valid t.form _ _ _ bytes holds c.encoded_parameters.ensures ∙ c.in_ok-reject_defaults.ensures
+    let reads =
+    behind_reads oid.contents oid.valid t.form _ (any_of c.in_ok-any.any) _ _ bytes c.in_ok-algorithm.ensures.exact
+    c.in_ok-any.ensures.ok c.in_ok-params.ensures in
+    (reads.1 _ c.encoded_parameters.ensures).1 ∙ c.in_ok-reject_defaults.ensures

@@ -8,11 +8,8 @@ use Rattle.pkcs1_params.proofs.Masks.{in_range}
 use Rattle.standard.specs.Statement.{AreAll, Defaults, Field, IsShortest, longest}
 use Rattle.pkcs1_params.proofs.listing.all_spellings.Goals as goal
 
-shifted : (k : ℕ) → k < 8 → 1 * 2 ^ k % 256 ≡ 2 ^ k
-shifted k few = one_shl k 8 few
-
 last : (k : ℕ) → k < 8 → 1 * 2 ^ k % 256 - 1 + 1 ≡ 2 ^ k
-last k few = omega (arith, shifted k few, pow_pos k)
+last k few = omega (arith, one_shl k 8 few, pow_pos k)
 
 -- The encoding under the greatest mask.
 module _ {V : Type 0} {Is : V → Type 0} {fields : V → List Field} (r : FieldRecord Is fields) (v : V) (k : ℕ)
@@ -21,7 +18,7 @@ module _ {V : Type 0} {Is : V → Type 0} {fields : V → List Field} (r : Field
   greatest = full_longest r v (1 * 2 ^ k % 256 - 1) (last k few ∙ ap (λ n. 2 ^ n) (counted r v k d))
 
   count_is : 1 * 2 ^ k % 256 ≡ 2 ^ default_count r v
-  count_is = shifted k few ∙ ap (λ n. 2 ^ n) (counted r v k d)
+  count_is = one_shl k 8 few ∙ ap (λ n. 2 ^ n) (counted r v k d)
 
   all_within : (n : ℕ) → (n ≡ length (made r v (1 * 2 ^ k % 256 - 1))) × (n ≤ limit) → length (longest (fields v)) ≤ limit
   all_within n p = omega (arith, p.0, p.1, ap length greatest)
