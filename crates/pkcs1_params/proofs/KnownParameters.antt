@@ -1,6 +1,6 @@
 -- Parameters that are written as known octets: these are what is written where no default is, so they are the shortest
 -- encoding.
-use Rattle.std.proofs.Common.{ℕ, Bool, List, [], ◌∷◌, ◌++◌, ◌==◌, ◌≡◌, ◌≤◌, ◌<◌, ◌+◌, refl, append-nil, ap, true, false, arith, rules, subst, length, drop, inl, inr, if◌then◌else◌, nat_lt, IfSome, None, Some, Option, ◌⊎◌}
+use Rattle.std.proofs.Common.{ℕ, Bool, List, [], ◌∷◌, ◌++◌, ◌==◌, ◌≡◌, ◌≤◌, ◌<◌, ◌+◌, refl, append-nil, ap, true, false, arith, rules, subst, length, drop, inl, inr, if◌then◌else◌, nat_lt, IfSome, None, Some, Option}
 use Rattle.std.proofs.lemmas.Option.{IfSome_then}
 use Rattle.der_core.specs.Words.{nat_tests, AreBytes, length_octets-short, small_contents_as, written_encodes}
 use Rattle.spki_core.specs.Words.{FieldRecord, Kind, Values, is_identifier-sound, null_value, record_under, spelled, under}
@@ -121,8 +121,10 @@ module _ {V : Type 0} {Is : V → Type 0} {fields : V → List Field} {r : Field
     -- There is no room, so there is none for another encoding.
     pub not_put : result ≡ None → (result ≡ None → new ≡ old) → (result ≡ None → length old < length bytes)
         → Encodes (Encoded Is fields) v old new None
-    not_put none same full = (same none, λ other is. longer other (least.1 other is))
-      where
-        longer : (other : List ℕ) → (other ≡ bytes) ⊎ (length bytes < length other) → length old < length other
-        longer other (inl is) = omega (arith, ap length is, full none)
-        longer other (inr more) = omega (arith, more, full none)
+    not_put none same full = (
+      same none,
+      λ other is. elim (least.1 other is) [
+        | inl e ↦ omega (arith, ap length e, full none)
+        | inr more ↦ omega (arith, more, full none)
+      ],
+    )
