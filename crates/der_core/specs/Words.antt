@@ -46,7 +46,7 @@ pub use Rattle.der_core.specs.Laws.Printed.Optional.{IsInRange, agreed_law, chai
 pub use Rattle.der_core.specs.Laws.Printed.Relations.{StatedAs, decodes_stated, encodes_stated, memory_stated, optional_itself, spells_once, stated, unwritten_stated, written_encodes}
 pub use Rattle.der_core.specs.Laws.Printed.Rows.{alone_law, decodes_as, end_law, expected_law, made_law, meant_decodes, prints_one, row_law, such_law, tagged_law, valid_as, whole_decodes, whole_takes}
 pub use Rattle.der_core.specs.Laws.Printed.Shortest.{joined_shortest, last_shortest, list_shortest, made_shortest, one_spelling, row_shortest, shortest_is, tagged_shortest, tagged_some}
-pub use Rattle.der_core.specs.Laws.Readings.{alone_reads, any_read, back_bytes, behind_within, bind_err, bind_ok, carry, ended_is, ended_tells, fronts_as, made_errs, made_tells, ok_same}
+pub use Rattle.der_core.specs.Laws.Readings.{alone_reads, any_read, back_bytes, behind_within, bind_err, bind_ok, carry, ended_is, ended_tells, front_bytes, made_errs, made_tells, ok_same}
 pub use Rattle.der_core.specs.Laws.SliceReaders.{left_of-bounded, left_of-bytes}
 pub use Rattle.der_core.specs.Laws.TaggedReadings.{by_tag_reads, checked_as, items_read, tagged_reads, unexpected_not, unexpected_tells}
 pub use Rattle.std.proofs.lemmas.Bool.Decides.{nat_tests}

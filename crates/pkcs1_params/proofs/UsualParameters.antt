@@ -1,6 +1,6 @@
 -- Whole slices that are read as parameters. Those that begin with the usual two fields: what reads parameters computes
 -- them, strictly too.
-use Rattle.std.proofs.Common.{ℕ, Bool, List, [], ◌∷◌, ◌++◌, ◌==◌, ◌&&◌, ◌≡◌, ◌≤◌, ◌<◌, ◌∙◌, refl, ap, sym, Ok, true, false, arith, length, take, drop, eqb, nat_lt, if◌then◌else◌, Result, take-append-drop, take_all}
+use Rattle.std.proofs.Common.{ℕ, Bool, List, [], ◌∷◌, ◌++◌, ◌==◌, ◌&&◌, ◌≡◌, ◌≤◌, ◌<◌, ◌∙◌, refl, ap, sym, Ok, true, false, arith, length, take, drop, eqb, nat_lt, if◌then◌else◌, Result, take_all}
 use Rattle.der_core.specs.Words.{number_from_digits, nat_tests, header_at, length_at, limit, Reading, tagged, whole, ◌>>=◌, sequence, AreBytes, bind_ok, ok_of}
 use Rattle.std.proofs.lemmas.List.{drop_all}
 use Rattle.spki_core.specs.Words.{null_value, record_read, record_strictly, FieldRecord, record_whole, spelling_read, strict_value, strict_whole}
@@ -9,10 +9,6 @@ use Rattle.standard.specs.Statement.{OaepParameters, PssParameters, Decodes, Fie
 use Rattle.spki_core.proofs.Fielded.{record_decodes}
 use Rattle.spki_core.proofs.StrictFields.{strict_decodes}
 use Rattle.pkcs1_params.proofs.Faults.{errs_decode}
-
-pub joined : (n : ℕ) (c front back last : List ℕ) → front ≡ take n c → back ≡ drop n c → back ≡ last → c ≡ front ++ last
-joined n c front back last f b l =
-    sym (take-append-drop n c) ∙ ap (λ x. x ++ drop n c) (sym f) ∙ ap (λ x. front ++ x) (sym b ∙ l)
 
 -- A SEQUENCE of fewer than 128 octets alone in a slice is read as its contents are.
 whole_sequence : {V : Type 0} (read : Reading V) (v : V) (c b : List ℕ) → length c < 128

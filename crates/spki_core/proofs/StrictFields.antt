@@ -2,8 +2,7 @@
 -- isn't.
 use Rattle.std.proofs.Common.{ℕ, List, [], ◌∷◌, ◌++◌, ◌≡◌, ◌≤◌, ◌+◌, length, refl, sym, subst, ap, ◌∙◌, arith, Bool, true, false, Option, Some, None, Result, Ok, Err, length-append, inl, inr, ◌↔◌, pow_pos}
 use Rattle.std.proofs.lemmas.Bool.{cases_Bool}
-use Rattle.der_core.specs.Laws.Readings.{front_bytes}
-use Rattle.der_core.specs.Words.{nat_tests, AreBytes, back_bytes, tlv_fit, whole_decodes, whole_takes, tagged_alike, whole_alike, bind_err, limit, value_in, is_next, tagged, whole, ◌>>=◌, checked_as, same_tag, context_tag, is_allowed, header_at}
+use Rattle.der_core.specs.Words.{nat_tests, AreBytes, back_bytes, tlv_fit, whole_decodes, whole_takes, tagged_alike, whole_alike, bind_err, limit, value_in, is_next, tagged, whole, ◌>>=◌, checked_as, same_tag, context_tag, is_allowed, header_at, front_bytes}
 use Rattle.der_core.specs.declared.error.ErrorKind.{ErrorKind}
 use Rattle.der_core.specs.declared.error.ErrorKind.TheVariants.{Incomplete, Noncanonical, TagUnknown}
 use Rattle.der_core.specs.declared.tag.Tag.{Tag}

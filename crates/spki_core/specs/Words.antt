@@ -9,11 +9,11 @@ pub use Rattle.spki_core.specs.Identifiers.{Algorithm, IsAny, IsHash, IsIdentifi
 pub use Rattle.spki_core.specs.Readings.{algorithm_read, any, any_as, defaulted, explicit, identifier_read, numbered, opaque}
 pub use Rattle.spki_core.specs.StrictFields.{behind_any, first_default, noncanonical, number_in, unless_found, walked}
 pub use Rattle.spki_core.specs.Laws.AnyValues.{Carried, HoldsAny, algorithm_decides, any_decides, holds_decides, holds_itself, same_carried, same_mask_decides, same_plain_decides}
-pub use Rattle.spki_core.specs.Laws.FieldSpellings.Masks.{by_field, defaults_are, defaults_there, full, full_last, full_there, masked, under_is, under_mask, under_means, under_only, under_valid}
+pub use Rattle.spki_core.specs.Laws.FieldSpellings.Masks.{defaults_are, defaults_there, full, full_last, full_there, masked, under_is, under_mask, under_means, under_only, under_valid}
 pub use Rattle.spki_core.specs.Laws.FieldSpellings.Records.{record_alike, record_front_law, record_law, record_reads, record_shortest, spelled_from, spelled_to}
 pub use Rattle.spki_core.specs.Laws.FieldSpellings.Shortest.{defaults_same, not_next, octets_spelled}
 pub use Rattle.spki_core.specs.Laws.HaveEncodings.{WritesAs, algorithm_asks_none, algorithm_held, algorithm_once, any_held, identifier_held, own_any_held, viewed_held, writes_itself}
 pub use Rattle.spki_core.specs.Laws.IdentifierTest.{goes_on, is_identifier-complete, is_identifier-sound}
 pub use Rattle.spki_core.specs.Laws.Printed.Readings.{algorithm_alike, algorithm_law, any_law, any_values, numbered_alike, numbered_law, oid_law}
 pub use Rattle.spki_core.specs.Laws.Printed.Shortest.{algorithm_writes_shortest, any_some, numbered_some, numbered_writes_shortest}
-pub use Rattle.spki_core.specs.Laws.Readings.{defaulted_reads, explicit_is, explicit_reads, number_allowed}
+pub use Rattle.spki_core.specs.Laws.Readings.{defaulted_reads, explicit_is, explicit_reads}

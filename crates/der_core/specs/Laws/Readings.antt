@@ -96,15 +96,6 @@ pub bind_err : {A B : Type 0} (r : Result A ErrorKind) (f : A → Result B Error
 bind_err (Ok a) f e = inr (a, refl, e)
 bind_err (Err j) f {k} e = let same : j ≡ k = cc in inl (ap (λ x. Err x) same)
 
--- The same encodings, said otherwise.
-pub fronts_as : {V : Type 0} {P Q : V → List ℕ → Type 0} {at : FrontReading V} → ReadsFronts P at
-    → ((v : V) (b : List ℕ) → P v b → Q v b) → ((v : V) (b : List ℕ) → Q v b → P v b) → ReadsFronts Q at
-fronts_as law to from = record {
-  gives = λ i rest v b e. let s = law.gives i rest v b e in (s.0, s.1, to v s.0 s.2);
-  takes = λ i b rest v w is p. law.takes i b rest v w is (from v b p);
-  tells = law.tells;
-}
-
 -- A value that is made of another.
 pub made_tells : {A B : Type 0} (make : A → B) (r : Result A ErrorKind) {k : ErrorKind}
     → (r ≡ Err k → TellsOfBytes k) → (r >>= λ a. Ok (make a)) ≡ Err k → TellsOfBytes k
