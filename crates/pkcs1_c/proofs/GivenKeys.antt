@@ -21,13 +21,9 @@ use Rattle.der_core.specs.declared.error.Error.{Error}
 use Rattle.pkcs1_params.proofs.Masks.{uncounted_as}
 
 -- == Numbers in an encoding within the limit ==
-contents_fit : (low : Bool) (o : List ℕ) → length o ≤ length (if low then o else (0 ∷ o))
-contents_fit low o = grind arith
-
 number_fits : (n : ℕ) → length (octets n) ≤ length (integer n)
 number_fits n =
-    let low = nat_lt (slice_index (octets n) 0) 128 in
-    omega (arith, contents_fit low (octets n), tlv_fit 2 (if low then octets n else (0 ∷ octets n)))
+    let fit = tlv_fit 2 (if nat_lt (slice_index (octets n) 0) 128 then octets n else (0 ∷ octets n)) in grind arith
 
 numbers_fit : (ns : List (List ℕ)) → HaveBytes ns → length (integers (map number ns)) ≤ limit
     → NoStatus (NumbersError ns)

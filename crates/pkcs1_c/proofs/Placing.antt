@@ -12,17 +12,6 @@ use Rattle.standard.specs.Statement.{OtherPrime}
 use Rattle.pkcs1_c.specs.Words.{prime_encoded, ArePlaced, numbers_of_prime, octets_of_prime}
 use Rattle.pkcs1_c.specs.declared.private_key.OtherPrime as struct
 
--- One more is placed.
-pub place_step : {X Y : Type 0} (f : X → Y) (xs : List X) (i : ℕ) (v : X) (y : Y) (rest rest' all : List Y)
-    → i < length xs → f v ≡ y → rest ≡ y ∷ rest'
-    → take i (map f xs) ++ rest ≡ all → take (i + 1) (map f (set xs i v)) ++ rest' ≡ all
-place_step f xs i v y rest rest' all l e first is = grind (arith, common_steps, map-set, take_more_set, length-map)
-
--- What is behind the next one is as it was.
-pub rest_step : {X : Type 0} (xs old : List X) (i : ℕ) (v : X) → drop i xs ≡ drop i old
-    → drop (i + 1) (set xs i v) ≡ drop (i + 1) old
-rest_step xs old i v e = grind (arith, common_steps, drop-set-lt, drop-drop)
-
 -- Primes that are read from a list, and placed in an array.
 
 -- The first of the primes are placed, and the others are left of the list.
@@ -59,10 +48,8 @@ module _ (primes : List OtherPrime) (left after : Input) (others old : List stru
               behind = behind;
               few = omega (arith, few, length-append (prime_encoded o) (primes_encoded behind));
               reads = more ∙ ap (λ r. Some r) (sym same.1);
-              placed =
-                  place_step numbers_of_prime others i made (octets_of_prime o) (map octets_of_prime (o ∷ behind))
-                  (map octets_of_prime behind) (map octets_of_prime primes) less (holds ∙ first) refl placed;
-              kept = rest_step others old i made p.kept;
+              placed = let is = holds ∙ first in grind (arith, common_steps, map-set, take_more_set, length-map);
+              kept = let kept = p.kept in grind (arith, common_steps, drop-set-lt, drop-drop);
             }
 
 -- All are placed, as many as fit: the array is full, or the reader finds no more.

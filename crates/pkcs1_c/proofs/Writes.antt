@@ -121,10 +121,7 @@ module _ {V : Type 0} (Is : V → Type 0) (Encoding : V → List ℕ → Type 0)
   kind_unwritten k p = let why = error_unwritten (encode_error k) p in grind arith
 
   pub status_unwritten : (e : Error) → Refuses Is Encoding v room e → Unwritten Encoding v room (status_of e)
-  status_unwritten (error.Asn1 e) p = kind_unwritten e.kind p
-  status_unwritten error.Crypto p = absurd p
-  status_unwritten error.KeyMalformed p = absurd p
-  status_unwritten error.Version p = absurd p
+  status_unwritten e p = grind (arith, kind_unwritten)
 
 -- A value that was read, and the equal one that a struct has.
 pub decodes_as : {V : Type 0} (Encoding : V → List ℕ → Type 0) {bytes : List ℕ} {u v : V} → u ≡ v
