@@ -28,22 +28,12 @@ module _ (a b d p e c s : ℕ) (is-p : IsTold a p) (is-e : IsTold b e) (is-c : I
     abbrev parts : ℕ
     parts = tlv_len a + tlv_len b + tlv_len d
 
-    same_parts : (p + e + c ≤ limit) ⊎ (parts ≤ limit) → p + e + c ≡ parts
-    same_parts (inl few) =
-        let k = is-p.within (omega (arith, few, is-p.least)) in
-        let l = is-e.within (omega (arith, few, is-e.least)) in
-        let m = is-c.within (omega (arith, few, is-c.least)) in omega (arith, k, l, m)
-    same_parts (inr few) =
-        let k = is-p.within (omega (arith, few)) in
-        let l = is-e.within (omega (arith, few)) in
-        let m = is-c.within (omega (arith, few)) in omega (arith, k, l, m)
-
     same_whole : (s ≤ limit) ⊎ (tlv_len parts ≤ limit) → s ≡ tlv_len parts
-    same_whole (inl few) =
-        let is = same_parts (inl (omega (arith, few, is-s.least))) in
-        is-s.within (omega (arith, few, is-s.least)) ∙ ap tlv_len is
-    same_whole (inr few) =
-        let is = same_parts (inr (omega (arith, few))) in is-s.within (omega (arith, few, is)) ∙ ap tlv_len is
+    same_whole end =
+        let k = is-p.within in
+        let l = is-e.within in
+        let m = is-c.within in
+        let is : p + e + c ≡ parts = omega (arith, end) in is-s.within (omega (arith, end)) ∙ ap tlv_len is
 
 prime_len : (o : OtherPrime) → length (prime_encoded o) ≡ tlv_len
     (tlv_len (length (number_contents o.prime)) + tlv_len (length (number_contents o.exponent))

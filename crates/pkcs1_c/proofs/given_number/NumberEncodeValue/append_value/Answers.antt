@@ -10,7 +10,4 @@ returns-clause-appends g c =
     let is = contents_as bytes (holds_canonical bytes number.canonical) in
     let fits : length (integer_contents bytes) ≤ limit = rw is at c.requires.fits in
     let zeros = number.told in
-    let told : Appends (Unit {0}) (integer_contents bytes) g.W.Writer.room g.W.Writer.written c.args.writer.now
-    c.write-2.new.self c.write-2.result = grind (arith, common_steps, zeros) in
-    subst (λ octets. Appends (Unit {0}) octets g.W.Writer.room g.W.Writer.written c.args.writer.now c.write-2.new.self
-    c.write-2.result) (sym is) told
+    rw is (grind (arith, common_steps, zeros))

@@ -27,9 +27,7 @@ returns-then-self-gt0 c =
     let bytes = number.bytes.now in
     let whole = contents_as bytes (holds_canonical bytes number.canonical)
     ∙ with_zero bytes number.zeros (nat_lt (slice_index bytes 0) 128) number.told c.if-self-gt0.true in
-    let told : Prepends (0 ∷ bytes) c.args.writer.now c.prepend-then-self-gt0.new.self =
-    grind (arith, common_steps) in
-    subst (λ octets. Prepends octets c.args.writer.now c.prepend-then-self-gt0.new.self) (sym whole) told
+    rw whole (grind (arith, common_steps))
 
 pub returns-else-self-gt0 : goal.returns-else-self-gt0
 returns-else-self-gt0 c =

@@ -1,4 +1,5 @@
 use Rattle.std.proofs.Common.{◌≡◌, ◌≤◌, ◌++◌, ◌∙◌, ap, append_assoc, arith, drop, get_or, length, length-append, refl, ◌+◌, sym, take, take_all, rules}
+use Rattle.std.proofs.lemmas.Grind.{common_steps}
 use Rattle.der_core.specs.Words.{err_from_is_err_and, limit, all_encodings}
 use Rattle.der_core.proofs.Items.{encodings_around, encodings_more}
 use Rattle.der_core.proofs.Writing.{appends_behind, appends_in_front}
@@ -17,21 +18,10 @@ loop-other-preserved g c =
     let others = c.args.self.now.others.now in
     let i = c.loop-other.other-index in
     let more = encodings_more (λ _. Unit {0}) given_encoded others i nothing c.loop-other-test.true in
-    let before = all_encodings given_encoded (take i others) in
-    record {
-      written =
-          c.in_ok-append_given.ensures.appends.written ∙ ap (λ w. w ++ given_encoded (get_or others i nothing)) c.loop-other.invariant.written
-          ∙ append_assoc (g.W.Writer.written c.args.writer.now) before (given_encoded (get_or others i nothing))
-          ∙ ap (λ w. g.W.Writer.written c.args.writer.now ++ w) (sym more);
-      room = omega (
-        arith,
-        c.in_ok-append_given.ensures.appends.room,
-        c.loop-other.invariant.room,
-        ap length more,
-        length-append before (given_encoded (get_or others i nothing)),
-      );
-      kept = search rules;
-    }
+    let one = c.in_ok-append_given.ensures.appends in
+    let here = one.written in
+    let left = one.room in
+    record { written = grind (arith, common_steps); room = grind (arith, common_steps); kept = search rules }
 
 pub returns-in_err-append_given-clause-appends : goal.returns-in_err-append_given-clause-appends
 returns-in_err-append_given-clause-appends g c =
