@@ -79,9 +79,6 @@ private_fits key others some bytes p =
     (listed_fit others some.2 (omega (arith, l, whole)))
 
 -- == Numbers that can be held ==
-pub public_has : (key : PublicKey) → NoStatus (NumbersError (two_numbers key)) → HasNumbers key
-public_has key none = let p = numbers_have (two_numbers key) none in (p.0, p.1.0)
-
 primes_have : (others : List OtherPrime) → NoStatus (NumbersError (numbers_of_primes others)) → HavePrimes others
 primes_have [] none = tt
 primes_have (o ∷ others) none =
@@ -125,14 +122,11 @@ private_law key others made same bytes =
     subst (λ v. PrivateSpells made bytes ↔ PrivateKeyEncoding v bytes) same
     (λ p. spelled.0 (itself.0 p), λ p. itself.1 (spelled.1 p))
 
-is_private : (key : PrivateKey) (others : List OtherPrime) → IsPrivateKey (private_key key others)
-is_private key others = search rules
-
 pub private_valid : (key : PrivateKey) (others : List OtherPrime) (made : keys.PrivateKey ℕ)
     → private_stated made ≡ private_key key others → PrivateIsValid AnyNumber made
 private_valid key others made same =
-    subst (PrivateIsValid AnyNumber) (private_itself made)
-    ((private_is_valid made).1 (subst IsPrivateKey (sym same) (is_private key others)))
+    let is : IsPrivateKey (private_key key others) = search rules in
+    subst (PrivateIsValid AnyNumber) (private_itself made) ((private_is_valid made).1 (subst IsPrivateKey (sym same) is))
 
 -- Other primes that the caller passes: their encodings are those of the primes with these numbers.
 

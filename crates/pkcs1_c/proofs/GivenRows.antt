@@ -6,7 +6,7 @@ use Rattle.std.specs.List.{AllByRecursion}
 use Rattle.der_core.specs.Words.{Prepends, limit, Appends, Counts}
 use Rattle.der_core.specs.declared.back_writer.BackWriter.{BackWriter}
 use Rattle.der_core.specs.declared.error.Error.{Error}
-use Rattle.pkcs1.proofs.KeyRows.{Parts, key_appended, key_counted, key_prepended, row_fits, row_room, row_valid}
+use Rattle.pkcs1.proofs.KeyRows.{Parts, key_appended, key_counted, key_prepended, row_room, row_valid}
 use Rattle.pkcs1.specs.Words.{number_in, Row, RowIsValid, key_row, row_as, row_printed, version_held, OtherPrime, version_of, AnyNumber, AreSome, OtherIsValid, PrivateIsValid, primes_printed, private_printed, other_from}
 use Rattle.pkcs1.specs.declared.private_key.PrivateKeyOf.{PrivateKeyOf}
 use Rattle.standard.specs.Statement.{integer, sequence}
@@ -49,11 +49,6 @@ module _ (key : PrivateKeyOf Number GivenPrimes) where
 
   pub given_valid : PrivateIsValid AnyNumber (given_key key) → IsValid Spelled
   given_valid ok = subst IsValid (sym parts) (row_valid AnyNumber integer (given_key key) _ version ok)
-
-  pub given_fits : length (private_printed integer (given_key key)) ≤ limit → length (octets_of Spelled) ≤ limit
-  given_fits fits =
-      subst (λ s. length (octets_of s) ≤ limit) (sym parts)
-      (row_fits AnyNumber integer (given_key key) _ version fits)
 
   pub given_room : {n : ℕ} → length (private_printed integer (given_key key)) ≤ n → length (octets_of Spelled) ≤ n
   given_room {n} fits =

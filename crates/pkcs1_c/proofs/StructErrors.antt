@@ -35,9 +35,6 @@ unless_part n Fits some other = (grind arith, search rules)
 
 -- Parts.
 module _ (WhyNot Rest : ℕ → Type 0) where
-  pub part_one : IsOne WhyNot → IsOne Rest → IsOne (PartThen WhyNot Rest)
-  part_one one rest s t p q = grind (arith, one, rest)
-
   -- A part, then another.
   pub part_then : IsPart WhyNot → IsPart Rest → IsPart (PartThen WhyNot Rest)
   part_then p q = search rules

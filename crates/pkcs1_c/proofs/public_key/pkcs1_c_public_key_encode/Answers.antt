@@ -1,8 +1,8 @@
 use Rattle.std.proofs.Common.{length, rules}
 use Rattle.standard.specs.Statement.{PublicKeyEncoding}
 use Rattle.pkcs1_c.specs.Words.{NumbersError, Unwritten, two_numbers, HasNumbers, If, public_key}
-use Rattle.pkcs1_c.proofs.GivenKeys.{PublicSpells, public_fits, public_has, public_law}
-use Rattle.pkcs1_c.proofs.StructErrors.{numbers_part}
+use Rattle.pkcs1_c.proofs.GivenKeys.{PublicSpells, public_fits, public_law}
+use Rattle.pkcs1_c.proofs.StructErrors.{numbers_have, numbers_part}
 use Rattle.pkcs1_c.proofs.Writes.{error_behind, held_written, part_told, unwritten_so}
 use Rattle.pkcs1_c.proofs.public_key.pkcs1_c_public_key_encode.Goals as goal
 
@@ -16,9 +16,10 @@ returns-in-Ok c =
     let room = length c.args.out.now in
     let law = public_law key c.in-Ok.key c.in-Ok.ensures.ok in
     let told = c.write_encoding.ensures in
-    let held = c.in-Ok.ensures.held in record {
+    let held = c.in-Ok.ensures.held in
+    let has = numbers_have (two_numbers key) held in record {
       writes =
-          held_written PublicKeyEncoding v PublicSpells _ law (HasNumbers key) (public_has key held) told.writes;
+          held_written PublicKeyEncoding v PublicSpells _ law (HasNumbers key) (has.0, has.1.0) told.writes;
       exact =
           let rest = unwritten_so PublicKeyEncoding v PublicSpells _ law room _ told.exact in
           search (rules, error_behind);

@@ -1,11 +1,11 @@
-use Rattle.pkcs1_c.proofs.GivenRows.{given_appended, given_fits, given_valid}
+use Rattle.pkcs1_c.proofs.GivenRows.{given_appended, given_room, given_valid}
 use Rattle.pkcs1_c.proofs.given_key.GivenKeyEncodeValue.append_value.Goals as goal
 
 pub append_row-requires-clause-has : goal.append_row-requires-clause-has
 append_row-requires-clause-has g c = given_valid c.args.self.now.0 c.requires.has
 
 pub append_row-requires-clause-fits : goal.append_row-requires-clause-fits
-append_row-requires-clause-fits g c = given_fits c.args.self.now.0 c.requires.fits
+append_row-requires-clause-fits g c = given_room c.args.self.now.0 c.requires.fits
 
 pub returns-clause-appends : goal.returns-clause-appends
 returns-clause-appends g c =

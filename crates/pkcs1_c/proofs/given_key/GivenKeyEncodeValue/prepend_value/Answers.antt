@@ -1,11 +1,11 @@
-use Rattle.pkcs1_c.proofs.GivenRows.{given_fits, given_prepended, given_room, given_valid}
+use Rattle.pkcs1_c.proofs.GivenRows.{given_prepended, given_room, given_valid}
 use Rattle.pkcs1_c.proofs.given_key.GivenKeyEncodeValue.prepend_value.Goals as goal
 
 pub prepend_row-requires-clause-has : goal.prepend_row-requires-clause-has
 prepend_row-requires-clause-has c = given_valid c.args.self.now.0 c.requires.has
 
 pub prepend_row-requires-clause-fits : goal.prepend_row-requires-clause-fits
-prepend_row-requires-clause-fits c = given_fits c.args.self.now.0 c.requires.fits
+prepend_row-requires-clause-fits c = given_room c.args.self.now.0 c.requires.fits
 
 pub prepend_row-requires-clause-room : goal.prepend_row-requires-clause-room
 prepend_row-requires-clause-room c = given_room c.args.self.now.0 c.requires.room

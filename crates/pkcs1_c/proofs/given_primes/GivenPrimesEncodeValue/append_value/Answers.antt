@@ -32,12 +32,7 @@ returns-in_err-append_given-clause-appends g c =
     let here = given_encoded (get_or others i nothing) in
     let rest = all_encodings given_encoded (drop (i + 1) others) in
     let whole = sym (encoded_is others) ∙ encodings_around (λ _. Unit {0}) given_encoded others i nothing c.loop-other-test.true in
-    let less : length (here ++ rest) ≤ limit = omega (
-      arith,
-      c.requires.fits,
-      ap length whole,
-      length-append (all_encodings given_encoded (take i others)) (here ++ rest),
-    ) in
+    let less : length (here ++ rest) ≤ limit = grind (arith, common_steps, c.requires.fits) in
     rw (p.1, p.2) (appends_behind _ _ _ unit (any_given others) whole c.requires.fits c.loop-other.invariant.written
     c.loop-other.invariant.room (appends_in_front _ _ rest unit unit refl less c.in_err-append_given.ensures.appends))
 

@@ -10,14 +10,14 @@ returns-in_default c =
     let given = c.args.self.now in
     let is = encoded_is given.others.now in
     absurd (not_uncounted given.others.now c.in_default.field-0 (rw c.in_default.is at given.counted)
-    (omega (arith, c.requires.fits, ap length is)))
+    (omega (arith, ap length is)))
 
 pub overflow_sub-least : goal.overflow_sub-least
 overflow_sub-least c =
     let given = c.args.self.now in
     let is = encoded_is given.others.now in
     let counted = rw c.in-Ok.is at given.counted in
-    omega (arith, c.requires.room, ap length is, counted, c.to_usize.ensures.value, c.free.ensures)
+    omega (arith, ap length is, counted)
 
 pub prepend_given-requires : goal.prepend_given-requires
 prepend_given-requires c =
@@ -29,17 +29,8 @@ prepend_given-requires c =
       held =
           held_at given.others.now (c.loop-left.left - 1) nothing (omega (arith, c.loop-left-test.true, few))
           given.held;
-      fits = omega (arith, c.requires.fits, ap length is, behind);
-      room = omega (
-        arith,
-        c.requires.room,
-        ap length is,
-        counted,
-        c.to_usize.ensures.value,
-        c.free.ensures,
-        c.loop-left.invariant.1.1,
-        behind,
-      );
+      fits = omega (arith, ap length is, behind);
+      room = omega (arith, ap length is, counted, behind);
     }
 
 pub returns : goal.returns
