@@ -1,5 +1,5 @@
 -- Parameters that have an encoding can be held.
-use Rattle.std.proofs.Common.{ℕ, List, [], ◌∷◌, ◌++◌, ◌≡◌, ◌≤◌, length, length-append, refl, sym, subst, ap, arith, ◌+◌, ◌∙◌, true, false, inl, inr, Option, Some, None}
+use Rattle.std.proofs.Common.{ℕ, List, [], ◌∷◌, ◌++◌, ◌≡◌, ◌≤◌, length, length-append, refl, sym, subst, ap, arith, rules, ◌+◌, ◌∙◌, true, false, inl, inr, Option, Some, None}
 use Rattle.der_core.specs.Words.{tlv_fit, is_allowed}
 use Rattle.pkcs1_params.specs.Words.{mgf1_identifier, pss_lawful, source_identifier}
 use Rattle.spki_core.specs.Words.{field}
@@ -79,8 +79,7 @@ hash_fit hash mask is_hash is_mask later Rest rest c p few =
     let second = field 1 (algorithm (algorithm any)) mgf1_sha1 mask ∷ later in
     let (a, d, q, fewer) = field_fits plain_fits 0 sha1 hash sha1_fits is_hash second c p few in
     let (b, r, behind, last) = field_fits mask_fits 1 mgf1_sha1 mask mgf1_fits is_mask later d q fewer in
-    part_none (PlainError hash) (PartThen (MaskError mask) Rest) a
-    (part_none (MaskError mask) Rest b (rest r behind last))
+    let later = rest r behind last in search (rules, part_none)
 
 pub pss_fits : (p : PssParameters) (bytes : List ℕ) → PssEncoding p bytes → NoStatus (PssFieldError p)
 pss_fits p bytes (ok, few, c, held, is) =

@@ -1,5 +1,5 @@
 -- Parameters that are held: their parts can be, and they have encodings. Their faults are about the bytes.
-use Rattle.std.proofs.Common.{ℕ, List, ◌≡◌, arith, refl, subst, true, false, Option, Some, None, inl, inr, option_map, ◌∙◌}
+use Rattle.std.proofs.Common.{ℕ, List, ◌≡◌, arith, rules, refl, subst, true, false, Option, Some, None, inl, inr, option_map, ◌∙◌}
 use Rattle.spki_core.specs.Words.{viewed_with, any_of, viewed_held, octets_of, FieldRecord, record_means, record_whole, spelling_read, record_alike, record_front_law}
 use Rattle.spki_core.specs.declared.algorithm_identifier.AlgorithmIdentifierOf.{AlgorithmIdentifierOf}
 use Rattle.spki_core.specs.declared.any.AnyRef.{AnyRef}
@@ -52,9 +52,7 @@ mask_none m seen is =
 hash_none : (hash : AlgorithmView AnyRef) (mask : AlgorithmView (AlgorithmView AnyRef)) (Rest : ℕ → Type 0)
     → NoStatus Rest → NoStatus (HashFieldsThen (viewed_with any_of hash) (viewed_with (viewed_with any_of) mask) Rest)
 hash_none hash mask Rest none =
-    let Mask = MaskError (viewed_with (viewed_with any_of) mask) in
-    part_none (PlainError (viewed_with any_of hash)) (PartThen Mask Rest) (plain_none hash _ refl)
-    (part_none Mask Rest (mask_none mask _ refl) none)
+    let first = plain_none hash _ refl in let second = mask_none mask _ refl in search (rules, part_none)
 
 pub pss_none : (p : RsaPssParamsView) (seen : PssParameters) → pss_viewed p ≡ seen → NoStatus (PssFieldError seen)
 pss_none p seen is = subst (λ v. NoStatus (PssFieldError v)) is (hash_none p.hash p.mask_gen _ (λ s q. q.1 refl))

@@ -29,10 +29,6 @@ module _ {V : Type 0} (Encoding : V → List ℕ → Type 0) (v : V) (room : ℕ
       → NoStatus (Unwritten Encoding v room)
   fits_written bytes shortest fits s p = grind arith
 
--- A part that is rejected by one status, where it can't be held.
-pub unless_part : (n : ℕ) (Fits : Type 0) → 0 < n → (n ≡ 15 → ⊥) → IsPart (λ s. (s ≡ n) × (Fits → ⊥))
-unless_part n Fits some other = (grind arith, search rules)
-
 -- Parts.
 module _ (WhyNot Rest : ℕ → Type 0) where
   -- A part, then another.
@@ -53,9 +49,6 @@ number_rejected (b ∷ bytes) k (inr p) =
     let n = number (b ∷ bytes) in
     inr (ap kind_number p.1, omega arith, p.0 (octets n) (octets_canonical n) (octets_number n))
 
-number_part : (bytes : List ℕ) → IsPart (NumberError bytes)
-number_part bytes = (grind arith, grind arith)
-
 pub number_none : (bytes : List ℕ) → 0 < length bytes → length (octets (number bytes)) ≤ limit
     → NoStatus (NumberError bytes)
 number_none bytes some few s p = omega (arith, p)
@@ -66,7 +59,7 @@ number_has (b ∷ bytes) none = omega arith
 
 pub numbers_part : (ns : List (List ℕ)) → IsPart (NumbersError ns)
 numbers_part [] = (λ s t p q. absurd p, λ s p. absurd p)
-numbers_part (n ∷ ns) = part_then (NumberError n) (NumbersError ns) (number_part n) (numbers_part ns)
+numbers_part (n ∷ ns) = part_then (NumberError n) (NumbersError ns) (grind arith, grind arith) (numbers_part ns)
 
 pub held_none : (ns : List (List ℕ)) → AllHave (λ n. NoStatus (NumberError n)) ns → NoStatus (NumbersError ns)
 held_none [] none s p = p
@@ -142,9 +135,6 @@ module _ (os : List OtherPrime) (i : ℕ) (d : OtherPrime) (l : i < length os) w
       rw (take_more os i d l, numbers_joined (take i os) (get_or os i d ∷ [])) (none_both before here none one)
 
 -- Algorithms.
-any_part : (v : TagAndContents) → IsPart (AnyError v)
-any_part v = (grind arith, grind arith)
-
 module _ {P : Type 0} (WhyNot : P → ℕ → Type 0) (part : (v : P) → IsPart (WhyNot v)) where
   option_part : (o : Option P) → IsPart (OptionError WhyNot o)
   option_part None = (λ s t p q. absurd p, λ s p. absurd p)
@@ -153,20 +143,20 @@ module _ {P : Type 0} (WhyNot : P → ℕ → Type 0) (part : (v : P) → IsPart
   algorithm_part : (a : Algorithm P) → IsPart (AlgorithmError WhyNot a)
   algorithm_part a =
       part_then (OidError a.oid) (OptionError WhyNot a.parameters)
-      (unless_part 6 (IsIdentifier a.oid) (omega arith) (λ e. omega (arith, e))) (option_part a.parameters)
+      (grind arith, grind arith) (option_part a.parameters)
 
 plain_part : (a : Algorithm TagAndContents) → IsPart (PlainError a)
-plain_part = algorithm_part AnyError any_part
+plain_part = algorithm_part AnyError (λ v. (grind arith, grind arith))
 
 -- Parameters.
 hash_part : (hash : Algorithm TagAndContents) (mask : Algorithm (Algorithm TagAndContents)) (Rest : ℕ → Type 0)
     → IsPart Rest → IsPart (HashFieldsThen hash mask Rest)
 hash_part hash mask Rest rest =
-    part_then (PlainError hash) (PartThen (MaskError mask) Rest) (plain_part hash)
-    (part_then (MaskError mask) Rest (algorithm_part PlainError plain_part mask) rest)
+    let first = plain_part hash in
+    let second = algorithm_part PlainError plain_part mask in search (rules, part_then)
 
 pub pss_part : (p : PssParameters) → IsPart (PssFieldError p)
-pss_part p = hash_part p.hash p.mask_gen _ (unless_part 14 (p.trailer_field ≡ 1) (omega arith) (λ e. omega (arith, e)))
+pss_part p = hash_part p.hash p.mask_gen _ (grind arith, grind arith)
 
 pub oaep_part : (p : OaepParameters) → IsPart (OaepFieldError p)
 oaep_part p = hash_part p.hash p.mask_gen (PlainError p.p_source) (plain_part p.p_source)

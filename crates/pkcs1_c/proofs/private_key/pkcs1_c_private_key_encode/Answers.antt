@@ -2,7 +2,7 @@ use Rattle.std.proofs.Common.{length, refl, ◌≡◌, arith, rules}
 use Rattle.standard.specs.Statement.{PrivateKeyEncoding}
 use Rattle.pkcs1_c.specs.Words.{given_key, Miscounted, NumbersError, PartThen, Unwritten, given_numbers, HasPrivateNumbers, If, private_key}
 use Rattle.pkcs1_c.proofs.GivenKeys.{PrivateSpells, private_fits, private_has, private_law, private_valid}
-use Rattle.pkcs1_c.proofs.StructErrors.{numbers_part, unless_part}
+use Rattle.pkcs1_c.proofs.StructErrors.{IsPart, numbers_part}
 use Rattle.pkcs1_c.proofs.Writes.{error_behind, held_written, part_told, unwritten_so}
 use Rattle.pkcs1_c.proofs.private_key.pkcs1_c_private_key_encode.Goals as goal
 
@@ -16,7 +16,7 @@ returns-then-key-others c =
     let others = c.args.others.now in
     let v = private_key key others in
     let later = PartThen (NumbersError (given_numbers key others)) (Unwritten PrivateKeyEncoding v (length c.args.out.now)) in
-    let counted = unless_part 21 (key.other_primes ≡ length others) (omega arith) (λ e. omega (arith, e)) in
+    let counted : IsPart (Miscounted key others) = (grind arith, grind arith) in
     let told =
     part_told (Miscounted key others) later counted (If (HasPrivateNumbers key others) PrivateKeyEncoding) v
     (λ bytes p s q. q.1 p.0.0) c.args.out.now c.args.len.now refl (refl, c.if-key-others.true) in
