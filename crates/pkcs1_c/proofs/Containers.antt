@@ -11,7 +11,7 @@ use Rattle.pkcs8_core.specs.ContainerReadings as readings
 use Rattle.pkcs8_core.specs.Words.{rsa_held, rsa_private_key_info, container_law, IsContainer, container_printed}
 use Rattle.standard.specs.Statement.{Container, ContainerEncoding, PrivateKey, PrivateKeyEncoding, sequence}
 use Rattle.pkcs1_c.specs.declared.container.PrivateKeyInfo.{PrivateKeyInfo}
-use Rattle.pkcs1_c.specs.Words.{kind_number, IsErrorNumber, InfoError, Unwritten, HasKey, private_key_info}
+use Rattle.pkcs1_c.specs.Words.{IsErrorNumber, InfoError, Unwritten, HasKey, private_key_info}
 use Rattle.pkcs1_c.proofs.StructErrors.{IsOne, unwritten_one}
 
 -- Each fault of a container's RSA key is about the bytes.

@@ -1,10 +1,10 @@
 -- Parameters that have an encoding can be held.
-use Rattle.std.proofs.Common.{ℕ, List, [], ◌∷◌, ◌++◌, ◌≡◌, ◌≤◌, length, length-append, refl, sym, subst, ap, arith, rules, ◌+◌, ◌∙◌, true, false, inl, inr, Option, Some, None}
+use Rattle.std.proofs.Common.{ℕ, List, [], ◌∷◌, ◌++◌, ◌≡◌, ◌≤◌, length, length-append, refl, sym, subst, ap, arith, rules, ◌+◌, true, inl, inr, Option, Some, None}
 use Rattle.der_core.specs.Words.{tlv_fit, is_allowed}
 use Rattle.pkcs1_params.specs.Words.{mgf1_identifier, pss_lawful, source_identifier}
 use Rattle.spki_core.specs.Words.{field}
 use Rattle.standard.specs.Statement.{Algorithm, Field, Fields, IfPresent, IsAlgorithm, IsAny, IsIdentifier, OaepEncoding, OaepParameters, PssEncoding, PssParameters, TagAndContents, algorithm, any, empty_label, integer, limit, mgf1_sha1, optional, sha1, tlv}
-use Rattle.pkcs1_c.specs.Words.{NoStatus, AlgorithmError, AnyError, HashFieldsThen, MaskError, OaepFieldError, OidError, OptionError, PartThen, PlainError, PssFieldError}
+use Rattle.pkcs1_c.specs.Words.{NoStatus, AlgorithmError, AnyError, HashFieldsThen, MaskError, OaepFieldError, OidError, OptionError, PlainError, PssFieldError}
 use Rattle.pkcs1_c.proofs.StructErrors.{part_none}
 
 -- A value with an encoding within the limit has none of the errors.

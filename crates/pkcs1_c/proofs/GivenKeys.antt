@@ -1,5 +1,5 @@
 -- Keys and other primes that the caller passes: their numbers, their encodings, their length.
-use Rattle.std.proofs.Common.{ℕ, List, [], ◌∷◌, ◌++◌, ◌≡◌, ◌≤◌, ◌∙◌, length, length-append, map, subst, sym, ap, arith, rules, Bool, true, false, nat_lt, ◌↔◌, slice_index, if◌then◌else◌, zero, suc, ◌+◌, ◌-◌, ◌<◌, take, drop, get_or, refl, Some, Result, Ok, Err}
+use Rattle.std.proofs.Common.{ℕ, List, [], ◌∷◌, ◌++◌, ◌≡◌, ◌≤◌, ◌∙◌, length, length-append, map, subst, sym, ap, arith, rules, nat_lt, ◌↔◌, slice_index, if◌then◌else◌, ◌+◌, ◌-◌, ◌<◌, take, drop, get_or, refl, Some, Result, Err}
 use Rattle.std.specs.List.{AllByRecursion, concat}
 use Rattle.std.proofs.lemmas.Grind.{common_steps}
 use Rattle.der_core.specs.Words.{tlv_fit, limit, Spells, all_encodings, Counts, joined}

@@ -1,9 +1,9 @@
 -- A key that the caller passes, as the row that it is written as.
-use Rattle.std.proofs.Common.{ℕ, List, ◌≡◌, ◌≤◌, length, refl, sym, subst, ap, arith, Option, Some, None, Result, option_map}
+use Rattle.std.proofs.Common.{ℕ, List, ◌≡◌, ◌≤◌, length, sym, subst, arith, Option, Some, None, Result, option_map}
 use Rattle.std.proofs.lemmas.Grind.{common_steps}
 use Rattle.std.proofs.lemmas.List.{length-map}
 use Rattle.std.specs.List.{AllByRecursion}
-use Rattle.der_core.specs.Words.{Prepends, limit, Appends, Counts}
+use Rattle.der_core.specs.Words.{Prepends, Appends, Counts}
 use Rattle.der_core.specs.declared.back_writer.BackWriter.{BackWriter}
 use Rattle.der_core.specs.declared.error.Error.{Error}
 use Rattle.pkcs1.proofs.KeyRows.{Parts, key_appended, key_counted, key_prepended, row_room, row_valid}

@@ -1,5 +1,5 @@
 -- Parameters that are held: their parts can be, and they have encodings. Their faults are about the bytes.
-use Rattle.std.proofs.Common.{ℕ, List, ◌≡◌, arith, rules, refl, subst, true, false, Option, Some, None, inl, inr, option_map, ◌∙◌}
+use Rattle.std.proofs.Common.{ℕ, List, ◌≡◌, arith, rules, refl, subst, Option, Some, None, option_map, ◌∙◌}
 use Rattle.spki_core.specs.Words.{viewed_with, any_of, viewed_held, octets_of, FieldRecord, record_means, record_whole, spelling_read, record_alike, record_front_law}
 use Rattle.spki_core.specs.declared.algorithm_identifier.AlgorithmIdentifierOf.{AlgorithmIdentifierOf}
 use Rattle.spki_core.specs.declared.any.AnyRef.{AnyRef}
@@ -8,7 +8,7 @@ use Rattle.pkcs1_params.specs.Words.{oaep_viewed, pss_viewed, FaultsTell}
 use Rattle.pkcs1_params.specs.declared.oaep.OaepParamsOf.{OaepParamsOf}
 use Rattle.pkcs1_params.specs.declared.pss.PssParamsOf.{PssParamsOf}
 use Rattle.standard.specs.Statement.{Algorithm, IsIdentifier, OaepParameters, PssParameters, TagAndContents, Field}
-use Rattle.pkcs1_c.specs.Words.{NoStatus, PartThen, OidError, AnyError, OptionError, AlgorithmError, PlainError, MaskError, HashFieldsThen, PssFieldError, OaepFieldError}
+use Rattle.pkcs1_c.specs.Words.{NoStatus, OidError, AnyError, OptionError, AlgorithmError, PlainError, MaskError, HashFieldsThen, PssFieldError, OaepFieldError}
 use Rattle.pkcs1_c.proofs.StructErrors.{part_none}
 use Rattle.der_core.specs.Words.{tagged_alike, whole_alike, made_tells, tagged, whole}
 use Rattle.der_core.specs.Tags as tags

@@ -1,5 +1,5 @@
 -- Other primes that are read from a list and placed in an array.
-use Rattle.std.proofs.Common.{ℕ, List, [], ◌∷◌, ◌++◌, ◌≡◌, ◌+◌, ◌<◌, ◌⊎◌, inr, length, map, take, drop, sym, ap, ◌∙◌, arith, set, drop-set-lt, drop-drop, ◌≤◌, refl, Err, Ok, Result, Some, None, length-append}
+use Rattle.std.proofs.Common.{ℕ, List, [], ◌∷◌, ◌++◌, ◌≡◌, ◌+◌, ◌<◌, ◌⊎◌, inr, length, map, take, drop, sym, ap, ◌∙◌, arith, set, drop-set-lt, drop-drop, ◌≤◌, refl, Err, Ok, Some, length-append}
 use Rattle.std.proofs.lemmas.List.{map-set, take_more_set, length-map}
 use Rattle.std.proofs.lemmas.Grind.{common_steps}
 use Rattle.der_core.proofs.ReadSteps.{Gives}

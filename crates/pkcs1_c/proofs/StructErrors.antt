@@ -1,11 +1,11 @@
 -- Why what a program gives isn't written: one status at most, neither 0 nor that of lack of room for a part.
-use Rattle.std.proofs.Common.{ℕ, List, [], ◌∷◌, ◌++◌, ◌≡◌, ◌≢◌, ◌+◌, ◌<◌, ◌≤◌, ◌⊎◌, length, take, drop, take-append-drop, get_or, refl, subst, sym, ap, ◌∙◌, arith, rules, Option, Some, None, inl, inr, ⊎_elim, true, false}
+use Rattle.std.proofs.Common.{ℕ, List, [], ◌∷◌, ◌++◌, ◌≡◌, ◌≢◌, ◌+◌, ◌<◌, ◌≤◌, length, take, drop, take-append-drop, get_or, refl, subst, sym, ap, ◌∙◌, arith, rules, Option, Some, None, inl, inr}
 use Rattle.std.proofs.lemmas.List.{take_more, drop_more}
 use Rattle.der_core.specs.Words.{WhyNoNumber, limit, octets_canonical, octets_number, AllHave}
 use Rattle.der_core.specs.declared.error.ErrorKind.{ErrorKind}
-use Rattle.pkcs1_c.specs.Words.{NoStatus, kind_number, PartThen, NumberError, NumbersError, Unwritten, numbers_of_primes, OidError, AnyError, OptionError, AlgorithmError, PlainError, MaskError, HashFieldsThen, PssFieldError, OaepFieldError, HaveBytes, number, numbers_of_prime}
+use Rattle.pkcs1_c.specs.Words.{NoStatus, kind_number, PartThen, NumberError, NumbersError, Unwritten, numbers_of_primes, OidError, AnyError, OptionError, AlgorithmError, PlainError, HashFieldsThen, PssFieldError, OaepFieldError, HaveBytes, number, numbers_of_prime}
 use Rattle.pkcs1_c.specs.declared.private_key.OtherPrime.{OtherPrime}
-use Rattle.standard.specs.Statement.{Algorithm, IsIdentifier, IsShortest, OaepParameters, PssParameters, TagAndContents, octets}
+use Rattle.standard.specs.Statement.{Algorithm, IsShortest, OaepParameters, PssParameters, TagAndContents, octets}
 
 -- There is one status at most.
 abbrev pub IsOne : (ℕ → Type 0) → Type 0

@@ -1,12 +1,11 @@
 -- What is so of all calls that write: the front, the reason, the code of an error, the needed length.
-use Rattle.std.proofs.Common.{ℕ, zero, suc, List, ◌≡◌, ◌≢◌, ◌<◌, ◌∙◌, ◌⊎◌, length, take, refl, sym, subst, arith, rules, inl, inr, Some, length-take-le, ◌↔◌, Result, Ok, Err, IfErr, IsErrAnd, ◌≤◌, ap}
+use Rattle.std.proofs.Common.{ℕ, zero, suc, List, ◌≡◌, ◌<◌, ◌∙◌, ◌⊎◌, length, take, refl, sym, subst, arith, rules, inl, inr, Some, length-take-le, ◌↔◌, Result, Err, ◌≤◌, ap}
 use Rattle.standard.specs.Statement.{Decodes, Encodes}
 use Rattle.pkcs1_c.specs.Words.{IsErrorOf, NoStatus, FieldsError, PartThen, Unwritten, If, IsLength, WritesOrTells, kind_number, status_of, IsErrorNumber, IsStatusOf}
-use Rattle.pkcs1_c.proofs.StructErrors.{IsOne, IsPart, fits_written, unwritten_one}
+use Rattle.pkcs1_c.proofs.StructErrors.{IsOne, IsPart, fits_written}
 use Rattle.der_core.specs.Words.{EncodeError, TellsOfBytes, another, encode_error, no_encoding, no_room, shortest_is, too_long, limit, Spells, WritesShortest}
 use Rattle.der_core.specs.Writing as writing
 use Rattle.der_core.specs.declared.error.ErrorKind.{ErrorKind}
-use Rattle.der_core.specs.declared.error.ErrorKind.TheVariants as kind
 use Rattle.pkcs1_params.specs.Words.{IsAsn1, Refuses}
 use Rattle.pkcs1_params.specs.declared.error.Error.{Error}
 use Rattle.pkcs1_params.specs.declared.error.Error.TheVariants as error

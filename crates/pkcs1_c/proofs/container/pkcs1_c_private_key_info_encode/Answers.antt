@@ -3,7 +3,7 @@ use Rattle.pkcs1.proofs.KeyReads.{private_tells}
 use Rattle.pkcs1.specs.Words.{rsa_private_key}
 use Rattle.pkcs8_core.specs.Words.{container_spells}
 use Rattle.standard.specs.Statement.{ContainerEncoding}
-use Rattle.pkcs1_c.specs.Words.{InfoError, Unwritten, HasKey, If, private_key_info}
+use Rattle.pkcs1_c.specs.Words.{InfoError, Unwritten, HasKey, private_key_info}
 use Rattle.pkcs1_c.proofs.Containers.{ContainerSpells, error_none, info_one, info_rest}
 use Rattle.pkcs1_c.proofs.Writes.{status_known, error_as, held_written, is_error, unwritten_so}
 use Rattle.pkcs1_c.proofs.container.pkcs1_c_private_key_info_encode.Goals as goal

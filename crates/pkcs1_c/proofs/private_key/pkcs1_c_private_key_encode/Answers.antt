@@ -1,4 +1,4 @@
-use Rattle.std.proofs.Common.{length, refl, ◌≡◌, arith, rules}
+use Rattle.std.proofs.Common.{length, refl, arith, rules}
 use Rattle.standard.specs.Statement.{PrivateKeyEncoding}
 use Rattle.pkcs1_c.specs.Words.{given_key, Miscounted, NumbersError, PartThen, Unwritten, given_numbers, HasPrivateNumbers, If, private_key}
 use Rattle.pkcs1_c.proofs.GivenKeys.{PrivateSpells, private_fits, private_has, private_law, private_valid}

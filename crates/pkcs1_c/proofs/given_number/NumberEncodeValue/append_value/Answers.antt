@@ -1,6 +1,6 @@
-use Rattle.std.proofs.Common.{arith, sym, subst, ◌≤◌, length}
+use Rattle.std.proofs.Common.{arith, ◌≤◌, length}
 use Rattle.std.proofs.lemmas.Grind.{common_steps}
-use Rattle.der_core.specs.Words.{integer_contents, holds_canonical, contents_as, limit, Appends}
+use Rattle.der_core.specs.Words.{integer_contents, holds_canonical, contents_as, limit}
 use Rattle.pkcs1_c.proofs.given_number.NumberEncodeValue.append_value.Goals as goal
 
 pub returns-clause-appends : goal.returns-clause-appends

@@ -1,6 +1,6 @@
-use Rattle.std.proofs.Common.{ℕ, List, ◌∷◌, ◌≡◌, ◌<◌, ◌≤◌, ◌∙◌, length, sym, subst, arith, rules, Bool, nat_lt, slice_index, if◌then◌else◌}
+use Rattle.std.proofs.Common.{ℕ, List, ◌∷◌, ◌≡◌, ◌<◌, ◌≤◌, ◌∙◌, length, arith, rules, Bool, nat_lt, slice_index, if◌then◌else◌}
 use Rattle.std.proofs.lemmas.Grind.{common_steps}
-use Rattle.der_core.specs.Words.{Prepends, free_of, integer_contents, holds_canonical, contents_as}
+use Rattle.der_core.specs.Words.{free_of, integer_contents, holds_canonical, contents_as}
 use Rattle.pkcs1_c.proofs.given_number.NumberEncodeValue.prepend_value.Goals as goal
 
 pub prepend-requires : goal.prepend-requires

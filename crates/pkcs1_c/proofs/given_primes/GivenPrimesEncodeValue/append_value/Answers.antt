@@ -1,4 +1,4 @@
-use Rattle.std.proofs.Common.{◌≡◌, ◌≤◌, ◌++◌, ◌∙◌, ap, append_assoc, arith, drop, get_or, length, length-append, refl, ◌+◌, sym, take, take_all, rules}
+use Rattle.std.proofs.Common.{◌≡◌, ◌≤◌, ◌++◌, ◌∙◌, ap, arith, drop, get_or, length, refl, ◌+◌, sym, take, take_all, rules}
 use Rattle.std.proofs.lemmas.Grind.{common_steps}
 use Rattle.der_core.specs.Words.{err_from_is_err_and, limit, all_encodings}
 use Rattle.der_core.proofs.Items.{encodings_around, encodings_more}
