@@ -2,43 +2,50 @@
 -- the fields has their faults.
 use Rattle.std.proofs.Common.{◌≡◌, ℕ, List, [], ◌∷◌, refl, sym, ap, ◌∙◌, inl, inr, Ok, Err, Some, None}
 use Rattle.der_core.specs.declared.error.ErrorKind.{ErrorKind}
-use Rattle.der_core.specs.Words.{Input, end_of, read_from, left_in, ok_pair, AllocatesIn, Asks, FrontReading, Reading, ◌>>=◌, made, no_parts, AreBytes, made_errs, Tlv}
+use Rattle.der_core.specs.Words.{Input, end_of, read_from, left_in, ok_pair, AllocatesIn, Asks, FrontReading, Reading, ◌>>=◌, made, AreBytes, made_errs, Tlv}
 use Rattle.spki_core.specs.Words.{FieldAllocates, AlgorithmAllocates, Kind, Values, values_read, FieldRecord, record_read, defaulted, record_reads}
 use Rattle.der_core.proofs.ReadSteps.{Fails, Gives, chain_from, fails_so}
 use Rattle.der_core.specs.declared.error.ErrorKind.TheVariants.{OutOfMemory}
 use Rattle.standard.specs.Statement.{Field, Fields}
 
 -- A value that is made of another.
-pub made_gives : {A B : Type 0} (make : A → B) (read : Reading A) {a : A} (before : Input)
+made_gives : {A B : Type 0} (make : A → B) (read : Reading A) {a : A} (before : Input)
     → read_from before read ≡ Ok a → read_from before (made make read) ≡ Ok (make a)
 made_gives make read None p = cc
 made_gives make read (Some c) p = ap (λ r. r >>= λ a. Ok (make a)) p
 
--- One field and those behind it, with the number and the default of the first as the code has them.
-module _ (k : Kind) (ks : List Kind) {given : k.Value} {n : ℕ} (same : given ≡ k.default) (is : n ≡ k.number) where
-  abbrev at : FrontReading k.Value
-  at = defaulted k.number k.at k.default
+-- A fault of fields of these kinds, and what is read of them.
+pub record FieldsFail (ks : List Kind) (e : ErrorKind) (before after : Input) : Type 0 where
+  pub fails : Fails (values_read ks) (λ _. ⊥) e before after
 
+pub record FieldsGive (ks : List Kind) (v : Values ks) (before : Input) : Type 0 where
+  pub gives : read_from before (values_read ks) ≡ Ok v
+
+abbrev field_at : (k : Kind) → FrontReading k.Value
+field_at k = defaulted k.number k.at k.default
+
+-- One field and those behind it, with the number and the default of the first as the code has them.
+module _ {k : Kind} {ks : List Kind} {given : k.Value} {n : ℕ} (same : given ≡ k.default) (is : n ≡ k.number) where
   -- it has a fault
-  pub field_fails : {asks : List ℕ → Type 0} → ((b : List ℕ) → asks b → ⊥) → {e : ErrorKind} (before : Input)
-      {after : Input} → Fails (defaulted n k.at given) (AllocatesIn (FieldAllocates n asks)) e before after
-      → Fails (values_read (k ∷ ks)) (λ _. ⊥) e before after
-  field_fails {asks} never {e} before {after} fails =
-      let known : Fails at (AllocatesIn (FieldAllocates k.number asks)) e before after = rw (is, same) at fails in
-      fails_so at (values_read (k ∷ ks)) (λ k c p. ap (λ r. r >>= λ p. values_read ks p.1 >>= λ b. Ok (p.0, b)) p)
-      (AllocatesIn (FieldAllocates k.number asks)) (λ _. ⊥)
-      (λ c w. let inner = w.3.holds in never inner.0 inner.3) e before after known
+  pub field_fails : {asks : List ℕ → Type 0} → ((b : List ℕ) → asks b → ⊥) → {e : ErrorKind} {before after : Input}
+      → Fails (defaulted n k.at given) (AllocatesIn (FieldAllocates n asks)) e before after
+      → FieldsFail (k ∷ ks) e before after
+  field_fails {asks} never {e} {before} {after} fails =
+      let known : Fails (field_at k) (AllocatesIn (FieldAllocates k.number asks)) e before after = rw (is, same) at fails in record {
+        fails =
+            fails_so (field_at k) (values_read (k ∷ ks)) (λ k c p. ap (λ r. r >>= λ p. values_read ks p.1 >>= λ b. Ok (p.0, b)) p)
+            (AllocatesIn (FieldAllocates k.number asks)) (λ _. ⊥)
+            (λ c w. let inner = w.3.holds in never inner.0 inner.3) e before after known;
+      }
 
   -- it was read
-  module _ {v : k.Value} (before : Input) {mid : Input} (read : Gives (defaulted n k.at given) v before mid) where
-    known : Gives at v before mid
-    known = rw (is, same) at read
-
-    pub behind_field : {e : ErrorKind} {after : Input} → Fails (values_read ks) (λ _. ⊥) e mid after
-        → Fails (values_read (k ∷ ks)) (λ _. ⊥) e before after
-    behind_field {e} {after} = go before known
+  module _ {v : k.Value} {before mid : Input} (read : Gives (defaulted n k.at given) v before mid) where
+    pub behind_field : {e : ErrorKind} {after : Input} → FieldsFail ks e mid after → FieldsFail (k ∷ ks) e before after
+    behind_field {e} {after} later =
+        let known : Gives (field_at k) v before mid = rw (is, same) at read in
+        record { fails = go before known later.fails }
       where
-        go : (input : Input) → Gives at v input mid → Fails (values_read ks) (λ _. ⊥) e mid after
+        go : (input : Input) → Gives (field_at k) v input mid → Fails (values_read ks) (λ _. ⊥) e mid after
             → Fails (values_read (k ∷ ks)) (λ _. ⊥) e input after
         go None (left, p, there) fails = let no = p in cc
         go (Some i) (left, p, there) (failed, inl w) = let asked = rw there at w.1 in absurd asked
@@ -49,24 +56,27 @@ module _ (k : Kind) (ks : List Kind) {given : k.Value} {n : ℕ} (same : given �
               ∙ ap (λ r. r >>= λ b. Ok (v, b)) (rw there at q)),
         )
 
-    pub field_gives : {w : Values ks} → read_from mid (values_read ks) ≡ Ok w
-        → read_from before (values_read (k ∷ ks)) ≡ Ok (v, w)
-    field_gives {w} p =
-        chain_from at (λ a. made (λ b. (a, b)) (values_read ks)) v before mid known
-        ∙ made_gives (λ b. (v, b)) (values_read ks) mid p
+    pub field_gives : {w : Values ks} → FieldsGive ks w mid → FieldsGive (k ∷ ks) (v, w) before
+    field_gives {w} later = record {
+      gives =
+          let known : Gives (field_at k) v before mid = rw (is, same) at read in
+          chain_from (field_at k) (λ a. made (λ b. (a, b)) (values_read ks)) v before mid known
+          ∙ made_gives (λ b. (v, b)) (values_read ks) mid later.gives;
+    }
 
 -- The end.
 pub end_gives : (before : Input) {after : Input} → Gives end_of tt before after
-    → (read_from before no_parts ≡ Ok tt) × (after ≡ Some [])
+    → FieldsGive [] tt before × (after ≡ Some [])
 end_gives None (rest, p, is) = let no = p in cc
-end_gives (Some []) (rest, p, is) = (refl, is ∙ ap (λ l. Some l) (sym (ok_pair tt tt [] rest p).1))
+end_gives (Some []) (rest, p, is) =
+    (record { gives = refl }, is ∙ ap (λ l. Some l) (sym (ok_pair tt tt [] rest p).1))
 end_gives (Some (x ∷ xs)) (rest, p, is) = let no = p in cc
 
 pub end_fails : {e : ErrorKind} (before : Input) {after : Input} → (read_from before end_of ≡ Err e) × (after ≡ None)
-    → Fails no_parts (λ _. ⊥) e before after
-end_fails None (p, failed) = (failed, inr (let q = p in cc))
+    → FieldsFail [] e before after
+end_fails None (p, failed) = record { fails = (failed, inr (let q = p in cc)) }
 end_fails (Some []) (p, failed) = let no = p in cc
-end_fails (Some (x ∷ xs)) (p, failed) = (failed, inr (let q = p in cc))
+end_fails (Some (x ∷ xs)) (p, failed) = record { fails = (failed, inr (let q = p in cc)) }
 
 pub never : (b : List ℕ) → ⊥ → ⊥
 never b h = h
@@ -84,10 +94,15 @@ mask_never = algorithm_never plain_never
 pub number_never : (b : List ℕ) → Tlv 2 (λ _. ⊥) b → ⊥
 number_never b p = p.holds
 
-pub made_fails : {A B : Type 0} (make : A → B) (read : Reading A) {e : ErrorKind} (before : Input) {after : Input}
-    → Fails read (λ _. ⊥) e before after → Fails (made make read) (λ _. ⊥) e before after
-made_fails make read {e} before {after} =
-    fails_so read (made make read) (made_errs make read) (λ _. ⊥) (λ _. ⊥) never e before after
+pub record_fails : {V : Type 0} {Is : V → Type 0} {fields : V → List Field} (r : FieldRecord Is fields) {e : ErrorKind}
+    {before after : Input} → FieldsFail r.kinds e before after → Fails (record_read r) (λ _. ⊥) e before after
+record_fails r {e} {before} {after} f =
+    fails_so (values_read r.kinds) (record_read r) (made_errs r.join (values_read r.kinds)) (λ _. ⊥) (λ _. ⊥) never e
+    before after f.fails
+
+pub record_gives : {V : Type 0} {Is : V → Type 0} {fields : V → List Field} (r : FieldRecord Is fields)
+    {v : Values r.kinds} {before : Input} → FieldsGive r.kinds v before → read_from before (record_read r) ≡ Ok (r.join v)
+record_gives r {v} {before} f = made_gives r.join (values_read r.kinds) before f.gives
 
 -- Reading of owned parameters that fails: there was no memory for the copy of what was read.
 module _ {V : Type 0} {Is : V → Type 0} {fields : V → List Field} (r : FieldRecord Is fields)
