@@ -1,12 +1,8 @@
-use Rattle.std.proofs.Common.{◌≡◌, ◌∙◌, false, refl, true}
+use Rattle.std.proofs.Common.{◌≡◌, ◌∙◌, true}
 use Rattle.der_core.proofs.QuickReading.{read_inside}
 use Rattle.der_core.specs.Words.{context_tag, is_next}
 use Rattle.spki_core.specs.Words.{explicit_is}
 use Rattle.spki_core.proofs.field.quick_field.Goals as goal
-
-pub returns-then-not-begins_with : goal.returns-then-not-begins_with
-returns-then-not-begins_with g c =
-    let gone : is_next (context_tag c.args.number.value) c.args.bytes.now ≡ false = cc in rw gone refl
 
 pub returns : goal.returns
 returns g c =

@@ -5,26 +5,15 @@ use Rattle.der_core.proofs.ReadSteps.{reads_all, whole_trailing}
 use Rattle.spki_core.specs.Words.{any_of, any_values, any}
 use Rattle.spki_core.proofs.any.AnyRefDecodeRefSliceU8.from_der.Goals as goal
 
-pub returns-in_err-reader-clause-encoding : goal.returns-in_err-reader-clause-encoding
-returns-in_err-reader-clause-encoding g c =
-    reads_all any_of any c.args.bytes.now (whole_reads any_values) _ c.from_residual.result
-    (are_bytes _ (λ i. omega (arith, c.type_inv.bytes i))) (search rules)
-
 pub returns-in_err-any-clause-encoding : goal.returns-in_err-any-clause-encoding
 returns-in_err-any-clause-encoding g c =
     reads_all any_of any c.args.bytes.now (whole_reads any_values) _ c.from_residual-in_err-any.result
     (are_bytes _ (λ i. omega (arith, c.type_inv.bytes i))) (search rules)
 
-pub returns-in_err-finish-clause-exact : goal.returns-in_err-finish-clause-exact
-returns-in_err-finish-clause-exact g c =
-    let p = err_from_is_err_and c.from_residual-in_err-finish.result c.from_residual-in_err-finish.ensures.1 in
-    rw (p.1, p.2) (inr (whole_trailing any _ _ _ _ _ c.in_ok-reader.ensures.ok
-    (left_of-bounded c.in_ok-reader.reader) c.in_ok-any.ensures c.in_err-finish.ensures.0))
-
 pub returns-in_err-finish-clause-encoding : goal.returns-in_err-finish-clause-encoding
 returns-in_err-finish-clause-encoding g c =
     reads_all any_of any c.args.bytes.now (whole_reads any_values) _ c.from_residual-in_err-finish.result
-    (are_bytes _ (λ i. omega (arith, c.type_inv.bytes i))) (returns-in_err-finish-clause-exact g c)
+    (are_bytes _ (λ i. omega (arith, c.type_inv.bytes i))) (search rules)
 
 pub returns-clause-encoding : goal.returns-clause-encoding
 returns-clause-encoding g c =
