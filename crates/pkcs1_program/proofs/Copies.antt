@@ -4,7 +4,7 @@ use Rattle.std.proofs.lemmas.Option.{none-some, same_Some}
 use Rattle.std.proofs.lemmas.Result.{IfErr-weaker}
 use Rattle.der_core.specs.declared.error.Error as der
 use Rattle.der_core.specs.declared.error.ErrorKind.{ErrorKind}
-use Rattle.der_core.specs.Words.{ok_of, Reading, GivesAll}
+use Rattle.der_core.specs.Words.{ok_of, Reading}
 use Rattle.pkcs1.specs.Words.{IsEncoded}
 use Rattle.pkcs1_params.specs.declared.error.Error.{Error}
 use Rattle.pkcs1_params.specs.declared.error.Error.TheVariants as error
@@ -26,54 +26,28 @@ pub some_key : {X V : Type 0} (Encoding : V → List ℕ → Type 0) (value : X 
 some_key Encoding value same (Ok x) told no_error = (value x, rw same at told.0)
 some_key Encoding value same (Err e) told no_error = absurd (no_error e refl)
 
--- What came is rejected as a key.
-pub no_key : {V : Type 0} (read : Reading V) (e : Error) (encoding : List ℕ)
-    (before after : Option (List ℕ)) (failures failures2 : ℕ)
-    → failures2 ≡ failures → GivesAll before after encoding → IsAsn1 (λ a. read encoding ≡ Err a.kind) e
-    → IsAsn1 (λ a. WhyKeyNotRead read a.kind before after failures failures2) e
-no_key read e encoding before after failures failures2 same gives fault =
-    asn1_by _ _ (λ a f. inr (same, encoding, gives, f)) e fault
-
 -- Why a key isn't copied from an opened file to a place is why the file isn't copied.
-stopped : {V F Place : Type 0} (Encoding : V → List ℕ → Type 0) (read : Reading V)
-    (Opens : Option F → Type 0) (remaining : F → Option (List ℕ)) (failures : F → ℕ) (source source2 : F)
-    (At : Place → List ℕ → Type 0) (Refuses : List ℕ → Type 0) (place : Place) (Unused : Type 0) (e : ErrorKind)
-    → Opens (Some source) → ((bytes : List ℕ) → At place bytes → Refuses bytes)
-    → (WhyKeyNotRead read e (remaining source) (remaining source2) (failures source) (failures source2) × Unused)
-    ⊎ WhyKeyNotWritten Encoding e (remaining source) (remaining source2) (failures source) (failures source2) At
-    (Some place)
-    → WhyNotCopied Encoding read e Opens remaining failures Refuses
-stopped Encoding read Opens remaining failures source source2 At Refuses place Unused e opens refuses
-    (inl (inl document, _)) =
-    inl (inr (source, source2, opens, document))
-stopped Encoding read Opens remaining failures source source2 At Refuses place Unused e opens refuses
-    (inl (inr (_, encoding, gives, fault), _)) =
-    inr (inl (encoding, (source, source2, opens, gives), fault))
-stopped Encoding read Opens remaining failures source source2 At Refuses place Unused e opens refuses
-    (inr (file, _, encoding, gives, is, inl none)) =
-    absurd (none-some place (sym none))
-stopped Encoding read Opens remaining failures source source2 At Refuses place Unused e opens refuses
-    (inr (file, _, encoding, gives, is, inr (other, same, refused))) =
-    inr (inr (
-      file,
-      (
-        encoding,
-        (source, source2, opens, gives),
-        is,
-        refuses encoding (rw (same_Some place other same) refused),
-      ),
-    ))
+module _ {V F Place : Type 0} (Encoding : V → List ℕ → Type 0) (read : Reading V) (Opens : Option F → Type 0)
+    (remaining : F → Option (List ℕ)) (failures : F → ℕ) (source source2 : F) (At : Place → List ℕ → Type 0)
+    (Refuses : List ℕ → Type 0) (place : Place) (Unused : Type 0) where
+  abbrev Stops : ErrorKind → Type 0
+  Stops e =
+      (WhyKeyNotRead read e (remaining source) (remaining source2) (failures source) (failures source2) × Unused)
+      ⊎ WhyKeyNotWritten Encoding e (remaining source) (remaining source2) (failures source) (failures source2) At
+      (Some place)
 
-pub not_copied : {X V F Place : Type 0} (Encoding : V → List ℕ → Type 0) (read : Reading V)
-    (Opens : Option F → Type 0) (remaining : F → Option (List ℕ)) (failures : F → ℕ) (source source2 : F)
-    (At : Place → List ℕ → Type 0) (Refuses : List ℕ → Type 0) (place : Place) (Unused : Type 0) (r : Result X Error)
-    → IfErr r (IsAsn1 (λ e.
-    (WhyKeyNotRead read e.kind (remaining source) (remaining source2) (failures source) (failures source2) × Unused)
-    ⊎ WhyKeyNotWritten Encoding e.kind (remaining source) (remaining source2) (failures source) (failures source2) At
-    (Some place)))
-    → Opens (Some source) → ((bytes : List ℕ) → At place bytes → Refuses bytes)
-    → IfErr r (IsAsn1 (λ e. WhyNotCopied Encoding read e.kind Opens remaining failures Refuses))
-not_copied Encoding read Opens remaining failures source source2 At Refuses place Unused r h opens refuses =
-    IfErr-weaker r _ _ (λ error. asn1_by _ _ (λ e.
-    stopped Encoding read Opens remaining failures source source2 At Refuses place Unused e.kind opens refuses)
-    error) h
+  stopped : (e : ErrorKind) → Opens (Some source) → ((bytes : List ℕ) → At place bytes → Refuses bytes) → Stops e
+      → WhyNotCopied Encoding read e Opens remaining failures Refuses
+  stopped e opens refuses (inl (inl document, _)) = inl (inr (source, source2, opens, document))
+  stopped e opens refuses (inl (inr (_, encoding, gives, fault), _)) =
+      inr (inl (encoding, (source, source2, opens, gives), fault))
+  stopped e opens refuses (inr (file, _, encoding, gives, is, inl none)) = absurd (none-some place (sym none))
+  stopped e opens refuses (inr (file, _, encoding, gives, is, inr (other, same, refused))) =
+      let at : Refuses encoding = refuses encoding (rw (same_Some place other same) refused) in
+      inr (inr (file, (encoding, (source, source2, opens, gives), is, at)))
+
+  pub not_copied : {X : Type 0} (r : Result X Error) → IfErr r (IsAsn1 (λ e. Stops e.kind)) → Opens (Some source)
+      → ((bytes : List ℕ) → At place bytes → Refuses bytes)
+      → IfErr r (IsAsn1 (λ e. WhyNotCopied Encoding read e.kind Opens remaining failures Refuses))
+  not_copied r h opens refuses =
+      IfErr-weaker r _ _ (λ error. asn1_by _ _ (λ e. stopped e.kind opens refuses) error) h

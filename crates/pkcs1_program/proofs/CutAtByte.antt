@@ -1,7 +1,8 @@
 -- An input and a line, cut at the first place of a byte.
-use Rattle.std.proofs.Common.{◌≡◌, ℕ, suc, ◌+◌, ◌<◌, ◌==◌, Bool, true, false, not, cond, List, [], ◌∷◌, length, take, drop, Some, None, refl, ◌∙◌, arith, one-add, add-one, position, take_all}
+use Rattle.std.proofs.Common.{◌≡◌, ℕ, suc, ◌+◌, ◌<◌, ◌==◌, not, List, [], ◌∷◌, length, take, drop, Some, None, refl, ◌∙◌, arith, one-add, add-one, position, take_all, inl, inr}
 use Rattle.std.specs.List.{position_or_len, onto_first}
 use Rattle.der_core.specs.Words.{nat_tests}
+use Rattle.std.proofs.lemmas.Bool.{cases_Bool}
 use Rattle.std.proofs.lemmas.List.{drop_all}
 use Rattle.std.proofs.lemmas.List.Sums.{prefix_len-le-length}
 use Rattle.std.proofs.lemmas.List.Splits.{length-slice_split}
@@ -20,33 +21,31 @@ abbrev to_line_feed : List ℕ → ℕ
 to_line_feed bytes = position_or_len (λ byte. byte == 10) bytes
 
 -- the first line ends at the first line feed, or at the end
-lines_of-more : (b n : ℕ) (bs line rest : List ℕ) (more : List (List ℕ)) → more ≡ take n bs ∷ lines_of (drop (n + 1) bs)
+lines_of-more : (b n : ℕ) (bs : List ℕ) (more : List (List ℕ)) → more ≡ take n bs ∷ lines_of (drop (n + 1) bs)
     → onto_first b more ≡ take (1 + n) (b ∷ bs) ∷ lines_of (drop (1 + n + 1) (b ∷ bs))
-lines_of-more b n bs line rest more h = rw (h, one-add, add-one, add-one)
+lines_of-more b n bs more h = rw (h, one-add, add-one, add-one)
 
 pub lines_of-first : (b : ℕ) (bs : List ℕ)
     → lines_of (b ∷ bs) ≡ take (to_line_feed (b ∷ bs)) (b ∷ bs) ∷ lines_of (drop (to_line_feed (b ∷ bs) + 1) (b ∷ bs))
-lines_of-first b [] =
-    elim (b == 10) as (λ t. cond t ([] ∷ []) ((b ∷ []) ∷ []) ≡ take (cond (not t) 1 0) (b ∷ [])
-    ∷ lines_of (drop (cond (not t) 1 0 + 1) (b ∷ []))) [ true ↦ refl | false ↦ refl ]
-lines_of-first b (c ∷ bs) =
-    let rest = lines_of-first c bs in
-    elim (b == 10) as (λ t. cond t ([] ∷ lines_of (c ∷ bs)) (onto_first b (lines_of (c ∷ bs)))
-    ≡ take (cond (not t) (1 + to_line_feed (c ∷ bs)) 0) (b ∷ c ∷ bs)
-    ∷ lines_of (drop (cond (not t) (1 + to_line_feed (c ∷ bs)) 0 + 1) (b ∷ c ∷ bs)))
-    [ true ↦ refl | false ↦ lines_of-more b (to_line_feed (c ∷ bs)) (c ∷ bs) [] [] _ rest ]
+lines_of-first b [] = elim (cases_Bool (b == 10)) [
+  | inl is ↦ rw is refl
+  | inr isnt ↦ rw isnt refl
+]
+lines_of-first b (c ∷ bs) = elim (cases_Bool (b == 10)) [
+  | inl is ↦ rw is refl
+  | inr isnt ↦ rw isnt (lines_of-more b (to_line_feed (c ∷ bs)) (c ∷ bs) _ (lines_of-first c bs))
+]
 
 -- a line with no space is one part
 pub parts_of-none : (line : List ℕ) → position_or_len (λ byte. byte == 32) line ≡ length line
     → parts_of line ≡ line ∷ []
 parts_of-none [] h = refl
-parts_of-none (b ∷ bs) h =
-    let P : Bool → Type 0 =
-    λ t. cond (not t) (1 + position_or_len (λ byte. byte == 32) bs) 0 ≡ suc (length bs)
-    → cond t ([] ∷ parts_of bs) (onto_first b (parts_of bs)) ≡ (b ∷ bs) ∷ [] in
-    let cases : P (b == 32) = elim (b == 32) as P
-    [ true ↦ λ e. absurd (omega arith) | false ↦ λ e. rw (parts_of-none bs (omega arith)) ] in
-    cases h
+parts_of-none (b ∷ bs) h = elim (cases_Bool (b == 32)) [
+  | inl is ↦ let no : 0 ≡ suc (length bs) = rw is at h in absurd (omega (arith, no))
+  | inr isnt ↦
+      let later : 1 + position_or_len (λ byte. byte == 32) bs ≡ suc (length bs) = rw isnt at h in
+      rw (isnt, parts_of-none bs (omega (arith, later))) refl
+]
 
 pub lines_of-at : (n : ℕ) (bytes : List ℕ) → 0 < length bytes → to_line_feed bytes ≡ n
     → lines_of bytes ≡ take n bytes ∷ lines_of (drop (n + 1) bytes)

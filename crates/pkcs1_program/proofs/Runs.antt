@@ -6,6 +6,7 @@ use Rattle.std.proofs.Math.Seq.{take-append-add}
 use Rattle.std.proofs.lemmas.List.{take-append-le, take_min}
 use Rattle.der_core.specs.Words.{AppendsFront, AtMostOne}
 use Rattle.pkcs1_program.specs.Words.{Answer, Outputs, Makes, WritesFront, WritesFrontOfAll, parts_of, bad_line, words, pair_words, named, decoded, encoding_of, asked_with, pair_asked_with, asked_by, asked_by_parts}
+use Rattle.std.proofs.lemmas.Bool.{false_from_ne_true}
 use Rattle.std.specs.List.{join_with_byte}
 use Rattle.std.proofs.lemmas.List.Splits.{slice_split_none, join_with_byte-slice_split}
 use Rattle.std.proofs.lemmas.Slice.Eq.{bytes_eq-Decides}
@@ -32,13 +33,10 @@ Outputs-push (first ∷ lines) line output answer h k = (
 pub Makes-push : (old mid new : Option (List ℕ)) (held all held2 : List ℕ) (lines : List (List ℕ))
     (line answer front : List ℕ) → Makes old mid held lines → Answer line answer → all ≡ held ++ (answer ++ 10 ∷ [])
     → Appends mid new front → all ≡ front ++ held2 → Makes old new held2 (lines ++ line ∷ [])
-Makes-push old mid new held all held2 lines line answer front made h e taken split = (
-  made.0 ++ front,
-  Appends-trans old mid new _ _ made.1 taken,
-  subst (Outputs (lines ++ line ∷ [])) (append_assoc made.0 held (answer ++ 10 ∷ []) ∙ ap (λ o. made.0 ++ o) (sym e)
-      ∙ ap (λ o. made.0 ++ o) split
-      ∙ sym (append_assoc made.0 front held2)) (Outputs-push lines line (made.0 ++ held) answer made.2 h),
-)
+Makes-push old mid new held all held2 lines line answer front made h e taken split =
+    let whole : (made.0 ++ front) ++ held2 ≡ (made.0 ++ held) ++ (answer ++ 10 ∷ []) =
+    rw (append_assoc, append_assoc, ← split, e) refl in
+    (made.0 ++ front, Appends-trans old mid new _ _ made.1 taken, rw whole (Outputs-push lines line (made.0 ++ held) answer made.2 h))
 
 -- a beginning of what is held was written
 pub Makes-front : (old mid new : Option (List ℕ)) (held : List ℕ) (all lines rest : List (List ℕ))
@@ -89,33 +87,23 @@ WritesFront-all one old new lines written all answers =
 -- a space is no digit
 not_space : (b : ℕ) → is_hex_digit b ≡ true → (b == 32) ≡ false
 not_space b digit =
-    elim (b == 32) as (λ t. (b == 32) ≡ t → t ≡ false) [
-      | true ↦ λ e. let no : false ≡ true = subst (λ x. is_hex_digit x ≡ true) (eqb-true b 32 e) digit in cc
-      | false ↦ λ e. refl
-    ] refl
+    false_from_ne_true (b == 32)
+    (λ e. let no : false ≡ true = subst (λ x. is_hex_digit x ≡ true) (eqb-true b 32 e) digit in cc)
 
-decoded_ok : (r : Result (List ℕ) FromHexError) (encoding : List ℕ) → decoded r ≡ Some encoding
-    → (bytes : List ℕ) × (r ≡ Ok bytes)
-decoded_ok (Ok bytes) encoding e = (bytes, refl)
-decoded_ok (Err failure) encoding e = cc
+-- what stands for an encoding has no space, so what has one stands for no encoding
+hex_one_part : (hex bytes : List ℕ) → decode_of hex ≡ Ok bytes → parts_of hex ≡ hex ∷ []
+hex_one_part hex bytes ok =
+    slice_split_none (λ byte. byte == 32) hex (λ k d below. not_space _ ((decode_of-ok hex bytes ok).1 k d below))
 
--- what stands for an encoding has no space
-hex_one_part : (hex encoding : List ℕ) → encoding_of hex ≡ Some encoding → parts_of hex ≡ hex ∷ []
-hex_one_part hex encoding e =
-    let ok = decoded_ok (decode_of hex) encoding e in
-    let digits = (decode_of-ok hex ok.0 ok.1).1 in
-    slice_split_none (λ byte. byte == 32) hex (λ k d below. not_space _ (digits k d below))
-
--- what has a space stands for no encoding
-no_encoding_at : (encoding : Option (List ℕ)) (hex a b : List ℕ) (more : List (List ℕ)) → encoding_of hex ≡ encoding
-    → parts_of hex ≡ a ∷ b ∷ more → encoding ≡ None
-no_encoding_at None hex a b more e cut = refl
-no_encoding_at (Some encoding) hex a b more e cut =
-    let lengths : length (hex ∷ []) ≡ length (a ∷ b ∷ more) = ap length (sym (hex_one_part hex encoding e) ∙ cut) in
+no_encoding_at : (r : Result (List ℕ) FromHexError) (hex a b : List ℕ) (more : List (List ℕ)) → decode_of hex ≡ r
+    → parts_of hex ≡ a ∷ b ∷ more → decoded r ≡ None
+no_encoding_at (Ok bytes) hex a b more ok cut =
+    let lengths : length (hex ∷ []) ≡ length (a ∷ b ∷ more) = ap length (sym (hex_one_part hex bytes ok) ∙ cut) in
     absurd (omega (arith, lengths))
+no_encoding_at (Err failure) hex a b more e cut = refl
 
 no_encoding : (hex a b : List ℕ) (more : List (List ℕ)) → parts_of hex ≡ a ∷ b ∷ more → encoding_of hex ≡ None
-no_encoding hex a b more cut = no_encoding_at (encoding_of hex) hex a b more refl cut
+no_encoding hex a b more cut = no_encoding_at (decode_of hex) hex a b more refl cut
 
 -- the only part is the whole
 one_part : (line part : List ℕ) → parts_of line ≡ part ∷ [] → part ≡ line
@@ -131,11 +119,10 @@ no_parts line cut =
 another_name : (name word : List ℕ) (w : Word) → named words name ≡ None → named words word ≡ Some w
     → bytes_eq name word ≡ false
 another_name name word w none some =
-    elim (bytes_eq name word) as (λ t. bytes_eq name word ≡ t → t ≡ false) [
-      | true ↦ λ e. let no : None ≡ Some w =
-          sym none ∙ subst (λ n. named words n ≡ Some w) (sym ((bytes_eq-Decides name word).0 e)) some in cc
-      | false ↦ λ e. refl
-    ] refl
+    false_from_ne_true (bytes_eq name word) (λ e.
+    let no : None ≡ Some w =
+    sym none ∙ subst (λ n. named words n ≡ Some w) (sym ((bytes_eq-Decides name word).0 e)) some in
+    cc)
 
 no_pair_word : (word : List ℕ) (w : Word) → named words word ≡ Some w → named pair_words word ≡ None
 no_pair_word word w is =

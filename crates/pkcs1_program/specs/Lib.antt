@@ -2,11 +2,6 @@ pub mod Written
 pub mod Fault
 pub mod Plan
 pub mod Copied
-pub mod Lines
 pub mod Request
-pub mod RequestValue
-pub mod MemoryErrors
-pub mod Told
 pub mod Answer
-pub mod Put
 pub mod Words

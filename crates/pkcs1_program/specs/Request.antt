@@ -1,14 +1,26 @@
--- What a line asks for.
-use Rattle.std.specs.Prelude.{ℕ, List, [], ◌∷◌, Option, Some, None, codes, find, option_map, bytes_eq}
+-- The lines of an input, and what a line asks for.
+use Rattle.std.specs.Prelude.{ℕ, ◌==◌, if◌then◌else◌, List, [], ◌∷◌, Option, Some, None, codes, find, option_map, bytes_eq}
+use Rattle.std.specs.List.{onto_first, slice_split}
 use Rattle.std.specs.declared.result.Result.{Result}
 use Rattle.std.specs.declared.result.Result.TheVariants.{Ok, Err}
 use Rattle.hex.specs.Hex.{decode_of}
 use Rattle.hex.specs.declared.error.FromHexError.{FromHexError}
+use Rattle.pkcs1_program.specs.declared.request.Request.{Request}
+use Rattle.pkcs1_program.specs.declared.request.Request.TheVariants as request
 use Rattle.pkcs1_program.specs.declared.request.Word.{Word}
 use Rattle.pkcs1_program.specs.declared.request.Word.TheVariants as word
 use Rattle.pkcs1_program.specs.declared.request.PairWord.{PairWord}
 use Rattle.pkcs1_program.specs.declared.request.PairWord.TheVariants as pair
-use Rattle.pkcs1_program.specs.Lines.{parts_of}
+
+-- A line ends before a line feed or at the end of the input. No empty line follows a last line feed, and an empty input
+-- has no line.
+abbrev pub lines_of : List ℕ → List (List ℕ)
+lines_of [] = []
+lines_of (byte ∷ bytes) = if byte == 10 then [] ∷ lines_of bytes else onto_first byte (lines_of bytes)
+
+-- the parts of a line, split at each space
+abbrev pub parts_of : List ℕ → List (List ℕ)
+parts_of line = slice_split (λ byte. byte == 32) line
 
 -- The words of lines with one HEX part.
 abbrev pub words : List (List ℕ × Word)
@@ -68,3 +80,9 @@ asked_by_parts (word ∷ hex ∷ second ∷ more ∷ rest) = bad_line
 -- what the line asks for
 abbrev pub asked_by : List ℕ → Asked
 asked_by line = asked_by_parts (parts_of line)
+
+-- A request, with the buffers that hold the bytes of its HEX parts.
+abbrev pub seen : Request → List ℕ → List ℕ → Asked
+seen request.BadLine first second = bad_line
+seen (request.Word word) first second = asks word first
+seen (request.Pair word) first second = asks_pair word first second

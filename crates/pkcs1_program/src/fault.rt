@@ -1,5 +1,7 @@
 //! Why a run stopped.
-ghost use Rattle.std.specs.Prelude.{Some};
+ghost use Rattle.std.specs.Prelude.{◌≡◌, Some};
+ghost use Rattle.pkcs1_program.specs.Words.{fault_text};
+ghost use Rattle.pkcs1_program.specs.declared.fault.Fault.TheVariants.{Memory};
 
 use std::alloc::{AllocError, AllocFailed};
 use std::fmt;
@@ -13,8 +15,6 @@ pub enum Fault {
 }
 
 impl fmt::Display for Fault {
-    ghost use Rattle.pkcs1_program.specs.Words.{fault_text};
-
     ghost output = { λ fault. Some (fault_text fault) };
 
     fn fmt<W: fmt::Write>(&self, f: &mut fmt::Formatter<W>) -> fmt::Result {
@@ -27,9 +27,6 @@ impl fmt::Display for Fault {
 }
 
 impl From<AllocError> for Fault {
-    ghost use Rattle.std.specs.Prelude.{◌≡◌};
-    ghost use Rattle.pkcs1_program.specs.declared.fault.Fault.TheVariants.{Memory};
-
     ghost from_gives = { λ _ e. e ≡ Memory };
 
     fn from(_e: AllocError) -> Fault {
@@ -38,9 +35,6 @@ impl From<AllocError> for Fault {
 }
 
 impl<T: Drop> From<AllocFailed<T>> for Fault {
-    ghost use Rattle.std.specs.Prelude.{◌≡◌};
-    ghost use Rattle.pkcs1_program.specs.declared.fault.Fault.TheVariants.{Memory};
-
     ghost from_gives = { λ _ e. e ≡ Memory };
 
     fn from(_e: AllocFailed<T>) -> Fault {

@@ -1,7 +1,7 @@
-use Rattle.std.proofs.Common.{arith, inr, rules, Ok}
-use Rattle.der_core.specs.Words.{err_from_is_err_and, are_bytes, left_of-bounded}
+use Rattle.std.proofs.Common.{arith, rules, Ok}
+use Rattle.der_core.specs.Words.{are_bytes}
 use Rattle.der_core.proofs.Readings.{whole_reads}
-use Rattle.der_core.proofs.ReadSteps.{reads_all, whole_trailing}
+use Rattle.der_core.proofs.ReadSteps.{reads_all}
 use Rattle.spki_core.specs.Words.{any_of, any_values, any}
 use Rattle.spki_core.proofs.any.AnyRefDecodeRefSliceU8.from_der.Goals as goal
 
