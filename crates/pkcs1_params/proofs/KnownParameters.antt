@@ -5,7 +5,7 @@ use Rattle.std.proofs.lemmas.Option.{IfSome_then}
 use Rattle.der_core.specs.Words.{nat_tests, AreBytes, length_octets-short, small_contents_as, written_encodes}
 use Rattle.spki_core.specs.Words.{FieldRecord, Kind, Values, is_identifier-sound, null_value, record_under, spelled, under}
 use Rattle.spki_core.proofs.Fielded.{made, shortest_is}
-use Rattle.pkcs1_params.specs.Words.{hash_algorithm, hash_kind, mask_kind, mgf1_identifier, oaep_record, octets_value, pss_lawful, pss_record, salt_kind, source_identifier, source_kind, trailer_kind, id_p_specified, Encoded, AreKnown, oaep_with_hashes, pss_with_hashes, salt_field, with_parameters}
+use Rattle.pkcs1_params.specs.Words.{hash_algorithm, hash_kind, mask_kind, mgf1_identifier, label_front, oaep_record, octets_value, pss_lawful, pss_record, salt_kind, source_identifier, source_kind, trailer_kind, id_p_specified, Encoded, AreKnown, oaep_with_hashes, pss_with_hashes, salt_field, with_parameters}
 use Rattle.standard.specs.Statement.{Encodes, Field, IsIdentifier, IsShortest, length_octets}
 
 -- A value that may be encoded, of which these contents octets in two parts are written where no default is.
@@ -26,12 +26,9 @@ hash_identifier n few =
     let byte : n < 256 = omega (arith, few) in
     is_identifier-sound (hash_algorithm n) (search rules) (rw (low, other) refl)
 
--- The octets of a source with this label, and of its field.
+-- The octets of a source with this label.
 abbrev source_contents : List ℕ → List ℕ
 source_contents l = 0x06 ∷ 0x09 ∷ id_p_specified ++ 0x04 ∷ length l ∷ l
-
-abbrev label_field : List ℕ → List ℕ
-label_field l = 0xa2 ∷ (15 + length l) ∷ 0x30 ∷ (13 + length l) ∷ source_contents l
 
 salt_behind : (s : ℕ) (b : Bool) → s < 128 → (s == 20) ≡ b
     → AreBehind (salt_kind ∷ trailer_kind ∷ []) (s, (1, tt)) (if b then [] else salt_field s)
@@ -43,7 +40,7 @@ salt_behind s false small is =
     rw (is, small_contents_as s byte, test) (refl, omega arith)
 
 source_behind : (l : List ℕ) (b : Bool) → length l < 64 → (length l == 0) ≡ b
-    → AreBehind (source_kind ∷ []) (with_parameters id_p_specified (octets_value l), tt) (if b then [] else label_field l)
+    → AreBehind (source_kind ∷ []) (with_parameters id_p_specified (octets_value l), tt) (if b then [] else label_front (length l) ++ l)
 unfolding length_octets
 source_behind [] b few is = rw (← is) (refl, omega arith)
 source_behind (x ∷ y) b few is =
@@ -88,7 +85,7 @@ module _ (h m u f : List ℕ) where
 
   pub known_oaep : (p l : List ℕ) (b : Bool) → AreKnown h m u f → p ≡ id_p_specified → length l < 64 → AreBytes l
       → (length l == 0) ≡ b
-      → AreWritten oaep_record (oaep_with_hashes h m u p l) f (if b then [] else label_field l)
+      → AreWritten oaep_record (oaep_with_hashes h m u p l) f (if b then [] else label_front (length l) ++ l)
   known_oaep p l b known source few bytes is =
       let ids = identifiers known in
       let w =

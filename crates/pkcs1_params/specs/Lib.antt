@@ -6,7 +6,6 @@ pub mod OaepValue
 pub mod Spellings
 pub mod Errors
 pub mod Meanings
-pub mod FieldRefs
 pub mod ParameterReadings
 pub mod DefaultBits
 pub mod Algorithms

@@ -3,7 +3,9 @@ use Rattle.std.specs.Prelude.{ℕ, ◌+◌, ◌<◌, ◌≡◌, ◌==◌, List, 
 use Rattle.der_core.specs.Words.{small_of, FrontReading, Reading, made, such, tagged, whole, is_allowed}
 use Rattle.der_core.specs.Tags as tags
 use Rattle.der_core.specs.declared.error.ErrorKind.TheVariants.{Value}
-use Rattle.spki_core.specs.Words.{same_mask, same_plain, Kind, Values, strict_contents, strict_slice, values_read, algorithm_read, any as any_front}
+use Rattle.spki_core.specs.Words.{same_mask, same_plain, Kind, Values, strict_contents, strict_slice, values_read, algorithm_read, any as any_front, WrittenField, field_with}
+use Rattle.pkcs1_params.specs.declared.fields.FieldRef.{FieldRef}
+use Rattle.pkcs1_params.specs.declared.fields.FieldRef.TheVariants as ref
 use Rattle.standard.specs.Statement.{Algorithm, IsAlgorithm, IsAny, OaepParameters, PssParameters, TagAndContents, algorithm, any, empty_label, integer, mgf1_sha1, sha1}
 
 -- Algorithm identifiers with parameters of any tag, and with such an identifier as parameters.
@@ -120,3 +122,19 @@ strict_pss_params = strict_slice pss_kinds of_pss_fields
 
 abbrev pub strict_oaep_params : Reading OaepParameters
 strict_oaep_params = strict_slice oaep_kinds of_oaep_fields
+
+-- == A borrowed field as it is written, by what its holder holds ==
+abbrev pub field_number : {P M : Type 0} → FieldRef P M → ℕ
+field_number (ref.Hash v) = 0
+field_number (ref.MaskGen v) = 1
+field_number (ref.SaltLen n) = 2
+field_number (ref.Trailer t) = 3
+field_number (ref.PSource v) = 2
+
+module _ {P M : Type 0} (plain : P → Algorithm TagAndContents) (mask : M → Algorithm (Algorithm TagAndContents)) where
+  abbrev pub field_in : FieldRef P M → WrittenField
+  field_in (ref.Hash v) = field_with hash_kind (plain v.now)
+  field_in (ref.MaskGen v) = field_with mask_kind (mask v.now)
+  field_in (ref.SaltLen n) = field_with salt_kind n
+  field_in (ref.Trailer t) = field_with trailer_kind 1
+  field_in (ref.PSource v) = field_with source_kind (plain v.now)

@@ -1,6 +1,6 @@
 -- hashAlgorithm and maskGenAlgorithm of a SHA-2 hash function with NULL, and MGF1 with the same hash function (RFC 8017
 -- A.2.1, A.2.3, B.1): most parameters begin with them.
-use Rattle.std.specs.Prelude.{ℕ, List, [], ◌∷◌, ◌++◌, ◌≡◌, ◌<◌, ◌≤◌, ◌⊎◌, length}
+use Rattle.std.specs.Prelude.{ℕ, List, [], ◌∷◌, ◌++◌, ◌+◌, ◌≡◌, ◌<◌, ◌≤◌, ◌⊎◌, length}
 use Rattle.spki_core.specs.Words.{Algorithm, TagAndContents, null_value}
 use Rattle.pkcs1_params.specs.HashFunctions.{hash_algorithm}
 use Rattle.pkcs1_params.specs.OaepValue.{labelled}
@@ -40,6 +40,10 @@ oaep_with_hash hash = record (labelled id_sha1 []) { hash = hash; mask_gen = wit
 abbrev pub salt_field : ℕ → List ℕ
 salt_field s = 0xa2 ∷ 0x03 ∷ 0x02 ∷ 0x01 ∷ s ∷ []
 
+-- The octets in front of a label of fewer than 64 in its field.
+abbrev pub label_front : ℕ → List ℕ
+label_front n = 0xa2 ∷ (15 + n) ∷ 0x30 ∷ (13 + n) ∷ 0x06 ∷ 0x09 ∷ id_p_specified ++ 0x04 ∷ n ∷ []
+
 -- Contents octets that are both fields, and for PSS a salt length.
 abbrev pub IsUsualPss : PssParameters → List ℕ → Type 0
 IsUsualPss p contents =
@@ -67,16 +71,12 @@ IsKnownOaep hash mask_gen under source label =
     (fields : List ℕ) × AreKnown hash mask_gen under fields × (source ≡ id_p_specified) × (length label < 64)
 
 abbrev pub pss_with_hashes : List ℕ → List ℕ → List ℕ → ℕ → PssParameters
-pss_with_hashes hash mask_gen under s = record {
-  hash = with_parameters hash null_value;
+pss_with_hashes hash mask_gen under s = record (pss_with_hash (with_parameters hash null_value) s) {
   mask_gen = with_parameters mask_gen (with_parameters under null_value);
-  salt_len = s;
-  trailer_field = 1;
 }
 
 abbrev pub oaep_with_hashes : List ℕ → List ℕ → List ℕ → List ℕ → List ℕ → OaepParameters
-oaep_with_hashes hash mask_gen under source label = record {
-  hash = with_parameters hash null_value;
+oaep_with_hashes hash mask_gen under source label = record (labelled hash label) {
   mask_gen = with_parameters mask_gen (with_parameters under null_value);
   p_source = with_parameters source (octets_value label);
 }

@@ -2,16 +2,15 @@
 pub use Rattle.pkcs1_params.specs.Algorithms.{Identifies, NamesFirstDefaultIn, PlainEncoding, identified, parameters_as, rsa_oaep_algorithm, rsa_pss_algorithm, strict_oaep_algorithm, strict_pss_algorithm, whole_algorithm}
 pub use Rattle.pkcs1_params.specs.DefaultBits.{bit_of, bits_of}
 pub use Rattle.pkcs1_params.specs.Errors.{IsAsn1, error_text}
-pub use Rattle.pkcs1_params.specs.FieldRefs.{field_in, field_number}
 pub use Rattle.pkcs1_params.specs.HashFunctions.{UsesHash, hash_algorithm, id_sha224, id_sha256, id_sha384, id_sha512, id_sha512_224, id_sha512_256}
 pub use Rattle.pkcs1_params.specs.Labels.{CountsLabelled, LabelOf, source_with, written_labelled, written_source}
 pub use Rattle.pkcs1_params.specs.Meanings.{AreDelimited, ErrsAs, ErrsOrAsks, FaultsTell, IsEncoded, Refuses, fault_in}
 pub use Rattle.pkcs1_params.specs.OaepValue.{IsBareOaep, LabelFits, NoLabelFits, OwnedOaepAllocates, labelled, oaep_in, oaep_of, oaep_viewed, oaep_with}
-pub use Rattle.pkcs1_params.specs.ParameterReadings.{hash_kind, mask_kind, oaep_kinds, oaep_read, of_oaep_fields, of_pss_fields, plain_front, pss_kinds, pss_read, rsa_oaep_params, rsa_pss_params, salt_kind, source_kind, strict_oaep_params, strict_pss_params, trailer_kind, trailer_read}
+pub use Rattle.pkcs1_params.specs.ParameterReadings.{field_in, field_number, hash_kind, mask_kind, oaep_kinds, oaep_read, of_oaep_fields, of_pss_fields, plain_front, pss_kinds, pss_read, rsa_oaep_params, rsa_pss_params, salt_kind, source_kind, strict_oaep_params, strict_pss_params, trailer_kind, trailer_read}
 pub use Rattle.pkcs1_params.specs.Parameters.{OaepParameters, PssParameters, id_mgf1, id_p_specified, id_rsa_encryption, id_sha1, octets_value, pkcs1_algorithm, with_parameters}
 pub use Rattle.pkcs1_params.specs.PssValue.{IsBarePss, OwnedPssAllocates, pss_in, pss_of, pss_viewed, pss_with}
 pub use Rattle.pkcs1_params.specs.Spellings.{AcceptedFits, DefaultsAreCounted, EachHasOneMask, EachMaskHasOne, Encoded, EncodedUnder, FirstWritten, InRange, IsListingError, IsMask, NamesFirstDefault, ShortestHasNoDefaults, encodings_in}
-pub use Rattle.pkcs1_params.specs.UsualParameters.{AreKnown, AreUsual, HaveUsualHash, IsKnownOaep, IsKnownPss, IsUsualOaep, IsUsualPss, fields_with_hash, oaep_with_hash, oaep_with_hashes, pss_with_hash, pss_with_hashes, salt_field}
+pub use Rattle.pkcs1_params.specs.UsualParameters.{AreKnown, AreUsual, HaveUsualHash, IsKnownOaep, IsKnownPss, IsUsualOaep, IsUsualPss, fields_with_hash, label_front, oaep_with_hash, oaep_with_hashes, pss_with_hash, pss_with_hashes, salt_field}
 pub use Rattle.pkcs1_params.specs.declared.error.Error.{Error}
 pub use Rattle.pkcs1_params.specs.Laws.Equality.{mask_decides, oaep_decides, plain_decides, pss_decides}
 pub use Rattle.pkcs1_params.specs.Laws.Records.{mgf1_identifier, oaep_identifier, oaep_record, plain_law, pss_identifier, pss_lawful, pss_record, source_identifier, trailer_law}

@@ -2,7 +2,7 @@
 //! are written as octets that are known, without a test of their identifiers.
 ghost use Rattle.std.specs.Prelude.{◌≡◌, ◌+◌, ◌<◌, ◌≤◌, ◌∷◌, ◌++◌, drop, length, IfSome, List, None, Some, ℕ};
 ghost use Rattle.der_core.specs.Words.{AreBytes, Prepends, free_of, sequence_tag};
-ghost use Rattle.pkcs1_params.specs.Words.{AreKnown, IsKnownOaep, IsKnownPss, hash_algorithm, oaep_with_hashes, pss_with_hashes};
+ghost use Rattle.pkcs1_params.specs.Words.{AreKnown, IsKnownOaep, IsKnownPss, hash_algorithm, label_front, oaep_with_hashes, pss_with_hashes};
 ghost use Rattle.standard.specs.Statement.{Encodes, OaepEncoding, PssEncoding};
 
 use crate::hash_fields::{is_mgf1, is_sha1};
@@ -95,6 +95,33 @@ fn put_sequence(fields: &[u8], later: &[u8], last: &[u8], out: &mut [u8]) -> Opt
     Some(count + 2)
 }
 
+/// What stands in front of a label of this many octets, in its field: two headers, pSpecified, and a header.
+#[inline(always)]
+fn label_front(count: u8) -> [u8; 17]
+    requires { count < 64 }
+    ensures { result ≡ label_front count }
+{
+    [
+        0xa2,
+        15 + count,
+        0x30,
+        13 + count,
+        0x06,
+        0x09,
+        0x2a,
+        0x86,
+        0x48,
+        0x86,
+        0xf7,
+        0x0d,
+        0x01,
+        0x01,
+        0x09,
+        0x04,
+        count,
+    ]
+}
+
 /// Writes the shortest encoding of RSASSA-PSS parameters to the front of a slice, if it is known and there is room.
 /// The hash functions have NULL.
 #[inline(always)]
@@ -148,25 +175,6 @@ pub fn encode_known_oaep(
     if label.is_empty() {
         return put_sequence(fields, &[], &[], out);
     }
-    let count = label.len() as u8;
-    let later = [
-        0xa2,
-        15 + count,
-        0x30,
-        13 + count,
-        0x06,
-        0x09,
-        0x2a,
-        0x86,
-        0x48,
-        0x86,
-        0xf7,
-        0x0d,
-        0x01,
-        0x01,
-        0x09,
-        0x04,
-        count,
-    ];
+    let later = label_front(label.len() as u8);
     put_sequence(fields, &later, label, out)
 }

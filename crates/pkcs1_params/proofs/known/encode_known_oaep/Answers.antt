@@ -30,11 +30,12 @@ returns-clause-written c =
     let bytes = are_bytes _ (λ i. omega (arith, c.type_inv.label i)) in
     let known =
     known_oaep _ _ _ _ _ _ false c.in_ok-fields.ensures.some source (omega arith) bytes (sym c.if-is_empty.ensures) in
-    put_encodes known c.args.out.now _ put.result put.auto.out put.ensures.written
+    put_encodes known c.args.out.now _ put.result put.auto.out (rw c.label_front-later.ensures at put.ensures.written)
 
 pub returns-clause-none : goal.returns-clause-none
 returns-clause-none c none is =
     let put = c.put_sequence-2 in
     let bytes = are_bytes _ (λ i. omega (arith, c.type_inv.label i)) in
     let known = known_oaep _ _ _ _ _ _ false c.in_ok-fields.ensures.some is.2 is.3 bytes (sym c.if-is_empty.ensures) in
-    not_put known c.args.out.now _ put.result none put.ensures.unchanged put.ensures.none
+    not_put known c.args.out.now _ put.result none put.ensures.unchanged
+    (rw c.label_front-later.ensures at put.ensures.none)
