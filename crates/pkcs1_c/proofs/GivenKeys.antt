@@ -14,7 +14,7 @@ use Rattle.pkcs1_c.specs.declared.private_key.OtherPrime.{OtherPrime}
 use Rattle.pkcs1_c.specs.declared.private_key.PrivateKey.{PrivateKey}
 use Rattle.pkcs1_c.specs.declared.public_key.PublicKey.{PublicKey}
 use Rattle.pkcs1_c.specs.Words.{number_of, NoStatus, NumberError, NumbersError, given_numbers, numbers_of_primes, two_numbers, HasNumbers, HasPrivateNumbers, HaveBytes, number, numbers_of_key, numbers_of_prime, other_prime, other_primes, private_key, public_key, AreCounted, given_encoded}
-use Rattle.pkcs1_c.proofs.StructErrors.{none_apart, none_both, number_none, numbers_have, part_none}
+use Rattle.pkcs1_c.proofs.StructErrors.{none_apart, none_both, numbers_have, part_none}
 use Rattle.der_core.proofs.Writing.{counts_joined}
 use Rattle.der_core.proofs.Items.{encodings_behind_len, encodings_more}
 use Rattle.der_core.specs.declared.error.Error.{Error}
@@ -31,7 +31,7 @@ numbers_fit [] some few = λ s p. p
 numbers_fit (n ∷ ns) some few =
     let l = length-append (integer (number n)) (integers (map number ns)) in
     part_none (NumberError n) (NumbersError ns)
-    (number_none n some.0 (omega (arith, number_fits (number n), l, few)))
+    (λ s p. omega (arith, p, number_fits (number n), l, some.0))
     (numbers_fit ns some.1 (omega (arith, l, few)))
 
 pub public_fits : (key : PublicKey) → HasNumbers key → (bytes : List ℕ) → PublicKeyEncoding (public_key key) bytes
@@ -126,7 +126,8 @@ pub private_valid : (key : PrivateKey) (others : List OtherPrime) (made : keys.P
     → private_stated made ≡ private_key key others → PrivateIsValid AnyNumber made
 private_valid key others made same =
     let is : IsPrivateKey (private_key key others) = search rules in
-    subst (PrivateIsValid AnyNumber) (private_itself made) ((private_is_valid made).1 (subst IsPrivateKey (sym same) is))
+    subst (PrivateIsValid AnyNumber) (private_itself made)
+    ((private_is_valid made).1 (subst IsPrivateKey (sym same) is))
 
 -- Other primes that the caller passes: their encodings are those of the primes with these numbers.
 

@@ -1,7 +1,7 @@
 -- Why what a program gives isn't written: one status at most, neither 0 nor that of lack of room for a part.
 use Rattle.std.proofs.Common.{ℕ, List, [], ◌∷◌, ◌++◌, ◌≡◌, ◌≢◌, ◌+◌, ◌<◌, ◌≤◌, length, take, drop, take-append-drop, get_or, refl, subst, sym, ap, ◌∙◌, arith, rules, Option, Some, None, inl, inr}
 use Rattle.std.proofs.lemmas.List.{take_more, drop_more}
-use Rattle.der_core.specs.Words.{WhyNoNumber, limit, octets_canonical, octets_number, AllHave}
+use Rattle.der_core.specs.Words.{WhyNoNumber, octets_canonical, octets_number, AllHave}
 use Rattle.der_core.specs.declared.error.ErrorKind.{ErrorKind}
 use Rattle.pkcs1_c.specs.Words.{NoStatus, kind_number, PartThen, NumberError, NumbersError, Unwritten, numbers_of_primes, OidError, AnyError, OptionError, AlgorithmError, PlainError, HashFieldsThen, PssFieldError, OaepFieldError, HaveBytes, number, numbers_of_prime}
 use Rattle.pkcs1_c.specs.declared.private_key.OtherPrime.{OtherPrime}
@@ -48,10 +48,6 @@ number_rejected [] k (inr p) = absurd (omega (arith, p.0 (0 ∷ []) (inl refl) r
 number_rejected (b ∷ bytes) k (inr p) =
     let n = number (b ∷ bytes) in
     inr (ap kind_number p.1, omega arith, p.0 (octets n) (octets_canonical n) (octets_number n))
-
-pub number_none : (bytes : List ℕ) → 0 < length bytes → length (octets (number bytes)) ≤ limit
-    → NoStatus (NumberError bytes)
-number_none bytes some few s p = omega (arith, p)
 
 number_has : (bytes : List ℕ) → NoStatus (NumberError bytes) → 0 < length bytes
 number_has [] none = absurd (none 4 (search rules))

@@ -1,7 +1,7 @@
 use Rattle.std.proofs.Common.{ap, ◌∙◌, length, sym, arith, rules}
 use Rattle.der_core.specs.Words.{number_octets, bytes_of}
 use Rattle.standard.specs.Statement.{octets}
-use Rattle.pkcs1_c.proofs.StructErrors.{number_none, number_rejected}
+use Rattle.pkcs1_c.proofs.StructErrors.{number_rejected}
 use Rattle.pkcs1_c.proofs.numbers.number.Goals as goal
 
 pub returns-in_err-new-clause-err : goal.returns-in_err-new-clause-err
@@ -12,4 +12,4 @@ pub returns-clause-held : goal.returns-clause-held
 returns-clause-held c =
     let made = c.in_ok-new.ensures in
     let same = ap octets (sym made.ok.0) ∙ number_octets (bytes_of c.in_ok-new.field-0) made.ok.1 in
-    number_none c.args.bytes.now made.some (omega (arith, ap length same, c.in_ok-new.field-0.bounded))
+    λ s p. omega (arith, p, ap length same, made.some, c.in_ok-new.field-0.bounded)

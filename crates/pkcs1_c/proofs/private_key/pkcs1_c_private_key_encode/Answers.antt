@@ -15,7 +15,8 @@ returns-then-key-others c =
     let key = c.args.key.now in
     let others = c.args.others.now in
     let v = private_key key others in
-    let later = PartThen (NumbersError (given_numbers key others)) (Unwritten PrivateKeyEncoding v (length c.args.out.now)) in
+    let room = length c.args.out.now in
+    let later = PartThen (NumbersError (given_numbers key others)) (Unwritten PrivateKeyEncoding v room) in
     let counted : IsPart (Miscounted key others) = (grind arith, grind arith) in
     let told =
     part_told (Miscounted key others) later counted (If (HasPrivateNumbers key others) PrivateKeyEncoding) v

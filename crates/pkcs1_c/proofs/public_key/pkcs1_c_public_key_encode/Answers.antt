@@ -33,5 +33,6 @@ returns-in-Err c =
     let numbers = two_numbers key in
     let told =
     part_told (NumbersError numbers) (Unwritten PublicKeyEncoding v room) (numbers_part numbers)
-    (If (HasNumbers key) PublicKeyEncoding) v (λ bytes p. public_fits key p.0 bytes p.1) c.args.out.now c.args.len.now c.status.ensures c.in-Err.ensures.err in
+    (If (HasNumbers key) PublicKeyEncoding) v (λ bytes p. public_fits key p.0 bytes p.1) c.args.out.now
+    c.args.len.now c.status.ensures c.in-Err.ensures.err in
     record { writes = told.0; exact = told.1 }
