@@ -129,7 +129,7 @@ private_valid key others made same =
     subst (PrivateIsValid AnyNumber) (private_itself made)
     ((private_is_valid made).1 (subst IsPrivateKey (sym same) is))
 
--- Other primes that the caller passes: their encodings are those of the primes with these numbers.
+-- == Other primes that the caller passes: their encodings are those of the primes with these numbers ==
 
 -- What is printed of the primes.
 pub encoded_is : (others : List OtherPrime)

@@ -12,8 +12,6 @@ use Rattle.standard.specs.Statement.{OtherPrime}
 use Rattle.pkcs1_c.specs.Words.{prime_encoded, ArePlaced, numbers_of_prime, octets_of_prime}
 use Rattle.pkcs1_c.specs.declared.private_key.OtherPrime as struct
 
--- Primes that are read from a list, and placed in an array.
-
 -- The first of the primes are placed, and the others are left of the list.
 pub record Placing (primes : List OtherPrime) (left : Input) (others old : List struct.OtherPrime) (i : ℕ) : Type 0 where
   pub behind : List OtherPrime

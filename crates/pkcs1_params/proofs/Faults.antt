@@ -62,7 +62,7 @@ whole_algorithm_tells {V} {read} tell oid b k e =
         (λ w. let same : OidUnknown ≡ k = let q = w.1 in cc in (λ no. cc, λ no. cc, λ no. cc))
         (chosen (bytes_eq a.oid oid) _ _ _ e)
 
--- What holds of errors, whatever the call.
+-- == What holds of errors, whatever the call ==
 
 -- What holds anyway, holds on an error.
 pub on_err : {T E : Type 0} (P : Type 0) (r : Result T E) → P → OnErr r P
@@ -81,7 +81,7 @@ asn1_as f error.Crypto p = absurd p
 asn1_as f error.KeyMalformed p = absurd p
 asn1_as f error.Version p = absurd p
 
--- What is done with a value that was read, and errors where no memory is asked for.
+-- == What is done with a value that was read ==
 
 -- A value is read, and the rest of the function is asked.
 pub errs_behind : {X A B : Type 0} (value : X → B) (first : Result A ErrorKind) (behind : A → Result B ErrorKind)
@@ -119,7 +119,7 @@ pub no_fault : {V : Type 0} (E : V → List ℕ → Type 0) (bytes : List ℕ) (
 no_fault E bytes (Ok v) d = (λ _. (v, d.0), λ _. refl)
 no_fault E bytes (Err k) d = (λ no. cc, λ p. absurd (d p.0 p.1))
 
--- Strict reading names the first default that is written.
+-- == Strict reading names the first default that is written ==
 
 -- Contents that a later field is found in don't begin with an earlier tag.
 later_tag : (ks : List Kind) (m n : ℕ) → m < n → AreLawful n ks → (v : Values ks) (i : ℕ) (c : List ℕ)

@@ -92,7 +92,7 @@ pub counts_as : {P Q : Type 0} (octets : List ℕ) (r : Result ℕ errors.Error)
 counts_as octets (Ok n) there back c = (there c.0, c.1, c.2)
 counts_as octets (Err e) there back c = counts_why octets there back (encode_error e.kind) c
 
--- What is written under a mask: what the code joins field by field is what is printed of the spelling.
+-- == Under a mask, what the code joins field by field is what is printed of the spelling ==
 
 -- Of fields that all have their defaults, none is there under mask 0.
 none_under : (fs : List WrittenField) → bits_of (are_defaults fs) ≡ 0 → octets_under 0 fs ≡ []
@@ -241,7 +241,7 @@ module _ {V : Type 0} (Encoding : V → List ℕ → Type 0) where
     λ e. (delimited.1 v w t [] (subst (Encoding v) e x.0) (subst (Encoding w) (sym (append-nil t)) y.0)).0,
   )
 
--- No bytes encode parameters and something that begins with another tag, or identifiers of two algorithms.
+-- == No bytes encode parameters and something with another tag, or identifiers of two algorithms ==
 
 -- The fields of parameters have tags from 160 on.
 abbrev pub Begin : List Field → Type 0

@@ -12,7 +12,7 @@ any_decides t u c d =
     both_decide (number_decides t u) (bytes_decide c d) (λ p q i. record { tag = p i; contents = q i })
     (λ e. ap (λ (v : TagAndContents). v.tag) e) (λ e. ap (λ (v : TagAndContents). v.contents) e)
 
--- Values that are mapped to other ones and back.
+-- == Values that are mapped to other ones and back ==
 
 -- What X means one way is mapped to what it means the other way.
 pub record Carried {X V W : Type 0} (value : X → V) (other : X → W) : Type 0 where
@@ -25,7 +25,7 @@ pub same_carried : {X V W : Type 0} {value : X → V} {other : X → W} → Carr
     → value x ≡ value y → other x ≡ other y
 same_carried k x y same = k.meant x ∙ ap k.there same ∙ sym (k.meant y)
 
--- A type that holds a tag with contents octets, whatever its values mean.
+-- == A type that holds a tag with contents octets, whatever its values mean ==
 
 -- Its values are tags with contents.
 pub record HoldsAny {X V : Type 0} (value : X → V) (any : X → TagAndContents) : Type 0 where

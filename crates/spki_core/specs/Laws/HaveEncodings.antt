@@ -35,7 +35,7 @@ module _ {O X V : Type 0} (octets : O → List ℕ) (identifies : (oid : O) → 
   pub algorithm_held : (a : AlgorithmIdentifierOf O X) → IsAlgorithm Is (algorithm_in octets of a)
   algorithm_held a = (identifies a.oid, parameters_held a.parameters)
 
--- Types whose values are written as what they hold.
+-- == Types whose values are written as what they hold ==
 
 -- What a value means is written exactly if what it holds is, and in the same octets.
 pub record WritesAs {X V W : Type 0} (value : X → V) (Has : V → Type 0) (written : V → List ℕ) (held : X → W)

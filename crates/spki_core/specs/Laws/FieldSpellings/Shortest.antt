@@ -48,7 +48,7 @@ fields_spelled (k ∷ ks) (x, v) c (inr (later, is, p)) =
     let (s, e, same, ok) = fields_spelled ks v later p in
     ((Some x, s), (λ i. (x, e i)), is ∙ ap (λ z. one_spelled k x ++ z) same, λ valid. (valid.0, ok valid.1))
 
--- The shortest spelling of fields with defaults leaves each default out.
+-- == The shortest spelling of fields with defaults leaves each default out ==
 
 -- Any spelling of the value is the one under mask 0, or longer.
 pub shortest_first : (ks : List Kind) (n : ℕ) → AreLawful n ks → (s : Spelling ks)

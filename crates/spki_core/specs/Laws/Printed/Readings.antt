@@ -123,7 +123,7 @@ module _ {S : Type 0} {valid : S → Type 0} {printed : S → List ℕ} {at : Fr
       by_tag_law (λ (v : Numbered S). context_tag v.number) (λ v. printed v.value) (numbered_in at) in_law
       in_tells (λ v ok. number_allowed v.number ok.0)
 
--- Algorithms and values inside explicit tags are read as the values that their spellings mean.
+-- == Algorithms and values inside explicit tags are read as the values that their spellings mean ==
 
 -- Two steps are one that gives the same of each value.
 bind_same : {A B C : Type 0} (r : Result A ErrorKind) (f : A → Result B ErrorKind) (g : B → Result C ErrorKind)
