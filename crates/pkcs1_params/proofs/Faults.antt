@@ -3,7 +3,7 @@ use Rattle.std.proofs.Common.{ℕ, Bool, true, false, List, ◌≡◌, ⊎_elim,
 use Rattle.der_core.specs.declared.error.ErrorKind.{ErrorKind}
 use Rattle.der_core.specs.declared.error.ErrorKind.TheVariants.{Noncanonical, OidUnknown, Overflow, ParametersMissing, TagUnknown}
 use Rattle.der_core.specs.declared.tag.Tag.{Tag}
-use Rattle.der_core.specs.Words.{chosen, alone_law, bind_err, unexpected_tells, limit, ReadsFrontPrinted, TellsOfBytes, FrontReading, checked, tagged, whole, context_tag, is_allowed, ok_of, value_in, FaultOrMemory, ◌>>=◌, nat_tests, whole_takes, is_next}
+use Rattle.der_core.specs.Words.{chosen, alone_law, bind_err, unexpected_tells, limit, ReadsFrontPrinted, TellsOfBytes, FrontReading, checked, tagged, whole, context_tag, is_allowed, ok_of, value_in, ◌>>=◌, nat_tests, whole_takes, is_next}
 use Rattle.der_core.specs.Tags as tags
 use Rattle.spki_core.specs.Words.{FieldRecord, first_written, record_means, record_strictly, spelling_read, strict_whole, record_front_law, record_law, noncanonical, unless_found, AreLawful, AreNumbered, Kind, Spelling, Values, fields_of, meant, one_spelled, spelled, strict_value, spelled_from, not_next, is_identifier}
 use Rattle.pkcs1_params.specs.Words.{identified, parameters_as, whole_algorithm, plain_law, FaultsTell, plain_front, Error, IsAsn1, ErrsAs, IsEncoded, fault_in, NamesFirstDefaultIn, FirstWritten, NamesFirstDefault}
@@ -88,11 +88,6 @@ pub errs_behind : {X A B : Type 0} (value : X → B) (first : Result A ErrorKind
     (a : A) → first ≡ Ok a → (r : Result X Error) → ErrsAs value (behind a) r → ErrsAs value (first >>= behind) r
 errs_behind value first behind a is (Ok x) p = ap (λ r. r >>= behind) is ∙ p
 errs_behind value first behind a is (Err e) p = asn1_as (λ k f. ap (λ r. r >>= behind) is ∙ f) e p
-
--- Where no memory is asked for, the error is the function's.
-pub no_memory : {e : ErrorKind} {asked fault : Type 0} → (asked → ⊥) → FaultOrMemory e asked fault → fault
-no_memory never (inl w) = absurd (never w.1)
-no_memory never (inr f) = f
 
 -- The error of a fault.
 pub told_as : {V : Type 0} (given : Result V ErrorKind) (k : ErrorKind) → given ≡ Err k → (e : Error)

@@ -1,4 +1,4 @@
--- Copying a key stops.
+-- Why copying a key stops.
 use Rattle.std.proofs.Common.{◌≡◌, ◌⊎◌, ℕ, List, inl, inr, refl, sym, Option, Some, Result, Ok, Err, IfErr}
 use Rattle.std.proofs.lemmas.Option.{none-some, same_Some}
 use Rattle.std.proofs.lemmas.Result.{IfErr-weaker}
@@ -8,16 +8,10 @@ use Rattle.der_core.specs.Words.{ok_of, Reading}
 use Rattle.pkcs1.specs.Words.{IsEncoded}
 use Rattle.pkcs1_params.specs.declared.error.Error.{Error}
 use Rattle.pkcs1_params.specs.declared.error.Error.TheVariants as error
+use Rattle.pkcs1_params.proofs.Faults.{asn1_as}
 use Rattle.pkcs1_params.specs.Words.{IsAsn1}
 use Rattle.standard.specs.Statement.{Decodes}
 use Rattle.pkcs1_program.specs.Words.{WhyKeyNotRead, WhyKeyNotWritten, WhyNotCopied}
-
--- What is said of an error of the library below says more.
-pub asn1_by : (P Q : der.Error → Type 0) → ((a : der.Error) → P a → Q a) → (e : Error) → IsAsn1 P e → IsAsn1 Q e
-asn1_by P Q f (error.Asn1 a) h = f a h
-asn1_by P Q f error.Crypto h = absurd h
-asn1_by P Q f error.KeyMalformed h = absurd h
-asn1_by P Q f error.Version h = absurd h
 
 -- What came was read as a key, so it is one.
 pub some_key : {X V : Type 0} (Encoding : V → List ℕ → Type 0) (value : X → V) {bytes encoding : List ℕ}
@@ -50,4 +44,4 @@ module _ {V F Place : Type 0} (Encoding : V → List ℕ → Type 0) (read : Rea
       → ((bytes : List ℕ) → At place bytes → Refuses bytes)
       → IfErr r (IsAsn1 (λ e. WhyNotCopied Encoding read e.kind Opens remaining failures Refuses))
   not_copied r h opens refuses =
-      IfErr-weaker r _ _ (λ error. asn1_by _ _ (λ e. stopped e.kind opens refuses) error) h
+      IfErr-weaker r _ _ (λ error. asn1_as (λ e. stopped e.kind opens refuses) error) h

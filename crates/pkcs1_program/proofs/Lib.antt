@@ -1,6 +1,6 @@
 pub mod CutAtByte
 pub mod Runs
-pub mod Answers
+pub mod OneAnswer
 pub mod PutBehind
 pub mod Verdicts
 pub mod Copies

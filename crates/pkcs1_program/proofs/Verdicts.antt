@@ -1,4 +1,4 @@
--- Whether something is so.
+-- A verdict says whether something is so.
 use Rattle.std.proofs.Common.{◌≡◌, ℕ, inl, inr, List, ◌++◌, ◌≤◌, length, Bool, true, false, refl, subst, ap, arith, Some, option_map, Result, Ok, Err, ◌↔◌, codes, if◌then◌else◌, IsTrue, is_ok}
 use Rattle.std.specs.Result.{result_ok}
 use Rattle.der_core.specs.Words.{EncodeError, WhyNotWritten, another, no_encoding, no_room, too_long, Prints, Spells, ok_of}

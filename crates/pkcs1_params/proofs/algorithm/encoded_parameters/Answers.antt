@@ -3,7 +3,7 @@ use Rattle.der_core.specs.Words.{AreBytes, are_bytes, whole_takes, ok_same, limi
 use Rattle.spki_core.specs.Words.{any_law, any}
 use Rattle.spki_core.proofs.StrictFields.{contents_bytes}
 use Rattle.pkcs1_params.proofs.Algorithms.{identifier_in}
-use Rattle.pkcs1_params.proofs.Faults.{no_memory}
+use Rattle.der_core.proofs.ReadSteps.{no_memory}
 use Rattle.pkcs1_params.proofs.Wrapped.{behind_oid}
 use Rattle.standard.specs.Statement.{TagAndContents, sequence, tlv}
 use Rattle.pkcs1_params.proofs.algorithm.encoded_parameters.Goals as goal

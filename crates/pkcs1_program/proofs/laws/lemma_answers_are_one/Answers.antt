@@ -1,4 +1,4 @@
-use Rattle.pkcs1_program.proofs.Answers.{answers_at_most_one, output_at_most_one}
+use Rattle.pkcs1_program.proofs.OneAnswer.{answers_at_most_one, output_at_most_one}
 use Rattle.pkcs1_program.proofs.laws.lemma_answers_are_one.Goals as goal
 
 pub returns : goal.returns

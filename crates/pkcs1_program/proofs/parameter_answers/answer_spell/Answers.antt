@@ -2,7 +2,7 @@ use Rattle.std.proofs.Common.{refl}
 use Rattle.pkcs1_params.specs.Words.{encodings_in}
 use Rattle.pkcs1_program.specs.Words.{ListedEncoding}
 use Rattle.pkcs1_program.proofs.PutBehind.{refused, told}
-use Rattle.pkcs1_program.proofs.Answers.{none_fits}
+use Rattle.pkcs1_program.proofs.OneAnswer.{none_fits}
 use Rattle.pkcs1_program.proofs.parameter_answers.answer_spell.Goals as goal
 
 pub returns-in-Some-2 : goal.returns-in-Some-2

@@ -1,5 +1,5 @@
 use Rattle.std.proofs.lemmas.Result.{on_ok_weaker}
-use Rattle.pkcs1_program.proofs.Answers.{spellings_put}
+use Rattle.pkcs1_program.proofs.OneAnswer.{spellings_put}
 use Rattle.pkcs1_program.proofs.parameter_answers.put_spellings.Goals as goal
 
 pub returns : goal.returns

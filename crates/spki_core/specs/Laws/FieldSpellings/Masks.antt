@@ -1,4 +1,4 @@
--- Masks number the spellings of a value: the shortest is under mask 0, and there are two to the number of defaults.
+-- Masks number the spellings of a value: there are two to the number of its defaults.
 use Rattle.std.proofs.Common.{ℕ, suc, List, [], ◌∷◌, ◌++◌, ◌≡◌, ◌<◌, ◌≤◌, ◌+◌, ◌*◌, ◌^◌, length, map, refl, sym, ap, ◌∙◌, arith, inl, inr, true, false, Some, None, length-append, ◌==◌, ◌%◌, ◌/◌}
 use Rattle.std.proofs.Math.Nat.{pow-suc}
 use Rattle.std.proofs.lemmas.Bool.{cases_Bool, false_from_ne_true}

@@ -3,7 +3,8 @@ use Rattle.der_core.specs.Words.{err_from_is_err_and, are_bytes, value_in, ◌>>
 use Rattle.spki_core.specs.Words.{record_read}
 use Rattle.pkcs1_params.specs.Words.{identified, Encoded}
 use Rattle.pkcs1_params.proofs.Algorithms.{algorithm_decodes}
-use Rattle.pkcs1_params.proofs.Faults.{errs_behind, errs_decode, no_memory}
+use Rattle.der_core.proofs.ReadSteps.{no_memory}
+use Rattle.pkcs1_params.proofs.Faults.{errs_behind, errs_decode}
 use Rattle.pkcs1_params.proofs.ParameterReads.{plain_never}
 use Rattle.standard.specs.Statement.{AlgorithmEncoding, Decodes}
 use Rattle.pkcs1_params.proofs.algorithm.AnyFromAlgorithm.from_algorithm_der.Goals as goal
