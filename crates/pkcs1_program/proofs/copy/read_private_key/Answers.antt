@@ -2,7 +2,8 @@ use Rattle.std.proofs.Common.{inr, rules}
 use Rattle.der_core.specs.Words.{err_from_is_err_and}
 use Rattle.pkcs1.specs.Words.{held_view}
 use Rattle.standard.specs.Statement.{PrivateKeyEncoding}
-use Rattle.pkcs1_program.proofs.Copies.{asn1_by, some_key}
+use Rattle.pkcs1_params.proofs.Faults.{asn1_as}
+use Rattle.pkcs1_program.proofs.Copies.{some_key}
 use Rattle.pkcs1_program.proofs.copy.read_private_key.Goals as goal
 
 pub returns-clause-ok : goal.returns-clause-ok
@@ -16,5 +17,5 @@ pub returns-in_err-try_from-clause-err : goal.returns-in_err-try_from-clause-err
 returns-in_err-try_from-clause-err g c =
     let p = err_from_is_err_and c.from_residual-in_err-try_from.result c.from_residual-in_err-try_from.ensures.1 in
     let reads = c.in_ok-secret.ensures in
-    rw (p.1, p.2) (asn1_by _ _ (λ a f. inr (reads.1, _, reads.0, f)) _
+    rw (p.1, p.2) (asn1_as (λ a f. inr (reads.1, _, reads.0, f)) _
     (rw c.as_bytes.ensures.encoding at c.in_err-try_from.ensures.exact))
