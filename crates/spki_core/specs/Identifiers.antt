@@ -1,19 +1,16 @@
--- Object identifiers (X.690 8.19), encodings of any tag (X.680 "open type"), whose contents are opaque, and algorithm
--- identifiers (RFC 5280 4.1.1.2).
+-- Algorithm identifiers (RFC 5280 4.1.1.2), and the encodings of any tag (X.680 "open type") that are their parameters.
+-- `Statement.antt` says what they are, and what object identifiers are (X.690 8.19).
+--
+--     SEQUENCE { algorithm OBJECT IDENTIFIER, parameters ANY DEFINED BY algorithm OPTIONAL }
 use Rattle.std.specs.Prelude.{ℕ, Bool, List, [], Some, None, ◌≡◌, ◌⊎◌, ◌++◌, ◌&&◌, eqb, option_map, bytes_eq}
 use Rattle.std.specs.Option.{option_eq}
 use Rattle.der_core.specs.Words.{object_identifier_tag, tlv}
 use Rattle.standard.specs.Statement.{optional}
--- The contents of an identifier: one or more subidentifiers, of at most 39 octets together. A tag octet that is allowed,
--- and contents that are any bytes; the encoding that is written. An object identifier, and parameters that are there or
--- not.
 pub use Rattle.standard.specs.Statement.{Algorithm, IsAny, IsIdentifier, TagAndContents, any as written_any}
 
 -- NULL (X.690 8.8)
 abbrev pub null_value : TagAndContents
 null_value = record { tag = 5; contents = [] }
-
--- SEQUENCE { algorithm OBJECT IDENTIFIER, parameters ANY DEFINED BY algorithm OPTIONAL }
 
 -- The same identifier, with parameters that are made of others.
 abbrev pub algorithm_map : {P Q : Type 0} → (P → Q) → Algorithm P → Algorithm Q
