@@ -78,7 +78,7 @@ layout() {
     for crate in crates/*/; do
         (cd "$room/laid_out/$crate" && rt fmt)
     done
-    diff -r crates "$room/laid_out/crates"
+    diff -r --exclude=out crates "$room/laid_out/crates"
 }
 documents() {
     local check
