@@ -17,7 +17,7 @@ import tempfile
 TOP = pathlib.Path(__file__).resolve().parent.parent.parent
 sys.dont_write_bytecode = True
 sys.path.insert(0, str(TOP / "tools/wrong_bodies"))
-from wrong_bodies import KIT, check_words, read_crates
+from prover import KIT, check_words, read_crates
 
 BLOCK = re.compile(r"(?m)^    rt new crates/(\w+) .*\n(?:    .*\n)*")
 CHECK = "&& rt check"

@@ -1,7 +1,11 @@
-"""Reads edits: the files crates/NAME/wrong/*.edit."""
+"""Reads edits: those of crates/NAME/src/FILE.rt stand in crates/NAME/wrong/FILE.edits, each below a line 'edit: ..'."""
+import os
 from typing import NamedTuple
 
 from functions import functions
+
+# The words that lines begin with. 'old' and 'new' come in pairs.
+WORDS = ("old", "new", "refused", "row")
 
 
 class BadEdit(Exception):
@@ -9,45 +13,69 @@ class BadEdit(Exception):
 
 
 class Edit(NamedTuple):
-    path: str
-    pairs: list  # (file, old text, new text)
-    owned: frozenset  # (file, function) of each body that it changes
-    refused: str  # the function that must be refused, if it changes more than bodies; else empty
+    """An edit, as it stands in its file."""
+
+    name: str  # the path of its file, '#' and what its heading calls it
+    file: str  # what it changes, src/..
+    lines: tuple  # the word and the text of each line
+    owned: frozenset = frozenset()  # (file, function) of each body that it changes
+
+    def texts(self, word):
+        return [text for it, text in self.lines if it == word]
+
+    @property
+    def refused(self):
+        """The function that must be refused, if it changes more than bodies; else empty."""
+        return "".join(self.texts("refused"))
 
     def applied(self, texts):
-        """The texts of the files that it changes."""
-        made = {}
-        for path, old, new in self.pairs:
-            text = made.get(path, texts.get(path, ""))
-            if text.count(old) != 1:
-                raise BadEdit(f"an 'old:' text stands {text.count(old)} times in {path}, and not once")
-            made[path] = text.replace(old, new)
-        return made
-
-
-def read_edit(path, texts, types):
-    """Reads an edit: lines 'file: src/..', and then pairs of lines 'old: TEXT' and 'new: TEXT'; 'refused: FUNCTION'."""
-    pairs, file, old, refused = [], None, None, ""
-    with open(path, encoding="utf-8") as it:
-        for line in it.read().split("\n"):
-            word, _, rest = line.partition(":")
-            rest = rest.removeprefix(" ")
-            if word == "file":
-                file = rest.strip()
-            elif word == "old":
-                old = rest
+        """The text of the file as it makes it."""
+        made, old = texts.get(self.file, ""), None
+        for word, text in self.lines:
+            if word not in WORDS:
+                raise BadEdit(f"a line begins with '{word}'")
+            if word == "old":
+                old = text
             elif word == "new":
-                pairs.append((file, old, rest))
-            elif word == "refused":
-                refused = rest.strip()
-    edit = Edit(path, pairs, frozenset(), refused)
-    made = edit.applied(texts)
-    if refused:
-        return edit
-    owned = frozenset(it for file, new in made.items() for it in changed_bodies(file, texts[file], new, types))
-    if not owned:
-        raise BadEdit("it changes no body of a function")
-    return edit._replace(owned=owned)
+                if not old or made.count(old) != 1:
+                    raise BadEdit(f"an 'old:' text stands {made.count(old) if old else 0} times in {self.file}, and not once")
+                made, old = made.replace(old, text), None
+        return {self.file: made}
+
+    def with_bodies(self, texts, types):
+        """The same, with the bodies that it changes of these texts."""
+        made = self.applied(texts)
+        if self.refused:
+            return self
+        owned = frozenset(it for file, new in made.items() for it in changed_bodies(file, texts[file], new, types))
+        if not owned:
+            raise BadEdit("it changes no body of a function")
+        return self._replace(owned=owned)
+
+
+def edits_in(folder):
+    """The edits in the files FILE.edits below this folder, in order."""
+    files = sorted(f"{at}/{it}" for at, _, inner in os.walk(folder) for it in inner if it.endswith(".edits"))
+    return [edit for it in files for edit in edits_of(it, f"src{it.removeprefix(folder).removesuffix('.edits')}.rt")]
+
+
+def edits_of(path, file):
+    """The edits of a file that stand in this path, in order."""
+    found = []
+    with open(path, encoding="utf-8") as it:
+        for line in filter(None, it.read().split("\n")):
+            word, _, text = line.partition(":")
+            text = text.removeprefix(" ")
+            if word == "edit":
+                found.append(Edit(f"{path}#{text}", file, ()))
+            elif found:
+                found[-1] = found[-1]._replace(lines=(*found[-1].lines, (word, text)))
+            else:
+                raise SystemExit(f"{path} begins with no line 'edit:'")
+    twice = {it.name for at, it in enumerate(found) if it.name in {other.name for other in found[:at]}}
+    if twice:
+        raise SystemExit(f"these headings stand twice: {' '.join(sorted(twice))}")
+    return found
 
 
 def changed_bodies(path, old, new, types):

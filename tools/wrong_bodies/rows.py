@@ -1,8 +1,8 @@
 #!/usr/bin/env python3
 """Runs wrong bodies, unproved: each edit that names worked rows must change the answer to each of them.
 
-    tools/wrong_bodies/rows.py                   at the top of the repository: all edits with a line `row: ..`
-    tools/wrong_bodies/rows.py --find EDIT..     prints for each edit the shortest row that tells it apart
+    tools/wrong_bodies/rows.py                        at the top of the repository: all edits with a line `row: ..`
+    tools/wrong_bodies/rows.py --find FILE#EDIT..     prints for each edit the shortest row that tells it apart
 
 The last line is 'N told apart, M not'; the status is 0 exactly where M is 0. README.md beside this file says more.
 """
@@ -17,9 +17,9 @@ import tempfile
 from typing import NamedTuple
 
 sys.dont_write_bytecode = True
-from edits import read_edit
+from edits import edits_in
 from functions import functions, types_of
-from wrong_bodies import read_crates
+from prover import read_crates
 
 
 class Program(NamedTuple):
@@ -67,14 +67,8 @@ unsigned chosen_edit(void) {
 """
 
 
-def rows_of(path):
-    """The rows that an edit names."""
-    with open(path, encoding="utf-8") as it:
-        return [line.removeprefix("row: ") for line in it.read().split("\n") if line.startswith("row: ")]
-
-
-def crate_of(path):
-    return path.split("/")[1]
+def crate_of(edit):
+    return edit.name.split("/")[1]
 
 
 def put(path, text):
@@ -107,8 +101,8 @@ def put_side_by_side(crate, edits, room):
     texts = texts_of(crate)
     types = types_of(texts)
     own, edited = bodies(texts, types), {}
-    for number, path in edits.items():
-        for place, body in bodies(texts | read_edit(path, texts, types).applied(texts), types).items():
+    for number, edit in edits.items():
+        for place, body in bodies(texts | edit.applied(texts), types).items():
             if body != own[place]:
                 edited.setdefault(place, []).append((number, body))
     home = "crate" if crate == LOWEST else LOWEST
@@ -158,7 +152,7 @@ def answered_otherwise(program, rows, lines):
 
 
 def tried(edits, find):
-    """Of each edit, by its path: its rows, and those that tell it apart."""
+    """Of each edit, by its name: its rows, and those that tell it apart."""
     found = {}
     with tempfile.TemporaryDirectory(prefix="rows-") as room:
         ignored = shutil.ignore_patterns(".git", "out", "proofs", "ffi", "target")
@@ -170,25 +164,26 @@ def tried(edits, find):
         for program in VECTORS, TOOL:
             known = program.known()
             own = {number: it for number, it in edits.items() if (crate_of(it) in OF_TOOL) == (program is TOOL)}
-            inputs = {number: known if find else rows_of(it) for number, it in own.items()}
+            inputs = {number: known if find else it.texts("row") for number, it in own.items()}
             for number, lines in (answers(program, inputs, room) if inputs else {}).items():
                 differ = answered_otherwise(program, inputs[number], lines)
-                found[edits[number]] = inputs[number], [row for row in differ if row in known]
+                found[edits[number].name] = inputs[number], [row for row in differ if row in known]
     return found
 
 
 def main():
     given = argparse.ArgumentParser(description=__doc__, formatter_class=argparse.RawDescriptionHelpFormatter)
-    given.add_argument("--find", nargs="+", metavar="EDIT", help="edits, for which a row is looked for")
+    given.add_argument("--find", nargs="+", metavar="FILE#EDIT", help="edits, for which a row is looked for")
     given = given.parse_args()
-    named = [it for name in read_crates() for it in sorted(glob.glob(f"crates/{name}/wrong/*.edit")) if rows_of(it)]
-    found = tried(dict(enumerate(given.find or named, 1)), bool(given.find))
+    edits = [it for name in read_crates() for it in edits_in(f"crates/{name}/wrong")]
+    wanted = [it for it in edits if (it.name in given.find if given.find else it.texts("row"))]
+    found = tried(dict(enumerate(wanted, 1)), bool(given.find))
     if given.find:
-        for path, (_, differ) in found.items():
-            print(f"{path}: {'row: ' + min(differ, key=len) if differ else 'no row tells it apart'}")
+        for name, (_, differ) in found.items():
+            print(f"{name}: {'row: ' + min(differ, key=len) if differ else 'no row tells it apart'}")
         return 0
-    wrong = {path: [row for row in rows if row not in differ] for path, (rows, differ) in found.items()}
-    failed = [f"{path}: NOT TOLD APART by {rows[0]}" for path, rows in wrong.items() if rows]
+    wrong = {name: [row for row in rows if row not in differ] for name, (rows, differ) in found.items()}
+    failed = [f"{name}: NOT TOLD APART by {rows[0]}" for name, rows in wrong.items() if rows]
     print("\n".join([*failed, f"{len(wrong) - len(failed)} told apart, {len(failed)} not"]))
     return 1 if failed else 0
 

@@ -1,0 +1,158 @@
+#!/usr/bin/env python3
+"""Runs a step in a folder that holds only the files named, unless it passed on this machine with all the same before.
+
+    tools/kept.py [--anew] NAME PATH.. -- COMMAND..      at the top of the repository
+
+PATHs are files and folders; what is made in them (out, target) is left out, but for a file that is named itself. The
+command runs at the top of a copy of these, so it can read no other file of the repository. Where the variable TOP stands
+in it, it is the repository's own folder, for what was made of the files named.
+
+That it passed is kept outside of the repository, under the hash of these files, the command, this program, the toolchain,
+the packages of this Debian, python3 and rustc. Then its last line is printed. Nothing else is kept: what fails runs again.
+--anew: it runs, whatever is kept.
+"""
+import functools
+import hashlib
+import json
+import os
+import pathlib
+import shutil
+import subprocess
+import sys
+import tempfile
+import time
+
+CACHE = pathlib.Path(os.environ.get("XDG_CACHE_HOME") or os.path.expanduser("~/.cache"), "pkcs1-gate")
+# Entries that no run took for so long are removed.
+DAYS = 60
+# What is made in a folder of the repository, and belongs to none of its hashes.
+MADE = ("out", "target", "__pycache__", ".git")
+
+
+class Store:
+    """What passed on this machine before, each with what is to be said of it. It is looked for by the hash of all that it
+    stands on. An entry names that hash too: one that was put in another's place counts for nothing."""
+
+    def __init__(self, kind, anew=False):
+        self.folder, self.anew = CACHE / kind, anew
+
+    def taken(self, key):
+        """What is to be said of what passed under this key, or None."""
+        try:
+            found = json.loads((self.folder / key).read_text(encoding="utf-8"))
+            if self.anew or found["key"] != key or not isinstance(found["said"], str):
+                return None
+            os.utime(self.folder / key)
+            return found["said"]
+        except (OSError, ValueError, KeyError, TypeError):
+            return None
+
+    def keep(self, key, said):
+        """Keeps it. Where nothing can be written, nothing is kept."""
+        try:
+            self.folder.mkdir(mode=0o700, parents=True, exist_ok=True)
+            with tempfile.NamedTemporaryFile("w", dir=self.folder, delete=False, encoding="utf-8") as it:
+                json.dump({"key": key, "said": said}, it)
+            os.replace(it.name, self.folder / key)
+        except OSError as why:
+            print(f"kept: {self.folder} can't be written, so nothing is kept: {why}", file=sys.stderr)
+
+    def shrink(self):
+        """Removes what no run took for long."""
+        for it in self.folder.glob("*"):
+            if it.stat().st_mtime < time.time() - DAYS * 86400:
+                it.unlink(missing_ok=True)
+
+
+def hash_of(*parts):
+    return hashlib.sha256(repr(parts).encode()).hexdigest()
+
+
+def files_below(path):
+    """The files in a folder, or the file that is named itself, in order."""
+    if not os.path.isdir(path):
+        return [path]
+    found = []
+    for at, folders, files in os.walk(path):
+        folders[:] = [it for it in folders if it not in MADE]
+        found += [f"{at}/{it}" for it in files]
+    return sorted(found)
+
+
+def contents_of(files):
+    """The path, the mode and the hash of the contents of each file."""
+    found = []
+    for it in files:
+        with open(it, "rb") as file:
+            found.append((it, os.stat(it).st_mode, hashlib.sha256(file.read()).hexdigest()))
+    return found
+
+
+@functools.lru_cache(maxsize=None)
+def kit():
+    """What tells builds of the toolchain apart: its name, and size and time of each of its files."""
+    top, found = os.path.dirname(said_by("rt", "doc")), []
+    for it in files_below(top) if top else []:
+        at = os.lstat(it)
+        found.append((it.removeprefix(top), at.st_mode, at.st_size, at.st_mtime_ns))
+    return hash_of(said_by("rt", "version"), found)
+
+
+def machine():
+    """What a step may use that isn't in the repository, but for the toolchain."""
+    return [said_by(*it.split()) for it in ("uname -m", "dpkg-query -W", "python3 -VV", "rustc -vV", "cargo -V")]
+
+
+def said_by(*command):
+    """What a command prints, or nothing where it can't be run."""
+    try:
+        return subprocess.run(command, capture_output=True, text=True, check=True).stdout.strip()
+    except (OSError, subprocess.CalledProcessError):
+        return ""
+
+
+def run_in_room(files, command):
+    """Runs the command among these files alone, and prints what it prints. Its last line, or None if it fails."""
+    with tempfile.TemporaryDirectory(prefix="kept-") as room:
+        for it in files:
+            os.makedirs(os.path.dirname(f"{room}/{it}"), exist_ok=True)
+            shutil.copy2(it, f"{room}/{it}")
+        words = {it: os.environ[it] for it in ("PATH", "HOME", "CI") if it in os.environ}
+        ran = subprocess.Popen(command, cwd=room, env={**words, "TOP": os.getcwd(), "LANG": "C.UTF-8"},
+                               stdin=subprocess.DEVNULL, stdout=subprocess.PIPE, text=True, errors="replace")
+        last = ""
+        for line in ran.stdout:
+            print(line, end="", flush=True)
+            last = line.strip() or last
+        return None if ran.wait() else last
+
+
+def main(words):
+    anew = words[:1] == ["--anew"]
+    words = words[anew:]
+    if "--" not in words or words.index("--") < 2 or words[-1] == "--":
+        sys.exit(__doc__)
+    at = words.index("--")
+    name, paths, command = words[0], words[1:at], words[at + 1 :]
+    files = [it for path in paths for it in files_below(path)]
+    missing = [it for it in files if not os.path.isfile(it)]
+    if missing:
+        sys.exit(f"tools/kept.py: {name}: no such file: {' '.join(missing)}")
+    own = contents_of([os.path.realpath(__file__)])[0][1:]
+    key = hash_of(name, command, contents_of(files), own, kit(), machine())
+    store = Store("steps", anew)
+    said = store.taken(key)
+    if said is not None:
+        print(f"{name}: taken from an earlier run on this machine: {said}")
+        return 0
+    said = run_in_room(files, command)
+    if said is None:
+        print(f"{name}: failed", file=sys.stderr)
+        return 1
+    store.keep(key, said)
+    store.shrink()
+    return 0
+
+
+if __name__ == "__main__":
+    sys.exit(main(sys.argv[1:]))
