@@ -52,7 +52,7 @@ impl Tag {
     }
 
     /// The identifier octet.
-    pub fn octet(self) -> u8
+    pub const fn octet(self) -> u8
         ensures { result ≡ self.octet }
     {
         self.octet

@@ -42,7 +42,7 @@ impl<'a> AnyRef<'a> {
     }
 
     /// NULL (X.690 8.8), which has no contents octets.
-    pub fn null() -> AnyRef<'static>
+    pub const fn null() -> AnyRef<'static>
         ensures { any_of result ≡ null_value }
     {
         AnyRef {

@@ -15,7 +15,7 @@ pub(crate) struct WideTag {
 
 impl WideTag {
     #[inline(always)]
-    pub(crate) fn of(tag: Tag) -> WideTag
+    pub(crate) const fn of(tag: Tag) -> WideTag
         ensures { result.octet ≡ tag.octet }
     {
         WideTag {
