@@ -26,8 +26,8 @@ plain_from s (suc n) (b ∷ bs) e h l =
     goes_on s b bs (inr differs) ∙ plain_from (nat_lt b 128) n bs (omega arith) later l
 
 pub ends_plain : (c : List ℕ) → 1 ≤ length c → has_no_128 (take (length c - 1) c) ≡ true
-    → slice_index c (length c - 1) < 128 → (0 < length c) × (ends_well true c ≡ true)
-ends_plain c some h l = (omega arith, plain_from true (length c - 1) c (omega arith) h l)
+    → slice_index c (length c - 1) < 128 → ends_well true c ≡ true
+ends_plain c some h l = plain_from true (length c - 1) c (omega arith) h l
 
 -- What is taken of octets are octets.
 pub taken_bytes : (n : ℕ) (xs : List ℕ) → ((i : ℕ) → slice_index xs i < 256) → (i : ℕ) → slice_index (take n xs) i < 256

@@ -65,7 +65,7 @@ fn has_no_80(octets: &[u8]) -> bool
 #[inline(always)]
 #[tactic(auto, using(crate::proofs::Octets::ends_plain))]
 fn ends_plainly(octets: &[u8]) -> bool
-    ensures { IsTrue result → (0 < length octets.now) × (specs.ends_well true octets.now ≡ true) }
+    ensures { IsTrue result → specs.ends_well true octets.now ≡ true }
 {
     match octets {
         [front @ .., last] => *last < 0x80 && has_no_80(front),
@@ -78,24 +78,20 @@ fn ends_plainly(octets: &[u8]) -> bool
 pub(crate) fn is_identifier(octets: &[u8]) -> bool
     ensures { result ≡ specs.is_identifier octets.now }
 {
-    if ends_plainly(octets) {
-        octets.len() <= 39
-    } else {
-        is_identifier_by_octets(octets)
-    }
+    !octets.is_empty() && octets.len() <= 39 && (ends_plainly(octets) || ends_well(octets))
 }
 
-/// The same, octet by octet.
+/// Whether these are whole subidentifiers, octet by octet.
 #[tactic(auto, using(crate::proofs::Octets::next))]
-fn is_identifier_by_octets(octets: &[u8]) -> bool
-    ensures { result ≡ specs.is_identifier octets.now }
+fn ends_well(octets: &[u8]) -> bool
+    ensures { result ≡ specs.ends_well true octets.now }
 {
     for index in 0..octets.len() {
         if octets[index] == 0x80 && is_start(octets, index) {
             return false;
         }
     }
-    is_start(octets, octets.len()) && !octets.is_empty() && octets.len() <= 39
+    is_start(octets, octets.len())
 }
 
 /// A type that names an algorithm, by its object identifier.

@@ -1,6 +1,6 @@
 use Rattle.std.proofs.Common.{◌≡◌, true, drop}
 use Rattle.spki_core.specs.IdentifierTest as specs
-use Rattle.spki_core.proofs.object_identifier.is_identifier_by_octets.Given as goal
+use Rattle.spki_core.proofs.object_identifier.ends_well.Given as goal
 
 abbrev pub invariant-loop-index : goal.invariant-loop-index
 invariant-loop-index l =
