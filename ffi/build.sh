@@ -1,17 +1,19 @@
 #!/usr/bin/env bash
 # Proves libpkcs1, and builds it for callers in C and in Rust; usage says how. The Makefile at the top builds it from
 # what was proved before, without the toolchain. This needs rt, gcc and binutils, for the tests g++ and cargo too;
-# test.sh reports what else it could use and doesn't find. No network. .ci/run calls it after rt ci, with --over-ci,
-# which needs all of that too.
+# test.sh reports what else it could use and doesn't find. No network. .ci/run calls it after rt ci, with --library and
+# --over-ci, which needs all of that too.
 set -eu
 usage="usage: ffi/build.sh                      builds libpkcs1 into ffi/out, and runs its tests
-       ffi/build.sh --over-ci            the same behind rt ci, over the libraries that it proved
+       ffi/build.sh --library            builds crates/pkcs1_c/out/libpkcs1_c.a behind rt ci, over the libraries that it proved
+       ffi/build.sh --over-ci            builds libpkcs1 over that one, and runs its tests
        ffi/build.sh --tools              whether all is installed that --over-ci needs
        ffi/build.sh install PREFIX       builds it, and installs it below PREFIX; pkcs1_tool with its man page too, if
                                          rt run built it in crates/pkcs1_tool
        ffi/build.sh uninstall PREFIX     removes what install put there
        UNPROVED=FOLDER ffi/build.sh install-unproved PREFIX
                                          installs the library in FOLDER, whose libpkcs1_c.a isn't proved
+   CRATES: another folder of the same crates, with the libraries that rt ci proved, for --library
    DESTDIR, LIBDIR: a folder to install below, and the libraries' folder in place of PREFIX/lib
    CC, CFLAGS, LDFLAGS: the compiler, its options, and those for linking libpkcs1.so"
 here=$(cd "$(dirname "$0")" && pwd)
@@ -24,6 +26,7 @@ action=test
 prefix=
 case "$#:${1-}" in
     0:) ;;
+    1:--library) action=library ;;
     1:--over-ci) action=over-ci ;;
     1:--tools) action=tools ;;
     1:-h | 1:--help)
@@ -66,6 +69,7 @@ for tool in "${tools[@]}"; do
 done
 [ "$action" != tools ] || exit 0
 mkdir -p "$out"
+crates=$(realpath "${CRATES:-$here/../crates}")
 kit=$(dirname "$(rt doc)")
 
 # The hash of all that the proved library is made of, and of how it is made.
@@ -97,13 +101,13 @@ make_toolchain() {
 build_over() {
     local words=(--extern "std=$kit/rlibs/std.rlib" -L "dependency=$kit/rlibs") name
     for name in standard der_core spki_core pkcs1_params pkcs1 pkcs8_core; do
-        words+=(--extern "$name=$here/../crates/$name/out/rlib/$name.rlib" -L "dependency=$here/../crates/$name/out/rlib")
+        words+=(--extern "$name=$crates/$name/out/rlib/$name.rlib" -L "dependency=$crates/$name/out/rlib")
     done
-    mkdir -p out
+    mkdir -p out "$crates/pkcs1_c/out"
     make_toolchain
     "$kit/bin/rattle" build --crate-name pkcs1_c --crate-type staticlib src/lib.rt "${words[@]}" --jobs 2 \
         --antt-project "$kit/rattle/logic/antt-project.json" --logic-built "$kit/logic_built" \
-        --incremental out/incremental --toolchain "$toolchain" --cpu x86-64 -o out/libpkcs1_c.a
+        --incremental "$crates/pkcs1_c/out/incremental" --toolchain "$toolchain" --cpu x86-64 -o out/libpkcs1_c.a
 }
 prove() {
     (cd "$crate" && "$@" > "$out/rt.log" 2>&1) || {
@@ -112,21 +116,27 @@ prove() {
     }
 }
 # The stamp has the hash of what the library was proved from, and that of the library.
+stamp() {
+    printf '%s %s\n' "$(inputs)" "$(sha256sum < "$library")"
+}
 build_library() {
-    local made
-    [ -z "${UNPROVED-}" ] || return 0
-    made=$(inputs)
-    if [ "$action" != over-ci ] && [ -e "$library" ] &&
-        [ "$(cat "$out/stamp" 2> /dev/null)" = "$made $(sha256sum < "$library")" ]; then
-        say "the proved library is up to date"
-        return
-    fi
-    rm -f "$out/stamp"
-    say "proving and building the library, and the first time all below it, which takes 10 minutes and more; ffi/out/rt.log tells how far it is"
-    [ "$action" = over-ci ] || prove rt lib
-    prove build_over
-    printf '%s\n' "$made $(sha256sum < "$library")" > "$out/stamp"
-    say "proved and built, after $SECONDS seconds"
+    case ${UNPROVED:+unproved}:$action in
+        unproved:*) return ;;
+        :over-ci) [ -e "$library" ] || stop "there is no $library: ffi/build.sh --library builds it" ;;
+        :library) prove build_over ;;
+        *)
+            if [ -e "$library" ] && [ "$(cat "$out/stamp" 2> /dev/null)" = "$(stamp)" ]; then
+                say "the proved library is up to date"
+                return
+            fi
+            rm -f "$out/stamp"
+            say "proving and building the library, and the first time all below it, which takes 10 minutes and more; ffi/out/rt.log tells how far it is"
+            prove rt lib
+            prove build_over
+            say "proved and built, after $SECONDS seconds"
+            ;;
+    esac
+    stamp > "$out/stamp"
 }
 
 # Makes the two objects that link.sh links: the crate, and c/pkcs1.c.
@@ -140,6 +150,7 @@ link_library() {
 }
 
 build_library
+[ "$action" != library ] || exit 0
 link_library
 case $action in
     install*)
@@ -149,6 +160,6 @@ case $action in
         ;;
     *)
         say "testing, half a minute"
-        "$here/test.sh"
+        if [ -n "${UNPROVED-}" ]; then "$here/check.sh" "$out"; else "$here/test.sh"; fi
         ;;
 esac

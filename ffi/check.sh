@@ -3,6 +3,7 @@
 # of pkcs1.h pass to the proved ones, a program without a C library, the tool, and, with cargo, the crate for Rust over
 # the library. CC, CFLAGS, NM and RUN are as in the Makefile, which calls this.
 set -eu
+ulimit -t 600 # no test runs forever
 out=$(cd "$1" && pwd)
 cd "$(dirname "$0")/.."
 tests=$out/tests

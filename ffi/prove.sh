@@ -4,8 +4,8 @@
 #
 #     ffi/prove.sh [--must] [WORD..]    WORDs go to Frama-C, such as -wp-fct NAME: then only their goals are proved
 #
-# It needs frama-c, why3, z3 and cvc4: as root on Debian it installs them with apt-get. If they aren't there, the proof
-# is left out, which is a failure with --must or if CI is set.
+# It needs frama-c, why3, z3 and cvc4, which tools/install.sh installs on Debian. If they aren't there, the proof is left
+# out, which is a failure with --must or if CI is set.
 # AT_ONCE: how many provers run at a time. GIVE_UP: in how many seconds, where it is known that goals are open. KEEP: a
 # folder for the names of the goals that are proved and open.
 set -eu
@@ -26,14 +26,6 @@ missing() {
     done
     return 1
 }
-install() {
-    local packages=(frama-c-base why3 z3 cvc4)
-    apt-get install -y --no-install-recommends "${packages[@]}" ||
-        { apt-get update && apt-get install -y --no-install-recommends "${packages[@]}"; }
-}
-if missing && [ "$(id -u)" = 0 ] && [ -e /etc/debian_version ] && command -v apt-get > /dev/null; then
-    install > "$room/apt" 2>&1 || tail -n 5 "$room/apt" >&2
-fi
 if missing; then
     echo "ffi/prove.sh: frama-c, why3, z3 and cvc4 aren't all installed: the proof of pkcs1.c is left out" >&2
     [ -z "$must" ] || exit 1

@@ -1,10 +1,10 @@
 #!/usr/bin/env bash
-# Tests what build.sh, which calls this, made in out/: in C99 and C++, by gcc, and by clang if it is installed; under
+# Tests what build.sh, which calls this, made in out/ of the proved library: in C99 and C++, by gcc, and by clang if it is installed; under
 # the sanitizers and valgrind; installed, and found by pkg-config; in Rust; on what OpenSSL makes. A tool that isn't
 # installed is reported, and its tests are left out.
 set -eu
 here=$(cd "$(dirname "$0")" && pwd)
-out=${UNPROVED:-$here/out}
+out=$here/out
 statuses=$here/rust/tests/statuses
 CC=${CC:-gcc} CXX=${CXX:-g++}
 room=$(mktemp -d)
@@ -81,9 +81,8 @@ done
 # Installed where the umask shuts others out, with another folder of libraries, and uninstalled. Another program stands
 # in for the tool.
 version=$("$room/test" --version)
-word=install${UNPROVED:+-unproved}
 export LIBDIR=$room/c/lib64
-(umask 077 && CFLAGS=-DNDEBUG LDFLAGS=-Wl,-z,nodelete "$here/build.sh" $word "$room/c" > /dev/null)
+(umask 077 && CFLAGS=-DNDEBUG LDFLAGS=-Wl,-z,nodelete "$here/build.sh" install "$room/c" > /dev/null)
 cp "$room/modulus" "$room/pkcs1_tool"
 "$here/install.sh" add "$room/c" "$version" "$out" "$room/pkcs1_tool" > /dev/null
 [ -z "$(find "$room/c" -type d ! -perm 755 -o -type f ! -perm 644 ! -path "*/bin/*")" ] ||
@@ -99,11 +98,11 @@ unset LIBDIR
 # Installed into a folder with a space in its name, by itself and below DESTDIR; and again: files are replaced, not
 # changed, as a program may be running with them.
 printf '\060\010\002\003\000\301\177\002\001\003' > "$room/pub.der"
-DESTDIR=$room/stage "$here/build.sh" $word /usr > /dev/null
-"$here/build.sh" $word "$room/a b" > /dev/null
+DESTDIR=$room/stage "$here/build.sh" install /usr > /dev/null
+"$here/build.sh" install "$room/a b" > /dev/null
 diff -r "$room/a b" "$room/stage/usr"
 cp -al "$room/a b" "$room/old"
-"$here/build.sh" $word "$room/a b" > /dev/null
+"$here/build.sh" install "$room/a b" > /dev/null
 [ -z "$(find "$room/old" -type f -links +1)" ] || stop "an installed file is changed"
 if have pkg-config "libpkcs1.pc is not used"; then
     export PKG_CONFIG_PATH="$room/a b/lib/pkgconfig"
@@ -124,6 +123,8 @@ fi
 "$here/build.sh" install > /dev/null 2>&1 && stop "build.sh takes wrong arguments"
 UNPROVED=$out "$here/build.sh" install "$room/d" > /dev/null 2>&1 && stop "an unproved library is installed"
 [ ! -e "$room/d" ] || stop "an unproved library is installed in part"
+UNPROVED=$out "$here/build.sh" install-unproved "$room/d" > /dev/null
+grep -qx "Version: $version-unproved" "$room/d/lib/pkgconfig/libpkcs1.pc" || stop "libpkcs1.pc doesn't say that it isn't proved"
 
 # Rust.
 cd "$here/rust"

@@ -1,15 +1,16 @@
 #!/usr/bin/env python3
 """Runs a step in a folder that holds only the files named, unless it passed on this machine with all the same before.
 
-    tools/kept.py [--anew] NAME PATH.. -- COMMAND..      at the top of the repository
+    tools/kept.py [--makes FILE] NAME PATH.. -- COMMAND..      at the top of the repository
 
 PATHs are files and folders; what is made in them (out, target) is left out, but for a file that is named itself. The
-command runs at the top of a copy of these, so it can read no other file of the repository. Where the variable TOP stands
-in it, it is the repository's own folder, for what was made of the files named.
+command runs at the top of a copy of these, so it can read no other file of the repository. Its variable TOP is the
+repository's own folder, for what was made of the files that are named. --makes: a file that it makes, which is put into
+the repository.
 
 That it passed is kept outside of the repository, under the hash of these files, the command, this program, the toolchain,
-the packages of this Debian, python3 and rustc. Then its last line is printed. Nothing else is kept: what fails runs again.
---anew: it runs, whatever is kept.
+the packages of this Debian, python3 and rustc, with the last line that it printed and the file that it made. What fails
+isn't kept, and runs again. KEPT=anew: it runs, whatever is kept.
 """
 import functools
 import hashlib
@@ -25,6 +26,8 @@ import time
 CACHE = pathlib.Path(os.environ.get("XDG_CACHE_HOME") or os.path.expanduser("~/.cache"), "pkcs1-gate")
 # Entries that no run took for so long are removed.
 DAYS = 60
+# Whether all is to run again.
+ANEW = os.environ.get("KEPT") == "anew"
 # What is made in a folder of the repository, and belongs to none of its hashes.
 MADE = ("out", "target", "__pycache__", ".git")
 
@@ -33,7 +36,7 @@ class Store:
     """What passed on this machine before, each with what is to be said of it. It is looked for by the hash of all that it
     stands on. An entry names that hash too: one that was put in another's place counts for nothing."""
 
-    def __init__(self, kind, anew=False):
+    def __init__(self, kind, anew=ANEW):
         self.folder, self.anew = CACHE / kind, anew
 
     def taken(self, key):
@@ -111,7 +114,7 @@ def said_by(*command):
         return ""
 
 
-def run_in_room(files, command):
+def run_in_room(files, command, makes):
     """Runs the command among these files alone, and prints what it prints. Its last line, or None if it fails."""
     with tempfile.TemporaryDirectory(prefix="kept-") as room:
         for it in files:
@@ -124,12 +127,41 @@ def run_in_room(files, command):
         for line in ran.stdout:
             print(line, end="", flush=True)
             last = line.strip() or last
-        return None if ran.wait() else last
+        if ran.wait():
+            return None
+        for it in makes:
+            put(f"{room}/{it}", it)
+        return last
+
+
+def put(one, other):
+    """Copies a file, in the place of another at once."""
+    os.makedirs(os.path.dirname(other), exist_ok=True)
+    shutil.copy2(one, f"{other}.new")
+    os.replace(f"{other}.new", other)
+
+
+def taken(store, key, makes):
+    """What an earlier run said, with the file that it made in its place; or None where one of these isn't there."""
+    said = store.taken(key)
+    for it in makes if said is not None else ():
+        made, whole = f"{store.folder}/{key}.made", store.taken(f"{key}.hash")
+        if not os.path.isfile(made) or contents_of([made])[0][2] != whole:
+            return None
+        put(made, it)
+    return said
+
+
+def keep(store, key, said, makes):
+    store.keep(key, said)
+    for it in makes if store.folder.is_dir() else ():
+        put(it, f"{store.folder}/{key}.made")
+        store.keep(f"{key}.hash", contents_of([it])[0][2])
 
 
 def main(words):
-    anew = words[:1] == ["--anew"]
-    words = words[anew:]
+    makes = words[1:2] if words[:1] == ["--makes"] else []
+    words = words[2 * len(makes) :]
     if "--" not in words or words.index("--") < 2 or words[-1] == "--":
         sys.exit(__doc__)
     at = words.index("--")
@@ -139,17 +171,17 @@ def main(words):
     if missing:
         sys.exit(f"tools/kept.py: {name}: no such file: {' '.join(missing)}")
     own = contents_of([os.path.realpath(__file__)])[0][1:]
-    key = hash_of(name, command, contents_of(files), own, kit(), machine())
-    store = Store("steps", anew)
-    said = store.taken(key)
+    key = hash_of(name, command, makes, contents_of(files), own, kit(), machine())
+    store = Store("steps")
+    said = taken(store, key, makes)
     if said is not None:
         print(f"{name}: taken from an earlier run on this machine: {said}")
         return 0
-    said = run_in_room(files, command)
+    said = run_in_room(files, command, makes)
     if said is None:
         print(f"{name}: failed", file=sys.stderr)
         return 1
-    store.keep(key, said)
+    keep(store, key, said, makes)
     store.shrink()
     return 0
 

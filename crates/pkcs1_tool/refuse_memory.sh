@@ -6,9 +6,12 @@
 # .ci/run and ffi/check.sh after run_built.sh; it needs gcc. It prints any other result, and then exits with 1; the last
 # line counts.
 set -u
+# All of it ends in ten minutes, of which it takes seconds.
+[ -n "${LIMITED-}" ] || LIMITED=1 exec timeout 600 "$0" "$@"
 cd "$(dirname "$0")" || exit 1
 room=$(mktemp -d) || exit 1
 trap 'rm -rf "$room"' EXIT
+trap 'fails "it, which does not end"; exit 1' TERM
 requests=0
 failed=0
 built=("$PWD/out/pkcs1_tool" "$PWD/out/pkcs1_tool.by-rattle")

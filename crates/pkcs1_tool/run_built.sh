@@ -3,9 +3,12 @@
 # standard error. Called by .ci/run after rt ci. It exits with 1 if any result is another than expected. PROGRAMS names
 # other programs to run, one in each line; EMULATED says that they are run by an emulator.
 set -u
+# All of it ends in ten minutes, of which it takes seconds, a minute under an emulator.
+[ -n "${LIMITED-}" ] || LIMITED=1 exec timeout 600 "$0" "$@"
 cd "$(dirname "$0")" || exit 1
 room=$(mktemp -d) || exit 1
 trap 'rm -rf "$room"' EXIT
+trap 'fails "it does not end"; exit 1' TERM
 passed=0
 failed=0
 

@@ -7,6 +7,7 @@
 set -eu
 cd "$(dirname "$0")/../.."
 top=$PWD
+limit=$(command -v timeout) sh=$(command -v sh)
 allowed='grep ls od openssl paste pkg-config sed sh split tail tr'
 # The parameters in the certificate, and all that stands in front of them in their algorithm identifier.
 params=3034a00f300d06096086480165030402010500a11c301a06092a864886f70d010108300d06096086480165030402010500a203020120
@@ -56,7 +57,7 @@ files() {
 }
 # run BLOCK: runs it, and leaves what it says of errors in `log`.
 run() {
-    PATH=$room/bin sh -eu "$1" 2> log
+    PATH=$room/bin "$limit" 120 "$sh" -eu "$1" 2> log
 }
 # block LANGUAGE: the only block in this language of docs/USING.md.
 block() {

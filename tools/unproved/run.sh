@@ -1,7 +1,7 @@
 #!/usr/bin/env bash
-# Does everything work? Builds and runs all that is tested, in a copy of the tree, and proves nothing: the layout that
-# `rt ci` asks for, the documents' checks, the worked rows, the tests, the tool, and the libraries for C and Rust.
-# .ci/run proves all.
+# Does everything work? Builds and runs what is tested, in a copy of the tree, and proves nothing: the layout that
+# `rt ci` asks for, the documents' checks, the worked rows, the tests, the tool, and of the libraries for C and Rust what
+# `make check` does. .ci/run proves all, and has the libraries' other tests, those of ffi/test.sh.
 #
 #     tools/unproved/run.sh [layout|documents|rows|tests|tool|ffi|clean_room].. [--keep PREFIX]
 #
@@ -161,7 +161,7 @@ while [ $# -gt 0 ]; do
     esac
     shift
 done
-[ ${#parts[@]} -gt 0 ] || parts=(layout ffi clean_room tests rows tool documents)
+[ ${#parts[@]} -gt 0 ] || parts=(ffi tests rows tool clean_room documents layout)
 [ -z "$keep" ] || [[ " ${parts[*]} " = *" ffi "* ]] || stop "--keep needs the part ffi"
 for part in "${parts[@]}"; do
     steps_of "$part" >> "$room/steps"

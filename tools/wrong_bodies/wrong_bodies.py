@@ -33,7 +33,7 @@ class Verdicts:
     crate, the libraries below it as they were built, and the edit. Only that an edit was refused is kept."""
 
     def __init__(self, name, crates, anew):
-        self.store = kept.Store("wrong_bodies", anew)
+        self.store = kept.Store("wrong_bodies", anew or kept.ANEW)
         libraries = [f"crates/{it}/out/rlib/{it}.rlib" for it in sorted(below(name, crates))]
         read = [f"crates/{name}/{part}" for part in ("src", "specs", "proofs")] + libraries
         own = [*HERE.glob("*.py"), kept.__file__]
