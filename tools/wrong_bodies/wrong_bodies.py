@@ -36,8 +36,8 @@ class Verdicts:
         self.store = kept.Store("wrong_bodies", anew or kept.ANEW)
         libraries = [f"crates/{it}/out/rlib/{it}.rlib" for it in sorted(below(name, crates))]
         read = [f"crates/{name}/{part}" for part in ("src", "specs", "proofs")] + libraries
-        own = [*HERE.glob("*.py"), kept.__file__]
-        self.read = kept.hash_of(kept.kit(), crates[name], *map(contents_below, [*sorted(map(str, own)), *read]))
+        own = [*(f"{HERE}/{it}.py" for it in ("edits", "functions", "holes", "prover", "wrong_bodies")), kept.__file__]
+        self.read = kept.hash_of(kept.kit(), crates[name], *map(contents_below, [*own, *read]))
 
     def key(self, edit):
         return kept.hash_of(self.read, edit.name, edit.file, edit.lines)
@@ -61,7 +61,7 @@ class Crate:
     def __init__(self, name, crates, edits, anew):
         self.name, self.edits, self.kept = name, edits, tempfile.mkdtemp(prefix="wrong-kept-")
         self.words, self.earlier = check_words(name, crates), Verdicts(name, crates, anew)
-        self.checks, self.seconds, self.taken = 0, 0.0, 0
+        self.checks, self.seconds, self.taken, self.verdicts = 0, 0.0, 0, {}
         self.texts = {}
         for it in kept.files_below(f"crates/{name}/src"):
             self.texts[it.removeprefix(f"crates/{name}/")] = pathlib.Path(it).read_text(encoding="utf-8")
@@ -91,37 +91,39 @@ class Crate:
 
     def try_all(self):
         """Of each edit, by its name: the goal that refused it, or None and why it doesn't count as refused."""
-        verdicts, left = {}, []
+        left = []
         for edit in self.edits:
             if goal := self.earlier.taken(edit):
-                verdicts[edit.name] = goal, None
+                self.verdicts[edit.name] = goal, None
                 self.taken += 1
                 continue
             try:
                 left.append(edit.with_bodies(self.texts, self.types))
             except BadEdit as why:
-                verdicts[edit.name] = None, f"BAD EDIT: {why}"
-        tried = left
+                self.judge(edit, None, f"BAD EDIT: {why}")
         for edit in [it for it in left if it.refused]:
-            self.try_apart(edit, verdicts)
-        self.try_in_rounds([it for it in left if not it.refused], verdicts)
+            self.try_apart(edit)
+        self.try_in_rounds([it for it in left if not it.refused])
         shutil.rmtree(self.kept)
-        for edit in tried:
-            if verdicts[edit.name][0]:
-                self.earlier.keep(edit, verdicts[edit.name][0])
-        return verdicts
+        return self.verdicts
 
-    def try_in_rounds(self, left, verdicts):
+    def judge(self, edit, goal, why):
+        """Notes the goal that refused an edit, or else why it doesn't count as refused."""
+        self.verdicts[edit.name] = goal, why
+        if goal:
+            self.earlier.keep(edit, goal)
+
+    def try_in_rounds(self, left):
         """Tries edits, as many as go together in a check. One that two rounds don't settle is tried alone."""
         tries = collections.Counter()
         while left:
             together, texts = self.round_of(left)
-            self.settle(together, texts, verdicts)
+            self.settle(together, texts)
             tries.update(it.name for it in together)
             for edit in together:
-                if edit.name not in verdicts and tries[edit.name] == 2:
-                    self.settle(*self.round_of([edit]), verdicts)
-            left = [it for it in left if it.name not in verdicts]
+                if edit.name not in self.verdicts and tries[edit.name] == 2:
+                    self.settle(*self.round_of([edit]))
+            left = [it for it in left if it.name not in self.verdicts]
 
     def round_of(self, edits):
         """Edits, the first among them, that change different functions and still apply one after another; and the texts that they make."""
@@ -136,7 +138,7 @@ class Crate:
                 owned |= edit.owned
         return together, texts
 
-    def settle(self, edits, texts, verdicts):
+    def settle(self, edits, texts):
         """Tries edits in one check, of these texts that they make. It gives no verdict on an edit without credit among others.
         Those that can't be read are left out, and where the prover doesn't say which these are, each half is tried by itself."""
         said = self.check(texts, sorted({name for it in edits for _, name in it.owned}))
@@ -146,13 +148,13 @@ class Crate:
             if not goal and len(edits) == 1:
                 why = why or why_not(said, self.name, [name for _, name in edit.owned])
             if goal or why:
-                verdicts[edit.name] = goal, why
-        left = [it for it in edits if it.name not in verdicts]
+                self.judge(edit, goal, why)
+        left = [it for it in edits if it.name not in self.verdicts]
         if not left or not unread and TOLD.match(said[-1]):
             return
         half = len(left) // 2 if len(left) == len(edits) else len(left)
         for part in filter(None, (left[:half], left[half:])):
-            self.settle(*self.round_of(part), verdicts)
+            self.settle(*self.round_of(part))
 
     def verdict(self, edit, texts, said, unread):
         """What was said of an edit, tried with others in these texts: a goal that refused it, or why it can't be read, or neither."""
@@ -163,11 +165,11 @@ class Crate:
         goals = [] if unread else [goal for file, it in spans for goal in own_goals(said, self.name, it.name, lines_of(file, it))]
         return (goals[0] if goals else None), None
 
-    def try_apart(self, edit, verdicts):
+    def try_apart(self, edit):
         """Tries an edit that changes more than bodies, by the function that it names."""
         said = self.check(edit.applied(self.texts), [edit.refused])
         goals = own_goals(said, self.name, edit.refused, lambda file, line: True) if is_read(said) else []
-        verdicts[edit.name] = (goals[0], None) if goals else (None, why_not(said, self.name, [edit.refused]))
+        self.judge(edit, goals[0] if goals else None, None if goals else why_not(said, self.name, [edit.refused]))
 
 
 def lines_of(file, function):
