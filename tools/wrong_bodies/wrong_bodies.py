@@ -8,6 +8,7 @@ README.md beside this file says what counts as refused, and what is kept. The la
 import argparse
 import collections
 import concurrent.futures
+import functools
 import os
 import pathlib
 import shutil
@@ -50,6 +51,7 @@ class Verdicts:
             self.store.keep(self.key(edit), goal)
 
 
+@functools.lru_cache(maxsize=None)
 def contents_below(path):
     """The contents of each file in a folder, or of a file, whatever the place of the repository is."""
     return [(name.removeprefix(path), *rest) for name, *rest in kept.contents_of(kept.files_below(path) if os.path.exists(path) else [])]
