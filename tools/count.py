@@ -175,8 +175,8 @@ def kind_of_logic(parts):
 
 def counts_of(path, parts):
     """The lines and the tokens of a file by kind, or None if it is of no kind."""
-    text = path.read_text(encoding="utf-8") if path.suffix in (".rt", ".antt", ".edit") else ""
-    if path.suffix == ".edit":
+    text = path.read_text(encoding="utf-8") if path.suffix in (".rt", ".antt", ".edit", ".edits") else ""
+    if path.suffix in (".edit", ".edits"):
         return collections.Counter(wrong=text.count("\n")), collections.Counter(wrong=len(text.split()))
     if path.suffix not in (".rt", ".antt"):
         return None

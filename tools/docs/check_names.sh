@@ -18,7 +18,7 @@ for folder, inner, files in os.walk('.'):
     paths.update(os.path.relpath(os.path.join(folder, name)) for name in inner + files)
 for path in filter(os.path.isfile, paths):
     kind = os.path.splitext(path)[1]
-    if kind in ('.md', '.edit', '.der') or '/proofs/' in path or path.startswith('tools/docs/'):
+    if kind in ('.md', '.edit', '.edits', '.der') or '/proofs/' in path or path.startswith('tools/docs/'):
         continue
     lines = [re.sub(COMMENT.get(kind, r'^\s*#.*'), '', line) for line in open(path, errors='replace')]
     code[path] = set(re.findall(r'\w+', ''.join(lines)))

@@ -1,8 +1,8 @@
 #!/usr/bin/env python3
 """Runs wrong bodies, unproved: each edit that names worked rows must change the answer to each of them.
 
-    tools/wrong_bodies/rows.py                        at the top of the repository: all edits with a line `row: ..`
-    tools/wrong_bodies/rows.py --find FILE#EDIT..     prints for each edit the shortest row that tells it apart
+    tools/wrong_bodies/rows.py                            at the top of the repository: all edits with a line `row: ..`
+    tools/wrong_bodies/rows.py --find FILE.edits#EDIT..  prints for each edit the shortest row that tells it apart
 
 The last line is 'N told apart, M not'; the status is 0 exactly where M is 0. README.md beside this file says more.
 """
@@ -173,7 +173,7 @@ def tried(edits, find):
 
 def main():
     given = argparse.ArgumentParser(description=__doc__, formatter_class=argparse.RawDescriptionHelpFormatter)
-    given.add_argument("--find", nargs="+", metavar="FILE#EDIT", help="edits, for which a row is looked for")
+    given.add_argument("--find", nargs="+", metavar="FILE.edits#EDIT", help="edits, for which a row is looked for")
     given = given.parse_args()
     edits = [it for name in read_crates() for it in edits_in(f"crates/{name}/wrong")]
     wanted = [it for it in edits if (it.name in given.find if given.find else it.texts("row"))]
