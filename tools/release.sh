@@ -14,7 +14,7 @@ contents=(
     docs/CLAIM.md ffi/c/bits.c ffi/python
     ffi/c/{open_container,make_container,make_params,signature_algorithm}.c
     crates/pkcs1_tool/{run_built.sh,refuse_memory.sh,refuse_memory.c,rows,stdin,stdout,pkcs1_tool.1}
-    crates.txt ffi/prove.sh ffi/proof tools/{fresh.sh,generate.sh,generate,count_definitions.py}
+    crates.txt ffi/prove.sh ffi/proof tools/{fresh.sh,generate.sh,generate,install.sh,count_definitions.py}
 )
 
 stop() {
