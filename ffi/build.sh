@@ -123,7 +123,10 @@ build_library() {
     case ${UNPROVED:+unproved}:$action in
         unproved:*) return ;;
         :over-ci) [ -e "$library" ] || stop "there is no $library: ffi/build.sh --library builds it" ;;
-        :library) prove build_over ;;
+        :library)
+            prove build_over
+            say "the library is proved and built, after $SECONDS seconds"
+            ;;
         *)
             if [ -e "$library" ] && [ "$(cat "$out/stamp" 2> /dev/null)" = "$(stamp)" ]; then
                 say "the proved library is up to date"
