@@ -123,7 +123,9 @@ fi
 "$here/build.sh" install > /dev/null 2>&1 && stop "build.sh takes wrong arguments"
 UNPROVED=$out "$here/build.sh" install "$room/d" > /dev/null 2>&1 && stop "an unproved library is installed"
 [ ! -e "$room/d" ] || stop "an unproved library is installed in part"
-UNPROVED=$out "$here/build.sh" install-unproved "$room/d" > /dev/null
+mkdir "$room/unproved"
+cp "$here/../crates/pkcs1_c/out/libpkcs1_c.a" "$room/unproved"
+UNPROVED=$room/unproved "$here/build.sh" install-unproved "$room/d" > /dev/null
 grep -qx "Version: $version-unproved" "$room/d/lib/pkgconfig/libpkcs1.pc" || stop "libpkcs1.pc doesn't say that it isn't proved"
 
 # Rust.
