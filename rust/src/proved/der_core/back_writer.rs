@@ -1,0 +1,71 @@
+// Made of crates/der_core/src/back_writer.rt by tools/erase/erase.py, and not to be edited.
+//! A writer that fills a slice from its end.
+
+use crate::proved::der_core::header::Header;
+
+pub struct BackWriter<'b> {
+    slice: &'b mut [u8],
+    free: usize,
+}
+
+impl<'b> BackWriter<'b> {
+    /// A writer over a slice, with nothing filled yet.
+    pub fn new(slice: &'b mut [u8]) -> BackWriter<'b> {
+        let free = slice.len();
+        BackWriter { slice, free }
+    }
+
+    /// How many octets there is still room for.
+    pub fn free(&self) -> usize {
+        self.free
+    }
+
+    /// How many octets are filled.
+    pub fn filled_len(&self) -> usize {
+        self.slice.len() - self.free
+    }
+
+    /// Writes the octets in front of what is filled.
+    pub(crate) fn prepend(&mut self, bytes: &[u8]) {
+        let end = self.free;
+        let start = end - bytes.len();
+        self.slice[start..end].copy_from_slice(bytes);
+        self.free = start;
+    }
+
+    pub(crate) fn prepend_header(&mut self, header: Header) {
+        let tag = header.tag.octet();
+        let number = header.length.to_usize();
+        if number < 0x80 {
+            self.prepend(&[tag, number as u8]);
+        } else if number < 0x100 {
+            self.prepend(&[tag, 0x81, number as u8]);
+        } else if number < 0x1_0000 {
+            self.prepend(&[tag, 0x82, (number / 0x100) as u8, (number % 0x100) as u8]);
+        } else if number < 0x100_0000 {
+            self.prepend(&[
+                tag,
+                0x83,
+                (number / 0x1_0000) as u8,
+                (number / 0x100 % 0x100) as u8,
+                (number % 0x100) as u8,
+            ]);
+        } else {
+            self.prepend(&[
+                tag,
+                0x84,
+                (number / 0x100_0000) as u8,
+                (number / 0x1_0000 % 0x100) as u8,
+                (number / 0x100 % 0x100) as u8,
+                (number % 0x100) as u8,
+            ]);
+        }
+    }
+
+    /// The filled part: the end of the slice.
+    pub fn finish(self) -> &'b [u8] {
+        let free = self.free;
+        let slice = self.slice;
+        &slice[free..]
+    }
+}

@@ -1,0 +1,98 @@
+// Made of crates/der_core/src/integer/owned.rt by tools/erase/erase.py, and not to be edited.
+//! Unsigned numbers that own their bytes.
+
+use crate::rattle_std::prelude::Vec;
+use super::uint::{AsUintRef, UintEncoding, UintRef};
+use crate::proved::der_core::back_writer::BackWriter;
+use crate::proved::der_core::decode::DecodeValue;
+use crate::proved::der_core::encode::EncodeValue;
+use crate::proved::der_core::error::{ErrorKind, Result};
+use crate::proved::der_core::grammar::{Contents, EqualByValue, IntegerTag, TaggedBy};
+use crate::proved::der_core::header::Header;
+use crate::proved::der_core::length::Length;
+use crate::proved::der_core::memory::copy_of;
+use crate::proved::der_core::reader::Reader;
+use crate::proved::der_core::try_clone::TryClone;
+use crate::proved::der_core::writer::Writer;
+use crate::rattle_std::alloc::Global;
+
+/// An unsigned number as big-endian bytes: no leading zeros, and one zero byte for 0. It owns them.
+#[derive(Debug, PartialEq, Eq)]
+pub struct Uint {
+    bytes: Vec<u8>,
+}
+
+impl Uint {
+    /// The number with these big-endian bytes, which may have leading zeros. `Length` of INTEGER if there is no byte,
+    /// `Overflow` if more than `Length::MAX` bytes remain without leading zeros. `OutOfMemory` is returned only for
+    /// bytes that are a number.
+    pub fn new(alloc: Global, bytes: &[u8]) -> Result<Uint> {
+        Uint::copy(alloc, UintRef::new(bytes)?)
+    }
+
+    pub fn as_bytes(&self) -> &[u8] {
+        self.bytes.as_slice()
+    }
+
+    /// The same number, or `OutOfMemory`.
+    pub fn try_clone(&self, alloc: Global) -> Result<Uint> {
+        Uint::copy(alloc, self.as_uint_ref())
+    }
+
+    /// Copies a number.
+    fn copy(alloc: Global, number: UintRef<'_>) -> Result<Uint> {
+        Ok(Uint {
+            bytes: copy_of(alloc, number.as_bytes())?,
+        })
+    }
+}
+
+impl AsUintRef for Uint {
+    fn as_uint_ref(&self) -> UintRef<'_> {
+        UintRef::over(self.bytes.as_slice())
+    }
+}
+
+impl UintEncoding for Uint {}
+
+impl TryClone for Uint {
+    fn try_clone(&self, alloc: Global) -> Result<Uint> {
+        self.try_clone(alloc)
+    }
+}
+
+impl Contents for Uint {}
+
+impl TaggedBy for Uint {
+    type Marker = IntegerTag;
+}
+
+impl EqualByValue for Uint {}
+
+impl<'a> DecodeValue<&'a [u8], Global> for Uint {
+    fn decode_value<R: Reader<&'a [u8]>>(
+        memory: Global,
+        reader: &mut R,
+        header: Header,
+    ) -> Result<Uint> {
+        let number = UintRef::decode_value(memory, reader, header)?;
+        match Uint::copy(memory, number) {
+            Ok(copy) => Ok(copy),
+            Err(e) => Err(reader.error(e.kind())),
+        }
+    }
+}
+
+impl EncodeValue for Uint {
+    fn value_len(&self) -> Result<Length> {
+        self.as_uint_ref().value_len()
+    }
+
+    fn append_value<W: Writer>(&self, writer: &mut W) -> Result<()> {
+        self.as_uint_ref().append_value(writer)
+    }
+
+    fn prepend_value(&self, writer: &mut BackWriter<'_>) {
+        self.as_uint_ref().prepend_value(writer);
+    }
+}

@@ -1,0 +1,80 @@
+// Made of crates/der_core/src/integer/small.rt by tools/erase/erase.py, and not to be edited.
+//! INTEGER from 0 to 255, as `u8`.
+
+use crate::proved::der_core::back_writer::BackWriter;
+use crate::proved::der_core::decode::DecodeValue;
+use crate::proved::der_core::encode::EncodeValue;
+use crate::proved::der_core::error::{Error, ErrorKind, Result};
+use crate::proved::der_core::grammar::{Contents, EqualByValue, IntegerTag, TaggedBy};
+use crate::proved::der_core::header::Header;
+use crate::proved::der_core::integer::uint::integer;
+use crate::proved::der_core::length::Length;
+use crate::proved::der_core::memory::Memory;
+use crate::proved::der_core::quick::quick_short;
+use crate::proved::der_core::reader::Reader;
+use crate::proved::der_core::tag::Tag;
+use crate::proved::der_core::writer::Writer;
+
+/// The number with these contents octets.
+fn small(contents: &[u8]) -> Result<u8> {
+    let number = integer(contents)?;
+    let bytes = number.as_bytes();
+    if bytes.len() > 1 {
+        return Err(Error::new(ErrorKind::Value { tag: Tag::INTEGER }));
+    }
+    Ok(bytes[0])
+}
+
+impl Contents for u8 {}
+
+impl TaggedBy for u8 {
+    type Marker = IntegerTag;
+}
+
+impl EqualByValue for u8 {}
+
+impl<'a, M: Memory> DecodeValue<&'a [u8], M> for u8 {
+    #[inline(always)]
+    fn decode_value<R: Reader<&'a [u8]>>(_memory: M, reader: &mut R, header: Header) -> Result<u8> {
+        let contents = reader.read_slice(header.length)?;
+        match small(contents) {
+            Ok(value) => Ok(value),
+            Err(e) => Err(reader.error(e.kind())),
+        }
+    }
+
+    #[inline(always)]
+    fn quick_split(bytes: &'a [u8], tag: Tag) -> Option<(&'a [u8], &'a [u8])> {
+        quick_short(bytes, tag)
+    }
+
+    #[inline(always)]
+    fn quick_value(_memory: M, contents: &'a [u8]) -> Option<u8> {
+        match contents {
+            [value] if *value < 0x80 => Some(*value),
+            [0, value] if *value >= 0x80 => Some(*value),
+            _ => None,
+        }
+    }
+}
+
+impl EncodeValue for u8 {
+    fn value_len(&self) -> Result<Length> {
+        Length::try_from(if *self < 0x80 { 1 } else { 2 })
+    }
+
+    fn append_value<W: Writer>(&self, writer: &mut W) -> Result<()> {
+        if *self < 0x80 {
+            writer.write(&[*self])
+        } else {
+            writer.write(&[0, *self])
+        }
+    }
+
+    fn prepend_value(&self, writer: &mut BackWriter<'_>) {
+        writer.prepend(&[*self]);
+        if *self >= 0x80 {
+            writer.prepend(&[0]);
+        }
+    }
+}

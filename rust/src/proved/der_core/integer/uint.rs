@@ -1,0 +1,162 @@
+// Made of crates/der_core/src/integer/uint.rt by tools/erase/erase.py, and not to be edited.
+//! Unsigned numbers that borrow their bytes.
+
+use crate::proved::der_core::back_writer::BackWriter;
+use crate::proved::der_core::decode::DecodeValue;
+use crate::proved::der_core::encode::EncodeValue;
+use crate::proved::der_core::error::{Error, ErrorKind, Result};
+use crate::proved::der_core::grammar::{Contents, Encoding, EqualByValue, IntegerTag, TaggedBy};
+use crate::proved::der_core::header::Header;
+use crate::proved::der_core::length::Length;
+use crate::proved::der_core::memory::Memory;
+use crate::proved::der_core::quick::quick_contents;
+use crate::proved::der_core::reader::Reader;
+use crate::proved::der_core::tag::Tag;
+use crate::proved::der_core::try_clone::TryClone;
+use crate::proved::der_core::writer::Writer;
+use crate::rattle_std::alloc::Global;
+
+/// An unsigned number as big-endian bytes: no leading zeros, and one zero byte for 0. It borrows them.
+#[derive(Clone, Copy, Debug, PartialEq, Eq)]
+pub struct UintRef<'a> {
+    bytes: &'a [u8],
+}
+
+/// A type that holds an unsigned number.
+pub trait AsUintRef {
+    /// The same number, borrowed.
+    fn as_uint_ref(&self) -> UintRef<'_>;
+}
+
+impl AsUintRef for UintRef<'_> {
+    fn as_uint_ref(&self) -> UintRef<'_> {
+        *self
+    }
+}
+
+/// A type whose values are encoded as the unsigned numbers that they hold.
+pub trait UintEncoding: AsUintRef + Encoding {}
+
+impl UintEncoding for UintRef<'_> {}
+
+/// The bytes without needless leading zeros.
+fn strip(bytes: &[u8]) -> &[u8] {
+    let mut rest = bytes;
+    while rest.len() > 1 && rest[0] == 0 {
+        rest = &rest[1..];
+    }
+    rest
+}
+
+impl<'a> UintRef<'a> {
+    /// The number with these big-endian bytes, which may have leading zeros. `Length` of INTEGER if there is no byte,
+    /// `Overflow` if more than `Length::MAX` bytes remain without leading zeros.
+    pub fn new(bytes: &'a [u8]) -> Result<UintRef<'a>> {
+        let bytes = strip(bytes);
+        if bytes.is_empty() {
+            return Err(Error::new(ErrorKind::Length { tag: Tag::INTEGER }));
+        }
+        if bytes.len() > Length::MAX.to_usize() {
+            return Err(Error::new(ErrorKind::Overflow));
+        }
+        Ok(UintRef { bytes })
+    }
+
+    /// The number with these bytes, which have no needless leading zero.
+    pub(super) fn over(bytes: &'a [u8]) -> UintRef<'a> {
+        UintRef { bytes }
+    }
+
+    pub fn as_bytes(&self) -> &'a [u8] {
+        self.bytes
+    }
+
+    pub fn bit_len(&self) -> u64 {
+        8 * self.bytes.len() as u64 - self.bytes[0].leading_zeros() as u64
+    }
+}
+
+/// The number with these contents octets.
+pub(crate) fn integer(contents: &[u8]) -> Result<UintRef<'_>> {
+    if contents.is_empty() {
+        return Err(Error::new(ErrorKind::Length { tag: Tag::INTEGER }));
+    }
+    match contents {
+        [first, ..] if *first >= 0x80 => Err(Error::new(ErrorKind::Value { tag: Tag::INTEGER })),
+        [0, second, ..] if *second < 0x80 => Err(Error::new(ErrorKind::Noncanonical {
+            tag: Tag::INTEGER,
+        })),
+        [0, _, ..] => Ok(UintRef {
+            bytes: &contents[1..],
+        }),
+        _ => Ok(UintRef { bytes: contents }),
+    }
+}
+
+impl<'a> TryClone for UintRef<'a> {
+    /// The same number, over the same bytes. Never `OutOfMemory`.
+    fn try_clone(&self, _alloc: Global) -> Result<UintRef<'a>> {
+        Ok(*self)
+    }
+}
+
+impl<'a> Contents for UintRef<'a> {}
+
+impl<'a> TaggedBy for UintRef<'a> {
+    type Marker = IntegerTag;
+}
+
+impl EqualByValue for UintRef<'_> {}
+
+impl<'a, M: Memory> DecodeValue<&'a [u8], M> for UintRef<'a> {
+    fn decode_value<R: Reader<&'a [u8]>>(
+        _memory: M,
+        reader: &mut R,
+        header: Header,
+    ) -> Result<UintRef<'a>> {
+        let contents = reader.read_slice(header.length)?;
+        match integer(contents) {
+            Ok(value) => Ok(value),
+            Err(e) => Err(reader.error(e.kind())),
+        }
+    }
+
+    #[inline(always)]
+    fn quick_split(bytes: &'a [u8], tag: Tag) -> Option<(&'a [u8], &'a [u8])> {
+        quick_contents(bytes, tag)
+    }
+
+    #[inline(always)]
+    fn quick_value(_memory: M, contents: &'a [u8]) -> Option<UintRef<'a>> {
+        match contents {
+            [0, rest @ ..] => match rest {
+                [] => Some(UintRef { bytes: contents }),
+                [second, ..] if *second >= 0x80 => Some(UintRef { bytes: rest }),
+                _ => None,
+            },
+            [first, ..] if *first < 0x80 => Some(UintRef { bytes: contents }),
+            _ => None,
+        }
+    }
+}
+
+impl EncodeValue for UintRef<'_> {
+    fn value_len(&self) -> Result<Length> {
+        let zeros = if self.bytes[0] < 0x80 { 0 } else { 1 };
+        Length::try_from(self.bytes.len() + zeros)
+    }
+
+    fn append_value<W: Writer>(&self, writer: &mut W) -> Result<()> {
+        if self.bytes[0] >= 0x80 {
+            writer.write(&[0])?;
+        }
+        writer.write(self.bytes)
+    }
+
+    fn prepend_value(&self, writer: &mut BackWriter<'_>) {
+        writer.prepend(self.bytes);
+        if self.bytes[0] >= 0x80 {
+            writer.prepend(&[0]);
+        }
+    }
+}

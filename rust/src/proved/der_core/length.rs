@@ -1,0 +1,170 @@
+// Made of crates/der_core/src/length.rt by tools/erase/erase.py, and not to be edited.
+//! Lengths.
+
+use crate::proved::der_core::error::{Error, ErrorKind, Result};
+use crate::proved::der_core::reader::{Reader, read_octet};
+use crate::proved::der_core::tag::Tag;
+use crate::rattle_std::arrayvec::ArrayVec;
+use crate::rattle_std::marker::Model;
+
+/// A number of octets, at most `Length::MAX`.
+#[derive(Clone, Copy, Debug, PartialEq, Eq, PartialOrd, Ord)]
+pub struct Length {
+    value: u32,
+}
+
+impl Model for Length {}
+
+/// The big-endian number in at most four octets.
+#[inline(always)]
+fn number(octets: &[u8]) -> u32 {
+    match octets {
+        [] => 0,
+        [a] => *a as u32,
+        [a, b] => *a as u32 * 0x100 + *b as u32,
+        [a, b, c] => *a as u32 * 0x1_0000 + *b as u32 * 0x100 + *c as u32,
+        [a, b, c, d] => {
+            *a as u32 * 0x100_0000 + *b as u32 * 0x1_0000 + *c as u32 * 0x100 + *d as u32
+        }
+        _ => unreachable!(),
+    }
+}
+
+/// Whether the short form, or fewer octets, would do (X.690 10.1).
+fn is_overlong(octets: &[u8]) -> bool {
+    match octets {
+        [] => true,
+        [octet] => *octet < 0x80,
+        [first, ..] => *first == 0,
+    }
+}
+
+/// Reads the length octets.
+#[inline(always)]
+fn read_length<'a, R: Reader<&'a [u8]>>(reader: &mut R) -> Result<Length> {
+    let first = read_octet(reader)?;
+    if first < 0x80 {
+        return Ok(Length {
+            value: first as u32,
+        });
+    }
+    if first == 0x80 {
+        return Err(reader.error(ErrorKind::IndefiniteLength));
+    }
+    if first > 0x84 {
+        return Err(reader.error(ErrorKind::Overflow));
+    }
+    let octets = reader.read_slice(Length {
+        value: (first - 0x80) as u32,
+    })?;
+    if is_overlong(octets) {
+        return Err(reader.error(ErrorKind::Overlength));
+    }
+    Ok(Length {
+        value: number(octets),
+    })
+}
+
+impl TryFrom<usize> for Length {
+    type Error = Error;
+
+    /// `Overflow` if the number exceeds `MAX`.
+    fn try_from(value: usize) -> Result<Length> {
+        if value <= Length::MAX.to_usize() {
+            Ok(Length {
+                value: value as u32,
+            })
+        } else {
+            Err(Error::new(ErrorKind::Overflow))
+        }
+    }
+}
+
+impl Length {
+    /// No octets.
+    pub const ZERO: Length = Length { value: 0 };
+
+    /// One octet.
+    pub const ONE: Length = Length { value: 1 };
+
+    /// The most octets that contents, or an encoding that is read or written whole, may have: 2^32 - 1.
+    pub const MAX: Length = Length { value: 4294967295 };
+
+    /// A length of at most `MAX`.
+    pub(crate) fn of(value: usize) -> Length {
+        Length {
+            value: value as u32,
+        }
+    }
+
+    /// The number of octets, as slices count them.
+    pub fn to_usize(self) -> usize {
+        self.value as usize
+    }
+
+    /// The sum, or `Overflow` if it exceeds `MAX`.
+    pub fn checked_add(self, other: Length) -> Result<Length> {
+        match self.value.checked_add(other.value) {
+            Some(value) => Ok(Length { value }),
+            None => Err(Error::new(ErrorKind::Overflow)),
+        }
+    }
+
+    /// The length of an encoding whose contents have this length, or `Overflow` if it exceeds `MAX`.
+    pub fn for_tlv(self, _tag: Tag) -> Result<Length> {
+        self.header_len().checked_add(self)
+    }
+
+    fn header_len(self) -> Length {
+        let value = if self.value < 0x80 {
+            2
+        } else if self.value < 0x100 {
+            3
+        } else if self.value < 0x1_0000 {
+            4
+        } else if self.value < 0x100_0000 {
+            5
+        } else {
+            6
+        };
+        Length { value }
+    }
+
+    /// The length octets (X.690 8.1.3), as few as possible.
+    pub fn to_bytes(self) -> ArrayVec<u8, 5> {
+        self.octets()
+    }
+
+    fn octets(self) -> ArrayVec<u8, 5> {
+        let number = self.value;
+        let mut bytes = ArrayVec::new();
+        if number < 0x80 {
+            bytes.push(number as u8);
+        } else if number < 0x100 {
+            bytes.push(0x81);
+            bytes.push(number as u8);
+        } else if number < 0x1_0000 {
+            bytes.push(0x82);
+            bytes.push((number / 0x100) as u8);
+            bytes.push((number % 0x100) as u8);
+        } else if number < 0x100_0000 {
+            bytes.push(0x83);
+            bytes.push((number / 0x1_0000) as u8);
+            bytes.push((number / 0x100 % 0x100) as u8);
+            bytes.push((number % 0x100) as u8);
+        } else {
+            bytes.push(0x84);
+            bytes.push((number / 0x100_0000) as u8);
+            bytes.push((number / 0x1_0000 % 0x100) as u8);
+            bytes.push((number / 0x100 % 0x100) as u8);
+            bytes.push((number % 0x100) as u8);
+        }
+        bytes
+    }
+
+    /// Reads the length octets.
+    #[inline(always)]
+    pub fn decode<'a, R: Reader<&'a [u8]>>(reader: &mut R) -> Result<Length> {
+        read_length(reader)
+    }
+}

@@ -1,0 +1,84 @@
+// Made of crates/der_core/src/lib.rt by tools/erase/erase.py, and not to be edited.
+//! A small kernel for DER (X.690): tags, lengths, unsigned integers, readers, writers, and the traits that define what
+//! the values of a type and their encodings are.
+//!
+//! A type states once which spellings its values have and what is printed of them (`Contents`). Reading accepts exactly
+//! that, and writing gives the shortest encoding.
+//!
+//! An *encoding* is one whole DER encoding: tag, length and contents octets. A *sentence* is an
+//! encoding of at most `Length::MAX` bytes that means a value.
+
+mod asks_none;
+mod back_writer;
+mod borrowed;
+mod decode;
+mod document;
+mod encode;
+mod error;
+mod expected;
+mod file_system;
+mod front;
+mod grammar;
+mod header;
+mod in_range;
+mod integer;
+mod last_part;
+mod laws;
+mod length;
+mod memory;
+mod octet_string;
+mod one_encoding;
+mod optional_part;
+mod parts;
+mod quick;
+mod reader;
+mod record;
+mod sequence_of;
+mod slice_reader;
+mod source_sink;
+mod std_io;
+mod tag;
+mod transfer;
+mod try_clone;
+mod writer;
+
+pub use asks_none::{AsksNone, ContentsAskNone, PartsAskNone, read_borrowed};
+pub use back_writer::BackWriter;
+pub use borrowed::Borrowed;
+pub use decode::{Decode, DecodeValue, decode_optional, is_tag_next, read_owned};
+pub use document::{Document, DocumentOf, Open, Secret, SecretDocument, write_over};
+pub use encode::{Encode, EncodeValue, joined_len};
+pub use error::{Error, ErrorKind, Result};
+pub use expected::Expected;
+pub use file_system::FileSystem;
+pub use front::{DecodeFront, FrontRow};
+pub use grammar::{
+    Contents, Encoding, EqualByValue, FixedTag, IntegerTag, Sequence, SequenceTag, TagMarker,
+    TaggedBy,
+};
+pub use header::Header;
+pub use in_range::InRange;
+pub use integer::{AsUintRef, Uint, UintEncoding, UintRef};
+pub use last_part::{Last, LastByTag, decode_last, decode_whole};
+pub use laws::{
+    lemma_clones_hold_the_same, lemma_contents_are_read, lemma_documents_compare_by_bytes,
+    lemma_encodings_are_read, lemma_headers_compare_by_value, lemma_kinds_are_told_apart,
+    lemma_lengths_compare_by_number, lemma_optional_parts_are_read,
+    lemma_tag_numbers_compare_by_number,
+};
+pub use length::Length;
+pub use memory::{Memory, NoMemory};
+pub use octet_string::{OctetStringRef, OctetStringTag};
+pub use one_encoding::{OneContents, OneEncoding, lemma_one_encoding, write_only};
+pub use optional_part::OptionalThen;
+pub use parts::DecodeParts;
+pub use quick::{begins_with, quick_alone, quick_any, quick_contents, quick_short};
+pub use reader::{BytesLeft, Octets, Reader};
+pub use record::{EncodeInParts, InParts, Record};
+pub use slice_reader::SliceReader;
+pub use source_sink::{Close, Sink, Source};
+pub use std_io::{FromRead, ToWrite};
+pub use tag::{Tag, TagNumber};
+pub use transfer::{put_all, read_all};
+pub use try_clone::TryClone;
+pub use writer::{SliceWriter, Writer};

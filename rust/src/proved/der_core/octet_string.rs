@@ -1,0 +1,96 @@
+// Made of crates/der_core/src/octet_string.rt by tools/erase/erase.py, and not to be edited.
+//! OCTET STRING (X.690 8.7).
+
+use crate::proved::der_core::back_writer::BackWriter;
+use crate::proved::der_core::decode::DecodeValue;
+use crate::proved::der_core::encode::EncodeValue;
+use crate::proved::der_core::error::{Error, ErrorKind, Result};
+use crate::proved::der_core::grammar::{Contents, EqualByValue, TagMarker, TaggedBy};
+use crate::proved::der_core::header::Header;
+use crate::proved::der_core::length::Length;
+use crate::proved::der_core::memory::Memory;
+use crate::proved::der_core::quick::quick_contents;
+use crate::proved::der_core::reader::Reader;
+use crate::proved::der_core::tag::Tag;
+use crate::proved::der_core::writer::Writer;
+
+/// An OCTET STRING of at most `Length::MAX` octets. It borrows them.
+#[derive(Clone, Copy, Debug, PartialEq, Eq)]
+pub struct OctetStringRef<'a> {
+    bytes: &'a [u8],
+}
+
+impl<'a> OctetStringRef<'a> {
+    /// `Overflow` if there are more than `Length::MAX` octets.
+    pub fn new(bytes: &'a [u8]) -> Result<OctetStringRef<'a>> {
+        if bytes.len() > Length::MAX.to_usize() {
+            return Err(Error::new(ErrorKind::Overflow));
+        }
+        Ok(OctetStringRef { bytes })
+    }
+
+    /// The octets, borrowed from the input.
+    pub fn as_bytes(&self) -> &'a [u8] {
+        self.bytes
+    }
+
+    /// How many octets there are.
+    pub fn len(&self) -> Length {
+        Length::of(self.bytes.len())
+    }
+
+    /// Whether there is no octet. An OCTET STRING may have none (X.690 8.7.2).
+    pub fn is_empty(&self) -> bool {
+        self.bytes.is_empty()
+    }
+}
+
+/// The tag of OCTET STRING.
+pub struct OctetStringTag;
+
+impl TagMarker for OctetStringTag {
+    const TAG: Tag = Tag::OCTET_STRING;
+}
+
+impl Contents for OctetStringRef<'_> {}
+
+impl TaggedBy for OctetStringRef<'_> {
+    type Marker = OctetStringTag;
+}
+
+impl EqualByValue for OctetStringRef<'_> {}
+
+impl<'a, M: Memory> DecodeValue<&'a [u8], M> for OctetStringRef<'a> {
+    fn decode_value<R: Reader<&'a [u8]>>(
+        _memory: M,
+        reader: &mut R,
+        header: Header,
+    ) -> Result<OctetStringRef<'a>> {
+        let bytes = reader.read_slice(header.length)?;
+        Ok(OctetStringRef { bytes })
+    }
+
+    #[inline(always)]
+    fn quick_split(bytes: &'a [u8], tag: Tag) -> Option<(&'a [u8], &'a [u8])> {
+        quick_contents(bytes, tag)
+    }
+
+    #[inline(always)]
+    fn quick_value(_memory: M, contents: &'a [u8]) -> Option<OctetStringRef<'a>> {
+        Some(OctetStringRef { bytes: contents })
+    }
+}
+
+impl EncodeValue for OctetStringRef<'_> {
+    fn value_len(&self) -> Result<Length> {
+        Ok(self.len())
+    }
+
+    fn append_value<W: Writer>(&self, writer: &mut W) -> Result<()> {
+        writer.write(self.bytes)
+    }
+
+    fn prepend_value(&self, writer: &mut BackWriter<'_>) {
+        writer.prepend(self.bytes);
+    }
+}

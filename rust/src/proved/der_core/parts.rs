@@ -1,0 +1,97 @@
+// Made of crates/der_core/src/parts.rt by tools/erase/erase.py, and not to be edited.
+//! Parts of contents in a row, as a type: a nested pair that ends with `()`, as `(A, (B, ()))`, or with an OPTIONAL last
+//! part, as `(A, Last<B>)`. A row is written as contents, `(Borrowed(&self.a), (Borrowed(&self.b), ())).value_len()`.
+
+use crate::proved::der_core::back_writer::BackWriter;
+use crate::proved::der_core::decode::Decode;
+use crate::proved::der_core::encode::{Encode, EncodeValue, joined_len};
+use crate::proved::der_core::error::Result;
+use crate::proved::der_core::grammar::{Contents, Encoding};
+use crate::proved::der_core::length::Length;
+use crate::proved::der_core::memory::Memory;
+use crate::proved::der_core::reader::{Octets, Reader};
+use crate::proved::der_core::writer::Writer;
+
+/// Contents that are read to the end of what is left.
+pub trait DecodeParts<B: Octets, M: Memory>: Contents + Sized {
+    /// Reads all that is left as the contents octets of a value.
+    fn decode_parts<R: Reader<B>>(memory: M, reader: &mut R) -> Result<Self>;
+
+    /// The value with these contents octets, if that is quickly told.
+    #[inline(always)]
+    fn quick_parts(_memory: M, _contents: B) -> Option<Self> {
+        None
+    }
+}
+
+impl Contents for () {}
+
+impl<A: Encoding, B: Contents> Contents for (A, B) {}
+
+impl<'a, M: Memory> DecodeParts<&'a [u8], M> for () {
+    #[inline(always)]
+    fn decode_parts<R: Reader<&'a [u8]>>(_memory: M, reader: &mut R) -> Result<()> {
+        reader.finish()
+    }
+
+    #[inline(always)]
+    fn quick_parts(_memory: M, contents: &'a [u8]) -> Option<()> {
+        if contents.is_empty() { Some(()) } else { None }
+    }
+}
+
+impl<'a, M: Memory, A: Decode<&'a [u8], M>, B: DecodeParts<&'a [u8], M>> DecodeParts<&'a [u8], M>
+    for (A, B) {
+    #[inline(always)]
+    fn decode_parts<R: Reader<&'a [u8]>>(memory: M, reader: &mut R) -> Result<(A, B)> {
+        let first = A::decode(memory, reader)?;
+        let rest = B::decode_parts(memory, reader)?;
+        Ok((first, rest))
+    }
+
+    #[inline(always)]
+    fn quick_parts(memory: M, contents: &'a [u8]) -> Option<(A, B)> {
+        match A::quick(memory, contents) {
+            Some((first, behind)) => match B::quick_parts(memory, behind) {
+                Some(rest) => Some((first, rest)),
+                None => None,
+            },
+            None => None,
+        }
+    }
+}
+
+impl EncodeValue for () {
+    #[inline(always)]
+    fn value_len(&self) -> Result<Length> {
+        Ok(Length::ZERO)
+    }
+
+    #[inline(always)]
+    fn append_value<W: Writer>(&self, _writer: &mut W) -> Result<()> {
+        Ok(())
+    }
+
+    #[inline(always)]
+    fn prepend_value(&self, _writer: &mut BackWriter<'_>) {}
+}
+
+impl<A: Encode, B: EncodeValue> EncodeValue for (A, B) {
+    #[inline(always)]
+    fn value_len(&self) -> Result<Length> {
+        let rest = self.1.value_len(); // counted first, so that one sum is kept and not each part's length
+        joined_len(self.0.encoded_len(), rest)
+    }
+
+    #[inline(always)]
+    fn append_value<W: Writer>(&self, writer: &mut W) -> Result<()> {
+        self.0.encode(writer)?;
+        self.1.append_value(writer)
+    }
+
+    #[inline(always)]
+    fn prepend_value(&self, writer: &mut BackWriter<'_>) {
+        self.1.prepend_value(writer);
+        self.0.prepend(writer);
+    }
+}

@@ -1,0 +1,107 @@
+// Made of crates/der_core/src/record.rt by tools/erase/erase.py, and not to be edited.
+//! SEQUENCEs as records of parts: a type that names its parts is read and written with no proof of its own.
+
+use crate::proved::der_core::back_writer::BackWriter;
+use crate::proved::der_core::decode::DecodeValue;
+use crate::proved::der_core::encode::EncodeValue;
+use crate::proved::der_core::error::Result;
+use crate::proved::der_core::grammar::{Contents, Sequence, SequenceTag, TaggedBy};
+use crate::proved::der_core::header::Header;
+use crate::proved::der_core::length::Length;
+use crate::proved::der_core::memory::Memory;
+use crate::proved::der_core::parts::DecodeParts;
+use crate::proved::der_core::quick::quick_contents;
+use crate::proved::der_core::reader::Reader;
+use crate::proved::der_core::tag::Tag;
+use crate::proved::der_core::writer::Writer;
+
+/// A type whose contents are a row of parts.
+pub trait InParts: Contents + Sized {
+    /// The row.
+    type Parts: Contents;
+
+    /// The value with these parts.
+    fn from_parts(parts: Self::Parts) -> Self;
+}
+
+impl<'a, M: Memory, T: InParts> DecodeValue<&'a [u8], M> for T
+where
+    T::Parts: DecodeParts<&'a [u8], M>,
+{
+    #[inline(always)]
+    fn decode_value<R: Reader<&'a [u8]>>(memory: M, reader: &mut R, _header: Header) -> Result<T> {
+        let parts = T::Parts::decode_parts(memory, reader)?;
+        Ok(T::from_parts(parts))
+    }
+
+    #[inline(always)]
+    fn quick_split(bytes: &'a [u8], tag: Tag) -> Option<(&'a [u8], &'a [u8])> {
+        quick_contents(bytes, tag)
+    }
+
+    #[inline(always)]
+    fn quick_value(memory: M, contents: &'a [u8]) -> Option<T> {
+        match T::Parts::quick_parts(memory, contents) {
+            Some(parts) => Some(T::from_parts(parts)),
+            None => None,
+        }
+    }
+}
+
+/// A type whose contents are written as a row of parts.
+pub trait EncodeInParts: InParts {
+    /// The length of the parts.
+    fn parts_len(&self) -> Result<Length>;
+
+    /// Appends the parts: `NoRoom` after a beginning of them.
+    fn append_parts<W: Writer>(&self, writer: &mut W) -> Result<()>;
+
+    /// Writes the parts in front of what is filled.
+    fn prepend_parts(&self, writer: &mut BackWriter<'_>);
+}
+
+impl<T: EncodeInParts> EncodeValue for T
+where
+    T::Parts: EncodeValue,
+{
+    #[inline(always)]
+    fn value_len(&self) -> Result<Length> {
+        self.parts_len()
+    }
+
+    #[inline(always)]
+    fn append_value<W: Writer>(&self, writer: &mut W) -> Result<()> {
+        self.append_parts(writer)
+    }
+
+    #[inline(always)]
+    fn prepend_value(&self, writer: &mut BackWriter<'_>) {
+        self.prepend_parts(writer);
+    }
+}
+
+/// A SEQUENCE that means its parts: their row is all that there is to say of it.
+pub trait Record: Sized {
+    /// The row.
+    type Fields: Contents;
+
+    /// The record of these fields.
+    fn from_fields(row: Self::Fields) -> Self;
+}
+
+impl<T: Record> Contents for T {}
+
+impl<T: Record> TaggedBy for T {
+    type Marker = SequenceTag;
+}
+
+impl<'a, T: Record> Sequence<'a> for T {}
+
+impl<T: Record> InParts for T {
+    type Parts = T::Fields;
+
+    #[inline(always)]
+    fn from_parts(parts: T::Fields) -> T {
+        T::from_fields(parts)
+    }
+}

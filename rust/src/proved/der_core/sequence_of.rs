@@ -1,0 +1,77 @@
+// Made of crates/der_core/src/sequence_of.rt by tools/erase/erase.py, and not to be edited.
+//! SEQUENCE OF (X.690 8.10), as a `Vec` of its items.
+
+use crate::rattle_std::prelude::Vec;
+use crate::proved::der_core::back_writer::BackWriter;
+use crate::proved::der_core::decode::{Decode, DecodeValue};
+use crate::proved::der_core::encode::{Encode, EncodeValue, joined_len};
+use crate::proved::der_core::error::{ErrorKind, Result};
+use crate::proved::der_core::grammar::{Contents, Encoding, SequenceTag, TaggedBy};
+use crate::proved::der_core::header::Header;
+use crate::proved::der_core::length::Length;
+use crate::proved::der_core::reader::Reader;
+use crate::proved::der_core::writer::Writer;
+use crate::rattle_std::alloc::Global;
+
+impl<T: Encoding> Contents for Vec<T> {}
+
+impl<T> TaggedBy for Vec<T> {
+    type Marker = SequenceTag;
+}
+
+impl<'a, T: Decode<&'a [u8], Global>> DecodeValue<&'a [u8], Global> for Vec<T> {
+    fn decode_value<R: Reader<&'a [u8]>>(
+        memory: Global,
+        reader: &mut R,
+        _header: Header,
+    ) -> Result<Vec<T>> {
+        let mut items = Vec::new(memory);
+        while reader.peek_octet().is_some() {
+            let item = T::decode(memory, reader)?;
+            if items.push(item).is_err() {
+                return Err(reader.error(ErrorKind::OutOfMemory));
+            }
+        }
+        Ok(items)
+    }
+}
+
+/// The total length of the encodings of the items.
+pub(crate) fn items_len<T: Encode>(items: &[T]) -> Result<Length> {
+    let mut total = Ok(Length::ZERO);
+    for item in items {
+        total = joined_len(total, item.encoded_len());
+    }
+    total
+}
+
+/// Appends the encodings of the items.
+pub(crate) fn encode_items<T: Encode, W: Writer>(items: &[T], writer: &mut W) -> Result<()> {
+    for item in items {
+        item.encode(writer)?;
+    }
+    Ok(())
+}
+
+/// Writes the encodings of the items in front of what is filled, the last item first.
+pub(crate) fn prepend_items<T: Encode>(items: &[T], writer: &mut BackWriter<'_>) {
+    let mut left = items.len();
+    while left > 0 {
+        left -= 1;
+        items[left].prepend(writer);
+    }
+}
+
+impl<T: Encode> EncodeValue for Vec<T> {
+    fn value_len(&self) -> Result<Length> {
+        items_len(self.as_slice())
+    }
+
+    fn append_value<W: Writer>(&self, writer: &mut W) -> Result<()> {
+        encode_items(self.as_slice(), writer)
+    }
+
+    fn prepend_value(&self, writer: &mut BackWriter<'_>) {
+        prepend_items(self.as_slice(), writer);
+    }
+}

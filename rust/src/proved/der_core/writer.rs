@@ -1,0 +1,42 @@
+// Made of crates/der_core/src/writer.rt by tools/erase/erase.py, and not to be edited.
+//! Writers.
+
+use crate::proved::der_core::error::{Error, ErrorKind, Result};
+
+/// Takes octets, one slice after another.
+pub trait Writer {
+    /// Appends all of the octets, or returns `NoRoom` and writes nothing.
+    fn write(&mut self, bytes: &[u8]) -> Result<()>;
+}
+
+pub struct SliceWriter<'b> {
+    slice: &'b mut [u8],
+    len: usize,
+}
+
+impl<'b> SliceWriter<'b> {
+    /// A writer over a slice. Bytes behind what is written stay as they are.
+    pub fn new(slice: &'b mut [u8]) -> SliceWriter<'b> {
+        SliceWriter { slice, len: 0 }
+    }
+
+    /// The part that was written.
+    pub fn finish(self) -> &'b [u8] {
+        let len = self.len;
+        let slice = self.slice;
+        &slice[..len]
+    }
+}
+
+impl Writer for SliceWriter<'_> {
+    fn write(&mut self, bytes: &[u8]) -> Result<()> {
+        if self.slice.len() - self.len < bytes.len() {
+            return Err(Error::new(ErrorKind::NoRoom));
+        }
+        let start = self.len;
+        let end = start + bytes.len();
+        self.slice[start..end].copy_from_slice(bytes);
+        self.len = end;
+        Ok(())
+    }
+}

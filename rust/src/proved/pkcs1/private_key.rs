@@ -1,0 +1,171 @@
+// Made of crates/pkcs1/src/private_key.rt by tools/erase/erase.py, and not to be edited.
+//! RSA private keys.
+
+mod der;
+pub(crate) mod other_prime_info;
+mod written;
+
+use crate::proved::pkcs1::key_numbers::{KeyFront, key_of};
+use crate::proved::pkcs1::public_key::{RsaPublicKey, RsaPublicKeyRef};
+use crate::proved::pkcs1::version::Version;
+use crate::proved::der_core::{
+    BackWriter, Contents, Decode, DecodeFront, DecodeValue, Encode, EncodeValue, Encoding,
+    ErrorKind, Header, Length, Reader, Result, Sequence, SequenceTag, Tag, TaggedBy, Uint,
+    UintEncoding, UintRef, Writer, quick_contents,
+};
+use other_prime_info::{OtherPrimeInfos, lists_none, read_other_primes};
+use crate::rattle_std::alloc::{AllocError, Global};
+use crate::rattle_std::fmt;
+
+/// An RSA private key (RFC 8017 A.1.2). A U holds a number, an O the other primes, if there are any. No relation
+/// between the numbers is checked. The version isn't stored: it is `Multi` exactly if `other_prime_infos` is `Some`.
+///
+/// ```text
+/// RSAPrivateKey ::= SEQUENCE {
+///     version          Version,
+///     modulus          INTEGER,
+///     publicExponent   INTEGER,
+///     privateExponent  INTEGER,
+///     prime1           INTEGER,
+///     prime2           INTEGER,
+///     exponent1        INTEGER,
+///     exponent2        INTEGER,
+///     coefficient      INTEGER,
+///     otherPrimeInfos  OtherPrimeInfos OPTIONAL
+/// }
+/// ```
+#[derive(Copy)]
+pub struct PrivateKeyOf<U, O> {
+    /// The modulus n.
+    pub modulus: U,
+    /// The public exponent e.
+    pub public_exponent: U,
+    /// The private exponent d.
+    pub private_exponent: U,
+    /// The first prime p.
+    pub prime1: U,
+    /// The second prime q.
+    pub prime2: U,
+    /// The exponent of the first prime: d modulo p - 1.
+    pub exponent1: U,
+    /// The exponent of the second prime: d modulo q - 1.
+    pub exponent2: U,
+    /// The coefficient: the inverse of q modulo p.
+    pub coefficient: U,
+    /// The primes after the first two.
+    pub other_prime_infos: Option<O>,
+}
+
+/// A private key with a list of its other primes. A key whose list is there but empty has no encoding: writing it
+/// returns `Value` of SEQUENCE.
+pub type RsaPrivateKey<U> = PrivateKeyOf<U, OtherPrimeInfos<U>>;
+
+/// A private key that borrows its numbers.
+pub type RsaPrivateKeyRef<'a> = RsaPrivateKey<UintRef<'a>>;
+
+/// A private key that owns its numbers.
+pub type RsaPrivateKeyOwned = RsaPrivateKey<Uint>;
+
+impl<U, O> PrivateKeyOf<U, O> {
+    /// The version: `Multi` if there are other primes.
+    pub fn version(&self) -> Version {
+        if self.other_prime_infos.is_some() {
+            Version::Multi
+        } else {
+            Version::TwoPrime
+        }
+    }
+}
+
+impl<U: UintEncoding> RsaPrivateKey<U> {
+    /// The public key.
+    pub fn public_key(&self) -> RsaPublicKeyRef<'_> {
+        RsaPublicKey {
+            modulus: self.modulus.as_uint_ref(),
+            public_exponent: self.public_exponent.as_uint_ref(),
+        }
+    }
+}
+
+impl<'a, U: UintEncoding> From<&'a RsaPrivateKey<U>> for RsaPublicKey<UintRef<'a>> {
+    fn from(key: &'a RsaPrivateKey<U>) -> RsaPublicKey<UintRef<'a>> {
+        key.public_key()
+    }
+}
+
+impl<U: Encoding> Contents for RsaPrivateKey<U> {}
+
+impl<U, O> TaggedBy for PrivateKeyOf<U, O> {
+    type Marker = SequenceTag;
+}
+
+impl<'a, U, O> Sequence<'a> for PrivateKeyOf<U, O> {}
+
+impl<'a, U: Decode<&'a [u8], Global>> DecodeValue<&'a [u8], Global> for RsaPrivateKey<U> {
+    fn decode_value<R: Reader<&'a [u8]>>(
+        memory: Global,
+        reader: &mut R,
+        _header: Header,
+    ) -> Result<RsaPrivateKey<U>> {
+        let (version, numbers) = KeyFront::<U>::decode_front(memory, reader)?;
+        let others = read_other_primes(memory, reader, version)?;
+        Ok(key_of(numbers, others))
+    }
+
+    #[inline(always)]
+    fn quick_split(bytes: &'a [u8], tag: Tag) -> Option<(&'a [u8], &'a [u8])> {
+        quick_contents(bytes, tag)
+    }
+
+    #[inline(always)]
+    fn quick_value(memory: Global, contents: &'a [u8]) -> Option<RsaPrivateKey<U>> {
+        match KeyFront::<U>::quick_front(memory, contents) {
+            Some(((Version::TwoPrime, numbers), [])) => Some(key_of(numbers, None)),
+            _ => None,
+        }
+    }
+}
+
+impl<U: Encode> EncodeValue for RsaPrivateKey<U> {
+    fn value_len(&self) -> Result<Length> {
+        if lists_none(&self.other_prime_infos) {
+            return Err(crate::proved::der_core::Error::new(ErrorKind::Value { tag: Tag::SEQUENCE }));
+        }
+        self.row_len()
+    }
+
+    fn append_value<W: Writer>(&self, writer: &mut W) -> Result<()> {
+        self.append_row(writer)
+    }
+
+    fn encode_value<W: Writer>(&self, writer: &mut W) -> Result<()> {
+        self.value_len()?;
+        self.append_value(writer)
+    }
+
+    fn prepend_value(&self, writer: &mut BackWriter<'_>) {
+        self.prepend_row(writer);
+    }
+}
+
+impl<U: fmt::Debug, O> PrivateKeyOf<U, O> {
+    /// Prints the name, the version, the modulus and the public exponent, but nothing secret.
+    pub(crate) fn print(
+        &self,
+        name: &str,
+        f: &mut fmt::Formatter<'_>,
+    ) -> fmt::Result {
+        f.debug_struct(name)
+            .field("version", &self.version())
+            .field("modulus", &self.modulus)
+            .field("public_exponent", &self.public_exponent)
+            .finish_non_exhaustive()
+    }
+}
+
+impl<U: fmt::Debug> fmt::Debug for RsaPrivateKey<U> {
+    /// Prints the version, the modulus and the public exponent, but nothing secret.
+    fn fmt(&self, f: &mut fmt::Formatter<'_>) -> fmt::Result {
+        self.print("RsaPrivateKey", f)
+    }
+}

@@ -1,0 +1,126 @@
+// Made of crates/pkcs1/src/private_key/other_prime_info.rt by tools/erase/erase.py, and not to be edited.
+//! Other primes of private keys.
+
+use crate::rattle_std::prelude::Vec;
+use crate::proved::pkcs1::version::Version;
+use crate::proved::der_core::{
+    BackWriter, Borrowed, Contents, Decode, Encode, EncodeInParts, EncodeValue, Encoding,
+    ErrorKind, InParts, Length, Reader, Result, Sequence, SequenceTag, Tag, TaggedBy, TryClone,
+    Writer, decode_optional,
+};
+use crate::rattle_std::alloc::{AllocError, Global};
+
+pub struct OtherPrimeInfo<U> {
+    /// The prime.
+    pub prime: U,
+    /// Its exponent: the private exponent modulo (prime - 1).
+    pub exponent: U,
+    /// Its coefficient: the inverse of the product of the primes before it, modulo the prime.
+    pub coefficient: U,
+}
+
+/// The primes of a private key after the first two.
+pub type OtherPrimeInfos<U> = Vec<OtherPrimeInfo<U>>;
+
+impl<U: Encoding> Contents for OtherPrimeInfo<U> {}
+
+impl<U> TaggedBy for OtherPrimeInfo<U> {
+    type Marker = SequenceTag;
+}
+
+impl<'a, U> Sequence<'a> for OtherPrimeInfo<U> {}
+
+impl<U: TryClone> TryClone for OtherPrimeInfo<U> {
+    fn try_clone(&self, alloc: Global) -> Result<OtherPrimeInfo<U>> {
+        self.try_clone(alloc)
+    }
+}
+
+impl<U: TryClone> OtherPrimeInfo<U> {
+    /// The same numbers, or `OutOfMemory`.
+    pub fn try_clone(&self, alloc: Global) -> Result<OtherPrimeInfo<U>> {
+        Ok(OtherPrimeInfo {
+            prime: self.prime.try_clone(alloc)?,
+            exponent: self.exponent.try_clone(alloc)?,
+            coefficient: self.coefficient.try_clone(alloc)?,
+        })
+    }
+}
+
+impl<U: Encoding> InParts for OtherPrimeInfo<U> {
+    type Parts = (U, (U, (U, ())));
+
+    fn from_parts(parts: (U, (U, (U, ())))) -> OtherPrimeInfo<U> {
+        let (prime, (exponent, (coefficient, ()))) = parts;
+        OtherPrimeInfo {
+            prime,
+            exponent,
+            coefficient,
+        }
+    }
+}
+
+impl<U: Encode> EncodeInParts for OtherPrimeInfo<U> {
+    fn parts_len(&self) -> Result<Length> {
+        let coefficient = (Borrowed(&self.coefficient), ());
+        (
+            Borrowed(&self.prime),
+            (Borrowed(&self.exponent), coefficient),
+        )
+            .value_len()
+    }
+
+    fn append_parts<W: Writer>(&self, writer: &mut W) -> Result<()> {
+        let coefficient = (Borrowed(&self.coefficient), ());
+        (
+            Borrowed(&self.prime),
+            (Borrowed(&self.exponent), coefficient),
+        )
+            .append_value(writer)
+    }
+
+    fn prepend_parts(&self, writer: &mut BackWriter<'_>) {
+        let coefficient = (Borrowed(&self.coefficient), ());
+        (
+            Borrowed(&self.prime),
+            (Borrowed(&self.exponent), coefficient),
+        )
+            .prepend_value(writer);
+    }
+}
+
+/// Whether the list is there but empty.
+pub(crate) fn lists_none<U>(others: &Option<OtherPrimeInfos<U>>) -> bool {
+    match others {
+        Some(infos) => infos.is_empty(),
+        None => false,
+    }
+}
+
+/// Decodes the rest of a key: its other primes, which must agree with the version.
+pub(crate) fn read_other_primes<'a, U: Decode<&'a [u8], Global>, R: Reader<&'a [u8]>>(
+    memory: Global,
+    reader: &mut R,
+    version: Version,
+) -> Result<Option<OtherPrimeInfos<U>>> {
+    let others: Option<OtherPrimeInfos<U>> = decode_optional(memory, reader)?;
+    if version.is_multi() != others.is_some() {
+        return Err(reader.error(ErrorKind::Value { tag: Tag::INTEGER }));
+    }
+    if lists_none(&others) {
+        return Err(reader.error(ErrorKind::Value { tag: Tag::SEQUENCE }));
+    }
+    reader.finish()?;
+    Ok(others)
+}
+
+/// Copies the other primes.
+pub(crate) fn clone_other_primes<U: TryClone>(
+    others: &Option<OtherPrimeInfos<U>>,
+    alloc: Global,
+) -> Result<Option<OtherPrimeInfos<U>>> {
+    match others {
+        Some(others) => Ok(Some(others.try_clone(alloc)?)),
+        None => Ok(None),
+    }
+}

@@ -1,0 +1,122 @@
+// Made of crates/pkcs1/src/public_key.rt by tools/erase/erase.py, and not to be edited.
+//! RSA public keys. `try_from` reads one. It calls `from_der` of `der_core/src/decode.rt`. `record.rt` and `parts.rt` there
+//! read the row of parts that `InParts` names. `traits.rt` has the calls for owned keys.
+
+use crate::proved::der_core::{
+    BackWriter, Borrowed, Contents, Decode, Encode, EncodeInParts, EncodeValue, Encoding,
+    EqualByValue, InParts, Length, NoMemory, Sequence, SequenceTag, TaggedBy, TryClone, Uint,
+    UintEncoding, UintRef, Writer,
+};
+use crate::proved::pkcs1_params::{Error, Result};
+use crate::rattle_std::alloc::Global;
+
+/// An RSA public key (RFC 8017 A.1.1). No relation between its numbers is checked.
+///
+/// ```text
+/// RSAPublicKey ::= SEQUENCE {
+///     modulus         INTEGER,
+///     publicExponent  INTEGER
+/// }
+/// ```
+#[derive(Clone, Copy, Debug, PartialEq, Eq)]
+pub struct RsaPublicKey<U> {
+    /// The modulus n.
+    pub modulus: U,
+    /// The public exponent e.
+    pub public_exponent: U,
+}
+
+/// A public key that borrows its numbers.
+pub type RsaPublicKeyRef<'a> = RsaPublicKey<UintRef<'a>>;
+
+/// A public key that owns its numbers.
+pub type RsaPublicKeyOwned = RsaPublicKey<Uint>;
+
+impl<U: Encoding> Contents for RsaPublicKey<U> {}
+
+impl<U> TaggedBy for RsaPublicKey<U> {
+    type Marker = SequenceTag;
+}
+
+impl<'a, U> Sequence<'a> for RsaPublicKey<U> {}
+
+impl<U: Encoding> InParts for RsaPublicKey<U> {
+    type Parts = (U, (U, ()));
+
+    fn from_parts(parts: (U, (U, ()))) -> RsaPublicKey<U> {
+        let (modulus, (public_exponent, ())) = parts;
+        RsaPublicKey {
+            modulus,
+            public_exponent,
+        }
+    }
+}
+
+impl<U: Encode> EncodeInParts for RsaPublicKey<U> {
+    fn parts_len(&self) -> crate::proved::der_core::Result<Length> {
+        (
+            Borrowed(&self.modulus),
+            (Borrowed(&self.public_exponent), ()),
+        )
+            .value_len()
+    }
+
+    fn append_parts<W: Writer>(&self, writer: &mut W) -> crate::proved::der_core::Result<()> {
+        (
+            Borrowed(&self.modulus),
+            (Borrowed(&self.public_exponent), ()),
+        )
+            .append_value(writer)
+    }
+
+    fn prepend_parts(&self, writer: &mut BackWriter<'_>) {
+        (
+            Borrowed(&self.modulus),
+            (Borrowed(&self.public_exponent), ()),
+        )
+            .prepend_value(writer);
+    }
+}
+
+impl<U: EqualByValue> EqualByValue for RsaPublicKey<U> {}
+
+impl<U: TryClone> TryClone for RsaPublicKey<U> {
+    fn try_clone(&self, alloc: Global) -> crate::proved::der_core::Result<RsaPublicKey<U>> {
+        self.try_clone(alloc)
+    }
+}
+
+impl<U: TryClone> RsaPublicKey<U> {
+    /// The same key, or `OutOfMemory`.
+    pub fn try_clone(&self, alloc: Global) -> crate::proved::der_core::Result<RsaPublicKey<U>> {
+        Ok(RsaPublicKey {
+            modulus: self.modulus.try_clone(alloc)?,
+            public_exponent: self.public_exponent.try_clone(alloc)?,
+        })
+    }
+}
+
+impl<'a> TryFrom<&'a [u8]> for RsaPublicKey<UintRef<'a>> {
+    type Error = Error;
+
+    /// Decodes a whole slice, and allocates nothing.
+    fn try_from(bytes: &'a [u8]) -> Result<RsaPublicKey<UintRef<'a>>> {
+        Ok(RsaPublicKey::from_der(NoMemory, bytes)?)
+    }
+}
+
+impl<U: UintEncoding> RsaPublicKey<U> {
+    /// The same key, borrowed.
+    pub(crate) fn as_key_ref(&self) -> RsaPublicKey<UintRef<'_>> {
+        RsaPublicKey {
+            modulus: self.modulus.as_uint_ref(),
+            public_exponent: self.public_exponent.as_uint_ref(),
+        }
+    }
+
+    /// Writes the key's only encoding to the front of a slice and returns its length, as `encode_into` does. Returns
+    /// `Overflow` if the encoding is longer than `Length::MAX`, `NoRoom` if it is longer than the slice.
+    pub fn encode_key(&self, out: &mut [u8]) -> Result<usize> {
+        Ok(self.as_key_ref().encode_into(out)?)
+    }
+}

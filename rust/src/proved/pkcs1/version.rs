@@ -1,0 +1,112 @@
+// Made of crates/pkcs1/src/version.rt by tools/erase/erase.py, and not to be edited.
+//! Versions of private keys.
+
+use crate::proved::der_core::{
+    BackWriter, Contents, DecodeValue, EncodeValue, ErrorKind, Header, IntegerTag, Length, Memory,
+    Reader, Result, Tag, TaggedBy, Writer, quick_short,
+};
+use crate::proved::pkcs1_params::Error;
+use crate::rattle_std::cmp::Ordering;
+
+/// The version of a private key: whether it has other primes (RFC 8017 A.1.2).
+///
+/// ```text
+/// Version ::= INTEGER { two-prime(0), multi(1) }
+/// ```
+#[derive(Clone, Copy, Debug)]
+pub enum Version {
+    /// Two primes.
+    TwoPrime = 0,
+    /// More than two primes.
+    Multi = 1,
+}
+
+impl Version {
+    /// Whether there are more than two primes.
+    pub fn is_multi(self) -> bool {
+        matches!(self, Version::Multi)
+    }
+}
+
+impl PartialEq for Version {
+    fn eq(&self, other: &Version) -> bool {
+        u8::from(*self) == u8::from(*other)
+    }
+}
+
+impl Eq for Version {}
+
+impl PartialOrd for Version {
+    fn partial_cmp(&self, other: &Version) -> Option<Ordering> {
+        Some(self.cmp(other))
+    }
+}
+
+impl Ord for Version {
+    /// The order of the version numbers.
+    fn cmp(&self, other: &Version) -> Ordering {
+        u8::from(*self).cmp(&u8::from(*other))
+    }
+}
+
+impl From<Version> for u8 {
+    fn from(version: Version) -> u8 {
+        version as u8
+    }
+}
+
+impl TryFrom<u8> for Version {
+    type Error = Error;
+
+    fn try_from(number: u8) -> crate::rattle_std::result::Result<Version, Error> {
+        match number {
+            0 => Ok(Version::TwoPrime),
+            1 => Ok(Version::Multi),
+            _ => Err(Error::Version),
+        }
+    }
+}
+
+impl Contents for Version {}
+
+impl TaggedBy for Version {
+    type Marker = IntegerTag;
+}
+
+impl<'a, M: Memory> DecodeValue<&'a [u8], M> for Version {
+    fn decode_value<R: Reader<&'a [u8]>>(
+        memory: M,
+        reader: &mut R,
+        header: Header,
+    ) -> Result<Version> {
+        let number = u8::decode_value(memory, reader, header)?;
+        match Version::try_from(number) {
+            Ok(version) => Ok(version),
+            Err(_) => Err(reader.error(ErrorKind::Value { tag: Tag::INTEGER })),
+        }
+    }
+
+    #[inline(always)]
+    fn quick_split(bytes: &'a [u8], tag: Tag) -> Option<(&'a [u8], &'a [u8])> {
+        quick_short(bytes, tag)
+    }
+
+    #[inline(always)]
+    fn quick_value(memory: M, contents: &'a [u8]) -> Option<Version> {
+        Version::try_from(u8::quick_value(memory, contents)?).ok()
+    }
+}
+
+impl EncodeValue for Version {
+    fn value_len(&self) -> Result<Length> {
+        u8::from(*self).value_len()
+    }
+
+    fn append_value<W: Writer>(&self, writer: &mut W) -> Result<()> {
+        u8::from(*self).append_value(writer)
+    }
+
+    fn prepend_value(&self, writer: &mut BackWriter<'_>) {
+        u8::from(*self).prepend_value(writer);
+    }
+}

@@ -1,0 +1,109 @@
+// Made of crates/pkcs1_params/src/algorithm.rt by tools/erase/erase.py, and not to be edited.
+//! Parameters in their algorithm identifier (RFC 8017 A.2.3, A.2.1; RFC 5280 4.1.1.2).
+
+use crate::proved::pkcs1_params::error::{Error, Result};
+use crate::proved::pkcs1_params::reading::{AlgorithmParams, quick_parameters};
+use crate::proved::pkcs1_params::shortest::Shortest;
+use crate::proved::pkcs1_params::spelling::EncodeParams;
+use crate::proved::der_core::{Decode, Encode, ErrorKind, NoMemory};
+use crate::proved::spki_core::{
+    AlgorithmIdentifierOf, AlgorithmIdentifierRef, AlgorithmView, AnyRef, AssociatedOid,
+    IdentifierValue, IdentifierView,
+};
+
+/// Borrowed parameters that are read from the algorithm identifier that they stand in: `RsaPssParamsRef`,
+/// `RsaPssParamsView`, `RsaOaepParamsRef`, `RsaOaepParamsView`. Nothing is allocated.
+pub trait FromAlgorithm<'a>: AlgorithmParams<'a> {
+    /// The parameters in an algorithm identifier: `OidUnknown` if it is another algorithm's, `ParametersMissing` if it
+    /// has none, as RFC 4055 forbids with a signature and an encrypted value (3.1, 4.1).
+    fn from_algorithm(algorithm: &AlgorithmIdentifierRef<'a>) -> Result<Self>;
+
+    /// The parameters in a whole slice that is an algorithm identifier, as in a certificate's signatureAlgorithm. Once
+    /// the slice is an algorithm identifier, errors are as of `from_algorithm`.
+    fn from_algorithm_der(bytes: &'a [u8]) -> Result<Self>;
+
+    /// Like `from_algorithm_der`, but rejects parameters in which a default is written: `Noncanonical` with the tag of
+    /// the first such field. So what is read is the shortest encoding of the identifier.
+    fn from_algorithm_der_strict(bytes: &'a [u8]) -> Result<Self>;
+}
+
+impl<'a, T: AlgorithmParams<'a>> FromAlgorithm<'a> for T {
+    fn from_algorithm(algorithm: &AlgorithmIdentifierRef<'a>) -> Result<T> {
+        from_identifier(algorithm)
+    }
+
+    fn from_algorithm_der(bytes: &'a [u8]) -> Result<T> {
+        let algorithm = AlgorithmView::from_der(NoMemory, bytes)?;
+        from_identifier(&algorithm)
+    }
+
+    fn from_algorithm_der_strict(bytes: &'a [u8]) -> Result<T> {
+        from_identifier_strict(bytes)
+    }
+}
+
+/// The parameters in an algorithm identifier, whatever holds its object identifier, as they are before they are read.
+#[inline(always)]
+fn parameters_of<'a, O: IdentifierValue, T: AlgorithmParams<'a>>(
+    algorithm: &AlgorithmIdentifierOf<O, AnyRef<'a>>,
+) -> Result<AnyRef<'a>> {
+    let oid = algorithm.oid.as_identifier_view();
+    if oid.as_bytes() != T::Oid::octets() {
+        return Err(Error::Asn1(crate::proved::der_core::Error::new(ErrorKind::OidUnknown)));
+    }
+    match algorithm.parameters {
+        Some(any) => Ok(any),
+        None => Err(Error::Asn1(crate::proved::der_core::Error::new(ErrorKind::ParametersMissing))),
+    }
+}
+
+/// The parameters in an algorithm identifier, whatever holds its object identifier.
+#[inline(always)]
+fn from_identifier<'a, O: IdentifierValue, T: AlgorithmParams<'a>>(
+    algorithm: &AlgorithmIdentifierOf<O, AnyRef<'a>>,
+) -> Result<T> {
+    let any = parameters_of::<O, T>(algorithm)?;
+    match quick_parameters(&any, false) {
+        Some(params) => Ok(params),
+        None => T::read_any(any),
+    }
+}
+
+/// The parameters in a whole slice that is an algorithm identifier, unless a default is written in them.
+fn from_identifier_strict<'a, T: AlgorithmParams<'a>>(bytes: &'a [u8]) -> Result<T> {
+    let algorithm = AlgorithmView::from_der(NoMemory, bytes)?;
+    let any = parameters_of::<IdentifierView<'a>, T>(&algorithm)?;
+    if let Some(params) = quick_parameters::<T>(&any, true) {
+        return Ok(params);
+    }
+    let params = T::read_any(any)?;
+    params.reject_defaults(encoded_parameters::<T>(bytes))?;
+    Ok(params)
+}
+
+/// The octets behind the first `count`, or none if there are fewer.
+fn behind(octets: &[u8], count: usize) -> &[u8] {
+    if count <= octets.len() {
+        &octets[count..]
+    } else {
+        &[]
+    }
+}
+
+/// The encoding of the parameters in an algorithm identifier.
+fn encoded_parameters<'a, T: AlgorithmParams<'a>>(identifier: &'a [u8]) -> &'a [u8] {
+    match AnyRef::from_der(NoMemory, identifier) {
+        Ok(any) => behind(any.value(), 2 + T::Oid::octets().len()),
+        Err(_) => &[],
+    }
+}
+
+/// Writes the shortest encoding of the algorithm identifier of D with these parameters to the front of a slice and
+/// returns its length.
+pub(crate) fn encode_identifier<D: AssociatedOid, T: EncodeParams>(
+    params: T,
+    out: &mut [u8],
+) -> Result<usize> {
+    let algorithm = Shortest::identified::<D>(params);
+    Ok(algorithm.encode_into(out)?)
+}

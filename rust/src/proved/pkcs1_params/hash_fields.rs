@@ -1,0 +1,83 @@
+// Made of crates/pkcs1_params/src/hash_fields.rt by tools/erase/erase.py, and not to be edited.
+//! hashAlgorithm and maskGenAlgorithm, which both sets of parameters begin with.
+
+use crate::proved::pkcs1_params::hash_functions::Mgf1;
+use crate::proved::der_core::{Memory, Tag};
+use crate::proved::spki_core::{
+    AlgorithmIdentifierOf, AnyParams, AnyRef, AnyValue, AssociatedOid, IdentifierValue,
+    ObjectIdentifier,
+};
+
+/// A mask generation function, whose parameters name a hash function.
+pub(crate) type MaskGenOf<O, P> = AlgorithmIdentifierOf<O, AlgorithmIdentifierOf<O, P>>;
+
+/// A mask generation function that borrows the parameters of its hash function.
+pub(crate) type MaskGenRef<'a> = MaskGenOf<ObjectIdentifier, AnyRef<'a>>;
+
+/// The algorithm D with NULL.
+#[inline(always)]
+pub fn with_null<D: AssociatedOid, O: IdentifierValue, P: AnyParams<M>, M: Memory>(
+    memory: M,
+) -> AlgorithmIdentifierOf<O, P> {
+    AlgorithmIdentifierOf {
+        oid: O::named::<D>(),
+        parameters: Some(P::empty(memory, Tag::NULL)),
+    }
+}
+
+/// MGF1 with D with NULL.
+#[inline(always)]
+pub(crate) fn mgf1_with<D: AssociatedOid, O: IdentifierValue, P: AnyParams<M>, M: Memory>(
+    memory: M,
+) -> MaskGenOf<O, P> {
+    AlgorithmIdentifierOf {
+        oid: O::named::<Mgf1>(),
+        parameters: Some(with_null::<D, O, P, M>(memory)),
+    }
+}
+
+/// Whether these are the octets of id-sha1.
+#[inline(always)]
+pub(crate) fn is_sha1(octets: &[u8]) -> bool {
+    matches!(octets, [0x2b, 0x0e, 0x03, 0x02, 0x1a])
+}
+
+/// Whether these are the octets of the identifier with this number, of those of PKCS #1. They are compared eight at a
+/// time.
+#[inline(always)]
+pub(crate) fn is_pkcs1(octets: &[u8], number: u8) -> bool {
+    match octets {
+        [a, b, c, d, e, f, g, h, last] => {
+            let front = (*a == 0x2a)
+                & (*b == 0x86)
+                & (*c == 0x48)
+                & (*d == 0x86)
+                & (*e == 0xf7)
+                & (*f == 0x0d)
+                & (*g == 0x01)
+                & (*h == 0x01);
+            front && *last == number
+        }
+        _ => false,
+    }
+}
+
+/// Whether these are the octets of id-mgf1.
+#[inline(always)]
+pub(crate) fn is_mgf1(octets: &[u8]) -> bool {
+    is_pkcs1(octets, 8)
+}
+
+/// Whether the hash function is D, and the mask generation function is MGF1 with D.
+pub(crate) fn uses_hash<D: AssociatedOid, O: IdentifierValue, P: AnyValue>(
+    hash: &AlgorithmIdentifierOf<O, P>,
+    mask_gen: &MaskGenOf<O, P>,
+) -> bool {
+    match &mask_gen.parameters {
+        Some(under) => {
+            let mask_oid = mask_gen.oid.as_identifier_view();
+            is_mgf1(mask_oid.as_bytes()) && hash.is_hash::<D>() && under.is_hash::<D>()
+        }
+        None => false,
+    }
+}

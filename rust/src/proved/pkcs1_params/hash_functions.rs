@@ -1,0 +1,108 @@
+// Made of crates/pkcs1_params/src/hash_functions.rt by tools/erase/erase.py, and not to be edited.
+//! Types that name the hash functions and the mask generation function of PKCS #1 (RFC 8017 B.1, B.2.1).
+
+use crate::proved::spki_core::AssociatedOid;
+
+/// SHA-1.
+pub struct Sha1;
+
+impl AssociatedOid for Sha1 {
+    const OID: &'static [u8] = &[0x2b, 0x0e, 0x03, 0x02, 0x1a];
+
+    fn octets() -> &'static [u8] {
+        Self::OID
+    }
+
+    #[inline(always)]
+    fn padded() -> [u8; 39] {
+        [
+            0x2b, 0x0e, 0x03, 0x02, 0x1a, 0, 0, 0, 0, 0, 0, 0, 0, 0, 0, 0, 0, 0, 0, 0, 0, 0, 0, 0,
+            0, 0, 0, 0, 0, 0, 0, 0, 0, 0, 0, 0, 0, 0, 0,
+        ]
+    }
+}
+
+/// SHA-224.
+pub struct Sha224;
+
+impl AssociatedOid for Sha224 {
+    const OID: &'static [u8] = &[0x60, 0x86, 0x48, 0x01, 0x65, 0x03, 0x04, 0x02, 0x04];
+
+    fn octets() -> &'static [u8] {
+        Self::OID
+    }
+}
+
+/// SHA-256.
+pub struct Sha256;
+
+impl AssociatedOid for Sha256 {
+    const OID: &'static [u8] = &[0x60, 0x86, 0x48, 0x01, 0x65, 0x03, 0x04, 0x02, 0x01];
+
+    fn octets() -> &'static [u8] {
+        Self::OID
+    }
+}
+
+/// SHA-384.
+pub struct Sha384;
+
+impl AssociatedOid for Sha384 {
+    const OID: &'static [u8] = &[0x60, 0x86, 0x48, 0x01, 0x65, 0x03, 0x04, 0x02, 0x02];
+
+    fn octets() -> &'static [u8] {
+        Self::OID
+    }
+}
+
+/// SHA-512.
+pub struct Sha512;
+
+impl AssociatedOid for Sha512 {
+    const OID: &'static [u8] = &[0x60, 0x86, 0x48, 0x01, 0x65, 0x03, 0x04, 0x02, 0x03];
+
+    fn octets() -> &'static [u8] {
+        Self::OID
+    }
+}
+
+/// SHA-512/224.
+pub struct Sha512_224;
+
+impl AssociatedOid for Sha512_224 {
+    const OID: &'static [u8] = &[0x60, 0x86, 0x48, 0x01, 0x65, 0x03, 0x04, 0x02, 0x05];
+
+    fn octets() -> &'static [u8] {
+        Self::OID
+    }
+}
+
+/// SHA-512/256.
+pub struct Sha512_256;
+
+impl AssociatedOid for Sha512_256 {
+    const OID: &'static [u8] = &[0x60, 0x86, 0x48, 0x01, 0x65, 0x03, 0x04, 0x02, 0x06];
+
+    fn octets() -> &'static [u8] {
+        Self::OID
+    }
+}
+
+/// MGF1.
+pub struct Mgf1;
+
+impl AssociatedOid for Mgf1 {
+    const OID: &'static [u8] = &[0x2a, 0x86, 0x48, 0x86, 0xf7, 0x0d, 0x01, 0x01, 0x08];
+
+    fn octets() -> &'static [u8] {
+        Self::OID
+    }
+
+    #[inline(always)]
+    fn padded() -> [u8; 39] {
+        [
+            0x2a, 0x86, 0x48, 0x86, 0xf7, 0x0d, 0x01, 0x01, 0x08, 0, 0, 0, 0, 0, 0, 0, 0, 0, 0, 0,
+            0, 0, 0, 0, 0, 0, 0, 0, 0, 0, 0, 0, 0, 0, 0, 0, 0, 0, 0,
+        ]
+    }
+}

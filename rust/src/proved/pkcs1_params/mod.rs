@@ -1,0 +1,55 @@
+// Made of crates/pkcs1_params/src/lib.rt by tools/erase/erase.py, and not to be edited.
+//! Parameters of RSASSA-PSS and RSAES-OAEP (RFC 8017 A.2.3, A.2.1), and the error of keys and parameters.
+
+mod algorithm;
+mod contents;
+mod default_salt;
+mod error;
+mod fields;
+mod from_view;
+mod hash_fields;
+mod hash_functions;
+mod holders;
+mod known;
+mod label;
+mod laws;
+mod listing;
+mod oaep;
+mod oaep_algorithm;
+mod oaep_reading;
+mod oaep_spelling;
+mod owned;
+mod pss;
+mod pss_algorithm;
+mod pss_reading;
+mod pss_spelling;
+mod quick;
+mod reading;
+mod shortest;
+mod spelling;
+mod strict;
+mod trailer_field;
+mod usual;
+
+pub use algorithm::FromAlgorithm;
+pub use default_salt::DefaultSalt;
+pub use error::{Error, Result};
+pub use hash_fields::with_null;
+pub use hash_functions::{Mgf1, Sha1, Sha224, Sha256, Sha384, Sha512, Sha512_224, Sha512_256};
+pub use known::{encode_known_oaep, encode_known_pss};
+pub use label::PSpecified;
+pub use laws::{
+    lemma_algorithms, lemma_algorithms_exclude_each_other, lemma_bare_params_take_no_memory,
+    lemma_oaep_spellings, lemma_params_decode, lemma_pss_spellings,
+};
+pub use oaep::{
+    OaepParamsOf, RsaOaepParams, RsaOaepParamsOwned, RsaOaepParamsRef, RsaOaepParamsView,
+};
+pub use oaep_algorithm::{RsaesOaep, fault_of_oaep_algorithm, rsaes_oaep_oid};
+pub use oaep_reading::fault_of_oaep_params;
+pub use pss::{PssParamsOf, RsaPssParams, RsaPssParamsOwned, RsaPssParamsRef, RsaPssParamsView};
+pub use pss_algorithm::{RsassaPss, fault_of_pss_algorithm, rsassa_pss_oid};
+pub use pss_reading::fault_of_pss_params;
+pub use shortest::Shortest;
+pub use spelling::EncodeParams;
+pub use trailer_field::TrailerField;

@@ -1,0 +1,132 @@
+// Made of crates/pkcs1_params/src/oaep.rt by tools/erase/erase.py, and not to be edited.
+//! Parameters of RSAES-OAEP (RFC 8017 A.2.1).
+
+use crate::proved::pkcs1_params::contents::{append_contents, contents_len, prepend_contents};
+use crate::proved::pkcs1_params::error::Result;
+use crate::proved::pkcs1_params::hash_fields::{MaskGenOf, mgf1_with, with_null};
+use crate::proved::pkcs1_params::hash_functions::Sha1;
+use crate::proved::pkcs1_params::label::empty_source;
+use crate::proved::pkcs1_params::spelling::non_defaults_in;
+use crate::proved::der_core::{
+    BackWriter, Contents, EncodeValue, EqualByValue, Length, Memory, NoMemory, Sequence,
+    SequenceTag, TaggedBy, TryClone, Writer,
+};
+use crate::proved::spki_core::{
+    AlgorithmIdentifierOf, Any, AnyParams, AnyRef, AnyValue, AssociatedOid, IdentifierValue,
+    IdentifierView, ObjectIdentifier,
+};
+use crate::rattle_std::alloc::Global;
+use crate::rattle_std::fmt;
+
+/// Parameters of RSAES-OAEP (RFC 8017 A.2.1). Explicit defaults are read, but never written.
+/// An `O` holds each object identifier, a `P` the parameters of a hash function or a source: see `RsaOaepParams` and
+/// `RsaOaepParamsView`.
+///
+/// ```text
+/// RSAES-OAEP-params ::= SEQUENCE {
+///     hashAlgorithm     [0] HashAlgorithm     DEFAULT sha1,
+///     maskGenAlgorithm  [1] MaskGenAlgorithm  DEFAULT mgf1SHA1,
+///     pSourceAlgorithm  [2] PSourceAlgorithm  DEFAULT pSpecifiedEmpty
+/// }
+/// ```
+#[derive(Clone, Copy, PartialEq, Eq)]
+pub struct OaepParamsOf<O, P> {
+    /// The hash function; SHA-1 with NULL by default.
+    pub hash: AlgorithmIdentifierOf<O, P>,
+    /// The mask generation function and its hash function; MGF1 with SHA-1 with NULL by default.
+    pub mask_gen: MaskGenOf<O, P>,
+    /// The source of the label; pSpecified with an empty OCTET STRING by default.
+    pub p_source: AlgorithmIdentifierOf<O, P>,
+}
+
+/// RSAES-OAEP parameters that hold their identifiers.
+pub type RsaOaepParams<P> = OaepParamsOf<ObjectIdentifier, P>;
+
+/// RSAES-OAEP parameters whose algorithms have borrowed parameters.
+pub type RsaOaepParamsRef<'a> = RsaOaepParams<AnyRef<'a>>;
+
+/// RSAES-OAEP parameters whose algorithms have owned parameters.
+pub type RsaOaepParamsOwned = RsaOaepParams<Any>;
+
+/// RSAES-OAEP parameters over their encoding, whose octets are their identifiers. Only `to_params` copies them.
+pub type RsaOaepParamsView<'a> = OaepParamsOf<IdentifierView<'a>, AnyRef<'a>>;
+
+impl<O: IdentifierValue, P: AnyValue> Contents for OaepParamsOf<O, P> {}
+
+impl<O, P> TaggedBy for OaepParamsOf<O, P> {
+    type Marker = SequenceTag;
+}
+
+impl<'a, O, P> Sequence<'a> for OaepParamsOf<O, P> {}
+
+impl<O: IdentifierValue, P: AnyValue> EncodeValue for OaepParamsOf<O, P> {
+    fn value_len(&self) -> crate::proved::der_core::Result<Length> {
+        contents_len(self, non_defaults_in(self), 0)
+    }
+
+    fn append_value<W: Writer>(&self, writer: &mut W) -> crate::proved::der_core::Result<()> {
+        append_contents(self, non_defaults_in(self), 0, writer)
+    }
+
+    fn prepend_value(&self, writer: &mut BackWriter<'_>) {
+        prepend_contents(self, non_defaults_in(self), 0, writer);
+    }
+}
+
+impl<O: IdentifierValue, P> OaepParamsOf<O, P> {
+    /// The hash function D with NULL, MGF1 with the same hash function, and the empty label.
+    #[inline(always)]
+    pub(crate) fn of_hash<D: AssociatedOid, M: Memory>(memory: M) -> OaepParamsOf<O, P>
+    where
+        P: AnyParams<M>,
+    {
+        OaepParamsOf {
+            hash: with_null::<D, O, P, M>(memory),
+            mask_gen: mgf1_with::<D, O, P, M>(memory),
+            p_source: empty_source::<O, P, M>(memory),
+        }
+    }
+}
+
+impl<'a> RsaOaepParams<AnyRef<'a>> {
+    /// The hash function D with NULL, MGF1 with the same hash function, and the empty label.
+    pub fn new<D: AssociatedOid>() -> RsaOaepParams<AnyRef<'a>> {
+        RsaOaepParams::of_hash::<D, NoMemory>(NoMemory)
+    }
+}
+
+impl<P: AnyValue> EqualByValue for RsaOaepParams<P> {}
+
+impl<P: AnyValue + TryClone> TryClone for RsaOaepParams<P> {
+    fn try_clone(&self, alloc: Global) -> crate::proved::der_core::Result<RsaOaepParams<P>> {
+        self.try_clone(alloc)
+    }
+}
+
+impl<P: AnyValue + TryClone> RsaOaepParams<P> {
+    /// The same parameters, or `OutOfMemory`.
+    pub fn try_clone(&self, alloc: Global) -> crate::proved::der_core::Result<RsaOaepParams<P>> {
+        Ok(RsaOaepParams {
+            hash: self.hash.try_clone(alloc)?,
+            mask_gen: self.mask_gen.try_clone(alloc)?,
+            p_source: self.p_source.try_clone(alloc)?,
+        })
+    }
+}
+
+impl RsaOaepParams<Any> {
+    /// Every field at its default. Nothing is allocated.
+    pub fn default_in(alloc: Global) -> RsaOaepParams<Any> {
+        RsaOaepParams::of_hash::<Sha1, Global>(alloc)
+    }
+}
+
+impl<P: fmt::Debug> fmt::Debug for RsaOaepParams<P> {
+    fn fmt(&self, f: &mut fmt::Formatter<'_>) -> fmt::Result {
+        f.debug_struct("RsaOaepParams")
+            .field("hash", &self.hash)
+            .field("mask_gen", &self.mask_gen)
+            .field("p_source", &self.p_source)
+            .finish()
+    }
+}

@@ -1,0 +1,130 @@
+// Made of crates/pkcs1_params/src/oaep_reading.rt by tools/erase/erase.py, and not to be edited.
+//! Reading of RSAES-OAEP parameters.
+
+use crate::proved::pkcs1_params::error::{Error, Result};
+use crate::proved::pkcs1_params::from_view::ReadParams;
+use crate::proved::pkcs1_params::hash_fields::{mgf1_with, with_null};
+use crate::proved::pkcs1_params::hash_functions::Sha1;
+use crate::proved::pkcs1_params::label::empty_source;
+use crate::proved::pkcs1_params::oaep::{OaepParamsOf, RsaOaepParamsRef, RsaOaepParamsView};
+use crate::proved::pkcs1_params::oaep_algorithm::RsaesOaep;
+use crate::proved::pkcs1_params::quick::quick_oaep;
+use crate::proved::pkcs1_params::reading::{
+    AlgorithmParams, decode_borrowed, decode_whole, read_params, read_params_strict,
+};
+use crate::proved::pkcs1_params::strict;
+use crate::proved::pkcs1_params::usual::usual_oaep;
+use crate::proved::der_core::{DecodeValue, ErrorKind, Header, Memory, NoMemory, Reader, TagNumber};
+use crate::proved::spki_core::{AnyRef, IdentifierValue, ObjectIdentifier, read_field};
+
+impl<'a> RsaOaepParamsView<'a> {
+    /// The parameters as a struct that holds its identifiers.
+    #[inline(always)]
+    pub fn to_params(self) -> RsaOaepParamsRef<'a> {
+        ObjectIdentifier::oaep_from_view(self)
+    }
+}
+
+impl<'a, O: ReadParams<'a>> OaepParamsOf<O, AnyRef<'a>> {
+    /// Like `try_from`, but rejects an encoding in which a default is written: `Noncanonical` with the tag of the first
+    /// such field. So what is read is the shortest encoding of its value.
+    pub fn from_der_strict(bytes: &'a [u8]) -> Result<OaepParamsOf<O, AnyRef<'a>>> {
+        let view = read_params_strict::<RsaOaepParamsView<'a>>(bytes)?;
+        Ok(O::oaep_from_view(view))
+    }
+}
+
+impl<'a, O: IdentifierValue> Default for OaepParamsOf<O, AnyRef<'a>> {
+    /// Every field at its default.
+    #[inline(always)]
+    fn default() -> OaepParamsOf<O, AnyRef<'a>> {
+        OaepParamsOf::of_hash::<Sha1, NoMemory>(NoMemory)
+    }
+}
+
+impl<'a, O: ReadParams<'a>> AlgorithmParams<'a> for OaepParamsOf<O, AnyRef<'a>> {
+    type Oid = RsaesOaep;
+
+    #[inline(always)]
+    fn usual(contents: &'a [u8], strict: bool) -> Option<OaepParamsOf<O, AnyRef<'a>>> {
+        if contents.is_empty() {
+            return Some(OaepParamsOf::default());
+        }
+        let view = usual_oaep(contents)?; // in which no default can be written, so they are strict
+        Some(O::oaep_from_view(view))
+    }
+
+    fn quick_strictly(contents: &'a [u8]) -> Option<OaepParamsOf<O, AnyRef<'a>>> {
+        let view = quick_oaep(contents)?;
+        Some(O::oaep_from_view(view))
+    }
+
+    fn read_any(any: AnyRef<'a>) -> Result<OaepParamsOf<O, AnyRef<'a>>> {
+        let view = decode_borrowed::<RsaOaepParamsView<'a>>(any)?;
+        Ok(O::oaep_from_view(view))
+    }
+
+    #[inline(always)]
+    fn read_whole(bytes: &'a [u8]) -> Result<OaepParamsOf<O, AnyRef<'a>>> {
+        let view = decode_whole::<RsaOaepParamsView<'a>>(bytes)?;
+        Ok(O::oaep_from_view(view))
+    }
+
+    fn reject_defaults(&self, encoding: &[u8]) -> Result<()> {
+        strict::reject_defaults(self, encoding)
+    }
+}
+
+impl<'a, O: ReadParams<'a>> TryFrom<&'a [u8]> for OaepParamsOf<O, AnyRef<'a>> {
+    type Error = Error;
+
+    /// Reads a whole slice. Nothing is allocated.
+    fn try_from(bytes: &'a [u8]) -> Result<OaepParamsOf<O, AnyRef<'a>>> {
+        let view = read_params::<RsaOaepParamsView<'a>>(bytes)?;
+        Ok(O::oaep_from_view(view))
+    }
+}
+
+impl<'a, M: Memory, O: ReadParams<'a>> DecodeValue<&'a [u8], M> for OaepParamsOf<O, AnyRef<'a>> {
+    #[inline(always)]
+    fn decode_value<R: Reader<&'a [u8]>>(
+        memory: M,
+        reader: &mut R,
+        _header: Header,
+    ) -> crate::proved::der_core::Result<OaepParamsOf<O, AnyRef<'a>>> {
+        let hash = read_field(
+            memory,
+            reader,
+            TagNumber::new(0),
+            with_null::<Sha1, _, _, _>(NoMemory),
+        )?;
+        let mask_gen = read_field(
+            memory,
+            reader,
+            TagNumber::new(1),
+            mgf1_with::<Sha1, _, _, _>(NoMemory),
+        )?;
+        let p_source = read_field(
+            memory,
+            reader,
+            TagNumber::new(2),
+            empty_source::<_, _, _>(NoMemory),
+        )?;
+        reader.finish()?;
+        Ok(O::oaep_from_view(RsaOaepParamsView {
+            hash,
+            mask_gen,
+            p_source,
+        }))
+    }
+}
+
+/// The first fault of bytes that aren't RSAES-OAEP parameters, of which they have exactly one; `None` if they are such
+/// parameters.
+pub fn fault_of_oaep_params(bytes: &[u8]) -> Option<ErrorKind> {
+    match RsaOaepParamsView::try_from(bytes) {
+        Ok(_) => None,
+        Err(Error::Asn1(error)) => Some(error.kind()),
+        Err(_) => unreachable!(),
+    }
+}

@@ -1,0 +1,72 @@
+// Made of crates/pkcs1_params/src/oaep_spelling.rt by tools/erase/erase.py, and not to be edited.
+//! The fields and the spellings of RSAES-OAEP parameters.
+
+use crate::rattle_std::prelude::Vec;
+use crate::proved::pkcs1_params::error::Result;
+use crate::proved::pkcs1_params::fields::{FieldRef, FieldThen, NoField};
+use crate::proved::pkcs1_params::hash_fields::{MaskGenOf, uses_hash};
+use crate::proved::pkcs1_params::holders::{MaskHolder, PlainHolder};
+use crate::proved::pkcs1_params::listing::all_spellings;
+use crate::proved::pkcs1_params::oaep::OaepParamsOf;
+use crate::proved::pkcs1_params::spelling::{EncodeParams, count_defaults};
+use crate::proved::der_core::TagNumber;
+use crate::proved::spki_core::{AlgorithmIdentifierOf, AnyValue, AssociatedOid, IdentifierValue, written_default};
+use crate::rattle_std::alloc::Global;
+
+/// A field and the later ones.
+type Then<'b, O, P, L> = FieldThen<'b, AlgorithmIdentifierOf<O, P>, MaskGenOf<O, P>, L>;
+
+type OaepFields<'b, O, P> = Then<'b, O, P, Then<'b, O, P, Then<'b, O, P, NoField>>>;
+
+impl<'b, O: IdentifierValue, P: AnyValue> EncodeParams for &'b OaepParamsOf<O, P> {
+    type Fields = OaepFields<'b, O, P>;
+
+    fn fields(self) -> OaepFields<'b, O, P> {
+        FieldThen {
+            first: FieldRef::Hash(&self.hash),
+            later: FieldThen {
+                first: FieldRef::MaskGen(&self.mask_gen),
+                later: FieldThen {
+                    first: FieldRef::PSource(&self.p_source),
+                    later: NoField,
+                },
+            },
+        }
+    }
+
+    fn lemma_is_valid(self) {}
+
+    fn written_default(self, bytes: &[u8]) -> Option<TagNumber> {
+        let defaults = [
+            self.hash.is_default_hash(),
+            self.mask_gen.is_default(),
+            self.p_source.is_default_source(),
+        ];
+        written_default(bytes, &defaults)
+    }
+}
+
+impl<O: IdentifierValue, P: AnyValue> OaepParamsOf<O, P> {
+    /// Whether the hash function is D, and the mask generation function is MGF1 with D: each of them by `is_hash`, so
+    /// with NULL or without parameters.
+    pub fn uses_hash<D: AssociatedOid>(&self) -> bool {
+        uses_hash::<D, O, P>(&self.hash, &self.mask_gen)
+    }
+
+    /// How many fields equal their defaults.
+    pub fn default_fields(&self) -> u8 {
+        count_defaults(self)
+    }
+
+    /// Like `encode_spelling_into`, but returns the part of the slice that was written. A caller that needs in a proof
+    /// what the rest of the slice holds calls `encode_spelling_into`.
+    pub(crate) fn encode_spelling<'b>(&self, mask: u8, out: &'b mut [u8]) -> Result<&'b [u8]> {
+        self.encode_spelling_to_slice(mask, out)
+    }
+
+    /// All spellings, each at the index that is its mask, so the shortest is the first: two to the number of default
+    /// fields. `Overflow`, before anything is allocated, if the one with every field is longer than `Length::MAX`.
+    pub fn spellings(&self, alloc: Global) -> Result<Vec<Vec<u8>>> {
+        all_spellings(self, alloc)
+    }
+}

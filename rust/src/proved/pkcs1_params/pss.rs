@@ -1,0 +1,143 @@
+// Made of crates/pkcs1_params/src/pss.rt by tools/erase/erase.py, and not to be edited.
+//! Parameters of RSASSA-PSS (RFC 8017 A.2.3).
+
+use crate::proved::pkcs1_params::contents::{append_contents, contents_len, prepend_contents};
+use crate::proved::pkcs1_params::error::Result;
+use crate::proved::pkcs1_params::hash_fields::{MaskGenOf, mgf1_with, with_null};
+use crate::proved::pkcs1_params::hash_functions::Sha1;
+use crate::proved::pkcs1_params::spelling::non_defaults_in;
+use crate::proved::pkcs1_params::trailer_field::TrailerField;
+use crate::proved::der_core::{
+    BackWriter, Contents, EncodeValue, EqualByValue, Length, Memory, NoMemory, Sequence,
+    SequenceTag, TaggedBy, TryClone, Writer,
+};
+use crate::proved::spki_core::{
+    AlgorithmIdentifierOf, Any, AnyParams, AnyRef, AnyValue, AssociatedOid, IdentifierValue,
+    IdentifierView, ObjectIdentifier,
+};
+use crate::rattle_std::alloc::Global;
+use crate::rattle_std::fmt;
+
+/// Parameters of RSASSA-PSS (RFC 8017 A.2.3). Explicit defaults are read, but never written.
+/// An `O` holds each object identifier, a `P` the parameters of a hash function or a source: see `RsaPssParams` and
+/// `RsaPssParamsView`.
+///
+/// ```text
+/// RSASSA-PSS-params ::= SEQUENCE {
+///     hashAlgorithm     [0] HashAlgorithm     DEFAULT sha1,
+///     maskGenAlgorithm  [1] MaskGenAlgorithm  DEFAULT mgf1SHA1,
+///     saltLength        [2] INTEGER           DEFAULT 20,
+///     trailerField      [3] TrailerField      DEFAULT trailerFieldBC
+/// }
+/// ```
+#[derive(Clone, Copy, PartialEq, Eq)]
+pub struct PssParamsOf<O, P> {
+    /// The hash function; SHA-1 with NULL by default.
+    pub hash: AlgorithmIdentifierOf<O, P>,
+    /// The mask generation function and its hash function; MGF1 with SHA-1 with NULL by default.
+    pub mask_gen: MaskGenOf<O, P>,
+    /// The salt length in octets, from 0 to 255; 20 by default.
+    pub salt_len: u8,
+    /// The trailer field of an encoded message; `BC` by default.
+    pub trailer_field: TrailerField,
+}
+
+/// RSASSA-PSS parameters that hold their identifiers.
+pub type RsaPssParams<P> = PssParamsOf<ObjectIdentifier, P>;
+
+/// RSASSA-PSS parameters whose algorithms have borrowed parameters.
+pub type RsaPssParamsRef<'a> = RsaPssParams<AnyRef<'a>>;
+
+/// RSASSA-PSS parameters whose algorithms have owned parameters.
+pub type RsaPssParamsOwned = RsaPssParams<Any>;
+
+/// RSASSA-PSS parameters over their encoding, whose octets are their identifiers. Only `to_params` copies them.
+pub type RsaPssParamsView<'a> = PssParamsOf<IdentifierView<'a>, AnyRef<'a>>;
+
+impl<O: IdentifierValue, P: AnyValue> Contents for PssParamsOf<O, P> {}
+
+impl<O, P> TaggedBy for PssParamsOf<O, P> {
+    type Marker = SequenceTag;
+}
+
+impl<'a, O, P> Sequence<'a> for PssParamsOf<O, P> {}
+
+impl<O: IdentifierValue, P: AnyValue> EncodeValue for PssParamsOf<O, P> {
+    fn value_len(&self) -> crate::proved::der_core::Result<Length> {
+        contents_len(self, non_defaults_in(self), 0)
+    }
+
+    fn append_value<W: Writer>(&self, writer: &mut W) -> crate::proved::der_core::Result<()> {
+        append_contents(self, non_defaults_in(self), 0, writer)
+    }
+
+    fn prepend_value(&self, writer: &mut BackWriter<'_>) {
+        prepend_contents(self, non_defaults_in(self), 0, writer);
+    }
+}
+
+impl<O: IdentifierValue, P> PssParamsOf<O, P> {
+    /// The hash function D with NULL, MGF1 with the same hash function, a salt of this many octets, and the trailer
+    /// field.
+    #[inline(always)]
+    pub(crate) fn of_hash<D: AssociatedOid, M: Memory>(memory: M, salt_len: u8) -> PssParamsOf<O, P>
+    where
+        P: AnyParams<M>,
+    {
+        PssParamsOf {
+            hash: with_null::<D, O, P, M>(memory),
+            mask_gen: mgf1_with::<D, O, P, M>(memory),
+            salt_len,
+            trailer_field: TrailerField::BC,
+        }
+    }
+}
+
+impl<'a> RsaPssParams<AnyRef<'a>> {
+    /// The default salt length in octets: that of a SHA-1 hash.
+    pub const SALT_LEN_DEFAULT: u8 = 20;
+
+    /// The hash function D with NULL, MGF1 with the same hash function, a salt of this many octets, and the trailer
+    /// field.
+    pub fn new<D: AssociatedOid>(salt_len: u8) -> RsaPssParams<AnyRef<'a>> {
+        RsaPssParams::of_hash::<D, NoMemory>(NoMemory, salt_len)
+    }
+}
+
+impl<P: AnyValue> EqualByValue for RsaPssParams<P> {}
+
+impl<P: AnyValue + TryClone> TryClone for RsaPssParams<P> {
+    fn try_clone(&self, alloc: Global) -> crate::proved::der_core::Result<RsaPssParams<P>> {
+        self.try_clone(alloc)
+    }
+}
+
+impl<P: AnyValue + TryClone> RsaPssParams<P> {
+    /// The same parameters, or `OutOfMemory`.
+    pub fn try_clone(&self, alloc: Global) -> crate::proved::der_core::Result<RsaPssParams<P>> {
+        Ok(RsaPssParams {
+            hash: self.hash.try_clone(alloc)?,
+            mask_gen: self.mask_gen.try_clone(alloc)?,
+            salt_len: self.salt_len,
+            trailer_field: self.trailer_field,
+        })
+    }
+}
+
+impl RsaPssParams<Any> {
+    /// Every field at its default. Nothing is allocated.
+    pub fn default_in(alloc: Global) -> RsaPssParams<Any> {
+        RsaPssParams::of_hash::<Sha1, Global>(alloc, RsaPssParamsRef::SALT_LEN_DEFAULT)
+    }
+}
+
+impl<P: fmt::Debug> fmt::Debug for RsaPssParams<P> {
+    fn fmt(&self, f: &mut fmt::Formatter<'_>) -> fmt::Result {
+        f.debug_struct("RsaPssParams")
+            .field("hash", &self.hash)
+            .field("mask_gen", &self.mask_gen)
+            .field("salt_len", &self.salt_len)
+            .field("trailer_field", &self.trailer_field)
+            .finish()
+    }
+}

@@ -1,0 +1,54 @@
+// Made of crates/pkcs1_params/src/shortest.rt by tools/erase/erase.py, and not to be edited.
+//! Parameters as their shortest encoding.
+
+use crate::proved::pkcs1_params::contents::{append_contents, contents_len, prepend_contents};
+use crate::proved::pkcs1_params::spelling::{EncodeParams, non_defaults_in};
+use crate::proved::der_core::{BackWriter, Contents, EncodeValue, Length, Result, SequenceTag, TaggedBy, Writer};
+use crate::proved::spki_core::{AlgorithmView, AssociatedOid, IdentifierValue, IdentifierView};
+
+pub struct Shortest<T: EncodeParams> {
+    /// The parameters.
+    pub(crate) params: T,
+    pub(crate) non_defaults: u8,
+}
+
+impl<T: EncodeParams> Shortest<T> {
+    /// Of these parameters.
+    #[inline(always)]
+    pub fn of(params: T) -> Shortest<T> {
+        Shortest {
+            params,
+            non_defaults: non_defaults_in(params),
+        }
+    }
+
+    /// The algorithm identifier of D with these parameters.
+    #[inline(always)]
+    pub fn identified<D: AssociatedOid>(params: T) -> AlgorithmView<'static, Shortest<T>> {
+        params.lemma_is_valid();
+        AlgorithmView {
+            oid: IdentifierView::named::<D>(),
+            parameters: Some(Shortest::of(params)),
+        }
+    }
+}
+
+impl<T: EncodeParams> Contents for Shortest<T> {}
+
+impl<T: EncodeParams> TaggedBy for Shortest<T> {
+    type Marker = SequenceTag;
+}
+
+impl<T: EncodeParams> EncodeValue for Shortest<T> {
+    fn value_len(&self) -> Result<Length> {
+        contents_len(self.params, self.non_defaults, 0)
+    }
+
+    fn append_value<W: Writer>(&self, writer: &mut W) -> Result<()> {
+        append_contents(self.params, self.non_defaults, 0, writer)
+    }
+
+    fn prepend_value(&self, writer: &mut BackWriter<'_>) {
+        prepend_contents(self.params, self.non_defaults, 0, writer);
+    }
+}

@@ -1,0 +1,115 @@
+// Made of crates/pkcs1_params/src/spelling.rt by tools/erase/erase.py, and not to be edited.
+//! Spellings of parameters: a mask says which of their defaults are written.
+
+use crate::rattle_std::prelude::{Vec, vec};
+use crate::proved::pkcs1_params::contents::{append_contents, contents_len, prepend_contents};
+use crate::proved::pkcs1_params::error::Result;
+use crate::proved::pkcs1_params::fields::Fields;
+use crate::proved::der_core::{
+    BackWriter, Contents, Encode, EncodeValue, ErrorKind, Length, SequenceTag, TagNumber, TaggedBy,
+    Writer, write_over,
+};
+use crate::rattle_std::alloc::Global;
+
+/// Borrowed parameters: a SEQUENCE of fields with defaults.
+pub trait EncodeParams: Copy {
+    /// The fields, borrowed.
+    type Fields: Fields;
+
+    /// The fields, in order.
+    fn fields(self) -> Self::Fields;
+
+    /// The first field in an encoding that is written though it equals its default. The result is meaningful only if
+    /// the encoding is known to be one of these parameters.
+    fn written_default(self, bytes: &[u8]) -> Option<TagNumber>;
+
+    /// Does nothing: its contract says that the parameters may be encoded.
+    fn lemma_is_valid(self);
+
+    /// Writes the shortest encoding, in which no default is written, to the front of a slice and returns its length:
+    /// `encode_into` with a stronger contract. `Overflow` if the encoding is longer than `Length::MAX`, `NoRoom` if the
+    /// slice is shorter than it.
+    #[inline(always)]
+    fn encode_params(self, out: &mut [u8]) -> Result<usize> {
+        self.encode_spelling_into(0, out)
+    }
+
+    /// Writes one spelling to the front of a slice and returns its length. Bit j of the mask (bit 0 is the lowest) says
+    /// whether the j-th of the fields that equal their defaults, in their order, is written. Mask 0 gives the shortest.
+    /// `Overflow` if the encoding is longer than `Length::MAX`, `NoRoom` if the slice is shorter than it.
+    fn encode_spelling_into(self, mask: u8, out: &mut [u8]) -> Result<usize> {
+        self.lemma_is_valid();
+        let spelling = Spelling {
+            params: self,
+            non_defaults: non_defaults_in(self),
+            mask,
+        };
+        Ok(spelling.encode_into(out)?)
+    }
+
+    /// Like `encode_spelling_into`, but returns the part of the slice that was written, as `encode_to_slice` does.
+    fn encode_spelling_to_slice<'b>(self, mask: u8, out: &'b mut [u8]) -> Result<&'b [u8]> {
+        self.lemma_is_valid();
+        let spelling = Spelling {
+            params: self,
+            non_defaults: non_defaults_in(self),
+            mask,
+        };
+        Ok(spelling.encode_to_slice(out)?)
+    }
+}
+
+pub(crate) struct Spelling<T: EncodeParams> {
+    pub(crate) params: T,
+    pub(crate) non_defaults: u8,
+    pub(crate) mask: u8,
+}
+
+impl<T: EncodeParams> Contents for Spelling<T> {}
+
+impl<T: EncodeParams> TaggedBy for Spelling<T> {
+    type Marker = SequenceTag;
+}
+
+impl<T: EncodeParams> EncodeValue for Spelling<T> {
+    fn value_len(&self) -> crate::proved::der_core::Result<Length> {
+        contents_len(self.params, self.non_defaults, self.mask)
+    }
+
+    fn append_value<W: Writer>(&self, writer: &mut W) -> crate::proved::der_core::Result<()> {
+        append_contents(self.params, self.non_defaults, self.mask, writer)
+    }
+
+    fn prepend_value(&self, writer: &mut BackWriter<'_>) {
+        prepend_contents(self.params, self.non_defaults, self.mask, writer);
+    }
+}
+
+/// Which fields differ from their defaults, as bits: bit j is that of field j.
+#[inline(always)]
+pub(crate) fn non_defaults_in<T: EncodeParams>(params: T) -> u8 {
+    params.fields().non_defaults()
+}
+
+/// How many fields equal their defaults.
+#[inline(always)]
+pub(crate) fn count_defaults<T: EncodeParams>(params: T) -> u8 {
+    params.fields().count_defaults()
+}
+
+impl<T: EncodeParams> Spelling<T> {
+    /// The length of the encoding: `Overflow` if it is too long.
+    pub(crate) fn len(&self) -> crate::proved::der_core::Result<usize> {
+        self.params.lemma_is_valid();
+        Ok(self.encoded_len()?.to_usize())
+    }
+
+    /// The encoding, in allocated memory.
+    pub(crate) fn to_vec(&self, alloc: Global) -> crate::proved::der_core::Result<Vec<u8>> {
+        self.params.lemma_is_valid();
+        let length = self.len()?;
+        let mut encoding = vec![in alloc; 0u8; length]?;
+        write_over(self, encoding.as_mut_slice());
+        Ok(encoding)
+    }
+}

@@ -1,0 +1,72 @@
+// Made of crates/pkcs1_params/src/trailer_field.rt by tools/erase/erase.py, and not to be edited.
+//! The trailer field of RSASSA-PSS.
+
+use crate::proved::der_core::{
+    BackWriter, Contents, DecodeValue, EncodeValue, EqualByValue, ErrorKind, Header, IntegerTag,
+    Length, Memory, Reader, Result, Tag, TaggedBy, Writer, quick_short,
+};
+
+/// The trailer field, of which one is known (RFC 8017 A.2.3).
+///
+/// ```text
+/// TrailerField ::= INTEGER { trailerFieldBC(1) }
+/// ```
+#[derive(Clone, Copy, Debug, PartialEq, Eq)]
+pub enum TrailerField {
+    /// The octet `bc`.
+    BC = 1,
+}
+
+impl Default for TrailerField {
+    fn default() -> TrailerField {
+        TrailerField::BC
+    }
+}
+
+impl Contents for TrailerField {}
+
+impl TaggedBy for TrailerField {
+    type Marker = IntegerTag;
+}
+
+impl EqualByValue for TrailerField {}
+
+impl<'a, M: Memory> DecodeValue<&'a [u8], M> for TrailerField {
+    fn decode_value<R: Reader<&'a [u8]>>(
+        memory: M,
+        reader: &mut R,
+        header: Header,
+    ) -> Result<TrailerField> {
+        match u8::decode_value(memory, reader, header)? {
+            1 => Ok(TrailerField::BC),
+            _ => Err(reader.error(ErrorKind::Value { tag: Tag::INTEGER })),
+        }
+    }
+
+    #[inline(always)]
+    fn quick_split(bytes: &'a [u8], tag: Tag) -> Option<(&'a [u8], &'a [u8])> {
+        quick_short(bytes, tag)
+    }
+
+    #[inline(always)]
+    fn quick_value(memory: M, contents: &'a [u8]) -> Option<TrailerField> {
+        match u8::quick_value(memory, contents)? {
+            1 => Some(TrailerField::BC),
+            _ => None,
+        }
+    }
+}
+
+impl EncodeValue for TrailerField {
+    fn value_len(&self) -> Result<Length> {
+        (*self as u8).value_len()
+    }
+
+    fn append_value<W: Writer>(&self, writer: &mut W) -> Result<()> {
+        (*self as u8).append_value(writer)
+    }
+
+    fn prepend_value(&self, writer: &mut BackWriter<'_>) {
+        (*self as u8).prepend_value(writer);
+    }
+}

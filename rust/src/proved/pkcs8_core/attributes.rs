@@ -1,0 +1,71 @@
+// Made of crates/pkcs8_core/src/attributes.rt by tools/erase/erase.py, and not to be edited.
+//! The attributes of containers, as opaque bytes.
+
+use crate::proved::pkcs1::der::{
+    BackWriter, Contents, ContentsAskNone, DecodeValue, EncodeValue, Header, Length, Memory,
+    Reader, Result, Tag, TagMarker, TaggedBy, Writer, quick_contents,
+};
+
+/// The tag of attributes.
+pub struct AttributesTag;
+
+impl TagMarker for AttributesTag {
+    const TAG: Tag = Tag { octet: 0xa0 };
+}
+
+/// Attributes, whose contents aren't checked and may be longer than `Length::MAX`.
+#[derive(Clone, Copy)]
+pub struct Attributes<'a> {
+    pub(crate) bytes: &'a [u8],
+}
+
+impl<'a> Attributes<'a> {
+    /// Attributes with these contents.
+    #[inline(always)]
+    pub(crate) fn new(bytes: &'a [u8]) -> Attributes<'a> {
+        Attributes { bytes }
+    }
+}
+
+impl Contents for Attributes<'_> {}
+
+impl TaggedBy for Attributes<'_> {
+    type Marker = AttributesTag;
+}
+
+impl<'a, M: Memory> DecodeValue<&'a [u8], M> for Attributes<'a> {
+    fn decode_value<R: Reader<&'a [u8]>>(
+        _memory: M,
+        reader: &mut R,
+        header: Header,
+    ) -> Result<Attributes<'a>> {
+        let bytes = reader.read_slice(header.length)?;
+        Ok(Attributes::new(bytes))
+    }
+
+    #[inline(always)]
+    fn quick_split(bytes: &'a [u8], tag: Tag) -> Option<(&'a [u8], &'a [u8])> {
+        quick_contents(bytes, tag)
+    }
+
+    #[inline(always)]
+    fn quick_value(_memory: M, contents: &'a [u8]) -> Option<Attributes<'a>> {
+        Some(Attributes::new(contents))
+    }
+}
+
+impl<'a> ContentsAskNone<&'a [u8]> for Attributes<'a> {}
+
+impl EncodeValue for Attributes<'_> {
+    fn value_len(&self) -> Result<Length> {
+        Length::try_from(self.bytes.len())
+    }
+
+    fn append_value<W: Writer>(&self, writer: &mut W) -> Result<()> {
+        writer.write(self.bytes)
+    }
+
+    fn prepend_value(&self, writer: &mut BackWriter<'_>) {
+        writer.prepend(self.bytes);
+    }
+}

@@ -1,0 +1,166 @@
+// Made of crates/spki_core/src/any.rt by tools/erase/erase.py, and not to be edited.
+//! Encodings of any tag.
+
+use crate::proved::spki_core::wide_tag::WideTag;
+use crate::proved::der_core::{
+    BackWriter, Decode, DecodeValue, Encode, Encoding, EqualByValue, Error, ErrorKind, FixedTag,
+    Header, Length, Memory, Reader, Result, SliceReader, Tag, TryClone, Writer, quick_any,
+};
+use crate::rattle_std::alloc::Global;
+use crate::rattle_std::fmt;
+
+/// A tag and contents octets, which are opaque. It borrows them.
+#[derive(Clone, Copy, Debug, PartialEq, Eq)]
+pub struct AnyRef<'a> {
+    tag: WideTag,
+    contents: &'a [u8],
+}
+
+impl<'a> AnyRef<'a> {
+    /// `Overflow` if the contents are longer than `Length::MAX`.
+    pub fn new(tag: Tag, contents: &'a [u8]) -> Result<AnyRef<'a>> {
+        if contents.len() > Length::MAX.to_usize() {
+            return Err(Error::new(ErrorKind::Overflow));
+        }
+        Ok(AnyRef {
+            tag: WideTag::of(tag),
+            contents,
+        })
+    }
+
+    /// NULL (X.690 8.8), which has no contents octets.
+    pub const fn null() -> AnyRef<'static> {
+        AnyRef {
+            tag: WideTag::of(Tag::NULL),
+            contents: &[],
+        }
+    }
+
+    /// The tag, of any class and number.
+    pub fn tag(&self) -> Tag {
+        self.tag.tag()
+    }
+
+    /// The contents octets.
+    pub fn value(&self) -> &'a [u8] {
+        self.contents
+    }
+
+    /// Decodes the contents octets, all of them, as those of a `T`. `TagUnexpected` if the tag isn't the type's.
+    pub fn decode_as<T: DecodeValue<&'a [u8], M> + FixedTag, M: Memory>(
+        self,
+        memory: M,
+    ) -> Result<T> {
+        if self.tag() != T::TAG {
+            return Err(Error::new(ErrorKind::TagUnexpected {
+                expected: T::TAG,
+                actual: self.tag(),
+            }));
+        }
+        let mut reader = SliceReader::new(self.contents)?;
+        T::decode_value(memory, &mut reader, self.header())
+    }
+
+    /// Whether it is this tag without contents octets.
+    #[inline(always)]
+    pub fn is_alone(&self, tag: Tag) -> bool {
+        self.tag() == tag && self.contents.is_empty()
+    }
+
+    fn header(&self) -> Header {
+        Header {
+            tag: self.tag(),
+            length: Length::of(self.contents.len()),
+        }
+    }
+}
+
+impl Encoding for AnyRef<'_> {
+    fn may_start_with(_tag: Tag) -> bool {
+        true
+    }
+}
+
+impl<'a, M: Memory> Decode<&'a [u8], M> for AnyRef<'a> {
+    #[inline(always)]
+    fn decode<R: Reader<&'a [u8]>>(_memory: M, reader: &mut R) -> Result<AnyRef<'a>> {
+        read_any(reader)
+    }
+
+    #[inline(always)]
+    fn quick(_memory: M, bytes: &'a [u8]) -> Option<(AnyRef<'a>, &'a [u8])> {
+        let (tag, contents, rest) = quick_any(bytes)?;
+        match AnyRef::new(tag, contents) {
+            Ok(any) => Some((any, rest)),
+            Err(_) => None,
+        }
+    }
+
+    fn from_der(_memory: M, bytes: &'a [u8]) -> Result<AnyRef<'a>> {
+        let mut reader = SliceReader::new(bytes)?;
+        let any = read_any(&mut reader)?;
+        reader.finish()?;
+        Ok(any)
+    }
+}
+
+#[inline(always)]
+fn read_any<'a, R: Reader<&'a [u8]>>(reader: &mut R) -> Result<AnyRef<'a>> {
+    let header = Header::decode(reader)?;
+    let contents = reader.read_slice(header.length)?;
+    Ok(AnyRef {
+        tag: WideTag::of(header.tag),
+        contents,
+    })
+}
+
+impl Encode for AnyRef<'_> {
+    fn encoded_len(&self) -> Result<Length> {
+        self.header().length.for_tlv(self.tag())
+    }
+
+    fn encode<W: Writer>(&self, writer: &mut W) -> Result<()> {
+        self.encoded_len()?;
+        writer.write(&self.header().to_bytes())?;
+        writer.write(self.contents)
+    }
+
+    fn prepend(&self, writer: &mut BackWriter<'_>) {
+        writer.prepend(self.contents);
+        writer.prepend_header(self.header());
+    }
+}
+
+impl<'a> TryClone for AnyRef<'a> {
+    /// The same tag, over the same contents. Never `OutOfMemory`.
+    fn try_clone(&self, _alloc: Global) -> Result<AnyRef<'a>> {
+        Ok(*self)
+    }
+}
+
+/// A type that holds a tag with contents octets, and is encoded as these.
+pub trait AnyValue: EqualByValue + Encode {
+    /// The tag and contents, borrowed.
+    fn as_any_ref(&self) -> AnyRef<'_>;
+}
+
+impl EqualByValue for AnyRef<'_> {}
+
+impl AnyValue for AnyRef<'_> {
+    fn as_any_ref(&self) -> AnyRef<'_> {
+        *self
+    }
+}
+
+/// Parameters that are encodings of any tag, and can be made without allocating.
+pub trait AnyParams<M: Memory>: AnyValue + Sized {
+    /// The tag without contents octets.
+    fn empty(memory: M, tag: Tag) -> Self;
+}
+
+impl<'a, M: Memory> AnyParams<M> for AnyRef<'a> {
+    fn empty(_memory: M, tag: Tag) -> AnyRef<'a> {
+        let tag = WideTag::of(tag);
+        AnyRef { tag, contents: &[] }
+    }
+}

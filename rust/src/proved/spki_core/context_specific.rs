@@ -1,0 +1,103 @@
+// Made of crates/spki_core/src/context_specific.rt by tools/erase/erase.py, and not to be edited.
+//! Values inside explicit context-specific tags (X.690 8.14.2).
+
+use crate::proved::der_core::{
+    BackWriter, Decode, Encode, Encoding, ErrorKind, Header, Length, Memory, Reader, Result, Tag,
+    TagNumber, Writer, decode_whole, is_tag_next,
+};
+
+/// A borrowed value that is written inside the tag `[tag_number]`.
+#[derive(Clone, Copy)]
+pub struct ContextSpecificRef<'b, T> {
+    /// The number of the tag.
+    pub tag_number: TagNumber,
+    /// The value. Its encoding is the contents of the tag.
+    pub value: &'b T,
+}
+
+impl<'b, T> ContextSpecificRef<'b, T> {
+    fn tag(&self) -> Tag {
+        Tag::context(self.tag_number)
+    }
+}
+
+impl<'b, T: Encoding> Encoding for ContextSpecificRef<'b, T> {
+    fn may_start_with(_tag: Tag) -> bool {
+        true
+    }
+}
+
+impl<'b, T: Encode> Encode for ContextSpecificRef<'b, T> {
+    fn encoded_len(&self) -> Result<Length> {
+        self.value.encoded_len()?.for_tlv(self.tag())
+    }
+
+    fn encode<W: Writer>(&self, writer: &mut W) -> Result<()> {
+        let tag = self.tag();
+        let length = self.value.encoded_len()?;
+        length.for_tlv(tag)?;
+        writer.write(&Header { tag, length }.to_bytes())?;
+        self.value.encode(writer)
+    }
+
+    fn prepend(&self, writer: &mut BackWriter<'_>) {
+        let before = writer.filled_len();
+        self.value.prepend(writer);
+        let length = Length::of(writer.filled_len() - before);
+        writer.prepend_header(Header {
+            tag: self.tag(),
+            length,
+        });
+    }
+}
+
+/// Whether the next octet is that of the field's tag. Nothing is read. `Failed` on a reader that has failed.
+#[inline(always)]
+pub fn is_field_next<'a, R: Reader<&'a [u8]>>(reader: &mut R, number: TagNumber) -> Result<bool> {
+    is_tag_next(reader, Tag::context(number))
+}
+
+/// Reads an explicit field if the next octet is that of its tag, else returns `None` and reads nothing. `TrailingData`
+/// if bytes follow the encoding inside the tag. `Failed` on a reader that has failed.
+pub fn read_context_specific<'a, T: Decode<&'a [u8], M>, M: Memory, R: Reader<&'a [u8]>>(
+    memory: M,
+    reader: &mut R,
+    number: TagNumber,
+) -> Result<Option<T>> {
+    if !is_field_next(reader, number)? {
+        return Ok(None);
+    }
+    let value = read_explicit(memory, reader, number)?;
+    Ok(Some(value))
+}
+
+/// Reads the tag of a field with one encoding inside.
+#[inline(always)]
+pub fn read_explicit<'a, T: Decode<&'a [u8], M>, M: Memory, R: Reader<&'a [u8]>>(
+    memory: M,
+    reader: &mut R,
+    number: TagNumber,
+) -> Result<T> {
+    read_inside(memory, reader, Tag::context(number))
+}
+
+/// Reads a tag with one encoding inside.
+#[inline(always)]
+fn read_inside<'a, T: Decode<&'a [u8], M>, M: Memory, R: Reader<&'a [u8]>>(
+    memory: M,
+    reader: &mut R,
+    tag: Tag,
+) -> Result<T> {
+    let header = Header::decode_likely(reader, tag)?;
+    if header.tag != tag {
+        return Err(reader.error(ErrorKind::TagUnexpected {
+            expected: tag,
+            actual: header.tag,
+        }));
+    }
+    let mut nested = reader.nested(header.length)?;
+    match decode_whole(memory, &mut nested) {
+        Ok(value) => Ok(value),
+        Err(e) => Err(reader.error(e.kind())),
+    }
+}

@@ -1,0 +1,186 @@
+// Made of crates/spki_core/src/object_identifier.rt by tools/erase/erase.py, and not to be edited.
+//! Object identifiers.
+
+use crate::proved::spki_core::identifier_view::IdentifierView;
+use crate::proved::der_core::{
+    BackWriter, Contents, DecodeValue, EncodeValue, EqualByValue, ErrorKind, Header, Length,
+    Memory, Reader, Result, Tag, TagMarker, TaggedBy, Writer, quick_short,
+};
+use crate::rattle_std::hash::{Hash, Hasher};
+
+/// An object identifier as its contents octets (X.690 8.19): at most 39, so nothing is allocated.
+#[derive(Clone, Copy, Debug)]
+pub struct ObjectIdentifier {
+    octets: [u8; 39],
+    length: u8,
+}
+
+/// Whether a subidentifier starts at the index: no octets precede it, or the last of a subidentifier does.
+fn is_start(octets: &[u8], index: usize) -> bool {
+    index == 0 || octets[index - 1] < 0x80
+}
+
+/// Whether no octet is 80, eight or four at a time.
+fn has_no_80(octets: &[u8]) -> bool {
+    match octets {
+        [a, b, c, d, e, f, g, h, later @ ..] => {
+            let eight = (*a != 0x80)
+                & (*b != 0x80)
+                & (*c != 0x80)
+                & (*d != 0x80)
+                & (*e != 0x80)
+                & (*f != 0x80)
+                & (*g != 0x80)
+                & (*h != 0x80);
+            eight && has_no_80(later)
+        }
+        [a, b, c, d, later @ ..] => {
+            let four = (*a != 0x80) & (*b != 0x80) & (*c != 0x80) & (*d != 0x80);
+            four && has_no_80(later)
+        }
+        [a, later @ ..] => *a != 0x80 && has_no_80(later),
+        [] => true,
+    }
+}
+
+/// Whether these are whole subidentifiers, for sure: no octet is 80, and the last one ends a subidentifier.
+#[inline(always)]
+fn ends_plainly(octets: &[u8]) -> bool {
+    match octets {
+        [front @ .., last] => *last < 0x80 && has_no_80(front),
+        [] => false,
+    }
+}
+
+/// Whether the octets are one or more whole subidentifiers, of at most 39 octets together.
+#[inline(always)]
+pub(crate) fn is_identifier(octets: &[u8]) -> bool {
+    !octets.is_empty() && octets.len() <= 39 && (ends_plainly(octets) || ends_well(octets))
+}
+
+fn ends_well(octets: &[u8]) -> bool {
+    for index in 0..octets.len() {
+        if octets[index] == 0x80 && is_start(octets, index) {
+            return false;
+        }
+    }
+    is_start(octets, octets.len())
+}
+
+/// A type that names an algorithm, by its object identifier.
+pub trait AssociatedOid {
+    /// The contents octets of the identifier (X.690 8.19), without tag and length.
+    const OID: &'static [u8];
+
+    /// `OID`, for contracts.
+    fn octets() -> &'static [u8];
+
+    /// `OID` with zeros behind it. A constant in its place saves copying a number of octets that is known only at run
+    /// time.
+    fn padded() -> [u8; 39] {
+        with_zeros(Self::octets())
+    }
+}
+
+/// The octets with zeros behind them.
+fn with_zeros(octets: &[u8]) -> [u8; 39] {
+    let mut padded = [0; 39];
+    padded[..octets.len()].copy_from_slice(octets);
+    padded
+}
+
+impl ObjectIdentifier {
+    /// The octets are known to be valid.
+    pub(crate) fn new(bytes: &[u8]) -> ObjectIdentifier {
+        ObjectIdentifier {
+            octets: with_zeros(bytes),
+            length: bytes.len() as u8,
+        }
+    }
+
+    /// The identifier with these contents octets, or `OidMalformed`.
+    pub fn from_bytes(bytes: &[u8]) -> Result<ObjectIdentifier> {
+        Ok(IdentifierView::from_bytes(bytes)?.to_object_identifier())
+    }
+
+    /// The contents octets, at least one.
+    pub fn as_bytes(&self) -> &[u8] {
+        &self.octets[..self.length as usize]
+    }
+
+    /// The identifier of an algorithm.
+    #[inline(always)]
+    pub fn of<D: AssociatedOid>() -> ObjectIdentifier {
+        ObjectIdentifier {
+            octets: D::padded(),
+            length: D::octets().len() as u8,
+        }
+    }
+}
+
+impl PartialEq for ObjectIdentifier {
+    fn eq(&self, other: &ObjectIdentifier) -> bool {
+        self.as_bytes() == other.as_bytes()
+    }
+}
+
+impl Eq for ObjectIdentifier {}
+
+impl Hash for ObjectIdentifier {
+    fn hash<H: Hasher>(&self, state: &mut H) {
+        self.as_bytes().hash(state);
+    }
+}
+
+/// The tag of OBJECT IDENTIFIER.
+pub struct ObjectIdentifierTag;
+
+impl TagMarker for ObjectIdentifierTag {
+    const TAG: Tag = Tag::OBJECT_IDENTIFIER;
+}
+
+impl Contents for ObjectIdentifier {}
+
+impl TaggedBy for ObjectIdentifier {
+    type Marker = ObjectIdentifierTag;
+}
+
+impl EqualByValue for ObjectIdentifier {}
+
+impl<'a, M: Memory> DecodeValue<&'a [u8], M> for ObjectIdentifier {
+    fn decode_value<R: Reader<&'a [u8]>>(
+        _memory: M,
+        reader: &mut R,
+        header: Header,
+    ) -> Result<ObjectIdentifier> {
+        let contents = reader.read_slice(header.length)?;
+        match ObjectIdentifier::from_bytes(contents) {
+            Ok(oid) => Ok(oid),
+            Err(e) => Err(reader.error(e.kind())),
+        }
+    }
+
+    #[inline(always)]
+    fn quick_split(bytes: &'a [u8], tag: Tag) -> Option<(&'a [u8], &'a [u8])> {
+        quick_short(bytes, tag)
+    }
+
+    #[inline(always)]
+    fn quick_value(_memory: M, contents: &'a [u8]) -> Option<ObjectIdentifier> {
+        ObjectIdentifier::from_bytes(contents).ok()
+    }
+}
+
+impl EncodeValue for ObjectIdentifier {
+    fn value_len(&self) -> Result<Length> {
+        Length::try_from(self.as_bytes().len())
+    }
+
+    fn append_value<W: Writer>(&self, writer: &mut W) -> Result<()> {
+        writer.write(self.as_bytes())
+    }
+
+    fn prepend_value(&self, writer: &mut BackWriter<'_>) {
+        writer.prepend(self.as_bytes());
+    }
+}

@@ -1,0 +1,102 @@
+// Made of crates/spki_core/src/owned_any.rt by tools/erase/erase.py, and not to be edited.
+//! Encodings of any tag that own their contents.
+
+use crate::rattle_std::prelude::Vec;
+use crate::proved::spki_core::any::{AnyParams, AnyRef, AnyValue};
+use crate::proved::der_core::{
+    BackWriter, Decode, Encode, Encoding, EqualByValue, Error, ErrorKind, Length, NoMemory, Reader,
+    Result, Tag, TryClone, Writer,
+};
+use crate::rattle_std::alloc::Global;
+
+/// A tag and contents octets, which are opaque. It owns them.
+#[derive(Debug, PartialEq, Eq)]
+pub struct Any {
+    tag: Tag,
+    contents: Vec<u8>,
+}
+
+impl Any {
+    /// Copies the contents. `Overflow` if they are longer than `Length::MAX`, else `OutOfMemory` if there is no memory
+    /// for them.
+    pub fn new(alloc: Global, tag: Tag, contents: &[u8]) -> Result<Any> {
+        if contents.len() > Length::MAX.to_usize() {
+            return Err(Error::new(ErrorKind::Overflow));
+        }
+        Any::copy_of(alloc, tag, contents)
+    }
+
+    /// The same encoding, or `OutOfMemory`.
+    pub fn try_clone(&self, alloc: Global) -> Result<Any> {
+        Any::copy_of(alloc, self.tag, self.contents.as_slice())
+    }
+
+    /// Copies the contents.
+    fn copy_of(alloc: Global, tag: Tag, contents: &[u8]) -> Result<Any> {
+        Ok(Any {
+            tag,
+            contents: Vec::from_slice(alloc, contents)?,
+        })
+    }
+}
+
+impl Encoding for Any {
+    fn may_start_with(_tag: Tag) -> bool {
+        true
+    }
+}
+
+impl<'a> Decode<&'a [u8], Global> for Any {
+    fn decode<R: Reader<&'a [u8]>>(memory: Global, reader: &mut R) -> Result<Any> {
+        let any = AnyRef::decode(NoMemory, reader)?;
+        match Any::copy_of(memory, any.tag(), any.value()) {
+            Ok(any) => Ok(any),
+            Err(e) => Err(reader.error(e.kind())),
+        }
+    }
+
+    fn from_der(memory: Global, bytes: &'a [u8]) -> Result<Any> {
+        let any = AnyRef::from_der(NoMemory, bytes)?;
+        Any::copy_of(memory, any.tag(), any.value())
+    }
+}
+
+impl Encode for Any {
+    fn encoded_len(&self) -> Result<Length> {
+        self.as_any_ref().encoded_len()
+    }
+
+    fn encode<W: Writer>(&self, writer: &mut W) -> Result<()> {
+        self.as_any_ref().encode(writer)
+    }
+
+    fn prepend(&self, writer: &mut BackWriter<'_>) {
+        self.as_any_ref().prepend(writer);
+    }
+}
+
+impl EqualByValue for Any {}
+
+impl AnyValue for Any {
+    fn as_any_ref(&self) -> AnyRef<'_> {
+        match AnyRef::new(self.tag, self.contents.as_slice()) {
+            Ok(any) => any,
+            Err(_) => unreachable!(),
+        }
+    }
+}
+
+impl AnyParams<Global> for Any {
+    fn empty(memory: Global, tag: Tag) -> Any {
+        Any {
+            tag,
+            contents: Vec::new(memory),
+        }
+    }
+}
+
+impl TryClone for Any {
+    fn try_clone(&self, alloc: Global) -> Result<Any> {
+        self.try_clone(alloc)
+    }
+}

@@ -1,0 +1,237 @@
+#!/usr/bin/env python3
+"""compare.py [FOLDER]: whether rust/src/proved, or this folder, is crates/ without what is there for the proof.
+
+Nothing of erase.py is used or believed. The tokens of each source are lined up with those of the file that is made of
+it. Where one of the forms below stands in the source, what it says must stand in the other; elsewhere both must have
+the same token. Comments and layout are left out. The first difference of each file is printed, and the status is 1.
+"""
+import collections
+import pathlib
+import re
+import sys
+from typing import NamedTuple
+
+TOP = pathlib.Path(__file__).resolve().parents[2]
+CRATES = ["der_core", "spki_core", "pkcs1_params", "pkcs1", "pkcs8_core"]
+MAY_BE_REACHED = ["new_with_label"]  # though it has a `requires`
+PRELUDE = {"Vec", "vec"}
+TOKEN = re.compile(r"""//[^\n]* | (?P<kept>
+    b?"(?:\\.|[^"\\])*" | b?'(?:\\[^\n][^'\n]*|[^'\\\n])' | '[a-z_]\w* | \w+ | :: | -> | => | \.\.=? | \S)""", re.X | re.S)
+OPEN, CLOSE = ("(", "[", "{"), (")", "]", "}")
+
+
+class Word(NamedTuple):
+    text: str
+    line: int
+
+
+def words_of(text):
+    """The tokens of a file, without comments."""
+    found, line, begin = [], 1, 0
+    for it in TOKEN.finditer(text):
+        line += text.count("\n", begin, it.start())
+        begin = it.start()
+        if it["kept"]:
+            found.append(Word(it["kept"], line))
+    return found
+
+
+class Source:
+    """The tokens of a source, and what becomes of them."""
+
+    def __init__(self, crate, text):
+        self.crate, self.words = crate, words_of(text)
+        self.behind, self.around, opened = {}, [], [-1]
+        for at in range(len(self.words)):
+            if self[at] in CLOSE:
+                self.behind[opened.pop()] = at + 1
+            self.around.append(opened[-1])
+            if self[at] in OPEN:
+                opened.append(at)
+
+    def __getitem__(self, at):
+        return self.words[at].text if 0 <= at < len(self.words) else ""
+
+    def says(self, at, phrase):
+        return all(self[at + n] == word for n, word in enumerate(phrase.split()))
+
+    def until(self, at, ends):
+        """The next of these signs from here on that stands outside brackets, or the bracket that closes those around."""
+        while self[at] not in ends and self[at] not in CLOSE:
+            at = self.behind[at] if self[at] in OPEN else at + 1
+            if at >= len(self.words):
+                raise IndexError("an item doesn't end")
+        return at
+
+    # Each form gives what stands here in the source (how many tokens) and what must stand in its place, or nothing.
+
+    def ghost(self, at):
+        if self.says(at, "pub ( crate ) ghost") or self.says(at, "pub ghost") or self[at] == "ghost":
+            end = self.until(at + 4 if self[at + 1] == "(" else at, [";", ","])
+            return end - at + (self[end] in (";", ",")), ""
+        return None
+
+    def clause(self, at):
+        if self[at] not in ("requires", "ensures"):
+            return None
+        brace = self.until(at, ["{"])
+        if brace - at > 1 + (self[at + 1] == "*") + (self[brace - 1] not in (self[at], "*")):
+            raise IndexError("a clause without braces")
+        end = self.behind[brace]
+        return (self.behind[end + 1] if self.says(end, "by {") else end) - at, ""
+
+    def tactic(self, at):
+        if self.says(at, "# [ tactic (") or self.says(at, "# ! [ tactic ("):
+            return self.behind[self.until(at, ["["])] - at, ""
+        return None
+
+    def final(self, at):
+        return (1, "") if self[at] == "final" and "fn" in (self[at + 1], self[at + 2]) else None
+
+    def drop(self, at):
+        if self.says(at, "# [ derive ( Drop ) ]"):
+            return 7, ""
+        for phrase in (", Drop", "+ Drop", ": Drop"):
+            if self.says(at, phrase) and not (phrase == ": Drop" and self[at + 2] == "+"):
+                return 2, ""
+        if self.says(at, "Drop +") or self.says(at, "Drop ,"):
+            return 2, ""
+        return None
+
+    def clone(self, at):
+        if self[at] != "impl":
+            return None
+        body = self.until(at, ["{"])
+        head = [self[it] for it in range(at, body)]
+        end = self.behind[body]
+        if "for" in head and head[head.index("for") - 1] == "Clone" and any(
+                self.says(it, "& self ) -> std :: result :: Result <") for it in range(body, end)):
+            return end - at, ""
+        return None
+
+    def formatter(self, at):
+        if self[at - 2] == "fn" and self.says(at, "< W : fmt :: Write > ("):
+            return 7, ""
+        return (4, "Formatter < '_ >") if self.says(at, "Formatter < W >") else None
+
+    def derive_where(self, at):
+        if self.says(at, "# [ derive_where ( skip ) ]") and self.says(at + 8, ": PhantomData <"):
+            return 7, ""
+        if self.says(at, "derive_where (") and self[at + 2] != "skip" and self[self.until(at + 2, [";"])] == ";":
+            end = self.until(at + 2, [";"])
+            return self.behind[at + 1] - at, " ".join(["derive ("] + [self[it] for it in range(at + 2, end)] + [")"])
+        return None
+
+    def path(self, at):
+        if self[at - 1] in ("::", ".") or not (self[at + 1] == "::" or self[at - 1] == "use" and self[at + 1] == "as"):
+            return None
+        if self[at] in CRATES or self[at] == "crate":
+            return 1, f"crate :: proved :: {self.crate if self[at] == 'crate' else self[at]}"
+        places = {"std": "crate :: rattle_std", "arrayvec": "crate :: rattle_std :: arrayvec"}
+        return (1, places[self[at]]) if self[at] in places else None
+
+    def narrowed(self, at):
+        """A public method with a `requires`, and a public field beside a ghost one, are `pub(crate)`."""
+        around = self.around[at] if self[at] == "pub" else -1
+        if around < 0:
+            return None
+        name = next(it for it in range(at, len(self.words)) if self[it] not in ("pub", "const", "final", "fn"))
+        if self[name - 1] == "fn":
+            end = self.until(name, ["{", ";", "requires"])
+            while self[end - 1] in ("ensures", "*") or self[end - 2] in ("ensures", "*"):
+                end = self.until(self.behind[end], ["{", ";", "requires"])
+            meant = self[end] == "requires" and self[name] not in MAY_BE_REACHED
+        else:
+            inside = range(around + 1, self.behind[around])
+            meant = self[name + 1] == ":" and any(self[it] == "ghost" and self.around[it] == around for it in inside)
+        return (1, "pub ( crate )") if meant else None
+
+    def formed(self, at):
+        """The first form that stands here: its name, how many tokens it has, and what must stand in its place."""
+        for form in (self.ghost, self.clause, self.tactic, self.final, self.drop, self.clone, self.formatter,
+                     self.derive_where, self.path, self.narrowed):
+            found = form(at)
+            if found:
+                return form.__name__, found[0], found[1].split()
+        return None
+
+
+def prelude_at(made, to):
+    """How many tokens an import of Rattle's prelude has that stands here."""
+    phrase = "use crate :: rattle_std :: prelude ::".split()
+    if [it.text for it in made[to:to + 7]] != phrase:
+        return 0
+    end = next(it for it in range(to, len(made)) if made[it].text == ";")
+    named = {it.text for it in made[to + 7:end]} - {"{", "}", ","}
+    return end + 1 - to if named <= PRELUDE else 0
+
+
+def difference(source, made, counts):
+    """Where the file that was made first differs from the source: the index in each, or nothing."""
+    at, to, imported = 0, 0, False
+    while at < len(source.words) or to < len(made):
+        form = source.formed(at)
+        kind, count, put = form or ("kept", 1, [source[at]])
+        outside = at < len(source.words) and source.around[at] < 0 and source[at] not in CLOSE
+        if outside and put and not imported and prelude_at(made, to):
+            to, imported = to + prelude_at(made, to), True
+            counts["import of the prelude"] += 1
+        if at >= len(source.words) or [it.text for it in made[to:to + len(put)]] != put:
+            return at, to
+        counts[kind] += 1
+        at, to = at + count, to + len(put)
+    return None
+
+
+def shown(words, at):
+    """A few tokens from here on, and their line."""
+    near = words[at:at + 8]
+    return f"line {near[0].line}: {' '.join(it.text for it in near)}" if near else "its end"
+
+
+def compared(source_path, made_path, crate, counts):
+    """A message about the first difference, or nothing."""
+    source = Source(crate, source_path.read_text(encoding="utf-8"))
+    made = words_of(made_path.read_text(encoding="utf-8"))
+    try:
+        found = difference(source, made, counts)
+    except (LookupError, StopIteration) as why:
+        return f"{source_path}: no item is read here, {why!r}"
+    return found and f"{source_path}, {shown(source.words, found[0])}\n    {made_path}, {shown(made, found[1])}"
+
+
+def sources():
+    """The path of each source, by that of what is made of it, below the folder of all."""
+    found = {}
+    for crate in CRATES:
+        for path in sorted((TOP / "crates" / crate / "src").rglob("*.rt")):
+            name = path.relative_to(TOP / "crates" / crate / "src").with_suffix(".rs")
+            found[pathlib.Path(crate, "mod.rs" if str(name) == "lib.rs" else name)] = path
+    return found
+
+
+def messages(folder, counts):
+    """A message about each file that isn't as it should be."""
+    meant = sources()
+    there = {it.relative_to(folder) for it in folder.rglob("*") if it.is_file()}
+    for path in sorted(there ^ (meant.keys() | {pathlib.Path("mod.rs")})):
+        yield f"{folder}/{path} is {'made of nothing' if path in there else 'missing'}"
+    listed = [it.text for it in words_of((folder / "mod.rs").read_text(encoding="utf-8"))]
+    if listed != " ".join(f"pub mod {it} ;" for it in CRATES).split():
+        yield f"{folder}/mod.rs has another list of crates"
+    for path in sorted(meant.keys() & there):
+        message = compared(meant[path], folder / path, path.parts[0], counts)
+        if message:
+            yield message
+
+
+def main():
+    counts = collections.Counter()
+    wrong = list(messages(pathlib.Path(sys.argv[1]) if sys.argv[1:] else TOP / "rust/src/proved", counts))
+    print("\n".join(wrong) or "compare: the same tokens but for these forms: "
+          + ", ".join(f"{kind} {count}" for kind, count in sorted(counts.items())))
+    sys.exit(bool(wrong))
+
+
+if __name__ == "__main__":
+    main()

@@ -1,0 +1,236 @@
+"""What differs between Rattle and Rust, form by form: each is deleted, or replaced by what stands here.
+
+A form is a function of the code and of a place in it. It gives an edit if it stands there, and else nothing. Its first
+sentence stands in README.md too.
+"""
+import re
+from dataclasses import dataclass
+
+from tokens import Refused
+
+LIBRARY = ("der_core", "spki_core", "pkcs1_params", "pkcs1", "pkcs8_core")
+PROGRAMS = ("examples", "pkcs1_program", "pkcs1_tool", "pkcs1_vectors")
+# Where a path begins that the crate has elsewhere.
+MOVED = {it: f"crate::proved::{it}" for it in LIBRARY} | {it: f"crate::programs::{it}" for it in PROGRAMS} \
+    | {"std": "crate::rattle_std", "arrayvec": "crate::rattle_std::arrayvec", "hex": "crate::rattle_std::hex"}
+# Functions that may be reached from outside though they have a `requires`, and what keeps it or what it costs.
+REACHABLE = {"new_with_label": "of a label above Length::MAX it panics"}
+PRELUDE = ("Vec", "String", "ToString", "HostRuntime", "Eprint")
+PRELUDE_MACROS = ("vec", "format", "println", "eprintln", "assert", "assert_eq", "assert_ne")
+UNKNOWN = ("prove", "prove_eq", "prove_ne", "ghost", "requires", "ensures", "invariant", "decreases", "Drop", "derive_where")
+
+
+@dataclass(frozen=True)
+class Edit:
+    """A part of the text, and what stands in its place."""
+
+    begin: int
+    end: int
+    text: str = ""
+
+
+def lines_of(code, first, last):
+    """An edit that deletes whole lines, with the doc comments above."""
+    begin = code.text.rfind("\n", 0, code.tokens[first].begin) + 1
+    end = code.text.find("\n", code.tokens[last].end) + 1
+    if code.text[begin:code.tokens[first].begin].strip() or code.text[code.tokens[last].end:end].strip():
+        raise Refused(f"line {code.line(first)}: what is deleted doesn't stand on lines of its own")
+    while True:
+        above = code.text.rfind("\n", 0, begin - 1) + 1
+        if begin == 0 or not code.text[above:begin].lstrip().startswith("///"):
+            return Edit(begin, end)
+        begin = above
+
+
+def behind_visibility(code, at):
+    """The token behind `pub` or `pub(crate)`, if one stands here."""
+    if code.reads(at, "pub ( crate )"):
+        return at + 4
+    return at + 1 if code.word(at) == "pub" else at
+
+
+def ghost_item(code, at):
+    """A ghost import, member or field, with its doc comment, is deleted."""
+    if code.word(behind_visibility(code, at)) != "ghost":
+        return None
+    end = code.find(at, ";,")
+    return lines_of(code, at, end if code.word(end) in ";," else end - 1)
+
+
+def clause_end(code, at):
+    """The token behind a clause, if one stands here."""
+    if code.word(at) not in ("requires", "ensures"):
+        return at
+    brace = at + 1 + (code.word(at + 1) == "*")
+    brace += code.word(brace) != "{"
+    if code.word(brace) != "{":
+        raise Refused(f"line {code.line(at)}: a clause without braces")
+    end = code.closing[brace] + 1
+    return code.closing[end + 1] + 1 if code.reads(end, "by {") else end
+
+
+def clauses(code, at):
+    """A `requires` or `ensures` is deleted, and so are those behind it."""
+    end = at
+    while clause_end(code, end) != end:
+        end = clause_end(code, end)
+    if end == at:
+        return None
+    if code.word(end) not in ("{", ";"):
+        raise Refused(f"line {code.line(at)}: neither a body nor a semicolon follows a clause")
+    space = code.text[code.tokens[end - 1].end:code.tokens[end].begin]
+    kept = "" if code.word(end) == ";" else space if code.word(at - 1) == "," else " "
+    return Edit(code.tokens[at - 1].end, code.tokens[end].begin, kept)
+
+
+def tactic(code, at):
+    """The attribute `tactic` is deleted."""
+    bracket = at + 1 + (code.word(at + 1) == "!")
+    if code.word(at) == "#" and code.reads(bracket, "[ tactic ("):
+        return lines_of(code, at, code.closing[bracket])
+    return None
+
+
+def derive_of_drop(code, at):
+    """`Drop` in a list of derived traits is deleted; a list of it alone is deleted too."""
+    if not code.reads(at, "# [ derive ("):
+        return None
+    end = code.closing[at + 3]
+    names = [it.text for it in code.tokens[at + 4:end] if it.text != ","]
+    if "Drop" not in names:
+        return None
+    if names == ["Drop"]:
+        return lines_of(code, at, end + 1)
+    kept = ", ".join(it for it in names if it != "Drop")
+    return Edit(code.tokens[at + 3].end, code.tokens[end].begin, kept)
+
+
+def bound_of_drop(code, at):
+    """`Drop` as a bound is deleted."""
+    if code.reads(at, "+ Drop"):
+        return Edit(code.tokens[at - 1].end, code.tokens[at + 1].end)
+    if code.reads(at, "Drop +"):
+        return Edit(code.tokens[at].begin, code.tokens[at + 2].begin)
+    if code.reads(at, ": Drop") and code.word(at + 2) != "+":
+        return Edit(code.tokens[at].begin, code.tokens[at + 1].end)
+    return None
+
+
+def final(code, at):
+    """`final` in front of a function is deleted."""
+    if code.reads(at, "final fn") or code.reads(at, "final const fn"):
+        return Edit(code.tokens[at].begin, code.tokens[at + 1].begin)
+    return None
+
+
+def clone_that_may_fail(code, at):
+    """An `impl Clone` by hand, whose `clone` returns a `Result`, is deleted."""
+    if code.word(at) != "impl":
+        return None
+    body = code.find(at + 1, "{")
+    if "Clone" not in [a.text for a, b in zip(code.tokens[at:body], code.tokens[at + 1:body]) if b.text == "for"]:
+        return None
+    method = next(it for it in range(body, code.closing[body]) if code.reads(it, "fn clone"))
+    if not code.reads(code.find(method + 3, ")") + 1, "-> std :: result :: Result <"):
+        return None
+    return lines_of(code, at, code.closing[body])
+
+
+def writer_of_fmt(code, at):
+    """The writer of a `fmt` isn't a parameter: `fn fmt<W: fmt::Write>` is `fn fmt`."""
+    if code.word(at - 1) == "fn" and code.reads(at + 1, "< W : fmt :: Write >"):
+        return Edit(code.tokens[at].end, code.tokens[at + 7].end)
+    return None
+
+
+def formatter(code, at):
+    """`Formatter<W>` is `Formatter<'_>`."""
+    if code.reads(at, "Formatter < W >"):
+        return Edit(code.tokens[at].end, code.tokens[at + 3].end, "<'_>")
+    return None
+
+
+def derive_where(code, at):
+    """`#[derive_where(A, B; S)]` is `#[derive(A, B)]`, where all that names S is a skipped `PhantomData<S>`."""
+    if not code.reads(at, "# [ derive_where ("):
+        return None
+    end = code.closing[at + 3]
+    if code.reads(at + 4, "skip )"):
+        if not code.reads(behind_visibility(code, end + 2) + 1, ": PhantomData <"):
+            raise Refused(f"line {code.line(at)}: derive_where(skip) on what is no PhantomData")
+        return lines_of(code, at, end + 1)
+    split = code.find(at + 4, ";")
+    body = code.find(end + 2, "{")
+    skipped = any(code.reads(it, "derive_where ( skip )") for it in range(body, code.closing[body]))
+    if code.word(split) != ";" or not skipped or split + 2 != end:
+        raise Refused(f"line {code.line(at)}: derive_where of a parameter that no skipped field has")
+    return Edit(code.tokens[at + 2].begin, code.tokens[end].end,
+                f"derive({code.text[code.tokens[at + 4].begin:code.tokens[split].begin]})")
+
+
+def path(code, at):
+    """A path from a crate on begins where this crate has it: below `crate::proved` or `crate::rattle_std`."""
+    here = code.word(at)
+    follows = code.word(at + 1)
+    if not code.begins_path(at) or not (follows == "::" or code.word(at - 1) == "use" and follows in ("as", ";")):
+        return None
+    moved = MOVED.get(code.crate) if here == "crate" else MOVED.get(here)
+    return Edit(code.tokens[at].begin, code.tokens[at].end, moved) if moved else None
+
+
+def has_requires(code, at):
+    """Whether the function whose `fn` stands here has a `requires`."""
+    end = code.find(at, ("{", ";", "requires", "ensures"))
+    while clause_end(code, end) != end:
+        if code.word(end) == "requires":
+            return True
+        end = clause_end(code, end)
+    return False
+
+
+def method_with_requires(code, at):
+    """A public method with a `requires`, which Rust doesn't check, is `pub(crate)`."""
+    name = at + 2 + (code.word(at + 1) in ("const", "final"))
+    if code.word(at) != "pub" or code.word(name - 1) != "fn" or code.around[at] is None:
+        return None
+    if code.word(name) in REACHABLE or not has_requires(code, name):
+        return None
+    return Edit(code.tokens[at].begin, code.tokens[at].end, "pub(crate)")
+
+
+def field_with_invariant(code, at):
+    """A public field beside a ghost field, which says what values it has, is `pub(crate)`."""
+    around = code.around[at]
+    if code.word(at) != "pub" or code.word(at + 2) != ":" or around is None or code.word(around) != "{":
+        return None
+    if not any(code.word(it) == "ghost" and code.around[it] == around for it in range(at, code.closing[around])):
+        return None
+    return Edit(code.tokens[at].begin, code.tokens[at].end, "pub(crate)")
+
+
+def main_of_program(code, at):
+    """`main` of a program is public, so that another `main` calls it."""
+    if code.reads(at, "fn main (") and code.around[at] is None and code.crate in PROGRAMS:
+        return Edit(code.tokens[at].begin, code.tokens[at].end, "pub fn")
+    return None
+
+
+def runtime_of_test(code, at):
+    """A test makes the runtime that it is given."""
+    if not code.reads(at, "( rt : HostRuntime") or not code.reads(at - 6, "# [ test ] fn"):
+        return None
+    end = code.closing[at]
+    body = code.find(end + 1, "{")
+    result = code.text[code.tokens[end].end:code.tokens[body].end]
+    return Edit(code.tokens[at].begin, code.tokens[body].end, f"(){result} let rt = HostRuntime;")
+
+
+def refused(code, at):
+    """A word that is left of any other form stops the program."""
+    if code.word(at) in UNKNOWN and code.tokens[at].kind == "word":
+        around = re.sub(r"\s+", " ", code.text[code.tokens[at].begin:][:40])
+        raise Refused(f"line {code.line(at)}: no form is known here: {around!r}")
+
+
+FORMS = (ghost_item, clauses, tactic, derive_of_drop, bound_of_drop, final, clone_that_may_fail, writer_of_fmt, formatter,
+         derive_where, path, method_with_requires, field_with_invariant, main_of_program, runtime_of_test, refused)

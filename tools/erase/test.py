@@ -1,0 +1,163 @@
+#!/usr/bin/env python3
+"""Tests erase.py by the page forms.txt, and compare.py by the mistakes of planted.txt."""
+import collections
+import pathlib
+import re
+import shutil
+import subprocess
+import sys
+import tempfile
+import unittest
+
+HERE = pathlib.Path(__file__).resolve().parent
+sys.path.insert(0, str(HERE))
+sys.dont_write_bytecode = True
+
+import compare  # noqa: E402
+import erase  # noqa: E402
+import forms  # noqa: E402
+from tokens import Refused  # noqa: E402
+
+HEAD = "// Made of crates/der_core/src/page.rt by tools/erase/erase.py, and not to be edited.\n"
+PROVED = erase.TOP / "rust/src/proved"
+
+
+def cases():
+    """The title, the source and the result or the refusal of each case of the page."""
+    page = (HERE / "forms.txt").read_text(encoding="utf-8")
+    for case in re.split(r"^# ", page, flags=re.M)[1:]:
+        title, _, text = case.partition("\n")
+        source, sign, result = re.split(r"^(=>\n|!! )", text, maxsplit=1, flags=re.M)
+        yield title, source.rstrip("\n") + "\n", sign.strip(), result.rstrip("\n") + "\n"
+
+
+def planted():
+    """What is wrong, the file, and the two texts of each mistake."""
+    page = (HERE / "planted.txt").read_text(encoding="utf-8")
+    for case in page.split("\n\n")[1:]:
+        what, file, old, new = (line.partition(": ")[2].replace("\\n", "\n") for line in case.strip().split("\n"))
+        yield what, file, old, "" if new == "none" else new
+
+
+def first_difference(source, made):
+    """What compare.py finds between the two texts, as words of both."""
+    source, made = compare.Source("der_core", source), compare.words_of(made)
+    found = compare.difference(source, made, collections.Counter())
+    return found and (source[found[0]], made[found[1]].text if found[1] < len(made) else "")
+
+
+def run_compare(folder):
+    """The status of compare.py over a folder, and what it prints."""
+    done = subprocess.run([HERE / "compare.py", folder], capture_output=True, text=True, check=False)
+    return done.returncode, done.stdout + done.stderr
+
+
+class Forms(unittest.TestCase):
+    def test_each_form_is_changed_as_the_page_says(self):
+        for title, source, sign, result in cases():
+            with self.subTest(title):
+                if sign == "=>":
+                    self.assertEqual(erase.erased("der_core", "page.rt", source), HEAD + result)
+                else:
+                    with self.assertRaisesRegex(Refused, re.escape(result.strip())):
+                        erase.erased("der_core", "page.rt", source)
+
+    def test_the_page_has_each_form(self):
+        changed = set()
+        for _, source, sign, _ in cases():
+            if sign == "=>":
+                changed |= {form for form, _ in erase.edits_of(erase.Code("der_core", source))}
+        of_programs = {forms.main_of_program, forms.runtime_of_test, forms.refused}
+        self.assertEqual(changed, set(forms.FORMS) - of_programs)
+
+    def test_a_program_has_its_main_and_its_tests(self):
+        source = "fn main(rt: HostRuntime) -> u8 {\n    0\n}\n\n#[test]\nfn runs(rt: HostRuntime) -> u8 {\n    0\n}\n"
+        made = erase.erased("pkcs1_tool", "main.rt", source).split("\n", 1)[1]
+        self.assertEqual(made, "use crate::rattle_std::prelude::HostRuntime;\n" + source
+                         .replace("fn main", "pub fn main").replace("runs(rt: HostRuntime) -> u8 {",
+                                                                    "runs() -> u8 { let rt = HostRuntime;"))
+
+    def test_the_table_has_what_each_form_is(self):
+        table = (HERE / "README.md").read_text(encoding="utf-8")
+        for form in forms.FORMS:
+            with self.subTest(form.__name__):
+                self.assertIn(f"| {form.__doc__.strip().replace(chr(10) + '    ', ' ')} |", table)
+
+
+class Comparison(unittest.TestCase):
+    def test_it_agrees_with_the_page(self):
+        for title, source, sign, result in cases():
+            if sign == "=>":
+                with self.subTest(title):
+                    self.assertIsNone(first_difference(source, result))
+
+    def test_a_clone_that_cannot_fail_stays(self):
+        clone = "impl Clone for Tag {\n    fn clone(&self) -> Tag {\n        *self\n    }\n}\n"
+        self.assertEqual(first_difference(clone + "fn f() {}", "fn f() {}"), ("impl", "fn"))
+
+    def test_what_begins_as_a_form_but_is_none_stays(self):
+        for source, made in [("fn f() { final_value }", "fn f() { }"), ("use a::Drop::b;", "use a::b;"),
+                             ("fn f(ghosts: u8) {}", "fn f() {}"), ("#[tactical(x)]\nfn f() {}", "fn f() {}"),
+                             ("fn f() { a::std::b }", "fn f() { a::crate::rattle_std::b }"),
+                             ("fn f<W: fmt::Read>() {}", "fn f() {}"), ("x!(Formatter<V>)", "x!(Formatter<'_>)")]:
+            with self.subTest(source):
+                self.assertIsNotNone(first_difference(source, made))
+
+    def test_the_import_of_the_prelude_stands_once_and_outside_of_all(self):
+        line = "use crate::rattle_std::prelude::Vec;"
+        self.assertIsNone(first_difference("fn f() {}", f"{line} fn f() {{}}"))
+        self.assertEqual(first_difference("fn f() {}", f"{line} {line} fn f() {{}}"), ("fn", "use"))
+        self.assertEqual(first_difference("fn f() {}", f"fn f() {{ {line} }}"), ("}", "use"))
+        self.assertEqual(first_difference("fn f() {}", f"{line.replace('Vec', '{Vec, u8}')} fn f() {{}}"), ("fn", "use"))
+
+
+class Planted(unittest.TestCase):
+    def setUp(self):
+        self.room = tempfile.TemporaryDirectory()
+        self.addCleanup(self.room.cleanup)
+        self.folder = pathlib.Path(self.room.name) / "proved"
+        shutil.copytree(PROVED, self.folder)
+
+    def messages_of(self, file):
+        """What compare.py says, of this file alone if it is made of a source."""
+        path = pathlib.Path(file)
+        if path not in compare.sources():
+            return compare.messages(self.folder, collections.Counter())
+        found = compare.compared(compare.sources()[path], self.folder / path, path.parts[0], collections.Counter())
+        return [found] if found else []
+
+    def test_all_is_alike_before(self):
+        self.assertEqual(run_compare(self.folder)[0], 0)
+
+    def test_each_mistake_is_named(self):
+        mistakes = list(planted())
+        self.assertGreaterEqual(len(mistakes), 20)
+        for what, file, old, new in mistakes:
+            with self.subTest(what):
+                text = (self.folder / file).read_text(encoding="utf-8")
+                self.assertEqual(text.count(old), 1, f"{old!r} in {file}")
+                (self.folder / file).write_text(text.replace(old, new), encoding="utf-8")
+                named = list(self.messages_of(file))
+                self.assertEqual(len(named), 1)
+                self.assertIn(f"{self.folder}/{file}", named[0])
+                (self.folder / file).write_text(text, encoding="utf-8")
+
+    def test_files_that_are_missing_or_too_many_are_named(self):
+        (self.folder / "pkcs1/view.rs").unlink()
+        (self.folder / "pkcs1/views.rs").write_text("")
+        status, printed = run_compare(self.folder)
+        self.assertEqual((status, printed), (1, f"{self.folder}/pkcs1/view.rs is missing\n"
+                                                f"{self.folder}/pkcs1/views.rs is made of nothing\n"))
+
+    def test_what_is_old_is_seen_and_made_again(self):
+        made = erase.erased_crates(forms.LIBRARY, "The proved crates, without what is there for the proof.")
+        self.assertEqual(erase.stale(made, self.folder), [])
+        (self.folder / "mod.rs").write_text("")
+        (self.folder / "more.rs").write_text("")
+        self.assertEqual([str(it) for it in erase.stale(made, self.folder)], ["mod.rs", "more.rs"])
+        erase.write(made, self.folder)
+        self.assertEqual(erase.stale(made, self.folder), [])
+
+
+if __name__ == "__main__":
+    unittest.main()
