@@ -55,9 +55,11 @@ fn of_number_and(to: &mut Told, word: &str, number: &str, part: &str) -> bool {
     let Ok(number) = number.parse::<usize>() else {
         return false;
     };
-    if let Ok(other) = part.parse::<usize>()
-        && words::of_numbers(to, word, number, other)
-    {
+    let is_told = match part.parse::<usize>() {
+        Ok(other) => words::of_numbers(to, word, number, other),
+        Err(_) => false,
+    };
+    if is_told {
         return true;
     }
     match bytes_of(to, part) {
