@@ -29,6 +29,7 @@ extern crate alloc;
 #[cfg(feature = "std")]
 extern crate std;
 
+mod clones;
 pub mod der;
 #[cfg(feature = "alloc")]
 mod documents;
@@ -50,10 +51,10 @@ mod traits;
 
 pub use der::asn1::{ObjectIdentifier, Uint, UintRef};
 pub use proved::pkcs1::{
-    Error, OtherPrimeInfo, OtherPrimeInfos, Result, RsaOaepParams, RsaOaepParamsOwned,
-    RsaOaepParamsRef, RsaPrivateKey, RsaPrivateKeyOwned, RsaPrivateKeyRef, RsaPssParams,
-    RsaPssParamsOwned, RsaPssParamsRef, RsaPublicKey, RsaPublicKeyOwned, RsaPublicKeyRef, Sha1,
-    Sha224, Sha256, Sha384, Sha512, Sha512_224, Sha512_256, TrailerField, Version,
+    Error, OtherPrimeInfo, OtherPrimeInfos, Result, RsaOaepParams, RsaOaepParamsOwned, RsaOaepParamsRef, RsaPrivateKey,
+    RsaPrivateKeyOwned, RsaPrivateKeyRef, RsaPssParams, RsaPssParamsOwned, RsaPssParamsRef, RsaPublicKey,
+    RsaPublicKeyOwned, RsaPublicKeyRef, Sha1, Sha224, Sha256, Sha384, Sha512, Sha512_224, Sha512_256, TrailerField,
+    Version,
 };
 pub use traits::{DecodeRsaPrivateKey, DecodeRsaPublicKey};
 #[cfg(feature = "alloc")]

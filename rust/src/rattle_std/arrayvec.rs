@@ -12,10 +12,7 @@ pub struct ArrayVec<T, const N: usize> {
 impl<T: Copy + Default, const N: usize> ArrayVec<T, N> {
     /// An empty list.
     pub fn new() -> ArrayVec<T, N> {
-        ArrayVec {
-            items: [T::default(); N],
-            len: 0,
-        }
+        ArrayVec { items: [T::default(); N], len: 0 }
     }
 
     /// Appends an item. The list must not be full.

@@ -18,9 +18,7 @@ pub struct Vec<T> {
 impl<T> Vec<T> {
     /// An empty list. Nothing is allocated.
     pub fn new(_alloc: Global) -> Vec<T> {
-        Vec {
-            items: Items::default(),
-        }
+        Vec { items: Items::default() }
     }
 
     /// Makes room for more items.

@@ -1,0 +1,203 @@
+#!/usr/bin/env bash
+# Runs all that is tested of the crate, but for what `cargo test` runs everywhere.
+#
+#     rust/check.sh [PART]..     these parts, or all:
+#
+#     erase            src/proved is what crates/ gives, token for token; the tests of tools/erase
+#     crate            with each feature, without a warning: its tests, clippy, the documentation, the layout, the package
+#     preconditions    no function with a `requires` is reached but those that forms.py lists
+#     rows             the worked rows, the tests in Rattle and the tool, erased
+#     beside           by chance, beside the library that make builds; COUNT inputs, and the SEED, which is the day's
+#     memory           each request for memory refused
+#     secrets          the path on a private key, under valgrind
+#     oldest           the crate and the rows, by Debian's rustc 1.85
+#     machines         rows, memory and beside for a 32-bit and a big-endian machine, by the same rustc, under qemu
+#
+# What is made stands in out/rust, or below OUT. It needs cargo with clippy and rustfmt, and python3; `beside`, `secrets`
+# and `machines` make and gcc, `secrets` valgrind, `oldest` and `machines` apt-get and Debian's packages from the network
+# (or a folder DEBIAN, into which they were unpacked), and `machines` qemu-user and gcc-{i686,s390x}-linux-gnu.
+set -eu
+cd "$(dirname "$0")/.."
+OUT=$(realpath -m "${OUT:-out/rust}")
+COUNT=${COUNT:-500000}
+SEED=${SEED:-$(date +%Y%j)}
+export CARGO_TARGET_DIR=$OUT/target CARGO_TERM_QUIET=true
+crate=rust/Cargo.toml check=rust/check/Cargo.toml
+rows=(crates/pkcs1_vectors/stdin crates/pkcs1_tool/rows)
+keys=(ffi/rust/tests/keys/{priv2,priv3,p8_2,p8_3}.der)
+parts=(erase crate preconditions rows beside memory secrets oldest machines)
+
+stop() {
+    printf 'rust/check.sh: %s\n' "$*" >&2
+    exit 1
+}
+needs() {
+    local it
+    for it; do
+        command -v "$it" > /dev/null || stop "$it isn't installed, and is needed"
+    done
+}
+
+erase() {
+    tools/erase/erase.py --check
+    tools/erase/compare.py
+    python3 tools/erase/test.py 2> "$OUT/log" || { cat "$OUT/log" >&2 && stop "tools/erase/test.py fails"; }
+    tail -n 3 "$OUT/log" | head -n 1
+}
+
+crate() {
+    local features
+    for features in "" alloc std; do
+        RUSTFLAGS="-D warnings" cargo test --manifest-path $crate --no-default-features --features "$features" > "$OUT/log" ||
+            { cat "$OUT/log" && stop "cargo test --features '$features' fails"; }
+        cargo clippy --manifest-path $crate --all-targets --no-default-features --features "$features" -- -D warnings
+    done
+    RUSTDOCFLAGS="-D warnings" cargo doc --manifest-path $crate --no-deps
+    cargo fmt --manifest-path $crate --check
+    cargo fmt --manifest-path $check --check
+    cargo package --manifest-path $crate --allow-dirty --offline
+    echo "crate: tests, clippy, documentation, layout and package, with no feature, alloc and std"
+}
+
+# planted COMMAND: with lib.rs changed by it, preconditions.py says that something can be reached.
+planted() {
+    rm -rf "$OUT/planted"
+    mkdir -p "$OUT/planted"
+    cp -r rust/src "$OUT/planted"
+    sed -i "$1" "$OUT/planted/src/lib.rs"
+    ! rust/preconditions.py "$OUT/planted" > "$OUT/log" || stop "preconditions.py doesn't notice $1"
+}
+preconditions() {
+    rust/preconditions.py
+    planted 's/^mod proved/pub mod proved/'
+    planted '$a pub use proved::spki_core::written_default;'
+    planted '$a pub use proved::der_core::{EncodeValue, Uint as U};'
+    planted '$a pub use proved::der_core::*;'
+    planted '$a pub trait Reached: proved::der_core::EncodeValue {}'
+}
+
+programs() {
+    tools/erase/erase.py --programs rust/check/src/programs > "$OUT/log"
+}
+# answers PROGRAM WORD..: the program answers the rows as they are to be.
+answers() {
+    "$@" < crates/pkcs1_vectors/stdin | cmp - crates/pkcs1_vectors/stdout || stop "$* answers the rows otherwise"
+}
+rows() {
+    programs
+    cargo build --manifest-path $check --bin vectors
+    answers "$CARGO_TARGET_DIR/debug/vectors"
+    cargo build --manifest-path $check --release --bin vectors --bin tool
+    answers "$CARGO_TARGET_DIR/release/vectors"
+    cargo test --manifest-path $check --release --lib > "$OUT/log" || { cat "$OUT/log" && stop "tests fail"; }
+    grep 'test result' "$OUT/log"
+    # A closed standard input or output is an empty one for Rust's standard library.
+    PROGRAMS=$CARGO_TARGET_DIR/release/tool crates/pkcs1_tool/run_built.sh > "$OUT/log" || true
+    grep -vE ': no standard (in|out)put: status 0, not 1; standard error: ; output: $' "$OUT/log" > "$OUT/left"
+    grep -qx '165 passed, 2 failed' "$OUT/left" && [ "$(wc -l < "$OUT/left")" = 2 ] || { cat "$OUT/log" && stop "the tool fails"; }
+    echo "rows: $(cat crates/pkcs1_vectors/stdout), and the tool does all but for closed streams"
+}
+
+# with_c LIBRARY COMPILER WORD..: out/rust/c has the C that the programs are linked with.
+with_c() {
+    mkdir -p "$OUT/$1"
+    "$2" -std=c99 -O2 -Wall -Wextra -Werror -pedantic -Iffi/include "${@:3}" -c rust/check/built.c -o "$OUT/$1/built.o"
+    cp "$OUT/$1/libpkcs1.a" "$OUT/$1/libbuilt.a"
+    ar rs "$OUT/$1/libbuilt.a" "$OUT/$1/built.o" 2> "$OUT/log"
+    export RUSTFLAGS="-L native=$OUT/$1"
+}
+native_c() {
+    needs make gcc ar
+    make --silent OUT="$OUT/c" CC=gcc "$OUT/c/libpkcs1.a" > "$OUT/log" 2>&1 || { cat "$OUT/log" && stop "make fails"; }
+    with_c c gcc "$@"
+    programs
+}
+beside() {
+    (native_c && cargo build --manifest-path $check --profile checked --features c --bin beside)
+    "$CARGO_TARGET_DIR/checked/beside" "$COUNT" "$SEED" "${rows[@]}"
+}
+memory() {
+    programs
+    cargo build --manifest-path $check --profile checked --bin refuse
+    "$CARGO_TARGET_DIR/checked/refuse" "${rows[@]}"
+}
+
+secrets() {
+    needs valgrind
+    (native_c -DWITH_VALGRIND && cargo build --manifest-path $check --release --features c --bin secrets)
+    valgrind --quiet --error-exitcode=9 "$CARGO_TARGET_DIR/release/secrets" "${keys[@]}" ||
+        stop "by $(rustc --version), the path on a private key depends on its secret numbers"
+    ! valgrind --error-exitcode=9 "$CARGO_TARGET_DIR/release/secrets" --leak "${keys[@]}" 2> "$OUT/log" ||
+        stop "a branch on a secret octet isn't noticed"
+    grep -q 'depends on uninitialised' "$OUT/log" || stop "a branch on a secret octet is noticed otherwise"
+    echo "secrets: by $(rustc --version), the path on ${#keys[@]} private keys doesn't depend on their secret numbers"
+}
+
+# debian_rust: Debian's rustc 1.85 for three machines, in a folder of its own, is what cargo calls.
+debian_rust() {
+    local version=1.85.0+dfsg3-1~deb12u3 root=${DEBIAN:-$OUT/debian} it
+    if [ ! -x "$root/usr/bin/rustc" ]; then
+        needs apt-get dpkg
+        mkdir -p "$OUT/apt/lists/partial" "$OUT/apt/archives/partial" "$root"
+        printf '%s\n' "Dir::State::lists \"$OUT/apt/lists\"; Dir::Cache \"$OUT/apt\"; APT::Sandbox::User \"\";" \
+            'APT::Architectures { "amd64"; "i386"; "s390x"; };' > "$OUT/apt.conf"
+        (export APT_CONFIG=$OUT/apt.conf && cd "$OUT/apt" && apt-get update; apt-get download rustc-web=$version \
+            libllvm19 libstd-rust-web-{1.85,dev,dev:i386,dev:s390x}=$version) > "$OUT/log" 2>&1 ||
+            { cat "$OUT/log" >&2 && stop "Debian's rustc $version isn't there"; }
+        for it in "$OUT"/apt/*.deb; do
+            dpkg -x "$it" "$root"
+        done
+        rm -rf "$OUT/apt"
+    fi
+    export LD_LIBRARY_PATH=$root/usr/lib/x86_64-linux-gnu RUSTC=$root/usr/bin/rustc RUSTDOC=$root/usr/bin/rustdoc
+    export CARGO_TARGET_DIR=$OUT/debian_target
+    "$RUSTC" --version | grep -q '^rustc 1\.85\.' || stop "$RUSTC is no rustc 1.85"
+}
+oldest() (
+    debian_rust
+    for features in "" alloc std; do
+        cargo test --manifest-path $crate --no-default-features --features "$features" > "$OUT/log" ||
+            { cat "$OUT/log" && stop "cargo test --features '$features' fails with rustc 1.85"; }
+    done
+    programs
+    cargo build --manifest-path $check --release --bin vectors
+    answers "$CARGO_TARGET_DIR/release/vectors"
+    echo "oldest: $("$RUSTC" --version), the tests with each feature, and the rows"
+)
+
+# on_machine TRIPLE COMPILER QEMU: rows, memory and beside, where each number of a row is a usize.
+on_machine() (
+    local run=("$3" -L "/usr/${2%-gcc}") made=$CARGO_TARGET_DIR/$1/checked
+    needs make "$2" "$3"
+    make --silent OUT="$OUT/$1" CC="$2" CODE=c "$OUT/$1/libpkcs1.a" > "$OUT/log" 2>&1 || { cat "$OUT/log" && stop "make fails"; }
+    with_c "$1" "$2"
+    RUSTFLAGS="$RUSTFLAGS -C linker=$2" cargo build --manifest-path $check --profile checked --target "$1" --features c \
+        --bin vectors --bin refuse --bin beside
+    if [ "$4" = 32 ]; then
+        grep -vE ' (4294967296|18446744073709551615)\b' crates/pkcs1_vectors/stdin
+    else
+        cat crates/pkcs1_vectors/stdin
+    fi > "$OUT/stdin"
+    "${run[@]}" "$made/vectors" < "$OUT/stdin" | grep -q '^[0-9]* rows held, 0 differ' || stop "$1 answers rows otherwise"
+    "${run[@]}" "$made/refuse" "${rows[@]}"
+    "${run[@]}" "$made/beside" $((COUNT / 20)) "$SEED" "${rows[@]}"
+    echo "machines: $1"
+)
+machines() (
+    debian_rust
+    programs
+    on_machine i686-unknown-linux-gnu i686-linux-gnu-gcc qemu-i386 32
+    on_machine s390x-unknown-linux-gnu s390x-linux-gnu-gcc qemu-s390x 64
+)
+
+[ $# -gt 0 ] || set -- "${parts[@]}"
+for part; do
+    [[ " ${parts[*]} " = *" $part "* ]] || stop "there is no part $part: it knows ${parts[*]}"
+done
+mkdir -p "$OUT"
+needs cargo python3
+TIMEFORMAT='%0R s, of processor time %0U s and %0S s of the system'
+for part; do
+    time "$part"
+    echo "rust/check.sh: $part: passed"
+done

@@ -1,0 +1,17 @@
+//! The text of the crate in `..`, with all of it in reach, and the programs in Rattle that test it, erased alike.
+#![no_std] // so that `Vec` and `ToString` are Rattle's
+#![forbid(unsafe_code)]
+#![allow(clippy::all, dead_code, unused_imports, unused_macros, unused_variables)]
+
+extern crate alloc;
+extern crate std;
+
+#[path = "../../src/clones.rs"]
+mod clones;
+#[rustfmt::skip]
+pub mod programs;
+#[path = "../../src/proved/mod.rs"]
+#[rustfmt::skip]
+pub mod proved;
+pub mod rattle_std;
+pub mod words;

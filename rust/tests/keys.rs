@@ -1,0 +1,131 @@
+//! Keys are read, and written as they were read.
+
+mod made;
+
+use pkcs1::der::{Decode, Encode, ErrorKind};
+use pkcs1::{Error, RsaPrivateKeyRef, RsaPublicKeyRef, Version};
+
+#[test]
+fn a_public_key_is_read_and_written() {
+    let der = made::public_key();
+    let key = RsaPublicKeyRef::try_from(&der[..]).unwrap();
+    assert_eq!(key.modulus.as_bytes(), [0xc1; 256]);
+    assert_eq!((key.modulus.bit_len(), key.public_exponent.as_bytes()), (2048, &[1, 0, 1][..]));
+    let mut room = [0x55; 300];
+    assert_eq!(key.encode_to_slice(&mut room).unwrap(), der);
+    assert!(room[der.len()..].iter().all(|octet| *octet == 0x55));
+}
+
+#[test]
+fn a_slice_too_short_is_left_as_it_was() {
+    let der = made::public_key();
+    let key = RsaPublicKeyRef::from_der(&der).unwrap();
+    let mut short = vec![0x55; der.len() - 1];
+    assert_eq!(key.encode_to_slice(&mut short).unwrap_err().kind(), ErrorKind::NoRoom);
+    assert!(short.iter().all(|octet| *octet == 0x55));
+    assert_eq!(key.encoded_len().unwrap().to_usize(), der.len());
+}
+
+#[test]
+fn a_private_key_of_two_primes_takes_no_memory() {
+    let der = made::private_key(0);
+    let key = RsaPrivateKeyRef::try_from(&der[..]).unwrap();
+    assert_eq!((key.version(), key.prime2.as_bytes()), (Version::TwoPrime, &[0x92; 128][..]));
+    assert!(key.other_prime_infos.is_none());
+    assert_eq!(key.clone().encode_to_slice(&mut [0; 1400]).unwrap(), der);
+    assert_eq!(key.public_key().modulus, key.modulus);
+}
+
+#[test]
+fn errors_say_what_is_wrong() {
+    let mut der = made::public_key();
+    der.push(0);
+    let error = RsaPublicKeyRef::try_from(&der[..]).unwrap_err();
+    assert!(matches!(error, Error::Asn1(inner) if inner.kind() == ErrorKind::TrailingData));
+    assert_eq!(error.to_string(), "PKCS#1 ASN.1 error: bytes follow the value");
+    let source = std::error::Error::source(&error).unwrap();
+    assert_eq!(source.to_string(), "bytes follow the value");
+    let negative = made::sequence(&[made::tlv(2, &[0x80]), made::tlv(2, &[3])]);
+    let error = RsaPublicKeyRef::try_from(&negative[..]).unwrap_err();
+    assert_eq!(error.to_string(), "PKCS#1 ASN.1 error: the value of tag 0x02 is not allowed");
+    fn fails() -> Result<(), Box<dyn std::error::Error + Send + Sync>> {
+        RsaPrivateKeyRef::try_from(&[0x30, 0][..])?;
+        Ok(())
+    }
+    assert_eq!(fails().unwrap_err().to_string(), "PKCS#1 ASN.1 error: the input ends too early");
+}
+
+#[test]
+fn no_secret_number_is_printed() {
+    let der = made::private_key(0);
+    let printed = format!("{:x?}", RsaPrivateKeyRef::try_from(&der[..]).unwrap());
+    assert!(printed.contains("c1, c1"));
+    for secret in ["d1, d1", "91, 91", "92, 92", "93, 93", "94, 94", "95, 95"] {
+        assert!(!printed.contains(secret), "{secret} in {printed}");
+    }
+}
+
+#[cfg(not(feature = "alloc"))]
+#[test]
+fn without_alloc_there_is_no_memory_for_more_primes() {
+    let der = made::private_key(1);
+    let error = RsaPrivateKeyRef::try_from(&der[..]).unwrap_err();
+    assert!(matches!(error, Error::Asn1(inner) if inner.kind() == ErrorKind::OutOfMemory));
+}
+
+#[cfg(feature = "alloc")]
+mod with_alloc {
+    use super::*;
+    use pkcs1::der::{Document, SecretDocument};
+    use pkcs1::{
+        DecodeRsaPrivateKey, DecodeRsaPublicKey, EncodeRsaPrivateKey, EncodeRsaPublicKey, RsaPrivateKeyOwned,
+        RsaPublicKeyOwned,
+    };
+
+    #[test]
+    fn other_primes_are_listed() {
+        let der = made::private_key(9);
+        let key = RsaPrivateKeyRef::try_from(&der[..]).unwrap();
+        assert_eq!((key.version(), key.other_prime_infos.as_ref().unwrap().len()), (Version::Multi, 9));
+        assert_eq!(key.to_der().unwrap(), der);
+    }
+
+    #[test]
+    fn owned_keys_are_read_cloned_and_written() {
+        for others in [0, 1, 3] {
+            let der = made::private_key(others);
+            let key = RsaPrivateKeyOwned::from_pkcs1_der(&der).unwrap().clone();
+            assert_eq!(key.to_pkcs1_der().unwrap().as_bytes(), der);
+            assert_eq!(RsaPrivateKeyOwned::try_from(&der[..]).unwrap().to_der().unwrap(), der);
+        }
+        let der = made::public_key();
+        let key = RsaPublicKeyOwned::from_pkcs1_der(&der).unwrap();
+        assert_eq!(key.clone().to_pkcs1_der().unwrap().as_bytes(), der);
+        assert_eq!(key, RsaPublicKeyOwned::from_der(&der).unwrap());
+    }
+
+    #[test]
+    fn documents_hold_one_sequence() {
+        let der = made::private_key(0);
+        let document = SecretDocument::try_from(&der[..]).unwrap();
+        assert!(!format!("{document:?}").contains("209"));
+        assert_eq!(document.decode_msg::<RsaPrivateKeyRef<'_>>().unwrap().prime1.as_bytes(), [0x91; 128]);
+        assert_eq!(Document::from_der(&der[..9]).unwrap_err().kind(), ErrorKind::Incomplete);
+    }
+}
+
+#[cfg(feature = "std")]
+#[test]
+fn keys_are_read_from_files_and_written_to_files() {
+    use pkcs1::{DecodeRsaPrivateKey, EncodeRsaPrivateKey, RsaPrivateKeyOwned};
+    let path = std::env::temp_dir().join(format!("key-{}.der", std::process::id()));
+    let der = made::private_key(1);
+    let key = RsaPrivateKeyOwned::from_pkcs1_der(&der).unwrap();
+    key.write_pkcs1_der_file(&path).unwrap();
+    assert_eq!(std::fs::read(&path).unwrap(), der);
+    let again = RsaPrivateKeyOwned::read_pkcs1_der_file(&path).unwrap();
+    assert_eq!(again.to_pkcs1_der().unwrap().as_bytes(), der);
+    std::fs::remove_file(&path).unwrap();
+    let error = RsaPrivateKeyOwned::read_pkcs1_der_file(&path).unwrap_err();
+    assert_eq!(error.to_string(), "PKCS#1 ASN.1 error: a read or a write failed");
+}

@@ -1,0 +1,47 @@
+//! Encodings for the tests.
+#![allow(dead_code)]
+
+/// An encoding of this tag and contents.
+pub fn tlv(tag: u8, contents: &[u8]) -> Vec<u8> {
+    let octets = contents.len().to_be_bytes();
+    let zeros = octets.iter().take_while(|octet| **octet == 0).count();
+    let length = &octets[zeros.min(octets.len() - 1)..];
+    let long = 0x80 | length.len() as u8;
+    let front: &[u8] = if contents.len() < 0x80 { &[] } else { &[long] };
+    [&[tag], front, length, contents].concat()
+}
+
+pub fn sequence(parts: &[Vec<u8>]) -> Vec<u8> {
+    tlv(0x30, &parts.concat())
+}
+
+/// The INTEGER of a number of so many octets, each of which is this one.
+pub fn number(len: usize, octet: u8) -> Vec<u8> {
+    let zero: &[u8] = if octet < 0x80 { &[] } else { &[0] };
+    tlv(2, &[zero, &vec![octet; len]].concat())
+}
+
+pub fn public_key() -> Vec<u8> {
+    sequence(&[number(256, 0xc1), tlv(2, &[1, 0, 1])])
+}
+
+/// A private key of 2048 bits, with so many primes past the second.
+pub fn private_key(others: usize) -> Vec<u8> {
+    let mut parts = vec![tlv(2, &[u8::from(others > 0)]), number(256, 0xc1), tlv(2, &[1, 0, 1])];
+    parts.push(number(256, 0xd1));
+    parts.extend((0..5).map(|at| number(128, 0x91 + at)));
+    if others > 0 {
+        let other = sequence(&[number(128, 0xe1), number(128, 0xe2), number(128, 0xe3)]);
+        parts.push(sequence(&vec![other; others]));
+    }
+    sequence(&parts)
+}
+
+/// The parameters of PSS with this identifier of a hash function, and this salt length.
+pub fn pss(oid: &[u8], salt_len: u8) -> Vec<u8> {
+    let hash = sequence(&[tlv(6, oid), tlv(5, &[])]);
+    let mask_gen = sequence(&[tlv(6, &[0x2a, 0x86, 0x48, 0x86, 0xf7, 0x0d, 1, 1, 8]), hash.clone()]);
+    sequence(&[tlv(0xa0, &hash), tlv(0xa1, &mask_gen), tlv(0xa2, &tlv(2, &[salt_len]))])
+}
+
+pub const SHA_256: &[u8] = &[0x60, 0x86, 0x48, 1, 0x65, 3, 4, 2, 1];
