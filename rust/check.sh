@@ -76,20 +76,21 @@ preconditions() {
     planted '$a pub trait Reached: proved::der_core::EncodeValue {}'
 }
 
-programs() {
+# program NAME WORD..: builds a program in Rattle, by these words for cargo.
+program() {
     tools/erase/erase.py --programs rust/check/src/programs > "$OUT/log"
+    cargo build --manifest-path $check --features programs --bin "$@"
 }
 # answers PROGRAM WORD..: the program answers the rows as they are to be.
 answers() {
     "$@" < crates/pkcs1_vectors/stdin | cmp - crates/pkcs1_vectors/stdout || stop "$* answers the rows otherwise"
 }
 rows() {
-    programs
-    cargo build --manifest-path $check --bin vectors
+    program vectors
     answers "$CARGO_TARGET_DIR/debug/vectors"
-    cargo build --manifest-path $check --release --bin vectors --bin tool
+    program vectors --bin tool --release
     answers "$CARGO_TARGET_DIR/release/vectors"
-    cargo test --manifest-path $check --release --lib > "$OUT/log" || { cat "$OUT/log" && stop "tests fail"; }
+    cargo test --manifest-path $check --features programs --lib > "$OUT/log" || { cat "$OUT/log" && stop "tests fail"; }
     grep 'test result' "$OUT/log"
     # A closed standard input or output is an empty one for Rust's standard library.
     PROGRAMS=$CARGO_TARGET_DIR/release/tool crates/pkcs1_tool/run_built.sh > "$OUT/log" || true
@@ -98,33 +99,34 @@ rows() {
     echo "rows: $(cat crates/pkcs1_vectors/stdout), and the tool does all but for closed streams"
 }
 
-# with_c LIBRARY COMPILER WORD..: out/rust/c has the C that the programs are linked with.
+# with_c COMPILER FOLDER WORD..: the folder has the C that programs are linked with, as make builds it by these words.
 with_c() {
-    mkdir -p "$OUT/$1"
-    "$2" -std=c99 -O2 -Wall -Wextra -Werror -pedantic -Iffi/include "${@:3}" -c rust/check/built.c -o "$OUT/$1/built.o"
-    cp "$OUT/$1/libpkcs1.a" "$OUT/$1/libbuilt.a"
-    ar rs "$OUT/$1/libbuilt.a" "$OUT/$1/built.o" 2> "$OUT/log"
-    export RUSTFLAGS="-L native=$OUT/$1"
+    needs make "$1" ar
+    make --silent OUT="$2" CC="$1" "${@:3}" "$2/libpkcs1.a" > "$OUT/log" 2>&1 || { cat "$OUT/log" && stop "make fails"; }
+    "$1" -std=c99 -O2 -Wall -Wextra -Werror -pedantic -Iffi/include -c rust/check/built.c -o "$2/built.o"
+    cp "$2/libpkcs1.a" "$2/libbuilt.a"
+    ar rs "$2/libbuilt.a" "$2/built.o" 2> "$OUT/log"
 }
-native_c() {
-    needs make gcc ar
-    make --silent OUT="$OUT/c" CC=gcc "$OUT/c/libpkcs1.a" > "$OUT/log" 2>&1 || { cat "$OUT/log" && stop "make fails"; }
-    with_c c gcc "$@"
-    programs
+# linked NAME FOLDER WORD..: builds a program of the check with the C in the folder, by these words for cargo.
+linked() {
+    cargo rustc --manifest-path $check --bin "$1" "${@:3}" -- -L "native=$2"
 }
 beside() {
-    (native_c && cargo build --manifest-path $check --profile checked --features c --bin beside)
+    with_c gcc "$OUT/c"
+    linked beside "$OUT/c" --profile checked
     "$CARGO_TARGET_DIR/checked/beside" "$COUNT" "$SEED" "${rows[@]}"
 }
 memory() {
-    programs
     cargo build --manifest-path $check --profile checked --bin refuse
     "$CARGO_TARGET_DIR/checked/refuse" "${rows[@]}"
 }
 
 secrets() {
     needs valgrind
-    (native_c -DWITH_VALGRIND && cargo build --manifest-path $check --release --features c --bin secrets)
+    with_c gcc "$OUT/c"
+    gcc -O2 -c rust/check/marks.c -o "$OUT/c/marks.o"
+    ar rs "$OUT/c/libbuilt.a" "$OUT/c/marks.o" 2> "$OUT/log"
+    linked secrets "$OUT/c" --release
     valgrind --quiet --error-exitcode=9 "$CARGO_TARGET_DIR/release/secrets" "${keys[@]}" ||
         stop "by $(rustc --version), the path on a private key depends on its secret numbers"
     ! valgrind --error-exitcode=9 "$CARGO_TARGET_DIR/release/secrets" --leak "${keys[@]}" 2> "$OUT/log" ||
@@ -159,35 +161,32 @@ oldest() (
         cargo test --manifest-path $crate --no-default-features --features "$features" > "$OUT/log" ||
             { cat "$OUT/log" && stop "cargo test --features '$features' fails with rustc 1.85"; }
     done
-    programs
-    cargo build --manifest-path $check --release --bin vectors
-    answers "$CARGO_TARGET_DIR/release/vectors"
+    program vectors
+    answers "$CARGO_TARGET_DIR/debug/vectors"
     echo "oldest: $("$RUSTC" --version), the tests with each feature, and the rows"
 )
 
-# on_machine TRIPLE COMPILER QEMU: rows, memory and beside, where each number of a row is a usize.
+# on_machine TRIPLE COMPILER QEMU ROWS: these rows, memory and beside.
 on_machine() (
-    local run=("$3" -L "/usr/${2%-gcc}") made=$CARGO_TARGET_DIR/$1/checked
-    needs make "$2" "$3"
-    make --silent OUT="$OUT/$1" CC="$2" CODE=c "$OUT/$1/libpkcs1.a" > "$OUT/log" 2>&1 || { cat "$OUT/log" && stop "make fails"; }
-    with_c "$1" "$2"
-    RUSTFLAGS="$RUSTFLAGS -C linker=$2" cargo build --manifest-path $check --profile checked --target "$1" --features c \
-        --bin vectors --bin refuse --bin beside
-    if [ "$4" = 32 ]; then
-        grep -vE ' (4294967296|18446744073709551615)\b' crates/pkcs1_vectors/stdin
-    else
-        cat crates/pkcs1_vectors/stdin
-    fi > "$OUT/stdin"
-    "${run[@]}" "$made/vectors" < "$OUT/stdin" | grep -q '^[0-9]* rows held, 0 differ' || stop "$1 answers rows otherwise"
+    local run=("$3" -L "/usr/${2%-gcc}") made=$CARGO_TARGET_DIR/$1/checked name
+    needs "$3"
+    with_c "$2" "$OUT/$1" CODE=c
+    export RUSTFLAGS="-C linker=$2"
+    program vectors --profile checked --target "$1"
+    for name in refuse beside; do
+        linked $name "$OUT/$1" --features programs --profile checked --target "$1"
+    done
+    "${run[@]}" "$made/vectors" < "$4" | grep '^[0-9]* rows held, 0 differ' || stop "$1 answers rows otherwise"
     "${run[@]}" "$made/refuse" "${rows[@]}"
     "${run[@]}" "$made/beside" $((COUNT / 20)) "$SEED" "${rows[@]}"
     echo "machines: $1"
 )
 machines() (
     debian_rust
-    programs
-    on_machine i686-unknown-linux-gnu i686-linux-gnu-gcc qemu-i386 32
-    on_machine s390x-unknown-linux-gnu s390x-linux-gnu-gcc qemu-s390x 64
+    # Four rows name a number that no usize of 32 bits holds.
+    grep -vE ' (4294967296|18446744073709551615)\b' crates/pkcs1_vectors/stdin > "$OUT/rows_of_32_bits"
+    on_machine i686-unknown-linux-gnu i686-linux-gnu-gcc qemu-i386 "$OUT/rows_of_32_bits"
+    on_machine s390x-unknown-linux-gnu s390x-linux-gnu-gcc qemu-s390x crates/pkcs1_vectors/stdin
 )
 
 [ $# -gt 0 ] || set -- "${parts[@]}"

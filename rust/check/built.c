@@ -1,20 +1,8 @@
 /* What the calls of pkcs1.h answer, as octets: the status, then the parts of the value, each with its length in front,
- * and what is written of it again. And marks for valgrind. */
+ * and what is written of it again. */
 #include <pkcs1.h>
 #include <stdlib.h>
 #include <string.h>
-#ifdef WITH_VALGRIND
-#include <valgrind/memcheck.h>
-
-void hide(void *octets, size_t len);
-void show(void *octets, size_t len);
-void hide(void *octets, size_t len) {
-    VALGRIND_MAKE_MEM_UNDEFINED(octets, len);
-}
-void show(void *octets, size_t len) {
-    VALGRIND_MAKE_MEM_DEFINED(octets, len);
-}
-#endif
 
 enum { OTHERS = 1024, ROOM = 1 << 16 };
 static struct pkcs1_other_prime others[OTHERS];

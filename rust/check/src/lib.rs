@@ -8,6 +8,7 @@ extern crate std;
 
 #[path = "../../src/clones.rs"]
 mod clones;
+#[cfg(feature = "programs")]
 #[rustfmt::skip]
 pub mod programs;
 #[path = "../../src/proved/mod.rs"]

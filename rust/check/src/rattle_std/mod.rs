@@ -111,6 +111,7 @@ pub mod fs {
     }
 }
 
+#[cfg(feature = "programs")]
 pub mod test {
     use super::alloc::{AllocError, AllocFailed};
 
