@@ -64,3 +64,7 @@ pub use traits::{EncodeRsaPrivateKey, EncodeRsaPublicKey};
 pub mod spki {
     pub use crate::proved::spki_core::{AlgorithmIdentifier, AlgorithmIdentifierRef};
 }
+
+#[cfg(doctest)]
+#[doc = include_str!("../README.md")]
+struct Readme;
