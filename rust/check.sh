@@ -4,18 +4,19 @@
 #     rust/check.sh [PART]..     these parts, or all:
 #
 #     erase            src/proved is what crates/ gives, token for token; the tests of tools/erase
-#     crate            with each feature, without a warning: its tests, clippy, the documentation, the layout, the package
+#     crate            with each feature, without a warning: its tests, clippy, documentation, layout and package
 #     preconditions    no function with a `requires` is reached but those that forms.py lists
 #     rows             the worked rows, the tests in Rattle and the tool, erased
-#     beside           by chance, beside the library that make builds; COUNT inputs, and the SEED, which is the day's
+#     beside           COUNT inputs by chance, beside the library that make builds; the SEED is another one each day
 #     memory           each request for memory refused
 #     secrets          the path on a private key, under valgrind
 #     oldest           the crate and the rows, by Debian's rustc 1.85
 #     machines         rows, memory and beside for a 32-bit and a big-endian machine, by the same rustc, under qemu
 #
-# What is made stands in out/rust, or below OUT. It needs cargo with clippy and rustfmt, and python3; `beside`, `secrets`
-# and `machines` make and gcc, `secrets` valgrind, `oldest` and `machines` apt-get and Debian's packages from the network
-# (or a folder DEBIAN, into which they were unpacked), and `machines` qemu-user and gcc-{i686,s390x}-linux-gnu.
+# What is made stands in out/rust, or below OUT. It needs cargo with clippy and rustfmt, and python3. `beside`,
+# `secrets` and `machines` need make and gcc, `secrets` valgrind too, and `machines` qemu-user and
+# gcc-{i686,s390x}-linux-gnu. `oldest` and `machines` need apt-get and Debian's packages from the network, or a folder
+# DEBIAN into which they were unpacked. Nothing is installed.
 set -eu
 cd "$(dirname "$0")/.."
 OUT=$(realpath -m "${OUT:-out/rust}")
@@ -38,18 +39,31 @@ needs() {
     done
 }
 
+# quietly WHAT COMMAND..: what the command prints is shown if it fails.
+quietly() {
+    "${@:2}" > "$OUT/log" 2>&1 || { cat "$OUT/log" >&2 && stop "$1 fails"; }
+}
+
 erase() {
     tools/erase/erase.py --check
     tools/erase/compare.py
-    python3 tools/erase/test.py 2> "$OUT/log" || { cat "$OUT/log" >&2 && stop "tools/erase/test.py fails"; }
-    tail -n 3 "$OUT/log" | head -n 1
+    quietly tools/erase/test.py tools/erase/test.py
+    grep '^Ran' "$OUT/log"
+}
+
+# tests: the crate's, with each feature.
+tests() {
+    local features
+    for features in "" alloc std; do
+        quietly "cargo test --features '$features'" \
+            cargo test --manifest-path $crate --no-default-features --features "$features"
+    done
 }
 
 crate() {
     local features
+    RUSTFLAGS="-D warnings" tests
     for features in "" alloc std; do
-        RUSTFLAGS="-D warnings" cargo test --manifest-path $crate --no-default-features --features "$features" > "$OUT/log" ||
-            { cat "$OUT/log" && stop "cargo test --features '$features' fails"; }
         cargo clippy --manifest-path $crate --all-targets --no-default-features --features "$features" -- -D warnings
     done
     RUSTDOCFLAGS="-D warnings" cargo doc --manifest-path $crate --no-deps
@@ -90,19 +104,20 @@ rows() {
     answers "$CARGO_TARGET_DIR/debug/vectors"
     program vectors --bin tool --release
     answers "$CARGO_TARGET_DIR/release/vectors"
-    cargo test --manifest-path $check --features programs --lib > "$OUT/log" || { cat "$OUT/log" && stop "tests fail"; }
+    quietly "cargo test" cargo test --manifest-path $check --features programs --lib
     grep 'test result' "$OUT/log"
     # A closed standard input or output is an empty one for Rust's standard library.
     PROGRAMS=$CARGO_TARGET_DIR/release/tool crates/pkcs1_tool/run_built.sh > "$OUT/log" || true
     grep -vE ': no standard (in|out)put: status 0, not 1; standard error: ; output: $' "$OUT/log" > "$OUT/left"
-    grep -qx '165 passed, 2 failed' "$OUT/left" && [ "$(wc -l < "$OUT/left")" = 2 ] || { cat "$OUT/log" && stop "the tool fails"; }
+    [ "$(tail -n 1 "$OUT/left")" = '165 passed, 2 failed' ] && [ "$(wc -l < "$OUT/left")" = 2 ] ||
+        { cat "$OUT/log" >&2 && stop "the tool fails"; }
     echo "rows: $(cat crates/pkcs1_vectors/stdout), and the tool does all but for closed streams"
 }
 
 # with_c COMPILER FOLDER WORD..: the folder has the C that programs are linked with, as make builds it by these words.
 with_c() {
     needs make "$1" ar
-    make --silent OUT="$2" CC="$1" "${@:3}" "$2/libpkcs1.a" > "$OUT/log" 2>&1 || { cat "$OUT/log" && stop "make fails"; }
+    quietly make make --silent OUT="$2" CC="$1" "${@:3}" "$2/libpkcs1.a"
     "$1" -std=c99 -O2 -Wall -Wextra -Werror -pedantic -Iffi/include -c rust/check/built.c -o "$2/built.o"
     cp "$2/libpkcs1.a" "$2/libbuilt.a"
     ar rs "$2/libbuilt.a" "$2/built.o" 2> "$OUT/log"
@@ -143,9 +158,13 @@ debian_rust() {
         mkdir -p "$OUT/apt/lists/partial" "$OUT/apt/archives/partial" "$root"
         printf '%s\n' "Dir::State::lists \"$OUT/apt/lists\"; Dir::Cache \"$OUT/apt\"; APT::Sandbox::User \"\";" \
             'APT::Architectures { "amd64"; "i386"; "s390x"; };' > "$OUT/apt.conf"
-        (export APT_CONFIG=$OUT/apt.conf && cd "$OUT/apt" && apt-get update; apt-get download rustc-web=$version \
-            libllvm19 libstd-rust-web-{1.85,dev,dev:i386,dev:s390x}=$version) > "$OUT/log" 2>&1 ||
-            { cat "$OUT/log" >&2 && stop "Debian's rustc $version isn't there"; }
+        (
+            export APT_CONFIG=$OUT/apt.conf
+            cd "$OUT/apt"
+            apt-get update || true # where other repositories have no list for these machines
+            quietly "to fetch Debian's rustc $version" apt-get download libllvm19 rustc-web=$version \
+                libstd-rust-web-{1.85,dev,dev:i386,dev:s390x}=$version
+        ) > "$OUT/update" 2>&1 || { cat "$OUT/update" >&2 && exit 1; }
         for it in "$OUT"/apt/*.deb; do
             dpkg -x "$it" "$root"
         done
@@ -157,10 +176,7 @@ debian_rust() {
 }
 oldest() (
     debian_rust
-    for features in "" alloc std; do
-        cargo test --manifest-path $crate --no-default-features --features "$features" > "$OUT/log" ||
-            { cat "$OUT/log" && stop "cargo test --features '$features' fails with rustc 1.85"; }
-    done
+    tests
     program vectors
     answers "$CARGO_TARGET_DIR/debug/vectors"
     echo "oldest: $("$RUSTC" --version), the tests with each feature, and the rows"

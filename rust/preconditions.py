@@ -1,5 +1,5 @@
 #!/usr/bin/env python3
-"""preconditions.py [CRATE]: no function with a `requires` is reached from outside of this folder's crate, or of another.
+"""preconditions.py [CRATE]: no function with a `requires` is reached from outside of rust/, or of this crate.
 
 Rust doesn't check what a `requires` asks for. The text that is made of crates/ stands in a private module. So from
 outside are reached: what a `pub use` names, methods of types, and methods of a trait that is named, or that is above
@@ -56,8 +56,8 @@ def named(crate):
         for use in re.findall(r"pub use ([^;]*);", text):
             words |= set(re.findall(r"\w+|\*", use))
         wrong += [f"{path}: {it} can be reached" for it in re.findall(r"pub mod (?:proved|rattle_std)\b", text)]
-        wrong += [f"{path}: the trait is below {it}" for it in re.findall(r"pub trait [^:{]*:([^{]*)\{", text)
-                  if it.strip() != "Sized"]
+        above = re.findall(r"pub trait [^:{]*:([^{]*)\{", text)
+        wrong += [f"{path}: a trait is below {it}" for it in above if it.strip() != "Sized"]
     return words, wrong + (["a `pub use` names all of a module"] if "*" in words else [])
 
 
@@ -70,8 +70,9 @@ def main():
             reached.add(function)
     wrong += [f"{it} has a `requires`, and can be reached" for it in sorted(reached - REACHABLE.keys())]
     wrong += [f"{it} can't be reached, and stands in forms.py" for it in sorted(REACHABLE.keys() - reached)]
-    print("\n".join(wrong) or f"preconditions: of {sum(count.values())} functions with a `requires` that are public or of "
-          f"a trait, these can be reached: {', '.join(f'{it} ({REACHABLE[it]})' for it in sorted(reached))}")
+    listed = ", ".join(f"{it} ({REACHABLE[it]})" for it in sorted(reached & REACHABLE.keys()))
+    print("\n".join(wrong) or f"preconditions: of {sum(count.values())} functions with a `requires` that are public or "
+          f"of a trait, these can be reached: {listed}")
     sys.exit(bool(wrong))
 
 

@@ -4,6 +4,9 @@
 #include <stdlib.h>
 #include <string.h>
 
+typedef uint32_t decode_pss(const uint8_t *der, size_t der_len, struct pkcs1_pss_params *params);
+typedef uint32_t decode_oaep(const uint8_t *der, size_t der_len, struct pkcs1_oaep_params *params);
+
 enum { OTHERS = 1024, ROOM = 1 << 16 };
 static struct pkcs1_other_prime others[OTHERS];
 static uint8_t out[ROOM];
@@ -81,7 +84,7 @@ static uint32_t container(const uint8_t *der, size_t len) {
     TELL_WRITTEN(pkcs1_private_key_info_encode, &info);
     return PKCS1_OK;
 }
-static uint32_t pss(const uint8_t *der, size_t len, uint32_t (*decode)(const uint8_t *, size_t, struct pkcs1_pss_params *)) {
+static uint32_t pss(const uint8_t *der, size_t len, decode_pss *decode) {
     struct pkcs1_pss_params params;
     uint32_t status = decode(der, len, &params);
     if (status != PKCS1_OK)
@@ -92,7 +95,7 @@ static uint32_t pss(const uint8_t *der, size_t len, uint32_t (*decode)(const uin
     TELL_WRITTEN(pkcs1_pss_algorithm_encode, &params);
     return PKCS1_OK;
 }
-static uint32_t oaep(const uint8_t *der, size_t len, uint32_t (*decode)(const uint8_t *, size_t, struct pkcs1_oaep_params *)) {
+static uint32_t oaep(const uint8_t *der, size_t len, decode_oaep *decode) {
     struct pkcs1_oaep_params params;
     struct pkcs1_bytes label;
     uint32_t status = decode(der, len, &params);
@@ -109,10 +112,10 @@ static uint32_t oaep(const uint8_t *der, size_t len, uint32_t (*decode)(const ui
 /* Writes what the reader of this number answers, and returns how many octets that takes. */
 size_t built_answer(unsigned reader, const uint8_t *der, size_t len, uint8_t *answer);
 size_t built_answer(unsigned reader, const uint8_t *der, size_t len, uint8_t *answer) {
-    static uint32_t (*const pss_calls[])(const uint8_t *, size_t, struct pkcs1_pss_params *) = {
+    static decode_pss *const pss_calls[] = {
         pkcs1_pss_params_decode, pkcs1_pss_params_decode_strict, pkcs1_pss_algorithm_decode,
         pkcs1_pss_algorithm_decode_strict};
-    static uint32_t (*const oaep_calls[])(const uint8_t *, size_t, struct pkcs1_oaep_params *) = {
+    static decode_oaep *const oaep_calls[] = {
         pkcs1_oaep_params_decode, pkcs1_oaep_params_decode_strict, pkcs1_oaep_algorithm_decode,
         pkcs1_oaep_algorithm_decode_strict};
     told = answer + 1;

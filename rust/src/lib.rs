@@ -12,9 +12,9 @@
 //! # Ok::<(), pkcs1::Error>(())
 //! ```
 //!
-//! The functions that read and write are those of crates in the language Rattle, of which a machine has proved that they
-//! do what their contracts say. They stand in `src/proved`, without the contracts. This crate and the compiler aren't
-//! proved, but tested beside the library that was built with the proof.
+//! The functions that read and write are those of crates in the language Rattle, of which a machine has proved that
+//! they do what their contracts say. They stand in `src/proved`, without the contracts. This crate and the compiler
+//! aren't proved, but tested beside the library that is built of what the proof's own compiler made.
 //!
 //! There is no `unsafe`, and no dependency. Without the feature `alloc`, whatever wants memory returns `OutOfMemory`.
 #![no_std]
@@ -34,7 +34,7 @@ pub mod der;
 #[cfg(feature = "alloc")]
 mod documents;
 mod idioms;
-// Without the proof, names are left that only contracts used, and functions that only they called. The style is Rattle's.
+// Without the proof, names are left that only contracts used, and functions that only they called.
 #[rustfmt::skip]
 #[allow(
     clippy::complexity,

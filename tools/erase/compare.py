@@ -15,8 +15,9 @@ TOP = pathlib.Path(__file__).resolve().parents[2]
 CRATES = ["der_core", "spki_core", "pkcs1_params", "pkcs1", "pkcs8_core"]
 MAY_BE_REACHED = ["new_with_label"]  # though it has a `requires`
 PRELUDE = {"Vec", "vec"}
-TOKEN = re.compile(r"""//[^\n]* | (?P<kept>
-    b?"(?:\\.|[^"\\])*" | b?'(?:\\[^\n][^'\n]*|[^'\\\n])' | '[a-z_]\w* | \w+ | :: | -> | => | \.\.=? | \S)""", re.X | re.S)
+TOKEN = re.compile(r"""
+    //[^\n]* | (?P<kept> b?"(?:\\.|[^"\\])*" | b?'(?:\\[^\n][^'\n]*|[^'\\\n])' | '[a-z_]\w* | \w+
+    | :: | -> | => | \.\.=? | \S)""", re.X | re.S)
 OPEN, CLOSE = ("(", "[", "{"), (")", "]", "}")
 
 
@@ -56,7 +57,7 @@ class Source:
         return all(self[at + n] == word for n, word in enumerate(phrase.split()))
 
     def until(self, at, ends):
-        """The next of these signs from here on that stands outside brackets, or the bracket that closes those around."""
+        """The next of these signs that stands outside brackets, or the bracket that closes those around."""
         while self[at] not in ends and self[at] not in CLOSE:
             at = self.behind[at] if self[at] in OPEN else at + 1
             if at >= len(self.words):

@@ -17,7 +17,8 @@ MOVED = {it: f"crate::proved::{it}" for it in LIBRARY} | {it: f"crate::programs:
 REACHABLE = {"new_with_label": "of a label above Length::MAX it panics"}
 PRELUDE = ("Vec", "String", "ToString", "HostRuntime", "Eprint")
 PRELUDE_MACROS = ("vec", "format", "println", "eprintln", "assert", "assert_eq", "assert_ne")
-UNKNOWN = ("prove", "prove_eq", "prove_ne", "ghost", "requires", "ensures", "invariant", "decreases", "Drop", "derive_where")
+UNKNOWN = ("prove", "prove_eq", "prove_ne", "ghost", "requires", "ensures", "invariant", "decreases", "Drop",
+           "derive_where")
 
 
 @dataclass(frozen=True)
@@ -232,5 +233,6 @@ def refused(code, at):
         raise Refused(f"line {code.line(at)}: no form is known here: {around!r}")
 
 
-FORMS = (ghost_item, clauses, tactic, derive_of_drop, bound_of_drop, final, clone_that_may_fail, writer_of_fmt, formatter,
-         derive_where, path, method_with_requires, field_with_invariant, main_of_program, runtime_of_test, refused)
+FORMS = (ghost_item, clauses, tactic, derive_of_drop, bound_of_drop, final, clone_that_may_fail, writer_of_fmt,
+         formatter, derive_where, path, method_with_requires, field_with_invariant, main_of_program, runtime_of_test,
+         refused)

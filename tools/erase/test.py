@@ -108,7 +108,8 @@ class Comparison(unittest.TestCase):
         self.assertIsNone(first_difference("fn f() {}", f"{line} fn f() {{}}"))
         self.assertEqual(first_difference("fn f() {}", f"{line} {line} fn f() {{}}"), ("fn", "use"))
         self.assertEqual(first_difference("fn f() {}", f"fn f() {{ {line} }}"), ("}", "use"))
-        self.assertEqual(first_difference("fn f() {}", f"{line.replace('Vec', '{Vec, u8}')} fn f() {{}}"), ("fn", "use"))
+        more = line.replace("Vec", "{Vec, u8}")
+        self.assertEqual(first_difference("fn f() {}", f"{more} fn f() {{}}"), ("fn", "use"))
 
 
 class Planted(unittest.TestCase):

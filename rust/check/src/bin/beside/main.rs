@@ -1,7 +1,7 @@
 //! beside COUNT SEED ROWS..: the crate beside the library that is built of what the proof's own compiler made.
 //!
-//! Each reader is given the encodings in the files of worked rows, and COUNT inputs that are made by chance. Both answer
-//! the same: the value or the status, and what is written again. Prints the first inputs with another answer.
+//! Each reader is given the encodings in the files of worked rows, and COUNT inputs that are made by chance. Both
+//! answer the same: the value or the status, and what is written again. Prints the first inputs with another answer.
 
 mod answers;
 mod inputs;
