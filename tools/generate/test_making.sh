@@ -8,6 +8,7 @@ room=$(mktemp -d)
 trap 'rm -rf "$room"' EXIT
 tree=$room/tree
 export PATH=$room/kit/bin:$PATH
+unset CRATES # the tree has its own
 
 stop() {
     printf 'tools/generate/test_making.sh: %s\n' "$*" >&2
