@@ -103,11 +103,9 @@ pub struct Open;
 pub struct Secret;
 
 /// One whole SEQUENCE, of at most `Length::MAX` bytes. `S` says whether it is open or secret.
-#[derive(Drop)]
-#[derive_where(PartialEq, Eq; S)]
+#[derive(Drop, PartialEq, Eq)]
 pub struct DocumentOf<S> {
     bytes: Vec<u8>,
-    #[derive_where(skip)]
     secrecy: PhantomData<S>,
     ghost whole: { IsDocument bytes.items } by { IsDocument-prop bytes.items },
 }

@@ -10,7 +10,9 @@ use crate::error::{ErrorKind, Result};
 use crate::grammar::{Contents, Encoding, SequenceTag, TaggedBy};
 use crate::header::Header;
 use crate::length::Length;
+use crate::quick::quick_contents;
 use crate::reader::Reader;
+use crate::tag::Tag;
 use crate::writer::Writer;
 use std::alloc::Global;
 
@@ -60,6 +62,22 @@ impl<'a, T: Decode<&'a [u8], Global>> DecodeValue<&'a [u8], Global> for Vec<T> {
             }
         }
         Ok(items)
+    }
+
+    #[inline(always)]
+    fn quick_split(bytes: &'a [u8], tag: Tag) -> Option<(&'a [u8], &'a [u8])> {
+        quick_contents(bytes, tag)
+    }
+
+    fn quick_value(memory: Global, contents: &'a [u8]) -> Option<Vec<T>> {
+        let mut items = Vec::new(memory);
+        let mut left = contents;
+        while !left.is_empty() {
+            let (item, behind) = T::quick(memory, left)?;
+            items.push(item).ok()?;
+            left = behind;
+        }
+        Some(items)
     }
 }
 

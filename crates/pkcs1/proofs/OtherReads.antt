@@ -1,6 +1,6 @@
 -- Reading the other primes of a private key, whatever holds them.
-use Rattle.std.proofs.Common.{◌≡◌, ◌↔◌, ℕ, ◌==◌, List, [], ◌∷◌, length, refl, sym, ap, ◌∙◌, arith, Option, inr, Some, None, Ok, Err, Bool, true, false, IsTrue, is_some, if◌then◌else◌, not, ◌≤◌, slice_index_or, Result, option_map}
-use Rattle.der_core.specs.Words.{nat_tests, Input, read_from, end_of, ok_pair, bind_ok, ok_same, FrontReading, ◌>>=◌, alone, ended, optional, tagged, integer, sequence}
+use Rattle.std.proofs.Common.{◌≡◌, ◌↔◌, ℕ, ◌==◌, List, [], ◌∷◌, length, refl, sym, ap, ◌∙◌, arith, Option, inr, Some, None, Ok, Err, Bool, true, false, IsTrue, is_some, if◌then◌else◌, not, Result, option_map}
+use Rattle.der_core.specs.Words.{Input, read_from, end_of, ok_pair, bind_ok, ok_same, FrontReading, ◌>>=◌, alone, ended, is_next, optional, tagged, integer, sequence}
 use mathlib.Core.Bool.{beq}
 use Rattle.der_core.specs.declared.error.ErrorKind.{ErrorKind}
 use Rattle.der_core.specs.declared.error.ErrorKind.TheVariants as kind
@@ -10,13 +10,12 @@ use Rattle.pkcs1.specs.declared.version.Version.TheVariants.{TwoPrime, Multi}
 use Rattle.pkcs1.specs.Words.{agreed, lists_none, others_read, primes_read, OtherPrime, version_of, number_of}
 
 -- All of some bytes are a list that isn't empty.
-pub others_taken : {V : Type 0} (at : FrontReading V) (b : List ℕ) (primes : List (OtherPrime V)) → 1 ≤ length b
-    → slice_index_or b 0 0 ≡ 48 → alone (tagged sequence (primes_read at)) b ≡ Ok primes → (length primes ≡ 0 → ⊥)
+pub others_taken : {V : Type 0} (at : FrontReading V) (b : List ℕ) (primes : List (OtherPrime V)) → is_next 48 b ≡ true
+    → alone (tagged sequence (primes_read at)) b ≡ Ok primes → (length primes ≡ 0 → ⊥)
     → others_read at 1 b ≡ Ok (Some primes)
-others_taken at [] primes l t read some = absurd (omega (arith, l))
-others_taken {V} at (x ∷ xs) primes l t read some =
+others_taken at [] primes next read some = cc
+others_taken {V} at (x ∷ xs) primes next read some =
     let s = bind_ok (tagged sequence (primes_read at) (x ∷ xs)) (λ p. ended p.0 p.1) read in
-    let next : (x == 48) ≡ true = grind (arith, nat_tests, t) in
     ap (λ b. judged (if b then found (tagged sequence (primes_read at) (x ∷ xs)) else Ok (None, x ∷ xs))) next
     ∙ ap (λ r. judged (found r)) s.1
     ∙ go s.0.0 s.0.1 s.2

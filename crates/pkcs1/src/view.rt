@@ -11,7 +11,7 @@ use crate::public_key::{RsaPublicKey, RsaPublicKeyRef};
 use crate::version::Version;
 use der_core::{
     Contents, Decode, DecodeFront, DecodeValue, ErrorKind, Header, NoMemory, Reader, Result, Tag,
-    UintRef, decode_optional, quick_alone, quick_contents,
+    UintRef, begins_with, decode_optional, quick_alone, quick_contents,
 };
 use pkcs1_params::Error;
 use std::fmt;
@@ -53,16 +53,14 @@ fn read_listed<'a, R: Reader<&'a [u8]>>(
 fn quick_others(bytes: &[u8]) -> Option<OtherPrimes<'_>>
     ensures { IfSome result (λ others. others_read number 1 bytes.now ≡ Ok (Some (others_left others))) }
 {
-    match bytes {
-        [first, ..] if *first == Tag::SEQUENCE.octet() => {
-            let others: OtherPrimes<'_> = quick_alone(NoMemory, bytes)?;
-            if others.remaining() == 0 {
-                None
-            } else {
-                Some(others)
-            }
-        }
-        _ => None,
+    if !begins_with(bytes, Tag::SEQUENCE) {
+        return None;
+    }
+    let others: OtherPrimes<'_> = quick_alone(NoMemory, bytes)?;
+    if others.remaining() == 0 {
+        None
+    } else {
+        Some(others)
     }
 }
 

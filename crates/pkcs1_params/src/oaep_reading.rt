@@ -17,7 +17,9 @@ use crate::reading::{
 };
 use crate::strict;
 use crate::usual::usual_oaep;
-use der_core::{DecodeValue, ErrorKind, Header, Memory, NoMemory, Reader, TagNumber};
+use der_core::{
+    DecodeValue, ErrorKind, Header, Memory, NoMemory, Reader, Tag, TagNumber, quick_short,
+};
 use spki_core::{AnyRef, IdentifierValue, ObjectIdentifier, read_field};
 
 impl<'a> RsaOaepParamsView<'a> {
@@ -80,7 +82,7 @@ impl<'a, O: ReadParams<'a>> AlgorithmParams<'a> for OaepParamsOf<O, AnyRef<'a>> 
     }
 
     fn quick_strictly(contents: &'a [u8]) -> Option<OaepParamsOf<O, AnyRef<'a>>> {
-        let view = quick_oaep(contents)?;
+        let view = quick_oaep(contents, true)?;
         Some(O::oaep_from_view(view))
     }
 
@@ -150,6 +152,16 @@ impl<'a, M: Memory, O: ReadParams<'a>> DecodeValue<&'a [u8], M> for OaepParamsOf
             mask_gen,
             p_source,
         }))
+    }
+
+    #[inline(always)]
+    fn quick_split(bytes: &'a [u8], tag: Tag) -> Option<(&'a [u8], &'a [u8])> {
+        quick_short(bytes, tag)
+    }
+
+    fn quick_value(_memory: M, contents: &'a [u8]) -> Option<OaepParamsOf<O, AnyRef<'a>>> {
+        let view = quick_oaep(contents, false)?;
+        Some(O::oaep_from_view(view))
     }
 }
 

@@ -1,5 +1,5 @@
 //! Other primes of private keys.
-ghost use Rattle.std.specs.Prelude.{◌≡◌, ◌↔◌, IsTrue, None, IfOk, IsOk, IfErr, refl};
+ghost use Rattle.std.specs.Prelude.{◌≡◌, ◌↔◌, IsTrue, None, Some, Ok, IfOk, IfSome, IsOk, IfErr, refl};
 ghost use Rattle.der_core.specs.Words.{ReadsWhole, made_errs};
 ghost use Rattle.pkcs1.specs.Words.{AllocatesInOthers, ListsNone, OtherIsValid, OtherPrime, number_of, of_other_parts, other_alike, other_as, other_law, other_of, other_once, other_printed, other_read, other_shortest, others_of, others_read};
 
@@ -7,7 +7,7 @@ use crate::version::Version;
 use der_core::{
     BackWriter, Borrowed, Contents, Decode, Encode, EncodeInParts, EncodeValue, Encoding,
     ErrorKind, InParts, Length, Reader, Result, Sequence, SequenceTag, Tag, TaggedBy, TryClone,
-    Writer, decode_optional,
+    Writer, begins_with, decode_optional, quick_alone,
 };
 use std::alloc::{AllocError, Global};
 
@@ -185,6 +185,43 @@ pub(crate) fn read_other_primes<'a, U: Decode<&'a [u8], Global>, R: Reader<&'a [
     }
     reader.finish()?;
     Ok(others)
+}
+
+/// What `read_other_primes` gives of all of the bytes, if that is quickly told.
+#[inline(always)]
+pub(crate) fn quick_other_primes<'a, U: Decode<&'a [u8], Global>>(
+    memory: Global,
+    bytes: &'a [u8],
+    version: Version,
+) -> Option<Option<OtherPrimeInfos<U>>>
+    ensures { let read = others_read U.read_front (number_of version) in
+        IfSome result (λ others. read bytes.now ≡ Ok (others_of U.value others)) }
+{
+    match version {
+        Version::Multi => Some(Some(quick_list(memory, bytes)?)),
+        Version::TwoPrime if bytes.is_empty() => Some(None),
+        Version::TwoPrime => None,
+    }
+}
+
+/// The other primes of a key of several that all of the bytes encode, if that is quickly told.
+#[inline(never)]
+fn quick_list<'a, U: Decode<&'a [u8], Global>>(
+    memory: Global,
+    bytes: &'a [u8],
+) -> Option<OtherPrimeInfos<U>>
+    ensures { IfSome result (λ infos.
+        others_read U.read_front 1 bytes.now ≡ Ok (others_of U.value (Some infos))) }
+{
+    if !begins_with(bytes, Tag::SEQUENCE) {
+        return None;
+    }
+    let infos: OtherPrimeInfos<U> = quick_alone(memory, bytes)?;
+    if infos.as_slice().is_empty() {
+        None
+    } else {
+        Some(infos)
+    }
 }
 
 /// Copies the other primes.

@@ -6,6 +6,5 @@ use Rattle.pkcs1.proofs.view.quick_others.Goals as goal
 
 pub returns-else-remaining-eq0 : goal.returns-else-remaining-eq0
 returns-else-remaining-eq0 c =
-    others_taken number _ _ c.in-len1-up.len_at_least (c.if-first-octet.true ∙ c.octet.ensures)
-    c.in_ok-others-in-len1-up.ensures
+    others_taken number _ _ (sym c.begins_with.ensures ∙ c.if-not-begins_with.false) c.in_ok-others.ensures
     (λ none. c.if-remaining-eq0.false (c.remaining.ensures ∙ sym (held_length _) ∙ none))

@@ -1,4 +1,4 @@
-use Rattle.std.proofs.Common.{Err, arith, ap, false, inr, sym, ◌==◌, ◌≡◌, ◌∙◌}
+use Rattle.std.proofs.Common.{Err, arith, rules, ap, false, inr, sym, ◌==◌, ◌≡◌, ◌∙◌}
 use Rattle.der_core.proofs.Readings.{other_is}
 use Rattle.der_core.specs.declared.error.ErrorKind.TheVariants.{TagUnexpected}
 use Rattle.der_core.specs.Words.{are_bytes, nat_tests, reads, unexpected}
@@ -21,3 +21,9 @@ returns-clause-ok g c =
     read_as_any g.T.Contents.value g.T.FixedTag.TAG (reads g.T.Contents.law g.T.Contents.reads_alike) (any_of c.args.self) _
     (are_bytes _ c.args.self.octets) (sym c.tag.ensures ∙ same) _ _ c.in_ok-reader.ensures.ok c.decode_value.result
     c.decode_value.ensures
+
+pub returns-in-Some-clause-ok : goal.returns-in-Some-clause-ok
+returns-in-Some-clause-ok g c =
+    let same = ne_false _ _ _ _ c.if-ne.false c.ne.ensures (ap (λ t. t.octet) c.TAG.ensures) in
+    let law = reads g.T.Contents.law g.T.Contents.reads_alike in
+    (sym c.tag.ensures ∙ same, law.gives _ _ (are_bytes _ c.args.self.octets) (search rules))
