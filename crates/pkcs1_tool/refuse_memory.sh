@@ -48,7 +48,8 @@ fails() {
 # tells: whether the run exited with 1 and reported that it is out of memory.
 tells() {
     case "$status:$(cat "$room/error")" in
-    "1:fault: memory" | "1:PKCS#1 ASN.1 error: no memory was found") return 0 ;;
+    "1:fault: memory" | "1:reading in.der: PKCS#1 ASN.1 error: no memory was found" | \
+        "1:writing out.der: no memory was found") return 0 ;;
     *) return 1 ;;
     esac
 }
@@ -62,7 +63,7 @@ some() {
 # answers INPUT OUTPUT: lines, and the output for them.
 answers() {
     number=1
-    cp "$1" "$room/input"
+    cat "$1" > "$room/input" # where the source can't be written, cp makes a file that can't be either
     while refusing "$number"; do
         tells && head -n "$(wc -l < "$room/output")" "$2" | cmp -s - "$room/output" || fails "$1"
         number=$((number + 1))
@@ -78,7 +79,7 @@ copies() {
     hex "$2" > "$room/in.der"
     printf old > "$room/out.der"
     while refusing "$number" copy "$1" in.der out.der; do
-        tells && [ "$(cat "$room/out.der")" = old ] || fails "copy $1 $2"
+        tells && [ "$(cat "$room/out.der")" = old ] && [ ! -e "$room/.pkcs1_tool" ] || fails "copy $1 $2"
         printf old > "$room/out.der"
         number=$((number + 1))
     done

@@ -62,7 +62,7 @@ fn write_long<W: Sink>(held: &mut Vec<u8>, sink: &mut W) -> Result<(), Fault>
 }
 
 /// Writes all the bytes, in order, and flushes the sink.
-fn finish<W: Sink>(bytes: &[u8], sink: &mut W) -> Result<(), Fault>
+pub(crate) fn finish<W: Sink>(bytes: &[u8], sink: &mut W) -> Result<(), Fault>
     ensures written { WritesOut bytes.now result (W.contents sink.old) (W.contents sink.new)
         (W.failures sink.old) (W.failures sink.new) }
     ensures flushed { OnOk result (W.is_flushed sink.new) }

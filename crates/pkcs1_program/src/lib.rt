@@ -8,6 +8,7 @@
 
 mod answer;
 mod copy;
+mod copy_error;
 mod digits;
 mod fault;
 mod filter;
@@ -18,16 +19,21 @@ mod parameter_answers;
 mod parameter_text;
 mod place;
 mod plan;
+mod replace;
 mod request;
+mod sequence;
 mod shortest;
 mod verdict;
 
 pub use answer::answer_line;
 pub use copy::{copy_priv, copy_private_key, copy_pub, copy_public_key};
+pub use copy_error::{CopyError, FileError, WriteError};
 pub use fault::Fault;
 pub use filter::{LIMIT, run};
 pub use laws::lemma_answers_are_one;
 pub use lines::split_line;
 pub use place::{FileAt, Place};
 pub use plan::{Plan, behind_name, plan_of, status};
+pub use replace::{Beside, ReplaceFiles, Rights, Synced, Target};
 pub use request::Encodings;
+pub use sequence::read_sequence;

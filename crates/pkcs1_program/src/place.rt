@@ -1,49 +1,141 @@
-//! Where a document is written once.
+//! Where a key is written once.
 ghost use Rattle.std.specs.Prelude.{◌≡◌, List, ℕ, IfErr, OnOk};
-ghost use Rattle.std.specs.Path.{path_bytes};
-ghost use Rattle.der_core.specs.Words.{FileRefuses, FileTakes, IsFile, encoding_of};
+ghost use Rattle.std.specs.Path.{path_buf_bytes, path_bytes};
+ghost use Rattle.pkcs1_program.specs.Words.{FillsFile, PutsFile, PutsAt, Refuses, RefusesAt, SinkStops, SinkTakes, in_place, replaced};
 
-use der_core::{DocumentOf, FileSystem, Result};
+use crate::copy_error::WriteError;
+use crate::filter::finish;
+use crate::replace::{Beside, ReplaceFiles, Target};
+use der_core::Close;
+use std::alloc::Global;
 use std::path::Path;
 
-/// Where a document can be written once: writing uses the place up.
+/// Where bytes can be written once: writing uses the place up.
 pub trait Place {
+    ghost use Rattle.pkcs1_program.specs.declared.copy_error.WriteError.{WriteError};
+
     /// Exactly these bytes were written.
     ghost takes: { Self → List ℕ → Type 0 };
 
-    /// No more than a beginning of these bytes was written.
-    ghost refuses: { Self → List ℕ → Type 0 };
+    /// These bytes weren't written, for this reason.
+    ghost refuses: { Self → WriteError → List ℕ → Type 0 };
 
-    /// Writes the document.
-    fn write<S: Drop>(self, document: &DocumentOf<S>) -> Result<()>
-        ensures ok { OnOk result (takes self (encoding_of document.now)) }
-        ensures err { IfErr result (λ e. IsFile e × refuses self (encoding_of document.now)) };
+    /// Writes the bytes.
+    fn write(self, bytes: &[u8]) -> Result<(), WriteError>
+        ensures ok { OnOk result (takes self bytes.now) }
+        ensures err { IfErr result (λ error. refuses self error bytes.now) };
 }
 
-/// The file at a path, which is created or truncated when a document is written.
-#[derive(Drop)]
-pub struct FileAt<'a, F: FileSystem> {
-    files: &'a F,
-    path: Path<'a>,
-}
-
-impl<'a, F: FileSystem> FileAt<'a, F> {
-    /// The file at this path.
-    pub fn new(files: &'a F, path: Path<'a>) -> Self
-        ensures { path_bytes result.path ≡ path_bytes path.entry }
-    {
-        FileAt { files, path }
+/// Writes all the bytes to a sink, flushes and closes it.
+fn fill<W: Close>(sink: W, bytes: &[u8]) -> Result<(), WriteError>
+    ensures ok { OnOk result (SinkTakes W.is_closed W.contents W.is_flushed sink bytes.now) }
+    ensures err { IfErr result (λ error. (error ≡ WriteError.Write)
+        × SinkStops W.is_closed W.contents W.failures sink bytes.now) }
+{
+    let mut sink = sink;
+    let written = finish(bytes, &mut sink);
+    sink.close();
+    match written {
+        Ok(()) => Ok(()),
+        Err(_) => Err(WriteError::Write),
     }
 }
 
-impl<F: FileSystem> Place for FileAt<'_, F> {
-    ghost takes = { λ place. FileTakes (F.creates (path_bytes place.path)) F.Created.is_closed
-        F.Created.contents F.Created.is_flushed };
+/// Creates the file, or truncates an old one, and writes the bytes.
+fn write_in_place<F: ReplaceFiles>(
+    files: &F,
+    path: Path<'_>,
+    bytes: &[u8],
+) -> Result<(), WriteError>
+    ensures ok { let old = FillsFile F.creates F.Created.is_closed F.Created.contents F.Created.is_flushed
+        F.Created.failures in
+        let new = FillsFile F.creates_new F.New.is_closed F.New.contents F.New.is_flushed F.New.failures in
+        OnOk result (PutsAt old new F.renames in_place (path_bytes path.entry) bytes.now) }
+    ensures err { let old = FillsFile F.creates F.Created.is_closed F.Created.contents F.Created.is_flushed
+        F.Created.failures in
+        let new = FillsFile F.creates_new F.New.is_closed F.New.contents F.New.is_flushed F.New.failures in
+        IfErr result (λ error. RefusesAt old new F.renames F.removes error in_place (path_bytes path.entry) bytes.now) }
+{
+    match files.create(path) {
+        Ok(sink) => fill(sink, bytes),
+        Err(_) => Err(WriteError::Open),
+    }
+}
 
-    ghost refuses = { λ place. FileRefuses (F.creates (path_bytes place.path)) F.Created.is_closed
-        F.Created.contents F.Created.failures };
+/// Writes the bytes to a new file, and renames that when it is whole. After an error it is removed.
+fn write_beside<F: ReplaceFiles>(
+    files: &F,
+    beside: &Beside,
+    path: Path<'_>,
+    bytes: &[u8],
+) -> Result<(), WriteError>
+    ensures ok { let old = FillsFile F.creates F.Created.is_closed F.Created.contents F.Created.is_flushed
+        F.Created.failures in
+        let new = FillsFile F.creates_new F.New.is_closed F.New.contents F.New.is_flushed F.New.failures in
+        let aim = replaced (path_buf_bytes beside.now.to) (path_buf_bytes beside.now.path) in
+        OnOk result (PutsAt old new F.renames aim (path_bytes path.entry) bytes.now) }
+    ensures err { let old = FillsFile F.creates F.Created.is_closed F.Created.contents F.Created.is_flushed
+        F.Created.failures in
+        let new = FillsFile F.creates_new F.New.is_closed F.New.contents F.New.is_flushed F.New.failures in
+        let aim = replaced (path_buf_bytes beside.now.to) (path_buf_bytes beside.now.path) in
+        IfErr result (λ error. RefusesAt old new F.renames F.removes error aim (path_bytes path.entry) bytes.now) }
+{
+    let new = beside.path.as_path();
+    let Ok(sink) = files.create_new(new, beside.rights) else {
+        return Err(WriteError::Create);
+    };
+    if let Err(error) = fill(sink, bytes) {
+        let _ = files.remove(new);
+        return Err(error);
+    }
+    if files.rename(new, beside.to.as_path()).is_err() {
+        let _ = files.remove(new);
+        return Err(WriteError::Rename);
+    }
+    Ok(())
+}
 
-    fn write<S: Drop>(self, document: &DocumentOf<S>) -> Result<()> {
-        document.write_der_file(self.files, self.path)
+/// The file at a path. A regular one is replaced when the bytes are written, another one is written in place.
+#[derive(Drop)]
+pub struct FileAt<'a, F: ReplaceFiles> {
+    files: &'a F,
+    alloc: Global,
+    path: Path<'a>,
+    model: Option<Path<'a>>,
+}
+
+impl<'a, F: ReplaceFiles> FileAt<'a, F> {
+    /// The file at this path. A new one gets no more rights than the file at the path `model` has, if that is given.
+    pub fn new(files: &'a F, alloc: Global, path: Path<'a>, model: Option<Path<'a>>) -> Self
+        ensures { path_bytes result.path ≡ path_bytes path.entry }
+    {
+        FileAt {
+            files,
+            alloc,
+            path,
+            model,
+        }
+    }
+}
+
+impl<F: ReplaceFiles> Place for FileAt<'_, F> {
+    ghost takes = { λ place.
+        let old = FillsFile F.creates F.Created.is_closed F.Created.contents F.Created.is_flushed
+        F.Created.failures in
+        let new = FillsFile F.creates_new F.New.is_closed F.New.contents F.New.is_flushed F.New.failures in
+        PutsFile F.aims old new F.renames (path_bytes place.path) };
+
+    ghost refuses = { λ place.
+        let old = FillsFile F.creates F.Created.is_closed F.Created.contents F.Created.is_flushed
+        F.Created.failures in
+        let new = FillsFile F.creates_new F.New.is_closed F.New.contents F.New.is_flushed F.New.failures in
+        Refuses F.aims old new F.renames F.removes (path_bytes place.path) };
+
+    fn write(self, bytes: &[u8]) -> Result<(), WriteError> {
+        match self.files.target(self.alloc, self.path, self.model) {
+            Ok(Target::InPlace) => write_in_place(self.files, self.path, bytes),
+            Ok(Target::Beside(beside)) => write_beside(self.files, &beside, self.path, bytes),
+            Err(_) => Err(WriteError::Memory),
+        }
     }
 }

@@ -4,15 +4,17 @@
 #![tactic(auto)]
 
 ghost use Rattle.std.specs.Prelude.{◌≡◌, ℕ, List, Bool, is_ok};
-ghost use Rattle.der_core.specs.Words.{FileTakes, GivesAll};
+ghost use Rattle.der_core.specs.Words.{GivesAll};
 ghost use Rattle.standard.specs.Statement.{PrivateKeyEncoding, PublicKeyEncoding};
-ghost use Rattle.pkcs1_program.specs.Words.{CopiesAt, IsDone, Writes, lines_of, status_of};
+ghost use Rattle.pkcs1_program.specs.Words.{CopiesAt, FillsFile, IsDone, PutsFile, Writes, lines_of, status_of};
 
 #[cfg(test)]
 mod tests;
 
-use der_core::{FileSystem, FromRead, Sink, Source, ToWrite};
-use pkcs1_program::{Fault, Plan, behind_name, copy_priv, copy_pub, plan_of, run, status};
+use der_core::{FromRead, Sink, Source, ToWrite};
+use pkcs1_program::{
+    Fault, Plan, ReplaceFiles, behind_name, copy_priv, copy_pub, plan_of, run, status,
+};
 use std::alloc::Global;
 use std::fmt::Display;
 use std::path::Path;
@@ -44,7 +46,7 @@ fn reported<T: Drop, E: Display + Drop>(rt: &impl Eprint, outcome: Result<T, E>)
 }
 
 /// Carries out the plan, and returns the exit status. Lines are read from the source and answered to the sink.
-fn carry_out<P: Eprint, F: FileSystem, R: Source, W: Sink>(
+fn carry_out<P: Eprint, F: ReplaceFiles, R: Source, W: Sink>(
     rt: &P,
     alloc: Global,
     plan: &Plan<'_>,
@@ -55,8 +57,10 @@ fn carry_out<P: Eprint, F: FileSystem, R: Source, W: Sink>(
     ensures status { (ok : Bool) × (result ≡ status_of plan.now ok) }
     ensures done { let answered = (input : List ℕ) × GivesAll (R.remaining source.old) (R.remaining source.new) input
         × Writes (W.contents sink.old) (W.contents sink.new) (lines_of input) × W.is_flushed sink.new in
-        let takes : List ℕ → List ℕ → Type 0 = λ path.
-        FileTakes (F.creates path) F.Created.is_closed F.Created.contents F.Created.is_flushed in
+        let old = FillsFile F.creates F.Created.is_closed F.Created.contents F.Created.is_flushed
+        F.Created.failures in
+        let new = FillsFile F.creates_new F.New.is_closed F.New.contents F.New.is_flushed F.New.failures in
+        let takes = PutsFile F.aims old new F.renames in
         result ≡ 0 → IsDone plan.now answered (CopiesAt PublicKeyEncoding F.opens F.Opened.remaining takes)
         (CopiesAt PrivateKeyEncoding F.opens F.Opened.remaining takes) }
 {

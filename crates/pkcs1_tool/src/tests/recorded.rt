@@ -2,7 +2,10 @@
 ghost use Rattle.std.specs.Prelude.{⊤, None};
 
 use der_core::{Close, Error, ErrorKind, FileSystem, Result, Sink, Source};
+use pkcs1_program::{Beside, ReplaceFiles, Rights, Target};
+use std::alloc::{AllocError, Global};
 use std::cell::RefCell;
+use std::io;
 use std::path::Path;
 
 /// A call on files, or on an opened or created one.
@@ -10,10 +13,14 @@ use std::path::Path;
 pub enum Call {
     Open,
     Read,
+    Target,
     Create,
+    CreateNew,
     Write,
     Flush,
     Close,
+    Rename,
+    Remove,
 }
 
 /// The calls so far.
@@ -33,6 +40,26 @@ pub struct Recorder<'a> {
     pub input: &'a [u8],
     /// The call on a file that fails.
     pub failing: Option<Call>,
+    /// Whether `out` is no regular file.
+    pub in_place: bool,
+}
+
+impl<'a> Recorder<'a> {
+    /// A file that is empty.
+    fn created(&self) -> Recorded<'a> {
+        Recorded {
+            calls: self.calls,
+            left: &[],
+            failing: self.failing,
+            faults: 0,
+        }
+    }
+
+    /// Keeps a call that is to be made with this path, and whether it succeeds.
+    fn called(&self, call: Call, path: Path<'_>, wanted: &str) -> bool {
+        keep(self.calls, call);
+        path.as_str() == wanted && self.failing != Some(call)
+    }
 }
 
 impl<'a> FileSystem for Recorder<'a> {
@@ -58,16 +85,66 @@ impl<'a> FileSystem for Recorder<'a> {
     }
 
     fn create(&self, path: Path<'_>) -> Result<Recorded<'a>> {
-        keep(self.calls, Call::Create);
-        if path.as_str() != "out" {
-            return Err(Error::new(ErrorKind::File));
+        if self.called(Call::Create, path, "out") {
+            Ok(self.created())
+        } else {
+            Err(Error::new(ErrorKind::File))
         }
-        Ok(Recorded {
-            calls: self.calls,
-            left: &[],
-            failing: self.failing,
-            faults: 0,
-        })
+    }
+}
+
+impl<'a> ReplaceFiles for Recorder<'a> {
+    type New = Recorded<'a>;
+
+    ghost aims = { λ _ _. ⊤ };
+
+    ghost creates_new = { λ _ _. ⊤ };
+
+    ghost renames = { λ _ _ _. ⊤ };
+
+    ghost removes = { λ _ _. ⊤ };
+
+    fn target(
+        &self,
+        alloc: Global,
+        path: Path<'_>,
+        model: Option<Path<'_>>,
+    ) -> std::result::Result<Target, AllocError> {
+        if !self.called(Call::Target, path, "out") {
+            return Err(AllocError);
+        }
+        if self.in_place {
+            return Ok(Target::InPlace);
+        }
+        Ok(Target::Beside(Beside {
+            to: path.to_path_buf(alloc)?,
+            path: Path::new("new").to_path_buf(alloc)?,
+            rights: Rights::within(None, model.map(|_| 0o600)),
+        }))
+    }
+
+    fn create_new(&self, path: Path<'_>, rights: Rights) -> Result<Recorded<'a>> {
+        if self.called(Call::CreateNew, path, "new") && rights.mode == 0o600 {
+            Ok(self.created())
+        } else {
+            Err(Error::new(ErrorKind::File))
+        }
+    }
+
+    fn rename(&self, from: Path<'_>, to: Path<'_>) -> io::Result<()> {
+        if self.called(Call::Rename, from, "new") && to.as_str() == "out" {
+            Ok(())
+        } else {
+            Err(io::Error::from(io::ErrorKind::Other))
+        }
+    }
+
+    fn remove(&self, path: Path<'_>) -> io::Result<()> {
+        if self.called(Call::Remove, path, "new") {
+            Ok(())
+        } else {
+            Err(io::Error::from(io::ErrorKind::Other))
+        }
     }
 }
 

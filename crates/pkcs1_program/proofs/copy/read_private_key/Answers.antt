@@ -8,8 +8,8 @@ use Rattle.pkcs1_program.proofs.copy.read_private_key.Goals as goal
 
 pub returns-clause-ok : goal.returns-clause-ok
 returns-clause-ok g c = (
-  c.in_ok-secret.ensures.0,
-  some_key PrivateKeyEncoding held_view c.as_bytes.ensures.encoding c.try_from.result c.try_from.ensures.read
+  c.in_ok-secret.ensures.all,
+  some_key PrivateKeyEncoding held_view c.as_slice.ensures.value c.try_from.result c.try_from.ensures.read
       (λ e is. search rules),
 )
 
@@ -17,5 +17,5 @@ pub returns-in_err-try_from-clause-err : goal.returns-in_err-try_from-clause-err
 returns-in_err-try_from-clause-err g c =
     let p = err_from_is_err_and c.from_residual-in_err-try_from.result c.from_residual-in_err-try_from.ensures.1 in
     let reads = c.in_ok-secret.ensures in
-    rw (p.1, p.2) (asn1_as (λ a f. inr (reads.1, _, reads.0, f)) _
-    (rw c.as_bytes.ensures.encoding at c.in_err-try_from.ensures.exact))
+    rw (p.1, p.2) (asn1_as (λ a f. inr (reads.quiet, _, reads.all, f)) _
+    (rw c.as_slice.ensures.value at c.in_err-try_from.ensures.exact))

@@ -7,7 +7,7 @@ use Rattle.pkcs1_program.proofs.copy.read_public_key.Goals as goal
 
 pub returns-clause-ok : goal.returns-clause-ok
 returns-clause-ok g c = (
-  c.in_ok-document.ensures.0,
-  some_key PublicKeyEncoding (held_public_key bytes_of) c.as_bytes.ensures.encoding c.try_from.result
+  c.in_ok-encoding.ensures.all,
+  some_key PublicKeyEncoding (held_public_key bytes_of) c.as_slice.ensures.value c.try_from.result
       c.try_from.ensures.read (λ e is. search rules),
 )

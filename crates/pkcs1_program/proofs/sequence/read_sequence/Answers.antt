@@ -1,0 +1,52 @@
+use Rattle.std.proofs.Common.{◌++◌, ◌∙◌, take, ap, arith, length-append, length-take, inl, inr}
+use Rattle.std.proofs.KnownBytes.{Consumes-trans}
+use Rattle.der_core.specs.Words.{err_from_is_err_and}
+use Rattle.pkcs1_program.proofs.sequence.read_sequence.Goals as goal
+
+pub returns-then-count-to_usize-clause-err : goal.returns-then-count-to_usize-clause-err
+returns-then-count-to_usize-clause-err g c =
+    let last = take c.in-Ok.count c.read.new.buf in
+    let kind = c.new-then-count-to_usize.ensures in
+    inl (inr (inr (
+      ap (λ e. e.kind) kind,
+      c.in-Ok.ensures.faults ∙ c.loop-count.invariant.faults,
+      (
+        c.loop-count.bytes.items ++ last,
+        Consumes-trans _ _ _ _ _ c.loop-count.invariant.came c.in-Ok.ensures.bytes.0,
+        simp (length-append, length-take)
+            (omega (
+              arith,
+              c.loop-count.bytes.ok.0,
+              c.in-Ok.ensures.bound,
+              c.if-count-to_usize.true,
+              c.len.ensures,
+              c.to_usize.ensures.value,
+            )),
+        simp (length-append, length-take)
+            (omega (arith, c.loop-count.bytes.ok.0, c.in-Ok.ensures.bound, c.loop-count.invariant.within)),
+      ),
+    )))
+
+pub returns-in_err-extend_from_slice-clause-err : goal.returns-in_err-extend_from_slice-clause-err
+returns-in_err-extend_from_slice-clause-err g c =
+    let last = take c.in-Ok.count c.read.new.buf in
+    let p = err_from_is_err_and c.from_residual.result c.from_residual.ensures.1 in
+    rw p.1 (inl (inr (inl (
+      p.2,
+      c.in-Ok.ensures.faults ∙ c.loop-count.invariant.faults,
+      (
+        c.loop-count.bytes.items ++ last,
+        Consumes-trans _ _ _ _ _ c.loop-count.invariant.came c.in-Ok.ensures.bytes.0,
+        simp (length-append, length-take) (omega (arith, c.in-Ok.ensures.bound, c.if-count-eq0.false)),
+        simp (length-append, length-take)
+            (omega (
+              arith,
+              c.loop-count.bytes.ok.0,
+              c.in-Ok.ensures.bound,
+              c.if-count-to_usize.false,
+              c.loop-count.invariant.within,
+              c.len.ensures,
+              c.to_usize.ensures.value,
+            )),
+      ),
+    ))))

@@ -1,0 +1,83 @@
+-- Files that are written in place, or replaced by new ones.
+use Rattle.std.specs.Prelude.{◌≡◌, ◌⊎◌, ℕ, Bool, true, false, List, Option, Some, None, Result, Ok, Err}
+use Rattle.std.specs.Io.KnownBytes.{Appends}
+use Rattle.std.specs.Path.{path_buf_bytes}
+use Rattle.der_core.specs.Words.{AppendsFront, FileTakes, OneFailed}
+use Rattle.pkcs1_program.specs.declared.copy_error.WriteError.{WriteError}
+use Rattle.pkcs1_program.specs.declared.copy_error.WriteError.TheVariants as error
+use Rattle.pkcs1_program.specs.declared.replace.Target.{Target}
+use Rattle.pkcs1_program.specs.declared.replace.Target.TheVariants.{InPlace, Beside}
+
+-- How a file is written: in place, or by a new file at the path `beside`, which is then renamed to the path `to`.
+pub data Aim : Type 0 where
+  in_place : Aim
+  replaced : (to beside : List ℕ) → Aim
+
+abbrev pub aim_of : Target → Aim
+aim_of InPlace = in_place
+aim_of (Beside it) = replaced (path_buf_bytes it.to) (path_buf_bytes it.path)
+
+abbrev pub aimed : {E : Type 0} → Result Target E → Option Aim
+aimed (Ok target) = Some (aim_of target)
+aimed (Err e) = None
+
+-- How writing a file ended: it has all bytes; or a write failed; or there is none.
+pub data Filled : Type 0 where
+  whole : Filled
+  stopped : Filled
+  absent : Filled
+
+-- The sink took exactly these bytes, from this state to that in which it was closed, and was flushed then.
+abbrev pub SinkTakes : {F : Type 0} → (F → Type 0) → (F → Option (List ℕ)) → (F → Type 0) → F → List ℕ → Type 0
+SinkTakes IsClosed contents IsFlushed file bytes =
+    (file2 : _) × IsClosed file2 × Appends (contents file) (contents file2) bytes × IsFlushed file2
+
+-- One call of the sink failed, and it was closed when it had taken a beginning of the bytes.
+abbrev pub SinkStops : {F : Type 0} → (F → Type 0) → (F → Option (List ℕ)) → (F → ℕ) → F → List ℕ → Type 0
+SinkStops IsClosed contents failures file bytes =
+    (file2 : _) × IsClosed file2 × AppendsFront (contents file) (contents file2) bytes
+    × OneFailed (failures file) (failures file2)
+
+-- A file was created at the path, and took the bytes, or one call of it failed; or none was created.
+abbrev pub FillsFile : {F : Type 0} → (List ℕ → Option F → Type 0) → (F → Type 0) → (F → Option (List ℕ))
+    → (F → Type 0) → (F → ℕ) → List ℕ → Filled → List ℕ → Type 0
+FillsFile creates IsClosed contents IsFlushed failures path whole bytes =
+    FileTakes (creates path) IsClosed contents IsFlushed bytes
+FillsFile creates IsClosed contents IsFlushed failures path stopped bytes =
+    (file : _) × creates path (Some file) × SinkStops IsClosed contents failures file bytes
+FillsFile creates IsClosed contents IsFlushed failures path absent bytes = creates path None
+
+-- The file has the bytes: it took them; or the new file took them, and was then renamed.
+abbrev pub PutsAt : (List ℕ → Filled → List ℕ → Type 0) → (List ℕ → Filled → List ℕ → Type 0)
+    → (List ℕ → List ℕ → Bool → Type 0) → Aim → List ℕ → List ℕ → Type 0
+PutsAt old new renames in_place path bytes = old path whole bytes
+PutsAt old new renames (replaced to beside) path bytes = new beside whole bytes × renames beside to true
+
+abbrev pub PutsFile : (List ℕ → Option Aim → Type 0) → (List ℕ → Filled → List ℕ → Type 0)
+    → (List ℕ → Filled → List ℕ → Type 0) → (List ℕ → List ℕ → Bool → Type 0) → List ℕ → List ℕ → Type 0
+PutsFile aims old new renames path bytes =
+    (aim : Aim) × aims path (Some aim) × PutsAt old new renames aim path bytes
+
+-- Why the file doesn't get the bytes. A new file that was created wasn't renamed, or that failed, and removing it was
+-- tried. One that wasn't created here isn't removed.
+abbrev pub RefusesAt : (List ℕ → Filled → List ℕ → Type 0) → (List ℕ → Filled → List ℕ → Type 0)
+    → (List ℕ → List ℕ → Bool → Type 0) → (List ℕ → Bool → Type 0) → WriteError → Aim → List ℕ → List ℕ → Type 0
+RefusesAt old new renames removes error.Open in_place path bytes = old path absent bytes
+RefusesAt old new renames removes error.Write in_place path bytes = old path stopped bytes
+RefusesAt old new renames removes error.Create (replaced to beside) path bytes = new beside absent bytes
+RefusesAt old new renames removes error.Write (replaced to beside) path bytes =
+    new beside stopped bytes × (done : Bool) × removes beside done
+RefusesAt old new renames removes error.Rename (replaced to beside) path bytes =
+    new beside whole bytes × renames beside to false × (done : Bool) × removes beside done
+RefusesAt old new renames removes error.Used aim path bytes = ⊥
+RefusesAt old new renames removes error.Memory aim path bytes = ⊥
+RefusesAt old new renames removes error.Create in_place path bytes = ⊥
+RefusesAt old new renames removes error.Rename in_place path bytes = ⊥
+RefusesAt old new renames removes error.Open (replaced to beside) path bytes = ⊥
+
+abbrev pub Refuses : (List ℕ → Option Aim → Type 0) → (List ℕ → Filled → List ℕ → Type 0)
+    → (List ℕ → Filled → List ℕ → Type 0) → (List ℕ → List ℕ → Bool → Type 0) → (List ℕ → Bool → Type 0) → List ℕ
+    → WriteError → List ℕ → Type 0
+Refuses aims old new renames removes path e bytes =
+    ((e ≡ error.Memory) × aims path None)
+    ⊎ ((aim : Aim) × aims path (Some aim) × RefusesAt old new renames removes e aim path bytes)

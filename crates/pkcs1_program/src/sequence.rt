@@ -1,0 +1,72 @@
+//! Reading a source as long as what came may begin a SEQUENCE.
+ghost use Rattle.std.specs.Prelude.{◌≡◌, ◌≢◌, ◌≤◌, ◌⊎◌, length, IfOk, IfErr, IfSome, OnOk};
+ghost use Rattle.der_core.specs.Words.{GivesAll, WhyReadingStopped, limit, read_document};
+ghost use Rattle.pkcs1_program.specs.Words.{GivesWrong};
+
+use der_core::{Document, Error, ErrorKind, Header, Length, Result, SliceReader, Source};
+use std::alloc::Global;
+
+/// How many bytes are read at once.
+const PIECE: usize = 65536;
+
+/// Whether the bytes begin with the header of a SEQUENCE, and aren't more than this announces.
+fn is_front(bytes: &[u8]) -> bool {
+    let Ok(mut reader) = SliceReader::new(bytes) else {
+        return false;
+    };
+    match Header::decode(&mut reader) {
+        Ok(header) => {
+            let contents = header.length.to_usize();
+            let octets = header.to_bytes();
+            bytes.starts_with(b"\x30") && bytes.len() <= octets.len().saturating_add(contents)
+        }
+        Err(_) => false,
+    }
+}
+
+/// The fault of bytes that aren't a beginning of a SEQUENCE. Nothing is allocated for those that are one.
+fn fault_of(alloc: Global, bytes: &[u8]) -> Option<Error>
+    ensures { IfSome result (λ e. (read_document bytes.now ≡ Err e.kind) × (e.kind ≢ ErrorKind.Incomplete)) }
+{
+    if is_front(bytes) {
+        return None;
+    }
+    match Document::from_der(alloc, bytes) {
+        Ok(_) => None,
+        Err(error) => match error.kind() {
+            ErrorKind::Incomplete | ErrorKind::OutOfMemory => None,
+            _ => Some(error),
+        },
+    }
+}
+
+/// Reads a source to its end. Stops as soon as what came is no beginning of a SEQUENCE, and with `Overflow` as soon as
+/// it is more than `Length::MAX` bytes, so it returns even if the source never ends. `File` is returned only if a read
+/// of the source failed. What was read before an error is lost.
+pub fn read_sequence<R: Source>(alloc: Global, source: &mut R) -> Result<Vec<u8>>
+    ensures all { IfOk result (λ bytes. GivesAll (R.remaining source.old) (R.remaining source.new) bytes.items) }
+    ensures quiet { OnOk result (R.failures source.new ≡ R.failures source.old) }
+    ensures err { IfErr result (λ e. WhyReadingStopped limit e.kind (R.remaining source.old) (R.remaining source.new)
+        (R.failures source.old) (R.failures source.new)
+        ⊎ ((R.failures source.new ≡ R.failures source.old)
+        × GivesWrong e.kind (R.remaining source.old) (R.remaining source.new))) }
+{
+    let mut bytes = Vec::new(alloc);
+    let mut piece = [0u8; PIECE];
+    loop {
+        let count = match source.read(&mut piece) {
+            Ok(count) => count,
+            Err(_) => return Err(Error::new(ErrorKind::File)),
+        };
+        if count == 0 {
+            return Ok(bytes);
+        }
+        if count > Length::MAX.to_usize() - bytes.len() {
+            return Err(Error::new(ErrorKind::Overflow));
+        }
+        bytes.extend_from_slice(&piece[..count])?;
+        if let Some(error) = fault_of(alloc, bytes.as_slice()) {
+            return Err(error);
+        }
+    }
+}

@@ -1,0 +1,295 @@
+# shellcheck shell=bash disable=SC2154 # run_built.sh, which reads this file, sets `room`, `program` and `usage`
+# The runs of `copy`: what it prints, what it leaves in each file of the folder, and which rights. They stand apart from
+# run_built.sh by their length.
+
+# hex BYTES: prints the bytes with these hexadecimal digits.
+hex() {
+    printf "$(printf '%s' "$1" | sed 's/../\\x&/g')"
+}
+
+# runs_by COMMAND..: runs it in the folder, and keeps what it prints.
+runs_by() {
+    (cd "$room/files" && "$@" < /dev/null > "$room/output" 2> "$room/error")
+}
+
+# runs ARGUMENT..: runs the program so.
+runs() {
+    runs_by "$program" "$@"
+}
+
+# others FILE: what the folder holds besides this file.
+others() {
+    (cd "$room/files" && find . ! -path "./$1" ! -type f && find . ! -path "./$1" -type f -exec cksum {} +) | sort
+}
+
+# mode NAME: that of a file in the folder.
+mode() {
+    stat -c %a "$room/files/$1"
+}
+
+# keeps WHAT NAME: that the file holds `old`, and nothing new stands in its folder.
+keeps() {
+    [ "$(cat "$room/files/$2")" = old ] && [ -z "$(find "$room" -name '.pkcs1_tool*')" ] ||
+        fails "$1: $2 doesn't hold what it held, or a new file is left"
+}
+
+# copies STATUS ERROR FILE BYTES ARGUMENT..: with these arguments the program exits with this status and standard error,
+# and then the file has these bytes; `-` means that the file isn't there. All else in the folder is as it was.
+copies() {
+    local status=$1 error=$2 file=$3 bytes=$4 got before
+    shift 4
+    before=$(others "$file")
+    runs "$@"
+    got=$?
+    [ "$(others "$file")" = "$before" ] || fails "copy $*: another file than $file changed"
+    if [ "$bytes" = - ]; then
+        [ ! -e "$room/files/$file" ] || fails "copy $*: $file is there"
+    elif ! hex "$bytes" | cmp -s - "$room/files/$file"; then
+        fails "copy $*: $file doesn't hold $bytes"
+    fi
+    ends "$*" "$status" "$error" "" "$got"
+}
+
+# needs_memory: an emulator or a sanitizer has memory of its own.
+needs_memory() {
+    [ -n "${EMULATED-}" ] || grep -qE '__(asan|hwasan|msan|tsan)_init' "$program"
+}
+
+# A key of 20 MB in 45 MB of addresses: its buffer grew to 34 MB, and there is no room for a second copy.
+copies_in_little_memory() {
+    if needs_memory; then
+        less='all but one of '
+        echo "run_built: a copy in little memory isn't tried: an emulator or a sanitizer has memory of its own here"
+        return
+    fi
+    (hex 308401312d09028401312d00 && head -c 20000000 /dev/zero | tr '\0' '\021' && hex 020103) \
+        > "$room/files/large.der"
+    (ulimit -v 45000 && runs copy pub large.der again.der)
+    ends "copy pub large.der again.der" 0 "" "" $?
+    cmp -s "$room/files/large.der" "$room/files/again.der" || fails "copy pub large.der again.der: other bytes"
+}
+
+# Two names of one file, pipes, names of 4007 octets and ones that are too long.
+copies_by_other_names() {
+    local long
+    long=$(printf './%.0s' {1..2000})
+    copies 0 "" out.der $public copy pub "${long}pub.der" out.der
+    copies 0 "" out.der $private copy priv priv.der "${long}out.der"
+    long=$(head -c 5000 /dev/zero | tr '\0' x)
+    copies 1 "reading $long: $file" new.der - copy pub "$long" new.der
+    copies 1 "writing $long: the new file can't be renamed to it" kept.der $old copy pub pub.der "$long"
+    ln "$room/files/same.der" "$room/files/hard.der"
+    ln -s same.der "$room/files/soft.der"
+    copies 0 "" hard.der $public copy pub same.der hard.der
+    copies 0 "" same.der $public copy pub soft.der same.der
+    copies 0 "" same.der $public copy pub same.der soft.der
+    copies 1 "reading soft.der: $error the value of tag 0x02 is not allowed" same.der $public \
+        copy priv soft.der same.der
+    rm "$room/files/hard.der" "$room/files/soft.der"
+    mkfifo "$room/files/pipe"
+    hex $public > "$room/files/pipe" &
+    copies 0 "" out.der $public copy pub pipe out.der
+    hex 3006020107 > "$room/files/pipe" &
+    copies 1 "reading pipe: $error the input ends too early" kept.der $old copy pub pipe kept.der
+    cat "$room/files/pipe" > "$room/piped" &
+    copies 0 "" pub.der $public copy pub pub.der pipe
+    wait
+    hex $public | cmp -s - "$room/piped" || fails "copy pub pub.der pipe: other bytes"
+    [ -p "$room/files/pipe" ] || fails "copy pub pub.der pipe: it is no pipe"
+    rm "$room/files/pipe"
+}
+
+# What links name is replaced, and the links stay. A file is there from none of what they name on.
+copies_through_links() {
+    mkdir "$room/files/sub"
+    printf old > "$room/files/sub/real.der"
+    ln -s sub/real.der "$room/files/link.der"
+    ln -s sub/none.der "$room/files/nothing.der"
+    ln -s /dev/full "$room/files/device"
+    ln "$room/files/sub/real.der" "$room/files/before.der"
+    copies 0 "" sub/real.der $public copy pub pub.der link.der
+    [ "$(cat "$room/files/before.der")" = old ] || fails "copy pub pub.der link.der: the old file is written"
+    copies 0 "" sub/none.der $public copy pub pub.der nothing.der
+    copies 1 "writing device: a write failed" new.der - copy pub pub.der device
+    [ -L "$room/files/link.der" ] && [ -L "$room/files/nothing.der" ] && [ -L "$room/files/device" ] ||
+        fails "copies through links: a link is replaced"
+    rm -r "$room/files/sub" "$room/files"/{link.der,nothing.der,device,before.der}
+}
+
+# The rights of a new file: of a private key no more than IN has; of a public one those that the umask leaves. An old
+# file's stay, but for what IN doesn't have. A row has the kind, the umask, what is wanted, and the old file's rights.
+keeps_rights() {
+    local it kind mask wanted has
+    chmod 600 "$room/files/priv.der"
+    for it in 'priv 000 600 -' 'priv 277 400 -' 'priv 000 600 660' 'priv 277 600 640' 'pub 027 640 -' \
+        'pub 077 664 664'; do
+        read -r kind mask wanted has <<< "$it"
+        rm -f "$room/files/out.der"
+        [ "$has" = - ] || { printf old > "$room/files/out.der" && chmod "$has" "$room/files/out.der"; }
+        (umask "$mask" && runs copy "$kind" "$kind.der" out.der)
+        ends "copy $kind, rights $it" 0 "" "" $?
+        [ "$(mode out.der)" = "$wanted" ] || fails "copy $kind: rights $(mode out.der), not $wanted"
+    done
+    chmod 644 "$room/files/priv.der"
+}
+
+# The name of the new file is another one than those that are there. Where all are taken, nothing is written.
+takes_no_name() {
+    printf mine > "$room/files/.pkcs1_tool"
+    copies 0 "" out.der $public copy pub pub.der out.der
+    touch "$room/files"/.pkcs1_tool.{0..99}
+    copies 1 "writing kept.der: no file can be created beside it" kept.der $old copy pub pub.der kept.der
+    rm "$room/files"/.pkcs1_tool*
+}
+
+# An IN that goes on behind what can be a key, in 45 MB of addresses.
+ends_without_an_end() {
+    local shell=(bash -c 'ulimit -v 45000; exec "$@"' sh)
+    ! needs_memory || shell=()
+    runs_by timeout 20 "${shell[@]}" "$program" copy priv /dev/zero new.der
+    ends "copy priv /dev/zero" 1 "reading /dev/zero: $error the tag octet 0x00 is not known" "" $?
+    mkfifo "$room/files/pipe"
+    (hex $public; exec cat /dev/zero) > "$room/files/pipe" 2> "$room/piped" &
+    runs_by timeout 20 "${shell[@]}" "$program" copy pub pipe new.der
+    ends "copy pub of a pipe that goes on" 1 "reading pipe: $error bytes follow the value" "" $?
+    wait
+    rm "$room/files/pipe"
+    [ ! -e "$room/files/new.der" ] || fails "copies without an end: new.der is there"
+}
+
+# A file of at most 1024 bytes takes the first part of a longer key; the write of the second fails. OUT keeps what it
+# has, also if it is IN.
+keeps_what_is_there() {
+    local out
+    cat ../../ffi/tests/keys/priv2.der > "$room/files/long_key.der"
+    for out in kept.der long_key.der; do
+        (trap '' XFSZ && ulimit -f 1 && runs copy priv long_key.der "$out")
+        ends "copy priv long_key.der $out" 1 "writing $out: a write failed" "" $?
+    done
+    keeps "copy priv long_key.der kept.der" kept.der
+    cmp -s ../../ffi/tests/keys/priv2.der "$room/files/long_key.der" || fails "copy long_key.der: the key is lost"
+    out=$(od -An -v -tx1 "$room/files/long_key.der" | tr -d ' \n')
+    copies 0 "" long_key.der "$out" copy priv long_key.der long_key.der
+    rm "$room/files/long_key.der"
+}
+
+# Who isn't root can't write to a folder without that right, nor to a file: both stay as they are.
+keeps_out_without_rights() {
+    local as=()
+    [ "$(id -u)" != 0 ] || as=(setpriv --reuid 65534 --regid 65534 --clear-groups)
+    "${as[@]}" test -x "$program" && "${as[@]}" "$program" < /dev/null > "$room/output" 2> "$room/error" || {
+        less='not all of '
+        echo "run_built: a folder without rights isn't tried: no other user runs the program here"
+        return
+    }
+    chmod 755 "$room"
+    printf old > "$room/files/kept.der"
+    chmod 666 "$room/files/kept.der"
+    chmod 555 "$room/files"
+    runs_by "${as[@]}" "$program" copy pub pub.der kept.der
+    ends "copy pub to a folder without rights" 1 "writing kept.der: no file can be created beside it" "" $?
+    chmod 777 "$room/files"
+    chmod 444 "$room/files/kept.der"
+    runs_by "${as[@]}" "$program" copy pub pub.der kept.der
+    ends "copy pub to a file without rights" 1 "writing kept.der: it can't be opened" "" $?
+    chmod 755 "$room/files"
+    chmod 644 "$room/files/kept.der"
+    keeps "copies without rights" kept.der
+}
+
+# A file system of three pages, where the machine allows to mount one: a key of two pages has no room beside an old one
+# of two, and where there is room for no other file, none is created. Both times the old one is kept.
+copies_to_a_full_disk() {
+    unshare -rm true 2> "$room/error" || {
+        echo "run_built: a full disk isn't tried: no file system can be mounted here"
+        return
+    }
+    (hex 30821f47 && hex 02821f40 && head -c 8000 /dev/zero | tr '\0' '\021' && hex 020103) > "$room/files/page.der"
+    mkdir "$room/small"
+    unshare -rm sh -c 'for nodes in 3 2; do
+        mount -t tmpfs -o size=12k,nr_inodes=$nodes none "$2" && cd "$2" && cp ../files/page.der out.der && {
+        "$1" copy pub out.der out.der > ../output 2>> ../errors; echo $? >> ../status
+        cmp out.der ../files/page.der; ls -A; cd ..; umount "$2"; } >> ../listing; done' sh "$program" "$room/small"
+    mv "$room/errors" "$room/error"
+    ends "copies to a full disk" "1
+1" "writing out.der: a write failed
+writing out.der: no file can be created beside it" "" "$(cat "$room/status")"
+    [ "$(cat "$room/listing")" = "out.der
+out.der" ] || fails "copies to a full disk: the key is lost, or another file is there"
+    rm -r "$room/small" "$room/files/page.der" "$room/status" "$room/listing"
+}
+
+# The calls on files, in order, where strace is there to tell: the new file is created, written and on the disk before
+# it is renamed, and OUT isn't truncated. OUT is looked at only behind a key.
+calls_in_order() {
+    local -x ASAN_OPTIONS=detect_leaks=0 # under strace a sanitizer can't look for leaks
+    command -v strace > /dev/null && strace -o "$room/trace" true 2> "$room/error" || {
+        echo "run_built: the order of calls isn't looked at: strace is not installed, or may not trace here"
+        return
+    }
+    runs_by strace -o "$room/trace" -e trace=file,write,fsync,ftruncate "$program" copy pub pub.der out.der
+    ends "copy pub pub.der out.der, traced" 0 "" "" $?
+    sed -n -E -e '/^open.*(\.der|\.pkcs1_tool)"/s/^open[^"]*"([^"]*\/)?([^"]*)", ([A-Z_|]*).*/\2 \3/p' \
+        -e '/^(write|fsync|ftruncate|truncate|creat)\(/s/\(.*//p' \
+        -e 's/^(rename|unlink)[^"]*"([^"]*\/)?([^"]*)".*"([^"]*\/)?([^"]*)".*/\1 \3 \5/p' "$room/trace" |
+        sed -E 's/\|O_(CLOEXEC|NOCTTY|LARGEFILE)//g' > "$room/calls"
+    printf '%s\n' 'pub.der O_RDONLY' 'out.der O_WRONLY' '.pkcs1_tool O_WRONLY|O_CREAT|O_EXCL' write fsync \
+        'rename .pkcs1_tool out.der' | diff - "$room/calls" || fails "copy pub pub.der out.der: other calls (>)"
+    runs_by strace -o "$room/trace" -e trace=file,ftruncate "$program" copy pub null.der out.der
+    ends "copy pub null.der out.der, traced" 1 "reading null.der: $error tag 0x30 was expected, 0x05 was found" "" $?
+    ! sed '/^execve/d' "$room/trace" | grep -q 'out\.der"' || fails "copy pub null.der out.der: out.der is looked at"
+}
+
+copies_keys() {
+    local public=3006020107020103 old=6f6c64
+    local private=301b02010002010702010302010502010b02010d020102020104020106
+    local multi=302802010102010702010302010502010b02010d020102020104020106300b3009020111020102020103
+    local error="PKCS#1 ASN.1 error:" file="PKCS#1 ASN.1 error: a read or a write failed" folder=no_such_folder
+    rm -rf "$room/files" && mkdir "$room/files"
+    hex $public > "$room/files/pub.der"
+    hex $private > "$room/files/priv.der"
+    hex $multi > "$room/files/multi.der"
+    hex ${public}00 > "$room/files/long.der"
+    hex 0500 > "$room/files/null.der"
+    hex 3000 > "$room/files/sequence.der"
+    : > "$room/files/empty.der"
+    hex $old > "$room/files/kept.der"
+    hex $public > "$room/files/same.der"
+    copies 0 "" out.der $public copy pub pub.der out.der
+    copies 0 "" out.der $private copy priv priv.der out.der
+    copies 0 "" out.der $multi copy priv multi.der out.der
+    copies 0 "" out.der $public copy pub pub.der out.der
+    copies 0 "" same.der $public copy pub same.der same.der
+    copies 1 "reading missing.der: $file" kept.der $old copy pub missing.der kept.der
+    copies 1 "reading missing.der: $file" new.der - copy priv missing.der new.der
+    copies 1 "reading long.der: $error bytes follow the value" kept.der $old copy pub long.der kept.der
+    copies 1 "reading null.der: $error tag 0x30 was expected, 0x05 was found" kept.der $old copy pub null.der kept.der
+    copies 1 "reading empty.der: $error the input ends too early" kept.der $old copy priv empty.der kept.der
+    copies 1 "reading sequence.der: $error the input ends too early" kept.der $old copy pub sequence.der kept.der
+    copies 1 "reading priv.der: $error bytes follow the value" kept.der $old copy pub priv.der kept.der
+    copies 1 "reading pub.der: $error the value of tag 0x02 is not allowed" kept.der $old copy priv pub.der kept.der
+    copies 1 "writing $folder/out.der: no file can be created beside it" $folder - copy pub pub.der $folder/out.der
+    copies 1 "reading .: $file" new.der - copy pub . new.der
+    copies 1 "writing .: it can't be opened" new.der - copy pub pub.der .
+    copies 1 "writing new.der/: the new file can't be renamed to it" new.der - copy pub pub.der new.der/
+    copies 1 "writing /dev/full: a write failed" new.der - copy pub pub.der /dev/full
+    copies 1 "writing $folder/out.der: no file can be created beside it" $folder - copy priv priv.der $folder/out.der
+    copies 1 "writing .: it can't be opened" new.der - copy priv priv.der .
+    copies 1 "writing /dev/full: a write failed" new.der - copy priv priv.der /dev/full
+    copies_in_little_memory
+    ends_without_an_end
+    copies_by_other_names
+    copies_through_links
+    keeps_rights
+    takes_no_name
+    copies_to_a_full_disk
+    calls_in_order
+    copies 2 "$usage" kept.der $old copy
+    copies 2 "$usage" new.der - copy pub pub.der
+    copies 2 "$usage" kept.der $old copy pub pub.der kept.der more
+    copies 2 "$usage" kept.der $old copy pem pub.der kept.der
+    copies 2 "$usage" kept.der $old move pub pub.der kept.der
+    copies 2 "$usage" kept.der $old copy pub "$(printf 'pub\377.der')" kept.der
+    keeps_what_is_there
+    keeps_out_without_rights
+}
