@@ -1,22 +1,29 @@
-# Builds libpkcs1 and pkcs1_tool with a C compiler, from what ffi/rust/generated holds of the proved code.
+# Builds libpkcs1 and pkcs1_tool with a C compiler, from what ffi/generated holds of the proved code.
 #
 #     make              out/libpkcs1.a, out/libpkcs1.so and, where there is assembly for the machine, out/pkcs1_tool
-#     make check        tests them, and with cargo the crate for Rust over them; make test does the same
+#     make check        tests them; make test does the same
 #     make install      below PREFIX; make uninstall removes it
 #     make clean
 #
 # PREFIX, LIBDIR, DESTDIR   where to install: /usr/local, PREFIX/lib, and a folder to install below
-# CC, CFLAGS, LDFLAGS       the compiler, its options, and those for linking
+# CC, CFLAGS, LDFLAGS       the compiler, its options, and those for linking; check and install take those of make
 # CROSS, RUN                for another machine: CROSS=aarch64-linux-gnu- RUN=qemu-aarch64 make check
 # CODE=c                    the generated C in place of the assembly for this machine
 # OUT                       the folder for what is made
 # GENERATED                 the folder of the generated files
 PREFIX ?= /usr/local
 OUT ?= out
-GENERATED ?= ffi/rust/generated
+GENERATED ?= ffi/generated
+# What was built is tested and installed, if nothing else is asked for.
+ifeq ($(filter-out check test install,$(or $(MAKECMDGOALS),all)),)
+-include $(OUT)/told
+endif
 CFLAGS ?= -O2
 ifeq ($(origin CC),default)
 CC := $(CROSS)gcc
+ifeq ($(CROSS),)
+CC := $(or $(notdir $(shell for it in gcc cc clang; do command -v $$it && break; done)),gcc)
+endif
 endif
 ifneq ($(word 2,$(OUT)),)
 $(error OUT can't have a space: name another folder than $(OUT))
@@ -62,10 +69,19 @@ all: fresh $(OUT)/libpkcs1.a $(tool)
 fresh:
 	@tools/fresh.sh || true
 
-# All is made again if it would be made in another way.
-export settings := $(CC) $(CFLAGS) $(library) $(LDFLAGS) $(AR) $(OBJCOPY) $(code)
+# All is made again if it would be made in another way, or by another Makefile.
+export settings := $(CC) $(CFLAGS) $(library) $(LDFLAGS) $(AR) $(OBJCOPY) $(code) $(shell cksum < $(firstword $(MAKEFILE_LIST)))
+hash := \#
+define told :=
+$(foreach it,CC CFLAGS LDFLAGS CODE AR OBJCOPY NM READELF,
+ifneq ($$(filter default undefined,$$(origin $(it))),)
+$(it) := $(subst $(hash),\$(hash),$(subst $$,$$$$,$($(it))))
+endif)
+endef
+export told
 $(OUT)/settings: FORCE
 	@mkdir -p $(OUT)
+	@printf '%s\n' "$$told" | cmp -s - $(OUT)/told || printf '%s\n' "$$told" > $(OUT)/told
 	@printf '%s\n' "$$settings" | cmp -s - $@ || printf '%s\n' "$$settings" > $@
 
 $(OUT)/proved.o: $(code) $(OUT)/settings

@@ -1,7 +1,7 @@
 #!/usr/bin/env bash
-# Proves libpkcs1, and builds it for callers in C and in Rust; usage says how. The Makefile at the top builds it from
-# what was proved before, without the toolchain. This needs rt, gcc and binutils, for the tests g++ and cargo too;
-# test.sh reports what else it could use and doesn't find. No network. .ci/run calls it after rt ci, with --library and
+# Proves libpkcs1, and builds it for callers in C; usage says how. The Makefile at the top builds it from what was
+# proved before, without the toolchain. This needs rt, gcc and binutils, for the tests g++ too; test.sh reports what
+# else it could use and doesn't find. No network. .ci/run calls it after rt ci, with --library and
 # --over-ci, which needs all of that too.
 set -eu
 usage="usage: ffi/build.sh                      builds libpkcs1 into ffi/out, and runs its tests
@@ -61,8 +61,8 @@ esac
 
 tools=(rt "$CC" ar ld nm objcopy)
 case $action in
-    test) tools+=("$CXX" cargo) ;;
-    over-ci | tools) tools+=("$CXX" cargo cargo-clippy rustfmt clang clang++ valgrind pkg-config openssl) ;;
+    test) tools+=("$CXX") ;;
+    over-ci | tools) tools+=("$CXX" clang clang++ valgrind pkg-config openssl) ;;
 esac
 for tool in "${tools[@]}"; do
     command -v "$tool" > /dev/null || stop "$tool isn't installed, and is needed"
@@ -149,7 +149,7 @@ link_library() {
     "$CC" -std=c99 -O2 ${CFLAGS-} -fPIC -Wall -Wextra -Werror -pedantic "-I$here/include" \
         -c "$here/c/pkcs1.c" -o "$out/calls.o"
     "$here/link.sh" "$out" || stop "the library isn't linked"
-    say "ffi/out/libpkcs1.a and libpkcs1.so.$version"
+    say "ffi/out/libpkcs1.a and libpkcs1.so, version $version"
 }
 
 build_library

@@ -28,7 +28,7 @@ done
 # for numbers that the machine has no instruction for, and where CFLAGS ask for it.
 own='\.TOC\.|_GLOBAL_OFFSET_TABLE_|_gp_disp|__aeabi_.*|__stack_chk_(fail|guard)|__mem[a-z]*_chk|__[a-z]*[sdt]i[2-4]'
 case "${CC-} ${CFLAGS-}" in
-    *-fsanitize=* | *--coverage*) own='__.*' ;;
+    *-fsanitize=* | *--coverage*) own="$own|__.*" ;;
     *)
         ! $nm -f sysv "$out/pkcs1.o" | grep -E '\|(\.data|\.bss|\*COM\*)[.a-z0-9_]*$' | grep -v '\.data\.rel\.ro' ||
             stop "the calls share data"
@@ -37,7 +37,8 @@ esac
 asked=$({ $nm -u "$out/libpkcs1.a" && $nm -D -u "$out/libpkcs1.so"; } | sed -n 's/^ *U \([^@]*\).*/\1/p' | sort -u |
     grep -vxE "mem(cpy|move|set|cmp)|bcmp|$own" | paste -s -d ' ')
 [ -z "$asked" ] || stop "the library asks for $asked"
-# On 32-bit Arm the ways back are in a table of their own.
-frames=$($readelf --debug-dump=frames --unwind "$out/pkcs1.o" 2> /dev/null | grep -cE 'FDE cie|^0x[0-9a-f]+ <' || true)
+# On 32-bit Arm the ways back are in a table of their own. LLVM's readelf has no --debug-dump.
+frames=$({ $readelf --debug-dump=frames --unwind "$out/pkcs1.o" || $readelf --unwind "$out/pkcs1.o"; } 2> /dev/null |
+    grep -cE 'FDE cie|FDE length|^0x[0-9a-f]+ <' || true)
 places=$($readelf -sW "$out/pkcs1.o" | awk '/ FUNC / { print $7, $2 }' | sort -u | wc -l)
 [ "$frames" = "$places" ] || stop "a debugger can't go back from each call: $frames ways back, $places calls"

@@ -5,8 +5,8 @@
 set -eu
 out=$1 program=$2
 here=$(dirname "$0")
-wraps=$(sed -nE 's/^(EACH|TEST|COUNT|FILL)\(([a-z0-9_]*),.*/-Wl,--wrap=\2/p' "$here/c/passed.c")
+wraps=$(sed -nE 's/^(EACH|TEST|COUNT|FILL|COMPARE)\(([a-z0-9_]*),.*/-Wl,--wrap=\2/p' "$here/c/passed.c")
 # shellcheck disable=SC2086
-$CC ${CFLAGS-} -fno-lto -std=c99 "-I$here/include" "$here/c/test.c" "$here/c/rows.c" "$here/c/passed.c" \
+$CC ${CFLAGS-} -fno-lto -std=c99 "-I$here/include" "$here/c/test.c" "$here/c/rows.c" "$here/c/large.c" "$here/c/passed.c" \
     "$out/calls.o" "$out/proved.o" $wraps -o "$program"
-${RUN-} "$program" "$here/rust/tests/statuses"
+${RUN-} "$program" "$here/tests/statuses"

@@ -26,18 +26,18 @@ link_secrets() {
 
 # The tests are of the calls in a folder. Each prints what it finds wrong.
 path_is_public() {
-    link_secrets "$1" && valgrind --quiet --error-exitcode=9 "$1/secrets" ffi/rust/tests/keys path
+    link_secrets "$1" && valgrind --quiet --error-exitcode=9 "$1/secrets" ffi/tests/keys path
 }
 first_octets_are_alike() {
     link_secrets "$1" && valgrind --tool=callgrind --collect-atstart=no --combine-dumps=yes \
-        --callgrind-out-file="$1/dumps" "$1/secrets" ffi/rust/tests/keys first_octets || return
+        --callgrind-out-file="$1/dumps" "$1/secrets" ffi/tests/keys first_octets || return
     awk 'sub(/^desc: Trigger: Client Request: /, "") { key = $0 } /^totals: / && key { print key, $2; key = "" }' \
         "$1/dumps" | sort -u > "$1/counts"
     cat "$1/counts"
     [ "$(wc -l < "$1/counts")" = 4 ]
 }
 leaves_nothing() {
-    link_secrets "$1" && "$1/secrets" ffi/rust/tests/keys traces
+    link_secrets "$1" && "$1/secrets" ffi/tests/keys traces
 }
 # takes FOLDER DECODE ENCODE: whether pkcs1.h says so many octets of stack, or more, of the code in this folder.
 takes() {
@@ -54,8 +54,8 @@ stack_suffices() {
 }
 stack_suffices_in_tests() {
     # shellcheck disable=SC2046,SC2086
-    link "$1" stack "$room"/{stack,painted,test,rows}.o ${coders//pkcs1_/-Wl,--wrap=pkcs1_} &&
-        "$1/stack" ffi/rust/tests/statuses > "$1/taken" && takes "$1" $(sed -n 's/^stack //p' "$1/taken")
+    link "$1" stack "$room"/{stack,painted,test,rows,large}.o ${coders//pkcs1_/-Wl,--wrap=pkcs1_} &&
+        "$1/stack" ffi/tests/statuses > "$1/taken" && takes "$1" $(sed -n 's/^stack //p' "$1/taken")
 }
 keeps_nothing() {
     ffi/check_object.sh "$1"
@@ -75,7 +75,7 @@ notices() {
     grep -qE "$2" "$room/log" || stop "$1 notices $4 otherwise: $(cat "$room/log")"
 }
 
-for name in painted secrets stack test rows; do
+for name in painted secrets stack test rows large; do
     # shellcheck disable=SC2086
     gcc $warned -O1 -g -c "ffi/c/$name.c" -o "$room/$name.o"
 done

@@ -3,7 +3,7 @@
 # has 3 % more or fewer, or where a row is missing or new. Contracts say nothing of time. Where a function is large, the
 # proof's own compiler leaves an inline(always) out without a message, and a call may take a fifth more: it's seen here.
 #
-#     ffi/count.sh [LIBRARY]    LIBRARY: a libpkcs1.a, in place of the one that make builds of ffi/rust/generated
+#     ffi/count.sh [LIBRARY]    LIBRARY: a libpkcs1.a, in place of the one that make builds of ffi/generated
 #     ffi/count.sh --write      writes the table anew
 #
 # It needs make, gcc, binutils and valgrind, on x86-64. Counts depend neither on the processor nor on the C library, but
@@ -49,7 +49,7 @@ count() {
     quietly gcc -std=c99 -O2 -Wall -Wextra -Werror -pedantic -Iffi/include ffi/c/count.c "$library" $wraps \
         -o "$room/count"
     quietly valgrind --tool=callgrind --collect-atstart=no --combine-dumps=yes --callgrind-out-file="$room/dumps" \
-        "$room/count" ffi/rust/tests/keys
+        "$room/count" ffi/tests/keys
     awk -v gcc="$(gcc -dumpfullversion)" '
         BEGIN { print "# instructions of a call on an input, with gcc", gcc }
         sub(/^desc: Trigger: Client Request: /, "") { call = $1; input = $2; next }

@@ -23,8 +23,7 @@ lib=${DESTDIR-}$libdir
 doc=${DESTDIR-}$prefix/share/doc/libpkcs1
 bin=${DESTDIR-}$prefix/bin
 man=${DESTDIR-}$prefix/share/man/man1
-file_version=${version%%-*}
-soname=libpkcs1.so.${version%%.*}
+soname=libpkcs1.so.$(sed -n 's/^#define PKCS1_ABI //p' "$here/include/pkcs1.h")
 
 # put MODE FILE FOLDER: replaces the file of this name in one step. A program that maps the old one goes on with it.
 put() {
@@ -42,14 +41,13 @@ add() {
     put 644 "$here/include/pkcs1.h" "$include"
     put 644 "$here/include/pkcs1_c.h" "$include"
     put 644 "$built/libpkcs1.a" "$lib"
-    put 644 "$built/libpkcs1.so.$file_version" "$lib"
-    link "libpkcs1.so.$file_version" "$soname" "$lib"
+    put 644 "$built/$soname" "$lib"
     link "$soname" libpkcs1.so "$lib"
     to_prefix=$(realpath -sm --relative-to="$libdir/pkgconfig" "$prefix")
     text=$(< "$here/libpkcs1.pc.in")
     text=${text//@version@/"$version"}
-    printf '%s\n' "${text//@to_prefix@/"${to_prefix// /\\ }"}" > "$built/libpkcs1.pc"
-    put 644 "$built/libpkcs1.pc" "$lib/pkgconfig"
+    printf '%s\n' "${text//@to_prefix@/"${to_prefix// /\\ }"}" > "$lib/pkgconfig/.new.$$"
+    mv -fT "$lib/pkgconfig/.new.$$" "$lib/pkgconfig/libpkcs1.pc"
     put 644 "$top/LICENSE-APACHE" "$doc"
     put 644 "$top/LICENSE-MIT" "$doc"
     if [ -n "$tool" ]; then
@@ -67,7 +65,7 @@ remove() {
         exit 1
     }
     rm -f "$include/pkcs1.h" "$include/pkcs1_c.h" "$lib"/libpkcs1.{a,so} "$lib/$soname" \
-        "$lib/libpkcs1.so.$file_version" "$lib/pkgconfig/libpkcs1.pc" "$bin/pkcs1_tool" "$man/pkcs1_tool.1" \
+        "$lib/pkgconfig/libpkcs1.pc" "$bin/pkcs1_tool" "$man/pkcs1_tool.1" \
         "$doc"/LICENSE-{APACHE,MIT}
     rmdir --ignore-fail-on-non-empty "$doc"
 }

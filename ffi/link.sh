@@ -1,13 +1,14 @@
 #!/bin/sh
 # link.sh OUT: links OUT/proved.o, the proved calls, and OUT/calls.o, those of pkcs1.h over them, into libpkcs1.a and
-# libpkcs1.so.VERSION, in which only what the headers declare is global, with the version PKCS1_MAJOR. No other definition
-# of a proved call takes its place there. The Makefile and build.sh call it. CC, CFLAGS, LDFLAGS, AR, OBJCOPY and NM are as in the Makefile.
+# libpkcs1.so.ABI, in which only what the headers declare is global, with the version PKCS1_ABI. No other definition
+# of a proved call takes its place there. The Makefile and build.sh call it. CC, CFLAGS, LDFLAGS, AR, OBJCOPY and NM are
+# as in the Makefile.
 set -eu
 out=$1
 headers=$(dirname "$0")/include
-version=$(sed -n 's/^#define PKCS1_VERSION_[A-Z]* //p' "$headers/pkcs1.h" | paste -s -d .)
-soname=libpkcs1.so.${version%%.*}
-symbols=PKCS1_${version%%.*}
+abi=$(sed -n 's/^#define PKCS1_ABI //p' "$headers/pkcs1.h")
+soname=libpkcs1.so.$abi
+symbols=PKCS1_$abi
 export LC_ALL=C
 
 {
@@ -23,11 +24,10 @@ printf '%s { global: %s local: *; };\n' "$symbols" "$(sed 's/$/;/' "$out/declare
 # A sanitizer's calls are in the program that is linked with it.
 hardened=-Wl,-Bsymbolic,-z,relro,-z,now
 case "$CC ${CFLAGS-}" in *-fsanitize=*) ;; *) hardened=$hardened,-z,defs ;; esac
-$CC ${CFLAGS-} -fno-lto -shared ${LDFLAGS-} -o "$out/libpkcs1.so.$version" -Wl,-soname,"$soname" \
+$CC ${CFLAGS-} -fno-lto -shared ${LDFLAGS-} -o "$out/$soname" -Wl,-soname,"$soname" \
     -Wl,--version-script="$out/exports.map" $hardened "$out/pkcs1.o"
-# Copies, since rt ci takes no tree with links.
-cp "$out/libpkcs1.so.$version" "$out/$soname"
-cp "$out/libpkcs1.so.$version" "$out/libpkcs1.so"
+# A copy, since rt ci takes no tree with links.
+cp "$out/$soname" "$out/libpkcs1.so"
 ${AR:-ar} rcs "$out/libpkcs1.a" "$out/pkcs1.o"
 
 # exports WORD..: what nm, called with these words, prints of the symbols that are defined.
@@ -35,7 +35,8 @@ exports() {
     ${NM:-nm} --defined-only "$@" | sed -n 's/^[0-9a-f]* [A-Z] //p' | grep -v '^__x86\.get_pc_thunk\.' | sort
 }
 exports -g "$out/libpkcs1.a" > "$out/exports.a"
-exports -D "$out/libpkcs1.so" | sed -n "s/@@$symbols\$//p" > "$out/exports.so"
+# GNU's ld also makes a symbol with the name of the version.
+exports -D "$out/libpkcs1.so" | sed -n "s/@@$symbols\$//p" | grep -vx "$symbols" > "$out/exports.so"
 for of in a so; do
     diff "$out/declared" "$out/exports.$of" || {
         echo "ffi/link.sh: what the headers declare (<) and what libpkcs1.$of exports (>) differ" >&2

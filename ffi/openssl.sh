@@ -1,38 +1,31 @@
 #!/usr/bin/env bash
-# openssl.sh FOLDER..: the examples in each folder read what OpenSSL makes. read_key KIND FILE OUT decodes it, and encodes
-# it again as the same bytes; those of all folders print the same numbers. The others do one thing each, which OpenSSL
-# does too. Called by test.sh.
+# openssl.sh FOLDER: the examples in the folder read what OpenSSL makes. read_key KIND FILE OUT decodes it, and encodes it
+# again as the same bytes. The others do one thing each, which OpenSSL does too. Called by test.sh.
 set -eu -o pipefail
+examples=$1
 room=$(mktemp -d)
 trap 'rm -rf "$room"' EXIT
 count=0
 
-# again KIND FILE: runs each read_key on the file, and compares.
-folders=("$@")
+# again KIND FILE: read_key decodes the file, and encodes it again.
 again() {
-    local kind=$1 file=$2 folder
-    for folder in "${folders[@]}"; do
-        "$folder/read_key" "$kind" "$file" "$room/again" > "$room/numbers"
-        cmp "$file" "$room/again"
-        [ ! -e "$room/first" ] || cmp "$room/first" "$room/numbers"
-        mv "$room/numbers" "$room/first"
-        count=$((count + 1))
-    done
-    rm "$room/first"
+    "$examples/read_key" "$1" "$2" "$room/again" > "$room/numbers"
+    cmp "$2" "$room/again"
+    count=$((count + 1))
 }
-# does NAME IN WANT [TEXT]: each example of this name makes the file WANT of the file IN, and prints TEXT; it says that it
-# can't read WANT.
+# rejects NAME IN [OUT]: the example says that it can't read the file.
+rejects() {
+    if "$examples/$1" "${@:2}" > "$room/text" 2>&1 || ! grep -q "$2: " "$room/text"; then
+        echo "ffi/openssl.sh: $examples/$1 reads $2" >&2
+        exit 1
+    fi
+}
+# does NAME IN WANT [TEXT]: the example makes the file WANT of the file IN, and prints TEXT; it can't read WANT.
 does() {
-    local folder
-    for folder in "${folders[@]}"; do
-        "$folder/$1" "$2" "$room/made" | cmp - <(printf '%s' "${4+$4
+    "$examples/$1" "$2" "$room/made" | cmp - <(printf '%s' "${4+$4
 }")
-        cmp "$room/made" "$3"
-        if "$folder/$1" "$3" "$room/made" > "$room/text" 2>&1 || ! grep -q "$3: " "$room/text"; then
-            echo "ffi/openssl.sh: $folder/$1 reads $3" >&2
-            exit 1
-        fi
-    done
+    cmp "$room/made" "$3"
+    rejects "$1" "$3" "$room/made"
 }
 
 # of_params NAME: writes the parameters after id-RSASSA-PSS in the file NAME to params.der.
@@ -55,22 +48,17 @@ for key in 2:2047 3:2048 4:4096; do
         "modulus of $(((${key#*:} + 7) / 8)) octets, ${key%:*} primes, without attributes"
     does make_container "$room/key.der" "$room/p8.der"
     openssl rsa -in "$room/key.pem" -noout -modulus | sed 's/Modulus=//' | tr A-F a-f > "$room/modulus"
-    "$1/read_key" pub "$room/pub.der" | sed -n 's/^n=//p' | cmp - "$room/modulus"
+    "$examples/read_key" pub "$room/pub.der" | sed -n 's/^n=//p' | cmp - "$room/modulus"
     bits=$(openssl rsa -in "$room/key.pem" -noout -text | sed -n 's/.*(\([0-9]*\) bit.*/\1/p')
-    "$1/read_key" pub "$room/pub.der" | sed -n 's/^bits=//p' | cmp - <(echo "$bits")
+    "$examples/read_key" pub "$room/pub.der" | sed -n 's/^bits=//p' | cmp - <(echo "$bits")
 done
-# says FILE TEXT: each signature_algorithm prints the text of the certificate's signatureAlgorithm.
+# says FILE TEXT: signature_algorithm prints the text of the certificate's signatureAlgorithm. It reads no certificate.
 says() {
-    local at folder
+    local at
     at=$(openssl asn1parse -inform DER -in "$1" | sed -n 's/^ *\([0-9]*\):d=1 .*: SEQUENCE.*/\1/p' | tail -1)
     openssl asn1parse -inform DER -in "$1" -strparse "$at" -noout -out "$room/algorithm.der"
-    for folder in "${folders[@]}"; do
-        "$folder/signature_algorithm" "$room/algorithm.der" | cmp - <(echo "$2")
-        if "$folder/signature_algorithm" "$1" > "$room/text" 2>&1 || ! grep -q "$1: " "$room/text"; then
-            echo "ffi/openssl.sh: $folder/signature_algorithm reads a whole certificate" >&2
-            exit 1
-        fi
-    done
+    "$examples/signature_algorithm" "$room/algorithm.der" | cmp - <(echo "$2")
+    rejects signature_algorithm "$1"
 }
 for salt in 20 32 -1; do
     openssl req -new -x509 -key "$room/key.pem" -subj /CN=a -sha256 -sigopt rsa_padding_mode:pss \
@@ -78,10 +66,8 @@ for salt in 20 32 -1; do
     of_params "$room/certificate.der"
     again pss "$room/params.der"
     says "$room/certificate.der" "SHA-256, a salt of ${salt/-1/32} octets"
-    for folder in "${folders[@]}"; do
-        "$folder/make_params" "$room/made"
-        [ "$salt" = 20 ] || cmp "$room/made" "$room/algorithm.der"
-    done
+    "$examples/make_params" "$room/made"
+    [ "$salt" = 20 ] || cmp "$room/made" "$room/algorithm.der"
 done
 openssl req -new -key "$room/key.pem" -subj /CN=a -sha1 -sigopt rsa_padding_mode:pss -sigopt rsa_pss_saltlen:20 \
     -outform DER -out "$room/request.der"

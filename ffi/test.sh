@@ -1,11 +1,11 @@
 #!/usr/bin/env bash
-# Tests what build.sh, which calls this, made in out/ of the proved library: in C99 and C++, by gcc, and by clang if it is installed; under
-# the sanitizers and valgrind; installed, and found by pkg-config; in Rust; on what OpenSSL makes. A tool that isn't
-# installed is reported, and its tests are left out.
+# Tests what build.sh, which calls this, made in out/ of the proved library: in C99 and C++, by gcc, and by clang if it
+# is installed; under the sanitizers and valgrind; beside a second reader, on octets that libFuzzer makes; installed, and
+# found by pkg-config; on what OpenSSL makes. A tool that isn't installed is reported, and its tests are left out.
 set -eu
 here=$(cd "$(dirname "$0")" && pwd)
 out=$here/out
-statuses=$here/rust/tests/statuses
+statuses=$here/tests/statuses
 CC=${CC:-gcc} CXX=${CXX:-g++}
 room=$(mktemp -d)
 trap 'rm -rf "$room"' EXIT
@@ -27,7 +27,7 @@ have clang++ "the C++ test is compiled by $CXX alone" && clangxx=clang++ || clan
 # C and C++.
 warned='-O1 -g -Wall -Wextra -Werror -pedantic'
 flags=($warned "-I$here/include")
-test=("$here/c/test.c" "$here/c/rows.c")
+test=("$here/c/test.c" "$here/c/rows.c" "$here/c/large.c")
 printf '%s\n' '#include <pkcs1.h>' 'void ignore(struct pkcs1_public_key *key);' \
     'void ignore(struct pkcs1_public_key *key) { pkcs1_public_key_decode(0, 0, key); }' > "$room/ignored.c"
 # warns COMPILER..: it warns of a caller that ignores a status.
@@ -67,6 +67,7 @@ CFLAGS=$warned "$here/check_freestanding.sh" "$out" "$room/freestanding"
 if have valgrind "the C test runs under the sanitizers alone"; then
     valgrind --quiet --error-exitcode=9 --leak-check=full "$room/test" "$statuses"
 fi
+[ -z "$clang" ] || "$here/fuzz/run.sh" 10 "$out"
 conduct=$here/conduct.sh
 for tool in gcc make python3 valgrind; do
     have $tool "path, traces and stack of the calls aren't tested" || conduct=
@@ -85,8 +86,8 @@ export LIBDIR=$room/c/lib64
 (umask 077 && CFLAGS=-DNDEBUG LDFLAGS=-Wl,-z,nodelete "$here/build.sh" install "$room/c" > /dev/null)
 cp "$room/modulus" "$room/pkcs1_tool"
 "$here/install.sh" add "$room/c" "$version" "$out" "$room/pkcs1_tool" > /dev/null
-[ -z "$(find "$room/c" -type d ! -perm 755 -o -type f ! -perm 644 ! -path "*/bin/*")" ] ||
-    stop "others can't read what is installed"
+[ -z "$(find "$room/c" -type d ! -perm 755 -o -type f ! -perm 644 ! -path "*/bin/*" \
+    -o -path "*/bin/*" ! -perm 755)" ] || stop "what is installed has other modes"
 readelf -d "$LIBDIR/libpkcs1.so" | grep -q NODELETE || stop "LDFLAGS aren't used"
 if have pkg-config "LIBDIR isn't tested"; then
     "$CC" "$here/c/modulus.c" $(PKG_CONFIG_PATH=$LIBDIR/pkgconfig pkg-config --cflags --libs libpkcs1) -o "$room/shared"
@@ -128,34 +129,10 @@ cp "$here/../crates/pkcs1_c/out/libpkcs1_c.a" "$room/unproved"
 UNPROVED=$room/unproved "$here/build.sh" install-unproved "$room/d" > /dev/null
 grep -qx "Version: $version-unproved" "$room/d/lib/pkgconfig/libpkcs1.pc" || stop "libpkcs1.pc doesn't say that it isn't proved"
 
-# Rust.
-cd "$here/rust"
-export PKCS1_LIB=$out CARGO_TARGET_DIR=$out/target
-# cargo_quietly WORD..: runs cargo, and shows what it prints only if it fails.
-cargo_quietly() {
-    cargo "$@" > "$out/cargo.log" 2>&1 || {
-        cat "$out/cargo.log" >&2
-        stop "cargo $1 failed"
-    }
-}
-cargo_quietly test --offline --quiet
-if have valgrind "the Rust tests don't run under it"; then
-    CARGO_TARGET_X86_64_UNKNOWN_LINUX_GNU_RUNNER='valgrind --quiet --error-exitcode=9' cargo_quietly test --offline --quiet --tests
-fi
-cargo_quietly build --offline --quiet --examples
-RUSTDOCFLAGS='-D warnings' cargo_quietly doc --offline --quiet --no-deps
-if have rustfmt "the layout of the crate's sources isn't checked"; then
-    cargo_quietly fmt --check
-fi
-if have cargo-clippy "the crate isn't linted"; then
-    cargo_quietly clippy --offline --quiet --all-targets -- -D warnings
-fi
-"$here/test_crate.sh" "$out" "$room/a b"
-
 # The example in each language: it prints the key in a file, and rejects other files.
 : > "$room/empty"
 head -c 65537 /dev/zero > "$room/long"
-programs=("$room/modulus" "$room/shared" "$room/static" "$out/target/debug/examples/modulus")
+programs=("$room/modulus" "$room/shared" "$room/static")
 if have python3 "the program in Python isn't run"; then
     printf '%s\n' '#!/bin/sh' "export LD_LIBRARY_PATH='$room/a b/lib'" \
         "exec python3 '$here/python/modulus.py' \"\$@\"" > "$room/python"
@@ -169,20 +146,18 @@ for program in "${programs[@]}"; do
         [ -s "$room/text" ] || stop "$program doesn't say what is wrong with $file"
     done
 done
-for program in "$room/bits" "$out/target/debug/examples/bits"; do
-    [ "$("$program" < "$room/pub.der")" = '16 bits' ] || stop "$program prints another bit length"
-    for file in empty long; do
-        "$program" < "$room/$file" > "$room/text" 2>&1 && stop "$program reads a key in $file"
-        [ -s "$room/text" ] || stop "$program doesn't say what is wrong with $file"
-    done
+[ "$("$room/bits" < "$room/pub.der")" = '16 bits' ] || stop "bits prints another bit length"
+for file in empty long; do
+    "$room/bits" < "$room/$file" > "$room/text" 2>&1 && stop "bits reads a key in $file"
+    [ -s "$room/text" ] || stop "bits doesn't say what is wrong with $file"
 done
 for want in 'none: No such file' 'empty: the file is empty' 'long: the file is longer than 65536 bytes'; do
     "$room/modulus" "$room/${want%%:*}" 2>&1 | grep -q "$want" || stop "modulus doesn't print '$want'"
 done
 if have openssl "nothing was compared with it"; then
-    "$here/openssl.sh" "$room" "$out/target/debug/examples"
+    "$here/openssl.sh" "$room"
     top=$here/..
-    "$here/openssl_commands.sh" "$room" "$here/include/pkcs1.h" "$here/rust/README.md" "$top/README.md" \
-        "$top"/docs/*.md "$top/crates/pkcs1_tool/pkcs1_tool.1"
+    "$here/openssl_commands.sh" "$room" "$here/include/pkcs1.h" "$top"/{README.md,rust/README.md,docs/*.md} \
+        "$top/crates/pkcs1_tool/pkcs1_tool.1"
 fi
-printf 'ffi: %s calls and constants, tested in C and Rust\n' "$(wc -l < "$out/declared")"
+printf 'ffi: %s calls and constants, tested in C\n' "$(wc -l < "$out/declared")"

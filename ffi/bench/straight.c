@@ -1,7 +1,7 @@
 /* straight KEYS: how many instructions would reading take at least? Straight lines of C read what the decoders of
  * pkcs1.h read, fill the same structs, and are as strict, but have no kind of an error, and no proof. On inputs with
  * each octet changed, and cut off everywhere, both give the same. Then both are called once on each input, while
- * callgrind counts. KEYS is the folder of keys that OpenSSL made, rust/tests/keys. The script beside this runs it. */
+ * callgrind counts. KEYS is the folder of keys that OpenSSL made, ffi/tests/keys. The script beside this runs it. */
 #include "pkcs1.h"
 #include <stdio.h>
 #include <stdlib.h>

@@ -1,5 +1,5 @@
 /* count KEYS: makes some calls of pkcs1.h, each once on an input, while callgrind counts instructions. KEYS is the
- * folder of the keys that OpenSSL made, rust/tests/keys. count.sh runs this. */
+ * folder of the keys that OpenSSL made, ffi/tests/keys. count.sh runs this. */
 #include "pkcs1.h"
 #include "test.h"
 #include <string.h>

@@ -1,10 +1,11 @@
-/* What the tool's proved code asks of the system beside read, write, open and close, and C's `main`, which calls it.
+/* What the tool's proved code asks of the system beside the C library's own calls, and C's `main`, which calls it.
  * Trusted, not proved: it stands for the kit's libos_c.a. */
 #include <errno.h>
 #include <stddef.h>
 #include <stdint.h>
 #include <stdlib.h>
 #include <string.h>
+#include <sys/syscall.h>
 
 extern char **environ;
 
@@ -15,6 +16,15 @@ ptrdiff_t pkcs1_rattle_env(const char *name, uint8_t *room, size_t len);
 ptrdiff_t pkcs1_rattle_env_at(size_t i, uint8_t *room, size_t len);
 int pkcs1_rattle_errno(void);
 void pkcs1_rattle_set_errno(int number);
+
+#ifndef __GLIBC__
+/* The proved code calls it by this name, which musl has from 1.2.5 on. */
+long syscall(long number, ...);
+int statx(int folder, const char *path, int flags, unsigned wanted, void *found);
+__attribute__((weak)) int statx(int folder, const char *path, int flags, unsigned wanted, void *found) {
+    return (int)syscall(SYS_statx, folder, path, flags, wanted, found);
+}
+#endif
 
 static int count;
 static char **words;

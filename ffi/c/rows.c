@@ -2,7 +2,6 @@
  * value is encoded again, as the same octets if it has only one encoding. It is also encoded with too little room and
  * with more, and with each of its fields empty. Each field points to where it stands in the input. */
 #include "test.h"
-#include "pkcs1.h"
 #include <string.h>
 
 static const struct { const char *name; uint32_t status; } names[] = {
@@ -12,24 +11,11 @@ static const struct { const char *name; uint32_t status; } names[] = {
     {"PARAMETERS_MISSING", PKCS1_PARAMETERS_MISSING}, {"TAG_UNEXPECTED", PKCS1_TAG_UNEXPECTED},
     {"TAG_UNKNOWN", PKCS1_TAG_UNKNOWN}, {"TRAILING_DATA", PKCS1_TRAILING_DATA}, {"VALUE", PKCS1_VALUE}};
 
-enum { OTHERS = 4 };
-
-union value {
-    struct pkcs1_public_key key;
-    struct {
-        struct pkcs1_private_key key;
-        struct pkcs1_private_key_info info;
-        struct pkcs1_other_prime others[OTHERS];
-    } priv;
-    struct pkcs1_pss_params pss;
-    struct pkcs1_oaep_params oaep;
-};
-
-static uint32_t read_row(const char *kind, const uint8_t *der, size_t len, union value *v) {
+uint32_t read_row(const char *kind, const uint8_t *der, size_t len, union value *v) {
     if (strcmp(kind, "pub") == 0) return pkcs1_public_key_decode(der, len, &v->key);
-    if (strcmp(kind, "priv") == 0) return pkcs1_private_key_decode(der, len, &v->priv.key, v->priv.others, OTHERS);
+    if (strcmp(kind, "priv") == 0) return pkcs1_private_key_decode(der, len, &v->priv.key, v->priv.others, LISTED);
     if (strcmp(kind, "p8") == 0)
-        return pkcs1_private_key_info_decode(der, len, &v->priv.info, &v->priv.key, v->priv.others, OTHERS);
+        return pkcs1_private_key_info_decode(der, len, &v->priv.info, &v->priv.key, v->priv.others, LISTED);
     if (strcmp(kind, "pss") == 0) return pkcs1_pss_params_decode(der, len, &v->pss);
     if (strcmp(kind, "pss-strict") == 0) return pkcs1_pss_params_decode_strict(der, len, &v->pss);
     if (strcmp(kind, "oaep") == 0) return pkcs1_oaep_params_decode(der, len, &v->oaep);
@@ -41,7 +27,7 @@ static uint32_t read_row(const char *kind, const uint8_t *der, size_t len, union
     return pkcs1_oaep_params_decode_strict(der, len, &v->oaep);
 }
 
-static uint32_t write_row(const char *kind, union value *v, uint8_t *out, size_t room, size_t *len) {
+uint32_t write_row(const char *kind, const union value *v, uint8_t *out, size_t room, size_t *len) {
     if (strcmp(kind, "pub") == 0) return pkcs1_public_key_encode(&v->key, out, room, len);
     if (strcmp(kind, "priv") == 0)
         return pkcs1_private_key_encode(&v->priv.key, v->priv.others, v->priv.key.other_primes, out, room, len);

@@ -9,7 +9,7 @@
  *     valgrind --tool=callgrind secrets KEYS first_octets
  *                                           dumps how many instructions the calls take with other first octets.
  *
- * KEYS is the folder of the keys that OpenSSL made, rust/tests/keys. Linked with --wrap for memcpy and memmove. */
+ * KEYS is the folder of the keys that OpenSSL made, ffi/tests/keys. Linked with --wrap for memcpy and memmove. */
 #include "painted.h"
 #include "pkcs1.h"
 #include "test.h"

@@ -1,5 +1,6 @@
-/* test STATUSES, or test --version: tests the calls of pkcs1.h. STATUSES is a table of inputs (rust/tests/statuses),
- * which rows.c tries. Structs to be filled are uninitialised, so that valgrind reports it if they are read. */
+/* test STATUSES, or test --version: tests the calls of pkcs1.h. STATUSES is a table of inputs (ffi/tests/statuses),
+ * which rows.c tries. large.c has what is long. Structs to be filled are uninitialised, so that valgrind reports it if
+ * they are read. */
 #include "test.h"
 #include "pkcs1_c.h"
 #include <string.h>
@@ -99,6 +100,11 @@ static void one_other_prime(void) {
     CHECK(pkcs1_private_key_encode(&key, others, 1, out, sizeof out, &len) == PKCS1_OK && len == sizeof three);
     CHECK(memcmp(out, three, len) == 0);
     old = key;
+    memset(others, 0, sizeof others); /* how many there are is compared before the numbers are looked at */
+    CHECK(pkcs1_private_key_encode(&key, others, 2, out, sizeof out, &len) == PKCS1_OTHER_PRIMES);
+    key.other_primes = 3;
+    CHECK(pkcs1_private_key_encode(&key, others, 2, out, sizeof out, &len) == PKCS1_OTHER_PRIMES);
+    key = old;
     memcpy(others, marks, sizeof marks);
     CHECK(pkcs1_private_key_decode(three, sizeof three - 1, &key, others, 2) == PKCS1_INCOMPLETE);
     CHECK(memcmp(&key, &old, sizeof key) == 0 && memcmp(others, marks, sizeof marks) == 0);
@@ -190,6 +196,18 @@ enum { MOST_PRIMES = 64 };
 enum { MOST_PRIMES = 260 };
 #endif
 
+/* A container of this key: all its other primes are read, of which the last begins with this number. */
+static void in_a_container(const uint8_t *der, size_t der_len, size_t count) {
+    struct pkcs1_private_key_info info = {{der, der_len}, false, {NULL, 0}};
+    struct pkcs1_private_key key;
+    struct pkcs1_other_prime read[260];
+    uint8_t out[4100];
+    size_t len;
+    CHECK(pkcs1_private_key_info_encode(&info, out, sizeof out, &len) == PKCS1_OK);
+    CHECK(pkcs1_private_key_info_decode(out, len, &info, &key, read, count) == PKCS1_OK && key.other_primes == count);
+    CHECK(read[count - 1].prime.len == 1 && read[count - 1].prime.data[0] == (uint8_t)count);
+}
+
 /* Each number of other primes that is written, up to 260, written and read again; not written, for lack of room or of
  * a number. */
 static void many_other_primes(void) {
@@ -206,6 +224,12 @@ static void many_other_primes(void) {
         key.other_primes = count;
         if (count > MOST_PRIMES) {
             CHECK(pkcs1_private_key_encode(&key, others, count, out, sizeof out, &len) == PKCS1_OUT_OF_MEMORY && len == 0);
+            key.modulus.len = 0;
+            CHECK(pkcs1_private_key_encode(&key, others, count, out, sizeof out, &len) == PKCS1_OUT_OF_MEMORY && len == 0);
+            key.modulus.len = 1;
+            others[count - 1].exponent.len = 0;
+            CHECK(pkcs1_private_key_encode(&key, others, count, out, sizeof out, &len) == PKCS1_LENGTH && len == 0);
+            others[count - 1].exponent.len = 1;
             key.other_primes--;
             CHECK(pkcs1_c_private_key_encode(&key, others, count, out, sizeof out, &len) == PKCS1_OTHER_PRIMES);
             return;
@@ -220,6 +244,7 @@ static void many_other_primes(void) {
             CHECK(read[i].prime.len == 1 && read[i].prime.data[0] == (uint8_t)(i + 1) && same(read[i].exponent, "\1", 1));
             CHECK(read[i].coefficient.len == 1 && read[i].coefficient.data[0] == (uint8_t)(i + 1));
         }
+        in_a_container(out, len, count);
     }
 }
 
@@ -283,6 +308,12 @@ static void pss(void) {
     CHECK(pkcs1_pss_params_encode(&params, out, sizeof out, &len) == PKCS1_OK && len == sizeof no_hash && memcmp(out, no_hash, len) == 0);
     pkcs1_pss_params_init(&params, &pkcs1_oid_sha1, 20);
     CHECK(pkcs1_pss_params_encode(&params, out, sizeof out, &len) == PKCS1_OK && len == 2 && memcmp(out, none, 2) == 0);
+    for (unsigned salt_len = 0; salt_len <= 255; salt_len++) {
+        pkcs1_pss_params_init(&params, &pkcs1_oid_sha512, (uint8_t)salt_len);
+        CHECK(params.salt_len == salt_len);
+        CHECK(pkcs1_pss_params_encode(&params, out, sizeof out, &len) == PKCS1_OK);
+        CHECK(pkcs1_pss_params_decode_strict(out, len, &params) == PKCS1_OK && params.salt_len == salt_len);
+    }
 }
 
 /* The fields after a false `has_..` aren't read. */
@@ -431,6 +462,8 @@ static void in_both_places(void) {
 static void labels(void) {
     struct pkcs1_oaep_params params, no_fields = {0};
     struct pkcs1_bytes label = {NULL, 77};
+    pkcs1_oaep_params_init(&params, &pkcs1_oid_sha1, NULL, 0);
+    CHECK(same(params.p_source.parameters, "", 0)); /* not null */
     CHECK(!pkcs1_oaep_label(&no_fields, &label) && label.data == NULL && label.len == 77);
     pkcs1_oaep_params_init(&params, &pkcs1_oid_sha1, (const uint8_t *)"label", 5);
     CHECK(pkcs1_oaep_label(&params, &label) && same(label, "label", 5));
@@ -517,6 +550,7 @@ int main(int argc, char **argv) {
     labels();
     texts();
     try_rows(argv[1]);
+    try_large();
     proved_calls();
     puts("c: ok");
     return 0;

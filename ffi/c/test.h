@@ -2,7 +2,7 @@
 #ifndef TEST_H
 #define TEST_H
 
-#include <stddef.h>
+#include "pkcs1.h"
 #include <stdio.h>
 #include <stdlib.h>
 
@@ -13,5 +13,23 @@ void *filled(size_t n);
 
 /* Tries the table of inputs in this file. */
 void try_rows(const char *path);
+
+/* Tries inputs, labels, identifiers and rooms whose lengths don't fit into few bits. */
+void try_large(void);
+
+/* A value that is read as one of these kinds: pub, priv, p8, and pss, pss-alg, oaep, oaep-alg, which may end in -strict. */
+enum { LISTED = 4 };
+union value {
+    struct pkcs1_public_key key;
+    struct {
+        struct pkcs1_private_key key;
+        struct pkcs1_private_key_info info;
+        struct pkcs1_other_prime others[LISTED];
+    } priv;
+    struct pkcs1_pss_params pss;
+    struct pkcs1_oaep_params oaep;
+};
+uint32_t read_row(const char *kind, const uint8_t *der, size_t len, union value *v);
+uint32_t write_row(const char *kind, const union value *v, uint8_t *out, size_t room, size_t *len);
 
 #endif

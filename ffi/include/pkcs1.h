@@ -52,7 +52,8 @@
  *   octets. The status is that of the first field, in their order, that can't be held, such as a number without octets.
  *   If each can, the encoding is too long, and it is PKCS1_OVERFLOW.
  * pkcs1_private_key_encode: if there aren't as many other primes as the key says, it is PKCS1_OTHER_PRIMES. On a 32-bit
- *   or big-endian machine over 64 of them aren't written, and it is PKCS1_OUT_OF_MEMORY.
+ *   or big-endian machine over 64 of them aren't written. It is PKCS1_OUT_OF_MEMORY then, even if the key has a number
+ *   without octets, but not if one of the other primes has.
  * pkcs1_private_key_info_encode: the key that it is given is read first. If that fails, the status is that of decoding.
  * Errors: after any of them `out` is unchanged.
  * Numbers: leading zeros are accepted. There must be at least one octet.
@@ -63,8 +64,9 @@
  * Structs that a call reads: their fields must be set. Start from `{0}`, in C++ from `{}`. `data` may be null if `len`
  *   is 0. The fields after a false `has_..` aren't read.
  * Null: `der`, `others`, `out` and `label` may be null if their length is 0. No other argument may be null.
- * Overlap: `out`, `*len` and what a decoder fills must not overlap each other or any other argument. Nor may they
- *   overlap the octets that a struct points to.
+ * Overlap: `out`, `*len` and what a call fills must not overlap each other or any other argument. So `params` of
+ *   .._init must not hold `hash`, nor `params` of pkcs1_oaep_label `label`. Nor may they overlap the octets that a
+ *   struct points to.
  *
  * WHAT THE CALLS DO BESIDES
  *
@@ -76,7 +78,8 @@
  * Memory: no call allocates. Of the C library they call memcpy, memmove, memset and memcmp alone, or bcmp in its place
  *   where clang compiles them. So a signal handler may make each call, and a program without a C library.
  * Stack: on x86-64, compiled by gcc 12 with -O2, calls take at most so many octets, whatever is passed. Functions of
- *   the C library come on top. Assembly: 1640 to decode, 1032 to encode. Generated C: 1960 to decode, 1056 to encode.
+ *   the C library come on top, and in a program that isn't linked with -z now, for the first call of each of them, over
+ *   2000 octets of the loader. Assembly: 1640 to decode, 1032 to encode. Generated C: 1960 to decode, 1056 to encode.
  * Time: which way a call takes on a valid private key depends alone on the lengths of its numbers and their encodings.
  *   This is tested on x86-64, not proved. Leading zeros that you pass are counted by a loop. Of other octets, status
  *   and time tell where the first fault is. If you decrypt keys without authentication, show neither to the sender.
@@ -103,7 +106,11 @@ extern "C" {
 
 #define PKCS1_VERSION_MAJOR 0
 #define PKCS1_VERSION_MINOR 8
-#define PKCS1_VERSION_PATCH 0
+#define PKCS1_VERSION_PATCH 1
+/* The number of the binary interface. It changes with any struct, call or status that was there before. The shared
+ * library has it in its soname, libpkcs1.so.1, and in the version of its symbols, PKCS1_1. So a program that was built
+ * for another number doesn't start. */
+#define PKCS1_ABI 1
 
 enum pkcs1_status {
     PKCS1_OK = 0,
@@ -133,7 +140,7 @@ enum pkcs1_status {
 /* A description in English, as a static string. It names what the input may be instead. Any number may be given. */
 const char *pkcs1_strerror(uint32_t status);
 
-/* The version of the library as a static string, "0.8.0". The macros above are the version of the header. */
+/* The version of the library as a static string, "0.8.1". The macros above are the version of the header. */
 const char *pkcs1_version(void);
 
 struct pkcs1_bytes {

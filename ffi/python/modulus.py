@@ -8,7 +8,7 @@ class Bytes(ctypes.Structure):
 class PublicKey(ctypes.Structure):
     _fields_ = [("modulus", Bytes), ("public_exponent", Bytes)]
 
-library = ctypes.CDLL("libpkcs1.so.0")
+library = ctypes.CDLL("libpkcs1.so.1")
 library.pkcs1_strerror.restype = ctypes.c_char_p
 library.pkcs1_public_key_decode.argtypes = ctypes.c_char_p, ctypes.c_size_t, ctypes.POINTER(PublicKey)
 der, key = open(sys.argv[1], "rb").read(), PublicKey()
