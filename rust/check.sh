@@ -5,18 +5,19 @@
 #
 #     erase            src/proved is what crates/ gives, token for token; the tests of tools/erase
 #     crate            with each feature, without a warning: its tests, clippy, documentation, layout and package
-#     preconditions    no function with a `requires` is reached but those that forms.py lists
+#     preconditions    no function with a `requires` is reached from outside
 #     rows             the worked rows, the tests in Rattle and the tool, erased
 #     beside           COUNT inputs by chance, beside the library that make builds; the SEED is another one each day
 #     memory           each request for memory refused
 #     secrets          the path on a private key, under valgrind
 #     oldest           the crate and the rows, by Debian's rustc 1.85
 #     machines         rows, memory and beside for a 32-bit and a big-endian machine, by the same rustc, under qemu
+#     wasm             the crate without std for wasm32; the rows, and those of the tool, for wasm32-wasip1, under node
 #
 # What is made stands in out/rust, or below OUT. It needs cargo with clippy and rustfmt, and python3. `beside`,
 # `secrets` and `machines` need make and gcc, `secrets` valgrind too, and `machines` qemu-user and
-# gcc-{i686,s390x}-linux-gnu. `oldest` and `machines` need apt-get and Debian's packages from the network, or a folder
-# DEBIAN into which they were unpacked. Nothing is installed.
+# gcc-{i686,s390x}-linux-gnu. `oldest`, `machines` and `wasm` need apt-get and Debian's packages from the network, or a
+# folder DEBIAN into which they were unpacked. Nothing is installed. Without node or its packages `wasm` is left out.
 set -eu
 cd "$(dirname "$0")/.."
 OUT=$(realpath -m "${OUT:-out/rust}")
@@ -25,8 +26,8 @@ SEED=${SEED:-$(date +%Y%j)}
 export CARGO_TARGET_DIR=$OUT/target CARGO_TERM_QUIET=true
 crate=rust/Cargo.toml check=rust/check/Cargo.toml
 rows=(crates/pkcs1_vectors/stdin crates/pkcs1_tool/rows)
-keys=(ffi/rust/tests/keys/{priv2,priv3,p8_2,p8_3}.der)
-parts=(erase crate preconditions rows beside memory secrets oldest machines)
+keys=(ffi/tests/keys/{priv2,priv3,p8_2,p8_3}.der)
+parts=(erase crate preconditions rows beside memory secrets oldest machines wasm)
 
 stop() {
     printf 'rust/check.sh: %s\n' "$*" >&2
@@ -90,26 +91,29 @@ preconditions() {
     planted '$a pub trait Reached: proved::der_core::EncodeValue {}'
 }
 
-# program NAME WORD..: builds a program in Rattle, by these words for cargo.
-program() {
+# vectors WORD..: builds the program of the worked rows, by these words for cargo.
+vectors() {
     tools/erase/erase.py --programs rust/check/src/programs > "$OUT/log"
-    cargo build --manifest-path $check --features programs --bin "$@"
+    cargo build --manifest-path $check --features programs --bin vectors "$@"
 }
 # answers PROGRAM WORD..: the program answers the rows as they are to be.
 answers() {
     "$@" < crates/pkcs1_vectors/stdin | cmp - crates/pkcs1_vectors/stdout || stop "$* answers the rows otherwise"
 }
 rows() {
-    program vectors
+    vectors
     answers "$CARGO_TARGET_DIR/debug/vectors"
-    program vectors --bin tool --release
+    vectors --release
     answers "$CARGO_TARGET_DIR/release/vectors"
-    quietly "cargo test" cargo test --manifest-path $check --features programs --lib
+    quietly "cargo test" cargo test --manifest-path $check --lib
     grep 'test result' "$OUT/log"
-    # A closed standard input or output is an empty one for Rust's standard library.
-    PROGRAMS=$CARGO_TARGET_DIR/release/tool crates/pkcs1_tool/run_built.sh > "$OUT/log" || true
-    grep -vE ': no standard (in|out)put: status 0, not 1; standard error: ; output: $' "$OUT/log" > "$OUT/left"
-    [ "$(tail -n 1 "$OUT/left")" = '165 passed, 2 failed' ] && [ "$(wc -l < "$OUT/left")" = 2 ] ||
+    cargo build --manifest-path $crate --release --bin pkcs1_tool
+    # A closed standard input or output is an empty one for Rust's standard library. Where no other user can run the
+    # tool, what they may not do isn't tried.
+    local closed=': no standard (in|out)put: status 0, not 1; standard error: ; output: $'
+    PROGRAMS=$CARGO_TARGET_DIR/release/pkcs1_tool crates/pkcs1_tool/run_built.sh > "$OUT/log" || true
+    grep -vE "$closed|isn't tried: no other user" "$OUT/log" > "$OUT/left"
+    tail -n 1 "$OUT/left" | grep -qxE '18[24] passed, 2 failed' && [ "$(wc -l < "$OUT/left")" = 2 ] ||
         { cat "$OUT/log" >&2 && stop "the tool fails"; }
     echo "rows: $(cat crates/pkcs1_vectors/stdout), and the tool does all but for closed streams"
 }
@@ -150,26 +154,32 @@ secrets() {
     echo "secrets: by $(rustc --version), the path on ${#keys[@]} private keys doesn't depend on their secret numbers"
 }
 
+# unpack ROOT SUITES ARCHITECTURES PACKAGE..: puts these packages of Debian into a folder of their own.
+unpack() {
+    local apt=$OUT/apt suite it
+    needs apt-get dpkg
+    mkdir -p "$apt/lists/partial" "$apt/archives/partial" "$1"
+    for suite in $2; do
+        echo "deb [signed-by=/usr/share/keyrings/debian-archive-keyring.gpg] http://deb.debian.org/debian $suite main"
+    done > "$apt/sources"
+    printf '%s\n' "Dir::State::lists \"$apt/lists\"; Dir::Cache \"$apt\"; APT::Sandbox::User \"\";" \
+        "Dir::Etc::sourcelist \"$apt/sources\"; Dir::Etc::sourceparts \"-\"; APT::Architectures { $3 };" \
+        > "$OUT/apt.conf"
+    (
+        export APT_CONFIG=$OUT/apt.conf
+        cd "$apt" && apt-get update && apt-get download "${@:4}"
+    ) > "$OUT/log" 2>&1 || { cat "$OUT/log" >&2 && return 1; }
+    for it in "$apt"/*.deb; do
+        dpkg -x "$it" "$1" || return
+    done
+    rm -rf "$apt"
+}
+
 # debian_rust: Debian's rustc 1.85 for three machines, in a folder of its own, is what cargo calls.
 debian_rust() {
-    local version=1.85.0+dfsg3-1~deb12u3 root=${DEBIAN:-$OUT/debian} it
-    if [ ! -x "$root/usr/bin/rustc" ]; then
-        needs apt-get dpkg
-        mkdir -p "$OUT/apt/lists/partial" "$OUT/apt/archives/partial" "$root"
-        printf '%s\n' "Dir::State::lists \"$OUT/apt/lists\"; Dir::Cache \"$OUT/apt\"; APT::Sandbox::User \"\";" \
-            'APT::Architectures { "amd64"; "i386"; "s390x"; };' > "$OUT/apt.conf"
-        (
-            export APT_CONFIG=$OUT/apt.conf
-            cd "$OUT/apt"
-            apt-get update || true # where other repositories have no list for these machines
-            quietly "to fetch Debian's rustc $version" apt-get download libllvm19 rustc-web=$version \
-                libstd-rust-web-{1.85,dev,dev:i386,dev:s390x}=$version
-        ) > "$OUT/update" 2>&1 || { cat "$OUT/update" >&2 && exit 1; }
-        for it in "$OUT"/apt/*.deb; do
-            dpkg -x "$it" "$root"
-        done
-        rm -rf "$OUT/apt"
-    fi
+    local version=1.85.0+dfsg3-1~deb12u3 root=${DEBIAN:-$OUT/debian}
+    [ -x "$root/usr/bin/rustc" ] || unpack "$root" bookworm '"amd64"; "i386"; "s390x";' libllvm19 rustc-web=$version \
+        libstd-rust-web-{1.85,dev,dev:i386,dev:s390x}=$version || stop "Debian's rustc $version isn't there"
     export LD_LIBRARY_PATH=$root/usr/lib/x86_64-linux-gnu RUSTC=$root/usr/bin/rustc RUSTDOC=$root/usr/bin/rustdoc
     export CARGO_TARGET_DIR=$OUT/debian_target
     "$RUSTC" --version | grep -q '^rustc 1\.85\.' || stop "$RUSTC is no rustc 1.85"
@@ -177,7 +187,7 @@ debian_rust() {
 oldest() (
     debian_rust
     tests
-    program vectors
+    vectors
     answers "$CARGO_TARGET_DIR/debug/vectors"
     echo "oldest: $("$RUSTC" --version), the tests with each feature, and the rows"
 )
@@ -188,7 +198,7 @@ on_machine() (
     needs "$3"
     with_c "$2" "$OUT/$1" CODE=c
     export RUSTFLAGS="-C linker=$2"
-    program vectors --profile checked --target "$1"
+    vectors --profile checked --target "$1"
     for name in refuse beside; do
         linked $name "$OUT/$1" --features programs --profile checked --target "$1"
     done
@@ -197,12 +207,43 @@ on_machine() (
     "${run[@]}" "$made/beside" $((COUNT / 20)) "$SEED" "${rows[@]}"
     echo "machines: $1"
 )
+# rows_of_32_bits: but for four rows, which name a number that no usize of 32 bits holds.
+rows_of_32_bits() {
+    grep -vE ' (4294967296|18446744073709551615)\b' crates/pkcs1_vectors/stdin
+}
 machines() (
     debian_rust
-    # Four rows name a number that no usize of 32 bits holds.
-    grep -vE ' (4294967296|18446744073709551615)\b' crates/pkcs1_vectors/stdin > "$OUT/rows_of_32_bits"
+    rows_of_32_bits > "$OUT/rows_of_32_bits"
     on_machine i686-unknown-linux-gnu i686-linux-gnu-gcc qemu-i386 "$OUT/rows_of_32_bits"
     on_machine s390x-unknown-linux-gnu s390x-linux-gnu-gcc qemu-s390x crates/pkcs1_vectors/stdin
+)
+
+# debian_wasm: Debian 13 has a standard library for wasm32. Its rustc, run by its C library, is what cargo calls.
+debian_wasm() {
+    local root=${DEBIAN:-$OUT/debian}/wasm it
+    [ -x "$root/usr/bin/rustc" ] || unpack "$root" 'bookworm trixie' '"amd64";' {libllvm19,lld-19}/bookworm \
+        {rustc,libstd-rust-1.85,libstd-rust-dev-wasm32,libc6,libgcc-s1,libstdc++6}/trixie || return
+    for it in bin/rustc lib/llvm-19/bin/lld; do
+        printf '#!/bin/sh\nexec %q --library-path %q %q "$@"\n' "$root/usr/lib64/ld-linux-x86-64.so.2" \
+            "$root/usr/lib/x86_64-linux-gnu:/usr/lib/x86_64-linux-gnu" "$root/usr/$it" > "$OUT/${it##*/}"
+        chmod +x "$OUT/${it##*/}"
+    done
+    export RUSTC=$OUT/rustc RUSTFLAGS="--sysroot=$root/usr -C linker=$OUT/lld" CARGO_TARGET_DIR=$OUT/wasm_target
+}
+wasm() (
+    local run=(node --no-warnings rust/check/wasi.js) made=$OUT/wasm_target/wasm32-wasip1/debug rows=$OUT/tool_rows
+    command -v node > "$OUT/log" || { echo "wasm: node isn't installed, so it is left out" && return; }
+    debian_wasm || { echo "wasm: Debian's rustc for it isn't there, so it is left out" && return; }
+    export CARGO_PROFILE_DEV_DEBUG=0
+    cargo build --manifest-path $crate --no-default-features --target wasm32-unknown-unknown
+    cargo build --manifest-path $crate --bin pkcs1_tool --target wasm32-wasip1
+    vectors --target wasm32-wasip1
+    rows_of_32_bits | "${run[@]}" "$made/vectors.wasm" | grep '^[0-9]* rows held, 0 differ' ||
+        stop "wasm32 answers the rows otherwise"
+    grep -v -e '^#' -e '^$' crates/pkcs1_tool/rows > "$rows"
+    sed 's/ => .*//' "$rows" | "${run[@]}" "$made/pkcs1_tool.wasm" | cmp - <(sed 's/^.* => //' "$rows") ||
+        stop "the tool for wasm32 answers otherwise"
+    echo "wasm: $("$RUSTC" --version), the rows, and those of the tool, by node $(node --version)"
 )
 
 [ $# -gt 0 ] || set -- "${parts[@]}"
@@ -210,7 +251,7 @@ for part; do
     [[ " ${parts[*]} " = *" $part "* ]] || stop "there is no part $part: it knows ${parts[*]}"
 done
 mkdir -p "$OUT"
-needs cargo python3
+needs cargo cargo-clippy rustfmt python3
 TIMEFORMAT='%0R s, of processor time %0U s and %0S s of the system'
 for part; do
     time "$part"

@@ -3,9 +3,8 @@
 
 Rust doesn't check what a `requires` asks for. The text that is made of crates/ stands in a private module. So from
 outside are reached: what a `pub use` names, methods of types, and methods of a trait that is named, or that is above
-one. Each function with a `requires` that is reached stands in tools/erase/forms.py with its reason.
+one.
 """
-import collections
 import pathlib
 import re
 import sys
@@ -14,7 +13,7 @@ TOP = pathlib.Path(__file__).resolve().parents[1]
 sys.dont_write_bytecode = True
 sys.path.insert(0, str(TOP / "tools/erase"))
 from erase import Code  # noqa: E402
-from forms import LIBRARY, REACHABLE, has_requires, method_with_requires  # noqa: E402
+from forms import LIBRARY, has_requires, method_with_requires  # noqa: E402
 
 
 def stands_in(code, at):
@@ -63,16 +62,13 @@ def named(crate):
 
 def main():
     words, wrong = named(pathlib.Path(sys.argv[1]) if sys.argv[1:] else TOP / "rust")
-    count, reached = collections.Counter(), set()
+    count = 0
     for function, kind, name in with_requires():
-        count[kind] += 1
+        count += 1
         if kind == "method" or name in words:
-            reached.add(function)
-    wrong += [f"{it} has a `requires`, and can be reached" for it in sorted(reached - REACHABLE.keys())]
-    wrong += [f"{it} can't be reached, and stands in forms.py" for it in sorted(REACHABLE.keys() - reached)]
-    listed = ", ".join(f"{it} ({REACHABLE[it]})" for it in sorted(reached & REACHABLE.keys()))
-    print("\n".join(wrong) or f"preconditions: of {sum(count.values())} functions with a `requires` that are public or "
-          f"of a trait, these can be reached: {listed}")
+            wrong.append(f"{function} has a `requires`, and can be reached")
+    print("\n".join(wrong) or f"preconditions: of {count} functions with a `requires` that are public or of a trait, "
+          "none can be reached")
     sys.exit(bool(wrong))
 
 

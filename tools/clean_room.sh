@@ -35,13 +35,15 @@ step() {
     echo "clean room: $1, $((SECONDS - began)) s"
 }
 
+# What README says that the tool prints.
+line='pub n=07 e=03 again=3006020107020103'
 # The two commands of README, as they stand there.
 readme() {
     local commands
     mapfile -t commands < <(sed -n 's/^    \(make\b.*\)/\1/p' README.md)
     [ ${#commands[@]} = 2 ] || stop "README has ${#commands[@]} commands that begin with make, not 2"
     sh -c "${commands[0]}" | tee "$room/printed"
-    tail -n 1 "$room/printed" | grep -qx 'pub n=07 e=03 again=3006020107020103' || stop "the tool prints another line"
+    tail -n 1 "$room/printed" | grep -qx "$line" || stop "the tool prints another line"
     sh -c "${commands[1]}"
 }
 # prints PROGRAM..: it prints the modulus of a key.
@@ -53,34 +55,48 @@ prints() {
 c_program() {
     local prefix=$room/installed
     make install PREFIX="$prefix"
+    [ "$(find "$prefix" -type f ! -perm 644 -printf '%P %m')" = 'bin/pkcs1_tool 755' ] || stop "what is installed has other modes"
     export PKG_CONFIG_PATH=$prefix/lib/pkgconfig
     cc ffi/c/modulus.c $(pkg-config --cflags --libs libpkcs1) -Wl,-rpath,"$prefix/lib" -o "$room/shared"
     cc -static ffi/c/modulus.c $(pkg-config --static --cflags --libs libpkcs1) -o "$room/static"
     prints "$room/shared"
     prints "$room/static"
-    readelf -d "$room/shared" | grep -q 'NEEDED.*libpkcs1\.so\.0' || stop "libpkcs1.so isn't linked"
+    readelf -d "$room/shared" | grep -q 'NEEDED.*libpkcs1\.so\.1' || stop "libpkcs1.so isn't linked"
     printf 'pub 0500\n' | "$prefix/bin/pkcs1_tool" | grep -qx refused
     make uninstall PREFIX="$prefix"
     [ -z "$(find "$prefix" ! -type d)" ] || stop "uninstall leaves files"
 }
-# depends_by WORDS: a program in $room/program that depends on the crate by these words.
+# block LANGUAGE: README's only block in this language.
+block() {
+    awk -v language="$1" '/^```/ { inside = $0 == "```" language; next } inside' README.md
+}
+# depends_by LINE: README's program in Rust, in $room/program, which depends on the crate by this line.
 depends_by() {
     rm -rf "$room/program"
     mkdir -p "$room/program/src" "$room/program/.cargo"
-    printf '%s\n' '[package]' 'name = "program"' 'edition = "2021"' '[dependencies]' "pkcs1-proved = { $1 }" \
-        > "$room/program/Cargo.toml"
-    cp ffi/rust/examples/modulus.rs "$room/program/src/main.rs"
+    printf '%s\n' '[package]' 'name = "program"' 'edition = "2024"' '[dependencies]' "$1" > "$room/program/Cargo.toml"
+    block rust > "$room/program/src/main.rs"
+}
+# counts_bits PROGRAM..: it prints how many bits a modulus has.
+counts_bits() {
+    [ "$(printf '\060\010\002\003\000\301\177\002\001\003' | "$@")" = '16 bits' ] || stop "$1 counts other bits"
 }
 rust_program() {
-    depends_by "path = \"$PWD/ffi/rust\""
-    prints cargo run --offline --quiet --manifest-path "$room/program/Cargo.toml" --
+    depends_by "$(block toml | sed "s|PATH|$PWD/rust|")"
+    counts_bits cargo run --offline --quiet --manifest-path "$room/program/Cargo.toml"
+}
+# The tool, by cargo alone.
+cargo_tool() {
+    cargo install --offline --quiet --force --path rust --root "$room/by_cargo"
+    printf 'pub 3006020107020103\n' | "$room/by_cargo/bin/pkcs1_tool" | grep -qx "$line" ||
+        stop "cargo builds another tool"
 }
 # Built of what cargo vendor takes out of the repository, which is the crate's package alone.
 vendored_program() {
-    depends_by "git = \"file://$PWD\""
+    depends_by "$(block toml | sed "s|path = \"PATH\"|git = \"file://$PWD\"|")"
     cd "$room/program"
     CARGO_HOME=$room/cargo CARGO_NET_OFFLINE=false cargo vendor > .cargo/config.toml
-    CARGO_HOME=$room/no_packages prints cargo run --locked --quiet --
+    CARGO_HOME=$room/no_packages counts_bits cargo run --locked --quiet
 }
 
 # use WHAT: this folder, as users would.
@@ -88,12 +104,57 @@ use() {
     step "$1: README's two commands" readme
     step "$1: a program in C" c_program
     step "$1: a program in Rust" rust_program
+    step "$1: the tool by cargo" cargo_tool
 }
 
 # By clang, whose sanitizers stop at what they find.
 sanitized() {
     make check OUT=out/sanitized CODE=c CC=clang \
         CFLAGS='-O1 -g -fsanitize=address,undefined -fno-sanitize-recover=all'
+}
+# What make was told is what is installed; another Makefile makes all again.
+told() {
+    local prefix=$room/told
+    make OUT=out/options CFLAGS='-O1 -DX="\"a#b\$$c\""' LDFLAGS=-Wl,-z,nodelete
+    cp -r out/options "$room/built"
+    make install OUT=out/options PREFIX="$prefix"
+    diff -r out/options "$room/built" || stop "make install makes other files than make"
+    cmp "$prefix/lib/libpkcs1.a" "$room/built/libpkcs1.a"
+    make install OUT=out/options PREFIX="$prefix" LDFLAGS=
+    ! readelf -d "$prefix/lib/libpkcs1.so" | grep NODELETE || stop "make install doesn't do what it is told"
+    git clone --quiet . "$room/edited"
+    make -C "$room/edited"
+    sed -i 's,-z\,now -o,-z\,now -Wl\,-rpath\,/nowhere -o,' "$room/edited/Makefile"
+    make -C "$room/edited"
+    readelf -d "$room/edited/out/pkcs1_tool" | grep -q /nowhere || stop "another Makefile makes nothing again"
+}
+# With clang alone, by the name cc or its own.
+without_gcc() {
+    local folder folders
+    mkdir "$room/tools"
+    IFS=: read -ra folders <<< "$PATH"
+    for folder in "${folders[@]}"; do
+        [ ! -d "$folder" ] || cp -rsn "$(realpath "$folder")"/. "$room/tools"
+    done
+    rm -f "$room"/tools/{,*-}{gcc,cc}{,-[0-9]*}
+    PATH=$room/tools make OUT=out/clang
+    grep -q '^clang ' out/clang/settings || stop "make takes another compiler than clang"
+    ln -s "$(command -v clang)" "$room/tools/cc"
+    PATH=$room/tools make -n OUT=out/clang | grep -q '^cc ' || stop "make takes another compiler than cc"
+}
+# By gcc with one sanitizer, and with another C library.
+address() {
+    make check OUT=out/address CFLAGS='-O1 -g -fsanitize=address'
+}
+musl() {
+    make check OUT=out/musl CC=musl-gcc
+}
+# With LLVM's tools alone, but for the linker.
+llvm() {
+    export CC=clang NM=llvm-nm READELF=llvm-readelf
+    make OUT=out/llvm AR=llvm-ar OBJCOPY=llvm-objcopy
+    ffi/check_object.sh out/llvm
+    ffi/check_abi.sh
 }
 # A folder with a space is refused, in one line, before anything is made. `clean` is through before the others begin.
 goals() {
@@ -113,20 +174,50 @@ goals() {
     ! PROGRAMS=none crates/pkcs1_tool/run_built.sh > "$room/printed" || stop "a tool that isn't there passes its tests"
     ! grep -w rt "$room/printed" || stop "users are told to use the toolchain"
 }
-# The shared library has its number from the header, and all that it calls from itself and the C library.
+# The shared library has its number from the header, and all that it calls from itself and the C library. A program
+# that was built for another number doesn't start with it.
 shared_library() {
     local prefix=$room/seven
+    make install PREFIX="$room/one"
+    cc ffi/c/modulus.c "-I$room/one/include" "-L$room/one/lib" -lpkcs1 -o "$room/of_one"
+    LD_LIBRARY_PATH=$room/one/lib prints "$room/of_one"
     git clone --quiet . "$room/other"
-    sed -i 's/^\(#define PKCS1_VERSION_MAJOR\) .*/\1 7/' "$room/other/ffi/include/pkcs1.h"
+    sed -i 's/^\(#define PKCS1_ABI\) .*/\1 7/' "$room/other/ffi/include/pkcs1.h"
     make -C "$room/other" install PREFIX="$prefix"
     readelf -d "$prefix/lib/libpkcs1.so" | grep -q 'SONAME.*\.so\.7\]' || stop "the soname has another number"
     nm -D "$prefix/lib/libpkcs1.so" | grep -q ' pkcs1_version@@PKCS1_7$' || stop "calls have another version"
     [ "$(readlink "$prefix/lib/libpkcs1.so")" = libpkcs1.so.7 ] || stop "the library is installed by another number"
+    ! LD_LIBRARY_PATH=$prefix/lib "$room/of_one" "$room/key.der" 2> "$room/printed" || stop "a program starts without its library"
+    grep -q 'libpkcs1\.so\.1' "$room/printed" || stop "a program that lacks its library doesn't say so"
+    cp "$prefix/lib/libpkcs1.so" "$room/one/lib/libpkcs1.so.1"
+    ! LD_LIBRARY_PATH=$room/one/lib "$room/of_one" "$room/key.der" 2> "$room/printed" || stop "a program starts with another library"
+    grep -q 'PKCS1_1' "$room/printed" || stop "a program doesn't name the version of its calls"
     make -C "$room/other" uninstall PREFIX="$prefix"
     [ -z "$(find "$prefix" ! -type d)" ] || stop "uninstall leaves a library of another number"
     objcopy --redefine-sym pkcs1_c_bit_len=call_of_none "$room/other/out/calls.o"
     ! CC=cc ffi/link.sh "$room/other/out" 2> "$room/printed" || stop "a call that isn't defined is linked"
     grep -q call_of_none "$room/printed" || stop "a call that isn't defined isn't named"
+}
+# changes EDIT..: these edits of pkcs1.h are refused, but with another number they are kept.
+changes() {
+    local tree=$room/changed edit
+    for edit; do
+        rm -rf "$tree" && mkdir -p "$tree" && cp -r ffi/include ffi/abi ffi/machine.sh ffi/check_abi.sh "$tree"
+        sed -i "$edit" "$tree"/include/*.h
+        ! "$tree/check_abi.sh" --write 2> "$room/printed" || stop "$edit is kept without another number"
+        grep -q 'raise PKCS1_ABI' "$room/printed" || stop "$edit: the message doesn't say what to do"
+        sed -i 's/^#define PKCS1_ABI .*/#define PKCS1_ABI 9/' "$tree/include/pkcs1.h"
+        "$tree/check_abi.sh" --write
+    done
+}
+interface() {
+    changes 's/uint8_t salt_len;/uint16_t salt_len;/' 's/\(prime1\), \(prime2\)/\2, \1/' 's/size_t others_room/uint32_t others_room/' \
+        's/struct pkcs1_bytes \*listed/struct pkcs1_other_prime *listed/' '/^const char \*pkcs1_version/d' \
+        's/PKCS1_VALUE = 14/PKCS1_VALUE = 18/' 's/^bool pkcs1_pss_is/int pkcs1_pss_is/' 's/pkcs1_oid_mgf1, //'
+    "$room/changed/check_abi.sh"
+    sed -i 's/^uint64_t pkcs1_bit_len/uint64_t pkcs1_new(void);\n&/' "$room/changed/include/pkcs1.h"
+    ! "$room/changed/check_abi.sh" || stop "an added call isn't noticed"
+    "$room/changed/check_abi.sh" --write
 }
 # plain_program KEY: installed by a root whose PATH lacks the folder of ldconfig, the library is found by a program that
 # prints the modulus. What is written goes away with the mounts.
@@ -143,12 +234,19 @@ plain_program() {
         "$1/plain" "$2"' sh "$room/etc" "$1"
 }
 crate_tests() {
-    (cd ffi/rust && cargo test --offline --quiet)
+    cargo test --offline --quiet --manifest-path rust/Cargo.toml
 }
-# Made in another folder, of sources that can't be written, as for a machine that isn't like x86-64.
+# Made in another folder, of sources that can't be written, by a user who isn't root, where this machine has one here. It
+# is made as for a machine that isn't like x86-64.
 read_only() {
-    unshare --mount sh -euc 'mount --bind -o ro . .; cd "$PWD"; make check OUT="$1" CODE=c CFLAGS="$2"' sh "$room/c" \
-        '-O2 -DPKCS1_FOREIGN'
+    local user=(setpriv --reuid=65534 --regid=65534 --clear-groups)
+    "${user[@]}" true || user=()
+    git clone --quiet . "$room/locked"
+    chmod -R a-w,go+rX "$room/locked"
+    chmod 711 "$room"
+    mkdir -m 777 "$room/c"
+    "${user[@]}" make -C "$room/locked" check OUT="$room/c" CODE=c CFLAGS='-O2 -DPKCS1_FOREIGN'
+    chmod -R u+w "$room/locked"
 }
 release() {
     local it
@@ -162,23 +260,23 @@ release() {
     (cd "$room/release" && sha256sum --quiet -c -- *.sha256)
     tar xzf "$room"/release/*.tar.gz -C "$room"
     mv "$room"/pkcs1-proved-* "$room/unpacked"
-    (cd "$room/unpacked" && sha256sum --quiet -c SHA256SUMS && tools/fresh.sh)
+    (cd "$room/unpacked" && sha256sum --quiet -c SHA256SUMS && tools/fresh.sh && tools/erase/compare.py)
     for it in crates/*/{src,specs,proofs}; do
         [ ! -d "$it" ] || diff -r "$it" "$room/unpacked/$it"
     done
     tools/docs/check_names.sh "$room/unpacked" README.md
-    grep -qx "commit: $(git rev-parse HEAD)" "$room/unpacked/ffi/rust/generated/PROVENANCE" || stop "no commit is named"
+    grep -qx "commit: $(git rev-parse HEAD)" "$room/unpacked/ffi/generated/PROVENANCE" || stop "no commit is named"
     parts "$room/unpacked"
 }
 # parts FOLDER: the list of a release's parts has each crate whose functions PROVENANCE counts, and the hashes of the
 # compilers.
 parts() {
-    python3 - "$1/SBOM.spdx.json" "$1/ffi/rust/generated/PROVENANCE" << 'END'
+    python3 - "$1/SBOM.spdx.json" "$1/ffi/generated/PROVENANCE" << 'END'
 import json, re, sys
 list_, said = json.load(open(sys.argv[1])), open(sys.argv[2]).read()
 parts = {it["name"]: it for it in list_["packages"]}
 counted = re.findall(r"(\w+) \d+", " ".join(re.findall(r"^    (?:library|tool): (.*)", said, re.M)))
-assert len(counted) > 20 and parts.keys() >= {*counted, "pkcs1-proved", "clang", "rattle"}, parts.keys()
+assert len(counted) > 20 and parts.keys() >= {*counted, "pkcs1-proved", "pkcs1-proved-crate", "clang", "rattle"}, parts.keys()
 hashes = {it["checksums"][0]["checksumValue"] for it in parts.values() if "checksums" in it}
 assert len(hashes) == 2 and hashes == set(re.findall(r"sha256 ([0-9a-f]{64})", said)), hashes
 ends = {it[end] for it in list_["relationships"] for end in ("spdxElementId", "relatedSpdxElement")}
@@ -198,8 +296,14 @@ inside() {
     step "tree: a program in Rust with the crate vendored" vendored_program
     step "tree: make check CODE=c, of sources that can't be written" read_only
     step "tree: make check CODE=c, with sanitizers" sanitized
+    step "tree: make, with clang alone" without_gcc
+    step "tree: what make was told" told
+    step "tree: make check, with gcc's -fsanitize=address" address
+    step "tree: make check, with musl" musl
+    step "tree: make, with LLVM's tools" llvm
     step "tree: goals of make" goals
     step "tree: the shared library" shared_library
+    step "tree: changes of the binary interface" interface
     step "tree: make install, without a prefix" prints plain_program
     step "a release" release
     cd "$room/unpacked"
@@ -229,7 +333,7 @@ trap 'rm -rf "$room"' EXIT
 needs unshare make cc ar objcopy readelf pkg-config cargo
 case $#:${1-} in
     0:)
-        needs git clang python3
+        needs git clang python3 setpriv musl-gcc llvm-nm
         echo 'int main(void) { return 0; }' > "$room/empty.c"
         clang -fsanitize=address,undefined "$room/empty.c" -o "$room/empty" 2> /dev/null ||
             stop "clang's sanitizers (libclang-rt-14-dev) aren't installed, and are needed"

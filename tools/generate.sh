@@ -1,5 +1,5 @@
 #!/usr/bin/env bash
-# Makes ffi/rust/generated, from which those who have no toolchain build the library and the tool: the assembly that
+# Makes ffi/generated, from which those who have no toolchain build the library and the tool: the assembly that
 # the proved crates compile to, and C. It needs rt, python3 and GNU binutils for x86-64 and aarch64; no network.
 #
 #     tools/generate.sh            makes it, over the libraries that rt ci proved and left in crates/*/out/rlib
@@ -10,11 +10,11 @@
 # Proofs of pkcs1_c and pkcs1_tool begin with what is kept in their out/incremental, and are kept there.
 # CRATES=FOLDER: another folder of the same crates, with their libraries and kept work. JOBS: how many proofs run at a time.
 # The status is 1 if files differ or a crate isn't proved, and 2 if something is missing or the kit isn't known.
-# ffi/rust/generated is replaced in the end, and stays as it is if anything fails.
+# ffi/generated is replaced in the end, and stays as it is if anything fails.
 set -eu
 cd "$(dirname "$0")/.."
 parts=tools/generate
-generated=ffi/rust/generated
+generated=ffi/generated
 crates=$(realpath "${CRATES:-crates}")
 jobs=${JOBS:-$(nproc)}
 export PYTHONDONTWRITEBYTECODE=1

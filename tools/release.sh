@@ -8,12 +8,12 @@ set -eu
 contents=(
     Makefile README.md CHANGELOG.md SECURITY.md LICENSE-APACHE LICENSE-MIT
     docs/{USING,PROMISES,DIFFERENCES,DECISIONS,RELEASE}.md
-    ffi/{machine,link,install,check,check_object,check_passed,check_freestanding}.sh ffi/libpkcs1.pc.in
-    ffi/include ffi/rust
-    ffi/c/{pkcs1,os,heap,test,rows,passed,freestanding,modulus,read_key,public_half}.c ffi/c/test.h
+    ffi/{machine,link,install,check,check_abi,check_object,check_passed,check_freestanding}.sh ffi/{abi,libpkcs1.pc.in}
+    ffi/{include,generated,tests} rust :!rust/{check,check.sh,preconditions.py} tools/erase/{README.md,compare.py}
+    ffi/c/{pkcs1,os,heap,test,rows,large,passed,freestanding,modulus,read_key,public_half}.c ffi/c/test.h
     docs/CLAIM.md ffi/c/bits.c ffi/python
     ffi/c/{open_container,make_container,make_params,signature_algorithm}.c
-    crates/pkcs1_tool/{run_built.sh,refuse_memory.sh,refuse_memory.c,rows,stdin,stdout,pkcs1_tool.1}
+    crates/pkcs1_tool/{run_built.sh,copies.sh,refuse_memory.sh,refuse_memory.c,rows,stdin,stdout,pkcs1_tool.1}
     crates.txt ffi/prove.sh ffi/proof tools/{fresh.sh,generate.sh,generate,install.sh,count_definitions.py}
 )
 
@@ -48,10 +48,10 @@ export LC_ALL=C
 git archive --prefix="$name/" HEAD "${contents[@]}" crates/*/{src,specs,proofs} | tar x -C "$room"
 tools/sbom.py "$version" "$commit" "$date" > "$room/$name/SBOM.spdx.json"
 cd "$room/$name"
-sed -i "s/^sources: .*/&\ncommit: $commit/" ffi/rust/generated/PROVENANCE
+sed -i "s/^sources: .*/&\ncommit: $commit/" ffi/generated/PROVENANCE
 readme
 # A link to what isn't packed is its text alone.
-for document in *.md docs/*.md ffi/rust/README.md; do
+for document in *.md docs/*.md rust/README.md tools/erase/README.md; do
     FOLDER=$(dirname "$document") perl -pi -e \
         's{\[([^][]*)\]\((?!https?:)([^)#]+)(#[^)]*)?\)}{-e "$ENV{FOLDER}/$2" ? $& : $1}ge' "$document"
 done

@@ -16,7 +16,7 @@ PORTS = {"hex": (OURS, "0.4.3")}
 
 def provenance():
     """What PROVENANCE says: the words behind each name in front of a colon."""
-    with open("ffi/rust/generated/PROVENANCE", encoding="utf-8") as it:
+    with open("ffi/generated/PROVENANCE", encoding="utf-8") as it:
         return dict(re.findall(r"^ *(kit|rattle|clang|library|tool): (.*)$", it.read(), re.M))
 
 
@@ -49,6 +49,11 @@ def crates(said, version):
         yield package(name, licence, its_version, f"functions: {numbers}")
 
 
+def crate(version):
+    """The crate for Rust, which holds no function of the toolchain's."""
+    return package("pkcs1-proved-crate", OURS, version, "for Rust: functions of the crates, without their contracts")
+
+
 def tools(said):
     """What compiled them."""
     version, clang = said["clang"].split(", sha256 ")
@@ -61,7 +66,7 @@ def main():
     os.chdir(f"{os.path.dirname(os.path.realpath(__file__))}/..")
     said = provenance()
     whole = package("pkcs1-proved", OURS, version, f"commit {commit}")
-    parts, compilers = list(crates(said, version)), list(tools(said))
+    parts, compilers = [*crates(said, version), crate(version)], list(tools(said))
     related = [("SPDXRef-DOCUMENT", "DESCRIBES", whole["SPDXID"])]
     related += [(whole["SPDXID"], "CONTAINS", it["SPDXID"]) for it in parts]
     related += [(it["SPDXID"], "BUILD_TOOL_OF", whole["SPDXID"]) for it in compilers]

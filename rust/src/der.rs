@@ -1,16 +1,23 @@
 //! DER: reading and writing of whole encodings, and documents.
 
 use crate::proved::der_core as proved;
-use crate::rattle_std::alloc::Global;
+#[cfg(feature = "alloc")]
+use crate::rattle_std::{alloc::Global, prelude::Vec};
 
 #[cfg(feature = "alloc")]
 pub use crate::documents::{Document, SecretDocument};
-pub use proved::{Error, ErrorKind, Length, Result, Tag};
+pub use proved::{Error, ErrorKind, Length, Result, Tag, TagNumber};
 
 /// The types of ASN.1.
 pub mod asn1 {
-    pub use crate::proved::der_core::{OctetStringRef, Uint, UintRef};
-    pub use crate::proved::spki_core::{Any, AnyRef, ObjectIdentifier};
+    pub use crate::identifier::{ObjectIdentifier, ObjectIdentifierRef};
+    pub use crate::proved::der_core::{OctetStringRef, UintRef};
+    pub use crate::values::{Any, AnyRef, Uint};
+}
+
+/// Object identifiers, and types that name one.
+pub mod oid {
+    pub use crate::identifier::{AssociatedOid, ObjectIdentifier, ObjectIdentifierRef};
 }
 
 /// A type that is read from its encoding.
@@ -21,12 +28,6 @@ pub trait Decode<'a>: Sized {
     ///
     /// The slice isn't one whole encoding of such a value, or there is no memory for the value.
     fn from_der(bytes: &'a [u8]) -> Result<Self>;
-}
-
-impl<'a, T: proved::Decode<&'a [u8], Global>> Decode<'a> for T {
-    fn from_der(bytes: &'a [u8]) -> Result<T> {
-        proved::read_owned(Global, bytes)
-    }
 }
 
 /// A type that is written as its encoding.
@@ -51,23 +52,79 @@ pub trait Encode {
     ///
     /// As `encoded_len`, and `OutOfMemory`.
     #[cfg(feature = "alloc")]
-    fn to_der(&self) -> Result<alloc::vec::Vec<u8>>;
-}
-
-impl<T: proved::Encode> Encode for T {
-    fn encoded_len(&self) -> Result<Length> {
-        proved::Encode::encoded_len(self)
-    }
-
-    fn encode_to_slice<'o>(&self, out: &'o mut [u8]) -> Result<&'o [u8]> {
-        proved::Encode::encode_to_slice(self, out)
-    }
-
-    #[cfg(feature = "alloc")]
     fn to_der(&self) -> Result<alloc::vec::Vec<u8>> {
-        let length = proved::Encode::encoded_len(self)?.to_usize();
-        let mut encoding = crate::rattle_std::prelude::Vec::repeated(Global, 0, length)?;
-        proved::Encode::encode_into(self, encoding.as_mut_slice())?;
+        let length = self.encoded_len()?.to_usize();
+        let mut encoding = Vec::repeated(Global, 0, length)?;
+        self.encode_to_slice(encoding.as_mut_slice())?;
         Ok(encoding.into())
     }
 }
+
+/// The encoding of a message, whose length is told once.
+#[cfg(feature = "alloc")]
+pub(crate) fn to_der<T: proved::Encode>(message: &T) -> Result<alloc::vec::Vec<u8>> {
+    let length = message.encoded_len()?.to_usize();
+    let mut encoding = Vec::repeated(Global, 0, length)?;
+    message.prepend(&mut proved::BackWriter::new(encoding.as_mut_slice()));
+    Ok(encoding.into())
+}
+
+/// A list of these octets.
+#[cfg(feature = "alloc")]
+pub(crate) fn copied(octets: &[u8]) -> Result<alloc::vec::Vec<u8>> {
+    Ok(Vec::from_slice(Global, octets)?.into())
+}
+
+/// `Decode` of a type.
+macro_rules! decoded {
+    ($({$($generics:tt)*} $name:ty, $bytes:ident => $read:expr;)*) => { $(
+        impl<'a, $($generics)*> $crate::der::Decode<'a> for $name {
+            #[inline]
+            fn from_der($bytes: &'a [u8]) -> $crate::der::Result<$name> {
+                $read
+            }
+        }
+    )* };
+}
+pub(crate) use decoded;
+
+/// `TryFrom` of a whole slice, for types with `Decode`.
+macro_rules! from_slices {
+    ($($name:ty;)*) => { $(
+        impl<'a> TryFrom<&'a [u8]> for $name {
+            type Error = $crate::Error;
+
+            /// Reads the whole slice.
+            #[inline]
+            fn try_from(bytes: &'a [u8]) -> $crate::Result<$name> {
+                Ok($crate::der::Decode::from_der(bytes)?)
+            }
+        }
+    )* };
+}
+pub(crate) use from_slices;
+
+/// `Encode` of a type, by the value of a proved type that has the same encoding.
+macro_rules! encoded {
+    ($({$($generics:tt)*} $name:ty, $value:ident => $message:expr;)*) => { $(
+        impl<$($generics)*> $crate::der::Encode for $name {
+            fn encoded_len(&self) -> $crate::der::Result<$crate::der::Length> {
+                let $value = self;
+                $crate::proved::der_core::Encode::encoded_len(&$message)
+            }
+
+            #[inline]
+            fn encode_to_slice<'o>(&self, out: &'o mut [u8]) -> $crate::der::Result<&'o [u8]> {
+                let $value = self;
+                $crate::proved::der_core::Encode::encode_to_slice(&$message, out)
+            }
+
+            #[cfg(feature = "alloc")]
+            fn to_der(&self) -> $crate::der::Result<alloc::vec::Vec<u8>> {
+                let $value = self;
+                $crate::der::to_der(&$message)
+            }
+        }
+    )* };
+}
+pub(crate) use encoded;

@@ -1,6 +1,6 @@
 //! Documents: one whole SEQUENCE each, in memory.
 
-use crate::der::{Decode, Error, Length, Result};
+use crate::der::{Decode, Encode, Error, Length, Result};
 use crate::proved::der_core as proved;
 use crate::rattle_std::alloc::Global;
 
@@ -30,6 +30,29 @@ macro_rules! documents {
             /// The document is none.
             pub fn decode_msg<'a, T: Decode<'a>>(&'a self) -> Result<T> {
                 T::from_der(self.as_bytes())
+            }
+
+            /// Encodes a message.
+            ///
+            /// # Errors
+            ///
+            /// It has no encoding, this is no SEQUENCE, or there is no memory.
+            pub fn encode_msg<T: Encode + ?Sized>(message: &T) -> Result<$name> {
+                $name::from_der(&message.to_der()?)
+            }
+
+            /// The document of a proved message, which is written once.
+            pub(crate) fn written<'a, T: proved::EncodeValue + proved::Sequence<'a>>(message: &T) -> Result<$name> {
+                Ok($name(proved::$name::encode_msg(Global, message)?))
+            }
+
+            /// The same document.
+            ///
+            /// # Errors
+            ///
+            /// `OutOfMemory`.
+            pub fn try_clone(&self) -> Result<$name> {
+                $name::from_der(self.as_bytes())
             }
 
             /// Copies the bytes into a document.
@@ -78,6 +101,24 @@ macro_rules! documents {
             }
         }
 
+        impl TryFrom<alloc::vec::Vec<u8>> for $name {
+            type Error = Error;
+
+            /// Copies the bytes into a document.
+            fn try_from(bytes: alloc::vec::Vec<u8>) -> Result<$name> {
+                $name::from_der(&bytes)
+            }
+        }
+
+        impl Clone for $name {
+            /// # Panics
+            ///
+            /// There is no memory: see `try_clone`.
+            fn clone(&self) -> $name {
+                self.try_clone().expect("no memory was found")
+            }
+        }
+
         impl core::fmt::Debug for $name {
             fn fmt(&self, f: &mut core::fmt::Formatter<'_>) -> core::fmt::Result {
                 self.0.fmt(f)
@@ -91,3 +132,11 @@ documents! {
     /// One whole SEQUENCE that is secret: `Debug` shows none of its bytes.
     SecretDocument;
 }
+
+impl PartialEq for Document {
+    fn eq(&self, other: &Document) -> bool {
+        self.as_bytes() == other.as_bytes()
+    }
+}
+
+impl Eq for Document {}

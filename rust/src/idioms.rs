@@ -1,37 +1,7 @@
-//! What Rust's idioms want beside the proved functions: `Default`, `TryFrom`, `Error`.
+//! What Rust's idioms want beside the proved functions.
 
-use crate::der::asn1::{Any, Uint, UintRef};
-use crate::der::{self, Decode};
-use crate::rattle_std::alloc::Global;
-use crate::{Error, Result, RsaOaepParams, RsaPrivateKey, RsaPssParams, RsaPublicKey};
-
-impl Default for RsaPssParams<Any> {
-    fn default() -> RsaPssParams<Any> {
-        RsaPssParams::<Any>::default_in(Global)
-    }
-}
-
-impl Default for RsaOaepParams<Any> {
-    fn default() -> RsaOaepParams<Any> {
-        RsaOaepParams::<Any>::default_in(Global)
-    }
-}
-
-macro_rules! whole_slices {
-    ($($name:ident<$in:ty>)*) => { $(
-        impl<'a> TryFrom<&'a [u8]> for $name<$in> {
-            type Error = Error;
-
-            /// Decodes the whole slice.
-            fn try_from(bytes: &'a [u8]) -> Result<$name<$in>> {
-                Ok(Decode::from_der(bytes)?)
-            }
-        }
-    )* };
-}
-whole_slices! {
-    RsaPublicKey<Uint> RsaPrivateKey<UintRef<'a>> RsaPrivateKey<Uint> RsaPssParams<Any> RsaOaepParams<Any>
-}
+use crate::Error;
+use crate::der::{self, Length};
 
 impl core::error::Error for der::Error {}
 
@@ -41,5 +11,37 @@ impl core::error::Error for Error {
             Error::Asn1(error) => Some(error),
             _ => None,
         }
+    }
+}
+
+impl Default for Length {
+    fn default() -> Length {
+        Length::ZERO
+    }
+}
+
+impl From<Length> for u32 {
+    fn from(length: Length) -> u32 {
+        length.to_usize() as u32
+    }
+}
+
+impl TryFrom<Length> for usize {
+    type Error = der::Error;
+
+    fn try_from(length: Length) -> der::Result<usize> {
+        Ok(length.to_usize())
+    }
+}
+
+impl core::fmt::Display for Length {
+    fn fmt(&self, f: &mut core::fmt::Formatter<'_>) -> core::fmt::Result {
+        self.to_usize().fmt(f)
+    }
+}
+
+impl From<der::ErrorKind> for der::Error {
+    fn from(kind: der::ErrorKind) -> der::Error {
+        der::Error::new(kind)
     }
 }

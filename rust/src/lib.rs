@@ -12,9 +12,24 @@
 //! # Ok::<(), pkcs1::Error>(())
 //! ```
 //!
+//! A private key is read in the same way, into a struct or a view, and so are parameters. Types that own their octets
+//! end in `Owned`:
+//!
+//! ```no_run
+//! # #[cfg(feature = "std")] {
+//! use pkcs1::{DecodeRsaPrivateKey, EncodeRsaPrivateKey, RsaPrivateKeyOwned};
+//!
+//! let key = RsaPrivateKeyOwned::read_pkcs1_der_file("key.der")?;
+//! key.to_pkcs8_der()?.write_der_file("container.der")?;
+//! key.write_pkcs1_der_file("copy.der")?;
+//! # }
+//! # Ok::<(), pkcs1::Error>(())
+//! ```
+//!
 //! The functions that read and write are those of crates in the language Rattle, of which a machine has proved that
 //! they do what their contracts say. They stand in `src/proved`, without the contracts. This crate and the compiler
-//! aren't proved, but tested beside the library that is built of what the proof's own compiler made.
+//! aren't proved, but tested beside the library that is built of what the proof's own compiler made. The README has
+//! more: which name is for what, what stands beside RustCrypto's `pkcs1`, and what isn't read.
 //!
 //! There is no `unsafe`, and no dependency. Without the feature `alloc`, whatever wants memory returns `OutOfMemory`.
 #![no_std]
@@ -29,11 +44,19 @@ extern crate alloc;
 #[cfg(feature = "std")]
 extern crate std;
 
+mod algorithm;
 mod clones;
 pub mod der;
 #[cfg(feature = "alloc")]
 mod documents;
+mod identifier;
 mod idioms;
+mod keys;
+mod named;
+mod oid_text;
+mod param_calls;
+mod params;
+pub mod pkcs8;
 // Without the proof, names are left that only contracts used, and functions that only they called.
 #[rustfmt::skip]
 #[allow(
@@ -48,23 +71,38 @@ mod proved;
 #[cfg_attr(not(feature = "std"), allow(dead_code))]
 mod rattle_std;
 mod traits;
+mod values;
 
 pub use der::asn1::{ObjectIdentifier, Uint, UintRef};
+pub use keys::{OtherPrimeInfos, RsaPrivateKey, RsaPrivateKeyOwned, RsaPrivateKeyRef, RsaPublicKeyOwned};
+pub use named::{
+    Mgf1, PSpecified, RsaEncryption, RsaesOaep, RsassaPss, Sha1, Sha3_256, Sha3_384, Sha3_512, Sha224, Sha256, Sha384,
+    Sha512, Sha512_224, Sha512_256,
+};
+pub use param_calls::{
+    RsaOaepParamsOwned, RsaOaepParamsRef, RsaOaepParamsView, RsaPssParamsOwned, RsaPssParamsRef, RsaPssParamsView,
+};
+pub use params::{RsaOaepParams, RsaPssParams};
 pub use proved::pkcs1::{
-    Error, OtherPrimeInfo, OtherPrimeInfos, Result, RsaOaepParams, RsaOaepParamsOwned, RsaOaepParamsRef, RsaPrivateKey,
-    RsaPrivateKeyOwned, RsaPrivateKeyRef, RsaPssParams, RsaPssParamsOwned, RsaPssParamsRef, RsaPublicKey,
-    RsaPublicKeyOwned, RsaPublicKeyRef, Sha1, Sha224, Sha256, Sha384, Sha512, Sha512_224, Sha512_256, TrailerField,
-    Version,
+    Error, OtherPrimeInfo, OtherPrimes, Result, RsaPrivateKeyView, RsaPublicKey, RsaPublicKeyRef, TrailerField, Version,
 };
 pub use traits::{DecodeRsaPrivateKey, DecodeRsaPublicKey};
 #[cfg(feature = "alloc")]
 pub use traits::{EncodeRsaPrivateKey, EncodeRsaPublicKey};
 
+/// The object identifier of RSA keys, rsaEncryption (RFC 8017 A.1).
+pub const ALGORITHM_OID: ObjectIdentifier = <RsaEncryption as der::oid::AssociatedOid>::OID;
+
+/// The algorithm identifier of RSA keys: rsaEncryption with NULL.
+pub const ALGORITHM_ID: spki::AlgorithmIdentifierRef<'static> =
+    spki::AlgorithmIdentifier { oid: ALGORITHM_OID, parameters: Some(der::asn1::AnyRef::NULL) };
+
 /// Algorithm identifiers.
 pub mod spki {
-    pub use crate::proved::spki_core::{AlgorithmIdentifier, AlgorithmIdentifierRef};
+    pub use crate::algorithm::{AlgorithmIdentifier, AlgorithmIdentifierOwned, AlgorithmIdentifierRef};
+    pub use crate::identifier::{AssociatedOid, ObjectIdentifier};
 }
 
-#[cfg(doctest)]
+#[cfg(all(doctest, feature = "std"))]
 #[doc = include_str!("../README.md")]
 struct Readme;

@@ -1,11 +1,10 @@
 //! Traits for keys of any type.
 
-use crate::Result;
 #[cfg(feature = "alloc")]
 use crate::der::{Document, SecretDocument};
-use crate::proved::pkcs1 as proved;
-use crate::rattle_std::alloc::Global;
-use crate::{RsaPrivateKeyOwned, RsaPublicKeyOwned};
+#[cfg(feature = "alloc")]
+use crate::values::Number;
+use crate::{Result, RsaPrivateKeyOwned, RsaPublicKeyOwned};
 
 macro_rules! decoding {
     ($(#[doc = $text:literal])* $trait:ident, $key:ty, $document:ident) => {
@@ -31,7 +30,7 @@ macro_rules! decoding {
 
         impl $trait for $key {
             fn from_pkcs1_der(bytes: &[u8]) -> Result<$key> {
-                <$key as proved::$trait>::from_pkcs1_der(Global, bytes)
+                <$key>::try_from(bytes)
             }
         }
     };
@@ -41,13 +40,27 @@ decoding! {
     DecodeRsaPrivateKey, RsaPrivateKeyOwned, SecretDocument
 }
 decoding! {
-    /// A public key that can be decoded from PKCS #1.
+    /// A public key that can be decoded from PKCS #1. A type of one's own may be one:
+    ///
+    /// ```
+    /// use pkcs1::{DecodeRsaPublicKey, Error, Result, RsaPublicKeyRef};
+    ///
+    /// struct Modulus([u8; 256]);
+    ///
+    /// impl DecodeRsaPublicKey for Modulus {
+    ///     fn from_pkcs1_der(bytes: &[u8]) -> Result<Modulus> {
+    ///         let key = RsaPublicKeyRef::try_from(bytes)?;
+    ///         let octets = key.modulus.as_bytes().try_into().map_err(|_| Error::KeyMalformed)?;
+    ///         Ok(Modulus(octets))
+    ///     }
+    /// }
+    /// ```
     DecodeRsaPublicKey, RsaPublicKeyOwned, Document
 }
 
 #[cfg(feature = "alloc")]
 macro_rules! encoding {
-    ($(#[doc = $text:literal])* $trait:ident, $key:ident, $document:ident) => {
+    ($(#[doc = $text:literal])* $trait:ident, $key:ident, $document:ident, $value:ident => $message:expr) => {
         $(#[doc = $text])*
         pub trait $trait {
             /// Returns the encoding of the key.
@@ -68,12 +81,10 @@ macro_rules! encoding {
             }
         }
 
-        impl<U> $trait for crate::$key<U>
-        where
-            crate::$key<U>: proved::$trait,
-        {
+        impl<U: Number> $trait for crate::$key<U> {
             fn to_pkcs1_der(&self) -> Result<$document> {
-                Ok($document(proved::$trait::to_pkcs1_der(self, Global)?))
+                let $value = self;
+                Ok($document::written(&$message)?)
             }
         }
     };
@@ -81,10 +92,10 @@ macro_rules! encoding {
 #[cfg(feature = "alloc")]
 encoding! {
     /// A private key that can be encoded in PKCS #1.
-    EncodeRsaPrivateKey, RsaPrivateKey, SecretDocument
+    EncodeRsaPrivateKey, RsaPrivateKey, SecretDocument, key => key.written()?
 }
 #[cfg(feature = "alloc")]
 encoding! {
     /// A public key that can be encoded in PKCS #1.
-    EncodeRsaPublicKey, RsaPublicKey, Document
+    EncodeRsaPublicKey, RsaPublicKey, Document, key => crate::RsaPublicKeyRef::from(key)
 }

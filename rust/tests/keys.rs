@@ -2,7 +2,8 @@
 
 mod made;
 
-use pkcs1::der::{Decode, Encode, ErrorKind};
+use pkcs1::der::asn1::UintRef;
+use pkcs1::der::{Decode, Encode, ErrorKind, Tag};
 use pkcs1::{Error, RsaPrivateKeyRef, RsaPublicKeyRef, Version};
 
 #[test]
@@ -24,6 +25,24 @@ fn a_slice_too_short_is_left_as_it_was() {
     assert_eq!(key.encode_to_slice(&mut short).unwrap_err().kind(), ErrorKind::NoRoom);
     assert!(short.iter().all(|octet| *octet == 0x55));
     assert_eq!(key.encoded_len().unwrap().to_usize(), der.len());
+}
+
+#[test]
+fn bit_lengths() {
+    let octets = [&[0; 512][..], &[1], &[0; 512]].concat();
+    for (octets, bits) in [
+        (&[0][..], 0),
+        (&[0, 0], 0),
+        (&[1], 1),
+        (&[0x7f], 7),
+        (&[0x80], 8),
+        (&[0, 0xff], 8),
+        (&[1, 0], 9),
+        (&octets, 4097),
+    ] {
+        assert_eq!(UintRef::new(octets).unwrap().bit_len(), bits);
+    }
+    assert_eq!(UintRef::new(&[]).unwrap_err().kind(), ErrorKind::Length { tag: Tag::INTEGER });
 }
 
 #[test]

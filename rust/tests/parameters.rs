@@ -2,8 +2,13 @@
 
 mod made;
 
-use pkcs1::der::{Encode, ErrorKind};
-use pkcs1::{Error, RsaOaepParamsRef, RsaPssParamsRef, Sha1, Sha256, TrailerField};
+use pkcs1::der::asn1::AnyRef;
+use pkcs1::der::{Encode, ErrorKind, Tag, oid::AssociatedOid};
+use pkcs1::spki::AlgorithmIdentifier;
+use pkcs1::{
+    Error, Mgf1, PSpecified, RsaOaepParamsRef, RsaPssParamsRef, Sha1, Sha3_256, Sha224, Sha256, Sha384, Sha512,
+    Sha512_224, Sha512_256, TrailerField,
+};
 
 #[test]
 fn defaults_are_filled_in() {
@@ -39,6 +44,97 @@ fn a_label_is_written_and_read() {
     let mut room = [0; 200];
     let der = params.encode_to_slice(&mut room).unwrap();
     assert_eq!(RsaOaepParamsRef::try_from(der).unwrap().label(), Some(&b"label"[..]));
+}
+
+#[test]
+fn a_hash_function_is_told_by_its_identifier_with_null_or_without() {
+    macro_rules! matrix {
+        ($($hash:ident)*) => { $(
+            matrix!(of $hash: Sha1 Sha224 Sha256 Sha384 Sha512 Sha512_224 Sha512_256 Sha3_256);
+        )* };
+        (of $hash:ident: $($other:ident)*) => { $(
+            let same = $hash::OID == $other::OID;
+            let (pss, oaep) = (RsaPssParamsRef::new::<$hash>(20), RsaOaepParamsRef::new::<$hash>());
+            assert_eq!((pss.uses_hash::<$other>(), oaep.uses_hash::<$other>()), (same, same));
+            assert_eq!(pss.hash.is_hash::<$other>(), same);
+            let without = AlgorithmIdentifier { parameters: None, ..pss.hash };
+            let other = RsaPssParamsRef::new::<$other>(20).mask_gen;
+            for (hash, under) in [(without, pss.hash), (pss.hash, without), (without, without)] {
+                let mask_gen = AlgorithmIdentifier { parameters: Some(under), ..pss.mask_gen };
+                assert!(RsaPssParamsRef { hash, mask_gen, ..pss }.uses_hash::<$hash>());
+                assert!(RsaOaepParamsRef { hash, mask_gen, ..oaep }.uses_hash::<$hash>());
+            }
+            assert_eq!(RsaPssParamsRef { mask_gen: other, ..pss }.uses_hash::<$hash>(), same);
+            assert_eq!(RsaOaepParamsRef { mask_gen: other, ..oaep }.uses_hash::<$other>(), same);
+        )* };
+    }
+    matrix! { Sha1 Sha224 Sha256 Sha384 Sha512 Sha512_224 Sha512_256 Sha3_256 }
+}
+
+#[test]
+fn other_masks_use_no_hash_function_and_other_sources_have_no_label() {
+    let (pss, oaep) = (RsaPssParamsRef::new::<Sha256>(32), RsaOaepParamsRef::new_with_label::<Sha256>(b"label"));
+    let (hash, label) = (pss.hash, oaep.p_source.parameters);
+    let mgf1 = |parameters| AlgorithmIdentifier { parameters, ..pss.mask_gen };
+    for mask_gen in [
+        mgf1(None),
+        AlgorithmIdentifier { oid: PSpecified::OID, parameters: Some(hash) },
+        mgf1(Some(AlgorithmIdentifier { parameters: label, ..hash })),
+        mgf1(Some(AlgorithmIdentifier { parameters: AnyRef::new(Tag::NULL, &[0]).ok(), ..hash })),
+    ] {
+        assert!(!RsaPssParamsRef { mask_gen, ..pss }.uses_hash::<Sha256>());
+        assert!(!RsaOaepParamsRef { mask_gen, ..oaep }.uses_hash::<Sha256>());
+    }
+    for (oid, parameters) in
+        [(PSpecified::OID, None), (PSpecified::OID, Some(AnyRef::NULL)), (Mgf1::OID, label), (Sha256::OID, label)]
+    {
+        assert_eq!(RsaOaepParamsRef { p_source: AlgorithmIdentifier { oid, parameters }, ..oaep }.label(), None);
+    }
+}
+
+#[cfg(feature = "alloc")]
+/// What is written in each way is the same, with too little room nothing, and it is what is read.
+fn check<'a, T>(params: &T, der: &'a [u8])
+where
+    T: Encode + PartialEq + std::fmt::Debug + TryFrom<&'a [u8], Error = Error>,
+{
+    assert_eq!((params.encoded_len().unwrap().to_usize(), T::try_from(der).as_ref()), (der.len(), Ok(params)));
+    let mut room = vec![0x55; der.len() + 1];
+    for count in [0, 1, der.len() - 1] {
+        assert_eq!(params.encode_to_slice(&mut room[..count]).unwrap_err().kind(), ErrorKind::NoRoom);
+        assert!(room.iter().all(|octet| *octet == 0x55));
+    }
+    assert_eq!(params.encode_to_slice(&mut room).unwrap(), der);
+    assert_eq!(room[der.len()], 0x55);
+}
+
+#[cfg(feature = "alloc")]
+#[test]
+fn what_is_known_and_what_is_not_is_written_alike() {
+    use pkcs1::{RsaPssParamsView, der::asn1::ObjectIdentifier};
+    let octets = vec![1; 70_000];
+    for len in [0, 1, 62, 63, 64, 65, 127, 128, 255, 256, 70_000] {
+        let params = RsaOaepParamsRef::new_with_label::<Sha384>(&octets[..len]);
+        check(&params, &params.to_der().unwrap());
+        assert_eq!(params.label(), Some(&octets[..len]));
+        let hash =
+            AlgorithmIdentifier { parameters: AnyRef::new(Tag::OCTET_STRING, &octets[..len]).ok(), ..params.hash };
+        let params = RsaPssParamsRef { hash, ..RsaPssParamsRef::new::<Sha512>(64) };
+        check(&params, &params.to_der().unwrap());
+    }
+    for salt_len in 0..=255 {
+        let params = RsaPssParamsRef::new::<Sha256>(salt_len);
+        check(&params, &params.to_der().unwrap());
+        let view = params.to_der().unwrap();
+        check(&RsaPssParamsView::try_from(&view[..]).unwrap(), &view);
+    }
+    for len in 1..=39 {
+        let oid = ObjectIdentifier::from_bytes(&octets[..len]).unwrap();
+        let hash = AlgorithmIdentifier { oid, parameters: Some(AnyRef::NULL) };
+        let mask_gen = AlgorithmIdentifier { oid: Mgf1::OID, parameters: Some(hash) };
+        let params = RsaOaepParamsRef { hash, mask_gen, ..RsaOaepParamsRef::default() };
+        check(&params, &params.to_der().unwrap());
+    }
 }
 
 #[cfg(feature = "alloc")]

@@ -101,10 +101,11 @@ wanted() {
     printf '%s\n' '2048 bits' "$public" "$private" "pss $printed_params"
     printf '%s\n' "keys/a key.der $public" 'keys/private.der refused' 'keys/short.der refused'
     yes 'pub n=07 e=03 again=3006020107020103' | head -n 800000
-    printf '%s\n' "keys/private.der: $error bytes follow the value" "keys/short.der: $error the input ends too early"
+    printf '%s\n' "reading keys/private.der: $error bytes follow the value" \
+        "reading keys/short.der: $error the input ends too early"
     printf '%s\n' "n=$n" "$public"
-    printf '%s\n' "keys/a key.der: $error the value of tag 0x02 is not allowed" \
-        "keys/short.der: $error the input ends too early"
+    printf '%s\n' "reading keys/a key.der: $error the value of tag 0x02 is not allowed" \
+        "reading keys/short.der: $error the input ends too early"
     yes 'pub n=07 e=03 again=3006020107020103' | head -n 800000
 }
 # refusals: what the blocks do with files of another kind.

@@ -8,7 +8,7 @@ exec python3 - <<'END'
 import glob, re, sys
 
 CODE = {'rattle': ['crates/*/src/*.rt'], 'antt': ['crates/*/[ps]*/**/*.antt'], 'c': ['ffi/c/*.c'],
-        'rust': ['ffi/rust/examples/*.rs', 'ffi/rust/README.md'], 'toml': ['ffi/rust/README.md'],
+        'rust': ['rust/examples/*.rs'], 'toml': ['rust/README.md'],
         'python': ['ffi/python/*.py']}
 RUN = 'sh', 'cmake', 'meson', 'text'
 

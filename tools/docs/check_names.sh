@@ -54,7 +54,7 @@ def check_files(head, cells):
 def headings(path):
     return {re.sub(r'[^\w -]', '', line.strip('# \n').lower()).replace(' ', '-') for line in open(path) if line[0] == '#'}
 
-documents = sys.argv[1:] or ['README.md', 'CONTRIBUTING.md', 'SECURITY.md', *glob.glob('docs/*.md'), *glob.glob('crates/*/README.md'), 'ffi/rust/README.md', 'rust/README.md', *glob.glob('tools/*/README.md')]
+documents = sys.argv[1:] or ['README.md', 'CONTRIBUTING.md', 'SECURITY.md', *glob.glob('docs/*.md'), *glob.glob('crates/*/README.md'), 'rust/README.md', *glob.glob('tools/*/README.md')]
 for document in documents:
     crate, head, fenced = '', [], ''
     for number, line in enumerate(open(document), 1):

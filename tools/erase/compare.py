@@ -1,5 +1,5 @@
 #!/usr/bin/env python3
-"""compare.py [FOLDER]: whether rust/src/proved, or this folder, is crates/ without what is there for the proof.
+"""compare.py [FOLDER]: whether what is made in rust/, or in this folder, is crates/ without what is there for the proof.
 
 Nothing of erase.py is used or believed. The tokens of each source are lined up with those of the file that is made of
 it. Where one of the forms below stands in the source, what it says must stand in the other; elsewhere both must have
@@ -12,9 +12,13 @@ import sys
 from typing import NamedTuple
 
 TOP = pathlib.Path(__file__).resolve().parents[2]
-CRATES = ["der_core", "spki_core", "pkcs1_params", "pkcs1", "pkcs8_core"]
-MAY_BE_REACHED = ["new_with_label"]  # though it has a `requires`
-PRELUDE = {"Vec", "vec"}
+MADE = {"src/proved": ["der_core", "spki_core", "pkcs1_params", "pkcs1", "pkcs8_core"],
+        "src/bin/pkcs1_tool/tool": ["pkcs1_program", "pkcs1_tool"]}
+PLACES = {"std": "crate :: rattle_std", "arrayvec": "crate :: rattle_std :: arrayvec",
+          "hex": "crate :: rattle_std :: hex"}
+PLACES |= {crate: f"crate :: {folder.split('/')[-1]} :: {crate}" for folder, its in MADE.items() for crate in its}
+INSIDE = ["decode", "to_bytes", "try_clone"]  # they take or give what isn't public
+PRELUDE = {"Vec", "vec", "String", "ToString", "format", "HostRuntime", "Eprint", "eprintln", "assert", "assert_eq"}
 TOKEN = re.compile(r"""
     //[^\n]* | (?P<kept> b?"(?:\\.|[^"\\])*" | b?'(?:\\[^\n][^'\n]*|[^'\\\n])' | '[a-z_]\w* | \w+
     | :: | -> | => | \.\.=? | \S)""", re.X | re.S)
@@ -103,6 +107,8 @@ class Source:
         if self[at] != "impl":
             return None
         body = self.until(at, ["{"])
+        if self[body] != "{":  # the `impl` of an argument
+            return None
         head = [self[it] for it in range(at, body)]
         end = self.behind[body]
         if "for" in head and head[head.index("for") - 1] == "Clone" and any(
@@ -115,24 +121,25 @@ class Source:
             return 7, ""
         return (4, "Formatter < '_ >") if self.says(at, "Formatter < W >") else None
 
-    def derive_where(self, at):
-        if self.says(at, "# [ derive_where ( skip ) ]") and self.says(at + 8, ": PhantomData <"):
-            return 7, ""
-        if self.says(at, "derive_where (") and self[at + 2] != "skip" and self[self.until(at + 2, [";"])] == ";":
-            end = self.until(at + 2, [";"])
-            return self.behind[at + 1] - at, " ".join(["derive ("] + [self[it] for it in range(at + 2, end)] + [")"])
-        return None
-
     def path(self, at):
         if self[at - 1] in ("::", ".") or not (self[at + 1] == "::" or self[at - 1] == "use" and self[at + 1] == "as"):
             return None
-        if self[at] in CRATES or self[at] == "crate":
-            return 1, f"crate :: proved :: {self.crate if self[at] == 'crate' else self[at]}"
-        places = {"std": "crate :: rattle_std", "arrayvec": "crate :: rattle_std :: arrayvec"}
-        return (1, places[self[at]]) if self[at] in places else None
+        name = self.crate if self[at] == "crate" else self[at]
+        return (1, PLACES[name]) if name in PLACES else None
+
+    def entry(self, at):
+        """`main` of a program is public, and a test makes the runtime that it is given."""
+        if self.says(at, "fn main (") and self.around[at] < 0:
+            return 1, "pub fn"
+        if self.says(at, "( rt : HostRuntime") and self.says(at - 6, "# [ test ] fn"):
+            body = self.until(self.behind[at], ["{"])
+            result = " ".join(self[it] for it in range(self.behind[at], body))
+            return body + 1 - at, f"( ) {result} {{ let rt = HostRuntime ;"
+        return None
 
     def narrowed(self, at):
-        """A public method with a `requires`, and a public field beside a ghost one, are `pub(crate)`."""
+        """A public method with a `requires` or of the inside, and a public field beside a ghost one, are
+        `pub(crate)`."""
         around = self.around[at] if self[at] == "pub" else -1
         if around < 0:
             return None
@@ -141,7 +148,7 @@ class Source:
             end = self.until(name, ["{", ";", "requires"])
             while self[end - 1] in ("ensures", "*") or self[end - 2] in ("ensures", "*"):
                 end = self.until(self.behind[end], ["{", ";", "requires"])
-            meant = self[end] == "requires" and self[name] not in MAY_BE_REACHED
+            meant = self[end] == "requires" or self.says(at, "pub fn") and self[name] in INSIDE
         else:
             inside = range(around + 1, self.behind[around])
             meant = self[name + 1] == ":" and any(self[it] == "ghost" and self.around[it] == around for it in inside)
@@ -150,7 +157,7 @@ class Source:
     def formed(self, at):
         """The first form that stands here: its name, how many tokens it has, and what must stand in its place."""
         for form in (self.ghost, self.clause, self.tactic, self.final, self.drop, self.clone, self.formatter,
-                     self.derive_where, self.path, self.narrowed):
+                     self.path, self.entry, self.narrowed):
             found = form(at)
             if found:
                 return form.__name__, found[0], found[1].split()
@@ -201,24 +208,24 @@ def compared(source_path, made_path, crate, counts):
     return found and f"{source_path}, {shown(source.words, found[0])}\n    {made_path}, {shown(made, found[1])}"
 
 
-def sources():
-    """The path of each source, by that of what is made of it, below the folder of all."""
+def sources(crates):
+    """The path of each source of these crates, by that of what is made of it, below the folder of all."""
     found = {}
-    for crate in CRATES:
+    for crate in crates:
         for path in sorted((TOP / "crates" / crate / "src").rglob("*.rt")):
             name = path.relative_to(TOP / "crates" / crate / "src").with_suffix(".rs")
-            found[pathlib.Path(crate, "mod.rs" if str(name) == "lib.rs" else name)] = path
+            found[pathlib.Path(crate, "mod.rs" if str(name) in ("lib.rs", "main.rs") else name)] = path
     return found
 
 
-def messages(folder, counts):
-    """A message about each file that isn't as it should be."""
-    meant = sources()
+def messages(folder, crates, counts):
+    """A message about each file of the folder that isn't as it should be."""
+    meant = sources(crates)
     there = {it.relative_to(folder) for it in folder.rglob("*") if it.is_file()}
     for path in sorted(there ^ (meant.keys() | {pathlib.Path("mod.rs")})):
         yield f"{folder}/{path} is {'made of nothing' if path in there else 'missing'}"
     listed = [it.text for it in words_of((folder / "mod.rs").read_text(encoding="utf-8"))]
-    if listed != " ".join(f"pub mod {it} ;" for it in CRATES).split():
+    if listed != " ".join(f"pub mod {it} ;" for it in crates).split():
         yield f"{folder}/mod.rs has another list of crates"
     for path in sorted(meant.keys() & there):
         message = compared(meant[path], folder / path, path.parts[0], counts)
@@ -228,7 +235,8 @@ def messages(folder, counts):
 
 def main():
     counts = collections.Counter()
-    wrong = list(messages(pathlib.Path(sys.argv[1]) if sys.argv[1:] else TOP / "rust/src/proved", counts))
+    top = pathlib.Path(sys.argv[1]) if sys.argv[1:] else TOP / "rust"
+    wrong = [it for folder, crates in MADE.items() for it in messages(top / folder, crates, counts)]
     print("\n".join(wrong) or "compare: the same tokens but for these forms: "
           + ", ".join(f"{kind} {count}" for kind, count in sorted(counts.items())))
     sys.exit(bool(wrong))

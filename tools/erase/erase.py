@@ -1,8 +1,8 @@
 #!/usr/bin/env python3
 """Makes plain Rust of the crates in Rattle: deletes what is there for the proof, and changes the forms of forms.py.
 
-    erase.py                     writes rust/src/proved, of the crates of the library
-    erase.py --check             whether it is what the crates give
+    erase.py                     writes rust/src/proved, of the crates of the library, and the tool's text
+    erase.py --check             whether they are what the crates give
     erase.py --programs FOLDER   writes there the programs that test the library, for rust/check
 
 The lines stay as they are laid out in crates/, but for those that are deleted or changed. So no other program lays them
@@ -14,10 +14,15 @@ import re
 import sys
 
 sys.dont_write_bytecode = True
-from forms import FORMS, LIBRARY, PRELUDE, PRELUDE_MACROS, PROGRAMS  # noqa: E402
+from forms import FORMS, LIBRARY, PRELUDE, PRELUDE_MACROS, PROGRAMS, TOOL, above_docs  # noqa: E402
 from tokens import Code, Refused  # noqa: E402
 
 TOP = pathlib.Path(__file__).resolve().parents[2]
+# The folders of what is made: of which crates, and what their lists of them say.
+FOLDERS = {
+    "rust/src/proved": (LIBRARY, "The proved crates, without what is there for the proof."),
+    "rust/src/bin/pkcs1_tool/tool": (TOOL, "The program, without what is there for the proof."),
+}
 
 
 def edits_of(code):
@@ -62,8 +67,9 @@ def with_prelude(crate, text):
     listed = f"{{{', '.join(names)}}}" if len(names) > 1 else names[0]
     first = next((at for at, it in enumerate(code.tokens) if it.text == "use" and code.around[at] is None), 0)
     first -= code.word(first - 1) == "pub"
-    begin = code.text.rfind("\n", 0, code.tokens[first].begin) + 1
-    return f"{text[:begin]}use crate::rattle_std::prelude::{listed};\n{text[begin:]}"
+    begin = above_docs(text, text.rfind("\n", 0, code.tokens[first].begin) + 1)
+    blank = "" if code.word(first) in ("use", "pub") else "\n"
+    return f"{text[:begin]}use crate::rattle_std::prelude::{listed};\n{blank}{text[begin:]}"
 
 
 def erased(crate, name, text):
@@ -120,14 +126,16 @@ def main():
     if args.programs:
         write(erased_crates(PROGRAMS, "The programs that test the library, as plain Rust."), args.programs)
         return
-    folder = TOP / "rust/src/proved"
-    made = erased_crates(LIBRARY, "The proved crates, without what is there for the proof.")
-    if not args.check:
-        write(made, folder)
-    old = stale(made, folder)
+    old, count = [], 0
+    for folder, (crates, says) in FOLDERS.items():
+        made = erased_crates(crates, says)
+        if not args.check:
+            write(made, TOP / folder)
+        old += [f"{folder}/{path}" for path in stale(made, TOP / folder)]
+        count += len(made)
     for path in old:
-        print(f"rust/src/proved/{path} isn't what crates/ gives: tools/erase/erase.py writes it", file=sys.stderr)
-    print(f"erase: {len(made)} files")
+        print(f"{path} isn't what crates/ gives: tools/erase/erase.py writes it", file=sys.stderr)
+    print(f"erase: {count} files")
     sys.exit(bool(old))
 
 

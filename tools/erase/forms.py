@@ -9,12 +9,14 @@ from dataclasses import dataclass
 from tokens import Refused
 
 LIBRARY = ("der_core", "spki_core", "pkcs1_params", "pkcs1", "pkcs8_core")
-PROGRAMS = ("examples", "pkcs1_program", "pkcs1_tool", "pkcs1_vectors")
+TOOL = ("pkcs1_program", "pkcs1_tool")
+PROGRAMS = ("examples", "pkcs1_vectors")
 # Where a path begins that the crate has elsewhere.
-MOVED = {it: f"crate::proved::{it}" for it in LIBRARY} | {it: f"crate::programs::{it}" for it in PROGRAMS} \
+MOVED = {it: f"crate::{place}::{it}" for place, crates in (("proved", LIBRARY), ("tool", TOOL), ("programs", PROGRAMS))
+         for it in crates} \
     | {"std": "crate::rattle_std", "arrayvec": "crate::rattle_std::arrayvec", "hex": "crate::rattle_std::hex"}
-# Functions that may be reached from outside though they have a `requires`, and what keeps it or what it costs.
-REACHABLE = {"new_with_label": "of a label above Length::MAX it panics"}
+# Methods of public types that take or give what the crate doesn't make public: Global, Reader, ArrayVec.
+INSIDE = ("decode", "to_bytes", "try_clone")
 PRELUDE = ("Vec", "String", "ToString", "HostRuntime", "Eprint")
 PRELUDE_MACROS = ("vec", "format", "println", "eprintln", "assert", "assert_eq", "assert_ne")
 UNKNOWN = ("prove", "prove_eq", "prove_ne", "ghost", "requires", "ensures", "invariant", "decreases", "Drop",
@@ -30,17 +32,23 @@ class Edit:
     text: str = ""
 
 
-def lines_of(code, first, last):
-    """An edit that deletes whole lines, with the doc comments above."""
+def above_docs(text, begin):
+    """Where the doc comments begin that stand above the line that begins here."""
+    while begin > 0:
+        above = text.rfind("\n", 0, begin - 1) + 1
+        if not text[above:begin].lstrip().startswith("///"):
+            break
+        begin = above
+    return begin
+
+
+def lines_of(code, first, last, documented=True):
+    """An edit that deletes whole lines, with the doc comments above if they are of what is deleted."""
     begin = code.text.rfind("\n", 0, code.tokens[first].begin) + 1
     end = code.text.find("\n", code.tokens[last].end) + 1
     if code.text[begin:code.tokens[first].begin].strip() or code.text[code.tokens[last].end:end].strip():
         raise Refused(f"line {code.line(first)}: what is deleted doesn't stand on lines of its own")
-    while True:
-        above = code.text.rfind("\n", 0, begin - 1) + 1
-        if begin == 0 or not code.text[above:begin].lstrip().startswith("///"):
-            return Edit(begin, end)
-        begin = above
+    return Edit(above_docs(code.text, begin) if documented else begin, end)
 
 
 def behind_visibility(code, at):
@@ -88,7 +96,7 @@ def tactic(code, at):
     """The attribute `tactic` is deleted."""
     bracket = at + 1 + (code.word(at + 1) == "!")
     if code.word(at) == "#" and code.reads(bracket, "[ tactic ("):
-        return lines_of(code, at, code.closing[bracket])
+        return lines_of(code, at, code.closing[bracket], documented=False)
     return None
 
 
@@ -101,7 +109,7 @@ def derive_of_drop(code, at):
     if "Drop" not in names:
         return None
     if names == ["Drop"]:
-        return lines_of(code, at, end + 1)
+        return lines_of(code, at, end + 1, documented=False)
     kept = ", ".join(it for it in names if it != "Drop")
     return Edit(code.tokens[at + 3].end, code.tokens[end].begin, kept)
 
@@ -151,26 +159,8 @@ def formatter(code, at):
     return None
 
 
-def derive_where(code, at):
-    """`#[derive_where(A, B; S)]` is `#[derive(A, B)]`, where all that names S is a skipped `PhantomData<S>`."""
-    if not code.reads(at, "# [ derive_where ("):
-        return None
-    end = code.closing[at + 3]
-    if code.reads(at + 4, "skip )"):
-        if not code.reads(behind_visibility(code, end + 2) + 1, ": PhantomData <"):
-            raise Refused(f"line {code.line(at)}: derive_where(skip) on what is no PhantomData")
-        return lines_of(code, at, end + 1)
-    split = code.find(at + 4, ";")
-    body = code.find(end + 2, "{")
-    skipped = any(code.reads(it, "derive_where ( skip )") for it in range(body, code.closing[body]))
-    if code.word(split) != ";" or not skipped or split + 2 != end:
-        raise Refused(f"line {code.line(at)}: derive_where of a parameter that no skipped field has")
-    return Edit(code.tokens[at + 2].begin, code.tokens[end].end,
-                f"derive({code.text[code.tokens[at + 4].begin:code.tokens[split].begin]})")
-
-
 def path(code, at):
-    """A path from a crate on begins where this crate has it: below `crate::proved` or `crate::rattle_std`."""
+    """A path from a crate on begins where this crate has it, as below `crate::proved` or `crate::rattle_std`."""
     here = code.word(at)
     follows = code.word(at + 1)
     if not code.begins_path(at) or not (follows == "::" or code.word(at - 1) == "use" and follows in ("as", ";")):
@@ -194,7 +184,14 @@ def method_with_requires(code, at):
     name = at + 2 + (code.word(at + 1) in ("const", "final"))
     if code.word(at) != "pub" or code.word(name - 1) != "fn" or code.around[at] is None:
         return None
-    if code.word(name) in REACHABLE or not has_requires(code, name):
+    if not has_requires(code, name):
+        return None
+    return Edit(code.tokens[at].begin, code.tokens[at].end, "pub(crate)")
+
+
+def method_of_the_inside(code, at):
+    """A public method that takes or gives what the crate doesn't make public is `pub(crate)`."""
+    if not code.reads(at, "pub fn") or code.around[at] is None or code.word(at + 2) not in INSIDE:
         return None
     return Edit(code.tokens[at].begin, code.tokens[at].end, "pub(crate)")
 
@@ -211,7 +208,7 @@ def field_with_invariant(code, at):
 
 def main_of_program(code, at):
     """`main` of a program is public, so that another `main` calls it."""
-    if code.reads(at, "fn main (") and code.around[at] is None and code.crate in PROGRAMS:
+    if code.reads(at, "fn main (") and code.around[at] is None and code.crate in TOOL + PROGRAMS:
         return Edit(code.tokens[at].begin, code.tokens[at].end, "pub fn")
     return None
 
@@ -234,5 +231,5 @@ def refused(code, at):
 
 
 FORMS = (ghost_item, clauses, tactic, derive_of_drop, bound_of_drop, final, clone_that_may_fail, writer_of_fmt,
-         formatter, derive_where, path, method_with_requires, field_with_invariant, main_of_program, runtime_of_test,
-         refused)
+         formatter, path, method_with_requires, method_of_the_inside, field_with_invariant, main_of_program,
+         runtime_of_test, refused)

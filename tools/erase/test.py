@@ -19,7 +19,6 @@ import forms  # noqa: E402
 from tokens import Refused  # noqa: E402
 
 HEAD = "// Made of crates/der_core/src/page.rt by tools/erase/erase.py, and not to be edited.\n"
-PROVED = erase.TOP / "rust/src/proved"
 
 
 def cases():
@@ -29,6 +28,13 @@ def cases():
         title, _, text = case.partition("\n")
         source, sign, result = re.split(r"^(=>\n|!! )", text, maxsplit=1, flags=re.M)
         yield title, source.rstrip("\n") + "\n", sign.strip(), result.rstrip("\n") + "\n"
+
+
+def place_of(file):
+    """Where a file that is made stands below the folder of the crate, and of which crate it is made."""
+    crate = pathlib.Path(file).parts[0]
+    folder = next((folder for folder, crates in compare.MADE.items() if crate in crates), "src/proved")
+    return pathlib.Path(folder, file), crate
 
 
 def planted():
@@ -47,7 +53,7 @@ def first_difference(source, made):
 
 
 def run_compare(folder):
-    """The status of compare.py over a folder, and what it prints."""
+    """The status of compare.py over the folder of a crate, and what it prints."""
     done = subprocess.run([HERE / "compare.py", folder], capture_output=True, text=True, check=False)
     return done.returncode, done.stdout + done.stderr
 
@@ -116,15 +122,16 @@ class Planted(unittest.TestCase):
     def setUp(self):
         self.room = tempfile.TemporaryDirectory()
         self.addCleanup(self.room.cleanup)
-        self.folder = pathlib.Path(self.room.name) / "proved"
-        shutil.copytree(PROVED, self.folder)
+        self.folder = pathlib.Path(self.room.name)
+        shutil.copytree(erase.TOP / "rust/src", self.folder / "src")
 
     def messages_of(self, file):
         """What compare.py says, of this file alone if it is made of a source."""
-        path = pathlib.Path(file)
-        if path not in compare.sources():
-            return compare.messages(self.folder, collections.Counter())
-        found = compare.compared(compare.sources()[path], self.folder / path, path.parts[0], collections.Counter())
+        place, crate = place_of(file)
+        source = compare.sources([crate]).get(pathlib.Path(file))
+        if not source:
+            return compare.messages(self.folder / place.parent, compare.MADE[str(place.parent)], collections.Counter())
+        found = compare.compared(source, self.folder / place, crate, collections.Counter())
         return [found] if found else []
 
     def test_all_is_alike_before(self):
@@ -135,29 +142,32 @@ class Planted(unittest.TestCase):
         self.assertGreaterEqual(len(mistakes), 20)
         for what, file, old, new in mistakes:
             with self.subTest(what):
-                text = (self.folder / file).read_text(encoding="utf-8")
+                path = self.folder / place_of(file)[0]
+                text = path.read_text(encoding="utf-8")
                 self.assertEqual(text.count(old), 1, f"{old!r} in {file}")
-                (self.folder / file).write_text(text.replace(old, new), encoding="utf-8")
+                path.write_text(text.replace(old, new), encoding="utf-8")
                 named = list(self.messages_of(file))
                 self.assertEqual(len(named), 1)
-                self.assertIn(f"{self.folder}/{file}", named[0])
-                (self.folder / file).write_text(text, encoding="utf-8")
+                self.assertIn(str(path), named[0])
+                path.write_text(text, encoding="utf-8")
 
     def test_files_that_are_missing_or_too_many_are_named(self):
-        (self.folder / "pkcs1/view.rs").unlink()
-        (self.folder / "pkcs1/views.rs").write_text("")
+        proved = self.folder / "src/proved"
+        (proved / "pkcs1/view.rs").unlink()
+        (proved / "pkcs1/views.rs").write_text("")
         status, printed = run_compare(self.folder)
-        self.assertEqual((status, printed), (1, f"{self.folder}/pkcs1/view.rs is missing\n"
-                                                f"{self.folder}/pkcs1/views.rs is made of nothing\n"))
+        self.assertEqual((status, printed), (1, f"{proved}/pkcs1/view.rs is missing\n"
+                                                f"{proved}/pkcs1/views.rs is made of nothing\n"))
 
     def test_what_is_old_is_seen_and_made_again(self):
-        made = erase.erased_crates(forms.LIBRARY, "The proved crates, without what is there for the proof.")
-        self.assertEqual(erase.stale(made, self.folder), [])
-        (self.folder / "mod.rs").write_text("")
-        (self.folder / "more.rs").write_text("")
-        self.assertEqual([str(it) for it in erase.stale(made, self.folder)], ["mod.rs", "more.rs"])
-        erase.write(made, self.folder)
-        self.assertEqual(erase.stale(made, self.folder), [])
+        for folder, words in erase.FOLDERS.items():
+            made, there = erase.erased_crates(*words), self.folder / folder.removeprefix("rust/")
+            self.assertEqual(erase.stale(made, there), [])
+            (there / "mod.rs").write_text("")
+            (there / "more.rs").write_text("")
+            self.assertEqual([str(it) for it in erase.stale(made, there)], ["mod.rs", "more.rs"])
+            erase.write(made, there)
+            self.assertEqual(erase.stale(made, there), [])
 
 
 if __name__ == "__main__":

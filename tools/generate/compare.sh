@@ -1,11 +1,11 @@
 #!/usr/bin/env bash
-# compare.sh MADE: are the files in this folder, made of the sources that are here, those of ffi/rust/generated? They
+# compare.sh MADE: are the files in this folder, made of the sources that are here, those of ffi/generated? They
 # must be if the build of the kit is the one that PROVENANCE names, with the same compilers. Another build may compile
 # otherwise, and then one line says how many lines differ. The status is 1 if the files aren't as they must be.
 set -eu
 made=$(realpath "$1")
 cd "$(dirname "$0")/../.."
-generated=ffi/rust/generated
+generated=ffi/generated
 
 stop() {
     printf 'tools/generate.sh: %s\n' "$*" >&2

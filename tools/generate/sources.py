@@ -1,5 +1,5 @@
 #!/usr/bin/env python3
-"""What ffi/rust/generated is made of.
+"""What ffi/generated is made of.
 
     sources.py libraries CRATE      the crates that crates.txt names for this one, and those below them, in a line
     sources.py hash                 the hash of the sources, and of what makes the files

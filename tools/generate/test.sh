@@ -1,12 +1,12 @@
 #!/usr/bin/env bash
-# test.sh [FOLDER]: tests the files that generate.sh made there, else in ffi/rust/generated: the objects are such that
+# test.sh [FOLDER]: tests the files that generate.sh made there, else in ffi/generated: the objects are such that
 # they link with anything, and the C passes the test of the library as the assembly does. And what makes and compares
 # them: what the translation to C doesn't know it refuses. It needs gcc, clang, binutils and python3; for the other
 # processor its gcc and qemu, and to compare instructions the kit.
 set -eu
 here=$(cd "$(dirname "$0")" && pwd)
 ffi=$here/../../ffi
-generated=$(realpath "${1:-$ffi/rust/generated}")
+generated=$(realpath "${1:-$ffi/generated}")
 room=$(mktemp -d)
 trap 'rm -rf "$room"' EXIT
 ulimit -t 300 # no test runs forever
@@ -83,7 +83,8 @@ library_is_marked() {
 objects_are_right() {
     local calls='pkcs1_c_[a-z0-9_]*' processor cc option asked marking
     local of_c='memcpy|memmove|memset|memcmp|bcmp' of_tool
-    of_tool="$of_c|read|write|open|close|__sysv_signal|pkcs1_rattle_(alloc|realloc|dealloc)"
+    of_tool="$of_c|read|write|open|close|fchmod|fdatasync|flock|fsync|ftruncate|realpath|rename|statx|unlink"
+    of_tool="$of_tool|__sysv_signal|pkcs1_rattle_(alloc|realloc|dealloc)"
     of_tool="$of_tool|pkcs1_rattle_(arg|arg_count|env|env_at|errno|set_errno)"
     for processor in x86_64 aarch64; do
         cc=$processor-linux-gnu-gcc
@@ -113,15 +114,15 @@ objects_are_right() {
 # The library's test, over the assembly and over the C, also as it is built for other machines.
 library_passes() {
     local compiler flags sanitized='-O0 -fsanitize=address,undefined -fno-sanitize-recover=all'
-    local files=("-I$ffi/include" "$ffi"/c/{test,rows,pkcs1}.c)
+    local files=("-I$ffi/include" "$ffi"/c/{test,rows,large,pkcs1}.c)
     gcc -O1 "${files[@]}" "$generated/$(uname -m)/pkcs1_c.s" -o "$room/test"
-    "$room/test" "$ffi/rust/tests/statuses" > /dev/null
+    "$room/test" "$ffi/tests/statuses" > /dev/null
     for compiler in gcc clang; do
         for flags in -O2 "$sanitized" "$sanitized -DPKCS1_FOREIGN"; do
             # shellcheck disable=SC2086
             $compiler -std=c99 -Wall -Wextra -Werror -pedantic $flags "${files[@]}" "$generated/pkcs1_c.c" \
                 -o "$room/test"
-            "$room/test" "$ffi/rust/tests/statuses" > /dev/null
+            "$room/test" "$ffi/tests/statuses" > /dev/null
         done
     done
 }
@@ -200,10 +201,10 @@ fails_if() {
 # are fresh doesn't depend on the build. A stand-in for rt calls itself another build.
 other_builds_are_told() {
     local tree=$room/tree made=$room/other_build another=$room/bin:$PATH
-    mkdir -p "$tree/ffi/rust" "$room/bin"
+    mkdir -p "$tree/ffi" "$room/bin"
     printf '#!/bin/sh\n[ "$*" != version ] || exec echo another\nexec %s "$@"\n' "$(command -v rt)" > "$room/bin/rt"
     chmod +x "$room/bin/rt"
-    cp -r "$generated" "$tree/ffi/rust/generated"
+    cp -r "$generated" "$tree/ffi/generated"
     cp -r "$generated" "$made"
     passes_if "$made" 'is what the proved build makes'
     sed -i '100s/.*/another/' "$made/pkcs1_c.c"
@@ -215,7 +216,7 @@ other_builds_are_told() {
     sed -i 's/^sources: .*/sources: others/' "$made/PROVENANCE"
     fails_if "$made" 'of other sources'
 
-    sed -i "s/^sources: .*/sources: $(hash_after '')/" "$tree/ffi/rust/generated/PROVENANCE"
+    sed -i "s/^sources: .*/sources: $(hash_after '')/" "$tree/ffi/generated/PROVENANCE"
     PATH=$another "$tree/tools/generate.sh" --fresh || stop "the files aren't fresh for another build"
     hash_after 's/0x84/0x85/' > "$room/hash"
     PATH=$another "$tree/tools/generate.sh" --fresh 2> "$room/said" && stop "the files are fresh for other sources"

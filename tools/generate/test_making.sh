@@ -50,7 +50,7 @@ END_OF_RATTLE
 # A tree in which the crates have no sources, and where the tests of what is made only say so.
 make_tree() {
     local library
-    mkdir -p "$tree/ffi/rust"
+    mkdir -p "$tree/ffi"
     cp "$here/../../crates.txt" "$tree"
     (cd "$here/../.." && tar c tools/{generate,fresh}.sh tools/generate) | tar x -C "$tree"
     printf '#!/bin/sh\necho tested\n' > "$tree/tools/generate/test.sh"
@@ -76,7 +76,7 @@ stand_ins
 make_tree
 : > "$room/kit/other"
 echo one > "$room/kit/name"
-makes 0 1 'ffi/rust/generated, after'
+makes 0 1 'ffi/generated, after'
 makes 0 1 ^checked --check
 echo 1 > "$room/kit/other"
 makes 0 2 'kept/0/module.bc differ' --check
@@ -85,7 +85,7 @@ makes 1 2 'twice' --check
 echo another > "$room/kit/name"
 makes 0 1 'another other files: [1-9]' --check
 touch "$room/kit/meets"
-cp -r "$tree/ffi/rust/generated" "$room/before"
+cp -r "$tree/ffi/generated" "$room/before"
 makes 1 1 'proved again meanwhile'
-diff -r "$room/before" "$tree/ffi/rust/generated"
+diff -r "$room/before" "$tree/ffi/generated"
 echo "generated: how files are made, and made once more"

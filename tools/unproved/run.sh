@@ -1,7 +1,7 @@
 #!/usr/bin/env bash
 # Does everything work? Builds and runs what is tested, in a copy of the tree, and proves nothing: the layout that
-# `rt ci` asks for, the documents' checks, the worked rows, the tests, the tool, and of the libraries for C and Rust what
-# `make check` does. .ci/run proves all, and has the libraries' other tests, those of ffi/test.sh.
+# `rt ci` asks for, the documents' checks, the worked rows, the tests, the tool, and of the library for C what
+# `make check` does. .ci/run proves all, and has the library's other tests, those of ffi/test.sh.
 #
 #     tools/unproved/run.sh [layout|documents|rows|tests|tool|ffi|clean_room].. [--keep PREFIX]
 #
@@ -108,7 +108,7 @@ tool() {
     PROGRAMS=$room/tool ./refuse_memory.sh
 }
 ffi() {
-    needs python3 ar "${CC:-gcc}" rustc
+    needs python3 ar "${CC:-gcc}"
     ffi/check_layout.py
     ffi/proof/check_requires.py
     cp -r "$tree" "$room/exports"

@@ -1,4 +1,4 @@
-//! The text of the crate in `..`, with all of it in reach, and the programs in Rattle that test it, erased alike.
+//! The text of the crate in `..` and of its tool, with all of it in reach, and programs that test it, erased alike.
 #![no_std] // so that `Vec` and `ToString` are Rattle's
 #![forbid(unsafe_code)]
 #![allow(clippy::all, dead_code, unused_imports, unused_macros, unused_variables)]
@@ -15,4 +15,7 @@ pub mod programs;
 #[rustfmt::skip]
 pub mod proved;
 pub mod rattle_std;
+#[path = "../../src/bin/pkcs1_tool/tool/mod.rs"]
+#[rustfmt::skip]
+pub mod tool;
 pub mod words;

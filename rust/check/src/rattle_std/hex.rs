@@ -1,55 +1,12 @@
-//! The kit's crate `hex`.
+//! The rest of the kit's crate `hex`.
 
-use super::String;
+pub use super::tool::hex::{FromHexError, decode_to_slice, encode_to_slice};
+
 use super::alloc::{AllocError, Global};
-use super::prelude::Vec;
+use super::prelude::{String, Vec};
 
-#[derive(Debug)]
-pub enum FromHexError {
-    OddLength,
-    InvalidStringLength,
-    InvalidHexCharacter,
-    OutOfMemory,
-}
-
-fn digit(octet: u8) -> Option<u8> {
-    (octet as char).to_digit(16).map(|n| n as u8)
-}
-
-pub fn encode<T: AsRef<[u8]>>(alloc: Global, data: T) -> Result<String, AllocError> {
-    let mut text = String::new(alloc);
-    for octet in data.as_ref() {
-        text.push_str(&std::format!("{octet:02x}"))?;
-    }
-    Ok(text)
-}
-
-pub fn encode_to_slice<T: AsRef<[u8]>>(data: T, out: &mut [u8]) -> Result<(), FromHexError> {
-    let data = data.as_ref();
-    if out.len() != data.len() * 2 {
-        return Err(FromHexError::InvalidStringLength);
-    }
-    for (octet, pair) in data.iter().zip(out.chunks_mut(2)) {
-        pair.copy_from_slice(std::format!("{octet:02x}").as_bytes());
-    }
-    Ok(())
-}
-
-pub fn decode_to_slice<T: AsRef<[u8]>>(data: T, out: &mut [u8]) -> Result<(), FromHexError> {
-    let data = data.as_ref();
-    if data.len() % 2 != 0 {
-        return Err(FromHexError::OddLength);
-    }
-    if data.len() / 2 != out.len() {
-        return Err(FromHexError::InvalidStringLength);
-    }
-    for (pair, octet) in data.chunks(2).zip(out) {
-        match (digit(pair[0]), digit(pair[1])) {
-            (Some(high), Some(low)) => *octet = high * 16 + low,
-            _ => return Err(FromHexError::InvalidHexCharacter),
-        }
-    }
-    Ok(())
+pub fn encode<T: AsRef<[u8]>>(_alloc: Global, data: T) -> Result<String, AllocError> {
+    Ok(String(data.as_ref().iter().map(|octet| std::format!("{octet:02x}")).collect()))
 }
 
 pub fn decode<T: AsRef<[u8]>>(alloc: Global, data: T) -> Result<Vec<u8>, FromHexError> {

@@ -3,6 +3,7 @@
 
 use crate::proved::der_core::header::Header;
 
+/// Fills a slice from its end to its start, so that the length of the contents is known when their header is written.
 pub struct BackWriter<'b> {
     slice: &'b mut [u8],
     free: usize,
@@ -33,6 +34,7 @@ impl<'b> BackWriter<'b> {
         self.free = start;
     }
 
+    /// Writes a header in front of what is filled.
     pub(crate) fn prepend_header(&mut self, header: Header) {
         let tag = header.tag.octet();
         let number = header.length.to_usize();

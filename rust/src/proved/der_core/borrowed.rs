@@ -9,6 +9,7 @@ use crate::proved::der_core::length::Length;
 use crate::proved::der_core::tag::Tag;
 use crate::proved::der_core::writer::Writer;
 
+/// A borrowed value, which is encoded as the value itself.
 pub struct Borrowed<'b, T>(pub &'b T);
 
 impl<'b, T: Encoding> Encoding for Borrowed<'b, T> {

@@ -19,6 +19,7 @@ use crate::rattle_std::fmt;
 use crate::rattle_std::marker::PhantomData;
 use crate::rattle_std::path::Path;
 
+/// Some SEQUENCE, whose contents aren't kept.
 struct AnySequence;
 
 impl Contents for AnySequence {}
@@ -51,8 +52,10 @@ fn lemma_are_bytes(bytes: &[u8]) {}
 #[derive(PartialEq, Eq)]
 pub struct Open;
 
+/// Marks secret documents: they can't be compared, and their `Debug` shows no byte.
 pub struct Secret;
 
+/// One whole SEQUENCE, of at most `Length::MAX` bytes. `S` says whether it is open or secret.
 #[derive(PartialEq, Eq)]
 pub struct DocumentOf<S> {
     bytes: Vec<u8>,
@@ -120,6 +123,7 @@ impl<S> DocumentOf<S> {
         write_all(self.bytes.as_slice(), sink)
     }
 
+    /// Reads the document in a file, as `read_from` does. `File` also if the file can't be opened.
     pub fn read_der_file<F: FileSystem>(
         files: &F,
         alloc: Global,

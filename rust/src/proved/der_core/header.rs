@@ -42,7 +42,7 @@ fn read_header<'a, R: Reader<&'a [u8]>>(reader: &mut R, likely: Tag) -> Result<H
 impl Header {
     /// Reads a tag octet and a length.
     #[inline(always)]
-    pub fn decode<'a, R: Reader<&'a [u8]>>(reader: &mut R) -> Result<Header> {
+    pub(crate) fn decode<'a, R: Reader<&'a [u8]>>(reader: &mut R) -> Result<Header> {
         Header::decode_likely(reader, Tag::NULL)
     }
 
@@ -53,7 +53,7 @@ impl Header {
     }
 
     /// The tag octet and the length octets.
-    pub fn to_bytes(self) -> ArrayVec<u8, 6> {
+    pub(crate) fn to_bytes(self) -> ArrayVec<u8, 6> {
         let mut bytes = ArrayVec::new();
         bytes.push(self.tag.octet());
         let length = self.length.to_bytes();

@@ -14,6 +14,7 @@ use crate::proved::der_core::quick::quick_alone;
 use crate::proved::der_core::reader::Reader;
 use crate::proved::der_core::writer::Writer;
 
+/// An OPTIONAL last part: one encoding, or nothing. Whatever is left is read as the part.
 pub struct Last<T>(pub Option<T>);
 
 impl<'b, T: Encoding> Last<Borrowed<'b, T>> {
@@ -71,6 +72,7 @@ impl<T: Encode> EncodeValue for Last<T> {
     }
 }
 
+/// An OPTIONAL last part that is known by its tag: octets that begin with another are `TrailingData`.
 pub struct LastByTag<T>(pub Last<T>);
 
 impl<T: Contents + FixedTag> Contents for LastByTag<T> {}

@@ -115,6 +115,7 @@ impl Length {
         self.header_len().checked_add(self)
     }
 
+    /// How many octets the tag and the length take.
     fn header_len(self) -> Length {
         let value = if self.value < 0x80 {
             2
@@ -131,10 +132,11 @@ impl Length {
     }
 
     /// The length octets (X.690 8.1.3), as few as possible.
-    pub fn to_bytes(self) -> ArrayVec<u8, 5> {
+    pub(crate) fn to_bytes(self) -> ArrayVec<u8, 5> {
         self.octets()
     }
 
+    /// The length octets.
     fn octets(self) -> ArrayVec<u8, 5> {
         let number = self.value;
         let mut bytes = ArrayVec::new();
@@ -164,7 +166,7 @@ impl Length {
 
     /// Reads the length octets.
     #[inline(always)]
-    pub fn decode<'a, R: Reader<&'a [u8]>>(reader: &mut R) -> Result<Length> {
+    pub(crate) fn decode<'a, R: Reader<&'a [u8]>>(reader: &mut R) -> Result<Length> {
         read_length(reader)
     }
 }

@@ -9,7 +9,9 @@ use crate::proved::der_core::error::{ErrorKind, Result};
 use crate::proved::der_core::grammar::{Contents, Encoding, SequenceTag, TaggedBy};
 use crate::proved::der_core::header::Header;
 use crate::proved::der_core::length::Length;
+use crate::proved::der_core::quick::quick_contents;
 use crate::proved::der_core::reader::Reader;
+use crate::proved::der_core::tag::Tag;
 use crate::proved::der_core::writer::Writer;
 use crate::rattle_std::alloc::Global;
 
@@ -33,6 +35,22 @@ impl<'a, T: Decode<&'a [u8], Global>> DecodeValue<&'a [u8], Global> for Vec<T> {
             }
         }
         Ok(items)
+    }
+
+    #[inline(always)]
+    fn quick_split(bytes: &'a [u8], tag: Tag) -> Option<(&'a [u8], &'a [u8])> {
+        quick_contents(bytes, tag)
+    }
+
+    fn quick_value(memory: Global, contents: &'a [u8]) -> Option<Vec<T>> {
+        let mut items = Vec::new(memory);
+        let mut left = contents;
+        while !left.is_empty() {
+            let (item, behind) = T::quick(memory, left)?;
+            items.push(item).ok()?;
+            left = behind;
+        }
+        Some(items)
     }
 }
 

@@ -5,6 +5,7 @@ use crate::proved::der_core::error::{Error, ErrorKind, Result};
 use crate::proved::der_core::length::Length;
 use crate::proved::der_core::reader::{BytesLeft, Reader};
 
+/// A reader over a slice of at most `Length::MAX` bytes.
 pub struct SliceReader<'a> {
     bytes: &'a [u8],
     failed: bool,

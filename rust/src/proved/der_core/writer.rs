@@ -9,6 +9,7 @@ pub trait Writer {
     fn write(&mut self, bytes: &[u8]) -> Result<()>;
 }
 
+/// Writes to a slice from its front.
 pub struct SliceWriter<'b> {
     slice: &'b mut [u8],
     len: usize,

@@ -49,7 +49,7 @@ impl<U: TryClone> TryClone for RsaPrivateKey<U> {
 
 impl<U: TryClone> RsaPrivateKey<U> {
     /// The same key, or `OutOfMemory`.
-    pub fn try_clone(&self, alloc: Global) -> Result<RsaPrivateKey<U>> {
+    pub(crate) fn try_clone(&self, alloc: Global) -> Result<RsaPrivateKey<U>> {
         let key = self;
         let (modulus, public_exponent, private_exponent, prime1) = clone_four(
             &key.modulus,

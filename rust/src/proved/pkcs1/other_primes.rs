@@ -80,6 +80,7 @@ fn count_others(bytes: &[u8]) -> Result<usize> {
 }
 
 impl<'a> OtherPrimes<'a> {
+    /// An iterator over no primes.
     pub(crate) fn none() -> OtherPrimes<'a> {
         OtherPrimes {
             bytes: &[],
@@ -87,6 +88,7 @@ impl<'a> OtherPrimes<'a> {
         }
     }
 
+    /// How many other primes are left.
     pub fn remaining(&self) -> usize {
         self.left
     }

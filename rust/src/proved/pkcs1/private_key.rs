@@ -13,7 +13,7 @@ use crate::proved::der_core::{
     ErrorKind, Header, Length, Reader, Result, Sequence, SequenceTag, Tag, TaggedBy, Uint,
     UintEncoding, UintRef, Writer, quick_contents,
 };
-use other_prime_info::{OtherPrimeInfos, lists_none, read_other_primes};
+use other_prime_info::{OtherPrimeInfos, lists_none, quick_other_primes, read_other_primes};
 use crate::rattle_std::alloc::{AllocError, Global};
 use crate::rattle_std::fmt;
 
@@ -120,8 +120,11 @@ impl<'a, U: Decode<&'a [u8], Global>> DecodeValue<&'a [u8], Global> for RsaPriva
     #[inline(always)]
     fn quick_value(memory: Global, contents: &'a [u8]) -> Option<RsaPrivateKey<U>> {
         match KeyFront::<U>::quick_front(memory, contents) {
-            Some(((Version::TwoPrime, numbers), [])) => Some(key_of(numbers, None)),
-            _ => None,
+            Some(((version, numbers), rest)) => match quick_other_primes(memory, rest, version) {
+                Some(others) => Some(key_of(numbers, others)),
+                None => None,
+            },
+            None => None,
         }
     }
 }

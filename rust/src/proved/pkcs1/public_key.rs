@@ -88,7 +88,7 @@ impl<U: TryClone> TryClone for RsaPublicKey<U> {
 
 impl<U: TryClone> RsaPublicKey<U> {
     /// The same key, or `OutOfMemory`.
-    pub fn try_clone(&self, alloc: Global) -> crate::proved::der_core::Result<RsaPublicKey<U>> {
+    pub(crate) fn try_clone(&self, alloc: Global) -> crate::proved::der_core::Result<RsaPublicKey<U>> {
         Ok(RsaPublicKey {
             modulus: self.modulus.try_clone(alloc)?,
             public_exponent: self.public_exponent.try_clone(alloc)?,

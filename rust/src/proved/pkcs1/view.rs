@@ -8,7 +8,7 @@ use crate::proved::pkcs1::public_key::{RsaPublicKey, RsaPublicKeyRef};
 use crate::proved::pkcs1::version::Version;
 use crate::proved::der_core::{
     Contents, Decode, DecodeFront, DecodeValue, ErrorKind, Header, NoMemory, Reader, Result, Tag,
-    UintRef, decode_optional, quick_alone, quick_contents,
+    UintRef, begins_with, decode_optional, quick_alone, quick_contents,
 };
 use crate::proved::pkcs1_params::Error;
 use crate::rattle_std::fmt;
@@ -43,16 +43,14 @@ fn read_listed<'a, R: Reader<&'a [u8]>>(
 /// The other primes of a key of several that all of the bytes encode, if that is quickly told.
 #[inline(never)]
 fn quick_others(bytes: &[u8]) -> Option<OtherPrimes<'_>> {
-    match bytes {
-        [first, ..] if *first == Tag::SEQUENCE.octet() => {
-            let others: OtherPrimes<'_> = quick_alone(NoMemory, bytes)?;
-            if others.remaining() == 0 {
-                None
-            } else {
-                Some(others)
-            }
-        }
-        _ => None,
+    if !begins_with(bytes, Tag::SEQUENCE) {
+        return None;
+    }
+    let others: OtherPrimes<'_> = quick_alone(NoMemory, bytes)?;
+    if others.remaining() == 0 {
+        None
+    } else {
+        Some(others)
     }
 }
 

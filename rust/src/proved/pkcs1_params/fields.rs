@@ -7,6 +7,7 @@ use crate::proved::pkcs1_params::trailer_field::TrailerField;
 use crate::proved::der_core::{BackWriter, Length, Result, TagNumber, Writer, joined_len};
 use crate::proved::spki_core::{encode_field, field_len, prepend_field};
 
+/// A field with its value. A `Plain` holds a hash function or a label source, a `Mask` a mask generation function.
 pub enum FieldRef<'b, Plain, Mask> {
     Hash(&'b Plain),
     MaskGen(&'b Mask),
@@ -116,8 +117,10 @@ pub trait Fields {
     fn prepend(&self, non_defaults: u8, mask: u8, writer: &mut BackWriter<'_>);
 }
 
+/// No field.
 pub struct NoField;
 
+/// A field and the later ones.
 pub struct FieldThen<'b, Plain, Mask, L> {
     pub(crate) first: FieldRef<'b, Plain, Mask>,
     pub(crate) later: L,

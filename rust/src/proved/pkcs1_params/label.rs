@@ -62,7 +62,7 @@ pub(crate) fn source_of<'a>(label: &'a [u8]) -> AlgorithmIdentifierRef<'a> {
 impl<'a> RsaOaepParams<AnyRef<'a>> {
     /// The hash function D with NULL, MGF1 with the same hash function, and this label. `label_fits` says whether a
     /// label is short enough. With an empty label the result is that of `new`.
-    pub fn new_with_label<D: AssociatedOid>(label: &'a [u8]) -> RsaOaepParams<AnyRef<'a>> {
+    pub(crate) fn new_with_label<D: AssociatedOid>(label: &'a [u8]) -> RsaOaepParams<AnyRef<'a>> {
         RsaOaepParams {
             p_source: source_of(label),
             ..RsaOaepParams::new::<D>()

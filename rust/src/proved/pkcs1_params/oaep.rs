@@ -105,7 +105,7 @@ impl<P: AnyValue + TryClone> TryClone for RsaOaepParams<P> {
 
 impl<P: AnyValue + TryClone> RsaOaepParams<P> {
     /// The same parameters, or `OutOfMemory`.
-    pub fn try_clone(&self, alloc: Global) -> crate::proved::der_core::Result<RsaOaepParams<P>> {
+    pub(crate) fn try_clone(&self, alloc: Global) -> crate::proved::der_core::Result<RsaOaepParams<P>> {
         Ok(RsaOaepParams {
             hash: self.hash.try_clone(alloc)?,
             mask_gen: self.mask_gen.try_clone(alloc)?,

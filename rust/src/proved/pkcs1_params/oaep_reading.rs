@@ -14,7 +14,9 @@ use crate::proved::pkcs1_params::reading::{
 };
 use crate::proved::pkcs1_params::strict;
 use crate::proved::pkcs1_params::usual::usual_oaep;
-use crate::proved::der_core::{DecodeValue, ErrorKind, Header, Memory, NoMemory, Reader, TagNumber};
+use crate::proved::der_core::{
+    DecodeValue, ErrorKind, Header, Memory, NoMemory, Reader, Tag, TagNumber, quick_short,
+};
 use crate::proved::spki_core::{AnyRef, IdentifierValue, ObjectIdentifier, read_field};
 
 impl<'a> RsaOaepParamsView<'a> {
@@ -55,7 +57,7 @@ impl<'a, O: ReadParams<'a>> AlgorithmParams<'a> for OaepParamsOf<O, AnyRef<'a>> 
     }
 
     fn quick_strictly(contents: &'a [u8]) -> Option<OaepParamsOf<O, AnyRef<'a>>> {
-        let view = quick_oaep(contents)?;
+        let view = quick_oaep(contents, true)?;
         Some(O::oaep_from_view(view))
     }
 
@@ -116,6 +118,17 @@ impl<'a, M: Memory, O: ReadParams<'a>> DecodeValue<&'a [u8], M> for OaepParamsOf
             mask_gen,
             p_source,
         }))
+    }
+
+    #[inline(always)]
+    fn quick_split(bytes: &'a [u8], tag: Tag) -> Option<(&'a [u8], &'a [u8])> {
+        quick_short(bytes, tag)
+    }
+
+    #[inline(always)]
+    fn quick_value(_memory: M, contents: &'a [u8]) -> Option<OaepParamsOf<O, AnyRef<'a>>> {
+        let view = quick_oaep(contents, false)?;
+        Some(O::oaep_from_view(view))
     }
 }
 

@@ -114,7 +114,7 @@ impl<P: AnyValue + TryClone> TryClone for RsaPssParams<P> {
 
 impl<P: AnyValue + TryClone> RsaPssParams<P> {
     /// The same parameters, or `OutOfMemory`.
-    pub fn try_clone(&self, alloc: Global) -> crate::proved::der_core::Result<RsaPssParams<P>> {
+    pub(crate) fn try_clone(&self, alloc: Global) -> crate::proved::der_core::Result<RsaPssParams<P>> {
         Ok(RsaPssParams {
             hash: self.hash.try_clone(alloc)?,
             mask_gen: self.mask_gen.try_clone(alloc)?,

@@ -85,18 +85,18 @@ pub(crate) fn quick_pss(contents: &[u8], strict: bool) -> Option<RsaPssParamsVie
     })
 }
 
-/// The RSAES-OAEP parameters with these contents octets, in which no default is written, if that is quickly told.
+/// The same of RSAES-OAEP parameters.
 #[inline(always)]
-pub(crate) fn quick_oaep(contents: &[u8]) -> Option<RsaOaepParamsView<'_>> {
+pub(crate) fn quick_oaep(contents: &[u8], strict: bool) -> Option<RsaOaepParamsView<'_>> {
     let default = with_null::<Sha1, _, _, _>(NoMemory);
     let (hash, mask_part) = quick_field(NoMemory, contents, TagNumber::new(0), default)?;
-    accept_hash(true, contents, &hash)?;
+    accept_hash(strict, contents, &hash)?;
     let default = mgf1_with::<Sha1, _, _, _>(NoMemory);
     let (mask_gen, source_part) = quick_field(NoMemory, mask_part, TagNumber::new(1), default)?;
-    accept_mask_gen(true, mask_part, &mask_gen)?;
+    accept_mask_gen(strict, mask_part, &mask_gen)?;
     let default = empty_source::<_, _, _>(NoMemory);
     let (p_source, rest) = quick_field(NoMemory, source_part, TagNumber::new(2), default)?;
-    accept_source(true, source_part, &p_source)?;
+    accept_source(strict, source_part, &p_source)?;
     <()>::quick_parts(NoMemory, rest)?;
     Some(RsaOaepParamsView {
         hash,

@@ -6,6 +6,8 @@ use crate::proved::pkcs1_params::spelling::{EncodeParams, non_defaults_in};
 use crate::proved::der_core::{BackWriter, Contents, EncodeValue, Length, Result, SequenceTag, TaggedBy, Writer};
 use crate::proved::spki_core::{AlgorithmView, AssociatedOid, IdentifierValue, IdentifierView};
 
+/// Borrowed parameters, which are written as their shortest encoding. Which fields differ from their defaults is found
+/// out once, so that octets which change meanwhile don't change how many are written.
 pub struct Shortest<T: EncodeParams> {
     /// The parameters.
     pub(crate) params: T,

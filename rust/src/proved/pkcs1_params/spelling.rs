@@ -59,6 +59,7 @@ pub trait EncodeParams: Copy {
     }
 }
 
+/// Parameters with a mask that says which of their defaults are written.
 pub(crate) struct Spelling<T: EncodeParams> {
     pub(crate) params: T,
     pub(crate) non_defaults: u8,

@@ -116,7 +116,7 @@ impl<P: TryClone> TryClone for AlgorithmIdentifier<P> {
 
 impl<P: TryClone> AlgorithmIdentifier<P> {
     /// The same identifier with a copy of the parameters, or `OutOfMemory`.
-    pub fn try_clone(&self, alloc: Global) -> Result<AlgorithmIdentifier<P>> {
+    pub(crate) fn try_clone(&self, alloc: Global) -> Result<AlgorithmIdentifier<P>> {
         let parameters = match &self.parameters {
             Some(parameters) => Some(parameters.try_clone(alloc)?),
             None => None,

@@ -57,6 +57,9 @@ impl<'a> AnyRef<'a> {
                 actual: self.tag(),
             }));
         }
+        if let Some(value) = T::quick_value(memory, self.contents) {
+            return Ok(value);
+        }
         let mut reader = SliceReader::new(self.contents)?;
         T::decode_value(memory, &mut reader, self.header())
     }

@@ -58,6 +58,7 @@ pub(crate) fn is_identifier(octets: &[u8]) -> bool {
     !octets.is_empty() && octets.len() <= 39 && (ends_plainly(octets) || ends_well(octets))
 }
 
+/// Whether these are whole subidentifiers, octet by octet.
 fn ends_well(octets: &[u8]) -> bool {
     for index in 0..octets.len() {
         if octets[index] == 0x80 && is_start(octets, index) {

@@ -27,7 +27,7 @@ impl Any {
     }
 
     /// The same encoding, or `OutOfMemory`.
-    pub fn try_clone(&self, alloc: Global) -> Result<Any> {
+    pub(crate) fn try_clone(&self, alloc: Global) -> Result<Any> {
         Any::copy_of(alloc, self.tag, self.contents.as_slice())
     }
 

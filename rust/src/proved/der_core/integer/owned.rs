@@ -30,12 +30,13 @@ impl Uint {
         Uint::copy(alloc, UintRef::new(bytes)?)
     }
 
+    /// The bytes, most significant first, at least one.
     pub fn as_bytes(&self) -> &[u8] {
         self.bytes.as_slice()
     }
 
     /// The same number, or `OutOfMemory`.
-    pub fn try_clone(&self, alloc: Global) -> Result<Uint> {
+    pub(crate) fn try_clone(&self, alloc: Global) -> Result<Uint> {
         Uint::copy(alloc, self.as_uint_ref())
     }
 

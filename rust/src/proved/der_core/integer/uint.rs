@@ -67,10 +67,12 @@ impl<'a> UintRef<'a> {
         UintRef { bytes }
     }
 
+    /// The bytes, most significant first, at least one.
     pub fn as_bytes(&self) -> &'a [u8] {
         self.bytes
     }
 
+    /// The bit length of the number, as 2048 of the modulus of an RSA-2048 key. It is 0 of 0.
     pub fn bit_len(&self) -> u64 {
         8 * self.bytes.len() as u64 - self.bytes[0].leading_zeros() as u64
     }

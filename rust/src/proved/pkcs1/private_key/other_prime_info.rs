@@ -6,10 +6,20 @@ use crate::proved::pkcs1::version::Version;
 use crate::proved::der_core::{
     BackWriter, Borrowed, Contents, Decode, Encode, EncodeInParts, EncodeValue, Encoding,
     ErrorKind, InParts, Length, Reader, Result, Sequence, SequenceTag, Tag, TaggedBy, TryClone,
-    Writer, decode_optional,
+    Writer, begins_with, decode_optional, quick_alone,
 };
 use crate::rattle_std::alloc::{AllocError, Global};
 
+/// A prime of a private key after the first two (RFC 8017 A.1.2).
+///
+/// ```text
+/// OtherPrimeInfos ::= SEQUENCE SIZE(1..MAX) OF OtherPrimeInfo
+/// OtherPrimeInfo ::= SEQUENCE {
+///     prime        INTEGER,
+///     exponent     INTEGER,
+///     coefficient  INTEGER
+/// }
+/// ```
 pub struct OtherPrimeInfo<U> {
     /// The prime.
     pub prime: U,
@@ -38,7 +48,7 @@ impl<U: TryClone> TryClone for OtherPrimeInfo<U> {
 
 impl<U: TryClone> OtherPrimeInfo<U> {
     /// The same numbers, or `OutOfMemory`.
-    pub fn try_clone(&self, alloc: Global) -> Result<OtherPrimeInfo<U>> {
+    pub(crate) fn try_clone(&self, alloc: Global) -> Result<OtherPrimeInfo<U>> {
         Ok(OtherPrimeInfo {
             prime: self.prime.try_clone(alloc)?,
             exponent: self.exponent.try_clone(alloc)?,
@@ -112,6 +122,37 @@ pub(crate) fn read_other_primes<'a, U: Decode<&'a [u8], Global>, R: Reader<&'a [
     }
     reader.finish()?;
     Ok(others)
+}
+
+/// What `read_other_primes` gives of all of the bytes, if that is quickly told.
+#[inline(always)]
+pub(crate) fn quick_other_primes<'a, U: Decode<&'a [u8], Global>>(
+    memory: Global,
+    bytes: &'a [u8],
+    version: Version,
+) -> Option<Option<OtherPrimeInfos<U>>> {
+    match version {
+        Version::Multi => Some(Some(quick_list(memory, bytes)?)),
+        Version::TwoPrime if bytes.is_empty() => Some(None),
+        Version::TwoPrime => None,
+    }
+}
+
+/// The other primes of a key of several that all of the bytes encode, if that is quickly told.
+#[inline(never)]
+fn quick_list<'a, U: Decode<&'a [u8], Global>>(
+    memory: Global,
+    bytes: &'a [u8],
+) -> Option<OtherPrimeInfos<U>> {
+    if !begins_with(bytes, Tag::SEQUENCE) {
+        return None;
+    }
+    let infos: OtherPrimeInfos<U> = quick_alone(memory, bytes)?;
+    if infos.as_slice().is_empty() {
+        None
+    } else {
+        Some(infos)
+    }
 }
 
 /// Copies the other primes.

@@ -7,6 +7,7 @@ use crate::proved::der_core::{
     BackWriter, Borrowed, Contents, Encode, EncodeValue, Encoding, Last, Length, Result, Writer,
 };
 
+/// What follows the two primes of a private key: their exponents, the coefficient, and the other primes.
 struct CrtParts<'b, U, O>(&'b PrivateKeyOf<U, O>);
 
 impl<'b, U: Encoding, O: Encoding> Contents for CrtParts<'b, U, O> {}

@@ -1,31 +1,31 @@
-//! What only programs use of lists.
+//! What the program uses of lists, beside what the library uses.
 
 use super::alloc::{AllocError, AllocFailed, Global};
 use super::io;
 use super::prelude::Vec;
 
-impl Vec<u8> {
-    pub fn from_array<const N: usize>(alloc: Global, octets: [u8; N]) -> Result<Vec<u8>, AllocError> {
-        Vec::from_slice(alloc, &octets)
-    }
-}
-
 impl<T> Vec<T> {
-    fn replace(&mut self, change: impl FnOnce(&mut std::vec::Vec<T>)) {
+    fn replace<R>(&mut self, change: impl FnOnce(&mut std::vec::Vec<T>) -> R) -> R {
         let mut items = std::mem::replace(self, Vec::new(Global)).into();
-        change(&mut items);
+        let answer = change(&mut items);
         *self = items.into();
+        answer
     }
 
+    /// Keeps no item.
     pub fn clear(&mut self) {
         self.replace(std::vec::Vec::clear);
     }
 }
 
 impl<T: Copy> Vec<T> {
+    /// Keeps the first items of this length, or appends copies of `item` up to it.
     pub fn resize(&mut self, len: usize, item: T) -> Result<(), AllocError> {
-        self.replace(|items| items.resize(len, item));
-        Ok(())
+        self.replace(|items| {
+            items.try_reserve(len.saturating_sub(items.len())).map_err(|_| AllocError)?;
+            items.resize(len, item);
+            Ok(())
+        })
     }
 }
 
@@ -47,7 +47,7 @@ impl From<AllocError> for io::Error {
 }
 
 impl<T> From<AllocFailed<T>> for io::Error {
-    fn from(_error: AllocFailed<T>) -> io::Error {
+    fn from(_failed: AllocFailed<T>) -> io::Error {
         io::ErrorKind::OutOfMemory.into()
     }
 }

@@ -1,0 +1,37 @@
+// Made of crates/pkcs1_program/src/digits.rt by tools/erase/erase.py, and not to be edited.
+//! Bytes in hexadecimal digits, numbers in decimal ones.
+
+use crate::rattle_std::prelude::Vec;
+use crate::rattle_std::alloc::AllocError;
+use crate::rattle_std::io::Write;
+
+/// Appends the bytes to `out`, in lowercase hexadecimal digits.
+pub fn put_hex(bytes: &[u8], out: &mut Vec<u8>) -> Result<(), AllocError> {
+    let start = out.len();
+    let Some(digits) = bytes.len().checked_mul(2) else {
+        return Err(AllocError);
+    };
+    let Some(end) = start.checked_add(digits) else {
+        return Err(AllocError);
+    };
+    out.resize(end, 0)?;
+    match crate::rattle_std::hex::encode_to_slice(bytes, &mut out.as_mut_slice()[start..]) {
+        Ok(()) => Ok(()),
+        Err(_) => unreachable!(),
+    }
+}
+
+/// Appends the label to `out`, and then the bytes in hexadecimal digits.
+pub fn put_field(label: &[u8], bytes: &[u8], out: &mut Vec<u8>) -> Result<(), AllocError> {
+    out.extend_from_slice(label)?;
+    put_hex(bytes, out)
+}
+
+/// Appends the label to `out`, and then the number in decimal digits.
+pub fn put_number(label: &[u8], number: usize, out: &mut Vec<u8>) -> Result<(), AllocError> {
+    out.extend_from_slice(label)?;
+    match write!(out, "{number}") {
+        Ok(()) => Ok(()),
+        Err(_) => Err(AllocError),
+    }
+}

@@ -1,0 +1,39 @@
+// Made of crates/pkcs1_program/src/lib.rt by tools/erase/erase.py, and not to be edited.
+//! What the program `pkcs1_tool` does, over any source, sink and files: a line of output for each line of input, and
+//! copies of keys.
+//!
+//! A line is a word (`pub`, `priv`, `p8`, `pss`, `oaep` and others), a space and an encoding in hexadecimal digits;
+//! some words take two encodings. The output for it is a line too: the value that the encoding means; `refused` if it
+//! means none; `bad line` if a line has another form.
+
+mod answer;
+mod copy;
+mod copy_error;
+mod digits;
+mod fault;
+mod filter;
+mod keys;
+mod laws;
+mod lines;
+mod parameter_answers;
+mod parameter_text;
+mod place;
+mod plan;
+mod replace;
+mod request;
+mod sequence;
+mod shortest;
+mod verdict;
+
+pub use answer::answer_line;
+pub use copy::{copy_priv, copy_private_key, copy_pub, copy_public_key};
+pub use copy_error::{CopyError, FileError, WriteError};
+pub use fault::Fault;
+pub use filter::{LIMIT, run};
+pub use laws::lemma_answers_are_one;
+pub use lines::split_line;
+pub use place::{FileAt, Place};
+pub use plan::{Plan, behind_name, plan_of, status};
+pub use replace::{Beside, ReplaceFiles, Rights, Synced, Target};
+pub use request::Encodings;
+pub use sequence::read_sequence;

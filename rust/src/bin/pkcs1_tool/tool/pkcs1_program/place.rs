@@ -1,0 +1,90 @@
+// Made of crates/pkcs1_program/src/place.rt by tools/erase/erase.py, and not to be edited.
+//! Where a key is written once.
+
+use crate::tool::pkcs1_program::copy_error::WriteError;
+use crate::tool::pkcs1_program::filter::finish;
+use crate::tool::pkcs1_program::replace::{Beside, ReplaceFiles, Target};
+use crate::proved::der_core::Close;
+use crate::rattle_std::alloc::Global;
+use crate::rattle_std::path::Path;
+
+/// Where bytes can be written once: writing uses the place up.
+pub trait Place {
+    /// Writes the bytes.
+    fn write(self, bytes: &[u8]) -> Result<(), WriteError>;
+}
+
+/// Writes all the bytes to a sink, flushes and closes it.
+fn fill<W: Close>(sink: W, bytes: &[u8]) -> Result<(), WriteError> {
+    let mut sink = sink;
+    let written = finish(bytes, &mut sink);
+    sink.close();
+    match written {
+        Ok(()) => Ok(()),
+        Err(_) => Err(WriteError::Write),
+    }
+}
+
+/// Creates the file, or truncates an old one, and writes the bytes.
+fn write_in_place<F: ReplaceFiles>(
+    files: &F,
+    path: Path<'_>,
+    bytes: &[u8],
+) -> Result<(), WriteError> {
+    match files.create(path) {
+        Ok(sink) => fill(sink, bytes),
+        Err(_) => Err(WriteError::Open),
+    }
+}
+
+/// Writes the bytes to a new file, and renames that when it is whole. After an error it is removed.
+fn write_beside<F: ReplaceFiles>(
+    files: &F,
+    beside: &Beside,
+    path: Path<'_>,
+    bytes: &[u8],
+) -> Result<(), WriteError> {
+    let new = beside.path.as_path();
+    let Ok(sink) = files.create_new(new, beside.rights) else {
+        return Err(WriteError::Create);
+    };
+    if let Err(error) = fill(sink, bytes) {
+        let _ = files.remove(new);
+        return Err(error);
+    }
+    if files.rename(new, beside.to.as_path()).is_err() {
+        let _ = files.remove(new);
+        return Err(WriteError::Rename);
+    }
+    Ok(())
+}
+
+/// The file at a path. A regular one is replaced when the bytes are written, another one is written in place.
+pub struct FileAt<'a, F: ReplaceFiles> {
+    files: &'a F,
+    alloc: Global,
+    path: Path<'a>,
+    model: Option<Path<'a>>,
+}
+
+impl<'a, F: ReplaceFiles> FileAt<'a, F> {
+    /// The file at this path. A new one gets no more rights than the file at the path `model` has, if that is given.
+    pub fn new(files: &'a F, alloc: Global, path: Path<'a>, model: Option<Path<'a>>) -> Self {
+        FileAt {
+            files,
+            alloc,
+            path,
+            model,
+        }
+    }
+}
+
+impl<F: ReplaceFiles> Place for FileAt<'_, F> {
+    fn write(self, bytes: &[u8]) -> Result<(), WriteError> {
+        match self.files.target(self.alloc, self.path, self.model) {
+            Ok(Target::InPlace) => write_in_place(self.files, self.path, bytes),
+            Ok(Target::Beside(beside)) => write_beside(self.files, &beside, self.path, bytes),
+            Err(_) => Err(WriteError::Memory),
+        }
+    }
+}

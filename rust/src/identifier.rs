@@ -1,0 +1,243 @@
+//! Object identifiers, and types that name one.
+
+use crate::der::{Error, ErrorKind, Result};
+use crate::oid_text::{number_at, print};
+use crate::proved::spki_core as proved;
+use core::fmt;
+
+/// An object identifier as its contents octets (X.690 8.19), of which there are at most 39.
+///
+/// ```
+/// use pkcs1::der::asn1::ObjectIdentifier;
+///
+/// const SHA_256: ObjectIdentifier = ObjectIdentifier::new_unwrap("2.16.840.1.101.3.4.2.1");
+/// assert_eq!(SHA_256.to_string(), "2.16.840.1.101.3.4.2.1");
+/// assert_eq!(SHA_256.as_bytes(), [0x60, 0x86, 0x48, 1, 0x65, 3, 4, 2, 1]);
+/// ```
+#[derive(Clone, Copy, PartialEq, Eq, PartialOrd, Ord, Hash)]
+pub struct ObjectIdentifier {
+    octets: [u8; ObjectIdentifier::MAX_SIZE],
+    length: u8,
+}
+
+impl ObjectIdentifier {
+    /// The most contents octets that an identifier may have.
+    pub const MAX_SIZE: usize = 39;
+
+    /// The identifier with this text: numbers in decimal digits, with dots between them.
+    ///
+    /// # Errors
+    ///
+    /// `OidMalformed` if the text is none, a number has more than 128 bits, or the contents have more than 39 octets.
+    pub const fn new(text: &str) -> Result<ObjectIdentifier> {
+        match ObjectIdentifier::of_text(text.as_bytes()) {
+            Some(oid) => Ok(oid),
+            None => Err(Error { kind: ErrorKind::OidMalformed }),
+        }
+    }
+
+    /// As `new`, for a `const`.
+    ///
+    /// # Panics
+    ///
+    /// Where `new` returns an error. In a `const` this is an error of the compiler.
+    #[must_use]
+    pub const fn new_unwrap(text: &str) -> ObjectIdentifier {
+        ObjectIdentifier::of_text(text.as_bytes()).expect("the text is no object identifier of at most 39 octets")
+    }
+
+    /// The identifier with these contents octets.
+    ///
+    /// # Errors
+    ///
+    /// `OidMalformed`.
+    pub fn from_bytes(octets: &[u8]) -> Result<ObjectIdentifier> {
+        Ok(ObjectIdentifier::of_view(proved::IdentifierView::from_bytes(octets)?))
+    }
+
+    /// The contents octets, at least one.
+    #[inline]
+    #[must_use]
+    pub const fn as_bytes(&self) -> &[u8] {
+        self.octets.split_at(self.length as usize).0
+    }
+
+    const fn of_text(text: &[u8]) -> Option<ObjectIdentifier> {
+        let empty = ObjectIdentifier { octets: [0; ObjectIdentifier::MAX_SIZE], length: 0 };
+        let Some((first, end)) = number_at(text, 0) else { return None };
+        let Some((second, mut end)) = number_at(text, end + 1) else { return None };
+        if first > 2 || (first < 2 && second >= 40) {
+            return None;
+        }
+        let Some(both) = second.checked_add(40 * first) else { return None };
+        let mut made = empty.with_number(both);
+        while end < text.len() {
+            let (Some((number, behind)), Some(oid)) = (number_at(text, end + 1), made) else { return None };
+            (made, end) = (oid.with_number(number), behind);
+        }
+        made
+    }
+
+    /// The identifier with one more number behind, seven bits in each octet.
+    const fn with_number(mut self, number: u128) -> Option<ObjectIdentifier> {
+        let mut shift = (u128::BITS - (number | 1).leading_zeros() - 1) / 7 * 7;
+        loop {
+            if self.length as usize == ObjectIdentifier::MAX_SIZE {
+                return None;
+            }
+            let continued = if shift > 0 { 0x80 } else { 0 };
+            self.octets[self.length as usize] = (number >> shift) as u8 & 0x7f | continued;
+            self.length += 1;
+            if shift == 0 {
+                return Some(self);
+            }
+            shift -= 7;
+        }
+    }
+}
+
+impl core::str::FromStr for ObjectIdentifier {
+    type Err = Error;
+
+    fn from_str(text: &str) -> Result<ObjectIdentifier> {
+        ObjectIdentifier::new(text)
+    }
+}
+
+/// An object identifier over the octets that it was read from.
+#[derive(Clone, Copy)]
+pub struct ObjectIdentifierRef<'a>(proved::IdentifierView<'a>);
+
+impl<'a> ObjectIdentifierRef<'a> {
+    /// The contents octets, at least one.
+    #[must_use]
+    pub fn as_bytes(&self) -> &'a [u8] {
+        self.0.as_bytes()
+    }
+}
+
+impl PartialEq for ObjectIdentifierRef<'_> {
+    fn eq(&self, other: &ObjectIdentifierRef<'_>) -> bool {
+        self.as_bytes() == other.as_bytes()
+    }
+}
+
+impl Eq for ObjectIdentifierRef<'_> {}
+
+impl PartialEq<ObjectIdentifier> for ObjectIdentifierRef<'_> {
+    fn eq(&self, other: &ObjectIdentifier) -> bool {
+        self.as_bytes() == other.as_bytes()
+    }
+}
+
+impl From<ObjectIdentifierRef<'_>> for ObjectIdentifier {
+    fn from(oid: ObjectIdentifierRef<'_>) -> ObjectIdentifier {
+        ObjectIdentifier::of_view(oid.0)
+    }
+}
+
+/// What holds an object identifier: `ObjectIdentifier`, or `ObjectIdentifierRef`.
+pub trait Identifier: Sized {
+    /// The identifier, over its octets.
+    fn as_view(&self) -> proved::IdentifierView<'_>;
+}
+
+/// What an object identifier that is read is held in.
+pub trait FromView<'a>: Sized {
+    /// The identifier over these octets.
+    fn of_view(view: proved::IdentifierView<'a>) -> Self;
+}
+
+impl Identifier for ObjectIdentifier {
+    #[inline]
+    fn as_view(&self) -> proved::IdentifierView<'_> {
+        proved::IdentifierView::over(self.as_bytes())
+    }
+}
+
+impl FromView<'_> for ObjectIdentifier {
+    /// Nearly all identifiers in keys and parameters have five or nine octets. Copies of a known length take no call.
+    #[inline]
+    fn of_view(view: proved::IdentifierView<'_>) -> ObjectIdentifier {
+        match *view.as_bytes() {
+            [a, b, c, d, e, f, g, h, i] => ObjectIdentifier::with_zeros([a, b, c, d, e, f, g, h, i]),
+            [a, b, c, d, e] => ObjectIdentifier::with_zeros([a, b, c, d, e]),
+            ref octets => ObjectIdentifier::copied(octets),
+        }
+    }
+}
+
+impl ObjectIdentifier {
+    #[inline]
+    fn with_zeros<const N: usize>(from: [u8; N]) -> ObjectIdentifier {
+        let mut octets = [0; ObjectIdentifier::MAX_SIZE];
+        octets[..N].copy_from_slice(&from);
+        ObjectIdentifier { octets, length: N as u8 }
+    }
+
+    #[inline(never)]
+    fn copied(from: &[u8]) -> ObjectIdentifier {
+        let mut octets = [0; ObjectIdentifier::MAX_SIZE];
+        octets[..from.len()].copy_from_slice(from);
+        ObjectIdentifier { octets, length: from.len() as u8 }
+    }
+}
+
+impl Identifier for ObjectIdentifierRef<'_> {
+    #[inline]
+    fn as_view(&self) -> proved::IdentifierView<'_> {
+        self.0
+    }
+}
+
+impl<'a> FromView<'a> for ObjectIdentifierRef<'a> {
+    #[inline]
+    fn of_view(view: proved::IdentifierView<'a>) -> ObjectIdentifierRef<'a> {
+        ObjectIdentifierRef(view)
+    }
+}
+
+/// The identifier of a type.
+#[inline]
+pub(crate) fn named<D: AssociatedOid>() -> proved::IdentifierView<'static> {
+    D::KEPT.as_view()
+}
+
+macro_rules! printed {
+    ($($name:ty)*) => { $(
+        impl fmt::Display for $name {
+            fn fmt(&self, f: &mut fmt::Formatter<'_>) -> fmt::Result {
+                print(self.as_bytes(), f)
+            }
+        }
+
+        impl fmt::Debug for $name {
+            fn fmt(&self, f: &mut fmt::Formatter<'_>) -> fmt::Result {
+                write!(f, "ObjectIdentifier({self})")
+            }
+        }
+    )* };
+}
+printed! { ObjectIdentifier ObjectIdentifierRef<'_> }
+
+/// A type that names an algorithm, such as a hash function.
+pub trait AssociatedOid {
+    /// The object identifier of the algorithm.
+    const OID: ObjectIdentifier;
+}
+
+/// The identifier of each such type, in memory that stays.
+trait Kept: AssociatedOid {
+    const KEPT: &'static ObjectIdentifier = &Self::OID;
+}
+
+impl<D: AssociatedOid> Kept for D {}
+
+impl<D: AssociatedOid> proved::AssociatedOid for D {
+    const OID: &'static [u8] = D::KEPT.as_bytes();
+
+    #[inline]
+    fn octets() -> &'static [u8] {
+        <D as proved::AssociatedOid>::OID
+    }
+}

@@ -1,0 +1,212 @@
+//! The calls of both types of parameters.
+
+use crate::algorithm::AlgorithmIdentifier;
+use crate::der::asn1::{Any, AnyRef, ObjectIdentifierRef};
+use crate::der::{self, Encode, decoded, from_slices};
+use crate::identifier::{AssociatedOid, FromView, Identifier};
+use crate::keys::asn1;
+use crate::named::{RsaesOaep, RsassaPss, Sha1};
+use crate::params::{RsaOaepParams, RsaPssParams};
+use crate::proved::der_core::NoMemory;
+use crate::proved::pkcs1_params::{self as proved, EncodeParams, FromAlgorithm};
+use crate::values::Held;
+use crate::{Error, Result};
+
+/// How many octets an encoding has at most that is written as known octets: a header, two fields, and a label's.
+const LONGEST_KNOWN: usize = 2 + 47 + 17 + 63;
+
+macro_rules! parameters {
+    ($($name:ident, $view:ident, $reference:ident, $owned:ident, $algorithm:ident, $default:expr;)*) => { $(
+        #[doc = concat!("`", stringify!($name), "` whose algorithms have borrowed parameters.")]
+        pub type $reference<'a> = $name<AnyRef<'a>>;
+
+        #[doc = concat!("`", stringify!($name), "` that own the parameters of their algorithms.")]
+        pub type $owned = $name<Any>;
+
+        #[doc = concat!("`", stringify!($name), "` over their encoding, whose octets are their identifiers.")]
+        pub type $view<'a> = $name<AnyRef<'a>, ObjectIdentifierRef<'a>>;
+
+        impl<'a, O: FromView<'a>> $name<AnyRef<'a>, O> {
+            /// Like `try_from`, but accepts the shortest encoding only, in which no default is written.
+            ///
+            /// # Errors
+            ///
+            /// As of `try_from`, and `Noncanonical` with the tag of the first default that is written.
+            pub fn from_der_strict(bytes: &'a [u8]) -> Result<Self> {
+                proved::$view::from_der_strict(bytes).map(Self::of_view)
+            }
+
+            /// The parameters in an algorithm identifier.
+            ///
+            /// # Errors
+            ///
+            /// `OidUnknown` if it is of another algorithm, `ParametersMissing`, or as of `try_from`.
+            pub fn from_algorithm(algorithm: &AlgorithmIdentifier<AnyRef<'a>>) -> Result<Self> {
+                algorithm.assert_algorithm_oid($algorithm::OID)?;
+                match algorithm.parameters {
+                    Some(any) => Self::try_from(any),
+                    None => Err(der::Error::new(der::ErrorKind::ParametersMissing).into()),
+                }
+            }
+
+            /// The parameters in the encoding of an algorithm identifier, such as a certificate's signatureAlgorithm.
+            ///
+            /// # Errors
+            ///
+            /// As of `from_algorithm`, or the slice is no algorithm identifier.
+            pub fn from_algorithm_der(bytes: &'a [u8]) -> Result<Self> {
+                proved::$view::from_algorithm_der(bytes).map(Self::of_view)
+            }
+
+            /// Like `from_algorithm_der`, but accepts the shortest encoding only.
+            ///
+            /// # Errors
+            ///
+            /// As of `from_algorithm_der`, and `Noncanonical` with the tag of the first default that is written.
+            pub fn from_algorithm_der_strict(bytes: &'a [u8]) -> Result<Self> {
+                proved::$view::from_algorithm_der_strict(bytes).map(Self::of_view)
+            }
+        }
+
+        impl<P: Held, O: Identifier> $name<P, O> {
+            /// Whether the hash function is D, and the mask generation function is MGF1 with D: each of them with NULL
+            /// or without parameters.
+            #[must_use]
+            pub fn uses_hash<D: AssociatedOid>(&self) -> bool {
+                self.view().uses_hash::<D>()
+            }
+
+            /// How many fields equal their defaults.
+            #[must_use]
+            pub fn default_fields(&self) -> u8 {
+                self.view().default_fields()
+            }
+
+            /// Writes one spelling to the front of the slice, and returns that part. Bit j of the mask says whether the
+            /// j-th of the fields that equal their defaults is written. Mask 0 gives the shortest encoding.
+            ///
+            /// # Errors
+            ///
+            /// `Overflow`, or `NoRoom` if the slice is too short.
+            pub fn encode_spelling<'o>(&self, mask: u8, out: &'o mut [u8]) -> Result<&'o [u8]> {
+                (&self.view()).encode_spelling_to_slice(mask, out)
+            }
+
+            /// All spellings, each at the index that is its mask: two to the number of default fields.
+            ///
+            /// # Errors
+            ///
+            /// `Overflow` or `OutOfMemory`.
+            #[cfg(feature = "alloc")]
+            pub fn spellings(&self) -> Result<alloc::vec::Vec<alloc::vec::Vec<u8>>> {
+                let all = alloc::vec::Vec::from(self.view().spellings(crate::rattle_std::alloc::Global)?);
+                Ok(all.into_iter().map(Into::into).collect())
+            }
+
+            /// Writes the shortest encoding of the algorithm identifier with these parameters to the front of the
+            /// slice, and returns that part.
+            ///
+            /// # Errors
+            ///
+            /// `Overflow`, or `NoRoom` if the slice is too short.
+            pub fn encode_algorithm<'o>(&self, out: &'o mut [u8]) -> Result<&'o [u8]> {
+                let length = self.view().encode_algorithm(out)?;
+                Ok(&out[..length])
+            }
+
+            /// Returns the shortest encoding of the algorithm identifier with these parameters.
+            ///
+            /// # Errors
+            ///
+            /// `Overflow` or `OutOfMemory`.
+            #[cfg(feature = "alloc")]
+            pub fn to_algorithm_der(&self) -> Result<alloc::vec::Vec<u8>> {
+                Ok(der::to_der(&self.view().to_algorithm())?)
+            }
+        }
+
+        impl $owned {
+            /// The same parameters.
+            ///
+            /// # Errors
+            ///
+            /// `OutOfMemory`.
+            pub fn try_clone(&self) -> der::Result<$owned> {
+                self.map(Any::try_clone)
+            }
+        }
+
+        impl<'a, O: FromView<'a>> Default for $name<AnyRef<'a>, O> {
+            /// Each field at its default.
+            fn default() -> $name<AnyRef<'a>, O> {
+                $default
+            }
+        }
+
+        impl Default for $owned {
+            /// Each field at its default. Nothing is allocated.
+            fn default() -> $owned {
+                $reference::default().map(|any| Any::try_from(*any)).expect("no octet takes memory")
+            }
+        }
+
+        impl<'a, O: FromView<'a>> TryFrom<&'a [u8]> for $name<AnyRef<'a>, O> {
+            type Error = Error;
+
+            /// Reads the whole slice.
+            #[inline]
+            fn try_from(bytes: &'a [u8]) -> Result<Self> {
+                proved::$view::try_from(bytes).map(Self::of_view)
+            }
+        }
+
+        impl<'a, O: FromView<'a>> TryFrom<AnyRef<'a>> for $name<AnyRef<'a>, O> {
+            type Error = Error;
+
+            /// Reads the parameters of an algorithm.
+            fn try_from(any: AnyRef<'a>) -> Result<Self> {
+                let view: proved::$view<'a> = any.0.decode_as(NoMemory)?;
+                Ok(Self::of_view(view))
+            }
+        }
+
+        decoded! {
+            {O: FromView<'a>} $name<AnyRef<'a>, O>, bytes => asn1(Self::try_from(bytes));
+            {} $name<Any>, bytes => $reference::from_der(bytes)?.map(|any| Any::try_from(*any));
+        }
+        from_slices! { $name<Any>; }
+
+        impl<P: Held, O: Identifier> Encode for $name<P, O> {
+            fn encoded_len(&self) -> der::Result<der::Length> {
+                match self.write_known(&mut [0; LONGEST_KNOWN]) {
+                    Some(length) => der::Length::try_from(length),
+                    None => crate::proved::der_core::Encode::encoded_len(&self.view()),
+                }
+            }
+
+            #[inline]
+            fn encode_to_slice<'o>(&self, out: &'o mut [u8]) -> der::Result<&'o [u8]> {
+                let length = match self.write_known(out) {
+                    Some(length) => length,
+                    None => asn1((&self.view()).encode_params(out))?,
+                };
+                Ok(&out[..length])
+            }
+
+            #[cfg(feature = "alloc")]
+            fn to_der(&self) -> der::Result<alloc::vec::Vec<u8>> {
+                let mut room = [0; LONGEST_KNOWN];
+                match self.write_known(&mut room) {
+                    Some(length) => der::copied(&room[..length]),
+                    None => der::to_der(&self.view()),
+                }
+            }
+        }
+    )* };
+}
+parameters! {
+    RsaPssParams, RsaPssParamsView, RsaPssParamsRef, RsaPssParamsOwned, RsassaPss,
+        RsaPssParams::of_hash::<Sha1>(20);
+    RsaOaepParams, RsaOaepParamsView, RsaOaepParamsRef, RsaOaepParamsOwned, RsaesOaep,
+        RsaOaepParams::of_hash::<Sha1>(&[]);
+}

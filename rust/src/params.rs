@@ -1,0 +1,237 @@
+//! Parameters of RSASSA-PSS (RFC 8017 A.2.3) and RSAES-OAEP (A.2.1).
+
+use crate::algorithm::{AlgorithmIdentifier, MaskGen};
+use crate::der::asn1::{AnyRef, ObjectIdentifier};
+use crate::der::{self, Tag};
+use crate::identifier::{AssociatedOid, FromView, Identifier};
+use crate::named::{Mgf1, PSpecified};
+use crate::proved::pkcs1_params::{self as proved, TrailerField};
+use crate::values::Held;
+
+/// Parameters of RSASSA-PSS. A `P` holds the parameters of a hash function, an `O` each object identifier: see
+/// `RsaPssParamsRef`, `RsaPssParamsOwned` and `RsaPssParamsView`. Explicit defaults are read, but not written.
+///
+/// ```text
+/// RSASSA-PSS-params ::= SEQUENCE {
+///     hashAlgorithm     [0] HashAlgorithm     DEFAULT sha1,
+///     maskGenAlgorithm  [1] MaskGenAlgorithm  DEFAULT mgf1SHA1,
+///     saltLength        [2] INTEGER           DEFAULT 20,
+///     trailerField      [3] TrailerField      DEFAULT trailerFieldBC
+/// }
+/// ```
+///
+/// ```
+/// use pkcs1::{RsaPssParamsRef, RsaPssParamsView, Sha256, der::Encode};
+///
+/// let params = RsaPssParamsRef::new::<Sha256>(32);
+/// let mut room = [0; 80];
+/// let der = params.encode_to_slice(&mut room)?;
+/// let view = RsaPssParamsView::from_der_strict(der)?;
+/// assert!(view.uses_hash::<Sha256>() && view.salt_len == 32);
+/// # Ok::<(), pkcs1::Error>(())
+/// ```
+#[derive(Clone, Copy, Debug, PartialEq, Eq, Hash)]
+pub struct RsaPssParams<P, O = ObjectIdentifier> {
+    /// The hash function; SHA-1 with NULL by default.
+    pub hash: AlgorithmIdentifier<P, O>,
+    /// The mask generation function and its hash function; MGF1 with SHA-1 with NULL by default.
+    pub mask_gen: AlgorithmIdentifier<AlgorithmIdentifier<P, O>, O>,
+    /// The salt length in octets, from 0 to 255; 20 by default.
+    pub salt_len: u8,
+    /// The trailer field of an encoded message; `BC` by default.
+    pub trailer_field: TrailerField,
+}
+
+/// Parameters of RSAES-OAEP. A `P` holds the parameters of a hash function or a source, an `O` each object identifier:
+/// see `RsaOaepParamsRef`, `RsaOaepParamsOwned` and `RsaOaepParamsView`. Explicit defaults are read, but not written.
+///
+/// ```text
+/// RSAES-OAEP-params ::= SEQUENCE {
+///     hashAlgorithm     [0] HashAlgorithm     DEFAULT sha1,
+///     maskGenAlgorithm  [1] MaskGenAlgorithm  DEFAULT mgf1SHA1,
+///     pSourceAlgorithm  [2] PSourceAlgorithm  DEFAULT pSpecifiedEmpty
+/// }
+/// ```
+#[derive(Clone, Copy, Debug, PartialEq, Eq, Hash)]
+pub struct RsaOaepParams<P, O = ObjectIdentifier> {
+    /// The hash function; SHA-1 with NULL by default.
+    pub hash: AlgorithmIdentifier<P, O>,
+    /// The mask generation function and its hash function; MGF1 with SHA-1 with NULL by default.
+    pub mask_gen: AlgorithmIdentifier<AlgorithmIdentifier<P, O>, O>,
+    /// The source of the label; pSpecified with an empty OCTET STRING by default.
+    pub p_source: AlgorithmIdentifier<P, O>,
+}
+
+impl<P, O> RsaPssParams<P, O> {
+    /// The default salt length in octets: that of a SHA-1 hash.
+    pub const SALT_LEN_DEFAULT: u8 = 20;
+}
+
+impl<'a> RsaPssParams<AnyRef<'a>> {
+    /// The hash function D with NULL, MGF1 with the same hash function, a salt of this many octets, and the trailer
+    /// field.
+    #[must_use]
+    pub fn new<D: AssociatedOid>(salt_len: u8) -> RsaPssParams<AnyRef<'a>> {
+        RsaPssParams::of_hash::<D>(salt_len)
+    }
+}
+
+impl<'a, O: FromView<'a>> RsaPssParams<AnyRef<'a>, O> {
+    pub(crate) fn of_hash<D: AssociatedOid>(salt_len: u8) -> RsaPssParams<AnyRef<'a>, O> {
+        RsaPssParams { hash: plain::<D, O>(), mask_gen: mgf1::<D, O>(), salt_len, trailer_field: TrailerField::BC }
+    }
+
+    #[inline]
+    pub(crate) fn of_view(view: proved::RsaPssParamsView<'a>) -> RsaPssParams<AnyRef<'a>, O> {
+        RsaPssParams {
+            hash: AlgorithmIdentifier::of_view(view.hash),
+            mask_gen: mask_gen_of(view.mask_gen),
+            salt_len: view.salt_len,
+            trailer_field: view.trailer_field,
+        }
+    }
+}
+
+impl<'a> RsaOaepParams<AnyRef<'a>> {
+    /// The hash function D with NULL, MGF1 with the same hash function, and the empty label.
+    #[must_use]
+    pub fn new<D: AssociatedOid>() -> RsaOaepParams<AnyRef<'a>> {
+        RsaOaepParams::of_hash::<D>(&[])
+    }
+
+    /// The hash function D with NULL, MGF1 with the same hash function, and this label.
+    ///
+    /// # Panics
+    ///
+    /// The label is longer than `Length::MAX`.
+    #[must_use]
+    pub fn new_with_label<D: AssociatedOid>(label: &'a (impl AsRef<[u8]> + ?Sized)) -> RsaOaepParams<AnyRef<'a>> {
+        RsaOaepParams::of_hash::<D>(label.as_ref())
+    }
+}
+
+impl<'a, O: FromView<'a>> RsaOaepParams<AnyRef<'a>, O> {
+    pub(crate) fn of_hash<D: AssociatedOid>(label: &'a [u8]) -> RsaOaepParams<AnyRef<'a>, O> {
+        let label = AnyRef::new(Tag::OCTET_STRING, label).expect("the label is too long");
+        RsaOaepParams {
+            hash: plain::<D, O>(),
+            mask_gen: mgf1::<D, O>(),
+            p_source: AlgorithmIdentifier { parameters: Some(label), ..plain::<PSpecified, O>() },
+        }
+    }
+
+    #[inline]
+    pub(crate) fn of_view(view: proved::RsaOaepParamsView<'a>) -> RsaOaepParams<AnyRef<'a>, O> {
+        RsaOaepParams {
+            hash: AlgorithmIdentifier::of_view(view.hash),
+            mask_gen: mask_gen_of(view.mask_gen),
+            p_source: AlgorithmIdentifier::of_view(view.p_source),
+        }
+    }
+}
+
+/// The hash function or source D, with NULL.
+fn plain<'a, D: AssociatedOid, O: FromView<'a>>() -> AlgorithmIdentifier<AnyRef<'a>, O> {
+    AlgorithmIdentifier::with_null::<D>()
+}
+
+/// MGF1 with the hash function D with NULL.
+fn mgf1<'a, D: AssociatedOid, O: FromView<'a>>() -> MaskGen<AnyRef<'a>, O> {
+    AlgorithmIdentifier { oid: plain::<Mgf1, O>().oid, parameters: Some(plain::<D, O>()) }
+}
+
+/// A mask generation function of the proved crates, and its hash function.
+type MaskGenView<'a> = crate::proved::spki_core::AlgorithmView<'a, HashView<'a>>;
+type HashView<'a> = crate::proved::spki_core::AlgorithmView<'a, crate::proved::spki_core::AnyRef<'a>>;
+
+#[inline]
+fn mask_gen_of<'a, O: FromView<'a>>(view: MaskGenView<'a>) -> MaskGen<AnyRef<'a>, O> {
+    AlgorithmIdentifier { oid: O::of_view(view.oid), parameters: view.parameters.map(AlgorithmIdentifier::of_view) }
+}
+
+#[inline]
+fn mask_gen_view<P: Held, O: Identifier>(mask_gen: &MaskGen<P, O>) -> MaskGenView<'_> {
+    MaskGenView {
+        oid: mask_gen.oid.as_view(),
+        parameters: mask_gen.parameters.as_ref().map(AlgorithmIdentifier::as_view),
+    }
+}
+
+/// The hash function under a mask generation function, if that and the other hash function have NULL.
+#[inline]
+fn under<'p, P: Held, O: Identifier>(
+    hash: &AlgorithmIdentifier<P, O>,
+    mask_gen: &'p MaskGen<P, O>,
+) -> Option<&'p [u8]> {
+    let under = mask_gen.parameters.as_ref()?;
+    (hash.has_null() && under.has_null()).then(|| under.oid.as_view().as_bytes())
+}
+
+impl<P: Held, O: Identifier> RsaPssParams<P, O> {
+    #[inline]
+    pub(crate) fn view(&self) -> proved::RsaPssParamsView<'_> {
+        proved::RsaPssParamsView {
+            hash: self.hash.as_view(),
+            mask_gen: mask_gen_view(&self.mask_gen),
+            salt_len: self.salt_len,
+            trailer_field: self.trailer_field,
+        }
+    }
+
+    /// Writes the encoding, if it is known and there is room.
+    #[inline]
+    pub(crate) fn write_known(&self, out: &mut [u8]) -> Option<usize> {
+        let under = under(&self.hash, &self.mask_gen)?;
+        let (hash, mask_gen) = (self.hash.oid.as_view(), self.mask_gen.oid.as_view());
+        proved::encode_known_pss(hash.as_bytes(), mask_gen.as_bytes(), under, self.salt_len, out)
+    }
+
+    /// The parameters with those of their algorithms held otherwise.
+    pub(crate) fn map<Q>(&self, held: impl Fn(&P) -> der::Result<Q>) -> der::Result<RsaPssParams<Q>> {
+        Ok(RsaPssParams {
+            hash: self.hash.map(&held)?,
+            mask_gen: self.mask_gen.map(|hash| hash.map(&held))?,
+            salt_len: self.salt_len,
+            trailer_field: self.trailer_field,
+        })
+    }
+}
+
+impl<P: Held, O: Identifier> RsaOaepParams<P, O> {
+    /// The octets of the label, or `None` if the source isn't pSpecified with an OCTET STRING.
+    #[must_use]
+    pub fn label(&self) -> Option<&[u8]> {
+        self.view().label()
+    }
+
+    #[inline]
+    pub(crate) fn view(&self) -> proved::RsaOaepParamsView<'_> {
+        proved::RsaOaepParamsView {
+            hash: self.hash.as_view(),
+            mask_gen: mask_gen_view(&self.mask_gen),
+            p_source: self.p_source.as_view(),
+        }
+    }
+
+    /// Writes the encoding, if it is known and there is room.
+    #[inline]
+    pub(crate) fn write_known(&self, out: &mut [u8]) -> Option<usize> {
+        let under = under(&self.hash, &self.mask_gen)?;
+        let source = self.p_source.parameters.as_ref()?.as_any();
+        if source.tag() != Tag::OCTET_STRING {
+            return None;
+        }
+        let (hash, mask_gen) = (self.hash.oid.as_view(), self.mask_gen.oid.as_view());
+        let named = self.p_source.oid.as_view();
+        proved::encode_known_oaep(hash.as_bytes(), mask_gen.as_bytes(), under, named.as_bytes(), source.value(), out)
+    }
+
+    /// The parameters with those of their algorithms held otherwise.
+    pub(crate) fn map<Q>(&self, held: impl Fn(&P) -> der::Result<Q>) -> der::Result<RsaOaepParams<Q>> {
+        Ok(RsaOaepParams {
+            hash: self.hash.map(&held)?,
+            mask_gen: self.mask_gen.map(|hash| hash.map(&held))?,
+            p_source: self.p_source.map(&held)?,
+        })
+    }
+}

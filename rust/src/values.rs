@@ -1,0 +1,254 @@
+//! Numbers that own their octets, and encodings of any tag.
+
+use crate::der::{self, Length, Result, Tag};
+use crate::proved::der_core::{self as proved, AsUintRef, UintRef};
+use crate::proved::pkcs1::{RsaPublicKey, TrailerField};
+use crate::proved::spki_core::{self, AnyValue};
+use crate::rattle_std::alloc::Global;
+use core::cmp::Ordering;
+use core::hash::{Hash, Hasher};
+
+/// An unsigned number as big-endian bytes: no leading zeros, and one zero byte for 0. It owns them.
+#[derive(Clone, Debug, PartialEq, Eq)]
+pub struct Uint(pub(crate) proved::Uint);
+
+impl Uint {
+    /// The number with these big-endian bytes, which may have leading zeros.
+    ///
+    /// # Errors
+    ///
+    /// `Length` of INTEGER if there is no byte, `Overflow` if more than `Length::MAX` bytes remain without leading
+    /// zeros, else `OutOfMemory`.
+    pub fn new(bytes: &[u8]) -> Result<Uint> {
+        Ok(Uint(proved::Uint::new(Global, bytes)?))
+    }
+
+    /// The bytes, most significant first.
+    #[inline]
+    #[must_use]
+    pub fn as_bytes(&self) -> &[u8] {
+        self.0.as_bytes()
+    }
+
+    /// How many bits the number has: none, if it is 0.
+    #[must_use]
+    pub fn bit_len(&self) -> u64 {
+        self.0.as_uint_ref().bit_len()
+    }
+
+    /// The same number.
+    ///
+    /// # Errors
+    ///
+    /// `OutOfMemory`.
+    pub fn try_clone(&self) -> Result<Uint> {
+        Uint::new(self.as_bytes())
+    }
+}
+
+impl TryFrom<UintRef<'_>> for Uint {
+    type Error = der::Error;
+
+    /// Copies the number.
+    fn try_from(number: UintRef<'_>) -> Result<Uint> {
+        Uint::new(number.as_bytes())
+    }
+}
+
+/// What holds an unsigned number: `UintRef` or `Uint`.
+pub trait Number: Sized {
+    /// The number, borrowed.
+    fn as_number(&self) -> UintRef<'_>;
+}
+
+impl Number for UintRef<'_> {
+    #[inline]
+    fn as_number(&self) -> UintRef<'_> {
+        *self
+    }
+}
+
+impl Number for Uint {
+    #[inline]
+    fn as_number(&self) -> UintRef<'_> {
+        self.0.as_uint_ref()
+    }
+}
+
+/// A tag and contents octets, which are opaque. It borrows them.
+#[derive(Clone, Copy, Debug, PartialEq, Eq)]
+pub struct AnyRef<'a>(pub(crate) spki_core::AnyRef<'a>);
+
+impl<'a> AnyRef<'a> {
+    /// NULL (X.690 8.8), which has no contents octets.
+    pub const NULL: AnyRef<'static> = AnyRef(spki_core::AnyRef::null());
+
+    /// These contents octets under this tag.
+    ///
+    /// # Errors
+    ///
+    /// `Overflow` if there are more than `Length::MAX`.
+    pub fn new(tag: Tag, contents: &'a [u8]) -> Result<AnyRef<'a>> {
+        Ok(AnyRef(spki_core::AnyRef::new(tag, contents)?))
+    }
+
+    /// The tag, of any class and number.
+    #[inline]
+    #[must_use]
+    pub fn tag(&self) -> Tag {
+        self.0.tag()
+    }
+
+    /// The contents octets.
+    #[inline]
+    #[must_use]
+    pub fn value(&self) -> &'a [u8] {
+        self.0.value()
+    }
+
+    /// Whether it is NULL.
+    #[inline]
+    #[must_use]
+    pub fn is_null(&self) -> bool {
+        self.0.is_alone(Tag::NULL)
+    }
+
+    /// Decodes the contents octets as those of a `T`.
+    ///
+    /// # Errors
+    ///
+    /// `TagUnexpected`, or what reading a `T` returns.
+    pub fn decode_as<T: TryFrom<AnyRef<'a>>>(self) -> core::result::Result<T, T::Error> {
+        T::try_from(self)
+    }
+}
+
+/// A tag and contents octets, which are opaque. It owns them.
+#[derive(Clone, Debug, PartialEq, Eq)]
+pub struct Any(pub(crate) spki_core::Any);
+
+impl Any {
+    /// A copy of these contents octets under this tag.
+    ///
+    /// # Errors
+    ///
+    /// `Overflow` if there are more than `Length::MAX`, else `OutOfMemory`.
+    pub fn new(tag: Tag, contents: &[u8]) -> Result<Any> {
+        Ok(Any(spki_core::Any::new(Global, tag, contents)?))
+    }
+
+    /// The tag, of any class and number.
+    #[inline]
+    #[must_use]
+    pub fn tag(&self) -> Tag {
+        self.0.as_any_ref().tag()
+    }
+
+    /// The contents octets.
+    #[inline]
+    #[must_use]
+    pub fn value(&self) -> &[u8] {
+        self.0.as_any_ref().value()
+    }
+
+    /// The same tag and contents.
+    ///
+    /// # Errors
+    ///
+    /// `OutOfMemory`.
+    pub fn try_clone(&self) -> Result<Any> {
+        self.as_any().try_into()
+    }
+}
+
+impl TryFrom<AnyRef<'_>> for Any {
+    type Error = der::Error;
+
+    /// Copies the contents octets.
+    fn try_from(any: AnyRef<'_>) -> Result<Any> {
+        Any::new(any.tag(), any.value())
+    }
+}
+
+/// What holds a tag and contents octets: `AnyRef` or `Any`.
+pub trait Held: Sized {
+    /// The tag and contents, borrowed.
+    fn as_any(&self) -> AnyRef<'_>;
+}
+
+impl Held for AnyRef<'_> {
+    #[inline]
+    fn as_any(&self) -> AnyRef<'_> {
+        *self
+    }
+}
+
+impl Held for Any {
+    #[inline]
+    fn as_any(&self) -> AnyRef<'_> {
+        AnyRef(self.0.as_any_ref())
+    }
+}
+
+macro_rules! of_any {
+    ($($name:ty)*) => { $(
+        impl<'a> TryFrom<AnyRef<'a>> for $name {
+            type Error = der::Error;
+
+            fn try_from(any: AnyRef<'a>) -> Result<$name> {
+                any.0.decode_as(proved::NoMemory)
+            }
+        }
+    )* };
+}
+of_any! { UintRef<'a> proved::OctetStringRef<'a> }
+
+/// `Ord` and `Hash` by a key: what `==` compares too.
+macro_rules! ordered {
+    ($($name:ty, $value:ident => $key:expr;)*) => { $(
+        impl Ord for $name {
+            fn cmp(&self, other: &Self) -> Ordering {
+                let $value = self;
+                let here = $key;
+                let $value = other;
+                here.cmp(&$key)
+            }
+        }
+
+        impl PartialOrd for $name {
+            fn partial_cmp(&self, other: &Self) -> Option<Ordering> {
+                Some(self.cmp(other))
+            }
+        }
+
+        hashed! { $name, $value => $key; }
+    )* };
+}
+macro_rules! hashed {
+    ($($name:ty, $value:ident => $key:expr;)*) => { $(
+        impl Hash for $name {
+            fn hash<H: Hasher>(&self, state: &mut H) {
+                let $value = self;
+                $key.hash(state);
+            }
+        }
+    )* };
+}
+ordered! {
+    Tag, tag => tag.octet();
+    UintRef<'_>, number => (number.as_bytes().len(), number.as_bytes());
+    Uint, number => (number.as_bytes().len(), number.as_bytes());
+    proved::OctetStringRef<'_>, octets => octets.as_bytes();
+    AnyRef<'_>, any => (any.tag(), any.value());
+    Any, any => (any.tag(), any.value());
+}
+hashed! {
+    Length, length => length.to_usize();
+    TrailerField, field => *field as u8;
+}
+
+impl<U: Hash> Hash for RsaPublicKey<U> {
+    fn hash<H: Hasher>(&self, state: &mut H) {
+        (&self.modulus, &self.public_exponent).hash(state);
+    }
+}

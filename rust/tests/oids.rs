@@ -1,0 +1,90 @@
+//! Object identifiers: as text, as octets, and as constants of types.
+
+use pkcs1::der::Encode;
+use pkcs1::der::asn1::ObjectIdentifier;
+use pkcs1::der::oid::AssociatedOid;
+use pkcs1::{
+    Mgf1, PSpecified, RsaEncryption, RsaOaepParamsRef, RsaPssParamsRef, RsaesOaep, RsassaPss, Sha1, Sha3_256, Sha3_384,
+    Sha3_512, Sha224, Sha256, Sha384, Sha512, Sha512_224, Sha512_256,
+};
+
+#[test]
+fn each_type_names_its_algorithm() {
+    let pkcs1 = |last| vec![0x2a, 0x86, 0x48, 0x86, 0xf7, 0x0d, 1, 1, last];
+    let nist = |last| vec![0x60, 0x86, 0x48, 1, 0x65, 3, 4, 2, last];
+    let named = [
+        (RsaEncryption::OID, pkcs1(1)),
+        (RsaesOaep::OID, pkcs1(7)),
+        (Mgf1::OID, pkcs1(8)),
+        (PSpecified::OID, pkcs1(9)),
+        (RsassaPss::OID, pkcs1(10)),
+        (Sha1::OID, vec![0x2b, 0x0e, 3, 2, 0x1a]),
+        (Sha256::OID, nist(1)),
+        (Sha384::OID, nist(2)),
+        (Sha512::OID, nist(3)),
+        (Sha224::OID, nist(4)),
+        (Sha512_224::OID, nist(5)),
+        (Sha512_256::OID, nist(6)),
+        (Sha3_256::OID, nist(8)),
+        (Sha3_384::OID, nist(9)),
+        (Sha3_512::OID, nist(10)),
+    ];
+    for (oid, octets) in named {
+        assert_eq!(oid.as_bytes(), octets, "{oid}");
+        assert_eq!(ObjectIdentifier::from_bytes(&octets), Ok(oid));
+    }
+    assert_eq!((pkcs1::ALGORITHM_OID, pkcs1::ALGORITHM_ID.oid), (RsaEncryption::OID, RsaEncryption::OID));
+    let mut room = [0; 20];
+    let id = pkcs1::ALGORITHM_ID.encode_to_slice(&mut room).unwrap();
+    assert_eq!(id, [0x30, 13, 6, 9, 0x2a, 0x86, 0x48, 0x86, 0xf7, 0x0d, 1, 1, 1, 5, 0]);
+}
+
+#[test]
+fn a_type_of_ones_own_names_one_too() {
+    struct Own;
+    impl AssociatedOid for Own {
+        const OID: ObjectIdentifier = ObjectIdentifier::new_unwrap("2.16.840.1.101.3.4.2.1");
+    }
+    assert_eq!(RsaPssParamsRef::new::<Own>(32), RsaPssParamsRef::new::<Sha256>(32));
+    assert!(RsaOaepParamsRef::new_with_label::<Own>(b"label").uses_hash::<Sha256>());
+    assert!(RsaPssParamsRef::new::<Sha256>(32).hash.is_hash::<Own>());
+}
+
+#[test]
+fn text_and_octets() {
+    let largest = format!("2.{}", u128::MAX - 80);
+    for (text, octets) in [
+        ("0.0", &[0][..]),
+        ("0.39", &[39]),
+        ("1.0", &[40]),
+        ("1.39", &[79]),
+        ("2.0", &[80]),
+        ("2.47", &[127]),
+        ("2.48", &[0x81, 0]),
+        ("2.5.29.15", &[0x55, 29, 15]),
+        ("2.999.3", &[0x88, 0x37, 3]),
+        ("1.2.840.113549", &[0x2a, 0x86, 0x48, 0x86, 0xf7, 0x0d]),
+        ("1.3.128.0", &[0x2b, 0x81, 0, 0]),
+        (&largest, &[[0x83].as_slice(), &[0xff; 17], &[0x7f]].concat()),
+    ] {
+        let oid = ObjectIdentifier::new(text).unwrap();
+        assert_eq!((oid.as_bytes(), oid.to_string()), (octets, text.to_string()));
+        assert_eq!(text.parse(), Ok(oid));
+        assert_eq!(ObjectIdentifier::from_bytes(octets), Ok(oid));
+    }
+    // A number of 273 bits is printed, and not read.
+    let long = [[0xff; 38].as_slice(), &[0x7f]].concat();
+    let text = ObjectIdentifier::from_bytes(&long).unwrap().to_string();
+    assert_eq!(text, "2.15177100720513508366558296147058741458143803430094840009779784451085189728165691311");
+    let over = format!("2.{}", u128::MAX - 79);
+    for text in ["", "1", "1.", ".1", "3.1", "0.40", "1.40", "1.2..3", "1.2.", "1.02", "1.2.x", " 1.2", "-1.2", &over] {
+        assert!(ObjectIdentifier::new(text).is_err(), "{text}");
+    }
+    let numbers = |count| vec!["1"; count].join(".");
+    assert_eq!(ObjectIdentifier::new(&numbers(40)).unwrap().as_bytes().len(), 39);
+    assert!(ObjectIdentifier::new(&numbers(41)).is_err());
+    for octets in [&[][..], &[0x80], &[0x2a, 0x80, 1], &[1; 40]] {
+        assert!(ObjectIdentifier::from_bytes(octets).is_err());
+    }
+    assert!(ObjectIdentifier::new("1.2").unwrap() < ObjectIdentifier::new("1.2.0").unwrap());
+}
