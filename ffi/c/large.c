@@ -1,5 +1,6 @@
 /* What is longer than a few bits can tell: inputs, numbers, labels and identifiers over 255, 4096 and 65536 octets, and
- * where a size has more than 32 bits, over 4294967295 octets, of which only the first are touched. */
+ * where a size has more than 32 bits, over 4294967295 octets, of which only the first are touched. WATCHED leaves the
+ * longest out, as then each octet is touched. */
 #define _DEFAULT_SOURCE
 #include "test.h"
 #include <string.h>
@@ -10,7 +11,7 @@ static uint8_t ones[10000000];
 static const char *kinds[] = {"pub", "priv", "p8", "pss", "pss-strict", "pss-alg", "pss-alg-strict", "oaep",
                               "oaep-strict", "oaep-alg", "oaep-alg-strict"};
 
-#if SIZE_MAX > UINT32_MAX && defined __linux__
+#if SIZE_MAX > UINT32_MAX && defined __linux__ && !defined WATCHED
 #include <sys/mman.h>
 /* These octets, with 4 GB of zeros behind them, until the next call. NULL where there is no room for that, which a line
  * says. */
@@ -84,6 +85,11 @@ static void written_and_read(const char *kind, size_t part_len) {
     free(key);
     free(out);
     free(again);
+}
+
+static void bit_lengths(void) {
+    struct pkcs1_bytes number = {ones, LONG};
+    CHECK(pkcs1_bit_len(number) == 8 * LONG - 7);
 }
 
 static void labels(void) {
@@ -167,6 +173,7 @@ void try_large(void) {
         written_and_read(kinds[i], 300);
         written_and_read(kinds[i], LONG);
     }
+    bit_lengths();
     labels();
     identifiers();
     long_identifier();

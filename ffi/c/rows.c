@@ -155,10 +155,16 @@ static void try_pointers(const char *kind, const uint8_t *der, size_t len) {
         CHECK(lies_in(value.oaep.p_source.parameters, label));
 }
 
-/* Too little room, as much as is needed, and where a size has more than 32 bits, so much that these can't tell it.
- * Nothing is written behind the encoding, and nothing at all if there is too little room. */
+/* Too little room, as much as is needed, and where a size has more than 32 bits, so much that these can't tell it. That
+ * isn't there, so WATCHED leaves it out. Nothing is written behind the encoding, and nothing at all if there is too
+ * little room. */
 static void try_rooms(const char *kind, union value *value, const uint8_t *want, size_t need) {
-    const size_t many = SIZE_MAX / UINT32_MAX - 1, rooms[] = {0, 1, need - 1, need, need + 1, many, many + need - 1};
+#ifdef WATCHED
+    const size_t many = 0;
+#else
+    const size_t many = SIZE_MAX / UINT32_MAX - 1;
+#endif
+    const size_t rooms[] = {0, 1, need - 1, need, need + 1, many, many + need - 1};
     for (size_t i = 0; i < sizeof rooms / sizeof rooms[0]; i++) {
         uint8_t *out = filled(need + 1), *untouched = filled(need + 1);
         size_t len = 77;

@@ -251,7 +251,7 @@ static void many_other_primes(void) {
 static void containers(void) {
     static const uint8_t der[] = {0x30, 0x31, 2, 1, 0, 0x30, 13, 6, 9, 0x2a, 0x86, 0x48, 0x86, 0xf7, 0x0d, 1, 1, 1, 5, 0, 4, 29,
                                   0x30, 27, 2, 1, 0, 2, 1, 1, 2, 1, 2, 2, 1, 3, 2, 1, 4, 2, 1, 5, 2, 1, 6, 2, 1, 7, 2, 1, 8};
-    uint8_t out[64];
+    uint8_t out[64], longer[64];
     struct pkcs1_private_key_info info, old, again;
     struct pkcs1_private_key key;
     size_t len = 0;
@@ -264,11 +264,12 @@ static void containers(void) {
     info.has_attributes = true;
     info.attributes.data = NULL;
     CHECK(pkcs1_private_key_info_encode(&info, out, sizeof out, &len) == PKCS1_OK && len == sizeof der + 2);
-    CHECK(pkcs1_private_key_info_decode(out, len, &info, &key, NULL, 0) == PKCS1_OK);
+    memcpy(longer, out, len);
+    CHECK(pkcs1_private_key_info_decode(longer, len, &info, &key, NULL, 0) == PKCS1_OK);
     CHECK(info.has_attributes && same(info.attributes, "", 0));
     memset(&old, 0xa5, sizeof old);
     memset(&again, 0xa5, sizeof again);
-    CHECK(pkcs1_private_key_info_decode(out, len - 1, &again, &key, NULL, 0) == PKCS1_INCOMPLETE && memcmp(&again, &old, sizeof old) == 0);
+    CHECK(pkcs1_private_key_info_decode(longer, len - 1, &again, &key, NULL, 0) == PKCS1_INCOMPLETE && memcmp(&again, &old, sizeof old) == 0);
     info.private_key.len--;
     CHECK(pkcs1_private_key_info_encode(&info, out, sizeof out, &len) == PKCS1_INCOMPLETE && len == sizeof der + 2);
 }
@@ -321,7 +322,7 @@ static void absent_fields(void) {
     struct pkcs1_oaep_params oaep;
     struct pkcs1_pss_params params;
     struct pkcs1_private_key_info info;
-    uint8_t out[64];
+    uint8_t out[64], written[32];
     size_t len;
     memset(&info, 0xa5, sizeof info);
     info.private_key.data = two;
@@ -346,8 +347,8 @@ static void absent_fields(void) {
     oaep.p_source.tag = 4;
     oaep.p_source.parameters.data = NULL;
     oaep.p_source.parameters.len = 0;
-    CHECK(pkcs1_oaep_params_encode(&oaep, out, sizeof out, &len) == PKCS1_OK && len == 32);
-    CHECK(pkcs1_oaep_params_decode_strict(out, len, &oaep) == PKCS1_OK);
+    CHECK(pkcs1_oaep_params_encode(&oaep, written, sizeof written, &len) == PKCS1_OK && len == 32);
+    CHECK(pkcs1_oaep_params_decode_strict(written, len, &oaep) == PKCS1_OK);
     CHECK(!oaep.mask_gen.has_hash && oaep.mask_gen.hash.oid.len == 0);
     CHECK(!oaep.hash.has_parameters && oaep.hash.tag == 0 && same(oaep.hash.parameters, "", 0));
     CHECK(pkcs1_oid_equal(&oaep.hash.oid, &pkcs1_oid_sha256) && !pkcs1_oid_equal(&oaep.hash.oid, &pkcs1_oid_sha384));

@@ -1,136 +1,16 @@
-#include "reference.h"
+#include "elements.h"
 #include <string.h>
 
-/* Octets that are left to be read. */
-struct octets {
-    const uint8_t *at;
-    size_t left;
-};
-
-#define TRY(call)                     \
-    do {                              \
-        uint32_t tried = (call);      \
-        if (tried != PKCS1_OK)        \
-            return tried;             \
-    } while (0)
-
-static struct pkcs1_bytes all(struct octets from) {
-    struct pkcs1_bytes bytes = {from.at, from.left};
-    return bytes;
-}
-
-static uint32_t end(struct octets from) {
-    return from.left == 0 ? PKCS1_OK : PKCS1_TRAILING_DATA;
-}
-
-static struct octets taken(struct octets *from, size_t len) {
-    struct octets front = {from->at, len};
-    from->at += len;
-    from->left -= len;
-    return front;
-}
-
-/* X.690 8.1.3, 10.1: the length in the fewest octets, of which there are at most four more. */
-static uint32_t read_length(struct octets *from, size_t *len) {
-    if (from->left == 0)
-        return PKCS1_INCOMPLETE;
-    uint8_t first = *taken(from, 1).at;
-    if (first == 0x80)
-        return PKCS1_INDEFINITE_LENGTH;
-    *len = first;
-    if (first < 0x80)
-        return PKCS1_OK;
-    unsigned count = first & 0x7f, needed = 1;
-    if (count > 4)
-        return PKCS1_OVERFLOW;
-    if (from->left < count)
-        return PKCS1_INCOMPLETE;
-    uint64_t value = 0;
-    for (unsigned i = 0; i < count; i++)
-        value = value << 8 | *taken(from, 1).at;
-    for (uint64_t rest = value >> 8; rest > 0; rest >>= 8)
-        needed++;
-    *len = (size_t)value;
-    return value < 0x80 || needed != count ? PKCS1_OVERLENGTH : PKCS1_OK;
-}
-
-/* X.690 8.1.2: the tag, in one octet. */
-static uint32_t read_tag(struct octets *from, uint8_t *tag) {
-    if (from->left == 0)
-        return PKCS1_INCOMPLETE;
-    *tag = *taken(from, 1).at;
-    bool no_type = *tag == 0 || *tag == 0x20;
-    return (*tag & 0x1f) == 0x1f || no_type ? PKCS1_TAG_UNKNOWN : PKCS1_OK;
-}
-
-static uint32_t any(struct octets *from, uint8_t *tag, struct octets *contents) {
-    size_t len;
-    TRY(read_tag(from, tag));
-    TRY(read_length(from, &len));
-    if (from->left < len)
-        return PKCS1_INCOMPLETE;
-    *contents = taken(from, len);
-    return PKCS1_OK;
-}
-
-static uint32_t tagged(struct octets *from, uint8_t tag, struct octets *contents) {
-    struct octets header = *from;
-    uint8_t found;
-    size_t len;
-    TRY(read_tag(&header, &found));
-    TRY(read_length(&header, &len));
-    return found != tag ? (uint32_t)PKCS1_TAG_UNEXPECTED : any(from, &found, contents);
-}
-
-static bool begins_with(struct octets from, uint8_t tag) {
-    return from.left > 0 && *from.at == tag;
-}
-
-/* X.690 8.3: an INTEGER from 0 on, without its sign octet. */
-static uint32_t number(struct octets *from, struct pkcs1_bytes *read) {
-    struct octets contents;
-    TRY(tagged(from, 2, &contents));
-    if (contents.left == 0)
-        return PKCS1_LENGTH;
-    if (*contents.at >= 0x80)
-        return PKCS1_VALUE;
-    if (*contents.at == 0 && contents.left > 1) {
-        taken(&contents, 1);
-        if (*contents.at < 0x80)
-            return PKCS1_NONCANONICAL;
-    }
-    *read = all(contents);
-    return PKCS1_OK;
-}
-
-static uint32_t octet(struct octets *from, uint8_t *read) {
-    struct pkcs1_bytes value;
-    TRY(number(from, &value));
-    *read = *value.data;
-    return value.len == 1 ? PKCS1_OK : PKCS1_VALUE;
-}
-
-/* X.690 8.19: parts that don't begin with 80, each ending with an octet below 80. */
-static uint32_t identifier(struct octets *from, struct pkcs1_bytes *read) {
-    struct octets contents;
-    bool begins = true;
-    TRY(tagged(from, 6, &contents));
-    *read = all(contents);
-    for (size_t i = 0; i < read->len; i++) {
-        if (begins && read->data[i] == 0x80)
-            return PKCS1_OID_MALFORMED;
-        begins = read->data[i] < 0x80;
-    }
-    return read->len == 0 || read->len > 39 || !begins ? PKCS1_OID_MALFORMED : PKCS1_OK;
-}
+const char *const kinds[KINDS] = {"pub", "priv", "p8", "pss", "pss-strict", "pss-alg", "pss-alg-strict", "oaep",
+                                  "oaep-strict", "oaep-alg", "oaep-alg-strict"};
 
 static uint32_t public_key(struct octets from, struct pkcs1_public_key *key) {
     struct octets contents;
     TRY(tagged(&from, 0x30, &contents));
     TRY(number(&contents, &key->modulus));
     TRY(number(&contents, &key->public_exponent));
-    TRY(end(contents));
-    return end(from);
+    TRY(at_end(contents));
+    return at_end(from);
 }
 
 static uint32_t other_prime(struct octets *from, struct pkcs1_other_prime *read) {
@@ -139,7 +19,19 @@ static uint32_t other_prime(struct octets *from, struct pkcs1_other_prime *read)
     TRY(number(&contents, &read->prime));
     TRY(number(&contents, &read->exponent));
     TRY(number(&contents, &read->coefficient));
-    return end(contents);
+    return at_end(contents);
+}
+
+bool reads_primes(const uint8_t *list, size_t len, struct pkcs1_other_prime *primes, size_t room, size_t *count) {
+    struct octets left = {list, len};
+    for (*count = 0; left.left > 0; ++*count) {
+        struct pkcs1_other_prime read;
+        if (other_prime(&left, &read) != PKCS1_OK)
+            return false;
+        if (*count < room)
+            primes[*count] = read;
+    }
+    return true;
 }
 
 /* RFC 8017 A.1.2 */
@@ -158,6 +50,7 @@ static uint32_t private_key(struct octets from, union value *v) {
     bool listed = begins_with(contents, 0x30);
     if (listed)
         TRY(tagged(&contents, 0x30, &list));
+    v->priv.listed = all(list);
     for (key->other_primes = 0; list.left > 0; key->other_primes++) {
         struct pkcs1_other_prime other;
         TRY(other_prime(&list, &other));
@@ -166,8 +59,8 @@ static uint32_t private_key(struct octets from, union value *v) {
     }
     if (version != listed || (listed && key->other_primes == 0))
         return PKCS1_VALUE;
-    TRY(end(contents));
-    return end(from);
+    TRY(at_end(contents));
+    return at_end(from);
 }
 
 /* The contents of an AlgorithmIdentifier (RFC 5280 4.1.1.2). */
@@ -179,7 +72,7 @@ static uint32_t algorithm_in(struct octets contents, struct pkcs1_algorithm *rea
     if (read->has_parameters)
         TRY(any(&contents, &read->tag, &parameters));
     read->parameters = all(parameters);
-    return end(contents);
+    return at_end(contents);
 }
 
 static uint32_t algorithm(struct octets *from, struct pkcs1_algorithm *read) {
@@ -205,8 +98,8 @@ static uint32_t container(struct octets from, union value *v) {
     if (info->has_attributes)
         TRY(tagged(&contents, 0xa0, &attributes));
     info->attributes = all(attributes);
-    TRY(end(contents));
-    TRY(end(from));
+    TRY(at_end(contents));
+    TRY(at_end(from));
     if (of.oid.len != 9 || memcmp(of.oid.data, "\x2a\x86\x48\x86\xf7\x0d\1\1\1", 9) != 0)
         return PKCS1_OID_UNKNOWN;
     if (!of.has_parameters)
@@ -224,7 +117,7 @@ static uint32_t mask_gen(struct octets *from, struct pkcs1_mask_gen *read) {
     read->has_hash = contents.left > 0;
     if (read->has_hash)
         TRY(algorithm(&contents, &read->hash));
-    return end(contents);
+    return at_end(contents);
 }
 
 static bool same(struct pkcs1_bytes left, struct pkcs1_bytes right) {
@@ -237,7 +130,8 @@ static bool same_algorithm(const struct pkcs1_algorithm *left, const struct pkcs
 }
 
 static bool same_mask_gen(const struct pkcs1_mask_gen *left, const struct pkcs1_mask_gen *right) {
-    return same(left->oid, right->oid) && left->has_hash == right->has_hash && same_algorithm(&left->hash, &right->hash);
+    return same(left->oid, right->oid) && left->has_hash == right->has_hash &&
+           same_algorithm(&left->hash, &right->hash);
 }
 
 /* Opens the field with this tag, if it comes next. */
@@ -255,13 +149,13 @@ static uint32_t hash_and_mask(struct octets *from, struct pkcs1_algorithm *hash,
     TRY(field(from, 0xa0, &contents));
     if (contents.at != NULL) {
         TRY(algorithm(&contents, hash));
-        TRY(end(contents));
+        TRY(at_end(contents));
         *written |= same_algorithm(hash, &sha1);
     }
     TRY(field(from, 0xa1, &contents));
     if (contents.at != NULL) {
         TRY(mask_gen(&contents, mask));
-        TRY(end(contents));
+        TRY(at_end(contents));
         *written |= same_mask_gen(mask, &mgf1);
     }
     return PKCS1_OK;
@@ -275,7 +169,7 @@ static uint32_t pss(struct octets contents, struct pkcs1_pss_params *params, boo
     TRY(field(&contents, 0xa2, &inner));
     if (inner.at != NULL) {
         TRY(octet(&inner, &params->salt_len));
-        TRY(end(inner));
+        TRY(at_end(inner));
         *written |= params->salt_len == 20;
     }
     TRY(field(&contents, 0xa3, &inner));
@@ -283,10 +177,10 @@ static uint32_t pss(struct octets contents, struct pkcs1_pss_params *params, boo
         TRY(octet(&inner, &params->trailer_field));
         if (params->trailer_field != 1)
             return PKCS1_VALUE;
-        TRY(end(inner));
+        TRY(at_end(inner));
         *written = true;
     }
-    return end(contents);
+    return at_end(contents);
 }
 
 /* RFC 8017 A.2.1 */
@@ -298,10 +192,10 @@ static uint32_t oaep(struct octets contents, struct pkcs1_oaep_params *params, b
     TRY(field(&contents, 0xa2, &inner));
     if (inner.at != NULL) {
         TRY(algorithm(&inner, &params->p_source));
-        TRY(end(inner));
+        TRY(at_end(inner));
         *written |= same_algorithm(&params->p_source, &no_label);
     }
-    return end(contents);
+    return at_end(contents);
 }
 
 /* Parameters, or an AlgorithmIdentifier with them. */
@@ -312,7 +206,7 @@ static uint32_t parameters(const char *kind, struct octets from, union value *v)
     if (strstr(kind, "-alg") != NULL) {
         struct pkcs1_algorithm of;
         TRY(algorithm_in(contents, &of));
-        TRY(end(from));
+        TRY(at_end(from));
         if (!same(of.oid, is_pss ? pkcs1_oid_rsassa_pss : pkcs1_oid_rsaes_oaep))
             return PKCS1_OID_UNKNOWN;
         if (!of.has_parameters)
@@ -323,7 +217,7 @@ static uint32_t parameters(const char *kind, struct octets from, union value *v)
         contents.left = of.parameters.len;
     }
     TRY(is_pss ? pss(contents, &v->pss, &written) : oaep(contents, &v->oaep, &written));
-    TRY(end(from));
+    TRY(at_end(from));
     return written && strstr(kind, "-strict") != NULL ? PKCS1_NONCANONICAL : PKCS1_OK;
 }
 

@@ -1,7 +1,9 @@
 #!/usr/bin/env bash
-# run.sh [SECONDS [OUT]]: fuzzes the decoders of what `make` left in OUT for so long, a minute unless said, from the rows
-# of ffi/tests/statuses and the keys in ffi/tests/keys, beside a second reader. It needs clang with libFuzzer, and
-# python3. With 0 seconds the rows and keys are tried alone.
+# run.sh [SECONDS [OUT]]: watches the proved calls in what `make` left in OUT, under the calls of pkcs1.h: each time that
+# one is called, each clause of ffi/proof/pkcs1.acsl.h is looked at, beside a second reader and writer. The C tests are
+# run, then the decoders are fuzzed for so long, a minute unless said, from the rows of ffi/tests/statuses and the keys
+# in ffi/tests/keys. It needs clang with libFuzzer, and python3. With 0 seconds the rows and keys are tried alone.
+# ACSL: other contracts, which are looked at instead.
 set -eu
 cd "$(dirname "$0")/../.."
 seconds=${1:-60} out=${2:-out}
@@ -10,7 +12,7 @@ trap 'rm -rf "$room"' EXIT
 mkdir "$room/rows" "$room/found"
 python3 - "$room/rows" << 'END'
 import glob, re, sys
-kinds = re.findall(r'"([a-z0-9-]+)"', re.search(r"kinds\[\] = \{(.*?)\}", open("ffi/fuzz/fuzz.c").read(), re.S)[1])
+kinds = re.findall(r'"([a-z0-9-]+)"', re.search(r"kinds\[KINDS\] = \{(.*?)\}", open("ffi/fuzz/reference.c").read(), re.S)[1])
 rows = [line.split()[:2] for line in open("ffi/tests/statuses") if line[0] not in "#\n"]
 inputs = [(kinds.index(kind), b"" if der == "-" else bytes.fromhex(der)) for kind, der in rows]
 for path in glob.glob("ffi/tests/keys/*.der"):
@@ -18,8 +20,22 @@ for path in glob.glob("ffi/tests/keys/*.der"):
 for i, (kind, der) in enumerate(inputs):
     open(f"{sys.argv[1]}/{i}", "wb").write(bytes([kind]) + der)
 END
-clang -std=c99 -O1 -g -Wall -Wextra -Werror -pedantic -fsanitize=fuzzer,address,undefined -fno-sanitize-recover=all \
-    -Iffi/include -Iffi/c ffi/fuzz/fuzz.c ffi/fuzz/reference.c ffi/c/rows.c "$out/libpkcs1.a" -o "$room/fuzz"
+ffi/seam/seam.py "${ACSL:-ffi/proof/pkcs1.acsl.h}" ffi/include/pkcs1.h > "$room/seam.c"
+mapfile -t wraps < <(sed -n 's/^[a-z0-9_]* __real_\(pkcs1_c_[a-z_]*\)(.*;$/-Wl,--wrap=\1/p' "$room/seam.c")
+# build PROGRAM FLAG.. SOURCE..: links it with the proved calls, which are watched.
+build() {
+    clang -std=gnu11 -O1 -g -Wall -Wextra -Werror -Wno-unused-function -Wno-unused-parameter -DWATCHED \
+        -fsanitize="$2" -fno-sanitize-recover=all -Iffi/include -Iffi/c -Iffi/proof -Iffi/fuzz -Iffi/seam "${@:3}" \
+        "$room/seam.c" ffi/seam/{terms,meaning,writer}.c ffi/fuzz/{reference,elements,compare}.c ffi/c/rows.c \
+        "$out"/{calls,proved}.o "${wraps[@]}" -o "$room/$1"
+}
+build test address,undefined ffi/c/{test,large}.c &
+build fuzz fuzzer,address,undefined ffi/fuzz/fuzz.c
+wait $!
+"$room/test" ffi/tests/statuses > "$room/log" 2>&1 || {
+    tail -n 40 "$room/log" >&2
+    exit 1
+}
 limits=(-max_total_time="$seconds")
 [ "$seconds" != 0 ] || limits=(-runs=0)
 "$room/fuzz" "${limits[@]}" -max_len=2000 -artifact_prefix="$room/found/" "$room/found" "$room/rows" > "$room/log" 2>&1 || {

@@ -54,7 +54,7 @@ def wanted(words, names):
             atoms.add(f"\\valid({place})" if mut else f"\\valid_read({place})")
         if of in NAMES:
             atoms.add(f"ok_{NAMES[of]}({given})")
-            octets += [] if mut else [f"apart_{NAMES[of]}({given},out,room,len)"]
+            octets += [] if mut else [f"ok_apart_{NAMES[of]}({given},out,room,len)"]
     if names:
         raise ValueError
     return atoms, mutable, places, octets
@@ -62,7 +62,7 @@ def wanted(words, names):
 
 def differences(contract, words, names):
     given = {it for clause in re.findall(r"requires (.*?);", contract) for it in split(clause, "&&")}
-    apart = {it for it in given if it.startswith(("\\separated", "apart_"))}
+    apart = {it for it in given if it.startswith(("\\separated", "ok_apart_"))}
     pairs = {frozenset((a, b)) for it in apart if it[0] == "\\" for l in [split(it[11:-1], ",")] for a in l for b in l}
     try:
         atoms, mutable, places, octets = wanted(words, names)
@@ -81,7 +81,7 @@ def differences(contract, words, names):
                 yield f"doesn't require {it}"
 
 
-acsl = expanded(f"{TOP}/ffi/proof/pkcs1.acsl.h")
+acsl = expanded(sys.argv[1] if len(sys.argv) > 1 else f"{TOP}/ffi/proof/pkcs1.acsl.h")
 source = "\n".join(open(it, encoding="utf-8").read() for it in sorted(glob.glob(f"{TOP}/crates/pkcs1_c/src/*.rt")))
 exports = re.findall(EXPORT, source, re.S)
 wrong = 0

@@ -1,12 +1,12 @@
 /* What the proved calls of pkcs1_c.h require and promise, and what those of pkcs1.h do, for ffi/prove.sh. A call of
- * pkcs1.h has the contract of the proved call, but takes what its head comment allows. A clause is named as the clause
- * of the Rattle contract that says the same. These aren't in Rattle: `in`, `key_in` and `placed_in`, which its types
- * say, and `not_empty`, which follows from `ok`. check_requires.py compares what is required of the proved calls here
- * with the types of their Rattle signatures. */
+ * pkcs1.h has the contract of the proved call, but takes what its head comment allows. check_requires.py compares what
+ * is required of the proved calls here with the types of their Rattle signatures, check_ensures.py what is promised with
+ * the Rattle clauses of the same names. ffi/seam makes of it what looks at each clause when one of them is called. */
 #include <stddef.h>
 #include <stdint.h>
 #define char uint8_t
 #include "pkcs1_c.h"
+#include "kinds.h"
 
 /* ---- Octets ---- */
 /*@ axiomatic Octets {
@@ -29,15 +29,17 @@
 
 /* ---- Structs ----
  * `ok`: the struct is as pkcs1_c.h asks. `given`: it is as pkcs1.h asks. `made`: `m` is the copy of `s` that is passed
- * on. `apart`: its octets are apart from `out` and `len`. `in`: they lie in the input, or are a default. `tidy`: what
- * is behind a false flag is empty. `seen`: the value that it holds. */
+ * on. `ok_apart`: its octets are apart from `out` and `len`. `given_apart`: those that are read are. `in`: they lie in
+ * the input, or are a default. `tidy`: what is behind a false flag is empty. `seen`: the value that it holds. */
 
 /*@ predicate ok_bytes{L}(struct pkcs1_bytes s) = ok(s.data, s.len);
   @ predicate given_bytes{L}(struct pkcs1_bytes s) = given(s.data, s.len);
   @ predicate made_bytes{L}(struct pkcs1_bytes m, struct pkcs1_bytes s) =
   @   m.len == s.len && (s.len != 0 ==> m.data == s.data);
-  @ predicate apart_bytes{L}(struct pkcs1_bytes s, uint8_t *out, integer room, size_t *len) =
+  @ predicate ok_apart_bytes{L}(struct pkcs1_bytes s, uint8_t *out, integer room, size_t *len) =
   @   \separated(s.data + (0 .. s.len - 1), out + (0 .. room - 1)) && \separated(s.data + (0 .. s.len - 1), len);
+  @ predicate given_apart_bytes{L}(struct pkcs1_bytes s, uint8_t *out, integer room, size_t *len) =
+  @   ok_apart_bytes(s, out, room, len);
   @ predicate part_of{L}(struct pkcs1_bytes s, uint8_t *der, integer der_len) =
   @   s.data != \null && \exists integer i; 0 <= i && i + s.len <= der_len && s.data == der + i;
   @ predicate bytes_in{L}(struct pkcs1_bytes s, uint8_t *der, integer der_len) =
@@ -48,19 +50,21 @@
 #define OK(type, field) ok_##type(s.field)
 #define GIVEN(type, field) given_##type(s.field)
 #define MADE(type, field) made_##type(m.field, s.field)
-#define APART(type, field) apart_##type(s.field, out, room, len)
+#define OK_APART(type, field) ok_apart_##type(s.field, out, room, len)
+#define GIVEN_APART(type, field) given_apart_##type(s.field, out, room, len)
 #define IN(type, field) type##_in(s.field, der, der_len)
 #define TIDY(type, field) tidy_##type(s.field)
-#define ALL(name, type, ok, given, made, apart, in, tidy)                                                              \
+#define ALL(name, type, ok, given, made, apart, given_apart, in, tidy)                                                 \
     predicate ok_##name{L}(struct type s) = ok;                                                                        \
     predicate given_##name{L}(struct type s) = given;                                                                  \
     predicate made_##name{L}(struct type m, struct type s) = made;                                                     \
-    predicate apart_##name{L}(struct type s, uint8_t *out, integer room, size_t *len) = apart;                         \
+    predicate ok_apart_##name{L}(struct type s, uint8_t *out, integer room, size_t *len) = apart;                      \
+    predicate given_apart_##name{L}(struct type s, uint8_t *out, integer room, size_t *len) = given_apart;             \
     predicate name##_in{L}(struct type s, uint8_t *der, integer der_len) = in;                                         \
     predicate tidy_##name{L}(struct type s) = tidy;
 /* A struct of these fields. SAME: which others a copy has too. */
 #define FIELDS(name, type, EACH, SAME)                                                                                 \
-    ALL(name, type, EACH(OK), EACH(GIVEN), EACH(MADE) && SAME, EACH(APART), EACH(IN), EACH(TIDY))
+    ALL(name, type, EACH(OK), EACH(GIVEN), EACH(MADE) && SAME, EACH(OK_APART), EACH(GIVEN_APART), EACH(IN), EACH(TIDY))
 /* A struct of the octets `first`, a flag and the field that it is for. EMPTY: that this field is empty in `e`. SAME:
  * what a copy has too if the flag is set. */
 #define FLAGGED(name, type, first, flag, of, field, EMPTY, SAME)                                                       \
@@ -70,7 +74,8 @@
         given_bytes(s.first) && (s.flag != 0 ==> given_##of(s.field)),                                                 \
         made_bytes(m.first, s.first) && (s.flag != 0 ? m.flag == 1 && made_##of(m.field, s.field) && SAME              \
                                                      : m.flag == 0 && empty_##name(m)),                                \
-        apart_bytes(s.first, out, room, len) && (s.flag != 0 ==> apart_##of(s.field, out, room, len)),                 \
+        ok_apart_bytes(s.first, out, room, len) && ok_apart_##of(s.field, out, room, len),                             \
+        given_apart_bytes(s.first, out, room, len) && (s.flag != 0 ==> given_apart_##of(s.field, out, room, len)),     \
         bytes_in(s.first, der, der_len) && of##_in(s.field, der, der_len),                                             \
         tidy_##of(s.field) && (s.flag == 0 ==> empty_##name(s)))
 #define NUMBERS_OF_KEY(F)                                                                                              \
@@ -87,7 +92,7 @@
   @ FLAGGED(algorithm, pkcs1_algorithm, oid, has_parameters, bytes, parameters,
   @         e.tag == 0 && e.parameters.len == 0, m.tag == s.tag)
   @ FLAGGED(mask_gen, pkcs1_mask_gen, oid, has_hash, algorithm, hash,
-  @         e.hash.oid.len == 0 && e.hash.has_parameters == 0, \true)
+  @         e.hash.oid.len == 0 && e.hash.has_parameters == 0 && empty_algorithm(e.hash), \true)
   @ FIELDS(pss, pkcs1_pss_params, OF_PSS, m.salt_len == s.salt_len && m.trailer_field == s.trailer_field)
   @ FIELDS(oaep, pkcs1_oaep_params, OF_OAEP, \true)
   @
@@ -95,8 +100,10 @@
   @   o != \null && \forall integer i; 0 <= i < n ==> ok_other(o[i]);
   @ predicate given_others{L}(struct pkcs1_other_prime *o, integer n) =
   @   (n != 0 ==> o != \null) && \forall integer i; 0 <= i < n ==> given_other(o[i]);
-  @ predicate apart_others{L}(struct pkcs1_other_prime *o, integer n, uint8_t *out, integer room, size_t *len) =
-  @   \forall integer i; 0 <= i < n ==> apart_other(o[i], out, room, len);
+  @ predicate ok_apart_others{L}(struct pkcs1_other_prime *o, integer n, uint8_t *out, integer room, size_t *len) =
+  @   \forall integer i; 0 <= i < n ==> ok_apart_other(o[i], out, room, len);
+  @ predicate given_apart_others{L}(struct pkcs1_other_prime *o, integer n, uint8_t *out, integer room, size_t *len) =
+  @   \forall integer i; 0 <= i < n ==> given_apart_other(o[i], out, room, len);
   @ predicate has_empty_number{L}(struct pkcs1_other_prime *o, integer n) = \exists integer i; 0 <= i < n &&
   @   (o[i].prime.len == 0 || o[i].exponent.len == 0 || o[i].coefficient.len == 0); */
 
@@ -143,9 +150,6 @@
   @   oaep_params(algorithm_seen(s.hash), mask_gen_seen(s.mask_gen), algorithm_seen(s.p_source)); */
 
 /* ---- What is read and written: functions of which nothing else is known ---- */
-enum kind { PUBLIC_KEY, PRIVATE_KEY, PRIVATE_KEY_INFO, PSS_PARAMS, PSS_PARAMS_STRICT, PSS_ALGORITHM,
-            PSS_ALGORITHM_STRICT, OAEP_PARAMS, OAEP_PARAMS_STRICT, OAEP_ALGORITHM, OAEP_ALGORITHM_STRICT };
-
 /*@ axiomatic Proved {
   @   logic integer status_of(integer kind, octets encoding);
   @   logic struct pkcs1_public_key public_key_of(integer kind, uint8_t *der, octets encoding);
@@ -215,7 +219,8 @@ enum kind { PUBLIC_KEY, PRIVATE_KEY, PRIVATE_KEY_INFO, PSS_PARAMS, PSS_PARAMS_ST
     ensures ok: WHEN_OK *s == name##_of(kind, der, ENCODING);                                                          \
     ensures in: WHEN_OK name##_in(*s, der, der_len);                                                                   \
     ensures tidy: WHEN_OK tidy_##name(*s);                                                                             \
-    ensures not_empty: WHEN_OK der_len > 0;                                                                            \
+    ensures ok: WHEN_OK der_len > 0;                                                                                   \
+    ensures types: WHEN_OK ok_##name(*s);                                                                              \
     ensures unchanged: UNLESS_OK *s == \old(*s)
 #define READS(is, kind, s, name)                                                                                       \
     requires is(der, der_len) && FILLED_##is(name, s) && \separated(s, der + (0 .. der_len - 1));                      \
@@ -227,13 +232,13 @@ enum kind { PUBLIC_KEY, PRIVATE_KEY, PRIVATE_KEY_INFO, PSS_PARAMS, PSS_PARAMS_ST
     ensures exact: \result == write_status(kind, \old(v), room);                                                       \
     ensures ok: WHEN_OK *len == written_len(kind, \old(v)) && *len <= room &&                                          \
         \forall integer i; 0 <= i < *len ==> out[i] == written_octet(kind, \old(v), i);                                \
-    ensures rest: WHEN_OK \forall integer i; *len <= i < room ==> out[i] == \old(out[i]);                              \
+    ensures ok: WHEN_OK \forall integer i; *len <= i < room ==> out[i] == \old(out[i]);                                \
     ensures no_room: \result == PKCS1_NO_ROOM ==> *len == written_len(kind, \old(v)) && room < *len;                   \
     ensures unchanged: UNLESS_OK \forall integer i; 0 <= i < room ==> out[i] == \old(out[i]);                          \
-    ensures unchanged_len: UNLESS_OK (\result != PKCS1_NO_ROOM ==> *len == \old(*len))
+    ensures unchanged: UNLESS_OK (\result != PKCS1_NO_ROOM ==> *len == \old(*len))
 #define WRITTEN(is, s, name)                                                                                           \
     requires \valid_read(s) && is##_##name(*s) && is##_out(out, room) && \valid(len);                                  \
-    requires \separated(s, out + (0 .. room - 1), len) && apart_##name(*s, out, room, len)
+    requires \separated(s, out + (0 .. room - 1), len) && is##_apart_##name(*s, out, room, len)
 #define ENCODES(is, kind, s, name) WRITTEN(is, s, name); WRITES(kind, name##_seen(*s))
 
 /* ---- Public keys ---- */
@@ -245,31 +250,34 @@ enum kind { PUBLIC_KEY, PRIVATE_KEY, PRIVATE_KEY_INFO, PSS_PARAMS, PSS_PARAMS_ST
 /* ---- Private keys ---- */
 /* The octets of the other primes, which the proved call lists. */
 #define LISTED(kind) \old(bytes_seen(listed_of(kind, der, octets_of(der, der_len))))
-#define COUNTS(kind) ensures count: WHEN_OK key->other_primes == count_of(LISTED(kind))
-#define LISTS(kind)                                                                                                    \
-    COUNTS(kind);                                                                                                      \
-    ensures listed: WHEN_OK *listed == listed_of(kind, der, ENCODING) && lists_primes(LISTED(kind));                   \
+#define COUNTS(kind, clause) ensures clause: WHEN_OK key->other_primes == count_of(LISTED(kind))
+#define LISTS(kind, clause)                                                                                            \
+    COUNTS(kind, clause);                                                                                              \
+    ensures clause: WHEN_OK *listed == listed_of(kind, der, ENCODING) && lists_primes(LISTED(kind));                   \
     ensures part: WHEN_OK listed->data != \null && (listed->len == 0 || part_of(*listed, der, der_len));               \
-    ensures unchanged_listed: UNLESS_OK *listed == \old(*listed)
+    ensures types: WHEN_OK ok_bytes(*listed);                                                                          \
+    ensures unchanged: UNLESS_OK *listed == \old(*listed)
 /* The primes that are encoded in `octets`, which are at `list`, are placed, as many as fit. */
 #define PLACES(when, list, list_len, octets)                                                                           \
     ensures placed: when \forall integer i; 0 <= i < others_room && i < count_of(octets) ==>                           \
         others[i] == other_of(list, octets, i);                                                                        \
     ensures placed_in: when \forall integer i; 0 <= i < others_room && i < count_of(octets) ==>                        \
         other_in(others[i], list, list_len);                                                                           \
-    ensures rest: when \forall integer i; 0 <= i < others_room && count_of(octets) <= i ==> others[i] == \old(others[i])
+    ensures placed: when                                                                                               \
+        \forall integer i; 0 <= i < others_room && count_of(octets) <= i ==> others[i] == \old(others[i])
 #define PLACES_OTHERS(kind)                                                                                            \
-    COUNTS(kind);                                                                                                      \
+    COUNTS(kind, ok);                                                                                                  \
     PLACES(WHEN_OK, listed_of(kind, der, ENCODING).data, listed_of(kind, der, ENCODING).len, LISTED(kind));            \
-    ensures unchanged_others: UNLESS_OK \forall integer i; 0 <= i < others_room ==> others[i] == \old(others[i])
+    ensures unchanged: UNLESS_OK \forall integer i; 0 <= i < others_room ==> others[i] == \old(others[i])
 /* The key in a container. */
 #define FILLS_KEY                                                                                                      \
     ensures key: WHEN_OK *key == private_key_of(PRIVATE_KEY_INFO, der, ENCODING);                                      \
+    ensures types: WHEN_OK ok_private_key(*key);                                                                       \
     ensures key_in: WHEN_OK private_key_in(*key, der, der_len);                                                        \
-    ensures unchanged_key: UNLESS_OK *key == \old(*key)
+    ensures unchanged: UNLESS_OK *key == \old(*key)
 /*@ requires ok(der, der_len) && FILLED_ok(private_key, key) && FILLED_ok(bytes, listed);
   @ requires \separated(key, listed, der + (0 .. der_len - 1)); ENDS; assigns *key, *listed;
-  @ FILLS(PRIVATE_KEY, key, private_key); LISTS(PRIVATE_KEY); */
+  @ FILLS(PRIVATE_KEY, key, private_key); LISTS(PRIVATE_KEY, ok); */
 uint32_t pkcs1_c_private_key_decode(DER_IN, PRIVATE, struct pkcs1_bytes *listed);
 /*@ requires given(der, der_len) && \valid(key) && \valid(others + (0 .. others_room - 1));
   @ requires \separated(key, others + (0 .. others_room - 1), der + (0 .. der_len - 1));
@@ -278,7 +286,7 @@ uint32_t pkcs1_c_private_key_decode(DER_IN, PRIVATE, struct pkcs1_bytes *listed)
 uint32_t pkcs1_private_key_decode(DER_IN, PRIVATE, OTHERS_OUT);
 /*@ requires ok(der, der_len) && FILLED_ok(info, info) && FILLED_ok(private_key, key) && FILLED_ok(bytes, listed);
   @ requires \separated(info, key, listed, der + (0 .. der_len - 1)); ENDS; assigns *info, *key, *listed;
-  @ FILLS(PRIVATE_KEY_INFO, info, info); FILLS_KEY; LISTS(PRIVATE_KEY_INFO); */
+  @ FILLS(PRIVATE_KEY_INFO, info, info); FILLS_KEY; LISTS(PRIVATE_KEY_INFO, key); */
 uint32_t pkcs1_c_private_key_info_decode(DER_IN, INFO, PRIVATE, struct pkcs1_bytes *listed);
 /*@ requires given(der, der_len) && \valid(info) && \valid(key) && \valid(others + (0 .. others_room - 1));
   @ requires \separated(info, key, others + (0 .. others_room - 1), der + (0 .. der_len - 1));
@@ -295,7 +303,7 @@ void pkcs1_c_other_primes(const uint8_t *listed, size_t listed_len, OTHERS_OUT);
     WRITTEN(is, key, private_key);                                                                                     \
     requires \valid_read(others + (0 .. others_len - 1)) && are##_others(others, others_len);                          \
     requires \separated(others + (0 .. others_len - 1), out + (0 .. room - 1), len);                                   \
-    requires apart_others(others, others_len, out, room, len);                                                         \
+    requires are##_apart_others(others, others_len, out, room, len);                                                   \
     WRITES(PRIVATE_KEY, with_others(private_key_seen(*key), others_seen(others, others_len)))
 /*@ ENCODES_KEY(ok, ok); */ uint32_t pkcs1_c_private_key_encode(KEY_IN, OUT);
 /*@ ENCODES_KEY(given, given); */ uint32_t pkcs1_private_key_encode(KEY_IN, OUT);
@@ -347,7 +355,9 @@ bool pkcs1_algorithm_is(const struct pkcs1_algorithm *algorithm, const struct pk
 #define LABELS(is)                                                                                                     \
     requires \valid_read(params) && is##_oaep(*params) && FILLED_##is(bytes, label) && \separated(label, params);      \
     ENDS; assigns *label;                                                                                              \
-    ensures tells: is_flag(\result) && (\result == 1 <==> \old(has_label(algorithm_seen(params->p_source))));          \
+    ensures types: is_flag(\result);                                                                                   \
+    ensures none: \result == 0 ==> !\old(has_label(algorithm_seen(params->p_source)));                                 \
+    ensures label: \result == 1 ==> \old(has_label(algorithm_seen(params->p_source)));                                 \
     ensures label: \result == 1 ==> params->p_source.has_parameters != 0 && ok_bytes(*label) &&                        \
         made_bytes(*label, params->p_source.parameters);                                                               \
     ensures unchanged: \result == 0 ==> *label == \old(*label)

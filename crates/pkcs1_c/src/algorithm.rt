@@ -159,7 +159,7 @@ pub(crate) fn have_null(hash: &Algorithm<'_>, mask_gen: &MaskGen<'_>) -> bool
 /// same (RFC 4055 2.1).
 #[unsafe(no_mangle)]
 pub extern "C" fn pkcs1_c_algorithm_is(algorithm: &Algorithm<'_>, oid: &[u8]) -> bool
-    ensures { Decides result (IsHash oid.now (algorithm_seen algorithm.now)) }
+    ensures tells { Decides result (IsHash oid.now (algorithm_seen algorithm.now)) }
 {
     let is_null = algorithm.tag == Tag::NULL.octet() && algorithm.parameters.is_empty();
     (!algorithm.has_parameters || is_null) && algorithm.oid == oid

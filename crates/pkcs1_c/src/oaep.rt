@@ -142,7 +142,7 @@ pub extern "C" fn pkcs1_c_oaep_params_encode(
 /// Like `pkcs1_c_pss_is`.
 #[unsafe(no_mangle)]
 pub extern "C" fn pkcs1_c_oaep_is(params: &OaepParams<'_>, oid: &[u8]) -> bool
-    ensures { let v = oaep_seen params.now in Decides result (UsesHash oid.now v.hash v.mask_gen) }
+    ensures tells { let v = oaep_seen params.now in Decides result (UsesHash oid.now v.hash v.mask_gen) }
 {
     uses_hash(&params.hash, &params.mask_gen, oid)
 }

@@ -126,7 +126,7 @@ fn read_prime<'a>(reader: &mut SliceReader<'a>) -> Result<OtherPrimeInfo<UintRef
 /// that are no such encoding.
 #[unsafe(no_mangle)]
 pub extern "C" fn pkcs1_c_other_primes<'a>(listed: &'a [u8], others: &mut [OtherPrime<'a>])
-    ensures { (primes : List Prime) → length listed.now ≤ limit → listed.now ≡ primes_encoded primes
+    ensures placed { (primes : List Prime) → length listed.now ≤ limit → listed.now ≡ primes_encoded primes
         → ArePlaced primes others.new × (drop (length primes) others.new ≡ drop (length primes) others.old) }
 {
     let Ok(mut reader) = SliceReader::new(listed) else {

@@ -149,7 +149,7 @@ pub extern "C" fn pkcs1_c_pss_params_encode(
 /// as `pkcs1_c_algorithm_is` has it.
 #[unsafe(no_mangle)]
 pub extern "C" fn pkcs1_c_pss_is(params: &PssParams<'_>, oid: &[u8]) -> bool
-    ensures { let v = pss_seen params.now in Decides result (UsesHash oid.now v.hash v.mask_gen) }
+    ensures tells { let v = pss_seen params.now in Decides result (UsesHash oid.now v.hash v.mask_gen) }
 {
     uses_hash(&params.hash, &params.mask_gen, oid)
 }

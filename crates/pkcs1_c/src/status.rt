@@ -121,7 +121,7 @@ fn status_octets(status: u32) -> &'static [u8]
 /// The C string that describes a status.
 #[unsafe(no_mangle)]
 pub extern "C" fn pkcs1_c_status_text(status: u32, text: &mut Bytes<'static>)
-    ensures { text.new.octets.now ≡ status_text status ++ 0 ∷ [] }
+    ensures text { text.new.octets.now ≡ status_text status ++ 0 ∷ [] }
 {
     text.octets = status_octets(status);
 }
@@ -129,7 +129,7 @@ pub extern "C" fn pkcs1_c_status_text(status: u32, text: &mut Bytes<'static>)
 /// The version of the library, as a C string.
 #[unsafe(no_mangle)]
 pub extern "C" fn pkcs1_c_version(text: &mut Bytes<'static>)
-    ensures { text.new.octets.now ≡ codes "0.8.1" ++ 0 ∷ [] }
+    ensures text { text.new.octets.now ≡ codes "0.8.1" ++ 0 ∷ [] }
 {
     text.octets = b"0.8.1\0";
 }

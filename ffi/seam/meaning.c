@@ -1,0 +1,273 @@
+/* What the words of ffi/proof/pkcs1.acsl.h mean of which nothing else is known there. What is read is what the proved
+ * call reads of a copy of the octets that lies elsewhere, in another struct, with the places that it points to moved back.
+ * It must be what the second reader reads. What is written is what the second writer writes. */
+#include "reference.h"
+#include "terms.h"
+
+#define READS(call, type) uint32_t __real_##call(const uint8_t *der, size_t der_len, struct type *filled)
+READS(pkcs1_c_public_key_decode, pkcs1_public_key);
+READS(pkcs1_c_pss_params_decode, pkcs1_pss_params);
+READS(pkcs1_c_pss_params_decode_strict, pkcs1_pss_params);
+READS(pkcs1_c_pss_algorithm_decode, pkcs1_pss_params);
+READS(pkcs1_c_pss_algorithm_decode_strict, pkcs1_pss_params);
+READS(pkcs1_c_oaep_params_decode, pkcs1_oaep_params);
+READS(pkcs1_c_oaep_params_decode_strict, pkcs1_oaep_params);
+READS(pkcs1_c_oaep_algorithm_decode, pkcs1_oaep_params);
+READS(pkcs1_c_oaep_algorithm_decode_strict, pkcs1_oaep_params);
+uint32_t __real_pkcs1_c_private_key_decode(const uint8_t *der, size_t der_len, struct pkcs1_private_key *key,
+                                           struct pkcs1_bytes *listed);
+uint32_t __real_pkcs1_c_private_key_info_decode(const uint8_t *der, size_t der_len, struct pkcs1_private_key_info *info,
+                                                struct pkcs1_private_key *key, struct pkcs1_bytes *listed);
+void __real_pkcs1_c_status_text(uint32_t status, struct pkcs1_bytes *text);
+void __real_pkcs1_c_version(struct pkcs1_bytes *text);
+
+
+octets octets_of(const uint8_t *data, integer len) {
+    return (octets){copy(data, len > 0 ? (size_t)len : 0), len > 0 ? (size_t)len : 0};
+}
+
+bool of_library(const uint8_t *data, integer len) {
+    extern const char __executable_start, edata;
+    return (const char *)data >= &__executable_start && (const char *)data + (size_t)len <= &edata;
+}
+
+/* ---- Reading ---- */
+
+integer status_of(integer kind, octets encoding) {
+    union value read;
+    return reference(kinds[kind], encoding.data, encoding.len, &read);
+}
+
+/* Where it is in the input, if it is in the copy. */
+static void move(struct pkcs1_bytes *bytes, octets from, const uint8_t *to) {
+    uintptr_t before = (uintptr_t)bytes->data - (uintptr_t)from.data;
+    if (before <= from.len)
+        bytes->data = (const uint8_t *)((uintptr_t)to + before);
+}
+
+static void move_numbers(struct pkcs1_bytes *numbers, size_t count, octets from, const uint8_t *to) {
+    for (size_t i = 0; i < count; i++)
+        move(&numbers[i], from, to);
+}
+
+static void move_algorithm(struct pkcs1_algorithm *algorithm, octets from, const uint8_t *to) {
+    move(&algorithm->oid, from, to);
+    move(&algorithm->parameters, from, to);
+}
+
+static void move_mask_gen(struct pkcs1_mask_gen *mask_gen, octets from, const uint8_t *to) {
+    move(&mask_gen->oid, from, to);
+    move_algorithm(&mask_gen->hash, from, to);
+}
+
+static void agree(integer kind, const union value *read, octets encoding) {
+    union value want;
+    struct pkcs1_bytes input = {encoding.data, encoding.len};
+    memset(&want, 0, sizeof want);
+    HOLDS("the second reader", reference(kinds[kind], encoding.data, encoding.len, &want) == PKCS1_OK);
+    HOLDS("the second reader", same_value(kinds[kind], read, &want, input));
+}
+
+static struct pkcs1_algorithm another_algorithm(void) {
+    struct pkcs1_algorithm made = {another, true, 9, another};
+    return made;
+}
+
+static struct pkcs1_mask_gen another_mask_gen(void) {
+    struct pkcs1_mask_gen made = {another, true, another_algorithm()};
+    return made;
+}
+
+struct pkcs1_public_key public_key_of(integer kind, const uint8_t *der, octets encoding) {
+    union value read;
+    memset(&read, 0, sizeof read);
+    read.key.modulus = read.key.public_exponent = another;
+    if (__real_pkcs1_c_public_key_decode(encoding.data, encoding.len, &read.key) == PKCS1_OK)
+        agree(kind, &read, encoding);
+    move_numbers(&read.key.modulus, 2, encoding, der);
+    return read.key;
+}
+
+/* A key or a container, with all that is filled. */
+static union value private_of(integer kind, const uint8_t *der, octets encoding) {
+    union value read;
+    memset(&read, 0, sizeof read);
+    for (size_t i = 0; i < 8; i++)
+        (&read.priv.key.modulus)[i] = another;
+    read.priv.key.other_primes = 77;
+    read.priv.listed = read.priv.info.private_key = read.priv.info.attributes = another;
+    read.priv.info.has_attributes = true;
+    uint32_t status = kind == PRIVATE_KEY
+        ? __real_pkcs1_c_private_key_decode(encoding.data, encoding.len, &read.priv.key, &read.priv.listed)
+        : __real_pkcs1_c_private_key_info_decode(encoding.data, encoding.len, &read.priv.info, &read.priv.key,
+                                                 &read.priv.listed);
+    size_t count;
+    if (status == PKCS1_OK)
+        reads_primes(read.priv.listed.data, read.priv.listed.len, read.priv.others, LISTED, &count);
+    if (status == PKCS1_OK)
+        agree(kind, &read, encoding);
+    move_numbers(&read.priv.key.modulus, 8, encoding, der);
+    move(&read.priv.listed, encoding, der);
+    move(&read.priv.info.private_key, encoding, der);
+    move(&read.priv.info.attributes, encoding, der);
+    return read;
+}
+
+struct pkcs1_private_key private_key_of(integer kind, const uint8_t *der, octets encoding) {
+    return private_of(kind, der, encoding).priv.key;
+}
+
+struct pkcs1_private_key_info info_of(integer kind, const uint8_t *der, octets encoding) {
+    return private_of(kind, der, encoding).priv.info;
+}
+
+struct pkcs1_bytes listed_of(integer kind, const uint8_t *der, octets encoding) {
+    return private_of(kind, der, encoding).priv.listed;
+}
+
+struct pkcs1_pss_params pss_of(integer kind, const uint8_t *der, octets encoding) {
+    uint32_t (*read_as[])(const uint8_t *, size_t, struct pkcs1_pss_params *) = {
+        __real_pkcs1_c_pss_params_decode, __real_pkcs1_c_pss_params_decode_strict, __real_pkcs1_c_pss_algorithm_decode,
+        __real_pkcs1_c_pss_algorithm_decode_strict};
+    union value read;
+    memset(&read, 0, sizeof read);
+    read.pss = (struct pkcs1_pss_params){another_algorithm(), another_mask_gen(), 77, 77};
+    if (read_as[kind - PSS_PARAMS](encoding.data, encoding.len, &read.pss) == PKCS1_OK)
+        agree(kind, &read, encoding);
+    move_algorithm(&read.pss.hash, encoding, der);
+    move_mask_gen(&read.pss.mask_gen, encoding, der);
+    return read.pss;
+}
+
+struct pkcs1_oaep_params oaep_of(integer kind, const uint8_t *der, octets encoding) {
+    uint32_t (*read_as[])(const uint8_t *, size_t, struct pkcs1_oaep_params *) = {
+        __real_pkcs1_c_oaep_params_decode, __real_pkcs1_c_oaep_params_decode_strict,
+        __real_pkcs1_c_oaep_algorithm_decode, __real_pkcs1_c_oaep_algorithm_decode_strict};
+    union value read;
+    memset(&read, 0, sizeof read);
+    read.oaep = (struct pkcs1_oaep_params){another_algorithm(), another_mask_gen(), another_algorithm()};
+    if (read_as[kind - OAEP_PARAMS](encoding.data, encoding.len, &read.oaep) == PKCS1_OK)
+        agree(kind, &read, encoding);
+    move_algorithm(&read.oaep.hash, encoding, der);
+    move_mask_gen(&read.oaep.mask_gen, encoding, der);
+    move_algorithm(&read.oaep.p_source, encoding, der);
+    return read.oaep;
+}
+
+/* The primes that octets encode: those that were asked for last are kept until the call ends. */
+static const struct primes {
+    unsigned long call;
+    octets listed;
+    bool are_primes;
+    size_t count;
+    struct pkcs1_other_prime *primes;
+} *primes_in(octets listed) {
+    static struct primes last;
+    if (last.call == calls && last.listed.data == listed.data && last.listed.len == listed.len)
+        return &last;
+    last = (struct primes){calls, listed, false, 0, NULL};
+    last.are_primes = reads_primes(listed.data, listed.len, NULL, 0, &last.count);
+    last.primes = taken(last.count * sizeof *last.primes);
+    reads_primes(listed.data, listed.len, last.primes, last.count, &last.count);
+    return &last;
+}
+
+integer count_of(octets listed) {
+    return primes_in(listed)->are_primes ? (integer)primes_in(listed)->count : 0;
+}
+
+bool lists_primes(octets listed) {
+    return primes_in(listed)->are_primes;
+}
+
+struct pkcs1_other_prime other_of(const uint8_t *listed, octets encodings, integer i) {
+    struct pkcs1_other_prime prime = {another, another, another};
+    if (i < count_of(encodings))
+        prime = primes_in(encodings)->primes[i];
+    move_numbers(&prime.prime, 3, encodings, listed);
+    return prime;
+}
+
+/* ---- Writing ---- */
+
+integer write_status(integer kind, value v, integer room) {
+    struct written made = write_value(kind, v);
+    return made.status == PKCS1_OK && room < (integer)made.octets.len ? PKCS1_NO_ROOM : made.status;
+}
+
+integer written_len(integer kind, value v) {
+    return (integer)write_value(kind, v).octets.len;
+}
+
+integer written_octet(integer kind, value v, integer i) {
+    static value last;
+    static unsigned long call;
+    static struct written made;
+    if (last != v || call != calls)
+        made = write_value(kind, v);
+    last = v;
+    call = calls;
+    return made.octets.data[(size_t)i];
+}
+
+/* ---- Questions ---- */
+
+integer bit_len_of(octets number) {
+    while (number.len > 0 && number.data[0] == 0)
+        number.data++, number.len--;
+    integer bits = (integer)number.len * 8;
+    for (unsigned octet = 0x80; number.len > 0 && octet > number.data[0]; octet >>= 1)
+        bits--;
+    return number.len > 0xffffffff ? (integer)UINT64_MAX : bits;
+}
+
+static bool is_with(value algorithm) {
+    return algorithm->count > 1;
+}
+
+static bool is(octets oid, struct pkcs1_bytes constant) {
+    return equal_octets(oid, (octets){constant.data, constant.len});
+}
+
+bool is_hash(value algorithm, octets oid) {
+    const struct part *parts = algorithm->parts;
+    return equal_octets(parts[0].octets, oid) &&
+           (!is_with(algorithm) || (parts[1].integer == 5 && parts[2].octets.len == 0));
+}
+
+bool uses_hash(value params, octets oid) {
+    value mask_gen = params->parts[1].value;
+    return is_hash(params->parts[0].value, oid) && is(mask_gen->parts[0].octets, pkcs1_oid_mgf1) && is_with(mask_gen) &&
+           is_hash(mask_gen->parts[1].value, oid);
+}
+
+bool has_label(value p_source) {
+    return is(p_source->parts[0].octets, pkcs1_oid_p_specified) && is_with(p_source) && p_source->parts[1].integer == 4;
+}
+
+const uint8_t *text_of(integer status) {
+    struct pkcs1_bytes text = another;
+    __real_pkcs1_c_status_text((uint32_t)status, &text);
+    return text.data;
+}
+
+const uint8_t *version_text(void) {
+    struct pkcs1_bytes text = another;
+    __real_pkcs1_c_version(&text);
+    return text.data;
+}
+
+/* ---- Other primes ---- */
+
+static struct part seen(struct pkcs1_bytes number) {
+    return part_of_octets(octets_of(number.data, (integer)number.len));
+}
+
+value others_seen(const struct pkcs1_other_prime *o, integer n) {
+    struct part *others = taken((size_t)(n > 0 ? n : 0) * sizeof *others);
+    for (integer i = 0; i < n; i++) {
+        struct part numbers[] = {seen(o[i].prime), seen(o[i].exponent), seen(o[i].coefficient)};
+        others[i] = part_of_value(make("other_prime", 3, numbers));
+    }
+    return make("others", n > 0 ? (size_t)n : 0, others);
+}

@@ -1,0 +1,78 @@
+#!/usr/bin/env python3
+"""Plants each mistake of the file `mistakes` in a copy of ffi/proof/pkcs1.acsl.h. Each must be refused: by
+ffi/proof/check_requires.py or ffi/seam/clauses.py, which read it, or by calls that are watched by what is made of it.
+Prints by which, and at which clause. The status is 1 if one passed.
+
+    mistakes.py OUT     OUT: what `make` left there"""
+import os
+import re
+import subprocess
+import sys
+import tempfile
+from concurrent.futures import ThreadPoolExecutor
+
+HERE = os.path.dirname(os.path.abspath(__file__))
+TOP = os.path.normpath(f"{HERE}/../..")
+OUT = os.path.abspath(sys.argv[1])
+FLAGS = ["-std=gnu11", "-w", "-DWATCHED", *(f"-I{TOP}/ffi/{it}" for it in ("include", "c", "proof", "fuzz", "seam"))]
+SOURCES = [f"{TOP}/ffi/{it}.c" for it in (
+    "seam/terms", "seam/meaning", "seam/writer", "fuzz/reference", "fuzz/elements", "fuzz/compare", "c/rows", "c/large",
+    "c/test")]
+CHECKS = ["proof/check_requires.py"]
+
+
+def mistakes():
+    """What each says, the text there and what stands in its place."""
+    text = re.sub(r"^#.*\n", "", open(f"{HERE}/mistakes", encoding="utf-8").read(), flags=re.M)
+    for what, *lines in (block.split("\n") for block in text.strip().split("\n\n")):
+        yield what, *("\n".join(it[1:] for it in lines if it[0] == sign) for sign in "-+")
+
+
+def plant(whole, what, old, new):
+    if whole.count(old) != 1:
+        sys.exit(f"{what}: the text is there {whole.count(old)} times: {old}")
+    return whole.replace(old, new)
+
+
+def run(*words):
+    return subprocess.run(words, capture_output=True, text=True, cwd=TOP)
+
+
+def refused_by(text, room, objects):
+    """What refuses these contracts, or None."""
+    os.makedirs(room)
+    acsl, made, test = f"{room}/pkcs1.acsl.h", f"{room}/seam.c", f"{room}/test"
+    with open(acsl, "w", encoding="utf-8") as it:
+        it.write(text)
+    for check in CHECKS:
+        found = run(f"{TOP}/ffi/{check}", acsl)
+        if found.returncode:
+            return f"{check}: {found.stdout.splitlines()[0]}"
+    with open(made, "w", encoding="utf-8") as it:
+        it.write(run(f"{HERE}/seam.py", acsl, f"{TOP}/ffi/include/pkcs1.h").stdout)
+    wraps = [f"-Wl,--wrap={it}" for it in re.findall(r"^\w+ __real_(\w+)\(.*;$", open(made).read(), re.M)]
+    built = run("gcc", "-O0", *FLAGS, made, *objects, *wraps, "-o", test)
+    if built.returncode:
+        return f"seam.py: {built.stderr.splitlines()[-1] if built.stderr else 'no program'}"
+    found = run(test, f"{TOP}/ffi/tests/statuses")
+    told = found.stderr.splitlines() or [f"the test ends with {found.returncode}"]
+    return told[-1] if found.returncode else None
+
+
+def main():
+    whole = open(f"{TOP}/ffi/proof/pkcs1.acsl.h", encoding="utf-8").read()
+    planted = [(what, plant(whole, what, old, new)) for what, old, new in mistakes()]
+    with tempfile.TemporaryDirectory() as room, ThreadPoolExecutor(os.cpu_count()) as pool:
+        subprocess.run(["gcc", "-O1", *FLAGS, "-c", *SOURCES], cwd=room, check=True)
+        objects = [f"{room}/{it}" for it in os.listdir(room)] + [f"{OUT}/calls.o", f"{OUT}/proved.o"]
+        if refused_by(whole, f"{room}/none", objects):
+            sys.exit("without a mistake it is refused")
+        texts = [(text, f"{room}/{i}", objects) for i, (_, text) in enumerate(planted)]
+        refused = list(pool.map(lambda it: refused_by(*it), texts))
+    for (what, _), by in zip(planted, refused):
+        print(f"{'refused' if by else 'PASSED'}: {what}: {by}")
+    print(f"{len(planted)} mistakes planted, {refused.count(None)} passed")
+    sys.exit(None in refused)
+
+
+main()
