@@ -1,6 +1,7 @@
 #!/usr/bin/env bash
 # Proves ffi/c/pkcs1.c with Frama-C: that each call of pkcs1.h does what ffi/proof/pkcs1.acsl.h says, over the proved
-# calls. Names each goal that isn't proved, says how many are, and fails if one isn't.
+# calls, as gcc reads it for x86-64 and for x86 of 32 bits. Names each goal that isn't proved, says how many are, and
+# fails if one isn't.
 #
 #     ffi/prove.sh [--must] [WORD..]    WORDs go to Frama-C, such as -wp-fct NAME: then only their goals are proved
 #
@@ -36,11 +37,11 @@ why3 config detect > "$room/detected" 2>&1
 
 # frama LOG WORD..: Frama-C on the file proof.c in the folder $source. A caller may pass the constants that are named:
 # they lie in the same memory as what callers pass.
-source=.
+source=. machine=gcc_x86_64
 frama() {
     local log=$1
     shift
-    frama-c -machdep gcc_x86_64 -no-frama-c-stdlib \
+    frama-c -machdep "$machine" -no-frama-c-stdlib \
         -cpp-extra-args="-nostdinc -I$source/ffi/proof/include -I$source/ffi/include" "$source/ffi/proof/proof.c" \
         -wp -wp-rte -wp-par "$at_once" -wp-alias-vars pkcs1_oid_mgf1,pkcs1_oid_p_specified "$@" > "$log" 2>&1 || {
         cat "$log" >&2
@@ -66,16 +67,28 @@ goals() {
     shift
     sed -nE "s/^\[wp\] \[[^]]*\] (Goal|Smoke-test) ([^ ]+)$pattern/\2/p" "$@" | sort -u
 }
-logs=("$room/calls")
+logs=()
+: > "$room/proved" > "$room/open"
+# judge LOG: adds the names of its goals to those that are proved, or to those that are open.
+judge() {
+    goals ' : Valid.*' "$1" > "$1.proved"
+    goals '.*' "$1" | comm -23 - "$1.proved" >> "$room/open"
+    cat "$1.proved" >> "$room/proved"
+    logs+=("$1")
+}
 if [ $# -gt 0 ]; then
     prove "$room/calls" -wp-no-init-const "$@"
+    judge "$room/calls"
 else
     prove "$room/calls" -wp-no-init-const -wp-skip-fct identifiers
-    logs+=("$room/identifiers") # with their octets, which make other proofs slower
-    prove "$room/identifiers" -wp-fct identifiers
+    judge "$room/calls"
+    prove "$room/identifiers" -wp-fct identifiers # with their octets, which make other proofs slower
+    judge "$room/identifiers"
+    machine=gcc_x86_32
+    prove "$room/calls_of_32_bits" -wp-no-init-const -wp-skip-fct identifiers
+    judge "$room/calls_of_32_bits"
+    machine=gcc_x86_64
 fi
-goals ' : Valid.*' "${logs[@]}" > "$room/proved"
-goals '.*' "${logs[@]}" | comm -23 - "$room/proved" > "$room/open"
 sed 's/^/not proved: /' "$room/open"
 [ -z "${KEEP-}" ] || cp "$room/proved" "$room/open" "$KEEP"
 

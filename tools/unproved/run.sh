@@ -111,6 +111,7 @@ ffi() {
     needs python3 ar "${CC:-gcc}"
     ffi/check_layout.py
     ffi/proof/check_requires.py
+    ffi/proof/check_ensures.py
     cp -r "$tree" "$room/exports"
     (cd "$room/exports" && "$tree/tools/unproved/exports.py" pkcs1_c && cd crates/pkcs1_c &&
         sed -i 's/^    text.octets = b"[0-9.]*/&-unproved/' src/status.rt && try_and_keep library --steps 1)

@@ -25,4 +25,4 @@ returns-then-is_null c =
     let none = no_octets a.parameters.now in
     let why : (a.has_parameters ≡ false) ⊎ ((a.has_parameters ≡ true) × (a.tag ≡ 5) × (a.parameters.now ≡ [])) =
     grind (arith, nat_tests) in
-    hash_is a c.args.oid.now c.eq.result (Decides-at _ _ c.eq.ensures (bytes_eq-Decides _ _)) why
+    record { tells = hash_is a c.args.oid.now c.eq.result (Decides-at _ _ c.eq.ensures (bytes_eq-Decides _ _)) why }

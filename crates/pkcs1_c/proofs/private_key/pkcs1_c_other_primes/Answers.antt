@@ -21,13 +21,17 @@ loop-i-preserved c = λ primes few whole.
     c.to_c_other_prime.ensures c.in-Ok-read_prime.ensures (c.loop-i.invariant primes few whole)
 
 pub returns-in-Err : goal.returns-in-Err
-returns-in-Err c = λ primes few whole.
-    stopped primes _ c.loop-i.others c.args.others.now c.loop-i.i
-    (omega (arith, c.loop-i-test.true, c.loop-i.auto.others)) c.loop-i.auto.others
-    (λ l is. front_errs next_prime _ _ _ is c.in-Err.ensures.1) (c.loop-i.invariant primes few whole)
+returns-in-Err c = record {
+  placed = λ primes few whole.
+      stopped primes _ c.loop-i.others c.args.others.now c.loop-i.i
+      (omega (arith, c.loop-i-test.true, c.loop-i.auto.others)) c.loop-i.auto.others
+      (λ l is. front_errs next_prime _ _ _ is c.in-Err.ensures.1) (c.loop-i.invariant primes few whole);
+}
 
 pub returns : goal.returns
-returns c = λ primes few whole.
-    all_placed primes _ c.loop-i.others c.args.others.now c.loop-i.i
-    (omega (arith, c.loop-i.auto.i-end, c.loop-i.auto.others)) c.loop-i.auto.others
-    (c.loop-i.invariant primes few whole) (inl (omega (arith, c.loop-i-test.false, c.loop-i.auto.i-end)))
+returns c = record {
+  placed = λ primes few whole.
+      all_placed primes _ c.loop-i.others c.args.others.now c.loop-i.i
+      (omega (arith, c.loop-i.auto.i-end, c.loop-i.auto.others)) c.loop-i.auto.others
+      (c.loop-i.invariant primes few whole) (inl (omega (arith, c.loop-i-test.false, c.loop-i.auto.i-end)));
+}
