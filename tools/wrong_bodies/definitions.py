@@ -34,7 +34,7 @@ IS_DONE = re.compile(r"(holes|only)=\d+")
 
 
 class Copy(NamedTuple):
-    """A copy of a file of definitions with an edit, and of the rows, which cite it. Number 0 of each file has no edit."""
+    """A copy of a file of definitions with an edit, and of the rows, which cite it. The first of a file has no edit."""
 
     name: str  # of the edit
     module: str  # of the copy

@@ -2,7 +2,7 @@
 use Rattle.std.proofs.Common.{ℕ, List, [], ◌∷◌, ◌++◌, ◌≡◌, ◌≢◌, ◌≤◌, ◌<◌, ◌+◌, ◌*◌, ◌∙◌, ◌⊎◌, length, refl, ap, sym, arith, Some, None, inl, inr, codes, nat_lt, if◌then◌else◌, ◌-◌, ◌^◌, replicate, drop}
 use Rattle.std.specs.Prelude.{slice_index}
 use Rattle.std.specs.List.{AllByRecursion, concat}
-use Rattle.standard.specs.Statement.{AtMostOne, Container, ContainedKeyEncoding, ContainerEncoding, Decodes, Encodes, Fields, FieldsUnder, IsAny, IsBare, IsIdentifier, IsPss, IsShortest, Lists, PrivateKey, PrivateKeyEncoding, PssParameters, PublicKey, PublicKeyEncoding, id_rsaes_oaep, integer, length_octets, mgf1_sha1, pss_fields, rsa_encryption, sha1}
+use Rattle.standard.specs.Statement.{AreAll, AreOctets, AtMostOne, Container, ContainedKeyEncoding, ContainerEncoding, Decodes, Encodes, Field, Fields, FieldsUnder, IsAny, IsBare, IsIdentifier, IsPss, IsShortest, Lists, PrivateKey, PrivateKeyEncoding, PssParameters, PublicKey, PublicKeyEncoding, SameByShortest, TwoToTheDefaults, id_rsaes_oaep, integer, length_octets, mgf1_sha1, pss_fields, rsa_encryption, sequence, sha1}
 
 digit : ℕ → ℕ
 digit c = if nat_lt c 58 then c - 48 else c - 87
@@ -130,6 +130,9 @@ tag_256 p = let never = p.0 in cc
 octet_256 : IsAny (record { tag = 5; contents = 256 ∷ [] }) → ⊥
 octet_256 p = omega (arith, p.1.0)
 
+not_an_octet : AreOctets (256 ∷ []) → ⊥
+not_an_octet p = omega (arith, p.0)
+
 -- == Parameters ==
 usual : PssParameters
 usual = record { hash = sha1; mask_gen = mgf1_sha1; salt_len = 20; trailer_field = 1 }
@@ -206,3 +209,35 @@ nothing_listed p = omega (arith, p refl)
 
 none_listed : Lists (λ (v : ℕ). v ≡ v) (λ (v : ℕ). []) 0 (Some []) → ⊥
 none_listed p = omega (arith, p.2.count, ap (λ k. 2 ^ k) p.1)
+
+empty_is_shortest : (v : ℕ) → IsShortest Empty v []
+empty_is_shortest v = (refl, λ other is. inl is)
+
+same_means : SameByShortest Empty → ⊥
+same_means p =
+    omega (arith, (p 0 1 [] [] [] [] refl refl (empty_is_shortest 0) (empty_is_shortest 1)).1 refl)
+
+-- A field that is written by no octets: both its spellings are equal, so there can't be two.
+abbrev silent : List Field
+silent = record { IsDefault = Unit {0}; written = [] } ∷ []
+
+silent_contents : (mask : ℕ) (contents : List ℕ) → FieldsUnder mask silent contents → contents ≡ []
+silent_contents mask contents (inl (default, half, is, (empty, zero))) = empty
+silent_contents mask contents (inr (inl (default, half, is, later, e, (empty, zero)))) = e ∙ empty
+silent_contents mask contents (inr (inr p)) = absurd (p.0 tt)
+
+abbrev AreTwo : List (List ℕ) → Type 0
+AreTwo all = AreAll (λ Encoding. Encoding) (λ (v : ℕ). v ≡ v) (λ (v : ℕ). silent) 0 1 all
+
+silent_twice : (all : List (List ℕ)) → AreTwo all → ⊥
+silent_twice all p =
+    let first = p.under 0 (omega arith) in
+    let second = p.under 1 (omega arith) in
+    let first_is = first.4 ∙ ap sequence (silent_contents 0 first.2 first.3) in
+    let second_is = second.4 ∙ ap sequence (silent_contents 1 second.2 second.3) in
+    omega (arith, p.different 0 1 (omega arith) (omega arith) (first_is ∙ sym second_is))
+
+two_of_silent : TwoToTheDefaults (λ (v : ℕ). v ≡ v) (λ (v : ℕ). silent) → ⊥
+unfolding length_octets
+two_of_silent p =
+    let both = p 0 1 refl (inl (tt, 0, refl, refl)) (omega arith) in silent_twice both.0 both.1
