@@ -2,7 +2,7 @@
 use Rattle.std.proofs.Common.{ℕ, List, [], ◌∷◌, ◌++◌, ◌≡◌, ◌≢◌, ◌≤◌, ◌<◌, ◌+◌, ◌*◌, ◌∙◌, ◌⊎◌, length, refl, ap, sym, arith, Some, None, inl, inr, codes, nat_lt, if◌then◌else◌, ◌-◌, ◌^◌, replicate, drop}
 use Rattle.std.specs.Prelude.{slice_index}
 use Rattle.std.specs.List.{AllByRecursion, concat}
-use Rattle.standard.specs.Statement.{AreAll, AreOctets, AtMostOne, Container, ContainedKeyEncoding, ContainerEncoding, Decodes, Encodes, Field, Fields, FieldsUnder, IsAny, IsBare, IsIdentifier, IsPss, IsShortest, Lists, PrivateKey, PrivateKeyEncoding, PssParameters, PublicKey, PublicKeyEncoding, SameByShortest, TwoToTheDefaults, id_rsaes_oaep, integer, length_octets, mgf1_sha1, pss_fields, rsa_encryption, sequence, sha1}
+use Rattle.standard.specs.Statement.{Algorithm, AlgorithmEncoding, AreAll, AreOctets, AtMostOne, Container, ContainedKeyEncoding, ContainerEncoding, Decodes, Encodes, Field, Fields, FieldsUnder, IsAny, IsBare, IsIdentifier, IsOaep, IsPss, IsShortest, Lists, OaepAlgorithmEncoding, OaepParameters, PrivateKey, PrivateKeyEncoding, PssAlgorithmEncoding, PssParameters, PublicKey, PublicKeyEncoding, SameByShortest, TagAndContents, TwoToTheDefaults, TwoToTheDefaultsIn, id_rsaes_oaep, integer, length_octets, mgf1_sha1, pss_fields, rsa_encryption, sequence, sha1, tlv}
 
 digit : ℕ → ℕ
 digit c = if nat_lt c 58 then c - 48 else c - 87
@@ -147,6 +147,29 @@ bare = refl
 not_bare : IsBare (record { oid = []; parameters = Some (record { tag = 5; contents = 1 ∷ [] }) }) → ⊥
 not_bare p = cc
 
+abbrev of_tag_0 : Algorithm TagAndContents
+of_tag_0 = record { oid = 1 ∷ []; parameters = Some (record { tag = 0; contents = [] }) }
+
+hash_of_tag_0 : IsPss (record { hash = of_tag_0; mask_gen = mgf1_sha1; salt_len = 20; trailer_field = 1 }) → ⊥
+hash_of_tag_0 p = let never = p.0.1.0 in cc
+
+source_of_tag_0 : IsOaep (record { hash = sha1; mask_gen = mgf1_sha1; p_source = of_tag_0 }) → ⊥
+source_of_tag_0 p = let never = p.2.1.0 in cc
+
+-- An algorithm with parameters begins with its own identifier.
+Begins : List ℕ → List ℕ → Type 0
+Begins oid bytes = (parameters : List ℕ) × (bytes ≡ sequence (tlv 6 oid ++ parameters))
+
+pss_algorithm : (p : PssParameters) (bytes : List ℕ) → PssAlgorithmEncoding p bytes
+    → Begins (hex (codes "2a864886f70d01010a")) bytes
+unfolding Begins hex digit
+pss_algorithm p bytes is = (is.1, is.3)
+
+oaep_algorithm : (p : OaepParameters) (bytes : List ℕ) → OaepAlgorithmEncoding p bytes
+    → Begins (hex (codes "2a864886f70d010107")) bytes
+unfolding Begins hex digit
+oaep_algorithm p bytes is = (is.1, is.3)
+
 -- Fields that have their defaults may be left out, and may be written.
 all_left_out : Fields (pss_fields usual) []
 unfolding usual
@@ -241,3 +264,21 @@ two_of_silent : TwoToTheDefaults (λ (v : ℕ). v ≡ v) (λ (v : ℕ). silent) 
 unfolding length_octets
 two_of_silent p =
     let both = p 0 1 refl (inl (tt, 0, refl, refl)) (omega arith) in silent_twice both.0 both.1
+
+abbrev AreTwoIn : List (List ℕ) → Type 0
+AreTwoIn all = AreAll (AlgorithmEncoding []) (λ (v : ℕ). v ≡ v) (λ (v : ℕ). silent) 0 1 all
+
+silent_twice_in : (all : List (List ℕ)) → AreTwoIn all → ⊥
+silent_twice_in all p =
+    let first = p.under 0 (omega arith) in
+    let second = p.under 1 (omega arith) in
+    let one = first.2.4 ∙ ap sequence (silent_contents 0 first.2.2 first.2.3) in
+    let other = second.2.4 ∙ ap sequence (silent_contents 1 second.2.2 second.2.3) in
+    let first_is = first.3 ∙ ap (λ octets. sequence (tlv 6 [] ++ octets)) one in
+    let second_is = second.3 ∙ ap (λ octets. sequence (tlv 6 [] ++ octets)) other in
+    omega (arith, p.different 0 1 (omega arith) (omega arith) (first_is ∙ sym second_is))
+
+two_of_silent_in : TwoToTheDefaultsIn [] (λ (v : ℕ). v ≡ v) (λ (v : ℕ). silent) → ⊥
+unfolding length_octets
+two_of_silent_in p =
+    let both = p 0 1 refl (inl (tt, 0, refl, refl)) (omega arith) in silent_twice_in both.0 both.1
