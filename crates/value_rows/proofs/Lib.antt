@@ -1,0 +1,4 @@
+pub mod ContainerValueRows
+pub mod HeldRows
+pub mod OaepValueRows
+pub mod PssValueRows
