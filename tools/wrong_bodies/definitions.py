@@ -28,7 +28,7 @@ use Rattle.{crate}.proofs.{path}.Statement.{{statement}}
 pub {name}_spec : {{M : Type 1}} → statement M
 {name}_spec = ?
 """
-FUNCTIONS = {"pkcs1_c": "status::status_of"}
+FUNCTIONS = {"pkcs1_c": "status::kind_number"}
 TOLD = re.compile(r"(?:\./)?(specs|proofs)/(\w+?)(?:Own)?(?:Rows)?_(\d+)\.antt:\d+:\d+: error: (?:`([^`]+)`: )?(.*)")
 IS_DONE = re.compile(r"(holes|only)=\d+")
 
