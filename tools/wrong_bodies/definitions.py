@@ -21,9 +21,15 @@ from edits import BadEdit, edits_of
 from prover import KIT, check_words, messages, names_what_is_gone, read_crates
 
 FOLDER = "wrong_definitions"
-# A function of the crate, if it has any: the check is asked for it alone, and its proof, a hole, imports the rows.
-HOLE = """{imports}
+# A function of the crate, if it has any: the check is asked for it alone, and its proof, a hole, cites the rows. So each
+# file of rows gets a number to be cited.
+CITED = "\npub is_read : ℕ\nis_read = 0\n"
+HOLE = """use Rattle.std.proofs.Common.{{ℕ, ◌+◌}}
+{imports}
 use Rattle.{crate}.proofs.{path}.Statement.{{statement}}
+
+all_read : ℕ
+all_read = {sum}
 
 pub {name}_spec : {{M : Type 1}} → statement M
 {name}_spec = ?
@@ -58,7 +64,7 @@ def copies_of(rows_crate, path, begin):
         module = f"{file}_{number}"
         texts = {f"specs/{module}": edit.applied({file: text})[file] if edit else text}
         for name, it in rows.items():
-            texts[f"proofs/{name}_{number}"] = cited.sub(f"Rattle.{rows_crate}.specs.{module}", it)
+            texts[f"proofs/{name}_{number}"] = cited.sub(f"Rattle.{rows_crate}.specs.{module}", it) + CITED
         made.append(Copy(edit.name if edit else f"{path}, without an edit", module, texts))
     return made
 
@@ -88,9 +94,11 @@ def put_room(room, crate, copies):
 
 def put_hole(room, crate, function, copies):
     """Puts a proof of this function that imports the rows, and gives the words that ask for it alone."""
-    imports = [f"use Rattle.{crate}.proofs.{name}.{{}}" for it in copies for name in it.modules("proofs")]
+    names = [name for it in copies for name in it.modules("proofs")]
+    imports = "\n".join(f"use Rattle.{crate}.proofs.{it}.{{is_read as read_{it}}}" for it in names)
     *modules, name = function.split("::")
-    hole = HOLE.format(imports="\n".join(imports), crate=crate, path=".".join([*modules, name]), name=name)
+    path, cited = ".".join([*modules, name]), " + ".join(f"read_{it}" for it in names)
+    hole = HOLE.format(imports=imports, crate=crate, path=path, sum=cited, name=name)
     put("/".join([f"{room}/proofs", *modules, name, "Proof.antt"]), hole)
     return ["--only", function]
 
