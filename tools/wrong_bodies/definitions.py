@@ -21,8 +21,9 @@ from edits import BadEdit, edits_of
 from prover import KIT, check_words, messages, names_what_is_gone, read_crates
 
 FOLDER = "wrong_definitions"
-# A function of the crate, if it has any: the check is asked for it alone, and its proof, a hole, cites the rows. So each
-# file of rows gets a number to be cited.
+# Of crates with functions one of them: the check is asked for it alone, and its proof, a hole, cites the rows. So each
+# file of rows gets a number that can be cited.
+FUNCTIONS = {"pkcs1_c": "status::kind_number"}
 CITED = "\npub is_read : ℕ\nis_read = 0\n"
 HOLE = """use Rattle.std.proofs.Common.{{ℕ, ◌+◌}}
 {imports}
@@ -34,7 +35,6 @@ all_read = {sum}
 pub {name}_spec : {{M : Type 1}} → statement M
 {name}_spec = ?
 """
-FUNCTIONS = {"pkcs1_c": "status::kind_number"}
 TOLD = re.compile(r"(?:\./)?(specs|proofs)/(\w+?)(?:Own)?(?:Rows)?_(\d+)\.antt:\d+:\d+: error: (?:`([^`]+)`: )?(.*)")
 IS_DONE = re.compile(r"(holes|only)=\d+")
 
@@ -93,7 +93,7 @@ def put_room(room, crate, copies):
 
 
 def put_hole(room, crate, function, copies):
-    """Puts a proof of this function that imports the rows, and gives the words that ask for it alone."""
+    """Puts a proof of this function that cites the rows, and gives the words that ask for it alone."""
     names = [name for it in copies for name in it.modules("proofs")]
     imports = "\n".join(f"use Rattle.{crate}.proofs.{it}.{{is_read as read_{it}}}" for it in names)
     *modules, name = function.split("::")

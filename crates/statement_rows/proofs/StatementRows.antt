@@ -88,7 +88,8 @@ part_below (f ∷ front) rest more last b all below e =
     absurd (omega (arith, all.0.0, below, ap (λ octets. slice_index octets 0) e))
 
 part_of_80 : (id : List ℕ) → IsPart id → (rest more : List ℕ) → id ++ rest ≡ 128 ∷ more → ⊥
-part_of_80 [] (front, last, is, all, below, begins) rest more e = not_empty front [] last (ap (λ octets. octets ++ []) is)
+part_of_80 [] (front, last, is, all, below, begins) rest more e =
+    not_empty front [] last (ap (λ octets. octets ++ []) is)
 part_of_80 (b ∷ id) (front, last, is, all, below, begins) rest more e = begins (ap (λ octets. slice_index octets 0) e)
 
 parts_of_none : (ids : List (List ℕ)) → 0 < length ids → AllByRecursion IsPart ids → [] ≡ concat ids → ⊥
