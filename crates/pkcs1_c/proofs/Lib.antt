@@ -7,3 +7,6 @@ pub mod HeldParameters
 pub mod Placing
 pub mod Writes
 pub mod StructErrors
+pub mod StatusRows
+pub mod StructErrorsRows
+pub mod StructsRows

@@ -8,9 +8,30 @@ use Rattle.pkcs1_c.specs.declared.container.PrivateKeyInfo.{PrivateKeyInfo}
 use Rattle.pkcs1_c.specs.declared.public_key.PublicKey.{PublicKey}
 use Rattle.pkcs1_c.specs.declared.private_key.PrivateKey.{PrivateKey}
 use Rattle.pkcs1_c.specs.declared.private_key.OtherPrime.{OtherPrime}
-use Rattle.pkcs1_c.specs.declared.status.TheConstants.{LENGTH, OID_MALFORMED, OVERFLOW, TAG_UNKNOWN, VALUE, NO_ROOM, OTHER_PRIMES}
 use Rattle.pkcs1_c.specs.Status.{IsErrorNumber, NoStatus}
 use Rattle.pkcs1_c.specs.Structs.{HasKey, IsLength, number, numbers_of_key, numbers_of_prime, private_key, private_key_info, public_key}
+
+-- The statuses of structs that aren't written, by the names that `src/status.rt` gives to numbers.
+abbrev pub LENGTH : ℕ
+LENGTH = 4
+
+abbrev pub OID_MALFORMED : ℕ
+OID_MALFORMED = 6
+
+abbrev pub OVERFLOW : ℕ
+OVERFLOW = 8
+
+abbrev pub TAG_UNKNOWN : ℕ
+TAG_UNKNOWN = 12
+
+abbrev pub VALUE : ℕ
+VALUE = 14
+
+abbrev pub NO_ROOM : ℕ
+NO_ROOM = 15
+
+abbrev pub OTHER_PRIMES : ℕ
+OTHER_PRIMES = 21
 
 -- All parts can be held: the value has no encoding, or its shortest one is longer than the room.
 abbrev pub Unwritten : {V : Type 0} → (V → List ℕ → Type 0) → V → ℕ → ℕ → Type 0

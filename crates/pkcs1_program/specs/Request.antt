@@ -12,6 +12,10 @@ use Rattle.pkcs1_program.specs.declared.request.Word.TheVariants as word
 use Rattle.pkcs1_program.specs.declared.request.PairWord.{PairWord}
 use Rattle.pkcs1_program.specs.declared.request.PairWord.TheVariants as pair
 
+-- The longest input, in octets: this is the program's limit.
+abbrev pub longest_input : ℕ
+longest_input = 16777216
+
 -- A line ends before a line feed or at the end of the input. No empty line follows a last line feed, and an empty input
 -- has no line.
 abbrev pub lines_of : List ℕ → List (List ℕ)

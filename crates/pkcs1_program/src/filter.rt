@@ -2,7 +2,7 @@
 ghost use Rattle.std.specs.Prelude.{◌≡◌, ◌<◌, ◌≤◌, ◌⊎◌, ℕ, List, [], length, IfSome, IfOk, OnOk, IsErrOf, vec_len};
 ghost use Rattle.std.specs.Io.KnownBytes.{Appends, Keeps, IsAtEnd};
 ghost use Rattle.der_core.specs.Words.{piece, AppendsFront, GivesAll, GivesMore, GivesSome, OneFailed, AtMostOne};
-ghost use Rattle.pkcs1_program.specs.Words.{Answer, Output, lines_of, Makes, MakesFirst, Writes, WritesFirst, WritesFront, WritesFrontOfAll, WritesHeld, WritesOut};
+ghost use Rattle.pkcs1_program.specs.Words.{Answer, Output, lines_of, longest_input, Makes, MakesFirst, Writes, WritesFirst, WritesFront, WritesFrontOfAll, WritesHeld, WritesOut};
 
 use crate::answer::answer_line;
 use crate::fault::Fault;
@@ -21,14 +21,14 @@ const BUFFER: usize = 65536;
 /// Reads all that the source gives until its end.
 fn read_input<R: Source>(alloc: Global, source: &mut R) -> Result<Vec<u8>, Fault>
     ensures all { IfOk result (λ input. GivesAll (R.remaining source.old) (R.remaining source.new) input.items) }
-    ensures within { IfOk result (λ input. vec_len input ≤ LIMIT) }
+    ensures within { IfOk result (λ input. vec_len input ≤ longest_input) }
     ensures same { OnOk result (R.failures source.new ≡ R.failures source.old) }
     ensures read { IsErrOf result Fault.Read → OneFailed (R.failures source.old) (R.failures source.new)
-        ⊎ GivesMore LIMIT piece (R.remaining source.old) (R.remaining source.new) }
+        ⊎ GivesMore longest_input piece (R.remaining source.old) (R.remaining source.new) }
     ensures write { ¬ IsErrOf result Fault.Write }
     ensures memory_quiet { IsErrOf result Fault.Memory → R.failures source.new ≡ R.failures source.old }
     ensures wanted { IsErrOf result Fault.Memory
-        → GivesSome LIMIT (R.remaining source.old) (R.remaining source.new) }
+        → GivesSome longest_input (R.remaining source.old) (R.remaining source.new) }
 {
     match read_all(alloc, source, Length::of(LIMIT)) {
         Ok(input) => Ok(input),
@@ -138,14 +138,14 @@ pub fn run<R: Source, W: Sink>(alloc: Global, source: &mut R, sink: &mut W) -> R
         OnOk result (IfSome (R.remaining source.old) (λ input. writes (lines_of input))) }
     ensures whole { let gives = GivesAll (R.remaining source.old) (R.remaining source.new) in
         OnOk result (IfSome (R.remaining source.old) (λ input. gives input)) }
-    ensures some { OnOk result ((input : List ℕ) × (length input ≤ LIMIT)
+    ensures some { OnOk result ((input : List ℕ) × (length input ≤ longest_input)
         × GivesAll (R.remaining source.old) (R.remaining source.new) input
         × Writes (W.contents sink.old) (W.contents sink.new) (lines_of input)) }
-    ensures within { OnOk result (IfSome (R.remaining source.old) (λ input. length input ≤ LIMIT)) }
+    ensures within { OnOk result (IfSome (R.remaining source.old) (λ input. length input ≤ longest_input)) }
     ensures quiet { OnOk result ((R.failures source.new ≡ R.failures source.old)
         × (W.failures sink.new ≡ W.failures sink.old)) }
     ensures read { IsErrOf result Fault.Read → OneFailed (R.failures source.old) (R.failures source.new)
-        ⊎ GivesMore LIMIT piece (R.remaining source.old) (R.remaining source.new) }
+        ⊎ GivesMore longest_input piece (R.remaining source.old) (R.remaining source.new) }
     ensures untouched { IsErrOf result Fault.Read
         → Keeps (W.contents sink.old) (W.contents sink.new) × (W.failures sink.new ≡ W.failures sink.old) }
     ensures write { IsErrOf result Fault.Write → OneFailed (W.failures sink.old) (W.failures sink.new) }
@@ -158,7 +158,7 @@ pub fn run<R: Source, W: Sink>(alloc: Global, source: &mut R, sink: &mut W) -> R
     ensures memory_quiet { IsErrOf result Fault.Memory → (R.failures source.new ≡ R.failures source.old)
         × (W.failures sink.new ≡ W.failures sink.old) }
     ensures wanted { IsErrOf result Fault.Memory
-        → GivesSome LIMIT (R.remaining source.old) (R.remaining source.new) }
+        → GivesSome longest_input (R.remaining source.old) (R.remaining source.new) }
     ensures flushed { OnOk result (W.is_flushed sink.new) }
     ensures one_answer { (line : List ℕ) → AtMostOne (Answer line) }
     ensures one_output { (input : List ℕ) → AtMostOne (Output input) }

@@ -1,0 +1,67 @@
+-- Worked rows of `Status.antt`: the number of each error, and which status a call returns.
+use Rattle.std.proofs.Common.{ℕ, [], ◌∷◌, ◌≡◌, ◌<◌, arith, codes, refl, length, map, Result, Ok, Err}
+use Rattle.der_core.specs.declared.error.ErrorKind.{ErrorKind}
+use Rattle.der_core.specs.declared.error.ErrorKind.TheVariants.{Failed, File, Incomplete, IndefiniteLength, Length, NoRoom, Noncanonical, OidMalformed, OidUnknown, OutOfMemory, Overflow, Overlength, ParametersMissing, TagUnexpected, TagUnknown, TrailingData, Value}
+use Rattle.der_core.specs.Words.{integer, sequence}
+use Rattle.pkcs1_params.specs.declared.error.Error.TheVariants as error
+use Rattle.pkcs1_c.specs.Status.{IsErrorNumber, IsErrorOf, IsStatusOf, NoStatus, kind_number, status_of, status_text, status_texts}
+
+kinds : map kind_number (Failed ∷ Incomplete ∷ IndefiniteLength ∷ Length integer ∷ Noncanonical integer ∷ OidMalformed
+    ∷ OidUnknown ∷ Overflow ∷ Overlength ∷ ParametersMissing ∷ TagUnexpected sequence integer ∷ TagUnknown 31
+    ∷ TrailingData ∷ Value integer ∷ NoRoom ∷ File ∷ OutOfMemory ∷ [])
+    ≡ 1 ∷ 2 ∷ 3 ∷ 4 ∷ 5 ∷ 6 ∷ 7 ∷ 8 ∷ 9 ∷ 10 ∷ 11 ∷ 12 ∷ 13 ∷ 14 ∷ 15 ∷ 16 ∷ 17 ∷ []
+kinds = refl
+
+errors : map status_of (error.Crypto ∷ error.KeyMalformed ∷ error.Version ∷ []) ≡ 18 ∷ 19 ∷ 20 ∷ []
+errors = refl
+
+-- == Which status ==
+abbrev gives : ErrorKind → Result ℕ ErrorKind
+gives kind = Err kind
+
+value : IsStatusOf {V = ℕ} (Ok 7) 0
+value = (7, refl)
+
+error_is_not_0 : IsStatusOf (gives Incomplete) 0 → ⊥
+error_is_not_0 p = let same = p.1 in cc
+
+status : IsStatusOf (gives Incomplete) 2
+status = (omega arith, (Incomplete, refl, refl))
+
+another_status : IsErrorNumber (gives Incomplete) 3 → ⊥
+another_status (kind, is, number) = cc
+
+no_room : IsStatusOf (gives NoRoom) 15 → ⊥
+no_room p = omega (arith, p.0)
+
+-- == Which error ==
+nothing_wrong : NoStatus (λ status. status ≡ 4) → ⊥
+nothing_wrong p = p 4 refl
+
+wrong_is_not_0 : IsErrorOf (λ status. status ≡ 4) 0 → ⊥
+wrong_is_not_0 p = p 4 refl
+
+not_wrong : IsErrorOf (λ status. status ≡ 4) 5 → ⊥
+not_wrong p = omega (arith, p.0)
+
+not_the_only_one : IsErrorOf (λ status. status < 9) 4 → ⊥
+not_the_only_one p = omega (arith, p.1 5 (omega arith))
+
+-- == Strings ==
+texts : length status_texts ≡ 22
+texts = refl
+
+text_of_incomplete : status_text 2 ≡ codes "the input ends too early: it is empty or cut off, or a field is missing"
+text_of_incomplete = refl
+
+text_of_failed : status_text 1 ≡ codes "an earlier read failed"
+text_of_failed = refl
+
+text_of_no_room : status_text 15 ≡ codes "there is too little room for the encoding"
+text_of_no_room = refl
+
+text_of_other_primes : status_text 21 ≡ codes "the other primes are not as many as the key says"
+text_of_other_primes = refl
+
+text_behind : status_text 22 ≡ codes "another error"
+text_behind = refl

@@ -1,0 +1,5 @@
+pub mod ContainerValueRows
+pub mod HeldRows
+pub mod OaepValueRows
+pub mod PssValueRows
+pub mod ReadingRows
