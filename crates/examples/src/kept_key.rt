@@ -18,7 +18,8 @@ impl DecodeRsaPublicKey for KeptKey {
     ghost stands_for = { λ kept bytes. (kept.encoding.items ≡ bytes)
         × ((key : PublicKey) × Decodes PublicKeyEncoding bytes (Some key)) };
 
-    ghost rejected_by = { λ bytes e. Decodes PublicKeyEncoding bytes None ⊎ IsAsn1 (λ asn1. asn1.kind ≡ OutOfMemory) e };
+    ghost rejected_by = { λ bytes e.
+        Decodes PublicKeyEncoding bytes None ⊎ IsAsn1 (λ asn1. asn1.kind ≡ OutOfMemory) e };
 
     fn from_pkcs1_der(alloc: Global, bytes: &[u8]) -> Result<KeptKey> {
         let _key = RsaPublicKeyRef::try_from(bytes)?;
