@@ -49,6 +49,8 @@ runs_to_each_status() {
     ends "the longest input" 0 "" "bad line" $?
     head -c 16777217 /dev/zero | "$program" > "$room/output" 2> "$room/error"
     ends "a longer input" 1 "fault: read" "" $?
+    printf 'pub 3006020107020103\r\n' | "$program" > "$room/output" 2> "$room/error"
+    ends "a carriage return before the end of a line" 0 "" "bad line" $?
     "$program" < . > "$room/output" 2> "$room/error"
     ends "a folder as input" 1 "fault: read" "" $?
     "$program" <&- > "$room/output" 2> "$room/error"
@@ -98,6 +100,6 @@ for program in "${programs[@]}"; do
         fails "it isn't there$builder"
     fi
 done
-echo "run_built: $(grep -vc -e '^#' -e '^$' rows) rows and ${less-}71 runs, of each program"
+echo "run_built: $(grep -vc -e '^#' -e '^$' rows) rows and ${less-}72 runs, of each program"
 echo "$passed passed, $failed failed"
 [ "$failed" = 0 ]

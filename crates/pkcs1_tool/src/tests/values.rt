@@ -2,8 +2,8 @@
 use crate::tests::checks::{equal, holds};
 use der_core::{Document, Error, ErrorKind, SecretDocument, Tag};
 use pkcs1::{
-    ALGORITHM_OID, Mgf1, PSpecified, RsaOaepParamsRef, RsaPssParamsRef, Sha1, Sha224, Sha256,
-    Sha384, Sha512, Sha512_224, Sha512_256,
+    ALGORITHM_OID, Mgf1, PSpecified, RsaOaepParamsRef, RsaPssParamsRef, RsaesOaep, RsassaPss, Sha1,
+    Sha224, Sha256, Sha384, Sha512, Sha512_224, Sha512_256,
 };
 use spki_core::AssociatedOid;
 use std::alloc::Global;
@@ -23,6 +23,7 @@ fn constants_are_what_their_functions_return(rt: HostRuntime) {
     holds(&rt, is_alike::<Sha512>() && is_alike::<Sha512_224>());
     holds(&rt, is_alike::<Sha512_256>() && is_alike::<Mgf1>());
     holds(&rt, is_alike::<PSpecified>());
+    holds(&rt, is_alike::<RsassaPss>() && is_alike::<RsaesOaep>());
     equal(&rt, ALGORITHM_OID, pkcs1::rsa_encryption_oid().as_bytes());
 }
 

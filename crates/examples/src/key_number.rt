@@ -1,0 +1,99 @@
+//! A number of one's own.
+ghost use Rattle.std.specs.Prelude.{ℕ};
+ghost use Rattle.std.specs.Int.Digits.{number_from_digits};
+ghost use Rattle.standard.specs.Statement.{Encodes, PublicKeyEncoding};
+ghost use Rattle.der_core.specs.Words.{alike, bytes_of, number_contents, number_law, number_of, ok_of, one_spelling};
+ghost use Rattle.der_core.specs.Laws.Printed.Leaves.{numbers_encode};
+ghost use Rattle.pkcs1.specs.Words.{held_public_key};
+
+use der_core::{
+    AsUintRef, BackWriter, Contents, DecodeValue, EncodeValue, Header, IntegerTag, Length, Memory,
+    Reader, Result, TaggedBy, UintEncoding, UintRef, Writer,
+};
+use pkcs1::RsaPublicKey;
+
+/// A number of a key.
+#[derive(Clone, Copy, Debug, Drop)]
+pub struct KeyNumber<'a> {
+    /// The number.
+    pub number: UintRef<'a>,
+}
+
+impl AsUintRef for KeyNumber<'_> {
+    ghost number = { λ n. bytes_of n.number };
+
+    fn as_uint_ref(&self) -> UintRef<'_> {
+        self.number
+    }
+}
+
+impl Contents for KeyNumber<'_> {
+    ghost Value = { ℕ };
+
+    ghost value = { λ n. number_from_digits 256 (bytes_of n.number) };
+
+    ghost Spelling = { ℕ };
+
+    ghost means = { λ n. n };
+
+    ghost written = { λ n. n };
+
+    ghost valid = { λ _. Unit {0} };
+
+    ghost printed = { number_contents };
+
+    ghost read_spelling = { number_of };
+
+    ghost read = { number_of };
+
+    ghost law = { number_law };
+
+    ghost shortest = { one_spelling (λ _. Unit {0}) number_contents };
+
+    ghost reads_alike = { alike number_of };
+}
+
+impl TaggedBy for KeyNumber<'_> {
+    type Marker = IntegerTag;
+}
+
+impl UintEncoding for KeyNumber<'_> {
+    ghost encodes_number = { numbers_encode (λ n. bytes_of n.number) };
+}
+
+impl<'a, M: Memory> DecodeValue<&'a [u8], M> for KeyNumber<'a> {
+    ghost may_allocate = { λ _. ⊥ };
+
+    fn decode_value<R: Reader<&'a [u8]>>(
+        memory: M,
+        reader: &mut R,
+        header: Header,
+    ) -> Result<KeyNumber<'a>> {
+        match UintRef::decode_value(memory, reader, header) {
+            Ok(number) => Ok(KeyNumber { number }),
+            Err(error) => Err(error),
+        }
+    }
+}
+
+impl EncodeValue for KeyNumber<'_> {
+    fn value_len(&self) -> Result<Length> {
+        self.number.value_len()
+    }
+
+    fn append_value<W: Writer>(&self, writer: &mut W) -> Result<()> {
+        self.number.append_value(writer)
+    }
+
+    fn prepend_value(&self, writer: &mut BackWriter<'_>) {
+        self.number.prepend_value(writer);
+    }
+}
+
+/// Writes a public key of such numbers to the front of a slice and returns its length.
+pub fn write_public_key(key: &RsaPublicKey<KeyNumber<'_>>, out: &mut [u8]) -> pkcs1::Result<usize>
+    ensures { let numbers = held_public_key (λ n. bytes_of n.number) key.now in
+        Encodes PublicKeyEncoding numbers out.old out.new (ok_of (λ n. n) result) }
+{
+    key.encode_key(out)
+}
