@@ -1,7 +1,7 @@
 # Builds libpkcs1 and pkcs1_tool with a C compiler, from what ffi/generated holds of the proved code.
 #
-#     make              out/libpkcs1.a, out/libpkcs1.so and, where there is assembly for the machine, out/pkcs1_tool; for
-#                       Windows out/libpkcs1.a, out/libpkcs1-1.dll and out/libpkcs1.dll.a; where there is no ELF, as on
+#     make              out/libpkcs1.a, out/libpkcs1.so and, where there is assembly for the machine, out/pkcs1_tool;
+#                       for Windows out/libpkcs1.a, out/libpkcs1-1.dll and out/libpkcs1.dll.a; elsewhere, as for
 #                       WebAssembly, out/libpkcs1.a alone
 #     make amalgamation out/pkcs1_all.c, the library as one file, and out/pkcs1.h
 #     make check        tests them; make test does the same

@@ -1,7 +1,7 @@
 #!/bin/sh
 # check.sh OUT: tests what make left in this folder: the C test over the static and the shared library, what the calls
-# of pkcs1.h pass to the proved ones, a program without a C library, and the tool. Where there is no ELF it is the C test
-# alone, for Windows over the DLL too. CC, CFLAGS, NM and RUN are as in the Makefile, which calls this.
+# of pkcs1.h pass to the proved ones, a program without a C library, and the tool. Where there is no ELF it is the C
+# test alone, for Windows over the DLL too. CC, CFLAGS, NM and RUN are as in the Makefile, which calls this.
 set -eu
 ulimit -t 600 # no test runs forever
 out=$(cd "$1" && pwd)

@@ -28,7 +28,8 @@ same() {
 elf() {
     $CC ${CFLAGS-} -fno-lto -fno-sanitize=all -r -nostdlib -o "$out/pkcs1.o" "$out/proved.o" "$out/calls.o"
     # On i386 each object has the same functions that tell where it is, of which a program keeps one.
-    ${OBJCOPY:-objcopy} -w --keep-global-symbols="$out/declared" --keep-global-symbol='__x86.get_pc_thunk.*' "$out/pkcs1.o"
+    ${OBJCOPY:-objcopy} -w --keep-global-symbols="$out/declared" --keep-global-symbol='__x86.get_pc_thunk.*' \
+        "$out/pkcs1.o"
     # Else a C library's own start files, as those of musl, may add names.
     printf '%s { global: %s local: *; };\n' "$symbols" "$(sed 's/$/;/' "$out/declared")" > "$out/exports.map"
     # A sanitizer's calls are in the program that is linked with it.

@@ -1,8 +1,8 @@
 #!/usr/bin/env bash
-# Builds the library where it isn't Linux, or not gcc or clang, and runs its C test there: as one file by tcc and in the
-# dialect of MSVC, for Windows under wine, for WASI under node, by CMake for each of these and here, and without a C
-# library. For other platforms it is compiled alone. It needs nothing of the toolchain. What isn't installed is left out,
-# with a line. Called by .ci/run.
+# Builds the library for systems other than Linux and by other compilers, and runs its C test: as one file by tcc and in
+# MSVC's dialect, for Windows under wine, for WASI under node, by CMake for these and for Linux, and without a C library.
+# For other platforms it is only compiled. It needs nothing of the toolchain. What isn't installed is left out, with a
+# line.
 set -eu
 cd "$(dirname "$0")/.."
 ulimit -t 600 # no test runs forever
@@ -25,8 +25,8 @@ stop() {
     printf 'tools/other_platforms.sh: %s\n' "$*" >&2
     exit 1
 }
-# step NAME TOOL.. -- COMMAND..: runs the command if these are there, and says how long it took; what it prints is shown only
-# if it fails.
+# step NAME TOOL.. -- COMMAND..: runs the command if these are there, and says how long it took; what it prints is shown
+# only if it fails.
 step() {
     local name=$1 began=$SECONDS
     shift
@@ -50,32 +50,50 @@ by_tcc() {
     tcc -Wall -Werror "${tests[@]}" "$room/pkcs1_all.c" -o "$room/by_tcc"
     "$room/by_tcc" "$rows"
 }
-# Compiled for MSVC by clang, with no header of MSVC's: what the C library has for it is declared in a few lines. The program
-# around it is compiled and linked by mingw, whose calls are alike.
+# Compiled for MSVC by clang, with no header of MSVC's: what the C library has for it is declared in a few lines. The
+# program around it is compiled and linked by mingw, whose calls are alike.
 in_dialect() {
     local windows=x86_64-w64-mingw32-gcc
-    clang --target=x86_64-pc-windows-msvc -std=c99 -Wall -Wextra -Werror -O2 -ffreestanding "-I$room/few" -Iffi/include \
-        -c "$room/pkcs1_all.c" -o "$room/dialect.o"
+    clang --target=x86_64-pc-windows-msvc -std=c99 -Wall -Wextra -Werror -O1 -ffreestanding "-I$room/few" \
+        -Iffi/include -c "$room/pkcs1_all.c" -o "$room/dialect.o"
     "$windows" "${tests[@]}" "$room/dialect.o" -o "$room/dialect.exe"
     wine "$room/dialect.exe" "$rows"
 }
-# by_cmake NAME OPTION..: configured, built, tested and installed, static and shared; a program finds it, and runs.
+# runs FOLDER: the program that was built there prints the modulus.
+runs() {
+    cmake --build "$1"
+    [ "$(ctest --test-dir "$1" --verbose --no-tests=error | tr -d '\r' | grep -cx '[0-9]: c17f')" = 1 ] ||
+        stop "$1: the program prints another modulus"
+}
+# by_cmake SHARED OPTION..: configured, built, tested and installed, OFF: static, or ON: shared. A program finds it, and
+# runs.
 by_cmake() {
-    local name=$1 shared program
-    shift
-    for shared in OFF ON; do
-        [ "$name:$shared" != wasi:ON ] || continue
-        cmake -B "$room/$name.$shared" -DCMAKE_BUILD_TYPE=Debug "-DBUILD_SHARED_LIBS=$shared" "$@"
-        cmake --build "$room/$name.$shared"
-        ctest --test-dir "$room/$name.$shared" --output-on-failure --no-tests=error
-        cmake --install "$room/$name.$shared" --prefix "$room/$name.$shared.installed"
-        cmake -S "$room/program" -B "$room/$name.$shared.program" "$@" "-Dpkcs1_DIR=$room/$name.$shared.installed/lib/cmake/pkcs1"
-        cmake --build "$room/$name.$shared.program"
-        program=$room/$name.$shared.program
-        cp "$room/$name.$shared.installed"/bin/*.dll "$program" || true
-        [ "$(ctest --test-dir "$program" --verbose --no-tests=error | tr -d '\r' | grep -cx '1: c17f')" = 1 ] ||
-            stop "$name: the program prints another modulus"
+    local built=$room/cmake.$1
+    rm -rf "$built"
+    cmake -B "$built" -DCMAKE_BUILD_TYPE=Debug "-DBUILD_SHARED_LIBS=$1" "${@:2}"
+    cmake --build "$built"
+    ctest --test-dir "$built" --output-on-failure --no-tests=error
+    cmake --install "$built" --prefix "$built/prefix"
+    cmake -S "$room/program" -B "$built/program" "-DCMAKE_PREFIX_PATH=$built/prefix" "${@:2}"
+    [ ! -d "$built/prefix/bin" ] || cp "$built"/prefix/bin/*.dll "$built/program"
+    runs "$built/program"
+}
+windows_by_cmake() {
+    local it
+    for it in OFF ON; do
+        by_cmake $it -DCMAKE_SYSTEM_NAME=Windows -DCMAKE_C_COMPILER=x86_64-w64-mingw32-gcc \
+            -DCMAKE_CROSSCOMPILING_EMULATOR=wine
     done
+}
+wasi_by_cmake() {
+    by_cmake OFF "-DCMAKE_TOOLCHAIN_FILE=$room/wasi.cmake"
+}
+# Here also as a part of the program's own build.
+linux_by_cmake() {
+    by_cmake OFF
+    by_cmake ON
+    cmake -S "$room/program" -B "$room/part" -DCMAKE_BUILD_TYPE=Debug "-DPART=$PWD" -DPKCS1_CODE=c
+    runs "$room/part"
 }
 for_windows() {
     make check OUT="$room/windows" CROSS=x86_64-w64-mingw32- RUN=wine
@@ -121,7 +139,11 @@ echo '_Noreturn void abort(void);' > "$room/few/stdlib.h"
 cat > "$room/program/CMakeLists.txt" << END
 cmake_minimum_required(VERSION 3.14)
 project(program C)
-find_package(pkcs1 0.8 REQUIRED)
+if(PART)
+    add_subdirectory(\${PART} pkcs1)
+else()
+    find_package(pkcs1 0.8 REQUIRED)
+endif()
 add_executable(program $PWD/ffi/c/modulus.c)
 target_link_libraries(program pkcs1::pkcs1)
 enable_testing()
@@ -144,10 +166,8 @@ step "one file, without a C library, on 32-bit Arm" clang arm-linux-gnueabihf-gc
 step "one file, without a C library, on WebAssembly" clang wasm-ld node -- on_wasm
 step "Windows, by make and mingw" x86_64-w64-mingw32-gcc wine -- for_windows
 step "Windows, as one file in MSVC's dialect" clang x86_64-w64-mingw32-gcc wine -- in_dialect
-step "Windows, by CMake and mingw" cmake x86_64-w64-mingw32-gcc wine -- by_cmake windows -DCMAKE_SYSTEM_NAME=Windows \
-    -DCMAKE_C_COMPILER=x86_64-w64-mingw32-gcc -DCMAKE_CROSSCOMPILING_EMULATOR=wine
+step "Windows, by CMake and mingw" cmake x86_64-w64-mingw32-gcc wine -- windows_by_cmake
 step "WASI, by make" clang wasm-ld llvm-ar /usr/include/wasm32-wasi node -- for_wasi
-step "WASI, by CMake" cmake clang wasm-ld llvm-ar /usr/include/wasm32-wasi node -- \
-    by_cmake wasi "-DCMAKE_TOOLCHAIN_FILE=$room/wasi.cmake"
-step "Linux, by CMake" cmake -- by_cmake linux
+step "WASI, by CMake" cmake clang wasm-ld llvm-ar /usr/include/wasm32-wasi node -- wasi_by_cmake
+step "Linux, by CMake" cmake -- linux_by_cmake
 echo "other platforms: all that is installed works, after $SECONDS s"

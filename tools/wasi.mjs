@@ -1,5 +1,5 @@
-// wasi.mjs PROGRAM ARGUMENT..: runs a program that was built for WASI, by node. It may open each file of this machine, and
-// arguments that name one are made absolute.
+// wasi.mjs PROGRAM ARGUMENT..: runs a program that was built for WASI, by node. It may open each file of this machine.
+// Arguments that name one are made absolute.
 import { WASI } from 'node:wasi';
 import { existsSync, readFileSync } from 'node:fs';
 import { resolve } from 'node:path';

@@ -28,9 +28,9 @@ typedef uint64_t u64;
 __extension__ typedef unsigned __int128 u128;
 #endif
 
-/* What gcc and clang have, and C99 hasn't. PKCS1_PLAIN has it so for any compiler. APART: a function that isn't made part of
- * another. ONCE: one that is, since it is called once. TURNED: the octets of a number in the other order. ZEROS: how many
- * zero bits stand in front of a number. */
+/* What gcc and clang have, and C99 hasn't. PKCS1_PLAIN has it so for any compiler. APART: a function that isn't made part
+ * of another. ONCE: one that is, since it is called once. TURNED: the octets of a number in the other order. ZEROS: how
+ * many zero bits stand in front of a number. */
 #ifndef __GNUC__
 #undef PKCS1_PLAIN
 #define PKCS1_PLAIN
@@ -58451,8 +58451,8 @@ void pkcs1_c_other_primes(const uint8_t *listed, size_t listed_len, struct pkcs1
     P own = taken(octets_##own, given, FIELDS)
 #define GIVE_BACK(given, own, FIELDS) give_back(given, octets_##own, FIELDS)
 
-/* The fields of each struct: w is an address or a length, o an octet, and a dash goes to where a w can stand. None takes
- * more than 8 octets there. */
+/* The fields of each struct: w is an address or a length, o an octet, and a dash goes to where a w can stand. None
+ * takes more than 8 octets there. */
 #define BYTES "ww"
 #define OTHER_PRIME BYTES BYTES BYTES
 #define PUBLIC_KEY BYTES BYTES
@@ -58509,7 +58509,8 @@ static void give_back(void *given, const unsigned char *own, const char *fields)
 }
 
 /* In a frame of its own, since few keys have other primes. */
-APART static u32 encode_with_others(P key, const struct pkcs1_other_prime *others, size_t count, P out, u64 room, P len) {
+APART static u32 encode_with_others(P key, const struct pkcs1_other_prime *others, size_t count, P out, u64 room,
+                                    P len) {
     unsigned char own[PRIME * MOST_PRIMES];
     for (size_t i = 0; i < count; i++)
         taken(own + PRIME * i, &others[i], OTHER_PRIME);

@@ -24,8 +24,8 @@ void pkcs1_c_other_primes(const uint8_t *listed, size_t listed_len, struct pkcs1
     P own = taken(octets_##own, given, FIELDS)
 #define GIVE_BACK(given, own, FIELDS) give_back(given, octets_##own, FIELDS)
 
-/* The fields of each struct: w is an address or a length, o an octet, and a dash goes to where a w can stand. None takes
- * more than 8 octets there. */
+/* The fields of each struct: w is an address or a length, o an octet, and a dash goes to where a w can stand. None
+ * takes more than 8 octets there. */
 #define BYTES "ww"
 #define OTHER_PRIME BYTES BYTES BYTES
 #define PUBLIC_KEY BYTES BYTES
@@ -82,7 +82,8 @@ static void give_back(void *given, const unsigned char *own, const char *fields)
 }
 
 /* In a frame of its own, since few keys have other primes. */
-APART static u32 encode_with_others(P key, const struct pkcs1_other_prime *others, size_t count, P out, u64 room, P len) {
+APART static u32 encode_with_others(P key, const struct pkcs1_other_prime *others, size_t count, P out, u64 room,
+                                    P len) {
     unsigned char own[PRIME * MOST_PRIMES];
     for (size_t i = 0; i < count; i++)
         taken(own + PRIME * i, &others[i], OTHER_PRIME);

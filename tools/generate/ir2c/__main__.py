@@ -2,9 +2,9 @@
 """C for LLVM IR: python3 tools/generate/ir2c IN.ll BORDER.c OUT.c
 
 The IR is what LLVM's passes make of the module that rattle writes for a static library. The translation knows what
-such a module has today, and no more: it refuses the rest, with one line, the status 1, and no OUT.c. head.c, which stands in
-front, says how memory is read on each machine, and by each compiler. BORDER.c, which stands behind, has the calls that others
-make.
+such a module has today, and no more: it refuses the rest, with one line, the status 1, and no OUT.c. head.c, which
+stands in front, says how memory is read on each machine and by each compiler. BORDER.c, which stands behind, has the
+calls that others make.
 """
 import os
 import re

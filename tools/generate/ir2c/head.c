@@ -28,9 +28,9 @@ typedef uint64_t u64;
 __extension__ typedef unsigned __int128 u128;
 #endif
 
-/* What gcc and clang have, and C99 hasn't. PKCS1_PLAIN has it so for any compiler. APART: a function that isn't made part of
- * another. ONCE: one that is, since it is called once. TURNED: the octets of a number in the other order. ZEROS: how many
- * zero bits stand in front of a number. */
+/* What gcc and clang have, and C99 hasn't. PKCS1_PLAIN has it so for any compiler. APART: a function that isn't made part
+ * of another. ONCE: one that is, since it is called once. TURNED: the octets of a number in the other order. ZEROS: how
+ * many zero bits stand in front of a number. */
 #ifndef __GNUC__
 #undef PKCS1_PLAIN
 #define PKCS1_PLAIN
