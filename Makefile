@@ -1,13 +1,17 @@
 # Builds libpkcs1 and pkcs1_tool with a C compiler, from what ffi/generated holds of the proved code.
 #
-#     make              out/libpkcs1.a, out/libpkcs1.so and, where there is assembly for the machine, out/pkcs1_tool
+#     make              out/libpkcs1.a, out/libpkcs1.so and, where there is assembly for the machine, out/pkcs1_tool;
+#                       for Windows out/libpkcs1.a, out/libpkcs1-1.dll and out/libpkcs1.dll.a; elsewhere, as for
+#                       WebAssembly, out/libpkcs1.a alone
+#     make amalgamation out/pkcs1_all.c, the library as one file, and out/pkcs1.h
 #     make check        tests them; make test does the same
 #     make install      below PREFIX; make uninstall removes it
 #     make clean
 #
 # PREFIX, LIBDIR, DESTDIR   where to install: /usr/local, PREFIX/lib, and a folder to install below
 # CC, CFLAGS, LDFLAGS       the compiler, its options, and those for linking; check and install take those of make
-# CROSS, RUN                for another machine: CROSS=aarch64-linux-gnu- RUN=qemu-aarch64 make check
+# CROSS, RUN                for another machine: CROSS=aarch64-linux-gnu- RUN=qemu-aarch64 make check, and for Windows
+#                           CROSS=x86_64-w64-mingw32- RUN=wine
 # CODE=c                    the generated C in place of the assembly for this machine
 # OUT                       the folder for what is made
 # GENERATED                 the folder of the generated files
@@ -31,9 +35,9 @@ endif
 version := $(shell sed -n 's/^.define PKCS1_VERSION_[A-Z]* //p' ffi/include/pkcs1.h | paste -s -d .)
 
 # What can't be built stops here, in one line, before anything is made.
-ifneq ($(filter-out clean uninstall,$(or $(MAKECMDGOALS),all)),)
+ifneq ($(filter-out amalgamation clean uninstall,$(or $(MAKECMDGOALS),all)),)
 machine := $(shell ffi/machine.sh $(CC) $(CFLAGS))
-ifeq ($(filter x86_64 aarch64 other,$(machine)),)
+ifeq ($(filter x86_64 aarch64 other windows archive,$(machine)),)
 $(error $(machine))
 endif
 # program NAME: the compiler's own tool of this name, which is that of the machine it builds for.
@@ -44,7 +48,7 @@ endif
 OBJCOPY ?= $(call program,objcopy)
 NM ?= $(call program,nm)
 READELF ?= $(call program,readelf)
-tools := AR OBJCOPY NM READELF
+tools := AR $(if $(filter archive,$(machine)),,NM) $(if $(filter windows archive,$(machine)),,OBJCOPY READELF)
 missing := $(firstword $(foreach it,$(tools),$(if $(shell command -v $(firstword $($(it))) 2> /dev/null),,$(it))))
 ifneq ($(missing),)
 $(error there is no $($(missing)): install binutils, or name your own, as in make $(missing)=FILE)
@@ -52,14 +56,14 @@ endif
 endif
 export CC CFLAGS LDFLAGS AR OBJCOPY NM READELF RUN
 
-CODE ?= $(if $(filter other,$(machine)),c,assembly)
+CODE ?= $(if $(filter x86_64 aarch64,$(machine)),assembly,c)
 code := $(GENERATED)/$(if $(filter c,$(CODE)),pkcs1_c.c,$(machine)/pkcs1_c.s)
 ifneq ($(machine),)
 $(if $(and $(filter c assembly,$(CODE)),$(wildcard $(code))),,$(error CODE is c or, on x86_64 and aarch64, assembly))
 endif
-tool := $(if $(filter other,$(machine)),,$(OUT)/pkcs1_tool)
+tool := $(if $(filter x86_64 aarch64,$(machine)),$(OUT)/pkcs1_tool)
 # What is left to the link can't be made local; debuggers go back from each call.
-library := -fPIC -fno-lto -fasynchronous-unwind-tables
+library := $(if $(filter windows archive,$(machine)),,-fPIC) -fno-lto -fasynchronous-unwind-tables
 compile = $(CC) -std=c99 $(CFLAGS) $(library) -Iffi/include -c $< -o $@
 assemble = $(CC) $(CFLAGS) -g0 -Wno-unused-command-line-argument -c $< -o $@
 
@@ -85,7 +89,7 @@ $(OUT)/settings: FORCE
 	@printf '%s\n' "$$settings" | cmp -s - $@ || printf '%s\n' "$$settings" > $@
 
 $(OUT)/proved.o: $(code) $(OUT)/settings
-	$(if $(filter c,$(CODE)),$(compile) -fno-strict-aliasing,$(assemble))
+	$(if $(filter c,$(CODE)),$(compile),$(assemble))
 $(OUT)/tool.o: $(GENERATED)/$(machine)/pkcs1_tool.s $(OUT)/settings
 	$(assemble)
 $(OUT)/calls.o: ffi/c/pkcs1.c ffi/include/pkcs1.h ffi/include/pkcs1_c.h $(OUT)/settings
@@ -98,6 +102,12 @@ $(OUT)/libpkcs1.a: $(OUT)/proved.o $(OUT)/calls.o ffi/link.sh
 	ffi/link.sh $(OUT)
 $(OUT)/pkcs1_tool: $(OUT)/tool.o $(OUT)/os.o $(OUT)/heap.o
 	$(CC) $(CFLAGS) -fno-lto $(LDFLAGS) -Wl,-z,relro,-z,now -o $@ $^
+
+# Made for whatever compiler comes: the compiler that is here isn't asked.
+amalgamation:
+	@mkdir -p $(OUT)
+	ffi/amalgamation.sh $(GENERATED) > $(OUT)/pkcs1_all.c
+	cp ffi/include/pkcs1.h $(OUT)
 
 check test: all
 	ffi/check.sh $(OUT)
@@ -114,5 +124,5 @@ ifneq ($(filter clean,$(MAKECMDGOALS)),)
 .NOTPARALLEL:
 endif
 
-.PHONY: all fresh check test install uninstall clean FORCE
+.PHONY: all amalgamation fresh check test install uninstall clean FORCE
 .DELETE_ON_ERROR:

@@ -1,7 +1,7 @@
 #!/bin/sh
 # check.sh OUT: tests what make left in this folder: the C test over the static and the shared library, what the calls
-# of pkcs1.h pass to the proved ones, a program without a C library, and the tool. CC, CFLAGS, NM and RUN are as in the
-# Makefile, which calls this.
+# of pkcs1.h pass to the proved ones, a program without a C library, and the tool. Where there is no ELF it is the C
+# test alone, for Windows over the DLL too. CC, CFLAGS, NM and RUN are as in the Makefile, which calls this.
 set -eu
 ulimit -t 600 # no test runs forever
 out=$(cd "$1" && pwd)
@@ -21,6 +21,17 @@ c_test() {
     shift
     $CC ${CFLAGS-} -std=c99 -Iffi/include ffi/c/test.c ffi/c/rows.c ffi/c/large.c "$@" -o "$tests/$name"
     ${RUN-} "$tests/$name" ffi/tests/statuses
+}
+# windows and archive: the C test with what was built for these.
+windows() {
+    cp "$out"/libpkcs1-*.dll "$tests"
+    c_test static.exe "$out/libpkcs1.a"
+    c_test shared.exe "$out/libpkcs1.dll.a"
+    say "the C test, with the static library and the DLL"
+}
+archive() {
+    c_test static "$out/libpkcs1.a"
+    say "the C test, with the static library"
 }
 # The C test in a program with functions of the proved calls' names, but for those that it calls itself: the shared
 # library calls its own.
@@ -72,6 +83,17 @@ watched() {
     say "valgrind finds nothing in the tool"
 }
 
+# shellcheck disable=SC2086
+case $(ffi/machine.sh $CC ${CFLAGS-}) in
+    windows)
+        windows
+        exit
+        ;;
+    archive)
+        archive
+        exit
+        ;;
+esac
 ffi/check_abi.sh
 ffi/check_object.sh "$out"
 c_test static "$out/libpkcs1.a"

@@ -30,8 +30,9 @@ own='\.TOC\.|_GLOBAL_OFFSET_TABLE_|_gp_disp|__aeabi_.*|__stack_chk_(fail|guard)|
 case "${CC-} ${CFLAGS-}" in
     *-fsanitize=* | *--coverage*) own="$own|__.*" ;;
     *)
-        ! $nm -f sysv "$out/pkcs1.o" | grep -E '\|(\.data|\.bss|\*COM\*)[.a-z0-9_]*$' | grep -v '\.data\.rel\.ro' ||
-            stop "the calls share data"
+        # A compiler's own constants are called .LC, and may stand there if they have addresses.
+        ! $nm -f sysv "$out/pkcs1.o" | grep -E '\|(\.data|\.bss|\*COM\*)[.a-z0-9_]*$' |
+            grep -vE '\.data\.rel\.ro|^\.LC[0-9]+ ' || stop "the calls share data"
         ;;
 esac
 asked=$({ $nm -u "$out/libpkcs1.a" && $nm -D -u "$out/libpkcs1.so"; } | sed -n 's/^ *U \([^@]*\).*/\1/p' | sort -u |

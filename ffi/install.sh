@@ -23,7 +23,9 @@ lib=${DESTDIR-}$libdir
 doc=${DESTDIR-}$prefix/share/doc/libpkcs1
 bin=${DESTDIR-}$prefix/bin
 man=${DESTDIR-}$prefix/share/man/man1
-soname=libpkcs1.so.$(sed -n 's/^#define PKCS1_ABI //p' "$here/include/pkcs1.h")
+abi=$(sed -n 's/^#define PKCS1_ABI //p' "$here/include/pkcs1.h")
+soname=libpkcs1.so.$abi
+dll=libpkcs1-$abi.dll
 
 # put MODE FILE FOLDER: replaces the file of this name in one step. A program that maps the old one goes on with it.
 put() {
@@ -41,8 +43,15 @@ add() {
     put 644 "$here/include/pkcs1.h" "$include"
     put 644 "$here/include/pkcs1_c.h" "$include"
     put 644 "$built/libpkcs1.a" "$lib"
-    put 644 "$built/$soname" "$lib"
-    link "$soname" libpkcs1.so "$lib"
+    if [ -e "$built/$soname" ]; then
+        put 644 "$built/$soname" "$lib"
+        link "$soname" libpkcs1.so "$lib"
+    fi
+    if [ -e "$built/$dll" ]; then
+        mkdir -p "$bin"
+        put 755 "$built/$dll" "$bin"
+        put 644 "$built/libpkcs1.dll.a" "$lib"
+    fi
     to_prefix=$(realpath -sm --relative-to="$libdir/pkgconfig" "$prefix")
     text=$(< "$here/libpkcs1.pc.in")
     text=${text//@version@/"$version"}
@@ -64,8 +73,8 @@ remove() {
         echo "ffi/install.sh: libpkcs1 isn't installed below ${DESTDIR-}$prefix" >&2
         exit 1
     }
-    rm -f "$include/pkcs1.h" "$include/pkcs1_c.h" "$lib"/libpkcs1.{a,so} "$lib/$soname" \
-        "$lib/pkgconfig/libpkcs1.pc" "$bin/pkcs1_tool" "$man/pkcs1_tool.1" \
+    rm -f "$include/pkcs1.h" "$include/pkcs1_c.h" "$lib"/libpkcs1.{a,so,dll.a} "$lib/$soname" \
+        "$lib/pkgconfig/libpkcs1.pc" "$bin"/{pkcs1_tool,"$dll"} "$man/pkcs1_tool.1" \
         "$doc"/LICENSE-{APACHE,MIT}
     rmdir --ignore-fail-on-non-empty "$doc"
 }

@@ -258,7 +258,10 @@ release() {
     ! "$room/again/tools/release.sh" "$room/refused" || stop "a release is made of what isn't committed"
     [ ! -e "$room/refused" ] || stop "a release is refused, and made in part"
     (cd "$room/release" && sha256sum --quiet -c -- *.sha256)
-    tar xzf "$room"/release/*.tar.gz -C "$room"
+    for it in "$room"/release/*.tar.gz; do
+        tar xzf "$it" -C "$room"
+    done
+    mv "$room"/pkcs1-proved-*-one-file "$room/one file"
     mv "$room"/pkcs1-proved-* "$room/unpacked"
     (cd "$room/unpacked" && sha256sum --quiet -c SHA256SUMS && tools/fresh.sh && tools/erase/compare.py)
     for it in crates/*/{src,specs,proofs}; do
@@ -267,6 +270,15 @@ release() {
     tools/docs/check_names.sh "$room/unpacked" README.md
     grep -qx "commit: $(git rev-parse HEAD)" "$room/unpacked/ffi/generated/PROVENANCE" || stop "no commit is named"
     parts "$room/unpacked"
+}
+# The one file of a release, which is that of make too: in a program of one's own, and under the C test.
+one_file() {
+    make amalgamation OUT="$room/amalgamation"
+    diff "$room/amalgamation/pkcs1_all.c" "$room/one file/pkcs1_all.c"
+    cc ffi/c/modulus.c "$room/one file/pkcs1_all.c" "-I$room/one file" -o "$room/own"
+    prints "$room/own"
+    cc ffi/c/{test,rows,large}.c "$room/one file/pkcs1_all.c" "-I$room/one file" -Iffi/include -o "$room/own_test"
+    "$room/own_test" ffi/tests/statuses
 }
 # parts FOLDER: the list of a release's parts has each crate whose functions PROVENANCE counts, and the hashes of the
 # compilers.
@@ -309,6 +321,7 @@ inside() {
     cd "$room/unpacked"
     use release
     step "release: the crate's tests" crate_tests
+    step "release: one file in a build of one's own" one_file
 }
 # enter FOLDER WORD: goes on in a room of this folder. What is mounted there is seen there only.
 enter() {

@@ -5,7 +5,8 @@ set -eu
 packages='make gcc g++ clang binutils perl python3 pkg-config openssl valgrind strace cmake meson qemu-user
     gcc-aarch64-linux-gnu gcc-riscv64-linux-gnu gcc-i686-linux-gnu gcc-s390x-linux-gnu gcc-mips-linux-gnu
     gcc-arm-linux-gnueabihf libc6-dev-arm64-cross libc6-dev-riscv64-cross libc6-dev-i386-cross libc6-dev-s390x-cross
-    libc6-dev-mips-cross libc6-dev-armhf-cross libclang-rt-14-dev llvm musl-tools frama-c-base why3 z3 cvc4 nodejs'
+    libc6-dev-mips-cross libc6-dev-armhf-cross libclang-rt-14-dev llvm musl-tools frama-c-base why3 z3 cvc4 nodejs
+    gcc-m68k-linux-gnu libc6-dev-m68k-cross tcc gcc-mingw-w64-x86-64 wine wine64 lld wasi-libc libclang-rt-14-dev-wasm32'
 missing=
 for it in $packages; do
     dpkg-query -W -f '${Status}' "$it" 2> /dev/null | grep -q 'ok installed' || missing="$missing $it"

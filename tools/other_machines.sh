@@ -6,7 +6,7 @@ cd "$(dirname "$0")/.."
 ulimit -t 600 # no test runs forever
 # Machines as qemu names them, each with the name that its compiler begins with.
 machines='aarch64:aarch64-linux-gnu riscv64:riscv64-linux-gnu i386:i686-linux-gnu arm:arm-linux-gnueabihf
-    s390x:s390x-linux-gnu mips:mips-linux-gnu'
+    s390x:s390x-linux-gnu mips:mips-linux-gnu m68k:m68k-linux-gnu'
 room=$(mktemp -d)
 trap 'rm -rf "$room"' EXIT
 

@@ -1,20 +1,23 @@
 #!/usr/bin/env bash
 # release.sh OUT: packs pkcs1-proved-VERSION.tar.gz into this folder, from what is committed: what `make` and cargo
-# need, the sources of the proofs, the documents for users, and a list of its parts (sbom.py). Its hash stands beside it.
+# need, the sources of the proofs, the documents for users, and a list of its parts (sbom.py). Beside it the library as
+# one file, in pkcs1-proved-VERSION-one-file.tar.gz, and the hash of each.
 # Two checkouts of a commit give the same bytes. A tree with changes that aren't committed is refused, and one whose
 # generated files are made of other sources. A release must not be published before the licence of the kit's library is
 # settled: docs/DECISIONS.md.
 set -eu
 contents=(
-    Makefile README.md CHANGELOG.md SECURITY.md LICENSE-APACHE LICENSE-MIT
+    Makefile CMakeLists.txt README.md CHANGELOG.md SECURITY.md LICENSE-APACHE LICENSE-MIT
     docs/{USING,PROMISES,DIFFERENCES,DECISIONS,RELEASE}.md
-    ffi/{machine,link,install,check,check_abi,check_object,check_passed,check_freestanding}.sh ffi/{abi,libpkcs1.pc.in}
+    ffi/{machine,link,install,amalgamation,check,check_abi,check_object,check_passed,check_freestanding}.sh
+    ffi/{abi,libpkcs1.pc.in}
     ffi/{include,generated,tests} rust :!rust/{check,check.sh,preconditions.py} tools/erase/{README.md,compare.py}
     ffi/c/{pkcs1,os,heap,test,rows,large,passed,freestanding,modulus,read_key,public_half}.c ffi/c/test.h
     docs/CLAIM.md ffi/c/bits.c ffi/python
     ffi/c/{open_container,make_container,make_params,signature_algorithm}.c
     crates/pkcs1_tool/{run_built.sh,copies.sh,refuse_memory.sh,refuse_memory.c,rows,stdin,stdout,pkcs1_tool.1}
     crates.txt ffi/prove.sh ffi/proof tools/{fresh.sh,generate.sh,generate,install.sh,count_definitions.py}
+    tools/{other_platforms.sh,wasi.mjs}
 )
 
 stop() {
@@ -30,6 +33,15 @@ readme() {
         s{\]\(\.\./}{](}g;
         s{^\|.*\]\((?!https?:)([^)#]+).*\n}{-e $1 ? $& : ""}gme' README.md
     rm docs/RELEASE.md
+}
+# pack NAME: packs the folder of this name, and writes its hash.
+pack() {
+    tar c --format=ustar --sort=name --owner=0 --group=0 --numeric-owner --mode=u=rwX,go=rX --mtime="@$date" "$1" |
+        gzip -9n > packed
+    [ "$(stat -c %s packed)" -lt 2000000 ] || stop "a release has less than 2000000 bytes, and this $(stat -c %s packed)"
+    mv packed "$out/$1.tar.gz"
+    (cd "$out" && sha256sum "$1.tar.gz" > "$1.tar.gz.sha256")
+    echo "$out/$1.tar.gz"
 }
 [ $# = 1 ] && [ -n "$1" ] || stop "usage: tools/release.sh OUT"
 out=$(realpath -m "$1")
@@ -57,10 +69,8 @@ for document in *.md docs/*.md rust/README.md tools/erase/README.md; do
 done
 find . -type f ! -name SHA256SUMS | sed 's,^\./,,' | sort | tr '\n' '\0' | xargs -0 sha256sum > SHA256SUMS
 cd "$room"
-tar c --format=ustar --sort=name --owner=0 --group=0 --numeric-owner --mode=u=rwX,go=rX --mtime="@$date" "$name" |
-    gzip -9n > packed
-[ "$(stat -c %s packed)" -lt 2000000 ] || stop "a release has less than 2000000 bytes, and this $(stat -c %s packed)"
-mkdir -p "$out"
-mv packed "$out/$name.tar.gz"
-(cd "$out" && sha256sum "$name.tar.gz" > "$name.tar.gz.sha256")
-echo "$out/$name.tar.gz"
+mkdir -p "$out" "$name-one-file"
+cp "$name"/{LICENSE-APACHE,LICENSE-MIT,ffi/include/pkcs1.h,ffi/generated/PROVENANCE} "$name-one-file"
+"$name/ffi/amalgamation.sh" "$name/ffi/generated" > "$name-one-file/pkcs1_all.c"
+pack "$name"
+pack "$name-one-file"

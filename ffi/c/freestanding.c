@@ -1,11 +1,13 @@
 /* A program of libpkcs1.a and this alone, without a C library: the four functions that the library asks for, and every
- * kind of call. It ends with 0, or with the line of a check that fails. */
+ * kind of call. It ends with 0, or with the line of a check that fails. On WebAssembly `tested` is called for that. */
 #include <pkcs1.h>
 
 #define CHECK(c) do { if (!(c)) return __LINE__; } while (0)
 #ifdef __x86_64__
 __asm__(".globl _start\n_start: andq $-16, %rsp\n call tested\n movl %eax, %edi\n movl $60, %eax\n syscall\n");
-#else
+#elif defined __arm__
+__asm__(".syntax unified\n.thumb\n.thumb_func\n.globl _start\n_start: bl tested\n movs r7, #1\n svc #0\n");
+#elif defined __aarch64__
 __asm__(".globl _start\n_start: bl tested\n mov x8, #93\n svc #0\n");
 #endif
 

@@ -1,18 +1,25 @@
 /* Made by tools/generate.sh of the proved library: not to be read, nor changed. PROVENANCE says from what. */
+#include <limits.h>
 #include <stdint.h>
+
+#if INT_MAX < 0x7fffffff
+#error "pkcs1: this code is for machines on which an int has 32 bits or more"
+#elif SIZE_MAX != UINTPTR_MAX
+#error "pkcs1: this code is for machines on which an address is as long as a size_t"
+#endif
 #include <string.h>
 
 /* The code is that of a module for x86-64: an address has 64 bits, and the least octet of a number stands first. On
  * another machine an address is held as a number of 64 bits, numbers are read and written in that order, and what
  * stands last here copies the structs of callers. PKCS1_FOREIGN has it so on any machine. */
-#if !defined __BYTE_ORDER__ || SIZE_MAX != UINTPTR_MAX
-#error "pkcs1: this code is for gcc and clang, and for machines on which an address is as long as a size_t"
-#elif __BYTE_ORDER__ != __ORDER_LITTLE_ENDIAN__ || UINTPTR_MAX != 0xffffffffffffffffu
+#if defined _MSC_VER || (defined __BYTE_ORDER__ && __BYTE_ORDER__ == __ORDER_LITTLE_ENDIAN__)
+#define LEAST_FIRST
+#endif
+#if !defined LEAST_FIRST || UINTPTR_MAX != 0xffffffffffffffffu
 #undef PKCS1_FOREIGN
 #define PKCS1_FOREIGN
 #endif
 
-#define ALIGNED(n) __attribute__((aligned(n)))
 typedef uint8_t u1, u8;
 typedef uint16_t u16;
 typedef uint32_t u32;
@@ -21,37 +28,70 @@ typedef uint64_t u64;
 __extension__ typedef unsigned __int128 u128;
 #endif
 
-/* P: an address. AT: that of an object. OCTETS: what is there. NAME and LINKAGE: those of a call that others make. */
+/* What gcc and clang have, and C99 hasn't. PKCS1_PLAIN has it so for any compiler. APART: a function that isn't made part
+ * of another. ONCE: one that is, since it is called once. TURNED: the octets of a number in the other order. ZEROS: how
+ * many zero bits stand in front of a number. */
+#ifndef __GNUC__
+#undef PKCS1_PLAIN
+#define PKCS1_PLAIN
+#endif
+#ifndef PKCS1_PLAIN
+#define ALIGNED(n) __attribute__((aligned(n)))
+#define APART __attribute__((noinline))
+#define ONCE __attribute__((always_inline)) inline
+#define TRAP() __builtin_trap()
+#define TURNED(bits, it) __builtin_bswap##bits(it)
+#define ZEROS(bits, it) ((it) ? (u32)((bits) > 32 ? __builtin_clzll(it) - (64 - (bits)) \
+                                                  : __builtin_clz((u32)(it)) - (32 - (bits))) : (u32)(bits))
+#else
+#include <stdlib.h>
+#define ALIGNED(n)
+#define APART
+#define ONCE
+#define TRAP() abort()
+#define TURNED(bits, it) TURNED_##bits(it)
+#define TURNED_16(it) ((u16)((it) << 8 | (it) >> 8))
+#define TURNED_32(it) ((u32)TURNED_16((u16)(it)) << 16 | TURNED_16((u16)((it) >> 16)))
+#define TURNED_64(it) ((u64)TURNED_32((u32)(it)) << 32 | TURNED_32((u32)((it) >> 32)))
+#define ZEROS(bits, it) zeros(bits, it)
+static inline u32 zeros(u32 bits, u64 it) { for (; it != 0; it >>= 1) bits--; return bits; }
+#endif
+
+/* P: an address. AT: that of an object. OCTETS: what is there. */
 #ifdef PKCS1_FOREIGN
 typedef u64 P;
 #define AT(it) ((P)(uintptr_t)(it))
 #define OCTETS(at) ((unsigned char *)(uintptr_t)(at))
-#define NAME(it) proved_##it
-#define LINKAGE static
 #else
 typedef unsigned char *P;
 #define AT(it) ((P)(it))
 #define OCTETS(at) (at)
-#define NAME(it) pkcs1_c_##it
-#define LINKAGE
 #endif
 
-#if __BYTE_ORDER__ == __ORDER_LITTLE_ENDIAN__
+/* GET and PUT define what reads and writes a number, as a whole where its order is known, else by its octets. */
+#if defined LEAST_FIRST
 #define ORDER(type, it) (it)
-#else
+#elif defined __BYTE_ORDER__
 #define ORDER(type, it) ORDER_##type(it)
 #define ORDER_u1(it) (it)
 #define ORDER_u8(it) (it)
-#define ORDER_u16(it) __builtin_bswap16(it)
-#define ORDER_u32(it) __builtin_bswap32(it)
-#define ORDER_u64(it) __builtin_bswap64(it)
+#define ORDER_u16(it) TURNED(16, it)
+#define ORDER_u32(it) TURNED(32, it)
+#define ORDER_u64(it) TURNED(64, it)
 #define ORDER_u128(it) ((u128)ORDER_u64((u64)(it)) << 64 | ORDER_u64((u64)((it) >> 64)))
 #define ORDER_P(it) ORDER_u64(it)
 #endif
+#ifdef ORDER
 #define GET(type) static inline type get_##type(P at) { \
     type it; memcpy(&it, OCTETS(at), sizeof it); return ORDER(type, it); }
 #define PUT(type) static inline void put_##type(P at, type it) { \
     it = ORDER(type, it); memcpy(OCTETS(at), &it, sizeof it); }
+#else
+#define GET(type) static inline type get_##type(P at) { \
+    type it = 0; for (unsigned i = sizeof it; i > 0; i--) it = (type)(it << 8 | OCTETS(at)[i - 1]); return it; }
+#define PUT(type) static inline void put_##type(P at, type it) { \
+    for (unsigned i = 0; i < sizeof it; i++) OCTETS(at)[i] = (u8)(it >> 8 * i); }
+#endif
 #define GET_PART(bits) static inline u64 get_##bits(P at) { \
     u64 it = 0; for (unsigned i = bits / 8; i > 0; i--) it = it << 8 | OCTETS(at)[i - 1]; return it; }
 #define PUT_PART(bits) static inline void put_##bits(P at, u64 it) { \
@@ -144,32 +184,32 @@ static void f_pkcs1_c_pss_from_c_pss(P v_a0, P v_a1);
 static void f_der_core_encode_AnyEncode_encoded_len_5a57132c6d95(P v_a0, P v_a1_0_val, u8 v_a1_8_val);
 static u32 f_pkcs1_c_oaep_write_fields(P v_a0, P v_a1, u64 v_a2, P v_a3);
 static u32 f_pkcs1_c_pss_write_fields(P v_a0, P v_a1, u64 v_a2, P v_a3);
-LINKAGE u1 NAME(algorithm_is)(P v_a0, P v_a1, u64 v_a2);
-LINKAGE u64 NAME(bit_len)(P v_a0, u64 v_a1);
-LINKAGE u1 NAME(oaep_label)(P v_a0, P v_a1);
-LINKAGE void NAME(version)(P v_a0);
-LINKAGE u32 NAME(public_key_decode)(P v_a0, u64 v_a1, P v_a2);
-LINKAGE void NAME(status_text)(u32 v_a0, P v_a1);
-LINKAGE u32 NAME(private_key_decode)(P v_a0, u64 v_a1, P v_a2, P v_a3);
-LINKAGE u32 NAME(private_key_info_decode)(P v_a0, u64 v_a1, P v_a2, P v_a3, P v_a4);
-LINKAGE u32 NAME(oaep_algorithm_decode)(P v_a0, u64 v_a1, P v_a2);
-LINKAGE u32 NAME(oaep_algorithm_decode_strict)(P v_a0, u64 v_a1, P v_a2);
-LINKAGE u32 NAME(oaep_params_decode)(P v_a0, u64 v_a1, P v_a2);
-LINKAGE u32 NAME(oaep_params_decode_strict)(P v_a0, u64 v_a1, P v_a2);
-LINKAGE void NAME(other_primes)(P v_a0, u64 v_a1, P v_a2, u64 v_a3);
-LINKAGE u32 NAME(pss_algorithm_decode)(P v_a0, u64 v_a1, P v_a2);
-LINKAGE u32 NAME(pss_algorithm_decode_strict)(P v_a0, u64 v_a1, P v_a2);
-LINKAGE u32 NAME(pss_params_decode)(P v_a0, u64 v_a1, P v_a2);
-LINKAGE u32 NAME(pss_params_decode_strict)(P v_a0, u64 v_a1, P v_a2);
-LINKAGE u1 NAME(oaep_is)(P v_a0, P v_a1, u64 v_a2);
-LINKAGE u1 NAME(pss_is)(P v_a0, P v_a1, u64 v_a2);
-LINKAGE u32 NAME(private_key_encode)(P v_a0, P v_a1, u64 v_a2, P v_a3, u64 v_a4, P v_a5);
-LINKAGE u32 NAME(private_key_info_encode)(P v_a0, P v_a1, u64 v_a2, P v_a3);
-LINKAGE u32 NAME(public_key_encode)(P v_a0, P v_a1, u64 v_a2, P v_a3);
-LINKAGE u32 NAME(oaep_algorithm_encode)(P v_a0, P v_a1, u64 v_a2, P v_a3);
-LINKAGE u32 NAME(pss_algorithm_encode)(P v_a0, P v_a1, u64 v_a2, P v_a3);
-LINKAGE u32 NAME(oaep_params_encode)(P v_a0, P v_a1, u64 v_a2, P v_a3);
-LINKAGE u32 NAME(pss_params_encode)(P v_a0, P v_a1, u64 v_a2, P v_a3);
+static u1 proved_algorithm_is(P v_a0, P v_a1, u64 v_a2);
+static u64 proved_bit_len(P v_a0, u64 v_a1);
+static u1 proved_oaep_label(P v_a0, P v_a1);
+static void proved_version(P v_a0);
+static ONCE u32 proved_public_key_decode(P v_a0, u64 v_a1, P v_a2);
+static void proved_status_text(u32 v_a0, P v_a1);
+static ONCE u32 proved_private_key_decode(P v_a0, u64 v_a1, P v_a2, P v_a3);
+static ONCE u32 proved_private_key_info_decode(P v_a0, u64 v_a1, P v_a2, P v_a3, P v_a4);
+static ONCE u32 proved_oaep_algorithm_decode(P v_a0, u64 v_a1, P v_a2);
+static ONCE u32 proved_oaep_algorithm_decode_strict(P v_a0, u64 v_a1, P v_a2);
+static ONCE u32 proved_oaep_params_decode(P v_a0, u64 v_a1, P v_a2);
+static ONCE u32 proved_oaep_params_decode_strict(P v_a0, u64 v_a1, P v_a2);
+static void proved_other_primes(P v_a0, u64 v_a1, P v_a2, u64 v_a3);
+static ONCE u32 proved_pss_algorithm_decode(P v_a0, u64 v_a1, P v_a2);
+static ONCE u32 proved_pss_algorithm_decode_strict(P v_a0, u64 v_a1, P v_a2);
+static ONCE u32 proved_pss_params_decode(P v_a0, u64 v_a1, P v_a2);
+static ONCE u32 proved_pss_params_decode_strict(P v_a0, u64 v_a1, P v_a2);
+static u1 proved_oaep_is(P v_a0, P v_a1, u64 v_a2);
+static u1 proved_pss_is(P v_a0, P v_a1, u64 v_a2);
+static u32 proved_private_key_encode(P v_a0, P v_a1, u64 v_a2, P v_a3, u64 v_a4, P v_a5);
+static u32 proved_private_key_info_encode(P v_a0, P v_a1, u64 v_a2, P v_a3);
+static u32 proved_public_key_encode(P v_a0, P v_a1, u64 v_a2, P v_a3);
+static u32 proved_oaep_algorithm_encode(P v_a0, P v_a1, u64 v_a2, P v_a3);
+static u32 proved_pss_algorithm_encode(P v_a0, P v_a1, u64 v_a2, P v_a3);
+static u32 proved_oaep_params_encode(P v_a0, P v_a1, u64 v_a2, P v_a3);
+static u32 proved_pss_params_encode(P v_a0, P v_a1, u64 v_a2, P v_a3);
 static u1 f_core_cmp_slices_groups_equal_i8_31_core_cmp_number(P v_a0, u64 v_a1, P v_a2) {
     u64 p_v_r1_03_i;
     u1 p_v_r1_07_i_i42;
@@ -2947,8 +2987,8 @@ L_then_14_i:;
     v_r182_i = (u64)((u64)(v_r175_i) | (u64)(v_r179_i));
     { p_v_r4_sroa_10_32252 = v_r19_i_i645; p_v_r4_sroa_0_22250 = v_r16_i_i644; p_v_r12_sroa_10_0_i = v_r182_i; goto L_arm_1_i; }
 L_join_16_i:;
-    __builtin_trap();
-    __builtin_trap();
+    TRAP();
+    TRAP();
 L_arm_1_i:;
     v_r4_sroa_10_32252 = p_v_r4_sroa_10_32252;
     v_r4_sroa_0_22250 = p_v_r4_sroa_0_22250;
@@ -3063,8 +3103,8 @@ L_then_14_i_i:;
     v_r182_i_i = (u32)((u32)(v_r175_i_i) | (u32)(v_r179_i_i));
     { p_v_r6_i_sroa_22_32387 = v_r19_i_i899; p_v_r6_i_sroa_0_32385 = v_r16_i_i898; p_v_r12_sroa_10_0_i962 = v_r182_i_i; goto L_arm_1_i321; }
 L_join_16_i_i:;
-    __builtin_trap();
-    __builtin_trap();
+    TRAP();
+    TRAP();
 L_arm_1_i321:;
     v_r6_i_sroa_22_32387 = p_v_r6_i_sroa_22_32387;
     v_r6_i_sroa_0_32385 = p_v_r6_i_sroa_0_32385;
@@ -3207,8 +3247,8 @@ L_then_14_i_i_i:;
     v_r182_i_i_i = (u32)((u32)(v_r175_i_i_i) | (u32)(v_r179_i_i_i));
     { p_v_r6_i_sroa_22_82560 = v_r19_i_i1239; p_v_r6_i_sroa_0_82558 = v_r16_i_i1238; p_v_r12_sroa_10_0_i1302 = v_r182_i_i_i; goto L_arm_1_i_i483; }
 L_join_16_i_i_i:;
-    __builtin_trap();
-    __builtin_trap();
+    TRAP();
+    TRAP();
 L_arm_1_i_i483:;
     v_r6_i_sroa_22_82560 = p_v_r6_i_sroa_22_82560;
     v_r6_i_sroa_0_82558 = p_v_r6_i_sroa_0_82558;
@@ -5183,8 +5223,8 @@ L_then_14_i_i:;
     v_r182_i_i = (u64)((u64)(v_r175_i_i) | (u64)(v_r179_i_i));
     { p_v_r4_sroa_10_2864 = v_r19_i_i88; p_v_r4_sroa_0_2862 = v_r16_i_i87; p_v_r12_sroa_10_0_i = v_r182_i_i; goto L_arm_1_i; }
 L_join_16_i_i:;
-    __builtin_trap();
-    __builtin_trap();
+    TRAP();
+    TRAP();
 L_arm_1_i:;
     v_r4_sroa_10_2864 = p_v_r4_sroa_10_2864;
     v_r4_sroa_0_2862 = p_v_r4_sroa_0_2862;
@@ -5301,8 +5341,8 @@ L_then_14_i_i_i:;
     v_r182_i_i_i = (u32)((u32)(v_r175_i_i_i) | (u32)(v_r179_i_i_i));
     { p_v_r13_sroa_0_0_copyload_i_i870_i = v_r16_i_i764_i; p_v_r36_i_i867_i = v_r19_i_i765_i; p_v_r12_sroa_10_0_i_i = v_r182_i_i_i; goto L_arm_1_i61_i; }
 L_join_16_i_i_i:;
-    __builtin_trap();
-    __builtin_trap();
+    TRAP();
+    TRAP();
 L_arm_1_i61_i:;
     v_r13_sroa_0_0_copyload_i_i870_i = p_v_r13_sroa_0_0_copyload_i_i870_i;
     v_r36_i_i867_i = p_v_r36_i_i867_i;
@@ -5443,8 +5483,8 @@ L_then_14_i_i_i_i:;
     v_r182_i_i_i_i = (u32)((u32)(v_r175_i_i_i_i) | (u32)(v_r179_i_i_i_i));
     { p_v_r13_sroa_0_0_copyload_i_i1185_i = v_r16_i_i1056_i; p_v_r36_i_i1182_i = v_r19_i_i1057_i; p_v_r12_sroa_10_0_i1120_i = v_r182_i_i_i_i; goto L_arm_1_i_i153_i; }
 L_join_16_i_i_i_i:;
-    __builtin_trap();
-    __builtin_trap();
+    TRAP();
+    TRAP();
 L_arm_1_i_i153_i:;
     v_r13_sroa_0_0_copyload_i_i1185_i = p_v_r13_sroa_0_0_copyload_i_i1185_i;
     v_r36_i_i1182_i = p_v_r36_i_i1182_i;
@@ -5584,8 +5624,8 @@ L_then_14_i_i_i588_i:;
     v_r182_i_i_i605_i = (u32)((u32)(v_r175_i_i_i602_i) | (u32)(v_r179_i_i_i604_i));
     { p_v_r13_sroa_0_0_copyload_i_i1522_i = v_r16_i_i1393_i; p_v_r36_i_i1519_i = v_r19_i_i1394_i; p_v_r12_sroa_10_0_i1457_i = v_r182_i_i_i605_i; goto L_arm_1_i_i368_i; }
 L_join_16_i_i_i587_i:;
-    __builtin_trap();
-    __builtin_trap();
+    TRAP();
+    TRAP();
 L_arm_1_i_i368_i:;
     v_r13_sroa_0_0_copyload_i_i1522_i = p_v_r13_sroa_0_0_copyload_i_i1522_i;
     v_r36_i_i1519_i = p_v_r36_i_i1519_i;
@@ -5725,8 +5765,8 @@ L_then_14_i_i_i1679_i:;
     v_r182_i_i_i1695_i = (u32)((u32)(v_r175_i_i_i1692_i) | (u32)(v_r179_i_i_i1694_i));
     { p_v_r13_sroa_0_0_copyload_i_i2197_i_i = v_r16_i_i2090_i_i; p_v_r36_i_i2194_i_i = v_r19_i_i2091_i_i; p_v_r12_sroa_10_0_i_i_i = v_r182_i_i_i1695_i; goto L_arm_1_i_i1659_i; }
 L_join_16_i_i_i1678_i:;
-    __builtin_trap();
-    __builtin_trap();
+    TRAP();
+    TRAP();
 L_arm_1_i_i1659_i:;
     v_r13_sroa_0_0_copyload_i_i2197_i_i = p_v_r13_sroa_0_0_copyload_i_i2197_i_i;
     v_r36_i_i2194_i_i = p_v_r36_i_i2194_i_i;
@@ -5866,8 +5906,8 @@ L_then_14_i_i_i_i_i:;
     v_r182_i_i_i_i_i = (u32)((u32)(v_r175_i_i_i_i_i) | (u32)(v_r179_i_i_i_i_i));
     { p_v_r13_sroa_0_0_copyload_i_i2528_i_i = v_r16_i_i2399_i_i; p_v_r36_i_i2525_i_i = v_r19_i_i2400_i_i; p_v_r12_sroa_10_0_i2463_i_i = v_r182_i_i_i_i_i; goto L_arm_1_i_i82_i_i; }
 L_join_16_i_i_i_i_i:;
-    __builtin_trap();
-    __builtin_trap();
+    TRAP();
+    TRAP();
 L_arm_1_i_i82_i_i:;
     v_r13_sroa_0_0_copyload_i_i2528_i_i = p_v_r13_sroa_0_0_copyload_i_i2528_i_i;
     v_r36_i_i2525_i_i = p_v_r36_i_i2525_i_i;
@@ -6007,8 +6047,8 @@ L_then_14_i_i_i517_i_i:;
     v_r182_i_i_i534_i_i = (u32)((u32)(v_r175_i_i_i531_i_i) | (u32)(v_r179_i_i_i533_i_i));
     { p_v_r13_sroa_0_0_copyload_i_i2881_i_i = v_r16_i_i2752_i_i; p_v_r36_i_i2878_i_i = v_r19_i_i2753_i_i; p_v_r12_sroa_10_0_i2816_i_i = v_r182_i_i_i534_i_i; goto L_arm_1_i_i297_i_i; }
 L_join_16_i_i_i516_i_i:;
-    __builtin_trap();
-    __builtin_trap();
+    TRAP();
+    TRAP();
 L_arm_1_i_i297_i_i:;
     v_r13_sroa_0_0_copyload_i_i2881_i_i = p_v_r13_sroa_0_0_copyload_i_i2881_i_i;
     v_r36_i_i2878_i_i = p_v_r36_i_i2878_i_i;
@@ -6148,8 +6188,8 @@ L_then_14_i_i_i986_i_i:;
     v_r182_i_i_i1003_i_i = (u32)((u32)(v_r175_i_i_i1000_i_i) | (u32)(v_r179_i_i_i1002_i_i));
     { p_v_r13_sroa_0_0_copyload_i_i3234_i_i = v_r16_i_i3105_i_i; p_v_r36_i_i3231_i_i = v_r19_i_i3106_i_i; p_v_r12_sroa_10_0_i3169_i_i = v_r182_i_i_i1003_i_i; goto L_arm_1_i_i766_i_i; }
 L_join_16_i_i_i985_i_i:;
-    __builtin_trap();
-    __builtin_trap();
+    TRAP();
+    TRAP();
 L_arm_1_i_i766_i_i:;
     v_r13_sroa_0_0_copyload_i_i3234_i_i = p_v_r13_sroa_0_0_copyload_i_i3234_i_i;
     v_r36_i_i3231_i_i = p_v_r36_i_i3231_i_i;
@@ -6289,8 +6329,8 @@ L_then_14_i_i_i1455_i_i:;
     v_r182_i_i_i1472_i_i = (u32)((u32)(v_r175_i_i_i1469_i_i) | (u32)(v_r179_i_i_i1471_i_i));
     { p_v_r13_sroa_0_0_copyload_i_i3587_i_i = v_r16_i_i3458_i_i; p_v_r36_i_i3584_i_i = v_r19_i_i3459_i_i; p_v_r12_sroa_10_0_i3522_i_i = v_r182_i_i_i1472_i_i; goto L_arm_1_i_i1235_i_i; }
 L_join_16_i_i_i1454_i_i:;
-    __builtin_trap();
-    __builtin_trap();
+    TRAP();
+    TRAP();
 L_arm_1_i_i1235_i_i:;
     v_r13_sroa_0_0_copyload_i_i3587_i_i = p_v_r13_sroa_0_0_copyload_i_i3587_i_i;
     v_r36_i_i3584_i_i = p_v_r36_i_i3584_i_i;
@@ -6430,8 +6470,8 @@ L_then_14_i_i_i1912_i_i:;
     v_r182_i_i_i1929_i_i = (u32)((u32)(v_r175_i_i_i1926_i_i) | (u32)(v_r179_i_i_i1928_i_i));
     { p_v_r13_sroa_0_0_copyload_i_i3940_i_i = v_r16_i_i3811_i_i; p_v_r36_i_i3937_i_i = v_r19_i_i3812_i_i; p_v_r12_sroa_10_0_i3875_i_i = v_r182_i_i_i1929_i_i; goto L_arm_1_i_i1692_i_i; }
 L_join_16_i_i_i1911_i_i:;
-    __builtin_trap();
-    __builtin_trap();
+    TRAP();
+    TRAP();
 L_arm_1_i_i1692_i_i:;
     v_r13_sroa_0_0_copyload_i_i3940_i_i = p_v_r13_sroa_0_0_copyload_i_i3940_i_i;
     v_r36_i_i3937_i_i = p_v_r36_i_i3937_i_i;
@@ -6579,8 +6619,8 @@ L_then_14_i_i_i_i1888_i:;
     v_r182_i_i_i_i1904_i = (u32)((u32)(v_r175_i_i_i_i1901_i) | (u32)(v_r179_i_i_i_i1903_i));
     { p_v_r13_sroa_0_0_copyload_i_i333_i_i_i = v_r16_i_i216_i_i_i; p_v_r36_i_i330_i_i_i = v_r19_i_i217_i_i_i; p_v_r12_sroa_10_0_i_i_i_i = v_r182_i_i_i_i1904_i; goto L_arm_1_i51_i_i_i; }
 L_join_16_i_i_i_i1887_i:;
-    __builtin_trap();
-    __builtin_trap();
+    TRAP();
+    TRAP();
 L_arm_1_i51_i_i_i:;
     v_r13_sroa_0_0_copyload_i_i333_i_i_i = p_v_r13_sroa_0_0_copyload_i_i333_i_i_i;
     v_r36_i_i330_i_i_i = p_v_r36_i_i330_i_i_i;
@@ -7230,8 +7270,8 @@ L_then_14_i_i_i:;
     v_r182_i_i_i = (u64)((u64)(v_r175_i_i_i) | (u64)(v_r179_i_i_i));
     { p_v_r3_sroa_11_43422_i = v_r19_i_i1204_i; p_v_r3_sroa_0_43420_i = v_r16_i_i1203_i; p_v_r12_sroa_10_0_i_i = v_r182_i_i_i; goto L_arm_1_i27_i; }
 L_join_16_i_i_i:;
-    __builtin_trap();
-    __builtin_trap();
+    TRAP();
+    TRAP();
 L_arm_1_i27_i:;
     v_r3_sroa_11_43422_i = p_v_r3_sroa_11_43422_i;
     v_r3_sroa_0_43420_i = p_v_r3_sroa_0_43420_i;
@@ -7348,8 +7388,8 @@ L_then_14_i_i_i_i:;
     v_r182_i_i_i_i = (u32)((u32)(v_r175_i_i_i_i) | (u32)(v_r179_i_i_i_i));
     { p_v_r6_i12_sroa_30_53863_i = v_r19_i_i1458_i; p_v_r6_i12_sroa_0_53861_i = v_r16_i_i1457_i; p_v_r12_sroa_10_0_i1521_i = v_r182_i_i_i_i; goto L_arm_1_i325_i; }
 L_join_16_i_i_i_i:;
-    __builtin_trap();
-    __builtin_trap();
+    TRAP();
+    TRAP();
 L_arm_1_i325_i:;
     v_r6_i12_sroa_30_53863_i = p_v_r6_i12_sroa_30_53863_i;
     v_r6_i12_sroa_0_53861_i = p_v_r6_i12_sroa_0_53861_i;
@@ -7484,8 +7524,8 @@ L_then_14_i_i_i_i_i:;
     v_r182_i_i_i_i_i = (u32)((u32)(v_r175_i_i_i_i_i) | (u32)(v_r179_i_i_i_i_i));
     { p_v_r6_i12_sroa_30_104449_i = v_r19_i_i1798_i; p_v_r6_i12_sroa_0_104447_i = v_r16_i_i1797_i; p_v_r12_sroa_10_0_i1861_i = v_r182_i_i_i_i_i; goto L_arm_1_i_i537_i; }
 L_join_16_i_i_i_i_i:;
-    __builtin_trap();
-    __builtin_trap();
+    TRAP();
+    TRAP();
 L_arm_1_i_i537_i:;
     v_r6_i12_sroa_30_104449_i = p_v_r6_i12_sroa_30_104449_i;
     v_r6_i12_sroa_0_104447_i = p_v_r6_i12_sroa_0_104447_i;
@@ -7620,8 +7660,8 @@ L_then_14_i_i_i_i995_i:;
     v_r182_i_i_i_i1012_i = (u32)((u32)(v_r175_i_i_i_i1009_i) | (u32)(v_r179_i_i_i_i1011_i));
     { p_v_r6_i12_sroa_30_155035_i = v_r19_i_i2151_i; p_v_r6_i12_sroa_0_155033_i = v_r16_i_i2150_i; p_v_r12_sroa_10_0_i2214_i = v_r182_i_i_i_i1012_i; goto L_arm_1_i_i775_i; }
 L_join_16_i_i_i_i994_i:;
-    __builtin_trap();
-    __builtin_trap();
+    TRAP();
+    TRAP();
 L_arm_1_i_i775_i:;
     v_r6_i12_sroa_30_155035_i = p_v_r6_i12_sroa_30_155035_i;
     v_r6_i12_sroa_0_155033_i = p_v_r6_i12_sroa_0_155033_i;
@@ -8560,8 +8600,8 @@ L_then_14_i_i:;
     v_r182_i_i = (u64)((u64)(v_r175_i_i) | (u64)(v_r179_i_i));
     { p_v_r4_sroa_10_2854 = v_r19_i_i125; p_v_r4_sroa_0_2852 = v_r16_i_i124; p_v_r12_sroa_10_0_i = v_r182_i_i; goto L_arm_1_i; }
 L_join_16_i_i:;
-    __builtin_trap();
-    __builtin_trap();
+    TRAP();
+    TRAP();
 L_arm_1_i:;
     v_r4_sroa_10_2854 = p_v_r4_sroa_10_2854;
     v_r4_sroa_0_2852 = p_v_r4_sroa_0_2852;
@@ -8675,8 +8715,8 @@ L_then_14_i_i_i:;
     v_r182_i_i_i = (u32)((u32)(v_r175_i_i_i) | (u32)(v_r179_i_i_i));
     { p_v_r13_sroa_0_0_copyload_i_i2123_i = v_r16_i_i2016_i; p_v_r36_i_i2120_i = v_r19_i_i2017_i; p_v_r12_sroa_10_0_i_i = v_r182_i_i_i; goto L_arm_1_i_i273; }
 L_join_16_i_i_i:;
-    __builtin_trap();
-    __builtin_trap();
+    TRAP();
+    TRAP();
 L_arm_1_i_i273:;
     v_r13_sroa_0_0_copyload_i_i2123_i = p_v_r13_sroa_0_0_copyload_i_i2123_i;
     v_r36_i_i2120_i = p_v_r36_i_i2120_i;
@@ -8816,8 +8856,8 @@ L_then_14_i_i291_i:;
     v_r182_i_i301_i = (u64)((u64)(v_r175_i_i298_i) | (u64)(v_r179_i_i300_i));
     { p_v_r13_sroa_0_0_copyload_i_i2430_i = v_r16_i_i2301_i; p_v_r36_i_i2427_i = v_r19_i_i2302_i; p_v_r12_sroa_10_0_i2365_i = v_r182_i_i301_i; goto L_arm_1_i132_i; }
 L_join_16_i_i290_i:;
-    __builtin_trap();
-    __builtin_trap();
+    TRAP();
+    TRAP();
 L_arm_1_i132_i:;
     v_r13_sroa_0_0_copyload_i_i2430_i = p_v_r13_sroa_0_0_copyload_i_i2430_i;
     v_r36_i_i2427_i = p_v_r36_i_i2427_i;
@@ -8934,8 +8974,8 @@ L_then_14_i_i777_i:;
     v_r182_i_i794_i = (u32)((u32)(v_r175_i_i791_i) | (u32)(v_r179_i_i793_i));
     { p_v_r6_i71_sroa_23_35123_i = v_r19_i_i2573_i; p_v_r6_i71_sroa_0_35121_i = v_r16_i_i2572_i; p_v_r12_sroa_10_0_i2636_i = v_r182_i_i794_i; goto L_arm_1_i566_i; }
 L_join_16_i_i776_i:;
-    __builtin_trap();
-    __builtin_trap();
+    TRAP();
+    TRAP();
 L_arm_1_i566_i:;
     v_r6_i71_sroa_23_35123_i = p_v_r6_i71_sroa_23_35123_i;
     v_r6_i71_sroa_0_35121_i = p_v_r6_i71_sroa_0_35121_i;
@@ -9070,8 +9110,8 @@ L_then_14_i_i1316_i:;
     v_r182_i_i1326_i = (u64)((u64)(v_r175_i_i1323_i) | (u64)(v_r179_i_i1325_i));
     { p_v_r6_i71_sroa_23_85308_i = v_r19_i_i2981_i; p_v_r6_i71_sroa_0_85306_i = v_r16_i_i2980_i; p_v_r12_sroa_10_0_i3044_i = v_r182_i_i1326_i; goto L_join_3_i3091_i; }
 L_join_16_i_i1315_i:;
-    __builtin_trap();
-    __builtin_trap();
+    TRAP();
+    TRAP();
 L_join_3_i3091_i:;
     v_r6_i71_sroa_23_85308_i = p_v_r6_i71_sroa_23_85308_i;
     v_r6_i71_sroa_0_85306_i = p_v_r6_i71_sroa_0_85306_i;
@@ -9192,8 +9232,8 @@ L_then_14_i_i1767_i:;
     v_r182_i_i1784_i = (u64)((u64)(v_r175_i_i1781_i) | (u64)(v_r179_i_i1783_i));
     { p_v_r13_sroa_0_0_copyload_i_i3590_i = v_r16_i_i3461_i; p_v_r36_i_i3587_i = v_r19_i_i3462_i; p_v_r12_sroa_10_0_i3525_i = v_r182_i_i1784_i; goto L_arm_1_i1547_i; }
 L_join_16_i_i1766_i:;
-    __builtin_trap();
-    __builtin_trap();
+    TRAP();
+    TRAP();
 L_arm_1_i1547_i:;
     v_r13_sroa_0_0_copyload_i_i3590_i = p_v_r13_sroa_0_0_copyload_i_i3590_i;
     v_r36_i_i3587_i = p_v_r36_i_i3587_i;
@@ -9303,8 +9343,8 @@ L_then_14_i_i_i_i:;
     v_r182_i_i_i_i = (u64)((u64)(v_r175_i_i_i_i) | (u64)(v_r179_i_i_i_i));
     { p_v_r13_sroa_0_0_copyload_i_i333_i_i = v_r16_i_i216_i_i; p_v_r36_i_i330_i_i = v_r19_i_i217_i_i; p_v_r12_sroa_10_0_i_i_i = v_r182_i_i_i_i; goto L_join_3_i_i328_i_i; }
 L_join_16_i_i_i_i:;
-    __builtin_trap();
-    __builtin_trap();
+    TRAP();
+    TRAP();
 L_join_3_i_i328_i_i:;
     v_r13_sroa_0_0_copyload_i_i333_i_i = p_v_r13_sroa_0_0_copyload_i_i333_i_i;
     v_r36_i_i330_i_i = p_v_r36_i_i330_i_i;
@@ -9760,8 +9800,8 @@ L_then_14_i_i:;
     v_r182_i_i = (u64)((u64)(v_r175_i_i) | (u64)(v_r179_i_i));
     { p_v_r4_sroa_10_22589 = v_r19_i_i741; p_v_r4_sroa_0_22587 = v_r16_i_i740; p_v_r12_sroa_10_0_i = v_r182_i_i; goto L_arm_1_i; }
 L_join_16_i_i:;
-    __builtin_trap();
-    __builtin_trap();
+    TRAP();
+    TRAP();
 L_arm_1_i:;
     v_r4_sroa_10_22589 = p_v_r4_sroa_10_22589;
     v_r4_sroa_0_22587 = p_v_r4_sroa_0_22587;
@@ -9876,8 +9916,8 @@ L_then_14_i_i_i:;
     v_r182_i_i_i = (u32)((u32)(v_r175_i_i_i) | (u32)(v_r179_i_i_i));
     { p_v_r6_i_sroa_23_32724 = v_r19_i_i996; p_v_r6_i_sroa_0_32722 = v_r16_i_i995; p_v_r12_sroa_10_0_i1059 = v_r182_i_i_i; goto L_arm_1_i_i148; }
 L_join_16_i_i_i:;
-    __builtin_trap();
-    __builtin_trap();
+    TRAP();
+    TRAP();
 L_arm_1_i_i148:;
     v_r6_i_sroa_23_32724 = p_v_r6_i_sroa_23_32724;
     v_r6_i_sroa_0_32722 = p_v_r6_i_sroa_0_32722;
@@ -10014,8 +10054,8 @@ L_then_14_i_i_i589:;
     v_r182_i_i_i599 = (u64)((u64)(v_r175_i_i_i596) | (u64)(v_r179_i_i_i598));
     { p_v_r6_i_sroa_23_92909 = v_r19_i_i1403; p_v_r6_i_sroa_0_92907 = v_r16_i_i1402; p_v_r12_sroa_10_0_i1466 = v_r182_i_i_i599; goto L_join_3_i1513; }
 L_join_16_i_i_i588:;
-    __builtin_trap();
-    __builtin_trap();
+    TRAP();
+    TRAP();
 L_join_3_i1513:;
     v_r6_i_sroa_23_92909 = p_v_r6_i_sroa_23_92909;
     v_r6_i_sroa_0_92907 = p_v_r6_i_sroa_0_92907;
@@ -11566,51 +11606,51 @@ static void f_pkcs1_params_oaep_reading_OaepParamsOfAnyRefAlgori(P v_a0, P v_a1)
     u64 v_r1_sroa_4_0_copyload;
     u8 v_r4_i_i_i_i;
     u1 v_r7_i_i_i_not_i_i;
-    u8 v_r2_i_i_i;
+    u8 v_r2_i_i_i_i;
     u1 v_0;
-    P v_r5_i13_i_i;
-    P v_r7_sroa_4_i_sroa_3_7_copyload_i_i;
-    P v_r7_sroa_4_i_sroa_5_7_r5_i13_sroa_idx_i_i;
-    u64 v_r7_sroa_4_i_sroa_5_7_copyload_i_i;
-    P v_r7_sroa_4_i_sroa_6_7_r5_i13_sroa_idx_i_i;
-    u64 v_r7_sroa_4_i_sroa_6_7_copyload_i_i;
-    P v_r7_sroa_4_i_sroa_7_7_r5_i13_sroa_idx_i_i;
-    u64 v_r7_sroa_4_i_sroa_7_7_copyload_i_i;
-    P v_r7_sroa_4_i_sroa_8_7_r5_i13_sroa_idx_i_i;
-    P v_r7_sroa_4_i_sroa_8_7_copyload_i_i;
-    P v_r7_sroa_4_i_sroa_9_7_r5_i13_sroa_idx_i_i;
-    u64 v_r7_sroa_4_i_sroa_9_7_copyload_i_i;
-    P v_r7_sroa_4_i_sroa_10_7_r5_i13_sroa_idx_i_i;
-    P v_r7_sroa_4_i_sroa_10_7_copyload_i_i;
-    P v_r7_sroa_4_i_sroa_11_7_r5_i13_sroa_idx_i_i;
-    u64 v_r7_sroa_4_i_sroa_11_7_copyload_i_i;
-    P v_r7_sroa_4_i_sroa_12_7_r5_i13_sroa_idx_i_i;
-    u64 v_r7_sroa_4_i_sroa_12_7_copyload_i_i;
-    P v_r7_sroa_4_i_sroa_13_7_r5_i13_sroa_idx_i_i;
-    P v_r7_sroa_4_i_sroa_13_7_copyload_i_i;
-    P v_r7_sroa_4_i_sroa_14_7_r5_i13_sroa_idx_i_i;
-    u64 v_r7_sroa_4_i_sroa_14_7_copyload_i_i;
-    P v_r7_sroa_4_i_sroa_15_7_r5_i13_sroa_idx_i_i;
-    u64 v_r7_sroa_4_i_sroa_15_7_copyload_i_i;
-    P v_r7_sroa_4_i_sroa_16_7_r5_i13_sroa_idx_i_i;
-    u64 v_r7_sroa_4_i_sroa_16_7_copyload_i_i;
-    P v_r7_sroa_4_i_sroa_17_7_r5_i13_sroa_idx_i_i;
-    P v_r7_sroa_4_i_sroa_17_7_copyload_i_i;
-    P v_r7_sroa_4_i_sroa_18_7_r5_i13_sroa_idx_i_i;
-    u64 v_r7_sroa_4_i_sroa_18_7_copyload_i_i;
-    P v_r7_sroa_4_i_sroa_19_7_r5_i13_sroa_idx_i_i;
-    P v_r7_sroa_4_i_sroa_19_7_copyload_i_i;
-    P v_r7_sroa_4_i_sroa_20_7_r5_i13_sroa_idx_i_i;
-    u64 v_r7_sroa_4_i_sroa_20_7_copyload_i_i;
-    P v_r7_sroa_4_i_sroa_21_7_r5_i13_sroa_idx_i_i;
-    u64 v_r7_sroa_4_i_sroa_21_7_copyload_i_i;
-    P v_r7_sroa_4_i_sroa_22_7_r5_i13_sroa_idx_i_i;
-    u64 v_r7_sroa_4_i_sroa_22_7_copyload_i_i;
-    P v_r7_sroa_4_i_sroa_23_7_r5_i13_sroa_idx_i_i;
-    P v_r7_sroa_4_i_sroa_23_7_copyload_i_i;
-    P v_r7_sroa_4_i_sroa_24_7_r5_i13_sroa_idx_i_i;
-    u64 v_r7_sroa_4_i_sroa_24_7_copyload_i_i;
-    u1 v_r16_i14_i_i;
+    P v_r5_i_i_i_i;
+    P v_r21_sroa_3_sroa_0_0_copyload_i_i;
+    P v_r21_sroa_3_sroa_4_0_r5_i_i_sroa_idx_i_i;
+    u64 v_r21_sroa_3_sroa_4_0_copyload_i_i;
+    P v_r21_sroa_3_sroa_5_0_r5_i_i_sroa_idx_i_i;
+    u64 v_r21_sroa_3_sroa_5_0_copyload_i_i;
+    P v_r21_sroa_3_sroa_6_0_r5_i_i_sroa_idx_i_i;
+    u64 v_r21_sroa_3_sroa_6_0_copyload_i_i;
+    P v_r21_sroa_3_sroa_7_0_r5_i_i_sroa_idx_i_i;
+    P v_r21_sroa_3_sroa_7_0_copyload_i_i;
+    P v_r21_sroa_3_sroa_8_0_r5_i_i_sroa_idx_i_i;
+    u64 v_r21_sroa_3_sroa_8_0_copyload_i_i;
+    P v_r21_sroa_3_sroa_9_0_r5_i_i_sroa_idx_i_i;
+    P v_r21_sroa_3_sroa_9_0_copyload_i_i;
+    P v_r21_sroa_3_sroa_10_0_r5_i_i_sroa_idx_i_i;
+    u64 v_r21_sroa_3_sroa_10_0_copyload_i_i;
+    P v_r21_sroa_3_sroa_11_0_r5_i_i_sroa_idx_i_i;
+    u64 v_r21_sroa_3_sroa_11_0_copyload_i_i;
+    P v_r21_sroa_3_sroa_12_0_r5_i_i_sroa_idx_i_i;
+    P v_r21_sroa_3_sroa_12_0_copyload_i_i;
+    P v_r21_sroa_3_sroa_13_0_r5_i_i_sroa_idx_i_i;
+    u64 v_r21_sroa_3_sroa_13_0_copyload_i_i;
+    P v_r21_sroa_3_sroa_14_0_r5_i_i_sroa_idx_i_i;
+    u64 v_r21_sroa_3_sroa_14_0_copyload_i_i;
+    P v_r21_sroa_3_sroa_15_0_r5_i_i_sroa_idx_i_i;
+    u64 v_r21_sroa_3_sroa_15_0_copyload_i_i;
+    P v_r21_sroa_3_sroa_16_0_r5_i_i_sroa_idx_i_i;
+    P v_r21_sroa_3_sroa_16_0_copyload_i_i;
+    P v_r21_sroa_3_sroa_17_0_r5_i_i_sroa_idx_i_i;
+    u64 v_r21_sroa_3_sroa_17_0_copyload_i_i;
+    P v_r21_sroa_3_sroa_18_0_r5_i_i_sroa_idx_i_i;
+    P v_r21_sroa_3_sroa_18_0_copyload_i_i;
+    P v_r21_sroa_3_sroa_19_0_r5_i_i_sroa_idx_i_i;
+    u64 v_r21_sroa_3_sroa_19_0_copyload_i_i;
+    P v_r21_sroa_3_sroa_20_0_r5_i_i_sroa_idx_i_i;
+    u64 v_r21_sroa_3_sroa_20_0_copyload_i_i;
+    P v_r21_sroa_3_sroa_21_0_r5_i_i_sroa_idx_i_i;
+    u64 v_r21_sroa_3_sroa_21_0_copyload_i_i;
+    P v_r21_sroa_3_sroa_22_0_r5_i_i_sroa_idx_i_i;
+    P v_r21_sroa_3_sroa_22_0_copyload_i_i;
+    P v_r21_sroa_3_sroa_23_0_r5_i_i_sroa_idx_i_i;
+    u64 v_r21_sroa_3_sroa_23_0_copyload_i_i;
+    u1 v_r16_i_i_i;
     u1 v_r12_i_i_i_not_i_i_i_i;
     u8 v_r18_i_i3418_i_i_i;
     u1 v_r7_i_i3422_i_i_i;
@@ -12428,56 +12468,56 @@ static void f_pkcs1_params_oaep_reading_OaepParamsOfAnyRefAlgori(P v_a0, P v_a1)
     if (v_r7_i_i_i_not_i_i) { goto L_join_3_i_i; } else { p_v_r0_sroa_0_sroa_6_0_i_ph = 10u; p_v_r0_sroa_0_sroa_10_0_i_ph = 48u; p_v_r0_sroa_0_sroa_14_0_i_ph = v_r4_i_i_i_i; goto L_arm_2; }
 L_join_3_i_i:;
     f_pkcs1_params_quick_quick_oaep(v_r8_i_i_i, v_r1_sroa_3_0_copyload, v_r1_sroa_4_0_copyload, 0u);
-    v_r2_i_i_i = get_u8(v_r8_i_i_i);
-    v_0 = v_r2_i_i_i == 1u;
+    v_r2_i_i_i_i = get_u8(v_r8_i_i_i);
+    v_0 = v_r2_i_i_i_i == 1u;
     if (v_0) { goto L_arm_4_i_i; } else { goto L_join_7_i_i; }
 L_arm_4_i_i:;
-    v_r5_i13_i_i = v_r8_i_i_i + 8;
-    v_r7_sroa_4_i_sroa_3_7_copyload_i_i = get_P(v_r5_i13_i_i);
-    v_r7_sroa_4_i_sroa_5_7_r5_i13_sroa_idx_i_i = v_r8_i_i_i + 16;
-    v_r7_sroa_4_i_sroa_5_7_copyload_i_i = get_u64(v_r7_sroa_4_i_sroa_5_7_r5_i13_sroa_idx_i_i);
-    v_r7_sroa_4_i_sroa_6_7_r5_i13_sroa_idx_i_i = v_r8_i_i_i + 24;
-    v_r7_sroa_4_i_sroa_6_7_copyload_i_i = get_u64(v_r7_sroa_4_i_sroa_6_7_r5_i13_sroa_idx_i_i);
-    v_r7_sroa_4_i_sroa_7_7_r5_i13_sroa_idx_i_i = v_r8_i_i_i + 32;
-    v_r7_sroa_4_i_sroa_7_7_copyload_i_i = get_u64(v_r7_sroa_4_i_sroa_7_7_r5_i13_sroa_idx_i_i);
-    v_r7_sroa_4_i_sroa_8_7_r5_i13_sroa_idx_i_i = v_r8_i_i_i + 40;
-    v_r7_sroa_4_i_sroa_8_7_copyload_i_i = get_P(v_r7_sroa_4_i_sroa_8_7_r5_i13_sroa_idx_i_i);
-    v_r7_sroa_4_i_sroa_9_7_r5_i13_sroa_idx_i_i = v_r8_i_i_i + 48;
-    v_r7_sroa_4_i_sroa_9_7_copyload_i_i = get_u64(v_r7_sroa_4_i_sroa_9_7_r5_i13_sroa_idx_i_i);
-    v_r7_sroa_4_i_sroa_10_7_r5_i13_sroa_idx_i_i = v_r8_i_i_i + 56;
-    v_r7_sroa_4_i_sroa_10_7_copyload_i_i = get_P(v_r7_sroa_4_i_sroa_10_7_r5_i13_sroa_idx_i_i);
-    v_r7_sroa_4_i_sroa_11_7_r5_i13_sroa_idx_i_i = v_r8_i_i_i + 64;
-    v_r7_sroa_4_i_sroa_11_7_copyload_i_i = get_u64(v_r7_sroa_4_i_sroa_11_7_r5_i13_sroa_idx_i_i);
-    v_r7_sroa_4_i_sroa_12_7_r5_i13_sroa_idx_i_i = v_r8_i_i_i + 72;
-    v_r7_sroa_4_i_sroa_12_7_copyload_i_i = get_u64(v_r7_sroa_4_i_sroa_12_7_r5_i13_sroa_idx_i_i);
-    v_r7_sroa_4_i_sroa_13_7_r5_i13_sroa_idx_i_i = v_r8_i_i_i + 80;
-    v_r7_sroa_4_i_sroa_13_7_copyload_i_i = get_P(v_r7_sroa_4_i_sroa_13_7_r5_i13_sroa_idx_i_i);
-    v_r7_sroa_4_i_sroa_14_7_r5_i13_sroa_idx_i_i = v_r8_i_i_i + 88;
-    v_r7_sroa_4_i_sroa_14_7_copyload_i_i = get_u64(v_r7_sroa_4_i_sroa_14_7_r5_i13_sroa_idx_i_i);
-    v_r7_sroa_4_i_sroa_15_7_r5_i13_sroa_idx_i_i = v_r8_i_i_i + 96;
-    v_r7_sroa_4_i_sroa_15_7_copyload_i_i = get_u64(v_r7_sroa_4_i_sroa_15_7_r5_i13_sroa_idx_i_i);
-    v_r7_sroa_4_i_sroa_16_7_r5_i13_sroa_idx_i_i = v_r8_i_i_i + 104;
-    v_r7_sroa_4_i_sroa_16_7_copyload_i_i = get_u64(v_r7_sroa_4_i_sroa_16_7_r5_i13_sroa_idx_i_i);
-    v_r7_sroa_4_i_sroa_17_7_r5_i13_sroa_idx_i_i = v_r8_i_i_i + 112;
-    v_r7_sroa_4_i_sroa_17_7_copyload_i_i = get_P(v_r7_sroa_4_i_sroa_17_7_r5_i13_sroa_idx_i_i);
-    v_r7_sroa_4_i_sroa_18_7_r5_i13_sroa_idx_i_i = v_r8_i_i_i + 120;
-    v_r7_sroa_4_i_sroa_18_7_copyload_i_i = get_u64(v_r7_sroa_4_i_sroa_18_7_r5_i13_sroa_idx_i_i);
-    v_r7_sroa_4_i_sroa_19_7_r5_i13_sroa_idx_i_i = v_r8_i_i_i + 128;
-    v_r7_sroa_4_i_sroa_19_7_copyload_i_i = get_P(v_r7_sroa_4_i_sroa_19_7_r5_i13_sroa_idx_i_i);
-    v_r7_sroa_4_i_sroa_20_7_r5_i13_sroa_idx_i_i = v_r8_i_i_i + 136;
-    v_r7_sroa_4_i_sroa_20_7_copyload_i_i = get_u64(v_r7_sroa_4_i_sroa_20_7_r5_i13_sroa_idx_i_i);
-    v_r7_sroa_4_i_sroa_21_7_r5_i13_sroa_idx_i_i = v_r8_i_i_i + 144;
-    v_r7_sroa_4_i_sroa_21_7_copyload_i_i = get_u64(v_r7_sroa_4_i_sroa_21_7_r5_i13_sroa_idx_i_i);
-    v_r7_sroa_4_i_sroa_22_7_r5_i13_sroa_idx_i_i = v_r8_i_i_i + 152;
-    v_r7_sroa_4_i_sroa_22_7_copyload_i_i = get_u64(v_r7_sroa_4_i_sroa_22_7_r5_i13_sroa_idx_i_i);
-    v_r7_sroa_4_i_sroa_23_7_r5_i13_sroa_idx_i_i = v_r8_i_i_i + 160;
-    v_r7_sroa_4_i_sroa_23_7_copyload_i_i = get_P(v_r7_sroa_4_i_sroa_23_7_r5_i13_sroa_idx_i_i);
-    v_r7_sroa_4_i_sroa_24_7_r5_i13_sroa_idx_i_i = v_r8_i_i_i + 168;
-    v_r7_sroa_4_i_sroa_24_7_copyload_i_i = get_u64(v_r7_sroa_4_i_sroa_24_7_r5_i13_sroa_idx_i_i);
-    { p_v_r12_sroa_10_i_sroa_3_0_ph = v_r7_sroa_4_i_sroa_3_7_copyload_i_i; p_v_r12_sroa_10_i_sroa_5_0_ph = v_r7_sroa_4_i_sroa_5_7_copyload_i_i; p_v_r12_sroa_10_i_sroa_6_0_ph = v_r7_sroa_4_i_sroa_6_7_copyload_i_i; p_v_r12_sroa_10_i_sroa_7_0_ph = v_r7_sroa_4_i_sroa_7_7_copyload_i_i; p_v_r12_sroa_10_i_sroa_8_0_ph = v_r7_sroa_4_i_sroa_8_7_copyload_i_i; p_v_r12_sroa_10_i_sroa_9_0_ph = v_r7_sroa_4_i_sroa_9_7_copyload_i_i; p_v_r12_sroa_10_i_sroa_10_0_ph = v_r7_sroa_4_i_sroa_10_7_copyload_i_i; p_v_r12_sroa_10_i_sroa_11_0_ph = v_r7_sroa_4_i_sroa_11_7_copyload_i_i; p_v_r12_sroa_10_i_sroa_12_0_ph = v_r7_sroa_4_i_sroa_12_7_copyload_i_i; p_v_r12_sroa_10_i_sroa_13_0_ph = v_r7_sroa_4_i_sroa_13_7_copyload_i_i; p_v_r12_sroa_10_i_sroa_14_0_ph = v_r7_sroa_4_i_sroa_14_7_copyload_i_i; p_v_r12_sroa_10_i_sroa_15_0_ph = v_r7_sroa_4_i_sroa_15_7_copyload_i_i; p_v_r12_sroa_10_i_sroa_16_0_ph = v_r7_sroa_4_i_sroa_16_7_copyload_i_i; p_v_r12_sroa_10_i_sroa_17_0_ph = v_r7_sroa_4_i_sroa_17_7_copyload_i_i; p_v_r12_sroa_10_i_sroa_18_0_ph = v_r7_sroa_4_i_sroa_18_7_copyload_i_i; p_v_r12_sroa_10_i_sroa_19_0_ph = v_r7_sroa_4_i_sroa_19_7_copyload_i_i; p_v_r12_sroa_10_i_sroa_20_0_ph = v_r7_sroa_4_i_sroa_20_7_copyload_i_i; p_v_r12_sroa_10_i_sroa_21_0_ph = v_r7_sroa_4_i_sroa_21_7_copyload_i_i; p_v_r12_sroa_10_i_sroa_22_0_ph = v_r7_sroa_4_i_sroa_22_7_copyload_i_i; p_v_r12_sroa_10_i_sroa_23_0_ph = v_r7_sroa_4_i_sroa_23_7_copyload_i_i; p_v_r12_sroa_10_i_sroa_24_0_ph = v_r7_sroa_4_i_sroa_24_7_copyload_i_i; goto L_arm_1; }
+    v_r5_i_i_i_i = v_r8_i_i_i + 8;
+    v_r21_sroa_3_sroa_0_0_copyload_i_i = get_P(v_r5_i_i_i_i);
+    v_r21_sroa_3_sroa_4_0_r5_i_i_sroa_idx_i_i = v_r8_i_i_i + 16;
+    v_r21_sroa_3_sroa_4_0_copyload_i_i = get_u64(v_r21_sroa_3_sroa_4_0_r5_i_i_sroa_idx_i_i);
+    v_r21_sroa_3_sroa_5_0_r5_i_i_sroa_idx_i_i = v_r8_i_i_i + 24;
+    v_r21_sroa_3_sroa_5_0_copyload_i_i = get_u64(v_r21_sroa_3_sroa_5_0_r5_i_i_sroa_idx_i_i);
+    v_r21_sroa_3_sroa_6_0_r5_i_i_sroa_idx_i_i = v_r8_i_i_i + 32;
+    v_r21_sroa_3_sroa_6_0_copyload_i_i = get_u64(v_r21_sroa_3_sroa_6_0_r5_i_i_sroa_idx_i_i);
+    v_r21_sroa_3_sroa_7_0_r5_i_i_sroa_idx_i_i = v_r8_i_i_i + 40;
+    v_r21_sroa_3_sroa_7_0_copyload_i_i = get_P(v_r21_sroa_3_sroa_7_0_r5_i_i_sroa_idx_i_i);
+    v_r21_sroa_3_sroa_8_0_r5_i_i_sroa_idx_i_i = v_r8_i_i_i + 48;
+    v_r21_sroa_3_sroa_8_0_copyload_i_i = get_u64(v_r21_sroa_3_sroa_8_0_r5_i_i_sroa_idx_i_i);
+    v_r21_sroa_3_sroa_9_0_r5_i_i_sroa_idx_i_i = v_r8_i_i_i + 56;
+    v_r21_sroa_3_sroa_9_0_copyload_i_i = get_P(v_r21_sroa_3_sroa_9_0_r5_i_i_sroa_idx_i_i);
+    v_r21_sroa_3_sroa_10_0_r5_i_i_sroa_idx_i_i = v_r8_i_i_i + 64;
+    v_r21_sroa_3_sroa_10_0_copyload_i_i = get_u64(v_r21_sroa_3_sroa_10_0_r5_i_i_sroa_idx_i_i);
+    v_r21_sroa_3_sroa_11_0_r5_i_i_sroa_idx_i_i = v_r8_i_i_i + 72;
+    v_r21_sroa_3_sroa_11_0_copyload_i_i = get_u64(v_r21_sroa_3_sroa_11_0_r5_i_i_sroa_idx_i_i);
+    v_r21_sroa_3_sroa_12_0_r5_i_i_sroa_idx_i_i = v_r8_i_i_i + 80;
+    v_r21_sroa_3_sroa_12_0_copyload_i_i = get_P(v_r21_sroa_3_sroa_12_0_r5_i_i_sroa_idx_i_i);
+    v_r21_sroa_3_sroa_13_0_r5_i_i_sroa_idx_i_i = v_r8_i_i_i + 88;
+    v_r21_sroa_3_sroa_13_0_copyload_i_i = get_u64(v_r21_sroa_3_sroa_13_0_r5_i_i_sroa_idx_i_i);
+    v_r21_sroa_3_sroa_14_0_r5_i_i_sroa_idx_i_i = v_r8_i_i_i + 96;
+    v_r21_sroa_3_sroa_14_0_copyload_i_i = get_u64(v_r21_sroa_3_sroa_14_0_r5_i_i_sroa_idx_i_i);
+    v_r21_sroa_3_sroa_15_0_r5_i_i_sroa_idx_i_i = v_r8_i_i_i + 104;
+    v_r21_sroa_3_sroa_15_0_copyload_i_i = get_u64(v_r21_sroa_3_sroa_15_0_r5_i_i_sroa_idx_i_i);
+    v_r21_sroa_3_sroa_16_0_r5_i_i_sroa_idx_i_i = v_r8_i_i_i + 112;
+    v_r21_sroa_3_sroa_16_0_copyload_i_i = get_P(v_r21_sroa_3_sroa_16_0_r5_i_i_sroa_idx_i_i);
+    v_r21_sroa_3_sroa_17_0_r5_i_i_sroa_idx_i_i = v_r8_i_i_i + 120;
+    v_r21_sroa_3_sroa_17_0_copyload_i_i = get_u64(v_r21_sroa_3_sroa_17_0_r5_i_i_sroa_idx_i_i);
+    v_r21_sroa_3_sroa_18_0_r5_i_i_sroa_idx_i_i = v_r8_i_i_i + 128;
+    v_r21_sroa_3_sroa_18_0_copyload_i_i = get_P(v_r21_sroa_3_sroa_18_0_r5_i_i_sroa_idx_i_i);
+    v_r21_sroa_3_sroa_19_0_r5_i_i_sroa_idx_i_i = v_r8_i_i_i + 136;
+    v_r21_sroa_3_sroa_19_0_copyload_i_i = get_u64(v_r21_sroa_3_sroa_19_0_r5_i_i_sroa_idx_i_i);
+    v_r21_sroa_3_sroa_20_0_r5_i_i_sroa_idx_i_i = v_r8_i_i_i + 144;
+    v_r21_sroa_3_sroa_20_0_copyload_i_i = get_u64(v_r21_sroa_3_sroa_20_0_r5_i_i_sroa_idx_i_i);
+    v_r21_sroa_3_sroa_21_0_r5_i_i_sroa_idx_i_i = v_r8_i_i_i + 152;
+    v_r21_sroa_3_sroa_21_0_copyload_i_i = get_u64(v_r21_sroa_3_sroa_21_0_r5_i_i_sroa_idx_i_i);
+    v_r21_sroa_3_sroa_22_0_r5_i_i_sroa_idx_i_i = v_r8_i_i_i + 160;
+    v_r21_sroa_3_sroa_22_0_copyload_i_i = get_P(v_r21_sroa_3_sroa_22_0_r5_i_i_sroa_idx_i_i);
+    v_r21_sroa_3_sroa_23_0_r5_i_i_sroa_idx_i_i = v_r8_i_i_i + 168;
+    v_r21_sroa_3_sroa_23_0_copyload_i_i = get_u64(v_r21_sroa_3_sroa_23_0_r5_i_i_sroa_idx_i_i);
+    { p_v_r12_sroa_10_i_sroa_3_0_ph = v_r21_sroa_3_sroa_0_0_copyload_i_i; p_v_r12_sroa_10_i_sroa_5_0_ph = v_r21_sroa_3_sroa_4_0_copyload_i_i; p_v_r12_sroa_10_i_sroa_6_0_ph = v_r21_sroa_3_sroa_5_0_copyload_i_i; p_v_r12_sroa_10_i_sroa_7_0_ph = v_r21_sroa_3_sroa_6_0_copyload_i_i; p_v_r12_sroa_10_i_sroa_8_0_ph = v_r21_sroa_3_sroa_7_0_copyload_i_i; p_v_r12_sroa_10_i_sroa_9_0_ph = v_r21_sroa_3_sroa_8_0_copyload_i_i; p_v_r12_sroa_10_i_sroa_10_0_ph = v_r21_sroa_3_sroa_9_0_copyload_i_i; p_v_r12_sroa_10_i_sroa_11_0_ph = v_r21_sroa_3_sroa_10_0_copyload_i_i; p_v_r12_sroa_10_i_sroa_12_0_ph = v_r21_sroa_3_sroa_11_0_copyload_i_i; p_v_r12_sroa_10_i_sroa_13_0_ph = v_r21_sroa_3_sroa_12_0_copyload_i_i; p_v_r12_sroa_10_i_sroa_14_0_ph = v_r21_sroa_3_sroa_13_0_copyload_i_i; p_v_r12_sroa_10_i_sroa_15_0_ph = v_r21_sroa_3_sroa_14_0_copyload_i_i; p_v_r12_sroa_10_i_sroa_16_0_ph = v_r21_sroa_3_sroa_15_0_copyload_i_i; p_v_r12_sroa_10_i_sroa_17_0_ph = v_r21_sroa_3_sroa_16_0_copyload_i_i; p_v_r12_sroa_10_i_sroa_18_0_ph = v_r21_sroa_3_sroa_17_0_copyload_i_i; p_v_r12_sroa_10_i_sroa_19_0_ph = v_r21_sroa_3_sroa_18_0_copyload_i_i; p_v_r12_sroa_10_i_sroa_20_0_ph = v_r21_sroa_3_sroa_19_0_copyload_i_i; p_v_r12_sroa_10_i_sroa_21_0_ph = v_r21_sroa_3_sroa_20_0_copyload_i_i; p_v_r12_sroa_10_i_sroa_22_0_ph = v_r21_sroa_3_sroa_21_0_copyload_i_i; p_v_r12_sroa_10_i_sroa_23_0_ph = v_r21_sroa_3_sroa_22_0_copyload_i_i; p_v_r12_sroa_10_i_sroa_24_0_ph = v_r21_sroa_3_sroa_23_0_copyload_i_i; goto L_arm_1; }
 L_join_7_i_i:;
-    v_r16_i14_i_i = v_r1_sroa_4_0_copyload < 4294967296ull;
-    if (v_r16_i14_i_i) { goto L_else_2_i_i_i_i; } else { p_v_r0_sroa_0_sroa_6_0_i_ph = 7u; p_v_r0_sroa_0_sroa_10_0_i_ph = 0u; p_v_r0_sroa_0_sroa_14_0_i_ph = 0u; goto L_arm_2; }
+    v_r16_i_i_i = v_r1_sroa_4_0_copyload < 4294967296ull;
+    if (v_r16_i_i_i) { goto L_else_2_i_i_i_i; } else { p_v_r0_sroa_0_sroa_6_0_i_ph = 7u; p_v_r0_sroa_0_sroa_10_0_i_ph = 0u; p_v_r0_sroa_0_sroa_14_0_i_ph = 0u; goto L_arm_2; }
 L_else_2_i_i_i_i:;
     v_r12_i_i_i_not_i_i_i_i = v_r1_sroa_4_0_copyload == 0u;
     if (v_r12_i_i_i_not_i_i_i_i) { p_v_r12_sroa_10_i_sroa_3_0_ph = AT(f_static_24); p_v_r12_sroa_10_i_sroa_5_0_ph = 5u; p_v_r12_sroa_10_i_sroa_6_0_ph = 1u; p_v_r12_sroa_10_i_sroa_7_0_ph = 5u; p_v_r12_sroa_10_i_sroa_8_0_ph = AT(f_static_22); p_v_r12_sroa_10_i_sroa_9_0_ph = 0u; p_v_r12_sroa_10_i_sroa_10_0_ph = AT(f_static_25); p_v_r12_sroa_10_i_sroa_11_0_ph = 9u; p_v_r12_sroa_10_i_sroa_12_0_ph = 1u; p_v_r12_sroa_10_i_sroa_13_0_ph = AT(f_static_24); p_v_r12_sroa_10_i_sroa_14_0_ph = 5u; p_v_r12_sroa_10_i_sroa_15_0_ph = 1u; p_v_r12_sroa_10_i_sroa_16_0_ph = 5u; p_v_r12_sroa_10_i_sroa_17_0_ph = AT(f_static_22); p_v_r12_sroa_10_i_sroa_18_0_ph = 0u; p_v_r12_sroa_10_i_sroa_19_0_ph = AT(f_static_0); p_v_r12_sroa_10_i_sroa_20_0_ph = 9u; p_v_r12_sroa_10_i_sroa_21_0_ph = 1u; p_v_r12_sroa_10_i_sroa_22_0_ph = 4u; p_v_r12_sroa_10_i_sroa_23_0_ph = AT(f_static_22); p_v_r12_sroa_10_i_sroa_24_0_ph = 0u; goto L_arm_1; } else { goto L_arm_1_i719_i_i_i; }
@@ -12577,8 +12617,8 @@ L_then_14_i_i_i3273_i_i_i:;
     v_r182_i_i_i3290_i_i_i = (u64)((u64)(v_r175_i_i_i3287_i_i_i) | (u64)(v_r179_i_i_i3289_i_i_i));
     { p_v_r13_sroa_0_0_copyload_i_i3660_i_i_i = v_r16_i_i3541_i_i_i; p_v_r36_i_i3657_i_i_i = v_r19_i_i3542_i_i_i; p_v_r12_sroa_10_0_i_i_i_i = v_r182_i_i_i3290_i_i_i; goto L_join_3_i_i3655_i_i_i; }
 L_join_16_i_i_i3272_i_i_i:;
-    __builtin_trap();
-    __builtin_trap();
+    TRAP();
+    TRAP();
 L_join_3_i_i3655_i_i_i:;
     v_r13_sroa_0_0_copyload_i_i3660_i_i_i = p_v_r13_sroa_0_0_copyload_i_i3660_i_i_i;
     v_r36_i_i3657_i_i_i = p_v_r36_i_i3657_i_i_i;
@@ -12693,8 +12733,8 @@ L_then_14_i_i_i_i3016_i_i_i:;
     v_r182_i_i_i_i3033_i_i_i = (u64)((u64)(v_r175_i_i_i_i3030_i_i_i) | (u64)(v_r179_i_i_i_i3032_i_i_i));
     { p_v_r7_i1440_sroa_14_310249_i_i_i = v_r19_i_i3798_i_i_i; p_v_r7_i1440_sroa_0_310247_i_i_i = v_r16_i_i3797_i_i_i; p_v_r12_sroa_10_0_i3861_i_i_i = v_r182_i_i_i_i3033_i_i_i; goto L_arm_1_i203_i1716_i_i_i; }
 L_join_16_i_i_i_i3015_i_i_i:;
-    __builtin_trap();
-    __builtin_trap();
+    TRAP();
+    TRAP();
 L_arm_1_i203_i1716_i_i_i:;
     v_r7_i1440_sroa_14_310249_i_i_i = p_v_r7_i1440_sroa_14_310249_i_i_i;
     v_r7_i1440_sroa_0_310247_i_i_i = p_v_r7_i1440_sroa_0_310247_i_i_i;
@@ -12807,8 +12847,8 @@ L_then_14_i_i_i_i_i2759_i_i_i:;
     v_r182_i_i_i_i_i2776_i_i_i = (u32)((u32)(v_r175_i_i_i_i_i2773_i_i_i) | (u32)(v_r179_i_i_i_i_i2775_i_i_i));
     { p_v_r6_i161_i1371_sroa_23_910385_i_i_i = v_r19_i_i4069_i_i_i; p_v_r6_i161_i1371_sroa_0_910383_i_i_i = v_r16_i_i4068_i_i_i; p_v_r12_sroa_10_0_i4132_i_i_i = v_r182_i_i_i_i_i2776_i_i_i; goto L_arm_1_i_i476_i2451_i_i_i; }
 L_join_16_i_i_i_i_i2758_i_i_i:;
-    __builtin_trap();
-    __builtin_trap();
+    TRAP();
+    TRAP();
 L_arm_1_i_i476_i2451_i_i_i:;
     v_r6_i161_i1371_sroa_23_910385_i_i_i = p_v_r6_i161_i1371_sroa_23_910385_i_i_i;
     v_r6_i161_i1371_sroa_0_910383_i_i_i = p_v_r6_i161_i1371_sroa_0_910383_i_i_i;
@@ -12943,8 +12983,8 @@ L_then_14_i_i_i989_i2327_i_i_i:;
     v_r182_i_i_i1006_i2344_i_i_i = (u64)((u64)(v_r175_i_i_i1003_i2341_i_i_i) | (u64)(v_r179_i_i_i1005_i2343_i_i_i));
     { p_v_r6_i161_i1371_sroa_23_710570_i_i_i = v_r19_i_i4490_i_i_i; p_v_r6_i161_i1371_sroa_0_710568_i_i_i = v_r16_i_i4489_i_i_i; p_v_r12_sroa_10_0_i4553_i_i_i = v_r182_i_i_i1006_i2344_i_i_i; goto L_join_3_i4600_i_i_i; }
 L_join_16_i_i_i988_i2326_i_i_i:;
-    __builtin_trap();
-    __builtin_trap();
+    TRAP();
+    TRAP();
 L_join_3_i4600_i_i_i:;
     v_r6_i161_i1371_sroa_23_710570_i_i_i = p_v_r6_i161_i1371_sroa_23_710570_i_i_i;
     v_r6_i161_i1371_sroa_0_710568_i_i_i = p_v_r6_i161_i1371_sroa_0_710568_i_i_i;
@@ -13072,8 +13112,8 @@ L_then_14_i_i_i_i_i:;
     v_r182_i_i_i_i_i = (u64)((u64)(v_r175_i_i_i_i_i) | (u64)(v_r179_i_i_i_i_i));
     { p_v_r13_sroa_0_0_copyload_i_i5299_i_i_i = v_r16_i_i5170_i_i_i; p_v_r36_i_i5296_i_i_i = v_r19_i_i5171_i_i_i; p_v_r12_sroa_10_0_i5234_i_i_i = v_r182_i_i_i_i_i; goto L_join_3_i_i5293_i_i_i; }
 L_join_16_i_i_i_i_i:;
-    __builtin_trap();
-    __builtin_trap();
+    TRAP();
+    TRAP();
 L_join_3_i_i5293_i_i_i:;
     v_r13_sroa_0_0_copyload_i_i5299_i_i_i = p_v_r13_sroa_0_0_copyload_i_i5299_i_i_i;
     v_r36_i_i5296_i_i_i = p_v_r36_i_i5296_i_i_i;
@@ -13188,8 +13228,8 @@ L_then_14_i_i_i_i_i_i:;
     v_r182_i_i_i_i_i_i = (u64)((u64)(v_r175_i_i_i_i_i_i) | (u64)(v_r179_i_i_i_i_i_i));
     { p_v_r7_i95_sroa_14_211046_i_i_i = v_r19_i_i5442_i_i_i; p_v_r7_i95_sroa_0_211044_i_i_i = v_r16_i_i5441_i_i_i; p_v_r12_sroa_10_0_i5505_i_i_i = v_r182_i_i_i_i_i_i; goto L_arm_1_i393_i_i_i; }
 L_join_16_i_i_i_i_i_i:;
-    __builtin_trap();
-    __builtin_trap();
+    TRAP();
+    TRAP();
 L_arm_1_i393_i_i_i:;
     v_r7_i95_sroa_14_211046_i_i_i = p_v_r7_i95_sroa_14_211046_i_i_i;
     v_r7_i95_sroa_0_211044_i_i_i = p_v_r7_i95_sroa_0_211044_i_i_i;
@@ -13358,8 +13398,8 @@ L_then_14_i_i_i1095_i_i_i:;
     v_r182_i_i_i1112_i_i_i = (u64)((u64)(v_r175_i_i_i1109_i_i_i) | (u64)(v_r179_i_i_i1111_i_i_i));
     { p_v_r13_sroa_0_0_copyload_i_i6100_i_i_i = v_r16_i_i5971_i_i_i; p_v_r36_i_i6097_i_i_i = v_r19_i_i5972_i_i_i; p_v_r12_sroa_10_0_i6035_i_i_i = v_r182_i_i_i1112_i_i_i; goto L_join_3_i_i6094_i_i_i; }
 L_join_16_i_i_i1094_i_i_i:;
-    __builtin_trap();
-    __builtin_trap();
+    TRAP();
+    TRAP();
 L_join_3_i_i6094_i_i_i:;
     v_r13_sroa_0_0_copyload_i_i6100_i_i_i = p_v_r13_sroa_0_0_copyload_i_i6100_i_i_i;
     v_r36_i_i6097_i_i_i = p_v_r36_i_i6097_i_i_i;
@@ -13470,8 +13510,8 @@ L_then_14_i_i_i_i_i_i_i:;
     v_r182_i_i_i_i_i_i_i = (u64)((u64)(v_r175_i_i_i_i_i_i_i) | (u64)(v_r179_i_i_i_i_i_i_i));
     { p_v_r7_i826_sroa_14_311392_i_i_i = v_r19_i_i6243_i_i_i; p_v_r7_i826_sroa_0_311390_i_i_i = v_r16_i_i6242_i_i_i; p_v_r12_sroa_10_0_i6306_i_i_i = v_r182_i_i_i_i_i_i_i; goto L_arm_1_i203_i_i_i_i; }
 L_join_16_i_i_i_i_i_i_i:;
-    __builtin_trap();
-    __builtin_trap();
+    TRAP();
+    TRAP();
 L_arm_1_i203_i_i_i_i:;
     v_r7_i826_sroa_14_311392_i_i_i = p_v_r7_i826_sroa_14_311392_i_i_i;
     v_r7_i826_sroa_0_311390_i_i_i = p_v_r7_i826_sroa_0_311390_i_i_i;
@@ -13584,8 +13624,8 @@ L_then_14_i_i_i_i_i_i_i_i:;
     v_r182_i_i_i_i_i_i_i_i = (u32)((u32)(v_r175_i_i_i_i_i_i_i_i) | (u32)(v_r179_i_i_i_i_i_i_i_i));
     { p_v_r6_i161_i_sroa_23_911528_i_i_i = v_r19_i_i6514_i_i_i; p_v_r6_i161_i_sroa_0_911526_i_i_i = v_r16_i_i6513_i_i_i; p_v_r12_sroa_10_0_i6577_i_i_i = v_r182_i_i_i_i_i_i_i_i; goto L_arm_1_i_i476_i_i_i_i; }
 L_join_16_i_i_i_i_i_i_i_i:;
-    __builtin_trap();
-    __builtin_trap();
+    TRAP();
+    TRAP();
 L_arm_1_i_i476_i_i_i_i:;
     v_r6_i161_i_sroa_23_911528_i_i_i = p_v_r6_i161_i_sroa_23_911528_i_i_i;
     v_r6_i161_i_sroa_0_911526_i_i_i = p_v_r6_i161_i_sroa_0_911526_i_i_i;
@@ -13720,8 +13760,8 @@ L_then_14_i_i_i989_i_i_i_i:;
     v_r182_i_i_i1006_i_i_i_i = (u64)((u64)(v_r175_i_i_i1003_i_i_i_i) | (u64)(v_r179_i_i_i1005_i_i_i_i));
     { p_v_r6_i161_i_sroa_23_711713_i_i_i = v_r19_i_i6938_i_i_i; p_v_r6_i161_i_sroa_0_711711_i_i_i = v_r16_i_i6937_i_i_i; p_v_r12_sroa_10_0_i7001_i_i_i = v_r182_i_i_i1006_i_i_i_i; goto L_join_3_i7048_i_i_i; }
 L_join_16_i_i_i988_i_i_i_i:;
-    __builtin_trap();
-    __builtin_trap();
+    TRAP();
+    TRAP();
 L_join_3_i7048_i_i_i:;
     v_r6_i161_i_sroa_23_711713_i_i_i = p_v_r6_i161_i_sroa_23_711713_i_i_i;
     v_r6_i161_i_sroa_0_711711_i_i_i = p_v_r6_i161_i_sroa_0_711711_i_i_i;
@@ -14332,8 +14372,8 @@ L_then_14_i_i_i:;
     v_r182_i_i_i = (u32)((u32)(v_r175_i_i_i) | (u32)(v_r179_i_i_i));
     { p_v_r13_sroa_0_0_copyload_i_i1614 = v_r16_i_i1505; p_v_r36_i_i1611 = v_r19_i_i1506; p_v_r12_sroa_10_0_i = v_r182_i_i_i; goto L_arm_1_i; }
 L_join_16_i_i_i:;
-    __builtin_trap();
-    __builtin_trap();
+    TRAP();
+    TRAP();
 L_arm_1_i:;
     v_r13_sroa_0_0_copyload_i_i1614 = p_v_r13_sroa_0_0_copyload_i_i1614;
     v_r36_i_i1611 = p_v_r36_i_i1611;
@@ -14478,8 +14518,8 @@ L_then_14_i_i_i553:;
     v_r182_i_i_i570 = (u64)((u64)(v_r175_i_i_i567) | (u64)(v_r179_i_i_i569));
     { p_v_r13_sroa_0_0_copyload_i_i2015 = v_r16_i_i1886; p_v_r36_i_i2012 = v_r19_i_i1887; p_v_r12_sroa_10_0_i1950 = v_r182_i_i_i570; goto L_arm_1_i354; }
 L_join_16_i_i_i552:;
-    __builtin_trap();
-    __builtin_trap();
+    TRAP();
+    TRAP();
 L_arm_1_i354:;
     v_r13_sroa_0_0_copyload_i_i2015 = p_v_r13_sroa_0_0_copyload_i_i2015;
     v_r36_i_i2012 = p_v_r36_i_i2012;
@@ -14600,8 +14640,8 @@ L_then_14_i_i_i_i:;
     v_r182_i_i_i_i = (u32)((u32)(v_r175_i_i_i_i) | (u32)(v_r179_i_i_i_i));
     { p_v_r6_i288_sroa_23_34331 = v_r19_i_i2158; p_v_r6_i288_sroa_0_34329 = v_r16_i_i2157; p_v_r12_sroa_10_0_i2221 = v_r182_i_i_i_i; goto L_arm_1_i_i820; }
 L_join_16_i_i_i_i:;
-    __builtin_trap();
-    __builtin_trap();
+    TRAP();
+    TRAP();
 L_arm_1_i_i820:;
     v_r6_i288_sroa_23_34331 = p_v_r6_i288_sroa_23_34331;
     v_r6_i288_sroa_0_34329 = p_v_r6_i288_sroa_0_34329;
@@ -14738,8 +14778,8 @@ L_then_14_i_i_i1339:;
     v_r182_i_i_i1356 = (u64)((u64)(v_r175_i_i_i1353) | (u64)(v_r179_i_i_i1355));
     { p_v_r6_i288_sroa_23_84516 = v_r19_i_i2582; p_v_r6_i288_sroa_0_84514 = v_r16_i_i2581; p_v_r12_sroa_10_0_i2645 = v_r182_i_i_i1356; goto L_join_3_i2692; }
 L_join_16_i_i_i1338:;
-    __builtin_trap();
-    __builtin_trap();
+    TRAP();
+    TRAP();
 L_join_3_i2692:;
     v_r6_i288_sroa_23_84516 = p_v_r6_i288_sroa_23_84516;
     v_r6_i288_sroa_0_84514 = p_v_r6_i288_sroa_0_84514;
@@ -15027,8 +15067,8 @@ L_then_14_i_i_i:;
     v_r182_i_i_i = (u64)((u64)(v_r175_i_i_i) | (u64)(v_r179_i_i_i));
     { p_v_r4_sroa_10_2530 = v_r19_i_i102; p_v_r4_sroa_0_1528 = v_r16_i_i101; p_v_r12_sroa_10_0_i = v_r182_i_i_i; goto L_join_3_i196; }
 L_join_16_i_i_i:;
-    __builtin_trap();
-    __builtin_trap();
+    TRAP();
+    TRAP();
 L_join_3_i196:;
     v_r4_sroa_10_2530 = p_v_r4_sroa_10_2530;
     v_r4_sroa_0_1528 = p_v_r4_sroa_0_1528;
@@ -15571,8 +15611,8 @@ L_then_14_i_i_i_i:;
     v_r182_i_i_i_i = (u64)((u64)(v_r175_i_i_i_i) | (u64)(v_r179_i_i_i_i));
     { p_v_r3_sroa_12_2582_i = v_r19_i_i112_i; p_v_r3_sroa_0_2580_i = v_r16_i_i111_i; p_v_r12_sroa_10_0_i_i = v_r182_i_i_i_i; goto L_join_3_i206_i; }
 L_join_16_i_i_i_i:;
-    __builtin_trap();
-    __builtin_trap();
+    TRAP();
+    TRAP();
 L_join_3_i206_i:;
     v_r3_sroa_12_2582_i = p_v_r3_sroa_12_2582_i;
     v_r3_sroa_0_2580_i = p_v_r3_sroa_0_2580_i;
@@ -16694,8 +16734,8 @@ L_then_14_i_i:;
     v_r182_i_i = (u64)((u64)(v_r175_i_i) | (u64)(v_r179_i_i));
     { p_v_r4_sroa_10_2984 = v_r19_i_i88; p_v_r4_sroa_0_2982 = v_r16_i_i87; p_v_r12_sroa_10_0_i = v_r182_i_i; goto L_arm_1_i; }
 L_join_16_i_i:;
-    __builtin_trap();
-    __builtin_trap();
+    TRAP();
+    TRAP();
 L_arm_1_i:;
     v_r4_sroa_10_2984 = p_v_r4_sroa_10_2984;
     v_r4_sroa_0_2982 = p_v_r4_sroa_0_2982;
@@ -16804,8 +16844,8 @@ L_then_14_i_i3264_i:;
     v_r182_i_i3281_i = (u64)((u64)(v_r175_i_i3278_i) | (u64)(v_r179_i_i3280_i));
     { p_v_r13_sroa_0_0_copyload_i_i3650_i = v_r16_i_i3531_i; p_v_r36_i_i3647_i = v_r19_i_i3532_i; p_v_r12_sroa_10_0_i_i = v_r182_i_i3281_i; goto L_join_3_i_i3645_i; }
 L_join_16_i_i3263_i:;
-    __builtin_trap();
-    __builtin_trap();
+    TRAP();
+    TRAP();
 L_join_3_i_i3645_i:;
     v_r13_sroa_0_0_copyload_i_i3650_i = p_v_r13_sroa_0_0_copyload_i_i3650_i;
     v_r36_i_i3647_i = p_v_r36_i_i3647_i;
@@ -16920,8 +16960,8 @@ L_then_14_i_i_i_i3007_i:;
     v_r182_i_i_i_i3024_i = (u64)((u64)(v_r175_i_i_i_i3021_i) | (u64)(v_r179_i_i_i_i3023_i));
     { p_v_r7_i1431_sroa_14_310240_i = v_r19_i_i3788_i; p_v_r7_i1431_sroa_0_310238_i = v_r16_i_i3787_i; p_v_r12_sroa_10_0_i3851_i = v_r182_i_i_i_i3024_i; goto L_arm_1_i_i_i1707_i; }
 L_join_16_i_i_i_i3006_i:;
-    __builtin_trap();
-    __builtin_trap();
+    TRAP();
+    TRAP();
 L_arm_1_i_i_i1707_i:;
     v_r7_i1431_sroa_14_310240_i = p_v_r7_i1431_sroa_14_310240_i;
     v_r7_i1431_sroa_0_310238_i = p_v_r7_i1431_sroa_0_310238_i;
@@ -17034,8 +17074,8 @@ L_then_14_i_i_i_i_i2750_i:;
     v_r182_i_i_i_i_i2767_i = (u32)((u32)(v_r175_i_i_i_i_i2764_i) | (u32)(v_r179_i_i_i_i_i2766_i));
     { p_v_r6_i_i_i1362_sroa_23_910376_i = v_r19_i_i4059_i; p_v_r6_i_i_i1362_sroa_0_910374_i = v_r16_i_i4058_i; p_v_r12_sroa_10_0_i4122_i = v_r182_i_i_i_i_i2767_i; goto L_arm_1_i_i148_i_i2442_i; }
 L_join_16_i_i_i_i_i2749_i:;
-    __builtin_trap();
-    __builtin_trap();
+    TRAP();
+    TRAP();
 L_arm_1_i_i148_i_i2442_i:;
     v_r6_i_i_i1362_sroa_23_910376_i = p_v_r6_i_i_i1362_sroa_23_910376_i;
     v_r6_i_i_i1362_sroa_0_910374_i = p_v_r6_i_i_i1362_sroa_0_910374_i;
@@ -17170,8 +17210,8 @@ L_then_14_i_i_i589_i_i2318_i:;
     v_r182_i_i_i599_i_i2335_i = (u64)((u64)(v_r175_i_i_i596_i_i2332_i) | (u64)(v_r179_i_i_i598_i_i2334_i));
     { p_v_r6_i_i_i1362_sroa_23_710561_i = v_r19_i_i4480_i; p_v_r6_i_i_i1362_sroa_0_710559_i = v_r16_i_i4479_i; p_v_r12_sroa_10_0_i4543_i = v_r182_i_i_i599_i_i2335_i; goto L_join_3_i4590_i; }
 L_join_16_i_i_i588_i_i2317_i:;
-    __builtin_trap();
-    __builtin_trap();
+    TRAP();
+    TRAP();
 L_join_3_i4590_i:;
     v_r6_i_i_i1362_sroa_23_710561_i = p_v_r6_i_i_i1362_sroa_23_710561_i;
     v_r6_i_i_i1362_sroa_0_710559_i = p_v_r6_i_i_i1362_sroa_0_710559_i;
@@ -17299,8 +17339,8 @@ L_then_14_i_i_i:;
     v_r182_i_i_i = (u64)((u64)(v_r175_i_i_i) | (u64)(v_r179_i_i_i));
     { p_v_r13_sroa_0_0_copyload_i_i5290_i = v_r16_i_i5161_i; p_v_r36_i_i5287_i = v_r19_i_i5162_i; p_v_r12_sroa_10_0_i5225_i = v_r182_i_i_i; goto L_join_3_i_i5284_i; }
 L_join_16_i_i_i:;
-    __builtin_trap();
-    __builtin_trap();
+    TRAP();
+    TRAP();
 L_join_3_i_i5284_i:;
     v_r13_sroa_0_0_copyload_i_i5290_i = p_v_r13_sroa_0_0_copyload_i_i5290_i;
     v_r36_i_i5287_i = p_v_r36_i_i5287_i;
@@ -17415,8 +17455,8 @@ L_then_14_i_i442_i:;
     v_r182_i_i459_i = (u64)((u64)(v_r175_i_i456_i) | (u64)(v_r179_i_i458_i));
     { p_v_r7_i56_sroa_14_211037_i = v_r19_i_i5433_i; p_v_r7_i56_sroa_0_211035_i = v_r16_i_i5432_i; p_v_r12_sroa_10_0_i5496_i = v_r182_i_i459_i; goto L_arm_1_i254_i; }
 L_join_16_i_i441_i:;
-    __builtin_trap();
-    __builtin_trap();
+    TRAP();
+    TRAP();
 L_arm_1_i254_i:;
     v_r7_i56_sroa_14_211037_i = p_v_r7_i56_sroa_14_211037_i;
     v_r7_i56_sroa_0_211035_i = p_v_r7_i56_sroa_0_211035_i;
@@ -17585,8 +17625,8 @@ L_then_14_i_i1111_i:;
     v_r182_i_i1121_i = (u64)((u64)(v_r175_i_i1118_i) | (u64)(v_r179_i_i1120_i));
     { p_v_r13_sroa_0_0_copyload_i_i6091_i = v_r16_i_i5962_i; p_v_r36_i_i6088_i = v_r19_i_i5963_i; p_v_r12_sroa_10_0_i6026_i = v_r182_i_i1121_i; goto L_join_3_i_i6085_i; }
 L_join_16_i_i1110_i:;
-    __builtin_trap();
-    __builtin_trap();
+    TRAP();
+    TRAP();
 L_join_3_i_i6085_i:;
     v_r13_sroa_0_0_copyload_i_i6091_i = p_v_r13_sroa_0_0_copyload_i_i6091_i;
     v_r36_i_i6088_i = p_v_r36_i_i6088_i;
@@ -17697,8 +17737,8 @@ L_then_14_i_i_i_i_i:;
     v_r182_i_i_i_i_i = (u64)((u64)(v_r175_i_i_i_i_i) | (u64)(v_r179_i_i_i_i_i));
     { p_v_r7_i854_sroa_14_311383_i = v_r19_i_i6234_i; p_v_r7_i854_sroa_0_311381_i = v_r16_i_i6233_i; p_v_r12_sroa_10_0_i6297_i = v_r182_i_i_i_i_i; goto L_arm_1_i_i_i969_i; }
 L_join_16_i_i_i_i_i:;
-    __builtin_trap();
-    __builtin_trap();
+    TRAP();
+    TRAP();
 L_arm_1_i_i_i969_i:;
     v_r7_i854_sroa_14_311383_i = p_v_r7_i854_sroa_14_311383_i;
     v_r7_i854_sroa_0_311381_i = p_v_r7_i854_sroa_0_311381_i;
@@ -17811,8 +17851,8 @@ L_then_14_i_i_i_i_i_i:;
     v_r182_i_i_i_i_i_i = (u32)((u32)(v_r175_i_i_i_i_i_i) | (u32)(v_r179_i_i_i_i_i_i));
     { p_v_r6_i_i_i_sroa_23_911519_i = v_r19_i_i6505_i; p_v_r6_i_i_i_sroa_0_911517_i = v_r16_i_i6504_i; p_v_r12_sroa_10_0_i6568_i = v_r182_i_i_i_i_i_i; goto L_arm_1_i_i148_i_i_i; }
 L_join_16_i_i_i_i_i_i:;
-    __builtin_trap();
-    __builtin_trap();
+    TRAP();
+    TRAP();
 L_arm_1_i_i148_i_i_i:;
     v_r6_i_i_i_sroa_23_911519_i = p_v_r6_i_i_i_sroa_23_911519_i;
     v_r6_i_i_i_sroa_0_911517_i = p_v_r6_i_i_i_sroa_0_911517_i;
@@ -17947,8 +17987,8 @@ L_then_14_i_i_i589_i_i_i:;
     v_r182_i_i_i599_i_i_i = (u64)((u64)(v_r175_i_i_i596_i_i_i) | (u64)(v_r179_i_i_i598_i_i_i));
     { p_v_r6_i_i_i_sroa_23_711704_i = v_r19_i_i6929_i; p_v_r6_i_i_i_sroa_0_711702_i = v_r16_i_i6928_i; p_v_r12_sroa_10_0_i6992_i = v_r182_i_i_i599_i_i_i; goto L_join_3_i7039_i; }
 L_join_16_i_i_i588_i_i_i:;
-    __builtin_trap();
-    __builtin_trap();
+    TRAP();
+    TRAP();
 L_join_3_i7039_i:;
     v_r6_i_i_i_sroa_23_711704_i = p_v_r6_i_i_i_sroa_23_711704_i;
     v_r6_i_i_i_sroa_0_711702_i = p_v_r6_i_i_i_sroa_0_711702_i;
@@ -18582,8 +18622,8 @@ L_then_14_i_i:;
     v_r182_i_i = (u32)((u32)(v_r175_i_i) | (u32)(v_r179_i_i));
     { p_v_r13_sroa_0_0_copyload_i_i607 = v_r16_i_i498; p_v_r36_i_i604 = v_r19_i_i499; p_v_r12_sroa_10_0_i = v_r182_i_i; goto L_arm_1_i; }
 L_join_16_i_i:;
-    __builtin_trap();
-    __builtin_trap();
+    TRAP();
+    TRAP();
 L_arm_1_i:;
     v_r13_sroa_0_0_copyload_i_i607 = p_v_r13_sroa_0_0_copyload_i_i607;
     v_r36_i_i604 = p_v_r36_i_i604;
@@ -18728,8 +18768,8 @@ L_then_14_i_i_i:;
     v_r182_i_i_i = (u64)((u64)(v_r175_i_i_i) | (u64)(v_r179_i_i_i));
     { p_v_r13_sroa_0_0_copyload_i_i1008 = v_r16_i_i879; p_v_r36_i_i1005 = v_r19_i_i880; p_v_r12_sroa_10_0_i943 = v_r182_i_i_i; goto L_arm_1_i_i321; }
 L_join_16_i_i_i:;
-    __builtin_trap();
-    __builtin_trap();
+    TRAP();
+    TRAP();
 L_arm_1_i_i321:;
     v_r13_sroa_0_0_copyload_i_i1008 = p_v_r13_sroa_0_0_copyload_i_i1008;
     v_r36_i_i1005 = p_v_r36_i_i1005;
@@ -18850,8 +18890,8 @@ L_then_14_i_i_i_i:;
     v_r182_i_i_i_i = (u32)((u32)(v_r175_i_i_i_i) | (u32)(v_r179_i_i_i_i));
     { p_v_r6_i_i268_sroa_23_93324 = v_r19_i_i1151; p_v_r6_i_i268_sroa_0_93322 = v_r16_i_i1150; p_v_r12_sroa_10_0_i1214 = v_r182_i_i_i_i; goto L_arm_1_i_i148_i; }
 L_join_16_i_i_i_i:;
-    __builtin_trap();
-    __builtin_trap();
+    TRAP();
+    TRAP();
 L_arm_1_i_i148_i:;
     v_r6_i_i268_sroa_23_93324 = p_v_r6_i_i268_sroa_23_93324;
     v_r6_i_i268_sroa_0_93322 = p_v_r6_i_i268_sroa_0_93322;
@@ -18988,8 +19028,8 @@ L_then_14_i_i_i589_i:;
     v_r182_i_i_i599_i = (u64)((u64)(v_r175_i_i_i596_i) | (u64)(v_r179_i_i_i598_i));
     { p_v_r6_i_i268_sroa_23_73509 = v_r19_i_i1575; p_v_r6_i_i268_sroa_0_73507 = v_r16_i_i1574; p_v_r12_sroa_10_0_i1638 = v_r182_i_i_i599_i; goto L_join_3_i1685; }
 L_join_16_i_i_i588_i:;
-    __builtin_trap();
-    __builtin_trap();
+    TRAP();
+    TRAP();
 L_join_3_i1685:;
     v_r6_i_i268_sroa_23_73509 = p_v_r6_i_i268_sroa_23_73509;
     v_r6_i_i268_sroa_0_73507 = p_v_r6_i_i268_sroa_0_73507;
@@ -21173,8 +21213,8 @@ L_then_14_i_i_i929_i_i_i:;
     v_r182_i_i_i946_i_i_i = (u64)((u64)(v_r175_i_i_i943_i_i_i) | (u64)(v_r179_i_i_i945_i_i_i));
     { p_v_r13_sroa_0_0_copyload_i_i3147_i_i_i = v_r16_i_i3028_i_i_i; p_v_r36_i_i3144_i_i_i = v_r19_i_i3029_i_i_i; p_v_r12_sroa_10_0_i_i_i_i = v_r182_i_i_i946_i_i_i; goto L_join_3_i_i3142_i_i_i; }
 L_join_16_i_i_i928_i_i_i:;
-    __builtin_trap();
-    __builtin_trap();
+    TRAP();
+    TRAP();
 L_join_3_i_i3142_i_i_i:;
     v_r13_sroa_0_0_copyload_i_i3147_i_i_i = p_v_r13_sroa_0_0_copyload_i_i3147_i_i_i;
     v_r36_i_i3144_i_i_i = p_v_r36_i_i3144_i_i_i;
@@ -21289,8 +21329,8 @@ L_then_14_i_i_i_i_i_i_i:;
     v_r182_i_i_i_i_i_i_i = (u64)((u64)(v_r175_i_i_i_i_i_i_i) | (u64)(v_r179_i_i_i_i_i_i_i));
     { p_v_r7_i660_sroa_14_39125_i_i_i = v_r19_i_i3285_i_i_i; p_v_r7_i660_sroa_0_39123_i_i_i = v_r16_i_i3284_i_i_i; p_v_r12_sroa_10_0_i3348_i_i_i = v_r182_i_i_i_i_i_i_i; goto L_arm_1_i203_i_i_i_i; }
 L_join_16_i_i_i_i_i_i_i:;
-    __builtin_trap();
-    __builtin_trap();
+    TRAP();
+    TRAP();
 L_arm_1_i203_i_i_i_i:;
     v_r7_i660_sroa_14_39125_i_i_i = p_v_r7_i660_sroa_14_39125_i_i_i;
     v_r7_i660_sroa_0_39123_i_i_i = p_v_r7_i660_sroa_0_39123_i_i_i;
@@ -21403,8 +21443,8 @@ L_then_14_i_i_i_i_i_i_i_i:;
     v_r182_i_i_i_i_i_i_i_i = (u32)((u32)(v_r175_i_i_i_i_i_i_i_i) | (u32)(v_r179_i_i_i_i_i_i_i_i));
     { p_v_r6_i161_i_sroa_23_99261_i_i_i = v_r19_i_i3556_i_i_i; p_v_r6_i161_i_sroa_0_99259_i_i_i = v_r16_i_i3555_i_i_i; p_v_r12_sroa_10_0_i3619_i_i_i = v_r182_i_i_i_i_i_i_i_i; goto L_arm_1_i_i476_i_i_i_i; }
 L_join_16_i_i_i_i_i_i_i_i:;
-    __builtin_trap();
-    __builtin_trap();
+    TRAP();
+    TRAP();
 L_arm_1_i_i476_i_i_i_i:;
     v_r6_i161_i_sroa_23_99261_i_i_i = p_v_r6_i161_i_sroa_23_99261_i_i_i;
     v_r6_i161_i_sroa_0_99259_i_i_i = p_v_r6_i161_i_sroa_0_99259_i_i_i;
@@ -21539,8 +21579,8 @@ L_then_14_i_i_i989_i_i_i_i:;
     v_r182_i_i_i1006_i_i_i_i = (u64)((u64)(v_r175_i_i_i1003_i_i_i_i) | (u64)(v_r179_i_i_i1005_i_i_i_i));
     { p_v_r6_i161_i_sroa_23_79446_i_i_i = v_r19_i_i3977_i_i_i; p_v_r6_i161_i_sroa_0_79444_i_i_i = v_r16_i_i3976_i_i_i; p_v_r12_sroa_10_0_i4040_i_i_i = v_r182_i_i_i1006_i_i_i_i; goto L_join_3_i4087_i_i_i; }
 L_join_16_i_i_i988_i_i_i_i:;
-    __builtin_trap();
-    __builtin_trap();
+    TRAP();
+    TRAP();
 L_join_3_i4087_i_i_i:;
     v_r6_i161_i_sroa_23_79446_i_i_i = p_v_r6_i161_i_sroa_23_79446_i_i_i;
     v_r6_i161_i_sroa_0_79444_i_i_i = p_v_r6_i161_i_sroa_0_79444_i_i_i;
@@ -21668,8 +21708,8 @@ L_then_14_i_i_i_i_i:;
     v_r182_i_i_i_i_i = (u64)((u64)(v_r175_i_i_i_i_i) | (u64)(v_r179_i_i_i_i_i));
     { p_v_r13_sroa_0_0_copyload_i_i4786_i_i_i = v_r16_i_i4657_i_i_i; p_v_r36_i_i4783_i_i_i = v_r19_i_i4658_i_i_i; p_v_r12_sroa_10_0_i4721_i_i_i = v_r182_i_i_i_i_i; goto L_join_3_i_i4780_i_i_i; }
 L_join_16_i_i_i_i_i:;
-    __builtin_trap();
-    __builtin_trap();
+    TRAP();
+    TRAP();
 L_join_3_i_i4780_i_i_i:;
     v_r13_sroa_0_0_copyload_i_i4786_i_i_i = p_v_r13_sroa_0_0_copyload_i_i4786_i_i_i;
     v_r36_i_i4783_i_i_i = p_v_r36_i_i4783_i_i_i;
@@ -21784,8 +21824,8 @@ L_then_14_i_i_i_i_i_i:;
     v_r182_i_i_i_i_i_i = (u64)((u64)(v_r175_i_i_i_i_i_i) | (u64)(v_r179_i_i_i_i_i_i));
     { p_v_r7_i86_sroa_14_29922_i_i_i = v_r19_i_i4929_i_i_i; p_v_r7_i86_sroa_0_29920_i_i_i = v_r16_i_i4928_i_i_i; p_v_r12_sroa_10_0_i4992_i_i_i = v_r182_i_i_i_i_i_i; goto L_arm_1_i384_i_i_i; }
 L_join_16_i_i_i_i_i_i:;
-    __builtin_trap();
-    __builtin_trap();
+    TRAP();
+    TRAP();
 L_arm_1_i384_i_i_i:;
     v_r7_i86_sroa_14_29922_i_i_i = p_v_r7_i86_sroa_14_29922_i_i_i;
     v_r7_i86_sroa_0_29920_i_i_i = p_v_r7_i86_sroa_0_29920_i_i_i;
@@ -21954,8 +21994,8 @@ L_then_14_i_i_i1383_i_i_i:;
     v_r182_i_i_i1400_i_i_i = (u64)((u64)(v_r175_i_i_i1397_i_i_i) | (u64)(v_r179_i_i_i1399_i_i_i));
     { p_v_r13_sroa_0_0_copyload_i_i5583_i_i_i = v_r16_i_i5455_i_i_i; p_v_r36_i_i5580_i_i_i = v_r19_i_i5456_i_i_i; p_v_r12_sroa_10_0_i5519_i_i_i = v_r182_i_i_i1400_i_i_i; goto L_join_3_i_i5577_i_i_i; }
 L_join_16_i_i_i1382_i_i_i:;
-    __builtin_trap();
-    __builtin_trap();
+    TRAP();
+    TRAP();
 L_join_3_i_i5577_i_i_i:;
     v_r13_sroa_0_0_copyload_i_i5583_i_i_i = p_v_r13_sroa_0_0_copyload_i_i5583_i_i_i;
     v_r36_i_i5580_i_i_i = p_v_r36_i_i5580_i_i_i;
@@ -22070,8 +22110,8 @@ L_then_14_i_i_i1817_i_i_i:;
     v_r182_i_i_i1834_i_i_i = (u32)((u32)(v_r175_i_i_i1831_i_i_i) | (u32)(v_r179_i_i_i1833_i_i_i));
     { p_v_r7_i1125_sroa_14_210268_i_i_i = v_r19_i_i5726_i_i_i; p_v_r7_i1125_sroa_0_210266_i_i_i = v_r16_i_i5725_i_i_i; p_v_r12_sroa_10_0_i5789_i_i_i = v_r182_i_i_i1834_i_i_i; goto L_arm_1_i1608_i_i_i; }
 L_join_16_i_i_i1816_i_i_i:;
-    __builtin_trap();
-    __builtin_trap();
+    TRAP();
+    TRAP();
 L_arm_1_i1608_i_i_i:;
     v_r7_i1125_sroa_14_210268_i_i_i = p_v_r7_i1125_sroa_14_210268_i_i_i;
     v_r7_i1125_sroa_0_210266_i_i_i = p_v_r7_i1125_sroa_0_210266_i_i_i;
@@ -22214,8 +22254,8 @@ L_then_14_i_i_i2330_i_i_i:;
     v_r182_i_i_i2347_i_i_i = (u64)((u64)(v_r175_i_i_i2344_i_i_i) | (u64)(v_r179_i_i_i2346_i_i_i));
     { p_v_r13_sroa_0_0_copyload_i_i6418_i_i_i = v_r16_i_i6290_i_i_i; p_v_r36_i_i6415_i_i_i = v_r19_i_i6291_i_i_i; p_v_r12_sroa_10_0_i6354_i_i_i = v_r182_i_i_i2347_i_i_i; goto L_join_3_i_i6412_i_i_i; }
 L_join_16_i_i_i2329_i_i_i:;
-    __builtin_trap();
-    __builtin_trap();
+    TRAP();
+    TRAP();
 L_join_3_i_i6412_i_i_i:;
     v_r13_sroa_0_0_copyload_i_i6418_i_i_i = p_v_r13_sroa_0_0_copyload_i_i6418_i_i_i;
     v_r36_i_i6415_i_i_i = p_v_r36_i_i6415_i_i_i;
@@ -22328,8 +22368,8 @@ L_then_14_i_i_i2759_i_i_i:;
     v_r182_i_i_i2776_i_i_i = (u32)((u32)(v_r175_i_i_i2773_i_i_i) | (u32)(v_r179_i_i_i2775_i_i_i));
     { p_v_r7_i2073_sroa_14_210551_i_i_i = v_r19_i_i6561_i_i_i; p_v_r7_i2073_sroa_0_210549_i_i_i = v_r16_i_i6560_i_i_i; p_v_r12_sroa_10_0_i6624_i_i_i = v_r182_i_i_i2776_i_i_i; goto L_arm_1_i2554_i_i_i; }
 L_join_16_i_i_i2758_i_i_i:;
-    __builtin_trap();
-    __builtin_trap();
+    TRAP();
+    TRAP();
 L_arm_1_i2554_i_i_i:;
     v_r7_i2073_sroa_14_210551_i_i_i = p_v_r7_i2073_sroa_14_210551_i_i_i;
     v_r7_i2073_sroa_0_210549_i_i_i = p_v_r7_i2073_sroa_0_210549_i_i_i;
@@ -23835,8 +23875,8 @@ L_then_14_i_i:;
     v_r182_i_i = (u64)((u64)(v_r175_i_i) | (u64)(v_r179_i_i));
     { p_v_r4_sroa_10_2934 = v_r19_i_i88; p_v_r4_sroa_0_2932 = v_r16_i_i87; p_v_r12_sroa_10_0_i = v_r182_i_i; goto L_arm_1_i; }
 L_join_16_i_i:;
-    __builtin_trap();
-    __builtin_trap();
+    TRAP();
+    TRAP();
 L_arm_1_i:;
     v_r4_sroa_10_2934 = p_v_r4_sroa_10_2934;
     v_r4_sroa_0_2932 = p_v_r4_sroa_0_2932;
@@ -23945,8 +23985,8 @@ L_then_14_i_i945_i:;
     v_r182_i_i955_i = (u64)((u64)(v_r175_i_i952_i) | (u64)(v_r179_i_i954_i));
     { p_v_r13_sroa_0_0_copyload_i_i3138_i = v_r16_i_i3019_i; p_v_r36_i_i3135_i = v_r19_i_i3020_i; p_v_r12_sroa_10_0_i_i = v_r182_i_i955_i; goto L_join_3_i_i3133_i; }
 L_join_16_i_i944_i:;
-    __builtin_trap();
-    __builtin_trap();
+    TRAP();
+    TRAP();
 L_join_3_i_i3133_i:;
     v_r13_sroa_0_0_copyload_i_i3138_i = p_v_r13_sroa_0_0_copyload_i_i3138_i;
     v_r36_i_i3135_i = p_v_r36_i_i3135_i;
@@ -24061,8 +24101,8 @@ L_then_14_i_i_i_i_i:;
     v_r182_i_i_i_i_i = (u64)((u64)(v_r175_i_i_i_i_i) | (u64)(v_r179_i_i_i_i_i));
     { p_v_r7_i688_sroa_14_39117_i = v_r19_i_i3276_i; p_v_r7_i688_sroa_0_39115_i = v_r16_i_i3275_i; p_v_r12_sroa_10_0_i3339_i = v_r182_i_i_i_i_i; goto L_arm_1_i_i_i803_i; }
 L_join_16_i_i_i_i_i:;
-    __builtin_trap();
-    __builtin_trap();
+    TRAP();
+    TRAP();
 L_arm_1_i_i_i803_i:;
     v_r7_i688_sroa_14_39117_i = p_v_r7_i688_sroa_14_39117_i;
     v_r7_i688_sroa_0_39115_i = p_v_r7_i688_sroa_0_39115_i;
@@ -24175,8 +24215,8 @@ L_then_14_i_i_i_i_i_i:;
     v_r182_i_i_i_i_i_i = (u32)((u32)(v_r175_i_i_i_i_i_i) | (u32)(v_r179_i_i_i_i_i_i));
     { p_v_r6_i_i_i_sroa_23_99253_i = v_r19_i_i3547_i; p_v_r6_i_i_i_sroa_0_99251_i = v_r16_i_i3546_i; p_v_r12_sroa_10_0_i3610_i = v_r182_i_i_i_i_i_i; goto L_arm_1_i_i148_i_i_i; }
 L_join_16_i_i_i_i_i_i:;
-    __builtin_trap();
-    __builtin_trap();
+    TRAP();
+    TRAP();
 L_arm_1_i_i148_i_i_i:;
     v_r6_i_i_i_sroa_23_99253_i = p_v_r6_i_i_i_sroa_23_99253_i;
     v_r6_i_i_i_sroa_0_99251_i = p_v_r6_i_i_i_sroa_0_99251_i;
@@ -24311,8 +24351,8 @@ L_then_14_i_i_i589_i_i_i:;
     v_r182_i_i_i599_i_i_i = (u64)((u64)(v_r175_i_i_i596_i_i_i) | (u64)(v_r179_i_i_i598_i_i_i));
     { p_v_r6_i_i_i_sroa_23_79438_i = v_r19_i_i3968_i; p_v_r6_i_i_i_sroa_0_79436_i = v_r16_i_i3967_i; p_v_r12_sroa_10_0_i4031_i = v_r182_i_i_i599_i_i_i; goto L_join_3_i4078_i; }
 L_join_16_i_i_i588_i_i_i:;
-    __builtin_trap();
-    __builtin_trap();
+    TRAP();
+    TRAP();
 L_join_3_i4078_i:;
     v_r6_i_i_i_sroa_23_79438_i = p_v_r6_i_i_i_sroa_23_79438_i;
     v_r6_i_i_i_sroa_0_79436_i = p_v_r6_i_i_i_sroa_0_79436_i;
@@ -24440,8 +24480,8 @@ L_then_14_i_i_i:;
     v_r182_i_i_i = (u64)((u64)(v_r175_i_i_i) | (u64)(v_r179_i_i_i));
     { p_v_r13_sroa_0_0_copyload_i_i4778_i = v_r16_i_i4649_i; p_v_r36_i_i4775_i = v_r19_i_i4650_i; p_v_r12_sroa_10_0_i4713_i = v_r182_i_i_i; goto L_join_3_i_i4772_i; }
 L_join_16_i_i_i:;
-    __builtin_trap();
-    __builtin_trap();
+    TRAP();
+    TRAP();
 L_join_3_i_i4772_i:;
     v_r13_sroa_0_0_copyload_i_i4778_i = p_v_r13_sroa_0_0_copyload_i_i4778_i;
     v_r36_i_i4775_i = p_v_r36_i_i4775_i;
@@ -24556,8 +24596,8 @@ L_then_14_i_i433_i:;
     v_r182_i_i450_i = (u64)((u64)(v_r175_i_i447_i) | (u64)(v_r179_i_i449_i));
     { p_v_r7_i47_sroa_14_29914_i = v_r19_i_i4921_i; p_v_r7_i47_sroa_0_29912_i = v_r16_i_i4920_i; p_v_r12_sroa_10_0_i4984_i = v_r182_i_i450_i; goto L_arm_1_i245_i; }
 L_join_16_i_i432_i:;
-    __builtin_trap();
-    __builtin_trap();
+    TRAP();
+    TRAP();
 L_arm_1_i245_i:;
     v_r7_i47_sroa_14_29914_i = p_v_r7_i47_sroa_14_29914_i;
     v_r7_i47_sroa_0_29912_i = p_v_r7_i47_sroa_0_29912_i;
@@ -24726,8 +24766,8 @@ L_then_14_i_i1396_i:;
     v_r182_i_i1413_i = (u64)((u64)(v_r175_i_i1410_i) | (u64)(v_r179_i_i1412_i));
     { p_v_r13_sroa_0_0_copyload_i_i5575_i = v_r16_i_i5447_i; p_v_r36_i_i5572_i = v_r19_i_i5448_i; p_v_r12_sroa_10_0_i5511_i = v_r182_i_i1413_i; goto L_join_3_i_i5569_i; }
 L_join_16_i_i1395_i:;
-    __builtin_trap();
-    __builtin_trap();
+    TRAP();
+    TRAP();
 L_join_3_i_i5569_i:;
     v_r13_sroa_0_0_copyload_i_i5575_i = p_v_r13_sroa_0_0_copyload_i_i5575_i;
     v_r36_i_i5572_i = p_v_r36_i_i5572_i;
@@ -24842,8 +24882,8 @@ L_then_14_i_i1833_i:;
     v_r182_i_i1850_i = (u32)((u32)(v_r175_i_i1847_i) | (u32)(v_r179_i_i1849_i));
     { p_v_r7_i1139_sroa_14_210260_i = v_r19_i_i5718_i; p_v_r7_i1139_sroa_0_210258_i = v_r16_i_i5717_i; p_v_r12_sroa_10_0_i5781_i = v_r182_i_i1850_i; goto L_arm_1_i1621_i; }
 L_join_16_i_i1832_i:;
-    __builtin_trap();
-    __builtin_trap();
+    TRAP();
+    TRAP();
 L_arm_1_i1621_i:;
     v_r7_i1139_sroa_14_210260_i = p_v_r7_i1139_sroa_14_210260_i;
     v_r7_i1139_sroa_0_210258_i = p_v_r7_i1139_sroa_0_210258_i;
@@ -24986,8 +25026,8 @@ L_then_14_i_i2322_i:;
     v_r182_i_i2339_i = (u64)((u64)(v_r175_i_i2336_i) | (u64)(v_r179_i_i2338_i));
     { p_v_r13_sroa_0_0_copyload_i_i6410_i = v_r16_i_i6282_i; p_v_r36_i_i6407_i = v_r19_i_i6283_i; p_v_r12_sroa_10_0_i6346_i = v_r182_i_i2339_i; goto L_join_3_i_i6404_i; }
 L_join_16_i_i2321_i:;
-    __builtin_trap();
-    __builtin_trap();
+    TRAP();
+    TRAP();
 L_join_3_i_i6404_i:;
     v_r13_sroa_0_0_copyload_i_i6410_i = p_v_r13_sroa_0_0_copyload_i_i6410_i;
     v_r36_i_i6407_i = p_v_r36_i_i6407_i;
@@ -25100,8 +25140,8 @@ L_then_14_i_i2751_i:;
     v_r182_i_i2768_i = (u32)((u32)(v_r175_i_i2765_i) | (u32)(v_r179_i_i2767_i));
     { p_v_r7_i2065_sroa_14_210543_i = v_r19_i_i6553_i; p_v_r7_i2065_sroa_0_210541_i = v_r16_i_i6552_i; p_v_r12_sroa_10_0_i6616_i = v_r182_i_i2768_i; goto L_arm_1_i2546_i; }
 L_join_16_i_i2750_i:;
-    __builtin_trap();
-    __builtin_trap();
+    TRAP();
+    TRAP();
 L_arm_1_i2546_i:;
     v_r7_i2065_sroa_14_210543_i = p_v_r7_i2065_sroa_14_210543_i;
     v_r7_i2065_sroa_0_210541_i = p_v_r7_i2065_sroa_0_210541_i;
@@ -26567,7 +26607,7 @@ L_then_7:;
     v_r20_i47 = get_P(v_a0);
     v_r26_i48 = (P)((u64)v_r20_i47 + (u64)(v_r17_i46));
     v_0 = (u32)((u32)(v_a2) | (u32)(8519680u));
-    v_r20_sroa_3_0_insert_insert = __builtin_bswap32(v_0);
+    v_r20_sroa_3_0_insert_insert = TURNED(32, v_0);
     v_r20_sroa_0_0_insert_ext = (u32)v_a1;
     v_r20_sroa_0_0_insert_insert = (u32)((u32)(v_r20_sroa_3_0_insert_insert) | (u32)(v_r20_sroa_0_0_insert_ext));
     put_u32(v_r26_i48, v_r20_sroa_0_0_insert_insert);
@@ -31126,7 +31166,7 @@ L_then_7_i299_i_i_i:;
     v_r20_i47_i308_i_i_i = get_P(v_r7_i240_i_i);
     v_r26_i48_i309_i_i_i = (P)((u64)v_r20_i47_i308_i_i_i + (u64)(v_r17_i46_i307_i_i_i));
     v_15 = (u32)((u32)(v_r2_i_i_i137_i_i_i_i) | (u32)(813826048u));
-    v_r20_i256_sroa_0_0_insert_insert_i_i_i = __builtin_bswap32(v_15);
+    v_r20_i256_sroa_0_0_insert_insert_i_i_i = TURNED(32, v_15);
     put_u32(v_r26_i48_i309_i_i_i, v_r20_i256_sroa_0_0_insert_insert_i_i_i);
     { p_v_r20_i_i250_i_i_i = v_r20_i47_i308_i_i_i; p_v_a1_val6_i_i139_i_i_i_i = v_r17_i46_i307_i_i_i; goto L_der_core_back_writer_BackWriter_prepend_header_exi; }
 L_else_8_i264_i_i_i:;
@@ -31209,7 +31249,7 @@ L_then_7_i223_i_i_i:;
     v_r17_i46_i231_i_i_i = (u64)((u64)(v_a1_val6_i_i139_i_i_i_i) + (u64)(18446744073709551612ull));
     v_r26_i48_i233_i_i_i = (P)((u64)v_r20_i_i250_i_i_i + (u64)(v_r17_i46_i231_i_i_i));
     v_16 = (u32)((u32)(v_r2_i12_i_i142_i_i_i_i) | (u32)(2726428672ull));
-    v_r20_i180_sroa_0_0_insert_insert_i_i_i = __builtin_bswap32(v_16);
+    v_r20_i180_sroa_0_0_insert_insert_i_i_i = TURNED(32, v_16);
     put_u32(v_r26_i48_i233_i_i_i, v_r20_i180_sroa_0_0_insert_insert_i_i_i);
     { p_v_r17_i82_i205_sink_i_i_i = v_r17_i46_i231_i_i_i; goto L_pkcs1_params_fields_FieldThenFields_prepend_cba4d3__2; }
 L_else_8_i188_i_i_i:;
@@ -31313,7 +31353,7 @@ L_then_7_i147_i_i_i:;
     v_r20_i47_i156_i_i_i = get_P(v_r7_i240_i_i);
     v_r26_i48_i157_i_i_i = (P)((u64)v_r20_i47_i156_i_i_i + (u64)(v_r17_i46_i155_i_i_i));
     v_17 = (u32)((u32)(v_r2_i_i_i229_i_i_i_i) | (u32)(813826048u));
-    v_r20_i104_sroa_0_0_insert_insert_i_i_i = __builtin_bswap32(v_17);
+    v_r20_i104_sroa_0_0_insert_insert_i_i_i = TURNED(32, v_17);
     put_u32(v_r26_i48_i157_i_i_i, v_r20_i104_sroa_0_0_insert_insert_i_i_i);
     { p_v_r20_i_i98_i_i_i = v_r20_i47_i156_i_i_i; p_v_a1_val6_i_i231_i_i_i_i = v_r17_i46_i155_i_i_i; goto L_der_core_back_writer_BackWriter_prepend_header_exi__2; }
 L_else_8_i112_i_i_i:;
@@ -31396,7 +31436,7 @@ L_then_7_i71_i_i_i:;
     v_r17_i46_i79_i_i_i = (u64)((u64)(v_a1_val6_i_i231_i_i_i_i) + (u64)(18446744073709551612ull));
     v_r26_i48_i81_i_i_i = (P)((u64)v_r20_i_i98_i_i_i + (u64)(v_r17_i46_i79_i_i_i));
     v_18 = (u32)((u32)(v_r2_i12_i_i234_i_i_i_i) | (u32)(2692874240ull));
-    v_r20_i28_sroa_0_0_insert_insert_i_i_i = __builtin_bswap32(v_18);
+    v_r20_i28_sroa_0_0_insert_insert_i_i_i = TURNED(32, v_18);
     put_u32(v_r26_i48_i81_i_i_i, v_r20_i28_sroa_0_0_insert_insert_i_i_i);
     { p_v_r7_val5_i_i_i = v_r17_i46_i79_i_i_i; p_v_r7_val_i_i_i = v_a1_val_i_i225_i_i_i_i; goto L_pkcs1_params_spelling_SpellingEncodeValue_prepend_; }
 L_else_8_i36_i_i_i:;
@@ -31480,7 +31520,7 @@ L_then_7_i_i_i_i:;
     v_21 = (P)((u64)v_r20_i47_i_i_i_i + (u64)(v_r7_val5_i_i_i));
     v_r26_i48_i_i_i_i = (P)((u64)v_21 + (u64)(-4));
     v_22 = (u32)((u32)(v_r2_i_i_i_i) | (u32)(813826048u));
-    v_r20_i_sroa_0_0_insert_insert_i_i_i = __builtin_bswap32(v_22);
+    v_r20_i_sroa_0_0_insert_insert_i_i_i = TURNED(32, v_22);
     put_u32(v_r26_i48_i_i_i_i, v_r20_i_sroa_0_0_insert_insert_i_i_i);
     { goto L_arm_1_i; }
 L_else_8_i_i_i_i:;
@@ -31676,7 +31716,7 @@ L_arm_3_i:;
 L_arm_4_i:;
     { p_v_r6_0 = 20u; goto L_join_4; }
 L_noarm_5_i:;
-    __builtin_trap();
+    TRAP();
 L_join_4:;
     v_r6_0 = p_v_r6_0;
     return v_r6_0;
@@ -32433,7 +32473,7 @@ L_then_7_i606_i_i_i:;
     v_r17_i46_i614_i_i_i = (u64)((u64)(v_r12_i_i631_i_i_i) + (u64)(18446744073709551612ull));
     v_r26_i48_i616_i_i_i = (P)((u64)v_a1 + (u64)(v_r17_i46_i614_i_i_i));
     v_8 = (u32)((u32)(v_r2_i_i_i219_i_i_i_i) | (u32)(42074112u));
-    v_r20_i563_sroa_0_0_insert_insert_i_i_i = __builtin_bswap32(v_8);
+    v_r20_i563_sroa_0_0_insert_insert_i_i_i = TURNED(32, v_8);
     put_u32(v_r26_i48_i616_i_i_i, v_r20_i563_sroa_0_0_insert_insert_i_i_i);
     { p_v_a1_val6_i_i221_i_i_i_i = v_r17_i46_i614_i_i_i; goto L_der_core_back_writer_BackWriter_prepend_header_exi; }
 L_else_8_i571_i_i_i:;
@@ -32513,7 +32553,7 @@ L_then_7_i530_i_i_i:;
     v_r17_i46_i538_i_i_i = (u64)((u64)(v_a1_val6_i_i221_i_i_i_i) + (u64)(18446744073709551612ull));
     v_r26_i48_i540_i_i_i = (P)((u64)v_a1 + (u64)(v_r17_i46_i538_i_i_i));
     v_9 = (u32)((u32)(v_r2_i13_i_i224_i_i_i_i) | (u32)(2726428672ull));
-    v_r20_i487_sroa_0_0_insert_insert_i_i_i = __builtin_bswap32(v_9);
+    v_r20_i487_sroa_0_0_insert_insert_i_i_i = TURNED(32, v_9);
     put_u32(v_r26_i48_i540_i_i_i, v_r20_i487_sroa_0_0_insert_insert_i_i_i);
     { p_v_r17_i82_i512_sink_i_i_i = v_r17_i46_i538_i_i_i; goto L_pkcs1_params_fields_FieldThenFields_prepend_0ba80a__2; }
 L_else_8_i495_i_i_i:;
@@ -32616,7 +32656,7 @@ L_then_7_i150_i_i_i:;
     v_r20_i47_i159_i_i_i = get_P(v_r7_i_i_i);
     v_r26_i48_i160_i_i_i = (P)((u64)v_r20_i47_i159_i_i_i + (u64)(v_r17_i46_i158_i_i_i));
     v_10 = (u32)((u32)(v_r2_i_i_i355_i_i_i_i) | (u32)(813826048u));
-    v_r20_i107_sroa_0_0_insert_insert_i_i_i = __builtin_bswap32(v_10);
+    v_r20_i107_sroa_0_0_insert_insert_i_i_i = TURNED(32, v_10);
     put_u32(v_r26_i48_i160_i_i_i, v_r20_i107_sroa_0_0_insert_insert_i_i_i);
     { p_v_r20_i_i101_i_i_i = v_r20_i47_i159_i_i_i; p_v_a1_val6_i_i357_i_i_i_i = v_r17_i46_i158_i_i_i; goto L_der_core_back_writer_BackWriter_prepend_header_exi__2; }
 L_else_8_i115_i_i_i:;
@@ -32699,7 +32739,7 @@ L_then_7_i74_i_i_i:;
     v_r17_i46_i82_i_i_i = (u64)((u64)(v_a1_val6_i_i357_i_i_i_i) + (u64)(18446744073709551612ull));
     v_r26_i48_i84_i_i_i = (P)((u64)v_r20_i_i101_i_i_i + (u64)(v_r17_i46_i82_i_i_i));
     v_11 = (u32)((u32)(v_r2_i12_i_i360_i_i_i_i) | (u32)(2692874240ull));
-    v_r20_i31_sroa_0_0_insert_insert_i_i_i = __builtin_bswap32(v_11);
+    v_r20_i31_sroa_0_0_insert_insert_i_i_i = TURNED(32, v_11);
     put_u32(v_r26_i48_i84_i_i_i, v_r20_i31_sroa_0_0_insert_insert_i_i_i);
     { p_v_r7_val5_i_i_i = v_r17_i46_i82_i_i_i; p_v_r7_val_i_i_i = v_a1_val_i_i351_i_i_i_i; goto L_pkcs1_params_spelling_SpellingEncodeValue_prepend_; }
 L_else_8_i39_i_i_i:;
@@ -32783,7 +32823,7 @@ L_then_7_i_i_i_i:;
     v_14 = (P)((u64)v_r20_i47_i_i_i_i + (u64)(v_r7_val5_i_i_i));
     v_r26_i48_i_i_i_i = (P)((u64)v_14 + (u64)(-4));
     v_15 = (u32)((u32)(v_r2_i_i_i_i) | (u32)(813826048u));
-    v_r20_i_sroa_0_0_insert_insert_i_i_i = __builtin_bswap32(v_15);
+    v_r20_i_sroa_0_0_insert_insert_i_i_i = TURNED(32, v_15);
     put_u32(v_r26_i48_i_i_i_i, v_r20_i_sroa_0_0_insert_insert_i_i_i);
     { goto L_arm_1_i; }
 L_else_8_i_i_i_i:;
@@ -32921,12 +32961,12 @@ L_arm_3_i:;
 L_arm_4_i:;
     { p_v_r6_0 = 20u; goto L_join_4; }
 L_noarm_5_i:;
-    __builtin_trap();
+    TRAP();
 L_join_4:;
     v_r6_0 = p_v_r6_0;
     return v_r6_0;
 }
-u1 NAME(algorithm_is)(P v_a0, P v_a1, u64 v_a2) {
+static u1 proved_algorithm_is(P v_a0, P v_a1, u64 v_a2) {
     u1 p_v_r5_0_in_i;
     u64 p_v_common_ret_op_i_ph_i_i;
     u1 p_v_r10_0_i;
@@ -33084,7 +33124,7 @@ L_pkcs1_c_algorithm_pkcs1_c_algorithm_is_exit:;
     v_r10_0_i = p_v_r10_0_i;
     return v_r10_0_i;
 }
-u64 NAME(bit_len)(P v_a0, u64 v_a1) {
+static u64 proved_bit_len(P v_a0, u64 v_a1) {
     P p_v_r3_sroa_0_08_i_i_i;
     u64 p_v_r3_sroa_6_07_i_i_i;
     u64 p_v_r3_sroa_6_0_lcssa_i3844_i_i;
@@ -33146,7 +33186,7 @@ L_arm_1_i:;
     v_r3_sroa_0_0_lcssa_i3943_i_i = p_v_r3_sroa_0_0_lcssa_i3943_i_i;
     v_r3_val_val_i = get_u8(v_r3_sroa_0_0_lcssa_i3943_i_i);
     v_r12_i_i = (u64)((u64)(v_r3_sroa_6_0_lcssa_i3844_i_i) << (u64)((3u & 63)));
-    v_r18_i_i = v_r3_val_val_i ? (unsigned)(__builtin_clz(v_r3_val_val_i) - 24) : 8u;
+    v_r18_i_i = ZEROS(8, v_r3_val_val_i);
     v_r21_i_i = (u64)v_r18_i_i;
     v_r24_i_i = (u64)((u64)(v_r12_i_i) - (u64)(v_r21_i_i));
     { p_v_r5_0_i = v_r24_i_i; goto L_pkcs1_c_numbers_pkcs1_c_bit_len_exit; }
@@ -33158,7 +33198,7 @@ L_pkcs1_c_numbers_pkcs1_c_bit_len_exit:;
     v_r5_0_i = p_v_r5_0_i;
     return v_r5_0_i;
 }
-u1 NAME(oaep_label)(P v_a0, P v_a1) {
+static u1 proved_oaep_label(P v_a0, P v_a1) {
     u1 p_v_r509_i;
     P v_r15_i;
     P v_r17_i;
@@ -33231,14 +33271,14 @@ L_pkcs1_c_oaep_pkcs1_c_oaep_label_exit:;
     v_r509_i = p_v_r509_i;
     return v_r509_i;
 }
-void NAME(version)(P v_a0) {
+static void proved_version(P v_a0) {
     P v_r2_sroa_3_0_a0_sroa_idx_i;
     put_P(v_a0, AT(f_static_1));
     v_r2_sroa_3_0_a0_sroa_idx_i = v_a0 + 8;
     put_u64(v_r2_sroa_3_0_a0_sroa_idx_i, 6u);
     return;
 }
-u32 NAME(public_key_decode)(P v_a0, u64 v_a1, P v_a2) {
+static ONCE u32 proved_public_key_decode(P v_a0, u64 v_a1, P v_a2) {
     ALIGNED(8) unsigned char m_v_r0_i_i_i[40];
     P p_v_r0_i1_sroa_7_0_i_i;
     u64 p_v_r0_i1_sroa_11_0_i_i;
@@ -33729,7 +33769,7 @@ L_pkcs1_c_public_key_pkcs1_c_public_key_decode_exit:;
     v_r6_0_i = p_v_r6_0_i;
     return v_r6_0_i;
 }
-void NAME(status_text)(u32 v_a0, P v_a1) {
+static void proved_status_text(u32 v_a0, P v_a1) {
     u64 p_v_r1_sroa_22_0_i_i;
     P p_v_r1_sroa_0_0_i_i;
     u64 v_r1_sroa_22_0_i_i;
@@ -33803,7 +33843,7 @@ L_pkcs1_c_status_pkcs1_c_status_text_exit:;
     put_u64(v_r0_sroa_3_0_a1_sroa_idx_i, v_r1_sroa_22_0_i_i);
     return;
 }
-u32 NAME(private_key_decode)(P v_a0, u64 v_a1, P v_a2, P v_a3) {
+static ONCE u32 proved_private_key_decode(P v_a0, u64 v_a1, P v_a2, P v_a3) {
     ALIGNED(8) unsigned char m_v_r6_i1233_i[32];
     ALIGNED(8) unsigned char m_v_r10_i14_sroa_7_i[24];
     ALIGNED(8) unsigned char m_v_r0_i1_i[168];
@@ -35516,7 +35556,7 @@ L_pkcs1_c_private_key_pkcs1_c_private_key_decode_exi:;
     v_r6_0_i = p_v_r6_0_i;
     return v_r6_0_i;
 }
-u32 NAME(private_key_info_decode)(P v_a0, u64 v_a1, P v_a2, P v_a3, P v_a4) {
+static ONCE u32 proved_private_key_info_decode(P v_a0, u64 v_a1, P v_a2, P v_a3, P v_a4) {
     ALIGNED(8) unsigned char m_v_r6_i1233_i_i_i[32];
     ALIGNED(8) unsigned char m_v_r10_i14_sroa_7_i_i_i[24];
     ALIGNED(8) unsigned char m_v_r0_i1_i_i_i[168];
@@ -38124,7 +38164,7 @@ L_pkcs1_c_container_pkcs1_c_private_key_info_decode_:;
     v_r7_0_i = p_v_r7_0_i;
     return v_r7_0_i;
 }
-u32 NAME(oaep_algorithm_decode)(P v_a0, u64 v_a1, P v_a2) {
+static ONCE u32 proved_oaep_algorithm_decode(P v_a0, u64 v_a1, P v_a2) {
     ALIGNED(8) unsigned char m_v_r10_i130_i_i[176];
     ALIGNED(8) unsigned char m_v_r12_i132_i_i[24];
     ALIGNED(8) unsigned char m_v_r0_i_i_i[56];
@@ -38964,12 +39004,12 @@ L_arm_3_i_i:;
 L_arm_4_i_i:;
     { p_v_r6_0_i = 20u; goto L_pkcs1_c_oaep_algorithm_pkcs1_c_oaep_algorithm_deco; }
 L_noarm_5_i_i:;
-    __builtin_trap();
+    TRAP();
 L_pkcs1_c_oaep_algorithm_pkcs1_c_oaep_algorithm_deco:;
     v_r6_0_i = p_v_r6_0_i;
     return v_r6_0_i;
 }
-u32 NAME(oaep_algorithm_decode_strict)(P v_a0, u64 v_a1, P v_a2) {
+static ONCE u32 proved_oaep_algorithm_decode_strict(P v_a0, u64 v_a1, P v_a2) {
     ALIGNED(1) unsigned char m_v_r0_i578_i_i_i[5];
     ALIGNED(8) unsigned char m_v_r4_i572_i_i_i[32];
     ALIGNED(8) unsigned char m_v_r7_i532_i_i_i[176];
@@ -40118,14 +40158,14 @@ L_arm_3_i_i:;
 L_arm_4_i_i:;
     { p_v_r6_0_i = 20u; goto L_pkcs1_c_oaep_algorithm_pkcs1_c_oaep_algorithm_deco; }
 L_noarm_5_i_i:;
-    __builtin_trap();
+    TRAP();
 L_pkcs1_c_oaep_algorithm_pkcs1_c_oaep_algorithm_deco:;
     v_r6_0_i = p_v_r6_0_i;
     return v_r6_0_i;
 }
-u32 NAME(oaep_params_decode)(P v_a0, u64 v_a1, P v_a2) {
-    ALIGNED(8) unsigned char m_v_r8_i_i102_i_i[176];
-    ALIGNED(8) unsigned char m_v_r0_i105_i_i[176];
+static ONCE u32 proved_oaep_params_decode(P v_a0, u64 v_a1, P v_a2) {
+    ALIGNED(8) unsigned char m_v_r8_i176_i_i[176];
+    ALIGNED(8) unsigned char m_v_r0_i98_i_i[176];
     P p_v_r1_sroa_9_0_i_ph_i_i_i;
     P p_v_r5_sroa_124_0_ph_i;
     u64 p_v_r5_sroa_15_0_ph_i;
@@ -40197,8 +40237,8 @@ u32 NAME(oaep_params_decode)(P v_a0, u64 v_a1, P v_a2) {
     P p_v_r5_sroa_12_0_i_i_i;
     u64 p_v_r5_sroa_13_0_i_i_i;
     u32 p_v_r6_0_i;
-    P v_r8_i_i102_i_i;
-    P v_r0_i105_i_i;
+    P v_r8_i176_i_i;
+    P v_r0_i98_i_i;
     u1 v_r1;
     u64 v_r3;
     P v_r4;
@@ -40210,11 +40250,11 @@ u32 NAME(oaep_params_decode)(P v_a0, u64 v_a1, P v_a2) {
     u64 v_r36_i21_i_i;
     u8 v_r43_i_i_i;
     u1 v_r45_i_i_i;
-    u64 v_r1_i137_i_i;
+    u64 v_r1_i122_i_i;
     u1 v_r57_i_i_i;
     u1 v_or_cond_i_i;
-    u1 v_r7_i142_i_i;
-    u1 v_r12_i_i_i147_i_i;
+    u1 v_r7_i127_i_i;
+    u1 v_r12_i_i_i132_i_i;
     P v_r19_i_i_i_i_i;
     u8 v_r18_i8_i_i_i;
     P v_r1_sroa_9_0_i_ph_i_i_i;
@@ -40249,51 +40289,51 @@ u32 NAME(oaep_params_decode)(P v_a0, u64 v_a1, P v_a2) {
     u1 v_0;
     u1 v_1;
     u1 v_or_cond;
-    u8 v_r2_i191_i_i;
+    u8 v_r2_i_i177_i_i;
     u1 v_2;
-    P v_r5_i198_i_i;
+    P v_r5_i_i_i_i;
     P v_r46_i_i_i;
-    P v_r0_i89_sroa_15_sroa_3_4_copyload786_i_i;
+    P v_r0_i89_sroa_15_sroa_3_4_copyload766_i_i;
     P v_r0_i89_sroa_15_sroa_6_4_r46_i_sroa_idx_i_i;
-    u64 v_r0_i89_sroa_15_sroa_6_4_copyload787_i_i;
+    u64 v_r0_i89_sroa_15_sroa_6_4_copyload767_i_i;
     P v_r0_i89_sroa_15_sroa_7_4_r46_i_sroa_idx_i_i;
-    u64 v_r0_i89_sroa_15_sroa_7_4_copyload788_i_i;
+    u64 v_r0_i89_sroa_15_sroa_7_4_copyload768_i_i;
     P v_r0_i89_sroa_15_sroa_8_4_r46_i_sroa_idx_i_i;
-    u64 v_r0_i89_sroa_15_sroa_8_4_copyload789_i_i;
+    u64 v_r0_i89_sroa_15_sroa_8_4_copyload769_i_i;
     P v_r0_i89_sroa_15_sroa_9_4_r46_i_sroa_idx_i_i;
-    P v_r0_i89_sroa_15_sroa_9_4_copyload790_i_i;
+    P v_r0_i89_sroa_15_sroa_9_4_copyload770_i_i;
     P v_r0_i89_sroa_15_sroa_10_4_r46_i_sroa_idx_i_i;
-    u64 v_r0_i89_sroa_15_sroa_10_4_copyload791_i_i;
+    u64 v_r0_i89_sroa_15_sroa_10_4_copyload771_i_i;
     P v_r0_i89_sroa_15_sroa_11_4_r46_i_sroa_idx_i_i;
-    P v_r0_i89_sroa_15_sroa_11_4_copyload792_i_i;
+    P v_r0_i89_sroa_15_sroa_11_4_copyload772_i_i;
     P v_r0_i89_sroa_15_sroa_12_4_r46_i_sroa_idx_i_i;
-    u64 v_r0_i89_sroa_15_sroa_12_4_copyload793_i_i;
+    u64 v_r0_i89_sroa_15_sroa_12_4_copyload773_i_i;
     P v_r0_i89_sroa_15_sroa_13_4_r46_i_sroa_idx_i_i;
-    u64 v_r0_i89_sroa_15_sroa_13_4_copyload794_i_i;
+    u64 v_r0_i89_sroa_15_sroa_13_4_copyload774_i_i;
     P v_r0_i89_sroa_15_sroa_14_4_r46_i_sroa_idx_i_i;
-    P v_r0_i89_sroa_15_sroa_14_4_copyload795_i_i;
+    P v_r0_i89_sroa_15_sroa_14_4_copyload775_i_i;
     P v_r0_i89_sroa_15_sroa_15_4_r46_i_sroa_idx_i_i;
-    u64 v_r0_i89_sroa_15_sroa_15_4_copyload796_i_i;
+    u64 v_r0_i89_sroa_15_sroa_15_4_copyload776_i_i;
     P v_r0_i89_sroa_15_sroa_16_4_r46_i_sroa_idx_i_i;
-    u64 v_r0_i89_sroa_15_sroa_16_4_copyload797_i_i;
+    u64 v_r0_i89_sroa_15_sroa_16_4_copyload777_i_i;
     P v_r0_i89_sroa_15_sroa_17_4_r46_i_sroa_idx_i_i;
-    u64 v_r0_i89_sroa_15_sroa_17_4_copyload798_i_i;
+    u64 v_r0_i89_sroa_15_sroa_17_4_copyload778_i_i;
     P v_r0_i89_sroa_15_sroa_18_4_r46_i_sroa_idx_i_i;
-    P v_r0_i89_sroa_15_sroa_18_4_copyload799_i_i;
+    P v_r0_i89_sroa_15_sroa_18_4_copyload779_i_i;
     P v_r0_i89_sroa_15_sroa_19_4_r46_i_sroa_idx_i_i;
-    u64 v_r0_i89_sroa_15_sroa_19_4_copyload800_i_i;
+    u64 v_r0_i89_sroa_15_sroa_19_4_copyload780_i_i;
     P v_r0_i89_sroa_15_sroa_20_4_r46_i_sroa_idx_i_i;
-    P v_r0_i89_sroa_15_sroa_20_4_copyload801_i_i;
+    P v_r0_i89_sroa_15_sroa_20_4_copyload781_i_i;
     P v_r0_i89_sroa_15_sroa_21_4_r46_i_sroa_idx_i_i;
-    u64 v_r0_i89_sroa_15_sroa_21_4_copyload802_i_i;
+    u64 v_r0_i89_sroa_15_sroa_21_4_copyload782_i_i;
     P v_r0_i89_sroa_15_sroa_22_4_r46_i_sroa_idx_i_i;
-    u64 v_r0_i89_sroa_15_sroa_22_4_copyload803_i_i;
+    u64 v_r0_i89_sroa_15_sroa_22_4_copyload783_i_i;
     P v_r0_i89_sroa_15_sroa_23_4_r46_i_sroa_idx_i_i;
-    u64 v_r0_i89_sroa_15_sroa_23_4_copyload804_i_i;
+    u64 v_r0_i89_sroa_15_sroa_23_4_copyload784_i_i;
     P v_r0_i89_sroa_15_sroa_24_4_r46_i_sroa_idx_i_i;
-    P v_r0_i89_sroa_15_sroa_24_4_copyload805_i_i;
+    P v_r0_i89_sroa_15_sroa_24_4_copyload785_i_i;
     P v_r0_i89_sroa_15_sroa_25_4_r46_i_sroa_idx_i_i;
-    u64 v_r0_i89_sroa_15_sroa_25_4_copyload806_i_i;
+    u64 v_r0_i89_sroa_15_sroa_25_4_copyload786_i_i;
     u8 v_3;
     P v_r59_i_i_i;
     u8 v_4;
@@ -40450,15 +40490,15 @@ u32 NAME(oaep_params_decode)(P v_a0, u64 v_a1, P v_a2) {
     u32 v_switch_idx_cast_i_i_i;
     u32 v_switch_offset_i_i_i;
     u32 v_r6_0_i;
-    v_r8_i_i102_i_i = AT(m_v_r8_i_i102_i_i);
-    v_r0_i105_i_i = AT(m_v_r0_i105_i_i);
+    v_r8_i176_i_i = AT(m_v_r8_i176_i_i);
+    v_r0_i98_i_i = AT(m_v_r0_i98_i_i);
     v_r1 = v_a0 == (P)0;
     v_r3 = v_r1 ? 4096u : 0u;
     v_r4 = (P)((u64)v_a0 + (u64)(v_r3));
     v_r21_i17_i_i = v_a1 < 2u;
     if (v_r21_i17_i_i) { goto L_arm_2_i_i_thread31_i; } else { goto L_join_5_i_i_i; }
 L_arm_2_i_i_thread31_i:;
-    fill(v_r0_i105_i_i, 0u, 176u);
+    fill(v_r0_i98_i_i, 0u, 176u);
     { goto L_der_core_decode_AnyDecodeRefSliceU8_from_der_26c02; }
 L_join_5_i_i_i:;
     v_r28_i18_i_i = get_u8(v_r4);
@@ -40470,29 +40510,29 @@ L_arm_6_i19_i_i:;
     v_r36_i21_i_i = (u64)((u64)(v_a1) + (u64)(18446744073709551614ull));
     v_r43_i_i_i = get_u8(v_r31_i_i_i);
     v_r45_i_i_i = (u8)(v_r43_i_i_i ^ ((u8)1 << 7)) > (u8)(255u ^ ((u8)1 << 7));
-    v_r1_i137_i_i = (u64)v_r43_i_i_i;
-    v_r57_i_i_i = v_r36_i21_i_i == v_r1_i137_i_i;
+    v_r1_i122_i_i = (u64)v_r43_i_i_i;
+    v_r57_i_i_i = v_r36_i21_i_i == v_r1_i122_i_i;
     v_or_cond_i_i = v_r45_i_i_i ? v_r57_i_i_i : 0u;
     if (v_or_cond_i_i) { goto L_arm_1_i12_i_i; } else { goto L_arm_2_i_i_i; }
 L_arm_1_i12_i_i:;
-    v_r7_i142_i_i = v_r36_i21_i_i == 0u;
-    if (v_r7_i142_i_i) { p_v_r3_sroa_35_sroa_0_0_extract_trunc143_i = 1u; p_v_r3_sroa_23_sroa_0_0_extract_trunc141_i = 1u; p_v_r3_sroa_17_sroa_0_0_extract_trunc139_i = 1u; p_v_r3_sroa_5_sroa_0_0_extract_trunc137_i = 1u; p_v_r5_sroa_34_0_ph135_i = 0u; p_v_r5_sroa_33_0_ph133_i = AT(f_static_22); p_v_r5_sroa_32_0_ph131_i = 4u; p_v_r5_sroa_30_0_ph129_i = 9u; p_v_r5_sroa_29_0_ph127_i = AT(f_static_0); p_v_r5_sroa_28_0_ph125_i = 0u; p_v_r5_sroa_27_0_ph123_i = AT(f_static_22); p_v_r5_sroa_26_0_ph121_i = 5u; p_v_r5_sroa_24_0_ph119_i = 5u; p_v_r5_sroa_23_0_ph117_i = AT(f_static_24); p_v_r5_sroa_21_0_ph115_i = 9u; p_v_r5_sroa_20_0_ph113_i = AT(f_static_25); p_v_r5_sroa_19_0_ph112_i = 0u; p_v_r5_sroa_18_0_ph111_i = AT(f_static_22); p_v_r5_sroa_17_0_ph110_i = 5u; p_v_r5_sroa_15_0_ph108_i = 5u; p_v_r5_sroa_124_0_ph106_i = AT(f_static_24); goto L_arm_2_i_i2_i; } else { goto L_join_3_i_i_i; }
+    v_r7_i127_i_i = v_r36_i21_i_i == 0u;
+    if (v_r7_i127_i_i) { p_v_r3_sroa_35_sroa_0_0_extract_trunc143_i = 1u; p_v_r3_sroa_23_sroa_0_0_extract_trunc141_i = 1u; p_v_r3_sroa_17_sroa_0_0_extract_trunc139_i = 1u; p_v_r3_sroa_5_sroa_0_0_extract_trunc137_i = 1u; p_v_r5_sroa_34_0_ph135_i = 0u; p_v_r5_sroa_33_0_ph133_i = AT(f_static_22); p_v_r5_sroa_32_0_ph131_i = 4u; p_v_r5_sroa_30_0_ph129_i = 9u; p_v_r5_sroa_29_0_ph127_i = AT(f_static_0); p_v_r5_sroa_28_0_ph125_i = 0u; p_v_r5_sroa_27_0_ph123_i = AT(f_static_22); p_v_r5_sroa_26_0_ph121_i = 5u; p_v_r5_sroa_24_0_ph119_i = 5u; p_v_r5_sroa_23_0_ph117_i = AT(f_static_24); p_v_r5_sroa_21_0_ph115_i = 9u; p_v_r5_sroa_20_0_ph113_i = AT(f_static_25); p_v_r5_sroa_19_0_ph112_i = 0u; p_v_r5_sroa_18_0_ph111_i = AT(f_static_22); p_v_r5_sroa_17_0_ph110_i = 5u; p_v_r5_sroa_15_0_ph108_i = 5u; p_v_r5_sroa_124_0_ph106_i = AT(f_static_24); goto L_arm_2_i_i2_i; } else { goto L_join_3_i_i_i; }
 L_join_3_i_i_i:;
-    v_r12_i_i_i147_i_i = v_r36_i21_i_i > 14u;
-    if (v_r12_i_i_i147_i_i) { goto L_arm_1_i_i149_i_i; } else { goto L_join_5_i_i_i_thread_i; }
-L_arm_1_i_i149_i_i:;
+    v_r12_i_i_i132_i_i = v_r36_i21_i_i > 14u;
+    if (v_r12_i_i_i132_i_i) { goto L_arm_1_i_i134_i_i; } else { goto L_join_5_i_i_i_thread_i; }
+L_arm_1_i_i134_i_i:;
     v_r19_i_i_i_i_i = v_r4 + 16;
     v_r18_i8_i_i_i = get_u8(v_r19_i_i_i_i_i);
     switch (v_r18_i8_i_i_i) {
     case 1u: { p_v_r1_sroa_9_0_i_ph_i_i_i = AT(f_static_26); goto L_arm_5_i_i_i_i; }
-    case 2u: { goto L_arm_2_i_i150_i_i; }
+    case 2u: { goto L_arm_2_i_i135_i_i; }
     case 3u: { goto L_arm_3_i_i_i_i; }
     case 4u: { goto L_arm_4_i_i_i_i; }
     case 5u: { goto L_arm_5_i5_i_i_i; }
     case 6u: { goto L_arm_6_i_i_i_i; }
     default: { goto L_join_5_i_i_i_thread_i; }
     }
-L_arm_2_i_i150_i_i:;
+L_arm_2_i_i135_i_i:;
     { p_v_r1_sroa_9_0_i_ph_i_i_i = AT(f_static_27); goto L_arm_5_i_i_i_i; }
 L_arm_3_i_i_i_i:;
     { p_v_r1_sroa_9_0_i_ph_i_i_i = AT(f_static_28); goto L_arm_5_i_i_i_i; }
@@ -40540,116 +40580,116 @@ L_arm_4_i_i_i:;
     v_r173_i_i_i = v_r4 + 25;
     { p_v_r3_sroa_35_sroa_0_0_extract_trunc143_i = 1u; p_v_r3_sroa_23_sroa_0_0_extract_trunc141_i = 1u; p_v_r3_sroa_17_sroa_0_0_extract_trunc139_i = 1u; p_v_r3_sroa_5_sroa_0_0_extract_trunc137_i = 1u; p_v_r5_sroa_34_0_ph135_i = 0u; p_v_r5_sroa_33_0_ph133_i = AT(f_static_22); p_v_r5_sroa_32_0_ph131_i = 4u; p_v_r5_sroa_30_0_ph129_i = 9u; p_v_r5_sroa_29_0_ph127_i = AT(f_static_0); p_v_r5_sroa_28_0_ph125_i = 0u; p_v_r5_sroa_27_0_ph123_i = v_r141_i_i_i; p_v_r5_sroa_26_0_ph121_i = 5u; p_v_r5_sroa_24_0_ph119_i = 9u; p_v_r5_sroa_23_0_ph117_i = v_r127_i_i_i; p_v_r5_sroa_21_0_ph115_i = 9u; p_v_r5_sroa_20_0_ph113_i = v_r173_i_i_i; p_v_r5_sroa_19_0_ph112_i = 0u; p_v_r5_sroa_18_0_ph111_i = v_r95_i_i_i; p_v_r5_sroa_17_0_ph110_i = 5u; p_v_r5_sroa_15_0_ph108_i = 9u; p_v_r5_sroa_124_0_ph106_i = v_r81_i_i_i; goto L_arm_2_i_i2_i; }
 L_join_5_i_i_i_thread_i:;
-    fill(v_r0_i105_i_i, 0u, 176u);
+    fill(v_r0_i98_i_i, 0u, 176u);
     { goto L_then_10_i_i_i; }
 L_arm_2_i_i_i:;
-    fill(v_r0_i105_i_i, 0u, 176u);
+    fill(v_r0_i98_i_i, 0u, 176u);
     v_0 = v_a1 < 4294967296ull;
     v_1 = (u1)(((u32)(v_0) & (u32)(v_r45_i_i_i)) & 1);
     v_or_cond = v_1 ? v_r57_i_i_i : 0u;
     if (v_or_cond) { goto L_then_10_i_i_i; } else { goto L_der_core_decode_AnyDecodeRefSliceU8_from_der_26c02; }
 L_arm_2_i_i_thread149_i:;
-    fill(v_r0_i105_i_i, 0u, 176u);
+    fill(v_r0_i98_i_i, 0u, 176u);
     { goto L_der_core_decode_AnyDecodeRefSliceU8_from_der_26c02; }
 L_then_10_i_i_i:;
-    f_pkcs1_params_quick_quick_oaep(v_r8_i_i102_i_i, v_r33_i20_i_i, v_r36_i21_i_i, 0u);
-    v_r2_i191_i_i = get_u8(v_r8_i_i102_i_i);
-    v_2 = v_r2_i191_i_i == 1u;
+    f_pkcs1_params_quick_quick_oaep(v_r8_i176_i_i, v_r33_i20_i_i, v_r36_i21_i_i, 0u);
+    v_r2_i_i177_i_i = get_u8(v_r8_i176_i_i);
+    v_2 = v_r2_i_i177_i_i == 1u;
     if (v_2) { goto L_der_core_decode_AnyDecodeRefSliceU8_from_der_26c02__2; } else { goto L_pkcs1_params_oaep_reading_OaepParamsOfAnyRefDecode; }
 L_pkcs1_params_oaep_reading_OaepParamsOfAnyRefDecode:;
     { goto L_der_core_decode_AnyDecodeRefSliceU8_from_der_26c02; }
 L_der_core_decode_AnyDecodeRefSliceU8_from_der_26c02__2:;
-    v_r5_i198_i_i = v_r8_i_i102_i_i + 8;
-    v_r46_i_i_i = v_r0_i105_i_i + 8;
-    copy(v_r46_i_i_i, v_r5_i198_i_i, 168u);
-    v_r0_i89_sroa_15_sroa_3_4_copyload786_i_i = get_P(v_r46_i_i_i);
-    v_r0_i89_sroa_15_sroa_6_4_r46_i_sroa_idx_i_i = v_r0_i105_i_i + 16;
-    v_r0_i89_sroa_15_sroa_6_4_copyload787_i_i = get_u64(v_r0_i89_sroa_15_sroa_6_4_r46_i_sroa_idx_i_i);
-    v_r0_i89_sroa_15_sroa_7_4_r46_i_sroa_idx_i_i = v_r0_i105_i_i + 24;
-    v_r0_i89_sroa_15_sroa_7_4_copyload788_i_i = get_u64(v_r0_i89_sroa_15_sroa_7_4_r46_i_sroa_idx_i_i);
-    v_r0_i89_sroa_15_sroa_8_4_r46_i_sroa_idx_i_i = v_r0_i105_i_i + 32;
-    v_r0_i89_sroa_15_sroa_8_4_copyload789_i_i = get_u64(v_r0_i89_sroa_15_sroa_8_4_r46_i_sroa_idx_i_i);
-    v_r0_i89_sroa_15_sroa_9_4_r46_i_sroa_idx_i_i = v_r0_i105_i_i + 40;
-    v_r0_i89_sroa_15_sroa_9_4_copyload790_i_i = get_P(v_r0_i89_sroa_15_sroa_9_4_r46_i_sroa_idx_i_i);
-    v_r0_i89_sroa_15_sroa_10_4_r46_i_sroa_idx_i_i = v_r0_i105_i_i + 48;
-    v_r0_i89_sroa_15_sroa_10_4_copyload791_i_i = get_u64(v_r0_i89_sroa_15_sroa_10_4_r46_i_sroa_idx_i_i);
-    v_r0_i89_sroa_15_sroa_11_4_r46_i_sroa_idx_i_i = v_r0_i105_i_i + 56;
-    v_r0_i89_sroa_15_sroa_11_4_copyload792_i_i = get_P(v_r0_i89_sroa_15_sroa_11_4_r46_i_sroa_idx_i_i);
-    v_r0_i89_sroa_15_sroa_12_4_r46_i_sroa_idx_i_i = v_r0_i105_i_i + 64;
-    v_r0_i89_sroa_15_sroa_12_4_copyload793_i_i = get_u64(v_r0_i89_sroa_15_sroa_12_4_r46_i_sroa_idx_i_i);
-    v_r0_i89_sroa_15_sroa_13_4_r46_i_sroa_idx_i_i = v_r0_i105_i_i + 72;
-    v_r0_i89_sroa_15_sroa_13_4_copyload794_i_i = get_u64(v_r0_i89_sroa_15_sroa_13_4_r46_i_sroa_idx_i_i);
-    v_r0_i89_sroa_15_sroa_14_4_r46_i_sroa_idx_i_i = v_r0_i105_i_i + 80;
-    v_r0_i89_sroa_15_sroa_14_4_copyload795_i_i = get_P(v_r0_i89_sroa_15_sroa_14_4_r46_i_sroa_idx_i_i);
-    v_r0_i89_sroa_15_sroa_15_4_r46_i_sroa_idx_i_i = v_r0_i105_i_i + 88;
-    v_r0_i89_sroa_15_sroa_15_4_copyload796_i_i = get_u64(v_r0_i89_sroa_15_sroa_15_4_r46_i_sroa_idx_i_i);
-    v_r0_i89_sroa_15_sroa_16_4_r46_i_sroa_idx_i_i = v_r0_i105_i_i + 96;
-    v_r0_i89_sroa_15_sroa_16_4_copyload797_i_i = get_u64(v_r0_i89_sroa_15_sroa_16_4_r46_i_sroa_idx_i_i);
-    v_r0_i89_sroa_15_sroa_17_4_r46_i_sroa_idx_i_i = v_r0_i105_i_i + 104;
-    v_r0_i89_sroa_15_sroa_17_4_copyload798_i_i = get_u64(v_r0_i89_sroa_15_sroa_17_4_r46_i_sroa_idx_i_i);
-    v_r0_i89_sroa_15_sroa_18_4_r46_i_sroa_idx_i_i = v_r0_i105_i_i + 112;
-    v_r0_i89_sroa_15_sroa_18_4_copyload799_i_i = get_P(v_r0_i89_sroa_15_sroa_18_4_r46_i_sroa_idx_i_i);
-    v_r0_i89_sroa_15_sroa_19_4_r46_i_sroa_idx_i_i = v_r0_i105_i_i + 120;
-    v_r0_i89_sroa_15_sroa_19_4_copyload800_i_i = get_u64(v_r0_i89_sroa_15_sroa_19_4_r46_i_sroa_idx_i_i);
-    v_r0_i89_sroa_15_sroa_20_4_r46_i_sroa_idx_i_i = v_r0_i105_i_i + 128;
-    v_r0_i89_sroa_15_sroa_20_4_copyload801_i_i = get_P(v_r0_i89_sroa_15_sroa_20_4_r46_i_sroa_idx_i_i);
-    v_r0_i89_sroa_15_sroa_21_4_r46_i_sroa_idx_i_i = v_r0_i105_i_i + 136;
-    v_r0_i89_sroa_15_sroa_21_4_copyload802_i_i = get_u64(v_r0_i89_sroa_15_sroa_21_4_r46_i_sroa_idx_i_i);
-    v_r0_i89_sroa_15_sroa_22_4_r46_i_sroa_idx_i_i = v_r0_i105_i_i + 144;
-    v_r0_i89_sroa_15_sroa_22_4_copyload803_i_i = get_u64(v_r0_i89_sroa_15_sroa_22_4_r46_i_sroa_idx_i_i);
-    v_r0_i89_sroa_15_sroa_23_4_r46_i_sroa_idx_i_i = v_r0_i105_i_i + 152;
-    v_r0_i89_sroa_15_sroa_23_4_copyload804_i_i = get_u64(v_r0_i89_sroa_15_sroa_23_4_r46_i_sroa_idx_i_i);
-    v_r0_i89_sroa_15_sroa_24_4_r46_i_sroa_idx_i_i = v_r0_i105_i_i + 160;
-    v_r0_i89_sroa_15_sroa_24_4_copyload805_i_i = get_P(v_r0_i89_sroa_15_sroa_24_4_r46_i_sroa_idx_i_i);
-    v_r0_i89_sroa_15_sroa_25_4_r46_i_sroa_idx_i_i = v_r0_i105_i_i + 168;
-    v_r0_i89_sroa_15_sroa_25_4_copyload806_i_i = get_u64(v_r0_i89_sroa_15_sroa_25_4_r46_i_sroa_idx_i_i);
-    { p_v_r5_sroa_124_0_ph_i = v_r0_i89_sroa_15_sroa_3_4_copyload786_i_i; p_v_r5_sroa_15_0_ph_i = v_r0_i89_sroa_15_sroa_6_4_copyload787_i_i; p_v_r5_sroa_16_0_ph_i = v_r0_i89_sroa_15_sroa_7_4_copyload788_i_i; p_v_r5_sroa_17_0_ph_i = v_r0_i89_sroa_15_sroa_8_4_copyload789_i_i; p_v_r5_sroa_18_0_ph_i = v_r0_i89_sroa_15_sroa_9_4_copyload790_i_i; p_v_r5_sroa_19_0_ph_i = v_r0_i89_sroa_15_sroa_10_4_copyload791_i_i; p_v_r5_sroa_20_0_ph_i = v_r0_i89_sroa_15_sroa_11_4_copyload792_i_i; p_v_r5_sroa_21_0_ph_i = v_r0_i89_sroa_15_sroa_12_4_copyload793_i_i; p_v_r5_sroa_22_0_ph_i = v_r0_i89_sroa_15_sroa_13_4_copyload794_i_i; p_v_r5_sroa_23_0_ph_i = v_r0_i89_sroa_15_sroa_14_4_copyload795_i_i; p_v_r5_sroa_24_0_ph_i = v_r0_i89_sroa_15_sroa_15_4_copyload796_i_i; p_v_r5_sroa_25_0_ph_i = v_r0_i89_sroa_15_sroa_16_4_copyload797_i_i; p_v_r5_sroa_26_0_ph_i = v_r0_i89_sroa_15_sroa_17_4_copyload798_i_i; p_v_r5_sroa_27_0_ph_i = v_r0_i89_sroa_15_sroa_18_4_copyload799_i_i; p_v_r5_sroa_28_0_ph_i = v_r0_i89_sroa_15_sroa_19_4_copyload800_i_i; p_v_r5_sroa_29_0_ph_i = v_r0_i89_sroa_15_sroa_20_4_copyload801_i_i; p_v_r5_sroa_30_0_ph_i = v_r0_i89_sroa_15_sroa_21_4_copyload802_i_i; p_v_r5_sroa_31_0_ph_i = v_r0_i89_sroa_15_sroa_22_4_copyload803_i_i; p_v_r5_sroa_32_0_ph_i = v_r0_i89_sroa_15_sroa_23_4_copyload804_i_i; p_v_r5_sroa_33_0_ph_i = v_r0_i89_sroa_15_sroa_24_4_copyload805_i_i; p_v_r5_sroa_34_0_ph_i = v_r0_i89_sroa_15_sroa_25_4_copyload806_i_i; goto L_arm_1_i; }
+    v_r5_i_i_i_i = v_r8_i176_i_i + 8;
+    v_r46_i_i_i = v_r0_i98_i_i + 8;
+    copy(v_r46_i_i_i, v_r5_i_i_i_i, 168u);
+    v_r0_i89_sroa_15_sroa_3_4_copyload766_i_i = get_P(v_r46_i_i_i);
+    v_r0_i89_sroa_15_sroa_6_4_r46_i_sroa_idx_i_i = v_r0_i98_i_i + 16;
+    v_r0_i89_sroa_15_sroa_6_4_copyload767_i_i = get_u64(v_r0_i89_sroa_15_sroa_6_4_r46_i_sroa_idx_i_i);
+    v_r0_i89_sroa_15_sroa_7_4_r46_i_sroa_idx_i_i = v_r0_i98_i_i + 24;
+    v_r0_i89_sroa_15_sroa_7_4_copyload768_i_i = get_u64(v_r0_i89_sroa_15_sroa_7_4_r46_i_sroa_idx_i_i);
+    v_r0_i89_sroa_15_sroa_8_4_r46_i_sroa_idx_i_i = v_r0_i98_i_i + 32;
+    v_r0_i89_sroa_15_sroa_8_4_copyload769_i_i = get_u64(v_r0_i89_sroa_15_sroa_8_4_r46_i_sroa_idx_i_i);
+    v_r0_i89_sroa_15_sroa_9_4_r46_i_sroa_idx_i_i = v_r0_i98_i_i + 40;
+    v_r0_i89_sroa_15_sroa_9_4_copyload770_i_i = get_P(v_r0_i89_sroa_15_sroa_9_4_r46_i_sroa_idx_i_i);
+    v_r0_i89_sroa_15_sroa_10_4_r46_i_sroa_idx_i_i = v_r0_i98_i_i + 48;
+    v_r0_i89_sroa_15_sroa_10_4_copyload771_i_i = get_u64(v_r0_i89_sroa_15_sroa_10_4_r46_i_sroa_idx_i_i);
+    v_r0_i89_sroa_15_sroa_11_4_r46_i_sroa_idx_i_i = v_r0_i98_i_i + 56;
+    v_r0_i89_sroa_15_sroa_11_4_copyload772_i_i = get_P(v_r0_i89_sroa_15_sroa_11_4_r46_i_sroa_idx_i_i);
+    v_r0_i89_sroa_15_sroa_12_4_r46_i_sroa_idx_i_i = v_r0_i98_i_i + 64;
+    v_r0_i89_sroa_15_sroa_12_4_copyload773_i_i = get_u64(v_r0_i89_sroa_15_sroa_12_4_r46_i_sroa_idx_i_i);
+    v_r0_i89_sroa_15_sroa_13_4_r46_i_sroa_idx_i_i = v_r0_i98_i_i + 72;
+    v_r0_i89_sroa_15_sroa_13_4_copyload774_i_i = get_u64(v_r0_i89_sroa_15_sroa_13_4_r46_i_sroa_idx_i_i);
+    v_r0_i89_sroa_15_sroa_14_4_r46_i_sroa_idx_i_i = v_r0_i98_i_i + 80;
+    v_r0_i89_sroa_15_sroa_14_4_copyload775_i_i = get_P(v_r0_i89_sroa_15_sroa_14_4_r46_i_sroa_idx_i_i);
+    v_r0_i89_sroa_15_sroa_15_4_r46_i_sroa_idx_i_i = v_r0_i98_i_i + 88;
+    v_r0_i89_sroa_15_sroa_15_4_copyload776_i_i = get_u64(v_r0_i89_sroa_15_sroa_15_4_r46_i_sroa_idx_i_i);
+    v_r0_i89_sroa_15_sroa_16_4_r46_i_sroa_idx_i_i = v_r0_i98_i_i + 96;
+    v_r0_i89_sroa_15_sroa_16_4_copyload777_i_i = get_u64(v_r0_i89_sroa_15_sroa_16_4_r46_i_sroa_idx_i_i);
+    v_r0_i89_sroa_15_sroa_17_4_r46_i_sroa_idx_i_i = v_r0_i98_i_i + 104;
+    v_r0_i89_sroa_15_sroa_17_4_copyload778_i_i = get_u64(v_r0_i89_sroa_15_sroa_17_4_r46_i_sroa_idx_i_i);
+    v_r0_i89_sroa_15_sroa_18_4_r46_i_sroa_idx_i_i = v_r0_i98_i_i + 112;
+    v_r0_i89_sroa_15_sroa_18_4_copyload779_i_i = get_P(v_r0_i89_sroa_15_sroa_18_4_r46_i_sroa_idx_i_i);
+    v_r0_i89_sroa_15_sroa_19_4_r46_i_sroa_idx_i_i = v_r0_i98_i_i + 120;
+    v_r0_i89_sroa_15_sroa_19_4_copyload780_i_i = get_u64(v_r0_i89_sroa_15_sroa_19_4_r46_i_sroa_idx_i_i);
+    v_r0_i89_sroa_15_sroa_20_4_r46_i_sroa_idx_i_i = v_r0_i98_i_i + 128;
+    v_r0_i89_sroa_15_sroa_20_4_copyload781_i_i = get_P(v_r0_i89_sroa_15_sroa_20_4_r46_i_sroa_idx_i_i);
+    v_r0_i89_sroa_15_sroa_21_4_r46_i_sroa_idx_i_i = v_r0_i98_i_i + 136;
+    v_r0_i89_sroa_15_sroa_21_4_copyload782_i_i = get_u64(v_r0_i89_sroa_15_sroa_21_4_r46_i_sroa_idx_i_i);
+    v_r0_i89_sroa_15_sroa_22_4_r46_i_sroa_idx_i_i = v_r0_i98_i_i + 144;
+    v_r0_i89_sroa_15_sroa_22_4_copyload783_i_i = get_u64(v_r0_i89_sroa_15_sroa_22_4_r46_i_sroa_idx_i_i);
+    v_r0_i89_sroa_15_sroa_23_4_r46_i_sroa_idx_i_i = v_r0_i98_i_i + 152;
+    v_r0_i89_sroa_15_sroa_23_4_copyload784_i_i = get_u64(v_r0_i89_sroa_15_sroa_23_4_r46_i_sroa_idx_i_i);
+    v_r0_i89_sroa_15_sroa_24_4_r46_i_sroa_idx_i_i = v_r0_i98_i_i + 160;
+    v_r0_i89_sroa_15_sroa_24_4_copyload785_i_i = get_P(v_r0_i89_sroa_15_sroa_24_4_r46_i_sroa_idx_i_i);
+    v_r0_i89_sroa_15_sroa_25_4_r46_i_sroa_idx_i_i = v_r0_i98_i_i + 168;
+    v_r0_i89_sroa_15_sroa_25_4_copyload786_i_i = get_u64(v_r0_i89_sroa_15_sroa_25_4_r46_i_sroa_idx_i_i);
+    { p_v_r5_sroa_124_0_ph_i = v_r0_i89_sroa_15_sroa_3_4_copyload766_i_i; p_v_r5_sroa_15_0_ph_i = v_r0_i89_sroa_15_sroa_6_4_copyload767_i_i; p_v_r5_sroa_16_0_ph_i = v_r0_i89_sroa_15_sroa_7_4_copyload768_i_i; p_v_r5_sroa_17_0_ph_i = v_r0_i89_sroa_15_sroa_8_4_copyload769_i_i; p_v_r5_sroa_18_0_ph_i = v_r0_i89_sroa_15_sroa_9_4_copyload770_i_i; p_v_r5_sroa_19_0_ph_i = v_r0_i89_sroa_15_sroa_10_4_copyload771_i_i; p_v_r5_sroa_20_0_ph_i = v_r0_i89_sroa_15_sroa_11_4_copyload772_i_i; p_v_r5_sroa_21_0_ph_i = v_r0_i89_sroa_15_sroa_12_4_copyload773_i_i; p_v_r5_sroa_22_0_ph_i = v_r0_i89_sroa_15_sroa_13_4_copyload774_i_i; p_v_r5_sroa_23_0_ph_i = v_r0_i89_sroa_15_sroa_14_4_copyload775_i_i; p_v_r5_sroa_24_0_ph_i = v_r0_i89_sroa_15_sroa_15_4_copyload776_i_i; p_v_r5_sroa_25_0_ph_i = v_r0_i89_sroa_15_sroa_16_4_copyload777_i_i; p_v_r5_sroa_26_0_ph_i = v_r0_i89_sroa_15_sroa_17_4_copyload778_i_i; p_v_r5_sroa_27_0_ph_i = v_r0_i89_sroa_15_sroa_18_4_copyload779_i_i; p_v_r5_sroa_28_0_ph_i = v_r0_i89_sroa_15_sroa_19_4_copyload780_i_i; p_v_r5_sroa_29_0_ph_i = v_r0_i89_sroa_15_sroa_20_4_copyload781_i_i; p_v_r5_sroa_30_0_ph_i = v_r0_i89_sroa_15_sroa_21_4_copyload782_i_i; p_v_r5_sroa_31_0_ph_i = v_r0_i89_sroa_15_sroa_22_4_copyload783_i_i; p_v_r5_sroa_32_0_ph_i = v_r0_i89_sroa_15_sroa_23_4_copyload784_i_i; p_v_r5_sroa_33_0_ph_i = v_r0_i89_sroa_15_sroa_24_4_copyload785_i_i; p_v_r5_sroa_34_0_ph_i = v_r0_i89_sroa_15_sroa_25_4_copyload786_i_i; goto L_arm_1_i; }
 L_der_core_decode_AnyDecodeRefSliceU8_from_der_26c02:;
-    f_der_core_decode_read_slowly_1334d836ffe71f34(v_r0_i105_i_i, v_r4, v_a1);
-    v_3 = get_u8(v_r0_i105_i_i);
-    v_r59_i_i_i = v_r0_i105_i_i + 1;
+    f_der_core_decode_read_slowly_1334d836ffe71f34(v_r0_i98_i_i, v_r4, v_a1);
+    v_3 = get_u8(v_r0_i98_i_i);
+    v_r59_i_i_i = v_r0_i98_i_i + 1;
     v_4 = get_u8(v_r59_i_i_i);
-    v_r65_i_i_i = v_r0_i105_i_i + 8;
+    v_r65_i_i_i = v_r0_i98_i_i + 8;
     v_r0_i89_sroa_15_sroa_3_4_copyload_i_i = get_P(v_r65_i_i_i);
-    v_r0_i89_sroa_15_sroa_6_4_r65_i_sroa_idx_i_i = v_r0_i105_i_i + 16;
+    v_r0_i89_sroa_15_sroa_6_4_r65_i_sroa_idx_i_i = v_r0_i98_i_i + 16;
     v_r0_i89_sroa_15_sroa_6_4_copyload_i_i = get_u64(v_r0_i89_sroa_15_sroa_6_4_r65_i_sroa_idx_i_i);
-    v_r0_i89_sroa_15_sroa_7_4_r65_i_sroa_idx_i_i = v_r0_i105_i_i + 24;
+    v_r0_i89_sroa_15_sroa_7_4_r65_i_sroa_idx_i_i = v_r0_i98_i_i + 24;
     v_r0_i89_sroa_15_sroa_7_4_copyload_i_i = get_u64(v_r0_i89_sroa_15_sroa_7_4_r65_i_sroa_idx_i_i);
-    v_r0_i89_sroa_15_sroa_8_4_r65_i_sroa_idx_i_i = v_r0_i105_i_i + 32;
+    v_r0_i89_sroa_15_sroa_8_4_r65_i_sroa_idx_i_i = v_r0_i98_i_i + 32;
     v_r0_i89_sroa_15_sroa_8_4_copyload_i_i = get_u64(v_r0_i89_sroa_15_sroa_8_4_r65_i_sroa_idx_i_i);
-    v_r0_i89_sroa_15_sroa_9_4_r65_i_sroa_idx_i_i = v_r0_i105_i_i + 40;
+    v_r0_i89_sroa_15_sroa_9_4_r65_i_sroa_idx_i_i = v_r0_i98_i_i + 40;
     v_r0_i89_sroa_15_sroa_9_4_copyload_i_i = get_P(v_r0_i89_sroa_15_sroa_9_4_r65_i_sroa_idx_i_i);
-    v_r0_i89_sroa_15_sroa_10_4_r65_i_sroa_idx_i_i = v_r0_i105_i_i + 48;
+    v_r0_i89_sroa_15_sroa_10_4_r65_i_sroa_idx_i_i = v_r0_i98_i_i + 48;
     v_r0_i89_sroa_15_sroa_10_4_copyload_i_i = get_u64(v_r0_i89_sroa_15_sroa_10_4_r65_i_sroa_idx_i_i);
-    v_r0_i89_sroa_15_sroa_11_4_r65_i_sroa_idx_i_i = v_r0_i105_i_i + 56;
+    v_r0_i89_sroa_15_sroa_11_4_r65_i_sroa_idx_i_i = v_r0_i98_i_i + 56;
     v_r0_i89_sroa_15_sroa_11_4_copyload_i_i = get_P(v_r0_i89_sroa_15_sroa_11_4_r65_i_sroa_idx_i_i);
-    v_r0_i89_sroa_15_sroa_12_4_r65_i_sroa_idx_i_i = v_r0_i105_i_i + 64;
+    v_r0_i89_sroa_15_sroa_12_4_r65_i_sroa_idx_i_i = v_r0_i98_i_i + 64;
     v_r0_i89_sroa_15_sroa_12_4_copyload_i_i = get_u64(v_r0_i89_sroa_15_sroa_12_4_r65_i_sroa_idx_i_i);
-    v_r0_i89_sroa_15_sroa_13_4_r65_i_sroa_idx_i_i = v_r0_i105_i_i + 72;
+    v_r0_i89_sroa_15_sroa_13_4_r65_i_sroa_idx_i_i = v_r0_i98_i_i + 72;
     v_r0_i89_sroa_15_sroa_13_4_copyload_i_i = get_u64(v_r0_i89_sroa_15_sroa_13_4_r65_i_sroa_idx_i_i);
-    v_r0_i89_sroa_15_sroa_14_4_r65_i_sroa_idx_i_i = v_r0_i105_i_i + 80;
+    v_r0_i89_sroa_15_sroa_14_4_r65_i_sroa_idx_i_i = v_r0_i98_i_i + 80;
     v_r0_i89_sroa_15_sroa_14_4_copyload_i_i = get_P(v_r0_i89_sroa_15_sroa_14_4_r65_i_sroa_idx_i_i);
-    v_r0_i89_sroa_15_sroa_15_4_r65_i_sroa_idx_i_i = v_r0_i105_i_i + 88;
+    v_r0_i89_sroa_15_sroa_15_4_r65_i_sroa_idx_i_i = v_r0_i98_i_i + 88;
     v_r0_i89_sroa_15_sroa_15_4_copyload_i_i = get_u64(v_r0_i89_sroa_15_sroa_15_4_r65_i_sroa_idx_i_i);
-    v_r0_i89_sroa_15_sroa_16_4_r65_i_sroa_idx_i_i = v_r0_i105_i_i + 96;
+    v_r0_i89_sroa_15_sroa_16_4_r65_i_sroa_idx_i_i = v_r0_i98_i_i + 96;
     v_r0_i89_sroa_15_sroa_16_4_copyload_i_i = get_u64(v_r0_i89_sroa_15_sroa_16_4_r65_i_sroa_idx_i_i);
-    v_r0_i89_sroa_15_sroa_17_4_r65_i_sroa_idx_i_i = v_r0_i105_i_i + 104;
+    v_r0_i89_sroa_15_sroa_17_4_r65_i_sroa_idx_i_i = v_r0_i98_i_i + 104;
     v_r0_i89_sroa_15_sroa_17_4_copyload_i_i = get_u64(v_r0_i89_sroa_15_sroa_17_4_r65_i_sroa_idx_i_i);
-    v_r0_i89_sroa_15_sroa_18_4_r65_i_sroa_idx_i_i = v_r0_i105_i_i + 112;
+    v_r0_i89_sroa_15_sroa_18_4_r65_i_sroa_idx_i_i = v_r0_i98_i_i + 112;
     v_r0_i89_sroa_15_sroa_18_4_copyload_i_i = get_P(v_r0_i89_sroa_15_sroa_18_4_r65_i_sroa_idx_i_i);
-    v_r0_i89_sroa_15_sroa_19_4_r65_i_sroa_idx_i_i = v_r0_i105_i_i + 120;
+    v_r0_i89_sroa_15_sroa_19_4_r65_i_sroa_idx_i_i = v_r0_i98_i_i + 120;
     v_r0_i89_sroa_15_sroa_19_4_copyload_i_i = get_u64(v_r0_i89_sroa_15_sroa_19_4_r65_i_sroa_idx_i_i);
-    v_r0_i89_sroa_15_sroa_20_4_r65_i_sroa_idx_i_i = v_r0_i105_i_i + 128;
+    v_r0_i89_sroa_15_sroa_20_4_r65_i_sroa_idx_i_i = v_r0_i98_i_i + 128;
     v_r0_i89_sroa_15_sroa_20_4_copyload_i_i = get_P(v_r0_i89_sroa_15_sroa_20_4_r65_i_sroa_idx_i_i);
-    v_r0_i89_sroa_15_sroa_21_4_r65_i_sroa_idx_i_i = v_r0_i105_i_i + 136;
+    v_r0_i89_sroa_15_sroa_21_4_r65_i_sroa_idx_i_i = v_r0_i98_i_i + 136;
     v_r0_i89_sroa_15_sroa_21_4_copyload_i_i = get_u64(v_r0_i89_sroa_15_sroa_21_4_r65_i_sroa_idx_i_i);
-    v_r0_i89_sroa_15_sroa_22_4_r65_i_sroa_idx_i_i = v_r0_i105_i_i + 144;
+    v_r0_i89_sroa_15_sroa_22_4_r65_i_sroa_idx_i_i = v_r0_i98_i_i + 144;
     v_r0_i89_sroa_15_sroa_22_4_copyload_i_i = get_u64(v_r0_i89_sroa_15_sroa_22_4_r65_i_sroa_idx_i_i);
-    v_r0_i89_sroa_15_sroa_23_4_r65_i_sroa_idx_i_i = v_r0_i105_i_i + 152;
+    v_r0_i89_sroa_15_sroa_23_4_r65_i_sroa_idx_i_i = v_r0_i98_i_i + 152;
     v_r0_i89_sroa_15_sroa_23_4_copyload_i_i = get_u64(v_r0_i89_sroa_15_sroa_23_4_r65_i_sroa_idx_i_i);
-    v_r0_i89_sroa_15_sroa_24_4_r65_i_sroa_idx_i_i = v_r0_i105_i_i + 160;
+    v_r0_i89_sroa_15_sroa_24_4_r65_i_sroa_idx_i_i = v_r0_i98_i_i + 160;
     v_r0_i89_sroa_15_sroa_24_4_copyload_i_i = get_P(v_r0_i89_sroa_15_sroa_24_4_r65_i_sroa_idx_i_i);
-    v_r0_i89_sroa_15_sroa_25_4_r65_i_sroa_idx_i_i = v_r0_i105_i_i + 168;
+    v_r0_i89_sroa_15_sroa_25_4_r65_i_sroa_idx_i_i = v_r0_i98_i_i + 168;
     v_r0_i89_sroa_15_sroa_25_4_copyload_i_i = get_u64(v_r0_i89_sroa_15_sroa_25_4_r65_i_sroa_idx_i_i);
     v_5 = v_3 == 0u;
     if (v_5) { p_v_r5_sroa_124_0_ph_i = v_r0_i89_sroa_15_sroa_3_4_copyload_i_i; p_v_r5_sroa_15_0_ph_i = v_r0_i89_sroa_15_sroa_6_4_copyload_i_i; p_v_r5_sroa_16_0_ph_i = v_r0_i89_sroa_15_sroa_7_4_copyload_i_i; p_v_r5_sroa_17_0_ph_i = v_r0_i89_sroa_15_sroa_8_4_copyload_i_i; p_v_r5_sroa_18_0_ph_i = v_r0_i89_sroa_15_sroa_9_4_copyload_i_i; p_v_r5_sroa_19_0_ph_i = v_r0_i89_sroa_15_sroa_10_4_copyload_i_i; p_v_r5_sroa_20_0_ph_i = v_r0_i89_sroa_15_sroa_11_4_copyload_i_i; p_v_r5_sroa_21_0_ph_i = v_r0_i89_sroa_15_sroa_12_4_copyload_i_i; p_v_r5_sroa_22_0_ph_i = v_r0_i89_sroa_15_sroa_13_4_copyload_i_i; p_v_r5_sroa_23_0_ph_i = v_r0_i89_sroa_15_sroa_14_4_copyload_i_i; p_v_r5_sroa_24_0_ph_i = v_r0_i89_sroa_15_sroa_15_4_copyload_i_i; p_v_r5_sroa_25_0_ph_i = v_r0_i89_sroa_15_sroa_16_4_copyload_i_i; p_v_r5_sroa_26_0_ph_i = v_r0_i89_sroa_15_sroa_17_4_copyload_i_i; p_v_r5_sroa_27_0_ph_i = v_r0_i89_sroa_15_sroa_18_4_copyload_i_i; p_v_r5_sroa_28_0_ph_i = v_r0_i89_sroa_15_sroa_19_4_copyload_i_i; p_v_r5_sroa_29_0_ph_i = v_r0_i89_sroa_15_sroa_20_4_copyload_i_i; p_v_r5_sroa_30_0_ph_i = v_r0_i89_sroa_15_sroa_21_4_copyload_i_i; p_v_r5_sroa_31_0_ph_i = v_r0_i89_sroa_15_sroa_22_4_copyload_i_i; p_v_r5_sroa_32_0_ph_i = v_r0_i89_sroa_15_sroa_23_4_copyload_i_i; p_v_r5_sroa_33_0_ph_i = v_r0_i89_sroa_15_sroa_24_4_copyload_i_i; p_v_r5_sroa_34_0_ph_i = v_r0_i89_sroa_15_sroa_25_4_copyload_i_i; goto L_arm_1_i; } else { goto L_pkcs1_c_status_status_exit_i; }
@@ -40805,18 +40845,18 @@ L_pkcs1_c_oaep_pkcs1_c_oaep_params_decode_exit:;
     v_r6_0_i = p_v_r6_0_i;
     return v_r6_0_i;
 }
-u32 NAME(oaep_params_decode_strict)(P v_a0, u64 v_a1, P v_a2) {
-    ALIGNED(1) unsigned char m_v_r0_i115_i_i[5];
-    ALIGNED(8) unsigned char m_v_r7_i57_i_i[176];
-    ALIGNED(8) unsigned char m_v_r8_i_i80_i_i_i[176];
-    ALIGNED(8) unsigned char m_v_r0_i83_i_i_i[176];
-    ALIGNED(8) unsigned char m_v_r14_i86_i_sroa_6_i_i[168];
+static ONCE u32 proved_oaep_params_decode_strict(P v_a0, u64 v_a1, P v_a2) {
+    ALIGNED(1) unsigned char m_v_r0_i111_i_i[5];
+    ALIGNED(8) unsigned char m_v_r8_i74_i_i[176];
+    ALIGNED(8) unsigned char m_v_r7_i56_i_i[176];
+    ALIGNED(8) unsigned char m_v_r0_i76_i_i_i[176];
+    ALIGNED(8) unsigned char m_v_r14_i79_i_sroa_5_i_i[168];
     ALIGNED(4) unsigned char m_v_r0_i67_i_sroa_15_i_i[172];
     ALIGNED(4) unsigned char m_v_r7_i39_i_sroa_11_i_i[172];
     ALIGNED(8) unsigned char m_v_r4_i_i_i[168];
     ALIGNED(1) unsigned char m_v_r11_i8_sroa_18_i_i[171];
     P p_v_r1_sroa_9_0_i_ph_i_i_i;
-    P p_v_r7_i39_i_sroa_11_8_r13_i74_i_sroa_idx1286_i_i;
+    P p_v_r7_i39_i_sroa_11_8_r13_i74_i_sroa_idx1277_i_i;
     P p_v_r0_i1_sroa_28_sroa_3_0_ph_i_ph_i;
     u64 p_v_r0_i1_sroa_28_sroa_8_0_ph_i_ph_i;
     P p_v_r0_i1_sroa_28_sroa_20_0_ph_i_ph_i;
@@ -40894,11 +40934,11 @@ u32 NAME(oaep_params_decode_strict)(P v_a0, u64 v_a1, P v_a2) {
     u64 p_v_r5_sroa_13_0_i_i_i;
     u8 p_v_r0_i1_sroa_13_0_i147_i;
     u32 p_v_r6_0_i;
-    P v_r0_i115_i_i;
-    P v_r7_i57_i_i;
-    P v_r8_i_i80_i_i_i;
-    P v_r0_i83_i_i_i;
-    P v_r14_i86_i_sroa_6_i_i;
+    P v_r0_i111_i_i;
+    P v_r8_i74_i_i;
+    P v_r7_i56_i_i;
+    P v_r0_i76_i_i_i;
+    P v_r14_i79_i_sroa_5_i_i;
     P v_r0_i67_i_sroa_15_i_i;
     P v_r7_i39_i_sroa_11_i_i;
     P v_r4_i_i_i;
@@ -40919,13 +40959,13 @@ u32 NAME(oaep_params_decode_strict)(P v_a0, u64 v_a1, P v_a2) {
     u1 v_or_cond_i_i;
     u1 v_r7_i17_i_i;
     u1 v_r12_i_i_i22_i_i;
-    P v_r19_i_i_i24_i_i;
+    P v_r19_i_i_i_i_i;
     u8 v_r18_i8_i_i_i;
     P v_r1_sroa_9_0_i_ph_i_i_i;
     u1 v_r21_not_i_i_i_i_i;
     u8 v_r16_val_i_i_i_i_i;
     u8 v_r21_val_i_i_i_i_i;
-    u1 v_r7_i_i_i_i27_i_i;
+    u1 v_r7_i_i_i_i26_i_i;
     P v_r16_i_i_1_i_i_i;
     P v_r21_i_i_1_i_i_i;
     u8 v_r16_val_i_i_1_i_i_i;
@@ -40945,26 +40985,26 @@ u32 NAME(oaep_params_decode_strict)(P v_a0, u64 v_a1, P v_a2) {
     u1 v_r7_i_i_i_3_i_i_i;
     u1 v_r20_i_3_i_i_i;
     u1 v_r83_i_i_i_i_i;
-    P v_r81_i29_i_i;
+    P v_r81_i28_i_i;
     P v_r95_i_i_i;
     P v_r127_i_i_i;
     P v_r141_i_i_i;
     P v_r173_i_i_i;
     u8 v_r2_i_i_i_i;
     u1 v_0;
-    P v_r5_i_i59_i_i;
+    P v_r5_i_i58_i_i;
     P v_r0_i6_i_sroa_6_sroa_0_sroa_0_0_copyload_i_i;
-    P v_r0_i6_i_sroa_6_sroa_0_sroa_8_0_r5_i_i59_sroa_idx_i;
+    P v_r0_i6_i_sroa_6_sroa_0_sroa_8_0_r5_i_i58_sroa_idx_i;
     u64 v_r0_i6_i_sroa_6_sroa_0_sroa_8_0_copyload_i_i;
-    P v_r0_i6_i_sroa_6_sroa_8_0_r5_i_i59_sroa_idx_i_i;
-    u64 v_r0_i6_i_sroa_6_sroa_8_0_copyload274_i_i;
-    P v_r0_i6_i_sroa_6_sroa_9_0_r5_i_i59_sroa_idx_i_i;
+    P v_r0_i6_i_sroa_6_sroa_8_0_r5_i_i58_sroa_idx_i_i;
+    u64 v_r0_i6_i_sroa_6_sroa_8_0_copyload270_i_i;
+    P v_r0_i6_i_sroa_6_sroa_9_0_r5_i_i58_sroa_idx_i_i;
     u64 v_r0_i6_i_sroa_6_sroa_9_sroa_0_0_copyload_i_i;
     P v_r0_i6_i_sroa_6_sroa_9_sroa_8_0_r0_i6_i_sroa_6_sroa;
     P v_r0_i6_i_sroa_6_sroa_9_sroa_8_0_copyload_i_i;
     P v_r0_i6_i_sroa_6_sroa_9_sroa_9_0_r0_i6_i_sroa_6_sroa;
     u64 v_r0_i6_i_sroa_6_sroa_9_sroa_9_0_copyload_i_i;
-    P v_r0_i6_i_sroa_6_sroa_10_0_r5_i_i59_sroa_idx_i_i;
+    P v_r0_i6_i_sroa_6_sroa_10_0_r5_i_i58_sroa_idx_i_i;
     P v_r0_i6_i_sroa_6_sroa_10_sroa_0_0_copyload_i_i;
     P v_r0_i6_i_sroa_6_sroa_10_sroa_8_0_r0_i6_i_sroa_6_sro;
     u64 v_r0_i6_i_sroa_6_sroa_10_sroa_8_0_copyload_i_i;
@@ -40982,13 +41022,13 @@ u32 NAME(oaep_params_decode_strict)(P v_a0, u64 v_a1, P v_a2) {
     P v_r0_i6_i_sroa_6_sroa_10_sroa_12_sroa_8_0_copyload_i;
     P v_r0_i6_i_sroa_6_sroa_10_sroa_12_sroa_9_0_r0_i6_i_sr;
     u64 v_r0_i6_i_sroa_6_sroa_10_sroa_12_sroa_9_0_copyload_i;
-    P v_r0_i6_i_sroa_6_sroa_11_0_r5_i_i59_sroa_idx_i_i;
+    P v_r0_i6_i_sroa_6_sroa_11_0_r5_i_i58_sroa_idx_i_i;
     P v_r0_i6_i_sroa_6_sroa_11_sroa_0_0_copyload_i_i;
     P v_r0_i6_i_sroa_6_sroa_11_sroa_8_0_r0_i6_i_sroa_6_sro;
     u64 v_r0_i6_i_sroa_6_sroa_11_sroa_8_0_copyload_i_i;
-    P v_r0_i6_i_sroa_6_sroa_12_0_r5_i_i59_sroa_idx_i_i;
-    u64 v_r0_i6_i_sroa_6_sroa_12_0_copyload280_i_i;
-    P v_r0_i6_i_sroa_6_sroa_13_0_r5_i_i59_sroa_idx_i_i;
+    P v_r0_i6_i_sroa_6_sroa_12_0_r5_i_i58_sroa_idx_i_i;
+    u64 v_r0_i6_i_sroa_6_sroa_12_0_copyload276_i_i;
+    P v_r0_i6_i_sroa_6_sroa_13_0_r5_i_i58_sroa_idx_i_i;
     u64 v_r0_i6_i_sroa_6_sroa_13_sroa_0_0_copyload_i_i;
     P v_r0_i6_i_sroa_6_sroa_13_sroa_8_0_r0_i6_i_sroa_6_sro;
     P v_r0_i6_i_sroa_6_sroa_13_sroa_8_0_copyload_i_i;
@@ -41002,15 +41042,15 @@ u32 NAME(oaep_params_decode_strict)(P v_a0, u64 v_a1, P v_a2) {
     u1 v_r48_i_i_i_i_i;
     P v_r30_i_i_i_i_i;
     u8 v_r53_i_i_i_i_i;
-    u1 v_r55_i_i114_i_i_i;
+    u1 v_r55_i_i99_i_i_i;
     u64 v_r65_i_i_i_i_i;
-    u1 v_r36_i92_i_i_i;
-    u1 v_or_cond1402_i_i;
-    u8 v_r2_i75_i_i;
+    u1 v_r36_i85_i_i_i;
+    u1 v_or_cond1393_i_i;
+    u8 v_r2_i_i75_i_i;
     u1 v_2;
-    P v_r5_i82_i_i;
+    P v_r5_i_i79_i_i;
     P v_r0_i67_i_sroa_15_8_r53_i_i_sroa_idx_i_i;
-    P v_r7_i39_i_sroa_11_8_r13_i74_i_sroa_idx1284_i_i;
+    P v_r7_i39_i_sroa_11_8_r13_i74_i_sroa_idx1275_i_i;
     u8 v_3;
     P v_r59_i_i_i_i;
     u8 v_4;
@@ -41018,12 +41058,12 @@ u32 NAME(oaep_params_decode_strict)(P v_a0, u64 v_a1, P v_a2) {
     P v_r0_i67_i_sroa_15_8_r64_i_i_sroa_idx_i_i;
     P v_r7_i39_i_sroa_11_8_r13_i74_i_sroa_idx_i_i;
     u1 v_5;
-    P v_r7_i39_i_sroa_11_8_r13_i74_i_sroa_idx1286_i_i;
+    P v_r7_i39_i_sroa_11_8_r13_i74_i_sroa_idx1277_i_i;
     P v_r11_i8_sroa_18_8_r40_i_i_sroa_idx_i_i;
     u8 v_6;
-    P v_r7_i117_i_i;
+    P v_r7_i113_i_i;
     u8 v_7;
-    P v_r9_i119_i_i;
+    P v_r9_i115_i_i;
     u8 v_8;
     u1 v_9;
     P v_r16_i_sroa_0_0_copyload_i_i;
@@ -41184,11 +41224,11 @@ u32 NAME(oaep_params_decode_strict)(P v_a0, u64 v_a1, P v_a2) {
     u32 v_switch_idx_cast_i_i_i;
     u32 v_switch_offset_i_i_i;
     u32 v_r6_0_i;
-    v_r0_i115_i_i = AT(m_v_r0_i115_i_i);
-    v_r7_i57_i_i = AT(m_v_r7_i57_i_i);
-    v_r8_i_i80_i_i_i = AT(m_v_r8_i_i80_i_i_i);
-    v_r0_i83_i_i_i = AT(m_v_r0_i83_i_i_i);
-    v_r14_i86_i_sroa_6_i_i = AT(m_v_r14_i86_i_sroa_6_i_i);
+    v_r0_i111_i_i = AT(m_v_r0_i111_i_i);
+    v_r8_i74_i_i = AT(m_v_r8_i74_i_i);
+    v_r7_i56_i_i = AT(m_v_r7_i56_i_i);
+    v_r0_i76_i_i_i = AT(m_v_r0_i76_i_i_i);
+    v_r14_i79_i_sroa_5_i_i = AT(m_v_r14_i79_i_sroa_5_i_i);
     v_r0_i67_i_sroa_15_i_i = AT(m_v_r0_i67_i_sroa_15_i_i);
     v_r7_i39_i_sroa_11_i_i = AT(m_v_r7_i39_i_sroa_11_i_i);
     v_r4_i_i_i = AT(m_v_r4_i_i_i);
@@ -41220,41 +41260,41 @@ L_join_3_i_i_i_i:;
     v_r12_i_i_i22_i_i = v_r36_i5_i_i_i > 14u;
     if (v_r12_i_i_i22_i_i) { goto L_arm_1_i_i23_i_i; } else { goto L_join_4_i_i_i_i; }
 L_arm_1_i_i23_i_i:;
-    v_r19_i_i_i24_i_i = v_r4 + 16;
-    v_r18_i8_i_i_i = get_u8(v_r19_i_i_i24_i_i);
+    v_r19_i_i_i_i_i = v_r4 + 16;
+    v_r18_i8_i_i_i = get_u8(v_r19_i_i_i_i_i);
     switch (v_r18_i8_i_i_i) {
-    case 1u: { p_v_r1_sroa_9_0_i_ph_i_i_i = AT(f_static_26); goto L_arm_5_i_i26_i_i; }
-    case 2u: { goto L_arm_2_i_i31_i_i; }
+    case 1u: { p_v_r1_sroa_9_0_i_ph_i_i_i = AT(f_static_26); goto L_arm_5_i_i25_i_i; }
+    case 2u: { goto L_arm_2_i_i30_i_i; }
     case 3u: { goto L_arm_3_i_i_i_i; }
-    case 4u: { goto L_arm_4_i_i30_i_i; }
+    case 4u: { goto L_arm_4_i_i29_i_i; }
     case 5u: { goto L_arm_5_i5_i_i_i; }
-    case 6u: { goto L_arm_6_i_i25_i_i; }
+    case 6u: { goto L_arm_6_i_i24_i_i; }
     default: { goto L_join_4_i_i_i_i; }
     }
-L_arm_2_i_i31_i_i:;
-    { p_v_r1_sroa_9_0_i_ph_i_i_i = AT(f_static_27); goto L_arm_5_i_i26_i_i; }
+L_arm_2_i_i30_i_i:;
+    { p_v_r1_sroa_9_0_i_ph_i_i_i = AT(f_static_27); goto L_arm_5_i_i25_i_i; }
 L_arm_3_i_i_i_i:;
-    { p_v_r1_sroa_9_0_i_ph_i_i_i = AT(f_static_28); goto L_arm_5_i_i26_i_i; }
-L_arm_4_i_i30_i_i:;
-    { p_v_r1_sroa_9_0_i_ph_i_i_i = AT(f_static_29); goto L_arm_5_i_i26_i_i; }
+    { p_v_r1_sroa_9_0_i_ph_i_i_i = AT(f_static_28); goto L_arm_5_i_i25_i_i; }
+L_arm_4_i_i29_i_i:;
+    { p_v_r1_sroa_9_0_i_ph_i_i_i = AT(f_static_29); goto L_arm_5_i_i25_i_i; }
 L_arm_5_i5_i_i_i:;
-    { p_v_r1_sroa_9_0_i_ph_i_i_i = AT(f_static_30); goto L_arm_5_i_i26_i_i; }
-L_arm_6_i_i25_i_i:;
-    { p_v_r1_sroa_9_0_i_ph_i_i_i = AT(f_static_31); goto L_arm_5_i_i26_i_i; }
-L_arm_5_i_i26_i_i:;
+    { p_v_r1_sroa_9_0_i_ph_i_i_i = AT(f_static_30); goto L_arm_5_i_i25_i_i; }
+L_arm_6_i_i24_i_i:;
+    { p_v_r1_sroa_9_0_i_ph_i_i_i = AT(f_static_31); goto L_arm_5_i_i25_i_i; }
+L_arm_5_i_i25_i_i:;
     v_r1_sroa_9_0_i_ph_i_i_i = p_v_r1_sroa_9_0_i_ph_i_i_i;
     v_r21_not_i_i_i_i_i = v_r36_i5_i_i_i == 47u;
     if (v_r21_not_i_i_i_i_i) { goto L_join_5_i_preheader_i_i_i; } else { goto L_join_4_i_i_i_i; }
 L_join_5_i_preheader_i_i_i:;
     v_r16_val_i_i_i_i_i = get_u8(v_r33_i4_i_i_i);
     v_r21_val_i_i_i_i_i = get_u8(v_r1_sroa_9_0_i_ph_i_i_i);
-    v_r7_i_i_i_i27_i_i = v_r16_val_i_i_i_i_i != v_r21_val_i_i_i_i_i;
+    v_r7_i_i_i_i26_i_i = v_r16_val_i_i_i_i_i != v_r21_val_i_i_i_i_i;
     v_r16_i_i_1_i_i_i = v_r4 + 3;
     v_r21_i_i_1_i_i_i = v_r1_sroa_9_0_i_ph_i_i_i + 1;
     v_r16_val_i_i_1_i_i_i = get_u8(v_r16_i_i_1_i_i_i);
     v_r21_val_i_i_1_i_i_i = get_u8(v_r21_i_i_1_i_i_i);
     v_r7_i_i_i_1_i_i_i = v_r16_val_i_i_1_i_i_i != v_r21_val_i_i_1_i_i_i;
-    v_r20_i_1_i_i_i = (u1)(((u32)(v_r7_i_i_i_i27_i_i) | (u32)(v_r7_i_i_i_1_i_i_i)) & 1);
+    v_r20_i_1_i_i_i = (u1)(((u32)(v_r7_i_i_i_i26_i_i) | (u32)(v_r7_i_i_i_1_i_i_i)) & 1);
     v_r16_i_i_2_i_i_i = v_r4 + 4;
     v_r21_i_i_2_i_i_i = v_r1_sroa_9_0_i_ph_i_i_i + 2;
     v_r16_val_i_i_2_i_i_i = get_u8(v_r16_i_i_2_i_i_i);
@@ -41272,67 +41312,67 @@ L_pkcs1_params_usual_have_usual_hash_exit_i_i_i:;
     v_r83_i_i_i_i_i = f_core_cmp_slices_groups_equal_i8_31_core_cmp_number(v_r33_i4_i_i_i, 47u, v_r1_sroa_9_0_i_ph_i_i_i);
     if (v_r83_i_i_i_i_i) { goto L_arm_4_i_i_i_i; } else { goto L_join_4_i_i_i_i; }
 L_arm_4_i_i_i_i:;
-    v_r81_i29_i_i = v_r4 + 8;
+    v_r81_i28_i_i = v_r4 + 8;
     v_r95_i_i_i = v_r4 + 19;
     v_r127_i_i_i = v_r4 + 38;
     v_r141_i_i_i = v_r4 + 49;
     v_r173_i_i_i = v_r4 + 25;
-    { p_v_r0_i1_sroa_28_sroa_3_0_ph_i_ph_i = v_r81_i29_i_i; p_v_r0_i1_sroa_28_sroa_8_0_ph_i_ph_i = 9u; p_v_r0_i1_sroa_28_sroa_20_0_ph_i_ph_i = v_r95_i_i_i; p_v_r0_i1_sroa_28_sroa_28_0_ph_i_ph_i = v_r173_i_i_i; p_v_r0_i1_sroa_28_sroa_40_0_ph_i_ph_i = v_r127_i_i_i; p_v_r0_i1_sroa_28_sroa_56_0_ph_i_ph_i = v_r141_i_i_i; goto L_arm_1_thread_i; }
+    { p_v_r0_i1_sroa_28_sroa_3_0_ph_i_ph_i = v_r81_i28_i_i; p_v_r0_i1_sroa_28_sroa_8_0_ph_i_ph_i = 9u; p_v_r0_i1_sroa_28_sroa_20_0_ph_i_ph_i = v_r95_i_i_i; p_v_r0_i1_sroa_28_sroa_28_0_ph_i_ph_i = v_r173_i_i_i; p_v_r0_i1_sroa_28_sroa_40_0_ph_i_ph_i = v_r127_i_i_i; p_v_r0_i1_sroa_28_sroa_56_0_ph_i_ph_i = v_r141_i_i_i; goto L_arm_1_thread_i; }
 L_join_4_i_i_i_i:;
-    f_pkcs1_params_quick_quick_oaep(v_r7_i57_i_i, v_r33_i4_i_i_i, v_r36_i5_i_i_i, 1u);
-    v_r2_i_i_i_i = get_u8(v_r7_i57_i_i);
+    f_pkcs1_params_quick_quick_oaep(v_r7_i56_i_i, v_r33_i4_i_i_i, v_r36_i5_i_i_i, 1u);
+    v_r2_i_i_i_i = get_u8(v_r7_i56_i_i);
     v_0 = v_r2_i_i_i_i == 1u;
     if (v_0) { goto L_pkcs1_params_reading_known_or_quick_12c844358f2ec6; } else { goto L_arm_6_i_i_i_i; }
 L_pkcs1_params_reading_known_or_quick_12c844358f2ec6:;
-    v_r5_i_i59_i_i = v_r7_i57_i_i + 8;
-    v_r0_i6_i_sroa_6_sroa_0_sroa_0_0_copyload_i_i = get_P(v_r5_i_i59_i_i);
-    v_r0_i6_i_sroa_6_sroa_0_sroa_8_0_r5_i_i59_sroa_idx_i = v_r7_i57_i_i + 16;
-    v_r0_i6_i_sroa_6_sroa_0_sroa_8_0_copyload_i_i = get_u64(v_r0_i6_i_sroa_6_sroa_0_sroa_8_0_r5_i_i59_sroa_idx_i);
-    v_r0_i6_i_sroa_6_sroa_8_0_r5_i_i59_sroa_idx_i_i = v_r7_i57_i_i + 24;
-    v_r0_i6_i_sroa_6_sroa_8_0_copyload274_i_i = get_u64(v_r0_i6_i_sroa_6_sroa_8_0_r5_i_i59_sroa_idx_i_i);
-    v_r0_i6_i_sroa_6_sroa_9_0_r5_i_i59_sroa_idx_i_i = v_r7_i57_i_i + 32;
-    v_r0_i6_i_sroa_6_sroa_9_sroa_0_0_copyload_i_i = get_u64(v_r0_i6_i_sroa_6_sroa_9_0_r5_i_i59_sroa_idx_i_i);
-    v_r0_i6_i_sroa_6_sroa_9_sroa_8_0_r0_i6_i_sroa_6_sroa = v_r7_i57_i_i + 40;
+    v_r5_i_i58_i_i = v_r7_i56_i_i + 8;
+    v_r0_i6_i_sroa_6_sroa_0_sroa_0_0_copyload_i_i = get_P(v_r5_i_i58_i_i);
+    v_r0_i6_i_sroa_6_sroa_0_sroa_8_0_r5_i_i58_sroa_idx_i = v_r7_i56_i_i + 16;
+    v_r0_i6_i_sroa_6_sroa_0_sroa_8_0_copyload_i_i = get_u64(v_r0_i6_i_sroa_6_sroa_0_sroa_8_0_r5_i_i58_sroa_idx_i);
+    v_r0_i6_i_sroa_6_sroa_8_0_r5_i_i58_sroa_idx_i_i = v_r7_i56_i_i + 24;
+    v_r0_i6_i_sroa_6_sroa_8_0_copyload270_i_i = get_u64(v_r0_i6_i_sroa_6_sroa_8_0_r5_i_i58_sroa_idx_i_i);
+    v_r0_i6_i_sroa_6_sroa_9_0_r5_i_i58_sroa_idx_i_i = v_r7_i56_i_i + 32;
+    v_r0_i6_i_sroa_6_sroa_9_sroa_0_0_copyload_i_i = get_u64(v_r0_i6_i_sroa_6_sroa_9_0_r5_i_i58_sroa_idx_i_i);
+    v_r0_i6_i_sroa_6_sroa_9_sroa_8_0_r0_i6_i_sroa_6_sroa = v_r7_i56_i_i + 40;
     v_r0_i6_i_sroa_6_sroa_9_sroa_8_0_copyload_i_i = get_P(v_r0_i6_i_sroa_6_sroa_9_sroa_8_0_r0_i6_i_sroa_6_sroa);
-    v_r0_i6_i_sroa_6_sroa_9_sroa_9_0_r0_i6_i_sroa_6_sroa = v_r7_i57_i_i + 48;
+    v_r0_i6_i_sroa_6_sroa_9_sroa_9_0_r0_i6_i_sroa_6_sroa = v_r7_i56_i_i + 48;
     v_r0_i6_i_sroa_6_sroa_9_sroa_9_0_copyload_i_i = get_u64(v_r0_i6_i_sroa_6_sroa_9_sroa_9_0_r0_i6_i_sroa_6_sroa);
-    v_r0_i6_i_sroa_6_sroa_10_0_r5_i_i59_sroa_idx_i_i = v_r7_i57_i_i + 56;
-    v_r0_i6_i_sroa_6_sroa_10_sroa_0_0_copyload_i_i = get_P(v_r0_i6_i_sroa_6_sroa_10_0_r5_i_i59_sroa_idx_i_i);
-    v_r0_i6_i_sroa_6_sroa_10_sroa_8_0_r0_i6_i_sroa_6_sro = v_r7_i57_i_i + 64;
+    v_r0_i6_i_sroa_6_sroa_10_0_r5_i_i58_sroa_idx_i_i = v_r7_i56_i_i + 56;
+    v_r0_i6_i_sroa_6_sroa_10_sroa_0_0_copyload_i_i = get_P(v_r0_i6_i_sroa_6_sroa_10_0_r5_i_i58_sroa_idx_i_i);
+    v_r0_i6_i_sroa_6_sroa_10_sroa_8_0_r0_i6_i_sroa_6_sro = v_r7_i56_i_i + 64;
     v_r0_i6_i_sroa_6_sroa_10_sroa_8_0_copyload_i_i = get_u64(v_r0_i6_i_sroa_6_sroa_10_sroa_8_0_r0_i6_i_sroa_6_sro);
-    v_r0_i6_i_sroa_6_sroa_10_sroa_9_0_r0_i6_i_sroa_6_sro = v_r7_i57_i_i + 72;
+    v_r0_i6_i_sroa_6_sroa_10_sroa_9_0_r0_i6_i_sroa_6_sro = v_r7_i56_i_i + 72;
     v_r0_i6_i_sroa_6_sroa_10_sroa_9_0_copyload_i_i = get_u64(v_r0_i6_i_sroa_6_sroa_10_sroa_9_0_r0_i6_i_sroa_6_sro);
-    v_r0_i6_i_sroa_6_sroa_10_sroa_10_0_r0_i6_i_sroa_6_sr = v_r7_i57_i_i + 80;
+    v_r0_i6_i_sroa_6_sroa_10_sroa_10_0_r0_i6_i_sroa_6_sr = v_r7_i56_i_i + 80;
     v_r0_i6_i_sroa_6_sroa_10_sroa_10_sroa_0_0_copyload_i = get_P(v_r0_i6_i_sroa_6_sroa_10_sroa_10_0_r0_i6_i_sroa_6_sr);
-    v_r0_i6_i_sroa_6_sroa_10_sroa_10_sroa_8_0_r0_i6_i_sr = v_r7_i57_i_i + 88;
+    v_r0_i6_i_sroa_6_sroa_10_sroa_10_sroa_8_0_r0_i6_i_sr = v_r7_i56_i_i + 88;
     v_r0_i6_i_sroa_6_sroa_10_sroa_10_sroa_8_0_copyload_i = get_u64(v_r0_i6_i_sroa_6_sroa_10_sroa_10_sroa_8_0_r0_i6_i_sr);
-    v_r0_i6_i_sroa_6_sroa_10_sroa_11_0_r0_i6_i_sroa_6_sr = v_r7_i57_i_i + 96;
+    v_r0_i6_i_sroa_6_sroa_10_sroa_11_0_r0_i6_i_sroa_6_sr = v_r7_i56_i_i + 96;
     v_r0_i6_i_sroa_6_sroa_10_sroa_11_0_copyload_i_i = get_u64(v_r0_i6_i_sroa_6_sroa_10_sroa_11_0_r0_i6_i_sroa_6_sr);
-    v_r0_i6_i_sroa_6_sroa_10_sroa_12_0_r0_i6_i_sroa_6_sr = v_r7_i57_i_i + 104;
+    v_r0_i6_i_sroa_6_sroa_10_sroa_12_0_r0_i6_i_sroa_6_sr = v_r7_i56_i_i + 104;
     v_r0_i6_i_sroa_6_sroa_10_sroa_12_sroa_0_0_copyload_i = get_u64(v_r0_i6_i_sroa_6_sroa_10_sroa_12_0_r0_i6_i_sroa_6_sr);
-    v_r0_i6_i_sroa_6_sroa_10_sroa_12_sroa_8_0_r0_i6_i_sr = v_r7_i57_i_i + 112;
+    v_r0_i6_i_sroa_6_sroa_10_sroa_12_sroa_8_0_r0_i6_i_sr = v_r7_i56_i_i + 112;
     v_r0_i6_i_sroa_6_sroa_10_sroa_12_sroa_8_0_copyload_i = get_P(v_r0_i6_i_sroa_6_sroa_10_sroa_12_sroa_8_0_r0_i6_i_sr);
-    v_r0_i6_i_sroa_6_sroa_10_sroa_12_sroa_9_0_r0_i6_i_sr = v_r7_i57_i_i + 120;
+    v_r0_i6_i_sroa_6_sroa_10_sroa_12_sroa_9_0_r0_i6_i_sr = v_r7_i56_i_i + 120;
     v_r0_i6_i_sroa_6_sroa_10_sroa_12_sroa_9_0_copyload_i = get_u64(v_r0_i6_i_sroa_6_sroa_10_sroa_12_sroa_9_0_r0_i6_i_sr);
-    v_r0_i6_i_sroa_6_sroa_11_0_r5_i_i59_sroa_idx_i_i = v_r7_i57_i_i + 128;
-    v_r0_i6_i_sroa_6_sroa_11_sroa_0_0_copyload_i_i = get_P(v_r0_i6_i_sroa_6_sroa_11_0_r5_i_i59_sroa_idx_i_i);
-    v_r0_i6_i_sroa_6_sroa_11_sroa_8_0_r0_i6_i_sroa_6_sro = v_r7_i57_i_i + 136;
+    v_r0_i6_i_sroa_6_sroa_11_0_r5_i_i58_sroa_idx_i_i = v_r7_i56_i_i + 128;
+    v_r0_i6_i_sroa_6_sroa_11_sroa_0_0_copyload_i_i = get_P(v_r0_i6_i_sroa_6_sroa_11_0_r5_i_i58_sroa_idx_i_i);
+    v_r0_i6_i_sroa_6_sroa_11_sroa_8_0_r0_i6_i_sroa_6_sro = v_r7_i56_i_i + 136;
     v_r0_i6_i_sroa_6_sroa_11_sroa_8_0_copyload_i_i = get_u64(v_r0_i6_i_sroa_6_sroa_11_sroa_8_0_r0_i6_i_sroa_6_sro);
-    v_r0_i6_i_sroa_6_sroa_12_0_r5_i_i59_sroa_idx_i_i = v_r7_i57_i_i + 144;
-    v_r0_i6_i_sroa_6_sroa_12_0_copyload280_i_i = get_u64(v_r0_i6_i_sroa_6_sroa_12_0_r5_i_i59_sroa_idx_i_i);
-    v_r0_i6_i_sroa_6_sroa_13_0_r5_i_i59_sroa_idx_i_i = v_r7_i57_i_i + 152;
-    v_r0_i6_i_sroa_6_sroa_13_sroa_0_0_copyload_i_i = get_u64(v_r0_i6_i_sroa_6_sroa_13_0_r5_i_i59_sroa_idx_i_i);
-    v_r0_i6_i_sroa_6_sroa_13_sroa_8_0_r0_i6_i_sroa_6_sro = v_r7_i57_i_i + 160;
+    v_r0_i6_i_sroa_6_sroa_12_0_r5_i_i58_sroa_idx_i_i = v_r7_i56_i_i + 144;
+    v_r0_i6_i_sroa_6_sroa_12_0_copyload276_i_i = get_u64(v_r0_i6_i_sroa_6_sroa_12_0_r5_i_i58_sroa_idx_i_i);
+    v_r0_i6_i_sroa_6_sroa_13_0_r5_i_i58_sroa_idx_i_i = v_r7_i56_i_i + 152;
+    v_r0_i6_i_sroa_6_sroa_13_sroa_0_0_copyload_i_i = get_u64(v_r0_i6_i_sroa_6_sroa_13_0_r5_i_i58_sroa_idx_i_i);
+    v_r0_i6_i_sroa_6_sroa_13_sroa_8_0_r0_i6_i_sroa_6_sro = v_r7_i56_i_i + 160;
     v_r0_i6_i_sroa_6_sroa_13_sroa_8_0_copyload_i_i = get_P(v_r0_i6_i_sroa_6_sroa_13_sroa_8_0_r0_i6_i_sroa_6_sro);
-    v_r0_i6_i_sroa_6_sroa_13_sroa_9_0_r0_i6_i_sroa_6_sro = v_r7_i57_i_i + 168;
+    v_r0_i6_i_sroa_6_sroa_13_sroa_9_0_r0_i6_i_sroa_6_sro = v_r7_i56_i_i + 168;
     v_r0_i6_i_sroa_6_sroa_13_sroa_9_0_copyload_i_i = get_u64(v_r0_i6_i_sroa_6_sroa_13_sroa_9_0_r0_i6_i_sroa_6_sro);
-    { p_v_r0_i1_sroa_28_sroa_3_0_ph_i_i = v_r0_i6_i_sroa_6_sroa_0_sroa_0_0_copyload_i_i; p_v_r0_i1_sroa_28_sroa_8_0_ph_i_i = v_r0_i6_i_sroa_6_sroa_0_sroa_8_0_copyload_i_i; p_v_r0_i1_sroa_28_sroa_12_0_ph_i_i = v_r0_i6_i_sroa_6_sroa_8_0_copyload274_i_i; p_v_r0_i1_sroa_28_sroa_16_0_ph_i_i = v_r0_i6_i_sroa_6_sroa_9_sroa_0_0_copyload_i_i; p_v_r0_i1_sroa_28_sroa_20_0_ph_i_i = v_r0_i6_i_sroa_6_sroa_9_sroa_8_0_copyload_i_i; p_v_r0_i1_sroa_28_sroa_24_0_ph_i_i = v_r0_i6_i_sroa_6_sroa_9_sroa_9_0_copyload_i_i; p_v_r0_i1_sroa_28_sroa_28_0_ph_i_i = v_r0_i6_i_sroa_6_sroa_10_sroa_0_0_copyload_i_i; p_v_r0_i1_sroa_28_sroa_32_0_ph_i_i = v_r0_i6_i_sroa_6_sroa_10_sroa_8_0_copyload_i_i; p_v_r0_i1_sroa_28_sroa_36_0_ph_i_i = v_r0_i6_i_sroa_6_sroa_10_sroa_9_0_copyload_i_i; p_v_r0_i1_sroa_28_sroa_40_0_ph_i_i = v_r0_i6_i_sroa_6_sroa_10_sroa_10_sroa_0_0_copyload_i; p_v_r0_i1_sroa_28_sroa_44_0_ph_i_i = v_r0_i6_i_sroa_6_sroa_10_sroa_10_sroa_8_0_copyload_i; p_v_r0_i1_sroa_28_sroa_48_0_ph_i_i = v_r0_i6_i_sroa_6_sroa_10_sroa_11_0_copyload_i_i; p_v_r0_i1_sroa_28_sroa_52_0_ph_i_i = v_r0_i6_i_sroa_6_sroa_10_sroa_12_sroa_0_0_copyload_i; p_v_r0_i1_sroa_28_sroa_56_0_ph_i_i = v_r0_i6_i_sroa_6_sroa_10_sroa_12_sroa_8_0_copyload_i; p_v_r0_i1_sroa_28_sroa_60_0_ph_i_i = v_r0_i6_i_sroa_6_sroa_10_sroa_12_sroa_9_0_copyload_i; p_v_r0_i1_sroa_28_sroa_64_0_ph_i_i = v_r0_i6_i_sroa_6_sroa_11_sroa_0_0_copyload_i_i; p_v_r0_i1_sroa_28_sroa_68_0_ph_i_i = v_r0_i6_i_sroa_6_sroa_11_sroa_8_0_copyload_i_i; p_v_r0_i1_sroa_28_sroa_72_0_ph_i_i = v_r0_i6_i_sroa_6_sroa_12_0_copyload280_i_i; p_v_r0_i1_sroa_28_sroa_76_0_ph_i_i = v_r0_i6_i_sroa_6_sroa_13_sroa_0_0_copyload_i_i; p_v_r0_i1_sroa_28_sroa_80_0_ph_i_i = v_r0_i6_i_sroa_6_sroa_13_sroa_8_0_copyload_i_i; p_v_r0_i1_sroa_28_sroa_84_0_ph_i_i = v_r0_i6_i_sroa_6_sroa_13_sroa_9_0_copyload_i_i; goto L_arm_1_i; }
+    { p_v_r0_i1_sroa_28_sroa_3_0_ph_i_i = v_r0_i6_i_sroa_6_sroa_0_sroa_0_0_copyload_i_i; p_v_r0_i1_sroa_28_sroa_8_0_ph_i_i = v_r0_i6_i_sroa_6_sroa_0_sroa_8_0_copyload_i_i; p_v_r0_i1_sroa_28_sroa_12_0_ph_i_i = v_r0_i6_i_sroa_6_sroa_8_0_copyload270_i_i; p_v_r0_i1_sroa_28_sroa_16_0_ph_i_i = v_r0_i6_i_sroa_6_sroa_9_sroa_0_0_copyload_i_i; p_v_r0_i1_sroa_28_sroa_20_0_ph_i_i = v_r0_i6_i_sroa_6_sroa_9_sroa_8_0_copyload_i_i; p_v_r0_i1_sroa_28_sroa_24_0_ph_i_i = v_r0_i6_i_sroa_6_sroa_9_sroa_9_0_copyload_i_i; p_v_r0_i1_sroa_28_sroa_28_0_ph_i_i = v_r0_i6_i_sroa_6_sroa_10_sroa_0_0_copyload_i_i; p_v_r0_i1_sroa_28_sroa_32_0_ph_i_i = v_r0_i6_i_sroa_6_sroa_10_sroa_8_0_copyload_i_i; p_v_r0_i1_sroa_28_sroa_36_0_ph_i_i = v_r0_i6_i_sroa_6_sroa_10_sroa_9_0_copyload_i_i; p_v_r0_i1_sroa_28_sroa_40_0_ph_i_i = v_r0_i6_i_sroa_6_sroa_10_sroa_10_sroa_0_0_copyload_i; p_v_r0_i1_sroa_28_sroa_44_0_ph_i_i = v_r0_i6_i_sroa_6_sroa_10_sroa_10_sroa_8_0_copyload_i; p_v_r0_i1_sroa_28_sroa_48_0_ph_i_i = v_r0_i6_i_sroa_6_sroa_10_sroa_11_0_copyload_i_i; p_v_r0_i1_sroa_28_sroa_52_0_ph_i_i = v_r0_i6_i_sroa_6_sroa_10_sroa_12_sroa_0_0_copyload_i; p_v_r0_i1_sroa_28_sroa_56_0_ph_i_i = v_r0_i6_i_sroa_6_sroa_10_sroa_12_sroa_8_0_copyload_i; p_v_r0_i1_sroa_28_sroa_60_0_ph_i_i = v_r0_i6_i_sroa_6_sroa_10_sroa_12_sroa_9_0_copyload_i; p_v_r0_i1_sroa_28_sroa_64_0_ph_i_i = v_r0_i6_i_sroa_6_sroa_11_sroa_0_0_copyload_i_i; p_v_r0_i1_sroa_28_sroa_68_0_ph_i_i = v_r0_i6_i_sroa_6_sroa_11_sroa_8_0_copyload_i_i; p_v_r0_i1_sroa_28_sroa_72_0_ph_i_i = v_r0_i6_i_sroa_6_sroa_12_0_copyload276_i_i; p_v_r0_i1_sroa_28_sroa_76_0_ph_i_i = v_r0_i6_i_sroa_6_sroa_13_sroa_0_0_copyload_i_i; p_v_r0_i1_sroa_28_sroa_80_0_ph_i_i = v_r0_i6_i_sroa_6_sroa_13_sroa_8_0_copyload_i_i; p_v_r0_i1_sroa_28_sroa_84_0_ph_i_i = v_r0_i6_i_sroa_6_sroa_13_sroa_9_0_copyload_i_i; goto L_arm_1_i; }
 L_arm_6_i_i_i_i:;
     { goto L_join_4_i_i_i; }
 L_join_4_i_i_i:;
     fill(v_r7_i39_i_sroa_11_i_i, 0u, 172u);
     fill(v_r0_i67_i_sroa_15_i_i, 0u, 172u);
-    fill(v_r0_i83_i_i_i, 0u, 176u);
+    fill(v_r0_i76_i_i_i, 0u, 176u);
     v_1 = (u64)((u64)(v_a1) + (u64)(18446744069414584320ull));
     v_brmerge_i_i = v_1 < 18446744069414584322ull;
     if (v_brmerge_i_i) { goto L_der_core_decode_AnyDecodeRefSliceU8_from_der_26c02; } else { goto L_join_5_i_i_i_i_i; }
@@ -41345,49 +41385,49 @@ L_join_5_i_i_i_i_i:;
 L_then_6_i_i_i_i_i:;
     v_r30_i_i_i_i_i = v_r4 + 1;
     v_r53_i_i_i_i_i = get_u8(v_r30_i_i_i_i_i);
-    v_r55_i_i114_i_i_i = (u8)(v_r53_i_i_i_i_i ^ ((u8)1 << 7)) > (u8)(255u ^ ((u8)1 << 7));
+    v_r55_i_i99_i_i_i = (u8)(v_r53_i_i_i_i_i ^ ((u8)1 << 7)) > (u8)(255u ^ ((u8)1 << 7));
     v_r65_i_i_i_i_i = (u64)v_r53_i_i_i_i_i;
-    v_r36_i92_i_i_i = v_r35_i_i_i_i_i == v_r65_i_i_i_i_i;
-    v_or_cond1402_i_i = v_r55_i_i114_i_i_i ? v_r36_i92_i_i_i : 0u;
-    if (v_or_cond1402_i_i) { goto L_then_10_i_i_i_i; } else { goto L_der_core_decode_AnyDecodeRefSliceU8_from_der_26c02; }
+    v_r36_i85_i_i_i = v_r35_i_i_i_i_i == v_r65_i_i_i_i_i;
+    v_or_cond1393_i_i = v_r55_i_i99_i_i_i ? v_r36_i85_i_i_i : 0u;
+    if (v_or_cond1393_i_i) { goto L_then_10_i_i_i_i; } else { goto L_der_core_decode_AnyDecodeRefSliceU8_from_der_26c02; }
 L_then_10_i_i_i_i:;
-    f_pkcs1_params_quick_quick_oaep(v_r8_i_i80_i_i_i, v_r32_i_i_i_i_i, v_r35_i_i_i_i_i, 0u);
-    v_r2_i75_i_i = get_u8(v_r8_i_i80_i_i_i);
-    v_2 = v_r2_i75_i_i == 1u;
+    f_pkcs1_params_quick_quick_oaep(v_r8_i74_i_i, v_r32_i_i_i_i_i, v_r35_i_i_i_i_i, 0u);
+    v_r2_i_i75_i_i = get_u8(v_r8_i74_i_i);
+    v_2 = v_r2_i_i75_i_i == 1u;
     if (v_2) { goto L_der_core_decode_AnyDecodeRefSliceU8_from_der_26c02__2; } else { goto L_pkcs1_params_oaep_reading_OaepParamsOfAnyRefDecode; }
 L_pkcs1_params_oaep_reading_OaepParamsOfAnyRefDecode:;
     { goto L_der_core_decode_AnyDecodeRefSliceU8_from_der_26c02; }
 L_der_core_decode_AnyDecodeRefSliceU8_from_der_26c02__2:;
-    v_r5_i82_i_i = v_r8_i_i80_i_i_i + 8;
-    copy(v_r14_i86_i_sroa_6_i_i, v_r5_i82_i_i, 168u);
+    v_r5_i_i79_i_i = v_r8_i74_i_i + 8;
+    copy(v_r14_i79_i_sroa_5_i_i, v_r5_i_i79_i_i, 168u);
     v_r0_i67_i_sroa_15_8_r53_i_i_sroa_idx_i_i = v_r0_i67_i_sroa_15_i_i + 4;
-    copy(v_r0_i67_i_sroa_15_8_r53_i_i_sroa_idx_i_i, v_r14_i86_i_sroa_6_i_i, 168u);
-    v_r7_i39_i_sroa_11_8_r13_i74_i_sroa_idx1284_i_i = v_r7_i39_i_sroa_11_i_i + 4;
-    copy(v_r7_i39_i_sroa_11_8_r13_i74_i_sroa_idx1284_i_i, v_r0_i67_i_sroa_15_8_r53_i_i_sroa_idx_i_i, 168u);
-    { p_v_r7_i39_i_sroa_11_8_r13_i74_i_sroa_idx1286_i_i = v_r7_i39_i_sroa_11_8_r13_i74_i_sroa_idx1284_i_i; goto L_arm_5_i_i_i; }
+    copy(v_r0_i67_i_sroa_15_8_r53_i_i_sroa_idx_i_i, v_r14_i79_i_sroa_5_i_i, 168u);
+    v_r7_i39_i_sroa_11_8_r13_i74_i_sroa_idx1275_i_i = v_r7_i39_i_sroa_11_i_i + 4;
+    copy(v_r7_i39_i_sroa_11_8_r13_i74_i_sroa_idx1275_i_i, v_r0_i67_i_sroa_15_8_r53_i_i_sroa_idx_i_i, 168u);
+    { p_v_r7_i39_i_sroa_11_8_r13_i74_i_sroa_idx1277_i_i = v_r7_i39_i_sroa_11_8_r13_i74_i_sroa_idx1275_i_i; goto L_arm_5_i_i_i; }
 L_der_core_decode_AnyDecodeRefSliceU8_from_der_26c02:;
-    f_der_core_decode_read_slowly_1334d836ffe71f34(v_r0_i83_i_i_i, v_r4, v_a1);
-    v_3 = get_u8(v_r0_i83_i_i_i);
-    v_r59_i_i_i_i = v_r0_i83_i_i_i + 1;
+    f_der_core_decode_read_slowly_1334d836ffe71f34(v_r0_i76_i_i_i, v_r4, v_a1);
+    v_3 = get_u8(v_r0_i76_i_i_i);
+    v_r59_i_i_i_i = v_r0_i76_i_i_i + 1;
     v_4 = get_u8(v_r59_i_i_i_i);
-    v_r65_i_i_i_i = v_r0_i83_i_i_i + 8;
+    v_r65_i_i_i_i = v_r0_i76_i_i_i + 8;
     v_r0_i67_i_sroa_15_8_r64_i_i_sroa_idx_i_i = v_r0_i67_i_sroa_15_i_i + 4;
     copy(v_r0_i67_i_sroa_15_8_r64_i_i_sroa_idx_i_i, v_r65_i_i_i_i, 168u);
     v_r7_i39_i_sroa_11_8_r13_i74_i_sroa_idx_i_i = v_r7_i39_i_sroa_11_i_i + 4;
     copy(v_r7_i39_i_sroa_11_8_r13_i74_i_sroa_idx_i_i, v_r0_i67_i_sroa_15_8_r64_i_i_sroa_idx_i_i, 168u);
     v_5 = v_3 == 0u;
-    if (v_5) { p_v_r7_i39_i_sroa_11_8_r13_i74_i_sroa_idx1286_i_i = v_r7_i39_i_sroa_11_8_r13_i74_i_sroa_idx_i_i; goto L_arm_5_i_i_i; } else { goto L_arm_2_thread_i; }
+    if (v_5) { p_v_r7_i39_i_sroa_11_8_r13_i74_i_sroa_idx1277_i_i = v_r7_i39_i_sroa_11_8_r13_i74_i_sroa_idx_i_i; goto L_arm_5_i_i_i; } else { goto L_arm_2_thread_i; }
 L_arm_5_i_i_i:;
-    v_r7_i39_i_sroa_11_8_r13_i74_i_sroa_idx1286_i_i = p_v_r7_i39_i_sroa_11_8_r13_i74_i_sroa_idx1286_i_i;
+    v_r7_i39_i_sroa_11_8_r13_i74_i_sroa_idx1277_i_i = p_v_r7_i39_i_sroa_11_8_r13_i74_i_sroa_idx1277_i_i;
     v_r11_i8_sroa_18_8_r40_i_i_sroa_idx_i_i = v_r11_i8_sroa_18_i_i + 3;
-    copy(v_r11_i8_sroa_18_8_r40_i_i_sroa_idx_i_i, v_r7_i39_i_sroa_11_8_r13_i74_i_sroa_idx1286_i_i, 168u);
+    copy(v_r11_i8_sroa_18_8_r40_i_i_sroa_idx_i_i, v_r7_i39_i_sroa_11_8_r13_i74_i_sroa_idx1277_i_i, 168u);
     copy(v_r4_i_i_i, v_r11_i8_sroa_18_8_r40_i_i_sroa_idx_i_i, 168u);
-    f_pkcs1_params_strict_reject_defaults_297cddf97b264c(v_r0_i115_i_i, v_r4_i_i_i, v_r4, v_a1);
-    v_6 = get_u8(v_r0_i115_i_i);
-    v_r7_i117_i_i = v_r0_i115_i_i + 1;
-    v_7 = get_u8(v_r7_i117_i_i);
-    v_r9_i119_i_i = v_r0_i115_i_i + 2;
-    v_8 = get_u8(v_r9_i119_i_i);
+    f_pkcs1_params_strict_reject_defaults_297cddf97b264c(v_r0_i111_i_i, v_r4_i_i_i, v_r4, v_a1);
+    v_6 = get_u8(v_r0_i111_i_i);
+    v_r7_i113_i_i = v_r0_i111_i_i + 1;
+    v_7 = get_u8(v_r7_i113_i_i);
+    v_r9_i115_i_i = v_r0_i111_i_i + 2;
+    v_8 = get_u8(v_r9_i115_i_i);
     v_9 = v_6 == 0u;
     if (v_9) { goto L_arm_8_i_i_i; } else { goto L_arm_2_i; }
 L_arm_2_thread_i:;
@@ -41605,12 +41645,12 @@ L_arm_3_i_i:;
 L_arm_4_i_i:;
     { p_v_r6_0_i = 20u; goto L_pkcs1_c_oaep_pkcs1_c_oaep_params_decode_strict_exi; }
 L_noarm_5_i_i:;
-    __builtin_trap();
+    TRAP();
 L_pkcs1_c_oaep_pkcs1_c_oaep_params_decode_strict_exi:;
     v_r6_0_i = p_v_r6_0_i;
     return v_r6_0_i;
 }
-void NAME(other_primes)(P v_a0, u64 v_a1, P v_a2, u64 v_a3) {
+static void proved_other_primes(P v_a0, u64 v_a1, P v_a2, u64 v_a3) {
     u64 p_v_r5_05756_i;
     u64 p_v_r4_sroa_10_05755_i;
     P p_v_r4_sroa_0_05754_i;
@@ -42110,8 +42150,8 @@ L_then_14_i_i_i:;
     v_r182_i_i_i = (u64)((u64)(v_r175_i_i_i) | (u64)(v_r179_i_i_i));
     { p_v_r4_sroa_10_43357_i = v_r19_i_i1180_i; p_v_r4_sroa_0_43355_i = v_r16_i_i1179_i; p_v_r12_sroa_10_0_i_i = v_r182_i_i_i; goto L_arm_1_i27_i; }
 L_join_16_i_i_i:;
-    __builtin_trap();
-    __builtin_trap();
+    TRAP();
+    TRAP();
 L_arm_1_i27_i:;
     v_r4_sroa_10_43357_i = p_v_r4_sroa_10_43357_i;
     v_r4_sroa_0_43355_i = p_v_r4_sroa_0_43355_i;
@@ -42229,8 +42269,8 @@ L_then_14_i_i_i_i:;
     v_r182_i_i_i_i = (u32)((u32)(v_r175_i_i_i_i) | (u32)(v_r179_i_i_i_i));
     { p_v_r6_i12_sroa_30_53798_i = v_r19_i_i1425_i; p_v_r6_i12_sroa_0_53796_i = v_r16_i_i1424_i; p_v_r12_sroa_10_0_i1488_i = v_r182_i_i_i_i; goto L_arm_1_i325_i; }
 L_join_16_i_i_i_i:;
-    __builtin_trap();
-    __builtin_trap();
+    TRAP();
+    TRAP();
 L_arm_1_i325_i:;
     v_r6_i12_sroa_30_53798_i = p_v_r6_i12_sroa_30_53798_i;
     v_r6_i12_sroa_0_53796_i = p_v_r6_i12_sroa_0_53796_i;
@@ -42372,8 +42412,8 @@ L_then_14_i_i_i_i_i:;
     v_r182_i_i_i_i_i = (u32)((u32)(v_r175_i_i_i_i_i) | (u32)(v_r179_i_i_i_i_i));
     { p_v_r6_i12_sroa_30_104384_i = v_r19_i_i1765_i; p_v_r6_i12_sroa_0_104382_i = v_r16_i_i1764_i; p_v_r12_sroa_10_0_i1828_i = v_r182_i_i_i_i_i; goto L_arm_1_i_i537_i; }
 L_join_16_i_i_i_i_i:;
-    __builtin_trap();
-    __builtin_trap();
+    TRAP();
+    TRAP();
 L_arm_1_i_i537_i:;
     v_r6_i12_sroa_30_104384_i = p_v_r6_i12_sroa_30_104384_i;
     v_r6_i12_sroa_0_104382_i = p_v_r6_i12_sroa_0_104382_i;
@@ -42515,8 +42555,8 @@ L_then_14_i_i_i_i995_i:;
     v_r182_i_i_i_i1012_i = (u32)((u32)(v_r175_i_i_i_i1009_i) | (u32)(v_r179_i_i_i_i1011_i));
     { p_v_r6_i12_sroa_30_154970_i = v_r19_i_i2118_i; p_v_r6_i12_sroa_0_154968_i = v_r16_i_i2117_i; p_v_r12_sroa_10_0_i2181_i = v_r182_i_i_i_i1012_i; goto L_arm_1_i_i775_i; }
 L_join_16_i_i_i_i994_i:;
-    __builtin_trap();
-    __builtin_trap();
+    TRAP();
+    TRAP();
 L_arm_1_i_i775_i:;
     v_r6_i12_sroa_30_154970_i = p_v_r6_i12_sroa_30_154970_i;
     v_r6_i12_sroa_0_154968_i = p_v_r6_i12_sroa_0_154968_i;
@@ -42572,7 +42612,7 @@ L_arm_10_i:;
 L_pkcs1_c_private_key_pkcs1_c_other_primes_exit:;
     return;
 }
-u32 NAME(pss_algorithm_decode)(P v_a0, u64 v_a1, P v_a2) {
+static ONCE u32 proved_pss_algorithm_decode(P v_a0, u64 v_a1, P v_a2) {
     ALIGNED(8) unsigned char m_v_r18_i279_i_i[128];
     ALIGNED(8) unsigned char m_v_r10_i130_i_i[136];
     ALIGNED(8) unsigned char m_v_r12_i132_i_i[24];
@@ -43477,12 +43517,12 @@ L_arm_3_i_i:;
 L_arm_4_i_i:;
     { p_v_r6_0_i = 20u; goto L_pkcs1_c_pss_algorithm_pkcs1_c_pss_algorithm_decode; }
 L_noarm_5_i_i:;
-    __builtin_trap();
+    TRAP();
 L_pkcs1_c_pss_algorithm_pkcs1_c_pss_algorithm_decode:;
     v_r6_0_i = p_v_r6_0_i;
     return v_r6_0_i;
 }
-u32 NAME(pss_algorithm_decode_strict)(P v_a0, u64 v_a1, P v_a2) {
+static ONCE u32 proved_pss_algorithm_decode_strict(P v_a0, u64 v_a1, P v_a2) {
     ALIGNED(1) unsigned char m_v_r0_i610_i_i_i[5];
     ALIGNED(8) unsigned char m_v_r4_i603_i_i_i[32];
     ALIGNED(8) unsigned char m_v_r7_i563_i_i_i[136];
@@ -44567,12 +44607,12 @@ L_arm_3_i_i:;
 L_arm_4_i_i:;
     { p_v_r6_0_i = 20u; goto L_pkcs1_c_pss_algorithm_pkcs1_c_pss_algorithm_decode; }
 L_noarm_5_i_i:;
-    __builtin_trap();
+    TRAP();
 L_pkcs1_c_pss_algorithm_pkcs1_c_pss_algorithm_decode:;
     v_r6_0_i = p_v_r6_0_i;
     return v_r6_0_i;
 }
-u32 NAME(pss_params_decode)(P v_a0, u64 v_a1, P v_a2) {
+static ONCE u32 proved_pss_params_decode(P v_a0, u64 v_a1, P v_a2) {
     ALIGNED(8) unsigned char m_v_r8_i_i91_i_i[136];
     ALIGNED(8) unsigned char m_v_r0_i93_i_i[136];
     P p_v_r1_sroa_9_0_i_ph_i_i_i;
@@ -45152,7 +45192,7 @@ L_pkcs1_c_pss_pkcs1_c_pss_params_decode_exit:;
     v_r6_0_i = p_v_r6_0_i;
     return v_r6_0_i;
 }
-u32 NAME(pss_params_decode_strict)(P v_a0, u64 v_a1, P v_a2) {
+static ONCE u32 proved_pss_params_decode_strict(P v_a0, u64 v_a1, P v_a2) {
     ALIGNED(1) unsigned char m_v_r0_i109_i_i[5];
     ALIGNED(8) unsigned char m_v_r7_i52_i_i[136];
     ALIGNED(8) unsigned char m_v_r8_i_i69_i_i_i[136];
@@ -45909,12 +45949,12 @@ L_arm_3_i_i:;
 L_arm_4_i_i:;
     { p_v_r6_0_i = 20u; goto L_pkcs1_c_pss_pkcs1_c_pss_params_decode_strict_exit; }
 L_noarm_5_i_i:;
-    __builtin_trap();
+    TRAP();
 L_pkcs1_c_pss_pkcs1_c_pss_params_decode_strict_exit:;
     v_r6_0_i = p_v_r6_0_i;
     return v_r6_0_i;
 }
-u1 NAME(oaep_is)(P v_a0, P v_a1, u64 v_a2) {
+static u1 proved_oaep_is(P v_a0, P v_a1, u64 v_a2) {
     u1 v_r1;
     u64 v_r3;
     P v_r4;
@@ -45927,7 +45967,7 @@ u1 NAME(oaep_is)(P v_a0, P v_a1, u64 v_a2) {
     v_r11_i = f_pkcs1_c_algorithm_uses_hash(v_a0, v_r5_i, v_r4, v_a2);
     return v_r11_i;
 }
-u1 NAME(pss_is)(P v_a0, P v_a1, u64 v_a2) {
+static u1 proved_pss_is(P v_a0, P v_a1, u64 v_a2) {
     u1 v_r1;
     u64 v_r3;
     P v_r4;
@@ -45940,7 +45980,7 @@ u1 NAME(pss_is)(P v_a0, P v_a1, u64 v_a2) {
     v_r11_i = f_pkcs1_c_algorithm_uses_hash(v_a0, v_r5_i, v_r4, v_a2);
     return v_r11_i;
 }
-u32 NAME(private_key_encode)(P v_a0, P v_a1, u64 v_a2, P v_a3, u64 v_a4, P v_a5) {
+static u32 proved_private_key_encode(P v_a0, P v_a1, u64 v_a2, P v_a3, u64 v_a4, P v_a5) {
     ALIGNED(4) unsigned char m_v_r1_i_i_i[8];
     ALIGNED(4) unsigned char m_v_r10_i_i_i[8];
     ALIGNED(8) unsigned char m_v_r5_i[224];
@@ -48645,7 +48685,7 @@ L_then_7_i1053_i_i_i:;
     v_r17_i46_i1061_i_i_i = (u64)((u64)(v_r7_sroa_130_10_i_i_i) + (u64)(18446744073709551612ull));
     v_r26_i48_i1063_i_i_i = (P)((u64)v_r13 + (u64)(v_r17_i46_i1061_i_i_i));
     v_24 = (u32)((u32)(v_r2_i_i_i_i_i_i_i_i_i_i) | (u32)(42074112u));
-    v_r20_i1010_sroa_0_0_insert_insert_i_i_i = __builtin_bswap32(v_24);
+    v_r20_i1010_sroa_0_0_insert_insert_i_i_i = TURNED(32, v_24);
     put_u32(v_r26_i48_i1063_i_i_i, v_r20_i1010_sroa_0_0_insert_insert_i_i_i);
     { p_v_r7_sroa_130_28_i_i_i = v_r17_i46_i1061_i_i_i; goto L_der_core_back_writer_BackWriter_prepend_header_exi; }
 L_else_8_i1018_i_i_i:;
@@ -48797,7 +48837,7 @@ L_then_7_i977_i_i_i:;
     v_r17_i46_i985_i_i_i = (u64)((u64)(v_r7_sroa_130_11_i_i_i) + (u64)(18446744073709551612ull));
     v_r26_i48_i987_i_i_i = (P)((u64)v_r13 + (u64)(v_r17_i46_i985_i_i_i));
     v_29 = (u32)((u32)(v_r2_i_i29_i_i_i_i_i_i_i_i) | (u32)(42074112u));
-    v_r20_i934_sroa_0_0_insert_insert_i_i_i = __builtin_bswap32(v_29);
+    v_r20_i934_sroa_0_0_insert_insert_i_i_i = TURNED(32, v_29);
     put_u32(v_r26_i48_i987_i_i_i, v_r20_i934_sroa_0_0_insert_insert_i_i_i);
     { p_v_r7_sroa_130_27_i_i_i = v_r17_i46_i985_i_i_i; goto L_der_core_back_writer_BackWriter_prepend_header_exi__2; }
 L_else_8_i942_i_i_i:;
@@ -48949,7 +48989,7 @@ L_then_7_i901_i_i_i:;
     v_r17_i46_i909_i_i_i = (u64)((u64)(v_r7_sroa_130_12_i_i_i) + (u64)(18446744073709551612ull));
     v_r26_i48_i911_i_i_i = (P)((u64)v_r13 + (u64)(v_r17_i46_i909_i_i_i));
     v_34 = (u32)((u32)(v_r2_i_i62_i_i_i_i_i_i_i_i) | (u32)(42074112u));
-    v_r20_i858_sroa_0_0_insert_insert_i_i_i = __builtin_bswap32(v_34);
+    v_r20_i858_sroa_0_0_insert_insert_i_i_i = TURNED(32, v_34);
     put_u32(v_r26_i48_i911_i_i_i, v_r20_i858_sroa_0_0_insert_insert_i_i_i);
     { p_v_r7_sroa_130_26_i_i_i = v_r17_i46_i909_i_i_i; goto L_der_core_back_writer_BackWriter_prepend_header_exi__3; }
 L_else_8_i866_i_i_i:;
@@ -49029,7 +49069,7 @@ L_then_7_i825_i_i_i:;
     v_r17_i46_i833_i_i_i = (u64)((u64)(v_r7_sroa_130_26_i_i_i) + (u64)(18446744073709551612ull));
     v_r26_i48_i835_i_i_i = (P)((u64)v_r13 + (u64)(v_r17_i46_i833_i_i_i));
     v_35 = (u32)((u32)(v_r2_i379_i_i_i_i_i_i_i) | (u32)(813826048u));
-    v_r20_i782_sroa_0_0_insert_insert_i_i_i = __builtin_bswap32(v_35);
+    v_r20_i782_sroa_0_0_insert_insert_i_i_i = TURNED(32, v_35);
     put_u32(v_r26_i48_i835_i_i_i, v_r20_i782_sroa_0_0_insert_insert_i_i_i);
     { p_v_r7_sroa_130_25_i_i_i = v_r17_i46_i833_i_i_i; goto L_der_core_back_writer_BackWriter_prepend_header_exi__4; }
 L_else_8_i790_i_i_i:;
@@ -49113,7 +49153,7 @@ L_then_7_i749_i_i_i:;
     v_r17_i46_i757_i_i_i = (u64)((u64)(v_r7_sroa_130_8_i_i_i) + (u64)(18446744073709551612ull));
     v_r26_i48_i759_i_i_i = (P)((u64)v_r13 + (u64)(v_r17_i46_i757_i_i_i));
     v_37 = (u32)((u32)(v_r2_i_i_i_i_i_i) | (u32)(813826048u));
-    v_r20_i706_sroa_0_0_insert_insert_i_i_i = __builtin_bswap32(v_37);
+    v_r20_i706_sroa_0_0_insert_insert_i_i_i = TURNED(32, v_37);
     put_u32(v_r26_i48_i759_i_i_i, v_r20_i706_sroa_0_0_insert_insert_i_i_i);
     { p_v_r7_sroa_130_0_i_i_i = v_r17_i46_i757_i_i_i; goto L_der_core_last_part_LastEncodeValue_prepend_value_b; }
 L_else_8_i714_i_i_i:;
@@ -49265,7 +49305,7 @@ L_then_7_i673_i_i_i:;
     v_r17_i46_i681_i_i_i = (u64)((u64)(v_r7_sroa_130_1_i_i_i) + (u64)(18446744073709551612ull));
     v_r26_i48_i683_i_i_i = (P)((u64)v_r13 + (u64)(v_r17_i46_i681_i_i_i));
     v_42 = (u32)((u32)(v_r2_i_i23_i_i_i_i) | (u32)(42074112u));
-    v_r20_i630_sroa_0_0_insert_insert_i_i_i = __builtin_bswap32(v_42);
+    v_r20_i630_sroa_0_0_insert_insert_i_i_i = TURNED(32, v_42);
     put_u32(v_r26_i48_i683_i_i_i, v_r20_i630_sroa_0_0_insert_insert_i_i_i);
     { p_v_r7_sroa_130_23_i_i_i = v_r17_i46_i681_i_i_i; goto L_der_core_back_writer_BackWriter_prepend_header_exi__5; }
 L_else_8_i638_i_i_i:;
@@ -49417,7 +49457,7 @@ L_then_7_i597_i_i_i:;
     v_r17_i46_i605_i_i_i = (u64)((u64)(v_r7_sroa_130_2_i_i_i) + (u64)(18446744073709551612ull));
     v_r26_i48_i607_i_i_i = (P)((u64)v_r13 + (u64)(v_r17_i46_i605_i_i_i));
     v_47 = (u32)((u32)(v_r2_i_i48_i_i_i_i) | (u32)(42074112u));
-    v_r20_i554_sroa_0_0_insert_insert_i_i_i = __builtin_bswap32(v_47);
+    v_r20_i554_sroa_0_0_insert_insert_i_i_i = TURNED(32, v_47);
     put_u32(v_r26_i48_i607_i_i_i, v_r20_i554_sroa_0_0_insert_insert_i_i_i);
     { p_v_r7_sroa_130_22_i_i_i = v_r17_i46_i605_i_i_i; goto L_der_core_back_writer_BackWriter_prepend_header_exi__6; }
 L_else_8_i562_i_i_i:;
@@ -49569,7 +49609,7 @@ L_then_7_i521_i_i_i:;
     v_r17_i46_i529_i_i_i = (u64)((u64)(v_r7_sroa_130_3_i_i_i) + (u64)(18446744073709551612ull));
     v_r26_i48_i531_i_i_i = (P)((u64)v_r13 + (u64)(v_r17_i46_i529_i_i_i));
     v_52 = (u32)((u32)(v_r2_i_i81_i_i_i_i) | (u32)(42074112u));
-    v_r20_i478_sroa_0_0_insert_insert_i_i_i = __builtin_bswap32(v_52);
+    v_r20_i478_sroa_0_0_insert_insert_i_i_i = TURNED(32, v_52);
     put_u32(v_r26_i48_i531_i_i_i, v_r20_i478_sroa_0_0_insert_insert_i_i_i);
     { p_v_r7_sroa_130_21_i_i_i = v_r17_i46_i529_i_i_i; goto L_der_core_back_writer_BackWriter_prepend_header_exi__7; }
 L_else_8_i486_i_i_i:;
@@ -49721,7 +49761,7 @@ L_then_7_i445_i_i_i:;
     v_r17_i46_i453_i_i_i = (u64)((u64)(v_r7_sroa_130_4_i_i_i) + (u64)(18446744073709551612ull));
     v_r26_i48_i455_i_i_i = (P)((u64)v_r13 + (u64)(v_r17_i46_i453_i_i_i));
     v_57 = (u32)((u32)(v_r2_i_i114_i_i_i_i) | (u32)(42074112u));
-    v_r20_i402_sroa_0_0_insert_insert_i_i_i = __builtin_bswap32(v_57);
+    v_r20_i402_sroa_0_0_insert_insert_i_i_i = TURNED(32, v_57);
     put_u32(v_r26_i48_i455_i_i_i, v_r20_i402_sroa_0_0_insert_insert_i_i_i);
     { p_v_r7_sroa_130_20_i_i_i = v_r17_i46_i453_i_i_i; goto L_der_core_back_writer_BackWriter_prepend_header_exi__8; }
 L_else_8_i410_i_i_i:;
@@ -49873,7 +49913,7 @@ L_then_7_i369_i_i_i:;
     v_r17_i46_i377_i_i_i = (u64)((u64)(v_r7_sroa_130_5_i_i_i) + (u64)(18446744073709551612ull));
     v_r26_i48_i379_i_i_i = (P)((u64)v_r13 + (u64)(v_r17_i46_i377_i_i_i));
     v_62 = (u32)((u32)(v_r2_i_i147_i_i_i_i) | (u32)(42074112u));
-    v_r20_i326_sroa_0_0_insert_insert_i_i_i = __builtin_bswap32(v_62);
+    v_r20_i326_sroa_0_0_insert_insert_i_i_i = TURNED(32, v_62);
     put_u32(v_r26_i48_i379_i_i_i, v_r20_i326_sroa_0_0_insert_insert_i_i_i);
     { p_v_r7_sroa_130_19_i_i_i = v_r17_i46_i377_i_i_i; goto L_der_core_back_writer_BackWriter_prepend_header_exi__9; }
 L_else_8_i334_i_i_i:;
@@ -50026,7 +50066,7 @@ L_then_7_i293_i_i_i:;
     v_r17_i46_i301_i_i_i = (u64)((u64)(v_r7_sroa_130_6_i_i_i) + (u64)(18446744073709551612ull));
     v_r26_i48_i303_i_i_i = (P)((u64)v_r13 + (u64)(v_r17_i46_i301_i_i_i));
     v_67 = (u32)((u32)(v_r2_i_i180_i_i_i_i) | (u32)(42074112u));
-    v_r20_i250_sroa_0_0_insert_insert_i_i_i = __builtin_bswap32(v_67);
+    v_r20_i250_sroa_0_0_insert_insert_i_i_i = TURNED(32, v_67);
     put_u32(v_r26_i48_i303_i_i_i, v_r20_i250_sroa_0_0_insert_insert_i_i_i);
     { p_v_r7_sroa_130_18_i_i_i = v_r17_i46_i301_i_i_i; goto L_der_core_back_writer_BackWriter_prepend_header_exi__10; }
 L_else_8_i258_i_i_i:;
@@ -50181,7 +50221,7 @@ L_then_7_i217_i_i_i:;
     v_r17_i46_i225_i_i_i = (u64)((u64)(v_r7_sroa_130_7_i_i_i) + (u64)(18446744073709551612ull));
     v_r26_i48_i227_i_i_i = (P)((u64)v_r13 + (u64)(v_r17_i46_i225_i_i_i));
     v_72 = (u32)((u32)(v_r2_i_i213_i_i_i_i) | (u32)(42074112u));
-    v_r20_i174_sroa_0_0_insert_insert_i_i_i = __builtin_bswap32(v_72);
+    v_r20_i174_sroa_0_0_insert_insert_i_i_i = TURNED(32, v_72);
     put_u32(v_r26_i48_i227_i_i_i, v_r20_i174_sroa_0_0_insert_insert_i_i_i);
     { p_v_r7_sroa_130_17_i_i_i = v_r17_i46_i225_i_i_i; goto L_der_core_back_writer_BackWriter_prepend_header_exi__11; }
 L_else_8_i182_i_i_i:;
@@ -50336,7 +50376,7 @@ L_then_7_i141_i_i_i:;
     v_r17_i46_i149_i_i_i = (u64)((u64)(v_r7_sroa_130_14_i_i_i) + (u64)(18446744073709551612ull));
     v_r26_i48_i151_i_i_i = (P)((u64)v_r13 + (u64)(v_r17_i46_i149_i_i_i));
     v_77 = (u32)((u32)(v_r2_i_i246_i_i_i_i) | (u32)(42074112u));
-    v_r20_i98_sroa_0_0_insert_insert_i_i_i = __builtin_bswap32(v_77);
+    v_r20_i98_sroa_0_0_insert_insert_i_i_i = TURNED(32, v_77);
     put_u32(v_r26_i48_i151_i_i_i, v_r20_i98_sroa_0_0_insert_insert_i_i_i);
     { p_v_r7_sroa_130_16_i_i_i = v_r17_i46_i149_i_i_i; goto L_der_core_back_writer_BackWriter_prepend_header_exi__12; }
 L_else_8_i106_i_i_i:;
@@ -50419,7 +50459,7 @@ L_else_5_i_i_i_i:;
 L_then_7_i_i_i_i:;
     v_r26_i48_i_i_i_i = (P)((u64)v_78 + (u64)(-7));
     v_80 = (u32)((u32)(v_r2_i_i_i_i) | (u32)(813826048u));
-    v_r20_i_sroa_0_0_insert_insert_i_i_i = __builtin_bswap32(v_80);
+    v_r20_i_sroa_0_0_insert_insert_i_i_i = TURNED(32, v_80);
     put_u32(v_r26_i48_i_i_i_i, v_r20_i_sroa_0_0_insert_insert_i_i_i);
     { goto L_arm_1_i1752_i; }
 L_else_8_i_i_i_i:;
@@ -50484,7 +50524,7 @@ L_pkcs1_c_private_key_pkcs1_c_private_key_encode_exi:;
     v_common_ret_op_i = p_v_common_ret_op_i;
     return v_common_ret_op_i;
 }
-u32 NAME(private_key_info_encode)(P v_a0, P v_a1, u64 v_a2, P v_a3) {
+static u32 proved_private_key_info_encode(P v_a0, P v_a1, u64 v_a2, P v_a3) {
     ALIGNED(4) unsigned char m_v_r1_i_i_i[8];
     ALIGNED(4) unsigned char m_v_r10_i_i_i[8];
     ALIGNED(8) unsigned char m_v_r6_i1237_i_i[32];
@@ -52371,7 +52411,7 @@ L_then_7_i445_i_i_i:;
     v_r17_i46_i453_i_i_i = (u64)((u64)(v_r17_i_i_i_i_i_i) + (u64)(18446744073709551612ull));
     v_r26_i48_i455_i_i_i = (P)((u64)v_r4 + (u64)(v_r17_i46_i453_i_i_i));
     v_11 = (u32)((u32)(v_r2_i_i_i_i_i) | (u32)(2692874240ull));
-    v_r20_i402_sroa_0_0_insert_insert_i_i_i = __builtin_bswap32(v_11);
+    v_r20_i402_sroa_0_0_insert_insert_i_i_i = TURNED(32, v_11);
     put_u32(v_r26_i48_i455_i_i_i, v_r20_i402_sroa_0_0_insert_insert_i_i_i);
     { p_v_r7_sroa_55_0_i_i_i = v_r17_i46_i453_i_i_i; goto L_der_core_last_part_LastEncodeValue_prepend_value_0; }
 L_else_8_i410_i_i_i:;
@@ -52514,7 +52554,7 @@ L_then_7_i369_i_i_i:;
     v_r17_i46_i377_i_i_i = (u64)((u64)(v_r17_i_i_i_i_i_i_i) + (u64)(18446744073709551612ull));
     v_r26_i48_i379_i_i_i = (P)((u64)v_r4 + (u64)(v_r17_i46_i377_i_i_i));
     v_15 = (u32)((u32)(v_r2_i_i_i_i_i_i) | (u32)(75628544u));
-    v_r20_i326_sroa_0_0_insert_insert_i_i_i = __builtin_bswap32(v_15);
+    v_r20_i326_sroa_0_0_insert_insert_i_i_i = TURNED(32, v_15);
     put_u32(v_r26_i48_i379_i_i_i, v_r20_i326_sroa_0_0_insert_insert_i_i_i);
     { p_v_r7_sroa_55_5_i_i_i = v_r17_i46_i377_i_i_i; goto L_der_core_last_part_LastEncodeValue_prepend_value_4; }
 L_else_8_i334_i_i_i:;
@@ -52605,7 +52645,7 @@ L_else_5_i_i_i_i:;
 L_then_7_i_i_i_i:;
     v_r26_i48_i_i_i_i = (P)((u64)v_16 + (u64)(-22));
     v_18 = (u32)((u32)(v_r2_i_i_i_i) | (u32)(813826048u));
-    v_r20_i_sroa_0_0_insert_insert_i_i_i = __builtin_bswap32(v_18);
+    v_r20_i_sroa_0_0_insert_insert_i_i_i = TURNED(32, v_18);
     put_u32(v_r26_i48_i_i_i_i, v_r20_i_sroa_0_0_insert_insert_i_i_i);
     { goto L_arm_1_i6_i; }
 L_else_8_i_i_i_i:;
@@ -52673,7 +52713,7 @@ L_pkcs1_c_container_pkcs1_c_private_key_info_encode_:;
     v_r6_0_i = p_v_r6_0_i;
     return v_r6_0_i;
 }
-u32 NAME(public_key_encode)(P v_a0, P v_a1, u64 v_a2, P v_a3) {
+static u32 proved_public_key_encode(P v_a0, P v_a1, u64 v_a2, P v_a3) {
     P p_v_r3_sroa_0_08_i_i_i_i;
     u64 p_v_r3_sroa_6_07_i_i_i_i;
     P p_v_r12_sroa_10_i_sroa_3_0_ph_i_ph_i;
@@ -53333,7 +53373,7 @@ L_then_7_i145_i_i_i:;
     v_r17_i46_i153_i_i_i = (u64)((u64)(v_r7_sroa_28_0_i_i_i) + (u64)(18446744073709551612ull));
     v_r26_i48_i155_i_i_i = (P)((u64)v_r4 + (u64)(v_r17_i46_i153_i_i_i));
     v_4 = (u32)((u32)(v_r2_i_i_i_i_i_i) | (u32)(42074112u));
-    v_r20_i102_sroa_0_0_insert_insert_i_i_i = __builtin_bswap32(v_4);
+    v_r20_i102_sroa_0_0_insert_insert_i_i_i = TURNED(32, v_4);
     put_u32(v_r26_i48_i155_i_i_i, v_r20_i102_sroa_0_0_insert_insert_i_i_i);
     { p_v_r7_sroa_28_3_i_i_i = v_r17_i46_i153_i_i_i; goto L_der_core_back_writer_BackWriter_prepend_header_exi; }
 L_else_8_i110_i_i_i:;
@@ -53485,7 +53525,7 @@ L_then_7_i69_i_i_i:;
     v_r17_i46_i77_i_i_i = (u64)((u64)(v_r7_sroa_28_1_i_i_i) + (u64)(18446744073709551612ull));
     v_r26_i48_i79_i_i_i = (P)((u64)v_r4 + (u64)(v_r17_i46_i77_i_i_i));
     v_9 = (u32)((u32)(v_r2_i_i27_i_i_i_i) | (u32)(42074112u));
-    v_r20_i26_sroa_0_0_insert_insert_i_i_i = __builtin_bswap32(v_9);
+    v_r20_i26_sroa_0_0_insert_insert_i_i_i = TURNED(32, v_9);
     put_u32(v_r26_i48_i79_i_i_i, v_r20_i26_sroa_0_0_insert_insert_i_i_i);
     { p_v_r7_sroa_28_2_i_i_i = v_r17_i46_i77_i_i_i; goto L_der_core_back_writer_BackWriter_prepend_header_exi__2; }
 L_else_8_i34_i_i_i:;
@@ -53565,7 +53605,7 @@ L_then_7_i_i_i_i:;
     v_13 = (P)((u64)v_r4 + (u64)(v_r7_sroa_28_2_i_i_i));
     v_r26_i48_i_i_i_i = (P)((u64)v_13 + (u64)(-4));
     v_14 = (u32)((u32)(v_r2_i_i_i_i) | (u32)(813826048u));
-    v_r20_i_sroa_0_0_insert_insert_i_i_i = __builtin_bswap32(v_14);
+    v_r20_i_sroa_0_0_insert_insert_i_i_i = TURNED(32, v_14);
     put_u32(v_r26_i48_i_i_i_i, v_r20_i_sroa_0_0_insert_insert_i_i_i);
     { goto L_arm_1_i3_i; }
 L_else_8_i_i_i_i:;
@@ -53693,7 +53733,7 @@ L_pkcs1_c_public_key_pkcs1_c_public_key_encode_exit:;
     v_r6_0_i = p_v_r6_0_i;
     return v_r6_0_i;
 }
-u32 NAME(oaep_algorithm_encode)(P v_a0, P v_a1, u64 v_a2, P v_a3) {
+static u32 proved_oaep_algorithm_encode(P v_a0, P v_a1, u64 v_a2, P v_a3) {
     ALIGNED(4) unsigned char m_v_r0_i10_i_i_i_i1_i_i_i[8];
     ALIGNED(4) unsigned char m_v_r0_i10_i_i_i_i_i_i_i[8];
     ALIGNED(8) unsigned char m_v_r7_i_i248_i_i[24];
@@ -54567,7 +54607,7 @@ L_then_7_i451_i_i_i_i:;
     v_r20_i47_i460_i_i_i_i = get_P(v_r7_i_i248_i_i);
     v_r26_i48_i461_i_i_i_i = (P)((u64)v_r20_i47_i460_i_i_i_i + (u64)(v_r17_i46_i459_i_i_i_i));
     v_15 = (u32)((u32)(v_r2_i_i_i129_i_i_i_i_i_i_i) | (u32)(813826048u));
-    v_r20_i408_sroa_0_0_insert_insert_i_i_i_i = __builtin_bswap32(v_15);
+    v_r20_i408_sroa_0_0_insert_insert_i_i_i_i = TURNED(32, v_15);
     put_u32(v_r26_i48_i461_i_i_i_i, v_r20_i408_sroa_0_0_insert_insert_i_i_i_i);
     { p_v_r20_i_i402_i_i_i_i = v_r20_i47_i460_i_i_i_i; p_v_a1_val6_i_i131_i_i_i_i_i_i_i = v_r17_i46_i459_i_i_i_i; goto L_der_core_back_writer_BackWriter_prepend_header_exi; }
 L_else_8_i416_i_i_i_i:;
@@ -54650,7 +54690,7 @@ L_then_7_i375_i_i_i_i:;
     v_r17_i46_i383_i_i_i_i = (u64)((u64)(v_a1_val6_i_i131_i_i_i_i_i_i_i) + (u64)(18446744073709551612ull));
     v_r26_i48_i385_i_i_i_i = (P)((u64)v_r20_i_i402_i_i_i_i + (u64)(v_r17_i46_i383_i_i_i_i));
     v_16 = (u32)((u32)(v_r2_i12_i_i134_i_i_i_i_i_i_i) | (u32)(2726428672ull));
-    v_r20_i332_sroa_0_0_insert_insert_i_i_i_i = __builtin_bswap32(v_16);
+    v_r20_i332_sroa_0_0_insert_insert_i_i_i_i = TURNED(32, v_16);
     put_u32(v_r26_i48_i385_i_i_i_i, v_r20_i332_sroa_0_0_insert_insert_i_i_i_i);
     { p_v_r17_i82_i357_sink_i_i_i_i = v_r17_i46_i383_i_i_i_i; goto L_pkcs1_params_fields_FieldThenFields_prepend_cba4d3__2; }
 L_else_8_i340_i_i_i_i:;
@@ -54754,7 +54794,7 @@ L_then_7_i299_i_i_i_i:;
     v_r20_i47_i308_i_i_i_i = get_P(v_r7_i_i248_i_i);
     v_r26_i48_i309_i_i_i_i = (P)((u64)v_r20_i47_i308_i_i_i_i + (u64)(v_r17_i46_i307_i_i_i_i));
     v_17 = (u32)((u32)(v_r2_i_i_i221_i_i_i_i_i_i_i) | (u32)(813826048u));
-    v_r20_i256_sroa_0_0_insert_insert_i_i_i_i = __builtin_bswap32(v_17);
+    v_r20_i256_sroa_0_0_insert_insert_i_i_i_i = TURNED(32, v_17);
     put_u32(v_r26_i48_i309_i_i_i_i, v_r20_i256_sroa_0_0_insert_insert_i_i_i_i);
     { p_v_r20_i_i250_i_i_i_i = v_r20_i47_i308_i_i_i_i; p_v_a1_val6_i_i223_i_i_i_i_i_i_i = v_r17_i46_i307_i_i_i_i; goto L_der_core_back_writer_BackWriter_prepend_header_exi__2; }
 L_else_8_i264_i_i_i_i:;
@@ -54837,7 +54877,7 @@ L_then_7_i223_i_i_i_i:;
     v_r17_i46_i231_i_i_i_i = (u64)((u64)(v_a1_val6_i_i223_i_i_i_i_i_i_i) + (u64)(18446744073709551612ull));
     v_r26_i48_i233_i_i_i_i = (P)((u64)v_r20_i_i250_i_i_i_i + (u64)(v_r17_i46_i231_i_i_i_i));
     v_18 = (u32)((u32)(v_r2_i12_i_i226_i_i_i_i_i_i_i) | (u32)(2692874240ull));
-    v_r20_i180_sroa_0_0_insert_insert_i_i_i_i = __builtin_bswap32(v_18);
+    v_r20_i180_sroa_0_0_insert_insert_i_i_i_i = TURNED(32, v_18);
     put_u32(v_r26_i48_i233_i_i_i_i, v_r20_i180_sroa_0_0_insert_insert_i_i_i_i);
     { p_v_r12_i_i172_i_i_i_i = v_r17_i46_i231_i_i_i_i; p_v_a1_val_i_i_i_i_i_i = v_a1_val_i_i217_i_i_i_i_i_i_i; goto L_der_core_borrowed_BorrowedEncode_prepend_a1dae9bb8; }
 L_else_8_i188_i_i_i_i:;
@@ -54921,7 +54961,7 @@ L_then_7_i147_i_i_i_i:;
     v_r20_i47_i156_i_i_i_i = get_P(v_r7_i_i248_i_i);
     v_r26_i48_i157_i_i_i_i = (P)((u64)v_r20_i47_i156_i_i_i_i + (u64)(v_r17_i46_i155_i_i_i_i));
     v_19 = (u32)((u32)(v_r2_i_i_i_i_i_i_i) | (u32)(813826048u));
-    v_r20_i104_sroa_0_0_insert_insert_i_i_i_i = __builtin_bswap32(v_19);
+    v_r20_i104_sroa_0_0_insert_insert_i_i_i_i = TURNED(32, v_19);
     put_u32(v_r26_i48_i157_i_i_i_i, v_r20_i104_sroa_0_0_insert_insert_i_i_i_i);
     { p_v_r20_i_i11_i_i_i_i_i = v_r20_i47_i156_i_i_i_i; p_v_a1_val6_i_i_i_i_i = v_r17_i46_i155_i_i_i_i; goto L_der_core_last_part_LastEncodeValue_prepend_value_1; }
 L_else_8_i112_i_i_i_i:;
@@ -55033,7 +55073,7 @@ L_else_5_i_i_i_i_i:;
 L_then_7_i_i_i_i_i:;
     v_r26_i48_i_i_i_i_i = (P)((u64)v_r26_i_i99_i_i_i_i + (u64)(-4));
     v_21 = (u32)((u32)(v_r2_i_i_i_i_i) | (u32)(813826048u));
-    v_r20_i_sroa_0_0_insert_insert_i_i_i_i = __builtin_bswap32(v_21);
+    v_r20_i_sroa_0_0_insert_insert_i_i_i_i = TURNED(32, v_21);
     put_u32(v_r26_i48_i_i_i_i_i, v_r20_i_sroa_0_0_insert_insert_i_i_i_i);
     { goto L_arm_1_i252_i_i; }
 L_else_8_i_i_i_i_i:;
@@ -55139,12 +55179,12 @@ L_arm_3_i_i:;
 L_arm_4_i_i:;
     { p_v_r6_0_i = 20u; goto L_pkcs1_c_oaep_algorithm_pkcs1_c_oaep_algorithm_enco; }
 L_noarm_5_i_i:;
-    __builtin_trap();
+    TRAP();
 L_pkcs1_c_oaep_algorithm_pkcs1_c_oaep_algorithm_enco:;
     v_r6_0_i = p_v_r6_0_i;
     return v_r6_0_i;
 }
-u32 NAME(pss_algorithm_encode)(P v_a0, P v_a1, u64 v_a2, P v_a3) {
+static u32 proved_pss_algorithm_encode(P v_a0, P v_a1, u64 v_a2, P v_a3) {
     ALIGNED(4) unsigned char m_v_r0_i10_i_i_i_i1_i_i_i[8];
     ALIGNED(4) unsigned char m_v_r0_i10_i_i_i_i_i_i_i[8];
     ALIGNED(8) unsigned char m_v_r7_i_i292_i_i[24];
@@ -55914,7 +55954,7 @@ L_then_7_i451_i_i_i_i:;
     v_r17_i46_i459_i_i_i_i = (u64)((u64)(v_r12_i_i476_i_i_i_i) + (u64)(18446744073709551612ull));
     v_r26_i48_i461_i_i_i_i = (P)((u64)v_r4 + (u64)(v_r17_i46_i459_i_i_i_i));
     v_12 = (u32)((u32)(v_r2_i_i_i71_i_i_i_i_i_i_i) | (u32)(42074112u));
-    v_r20_i408_sroa_0_0_insert_insert_i_i_i_i = __builtin_bswap32(v_12);
+    v_r20_i408_sroa_0_0_insert_insert_i_i_i_i = TURNED(32, v_12);
     put_u32(v_r26_i48_i461_i_i_i_i, v_r20_i408_sroa_0_0_insert_insert_i_i_i_i);
     { p_v_a1_val6_i_i73_i_i_i_i_i_i_i = v_r17_i46_i459_i_i_i_i; goto L_der_core_back_writer_BackWriter_prepend_header_exi; }
 L_else_8_i416_i_i_i_i:;
@@ -55994,7 +56034,7 @@ L_then_7_i375_i_i_i_i:;
     v_r17_i46_i383_i_i_i_i = (u64)((u64)(v_a1_val6_i_i73_i_i_i_i_i_i_i) + (u64)(18446744073709551612ull));
     v_r26_i48_i385_i_i_i_i = (P)((u64)v_r4 + (u64)(v_r17_i46_i383_i_i_i_i));
     v_13 = (u32)((u32)(v_r2_i13_i_i76_i_i_i_i_i_i_i) | (u32)(2726428672ull));
-    v_r20_i332_sroa_0_0_insert_insert_i_i_i_i = __builtin_bswap32(v_13);
+    v_r20_i332_sroa_0_0_insert_insert_i_i_i_i = TURNED(32, v_13);
     put_u32(v_r26_i48_i385_i_i_i_i, v_r20_i332_sroa_0_0_insert_insert_i_i_i_i);
     { p_v_r17_i82_i357_sink_i_i_i_i = v_r17_i46_i383_i_i_i_i; goto L_pkcs1_params_fields_FieldThenFields_prepend_0ba80a__2; }
 L_else_8_i340_i_i_i_i:;
@@ -56097,7 +56137,7 @@ L_then_7_i299_i_i_i_i:;
     v_r20_i47_i308_i_i_i_i = get_P(v_r7_i_i292_i_i);
     v_r26_i48_i309_i_i_i_i = (P)((u64)v_r20_i47_i308_i_i_i_i + (u64)(v_r17_i46_i307_i_i_i_i));
     v_14 = (u32)((u32)(v_r2_i_i_i207_i_i_i_i_i_i_i) | (u32)(813826048u));
-    v_r20_i256_sroa_0_0_insert_insert_i_i_i_i = __builtin_bswap32(v_14);
+    v_r20_i256_sroa_0_0_insert_insert_i_i_i_i = TURNED(32, v_14);
     put_u32(v_r26_i48_i309_i_i_i_i, v_r20_i256_sroa_0_0_insert_insert_i_i_i_i);
     { p_v_r20_i_i250_i_i_i_i = v_r20_i47_i308_i_i_i_i; p_v_a1_val6_i_i209_i_i_i_i_i_i_i = v_r17_i46_i307_i_i_i_i; goto L_der_core_back_writer_BackWriter_prepend_header_exi__2; }
 L_else_8_i264_i_i_i_i:;
@@ -56180,7 +56220,7 @@ L_then_7_i223_i_i_i_i:;
     v_r17_i46_i231_i_i_i_i = (u64)((u64)(v_a1_val6_i_i209_i_i_i_i_i_i_i) + (u64)(18446744073709551612ull));
     v_r26_i48_i233_i_i_i_i = (P)((u64)v_r20_i_i250_i_i_i_i + (u64)(v_r17_i46_i231_i_i_i_i));
     v_15 = (u32)((u32)(v_r2_i12_i_i212_i_i_i_i_i_i_i) | (u32)(2692874240ull));
-    v_r20_i180_sroa_0_0_insert_insert_i_i_i_i = __builtin_bswap32(v_15);
+    v_r20_i180_sroa_0_0_insert_insert_i_i_i_i = TURNED(32, v_15);
     put_u32(v_r26_i48_i233_i_i_i_i, v_r20_i180_sroa_0_0_insert_insert_i_i_i_i);
     { p_v_r12_i_i172_i_i_i_i = v_r17_i46_i231_i_i_i_i; p_v_a1_val_i_i_i_i_i_i = v_a1_val_i_i203_i_i_i_i_i_i_i; goto L_der_core_borrowed_BorrowedEncode_prepend_21a19bfcb; }
 L_else_8_i188_i_i_i_i:;
@@ -56264,7 +56304,7 @@ L_then_7_i147_i_i_i_i:;
     v_r20_i47_i156_i_i_i_i = get_P(v_r7_i_i292_i_i);
     v_r26_i48_i157_i_i_i_i = (P)((u64)v_r20_i47_i156_i_i_i_i + (u64)(v_r17_i46_i155_i_i_i_i));
     v_16 = (u32)((u32)(v_r2_i_i_i_i_i_i_i) | (u32)(813826048u));
-    v_r20_i104_sroa_0_0_insert_insert_i_i_i_i = __builtin_bswap32(v_16);
+    v_r20_i104_sroa_0_0_insert_insert_i_i_i_i = TURNED(32, v_16);
     put_u32(v_r26_i48_i157_i_i_i_i, v_r20_i104_sroa_0_0_insert_insert_i_i_i_i);
     { p_v_r20_i_i11_i_i_i_i_i = v_r20_i47_i156_i_i_i_i; p_v_a1_val6_i_i_i_i_i = v_r17_i46_i155_i_i_i_i; goto L_der_core_last_part_LastEncodeValue_prepend_value_0; }
 L_else_8_i112_i_i_i_i:;
@@ -56376,7 +56416,7 @@ L_else_5_i_i_i_i_i:;
 L_then_7_i_i_i_i_i:;
     v_r26_i48_i_i_i_i_i = (P)((u64)v_r26_i_i99_i_i_i_i + (u64)(-4));
     v_18 = (u32)((u32)(v_r2_i_i_i_i_i) | (u32)(813826048u));
-    v_r20_i_sroa_0_0_insert_insert_i_i_i_i = __builtin_bswap32(v_18);
+    v_r20_i_sroa_0_0_insert_insert_i_i_i_i = TURNED(32, v_18);
     put_u32(v_r26_i48_i_i_i_i_i, v_r20_i_sroa_0_0_insert_insert_i_i_i_i);
     { goto L_arm_1_i296_i_i; }
 L_else_8_i_i_i_i_i:;
@@ -56482,12 +56522,12 @@ L_arm_3_i_i:;
 L_arm_4_i_i:;
     { p_v_r6_0_i = 20u; goto L_pkcs1_c_pss_algorithm_pkcs1_c_pss_algorithm_encode; }
 L_noarm_5_i_i:;
-    __builtin_trap();
+    TRAP();
 L_pkcs1_c_pss_algorithm_pkcs1_c_pss_algorithm_encode:;
     v_r6_0_i = p_v_r6_0_i;
     return v_r6_0_i;
 }
-u32 NAME(oaep_params_encode)(P v_a0, P v_a1, u64 v_a2, P v_a3) {
+static u32 proved_oaep_params_encode(P v_a0, P v_a1, u64 v_a2, P v_a3) {
     P p_v_r1_sroa_9_0_i_i_ph_i;
     P p_v_r22_i_sroa_13_sroa_0_0_i;
     u1 p_v_r7_i253_i;
@@ -57560,7 +57600,7 @@ L_pkcs1_c_oaep_pkcs1_c_oaep_params_encode_exit:;
     v_r7_0_i = p_v_r7_0_i;
     return v_r7_0_i;
 }
-u32 NAME(pss_params_encode)(P v_a0, P v_a1, u64 v_a2, P v_a3) {
+static u32 proved_pss_params_encode(P v_a0, P v_a1, u64 v_a2, P v_a3) {
     P p_v_r1_sroa_9_0_i_i_i_ph_i;
     P p_v_r14_i5_sroa_13_sroa_0_0_i;
     u1 p_v_r7_i99_i;
@@ -58385,13 +58425,34 @@ L_pkcs1_c_pss_pkcs1_c_pss_params_encode_exit:;
     return v_r7_0_i;
 }
 
-#ifdef PKCS1_FOREIGN
-/* The calls of pkcs1_c.h. Each copies a caller's structs into the layout of the proved call, and what that filled back.
- * None allocates. */
-#include <stdbool.h>
-#include <stddef.h>
+/* The calls of pkcs1_c.h, over the proved ones. On a machine that isn't like that of the module, each copies a caller's
+ * structs into its layout, and what the proved call filled back. None allocates. */
+#include "pkcs1_c.h"
 
-/* The fields of each struct: w is an address or a length, o an octet, and a dash goes to where a w can stand. */
+typedef char a_flag_is_an_octet[sizeof(bool) == 1 ? 1 : -1];
+
+/* TAKE declares the place of a struct in the layout of the module. GIVE_BACK copies what was filled there. */
+#ifndef PKCS1_FOREIGN
+typedef char the_layout_is_that_of_the_module[sizeof(struct pkcs1_oaep_params) == 144 ? 1 : -1];
+#define TAKE(own, given, FIELDS) P own = AT(given)
+#define GIVE_BACK(given, own, FIELDS) ((void)0)
+
+static u32 encode_key(P key, const struct pkcs1_other_prime *others, size_t count, P out, u64 room, P len) {
+    return proved_private_key_encode(key, AT(others), count, out, room, len);
+}
+
+void pkcs1_c_other_primes(const uint8_t *listed, size_t listed_len, struct pkcs1_other_prime *others,
+                          size_t others_room) {
+    proved_other_primes(AT(listed), listed_len, AT(others), others_room);
+}
+#else
+#define TAKE(own, given, FIELDS)                   \
+    unsigned char octets_##own[8 * sizeof(FIELDS)]; \
+    P own = taken(octets_##own, given, FIELDS)
+#define GIVE_BACK(given, own, FIELDS) give_back(given, octets_##own, FIELDS)
+
+/* The fields of each struct: w is an address or a length, o an octet, and a dash goes to where a w can stand. None
+ * takes more than 8 octets there. */
 #define BYTES "ww"
 #define OTHER_PRIME BYTES BYTES BYTES
 #define PUBLIC_KEY BYTES BYTES
@@ -58402,11 +58463,11 @@ L_pkcs1_c_pss_pkcs1_c_pss_params_encode_exit:;
 #define PSS ALGORITHM MASK_GEN "oo"
 #define OAEP ALGORITHM MASK_GEN ALGORITHM
 
-/* Sizes, places in OTHER_PRIME and PRIVATE_KEY, the longest array that is copied, and statuses. */
+/* Sizes, places in OTHER_PRIME and PRIVATE_KEY, and the longest array that is copied. */
 struct alignment { char octet; size_t word; };
 enum {
-    WORD = sizeof(size_t), ALIGNMENT = offsetof(struct alignment, word), LARGEST = 144, PRIME = 48,
-    COEFFICIENT = 32, OTHERS = 128, MOST_PRIMES = 64, OUT_OF_MEMORY = 17, OTHER_PRIMES = 21
+    WORD = sizeof(size_t), ALIGNMENT = offsetof(struct alignment, word), PRIME = 48, COEFFICIENT = 32, OTHERS = 128,
+    MOST_PRIMES = 64
 };
 
 /* The next multiple of `to`. */
@@ -58414,7 +58475,7 @@ static size_t up(size_t at, size_t to) {
     return (at + to - 1) / to * to;
 }
 
-/* Copies a caller's struct into the proved layout, and gives its place. */
+/* Copies a caller's struct into the layout of the module, and gives its place. */
 static P taken(unsigned char *own, const void *given, const char *fields) {
     const unsigned char *from = given;
     size_t at = 0, own_at = 0, word;
@@ -58447,122 +58508,133 @@ static void give_back(void *given, const unsigned char *own, const char *fields)
         }
 }
 
-u64 pkcs1_c_bit_len(const u8 *number, size_t number_len) {
-    return NAME(bit_len)(AT(number), number_len);
-}
-
-#define DECODER(name, FIELDS)                                                 \
-    u32 pkcs1_c_##name(const u8 *der, size_t der_len, void *value) {          \
-        unsigned char own[LARGEST];                                           \
-        u32 status = NAME(name)(AT(der), der_len, taken(own, value, FIELDS)); \
-        if (status == 0)                                                      \
-            give_back(value, own, FIELDS);                                    \
-        return status;                                                        \
-    }
-#define ENCODER(name, FIELDS)                                                      \
-    u32 pkcs1_c_##name(const void *value, u8 *out, size_t room, size_t *len) {     \
-        unsigned char own[LARGEST], own_len[8];                                    \
-        P at_len = taken(own_len, len, "w");                                       \
-        u32 status = NAME(name)(taken(own, value, FIELDS), AT(out), room, at_len); \
-        give_back(len, own_len, "w");                                              \
-        return status;                                                             \
-    }
-#define PARAMS(name, FIELDS)              \
-    DECODER(name##_decode, FIELDS)        \
-    DECODER(name##_decode_strict, FIELDS) \
-    ENCODER(name##_encode, FIELDS)
-#define TEST(name, FIELDS)                                                  \
-    bool pkcs1_c_##name(const void *value, const u8 *oid, size_t oid_len) { \
-        unsigned char own[LARGEST];                                         \
-        return NAME(name)(taken(own, value, FIELDS), AT(oid), oid_len);     \
-    }
-DECODER(public_key_decode, PUBLIC_KEY)
-ENCODER(public_key_encode, PUBLIC_KEY)
-ENCODER(private_key_info_encode, INFO)
-PARAMS(pss_params, PSS)
-PARAMS(pss_algorithm, PSS)
-PARAMS(oaep_params, OAEP)
-PARAMS(oaep_algorithm, OAEP)
-TEST(algorithm_is, ALGORITHM)
-TEST(pss_is, PSS)
-TEST(oaep_is, OAEP)
-
-u32 pkcs1_c_private_key_decode(const u8 *der, size_t der_len, void *key, void *listed) {
-    unsigned char own[LARGEST], own_listed[16];
-    P at_listed = taken(own_listed, listed, BYTES);
-    u32 status = NAME(private_key_decode)(AT(der), der_len, taken(own, key, PRIVATE_KEY), at_listed);
-    if (status == 0) {
-        give_back(key, own, PRIVATE_KEY);
-        give_back(listed, own_listed, BYTES);
-    }
-    return status;
-}
-
-u32 pkcs1_c_private_key_info_decode(const u8 *der, size_t der_len, void *info, void *key, void *listed) {
-    unsigned char own_info[LARGEST], own[LARGEST], own_listed[16];
-    P at_info = taken(own_info, info, INFO), at_listed = taken(own_listed, listed, BYTES);
-    u32 status = NAME(private_key_info_decode)(AT(der), der_len, at_info, taken(own, key, PRIVATE_KEY), at_listed);
-    if (status == 0) {
-        give_back(info, own_info, INFO);
-        give_back(key, own, PRIVATE_KEY);
-        give_back(listed, own_listed, BYTES);
-    }
-    return status;
-}
-
-/* One prime at a time, as there may be any number of them. The next one stands where the coefficient ends. */
-void pkcs1_c_other_primes(const u8 *listed, size_t listed_len, void *others, size_t others_room) {
-    unsigned char own[PRIME], *other = others;
-    P at = AT(listed), end = at + listed_len, coefficient = AT(own + COEFFICIENT);
-    for (; others_room > 0; others_room--, other += 6 * WORD) {
-        taken(own, other, OTHER_PRIME);
-        put_P(coefficient, at);
-        put_u64(coefficient + 8, 0);
-        NAME(other_primes)(at, end - at, AT(own), 1);
-        if (get_u64(coefficient + 8) == 0)
-            return;
-        give_back(other, own, OTHER_PRIME);
-        at = get_P(coefficient) + get_u64(coefficient + 8);
-    }
-}
-
-static u32 private_key_encode(P key, const unsigned char *others, size_t others_len, P out, u64 room, P len) {
-    unsigned char own[PRIME * (others_len + 1)];
-    for (size_t i = 0; i < others_len; i++)
-        taken(own + PRIME * i, others + 6 * WORD * i, OTHER_PRIME);
-    return NAME(private_key_encode)(key, AT(own), others_len, out, room, len);
+/* In a frame of its own, since few keys have other primes. */
+APART static u32 encode_with_others(P key, const struct pkcs1_other_prime *others, size_t count, P out, u64 room,
+                                    P len) {
+    unsigned char own[PRIME * MOST_PRIMES];
+    for (size_t i = 0; i < count; i++)
+        taken(own + PRIME * i, &others[i], OTHER_PRIME);
+    return proved_private_key_encode(key, AT(own), count, out, room, len);
 }
 
 /* Of more other primes than the stack should hold it says that there is no memory. */
-u32 pkcs1_c_private_key_encode(const void *key, const void *others, size_t others_len, u8 *out, size_t room,
-                               size_t *len) {
-    unsigned char own[LARGEST], own_len[8];
-    P at_key = taken(own, key, PRIVATE_KEY), at_len = taken(own_len, len, "w");
-    u32 status = get_u64(at_key + OTHERS) == others_len ? OUT_OF_MEMORY : OTHER_PRIMES;
-    if (others_len <= MOST_PRIMES)
-        status = private_key_encode(at_key, others, others_len, AT(out), room, at_len);
-    give_back(len, own_len, "w");
+static u32 encode_key(P key, const struct pkcs1_other_prime *others, size_t count, P out, u64 room, P len) {
+    if (count == 0)
+        return proved_private_key_encode(key, AT(others), 0, out, room, len);
+    if (count > MOST_PRIMES)
+        return get_u64(key + OTHERS) == count ? PKCS1_OUT_OF_MEMORY : PKCS1_OTHER_PRIMES;
+    return encode_with_others(key, others, count, out, room, len);
+}
+
+/* One prime at a time, as there may be any number of them. The next one stands where the coefficient ends. */
+void pkcs1_c_other_primes(const uint8_t *listed, size_t listed_len, struct pkcs1_other_prime *others,
+                          size_t others_room) {
+    P at = AT(listed), end = at + listed_len;
+    for (; others_room > 0; others_room--, others++) {
+        TAKE(own, others, OTHER_PRIME);
+        put_P(own + COEFFICIENT, at);
+        put_u64(own + COEFFICIENT + 8, 0);
+        proved_other_primes(at, end - at, own, 1);
+        if (get_u64(own + COEFFICIENT + 8) == 0)
+            return;
+        GIVE_BACK(others, own, OTHER_PRIME);
+        at = get_P(own + COEFFICIENT) + get_u64(own + COEFFICIENT + 8);
+    }
+}
+#endif
+
+uint64_t pkcs1_c_bit_len(const uint8_t *number, size_t number_len) {
+    return proved_bit_len(AT(number), number_len);
+}
+
+#define DECODER(name, type, FIELDS)                                                                  \
+    uint32_t pkcs1_c_##name(const uint8_t *der, size_t der_len, struct pkcs1_##type *value) {        \
+        TAKE(own, value, FIELDS);                                                                    \
+        u32 status = proved_##name(AT(der), der_len, own);                                           \
+        if (status == PKCS1_OK)                                                                      \
+            GIVE_BACK(value, own, FIELDS);                                                           \
+        return status;                                                                               \
+    }
+#define ENCODER(name, type, FIELDS)                                                                             \
+    uint32_t pkcs1_c_##name(const struct pkcs1_##type *value, uint8_t *out, size_t room, size_t *len) {         \
+        TAKE(own, value, FIELDS);                                                                               \
+        TAKE(own_len, len, "w");                                                                                \
+        u32 status = proved_##name(own, AT(out), room, own_len);                                                \
+        GIVE_BACK(len, own_len, "w");                                                                           \
+        return status;                                                                                          \
+    }
+#define PARAMS(name, type, FIELDS)              \
+    DECODER(name##_decode, type, FIELDS)        \
+    DECODER(name##_decode_strict, type, FIELDS) \
+    ENCODER(name##_encode, type, FIELDS)
+#define TEST(name, type, FIELDS)                                                             \
+    bool pkcs1_c_##name(const struct pkcs1_##type *value, const uint8_t *oid, size_t oid_len) { \
+        TAKE(own, value, FIELDS);                                                            \
+        return proved_##name(own, AT(oid), oid_len);                                         \
+    }
+DECODER(public_key_decode, public_key, PUBLIC_KEY)
+ENCODER(public_key_encode, public_key, PUBLIC_KEY)
+ENCODER(private_key_info_encode, private_key_info, INFO)
+PARAMS(pss_params, pss_params, PSS)
+PARAMS(pss_algorithm, pss_params, PSS)
+PARAMS(oaep_params, oaep_params, OAEP)
+PARAMS(oaep_algorithm, oaep_params, OAEP)
+TEST(algorithm_is, algorithm, ALGORITHM)
+TEST(pss_is, pss_params, PSS)
+TEST(oaep_is, oaep_params, OAEP)
+
+uint32_t pkcs1_c_private_key_decode(const uint8_t *der, size_t der_len, struct pkcs1_private_key *key,
+                                    struct pkcs1_bytes *listed) {
+    TAKE(own, key, PRIVATE_KEY);
+    TAKE(own_listed, listed, BYTES);
+    u32 status = proved_private_key_decode(AT(der), der_len, own, own_listed);
+    if (status == PKCS1_OK) {
+        GIVE_BACK(key, own, PRIVATE_KEY);
+        GIVE_BACK(listed, own_listed, BYTES);
+    }
     return status;
 }
 
-bool pkcs1_c_oaep_label(const void *params, void *label) {
-    unsigned char own[LARGEST], own_label[16];
-    P at_label = taken(own_label, label, BYTES);
-    bool has_label = NAME(oaep_label)(taken(own, params, OAEP), at_label);
+uint32_t pkcs1_c_private_key_info_decode(const uint8_t *der, size_t der_len, struct pkcs1_private_key_info *info,
+                                         struct pkcs1_private_key *key, struct pkcs1_bytes *listed) {
+    TAKE(own_info, info, INFO);
+    TAKE(own, key, PRIVATE_KEY);
+    TAKE(own_listed, listed, BYTES);
+    u32 status = proved_private_key_info_decode(AT(der), der_len, own_info, own, own_listed);
+    if (status == PKCS1_OK) {
+        GIVE_BACK(info, own_info, INFO);
+        GIVE_BACK(key, own, PRIVATE_KEY);
+        GIVE_BACK(listed, own_listed, BYTES);
+    }
+    return status;
+}
+
+uint32_t pkcs1_c_private_key_encode(const struct pkcs1_private_key *key, const struct pkcs1_other_prime *others,
+                                    size_t others_len, uint8_t *out, size_t room, size_t *len) {
+    TAKE(own, key, PRIVATE_KEY);
+    TAKE(own_len, len, "w");
+    u32 status = encode_key(own, others, others_len, AT(out), room, own_len);
+    GIVE_BACK(len, own_len, "w");
+    return status;
+}
+
+bool pkcs1_c_oaep_label(const struct pkcs1_oaep_params *params, struct pkcs1_bytes *label) {
+    TAKE(own, params, OAEP);
+    TAKE(own_label, label, BYTES);
+    bool has_label = proved_oaep_label(own, own_label);
     if (has_label)
-        give_back(label, own_label, BYTES);
+        GIVE_BACK(label, own_label, BYTES);
     return has_label;
 }
 
-void pkcs1_c_status_text(u32 status, void *text) {
-    unsigned char own[16];
-    NAME(status_text)(status, taken(own, text, BYTES));
-    give_back(text, own, BYTES);
+void pkcs1_c_status_text(uint32_t status, struct pkcs1_bytes *text) {
+    TAKE(own, text, BYTES);
+    proved_status_text(status, own);
+    GIVE_BACK(text, own, BYTES);
 }
 
-void pkcs1_c_version(void *text) {
-    unsigned char own[16];
-    NAME(version)(taken(own, text, BYTES));
-    give_back(text, own, BYTES);
+void pkcs1_c_version(struct pkcs1_bytes *text) {
+    TAKE(own, text, BYTES);
+    proved_version(own);
+    GIVE_BACK(text, own, BYTES);
 }
-#endif

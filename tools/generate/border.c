@@ -1,9 +1,31 @@
-/* The calls of pkcs1_c.h. Each copies a caller's structs into the layout of the proved call, and what that filled back.
- * None allocates. */
-#include <stdbool.h>
-#include <stddef.h>
+/* The calls of pkcs1_c.h, over the proved ones. On a machine that isn't like that of the module, each copies a caller's
+ * structs into its layout, and what the proved call filled back. None allocates. */
+#include "pkcs1_c.h"
 
-/* The fields of each struct: w is an address or a length, o an octet, and a dash goes to where a w can stand. */
+typedef char a_flag_is_an_octet[sizeof(bool) == 1 ? 1 : -1];
+
+/* TAKE declares the place of a struct in the layout of the module. GIVE_BACK copies what was filled there. */
+#ifndef PKCS1_FOREIGN
+typedef char the_layout_is_that_of_the_module[sizeof(struct pkcs1_oaep_params) == 144 ? 1 : -1];
+#define TAKE(own, given, FIELDS) P own = AT(given)
+#define GIVE_BACK(given, own, FIELDS) ((void)0)
+
+static u32 encode_key(P key, const struct pkcs1_other_prime *others, size_t count, P out, u64 room, P len) {
+    return proved_private_key_encode(key, AT(others), count, out, room, len);
+}
+
+void pkcs1_c_other_primes(const uint8_t *listed, size_t listed_len, struct pkcs1_other_prime *others,
+                          size_t others_room) {
+    proved_other_primes(AT(listed), listed_len, AT(others), others_room);
+}
+#else
+#define TAKE(own, given, FIELDS)                   \
+    unsigned char octets_##own[8 * sizeof(FIELDS)]; \
+    P own = taken(octets_##own, given, FIELDS)
+#define GIVE_BACK(given, own, FIELDS) give_back(given, octets_##own, FIELDS)
+
+/* The fields of each struct: w is an address or a length, o an octet, and a dash goes to where a w can stand. None
+ * takes more than 8 octets there. */
 #define BYTES "ww"
 #define OTHER_PRIME BYTES BYTES BYTES
 #define PUBLIC_KEY BYTES BYTES
@@ -14,11 +36,11 @@
 #define PSS ALGORITHM MASK_GEN "oo"
 #define OAEP ALGORITHM MASK_GEN ALGORITHM
 
-/* Sizes, places in OTHER_PRIME and PRIVATE_KEY, the longest array that is copied, and statuses. */
+/* Sizes, places in OTHER_PRIME and PRIVATE_KEY, and the longest array that is copied. */
 struct alignment { char octet; size_t word; };
 enum {
-    WORD = sizeof(size_t), ALIGNMENT = offsetof(struct alignment, word), LARGEST = 144, PRIME = 48,
-    COEFFICIENT = 32, OTHERS = 128, MOST_PRIMES = 64, OUT_OF_MEMORY = 17, OTHER_PRIMES = 21
+    WORD = sizeof(size_t), ALIGNMENT = offsetof(struct alignment, word), PRIME = 48, COEFFICIENT = 32, OTHERS = 128,
+    MOST_PRIMES = 64
 };
 
 /* The next multiple of `to`. */
@@ -26,7 +48,7 @@ static size_t up(size_t at, size_t to) {
     return (at + to - 1) / to * to;
 }
 
-/* Copies a caller's struct into the proved layout, and gives its place. */
+/* Copies a caller's struct into the layout of the module, and gives its place. */
 static P taken(unsigned char *own, const void *given, const char *fields) {
     const unsigned char *from = given;
     size_t at = 0, own_at = 0, word;
@@ -59,121 +81,133 @@ static void give_back(void *given, const unsigned char *own, const char *fields)
         }
 }
 
-u64 pkcs1_c_bit_len(const u8 *number, size_t number_len) {
-    return NAME(bit_len)(AT(number), number_len);
-}
-
-#define DECODER(name, FIELDS)                                                 \
-    u32 pkcs1_c_##name(const u8 *der, size_t der_len, void *value) {          \
-        unsigned char own[LARGEST];                                           \
-        u32 status = NAME(name)(AT(der), der_len, taken(own, value, FIELDS)); \
-        if (status == 0)                                                      \
-            give_back(value, own, FIELDS);                                    \
-        return status;                                                        \
-    }
-#define ENCODER(name, FIELDS)                                                      \
-    u32 pkcs1_c_##name(const void *value, u8 *out, size_t room, size_t *len) {     \
-        unsigned char own[LARGEST], own_len[8];                                    \
-        P at_len = taken(own_len, len, "w");                                       \
-        u32 status = NAME(name)(taken(own, value, FIELDS), AT(out), room, at_len); \
-        give_back(len, own_len, "w");                                              \
-        return status;                                                             \
-    }
-#define PARAMS(name, FIELDS)              \
-    DECODER(name##_decode, FIELDS)        \
-    DECODER(name##_decode_strict, FIELDS) \
-    ENCODER(name##_encode, FIELDS)
-#define TEST(name, FIELDS)                                                  \
-    bool pkcs1_c_##name(const void *value, const u8 *oid, size_t oid_len) { \
-        unsigned char own[LARGEST];                                         \
-        return NAME(name)(taken(own, value, FIELDS), AT(oid), oid_len);     \
-    }
-DECODER(public_key_decode, PUBLIC_KEY)
-ENCODER(public_key_encode, PUBLIC_KEY)
-ENCODER(private_key_info_encode, INFO)
-PARAMS(pss_params, PSS)
-PARAMS(pss_algorithm, PSS)
-PARAMS(oaep_params, OAEP)
-PARAMS(oaep_algorithm, OAEP)
-TEST(algorithm_is, ALGORITHM)
-TEST(pss_is, PSS)
-TEST(oaep_is, OAEP)
-
-u32 pkcs1_c_private_key_decode(const u8 *der, size_t der_len, void *key, void *listed) {
-    unsigned char own[LARGEST], own_listed[16];
-    P at_listed = taken(own_listed, listed, BYTES);
-    u32 status = NAME(private_key_decode)(AT(der), der_len, taken(own, key, PRIVATE_KEY), at_listed);
-    if (status == 0) {
-        give_back(key, own, PRIVATE_KEY);
-        give_back(listed, own_listed, BYTES);
-    }
-    return status;
-}
-
-u32 pkcs1_c_private_key_info_decode(const u8 *der, size_t der_len, void *info, void *key, void *listed) {
-    unsigned char own_info[LARGEST], own[LARGEST], own_listed[16];
-    P at_info = taken(own_info, info, INFO), at_listed = taken(own_listed, listed, BYTES);
-    u32 status = NAME(private_key_info_decode)(AT(der), der_len, at_info, taken(own, key, PRIVATE_KEY), at_listed);
-    if (status == 0) {
-        give_back(info, own_info, INFO);
-        give_back(key, own, PRIVATE_KEY);
-        give_back(listed, own_listed, BYTES);
-    }
-    return status;
-}
-
-/* One prime at a time, as there may be any number of them. The next one stands where the coefficient ends. */
-void pkcs1_c_other_primes(const u8 *listed, size_t listed_len, void *others, size_t others_room) {
-    unsigned char own[PRIME], *other = others;
-    P at = AT(listed), end = at + listed_len, coefficient = AT(own + COEFFICIENT);
-    for (; others_room > 0; others_room--, other += 6 * WORD) {
-        taken(own, other, OTHER_PRIME);
-        put_P(coefficient, at);
-        put_u64(coefficient + 8, 0);
-        NAME(other_primes)(at, end - at, AT(own), 1);
-        if (get_u64(coefficient + 8) == 0)
-            return;
-        give_back(other, own, OTHER_PRIME);
-        at = get_P(coefficient) + get_u64(coefficient + 8);
-    }
-}
-
-static u32 private_key_encode(P key, const unsigned char *others, size_t others_len, P out, u64 room, P len) {
-    unsigned char own[PRIME * (others_len + 1)];
-    for (size_t i = 0; i < others_len; i++)
-        taken(own + PRIME * i, others + 6 * WORD * i, OTHER_PRIME);
-    return NAME(private_key_encode)(key, AT(own), others_len, out, room, len);
+/* In a frame of its own, since few keys have other primes. */
+APART static u32 encode_with_others(P key, const struct pkcs1_other_prime *others, size_t count, P out, u64 room,
+                                    P len) {
+    unsigned char own[PRIME * MOST_PRIMES];
+    for (size_t i = 0; i < count; i++)
+        taken(own + PRIME * i, &others[i], OTHER_PRIME);
+    return proved_private_key_encode(key, AT(own), count, out, room, len);
 }
 
 /* Of more other primes than the stack should hold it says that there is no memory. */
-u32 pkcs1_c_private_key_encode(const void *key, const void *others, size_t others_len, u8 *out, size_t room,
-                               size_t *len) {
-    unsigned char own[LARGEST], own_len[8];
-    P at_key = taken(own, key, PRIVATE_KEY), at_len = taken(own_len, len, "w");
-    u32 status = get_u64(at_key + OTHERS) == others_len ? OUT_OF_MEMORY : OTHER_PRIMES;
-    if (others_len <= MOST_PRIMES)
-        status = private_key_encode(at_key, others, others_len, AT(out), room, at_len);
-    give_back(len, own_len, "w");
+static u32 encode_key(P key, const struct pkcs1_other_prime *others, size_t count, P out, u64 room, P len) {
+    if (count == 0)
+        return proved_private_key_encode(key, AT(others), 0, out, room, len);
+    if (count > MOST_PRIMES)
+        return get_u64(key + OTHERS) == count ? PKCS1_OUT_OF_MEMORY : PKCS1_OTHER_PRIMES;
+    return encode_with_others(key, others, count, out, room, len);
+}
+
+/* One prime at a time, as there may be any number of them. The next one stands where the coefficient ends. */
+void pkcs1_c_other_primes(const uint8_t *listed, size_t listed_len, struct pkcs1_other_prime *others,
+                          size_t others_room) {
+    P at = AT(listed), end = at + listed_len;
+    for (; others_room > 0; others_room--, others++) {
+        TAKE(own, others, OTHER_PRIME);
+        put_P(own + COEFFICIENT, at);
+        put_u64(own + COEFFICIENT + 8, 0);
+        proved_other_primes(at, end - at, own, 1);
+        if (get_u64(own + COEFFICIENT + 8) == 0)
+            return;
+        GIVE_BACK(others, own, OTHER_PRIME);
+        at = get_P(own + COEFFICIENT) + get_u64(own + COEFFICIENT + 8);
+    }
+}
+#endif
+
+uint64_t pkcs1_c_bit_len(const uint8_t *number, size_t number_len) {
+    return proved_bit_len(AT(number), number_len);
+}
+
+#define DECODER(name, type, FIELDS)                                                                  \
+    uint32_t pkcs1_c_##name(const uint8_t *der, size_t der_len, struct pkcs1_##type *value) {        \
+        TAKE(own, value, FIELDS);                                                                    \
+        u32 status = proved_##name(AT(der), der_len, own);                                           \
+        if (status == PKCS1_OK)                                                                      \
+            GIVE_BACK(value, own, FIELDS);                                                           \
+        return status;                                                                               \
+    }
+#define ENCODER(name, type, FIELDS)                                                                             \
+    uint32_t pkcs1_c_##name(const struct pkcs1_##type *value, uint8_t *out, size_t room, size_t *len) {         \
+        TAKE(own, value, FIELDS);                                                                               \
+        TAKE(own_len, len, "w");                                                                                \
+        u32 status = proved_##name(own, AT(out), room, own_len);                                                \
+        GIVE_BACK(len, own_len, "w");                                                                           \
+        return status;                                                                                          \
+    }
+#define PARAMS(name, type, FIELDS)              \
+    DECODER(name##_decode, type, FIELDS)        \
+    DECODER(name##_decode_strict, type, FIELDS) \
+    ENCODER(name##_encode, type, FIELDS)
+#define TEST(name, type, FIELDS)                                                             \
+    bool pkcs1_c_##name(const struct pkcs1_##type *value, const uint8_t *oid, size_t oid_len) { \
+        TAKE(own, value, FIELDS);                                                            \
+        return proved_##name(own, AT(oid), oid_len);                                         \
+    }
+DECODER(public_key_decode, public_key, PUBLIC_KEY)
+ENCODER(public_key_encode, public_key, PUBLIC_KEY)
+ENCODER(private_key_info_encode, private_key_info, INFO)
+PARAMS(pss_params, pss_params, PSS)
+PARAMS(pss_algorithm, pss_params, PSS)
+PARAMS(oaep_params, oaep_params, OAEP)
+PARAMS(oaep_algorithm, oaep_params, OAEP)
+TEST(algorithm_is, algorithm, ALGORITHM)
+TEST(pss_is, pss_params, PSS)
+TEST(oaep_is, oaep_params, OAEP)
+
+uint32_t pkcs1_c_private_key_decode(const uint8_t *der, size_t der_len, struct pkcs1_private_key *key,
+                                    struct pkcs1_bytes *listed) {
+    TAKE(own, key, PRIVATE_KEY);
+    TAKE(own_listed, listed, BYTES);
+    u32 status = proved_private_key_decode(AT(der), der_len, own, own_listed);
+    if (status == PKCS1_OK) {
+        GIVE_BACK(key, own, PRIVATE_KEY);
+        GIVE_BACK(listed, own_listed, BYTES);
+    }
     return status;
 }
 
-bool pkcs1_c_oaep_label(const void *params, void *label) {
-    unsigned char own[LARGEST], own_label[16];
-    P at_label = taken(own_label, label, BYTES);
-    bool has_label = NAME(oaep_label)(taken(own, params, OAEP), at_label);
+uint32_t pkcs1_c_private_key_info_decode(const uint8_t *der, size_t der_len, struct pkcs1_private_key_info *info,
+                                         struct pkcs1_private_key *key, struct pkcs1_bytes *listed) {
+    TAKE(own_info, info, INFO);
+    TAKE(own, key, PRIVATE_KEY);
+    TAKE(own_listed, listed, BYTES);
+    u32 status = proved_private_key_info_decode(AT(der), der_len, own_info, own, own_listed);
+    if (status == PKCS1_OK) {
+        GIVE_BACK(info, own_info, INFO);
+        GIVE_BACK(key, own, PRIVATE_KEY);
+        GIVE_BACK(listed, own_listed, BYTES);
+    }
+    return status;
+}
+
+uint32_t pkcs1_c_private_key_encode(const struct pkcs1_private_key *key, const struct pkcs1_other_prime *others,
+                                    size_t others_len, uint8_t *out, size_t room, size_t *len) {
+    TAKE(own, key, PRIVATE_KEY);
+    TAKE(own_len, len, "w");
+    u32 status = encode_key(own, others, others_len, AT(out), room, own_len);
+    GIVE_BACK(len, own_len, "w");
+    return status;
+}
+
+bool pkcs1_c_oaep_label(const struct pkcs1_oaep_params *params, struct pkcs1_bytes *label) {
+    TAKE(own, params, OAEP);
+    TAKE(own_label, label, BYTES);
+    bool has_label = proved_oaep_label(own, own_label);
     if (has_label)
-        give_back(label, own_label, BYTES);
+        GIVE_BACK(label, own_label, BYTES);
     return has_label;
 }
 
-void pkcs1_c_status_text(u32 status, void *text) {
-    unsigned char own[16];
-    NAME(status_text)(status, taken(own, text, BYTES));
-    give_back(text, own, BYTES);
+void pkcs1_c_status_text(uint32_t status, struct pkcs1_bytes *text) {
+    TAKE(own, text, BYTES);
+    proved_status_text(status, own);
+    GIVE_BACK(text, own, BYTES);
 }
 
-void pkcs1_c_version(void *text) {
-    unsigned char own[16];
-    NAME(version)(taken(own, text, BYTES));
-    give_back(text, own, BYTES);
+void pkcs1_c_version(struct pkcs1_bytes *text) {
+    TAKE(own, text, BYTES);
+    proved_version(own);
+    GIVE_BACK(text, own, BYTES);
 }

@@ -104,33 +104,41 @@ objects_are_right() {
         leads_back $processor $cc
         library_is_marked $processor $cc $marking
         for option in -UPKCS1_FOREIGN -DPKCS1_FOREIGN; do
-            $cc -std=c99 -Wall -Wextra -Werror -pedantic -O2 -fPIC $marking $option -c "$generated/pkcs1_c.c" \
-                -o "$room/portable.o"
+            $cc -std=c99 -Wall -Wextra -Werror -pedantic -O2 -fPIC $marking $option "-I$ffi/include" \
+                -c "$generated/pkcs1_c.c" -o "$room/portable.o"
             object_is_right "$room/portable.o" $cc "$calls" "$of_c"
         done
     done
 }
 
-# The library's test, over the assembly and over the C, also as it is built for other machines.
+# The library's test, over the assembly and over the C, also as it is built for other machines and by other compilers, and
+# as one file that the link looks into.
 library_passes() {
     local compiler flags sanitized='-O0 -fsanitize=address,undefined -fno-sanitize-recover=all'
     local files=("-I$ffi/include" "$ffi"/c/{test,rows,large,pkcs1}.c)
     gcc -O1 "${files[@]}" "$generated/$(uname -m)/pkcs1_c.s" -o "$room/test"
     "$room/test" "$ffi/tests/statuses" > /dev/null
     for compiler in gcc clang; do
-        for flags in -O2 "$sanitized" "$sanitized -DPKCS1_FOREIGN"; do
+        for flags in -O2 "$sanitized" "$sanitized -DPKCS1_FOREIGN" "$sanitized -DPKCS1_PLAIN -U__BYTE_ORDER__"; do
             # shellcheck disable=SC2086
-            $compiler -std=c99 -Wall -Wextra -Werror -pedantic $flags "${files[@]}" "$generated/pkcs1_c.c" \
+            $compiler -std=c99 -Wall -Wextra -Wvla -Werror -pedantic $flags "${files[@]}" "$generated/pkcs1_c.c" \
                 -o "$room/test"
             "$room/test" "$ffi/tests/statuses" > /dev/null
         done
     done
+    "$ffi/amalgamation.sh" "$generated" > "$room/pkcs1_all.c"
+    for compiler in gcc clang; do
+        $compiler -std=c99 -Wall -Wextra -Werror -pedantic -O3 -flto=auto -fstrict-aliasing "-I$ffi/include" \
+            "$ffi"/c/{test,rows,large}.c "$room/pkcs1_all.c" -o "$room/test"
+        "$room/test" "$ffi/tests/statuses" > /dev/null
+    done
 }
 
-# A compiler that doesn't tell the order of a number's octets is stopped.
-other_compilers_are_refused() {
-    gcc -w -fsyntax-only -U__BYTE_ORDER__ "$generated/pkcs1_c.c" 2> "$room/error" && stop "any compiler takes the C"
-    grep -q '#error "pkcs1' "$room/error" || stop "another compiler stops elsewhere"
+# Where an int has 16 bits, the C isn't compiled.
+small_machines_are_refused() {
+    clang --target=msp430 -ffreestanding -w -fsyntax-only "-I$ffi/include" "$generated/pkcs1_c.c" 2> "$room/error" &&
+        stop "the C is compiled for 16 bits"
+    grep -q '#error "pkcs1.*int has 32 bits' "$room/error" || stop "16 bits stop elsewhere: $(head -n 3 "$room/error")"
 }
 
 # refuses TEXT MESSAGE: a function with this line isn't translated, and one line says why.
@@ -250,7 +258,7 @@ unknown_ways_are_refused() {
 
 objects_are_right
 library_passes
-other_compilers_are_refused
+small_machines_are_refused
 unknown_is_refused
 another_kit_is_refused
 unknown_ways_are_refused

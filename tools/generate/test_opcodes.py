@@ -209,7 +209,7 @@ def translated(clang, functions, place):
                                 names=", ".join(names), numbers=", ".join(f"{it}ull" for it in numbers())))
     with open(f"{place}/border.c", "w", encoding="utf-8") as it:
         for number, name in enumerate(names):
-            print(f"u64 {name}(u64 a, u64 b) {{ return NAME({number})(a, b); }}", file=it)
+            print(f"u64 {name}(u64 a, u64 b) {{ return proved_{number}(a, b); }}", file=it)
     subprocess.run([clang, "-c", "-w", "-x", "ir", f"{place}/opcodes.ll", "-o", f"{place}/opcodes.o"], check=True)
     here = os.path.dirname(os.path.realpath(__file__))
     subprocess.run([sys.executable, f"{here}/ir2c", f"{place}/opcodes.ll", f"{place}/border.c", f"{place}/opcodes.c"],
@@ -236,7 +236,8 @@ def main():
     others = {it: ([f"{it}-linux-gnu-gcc"], [f"qemu-{it}"]) for it in ("s390x", "mips")}
     others = {it: way for it, way in others.items() if all(map(shutil.which, way[0] + way[1]))}
     foreign = (["gcc", "-DPKCS1_FOREIGN"], [])
-    for place, them, ways in ((f"{folder}/wide", functions, [(["gcc"], []), foreign, others.get("s390x")]),
+    plain = (["gcc", "-DPKCS1_PLAIN", "-U__BYTE_ORDER__"], [])
+    for place, them, ways in ((f"{folder}/wide", functions, [(["gcc"], []), foreign, plain, others.get("s390x")]),
                               (f"{folder}/narrow", narrow, [foreign, others.get("mips")])):
         translated(clang, them, place)
         compared(them, place, [it for it in ways if it])

@@ -2,8 +2,9 @@
 """C for LLVM IR: python3 tools/generate/ir2c IN.ll BORDER.c OUT.c
 
 The IR is what LLVM's passes make of the module that rattle writes for a static library. The translation knows what
-such a module has today, and no more: it refuses the rest, with one line, the status 1, and no OUT.c. head.c, which stands in
-front, says how memory is read on each machine. BORDER.c, which stands behind, is for those that aren't like x86-64.
+such a module has today, and no more: it refuses the rest, with one line, the status 1, and no OUT.c. head.c, which
+stands in front, says how memory is read on each machine and by each compiler. BORDER.c, which stands behind, has the
+calls that others make.
 """
 import os
 import re
@@ -17,6 +18,7 @@ from operands import Globals
 from reading import Line, Refused
 
 HEAD = os.path.join(os.path.dirname(os.path.realpath(__file__)), "head.c")
+DECODER = re.compile(r"@pkcs1_c_\w+_decode(_strict)?")
 LINKAGE = {"internal", "fastcc", "local_unnamed_addr", "unnamed_addr", "dso_local", "private"}
 
 
@@ -29,7 +31,6 @@ class Module:
 
     def header(self, line, scope):
         """Takes a function's head, and gives it in C."""
-        is_static = line.peek() in ("internal", "private")
         line.skip(LINKAGE)
         attributes(line)
         result = type_of(line)
@@ -48,8 +49,7 @@ class Module:
             line.take()
         if isinstance(result, Struct):
             self.structs.add(result)
-        static = "static " if is_static else ""
-        return name, f"{static}{result} {self.names[name]}({', '.join(parameters) or 'void'})"
+        return name, f"{result} {self.names[name]}({', '.join(parameters) or 'void'})"
 
     def declaration(self, text):
         """A function of another file, or LLVM's own, which calls say in other words."""
@@ -65,11 +65,11 @@ class Module:
         line = Line(text)
         line.expect("define")
         scope = Function(self)
-        _, made = self.header(line, scope)
+        name, made = self.header(line, scope)
+        made = f"static {'ONCE ' if DECODER.fullmatch(name) else ''}{made}"
         line.expect("{")
         line.end()
-        linkage = "LINKAGE " if made.split("(")[0].endswith(" NAME") else ""
-        self.headers.append(f"{linkage}{made};")
+        self.headers.append(made + ";")
         self.bodies.append("\n".join([made + " {", *scope.body(lines), "}"]))
 
     def read(self, lines):
@@ -107,7 +107,7 @@ def main():
     except Refused as refusal:
         sys.exit(f"ir2c: {refusal}")
     with open(out, "w", encoding="utf-8") as it:
-        it.write(f"{text_of(HEAD)}\n{module.text()}\n#ifdef PKCS1_FOREIGN\n{text_of(border)}#endif\n")
+        it.write(f"{text_of(HEAD)}\n{module.text()}\n{text_of(border)}")
 
 
 main()

@@ -52,7 +52,7 @@ def of_nothing(_given):
 
 def of_trap(_given):
     """A call that ends the program."""
-    return Void(), "__builtin_trap()"
+    return Void(), "TRAP()"
 
 
 def of_two(form):
@@ -61,20 +61,19 @@ def of_two(form):
 
 
 def of_order(given):
-    """A call that turns the order of a number's octets, for which compilers have a call of their own."""
+    """A call that turns the order of a number's octets."""
     type_, value = given[0]
     if type_.bits not in (16, 32, 64):
         raise Refused(f"not known: a number of {type_.bits} bits turned")
-    return type_, f"__builtin_bswap{type_.bits}({value})"
+    return type_, f"TURNED({type_.bits}, {value})"
 
 
 def of_zeros(given):
-    """A call that counts the zero bits in front of a number. Compilers have one that may not be given 0."""
+    """A call that counts the zero bits in front of a number."""
     type_, value = given[0]
     if type_.bits not in (8, 16, 32, 64):
         raise Refused(f"not known: the zero bits of a number of {type_.bits} bits")
-    counted = f"__builtin_clzll({value})" if type_.bits == 64 else f"__builtin_clz({value}) - {32 - type_.bits}"
-    return type_, f"{value} ? (unsigned)({counted}) : {type_.bits}u"
+    return type_, f"ZEROS({type_.bits}, {value})"
 
 
 INTRINSICS = {

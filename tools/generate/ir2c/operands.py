@@ -27,12 +27,12 @@ class Names:
 
 
 class Globals(Names):
-    """Names of functions and constants: of those that other files know, by a macro of head.c, but for rattle's."""
+    """Names of functions and constants. Those that others call, but for rattle's, BORDER.c gives to them."""
 
     def __getitem__(self, name):
         if not EXTERNAL.fullmatch(name):
             return super().__getitem__(name)
-        return f"NAME({name[9:]})" if name.startswith("@pkcs1_c_") else f"pkcs1_{name[1:]}"
+        return f"proved_{name[9:]}" if name.startswith("@pkcs1_c_") else f"pkcs1_{name[1:]}"
 
 
 def of_register(token, _type, scope):

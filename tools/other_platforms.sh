@@ -1,0 +1,173 @@
+#!/usr/bin/env bash
+# Builds the library for systems other than Linux and by other compilers, and runs its C test: as one file by tcc and in
+# MSVC's dialect, for Windows under wine, for WASI under node, by CMake for these and for Linux, and without a C library.
+# For other platforms it is only compiled. It needs nothing of the toolchain. What isn't installed is left out, with a
+# line.
+set -eu
+cd "$(dirname "$0")/.."
+ulimit -t 600 # no test runs forever
+room=$(mktemp -d)
+export WINEPREFIX=$room/wine WINEDEBUG=-all
+leave() {
+    ! command -v wineserver > "$room/log" || wineserver -k 2> "$room/log" || true
+    rm -rf "$room"
+}
+trap leave EXIT
+rows=$PWD/ffi/tests/statuses
+tests=(-Iffi/include ffi/c/{test,rows,large}.c)
+wasi=(clang --target=wasm32-wasi --sysroot=/usr -I/usr/include/wasm32-wasi)
+node=(node --no-warnings "$PWD/tools/wasi.mjs")
+# What takes the C, and is only compiled here.
+compiled='thumbv7em-none-eabi riscv32-none-elf aarch64-linux-android x86_64-unknown-freebsd x86_64-apple-macos
+    arm64-apple-macos i686-pc-windows-msvc'
+
+stop() {
+    printf 'tools/other_platforms.sh: %s\n' "$*" >&2
+    exit 1
+}
+# step NAME TOOL.. -- COMMAND..: runs the command if these are there, and says how long it took; what it prints is shown
+# only if it fails.
+step() {
+    local name=$1 began=$SECONDS
+    shift
+    while [ "$1" != -- ]; do
+        [ -e "$1" ] || command -v "$1" > "$room/log" || {
+            echo "other platforms: $name is left out: $1 isn't installed"
+            return
+        }
+        shift
+    done
+    (set -e && "${@:2}") > "$room/log" 2>&1 &
+    wait $! || {
+        cat "$room/log" >&2
+        stop "$name: failed"
+    }
+    echo "other platforms: $name, $((SECONDS - began)) s"
+}
+
+# A build of one's own, by a compiler that has little more than C99.
+by_tcc() {
+    tcc -Wall -Werror "${tests[@]}" "$room/pkcs1_all.c" -o "$room/by_tcc"
+    "$room/by_tcc" "$rows"
+}
+# Compiled for MSVC by clang, with no header of MSVC's: what the C library has for it is declared in a few lines. The
+# program around it is compiled and linked by mingw, whose calls are alike.
+in_dialect() {
+    local windows=x86_64-w64-mingw32-gcc
+    clang --target=x86_64-pc-windows-msvc -std=c99 -Wall -Wextra -Werror -O1 -ffreestanding "-I$room/few" \
+        -Iffi/include -c "$room/pkcs1_all.c" -o "$room/dialect.o"
+    "$windows" "${tests[@]}" "$room/dialect.o" -o "$room/dialect.exe"
+    wine "$room/dialect.exe" "$rows"
+}
+# runs FOLDER: the program that was built there prints the modulus.
+runs() {
+    cmake --build "$1"
+    [ "$(ctest --test-dir "$1" --verbose --no-tests=error | tr -d '\r' | grep -cx '[0-9]: c17f')" = 1 ] ||
+        stop "$1: the program prints another modulus"
+}
+# by_cmake SHARED OPTION..: configured, built, tested and installed, OFF: static, or ON: shared. A program finds it, and
+# runs.
+by_cmake() {
+    local built=$room/cmake.$1
+    rm -rf "$built"
+    cmake -B "$built" -DCMAKE_BUILD_TYPE=Debug "-DBUILD_SHARED_LIBS=$1" "${@:2}"
+    cmake --build "$built"
+    ctest --test-dir "$built" --output-on-failure --no-tests=error
+    cmake --install "$built" --prefix "$built/prefix"
+    cmake -S "$room/program" -B "$built/program" "-DCMAKE_PREFIX_PATH=$built/prefix" "${@:2}"
+    [ ! -d "$built/prefix/bin" ] || cp "$built"/prefix/bin/*.dll "$built/program"
+    runs "$built/program"
+}
+windows_by_cmake() {
+    local it
+    for it in OFF ON; do
+        by_cmake $it -DCMAKE_SYSTEM_NAME=Windows -DCMAKE_C_COMPILER=x86_64-w64-mingw32-gcc \
+            -DCMAKE_CROSSCOMPILING_EMULATOR=wine
+    done
+}
+wasi_by_cmake() {
+    by_cmake OFF "-DCMAKE_TOOLCHAIN_FILE=$room/wasi.cmake"
+}
+# Here also as a part of the program's own build.
+linux_by_cmake() {
+    by_cmake OFF
+    by_cmake ON
+    cmake -S "$room/program" -B "$room/part" -DCMAKE_BUILD_TYPE=Debug "-DPART=$PWD" -DPKCS1_CODE=c
+    runs "$room/part"
+}
+for_windows() {
+    make check OUT="$room/windows" CROSS=x86_64-w64-mingw32- RUN=wine
+}
+for_wasi() {
+    make check OUT="$room/wasi" CC="${wasi[*]}" AR=llvm-ar RUN="${node[*]}"
+}
+# without_library OPTION..: each kind of call in a program that has the four functions and nothing else of C.
+without_library() {
+    clang "$@" -std=c99 -Wall -Wextra -Werror -O2 -ffreestanding "-I$room/few" -Iffi/include -c "$room/pkcs1_all.c" \
+        -o "$room/free.o"
+    clang "$@" -std=c99 -O2 -ffreestanding "-I$room/few" -Iffi/include -c ffi/c/freestanding.c -o "$room/program.o"
+}
+on_arm() {
+    without_library --target=arm-linux-gnueabihf -mthumb
+    arm-linux-gnueabihf-gcc -nostdlib -static "$room"/{program,free}.o -lgcc -o "$room/on_arm"
+    qemu-arm "$room/on_arm" || stop "the check in line $? of ffi/c/freestanding.c fails"
+}
+on_wasm() {
+    without_library --target=wasm32-unknown-unknown
+    wasm-ld --no-entry --export=tested "$room"/{program,free}.o -o "$room/on.wasm"
+    node -e 'WebAssembly.instantiate(require("fs").readFileSync(process.argv[1])).then(
+        (it) => { process.exitCode = it.instance.exports.tested() === 0 ? 0 : 1; })' "$room/on.wasm"
+}
+alone() {
+    local it
+    for it in $compiled; do
+        clang "--target=$it" -std=c99 -Wall -Wextra -Werror -ffreestanding "-I$room/few" -Iffi/include \
+            -c "$room/pkcs1_all.c" -o "$room/alone.o"
+    done
+}
+
+make amalgamation OUT="$room" > "$room/log"
+mkdir "$room/few" "$room/program"
+cat > "$room/few/string.h" << 'END'
+#include <stddef.h>
+void *memcpy(void *to, const void *from, size_t len);
+void *memmove(void *to, const void *from, size_t len);
+void *memset(void *to, int octet, size_t len);
+int memcmp(const void *left, const void *right, size_t len);
+END
+echo '_Noreturn void abort(void);' > "$room/few/stdlib.h"
+cat > "$room/program/CMakeLists.txt" << END
+cmake_minimum_required(VERSION 3.14)
+project(program C)
+if(PART)
+    add_subdirectory(\${PART} pkcs1)
+else()
+    find_package(pkcs1 0.8 REQUIRED)
+endif()
+add_executable(program $PWD/ffi/c/modulus.c)
+target_link_libraries(program pkcs1::pkcs1)
+enable_testing()
+add_test(NAME program COMMAND program $room/key.der)
+END
+printf '\060\010\002\003\000\301\177\002\001\003' > "$room/key.der"
+cat > "$room/wasi.cmake" << END
+set(CMAKE_SYSTEM_NAME Generic)
+set(CMAKE_C_COMPILER clang)
+set(CMAKE_C_COMPILER_TARGET wasm32-wasi)
+set(CMAKE_C_FLAGS_INIT "${wasi[*]:2}")
+set(CMAKE_AR llvm-ar)
+set(CMAKE_RANLIB llvm-ranlib)
+set(CMAKE_CROSSCOMPILING_EMULATOR "${node[0]};${node[1]};${node[2]}")
+END
+
+step "one file, by tcc" tcc -- by_tcc
+step "one file, compiled for $(wc -w <<< "$compiled") platforms" clang -- alone
+step "one file, without a C library, on 32-bit Arm" clang arm-linux-gnueabihf-gcc qemu-arm -- on_arm
+step "one file, without a C library, on WebAssembly" clang wasm-ld node -- on_wasm
+step "Windows, by make and mingw" x86_64-w64-mingw32-gcc wine -- for_windows
+step "Windows, as one file in MSVC's dialect" clang x86_64-w64-mingw32-gcc wine -- in_dialect
+step "Windows, by CMake and mingw" cmake x86_64-w64-mingw32-gcc wine -- windows_by_cmake
+step "WASI, by make" clang wasm-ld llvm-ar /usr/include/wasm32-wasi node -- for_wasi
+step "WASI, by CMake" cmake clang wasm-ld llvm-ar /usr/include/wasm32-wasi node -- wasi_by_cmake
+step "Linux, by CMake" cmake -- linux_by_cmake
+echo "other platforms: all that is installed works, after $SECONDS s"
