@@ -125,7 +125,6 @@ impl<'a, M: Memory, O: ReadParams<'a>> DecodeValue<&'a [u8], M> for OaepParamsOf
         quick_short(bytes, tag)
     }
 
-    #[inline(always)]
     fn quick_value(_memory: M, contents: &'a [u8]) -> Option<OaepParamsOf<O, AnyRef<'a>>> {
         let view = quick_oaep(contents, false)?;
         Some(O::oaep_from_view(view))

@@ -4,8 +4,8 @@ use crate::rattle_std::prelude::{HostRuntime, String, format};
 use crate::tool::pkcs1_tool::tests::checks::{equal, holds};
 use crate::proved::der_core::{Document, Error, ErrorKind, SecretDocument, Tag};
 use crate::proved::pkcs1::{
-    ALGORITHM_OID, Mgf1, PSpecified, RsaOaepParamsRef, RsaPssParamsRef, Sha1, Sha224, Sha256,
-    Sha384, Sha512, Sha512_224, Sha512_256,
+    ALGORITHM_OID, Mgf1, PSpecified, RsaOaepParamsRef, RsaPssParamsRef, RsaesOaep, RsassaPss, Sha1,
+    Sha224, Sha256, Sha384, Sha512, Sha512_224, Sha512_256,
 };
 use crate::proved::spki_core::AssociatedOid;
 use crate::rattle_std::alloc::Global;
@@ -25,6 +25,7 @@ fn constants_are_what_their_functions_return() { let rt = HostRuntime;
     holds(&rt, is_alike::<Sha512>() && is_alike::<Sha512_224>());
     holds(&rt, is_alike::<Sha512_256>() && is_alike::<Mgf1>());
     holds(&rt, is_alike::<PSpecified>());
+    holds(&rt, is_alike::<RsassaPss>() && is_alike::<RsaesOaep>());
     equal(&rt, ALGORITHM_OID, crate::proved::pkcs1::rsa_encryption_oid().as_bytes());
 }
 
