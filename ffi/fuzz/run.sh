@@ -1,9 +1,8 @@
 #!/usr/bin/env bash
-# run.sh [SECONDS [OUT]]: watches the proved calls in what `make` left in OUT, under the calls of pkcs1.h: each time that
-# one is called, each clause of ffi/proof/pkcs1.acsl.h is looked at, beside a second reader and writer. The C tests are
-# run, then the decoders are fuzzed for so long, a minute unless said, from the rows of ffi/tests/statuses and the keys
-# in ffi/tests/keys. It needs clang with libFuzzer, and python3. With 0 seconds the rows and keys are tried alone.
-# ACSL: other contracts, which are looked at instead.
+# run.sh [SECONDS [OUT]]: watches the proved calls in what `make` left in OUT, under the calls of pkcs1.h: each time
+# that one is called, each clause of ffi/proof/pkcs1.acsl.h is looked at, beside a second reader and writer. The C tests
+# are run, then the decoders are fuzzed for so long, a minute unless said, from the rows of ffi/tests/statuses and the
+# keys in ffi/tests/keys. It needs clang with libFuzzer, and python3. With 0 seconds the rows and keys are tried alone.
 set -eu
 cd "$(dirname "$0")/../.."
 seconds=${1:-60} out=${2:-out}
@@ -12,7 +11,8 @@ trap 'rm -rf "$room"' EXIT
 mkdir "$room/rows" "$room/found"
 python3 - "$room/rows" << 'END'
 import glob, re, sys
-kinds = re.findall(r'"([a-z0-9-]+)"', re.search(r"kinds\[KINDS\] = \{(.*?)\}", open("ffi/fuzz/reference.c").read(), re.S)[1])
+reader = open("ffi/fuzz/reference.c").read()
+kinds = re.findall(r'"([a-z0-9-]+)"', re.search(r"kinds\[KINDS\] = \{(.*?)\}", reader, re.S)[1])
 rows = [line.split()[:2] for line in open("ffi/tests/statuses") if line[0] not in "#\n"]
 inputs = [(kinds.index(kind), b"" if der == "-" else bytes.fromhex(der)) for kind, der in rows]
 for path in glob.glob("ffi/tests/keys/*.der"):
@@ -20,7 +20,7 @@ for path in glob.glob("ffi/tests/keys/*.der"):
 for i, (kind, der) in enumerate(inputs):
     open(f"{sys.argv[1]}/{i}", "wb").write(bytes([kind]) + der)
 END
-ffi/seam/seam.py "${ACSL:-ffi/proof/pkcs1.acsl.h}" ffi/include/pkcs1.h > "$room/seam.c"
+ffi/seam/seam.py ffi/proof/pkcs1.acsl.h ffi/include/pkcs1.h > "$room/seam.c"
 mapfile -t wraps < <(sed -n 's/^[a-z0-9_]* __real_\(pkcs1_c_[a-z_]*\)(.*;$/-Wl,--wrap=\1/p' "$room/seam.c")
 # build PROGRAM FLAG.. SOURCE..: links it with the proved calls, which are watched.
 build() {
@@ -32,14 +32,16 @@ build() {
 build test address,undefined ffi/c/{test,large}.c &
 build fuzz fuzzer,address,undefined ffi/fuzz/fuzz.c
 wait $!
-"$room/test" ffi/tests/statuses > "$room/log" 2>&1 || {
-    tail -n 40 "$room/log" >&2
-    exit 1
+# try COMMAND..: shows the end of what it says if it fails.
+try() {
+    "$@" > "$room/log" 2>&1 || {
+        tail -n 40 "$room/log" >&2
+        exit 1
+    }
 }
+try "$room/test" ffi/tests/statuses
 limits=(-max_total_time="$seconds")
 [ "$seconds" != 0 ] || limits=(-runs=0)
-"$room/fuzz" "${limits[@]}" -max_len=2000 -artifact_prefix="$room/found/" "$room/found" "$room/rows" > "$room/log" 2>&1 || {
-    tail -n 40 "$room/log" >&2
-    exit 1
-}
-echo "fuzz: $(ls "$room/rows" | wc -l) rows and keys, $(sed -n 's/^Done \([0-9]*\) runs.*/\1 runs/p' "$room/log"), as the reference reads them"
+try "$room/fuzz" "${limits[@]}" -max_len=2000 -artifact_prefix="$room/found/" "$room/found" "$room/rows"
+runs=$(sed -n 's/^Done \([0-9]*\) runs.*/\1/p' "$room/log")
+echo "fuzz: the C tests, $(ls "$room/rows" | wc -l) rows and keys, and $runs runs, as contracts and reference say"

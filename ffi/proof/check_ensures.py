@@ -1,7 +1,7 @@
 #!/usr/bin/env python3
-"""Compares what ffi/proof/pkcs1.acsl.h promises of each proved call with the clauses of its Rattle function: each clause
-is named as the Rattle clause that says the same, and that one has the words for what it says. What differs is printed;
-the status is 1 then.
+"""Compares what ffi/proof/pkcs1.acsl.h promises of each proved call with the clauses of its Rattle function: each
+clause is named as the Rattle clause that says the same, and that one has the words for what it says. What differs is
+printed; the status is 1 then.
 
     check_ensures.py [ACSL]     ACSL: other contracts"""
 import glob
@@ -18,11 +18,13 @@ EXPORT = r'#\[unsafe\(no_mangle\)\]\s*pub extern "C" fn (\w+)(?:<[^>]*>)?\(.*?\)
 NOT_IN_RATTLE = {"types", "in", "key_in", "placed_in", "part"}
 # What says in Rattle what a word of ACSL does. Of `unchanged` it's the place in front of the call.
 SAYS = {
-    "status_of": "IsStatusOf", "write_status": "IsErrorOf", "written_len": "IsLength|Encodes", "written_octet": "Encodes",
+    "status_of": "IsStatusOf", "write_status": "IsErrorOf", "written_len": "IsLength|Encodes",
+    "written_octet": "Encodes",
     "public_key_of": "Holds key.new", "private_key_of": "DecodesPrivate", "listed_of": "DecodesPrivate",
     "count_of": "DecodesPrivate|ArePlaced", "lists_primes": "DecodesPrivate|primes_encoded", "other_of": "ArePlaced",
     "info_of": "private_key_info info.new", "pss_of": "pss_seen params.new", "oaep_of": "oaep_seen params.new",
-    "tidy_info": "InfoIsTidy", "tidy_pss": "PssIsTidy", "tidy_oaep": "OaepIsTidy", "bit_len_of": "number_from_digits",
+    "tidy_info": "InfoIsTidy", "tidy_pss": "PssIsTidy", "tidy_oaep": "OaepIsTidy", "made_bytes": "p_source.parameters",
+    "bit_len_of": "number_from_digits",
     "is_hash": "IsHash", "uses_hash": "UsesHash", "has_label": "LabelOf", "text_of": "status_text status",
     "version_text": "codes", "PRIVATE_KEY": "PrivateKeyEncoding|DecodesPrivate|rsa_private_key|PrivateKeyError",
     "PRIVATE_KEY_INFO": "ContainerEncoding|DecodesPrivate|rsa_private_key_info|InfoError",

@@ -1,7 +1,7 @@
 """Reads the contracts of ffi/proof/pkcs1.acsl.h: what is defined there, and the clauses of each call.
 
-An expression is a tuple, whose first element says what it is. A location is an expression too: a `range` may stand in it
-where an index or an offset does."""
+An expression is a tuple, whose first element says what it is. A location is an expression too: a `range` may stand in
+it where an index or an offset does."""
 import re
 import subprocess
 from collections import namedtuple

@@ -1,6 +1,6 @@
 /* What the words of ffi/proof/pkcs1.acsl.h mean of which nothing else is known there. What is read is what the proved
- * call reads of a copy of the octets that lies elsewhere, in another struct, with the places that it points to moved back.
- * It must be what the second reader reads. What is written is what the second writer writes. */
+ * call reads of a copy of the octets that lies elsewhere, in another struct, with the places that it points to moved
+ * back. It must be what the second reader reads. What is written is what the second writer writes. */
 #include "reference.h"
 #include "terms.h"
 

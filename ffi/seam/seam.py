@@ -3,14 +3,14 @@
 
     seam.py ACSL PKCS1_H > seam.c
 
-A call goes through __wrap_NAME, as the linker's --wrap has it. That looks whether what is required holds, and whether it
-fails of what the types forbid: a null pointer, a flag of 2, places that overlap. It calls, and then looks at what may be
-assigned, and at each clause. The axioms are tried over the few octets, primes and numbers that terms.c has. What nothing
-else is said of in ACSL has a body in terms.c: it's computed by a second reader and writer."""
+A call goes through __wrap_NAME, as the linker's --wrap has it. That looks whether what is required holds, and whether
+it fails of what the types forbid: a null pointer, a flag of 2, places that overlap. It calls, and then looks at what
+may be assigned, and at each clause. The axioms are tried over the few octets, primes and numbers that terms.c has. What
+nothing else is said of in ACSL has a body in meaning.c: it's computed by a second reader and writer."""
 import sys
 
 import acsl
-from spoil import spoils
+from spoil import length_of, spoils
 from to_c import Text, conjuncts, in_c, read_structs
 
 MANY = 40  # of how many calls of each function it's looked at what is forbidden
@@ -61,10 +61,10 @@ def axiom(function, named, structs):
             f"        HOLDS(\"axiom {function.name}\", {text.truth(body)});\n    {'}' * len(loops)}\n}}\n")
 
 
-def size_of(name, kind, params):
+def size_of(name, params):
     """How many octets a parameter points to."""
-    lengths = [it for _, it in params if it in (f"{name}_len", f"{name}_room") or (name, it) == ("out", "room")]
-    return f"{lengths[0]} * sizeof *{name}" if lengths else f"sizeof *{name}"
+    length = length_of(name, params)
+    return f"{length} * sizeof *{name}" if length else f"sizeof *{name}"
 
 
 def assigned(call, text):
@@ -102,12 +102,11 @@ def wrapper(call, named, structs):
              f"        spoils = true;\n        begin_call(\"{call.name}\");\n        spoil_{call.name}({passed});",
              f"        spoils = false;\n    }}\n    begin_call(\"{call.name}\");",
              f"    HOLDS(\"requires\", requires_{call.name}({passed}));"]
-    lines += [f"    const {kind.removeprefix('const ')}before_{name} = copy({name}, {size_of(name, kind, call.params)});"
-              for name, kind in pointers]
+    lines += [f"    const {kind}before_{name} = copy({name}, {size_of(name, call.params)});" for name, kind in pointers]
     lines += [f"    {in_c(kind)} {name} = {it};" for it, (name, kind) in text.old.items()]
     lines.append(f"    {f'{result} result = ' if result != 'void' else ''}__real_{call.name}({passed});")
     lines += [f"    unchanged(\"{name}\", {name}, before_{name}, {places.get(name, '0')}, "
-              f"{size_of(name, kind, call.params)});" for name, kind in pointers]
+              f"{size_of(name, call.params)});" for name, _ in pointers]
     lines += [f"    HOLDS(\"{name}\", {it});" for name, it in ensures]
     lines += ["    end_call();", *(["    return result;"] if result != "void" else []), "}"]
     return "\n".join(lines) + "\n"

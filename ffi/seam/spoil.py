@@ -1,5 +1,5 @@
-"""What the types of a call forbid, and so what is required must fail of: each case is tried on copies of what was passed.
-That the copies alone are allowed is looked at too."""
+"""What the types of a call forbid, and so what is required must fail of: each case is tried on copies of what was
+passed. That the copies alone are allowed is looked at too."""
 
 
 def leaves(kind, structs, path=""):
@@ -11,7 +11,8 @@ def leaves(kind, structs, path=""):
 
 
 def length_of(name, params):
-    return next((it for _, it in params if it in (f"{name}_len", f"{name}_room") or (name, it) == ("out", "room")), None)
+    lengths = (f"{name}_len", f"{name}_room", "room" if name == "out" else None)
+    return next((it for _, it in params if it in lengths), None)
 
 
 def passed(params, changed):
@@ -44,8 +45,9 @@ class Cases:
         for mutable in self.places:
             for kind, name in pointers:
                 if name != mutable:
-                    lengths = {it: "1" for it in map(lambda it: length_of(it, self.call.params), (name, mutable)) if it}
-                    self.refuses(f"{name} is {mutable}", {name: f"(const {kind})(const void *){mutable}", **lengths}, "apart")
+                    lengths = [length_of(it, self.call.params) for it in (name, mutable)]
+                    changed = {name: f"(const {kind})(const void *){mutable}", **{it: "1" for it in lengths if it}}
+                    self.refuses(f"{name} is {mutable}", changed, "apart")
 
     def of_struct(self, kind, name):
         """A struct, or an array with one of them, whose parts are spoiled in turn."""

@@ -1,5 +1,5 @@
-"""Says expressions of ACSL in C. An array that is read is touched, so that a sanitizer sees it. Arithmetic has no limits
-that are met. Old octets are those of a copy, other old values are computed before the call."""
+"""Says expressions of ACSL in C. An array that is read is touched, so that a sanitizer sees it. Arithmetic has no
+limits that are met. Old octets are those of a copy, other old values are computed before the call."""
 import re
 
 ARITHMETIC = ("integer", "size_t", "uint8_t", "uint32_t", "uint64_t", "int", "bool")

@@ -147,10 +147,11 @@ pub extern "C" fn pkcs1_c_oaep_is(params: &OaepParams<'_>, oid: &[u8]) -> bool
     uses_hash(&params.hash, &params.mask_gen, oid)
 }
 
-/// Whether there is a label, with its octets in `label`: the source is pSpecified with an OCTET STRING.
+/// Whether there is a label: the source is pSpecified with an OCTET STRING. Then `label` is the slice of its octets.
 #[unsafe(no_mangle)]
 pub extern "C" fn pkcs1_c_oaep_label<'a>(params: &OaepParams<'a>, label: &mut Bytes<'a>) -> bool
-    ensures label { result ≡ true → LabelOf (oaep_seen params.now).p_source (Some label.new.octets.now) }
+    ensures label { result ≡ true → LabelOf (oaep_seen params.now).p_source (Some label.new.octets.now)
+        × (label.new.octets ≡ params.now.p_source.parameters) }
     ensures none { result ≡ false → LabelOf (oaep_seen params.now).p_source None }
     ensures unchanged { result ≡ false → label.new ≡ label.old }
 {
