@@ -18740,15 +18740,14 @@
 	stp	x24, x23, [sp, #48]
 	stp	x22, x21, [sp, #64]
 	stp	x20, x19, [sp, #80]
-	sub	sp, sp, #1520
+	sub	sp, sp, #1504
 	movi	v0.2d, #0000000000000000
 	mov	x19, x0
-	add	x27, sp, #288
-	add	x8, sp, #16
-	add	x28, sp, #528
+	add	x27, sp, #272
+	add	x28, sp, #512
 	cmp	x2, #1
-	add	x24, sp, #896
-	add	x25, sp, #720
+	add	x25, sp, #1216
+	add	x24, sp, #704
 	str	xzr, [sp]
 	.cfi_def_cfa w29, 96
 	.cfi_offset w19, -8
@@ -18764,25 +18763,25 @@
 	.cfi_offset w30, -88
 	.cfi_offset w29, -96
 	stur	xzr, [x27, #223]
-	stp	q0, q0, [sp, #288]
-	stp	q0, q0, [sp, #336]
-	stp	q0, q0, [sp, #384]
-	stp	q0, q0, [sp, #432]
-	stp	q0, q0, [sp, #480]
+	stp	q0, q0, [sp, #272]
+	stp	q0, q0, [sp, #320]
+	stp	q0, q0, [sp, #368]
+	stp	q0, q0, [sp, #416]
+	stp	q0, q0, [sp, #464]
 	stur	xzr, [x27, #175]
 	stur	xzr, [x27, #127]
 	stur	xzr, [x27, #79]
 	stur	q0, [x27, #26]
-	stur	xzr, [x8, #255]
-	stp	q0, q0, [sp, #240]
-	stur	xzr, [sp, #223]
-	stp	q0, q0, [sp, #192]
-	stur	xzr, [sp, #175]
-	stp	q0, q0, [sp, #144]
-	stp	q0, q0, [sp, #528]
-	stp	q0, q0, [sp, #576]
-	stp	q0, q0, [sp, #624]
-	stp	q0, q0, [sp, #672]
+	stur	xzr, [sp, #255]
+	stp	q0, q0, [sp, #224]
+	stur	xzr, [sp, #207]
+	stp	q0, q0, [sp, #176]
+	stur	xzr, [sp, #159]
+	stp	q0, q0, [sp, #128]
+	stp	q0, q0, [sp, #512]
+	stp	q0, q0, [sp, #560]
+	stp	q0, q0, [sp, #608]
+	stp	q0, q0, [sp, #656]
 	stur	xzr, [x28, #175]
 	stur	xzr, [x28, #127]
 	stur	xzr, [x28, #79]
@@ -18823,354 +18822,358 @@
 	mov	x1, x21
 	cbz	w0, .LBB35_13
 	mov	x8, x1
-	str	xzr, [sp, #88]
+	str	xzr, [sp, #72]
 	add	x1, x1, #8
 	add	x9, x8, #19
 	add	x26, x8, #25
-	mov	w20, #1
-	stp	xzr, x9, [sp, #72]
+	adrp	x23, .Lstatic.54
+	add	x23, x23, :lo12:.Lstatic.54
+	stp	xzr, x9, [sp, #56]
 	add	x9, x8, #38
-	mov	w2, #9
-	str	x9, [sp, #8]
+	str	x9, [sp]
 	add	x9, x8, #49
 	mov	w8, #1
-	str	x8, [sp, #64]
-	adrp	x8, .Lstatic.54
-	add	x8, x8, :lo12:.Lstatic.54
-	str	x8, [sp, #16]
+	str	x8, [sp, #48]
 	adrp	x8, .Lstatic.2
 	add	x8, x8, :lo12:.Lstatic.2
-	str	x8, [sp, #40]
-	mov	w8, #5
-	stp	x8, xzr, [sp, #112]
-	mov	w8, #9
-	str	x8, [sp, #32]
-	mov	w8, #4
 	str	x8, [sp, #24]
-	mov	w8, #1
-	stp	x8, x9, [sp, #96]
-	mov	w8, #9
-	str	x8, [sp, #128]
-	mov	w8, #9
-	str	x8, [sp, #136]
 	mov	w8, #5
-	str	x8, [sp, #48]
+	mov	w20, #1
+	stp	x8, xzr, [sp, #96]
+	mov	w8, #9
+	mov	w2, #9
+	str	x8, [sp, #16]
+	mov	w8, #4
+	str	x8, [sp, #8]
 	mov	w8, #1
-	str	x8, [sp, #56]
+	stp	x8, x9, [sp, #80]
+	mov	w8, #9
+	str	x8, [sp, #112]
+	mov	w8, #9
+	str	x8, [sp, #120]
+	mov	w8, #5
+	str	x8, [sp, #32]
+	mov	w8, #1
+	str	x8, [sp, #40]
 	b	.LBB35_18
 .LBB35_11:
 	lsr	x8, x2, #32
-	stp	q0, q0, [sp, #736]
-	stp	q0, q0, [sp, #768]
-	stp	q0, q0, [sp, #800]
-	stp	q0, q0, [sp, #832]
-	stp	q0, q0, [sp, #864]
-	str	q0, [sp, #720]
+	stp	q0, q0, [sp, #720]
+	stp	q0, q0, [sp, #752]
+	stp	q0, q0, [sp, #784]
+	stp	q0, q0, [sp, #816]
+	stp	q0, q0, [sp, #848]
+	str	q0, [sp, #704]
 	cbnz	x8, .LBB35_25
 	ldrsb	x8, [x1, #1]
 	tbz	x8, #63, .LBB35_14
 	b	.LBB35_25
 .LBB35_13:
 	movi	v0.2d, #0000000000000000
-	stp	q0, q0, [sp, #736]
-	stp	q0, q0, [sp, #768]
-	stp	q0, q0, [sp, #800]
-	stp	q0, q0, [sp, #832]
-	stp	q0, q0, [sp, #864]
-	str	q0, [sp, #720]
+	stp	q0, q0, [sp, #720]
+	stp	q0, q0, [sp, #752]
+	stp	q0, q0, [sp, #784]
+	stp	q0, q0, [sp, #816]
+	stp	q0, q0, [sp, #848]
+	str	q0, [sp, #704]
 	ldrsb	x8, [x1, #1]
 	tbnz	x8, #63, .LBB35_25
 .LBB35_14:
 	cmp	x20, x8
 	b.ne	.LBB35_25
 	mov	x21, x2
-	add	x0, sp, #896
+	sub	x0, x29, #192
 	mov	x22, x1
 	add	x1, x1, #2
 	mov	x2, x20
 	mov	w3, wzr
 	bl	"pkcs1_params::quick::quick_oaep"
-	ldrb	w8, [sp, #896]
+	ldurb	w8, [x29, #-192]
 	cmp	w8, #1
 	b.ne	.LBB35_27
-	ldur	q0, [x24, #120]
-	ldur	q1, [x24, #136]
-	ldr	x8, [sp, #1064]
-	stur	q0, [x25, #120]
-	ldur	q0, [x24, #152]
-	stur	q1, [x25, #136]
-	ldur	q1, [x24, #56]
-	stur	q0, [x25, #152]
-	ldur	q0, [x24, #72]
-	stur	q1, [x25, #56]
-	ldur	q1, [x24, #88]
-	stur	q0, [x25, #72]
-	ldur	q0, [x24, #104]
-	stur	q1, [x25, #88]
-	ldur	q1, [x24, #8]
-	stur	q0, [x25, #104]
-	ldur	q0, [x24, #24]
-	stur	q1, [x25, #8]
-	stur	q0, [x25, #24]
-	ldur	q0, [x24, #40]
-	str	x8, [sp, #888]
-	stur	q0, [x25, #40]
+	ldur	q0, [x25, #216]
+	ldur	q1, [x25, #232]
+	ldur	x8, [x29, #-24]
+	stur	q0, [x24, #120]
+	ldur	q0, [x25, #248]
+	stur	q1, [x24, #136]
+	ldur	q1, [x25, #152]
+	stur	q0, [x24, #152]
+	ldur	q0, [x25, #168]
+	stur	q1, [x24, #56]
+	ldur	q1, [x25, #184]
+	stur	q0, [x24, #72]
+	ldur	q0, [x25, #200]
+	stur	q1, [x24, #88]
+	ldur	q1, [x25, #104]
+	stur	q0, [x24, #104]
+	ldur	q0, [x25, #120]
+	stur	q1, [x24, #8]
+	stur	q0, [x24, #24]
+	ldur	q0, [x25, #136]
+	str	x8, [sp, #872]
+	stur	q0, [x24, #40]
 .LBB35_17:
-	ldr	x9, [sp, #800]
-	ldrb	w8, [sp, #744]
-	ldr	x1, [sp, #728]
-	ldr	x2, [sp, #736]
-	ldr	x26, [sp, #776]
-	str	x9, [sp, #8]
-	ldr	x9, [sp, #808]
-	str	x8, [sp, #56]
-	ldr	x8, [sp, #752]
-	str	x9, [sp, #128]
-	ldrb	w9, [sp, #816]
-	str	x8, [sp, #48]
-	ldr	x8, [sp, #760]
-	str	x9, [sp, #96]
-	ldr	x9, [sp, #824]
-	str	x8, [sp, #80]
-	ldr	x8, [sp, #768]
+	ldr	x9, [sp, #784]
+	ldrb	w8, [sp, #728]
+	ldr	x1, [sp, #712]
+	ldr	x2, [sp, #720]
+	ldr	x26, [sp, #760]
+	ldr	x23, [sp, #832]
+	str	x9, [sp]
+	ldr	x9, [sp, #792]
+	str	x8, [sp, #40]
+	ldr	x8, [sp, #736]
 	str	x9, [sp, #112]
-	ldr	x9, [sp, #832]
-	str	x8, [sp, #88]
-	ldr	x8, [sp, #784]
+	ldrb	w9, [sp, #800]
+	str	x8, [sp, #32]
+	ldr	x8, [sp, #744]
+	str	x9, [sp, #80]
+	ldr	x9, [sp, #808]
+	str	x8, [sp, #64]
+	ldr	x8, [sp, #752]
+	str	x9, [sp, #96]
+	ldr	x9, [sp, #816]
+	str	x8, [sp, #72]
+	ldr	x8, [sp, #768]
+	str	x9, [sp, #88]
+	ldr	x9, [sp, #824]
+	str	x8, [sp, #120]
+	ldr	x8, [sp, #776]
 	str	x9, [sp, #104]
 	ldr	x9, [sp, #840]
-	str	x8, [sp, #136]
-	ldr	x8, [sp, #792]
-	str	x9, [sp, #120]
-	ldr	x9, [sp, #848]
 	and	w20, w8, #0xff
 	str	x9, [sp, #16]
+	ldrb	w9, [sp, #848]
+	str	x9, [sp, #48]
 	ldr	x9, [sp, #856]
-	str	x9, [sp, #32]
-	ldrb	w9, [sp, #864]
-	str	x9, [sp, #64]
-	ldr	x9, [sp, #872]
+	str	x9, [sp, #8]
+	ldr	x9, [sp, #864]
 	str	x9, [sp, #24]
-	ldr	x9, [sp, #880]
-	str	x9, [sp, #40]
-	ldr	x9, [sp, #888]
-	str	x9, [sp, #72]
+	ldr	x9, [sp, #872]
+	str	x9, [sp, #56]
 .LBB35_18:
 	movi	v0.2d, #0000000000000000
-	add	x21, sp, #1168
-	sub	x22, x29, #112
-	add	x0, sp, #896
-	stur	xzr, [x22, #31]
-	mov	x23, x2
-	stur	xzr, [x22, #79]
+	add	x21, sp, #976
+	sub	x0, x29, #192
 	stur	xzr, [x25, #31]
-	str	q0, [sp, #1216]
-	str	q0, [sp, #1232]
+	mov	x22, x2
+	stur	xzr, [x25, #79]
+	stur	xzr, [x24, #31]
+	str	q0, [sp, #1024]
+	str	q0, [sp, #1040]
 	stur	xzr, [x21, #79]
+	stp	q0, q0, [sp, #880]
+	stp	q0, q0, [sp, #928]
+	stp	q0, q0, [sp, #976]
+	stur	xzr, [x21, #31]
+	stur	xzr, [x24, #255]
+	stur	xzr, [x24, #207]
+	str	q0, [sp, #1232]
+	str	q0, [sp, #1216]
+	stp	q0, q0, [x29, #-240]
+	stp	q0, q0, [sp, #704]
+	stur	xzr, [x25, #127]
+	stp	q0, q0, [x29, #-192]
+	bl	memcpy
+	ldp	q1, q0, [x29, #-192]
+	sub	x0, x29, #192
+	ldur	x8, [x25, #127]
+	ldr	x2, [sp, #120]
+	mov	x1, x26
+	stur	xzr, [x25, #127]
+	stur	x8, [x24, #31]
+	stp	q1, q0, [sp, #704]
+	ldur	x8, [x24, #31]
+	ldr	q0, [sp, #720]
+	stur	xzr, [x24, #31]
+	stur	x8, [x25, #79]
+	stp	q1, q0, [x29, #-240]
+	ldp	q2, q0, [x29, #-240]
+	ldur	x8, [x25, #79]
+	stur	x8, [x25, #31]
+	str	q0, [sp, #1232]
+	ldur	x8, [x25, #31]
+	ldr	q0, [sp, #1232]
+	str	q2, [sp, #1216]
+	ldr	q1, [sp, #1216]
+	stur	x8, [x21, #79]
+	str	q0, [sp, #1040]
+	movi	v0.2d, #0000000000000000
+	str	q1, [sp, #1024]
 	str	q0, [sp, #1168]
 	str	q0, [sp, #1184]
-	stur	xzr, [x21, #31]
+	stur	xzr, [x21, #223]
 	str	q0, [sp, #1120]
 	str	q0, [sp, #1136]
-	stur	xzr, [x24, #255]
+	stur	xzr, [x21, #175]
 	str	q0, [sp, #1072]
 	str	q0, [sp, #1088]
-	stur	xzr, [x24, #207]
-	stp	q0, q0, [x29, #-112]
-	stp	q0, q0, [x29, #-64]
-	stp	q0, q0, [sp, #720]
-	stur	xzr, [x24, #31]
-	stp	q0, q0, [sp, #896]
-	bl	memcpy
-	ldp	q1, q0, [sp, #896]
-	add	x0, sp, #896
-	ldur	x8, [x24, #31]
-	ldr	x2, [sp, #136]
-	mov	x1, x26
-	stur	xzr, [x24, #31]
-	stur	x8, [x25, #31]
-	stp	q1, q0, [sp, #720]
-	ldur	x8, [x25, #31]
-	ldr	q0, [sp, #736]
-	stur	xzr, [x25, #31]
-	stur	x8, [x22, #79]
-	stp	q1, q0, [x29, #-64]
-	ldp	q2, q0, [x29, #-64]
-	ldur	x8, [x22, #79]
-	stur	x8, [x22, #31]
-	stp	q2, q0, [x29, #-112]
-	ldp	q1, q0, [x29, #-112]
-	ldur	x8, [x22, #31]
-	stur	x8, [x21, #79]
-	str	q0, [sp, #1232]
-	movi	v0.2d, #0000000000000000
-	str	q1, [sp, #1216]
-	stp	q0, q0, [x29, #-256]
-	stp	q0, q0, [x29, #-208]
-	stp	q0, q0, [x29, #-160]
-	stur	xzr, [x21, #223]
-	stur	xzr, [x21, #175]
 	stur	xzr, [x21, #127]
-	stp	q0, q0, [sp, #720]
-	stp	q0, q0, [sp, #896]
+	stp	q0, q0, [sp, #704]
+	stp	q0, q0, [x29, #-192]
 	bl	memcpy
-	ldp	q1, q0, [sp, #896]
+	ldp	q1, q0, [x29, #-192]
 	cmp	w20, #1
+	ldur	x8, [x25, #127]
+	stur	x8, [x24, #31]
+	str	q0, [sp, #720]
+	ldr	q0, [sp, #720]
 	ldur	x8, [x24, #31]
-	stur	x8, [x25, #31]
-	str	q0, [sp, #736]
-	ldr	q0, [sp, #736]
-	ldur	x8, [x25, #31]
-	stp	q1, q0, [x29, #-160]
+	str	q1, [sp, #1168]
+	str	q0, [sp, #1184]
 	stur	x8, [x21, #223]
 	b.ne	.LBB35_20
 	movi	v0.2d, #0000000000000000
-	ldr	x1, [sp, #8]
-	ldr	x2, [sp, #128]
-	add	x0, sp, #896
-	stur	xzr, [x22, #31]
-	stur	xzr, [x22, #79]
+	ldr	x1, [sp]
+	ldr	x2, [sp, #112]
+	sub	x0, x29, #192
 	stur	xzr, [x25, #31]
-	stp	q0, q0, [x29, #-112]
-	stp	q0, q0, [x29, #-64]
-	stp	q0, q0, [sp, #720]
+	stur	xzr, [x25, #79]
 	stur	xzr, [x24, #31]
-	stp	q0, q0, [sp, #896]
+	str	q0, [sp, #1232]
+	str	q0, [sp, #1216]
+	stp	q0, q0, [x29, #-240]
+	stp	q0, q0, [sp, #704]
+	stur	xzr, [x25, #127]
+	stp	q0, q0, [x29, #-192]
 	bl	memcpy
-	ldp	q1, q0, [sp, #896]
+	ldp	q1, q0, [x29, #-192]
+	ldur	x8, [x25, #127]
+	stur	x8, [x24, #31]
+	stp	q1, q0, [sp, #704]
 	ldur	x8, [x24, #31]
+	ldr	q0, [sp, #720]
+	stur	x8, [x25, #79]
+	stp	q1, q0, [x29, #-240]
+	ldp	q2, q0, [x29, #-240]
+	ldur	x8, [x25, #79]
 	stur	x8, [x25, #31]
-	stp	q1, q0, [sp, #720]
+	str	q0, [sp, #1232]
+	str	q2, [sp, #1216]
 	ldur	x8, [x25, #31]
-	ldr	q0, [sp, #736]
-	stur	x8, [x22, #79]
-	stp	q1, q0, [x29, #-64]
-	ldp	q2, q0, [x29, #-64]
-	ldur	x8, [x22, #79]
-	stur	x8, [x22, #31]
-	stp	q2, q0, [x29, #-112]
-	ldp	q2, q0, [x29, #-112]
-	ldur	x8, [x22, #31]
-	stur	x8, [x21, #127]
-	stp	q2, q0, [x29, #-256]
-	ldp	q1, q0, [x29, #-256]
-	ldur	x8, [x21, #127]
-	stur	x8, [x21, #175]
-	stp	q1, q0, [x29, #-208]
-	b	.LBB35_21
-.LBB35_20:
-	stp	xzr, xzr, [sp, #104]
-	stp	xzr, xzr, [sp, #120]
-	str	xzr, [sp, #96]
-.LBB35_21:
-	ldp	q0, q1, [x29, #-160]
-	mov	w26, w20
-	ldur	x8, [x21, #223]
-	ldr	x20, [sp, #32]
-	add	x0, sp, #896
-	ldr	x1, [sp, #16]
-	stur	xzr, [x22, #31]
-	str	q0, [sp, #1168]
-	mov	x2, x20
-	str	q1, [sp, #1184]
-	ldp	q0, q1, [x29, #-208]
-	stur	x8, [x21, #31]
-	ldur	x8, [x21, #175]
-	stur	xzr, [x22, #79]
-	str	q0, [sp, #1120]
-	movi	v0.2d, #0000000000000000
-	str	q1, [sp, #1136]
-	stur	x8, [x24, #255]
-	stur	xzr, [x25, #31]
-	stp	q0, q0, [x29, #-112]
-	stp	q0, q0, [x29, #-64]
-	stp	q0, q0, [sp, #720]
-	stur	xzr, [x24, #31]
-	stp	q0, q0, [sp, #896]
-	bl	memcpy
-	ldp	q1, q0, [sp, #896]
-	add	x9, sp, #16
-	ldur	x8, [x24, #31]
-	ldp	x11, x10, [sp, #80]
-	ldp	x15, x12, [sp, #112]
-	ldr	x0, [sp, #40]
-	stur	x8, [x25, #31]
-	ldr	x1, [sp, #24]
-	stp	q1, q0, [sp, #720]
-	ldp	x14, x13, [sp, #64]
-	ldur	x8, [x25, #31]
-	ldr	q0, [sp, #736]
-	ldp	x2, x16, [sp, #96]
-	stur	x8, [x22, #79]
-	ldp	x18, x17, [sp, #48]
-	stp	q1, q0, [x29, #-64]
-	ldur	x8, [x22, #79]
-	ldp	q2, q0, [x29, #-64]
-	stur	x8, [x22, #31]
-	stp	q2, q0, [x29, #-112]
-	ldp	q1, q0, [x29, #-112]
-	ldur	x8, [x22, #31]
-	stur	x8, [x24, #207]
-	ldur	x8, [x21, #79]
-	str	q0, [sp, #1088]
 	ldr	q0, [sp, #1232]
-	str	q1, [sp, #1072]
-	ldr	q1, [sp, #1216]
-	stur	x8, [x28, #175]
-	ldur	x8, [x21, #31]
-	stp	q1, q0, [sp, #672]
-	ldr	q0, [sp, #1184]
-	ldr	q1, [sp, #1168]
-	stur	x8, [x28, #127]
-	ldur	x8, [x24, #255]
-	stp	q1, q0, [sp, #624]
-	ldr	q0, [sp, #1136]
-	ldr	q1, [sp, #1120]
-	stur	x8, [x28, #79]
-	ldur	x8, [x24, #207]
-	stp	q1, q0, [sp, #576]
+	ldr	q2, [sp, #1216]
+	stur	x8, [x21, #127]
+	str	q0, [sp, #1088]
+	str	q2, [sp, #1072]
+	ldur	x8, [x21, #127]
 	ldr	q0, [sp, #1088]
 	ldr	q1, [sp, #1072]
+	stur	x8, [x21, #175]
+	str	q0, [sp, #1136]
+	str	q1, [sp, #1120]
+	b	.LBB35_21
+.LBB35_20:
+	stp	xzr, xzr, [sp, #88]
+	stp	xzr, xzr, [sp, #104]
+	str	xzr, [sp, #80]
+.LBB35_21:
+	ldr	q0, [sp, #1168]
+	ldr	q1, [sp, #1184]
+	mov	w26, w20
+	ldur	x8, [x21, #223]
+	ldr	x20, [sp, #16]
+	mov	x1, x23
+	stp	q0, q1, [sp, #976]
+	ldr	q0, [sp, #1120]
+	sub	x0, x29, #192
+	ldr	q1, [sp, #1136]
+	stur	x8, [x21, #31]
+	mov	x2, x20
+	ldur	x8, [x21, #175]
+	stur	xzr, [x25, #31]
+	stp	q0, q1, [sp, #928]
+	movi	v0.2d, #0000000000000000
+	stur	x8, [x24, #255]
+	stur	xzr, [x25, #79]
+	stur	xzr, [x24, #31]
+	str	q0, [sp, #1232]
+	str	q0, [sp, #1216]
+	stp	q0, q0, [x29, #-240]
+	stp	q0, q0, [sp, #704]
+	stur	xzr, [x25, #127]
+	stp	q0, q0, [x29, #-192]
+	bl	memcpy
+	ldp	q1, q0, [x29, #-192]
+	ldur	x8, [x25, #127]
+	ldp	x11, x10, [sp, #64]
+	ldr	x0, [sp, #24]
+	stur	x8, [x24, #31]
+	ldr	x1, [sp, #8]
+	stp	q1, q0, [sp, #704]
+	ldp	x15, x12, [sp, #96]
+	ldur	x8, [x24, #31]
+	ldr	q0, [sp, #720]
+	ldp	x14, x13, [sp, #48]
+	stur	x8, [x25, #79]
+	ldp	x2, x16, [sp, #80]
+	stp	q1, q0, [x29, #-240]
+	ldp	x18, x17, [sp, #32]
+	ldur	x8, [x25, #79]
+	ldp	q2, q0, [x29, #-240]
+	stur	x8, [x25, #31]
+	str	q0, [sp, #1232]
+	str	q2, [sp, #1216]
+	ldur	x8, [x25, #31]
+	ldr	q0, [sp, #1232]
+	ldr	q1, [sp, #1216]
+	stur	x8, [x24, #207]
+	ldur	x8, [x21, #79]
+	stp	q1, q0, [sp, #880]
+	ldr	q0, [sp, #1040]
+	ldr	q1, [sp, #1024]
+	stur	x8, [x28, #175]
+	ldur	x8, [x21, #31]
+	stp	q1, q0, [sp, #656]
+	ldp	q1, q0, [sp, #976]
+	stur	x8, [x28, #127]
+	ldur	x8, [x24, #255]
+	stp	q1, q0, [sp, #608]
+	ldp	q1, q0, [sp, #928]
+	stur	x8, [x28, #79]
+	ldur	x8, [x24, #207]
+	stp	q1, q0, [sp, #560]
+	ldp	q1, q0, [sp, #880]
 	stur	x8, [x28, #31]
 	ldur	x8, [x28, #175]
-	stp	q1, q0, [sp, #528]
-	ldp	q1, q0, [sp, #672]
+	stp	q1, q0, [sp, #512]
+	ldp	q1, q0, [sp, #656]
 	stur	x8, [x27, #34]
 	ldur	x8, [x28, #127]
 	stur	q0, [x27, #19]
 	stur	q1, [x27, #3]
-	ldp	q1, q0, [sp, #624]
-	stur	x8, [x9, #255]
+	ldp	q1, q0, [sp, #608]
+	stur	x8, [sp, #255]
 	ldur	x8, [x28, #79]
-	stp	q1, q0, [sp, #240]
-	ldp	q1, q0, [sp, #576]
-	stur	x8, [sp, #223]
+	stp	q1, q0, [sp, #224]
+	ldp	q1, q0, [sp, #560]
+	stur	x8, [sp, #207]
 	ldur	x8, [x28, #31]
-	stp	q1, q0, [sp, #192]
-	ldp	q1, q0, [sp, #528]
-	stur	x8, [sp, #175]
+	stp	q1, q0, [sp, #176]
+	ldp	q1, q0, [sp, #512]
+	stur	x8, [sp, #159]
 	ldur	x8, [x27, #34]
-	stp	q1, q0, [sp, #144]
+	stp	q1, q0, [sp, #128]
 	ldur	q0, [x27, #19]
 	ldur	q1, [x27, #3]
 	stur	x8, [x27, #223]
-	add	x8, sp, #16
-	stp	q1, q0, [sp, #480]
-	ldp	q1, q0, [sp, #240]
-	ldur	x8, [x8, #255]
+	ldur	x8, [sp, #255]
+	stp	q1, q0, [sp, #464]
+	ldp	q1, q0, [sp, #224]
 	stur	x8, [x27, #175]
-	ldur	x8, [sp, #223]
-	stp	q1, q0, [sp, #432]
-	ldp	q1, q0, [sp, #192]
+	ldur	x8, [sp, #207]
+	stp	q1, q0, [sp, #416]
+	ldp	q1, q0, [sp, #176]
 	stur	x8, [x27, #127]
-	ldur	x8, [sp, #175]
-	stp	q1, q0, [sp, #384]
-	ldp	q1, q0, [sp, #144]
+	ldur	x8, [sp, #159]
+	stp	q1, q0, [sp, #368]
+	ldp	q1, q0, [sp, #128]
 	stur	x8, [x27, #79]
 	mov	w8, #1
-	stp	q1, q0, [sp, #336]
+	stp	q1, q0, [sp, #320]
 .LBB35_22:
-	ldp	q0, q1, [sp, #480]
+	ldp	q0, q1, [sp, #464]
 	ldur	x9, [x27, #127]
 	str	x8, [x19]
 	ldur	x8, [x27, #175]
@@ -19178,19 +19181,19 @@
 	ldur	x9, [x27, #79]
 	stur	q0, [x19, #8]
 	stur	q1, [x19, #24]
-	ldp	q0, q1, [sp, #432]
+	ldp	q0, q1, [sp, #416]
 	stur	x9, [x19, #231]
 	ldur	x9, [x27, #223]
-	strb	w23, [x19, #47]
+	strb	w22, [x19, #47]
 	stp	q0, q1, [x19, #80]
-	ldp	q1, q0, [sp, #384]
+	ldp	q1, q0, [sp, #368]
 	stur	x8, [x19, #111]
-	ldr	x8, [sp, #136]
+	ldr	x8, [sp, #120]
 	stur	x9, [x19, #39]
 	stp	q1, q0, [x19, #128]
-	ldp	q1, q0, [sp, #336]
+	ldp	q1, q0, [sp, #320]
 	strb	w8, [x19, #119]
-	ldr	x8, [sp, #128]
+	ldr	x8, [sp, #112]
 	stp	x17, x18, [x19, #48]
 	stur	q0, [x19, #216]
 	stp	x11, x10, [x19, #64]
@@ -19202,7 +19205,7 @@
 	strb	w20, [x19, #239]
 	stp	x14, x1, [x19, #240]
 	stp	x0, x13, [x19, #256]
-	add	sp, sp, #1520
+	add	sp, sp, #1504
 	ldp	x20, x19, [sp, #80]
 	ldp	x22, x21, [sp, #64]
 	ldp	x24, x23, [sp, #48]
@@ -19214,51 +19217,49 @@
 	mov	w8, #1
 	adrp	x9, .Lstatic.2
 	add	x9, x9, :lo12:.Lstatic.2
-	stp	x8, xzr, [sp, #64]
-	adrp	x8, .Lstatic.54
-	add	x8, x8, :lo12:.Lstatic.54
-	str	x8, [sp, #16]
+	stp	x8, xzr, [sp, #48]
 	mov	w8, #5
 	adrp	x1, .Lstatic.34
 	add	x1, x1, :lo12:.Lstatic.34
-	stp	x8, xzr, [sp, #112]
+	stp	x8, xzr, [sp, #96]
 	mov	w8, #9
-	stp	x8, x9, [sp, #32]
+	stp	x8, x9, [sp, #16]
 	mov	w8, #4
 	adrp	x26, .Lstatic.35
 	add	x26, x26, :lo12:.Lstatic.35
-	str	x8, [sp, #24]
+	stp	x1, x8, [sp]
 	mov	w8, #1
-	stp	xzr, x8, [sp, #88]
+	stp	xzr, x8, [sp, #72]
+	mov	w8, #5
+	adrp	x23, .Lstatic.54
+	add	x23, x23, :lo12:.Lstatic.54
+	str	x8, [sp, #112]
+	mov	w8, #9
+	str	x8, [sp, #120]
 	mov	w8, #5
 	mov	w20, #1
-	str	x8, [sp, #128]
-	mov	w8, #9
-	mov	w2, #5
-	str	x8, [sp, #136]
-	mov	w8, #5
-	str	x8, [sp, #48]
+	str	x8, [sp, #32]
 	mov	w8, #1
-	str	x9, [sp, #104]
-	str	x9, [sp, #80]
-	str	x8, [sp, #56]
-	str	x1, [sp, #8]
+	mov	w2, #5
+	str	x9, [sp, #88]
+	str	x9, [sp, #64]
+	str	x8, [sp, #40]
 	b	.LBB35_18
 .LBB35_24:
-	stp	q0, q0, [sp, #736]
-	stp	q0, q0, [sp, #768]
-	stp	q0, q0, [sp, #800]
-	stp	q0, q0, [sp, #832]
-	stp	q0, q0, [sp, #864]
-	str	q0, [sp, #720]
+	stp	q0, q0, [sp, #720]
+	stp	q0, q0, [sp, #752]
+	stp	q0, q0, [sp, #784]
+	stp	q0, q0, [sp, #816]
+	stp	q0, q0, [sp, #848]
+	str	q0, [sp, #704]
 .LBB35_25:
-	add	x0, sp, #720
+	add	x0, sp, #704
 	bl	"der_core::decode::read_slowly::<#1334d836ffe71f34>"
-	ldrb	w8, [sp, #720]
+	ldrb	w8, [sp, #704]
 	cbz	w8, .LBB35_17
 .LBB35_26:
 	movi	v0.2d, #0000000000000000
-	mov	w23, wzr
+	mov	w22, wzr
 	mov	x17, xzr
 	mov	x18, xzr
 	mov	x11, xzr
@@ -19274,11 +19275,11 @@
 	mov	x0, xzr
 	mov	x13, xzr
 	mov	x8, xzr
-	stp	xzr, xzr, [sp, #128]
-	stp	q0, q0, [sp, #336]
-	stp	q0, q0, [sp, #384]
-	stp	q0, q0, [sp, #432]
-	stp	q0, q0, [sp, #480]
+	stp	xzr, xzr, [sp, #112]
+	stp	q0, q0, [sp, #320]
+	stp	q0, q0, [sp, #368]
+	stp	q0, q0, [sp, #416]
+	stp	q0, q0, [sp, #464]
 	stur	xzr, [x27, #223]
 	stur	xzr, [x27, #175]
 	stur	xzr, [x27, #127]
@@ -19287,9 +19288,9 @@
 .LBB35_27:
 	mov	x1, x22
 	mov	x2, x21
-	add	x0, sp, #720
+	add	x0, sp, #704
 	bl	"der_core::decode::read_slowly::<#1334d836ffe71f34>"
-	ldrb	w8, [sp, #720]
+	ldrb	w8, [sp, #704]
 	cbnz	w8, .LBB35_26
 	b	.LBB35_17
 .Lfunc_end35:
