@@ -1,6 +1,6 @@
 #!/usr/bin/env python3
 """Plants each mistake of the file `mistakes` in a copy of ffi/proof/pkcs1.acsl.h. Each must be refused: by
-ffi/proof/check_requires.py or ffi/seam/clauses.py, which read it, or by calls that are watched by what is made of it.
+ffi/proof/check_requires.py, which reads it, or by calls that are watched by what is made of it.
 Prints by which, and at which clause. The status is 1 if one passed.
 
     mistakes.py OUT     OUT: what `make` left there"""
