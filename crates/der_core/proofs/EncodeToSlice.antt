@@ -1,7 +1,7 @@
 -- What a call leaves in the slice that it answers the front of, from what the calls in it say.
 use Rattle.std.proofs.Common.{ℕ, List, ◌∷◌, ◌≡◌, ◌≤◌, length, take, ◌++◌, ◌∙◌, arith, sym, subst, ap, Err, [], Ok, drop, Result, IfOk, IfErr, OnOk, OnErr, MatchResult, length-append, length-take, Bor, MutBor}
 use Rattle.std.proofs.Math.Seq.{take-append_seam}
-use Rattle.der_core.specs.Words.{IsFront, SliceRests}
+use Rattle.der_core.specs.Words.{Error, IsFront, RefusedAs, SliceRests, Tag}
 use Rattle.std.specs.Bool.{⊤}
 use Rattle.std.specs.Borrow.{u8, Array}
 use mathlib.Core.Option.{none}
@@ -67,3 +67,10 @@ on_error ys Q (Ok n) (Ok front) h a = tt
 on_error ys Q (Ok n) (Err e) h a = absurd a
 on_error ys Q (Err e) (Ok front) h a = absurd a
 on_error ys Q (Err e) (Err e') h a = subst Q (sym a) h
+
+pub front_refused : {Tags : Tag → Type 0} (ys : List ℕ) (r : Result ℕ Error) (t : Result (Bor (List ℕ)) Error)
+    → RefusedAs Tags r → IsFront ys r t → RefusedAs Tags t
+front_refused ys (Ok n) (Ok front) h a tag e = cc
+front_refused ys (Ok n) (Err e) h a tag same = absurd a
+front_refused ys (Err e) (Ok front) h a tag same = absurd a
+front_refused ys (Err e) (Err e') h a tag same = h tag cc

@@ -1,6 +1,6 @@
 -- Why values aren't written, what writing one part after another leaves, and lengths.
-use Rattle.std.proofs.Common.{ℕ, List, ◌<◌, ◌≤◌, length, subst, ap, ◌∙◌, arith, inl, inr, Result, Ok, Err, IfErr, ◌≡◌, ◌++◌, drop, refl, IfOk, OnErr, OnOk, ◌+◌, length-append, [], sym, append_assoc, append-nil, true, false, if◌then◌else◌, nat_le}
-use Rattle.der_core.specs.Words.{limit, Means, IsShortest, WhyNotCounted, WhyNotWritten, EncodeError, no_encoding, too_long, no_room, another, shortest_is, Prints, WritesShortest, WhyOctetsNotCounted, Counts, WhyOctetsNotWritten, encode_error, Error, written_encodes, Spells, ok_of, Unwritten, IsLength, length_octets, Is, Tlv, length_octets-only, Appends, tlv, joined, is_no_encoding}
+use Rattle.std.proofs.Common.{ℕ, Bool, List, ◌<◌, ◌≤◌, length, subst, ap, ◌∙◌, arith, inl, inr, Result, Ok, Err, IfErr, ◌≡◌, ◌++◌, drop, refl, IfOk, OnErr, OnOk, ◌+◌, length-append, [], sym, append_assoc, append-nil, true, false, if◌then◌else◌, nat_le}
+use Rattle.der_core.specs.Words.{limit, Means, IsShortest, WhyNotCounted, WhyNotWritten, EncodeError, no_encoding, too_long, no_room, another, shortest_is, Prints, WritesShortest, WhyOctetsNotCounted, Counts, WhyOctetsNotWritten, encode_error, Error, ErrorKind, RefusedAs, Tag, written_encodes, Spells, ok_of, Unwritten, IsLength, length_octets, Is, Tlv, length_octets-only, Appends, tlv, joined, is_no_encoding}
 use Rattle.standard.specs.Statement.{Encodes}
 use Rattle.der_core.specs.declared.error.ErrorKind.TheVariants.{NoRoom, Overflow}
 use Rattle.der_core.specs.declared.error.ErrorKind.TheVariants as kind
@@ -269,3 +269,30 @@ counts_encoding tag contents n (Err x) p e ok err =
         length-append (length_octets (length contents)) contents,
       ),
     )
+
+abbrev kind_in : {A : Type 0} → Result A Error → ErrorKind
+kind_in (Ok x) = NoRoom
+kind_in (Err e) = e.kind
+
+-- A sum of two lengths is refused with the tag of one of them.
+pub joined_refused : {P : Tag → Type 0} (a b : Result ℕ Error) → RefusedAs P a → RefusedAs P b → RefusedAs P (joined a b)
+joined_refused {P = P} (Ok m) (Ok n) p q = sum_refused (nat_le (m + n) limit)
+  where
+    sum_refused : (fits : Bool) → RefusedAs {A = ℕ} P (if fits then Ok (m + n) else Err (record { kind = Overflow }))
+    sum_refused true tag e = cc
+    sum_refused false tag e = let clash : ◌≡◌ {A = ErrorKind} Overflow (kind.Value tag) = ap kind_in e in cc
+joined_refused (Ok m) (Err f) p q = q
+joined_refused (Err e) (Ok n) p q = p
+joined_refused {P = P} (Err e) (Err f) p q = either (is_no_encoding (encode_error e.kind))
+  where
+    either : (first : Bool) → RefusedAs {A = ℕ} P (if first then Err e else Err f)
+    either true = p
+    either false = q
+
+-- A value that has octets isn't refused.
+pub not_refused : {W A Has : Type 0} {octets : List ℕ} {Room : W → ℕ} {Written : W → List ℕ} {old new : W}
+    (Tags : Tag → Type 0) (r : Result A Error) → Has → Appends Has octets Room Written old new r → RefusedAs Tags r
+not_refused Tags (Ok x) has appends tag e = cc
+not_refused Tags (Err e) has appends tag same =
+    let is : e.kind ≡ kind.Value tag = ap kind_in same in
+    absurd ((rw is at appends.left).0 has)

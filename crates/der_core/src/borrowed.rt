@@ -48,6 +48,8 @@ impl<'b, T: Encoding> Encoding for Borrowed<'b, T> {
 }
 
 impl<'b, T: Encode> Encode for Borrowed<'b, T> {
+    ghost refused = { T.Encode.refused };
+
     fn encoded_len(&self) -> Result<Length> {
         self.0.encoded_len()
     }

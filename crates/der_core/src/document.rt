@@ -13,6 +13,7 @@ ghost use Rattle.der_core.specs.Readings.{any_contents, octets_of_all, read_docu
 ghost use Rattle.der_core.specs.ErrorKinds.{IsFile};
 ghost use Rattle.der_core.specs.Encodings.{AreBytes};
 ghost use Rattle.der_core.specs.Tlv.{tlv};
+ghost use Rattle.der_core.specs.Writing.{RefusedAs};
 
 use crate::back_writer::BackWriter;
 use crate::decode::{Decode, DecodeValue};
@@ -139,9 +140,10 @@ impl<S: Drop> DocumentOf<S> {
         alloc: Global,
         message: &T,
     ) -> Result<DocumentOf<S>>
-        ensures { HoldsMessage encoding_of result (T.valid (T.written (T.value message.now)))
+        ensures holds { HoldsMessage encoding_of result (T.valid (T.written (T.value message.now)))
             (tlv T.TAG.octet (T.printed (T.written (T.value message.now))))
             (Prints T.valid (λ s. tlv T.TAG.octet (T.printed s)) T.means) (T.value message.now) }
+        ensures tag { RefusedAs T.EncodeValue.refused result }
     {
         let length = message.encoded_len()?.to_usize();
         let mut bytes = vec![in alloc; 0u8; length]?;

@@ -1,7 +1,8 @@
 //! Writing of values.
 ghost use Rattle.std.specs.Prelude.{◌≡◌, ◌≤◌, ◌++◌, length, drop, OnOk, OnErr, IfOk, IfErr};
-ghost use Rattle.der_core.specs.Words.{limit, length_octets, tlv, IsShortest, WhyNotCounted, WhyNotWritten, free_of, Prepends, Prints, IsFront, LeavesRest, Counts, Appends, encode_error, joined};
+ghost use Rattle.der_core.specs.Words.{limit, length_octets, tlv, IsShortest, RefusedAs, WhyNotCounted, WhyNotWritten, free_of, Prepends, Prints, IsFront, LeavesRest, Counts, Appends, encode_error, joined};
 ghost use Rattle.std.specs.Borrow.{sem};
+ghost use Rattle.der_core.specs.declared.tag.Tag.{Tag as TheTag};
 
 use crate::back_writer::BackWriter;
 use crate::error::{Error, ErrorKind, Result};
@@ -12,9 +13,13 @@ use crate::writer::Writer;
 
 /// A type whose values are written as contents octets.
 pub trait EncodeValue: Contents {
+    /// The tags that an error `Value` may have. A type that doesn't say it leaves them open.
+    ghost refused: { TheTag → Type 0 } = { λ _. Unit {0} };
+
     /// The length of the contents.
     fn value_len(&self) -> Result<Length>
-        ensures { let s = Self.written (Self.value self.now) in Counts (Self.valid s) (Self.printed s) result };
+        ensures counts { let s = Self.written (Self.value self.now) in Counts (Self.valid s) (Self.printed s) result }
+        ensures tag { RefusedAs refused result };
 
     /// Appends the contents, which have at most `Length::MAX` octets: `NoRoom` after a beginning of them.
     fn append_value<W: Writer>(&self, writer: &mut W) -> Result<()>
@@ -28,6 +33,7 @@ pub trait EncodeValue: Contents {
     fn encode_value<W: Writer>(&self, writer: &mut W) -> Result<()>
         ensures appends { let s = Self.written (Self.value self.now) in
             Appends (Self.valid s) (Self.printed s) W.room W.written writer.old writer.new result }
+        ensures tag { RefusedAs refused result }
         ensures kept { W.keeps writer.old writer.new }
     {
         self.value_len()?;
@@ -44,11 +50,15 @@ pub trait EncodeValue: Contents {
 
 /// A type whose values are written as encodings.
 pub trait Encode: Encoding {
+    /// The tags that an error `Value` may have. A type that doesn't say it leaves them open.
+    ghost refused: { TheTag → Type 0 } = { λ _. Unit {0} };
+
     /// The length of the encoding: `Value` if the value has none, `Overflow` if all are longer than `Length::MAX`.
     fn encoded_len(&self) -> Result<Length>
         ensures counted { let s = Self.written (Self.value self.now) in Counts (Self.valid s) (Self.printed s) result }
         ensures err { let v = Self.value self.now in let encodings = Prints Self.valid Self.printed Self.means in
-            IfErr result (λ e. WhyNotCounted (Self.valid (Self.written v)) encodings v (encode_error e.kind)) };
+            IfErr result (λ e. WhyNotCounted (Self.valid (Self.written v)) encodings v (encode_error e.kind)) }
+        ensures tag { RefusedAs refused result };
 
     /// Appends the encoding. `Value` and `Overflow` come before any octet is written, `NoRoom` after a beginning of
     /// them.
@@ -58,6 +68,7 @@ pub trait Encode: Encoding {
         ensures err { let v = Self.value self.now in let encodings = Prints Self.valid Self.printed Self.means in
             IfErr result (λ e. WhyNotWritten (Self.valid (Self.written v)) encodings v (W.room writer.old)
             (encode_error e.kind)) }
+        ensures tag { RefusedAs refused result }
         ensures kept { W.keeps writer.old writer.new };
 
     /// Writes the encoding in front of what is filled.
@@ -78,6 +89,7 @@ pub trait Encode: Encoding {
         ensures err { let v = Self.value self.now in let encodings = Prints Self.valid Self.printed Self.means in
             IfErr result (λ e. WhyNotWritten (Self.valid (Self.written v)) encodings v (length out.old)
             (encode_error e.kind)) }
+        ensures tag { RefusedAs Self.Encode.refused result }
         ensures unchanged { OnErr result (out.new ≡ out.old) }
     {
         let length = self.encoded_len()?.to_usize();
@@ -103,6 +115,7 @@ pub trait Encode: Encoding {
         ensures err { let v = Self.value self.now in let encodings = Prints Self.valid Self.printed Self.means in
             IfErr result (λ e. WhyNotWritten (Self.valid (Self.written v)) encodings v (length out.old)
             (encode_error e.kind)) }
+        ensures tag { RefusedAs Self.Encode.refused result }
     {
         let written = self.encode_into(out);
         front(out, written)
@@ -122,8 +135,9 @@ fn front<'b>(out: &'b [u8], written: Result<usize>) -> Result<&'b [u8]>
 
 /// The length of the encoding with these contents.
 fn encoding_len<T: EncodeValue + FixedTag>(value: &T) -> Result<Length>
-    ensures { let v = T.value value.now in
+    ensures counts { let v = T.value value.now in
         Counts (T.valid (T.written v)) (tlv T.TAG.octet (T.printed (T.written v))) result }
+    ensures tag { RefusedAs T.refused result }
 {
     value.value_len()?.for_tlv(T::TAG)
 }
@@ -133,6 +147,7 @@ fn encode_tlv<T: EncodeValue + FixedTag, W: Writer>(value: &T, writer: &mut W) -
     ensures appends { let v = T.value value.now in
         let octets = tlv T.TAG.octet (T.printed (T.written v)) in
         Appends (T.valid (T.written v)) octets W.room W.written writer.old writer.new result }
+    ensures tag { RefusedAs T.refused result }
     ensures kept { W.keeps writer.old writer.new }
 {
     let length = value.value_len()?;
@@ -146,6 +161,8 @@ fn encode_tlv<T: EncodeValue + FixedTag, W: Writer>(value: &T, writer: &mut W) -
 }
 
 impl<T: EncodeValue + FixedTag> Encode for T {
+    ghost refused = { T.EncodeValue.refused };
+
     fn encoded_len(&self) -> Result<Length> {
         encoding_len(self)
     }

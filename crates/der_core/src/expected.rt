@@ -79,6 +79,8 @@ impl<'a, M: Memory, const N: u8> DecodeValue<&'a [u8], M> for Expected<N> {
 }
 
 impl<const N: u8> EncodeValue for Expected<N> {
+    ghost refused = { λ _. ⊥ };
+
     fn value_len(&self) -> Result<Length> {
         N.value_len()
     }

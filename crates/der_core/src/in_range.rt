@@ -1,6 +1,6 @@
 //! An INTEGER in a range, such as the version of a structure that has several.
 ghost use Rattle.std.specs.Prelude.{◌≡◌, ℕ};
-ghost use Rattle.der_core.specs.Words.{IsInRange, alike, in_range, number_contents, one_spelling, ranged, ranged_law};
+ghost use Rattle.der_core.specs.Words.{IsInRange, alike, in_range, integer, number_contents, one_spelling, ranged, ranged_law};
 
 use crate::back_writer::BackWriter;
 use crate::decode::DecodeValue;
@@ -91,6 +91,8 @@ impl<'a, M: Memory, const MIN: u8, const MAX: u8> DecodeValue<&'a [u8], M> for I
 }
 
 impl<const MIN: u8, const MAX: u8> EncodeValue for InRange<MIN, MAX> {
+    ghost refused = { λ tag. tag ≡ integer };
+
     fn value_len(&self) -> Result<Length> {
         if !self.is_within() {
             return Err(Error::new(ErrorKind::Value { tag: Tag::INTEGER }));

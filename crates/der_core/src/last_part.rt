@@ -79,6 +79,8 @@ impl<'a, M: Memory, T: Decode<&'a [u8], M>> DecodeParts<&'a [u8], M> for Last<T>
 }
 
 impl<T: Encode> EncodeValue for Last<T> {
+    ghost refused = { T.Encode.refused };
+
     #[inline(always)]
     fn value_len(&self) -> Result<Length> {
         match &self.0 {
@@ -158,6 +160,8 @@ impl<'a, M: Memory, T: DecodeValue<&'a [u8], M> + FixedTag> DecodeParts<&'a [u8]
 }
 
 impl<T: EncodeValue + FixedTag> EncodeValue for LastByTag<T> {
+    ghost refused = { T.EncodeValue.refused };
+
     #[inline(always)]
     fn value_len(&self) -> Result<Length> {
         self.0.value_len()

@@ -1,8 +1,8 @@
 //! Laws of comparing, copying and reading: functions that do nothing, each with a law as its contract.
-ghost use Rattle.std.specs.Prelude.{◌≡◌, ◌≤◌, ℕ, List, length, Result, true, false, Decides};
+ghost use Rattle.std.specs.Prelude.{◌≡◌, ◌≤◌, ℕ, List, length, Result, Decides};
 ghost use Rattle.std.specs.Ordering.{nat_cmp};
 ghost use Rattle.standard.specs.Statement as standard;
-ghost use Rattle.der_core.specs.Words.{encoding_of, octets_of, ReadsAlike, ReadsFrontPrinted, ReadsPrinted, ReadsContents, ReadsFronts, alone, last, optional, tagged, integer, sequence, bytes_of, Answers, AreBytes, Prints, PrintsOne, ReadsFrontAlike, Spells, limit, ok_of, WritesShortest, value_in, whole};
+ghost use Rattle.der_core.specs.Words.{encoding_of, octets_of, ReadsAlike, ReadsFrontPrinted, ReadsPrinted, ReadsContents, ReadsFronts, alone, last, optional, tagged, bytes_of, Answers, AreBytes, Prints, PrintsOne, ReadsFrontAlike, Spells, limit, ok_of, WritesShortest, value_in, whole};
 ghost use Rattle.der_core.specs.declared.document.DocumentOf as documents;
 ghost use Rattle.der_core.specs.declared.document.Open as marks;
 ghost use Rattle.der_core.specs.declared.error.Error as errors;
@@ -46,13 +46,11 @@ pub fn lemma_documents_compare_by_bytes()
         → Decides (⟦<DocumentOf<Open> as PartialEq>⟧.eq a b) (encoding_of a ≡ encoding_of b) }
 {}
 
-/// Each kind of error equals itself. Shown by examples: two kinds differ, and so do two tags in one kind.
-pub fn lemma_kinds_are_told_apart()
-    ensures same { (a : kinds.ErrorKind) → ⟦<ErrorKind as PartialEq>⟧.eq a a ≡ true }
-    ensures kind { ⟦<ErrorKind as PartialEq>⟧.eq ErrorKind.Failed ErrorKind.Incomplete ≡ false }
-    ensures tag { ⟦<ErrorKind as PartialEq>⟧.eq (ErrorKind.Value integer) (ErrorKind.Value sequence) ≡ false }
-    ensures whole { ⟦<Error as PartialEq>⟧.eq (record { kind = ErrorKind.NoRoom }) (record { kind = ErrorKind.File })
-        ≡ false }
+/// Kinds of errors are equal exactly if they are the same, with the same tags and octets, and errors exactly if their
+/// kinds are.
+pub fn lemma_kinds_compare_by_value()
+    ensures kind { (a b : kinds.ErrorKind) → Decides (⟦<ErrorKind as PartialEq>⟧.eq a b) (a ≡ b) }
+    ensures error { (a b : errors.Error) → Decides (⟦<Error as PartialEq>⟧.eq a b) (a ≡ b) }
 {}
 
 /// A clone of a borrowed value is the same value.

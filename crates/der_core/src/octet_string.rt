@@ -137,6 +137,8 @@ impl<'a, M: Memory> DecodeValue<&'a [u8], M> for OctetStringRef<'a> {
 }
 
 impl EncodeValue for OctetStringRef<'_> {
+    ghost refused = { λ _. ⊥ };
+
     fn value_len(&self) -> Result<Length> {
         Ok(self.len())
     }

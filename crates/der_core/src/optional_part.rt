@@ -1,5 +1,5 @@
 //! An OPTIONAL part in front of others, which is known by its tag.
-ghost use Rattle.std.specs.Prelude.{◌≡◌, IsSome, Option, false, option_map};
+ghost use Rattle.std.specs.Prelude.{◌≡◌, ◌⊎◌, IsSome, Option, false, option_map};
 ghost use Rattle.standard.specs.Statement as standard;
 ghost use Rattle.der_core.specs.declared.error.ErrorKind.TheVariants as kinds;
 ghost use Rattle.der_core.specs.Words.{AllocatesInParts, Optional, Prints, ReadsWhole, Tlv, last_shortest, optional, optional_alike, optional_part_law, parts, row, row_alike, row_law, row_shortest, tagged, tagged_alike, tagged_shortest, unless, unless_alike, unless_shortest};
@@ -121,6 +121,8 @@ where
     A: Encode,
     B: EncodeValue,
 {
+    ghost refused = { λ tag. (tag ≡ T.TAG) ⊎ T.EncodeValue.refused tag ⊎ A.Encode.refused tag ⊎ B.EncodeValue.refused tag };
+
     #[inline(always)]
     fn value_len(&self) -> Result<Length> {
         if A::may_start_with(T::TAG) {

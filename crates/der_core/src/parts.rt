@@ -1,6 +1,6 @@
 //! Parts of contents in a row, as a type: a nested pair that ends with `()`, as `(A, (B, ()))`, or with an OPTIONAL last
 //! part, as `(A, Last<B>)`. A row is written as contents, `(Borrowed(&self.a), (Borrowed(&self.b), ())).value_len()`.
-ghost use Rattle.std.specs.Prelude.{◌≡◌, List, [], ℕ, Ok, IfSome};
+ghost use Rattle.std.specs.Prelude.{◌≡◌, ◌⊎◌, List, [], ℕ, Ok, IfSome};
 ghost use Rattle.der_core.specs.Words.{AllocatesInParts, Prints, ReadsWhole, alike, end_law, no_parts, one_spelling, parts, row, row_alike, row_law, row_shortest};
 
 use crate::back_writer::BackWriter;
@@ -123,6 +123,8 @@ impl<'a, M: Memory, A: Decode<&'a [u8], M>, B: DecodeParts<&'a [u8], M>> DecodeP
 }
 
 impl EncodeValue for () {
+    ghost refused = { λ _. ⊥ };
+
     #[inline(always)]
     fn value_len(&self) -> Result<Length> {
         Ok(Length::ZERO)
@@ -138,6 +140,8 @@ impl EncodeValue for () {
 }
 
 impl<A: Encode, B: EncodeValue> EncodeValue for (A, B) {
+    ghost refused = { λ tag. A.Encode.refused tag ⊎ B.EncodeValue.refused tag };
+
     #[inline(always)]
     fn value_len(&self) -> Result<Length> {
         let rest = self.1.value_len(); // counted first, so that one sum is kept and not each part's length

@@ -1,7 +1,8 @@
 //! SEQUENCEs as records of parts: a type that names its parts is read and written with no proof of its own.
 ghost use Rattle.std.specs.Prelude.{◌≡◌, ◌≤◌, Err, List, Ok, ℕ, length, refl};
 ghost use Rattle.der_core.specs.declared.error.ErrorKind.{ErrorKind};
-ghost use Rattle.der_core.specs.Words.{Appends, AreSpelledOnce, Counts, Prepends, free_of, limit};
+ghost use Rattle.der_core.specs.declared.tag.Tag.{Tag as TheTag};
+ghost use Rattle.der_core.specs.Words.{Appends, AreSpelledOnce, Counts, Prepends, RefusedAs, free_of, limit};
 
 use crate::back_writer::BackWriter;
 use crate::decode::DecodeValue;
@@ -62,9 +63,13 @@ where
 
 /// A type whose contents are written as a row of parts.
 pub trait EncodeInParts: InParts {
+    /// The tags that an error `Value` may have. A type that doesn't say it leaves them open.
+    ghost refused: { TheTag → Type 0 } = { λ _. Unit {0} };
+
     /// The length of the parts.
     fn parts_len(&self) -> Result<Length>
-        ensures { let s = Self.written (Self.value self.now) in Counts (Self.valid s) (Self.printed s) result };
+        ensures counts { let s = Self.written (Self.value self.now) in Counts (Self.valid s) (Self.printed s) result }
+        ensures tag { RefusedAs refused result };
 
     /// Appends the parts: `NoRoom` after a beginning of them.
     fn append_parts<W: Writer>(&self, writer: &mut W) -> Result<()>
@@ -86,6 +91,8 @@ impl<T: EncodeInParts> EncodeValue for T
 where
     T::Parts: EncodeValue,
 {
+    ghost refused = { T.EncodeInParts.refused };
+
     #[inline(always)]
     fn value_len(&self) -> Result<Length> {
         self.parts_len()

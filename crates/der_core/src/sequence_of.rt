@@ -1,7 +1,7 @@
 //! SEQUENCE OF (X.690 8.10), as a `Vec` of its items.
 ghost use Rattle.std.specs.Prelude.{◌≤◌, List, length, map};
 ghost use Rattle.std.specs.List.{AllByRecursion, concat};
-ghost use Rattle.der_core.specs.Words.{limit, free_of, Prepends, AllocatesForItems, AllHave, all_encodings, items, Counts, Appends, Prints, items_alike, items_law, list_shortest};
+ghost use Rattle.der_core.specs.Words.{limit, free_of, Prepends, RefusedAs, AllocatesForItems, AllHave, all_encodings, items, Counts, Appends, Prints, items_alike, items_law, list_shortest};
 
 use crate::back_writer::BackWriter;
 use crate::decode::{Decode, DecodeValue};
@@ -83,8 +83,9 @@ impl<'a, T: Decode<&'a [u8], Global>> DecodeValue<&'a [u8], Global> for Vec<T> {
 
 /// The total length of the encodings of the items.
 pub(crate) fn items_len<T: Encode>(items: &[T]) -> Result<Length>
-    ensures { let have = AllHave (λ x. T.valid (T.written (T.value x))) items.now in
+    ensures counts { let have = AllHave (λ x. T.valid (T.written (T.value x))) items.now in
         Counts have (all_encodings (λ x. T.printed (T.written (T.value x))) items.now) result }
+    ensures tag { RefusedAs T.Encode.refused result }
 {
     let mut total = Ok(Length::ZERO);
     for item in items {
@@ -123,6 +124,8 @@ pub(crate) fn prepend_items<T: Encode>(items: &[T], writer: &mut BackWriter<'_>)
 }
 
 impl<T: Encode> EncodeValue for Vec<T> {
+    ghost refused = { T.Encode.refused };
+
     fn value_len(&self) -> Result<Length> {
         items_len(self.as_slice())
     }

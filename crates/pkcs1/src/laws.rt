@@ -1,10 +1,9 @@
 //! Laws of the grammars of keys and parameters: functions that do nothing, each with a law as its contract.
-ghost use Rattle.std.specs.Prelude.{◌≡◌, ℕ, List, true, false};
+ghost use Rattle.std.specs.Prelude.{◌≡◌, ℕ, List, Decides};
 ghost use Rattle.pkcs1.specs.Words.{AreDelimited, AreStated, held_other_primes, held_public_key, held_view, private_stated, public_stated, rsa_private_key, rsa_public_key};
 ghost use Rattle.der_core.specs.Words.{AreBytes, Excludes, bytes_of, value_in};
 ghost use Rattle.pkcs1_params.specs.Words.{FaultsTell, oaep_of, pss_of};
 ghost use Rattle.standard.specs.Statement.{AtMostOne, Decodes, PrivateKeyEncoding, PublicKeyEncoding, SameByShortest, OaepEncoding, PssEncoding};
-ghost use Rattle.der_core.specs.declared.error.ErrorKind as kinds;
 ghost use Rattle.der_core.specs.declared.integer.uint.UintRef as numbers;
 ghost use Rattle.spki_core.specs.Words.{any_of};
 ghost use Rattle.spki_core.specs.declared.any.AnyRef as anys;
@@ -20,7 +19,7 @@ use crate::other_primes::OtherPrimes;
 use crate::private_key::RsaPrivateKey;
 use crate::public_key::RsaPublicKey;
 use crate::view::RsaPrivateKeyView;
-use der_core::{Encoding, ErrorKind, Uint, UintRef};
+use der_core::{Encoding, Uint, UintRef};
 use pkcs1_params::{Error, RsaOaepParams, RsaPssParams};
 use spki_core::{Any, AnyRef};
 
@@ -85,12 +84,9 @@ pub fn lemma_forms_share_the_grammars()
         × AreStated owned.valid owned.printed owned.means (λ p. p) OaepEncoding }
 {}
 
-/// Each error equals itself. By example, two variants differ, and so do two kinds in `Asn1`.
-pub fn lemma_errors_are_told_apart()
-    ensures same { (e : errors.Error) → ⟦<Error as PartialEq>⟧.eq e e ≡ true }
-    ensures error { ⟦<Error as PartialEq>⟧.eq Error.Version Error.Crypto ≡ false }
-    ensures kind { let of_kind = λ (kind : kinds.ErrorKind). Error.Asn1 (record { kind = kind }) in
-        ⟦<Error as PartialEq>⟧.eq (of_kind ErrorKind.Incomplete) (of_kind ErrorKind.TrailingData) ≡ false }
+/// Errors are equal exactly if they are the same, with the same kind in `Asn1`.
+pub fn lemma_errors_compare_by_value()
+    ensures { (a b : errors.Error) → Decides (⟦<Error as PartialEq>⟧.eq a b) (a ≡ b) }
 {}
 
 /// A clone of a borrowing type means the same as the original.

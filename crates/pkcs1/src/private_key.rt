@@ -1,6 +1,6 @@
 //! RSA private keys.
-ghost use Rattle.std.specs.Prelude.{◌≡◌, ◌↔◌, ⊤, IsSome, IsErrAnd, refl};
-ghost use Rattle.der_core.specs.Words.{Appends, Counts, bytes_of, sequence};
+ghost use Rattle.std.specs.Prelude.{◌≡◌, ◌↔◌, ◌⊎◌, ⊤, IsSome, IsErrAnd, refl};
+ghost use Rattle.der_core.specs.Words.{Appends, Counts, RefusedAs, bytes_of, sequence};
 ghost use Rattle.pkcs1.specs.Words.{AllocatesForKey, ListsNone, PrivateIsValid, PrivateKey, held_private_key, held_public_key, private_alike, private_as, private_key_read, private_key_with, private_law, private_printed, private_shortest, public_part};
 
 mod der;
@@ -177,9 +177,12 @@ impl<'a, U: Decode<&'a [u8], Global>> DecodeValue<&'a [u8], Global> for RsaPriva
 }
 
 impl<U: Encode> EncodeValue for RsaPrivateKey<U> {
+    ghost refused = { λ tag. (tag ≡ sequence) ⊎ U.Encode.refused tag };
+
     fn value_len(&self) -> Result<Length>
         ensures counts { let s = private_as U.written (private_key_with U.value self.now) in
             Counts (PrivateIsValid U.valid s) (private_printed U.printed s) result }
+        ensures tag { RefusedAs (λ tag. (tag ≡ sequence) ⊎ U.Encode.refused tag) result }
         ensures no_primes { ListsNone self.now.other_prime_infos
             → IsErrAnd result (λ e. e.kind ≡ ErrorKind.Value sequence) }
     {
@@ -197,6 +200,7 @@ impl<U: Encode> EncodeValue for RsaPrivateKey<U> {
         ensures appends { let s = private_as U.written (private_key_with U.value self.now) in
             let octets = private_printed U.printed s in
             Appends (PrivateIsValid U.valid s) octets W.room W.written writer.old writer.new result }
+        ensures tag { RefusedAs (λ tag. (tag ≡ sequence) ⊎ U.Encode.refused tag) result }
         ensures kept { W.keeps writer.old writer.new }
         ensures no_primes { ListsNone self.now.other_prime_infos
             → IsErrAnd result (λ e. e.kind ≡ ErrorKind.Value sequence) }

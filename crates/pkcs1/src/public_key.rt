@@ -85,6 +85,8 @@ impl<U: Encoding> InParts for RsaPublicKey<U> {
 }
 
 impl<U: Encode> EncodeInParts for RsaPublicKey<U> {
+    ghost refused = { U.Encode.refused };
+
     fn parts_len(&self) -> der_core::Result<Length> {
         (
             Borrowed(&self.modulus),

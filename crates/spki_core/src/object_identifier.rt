@@ -102,7 +102,8 @@ pub trait AssociatedOid {
     /// They are the contents of an object identifier.
     ghost valid: { IsTrue (specs.is_identifier contents) };
 
-    /// The contents octets of the identifier (X.690 8.19), without tag and length.
+    /// The contents octets of the identifier (X.690 8.19), without tag and length. They must be those of `octets`: no
+    /// proof compares them.
     const OID: &'static [u8];
 
     /// `OID`, for contracts.

@@ -154,6 +154,8 @@ impl<'a> DecodeValue<&'a [u8], Global> for Uint {
 }
 
 impl EncodeValue for Uint {
+    ghost refused = { λ _. ⊥ };
+
     fn value_len(&self) -> Result<Length> {
         self.as_uint_ref().value_len()
     }

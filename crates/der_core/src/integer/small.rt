@@ -93,6 +93,8 @@ impl<'a, M: Memory> DecodeValue<&'a [u8], M> for u8 {
 }
 
 impl EncodeValue for u8 {
+    ghost refused = { λ _. ⊥ };
+
     #[tactic(auto, using(crate::specs::Laws::Printed::Leaves::small_contents_as))]
     fn value_len(&self) -> Result<Length> {
         Length::try_from(if *self < 0x80 { 1 } else { 2 })

@@ -232,6 +232,8 @@ impl<'a, M: Memory> DecodeValue<&'a [u8], M> for UintRef<'a> {
 }
 
 impl EncodeValue for UintRef<'_> {
+    ghost refused = { λ _. ⊥ };
+
     fn value_len(&self) -> Result<Length> {
         let zeros = if self.bytes[0] < 0x80 { 0 } else { 1 };
         Length::try_from(self.bytes.len() + zeros)

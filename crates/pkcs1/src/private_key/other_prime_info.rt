@@ -128,6 +128,8 @@ impl<U: Encoding> InParts for OtherPrimeInfo<U> {
 }
 
 impl<U: Encode> EncodeInParts for OtherPrimeInfo<U> {
+    ghost refused = { U.Encode.refused };
+
     fn parts_len(&self) -> Result<Length> {
         let coefficient = (Borrowed(&self.coefficient), ());
         (

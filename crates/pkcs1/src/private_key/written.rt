@@ -1,7 +1,7 @@
 //! A private key as it is written: a row of its parts. The compiler takes rows of seven parts at most, so the end of the
 //! row is a type of its own.
-ghost use Rattle.std.specs.Prelude.{◌≡◌, ◌≤◌, Option, length};
-ghost use Rattle.der_core.specs.Words.{Appends, Counts, Prepends, free_of, last, last_alike, last_law, last_shortest, limit, parts, row_alike, row_law, row_shortest};
+ghost use Rattle.std.specs.Prelude.{◌≡◌, ◌≤◌, ◌⊎◌, Option, length};
+ghost use Rattle.der_core.specs.Words.{Appends, Counts, Prepends, RefusedAs, free_of, last, last_alike, last_law, last_shortest, limit, parts, row_alike, row_law, row_shortest};
 ghost use Rattle.pkcs1.specs.Words.{CrtRowIsValid, RowIsValid, Three, crt_row, crt_row_as, crt_row_printed, key_row, parts_row, row_as, row_printed};
 
 use super::PrivateKeyOf;
@@ -42,6 +42,8 @@ impl<'b, U: Encoding, O: Encoding> Contents for CrtParts<'b, U, O> {
 }
 
 impl<'b, U: Encode, O: Encode> EncodeValue for CrtParts<'b, U, O> {
+    ghost refused = { λ tag. U.Encode.refused tag ⊎ O.Encode.refused tag };
+
     #[inline(always)]
     fn value_len(&self) -> Result<Length> {
         let key = self.0;
@@ -115,8 +117,9 @@ impl<U: Encode, O: Encode> PrivateKeyOf<U, O> {
     /// The length of the contents.
     #[inline(always)]
     pub fn row_len(&self) -> Result<Length>
-        ensures { let s = row_as U.written O.written (key_row U.value O.value self.now) in
+        ensures counts { let s = row_as U.written O.written (key_row U.value O.value self.now) in
             Counts (RowIsValid U.valid O.valid s) (row_printed U.printed O.printed s) result }
+        ensures tag { RefusedAs (λ tag. U.Encode.refused tag ⊎ O.Encode.refused tag) result }
     {
         self.row().value_len()
     }

@@ -1,6 +1,7 @@
 use Rattle.std.proofs.Common.{subst}
 use Rattle.der_core.specs.Words.{Counts}
 use Rattle.der_core.proofs.Items.{counts_more}
+use Rattle.der_core.proofs.Writing.{joined_refused}
 use Rattle.der_core.proofs.sequence_of.items_len.Goals as goal
 
 pub loop-item-preserved : goal.loop-item-preserved
@@ -9,5 +10,8 @@ loop-item-preserved g c =
     let printed = λ (x : g.row.T.Denot). g.T.Encoding.printed (g.T.Encoding.written (g.T.Encoding.value x)) in
     let item =
     subst (λ x. Counts (valid x) (printed x) c.encoded_len.result) c.item-item.is c.encoded_len.ensures.counted in
-    rw c.joined_len-total.ensures (counts_more valid printed c.args.items.now c.loop-item.item-index c.item-item.result
-    c.loop-item-test.true _ _ c.loop-item.invariant item)
+    rw c.joined_len-total.ensures (
+      (counts_more valid printed c.args.items.now c.loop-item.item-index c.item-item.result
+          c.loop-item-test.true _ _ c.loop-item.invariant.0 item),
+      joined_refused _ _ c.loop-item.invariant.1 c.encoded_len.ensures.tag,
+    )

@@ -12,7 +12,7 @@ returns g c label bytes same =
     let v = oaep_of c.new.result in
     let held = rw (ap (λ (v : OaepParameters). v.hash.oid) c.new.ensures) at (identifier_held c.new.result.hash.oid) in
     let valid = subst IsOaep (sym c.new.ensures) (labelled_is oid [] held tt) in
-    let counted = c.value_len-hash_fields.ensures in
+    let counted = c.value_len-hash_fields.ensures.counts in
     counts_as (sequence (written_labelled oid label)) _ (λ _. labelled_is oid label held bytes) (λ _. tt)
     (c.tagged_len.ensures (written_labelled oid label)
     (rw c.joined_len.ensures

@@ -20,8 +20,8 @@ invariant_of-result g c =
     let bytes = subst AreBytes (c.as_slice.ensures.value ∙ same) c.lemma_are_bytes.ensures in
     record { whole = subst IsDocument (sym same) (written_document tag contents is bytes fits) }
 
-pub returns : goal.returns
-returns g c =
+pub returns-clause-holds : goal.returns-clause-holds
+returns-clause-holds g c =
     let t = g.T.Contents in
     let v = t.value c.args.message.now in
     let tag = g.T.FixedTag.TAG.octet in

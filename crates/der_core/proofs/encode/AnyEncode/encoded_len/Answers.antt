@@ -5,4 +5,4 @@ use Rattle.der_core.proofs.encode.AnyEncode.encoded_len.Goals as goal
 pub returns-clause-err : goal.returns-clause-err
 returns-clause-err g c =
     let t = g.T.Contents in
-    uncounted (tagged_shortest t.shortest g.T.FixedTag.TAG.octet) (t.value c.args.self.now) _ c.encoding_len.ensures
+    uncounted (tagged_shortest t.shortest g.T.FixedTag.TAG.octet) (t.value c.args.self.now) _ c.encoding_len.ensures.counts

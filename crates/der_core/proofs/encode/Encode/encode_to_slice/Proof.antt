@@ -39,8 +39,8 @@ use Rattle.der_core.specs.contracts.encode.Encode.encode_to_slice.Key.{name as #
 use Rattle.der_core.specs.contracts.encode.Encode.encode_into as g
 use Rattle.der_core.proofs.encode.Encode.encode_into.Met.{met as writes}
 use Rattle.der_core.specs.contracts.encode.front as h
-use Rattle.der_core.specs.Words.{IsFront, LeavesRest, Error, IsShortest, WhyNotWritten, Prints, encode_error}
-use Rattle.der_core.proofs.EncodeToSlice.{rests, Wrote, fits, leaves_rest, on_front, on_error, within}
+use Rattle.der_core.specs.Words.{IsFront, LeavesRest, RefusedAs, Error, IsShortest, WhyNotWritten, Prints, encode_error}
+use Rattle.der_core.proofs.EncodeToSlice.{rests, Wrote, fits, front_refused, leaves_rest, on_front, on_error, within}
 use Rattle.std.proofs.result.Result.TheLaws.{the_row_laws as result_laws}
 use denote.Param.Laws.{Laws, of_field}
 use denote.Param.Shared.{copy_shared}
@@ -146,15 +146,16 @@ encode_to_slice_spec 𝓤 𝓛 𝓜 𝓡 wired W L gh d gt dt met of_encoding =
     ⊛ ‵ (Count.own_val r (v ∷ [])))
     ⊛ some (λ (ws : Unit {0} × (List ℕ × Unit {0})). ‵ (lasts (g.ended W gh d gt dt) z.0.0 z.0.3 ws)
     ⊛ given (Wrote encoding xs ws.1.0 r) (‵ ftrue) ⊛ given (OnOk r (IsShortest (Prints gt.valid gt.printed gt.means) value encoding)) (‵ ftrue)
-    ⊛ given (IfErr r Rejected) (‵ ftrue) ⊛ given (OnErr r (ws.1.0 ≡ xs)) (‵ ftrue))))) (id⊢ 𝓤 _) $
+    ⊛ given (IfErr r Rejected) (‵ ftrue) ⊛ given (RefusedAs gh.refused r) (‵ ftrue)
+    ⊛ given (OnErr r (ws.1.0 ≡ xs)) (‵ ftrue))))) (id⊢ 𝓤 _) $
     await ! tt $ pick ! (λ r. split ! $ split ! $ move ! (1 ∷ []) $
     peeks ! Count (Is Count) (shows 𝓛 Count) r (v ∷ []) (λ told.
     lands_as ! refl refl ((count_laws.lawful 𝓛).typed r (v ∷ []) told).0 $ move ! (2 ∷ []) $
     pick ! (λ ws. let ys : List ℕ = ws.1.0 in
     split ! $ move ! (1 ∷ []) $ split3 ! $
     learn ! (λ wrote. drop ! $ learn !
-    (λ least. drop ! $ split ! $
-    learn ! (λ rejected. drop ! $ learn ! (λ kept. drop ! $ fsplit ! $ drop ! $ fsplit ! $ fsplit ! $ fsplit ! $
+    (λ least. drop ! $ split3 ! $
+    learn ! (λ rejected. drop ! $ learn ! (λ refused. drop ! $ learn ! (λ kept. drop ! $ fsplit ! $ drop ! $ fsplit ! $ fsplit ! $ fsplit ! $
     -- [how the loan ends; two facts; nothing; the count; the tokens; what is kept]
     move ! (5 ∷ []) $ split3 ! $ move ! (1 ∷ []) $ lft_end ! tt $ move ! (0 ∷ 8 ∷ 3 ∷ []) $
     use3 𝓛 (later (given (length ys ≡ length xs)
@@ -197,10 +198,12 @@ encode_to_slice_spec 𝓤 𝓛 𝓜 𝓡 wired W L gh d gt dt met of_encoding =
     IfOk t (λ front. front.now ≡ encoding) in let F₂ : Type 0 =
     IfOk t (λ front. IsShortest (Prints gt.valid gt.printed gt.means) value front.now) in let F₃ : Type 0 =
     IfOk t (λ front. length front.now ≤ length xs) in let F₄ : Type 0 = IfErr t Rejected in
+    let F₅ : Type 0 = RefusedAs gh.refused t in
     use1 𝓛 (‵ (LeavesRest out encoding t))
     (rests 𝓛 out ys (λ end. MatchResult t (λ _. end ≡ encoding ++ list-drop (length encoding) xs) (λ _. end ≡ xs))
     (leaves_rest encoding xs ys r t wrote kept answered)) $
-    use0 𝓛 (raw (fact 𝓤 F₄)) (fact_i 𝓤 F₄ (emp 𝓤) (on_error ys Rejected r t rejected answered)) $
+    use0 𝓛 (raw (fact 𝓤 F₅)) (fact_i 𝓤 F₅ (emp 𝓤) (front_refused ys r t refused answered)) $
+    use0 𝓛 (raw (fact 𝓤 F₄)) (fact_i 𝓤 F₄ (emp 𝓤) (on_error ys Rejected r t rejected answered)) $ join ! $
     use0 𝓛 (raw (fact 𝓤 F₃)) (fact_i 𝓤 F₃ (emp 𝓤) (within encoding xs ys long r t answered)) $ join ! $
     use0 𝓛 (raw (fact 𝓤 F₂)) (fact_i 𝓤 F₂ (emp 𝓤)
     (on_front encoding xs ys (IsShortest (Prints gt.valid gt.printed gt.means) value encoding) (λ x. IsShortest (Prints gt.valid gt.printed gt.means) value x) (λ k. k)
@@ -209,4 +212,4 @@ encode_to_slice_spec 𝓤 𝓛 𝓜 𝓡 wired W L gh d gt dt met of_encoding =
     (on_front encoding xs ys (IsShortest (Prints gt.valid gt.printed gt.means) value encoding) (λ x. x ≡ encoding) (λ _. refl) r t wrote least
     answered)) $ join ! $ move ! (1 ∷ 0 ∷ []) $ join ! $
     nothing ! $ nothing ! $ fjoin ! $ nothing ! $ fjoin ! $ move ! (2 ∷ 0 ∷ 3 ∷ 1 ∷ []) $
-    by ! (leaves 𝓛 En hs c y u t (tt, (tt, tt)) (tt, (tt, tt)))))))))))))))))))))))
+    by ! (leaves 𝓛 En hs c y u t (tt, (tt, tt)) (tt, (tt, tt))))))))))))))))))))))))

@@ -15,4 +15,4 @@ returns-clause-counts g c =
     let key = private_as u.written (private_key_with u.value c.args.self.now) in
     key_counted u.valid u.printed key _ (version_is u.value u.written c.args.self.now.other_prime_infos) c.row_len.result
     (listed_some u.value u.written c.args.self.now.other_prime_infos
-    (λ none. let e : false ≡ true = rw c.if-lists_none.false at (c.lists_none.ensures.1 none) in cc)) c.row_len.ensures
+    (λ none. let e : false ≡ true = rw c.if-lists_none.false at (c.lists_none.ensures.1 none) in cc)) c.row_len.ensures.counts

@@ -11,7 +11,7 @@ pub returns-clause-encoding : goal.returns-clause-encoding
 returns-clause-encoding g c =
     let key = public_key_with (number_in bytes_of) c.as_key_ref.result in
     subst (λ k. IsShortest PublicKeyEncoding k (encoding_of c.in_ok-encode_msg.field-0)) c.as_key_ref.ensures
-    (public_shown key _ (shortest public_written key _ c.in_ok-encode_msg.ensures.2))
+    (public_shown key _ (shortest public_written key _ c.in_ok-encode_msg.ensures.holds.2))
 
 pub returns-in_err-encode_msg-clause-err : goal.returns-in_err-encode_msg-clause-err
 returns-in_err-encode_msg-clause-err g c =
@@ -19,4 +19,4 @@ returns-in_err-encode_msg-clause-err g c =
     let key = public_key_with (number_in bytes_of) c.as_key_ref.result in
     let e = error.Asn1 c.in_err-encode_msg.field-0.0 in
     rw (p.1, p.2) (subst (λ k. Withholds (λ _. Unit {0}) PublicKeyEncoding k e) c.as_key_ref.ensures
-    (public_withholds key e (unmade public_written key _ c.in_err-encode_msg.ensures)))
+    (public_withholds key e (unmade public_written key _ c.in_err-encode_msg.ensures.holds)))

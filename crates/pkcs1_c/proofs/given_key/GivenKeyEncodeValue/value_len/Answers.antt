@@ -1,5 +1,5 @@
 use Rattle.pkcs1_c.proofs.GivenRows.{given_counted}
 use Rattle.pkcs1_c.proofs.given_key.GivenKeyEncodeValue.value_len.Goals as goal
 
-pub returns : goal.returns
-returns c = given_counted c.args.self.now.0 c.row_len.result c.row_len.ensures
+pub returns-clause-counts : goal.returns-clause-counts
+returns-clause-counts c = given_counted c.args.self.now.0 c.row_len.result c.row_len.ensures.counts

@@ -3,8 +3,8 @@ use Rattle.der_core.proofs.Integers.{counts_integer}
 use Rattle.der_core.specs.Words.{holds_canonical, contents_as}
 use Rattle.pkcs1_c.proofs.given_number.NumberEncodeValue.value_len.Goals as goal
 
-pub returns : goal.returns
-returns c =
+pub returns-clause-counts : goal.returns-clause-counts
+returns-clause-counts c =
     let number = c.args.self.now in
     let bytes = number.bytes.now in
     counts_integer _ _ _ number.canonical

@@ -7,8 +7,8 @@ use Rattle.pkcs1_c.specs.Words.{given_primes, given_encoded}
 use Rattle.pkcs1_c.proofs.GivenKeys.{any_given, encoded_is}
 use Rattle.pkcs1_c.proofs.given_primes.GivenPrimesEncodeValue.value_len.Goals as goal
 
-pub returns : goal.returns
-returns c =
+pub returns-clause-counts : goal.returns-clause-counts
+returns-clause-counts c =
     let given = c.args.self.now in
     let others = given.others.now in
     subst (λ octets. Counts (AllByRecursion (OtherIsValid AnyNumber) (given_primes given)) octets given.len)

@@ -3,8 +3,8 @@ use Rattle.der_core.specs.Words.{limit}
 use Rattle.spki_core.specs.Words.{octets_of, viewed_held}
 use Rattle.spki_core.proofs.identifier_view.IdentifierViewEncodeValue.value_len.Goals as goal
 
-pub returns : goal.returns
-returns c =
+pub returns-clause-counts : goal.returns-clause-counts
+returns-clause-counts c =
     let oid = c.args.self.now in
     let held = viewed_held oid in
     let same : c.of.result ≡ length (octets_of oid) = c.of.ensures ∙ c.octet_count.ensures in

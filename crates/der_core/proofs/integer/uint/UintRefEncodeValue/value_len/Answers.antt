@@ -2,8 +2,8 @@ use Rattle.der_core.proofs.Integers.{counts_integer, length_small, length_large}
 use Rattle.der_core.proofs.integer.uint.UintRefEncodeValue.value_len.Goals.{then-self-lt128, else-self-lt128}
 use Rattle.der_core.proofs.integer.uint.UintRefEncodeValue.value_len.Goals as goal
 
-pub returns : goal.returns
-returns c = elim c.if-self-lt128.branch [
+pub returns-clause-counts : goal.returns-clause-counts
+returns-clause-counts c = elim c.if-self-lt128.branch [
   | then-self-lt128 w ↦ counts_integer _ _ _ c.args.self.now.canonical
       (rw w.zeros-is (length_small _ w.if-self-lt128.true)) c.try_from.ensures.ok c.try_from.ensures.err
   | else-self-lt128 w ↦ counts_integer _ _ _ c.args.self.now.canonical

@@ -11,9 +11,9 @@ returns-then-lists_none-clause-no_primes g c =
 
 pub returns-clause-encoding : goal.returns-clause-encoding
 returns-clause-encoding g c =
-    shortest (tagged_shortest (private_shortest g.U.Encoding.shortest) 48) _ _ c.in_ok-encode_msg.ensures.2
+    shortest (tagged_shortest (private_shortest g.U.Encoding.shortest) 48) _ _ c.in_ok-encode_msg.ensures.holds.2
 
 pub returns-in_err-encode_msg-clause-err : goal.returns-in_err-encode_msg-clause-err
 returns-in_err-encode_msg-clause-err g c =
     let p = err_from_is_err_and c.from_residual.result c.from_residual.ensures.1 in
-    rw (p.1, p.2) (unmade (tagged_shortest (private_shortest g.U.Encoding.shortest) 48) _ _ c.in_err-encode_msg.ensures)
+    rw (p.1, p.2) (unmade (tagged_shortest (private_shortest g.U.Encoding.shortest) 48) _ _ c.in_err-encode_msg.ensures.holds)
