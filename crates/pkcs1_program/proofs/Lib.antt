@@ -1,3 +1,4 @@
+pub mod DigitTables
 pub mod CutAtByte
 pub mod Runs
 pub mod OneAnswer

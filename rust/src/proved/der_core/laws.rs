@@ -22,8 +22,9 @@ pub fn lemma_headers_compare_by_value() {}
 /// Documents are equal exactly if they hold the same bytes. Secret ones can't be compared.
 pub fn lemma_documents_compare_by_bytes() {}
 
-/// Each kind of error equals itself. Shown by examples: two kinds differ, and so do two tags in one kind.
-pub fn lemma_kinds_are_told_apart() {}
+/// Kinds of errors are equal exactly if they are the same, with the same tags and octets, and errors exactly if their
+/// kinds are.
+pub fn lemma_kinds_compare_by_value() {}
 
 /// A clone of a borrowed value is the same value.
 pub fn lemma_clones_hold_the_same() {}

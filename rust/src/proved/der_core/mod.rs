@@ -62,7 +62,7 @@ pub use integer::{AsUintRef, Uint, UintEncoding, UintRef};
 pub use last_part::{Last, LastByTag, decode_last, decode_whole};
 pub use laws::{
     lemma_clones_hold_the_same, lemma_contents_are_read, lemma_documents_compare_by_bytes,
-    lemma_encodings_are_read, lemma_headers_compare_by_value, lemma_kinds_are_told_apart,
+    lemma_encodings_are_read, lemma_headers_compare_by_value, lemma_kinds_compare_by_value,
     lemma_lengths_compare_by_number, lemma_optional_parts_are_read,
     lemma_tag_numbers_compare_by_number,
 };

@@ -5,7 +5,7 @@ use crate::proved::pkcs1::other_primes::OtherPrimes;
 use crate::proved::pkcs1::private_key::RsaPrivateKey;
 use crate::proved::pkcs1::public_key::RsaPublicKey;
 use crate::proved::pkcs1::view::RsaPrivateKeyView;
-use crate::proved::der_core::{Encoding, ErrorKind, Uint, UintRef};
+use crate::proved::der_core::{Encoding, Uint, UintRef};
 use crate::proved::pkcs1_params::{Error, RsaOaepParams, RsaPssParams};
 use crate::proved::spki_core::{Any, AnyRef};
 
@@ -29,8 +29,8 @@ pub fn lemma_same_keys_have_the_same_encoding() {}
 /// one of these types is about the encodings that the other laws here are about.
 pub fn lemma_forms_share_the_grammars() {}
 
-/// Each error equals itself. By example, two variants differ, and so do two kinds in `Asn1`.
-pub fn lemma_errors_are_told_apart() {}
+/// Errors are equal exactly if they are the same, with the same kind in `Asn1`.
+pub fn lemma_errors_compare_by_value() {}
 
 /// A clone of a borrowing type means the same as the original.
 pub fn lemma_clones_mean_the_same() {}

@@ -70,7 +70,8 @@ fn ends_well(octets: &[u8]) -> bool {
 
 /// A type that names an algorithm, by its object identifier.
 pub trait AssociatedOid {
-    /// The contents octets of the identifier (X.690 8.19), without tag and length.
+    /// The contents octets of the identifier (X.690 8.19), without tag and length. They must be those of `octets`: no
+    /// proof compares them.
     const OID: &'static [u8];
 
     /// `OID`, for contracts.

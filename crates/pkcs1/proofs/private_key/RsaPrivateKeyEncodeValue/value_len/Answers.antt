@@ -1,4 +1,4 @@
-use Rattle.std.proofs.Common.{ap, ◌∙◌, ◌≡◌, false, refl, true}
+use Rattle.std.proofs.Common.{ap, ◌∙◌, ◌≡◌, ⊎_elim, false, inr, refl, true}
 use Rattle.der_core.specs.declared.error.ErrorKind.TheVariants as kind
 use Rattle.der_core.specs.Words.{same_tag}
 use Rattle.pkcs1.specs.Words.{private_as, private_key_with}
@@ -16,3 +16,6 @@ returns-clause-counts g c =
     key_counted u.valid u.printed key _ (version_is u.value u.written c.args.self.now.other_prime_infos) c.row_len.result
     (listed_some u.value u.written c.args.self.now.other_prime_infos
     (λ none. let e : false ≡ true = rw c.if-lists_none.false at (c.lists_none.ensures.1 none) in cc)) c.row_len.ensures.counts
+
+pub returns-clause-tag : goal.returns-clause-tag
+returns-clause-tag g c = λ tag e. ⊎_elim inr inr (c.row_len.ensures.tag tag e)

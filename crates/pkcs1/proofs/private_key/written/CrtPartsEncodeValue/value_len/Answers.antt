@@ -1,0 +1,6 @@
+use Rattle.std.proofs.Common.{⊎_elim, inl, inr}
+use Rattle.pkcs1.proofs.private_key.written.CrtPartsEncodeValue.value_len.Goals as goal
+
+pub returns-clause-tag : goal.returns-clause-tag
+returns-clause-tag g c =
+    λ tag e. ⊎_elim inl (⊎_elim inl (⊎_elim inl inr)) (c.value_len.ensures.tag tag e)

@@ -1,0 +1,6 @@
+use Rattle.std.proofs.Common.{⊎_elim}
+use Rattle.pkcs1.proofs.public_key.RsaPublicKeyEncodeInParts.parts_len.Goals as goal
+
+pub returns-clause-tag : goal.returns-clause-tag
+returns-clause-tag g c =
+    λ tag e. ⊎_elim (λ u. u) (⊎_elim (λ u. u) (λ none. absurd none)) (c.value_len.ensures.tag tag e)
