@@ -17,7 +17,7 @@ contents=(
     ffi/c/{open_container,make_container,make_params,signature_algorithm}.c
     crates/pkcs1_tool/{run_built.sh,copies.sh,refuse_memory.sh,refuse_memory.c,rows,stdin,stdout,pkcs1_tool.1}
     crates.txt ffi/prove.sh ffi/proof tools/{fresh.sh,generate.sh,generate,install.sh,count_definitions.py}
-    tools/{other_platforms.sh,wasi.mjs}
+    tools/{platforms.sh,other_platforms.sh,wasi.mjs}
 )
 
 stop() {
