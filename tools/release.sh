@@ -9,7 +9,7 @@ set -eu
 contents=(
     Makefile CMakeLists.txt README.md CHANGELOG.md SECURITY.md LICENSE-APACHE LICENSE-MIT
     docs/{USING,PROMISES,DIFFERENCES,DECISIONS,RELEASE}.md
-    ffi/{machine,link,install,amalgamation,check,check_abi,check_object,check_passed,check_freestanding}.sh
+    ffi/{machine,link,install,amalgamation,check,check_abi,check_object,check_passed,check_freestanding,check_sizes}.sh
     ffi/{abi,libpkcs1.pc.in}
     ffi/{include,generated,tests} rust :!rust/{check,check.sh,preconditions.py} tools/erase/{README.md,compare.py}
     ffi/c/{pkcs1,os,heap,test,rows,large,passed,freestanding,modulus,read_key,public_half}.c ffi/c/test.h
