@@ -62,8 +62,9 @@ ifneq ($(machine),)
 $(if $(and $(filter c assembly,$(CODE)),$(wildcard $(code))),,$(error CODE is c or, on x86_64 and aarch64, assembly))
 endif
 tool := $(if $(filter x86_64 aarch64,$(machine)),$(OUT)/pkcs1_tool)
-# What is left to the link can't be made local; debuggers go back from each call.
-library := $(if $(filter windows archive,$(machine)),,-fPIC) -fno-lto -fasynchronous-unwind-tables
+# What is left to the link can't be made local; debuggers go back from each call; a program need not keep all of them.
+library := $(if $(filter windows archive,$(machine)),,-fPIC) -fno-lto -fasynchronous-unwind-tables \
+    -ffunction-sections -fdata-sections
 compile = $(CC) -std=c99 $(CFLAGS) $(library) -Iffi/include -c $< -o $@
 assemble = $(CC) $(CFLAGS) -g0 -Wno-unused-command-line-argument -c $< -o $@
 

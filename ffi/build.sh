@@ -146,8 +146,8 @@ build_library() {
 link_library() {
     ld -r -o "$out/proved.o" --whole-archive "$library"
     objcopy --wildcard --keep-global-symbol='pkcs1_c_*' "$out/proved.o"
-    "$CC" -std=c99 -O2 ${CFLAGS-} -fPIC -Wall -Wextra -Werror -pedantic "-I$here/include" \
-        -c "$here/c/pkcs1.c" -o "$out/calls.o"
+    "$CC" -std=c99 -O2 ${CFLAGS-} -fPIC -ffunction-sections -fdata-sections -Wall -Wextra -Werror -pedantic \
+        "-I$here/include" -c "$here/c/pkcs1.c" -o "$out/calls.o"
     "$here/link.sh" "$out" || stop "the library isn't linked"
     say "ffi/out/libpkcs1.a and libpkcs1.so, version $version"
 }

@@ -40,6 +40,6 @@ asked=$({ $nm -u "$out/libpkcs1.a" && $nm -D -u "$out/libpkcs1.so"; } | sed -n '
 [ -z "$asked" ] || stop "the library asks for $asked"
 # On 32-bit Arm the ways back are in a table of their own. LLVM's readelf has no --debug-dump.
 frames=$({ $readelf --debug-dump=frames --unwind "$out/pkcs1.o" || $readelf --unwind "$out/pkcs1.o"; } 2> /dev/null |
-    grep -cE 'FDE cie|FDE length|^0x[0-9a-f]+ <' || true)
+    grep -cE 'FDE cie|FDE length|^0x[0-9a-f]+( <|: )' || true)
 places=$($readelf -sW "$out/pkcs1.o" | awk '/ FUNC / { print $7, $2 }' | sort -u | wc -l)
 [ "$frames" = "$places" ] || stop "a debugger can't go back from each call: $frames ways back, $places calls"

@@ -59,6 +59,7 @@ done
 "$room/sanitized" "$statuses"
 CFLAGS=$warned "$here/check_passed.sh" "$out" "$room/passed"
 CFLAGS=$warned "$here/check_freestanding.sh" "$out" "$room/freestanding"
+CFLAGS=-O2 "$here/check_sizes.sh" "$out"
 "$here/check_object.sh" "$out"
 "$CC" -std=c99 "${flags[@]}" "${test[@]}" "-L$out" -lpkcs1 -Wl,-rpath,"$out" -o "$room/test_shared"
 "$room/test_shared" "$statuses"

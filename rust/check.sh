@@ -20,7 +20,9 @@
 # folder DEBIAN into which they were unpacked. Nothing is installed. Without node or its packages `wasm` is left out.
 set -eu
 cd "$(dirname "$0")/.."
+. tools/platforms.sh
 OUT=$(realpath -m "${OUT:-out/rust}")
+room=$OUT/room
 COUNT=${COUNT:-500000}
 SEED=${SEED:-$(date +%Y%j)}
 export CARGO_TARGET_DIR=$OUT/target CARGO_TERM_QUIET=true
@@ -184,12 +186,14 @@ debian_rust() {
     export CARGO_TARGET_DIR=$OUT/debian_target
     "$RUSTC" --version | grep -q '^rustc 1\.85\.' || stop "$RUSTC is no rustc 1.85"
 }
-oldest() (
-    debian_rust
+with_oldest() {
     tests
     vectors
     answers "$CARGO_TARGET_DIR/debug/vectors"
-    echo "oldest: $("$RUSTC" --version), the tests with each feature, and the rows"
+}
+oldest() (
+    debian_rust
+    platform "Linux" "x86-64" "the crate for Rust, by rustc 1.85" "tested" -- with_oldest
 )
 
 # on_machine TRIPLE COMPILER QEMU ROWS: these rows, memory and beside.
@@ -205,7 +209,6 @@ on_machine() (
     "${run[@]}" "$made/vectors" < "$4" | grep '^[0-9]* rows held, 0 differ' || stop "$1 answers rows otherwise"
     "${run[@]}" "$made/refuse" "${rows[@]}"
     "${run[@]}" "$made/beside" $((COUNT / 20)) "$SEED" "${rows[@]}"
-    echo "machines: $1"
 )
 # rows_of_32_bits: but for four rows, which name a number that no usize of 32 bits holds.
 rows_of_32_bits() {
@@ -214,8 +217,10 @@ rows_of_32_bits() {
 machines() (
     debian_rust
     rows_of_32_bits > "$OUT/rows_of_32_bits"
-    on_machine i686-unknown-linux-gnu i686-linux-gnu-gcc qemu-i386 "$OUT/rows_of_32_bits"
-    on_machine s390x-unknown-linux-gnu s390x-linux-gnu-gcc qemu-s390x crates/pkcs1_vectors/stdin
+    platform "Linux" "i386" "the crate for Rust, by rustc 1.85" "tested under qemu" -- \
+        on_machine i686-unknown-linux-gnu i686-linux-gnu-gcc qemu-i386 "$OUT/rows_of_32_bits"
+    platform "Linux" "s390x" "the crate for Rust, by rustc 1.85" "tested under qemu" -- \
+        on_machine s390x-unknown-linux-gnu s390x-linux-gnu-gcc qemu-s390x crates/pkcs1_vectors/stdin
 )
 
 # debian_wasm: Debian 13 has a standard library for wasm32. Its rustc, run by its C library, is what cargo calls.
@@ -230,12 +235,11 @@ debian_wasm() {
     done
     export RUSTC=$OUT/rustc RUSTFLAGS="--sysroot=$root/usr -C linker=$OUT/lld" CARGO_TARGET_DIR=$OUT/wasm_target
 }
-wasm() (
-    local run=(node --no-warnings rust/check/wasi.js) made=$OUT/wasm_target/wasm32-wasip1/debug rows=$OUT/tool_rows
-    command -v node > "$OUT/log" || { echo "wasm: node isn't installed, so it is left out" && return; }
-    debian_wasm || { echo "wasm: Debian's rustc for it isn't there, so it is left out" && return; }
-    export CARGO_PROFILE_DEV_DEBUG=0
+on_wasm() {
     cargo build --manifest-path $crate --no-default-features --target wasm32-unknown-unknown
+}
+on_wasi() {
+    local run=(node --no-warnings rust/check/wasi.js) made=$OUT/wasm_target/wasm32-wasip1/debug rows=$OUT/tool_rows
     cargo build --manifest-path $crate --bin pkcs1_tool --target wasm32-wasip1
     vectors --target wasm32-wasip1
     rows_of_32_bits | "${run[@]}" "$made/vectors.wasm" | grep '^[0-9]* rows held, 0 differ' ||
@@ -243,17 +247,25 @@ wasm() (
     grep -v -e '^#' -e '^$' crates/pkcs1_tool/rows > "$rows"
     sed 's/ => .*//' "$rows" | "${run[@]}" "$made/pkcs1_tool.wasm" | cmp - <(sed 's/^.* => //' "$rows") ||
         stop "the tool for wasm32 answers otherwise"
-    echo "wasm: $("$RUSTC" --version), the rows, and those of the tool, by node $(node --version)"
+}
+wasm() (
+    rm -f "$OUT/rustc"
+    debian_wasm || echo "wasm: Debian's rustc for it isn't there"
+    export CARGO_PROFILE_DEV_DEBUG=0
+    platform "WebAssembly" "no C library" "the crate for Rust, by rustc 1.85" "only compiled" "$OUT/rustc" -- on_wasm
+    platform "WebAssembly" "WASI" "the crate for Rust, by rustc 1.85" "tested under node" "$OUT/rustc" node -- on_wasi
 )
 
 [ $# -gt 0 ] || set -- "${parts[@]}"
 for part; do
     [[ " ${parts[*]} " = *" $part "* ]] || stop "there is no part $part: it knows ${parts[*]}"
 done
-mkdir -p "$OUT"
+mkdir -p "$room"
+rm -f "$room/platforms"
 needs cargo cargo-clippy rustfmt python3
 TIMEFORMAT='%0R s, of processor time %0U s and %0S s of the system'
 for part; do
     time "$part"
     echo "rust/check.sh: $part: passed"
 done
+[[ " $* " != *" oldest machines wasm "* ]] || all_declared rust/check.sh

@@ -9,6 +9,7 @@
 set -eu
 here=$(cd "$(dirname "$0")" && pwd)
 ulimit -t 600 # no test runs forever
+. "$here/platforms.sh"
 
 stop() {
     printf 'tools/clean_room.sh: %s\n' "$*" >&2
@@ -101,7 +102,8 @@ vendored_program() {
 
 # use WHAT: this folder, as users would.
 use() {
-    step "$1: README's two commands" readme
+    echo "clean room: $1"
+    platform "Linux" "x86-64" "assembly, by make and gcc" "tested" -- readme
     step "$1: a program in C" c_program
     step "$1: a program in Rust" rust_program
     step "$1: the tool by cargo" cargo_tool
@@ -306,13 +308,13 @@ inside() {
     [ "$2" = all ] || return 0
     step "tree: the crate's tests" crate_tests
     step "tree: a program in Rust with the crate vendored" vendored_program
-    step "tree: make check CODE=c, of sources that can't be written" read_only
-    step "tree: make check CODE=c, with sanitizers" sanitized
-    step "tree: make, with clang alone" without_gcc
+    platform "Linux" "x86-64" "C as for other machines, by make and gcc" "tested" -- read_only
+    platform "Linux" "x86-64" "C, by make and clang, with sanitizers" "tested" -- sanitized
+    platform "Linux" "x86-64" "assembly, by make and clang" "linked" -- without_gcc
     step "tree: what make was told" told
-    step "tree: make check, with gcc's -fsanitize=address" address
-    step "tree: make check, with musl" musl
-    step "tree: make, with LLVM's tools" llvm
+    platform "Linux" "x86-64" "assembly, by make and gcc, with -fsanitize=address" "tested" -- address
+    platform "Linux" "x86-64 with musl" "assembly, by make and musl-gcc" "tested" -- musl
+    platform "Linux" "x86-64" "assembly, by make, clang and LLVM's tools" "linked" -- llvm
     step "tree: goals of make" goals
     step "tree: the shared library" shared_library
     step "tree: changes of the binary interface" interface
@@ -321,7 +323,8 @@ inside() {
     cd "$room/unpacked"
     use release
     step "release: the crate's tests" crate_tests
-    step "release: one file in a build of one's own" one_file
+    platform "Linux" "x86-64" "one file, by gcc" "tested" -- one_file
+    all_declared "$here/clean_room.sh"
 }
 # enter FOLDER WORD: goes on in a room of this folder. What is mounted there is seen there only.
 enter() {

@@ -4,20 +4,25 @@
 set -eu
 cd "$(dirname "$0")/.."
 ulimit -t 600 # no test runs forever
-# Machines as qemu names them, each with the name that its compiler begins with.
-machines='aarch64:aarch64-linux-gnu riscv64:riscv64-linux-gnu i386:i686-linux-gnu arm:arm-linux-gnueabihf
-    s390x:s390x-linux-gnu mips:mips-linux-gnu m68k:m68k-linux-gnu'
+. tools/platforms.sh
 room=$(mktemp -d)
 trap 'rm -rf "$room"' EXIT
 
-for it in $machines; do
-    name=${it%:*} compiler=${it#*:}-gcc
-    began=$SECONDS
-    make check OUT="$room/$name" CC="$compiler" RUN="qemu-$name" > "$room/log" 2>&1 || {
-        cat "$room/log" >&2
-        echo "tools/other_machines.sh: make check fails for $name" >&2
-        exit 1
-    }
-    echo "other machines: make check for $name, $((SECONDS - began)) s"
-done
-echo "other machines: $(wc -w <<< "$machines")"
+stop() {
+    printf 'tools/other_machines.sh: %s\n' "$*" >&2
+    exit 1
+}
+# on MACHINE NAME: what qemu calls the machine, and what the name of its compiler begins with.
+on() {
+    make check OUT="$room/$1" CC="$2-gcc" RUN="qemu-$1"
+}
+
+platform "Linux" "aarch64" "assembly, by make and gcc" "tested under qemu" -- on aarch64 aarch64-linux-gnu
+platform "Linux" "riscv64" "C, by make and gcc" "tested under qemu" -- on riscv64 riscv64-linux-gnu
+platform "Linux" "i386" "C, by make and gcc" "tested under qemu" -- on i386 i686-linux-gnu
+platform "Linux" "32-bit Arm" "C, by make and gcc" "tested under qemu" -- on arm arm-linux-gnueabihf
+platform "Linux" "s390x" "C, by make and gcc" "tested under qemu" -- on s390x s390x-linux-gnu
+platform "Linux" "MIPS" "C, by make and gcc" "tested under qemu" -- on mips mips-linux-gnu
+platform "Linux" "m68k" "C, by make and gcc" "tested under qemu" -- on m68k m68k-linux-gnu
+all_declared tools/other_machines.sh
+echo "other machines: $(wc -l < "$room/platforms"), after $SECONDS s"

@@ -17,34 +17,13 @@ rows=$PWD/ffi/tests/statuses
 tests=(-Iffi/include ffi/c/{test,rows,large}.c)
 wasi=(clang --target=wasm32-wasi --sysroot=/usr -I/usr/include/wasm32-wasi)
 node=(node --no-warnings "$PWD/tools/wasi.mjs")
-# What takes the C, and is only compiled here.
-compiled='thumbv7em-none-eabi riscv32-none-elf aarch64-linux-android x86_64-unknown-freebsd x86_64-apple-macos
-    arm64-apple-macos i686-pc-windows-msvc'
+
+. tools/platforms.sh
 
 stop() {
     printf 'tools/other_platforms.sh: %s\n' "$*" >&2
     exit 1
 }
-# step NAME TOOL.. -- COMMAND..: runs the command if these are there, and says how long it took; what it prints is shown
-# only if it fails.
-step() {
-    local name=$1 began=$SECONDS
-    shift
-    while [ "$1" != -- ]; do
-        [ -e "$1" ] || command -v "$1" > "$room/log" || {
-            echo "other platforms: $name is left out: $1 isn't installed"
-            return
-        }
-        shift
-    done
-    (set -e && "${@:2}") > "$room/log" 2>&1 &
-    wait $! || {
-        cat "$room/log" >&2
-        stop "$name: failed"
-    }
-    echo "other platforms: $name, $((SECONDS - began)) s"
-}
-
 # A build of one's own, by a compiler that has little more than C99.
 by_tcc() {
     tcc -Wall -Werror "${tests[@]}" "$room/pkcs1_all.c" -o "$room/by_tcc"
@@ -118,12 +97,10 @@ on_wasm() {
     node -e 'WebAssembly.instantiate(require("fs").readFileSync(process.argv[1])).then(
         (it) => { process.exitCode = it.instance.exports.tested() === 0 ? 0 : 1; })' "$room/on.wasm"
 }
+# alone TARGET: compiled without a warning, and no more.
 alone() {
-    local it
-    for it in $compiled; do
-        clang "--target=$it" -std=c99 -Wall -Wextra -Werror -ffreestanding "-I$room/few" -Iffi/include \
-            -c "$room/pkcs1_all.c" -o "$room/alone.o"
-    done
+    clang "--target=$1" -std=c99 -Wall -Wextra -Werror -ffreestanding "-I$room/few" -Iffi/include \
+        -c "$room/pkcs1_all.c" -o "$room/alone.o"
 }
 
 make amalgamation OUT="$room" > "$room/log"
@@ -160,14 +137,27 @@ set(CMAKE_RANLIB llvm-ranlib)
 set(CMAKE_CROSSCOMPILING_EMULATOR "${node[0]};${node[1]};${node[2]}")
 END
 
-step "one file, by tcc" tcc -- by_tcc
-step "one file, compiled for $(wc -w <<< "$compiled") platforms" clang -- alone
-step "one file, without a C library, on 32-bit Arm" clang arm-linux-gnueabihf-gcc qemu-arm -- on_arm
-step "one file, without a C library, on WebAssembly" clang wasm-ld node -- on_wasm
-step "Windows, by make and mingw" x86_64-w64-mingw32-gcc wine -- for_windows
-step "Windows, as one file in MSVC's dialect" clang x86_64-w64-mingw32-gcc wine -- in_dialect
-step "Windows, by CMake and mingw" cmake x86_64-w64-mingw32-gcc wine -- windows_by_cmake
-step "WASI, by make" clang wasm-ld llvm-ar /usr/include/wasm32-wasi node -- for_wasi
-step "WASI, by CMake" cmake clang wasm-ld llvm-ar /usr/include/wasm32-wasi node -- wasi_by_cmake
-step "Linux, by CMake" cmake -- linux_by_cmake
+platform "Linux" "x86-64" "one file, by tcc" "tested" tcc -- by_tcc
+platform "Linux" "x86-64" "assembly and C, by CMake and gcc" "tested" cmake -- linux_by_cmake
+platform "Windows" "x86-64" "C, by make and mingw, static and a DLL" "tested under wine" x86_64-w64-mingw32-gcc wine -- \
+    for_windows
+platform "Windows" "x86-64" "C, by CMake and mingw, static and a DLL" "tested under wine" cmake x86_64-w64-mingw32-gcc \
+    wine -- windows_by_cmake
+platform "Windows" "x86-64" "one file in MSVC's dialect, by clang" "tested under wine" clang x86_64-w64-mingw32-gcc \
+    wine -- in_dialect
+platform "WebAssembly" "WASI" "C, by make and clang" "tested under node" clang wasm-ld llvm-ar \
+    /usr/include/wasm32-wasi node -- for_wasi
+platform "WebAssembly" "WASI" "C, by CMake and clang" "tested under node" cmake clang wasm-ld llvm-ar \
+    /usr/include/wasm32-wasi node -- wasi_by_cmake
+platform "WebAssembly" "no C library" "one file, by clang" "tested under node" clang wasm-ld node -- on_wasm
+platform "no system" "32-bit Arm" "one file, by clang" "tested under qemu" clang arm-linux-gnueabihf-gcc qemu-arm -- \
+    on_arm
+platform "no system" "Cortex-M4" "one file, by clang" "only compiled" clang -- alone thumbv7em-none-eabi
+platform "no system" "riscv32" "one file, by clang" "only compiled" clang -- alone riscv32-none-elf
+platform "Android" "aarch64" "one file, by clang" "only compiled" clang -- alone aarch64-linux-android
+platform "FreeBSD" "x86-64" "one file, by clang" "only compiled" clang -- alone x86_64-unknown-freebsd
+platform "macOS" "x86-64" "one file, by clang" "only compiled" clang -- alone x86_64-apple-macos
+platform "macOS" "arm64" "one file, by clang" "only compiled" clang -- alone arm64-apple-macos
+platform "Windows" "i386" "one file in MSVC's dialect, by clang" "only compiled" clang -- alone i686-pc-windows-msvc
+all_declared tools/other_platforms.sh
 echo "other platforms: all that is installed works, after $SECONDS s"

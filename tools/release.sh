@@ -9,7 +9,7 @@ set -eu
 contents=(
     Makefile CMakeLists.txt README.md CHANGELOG.md SECURITY.md LICENSE-APACHE LICENSE-MIT
     docs/{USING,PROMISES,DIFFERENCES,DECISIONS,RELEASE}.md
-    ffi/{machine,link,install,amalgamation,check,check_abi,check_object,check_passed,check_freestanding}.sh
+    ffi/{machine,link,install,amalgamation,check,check_abi,check_object,check_passed,check_freestanding,check_sizes}.sh
     ffi/{abi,libpkcs1.pc.in}
     ffi/{include,generated,tests} rust :!rust/{check,check.sh,preconditions.py} tools/erase/{README.md,compare.py}
     ffi/c/{pkcs1,os,heap,test,rows,large,passed,freestanding,modulus,read_key,public_half}.c ffi/c/test.h
@@ -17,7 +17,7 @@ contents=(
     ffi/c/{open_container,make_container,make_params,signature_algorithm}.c
     crates/pkcs1_tool/{run_built.sh,copies.sh,refuse_memory.sh,refuse_memory.c,rows,stdin,stdout,pkcs1_tool.1}
     crates.txt ffi/prove.sh ffi/proof tools/{fresh.sh,generate.sh,generate,install.sh,count_definitions.py}
-    tools/{other_platforms.sh,wasi.mjs}
+    tools/{platforms.sh,other_platforms.sh,wasi.mjs}
 )
 
 stop() {

@@ -4,7 +4,8 @@ mod made;
 
 use pkcs1::der::asn1::UintRef;
 use pkcs1::der::{Decode, Encode, ErrorKind, Tag};
-use pkcs1::{Error, RsaPrivateKeyRef, RsaPublicKeyRef, Version};
+use pkcs1::pkcs8::PrivateKeyInfoRef;
+use pkcs1::{Error, RsaPrivateKeyRef, RsaPrivateKeyView, RsaPublicKeyRef, Version};
 
 #[test]
 fn a_public_key_is_read_and_written() {
@@ -53,6 +54,34 @@ fn a_private_key_of_two_primes_takes_no_memory() {
     assert!(key.other_prime_infos.is_none());
     assert_eq!(key.clone().encode_to_slice(&mut [0; 1400]).unwrap(), der);
     assert_eq!(key.public_key().modulus, key.modulus);
+}
+
+#[test]
+fn a_view_has_any_number_of_primes() {
+    for others in [1, 3, 9, 40] {
+        let der = made::private_key(others);
+        let key = RsaPrivateKeyView::from_der(&der).unwrap();
+        assert_eq!((key.version(), key.other_primes().remaining()), (Version::Multi, others));
+        let container = made::container(&der, None);
+        let key = PrivateKeyInfoRef::from_der(&container).unwrap().rsa_view().unwrap();
+        assert_eq!((key.as_bytes(), key.other_primes().count()), (&der[..], others));
+    }
+}
+
+#[test]
+fn attributes_are_replaced() {
+    let key = made::private_key(0);
+    let all = [None, Some(&[][..]), Some(&[0x30, 0][..]), Some(&[0x5a; 300])];
+    for before in all {
+        let der = made::container(&key, before);
+        let info = PrivateKeyInfoRef::from_der(&der).unwrap();
+        assert_eq!(info.attributes, before);
+        for attributes in all {
+            let wanted = made::container(&key, attributes);
+            let changed = PrivateKeyInfoRef { attributes, ..info };
+            assert_eq!(changed.encode_to_slice(&mut [0; 2000]).unwrap(), wanted);
+        }
+    }
 }
 
 #[test]
@@ -111,11 +140,14 @@ mod with_alloc {
 
     #[test]
     fn owned_keys_are_read_cloned_and_written() {
-        for others in [0, 1, 3] {
+        for others in 0..=12 {
             let der = made::private_key(others);
             let key = RsaPrivateKeyOwned::from_pkcs1_der(&der).unwrap().clone();
             assert_eq!(key.to_pkcs1_der().unwrap().as_bytes(), der);
             assert_eq!(RsaPrivateKeyOwned::try_from(&der[..]).unwrap().to_der().unwrap(), der);
+            let container = made::container(&der, None);
+            let key = RsaPrivateKeyOwned::from_pkcs8_der(&container).unwrap();
+            assert_eq!(key.to_pkcs8_der().unwrap().as_bytes(), container);
         }
         let der = made::public_key();
         let key = RsaPublicKeyOwned::from_pkcs1_der(&der).unwrap();

@@ -4,6 +4,7 @@
 mod made;
 
 use pkcs1::der::{Decode, Encode, ErrorKind};
+use pkcs1::pkcs8::PrivateKeyInfoRef;
 use pkcs1::{
     DecodeRsaPrivateKey, EncodeRsaPrivateKey, Error, RsaOaepParamsOwned, RsaOaepParamsRef, RsaPrivateKeyOwned,
     RsaPrivateKeyRef, RsaPrivateKeyView, RsaPssParamsOwned, RsaPssParamsRef, RsaPublicKeyOwned, RsaPublicKeyRef,
@@ -61,12 +62,15 @@ fn requests<T, E: Into<Error>>(call: impl Fn() -> Result<T, E>) -> isize {
 fn what_borrows_takes_no_memory() {
     let (public, two) = (made::public_key(), made::private_key(0));
     let twelve = made::private_key(10);
+    let container = made::container(&twelve, Some(&[5, 0]));
     let key = RsaPrivateKeyRef::try_from(&two[..]).unwrap();
     let params = RsaPssParamsRef::new::<Sha256>(32);
     assert_eq!(requests(|| RsaPublicKeyRef::from_der(&public)), 0);
     assert_eq!(requests(|| RsaPublicKeyRef::from_der(&public)?.encode_to_slice(&mut [0; 400]).map(<[u8]>::len)), 0);
     assert_eq!(requests(|| RsaPrivateKeyRef::from_der(&two)), 0);
     assert_eq!(requests(|| RsaPrivateKeyView::try_from(&twelve[..])), 0);
+    assert_eq!(requests(|| RsaPrivateKeyView::from_der(&twelve)), 0);
+    assert_eq!(requests(|| PrivateKeyInfoRef::from_der(&container)?.rsa_view()), 0);
     assert_eq!(requests(|| key.encode_to_slice(&mut [0; 2000]).map(<[u8]>::len)), 0);
     assert_eq!(requests(|| params.encode_to_slice(&mut [0; 99]).map(<[u8]>::len)), 0);
     assert_eq!(requests(|| RsaOaepParamsRef::default().encoded_len()), 0);

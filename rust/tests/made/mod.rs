@@ -25,16 +25,23 @@ pub fn public_key() -> Vec<u8> {
     sequence(&[number(256, 0xc1), tlv(2, &[1, 0, 1])])
 }
 
-/// A private key of 2048 bits, with so many primes past the second.
+/// A private key of 2048 bits, with so many primes past the second, no two of which have a number in common.
 pub fn private_key(others: usize) -> Vec<u8> {
     let mut parts = vec![tlv(2, &[u8::from(others > 0)]), number(256, 0xc1), tlv(2, &[1, 0, 1])];
     parts.push(number(256, 0xd1));
     parts.extend((0..5).map(|at| number(128, 0x91 + at)));
     if others > 0 {
-        let other = sequence(&[number(128, 0xe1), number(128, 0xe2), number(128, 0xe3)]);
-        parts.push(sequence(&vec![other; others]));
+        let other = |at| sequence(&[3 * at, 3 * at + 1, 3 * at + 2].map(|octet| number(128, 0x70 + octet as u8)));
+        parts.push(sequence(&(0..others).map(other).collect::<Vec<_>>()));
     }
     sequence(&parts)
+}
+
+/// The container of an RSA key, with these contents of attributes.
+pub fn container(key: &[u8], attributes: Option<&[u8]>) -> Vec<u8> {
+    let algorithm = sequence(&[tlv(6, &[0x2a, 0x86, 0x48, 0x86, 0xf7, 0x0d, 1, 1, 1]), tlv(5, &[])]);
+    let attributes = attributes.map_or(vec![], |contents| tlv(0xa0, contents));
+    sequence(&[tlv(2, &[0]), algorithm, tlv(4, key), attributes])
 }
 
 /// The parameters of PSS with this identifier of a hash function, and this salt length.
