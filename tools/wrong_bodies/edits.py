@@ -38,7 +38,8 @@ class Edit(NamedTuple):
                 old = text
             elif word == "new":
                 if not old or made.count(old) != 1:
-                    raise BadEdit(f"an 'old:' text stands {made.count(old) if old else 0} times in {self.file}, and not once")
+                    times = made.count(old) if old else 0
+                    raise BadEdit(f"an 'old:' text stands {times} times in {self.file}, and not once")
                 made, old = made.replace(old, text), None
         return {self.file: made}
 

@@ -47,14 +47,15 @@ def functions(path, text, types):
         span = head and span_of(lines, at, head[1])
         if span:
             # a method of a type stands where the type does, and one of a trait where its impl does
-            name = [*types.homes.get(owner, module_of(path)), owner, head[2]] if head[1] else [*module_of(path), head[2]]
-            found.append(Function("::".join(name), *span))
+            home = [*types.homes.get(owner, module_of(path)), owner] if head[1] else module_of(path)
+            found.append(Function("::".join([*home, head[2]]), *span))
         at = span[2] if span else at + 1
     return found
 
 
 def span_of(lines, at, indent):
-    """The first line, the body's first and the last of the function whose head is at `at`; None where it has no body."""
+    """The first line, the body's first and the last of the function whose head is at `at`; None where it has no
+    body."""
     body, has_clause = at, False
     while not opens_body(lines[body], indent, has_clause):
         if lines[body].endswith(";") or not lines[body].strip():

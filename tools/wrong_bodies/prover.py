@@ -2,16 +2,21 @@
 import os
 import re
 import subprocess
+from typing import NamedTuple
 
 KIT = os.path.dirname(subprocess.run(["rt", "doc"], capture_output=True, text=True, check=True).stdout.strip())
 # An answer that names what the edit took away: the goal itself was never tried.
-NAMES_WHAT_IS_GONE = re.compile(r"has no |is not in scope|was not admitted|is no name|not checked:|operand is missing|expected the end|cannot continue")
+NAMES_WHAT_IS_GONE = re.compile(
+    r"has no |is not in scope|was not admitted|is no name|not checked:"
+    r"|operand is missing|expected the end|cannot continue")
 # How a goal is told whose answer no longer proves it, which weighs less than a goal without an answer.
 BROKEN = ", whose answer no longer proves it"
 UNREADABLE = re.compile(r"(?:\./)?(src/\S+?):(\d+):\d+: error")
 # A law that an impl no longer meets, which an edit of a definition may break.
 LAW = re.compile(r"(?:\./)?src/\S+?:\d+:\d+: error: `[^`]+`: (.*)")
 NOTE = re.compile(r"note: (src/\S+?):(\d+):\d+: .*\(`([^`]+)`\)")
+# How its line of a function goes on that is proved, or would be if what it calls were.
+PROVED = ("no holes", "depends on a hole")
 # How its last line begins that tells what came of the functions that it was asked for.
 TOLD = re.compile(r"only=\d+ ")
 
@@ -43,8 +48,8 @@ def check_words(name, crates):
         words += ["--extern", f"{it}={at}/{it}.rlib"]
     for it in sorted(below(name, crates)):
         words += ["-L", f"dependency={os.path.abspath(f'crates/{it}/out/rlib')}"]
-    words += ["--antt-project", f"{KIT}/rattle/logic/antt-project.json", "--logic-built", f"{KIT}/logic_built", "--links", f"{name}="]
-    return words + ["--crate-type", "staticlib"] * is_static
+    words += ["--antt-project", f"{KIT}/rattle/logic/antt-project.json", "--logic-built", f"{KIT}/logic_built"]
+    return words + ["--links", f"{name}="] + ["--crate-type", "staticlib"] * is_static
 
 
 def messages(said):
@@ -67,29 +72,60 @@ def names_what_is_gone(told):
     return NAMES_WHAT_IS_GONE.search(re.sub(r"`[^`]*`", "", told))
 
 
-def own_goals(said, crate, name, is_own):
-    """The goals by which a function counts as refused: answers of its own that no longer hold, or goals that are open at a
-    line of its own; these only where no answer was lost because the edit took its goal away."""
+class Told(NamedTuple):
+    """What was said of the proof of a function."""
+
+    broken: list  # its answers that no longer prove their goals
+    opened: list  # its goals that are open
+    lost: list  # what was said of answers that name what is gone
+
+
+def told_of(said, crate, name, is_own):
+    """What was said of the proof of a function, with the goals that are open at lines that are its own. Nothing, if it
+    isn't refused."""
+    told = Told([], [], [])
     if not any(it.startswith((f"fn {crate}::{name}: not proved", f"fn {crate}::{name}: no proof")) for it in said):
-        return []
-    answer = re.compile(rf"(?:\./)?proofs/{re.escape(name.replace('::', '/'))}/[\w.+-]+\.antt:\d+:\d+: error: (?:`([^`]+)`: )?(.*)")
-    broken, opened, is_lost = [], [], False
+        return told
+    home = re.escape(name.replace("::", "/"))
+    answer = re.compile(rf"(?:\./)?proofs/{home}/[\w.+-]+\.antt:\d+:\d+: error: (?:`([^`]+)`: )?(.*)")
     for line in said:
         if (at := NOTE.match(line)) and is_own(at[1], int(at[2])):
-            opened.append(f"{name}: `{at[3]}`")
+            told.opened.append(at[3])
         elif at := answer.match(line):
             if names_what_is_gone(at[2]):
-                is_lost = True
+                told.lost.append(line)
             elif at[1]:
-                broken.append(f"{name}: `{at[1]}`{BROKEN}")
-    return broken or ([] if is_lost else opened)
+                told.broken.append(at[1])
+    return told
+
+
+def own_goal(told, name):
+    """The goal by which a function counts as refused, or None: an answer of its own that no longer holds, or a goal
+    that is open at a line of its own; this only where no answer was lost because the edit took its goal away."""
+    if told.broken:
+        return f"{name}: `{told.broken[0]}`{BROKEN}"
+    return f"{name}: `{told.opened[0]}`" if told.opened and not told.lost else None
+
+
+def goals_without_answers(said, crate, name):
+    """The goals of a function that was tried alone, without an edit and without its answers, that were open then. None
+    where it isn't clear that these are all."""
+    line = next((it for it in said if it.startswith(f"fn {crate}::{name}: ")), "")
+    told = told_of(said, crate, name, lambda file, line: True)
+    if not TOLD.match(said[-1]) or unreadable(said) or told.lost:
+        return None
+    if line.startswith(tuple(f"fn {crate}::{name}: {it}" for it in PROVED)):
+        return []
+    return sorted({*told.opened, *told.broken, *re.findall(r"`([\w-]+)`", line.partition("did not prove")[2])}) or None
 
 
 def why_not(said, crate, names):
     """Why an edit of these functions that was tried alone doesn't count as refused."""
-    told = next((it for it in said if ": error" in it), said[-1])[:150]
     if not TOLD.match(said[-1]):
-        return f"BAD EDIT: {told}"
-    holds = tuple(f"fn {crate}::{it}: {how}" for it in names for how in ("no holes", "depends on a hole"))
-    is_proved = sum(it.startswith(holds) for it in said) == len(names)
-    return "NOT REFUSED: what it changes is still proved" if is_proved else f"NOT REFUSED at a goal of its own: {told}"
+        return f"BAD EDIT: {next((it for it in said if ': error' in it), said[-1])[:150]}"
+    holds = tuple(f"fn {crate}::{it}: {how}" for it in names for how in PROVED)
+    if sum(it.startswith(holds) for it in said) == len(names):
+        return "NOT REFUSED: what it changes is still proved"
+    told = next((it for it in said if it.startswith(tuple(f"fn {crate}::{name}: " for name in names))
+                 and not it.startswith(holds)), said[-1])
+    return f"NOT REFUSED at a goal of its own: {told[:150]}"

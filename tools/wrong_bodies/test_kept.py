@@ -1,7 +1,7 @@
 #!/usr/bin/env python3
 """Tests, with the prover, which edits are tried again: three small crates, each over the one below, and an edit of the
-topmost whose verdict is kept. It is tried again after a change of what the prover reads, and after no other change; and a
-verdict that was put in another's place is never taken.
+topmost whose verdict is kept. It is tried again after a change of what the prover reads, and after no other change; and
+a verdict that was put in another's place is never taken.
 
     tools/wrong_bodies/test_kept.py     .ci/run calls it
 """
@@ -109,6 +109,8 @@ def test(tree):
     assert tree.try_edits() == 1, "a verdict isn't kept"
     tree.put("README.md", "Another document.\n")
     assert tree.try_edits() == 1, "an edit is tried again after a change of a document"
+    tree.change("crates/top/wrong/lib.edits", "middle::echo(0)", "middle::echo(0)\nrow: echo 1 = 0")
+    assert tree.try_edits() == 1, "an edit is tried again after a change of its rows"
     tree.change("crates/top/wrong/lib.edits", "middle::echo(0)", "middle::echo(1)")
     assert tree.try_edits() == 0, "an edit isn't tried again after a change of itself"
     tree.put("../kit/name", "another toolchain\n")
@@ -124,8 +126,9 @@ def test(tree):
 
 def forge(tree):
     """Puts the verdict on the edit that is refused in the place of one on the edit that isn't."""
-    program = "import sys; sys.path.insert(0, 'tools/wrong_bodies'); import wrong_bodies as it; crates = it.read_crates(); " \
-        "print(*map(it.Verdicts('top', crates, False).key, it.edits_in('crates/top/wrong')))"
+    program = "import sys; sys.path.insert(0, 'tools/wrong_bodies'); import earlier, edits, prover; " \
+        "verdicts = earlier.Verdicts('top', prover.read_crates(), False); " \
+        "print(*map(verdicts.key, edits.edits_in('crates/top/wrong')))"
     refused, harmless = tree.run("python3", "-B", "-c", program).stdout.split()
     folder = tree.room / "cache/pkcs1-gate/wrong_bodies"
     shutil.copy(folder / refused, folder / harmless)
