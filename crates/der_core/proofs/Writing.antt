@@ -296,3 +296,7 @@ not_refused Tags (Ok x) has appends tag e = cc
 not_refused Tags (Err e) has appends tag same =
     let is : e.kind ≡ kind.Value tag = ap kind_in same in
     absurd ((rw is at appends.left).0 has)
+
+-- An error made with a tag is refused with this one.
+pub refused_with : {A : Type 0} (t : Tag) (e : Error) → e.kind ≡ kind.Value t → RefusedAs {A = A} (λ tag. tag ≡ t) (Err e)
+refused_with t e is tag same = let both : kind.Value t ≡ kind.Value tag = sym is ∙ ap kind_in same in cc
