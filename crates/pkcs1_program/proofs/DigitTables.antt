@@ -1,25 +1,15 @@
--- The tables of digits, and what a pair of digits is.
-use Rattle.std.proofs.Common.{◌≡◌, ℕ, ◌*◌, ◌+◌, ◌/◌, ◌%◌, ◌<◌, ◌==◌, slice_index, Option, Some, None, Ok, Err, true, refl, eqb-true, ap}
+-- The table of digits, and what a pair of them is.
+use Rattle.std.proofs.Common.{◌≡◌, ℕ, ◌*◌, ◌+◌, ◌<◌, ◌==◌, slice_index, Option, Some, None, Ok, Err, true, refl, eqb-true}
 use Rattle.std.proofs.lemmas.Bool.{agree_below_at}
-use Rattle.hex.specs.Hex.{hex_digit_value, lower_digits, digit_or_error, pair_value, ◌>>=◌}
+use Rattle.hex.specs.Hex.{hex_digit_value, digit_or_error, pair_value, ◌>>=◌}
 use Rattle.hex.specs.declared.error.FromHexError.{FromHexError}
 use Rattle.hex.specs.declared.error.FromHexError.TheVariants.{InvalidHexCharacter}
 use Rattle.pkcs1_program.specs.Words.{or_sixteen, pair_octet}
-use Rattle.pkcs1_program.specs.declared.digits.TheConstants.{VALUES, PAIRS}
+use Rattle.pkcs1_program.specs.declared.digits.TheConstants.{VALUES}
 
 pub value_told : (d : ℕ) → d < 256 → slice_index VALUES d ≡ or_sixteen (hex_digit_value d)
 value_told d few =
     eqb-true _ _ (agree_below_at (λ y. slice_index VALUES y == or_sixteen (hex_digit_value y)) (λ _. true) 256 d refl few)
-
-pub first_told : (d : ℕ) → d < 256 → slice_index PAIRS.now (2 * d) ≡ slice_index lower_digits (d / 16)
-first_told d few =
-    let at = λ (y : ℕ). slice_index PAIRS.now (2 * y) == slice_index lower_digits (y / 16) in
-    eqb-true _ _ (agree_below_at at (λ _. true) 256 d refl few)
-
-pub second_told : (d : ℕ) → d < 256 → slice_index PAIRS.now (2 * d + 1) ≡ slice_index lower_digits (d % 16)
-second_told d few =
-    let at = λ (y : ℕ). slice_index PAIRS.now (2 * y + 1) == slice_index lower_digits (y % 16) in
-    eqb-true _ _ (agree_below_at at (λ _. true) 256 d refl few)
 
 module _ (high low i : ℕ) where
   taken : (v : ℕ) (a b : Option ℕ) → pair_octet a b ≡ Some v
