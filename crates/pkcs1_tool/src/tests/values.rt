@@ -109,7 +109,11 @@ fn a_secret_document_shows_no_byte(rt: HostRuntime) -> Result<(), Fail> {
 fn parameters_are_printed_by_their_fields(rt: HostRuntime) -> Result<(), Fail> {
     let alloc = rt.alloc();
     let any = printed(alloc, &AnyRef::new(Tag::INTEGER, &[7])?)?;
-    equal(&rt, any.as_str(), "AnyRef { tag: Tag { octet: 2 }, contents: [7] }");
+    equal(
+        &rt,
+        any.as_str(),
+        "AnyRef { tag: Tag { octet: 2 }, contents: [7] }",
+    );
     let pss = RsaPssParamsRef::new::<Sha256>(32);
     let (oid, hash) = (printed(alloc, &pss.hash.oid)?, printed(alloc, &pss.hash)?);
     let null = "Some(AnyRef { tag: Tag { octet: 5 }, contents: [] })";
@@ -119,7 +123,10 @@ fn parameters_are_printed_by_their_fields(rt: HostRuntime) -> Result<(), Fail> {
     let want = format!(in alloc; "RsaPssParams {{ {fields}, salt_len: 32, trailer_field: BC }}")?;
     equal(&rt, printed(alloc, &pss)?.as_str(), want.as_str());
     let oaep = RsaOaepParamsRef::new::<Sha256>();
-    let want = format!(in alloc; "RsaOaepParams {{ {fields}, p_source: {:?} }}", oaep.p_source)?;
+    let want = format!(in alloc;
+        "RsaOaepParams {{ {fields}, p_source: {:?} }}",
+        oaep.p_source
+    )?;
     equal(&rt, printed(alloc, &oaep)?.as_str(), want.as_str());
     Ok(())
 }
