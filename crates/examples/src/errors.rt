@@ -23,6 +23,7 @@ impl Advice {
         ensures memory { IsAsn1 (λ e. e.kind ≡ ErrorKind.OutOfMemory) error.now → result ≡ Advice.TryAgain }
         ensures file { IsAsn1 IsFile error.now → result ≡ Advice.LookAtTheFile }
         ensures bytes { IsAsn1 (λ e. TellsOfBytes e.kind) error.now → result ≡ Advice.LookAtTheKey }
+        ensures version { error.now ≡ Error.Version → result ≡ Advice.LookAtTheKey }
     {
         match error {
             Error::Asn1(inner) => match inner.kind() {

@@ -1,6 +1,7 @@
 -- Parameters that have an encoding can be held.
 use Rattle.std.proofs.Common.{ℕ, List, [], ◌∷◌, ◌++◌, ◌≡◌, ◌≤◌, length, length-append, refl, sym, subst, ap, arith, rules, ◌+◌, true, inl, inr, Option, Some, None}
-use Rattle.der_core.specs.Words.{tlv_fit, is_allowed}
+use Rattle.der_core.proofs.Lengths.{length_octets-4}
+use Rattle.der_core.specs.Words.{length_octets, octets_grow, tlv_fit, is_allowed}
 use Rattle.pkcs1_params.specs.Words.{mgf1_identifier, pss_lawful, source_identifier}
 use Rattle.spki_core.specs.Words.{field}
 use Rattle.standard.specs.Statement.{Algorithm, Field, Fields, IfPresent, IsAlgorithm, IsAny, IsIdentifier, OaepEncoding, OaepParameters, PssEncoding, PssParameters, TagAndContents, algorithm, any, empty_label, integer, limit, mgf1_sha1, optional, sha1, tlv}
@@ -91,3 +92,10 @@ oaep_fits p bytes (ok, few, c, held, is) =
     hash_fit p.hash p.mask_gen ok.0 ok.1 (field 2 (algorithm any) empty_label p.p_source ∷ []) (PlainError p.p_source)
     (λ d q fewer. (field_fits plain_fits 2 empty_label p.p_source label_fits ok.2 [] d q fewer).0) c held
     (omega (arith, few, ap length is, tlv_fit 48 c))
+
+-- A tag and a length are 6 octets at most.
+pub few_more : (tag : ℕ) (c : List ℕ) → length (tlv tag c) ≤ limit → length (tlv tag c) ≤ length c + 6
+few_more tag c few =
+    let whole = length-append (length_octets (length c)) c in
+    let most = octets_grow (length c) limit (omega (arith, few, whole)) (omega arith) in
+    omega (arith, whole, most, ap length (length_octets-4 limit (omega arith) (omega arith)))

@@ -3,6 +3,7 @@ ghost use Rattle.std.specs.Prelude.{◌≡◌, ◌+◌, ◌≤◌, length, slice
 ghost use Rattle.std.specs.Int.Digits.{number_from_digits};
 ghost use Rattle.der_core.specs.Words.{HoldsNumber, limit, bytes_of, alike, number_law, one_spelling, number_contents};
 ghost use Rattle.der_core.specs.Printed as printed;
+ghost use Rattle.standard.specs.Statement.{integer};
 
 use der_core::{
     BackWriter, Contents, EncodeValue, IntegerTag, Length, Result, TaggedBy, UintRef, Writer,
@@ -43,10 +44,13 @@ impl<'a> Number<'a> {
         self.bytes.len() + self.zeros
     }
 
-    /// A bound on the octets of the encoding, known without a look at them: a tag, a length and a zero are 7 at most.
+    /// A bound on the octets of an encoding within the limit, known without a look at them: a tag, a length and a zero are
+    /// 7 at most.
     #[inline(always)]
     pub(crate) fn octets_at_most(&self) -> usize
-        ensures { result ≤ limit + 7 }
+        ensures bounds { let octets = length (integer (number_from_digits 256 (number_of self.now))) in
+            octets ≤ limit → octets ≤ result }
+        ensures most { result ≤ limit + 7 }
     {
         self.bytes.len() + 7
     }

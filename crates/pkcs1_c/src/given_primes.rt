@@ -93,7 +93,10 @@ fn append_given<W: Writer>(other: &OtherPrime<'_>, writer: &mut W) -> Result<()>
 
 /// Whether a bound on the octets of the prime's encoding says that they are no more than `left`.
 #[inline(always)]
-fn is_surely_within(info: &OtherPrimeInfo<Number<'_>>, left: usize) -> bool {
+fn is_surely_within(info: &OtherPrimeInfo<Number<'_>>, left: usize) -> bool
+    ensures { let octets = length (prime_encoded (held_other_prime number_of info.now)) in
+        IsTrue result → octets ≤ limit → octets ≤ left }
+{
     let numbers = info.prime.octets_at_most()
         + info.exponent.octets_at_most()
         + info.coefficient.octets_at_most();

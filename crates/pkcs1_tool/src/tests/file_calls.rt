@@ -1,13 +1,13 @@
 //! Which calls on files are made, in order: no file is created before what goes into it is there, none is renamed before it
 //! is whole, and no other file is touched.
-use crate::tests::checks::equal;
+use crate::tests::checks::{equal, holds};
 use crate::tests::key_files::{PRIVATE, PUBLIC};
 use crate::tests::recorded::{Call, Calls, Recorder};
 use pkcs1::{
     DecodeRsaPrivateKey, DecodeRsaPublicKey, EncodeRsaPrivateKey, EncodeRsaPublicKey,
     RsaPrivateKeyOwned, RsaPublicKeyOwned, RsaPublicKeyRef,
 };
-use pkcs1_program::{copy_priv, copy_pub};
+use pkcs1_program::{ReplaceFiles, Rights, Target, copy_priv, copy_pub};
 use std::alloc::Global;
 use std::cell::RefCell;
 use std::path::Path;
@@ -161,4 +161,20 @@ fn only_a_private_key_has_a_model(rt: HostRuntime) {
     let done = copy_pub(&recorder, alloc, Path::new("in"), Path::new("out"));
     equal(&rt, done.is_err(), true);
     equal(&rt, calls.into_inner().as_slice(), &REPLACED[..5]);
+}
+
+/// A new file that has a model whose rights can't be read is its owner's alone.
+#[test]
+fn an_absent_model_allows_the_owner_alone(rt: HostRuntime) -> Result<(), Fail> {
+    let (path, model) = (Path::new("no_copy.der"), Path::new("no_model.der"));
+    let Target::Beside(new) = rt.target(rt.alloc(), path, Some(model))? else {
+        holds(&rt, false);
+        return Ok(());
+    };
+    let owner = Rights {
+        mode: 0o600,
+        are_kept: false,
+    };
+    equal(&rt, new.rights, owner);
+    Ok(())
 }
