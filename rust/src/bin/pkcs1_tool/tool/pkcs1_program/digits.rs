@@ -20,17 +20,6 @@ const VALUES: [u8; 256] = [
     16, 16, 16, 16, 16, 16, 16, 16, 16, 16, 16, 16, 16, 16,
 ];
 
-/// The two digits of each octet, one octet after the other.
-const PAIRS: &[u8; 512] = b"\
-000102030405060708090a0b0c0d0e0f101112131415161718191a1b1c1d1e1f\
-202122232425262728292a2b2c2d2e2f303132333435363738393a3b3c3d3e3f\
-404142434445464748494a4b4c4d4e4f505152535455565758595a5b5c5d5e5f\
-606162636465666768696a6b6c6d6e6f707172737475767778797a7b7c7d7e7f\
-808182838485868788898a8b8c8d8e8f909192939495969798999a9b9c9d9e9f\
-a0a1a2a3a4a5a6a7a8a9aaabacadaeafb0b1b2b3b4b5b6b7b8b9babbbcbdbebf\
-c0c1c2c3c4c5c6c7c8c9cacbcccdcecfd0d1d2d3d4d5d6d7d8d9dadbdcdddedf\
-e0e1e2e3e4e5e6e7e8e9eaebecedeeeff0f1f2f3f4f5f6f7f8f9fafbfcfdfeff";
-
 /// The value of a hexadecimal digit, or 16.
 #[inline(always)]
 fn value_of(digit: u8) -> u8 {
@@ -61,26 +50,6 @@ pub fn decode_pairs(digits: &[u8], bytes: &mut [u8]) -> bool {
     true
 }
 
-/// The first digit of an octet.
-#[inline(always)]
-fn first_digit(octet: u8) -> u8 {
-    PAIRS[2 * octet as usize]
-}
-
-/// The second digit of an octet.
-#[inline(always)]
-fn second_digit(octet: u8) -> u8 {
-    PAIRS[2 * octet as usize + 1]
-}
-
-/// Encodes the bytes as pairs of lowercase hexadecimal digits.
-fn encode_pairs(bytes: &[u8], digits: &mut [u8]) {
-    for index in 0..bytes.len() {
-        digits[2 * index] = first_digit(bytes[index]);
-        digits[2 * index + 1] = second_digit(bytes[index]);
-    }
-}
-
 /// Appends the bytes to `out`, in lowercase hexadecimal digits.
 pub fn put_hex(bytes: &[u8], out: &mut Vec<u8>) -> Result<(), AllocError> {
     let start = out.len();
@@ -91,8 +60,10 @@ pub fn put_hex(bytes: &[u8], out: &mut Vec<u8>) -> Result<(), AllocError> {
         return Err(AllocError);
     };
     out.resize(end, 0)?;
-    encode_pairs(bytes, &mut out.as_mut_slice()[start..]);
-    Ok(())
+    match crate::rattle_std::hex::encode_to_slice(bytes, &mut out.as_mut_slice()[start..]) {
+        Ok(()) => Ok(()),
+        Err(_) => unreachable!(),
+    }
 }
 
 /// Appends the label to `out`, and then the bytes in hexadecimal digits.

@@ -2,14 +2,14 @@
 //! Which calls on files are made, in order: no file is created before what goes into it is there, none is renamed before it
 //! is whole, and no other file is touched.
 use crate::rattle_std::prelude::{HostRuntime, Vec};
-use crate::tool::pkcs1_tool::tests::checks::equal;
+use crate::tool::pkcs1_tool::tests::checks::{equal, holds};
 use crate::tool::pkcs1_tool::tests::key_files::{PRIVATE, PUBLIC};
 use crate::tool::pkcs1_tool::tests::recorded::{Call, Calls, Recorder};
 use crate::proved::pkcs1::{
     DecodeRsaPrivateKey, DecodeRsaPublicKey, EncodeRsaPrivateKey, EncodeRsaPublicKey,
     RsaPrivateKeyOwned, RsaPublicKeyOwned, RsaPublicKeyRef,
 };
-use crate::tool::pkcs1_program::{copy_priv, copy_pub};
+use crate::tool::pkcs1_program::{ReplaceFiles, Rights, Target, copy_priv, copy_pub};
 use crate::rattle_std::alloc::Global;
 use crate::rattle_std::cell::RefCell;
 use crate::rattle_std::path::Path;
@@ -163,4 +163,20 @@ fn only_a_private_key_has_a_model() { let rt = HostRuntime;
     let done = copy_pub(&recorder, alloc, Path::new("in"), Path::new("out"));
     equal(&rt, done.is_err(), true);
     equal(&rt, calls.into_inner().as_slice(), &REPLACED[..5]);
+}
+
+/// A new file that has a model whose rights can't be read is its owner's alone.
+#[test]
+fn an_absent_model_allows_the_owner_alone() -> Result<(), Fail> { let rt = HostRuntime;
+    let (path, model) = (Path::new("no_copy.der"), Path::new("no_model.der"));
+    let Target::Beside(new) = rt.target(rt.alloc(), path, Some(model))? else {
+        holds(&rt, false);
+        return Ok(());
+    };
+    let owner = Rights {
+        mode: 0o600,
+        are_kept: false,
+    };
+    equal(&rt, new.rights, owner);
+    Ok(())
 }

@@ -2,7 +2,7 @@
 //! Keys in files.
 use crate::rattle_std::prelude::HostRuntime;
 use crate::tool::pkcs1_tool::tests::checks::equal;
-use crate::proved::der_core::{Error, ErrorKind};
+use crate::proved::der_core::{Error, ErrorKind, Tag};
 use crate::proved::pkcs1::{
     DecodeRsaPrivateKey, DecodeRsaPublicKey, EncodeRsaPrivateKey, EncodeRsaPublicKey,
     RsaPrivateKeyOwned, RsaPrivateKeyRef, RsaPublicKeyOwned, RsaPublicKeyRef, reencode_private_key,
@@ -31,9 +31,9 @@ fn owned_private_keys_go_through_files() -> Result<(), Fail> { let rt = HostRunt
     let path = Path::new("owned.der");
     let key = RsaPrivateKeyOwned::from_pkcs1_der(alloc, PRIVATE)?;
     key.write_pkcs1_der_file(&rt, alloc, path)?;
-    let held = fs::read(&rt, path)?;
     let again = RsaPrivateKeyOwned::read_pkcs1_der_file(&rt, alloc, path)?;
     let no_public = RsaPublicKeyOwned::read_pkcs1_der_file(&rt, alloc, path);
+    let held = fs::read(&rt, path)?;
     fs::remove_file(&rt, path)?;
     equal(&rt, held.as_slice(), PRIVATE);
     equal(&rt, again.to_pkcs1_der(alloc)?.as_bytes(), PRIVATE);
@@ -58,11 +58,15 @@ fn public_keys_go_through_files() -> Result<(), Fail> { let rt = HostRuntime;
     let alloc = rt.alloc();
     let path = Path::new("public.der");
     RsaPublicKeyRef::try_from(PUBLIC)?.write_pkcs1_der_file(&rt, alloc, path)?;
-    let held = fs::read(&rt, path)?;
     let again = RsaPublicKeyOwned::read_pkcs1_der_file(&rt, alloc, path)?;
+    let no_private = RsaPrivateKeyOwned::read_pkcs1_der_file(&rt, alloc, path);
+    let held = fs::read(&rt, path)?;
     fs::remove_file(&rt, path)?;
     equal(&rt, held.as_slice(), PUBLIC);
     equal(&rt, again.to_pkcs1_der(alloc)?.as_bytes(), PUBLIC);
+    let version = ErrorKind::Value { tag: Tag::INTEGER };
+    let rejected = crate::proved::pkcs1::Error::Asn1(Error::new(version));
+    equal(&rt, no_private.map(|_| ()), Err(rejected));
     Ok(())
 }
 
@@ -83,6 +87,7 @@ fn absent_files_are_told() { let rt = HostRuntime;
     equal(&rt, absent, Err(FILE_ERROR));
     let absent = RsaPrivateKeyOwned::read_pkcs1_der_file(&rt, rt.alloc(), path).map(|_| ());
     equal(&rt, absent, Err(FILE_ERROR));
+    equal(&rt, fs::metadata(&rt, path).is_err(), true);
 }
 
 #[test]

@@ -1,13 +1,13 @@
 // Made of crates/pkcs1_tool/src/tests/values.rt by tools/erase/erase.py, and not to be edited.
-//! Constants of identifiers, errors that are compared, and values that are printed.
-use crate::rattle_std::prelude::{HostRuntime, String, format};
+//! Constants of identifiers, errors that are compared, values that are printed, and long values that are copied.
+use crate::rattle_std::prelude::{HostRuntime, String, Vec, format};
 use crate::tool::pkcs1_tool::tests::checks::{equal, holds};
-use crate::proved::der_core::{Document, Error, ErrorKind, SecretDocument, Tag};
+use crate::proved::der_core::{Document, Error, ErrorKind, SecretDocument, Tag, Uint};
 use crate::proved::pkcs1::{
     ALGORITHM_OID, Mgf1, PSpecified, RsaOaepParamsRef, RsaPssParamsRef, RsaesOaep, RsassaPss, Sha1,
     Sha224, Sha256, Sha384, Sha512, Sha512_224, Sha512_256,
 };
-use crate::proved::spki_core::AssociatedOid;
+use crate::proved::spki_core::{Any, AnyRef, AnyValue, AssociatedOid};
 use crate::rattle_std::alloc::Global;
 use crate::rattle_std::fmt::Debug;
 use crate::rattle_std::process::Abort;
@@ -110,11 +110,40 @@ fn a_secret_document_shows_no_byte() -> Result<(), Fail> { let rt = HostRuntime;
 #[test]
 fn parameters_are_printed_by_their_fields() -> Result<(), Fail> { let rt = HostRuntime;
     let alloc = rt.alloc();
-    let pss = printed(alloc, &RsaPssParamsRef::new::<Sha256>(32))?;
-    let front = "RsaPssParams { hash: AlgorithmIdentifier {";
-    holds(&rt, pss.as_str().starts_with(front));
-    let oaep = printed(alloc, &RsaOaepParamsRef::new::<Sha256>())?;
-    let front = "RsaOaepParams { hash: AlgorithmIdentifier {";
-    holds(&rt, oaep.as_str().starts_with(front));
+    let any = printed(alloc, &AnyRef::new(Tag::INTEGER, &[7])?)?;
+    equal(
+        &rt,
+        any.as_str(),
+        "AnyRef { tag: Tag { octet: 2 }, contents: [7] }",
+    );
+    let pss = RsaPssParamsRef::new::<Sha256>(32);
+    let (oid, hash) = (printed(alloc, &pss.hash.oid)?, printed(alloc, &pss.hash)?);
+    let null = "Some(AnyRef { tag: Tag { octet: 5 }, contents: [] })";
+    let want = format!(in alloc; "AlgorithmIdentifier {{ oid: {oid}, parameters: {null} }}")?;
+    equal(&rt, hash.as_str(), want.as_str());
+    let fields = format!(in alloc; "hash: {hash}, mask_gen: {:?}", pss.mask_gen)?;
+    let want = format!(in alloc; "RsaPssParams {{ {fields}, salt_len: 32, trailer_field: BC }}")?;
+    equal(&rt, printed(alloc, &pss)?.as_str(), want.as_str());
+    let oaep = RsaOaepParamsRef::new::<Sha256>();
+    let want = format!(in alloc;
+        "RsaOaepParams {{ {fields}, p_source: {:?} }}",
+        oaep.p_source
+    )?;
+    equal(&rt, printed(alloc, &oaep)?.as_str(), want.as_str());
+    Ok(())
+}
+
+#[test]
+fn long_values_are_copied() -> Result<(), Fail> { let rt = HostRuntime;
+    let alloc = rt.alloc();
+    let octets = [0x11; 5000];
+    let number = Uint::new(alloc, &octets)?;
+    holds(&rt, number.as_bytes() == octets.as_slice());
+    let any = Any::new(alloc, Tag::NULL, &octets[..300])?;
+    holds(&rt, any.as_any_ref().value() == &octets[..300]);
+    let mut encoding = Vec::from_slice(alloc, &[0x30, 0x82, 0x13, 0x88])?;
+    encoding.extend_from_slice(&octets)?;
+    let document = Document::from_der(alloc, encoding.as_slice())?;
+    holds(&rt, document.as_bytes() == encoding.as_slice());
     Ok(())
 }
