@@ -44,8 +44,8 @@ impl<'a> Number<'a> {
         self.bytes.len() + self.zeros
     }
 
-    /// A bound on the octets of an encoding within the limit, known without a look at them: a tag, a length and a zero are
-    /// 7 at most.
+    /// A bound on the octets of an encoding within the limit, known without a look at them: a tag, a length and a zero
+    /// are 7 at most.
     #[inline(always)]
     pub(crate) fn octets_at_most(&self) -> usize
         ensures bounds { let octets = length (integer (number_from_digits 256 (number_of self.now))) in
