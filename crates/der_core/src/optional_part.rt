@@ -121,7 +121,7 @@ where
     A: Encode,
     B: EncodeValue,
 {
-    ghost refused = { λ tag. (tag ≡ T.TAG) ⊎ T.EncodeValue.refused tag ⊎ A.Encode.refused tag ⊎ B.EncodeValue.refused tag };
+    ghost refused = { λ t. (t ≡ T.TAG) ⊎ T.EncodeValue.refused t ⊎ A.Encode.refused t ⊎ B.EncodeValue.refused t };
 
     #[inline(always)]
     fn value_len(&self) -> Result<Length> {
