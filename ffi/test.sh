@@ -134,14 +134,24 @@ grep -qx "Version: $version-unproved" "$room/d/lib/pkgconfig/libpkcs1.pc" || sto
 : > "$room/empty"
 head -c 65537 /dev/zero > "$room/long"
 programs=("$room/modulus" "$room/shared" "$room/static")
+# loads NAME COMMAND: a further program of this name is the command, where the loader finds the library.
+loads() {
+    printf '%s\n' '#!/bin/sh' "export LD_LIBRARY_PATH='$room/a b/lib'" "exec $2 \"\$@\"" > "$room/$1"
+    chmod +x "$room/$1"
+    programs+=("$room/$1")
+}
 if have python3 "the program in Python isn't run"; then
-    printf '%s\n' '#!/bin/sh' "export LD_LIBRARY_PATH='$room/a b/lib'" \
-        "exec python3 '$here/python/modulus.py' \"\$@\"" > "$room/python"
-    chmod +x "$room/python"
-    programs+=("$room/python")
+    loads python "python3 '$here/python/modulus.py'"
+fi
+if have go "the program in Go isn't run" && have pkg-config "the program in Go isn't run"; then
+    # Go 1.19 can't take a folder with a space from pkg-config.
+    GOCACHE=$room/cache PKG_CONFIG_PATH=$room/stage/usr/lib/pkgconfig go build -o "$room/public_key" \
+        "$here/go/public_key.go"
+    loads go "'$room/public_key'"
 fi
 for program in "${programs[@]}"; do
-    [ "$("$program" "$room/pub.der")" = c17f ] || stop "$program doesn't print the modulus"
+    case $program in */go) want='16 bits, exponent 3' ;; *) want=c17f ;; esac
+    [ "$("$program" "$room/pub.der")" = "$want" ] || stop "$program doesn't print '$want'"
     for file in none empty long; do
         "$program" "$room/$file" > "$room/text" 2>&1 && stop "$program reads a key in $file"
         [ -s "$room/text" ] || stop "$program doesn't say what is wrong with $file"

@@ -9,7 +9,7 @@ import glob, re, sys
 
 CODE = {'rattle': ['crates/*/src/*.rt'], 'antt': ['crates/*/[ps]*/**/*.antt'], 'c': ['ffi/c/*.c'],
         'rust': ['rust/examples/*.rs'], 'toml': ['rust/README.md'],
-        'python': ['ffi/python/*.py']}
+        'python': ['ffi/python/*.py'], 'go': ['ffi/go/*.go']}
 RUN = 'sh', 'cmake', 'meson', 'text'
 
 def plain(text):

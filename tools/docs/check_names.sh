@@ -10,7 +10,7 @@ import fnmatch, glob, os, re, sys
 
 ALLOWED = set('rt selftest umask start_lib bazel holes lemma meson'.split())
 PLACEHOLDER = r'[A-Z0-9]+|[0-9a-f]*\d[0-9a-f]*|\w'
-COMMENT = {'.rt': r'//.*', '.rs': r'//.*', '.c': r'/[/*].*', '.h': r'/\*.*', '.antt': r'--.*'}
+COMMENT = {'.rt': r'//.*', '.rs': r'//.*', '.go': r'//.*', '.c': r'/[/*].*', '.h': r'/\*.*', '.antt': r'--.*'}
 
 paths, code, wrong = set(), {}, []
 for folder, inner, files in os.walk('.'):
