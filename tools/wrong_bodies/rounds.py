@@ -10,7 +10,7 @@ from credit import NEEDS_NONE, of_itself
 from earlier import Verdicts, kept
 from edits import BadEdit
 from functions import functions, types_of
-from holes import is_cycle, leave_open, without_answers, without_bodies
+from holes import is_cycle, leave_open, without_answers
 from prover import (
     KIT, TOLD, check_words, goals_without_answers, is_read, messages, own_goal, told_of, unreadable, why_not)
 
@@ -29,7 +29,7 @@ class Crate:
             self.texts[it.removeprefix(f"crates/{name}/")] = pathlib.Path(it).read_text(encoding="utf-8")
         self.types = types_of(self.texts)
         every = {it.name for path, text in self.texts.items() for it in functions(path, text, self.types)}
-        # the functions of whose body and proof a check needs nothing, where they aren't edited
+        # the functions of whose proof a check needs nothing, where they aren't edited
         self.left_out = {it for it in every if not is_cycle(f"crates/{name}/proofs", it)}
 
     def check(self, texts, names, unanswered=()):
@@ -39,11 +39,10 @@ class Crate:
             for part in ("src", "specs", "proofs"):
                 if os.path.isdir(f"crates/{self.name}/{part}"):
                     shutil.copytree(f"crates/{self.name}/{part}", f"{room}/{part}")
-            left = self.left_out.difference(names)
-            for path, text in {**self.texts, **texts}.items():
+            for path, text in texts.items():
                 with open(f"{room}/{path}", "w", encoding="utf-8") as it:
-                    it.write(without_bodies(path, text, self.types, left))
-            leave_open(f"{room}/proofs", self.name, left)
+                    it.write(text)
+            leave_open(f"{room}/proofs", self.name, self.left_out.difference(names))
             for it in unanswered:
                 without_answers(f"{room}/proofs", it)
             words = [f"{KIT}/bin/rattle", "check", *self.words, "--incremental", self.kept, "--allow-holes"]
