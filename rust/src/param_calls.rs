@@ -12,11 +12,11 @@ use crate::proved::pkcs1_params::{self as proved, EncodeParams, FromAlgorithm};
 use crate::values::Held;
 use crate::{Error, Result};
 
-/// How many octets an encoding has at most that is written as known octets: a header, two fields, and a label's.
-const LONGEST_KNOWN: usize = 2 + 47 + 17 + 63;
+/// How many octets an encoding has at most that is written as known octets: a header, and fewer than 128 octets.
+const LONGEST_KNOWN: usize = 2 + 127;
 
 macro_rules! parameters {
-    ($($name:ident, $view:ident, $reference:ident, $owned:ident, $algorithm:ident, $default:expr;)*) => { $(
+    ($($name:ident, $view:ident, $reference:ident, $owned:ident, $algorithm:ident, $number:ident, $default:expr;)*) => { $(
         #[doc = concat!("`", stringify!($name), "` whose algorithms have borrowed parameters.")]
         pub type $reference<'a> = $name<AnyRef<'a>>;
 
@@ -110,7 +110,10 @@ macro_rules! parameters {
             ///
             /// `Overflow`, or `NoRoom` if the slice is too short.
             pub fn encode_algorithm<'o>(&self, out: &'o mut [u8]) -> Result<&'o [u8]> {
-                let length = self.view().encode_algorithm(out)?;
+                let length = match self.write_known(Some(proved::$number), out) {
+                    Some(known) => known.or(Err(der::Error::new(der::ErrorKind::NoRoom)))?,
+                    None => self.view().encode_algorithm(out)?,
+                };
                 Ok(&out[..length])
             }
 
@@ -121,7 +124,11 @@ macro_rules! parameters {
             /// `Overflow` or `OutOfMemory`.
             #[cfg(feature = "alloc")]
             pub fn to_algorithm_der(&self) -> Result<alloc::vec::Vec<u8>> {
-                Ok(der::to_der(&self.view().to_algorithm())?)
+                let mut room = [0; LONGEST_KNOWN];
+                Ok(match self.write_known(Some(proved::$number), &mut room) {
+                    Some(Ok(length)) => der::copied(&room[..length])?,
+                    _ => der::to_der(&self.view().to_algorithm())?,
+                })
             }
         }
 
@@ -178,16 +185,16 @@ macro_rules! parameters {
 
         impl<P: Held, O: Identifier> Encode for $name<P, O> {
             fn encoded_len(&self) -> der::Result<der::Length> {
-                match self.write_known(&mut [0; LONGEST_KNOWN]) {
-                    Some(length) => der::Length::try_from(length),
+                match self.write_known(None, &mut []) {
+                    Some(Ok(length) | Err(length)) => der::Length::try_from(length),
                     None => crate::proved::der_core::Encode::encoded_len(&self.view()),
                 }
             }
 
             #[inline]
             fn encode_to_slice<'o>(&self, out: &'o mut [u8]) -> der::Result<&'o [u8]> {
-                let length = match self.write_known(out) {
-                    Some(length) => length,
+                let length = match self.write_known(None, out) {
+                    Some(known) => known.or(Err(der::Error::new(der::ErrorKind::NoRoom)))?,
                     None => asn1((&self.view()).encode_params(out))?,
                 };
                 Ok(&out[..length])
@@ -196,17 +203,17 @@ macro_rules! parameters {
             #[cfg(feature = "alloc")]
             fn to_der(&self) -> der::Result<alloc::vec::Vec<u8>> {
                 let mut room = [0; LONGEST_KNOWN];
-                match self.write_known(&mut room) {
-                    Some(length) => der::copied(&room[..length]),
-                    None => der::to_der(&self.view()),
+                match self.write_known(None, &mut room) {
+                    Some(Ok(length)) => der::copied(&room[..length]),
+                    _ => der::to_der(&self.view()),
                 }
             }
         }
     )* };
 }
 parameters! {
-    RsaPssParams, RsaPssParamsView, RsaPssParamsRef, RsaPssParamsOwned, RsassaPss,
+    RsaPssParams, RsaPssParamsView, RsaPssParamsRef, RsaPssParamsOwned, RsassaPss, RSASSA_PSS,
         RsaPssParams::of_hash::<Sha1>(20);
-    RsaOaepParams, RsaOaepParamsView, RsaOaepParamsRef, RsaOaepParamsOwned, RsaesOaep,
+    RsaOaepParams, RsaOaepParamsView, RsaOaepParamsRef, RsaOaepParamsOwned, RsaesOaep, RSAES_OAEP,
         RsaOaepParams::of_hash::<Sha1>(&[]);
 }

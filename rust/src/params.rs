@@ -178,12 +178,12 @@ impl<P: Held, O: Identifier> RsaPssParams<P, O> {
         }
     }
 
-    /// Writes the encoding, if it is known and there is room.
+    /// Writes the encoding, alone or in an algorithm identifier, if it is known.
     #[inline]
-    pub(crate) fn write_known(&self, out: &mut [u8]) -> Option<usize> {
+    pub(crate) fn write_known(&self, place: proved::Place, out: &mut [u8]) -> Option<proved::Written> {
         let under = under(&self.hash, &self.mask_gen)?;
         let (hash, mask_gen) = (self.hash.oid.as_view(), self.mask_gen.oid.as_view());
-        proved::encode_known_pss(hash.as_bytes(), mask_gen.as_bytes(), under, self.salt_len, out)
+        proved::encode_known_pss(hash.as_bytes(), mask_gen.as_bytes(), under, self.salt_len, place, out)
     }
 
     /// The parameters with those of their algorithms held otherwise.
@@ -213,17 +213,17 @@ impl<P: Held, O: Identifier> RsaOaepParams<P, O> {
         }
     }
 
-    /// Writes the encoding, if it is known and there is room.
+    /// Writes the encoding, alone or in an algorithm identifier, if it is known.
     #[inline]
-    pub(crate) fn write_known(&self, out: &mut [u8]) -> Option<usize> {
+    pub(crate) fn write_known(&self, place: proved::Place, out: &mut [u8]) -> Option<proved::Written> {
         let under = under(&self.hash, &self.mask_gen)?;
         let source = self.p_source.parameters.as_ref()?.as_any();
         if source.tag() != Tag::OCTET_STRING {
             return None;
         }
         let (hash, mask_gen) = (self.hash.oid.as_view(), self.mask_gen.oid.as_view());
-        let named = self.p_source.oid.as_view();
-        proved::encode_known_oaep(hash.as_bytes(), mask_gen.as_bytes(), under, named.as_bytes(), source.value(), out)
+        let (hash, mask_gen, named) = (hash.as_bytes(), mask_gen.as_bytes(), self.p_source.oid.as_view());
+        proved::encode_known_oaep(hash, mask_gen, under, named.as_bytes(), source.value(), place, out)
     }
 
     /// The parameters with those of their algorithms held otherwise.

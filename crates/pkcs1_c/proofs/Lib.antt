@@ -10,3 +10,4 @@ pub mod StructErrors
 pub mod StatusRows
 pub mod StructErrorsRows
 pub mod StructsRows
+pub mod KeyLengths

@@ -1,12 +1,12 @@
 -- What is so of all calls that write: the front, the reason, the code of an error, the needed length.
-use Rattle.std.proofs.Common.{ℕ, zero, suc, List, ◌≡◌, ◌<◌, ◌∙◌, ◌⊎◌, length, take, refl, sym, subst, arith, rules, inl, inr, Some, length-take-le, ◌↔◌, Result, Err, ◌≤◌, ap}
+use Rattle.std.proofs.Common.{ℕ, zero, suc, List, ◌≡◌, ◌<◌, ◌∙◌, ◌⊎◌, length, take, refl, sym, subst, arith, rules, inl, inr, Some, length-take-le, ◌↔◌, Result, Ok, Err, IfOk, IfErr, ◌≤◌, ap}
 use Rattle.standard.specs.Statement.{Decodes, Encodes}
 use Rattle.pkcs1_c.specs.Words.{IsErrorOf, NoStatus, FieldsError, PartThen, Unwritten, If, IsLength, WritesOrTells, kind_number, status_of, IsErrorNumber, IsStatusOf}
 use Rattle.pkcs1_c.proofs.StructErrors.{IsOne, IsPart, fits_written}
 use Rattle.der_core.specs.Words.{EncodeError, TellsOfBytes, another, encode_error, no_encoding, no_room, shortest_is, too_long, limit, Spells, WritesShortest}
 use Rattle.der_core.specs.Writing as writing
 use Rattle.der_core.specs.declared.error.ErrorKind.{ErrorKind}
-use Rattle.pkcs1_params.specs.Words.{IsAsn1, Refuses}
+use Rattle.pkcs1_params.specs.Words.{IsAsn1, Refuses, WritesOrCounts}
 use Rattle.pkcs1_params.specs.declared.error.Error.{Error}
 use Rattle.pkcs1_params.specs.declared.error.Error.TheVariants as error
 use Rattle.std.proofs.lemmas.Bool.{cases_lt}
@@ -85,6 +85,24 @@ pub fields_told : {V : Type 0} (Part : V → ℕ → Type 0) (Encoding : V → L
     → Part v t → WritesOrTells Encoding v old old l l s × IsErrorOf (FieldsError Part Encoding v (length old)) s
 fields_told Part Encoding v part fits old =
     part_told (Part v) (Unwritten Encoding v (length old)) part Encoding v fits old
+
+-- Parameters that are written as known octets, or counted: none of their fields is at fault.
+module _ {V : Type 0} (Part : V → ℕ → Type 0) (Encoding : V → List ℕ → Type 0) (v : V)
+    (fits : (bytes : List ℕ) → Encoding v bytes → NoStatus (Part v)) (old new : List ℕ) (l m s : ℕ) where
+  pub known_told : (r : Result ℕ ℕ) → WritesOrCounts Encoding v old new r → length new ≡ length old
+      → IfOk r (λ n. (s ≡ 0) × (m ≡ n)) → IfErr r (λ n. (s ≡ 15) × (m ≡ n))
+      → WritesOrTells Encoding v old new l m s × IsErrorOf (FieldsError Part Encoding v (length old)) s
+  known_told (Ok n) made kept (zero, count) none =
+      let told = written Encoding v old new l n made kept in (
+        rw (zero, count) told.0,
+        rw zero (error_behind (Part v) (Unwritten Encoding v (length old)) 0 (fits (take n new) made.1.0) told.1),
+      )
+  known_told (Err n) (same, less, bytes, short, is) kept none (full, count) =
+      let why : Unwritten Encoding v (length old) 15 = inr (refl, n, (bytes, short, is), less) in (
+        not_written Encoding v old new l m s 15 full why same (λ k other. grind arith) (λ no. absurd (no bytes short.0)),
+        error_behind (Part v) (Unwritten Encoding v (length old)) s (fits bytes short.0)
+            (unwritten_is Encoding v (length old) s 15 full why),
+      )
 
 -- An error that tells of bytes has a number, below that of lack of room.
 tells_below : (e : ErrorKind) → TellsOfBytes e → (0 < kind_number e) × (kind_number e < 15)

@@ -1,12 +1,12 @@
 //! Algorithm identifiers.
-ghost use Rattle.std.specs.Prelude.{Decides, ◌≡◌, IfOk, IfErr, IsTrue};
+ghost use Rattle.std.specs.Prelude.{Decides, ◌≡◌, IfOk, IfErr, IsTrue, bytes_eq};
 ghost use Rattle.spki_core.specs.Words.{IsHash, TagAndContents, any_of, null_value, octets_of, viewed_with};
 ghost use Rattle.pkcs1_params.specs.Words.{UsesHash, with_parameters};
 ghost use Rattle.pkcs1_c.specs.Words.{kind_number, algorithm_seen, mask_gen_seen, AlgorithmIsTidy, MaskGenIsTidy, OidError, PlainError, MaskError};
 
 use der_core::{Result, Tag};
-use pkcs1::Mgf1;
-use spki_core::{AlgorithmView, AnyRef, AssociatedOid, IdentifierView};
+use pkcs1_params::is_mgf1;
+use spki_core::{AlgorithmView, AnyRef, IdentifierView};
 
 /// An AlgorithmIdentifier (RFC 5280 4.1.1.2).
 #[repr(C)]
@@ -155,22 +155,55 @@ pub(crate) fn have_null(hash: &Algorithm<'_>, mask_gen: &MaskGen<'_>) -> bool
     has_null(hash) && mask_gen.has_hash && has_null(&mask_gen.hash)
 }
 
+/// Whether two identifiers have the same octets. Those of hash functions have nine, which are compared in line.
+#[inline(always)]
+fn is_same(oid: &[u8], other: &[u8]) -> bool
+    ensures { result ≡ bytes_eq oid.now other.now }
+{
+    match (oid, other) {
+        ([a, b, c, d, e, f, g, h, i], [r, s, t, u, v, w, x, y, z]) => {
+            (*a == *r)
+                & (*b == *s)
+                & (*c == *t)
+                & (*d == *u)
+                & (*e == *v)
+                & (*f == *w)
+                & (*g == *x)
+                & (*h == *y)
+                & (*i == *z)
+        }
+        _ => oid == other,
+    }
+}
+
+/// Whether the algorithm is the hash function with this identifier: with NULL or without parameters, which mean the
+/// same (RFC 4055 2.1).
+#[inline(always)]
+fn is_hash(algorithm: &Algorithm<'_>, oid: &[u8]) -> bool
+    ensures { Decides result (IsHash oid.now (algorithm_seen algorithm.now)) }
+{
+    let is_null = algorithm.tag == Tag::NULL.octet() && algorithm.parameters.is_empty();
+    (!algorithm.has_parameters || is_null) && is_same(algorithm.oid, oid)
+}
+
 /// Whether the algorithm is the hash function with this identifier: with NULL or without parameters, which mean the
 /// same (RFC 4055 2.1).
 #[unsafe(no_mangle)]
 pub extern "C" fn pkcs1_c_algorithm_is(algorithm: &Algorithm<'_>, oid: &[u8]) -> bool
     ensures tells { Decides result (IsHash oid.now (algorithm_seen algorithm.now)) }
 {
-    let is_null = algorithm.tag == Tag::NULL.octet() && algorithm.parameters.is_empty();
-    (!algorithm.has_parameters || is_null) && algorithm.oid == oid
+    is_hash(algorithm, oid)
 }
 
-/// Whether the hash function has this identifier, and the mask generation function is MGF1 with the same.
-pub(crate) fn uses_hash(hash: &Algorithm<'_>, mask_gen: &MaskGen<'_>, oid: &[u8]) -> bool
-    ensures { Decides result (UsesHash oid.now (algorithm_seen hash.now) (mask_gen_seen mask_gen.now)) }
+/// Whether the hash function has this identifier, and the mask generation function is MGF1 with the same: each of them
+/// as `pkcs1_c_algorithm_is` has it.
+#[unsafe(no_mangle)]
+pub extern "C" fn pkcs1_c_uses_hash(
+    hash: &Algorithm<'_>,
+    mask_gen: &MaskGen<'_>,
+    oid: &[u8],
+) -> bool
+    ensures tells { Decides result (UsesHash oid.now (algorithm_seen hash.now) (mask_gen_seen mask_gen.now)) }
 {
-    mask_gen.has_hash
-        && mask_gen.oid == Mgf1::octets()
-        && pkcs1_c_algorithm_is(hash, oid)
-        && pkcs1_c_algorithm_is(&mask_gen.hash, oid)
+    mask_gen.has_hash && is_mgf1(mask_gen.oid) && is_hash(hash, oid) && is_hash(&mask_gen.hash, oid)
 }

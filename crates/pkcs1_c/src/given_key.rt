@@ -1,12 +1,12 @@
 //! Private keys that the caller passes.
-ghost use Rattle.std.specs.Prelude.{◌≡◌, ℕ, IfErr, IfOk, OnOk};
-ghost use Rattle.der_core.specs.Words.{alike, one_spelling};
+ghost use Rattle.std.specs.Prelude.{◌≡◌, ℕ, IfErr, IfOk, None, OnOk};
+ghost use Rattle.der_core.specs.Words.{Counts, alike, one_spelling};
 ghost use Rattle.pkcs1.specs.Words.{AnyNumber, PrivateIsValid, PrivateKey as KeyOf, integer_law, number as number_at, private_key_read, private_law, private_printed};
 ghost use Rattle.pkcs1_c.specs.Words.{NoStatus, NumbersError, given_key, given_numbers, held_given_key, private_key, status_of};
 ghost use Rattle.standard.specs.Statement.{integer};
 
 use crate::given_number::Number;
-use crate::given_primes::GivenPrimes;
+use crate::given_primes::{GivenPrimes, octets_with_tag};
 use crate::numbers::number;
 use crate::private_key::{OtherPrime, PrivateKey};
 use der_core::{BackWriter, Contents, EncodeValue, Length, Result, SequenceTag, TaggedBy, Writer};
@@ -46,6 +46,24 @@ impl<'a> GivenKey<'a> {
     }
 }
 
+/// The length of the contents of a key without other primes, as `row_len` tells it: fewer steps, as a number has contents
+/// and a length of some octets, and the version has one.
+#[inline(always)]
+fn numbers_len(key: &PrivateKeyOf<Number<'_>, GivenPrimes<'_>>) -> Result<Length>
+    ensures { let key = given_key key.now in
+        key.other_prime_infos ≡ None → Counts (Unit {0}) (private_printed integer key) result }
+{
+    let first = octets_with_tag(key.modulus.size())
+        + octets_with_tag(key.public_exponent.size())
+        + octets_with_tag(key.private_exponent.size())
+        + octets_with_tag(key.prime1.size());
+    let second = octets_with_tag(key.prime2.size())
+        + octets_with_tag(key.exponent1.size())
+        + octets_with_tag(key.exponent2.size())
+        + octets_with_tag(key.coefficient.size());
+    Length::try_from(3 + first + second)
+}
+
 impl Contents for GivenKey<'_> {
     ghost Value = { KeyOf ℕ };
 
@@ -78,6 +96,9 @@ impl TaggedBy for GivenKey<'_> {
 
 impl EncodeValue for GivenKey<'_> {
     fn value_len(&self) -> Result<Length> {
+        if self.0.other_prime_infos.is_none() {
+            return numbers_len(&self.0);
+        }
         self.0.row_len()
     }
 

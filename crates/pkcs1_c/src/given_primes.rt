@@ -45,7 +45,7 @@ fn from_c_other_prime<'a>(other: &OtherPrime<'a>) -> pkcs1::Result<OtherPrimeInf
 /// How many octets a tag, a length and contents are; more than the limit, if the contents are.
 #[tactic(auto, using(der_core::proofs::Lengths::known_lengths))]
 #[inline(always)]
-fn octets_with_tag(contents: usize) -> usize
+pub(crate) fn octets_with_tag(contents: usize) -> usize
     requires { contents < 2 ^ 40 }
     ensures within { contents ≤ limit → result ≡ tlv_len contents }
     ensures least { contents ≤ result }

@@ -19,15 +19,15 @@ mod public_key;
 mod status;
 mod written;
 
-pub use algorithm::{Algorithm, MaskGen, pkcs1_c_algorithm_is};
+pub use algorithm::{Algorithm, MaskGen, pkcs1_c_algorithm_is, pkcs1_c_uses_hash};
 pub use bytes::Bytes;
 pub use container::{
     PrivateKeyInfo, pkcs1_c_private_key_info_decode, pkcs1_c_private_key_info_encode,
 };
 pub use numbers::pkcs1_c_bit_len;
 pub use oaep::{
-    OaepParams, pkcs1_c_oaep_is, pkcs1_c_oaep_label, pkcs1_c_oaep_params_decode,
-    pkcs1_c_oaep_params_decode_strict, pkcs1_c_oaep_params_encode,
+    OaepParams, pkcs1_c_oaep_label, pkcs1_c_oaep_params_decode, pkcs1_c_oaep_params_decode_strict,
+    pkcs1_c_oaep_params_encode,
 };
 pub use oaep_algorithm::{
     pkcs1_c_oaep_algorithm_decode, pkcs1_c_oaep_algorithm_decode_strict,
@@ -38,7 +38,7 @@ pub use private_key::{
     pkcs1_c_private_key_encode,
 };
 pub use pss::{
-    PssParams, pkcs1_c_pss_is, pkcs1_c_pss_params_decode, pkcs1_c_pss_params_decode_strict,
+    PssParams, pkcs1_c_pss_params_decode, pkcs1_c_pss_params_decode_strict,
     pkcs1_c_pss_params_encode,
 };
 pub use pss_algorithm::{

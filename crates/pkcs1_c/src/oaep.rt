@@ -1,21 +1,20 @@
 //! Parameters of RSAES-OAEP.
-ghost use Rattle.std.specs.Prelude.{Decides, ◌≡◌, ◌≢◌, length, IfOk, IfErr, IfSome, Some, None, true, false};
-ghost use Rattle.pkcs1_params.specs.Words.{LabelOf, UsesHash, oaep_viewed, rsa_oaep_params, strict_oaep_params};
-ghost use Rattle.pkcs1_c.specs.Words.{FieldsError, IsErrorOf, IsStatusOf, OaepFieldError, OaepIsTidy, WritesOrTells, oaep_seen, status_of};
-ghost use Rattle.standard.specs.Statement.{Decodes, Encodes, IsShortest, OaepEncoding};
+ghost use Rattle.std.specs.Prelude.{◌≡◌, ◌≢◌, length, IfOk, IfErr, IfSome, Some, None, true, false};
+ghost use Rattle.pkcs1_params.specs.Words.{InPlace, LabelOf, WritesOrCounts, oaep_viewed, rsa_oaep_params, strict_oaep_params};
+ghost use Rattle.pkcs1_c.specs.Words.{FieldsError, IsErrorOf, IsStatusOf, OaepFieldError, OaepIsTidy, WritesOrTells, algorithm_seen, oaep_seen, status_of};
+ghost use Rattle.standard.specs.Statement.{Decodes, IsShortest, OaepEncoding};
 
 use crate::algorithm::{
     Algorithm, MaskGen, from_c_algorithm, from_c_mask_gen, has_tag, have_null, to_c_algorithm,
-    to_c_mask_gen, uses_hash,
+    to_c_mask_gen,
 };
 use crate::bytes::Bytes;
 use crate::filled::fill;
 use crate::status::{OK, status};
-use crate::written::write_params;
+use crate::written::{write_params, written_status};
 use der_core::Tag;
-use pkcs1::{PSpecified, RsaOaepParamsView};
-use pkcs1_params::encode_known_oaep;
-use spki_core::AssociatedOid;
+use pkcs1::RsaOaepParamsView;
+use pkcs1_params::{Place, Written, encode_known_oaep, is_p_specified};
 
 /// Parameters of RSAES-OAEP.
 #[repr(C)]
@@ -89,20 +88,28 @@ pub extern "C" fn pkcs1_c_oaep_params_decode_strict<'a>(
     )
 }
 
-/// Writes the shortest encoding of the parameters, if that is known and there is room.
+/// Writes the shortest encoding of the parameters, alone or in an algorithm identifier, if it is known.
 #[inline(always)]
-fn write_known(params: &OaepParams<'_>, out: &mut [u8]) -> Option<usize>
-    ensures written { IfSome result (λ n. Encodes OaepEncoding (oaep_seen params.now) out.old out.new (Some n)) }
+pub(crate) fn write_known(params: &OaepParams<'_>, place: Place, out: &mut [u8]) -> Option<Written>
+    ensures written { let Encoding = InPlace place OaepEncoding in
+        IfSome result (WritesOrCounts Encoding (oaep_seen params.now) out.old out.new) }
     ensures unchanged { result ≡ None → out.new ≡ out.old }
 {
     let source = &params.p_source;
     if !have_null(&params.hash, &params.mask_gen) || !has_tag(source, Tag::OCTET_STRING) {
         return None;
     }
-    let hash = params.hash.oid;
-    let under = params.mask_gen.hash.oid;
-    let label = source.parameters;
-    encode_known_oaep(hash, params.mask_gen.oid, under, source.oid, label, out)
+    let mask_gen = &params.mask_gen;
+    let (hash, under) = (params.hash.oid, mask_gen.hash.oid);
+    encode_known_oaep(
+        hash,
+        mask_gen.oid,
+        under,
+        source.oid,
+        source.parameters,
+        place,
+        out,
+    )
 }
 
 /// Writes the shortest encoding of the parameters, field by field, as `pkcs1_c_oaep_params_encode` does.
@@ -130,34 +137,22 @@ pub extern "C" fn pkcs1_c_oaep_params_encode(
     ensures exact { let v = oaep_seen params.now in
         IsErrorOf (FieldsError OaepFieldError OaepEncoding v (length out.old)) result }
 {
-    match write_known(params, out) {
-        Some(count) => {
-            *len = count;
-            OK
-        }
+    match write_known(params, None, out) {
+        Some(written) => written_status(written, len),
         None => write_fields(params, out, len),
     }
 }
 
-/// Like `pkcs1_c_pss_is`.
+/// Whether the source of a label is pSpecified with an OCTET STRING. Then `label` is the slice of its octets.
 #[unsafe(no_mangle)]
-pub extern "C" fn pkcs1_c_oaep_is(params: &OaepParams<'_>, oid: &[u8]) -> bool
-    ensures tells { let v = oaep_seen params.now in Decides result (UsesHash oid.now v.hash v.mask_gen) }
-{
-    uses_hash(&params.hash, &params.mask_gen, oid)
-}
-
-/// Whether there is a label: the source is pSpecified with an OCTET STRING. Then `label` is the slice of its octets.
-#[unsafe(no_mangle)]
-pub extern "C" fn pkcs1_c_oaep_label<'a>(params: &OaepParams<'a>, label: &mut Bytes<'a>) -> bool
-    ensures label { result ≡ true → LabelOf (oaep_seen params.now).p_source (Some label.new.octets.now)
-        × (label.new.octets ≡ params.now.p_source.parameters) }
-    ensures none { result ≡ false → LabelOf (oaep_seen params.now).p_source None }
+pub extern "C" fn pkcs1_c_oaep_label<'a>(source: &Algorithm<'a>, label: &mut Bytes<'a>) -> bool
+    ensures label { result ≡ true → LabelOf (algorithm_seen source.now) (Some label.new.octets.now)
+        × (label.new.octets ≡ source.now.parameters) }
+    ensures none { result ≡ false → LabelOf (algorithm_seen source.now) None }
     ensures unchanged { result ≡ false → label.new ≡ label.old }
 {
-    let source = &params.p_source;
     let is_octets = source.has_parameters && source.tag == Tag::OCTET_STRING.octet();
-    let is_label = is_octets && source.oid == PSpecified::octets();
+    let is_label = is_octets && is_p_specified(source.oid);
     if is_label {
         label.octets = source.parameters;
     }

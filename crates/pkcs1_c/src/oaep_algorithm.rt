@@ -5,10 +5,11 @@ ghost use Rattle.pkcs1_c.specs.Words.{FieldsError, IsErrorOf, IsStatusOf, OaepFi
 ghost use Rattle.standard.specs.Statement.{Decodes, IsShortest, OaepAlgorithmEncoding};
 
 use crate::filled::fill;
-use crate::oaep::{OaepParams, from_c_oaep, to_c_oaep};
+use crate::oaep::{OaepParams, from_c_oaep, to_c_oaep, write_known};
 use crate::status::{OK, status};
-use crate::written::write_algorithm;
+use crate::written::{write_algorithm, written_status};
 use pkcs1::{FromAlgorithm, RsaOaepParamsView, RsaesOaep};
+use pkcs1_params::RSAES_OAEP;
 
 /// Decodes the algorithm identifier of RSAES-OAEP with its parameters, as `pkcs1_c_oaep_params_decode` does the
 /// parameters. Another algorithm is rejected with status 7, one without parameters with status 10.
@@ -50,6 +51,19 @@ pub extern "C" fn pkcs1_c_oaep_algorithm_decode_strict<'a>(
     )
 }
 
+/// Writes the shortest encoding of the algorithm identifier, field by field.
+#[inline(never)]
+fn write_fields(params: &OaepParams<'_>, out: &mut [u8], len: &mut usize) -> u32
+    ensures writes { WritesOrTells OaepAlgorithmEncoding (oaep_seen params.now) out.old out.new len.old len.new result }
+    ensures exact { let v = oaep_seen params.now in
+        IsErrorOf (FieldsError OaepFieldError OaepAlgorithmEncoding v (length out.old)) result }
+{
+    match from_c_oaep(params) {
+        Ok(made) => write_algorithm::<RsaesOaep, _>(&made, out, len),
+        Err(failure) => status(&failure),
+    }
+}
+
 /// Writes the shortest encoding of the algorithm identifier of RSAES-OAEP with these parameters to the front of `out`.
 /// Returns 0, with its length in `len`, or `NO_ROOM`, with the needed length in `len`, or another status.
 #[unsafe(no_mangle)]
@@ -63,8 +77,8 @@ pub extern "C" fn pkcs1_c_oaep_algorithm_encode(
     ensures exact { let v = oaep_seen params.now in
         IsErrorOf (FieldsError OaepFieldError OaepAlgorithmEncoding v (length out.old)) result }
 {
-    match from_c_oaep(params) {
-        Ok(made) => write_algorithm::<RsaesOaep, _>(&made, out, len),
-        Err(failure) => status(&failure),
+    match write_known(params, Some(RSAES_OAEP), out) {
+        Some(written) => written_status(written, len),
+        None => write_fields(params, out, len),
     }
 }

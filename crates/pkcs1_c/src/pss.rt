@@ -1,19 +1,18 @@
 //! Parameters of RSASSA-PSS.
-ghost use Rattle.std.specs.Prelude.{Decides, ◌≡◌, ◌≢◌, length, IfOk, IfErr, IfSome, Some, None};
-ghost use Rattle.pkcs1_params.specs.Words.{UsesHash, pss_viewed, rsa_pss_params, strict_pss_params};
+ghost use Rattle.std.specs.Prelude.{◌≡◌, ◌≢◌, length, IfOk, IfErr, IfSome, Some, None};
+ghost use Rattle.pkcs1_params.specs.Words.{InPlace, WritesOrCounts, pss_viewed, rsa_pss_params, strict_pss_params};
 ghost use Rattle.pkcs1_c.specs.Words.{FieldsError, IsErrorOf, IsStatusOf, PssFieldError, PssIsTidy, WritesOrTells, pss_seen, status_of};
-ghost use Rattle.standard.specs.Statement.{Decodes, Encodes, IsShortest, PssEncoding};
+ghost use Rattle.standard.specs.Statement.{Decodes, IsShortest, PssEncoding};
 
 use crate::algorithm::{
-    Algorithm, MaskGen, from_c_algorithm, from_c_mask_gen, have_null, to_c_algorithm,
-    to_c_mask_gen, uses_hash,
+    Algorithm, MaskGen, from_c_algorithm, from_c_mask_gen, have_null, to_c_algorithm, to_c_mask_gen,
 };
 use crate::filled::fill;
 use crate::status::{OK, status};
-use crate::written::write_params;
+use crate::written::{write_params, written_status};
 use der_core::{ErrorKind, Tag};
 use pkcs1::{Error, RsaPssParamsView, TrailerField};
-use pkcs1_params::encode_known_pss;
+use pkcs1_params::{Place, Written, encode_known_pss};
 
 /// Parameters of RSASSA-PSS.
 #[repr(C)]
@@ -97,10 +96,11 @@ pub extern "C" fn pkcs1_c_pss_params_decode_strict<'a>(
     )
 }
 
-/// Writes the shortest encoding of the parameters, if that is known and there is room.
+/// Writes the shortest encoding of the parameters, alone or in an algorithm identifier, if it is known.
 #[inline(always)]
-fn write_known(params: &PssParams<'_>, out: &mut [u8]) -> Option<usize>
-    ensures written { IfSome result (λ n. Encodes PssEncoding (pss_seen params.now) out.old out.new (Some n)) }
+pub(crate) fn write_known(params: &PssParams<'_>, place: Place, out: &mut [u8]) -> Option<Written>
+    ensures written { let Encoding = InPlace place PssEncoding in
+        IfSome result (WritesOrCounts Encoding (pss_seen params.now) out.old out.new) }
     ensures unchanged { result ≡ None → out.new ≡ out.old }
 {
     if params.trailer_field != 1 || !have_null(&params.hash, &params.mask_gen) {
@@ -108,7 +108,8 @@ fn write_known(params: &PssParams<'_>, out: &mut [u8]) -> Option<usize>
     }
     let hash = params.hash.oid;
     let under = params.mask_gen.hash.oid;
-    encode_known_pss(hash, params.mask_gen.oid, under, params.salt_len, out)
+    let salt_len = params.salt_len;
+    encode_known_pss(hash, params.mask_gen.oid, under, salt_len, place, out)
 }
 
 /// Writes the shortest encoding of the parameters, field by field, as `pkcs1_c_pss_params_encode` does.
@@ -136,20 +137,8 @@ pub extern "C" fn pkcs1_c_pss_params_encode(
     ensures exact { let v = pss_seen params.now in
         IsErrorOf (FieldsError PssFieldError PssEncoding v (length out.old)) result }
 {
-    match write_known(params, out) {
-        Some(count) => {
-            *len = count;
-            OK
-        }
+    match write_known(params, None, out) {
+        Some(written) => written_status(written, len),
         None => write_fields(params, out, len),
     }
-}
-
-/// Whether the hash function has this identifier, and the mask generation function is MGF1 with the same: each of them
-/// as `pkcs1_c_algorithm_is` has it.
-#[unsafe(no_mangle)]
-pub extern "C" fn pkcs1_c_pss_is(params: &PssParams<'_>, oid: &[u8]) -> bool
-    ensures tells { let v = pss_seen params.now in Decides result (UsesHash oid.now v.hash v.mask_gen) }
-{
-    uses_hash(&params.hash, &params.mask_gen, oid)
 }

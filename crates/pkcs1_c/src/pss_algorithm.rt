@@ -5,10 +5,11 @@ ghost use Rattle.pkcs1_c.specs.Words.{FieldsError, IsErrorOf, IsStatusOf, PssFie
 ghost use Rattle.standard.specs.Statement.{Decodes, IsShortest, PssAlgorithmEncoding};
 
 use crate::filled::fill;
-use crate::pss::{PssParams, from_c_pss, to_c_pss};
+use crate::pss::{PssParams, from_c_pss, to_c_pss, write_known};
 use crate::status::{OK, status};
-use crate::written::write_algorithm;
+use crate::written::{write_algorithm, written_status};
 use pkcs1::{FromAlgorithm, RsaPssParamsView, RsassaPss};
+use pkcs1_params::RSASSA_PSS;
 
 /// Decodes the algorithm identifier of RSASSA-PSS with its parameters, as `pkcs1_c_pss_params_decode` does the
 /// parameters. Another algorithm is rejected with status 7, one without parameters with status 10.
@@ -50,6 +51,19 @@ pub extern "C" fn pkcs1_c_pss_algorithm_decode_strict<'a>(
     )
 }
 
+/// Writes the shortest encoding of the algorithm identifier, field by field.
+#[inline(never)]
+fn write_fields(params: &PssParams<'_>, out: &mut [u8], len: &mut usize) -> u32
+    ensures writes { WritesOrTells PssAlgorithmEncoding (pss_seen params.now) out.old out.new len.old len.new result }
+    ensures exact { let v = pss_seen params.now in
+        IsErrorOf (FieldsError PssFieldError PssAlgorithmEncoding v (length out.old)) result }
+{
+    match from_c_pss(params) {
+        Ok(made) => write_algorithm::<RsassaPss, _>(&made, out, len),
+        Err(failure) => status(&failure),
+    }
+}
+
 /// Writes the shortest encoding of the algorithm identifier of RSASSA-PSS with these parameters to the front of `out`.
 /// Returns 0, with its length in `len`, or `NO_ROOM`, with the needed length in `len`, or another status.
 #[unsafe(no_mangle)]
@@ -62,8 +76,8 @@ pub extern "C" fn pkcs1_c_pss_algorithm_encode(
     ensures exact { let v = pss_seen params.now in
         IsErrorOf (FieldsError PssFieldError PssAlgorithmEncoding v (length out.old)) result }
 {
-    match from_c_pss(params) {
-        Ok(made) => write_algorithm::<RsassaPss, _>(&made, out, len),
-        Err(failure) => status(&failure),
+    match write_known(params, Some(RSASSA_PSS), out) {
+        Some(written) => written_status(written, len),
+        None => write_fields(params, out, len),
     }
 }

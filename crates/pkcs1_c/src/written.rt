@@ -1,14 +1,33 @@
 //! Encoding into a caller's slice.
-ghost use Rattle.std.specs.Prelude.{◌≡◌, ◌≤◌, ◌<◌, length};
+ghost use Rattle.std.specs.Prelude.{◌≡◌, ◌≤◌, ◌<◌, length, IfErr, IfOk};
 ghost use Rattle.der_core.specs.Words.{Spells, limit};
 ghost use Rattle.pkcs1_params.specs.Words.{Encoded};
 ghost use Rattle.pkcs1_c.specs.Words.{IsErrorOf, Unwritten, WritesOrTells};
 ghost use Rattle.standard.specs.Statement.{AlgorithmEncoding};
 
-use crate::status::{OK, kind_number, status};
+use crate::status::{NO_ROOM, OK, kind_number, status};
 use der_core::Encode;
 use pkcs1::{EncodeParams, Shortest};
+use pkcs1_params::Written;
 use spki_core::AssociatedOid;
+
+/// What a call returns that wrote known octets, or had no room for them. Both ways `len` is set to their length.
+#[inline(always)]
+pub(crate) fn written_status(written: Written, len: &mut usize) -> u32
+    ensures ok { IfOk written (λ n. (result ≡ OK) × (len.new ≡ n)) }
+    ensures no_room { IfErr written (λ n. (result ≡ NO_ROOM) × (len.new ≡ n)) }
+{
+    match written {
+        Ok(known) => {
+            *len = known;
+            OK
+        }
+        Err(needed) => {
+            *len = needed;
+            NO_ROOM
+        }
+    }
+}
 
 /// Sets `len` to the length of what is written of the value, if that is an encoding within the limit.
 pub(crate) fn set_needed<T: Encode>(value: &T, len: &mut usize)

@@ -1,127 +1,171 @@
 -- Parameters that are written as known octets: these are what is written where no default is, so they are the shortest
 -- encoding.
-use Rattle.std.proofs.Common.{ℕ, Bool, List, [], ◌∷◌, ◌++◌, ◌==◌, ◌≡◌, ◌≤◌, ◌<◌, ◌+◌, refl, append-nil, ap, true, false, arith, rules, subst, length, drop, inl, inr, if◌then◌else◌, nat_lt, IfSome, None, Some, Option}
-use Rattle.std.proofs.lemmas.Option.{IfSome_then}
+use Rattle.std.proofs.Common.{ℕ, List, [], ◌∷◌, ◌++◌, ◌==◌, ◌≡◌, ◌≤◌, ◌<◌, ◌+◌, refl, append-nil, ap, true, false, arith, rules, subst, sym, ◌∙◌, length, length-append, drop, inl, inr, nat_lt, None, Some, Option, Result, Ok, Err}
 use Rattle.der_core.specs.Words.{nat_tests, AreBytes, length_octets-short, small_contents_as, written_encodes}
 use Rattle.spki_core.specs.Words.{FieldRecord, Kind, Values, is_identifier-sound, null_value, record_under, spelled, under}
 use Rattle.spki_core.proofs.Fielded.{made, shortest_is}
-use Rattle.pkcs1_params.specs.Words.{hash_algorithm, hash_kind, mask_kind, mgf1_identifier, label_front, oaep_record, octets_value, pss_lawful, pss_record, salt_kind, source_identifier, source_kind, trailer_kind, id_p_specified, Encoded, AreKnown, oaep_with_hashes, pss_with_hashes, salt_field, with_parameters}
-use Rattle.standard.specs.Statement.{Encodes, Field, IsIdentifier, IsShortest, length_octets}
+use Rattle.pkcs1_params.specs.Words.{hash_algorithm, hash_kind, mask_kind, mgf1_identifier, label_front, oaep_record, octets_value, pkcs1_algorithm, pss_lawful, pss_record, salt_kind, source_identifier, source_kind, trailer_kind, id_p_specified, Encoded, AreKnown, InPlace, IsKnownHash, Puts, WritesOrCounts, known_fields, known_label, long_salt_field, oaep_with_hashes, place_front, pss_with_hashes, salt_field, with_parameters}
+use Rattle.pkcs1_params.proofs.Wrapped.{shortest_outside, wrapped}
+use Rattle.standard.specs.Statement.{Encodes, Field, IsIdentifier, IsShortest, length_octets, sequence, tlv}
 
 -- A value that may be encoded, of which these contents octets in two parts are written where no default is.
 pub record AreWritten {V : Type 0} {Is : V → Type 0} {fields : V → List Field} (r : FieldRecord Is fields) (v : V)
     (f l : List ℕ) : Type 0 where
   pub valid : Is v
   pub written : spelled r.kinds (record_under r 0 v) ≡ f ++ l
-  pub few : length (f ++ l) < 128
+  pub few : length f ≤ 47
 
 -- The same of the fields behind the first two.
 abbrev AreBehind : (ks : List Kind) → Values ks → List ℕ → Type 0
-AreBehind ks v l = (spelled ks (under ks 0 v) ≡ l) × (length l ≤ 80)
+AreBehind ks v l = spelled ks (under ks 0 v) ≡ l
 
-hash_identifier : (n : ℕ) → n ≤ 6 → IsIdentifier (hash_algorithm n)
+hash_identifier : (n : ℕ) → n < 128 → IsIdentifier (hash_algorithm n)
 hash_identifier n few =
     let low : nat_lt n 128 ≡ true = grind (arith, nat_tests) in
     let other : (n == 128) ≡ false = grind (arith, nat_tests) in
     let byte : n < 256 = omega (arith, few) in
     is_identifier-sound (hash_algorithm n) (search rules) (rw (low, other) refl)
 
+-- The salt length is written in no octets, in one, or behind a zero octet.
+abbrev pub SaltBehind : ℕ → List ℕ → Type 0
+SaltBehind s l = AreBehind (salt_kind ∷ trailer_kind ∷ []) (s, (1, tt)) l
+
+pub salt_default : SaltBehind 20 []
+salt_default = refl
+
+pub salt_short : (s : ℕ) → s < 128 → (s == 20) ≡ false → SaltBehind s (salt_field s)
+unfolding length_octets
+salt_short s small is =
+    let test : nat_lt s 128 ≡ true = grind (arith, nat_tests) in
+    let byte : s < 256 = omega (arith, small) in rw (is, small_contents_as s byte, test) refl
+
+pub salt_long : (s : ℕ) → 128 ≤ s → s < 256 → SaltBehind s (long_salt_field s)
+unfolding length_octets
+salt_long s large byte =
+    let is : (s == 20) ≡ false = grind (arith, nat_tests) in
+    let test : nat_lt s 128 ≡ false = grind (arith, nat_tests) in rw (is, small_contents_as s byte, test) refl
+
+-- A label is written in its field, but for the empty one, which is the default.
+abbrev LabelBehind : List ℕ → List ℕ → Type 0
+LabelBehind l octets =
+    AreBehind (source_kind ∷ []) (with_parameters id_p_specified (octets_value l), tt) octets
+
 -- The octets of a source with this label.
 abbrev source_contents : List ℕ → List ℕ
 source_contents l = 0x06 ∷ 0x09 ∷ id_p_specified ++ 0x04 ∷ length l ∷ l
 
-salt_behind : (s : ℕ) (b : Bool) → s < 128 → (s == 20) ≡ b
-    → AreBehind (salt_kind ∷ trailer_kind ∷ []) (s, (1, tt)) (if b then [] else salt_field s)
-unfolding length_octets
-salt_behind s true small is = rw is (refl, omega arith)
-salt_behind s false small is =
-    let test : nat_lt s 128 ≡ true = grind (arith, nat_tests) in
-    let byte : s < 256 = omega (arith, small) in
-    rw (is, small_contents_as s byte, test) (refl, omega arith)
+pub label_none : (l : List ℕ) → length l ≡ 0 → LabelBehind l []
+label_none [] is = refl
+label_none (x ∷ y) is = absurd (omega (arith, is))
 
-source_behind : (l : List ℕ) (b : Bool) → length l < 64 → (length l == 0) ≡ b
-    → AreBehind (source_kind ∷ []) (with_parameters id_p_specified (octets_value l), tt) (if b then [] else label_front (length l) ++ l)
+pub label_some : (l : List ℕ) → 0 < length l → length l < 64 → LabelBehind l (label_front (length l) ++ l)
 unfolding length_octets
-source_behind [] b few is = rw (← is) (refl, omega arith)
-source_behind (x ∷ y) b few is =
+label_some [] some few = absurd (omega (arith, some))
+label_some (x ∷ y) some few =
     let middle = source_contents (x ∷ y) in
     let outer = 48 ∷ length middle ∷ middle in
-    let some : (length (x ∷ y) == 0) ≡ false = grind (arith, nat_tests) in
+    let other : (length (x ∷ y) == 0) ≡ false = grind (arith, nat_tests) in
     let first : nat_lt (length (x ∷ y)) 128 ≡ true = grind (arith, nat_tests) in
     let second : nat_lt (length middle) 128 ≡ true = grind (arith, nat_tests) in
     let third : nat_lt (length outer) 128 ≡ true = grind (arith, nat_tests) in
     let counts : (13 + length (x ∷ y) ≡ length middle) × (15 + length (x ∷ y) ≡ length outer) = (omega arith, omega arith) in
-    rw (← is, some, first, second, third, append-nil y, counts.0, counts.1) (refl, omega (arith, few))
+    rw (other, first, second, third, append-nil y, counts.0, counts.1) refl
 
-module _ (h m u f : List ℕ) where
-  identifiers : AreKnown h m u f → IsIdentifier h × IsIdentifier m × IsIdentifier u
-  identifiers (mask, inl (hash, under, is)) = rw (mask, hash, under) (pss_lawful.3.0, mgf1_identifier, pss_lawful.3.0)
-  identifiers (mask, inr (n, some, few, hash, inl (under, is))) =
-      rw (mask, hash, under) (hash_identifier n few, mgf1_identifier, pss_lawful.3.0)
-  identifiers (mask, inr (n, some, few, hash, inr (under, is))) =
-      rw (mask, hash, under) (hash_identifier n few, mgf1_identifier, hash_identifier n few)
+-- Fields of known hash functions.
+module _ (hash mask_gen inner : List ℕ) where
+  known_identifier : (oid : List ℕ) (known : Option ℕ) → IsKnownHash oid known → IsIdentifier oid
+  known_identifier oid None is = rw is pss_lawful.3.0
+  known_identifier oid (Some n) (few, is) = rw is (hash_identifier n few)
 
-  both_written : (ks : List Kind) (v : Values ks) (l : List ℕ) → AreKnown h m u f → AreBehind ks v l
-      → (spelled (hash_kind ∷ mask_kind ∷ ks) (under (hash_kind ∷ mask_kind ∷ ks) 0
-      (with_parameters h null_value, (with_parameters m (with_parameters u null_value), v))) ≡ f ++ l)
-      × (length (f ++ l) < 128)
+  few_octets : (h u : Option ℕ) → length (known_fields h u) ≤ 47
+  few_octets None None = omega arith
+  few_octets None (Some n) = omega arith
+  few_octets (Some n) None = omega arith
+  few_octets (Some n) (Some m) = omega arith
+
+  both_written : (ks : List Kind) (v : Values ks) (l : List ℕ) (h u : Option ℕ) → AreKnown hash mask_gen inner h u
+      → AreBehind ks v l → spelled (hash_kind ∷ mask_kind ∷ ks) (under (hash_kind ∷ mask_kind ∷ ks) 0
+      (with_parameters hash null_value, (with_parameters mask_gen (with_parameters inner null_value), v)))
+      ≡ known_fields h u ++ l
   unfolding length_octets
-  both_written ks v l (mask, inl (hash, under, is)) w = rw (mask, hash, under, is, w.0) (refl, omega (arith, w.1))
-  both_written ks v l (mask, inr (n, some, few, hash, inl (under, is))) w =
-      rw (mask, hash, under, is, w.0) (refl, omega (arith, w.1))
-  both_written ks v l (mask, inr (n, some, few, hash, inr (under, is))) w =
-      rw (mask, hash, under, is, w.0) (refl, omega (arith, w.1))
+  both_written ks v l None None (mask, is, same) w = rw (mask, is, same, w) refl
+  both_written ks v l None (Some n) (mask, is, same) w = rw (mask, is, same.1, w) refl
+  both_written ks v l (Some n) None (mask, is, same) w = rw (mask, is.1, same, w) refl
+  both_written ks v l (Some n) (Some m) (mask, is, same) w = rw (mask, is.1, same.1, w) refl
 
-  pub known_pss : (s : ℕ) (b : Bool) → AreKnown h m u f → s < 128 → (s == 20) ≡ b
-      → AreWritten pss_record (pss_with_hashes h m u s) f (if b then [] else salt_field s)
-  known_pss s b known small is =
-      let ids = identifiers known in
-      let byte : s < 256 = omega (arith, small) in
-      let w = both_written (salt_kind ∷ trailer_kind ∷ []) (s, (1, tt)) _ known (salt_behind s b small is) in record {
-        valid = ((ids.0, (refl, tt)), (ids.1, (ids.2, (refl, tt))), byte, refl);
-        written = w.0;
-        few = w.1;
+  pub known_pss : (h u : Option ℕ) (s : ℕ) (l : List ℕ) → AreKnown hash mask_gen inner h u → s < 256 → SaltBehind s l
+      → AreWritten pss_record (pss_with_hashes hash mask_gen inner s) (known_fields h u) l
+  known_pss h u s l known byte w =
+      let first = known_identifier hash h known.1 in
+      let second = known_identifier inner u known.2 in record {
+        valid = ((first, (refl, tt)), (rw known.0 mgf1_identifier, (second, (refl, tt))), byte, refl);
+        written = both_written (salt_kind ∷ trailer_kind ∷ []) (s, (1, tt)) l h u known w;
+        few = few_octets h u;
       }
 
-  pub known_oaep : (p l : List ℕ) (b : Bool) → AreKnown h m u f → p ≡ id_p_specified → length l < 64 → AreBytes l
-      → (length l == 0) ≡ b
-      → AreWritten oaep_record (oaep_with_hashes h m u p l) f (if b then [] else label_front (length l) ++ l)
-  known_oaep p l b known source few bytes is =
-      let ids = identifiers known in
-      let w =
-      both_written (source_kind ∷ []) (with_parameters id_p_specified (octets_value l), tt) _ known
-      (source_behind l b few is) in
+  pub known_oaep : (h u : Option ℕ) (p label l : List ℕ) → AreKnown hash mask_gen inner h u → p ≡ id_p_specified
+      → AreBytes label → LabelBehind label l
+      → AreWritten oaep_record (oaep_with_hashes hash mask_gen inner p label) (known_fields h u) l
+  known_oaep h u p label l known source bytes w =
+      let first = known_identifier hash h known.1 in
+      let second = known_identifier inner u known.2 in
       rw source (record {
-        valid = ((ids.0, (refl, tt)), (ids.1, (ids.2, (refl, tt))), (source_identifier, (refl, bytes)));
-        written = w.0;
-        few = w.1;
+        valid = ((first, (refl, tt)), (rw known.0 mgf1_identifier, (second, (refl, tt))), (source_identifier, (refl, bytes)));
+        written = both_written (source_kind ∷ []) (with_parameters id_p_specified (octets_value label), tt) l h u known w;
+        few = few_octets h u;
       })
 
--- Contents that are written so, with a header in front, are the shortest encoding of the value.
+-- The identifier of an algorithm of PKCS #1, and it in front of few octets.
+identifier_is : (n : ℕ) → tlv 6 (pkcs1_algorithm n) ≡ 0x06 ∷ 0x09 ∷ pkcs1_algorithm n
+unfolding length_octets
+identifier_is n = refl
+
+wrapped_is : (n : ℕ) (p : List ℕ) → 11 + length p < 128
+    → wrapped (pkcs1_algorithm n) p ≡ place_front (Some n) (length p) ++ p
+wrapped_is n p few =
+    let contents = 0x06 ∷ 0x09 ∷ pkcs1_algorithm n ++ p in
+    let count : length contents ≡ 11 + length p = omega arith in
+    let octets = length_octets-short (length contents) (omega (arith, few, count)) in
+    ap (λ t. sequence (t ++ p)) (identifier_is n)
+    ∙ ap (λ l. 0x30 ∷ l ++ contents) (octets ∙ ap (λ k. k ∷ []) count)
+
+-- There is room for what stands in front of parameters.
+pub few_behind : (place : Option ℕ) (l : List ℕ) → length l ≤ 67 → length l + length (place_front place 0) ≤ 80
+few_behind None l few = omega (arith, few)
+few_behind (Some n) l few = omega (arith, few)
+
+pub label_fits : (place : Option ℕ) (l : List ℕ) → length l < known_label place
+    → (length l < 64) × (length (label_front (length l) ++ l) + length (place_front place 0) ≤ 80)
+label_fits None l few = (omega (arith, few), omega (arith, few))
+label_fits (Some n) l few = (omega (arith, few), omega (arith, few))
+
+-- Contents that are written so, with a header in front, are the shortest encoding of the value, and with an identifier
+-- in front of that, of the algorithm.
 module _ {V : Type 0} {Is : V → Type 0} {fields : V → List Field} {r : FieldRecord Is fields} {v : V} {f l : List ℕ}
-    (are : AreWritten r v f l) (old new : List ℕ) (result : Option ℕ)
+    (are : AreWritten r v f l) (place : Option ℕ) (few : length l + length (place_front place 0) ≤ 80)
   where
-    abbrev bytes : List ℕ
-    bytes = 0x30 ∷ length (f ++ l) ∷ (f ++ l)
+    abbrev params : List ℕ
+    params = 0x30 ∷ length (f ++ l) ∷ (f ++ l)
 
-    least : IsShortest (Encoded Is fields) v bytes
-    least =
-        let is : made r v 0 ≡ bytes = rw (are.written, length_octets-short (length (f ++ l)) are.few) refl in
+    least : length (f ++ l) < 128 → IsShortest (Encoded Is fields) v params
+    least short =
+        let is : made r v 0 ≡ params = rw (are.written, length_octets-short (length (f ++ l)) short) refl in
         subst (IsShortest (Encoded Is fields) v) is
-        (shortest_is r v are.valid (omega (arith, ap length is, are.few)))
+        (shortest_is r v are.valid (omega (arith, ap length is, short)))
 
-    pub put_encodes : length new ≡ length old → IfSome result (λ n. (n ≡ length bytes) × (new ≡ bytes ++ drop n old))
-        → IfSome result (λ n. Encodes (Encoded Is fields) v old new (Some n))
-    put_encodes kept put =
-        IfSome_then result put (λ n is. written_encodes (Encoded Is fields) v old new bytes n least is.0 is.1 kept)
+    placed : (at : Option ℕ) → length l + length (place_front at 0) ≤ 80
+        → IsShortest (InPlace at (Encoded Is fields)) v (place_front at (length params) ++ params)
+    placed None few = least (omega (arith, are.few, few, length-append f l))
+    placed (Some n) few =
+        let all : length (f ++ l) < 115 = omega (arith, are.few, few, length-append f l) in
+        let is = wrapped_is n params (omega (arith, all)) in
+        subst (IsShortest (InPlace (Some n) (Encoded Is fields)) v) is
+        (shortest_outside (pkcs1_algorithm n) (Encoded Is fields) v params (omega (arith, ap length is, all))
+        (least (omega (arith, all))))
 
-    -- There is no room, so there is none for another encoding.
-    pub not_put : result ≡ None → (result ≡ None → new ≡ old) → (result ≡ None → length old < length bytes)
-        → Encodes (Encoded Is fields) v old new None
-    not_put none same full = (
-      same none,
-      λ other is. elim (least.1 other is) [
-        | inl e ↦ omega (arith, ap length e, full none)
-        | inr more ↦ omega (arith, more, full none)
-      ],
-    )
+    pub put_told : (old new : List ℕ) (result : Result ℕ ℕ) → length new ≡ length old
+        → Puts (place_front place (length params) ++ params) old new result
+        → WritesOrCounts (InPlace place (Encoded Is fields)) v old new result
+    put_told old new (Ok n) kept (count, is) =
+        written_encodes (InPlace place (Encoded Is fields)) v old new _ n (placed place few) count is kept
+    put_told old new (Err n) kept (count, less, same) = (same, less, _, placed place few, count)

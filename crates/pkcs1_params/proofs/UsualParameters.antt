@@ -43,7 +43,7 @@ module _ (s : ℕ) (small : s < 128) where
   salt_usual false other = rw (is_small, is_byte, number) refl
 
 -- The two fields are read as the hash function that they begin with, and no default is written in them.
-module _ (n : ℕ) (few : n ≤ 6) where
+module _ (n : ℕ) (few : n < 128) where
   pub ends : nat_lt n 128 ≡ true
   ends = grind (arith, nat_tests)
 
@@ -69,14 +69,14 @@ module _ (n : ℕ) (few : n ≤ 6) where
 
 pub pss_usual : (strict : Bool) (p : PssParameters) (c : List ℕ) → IsUsualPss p c → (strict && eqb p.salt_len 20) ≡ false
     → (if strict then record_strictly pss_record else record_read pss_record) c ≡ Ok p
-pss_usual strict p c (fields, (n, some, few, h, f), small, is, at) other =
+pss_usual strict p c (fields, (n, few, h, f), small, is, at) other =
     let read = if strict then record_strictly pss_record else record_read pss_record in
     ap read (at ∙ ap (λ x. x ++ salt_field p.salt_len) f) ∙ pss_fields_read n few p.salt_len small strict other
     ∙ ap (λ x. Ok x) (sym (is ∙ ap (λ x. pss_with_hash x p.salt_len) h))
 
 pub oaep_usual : (strict : Bool) (p : OaepParameters) (c : List ℕ) → IsUsualOaep p c
     → (if strict then record_strictly oaep_record else record_read oaep_record) c ≡ Ok p
-oaep_usual strict p c ((n, some, few, h, f), is) =
+oaep_usual strict p c ((n, few, h, f), is) =
     let read = if strict then record_strictly oaep_record else record_read oaep_record in
     ap read f ∙ oaep_fields_read n few strict ∙ ap (λ x. Ok x) (sym (is ∙ ap oaep_with_hash h))
 

@@ -58,7 +58,7 @@ module _ (oid : List ℕ) where
 
   -- The shortest encoding of the identifier holds the shortest of the parameters.
   module _ {V : Type 0} (E : V → List ℕ → Type 0) (v : V) (p : List ℕ) (few : length (wrapped p) ≤ limit) where
-    shortest_outside : IsShortest E v p → IsShortest (AlgorithmEncoding oid E) v (wrapped p)
+    pub shortest_outside : IsShortest E v p → IsShortest (AlgorithmEncoding oid E) v (wrapped p)
     shortest_outside s = (
       (few, p, s.0, refl),
       λ other (within, q, holds, is). elim (s.1 q holds) [

@@ -1,31 +1,34 @@
--- hashAlgorithm and maskGenAlgorithm of a SHA-2 hash function with NULL, and MGF1 with the same hash function (RFC 8017
+-- hashAlgorithm and maskGenAlgorithm of a hash function of NIST with NULL, and MGF1 with the same hash function (RFC 8017
 -- A.2.1, A.2.3, B.1): most parameters begin with them.
-use Rattle.std.specs.Prelude.{ℕ, List, [], ◌∷◌, ◌++◌, ◌+◌, ◌≡◌, ◌<◌, ◌≤◌, ◌⊎◌, length}
+use Rattle.std.specs.Prelude.{ℕ, List, [], ◌∷◌, ◌++◌, ◌+◌, ◌≡◌, ◌<◌, drop, length, Option, Some, None, Result, Ok, Err}
 use Rattle.spki_core.specs.Words.{Algorithm, TagAndContents, null_value}
 use Rattle.pkcs1_params.specs.HashFunctions.{hash_algorithm}
 use Rattle.pkcs1_params.specs.OaepValue.{labelled}
-use Rattle.pkcs1_params.specs.Parameters.{id_mgf1, id_p_specified, id_sha1, octets_value, with_parameters, OaepParameters, PssParameters}
+use Rattle.pkcs1_params.specs.Parameters.{id_mgf1, id_p_specified, id_sha1, octets_value, pkcs1_algorithm, with_parameters, OaepParameters, PssParameters}
+use Rattle.standard.specs.Statement.{AlgorithmEncoding, Encodes, IsShortest}
 
 -- The encoding of a hash function whose identifier has nine octets, with NULL.
 abbrev pub hash_with_null : List ℕ → List ℕ
 hash_with_null oid = 0x30 ∷ 0x0d ∷ 0x06 ∷ 0x09 ∷ oid ++ 0x05 ∷ 0x00 ∷ []
 
--- The octets of hashAlgorithm, and of both fields.
+-- The octets of hashAlgorithm, of maskGenAlgorithm, and of both fields.
 abbrev pub field_with_hash : List ℕ → List ℕ
 field_with_hash oid = 0xa0 ∷ 0x0f ∷ hash_with_null oid
 
-abbrev pub fields_with_hash : List ℕ → List ℕ
-fields_with_hash oid =
-    field_with_hash oid ++ 0xa1 ∷ 0x1c ∷ 0x30 ∷ 0x1a ∷ 0x06 ∷ 0x09 ∷ id_mgf1 ++ hash_with_null oid
+abbrev pub mask_field_with_hash : List ℕ → List ℕ
+mask_field_with_hash oid = 0xa1 ∷ 0x1c ∷ 0x30 ∷ 0x1a ∷ 0x06 ∷ 0x09 ∷ id_mgf1 ++ hash_with_null oid
 
--- The octets are those of the two fields with one of the six hash functions, from id_sha256 (1) to id_sha512_256 (6).
+abbrev pub fields_with_hash : List ℕ → List ℕ
+fields_with_hash oid = field_with_hash oid ++ mask_field_with_hash oid
+
+-- The octets are those of the two fields with a hash function of NIST.
 abbrev pub HaveUsualHash : List ℕ → Type 0
-HaveUsualHash fields = (n : ℕ) × (1 ≤ n) × (n ≤ 6) × (fields ≡ fields_with_hash (hash_algorithm n))
+HaveUsualHash fields = (n : ℕ) × (n < 128) × (fields ≡ fields_with_hash (hash_algorithm n))
 
 -- The same, with the hash function itself.
 abbrev pub AreUsual : Algorithm TagAndContents → List ℕ → Type 0
 AreUsual hash fields =
-    (n : ℕ) × (1 ≤ n) × (n ≤ 6) × (hash ≡ with_parameters (hash_algorithm n) null_value)
+    (n : ℕ) × (n < 128) × (hash ≡ with_parameters (hash_algorithm n) null_value)
     × (fields ≡ fields_with_hash (hash_algorithm n))
 
 -- The parameters with this hash function, and no field behind a salt length.
@@ -53,22 +56,61 @@ IsUsualPss p contents =
 abbrev pub IsUsualOaep : OaepParameters → List ℕ → Type 0
 IsUsualOaep p contents = AreUsual p.hash contents × (p ≡ oaep_with_hash p.hash)
 
--- What both fields with these identifiers and NULL are written as: SHA-1 is left out.
-abbrev pub AreKnown : List ℕ → List ℕ → List ℕ → List ℕ → Type 0
-AreKnown hash mask_gen under fields =
-    (mask_gen ≡ id_mgf1)
-    × (((hash ≡ id_sha1) × (under ≡ id_sha1) × (fields ≡ []))
-    ⊎ ((n : ℕ) × (1 ≤ n) × (n ≤ 6) × (hash ≡ hash_algorithm n)
-    × (((under ≡ id_sha1) × (fields ≡ field_with_hash (hash_algorithm n)))
-    ⊎ ((under ≡ hash_algorithm n) × (fields ≡ fields_with_hash (hash_algorithm n))))))
+-- The octets of a salt length from 128 to 255 in its field: the number has a zero octet in front.
+abbrev pub long_salt_field : ℕ → List ℕ
+long_salt_field s = 0xa2 ∷ 0x04 ∷ 0x02 ∷ 0x02 ∷ 0x00 ∷ s ∷ []
 
--- Identifiers and a salt length, or a label, of parameters that are written as known octets.
-abbrev pub IsKnownPss : List ℕ → List ℕ → List ℕ → ℕ → Type 0
-IsKnownPss hash mask_gen under s = (fields : List ℕ) × AreKnown hash mask_gen under fields × (s < 128)
+-- A hash function whose field is known: that of NIST with this number (hash_algorithm), or SHA-1.
+abbrev pub IsKnownHash : List ℕ → Option ℕ → Type 0
+IsKnownHash oid None = oid ≡ id_sha1
+IsKnownHash oid (Some n) = (n < 128) × (oid ≡ hash_algorithm n)
 
-abbrev pub IsKnownOaep : List ℕ → List ℕ → List ℕ → List ℕ → List ℕ → Type 0
-IsKnownOaep hash mask_gen under source label =
-    (fields : List ℕ) × AreKnown hash mask_gen under fields × (source ≡ id_p_specified) × (length label < 64)
+-- What is written for it: nothing for SHA-1, which is the default.
+abbrev pub known_field : (List ℕ → List ℕ) → Option ℕ → List ℕ
+known_field field None = []
+known_field field (Some n) = field (hash_algorithm n)
+
+abbrev pub known_fields : Option ℕ → Option ℕ → List ℕ
+known_fields hash under = known_field field_with_hash hash ++ known_field mask_field_with_hash under
+
+-- Both hash functions are known, and the mask generation function is MGF1.
+abbrev pub AreKnown : List ℕ → List ℕ → List ℕ → Option ℕ → Option ℕ → Type 0
+AreKnown hash mask_gen under h u = (mask_gen ≡ id_mgf1) × IsKnownHash hash h × IsKnownHash under u
+
+-- Where parameters stand: alone, or in the algorithm identifier of PKCS #1 with this number.
+abbrev pub InPlace : {V : Type 0} → Option ℕ → (V → List ℕ → Type 0) → V → List ℕ → Type 0
+InPlace None Encoding = Encoding
+InPlace (Some n) Encoding = AlgorithmEncoding (pkcs1_algorithm n) Encoding
+
+-- What stands in front of parameters of this many octets, of which the identifier and they have fewer than 128.
+abbrev pub place_front : Option ℕ → ℕ → List ℕ
+place_front None count = []
+place_front (Some n) count = 0x30 ∷ (11 + count) ∷ 0x06 ∷ 0x09 ∷ pkcs1_algorithm n
+
+-- How many octets of a label are known: with it the encoding has lengths of one octet.
+abbrev pub known_label : Option ℕ → ℕ
+known_label None = 64
+known_label (Some n) = 51
+
+-- Identifiers, and a label, of parameters that are written as known octets.
+abbrev pub IsKnownPss : List ℕ → List ℕ → List ℕ → Type 0
+IsKnownPss hash mask_gen under = (h : Option ℕ) × (u : Option ℕ) × AreKnown hash mask_gen under h u
+
+abbrev pub IsKnownOaep : Option ℕ → List ℕ → List ℕ → List ℕ → List ℕ → List ℕ → Type 0
+IsKnownOaep place hash mask_gen under source label =
+    IsKnownPss hash mask_gen under × (source ≡ id_p_specified) × (length label < known_label place)
+
+-- Octets were written over a slice, and their length is told; or they are longer than it, and it stayed as it was.
+abbrev pub Puts : List ℕ → List ℕ → List ℕ → Result ℕ ℕ → Type 0
+Puts octets old new (Ok n) = (n ≡ length octets) × (new ≡ octets ++ drop n old)
+Puts octets old new (Err n) = (n ≡ length octets) × (length old < n) × (new ≡ old)
+
+-- A value's shortest encoding was written over a slice, and how long it is; or it is longer than the slice, which stayed
+-- as it was.
+abbrev pub WritesOrCounts : {V : Type 0} → (V → List ℕ → Type 0) → V → List ℕ → List ℕ → Result ℕ ℕ → Type 0
+WritesOrCounts Encoding v old new (Ok n) = Encodes Encoding v old new (Some n)
+WritesOrCounts Encoding v old new (Err n) =
+    (new ≡ old) × (length old < n) × (bytes : List ℕ) × IsShortest Encoding v bytes × (n ≡ length bytes)
 
 abbrev pub pss_with_hashes : List ℕ → List ℕ → List ℕ → ℕ → PssParameters
 pss_with_hashes hash mask_gen under s = record (pss_with_hash (with_parameters hash null_value) s) {

@@ -75,7 +75,7 @@ pub(crate) fn is_pkcs1(octets: &[u8], number: u8) -> bool
 
 /// Whether these are the octets of id-mgf1.
 #[inline(always)]
-pub(crate) fn is_mgf1(octets: &[u8]) -> bool
+pub fn is_mgf1(octets: &[u8]) -> bool
     ensures { result ≡ bytes_eq octets.now id_mgf1 }
 {
     is_pkcs1(octets, 8)

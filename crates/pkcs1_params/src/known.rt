@@ -1,22 +1,40 @@
-//! Writing of parameters whose hash functions are known: SHA-1 and those of `usual`, with NULL. Most are such, so they
-//! are written as octets that are known, without a test of their identifiers.
-ghost use Rattle.std.specs.Prelude.{◌≡◌, ◌+◌, ◌<◌, ◌≤◌, ◌∷◌, ◌++◌, drop, length, IfSome, List, None, Some, ℕ};
-ghost use Rattle.der_core.specs.Words.{AreBytes, Prepends, free_of, sequence_tag};
-ghost use Rattle.pkcs1_params.specs.Words.{AreKnown, IsKnownOaep, IsKnownPss, hash_algorithm, label_front, oaep_with_hashes, pss_with_hashes};
-ghost use Rattle.standard.specs.Statement.{Encodes, OaepEncoding, PssEncoding};
+//! Writing of parameters whose hash functions are known: SHA-1 and those of NIST, with NULL. Most are such, so they are
+//! written as octets that are known, without a test of their identifiers, and their length is known without writing.
+ghost use Rattle.std.specs.Prelude.{◌≡◌, ◌+◌, ◌<◌, ◌≤◌, ◌∷◌, ◌++◌, length, IfSome, None, Option, ℕ};
+ghost use Rattle.der_core.specs.Words.{Prepends, free_of, sequence_tag};
+ghost use Rattle.pkcs1_params.specs.Words.{AreKnown, InPlace, IsKnownHash, IsKnownOaep, IsKnownPss, Puts, WritesOrCounts, field_with_hash, hash_algorithm, known_fields, known_label, label_front, mask_field_with_hash, oaep_with_hashes, place_front, pss_with_hashes};
+ghost use Rattle.standard.specs.Statement.{OaepEncoding, PssEncoding};
 
 use crate::hash_fields::{is_mgf1, is_sha1};
 use crate::label::is_p_specified;
 use crate::pss::RsaPssParamsRef;
-use crate::usual::usual_fields;
 use der_core::BackWriter;
 
-/// The number of the hash function of NIST with this identifier.
+/// A hash function whose octets are known: that of NIST with this number, or SHA-1, which is the default and isn't
+/// written.
+type KnownHash = Option<u8>;
+
+/// Where parameters stand: alone, or in the algorithm identifier of PKCS #1 with this number.
+pub type Place = Option<u8>;
+
+/// The number of id-RSASSA-PSS.
+pub const RSASSA_PSS: u8 = 10;
+
+/// The number of id-RSAES-OAEP.
+pub const RSAES_OAEP: u8 = 7;
+
+/// The length of what was written, or where there is no room, of what was to be written.
+pub type Written = Result<usize, usize>;
+
+/// The hash function with this identifier, if it is known.
 #[inline(always)]
-fn hash_number(oid: &[u8]) -> Option<u8>
-    ensures some { IfSome result (λ number. oid.now ≡ hash_algorithm number) }
-    ensures none { result ≡ None → (number : ℕ) → oid.now ≡ hash_algorithm number → ⊥ }
+fn known_hash(oid: &[u8]) -> Option<KnownHash>
+    ensures some { IfSome result (λ known. IsKnownHash oid.now known) }
+    ensures none { result ≡ None → (known : Option ℕ) → IsKnownHash oid.now known → ⊥ }
 {
+    if is_sha1(oid) {
+        return Some(None);
+    }
     match oid {
         [a, b, c, d, e, f, g, h, number] => {
             let front = (*a == 0x60)
@@ -27,72 +45,139 @@ fn hash_number(oid: &[u8]) -> Option<u8>
                 & (*f == 0x03)
                 & (*g == 0x04)
                 & (*h == 0x02);
-            if front { Some(*number) } else { None }
+            if front && *number < 0x80 {
+                Some(Some(*number))
+            } else {
+                None
+            }
         }
         _ => None,
     }
 }
 
-/// What the hash function and the mask generation function with these identifiers are written as, if that is known.
+/// Both hash functions, if they are known, and the mask generation function is MGF1.
 #[inline(always)]
-fn known_fields(hash: &[u8], mask_gen: &[u8], under: &[u8]) -> Option<&'static [u8]>
-    ensures some { IfSome result (λ fields. AreKnown hash.now mask_gen.now under.now fields.now) }
-    ensures none { result ≡ None → (fields : List ℕ) → AreKnown hash.now mask_gen.now under.now fields → ⊥ }
+fn known_hashes(hash: &[u8], mask_gen: &[u8], under: &[u8]) -> Option<(KnownHash, KnownHash)>
+    ensures some { IfSome result (λ known. AreKnown hash.now mask_gen.now under.now known.0 known.1) }
+    ensures none { result ≡ None → IsKnownPss hash.now mask_gen.now under.now → ⊥ }
 {
-    if is_sha1(hash) {
-        if is_mgf1(mask_gen) && is_sha1(under) {
-            return Some(&[]);
-        }
-        return None;
-    }
-    let number = hash_number(hash)?;
-    let fields = usual_fields(number)?;
     if !is_mgf1(mask_gen) {
         return None;
     }
-    if is_sha1(under) {
-        return Some(&fields[..17]);
-    }
-    if hash_number(under)? != number {
-        return None;
-    }
-    Some(fields)
+    let hash = known_hash(hash)?;
+    let under = known_hash(under)?;
+    Some((hash, under))
 }
 
-/// Writes the octets, which may be none, in front of what is filled.
+/// The field hashAlgorithm of the hash function of NIST with this number.
 #[inline(always)]
-fn prepend_any(octets: &[u8], writer: &mut BackWriter<'_>)
-    requires { length octets.now ≤ free_of writer.old }
-    ensures { Prepends octets.now writer.old writer.new }
+fn hash_field(number: u8) -> [u8; 17]
+    ensures { result ≡ field_with_hash (hash_algorithm number) }
 {
-    if !octets.is_empty() {
-        writer.prepend(octets);
+    [
+        0xa0, 0x0f, 0x30, 0x0d, 0x06, 0x09, 0x60, 0x86, 0x48, 0x01, 0x65, 0x03, 0x04, 0x02, number,
+        0x05, 0x00,
+    ]
+}
+
+/// The field maskGenAlgorithm: MGF1 with that hash function.
+#[inline(always)]
+fn mask_field(number: u8) -> [u8; 30]
+    ensures { result ≡ mask_field_with_hash (hash_algorithm number) }
+{
+    [
+        0xa1, 0x1c, 0x30, 0x1a, 0x06, 0x09, 0x2a, 0x86, 0x48, 0x86, 0xf7, 0x0d, 0x01, 0x01, 0x08,
+        0x30, 0x0d, 0x06, 0x09, 0x60, 0x86, 0x48, 0x01, 0x65, 0x03, 0x04, 0x02, number, 0x05, 0x00,
+    ]
+}
+
+/// How many octets both fields have.
+#[inline(always)]
+fn fields_len(hash: KnownHash, under: KnownHash) -> usize
+    ensures { result ≡ length (known_fields hash under) }
+{
+    let hash_len = if hash.is_some() { 17 } else { 0 };
+    let mask_len = if under.is_some() { 30 } else { 0 };
+    hash_len + mask_len
+}
+
+/// Writes both fields in front of what is filled.
+#[inline(always)]
+fn prepend_fields(hash: KnownHash, under: KnownHash, writer: &mut BackWriter<'_>)
+    requires { length (known_fields hash under) ≤ free_of writer.old }
+    ensures { Prepends (known_fields hash under) writer.old writer.new }
+{
+    if let Some(number) = under {
+        writer.prepend(&mask_field(number));
+    }
+    if let Some(number) = hash {
+        writer.prepend(&hash_field(number));
     }
 }
 
-/// Writes a SEQUENCE of these contents octets, in three parts, to the front of a slice, if there is room.
+/// How many octets stand in front of parameters.
 #[inline(always)]
-fn put_sequence(fields: &[u8], later: &[u8], last: &[u8], out: &mut [u8]) -> Option<usize>
-    requires { length fields.now + length later.now + length last.now < 128 }
-    ensures written { let contents = fields.now ++ (later.now ++ last.now) in
-        let encoding = sequence_tag ∷ length contents ∷ contents in
-        IfSome result (λ n. (n ≡ length encoding) × (out.new ≡ encoding ++ drop n out.old)) }
-    ensures unchanged { result ≡ None → out.new ≡ out.old }
-    ensures none { let contents = fields.now ++ (later.now ++ last.now) in
-        result ≡ None → length out.old < length (sequence_tag ∷ length contents ∷ contents) }
-    ensures bytes { AreBytes fields.now × AreBytes (later.now ++ last.now) }
+fn front_len(place: Place) -> usize
+    ensures { (count : ℕ) → result ≡ length (place_front place count) }
 {
-    let count = fields.len() + later.len() + last.len();
-    if out.len() < count + 2 {
-        return None;
+    if place.is_some() { 13 } else { 0 }
+}
+
+/// Writes what stands in front of parameters of this many octets.
+#[inline(always)]
+fn prepend_front(place: Place, count: u8, writer: &mut BackWriter<'_>)
+    requires few { count < 140 }
+    requires room { length (place_front place count) ≤ free_of writer.old }
+    ensures { Prepends (place_front place count) writer.old writer.new }
+{
+    if let Some(number) = place {
+        writer.prepend(&[
+            0x30,
+            11 + count,
+            0x06,
+            0x09,
+            0x2a,
+            0x86,
+            0x48,
+            0x86,
+            0xf7,
+            0x0d,
+            0x01,
+            0x01,
+            number,
+        ]);
     }
-    let (region, _) = out.split_at_mut(count + 2);
+}
+
+/// Writes parameters to the front of a slice, if there is room: what is in front of them, and a SEQUENCE of both fields
+/// and of octets in two parts.
+#[inline(always)]
+fn put(
+    hash: KnownHash,
+    under: KnownHash,
+    later: &[u8],
+    last: &[u8],
+    place: Place,
+    out: &mut [u8],
+) -> Written
+    requires { length later.now + length last.now + length (place_front place 0) ≤ 80 }
+    ensures { let contents = known_fields hash under ++ (later.now ++ last.now) in
+        let params = sequence_tag ∷ length contents ∷ contents in
+        Puts (place_front place (length params) ++ params) out.old out.new result }
+{
+    let count = fields_len(hash, under) + later.len() + last.len();
+    let len = front_len(place) + 2 + count;
+    if out.len() < len {
+        return Err(len);
+    }
+    let (region, _) = out.split_at_mut(len);
     let mut writer = BackWriter::new(region);
     writer.prepend(last);
     writer.prepend(later);
-    prepend_any(fields, &mut writer);
+    prepend_fields(hash, under, &mut writer);
     writer.prepend(&[0x30, count as u8]);
-    Some(count + 2)
+    prepend_front(place, 2 + count as u8, &mut writer);
+    Ok(len)
 }
 
 /// What stands in front of a label of this many octets, in its field: two headers, pSpecified, and a header.
@@ -122,35 +207,45 @@ fn label_front(count: u8) -> [u8; 17]
     ]
 }
 
-/// Writes the shortest encoding of RSASSA-PSS parameters to the front of a slice, if it is known and there is room.
-/// The hash functions have NULL.
+/// Writes the shortest encoding of RSASSA-PSS parameters to the front of a slice, if it is known and there is room, and
+/// says how long it is. `None` if it isn't known. The hash functions have NULL.
 #[inline(always)]
 pub fn encode_known_pss(
     hash: &[u8],
     mask_gen: &[u8],
     under: &[u8],
     salt_len: u8,
+    place: Place,
     out: &mut [u8],
-) -> Option<usize>
+) -> Option<Written>
     ensures written { let params = pss_with_hashes hash.now mask_gen.now under.now salt_len in
-        IfSome result (λ n. Encodes PssEncoding params out.old out.new (Some n)) }
+        IfSome result (WritesOrCounts (InPlace place PssEncoding) params out.old out.new) }
     ensures unchanged { result ≡ None → out.new ≡ out.old }
-    ensures known { IfSome result (λ n. IsKnownPss hash.now mask_gen.now under.now salt_len) }
-    ensures none { let params = pss_with_hashes hash.now mask_gen.now under.now salt_len in
-        result ≡ None → IsKnownPss hash.now mask_gen.now under.now salt_len
-        → Encodes PssEncoding params out.old out.new None }
+    ensures known { IfSome result (λ _. IsKnownPss hash.now mask_gen.now under.now) }
+    ensures none { result ≡ None → IsKnownPss hash.now mask_gen.now under.now → ⊥ }
 {
-    if salt_len >= 0x80 {
-        return None;
-    }
-    let fields = known_fields(hash, mask_gen, under)?;
+    let (hash, under) = known_hashes(hash, mask_gen, under)?;
     if salt_len == RsaPssParamsRef::SALT_LEN_DEFAULT {
-        return put_sequence(fields, &[], &[], out);
+        return Some(put(hash, under, &[], &[], place, out));
     }
-    put_sequence(fields, &[0xa2, 0x03, 0x02, 0x01, salt_len], &[], out)
+    if salt_len < 0x80 {
+        let salt = [0xa2, 0x03, 0x02, 0x01, salt_len];
+        return Some(put(hash, under, &salt, &[], place, out));
+    }
+    let salt = [0xa2, 0x04, 0x02, 0x02, 0x00, salt_len];
+    Some(put(hash, under, &salt, &[], place, out))
 }
 
-/// The same of RSAES-OAEP parameters, whose source has an OCTET STRING of fewer than 64 octets.
+/// How many octets a label may not have whose length, and those around it, are written as one octet each.
+#[inline(always)]
+fn known_label(place: Place) -> usize
+    ensures { result ≡ known_label place }
+{
+    if place.is_some() { 51 } else { 64 }
+}
+
+/// The same of RSAES-OAEP parameters, whose source has an OCTET STRING of fewer than 64 octets, in an algorithm
+/// identifier of fewer than 51.
 #[inline(always)]
 pub fn encode_known_oaep(
     hash: &[u8],
@@ -158,23 +253,22 @@ pub fn encode_known_oaep(
     under: &[u8],
     source: &[u8],
     label: &[u8],
+    place: Place,
     out: &mut [u8],
-) -> Option<usize>
+) -> Option<Written>
     ensures written { let params = oaep_with_hashes hash.now mask_gen.now under.now source.now label.now in
-        IfSome result (λ n. Encodes OaepEncoding params out.old out.new (Some n)) }
+        IfSome result (WritesOrCounts (InPlace place OaepEncoding) params out.old out.new) }
     ensures unchanged { result ≡ None → out.new ≡ out.old }
-    ensures known { IfSome result (λ n. IsKnownOaep hash.now mask_gen.now under.now source.now label.now) }
-    ensures none { let params = oaep_with_hashes hash.now mask_gen.now under.now source.now label.now in
-        result ≡ None → IsKnownOaep hash.now mask_gen.now under.now source.now label.now
-        → Encodes OaepEncoding params out.old out.new None }
+    ensures known { IfSome result (λ _. IsKnownOaep place hash.now mask_gen.now under.now source.now label.now) }
+    ensures none { result ≡ None → IsKnownOaep place hash.now mask_gen.now under.now source.now label.now → ⊥ }
 {
-    if label.len() >= 64 || !is_p_specified(source) {
+    if label.len() >= known_label(place) || !is_p_specified(source) {
         return None;
     }
-    let fields = known_fields(hash, mask_gen, under)?;
+    let (hash, under) = known_hashes(hash, mask_gen, under)?;
     if label.is_empty() {
-        return put_sequence(fields, &[], &[], out);
+        return Some(put(hash, under, &[], &[], place, out));
     }
     let later = label_front(label.len() as u8);
-    put_sequence(fields, &later, label, out)
+    Some(put(hash, under, &later, label, place, out))
 }

@@ -1,4 +1,3 @@
-pub mod DigitTables
 pub mod CutAtByte
 pub mod Runs
 pub mod OneAnswer

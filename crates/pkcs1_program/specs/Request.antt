@@ -1,5 +1,5 @@
 -- The lines of an input, and what a line asks for.
-use Rattle.std.specs.Prelude.{ℕ, ◌+◌, ◌*◌, ◌==◌, if◌then◌else◌, List, [], ◌∷◌, Option, Some, None, codes, find, option_map, bytes_eq}
+use Rattle.std.specs.Prelude.{ℕ, ◌==◌, if◌then◌else◌, List, [], ◌∷◌, Option, Some, None, codes, find, option_map, bytes_eq}
 use Rattle.std.specs.List.{onto_first, slice_split}
 use Rattle.std.specs.declared.result.Result.{Result}
 use Rattle.std.specs.declared.result.Result.TheVariants.{Ok, Err}
@@ -53,17 +53,6 @@ pub data Asked : Type 0 where
 abbrev pub decoded : Result (List ℕ) FromHexError → Option (List ℕ)
 decoded (Ok encoding) = Some encoding
 decoded (Err e) = None
-
--- the value of a digit, if it is one, else a number that no digit has
-abbrev pub or_sixteen : Option ℕ → ℕ
-or_sixteen (Some value) = value
-or_sixteen None = 16
-
--- the octet of two digits with these values
-abbrev pub pair_octet : Option ℕ → Option ℕ → Option ℕ
-pair_octet (Some high) (Some low) = Some (high * 16 + low)
-pair_octet (Some high) None = None
-pair_octet None low = None
 
 -- the bytes of an even number of hexadecimal digits, of either case
 abbrev pub encoding_of : List ℕ → Option (List ℕ)

@@ -4,5 +4,5 @@ pub use Rattle.pkcs1_program.specs.Copied.{CopiesAt, CopiesFile, CopiesKey, Give
 pub use Rattle.pkcs1_program.specs.Fault.{IsMemoryError, fault_text}
 pub use Rattle.pkcs1_program.specs.Plan.{IsDone, planned_by, status_of, task_of}
 pub use Rattle.pkcs1_program.specs.Replaced.{Aim, Filled, FillsFile, PutsFile, PutsAt, Refuses, RefusesAt, SinkStops, SinkTakes, absent, aim_of, aimed, in_place, replaced, stopped, whole}
-pub use Rattle.pkcs1_program.specs.Request.{Asked, asked_by, asked_by_parts, asked_with, asks, asks_pair, bad_line, decoded, encoding_of, lines_of, longest_input, named, or_sixteen, pair_asked_with, pair_octet, pair_words, parts_of, seen, words}
+pub use Rattle.pkcs1_program.specs.Request.{Asked, asked_by, asked_by_parts, asked_with, asks, asks_pair, bad_line, decoded, encoding_of, lines_of, longest_input, named, pair_asked_with, pair_words, parts_of, seen, words}
 pub use Rattle.pkcs1_program.specs.Written.{Makes, MakesFirst, Writes, WritesFirst, WritesFront, WritesFrontOfAll, WritesHeld, WritesOut}

@@ -2,7 +2,6 @@
 ghost use Rattle.std.specs.Prelude.{◌≡◌, IfOk, Some, None, if◌then◌else◌, map};
 ghost use Rattle.pkcs1_program.specs.Words.{asked_by, asked_with, named, pair_asked_with, pair_words, encoding_of, words, seen};
 
-use crate::digits::decode_pairs;
 use crate::lines::split_part;
 use std::alloc::{AllocError, Global};
 
@@ -106,7 +105,7 @@ fn read_hex(hex: &[u8], encoding: &mut Vec<u8>) -> Result<bool, AllocError>
     ensures { IfOk result (λ is_hex. encoding_of hex.now ≡ (if is_hex then Some encoding.new.items else None)) }
 {
     encoding.resize(hex.len() / 2, 0)?;
-    Ok(hex.len() % 2 == 0 && decode_pairs(hex, encoding.as_mut_slice()))
+    Ok(hex::decode_to_slice(hex, encoding.as_mut_slice()).is_ok())
 }
 
 /// The request of a word with one HEX part.

@@ -34,7 +34,7 @@ pub(crate) fn empty_source<O: IdentifierValue, P: AnyParams<M>, M: Memory>(
 
 /// Whether these are the octets of id-pSpecified.
 #[inline(always)]
-pub(crate) fn is_p_specified(octets: &[u8]) -> bool {
+pub fn is_p_specified(octets: &[u8]) -> bool {
     is_pkcs1(octets, 9)
 }
 

@@ -34,10 +34,10 @@ mod usual;
 pub use algorithm::FromAlgorithm;
 pub use default_salt::DefaultSalt;
 pub use error::{Error, Result};
-pub use hash_fields::with_null;
+pub use hash_fields::{is_mgf1, with_null};
 pub use hash_functions::{Mgf1, Sha1, Sha224, Sha256, Sha384, Sha512, Sha512_224, Sha512_256};
-pub use known::{encode_known_oaep, encode_known_pss};
-pub use label::PSpecified;
+pub use known::{Place, RSAES_OAEP, RSASSA_PSS, Written, encode_known_oaep, encode_known_pss};
+pub use label::{PSpecified, is_p_specified};
 pub use laws::{
     lemma_algorithms, lemma_algorithms_exclude_each_other, lemma_bare_params_take_no_memory,
     lemma_oaep_spellings, lemma_params_decode, lemma_pss_spellings,

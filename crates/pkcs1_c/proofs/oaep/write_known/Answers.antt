@@ -1,6 +1,6 @@
-use Rattle.std.proofs.Common.{Some, ◌≡◌, refl, subst, sym, IfSome}
-use Rattle.pkcs1_params.specs.Words.{oaep_with_hashes}
-use Rattle.standard.specs.Statement.{Encodes, OaepEncoding}
+use Rattle.std.proofs.Common.{◌≡◌, refl, subst, sym, IfSome}
+use Rattle.pkcs1_params.specs.Words.{InPlace, WritesOrCounts, oaep_with_hashes}
+use Rattle.standard.specs.Statement.{OaepEncoding}
 use Rattle.pkcs1_c.specs.Words.{oaep_seen}
 use Rattle.pkcs1_c.proofs.oaep.write_known.Goals as goal
 
@@ -12,5 +12,5 @@ returns-clause-written c =
     let is : oaep_seen p ≡ oaep_with_hashes p.hash.oid.now p.mask_gen.oid.now p.mask_gen.hash.oid.now p.p_source.oid.now p.p_source.parameters.now =
     λ i. record { hash = null.hash refl i; mask_gen = null.mask_gen refl i; p_source = source i } in
     let made = c.encode_known_oaep in
-    subst (λ v. IfSome made.result (λ n. Encodes OaepEncoding v c.args.out.now made.new.out (Some n))) (sym is)
+    subst (λ v. IfSome made.result (WritesOrCounts (InPlace c.args.place OaepEncoding) v c.args.out.now made.new.out)) (sym is)
     made.ensures.written

@@ -1,6 +1,6 @@
-use Rattle.std.proofs.Common.{Some, ◌≡◌, refl, subst, sym, IfSome}
-use Rattle.pkcs1_params.specs.Words.{pss_with_hashes}
-use Rattle.standard.specs.Statement.{Encodes, PssEncoding}
+use Rattle.std.proofs.Common.{◌≡◌, refl, subst, sym, IfSome}
+use Rattle.pkcs1_params.specs.Words.{InPlace, WritesOrCounts, pss_with_hashes}
+use Rattle.standard.specs.Statement.{PssEncoding}
 use Rattle.pkcs1_c.specs.Words.{pss_seen}
 use Rattle.pkcs1_c.proofs.pss.write_known.Goals as goal
 
@@ -12,5 +12,5 @@ returns-clause-written c =
     let is : pss_seen p ≡ pss_with_hashes p.hash.oid.now p.mask_gen.oid.now p.mask_gen.hash.oid.now p.salt_len =
     λ i. record { hash = null.hash refl i; mask_gen = null.mask_gen refl i; salt_len = p.salt_len; trailer_field = trailer i } in
     let made = c.encode_known_pss in
-    subst (λ v. IfSome made.result (λ n. Encodes PssEncoding v c.args.out.now made.new.out (Some n))) (sym is)
+    subst (λ v. IfSome made.result (WritesOrCounts (InPlace c.args.place PssEncoding) v c.args.out.now made.new.out)) (sym is)
     made.ensures.written

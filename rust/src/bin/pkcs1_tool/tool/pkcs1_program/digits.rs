@@ -5,51 +5,6 @@ use crate::rattle_std::prelude::Vec;
 use crate::rattle_std::alloc::AllocError;
 use crate::rattle_std::io::Write;
 
-/// The value of each octet as a hexadecimal digit, of either case; 16 of one that is none.
-const VALUES: [u8; 256] = [
-    16, 16, 16, 16, 16, 16, 16, 16, 16, 16, 16, 16, 16, 16, 16, 16, 16, 16, 16, 16, 16, 16, 16, 16,
-    16, 16, 16, 16, 16, 16, 16, 16, 16, 16, 16, 16, 16, 16, 16, 16, 16, 16, 16, 16, 16, 16, 16, 16,
-    0, 1, 2, 3, 4, 5, 6, 7, 8, 9, 16, 16, 16, 16, 16, 16, 16, 10, 11, 12, 13, 14, 15, 16, 16, 16,
-    16, 16, 16, 16, 16, 16, 16, 16, 16, 16, 16, 16, 16, 16, 16, 16, 16, 16, 16, 16, 16, 16, 16, 10,
-    11, 12, 13, 14, 15, 16, 16, 16, 16, 16, 16, 16, 16, 16, 16, 16, 16, 16, 16, 16, 16, 16, 16, 16,
-    16, 16, 16, 16, 16, 16, 16, 16, 16, 16, 16, 16, 16, 16, 16, 16, 16, 16, 16, 16, 16, 16, 16, 16,
-    16, 16, 16, 16, 16, 16, 16, 16, 16, 16, 16, 16, 16, 16, 16, 16, 16, 16, 16, 16, 16, 16, 16, 16,
-    16, 16, 16, 16, 16, 16, 16, 16, 16, 16, 16, 16, 16, 16, 16, 16, 16, 16, 16, 16, 16, 16, 16, 16,
-    16, 16, 16, 16, 16, 16, 16, 16, 16, 16, 16, 16, 16, 16, 16, 16, 16, 16, 16, 16, 16, 16, 16, 16,
-    16, 16, 16, 16, 16, 16, 16, 16, 16, 16, 16, 16, 16, 16, 16, 16, 16, 16, 16, 16, 16, 16, 16, 16,
-    16, 16, 16, 16, 16, 16, 16, 16, 16, 16, 16, 16, 16, 16,
-];
-
-/// The value of a hexadecimal digit, or 16.
-#[inline(always)]
-fn value_of(digit: u8) -> u8 {
-    VALUES[digit as usize]
-}
-
-/// The octet of two hexadecimal digits.
-#[inline(always)]
-fn octet_of(high: u8, low: u8) -> Option<u8> {
-    let high = value_of(high);
-    let low = value_of(low);
-    if high < 16 && low < 16 {
-        Some(high * 16 + low)
-    } else {
-        None
-    }
-}
-
-/// Decodes pairs of hexadecimal digits of either case into `bytes`. Returns false if there is another octet among them;
-/// `bytes` may then hold anything. A table tells digits without a branch, of which `hex` has one for each class.
-pub fn decode_pairs(digits: &[u8], bytes: &mut [u8]) -> bool {
-    for index in 0..bytes.len() {
-        match octet_of(digits[2 * index], digits[2 * index + 1]) {
-            Some(byte) => bytes[index] = byte,
-            None => return false,
-        }
-    }
-    true
-}
-
 /// Appends the bytes to `out`, in lowercase hexadecimal digits.
 pub fn put_hex(bytes: &[u8], out: &mut Vec<u8>) -> Result<(), AllocError> {
     let start = out.len();

@@ -2,7 +2,6 @@
 //! Parsing a line into a request.
 
 use crate::rattle_std::prelude::Vec;
-use crate::tool::pkcs1_program::digits::decode_pairs;
 use crate::tool::pkcs1_program::lines::split_part;
 use crate::rattle_std::alloc::{AllocError, Global};
 
@@ -97,7 +96,7 @@ fn pair_word_of(part: &[u8]) -> Option<PairWord> {
 /// then hold anything.
 fn read_hex(hex: &[u8], encoding: &mut Vec<u8>) -> Result<bool, AllocError> {
     encoding.resize(hex.len() / 2, 0)?;
-    Ok(hex.len() % 2 == 0 && decode_pairs(hex, encoding.as_mut_slice()))
+    Ok(crate::rattle_std::hex::decode_to_slice(hex, encoding.as_mut_slice()).is_ok())
 }
 
 /// The request of a word with one HEX part.

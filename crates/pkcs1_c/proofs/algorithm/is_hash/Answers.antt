@@ -6,8 +6,8 @@ use Rattle.std.proofs.lemmas.Slice.Eq.{bytes_eq-Decides}
 use Rattle.spki_core.specs.Words.{IsHash}
 use Rattle.pkcs1_c.specs.Words.{algorithm_seen}
 use Rattle.pkcs1_c.specs.declared.algorithm.Algorithm.{Algorithm}
-use Rattle.pkcs1_c.proofs.algorithm.pkcs1_c_algorithm_is.Goals.{then-algorithm-octet, else-algorithm-octet, then-not-algorithm, else-not-algorithm}
-use Rattle.pkcs1_c.proofs.algorithm.pkcs1_c_algorithm_is.Goals as goal
+use Rattle.pkcs1_c.proofs.algorithm.is_hash.Goals.{then-algorithm-octet, else-algorithm-octet, then-not-algorithm, else-not-algorithm}
+use Rattle.pkcs1_c.proofs.algorithm.is_hash.Goals as goal
 
 -- Where the parameters are absent or NULL, the identifier decides.
 hash_is : (a : Algorithm) (oid : List ℕ) (r : Bool) → Decides r (a.oid.now ≡ oid)

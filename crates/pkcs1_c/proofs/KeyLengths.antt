@@ -1,0 +1,66 @@
+-- How many octets the encodings of numbers, of a prime and of a key have: as many as are told, if those or these are
+-- within the limit.
+use Rattle.std.proofs.Common.{ℕ, List, [], ◌∷◌, ◌≡◌, ◌∙◌, ◌+◌, ◌≤◌, ◌<◌, ◌⊎◌, ap, length, length-append, arith, refl, Result, Ok, Err, None, inl, inr, IfErr, IfOk}
+use Rattle.std.proofs.lemmas.Bool.{cases_lt}
+use Rattle.der_core.specs.Words.{length_octets, limit, tlv_len, number_contents, Counts}
+use Rattle.der_core.specs.declared.error.Error.{Error}
+use Rattle.der_core.specs.declared.error.ErrorKind.TheVariants.{Overflow}
+use Rattle.pkcs1.specs.Words.{PrivateKey, private_printed}
+use Rattle.pkcs1_c.specs.Words.{prime_encoded}
+use Rattle.standard.specs.Statement.{OtherPrime, integer, integers, tlv}
+
+-- Two numbers of octets are equal, if one of them is within the limit.
+abbrev pub Agree : ℕ → ℕ → Type 0
+Agree told is = (told ≤ limit) ⊎ (is ≤ limit) → told ≡ is
+
+pub agree_sum : (a b c d : ℕ) → Agree a b → Agree c d → Agree (a + c) (b + d)
+agree_sum a b c d p q (inl few) =
+    let r = p (inl (omega (arith, few))) in let s = q (inl (omega (arith, few))) in omega (arith, r, s)
+agree_sum a b c d p q (inr few) =
+    let r = p (inr (omega (arith, few))) in let s = q (inr (omega (arith, few))) in omega (arith, r, s)
+
+-- What is told of a tag and contents, by what is told of these.
+pub agree_tlv : (size result n : ℕ) → Agree size n → (size ≤ limit → result ≡ tlv_len size) → size ≤ result
+    → Agree result (tlv_len n)
+agree_tlv size result n p within least (inl few) =
+    let less : size ≤ limit = omega (arith, few, least) in within less ∙ ap tlv_len (p (inl less))
+agree_tlv size result n p within least (inr few) =
+    let same = p (inr (omega (arith, few))) in within (omega (arith, few, same)) ∙ ap tlv_len same
+
+-- Of a number, by how many octets its contents are.
+pub agree_number : (size result n : ℕ) → size ≡ n → (size ≤ limit → result ≡ tlv_len size) → size ≤ result
+    → Agree result (tlv_len n)
+agree_number size result n is = agree_tlv size result n (λ few. is)
+
+tagged : (tag : ℕ) (c : List ℕ) → length (tlv tag c) ≡ tlv_len (length c)
+tagged tag c = omega (arith, length-append (length_octets (length c)) c)
+
+abbrev number_len : ℕ → ℕ
+number_len n = tlv_len (length (number_contents n))
+
+pub prime_len : (o : OtherPrime) → length (prime_encoded o)
+    ≡ tlv_len (number_len o.prime + number_len o.exponent + number_len o.coefficient)
+prime_len o =
+    tagged 48 (integers (o.prime ∷ o.exponent ∷ o.coefficient ∷ [])) ∙ ap tlv_len (simp length-append (omega arith))
+
+version_len : length (integer 0) ≡ 3
+unfolding length_octets
+version_len = refl
+
+pub key_len : (k : PrivateKey ℕ) → k.other_prime_infos ≡ None → length (private_printed integer k)
+    ≡ 3 + (number_len k.modulus + number_len k.public_exponent + number_len k.private_exponent + number_len k.prime1)
+    + (number_len k.prime2 + number_len k.exponent1 + number_len k.exponent2 + number_len k.coefficient)
+key_len k none = rw none (simp length-append (omega (arith, version_len)))
+
+pub counted : (octets : List ℕ) (s n : ℕ) → length octets ≡ n → Agree s n → (r : Result ℕ Error)
+    → IfOk r (λ m. (m ≡ s) × (s ≤ limit)) → IfErr r (λ f. (f.kind ≡ Overflow) × (limit < s))
+    → Counts (Unit {0}) octets r
+counted octets s n is same (Ok m) ok err = (tt, omega (arith, ok, is, same (inl ok.1)), omega (arith, ok))
+counted octets s n is same (Err f) ok err =
+    rw err.0 (
+      tt,
+      elim (cases_lt limit n) [
+        | inl long ↦ omega (arith, long, is)
+        | inr few ↦ omega (arith, err.1, few, same (inr few))
+      ],
+    )
