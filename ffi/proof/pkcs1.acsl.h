@@ -401,19 +401,27 @@ void pkcs1_pss_params_init(PSS, const struct pkcs1_bytes *hash, uint8_t salt_len
 void pkcs1_oaep_params_init(OAEP, const struct pkcs1_bytes *hash, const uint8_t *label, size_t label_len);
 
 /* ---- The helpers of pkcs1.c ---- */
-#define COPIES(name)                                                                                                   \
-    requires \valid_read(given) && given_##name(*given);                                                               \
-    PURE; ensures ok: ok_##name(\result);                                                                              \
-    ensures made: made_##name(\result, *given);                                                                        \
-    ensures seen: name##_seen(\result) == name##_seen(*given)
 /*@ requires given_bytes(given);
   @ PURE; ensures made: ok_bytes(\result) && made_bytes(\result, given) && bytes_seen(\result) == bytes_seen(given); */
 static struct pkcs1_bytes never_null(struct pkcs1_bytes given);
-/*@ COPIES(private_key); */ static struct pkcs1_private_key private_key(const struct pkcs1_private_key *given);
-/*@ COPIES(algorithm); */ static struct pkcs1_algorithm algorithm(const struct pkcs1_algorithm *given);
-/*@ COPIES(mask_gen); */ static struct pkcs1_mask_gen mask_gen(const struct pkcs1_mask_gen *given);
-/*@ COPIES(pss); */ static struct pkcs1_pss_params pss(const struct pkcs1_pss_params *given);
-/*@ COPIES(oaep); */ static struct pkcs1_oaep_params oaep(const struct pkcs1_oaep_params *given);
+/* A whole struct may stand for its copy. */
+#define WHOLE(name)                                                                                                    \
+    requires \valid_read(given) && given_##name(*given);                                                               \
+    PURE; ensures whole: is_flag(\result) && (\result == 1 ==> ok_##name(*given) && made_##name(*given, *given))
+#define COPIES(name)                                                                                                   \
+    requires \valid(made) && \valid_read(given) && given_##name(*given) && \separated(made, given);                    \
+    ENDS; assigns *made; ensures ok: ok_##name(*made);                                                                 \
+    ensures made: made_##name(*made, \old(*given))
+/*@ WHOLE(private_key); */ static bool is_whole_key(const struct pkcs1_private_key *given);
+/*@ COPIES(private_key); */ static void copy_key(struct pkcs1_private_key *made, const struct pkcs1_private_key *given);
+/*@ WHOLE(algorithm); */ static bool is_whole_algorithm(const struct pkcs1_algorithm *given);
+/*@ COPIES(algorithm); */ static void copy_algorithm(struct pkcs1_algorithm *made, const struct pkcs1_algorithm *given);
+/*@ WHOLE(mask_gen); */ static bool is_whole_mask_gen(const struct pkcs1_mask_gen *given);
+/*@ COPIES(mask_gen); */ static void copy_mask_gen(struct pkcs1_mask_gen *made, const struct pkcs1_mask_gen *given);
+/*@ WHOLE(pss); */ static bool is_whole_pss(const struct pkcs1_pss_params *given);
+/*@ COPIES(pss); */ static void copy_pss(struct pkcs1_pss_params *made, const struct pkcs1_pss_params *given);
+/*@ WHOLE(oaep); */ static bool is_whole_oaep(const struct pkcs1_oaep_params *given);
+/*@ COPIES(oaep); */ static void copy_oaep(struct pkcs1_oaep_params *made, const struct pkcs1_oaep_params *given);
 /*@ requires given(der, der_len); ENDS; assigns \result \from der, der_len;
   @ ensures made: ok(\result, der_len) && (der_len != 0 ==> \result == der);
   @ ensures seen: octets_of(\result, der_len) == octets_of(der, der_len); */ static const uint8_t *input(DER_IN);
@@ -421,6 +429,7 @@ static struct pkcs1_bytes never_null(struct pkcs1_bytes given);
   @ ensures made: ok_out(\result, room) && (room != 0 ==> \result == out); */
 static uint8_t *output(uint8_t *out, size_t room);
 /*@ requires \valid_read(flag); TELLS(*flag != 0); */ static bool is_set(const bool *flag);
+/*@ requires \valid_read(flag); TELLS(*flag == 1); */ static bool is_one(const bool *flag);
 /*@ requires \valid_read(oid); PURE; ensures hash: is_hash_with_null(\result, *oid); */
 static struct pkcs1_algorithm with_null(const struct pkcs1_bytes *oid);
 /*@ requires \valid_read(hash); PURE; ensures mask_gen: is_mgf1(\result, *hash); */
@@ -458,3 +467,9 @@ static uint32_t prime_fault(uint32_t status, const struct pkcs1_other_prime *oth
   @ ensures empty: has_empty_number(others, count) ==> \result != PKCS1_OK; */
 static uint32_t first_fault(const PRIVATE, const struct pkcs1_other_prime *others, size_t count);
 /*@ ENCODES_KEY(given, ok); */ static uint32_t write_key(KEY_IN, OUT);
+/*@ requires ok_bytes(*label); LABELS(given); */
+static bool label_of_copied(const OAEP, struct pkcs1_bytes *label);
+/*@ ENCODES(given, PSS_PARAMS, params, pss); */ static uint32_t write_copied_pss_params(const PSS, OUT);
+/*@ ENCODES(given, PSS_ALGORITHM, params, pss); */ static uint32_t write_copied_pss_algorithm(const PSS, OUT);
+/*@ ENCODES(given, OAEP_PARAMS, params, oaep); */ static uint32_t write_copied_oaep_params(const OAEP, OUT);
+/*@ ENCODES(given, OAEP_ALGORITHM, params, oaep); */ static uint32_t write_copied_oaep_algorithm(const OAEP, OUT);
