@@ -301,6 +301,19 @@ RARE static void copy_mask_gen(struct pkcs1_mask_gen *made, const struct pkcs1_m
     }
 }
 
+/* Whether the hash function has this identifier, and the mask generation function is MGF1 with the same one. */
+static bool both_use(const struct pkcs1_algorithm *hash, const struct pkcs1_mask_gen *mask_gen,
+                     const struct pkcs1_bytes *oid) {
+    if (oid->data != NULL && is_whole_algorithm(hash) && is_whole_mask_gen(mask_gen))
+        return pkcs1_c_uses_hash(hash, mask_gen, oid->data, oid->len);
+    struct pkcs1_bytes octets = never_null(*oid);
+    struct pkcs1_algorithm made_hash;
+    struct pkcs1_mask_gen made_mask_gen;
+    copy_algorithm(&made_hash, hash);
+    copy_mask_gen(&made_mask_gen, mask_gen);
+    return pkcs1_c_uses_hash(&made_hash, &made_mask_gen, octets.data, octets.len);
+}
+
 static struct pkcs1_algorithm with_null(const struct pkcs1_bytes *oid) {
     struct pkcs1_algorithm made = NO_ALGORITHM;
     made.oid = *oid;
@@ -328,12 +341,7 @@ RARE static void copy_pss(struct pkcs1_pss_params *made, const struct pkcs1_pss_
 }
 
 bool pkcs1_pss_is(const struct pkcs1_pss_params *params, const struct pkcs1_bytes *hash) {
-    if (hash->data != NULL && is_whole_pss(params))
-        return pkcs1_c_pss_is(params, hash->data, hash->len);
-    struct pkcs1_bytes octets = never_null(*hash);
-    struct pkcs1_pss_params made;
-    copy_pss(&made, params);
-    return pkcs1_c_pss_is(&made, octets.data, octets.len);
+    return both_use(&params->hash, &params->mask_gen, hash);
 }
 
 /* Copies what was read into the caller's struct, on success. */
@@ -411,24 +419,21 @@ RARE static void copy_oaep(struct pkcs1_oaep_params *made, const struct pkcs1_oa
 }
 
 bool pkcs1_oaep_is(const struct pkcs1_oaep_params *params, const struct pkcs1_bytes *hash) {
-    if (hash->data != NULL && is_whole_oaep(params))
-        return pkcs1_c_oaep_is(params, hash->data, hash->len);
-    struct pkcs1_bytes octets = never_null(*hash);
-    struct pkcs1_oaep_params made;
-    copy_oaep(&made, params);
-    return pkcs1_c_oaep_is(&made, octets.data, octets.len);
+    return both_use(&params->hash, &params->mask_gen, hash);
 }
 
-/* Looks for the label in a copy of the parameters. */
-RARE static bool label_of_copied(const struct pkcs1_oaep_params *params, struct pkcs1_bytes *label) {
-    struct pkcs1_oaep_params made;
-    copy_oaep(&made, params);
+/* Looks for the label in a copy of the source. */
+RARE static bool label_of_copied(const struct pkcs1_algorithm *source, struct pkcs1_bytes *label) {
+    struct pkcs1_algorithm made;
+    copy_algorithm(&made, source);
     return pkcs1_c_oaep_label(&made, label);
 }
 
 bool pkcs1_oaep_label(const struct pkcs1_oaep_params *params, struct pkcs1_bytes *label) {
+    const struct pkcs1_algorithm *source = &params->p_source;
     struct pkcs1_bytes found = NO;
-    bool has_label = is_whole_oaep(params) ? pkcs1_c_oaep_label(params, &found) : label_of_copied(params, &found);
+    bool has_label =
+        is_whole_algorithm(source) ? pkcs1_c_oaep_label(source, &found) : label_of_copied(source, &found);
     if (has_label)
         *label = found;
     return has_label;
