@@ -90,16 +90,16 @@ for code in assembly c; do
 done
 
 on_read='*key = *read;'
-on_write='struct pkcs1_private_key given = private_key(key);'
+on_write='uint8_t *place = output(out, room);'
 frame='volatile uint8_t frame[2048]; *frame = 1;'
 notices path_is_public 'jump .* uninit' "$on_read" 'if (read->prime1.data[1] & 1) __asm__ volatile("nop");'
-notices path_is_public 'jump .* uninit' "$on_write" 'if (given.exponent2.data[9] & 1) __asm__ volatile("nop");'
+notices path_is_public 'jump .* uninit' "$on_write" 'if (key->exponent2.data[9] & 1) __asm__ volatile("nop");'
 notices path_is_public 'Use of uninit' "$on_read" \
     '(void)*(volatile const uint8_t *)&read->prime2.data[read->prime1.data[1] & 1];'
 notices first_octets_are_alike priv2.der "$on_read" 'if (read->prime1.data[0] > 200) __asm__ volatile("nop");'
 notices leaves_nothing 'sizeof left' "$on_read" 'volatile uint8_t copy = read->coefficient.data[1]; (void)copy;'
 notices leaves_nothing 'sizeof left' "$on_write" \
-    '__asm__ volatile("movd %0, %%xmm9" : : "r"(0u + given.prime1.data[1]));'
+    '__asm__ volatile("movd %0, %%xmm9" : : "r"(0u + key->prime1.data[1]));'
 notices leaves_nothing 'sizeof filled_in' "$on_read" 'key->prime2.len -= read->prime1.data[1] & 1;'
 for test in stack_suffices{,_in_tests}; do
     notices "$test" 'take [2-9][0-9]{3} and ' "$on_read" "$frame"

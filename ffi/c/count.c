@@ -49,6 +49,7 @@ static void public_key(const char *input, const uint8_t *der, size_t der_len) {
     COUNT(PKCS1_OK, pkcs1_public_key_decode, der, der_len, &key);
     COUNT(PKCS1_OK, pkcs1_public_key_encode, &key, out, sizeof out, &len);
     check_written(der, der_len);
+    COUNT(key.modulus.len == 1 ? 3 : 2048, pkcs1_bit_len, key.modulus);
 }
 
 static void private_key(const char *input, const uint8_t *der, size_t der_len) {
@@ -91,13 +92,16 @@ static void oaep(const char *input, const uint8_t *der, size_t der_len) {
     check_written(der, der_len);
 }
 
-static void comparisons(const char *input) {
+static void questions(const char *input) {
     struct pkcs1_pss_params pss_params;
     struct pkcs1_oaep_params oaep_params;
+    struct pkcs1_bytes label;
     pkcs1_pss_params_init(&pss_params, &pkcs1_oid_sha256, 32);
     pkcs1_oaep_params_init(&oaep_params, &pkcs1_oid_sha256, NULL, 0);
     COUNT(true, pkcs1_pss_is, &pss_params, &pkcs1_oid_sha256);
     COUNT(true, pkcs1_oaep_is, &oaep_params, &pkcs1_oid_sha256);
+    COUNT(true, pkcs1_algorithm_is, &pss_params.hash, &pkcs1_oid_sha256);
+    COUNT(true, pkcs1_oaep_label, &oaep_params, &label);
 }
 
 /* Is compiled to no instruction, so its count is what each other has besides its call. */
@@ -167,6 +171,6 @@ int main(int argc, char **argv) {
         static uint8_t der[ROOM];
         rows[i].count(rows[i].input, der, read_octets(argv[1], rows[i].octets, der));
     }
-    comparisons("sha256");
+    questions("sha256");
     return 0;
 }

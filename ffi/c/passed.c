@@ -164,12 +164,9 @@ COUNT(pkcs1_c_bit_len,
 TEST(pkcs1_c_algorithm_is,
      (const struct pkcs1_algorithm *given, const uint8_t *oid, size_t oid_len),
      (given, oid, oid_len), algorithm(given); octets(oid, oid_len))
-TEST(pkcs1_c_pss_is,
-     (const struct pkcs1_pss_params *params, const uint8_t *oid, size_t oid_len),
-     (params, oid, oid_len), pss(params); octets(oid, oid_len))
-TEST(pkcs1_c_oaep_is,
-     (const struct pkcs1_oaep_params *params, const uint8_t *oid, size_t oid_len),
-     (params, oid, oid_len), oaep(params); octets(oid, oid_len))
+TEST(pkcs1_c_uses_hash,
+     (const struct pkcs1_algorithm *hash, const struct pkcs1_mask_gen *given, const uint8_t *oid, size_t oid_len),
+     (hash, given, oid, oid_len), algorithm(hash); mask_gen(given); octets(oid, oid_len))
 TEST(pkcs1_c_oaep_label,
-     (const struct pkcs1_oaep_params *params, struct pkcs1_bytes *label),
-     (params, label), oaep(params); bytes(*label))
+     (const struct pkcs1_algorithm *source, struct pkcs1_bytes *label),
+     (source, label), algorithm(source); bytes(*label))

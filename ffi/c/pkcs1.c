@@ -1,12 +1,21 @@
 /* The calls of pkcs1.h, over the proved ones of pkcs1_c.h. A proved call must be passed only structs of valid values:
- * it fills a local, which is copied on success, and reads a local copy in which nothing is null and each flag is 0 or
- * 1. No array may be null, not even one of length 0. Nothing is allocated.
+ * nothing in them is null, not even an array of length 0, and each flag is 0 or 1. It fills a local, which is copied on
+ * success. It reads the caller's struct if that is whole: nothing in it is null, and each flag is 1. Else it reads a
+ * local copy. A container is always copied, as few have attributes. Nothing is allocated.
  *
  * ffi/prove.sh proves with Frama-C that each call does what the proved call does on what was given, stays in bounds,
  * ends, and leaves all else as it was. ffi/proof/pkcs1.acsl.h has the contracts. The comments with @ here are for that
  * proof. */
 #include "pkcs1_c.h"
 #include <string.h>
+
+/* Stands in front of what few callers need. It is kept out of the functions that call it, where it would take time from
+ * all of them. */
+#ifdef __GNUC__
+#define RARE __attribute__((noinline, cold))
+#else
+#define RARE
+#endif
 
 static const uint8_t no_octets[1] = {0};
 #define NO { no_octets, 0 }
@@ -36,6 +45,11 @@ static bool is_set(const bool *flag) {
     return *(const uint8_t *)flag != 0;
 }
 
+/* Whether it is 1, as C has it. */
+static bool is_one(const bool *flag) {
+    return *(const uint8_t *)flag == 1;
+}
+
 const char *pkcs1_strerror(uint32_t status) {
     struct pkcs1_bytes text = NO;
     pkcs1_c_status_text(status, &text);
@@ -49,8 +63,9 @@ const char *pkcs1_version(void) {
 }
 
 uint64_t pkcs1_bit_len(struct pkcs1_bytes number) {
-    struct pkcs1_bytes given = never_null(number);
-    return pkcs1_c_bit_len(given.data, given.len);
+    if (number.data == NULL)
+        return pkcs1_c_bit_len(no_octets, 0);
+    return pkcs1_c_bit_len(number.data, number.len);
 }
 
 /* Public keys. */
@@ -64,8 +79,10 @@ uint32_t pkcs1_public_key_decode(const uint8_t *der, size_t der_len, struct pkcs
 }
 
 uint32_t pkcs1_public_key_encode(const struct pkcs1_public_key *key, uint8_t *out, size_t room, size_t *len) {
-    struct pkcs1_public_key given = {never_null(key->modulus), never_null(key->public_exponent)};
-    return pkcs1_c_public_key_encode(&given, output(out, room), room, len);
+    if (key->modulus.data != NULL && key->public_exponent.data != NULL)
+        return pkcs1_c_public_key_encode(key, output(out, room), room, len);
+    struct pkcs1_public_key made = {never_null(key->modulus), never_null(key->public_exponent)};
+    return pkcs1_c_public_key_encode(&made, output(out, room), room, len);
 }
 
 /* Private keys. */
@@ -103,19 +120,20 @@ uint32_t pkcs1_private_key_decode(const uint8_t *der, size_t der_len, struct pkc
     return status;
 }
 
-/* A copy of the key in which nothing is null. */
-static struct pkcs1_private_key private_key(const struct pkcs1_private_key *given) {
-    struct pkcs1_private_key made;
-    made.modulus = never_null(given->modulus);
-    made.public_exponent = never_null(given->public_exponent);
-    made.private_exponent = never_null(given->private_exponent);
-    made.prime1 = never_null(given->prime1);
-    made.prime2 = never_null(given->prime2);
-    made.exponent1 = never_null(given->exponent1);
-    made.exponent2 = never_null(given->exponent2);
-    made.coefficient = never_null(given->coefficient);
-    made.other_primes = given->other_primes;
-    return made;
+/* Whether the key may be passed on as it is. */
+static inline bool is_whole_key(const struct pkcs1_private_key *given) {
+    return given->modulus.data != NULL && given->public_exponent.data != NULL && given->private_exponent.data != NULL &&
+        given->prime1.data != NULL && given->prime2.data != NULL && given->exponent1.data != NULL &&
+        given->exponent2.data != NULL && given->coefficient.data != NULL;
+}
+
+/* Makes a copy of the key in which nothing is null. */
+RARE static void copy_key(struct pkcs1_private_key *made, const struct pkcs1_private_key *given) {
+    struct pkcs1_private_key copy = {
+        never_null(given->modulus), never_null(given->public_exponent), never_null(given->private_exponent),
+        never_null(given->prime1), never_null(given->prime2), never_null(given->exponent1),
+        never_null(given->exponent2), never_null(given->coefficient), given->other_primes};
+    *made = copy;
 }
 
 /* Whether a number of these primes has no octets. Then it may be null, and a proved call may not see it. */
@@ -172,11 +190,15 @@ static uint32_t first_fault(const struct pkcs1_private_key *key, const struct pk
     return status;
 }
 
-/* Encodes a copy of the key. The array of primes isn't null, nor is a number in it. */
+/* Encodes the key with these primes. Their array isn't null, nor is a number in it. */
 static uint32_t write_key(const struct pkcs1_private_key *key, const struct pkcs1_other_prime *others,
                           size_t others_len, uint8_t *out, size_t room, size_t *len) {
-    struct pkcs1_private_key given = private_key(key);
-    return pkcs1_c_private_key_encode(&given, others, others_len, output(out, room), room, len);
+    uint8_t *place = output(out, room);
+    if (is_whole_key(key))
+        return pkcs1_c_private_key_encode(key, others, others_len, place, room, len);
+    struct pkcs1_private_key made;
+    copy_key(&made, key);
+    return pkcs1_c_private_key_encode(&made, others, others_len, place, room, len);
 }
 
 uint32_t pkcs1_private_key_encode(const struct pkcs1_private_key *key, const struct pkcs1_other_prime *others,
@@ -238,31 +260,58 @@ bool pkcs1_oid_equal(const struct pkcs1_bytes *left, const struct pkcs1_bytes *r
     return left->len == right->len && (left->len == 0 || memcmp(left->data, right->data, left->len) == 0);
 }
 
-/* A copy of the algorithm in which the fields after a false `has_parameters` are empty, and nothing is null. */
-static struct pkcs1_algorithm algorithm(const struct pkcs1_algorithm *given) {
-    struct pkcs1_algorithm made = NO_ALGORITHM;
-    made.oid = never_null(given->oid);
+/* Whether the algorithm may be passed on as it is. */
+static inline bool is_whole_algorithm(const struct pkcs1_algorithm *given) {
+    return given->oid.data != NULL && is_one(&given->has_parameters) && given->parameters.data != NULL;
+}
+
+/* Makes a copy of the algorithm in which the fields after a false `has_parameters` are empty, and nothing is null. */
+RARE static void copy_algorithm(struct pkcs1_algorithm *made, const struct pkcs1_algorithm *given) {
+    const struct pkcs1_algorithm none = NO_ALGORITHM;
+    *made = none;
+    made->oid = never_null(given->oid);
     if (is_set(&given->has_parameters)) {
-        made.has_parameters = true;
-        made.tag = given->tag;
-        made.parameters = never_null(given->parameters);
+        made->has_parameters = true;
+        made->tag = given->tag;
+        made->parameters = never_null(given->parameters);
     }
-    return made;
 }
 
 bool pkcs1_algorithm_is(const struct pkcs1_algorithm *given, const struct pkcs1_bytes *oid) {
-    struct pkcs1_algorithm made = algorithm(given);
+    if (oid->data != NULL && is_whole_algorithm(given))
+        return pkcs1_c_algorithm_is(given, oid->data, oid->len);
     struct pkcs1_bytes octets = never_null(*oid);
+    struct pkcs1_algorithm made;
+    copy_algorithm(&made, given);
     return pkcs1_c_algorithm_is(&made, octets.data, octets.len);
 }
 
-static struct pkcs1_mask_gen mask_gen(const struct pkcs1_mask_gen *given) {
-    struct pkcs1_mask_gen made = {never_null(given->oid), false, NO_ALGORITHM};
+/* The same for a mask generation function, which holds an algorithm. */
+static inline bool is_whole_mask_gen(const struct pkcs1_mask_gen *given) {
+    return given->oid.data != NULL && is_one(&given->has_hash) && is_whole_algorithm(&given->hash);
+}
+
+RARE static void copy_mask_gen(struct pkcs1_mask_gen *made, const struct pkcs1_mask_gen *given) {
+    const struct pkcs1_mask_gen none = NO_MASK_GEN;
+    *made = none;
+    made->oid = never_null(given->oid);
     if (is_set(&given->has_hash)) {
-        made.has_hash = true;
-        made.hash = algorithm(&given->hash);
+        made->has_hash = true;
+        copy_algorithm(&made->hash, &given->hash);
     }
-    return made;
+}
+
+/* Whether the hash function has this identifier, and the mask generation function is MGF1 with the same one. */
+static bool both_use(const struct pkcs1_algorithm *hash, const struct pkcs1_mask_gen *mask_gen,
+                     const struct pkcs1_bytes *oid) {
+    if (oid->data != NULL && is_whole_algorithm(hash) && is_whole_mask_gen(mask_gen))
+        return pkcs1_c_uses_hash(hash, mask_gen, oid->data, oid->len);
+    struct pkcs1_bytes octets = never_null(*oid);
+    struct pkcs1_algorithm made_hash;
+    struct pkcs1_mask_gen made_mask_gen;
+    copy_algorithm(&made_hash, hash);
+    copy_mask_gen(&made_mask_gen, mask_gen);
+    return pkcs1_c_uses_hash(&made_hash, &made_mask_gen, octets.data, octets.len);
 }
 
 static struct pkcs1_algorithm with_null(const struct pkcs1_bytes *oid) {
@@ -278,18 +327,21 @@ static struct pkcs1_mask_gen mgf1(const struct pkcs1_bytes *hash) {
     return made;
 }
 
-/* Parameters. */
+/* Parameters. They are whole, and copied, as what they hold is. */
 
-static struct pkcs1_pss_params pss(const struct pkcs1_pss_params *given) {
-    struct pkcs1_pss_params made = {algorithm(&given->hash), mask_gen(&given->mask_gen), given->salt_len,
-                                    given->trailer_field};
-    return made;
+static inline bool is_whole_pss(const struct pkcs1_pss_params *given) {
+    return is_whole_algorithm(&given->hash) && is_whole_mask_gen(&given->mask_gen);
+}
+
+RARE static void copy_pss(struct pkcs1_pss_params *made, const struct pkcs1_pss_params *given) {
+    copy_algorithm(&made->hash, &given->hash);
+    copy_mask_gen(&made->mask_gen, &given->mask_gen);
+    made->salt_len = given->salt_len;
+    made->trailer_field = given->trailer_field;
 }
 
 bool pkcs1_pss_is(const struct pkcs1_pss_params *params, const struct pkcs1_bytes *hash) {
-    struct pkcs1_pss_params given = pss(params);
-    struct pkcs1_bytes octets = never_null(*hash);
-    return pkcs1_c_pss_is(&given, octets.data, octets.len);
+    return both_use(&params->hash, &params->mask_gen, hash);
 }
 
 /* Copies what was read into the caller's struct, on success. */
@@ -323,14 +375,31 @@ uint32_t pkcs1_pss_algorithm_decode_strict(const uint8_t *der, size_t der_len, s
     return set_pss(params, status, &read);
 }
 
+/* Encode a copy of the parameters. */
+RARE static uint32_t write_copied_pss_params(const struct pkcs1_pss_params *params, uint8_t *out, size_t room,
+                                             size_t *len) {
+    struct pkcs1_pss_params made;
+    copy_pss(&made, params);
+    return pkcs1_c_pss_params_encode(&made, output(out, room), room, len);
+}
+
+RARE static uint32_t write_copied_pss_algorithm(const struct pkcs1_pss_params *params, uint8_t *out, size_t room,
+                                                size_t *len) {
+    struct pkcs1_pss_params made;
+    copy_pss(&made, params);
+    return pkcs1_c_pss_algorithm_encode(&made, output(out, room), room, len);
+}
+
 uint32_t pkcs1_pss_params_encode(const struct pkcs1_pss_params *params, uint8_t *out, size_t room, size_t *len) {
-    struct pkcs1_pss_params given = pss(params);
-    return pkcs1_c_pss_params_encode(&given, output(out, room), room, len);
+    if (is_whole_pss(params))
+        return pkcs1_c_pss_params_encode(params, output(out, room), room, len);
+    return write_copied_pss_params(params, out, room, len);
 }
 
 uint32_t pkcs1_pss_algorithm_encode(const struct pkcs1_pss_params *params, uint8_t *out, size_t room, size_t *len) {
-    struct pkcs1_pss_params given = pss(params);
-    return pkcs1_c_pss_algorithm_encode(&given, output(out, room), room, len);
+    if (is_whole_pss(params))
+        return pkcs1_c_pss_algorithm_encode(params, output(out, room), room, len);
+    return write_copied_pss_algorithm(params, out, room, len);
 }
 
 void pkcs1_pss_params_init(struct pkcs1_pss_params *params, const struct pkcs1_bytes *hash, uint8_t salt_len) {
@@ -338,21 +407,33 @@ void pkcs1_pss_params_init(struct pkcs1_pss_params *params, const struct pkcs1_b
     *params = made;
 }
 
-static struct pkcs1_oaep_params oaep(const struct pkcs1_oaep_params *given) {
-    struct pkcs1_oaep_params made = {algorithm(&given->hash), mask_gen(&given->mask_gen), algorithm(&given->p_source)};
-    return made;
+static inline bool is_whole_oaep(const struct pkcs1_oaep_params *given) {
+    return is_whole_algorithm(&given->hash) && is_whole_mask_gen(&given->mask_gen) &&
+        is_whole_algorithm(&given->p_source);
+}
+
+RARE static void copy_oaep(struct pkcs1_oaep_params *made, const struct pkcs1_oaep_params *given) {
+    copy_algorithm(&made->hash, &given->hash);
+    copy_mask_gen(&made->mask_gen, &given->mask_gen);
+    copy_algorithm(&made->p_source, &given->p_source);
 }
 
 bool pkcs1_oaep_is(const struct pkcs1_oaep_params *params, const struct pkcs1_bytes *hash) {
-    struct pkcs1_oaep_params given = oaep(params);
-    struct pkcs1_bytes octets = never_null(*hash);
-    return pkcs1_c_oaep_is(&given, octets.data, octets.len);
+    return both_use(&params->hash, &params->mask_gen, hash);
+}
+
+/* Looks for the label in a copy of the source. */
+RARE static bool label_of_copied(const struct pkcs1_algorithm *source, struct pkcs1_bytes *label) {
+    struct pkcs1_algorithm made;
+    copy_algorithm(&made, source);
+    return pkcs1_c_oaep_label(&made, label);
 }
 
 bool pkcs1_oaep_label(const struct pkcs1_oaep_params *params, struct pkcs1_bytes *label) {
-    struct pkcs1_oaep_params given = oaep(params);
+    const struct pkcs1_algorithm *source = &params->p_source;
     struct pkcs1_bytes found = NO;
-    bool has_label = pkcs1_c_oaep_label(&given, &found);
+    bool has_label =
+        is_whole_algorithm(source) ? pkcs1_c_oaep_label(source, &found) : label_of_copied(source, &found);
     if (has_label)
         *label = found;
     return has_label;
@@ -389,14 +470,31 @@ uint32_t pkcs1_oaep_algorithm_decode_strict(const uint8_t *der, size_t der_len, 
     return set_oaep(params, status, &read);
 }
 
+/* Encode a copy of the parameters. */
+RARE static uint32_t write_copied_oaep_params(const struct pkcs1_oaep_params *params, uint8_t *out, size_t room,
+                                              size_t *len) {
+    struct pkcs1_oaep_params made;
+    copy_oaep(&made, params);
+    return pkcs1_c_oaep_params_encode(&made, output(out, room), room, len);
+}
+
+RARE static uint32_t write_copied_oaep_algorithm(const struct pkcs1_oaep_params *params, uint8_t *out, size_t room,
+                                                 size_t *len) {
+    struct pkcs1_oaep_params made;
+    copy_oaep(&made, params);
+    return pkcs1_c_oaep_algorithm_encode(&made, output(out, room), room, len);
+}
+
 uint32_t pkcs1_oaep_params_encode(const struct pkcs1_oaep_params *params, uint8_t *out, size_t room, size_t *len) {
-    struct pkcs1_oaep_params given = oaep(params);
-    return pkcs1_c_oaep_params_encode(&given, output(out, room), room, len);
+    if (is_whole_oaep(params))
+        return pkcs1_c_oaep_params_encode(params, output(out, room), room, len);
+    return write_copied_oaep_params(params, out, room, len);
 }
 
 uint32_t pkcs1_oaep_algorithm_encode(const struct pkcs1_oaep_params *params, uint8_t *out, size_t room, size_t *len) {
-    struct pkcs1_oaep_params given = oaep(params);
-    return pkcs1_c_oaep_algorithm_encode(&given, output(out, room), room, len);
+    if (is_whole_oaep(params))
+        return pkcs1_c_oaep_algorithm_encode(params, output(out, room), room, len);
+    return write_copied_oaep_algorithm(params, out, room, len);
 }
 
 void pkcs1_oaep_params_init(struct pkcs1_oaep_params *params, const struct pkcs1_bytes *hash, const uint8_t *label,

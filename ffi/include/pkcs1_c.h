@@ -55,11 +55,11 @@ uint32_t pkcs1_c_oaep_algorithm_encode(const struct pkcs1_oaep_params *params, u
 bool pkcs1_c_algorithm_is(const struct pkcs1_algorithm *algorithm, const uint8_t *oid, size_t oid_len);
 
 /* Whether the hash function has this identifier, and the mask generation function is MGF1 with the same one. */
-bool pkcs1_c_pss_is(const struct pkcs1_pss_params *params, const uint8_t *oid, size_t oid_len);
-bool pkcs1_c_oaep_is(const struct pkcs1_oaep_params *params, const uint8_t *oid, size_t oid_len);
+bool pkcs1_c_uses_hash(const struct pkcs1_algorithm *hash, const struct pkcs1_mask_gen *mask_gen, const uint8_t *oid,
+                       size_t oid_len);
 
 /* Whether the source is pSpecified with an OCTET STRING. If so, its octets are in `label`. If not, it is unchanged. */
-bool pkcs1_c_oaep_label(const struct pkcs1_oaep_params *params, struct pkcs1_bytes *label);
+bool pkcs1_c_oaep_label(const struct pkcs1_algorithm *source, struct pkcs1_bytes *label);
 
 /* These set `text` to a static string with a zero at the end, which `len` counts. */
 void pkcs1_c_status_text(uint32_t status, struct pkcs1_bytes *text);

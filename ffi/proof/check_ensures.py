@@ -23,7 +23,7 @@ SAYS = {
     "public_key_of": "Holds key.new", "private_key_of": "DecodesPrivate", "listed_of": "DecodesPrivate",
     "count_of": "DecodesPrivate|ArePlaced", "lists_primes": "DecodesPrivate|primes_encoded", "other_of": "ArePlaced",
     "info_of": "private_key_info info.new", "pss_of": "pss_seen params.new", "oaep_of": "oaep_seen params.new",
-    "tidy_info": "InfoIsTidy", "tidy_pss": "PssIsTidy", "tidy_oaep": "OaepIsTidy", "made_bytes": "p_source.parameters",
+    "tidy_info": "InfoIsTidy", "tidy_pss": "PssIsTidy", "tidy_oaep": "OaepIsTidy", "made_bytes": "source.now.parameters",
     "bit_len_of": "number_from_digits",
     "is_hash": "IsHash", "uses_hash": "UsesHash", "has_label": "LabelOf", "text_of": "status_text status",
     "version_text": "codes", "PRIVATE_KEY": "PrivateKeyEncoding|DecodesPrivate|rsa_private_key|PrivateKeyError",

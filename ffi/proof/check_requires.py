@@ -9,7 +9,7 @@ import sys
 
 TOP = os.path.join(os.path.dirname(os.path.abspath(__file__)), "..", "..")
 NAMES = {"PublicKey": "public_key", "PrivateKey": "private_key", "OtherPrime": "others", "PrivateKeyInfo": "info",
-         "Algorithm": "algorithm", "PssParams": "pss", "OaepParams": "oaep", "Bytes": "bytes"}
+         "Algorithm": "algorithm", "MaskGen": "mask_gen", "PssParams": "pss", "OaepParams": "oaep", "Bytes": "bytes"}
 EXPORT = r'#\[unsafe\(no_mangle\)\]\s*pub extern "C" fn (\w+)(?:<[^>]*>)?\((.*?)\)(?: -> \w+)?\n(.*?)\n?\{'
 
 

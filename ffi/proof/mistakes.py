@@ -31,7 +31,7 @@ def body(function, text):
     """From where to where the function is in the text."""
     if function == "identifiers":
         return 0, len(text)
-    found = re.search(r"^[a-z][^;{}()]*\b" + function + r"\([^;{}]*\) \{\n.*?^\}", text, re.M | re.S)
+    found = re.search(r"^[A-Za-z][^;{}()]*\b" + function + r"\([^;{}]*\) \{\n.*?^\}", text, re.M | re.S)
     return found.span()
 
 

@@ -164,7 +164,7 @@
   @   logic integer bit_len_of(octets number);
   @   logic integer write_status(integer kind, value v, integer room);
   @   logic integer written_len(integer kind, value v); logic integer written_octet(integer kind, value v, integer i);
-  @   predicate is_hash(value algorithm, octets oid); predicate uses_hash(value params, octets oid);
+  @   predicate is_hash(value algorithm, octets oid); predicate uses_hash(value hash, value mask_gen, octets oid);
   @   predicate has_label(value p_source);
   @   logic uint8_t *text_of(integer status); logic uint8_t *version_text;
   @ }
@@ -338,31 +338,40 @@ void pkcs1_c_other_primes(const uint8_t *listed, size_t listed_len, OTHERS_OUT);
 
 /* ---- Tests of a value ---- */
 #define TELLS(is_so) PURE; ensures tells: is_flag(\result) && (\result == 1 <==> is_so)
-#define IS_ok(s, name, test)                                                                                           \
-    requires \valid_read(s) && ok_##name(*s) && ok(oid, oid_len);                                                      \
-    TELLS(test(name##_seen(*s), octets_of(oid, oid_len)))
-#define IS_given(s, name, oid, test)                                                                                   \
-    requires \valid_read(s) && given_##name(*s) && \valid_read(oid) && given_bytes(*oid);                              \
-    TELLS(test(name##_seen(*s), bytes_seen(*oid)))
-/*@ IS_ok(algorithm, algorithm, is_hash); */ bool pkcs1_c_algorithm_is(const struct pkcs1_algorithm *algorithm, OID_IN);
-/*@ IS_given(algorithm, algorithm, oid, is_hash); */
+/*@ requires \valid_read(algorithm) && ok_algorithm(*algorithm) && ok(oid, oid_len);
+  @ TELLS(is_hash(algorithm_seen(*algorithm), octets_of(oid, oid_len))); */
+bool pkcs1_c_algorithm_is(const struct pkcs1_algorithm *algorithm, OID_IN);
+/*@ requires \valid_read(algorithm) && given_algorithm(*algorithm) && \valid_read(oid) && given_bytes(*oid);
+  @ TELLS(is_hash(algorithm_seen(*algorithm), bytes_seen(*oid))); */
 bool pkcs1_algorithm_is(const struct pkcs1_algorithm *algorithm, const struct pkcs1_bytes *oid);
-/*@ IS_ok(params, pss, uses_hash); */ bool pkcs1_c_pss_is(const PSS, OID_IN);
-/*@ IS_given(params, pss, hash, uses_hash); */ bool pkcs1_pss_is(const PSS, const struct pkcs1_bytes *hash);
-/*@ IS_ok(params, oaep, uses_hash); */ bool pkcs1_c_oaep_is(const OAEP, OID_IN);
-/*@ IS_given(params, oaep, hash, uses_hash); */ bool pkcs1_oaep_is(const OAEP, const struct pkcs1_bytes *hash);
 
-#define LABELS(is)                                                                                                     \
-    requires \valid_read(params) && is##_oaep(*params) && FILLED_##is(bytes, label) && \separated(label, params);      \
+/* Of parameters nothing else is looked at. */
+#define BOTH const struct pkcs1_algorithm *hash, const struct pkcs1_mask_gen *mask_gen
+#define BOTH_USE(hash, mask_gen, oid)                                                                                  \
+    requires given_algorithm(hash) && given_mask_gen(mask_gen) && \valid_read(oid) && given_bytes(*oid);               \
+    TELLS(uses_hash(algorithm_seen(hash), mask_gen_seen(mask_gen), bytes_seen(*oid)))
+/*@ requires \valid_read(hash) && ok_algorithm(*hash) && \valid_read(mask_gen) && ok_mask_gen(*mask_gen);
+  @ requires ok(oid, oid_len);
+  @ TELLS(uses_hash(algorithm_seen(*hash), mask_gen_seen(*mask_gen), octets_of(oid, oid_len))); */
+bool pkcs1_c_uses_hash(BOTH, OID_IN);
+/*@ requires \valid_read(params); BOTH_USE(params->hash, params->mask_gen, hash); */
+bool pkcs1_pss_is(const PSS, const struct pkcs1_bytes *hash);
+/*@ requires \valid_read(params); BOTH_USE(params->hash, params->mask_gen, hash); */
+bool pkcs1_oaep_is(const OAEP, const struct pkcs1_bytes *hash);
+
+/* The label of the source `of`, which is in `s`. */
+#define LABELS(is, s, of)                                                                                              \
+    requires \valid_read(s) && is##_algorithm(of) && FILLED_##is(bytes, label) && \separated(label, s);                \
     ENDS; assigns *label;                                                                                              \
     ensures types: is_flag(\result);                                                                                   \
-    ensures none: \result == 0 ==> !\old(has_label(algorithm_seen(params->p_source)));                                 \
-    ensures label: \result == 1 ==> \old(has_label(algorithm_seen(params->p_source)));                                 \
-    ensures label: \result == 1 ==> params->p_source.has_parameters != 0 && ok_bytes(*label) &&                        \
-        made_bytes(*label, params->p_source.parameters);                                                               \
+    ensures none: \result == 0 ==> !\old(has_label(algorithm_seen(of)));                                               \
+    ensures label: \result == 1 ==> \old(has_label(algorithm_seen(of)));                                               \
+    ensures label: \result == 1 ==> (of).has_parameters != 0 && ok_bytes(*label) &&                                    \
+        made_bytes(*label, (of).parameters);                                                                           \
     ensures unchanged: \result == 0 ==> *label == \old(*label)
-/*@ LABELS(ok); */ bool pkcs1_c_oaep_label(const OAEP, struct pkcs1_bytes *label);
-/*@ LABELS(given); */ bool pkcs1_oaep_label(const OAEP, struct pkcs1_bytes *label);
+/*@ LABELS(ok, source, *source); */
+bool pkcs1_c_oaep_label(const struct pkcs1_algorithm *source, struct pkcs1_bytes *label);
+/*@ LABELS(given, params, params->p_source); */ bool pkcs1_oaep_label(const OAEP, struct pkcs1_bytes *label);
 /*@ requires \valid_read(left) && given_bytes(*left) && \valid_read(right) && given_bytes(*right);
   @ TELLS(left->len == right->len && \forall integer i; 0 <= i < left->len ==> left->data[i] == right->data[i]); */
 bool pkcs1_oid_equal(const struct pkcs1_bytes *left, const struct pkcs1_bytes *right);
@@ -401,19 +410,27 @@ void pkcs1_pss_params_init(PSS, const struct pkcs1_bytes *hash, uint8_t salt_len
 void pkcs1_oaep_params_init(OAEP, const struct pkcs1_bytes *hash, const uint8_t *label, size_t label_len);
 
 /* ---- The helpers of pkcs1.c ---- */
-#define COPIES(name)                                                                                                   \
-    requires \valid_read(given) && given_##name(*given);                                                               \
-    PURE; ensures ok: ok_##name(\result);                                                                              \
-    ensures made: made_##name(\result, *given);                                                                        \
-    ensures seen: name##_seen(\result) == name##_seen(*given)
 /*@ requires given_bytes(given);
   @ PURE; ensures made: ok_bytes(\result) && made_bytes(\result, given) && bytes_seen(\result) == bytes_seen(given); */
 static struct pkcs1_bytes never_null(struct pkcs1_bytes given);
-/*@ COPIES(private_key); */ static struct pkcs1_private_key private_key(const struct pkcs1_private_key *given);
-/*@ COPIES(algorithm); */ static struct pkcs1_algorithm algorithm(const struct pkcs1_algorithm *given);
-/*@ COPIES(mask_gen); */ static struct pkcs1_mask_gen mask_gen(const struct pkcs1_mask_gen *given);
-/*@ COPIES(pss); */ static struct pkcs1_pss_params pss(const struct pkcs1_pss_params *given);
-/*@ COPIES(oaep); */ static struct pkcs1_oaep_params oaep(const struct pkcs1_oaep_params *given);
+/* A whole struct may stand for its copy. */
+#define WHOLE(name)                                                                                                    \
+    requires \valid_read(given) && given_##name(*given);                                                               \
+    PURE; ensures whole: is_flag(\result) && (\result == 1 ==> ok_##name(*given) && made_##name(*given, *given))
+#define COPIES(name)                                                                                                   \
+    requires \valid(made) && \valid_read(given) && given_##name(*given) && \separated(made, given);                    \
+    ENDS; assigns *made; ensures ok: ok_##name(*made);                                                                 \
+    ensures made: made_##name(*made, \old(*given))
+/*@ WHOLE(private_key); */ static bool is_whole_key(const struct pkcs1_private_key *given);
+/*@ COPIES(private_key); */ static void copy_key(struct pkcs1_private_key *made, const struct pkcs1_private_key *given);
+/*@ WHOLE(algorithm); */ static bool is_whole_algorithm(const struct pkcs1_algorithm *given);
+/*@ COPIES(algorithm); */ static void copy_algorithm(struct pkcs1_algorithm *made, const struct pkcs1_algorithm *given);
+/*@ WHOLE(mask_gen); */ static bool is_whole_mask_gen(const struct pkcs1_mask_gen *given);
+/*@ COPIES(mask_gen); */ static void copy_mask_gen(struct pkcs1_mask_gen *made, const struct pkcs1_mask_gen *given);
+/*@ WHOLE(pss); */ static bool is_whole_pss(const struct pkcs1_pss_params *given);
+/*@ COPIES(pss); */ static void copy_pss(struct pkcs1_pss_params *made, const struct pkcs1_pss_params *given);
+/*@ WHOLE(oaep); */ static bool is_whole_oaep(const struct pkcs1_oaep_params *given);
+/*@ COPIES(oaep); */ static void copy_oaep(struct pkcs1_oaep_params *made, const struct pkcs1_oaep_params *given);
 /*@ requires given(der, der_len); ENDS; assigns \result \from der, der_len;
   @ ensures made: ok(\result, der_len) && (der_len != 0 ==> \result == der);
   @ ensures seen: octets_of(\result, der_len) == octets_of(der, der_len); */ static const uint8_t *input(DER_IN);
@@ -421,6 +438,7 @@ static struct pkcs1_bytes never_null(struct pkcs1_bytes given);
   @ ensures made: ok_out(\result, room) && (room != 0 ==> \result == out); */
 static uint8_t *output(uint8_t *out, size_t room);
 /*@ requires \valid_read(flag); TELLS(*flag != 0); */ static bool is_set(const bool *flag);
+/*@ requires \valid_read(flag); TELLS(*flag == 1); */ static bool is_one(const bool *flag);
 /*@ requires \valid_read(oid); PURE; ensures hash: is_hash_with_null(\result, *oid); */
 static struct pkcs1_algorithm with_null(const struct pkcs1_bytes *oid);
 /*@ requires \valid_read(hash); PURE; ensures mask_gen: is_mgf1(\result, *hash); */
@@ -458,3 +476,11 @@ static uint32_t prime_fault(uint32_t status, const struct pkcs1_other_prime *oth
   @ ensures empty: has_empty_number(others, count) ==> \result != PKCS1_OK; */
 static uint32_t first_fault(const PRIVATE, const struct pkcs1_other_prime *others, size_t count);
 /*@ ENCODES_KEY(given, ok); */ static uint32_t write_key(KEY_IN, OUT);
+/*@ requires \valid_read(hash) && \valid_read(mask_gen); BOTH_USE(*hash, *mask_gen, oid); */
+static bool both_use(BOTH, const struct pkcs1_bytes *oid);
+/*@ requires ok_bytes(*label); LABELS(given, source, *source); */
+static bool label_of_copied(const struct pkcs1_algorithm *source, struct pkcs1_bytes *label);
+/*@ ENCODES(given, PSS_PARAMS, params, pss); */ static uint32_t write_copied_pss_params(const PSS, OUT);
+/*@ ENCODES(given, PSS_ALGORITHM, params, pss); */ static uint32_t write_copied_pss_algorithm(const PSS, OUT);
+/*@ ENCODES(given, OAEP_PARAMS, params, oaep); */ static uint32_t write_copied_oaep_params(const OAEP, OUT);
+/*@ ENCODES(given, OAEP_ALGORITHM, params, oaep); */ static uint32_t write_copied_oaep_algorithm(const OAEP, OUT);

@@ -235,9 +235,8 @@ bool is_hash(value algorithm, octets oid) {
            (!is_with(algorithm) || (parts[1].integer == 5 && parts[2].octets.len == 0));
 }
 
-bool uses_hash(value params, octets oid) {
-    value mask_gen = params->parts[1].value;
-    return is_hash(params->parts[0].value, oid) && is(mask_gen->parts[0].octets, pkcs1_oid_mgf1) && is_with(mask_gen) &&
+bool uses_hash(value hash, value mask_gen, octets oid) {
+    return is_hash(hash, oid) && is(mask_gen->parts[0].octets, pkcs1_oid_mgf1) && is_with(mask_gen) &&
            is_hash(mask_gen->parts[1].value, oid);
 }
 

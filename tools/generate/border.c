@@ -140,11 +140,6 @@ uint64_t pkcs1_c_bit_len(const uint8_t *number, size_t number_len) {
     DECODER(name##_decode, type, FIELDS)        \
     DECODER(name##_decode_strict, type, FIELDS) \
     ENCODER(name##_encode, type, FIELDS)
-#define TEST(name, type, FIELDS)                                                             \
-    bool pkcs1_c_##name(const struct pkcs1_##type *value, const uint8_t *oid, size_t oid_len) { \
-        TAKE(own, value, FIELDS);                                                            \
-        return proved_##name(own, AT(oid), oid_len);                                         \
-    }
 DECODER(public_key_decode, public_key, PUBLIC_KEY)
 ENCODER(public_key_encode, public_key, PUBLIC_KEY)
 ENCODER(private_key_info_encode, private_key_info, INFO)
@@ -152,9 +147,6 @@ PARAMS(pss_params, pss_params, PSS)
 PARAMS(pss_algorithm, pss_params, PSS)
 PARAMS(oaep_params, oaep_params, OAEP)
 PARAMS(oaep_algorithm, oaep_params, OAEP)
-TEST(algorithm_is, algorithm, ALGORITHM)
-TEST(pss_is, pss_params, PSS)
-TEST(oaep_is, oaep_params, OAEP)
 
 uint32_t pkcs1_c_private_key_decode(const uint8_t *der, size_t der_len, struct pkcs1_private_key *key,
                                     struct pkcs1_bytes *listed) {
@@ -191,8 +183,20 @@ uint32_t pkcs1_c_private_key_encode(const struct pkcs1_private_key *key, const s
     return status;
 }
 
-bool pkcs1_c_oaep_label(const struct pkcs1_oaep_params *params, struct pkcs1_bytes *label) {
-    TAKE(own, params, OAEP);
+bool pkcs1_c_algorithm_is(const struct pkcs1_algorithm *algorithm, const uint8_t *oid, size_t oid_len) {
+    TAKE(own, algorithm, ALGORITHM);
+    return proved_algorithm_is(own, AT(oid), oid_len);
+}
+
+bool pkcs1_c_uses_hash(const struct pkcs1_algorithm *hash, const struct pkcs1_mask_gen *mask_gen, const uint8_t *oid,
+                       size_t oid_len) {
+    TAKE(own, hash, ALGORITHM);
+    TAKE(own_mask_gen, mask_gen, MASK_GEN);
+    return proved_uses_hash(own, own_mask_gen, AT(oid), oid_len);
+}
+
+bool pkcs1_c_oaep_label(const struct pkcs1_algorithm *source, struct pkcs1_bytes *label) {
+    TAKE(own, source, ALGORITHM);
     TAKE(own_label, label, BYTES);
     bool has_label = proved_oaep_label(own, own_label);
     if (has_label)
