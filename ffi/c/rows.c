@@ -104,13 +104,15 @@ static void try_empty_fields(const char *kind, const uint8_t *der, size_t len) {
 /* The contents of an element in these octets, by a letter of `path`. Null if there is no such element. */
 static struct pkcs1_bytes element(struct pkcs1_bytes octets, char name) {
     struct pkcs1_bytes found = {NULL, 0};
-    for (size_t at = 0, i = 0; at < octets.len; at += 2 + octets.data[at + 1], i++) {
+    for (size_t at = 0, i = 0; at < octets.len; i++) {
         const uint8_t *header = octets.data + at;
-        CHECK(header[1] < 0x80); /* no row is longer */
+        CHECK(header[1] <= 0x81); /* no row is longer */
+        size_t last = header[1] == 0x81 ? 2 : 1;
         if ((size_t)name == '0' + i || name - 'a' == header[0] - 0xa0) {
-            found.data = header + 2;
-            found.len = header[1];
+            found.data = header + last + 1;
+            found.len = header[last];
         }
+        at += last + 1 + header[last];
     }
     return found;
 }
