@@ -1,13 +1,15 @@
 -- How many octets the encodings of numbers, of a prime and of a key have: as many as are told, if those or these are
 -- within the limit.
-use Rattle.std.proofs.Common.{ℕ, List, [], ◌∷◌, ◌≡◌, ◌∙◌, ◌+◌, ◌≤◌, ◌<◌, ◌⊎◌, ap, length, length-append, arith, refl, Result, Ok, Err, None, inl, inr, IfErr, IfOk}
+use Rattle.std.proofs.Common.{ℕ, List, [], ◌∷◌, ◌++◌, ◌≡◌, ◌∙◌, ◌+◌, ◌≤◌, ◌<◌, ◌⊎◌, ap, length, length-append, map, arith, refl, Result, Ok, Err, None, inl, inr, IfErr, IfOk}
 use Rattle.std.proofs.lemmas.Bool.{cases_lt}
-use Rattle.der_core.specs.Words.{length_octets, limit, tlv_len, number_contents, Counts}
+use Rattle.der_core.specs.Words.{limit, tlv_len, number_contents, Counts}
 use Rattle.der_core.specs.declared.error.Error.{Error}
 use Rattle.der_core.specs.declared.error.ErrorKind.TheVariants.{Overflow}
-use Rattle.pkcs1.specs.Words.{PrivateKey, private_printed}
+use Rattle.std.specs.List.{concat}
+use Rattle.pkcs1.specs.Words.{PrivateKey, others_printed, private_printed, version_of}
+use Rattle.pkcs1.specs.Keys.{key_numbers}
 use Rattle.pkcs1_c.specs.Words.{prime_encoded}
-use Rattle.standard.specs.Statement.{OtherPrime, integer, integers, tlv}
+use Rattle.standard.specs.Statement.{OtherPrime, integer, integers, length_octets, tlv}
 
 -- Two numbers of octets are equal, if one of them is within the limit.
 abbrev pub Agree : ℕ → ℕ → Type 0
@@ -47,10 +49,21 @@ version_len : length (integer 0) ≡ 3
 unfolding length_octets
 version_len = refl
 
+numbers_len : (k : PrivateKey ℕ) → length (concat (map integer (key_numbers k)))
+    ≡ (number_len k.modulus + number_len k.public_exponent + number_len k.private_exponent + number_len k.prime1)
+    + (number_len k.prime2 + number_len k.exponent1 + number_len k.exponent2 + number_len k.coefficient)
+numbers_len k = simp length-append (omega arith)
+
+joined_len : (a b : List ℕ) → length ((a ++ b) ++ []) ≡ length a + length b
+joined_len a b = simp length-append (omega arith)
+
 pub key_len : (k : PrivateKey ℕ) → k.other_prime_infos ≡ None → length (private_printed integer k)
     ≡ 3 + (number_len k.modulus + number_len k.public_exponent + number_len k.private_exponent + number_len k.prime1)
     + (number_len k.prime2 + number_len k.exponent1 + number_len k.exponent2 + number_len k.coefficient)
-key_len k none = rw none (simp length-append (omega (arith, version_len)))
+key_len k none =
+    let numbers = concat (map integer (key_numbers k)) in
+    ap (λ others. length ((integer (version_of others) ++ numbers) ++ others_printed integer others)) none
+    ∙ joined_len (integer 0) numbers ∙ omega (arith, version_len, numbers_len k)
 
 pub counted : (octets : List ℕ) (s n : ℕ) → length octets ≡ n → Agree s n → (r : Result ℕ Error)
     → IfOk r (λ m. (m ≡ s) × (s ≤ limit)) → IfErr r (λ f. (f.kind ≡ Overflow) × (limit < s))

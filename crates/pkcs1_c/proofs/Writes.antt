@@ -92,10 +92,10 @@ module _ {V : Type 0} (Part : V → ℕ → Type 0) (Encoding : V → List ℕ �
   pub known_told : (r : Result ℕ ℕ) → WritesOrCounts Encoding v old new r → length new ≡ length old
       → IfOk r (λ n. (s ≡ 0) × (m ≡ n)) → IfErr r (λ n. (s ≡ 15) × (m ≡ n))
       → WritesOrTells Encoding v old new l m s × IsErrorOf (FieldsError Part Encoding v (length old)) s
-  known_told (Ok n) made kept (zero, count) none =
+  known_told (Ok n) made kept (ok, count) none =
       let told = written Encoding v old new l n made kept in (
-        rw (zero, count) told.0,
-        rw zero (error_behind (Part v) (Unwritten Encoding v (length old)) 0 (fits (take n new) made.1.0) told.1),
+        rw (ok, count) told.0,
+        rw ok (error_behind (Part v) (Unwritten Encoding v (length old)) 0 (fits (take n new) made.1.0) told.1),
       )
   known_told (Err n) (same, less, bytes, short, is) kept none (full, count) =
       let why : Unwritten Encoding v (length old) 15 = inr (refl, n, (bytes, short, is), less) in (

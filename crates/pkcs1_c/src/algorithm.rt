@@ -1,5 +1,5 @@
 //! Algorithm identifiers.
-ghost use Rattle.std.specs.Prelude.{Decides, ◌≡◌, IfOk, IfErr, IsTrue, bytes_eq};
+ghost use Rattle.std.specs.Prelude.{Decides, ◌≡◌, IfOk, IfErr, IsTrue};
 ghost use Rattle.spki_core.specs.Words.{IsHash, TagAndContents, any_of, null_value, octets_of, viewed_with};
 ghost use Rattle.pkcs1_params.specs.Words.{UsesHash, with_parameters};
 ghost use Rattle.pkcs1_c.specs.Words.{kind_number, algorithm_seen, mask_gen_seen, AlgorithmIsTidy, MaskGenIsTidy, OidError, PlainError, MaskError};
@@ -158,10 +158,13 @@ pub(crate) fn have_null(hash: &Algorithm<'_>, mask_gen: &MaskGen<'_>) -> bool
 /// Whether two identifiers have the same octets. Those of hash functions have nine, which are compared in line.
 #[inline(always)]
 fn is_same(oid: &[u8], other: &[u8]) -> bool
-    ensures { result ≡ bytes_eq oid.now other.now }
+    ensures { Decides result (oid.now ≡ other.now) }
 {
-    match (oid, other) {
-        ([a, b, c, d, e, f, g, h, i], [r, s, t, u, v, w, x, y, z]) => {
+    let [a, b, c, d, e, f, g, h, i] = oid else {
+        return oid == other;
+    };
+    match other {
+        [r, s, t, u, v, w, x, y, z] => {
             (*a == *r)
                 & (*b == *s)
                 & (*c == *t)
@@ -172,7 +175,7 @@ fn is_same(oid: &[u8], other: &[u8]) -> bool
                 & (*h == *y)
                 & (*i == *z)
         }
-        _ => oid == other,
+        _ => false,
     }
 }
 

@@ -1,8 +1,6 @@
 use Rattle.std.proofs.Common.{◌≡◌, ◌⊎◌, ℕ, List, [], length, Bool, nat_eq, true, false, refl, arith, inl, inr, Decides}
-use Rattle.std.proofs.lemmas.Bool.Decides.{Decides-at}
 use Rattle.std.proofs.lemmas.Grind.{common_steps}
 use Rattle.der_core.specs.Words.{nat_tests}
-use Rattle.std.proofs.lemmas.Slice.Eq.{bytes_eq-Decides}
 use Rattle.spki_core.specs.Words.{IsHash}
 use Rattle.pkcs1_c.specs.Words.{algorithm_seen}
 use Rattle.pkcs1_c.specs.declared.algorithm.Algorithm.{Algorithm}
@@ -25,4 +23,4 @@ returns-then-is_null c =
     let none = no_octets a.parameters.now in
     let why : (a.has_parameters ≡ false) ⊎ ((a.has_parameters ≡ true) × (a.tag ≡ 5) × (a.parameters.now ≡ [])) =
     grind (arith, nat_tests) in
-    record { tells = hash_is a c.args.oid.now c.eq.result (Decides-at _ _ c.eq.ensures (bytes_eq-Decides _ _)) why }
+    hash_is a c.args.oid.now c.is_same.result c.is_same.ensures why
