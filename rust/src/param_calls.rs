@@ -13,6 +13,7 @@ use crate::values::Held;
 use crate::{Error, Result};
 
 /// How many octets an encoding has at most that is written as known octets: a header, and fewer than 128 octets.
+#[cfg(feature = "alloc")]
 const LONGEST_KNOWN: usize = 2 + 127;
 
 macro_rules! parameters {
