@@ -2,7 +2,8 @@
 
 It has the address of the one, the length of both, and the address of the other. The library's contract says that it
 compares each octet, and is proved. So memcmp may stand for it, which compilers know better than a loop. It does so only
-for this name with this text in C: any other text, as of another build of the toolchain, stays what it is.
+for this name with this text in C: any other text, as of another build of the toolchain, stays what it is. HASH is of
+that text in pkcs1_c.c, from `static` to the brace that ends it. test_equal.sh says when it is another one.
 """
 import hashlib
 
