@@ -61,10 +61,7 @@ plain_rust() {
 }
 # Two kinds of Rust may not meet in one program: of the plain one only its calls are seen.
 build_own() {
-    local library=${LIBPKCS1:-out/libpkcs1.a}
-    if [ -z "${LIBPKCS1:-}" ]; then
-        make -s -C "$top" OUT="$PWD/out" > make.log 2>&1 || stop "make failed: $PWD/make.log tells why"
-    fi
+    make -s -C "$top" OUT="$PWD/out" > make.log 2>&1 || stop "make failed: $PWD/make.log tells why"
     plain_rust --crate-type staticlib --crate-name plain -o libplain.a "$here/libraries/plain/lib.rs"
     plain_rust --crate-name filter -o filter "$here/libraries/plain/filter.rs"
     ld -r --force-group-allocation -o plain.o --whole-archive libplain.a
@@ -82,7 +79,7 @@ build_others() {
     done
     g++ -std=c++17 -O2 -w -I"$here/harness" -isystem /usr/include/botan-2 -c "$here/libraries/botan.cc" -o botan.o
     build_rust
-    g++ -o peers "${made[@]}" botan.o "${LIBPKCS1:-out/libpkcs1.a}" target/release/libpeers.a -lcrypto -lmbedx509 \
+    g++ -o peers "${made[@]}" botan.o "$library" target/release/libpeers.a -lcrypto -lmbedx509 \
         -lmbedtls -lmbedcrypto -lwolfssl -lhogweed -lnettle -lgmp -lbotan-2 -ltasn1 -lgnutls -lpthread -ldl
     gcc -shared -fPIC -O1 "$here/harness/allocations.c" -o allocations.so
     GO111MODULE=off GOCACHE=$PWD/go_cache go build -o peers_go "$here"/libraries/go/*.go
@@ -211,7 +208,7 @@ done
 command -v dpkg-query > /dev/null || stop 'this needs Debian, whose packages have the other libraries'
 missing=$(missing_packages "${own_packages[@]}")
 [ -z "$missing" ] || stop "packages are missing: apt-get install$missing"
-[ -z "${LIBPKCS1:-}" ] || LIBPKCS1=$(realpath "$LIBPKCS1")
+library=$(realpath -m "${LIBPKCS1:-$folder/out/libpkcs1.a}")
 mkdir -p "$folder" && cd "$folder"
 build_own
 [ -n "$alone" ] || build_others

@@ -147,12 +147,16 @@ fn fields_len((h, g, s): (usize, usize, usize)) -> usize {
 /// Begins parameters with contents of this length, in an algorithm identifier if there is one.
 #[inline(always)]
 fn start_params<'b>(id: Option<&[u8]>, n: usize, out: &'b mut [u8]) -> Option<Out<'b>> {
-    let Some(id) = id else { return start(out, n) };
-    let mut o = start(out, tlv_len(id.len()) + tlv_len(n))?;
-    o.head(6, id.len());
-    o.bytes(id);
-    o.head(0x30, n);
-    Some(o)
+    match id {
+        None => start(out, n),
+        Some(id) => {
+            let mut o = start(out, tlv_len(id.len()) + tlv_len(n))?;
+            o.head(6, id.len());
+            o.bytes(id);
+            o.head(0x30, n);
+            Some(o)
+        }
+    }
 }
 impl Out<'_> {
     fn hash_and_mask(&mut self, hash: &Plain, h: usize, mask: &Mask, g: usize) {
