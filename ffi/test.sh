@@ -47,12 +47,13 @@ done
 for compiler in $clang "$CC"; do
     warns "$compiler"
     "$compiler" -std=c99 "${flags[@]}" "${test[@]}" "$out/libpkcs1.a" -o "$room/test"
-    for name in sizes bits modulus read_key public_half open_container make_container make_params \
+    for name in sizes many_keys bits modulus read_key public_half open_container make_container make_params \
         signature_algorithm; do
         "$compiler" -std=c99 "${flags[@]}" "$here/c/$name.c" "$out/libpkcs1.a" -o "$room/$name"
     done
     "$room/test" "$statuses"
     "$room/sizes"
+    "$room/many_keys" 2000 > "$room/log"
 done
 "$CC" -std=c11 "${flags[@]}" -fsanitize=address,undefined -fno-sanitize-recover=all "${test[@]}" "$here/c/pkcs1.c" \
     "$out/proved.o" -o "$room/sanitized"

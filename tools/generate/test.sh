@@ -267,6 +267,7 @@ other_builds_are_told
 if command -v rt > /dev/null; then
     kit=$(dirname "$(rt doc)")
     "$here/test_opcodes.py" "$kit/toolchain/bin/clang" "$room"
+    "$here/test_equal.sh" "$kit"
     other_code_is_told "$kit/toolchain/bin/clang"
     "$here/test_making.sh" "$kit"
 fi

@@ -12,6 +12,7 @@ import sys
 
 from calls import attributes
 from constants import constant
+from equal import by_memcmp
 from functions import Function
 from ir_types import Struct, type_of
 from operands import Globals
@@ -70,7 +71,7 @@ class Module:
         line.expect("{")
         line.end()
         self.headers.append(made + ";")
-        self.bodies.append("\n".join([made + " {", *scope.body(lines), "}"]))
+        self.bodies.append(by_memcmp(name, "\n".join([made + " {", *scope.body(lines), "}"])))
 
     def read(self, lines):
         """All lines of the module."""

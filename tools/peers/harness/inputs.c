@@ -24,6 +24,23 @@ uint8_t *read_file(const char *name, size_t *len) {
     return octets;
 }
 
+uint8_t *read_in(const char *folder, const char *name, size_t *len) {
+    char path[4096];
+    snprintf(path, sizeof path, "%s/%s", folder, name);
+    return read_file(path, len);
+}
+
+int type_of(const char *name) {
+    static const char *const types[TYPES] = {"public_key", "private_key",   "multi_prime_key", "pss", "pss_algorithm",
+                                             "oaep",       "oaep_algorithm", "container"};
+    const char *dot = strchr(name, '.');
+    for (int type = 0; type < TYPES; type++)
+        if (dot != NULL && strcmp(dot + 1, types[type]) == 0)
+            return type;
+    fprintf(stderr, "%s has no type in its name\n", name);
+    exit(2);
+}
+
 uint32_t length_at(const uint8_t *head) {
     return (uint32_t)head[2] | (uint32_t)head[3] << 8 | (uint32_t)head[4] << 16 | (uint32_t)head[5] << 24;
 }

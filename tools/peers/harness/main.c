@@ -1,19 +1,24 @@
 /* peers COMMAND ..: how libraries read and write RSA keys and parameters.
  *
- *     check CORPUS OUT LIBRARY           an octet for each input into OUT: see check.c
- *     change CORPUS OUT SEED COUNT TYPES inputs with some octets changed, of the types whose bits are set in TYPES
- *     speed PREFIX [LIBRARY..]           nanoseconds of processor time, the best of rounds, of each case
- *     instructions PREFIX [LIBRARY..]    the same calls, between dumps of callgrind
- *     allocations PREFIX [LIBRARY..]     calls for memory of each case, with allocations.so preloaded */
+ *     check CORPUS OUT LIBRARY               an octet for each input into OUT: see check.c
+ *     change CORPUS OUT SEED COUNT TYPES     inputs with some octets changed, of the types whose bits are set in TYPES
+ *     speed WHAT FOLDER INPUT [LIBRARY..]    the cost of an input for each library: see speed.c
+ *     rows WHAT FOLDER INPUT..               that of each call of pkcs1.h, beside two others: see rows.c */
 #include "peers.h"
 #include <stdio.h>
 #include <string.h>
 
-extern const struct library libpkcs1, libpkcs1_strict, libpkcs1_bignums, openssl, mbedtls, wolfssl, nettle, botan;
-extern const struct library gnutls, libtasn1, libtasn1_strict, bcder, rust_asn1;
-const struct library *const libraries[] = {&libpkcs1, &libpkcs1_strict, &libpkcs1_bignums, &openssl,         &mbedtls,
-                                           &wolfssl,  &nettle,          &botan,            &gnutls,          &libtasn1,
-                                           &libtasn1_strict, &bcder,    &rust_asn1};
+extern const struct library libpkcs1, libpkcs1_strict, plain_rust, line_of_c;
+#ifdef OWN /* without the libraries of Debian's packages */
+const struct library *const libraries[] = {&libpkcs1, &libpkcs1_strict, &plain_rust, &line_of_c};
+void rust_quiet(void) {}
+#else
+extern const struct library libpkcs1_bignums, openssl, mbedtls, wolfssl, nettle, botan, gnutls, libtasn1;
+extern const struct library libtasn1_strict, bcder, rust_asn1;
+const struct library *const libraries[] = {
+    &libpkcs1, &libpkcs1_strict, &plain_rust, &line_of_c, &libpkcs1_bignums, &openssl,         &mbedtls,  &wolfssl,
+    &nettle,   &botan,           &gnutls,     &libtasn1,  &libtasn1_strict,  &bcder,           &rust_asn1};
+#endif
 const size_t library_count = sizeof libraries / sizeof *libraries;
 
 const struct library *library_named(const char *name) {
@@ -27,11 +32,7 @@ static const struct {
     const char *name;
     int (*run)(int, char **);
     int arguments; /* at least so many */
-} commands[] = {{"check", check, 3},
-                {"change", change, 5},
-                {"speed", speed, 1},
-                {"instructions", instructions, 1},
-                {"allocations", allocations, 1}};
+} commands[] = {{"check", check, 3}, {"change", change, 5}, {"speed", speed, 3}, {"rows", rows_of, 3}};
 
 int main(int argc, char **argv) {
     rust_quiet();

@@ -30,19 +30,39 @@ extern uint8_t out[1 << 20];
 /* A file of inputs has before each a head of 6 octets: type, damage and length. */
 enum { HEAD = 6 };
 uint8_t *read_file(const char *name, size_t *len);
+uint8_t *read_in(const char *folder, const char *name, size_t *len);
+/* The type of an input for measuring, by its name, as 2048.public_key. */
+int type_of(const char *name);
 uint32_t length_at(const uint8_t *head);
 /* A copy that ends where a page that can't be read begins. */
 const uint8_t *before_the_end(const uint8_t *input, size_t len);
 /* The seconds of processor time that this process took. */
 double processor_seconds(void);
 
+/* ---- measure.c ---- */
+
+/* What is run, what it needs, and the line of output in front of the number. */
+struct task {
+    int (*run)(const struct task *);
+    const struct library *library;
+    int type;
+    const uint8_t *der;
+    size_t der_len;
+    int written;
+    uint32_t (*row)(void);
+    char label[100];
+    double best;
+};
+/* WHAT is time, the best of rounds, in nanoseconds of processor time; or instructions, between dumps of callgrind; or
+ * allocations, calls for memory. */
+int measure(const char *what, struct task *tasks, size_t count);
+
 /* ---- the commands of main.c, whose arguments are those after the command ---- */
 
 int check(int count, char **arguments);
 int change(int count, char **arguments);
 int speed(int count, char **arguments);
-int instructions(int count, char **arguments);
-int allocations(int count, char **arguments);
+int rows_of(int count, char **arguments);
 
 void rust_quiet(void); /* Rust prints no panics */
 

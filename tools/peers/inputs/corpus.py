@@ -2,7 +2,7 @@
 """corpus.py OUT [SEED [EACH]]: valid and damaged encodings, EACH of each damage and type (200).
 
 OUT is records of: type (1 octet), damage (1 octet), length (4 octets, little end first), the octets. OUT.names has a
-line for each damage: its number, name, group and rule, and whether it makes DER. Speed is taken on OUT.CASE."""
+line for each damage: its number, name, group and rule, and whether it makes DER."""
 import copy
 import random
 import sys
@@ -11,7 +11,7 @@ sys.dont_write_bytecode = True
 import damaged_octets  # the order of these two is that of the damages
 import damaged_fields
 from damage import DAMAGES, NoSuchPart
-from trees import TYPES, algorithm, field, hash_function, identifier, integer, make, private_key, public_key, sequence
+from trees import TYPES, make
 from keys import make_key
 
 
@@ -45,27 +45,9 @@ def write_corpus(out, rng, each):
                         made += 1
 
 
-def write_cases(out, rng):
-    def write(case, tree):
-        with open(f"{out}.{case}", "wb") as file:
-            file.write(tree.encoded())
-
-    for bits in (2048, 4096):
-        key = make_key(bits, 2, rng)
-        write(f"public{bits}", public_key(key))
-        write(f"private{bits}", private_key(key))
-    write("multiprime2048", private_key(make_key(2048, 3, rng)))
-    shared = [field(0, hash_function("sha256")), field(1, algorithm("mask", "mgf1", hash_function("sha256")))]
-    pss = sequence("top", *shared, field(2, integer(32)))
-    write("pss", pss)
-    write("pss_algorithm", sequence("top", identifier("pss"), pss))
-    write("oaep", sequence("top", *shared))
-
-
 def main():
     rng = random.Random(int(sys.argv[2]) if len(sys.argv) > 2 else 8017)
     write_corpus(sys.argv[1], rng, int(sys.argv[3]) if len(sys.argv) > 3 else 200)
-    write_cases(sys.argv[1], rng)
 
 
 if __name__ == "__main__":

@@ -6,17 +6,15 @@ import (
 	"fmt"
 	"os"
 	"runtime"
+	"strings"
 	"syscall"
 	"time"
 	"unsafe"
 )
 
-// cases are what speed is taken on, with their types.
-var cases = []struct {
-	name string
-	kind int
-}{{"public2048", 0}, {"public4096", 0}, {"private2048", 1}, {"private4096", 1}, {"multiprime2048", 2}, {"pss", 3},
-	{"pss_algorithm", 4}, {"oaep", 5}}
+// types are those of the calls, as names of inputs end with them.
+var types = []string{"public_key", "private_key", "multi_prime_key", "pss", "pss_algorithm", "oaep", "oaep_algorithm",
+	"container"}
 
 func readFile(name string) []byte {
 	octets, err := os.ReadFile(name)
@@ -104,17 +102,24 @@ func nanoseconds(f call, input []byte, write bool) float64 {
 	return float64(taken.Nanoseconds()) / float64(done)
 }
 
-func speed(prefix string) {
-	for _, it := range cases {
-		input := readFile(prefix + "." + it.name)
+// speed takes both times of an input, if it is accepted.
+func speed(folder string, name string) {
+	input := readFile(folder + "/" + name)
+	for kind, it := range types {
+		if !strings.HasSuffix(name, "."+it) {
+			continue
+		}
 		for written := 0; written < 2; written++ {
-			best := nanoseconds(calls[it.kind], input, written == 1)
+			if accepted, _, _ := tried(calls[kind], input, written == 1); !accepted {
+				return
+			}
+			best := nanoseconds(calls[kind], input, written == 1)
 			for round := 1; round < 9; round++ {
-				if it := nanoseconds(calls[it.kind], input, written == 1); it < best {
+				if it := nanoseconds(calls[kind], input, written == 1); it < best {
 					best = it
 				}
 			}
-			fmt.Printf("Go|%s|%d|%.1f\n", it.name, written, best)
+			fmt.Printf("Go|%s|%d|%.1f\n", name, written, best)
 		}
 	}
 }

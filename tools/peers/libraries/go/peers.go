@@ -1,4 +1,4 @@
-// peers.go check CORPUS OUT | speed PREFIX: Go's crypto/x509 for keys and PKCS #8, and encoding/asn1 for parameters,
+// peers.go check CORPUS OUT | speed FOLDER INPUT: Go's crypto/x509 for keys and PKCS #8, and encoding/asn1 for parameters,
 // with the types below. crypto/x509 has such types of its own for PSS, but doesn't export them. Output as of harness/.
 package main
 
@@ -131,10 +131,10 @@ func main() {
 	switch {
 	case len(os.Args) == 4 && os.Args[1] == "check":
 		check(os.Args[2], os.Args[3])
-	case len(os.Args) == 3 && os.Args[1] == "speed":
-		speed(os.Args[2])
+	case len(os.Args) == 4 && os.Args[1] == "speed":
+		speed(os.Args[2], os.Args[3])
 	default:
-		fmt.Fprintln(os.Stderr, "peers.go check CORPUS OUT | speed PREFIX")
+		fmt.Fprintln(os.Stderr, "peers.go check CORPUS OUT | speed FOLDER INPUT")
 		os.Exit(2)
 	}
 }

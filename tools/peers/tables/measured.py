@@ -1,0 +1,32 @@
+"""What the program printed, and what callgrind counted."""
+import re
+
+COUNTED_CALLS = 20
+
+
+def smallest(files):
+    """The least number of each line A|B|C|NUMBER."""
+    least = {}
+    for name in files:
+        with open(name, encoding="utf-8") as file:
+            for line in file:
+                *key, number = line.strip().split("|")
+                least[tuple(key)] = min(float(number), least.get(tuple(key), float("inf")))
+    return least
+
+
+def counted(files):
+    """The instructions of a call, from dumps of callgrind that stand in one file."""
+    counts, label = {}, None
+    for name in files:
+        with open(name, encoding="utf-8") as file:
+            for line in file:
+                found = re.match(r"desc: Trigger: Client Request: (.*)", line)
+                label = tuple(found[1].split("|")) if found else label
+                if line.startswith("totals: ") and label:
+                    counts[label], label = int(line.split()[1]) / COUNTED_CALLS, None
+    return counts
+
+
+def shown(number):
+    return f"{number:.0f}" if number >= 100 else f"{number:.1f}" if number >= 10 else f"{number:.2f}"
