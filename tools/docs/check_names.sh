@@ -8,7 +8,7 @@ cd "${1:-$(dirname "$0")/../..}"
 exec python3 - "${@:2}" <<'END'
 import fnmatch, glob, os, re, sys
 
-ALLOWED = set('rt selftest umask start_lib bazel holes lemma meson'.split())
+ALLOWED = set('rt selftest umask start_lib bazel holes lemma meson room_at MaybeUninit'.split())
 PLACEHOLDER = r'[A-Z0-9]+|[0-9a-f]*\d[0-9a-f]*|\w'
 COMMENT = {'.rt': r'//.*', '.rs': r'//.*', '.go': r'//.*', '.c': r'/[/*].*', '.h': r'/\*.*', '.antt': r'--.*'}
 
