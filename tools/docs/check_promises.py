@@ -8,12 +8,12 @@ clauses: of the library for C, of the tool, and of the crates under them. A call
 type or trait. A method of an impl that states no clause is covered by its trait. The page says so:
 
     `crates/NAME/src/`: `a.rt`, `b.rt`    the files of a section, each of which has a call there
-    | form | promise | clauses |          below it, *NAME* and what it stands for
+    | form | promise | clauses |          below it, *NAME* X and what it says of X
     | call | promise | clauses |          below it, `TYPE::a`, `b` are calls of TYPE, and `c` alone is one of no type
     |  | promise | clauses |              more of the calls in the row above
 
-A clause is named in backquotes, and the word unnamed is one without a name. A row that says *NAME* has the clauses of
-that form. The form *commented* is for calls that have a comment."""
+A row that says *NAME* has the clauses of that form, and one that says *Commented* has calls that have a comment. In any
+other row no clause is one without a name."""
 import glob
 import os
 import re
@@ -45,7 +45,14 @@ class Row:
     """What the page says of some calls, with the rows below it that go on; or of a form."""
     def __init__(self, number, names, files):
         self.number, self.names, self.files = number, names, files
-        self.clauses, self.forms = set(), set()
+        self.clauses, self.forms, self.needs_comment = set(), set(), False
+
+    def add(self, promise, clauses):
+        """What the row says, or one below it that goes on."""
+        forms = set(re.findall(r"\*(\w+)\*", promise))
+        self.needs_comment |= "Commented" in forms
+        self.forms |= forms - {"Commented"}
+        self.clauses.update(re.findall(r"\w+", clauses) or ["unnamed"] * (forms <= {"Commented"}))
 
 
 def say(number, text):
@@ -156,9 +163,8 @@ def read_page():
             if cells[0]:
                 row = Row(number, names_in(cells[0]), files)
                 rows += [row] * (head == "call")
-                forms.update({cells[0].strip("*"): row} if head == "form" else {})
-            row.clauses.update(re.findall(r"\w+", cells[2]))
-            row.forms.update(re.findall(r"\*(\w+)\*", cells[1]))
+                forms.update({name: row for name in re.findall(r"\*(\w+)\*", cells[0]) if head == "form"})
+            row.add(*cells[1:])
     return rows, forms, sections
 
 
@@ -173,13 +179,11 @@ def check_row(row, forms):
         elif not here:
             say(row.number, f"the section doesn't name the file of {' or '.join(call.label for call in meant)}")
         found += here or meant
-    for form in sorted(row.forms):
-        if form not in forms:
-            say(row.number, f"there is no form {form}")
-            continue
-        row.clauses |= forms[form].clauses
-        for call in found if form == "commented" else []:
-            call.commented or say(row.number, f"{call.label} has no comment")
+    for form in sorted(row.forms - forms.keys()):
+        say(row.number, f"there is no form {form}")
+    row.clauses.update(*(forms[form].clauses for form in row.forms & forms.keys()))
+    for call in found if row.needs_comment else []:
+        call.commented or say(row.number, f"{call.label} has no comment")
     for clause in sorted(row.clauses - {clause for call in found for clause in call.states()} if found else []):
         say(row.number, f"{', '.join(row.names)}: there is no clause {clause}")
     for call in found:

@@ -39,9 +39,8 @@ impl<T> Holds for Box<T> {
 
 | form | promise | clauses |
 |---|---|---|
-| *gives* | Gives it | `value` |
+| *Gives* X | Gives X | `value` |
 |  | And nothing else | `exact` |
-| *commented* | What its comment says | unnamed |
 
 ## Boxes
 
@@ -49,10 +48,10 @@ impl<T> Holds for Box<T> {
 
 | call | promise | clauses |
 |---|---|---|
-| `BoxRef::open` | *gives* the value |  |
+| `BoxRef::open` | *Gives* the value |  |
 | `Holds::holds` | Whether it holds one | `tells` |
-| `Box::len` | *commented* |  |
-| `lemma_one` | There is one | unnamed |
+| `Box::len` | *Commented* |  |
+| `lemma_one` | There is one |  |
 
 | other | promise |
 |---|---|
@@ -63,37 +62,37 @@ PAGE, LAWS, BOXES = "docs/PROMISES.md", "crates/low/src/laws.rt", "crates/low/sr
 # What is wrong, the file, the text that stands there once, the text in its place, and what is said of it.
 MISTAKES = [
     ("a missing clause", PAGE, "|  | And nothing else | `exact` |\n", "",
-     f"{PAGE}:14: nothing is said of the clauses of {BOXES}: Box::open: exact"),
-    ("a clause more", PAGE, "| `tells` |", "| `tells`, `told` |", f"{PAGE}:16: Holds::holds: there is no clause told"),
-    ("a missing call", PAGE, "| `lemma_one` | There is one | unnamed |\n", "",
+     f"{PAGE}:13: nothing is said of the clauses of {BOXES}: Box::open: exact"),
+    ("a clause more", PAGE, "| `tells` |", "| `tells`, `told` |", f"{PAGE}:15: Holds::holds: there is no clause told"),
+    ("a missing call", PAGE, "| `lemma_one` | There is one |  |\n", "",
      f"{PAGE}: no row has {LAWS}: lemma_one, with the clauses: unnamed\n"
-     f"{PAGE}:11: no row of the section has a call of {LAWS}"),
+     f"{PAGE}:10: no row of the section has a call of {LAWS}"),
     ("a call that isn't there", PAGE, "`Box::len`", "`Box::len`, `size`",
-     f"{PAGE}:17: there is no call Box::size with a contract"),
+     f"{PAGE}:16: there is no call Box::size with a contract"),
     ("a call without a contract", PAGE, "`Holds::holds`", "`Holds::holds`, `Box::holds`",
-     f"{PAGE}:16: there is no call Box::holds with a contract"),
-    ("a call that stands twice", PAGE, "| There is one | unnamed |", "| There is one | unnamed |\n| `lemma_one` | | |",
-     f"{PAGE}:19: {LAWS}: lemma_one stands in line 18 already"),
+     f"{PAGE}:15: there is no call Box::holds with a contract"),
+    ("a call that stands twice", PAGE, "| There is one |  |", "| There is one |  |\n| `lemma_one` | One |  |",
+     f"{PAGE}:18: {LAWS}: lemma_one stands in line 17 already"),
     ("a call that stands twice in a row, by two names", PAGE, "`Box::len`", "`Box::len`, `BoxRef::len`",
-     f"{PAGE}:17: {BOXES}: Box::len stands in line 17 already"),
+     f"{PAGE}:16: {BOXES}: Box::len stands in line 16 already"),
     ("a file that isn't named", PAGE, ", `laws.rt`", "",
-     f"{PAGE}:18: the section doesn't name the file of {LAWS}: lemma_one"),
+     f"{PAGE}:17: the section doesn't name the file of {LAWS}: lemma_one"),
     ("a file of no row", PAGE, ", `laws.rt`", ", `laws.rt`, `lib.rt`",
-     f"{PAGE}:11: no row of the section has a call of crates/low/src/lib.rt"),
+     f"{PAGE}:10: no row of the section has a call of crates/low/src/lib.rt"),
     ("a file of another section", PAGE, "| `lemma_one`", "\n## Laws\n\n| call | promise | clauses |\n| `lemma_one`",
-     f"{PAGE}:22: the section doesn't name the file of {LAWS}: lemma_one\n"
-     f"{PAGE}:11: no row of the section has a call of {LAWS}"),
-    ("a form that isn't there", PAGE, "| *gives* the value", "| *gave* the value",
-     f"{PAGE}:15: there is no form gave\n"
-     f"{PAGE}:15: nothing is said of the clauses of {BOXES}: Box::open: value, exact"),
+     f"{PAGE}:21: the section doesn't name the file of {LAWS}: lemma_one\n"
+     f"{PAGE}:10: no row of the section has a call of {LAWS}"),
+    ("a form that isn't there", PAGE, "| *Gives* the value", "| *Gave* the value",
+     f"{PAGE}:14: there is no form Gave\n"
+     f"{PAGE}:14: nothing is said of the clauses of {BOXES}: Box::open: value, exact"),
     ("a comment that isn't there", BOXES, "    /// How much is in it.\n", "",
-     f"{PAGE}:17: {BOXES}: Box::len has no comment"),
+     f"{PAGE}:16: {BOXES}: Box::len has no comment"),
     ("a renamed clause", BOXES, "ensures tells", "ensures says",
-     f"{PAGE}:16: Holds::holds: there is no clause tells\n"
-     f"{PAGE}:16: nothing is said of the clauses of {BOXES}: Holds::holds: says"),
+     f"{PAGE}:15: Holds::holds: there is no clause tells\n"
+     f"{PAGE}:15: nothing is said of the clauses of {BOXES}: Holds::holds: says"),
     ("a new clause", LAWS, "ensures {", "ensures first { ⊤ }\n    ensures second {",
-     f"{PAGE}:18: lemma_one: there is no clause unnamed\n"
-     f"{PAGE}:18: nothing is said of the clauses of {LAWS}: lemma_one: first, second"),
+     f"{PAGE}:17: lemma_one: there is no clause unnamed\n"
+     f"{PAGE}:17: nothing is said of the clauses of {LAWS}: lemma_one: first, second"),
     ("a call that becomes public", BOXES, "    fn hidden", "    pub fn hidden",
      f"{PAGE}: no row has {BOXES}: Box::hidden, with the clauses: unnamed"),
 ]
