@@ -7,7 +7,7 @@ Each public call with a contract stands in one row, in a section that names its 
 clauses: of the library for C, of the tool, and of the crates under them. A call is public if lib.rt exports it, or its
 type or trait. A method of an impl that states no clause is covered by its trait. The page says so:
 
-    `crates/NAME/src/`: `a.rt`, `b.rt`    the files of a section, each of which has a call there
+    `crates/NAME/src/{a,b}.rt`, `..`      the files of a section, each of which has a call there
     | form | promise | clauses |          below it, *NAME* X and what it says of X
     | call | promise | clauses |          below it, `TYPE::a`, `b` are calls of TYPE, and `c` alone is one of no type
     |  | promise | clauses |              more of the calls in the row above
@@ -135,14 +135,9 @@ def names_in(cell):
 
 
 def files_in(line):
-    """The files that a line names: each piece behind a folder is in it."""
-    folder, files = "", []
-    for piece in re.findall(r"`([^`]+)`", line):
-        if piece.endswith("/"):
-            folder = piece
-        else:
-            files.append(folder + piece)
-    return files
+    """The files that a line names: `FOLDER/{a,b}.rt` are two."""
+    return [start + part + end for start, parts, end in re.findall(r"`([^`{]*)\{?([^`}]*)\}?(\.rt)`", line)
+            for part in parts.split(",")]
 
 
 def read_page():

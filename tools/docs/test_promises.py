@@ -8,7 +8,7 @@ CHECK = pathlib.Path(__file__).resolve().parent / "check_promises.py"
 TREE = {
     "crates.txt": "# NAME: DEP ..\nlow:\nbeside:\npkcs1_c staticlib: low\npkcs1_tool: low\n",
     "crates/beside/src/lib.rt": "pub fn of_no_product() -> u8\n    ensures { ⊤ }\n",
-    "crates/low/src/lib.rt": "pub use boxes::{Box, BoxRef, Holds};\npub use laws::lemma_one;\n",
+    "crates/low/src/lib.rt": "pub use boxes::{Box, BoxRef, Holds};\npub use laws::lemma_one;\npub use more::lemma_more;\n",
     "crates/low/src/boxes.rt": """pub type BoxRef = Box<u8>;
 
 impl<T: Copy> Box<T> {
@@ -35,6 +35,7 @@ impl<T> Holds for Box<T> {
 }
 """,
     "crates/low/src/laws.rt": "pub fn lemma_one()\n    ensures { ⊤ }\n",
+    "crates/low/src/more.rt": "pub fn lemma_more()\n    ensures { ⊤ }\n",
     "docs/PROMISES.md": """# Promises
 
 | form | promise | clauses |
@@ -44,7 +45,7 @@ impl<T> Holds for Box<T> {
 
 ## Boxes
 
-`crates/low/src/`: `boxes.rt`, `laws.rt`
+`crates/low/src/boxes.rt`, `crates/low/src/{laws,more}.rt`
 
 | call | promise | clauses |
 |---|---|---|
@@ -52,6 +53,7 @@ impl<T> Holds for Box<T> {
 | `Holds::holds` | Whether it holds one | `tells` |
 | `Box::len` | *Commented* |  |
 | `lemma_one` | There is one |  |
+| `lemma_more` | There are more |  |
 
 | other | promise |
 |---|---|
@@ -75,13 +77,13 @@ MISTAKES = [
      f"{PAGE}:18: {LAWS}: lemma_one stands in line 17 already"),
     ("a call that stands twice in a row, by two names", PAGE, "`Box::len`", "`Box::len`, `BoxRef::len`",
      f"{PAGE}:16: {BOXES}: Box::len stands in line 16 already"),
-    ("a file that isn't named", PAGE, ", `laws.rt`", "",
+    ("a file that isn't named", PAGE, "{laws,more}", "more",
      f"{PAGE}:17: the section doesn't name the file of {LAWS}: lemma_one"),
-    ("a file of no row", PAGE, ", `laws.rt`", ", `laws.rt`, `lib.rt`",
+    ("a file of no row", PAGE, "{laws,more}", "{laws,more,lib}",
      f"{PAGE}:10: no row of the section has a call of crates/low/src/lib.rt"),
-    ("a file of another section", PAGE, "| `lemma_one`", "\n## Laws\n\n| call | promise | clauses |\n| `lemma_one`",
-     f"{PAGE}:21: the section doesn't name the file of {LAWS}: lemma_one\n"
-     f"{PAGE}:10: no row of the section has a call of {LAWS}"),
+    ("a file of another section", PAGE, "| `lemma_more`", "\n## Laws\n\n| call | promise | clauses |\n| `lemma_more`",
+     f"{PAGE}:22: the section doesn't name the file of crates/low/src/more.rt: lemma_more\n"
+     f"{PAGE}:10: no row of the section has a call of crates/low/src/more.rt"),
     ("a form that isn't there", PAGE, "| *Gives* the value", "| *Gave* the value",
      f"{PAGE}:14: there is no form Gave\n"
      f"{PAGE}:14: nothing is said of the clauses of {BOXES}: Box::open: value, exact"),
@@ -110,7 +112,7 @@ def said(tree):
 
 
 def main():
-    passes = 0, f"{PAGE} has a row for 4 calls, and their clauses\n"
+    passes = 0, f"{PAGE} has a row for 5 calls, and their clauses\n"
     assert said(TREE) == passes, said(TREE)
     more = said({**TREE, LAWS: TREE[LAWS] + "\npub fn lemma_two()\n    ensures { ⊤ }\n"})
     assert more == passes, f"a call that isn't exported:\n{more[1]}"
