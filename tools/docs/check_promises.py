@@ -9,7 +9,7 @@ type or trait. A method of an impl that states no clause is covered by its trait
 
     `crates/NAME/src/{a,b}.rt`, `..`      the files of a section, each of which has a call there
     | form | promise | clauses |          below it, *NAME* X and what it says of X
-    | call | promise | clauses |          below it, `TYPE::a`, `b` are calls of TYPE, and `c` alone is one of no type
+    | call | promise | clauses |          below it, `a` of no type, `{TYPE, TYPE}::{b, c}` of two types
     |  | promise | clauses |              more of the calls in the row above
 
 A row that says *NAME* has the clauses of that form, and one that says *Commented* has calls that have a comment. In any
@@ -125,19 +125,14 @@ def read_sources():
     return exported, files
 
 
-def names_in(cell):
-    """The calls in a cell: a name without a type is of the type in front of it."""
-    names, holder = [], ""
-    for name in re.findall(r"`([^`]+)`", cell):
-        holder = name.rpartition("::")[0] or holder
-        names.append(f"{holder}::{name.rpartition('::')[2]}" if holder else name)
+def names_in(text):
+    """What is named in backquotes. `{A, B}::c` is `A::c` and `B::c`, as in a path of a file."""
+    names = re.findall(r"`([^`]+)`", text)
+    while any("{" in name for name in names):
+        names = [start + part.strip() + end for name in names
+                 for start, parts, end in [re.fullmatch(r"([^{]*)\{?([^}]*)\}?(.*)", name).groups()]
+                 for part in parts.split(",")]
     return names
-
-
-def files_in(line):
-    """The files that a line names: `FOLDER/{a,b}.rt` are two."""
-    return [start + part + end for start, parts, end in re.findall(r"`([^`{]*)\{?([^`}]*)\}?(\.rt)`", line)
-            for part in parts.split(",")]
 
 
 def read_page():
@@ -148,7 +143,7 @@ def read_page():
         if line.startswith("#"):
             files = []
         elif line.startswith("`crates/"):
-            files = files_in(line)
+            files = names_in(line)
             sections.append((number, files))
         if cells[1:] == ["promise", "clauses"]:
             head = cells[0]
