@@ -10,7 +10,7 @@ type or trait. A method of an impl that states no clause is covered by its trait
     `crates/NAME/src/{a,b}.rt`, `..`      the files of a section, each of which has a call there
     | form | promise | clauses |          below it, *NAME* X and what it says of X
     | call | promise | clauses |          below it, `a` of no type, `{TYPE, TYPE}::{b, c}` of two types
-    |  | promise | clauses |              more of the calls in the row above
+    | | promise | clauses |               more of the calls in the row above
 
 A row that says *NAME* has the clauses of that form, and one that says *Commented* has calls that have a comment. In any
 other row no clause is one without a name."""

@@ -41,7 +41,7 @@ impl<T> Holds for Box<T> {
 | form | promise | clauses |
 |---|---|---|
 | *Gives* X | Gives X | `value` |
-|  | And nothing else | `exact` |
+| | And nothing else | `exact` |
 
 ## Boxes
 
@@ -49,11 +49,11 @@ impl<T> Holds for Box<T> {
 
 | call | promise | clauses |
 |---|---|---|
-| `BoxRef::open` | *Gives* the value |  |
+| `BoxRef::open` | *Gives* the value | |
 | `Holds::holds` | Whether it holds one | `tells` |
-| `Box::len` | *Commented* |  |
-| `lemma_one` | There is one |  |
-| `lemma_more` | There are more |  |
+| `Box::len` | *Commented* | |
+| `lemma_one` | There is one | |
+| `lemma_more` | There are more | |
 
 | other | promise |
 |---|---|
@@ -63,17 +63,17 @@ impl<T> Holds for Box<T> {
 PAGE, LAWS, BOXES = "docs/PROMISES.md", "crates/low/src/laws.rt", "crates/low/src/boxes.rt"
 # What is wrong, the file, the text that stands there once, the text in its place, and what is said of it.
 MISTAKES = [
-    ("a missing clause", PAGE, "|  | And nothing else | `exact` |\n", "",
+    ("a missing clause", PAGE, "| | And nothing else | `exact` |\n", "",
      f"{PAGE}:13: nothing is said of the clauses of {BOXES}: Box::open: exact"),
     ("a clause more", PAGE, "| `tells` |", "| `tells`, `told` |", f"{PAGE}:15: Holds::holds: there is no clause told"),
-    ("a missing call", PAGE, "| `lemma_one` | There is one |  |\n", "",
+    ("a missing call", PAGE, "| `lemma_one` | There is one | |\n", "",
      f"{PAGE}: no row has {LAWS}: lemma_one, with the clauses: unnamed\n"
      f"{PAGE}:10: no row of the section has a call of {LAWS}"),
     ("a call that isn't there", PAGE, "`Box::len`", "`Box::{len, size}`",
      f"{PAGE}:16: there is no call Box::size with a contract"),
     ("a call without a contract", PAGE, "`Holds::holds`", "`Holds::holds`, `Box::holds`",
      f"{PAGE}:15: there is no call Box::holds with a contract"),
-    ("a call that stands twice", PAGE, "| There is one |  |", "| There is one |  |\n| `lemma_one` | One |  |",
+    ("a call that stands twice", PAGE, "| There is one | |", "| There is one | |\n| `lemma_one` | One | |",
      f"{PAGE}:18: {LAWS}: lemma_one stands in line 17 already"),
     ("a call that stands twice in a row, by two names", PAGE, "`Box::len`", "`{Box, BoxRef}::len`",
      f"{PAGE}:16: {BOXES}: Box::len stands in line 16 already"),
