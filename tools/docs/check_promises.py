@@ -13,7 +13,7 @@ type or trait. A method of an impl that states no clause is covered by its trait
     | | promise | clauses |               more of the calls in the row above
 
 A row that says *NAME* has the clauses of that form, and one that says *Commented* has calls that have a comment. In any
-other row no clause is one without a name."""
+other row no clause is one without a name, which is called `unnamed` in what is printed."""
 import glob
 import os
 import re
@@ -146,11 +146,13 @@ def read_page():
             files = names_in(line)
             sections.append((number, files))
         if cells[1:] == ["promise", "clauses"]:
-            head = cells[0]
+            head, row = cells[0], None
         elif not cells:
             head = ""
+        elif head and len(cells) != 3:
+            say(number, f"a row of {len(cells)} cells")
         elif head and set(cells[0]) != {"-"}:
-            if cells[0]:
+            if cells[0] or not row:
                 row = Row(number, names_in(cells[0]), files)
                 rows += [row] * (head == "call")
                 forms.update({name: row for name in re.findall(r"\*(\w+)\*", cells[0]) if head == "form"})
@@ -161,6 +163,7 @@ def read_page():
 def check_row(row, forms):
     """Notes the names and clauses of a row that aren't there, and the row at each call that it names."""
     found = []
+    row.names or say(row.number, "a row that names no call")
     for name in row.names:
         meant = [call for call in calls.values() if call.is_named(name) and call.states()]
         here = [call for call in meant if call.file in row.files]

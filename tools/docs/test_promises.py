@@ -8,7 +8,8 @@ CHECK = pathlib.Path(__file__).resolve().parent / "check_promises.py"
 TREE = {
     "crates.txt": "# NAME: DEP ..\nlow:\nbeside:\npkcs1_c staticlib: low\npkcs1_tool: low\n",
     "crates/beside/src/lib.rt": "pub fn of_no_product() -> u8\n    ensures { ⊤ }\n",
-    "crates/low/src/lib.rt": "pub use boxes::{Box, BoxRef, Holds};\npub use laws::lemma_one;\npub use more::lemma_more;\n",
+    "crates/low/src/lib.rt": "pub use boxes::{Box, BoxRef, Holds};\npub use laws::lemma_one;\n"
+                             "pub use more::lemma_more;\n",
     "crates/low/src/boxes.rt": """pub type BoxRef = Box<u8>;
 
 impl<T: Copy> Box<T> {
@@ -95,6 +96,13 @@ MISTAKES = [
     ("a new clause", LAWS, "ensures {", "ensures first { ⊤ }\n    ensures second {",
      f"{PAGE}:17: lemma_one: there is no clause unnamed\n"
      f"{PAGE}:17: nothing is said of the clauses of {LAWS}: lemma_one: first, second"),
+    ("a row that names no call", PAGE, "| `lemma_one` |", "| lemma_one |",
+     f"{PAGE}:17: a row that names no call\n"
+     f"{PAGE}: no row has {LAWS}: lemma_one, with the clauses: unnamed\n"
+     f"{PAGE}:10: no row of the section has a call of {LAWS}"),
+    ("a row of two cells", PAGE, "| Whether it holds one | `tells` |", "| Whether it holds one |",
+     f"{PAGE}:15: a row of 2 cells\n"
+     f"{PAGE}: no row has {BOXES}: Holds::holds, with the clauses: tells"),
     ("a call that becomes public", BOXES, "    fn hidden", "    pub fn hidden",
      f"{PAGE}: no row has {BOXES}: Box::hidden, with the clauses: unnamed"),
 ]
