@@ -8,7 +8,7 @@ cd "${1:-$(dirname "$0")/../..}"
 exec python3 - "${@:2}" <<'END'
 import fnmatch, glob, os, re, sys
 
-ALLOWED = set('rt selftest umask start_lib bazel holes lemma meson'.split())
+ALLOWED = set('rt selftest umask start_lib bazel holes lemma meson room_at MaybeUninit'.split())
 PLACEHOLDER = r'[A-Z0-9]+|[0-9a-f]*\d[0-9a-f]*|\w'
 COMMENT = {'.rt': r'//.*', '.rs': r'//.*', '.go': r'//.*', '.c': r'/[/*].*', '.h': r'/\*.*', '.antt': r'--.*'}
 
@@ -30,9 +30,11 @@ def names(text):
 def check_name(name):
     for piece in name.split():
         if re.search(r'\w/|/\w|\.(rt|antt|sh|py|md|rs|c|h)$', piece):
-            pattern = '*/' + re.sub(r'\b[A-Z][A-Z_]+\b|\.\.', '*', piece.strip('/'))
-            if not re.search(r'\bout\b|^lib/|PREFIX', piece) and not fnmatch.filter(['/' + path for path in paths], pattern):
-                say('file', piece)
+            start, parts, end = re.fullmatch(r'([^{]*)\{?([^}]*)\}?(.*)', piece).groups()
+            for it in [start + part + end for part in parts.split(',')]:
+                pattern = '*/' + re.sub(r'\b[A-Z][A-Z_]+\b|\.\.', '*', it.strip('/'))
+                if not re.search(r'\bout\b|^lib/|PREFIX', it) and not fnmatch.filter(['/' + path for path in paths], pattern):
+                    say('file', it)
             continue
         for word in re.findall(r'[A-Za-z_*][\w*]*', piece):
             word in words or re.fullmatch(PLACEHOLDER, word) or fnmatch.filter(words, word) or say('word', word)
