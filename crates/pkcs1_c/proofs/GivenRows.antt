@@ -1,16 +1,18 @@
 -- A key that the caller passes, as the row that it is written as.
-use Rattle.std.proofs.Common.{ℕ, List, ◌≡◌, ◌≤◌, length, sym, subst, arith, Option, Some, None, Result, option_map}
+use Rattle.std.proofs.Common.{ℕ, List, ◌++◌, ◌≡◌, ◌≤◌, length, sym, subst, ap, arith, Option, Some, None, Result, option_map}
 use Rattle.std.proofs.lemmas.Grind.{common_steps}
 use Rattle.std.proofs.lemmas.List.{length-map}
 use Rattle.std.specs.List.{AllByRecursion}
-use Rattle.der_core.specs.Words.{Prepends, Appends, Counts}
+use Rattle.der_core.proofs.Writing.{counts_joined}
+use Rattle.der_core.specs.Words.{Prepends, Appends, Counts, joined}
 use Rattle.der_core.specs.declared.back_writer.BackWriter.{BackWriter}
 use Rattle.der_core.specs.declared.error.Error.{Error}
-use Rattle.pkcs1.proofs.KeyRows.{Parts, key_appended, key_counted, key_prepended, row_room, row_valid}
-use Rattle.pkcs1.specs.Words.{number_in, Row, RowIsValid, key_row, row_as, row_printed, version_held, OtherPrime, version_of, AnyNumber, AreSome, OtherIsValid, PrivateIsValid, primes_printed, private_printed, other_from}
+use Rattle.pkcs1.proofs.KeyRows.{Parts, key_appended, key_prepended, row_room, row_valid}
+use Rattle.pkcs1.specs.Words.{number_in, Row, RowIsValid, key_row, row_as, row_printed, version_held, OtherPrime, version_of, AnyNumber, AreSome, OtherIsValid, PrivateIsValid, others_printed, primes_printed, private_printed, other_from}
 use Rattle.pkcs1.specs.declared.private_key.PrivateKeyOf.{PrivateKeyOf}
-use Rattle.standard.specs.Statement.{integer, sequence}
-use Rattle.pkcs1_c.specs.Words.{given_key, given_primes, number_of, other_prime}
+use Rattle.standard.specs.Statement.{IfPresent, integer, sequence}
+use Rattle.pkcs1_c.proofs.GivenKeys.{any_given}
+use Rattle.pkcs1_c.specs.Words.{front_of, given_key, given_primes, number_of, other_prime}
 use Rattle.pkcs1_c.specs.declared.given_number.Number.{Number}
 use Rattle.pkcs1_c.specs.declared.given_primes.GivenPrimes.{GivenPrimes}
 
@@ -24,6 +26,11 @@ given_some : (o : Option GivenPrimes) → AreSome (option_map given_primes o)
 given_some None = tt
 given_some (Some given) =
     omega (arith, given.some, length-map given.others.now (λ o. other_from (other_prime o)))
+
+given_valid_primes : (o : Option GivenPrimes)
+    → IfPresent (AllByRecursion (OtherIsValid AnyNumber)) (option_map given_primes o)
+given_valid_primes None = tt
+given_valid_primes (Some given) = any_given given.others.now
 
 abbrev pub octets_of : Row ℕ (List (OtherPrime ℕ)) → List ℕ
 octets_of = row_printed integer (λ others. sequence (primes_printed integer others))
@@ -40,12 +47,6 @@ module _ (key : PrivateKeyOf Number GivenPrimes) where
 
   parts : Spelled ≡ Parts AnyNumber integer (given_key key) (version_held key.other_prime_infos) version
   parts = simp itself
-
-  pub given_counted : (r : Result ℕ Error) → Counts (IsValid Spelled) (octets_of Spelled) r
-      → Counts (PrivateIsValid AnyNumber (given_key key)) (private_printed integer (given_key key)) r
-  given_counted r told =
-      key_counted AnyNumber integer (given_key key) _ version r (given_some key.other_prime_infos)
-      (subst (λ s. Counts (IsValid s) (octets_of s) r) parts told)
 
   pub given_valid : PrivateIsValid AnyNumber (given_key key) → IsValid Spelled
   given_valid ok = subst IsValid (sym parts) (row_valid AnyNumber integer (given_key key) _ version ok)
@@ -66,3 +67,18 @@ module _ (key : PrivateKeyOf Number GivenPrimes) where
   given_prepended old new told =
       key_prepended AnyNumber integer (given_key key) _ version old new
       (subst (λ s. Prepends (octets_of s) old new) parts told)
+
+  -- The length of the numbers and that of the other primes are that of the contents.
+  pub given_joined : (others : GivenPrimes) → key.other_prime_infos ≡ Some others → (a b : Result ℕ Error)
+      → Counts (Unit {0}) (front_of (given_key key)) a
+      → Counts (AllByRecursion (OtherIsValid AnyNumber) (given_primes others))
+      (sequence (primes_printed integer (given_primes others))) b
+      → Counts (PrivateIsValid AnyNumber (given_key key)) (private_printed integer (given_key key)) (joined a b)
+  given_joined others is a b p q =
+      let k = given_key key in
+      let some = ap (option_map given_primes) is in
+      let valid : PrivateIsValid AnyNumber k =
+      (tt, (tt, (tt, (tt, (tt, (tt, (tt, (tt, (given_some key.other_prime_infos, given_valid_primes key.other_prime_infos))))))))) in
+      subst (λ o. Counts (PrivateIsValid AnyNumber k) (front_of k ++ others_printed integer o) (joined a b)) (sym some)
+      (counts_joined (front_of k) (sequence (primes_printed integer (given_primes others))) (λ _ _. valid)
+      (λ _. (tt, any_given others.others.now)) a b p q)

@@ -1,14 +1,14 @@
 -- How many octets the encodings of numbers, of a prime and of a key have: as many as are told, if those or these are
 -- within the limit.
-use Rattle.std.proofs.Common.{ℕ, List, [], ◌∷◌, ◌++◌, ◌≡◌, ◌∙◌, ◌+◌, ◌≤◌, ◌<◌, ◌⊎◌, ap, length, length-append, map, arith, refl, Result, Ok, Err, None, inl, inr, IfErr, IfOk}
+use Rattle.std.proofs.Common.{ℕ, List, [], ◌∷◌, ◌≡◌, ◌∙◌, ◌+◌, ◌≤◌, ◌<◌, ◌⊎◌, ap, length, length-append, map, arith, refl, Result, Ok, Err, Option, None, Some, inl, inr, IfErr, IfOk}
 use Rattle.std.proofs.lemmas.Bool.{cases_lt}
 use Rattle.der_core.specs.Words.{limit, tlv_len, number_contents, Counts}
 use Rattle.der_core.specs.declared.error.Error.{Error}
 use Rattle.der_core.specs.declared.error.ErrorKind.TheVariants.{Overflow}
 use Rattle.std.specs.List.{concat}
-use Rattle.pkcs1.specs.Words.{PrivateKey, others_printed, private_printed, version_of}
+use Rattle.pkcs1.specs.Words.{OtherPrime as OtherPrimeOf, PrivateKey, version_of}
 use Rattle.pkcs1.specs.Keys.{key_numbers}
-use Rattle.pkcs1_c.specs.Words.{prime_encoded}
+use Rattle.pkcs1_c.specs.Words.{front_of, prime_encoded}
 use Rattle.standard.specs.Statement.{OtherPrime, integer, integers, length_octets, tlv}
 
 -- Two numbers of octets are equal, if one of them is within the limit.
@@ -45,25 +45,22 @@ pub prime_len : (o : OtherPrime) → length (prime_encoded o)
 prime_len o =
     tagged 48 (integers (o.prime ∷ o.exponent ∷ o.coefficient ∷ [])) ∙ ap tlv_len (simp length-append (omega arith))
 
-version_len : length (integer 0) ≡ 3
+version_len : (others : Option (List (OtherPrimeOf ℕ))) → length (integer (version_of others)) ≡ 3
 unfolding length_octets
-version_len = refl
+version_len None = refl
+version_len (Some others) = refl
 
 numbers_len : (k : PrivateKey ℕ) → length (concat (map integer (key_numbers k)))
     ≡ (number_len k.modulus + number_len k.public_exponent + number_len k.private_exponent + number_len k.prime1)
     + (number_len k.prime2 + number_len k.exponent1 + number_len k.exponent2 + number_len k.coefficient)
 numbers_len k = simp length-append (omega arith)
 
-joined_len : (a b : List ℕ) → length ((a ++ b) ++ []) ≡ length a + length b
-joined_len a b = simp length-append (omega arith)
-
-pub key_len : (k : PrivateKey ℕ) → k.other_prime_infos ≡ None → length (private_printed integer k)
+pub front_len : (k : PrivateKey ℕ) → length (front_of k)
     ≡ 3 + (number_len k.modulus + number_len k.public_exponent + number_len k.private_exponent + number_len k.prime1)
     + (number_len k.prime2 + number_len k.exponent1 + number_len k.exponent2 + number_len k.coefficient)
-key_len k none =
-    let numbers = concat (map integer (key_numbers k)) in
-    ap (λ others. length ((integer (version_of others) ++ numbers) ++ others_printed integer others)) none
-    ∙ joined_len (integer 0) numbers ∙ omega (arith, version_len, numbers_len k)
+front_len k =
+    length-append (integer (version_of k.other_prime_infos)) (concat (map integer (key_numbers k)))
+    ∙ omega (arith, version_len k.other_prime_infos, numbers_len k)
 
 pub counted : (octets : List ℕ) (s n : ℕ) → length octets ≡ n → Agree s n → (r : Result ℕ Error)
     → IfOk r (λ m. (m ≡ s) × (s ≤ limit)) → IfErr r (λ f. (f.kind ≡ Overflow) × (limit < s))

@@ -1,9 +1,10 @@
 -- The keys that are written of structs that the caller passes.
-use Rattle.std.specs.Prelude.{ℕ, List, map}
+use Rattle.std.specs.Prelude.{ℕ, List, ◌++◌, map}
+use Rattle.std.specs.List.{concat}
 use Rattle.pkcs1.specs.Words.{number_in, key_with, other_from, other_stated, private_stated}
 use Rattle.pkcs1.specs.Keys as keys
 use Rattle.pkcs1.specs.declared.private_key.PrivateKeyOf.{PrivateKeyOf}
-use Rattle.standard.specs.Statement.{OtherPrime, PrivateKey}
+use Rattle.standard.specs.Statement.{OtherPrime, PrivateKey, integer}
 use Rattle.pkcs1_c.specs.NumberValue.{number_of}
 use Rattle.pkcs1_c.specs.Structs.{other_prime}
 use Rattle.pkcs1_c.specs.declared.given_number.Number.{Number}
@@ -21,3 +22,7 @@ given_key = key_with (number_in number_of) given_primes
 
 abbrev pub held_given_key : PrivateKeyOf Number GivenPrimes → PrivateKey
 held_given_key key = private_stated (given_key key)
+
+-- The octets in front of other primes: the version and the eight numbers.
+abbrev pub front_of : keys.PrivateKey ℕ → List ℕ
+front_of key = integer (keys.version_of key.other_prime_infos) ++ concat (map integer (keys.key_numbers key))

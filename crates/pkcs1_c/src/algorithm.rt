@@ -155,13 +155,21 @@ pub(crate) fn have_null(hash: &Algorithm<'_>, mask_gen: &MaskGen<'_>) -> bool
     has_null(hash) && mask_gen.has_hash && has_null(&mask_gen.hash)
 }
 
+/// Whether two identifiers have the same octets, out of line: few don't have nine.
+#[inline(never)]
+fn is_same_otherwise(oid: &[u8], other: &[u8]) -> bool
+    ensures { Decides result (oid.now ≡ other.now) }
+{
+    oid == other
+}
+
 /// Whether two identifiers have the same octets. Those of hash functions have nine, which are compared in line.
 #[inline(always)]
 fn is_same(oid: &[u8], other: &[u8]) -> bool
     ensures { Decides result (oid.now ≡ other.now) }
 {
     let [a, b, c, d, e, f, g, h, i] = oid else {
-        return oid == other;
+        return is_same_otherwise(oid, other);
     };
     match other {
         [r, s, t, u, v, w, x, y, z] => {
@@ -185,8 +193,12 @@ fn is_same(oid: &[u8], other: &[u8]) -> bool
 fn is_hash(algorithm: &Algorithm<'_>, oid: &[u8]) -> bool
     ensures { Decides result (IsHash oid.now (algorithm_seen algorithm.now)) }
 {
-    let is_null = algorithm.tag == Tag::NULL.octet() && algorithm.parameters.is_empty();
-    (!algorithm.has_parameters || is_null) && is_same(algorithm.oid, oid)
+    if algorithm.has_parameters {
+        if algorithm.tag != Tag::NULL.octet() || !algorithm.parameters.is_empty() {
+            return false;
+        }
+    }
+    is_same(algorithm.oid, oid)
 }
 
 /// Whether the algorithm is the hash function with this identifier: with NULL or without parameters, which mean the

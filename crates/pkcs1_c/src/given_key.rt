@@ -1,15 +1,18 @@
 //! Private keys that the caller passes.
-ghost use Rattle.std.specs.Prelude.{◌≡◌, ℕ, IfErr, IfOk, None, OnOk};
+ghost use Rattle.std.specs.Prelude.{◌≡◌, ℕ, IfErr, IfOk, OnOk};
 ghost use Rattle.der_core.specs.Words.{Counts, alike, one_spelling};
 ghost use Rattle.pkcs1.specs.Words.{AnyNumber, PrivateIsValid, PrivateKey as KeyOf, integer_law, number as number_at, private_key_read, private_law, private_printed};
-ghost use Rattle.pkcs1_c.specs.Words.{NoStatus, NumbersError, given_key, given_numbers, held_given_key, private_key, status_of};
+ghost use Rattle.pkcs1_c.specs.Words.{NoStatus, NumbersError, front_of, given_key, given_numbers, held_given_key, private_key, status_of};
 ghost use Rattle.standard.specs.Statement.{integer};
 
 use crate::given_number::Number;
 use crate::given_primes::{GivenPrimes, octets_with_tag};
 use crate::numbers::number;
 use crate::private_key::{OtherPrime, PrivateKey};
-use der_core::{BackWriter, Contents, EncodeValue, Length, Result, SequenceTag, TaggedBy, Writer};
+use der_core::{
+    BackWriter, Contents, Encode, EncodeValue, Length, Result, SequenceTag, TaggedBy, Writer,
+    joined_len,
+};
 use pkcs1::PrivateKeyOf;
 
 /// A key of the caller's numbers.
@@ -46,12 +49,11 @@ impl<'a> GivenKey<'a> {
     }
 }
 
-/// The length of the contents of a key without other primes, as `row_len` tells it: fewer steps, as a number has contents
-/// and a length of some octets, and the version has one.
+/// The length of what is in front of other primes, as `row_len` tells it: fewer steps, as a number has contents and a
+/// length of some octets, and the version has one.
 #[inline(always)]
 fn numbers_len(key: &PrivateKeyOf<Number<'_>, GivenPrimes<'_>>) -> Result<Length>
-    ensures { let key = given_key key.now in
-        key.other_prime_infos ≡ None → Counts (Unit {0}) (private_printed integer key) result }
+    ensures { Counts (Unit {0}) (front_of (given_key key.now)) result }
 {
     let first = octets_with_tag(key.modulus.size())
         + octets_with_tag(key.public_exponent.size())
@@ -96,10 +98,11 @@ impl TaggedBy for GivenKey<'_> {
 
 impl EncodeValue for GivenKey<'_> {
     fn value_len(&self) -> Result<Length> {
-        if self.0.other_prime_infos.is_none() {
-            return numbers_len(&self.0);
+        let numbers = numbers_len(&self.0);
+        match &self.0.other_prime_infos {
+            None => numbers,
+            Some(others) => joined_len(numbers, others.encoded_len()),
         }
-        self.0.row_len()
     }
 
     fn append_value<W: Writer>(&self, writer: &mut W) -> Result<()> {

@@ -1,6 +1,4 @@
-use Rattle.std.proofs.Common.{ℕ, List, [], ◌∷◌, ◌≡◌, ◌∙◌, ◌&&◌, Bool, Decides, ap, arith, length, nat_eq, refl, slice_index, subst, sym, true}
-use Rattle.std.proofs.lemmas.Bool.Decides.{Decides-at}
-use Rattle.std.proofs.lemmas.Slice.Eq.{bytes_eq-Decides}
+use Rattle.std.proofs.Common.{ℕ, List, [], ◌∷◌, ◌≡◌, ◌∙◌, ◌&&◌, Bool, ap, arith, length, nat_eq, refl, slice_index, subst, sym, true}
 use Rattle.der_core.specs.Words.{nat_tests}
 use Rattle.spki_core.specs.Words.{upto}
 use Rattle.pkcs1_c.proofs.algorithm.is_same.Goals as goal

@@ -1,12 +1,10 @@
 use Rattle.std.proofs.Common.{refl}
-use Rattle.pkcs1.specs.Words.{private_printed}
-use Rattle.pkcs1_c.specs.Words.{given_key}
-use Rattle.standard.specs.Statement.{integer}
-use Rattle.pkcs1_c.proofs.KeyLengths.{agree_number, agree_sum, counted, key_len}
+use Rattle.pkcs1_c.specs.Words.{front_of, given_key}
+use Rattle.pkcs1_c.proofs.KeyLengths.{agree_number, agree_sum, counted, front_len}
 use Rattle.pkcs1_c.proofs.given_key.numbers_len.Goals as goal
 
 pub returns : goal.returns
-returns c none =
+returns c =
     let k = given_key c.args.key.now in
     let n = agree_number _ _ _ c.size.ensures.is c.octets_with_tag.ensures.within c.octets_with_tag.ensures.least in
     let e = agree_number _ _ _ c.size-2.ensures.is c.octets_with_tag-2.ensures.within c.octets_with_tag-2.ensures.least in
@@ -19,5 +17,5 @@ returns c none =
     let first = agree_sum _ _ _ _ (agree_sum _ _ _ _ (agree_sum _ _ _ _ n e) d) p in
     let second = agree_sum _ _ _ _ (agree_sum _ _ _ _ (agree_sum _ _ _ _ q x) y) f in
     let all = agree_sum _ _ _ _ (agree_sum _ _ _ _ (λ few. refl) first) second in
-    counted (private_printed integer k) _ _ (key_len k none) all c.try_from.result c.try_from.ensures.ok
+    counted (front_of k) _ _ (front_len k) all c.try_from.result c.try_from.ensures.ok
     c.try_from.ensures.err

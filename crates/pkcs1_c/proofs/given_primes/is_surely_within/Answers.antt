@@ -1,4 +1,4 @@
-use Rattle.std.proofs.Common.{ℕ, List, [], ◌∷◌, ◌+◌, ◌≡◌, ◌≤◌, length, length-append, arith}
+use Rattle.std.proofs.Common.{ℕ, [], ◌∷◌, ◌+◌, ◌≡◌, ◌≤◌, length, length-append, arith}
 use Rattle.std.proofs.lemmas.Bool.{leb-true}
 use Rattle.der_core.specs.Words.{tlv_fit}
 use Rattle.pkcs1.specs.Words.{held_other_prime}
