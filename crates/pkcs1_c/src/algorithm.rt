@@ -210,8 +210,25 @@ pub extern "C" fn pkcs1_c_algorithm_is(algorithm: &Algorithm<'_>, oid: &[u8]) ->
     is_hash(algorithm, oid)
 }
 
+/// Whether the hash function has this identifier, and the mask generation function is MGF1 with the same.
+#[inline(always)]
+fn uses_hash(hash: &Algorithm<'_>, mask_gen: &MaskGen<'_>, oid: &[u8]) -> bool
+    ensures { Decides result (UsesHash oid.now (algorithm_seen hash.now) (mask_gen_seen mask_gen.now)) }
+{
+    mask_gen.has_hash && is_mgf1(mask_gen.oid) && is_hash(hash, oid) && is_hash(&mask_gen.hash, oid)
+}
+
+/// The same, out of line.
+#[inline(never)]
+fn uses_hash_otherwise(hash: &Algorithm<'_>, mask_gen: &MaskGen<'_>, oid: &[u8]) -> bool
+    ensures { Decides result (UsesHash oid.now (algorithm_seen hash.now) (mask_gen_seen mask_gen.now)) }
+{
+    uses_hash(hash, mask_gen, oid)
+}
+
 /// Whether the hash function has this identifier, and the mask generation function is MGF1 with the same: each of them
-/// as `pkcs1_c_algorithm_is` has it.
+/// as `pkcs1_c_algorithm_is` has it. Where it has nine octets, no call stands between comparisons, and no register is
+/// saved.
 #[unsafe(no_mangle)]
 pub extern "C" fn pkcs1_c_uses_hash(
     hash: &Algorithm<'_>,
@@ -220,5 +237,8 @@ pub extern "C" fn pkcs1_c_uses_hash(
 ) -> bool
     ensures tells { Decides result (UsesHash oid.now (algorithm_seen hash.now) (mask_gen_seen mask_gen.now)) }
 {
-    mask_gen.has_hash && is_mgf1(mask_gen.oid) && is_hash(hash, oid) && is_hash(&mask_gen.hash, oid)
+    if hash.oid.len() != 9 {
+        return uses_hash_otherwise(hash, mask_gen, oid);
+    }
+    uses_hash(hash, mask_gen, oid)
 }
