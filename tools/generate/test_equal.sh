@@ -1,7 +1,8 @@
 #!/usr/bin/env bash
 # test_equal.sh KIT: tests what the translation makes of the comparing of slices in KIT's library. It is the function
 # that ir2c/equal.py knows, and does what memcmp does. Under another name, or with another text, it is translated as any
-# other function is. It proves a crate of one function, in 15 seconds. test.sh calls it.
+# other function is. It proves a crate of one function, in 15 seconds. Another build of the kit than the one that
+# PROVENANCE names may have another text: then this is said, and isn't a failure. test.sh calls it.
 set -eu
 kit=$1
 here=$(cd "$(dirname "$0")" && pwd)
@@ -39,7 +40,21 @@ translate() {
     grep -c 'return same(' "$room/$1.c" || true
 }
 
+# is_named_build: whether this build of the kit made ffi/generated.
+is_named_build() {
+    local file word
+    for word in rattle:bin/rattle clang:toolchain/bin/clang; do
+        file=$kit/${word#*:}
+        grep -q "^${word%%:*}: .*sha256 $(sha256sum < "$file" | cut -d ' ' -f 1)$" \
+            "$here/../../ffi/generated/PROVENANCE" || return
+    done
+}
+
 make_module
+is_named_build || [ "$(translate known)" = 1 ] || {
+    echo "equal: another build of the kit, whose comparing of slices isn't known, and is translated as it is"
+    exit
+}
 grep -q "$name" "$room/known.ll" || stop "the library compares slices by another function"
 sed "s/$name/core::cmp::slices::other/" "$room/known.ll" > "$room/named.ll"
 sed '0,/icmp ne i8/s//icmp ult i8/' "$room/known.ll" > "$room/changed.ll"
