@@ -162,11 +162,11 @@ COUNT(pkcs1_c_bit_len,
       (const uint8_t *number, size_t number_len),
       (number, number_len), octets(number, number_len))
 TEST(pkcs1_c_algorithm_is,
-     (const struct pkcs1_algorithm *given, const uint8_t *oid, size_t oid_len),
-     (given, oid, oid_len), algorithm(given); octets(oid, oid_len))
+     (const struct pkcs1_algorithm *given, const struct pkcs1_bytes *oid),
+     (given, oid), algorithm(given); bytes(*oid))
 TEST(pkcs1_c_uses_hash,
-     (const struct pkcs1_algorithm *hash, const struct pkcs1_mask_gen *given, const uint8_t *oid, size_t oid_len),
-     (hash, given, oid, oid_len), algorithm(hash); mask_gen(given); octets(oid, oid_len))
+     (const struct pkcs1_algorithm *hash, const struct pkcs1_mask_gen *given, const struct pkcs1_bytes *oid),
+     (hash, given, oid), algorithm(hash); mask_gen(given); bytes(*oid))
 TEST(pkcs1_c_oaep_label,
      (const struct pkcs1_algorithm *source, struct pkcs1_bytes *label),
      (source, label), algorithm(source); bytes(*label))

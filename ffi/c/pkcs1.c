@@ -277,13 +277,18 @@ RARE static void copy_algorithm(struct pkcs1_algorithm *made, const struct pkcs1
     }
 }
 
-bool pkcs1_algorithm_is(const struct pkcs1_algorithm *given, const struct pkcs1_bytes *oid) {
-    if (oid->data != NULL && is_whole_algorithm(given))
-        return pkcs1_c_algorithm_is(given, oid->data, oid->len);
+/* Looks at copies of both. */
+RARE static bool copied_algorithm_is(const struct pkcs1_algorithm *given, const struct pkcs1_bytes *oid) {
     struct pkcs1_bytes octets = never_null(*oid);
     struct pkcs1_algorithm made;
     copy_algorithm(&made, given);
-    return pkcs1_c_algorithm_is(&made, octets.data, octets.len);
+    return pkcs1_c_algorithm_is(&made, &octets);
+}
+
+bool pkcs1_algorithm_is(const struct pkcs1_algorithm *given, const struct pkcs1_bytes *oid) {
+    if (oid->data != NULL && is_whole_algorithm(given))
+        return pkcs1_c_algorithm_is(given, oid);
+    return copied_algorithm_is(given, oid);
 }
 
 /* The same for a mask generation function, which holds an algorithm. */
@@ -301,17 +306,23 @@ RARE static void copy_mask_gen(struct pkcs1_mask_gen *made, const struct pkcs1_m
     }
 }
 
-/* Whether the hash function has this identifier, and the mask generation function is MGF1 with the same one. */
-static bool both_use(const struct pkcs1_algorithm *hash, const struct pkcs1_mask_gen *mask_gen,
-                     const struct pkcs1_bytes *oid) {
-    if (oid->data != NULL && is_whole_algorithm(hash) && is_whole_mask_gen(mask_gen))
-        return pkcs1_c_uses_hash(hash, mask_gen, oid->data, oid->len);
+/* Looks at copies of all. */
+RARE static bool both_copied_use(const struct pkcs1_algorithm *hash, const struct pkcs1_mask_gen *mask_gen,
+                                 const struct pkcs1_bytes *oid) {
     struct pkcs1_bytes octets = never_null(*oid);
     struct pkcs1_algorithm made_hash;
     struct pkcs1_mask_gen made_mask_gen;
     copy_algorithm(&made_hash, hash);
     copy_mask_gen(&made_mask_gen, mask_gen);
-    return pkcs1_c_uses_hash(&made_hash, &made_mask_gen, octets.data, octets.len);
+    return pkcs1_c_uses_hash(&made_hash, &made_mask_gen, &octets);
+}
+
+/* Whether the hash function has this identifier, and the mask generation function is MGF1 with the same one. */
+static bool both_use(const struct pkcs1_algorithm *hash, const struct pkcs1_mask_gen *mask_gen,
+                     const struct pkcs1_bytes *oid) {
+    if (oid->data != NULL && is_whole_algorithm(hash) && is_whole_mask_gen(mask_gen))
+        return pkcs1_c_uses_hash(hash, mask_gen, oid);
+    return both_copied_use(hash, mask_gen, oid);
 }
 
 static struct pkcs1_algorithm with_null(const struct pkcs1_bytes *oid) {

@@ -52,11 +52,11 @@ uint32_t pkcs1_c_oaep_algorithm_decode_strict(const uint8_t *der, size_t der_len
 uint32_t pkcs1_c_oaep_algorithm_encode(const struct pkcs1_oaep_params *params, uint8_t *out, size_t room, size_t *len);
 
 /* Whether it is the hash function with this identifier, with NULL or without parameters. */
-bool pkcs1_c_algorithm_is(const struct pkcs1_algorithm *algorithm, const uint8_t *oid, size_t oid_len);
+bool pkcs1_c_algorithm_is(const struct pkcs1_algorithm *algorithm, const struct pkcs1_bytes *oid);
 
 /* Whether the hash function has this identifier, and the mask generation function is MGF1 with the same one. */
-bool pkcs1_c_uses_hash(const struct pkcs1_algorithm *hash, const struct pkcs1_mask_gen *mask_gen, const uint8_t *oid,
-                       size_t oid_len);
+bool pkcs1_c_uses_hash(const struct pkcs1_algorithm *hash, const struct pkcs1_mask_gen *mask_gen,
+                       const struct pkcs1_bytes *oid);
 
 /* Whether the source is pSpecified with an OCTET STRING. If so, its octets are in `label`. If not, it is unchanged. */
 bool pkcs1_c_oaep_label(const struct pkcs1_algorithm *source, struct pkcs1_bytes *label);

@@ -202,7 +202,6 @@
 #define UNLESS_OK \result != PKCS1_OK ==>
 #define DER_IN const uint8_t *der, size_t der_len
 #define OUT uint8_t *out, size_t room, size_t *len
-#define OID_IN const uint8_t *oid, size_t oid_len
 #define KEY_IN const struct pkcs1_private_key *key, const struct pkcs1_other_prime *others, size_t others_len
 #define OTHERS_OUT struct pkcs1_other_prime *others, size_t others_room
 #define PUBLIC struct pkcs1_public_key *key
@@ -338,9 +337,9 @@ void pkcs1_c_other_primes(const uint8_t *listed, size_t listed_len, OTHERS_OUT);
 
 /* ---- Tests of a value ---- */
 #define TELLS(is_so) PURE; ensures tells: is_flag(\result) && (\result == 1 <==> is_so)
-/*@ requires \valid_read(algorithm) && ok_algorithm(*algorithm) && ok(oid, oid_len);
-  @ TELLS(is_hash(algorithm_seen(*algorithm), octets_of(oid, oid_len))); */
-bool pkcs1_c_algorithm_is(const struct pkcs1_algorithm *algorithm, OID_IN);
+/*@ requires \valid_read(algorithm) && ok_algorithm(*algorithm) && \valid_read(oid) && ok_bytes(*oid);
+  @ TELLS(is_hash(algorithm_seen(*algorithm), bytes_seen(*oid))); */
+bool pkcs1_c_algorithm_is(const struct pkcs1_algorithm *algorithm, const struct pkcs1_bytes *oid);
 /*@ requires \valid_read(algorithm) && given_algorithm(*algorithm) && \valid_read(oid) && given_bytes(*oid);
   @ TELLS(is_hash(algorithm_seen(*algorithm), bytes_seen(*oid))); */
 bool pkcs1_algorithm_is(const struct pkcs1_algorithm *algorithm, const struct pkcs1_bytes *oid);
@@ -351,9 +350,9 @@ bool pkcs1_algorithm_is(const struct pkcs1_algorithm *algorithm, const struct pk
     requires given_algorithm(hash) && given_mask_gen(mask_gen) && \valid_read(oid) && given_bytes(*oid);               \
     TELLS(uses_hash(algorithm_seen(hash), mask_gen_seen(mask_gen), bytes_seen(*oid)))
 /*@ requires \valid_read(hash) && ok_algorithm(*hash) && \valid_read(mask_gen) && ok_mask_gen(*mask_gen);
-  @ requires ok(oid, oid_len);
-  @ TELLS(uses_hash(algorithm_seen(*hash), mask_gen_seen(*mask_gen), octets_of(oid, oid_len))); */
-bool pkcs1_c_uses_hash(BOTH, OID_IN);
+  @ requires \valid_read(oid) && ok_bytes(*oid);
+  @ TELLS(uses_hash(algorithm_seen(*hash), mask_gen_seen(*mask_gen), bytes_seen(*oid))); */
+bool pkcs1_c_uses_hash(BOTH, const struct pkcs1_bytes *oid);
 /*@ requires \valid_read(params); BOTH_USE(params->hash, params->mask_gen, hash); */
 bool pkcs1_pss_is(const PSS, const struct pkcs1_bytes *hash);
 /*@ requires \valid_read(params); BOTH_USE(params->hash, params->mask_gen, hash); */
@@ -476,6 +475,11 @@ static uint32_t prime_fault(uint32_t status, const struct pkcs1_other_prime *oth
   @ ensures empty: has_empty_number(others, count) ==> \result != PKCS1_OK; */
 static uint32_t first_fault(const PRIVATE, const struct pkcs1_other_prime *others, size_t count);
 /*@ ENCODES_KEY(given, ok); */ static uint32_t write_key(KEY_IN, OUT);
+/*@ requires \valid_read(algorithm) && given_algorithm(*algorithm) && \valid_read(oid) && given_bytes(*oid);
+  @ TELLS(is_hash(algorithm_seen(*algorithm), bytes_seen(*oid))); */
+static bool copied_algorithm_is(const struct pkcs1_algorithm *algorithm, const struct pkcs1_bytes *oid);
+/*@ requires \valid_read(hash) && \valid_read(mask_gen); BOTH_USE(*hash, *mask_gen, oid); */
+static bool both_copied_use(BOTH, const struct pkcs1_bytes *oid);
 /*@ requires \valid_read(hash) && \valid_read(mask_gen); BOTH_USE(*hash, *mask_gen, oid); */
 static bool both_use(BOTH, const struct pkcs1_bytes *oid);
 /*@ requires ok_bytes(*label); LABELS(given, source, *source); */

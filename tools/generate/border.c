@@ -183,16 +183,18 @@ uint32_t pkcs1_c_private_key_encode(const struct pkcs1_private_key *key, const s
     return status;
 }
 
-bool pkcs1_c_algorithm_is(const struct pkcs1_algorithm *algorithm, const uint8_t *oid, size_t oid_len) {
+bool pkcs1_c_algorithm_is(const struct pkcs1_algorithm *algorithm, const struct pkcs1_bytes *oid) {
     TAKE(own, algorithm, ALGORITHM);
-    return proved_algorithm_is(own, AT(oid), oid_len);
+    TAKE(own_oid, oid, BYTES);
+    return proved_algorithm_is(own, own_oid);
 }
 
-bool pkcs1_c_uses_hash(const struct pkcs1_algorithm *hash, const struct pkcs1_mask_gen *mask_gen, const uint8_t *oid,
-                       size_t oid_len) {
+bool pkcs1_c_uses_hash(const struct pkcs1_algorithm *hash, const struct pkcs1_mask_gen *mask_gen,
+                       const struct pkcs1_bytes *oid) {
     TAKE(own, hash, ALGORITHM);
     TAKE(own_mask_gen, mask_gen, MASK_GEN);
-    return proved_uses_hash(own, own_mask_gen, AT(oid), oid_len);
+    TAKE(own_oid, oid, BYTES);
+    return proved_uses_hash(own, own_mask_gen, own_oid);
 }
 
 bool pkcs1_c_oaep_label(const struct pkcs1_algorithm *source, struct pkcs1_bytes *label) {

@@ -4,6 +4,7 @@ ghost use Rattle.spki_core.specs.Words.{IsHash, TagAndContents, any_of, null_val
 ghost use Rattle.pkcs1_params.specs.Words.{UsesHash, with_parameters};
 ghost use Rattle.pkcs1_c.specs.Words.{kind_number, algorithm_seen, mask_gen_seen, AlgorithmIsTidy, MaskGenIsTidy, OidError, PlainError, MaskError};
 
+use crate::bytes::Bytes;
 use der_core::{Result, Tag};
 use pkcs1_params::is_mgf1;
 use spki_core::{AlgorithmView, AnyRef, IdentifierView};
@@ -155,7 +156,7 @@ pub(crate) fn have_null(hash: &Algorithm<'_>, mask_gen: &MaskGen<'_>) -> bool
     has_null(hash) && mask_gen.has_hash && has_null(&mask_gen.hash)
 }
 
-/// Whether two identifiers have the same octets, out of line: few don't have nine.
+/// Whether two identifiers have the same octets, out of line.
 #[inline(never)]
 fn is_same_otherwise(oid: &[u8], other: &[u8]) -> bool
     ensures { Decides result (oid.now ≡ other.now) }
@@ -163,27 +164,33 @@ fn is_same_otherwise(oid: &[u8], other: &[u8]) -> bool
     oid == other
 }
 
-/// Whether two identifiers have the same octets. Those of hash functions have nine, which are compared in line.
+/// Whether two identifiers have the same octets. That of SHA-1 has five, and those of the other hash functions have
+/// nine. These are compared in line.
 #[inline(always)]
 fn is_same(oid: &[u8], other: &[u8]) -> bool
     ensures { Decides result (oid.now ≡ other.now) }
 {
-    let [a, b, c, d, e, f, g, h, i] = oid else {
-        return is_same_otherwise(oid, other);
-    };
-    match other {
-        [r, s, t, u, v, w, x, y, z] => {
-            (*a == *r)
-                & (*b == *s)
-                & (*c == *t)
-                & (*d == *u)
-                & (*e == *v)
-                & (*f == *w)
-                & (*g == *x)
-                & (*h == *y)
-                & (*i == *z)
-        }
-        _ => false,
+    match oid {
+        _ if oid.len() != other.len() => false,
+        [a, b, c, d, e, f, g, h, i] => match other {
+            [r, s, t, u, v, w, x, y, z] => {
+                (*a == *r)
+                    & (*b == *s)
+                    & (*c == *t)
+                    & (*d == *u)
+                    & (*e == *v)
+                    & (*f == *w)
+                    & (*g == *x)
+                    & (*h == *y)
+                    & (*i == *z)
+            }
+            _ => false,
+        },
+        [a, b, c, d, e] => match other {
+            [v, w, x, y, z] => { (*a == *v) & (*b == *w) & (*c == *x) & (*d == *y) & (*e == *z) }
+            _ => false,
+        },
+        _ => is_same_otherwise(oid, other),
     }
 }
 
@@ -201,13 +208,24 @@ fn is_hash(algorithm: &Algorithm<'_>, oid: &[u8]) -> bool
     is_same(algorithm.oid, oid)
 }
 
-/// Whether the algorithm is the hash function with this identifier: with NULL or without parameters, which mean the
-/// same (RFC 4055 2.1).
-#[unsafe(no_mangle)]
-pub extern "C" fn pkcs1_c_algorithm_is(algorithm: &Algorithm<'_>, oid: &[u8]) -> bool
-    ensures tells { Decides result (IsHash oid.now (algorithm_seen algorithm.now)) }
+/// The same, out of line.
+#[inline(never)]
+fn is_hash_otherwise(algorithm: &Algorithm<'_>, oid: &Bytes<'_>) -> bool
+    ensures { Decides result (IsHash oid.now.octets.now (algorithm_seen algorithm.now)) }
 {
-    is_hash(algorithm, oid)
+    is_hash(algorithm, oid.octets)
+}
+
+/// Whether the algorithm is the hash function with this identifier: with NULL or without parameters, which mean the
+/// same (RFC 4055 2.1). Where it has nine octets, no register is saved.
+#[unsafe(no_mangle)]
+pub extern "C" fn pkcs1_c_algorithm_is(algorithm: &Algorithm<'_>, oid: &Bytes<'_>) -> bool
+    ensures tells { Decides result (IsHash oid.now.octets.now (algorithm_seen algorithm.now)) }
+{
+    if algorithm.oid.len() != 9 {
+        return is_hash_otherwise(algorithm, oid);
+    }
+    is_hash(algorithm, oid.octets)
 }
 
 /// Whether the hash function has this identifier, and the mask generation function is MGF1 with the same.
@@ -220,10 +238,11 @@ fn uses_hash(hash: &Algorithm<'_>, mask_gen: &MaskGen<'_>, oid: &[u8]) -> bool
 
 /// The same, out of line.
 #[inline(never)]
-fn uses_hash_otherwise(hash: &Algorithm<'_>, mask_gen: &MaskGen<'_>, oid: &[u8]) -> bool
-    ensures { Decides result (UsesHash oid.now (algorithm_seen hash.now) (mask_gen_seen mask_gen.now)) }
+fn uses_hash_otherwise(hash: &Algorithm<'_>, mask_gen: &MaskGen<'_>, oid: &Bytes<'_>) -> bool
+    ensures { let octets = oid.now.octets.now in
+        Decides result (UsesHash octets (algorithm_seen hash.now) (mask_gen_seen mask_gen.now)) }
 {
-    uses_hash(hash, mask_gen, oid)
+    uses_hash(hash, mask_gen, oid.octets)
 }
 
 /// Whether the hash function has this identifier, and the mask generation function is MGF1 with the same: each of them
@@ -233,12 +252,13 @@ fn uses_hash_otherwise(hash: &Algorithm<'_>, mask_gen: &MaskGen<'_>, oid: &[u8])
 pub extern "C" fn pkcs1_c_uses_hash(
     hash: &Algorithm<'_>,
     mask_gen: &MaskGen<'_>,
-    oid: &[u8],
+    oid: &Bytes<'_>,
 ) -> bool
-    ensures tells { Decides result (UsesHash oid.now (algorithm_seen hash.now) (mask_gen_seen mask_gen.now)) }
+    ensures tells { let octets = oid.now.octets.now in
+        Decides result (UsesHash octets (algorithm_seen hash.now) (mask_gen_seen mask_gen.now)) }
 {
     if hash.oid.len() != 9 {
         return uses_hash_otherwise(hash, mask_gen, oid);
     }
-    uses_hash(hash, mask_gen, oid)
+    uses_hash(hash, mask_gen, oid.octets)
 }
