@@ -7,5 +7,6 @@ pub mod LengthReading
 pub mod Numbers
 pub mod OptionalReadings
 pub mod Printed
+pub mod Counted
 pub mod SliceReaders
 pub mod TaggedReadings

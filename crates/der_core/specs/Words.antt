@@ -33,6 +33,7 @@ pub use Rattle.der_core.specs.Writing.{Appends, Counts, IsOutOfMemory, RefusedAs
 pub use Rattle.der_core.specs.declared.error.Error.{Error}
 pub use Rattle.der_core.specs.declared.error.ErrorKind.{ErrorKind}
 pub use Rattle.der_core.specs.declared.tag.Tag.{Tag}
+pub use Rattle.der_core.specs.Laws.Counted.{appends_as, counts_as}
 pub use Rattle.der_core.specs.Laws.Encodings.{last_part_asks_none, parts_ask_none, same_tag, tlv_not_empty, tlv_recast, tlv_short, tlv_split}
 pub use Rattle.der_core.specs.Laws.Integer.{both_decide, bytes_decide, canonical_same, holds_canonical, number_decides, option_decides, written_large}
 pub use Rattle.der_core.specs.Laws.Length.{length_octets-only, length_octets-short, length_octets-within}
@@ -41,7 +42,7 @@ pub use Rattle.der_core.specs.Laws.Numbers.{after_ge, base256_ge}
 pub use Rattle.der_core.specs.Laws.OptionalReadings.{front_next, isnt_next, next_is, next_isnt, optional_reads}
 pub use Rattle.der_core.specs.Laws.Printed.Alike.{alike, alone_alike, chain_alike, front_alike, front_row_alike, items_alike, itself_once, last_alike, last_once, list_once, made_alike, made_once, optional_alike, row_alike, row_once, tagged_alike, values_alike, whole_alike}
 pub use Rattle.der_core.specs.Laws.Printed.Items.{items_law, meant, meant_front, paired, prints_some, reads, reads_front, written_prints}
-pub use Rattle.der_core.specs.Laws.Printed.Leaves.{contents_as, number_law, number_octets, octets_canonical, octets_grow, octets_law, octets_number, small_contents_as, small_law, tlv_fit, tlv_is, tlv_made}
+pub use Rattle.der_core.specs.Laws.Printed.Leaves.{contents_as, number_law, number_octets, numbers_encode, octets_canonical, octets_grow, octets_law, octets_number, small_contents_as, small_law, tlv_fit, tlv_is, tlv_made}
 pub use Rattle.der_core.specs.Laws.Printed.Optional.{IsInRange, agreed_law, chain_law, front_end_law, front_row_law, last_by_tag_law, last_law, optional_gives, optional_part_law, optional_row_law, ranged_law, tagged_starts, unless_alike, unless_shortest}
 pub use Rattle.der_core.specs.Laws.Printed.Relations.{StatedAs, decodes_stated, encodes_stated, memory_stated, optional_itself, spells_once, stated, unwritten_stated, written_encodes}
 pub use Rattle.der_core.specs.Laws.Printed.Rows.{alone_law, decodes_as, end_law, expected_law, made_law, meant_decodes, prints_one, row_law, such_law, tagged_law, valid_as, whole_decodes, whole_takes}

@@ -104,6 +104,14 @@ pub trait EqualByValue: Encoding + PartialEq {
     ghost decides: { (a b : Self) → Decides (Self.eq a b) (Self.value a ≡ Self.value b) };
 }
 
+/// Whether both sides mean the same value: `==`, with a contract that says so of any type.
+#[inline(always)]
+pub fn equal<T: EqualByValue>(left: &T, right: &T) -> bool
+    ensures { Decides result (T.value left.now ≡ T.value right.now) }
+{
+    *left == *right
+}
+
 /// A tag as a type, which `TaggedBy` names for types of any lifetimes and parameters.
 pub trait TagMarker {
     /// The tag, for contracts.

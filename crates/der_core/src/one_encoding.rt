@@ -3,6 +3,7 @@ ghost use Rattle.std.specs.Prelude.{IfErr, length};
 ghost use Rattle.standard.specs.Statement as standard;
 ghost use Rattle.der_core.specs.Words.{AreSpelledOnce, AtMostOne, Prints, Spells, Unwritten, encode_error, itself_once, last_once, list_once, ok_of, row_once};
 
+use crate::borrowed::Borrowed;
 use crate::encode::Encode;
 use crate::error::Result;
 use crate::expected::Expected;
@@ -28,6 +29,10 @@ pub trait OneEncoding: Encoding {
 
 impl<T: OneContents + FixedTag> OneEncoding for T {
     ghost once = { T.OneContents.once };
+}
+
+impl<T: OneEncoding> OneEncoding for Borrowed<'_, T> {
+    ghost once = { T.OneEncoding.once };
 }
 
 impl OneContents for UintRef<'_> {

@@ -1,4 +1,4 @@
-//! SEQUENCEs as records of parts: a type that names its parts is read and written with no proof of its own.
+//! Records of parts, mostly SEQUENCEs: a type that names its parts is read and written with no proof of its own.
 ghost use Rattle.std.specs.Prelude.{◌≡◌, ◌≤◌, Err, List, Ok, ℕ, length, refl};
 ghost use Rattle.der_core.specs.declared.error.ErrorKind.{ErrorKind};
 ghost use Rattle.der_core.specs.declared.tag.Tag.{Tag as TheTag};
@@ -8,7 +8,7 @@ use crate::back_writer::BackWriter;
 use crate::decode::DecodeValue;
 use crate::encode::EncodeValue;
 use crate::error::Result;
-use crate::grammar::{Contents, Sequence, SequenceTag, TaggedBy};
+use crate::grammar::{Contents, Sequence, SequenceTag, TagMarker, TaggedBy};
 use crate::header::Header;
 use crate::length::Length;
 use crate::memory::Memory;
@@ -109,8 +109,11 @@ where
     }
 }
 
-/// A SEQUENCE that means its parts: their row is all that there is to say of it.
+/// A type that means its parts: their row is all that there is to say of it, and the tag around them.
 pub trait Record: Sized {
+    /// The marker of the tag: `SequenceTag` of a SEQUENCE.
+    type Marker: TagMarker;
+
     /// The row.
     type Fields: Contents;
 
@@ -149,10 +152,10 @@ impl<T: Record> Contents for T {
 }
 
 impl<T: Record> TaggedBy for T {
-    type Marker = SequenceTag;
+    type Marker = T::Marker;
 }
 
-impl<'a, T: Record> Sequence<'a> for T {
+impl<'a, T: Record<Marker = SequenceTag>> Sequence<'a> for T {
     ghost is_sequence = { refl };
 }
 

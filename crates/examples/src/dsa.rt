@@ -5,7 +5,7 @@ ghost use Rattle.der_core.specs.Words.{Answers, Spells, Unwritten, encode_error,
 
 use der_core::{
     BackWriter, Borrowed, Encode, EncodeInParts, EncodeValue, Encoding, Length, Record, Result,
-    UintRef, Writer, read_borrowed, write_only,
+    SequenceTag, UintRef, Writer, read_borrowed, write_only,
 };
 use spki_core::AlgorithmView;
 
@@ -31,6 +31,8 @@ pub type DsaParamsRef<'a> = DsaParams<UintRef<'a>>;
 pub type DsaAlgorithmRef<'a> = AlgorithmView<'a, DsaParamsRef<'a>>;
 
 impl<U: Encoding> Record for DsaParams<U> {
+    type Marker = SequenceTag;
+
     type Fields = (U, (U, (U, ())));
 
     ghost fields = { λ params. (params.p, (params.q, (params.g, tt))) };

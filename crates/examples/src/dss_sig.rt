@@ -6,7 +6,7 @@ ghost use Rattle.der_core.specs.Words.{Answers, Spells, Unwritten, encode_error,
 
 use der_core::{
     BackWriter, Borrowed, Encode, EncodeInParts, EncodeValue, Encoding, Length, Record, Result,
-    UintRef, Writer, read_borrowed, write_only,
+    SequenceTag, UintRef, Writer, read_borrowed, write_only,
 };
 
 /// The value of a DSA or ECDSA signature.
@@ -26,6 +26,8 @@ pub struct DssSigValue<U> {
 pub type DssSigValueRef<'a> = DssSigValue<UintRef<'a>>;
 
 impl<U: Encoding> Record for DssSigValue<U> {
+    type Marker = SequenceTag;
+
     type Fields = (U, (U, ()));
 
     ghost fields = { λ signature. (signature.r, (signature.s, tt)) };

@@ -7,8 +7,8 @@ ghost use Rattle.examples.specs.Extension.{IsTrueOctet, critical_part, true_law,
 use der_core::{
     BackWriter, Borrowed, Contents, ContentsAskNone, DecodeValue, Encode, EncodeInParts,
     EncodeValue, Encoding, Error, ErrorKind, Header, Length, Memory, OctetStringRef, OneContents,
-    OptionalThen, Reader, Record, Result, Tag, TagMarker, TaggedBy, Writer, read_borrowed,
-    write_only,
+    OptionalThen, Reader, Record, Result, SequenceTag, Tag, TagMarker, TaggedBy, Writer,
+    read_borrowed, write_only,
 };
 use spki_core::ObjectIdentifier;
 
@@ -137,6 +137,8 @@ pub struct Extension<V> {
 pub type ExtensionRef<'a> = Extension<OctetStringRef<'a>>;
 
 impl<V: Encoding> Record for Extension<V> {
+    type Marker = SequenceTag;
+
     type Fields = (ObjectIdentifier, OptionalThen<True, (V, ())>);
 
     ghost fields = { λ it. (it.id, record { 0 = critical_part it.critical; 1 = (it.value, tt) }) };

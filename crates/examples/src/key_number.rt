@@ -2,8 +2,7 @@
 ghost use Rattle.std.specs.Prelude.{ℕ};
 ghost use Rattle.std.specs.Int.Digits.{number_from_digits};
 ghost use Rattle.standard.specs.Statement.{Encodes, PublicKeyEncoding};
-ghost use Rattle.der_core.specs.Words.{alike, bytes_of, number_contents, number_law, number_of, ok_of, one_spelling};
-ghost use Rattle.der_core.specs.Laws.Printed.Leaves.{numbers_encode};
+ghost use Rattle.der_core.specs.Words.{alike, bytes_of, number_contents, number_law, number_of, numbers_encode, ok_of, one_spelling};
 ghost use Rattle.pkcs1.specs.Words.{held_public_key};
 
 use der_core::{

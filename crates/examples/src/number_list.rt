@@ -6,7 +6,7 @@ ghost use Rattle.examples.specs.NumberList.{IsNumberList, MayAskMemory, NumberLi
 
 use der_core::{
     BackWriter, Borrowed, Encode, EncodeInParts, EncodeValue, Encoding, InRange, Length, Record,
-    Result, UintRef, Writer, read_owned, write_only,
+    Result, SequenceTag, UintRef, Writer, read_owned, write_only,
 };
 use std::alloc::Global;
 
@@ -27,6 +27,8 @@ pub struct NumberList<U> {
 pub type NumberListRef<'a> = NumberList<UintRef<'a>>;
 
 impl<U: Encoding> Record for NumberList<U> {
+    type Marker = SequenceTag;
+
     type Fields = (InRange<0, 1>, (Vec<U>, ()));
 
     ghost fields = { λ list. (list.version, (list.numbers, tt)) };

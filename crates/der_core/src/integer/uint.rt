@@ -1,5 +1,5 @@
 //! Unsigned numbers that borrow their bytes.
-ghost use Rattle.std.specs.Prelude.{◌≡◌, ◌≤◌, ◌<◌, ℕ, List, length, slice_index, OnOk, IfOk, IfErr, IsOk, ⊤};
+ghost use Rattle.std.specs.Prelude.{◌≡◌, ◌≤◌, ◌<◌, ℕ, List, length, slice_index, OnOk, IfOk, IfErr, IfSome, IsOk, None, ⊤};
 ghost use Rattle.std.specs.Int.Digits.{number_from_digits};
 ghost use Rattle.der_core.specs.Length.{limit};
 ghost use Rattle.der_core.specs.Integer.{HoldsNumber, IsCanonical, AreCanonicalOf, IsBitLength, EncodesNumbers};
@@ -98,6 +98,19 @@ impl<'a> UintRef<'a> {
             return Err(Error::new(ErrorKind::Overflow));
         }
         Ok(UintRef { bytes })
+    }
+
+    /// The number with these big-endian bytes, if there is one and none is a needless zero in front. `None` too if they
+    /// are more than `Length::MAX`.
+    pub fn from_canonical(bytes: &'a [u8]) -> Option<UintRef<'a>>
+        ensures some { IfSome result (λ number. bytes_of number ≡ bytes.now) }
+        ensures none { result ≡ None → IsCanonical bytes.now → limit < length bytes.now }
+    {
+        match bytes {
+            [] | [0, _, ..] => None,
+            _ if bytes.len() > Length::MAX.to_usize() => None,
+            _ => Some(UintRef { bytes }),
+        }
     }
 
     /// The number with these bytes, which have no needless leading zero.

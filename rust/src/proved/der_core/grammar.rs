@@ -19,6 +19,12 @@ pub trait Encoding {
 /// A type with an `==` that is true exactly if both sides mean the same value.
 pub trait EqualByValue: Encoding + PartialEq {}
 
+/// Whether both sides mean the same value: `==`, with a contract that says so of any type.
+#[inline(always)]
+pub fn equal<T: EqualByValue>(left: &T, right: &T) -> bool {
+    *left == *right
+}
+
 /// A tag as a type, which `TaggedBy` names for types of any lifetimes and parameters.
 pub trait TagMarker {
     /// The tag.

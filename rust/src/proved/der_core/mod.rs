@@ -54,7 +54,7 @@ pub use file_system::FileSystem;
 pub use front::{DecodeFront, FrontRow};
 pub use grammar::{
     Contents, Encoding, EqualByValue, FixedTag, IntegerTag, Sequence, SequenceTag, TagMarker,
-    TaggedBy,
+    TaggedBy, equal,
 };
 pub use header::Header;
 pub use in_range::InRange;

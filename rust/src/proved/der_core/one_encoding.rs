@@ -2,6 +2,7 @@
 //! Types whose values have one encoding each: what is written is the only one.
 
 use crate::rattle_std::prelude::Vec;
+use crate::proved::der_core::borrowed::Borrowed;
 use crate::proved::der_core::encode::Encode;
 use crate::proved::der_core::error::Result;
 use crate::proved::der_core::expected::Expected;
@@ -20,6 +21,8 @@ pub trait OneContents: Contents {}
 pub trait OneEncoding: Encoding {}
 
 impl<T: OneContents + FixedTag> OneEncoding for T {}
+
+impl<T: OneEncoding> OneEncoding for Borrowed<'_, T> {}
 
 impl OneContents for UintRef<'_> {}
 

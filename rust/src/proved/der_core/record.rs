@@ -1,11 +1,11 @@
 // Made of crates/der_core/src/record.rt by tools/erase/erase.py, and not to be edited.
-//! SEQUENCEs as records of parts: a type that names its parts is read and written with no proof of its own.
+//! Records of parts, mostly SEQUENCEs: a type that names its parts is read and written with no proof of its own.
 
 use crate::proved::der_core::back_writer::BackWriter;
 use crate::proved::der_core::decode::DecodeValue;
 use crate::proved::der_core::encode::EncodeValue;
 use crate::proved::der_core::error::Result;
-use crate::proved::der_core::grammar::{Contents, Sequence, SequenceTag, TaggedBy};
+use crate::proved::der_core::grammar::{Contents, Sequence, SequenceTag, TagMarker, TaggedBy};
 use crate::proved::der_core::header::Header;
 use crate::proved::der_core::length::Length;
 use crate::proved::der_core::memory::Memory;
@@ -80,8 +80,11 @@ where
     }
 }
 
-/// A SEQUENCE that means its parts: their row is all that there is to say of it.
+/// A type that means its parts: their row is all that there is to say of it, and the tag around them.
 pub trait Record: Sized {
+    /// The marker of the tag: `SequenceTag` of a SEQUENCE.
+    type Marker: TagMarker;
+
     /// The row.
     type Fields: Contents;
 
@@ -92,10 +95,10 @@ pub trait Record: Sized {
 impl<T: Record> Contents for T {}
 
 impl<T: Record> TaggedBy for T {
-    type Marker = SequenceTag;
+    type Marker = T::Marker;
 }
 
-impl<'a, T: Record> Sequence<'a> for T {}
+impl<'a, T: Record<Marker = SequenceTag>> Sequence<'a> for T {}
 
 impl<T: Record> InParts for T {
     type Parts = T::Fields;

@@ -62,6 +62,16 @@ impl<'a> UintRef<'a> {
         Ok(UintRef { bytes })
     }
 
+    /// The number with these big-endian bytes, if there is one and none is a needless zero in front. `None` too if they
+    /// are more than `Length::MAX`.
+    pub fn from_canonical(bytes: &'a [u8]) -> Option<UintRef<'a>> {
+        match bytes {
+            [] | [0, _, ..] => None,
+            _ if bytes.len() > Length::MAX.to_usize() => None,
+            _ => Some(UintRef { bytes }),
+        }
+    }
+
     /// The number with these bytes, which have no needless leading zero.
     pub(super) fn over(bytes: &'a [u8]) -> UintRef<'a> {
         UintRef { bytes }

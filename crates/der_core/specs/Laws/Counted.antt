@@ -1,0 +1,34 @@
+-- Of a value that has octets, the same is counted and appended whatever says that it has them.
+use Rattle.std.specs.Prelude.{ℕ, List, Result, Ok, Err}
+use Rattle.der_core.specs.Document.{EncodeError, another, no_encoding, no_room, too_long}
+use Rattle.der_core.specs.Writing.{Appends, Counts, WhyOctetsNotCounted, WhyOctetsNotWritten, encode_error}
+use Rattle.der_core.specs.declared.error.Error.{Error}
+
+module _ {P Q : Type 0} (p : P) (q : Q) where
+  uncounted_as : (octets : List ℕ) (k : EncodeError) → WhyOctetsNotCounted P octets k → WhyOctetsNotCounted Q octets k
+  uncounted_as octets no_encoding h = absurd (h p)
+  uncounted_as octets too_long h = (q, h.1)
+  uncounted_as octets no_room h = h
+  uncounted_as octets another h = h
+
+  pub counts_as : (octets : List ℕ) (r : Result ℕ Error) → Counts P octets r → Counts Q octets r
+  counts_as octets (Ok n) h = (q, h.1, h.2)
+  counts_as octets (Err e) h = uncounted_as octets (encode_error e.kind) h
+
+  unwritten_as : (octets : List ℕ) (room : ℕ) (old new : List ℕ) (k : EncodeError)
+      → WhyOctetsNotWritten P octets room old new k → WhyOctetsNotWritten Q octets room old new k
+  unwritten_as octets room old new no_encoding h = absurd (h.0 p)
+  unwritten_as octets room old new too_long h = (q, h.1, h.2)
+  unwritten_as octets room old new no_room h = (q, h.1, h.2, h.3)
+  unwritten_as octets room old new another h = h
+
+  pub appends_as : {W A : Type 0} (octets : List ℕ) (Room : W → ℕ) (Written : W → List ℕ) (old new : W)
+      (r : Result A Error) → Appends P octets Room Written old new r → Appends Q octets Room Written old new r
+  appends_as octets Room Written old new (Ok x) h =
+      record { has = (q, h.has.1); written = h.written; room = h.room; left = h.left }
+  appends_as octets Room Written old new (Err e) h = record {
+    has = h.has;
+    written = h.written;
+    room = h.room;
+    left = unwritten_as octets (Room old) (Written old) (Written new) (encode_error e.kind) h.left;
+  }
