@@ -22,9 +22,9 @@ CALLS = """try_from encode_key decode_key decode_owned_key from_pkcs1_der to_pkc
     fault_of_private_key_info lemma_containers_have_one_encoding lemma_containers_decode
     from_der_strict from_algorithm_der from_algorithm_der_strict from_algorithm encode_params encode_spelling
     encode_spelling_into encode_spelling_to_slice encode_algorithm to_algorithm to_params spellings default_fields
-    default default_in new new_with_label label_fits label uses_hash is_hash fault_of_pss_params fault_of_oaep_params
-    fault_of_pss_algorithm fault_of_oaep_algorithm lemma_pss_spellings lemma_oaep_spellings lemma_params_decode
-    lemma_algorithms lemma_bare_params_take_no_memory""".split()
+    default default_in new new_with_label label_fits label uses_hash is_hash means_same is_same_hash fault_of_pss_params
+    fault_of_oaep_params fault_of_pss_algorithm fault_of_oaep_algorithm lemma_pss_spellings lemma_oaep_spellings
+    lemma_params_decode lemma_algorithms lemma_bare_params_take_no_memory""".split()
 PUBLIC_KEY = {"pkcs1": "public_key"}
 ERRORS = {*"exact no_primes fault encodes lemma_keys_decode lemma_containers_decode lemma_params_decode".split()}
 ERRORS |= {f"lemma_algorithms {what}{of}" for what in ("", "strict_", "faults_", "first_") for of in ("pss", "oaep")}

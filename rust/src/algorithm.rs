@@ -97,6 +97,21 @@ impl<P: Held, O: Identifier> AlgorithmIdentifier<P, O> {
         self.as_view().is_hash::<D>()
     }
 
+    /// Whether both are the same hash function: the identifiers are equal, and so are the parameters, where NULL and
+    /// none are alike.
+    ///
+    /// ```
+    /// use pkcs1::{RsaPssParamsRef, Sha256, spki::AlgorithmIdentifier};
+    ///
+    /// let with_null = RsaPssParamsRef::new::<Sha256>(32).hash;
+    /// let without = AlgorithmIdentifier { parameters: None, ..with_null };
+    /// assert!(with_null.is_same_hash(&without) && with_null != without);
+    /// ```
+    #[must_use]
+    pub fn is_same_hash<Q: Held, R: Identifier>(&self, other: &AlgorithmIdentifier<Q, R>) -> bool {
+        self.as_view().is_same_hash(&other.as_view())
+    }
+
     /// The parameters.
     ///
     /// # Errors

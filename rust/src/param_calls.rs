@@ -77,6 +77,22 @@ macro_rules! parameters {
                 self.view().uses_hash::<D>()
             }
 
+            /// Whether both mean the same: all fields are equal, where a hash function with NULL and one without
+            /// parameters are alike, in the mask generation function too. `==` tells these apart.
+            ///
+            /// ```
+            #[doc = concat!("use pkcs1::{", stringify!($reference), ", spki::AlgorithmIdentifier};")]
+            ///
+            #[doc = concat!("let params = ", stringify!($reference), "::default();")]
+            /// let hash = AlgorithmIdentifier { parameters: None, ..params.hash };
+            #[doc = concat!("let other = ", stringify!($reference), " { hash, ..params };")]
+            /// assert!(params.means_same(&other) && params != other);
+            /// ```
+            #[must_use]
+            pub fn means_same<Q: Held, R: Identifier>(&self, other: &$name<Q, R>) -> bool {
+                self.view().means_same(&other.view())
+            }
+
             /// How many fields equal their defaults.
             #[must_use]
             pub fn default_fields(&self) -> u8 {

@@ -6,8 +6,8 @@ use pkcs1::der::asn1::AnyRef;
 use pkcs1::der::{Encode, ErrorKind, Tag, oid::AssociatedOid};
 use pkcs1::spki::AlgorithmIdentifier;
 use pkcs1::{
-    Error, Mgf1, PSpecified, RsaOaepParamsRef, RsaPssParamsRef, Sha1, Sha3_256, Sha224, Sha256, Sha384, Sha512,
-    Sha512_224, Sha512_256, TrailerField,
+    Error, Mgf1, PSpecified, RsaOaepParamsRef, RsaPssParamsRef, RsaPssParamsView, Sha1, Sha3_256, Sha224, Sha256,
+    Sha384, Sha512, Sha512_224, Sha512_256, TrailerField,
 };
 
 #[test]
@@ -69,6 +69,36 @@ fn a_hash_function_is_told_by_its_identifier_with_null_or_without() {
         )* };
     }
     matrix! { Sha1 Sha224 Sha256 Sha384 Sha512 Sha512_224 Sha512_256 Sha3_256 }
+}
+
+#[test]
+fn parameters_mean_the_same_with_null_or_without_and_nothing_else_does() {
+    let (pss, oaep) = (RsaPssParamsRef::new::<Sha256>(32), RsaOaepParamsRef::new_with_label::<Sha256>(b"label"));
+    let (hash, mgf1) = (pss.hash, pss.mask_gen);
+    let with = |parameters| AlgorithmIdentifier { parameters, ..hash };
+    let under = |parameters| AlgorithmIdentifier { parameters, ..mgf1 };
+    let (zero, one) = (with(AnyRef::new(Tag::NULL, &[0]).ok()), with(AnyRef::new(Tag::NULL, &[1]).ok()));
+    let other = RsaPssParamsRef::new::<Sha384>(32);
+    for (hash, mask_gen, same) in [
+        (hash, mgf1, true),
+        (with(None), under(Some(with(None))), true),
+        (other.hash, mgf1, false),
+        (zero, mgf1, false),
+        (hash, other.mask_gen, false),
+        (hash, under(Some(zero)), false),
+        (hash, under(None), false),
+        (hash, AlgorithmIdentifier { oid: PSpecified::OID, ..mgf1 }, false),
+    ] {
+        let (one, two) = (RsaPssParamsRef { hash, mask_gen, ..pss }, RsaOaepParamsRef { hash, mask_gen, ..oaep });
+        assert_eq!((pss.means_same(&one), one.means_same(&pss)), (same, same));
+        assert_eq!((oaep.means_same(&two), two.means_same(&oaep)), (same, same));
+        assert!(one.means_same(&one) && two.means_same(&two));
+    }
+    assert!(zero.is_same_hash(&zero) && !zero.is_same_hash(&one) && !zero.is_same_hash(&with(None)));
+    assert!(!pss.means_same(&RsaPssParamsRef::new::<Sha256>(33)));
+    assert!(!oaep.means_same(&RsaOaepParamsRef::new_with_label::<Sha256>(b"Label")));
+    let mut room = [0; 100];
+    assert!(pss.means_same(&RsaPssParamsView::try_from(pss.encode_to_slice(&mut room).unwrap()).unwrap()));
 }
 
 #[test]

@@ -1,7 +1,7 @@
 //! hashAlgorithm and maskGenAlgorithm, which both sets of parameters begin with.
 ghost use Rattle.std.specs.Prelude.{Decides, ◌≡◌, bytes_eq};
 ghost use Rattle.spki_core.specs.Words.{null_value, algorithm_in, mask_in};
-ghost use Rattle.pkcs1_params.specs.Words.{UsesHash, id_mgf1, id_sha1, pkcs1_algorithm, with_parameters};
+ghost use Rattle.pkcs1_params.specs.Words.{AreSameMask, UsesHash, id_mgf1, id_sha1, pkcs1_algorithm, with_parameters};
 
 use crate::hash_functions::Mgf1;
 use der_core::{Memory, Tag};
@@ -96,4 +96,21 @@ pub(crate) fn uses_hash<D: AssociatedOid, O: IdentifierValue, P: AnyValue>(
         }
         None => false,
     }
+}
+
+/// Whether two mask generation functions mean the same: the identifiers are equal, and `is_same_hash` is true of the
+/// hash functions, or both have none.
+pub(crate) fn is_same_mask<O: IdentifierValue, P: AnyValue, Q: IdentifierValue, R: AnyValue>(
+    a: &MaskGenOf<O, P>,
+    b: &MaskGenOf<Q, R>,
+) -> bool
+    ensures { let other = mask_in Q.octets R.any b.now in
+        Decides result (AreSameMask (mask_in O.octets P.any a.now) other) }
+{
+    let same_hash = match (&a.parameters, &b.parameters) {
+        (Some(a), Some(b)) => a.is_same_hash(b),
+        (None, None) => true,
+        _ => false,
+    };
+    same_hash && a.oid.as_identifier_view().as_bytes() == b.oid.as_identifier_view().as_bytes()
 }

@@ -1,6 +1,6 @@
 //! pSourceAlgorithm, the source of the label of RSAES-OAEP (RFC 8017 A.2.1): parameters with a label, how long it may
 //! be, and the label of parameters.
-ghost use Rattle.std.specs.Prelude.{option_map, ◌≡◌, ◌≤◌, ⊤, false, length, refl, true, ℕ, List, bytes_eq};
+ghost use Rattle.std.specs.Prelude.{option_map, ◌≡◌, ◌≤◌, ⊤, false, length, refl, true, ℕ, List, bytes_eq, Decides};
 ghost use Rattle.der_core.specs.Words.{AreBytes, Counts, limit, tlv};
 ghost use Rattle.spki_core.specs.Words.{algorithm_in, algorithm_of, any_of, viewed_with};
 ghost use Rattle.pkcs1_params.specs.Words.{CountsLabelled, LabelFits, LabelOf, NoLabelFits, id_p_specified, labelled, oaep_of, oaep_viewed, oaep_with, octets_value, with_parameters, written_source};
@@ -60,6 +60,16 @@ pub(crate) fn label_of<'a>(source: &AlgorithmView<'a, AnyRef<'a>>) -> Option<&'a
         }
         _ => None,
     }
+}
+
+/// Whether two sources are equal.
+pub(crate) fn is_same_source(
+    a: &AlgorithmView<'_, AnyRef<'_>>,
+    b: &AlgorithmView<'_, AnyRef<'_>>,
+) -> bool
+    ensures { Decides result (viewed_with any_of a.now ≡ viewed_with any_of b.now) }
+{
+    a.oid.as_bytes() == b.oid.as_bytes() && a.parameters == b.parameters
 }
 
 /// pSpecified with this label.

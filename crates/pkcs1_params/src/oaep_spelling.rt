@@ -6,8 +6,9 @@ ghost use Rattle.standard.specs.Statement.{Defaults, FieldsUnder, IsOaep, IsShor
 
 use crate::error::Result;
 use crate::fields::{FieldRef, FieldThen, NoField};
-use crate::hash_fields::{MaskGenOf, uses_hash};
+use crate::hash_fields::{MaskGenOf, is_same_mask, uses_hash};
 use crate::holders::{MaskHolder, PlainHolder};
+use crate::label::is_same_source;
 use crate::listing::all_spellings;
 use crate::oaep::OaepParamsOf;
 use crate::spelling::{EncodeParams, count_defaults};
@@ -60,7 +61,7 @@ impl<'b, O: IdentifierValue, P: AnyValue> EncodeParams for &'b OaepParamsOf<O, P
 
 impl<O: IdentifierValue, P: AnyValue> OaepParamsOf<O, P> {
     ghost use Rattle.std.specs.Prelude.{Decides};
-    ghost use Rattle.pkcs1_params.specs.Words.{UsesHash};
+    ghost use Rattle.pkcs1_params.specs.Words.{AreSameOaep, UsesHash};
 
     /// Whether the hash function is D, and the mask generation function is MGF1 with D: each of them by `is_hash`, so
     /// with NULL or without parameters.
@@ -69,6 +70,17 @@ impl<O: IdentifierValue, P: AnyValue> OaepParamsOf<O, P> {
             Decides result (UsesHash D.contents params.hash params.mask_gen) }
     {
         uses_hash::<D, O, P>(&self.hash, &self.mask_gen)
+    }
+
+    /// Whether both mean the same: all fields are equal, where a hash function with NULL and one without parameters are
+    /// alike, in the mask generation function too. `==` tells these apart.
+    pub fn means_same<Q: IdentifierValue, R: AnyValue>(&self, other: &OaepParamsOf<Q, R>) -> bool
+        ensures { let other = oaep_in Q.octets R.any other.now in
+            Decides result (AreSameOaep (oaep_in O.octets P.any self.now) other) }
+    {
+        self.hash.is_same_hash(&other.hash)
+            && is_same_mask(&self.mask_gen, &other.mask_gen)
+            && is_same_source(&self.p_source.as_view(), &other.p_source.as_view())
     }
 
     /// How many fields equal their defaults.

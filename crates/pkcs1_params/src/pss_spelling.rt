@@ -6,7 +6,7 @@ ghost use Rattle.standard.specs.Statement.{Defaults, FieldsUnder, IsPss, IsShort
 
 use crate::error::Result;
 use crate::fields::{FieldRef, FieldThen, NoField};
-use crate::hash_fields::{MaskGenOf, uses_hash};
+use crate::hash_fields::{MaskGenOf, is_same_mask, uses_hash};
 use crate::holders::{MaskHolder, PlainHolder};
 use crate::listing::all_spellings;
 use crate::pss::{PssParamsOf, RsaPssParamsRef};
@@ -67,7 +67,7 @@ impl<'b, O: IdentifierValue, P: AnyValue> EncodeParams for &'b PssParamsOf<O, P>
 
 impl<O: IdentifierValue, P: AnyValue> PssParamsOf<O, P> {
     ghost use Rattle.std.specs.Prelude.{Decides};
-    ghost use Rattle.pkcs1_params.specs.Words.{UsesHash};
+    ghost use Rattle.pkcs1_params.specs.Words.{AreSamePss, UsesHash};
 
     /// Whether the hash function is D, and the mask generation function is MGF1 with D: each of them by `is_hash`, so
     /// with NULL or without parameters.
@@ -76,6 +76,18 @@ impl<O: IdentifierValue, P: AnyValue> PssParamsOf<O, P> {
             Decides result (UsesHash D.contents params.hash params.mask_gen) }
     {
         uses_hash::<D, O, P>(&self.hash, &self.mask_gen)
+    }
+
+    /// Whether both mean the same: all fields are equal, where a hash function with NULL and one without parameters are
+    /// alike, in the mask generation function too. `==` tells these apart.
+    pub fn means_same<Q: IdentifierValue, R: AnyValue>(&self, other: &PssParamsOf<Q, R>) -> bool
+        ensures { let other = pss_in Q.octets R.any other.now in
+            Decides result (AreSamePss (pss_in O.octets P.any self.now) other) }
+    {
+        self.hash.is_same_hash(&other.hash)
+            && is_same_mask(&self.mask_gen, &other.mask_gen)
+            && self.salt_len == other.salt_len
+            && self.trailer_field == other.trailer_field
     }
 
     /// How many fields equal their defaults.

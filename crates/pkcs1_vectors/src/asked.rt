@@ -1,9 +1,11 @@
-//! What a verifier and a receiver ask of parameters: the hash function, and the label.
+//! What a verifier and a receiver ask of parameters: the hash function, whether two mean the same, and the label.
 use crate::told::{PrintedError, Told};
+use der_core::{Decode, NoMemory};
 use pkcs1::{
     RsaOaepParamsRef, RsaOaepParamsView, RsaPssParamsRef, RsaPssParamsView, Sha1, Sha224, Sha256,
     Sha384, Sha512, Sha512_224, Sha512_256,
 };
+use spki_core::{AlgorithmIdentifierRef, AlgorithmView, AnyRef};
 
 /// Whether the parameters use each of `NAMES`.
 macro_rules! uses_each {
@@ -66,6 +68,45 @@ pub fn oaep_hash(to: &mut Told, bytes: &[u8]) {
         Ok(params) => names(to, &uses_each!(params)),
         Err(error) => error.told(to),
     }
+}
+
+/// The answer to a question about two that were read, or the first error of reading them.
+macro_rules! of_both {
+    ($to:expr, $first:expr, $question:ident, $second:expr) => {
+        match ($first, $second) {
+            (Ok(one), Ok(other)) => $to.yes_or_no(one.$question(&other)),
+            (Err(error), _) | (Ok(_), Err(error)) => error.told($to),
+        }
+    };
+}
+
+/// `same-hash HEX HEX`: whether two algorithm identifiers are the same hash function.
+pub fn same_hash(to: &mut Told, first: &[u8], second: &[u8]) {
+    let view = AlgorithmView::<AnyRef>::from_der(NoMemory, second);
+    let read = AlgorithmIdentifierRef::from_der(NoMemory, first);
+    of_both!(to, read, is_same_hash, view);
+    to.way("view");
+    let view = AlgorithmView::<AnyRef>::from_der(NoMemory, first);
+    let read = AlgorithmIdentifierRef::from_der(NoMemory, second);
+    of_both!(to, view, is_same_hash, read);
+}
+
+/// `pss-means-same HEX HEX`: whether two encodings of PSS parameters mean the same.
+pub fn pss_means_same(to: &mut Told, first: &[u8], second: &[u8]) {
+    let view = RsaPssParamsView::try_from(second);
+    of_both!(to, RsaPssParamsRef::try_from(first), means_same, view);
+    to.way("view");
+    let view = RsaPssParamsView::try_from(first);
+    of_both!(to, view, means_same, RsaPssParamsRef::try_from(second));
+}
+
+/// `oaep-means-same HEX HEX`: whether two encodings of OAEP parameters mean the same.
+pub fn oaep_means_same(to: &mut Told, first: &[u8], second: &[u8]) {
+    let view = RsaOaepParamsView::try_from(second);
+    of_both!(to, RsaOaepParamsRef::try_from(first), means_same, view);
+    to.way("view");
+    let view = RsaOaepParamsView::try_from(first);
+    of_both!(to, view, means_same, RsaOaepParamsRef::try_from(second));
 }
 
 /// The label in hexadecimal digits, `-` if it is empty.

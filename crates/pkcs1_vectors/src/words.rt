@@ -238,6 +238,9 @@ pub fn of_texts(to: &mut Told, word: &str, first: &[u8], second: &[u8]) -> bool 
         "assert-oid" => algorithms::asserted(to, first, second),
         "pss-same" => parameters::pss_same(to, first, second),
         "oaep-same" => parameters::oaep_same(to, first, second),
+        "same-hash" => asked::same_hash(to, first, second),
+        "pss-means-same" => asked::pss_means_same(to, first, second),
+        "oaep-means-same" => asked::oaep_means_same(to, first, second),
         _ => return false,
     }
     true

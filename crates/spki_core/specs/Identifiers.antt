@@ -2,7 +2,7 @@
 -- `Statement.antt` says what they are, and what object identifiers are (X.690 8.19).
 --
 --     SEQUENCE { algorithm OBJECT IDENTIFIER, parameters ANY DEFINED BY algorithm OPTIONAL }
-use Rattle.std.specs.Prelude.{ℕ, Bool, List, [], Some, None, ◌≡◌, ◌⊎◌, ◌++◌, ◌&&◌, eqb, option_map, bytes_eq}
+use Rattle.std.specs.Prelude.{ℕ, Bool, List, [], Option, Some, None, ◌≡◌, ◌⊎◌, ◌++◌, ◌&&◌, eqb, option_map, bytes_eq}
 use Rattle.std.specs.Option.{option_eq}
 use Rattle.der_core.specs.Words.{object_identifier_tag, tlv}
 use Rattle.standard.specs.Statement.{optional}
@@ -33,7 +33,17 @@ same_plain = same_algorithm same_any
 abbrev pub same_mask : Algorithm (Algorithm TagAndContents) → Algorithm (Algorithm TagAndContents) → Bool
 same_mask = same_algorithm same_plain
 
--- The hash function with this identifier, which algorithm identifiers name in two ways (RFC 4055 2.1): its parameters
--- are absent, or NULL.
+-- NULL or absent parameters, which mean the same of a hash function (RFC 4055 2.1).
+abbrev pub AreNullOrAbsent : Option TagAndContents → Type 0
+AreNullOrAbsent parameters = (parameters ≡ None) ⊎ (parameters ≡ Some null_value)
+
+-- The hash function with this identifier, which algorithm identifiers name in two ways.
 abbrev pub IsHash : List ℕ → Algorithm TagAndContents → Type 0
-IsHash oid a = (a.oid ≡ oid) × ((a.parameters ≡ None) ⊎ (a.parameters ≡ Some null_value))
+IsHash oid a = (a.oid ≡ oid) × AreNullOrAbsent a.parameters
+
+-- Two algorithm identifiers of the same hash function: the identifiers are equal, and so are the parameters, or they are
+-- NULL or absent in both.
+abbrev pub AreSameHash : Algorithm TagAndContents → Algorithm TagAndContents → Type 0
+AreSameHash a b =
+    (a.oid ≡ b.oid)
+    × ((a.parameters ≡ b.parameters) ⊎ (AreNullOrAbsent a.parameters × AreNullOrAbsent b.parameters))

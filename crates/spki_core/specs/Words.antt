@@ -5,7 +5,7 @@ pub use Rattle.spki_core.specs.Explicit.{FieldRead, HasNumbered, Numbered, numbe
 pub use Rattle.spki_core.specs.FieldSpellings.{AreLawful, AreNumbered, AreSpelled, FieldRecord, Kind, Spelling, Values, WrittenField, are_defaults, defaults, defaults_in, field, field_with, fields_of, fields_with, first_written, meant, octets_under, one_spelled, or_default, out_under, record_fields, record_means, record_read, record_strictly, record_under, record_whole, rest_under, spelled, spelling_read, strict_contents, strict_slice, strict_value, strict_whole, tag_of, under, upto, values_read}
 pub use Rattle.spki_core.specs.HeldValues.{any_of, octets_of, own_any_of, own_octets_of}
 pub use Rattle.spki_core.specs.IdentifierTest.{ends_well, has_no_128, is_identifier, starts_at}
-pub use Rattle.spki_core.specs.Identifiers.{Algorithm, IsAny, IsHash, IsIdentifier, TagAndContents, algorithm_contents, algorithm_map, null_value, same_any, same_mask, same_plain, written_any}
+pub use Rattle.spki_core.specs.Identifiers.{Algorithm, AreNullOrAbsent, AreSameHash, IsAny, IsHash, IsIdentifier, TagAndContents, algorithm_contents, algorithm_map, null_value, same_any, same_mask, same_plain, written_any}
 pub use Rattle.spki_core.specs.Readings.{algorithm_read, any, any_as, defaulted, explicit, identifier_read, numbered, opaque}
 pub use Rattle.spki_core.specs.StrictFields.{behind_any, first_default, noncanonical, number_in, unless_found, walked}
 pub use Rattle.spki_core.specs.Laws.AnyValues.{Carried, HoldsAny, algorithm_decides, any_decides, holds_decides, holds_itself, same_carried, same_mask_decides, same_plain_decides}

@@ -1,6 +1,7 @@
 //! Algorithm identifiers (RFC 5280 4.1.1.2).
 ghost use Rattle.std.specs.Prelude.{◌≡◌, ◌≢◌, refl, IfOk, IfErr, IfSome, IsOk, option_map, Some, None, Decides};
-ghost use Rattle.spki_core.specs.Words.{Algorithm, AllocatesForParameters, IsHash, NothingAskedAlone, TagAndContents, algorithm_alike, algorithm_contents, algorithm_decides, algorithm_in, algorithm_law, algorithm_map, algorithm_read, algorithm_with, algorithm_writes_shortest, any_of, octets_of, own_octets_of, viewed_with};
+ghost use Rattle.std.specs.Option.{unwrap_or};
+ghost use Rattle.spki_core.specs.Words.{Algorithm, AllocatesForParameters, AreSameHash, IsHash, NothingAskedAlone, TagAndContents, algorithm_alike, algorithm_contents, algorithm_decides, algorithm_in, algorithm_law, algorithm_map, algorithm_read, algorithm_with, algorithm_writes_shortest, any_of, null_value, octets_of, own_octets_of, viewed_with};
 ghost use Rattle.standard.specs.Statement as standard;
 
 use crate::any::{AnyRef, AnyValue};
@@ -240,11 +241,32 @@ impl<O: IdentifierValue, P: AnyValue> AlgorithmIdentifierOf<O, P> {
     pub fn is_hash<D: AssociatedOid>(&self) -> bool
         ensures { Decides result (IsHash D.contents (algorithm_in O.octets P.any self.now)) }
     {
-        let plain = match &self.parameters {
-            None => true,
-            Some(parameters) => parameters.as_any_ref() == AnyRef::null(),
-        };
-        plain && self.oid.as_identifier_view().as_bytes() == D::octets()
+        self.oid.as_identifier_view().as_bytes() == D::octets()
+            && self.parameters_or_null() == AnyRef::null()
+    }
+
+    /// Whether both are the same hash function: the identifiers are equal, and so are the parameters, where NULL and
+    /// none are alike.
+    pub fn is_same_hash<Q: IdentifierValue, R: AnyValue>(
+        &self,
+        other: &AlgorithmIdentifierOf<Q, R>,
+    ) -> bool
+        ensures { let other = algorithm_in Q.octets R.any other.now in
+            Decides result (AreSameHash (algorithm_in O.octets P.any self.now) other) }
+    {
+        self.oid.as_identifier_view().as_bytes() == other.oid.as_identifier_view().as_bytes()
+            && self.parameters_or_null() == other.parameters_or_null()
+    }
+
+    /// The parameters, borrowed, or NULL if there are none.
+    #[inline(always)]
+    fn parameters_or_null(&self) -> AnyRef<'_>
+        ensures { any_of result ≡ unwrap_or (option_map P.any self.now.parameters) null_value }
+    {
+        match &self.parameters {
+            Some(parameters) => parameters.as_any_ref(),
+            None => AnyRef::null(),
+        }
     }
 
     /// The parameters, borrowed, or `ParametersMissing` if there are none.

@@ -81,3 +81,17 @@ pub(crate) fn uses_hash<D: AssociatedOid, O: IdentifierValue, P: AnyValue>(
         None => false,
     }
 }
+
+/// Whether two mask generation functions mean the same: the identifiers are equal, and `is_same_hash` is true of the
+/// hash functions, or both have none.
+pub(crate) fn is_same_mask<O: IdentifierValue, P: AnyValue, Q: IdentifierValue, R: AnyValue>(
+    a: &MaskGenOf<O, P>,
+    b: &MaskGenOf<Q, R>,
+) -> bool {
+    let same_hash = match (&a.parameters, &b.parameters) {
+        (Some(a), Some(b)) => a.is_same_hash(b),
+        (None, None) => true,
+        _ => false,
+    };
+    same_hash && a.oid.as_identifier_view().as_bytes() == b.oid.as_identifier_view().as_bytes()
+}

@@ -48,6 +48,14 @@ pub(crate) fn label_of<'a>(source: &AlgorithmView<'a, AnyRef<'a>>) -> Option<&'a
     }
 }
 
+/// Whether two sources are equal.
+pub(crate) fn is_same_source(
+    a: &AlgorithmView<'_, AnyRef<'_>>,
+    b: &AlgorithmView<'_, AnyRef<'_>>,
+) -> bool {
+    a.oid.as_bytes() == b.oid.as_bytes() && a.parameters == b.parameters
+}
+
 /// pSpecified with this label.
 pub(crate) fn source_of<'a>(label: &'a [u8]) -> AlgorithmIdentifierRef<'a> {
     match AnyRef::new(Tag::OCTET_STRING, label) {

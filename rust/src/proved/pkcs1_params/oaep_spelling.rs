@@ -4,8 +4,9 @@
 use crate::rattle_std::prelude::Vec;
 use crate::proved::pkcs1_params::error::Result;
 use crate::proved::pkcs1_params::fields::{FieldRef, FieldThen, NoField};
-use crate::proved::pkcs1_params::hash_fields::{MaskGenOf, uses_hash};
+use crate::proved::pkcs1_params::hash_fields::{MaskGenOf, is_same_mask, uses_hash};
 use crate::proved::pkcs1_params::holders::{MaskHolder, PlainHolder};
+use crate::proved::pkcs1_params::label::is_same_source;
 use crate::proved::pkcs1_params::listing::all_spellings;
 use crate::proved::pkcs1_params::oaep::OaepParamsOf;
 use crate::proved::pkcs1_params::spelling::{EncodeParams, count_defaults};
@@ -51,6 +52,14 @@ impl<O: IdentifierValue, P: AnyValue> OaepParamsOf<O, P> {
     /// with NULL or without parameters.
     pub fn uses_hash<D: AssociatedOid>(&self) -> bool {
         uses_hash::<D, O, P>(&self.hash, &self.mask_gen)
+    }
+
+    /// Whether both mean the same: all fields are equal, where a hash function with NULL and one without parameters are
+    /// alike, in the mask generation function too. `==` tells these apart.
+    pub fn means_same<Q: IdentifierValue, R: AnyValue>(&self, other: &OaepParamsOf<Q, R>) -> bool {
+        self.hash.is_same_hash(&other.hash)
+            && is_same_mask(&self.mask_gen, &other.mask_gen)
+            && is_same_source(&self.p_source.as_view(), &other.p_source.as_view())
     }
 
     /// How many fields equal their defaults.

@@ -4,7 +4,7 @@
 use crate::rattle_std::prelude::Vec;
 use crate::proved::pkcs1_params::error::Result;
 use crate::proved::pkcs1_params::fields::{FieldRef, FieldThen, NoField};
-use crate::proved::pkcs1_params::hash_fields::{MaskGenOf, uses_hash};
+use crate::proved::pkcs1_params::hash_fields::{MaskGenOf, is_same_mask, uses_hash};
 use crate::proved::pkcs1_params::holders::{MaskHolder, PlainHolder};
 use crate::proved::pkcs1_params::listing::all_spellings;
 use crate::proved::pkcs1_params::pss::{PssParamsOf, RsaPssParamsRef};
@@ -58,6 +58,15 @@ impl<O: IdentifierValue, P: AnyValue> PssParamsOf<O, P> {
     /// with NULL or without parameters.
     pub fn uses_hash<D: AssociatedOid>(&self) -> bool {
         uses_hash::<D, O, P>(&self.hash, &self.mask_gen)
+    }
+
+    /// Whether both mean the same: all fields are equal, where a hash function with NULL and one without parameters are
+    /// alike, in the mask generation function too. `==` tells these apart.
+    pub fn means_same<Q: IdentifierValue, R: AnyValue>(&self, other: &PssParamsOf<Q, R>) -> bool {
+        self.hash.is_same_hash(&other.hash)
+            && is_same_mask(&self.mask_gen, &other.mask_gen)
+            && self.salt_len == other.salt_len
+            && self.trailer_field == other.trailer_field
     }
 
     /// How many fields equal their defaults.

@@ -186,11 +186,27 @@ impl<O: IdentifierValue, P: AnyValue> AlgorithmIdentifierOf<O, P> {
     /// Whether this is the hash function D: its identifier, with NULL or without parameters. Both mean the same
     /// function (RFC 4055 2.1), though `==` tells them apart.
     pub fn is_hash<D: AssociatedOid>(&self) -> bool {
-        let plain = match &self.parameters {
-            None => true,
-            Some(parameters) => parameters.as_any_ref() == AnyRef::null(),
-        };
-        plain && self.oid.as_identifier_view().as_bytes() == D::octets()
+        self.oid.as_identifier_view().as_bytes() == D::octets()
+            && self.parameters_or_null() == AnyRef::null()
+    }
+
+    /// Whether both are the same hash function: the identifiers are equal, and so are the parameters, where NULL and
+    /// none are alike.
+    pub fn is_same_hash<Q: IdentifierValue, R: AnyValue>(
+        &self,
+        other: &AlgorithmIdentifierOf<Q, R>,
+    ) -> bool {
+        self.oid.as_identifier_view().as_bytes() == other.oid.as_identifier_view().as_bytes()
+            && self.parameters_or_null() == other.parameters_or_null()
+    }
+
+    /// The parameters, borrowed, or NULL if there are none.
+    #[inline(always)]
+    fn parameters_or_null(&self) -> AnyRef<'_> {
+        match &self.parameters {
+            Some(parameters) => parameters.as_any_ref(),
+            None => AnyRef::null(),
+        }
     }
 
     /// The parameters, borrowed, or `ParametersMissing` if there are none.
