@@ -20,7 +20,7 @@ c_test() {
     name=$1
     shift
     $CC ${CFLAGS-} -std=c99 -Iffi/include ffi/c/test.c ffi/c/rows.c ffi/c/large.c "$@" -o "$tests/$name"
-    ${RUN-} "$tests/$name" ffi/tests/statuses
+    ${RUN-} "$tests/$name" crates/pkcs1_vectors/stdin
 }
 # windows and archive: the C test with what was built for these.
 windows() {
