@@ -74,8 +74,9 @@ watched() {
         say "there is no valgrind for this program: the tool's memory isn't watched"
         return
     }
-    sed -e '/^#/d' -e '/^$/d' -e 's/ => .*//' crates/pkcs1_tool/rows > "$tests/lines"
-    sed -e '/^#/d' -e '/^$/d' -e 's/^.* => //' crates/pkcs1_tool/rows > "$tests/answers"
+    crates/pkcs1_tool/all_rows.sh > "$tests/rows"
+    sed 's/ => .*//' "$tests/rows" > "$tests/lines"
+    sed 's/^.* => //' "$tests/rows" > "$tests/answers"
     watch < "$tests/lines" > "$tests/printed"
     cmp "$tests/answers" "$tests/printed"
     watch copy priv ffi/tests/keys/priv3.der "$tests/copied"
