@@ -13,21 +13,21 @@ use pkcs1::{
 };
 
 type Written = Result<Vec<u8>, Error>;
+/// What is written again, or the text of the error's kind.
+type Outcome = Result<Vec<u8>, String>;
 
-const KINDS: [&str; 11] = [
-    "pub", "priv", "info", "pss", "pss-strict", "pss-algorithm", "pss-algorithm-strict", "oaep", "oaep-strict",
-    "oaep-algorithm", "oaep-algorithm-strict",
-];
+const KINDS: &str = "pub priv info pss pss-strict pss-algorithm pss-algorithm-strict \
+                     oaep oaep-strict oaep-algorithm oaep-algorithm-strict";
 
-/// Each row whose word is a kind: it, the DER, and what is written again, or the text of the error. Of a container that
-/// is accepted, a row may say that its key is refused.
-fn rows() -> Vec<(&'static str, Vec<u8>, Result<Vec<u8>, String>)> {
+/// Each row whose word is a kind: it, the DER and the outcome. Of a container that is accepted, a row may say that its
+/// key is refused.
+fn rows() -> Vec<(&'static str, Vec<u8>, Outcome)> {
     let path = concat!(env!("CARGO_MANIFEST_DIR"), "/../crates/pkcs1_vectors/stdin");
     let table = std::fs::read_to_string(path).unwrap();
     let rows = table.lines().filter_map(|line| {
         let (asked, answer) = line.split_once(" = ")?;
         let (word, digits) = asked.split_once(' ')?;
-        let kind = KINDS.into_iter().find(|kind| *kind == word)?;
+        let kind = KINDS.split(' ').find(|kind| *kind == word)?;
         let outcome = match answer.split_once("refused: ") {
             Some((_, text)) => Err(text.to_string()),
             None => Ok(octets(answer.split_once(" again=").map_or(digits, |(_, again)| again))),
@@ -42,8 +42,8 @@ fn octets(digits: &str) -> Vec<u8> {
     (0..digits.len()).step_by(2).map(|at| u8::from_str_radix(&digits[at..at + 2], 16).unwrap()).collect()
 }
 
-/// What is written, or the text of the error's kind, with which the printed error ends.
-fn outcome_of(written: &Written) -> Result<Vec<u8>, String> {
+/// The outcome as a row has it. The printed error ends with the text of its kind.
+fn outcome_of(written: &Written) -> Outcome {
     written.clone().map_err(|error| {
         let Error::Asn1(inner) = error else { panic!("{error}") };
         let text = inner.kind().to_string();
