@@ -20,7 +20,7 @@ c_test() {
     name=$1
     shift
     $CC ${CFLAGS-} -std=c99 -Iffi/include ffi/c/test.c ffi/c/rows.c ffi/c/large.c "$@" -o "$tests/$name"
-    ${RUN-} "$tests/$name" ffi/tests/statuses
+    ${RUN-} "$tests/$name" crates/pkcs1_vectors/stdin
 }
 # windows and archive: the C test with what was built for these.
 windows() {
@@ -74,8 +74,9 @@ watched() {
         say "there is no valgrind for this program: the tool's memory isn't watched"
         return
     }
-    sed -e '/^#/d' -e '/^$/d' -e 's/ => .*//' crates/pkcs1_tool/rows > "$tests/lines"
-    sed -e '/^#/d' -e '/^$/d' -e 's/^.* => //' crates/pkcs1_tool/rows > "$tests/answers"
+    crates/pkcs1_tool/all_rows.sh > "$tests/rows"
+    sed 's/ => .*//' "$tests/rows" > "$tests/lines"
+    sed 's/^.* => //' "$tests/rows" > "$tests/answers"
     watch < "$tests/lines" > "$tests/printed"
     cmp "$tests/answers" "$tests/printed"
     watch copy priv ffi/tests/keys/priv3.der "$tests/copied"

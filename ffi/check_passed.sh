@@ -9,4 +9,4 @@ wraps=$(sed -nE 's/^(EACH|TEST|COUNT|FILL|COMPARE)\(([a-z0-9_]*),.*/-Wl,--wrap=\
 # shellcheck disable=SC2086
 $CC ${CFLAGS-} -fno-lto -std=c99 "-I$here/include" "$here/c/test.c" "$here/c/rows.c" "$here/c/large.c" "$here/c/passed.c" \
     "$out/calls.o" "$out/proved.o" $wraps -o "$program"
-${RUN-} "$program" "$here/tests/statuses"
+${RUN-} "$program" "$here/../crates/pkcs1_vectors/stdin"

@@ -55,7 +55,7 @@ stack_suffices() {
 stack_suffices_in_tests() {
     # shellcheck disable=SC2046,SC2086
     link "$1" stack "$room"/{stack,painted,test,rows,large}.o ${coders//pkcs1_/-Wl,--wrap=pkcs1_} &&
-        "$1/stack" ffi/tests/statuses > "$1/taken" && takes "$1" $(sed -n 's/^stack //p' "$1/taken")
+        "$1/stack" crates/pkcs1_vectors/stdin > "$1/taken" && takes "$1" $(sed -n 's/^stack //p' "$1/taken")
 }
 keeps_nothing() {
     ffi/check_object.sh "$1"

@@ -5,7 +5,7 @@
 set -eu
 here=$(cd "$(dirname "$0")" && pwd)
 out=$here/out
-statuses=$here/tests/statuses
+rows=$here/../crates/pkcs1_vectors/stdin
 CC=${CC:-gcc} CXX=${CXX:-g++}
 room=$(mktemp -d)
 trap 'rm -rf "$room"' EXIT
@@ -51,23 +51,23 @@ for compiler in $clang "$CC"; do
         signature_algorithm; do
         "$compiler" -std=c99 "${flags[@]}" "$here/c/$name.c" "$out/libpkcs1.a" -o "$room/$name"
     done
-    "$room/test" "$statuses"
+    "$room/test" "$rows"
     "$room/sizes"
     "$room/many_keys" 2000 > "$room/log"
 done
 "$CC" -std=c11 "${flags[@]}" -fsanitize=address,undefined -fno-sanitize-recover=all "${test[@]}" "$here/c/pkcs1.c" \
     "$out/proved.o" -o "$room/sanitized"
-"$room/sanitized" "$statuses"
+"$room/sanitized" "$rows"
 CFLAGS=$warned "$here/check_passed.sh" "$out" "$room/passed"
 CFLAGS=$warned "$here/check_freestanding.sh" "$out" "$room/freestanding"
 CFLAGS=-O2 "$here/check_sizes.sh" "$out"
 "$here/check_object.sh" "$out"
 "$CC" -std=c99 "${flags[@]}" "${test[@]}" "-L$out" -lpkcs1 -Wl,-rpath,"$out" -o "$room/test_shared"
-"$room/test_shared" "$statuses"
+"$room/test_shared" "$rows"
 "$CC" -std=c99 "${flags[@]}" "$here/c/dlopen.c" -ldl -o "$room/dlopen"
 "$room/dlopen" "$out/libpkcs1.so"
 if have valgrind "the C test runs under the sanitizers alone"; then
-    valgrind --quiet --error-exitcode=9 --leak-check=full "$room/test" "$statuses"
+    valgrind --quiet --error-exitcode=9 --leak-check=full "$room/test" "$rows"
 fi
 [ -z "$clang" ] || "$here/fuzz/run.sh" 10 "$out"
 conduct=$here/conduct.sh

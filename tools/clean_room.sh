@@ -280,7 +280,7 @@ one_file() {
     cc ffi/c/modulus.c "$room/one file/pkcs1_all.c" "-I$room/one file" -o "$room/own"
     prints "$room/own"
     cc ffi/c/{test,rows,large}.c "$room/one file/pkcs1_all.c" "-I$room/one file" -Iffi/include -o "$room/own_test"
-    "$room/own_test" ffi/tests/statuses
+    "$room/own_test" crates/pkcs1_vectors/stdin
 }
 # parts FOLDER: the list of a release's parts has each crate whose functions PROVENANCE counts, and the hashes of the
 # compilers.

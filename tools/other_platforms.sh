@@ -13,7 +13,7 @@ leave() {
     rm -rf "$room"
 }
 trap leave EXIT
-rows=$PWD/ffi/tests/statuses
+rows=$PWD/crates/pkcs1_vectors/stdin
 tests=(-Iffi/include ffi/c/{test,rows,large}.c)
 wasi=(clang --target=wasm32-wasi --sysroot=/usr -I/usr/include/wasm32-wasi)
 node=(node --no-warnings "$PWD/tools/wasi.mjs")

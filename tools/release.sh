@@ -15,7 +15,9 @@ contents=(
     ffi/c/{pkcs1,os,heap,test,rows,large,passed,freestanding,modulus,read_key,public_half}.c ffi/c/test.h
     docs/CLAIM.md ffi/c/bits.c ffi/{python,go}
     ffi/c/{many_keys,open_container,make_container,make_params,signature_algorithm}.c
-    crates/pkcs1_tool/{run_built.sh,copies.sh,refuse_memory.sh,refuse_memory.c,rows,stdin,stdout,pkcs1_tool.1}
+    crates/pkcs1_tool/{run_built,copies,refuse_memory,all_rows}.sh
+    crates/pkcs1_tool/{refuse_memory.c,rows,stdin,stdout,pkcs1_tool.1}
+    crates/pkcs1_vectors/stdin
     crates.txt ffi/prove.sh ffi/proof tools/{fresh.sh,generate.sh,generate,install.sh,count_definitions.py}
     tools/{platforms.sh,other_platforms.sh,wasi.mjs}
 )

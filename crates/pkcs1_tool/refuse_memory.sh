@@ -99,8 +99,9 @@ words() {
     some "the words $*"
 }
 
-sed -e '/^#/d' -e '/^$/d' -e 's/ => .*//' rows > "$room/lines"
-sed -e '/^#/d' -e '/^$/d' -e 's/^.* => //' rows > "$room/answers"
+./all_rows.sh > "$room/rows" || exit 1
+sed 's/ => .*//' "$room/rows" > "$room/lines"
+sed 's/^.* => //' "$room/rows" > "$room/answers"
 programs=0
 for program in "${built[@]}"; do
     if [ -x "$program" ]; then

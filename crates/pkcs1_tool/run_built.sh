@@ -20,7 +20,7 @@ fails() {
 
 # runs_on_rows: the output for the line of each row is that of the row.
 runs_on_rows() {
-    sed -e '/^#/d' -e '/^$/d' rows > "$room/rows"
+    ./all_rows.sh > "$room/rows" || fails "its rows can't be printed"
     sed -e 's/ => .*//' "$room/rows" > "$room/lines"
     sed -e 's/^.* => //' "$room/rows" > "$room/wanted"
     "$program" < "$room/lines" > "$room/answers" 2> "$room/error"
@@ -78,7 +78,7 @@ manual_is_right() {
     local version
     version=$(sed -n 's/^#define PKCS1_VERSION_[A-Z]* //p' ../../ffi/include/pkcs1.h | paste -s -d .)
     grep '^\.TH ' pkcs1_tool.1 | grep -q "\"pkcs1 $version\"" || fails "pkcs1_tool.1 has another version than $version"
-    grep -v '=> bad line' rows | sed -n 's/^\([a-z][a-z0-9-]*\) .*/\1/p' | sort -u > "$room/words"
+    grep -v '=> bad line' "$room/rows" | sed -n 's/^\([a-z][a-z0-9-]*\) .*/\1/p' | sort -u > "$room/words"
     grep '^\.BI ' pkcs1_tool.1 | grep -oE '[a-z][a-z0-9-]* "' | tr -d ' "' | sort | diff "$room/words" - ||
         fails "pkcs1_tool.1 has other words (>)"
 }
@@ -100,6 +100,6 @@ for program in "${programs[@]}"; do
         fails "it isn't there$builder"
     fi
 done
-echo "run_built: $(grep -vc -e '^#' -e '^$' rows) rows and ${less-}72 runs, of each program"
+echo "run_built: $(./all_rows.sh | wc -l) rows and ${less-}72 runs, of each program"
 echo "$passed passed, $failed failed"
 [ "$failed" = 0 ]

@@ -8,9 +8,6 @@
 enum { LONG = 70000 };
 static uint8_t ones[10000000];
 
-static const char *kinds[] = {"pub", "priv", "p8", "pss", "pss-strict", "pss-alg", "pss-alg-strict", "oaep",
-                              "oaep-strict", "oaep-alg", "oaep-alg-strict"};
-
 #if SIZE_MAX > UINT32_MAX && defined __linux__ && !defined WATCHED
 #include <sys/mman.h>
 /* These octets, with 4 GB of zeros behind them, until the next call. NULL where there is no room for that, which a line
@@ -168,7 +165,7 @@ static void longest_numbers(void) {
 
 void try_large(void) {
     memset(ones, 1, sizeof ones);
-    for (size_t i = 0; i < sizeof kinds / sizeof kinds[0]; i++) {
+    for (size_t i = 0; i < KINDS; i++) {
         written_and_read(kinds[i], 1);
         written_and_read(kinds[i], 300);
         written_and_read(kinds[i], LONG);

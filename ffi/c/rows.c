@@ -1,28 +1,53 @@
-/* The table of inputs, each line with the status of decoding it. An error leaves the struct unchanged. An accepted
- * value is encoded again, as the same octets if it has only one encoding. It is also encoded with too little room and
- * with more, and with each of its fields empty. Each field points to where it stands in the input. */
+/* The worked rows whose word is a kind. Decoding has the status that follows from a row. An error leaves the struct
+ * unchanged. An accepted value is encoded again, as the row says. It is also encoded with too little room and with
+ * more, and with each of its fields empty. Each field points to where it stands in the input. */
 #include "test.h"
 #include <string.h>
 
-static const struct { const char *name; uint32_t status; } names[] = {
-    {"OK", PKCS1_OK}, {"INCOMPLETE", PKCS1_INCOMPLETE}, {"INDEFINITE_LENGTH", PKCS1_INDEFINITE_LENGTH},
-    {"LENGTH", PKCS1_LENGTH}, {"NONCANONICAL", PKCS1_NONCANONICAL}, {"OID_MALFORMED", PKCS1_OID_MALFORMED},
-    {"OID_UNKNOWN", PKCS1_OID_UNKNOWN}, {"OVERFLOW", PKCS1_OVERFLOW}, {"OVERLENGTH", PKCS1_OVERLENGTH},
-    {"PARAMETERS_MISSING", PKCS1_PARAMETERS_MISSING}, {"TAG_UNEXPECTED", PKCS1_TAG_UNEXPECTED},
-    {"TAG_UNKNOWN", PKCS1_TAG_UNKNOWN}, {"TRAILING_DATA", PKCS1_TRAILING_DATA}, {"VALUE", PKCS1_VALUE}};
+/* Octets that no row has more of. */
+enum { LONGEST = 2048 };
+
+const char *const kinds[KINDS] = {
+    "pub", "priv", "info", "pss", "pss-strict", "pss-algorithm", "pss-algorithm-strict", "oaep", "oaep-strict",
+    "oaep-algorithm", "oaep-algorithm-strict"};
+
+/* What the text of an error has, besides a tag, and its status. */
+static const struct { const char *text; uint32_t status; } errors[] = {
+    {"the input ends too early", PKCS1_INCOMPLETE}, {"the length is indefinite", PKCS1_INDEFINITE_LENGTH},
+    {"have a wrong length", PKCS1_LENGTH}, {"are not in shortest form", PKCS1_NONCANONICAL},
+    {"the object identifier is malformed", PKCS1_OID_MALFORMED},
+    {"the object identifier is another one", PKCS1_OID_UNKNOWN}, {"a length passes the limit", PKCS1_OVERFLOW},
+    {"the length is not in shortest form", PKCS1_OVERLENGTH},
+    {"the algorithm parameters are missing", PKCS1_PARAMETERS_MISSING}, {" was expected", PKCS1_TAG_UNEXPECTED},
+    {"the tag octet ", PKCS1_TAG_UNKNOWN}, {"bytes follow the value", PKCS1_TRAILING_DATA},
+    {" is not allowed", PKCS1_VALUE}};
+
+/* The status that follows from what a row says. Of a container that is accepted, it may say that its key is refused. */
+static uint32_t status_of(const char *text) {
+    const char *refused = strstr(text, "refused: ");
+    uint32_t status = PKCS1_OK;
+    for (size_t i = 0; refused != NULL && i < sizeof errors / sizeof errors[0]; i++) {
+        if (strstr(refused, errors[i].text) == NULL)
+            continue;
+        CHECK(status == PKCS1_OK);
+        status = errors[i].status;
+    }
+    CHECK(refused == NULL || status != PKCS1_OK);
+    return status;
+}
 
 uint32_t read_row(const char *kind, const uint8_t *der, size_t len, union value *v) {
     if (strcmp(kind, "pub") == 0) return pkcs1_public_key_decode(der, len, &v->key);
     if (strcmp(kind, "priv") == 0) return pkcs1_private_key_decode(der, len, &v->priv.key, v->priv.others, LISTED);
-    if (strcmp(kind, "p8") == 0)
+    if (strcmp(kind, "info") == 0)
         return pkcs1_private_key_info_decode(der, len, &v->priv.info, &v->priv.key, v->priv.others, LISTED);
     if (strcmp(kind, "pss") == 0) return pkcs1_pss_params_decode(der, len, &v->pss);
     if (strcmp(kind, "pss-strict") == 0) return pkcs1_pss_params_decode_strict(der, len, &v->pss);
     if (strcmp(kind, "oaep") == 0) return pkcs1_oaep_params_decode(der, len, &v->oaep);
-    if (strcmp(kind, "pss-alg") == 0) return pkcs1_pss_algorithm_decode(der, len, &v->pss);
-    if (strcmp(kind, "pss-alg-strict") == 0) return pkcs1_pss_algorithm_decode_strict(der, len, &v->pss);
-    if (strcmp(kind, "oaep-alg") == 0) return pkcs1_oaep_algorithm_decode(der, len, &v->oaep);
-    if (strcmp(kind, "oaep-alg-strict") == 0) return pkcs1_oaep_algorithm_decode_strict(der, len, &v->oaep);
+    if (strcmp(kind, "pss-algorithm") == 0) return pkcs1_pss_algorithm_decode(der, len, &v->pss);
+    if (strcmp(kind, "pss-algorithm-strict") == 0) return pkcs1_pss_algorithm_decode_strict(der, len, &v->pss);
+    if (strcmp(kind, "oaep-algorithm") == 0) return pkcs1_oaep_algorithm_decode(der, len, &v->oaep);
+    if (strcmp(kind, "oaep-algorithm-strict") == 0) return pkcs1_oaep_algorithm_decode_strict(der, len, &v->oaep);
     CHECK(strcmp(kind, "oaep-strict") == 0);
     return pkcs1_oaep_params_decode_strict(der, len, &v->oaep);
 }
@@ -31,9 +56,9 @@ uint32_t write_row(const char *kind, const union value *v, uint8_t *out, size_t 
     if (strcmp(kind, "pub") == 0) return pkcs1_public_key_encode(&v->key, out, room, len);
     if (strcmp(kind, "priv") == 0)
         return pkcs1_private_key_encode(&v->priv.key, v->priv.others, v->priv.key.other_primes, out, room, len);
-    if (strcmp(kind, "p8") == 0) return pkcs1_private_key_info_encode(&v->priv.info, out, room, len);
-    if (strncmp(kind, "pss-alg", 7) == 0) return pkcs1_pss_algorithm_encode(&v->pss, out, room, len);
-    if (strncmp(kind, "oaep-alg", 8) == 0) return pkcs1_oaep_algorithm_encode(&v->oaep, out, room, len);
+    if (strcmp(kind, "info") == 0) return pkcs1_private_key_info_encode(&v->priv.info, out, room, len);
+    if (strncmp(kind, "pss-algorithm", 13) == 0) return pkcs1_pss_algorithm_encode(&v->pss, out, room, len);
+    if (strncmp(kind, "oaep-algorithm", 14) == 0) return pkcs1_oaep_algorithm_encode(&v->oaep, out, room, len);
     if (strncmp(kind, "pss", 3) == 0) return pkcs1_pss_params_encode(&v->pss, out, room, len);
     return pkcs1_oaep_params_encode(&v->oaep, out, room, len);
 }
@@ -58,8 +83,8 @@ static const struct { const char *kind, *path; size_t at; uint32_t status; } fie
     FIELD("priv", "7", priv.key.exponent2, PKCS1_LENGTH),
     FIELD("priv", "8", priv.key.coefficient, PKCS1_LENGTH),
     OTHER(0), OTHER(1), OTHER(2), OTHER(3),
-    FIELD("p8", "2", priv.info.private_key, PKCS1_INCOMPLETE),
-    FIELD("p8", "a", priv.info.attributes, PKCS1_OK),
+    FIELD("info", "2", priv.info.private_key, PKCS1_INCOMPLETE),
+    FIELD("info", "a", priv.info.attributes, PKCS1_OK),
     FIELD("pss", "a00", pss.hash.oid, PKCS1_OID_MALFORMED),
     FIELD("pss", "a01", pss.hash.parameters, PKCS1_OK),
     FIELD("pss", "b00", pss.mask_gen.oid, PKCS1_OID_MALFORMED),
@@ -89,7 +114,7 @@ static void try_empty_fields(const char *kind, const uint8_t *der, size_t len) {
     for (size_t i = 0; i < FIELDS; i++) {
         static const struct pkcs1_bytes null = {NULL, 0};
         union value value;
-        uint8_t out[256];
+        uint8_t out[LONGEST];
         size_t out_len;
         if (!has_field(kind, i))
             continue;
@@ -106,13 +131,15 @@ static struct pkcs1_bytes element(struct pkcs1_bytes octets, char name) {
     struct pkcs1_bytes found = {NULL, 0};
     for (size_t at = 0, i = 0; at < octets.len; i++) {
         const uint8_t *header = octets.data + at;
-        CHECK(header[1] <= 0x81); /* no row is longer */
-        size_t last = header[1] == 0x81 ? 2 : 1;
+        CHECK(header[1] <= 0x82); /* no row is longer */
+        size_t more = header[1] < 0x80 ? 0 : header[1] - 0x80, len = more == 0 ? header[1] : header[2];
+        if (more == 2)
+            len = len << 8 | header[3];
         if ((size_t)name == '0' + i || name - 'a' == header[0] - 0xa0) {
-            found.data = header + last + 1;
-            found.len = header[last];
+            found.data = header + 2 + more;
+            found.len = len;
         }
-        at += last + 1 + header[last];
+        at += 2 + more + len;
     }
     return found;
 }
@@ -150,8 +177,8 @@ static void try_pointers(const char *kind, const uint8_t *der, size_t len) {
     union value value;
     memset(&value, 0, sizeof value); /* as above */
     CHECK(read_row(kind, der, len, &value) == PKCS1_OK);
-    try_places(kind, &value, strstr(kind, "-alg") == NULL ? contents : element(contents, '1'));
-    if (strcmp(kind, "p8") == 0)
+    try_places(kind, &value, strstr(kind, "-algorithm") == NULL ? contents : element(contents, '1'));
+    if (strcmp(kind, "info") == 0)
         try_places("priv", &value, element(value.priv.info.private_key, '0'));
     if (strncmp(kind, "oaep", 4) == 0 && pkcs1_oaep_label(&value.oaep, &label) && label.len > 0)
         CHECK(lies_in(value.oaep.p_source.parameters, label));
@@ -182,54 +209,79 @@ static void try_rooms(const char *kind, union value *value, const uint8_t *want,
     }
 }
 
-static void try_row(const char *kind, const char *digits, const char *name) {
-    size_t len = strcmp(digits, "-") == 0 ? 0 : strlen(digits) / 2, at = 0, again_len;
-    uint8_t *der = filled(len ? len : 1), again[256];
-    union value *value = filled(sizeof *value), *old = filled(sizeof *old);
-    for (size_t i = 0; i < len; i++) {
+/* The octets of these digits, up to what is no digit, at the end of what was allocated. The caller frees them. */
+static uint8_t *octets_of(const char *digits, size_t *len) {
+    size_t count = strspn(digits, "0123456789abcdefABCDEF");
+    uint8_t *octets = filled(count / 2 + (count == 0));
+    CHECK(count % 2 == 0);
+    for (*len = 0; *len < count / 2; ++*len) {
         unsigned octet;
-        CHECK(sscanf(digits + 2 * i, "%2x", &octet) == 1);
-        der[i] = (uint8_t)octet;
+        CHECK(sscanf(digits + 2 * *len, "%2x", &octet) == 1);
+        octets[*len] = (uint8_t)octet;
     }
-    while (at < sizeof names / sizeof names[0] && strcmp(names[at].name, name) != 0)
-        at++;
-    CHECK(at < sizeof names / sizeof names[0]);
+    return octets;
+}
+
+/* An accepted value is written as these octets. */
+static void try_writing(const char *kind, union value *value, const uint8_t *want, size_t want_len) {
+    uint8_t out[LONGEST];
+    size_t len = 0, need = 0;
+    CHECK(write_row(kind, value, NULL, 0, &need) == PKCS1_NO_ROOM && need == want_len);
+    CHECK(write_row(kind, value, out, sizeof out, &len) == PKCS1_OK && len == want_len);
+    CHECK(memcmp(out, want, want_len) == 0);
+    try_rooms(kind, value, want, want_len);
+}
+
+static void try_row(const char *kind, const char *digits, const char *text) {
+    size_t len, again_len;
+    const char *other = strstr(text, " again=");
+    uint8_t *der = octets_of(digits, &len), *again = octets_of(other ? other + 7 : digits, &again_len);
+    union value *value = filled(sizeof *value), *old = filled(sizeof *old);
     CHECK(read_row(kind, NULL, 0, value) == PKCS1_INCOMPLETE);
     uint32_t status = read_row(kind, der, len, value);
-    if (status != names[at].status) {
-        fprintf(stderr, "%s %s %s: %s\n", kind, digits, name, pkcs1_strerror(status));
+    if (status != status_of(text)) {
+        fprintf(stderr, "%s %s: %s\n", kind, digits, pkcs1_strerror(status));
         exit(1);
     }
     if (status != PKCS1_OK) {
         CHECK(memcmp(value, old, sizeof *value) == 0);
     } else {
-        size_t need = 0;
-        CHECK(write_row(kind, value, NULL, 0, &need) == PKCS1_NO_ROOM);
-        CHECK(write_row(kind, value, again, sizeof again, &again_len) == PKCS1_OK && again_len == need);
-        try_rooms(kind, value, again, need);
-        try_empty_fields(kind, der, len);
         try_pointers(kind, der, len);
-        bool has_one = strncmp(kind, "pss", 3) != 0 && strncmp(kind, "oaep", 4) != 0;
-        if (has_one || strstr(kind, "-strict") != NULL)
-            CHECK(again_len == len && memcmp(again, der, len) == 0);
+        /* More primes than are listed can't be written. */
+        if (strcmp(kind, "priv") != 0 || value->priv.key.other_primes <= LISTED) {
+            try_writing(kind, value, again, again_len);
+            try_empty_fields(kind, der, len);
+        }
     }
     free(der);
+    free(again);
     free(value);
     free(old);
 }
 
+static bool is_kind(const char *word) {
+    for (size_t i = 0; i < KINDS; i++)
+        if (strcmp(word, kinds[i]) == 0)
+            return true;
+    return false;
+}
+
 void try_rows(const char *path) {
-    char line[400], kind[16], digits[300], name[32];
+    static char line[8 * LONGEST];
     FILE *file = fopen(path, "r");
     CHECK(file != NULL);
     int count = 0;
     while (fgets(line, sizeof line, file) != NULL) {
-        if (line[0] == '#' || line[0] == '\n')
+        char *digits = strchr(line, ' '), *text = strstr(line, " = ");
+        CHECK(strchr(line, '\n') != NULL);
+        if (line[0] == '#' || digits == NULL || text == NULL)
             continue;
-        CHECK(sscanf(line, "%15s %299s %31s", kind, digits, name) == 3);
-        try_row(kind, digits, name);
+        *digits = *text = '\0';
+        if (!is_kind(line))
+            continue;
+        try_row(line, digits + 1, text + 3);
         count++;
     }
     fclose(file);
-    CHECK(count > 150);
+    CHECK(count > 350);
 }

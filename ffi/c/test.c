@@ -1,6 +1,6 @@
-/* test STATUSES, or test --version: tests the calls of pkcs1.h. STATUSES is a table of inputs (ffi/tests/statuses),
- * which rows.c tries. large.c has what is long. Structs to be filled are uninitialised, so that valgrind reports it if
- * they are read. */
+/* test ROWS, or test --version: tests the calls of pkcs1.h. ROWS is crates/pkcs1_vectors/stdin, the worked rows, which
+ * rows.c tries. large.c has what is long. Structs to be filled are uninitialised, so that valgrind reports it if they
+ * are read. */
 #include "test.h"
 #include "pkcs1_c.h"
 #include <string.h>

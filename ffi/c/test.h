@@ -11,14 +11,15 @@
 /* So many octets of 0xa5, for the caller to free. */
 void *filled(size_t n);
 
-/* Tries the table of inputs in this file. */
+/* Tries the worked rows in this file. */
 void try_rows(const char *path);
 
 /* Tries inputs, labels, identifiers and rooms whose lengths don't fit into few bits. */
 void try_large(void);
 
-/* A value that is read as one of these kinds: pub, priv, p8, and pss, pss-alg, oaep, oaep-alg, which may end in -strict. */
-enum { LISTED = 4 };
+/* What a value is read as, by the words of worked rows. */
+enum { KINDS = 11, LISTED = 4 };
+extern const char *const kinds[KINDS];
 union value {
     struct pkcs1_public_key key;
     struct {

@@ -42,7 +42,7 @@ bool same_value(const char *kind, const union value *got, const union value *wan
         return same_numbers(&got->key.modulus, &want->key.modulus, 2, input);
     if (strcmp(kind, "priv") == 0)
         return same_private_key(got, want, input);
-    if (strcmp(kind, "p8") == 0)
+    if (strcmp(kind, "info") == 0)
         return same_private_key(got, want, input) &&
                same(got->priv.info.private_key, want->priv.info.private_key, input) &&
                got->priv.info.has_attributes == want->priv.info.has_attributes &&

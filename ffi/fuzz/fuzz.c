@@ -40,7 +40,7 @@ void *filled(size_t n) {
 /* Written with too little room, then with just enough: the same octets, but for parameters with explicit defaults. */
 static void write_again(const char *kind, const union value *value) {
     static uint8_t *area;
-    bool may_be_longer = strncmp(kind, "p", 1) != 0 || strncmp(kind, "pss", 3) == 0;
+    bool may_be_longer = strncmp(kind, "pss", 3) == 0 || strncmp(kind, "oaep", 4) == 0;
     size_t need = 0, len = 0;
     HOLDS(write_row(kind, value, NULL, 0, &need) == PKCS1_NO_ROOM && need <= input.len);
     uint8_t *out = at_the_end(&area, need);
@@ -59,7 +59,7 @@ static void ask(const char *kind, const union value *value) {
         pkcs1_pss_is(&value->pss, hash);
     else if (strncmp(kind, "oaep", 4) == 0 && pkcs1_oaep_label(&value->oaep, &label))
         pkcs1_oaep_is(&value->oaep, hash);
-    else if (kind[0] == 'p')
+    else if (strncmp(kind, "oaep", 4) != 0)
         pkcs1_bit_len(value->key.modulus);
 }
 

@@ -1,9 +1,6 @@
 #include "elements.h"
 #include <string.h>
 
-const char *const kinds[KINDS] = {"pub", "priv", "p8", "pss", "pss-strict", "pss-alg", "pss-alg-strict", "oaep",
-                                  "oaep-strict", "oaep-alg", "oaep-alg-strict"};
-
 static uint32_t public_key(struct octets from, struct pkcs1_public_key *key) {
     struct octets contents;
     TRY(tagged(&from, 0x30, &contents));
@@ -203,7 +200,7 @@ static uint32_t parameters(const char *kind, struct octets from, union value *v)
     bool is_pss = strncmp(kind, "pss", 3) == 0, written = false;
     struct octets contents;
     TRY(tagged(&from, 0x30, &contents));
-    if (strstr(kind, "-alg") != NULL) {
+    if (strstr(kind, "-algorithm") != NULL) {
         struct pkcs1_algorithm of;
         TRY(algorithm_in(contents, &of));
         TRY(at_end(from));
@@ -227,5 +224,5 @@ uint32_t reference(const char *kind, const uint8_t *der, size_t len, union value
         return public_key(from, &v->key);
     if (strcmp(kind, "priv") == 0)
         return private_key(from, v);
-    return strcmp(kind, "p8") == 0 ? container(from, v) : parameters(kind, from, v);
+    return strcmp(kind, "info") == 0 ? container(from, v) : parameters(kind, from, v);
 }

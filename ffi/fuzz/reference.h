@@ -5,10 +5,6 @@
 
 #include "test.h"
 
-/* What can be read. */
-enum { KINDS = 11 };
-extern const char *const kinds[KINDS];
-
 /* Reads as read_row does. After an error what `v` holds means nothing. What a default has points into the library. */
 uint32_t reference(const char *kind, const uint8_t *der, size_t len, union value *v);
 

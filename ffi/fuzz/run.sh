@@ -1,8 +1,8 @@
 #!/usr/bin/env bash
 # run.sh [SECONDS [OUT]]: watches the proved calls in what `make` left in OUT, under the calls of pkcs1.h: each time
 # that one is called, each clause of ffi/proof/pkcs1.acsl.h is looked at, beside a second reader and writer. The C tests
-# are run, then the decoders are fuzzed for so long, a minute unless said, from the rows of ffi/tests/statuses and the
-# keys in ffi/tests/keys. It needs clang with libFuzzer, and python3. With 0 seconds the rows and keys are tried alone.
+# are run, then the decoders are fuzzed for so long, a minute unless said, from the worked rows and the keys in
+# ffi/tests/keys. It needs clang with libFuzzer, and python3. With 0 seconds the rows and keys are tried alone.
 set -eu
 cd "$(dirname "$0")/../.."
 seconds=${1:-60} out=${2:-out}
@@ -11,9 +11,9 @@ trap 'rm -rf "$room"' EXIT
 mkdir "$room/rows" "$room/found"
 python3 - "$room/rows" << 'END'
 import glob, re, sys
-reader = open("ffi/fuzz/reference.c").read()
-kinds = re.findall(r'"([a-z0-9-]+)"', re.search(r"kinds\[KINDS\] = \{(.*?)\}", reader, re.S)[1])
-rows = [line.split()[:2] for line in open("ffi/tests/statuses") if line[0] not in "#\n"]
+tests = open("ffi/c/rows.c").read()
+kinds = re.findall(r'"([a-z-]+)"', re.search(r"kinds\[KINDS\] = \{(.*?)\}", tests, re.S)[1])
+rows = [line.split()[:2] for line in open("crates/pkcs1_vectors/stdin") if line.split(" ")[0] in kinds]
 inputs = [(kinds.index(kind), b"" if der == "-" else bytes.fromhex(der)) for kind, der in rows]
 for path in glob.glob("ffi/tests/keys/*.der"):
     inputs += [(kind, open(path, "rb").read()) for kind in range(len(kinds))]
@@ -39,7 +39,7 @@ try() {
         exit 1
     }
 }
-try "$room/test" ffi/tests/statuses
+try "$room/test" crates/pkcs1_vectors/stdin
 limits=(-max_total_time="$seconds")
 [ "$seconds" != 0 ] || limits=(-runs=0)
 try "$room/fuzz" "${limits[@]}" -max_len=2000 -artifact_prefix="$room/found/" "$room/found" "$room/rows"

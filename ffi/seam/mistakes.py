@@ -54,7 +54,7 @@ def refused_by(text, room, objects):
     built = run("gcc", "-O0", *FLAGS, made, *objects, *wraps, "-o", test)
     if built.returncode:
         return f"seam.py: {built.stderr.splitlines()[-1] if built.stderr else 'no program'}"
-    found = run(test, f"{TOP}/ffi/tests/statuses")
+    found = run(test, f"{TOP}/crates/pkcs1_vectors/stdin")
     told = found.stderr.splitlines() or [f"the test ends with {found.returncode}"]
     return told[-1] if found.returncode else None
 

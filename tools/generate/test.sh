@@ -6,6 +6,7 @@
 set -eu
 here=$(cd "$(dirname "$0")" && pwd)
 ffi=$here/../../ffi
+rows=$here/../../crates/pkcs1_vectors/stdin
 generated=$(realpath "${1:-$ffi/generated}")
 room=$(mktemp -d)
 trap 'rm -rf "$room"' EXIT
@@ -117,20 +118,20 @@ library_passes() {
     local compiler flags sanitized='-O0 -fsanitize=address,undefined -fno-sanitize-recover=all'
     local files=("-I$ffi/include" "$ffi"/c/{test,rows,large,pkcs1}.c)
     gcc -O1 "${files[@]}" "$generated/$(uname -m)/pkcs1_c.s" -o "$room/test"
-    "$room/test" "$ffi/tests/statuses" > /dev/null
+    "$room/test" "$rows" > /dev/null
     for compiler in gcc clang; do
         for flags in -O2 "$sanitized" "$sanitized -DPKCS1_FOREIGN" "$sanitized -DPKCS1_PLAIN -U__BYTE_ORDER__"; do
             # shellcheck disable=SC2086
             $compiler -std=c99 -Wall -Wextra -Wvla -Werror -pedantic $flags "${files[@]}" "$generated/pkcs1_c.c" \
                 -o "$room/test"
-            "$room/test" "$ffi/tests/statuses" > /dev/null
+            "$room/test" "$rows" > /dev/null
         done
     done
     "$ffi/amalgamation.sh" "$generated" > "$room/pkcs1_all.c"
     for compiler in gcc clang; do
         $compiler -std=c99 -Wall -Wextra -Werror -pedantic -O3 -flto=auto -fstrict-aliasing "-I$ffi/include" \
             "$ffi"/c/{test,rows,large}.c "$room/pkcs1_all.c" -o "$room/test"
-        "$room/test" "$ffi/tests/statuses" > /dev/null
+        "$room/test" "$rows" > /dev/null
     done
 }
 

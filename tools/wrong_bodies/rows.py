@@ -26,17 +26,17 @@ class Program(NamedTuple):
     """A program that answers rows."""
 
     name: str
-    rows: str  # the file of its rows, in its folder
+    rows: tuple  # what prints its rows, in its folder
     sign: str  # what stands between a question and its answer
     skipped: tuple  # how lines begin that no edit names: headings, rows that take long
 
     def known(self):
-        with open(f"crates/{self.name}/{self.rows}", encoding="utf-8") as it:
-            return [line for line in it.read().split("\n") if self.sign in line and not line.startswith(self.skipped)]
+        printed = subprocess.check_output(self.rows, cwd=f"crates/{self.name}", text=True)
+        return [line for line in printed.split("\n") if self.sign in line and not line.startswith(self.skipped)]
 
 
-VECTORS = Program("pkcs1_vectors", "stdin", " = ", ("#", "changed-", "joined-"))
-TOOL = Program("pkcs1_tool", "rows", " => ", ("#",))
+VECTORS = Program("pkcs1_vectors", ("cat", "stdin"), " = ", ("#", "changed-", "joined-"))
+TOOL = Program("pkcs1_tool", ("./all_rows.sh",), " => ", ())
 # The crates that only the tool uses.
 OF_TOOL = ("pkcs1_program",)
 # The lowest crate, which each of the others uses: which edit is meant is said there, by the first line of the input.

@@ -1,5 +1,5 @@
-//! The table of inputs that all of the libraries share: each gives its status. One that is accepted is written again,
-//! and what is borrowed lies in the input.
+//! The worked rows, which all of the libraries share. An input that is refused gives the error that its row says. One
+//! that is accepted is written again as its row says, and what is borrowed lies in the input.
 #![cfg(feature = "alloc")]
 #![allow(clippy::needless_question_mark)] // which is of one of both types of errors
 
@@ -13,15 +13,26 @@ use pkcs1::{
 };
 
 type Written = Result<Vec<u8>, Error>;
+/// What is written again, or the text of the error's kind.
+type Outcome = Result<Vec<u8>, String>;
 
-/// Each row of the table: its kind, its DER and the name of its status.
-fn rows() -> Vec<(String, Vec<u8>, String)> {
-    let path = concat!(env!("CARGO_MANIFEST_DIR"), "/../ffi/tests/statuses");
+const KINDS: &str = "pub priv info pss pss-strict pss-algorithm pss-algorithm-strict \
+                     oaep oaep-strict oaep-algorithm oaep-algorithm-strict";
+
+/// Each row whose word is a kind: it, the DER and the outcome. Of a container that is accepted, a row may say that its
+/// key is refused.
+fn rows() -> Vec<(&'static str, Vec<u8>, Outcome)> {
+    let path = concat!(env!("CARGO_MANIFEST_DIR"), "/../crates/pkcs1_vectors/stdin");
     let table = std::fs::read_to_string(path).unwrap();
-    let lines = table.lines().filter(|line| !line.is_empty() && !line.starts_with('#'));
-    let rows = lines.map(|line| {
-        let [kind, digits, name] = line.split(' ').collect::<Vec<_>>()[..] else { panic!("{line}") };
-        (kind.to_string(), octets(digits), name.to_string())
+    let rows = table.lines().filter_map(|line| {
+        let (asked, answer) = line.split_once(" = ")?;
+        let (word, digits) = asked.split_once(' ')?;
+        let kind = KINDS.split(' ').find(|kind| *kind == word)?;
+        let outcome = match answer.split_once("refused: ") {
+            Some((_, text)) => Err(text.to_string()),
+            None => Ok(octets(answer.split_once(" again=").map_or(digits, |(_, again)| again))),
+        };
+        Some((kind, octets(digits), outcome))
     });
     rows.collect()
 }
@@ -31,17 +42,14 @@ fn octets(digits: &str) -> Vec<u8> {
     (0..digits.len()).step_by(2).map(|at| u8::from_str_radix(&digits[at..at + 2], 16).unwrap()).collect()
 }
 
-/// The name of a status, as the table has it.
-fn status(written: &Written) -> String {
-    let Err(error) = written else { return "OK".into() };
-    let Error::Asn1(error) = error else { panic!("{error}") };
-    let name = format!("{:?}", error.kind());
-    let mut status = String::new();
-    for letter in name.chars().take_while(char::is_ascii_alphabetic) {
-        let begins = letter.is_uppercase() && !status.is_empty();
-        status.extend(begins.then_some('_').into_iter().chain(letter.to_uppercase()));
-    }
-    status
+/// The outcome as a row has it. The printed error ends with the text of its kind.
+fn outcome_of(written: &Written) -> Outcome {
+    written.clone().map_err(|error| {
+        let Error::Asn1(inner) = error else { panic!("{error}") };
+        let text = inner.kind().to_string();
+        assert_eq!(error.to_string(), format!("PKCS#1 ASN.1 error: {text}"));
+        text
+    })
 }
 
 /// What is written of what is read, by each of the types that read this kind.
@@ -58,7 +66,7 @@ fn ways(kind: &str, der: &[u8]) -> Vec<Written> {
             RsaPrivateKeyRef::try_from(der) => to_der; RsaPrivateKeyOwned::from_der(der) => to_der;
             RsaPrivateKeyView::from_der(der).and_then(|view| RsaPrivateKeyRef::from_der(view.as_bytes())) => to_der;
         },
-        "p8" => {
+        "info" => {
             let read = PrivateKeyInfoRef::try_from(der);
             each! {
                 read.and_then(|info| info.rsa_view().and(Ok(info))) => to_der;
@@ -82,10 +90,10 @@ fn ways(kind: &str, der: &[u8]) -> Vec<Written> {
         "oaep-strict" => each! {
             RsaOaepParamsRef::from_der_strict(der) => to_der; RsaOaepParamsView::from_der_strict(der) => to_der;
         },
-        "pss-alg" => each! { RsaPssParamsRef::from_algorithm_der(der) => to_algorithm_der; },
-        "oaep-alg" => each! { RsaOaepParamsView::from_algorithm_der(der) => to_algorithm_der; },
-        "pss-alg-strict" => each! { RsaPssParamsView::from_algorithm_der_strict(der) => to_algorithm_der; },
-        "oaep-alg-strict" => each! { RsaOaepParamsRef::from_algorithm_der_strict(der) => to_algorithm_der; },
+        "pss-algorithm" => each! { RsaPssParamsRef::from_algorithm_der(der) => to_algorithm_der; },
+        "oaep-algorithm" => each! { RsaOaepParamsView::from_algorithm_der(der) => to_algorithm_der; },
+        "pss-algorithm-strict" => each! { RsaPssParamsView::from_algorithm_der_strict(der) => to_algorithm_der; },
+        "oaep-algorithm-strict" => each! { RsaOaepParamsRef::from_algorithm_der_strict(der) => to_algorithm_der; },
         _ => panic!("{kind} is no kind"),
     }
 }
@@ -97,31 +105,27 @@ fn by_any(kind: &str, der: &[u8]) -> Option<Written> {
     Some(match kind {
         "pss" => any().and_then(|it| Ok(it.decode_as::<RsaPssParamsRef<'_>>()?.to_der()?)),
         "oaep" => any().and_then(|it| Ok(it.decode_as::<RsaOaepParamsView<'_>>()?.to_der()?)),
-        "pss-alg" => algorithm().and_then(|it| RsaPssParamsView::from_algorithm(&it)?.to_algorithm_der()),
-        "oaep-alg" => algorithm().and_then(|it| RsaOaepParamsRef::from_algorithm(&it)?.to_algorithm_der()),
+        "pss-algorithm" => algorithm().and_then(|it| RsaPssParamsView::from_algorithm(&it)?.to_algorithm_der()),
+        "oaep-algorithm" => algorithm().and_then(|it| RsaOaepParamsRef::from_algorithm(&it)?.to_algorithm_der()),
         _ => return None,
     })
 }
 
 #[test]
-fn each_input_has_its_status_by_each_type() {
+fn each_input_has_its_outcome_by_each_type() {
     let rows = rows();
-    for (kind, der, name) in &rows {
+    for (kind, der, outcome) in &rows {
         let ways = ways(kind, der);
         for written in &ways {
-            assert_eq!(status(written), *name, "{kind} {der:x?}");
+            assert_eq!(outcome_of(written), *outcome, "{kind} {der:x?}");
             assert_eq!(written, &ways[0], "{kind} {der:x?}");
         }
         if let Some(written) = by_any(kind, der) {
             assert_eq!(written.is_err(), ways[0].is_err(), "{kind} {der:x?}");
             assert_eq!(written.ok(), ways[0].clone().ok(), "{kind} {der:x?}");
         }
-        let unique = !["pss", "oaep", "pss-alg", "oaep-alg"].contains(&&kind[..]);
-        if let (Ok(written), true) = (&ways[0], unique) {
-            assert_eq!(written, der, "{kind}");
-        }
     }
-    assert!(rows.len() > 150);
+    assert!(rows.len() > 350);
 }
 
 fn lies_in(input: &[u8], slice: &[u8]) -> bool {
@@ -152,7 +156,7 @@ fn borrowed<'a>(kind: &str, der: &'a [u8]) -> Vec<&'a [u8]> {
                 .chain(others)
                 .collect()
         }
-        "p8" => {
+        "info" => {
             let info = PrivateKeyInfoRef::try_from(der).unwrap();
             info.attributes.into_iter().chain([info.private_key.as_bytes()]).collect()
         }
@@ -163,7 +167,7 @@ fn borrowed<'a>(kind: &str, der: &'a [u8]) -> Vec<&'a [u8]> {
 #[test]
 fn what_is_borrowed_lies_in_the_input() {
     let mut count = 0;
-    for (kind, der, _) in rows().iter().filter(|(.., name)| name == "OK") {
+    for (kind, der, _) in rows().iter().filter(|(.., outcome)| outcome.is_ok()) {
         for slice in borrowed(kind, der) {
             assert!(lies_in(der, slice), "{kind} {der:x?}");
             count += 1;
