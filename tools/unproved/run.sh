@@ -83,7 +83,7 @@ layout() {
 documents() {
     local check
     needs python3 perl
-    for check in tools/docs/check_*.sh; do
+    for check in tools/docs/{check,test}_*; do
         "$check"
     done
 }
