@@ -2,15 +2,11 @@
 # openssl_commands.sh FOLDER HEADER FILE..: runs each openssl command that a file names on what it is for, and reads what
 # comes out with the examples in the folder. Called by test.sh.
 set -eu -o pipefail
+. "$(dirname "$0")/../tools/shell.sh"
 examples=$1
 shift
 room=$(mktemp -d)
 trap 'rm -rf "$room"' EXIT
-
-stop() {
-    printf 'ffi/openssl_commands.sh: %s\n' "$*" >&2
-    exit 1
-}
 # run COMMAND INPUT: runs it with this input, and leaves the output in `made`.
 run() {
     local words at

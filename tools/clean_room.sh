@@ -9,19 +9,9 @@
 set -eu
 here=$(cd "$(dirname "$0")" && pwd)
 ulimit -t 600 # no test runs forever
+. "$here/shell.sh"
 . "$here/platforms.sh"
 
-stop() {
-    printf 'tools/clean_room.sh: %s\n' "$*" >&2
-    exit 1
-}
-# needs TOOL..: whether these are installed.
-needs() {
-    local it
-    for it; do
-        command -v "$it" > /dev/null || stop "$it isn't installed, and is needed"
-    done
-}
 # step NAME COMMAND..: runs the command, and says how long it took; what it prints is shown only if it fails.
 step() {
     local began=$SECONDS status

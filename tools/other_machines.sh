@@ -4,14 +4,11 @@
 set -eu
 cd "$(dirname "$0")/.."
 ulimit -t 600 # no test runs forever
+. tools/shell.sh
 . tools/platforms.sh
 room=$(mktemp -d)
 trap 'rm -rf "$room"' EXIT
 
-stop() {
-    printf 'tools/other_machines.sh: %s\n' "$*" >&2
-    exit 1
-}
 # on MACHINE NAME: what qemu calls the machine, and what the name of its compiler begins with.
 on() {
     make check OUT="$room/$1" CC="$2-gcc" RUN="qemu-$1"

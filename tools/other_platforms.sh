@@ -18,12 +18,9 @@ tests=(-Iffi/include ffi/c/{test,rows,large}.c)
 wasi=(clang --target=wasm32-wasi --sysroot=/usr -I/usr/include/wasm32-wasi)
 node=(node --no-warnings "$PWD/tools/wasi.mjs")
 
+. tools/shell.sh
 . tools/platforms.sh
 
-stop() {
-    printf 'tools/other_platforms.sh: %s\n' "$*" >&2
-    exit 1
-}
 # A build of one's own, by a compiler that has little more than C99.
 by_tcc() {
     tcc -Wall -Werror "${tests[@]}" "$room/pkcs1_all.c" -o "$room/by_tcc"

@@ -6,6 +6,7 @@
 # are installed.
 set -eu
 cd "$(dirname "$0")/../.."
+. tools/shell.sh
 top=$PWD
 limit=$(command -v timeout) sh=$(command -v sh)
 allowed='grep ls od openssl paste pkg-config sed sh split tail tr'
@@ -15,10 +16,6 @@ identifier=304106092a864886f70d01010a
 sha256=608648016503040201/05:
 printed_params="hash=$sha256 mask=2a864886f70d010108/[$sha256] salt=32 trailer=1 defaults=1 again=$params"
 
-stop() {
-    printf 'tools/docs/check_commands.sh: %s\n' "$*" >&2
-    exit 1
-}
 # blocks FILE..: each block of these documents, in a file.
 blocks() {
     perl -ne '
@@ -63,12 +60,6 @@ run() {
 block() {
     LANGUAGE=$1 perl -ne 'if (/^```(\w*)/) { $in = $1 eq $ENV{LANGUAGE}; next } print if $in' "$top/docs/USING.md"
 }
-# have TOOL: whether it is installed; if not, says that its block isn't tested.
-have() {
-    command -v "$1" > /dev/null && return
-    echo "tools/docs/check_commands.sh: $1 is not installed: its block isn't tested" >&2
-    return 1
-}
 # prints_modulus PROGRAM: it prints that of the key in pub.der.
 prints_modulus() {
     [ "$(LD_LIBRARY_PATH=$PREFIX/lib "$1" pub.der)" = "$(openssl rsa -in key.pem -noout -modulus |
@@ -77,12 +68,12 @@ prints_modulus() {
 # built: CMake and Meson build a program, as their blocks say.
 built() {
     export PKG_CONFIG_PATH=$PREFIX/lib/pkgconfig
-    if have cmake; then
+    if have cmake "its block isn't tested"; then
         printf '%s\n' 'cmake_minimum_required(VERSION 3.7)' 'project(program C)' "$(block cmake)" > CMakeLists.txt
         cmake -S . -B by_cmake > log 2>&1 && cmake --build by_cmake > log 2>&1 || stop "CMake fails: $(cat log)"
         prints_modulus by_cmake/program
     fi
-    if have meson; then
+    if have meson "its block isn't tested"; then
         block meson > meson.build
         meson setup by_meson > log 2>&1 && meson compile -C by_meson > log 2>&1 || stop "Meson fails: $(cat log)"
         prints_modulus by_meson/program
@@ -121,9 +112,8 @@ refusals() {
     ! pkcs1_tool < lines > log 2>&1 && grep -qx 'fault: read' log || stop "a block of long input isn't needed"
 }
 
-for tool in make cc perl $allowed; do
-    command -v $tool > /dev/null || stop "$tool isn't installed, and is needed"
-done
+# shellcheck disable=SC2086
+needs make cc perl $allowed
 export room PREFIX
 room=$(mktemp -d)
 trap 'rm -rf "$room"' EXIT
