@@ -156,8 +156,5 @@ for want in 'none: No such file' 'empty: the file is empty' 'long: the file is l
 done
 if have openssl "nothing was compared with it"; then
     "$here/openssl.sh" "$room"
-    top=$here/..
-    "$here/openssl_commands.sh" "$room" "$here/include/pkcs1.h" "$top"/{README.md,rust/README.md,docs/*.md} \
-        "$top/crates/pkcs1_tool/pkcs1_tool.1"
 fi
 printf 'ffi: %s calls and constants, tested in C\n' "$(wc -l < "$out/declared")"
