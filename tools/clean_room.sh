@@ -1,8 +1,8 @@
 #!/usr/bin/env bash
 # Does what README says to users work for one who has a C compiler and cargo, and nothing of the toolchain? Here the
 # toolchain's folders are empty, and there is no network. A clone is built, tested, installed and used as README and
-# docs/USING.md say, where users may have it and with their options, then a release alike. other_machines.sh has those
-# that aren't this one.
+# docs/USING.md say, where users may have it and with their options, then a release alike. other_platforms.sh has
+# other machines.
 #
 #     tools/clean_room.sh             all of this
 #     tools/clean_room.sh FOLDER      the first half of it, of a copy of this folder: README's commands, and programs

@@ -9,7 +9,7 @@ import re
 import subprocess
 import sys
 
-SCRIPTS = ["tools/clean_room.sh", "tools/other_machines.sh", "tools/other_platforms.sh", "rust/check.sh"]
+SCRIPTS = ["tools/clean_room.sh", "tools/other_platforms.sh", "rust/check.sh"]
 BEGIN, END = "<!-- made by tools/docs/check_platforms.py -->", "<!-- end of what is made -->"
 HEAD = "| system | machine | what, by what | |\n|---|---|---|---|\n"
 
