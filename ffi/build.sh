@@ -17,6 +17,7 @@ usage="usage: ffi/build.sh                      builds libpkcs1 into ffi/out, an
    DESTDIR, LIBDIR: a folder to install below, and the libraries' folder in place of PREFIX/lib
    CC, CFLAGS, LDFLAGS: the compiler, its options, and those for linking libpkcs1.so"
 here=$(cd "$(dirname "$0")" && pwd)
+. "$here/../tools/shell.sh"
 crate=$here/../crates/pkcs1_c
 out=${UNPROVED:-$here/out} # UNPROVED: a folder with a libpkcs1_c.a that is only to be tested
 library=${UNPROVED:-$crate/out}/libpkcs1_c.a
@@ -46,10 +47,6 @@ esac
 say() {
     printf 'ffi: %s\n' "$*"
 }
-stop() {
-    printf 'ffi/build.sh: %s\n' "$*" >&2
-    exit 1
-}
 
 version=$(sed -n 's/^#define PKCS1_VERSION_[A-Z]* //p' "$here/include/pkcs1.h" | paste -s -d .)
 case $action:$prefix in *install*:) stop "PREFIX is empty" ;; esac
@@ -64,9 +61,7 @@ case $action in
     test) tools+=("$CXX") ;;
     over-ci | tools) tools+=("$CXX" clang clang++ valgrind pkg-config openssl) ;;
 esac
-for tool in "${tools[@]}"; do
-    command -v "$tool" > /dev/null || stop "$tool isn't installed, and is needed"
-done
+needs "${tools[@]}"
 [ "$action" != tools ] || exit 0
 mkdir -p "$out"
 crates=$(realpath "${CRATES:-$here/../crates}")

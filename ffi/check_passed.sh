@@ -5,7 +5,9 @@
 set -eu
 out=$1 program=$2
 here=$(dirname "$0")
-wraps=$(sed -nE 's/^(EACH|TEST|COUNT|FILL|COMPARE)\(([a-z0-9_]*),.*/-Wl,--wrap=\2/p' "$here/c/passed.c")
+# shellcheck disable=SC2086
+wraps=$($CC ${CFLAGS-} -E "-I$here/include" "$here/c/passed.c" | grep -o '__wrap_[a-z0-9_]*' | sort -u |
+    sed 's/__wrap_/-Wl,--wrap=/')
 # shellcheck disable=SC2086
 $CC ${CFLAGS-} -fno-lto -std=c99 "-I$here/include" "$here/c/test.c" "$here/c/rows.c" "$here/c/large.c" "$here/c/passed.c" \
     "$out/calls.o" "$out/proved.o" $wraps -o "$program"

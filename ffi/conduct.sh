@@ -5,16 +5,13 @@
 # pkcs1.c, and each must be noticed. It needs make, gcc, binutils, python3 and valgrind, on x86-64.
 set -eu
 cd "$(dirname "$0")/.."
+. tools/shell.sh
 room=$(mktemp -d)
 trap 'rm -rf "$room"' EXIT
 export CC=gcc CFLAGS=-O2 LDFLAGS=
 warned='-std=c99 -Wall -Wextra -Werror -pedantic -Iffi/include'
 coders=$(grep -oE 'pkcs1_[a-z0-9_]*_(de|en)code(_strict)?\(' ffi/include/pkcs1.h | tr -d '(')
 
-stop() {
-    printf 'ffi/conduct.sh: %s\n' "$*" >&2
-    exit 1
-}
 # link FOLDER PROGRAM OBJECT..: links a test with the calls in the folder. The loader takes stack where it looks for a
 # function, so it has looked before.
 link() {

@@ -11,13 +11,10 @@
 # on the gcc that compiles pkcs1.c. The table names the one that it was made with.
 set -eu
 export LC_ALL=C
+. "$(dirname "$0")/../tools/shell.sh"
 table=ffi/counts
 tolerance=3
 
-stop() {
-    printf 'ffi/count.sh: %s\n' "$*" >&2
-    exit 1
-}
 library=
 case $#:${1-} in
     0: | 1:--write) ;;
@@ -25,9 +22,7 @@ case $#:${1-} in
     *) stop "usage: ffi/count.sh [LIBRARY | --write]" ;;
 esac
 cd "$(dirname "$0")/.."
-for tool in make gcc objcopy valgrind; do
-    command -v "$tool" > /dev/null || stop "$tool isn't installed, and is needed"
-done
+needs make gcc objcopy valgrind
 [ "$(ffi/machine.sh gcc)" = x86_64 ] || stop "the table is of x86-64, which gcc doesn't build for here"
 room=$(mktemp -d)
 trap 'rm -rf "$room"' EXIT

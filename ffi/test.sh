@@ -1,26 +1,18 @@
 #!/usr/bin/env bash
-# Tests what build.sh, which calls this, made in out/ of the proved library: in C99 and C++, by gcc, and by clang if it
-# is installed; under the sanitizers and valgrind; beside a second reader, on octets that libFuzzer makes; installed, and
-# found by pkg-config; on what OpenSSL makes. A tool that isn't installed is reported, and its tests are left out.
+# Tests what build.sh, which calls this, made in out/ of the proved library: by check.sh, as make does; in C99 and C++, by
+# gcc, and by clang if it is installed; under the sanitizers and valgrind; beside a second reader, on octets that
+# libFuzzer makes; installed, and found by pkg-config; on what OpenSSL makes. A tool that isn't installed is reported, and
+# its tests are left out.
 set -eu
 here=$(cd "$(dirname "$0")" && pwd)
+. "$here/../tools/shell.sh"
 out=$here/out
 rows=$here/../crates/pkcs1_vectors/stdin
 CC=${CC:-gcc} CXX=${CXX:-g++}
 room=$(mktemp -d)
 trap 'rm -rf "$room"' EXIT
-ulimit -t 300 # no test runs forever
+ulimit -t 600 # no test runs forever
 
-stop() {
-    printf 'ffi/test.sh: %s\n' "$*" >&2
-    exit 1
-}
-# have TOOL WHAT: whether the tool is there; if not, reports what isn't tested.
-have() {
-    command -v "$1" > /dev/null && return
-    printf 'ffi/test.sh: %s is not installed: %s\n' "$1" "$2" >&2
-    return 1
-}
 have clang "the C tests are compiled by $CC alone" && clang=clang || clang=
 have clang++ "the C++ test is compiled by $CXX alone" && clangxx=clang++ || clangxx=
 
@@ -46,6 +38,7 @@ for compiler in "$CXX" $clangxx; do
 done
 for compiler in $clang "$CC"; do
     warns "$compiler"
+    "$compiler" -std=c99 "${flags[@]}" -fsyntax-only "$here"/c/{passed,freestanding}.c
     "$compiler" -std=c99 "${flags[@]}" "${test[@]}" "$out/libpkcs1.a" -o "$room/test"
     for name in sizes many_keys bits modulus read_key public_half open_container make_container make_params \
         signature_algorithm; do
@@ -58,12 +51,7 @@ done
 "$CC" -std=c11 "${flags[@]}" -fsanitize=address,undefined -fno-sanitize-recover=all "${test[@]}" "$here/c/pkcs1.c" \
     "$out/proved.o" -o "$room/sanitized"
 "$room/sanitized" "$rows"
-CFLAGS=$warned "$here/check_passed.sh" "$out" "$room/passed"
-CFLAGS=$warned "$here/check_freestanding.sh" "$out" "$room/freestanding"
-CFLAGS=-O2 "$here/check_sizes.sh" "$out"
-"$here/check_object.sh" "$out"
-"$CC" -std=c99 "${flags[@]}" "${test[@]}" "-L$out" -lpkcs1 -Wl,-rpath,"$out" -o "$room/test_shared"
-"$room/test_shared" "$rows"
+CFLAGS=-O2 "$here/check.sh" "$out"
 "$CC" -std=c99 "${flags[@]}" "$here/c/dlopen.c" -ldl -o "$room/dlopen"
 "$room/dlopen" "$out/libpkcs1.so"
 if have valgrind "the C test runs under the sanitizers alone"; then
@@ -168,8 +156,5 @@ for want in 'none: No such file' 'empty: the file is empty' 'long: the file is l
 done
 if have openssl "nothing was compared with it"; then
     "$here/openssl.sh" "$room"
-    top=$here/..
-    "$here/openssl_commands.sh" "$room" "$here/include/pkcs1.h" "$top"/{README.md,rust/README.md,docs/*.md} \
-        "$top/crates/pkcs1_tool/pkcs1_tool.1"
 fi
 printf 'ffi: %s calls and constants, tested in C\n' "$(wc -l < "$out/declared")"

@@ -20,6 +20,7 @@
 # folder DEBIAN into which they were unpacked. Nothing is installed. Without node or its packages `wasm` is left out.
 set -eu
 cd "$(dirname "$0")/.."
+. tools/shell.sh
 . tools/platforms.sh
 OUT=$(realpath -m "${OUT:-out/rust}")
 room=$OUT/room
@@ -30,17 +31,6 @@ crate=rust/Cargo.toml check=rust/check/Cargo.toml
 rows=(crates/pkcs1_vectors/stdin crates/pkcs1_tool/rows)
 keys=(ffi/tests/keys/{priv2,priv3,p8_2,p8_3}.der)
 parts=(erase crate preconditions rows beside memory secrets oldest machines wasm)
-
-stop() {
-    printf 'rust/check.sh: %s\n' "$*" >&2
-    exit 1
-}
-needs() {
-    local it
-    for it; do
-        command -v "$it" > /dev/null || stop "$it isn't installed, and is needed"
-    done
-}
 
 # quietly WHAT COMMAND..: what the command prints is shown if it fails.
 quietly() {

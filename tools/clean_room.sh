@@ -1,27 +1,17 @@
 #!/usr/bin/env bash
 # Does what README says to users work for one who has a C compiler and cargo, and nothing of the toolchain? Here the
 # toolchain's folders are empty, and there is no network. A clone is built, tested, installed and used as README and
-# docs/USING.md say, where users may have it and with their options, then a release alike. other_machines.sh has those
-# that aren't this one.
+# docs/USING.md say, where users may have it and with their options, then a release alike. other_platforms.sh has
+# other machines.
 #
 #     tools/clean_room.sh             all of this
 #     tools/clean_room.sh FOLDER      the first half of it, of a copy of this folder: README's commands, and programs
 set -eu
 here=$(cd "$(dirname "$0")" && pwd)
 ulimit -t 600 # no test runs forever
+. "$here/shell.sh"
 . "$here/platforms.sh"
 
-stop() {
-    printf 'tools/clean_room.sh: %s\n' "$*" >&2
-    exit 1
-}
-# needs TOOL..: whether these are installed.
-needs() {
-    local it
-    for it; do
-        command -v "$it" > /dev/null || stop "$it isn't installed, and is needed"
-    done
-}
 # step NAME COMMAND..: runs the command, and says how long it took; what it prints is shown only if it fails.
 step() {
     local began=$SECONDS status

@@ -1,8 +1,8 @@
 #!/usr/bin/env bash
-# Builds the library for systems other than Linux and by other compilers, and runs its C test: as one file by tcc and in
-# MSVC's dialect, for Windows under wine, for WASI under node, by CMake for these and for Linux, and without a C library.
-# For other platforms it is only compiled. It needs nothing of the toolchain. What isn't installed is left out, with a
-# line.
+# Builds the library for machines that aren't this one, and runs its tests under qemu. For systems other than Linux and
+# by other compilers it runs the C test: as one file by tcc and in MSVC's dialect, for Windows under wine, for WASI
+# under node, by CMake for these and for Linux, and without a C library. For other platforms it is only compiled. It
+# needs nothing of the toolchain. What isn't installed is left out, with a line.
 set -eu
 cd "$(dirname "$0")/.."
 ulimit -t 600 # no test runs forever
@@ -18,11 +18,12 @@ tests=(-Iffi/include ffi/c/{test,rows,large}.c)
 wasi=(clang --target=wasm32-wasi --sysroot=/usr -I/usr/include/wasm32-wasi)
 node=(node --no-warnings "$PWD/tools/wasi.mjs")
 
+. tools/shell.sh
 . tools/platforms.sh
 
-stop() {
-    printf 'tools/other_platforms.sh: %s\n' "$*" >&2
-    exit 1
+# on MACHINE NAME: another machine, as qemu calls it, and what the name of its compiler begins with.
+on() {
+    make check OUT="$room/$1" CC="$2-gcc" RUN="qemu-$1"
 }
 # A build of one's own, by a compiler that has little more than C99.
 by_tcc() {
@@ -137,6 +138,20 @@ set(CMAKE_RANLIB llvm-ranlib)
 set(CMAKE_CROSSCOMPILING_EMULATOR "${node[0]};${node[1]};${node[2]}")
 END
 
+platform "Linux" "aarch64" "assembly, by make and gcc" "tested under qemu" aarch64-linux-gnu-gcc qemu-aarch64 -- \
+    on aarch64 aarch64-linux-gnu
+platform "Linux" "riscv64" "C, by make and gcc" "tested under qemu" riscv64-linux-gnu-gcc qemu-riscv64 -- \
+    on riscv64 riscv64-linux-gnu
+platform "Linux" "i386" "C, by make and gcc" "tested under qemu" i686-linux-gnu-gcc qemu-i386 -- \
+    on i386 i686-linux-gnu
+platform "Linux" "32-bit Arm" "C, by make and gcc" "tested under qemu" arm-linux-gnueabihf-gcc qemu-arm -- \
+    on arm arm-linux-gnueabihf
+platform "Linux" "s390x" "C, by make and gcc" "tested under qemu" s390x-linux-gnu-gcc qemu-s390x -- \
+    on s390x s390x-linux-gnu
+platform "Linux" "MIPS" "C, by make and gcc" "tested under qemu" mips-linux-gnu-gcc qemu-mips -- \
+    on mips mips-linux-gnu
+platform "Linux" "m68k" "C, by make and gcc" "tested under qemu" m68k-linux-gnu-gcc qemu-m68k -- \
+    on m68k m68k-linux-gnu
 platform "Linux" "x86-64" "one file, by tcc" "tested" tcc -- by_tcc
 platform "Linux" "x86-64" "assembly and C, by CMake and gcc" "tested" cmake -- linux_by_cmake
 platform "Windows" "x86-64" "C, by make and mingw, static and a DLL" "tested under wine" x86_64-w64-mingw32-gcc wine -- \

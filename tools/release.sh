@@ -6,6 +6,8 @@
 # generated files are made of other sources. A release must not be published before the licence of the kit's library is
 # settled: docs/DECISIONS.md.
 set -eu
+. "$(dirname "$0")/shell.sh"
+failure=2
 contents=(
     Makefile CMakeLists.txt README.md CHANGELOG.md SECURITY.md LICENSE-APACHE LICENSE-MIT
     docs/{USING,PROMISES,DIFFERENCES,DECISIONS,RELEASE}.md
@@ -19,13 +21,9 @@ contents=(
     crates/pkcs1_tool/{refuse_memory.c,rows,stdin,stdout,pkcs1_tool.1}
     crates/pkcs1_vectors/stdin
     crates.txt ffi/prove.sh ffi/proof tools/{fresh.sh,generate.sh,generate,install.sh,count_definitions.py}
-    tools/{platforms.sh,other_platforms.sh,wasi.mjs}
+    tools/{shell.sh,platforms.sh,other_platforms.sh,wasi.mjs}
 )
 
-stop() {
-    printf 'tools/release.sh: %s\n' "$*" >&2
-    exit 2
-}
 # readme: makes README that of the release: without what is for a clone, and lines of tables that lead to what isn't
 # packed, and with RELEASE.
 readme() {
@@ -49,7 +47,7 @@ pack() {
 out=$(realpath -m "$1")
 cd "$(dirname "$0")/.."
 [ -z "$(git status --porcelain)" ] || stop "there are changes that aren't committed: git status tells which"
-command -v python3 > /dev/null || stop "python3 isn't installed, and is needed"
+needs python3
 tools/fresh.sh || exit 2
 commit=$(git rev-parse HEAD)
 date=$(git log -1 --format=%ct)

@@ -68,29 +68,17 @@ static void container(const char *input, const uint8_t *der, size_t der_len) {
     check_written(der, der_len);
 }
 
-static void pss(const char *input, const uint8_t *der, size_t der_len) {
-    struct pkcs1_pss_params params;
-    COUNT(PKCS1_OK, pkcs1_pss_params_decode, der, der_len, &params);
-    COUNT(PKCS1_OK, pkcs1_pss_params_decode_strict, der, der_len, &params);
-    COUNT(PKCS1_OK, pkcs1_pss_params_encode, &params, out, sizeof out, &len);
-    check_written(der, der_len);
-}
-
-static void pss_algorithm(const char *input, const uint8_t *der, size_t der_len) {
-    struct pkcs1_pss_params params;
-    COUNT(PKCS1_OK, pkcs1_pss_algorithm_decode, der, der_len, &params);
-    COUNT(PKCS1_OK, pkcs1_pss_algorithm_decode_strict, der, der_len, &params);
-    COUNT(PKCS1_OK, pkcs1_pss_algorithm_encode, &params, out, sizeof out, &len);
-    check_written(der, der_len);
-}
-
-static void oaep(const char *input, const uint8_t *der, size_t der_len) {
-    struct pkcs1_oaep_params params;
-    COUNT(PKCS1_OK, pkcs1_oaep_params_decode, der, der_len, &params);
-    COUNT(PKCS1_OK, pkcs1_oaep_params_decode_strict, der, der_len, &params);
-    COUNT(PKCS1_OK, pkcs1_oaep_params_encode, &params, out, sizeof out, &len);
-    check_written(der, der_len);
-}
+#define PARAMS(name, type, of)                                                                                        \
+    static void name(const char *input, const uint8_t *der, size_t der_len) {                                        \
+        struct pkcs1_##type params;                                                                                   \
+        COUNT(PKCS1_OK, pkcs1_##of##_decode, der, der_len, &params);                                                  \
+        COUNT(PKCS1_OK, pkcs1_##of##_decode_strict, der, der_len, &params);                                           \
+        COUNT(PKCS1_OK, pkcs1_##of##_encode, &params, out, sizeof out, &len);                                         \
+        check_written(der, der_len);                                                                                  \
+    }
+PARAMS(pss, pss_params, pss_params)
+PARAMS(pss_algorithm, pss_params, pss_algorithm)
+PARAMS(oaep, oaep_params, oaep_params)
 
 static void questions(const char *input) {
     struct pkcs1_pss_params pss_params;

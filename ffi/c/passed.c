@@ -98,12 +98,25 @@ static void oaep(const struct pkcs1_oaep_params *params) {
 COMPARE(memcmp, (const void *left, const void *right, size_t len), (left, right, len), VALID(left && right))
 COMPARE(bcmp, (const void *left, const void *right, size_t len), (left, right, len), VALID(left && right))
 
-EACH(pkcs1_c_public_key_decode,
-     (const uint8_t *der, size_t der_len, struct pkcs1_public_key *key),
-     (der, der_len, key), octets(der, der_len); public_key(key))
-EACH(pkcs1_c_public_key_encode,
-     (const struct pkcs1_public_key *key, uint8_t *out, size_t room, size_t *len),
-     (key, out, room, len), output(out, len); public_key(key))
+/* A call that reads into this type, and one that writes it; `check` looks at a value. */
+#define DECODE(call, type, check)                                                                                     \
+    EACH(pkcs1_c_##call, (const uint8_t *der, size_t der_len, struct pkcs1_##type *value), (der, der_len, value),     \
+         octets(der, der_len); check(value))
+#define ENCODE(call, type, check)                                                                                     \
+    EACH(pkcs1_c_##call, (const struct pkcs1_##type *value, uint8_t *out, size_t room, size_t *len),                  \
+         (value, out, room, len), output(out, len); check(value))
+#define PARAMS(name, type, check)                                                                                     \
+    DECODE(name##_decode, type, check)                                                                                \
+    DECODE(name##_decode_strict, type, check)                                                                         \
+    ENCODE(name##_encode, type, check)
+DECODE(public_key_decode, public_key, public_key)
+ENCODE(public_key_encode, public_key, public_key)
+ENCODE(private_key_info_encode, private_key_info, info)
+PARAMS(pss_params, pss_params, pss)
+PARAMS(pss_algorithm, pss_params, pss)
+PARAMS(oaep_params, oaep_params, oaep)
+PARAMS(oaep_algorithm, oaep_params, oaep)
+
 EACH(pkcs1_c_private_key_decode,
      (const uint8_t *der, size_t der_len, struct pkcs1_private_key *key, struct pkcs1_bytes *listed),
      (der, der_len, key, listed), octets(der, der_len); private_key(key); bytes(*listed))
@@ -118,45 +131,6 @@ EACH(pkcs1_c_private_key_info_decode,
      (const uint8_t *der, size_t der_len, struct pkcs1_private_key_info *given, struct pkcs1_private_key *key,
       struct pkcs1_bytes *listed),
      (der, der_len, given, key, listed), octets(der, der_len); info(given); private_key(key); bytes(*listed))
-EACH(pkcs1_c_private_key_info_encode,
-     (const struct pkcs1_private_key_info *given, uint8_t *out, size_t room, size_t *len),
-     (given, out, room, len), output(out, len); info(given))
-EACH(pkcs1_c_pss_params_decode,
-     (const uint8_t *der, size_t der_len, struct pkcs1_pss_params *params),
-     (der, der_len, params), octets(der, der_len); pss(params))
-EACH(pkcs1_c_pss_params_decode_strict,
-     (const uint8_t *der, size_t der_len, struct pkcs1_pss_params *params),
-     (der, der_len, params), octets(der, der_len); pss(params))
-EACH(pkcs1_c_pss_params_encode,
-     (const struct pkcs1_pss_params *params, uint8_t *out, size_t room, size_t *len),
-     (params, out, room, len), output(out, len); pss(params))
-EACH(pkcs1_c_oaep_params_decode,
-     (const uint8_t *der, size_t der_len, struct pkcs1_oaep_params *params),
-     (der, der_len, params), octets(der, der_len); oaep(params))
-EACH(pkcs1_c_oaep_params_decode_strict,
-     (const uint8_t *der, size_t der_len, struct pkcs1_oaep_params *params),
-     (der, der_len, params), octets(der, der_len); oaep(params))
-EACH(pkcs1_c_oaep_params_encode,
-     (const struct pkcs1_oaep_params *params, uint8_t *out, size_t room, size_t *len),
-     (params, out, room, len), output(out, len); oaep(params))
-EACH(pkcs1_c_pss_algorithm_decode,
-     (const uint8_t *der, size_t der_len, struct pkcs1_pss_params *params),
-     (der, der_len, params), octets(der, der_len); pss(params))
-EACH(pkcs1_c_pss_algorithm_decode_strict,
-     (const uint8_t *der, size_t der_len, struct pkcs1_pss_params *params),
-     (der, der_len, params), octets(der, der_len); pss(params))
-EACH(pkcs1_c_pss_algorithm_encode,
-     (const struct pkcs1_pss_params *params, uint8_t *out, size_t room, size_t *len),
-     (params, out, room, len), output(out, len); pss(params))
-EACH(pkcs1_c_oaep_algorithm_decode,
-     (const uint8_t *der, size_t der_len, struct pkcs1_oaep_params *params),
-     (der, der_len, params), octets(der, der_len); oaep(params))
-EACH(pkcs1_c_oaep_algorithm_decode_strict,
-     (const uint8_t *der, size_t der_len, struct pkcs1_oaep_params *params),
-     (der, der_len, params), octets(der, der_len); oaep(params))
-EACH(pkcs1_c_oaep_algorithm_encode,
-     (const struct pkcs1_oaep_params *params, uint8_t *out, size_t room, size_t *len),
-     (params, out, room, len), output(out, len); oaep(params))
 
 COUNT(pkcs1_c_bit_len,
       (const uint8_t *number, size_t number_len),

@@ -1,8 +1,7 @@
-#include "reference.h"
+#include "elements.h"
 #include <string.h>
 
-/* The same octets, at the same place if they stand in the input. */
-static bool same(struct pkcs1_bytes got, struct pkcs1_bytes want, struct pkcs1_bytes input) {
+bool same(struct pkcs1_bytes got, struct pkcs1_bytes want, struct pkcs1_bytes input) {
     uintptr_t before = (uintptr_t)want.data - (uintptr_t)input.data;
     if (got.data == NULL || got.len != want.len || (got.len > 0 && memcmp(got.data, want.data, got.len) != 0))
         return false;
@@ -17,14 +16,13 @@ static bool same_numbers(const struct pkcs1_bytes *got, const struct pkcs1_bytes
     return true;
 }
 
-static bool same_algorithm(const struct pkcs1_algorithm *got, const struct pkcs1_algorithm *want,
-                           struct pkcs1_bytes input) {
+bool same_algorithm(const struct pkcs1_algorithm *got, const struct pkcs1_algorithm *want,
+                    struct pkcs1_bytes input) {
     return same(got->oid, want->oid, input) && got->has_parameters == want->has_parameters && got->tag == want->tag &&
            same(got->parameters, want->parameters, input);
 }
 
-static bool same_mask_gen(const struct pkcs1_mask_gen *got, const struct pkcs1_mask_gen *want,
-                          struct pkcs1_bytes input) {
+bool same_mask_gen(const struct pkcs1_mask_gen *got, const struct pkcs1_mask_gen *want, struct pkcs1_bytes input) {
     return same(got->oid, want->oid, input) && got->has_hash == want->has_hash &&
            same_algorithm(&got->hash, &want->hash, input);
 }

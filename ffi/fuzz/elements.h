@@ -33,4 +33,9 @@ uint32_t number(struct octets *from, struct pkcs1_bytes *read);
 uint32_t octet(struct octets *from, uint8_t *read);
 uint32_t identifier(struct octets *from, struct pkcs1_bytes *read);
 
+/* Whether both have the same octets, and at the same place if `want` stands in the input. */
+bool same(struct pkcs1_bytes got, struct pkcs1_bytes want, struct pkcs1_bytes input);
+bool same_algorithm(const struct pkcs1_algorithm *got, const struct pkcs1_algorithm *want, struct pkcs1_bytes input);
+bool same_mask_gen(const struct pkcs1_mask_gen *got, const struct pkcs1_mask_gen *want, struct pkcs1_bytes input);
+
 #endif

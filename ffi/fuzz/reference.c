@@ -117,19 +117,8 @@ static uint32_t mask_gen(struct octets *from, struct pkcs1_mask_gen *read) {
     return at_end(contents);
 }
 
-static bool same(struct pkcs1_bytes left, struct pkcs1_bytes right) {
-    return left.len == right.len && (left.len == 0 || memcmp(left.data, right.data, left.len) == 0);
-}
-
-static bool same_algorithm(const struct pkcs1_algorithm *left, const struct pkcs1_algorithm *right) {
-    return same(left->oid, right->oid) && left->has_parameters == right->has_parameters && left->tag == right->tag &&
-           same(left->parameters, right->parameters);
-}
-
-static bool same_mask_gen(const struct pkcs1_mask_gen *left, const struct pkcs1_mask_gen *right) {
-    return same(left->oid, right->oid) && left->has_hash == right->has_hash &&
-           same_algorithm(&left->hash, &right->hash);
-}
+/* Defaults are told by their octets, wherever they stand. */
+static const struct pkcs1_bytes anywhere = {NULL, 0};
 
 /* Opens the field with this tag, if it comes next. */
 static uint32_t field(struct octets *from, uint8_t tag, struct octets *contents) {
@@ -147,13 +136,13 @@ static uint32_t hash_and_mask(struct octets *from, struct pkcs1_algorithm *hash,
     if (contents.at != NULL) {
         TRY(algorithm(&contents, hash));
         TRY(at_end(contents));
-        *written |= same_algorithm(hash, &sha1);
+        *written |= same_algorithm(hash, &sha1, anywhere);
     }
     TRY(field(from, 0xa1, &contents));
     if (contents.at != NULL) {
         TRY(mask_gen(&contents, mask));
         TRY(at_end(contents));
-        *written |= same_mask_gen(mask, &mgf1);
+        *written |= same_mask_gen(mask, &mgf1, anywhere);
     }
     return PKCS1_OK;
 }
@@ -190,7 +179,7 @@ static uint32_t oaep(struct octets contents, struct pkcs1_oaep_params *params, b
     if (inner.at != NULL) {
         TRY(algorithm(&inner, &params->p_source));
         TRY(at_end(inner));
-        *written |= same_algorithm(&params->p_source, &no_label);
+        *written |= same_algorithm(&params->p_source, &no_label, anywhere);
     }
     return at_end(contents);
 }
@@ -204,7 +193,7 @@ static uint32_t parameters(const char *kind, struct octets from, union value *v)
         struct pkcs1_algorithm of;
         TRY(algorithm_in(contents, &of));
         TRY(at_end(from));
-        if (!same(of.oid, is_pss ? pkcs1_oid_rsassa_pss : pkcs1_oid_rsaes_oaep))
+        if (!same(of.oid, is_pss ? pkcs1_oid_rsassa_pss : pkcs1_oid_rsaes_oaep, anywhere))
             return PKCS1_OID_UNKNOWN;
         if (!of.has_parameters)
             return PKCS1_PARAMETERS_MISSING;

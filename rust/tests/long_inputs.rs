@@ -2,7 +2,7 @@
 
 mod made;
 
-use made::{sequence, tlv};
+use made::{kind, sequence, tlv};
 use pkcs1::der::{Encode, ErrorKind, asn1::UintRef};
 use pkcs1::{RsaOaepParamsRef, RsaPssParamsRef, RsaPublicKeyRef};
 
@@ -12,13 +12,6 @@ const LONG: usize = 1 << 20;
 fn on_a_short_stack(call: impl FnOnce() + Send + 'static) {
     let thread = std::thread::Builder::new().stack_size(128 << 10);
     thread.spawn(call).unwrap().join().unwrap();
-}
-
-fn kind<T>(read: pkcs1::Result<T>) -> ErrorKind {
-    match read.err().unwrap() {
-        pkcs1::Error::Asn1(error) => error.kind(),
-        other => panic!("{other}"),
-    }
 }
 
 #[test]

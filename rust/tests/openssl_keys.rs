@@ -2,11 +2,14 @@
 //! OpenSSL prints, and written as the same octets; and files that are refused.
 #![cfg(feature = "alloc")]
 
+mod made;
+
+use made::kind;
 use pkcs1::der::{Decode, Encode, ErrorKind, Tag};
 use pkcs1::pkcs8::PrivateKeyInfoRef;
 use pkcs1::spki::AlgorithmIdentifier;
 use pkcs1::{
-    Error, RsaOaepParamsRef, RsaPrivateKeyOwned, RsaPrivateKeyRef, RsaPrivateKeyView, RsaPssParamsRef, RsaPublicKeyRef,
+    RsaOaepParamsRef, RsaPrivateKeyOwned, RsaPrivateKeyRef, RsaPrivateKeyView, RsaPssParamsRef, RsaPublicKeyRef,
     Sha256, Sha512,
 };
 
@@ -27,13 +30,6 @@ fn numbers(key: &RsaPrivateKeyRef<'_>) -> Vec<Vec<u8>> {
     let first = [key.modulus, key.public_exponent, key.private_exponent, key.prime1, key.prime2];
     let numbers = first.into_iter().chain([key.exponent1, key.exponent2, key.coefficient]).chain(others);
     numbers.map(|number| number.as_bytes().to_vec()).collect()
-}
-
-fn kind<T>(read: Result<T, Error>) -> ErrorKind {
-    match read.err() {
-        Some(Error::Asn1(error)) => error.kind(),
-        other => panic!("{other:?}"),
-    }
 }
 
 fn unexpected(octet: u8) -> ErrorKind {

@@ -3,9 +3,10 @@
 # the files that it names are there: keys and a certificate that OpenSSL made, programs in C, and the library and the
 # tool that make built and installed. A block finds few tools, which a small Debian has too, and so no xxd. What the
 # blocks print and write is compared with what OpenSSL says. The blocks on CMake and Meson build a program, where these
-# are installed.
+# are installed. And each command of OpenSSL that a document or pkcs1.h names is run on each kind of its input.
 set -eu
 cd "$(dirname "$0")/../.."
+. tools/shell.sh
 top=$PWD
 limit=$(command -v timeout) sh=$(command -v sh)
 allowed='grep ls od openssl paste pkg-config sed sh split tail tr'
@@ -15,10 +16,6 @@ identifier=304106092a864886f70d01010a
 sha256=608648016503040201/05:
 printed_params="hash=$sha256 mask=2a864886f70d010108/[$sha256] salt=32 trailer=1 defaults=1 again=$params"
 
-stop() {
-    printf 'tools/docs/check_commands.sh: %s\n' "$*" >&2
-    exit 1
-}
 # blocks FILE..: each block of these documents, in a file.
 blocks() {
     perl -ne '
@@ -63,12 +60,6 @@ run() {
 block() {
     LANGUAGE=$1 perl -ne 'if (/^```(\w*)/) { $in = $1 eq $ENV{LANGUAGE}; next } print if $in' "$top/docs/USING.md"
 }
-# have TOOL: whether it is installed; if not, says that its block isn't tested.
-have() {
-    command -v "$1" > /dev/null && return
-    echo "tools/docs/check_commands.sh: $1 is not installed: its block isn't tested" >&2
-    return 1
-}
 # prints_modulus PROGRAM: it prints that of the key in pub.der.
 prints_modulus() {
     [ "$(LD_LIBRARY_PATH=$PREFIX/lib "$1" pub.der)" = "$(openssl rsa -in key.pem -noout -modulus |
@@ -77,12 +68,12 @@ prints_modulus() {
 # built: CMake and Meson build a program, as their blocks say.
 built() {
     export PKG_CONFIG_PATH=$PREFIX/lib/pkgconfig
-    if have cmake; then
+    if have cmake "its block isn't tested"; then
         printf '%s\n' 'cmake_minimum_required(VERSION 3.7)' 'project(program C)' "$(block cmake)" > CMakeLists.txt
         cmake -S . -B by_cmake > log 2>&1 && cmake --build by_cmake > log 2>&1 || stop "CMake fails: $(cat log)"
         prints_modulus by_cmake/program
     fi
-    if have meson; then
+    if have meson "its block isn't tested"; then
         block meson > meson.build
         meson setup by_meson > log 2>&1 && meson compile -C by_meson > log 2>&1 || stop "Meson fails: $(cat log)"
         prints_modulus by_meson/program
@@ -108,6 +99,43 @@ wanted() {
         "reading keys/short.der: $error the input ends too early"
     yes 'pub n=07 e=03 again=3006020107020103' | head -n 800000
 }
+# converts COMMAND KIND INPUT..: of each of these inputs it makes what the tool reads as this kind, with the same modulus.
+converts() {
+    local input modulus words public
+    for input in "${@:3}"; do
+        rm -f made
+        read -ra words <<< "$(sed -E "s/ -in [^ ]+/ -in $input/; s/ -out [^ ]+/ -out made/" <<< "$1")"
+        "${words[@]}" > log 2>&1 && [ -s made ] || stop "$1: fails for $input: $(cat log)"
+        public=$([[ $input != *public* ]] || echo -pubin)
+        # shellcheck disable=SC2086
+        modulus=$(openssl rsa $public -in "$input" -noout -modulus | sed 's/Modulus=//' | tr A-F a-f)
+        echo "$2 $(hex made)" | pkcs1_tool | grep -q " n=$modulus " || stop "$1: makes no $2 with the modulus of $input"
+    done
+}
+# conversions: each command of OpenSSL with -out, of the header too, does what it is for.
+conversions() {
+    local header=$top/ffi/include/pkcs1.h command
+    openssl rsa -in key.pem -traditional -out traditional.pem 2> log
+    openssl pkey -in pss.pem -pubout -out pss_public.pem
+    for command in 'rsa -in' 'rsa -pubin'; do
+        grep -q "openssl $command" "$header" || stop "$header has no command: openssl $command .."
+    done
+    sed 's/\\-/-/g' "$header" "$top"/{README.md,rust/README.md,docs/*.md,crates/pkcs1_tool/pkcs1_tool.1} |
+        grep -oE 'openssl [a-z0-9]+ -[^`#|"]*' | grep -e ' -out ' | sed 's/ *$//' | sort -u > commands
+    while read -r command; do
+        case $command in
+            *' -pubin '*' -RSAPublicKey_out '*) converts "$command" pub public.pem pss_public.pem ;;
+            *' -RSAPublicKey_out '*) converts "$command" pub key.pem traditional.pem pss.pem ;;
+            'openssl rsa '*' -traditional '*) converts "$command" priv key.pem traditional.pem pss.pem ;;
+            'openssl pkcs8 '*) converts "$command" p8 key.pem traditional.pem ;;
+            'openssl x509 '*' -pubkey '*)
+                ${command/-out */-out made} 2> log && cmp made public.pem || stop "$command: gives another key"
+                ;;
+            *) stop "$command: what is it for?" ;;
+        esac
+    done < commands
+    echo "$(wc -l < commands) commands of OpenSSL do what they are for"
+}
 # refusals: what the blocks do with files of another kind.
 refusals() {
     local block
@@ -121,9 +149,8 @@ refusals() {
     ! pkcs1_tool < lines > log 2>&1 && grep -qx 'fault: read' log || stop "a block of long input isn't needed"
 }
 
-for tool in make cc perl $allowed; do
-    command -v $tool > /dev/null || stop "$tool isn't installed, and is needed"
-done
+# shellcheck disable=SC2086
+needs make cc perl $allowed
 export room PREFIX
 room=$(mktemp -d)
 trap 'rm -rf "$room"' EXIT
@@ -150,5 +177,6 @@ cmp key.der checked.der
     stop "parameters are cut out or written otherwise: $(hex params.der) $(hex again.der) $(hex alg.der)"
 prints_modulus ./a.out
 built
+conversions
 refusals
 echo "$count blocks of commands do what they are for"

@@ -1,7 +1,8 @@
 #!/usr/bin/env bash
 # Fails where a document names in backquotes a file, call, type, clause or definition that isn't there, or links to what
 # isn't. A word is there if it stands in code, not in a comment or in proofs/. In tables, `src/` and `specs/` head files
-# of the crate in the heading, with their "definitions". check_promises.sh has clauses.
+# of the crate in the heading, with their "definitions". check_promises.py has clauses. And the map in docs/DESIGN.md has
+# each crate, each file of one that it lists, and each entry of ffi and tools.
 #     check_names.sh [FOLDER DOCUMENT..]    of these documents, in the tree in FOLDER, in place of all documents here
 set -eu
 cd "${1:-$(dirname "$0")/../..}"
@@ -14,7 +15,7 @@ COMMENT = {'.rt': r'//.*', '.rs': r'//.*', '.go': r'//.*', '.c': r'/[/*].*', '.h
 
 paths, code, wrong = set(), {}, []
 for folder, inner, files in os.walk('.'):
-    inner[:] = set(inner) - {'.git', 'out', 'target'}
+    inner[:] = set(inner) - {'.git', 'out', 'target', '__pycache__'}
     paths.update(os.path.relpath(os.path.join(folder, name)) for name in inner + files)
 for path in filter(os.path.isfile, paths):
     kind = os.path.splitext(path)[1]
@@ -56,6 +57,19 @@ def check_files(head, cells):
 def headings(path):
     return {re.sub(r'[^\w -]', '', line.strip('# \n').lower()).replace(' ', '-') for line in open(path) if line[0] == '#'}
 
+def check_map(path):
+    """The map names each crate and each entry of ffi and tools, and of a crate whose files it has each file."""
+    text = open(path).read()
+    parts = {it: names(part) for it, part in re.findall(r'(?ms)^### `(\w+)`(.*?)(?=^###? )', text)}
+    named = [it.strip('/') for it in names(text)]
+    for it in sorted(paths):
+        crate, file = (re.findall(r'^crates/(\w+)/src/((?!lib\b|main\b|tests\b)\w+)\.rt$', it) or [('', '')])[0]
+        if crate in parts and file not in parts[crate]:
+            wrong.append(f'{path}: the map lacks {it}')
+        entry = re.fullmatch(r'crates/(\w+)|(?:ffi|tools)/[^/]+', it)
+        if entry and not any(name in (it, entry[1]) or name.startswith(it + '/') for name in named):
+            wrong.append(f'{path}: the map lacks {it}')
+
 documents = sys.argv[1:] or ['README.md', 'CONTRIBUTING.md', 'SECURITY.md', *glob.glob('docs/*.md'), *glob.glob('crates/*/README.md'), 'rust/README.md', *glob.glob('tools/*/README.md')]
 for document in documents:
     crate, head, fenced = '', [], ''
@@ -80,6 +94,8 @@ for document in documents:
             path = os.path.normpath(os.path.join(os.path.dirname(document), path)) if path else document
             if not os.path.exists(path) or heading and heading not in headings(path):
                 say('place to link to', path + '#' + heading)
+if 'docs/DESIGN.md' in documents:
+    check_map('docs/DESIGN.md')
 print('\n'.join(wrong) or f'the names in {len(documents)} documents are there')
 sys.exit(bool(wrong))
 END

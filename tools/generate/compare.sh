@@ -5,12 +5,9 @@
 set -eu
 made=$(realpath "$1")
 cd "$(dirname "$0")/../.."
+. tools/shell.sh
 generated=ffi/generated
 
-stop() {
-    printf 'tools/generate.sh: %s\n' "$*" >&2
-    exit 1
-}
 # says FOLDER WORD: what PROVENANCE there says behind this word.
 says() {
     sed -n "s/^$2: //p" "$1/PROVENANCE"

@@ -5,6 +5,7 @@
 # processor its gcc and qemu, and to compare instructions the kit.
 set -eu
 here=$(cd "$(dirname "$0")" && pwd)
+. "$here/../shell.sh"
 ffi=$here/../../ffi
 rows=$here/../../crates/pkcs1_vectors/stdin
 generated=$(realpath "${1:-$ffi/generated}")
@@ -13,16 +14,7 @@ trap 'rm -rf "$room"' EXIT
 ulimit -t 300 # no test runs forever
 export PYTHONDONTWRITEBYTECODE=1
 
-stop() {
-    printf 'tools/generate/test.sh: %s\n' "$*" >&2
-    exit 1
-}
-for tool in gcc clang readelf nm python3; do
-    command -v $tool > /dev/null || {
-        printf 'tools/generate/test.sh: %s is not installed, and is needed\n' $tool >&2
-        exit 2
-    }
-done
+needs gcc clang readelf nm python3
 
 # links OBJECT CC: it can be moved, and has the marks of control flow that $asked has the linker look for.
 links() {
@@ -189,7 +181,7 @@ hash_after() {
 hash_is_of_code() {
     local hash edit
     mkdir "$room/tree"
-    (cd "$here/../.." && tar c crates.txt crates/*/src tools/{generate,fresh}.sh tools/generate) | tar x -C "$room/tree"
+    (cd "$here/../.." && tar c crates.txt crates/*/src tools/{generate,fresh,shell}.sh tools/generate) | tar x -C "$room/tree"
     hash=$(hash_after '')
     for edit in 's,^//,// Or:,' 's/^\( *ensures .*{\)/\1 1 ≡ 1 ×/' '/^ghost use/d' '/tactic/d'; do
         [ "$(hash_after "$edit")" = "$hash" ] || stop "the hash changes with $edit"

@@ -6,14 +6,11 @@
 set -eu
 kit=$1
 here=$(cd "$(dirname "$0")" && pwd)
+. "$here/../shell.sh"
 room=$(mktemp -d)
 trap 'rm -rf "$room"' EXIT
 name=core::cmp::slices::groups_equal
 
-stop() {
-    printf 'tools/generate/test_equal.sh: %s\n' "$*" >&2
-    exit 1
-}
 # What rattle gives to clang for two slices that are compared, after LLVM's passes.
 make_module() {
     mkdir -p "$room/equal/src" "$room/toolchain"/{bin,kept}

@@ -4,16 +4,12 @@
 set -eu
 kit=$1
 here=$(cd "$(dirname "$0")" && pwd)
+. "$here/../shell.sh"
 room=$(mktemp -d)
 trap 'rm -rf "$room"' EXIT
 tree=$room/tree
 export PATH=$room/kit/bin:$PATH
 unset CRATES # the tree has its own
-
-stop() {
-    printf 'tools/generate/test_making.sh: %s\n' "$*" >&2
-    exit 1
-}
 
 # The kit. In the makings that its file `other` lists, the library has other code for aarch64. If there is a file
 # `meets`, another proof of a library ends meanwhile.
@@ -52,7 +48,7 @@ make_tree() {
     local library
     mkdir -p "$tree/ffi"
     cp "$here/../../crates.txt" "$tree"
-    (cd "$here/../.." && tar c tools/{generate,fresh}.sh tools/generate) | tar x -C "$tree"
+    (cd "$here/../.." && tar c tools/{generate,fresh,shell}.sh tools/generate) | tar x -C "$tree"
     printf '#!/bin/sh\necho tested\n' > "$tree/tools/generate/test.sh"
     printf 'check:\n\t@echo checked\n' > "$tree/Makefile"
     for library in pkcs1_c pkcs1_tool $("$tree/tools/generate/sources.py" libraries pkcs1_c) \

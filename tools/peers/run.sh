@@ -19,13 +19,10 @@ libraries=(libpkcs1 'libpkcs1 strict' OpenSSL mbedTLS wolfSSL Nettle Botan GnuTL
     rust-asn1)
 here=$(realpath "$(dirname "$0")")
 top=$(realpath "$here/../..")
+. "$top/tools/shell.sh"
+failure=2
 python=/usr/bin/python3
 export PEERS_MODULE=$here/libraries/pkcs1.asn
-
-stop() {
-    printf 'tools/peers/run.sh: %s\n' "$*" >&2
-    exit 2
-}
 
 # missing_packages PACKAGE..: those of the list that aren't installed.
 missing_packages() {

@@ -14,23 +14,13 @@ shopt -s nullglob
 exec < /dev/null
 from=$PWD
 cd "$(dirname "$0")/../.."
+. tools/shell.sh
+failure=2
 room=$(mktemp -d)
 trap 'rm -rf "$room"' EXIT
 trap 'exit 2' INT TERM HUP
 tree=$room/tree
 export RT_SECONDS=600
-
-stop() {
-    printf 'tools/unproved/run.sh: %s\n' "$*" >&2
-    exit 2
-}
-# needs TOOL..: whether these are installed.
-needs() {
-    local it
-    for it; do
-        command -v "$it" > /dev/null || { echo "$it isn't installed, and is needed" && return 1; }
-    done
-}
 
 # try_and_keep NAME WORD..: rt try in this folder, with these words; leaves $room/NAME.o, in which exports are global.
 # The compiler gets no environment. Of the two modules that rt try compiles, the one with the sanitizer is the program.
@@ -83,7 +73,7 @@ layout() {
 documents() {
     local check
     needs python3 perl
-    for check in tools/docs/check_*.sh; do
+    for check in tools/docs/{check,test}_*; do
         "$check"
     done
 }
@@ -167,7 +157,7 @@ done
 for part in "${parts[@]}"; do
     steps_of "$part" >> "$room/steps"
 done
-needs rt python3 tar > "$room/log" || stop "$(cat "$room/log")"
+needs rt python3 tar
 page=$(rt doc) || stop "rt doesn't run"
 kit=$(dirname "$page")
 mkdir "$tree"

@@ -1,5 +1,13 @@
-//! Encodings for the tests.
+//! Encodings for the tests, and what reading them tells.
 #![allow(dead_code)]
+
+/// The kind of the error of reading.
+pub fn kind<T>(read: pkcs1::Result<T>) -> pkcs1::der::ErrorKind {
+    match read.err() {
+        Some(pkcs1::Error::Asn1(error)) => error.kind(),
+        other => panic!("{other:?}"),
+    }
+}
 
 /// An encoding of this tag and contents.
 pub fn tlv(tag: u8, contents: &[u8]) -> Vec<u8> {

@@ -76,30 +76,21 @@ static const struct row rows[] = {
     {PSS, "is", {our_pss_is, plain_pss_is}}, {OAEP, "is", {our_oaep_is, plain_oaep_is}},
     {PSS, "algorithm_is", {our_hash_is, plain_hash_is}}, {OAEP, "label", {our_label, plain_label}}};
 
+#define OPEN(type, name, ...)                                                                                         \
+    case type:                                                                                                        \
+        kept = plain_##name##_open(der, der_len);                                                                     \
+        return pkcs1_##name##_decode(der, der_len, __VA_ARGS__) == PKCS1_OK;
 /* Reads the input, for what is written and asked. */
 static bool open_input(int type) {
     switch (type) {
-    case PUBLIC_KEY:
-        kept = plain_public_key_open(der, der_len);
-        return pkcs1_public_key_decode(der, der_len, &public_key) == PKCS1_OK;
-    case PRIVATE_KEY:
-        kept = plain_private_key_open(der, der_len);
-        return pkcs1_private_key_decode(der, der_len, &private_key, others, OTHERS) == PKCS1_OK;
-    case PKCS8:
-        kept = plain_private_key_info_open(der, der_len);
-        return pkcs1_private_key_info_decode(der, der_len, &info, &private_key, others, OTHERS) == PKCS1_OK;
-    case PSS:
-        kept = plain_pss_params_open(der, der_len);
-        return pkcs1_pss_params_decode(der, der_len, &pss) == PKCS1_OK;
-    case PSS_ALGORITHM:
-        kept = plain_pss_algorithm_open(der, der_len);
-        return pkcs1_pss_algorithm_decode(der, der_len, &pss) == PKCS1_OK;
-    case OAEP:
-        kept = plain_oaep_params_open(der, der_len);
-        return pkcs1_oaep_params_decode(der, der_len, &oaep) == PKCS1_OK;
-    default:
-        kept = plain_oaep_algorithm_open(der, der_len);
-        return pkcs1_oaep_algorithm_decode(der, der_len, &oaep) == PKCS1_OK;
+    OPEN(PUBLIC_KEY, public_key, &public_key)
+    OPEN(PRIVATE_KEY, private_key, &private_key, others, OTHERS)
+    OPEN(PKCS8, private_key_info, &info, &private_key, others, OTHERS)
+    OPEN(PSS, pss_params, &pss)
+    OPEN(PSS_ALGORITHM, pss_algorithm, &pss)
+    OPEN(OAEP, oaep_params, &oaep)
+    OPEN(OAEP_ALGORITHM, oaep_algorithm, &oaep)
+    default: return false;
     }
 }
 

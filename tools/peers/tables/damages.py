@@ -5,6 +5,9 @@ In Markdown. With --all first, a line for each damage and kind of type. A file o
 import collections
 import sys
 
+sys.dont_write_bytecode = True
+from measured import print_table
+
 KINDS = ("keys", "keys", "keys", "parameters", "parameters", "parameters", "parameters", "PKCS #8")
 NOT_DER = {"False": "all that isn't DER: ", "True": "all that is DER: "}
 REJECTED, WRITTEN_ALIKE, NO_SUCH_TYPE = b"029"
@@ -42,13 +45,6 @@ class Counts:
         return f"{self.per_cent(heading)} ({self.all[heading]})" if self.all[heading] else "-"
 
 
-def print_table(first, libraries, lines):
-    print(f"| {first} | {' | '.join(libraries)} |\n|---|{'---|' * len(libraries)}")
-    for line in lines:
-        print("| " + " | ".join(line) + " |")
-    print()
-
-
 def count(inputs, names, answers):
     """Of one library: what is accepted, by damage and kind and by group, and what is written alike."""
     accepted, written = Counts(), Counts()
@@ -83,12 +79,12 @@ def main():
         lines["valid"] = "valid"
     lines = {heading: shown for heading, shown in lines.items() if any(it.all[heading] for it, _ in counts.values())}
     print("Per cent accepted. *: DER of the type.\n")
-    print_table("damage", counts, ([shown, *(accepted.per_cent(heading) for accepted, _ in counts.values())]
-                                   for heading, shown in lines.items()))
+    print_table(["damage", *counts], ([shown, *(accepted.per_cent(heading) for accepted, _ in counts.values())]
+                                       for heading, shown in lines.items()))
     print("Per cent written as the same octets, of those accepted and written (how many).\n")
     writers = {name: written for name, (_, written) in counts.items() if written.all}
     groups = [f"{what} {kind}" for what in ("valid", "damaged") for kind in kinds]
-    print_table("inputs", writers, ([group, *(it.per_cent_of(group) for it in writers.values())] for group in groups))
+    print_table(["inputs", *writers], ([group, *(it.per_cent_of(group) for it in writers.values())] for group in groups))
 
 
 if __name__ == "__main__":

@@ -1,4 +1,4 @@
-"""What the program printed, and what callgrind counted."""
+"""What the program printed, what callgrind counted, and tables."""
 import re
 
 COUNTED_CALLS = 20
@@ -30,3 +30,11 @@ def counted(files):
 
 def shown(number):
     return f"{number:.0f}" if number >= 100 else f"{number:.1f}" if number >= 10 else f"{number:.2f}"
+
+
+def print_table(head, lines):
+    """A table in Markdown."""
+    print(f"| {' | '.join(head)} |\n|{'---|' * len(head)}")
+    for line in lines:
+        print(f"| {' | '.join(line)} |")
+    print()

@@ -7,7 +7,7 @@ import signal
 import sys
 
 sys.dont_write_bytecode = True
-from measured import counted, shown, smallest
+from measured import counted, print_table, shown, smallest
 
 US, RUST, LINE = "libpkcs1", "plain Rust", "line of C"
 CALLS = ("read", "strict", "write", "length", "is", "algorithm_is", "label", "bit_len")
@@ -67,12 +67,10 @@ def number(value):
 
 
 def print_summary(it):
-    print("| call | rows | miss the goal in instructions |\n|---|---|---|")
-    for call in CALLS:
-        rows = [row for row in it.rows if row[0] == call]
-        print(f"| {call} | {len(rows)} | {sum(map(it.misses, rows))} |")
-    rows = [row for row in it.rows if row[0] != "length"]
-    print(f"| all but length | {len(rows)} | {sum(map(it.misses, rows))} |\n")
+    parts = {call: [row for row in it.rows if row[0] == call] for call in CALLS}
+    parts["all but length"] = [row for row in it.rows if row[0] != "length"]
+    print_table(["call", "rows", "miss the goal in instructions"],
+                ([part, str(len(rows)), str(sum(map(it.misses, rows)))] for part, rows in parts.items()))
 
 
 def ours(it, row):
@@ -82,33 +80,27 @@ def ours(it, row):
 
 
 def print_some(it):
-    print("Beside plain Rust:\n\n| encoding | read | read strictly | write | length |\n|---|---|---|---|---|")
-    for name, shown_name in SOME.items():
-        print(f"| {shown_name} | {' | '.join(ours(it, (call, name)) for call in CALLS[:4])} |")
-    print("\n| question | instructions, ratios |\n|---|---|")
-    for row, shown_name in ASKED.items():
-        print(f"| {shown_name} | {ours(it, row)} |")
-    print("\nBeside a straight line of C:\n\n| encoding | read | line | ratio | written | line | ratio |\n"
-          f"|---|{'---|' * 6}")
-    for name, shown_name in SOME.items():
-        cells = []
-        for row in ("read", name), ("write", name):
-            cells += [number(it.instructions.get((who, *row))) for who in (US, LINE)]
-            cells.append(it.cell(it.instructions, row, LINE))
-        print(f"| {shown_name} | {' | '.join(cells)} |")
-    print()
+    def beside_line(row):
+        return [*(number(it.instructions.get((who, *row))) for who in (US, LINE)), it.cell(it.instructions, row, LINE)]
+
+    print("Beside plain Rust:\n")
+    print_table(["encoding", "read", "read strictly", "write", "length"],
+                ([shown_name, *(ours(it, (call, name)) for call in CALLS[:4])] for name, shown_name in SOME.items()))
+    print_table(["question", "instructions, ratios"], ([shown_name, ours(it, row)] for row, shown_name in ASKED.items()))
+    print("Beside a straight line of C:\n")
+    print_table(["encoding", "read", "line", "ratio", "written", "line", "ratio"],
+                ([shown_name, *beside_line(("read", name)), *beside_line(("write", name))]
+                 for name, shown_name in SOME.items()))
 
 
 def print_all(it):
-    print("| call | input | libpkcs1 | plain Rust | ratio | line of C | ratio | ns | plain Rust | ratio | line of C "
-          "| ratio |\n|---|---|---|---|---|---|---|---|---|---|---|---|")
-    for row in it.rows:
-        cells = [*row]
-        for numbers in (it.instructions, it.times):
-            cells += [number(numbers.get((US, *row))), number(numbers.get((RUST, *row))), it.cell(numbers, row),
-                      number(numbers.get((LINE, *row))), it.cell(numbers, row, LINE)]
-        print(f"| {' | '.join(cells)} |")
-    print()
+    def cells(row, numbers):
+        return [number(numbers.get((US, *row))), number(numbers.get((RUST, *row))), it.cell(numbers, row),
+                number(numbers.get((LINE, *row))), it.cell(numbers, row, LINE)]
+
+    others = ["plain Rust", "ratio", "line of C", "ratio"]
+    print_table(["call", "input", "libpkcs1", *others, "ns", *others],
+                ([*row, *cells(row, it.instructions), *cells(row, it.times)] for row in it.rows))
 
 
 def main():

@@ -5,7 +5,7 @@ import glob
 import sys
 
 sys.dont_write_bytecode = True
-from measured import counted, shown, smallest
+from measured import counted, print_table, shown, smallest
 
 KEYS = {"2048.public_key": "public 2048", "4096.public_key": "public 4096", "2048.private_key": "private 2048",
         "4096.private_key": "private 4096", "2048_3_primes.multi_prime_key": "three primes 2048", "sha256.pss": "PSS",
@@ -34,13 +34,10 @@ def cell(instructions, times, *key):
     return "-" if parts == ("-", "-") else " / ".join(parts)
 
 
-def print_table(title, libraries, cases, cell_of):
-    print(f"{title}\n\n| library | {' | '.join(cases.values())} |\n|---|{'---|' * len(cases)}")
-    for library in libraries:
-        cells = [cell_of(library, case) for case in cases]
-        if any(it != "-" for it in cells):
-            print(f"| {library} | {' | '.join(cells)} |")
-    print()
+def print_cases(title, libraries, cases, cell_of):
+    print(f"{title}\n")
+    lines = ([library, *(cell_of(library, case) for case in cases)] for library in libraries)
+    print_table(["library", *cases.values()], (line for line in lines if any(it != "-" for it in line[1:])))
 
 
 def main():
@@ -52,11 +49,11 @@ def main():
     libraries.sort(key=lambda library: library != FIRST)
     for written, what in DONE:
         title = f"{what}: instructions and time as ratios to {FIRST}, of which the first line has both."
-        print_table(title, libraries, KEYS, lambda library, case: cell(instructions, times, library, case, written))
-    print_table("PSS parameters read: instructions and time.", READERS, PSS,
+        print_cases(title, libraries, KEYS, lambda library, case: cell(instructions, times, library, case, written))
+    print_cases("PSS parameters read: instructions and time.", READERS, PSS,
                 lambda library, case: both(instructions, times, library, case, "0"))
     calls = smallest(glob.glob(f"{folder}/allocations"))
-    print_table("Calls for memory: read, read and written.", libraries, KEYS, lambda library, case: " / ".join(
+    print_cases("Calls for memory: read, read and written.", libraries, KEYS, lambda library, case: " / ".join(
         f"{calls[library, case, written]:.0f}" for written, _ in DONE if (library, case, written) in calls) or "-")
 
 

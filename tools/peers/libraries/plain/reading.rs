@@ -40,11 +40,7 @@ fn whole(tag: u8, b: &[u8]) -> Option<&[u8]> {
         return None;
     }
     let (c, r) = tlv(tag, b)?;
-    if r.is_empty() {
-        Some(c)
-    } else {
-        None
-    }
+    r.is_empty().then_some(c)
 }
 #[inline]
 fn uint(b: &[u8]) -> Option<(&[u8], &[u8])> {
@@ -56,11 +52,7 @@ fn uint(b: &[u8]) -> Option<(&[u8], &[u8])> {
 }
 fn small(b: &[u8]) -> Option<(u8, &[u8])> {
     let (x, r) = uint(b)?;
-    if x.len() == 1 {
-        Some((x[0], r))
-    } else {
-        None
-    }
+    (x.len() == 1).then_some((x[0], r))
 }
 fn oid(b: &[u8]) -> Option<(&[u8], &[u8])> {
     let (c, r) = tlv(6, b)?;
@@ -74,11 +66,7 @@ fn oid(b: &[u8]) -> Option<(&[u8], &[u8])> {
         }
         start = *x < 0x80;
     }
-    if start {
-        Some((c, r))
-    } else {
-        None
-    }
+    start.then_some((c, r))
 }
 
 pub struct Pub<'a> {
@@ -134,11 +122,7 @@ pub fn read_pub(b: &[u8]) -> Option<Pub<'_>> {
     let c = whole(0x30, b)?;
     let (n, c) = uint(c)?;
     let (e, c) = uint(c)?;
-    if c.is_empty() {
-        Some(Pub { n, e })
-    } else {
-        None
-    }
+    c.is_empty().then_some(Pub { n, e })
 }
 pub fn read_priv(b: &[u8]) -> Option<Priv<'_>> {
     let c = whole(0x30, b)?;
@@ -195,11 +179,7 @@ fn plain_in(c: &[u8]) -> Option<Plain<'_>> {
         return Some(Alg { oid: o, p: None });
     }
     let (tag, v, r) = any(c)?;
-    if r.is_empty() {
-        Some(Alg { oid: o, p: Some(Any { tag, c: v }) })
-    } else {
-        None
-    }
+    r.is_empty().then_some(Alg { oid: o, p: Some(Any { tag, c: v }) })
 }
 fn mask_in(c: &[u8]) -> Option<Mask<'_>> {
     let (o, c) = oid(c)?;
@@ -259,11 +239,7 @@ pub fn read_oaep<const STRICT: bool>(b: &[u8]) -> Option<Oaep<'_>> {
 /// The parameters behind this identifier.
 fn in_algorithm<'a>(id: &[u8], b: &'a [u8]) -> Option<&'a [u8]> {
     let (o, c) = oid(whole(0x30, b)?)?;
-    if o == id {
-        Some(c)
-    } else {
-        None
-    }
+    (o == id).then_some(c)
 }
 pub fn read_pss_algorithm<const STRICT: bool>(b: &[u8]) -> Option<Pss<'_>> {
     read_pss::<STRICT>(in_algorithm(PSS, b)?)

@@ -1,16 +1,16 @@
 #!/usr/bin/env python3
-"""Makes the table of platforms in docs/USING.md, and the two sentences on them in README.md, of what the steps declare
-that build for platforms: each call of `platform`, which tools/platforms.sh explains.
+"""Fails where the table of platforms in docs/USING.md, or the two sentences on them in README.md, aren't what the steps
+declare that build for platforms: each call of `platform`, which tools/platforms.sh explains.
 
-    tools/docs/make_platforms.py [--check]
+    tools/docs/check_platforms.py [--write]
 
---check: fails where the documents have something else. Rows that differ in the machine alone are one."""
+--write: puts them there. Rows that differ in the machine alone are one."""
 import re
 import subprocess
 import sys
 
-SCRIPTS = ["tools/clean_room.sh", "tools/other_machines.sh", "tools/other_platforms.sh", "rust/check.sh"]
-BEGIN, END = "<!-- made by tools/docs/make_platforms.py -->", "<!-- end of what is made -->"
+SCRIPTS = ["tools/clean_room.sh", "tools/other_platforms.sh", "rust/check.sh"]
+BEGIN, END = "<!-- made by tools/docs/check_platforms.py -->", "<!-- end of what is made -->"
 HEAD = "| system | machine | what, by what | |\n|---|---|---|---|\n"
 
 
@@ -52,10 +52,10 @@ def main():
         made, places = re.subn(pattern, lambda _: new, text, flags=re.S)
         if places != 1:
             wrong.append(f"{document} has {places} places for platforms")
-        elif sys.argv[1:] != ["--check"]:
+        elif sys.argv[1:] == ["--write"]:
             open(document, "w").write(made)
         elif made != text:
-            wrong.append(f"{document} isn't what tools/docs/make_platforms.py makes: run it")
+            wrong.append(f"{document} has other platforms: tools/docs/check_platforms.py --write puts these there")
     print("\n".join(wrong) or f"the documents have the {len(rows)} platforms that steps declare")
     sys.exit(bool(wrong))
 
