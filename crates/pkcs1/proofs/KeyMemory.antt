@@ -1,10 +1,10 @@
 -- Which encodings of keys need memory: none of two primes, where its numbers need none; and what borrowed and owned
 -- numbers make of it.
-use Rattle.std.proofs.Common.{ℕ, List, [], ◌∷◌, ◌++◌, ◌≡◌, ◌≤◌, length, map, refl, sym, subst, ap, ◌∙◌, arith, append_assoc, append-nil, length-append, inl, inr, ⊎_elim, Option, Some, None, option_map}
+use Rattle.std.proofs.Common.{ℕ, List, [], ◌∷◌, ◌++◌, ◌≡◌, ◌≤◌, length, map, refl, sym, ap, ◌∙◌, arith, append_assoc, append-nil, length-append, inl, inr, ⊎_elim, Option, Some, None, option_map}
 use Rattle.std.specs.List.{concat}
 use Rattle.der_core.specs.declared.error.ErrorKind.{ErrorKind}
 use Rattle.der_core.specs.Words.{tlv_recast, tlv_not_empty, tlv_split, parts_ask_none, tlv_fit, tlv_is, tlv_made, prints_one, limit, AllocatesInParts, ReadsFrontPrinted, number_contents, AllocatesBehind, AllocatesIn, Begins, FaultOrMemory, NoValueOrMemory, FrontReading, Tlv, tlv}
-use Rattle.pkcs1.specs.Words.{AllocatesForKey, AllocatesInNumbers, AllocatesInOther, AllocatesInOthers, NumberPrints, OthersFollow, VersionPrints, key_from, OtherPrime, PrivateKey, front_parts, key_numbers, integer_law, front_law, read_valid, key_back, private_spelled, others_as, AnyNumber, FrontPrints, OtherPrints, PrivateIsValid, PrivateSpells, front_printed, others_printed, private_printed, other_from, private_from}
+use Rattle.pkcs1.specs.Words.{AllocatesForKey, AllocatesInNumbers, AllocatesInOther, AllocatesInOthers, NumberPrints, OthersFollow, VersionPrints, OtherRow, PrivateRow, front_parts, key_numbers, integer_law, front_law, others_in, private_spells, read_valid, others_as, AnyNumber, FrontPrints, OtherPrints, PrivateIsValid, PrivateSpells, front_printed, others_printed, private_printed, other_from, private_from}
 use Rattle.standard.specs.Statement as standard
 use Rattle.standard.specs.Statement.{integer}
 
@@ -18,7 +18,7 @@ numbers_ask_none {V} {encoding} {may} none =
         → AllocatesInParts encoding may rest c → ⊥
     next rest = parts_ask_none encoding none rest
 
-none_others : {S V : Type 0} (means : S → V) (primes : Option (List (OtherPrime S))) → others_as means primes ≡ None
+none_others : {S V : Type 0} (means : S → V) (primes : Option (List (OtherRow S))) → others_as means primes ≡ None
     → primes ≡ None
 none_others means None e = refl
 none_others means (Some others) e = cc
@@ -26,7 +26,7 @@ none_others means (Some others) e = cc
 module _ {S V : Type 0} {valid : S → Type 0} {printed : S → List ℕ} {at : FrontReading S}
     (law : ReadsFrontPrinted valid printed at) (means : S → V) (may : List ℕ → Type 0) where
   -- Nothing is behind the eight numbers of a key of two primes.
-  no_others : {Listed : List ℕ → Type 0} (s : PrivateKey S) → s.other_prime_infos ≡ None → PrivateIsValid valid s
+  no_others : {Listed : List ℕ → Type 0} (s : PrivateRow S) → others_in s ≡ None → PrivateIsValid valid s
       → (c : List ℕ) → c ≡ private_printed printed s → length c ≤ limit
       → AllocatesBehind (FrontPrints valid printed means) (AllocatesIn (Tlv 48 Listed)) c → ⊥
   no_others s two ok c is few (front, (x, y, (f, m, right, begun), begins, joined)) =
@@ -45,7 +45,7 @@ module _ {S V : Type 0} {valid : S → Type 0} {printed : S → List ℕ} {at : 
       )
 
   -- So reading it needs no memory, where its numbers need none.
-  pub two_primes_ask : (key : PrivateKey V) → key.other_prime_infos ≡ None → ((b : List ℕ) → may b → ⊥)
+  pub two_primes_ask : (key : PrivateRow V) → others_in key ≡ None → ((b : List ℕ) → may b → ⊥)
       → (whole : List ℕ) → PrivateSpells valid printed means key whole
       → AllocatesIn (Tlv 48 (AllocatesForKey valid printed means may)) whole → ⊥
   two_primes_ask key two none whole (few, (s, m, ok, is)) (b, rest, e, q) =
@@ -53,16 +53,16 @@ module _ {S V : Type 0} {valid : S → Type 0} {printed : S → List ℕ} {at : 
       let within : length (tlv 48 contents) ≤ limit = omega (arith, few, ap length is) in
       let p : Tlv 48 (λ c. c ≡ contents) (tlv 48 contents) = tlv_made 48 contents refl within in
       let t = tlv_split b rest (tlv 48 contents) [] q p (sym e ∙ is ∙ sym (append-nil (tlv 48 contents))) in
-      let none_there : s.other_prime_infos ≡ None =
-      none_others means s.other_prime_infos (ap (λ (k : PrivateKey V). k.other_prime_infos) m ∙ two) in
+      let none_there : others_in s ≡ None =
+      none_others means (others_in s) (ap (λ (k : PrivateRow V). others_in k) m ∙ two) in
       let fits : length t.3 ≤ limit = omega (arith, within, tlv_fit 48 contents, ap length t.5) in
       ⊎_elim (λ w. numbers_ask_none none t.3 w) (λ w. no_others s none_there ok t.3 t.5 fits w) t.4
 
   -- So such an encoding isn't rejected.
-  pub two_primes_rejected : (key : PrivateKey V) → key.other_prime_infos ≡ None → ((b : List ℕ) → may b → ⊥)
+  pub two_primes_rejected : (key : PrivateRow V) → others_in key ≡ None → ((b : List ℕ) → may b → ⊥)
       → (whole : List ℕ) (kind : ErrorKind) → PrivateSpells valid printed means key whole
       → NoValueOrMemory kind (AllocatesIn (Tlv 48 (AllocatesForKey valid printed means may)) whole)
-      ((v : PrivateKey V) → PrivateSpells valid printed means v whole → ⊥) → ⊥
+      ((v : PrivateRow V) → PrivateSpells valid printed means v whole → ⊥) → ⊥
   two_primes_rejected key two none whole kind spelled (inl w) = two_primes_ask key two none whole spelled w.1
   two_primes_rejected key two none whole kind spelled (inr w) = w.1 key spelled
 
@@ -70,12 +70,10 @@ module _ {S V : Type 0} {valid : S → Type 0} {printed : S → List ℕ} {at : 
 pub two_primes_read : (key : standard.PrivateKey) → key.other_primes ≡ None → (bytes : List ℕ)
     → standard.PrivateKeyEncoding key bytes → (may : List ℕ → Type 0) → ((b : List ℕ) → may b → ⊥) → (kind : ErrorKind)
     → NoValueOrMemory kind (AllocatesIn (Tlv 48 (AllocatesForKey AnyNumber integer (λ n. n) may)) bytes)
-    ((v : PrivateKey ℕ) → PrivateSpells AnyNumber integer (λ n. n) v bytes → ⊥) → ⊥
+    ((v : PrivateRow ℕ) → PrivateSpells AnyNumber integer (λ n. n) v bytes → ⊥) → ⊥
 two_primes_read key two bytes encoded may none kind =
     two_primes_rejected integer_law (λ n. n) may (private_from key) (ap (option_map (map other_from)) two) none
-    bytes kind
-    ((private_spelled (private_from key) bytes).1 (subst (λ k. standard.PrivateKeyEncoding k bytes) (sym (key_back key))
-    encoded))
+    bytes kind (private_spells key bytes encoded)
 
 -- What the bytes that need memory begin with, told otherwise.
 module _ {Asks Needs : List ℕ → Type 0} (told : (c : List ℕ) → Asks c → Needs c) where
@@ -138,7 +136,7 @@ owned_key_asks c (inl (inl w)) = absurd w.3.holds
 owned_key_asks c (inl (inr (n, (x, y, t, w, is)))) = (n, (x, y, t, owned_parts_ask y w, is))
 owned_key_asks c (inr (front, (x, y, (f, m, right, begun), others, is))) =
     let number = f.1.0 in
-    let behind = concat (map integer (later (key_numbers (key_from f.1 None)))) in (
+    let behind = concat (map integer (later (key_numbers f.1))) in (
       f.0,
       (
         integer f.0,

@@ -1,15 +1,13 @@
 -- Reading keys: a private one part by part, faults, what calls decode. A key has one encoding.
-use Rattle.std.proofs.Common.{◌≡◌, ℕ, List, [], refl, ap, ◌∙◌, inl, inr, ⊎_elim, Option, Some, None, Ok, Err, subst, Result, IfOk, IfErr, ◌++◌, ◌≤◌, length, sym, arith, append-nil}
+use Rattle.std.proofs.Common.{◌≡◌, ℕ, List, [], refl, ap, ◌∙◌, inl, inr, ⊎_elim, Option, Some, None, Ok, Err, subst, ◌++◌, ◌≤◌, length, sym, arith, append-nil}
 use Rattle.der_core.specs.declared.error.ErrorKind.{ErrorKind}
-use Rattle.der_core.specs.Words.{AreBytes, Input, left_in, read_from, Asks, HoldsBytes, reads_front, ReadsFrontAlike, ReadsFrontPrinted, FrontReading, ◌>>=◌, made, tagged_law, made_tells, tagged, whole, ok_of, value_in, FaultOrMemory, Reading, prints_one, limit, PrintsOne}
+use Rattle.der_core.specs.Words.{AreBytes, Input, left_in, read_from, Asks, HoldsBytes, reads_front, ReadsFrontAlike, ReadsFrontPrinted, FrontReading, ◌>>=◌, made, tagged_law, made_tells, whole, value_in, FaultOrMemory, NoValueOrMemory, Reading, prints_one, limit, PrintsOne}
 use Rattle.der_core.proofs.ReadSteps.{Fails}
-use Rattle.pkcs1.specs.Words.{AllocatesInKey, front_read, key_from, others_read, private_key_read, Eight, OtherPrime, fronts_alike, front_law, number_of, number, private_key, public_key_read, rsa_private_key, rsa_public_key, integer_law, private_law, public_law, private_stated, public_stated, Rejects, AreDelimited, public_encoding, key_back, private_encoding, private_spelled, private_as, AnyNumber, PrivateIsValid, PublicIsValid, private_from, public_from}
+use Rattle.pkcs1.specs.Words.{AllocatesInKey, front_read, key_from, others_read, private_key_read, Eight, OtherRow, fronts_alike, front_law, number_of, number, private_key, public_read, rsa_private_key, rsa_public_key, integer_law, private_law, public_law, private_stated, public_stated, AreDelimited, public_encoding, key_back, private_encoding, private_spells, private_as, AnyNumber, PrivateIsValid, PublicIsValid, public_from}
 use Rattle.pkcs1.specs.declared.version.Version.{Version}
 use Rattle.der_core.specs.Tags as tags
-use Rattle.pkcs1_params.specs.Words.{FaultsTell, ErrsAs, ErrsOrAsks}
+use Rattle.pkcs1_params.specs.Words.{FaultsTell}
 use Rattle.pkcs1_params.proofs.Faults.{whole_tells}
-use Rattle.pkcs1_params.specs.declared.error.Error.{Error}
-use Rattle.pkcs1_params.specs.declared.error.Error.TheVariants as error
 use Rattle.standard.specs.Statement.{Decodes, AtMostOne, PrivateKey, PrivateKeyEncoding, PublicKey, PublicKeyEncoding, SameByShortest}
 use Rattle.pkcs1_params.proofs.Masks.{same_by_shortest}
 
@@ -29,14 +27,14 @@ module _ {V : Type 0} (at : FrontReading V) where
       → (rest : List ℕ) × (front_read at i ≡ Ok (front, rest)) × (after ≡ Some rest))
 
   -- They are in front of other primes that are read of what follows.
-  pub key_taken : (front : ℕ × Eight V (Unit {0})) (primes : Option (List (OtherPrime V))) (i rest : List ℕ)
+  pub key_taken : (front : ℕ × Eight V (Unit {0})) (primes : Option (List (OtherRow V))) (i rest : List ℕ)
       → front_read at i ≡ Ok (front, rest) → others_read at front.0 rest ≡ Ok primes
       → private_key_read at i ≡ Ok (key_from front.1 primes)
   key_taken front primes i rest read others =
       ap (λ r. r >>= λ q. made (key_from q.0.1) (others_read at q.0.0) q.1) read
       ∙ ap (λ r. r >>= λ o. Ok (key_from front.1 o)) others
 
-  pub key_gives : (front : ℕ × Eight V (Unit {0})) (primes : Option (List (OtherPrime V))) (before mid after : Input)
+  pub key_gives : (front : ℕ × Eight V (Unit {0})) (primes : Option (List (OtherRow V))) (before mid after : Input)
       (n : ℕ) → HoldsBytes before n → FrontGives front before mid
       → (read_from mid (others_read at front.0) ≡ Ok primes) × (after ≡ Some [])
       → (read_from before (private_key_read at) ≡ Ok (key_from front.1 primes)) × (after ≡ Some [])
@@ -86,8 +84,7 @@ module _ {S V : Type 0} {valid : S → Type 0} {printed : S → List ℕ} {spell
 -- The faults of keys are about the bytes.
 pub public_tells : FaultsTell rsa_public_key
 public_tells bytes k e =
-    made_tells public_stated (whole (tagged tags.sequence (public_key_read number)) bytes)
-    (whole_tells (tagged_law (public_law integer_law) tags.sequence) bytes k) e
+    made_tells public_stated (whole public_read bytes) (whole_tells public_law bytes k) e
 
 pub private_tells : FaultsTell rsa_private_key
 private_tells bytes k e =
@@ -107,35 +104,21 @@ module _ {V W : Type 0} (make : V → W) (read : Reading V) (bytes : List ℕ) w
   made_faulty k asked (inl w) = inl w
   made_faulty k asked (inr f) = inr (made_fault k f)
 
--- What the function of the bytes gives, and what a call returned that gives the same.
-module _ {W : Type 0} (Encoding : W → List ℕ → Type 0) (read : Reading W) (bytes : List ℕ)
-    (decodes : Decodes Encoding bytes (value_in (read bytes))) where
-  given : (r : Result W ErrorKind) → read bytes ≡ r → Decodes Encoding bytes (value_in r)
-  given r is = subst (λ g. Decodes Encoding bytes (value_in g)) is decodes
+-- What a call decodes that reads what a function gives, and makes a value of the statement of it.
+module _ {V W : Type 0} (make : V → W) (read : Reading V) (Encoding : W → List ℕ → Type 0)
+    (decodes : (bytes : List ℕ) → AreBytes bytes → Decodes Encoding bytes (value_in (made make read bytes)))
+    (bytes : List ℕ) (are : AreBytes bytes) where
+  pub read_some : (v : V) → read bytes ≡ Ok v → Decodes Encoding bytes (Some (make v))
+  read_some v is = subst (λ g. Decodes Encoding bytes (value_in g)) (made_ok make read bytes v is) (decodes bytes are)
 
-  module _ {X : Type 0} (held : X → W) where
-    pub decoded : (r : Result X Error) → ErrsAs held (read bytes) r → Decodes Encoding bytes (ok_of held r)
-    decoded (Ok x) e = given (Ok (held x)) e
-    decoded (Err (error.Asn1 a)) e = given (Err a.kind) e
-    decoded (Err error.Crypto) e = absurd e
-    decoded (Err error.KeyMalformed) e = absurd e
-    decoded (Err error.Version) e = absurd e
+  pub read_none : (k : ErrorKind) → read bytes ≡ Err k → Decodes Encoding bytes None
+  read_none k is = subst (λ g. Decodes Encoding bytes (value_in g)) (made_fault make read bytes k is) (decodes bytes are)
 
-    -- The same of a call that may ask for memory.
-    module _ (asked : Type 0) where
-      pub decoded_ok : (r : Result X Error) → ErrsOrAsks held (read bytes) asked r
-          → IfOk r (λ x. Decodes Encoding bytes (Some (held x)))
-      decoded_ok (Ok x) e = given (Ok (held x)) e
-      decoded_ok (Err e) p = tt
-
-      pub decoded_err : FaultsTell read → (r : Result X Error) → ErrsOrAsks held (read bytes) asked r
-          → IfErr r (Rejects Encoding bytes asked)
-      decoded_err tells (Ok x) p = tt
-      decoded_err tells (Err (error.Asn1 a)) (inl w) = inl w
-      decoded_err tells (Err (error.Asn1 a)) (inr f) = inr (tells bytes a.kind f, given (Err a.kind) f)
-      decoded_err tells (Err error.Crypto) p = p
-      decoded_err tells (Err error.KeyMalformed) p = p
-      decoded_err tells (Err error.Version) p = p
+  -- The same of a call that may ask for memory.
+  pub read_rejected : FaultsTell (made make read) → (k : ErrorKind) (asked : Type 0)
+      → FaultOrMemory k asked (read bytes ≡ Err k) → NoValueOrMemory k asked (Decodes Encoding bytes None)
+  read_rejected tells k asked (inl w) = inl w
+  read_rejected tells k asked (inr f) = inr (tells bytes k (made_fault make read bytes k f), read_none k f)
 
 -- A key has one encoding, and an encoding is that of one key.
 pub public_one : AtMostOne PublicKeyEncoding
@@ -158,8 +141,7 @@ public_follow : (v w : PublicKey) (bytes rest : List ℕ) → PublicKeyEncoding 
     → (v ≡ w) × (rest ≡ [])
 public_follow v w bytes rest p q =
     let one =
-    one_spelling (PublicIsValid AnyNumber) public_encoding
-    (prints_one (tagged_law (public_law integer_law) tags.sequence)) (public_from v) (public_from w) (tt, (tt, tt))
+    one_spelling PublicIsValid public_encoding (prints_one public_law) (public_from v) (public_from w) (tt, (tt, tt))
     (tt, (tt, tt)) bytes rest q.0 p.1 q.1 in
     (ap public_stated one.0, one.1)
 
@@ -167,11 +149,8 @@ private_follow : (v w : PrivateKey) (bytes rest : List ℕ) → PrivateKeyEncodi
     → PrivateKeyEncoding w (bytes ++ rest)
     → (v ≡ w) × (rest ≡ [])
 private_follow v w bytes rest p q =
-    let spelled = λ (key : PrivateKey) (b : List ℕ) (is : PrivateKeyEncoding key b).
-    let stated = subst (λ k. PrivateKeyEncoding k b) (sym (key_back key)) is in
-    ((private_spelled (private_from key) b).1 stated).1 in
-    let a = spelled v bytes p in
-    let b = spelled w (bytes ++ rest) q in
+    let a = (private_spells v bytes p).1 in
+    let b = (private_spells w (bytes ++ rest) q).1 in
     let one =
     one_spelling (PrivateIsValid AnyNumber) private_encoding
     (prints_one (tagged_law (private_law integer_law) tags.sequence)) a.0 b.0 a.2 b.2 bytes rest q.0 a.3 b.3 in (

@@ -6,24 +6,27 @@ use Rattle.std.specs.declared.vec.Vec.{Vec}
 use Rattle.der_core.specs.Words.{Prepends, limit, Appends, Counts}
 use Rattle.der_core.specs.declared.back_writer.BackWriter.{BackWriter}
 use Rattle.der_core.specs.declared.error.Error.{Error}
-use Rattle.pkcs1.specs.Words.{Row, RowIsValid, row_printed, version_held, OtherPrime, PrivateKey, private_parts, version_of, private_row, other_as, others_as, ListsNone, other_of, others_of, AreSome, OtherIsValid, PrivateIsValid, primes_printed, private_printed}
+use Rattle.pkcs1.specs.Words.{Row, RowIsValid, row_printed, OtherRow, OthersAreValid, PrivateRow, eight_behind, others_in, version_of, private_row, other_as, others_as, ListsNone, other_of, others_of, AreSome, OtherIsValid, PrivateIsValid, primes_printed, private_printed}
 use Rattle.pkcs1.specs.declared.private_key.other_prime_info.OtherPrimeInfo.{OtherPrimeInfo}
 use Rattle.pkcs1_params.proofs.Masks.{appends_as, counts_as}
-use Rattle.standard.specs.Statement.{sequence}
+use Rattle.standard.specs.Statement.{IfPresent, sequence}
 
 -- The version that is written.
 pub version_is : {U N M : Type 0} (value : U → N) (f : N → M) (o : Option (Vec (OtherPrimeInfo U) Global))
-    → version_held o ≡ version_of (others_as f (others_of value o))
+    → version_of o ≡ version_of (others_as f (others_of value o))
 version_is value f None = refl
 version_is value f (Some v) = refl
 
-module _ {S : Type 0} (valid : S → Type 0) (printed : S → List ℕ) (key : PrivateKey S) (version : ℕ)
-    (is : version ≡ version_of key.other_prime_infos) where
-  abbrev pub Parts : Row S (List (OtherPrime S))
-  Parts = (version, (private_parts key).1)
+module _ {S : Type 0} (valid : S → Type 0) (printed : S → List ℕ) (key : PrivateRow S) (version : ℕ)
+    (is : version ≡ version_of (others_in key)) where
+  abbrev pub Parts : Row S (List (OtherRow S))
+  Parts = (version, key)
+
+  abbrev AreValid : List (OtherRow S) → Type 0
+  AreValid = AllByRecursion (OtherIsValid valid)
 
   abbrev pub IsValid : Type 0
-  IsValid = RowIsValid valid (AllByRecursion (OtherIsValid valid)) Parts
+  IsValid = RowIsValid valid AreValid Parts
 
   abbrev pub octets : List ℕ
   octets = row_printed printed (λ others. sequence (primes_printed printed others)) Parts
@@ -31,62 +34,25 @@ module _ {S : Type 0} (valid : S → Type 0) (printed : S → List ℕ) (key : P
   pub row_is : octets ≡ private_printed printed key
   row_is =
       sym (private_row printed key
-      ∙ ap (λ v. row_printed printed (λ others. sequence (primes_printed printed others)) (v, (private_parts key).1))
+      ∙ ap (λ v. row_printed printed (λ others. sequence (primes_printed printed others)) (v, key))
       (sym is))
 
   small : version < 256
-  small = go key.other_prime_infos is
+  small = go (others_in key) is
     where
-      go : (o : Option (List (OtherPrime S))) → version ≡ version_of o → version < 256
+      go : (o : Option (List (OtherRow S))) → version ≡ version_of o → version < 256
       go None e = omega (arith, e)
       go (Some others) e = omega (arith, e)
 
-  pub key_valid : AreSome key.other_prime_infos → IsValid → PrivateIsValid valid key
-  key_valid some r = (
-    r.1.0,
-    (
-      r.1.1.0,
-      (
-        r.1.1.1.0,
-        (
-          r.1.1.1.1.0,
-          (
-            r.1.1.1.1.1.0,
-            (
-              r.1.1.1.1.1.1.0,
-              (r.1.1.1.1.1.1.1.0, (r.1.1.1.1.1.1.1.1.0, (some, r.1.1.1.1.1.1.1.1.1))),
-            ),
-          ),
-        ),
-      ),
-    ),
-  )
+  pub key_valid : AreSome (others_in key) → IsValid → PrivateIsValid valid key
+  key_valid some r =
+      eight_behind valid (IfPresent AreValid) (OthersAreValid valid) key (others_in key) (λ all. (some, all)) r.1
 
   pub row_valid : PrivateIsValid valid key → IsValid
-  row_valid p = (
-    small,
-    (
-      p.0,
-      (
-        p.1.0,
-        (
-          p.1.1.0,
-          (
-            p.1.1.1.0,
-            (
-              p.1.1.1.1.0,
-              (
-                p.1.1.1.1.1.0,
-                (p.1.1.1.1.1.1.0, (p.1.1.1.1.1.1.1.0, p.1.1.1.1.1.1.1.1.1)),
-              ),
-            ),
-          ),
-        ),
-      ),
-    ),
-  )
+  row_valid p =
+      (small, eight_behind valid (OthersAreValid valid) (IfPresent AreValid) key (others_in key) (λ both. both.1) p)
 
-  pub key_counted : (r : Result ℕ Error) → AreSome key.other_prime_infos → Counts IsValid octets r
+  pub key_counted : (r : Result ℕ Error) → AreSome (others_in key) → Counts IsValid octets r
       → Counts (PrivateIsValid valid key) (private_printed printed key) r
   key_counted r some counted =
       subst (λ o. Counts (PrivateIsValid valid key) o r) row_is

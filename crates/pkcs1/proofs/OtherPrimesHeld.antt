@@ -4,7 +4,7 @@ use Rattle.der_core.specs.Words.{nat_tests, AreBytes, Input, front_of, read_from
 use Rattle.std.proofs.lemmas.Grind.{common_steps}
 use Rattle.std.proofs.lemmas.List.{length-map}
 use Rattle.der_core.proofs.ReadSteps.{Gives, some_same}
-use Rattle.pkcs1.specs.Words.{held_other_primes, primes_encoded, number, primes_read, OtherPrime, item_shorter, integer_law, primes_law, listed_printed, held_behind, held_read, next_law, next_some, one_held, next_prime, others_left, others_left-is, other_stated}
+use Rattle.pkcs1.specs.Words.{held_other_primes, primes_encoded, number, primes_read, OtherRow, item_shorter, integer_law, primes_law, listed_printed, held_behind, held_read, next_law, next_some, one_held, next_prime, others_left, others_left-is, other_stated}
 use Rattle.std.specs.List.{concat}
 use Rattle.pkcs1.specs.declared.other_primes.OtherPrimes.{OtherPrimes}
 
@@ -27,13 +27,13 @@ left_encoded primes are =
     ∙ ap (λ others. primes_encoded (map other_stated others)) (sym (others_left-is primes))
 
 -- what an iterator has left, and what it has left behind the first one
-pub steps_behind : (old new : OtherPrimes) (other : OtherPrime ℕ) → new.left ≡ old.left - 1 → AreBytes old.bytes.now
+pub steps_behind : (old new : OtherPrimes) (other : OtherRow ℕ) → new.left ≡ old.left - 1 → AreBytes old.bytes.now
     → next_prime old.bytes.now ≡ Ok (other, new.bytes.now)
     → held_other_primes old ≡ other_stated other ∷ held_other_primes new
 steps_behind old new other less are next =
     let s = held_behind old.bytes.now new.bytes.now old.left other old.held are next in
     let same = one_held new.bytes.now (old.left - 1) new.left s.0 new.held in
-    ap (map other_stated) (others_left-is old ∙ s.1 ∙ ap (λ (o : List (OtherPrime ℕ)). other ∷ o)
+    ap (map other_stated) (others_left-is old ∙ s.1 ∙ ap (λ (o : List (OtherRow ℕ)). other ∷ o)
     (same ∙ sym (others_left-is new)))
 
 -- the list that was kept
@@ -45,14 +45,14 @@ list_read primes bytes is =
     ∙ ap (λ o. Ok o) (sym (others_left-is primes))
 
 -- what reading the first one gave
-pub next_read : {X : Type 0} (value : X → OtherPrime ℕ) (other : X) (i : List ℕ) (before after : Input)
+pub next_read : {X : Type 0} (value : X → OtherRow ℕ) (other : X) (i : List ℕ) (before after : Input)
     → before ≡ Some i → Gives next_prime (value other) before after
     → (rest : List ℕ) × (next_prime i ≡ Ok (value other, rest)) × (after ≡ Some rest)
 next_read value other i None after is gives = let never = is in cc
 next_read value other i (Some j) after is (rest, read, left) =
     (rest, ap next_prime (sym (some_same j i is)) ∙ read, left)
 
-pub front_shorter : (i rest : List ℕ) (other : OtherPrime ℕ) → AreBytes i → next_prime i ≡ Ok (other, rest)
+pub front_shorter : (i rest : List ℕ) (other : OtherRow ℕ) → AreBytes i → next_prime i ≡ Ok (other, rest)
     → length rest < length i
 front_shorter i rest other are next = (item_shorter next_law next_some i rest other are next).0
 

@@ -7,10 +7,10 @@ use Rattle.der_core.specs.declared.error.ErrorKind.TheVariants as kind
 use Rattle.der_core.proofs.ReadSteps.{not_is, not_isnt, Fails, Gives, chain_from}
 use Rattle.pkcs1.specs.declared.version.Version.{Version}
 use Rattle.pkcs1.specs.declared.version.Version.TheVariants.{TwoPrime, Multi}
-use Rattle.pkcs1.specs.Words.{agreed, lists_none, others_read, primes_read, OtherPrime, version_of, number_of}
+use Rattle.pkcs1.specs.Words.{agreed, lists_none, others_read, primes_read, OtherRow, version_of, number_of}
 
 -- All of some bytes are a list that isn't empty.
-pub others_taken : {V : Type 0} (at : FrontReading V) (b : List ℕ) (primes : List (OtherPrime V)) → is_next 48 b ≡ true
+pub others_taken : {V : Type 0} (at : FrontReading V) (b : List ℕ) (primes : List (OtherRow V)) → is_next 48 b ≡ true
     → alone (tagged sequence (primes_read at)) b ≡ Ok primes → (length primes ≡ 0 → ⊥)
     → others_read at 1 b ≡ Ok (Some primes)
 others_taken at [] primes next read some = cc
@@ -20,13 +20,13 @@ others_taken {V} at (x ∷ xs) primes next read some =
     ∙ ap (λ r. judged (found r)) s.1
     ∙ go s.0.0 s.0.1 s.2
   where
-    found : Result (List (OtherPrime V) × List ℕ) ErrorKind → Result (Option (List (OtherPrime V)) × List ℕ) ErrorKind
+    found : Result (List (OtherRow V) × List ℕ) ErrorKind → Result (Option (List (OtherRow V)) × List ℕ) ErrorKind
     found r = r >>= λ p. Ok (Some p.0, p.1)
 
-    judged : Result (Option (List (OtherPrime V)) × List ℕ) ErrorKind → Result (Option (List (OtherPrime V))) ErrorKind
+    judged : Result (Option (List (OtherRow V)) × List ℕ) ErrorKind → Result (Option (List (OtherRow V))) ErrorKind
     judged r = r >>= λ q. agreed 1 q.0 q.1
 
-    go : (v : List (OtherPrime V)) (rest : List ℕ) → ended v rest ≡ Ok primes
+    go : (v : List (OtherRow V)) (rest : List ℕ) → ended v rest ≡ Ok primes
         → agreed 1 (Some v) rest ≡ Ok (Some primes)
     go [] [] e = absurd (some (ap length (sym (ok_same e))))
     go (o ∷ os) [] e = ap (λ p. Ok (Some p)) (ok_same e)
@@ -44,7 +44,7 @@ flag_is true Multi h = refl
 flag_is false Multi h = let no : false ≡ true = h.1 refl in cc
 
 -- What the code asks of the other primes that it found, of which `X` holds the list `items`, as many as `count` says.
-module _ {X V : Type 0} (items : X → List (OtherPrime V)) (count : X → ℕ)
+module _ {X V : Type 0} (items : X → List (OtherRow V)) (count : X → ℕ)
     (counts : (x : X) → length (items x) ≡ count x) where
   abbrev CountsNone : Option X → Type 0
   CountsNone None = ⊥
@@ -57,7 +57,7 @@ module _ {X V : Type 0} (items : X → List (OtherPrime V)) (count : X → ℕ)
   compared Multi None = refl
   compared Multi (Some x) = refl
 
-  list_is : (primes : List (OtherPrime V)) (n : ℕ) (none : Bool) → length primes ≡ n → IsTrue none ↔ (n ≡ 0)
+  list_is : (primes : List (OtherRow V)) (n : ℕ) (none : Bool) → length primes ≡ n → IsTrue none ↔ (n ≡ 0)
       → lists_none (Some primes) ≡ none
   list_is [] n true e h = refl
   list_is [] n false e h = let no : false ≡ true = h.1 (sym e) in cc

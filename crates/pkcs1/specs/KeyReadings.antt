@@ -2,7 +2,7 @@
 use Rattle.std.specs.Prelude.{ℕ, Bool, true, false, List, [], ◌∷◌, ◌==◌, nat_lt, if◌then◌else◌, Option, Some, None, Err}
 use Rattle.der_core.specs.declared.error.ErrorKind.TheVariants.{Value}
 use Rattle.der_core.specs.Words.{small_of, number_of, FrontReading, Reading, chain, ended, front_done, front_parts, items, made, no_parts, optional, parts, such, tagged, whole, integer, sequence}
-use Rattle.pkcs1.specs.Keys.{Eight, OtherPrime, PrivateKey, PublicKey, version_of}
+use Rattle.pkcs1.specs.Keys.{Eight, OtherRow, PrivateRow, PublicRow, key_from, version_of}
 use Rattle.pkcs1.specs.StatedKeys.{private_stated, public_stated}
 pub use Rattle.pkcs1_params.specs.Meanings.{fault_in}
 use Rattle.standard.specs.Statement as standard
@@ -11,74 +11,53 @@ use Rattle.standard.specs.Statement as standard
 abbrev pub number : FrontReading ℕ
 number = tagged integer number_of
 
--- The contents of a public key.
-abbrev pub of_public_parts : {Number : Type 0} → Number × (Number × Unit {0}) → PublicKey Number
-of_public_parts p = record { modulus = p.0; public_exponent = p.1.0 }
+-- A public key, as its row; and a whole slice, as a public key of the statement.
+abbrev pub public_read : FrontReading (PublicRow ℕ)
+public_read = tagged sequence (parts number (parts number no_parts))
 
-abbrev pub public_key_read : {Number : Type 0} → FrontReading Number → Reading (PublicKey Number)
-public_key_read at = made of_public_parts (parts at (parts at no_parts))
-
--- A whole slice, as a public key of the statement.
 abbrev pub rsa_public_key : Reading standard.PublicKey
-rsa_public_key = made public_stated (whole (tagged sequence (public_key_read number)))
+rsa_public_key = made public_stated (whole public_read)
 
 -- The version of a private key, 0 or 1.
 abbrev pub version_read : Reading ℕ
 version_read = such (λ n. nat_lt n 2) (Value integer) small_of
 
 -- One of the other primes, and their list.
-abbrev pub of_other_parts : {Number : Type 0} → Number × (Number × (Number × Unit {0})) → OtherPrime Number
-of_other_parts p = record { prime = p.0; exponent = p.1.0; coefficient = p.1.1.0 }
+abbrev pub other_read : {Number : Type 0} → FrontReading Number → Reading (OtherRow Number)
+other_read at = parts at (parts at (parts at no_parts))
 
-abbrev pub other_read : {Number : Type 0} → FrontReading Number → Reading (OtherPrime Number)
-other_read at = made of_other_parts (parts at (parts at (parts at no_parts)))
-
-abbrev pub primes_read : {Number : Type 0} → FrontReading Number → Reading (List (OtherPrime Number))
+abbrev pub primes_read : {Number : Type 0} → FrontReading Number → Reading (List (OtherRow Number))
 primes_read at = items (tagged sequence (other_read at))
 
-abbrev pub lists_none : {Number : Type 0} → Option (List (OtherPrime Number)) → Bool
+abbrev pub lists_none : {Number : Type 0} → Option (List (OtherRow Number)) → Bool
 lists_none None = false
 lists_none (Some []) = true
 lists_none (Some (other ∷ others)) = false
 
 -- Behind the other primes: whether they agree with the version, and then that there are some, and nothing else.
-abbrev pub agreed : {Number : Type 0} → ℕ → Option (List (OtherPrime Number))
-    → Reading (Option (List (OtherPrime Number)))
+abbrev pub agreed : {Number : Type 0} → ℕ → Option (List (OtherRow Number))
+    → Reading (Option (List (OtherRow Number)))
 agreed version primes bytes =
     if version == version_of primes
     then (if lists_none primes then Err (Value sequence) else ended primes bytes)
     else Err (Value integer)
 
 -- What follows the eight numbers of a private key of this version.
-abbrev pub others_read : {Number : Type 0} → FrontReading Number → ℕ → Reading (Option (List (OtherPrime Number)))
+abbrev pub others_read : {Number : Type 0} → FrontReading Number → ℕ → Reading (Option (List (OtherRow Number)))
 others_read at version = chain (optional sequence.octet (tagged sequence (primes_read at))) (agreed version)
 
--- The version and the eight numbers; and the key of such a row and of other primes.
+-- The version and the eight numbers; and the whole key.
 abbrev pub front_read : {Number : Type 0} → FrontReading Number → FrontReading (ℕ × Eight Number (Unit {0}))
 front_read at =
     front_parts (tagged integer version_read)
     (front_parts at (front_parts at (front_parts at (front_parts at (front_parts at (front_parts at (front_parts at
     (front_parts at front_done))))))))
 
-abbrev pub key_from : {Number : Type 0} → Eight Number (Unit {0}) → Option (List (OtherPrime Number))
-    → PrivateKey Number
-key_from numbers primes = record {
-  modulus = numbers.0;
-  public_exponent = numbers.1.0;
-  private_exponent = numbers.1.1.0;
-  prime1 = numbers.1.1.1.0;
-  prime2 = numbers.1.1.1.1.0;
-  exponent1 = numbers.1.1.1.1.1.0;
-  exponent2 = numbers.1.1.1.1.1.1.0;
-  coefficient = numbers.1.1.1.1.1.1.1.0;
-  other_prime_infos = primes;
-}
-
-abbrev pub private_key_read : {Number : Type 0} → FrontReading Number → Reading (PrivateKey Number)
+abbrev pub private_key_read : {Number : Type 0} → FrontReading Number → Reading (PrivateRow Number)
 private_key_read at = chain (front_read at) (λ front. made (key_from front.1) (others_read at front.0))
 
--- A whole slice, as a private key of numbers of any type, and as one of the statement.
-abbrev pub private_key : {Number : Type 0} → FrontReading Number → Reading (PrivateKey Number)
+-- A whole slice, as the row of a private key, and as one of the statement.
+abbrev pub private_key : {Number : Type 0} → FrontReading Number → Reading (PrivateRow Number)
 private_key at = whole (tagged sequence (private_key_read at))
 
 abbrev pub rsa_private_key : Reading standard.PrivateKey

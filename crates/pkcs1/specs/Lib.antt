@@ -2,8 +2,6 @@ pub mod Keys
 pub mod Versions
 pub mod StatedKeys
 pub mod KeyReadings
-pub mod KeyRows
-pub mod PrintedKeys
 pub mod Printing
 pub mod Allocating
 pub mod KeyEncodings

@@ -5,7 +5,7 @@ ghost use Rattle.std.specs.Iterator.{UpTo, YieldsFirstBy, item_count};
 ghost use Rattle.std.specs.Iterator.SizeHint.{IsWithinCount};
 ghost use Rattle.der_core.specs.Words.{AreBytes, ReadsFront, alike, bytes_of, left_of, limit, one_spelling};
 ghost use Rattle.pkcs1.specs.KeyReadings.{number, primes_read};
-ghost use Rattle.pkcs1.specs.Keys.{OtherPrime};
+ghost use Rattle.pkcs1.specs.Keys.{OtherRow};
 ghost use Rattle.pkcs1.specs.Laws.PrimesHeld.{HoldsPrimes-prop};
 ghost use Rattle.pkcs1.specs.Laws.PrintedKeys.{integer_law, primes_law};
 ghost use Rattle.pkcs1.specs.OtherPrimesHeld.{HoldsPrimes, next_prime};
@@ -148,11 +148,11 @@ impl<'a> OtherPrimes<'a> {
 impl Contents for OtherPrimes<'_> {
     ghost use Rattle.pkcs1.specs.OtherPrimesLeft.{others_left};
 
-    ghost Value = { List (OtherPrime ℕ) };
+    ghost Value = { List (OtherRow ℕ) };
 
     ghost value = { others_left };
 
-    ghost Spelling = { List (OtherPrime ℕ) };
+    ghost Spelling = { List (OtherRow ℕ) };
 
     ghost means = { λ others. others };
 

@@ -1,7 +1,7 @@
 //! RSA private keys.
 ghost use Rattle.std.specs.Prelude.{◌≡◌, ◌↔◌, ◌⊎◌, ⊤, IsSome, IsErrAnd, refl};
 ghost use Rattle.der_core.specs.Words.{Appends, Counts, RefusedAs, bytes_of, sequence};
-ghost use Rattle.pkcs1.specs.Words.{AllocatesForKey, ListsNone, PrivateIsValid, PrivateKey, held_private_key, held_public_key, private_alike, private_as, private_key_read, private_key_with, private_law, private_printed, private_shortest, public_part};
+ghost use Rattle.pkcs1.specs.Words.{AllocatesForKey, ListsNone, PrivateIsValid, PrivateRow, held_private_key, held_public_key, private_alike, private_as, private_key_read, private_key_with, private_law, private_printed, private_shortest, public_part};
 
 mod der;
 pub(crate) mod other_prime_info;
@@ -113,11 +113,11 @@ impl<'a, U: UintEncoding> From<&'a RsaPrivateKey<U>> for RsaPublicKey<UintRef<'a
 }
 
 impl<U: Encoding> Contents for RsaPrivateKey<U> {
-    ghost Value = { PrivateKey U.Value };
+    ghost Value = { PrivateRow U.Value };
 
     ghost value = { private_key_with U.value };
 
-    ghost Spelling = { PrivateKey U.Spelling };
+    ghost Spelling = { PrivateRow U.Spelling };
 
     ghost means = { private_as U.means };
 

@@ -1,13 +1,10 @@
 //! RSA public keys. `try_from` reads one. It calls `from_der` of `der_core/src/decode.rt`. `record.rt` and `parts.rt` there
-//! read the row of parts that `InParts` names. `traits.rt` has the calls for owned keys.
-ghost use Rattle.std.specs.Prelude.{refl};
-ghost use Rattle.der_core.specs.Words.{made_errs};
-ghost use Rattle.pkcs1.specs.Words.{PublicIsValid, PublicKey, of_public_parts, public_alike, public_as, public_key_read, public_key_with, public_law, public_once, public_printed, public_shortest};
+//! read the row of parts that `Record` names. `traits.rt` has the calls for owned keys.
+ghost use Rattle.pkcs1.specs.Words.{public_row};
 
 use der_core::{
-    BackWriter, Borrowed, Contents, Decode, Encode, EncodeInParts, EncodeValue, Encoding,
-    EqualByValue, InParts, Length, NoMemory, Sequence, SequenceTag, TaggedBy, TryClone, Uint,
-    UintEncoding, UintRef, Writer,
+    BackWriter, Borrowed, Decode, Encode, EncodeInParts, EncodeValue, Encoding, EqualByValue,
+    Length, NoMemory, Record, TryClone, Uint, UintEncoding, UintRef, Writer,
 };
 use pkcs1_params::{Error, Result};
 use std::alloc::Global;
@@ -34,54 +31,18 @@ pub type RsaPublicKeyRef<'a> = RsaPublicKey<UintRef<'a>>;
 /// A public key that owns its numbers.
 pub type RsaPublicKeyOwned = RsaPublicKey<Uint>;
 
-impl<U: Encoding> Contents for RsaPublicKey<U> {
-    ghost Value = { PublicKey U.Value };
+impl<U: Encoding> Record for RsaPublicKey<U> {
+    type Fields = (U, (U, ()));
 
-    ghost value = { public_key_with U.value };
+    ghost fields = { λ key. (key.modulus, (key.public_exponent, tt)) };
 
-    ghost Spelling = { PublicKey U.Spelling };
-
-    ghost means = { public_as U.means };
-
-    ghost written = { public_as U.written };
-
-    ghost valid = { PublicIsValid U.valid };
-
-    ghost printed = { public_printed U.printed };
-
-    ghost read_spelling = { public_key_read U.read_spelling };
-
-    ghost read = { public_key_read U.read_front };
-
-    ghost law = { public_law U.law };
-
-    ghost shortest = { public_shortest U.shortest };
-
-    ghost reads_alike = { public_alike U.reads_alike };
-}
-
-impl<U> TaggedBy for RsaPublicKey<U> {
-    type Marker = SequenceTag;
-}
-
-impl<'a, U> Sequence<'a> for RsaPublicKey<U> {
-    ghost is_sequence = { refl };
-}
-
-impl<U: Encoding> InParts for RsaPublicKey<U> {
-    type Parts = (U, (U, ()));
-
-    fn from_parts(parts: (U, (U, ()))) -> RsaPublicKey<U> {
-        let (modulus, (public_exponent, ())) = parts;
+    fn from_fields(row: (U, (U, ()))) -> RsaPublicKey<U> {
+        let (modulus, (public_exponent, ())) = row;
         RsaPublicKey {
             modulus,
             public_exponent,
         }
     }
-
-    ghost errs = { made_errs of_public_parts _ };
-
-    ghost once = { public_once U.means };
 }
 
 impl<U: Encode> EncodeInParts for RsaPublicKey<U> {
@@ -134,7 +95,7 @@ impl<U: TryClone> RsaPublicKey<U> {
 
     /// The same key, or `OutOfMemory`.
     pub fn try_clone(&self, alloc: Global) -> der_core::Result<RsaPublicKey<U>>
-        ensures ok { IfOk result (λ copy. public_key_with U.value copy ≡ public_key_with U.value self.now) }
+        ensures ok { IfOk result (λ copy. public_row U.value copy ≡ public_row U.value self.now) }
         ensures err { IfErr result (λ e. e.kind ≡ ErrorKind.OutOfMemory) }
         ensures may_allocate { U.never_out_of_memory self.now.modulus
             → U.never_out_of_memory self.now.public_exponent → IsOk result }

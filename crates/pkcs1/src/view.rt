@@ -1,7 +1,7 @@
 //! RSA private keys over the input, without a list of their other primes.
 ghost use Rattle.std.specs.Prelude.{◌≡◌, ℕ, IsTrue, IsSome, IfOk, IfSome, Ok, Some, ◌↔◌, option_map};
 ghost use Rattle.der_core.specs.Words.{ReadsWhole, alike, bytes_of, one_spelling};
-ghost use Rattle.pkcs1.specs.Words.{AnyNumber, HoldsNone, PrivateIsValid, PrivateKey, held_other_primes, held_public_key, held_view, integer_law, key_with, listed_others, number, number_in, number_of, others_left, others_read, private_key_read, private_law, private_printed, public_part, rsa_private_key, viewed_encoding};
+ghost use Rattle.pkcs1.specs.Words.{AnyNumber, HoldsNone, PrivateIsValid, PrivateRow, held_other_primes, held_public_key, held_view, integer_law, key_with, listed_others, number, number_in, number_of, others_left, others_read, private_key_read, private_law, private_printed, public_part, rsa_private_key, viewed_encoding};
 ghost use Rattle.standard.specs.Statement as standard;
 
 use crate::key_numbers::{KeyFront, key_of};
@@ -81,11 +81,11 @@ fn quick_listed(bytes: &[u8], version: Version) -> Option<Option<OtherPrimes<'_>
 }
 
 impl Contents for ViewedKey<'_> {
-    ghost Value = { PrivateKey ℕ };
+    ghost Value = { PrivateRow ℕ };
 
     ghost value = { key_with (number_in bytes_of) others_left };
 
-    ghost Spelling = { PrivateKey ℕ };
+    ghost Spelling = { PrivateRow ℕ };
 
     ghost means = { λ key. key };
 

@@ -1,10 +1,10 @@
 -- Containers: why one isn't read or written: one status at most.
-use Rattle.std.proofs.Common.{ℕ, List, ◌≡◌, ◌∙◌, ap, arith, false, inl, inr, length, subst, sym, ⊎_elim, Err, Ok, if◌then◌else◌, nat_lt}
+use Rattle.std.proofs.Common.{ℕ, List, ◌≡◌, ◌∙◌, ap, arith, false, inl, inr, length, sym, ⊎_elim, Err, Ok, if◌then◌else◌, nat_lt}
 use Rattle.der_core.specs.Words.{nat_tests, alone_law, tagged_law, Spells, bind_err, limit, TellsOfBytes, alone, tagged, whole, ◌>>=◌}
 use Rattle.der_core.specs.Tags as tags
 use Rattle.der_core.specs.declared.error.ErrorKind.{ErrorKind}
 use Rattle.der_core.specs.declared.error.ErrorKind.TheVariants.{Overflow}
-use Rattle.pkcs1.specs.Words.{number, private_key_read, rsa_private_key, integer_law, private_law, key_back, private_itself, private_spelled, private_from, private_stated}
+use Rattle.pkcs1.specs.Words.{number, private_key_read, rsa_private_key, integer_law, private_law, key_back, private_itself, private_spells, private_stated}
 use Rattle.pkcs1_params.proofs.Faults.{whole_tells}
 use Rattle.pkcs8_core.proofs.ContainedKeys.{key_tells}
 use Rattle.pkcs8_core.specs.ContainerReadings as readings
@@ -23,8 +23,7 @@ contained_keys_tell bytes k e =
 -- A whole slice that is the encoding of a key.
 key_taken : (key : PrivateKey) (octets : List ℕ) → PrivateKeyEncoding key octets → rsa_private_key octets ≡ Ok key
 key_taken key octets p =
-    let stated = subst (λ k. PrivateKeyEncoding k octets) (sym (key_back key)) p in
-    let (few, (s, is, ok, same)) = (private_spelled (private_from key) octets).1 stated in
+    let (few, (s, is, ok, same)) = private_spells key octets p in
     let at = tagged tags.sequence (private_key_read number) in
     let within : nat_lt limit (length octets) ≡ false = grind (arith, nat_tests) in
     let read : whole at octets ≡ Ok s =

@@ -3,8 +3,7 @@ use Rattle.std.proofs.Common.{ℕ, List, [], ◌∷◌, ◌++◌, ◌≡◌, ◌
 use Rattle.std.specs.List.{AllByRecursion, concat}
 use Rattle.std.proofs.lemmas.Grind.{common_steps}
 use Rattle.der_core.specs.Words.{tlv_fit, limit, Spells, all_encodings, Counts, joined}
-use Rattle.pkcs1.proofs.KeysWritten.{private_is_valid}
-use Rattle.pkcs1.specs.Words.{IsPrivateKey, held_public_key, number_in, public_encoding, public_spelled, private_encoding, private_itself, private_spelled, private_stated, private_as, public_as, AnyNumber, PrivateIsValid, PublicIsValid, public_key_with, OtherIsValid, primes_printed, other_from, other_stated}
+use Rattle.pkcs1.specs.Words.{IsPrivateKey, held_public_key, number_in, public_encoding, public_as_stated, private_as_stated, private_encoding, private_itself, private_stated, private_as, AnyNumber, PrivateIsValid, PublicIsValid, public_row, OtherIsValid, primes_printed, other_from, other_stated}
 use Rattle.pkcs1.specs.Keys as keys
 use Rattle.pkcs1.specs.declared.public_key.RsaPublicKey.{RsaPublicKey}
 use Rattle.standard.specs.Statement as statement
@@ -92,14 +91,14 @@ private_has key others count none =
     (count, numbers_have (numbers_of_key key) p.0, primes_have others p.1)
 
 -- == What is made of them ==
-abbrev pub PublicSpells : keys.PublicKey ℕ → List ℕ → Type 0
-PublicSpells = Spells (PublicIsValid AnyNumber) public_encoding (public_as (λ n. n))
+abbrev pub PublicSpells : keys.PublicRow ℕ → List ℕ → Type 0
+PublicSpells = Spells PublicIsValid public_encoding (λ row. row)
 
-abbrev pub PrivateSpells : keys.PrivateKey ℕ → List ℕ → Type 0
+abbrev pub PrivateSpells : keys.PrivateRow ℕ → List ℕ → Type 0
 PrivateSpells = Spells (PrivateIsValid AnyNumber) private_encoding (λ key. key)
 
 -- Its numbers mean themselves.
-same_spelled : (key : keys.PrivateKey ℕ) (bytes : List ℕ) → PrivateSpells key bytes
+same_spelled : (key : keys.PrivateRow ℕ) (bytes : List ℕ) → PrivateSpells key bytes
     ↔ Spells (PrivateIsValid AnyNumber) private_encoding (private_as (λ n. n)) key bytes
 same_spelled key bytes = (
   λ (few, (s, is, valid, same)). (few, (s, private_itself s ∙ is, valid, same)),
@@ -108,26 +107,26 @@ same_spelled key bytes = (
 
 pub public_law : (key : PublicKey) (made : RsaPublicKey Number) → held_public_key number_of made ≡ public_key key
     → (bytes : List ℕ)
-    → PublicSpells (public_key_with (number_in number_of) made) bytes ↔ PublicKeyEncoding (public_key key) bytes
+    → PublicSpells (public_row (number_in number_of) made) bytes ↔ PublicKeyEncoding (public_key key) bytes
 public_law key made same bytes =
-    subst (λ v. PublicSpells (public_key_with (number_in number_of) made) bytes ↔ PublicKeyEncoding v bytes) same
-    (public_spelled (public_key_with (number_in number_of) made) bytes)
+    subst (λ v. PublicSpells (public_row (number_in number_of) made) bytes ↔ PublicKeyEncoding v bytes) same
+    (public_as_stated.same (public_row (number_in number_of) made) bytes)
 
-pub private_law : (key : PrivateKey) (others : List OtherPrime) (made : keys.PrivateKey ℕ)
+pub private_law : (key : PrivateKey) (others : List OtherPrime) (made : keys.PrivateRow ℕ)
     → private_stated made ≡ private_key key others → (bytes : List ℕ)
     → PrivateSpells made bytes ↔ PrivateKeyEncoding (private_key key others) bytes
 private_law key others made same bytes =
     let itself = same_spelled made bytes in
-    let spelled = private_spelled made bytes in
+    let spelled = private_as_stated.same made bytes in
     subst (λ v. PrivateSpells made bytes ↔ PrivateKeyEncoding v bytes) same
     (λ p. spelled.0 (itself.0 p), λ p. itself.1 (spelled.1 p))
 
-pub private_valid : (key : PrivateKey) (others : List OtherPrime) (made : keys.PrivateKey ℕ)
+pub private_valid : (key : PrivateKey) (others : List OtherPrime) (made : keys.PrivateRow ℕ)
     → private_stated made ≡ private_key key others → PrivateIsValid AnyNumber made
 private_valid key others made same =
     let is : IsPrivateKey (private_key key others) = search rules in
     subst (PrivateIsValid AnyNumber) (private_itself made)
-    ((private_is_valid made).1 (subst IsPrivateKey (sym same) is))
+    ((private_as_stated.valid made).1 (subst IsPrivateKey (sym same) is))
 
 -- == Other primes that the caller passes: their encodings are those of the primes with these numbers ==
 

@@ -8,7 +8,7 @@ use Rattle.der_core.specs.Words.{Prepends, Appends, Counts, joined}
 use Rattle.der_core.specs.declared.back_writer.BackWriter.{BackWriter}
 use Rattle.der_core.specs.declared.error.Error.{Error}
 use Rattle.pkcs1.proofs.KeyRows.{Parts, key_appended, key_prepended, row_room, row_valid}
-use Rattle.pkcs1.specs.Words.{number_in, Row, RowIsValid, key_row, row_as, row_printed, version_held, OtherPrime, version_of, AnyNumber, AreSome, OtherIsValid, PrivateIsValid, others_printed, primes_printed, private_printed, other_from}
+use Rattle.pkcs1.specs.Words.{number_in, Row, RowIsValid, key_row, row_as, row_printed, OtherRow, others_in, version_of, AnyNumber, AreSome, OtherIsValid, PrivateIsValid, others_printed, primes_printed, private_printed, other_from}
 use Rattle.pkcs1.specs.declared.private_key.PrivateKeyOf.{PrivateKeyOf}
 use Rattle.standard.specs.Statement.{IfPresent, integer, sequence}
 use Rattle.pkcs1_c.proofs.GivenKeys.{any_given}
@@ -19,7 +19,7 @@ use Rattle.pkcs1_c.specs.declared.given_primes.GivenPrimes.{GivenPrimes}
 itself : {V : Type 0} (o : Option V) → option_map (λ v. v) o ≡ o
 itself o = grind (arith, common_steps)
 
-version_given : (o : Option GivenPrimes) → version_held o ≡ version_of (option_map given_primes o)
+version_given : (o : Option GivenPrimes) → version_of o ≡ version_of (option_map given_primes o)
 version_given o = grind (arith, common_steps)
 
 given_some : (o : Option GivenPrimes) → AreSome (option_map given_primes o)
@@ -32,20 +32,20 @@ given_valid_primes : (o : Option GivenPrimes)
 given_valid_primes None = tt
 given_valid_primes (Some given) = any_given given.others.now
 
-abbrev pub octets_of : Row ℕ (List (OtherPrime ℕ)) → List ℕ
+abbrev pub octets_of : Row ℕ (List (OtherRow ℕ)) → List ℕ
 octets_of = row_printed integer (λ others. sequence (primes_printed integer others))
 
-abbrev pub IsValid : Row ℕ (List (OtherPrime ℕ)) → Type 0
+abbrev pub IsValid : Row ℕ (List (OtherRow ℕ)) → Type 0
 IsValid = RowIsValid AnyNumber (AllByRecursion (OtherIsValid AnyNumber))
 
 module _ (key : PrivateKeyOf Number GivenPrimes) where
-  abbrev pub Spelled : Row ℕ (List (OtherPrime ℕ))
+  abbrev pub Spelled : Row ℕ (List (OtherRow ℕ))
   Spelled = row_as (λ n. n) (λ others. others) (key_row (number_in number_of) given_primes key)
 
-  abbrev version : version_held key.other_prime_infos ≡ version_of (given_key key).other_prime_infos
+  abbrev version : version_of key.other_prime_infos ≡ version_of (others_in (given_key key))
   version = version_given key.other_prime_infos
 
-  parts : Spelled ≡ Parts AnyNumber integer (given_key key) (version_held key.other_prime_infos) version
+  parts : Spelled ≡ Parts AnyNumber integer (given_key key) (version_of key.other_prime_infos) version
   parts = simp itself
 
   pub given_valid : PrivateIsValid AnyNumber (given_key key) → IsValid Spelled

@@ -6,8 +6,7 @@ use Rattle.der_core.specs.Words.{limit, tlv_len, number_contents, Counts}
 use Rattle.der_core.specs.declared.error.Error.{Error}
 use Rattle.der_core.specs.declared.error.ErrorKind.TheVariants.{Overflow}
 use Rattle.std.specs.List.{concat}
-use Rattle.pkcs1.specs.Words.{OtherPrime as OtherPrimeOf, PrivateKey, version_of}
-use Rattle.pkcs1.specs.Keys.{key_numbers}
+use Rattle.pkcs1.specs.Words.{OtherRow, PrivateRow, key_numbers, others_in, version_of}
 use Rattle.pkcs1_c.specs.Words.{front_of, prime_encoded}
 use Rattle.standard.specs.Statement.{OtherPrime, integer, integers, length_octets, tlv}
 
@@ -45,22 +44,22 @@ pub prime_len : (o : OtherPrime) → length (prime_encoded o)
 prime_len o =
     tagged 48 (integers (o.prime ∷ o.exponent ∷ o.coefficient ∷ [])) ∙ ap tlv_len (simp length-append (omega arith))
 
-version_len : (others : Option (List (OtherPrimeOf ℕ))) → length (integer (version_of others)) ≡ 3
+version_len : (others : Option (List (OtherRow ℕ))) → length (integer (version_of others)) ≡ 3
 unfolding length_octets
 version_len None = refl
 version_len (Some others) = refl
 
-numbers_len : (k : PrivateKey ℕ) → length (concat (map integer (key_numbers k)))
-    ≡ (number_len k.modulus + number_len k.public_exponent + number_len k.private_exponent + number_len k.prime1)
-    + (number_len k.prime2 + number_len k.exponent1 + number_len k.exponent2 + number_len k.coefficient)
+numbers_len : (k : PrivateRow ℕ) → length (concat (map integer (key_numbers k)))
+    ≡ (number_len k.0 + number_len k.1.0 + number_len k.1.1.0 + number_len k.1.1.1.0)
+    + (number_len k.1.1.1.1.0 + number_len k.1.1.1.1.1.0 + number_len k.1.1.1.1.1.1.0 + number_len k.1.1.1.1.1.1.1.0)
 numbers_len k = simp length-append (omega arith)
 
-pub front_len : (k : PrivateKey ℕ) → length (front_of k)
-    ≡ 3 + (number_len k.modulus + number_len k.public_exponent + number_len k.private_exponent + number_len k.prime1)
-    + (number_len k.prime2 + number_len k.exponent1 + number_len k.exponent2 + number_len k.coefficient)
+pub front_len : (k : PrivateRow ℕ) → length (front_of k)
+    ≡ 3 + (number_len k.0 + number_len k.1.0 + number_len k.1.1.0 + number_len k.1.1.1.0)
+    + (number_len k.1.1.1.1.0 + number_len k.1.1.1.1.1.0 + number_len k.1.1.1.1.1.1.0 + number_len k.1.1.1.1.1.1.1.0)
 front_len k =
-    length-append (integer (version_of k.other_prime_infos)) (concat (map integer (key_numbers k)))
-    ∙ omega (arith, version_len k.other_prime_infos, numbers_len k)
+    length-append (integer (version_of (others_in k))) (concat (map integer (key_numbers k)))
+    ∙ omega (arith, version_len (others_in k), numbers_len k)
 
 pub counted : (octets : List ℕ) (s n : ℕ) → length octets ≡ n → Agree s n → (r : Result ℕ Error)
     → IfOk r (λ m. (m ≡ s) × (s ≤ limit)) → IfErr r (λ f. (f.kind ≡ Overflow) × (limit < s))

@@ -27,7 +27,7 @@ found o others few = next_law.takes (other_from o) (primes_encoded others) (tt, 
 
 -- The next one is placed.
 module _ (primes : List OtherPrime) (left after : Input) (others old : List struct.OtherPrime) (i : ℕ)
-    (made : struct.OtherPrime) (other : keys.OtherPrime ℕ) (less : i < length others)
+    (made : struct.OtherPrime) (other : keys.OtherRow ℕ) (less : i < length others)
     (holds : numbers_of_prime made ≡ octets_of_prime (other_stated other)) (gives : Gives next_prime other left after)
   where
     pub one_placed : Placing primes left others old i → Placing primes after (set others i made) old (i + 1)

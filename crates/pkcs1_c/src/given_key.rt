@@ -1,7 +1,7 @@
 //! Private keys that the caller passes.
 ghost use Rattle.std.specs.Prelude.{◌≡◌, ℕ, IfErr, IfOk, OnOk};
 ghost use Rattle.der_core.specs.Words.{Counts, alike, one_spelling};
-ghost use Rattle.pkcs1.specs.Words.{AnyNumber, PrivateIsValid, PrivateKey as KeyOf, integer_law, number as number_at, private_key_read, private_law, private_printed};
+ghost use Rattle.pkcs1.specs.Words.{AnyNumber, PrivateIsValid, PrivateRow, integer_law, number as number_at, private_key_read, private_law, private_printed};
 ghost use Rattle.pkcs1_c.specs.Words.{NoStatus, NumbersError, front_of, given_key, given_numbers, held_given_key, private_key, status_of};
 ghost use Rattle.standard.specs.Statement.{integer};
 
@@ -67,11 +67,11 @@ fn numbers_len(key: &PrivateKeyOf<Number<'_>, GivenPrimes<'_>>) -> Result<Length
 }
 
 impl Contents for GivenKey<'_> {
-    ghost Value = { KeyOf ℕ };
+    ghost Value = { PrivateRow ℕ };
 
     ghost value = { λ key. given_key key.0 };
 
-    ghost Spelling = { KeyOf ℕ };
+    ghost Spelling = { PrivateRow ℕ };
 
     ghost means = { λ key. key };
 

@@ -158,11 +158,11 @@ impl Contents for GivenPrimes<'_> {
     ghost use Rattle.pkcs1_c.specs.GivenPrimesValue.{given_primes};
     ghost use Rattle.standard.specs.Statement.{integer};
 
-    ghost Value = { List (keys.OtherPrime ℕ) };
+    ghost Value = { List (keys.OtherRow ℕ) };
 
     ghost value = { given_primes };
 
-    ghost Spelling = { List (keys.OtherPrime ℕ) };
+    ghost Spelling = { List (keys.OtherRow ℕ) };
 
     ghost means = { λ primes. primes };
 

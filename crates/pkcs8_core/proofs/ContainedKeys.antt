@@ -1,5 +1,5 @@
 -- Containers: algorithms that the function takes, faults, the key in one, and what they exclude.
-use Rattle.std.proofs.Common.{ℕ, Bool, true, false, List, [], ◌≡◌, ◌==◌, refl, sym, ap, ◌∙◌, ⊎_elim, Option, Some, None, Ok, Err, Decides, ◌&&◌, if◌then◌else◌, bytes_eq, ◌++◌, subst, inl, inr, IfOk, Result, ◌∷◌, ◌≤◌, length, arith, append-nil, append_assoc, slice_index}
+use Rattle.std.proofs.Common.{ℕ, Bool, true, false, List, [], ◌≡◌, ◌==◌, refl, sym, ap, ◌∙◌, ⊎_elim, Option, Some, None, Ok, Err, Decides, ◌&&◌, if◌then◌else◌, bytes_eq, ◌++◌, subst, inl, inr, IfErr, IfOk, Result, ◌∷◌, ◌≤◌, length, arith, append-nil, append_assoc, slice_index}
 use Rattle.der_core.specs.declared.error.ErrorKind.{ErrorKind}
 use Rattle.der_core.specs.declared.error.ErrorKind.TheVariants as kind
 use Rattle.der_core.specs.declared.tag.Tag.{Tag}
@@ -10,7 +10,7 @@ use Rattle.pkcs1.proofs.KeyReads.{private_tells, one_spelling}
 use Rattle.pkcs8_core.specs.Words.{Container, key_in, null_only, rsa_only, rsa_encryption, private_key_info, rsa_held, rsa_private_key_info, container_encoded, container_law, containers_decode, IsContainer, container_printed, ContainedKey}
 use Rattle.der_core.specs.Tags as tags
 use Rattle.der_core.specs.declared.error.Error as der
-use Rattle.pkcs1.specs.Words.{MayAllocate, rsa_private_key, private_decodes, viewed_encoding}
+use Rattle.pkcs1.specs.Words.{MayAllocate, Rejects, rsa_private_key, private_decodes, viewed_encoding}
 use Rattle.pkcs1.specs.declared.view.RsaPrivateKeyView.{RsaPrivateKeyView}
 use Rattle.pkcs1_params.proofs.Faults.{asn1_as}
 use Rattle.pkcs1_params.specs.declared.error.Error.{Error}
@@ -115,6 +115,23 @@ asked_held value c octets same agrees (Err e) p =
     asn1_as
     (λ a f. ⊎_elim (λ w. inl (w.0, (agrees, subst MayAllocate same w.1)))
     (λ g. inr (read_held c octets same agrees ∙ g)) f) e p
+
+-- What such a call decodes.
+module _ {X : Type 0} (value : X → PrivateKey) (c : Container) (are : AreBytes c.private_key) (asked : Type 0) where
+  given : (r : Result PrivateKey ErrorKind) → rsa_held c ≡ r → Decodes (ContainedKey c) c.private_key (value_in r)
+  given r is =
+      subst (λ r. Decodes (ContainedKey c) c.private_key (value_in r)) is (contained_decode c c.private_key are)
+
+  pub held_ok : (r : Result X Error) → ErrsOrAsks value (rsa_held c) asked r
+      → IfOk r (λ x. Decodes (ContainedKey c) c.private_key (Some (value x)))
+  held_ok (Ok x) p = given (Ok (value x)) p
+  held_ok (Err e) p = tt
+
+  pub held_err : (r : Result X Error) → ErrsOrAsks value (rsa_held c) asked r
+      → IfErr r (Rejects (ContainedKey c) c.private_key asked)
+  held_err (Ok x) p = tt
+  held_err (Err e) p =
+      asn1_as (λ a. ⊎_elim (λ w. inl w) (λ f. inr (key_tells c c.private_key a.kind f, given (Err a.kind) f))) e p
 
 -- An encoding is that of one container, and no beginning of another.
 container_follow : (v w : Container) (bytes rest : List ℕ) → ContainerEncoding v bytes

@@ -71,8 +71,8 @@ prime = record { prime = 256; exponent = 8; coefficient = 9 }
 other_prime : held_other_prime itself info ≡ prime
 other_prime = refl
 
-abbrev left : keys.OtherPrime ℕ
-left = record { prime = 256; exponent = 8; coefficient = 9 }
+abbrev left : keys.OtherRow ℕ
+left = (256, (8, (9, tt)))
 
 other_primes : (primes : OtherPrimes) → others_left primes ≡ left ∷ left ∷ []
     → held_other_primes primes ≡ prime ∷ prime ∷ []

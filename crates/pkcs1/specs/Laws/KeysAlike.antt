@@ -1,15 +1,14 @@
--- Keys are read as their spellings mean, if their numbers are; and have one spelling each, if their numbers have.
-use Rattle.std.proofs.Common.{ℕ, Bool, true, false, List, [], ◌∷◌, ◌≡◌, ◌==◌, map, refl, sym, ◌∙◌, Option, Some, None, Ok, Err, if◌then◌else◌, ap}
+-- Private keys are read as their spellings mean, if their numbers are.
+use Rattle.std.proofs.Common.{ℕ, Bool, true, false, List, [], ◌∷◌, ◌≡◌, ◌==◌, map, refl, sym, ◌∙◌, Option, Some, None, Ok, Err, if◌then◌else◌}
 use Rattle.der_core.specs.declared.error.ErrorKind.TheVariants.{Value}
-use Rattle.der_core.specs.Words.{alike, chain_alike, front_alike, front_row_alike, items_alike, made_alike, optional_alike, row_alike, tagged_alike, ReadsAlike, ReadsFrontAlike, FrontReading, Reading, ended, front_done, made, no_parts, tagged, ◌>>=◌, made_once, AreSpelledOnce}
+use Rattle.der_core.specs.Words.{alike, chain_alike, front_alike, front_row_alike, items_alike, made_alike, optional_alike, row_alike, tagged_alike, ReadsAlike, ReadsFrontAlike, FrontReading, Reading, ended, front_done, made, no_parts, tagged, ◌>>=◌}
 use Rattle.der_core.specs.Tags as tags
-use Rattle.pkcs1.specs.KeyReadings.{agreed, front_read, key_from, lists_none, of_other_parts, of_public_parts, other_read, others_read, primes_read, private_key_read, public_key_read, version_read}
-use Rattle.pkcs1.specs.Keys.{OtherPrime, version_of, other_parts, public_parts}
-use Rattle.pkcs1.specs.PrintedKeys.{front_as, other_as, others_as, private_as, public_as}
+use Rattle.pkcs1.specs.KeyReadings.{agreed, front_read, lists_none, others_read, primes_read, private_key_read, version_read}
+use Rattle.pkcs1.specs.Keys.{OtherRow, front_as, key_from, other_as, others_as, private_as, version_of}
 
 -- The version of a key, and whether its list of other primes is empty.
 abbrev Primes : Type 0 → Type 0
-Primes N = Option (List (OtherPrime N))
+Primes N = Option (List (OtherRow N))
 
 pub version_as : {N M : Type 0} (f : N → M) (primes : Primes N) → version_of (others_as f primes) ≡ version_of primes
 version_as f None = refl
@@ -27,18 +26,8 @@ ending primes agrees none c =
 
 module _ {S V : Type 0} {at : FrontReading S} {means : S → V} {old : FrontReading V}
     (law : ReadsFrontAlike at means old) where
-  pub public_alike : ReadsAlike (public_key_read at) (public_as means) (public_key_read old)
-  public_alike =
-      made_alike (row_alike law (row_alike law (alike no_parts))) of_public_parts of_public_parts (public_as means)
-      (λ p. refl)
-
-  pub other_alike : ReadsAlike (other_read at) (other_as means) (other_read old)
-  other_alike =
-      made_alike (row_alike law (row_alike law (row_alike law (alike no_parts)))) of_other_parts of_other_parts
-      (other_as means) (λ p. refl)
-
   pub primes_alike : ReadsAlike (primes_read at) (map (other_as means)) (primes_read old)
-  primes_alike = items_alike (tagged_alike other_alike tags.sequence)
+  primes_alike = items_alike (tagged_alike (row_alike law (row_alike law (row_alike law (alike no_parts)))) tags.sequence)
 
   -- The list behind a version.
   agreed_alike : (v : ℕ) (primes : Primes S)
@@ -76,17 +65,3 @@ module _ {S V : Type 0} {at : FrontReading S} {means : S → V} {old : FrontRead
       chain_alike fronts_alike (λ front. made (key_from front.1) (others_read old front.0))
       (λ front. made_alike (others_alike front.0) (key_from front.1) (key_from (front_as means front).1)
       (private_as means) (λ primes. refl))
-
--- == They have one spelling each ==
-module _ {N V : Type 0} (means : N → V) where
-  pub public_once : AreSpelledOnce {V = V × (V × Unit {0})}
-      (λ (p : N × (N × Unit {0})). (means p.0, (means p.1.0, p.1.1)))
-      → AreSpelledOnce (public_as means)
-  public_once once =
-      made_once once public_parts of_public_parts public_parts (λ s t e. ap of_public_parts e) (λ v. refl)
-
-  pub other_once : AreSpelledOnce {V = V × (V × (V × Unit {0}))}
-      (λ (p : N × (N × (N × Unit {0}))). (means p.0, (means p.1.0, (means p.1.1.0, p.1.1.1))))
-      → AreSpelledOnce (other_as means)
-  other_once once =
-      made_once once other_parts of_other_parts other_parts (λ s t e. ap of_other_parts e) (λ v. refl)

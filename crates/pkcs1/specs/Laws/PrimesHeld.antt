@@ -1,13 +1,12 @@
 -- Items of a list, read one after another; and the bytes that hold other primes.
 use Rattle.std.proofs.Common.{ℕ, zero, suc, List, [], ◌∷◌, ◌++◌, ◌≡◌, ◌<◌, ◌≤◌, length, refl, sym, subst, ap, ◌∙◌, arith, append_assoc, append-nil, length-append, Result, Ok, Err, ◌+◌, ◌-◌, Option, Some}
 use Rattle.der_core.specs.declared.error.ErrorKind.{ErrorKind}
-use Rattle.der_core.specs.Words.{AreBytes, back_bytes, ReadsFrontPrinted, FrontReading, items, items_within, made, ◌>>=◌, tagged_law, tagged_some, value_in}
+use Rattle.der_core.specs.Words.{AreBytes, back_bytes, ReadsFrontPrinted, FrontReading, items, items_within, made, ◌>>=◌, tagged_some, value_in}
 use Prim.{IsProp, IsSet}
 use mathlib.Core.HLevel.{is_prop→PathP}
 use denote.Struct.Props.{props}
-use Rattle.der_core.specs.Tags as tags
 use Rattle.pkcs1.specs.KeyReadings.{number, primes_read}
-use Rattle.pkcs1.specs.Keys.{OtherPrime}
+use Rattle.pkcs1.specs.Keys.{OtherRow}
 use Rattle.pkcs1.specs.OtherPrimesHeld.{HoldsPrimes, next_prime}
 use Rattle.pkcs1.specs.Laws.PrintedKeys.{integer_law, other_law}
 use Rattle.pkcs1.specs.Printing.{AnyNumber, OtherIsValid, other_printed}
@@ -91,13 +90,13 @@ module _ {V : Type 0} {valid : V → Type 0} {printed : V → List ℕ} {at : Fr
 -- Bytes that hold the encodings of other primes, in a row, and how many: by the function that reads them.
 pub next_law : ReadsFrontPrinted (OtherIsValid AnyNumber) (λ other. sequence (other_printed standard.integer other))
     next_prime
-next_law = tagged_law (other_law integer_law) tags.sequence
+next_law = other_law integer_law
 
-pub next_some : (other : OtherPrime ℕ) → 0 < length (sequence (other_printed standard.integer other))
+pub next_some : (other : OtherRow ℕ) → 0 < length (sequence (other_printed standard.integer other))
 next_some = tagged_some (other_printed standard.integer) 48
 
 -- There is one such list at most.
-primes_set : IsSet (Option (List (OtherPrime ℕ)))
+primes_set : IsSet (Option (List (OtherRow ℕ)))
 primes_set = hlevel props
 
 count_set : IsSet ℕ
@@ -128,13 +127,13 @@ pub held_read : (bytes : List ℕ) (left : ℕ) (h : HoldsPrimes bytes left) →
 held_read bytes left h = read_of (primes_read number bytes) h.0 h.1
 
 -- The first one, and those behind it.
-pub held_behind : (bytes rest : List ℕ) (left : ℕ) (other : OtherPrime ℕ) (h : HoldsPrimes bytes left) → AreBytes bytes
+pub held_behind : (bytes rest : List ℕ) (left : ℕ) (other : OtherRow ℕ) (h : HoldsPrimes bytes left) → AreBytes bytes
     → next_prime bytes ≡ Ok (other, rest) → (t : HoldsPrimes rest (left - 1)) × (h.0 ≡ other ∷ t.0)
 held_behind bytes rest left other h are next =
     go (primes_read number rest) refl
     (sym (items_step next_law next_some bytes rest other are next) ∙ held_read bytes left h)
   where
-    go : (r : Result (List (OtherPrime ℕ)) ErrorKind) → primes_read number rest ≡ r
+    go : (r : Result (List (OtherRow ℕ)) ErrorKind) → primes_read number rest ≡ r
         → (r >>= λ os. Ok (other ∷ os)) ≡ Ok h.0 → (t : HoldsPrimes rest (left - 1)) × (h.0 ≡ other ∷ t.0)
     go (Ok os) read e =
         let same : other ∷ os ≡ h.0 = some_same (ap value_in e) in
@@ -151,13 +150,13 @@ held_first (x ∷ xs) left k h some fault =
 -- So many were read of the bytes, and the rest is left.
 abbrev pub AreCounted : List ℕ → List ℕ → ℕ → Type 0
 AreCounted bytes rest count =
-    (others : List (OtherPrime ℕ)) × AreRead next_prime bytes others rest × (length others ≡ count)
+    (others : List (OtherRow ℕ)) × AreRead next_prime bytes others rest × (length others ≡ count)
     × (count + length rest ≤ length bytes)
 
 pub none_counted : (bytes : List ℕ) → AreCounted bytes bytes 0
 none_counted bytes = ([], none_read next_prime bytes, refl, omega arith)
 
-pub more_counted : (bytes rest behind : List ℕ) (count : ℕ) (other : OtherPrime ℕ) → AreBytes rest
+pub more_counted : (bytes rest behind : List ℕ) (count : ℕ) (other : OtherRow ℕ) → AreBytes rest
     → AreCounted bytes rest count → next_prime rest ≡ Ok (other, behind) → AreCounted bytes behind (count + 1)
 more_counted bytes rest behind count other are (others, read, counted, few) next =
     let less = (item_shorter next_law next_some rest behind other are next).0 in (

@@ -1,17 +1,15 @@
--- Public keys and other primes are read as they are printed, if their numbers are; so are versions. Public keys of
--- numbers, in the words of the statement, and their equality.
-use Rattle.std.proofs.Common.{◌<◌, arith, refl, nat_lt, ℕ, List, ◌≡◌, ◌≤◌, length, subst, Result, Ok, Err, option_map, ◌↔◌, Bool, ◌&&◌, ap, Decides, false, [], ◌∷◌, Option, Some, None}
+-- Other primes are read as they are printed, if their numbers are; so are versions. Public keys of numbers, in the words
+-- of the statement, and their equality.
+use Rattle.std.proofs.Common.{◌<◌, arith, refl, nat_lt, ℕ, List, ◌≡◌, ◌≤◌, length, subst, sym, Result, Ok, Err, option_map, ◌↔◌, Bool, ◌&&◌, ap, Decides, false, [], ◌∷◌, Option, Some, None}
 use Rattle.std.specs.List.{AllByRecursion}
-use Rattle.der_core.specs.Words.{nat_tests, number_law, small_law, such_law, tagged_law, valid_as, is_value, ReadsFrontPrinted, ReadsPrinted, number_contents, AreBytes, spells_once, decodes_as, whole_decodes, Spells, value_in, Reading, tagged, whole, ◌>>=◌, both_decide, items_law, end_law, made_law, row_law, tagged_some, FrontReading}
+use Rattle.der_core.specs.Words.{nat_tests, number_law, small_law, such_law, tagged_law, valid_as, is_value, ReadsFrontPrinted, ReadsPrinted, number_contents, AreBytes, StatedAs, stated, decodes_as, whole_decodes, Spells, value_in, made, tagged, whole, ◌>>=◌, both_decide, items_law, end_law, row_law, tagged_some, FrontReading}
 use Rattle.der_core.specs.Tags as tags
-use Rattle.pkcs1.specs.KeyReadings.{number, version_read, public_key_read, rsa_public_key, lists_none, of_other_parts, of_public_parts, other_read, primes_read}
-use Rattle.pkcs1.specs.Printing.{AnyNumber, PublicIsValid, public_printed, AreSome, OtherIsValid, other_printed, primes_printed}
-use Rattle.standard.specs.Statement.{integer, Decodes, PublicKeyEncoding, limit, sequence}
+use Rattle.pkcs1.specs.KeyReadings.{number, public_read, version_read, rsa_public_key, lists_none, other_read, primes_read}
+use Rattle.pkcs1.specs.Printing.{AnyNumber, AreSome, OtherIsValid, other_printed, primes_printed}
+use Rattle.standard.specs.Statement.{integer, integers, Decodes, PublicKeyEncoding, limit, sequence}
 use Rattle.der_core.specs.declared.error.ErrorKind.{ErrorKind}
-use Rattle.pkcs1.specs.Keys.{PublicKey, OtherPrime, other_parts, public_parts}
-use Rattle.pkcs1.specs.PrintedKeys.{public_as}
+use Rattle.pkcs1.specs.Keys.{OtherRow, PublicRow}
 use Rattle.pkcs1.specs.StatedKeys.{public_from, public_stated}
-use Rattle.standard.specs.Statement as standard
 
 pub integer_law : ReadsFrontPrinted AnyNumber integer number
 integer_law = tagged_law number_law tags.integer
@@ -24,73 +22,77 @@ version_law =
     (λ n h. grind (arith, nat_tests, h)) (is_value refl)) (λ n ok. ok.0) (λ n less. (less, omega (arith, less)))
 
 -- A list that is there isn't empty.
-pub some_listed : {N : Type 0} (primes : Option (List (OtherPrime N))) → AreSome primes → lists_none primes ≡ false
+pub some_listed : {N : Type 0} (primes : Option (List (OtherRow N))) → AreSome primes → lists_none primes ≡ false
 some_listed None some = refl
 some_listed (Some []) some = absurd (omega (arith, some))
 some_listed (Some (x ∷ xs)) some = refl
 
-pub are_some : {N : Type 0} (primes : Option (List (OtherPrime N))) → lists_none primes ≡ false → AreSome primes
+pub are_some : {N : Type 0} (primes : Option (List (OtherRow N))) → lists_none primes ≡ false → AreSome primes
 are_some None none = tt
 are_some (Some []) none = cc
 are_some (Some (x ∷ xs)) none = omega arith
 
--- The rows of keys and of other primes, over numbers of any type.
+-- One of the other primes, and their list, over numbers of any type.
 module _ {N : Type 0} {valid : N → Type 0} {printed : N → List ℕ} {at : FrontReading N}
     (law : ReadsFrontPrinted valid printed at) where
-  pub public_law : ReadsPrinted (PublicIsValid valid) (public_printed printed) (public_key_read at)
-  public_law = made_law (row_law law (row_law law end_law)) of_public_parts public_parts (λ p. refl) (λ key. refl)
-
-  pub other_law : ReadsPrinted (OtherIsValid valid) (other_printed printed) (other_read at)
-  other_law =
-      made_law (row_law law (row_law law (row_law law end_law))) of_other_parts other_parts (λ p. refl) (λ other. refl)
+  pub other_law : ReadsFrontPrinted (OtherIsValid valid) (λ other. sequence (other_printed printed other))
+      (tagged tags.sequence (other_read at))
+  other_law = tagged_law (row_law law (row_law law (row_law law end_law))) tags.sequence
 
   pub primes_law : ReadsPrinted (AllByRecursion (OtherIsValid valid)) (primes_printed printed) (primes_read at)
-  primes_law = items_law (tagged_law other_law tags.sequence) (tagged_some (other_printed printed) 48)
+  primes_law = items_law other_law (tagged_some (other_printed printed) 48)
+
+-- A function that makes its values of those of a law decodes their encodings, if these are what the law has.
+module _ {V W : Type 0} {valid : V → Type 0} {printed : V → List ℕ} {at : FrontReading V}
+    (law : ReadsFrontPrinted valid printed at) (make : V → W) (Encoding : W → List ℕ → Type 0) (from : W → V)
+    (back : (w : W) → make (from w) ≡ w)
+    (same : (v : V) (bytes : List ℕ)
+    → ((length bytes ≤ limit) × valid v × (bytes ≡ printed v)) ↔ Encoding (make v) bytes) where
+  value_made : (r : Result V ErrorKind) → option_map make (value_in r) ≡ value_in (r >>= λ v. Ok (make v))
+  value_made (Ok v) = refl
+  value_made (Err k) = refl
+
+  pub made_decodes : (bytes : List ℕ) → AreBytes bytes
+      → Decodes Encoding bytes (value_in (made make (whole at) bytes))
+  made_decodes bytes are =
+      subst (Decodes Encoding bytes) (value_made (whole at bytes))
+      (decodes_as (λ v b. (length b ≤ limit) × valid v × (b ≡ printed v)) Encoding make from back bytes
+      (λ v p. (same v bytes).0 p)
+      (λ w p. (same (from w) bytes).1 (subst (λ u. Encoding u bytes) (sym (back w)) p))
+      (value_in (whole at bytes)) (whole_decodes law bytes are))
 
 -- == Public keys: the function of this crate reads what the statement prints of them, and nothing else ==
 
--- The encoding of a public key of numbers, its spellings in the words of the statement, and the shortest.
-abbrev pub public_encoding : PublicKey ℕ → List ℕ
-public_encoding key = sequence (public_printed standard.integer key)
+-- The row of a public key, which is valid whatever its numbers are, and its encoding; as the statement has it.
+abbrev pub PublicIsValid : PublicRow ℕ → Type 0
+PublicIsValid row = AnyNumber row.0 × (AnyNumber row.1.0 × Unit {0})
 
-pub public_spelled : (key : PublicKey ℕ) (bytes : List ℕ)
-    → Spells (PublicIsValid AnyNumber) public_encoding (public_as (λ n. n)) key bytes
-    ↔ PublicKeyEncoding (public_stated key) bytes
-public_spelled key bytes =
-    let once = spells_once (PublicIsValid AnyNumber) public_encoding key bytes in (
-      λ p. let q = once.0 p in (q.0, q.2),
-      λ p. once.1 (p.0, (tt, (tt, tt)), p.1),
-    )
+abbrev pub public_encoding : PublicRow ℕ → List ℕ
+public_encoding row = sequence (integers (row.0 ∷ row.1.0 ∷ []))
 
--- A value that is made of what was read.
-pub value_made : {V W : Type 0} (make : V → W) (r : Result V ErrorKind)
-    → option_map make (value_in r) ≡ value_in (r >>= λ v. Ok (make v))
-value_made make (Ok v) = refl
-value_made make (Err k) = refl
+pub public_law : ReadsFrontPrinted PublicIsValid public_encoding public_read
+public_law = tagged_law (row_law integer_law (row_law integer_law end_law)) tags.sequence
 
--- A whole slice, as a public key of numbers; and of the statement.
-abbrev pub public_key_in : Reading (PublicKey ℕ)
-public_key_in = whole (tagged tags.sequence (public_key_read number))
+same_encoding : (row : PublicRow ℕ) (bytes : List ℕ)
+    → ((length bytes ≤ limit) × PublicIsValid row × (bytes ≡ public_encoding row))
+    ↔ PublicKeyEncoding (public_stated row) bytes
+same_encoding row bytes = (λ (few, _, is). (few, is), λ (few, is). (few, (tt, (tt, tt)), is))
 
-abbrev PublicEncodes : PublicKey ℕ → List ℕ → Type 0
-PublicEncodes key bytes = (length bytes ≤ limit) × PublicIsValid AnyNumber key × (bytes ≡ public_encoding key)
+pub public_as_stated : StatedAs PublicIsValid (Spells PublicIsValid public_encoding (λ v. v)) (λ _. Unit {0})
+    PublicKeyEncoding public_stated
+public_as_stated =
+    stated (λ v. v) (λ v. refl) public_from (λ w. refl) (λ v. (λ _. tt, λ _. (tt, (tt, tt)))) same_encoding
 
 pub public_decodes : (bytes : List ℕ) → AreBytes bytes
     → Decodes PublicKeyEncoding bytes (value_in (rsa_public_key bytes))
-public_decodes bytes are =
-    let read = public_key_in bytes in
-    subst (Decodes PublicKeyEncoding bytes) (value_made public_stated read)
-    (decodes_as PublicEncodes PublicKeyEncoding public_stated public_from (λ key. refl) bytes (λ key p. (p.0, p.2))
-    (λ key p. (p.0, (tt, (tt, tt)), p.1)) (value_in read)
-    (whole_decodes (tagged_law (public_law integer_law) tags.sequence) bytes are))
+public_decodes = made_decodes public_law public_stated PublicKeyEncoding public_from (λ key. refl) same_encoding
 
 -- == Public keys are equal exactly if their numbers are ==
 
 -- Equality of keys, given that of numbers.
 pub public_key_decides : {U V : Type 0} (value : U → V) (E : U → U → Bool)
     → ((a b : U) → Decides (E a b) (value a ≡ value b)) → (m n e f : U)
-    → Decides (E m n && E e f) (◌≡◌ {A = PublicKey V} (record { modulus = value m; public_exponent = value e })
-    (record { modulus = value n; public_exponent = value f }))
+    → Decides (E m n && E e f) (◌≡◌ {A = PublicRow V} (value m, (value e, tt)) (value n, (value f, tt)))
 public_key_decides {U} {V} value E d m n e f =
-    both_decide (d m n) (d e f) (λ p q. λ i. record { modulus = p i; public_exponent = q i })
-    (λ s. ap (λ (k : PublicKey V). k.modulus) s) (λ s. ap (λ (k : PublicKey V). k.public_exponent) s)
+    both_decide (d m n) (d e f) (λ p q. λ i. (p i, (q i, tt))) (λ s. ap (λ (k : PublicRow V). k.0) s)
+    (λ s. ap (λ (k : PublicRow V). k.1.0) s)

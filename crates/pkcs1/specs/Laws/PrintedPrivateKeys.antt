@@ -4,15 +4,15 @@ use Rattle.der_core.specs.Words.{nat_tests, chosen, agreed_law, chain_law, front
 use Rattle.std.specs.List.{AllByRecursion, concat}
 use Rattle.der_core.specs.declared.error.ErrorKind.{ErrorKind}
 use Rattle.der_core.specs.Tags as tags
-use Rattle.pkcs1.specs.KeyReadings.{agreed, front_read, key_from, lists_none, others_read, private_key_read}
-use Rattle.pkcs1.specs.Keys.{Eight, OtherPrime, PrivateKey, front_parts, key_numbers, private_parts, version_of}
+use Rattle.pkcs1.specs.KeyReadings.{agreed, front_read, lists_none, others_read, private_key_read}
+use Rattle.pkcs1.specs.Keys.{Eight, OtherRow, PrivateRow, front_parts, key_from, key_numbers, others_in, version_of}
 use Rattle.pkcs1.specs.Laws.PrintedKeys.{are_some, primes_law, some_listed, version_law}
-use Rattle.pkcs1.specs.Printing.{AreSome, FrontIsValid, OtherIsValid, PrivateIsValid, front_printed, others_printed, private_printed, private_row_printed}
-use Rattle.standard.specs.Statement.{IfPresent, integer}
+use Rattle.pkcs1.specs.Printing.{AreSome, EightAreValid, FrontIsValid, OtherIsValid, OthersAreValid, PrivateIsValid, front_printed, others_printed, primes_printed, private_printed, row_printed}
+use Rattle.standard.specs.Statement.{IfPresent, integer, sequence}
 
 -- == Other primes that agree with the version ==
 abbrev pub Primes : Type 0 → Type 0
-Primes N = Option (List (OtherPrime N))
+Primes N = Option (List (OtherRow N))
 
 module _ {N : Type 0} where
   abbrev pub Agrees : ℕ → Primes N → Type 0
@@ -60,15 +60,36 @@ joined_before printed (n ∷ ns) rest =
     append_assoc (printed n) (concat (map printed ns)) rest
     ∙ ap (λ bytes. printed n ++ bytes) (joined_before printed ns rest)
 
-pub private_row : {N : Type 0} (printed : N → List ℕ) (key : PrivateKey N)
-    → private_printed printed key ≡ private_row_printed printed (private_parts key)
+pub private_row : {N : Type 0} (printed : N → List ℕ) (key : PrivateRow N)
+    → private_printed printed key
+    ≡ row_printed printed (λ others. sequence (primes_printed printed others)) (version_of (others_in key), key)
 private_row printed key =
-    let version = integer (version_of key.other_prime_infos) in
-    append_assoc version (concat (map printed (key_numbers key))) (others_printed printed key.other_prime_infos)
-    ∙ ap (λ bytes. version ++ bytes)
-    (joined_before printed (key_numbers key) (others_printed printed key.other_prime_infos))
+    let version = integer (version_of (others_in key)) in
+    append_assoc version (concat (map printed (key_numbers key))) (others_printed printed (others_in key))
+    ∙ ap (λ bytes. version ++ bytes) (joined_before printed (key_numbers key) (others_printed printed (others_in key)))
 
 -- == Private keys ==
+-- Valid numbers, in front of something else.
+module _ {N R S : Type 0} (valid : N → Type 0) (Follows : R → Type 0) (Other : S → Type 0) where
+  pub eight_behind : (row : Eight N R) (rest : S) → (Follows (others_in row) → Other rest)
+      → EightAreValid valid Follows row → EightAreValid valid Other (key_from row rest)
+  eight_behind row rest follows n = (
+    n.0,
+    (
+      n.1.0,
+      (
+        n.1.1.0,
+        (
+          n.1.1.1.0,
+          (
+            n.1.1.1.1.0,
+            (n.1.1.1.1.1.0, (n.1.1.1.1.1.1.0, (n.1.1.1.1.1.1.1.0, follows (n.1.1.1.1.1.1.1.1)))),
+          ),
+        ),
+      ),
+    ),
+  )
+
 version_small : {N : Type 0} (primes : Primes N) → version_of primes < 2
 version_small None = omega arith
 version_small (Some others) = omega arith
@@ -94,76 +115,42 @@ module _ {N : Type 0} {valid : N → Type 0} {printed : N → List ℕ} {at : Fr
       agreed_law (tagged_law (primes_law law) tags.sequence) 48 (λ others rest. refl) (Agrees v) (agreed v)
       (agreed_ends v) (agreed_gives v) (agreed_tells v)
 
-  abbrev pub Behind : ℕ × Numbers → PrivateKey N → Type 0
+  abbrev pub Behind : ℕ × Numbers → PrivateRow N → Type 0
   Behind front key =
-      (front_parts key ≡ front) × (Agrees front.0 key.other_prime_infos × Listed key.other_prime_infos)
+      (front_parts key ≡ front) × (Agrees front.0 (others_in key) × Listed (others_in key))
 
   behind_law : (front : ℕ × Numbers)
-      → ReadsPrinted (Behind front) (λ key. others_printed printed key.other_prime_infos)
+      → ReadsPrinted (Behind front) (λ key. others_printed printed (others_in key))
       (made (key_from front.1) (others_read at front.0))
   behind_law front = record {
     gives = λ c key b e.
         let s = bind_ok (others_read at front.0 c) _ e in
         let h = (others_law front.0).gives c s.0 b s.1 in
         let there : front_parts (key_from front.1 s.0) ≡ front = λ i. (sym h.0.0.0 i, front.1) in
-        subst (λ u. Behind front u × (c ≡ others_printed printed u.other_prime_infos)) (ok_same s.2)
+        subst (λ u. Behind front u × (c ≡ others_printed printed (others_in u))) (ok_same s.2)
         ((there, h.0), h.1);
     takes = λ key ok few.
         ap (λ r. r >>= λ primes. Ok (key_from front.1 primes))
-        ((others_law front.0).takes key.other_prime_infos ok.1 few)
-        ∙ ap (λ n. Ok (key_from n key.other_prime_infos)) (sym (ap (λ g. g.1) ok.0));
+        ((others_law front.0).takes (others_in key) ok.1 few)
+        ∙ ap (λ n. Ok (key_from n (others_in key))) (sym (ap (λ g. g.1) ok.0));
     tells = λ c k e. made_tells (key_from front.1) (others_read at front.0 c) ((others_law front.0).tells c k) e;
   }
 
   -- The key is valid.
-  abbrev pub IsRead : PrivateKey N → Type 0
+  abbrev pub IsRead : PrivateRow N → Type 0
   IsRead key = FrontIsValid valid (front_parts key) × Behind (front_parts key) key
 
-  valid_read : (key : PrivateKey N) → IsRead key → PrivateIsValid valid key
-  valid_read key ((small, n), (same, (agrees, all))) = (
-    n.0,
-    (
-      n.1.0,
-      (
-        n.1.1.0,
-        (
-          n.1.1.1.0,
-          (
-            n.1.1.1.1.0,
-            (
-              n.1.1.1.1.1.0,
-              (n.1.1.1.1.1.1.0, (n.1.1.1.1.1.1.1.0, (agrees.1, all))),
-            ),
-          ),
-        ),
-      ),
-    ),
-  )
+  valid_read : (key : PrivateRow N) → IsRead key → PrivateIsValid valid key
+  valid_read key ((small, n), (same, (agrees, all))) =
+      eight_behind valid (λ _. Unit {0}) (OthersAreValid valid) (key_from key (tt {0})) (others_in key)
+      (λ _. (agrees.1, all)) n
 
-  pub read_valid : (key : PrivateKey N) → PrivateIsValid valid key → IsRead key
+  pub read_valid : (key : PrivateRow N) → PrivateIsValid valid key → IsRead key
   read_valid key n =
       let others = n.1.1.1.1.1.1.1.1 in (
         (
-          version_small key.other_prime_infos,
-          (
-            n.0,
-            (
-              n.1.0,
-              (
-                n.1.1.0,
-                (
-                  n.1.1.1.0,
-                  (
-                    n.1.1.1.1.0,
-                    (
-                      n.1.1.1.1.1.0,
-                      (n.1.1.1.1.1.1.0, (n.1.1.1.1.1.1.1.0, tt)),
-                    ),
-                  ),
-                ),
-              ),
-            ),
-          ),
+          version_small (others_in key),
+          eight_behind valid (OthersAreValid valid) (λ _. Unit {0}) key (tt {0}) (λ _. tt) n,
         ),
         (refl, ((refl, others.0), others.1)),
       )

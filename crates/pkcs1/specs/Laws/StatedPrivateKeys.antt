@@ -1,20 +1,20 @@
 -- Private keys: the function of this crate gives a key exactly of the bytes that encode one, as the statement has it.
-use Rattle.std.proofs.Common.{ℕ, List, [], ◌∷◌, ◌++◌, ◌≡◌, ◌<◌, ◌≤◌, length, refl, sym, subst, ap, map, ◌∙◌, arith, Option, Some, None, option_map, ◌↔◌}
+use Rattle.std.proofs.Common.{ℕ, List, [], ◌∷◌, ◌++◌, ◌≡◌, ◌≤◌, length, refl, sym, subst, ap, map, ◌∙◌, arith, Option, Some, None, option_map, ◌↔◌}
 use Rattle.std.specs.List.{AllByRecursion, concat}
-use Rattle.der_core.specs.Words.{AreBytes, decodes_as, tagged_law, whole_decodes, value_in}
+use Rattle.der_core.specs.Words.{AreBytes, StatedAs, stated, tagged_law, value_in}
 use Rattle.der_core.specs.Tags as tags
-use Rattle.pkcs1.specs.KeyReadings.{key_from, number, private_key, rsa_private_key}
-use Rattle.pkcs1.specs.Keys.{OtherPrime, PrivateKey, eight_numbers, version_of}
-use Rattle.pkcs1.specs.Laws.PrintedKeys.{value_made, integer_law}
+use Rattle.pkcs1.specs.Held.{IsPrivateKey}
+use Rattle.pkcs1.specs.KeyReadings.{rsa_private_key}
+use Rattle.pkcs1.specs.Keys.{OtherRow, PrivateRow, key_from, key_numbers, other_as, others_as, others_in, private_as, version_of}
+use Rattle.pkcs1.specs.Laws.PrintedKeys.{integer_law, made_decodes}
 use Rattle.pkcs1.specs.Laws.PrintedPrivateKeys.{private_law}
-use Rattle.pkcs1.specs.PrintedKeys.{other_as, others_as, private_as}
-use Rattle.pkcs1.specs.Printing.{AnyNumber, AreSome, OtherIsValid, PrivateIsValid, PrivateSpells, other_printed, others_printed, private_printed}
+use Rattle.pkcs1.specs.Printing.{AnyNumber, AreSome, OtherIsValid, PrivateIsValid, PrivateIsWritten, PrivateSpells, other_printed, others_printed, private_printed}
 use Rattle.pkcs1.specs.StatedKeys.{other_from, other_stated, private_from, private_stated}
 use Rattle.standard.specs.Statement as standard
 use Rattle.standard.specs.Statement.{Decodes, IfPresent, PrivateKeyEncoding, integers, limit, optional, sequence}
 
 abbrev Primes : Type 0
-Primes = Option (List (OtherPrime ℕ))
+Primes = Option (List (OtherRow ℕ))
 
 abbrev others_stated : Primes → Option (List standard.OtherPrime)
 others_stated = option_map (map other_stated)
@@ -42,25 +42,25 @@ key_back key = ap (λ primes. record {
 }) (others_back key.other_primes)
 
 -- A key whose numbers mean themselves.
-listed_itself : {N : Type 0} (others : List (OtherPrime N)) → map (other_as (λ n. n)) others ≡ others
+listed_itself : {N : Type 0} (others : List (OtherRow N)) → map (other_as (λ n. n)) others ≡ others
 listed_itself [] = refl
 listed_itself (other ∷ others) = ap (λ rest. other ∷ rest) (listed_itself others)
 
-others_itself : {N : Type 0} (primes : Option (List (OtherPrime N))) → others_as (λ n. n) primes ≡ primes
+others_itself : {N : Type 0} (primes : Option (List (OtherRow N))) → others_as (λ n. n) primes ≡ primes
 others_itself None = refl
 others_itself (Some others) = ap (λ o. Some o) (listed_itself others)
 
-pub private_itself : {N : Type 0} (key : PrivateKey N) → private_as (λ n. n) key ≡ key
-private_itself key = ap (key_from (eight_numbers key tt)) (others_itself key.other_prime_infos)
+pub private_itself : {N : Type 0} (key : PrivateRow N) → private_as (λ n. n) key ≡ key
+private_itself key = ap (key_from key) (others_itself (others_in key))
 
 -- What is printed of them.
 abbrev pub other_encoded : standard.OtherPrime → List ℕ
 other_encoded o = sequence (integers (o.prime ∷ o.exponent ∷ o.coefficient ∷ []))
 
-abbrev pub encoded : OtherPrime ℕ → List ℕ
+abbrev pub encoded : OtherRow ℕ → List ℕ
 encoded other = sequence (other_printed standard.integer other)
 
-pub listed_printed : (others : List (OtherPrime ℕ)) → map other_encoded (map other_stated others) ≡ map encoded others
+pub listed_printed : (others : List (OtherRow ℕ)) → map other_encoded (map other_stated others) ≡ map encoded others
 listed_printed [] = refl
 listed_printed (other ∷ others) = ap (λ rest. encoded other ∷ rest) (listed_printed others)
 
@@ -73,35 +73,27 @@ version_stated : (primes : Primes) → standard.version (others_stated primes) �
 version_stated None = refl
 version_stated (Some others) = refl
 
-abbrev with_others : PrivateKey ℕ → ℕ → List ℕ → List ℕ
-with_others key version others =
-    sequence (integers (version ∷ key.modulus ∷ key.public_exponent ∷ key.private_exponent ∷ key.prime1 ∷ key.prime2
-    ∷ key.exponent1 ∷ key.exponent2 ∷ key.coefficient ∷ []) ++ others)
-
-abbrev pub private_encoding : PrivateKey ℕ → List ℕ
+abbrev pub private_encoding : PrivateRow ℕ → List ℕ
 private_encoding key = sequence (private_printed standard.integer key)
 
-key_printed : (key : PrivateKey ℕ)
-    → with_others key (standard.version (others_stated key.other_prime_infos))
-    (optional standard.other_primes (others_stated key.other_prime_infos)) ≡ private_encoding key
+key_printed : (key : PrivateRow ℕ)
+    → sequence (integers (standard.version (others_stated (others_in key)) ∷ key_numbers key)
+    ++ optional standard.other_primes (others_stated (others_in key))) ≡ private_encoding key
 key_printed key = λ i.
-    with_others key (version_stated key.other_prime_infos i) (stated_printed key.other_prime_infos i)
+    sequence (integers (version_stated (others_in key) i ∷ key_numbers key) ++ stated_printed (others_in key) i)
 
 -- Which of them are valid.
-abbrev StatedSome : Primes → Type 0
-StatedSome primes = IfPresent (λ others. 0 < length others) (others_stated primes)
-
-pub some_stated : (primes : Primes) → AreSome primes → StatedSome primes
+pub some_stated : (primes : Primes) → AreSome primes → AreSome (others_stated primes)
 some_stated None some = tt
 some_stated (Some []) some = some
 some_stated (Some (x ∷ xs)) some = omega arith
 
-pub stated_some : (primes : Primes) → StatedSome primes → AreSome primes
+pub stated_some : (primes : Primes) → AreSome (others_stated primes) → AreSome primes
 stated_some None some = tt
 stated_some (Some []) some = some
 stated_some (Some (x ∷ xs)) some = omega arith
 
-any_listed : (others : List (OtherPrime ℕ)) → AllByRecursion (OtherIsValid AnyNumber) others
+any_listed : (others : List (OtherRow ℕ)) → AllByRecursion (OtherIsValid AnyNumber) others
 any_listed [] = tt
 any_listed (other ∷ others) = ((tt, (tt, (tt, tt))), any_listed others)
 
@@ -109,41 +101,38 @@ any_others : (primes : Primes) → IfPresent (AllByRecursion (OtherIsValid AnyNu
 any_others None = tt
 any_others (Some others) = any_listed others
 
-pub private_valid : (key : PrivateKey ℕ) → AreSome key.other_prime_infos → PrivateIsValid AnyNumber key
+pub private_valid : (key : PrivateRow ℕ) → AreSome (others_in key) → PrivateIsValid AnyNumber key
 private_valid key some =
-    (tt, (tt, (tt, (tt, (tt, (tt, (tt, (tt, (some, any_others key.other_prime_infos)))))))))
+    (tt, (tt, (tt, (tt, (tt, (tt, (tt, (tt, (some, any_others (others_in key))))))))))
 
--- The spellings of a private key of numbers, in the words of the statement.
-abbrev PrivateEncodes : PrivateKey ℕ → List ℕ → Type 0
-PrivateEncodes key bytes = (length bytes ≤ limit) × PrivateIsValid AnyNumber key × (bytes ≡ private_encoding key)
-
-encodes_stated : (key : PrivateKey ℕ) (bytes : List ℕ) → PrivateEncodes key bytes
-    → PrivateKeyEncoding (private_stated key) bytes
-encodes_stated key bytes (few, valid, is) =
-    (few, some_stated key.other_prime_infos valid.1.1.1.1.1.1.1.1.0, is ∙ sym (key_printed key))
-
-stated_encodes : (key : PrivateKey ℕ) (bytes : List ℕ) → PrivateKeyEncoding (private_stated key) bytes
-    → PrivateEncodes key bytes
-stated_encodes key bytes p =
-    (p.0, private_valid key (stated_some key.other_prime_infos p.1), p.2 ∙ key_printed key)
-
-pub private_spelled : (key : PrivateKey ℕ) (bytes : List ℕ)
-    → PrivateSpells AnyNumber standard.integer (λ n. n) key bytes
+-- The spellings of a row are the encodings of what the statement calls it; so a whole slice is read as one.
+same_encoding : (key : PrivateRow ℕ) (bytes : List ℕ)
+    → ((length bytes ≤ limit) × PrivateIsValid AnyNumber key × (bytes ≡ private_encoding key))
     ↔ PrivateKeyEncoding (private_stated key) bytes
-private_spelled key bytes = (
-  λ (few, (s, is, valid, same)).
-      let key_is : s ≡ key = sym (private_itself s) ∙ is in
-      encodes_stated key bytes (few, subst (PrivateIsValid AnyNumber) key_is valid, same ∙ ap private_encoding key_is),
-  λ p. let e = stated_encodes key bytes p in (e.0, (key, private_itself key, e.1, e.2)),
+same_encoding key bytes = (
+  λ (few, valid, is).
+      (few, some_stated (others_in key) valid.1.1.1.1.1.1.1.1.0, is ∙ sym (key_printed key)),
+  λ (few, some, is). (few, private_valid key (stated_some (others_in key) some), is ∙ key_printed key),
 )
 
--- A whole slice.
+pub private_as_stated : StatedAs (PrivateIsWritten AnyNumber (λ n. n)) (PrivateSpells AnyNumber standard.integer (λ n. n))
+    IsPrivateKey PrivateKeyEncoding private_stated
+private_as_stated =
+    stated (private_as (λ n. n)) private_itself private_from key_back
+    (λ key. (
+      λ valid. some_stated (others_in key) valid.1.1.1.1.1.1.1.1.0,
+      λ some. private_valid key (stated_some (others_in key) some),
+    ))
+    same_encoding
+
+pub private_spells : (key : standard.PrivateKey) (bytes : List ℕ) → PrivateKeyEncoding key bytes
+    → PrivateSpells AnyNumber standard.integer (λ n. n) (private_from key) bytes
+private_spells key bytes encodes =
+    (private_as_stated.same (private_from key) bytes).1
+    (subst (λ k. PrivateKeyEncoding k bytes) (sym (key_back key)) encodes)
+
 pub private_decodes : (bytes : List ℕ) → AreBytes bytes
     → Decodes PrivateKeyEncoding bytes (value_in (rsa_private_key bytes))
-private_decodes bytes are =
-    let read = private_key number bytes in
-    subst (Decodes PrivateKeyEncoding bytes) (value_made private_stated read)
-    (decodes_as PrivateEncodes PrivateKeyEncoding private_stated private_from key_back bytes
-    (λ key p. encodes_stated key bytes p)
-    (λ key p. stated_encodes (private_from key) bytes (subst (λ k. PrivateKeyEncoding k bytes) (sym (key_back key)) p))
-    (value_in read) (whole_decodes (tagged_law (private_law integer_law) tags.sequence) bytes are))
+private_decodes =
+    made_decodes (tagged_law (private_law integer_law) tags.sequence) private_stated PrivateKeyEncoding private_from
+    key_back same_encoding

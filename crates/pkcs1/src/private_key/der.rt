@@ -1,7 +1,7 @@
 //! Decoding private keys from whole slices; encoding them into slices and documents.
 ghost use Rattle.std.specs.Prelude.{◌≡◌, length, List, ℕ, IfOk, IfErr, IsOk, IsErrAnd, None, Some};
 ghost use Rattle.der_core.specs.Words.{AllocatesIn, Tlv, ok_of, sequence, sequence_tag};
-ghost use Rattle.pkcs1.specs.Words.{AllocatesForKey, IsPrivateKey, ListsNone, PrivateIsWritten, PrivateKey, PrivateSpells, Refuses, Rejects, Withholds, held_private_key, private_key, private_key_with, rsa_private_key};
+ghost use Rattle.pkcs1.specs.Words.{AllocatesForKey, IsPrivateKey, ListsNone, PrivateIsWritten, PrivateRow, PrivateSpells, Refuses, Rejects, Withholds, held_private_key, others_in, private_key, private_key_with, rsa_private_key};
 ghost use Rattle.pkcs1_params.specs.Words.{ErrsOrAsks, IsAsn1};
 ghost use Rattle.standard.specs.Statement.{Decodes, Encodes, IsShortest, PrivateKeyEncoding};
 ghost use Rattle.standard.specs.Statement as standard;
@@ -72,7 +72,7 @@ impl<U> RsaPrivateKey<U> {
             let given = private_key U.read_front (octets_of octets.entry) in
             ErrsOrAsks (private_key_with U.value) given asked result }
         ensures two_primes { ((encoding : List ℕ) → U.Decode.may_allocate encoding → ⊥)
-            → (key : PrivateKey U.Value) → key.other_prime_infos ≡ None
+            → (key : PrivateRow U.Value) → others_in key ≡ None
             → PrivateSpells U.valid U.printed U.means key (octets_of octets.entry) → IsOk result }
     {
         Ok(RsaPrivateKey::from_der(alloc, octets.as_bytes())?)

@@ -1,13 +1,12 @@
 //! Other primes of private keys.
-ghost use Rattle.std.specs.Prelude.{◌≡◌, ◌↔◌, IsTrue, None, Some, Ok, IfOk, IfSome, IsOk, IfErr, refl};
-ghost use Rattle.der_core.specs.Words.{ReadsWhole, made_errs};
-ghost use Rattle.pkcs1.specs.Words.{AllocatesInOthers, ListsNone, OtherIsValid, OtherPrime, number_of, of_other_parts, other_alike, other_as, other_law, other_of, other_once, other_printed, other_read, other_shortest, others_of, others_read};
+ghost use Rattle.std.specs.Prelude.{◌≡◌, ◌↔◌, IsTrue, None, Some, Ok, IfOk, IfSome, IsOk, IfErr};
+ghost use Rattle.der_core.specs.Words.{ReadsWhole};
+ghost use Rattle.pkcs1.specs.Words.{AllocatesInOthers, ListsNone, number_of, other_of, others_of, others_read};
 
 use crate::version::Version;
 use der_core::{
-    BackWriter, Borrowed, Contents, Decode, Encode, EncodeInParts, EncodeValue, Encoding,
-    ErrorKind, InParts, Length, Reader, Result, Sequence, SequenceTag, Tag, TaggedBy, TryClone,
-    Writer, begins_with, decode_optional, quick_alone,
+    BackWriter, Borrowed, Decode, Encode, EncodeInParts, EncodeValue, Encoding, ErrorKind, Length,
+    Reader, Record, Result, Tag, TryClone, Writer, begins_with, decode_optional, quick_alone,
 };
 use std::alloc::{AllocError, Global};
 
@@ -51,38 +50,19 @@ impl<U: Clone> Clone for OtherPrimeInfo<U> {
     }
 }
 
-impl<U: Encoding> Contents for OtherPrimeInfo<U> {
-    ghost Value = { OtherPrime U.Value };
+impl<U: Encoding> Record for OtherPrimeInfo<U> {
+    type Fields = (U, (U, (U, ())));
 
-    ghost value = { other_of U.value };
+    ghost fields = { λ other. (other.prime, (other.exponent, (other.coefficient, tt))) };
 
-    ghost Spelling = { OtherPrime U.Spelling };
-
-    ghost means = { other_as U.means };
-
-    ghost written = { other_as U.written };
-
-    ghost valid = { OtherIsValid U.valid };
-
-    ghost printed = { other_printed U.printed };
-
-    ghost read_spelling = { other_read U.read_spelling };
-
-    ghost read = { other_read U.read_front };
-
-    ghost law = { other_law U.law };
-
-    ghost shortest = { other_shortest U.shortest };
-
-    ghost reads_alike = { other_alike U.reads_alike };
-}
-
-impl<U> TaggedBy for OtherPrimeInfo<U> {
-    type Marker = SequenceTag;
-}
-
-impl<'a, U> Sequence<'a> for OtherPrimeInfo<U> {
-    ghost is_sequence = { refl };
+    fn from_fields(row: (U, (U, (U, ())))) -> OtherPrimeInfo<U> {
+        let (prime, (exponent, (coefficient, ()))) = row;
+        OtherPrimeInfo {
+            prime,
+            exponent,
+            coefficient,
+        }
+    }
 }
 
 impl<U: TryClone> TryClone for OtherPrimeInfo<U> {
@@ -108,23 +88,6 @@ impl<U: TryClone> OtherPrimeInfo<U> {
             coefficient: self.coefficient.try_clone(alloc)?,
         })
     }
-}
-
-impl<U: Encoding> InParts for OtherPrimeInfo<U> {
-    type Parts = (U, (U, (U, ())));
-
-    fn from_parts(parts: (U, (U, (U, ())))) -> OtherPrimeInfo<U> {
-        let (prime, (exponent, (coefficient, ()))) = parts;
-        OtherPrimeInfo {
-            prime,
-            exponent,
-            coefficient,
-        }
-    }
-
-    ghost errs = { made_errs of_other_parts _ };
-
-    ghost once = { other_once U.means };
 }
 
 impl<U: Encode> EncodeInParts for OtherPrimeInfo<U> {

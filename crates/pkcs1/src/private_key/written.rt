@@ -1,8 +1,9 @@
 //! A private key as it is written: a row of its parts. The compiler takes rows of seven parts at most, so the end of the
 //! row is a type of its own.
-ghost use Rattle.std.specs.Prelude.{◌≡◌, ◌≤◌, ◌⊎◌, Option, length};
+ghost use Rattle.std.specs.Prelude.{◌≡◌, ◌≤◌, ◌⊎◌, Option, length, option_map};
 ghost use Rattle.der_core.specs.Words.{Appends, Counts, Prepends, RefusedAs, free_of, last, last_alike, last_law, last_shortest, limit, parts, row_alike, row_law, row_shortest};
-ghost use Rattle.pkcs1.specs.Words.{CrtRowIsValid, RowIsValid, Three, crt_row, crt_row_as, crt_row_printed, key_row, parts_row, row_as, row_printed};
+ghost use Rattle.pkcs1.specs.Words.{RowIsValid, Three, ThreeAreValid, crt_with, key_row, parts_row, row_as, row_printed, three_as, three_printed};
+ghost use Rattle.standard.specs.Statement.{IfPresent, optional};
 
 use super::PrivateKeyOf;
 use der_core::{
@@ -16,17 +17,17 @@ struct CrtParts<'b, U, O>(&'b PrivateKeyOf<U, O>);
 impl<'b, U: Encoding, O: Encoding> Contents for CrtParts<'b, U, O> {
     ghost Value = { Three U.Value (Option O.Value) };
 
-    ghost value = { λ parts. crt_row U.value O.value parts.0.now };
+    ghost value = { λ parts. crt_with U.value O.value parts.0.now };
 
     ghost Spelling = { Three U.Spelling (Option O.Spelling) };
 
-    ghost means = { crt_row_as U.means O.means };
+    ghost means = { three_as U.means (option_map O.means) };
 
-    ghost written = { crt_row_as U.written O.written };
+    ghost written = { three_as U.written (option_map O.written) };
 
-    ghost valid = { CrtRowIsValid U.valid O.valid };
+    ghost valid = { ThreeAreValid U.valid (IfPresent O.valid) };
 
-    ghost printed = { crt_row_printed U.printed O.printed };
+    ghost printed = { three_printed U.printed (optional O.printed) };
 
     ghost read_spelling = { let at = U.read_spelling in parts at (parts at (parts at (last O.read_spelling))) };
 

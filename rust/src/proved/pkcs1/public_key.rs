@@ -1,11 +1,10 @@
 // Made of crates/pkcs1/src/public_key.rt by tools/erase/erase.py, and not to be edited.
 //! RSA public keys. `try_from` reads one. It calls `from_der` of `der_core/src/decode.rt`. `record.rt` and `parts.rt` there
-//! read the row of parts that `InParts` names. `traits.rt` has the calls for owned keys.
+//! read the row of parts that `Record` names. `traits.rt` has the calls for owned keys.
 
 use crate::proved::der_core::{
-    BackWriter, Borrowed, Contents, Decode, Encode, EncodeInParts, EncodeValue, Encoding,
-    EqualByValue, InParts, Length, NoMemory, Sequence, SequenceTag, TaggedBy, TryClone, Uint,
-    UintEncoding, UintRef, Writer,
+    BackWriter, Borrowed, Decode, Encode, EncodeInParts, EncodeValue, Encoding, EqualByValue,
+    Length, NoMemory, Record, TryClone, Uint, UintEncoding, UintRef, Writer,
 };
 use crate::proved::pkcs1_params::{Error, Result};
 use crate::rattle_std::alloc::Global;
@@ -32,19 +31,11 @@ pub type RsaPublicKeyRef<'a> = RsaPublicKey<UintRef<'a>>;
 /// A public key that owns its numbers.
 pub type RsaPublicKeyOwned = RsaPublicKey<Uint>;
 
-impl<U: Encoding> Contents for RsaPublicKey<U> {}
+impl<U: Encoding> Record for RsaPublicKey<U> {
+    type Fields = (U, (U, ()));
 
-impl<U> TaggedBy for RsaPublicKey<U> {
-    type Marker = SequenceTag;
-}
-
-impl<'a, U> Sequence<'a> for RsaPublicKey<U> {}
-
-impl<U: Encoding> InParts for RsaPublicKey<U> {
-    type Parts = (U, (U, ()));
-
-    fn from_parts(parts: (U, (U, ()))) -> RsaPublicKey<U> {
-        let (modulus, (public_exponent, ())) = parts;
+    fn from_fields(row: (U, (U, ()))) -> RsaPublicKey<U> {
+        let (modulus, (public_exponent, ())) = row;
         RsaPublicKey {
             modulus,
             public_exponent,

@@ -1,12 +1,12 @@
 use Rattle.pkcs1_params.specs.Words.{oaep_record, pss_record}
 use Rattle.spki_core.proofs.Fielded.{record_spelled}
-use Rattle.pkcs1.specs.Words.{public_spelled, private_spelled}
+use Rattle.pkcs1.specs.Words.{private_as_stated, public_as_stated}
 use Rattle.pkcs1.proofs.laws.lemma_forms_share_the_grammars.Goals as goal
 
 pub returns : goal.returns
 returns c = record {
-  public = (public_spelled, public_spelled);
-  private = (private_spelled, private_spelled);
+  public = (public_as_stated.same, public_as_stated.same);
+  private = (private_as_stated.same, private_as_stated.same);
   pss = (record_spelled pss_record, record_spelled pss_record);
   oaep = (record_spelled oaep_record, record_spelled oaep_record);
 }

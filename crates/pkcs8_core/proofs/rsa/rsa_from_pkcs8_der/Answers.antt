@@ -1,9 +1,8 @@
 use Rattle.std.proofs.Common.{arith, refl, rules}
 use Rattle.der_core.specs.Words.{are_bytes}
 use Rattle.spki_core.specs.Words.{octets_of}
-use Rattle.pkcs1.proofs.KeyReads.{decoded}
 use Rattle.pkcs1.specs.Words.{held_view}
-use Rattle.pkcs1_params.proofs.Faults.{errs_behind}
+use Rattle.pkcs1_params.proofs.Faults.{errs_behind, errs_decode}
 use Rattle.pkcs1_params.specs.Words.{ErrsAs}
 use Rattle.pkcs8_core.proofs.ContainedKeys.{contained_keys_decode, viewed_in}
 use Rattle.pkcs8_core.specs.Words.{private_key_info, rsa_held, rsa_private_key_info, info_in}
@@ -16,16 +15,16 @@ returns-clause-read c =
     let are = are_bytes bytes (λ i. omega (arith, c.type_inv.bytes i)) in
     let told = errs_behind held_view (private_key_info bytes) rsa_held (info_in octets_of c.in_ok-info.info)
     c.in_ok-info.ensures.exact c.rsa_view.result c.rsa_view.ensures.exact in
-    decoded ContainedKeyEncoding rsa_private_key_info bytes
-    (contained_keys_decode bytes are) held_view c.rsa_view.result told
+    errs_decode ContainedKeyEncoding bytes held_view (rsa_private_key_info bytes) (contained_keys_decode bytes are)
+    c.rsa_view.result told
 
 pub returns-in_err-info-clause-read : goal.returns-in_err-info-clause-read
 returns-in_err-info-clause-read c =
     let bytes = c.args.bytes.now in
     let are = are_bytes bytes (λ i. omega (arith, c.type_inv.bytes i)) in
     let told : ErrsAs held_view (rsa_private_key_info bytes) c.from_residual.result = search rules in
-    decoded ContainedKeyEncoding rsa_private_key_info bytes
-    (contained_keys_decode bytes are) held_view c.from_residual.result told
+    errs_decode ContainedKeyEncoding bytes held_view (rsa_private_key_info bytes) (contained_keys_decode bytes are)
+    c.from_residual.result told
 
 pub returns-clause-bytes : goal.returns-clause-bytes
 returns-clause-bytes c =

@@ -4,9 +4,8 @@
 use crate::rattle_std::prelude::Vec;
 use crate::proved::pkcs1::version::Version;
 use crate::proved::der_core::{
-    BackWriter, Borrowed, Contents, Decode, Encode, EncodeInParts, EncodeValue, Encoding,
-    ErrorKind, InParts, Length, Reader, Result, Sequence, SequenceTag, Tag, TaggedBy, TryClone,
-    Writer, begins_with, decode_optional, quick_alone,
+    BackWriter, Borrowed, Decode, Encode, EncodeInParts, EncodeValue, Encoding, ErrorKind, Length,
+    Reader, Record, Result, Tag, TryClone, Writer, begins_with, decode_optional, quick_alone,
 };
 use crate::rattle_std::alloc::{AllocError, Global};
 
@@ -32,13 +31,18 @@ pub struct OtherPrimeInfo<U> {
 /// The primes of a private key after the first two.
 pub type OtherPrimeInfos<U> = Vec<OtherPrimeInfo<U>>;
 
-impl<U: Encoding> Contents for OtherPrimeInfo<U> {}
+impl<U: Encoding> Record for OtherPrimeInfo<U> {
+    type Fields = (U, (U, (U, ())));
 
-impl<U> TaggedBy for OtherPrimeInfo<U> {
-    type Marker = SequenceTag;
+    fn from_fields(row: (U, (U, (U, ())))) -> OtherPrimeInfo<U> {
+        let (prime, (exponent, (coefficient, ()))) = row;
+        OtherPrimeInfo {
+            prime,
+            exponent,
+            coefficient,
+        }
+    }
 }
-
-impl<'a, U> Sequence<'a> for OtherPrimeInfo<U> {}
 
 impl<U: TryClone> TryClone for OtherPrimeInfo<U> {
     fn try_clone(&self, alloc: Global) -> Result<OtherPrimeInfo<U>> {
@@ -54,19 +58,6 @@ impl<U: TryClone> OtherPrimeInfo<U> {
             exponent: self.exponent.try_clone(alloc)?,
             coefficient: self.coefficient.try_clone(alloc)?,
         })
-    }
-}
-
-impl<U: Encoding> InParts for OtherPrimeInfo<U> {
-    type Parts = (U, (U, (U, ())));
-
-    fn from_parts(parts: (U, (U, (U, ())))) -> OtherPrimeInfo<U> {
-        let (prime, (exponent, (coefficient, ()))) = parts;
-        OtherPrimeInfo {
-            prime,
-            exponent,
-            coefficient,
-        }
     }
 }
 

@@ -5,11 +5,11 @@ use Rattle.std.specs.declared.alloc.Global.{Global}
 use Rattle.std.specs.declared.vec.Vec.{Vec}
 use Rattle.der_core.specs.declared.error.ErrorKind.TheVariants as kind
 use Rattle.pkcs1.specs.declared.private_key.other_prime_info.OtherPrimeInfo.{OtherPrimeInfo}
-use Rattle.pkcs1.specs.Words.{AllocatesInOthers, OtherPrime, other_of}
+use Rattle.pkcs1.specs.Words.{AllocatesInOthers, OtherRow, other_of}
 use Rattle.pkcs1.proofs.OtherReads.{disagree_fails, empty_fails, more_fails, others_give}
 use Rattle.pkcs1.proofs.private_key.other_prime_info.read_other_primes.Goals as goal
 
-abbrev items : {U V : Type 0} → (U → V) → Vec (OtherPrimeInfo U) Global → List (OtherPrime V)
+abbrev items : {U V : Type 0} → (U → V) → Vec (OtherPrimeInfo U) Global → List (OtherRow V)
 items value v = map (other_of value) v.items
 
 abbrev count : {U : Type 0} → Vec (OtherPrimeInfo U) Global → ℕ

@@ -1,35 +1,28 @@
-use Rattle.std.proofs.Common.{arith, Ok, Err}
-use Rattle.der_core.specs.Words.{err_from_is_err_and, are_bytes, own_bytes_of}
-use Rattle.pkcs1.specs.Words.{OwnedPublicKeyAllocates, held_public_key, rsa_public_key, public_decodes, public_key_in, public_stated}
-use Rattle.pkcs1_params.specs.declared.error.Error.TheVariants as error
-use Rattle.pkcs1.proofs.KeyReads.{decoded_err, decoded_ok, made_faulty, made_ok, public_tells}
-use Rattle.pkcs1.proofs.KeyMemory.{faulty_as, owned_parts_ask}
+use Rattle.std.proofs.Common.{arith}
+use Rattle.der_core.specs.Words.{err_from_is_err_and, are_bytes, whole}
+use Rattle.pkcs1.specs.Words.{public_decodes, public_read, public_stated}
+use Rattle.pkcs1.proofs.KeyReads.{made_faulty, made_ok, public_tells, read_rejected, read_some}
+use Rattle.pkcs1.proofs.KeyMemory.{owned_parts_ask, faulty_as}
 use Rattle.standard.specs.Statement.{PublicKeyEncoding}
 use Rattle.pkcs1.proofs.traits.RsaPublicKeyUintDecodeRsaPublicKey.from_pkcs1_der.Goals as goal
 
 pub returns-clause-exact : goal.returns-clause-exact
-returns-clause-exact c = made_ok public_stated public_key_in c.args.bytes.now _ c.in_ok-from_der.ensures.exact
+returns-clause-exact c = made_ok public_stated (whole public_read) c.args.bytes.now _ c.in_ok-from_der.ensures.exact
 
 pub returns-clause-ok : goal.returns-clause-ok
 returns-clause-ok c =
-    let bytes = c.args.bytes.now in
-    decoded_ok PublicKeyEncoding rsa_public_key bytes
-    (public_decodes bytes (are_bytes bytes (λ i. omega (arith, c.type_inv.bytes i)))) (held_public_key own_bytes_of)
-    (OwnedPublicKeyAllocates bytes) (Ok c.in_ok-from_der.field-0)
-    (made_ok public_stated public_key_in bytes _ c.in_ok-from_der.ensures.exact)
+    read_some public_stated (whole public_read) PublicKeyEncoding public_decodes c.args.bytes.now
+    (are_bytes c.args.bytes.now (λ i. omega (arith, c.type_inv.bytes i))) _ c.in_ok-from_der.ensures.exact
 
 pub returns-in_err-from_der-clause-err : goal.returns-in_err-from_der-clause-err
 returns-in_err-from_der-clause-err c =
     let p = err_from_is_err_and c.from_residual.result c.from_residual.ensures.1 in
-    let bytes = c.args.bytes.now in
-    rw (p.1, p.2) (decoded_err PublicKeyEncoding rsa_public_key bytes
-    (public_decodes bytes (are_bytes bytes (λ i. omega (arith, c.type_inv.bytes i)))) (held_public_key own_bytes_of)
-    (OwnedPublicKeyAllocates bytes) public_tells (Err (error.Asn1 c.in_err-from_der.field-0.0))
-    (made_faulty public_stated public_key_in bytes _ _
-    (faulty_as owned_parts_ask _ _ c.in_err-from_der.ensures.exact)))
+    rw (p.1, p.2) (read_rejected public_stated (whole public_read) PublicKeyEncoding public_decodes c.args.bytes.now
+    (are_bytes c.args.bytes.now (λ i. omega (arith, c.type_inv.bytes i))) public_tells _ _
+    (faulty_as owned_parts_ask _ _ c.in_err-from_der.ensures.exact))
 
 pub returns-in_err-from_der-clause-exact : goal.returns-in_err-from_der-clause-exact
 returns-in_err-from_der-clause-exact c =
     let p = err_from_is_err_and c.from_residual.result c.from_residual.ensures.1 in
-    rw (p.1, p.2) (made_faulty public_stated public_key_in c.args.bytes.now _ _
+    rw (p.1, p.2) (made_faulty public_stated (whole public_read) c.args.bytes.now _ _
     (faulty_as owned_parts_ask _ _ c.in_err-from_der.ensures.exact))

@@ -1,10 +1,9 @@
 use Rattle.std.proofs.Common.{◌≡◌, rules, subst, sym}
 use Rattle.der_core.specs.Words.{are_bytes, bytes_of}
-use Rattle.pkcs1.proofs.KeyReads.{decoded_err, decoded_ok}
 use Rattle.pkcs1.specs.Words.{MayAllocate, held_private_key}
 use Rattle.pkcs1_params.specs.Words.{ErrsOrAsks}
-use Rattle.pkcs8_core.proofs.ContainedKeys.{asked_held, contained_decode, key_tells}
-use Rattle.pkcs8_core.specs.Words.{key_in, rsa_held, info_in, ContainedKey, rsa_encryption}
+use Rattle.pkcs8_core.proofs.ContainedKeys.{asked_held, held_err, held_ok}
+use Rattle.pkcs8_core.specs.Words.{rsa_held, info_in, rsa_encryption}
 use Rattle.standard.specs.Statement.{PrivateKeyEncoding}
 use Rattle.pkcs8_core.proofs.info.PrivateKeyInfoOf.rsa_key.Goals as goal
 
@@ -13,10 +12,7 @@ returns-clause-ok g c =
     let info = info_in g.O.IdentifierValue.octets c.args.self.now in
     let told = asked_held (held_private_key bytes_of) info c.as_bytes.result.now c.as_bytes.ensures.octets
     c.in_ok-require_rsa.ensures.ok c.decode_key.result c.decode_key.ensures.exact in
-    decoded_ok (ContainedKey info) (key_in info)
-    info.private_key
-    (contained_decode info info.private_key (are_bytes info.private_key c.args.self.now.private_key.octets))
-    (held_private_key bytes_of) ((info.algorithm ≡ rsa_encryption) × MayAllocate info.private_key)
+    held_ok (held_private_key bytes_of) info (are_bytes info.private_key c.args.self.now.private_key.octets) _
     c.decode_key.result told
 
 pub returns-clause-err : goal.returns-clause-err
@@ -24,10 +20,7 @@ returns-clause-err g c =
     let info = info_in g.O.IdentifierValue.octets c.args.self.now in
     let told = asked_held (held_private_key bytes_of) info c.as_bytes.result.now c.as_bytes.ensures.octets
     c.in_ok-require_rsa.ensures.ok c.decode_key.result c.decode_key.ensures.exact in
-    decoded_err (ContainedKey info) (key_in info)
-    info.private_key
-    (contained_decode info info.private_key (are_bytes info.private_key c.args.self.now.private_key.octets))
-    (held_private_key bytes_of) ((info.algorithm ≡ rsa_encryption) × MayAllocate info.private_key) (key_tells info)
+    held_err (held_private_key bytes_of) info (are_bytes info.private_key c.args.self.now.private_key.octets) _
     c.decode_key.result told
 
 pub returns-in_err-require_rsa-clause-err : goal.returns-in_err-require_rsa-clause-err
@@ -35,10 +28,8 @@ returns-in_err-require_rsa-clause-err g c =
     let info = info_in g.O.IdentifierValue.octets c.args.self.now in
     let asked : Type 0 = (info.algorithm ≡ rsa_encryption) × MayAllocate info.private_key in
     let told : ErrsOrAsks (held_private_key bytes_of) (rsa_held info) asked c.from_residual.result = search rules in
-    decoded_err (ContainedKey info) (key_in info)
-    info.private_key
-    (contained_decode info info.private_key (are_bytes info.private_key c.args.self.now.private_key.octets))
-    (held_private_key bytes_of) asked (key_tells info) c.from_residual.result told
+    held_err (held_private_key bytes_of) info (are_bytes info.private_key c.args.self.now.private_key.octets) asked
+    c.from_residual.result told
 
 pub returns-clause-two_primes : goal.returns-clause-two_primes
 returns-clause-two_primes g c = λ key two holds.
