@@ -1,6 +1,6 @@
 -- Why values aren't written, what writing one part after another leaves, and lengths.
-use Rattle.std.proofs.Common.{ℕ, Bool, List, ◌<◌, ◌≤◌, length, subst, ap, ◌∙◌, arith, inl, inr, Result, Ok, Err, IfErr, ◌≡◌, ◌++◌, drop, refl, IfOk, OnErr, OnOk, ◌+◌, length-append, [], sym, append_assoc, append-nil, true, false, if◌then◌else◌, nat_le}
-use Rattle.der_core.specs.Words.{limit, Means, IsShortest, WhyNotCounted, WhyNotWritten, EncodeError, no_encoding, too_long, no_room, another, shortest_is, Prints, WritesShortest, WhyOctetsNotCounted, Counts, WhyOctetsNotWritten, encode_error, Error, ErrorKind, RefusedAs, Tag, written_encodes, Spells, ok_of, Unwritten, IsLength, length_octets, Is, Tlv, length_octets-only, Appends, tlv, joined, is_no_encoding}
+use Rattle.std.proofs.Common.{ℕ, Bool, List, ◌<◌, ◌≤◌, length, subst, ap, ◌∙◌, arith, inl, inr, Result, Ok, Err, IfErr, ◌≡◌, ◌++◌, drop, refl, IfOk, OnErr, OnOk, ◌+◌, length-append, [], Option, Some, None, sym, append_assoc, append-nil, true, false, if◌then◌else◌, nat_le}
+use Rattle.der_core.specs.Words.{limit, Means, IsShortest, WhyNotCounted, WhyNotWritten, EncodeError, no_encoding, too_long, no_room, another, shortest_is, Prints, WritesShortest, WhyOctetsNotCounted, Counts, WhyOctetsNotWritten, encode_error, Error, ErrorKind, RefusedAs, Receives, ReceivesNothing, TakesRoom, LacksRoom, WhyNotAppended, Tag, written_encodes, Spells, ok_of, Unwritten, IsLength, length_octets, Is, Tlv, length_octets-only, Appends, tlv, joined, is_no_encoding}
 use Rattle.standard.specs.Statement.{Encodes}
 use Rattle.der_core.specs.declared.error.ErrorKind.TheVariants.{NoRoom, Overflow}
 use Rattle.der_core.specs.declared.error.ErrorKind.TheVariants as kind
@@ -35,18 +35,21 @@ module _ {S V : Type 0} {valid : S → Type 0} {printed : S → List ℕ} {means
   uncounted (Ok n) h = tt
   uncounted (Err e) h = uncounted_as (encode_error e.kind) h
 
-  stopped_as : (room : ℕ) (old new : List ℕ) (k : EncodeError)
+  stopped_as : (room : Option ℕ) (old new : List ℕ → Type 0) (k : EncodeError)
       → WhyOctetsNotWritten (valid (written v)) (printed (written v)) room old new k
-      → WhyNotWritten (valid (written v)) (Prints valid printed means) v room k
-  stopped_as room old new no_encoding h = λ encoding p. h.0 (has_written encoding p)
-  stopped_as room old new too_long h = (h.0, none_fits h.1)
-  stopped_as room old new no_room h = (printed (written v), is_shortest h.0 h.1, h.2)
-  stopped_as room old new another h = h
+      → WhyNotAppended (valid (written v)) (Prints valid printed means) v room k
+  stopped_as None old new no_encoding h = λ encoding p. h.0 (has_written encoding p)
+  stopped_as (Some room) old new no_encoding h = λ encoding p. h.0 (has_written encoding p)
+  stopped_as None old new too_long h = (h.0, none_fits h.1)
+  stopped_as (Some room) old new too_long h = (h.0, none_fits h.1)
+  stopped_as None old new no_room h = absurd h.2
+  stopped_as (Some room) old new no_room h = (printed (written v), is_shortest h.0 h.1, h.2)
+  stopped_as room old new another h = absurd h
 
-  pub stopped : {A : Type 0} (room : ℕ) (old new : List ℕ) (r : Result A Error)
+  pub stopped : {A : Type 0} (room : Option ℕ) (old new : List ℕ → Type 0) (r : Result A Error)
       → IfErr r
       (λ e. WhyOctetsNotWritten (valid (written v)) (printed (written v)) room old new (encode_error e.kind))
-      → IfErr r (λ e. WhyNotWritten (valid (written v)) (Prints valid printed means) v room (encode_error e.kind))
+      → IfErr r (λ e. WhyNotAppended (valid (written v)) (Prints valid printed means) v room (encode_error e.kind))
   stopped room old new (Ok x) h = tt
   stopped room old new (Err e) h = stopped_as room old new (encode_error e.kind) h
 
@@ -98,9 +101,47 @@ tlv_length n t c encoding e p =
     let form : p.octets ≡ length_octets n = length_octets-only n p.octets counted in
     omega (arith, ap length p.written, ap length form, count, length-append p.octets p.contents)
 
+-- No octets take no room.
+pub takes_none : (room : Option ℕ) → TakesRoom 0 room room
+takes_none None = tt
+takes_none (Some left) = omega arith
+
+-- Octets take the room of both their parts.
+pub takes_both : {all : ℕ} (m n : ℕ) (room mid left : Option ℕ) → all ≡ m + n → TakesRoom m room mid
+    → TakesRoom n mid left → TakesRoom all room left
+takes_both m n None None None e p q = tt
+takes_both m n None None (Some c) e p q = absurd q
+takes_both m n None (Some b) left e p q = absurd p
+takes_both m n (Some a) None left e p q = absurd p
+takes_both m n (Some a) (Some b) None e p q = absurd q
+takes_both m n (Some a) (Some b) (Some c) e p q = omega (arith, e, p, q)
+
+-- Where there is too little room for what is left, there is too little for all.
+lacks_behind : {all : ℕ} (m n : ℕ) (room mid : Option ℕ) → all ≡ m + n → TakesRoom m room mid → LacksRoom n mid
+    → LacksRoom all room
+lacks_behind m n room None e p q = absurd q
+lacks_behind m n None (Some b) e p q = absurd p
+lacks_behind m n (Some a) (Some b) e p q = omega (arith, e, p, q)
+
+-- Where there is too little room, there is too little for more.
+pub lacks_more : {m n : ℕ} (room : Option ℕ) → m ≤ n → LacksRoom m room → LacksRoom n room
+lacks_more None l p = absurd p
+lacks_more (Some left) l p = omega (arith, l, p)
+
+-- Octets were written by both their parts.
+pub receives_both : {octets : List ℕ} (front back : List ℕ) (old mid new : List ℕ → Type 0) → octets ≡ front ++ back
+    → Receives front old mid → Receives back mid new → Receives octets old new
+receives_both front back old mid new t p q = λ before h.
+    subst (λ o. new (before ++ o)) (sym t) (subst new (append_assoc before front back) (q (before ++ front) (p before h)))
+
+-- None were written.
+pub receives_none : (old new : List ℕ → Type 0) → ReceivesNothing old new → Receives [] old new
+receives_none old new p = λ before h. subst new (sym (append-nil before)) (p before h)
+
 -- Where the writing of one part after another stops: behind what was written whole.
-stops_behind : {here has : Type 0} (encoding front back old mid new : List ℕ) (room left : ℕ) (k : EncodeError)
-    → here → has → encoding ≡ front ++ back → length encoding ≤ limit → mid ≡ old ++ front → left + length front ≡ room
+stops_behind : {here has : Type 0} (encoding front back : List ℕ) (old mid new : List ℕ → Type 0) (room left : Option ℕ)
+    (k : EncodeError) → here → has → encoding ≡ front ++ back → length encoding ≤ limit → Receives front old mid
+    → TakesRoom (length front) room left
     → WhyOctetsNotWritten here back left mid new k → WhyOctetsNotWritten has encoding room old new k
 stops_behind encoding front back old mid new room left no_encoding y h t l m r s = absurd (s.0 y)
 stops_behind encoding front back old mid new room left too_long y h t l m r s =
@@ -108,20 +149,19 @@ stops_behind encoding front back old mid new room left too_long y h t l m r s =
 stops_behind encoding front back old mid new room left no_room y h t l m r s = (
   h,
   l,
-  omega (arith, s.2, r, ap length t, length-append front back),
+  lacks_behind _ _ room left (ap length t ∙ length-append front back) r s.2,
   (
     front ++ s.3.0,
     s.3.1,
     append_assoc front s.3.0 s.3.1 ∙ ap (λ x. front ++ x) s.3.2 ∙ sym t,
-    s.3.3
-        ∙ ap (λ x. x ++ s.3.0) m ∙ append_assoc old front s.3.0,
+    receives_both front s.3.0 old mid new refl m s.3.3,
   ),
 )
 stops_behind encoding front back old mid new room left another y h t l m r s = absurd s
 
 -- in the first part
-stops_in_front : {here has : Type 0} (encoding front back old new : List ℕ) (room : ℕ) (k : EncodeError)
-    → here → has → encoding ≡ front ++ back → length encoding ≤ limit
+stops_in_front : {here has : Type 0} (encoding front back : List ℕ) (old new : List ℕ → Type 0) (room : Option ℕ)
+    (k : EncodeError) → here → has → encoding ≡ front ++ back → length encoding ≤ limit
     → WhyOctetsNotWritten here front room old new k → WhyOctetsNotWritten has encoding room old new k
 stops_in_front encoding front back old new room no_encoding y h t l s = absurd (s.0 y)
 stops_in_front encoding front back old new room too_long y h t l s =
@@ -129,27 +169,27 @@ stops_in_front encoding front back old new room too_long y h t l s =
 stops_in_front encoding front back old new room no_room y h t l s = (
   h,
   l,
-  omega (arith, s.2, ap length t, length-append front back),
+  lacks_more room (omega (arith, ap length t, length-append front back)) s.2,
   (s.3.0, s.3.1 ++ back, sym (append_assoc s.3.0 s.3.1 back) ∙ ap (λ x. x ++ back) s.3.2 ∙ sym t, s.3.3),
 )
 stops_in_front encoding front back old new room another y h t l s = absurd s
 
 -- before anything was written
-stops_at_once : {has : Type 0} (encoding old new : List ℕ) (room : ℕ) → has → length encoding ≤ limit
-    → room < length encoding → new ≡ old → WhyOctetsNotWritten has encoding room old new no_room
-stops_at_once encoding old new room h l r e = (h, l, r, ([], encoding, refl, e ∙ sym (append-nil old)))
+stops_at_once : {has : Type 0} (encoding : List ℕ) (old new : List ℕ → Type 0) (room : Option ℕ) → has
+    → length encoding ≤ limit → LacksRoom (length encoding) room → ReceivesNothing old new
+    → WhyOctetsNotWritten has encoding room old new no_room
+stops_at_once encoding old new room h l r e = (h, l, r, ([], encoding, refl, receives_none old new e))
 
 -- One part was appended, or a beginning of it, behind what was appended before.
-pub appends_behind : {W A here has : Type 0} {Room : W → ℕ} {Written : W → List ℕ} {old mid new : W}
+pub appends_behind : {W A here has : Type 0} {Room : W → Option ℕ} {Written : W → List ℕ → Type 0} {old mid new : W}
     {r : Result A Error} (encoding front back : List ℕ)
-    → here → has → encoding ≡ front ++ back → length encoding ≤ limit → Written mid ≡ Written old ++ front
-    → Room mid + length front ≡ Room old
+    → here → has → encoding ≡ front ++ back → length encoding ≤ limit → Receives front (Written old) (Written mid)
+    → TakesRoom (length front) (Room old) (Room mid)
     → Appends here back Room Written mid new r → Appends has encoding Room Written old new r
-appends_behind {Room = Room} {Written} {old} {r = Ok x} encoding front back y h t l m n a = record {
+appends_behind {Written = Written} {old} {mid} {new} {r = Ok x} encoding front back y h t l m n a = record {
   has = (h, l);
-  written =
-      a.written ∙ ap (λ w. w ++ back) m ∙ append_assoc (Written old) front back ∙ ap (λ w. Written old ++ w) (sym t);
-  room = omega (arith, a.room, n, ap length t, length-append front back);
+  written = receives_both front back (Written old) (Written mid) (Written new) t m a.written;
+  room = takes_both _ _ _ _ _ (ap length t ∙ length-append front back) n a.room;
   left = tt;
 }
 appends_behind {r = Err e} encoding front back y h t l m n a = record {
@@ -160,8 +200,8 @@ appends_behind {r = Err e} encoding front back y h t l m n a = record {
 }
 
 -- Writing the first part fails, and so writing the whole does.
-pub appends_in_front : {W A B here has : Type 0} {Room : W → ℕ} {Written : W → List ℕ} {old new : W} {e : Error}
-    (encoding front back : List ℕ)
+pub appends_in_front : {W A B here has : Type 0} {Room : W → Option ℕ} {Written : W → List ℕ → Type 0} {old new : W}
+    {e : Error} (encoding front back : List ℕ)
     → here → has → encoding ≡ front ++ back → length encoding ≤ limit
     → Appends {A = B} here front Room Written old new (Err e)
     → Appends {A = A} has encoding Room Written old new (Err e)
@@ -173,25 +213,24 @@ appends_in_front encoding front back y h t l a = record {
 }
 
 -- There was too little room for the first part, and nothing was written.
-pub appends_nothing : {W A has : Type 0} {Room : W → ℕ} {Written : W → List ℕ} {old new : W} {e : Error}
-    {encoding : List ℕ}
-    → has → length encoding ≤ limit → e.kind ≡ NoRoom → Room old < length encoding → Written new ≡ Written old
+pub appends_nothing : {W A has : Type 0} {Room : W → Option ℕ} {Written : W → List ℕ → Type 0} {old new : W} {e : Error}
+    {encoding : List ℕ} → has → length encoding ≤ limit → e.kind ≡ NoRoom → LacksRoom (length encoding) (Room old)
+    → ReceivesNothing (Written old) (Written new)
     → Appends {A = A} has encoding Room Written old new (Err e)
 appends_nothing h l k full same =
     record { has = tt; written = tt; room = tt; left = rw k (stops_at_once _ _ _ _ h l full same) }
 
 -- There are too many octets, and nothing was written.
-pub appends_too_long : {W A has : Type 0} {Room : W → ℕ} {Written : W → List ℕ} {old : W} {e : Error}
-    {encoding : List ℕ}
-    → has → e.kind ≡ Overflow → limit < length encoding → Appends {A = A} has encoding Room Written old old (Err e)
-appends_too_long h k many = record { has = tt; written = tt; room = tt; left = rw k (h, many, refl) }
+pub appends_too_long : {W A has : Type 0} {Room : W → Option ℕ} {Written : W → List ℕ → Type 0} {old : W} {e : Error}
+    {encoding : List ℕ} → has → e.kind ≡ Overflow → limit < length encoding → Appends {A = A} has encoding Room Written old old (Err e)
+appends_too_long h k many = record { has = tt; written = tt; room = tt; left = rw k (h, many, λ before o. o) }
 
 -- All octets were written by one call.
-pub appends_at_once : {W A has : Type 0} {Room : W → ℕ} {Written : W → List ℕ} {old new : W} {encoding : List ℕ}
-    (r : Result A Error) → has → length encoding ≤ limit
-    → OnOk r (Written new ≡ Written old ++ encoding) → OnOk r (Room new + length encoding ≡ Room old)
-    → IfErr r (λ e. (e.kind ≡ NoRoom) × (Room old < length encoding))
-    → OnErr r ((Written new ≡ Written old) × (Room new ≡ Room old))
+pub appends_at_once : {W A has : Type 0} {Room : W → Option ℕ} {Written : W → List ℕ → Type 0} {old new : W}
+    {encoding : List ℕ} (r : Result A Error) → has → length encoding ≤ limit
+    → OnOk r (Receives encoding (Written old) (Written new)) → OnOk r (TakesRoom (length encoding) (Room old) (Room new))
+    → IfErr r (λ e. (e.kind ≡ NoRoom) × LacksRoom (length encoding) (Room old))
+    → OnErr r (ReceivesNothing (Written old) (Written new) × (Room new ≡ Room old))
     → Appends has encoding Room Written old new r
 appends_at_once (Ok x) h l w n full same = record { has = (h, l); written = w; room = n; left = tt }
 appends_at_once (Err e) h l w n full same = appends_nothing h l full.0 full.1 same.0
@@ -290,7 +329,7 @@ joined_refused {P = P} (Err e) (Err f) p q = either (is_no_encoding (encode_erro
     either false = q
 
 -- A value that has octets isn't refused.
-pub not_refused : {W A Has : Type 0} {octets : List ℕ} {Room : W → ℕ} {Written : W → List ℕ} {old new : W}
+pub not_refused : {W A Has : Type 0} {octets : List ℕ} {Room : W → Option ℕ} {Written : W → List ℕ → Type 0} {old new : W}
     (Tags : Tag → Type 0) (r : Result A Error) → Has → Appends Has octets Room Written old new r → RefusedAs Tags r
 not_refused Tags (Ok x) has appends tag e = cc
 not_refused Tags (Err e) has appends tag same =

@@ -10,6 +10,7 @@ pub mod Input
 pub mod Reading
 pub mod Readings
 pub mod IntegerReading
+pub mod Writers
 pub mod Writing
 pub mod SequenceOf
 pub mod ErrorText

@@ -1,6 +1,6 @@
 //! Writing of values.
 ghost use Rattle.std.specs.Prelude.{◌≡◌, ◌≤◌, ◌++◌, length, drop, OnOk, OnErr, IfOk, IfErr};
-ghost use Rattle.der_core.specs.Words.{limit, length_octets, tlv, IsShortest, RefusedAs, WhyNotCounted, WhyNotWritten, free_of, Prepends, Prints, IsFront, LeavesRest, Counts, Appends, encode_error, joined};
+ghost use Rattle.der_core.specs.Words.{limit, length_octets, tlv, IsShortest, RefusedAs, WhyNotAppended, WhyNotCounted, WhyNotWritten, free_of, Prepends, Prints, IsFront, LeavesRest, Counts, Appends, encode_error, joined};
 ghost use Rattle.std.specs.Borrow.{sem};
 ghost use Rattle.der_core.specs.declared.tag.Tag.{Tag as TheTag};
 
@@ -66,7 +66,7 @@ pub trait Encode: Encoding {
         ensures appends { let s = Self.written (Self.value self.now) in
             Appends (Self.valid s) (Self.printed s) W.room W.written writer.old writer.new result }
         ensures err { let v = Self.value self.now in let encodings = Prints Self.valid Self.printed Self.means in
-            IfErr result (λ e. WhyNotWritten (Self.valid (Self.written v)) encodings v (W.room writer.old)
+            IfErr result (λ e. WhyNotAppended (Self.valid (Self.written v)) encodings v (W.room writer.old)
             (encode_error e.kind)) }
         ensures tag { RefusedAs refused result }
         ensures kept { W.keeps writer.old writer.new };

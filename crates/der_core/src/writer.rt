@@ -1,25 +1,28 @@
 //! Writers.
-ghost use Rattle.std.specs.Prelude.{◌≡◌, ℕ, ◌+◌, ◌≤◌, ◌<◌, List, ◌++◌, length, OnOk, OnErr, IfErr};
+ghost use Rattle.std.specs.Prelude.{◌≡◌, ℕ, ◌≤◌, List, Option, Some, length, OnOk, OnErr, IfErr};
+ghost use Rattle.der_core.specs.Writers.{LacksRoom, Receives, ReceivesNothing, TakesRoom};
 
 use crate::error::{Error, ErrorKind, Result};
 
 /// Takes octets, one slice after another.
 pub trait Writer {
-    /// How many octets may still be written.
-    ghost room: { Self → ℕ };
+    /// How many octets may still be written, if there is a limit.
+    ghost room: { Self → Option ℕ };
 
-    /// What was written so far.
-    ghost written: { Self → List ℕ };
+    /// These octets were written so far. A writer may forget them, and keep a hash of them.
+    ghost written: { Self → List ℕ → Type 0 };
 
     /// What writing never changes: a relation of the writer before and after.
     ghost keeps: { Self → Self → Type 0 };
 
     /// Appends all of the octets, or returns `NoRoom` and writes nothing.
     fn write(&mut self, bytes: &[u8]) -> Result<()>
-        ensures written { OnOk result (written self.new ≡ written self.old ++ bytes.now) }
-        ensures room { OnOk result (room self.new + length bytes.now ≡ room self.old) }
-        ensures err { IfErr result (λ error. (error.kind ≡ ErrorKind.NoRoom) × (room self.old < length bytes.now)) }
-        ensures nothing { OnErr result ((written self.new ≡ written self.old) × (room self.new ≡ room self.old)) }
+        ensures written { OnOk result (Receives bytes.now (written self.old) (written self.new)) }
+        ensures room { OnOk result (TakesRoom (length bytes.now) (room self.old) (room self.new)) }
+        ensures err { IfErr result (λ error. (error.kind ≡ ErrorKind.NoRoom)
+            × LacksRoom (length bytes.now) (room self.old)) }
+        ensures nothing { OnErr result (ReceivesNothing (written self.old) (written self.new)
+            × (room self.new ≡ room self.old)) }
         ensures kept { keeps self.old self.new };
 
     /// A writer that takes nothing keeps itself.
@@ -63,9 +66,9 @@ impl Writer for SliceWriter<'_> {
     ghost use Rattle.der_core.specs.SliceWriters.{room_of, written_of, Keeps};
     ghost use Rattle.der_core.specs.Laws.Numbers.{Keeps-itself, Keeps-through};
 
-    ghost room = { room_of };
+    ghost room = { λ w. Some (room_of w) };
 
-    ghost written = { written_of };
+    ghost written = { λ w octets. written_of w ≡ octets };
 
     ghost keeps = { Keeps };
 

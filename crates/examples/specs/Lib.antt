@@ -4,3 +4,4 @@ pub mod Signature
 pub mod Salt
 pub mod Extension
 pub mod NumberList
+pub mod Fnv

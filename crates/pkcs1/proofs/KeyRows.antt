@@ -64,8 +64,8 @@ module _ {S : Type 0} (valid : S → Type 0) (printed : S → List ℕ) (key : P
   pub row_room : {n : ℕ} → length (private_printed printed key) ≤ n → length octets ≤ n
   row_room fits = omega (arith, fits, ap length row_is)
 
-  pub key_appended : {W A : Type 0} (Room : W → ℕ) (Written : W → List ℕ) (old new : W) (r : Result A Error)
-      → PrivateIsValid valid key → Appends IsValid octets Room Written old new r
+  pub key_appended : {W A : Type 0} (Room : W → Option ℕ) (Written : W → List ℕ → Type 0) (old new : W)
+      (r : Result A Error) → PrivateIsValid valid key → Appends IsValid octets Room Written old new r
       → Appends (PrivateIsValid valid key) (private_printed printed key) Room Written old new r
   key_appended Room Written old new r ok told =
       appends_as IsValid (PrivateIsValid valid key) (row_valid ok) ok octets (private_printed printed key) Room Written

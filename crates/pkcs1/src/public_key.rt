@@ -4,7 +4,7 @@ ghost use Rattle.pkcs1.specs.Words.{public_row};
 
 use der_core::{
     BackWriter, Borrowed, Decode, Encode, EncodeInParts, EncodeValue, Encoding, EqualByValue,
-    Length, NoMemory, Record, TryClone, Uint, UintEncoding, UintRef, Writer,
+    Length, NoMemory, Record, SequenceTag, TryClone, Uint, UintEncoding, UintRef, Writer,
 };
 use pkcs1_params::{Error, Result};
 use std::alloc::Global;
@@ -32,6 +32,8 @@ pub type RsaPublicKeyRef<'a> = RsaPublicKey<UintRef<'a>>;
 pub type RsaPublicKeyOwned = RsaPublicKey<Uint>;
 
 impl<U: Encoding> Record for RsaPublicKey<U> {
+    type Marker = SequenceTag;
+
     type Fields = (U, (U, ()));
 
     ghost fields = { λ key. (key.modulus, (key.public_exponent, tt)) };

@@ -55,8 +55,9 @@ module _ (key : PrivateKeyOf Number GivenPrimes) where
   given_room {n} fits =
       subst (λ s. length (octets_of s) ≤ n) (sym parts) (row_room AnyNumber integer (given_key key) _ version fits)
 
-  pub given_appended : {W A : Type 0} (Room : W → ℕ) (Written : W → List ℕ) (old new : W) (r : Result A Error)
-      → PrivateIsValid AnyNumber (given_key key) → Appends (IsValid Spelled) (octets_of Spelled) Room Written old new r
+  pub given_appended : {W A : Type 0} (Room : W → Option ℕ) (Written : W → List ℕ → Type 0) (old new : W)
+      (r : Result A Error) → PrivateIsValid AnyNumber (given_key key)
+      → Appends (IsValid Spelled) (octets_of Spelled) Room Written old new r
       → Appends (PrivateIsValid AnyNumber (given_key key)) (private_printed integer (given_key key)) Room Written old new r
   given_appended Room Written old new r ok told =
       key_appended AnyNumber integer (given_key key) _ version Room Written old new r ok

@@ -34,15 +34,15 @@ module _ {V W : Type 0} (Encoding : V → List ℕ → Type 0) (Other : W → Li
 
 -- The same octets, of a value with an encoding.
 module _ (Has Is : Type 0) (has : Has) (is : Is) where
-  stopped_so : (octets : List ℕ) (room : ℕ) (old new : List ℕ) (k : EncodeError)
+  stopped_so : (octets : List ℕ) (room : Option ℕ) (old new : List ℕ → Type 0) (k : EncodeError)
       → WhyOctetsNotWritten Has octets room old new k → WhyOctetsNotWritten Is octets room old new k
   stopped_so octets room old new no_encoding h = absurd (h.0 has)
   stopped_so octets room old new too_long h = (is, h.1, h.2)
   stopped_so octets room old new no_room h = (is, h.1, h.2, h.3)
   stopped_so octets room old new another h = h
 
-  appends_so : {W A : Type 0} (octets : List ℕ) (Room : W → ℕ) (Written : W → List ℕ) (old new : W) (r : Result A errors.Error)
-      → Appends Has octets Room Written old new r → Appends Is octets Room Written old new r
+  appends_so : {W A : Type 0} (octets : List ℕ) (Room : W → Option ℕ) (Written : W → List ℕ → Type 0) (old new : W)
+      (r : Result A errors.Error) → Appends Has octets Room Written old new r → Appends Is octets Room Written old new r
   appends_so octets Room Written old new (Ok x) a =
       record { has = (is, a.has.1); written = a.written; room = a.room; left = a.left }
   appends_so octets Room Written old new (Err e) a = record {
@@ -52,8 +52,8 @@ module _ (Has Is : Type 0) (has : Has) (is : Is) where
     left = stopped_so octets (Room old) (Written old) (Written new) (encode_error e.kind) a.left;
   }
 
-  pub appends_as : {W A : Type 0} (octets others : List ℕ) (Room : W → ℕ) (Written : W → List ℕ) (old new : W)
-      (r : Result A errors.Error) → octets ≡ others → Appends Has octets Room Written old new r
+  pub appends_as : {W A : Type 0} (octets others : List ℕ) (Room : W → Option ℕ) (Written : W → List ℕ → Type 0)
+      (old new : W) (r : Result A errors.Error) → octets ≡ others → Appends Has octets Room Written old new r
       → Appends Is others Room Written old new r
   appends_as octets others Room Written old new r same a =
       subst (λ o. Appends Is o Room Written old new r) same (appends_so octets Room Written old new r a)

@@ -1,5 +1,5 @@
 -- Of a value that has octets, the same is counted and appended whatever says that it has them.
-use Rattle.std.specs.Prelude.{ℕ, List, Result, Ok, Err}
+use Rattle.std.specs.Prelude.{ℕ, List, Option, Result, Ok, Err}
 use Rattle.der_core.specs.Document.{EncodeError, another, no_encoding, no_room, too_long}
 use Rattle.der_core.specs.Writing.{Appends, Counts, WhyOctetsNotCounted, WhyOctetsNotWritten, encode_error}
 use Rattle.der_core.specs.declared.error.Error.{Error}
@@ -15,14 +15,14 @@ module _ {P Q : Type 0} (p : P) (q : Q) where
   counts_as octets (Ok n) h = (q, h.1, h.2)
   counts_as octets (Err e) h = uncounted_as octets (encode_error e.kind) h
 
-  unwritten_as : (octets : List ℕ) (room : ℕ) (old new : List ℕ) (k : EncodeError)
+  unwritten_as : (octets : List ℕ) (room : Option ℕ) (old new : List ℕ → Type 0) (k : EncodeError)
       → WhyOctetsNotWritten P octets room old new k → WhyOctetsNotWritten Q octets room old new k
   unwritten_as octets room old new no_encoding h = absurd (h.0 p)
   unwritten_as octets room old new too_long h = (q, h.1, h.2)
   unwritten_as octets room old new no_room h = (q, h.1, h.2, h.3)
   unwritten_as octets room old new another h = h
 
-  pub appends_as : {W A : Type 0} (octets : List ℕ) (Room : W → ℕ) (Written : W → List ℕ) (old new : W)
+  pub appends_as : {W A : Type 0} (octets : List ℕ) (Room : W → Option ℕ) (Written : W → List ℕ → Type 0) (old new : W)
       (r : Result A Error) → Appends P octets Room Written old new r → Appends Q octets Room Written old new r
   appends_as octets Room Written old new (Ok x) h =
       record { has = (q, h.has.1); written = h.written; room = h.room; left = h.left }

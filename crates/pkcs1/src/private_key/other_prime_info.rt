@@ -6,7 +6,8 @@ ghost use Rattle.pkcs1.specs.Words.{AllocatesInOthers, ListsNone, number_of, oth
 use crate::version::Version;
 use der_core::{
     BackWriter, Borrowed, Decode, Encode, EncodeInParts, EncodeValue, Encoding, ErrorKind, Length,
-    Reader, Record, Result, Tag, TryClone, Writer, begins_with, decode_optional, quick_alone,
+    Reader, Record, Result, SequenceTag, Tag, TryClone, Writer, begins_with, decode_optional,
+    quick_alone,
 };
 use std::alloc::{AllocError, Global};
 
@@ -51,6 +52,8 @@ impl<U: Clone> Clone for OtherPrimeInfo<U> {
 }
 
 impl<U: Encoding> Record for OtherPrimeInfo<U> {
+    type Marker = SequenceTag;
+
     type Fields = (U, (U, (U, ())));
 
     ghost fields = { λ other. (other.prime, (other.exponent, (other.coefficient, tt))) };

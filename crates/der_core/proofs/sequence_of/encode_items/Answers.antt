@@ -1,7 +1,7 @@
-use Rattle.std.proofs.Common.{arith, rules, refl, ap, sym, ◌∙◌, subst, append_assoc, length-append, ◌≡◌, ◌+◌, ◌≤◌, ◌<◌, ◌++◌, length, get_or, take, drop, List, ℕ}
+use Rattle.std.proofs.Common.{arith, rules, refl, ap, sym, ◌∙◌, subst, length-append, ◌≡◌, ◌+◌, ◌≤◌, ◌<◌, ◌++◌, length, get_or, take, drop, List, ℕ}
 use Rattle.der_core.specs.Words.{err_from_is_err_and, AllHave, all_encodings, limit}
 use Rattle.der_core.proofs.Items.{encodings_more, encodings_around, have_at}
-use Rattle.der_core.proofs.Writing.{appends_in_front, appends_behind}
+use Rattle.der_core.proofs.Writing.{appends_in_front, appends_behind, receives_both, takes_both}
 use Rattle.der_core.proofs.sequence_of.encode_items.Goals as goal
 
 module _ {T : Type 0} (has : T → Type 0) (encoding : T → List ℕ) (xs : List T) (i : ℕ) (x : T) (h : i < length xs)
@@ -44,10 +44,11 @@ loop-item-preserved g c =
     let front = all_encodings printed (take c.loop-item.item-index c.args.items.now) in
     let q = more valid printed c.args.items.now c.loop-item.item-index x c.loop-item-test.true c.item-item.is in
     let appends = c.in_ok-encode.ensures.appends in
+    let written = g.W.Writer.written in
     record {
       written =
-          rw q (appends.written ∙ ap (λ w. w ++ printed x) c.loop-item.invariant.written
-          ∙ append_assoc (g.W.Writer.written c.args.writer.now) front (printed x));
-      room = rw q (omega (arith, appends.room, c.loop-item.invariant.room, length-append front (printed x)));
+          receives_both front (printed x) (written c.args.writer.now) (written c.loop-item.writer)
+          (written c.encode.new.writer) q c.loop-item.invariant.written appends.written;
+      room = takes_both _ _ _ _ _ (ap length q ∙ length-append front (printed x)) c.loop-item.invariant.room appends.room;
       kept = search rules;
     }

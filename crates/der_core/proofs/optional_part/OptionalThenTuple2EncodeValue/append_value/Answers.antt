@@ -1,6 +1,6 @@
-use Rattle.std.proofs.Common.{append-nil, arith, refl, sym}
+use Rattle.std.proofs.Common.{refl}
 use Rattle.der_core.specs.Words.{err_from_is_err_and}
-use Rattle.der_core.proofs.Writing.{appends_behind, appends_in_front}
+use Rattle.der_core.proofs.Writing.{appends_behind, appends_in_front, receives_none, takes_none}
 use Rattle.der_core.proofs.optional_part.OptionalThenTuple2EncodeValue.append_value.Goals as goal
 
 pub returns-in_err-encode-in-Some-clause-appends : goal.returns-in_err-encode-in-Some-clause-appends
@@ -21,5 +21,6 @@ pub returns-in-None-clause-appends : goal.returns-in-None-clause-appends
 returns-in-None-clause-appends g c =
     let has = rw c.in-None.is at c.requires.has in
     let fits = rw c.in-None.is at c.requires.fits in
-    rw c.in-None.is (appends_behind _ _ _ has.1.1 has refl fits (sym (append-nil (g.W.Writer.written c.args.writer.now)))
-    (omega arith) c.append_value-in-None.ensures.appends)
+    let written = g.W.Writer.written c.args.writer.now in
+    rw c.in-None.is (appends_behind _ _ _ has.1.1 has refl fits (receives_none written written (λ before o. o)) (takes_none _)
+    c.append_value-in-None.ensures.appends)

@@ -1,8 +1,8 @@
-use Rattle.std.proofs.Common.{◌≡◌, ◌≤◌, ◌++◌, ◌∙◌, ap, arith, drop, get_or, length, refl, ◌+◌, sym, take, take_all, rules}
+use Rattle.std.proofs.Common.{◌≤◌, ◌++◌, ◌∙◌, ap, arith, drop, get_or, length, length-append, refl, ◌+◌, subst, sym, take, take_all, ◌≡◌, rules}
 use Rattle.std.proofs.lemmas.Grind.{common_steps}
-use Rattle.der_core.specs.Words.{err_from_is_err_and, limit, all_encodings}
+use Rattle.der_core.specs.Words.{Receives, TakesRoom, err_from_is_err_and, limit, all_encodings}
 use Rattle.der_core.proofs.Items.{encodings_around, encodings_more}
-use Rattle.der_core.proofs.Writing.{appends_behind, appends_in_front}
+use Rattle.der_core.proofs.Writing.{appends_behind, appends_in_front, receives_both, takes_both}
 use Rattle.pkcs1_c.specs.Words.{given_encoded}
 use Rattle.pkcs1_c.proofs.GivenKeys.{any_given, encoded_is, nothing}
 use Rattle.pkcs1_c.proofs.StructErrors.{held_at}
@@ -18,10 +18,17 @@ loop-other-preserved g c =
     let others = c.args.self.now.others.now in
     let i = c.loop-other.other-index in
     let more = encodings_more (λ _. Unit {0}) given_encoded others i nothing c.loop-other-test.true in
+    let front = all_encodings given_encoded (take i others) in
+    let here = given_encoded (get_or others i nothing) in
     let one = c.in_ok-append_given.ensures.appends in
-    let here = one.written in
-    let left = one.room in
-    record { written = grind (arith, common_steps); room = grind (arith, common_steps); kept = search rules }
+    let written = g.W.Writer.written in
+    record {
+      written =
+          receives_both front here (written c.args.writer.now) (written c.loop-other.writer)
+          (written c.append_given.new.writer) more c.loop-other.invariant.written one.written;
+      room = takes_both _ _ _ _ _ (ap length more ∙ length-append front here) c.loop-other.invariant.room one.room;
+      kept = search rules;
+    }
 
 pub returns-in_err-append_given-clause-appends : goal.returns-in_err-append_given-clause-appends
 returns-in_err-append_given-clause-appends g c =
@@ -42,9 +49,12 @@ returns-clause-appends g c =
     let all : take c.loop-other.other-index others ≡ others = take_all c.loop-other.other-index others
     (omega (arith, c.loop-other-test.false)) in
     let is = ap (all_encodings given_encoded) all ∙ encoded_is others in
+    let w = g.W.Writer in
+    let old = c.args.writer.now in
+    let new = c.loop-other.writer in
     record {
       has = (any_given others, c.requires.fits);
-      written = c.loop-other.invariant.written ∙ ap (λ w. g.W.Writer.written c.args.writer.now ++ w) is;
-      room = omega (arith, c.loop-other.invariant.room, ap length is);
+      written = subst (λ o. Receives o (w.written old) (w.written new)) is c.loop-other.invariant.written;
+      room = subst (λ o. TakesRoom (length o) (w.room old) (w.room new)) is c.loop-other.invariant.room;
       left = tt;
     }

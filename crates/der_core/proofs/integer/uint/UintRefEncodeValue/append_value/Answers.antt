@@ -1,14 +1,29 @@
-use Rattle.std.proofs.Common.{arith, sym, subst, ◌≤◌, length}
-use Rattle.std.proofs.lemmas.Grind.{common_steps}
+use Rattle.std.proofs.Common.{arith, sym, subst, ◌∷◌, ◌++◌, ◌≡◌, ◌≤◌, [], length}
 use Rattle.der_core.specs.Words.{integer_contents, holds_canonical, contents_as, limit, Appends}
+use Rattle.der_core.proofs.Writing.{appends_at_once, appends_behind}
+use Rattle.der_core.proofs.integer.uint.UintRefEncodeValue.append_value.Goals.{then-self-ge128+in_ok-write, else-self-ge128}
 use Rattle.der_core.proofs.integer.uint.UintRefEncodeValue.append_value.Goals as goal
 
 pub returns-clause-appends : goal.returns-clause-appends
 returns-clause-appends g c =
     let bytes = c.args.self.now.bytes.now in
+    let w = g.W.Writer in
     let is = contents_as bytes (holds_canonical bytes c.args.self.now.canonical) in
     let fits : length (integer_contents bytes) ≤ limit = rw is at c.requires.fits in
-    let told : Appends (Unit {0}) (integer_contents bytes) g.W.Writer.room g.W.Writer.written c.args.writer.now
-    c.write-2.new.self c.write-2.result = grind (arith, common_steps) in
-    subst (λ octets. Appends (Unit {0}) octets g.W.Writer.room g.W.Writer.written c.args.writer.now c.write-2.new.self
-    c.write-2.result) (sym is) told
+    let told : Appends (Unit {0}) (integer_contents bytes) w.room w.written c.args.writer.now c.write-2.new.self
+    c.write-2.result = elim c.if-self-ge128.branch [
+      | then-self-ge128+in_ok-write b ↦
+          let split : integer_contents bytes ≡ (0 ∷ []) ++ bytes = grind arith in
+          let few : length bytes ≤ limit = grind arith in
+          let last = rw b.writer-is at c.write-2.ensures in
+          let first = b.in_ok-write.ensures in
+          appends_behind {here = Unit {0}} _ _ _ tt tt split fits first.written first.room
+          (appends_at_once _ tt few last.written last.room last.err last.nothing)
+      | else-self-ge128 b ↦
+          let same : integer_contents bytes ≡ bytes = grind arith in
+          let few : length bytes ≤ limit = grind arith in
+          let last = rw b.writer-is at c.write-2.ensures in
+          rw same (appends_at_once _ tt few last.written last.room last.err last.nothing)
+    ] in
+    subst (λ octets. Appends (Unit {0}) octets w.room w.written c.args.writer.now c.write-2.new.self c.write-2.result)
+    (sym is) told
