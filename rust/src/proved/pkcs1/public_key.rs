@@ -4,7 +4,7 @@
 
 use crate::proved::der_core::{
     BackWriter, Borrowed, Decode, Encode, EncodeInParts, EncodeValue, Encoding, EqualByValue,
-    Length, NoMemory, Record, TryClone, Uint, UintEncoding, UintRef, Writer,
+    Length, NoMemory, Record, SequenceTag, TryClone, Uint, UintEncoding, UintRef, Writer,
 };
 use crate::proved::pkcs1_params::{Error, Result};
 use crate::rattle_std::alloc::Global;
@@ -32,6 +32,8 @@ pub type RsaPublicKeyRef<'a> = RsaPublicKey<UintRef<'a>>;
 pub type RsaPublicKeyOwned = RsaPublicKey<Uint>;
 
 impl<U: Encoding> Record for RsaPublicKey<U> {
+    type Marker = SequenceTag;
+
     type Fields = (U, (U, ()));
 
     fn from_fields(row: (U, (U, ()))) -> RsaPublicKey<U> {

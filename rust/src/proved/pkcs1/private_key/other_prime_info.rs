@@ -5,7 +5,8 @@ use crate::rattle_std::prelude::Vec;
 use crate::proved::pkcs1::version::Version;
 use crate::proved::der_core::{
     BackWriter, Borrowed, Decode, Encode, EncodeInParts, EncodeValue, Encoding, ErrorKind, Length,
-    Reader, Record, Result, Tag, TryClone, Writer, begins_with, decode_optional, quick_alone,
+    Reader, Record, Result, SequenceTag, Tag, TryClone, Writer, begins_with, decode_optional,
+    quick_alone,
 };
 use crate::rattle_std::alloc::{AllocError, Global};
 
@@ -32,6 +33,8 @@ pub struct OtherPrimeInfo<U> {
 pub type OtherPrimeInfos<U> = Vec<OtherPrimeInfo<U>>;
 
 impl<U: Encoding> Record for OtherPrimeInfo<U> {
+    type Marker = SequenceTag;
+
     type Fields = (U, (U, (U, ())));
 
     fn from_fields(row: (U, (U, (U, ())))) -> OtherPrimeInfo<U> {
