@@ -1,10 +1,11 @@
 -- What keys hold, in the words of `Statement.antt`. `octets` gives the octets of a number, the highest first.
 use Rattle.std.specs.Prelude.{ℕ, List, [], ◌∷◌, ◌≡◌, ◌<◌, length, map, Option, Some, None}
-use Rattle.der_core.specs.Words.{number_from_digits, bytes_of}
+use Rattle.der_core.specs.Words.{number_from_digits}
 use Rattle.std.specs.List.{concat}
 use Rattle.pkcs1.specs.OtherPrimesLeft.{others_left}
-use Rattle.pkcs1.specs.PrivateKeyValue.{Listed, key_with, other_of, private_key_with}
+use Rattle.pkcs1.specs.PrivateKeyValue.{Listed, other_of, private_key_with}
 use Rattle.pkcs1.specs.StatedKeys.{other_stated, private_stated}
+use Rattle.pkcs1.specs.ViewedKey.{held_viewed_key}
 use Rattle.pkcs1.specs.declared.other_primes.OtherPrimes.{OtherPrimes}
 use Rattle.pkcs1.specs.declared.private_key.other_prime_info.OtherPrimeInfo.{OtherPrimeInfo}
 use Rattle.pkcs1.specs.declared.public_key.RsaPublicKey.{RsaPublicKey}
@@ -41,7 +42,7 @@ abbrev pub held_private_key : {U : Type 0} → (U → List ℕ) → Listed U →
 held_private_key octets key = private_stated (private_key_with (number_in octets) key)
 
 abbrev pub held_view : RsaPrivateKeyView → PrivateKey
-held_view view = private_stated (key_with (number_in bytes_of) others_left view.key)
+held_view view = held_viewed_key view.key
 
 -- A key that may be written: if there is a list of other primes, it isn't empty.
 abbrev pub IsPrivateKey : PrivateKey → Type 0

@@ -9,7 +9,8 @@ pub mod PublicKeyValue
 pub mod PrivateKeyValue
 pub mod OtherPrimesHeld
 pub mod OtherPrimesLeft
-pub mod ViewParts
+pub mod ViewedKey
 pub mod Held
+pub mod ViewParts
 pub mod Laws
 pub mod Words

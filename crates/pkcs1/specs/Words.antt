@@ -12,7 +12,7 @@ pub use Rattle.pkcs1.specs.PrivateKeyValue.{ListsNone, crt_with, key_row, key_wi
 pub use Rattle.pkcs1.specs.PublicKeyValue.{public_row}
 pub use Rattle.pkcs1.specs.StatedKeys.{other_from, other_stated, private_from, private_stated, public_from, public_part, public_stated}
 pub use Rattle.pkcs1.specs.Versions.{IsVersionOf, number_of}
-pub use Rattle.pkcs1.specs.ViewParts.{listed_others, viewed_encoding}
+pub use Rattle.pkcs1.specs.ViewParts.{listed_others, viewed_encodes, viewed_encoding}
 pub use Rattle.pkcs1.specs.Laws.KeysAlike.{fronts_alike, private_alike}
 pub use Rattle.pkcs1.specs.Laws.PrimesHeld.{AreCounted, all_counted, fault_counted, held_behind, held_first, held_read, item_shorter, more_counted, next_law, next_some, none_counted, one_held}
 pub use Rattle.pkcs1.specs.Laws.PrintedKeys.{integer_law, other_law, PublicIsValid, primes_law, public_as_stated, public_decodes, public_encoding, public_key_decides, public_law, version_law}

@@ -1,6 +1,6 @@
 //! Laws of the grammars of keys and parameters: functions that do nothing, each with a law as its contract.
 ghost use Rattle.std.specs.Prelude.{◌≡◌, ℕ, List, Decides};
-ghost use Rattle.pkcs1.specs.Words.{AreDelimited, AreStated, held_other_primes, held_public_key, held_view, private_stated, public_stated, rsa_private_key, rsa_public_key};
+ghost use Rattle.pkcs1.specs.Words.{AreDelimited, AreStated, held_other_primes, held_public_key, held_view, private_stated, public_stated, rsa_private_key, rsa_public_key, viewed_encoding};
 ghost use Rattle.der_core.specs.Words.{AreBytes, Excludes, bytes_of, value_in};
 ghost use Rattle.pkcs1_params.specs.Words.{FaultsTell, oaep_of, pss_of};
 ghost use Rattle.standard.specs.Statement.{AtMostOne, Decodes, PrivateKeyEncoding, PublicKeyEncoding, SameByShortest, OaepEncoding, PssEncoding};
@@ -87,6 +87,12 @@ pub fn lemma_forms_share_the_grammars()
 /// Errors are equal exactly if they are the same, with the same kind in `Asn1`.
 pub fn lemma_errors_compare_by_value()
     ensures { (a b : errors.Error) → Decides (⟦<Error as PartialEq>⟧.eq a b) (a ≡ b) }
+{}
+
+/// The bytes of a view of a private key encode the key that it holds.
+#[tactic(auto, using(crate::specs::ViewParts::viewed_encodes))]
+pub fn lemma_views_hold_what_they_encode()
+    ensures { (view : views.RsaPrivateKeyView) → PrivateKeyEncoding (held_view view) (viewed_encoding view) }
 {}
 
 /// A clone of a borrowing type means the same as the original.

@@ -15,6 +15,7 @@ mod reencode;
 mod traits;
 mod version;
 mod view;
+mod viewed_key;
 
 pub use algorithm::{ALGORITHM_OID, algorithm_id, rsa_encryption_oid};
 pub use der_core as der;
@@ -24,6 +25,7 @@ pub use laws::{
     lemma_clones_mean_the_same, lemma_encodings_are_delimited, lemma_errors_compare_by_value,
     lemma_forms_share_the_grammars, lemma_keys_decode, lemma_keys_have_one_encoding,
     lemma_same_keys_have_the_same_encoding, lemma_types_exclude_each_other,
+    lemma_views_hold_what_they_encode,
 };
 pub use other_primes::OtherPrimes;
 pub use pkcs1_params::{

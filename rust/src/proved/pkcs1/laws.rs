@@ -32,5 +32,8 @@ pub fn lemma_forms_share_the_grammars() {}
 /// Errors are equal exactly if they are the same, with the same kind in `Asn1`.
 pub fn lemma_errors_compare_by_value() {}
 
+/// The bytes of a view of a private key encode the key that it holds.
+pub fn lemma_views_hold_what_they_encode() {}
+
 /// A clone of a borrowing type means the same as the original.
 pub fn lemma_clones_mean_the_same() {}

@@ -4,7 +4,7 @@ use Rattle.der_core.specs.Words.{same_tag, integer, sequence}
 use Rattle.pkcs1.specs.Words.{held_other_primes, number, others_left}
 use Rattle.pkcs1.proofs.OtherPrimesHeld.{held_length}
 use Rattle.pkcs1.proofs.OtherReads.{disagree_fails, empty_fails}
-use Rattle.pkcs1.proofs.view.read_listed.Goals as goal
+use Rattle.pkcs1.proofs.viewed_key.read_listed.Goals as goal
 
 pub returns-then-is_multi-is_some : goal.returns-then-is_multi-is_some
 returns-then-is_multi-is_some g c =

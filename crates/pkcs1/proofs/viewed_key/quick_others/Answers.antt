@@ -2,7 +2,7 @@ use Rattle.std.proofs.Common.{◌∙◌, sym}
 use Rattle.pkcs1.specs.Words.{number}
 use Rattle.pkcs1.proofs.OtherPrimesHeld.{held_length}
 use Rattle.pkcs1.proofs.OtherReads.{others_taken}
-use Rattle.pkcs1.proofs.view.quick_others.Goals as goal
+use Rattle.pkcs1.proofs.viewed_key.quick_others.Goals as goal
 
 pub returns-else-remaining-eq0 : goal.returns-else-remaining-eq0
 returns-else-remaining-eq0 c =

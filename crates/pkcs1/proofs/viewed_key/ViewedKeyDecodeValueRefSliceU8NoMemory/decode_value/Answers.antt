@@ -2,7 +2,7 @@ use Rattle.der_core.specs.Words.{err_from_is_err_and, bytes_of}
 use Rattle.std.proofs.Common.{option_map}
 use Rattle.pkcs1.specs.Words.{number_in, number, others_left}
 use Rattle.pkcs1.proofs.KeyReads.{front_of, key_gives, key_others_fault}
-use Rattle.pkcs1.proofs.view.ViewedKeyDecodeValueRefSliceU8NoMemory.decode_value.Goals as goal
+use Rattle.pkcs1.proofs.viewed_key.ViewedKeyDecodeValueRefSliceU8NoMemory.decode_value.Goals as goal
 
 pub returns-in_err-others : goal.returns-in_err-others
 returns-in_err-others g c =
