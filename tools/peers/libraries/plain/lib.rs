@@ -105,13 +105,7 @@ pub struct Bytes {
 }
 #[no_mangle]
 pub extern "C" fn plain_oaep_label(k: &Oaep<'static>, to: &mut Bytes) -> bool {
-    match label(k) {
-        Some(it) => {
-            *to = Bytes { data: it.as_ptr(), len: it.len() };
-            true
-        }
-        None => false,
-    }
+    label(k).map(|it| *to = Bytes { data: it.as_ptr(), len: it.len() }).is_some()
 }
 #[no_mangle]
 pub unsafe extern "C" fn plain_bit_len(data: *const u8, n: usize) -> u64 {
