@@ -60,9 +60,12 @@ END
     }
 }
 
-# In a copy, so that a file that isn't laid out stays as it is, and is shown.
+# In a copy, so that a file that isn't laid out stays as it is, and is shown. And whether each definition has its own name.
 layout() {
     local crate
+    needs python3
+    tools/docs/check_definitions.py
+    tools/docs/test_definitions.py
     mkdir "$room/laid_out"
     cp -r crates crates.txt "$room/laid_out"
     for crate in crates/*/; do
