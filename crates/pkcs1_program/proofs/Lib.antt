@@ -3,4 +3,3 @@ pub mod Runs
 pub mod OneAnswer
 pub mod PutBehind
 pub mod Verdicts
-pub mod Copies

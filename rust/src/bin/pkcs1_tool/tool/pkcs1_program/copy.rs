@@ -11,18 +11,50 @@ use crate::proved::pkcs1::{Error, RsaPrivateKeyView, RsaPublicKeyRef};
 use crate::rattle_std::alloc::Global;
 use crate::rattle_std::path::Path;
 
-/// Reads the encoding of a public key, which must be all that the source gives until its end.
-fn read_public_key<R: Source>(alloc: Global, source: &mut R) -> Result<Vec<u8>, Error> {
+/// A kind of key, whose encodings are copied.
+trait Copied {
+    /// Looks whether the bytes encode a key.
+    fn check(bytes: &[u8]) -> Result<(), Error>;
+}
+
+/// Public keys.
+struct Public;
+
+impl Copied for Public {
+    fn check(bytes: &[u8]) -> Result<(), Error> {
+        RsaPublicKeyRef::try_from(bytes)?;
+        Ok(())
+    }
+}
+
+/// Private keys.
+struct Private;
+
+impl Copied for Private {
+    fn check(bytes: &[u8]) -> Result<(), Error> {
+        RsaPrivateKeyView::try_from(bytes)?;
+        Ok(())
+    }
+}
+
+/// Reads the encoding of a key, which must be all that the source gives until its end.
+fn read_key<K: Copied, R: Source>(alloc: Global, source: &mut R) -> Result<Vec<u8>, Error> {
     let encoding = read_sequence(alloc, source)?;
-    RsaPublicKeyRef::try_from(encoding.as_slice())?;
+    K::check(encoding.as_slice())?;
     Ok(encoding)
 }
 
-/// Reads the encoding of a private key, which must be all that the source gives until its end.
-fn read_private_key<R: Source>(alloc: Global, source: &mut R) -> Result<Vec<u8>, Error> {
-    let secret = read_sequence(alloc, source)?;
-    RsaPrivateKeyView::try_from(secret.as_slice())?;
-    Ok(secret)
+/// Copies a key, as `copy_public_key` does.
+fn copy_key<K: Copied, R: Source, P: Place>(
+    alloc: Global,
+    source: &mut R,
+    output: &mut Option<P>,
+) -> Result<(), CopyError> {
+    let encoding = read_key::<K, R>(alloc, source)?;
+    match output.take() {
+        Some(place) => Ok(place.write(encoding.as_slice())?),
+        None => Err(CopyError::Write(WriteError::Used)),
+    }
 }
 
 /// Copies a public key, whose encoding must be all that the source gives until its end, to the place. The place is used
@@ -32,49 +64,29 @@ pub fn copy_public_key<R: Source, P: Place>(
     source: &mut R,
     output: &mut Option<P>,
 ) -> Result<(), CopyError> {
-    let encoding = read_public_key(alloc, source)?;
-    match output.take() {
-        Some(place) => Ok(place.write(encoding.as_slice())?),
-        None => Err(CopyError::Write(WriteError::Used)),
-    }
+    copy_key::<Public, R, P>(alloc, source, output)
 }
 
-/// Copies a private key, whose encoding must be all that the source gives until its end, to the place. The place is
-/// used only after the key was read: after an error of reading it is unchanged. The encoding is held once.
+/// Copies a private key, as `copy_public_key` does a public one.
 pub fn copy_private_key<R: Source, P: Place>(
     alloc: Global,
     source: &mut R,
     output: &mut Option<P>,
 ) -> Result<(), CopyError> {
-    let secret = read_private_key(alloc, source)?;
-    match output.take() {
-        Some(place) => Ok(place.write(secret.as_slice())?),
-        None => Err(CopyError::Write(WriteError::Used)),
-    }
+    copy_key::<Private, R, P>(alloc, source, output)
 }
 
-/// Copies a public key from file to file.
-fn copy_public_file<'a, F: ReplaceFiles>(
+/// Copies a key from file to file. A new file gets no more rights than that at `rights`.
+fn copy_file<'a, K: Copied, F: ReplaceFiles>(
     files: &'a F,
     alloc: Global,
     input: Path<'a>,
     output: Path<'a>,
+    rights: Option<Path<'a>>,
 ) -> Result<(), CopyError> {
     let mut source = files.open(input)?;
-    let place = FileAt::new(files, alloc, output, None);
-    copy_public_key(alloc, &mut source, &mut Some(place))
-}
-
-/// Copies a private key from file to file.
-fn copy_private_file<'a, F: ReplaceFiles>(
-    files: &'a F,
-    alloc: Global,
-    input: Path<'a>,
-    output: Path<'a>,
-) -> Result<(), CopyError> {
-    let mut source = files.open(input)?;
-    let place = FileAt::new(files, alloc, output, Some(input));
-    copy_private_key(alloc, &mut source, &mut Some(place))
+    let place = FileAt::new(files, alloc, output, rights);
+    copy_key::<K, F::Opened, FileAt<'a, F>>(alloc, &mut source, &mut Some(place))
 }
 
 /// Copies a public key from file to file. The other file is replaced, created or written only after the key was read.
@@ -84,7 +96,8 @@ pub fn copy_pub<'a, F: ReplaceFiles>(
     input: Path<'a>,
     output: Path<'a>,
 ) -> Result<(), FileError<'a>> {
-    with_path(copy_public_file(files, alloc, input, output), input, output)
+    let copied = copy_file::<Public, F>(files, alloc, input, output, None);
+    with_path(copied, input, output)
 }
 
 /// Copies a private key from file to file. The other file is replaced, created or written only after the key was read.
@@ -95,9 +108,6 @@ pub fn copy_priv<'a, F: ReplaceFiles>(
     input: Path<'a>,
     output: Path<'a>,
 ) -> Result<(), FileError<'a>> {
-    with_path(
-        copy_private_file(files, alloc, input, output),
-        input,
-        output,
-    )
+    let copied = copy_file::<Private, F>(files, alloc, input, output, Some(input));
+    with_path(copied, input, output)
 }

@@ -1,0 +1,5 @@
+use Rattle.pkcs1.specs.Words.{held_view}
+use Rattle.pkcs1_program.proofs.copy.PrivateCopied.check.Goals as goal
+
+pub returns-clause-ok : goal.returns-clause-ok
+returns-clause-ok c = (held_view c.in_ok-try_from.field-0, c.in_ok-try_from.ensures.read.0)
