@@ -3,7 +3,7 @@ use Rattle.std.specs.Prelude.{ℕ, List, [], ◌∷◌, ◌≡◌, ◌<◌, leng
 use Rattle.der_core.specs.Words.{number_from_digits, bytes_of}
 use Rattle.std.specs.List.{concat}
 use Rattle.pkcs1.specs.OtherPrimesLeft.{others_left}
-use Rattle.pkcs1.specs.PrivateKeyValue.{Listed, key_with, other_of, private_key_with}
+use Rattle.pkcs1.specs.KeyValue.{Listed, key_with, other_of, private_key_with}
 use Rattle.pkcs1.specs.StatedKeys.{other_stated, private_stated}
 use Rattle.pkcs1.specs.declared.other_primes.OtherPrimes.{OtherPrimes}
 use Rattle.pkcs1.specs.declared.private_key.other_prime_info.OtherPrimeInfo.{OtherPrimeInfo}
