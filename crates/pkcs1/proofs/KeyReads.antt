@@ -3,7 +3,7 @@ use Rattle.std.proofs.Common.{◌≡◌, ℕ, List, [], refl, ap, ◌∙◌, inl
 use Rattle.der_core.specs.declared.error.ErrorKind.{ErrorKind}
 use Rattle.der_core.specs.Words.{AreBytes, Input, left_in, read_from, Asks, HoldsBytes, reads_front, ReadsFrontAlike, ReadsFrontPrinted, FrontReading, ◌>>=◌, made, tagged_law, made_tells, whole, value_in, FaultOrMemory, NoValueOrMemory, Reading, prints_one, limit, PrintsOne}
 use Rattle.der_core.proofs.ReadSteps.{Fails}
-use Rattle.pkcs1.specs.Words.{AllocatesInKey, front_read, key_from, others_read, private_key_read, Eight, OtherRow, fronts_alike, front_law, number_of, number, private_key, public_read, rsa_private_key, rsa_public_key, integer_law, private_law, public_law, private_stated, public_stated, AreDelimited, public_encoding, key_back, private_encoding, private_spells, private_as, AnyNumber, PrivateIsValid, PublicIsValid, public_from}
+use Rattle.pkcs1.specs.Words.{AllocatesInKey, front_read, key_from, others_read, private_key_read, Eight, OtherRow, eight_as, fronts_alike, front_law, number_of, number, private_key, public_read, rsa_private_key, rsa_public_key, integer_law, private_law, public_law, private_stated, public_stated, AreDelimited, public_encoding, key_back, private_encoding, private_spells, private_as, AnyNumber, PrivateIsValid, PublicIsValid, public_from}
 use Rattle.pkcs1.specs.declared.version.Version.{Version}
 use Rattle.der_core.specs.Tags as tags
 use Rattle.pkcs1_params.specs.Words.{FaultsTell}
@@ -13,10 +13,7 @@ use Rattle.pkcs1_params.proofs.Masks.{same_by_shortest}
 
 -- What a version and eight numbers mean.
 abbrev pub front_of : {U V : Type 0} → (U → V) → Version → Eight U (Unit {0}) → ℕ × Eight V (Unit {0})
-front_of value v (a, (b, (c, (d, (e, (f, (g, (h, _)))))))) = (
-  number_of v,
-  (value a, (value b, (value c, (value d, (value e, (value f, (value g, (value h, tt)))))))),
-)
+front_of value v numbers = (number_of v, eight_as value (λ _. tt) numbers)
 
 module _ {V : Type 0} (at : FrontReading V) where
   -- The version and the eight numbers were in front of what is left now.

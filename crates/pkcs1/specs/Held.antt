@@ -3,7 +3,7 @@ use Rattle.std.specs.Prelude.{ℕ, List, [], ◌∷◌, ◌≡◌, ◌<◌, leng
 use Rattle.der_core.specs.Words.{number_from_digits}
 use Rattle.std.specs.List.{concat}
 use Rattle.pkcs1.specs.OtherPrimesLeft.{others_left}
-use Rattle.pkcs1.specs.PrivateKeyValue.{Listed, other_of, private_key_with}
+use Rattle.pkcs1.specs.KeyValue.{Listed, other_of, private_key_with}
 use Rattle.pkcs1.specs.StatedKeys.{other_stated, private_stated}
 use Rattle.pkcs1.specs.ViewedKey.{held_viewed_key}
 use Rattle.pkcs1.specs.declared.other_primes.OtherPrimes.{OtherPrimes}

@@ -5,8 +5,7 @@ pub mod KeyReadings
 pub mod Printing
 pub mod Allocating
 pub mod KeyEncodings
-pub mod PublicKeyValue
-pub mod PrivateKeyValue
+pub mod KeyValue
 pub mod OtherPrimesHeld
 pub mod OtherPrimesLeft
 pub mod ViewedKey

@@ -3,7 +3,7 @@ use Rattle.std.specs.Prelude.{ℕ, ◌<◌, List, Option, Some, None, length}
 use Rattle.der_core.specs.Words.{bytes_of, number_from_digits}
 use Rattle.der_core.specs.declared.integer.uint.UintRef.{UintRef}
 use Rattle.pkcs1.specs.OtherPrimesLeft.{others_left}
-use Rattle.pkcs1.specs.PrivateKeyValue.{key_with}
+use Rattle.pkcs1.specs.KeyValue.{key_with}
 use Rattle.pkcs1.specs.StatedKeys.{private_stated}
 use Rattle.pkcs1.specs.declared.other_primes.OtherPrimes.{OtherPrimes}
 use Rattle.pkcs1.specs.declared.private_key.PrivateKeyOf.{PrivateKeyOf}

@@ -4,7 +4,7 @@ use Rattle.der_core.specs.Words.{bytes_of, number_from_digits}
 use Rattle.pkcs1.specs.Held.{HoldsNone, IsPrivateKey, held_other_prime, held_other_primes, held_private_key, held_public_key, held_view, number_in, primes_encoded}
 use Rattle.pkcs1.specs.Keys as keys
 use Rattle.pkcs1.specs.OtherPrimesLeft.{others_left}
-use Rattle.pkcs1.specs.PrivateKeyValue.{Listed}
+use Rattle.pkcs1.specs.KeyValue.{Listed}
 use Rattle.pkcs1.specs.StatedKeys.{other_stated}
 use Rattle.pkcs1.specs.declared.other_primes.OtherPrimes.{OtherPrimes}
 use Rattle.pkcs1.specs.declared.private_key.other_prime_info.OtherPrimeInfo.{OtherPrimeInfo}

@@ -83,12 +83,12 @@ key_printed key = λ i.
     sequence (integers (version_stated (others_in key) i ∷ key_numbers key) ++ stated_printed (others_in key) i)
 
 -- Which of them are valid.
-pub some_stated : (primes : Primes) → AreSome primes → AreSome (others_stated primes)
+some_stated : (primes : Primes) → AreSome primes → AreSome (others_stated primes)
 some_stated None some = tt
 some_stated (Some []) some = some
 some_stated (Some (x ∷ xs)) some = omega arith
 
-pub stated_some : (primes : Primes) → AreSome (others_stated primes) → AreSome primes
+stated_some : (primes : Primes) → AreSome (others_stated primes) → AreSome primes
 stated_some None some = tt
 stated_some (Some []) some = some
 stated_some (Some (x ∷ xs)) some = omega arith
@@ -101,7 +101,7 @@ any_others : (primes : Primes) → IfPresent (AllByRecursion (OtherIsValid AnyNu
 any_others None = tt
 any_others (Some others) = any_listed others
 
-pub private_valid : (key : PrivateRow ℕ) → AreSome (others_in key) → PrivateIsValid AnyNumber key
+private_valid : (key : PrivateRow ℕ) → AreSome (others_in key) → PrivateIsValid AnyNumber key
 private_valid key some =
     (tt, (tt, (tt, (tt, (tt, (tt, (tt, (tt, (some, any_others (others_in key))))))))))
 
