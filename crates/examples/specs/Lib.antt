@@ -4,3 +4,7 @@ pub mod Signature
 pub mod Salt
 pub mod Extension
 pub mod NumberList
+pub mod KeyStore
+pub mod FixedOctets
+pub mod InBits
+pub mod SpkiKeys
