@@ -61,9 +61,6 @@ Walked store rest kept =
     → (later : List PrivateKey) × (all ≡ keys ++ later) × StoreEncoding later rest)
     × StoreEncoding (long_keys keys) kept
 
-pub begun : (store : List ℕ) → Walked store store []
-begun store = ([], (λ later p. p), (λ all p. (all, refl, p)), refl)
-
 joined : (a b : List PrivateKey) (x y : List ℕ) → StoreEncoding a x → StoreEncoding b y → StoreEncoding (a ++ b) (x ++ y)
 joined [] b x y is q = subst (λ z. StoreEncoding b (z ++ y)) (sym is) q
 joined (key ∷ a) b x y (e, l, is, p, whole) q =
@@ -133,9 +130,6 @@ module _ (store rest behind : List ℕ) (key : PrivateKey) (front : Begins key r
       further keys kept to from
       (subst (StoreEncoding (long_keys keys ++ long_keys (key ∷ []))) (append-nil kept)
       (joined (long_keys keys) (long_keys (key ∷ [])) kept [] p none))
-
-  pub shorter : length behind < length rest
-  shorter = omega (arith, ap length split, length-append entry behind, entry_long key entry entry_is)
 
 -- At the end, and where no entry is in front.
 no_more : (keys later : List PrivateKey) → StoreEncoding later [] → keys ++ later ≡ keys
