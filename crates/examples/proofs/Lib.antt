@@ -1,3 +1,5 @@
 pub mod Signature
 pub mod Salt
 pub mod Numbers
+pub mod SpkiKeys
+pub mod KeyStore

@@ -5,3 +5,7 @@ pub mod Salt
 pub mod Extension
 pub mod NumberList
 pub mod Fnv
+pub mod KeyStore
+pub mod FixedOctets
+pub mod InBits
+pub mod SpkiKeys

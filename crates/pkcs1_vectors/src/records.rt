@@ -2,8 +2,8 @@
 use crate::told::{PrintedError, Told};
 use der_core::Result;
 use examples::{
-    read_digest_info, read_dsa_algorithm, read_extension, write_digest_info, write_dsa_algorithm,
-    write_extension,
+    Bytes, StoreError, Taken, copy_long_keys, key_from_spki, key_to_spki, read_digest_info,
+    read_dsa_algorithm, read_extension, write_digest_info, write_dsa_algorithm, write_extension,
 };
 
 /// More octets than a row here has.
@@ -59,5 +59,32 @@ pub fn dsa_algorithm(to: &mut Told, bytes: &[u8]) {
             written_again(to, &out, count);
         }
         Err(error) => error.told(to),
+    }
+}
+
+/// `spki HEX`: the modulus of the RSA key in it, and it again.
+pub fn spki(to: &mut Told, bytes: &[u8]) {
+    let mut out = [0; ROOM];
+    match key_from_spki(bytes) {
+        Ok(key) => {
+            to.octets(key.modulus.as_bytes());
+            to.gap();
+            let count = key_to_spki(&key, &mut out);
+            written_again(to, &out, count);
+        }
+        Err(error) => error.told(to),
+    }
+}
+
+/// `key-store HEX`: the store of its keys of at least 2048 bits.
+pub fn key_store(to: &mut Told, bytes: &[u8]) {
+    let mut sink = Taken {
+        octets: Vec::new(to.alloc()),
+        refused: 0,
+    };
+    match copy_long_keys(to.alloc(), &mut Bytes { left: bytes }, &mut sink) {
+        Ok(()) => to.digits(sink.octets.as_slice()),
+        Err(StoreError::Format) => to.text("refused: no store"),
+        Err(_) => to.out_of_memory(),
     }
 }

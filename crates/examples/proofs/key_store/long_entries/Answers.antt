@@ -1,0 +1,33 @@
+use Rattle.std.proofs.Common.{◌≡◌, ◌++◌, ◌-◌, ◌∙◌, inr, length, refl, rules, subst, sym, take}
+use Rattle.pkcs1.specs.Words.{held_view}
+use Rattle.examples.proofs.KeyStore.{Walked, ended, none_left, refused, some_left, walked_long, walked_short}
+use Rattle.examples.proofs.key_store.long_entries.Goals as goal
+
+pub returns-in-None-clause-err : goal.returns-in-None-clause-err
+returns-in-None-clause-err c =
+    let some = some_left c.is_empty.result (length c.loop-rest.rest.now) c.loop-rest-test.true c.is_empty.ensures in
+    inr (
+      refl,
+      refused c.args.store.now c.loop-rest.rest.now c.loop-rest.kept.items some (c.in-None.ensures.none refl)
+          c.loop-rest.invariant,
+    )
+
+pub loop-rest-preserved-else-is_err : goal.loop-rest-preserved-else-is_err
+loop-rest-preserved-else-is_err c =
+    let rest = c.loop-rest.rest.now in
+    let behind = c.in-Some.first.1.now in
+    let kept : c.extend_from_slice.new.self.items ≡ c.loop-rest.kept.items ++ take (length rest - length behind) rest =
+    search rules in
+    subst (Walked c.args.store.now behind) (sym kept)
+    (walked_long c.args.store.now rest behind (held_view c.in-Some.first.0) c.in-Some.ensures.some c.loop-rest.kept.items
+    (sym c.is_long.ensures ∙ c.if-is_long.true) c.loop-rest.invariant)
+
+pub loop-rest-preserved : goal.loop-rest-preserved
+loop-rest-preserved c =
+    walked_short c.args.store.now c.loop-rest.rest.now c.in-Some.first.1.now (held_view c.in-Some.first.0)
+    c.in-Some.ensures.some c.loop-rest.kept.items (sym c.is_long.ensures ∙ c.if-is_long.false) c.loop-rest.invariant
+
+pub returns-clause-ok : goal.returns-clause-ok
+returns-clause-ok c =
+    let none = none_left c.is_empty.result (length c.loop-rest.rest.now) c.loop-rest-test.false c.is_empty.ensures in
+    ended c.args.store.now c.loop-rest.rest.now c.loop-rest.kept.items none c.loop-rest.invariant
