@@ -1,6 +1,6 @@
 use Rattle.std.proofs.Common.{ℕ, List, [], ◌∷◌, ◌++◌, ◌≡◌, ◌∙◌, ap, sym, refl}
 use Rattle.std.proofs.lemmas.List.{at_drop_all, at_drop_more}
-use Rattle.examples.specs.Fnv.{fnv, fnv_after}
+use Rattle.examples.specs.Fnv.{fnv_after}
 use Rattle.examples.proofs.hashing_writer.HashingWriterWriter.write.Goals as goal
 
 -- The hash of octets is made of those in front, and then of those behind.
