@@ -1,5 +1,5 @@
 //! A writer of one's own.
-ghost use Rattle.std.specs.Prelude.{◌≡◌, ◌++◌, OnOk};
+ghost use Rattle.std.specs.Prelude.{◌≡◌, ◌++◌, OnOk, Some};
 ghost use Rattle.std.specs.Int.Digits.{number_from_digits};
 ghost use Rattle.der_core.specs.Words.{bytes_of, integer, number_contents, tlv};
 ghost use Rattle.der_core.specs.SliceWriters.{Keeps, room_of, written_of};
@@ -17,9 +17,9 @@ pub struct CountingWriter<'b> {
 }
 
 impl Writer for CountingWriter<'_> {
-    ghost room = { λ w. room_of w.inner };
+    ghost room = { λ w. Some (room_of w.inner) };
 
-    ghost written = { λ w. written_of w.inner };
+    ghost written = { λ w octets. written_of w.inner ≡ octets };
 
     ghost keeps = { λ v w. Keeps v.inner w.inner };
 

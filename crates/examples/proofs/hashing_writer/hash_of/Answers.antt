@@ -7,4 +7,4 @@ returns-clause-ok g c =
     let t = g.T.Encoding in
     let v = t.value c.args.value.now in
     let appends = c.in_ok-encode.ensures.appends in
-    (t.printed (t.written v), is_shortest t.shortest v appends.has.0 appends.has.1, appends.written [] c.new.ensures)
+    (t.printed (t.written v), is_shortest t.shortest v appends.has.0 appends.has.1, appends.written [] c.new-writer.ensures)

@@ -4,4 +4,4 @@ use Rattle.examples.proofs.hashing_writer.HashingWriterWriter.write.Given as goa
 
 -- With the octets that are left, the hash will be that of all.
 abbrev pub invariant-loop-octet : goal.invariant-loop-octet
-invariant-loop-octet l = fnv_after l.self.hash (drop l.octet-index l.octet-items) ≡ fnv_after l.fn.self.hash l.octet-items
+invariant-loop-octet l = fnv_after l.self.hash (drop l.octet-index l.bytes) ≡ fnv_after l.fn.self.hash l.bytes

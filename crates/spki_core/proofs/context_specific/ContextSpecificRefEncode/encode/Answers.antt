@@ -1,9 +1,32 @@
-use Rattle.std.proofs.Common.{◌+◌, rules}
-use Rattle.der_core.specs.Words.{err_from_is_err_and}
+use Rattle.std.proofs.Common.{ℕ, List, Option, ◌+◌, arith, length, length-append, rules}
+use Rattle.der_core.specs.Words.{EncodeError, WhyOctetsNotCounted, WhyOctetsNotWritten, another, err_from_is_err_and, length_octets, no_encoding, no_room, tlv, too_long}
 use Rattle.der_core.proofs.Writing.{stopped}
 use Rattle.spki_core.specs.Words.{numbered_writes_shortest}
 use Rattle.der_core.proofs.Headers.{behind_header, counted_fits, header_too_long, no_header}
 use Rattle.spki_core.proofs.context_specific.ContextSpecificRefEncode.encode.Goals as goal
+
+-- An encoding that isn't counted isn't written.
+uncounted_stops : {fits : Type 0} (has : Type 0) (tag : ℕ) (octets : List ℕ) (room : Option ℕ) (old : List ℕ → Type 0)
+    (k : EncodeError) → fits → WhyOctetsNotCounted has octets k
+    → WhyOctetsNotWritten (fits × has) (tlv tag octets) room old old k
+uncounted_stops has tag octets room old no_encoding f h = (λ p. h p.1, λ before o. o)
+uncounted_stops has tag octets room old too_long f h =
+    ((f, h.0), omega (arith, h.1, length-append (length_octets (length octets)) octets), λ before o. o)
+uncounted_stops has tag octets room old no_room f h = absurd h
+uncounted_stops has tag octets room old another f h = absurd h
+
+pub returns-in_err-length-clause-appends : goal.returns-in_err-length-clause-appends
+returns-in_err-length-clause-appends g c =
+    let p = err_from_is_err_and c.from_residual.result c.from_residual.ensures.1 in
+    let number = c.args.self.now.tag_number in
+    let s = g.T.Encoding.written (g.T.Encoding.value c.args.self.now.value.now) in
+    let stops = uncounted_stops (g.T.Encoding.valid s) (160 + number.value) (g.T.Encoding.printed s)
+    (g.W.Writer.room c.args.writer.now) (g.W.Writer.written c.args.writer.now) _ number.fits c.in_err-length.ensures.counted in
+    rw (p.1, p.2) (record { has = tt; written = tt; room = tt; left = stops })
+
+pub returns-in_err-length-clause-err : goal.returns-in_err-length-clause-err
+returns-in_err-length-clause-err g c =
+    stopped (numbered_writes_shortest g.T.Encoding.shortest) _ _ _ _ _ (returns-in_err-length-clause-appends g c).left
 
 pub returns-in_err-for_tlv-clause-appends : goal.returns-in_err-for_tlv-clause-appends
 returns-in_err-for_tlv-clause-appends g c =
