@@ -18,11 +18,11 @@ EXPORT = r'#\[unsafe\(no_mangle\)\]\s*pub extern "C" fn (\w+)(?:<[^>]*>)?\(.*?\)
 NOT_IN_RATTLE = {"types", "in", "key_in", "placed_in", "part"}
 # What says in Rattle what a word of ACSL does. Of `unchanged` it's the place in front of the call.
 SAYS = {
-    "status_of": "IsStatusOf", "write_status": "IsErrorOf", "written_len": "IsLength|Encodes",
+    "status_of": "IsStatusOf", "write_status": "IsErrorOf", "written_len": "IsShortestLength|Encodes",
     "written_octet": "Encodes",
     "public_key_of": "Holds key.new", "private_key_of": "DecodesPrivate", "listed_of": "DecodesPrivate",
     "count_of": "DecodesPrivate|ArePlaced", "lists_primes": "DecodesPrivate|primes_encoded", "other_of": "ArePlaced",
-    "info_of": "private_key_info info.new", "pss_of": "pss_seen params.new", "oaep_of": "oaep_seen params.new",
+    "info_of": "private_key_info_seen info.new", "pss_of": "pss_seen params.new", "oaep_of": "oaep_seen params.new",
     "tidy_info": "InfoIsTidy", "tidy_pss": "PssIsTidy", "tidy_oaep": "OaepIsTidy", "made_bytes": "source.now.parameters",
     "bit_len_of": "number_from_digits",
     "is_hash": "IsHash", "uses_hash": "UsesHash", "has_label": "LabelOf", "text_of": "status_text status",

@@ -1,14 +1,14 @@
 -- Documents, read and made.
 use Rattle.std.proofs.Common.{ℕ, List, ◌∷◌, ◌≡◌, ◌≤◌, length, take, ◌++◌, ◌∙◌, arith, refl, sym, subst, ap, ⊎_elim, Option, Err, [], map, Ok}
 use Rattle.std.proofs.Math.Seq.{take-append_seam}
-use Rattle.der_core.specs.Words.{AreBytes, Tlv, tlv, length_octets, limit, Means, IsDocument, GivesNone, Prints, read_document, GivesAll, NoValueOrMemory, AllocatesIn, TellsOfBytes, ErrorKind, length_octets-only, tlv_made, back_bytes, header_at, length_at, null, sequence}
+use Rattle.der_core.specs.Words.{AreBytes, Tlv, tlv, length_octets, limit, WithinLimit, IsDocument, GivesNone, Prints, read_document, GivesAll, NoValueOrMemory, AllocatesIn, TellsOfBytes, ErrorKind, length_octets-only, tlv_made, back_bytes, header_at, length_at, null_tag, sequence_tag}
 use Rattle.der_core.specs.declared.error.ErrorKind.TheVariants.{Incomplete, TagUnexpected, TrailingData}
 
 -- A document is one SEQUENCE of octets, as it is printed.
-abbrev pub Printed : Unit {0} → List ℕ → Type 0
-Printed = Prints AreBytes (λ o. tlv 48 o) (λ (_ : List ℕ). let v : Unit {0} = tt in v)
+abbrev pub DocumentPrints : Unit {0} → List ℕ → Type 0
+DocumentPrints = Prints AreBytes (λ o. tlv 48 o) (λ (_ : List ℕ). let v : Unit {0} = tt in v)
 
-document_means : (b : List ℕ) → IsDocument b → (v : Unit {0}) → Means Printed b v
+document_means : (b : List ℕ) → IsDocument b → (v : Unit {0}) → WithinLimit DocumentPrints v b
 document_means b (few, p) v = (
   few,
   (
@@ -20,13 +20,13 @@ document_means b (few, p) v = (
   ),
 )
 
-pub means_document : (b : List ℕ) (v : Unit {0}) → Means Printed b v → IsDocument b
+pub means_document : (b : List ℕ) (v : Unit {0}) → WithinLimit DocumentPrints v b → IsDocument b
 means_document b v (few, (o, e, bytes, is)) =
     (few, subst (Tlv 48 AreBytes) (sym is) (tlv_made 48 o bytes (omega (arith, few, ap length is))))
 
 -- Reading a SEQUENCE asks for no memory, so an error says that the bytes are no document.
 pub no_document : (e : ErrorKind) (b : List ℕ)
-    → NoValueOrMemory e (AllocatesIn (Tlv 48 (λ _. ⊥)) b) ((v : Unit {0}) → Means Printed b v → ⊥)
+    → NoValueOrMemory e (AllocatesIn (Tlv 48 (λ _. ⊥)) b) ((v : Unit {0}) → WithinLimit DocumentPrints v b → ⊥)
     → TellsOfBytes e × (IsDocument b → ⊥)
 no_document e b r = ⊎_elim (λ w. absurd w.1.3.holds) (λ w. (w.0, λ p. w.1 tt (document_means b p tt))) r
 
@@ -45,23 +45,23 @@ written_document tag contents is bytes fits = (
 )
 
 -- What is left of a region that was written over.
-pub written_over : (n : ℕ) (new rest encoding : List ℕ) → new ≡ encoding → n ≡ length encoding
+pub front_written_over : (n : ℕ) (new rest encoding : List ℕ) → new ≡ encoding → n ≡ length encoding
     → take n (new ++ rest) ≡ encoding
-written_over n new rest encoding e l = rw (e, l) (take-append_seam encoding rest)
+front_written_over n new rest encoding e l = rw (e, l) (take-append_seam encoding rest)
 
 -- Worked rows: 3000 and 30020500 are documents.
-documents : map read_document ((0x30 ∷ 0x00 ∷ []) ∷ (0x30 ∷ 0x02 ∷ 0x05 ∷ 0x00 ∷ []) ∷ []) ≡ Ok tt ∷ Ok tt ∷ []
+document_rows_read : map read_document ((0x30 ∷ 0x00 ∷ []) ∷ (0x30 ∷ 0x02 ∷ 0x05 ∷ 0x00 ∷ []) ∷ []) ≡ Ok tt ∷ Ok tt ∷ []
 unfolding header_at length_at
-documents = refl
+document_rows_read = refl
 
 -- 0500, 300000 and no bytes are none, each with the kind of its fault.
-abbrev faults : List (List ℕ × ErrorKind)
-faults =
-    (0x05 ∷ 0x00 ∷ [], TagUnexpected sequence null)
+abbrev document_faults : List (List ℕ × ErrorKind)
+document_faults =
+    (0x05 ∷ 0x00 ∷ [], TagUnexpected sequence_tag null_tag)
     ∷ (0x30 ∷ 0x00 ∷ 0x00 ∷ [], TrailingData)
     ∷ ([], Incomplete)
     ∷ []
 
-are_faults : map (λ row. read_document row.0) faults ≡ map (λ row. Err row.1) faults
+document_faults_read : map (λ row. read_document row.0) document_faults ≡ map (λ row. Err row.1) document_faults
 unfolding header_at length_at
-are_faults = refl
+document_faults_read = refl

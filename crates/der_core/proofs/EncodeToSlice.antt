@@ -17,10 +17,10 @@ use denote.FollowSlice.{finally-res}
 
 -- A slice whose last list is known rests at it.
 module _ {M : Type 1} {𝓤 : Ura M} (𝓛 : Logic 𝓤) where
-  pub rests : (s : MutBor (List ℕ)) (ys : List ℕ) (P : List ℕ → Type 0) → P ys
+  pub slice_rests_finally : (s : MutBor (List ℕ)) (ys : List ℕ) (P : List ℕ → Type 0) → P ys
       → ent 𝓤 (sem 𝓛 (finally u8 s.ghost_name ys)) (sem 𝓛 (SliceRests s P))
   unfolding such_by follows_by
-  rests s ys P p = qed 𝓛 (‵ (finally u8 s.ghost_name ys) ∷ []) ∵
+  slice_rests_finally s ys P p = qed 𝓛 (‵ (finally u8 s.ghost_name ys) ∷ []) ∵
       use1 𝓛 (‵ (fres s.ghost_name ((coded_list u8.coded).code ys))) (finally-res 𝓛 u8 s.ghost_name ys) $
       fpack ! ((t : (List ℕ → List ℕ) × List ℕ) × ((w : List ℕ) → ⊤) × P t.1)
       (λ t. follows_by (List ℕ) (List ℕ) (Array u8 0).coded.code (Array u8 0).coded.code s.ghost_name none t.0.0
@@ -31,11 +31,11 @@ abbrev pub Wrote : {E : Type 0} → List ℕ → List ℕ → List ℕ → Resul
 Wrote encoding xs ys r = IfOk r (λ n. (n ≡ length encoding) × (ys ≡ encoding ++ drop n xs))
 
 module _ {E : Type 0} (encoding xs ys : List ℕ) where
-  pub fits : (r : Result ℕ E) → Wrote encoding xs ys r → IfOk r (λ n. n ≤ length ys)
-  fits (Ok n) w =
+  pub written_fits : (r : Result ℕ E) → Wrote encoding xs ys r → IfOk r (λ n. n ≤ length ys)
+  written_fits (Ok n) w =
       let l : length ys ≡ length (encoding ++ drop n xs) =
       ap length w.1 in let k = length-append encoding (drop n xs) in let e = w.0 in omega arith
-  fits (Err e) w = tt
+  written_fits (Err e) w = tt
 
   pub leaves_rest : (r : Result ℕ E) (t : Result (Bor (List ℕ)) E) → Wrote encoding xs ys r → OnErr r (ys ≡ xs)
       → IsFront ys r t
@@ -45,28 +45,30 @@ module _ {E : Type 0} (encoding xs ys : List ℕ) where
   leaves_rest (Err e) (Ok front) w k a = absurd a
   leaves_rest (Err e) (Err e') w k a = k
 
-  pub on_front : (H : Type 0) (P : List ℕ → Type 0) → (H → P encoding) → (r : Result ℕ E) (t : Result (Bor (List ℕ)) E)
+  pub front_holds : (H : Type 0) (P : List ℕ → Type 0) → (H → P encoding)
+      → (r : Result ℕ E) (t : Result (Bor (List ℕ)) E)
       → Wrote encoding xs ys r → OnOk r H → IsFront ys r t → IfOk t (λ front. P front.now)
-  on_front H P f (Ok n) (Ok front) w h a =
+  front_holds H P f (Ok n) (Ok front) w h a =
       let seam =
       take-append_seam encoding (drop n xs) in subst P (sym (a ∙ ap (λ l. take n l) w.1 ∙ (rw (sym w.0) at seam))) (f h)
-  on_front H P f (Ok n) (Err e) w h a = absurd a
-  on_front H P f (Err e) (Ok front) w h a = absurd a
-  on_front H P f (Err e) (Err e') w h a = tt
+  front_holds H P f (Ok n) (Err e) w h a = absurd a
+  front_holds H P f (Err e) (Ok front) w h a = absurd a
+  front_holds H P f (Err e) (Err e') w h a = tt
 
-  pub within : length ys ≡ length xs → (r : Result ℕ E) (t : Result (Bor (List ℕ)) E) → IsFront ys r t
+  pub front_within : length ys ≡ length xs → (r : Result ℕ E) (t : Result (Bor (List ℕ)) E) → IsFront ys r t
       → IfOk t (λ front. length front.now ≤ length xs)
-  within l (Ok n) (Ok front) a = rw a (omega (arith, length-take n ys))
-  within l (Ok n) (Err e) a = absurd a
-  within l (Err e) (Ok front) a = absurd a
-  within l (Err e) (Err e') a = tt
+  front_within l (Ok n) (Ok front) a = rw a (omega (arith, length-take n ys))
+  front_within l (Ok n) (Err e) a = absurd a
+  front_within l (Err e) (Ok front) a = absurd a
+  front_within l (Err e) (Err e') a = tt
 
-pub on_error : {E : Type 0} (ys : List ℕ) (Q : E → Type 0) (r : Result ℕ E) (t : Result (Bor (List ℕ)) E) → IfErr r Q
+pub front_error_kept : {E : Type 0} (ys : List ℕ) (Q : E → Type 0) (r : Result ℕ E) (t : Result (Bor (List ℕ)) E)
+    → IfErr r Q
     → IsFront ys r t → IfErr t Q
-on_error ys Q (Ok n) (Ok front) h a = tt
-on_error ys Q (Ok n) (Err e) h a = absurd a
-on_error ys Q (Err e) (Ok front) h a = absurd a
-on_error ys Q (Err e) (Err e') h a = subst Q (sym a) h
+front_error_kept ys Q (Ok n) (Ok front) h a = tt
+front_error_kept ys Q (Ok n) (Err e) h a = absurd a
+front_error_kept ys Q (Err e) (Ok front) h a = absurd a
+front_error_kept ys Q (Err e) (Err e') h a = subst Q (sym a) h
 
 pub front_refused : {Tags : Tag → Type 0} (ys : List ℕ) (r : Result ℕ Error) (t : Result (Bor (List ℕ)) Error)
     → RefusedAs Tags r → IsFront ys r t → RefusedAs Tags t

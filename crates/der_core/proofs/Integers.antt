@@ -1,6 +1,6 @@
 -- INTEGER: faults of its contents, worked examples, its length, bit lengths, numbers above 255.
 use Rattle.std.proofs.Common.{take_all, ℕ, suc, List, [], ◌∷◌, ◌≡◌, ◌<◌, ◌≤◌, ◌-◌, length, get_or, take, drop, arith, sym, ap, ◌∙◌, Err, true, false, nat_lt, ◌==◌, map, refl, Ok, ◌+◌, Result, IfOk, IfErr, slice_index, zero, ◌*◌, ◌^◌, inl, inr, lit<, mul-le-mul_right, zero-le, pow-add}
-use Rattle.der_core.specs.Words.{HoldsNumber, nat_tests, Tag, ErrorKind, integer_of, integer, same_tag, limit, number_from_digits, integer_contents, contents_as, number_contents, holds_canonical, Counts, Error, IsBitLength, are_bytes, after_ge, base256_ge, small_of}
+use Rattle.der_core.specs.Words.{HoldsNumber, nat_tests, Tag, ErrorKind, integer_of, integer_tag, same_tag, limit, number_from_digits, integer_contents, number_contents_as, number_contents, holds_canonical, Counts, Error, IsBitLength, are_bytes, after_ge, base256_ge, small_of}
 use Rattle.der_core.specs.declared.error.ErrorKind.TheVariants as kind
 use Rattle.der_core.specs.declared.error.ErrorKind.TheVariants.{Length, Noncanonical, Value, Overflow}
 use Rattle.std.proofs.Math.Nat.{pow-suc, pow-le-pow_right}
@@ -11,46 +11,48 @@ use Rattle.std.specs.Int.Count.{count_leading_zeros, leading_of_zero}
 use Rattle.std.proofs.lemmas.Int.Digits.{number_after_lt}
 
 -- What is left behind a padding zero.
-pub tail_holds : (xs : List ℕ) → 2 ≤ length xs → 128 ≤ get_or xs 1 0 → ((i : ℕ) → get_or xs i 0 < 256)
+pub tail_holds_number : (xs : List ℕ) → 2 ≤ length xs → 128 ≤ get_or xs 1 0 → ((i : ℕ) → get_or xs i 0 < 256)
     → HoldsNumber (take (length xs - 1) (drop 1 xs))
-tail_holds [] n h b = absurd (omega (arith, n))
-tail_holds (x ∷ []) n h b = absurd (omega (arith, n))
-tail_holds (x ∷ y ∷ ys) n h b =
+tail_holds_number [] n h b = absurd (omega (arith, n))
+tail_holds_number (x ∷ []) n h b = absurd (omega (arith, n))
+tail_holds_number (x ∷ y ∷ ys) n h b =
     let e : take (length (x ∷ y ∷ ys) - 1) (y ∷ ys) ≡ y ∷ ys =
     take_all (length (x ∷ y ∷ ys) - 1) (y ∷ ys) (omega arith) in
     rw e (omega arith, (λ _. omega (arith, h)), λ i. b (suc i))
 
 -- The faults of the contents of an INTEGER, as its reader meets them.
-pub is_empty : (xs : List ℕ) (k : ErrorKind) (t : Tag) → length xs < 1 → k ≡ kind.Length t → t.octet ≡ 2
+pub integer_of_empty : (xs : List ℕ) (k : ErrorKind) (t : Tag) → length xs < 1 → k ≡ kind.Length t → t.octet ≡ 2
     → integer_of xs ≡ Err k
-is_empty [] k t n e o = ap (λ x. Err x) (sym (e ∙ ap kind.Length (same_tag t integer o)))
-is_empty (x ∷ xs) k t n e o = absurd (omega (arith, n))
+integer_of_empty [] k t n e o = ap (λ x. Err x) (sym (e ∙ ap kind.Length (same_tag t integer_tag o)))
+integer_of_empty (x ∷ xs) k t n e o = absurd (omega (arith, n))
 
-pub is_negative : (xs : List ℕ) (k : ErrorKind) (t : Tag) → 1 ≤ length xs → 128 ≤ get_or xs 0 0 → k ≡ kind.Value t
+pub integer_of_negative : (xs : List ℕ) (k : ErrorKind) (t : Tag) → 1 ≤ length xs → 128 ≤ get_or xs 0 0
+    → k ≡ kind.Value t
     → t.octet ≡ 2 → integer_of xs ≡ Err k
-is_negative [] k t n h e o = absurd (omega (arith, n))
-is_negative (x ∷ []) k t n h e o =
+integer_of_negative [] k t n h e o = absurd (omega (arith, n))
+integer_of_negative (x ∷ []) k t n h e o =
     let big : nat_lt x 128 ≡ false = grind (arith, nat_tests, h) in
-    rw big (ap (λ x. Err x) (sym (e ∙ ap kind.Value (same_tag t integer o))))
-is_negative (x ∷ y ∷ ys) k t n h e o =
+    rw big (ap (λ x. Err x) (sym (e ∙ ap kind.Value (same_tag t integer_tag o))))
+integer_of_negative (x ∷ y ∷ ys) k t n h e o =
     let big : nat_lt x 128 ≡ false = grind (arith, nat_tests, h) in
-    rw big (ap (λ x. Err x) (sym (e ∙ ap kind.Value (same_tag t integer o))))
+    rw big (ap (λ x. Err x) (sym (e ∙ ap kind.Value (same_tag t integer_tag o))))
 
-pub is_padded : (xs : List ℕ) (k : ErrorKind) (t : Tag) → 2 ≤ length xs → get_or xs 0 0 ≡ 0 → get_or xs 1 0 < 128
+pub integer_of_padded : (xs : List ℕ) (k : ErrorKind) (t : Tag) → 2 ≤ length xs → get_or xs 0 0 ≡ 0
+    → get_or xs 1 0 < 128
     → k ≡ kind.Noncanonical t → t.octet ≡ 2 → integer_of xs ≡ Err k
-is_padded [] k t n z h e o = absurd (omega (arith, n))
-is_padded (x ∷ []) k t n z h e o = absurd (omega (arith, n))
-is_padded (x ∷ y ∷ ys) k t n z h e o =
+integer_of_padded [] k t n z h e o = absurd (omega (arith, n))
+integer_of_padded (x ∷ []) k t n z h e o = absurd (omega (arith, n))
+integer_of_padded (x ∷ y ∷ ys) k t n z h e o =
     let less : nat_lt x 128 ≡ true = grind (arith, nat_tests, z) in
     let zero : (x == 0) ≡ true = grind (arith, nat_tests, z) in
     let low : nat_lt y 128 ≡ true = grind (arith, nat_tests, h) in
-    rw (less, zero, low) (ap (λ x. Err x) (sym (e ∙ ap kind.Noncanonical (same_tag t integer o))))
+    rw (less, zero, low) (ap (λ x. Err x) (sym (e ∙ ap kind.Noncanonical (same_tag t integer_tag o))))
 
 -- == Worked rows: contents octets, with the octets of the number or the kind of the fault ==
 
 -- 07, 7f, 0080, 0080ff, 00
-abbrev numbers : List (List ℕ × List ℕ)
-numbers =
+abbrev integer_rows : List (List ℕ × List ℕ)
+integer_rows =
     (0x07 ∷ [], 0x07 ∷ [])
     ∷ (0x7f ∷ [], 0x7f ∷ [])
     ∷ (0x00 ∷ 0x80 ∷ [], 0x80 ∷ [])
@@ -58,60 +60,65 @@ numbers =
     ∷ (0x00 ∷ [], 0x00 ∷ [])
     ∷ []
 
-are_numbers : map (λ row. integer_of row.0) numbers ≡ map (λ row. Ok row.1) numbers
-are_numbers = refl
+integer_rows_read : map (λ row. integer_of row.0) integer_rows ≡ map (λ row. Ok row.1) integer_rows
+integer_rows_read = refl
 
 -- No contents; 80, below zero; 0007 and 0000, padded.
-abbrev faults : List (List ℕ × ErrorKind)
-faults =
-    ([], Length integer)
-    ∷ (0x80 ∷ [], Value integer)
-    ∷ (0x00 ∷ 0x07 ∷ [], Noncanonical integer)
-    ∷ (0x00 ∷ 0x00 ∷ [], Noncanonical integer)
+abbrev integer_faults : List (List ℕ × ErrorKind)
+integer_faults =
+    ([], Length integer_tag)
+    ∷ (0x80 ∷ [], Value integer_tag)
+    ∷ (0x00 ∷ 0x07 ∷ [], Noncanonical integer_tag)
+    ∷ (0x00 ∷ 0x00 ∷ [], Noncanonical integer_tag)
     ∷ []
 
-are_faults : map (λ row. integer_of row.0) faults ≡ map (λ row. Err row.1) faults
-are_faults = refl
+integer_faults_read : map (λ row. integer_of row.0) integer_faults ≡ map (λ row. Err row.1) integer_faults
+integer_faults_read = refl
 
 -- The length of the contents of an INTEGER.
-pub length_small : (bytes : List ℕ) → slice_index bytes 0 < 128 → length bytes + 0 ≡ length (integer_contents bytes)
-length_small bytes h = let e : nat_lt (slice_index bytes 0) 128 ≡ true = grind (arith, nat_tests) in rw e (omega arith)
+pub contents_length_small : (bytes : List ℕ) → slice_index bytes 0 < 128
+    → length bytes + 0 ≡ length (integer_contents bytes)
+contents_length_small bytes h =
+    let e : nat_lt (slice_index bytes 0) 128 ≡ true = grind (arith, nat_tests) in rw e (omega arith)
 
-pub length_large : (bytes : List ℕ) → 128 ≤ slice_index bytes 0 → length bytes + 1 ≡ length (integer_contents bytes)
-length_large bytes h = let e : nat_lt (slice_index bytes 0) 128 ≡ false = grind (arith, nat_tests) in rw e (omega arith)
+pub contents_length_large : (bytes : List ℕ) → 128 ≤ slice_index bytes 0
+    → length bytes + 1 ≡ length (integer_contents bytes)
+contents_length_large bytes h =
+    let e : nat_lt (slice_index bytes 0) 128 ≡ false = grind (arith, nat_tests) in rw e (omega arith)
 
 pub counts_integer : (bytes : List ℕ) (r : Result ℕ Error) (n : ℕ) → HoldsNumber bytes
     → n ≡ length (integer_contents bytes)
     → IfOk r (λ m. (m ≡ n) × (n ≤ limit)) → IfErr r (λ e. (e.kind ≡ Overflow) × (limit < n))
     → Counts (Unit {0}) (number_contents (number_from_digits 256 bytes)) r
 counts_integer bytes (Ok m) n h e ok err =
-    let is = ap length (contents_as bytes (holds_canonical bytes h)) in (tt, omega (arith, ok, e, is), omega (arith, ok))
+    let is = ap length (number_contents_as bytes (holds_canonical bytes h)) in (tt, omega (arith, ok, e, is), omega (arith, ok))
 counts_integer bytes (Err f) n h e ok err =
-    let is = ap length (contents_as bytes (holds_canonical bytes h)) in rw err.0 (tt, omega (arith, err.1, e, is))
+    let is = ap length (number_contents_as bytes (holds_canonical bytes h)) in rw err.0
+    (tt, omega (arith, err.1, e, is))
 
 -- The bit length of a number is that of its first byte, and eight bits for each other one.
-bits_of_bytes : (k : ℕ) → 256 ^ k ≡ 2 ^ (8 * k)
-bits_of_bytes zero = refl
-bits_of_bytes (suc k) =
+power_of_256_in_bits : (k : ℕ) → 256 ^ k ≡ 2 ^ (8 * k)
+power_of_256_in_bits zero = refl
+power_of_256_in_bits (suc k) =
     let e : 8 * suc k ≡ 8 * k + 8 = omega arith in
-    rw (e, pow-suc 256 k, pow-add 2 (8 * k) 8, bits_of_bytes k) refl
+    rw (e, pow-suc 256 k, pow-add 2 (8 * k) 8, power_of_256_in_bits k) refl
 
 -- Of a first byte with j + 1 bits, and k bytes behind it.
-behind_first : (first j k n : ℕ) → 2 ^ j ≤ first → first < 2 ^ suc j → first * 256 ^ k ≤ n
+bit_length_from_first : (first j k n : ℕ) → 2 ^ j ≤ first → first < 2 ^ suc j → first * 256 ^ k ≤ n
     → n < (first + 1) * 256 ^ k
     → IsBitLength n (suc j + 8 * k)
-behind_first first j k n low high least most = (below, fewest)
+bit_length_from_first first j k n low high least most = (below, fewest)
   where
     top : (first + 1) * 256 ^ k ≤ 2 ^ suc j * 256 ^ k
     top = mul-le-mul_right (256 ^ k) (omega arith)
 
     below : n < 2 ^ (suc j + 8 * k)
-    below = rw (pow-add 2 (suc j) (8 * k), ← bits_of_bytes k) (omega (arith, top))
+    below = rw (pow-add 2 (suc j) (8 * k), ← power_of_256_in_bits k) (omega (arith, top))
 
     bottom : 2 ^ (j + 8 * k) ≤ n
     bottom =
         let least' : 2 ^ j * 256 ^ k ≤ first * 256 ^ k = mul-le-mul_right (256 ^ k) low in
-        rw (pow-add 2 j (8 * k), ← bits_of_bytes k) (omega arith)
+        rw (pow-add 2 j (8 * k), ← power_of_256_in_bits k) (omega arith)
 
     fewest : (fewer : ℕ) → n < 2 ^ fewer → suc j + 8 * k ≤ fewer
     fewest fewer h = elim (cases_lt fewer (suc j + 8 * k)) [
@@ -119,12 +126,12 @@ behind_first first j k n low high least most = (below, fewest)
       | inr l ↦ l
     ]
 
-pub bit_length : (bytes : List ℕ) → HoldsNumber bytes
+pub number_bit_length : (bytes : List ℕ) → HoldsNumber bytes
     → IsBitLength (number_from_digits 256 bytes) (8 * length bytes - count_leading_zeros 8 (slice_index bytes 0))
-bit_length [] h = absurd (omega (arith, h.0))
-bit_length (zero ∷ []) h = rw (leading_of_zero 8) (lit< tt, λ fewer l. zero-le)
-bit_length (zero ∷ y ∷ ys) h = absurd (omega (arith, h.1))
-bit_length (suc x ∷ rest) h =
+number_bit_length [] h = absurd (omega (arith, h.0))
+number_bit_length (zero ∷ []) h = rw (leading_of_zero 8) (lit< tt, λ fewer l. zero-le)
+number_bit_length (zero ∷ y ∷ ys) h = absurd (omega (arith, h.1))
+number_bit_length (suc x ∷ rest) h =
     let first : ℕ = 0 * 256 + suc x in
     let top = leading_top 8 (suc x) (omega arith) (h.2 0) in
     let least : first * 256 ^ length rest ≤ number_from_digits 256 (suc x ∷ rest) = after_ge first rest in
@@ -134,14 +141,14 @@ bit_length (suc x ∷ rest) h =
     omega (arith, top.1) in
     let low : 2 ^ top.0 ≤ first = omega (arith, top.2) in
     let high : first < 2 ^ suc top.0 = omega (arith, top.3) in
-    rw (sym bits) (behind_first first top.0 (length rest) _ low high least most)
+    rw (sym bits) (bit_length_from_first first top.0 (length rest) _ low high least most)
 
 -- == An INTEGER above 255 is no number from 0 to 255 ==
 
 -- More than one canonical byte is more than 255.
-large : (bytes : List ℕ) → HoldsNumber bytes → 1 < length bytes → 256 ≤ number_from_digits 256 bytes
-large [] h l = absurd (omega arith)
-large (x ∷ xs) h l =
+number_of_bytes_large : (bytes : List ℕ) → HoldsNumber bytes → 1 < length bytes → 256 ≤ number_from_digits 256 bytes
+number_of_bytes_large [] h l = absurd (omega arith)
+number_of_bytes_large (x ∷ xs) h l =
     let first : 0 < x = h.1 l in
     let ge : 256 ^ length xs ≤ number_from_digits 256 (x ∷ xs) =
     base256_ge (number_from_digits 256 (x ∷ xs)) xs x first refl in
@@ -150,9 +157,9 @@ large (x ∷ xs) h l =
     let up : 256 ^ 1 ≤ 256 ^ length xs = pow-le-pow_right positive one in
     omega arith
 
-pub is_large : (xs bytes : List ℕ) (k : ErrorKind) (t : Tag) → integer_of xs ≡ Ok bytes → HoldsNumber bytes
+pub small_of_large : (xs bytes : List ℕ) (k : ErrorKind) (t : Tag) → integer_of xs ≡ Ok bytes → HoldsNumber bytes
     → 1 < length bytes → k ≡ kind.Value t → t.octet ≡ 2 → small_of xs ≡ Err k
-is_large xs bytes k t read h l e o =
-    let big : 256 ≤ number_from_digits 256 bytes = large bytes h l in
+small_of_large xs bytes k t read h l e o =
+    let big : 256 ≤ number_from_digits 256 bytes = number_of_bytes_large bytes h l in
     let test : nat_lt (number_from_digits 256 bytes) 256 ≡ false = grind (arith, nat_tests) in
-    rw (read, test) (ap (λ x. Err x) (sym (e ∙ ap kind.Value (same_tag t integer o))))
+    rw (read, test) (ap (λ x. Err x) (sym (e ∙ ap kind.Value (same_tag t integer_tag o))))

@@ -55,8 +55,8 @@ pub ruleset known_lengths = (length_octets-short, length_octets-1, length_octets
 -- == Worked rows: length octets, with the length and the octets behind it, or the kind of the fault ==
 
 -- 7f, 8180, 81ff, 820100, 82ffff, 83010000, 8401000000, 840fffffff, 84ffffffff
-abbrev lengths : List (List ℕ × ℕ)
-lengths =
+abbrev length_rows : List (List ℕ × ℕ)
+length_rows =
     (0x7f ∷ [], 127)
     ∷ (0x81 ∷ 0x80 ∷ [], 128)
     ∷ (0x81 ∷ 0xff ∷ [], 255)
@@ -68,14 +68,15 @@ lengths =
     ∷ (0x84 ∷ 0xff ∷ 0xff ∷ 0xff ∷ 0xff ∷ [], 4294967295)
     ∷ []
 
-are_lengths : map (λ row. length_at row.0) lengths ≡ map (λ row. let p : ℕ × List ℕ = (row.1, []) in Ok p) lengths
+length_rows_read : map (λ row. length_at row.0) length_rows
+    ≡ map (λ row. let p : ℕ × List ℕ = (row.1, []) in Ok p) length_rows
 unfolding length_at
-are_lengths = refl
+length_rows_read = refl
 
 -- 817f, 8100, 820080: a shorter form would do. 80: indefinite. 8201, and no octets: some are missing. 8501, ff: more
 -- octets than lengths within the limit have.
-abbrev faults : List (List ℕ × ErrorKind)
-faults =
+abbrev length_faults : List (List ℕ × ErrorKind)
+length_faults =
     (0x81 ∷ 0x7f ∷ [], Overlength)
     ∷ (0x81 ∷ 0x00 ∷ [], Overlength)
     ∷ (0x82 ∷ 0x00 ∷ 0x80 ∷ [], Overlength)
@@ -86,9 +87,9 @@ faults =
     ∷ (0xff ∷ [], Overflow)
     ∷ []
 
-are_faults : map (λ row. length_at row.0) faults ≡ map (λ row. Err row.1) faults
+length_faults_read : map (λ row. length_at row.0) length_faults ≡ map (λ row. Err row.1) length_faults
 unfolding length_at
-are_faults = refl
+length_faults_read = refl
 
 -- == The functions that read lengths and headers read their grammars, and nothing else ==
 

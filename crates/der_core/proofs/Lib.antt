@@ -2,7 +2,7 @@ pub mod Integers
 pub mod Documents
 pub mod EncodeToSlice
 pub mod Lengths
-pub mod Compared
+pub mod ErrorEquality
 pub mod Items
 pub mod ReadSteps
 pub mod Writing

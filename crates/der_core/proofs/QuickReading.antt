@@ -1,22 +1,23 @@
 -- Quick reading: what it takes is what the functions of reading give.
 use Rattle.std.proofs.Common.{ℕ, suc, true, false, List, [], ◌∷◌, ◌≡◌, ◌≤◌, ◌<◌, ◌-◌, ◌+◌, ◌*◌, length, take, drop, refl, sym, ap, ◌∙◌, arith, Ok, Option, Some, None, slice_index_or, take_all, ⊎_elim, nat_lt, ◌==◌, MatchOption, IfSome}
-use Rattle.der_core.specs.Words.{nat_tests, number_from_digits, Tag, front_of, header_at, length_at, HoldsNumber, ok_pair, chosen, length_at-complete, bind_ok, unexpected_not, IsBase256, IsLength, short, long, Reading, ◌>>=◌, by_tag, contents_behind, inside, octets_of_all, tagged, is_allowed}
+use Rattle.der_core.specs.Words.{nat_tests, number_from_digits, Tag, front_of, header_at, length_at, HoldsNumber, ok_pair, cond_cases, length_at-complete, bind_ok, unexpected_not, IsBase256, IsLength, short, long, Reading, ◌>>=◌, by_tag, contents_behind, inside, octets_of_all, tagged, is_allowed}
 use Rattle.std.specs.List.{IsSplitAt}
 
 -- Length octets: one, and one or two behind the first.
-pub one_octet : (b rest : List ℕ) (n : ℕ) → 1 ≤ length b → n ≡ slice_index_or b 0 0 → slice_index_or b 0 0 < 128
+pub length_at_one_octet : (b rest : List ℕ) (n : ℕ) → 1 ≤ length b → n ≡ slice_index_or b 0 0
+    → slice_index_or b 0 0 < 128
     → rest ≡ take (length b - 1) (drop 1 b) → length_at b ≡ Ok (n, rest)
-one_octet [] rest n l is small r = absurd (omega (arith, l))
-one_octet (x ∷ xs) rest n l is small r =
+length_at_one_octet [] rest n l is small r = absurd (omega (arith, l))
+length_at_one_octet (x ∷ xs) rest n l is small r =
     let all : take (length (x ∷ xs) - 1) xs ≡ xs = take_all _ xs (omega arith) in
     rw (is, r, all) (length_at-complete x (x ∷ []) xs (short small refl) (omega (arith, small)))
 
-pub two_octets : (b rest : List ℕ) (n : ℕ) → 2 ≤ length b → ((i : ℕ) → slice_index_or b i 0 < 256)
+pub length_at_two_octets : (b rest : List ℕ) (n : ℕ) → 2 ≤ length b → ((i : ℕ) → slice_index_or b i 0 < 256)
     → slice_index_or b 0 0 ≡ 129 → 128 ≤ slice_index_or b 1 0 → n ≡ slice_index_or b 1 0
     → rest ≡ take (length b - 2) (drop 2 b) → length_at b ≡ Ok (n, rest)
-two_octets [] rest n l bytes f high is r = absurd (omega (arith, l))
-two_octets (x ∷ []) rest n l bytes f high is r = absurd (omega (arith, l))
-two_octets (x ∷ y ∷ ys) rest n l bytes f high is r =
+length_at_two_octets [] rest n l bytes f high is r = absurd (omega (arith, l))
+length_at_two_octets (x ∷ []) rest n l bytes f high is r = absurd (omega (arith, l))
+length_at_two_octets (x ∷ y ∷ ys) rest n l bytes f high is r =
     let all : take (length (x ∷ y ∷ ys) - 2) ys ≡ ys = take_all _ ys (omega arith) in
     let value : number_from_digits 256 (y ∷ []) ≡ y = omega arith in
     let base : IsBase256 y (y ∷ []) =
@@ -24,14 +25,14 @@ two_octets (x ∷ y ∷ ys) rest n l bytes f high is r =
     let counted : IsLength y (129 ∷ y ∷ []) = long (y ∷ []) high (omega arith) base refl in
     rw (f, is, r, all) (length_at-complete y (129 ∷ y ∷ []) ys counted (omega (arith, bytes 1)))
 
-pub three_octets : (b rest : List ℕ) (n : ℕ) → 3 ≤ length b → ((i : ℕ) → slice_index_or b i 0 < 256)
+pub length_at_three_octets : (b rest : List ℕ) (n : ℕ) → 3 ≤ length b → ((i : ℕ) → slice_index_or b i 0 < 256)
     → slice_index_or b 0 0 ≡ 130 → 0 < slice_index_or b 1 0
     → n ≡ slice_index_or b 1 0 * 256 + slice_index_or b 2 0
     → rest ≡ take (length b - 3) (drop 3 b) → length_at b ≡ Ok (n, rest)
-three_octets [] rest n l bytes f high is r = absurd (omega (arith, l))
-three_octets (x ∷ []) rest n l bytes f high is r = absurd (omega (arith, l))
-three_octets (x ∷ y ∷ []) rest n l bytes f high is r = absurd (omega (arith, l))
-three_octets (x ∷ y ∷ z ∷ zs) rest n l bytes f high is r =
+length_at_three_octets [] rest n l bytes f high is r = absurd (omega (arith, l))
+length_at_three_octets (x ∷ []) rest n l bytes f high is r = absurd (omega (arith, l))
+length_at_three_octets (x ∷ y ∷ []) rest n l bytes f high is r = absurd (omega (arith, l))
+length_at_three_octets (x ∷ y ∷ z ∷ zs) rest n l bytes f high is r =
     let all : take (length (x ∷ y ∷ z ∷ zs) - 3) zs ≡ zs = take_all _ zs (omega arith) in
     let m : ℕ = y * 256 + z in
     let value : number_from_digits 256 (y ∷ z ∷ []) ≡ y * 256 + z = omega arith in
@@ -43,10 +44,10 @@ three_octets (x ∷ y ∷ z ∷ zs) rest n l bytes f high is r =
     (length_at-complete (y * 256 + z) (130 ∷ y ∷ z ∷ []) zs counted (omega (arith, bytes 1, bytes 2)))
 
 -- A tag, a length, and contents that are split there.
-header_is : (t n : ℕ) (b rest : List ℕ) → is_allowed t ≡ true → length_at b ≡ Ok (n, rest)
+header_at_length : (t n : ℕ) (b rest : List ℕ) → is_allowed t ≡ true → length_at b ≡ Ok (n, rest)
     → header_at (t ∷ b) ≡ Ok ((t, n), rest)
 unfolding header_at
-header_is t n b rest allowed read = rw (allowed, read) refl
+header_at_length t n b rest allowed read = rw (allowed, read) refl
 
 split_there : (tag : Tag) (n : ℕ) (b front back : List ℕ) → IsSplitAt b n front back
     → contents_behind tag ((tag.octet, n), b) ≡ Ok (front, back)
@@ -63,7 +64,7 @@ tag_in_front tag n (x ∷ xs) behind rest front back l t is read s =
     let all : take (length (x ∷ xs) - 1) xs ≡ xs = take_all _ xs (omega arith) in
     let read_there : length_at xs ≡ Ok (n, rest) = rw (is ∙ all) at read in
     let header : header_at (x ∷ xs) ≡ Ok ((tag.octet, n), rest) =
-    rw t (header_is tag.octet n xs rest tag.allowed read_there) in
+    rw t (header_at_length tag.octet n xs rest tag.allowed read_there) in
     ap (λ r. r >>= λ h. contents_behind tag h >>= inside octets_of_all) header
     ∙ ap (λ r. r >>= inside octets_of_all) (split_there tag n rest front back s)
 
@@ -86,7 +87,7 @@ module _ {X : Type 0} (none : Type 0) (front back : X → List ℕ) (tag : Tag) 
       let same : take (length (x ∷ y ∷ ys) - 2) ys ≡ take (length (y ∷ ys) - 1) ys =
       take_all _ ys (omega arith) ∙ sym (take_all _ ys (omega arith)) in
       split_found y (x ∷ y ∷ ys) (y ∷ ys) (take (length (x ∷ y ∷ ys) - 2) ys) (omega arith) t (sym all)
-      (one_octet (y ∷ ys) _ y (omega arith) refl small same) r s
+      (length_at_one_octet (y ∷ ys) _ y (omega arith) refl small same) r s
 
   pub two_found : (b c : List ℕ) → 2 ≤ length b → ((i : ℕ) → slice_index_or b i 0 < 256)
       → slice_index_or b 0 0 ≡ tag.octet → c ≡ take (length b - 2) (drop 2 b) → 1 ≤ length c
@@ -102,7 +103,8 @@ module _ {X : Type 0} (none : Type 0) (front back : X → List ℕ) (tag : Tag) 
       let same : take (length c - 1) (drop 1 c) ≡ take (length (y ∷ ys) - 2) (drop 1 ys) =
       rw whole (ap (λ k. take k (drop 1 ys)) (omega (arith, some))) in
       split_found (slice_index_or c 0 0) (x ∷ y ∷ ys) (y ∷ ys) (take (length c - 1) (drop 1 c)) (omega arith) t (sym all)
-      (two_octets (y ∷ ys) _ (slice_index_or c 0 0) (omega (arith, some)) (λ i. bytes (suc i)) f (rw whole at high)
+      (length_at_two_octets (y ∷ ys) _ (slice_index_or c 0 0) (omega (arith, some)) (λ i. bytes (suc i)) f
+      (rw whole at high)
       (ap (λ z. slice_index_or z 0 0) whole) same) r s
 
   pub three_found : (b c : List ℕ) → 2 ≤ length b → ((i : ℕ) → slice_index_or b i 0 < 256)
@@ -120,7 +122,7 @@ module _ {X : Type 0} (none : Type 0) (front back : X → List ℕ) (tag : Tag) 
       let same : take (length c - 2) (drop 2 c) ≡ take (length (y ∷ ys) - 3) (drop 2 ys) =
       rw whole (ap (λ k. take k (drop 2 ys)) (omega (arith, some))) in
       split_found _ (x ∷ y ∷ ys) (y ∷ ys) (take (length c - 2) (drop 2 c)) (omega arith) t (sym all)
-      (three_octets (y ∷ ys) _ _ (omega (arith, some)) (λ i. bytes (suc i)) f (rw whole at high)
+      (length_at_three_octets (y ∷ ys) _ _ (omega (arith, some)) (λ i. bytes (suc i)) f (rw whole at high)
       (ap (λ z. slice_index_or z 0 0 * 256 + slice_index_or z 1 0) whole) same) r s
 
 -- The contents are read as a value.
@@ -139,7 +141,7 @@ tag_there : (tag : Tag) (h : (ℕ × ℕ) × List ℕ) (p : List ℕ × List ℕ
     → (h.0.0 ≡ tag.octet) × (front_of h.0.1 h.1 ≡ Ok p)
 tag_there tag h p e =
     ⊎_elim (λ w. let same : h.0.0 ≡ tag.octet = grind (arith, nat_tests, w.0) in (same, w.1))
-    (λ w. absurd (unexpected_not tag h.0.0 p w.1)) (chosen (h.0.0 == tag.octet) _ _ _ e)
+    (λ w. absurd (unexpected_not tag h.0.0 p w.1)) (cond_cases (h.0.0 == tag.octet) _ _ _ e)
 
 pub read_by_tag : {V : Type 0} (tag : Tag) (read : ℕ → Reading V) (b front back : List ℕ) (v : V)
     → tagged tag octets_of_all b ≡ Ok (front, back) → read tag.octet front ≡ Ok v → by_tag read b ≡ Ok (v, back)

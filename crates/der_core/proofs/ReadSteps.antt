@@ -1,11 +1,11 @@
 -- Reading with `?`: each step of the code is one lemma.
 use Rattle.std.proofs.Common.{ℕ, Bool, true, false, List, [], ◌∷◌, ◌++◌, ◌≡◌, ◌≢◌, ◌≤◌, ◌==◌, length, take, drop, refl, sym, ap, ◌∙◌, arith, inl, inr, ⊎_elim, append_assoc, length-take, append-nil, take_all, Result, Ok, Err, Some, None, take-append-drop, nat_lt, not, eqb, if◌then◌else◌, IfOk, IfErr}
-use Rattle.der_core.specs.Words.{nat_tests, Error, ErrorKind, Tag, Means, AreBytes, Input, left_in, read_from, header_at, inner_of, end_of, front_of, small_of, header_at-sound, ok_pair, chosen, limit, AllocatesInParts, ReadsPrinted, AllocatesIn, Asks, FaultOrMemory, Returns, ReadsAll, Reading, FrontReading, ◌>>=◌, chain, ended, expected, front_parts, parts, such, alone, tagged, contents_behind, inside, whole, ReadsContents, ReadsFronts, integer, Tlv}
+use Rattle.der_core.specs.Words.{nat_tests, Error, ErrorKind, Tag, WithinLimit, AreBytes, Input, left_in, read_from, header_at, inner_of, end_of, front_of, small_of, header_at-sound, ok_pair, cond_cases, limit, AllocatesInParts, ReadsPrinted, AllocatesIn, Asks, FaultOrMemory, Returns, ReadsAll, Reading, FrontReading, ◌>>=◌, chain, ended, expected, front_parts, parts, such, alone, tagged, contents_behind, inside, whole, ReadsContents, ReadsFronts, integer_tag, Tlv}
 use Rattle.der_core.specs.declared.error.ErrorKind.TheVariants.{OutOfMemory, TagUnexpected, Value}
-use Rattle.der_core.proofs.Readings.{other_behind}
+use Rattle.der_core.proofs.Readings.{contents_behind_other_tag}
 
-pub some_same : (a b : List ℕ) (e : ◌≡◌ {A = Input} (Some a) (Some b)) → a ≡ b
-some_same a b e = cc
+pub input_injective : (a b : List ℕ) (e : ◌≡◌ {A = Input} (Some a) (Some b)) → a ≡ b
+input_injective a b e = cc
 
 -- What a call ensures of an error, and of a value with what is left.
 abbrev pub Fails : {R : Type 0} → Reading R → (List ℕ → Type 0) → ErrorKind → Input → Input → Type 0
@@ -15,14 +15,14 @@ abbrev pub Gives : {V : Type 0} → FrontReading V → V → Input → Input →
 Gives at v before after = (rest : List ℕ) × (read_from before at ≡ Ok (v, rest)) × (after ≡ Some rest)
 
 -- A function with the same faults, of contents that may ask for memory wherever the first ones may.
-pub fails_so : {A B : Type 0} (read : Reading A) (other : Reading B)
+pub failure_carried : {A B : Type 0} (read : Reading A) (other : Reading B)
     → ((k : ErrorKind) (c : List ℕ) → read c ≡ Err k → other c ≡ Err k) → (asked more : List ℕ → Type 0)
     → ((c : List ℕ) → asked c → more c) → (e : ErrorKind) (before after : Input) → Fails read asked e before after
     → Fails other more e before after
-fails_so read other errs asked more to e None after (failed, inl w) = (failed, inl w)
-fails_so read other errs asked more to e (Some c) after (failed, inl w) = (failed, inl (w.0, to c w.1))
-fails_so read other errs asked more to e None after (failed, inr p) = (failed, inr (let q = p in cc))
-fails_so read other errs asked more to e (Some c) after (failed, inr p) = (failed, inr (errs e c p))
+failure_carried read other errs asked more to e None after (failed, inl w) = (failed, inl w)
+failure_carried read other errs asked more to e (Some c) after (failed, inl w) = (failed, inl (w.0, to c w.1))
+failure_carried read other errs asked more to e None after (failed, inr p) = (failed, inr (let q = p in cc))
+failure_carried read other errs asked more to e (Some c) after (failed, inr p) = (failed, inr (errs e c p))
 
 -- Contents may ask for memory that were read.
 pub asks_read : {S : Type 0} {valid : S → Type 0} {printed : S → List ℕ} {read : Reading S}
@@ -32,33 +32,34 @@ asks_read law s None bytes p = cc
 asks_read law s (Some c) bytes p = (s, (law.gives c s bytes p).1)
 
 -- Behind a first part, what the chain gives is what follows it.
-pub chain_from : {A B : Type 0} (at : FrontReading A) (behind : A → Reading B) (x : A) (before mid : Input)
+pub chain_read_from : {A B : Type 0} (at : FrontReading A) (behind : A → Reading B) (x : A) (before mid : Input)
     → Gives at x before mid → read_from before (chain at behind) ≡ read_from mid (behind x)
-chain_from at behind x None mid (rest, p, is) = let never = p in cc
-chain_from at behind x (Some i) mid (rest, p, is) = ap (λ r. r >>= λ q. behind q.0 q.1) p ∙ (rw is refl)
+chain_read_from at behind x None mid (rest, p, is) = let never = p in cc
+chain_read_from at behind x (Some i) mid (rest, p, is) = ap (λ r. r >>= λ q. behind q.0 q.1) p ∙ (rw is refl)
 
 -- A value that was read and doesn't pass the test.
-pub such_fails : {V : Type 0} (read : Reading V) (test : V → Bool) (failure e : ErrorKind) (v : V) (before : Input)
+pub such_refuses_value : {V : Type 0} (read : Reading V) (test : V → Bool) (failure e : ErrorKind) (v : V)
+    (before : Input)
     → read_from before read ≡ Ok v → test v ≡ false → e ≡ failure → read_from before (such test failure read) ≡ Err e
-such_fails read test failure e v None p isnt kind = let q = p in cc
-such_fails read test failure e v (Some c) p isnt kind =
+such_refuses_value read test failure e v None p isnt kind = let q = p in cc
+such_refuses_value read test failure e v (Some c) p isnt kind =
     ap (λ r. r >>= λ v. if test v then Ok v else Err failure) p ∙ rw isnt (ap (λ k. Err k) (sym kind))
 
 -- A number that isn't the expected one.
-pub expected_fails : (n v : ℕ) (e : ErrorKind) (before : Input) → read_from before small_of ≡ Ok v → v ≢ n
-    → e ≡ Value integer → read_from before (expected n) ≡ Err e
-expected_fails n v e None p ne kind = let q = p in cc
-expected_fails n v e (Some c) p ne kind =
+pub expected_refuses_value : (n v : ℕ) (e : ErrorKind) (before : Input) → read_from before small_of ≡ Ok v → v ≢ n
+    → e ≡ Value integer_tag → read_from before (expected n) ≡ Err e
+expected_refuses_value n v e None p ne kind = let q = p in cc
+expected_refuses_value n v e (Some c) p ne kind =
     let no : (v == n) ≡ false = grind (arith, nat_tests, ne) in
-    ap (λ r. (r >>= λ v. if v == n then Ok v else Err (Value integer)) >>= λ _. Ok tt) p
+    ap (λ r. (r >>= λ v. if v == n then Ok v else Err (Value integer_tag)) >>= λ _. Ok tt) p
     ∙ rw no (ap (λ k. Err k) (sym kind))
 
 -- A value that is made of the parts that were read.
-pub parts_taken : {A B : Type 0} (row : Reading A) (read : Reading B) (a : A) (b : B)
+pub row_read_as : {A B : Type 0} (row : Reading A) (read : Reading B) (a : A) (b : B)
     → ((c : List ℕ) → row c ≡ Ok a → read c ≡ Ok b) → (before : Input) → read_from before row ≡ Ok a
     → read_from before read ≡ Ok b
-parts_taken row read a b to None p = let q = p in cc
-parts_taken row read a b to (Some c) p = to c p
+row_read_as row read a b to None p = let q = p in cc
+row_read_as row read a b to (Some c) p = to c p
 
 -- A row at the front, of which what follows the first part has a fault.
 pub row_fails : {A B : Type 0} {First : A → List ℕ → Type 0} {at : FrontReading A} → ReadsFronts First at
@@ -108,21 +109,21 @@ pub front_errs : {V : Type 0} (at : FrontReading V) (e : ErrorKind) (before : In
     → FaultOrMemory e (Asks (AllocatesIn (λ _. ⊥)) before) (read_from before at ≡ Err e) → at b ≡ Err e
 front_errs at e None b is faulty = let no = is in cc
 front_errs at e (Some i) b is (inl w) = absurd w.1.3
-front_errs at e (Some i) b is (inr p) = ap at (sym (some_same i b is)) ∙ p
+front_errs at e (Some i) b is (inr p) = ap at (sym (input_injective i b is)) ∙ p
 
-pub all_front : (mid : Input) (r c rest : List ℕ) (n : ℕ) → mid ≡ Some r → n ≡ length (left_in mid)
+pub front_of_all : (mid : Input) (r c rest : List ℕ) (n : ℕ) → mid ≡ Some r → n ≡ length (left_in mid)
     → read_from mid (front_of n) ≡ Ok (c, rest) → c ≡ r
-all_front None r c rest n is len e = let no = is in cc
-all_front (Some l) r c rest n is len e =
-    let same : l ≡ r = some_same l r is in
+front_of_all None r c rest n is len e = let no = is in cc
+front_of_all (Some l) r c rest n is len e =
+    let same : l ≡ r = input_injective l r is in
     ⊎_elim (λ w. let no = w.1 in cc)
     (λ w.
     let parts = ok_pair (take n l) c (drop n l) rest w.1 in sym parts.0 ∙ take_all n l (omega (arith, len)) ∙ same)
-    (chosen (nat_lt (length l) n) _ _ _ e)
+    (cond_cases (nat_lt (length l) n) _ _ _ e)
 
 -- A value that is copied once it was read whole.
 pub copy_returns : {X V : Type 0} (value : X → V) (encoding : V → List ℕ → Type 0) (given : Result V ErrorKind)
-    (b : List ℕ) (v : V) → Means encoding b v → given ≡ Ok v → (r : Result X Error) → IfOk r (λ x. value x ≡ v)
+    (b : List ℕ) (v : V) → WithinLimit encoding v b → given ≡ Ok v → (r : Result X Error) → IfOk r (λ x. value x ≡ v)
     → IfErr r (λ e. e.kind ≡ OutOfMemory)
     → Returns value given (AllocatesIn (λ c. (w : V) × encoding w c) b) r
 copy_returns value encoding given b v means is (Ok x) same memory = is ∙ ap (λ w. Ok w) (sym same)
@@ -130,31 +131,33 @@ copy_returns value encoding given b v means is (Err e) same memory =
     inl (memory, (b, [], sym (append-nil b), (v, means.1)))
 
 -- Where no memory is asked for, the error is the function's.
-pub no_memory : {e : ErrorKind} {asked fault : Type 0} → (asked → ⊥) → FaultOrMemory e asked fault → fault
-no_memory never (inl w) = absurd (never w.1)
-no_memory never (inr f) = f
+pub fault_without_memory : {e : ErrorKind} {asked fault : Type 0} → (asked → ⊥) → FaultOrMemory e asked fault → fault
+fault_without_memory never (inl w) = absurd (never w.1)
+fault_without_memory never (inr f) = f
 
 -- What the code tests by `!`, and by `!=`.
-pub not_is : (b : Bool) → not b ≡ true → b ≡ false
-not_is true e = cc
-not_is false e = refl
+pub not_true : (b : Bool) → not b ≡ true → b ≡ false
+not_true true e = cc
+not_true false e = refl
 
-pub not_isnt : (b : Bool) → not b ≡ false → b ≡ true
-not_isnt true e = refl
-not_isnt false e = cc
+pub not_false : (b : Bool) → not b ≡ false → b ≡ true
+not_false true e = refl
+not_false false e = cc
 
-pub ne_true : (r : Bool) (a b t : ℕ) → r ≡ true → r ≡ not (eqb a b) → b ≡ t → a ≢ t
-ne_true r a b t e f g h = let no : eqb a b ≡ false = not_is (eqb a b) (sym (sym e ∙ f)) in grind (arith, nat_tests)
+pub unequal_test_true : (r : Bool) (a b t : ℕ) → r ≡ true → r ≡ not (eqb a b) → b ≡ t → a ≢ t
+unequal_test_true r a b t e f g h =
+    let no : eqb a b ≡ false = not_true (eqb a b) (sym (sym e ∙ f)) in grind (arith, nat_tests)
 
-pub ne_false : (r : Bool) (a b t : ℕ) → r ≡ false → r ≡ not (eqb a b) → b ≡ t → a ≡ t
-ne_false r a b t e f g = let yes : eqb a b ≡ true = not_isnt (eqb a b) (sym (sym e ∙ f)) in grind (arith, nat_tests)
+pub unequal_test_false : (r : Bool) (a b t : ℕ) → r ≡ false → r ≡ not (eqb a b) → b ≡ t → a ≡ t
+unequal_test_false r a b t e f g =
+    let yes : eqb a b ≡ true = not_false (eqb a b) (sym (sym e ∙ f)) in grind (arith, nat_tests)
 
-inner_is : (n : ℕ) (left rest : List ℕ) (inner : Input) → inner_of n left ≡ Ok (inner, rest)
+inner_of_splits : (n : ℕ) (left rest : List ℕ) (inner : Input) → inner_of n left ≡ Ok (inner, rest)
     → (nat_lt (length left) n ≡ false) × (inner ≡ Some (take n left)) × (rest ≡ drop n left)
-inner_is n left rest inner is =
+inner_of_splits n left rest inner is =
     ⊎_elim (λ w. let no = w.1 in cc)
     (λ w. let parts = ok_pair (Some (take n left)) inner (drop n left) rest w.1 in (w.0, sym parts.0, sym parts.1))
-    (chosen (nat_lt (length left) n) _ _ _ is)
+    (cond_cases (nat_lt (length left) n) _ _ _ is)
 
 module _ {V : Type 0} (tag : Tag) (read : Reading V) (may : List ℕ → Type 0) where
   pub tag_fails : {n : ℕ} (before mid after : Input) (e : ErrorKind) (actual : Tag)
@@ -165,7 +168,7 @@ module _ {V : Type 0} (tag : Tag) (read : Reading V) (may : List ℕ → Type 0)
     failed,
     inr
         (ap (λ r. r >>= λ h. contents_behind tag h >>= inside read) p
-        ∙ ap (λ r. r >>= inside read) (other_behind tag actual n rest ne) ∙ ap (λ k. Err k) (sym kind)),
+        ∙ ap (λ r. r >>= inside read) (contents_behind_other_tag tag actual n rest ne) ∙ ap (λ k. Err k) (sym kind)),
   )
 
   -- the encoding whose contents ask for memory
@@ -192,7 +195,7 @@ module _ {V : Type 0} (tag : Tag) (read : Reading V) (may : List ℕ → Type 0)
   value_fails None mid inner mid2 ended after e t n bytes (left, p, is) same (rest, q, are) fails failed =
       let no = p in cc
   value_fails (Some i) mid inner mid2 ended after e t n bytes (left, p, is) same (rest, q, are) fails failed =
-      let s = inner_is n left rest inner (rw is at q) in
+      let s = inner_of_splits n left rest inner (rw is at q) in
       let head : header_at i ≡ Ok ((tag.octet, n), left) = p ∙ ap (λ o. Ok ((o, n), left)) same in
       let octet : (tag.octet == tag.octet) ≡ true = grind (arith, nat_tests) in
       let here : contents_behind tag ((tag.octet, n), left) ≡ Ok (take n left, drop n left) = rw (octet, s.0) refl in (
@@ -229,13 +232,13 @@ whole_trailing at before mid b e v is within (rest, p, left) ends =
 
 -- The grammar of what was returned.
 module _ {X V : Type 0} (value : X → V) {encoding : V → List ℕ → Type 0} (at : FrontReading V) (b : List ℕ)
-    (law : ReadsContents (λ v b. Means encoding b v) (whole at)) where
-  none_meant : {e : ErrorKind} → whole at b ≡ Err e → (v : V) → Means encoding b v → ⊥
-  none_meant e v m = let no = sym e ∙ law.takes b v m.0 m in cc
+    (law : ReadsContents (WithinLimit encoding) (whole at)) where
+  whole_fault_encodes_none : {e : ErrorKind} → whole at b ≡ Err e → (v : V) → WithinLimit encoding v b → ⊥
+  whole_fault_encodes_none e v m = let no = sym e ∙ law.takes b v m.0 m in cc
 
-  pub reads_all : (may : List ℕ → Type 0) (r : Result X Error) → AreBytes b
+  pub whole_returned_reads_all : (may : List ℕ → Type 0) (r : Result X Error) → AreBytes b
       → Returns value (whole at b) (AllocatesIn may b) r → ReadsAll value encoding may r b
-  reads_all may (Ok x) bytes p =
+  whole_returned_reads_all may (Ok x) bytes p =
       (law.gives b (value x) bytes p, λ w m. let same : Ok w ≡ Ok (value x) = sym (law.takes b w m.0 m) ∙ p in cc)
-  reads_all may (Err e) bytes (inl w) = inl w
-  reads_all may (Err e) bytes (inr p) = inr (law.tells b e.kind p, none_meant p)
+  whole_returned_reads_all may (Err e) bytes (inl w) = inl w
+  whole_returned_reads_all may (Err e) bytes (inr p) = inr (law.tells b e.kind p, whole_fault_encodes_none p)

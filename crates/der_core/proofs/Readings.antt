@@ -1,43 +1,44 @@
 -- What functions read: whole slices, other tags, documents, a list with a fault, values that spellings mean.
 use Rattle.std.proofs.Common.{ℕ, false, List, ◌≡◌, ◌≤◌, length, arith, ⊎_elim, nat_lt, zero, suc, [], ◌∷◌, ◌++◌, ◌≢◌, ◌<◌, ◌==◌, refl, ap, ◌∙◌, length-append, append_assoc, Ok, Err, subst, Result}
-use Rattle.der_core.specs.Words.{nat_tests, Means, chosen, limit, FrontReading, whole, ReadsContents, ReadsFronts, alone_reads, ErrorKind, Tag, AreBytes, behind_within, any_read, same_tag, ◌>>=◌, made, items_within, unexpected, contents_behind, read_document, ItemsContents, is_allowed, sequence, Tlv, checked_as, tagged_reads, ReadsFrontAlike, ReadsFrontPrinted, Spells, Answers, Error, ok_of, value_in, values_alike, whole_alike, meant_decodes}
+use Rattle.der_core.specs.Words.{nat_tests, WithinLimit, cond_cases, limit, FrontReading, whole, ReadsContents, ReadsFronts, alone_reads, ErrorKind, Tag, AreBytes, behind_within, any_contents_reads, same_tag, ◌>>=◌, made, items_within, unexpected, contents_behind, read_document, ItemsContents, is_allowed, sequence_tag, Tlv, checked_as, tagged_reads, ReadsFrontAlike, ReadsFrontPrinted, Spells, Answers, Error, ok_of, value_in, values_alike, whole_alike, meant_decodes}
 use Rattle.standard.specs.Statement.{Decodes}
 use Rattle.der_core.specs.declared.error.ErrorKind.TheVariants.{Overflow, TagUnexpected, TagUnknown}
 
 -- A whole slice.
 module _ {V : Type 0} {encoding : V → List ℕ → Type 0} {at : FrontReading V} (law : ReadsFronts encoding at) where
-  pub whole_reads : ReadsContents (λ v b. Means encoding b v) (whole at)
+  pub whole_reads : ReadsContents (WithinLimit encoding) (whole at)
   whole_reads = record {
     gives = λ b v bytes e. ⊎_elim (λ w. let no = w.1 in cc)
         (λ w. let within : length b ≤ limit = grind (arith, nat_tests, w.0) in
         (within, (alone_reads law).gives b v bytes w.1))
-        (chosen (nat_lt limit (length b)) _ _ _ e);
+        (cond_cases (nat_lt limit (length b)) _ _ _ e);
     takes = λ b v w m.
         let no : nat_lt limit (length b) ≡ false = grind (arith, nat_tests, m.0) in
         rw no ((alone_reads law).takes b v w m.1);
     tells = λ b k e. ⊎_elim (λ w. let same : Overflow ≡ k = let is = w.1 in cc in (λ no. cc, λ no. cc, λ no. cc))
-        (λ w. (alone_reads law).tells b k w.1) (chosen (nat_lt limit (length b)) _ _ _ e);
+        (λ w. (alone_reads law).tells b k w.1) (cond_cases (nat_lt limit (length b)) _ _ _ e);
   }
 
 -- Another tag than the one that is asked for.
-pub other_is : {V : Type 0} (tag actual : Tag) → unexpected {V = V} tag actual.octet ≡ Err (TagUnexpected tag actual)
-other_is tag actual =
+pub unexpected_tag_read : {V : Type 0} (tag actual : Tag)
+    → unexpected {V = V} tag actual.octet ≡ Err (TagUnexpected tag actual)
+unexpected_tag_read tag actual =
     let r =
     checked_as (is_allowed actual.octet)
     (λ ok. Err (TagUnexpected tag (record { octet = actual.octet; allowed = ok }))) (Err (TagUnknown actual.octet))
     actual.allowed in
     r.1 ∙ ap (λ t. Err (TagUnexpected tag t)) (same_tag (record { octet = actual.octet; allowed = r.0 }) actual refl)
 
-pub other_behind : (tag actual : Tag) (n : ℕ) (rest : List ℕ) → actual.octet ≢ tag.octet
+pub contents_behind_other_tag : (tag actual : Tag) (n : ℕ) (rest : List ℕ) → actual.octet ≢ tag.octet
     → contents_behind tag ((actual.octet, n), rest) ≡ Err (TagUnexpected tag actual)
-other_behind tag actual n rest ne =
+contents_behind_other_tag tag actual n rest ne =
     let no : (actual.octet == tag.octet) ≡ false = grind (arith, nat_tests, ne) in
-    rw no (other_is tag actual)
+    rw no (unexpected_tag_read tag actual)
 
 -- One whole SEQUENCE.
-pub document_reads : ReadsContents (λ (v : Unit {0}) b. Means (λ (_ : Unit {0}). Tlv sequence.octet AreBytes) b v)
+pub document_reads : ReadsContents (WithinLimit (λ (_ : Unit {0}). Tlv sequence_tag.octet AreBytes))
     read_document
-document_reads = whole_reads (tagged_reads sequence any_read)
+document_reads = whole_reads (tagged_reads sequence_tag any_contents_reads)
 
 -- A list, up to the end.
 module _ {V : Type 0} {encoding : V → List ℕ → Type 0} {at : FrontReading V} (law : ReadsFronts encoding at)

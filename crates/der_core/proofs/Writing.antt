@@ -1,95 +1,93 @@
 -- Why values aren't written, what writing one part after another leaves, and lengths.
 use Rattle.std.proofs.Common.{ℕ, Bool, List, ◌<◌, ◌≤◌, length, subst, ap, ◌∙◌, arith, inl, inr, Result, Ok, Err, IfErr, ◌≡◌, ◌++◌, drop, refl, IfOk, OnErr, OnOk, ◌+◌, length-append, [], Option, Some, None, sym, append_assoc, append-nil, true, false, if◌then◌else◌, nat_le}
-use Rattle.der_core.specs.Words.{limit, Means, IsShortest, WhyNotCounted, WhyNotWritten, EncodeError, no_encoding, too_long, no_room, another, shortest_is, Prints, WritesShortest, WhyOctetsNotCounted, Counts, WhyOctetsNotWritten, encode_error, Error, ErrorKind, RefusedAs, Receives, ReceivesNothing, TakesRoom, LacksRoom, WhyNotAppended, Tag, written_encodes, Spells, ok_of, Unwritten, IsLength, length_octets, Is, Tlv, length_octets-only, Appends, tlv, joined, is_no_encoding}
-use Rattle.standard.specs.Statement.{Encodes}
+use Rattle.der_core.specs.Words.{limit, WhyNotCounted, WhyNotWritten, EncodeError, no_encoding, too_long, no_room, another, written_is_shortest, Prints, WritesShortest, WhyOctetsNotCounted, Counts, WhyOctetsNotWritten, encode_error, Error, ErrorKind, RefusedAs, Receives, ReceivesNothing, TakesRoom, LacksRoom, WhyNotAppended, Tag, written_encodes, Spells, ok_of, Unwritten, IsLength, length_octets, Is, Tlv, length_octets-only, Appends, tlv, joined, is_no_encoding}
+use Rattle.standard.specs.Statement.{Encodes, IsShortest}
 use Rattle.der_core.specs.declared.error.ErrorKind.TheVariants.{NoRoom, Overflow}
 use Rattle.der_core.specs.declared.error.ErrorKind.TheVariants as kind
 
 module _ {S V : Type 0} {valid : S → Type 0} {printed : S → List ℕ} {means : S → V} {written : V → S}
     (law : WritesShortest valid printed means written) (v : V) where
   -- a value with an encoding has a valid spelling that is written
-  pub has_written : (encoding : List ℕ) → Prints valid printed means v encoding → valid (written v)
-  has_written encoding (s, e, ok, is) = subst (λ u. valid (written u)) e (law.valid s ok)
+  pub written_valid : (encoding : List ℕ) → Prints valid printed means v encoding → valid (written v)
+  written_valid encoding (s, e, ok, is) = subst (λ u. valid (written u)) e (law.valid s ok)
 
-  -- what is written is the shortest encoding
-  pub is_shortest : valid (written v) → length (printed (written v)) ≤ limit
-      → IsShortest (Prints valid printed means) v (printed (written v))
-  is_shortest ok few = let p = shortest_is law v ok few in record { spells = p.0; least = p.1 }
-
-  none_fits : limit < length (printed (written v)) → (encoding : List ℕ)
-      → Means (Prints valid printed means) encoding v → ⊥
-  none_fits long encoding (few, (s, e, ok, is)) = elim (law.least s ok (omega (arith, few, ap length is))) [
+  written_too_long : limit < length (printed (written v)) → (encoding : List ℕ)
+      → Spells valid printed means v encoding → ⊥
+  written_too_long long encoding (few, (s, e, ok, is)) = elim (law.least s ok (omega (arith, few, ap length is))) [
     | inl same ↦ omega (arith, long, few, ap length is, ap (λ u. length (printed u)) (same ∙ ap written e))
     | inr less ↦ omega (arith, long, few, ap length is, less, ap (λ u. length (printed (written u))) e)
   ]
 
-  uncounted_as : (k : EncodeError) → WhyOctetsNotCounted (valid (written v)) (printed (written v)) k
+  value_uncounted_by : (k : EncodeError) → WhyOctetsNotCounted (valid (written v)) (printed (written v)) k
       → WhyNotCounted (valid (written v)) (Prints valid printed means) v k
-  uncounted_as no_encoding h = λ encoding p. h (has_written encoding p)
-  uncounted_as too_long h = (h.0, none_fits h.1)
-  uncounted_as no_room h = h
-  uncounted_as another h = h
+  value_uncounted_by no_encoding h = λ encoding p. h (written_valid encoding p)
+  value_uncounted_by too_long h = (h.0, written_too_long h.1)
+  value_uncounted_by no_room h = h
+  value_uncounted_by another h = h
 
-  pub uncounted : (r : Result ℕ Error) → Counts (valid (written v)) (printed (written v)) r
+  pub value_uncounted : (r : Result ℕ Error) → Counts (valid (written v)) (printed (written v)) r
       → IfErr r (λ e. WhyNotCounted (valid (written v)) (Prints valid printed means) v (encode_error e.kind))
-  uncounted (Ok n) h = tt
-  uncounted (Err e) h = uncounted_as (encode_error e.kind) h
+  value_uncounted (Ok n) h = tt
+  value_uncounted (Err e) h = value_uncounted_by (encode_error e.kind) h
 
-  stopped_as : (room : Option ℕ) (old new : List ℕ → Type 0) (k : EncodeError)
+  value_unwritten_by : (room : Option ℕ) (old new : List ℕ → Type 0) (k : EncodeError)
       → WhyOctetsNotWritten (valid (written v)) (printed (written v)) room old new k
       → WhyNotAppended (valid (written v)) (Prints valid printed means) v room k
-  stopped_as None old new no_encoding h = λ encoding p. h.0 (has_written encoding p)
-  stopped_as (Some room) old new no_encoding h = λ encoding p. h.0 (has_written encoding p)
-  stopped_as None old new too_long h = (h.0, none_fits h.1)
-  stopped_as (Some room) old new too_long h = (h.0, none_fits h.1)
-  stopped_as None old new no_room h = absurd h.2
-  stopped_as (Some room) old new no_room h = (printed (written v), is_shortest h.0 h.1, h.2)
-  stopped_as room old new another h = absurd h
+  value_unwritten_by None old new no_encoding h = λ encoding p. h.0 (written_valid encoding p)
+  value_unwritten_by (Some room) old new no_encoding h = λ encoding p. h.0 (written_valid encoding p)
+  value_unwritten_by None old new too_long h = (h.0, written_too_long h.1)
+  value_unwritten_by (Some room) old new too_long h = (h.0, written_too_long h.1)
+  value_unwritten_by None old new no_room h = absurd h.2
+  value_unwritten_by (Some room) old new no_room h = (printed (written v), written_is_shortest law v h.0 h.1, h.2)
+  value_unwritten_by room old new another h = absurd h
 
-  pub stopped : {A : Type 0} (room : Option ℕ) (old new : List ℕ → Type 0) (r : Result A Error)
+  pub value_unwritten : {A : Type 0} (room : Option ℕ) (old new : List ℕ → Type 0) (r : Result A Error)
       → IfErr r
       (λ e. WhyOctetsNotWritten (valid (written v)) (printed (written v)) room old new (encode_error e.kind))
       → IfErr r (λ e. WhyNotAppended (valid (written v)) (Prints valid printed means) v room (encode_error e.kind))
-  stopped room old new (Ok x) h = tt
-  stopped room old new (Err e) h = stopped_as room old new (encode_error e.kind) h
+  value_unwritten room old new (Ok x) h = tt
+  value_unwritten room old new (Err e) h = value_unwritten_by room old new (encode_error e.kind) h
 
 -- What the clauses of `encode_into` say, in the words of the statement.
 module _ {S V : Type 0} {valid : S → Type 0} {printed : S → List ℕ} {means : S → V} {written : V → S}
     (law : WritesShortest valid printed means written) (v : V) where
-  abbrev Stopped : ℕ → EncodeError → Type 0
-  Stopped room k = WhyNotWritten (valid (written v)) (Prints valid printed means) v room k
+  abbrev WhyValueNotWritten : ℕ → EncodeError → Type 0
+  WhyValueNotWritten room k = WhyNotWritten (valid (written v)) (Prints valid printed means) v room k
 
-  no_room_for : (room : ℕ) (k : EncodeError) → Stopped room k → (bytes : List ℕ) → Spells valid printed means v bytes
+  room_below_encodings : (room : ℕ) (k : EncodeError) → WhyValueNotWritten room k → (bytes : List ℕ)
+      → Spells valid printed means v bytes
       → room < length bytes
-  no_room_for room no_encoding h bytes p = absurd (h bytes p.1)
-  no_room_for room too_long h bytes p = absurd (h.1 bytes p)
-  no_room_for room no_room h bytes p = elim (h.1.least bytes p) [
+  room_below_encodings room no_encoding h bytes p = absurd (h bytes p.1)
+  room_below_encodings room too_long h bytes p = absurd (h.1 bytes p)
+  room_below_encodings room no_room h bytes p = elim (h.1.1 bytes p) [
     | inl same ↦ omega (arith, h.2, ap length same)
     | inr longer ↦ omega (arith, h.2, longer)
   ]
-  no_room_for room another h bytes p = absurd h
+  room_below_encodings room another h bytes p = absurd h
 
-  pub into_encodes : (old new : List ℕ) (r : Result ℕ Error)
+  pub encode_into_encodes : (old new : List ℕ) (r : Result ℕ Error)
       → IfOk r (λ n. (n ≡ length (printed (written v))) × (new ≡ printed (written v) ++ drop n old))
-      → OnOk r (IsShortest (Prints valid printed means) v (printed (written v)))
-      → IfErr r (λ e. Stopped (length old) (encode_error e.kind)) → OnErr r (new ≡ old) → length new ≡ length old
+      → OnOk r (IsShortest (Spells valid printed means) v (printed (written v)))
+      → IfErr r (λ e. WhyValueNotWritten (length old) (encode_error e.kind)) → OnErr r (new ≡ old)
+      → length new ≡ length old
       → Encodes (Spells valid printed means) v old new (ok_of (λ n. n) r)
-  into_encodes old new (Ok n) is s why same kept =
-      written_encodes (Spells valid printed means) v old new (printed (written v)) n (s.spells, s.least) is.0 is.1 kept
-  into_encodes old new (Err e) is s why same kept = (same, no_room_for (length old) (encode_error e.kind) why)
+  encode_into_encodes old new (Ok n) is s why same kept =
+      written_encodes (Spells valid printed means) v old new (printed (written v)) n s is.0 is.1 kept
+  encode_into_encodes old new (Err e) is s why same kept =
+      (same, room_below_encodings (length old) (encode_error e.kind) why)
 
-  unwritten_for : (room : ℕ) (k : EncodeError) → Stopped room k
+  encode_into_unwritten_by : (room : ℕ) (k : EncodeError) → WhyValueNotWritten room k
       → Unwritten (λ u. valid (written u)) (Spells valid printed means) v room k
-  unwritten_for room no_encoding h = λ ok. h (printed (written v)) (written v, law.back v, ok, refl)
-  unwritten_for room too_long h = h
-  unwritten_for room no_room h = (h.0, (h.1.spells, h.1.least), h.2)
-  unwritten_for room another h = h
+  encode_into_unwritten_by room no_encoding h = λ ok. h (printed (written v)) (written v, law.back v, ok, refl)
+  encode_into_unwritten_by room too_long h = h
+  encode_into_unwritten_by room no_room h = h
+  encode_into_unwritten_by room another h = h
 
-  pub into_unwritten : {X : Type 0} (room : ℕ) (r : Result X Error)
-      → IfErr r (λ e. Stopped room (encode_error e.kind))
+  pub encode_into_unwritten : {X : Type 0} (room : ℕ) (r : Result X Error)
+      → IfErr r (λ e. WhyValueNotWritten room (encode_error e.kind))
       → IfErr r (λ e. Unwritten (λ u. valid (written u)) (Spells valid printed means) v room (encode_error e.kind))
-  into_unwritten room (Ok x) h = tt
-  into_unwritten room (Err e) h = unwritten_for room (encode_error e.kind) h
+  encode_into_unwritten room (Ok x) h = tt
+  encode_into_unwritten room (Err e) h = encode_into_unwritten_by room (encode_error e.kind) h
 
 -- The length of an encoding, by that of its contents.
 pub tlv_length : (n t : ℕ) (c encoding : List ℕ) → length c ≡ n → Tlv t (Is c) encoding

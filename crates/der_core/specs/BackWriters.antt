@@ -4,8 +4,8 @@ use Rattle.std.specs.Borrow.{MutBor}
 use Rattle.der_core.specs.declared.back_writer.BackWriter.{BackWriter}
 
 -- the slice
-abbrev pub slice_of : BackWriter → MutBor (List ℕ)
-slice_of writer = writer.slice
+abbrev pub back_slice_of : BackWriter → MutBor (List ℕ)
+back_slice_of writer = writer.slice
 
 -- how many octets in front aren't filled
 abbrev pub free_of : BackWriter → ℕ

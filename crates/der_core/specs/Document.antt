@@ -1,26 +1,14 @@
 -- Encodings as a whole, within the limit on their length.
-use Rattle.std.specs.Prelude.{ℕ, List, ◌≡◌, ◌<◌, ◌≤◌, ◌⊎◌, length}
-use Rattle.der_core.specs.Tag.{sequence_tag}
+use Rattle.std.specs.Prelude.{ℕ, List, ◌<◌, ◌≤◌, length}
+use Rattle.der_core.specs.Tag.{sequence_octet}
 use Rattle.der_core.specs.Length.{limit}
 use Rattle.der_core.specs.Encodings.{AreBytes}
 use Rattle.der_core.specs.Tlv.{Tlv}
+use Rattle.standard.specs.Statement.{IsShortest}
 
 -- The value has this encoding, which is within the limit.
-abbrev pub Means : {V : Type 0} → (V → List ℕ → Type 0) → List ℕ → V → Type 0
-Means Grammar encoding v = (length encoding ≤ limit) × Grammar v encoding
-
--- The bytes mean this value and no other.
-abbrev pub IsMeaning : {V : Type 0} → (V → List ℕ → Type 0) → List ℕ → V → Type 0
-IsMeaning {V} Grammar encoding v = Means Grammar encoding v × ((w : V) → Means Grammar encoding w → w ≡ v)
-
--- The encodings of a value within the limit.
-abbrev pub Spellings : {V : Type 0} → (V → List ℕ → Type 0) → V → List ℕ → Type 0
-Spellings Grammar v encoding = Means Grammar encoding v
-
--- A spelling; every other one is longer.
-pub record IsShortest {V : Type 0} (Grammar : V → List ℕ → Type 0) (v : V) (encoding : List ℕ) : Type 0 where
-  pub spells : Spellings Grammar v encoding
-  pub least : (other : List ℕ) → Spellings Grammar v other → (other ≡ encoding) ⊎ (length encoding < length other)
+abbrev pub WithinLimit : {V : Type 0} → (V → List ℕ → Type 0) → V → List ℕ → Type 0
+WithinLimit Grammar v encoding = (length encoding ≤ limit) × Grammar v encoding
 
 -- No encoding is one of both grammars.
 abbrev pub Excludes : {V W : Type 0} → (V → List ℕ → Type 0) → (W → List ℕ → Type 0) → Type 0
@@ -37,18 +25,18 @@ pub data EncodeError : Type 0 where
 -- pass the limit.
 abbrev pub WhyNotCounted : {V : Type 0} → Type 0 → (V → List ℕ → Type 0) → V → EncodeError → Type 0
 WhyNotCounted Has Grammar v no_encoding = (encoding : List ℕ) → Grammar v encoding → ⊥
-WhyNotCounted Has Grammar v too_long = Has × ((encoding : List ℕ) → Means Grammar encoding v → ⊥)
+WhyNotCounted Has Grammar v too_long = Has × ((encoding : List ℕ) → WithinLimit Grammar v encoding → ⊥)
 WhyNotCounted Has Grammar v no_room = ⊥
 WhyNotCounted Has Grammar v another = ⊥
 
 -- Why a value isn't written: the length isn't counted, or there is no room for the shortest encoding.
 abbrev pub WhyNotWritten : {V : Type 0} → Type 0 → (V → List ℕ → Type 0) → V → ℕ → EncodeError → Type 0
 WhyNotWritten Has Grammar v room no_encoding = (encoding : List ℕ) → Grammar v encoding → ⊥
-WhyNotWritten Has Grammar v room too_long = Has × ((encoding : List ℕ) → Means Grammar encoding v → ⊥)
+WhyNotWritten Has Grammar v room too_long = Has × ((encoding : List ℕ) → WithinLimit Grammar v encoding → ⊥)
 WhyNotWritten Has Grammar v room no_room =
-    (encoding : List ℕ) × IsShortest Grammar v encoding × (room < length encoding)
+    (encoding : List ℕ) × IsShortest (WithinLimit Grammar) v encoding × (room < length encoding)
 WhyNotWritten Has Grammar v room another = ⊥
 
 -- One whole SEQUENCE, whatever its contents are.
 abbrev pub IsDocument : List ℕ → Type 0
-IsDocument encoding = (length encoding ≤ limit) × Tlv sequence_tag AreBytes encoding
+IsDocument encoding = (length encoding ≤ limit) × Tlv sequence_octet AreBytes encoding

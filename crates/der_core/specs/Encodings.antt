@@ -20,5 +20,5 @@ Joins [] encoding = encoding ≡ []
 Joins (Part ∷ parts) encoding = Then Part (Joins parts) encoding
 
 -- At most one encoding.
-abbrev pub AtMostOne : (List ℕ → Type 0) → Type 0
-AtMostOne Encoding = (x y : List ℕ) → Encoding x → Encoding y → x ≡ y
+abbrev pub HasAtMostOne : (List ℕ → Type 0) → Type 0
+HasAtMostOne Encoding = (x y : List ℕ) → Encoding x → Encoding y → x ≡ y

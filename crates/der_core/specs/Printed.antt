@@ -61,8 +61,8 @@ pub record ReadsFrontAlike {S V : Type 0} (spelling : FrontReading S) (means : S
     : Type 0 where
   pub same : (i : List ℕ) → front_made means spelling i ≡ at i
 
-pub never : {X : Type 0} → true ≡ false → X
-never e = cc
+pub true_is_not_false : {X : Type 0} → true ≡ false → X
+true_is_not_false e = cc
 
 -- Which octets encodings may begin with: they begin with no other.
 pub record Starts {S : Type 0} (printed : S → List ℕ) : Type 0 where
@@ -70,7 +70,7 @@ pub record Starts {S : Type 0} (printed : S → List ℕ) : Type 0 where
   pub only : (s : S) (rest : List ℕ) (t : ℕ) → with t ≡ false → is_next t (printed s ++ rest) ≡ false
 
 abbrev pub starts_with_any : {S : Type 0} (printed : S → List ℕ) → Starts printed
-starts_with_any printed = record { with = λ _. true; only = λ s rest t e. never e }
+starts_with_any printed = record { with = λ _. true; only = λ s rest t e. true_is_not_false e }
 
 -- What was read, without the kind of a fault.
 abbrev pub value_in : {V : Type 0} → Result V ErrorKind → Option V

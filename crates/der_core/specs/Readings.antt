@@ -11,7 +11,7 @@ use Rattle.der_core.specs.IntegerReading.{small_of}
 use Rattle.der_core.specs.Length.{limit}
 use Rattle.der_core.specs.Reading.{TellsOfBytes}
 use Rattle.der_core.specs.Tag.{is_allowed}
-use Rattle.der_core.specs.Tags.{integer, sequence}
+use Rattle.der_core.specs.Tags.{integer_tag, sequence_tag}
 
 -- What reads all of some contents, and what reads from the front.
 abbrev pub Reading : Type 0 → Type 0
@@ -109,8 +109,8 @@ is_next octet [] = false
 is_next octet (x ∷ xs) = x == octet
 
 -- A part that is there if the octet of its tag is next.
-abbrev pub optional : {V : Type 0} → ℕ → FrontReading V → FrontReading (Option V)
-optional octet at bytes = if is_next octet bytes then (at bytes >>= λ p. Ok (Some p.0, p.1)) else Ok (None, bytes)
+abbrev pub optional_front : {V : Type 0} → ℕ → FrontReading V → FrontReading (Option V)
+optional_front octet at bytes = if is_next octet bytes then (at bytes >>= λ p. Ok (Some p.0, p.1)) else Ok (None, bytes)
 
 -- A whole slice.
 abbrev pub whole : {V : Type 0} → FrontReading V → Reading V
@@ -118,14 +118,14 @@ whole at bytes = if nat_lt limit (length bytes) then Err Overflow else alone at 
 
 -- One number from 0 to 255.
 abbrev pub expected : ℕ → Reading (Unit {0})
-expected n = made (λ (_ : ℕ). tt) (such (λ v. v == n) (Value integer) small_of)
+expected n = made (λ (_ : ℕ). tt) (such (λ v. v == n) (Value integer_tag) small_of)
 
 -- One number in a range.
 abbrev pub in_range : ℕ → ℕ → ℕ → Bool
 in_range least most n = nat_le least n && nat_le n most
 
 abbrev pub ranged : ℕ → ℕ → Reading ℕ
-ranged least most = such (in_range least most) (Value integer) small_of
+ranged least most = such (in_range least most) (Value integer_tag) small_of
 
 -- Contents that aren't read where their tags can't be told apart.
 abbrev pub unless : {V : Type 0} → Bool → ErrorKind → Reading V → Reading V
@@ -140,7 +140,7 @@ any_contents contents = Ok tt
 
 -- A whole slice that has to be one SEQUENCE, whatever its contents are.
 abbrev pub read_document : Reading (Unit {0})
-read_document = whole (tagged sequence any_contents)
+read_document = whole (tagged sequence_tag any_contents)
 
 -- The function reads the contents of the grammar, and no others; its faults are about the bytes.
 pub record ReadsContents {V : Type 0} (contents : V → List ℕ → Type 0) (read : Reading V) : Type 0 where

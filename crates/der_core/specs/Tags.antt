@@ -2,17 +2,17 @@
 use Rattle.std.specs.Prelude.{refl}
 use Rattle.der_core.specs.declared.tag.Tag.{Tag}
 
-abbrev pub integer : Tag
-integer = record { octet = 2; allowed = refl }
+abbrev pub integer_tag : Tag
+integer_tag = record { octet = 2; allowed = refl }
 
-abbrev pub octet_string : Tag
-octet_string = record { octet = 4; allowed = refl }
+abbrev pub octet_string_tag : Tag
+octet_string_tag = record { octet = 4; allowed = refl }
 
-abbrev pub null : Tag
-null = record { octet = 5; allowed = refl }
+abbrev pub null_tag : Tag
+null_tag = record { octet = 5; allowed = refl }
 
-abbrev pub object_identifier : Tag
-object_identifier = record { octet = 6; allowed = refl }
+abbrev pub object_identifier_tag : Tag
+object_identifier_tag = record { octet = 6; allowed = refl }
 
-abbrev pub sequence : Tag
-sequence = record { octet = 48; allowed = refl }
+abbrev pub sequence_tag : Tag
+sequence_tag = record { octet = 48; allowed = refl }

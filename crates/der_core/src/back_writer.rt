@@ -14,12 +14,12 @@ pub struct BackWriter<'b> {
 impl<'b> BackWriter<'b> {
     ghost use Rattle.std.specs.Prelude.{◌≡◌, ◌+◌, ◌∷◌, drop};
     ghost use Rattle.der_core.specs.Length.{length_octets};
-    ghost use Rattle.der_core.specs.BackWriters.{slice_of, free_of, Prepends};
+    ghost use Rattle.der_core.specs.BackWriters.{back_slice_of, free_of, Prepends};
 
     /// A writer over a slice, with nothing filled yet.
     pub fn new(slice: &'b mut [u8]) -> BackWriter<'b>
-        ensures same_reference { (slice_of result).ghost_name ≡ slice.entry.ghost_name }
-        ensures same_slice { (slice_of result).now ≡ slice.old }
+        ensures same_reference { (back_slice_of result).ghost_name ≡ slice.entry.ghost_name }
+        ensures same_slice { (back_slice_of result).now ≡ slice.old }
         ensures empty { free_of result ≡ length slice.old }
     {
         let free = slice.len();
@@ -35,7 +35,7 @@ impl<'b> BackWriter<'b> {
 
     /// How many octets are filled.
     pub fn filled_len(&self) -> usize
-        ensures { result + free_of self.now ≡ length (slice_of self.now).now }
+        ensures { result + free_of self.now ≡ length (back_slice_of self.now).now }
     {
         self.slice.len() - self.free
     }
@@ -87,7 +87,7 @@ impl<'b> BackWriter<'b> {
 
     /// The filled part: the end of the slice.
     pub fn finish(self) -> &'b [u8]
-        ensures { result.now ≡ drop (free_of self.entry) (slice_of self.entry).now }
+        ensures { result.now ≡ drop (free_of self.entry) (back_slice_of self.entry).now }
     {
         let free = self.free;
         let slice = self.slice;

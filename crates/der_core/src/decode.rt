@@ -1,6 +1,6 @@
 //! Reading of values.
 ghost use Rattle.std.specs.Prelude.{◌≡◌, ◌≤◌, ℕ, List, length, Ok, IfSome, option_map};
-ghost use Rattle.der_core.specs.Words.{Tlv, AllocatesIn, HoldsBytes, ReadsAll, ReadsFront, ReadsWhole, Returns, DecodesOrMemory, Prints, Spells, TellsNext, limit, octets_of_all, optional, tagged, whole};
+ghost use Rattle.der_core.specs.Words.{Tlv, AllocatesIn, HoldsBytes, ReadsAll, ReadsFront, ReadsWhole, Returns, DecodesOrMemory, Prints, Spells, TellsNext, limit, octets_of_all, optional_front, tagged, whole};
 
 use crate::error::{ErrorKind, Result};
 use crate::grammar::{Contents, Encoding, FixedTag};
@@ -169,7 +169,7 @@ pub fn decode_optional<'a, T: DecodeValue<&'a [u8], M> + FixedTag, M: Memory, R:
     reader: &mut R,
 ) -> Result<Option<T>>
     ensures { let may = Tlv T.TAG.octet T.DecodeValue.may_allocate in
-        let at = optional T.TAG.octet (tagged T.TAG T.read) in
+        let at = optional_front T.TAG.octet (tagged T.TAG T.read) in
         ReadsFront (option_map T.value) at may result (R.left reader.old) (R.left reader.new) }
 {
     if !is_tag_next(reader, T::TAG)? {

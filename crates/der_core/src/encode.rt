@@ -1,6 +1,7 @@
 //! Writing of values.
 ghost use Rattle.std.specs.Prelude.{◌≡◌, ◌≤◌, ◌++◌, length, drop, OnOk, OnErr, IfOk, IfErr};
-ghost use Rattle.der_core.specs.Words.{limit, length_octets, tlv, IsShortest, RefusedAs, WhyNotAppended, WhyNotCounted, WhyNotWritten, free_of, Prepends, Prints, IsFront, LeavesRest, Counts, Appends, encode_error, joined};
+ghost use Rattle.der_core.specs.Words.{limit, length_octets, tlv, RefusedAs, WhyNotAppended, WhyNotCounted, WhyNotWritten, free_of, Prepends, Prints, Spells, IsFront, LeavesRest, Counts, Appends, encode_error, joined};
+ghost use Rattle.standard.specs.Statement.{IsShortest};
 ghost use Rattle.std.specs.Borrow.{sem};
 ghost use Rattle.der_core.specs.declared.tag.Tag.{Tag as TheTag};
 
@@ -84,7 +85,7 @@ pub trait Encode: Encoding {
         Self: Sized,
         ensures ok { let encoding = Self.printed (Self.written (Self.value self.now)) in
             IfOk result (λ n. (n ≡ length encoding) × (out.new ≡ encoding ++ drop n out.old)) }
-        ensures shortest { let v = Self.value self.now in let encodings = Prints Self.valid Self.printed Self.means in
+        ensures shortest { let v = Self.value self.now in let encodings = Spells Self.valid Self.printed Self.means in
             OnOk result (IsShortest encodings v (Self.printed (Self.written v))) }
         ensures err { let v = Self.value self.now in let encodings = Prints Self.valid Self.printed Self.means in
             IfErr result (λ e. WhyNotWritten (Self.valid (Self.written v)) encodings v (length out.old)
@@ -109,7 +110,7 @@ pub trait Encode: Encoding {
         Self: Sized,
         ensures* leaves { sem 𝓛 (LeavesRest out.entry (Self.printed (Self.written (Self.value self.now))) result) }
         ensures ok { IfOk result (λ s. s.now ≡ Self.printed (Self.written (Self.value self.now))) }
-        ensures shortest { let encodings = Prints Self.valid Self.printed Self.means in
+        ensures shortest { let encodings = Spells Self.valid Self.printed Self.means in
             IfOk result (λ s. IsShortest encodings (Self.value self.now) s.now) }
         ensures room { IfOk result (λ s. length s.now ≤ length out.old) }
         ensures err { let v = Self.value self.now in let encodings = Prints Self.valid Self.printed Self.means in

@@ -1,6 +1,6 @@
 //! An INTEGER that has to be one number, such as the version of a structure that has only one.
 ghost use Rattle.std.specs.Prelude.{◌<◌};
-ghost use Rattle.der_core.specs.Words.{alike, expected, expected_law, number_contents, one_spelling};
+ghost use Rattle.der_core.specs.Words.{expected, expected_law, number_contents, one_spelling_shortest, reading_alike};
 
 use crate::back_writer::BackWriter;
 use crate::decode::DecodeValue;
@@ -40,9 +40,9 @@ impl<const N: u8> Contents for Expected<N> {
 
     ghost law = { expected_law N };
 
-    ghost shortest = { one_spelling (λ _. N < 256) (λ _. number_contents N) };
+    ghost shortest = { one_spelling_shortest (λ _. N < 256) (λ _. number_contents N) };
 
-    ghost reads_alike = { alike (expected N) };
+    ghost reads_alike = { reading_alike (expected N) };
 }
 
 impl<const N: u8> TaggedBy for Expected<N> {

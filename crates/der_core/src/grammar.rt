@@ -5,7 +5,7 @@
 //! or both.
 ghost use Rattle.std.specs.Prelude.{◌≡◌, ◌<◌, ℕ, List, length, Decides};
 ghost use Rattle.standard.specs.Statement as standard;
-ghost use Rattle.der_core.specs.Words.{FrontReading, Reading, ReadsAlike, ReadsFrontAlike, ReadsFrontPrinted, ReadsPrinted, Starts, WritesShortest, integer, sequence, tagged, tagged_alike, tagged_law, tagged_shortest, tagged_some, tagged_starts};
+ghost use Rattle.der_core.specs.Words.{FrontReading, Reading, ReadsAlike, ReadsFrontAlike, ReadsFrontPrinted, ReadsPrinted, Starts, WritesShortest, integer_tag, sequence_tag, tagged, tagged_alike, tagged_law, tagged_shortest, tagged_some, tagged_starts};
 ghost use Rattle.der_core.specs.declared.tag.Tag.{Tag};
 
 use crate::tag::Tag;
@@ -146,7 +146,7 @@ impl<T: TaggedBy> FixedTag for T {
 pub struct IntegerTag;
 
 impl TagMarker for IntegerTag {
-    ghost TAG = { integer };
+    ghost TAG = { integer_tag };
 
     const TAG: Tag = Tag::INTEGER;
 }
@@ -155,7 +155,7 @@ impl TagMarker for IntegerTag {
 pub struct SequenceTag;
 
 impl TagMarker for SequenceTag {
-    ghost TAG = { sequence };
+    ghost TAG = { sequence_tag };
 
     const TAG: Tag = Tag::SEQUENCE;
 }
@@ -163,7 +163,7 @@ impl TagMarker for SequenceTag {
 /// A type whose encodings are SEQUENCEs.
 pub trait Sequence<'a>: FixedTag {
     /// The tag is that of SEQUENCE.
-    ghost is_sequence: { Self.TAG ≡ sequence };
+    ghost is_sequence: { Self.TAG ≡ sequence_tag };
 }
 
 impl<T: Contents + FixedTag> Encoding for T {

@@ -1,6 +1,6 @@
 //! An INTEGER in a range, such as the version of a structure that has several.
 ghost use Rattle.std.specs.Prelude.{◌≡◌, ℕ};
-ghost use Rattle.der_core.specs.Words.{IsInRange, alike, in_range, integer, number_contents, one_spelling, ranged, ranged_law};
+ghost use Rattle.der_core.specs.Words.{IsInRange, in_range, integer_tag, number_contents, one_spelling_shortest, ranged, ranged_law, reading_alike};
 
 use crate::back_writer::BackWriter;
 use crate::decode::DecodeValue;
@@ -50,9 +50,9 @@ impl<const MIN: u8, const MAX: u8> Contents for InRange<MIN, MAX> {
 
     ghost law = { ranged_law MIN MAX };
 
-    ghost shortest = { one_spelling (IsInRange MIN MAX) number_contents };
+    ghost shortest = { one_spelling_shortest (IsInRange MIN MAX) number_contents };
 
-    ghost reads_alike = { alike (ranged MIN MAX) };
+    ghost reads_alike = { reading_alike (ranged MIN MAX) };
 }
 
 impl<const MIN: u8, const MAX: u8> TaggedBy for InRange<MIN, MAX> {
@@ -91,7 +91,7 @@ impl<'a, M: Memory, const MIN: u8, const MAX: u8> DecodeValue<&'a [u8], M> for I
 }
 
 impl<const MIN: u8, const MAX: u8> EncodeValue for InRange<MIN, MAX> {
-    ghost refused = { λ tag. tag ≡ integer };
+    ghost refused = { λ tag. tag ≡ integer_tag };
 
     fn value_len(&self) -> Result<Length> {
         if !self.is_within() {

@@ -1,7 +1,7 @@
 //! The last part of some contents: one encoding, or an OPTIONAL one.
 ghost use Rattle.std.specs.Prelude.{◌≡◌, Option, option_map};
 ghost use Rattle.standard.specs.Statement as standard;
-ghost use Rattle.der_core.specs.Words.{AllocatesIn, AllocatesLast, ReadsWhole, Tlv, alone, alone_alike, last, last_alike, last_by_tag_law, last_law, last_shortest, optional, optional_alike, tagged, tagged_alike, tagged_shortest};
+ghost use Rattle.der_core.specs.Words.{AllocatesIn, AllocatesLast, ReadsWhole, Tlv, alone, alone_alike, last, last_alike, last_by_tag_law, last_law, last_shortest, optional_alike, optional_front, tagged, tagged_alike, tagged_shortest};
 
 use crate::back_writer::BackWriter;
 use crate::borrowed::Borrowed;
@@ -124,9 +124,9 @@ impl<T: Contents + FixedTag> Contents for LastByTag<T> {
 
     ghost printed = { standard.optional (λ s. standard.tlv T.TAG.octet (T.printed s)) };
 
-    ghost read_spelling = { alone (optional T.TAG.octet (tagged T.TAG T.read_spelling)) };
+    ghost read_spelling = { alone (optional_front T.TAG.octet (tagged T.TAG T.read_spelling)) };
 
-    ghost read = { alone (optional T.TAG.octet (tagged T.TAG T.read)) };
+    ghost read = { alone (optional_front T.TAG.octet (tagged T.TAG T.read)) };
 
     ghost law = { last_by_tag_law T.law T.TAG };
 

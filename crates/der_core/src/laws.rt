@@ -2,7 +2,7 @@
 ghost use Rattle.std.specs.Prelude.{◌≡◌, ◌≤◌, ℕ, List, length, Result, Decides};
 ghost use Rattle.std.specs.Ordering.{nat_cmp};
 ghost use Rattle.standard.specs.Statement as standard;
-ghost use Rattle.der_core.specs.Words.{encoding_of, octets_of, ReadsAlike, ReadsFrontPrinted, ReadsPrinted, ReadsContents, ReadsFronts, alone, last, optional, tagged, bytes_of, Answers, AreBytes, Prints, PrintsOne, ReadsFrontAlike, Spells, limit, ok_of, WritesShortest, value_in, whole};
+ghost use Rattle.der_core.specs.Words.{encoding_of, octets_of, ReadsAlike, ReadsFrontPrinted, ReadsPrinted, ReadsContents, ReadsFronts, alone, last, optional_front, tagged, bytes_of, Answers, AreBytes, Prints, PrintsOne, ReadsFrontAlike, Spells, limit, ok_of, WritesShortest, value_in, whole};
 ghost use Rattle.der_core.specs.declared.document.DocumentOf as documents;
 ghost use Rattle.der_core.specs.declared.document.Open as marks;
 ghost use Rattle.der_core.specs.declared.error.Error as errors;
@@ -102,6 +102,6 @@ pub fn lemma_encodings_are_read<T: Encoding>()
 pub fn lemma_optional_parts_are_read<T: Contents + FixedTag>()
     ensures last { let at = tagged T.TAG T.read_spelling in
         ReadsPrinted (standard.IfPresent T.valid) (standard.optional ⟦<T as Encoding>⟧.printed) (last at) }
-    ensures next { let at = optional T.TAG.octet (tagged T.TAG T.read_spelling) in
+    ensures next { let at = optional_front T.TAG.octet (tagged T.TAG T.read_spelling) in
         ReadsPrinted (standard.IfPresent T.valid) (standard.optional ⟦<T as Encoding>⟧.printed) (alone at) }
 {}

@@ -2,10 +2,10 @@
 ghost use Rattle.std.specs.Prelude.{◌≡◌, ◌≤◌, ◌<◌, ◌↔◌, ℕ, List, IsTrue, length, slice_index, IfOk, IfErr};
 ghost use Rattle.der_core.specs.Length.{limit};
 ghost use Rattle.der_core.specs.Readings.{octets_of_all};
-ghost use Rattle.der_core.specs.Laws.Printed.Alike.{alike};
+ghost use Rattle.der_core.specs.Laws.Printed.Alike.{reading_alike};
 ghost use Rattle.der_core.specs.Laws.Printed.Leaves.{octets_law};
-ghost use Rattle.der_core.specs.Laws.Printed.Shortest.{one_spelling};
-ghost use Rattle.der_core.specs.Tags.{octet_string};
+ghost use Rattle.der_core.specs.Laws.Printed.Shortest.{one_spelling_shortest};
+ghost use Rattle.der_core.specs.Tags.{octet_string_tag};
 ghost use Rattle.der_core.specs.Encodings.{AreBytes};
 
 use crate::back_writer::BackWriter;
@@ -70,7 +70,7 @@ impl<'a> OctetStringRef<'a> {
 pub struct OctetStringTag;
 
 impl TagMarker for OctetStringTag {
-    ghost TAG = { octet_string };
+    ghost TAG = { octet_string_tag };
 
     const TAG: Tag = Tag::OCTET_STRING;
 }
@@ -98,9 +98,9 @@ impl Contents for OctetStringRef<'_> {
 
     ghost law = { octets_law };
 
-    ghost shortest = { one_spelling AreBytes (λ o. o) };
+    ghost shortest = { one_spelling_shortest AreBytes (λ o. o) };
 
-    ghost reads_alike = { alike octets_of_all };
+    ghost reads_alike = { reading_alike octets_of_all };
 }
 
 impl TaggedBy for OctetStringRef<'_> {

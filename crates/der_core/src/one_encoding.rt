@@ -1,7 +1,7 @@
 //! Types whose values have one encoding each: what is written is the only one.
 ghost use Rattle.std.specs.Prelude.{IfErr, length};
 ghost use Rattle.standard.specs.Statement as standard;
-ghost use Rattle.der_core.specs.Words.{AreSpelledOnce, AtMostOne, Prints, Spells, Unwritten, encode_error, itself_once, last_once, list_once, ok_of, row_once};
+ghost use Rattle.der_core.specs.Words.{AreSpelledOnce, HasAtMostOne, Prints, Spells, Unwritten, encode_error, itself_once, last_once, list_once, ok_of, row_once};
 
 use crate::borrowed::Borrowed;
 use crate::encode::Encode;
@@ -98,7 +98,7 @@ where
 /// A value of the type has at most one encoding: so what is written is the only one. It does nothing: the law is its
 /// contract.
 pub fn lemma_one_encoding<T: OneEncoding>()
-    ensures { (v : T.Value) → AtMostOne (Prints T.valid T.printed T.means v) }
+    ensures { (v : T.Value) → HasAtMostOne (Prints T.valid T.printed T.means v) }
 {}
 
 /// Writes a value's only encoding to the front of a slice and returns its length, as `encode_into` does.

@@ -2,7 +2,7 @@
 ghost use Rattle.std.specs.Prelude.{◌≡◌, ◌⊎◌, IsSome, Option, false, option_map};
 ghost use Rattle.standard.specs.Statement as standard;
 ghost use Rattle.der_core.specs.declared.error.ErrorKind.TheVariants as kinds;
-ghost use Rattle.der_core.specs.Words.{AllocatesInParts, Optional, Prints, ReadsWhole, Tlv, last_shortest, optional, optional_alike, optional_part_law, parts, row, row_alike, row_law, row_shortest, tagged, tagged_alike, tagged_shortest, unless, unless_alike, unless_shortest};
+ghost use Rattle.der_core.specs.Words.{AllocatesInParts, Optional, Prints, ReadsWhole, Tlv, last_shortest, optional_alike, optional_front, optional_part_law, parts, row, row_alike, row_law, row_shortest, tagged, tagged_alike, tagged_shortest, unless, unless_alike, unless_shortest};
 
 use crate::back_writer::BackWriter;
 use crate::decode::{Decode, DecodeValue, decode_optional};
@@ -37,10 +37,10 @@ impl<T: Contents + FixedTag, A: Encoding, B: Contents> Contents for OptionalThen
 
     ghost printed = { row (standard.optional (λ s. standard.tlv T.TAG.octet (T.printed s))) (row A.printed B.printed) };
 
-    ghost read_spelling = { parts (optional T.TAG.octet (tagged T.TAG T.read_spelling))
+    ghost read_spelling = { parts (optional_front T.TAG.octet (tagged T.TAG T.read_spelling))
         (unless (A.starts.with T.TAG.octet) (kinds.Value T.TAG) (parts A.read_spelling B.read_spelling)) };
 
-    ghost read = { parts (optional T.TAG.octet (tagged T.TAG T.read))
+    ghost read = { parts (optional_front T.TAG.octet (tagged T.TAG T.read))
         (unless (A.starts.with T.TAG.octet) (kinds.Value T.TAG) (parts A.read_front B.read)) };
 
     ghost law = { optional_part_law B.printed T.law (row_law A.law B.law) T.TAG A.starts };

@@ -1,7 +1,7 @@
 //! Parts of contents in a row, as a type: a nested pair that ends with `()`, as `(A, (B, ()))`, or with an OPTIONAL last
 //! part, as `(A, Last<B>)`. A row is written as contents, `(Borrowed(&self.a), (Borrowed(&self.b), ())).value_len()`.
 ghost use Rattle.std.specs.Prelude.{◌≡◌, ◌⊎◌, List, [], ℕ, Ok, IfSome};
-ghost use Rattle.der_core.specs.Words.{AllocatesInParts, Prints, ReadsWhole, alike, end_law, no_parts, one_spelling, parts, row, row_alike, row_law, row_shortest};
+ghost use Rattle.der_core.specs.Words.{AllocatesInParts, Prints, ReadsWhole, end_law, no_parts, one_spelling_shortest, parts, reading_alike, row, row_alike, row_law, row_shortest};
 
 use crate::back_writer::BackWriter;
 use crate::decode::Decode;
@@ -53,9 +53,9 @@ impl Contents for () {
 
     ghost law = { end_law };
 
-    ghost shortest = { one_spelling (λ _. Unit {0}) (λ _. []) };
+    ghost shortest = { one_spelling_shortest (λ _. Unit {0}) (λ _. []) };
 
-    ghost reads_alike = { alike no_parts };
+    ghost reads_alike = { reading_alike no_parts };
 }
 
 impl<A: Encoding, B: Contents> Contents for (A, B) {

@@ -1,6 +1,6 @@
 //! Tags of one octet.
 ghost use Rattle.std.specs.Prelude.{◌≡◌, ◌+◌, ◌≤◌, IsTrue, IfOk, IfErr, Some, false};
-ghost use Rattle.der_core.specs.Tag.{is_allowed, context_tag};
+ghost use Rattle.der_core.specs.Tag.{is_allowed, context_octet};
 
 use crate::error::{Error, ErrorKind, Result};
 use std::fmt;
@@ -44,7 +44,7 @@ impl Tag {
 
     /// The tag `[number]`: context-specific, constructed (X.690 8.1.2.2, 8.14.3).
     pub fn context(number: TagNumber) -> Tag
-        ensures { result.octet ≡ context_tag number.value }
+        ensures { result.octet ≡ context_octet number.value }
     {
         Tag {
             octet: 0xa0 + number.value,

@@ -10,7 +10,7 @@ use Rattle.std.specs.List.{IsSplitAt}
 use Rattle.std.specs.Io.KnownBytes.{Appends, Keeps}
 use Rattle.der_core.specs.Words.{AppendsFront, IsBitLength, nat_tests}
 use Rattle.standard.specs.Statement.{Decodes, PrivateKey, PrivateKeyEncoding}
-use Rattle.examples.specs.KeyStore.{Begins, BeginsWithNone, Copies, EntryEncoding, StoreEncoding, is_long, long_keys}
+use Rattle.examples.specs.KeyStore.{BeginsWithEntry, BeginsWithNone, Copies, EntryEncoding, StoreEncoding, is_long, long_keys}
 
 -- The octets of a length, and an entry.
 abbrev prefix : ℕ → List ℕ
@@ -40,7 +40,7 @@ same_octets bytes encoding behind entry later key split few (there, holds, made)
     let t = heads encoding there behind later n h.1 in
     (subst (PrivateKeyEncoding key) (sym t.0) holds, sym t.1)
 
-same_entry : (key other : PrivateKey) (bytes behind entry later : List ℕ) → Begins key bytes behind
+same_entry : (key other : PrivateKey) (bytes behind entry later : List ℕ) → BeginsWithEntry key bytes behind
     → EntryEncoding other entry → bytes ≡ entry ++ later → (other ≡ key) × (later ≡ behind)
 same_entry key other bytes behind entry later (encoding, (is, one), split) there same =
     let few : length encoding < 2 ^ 32 = omega (arith, is.0) in
@@ -61,13 +61,13 @@ Walked store rest kept =
     → (later : List PrivateKey) × (all ≡ keys ++ later) × StoreEncoding later rest)
     × StoreEncoding (long_keys keys) kept
 
-joined : (a b : List PrivateKey) (x y : List ℕ) → StoreEncoding a x → StoreEncoding b y → StoreEncoding (a ++ b) (x ++ y)
-joined [] b x y is q = subst (λ z. StoreEncoding b (z ++ y)) (sym is) q
-joined (key ∷ a) b x y (e, l, is, p, whole) q =
-    (e, l ++ y, is, joined a b l y p q, ap (λ z. z ++ y) whole ∙ append_assoc e l y)
+stores_joined : (a b : List PrivateKey) (x y : List ℕ) → StoreEncoding a x → StoreEncoding b y → StoreEncoding (a ++ b) (x ++ y)
+stores_joined [] b x y is q = subst (λ z. StoreEncoding b (z ++ y)) (sym is) q
+stores_joined (key ∷ a) b x y (e, l, is, p, whole) q =
+    (e, l ++ y, is, stores_joined a b l y p q, ap (λ z. z ++ y) whole ∙ append_assoc e l y)
 
 -- One entry further.
-module _ (store rest behind : List ℕ) (key : PrivateKey) (front : Begins key rest behind) where
+module _ (store rest behind : List ℕ) (key : PrivateKey) (front : BeginsWithEntry key rest behind) where
   abbrev entry : List ℕ
   entry = prefix (length front.0) ++ front.0
 
@@ -96,8 +96,8 @@ module _ (store rest behind : List ℕ) (key : PrivateKey) (front : Begins key r
       )
 
   -- What the code takes of the rest.
-  taken : take (length rest - length behind) rest ≡ entry
-  taken =
+  entry_taken : take (length rest - length behind) rest ≡ entry
+  entry_taken =
       let count : length rest - length behind ≡ length entry =
       omega (arith, ap length split, length-append entry behind) in
       ap (λ n. take n rest) count ∙ ap (take (length entry)) split ∙ take-append_seam entry behind
@@ -120,8 +120,8 @@ module _ (store rest behind : List ℕ) (key : PrivateKey) (front : Begins key r
       let one : StoreEncoding (long_keys (key ∷ [])) entry =
       subst (λ b. StoreEncoding (cond b (key ∷ []) []) entry) (sym long) (entry, [], entry_is, refl, sym (append-nil entry))
       in
-      subst (λ e. Walked store behind (kept ++ e)) (sym taken)
-      (further keys (kept ++ entry) to from (joined (long_keys keys) (long_keys (key ∷ [])) kept entry p one))
+      subst (λ e. Walked store behind (kept ++ e)) (sym entry_taken)
+      (further keys (kept ++ entry) to from (stores_joined (long_keys keys) (long_keys (key ∷ [])) kept entry p one))
 
   pub walked_short : (kept : List ℕ) → is_long key ≡ false → Walked store rest kept → Walked store behind kept
   walked_short kept short (keys, to, from, p) =
@@ -129,7 +129,7 @@ module _ (store rest behind : List ℕ) (key : PrivateKey) (front : Begins key r
       subst (λ b. StoreEncoding (cond b (key ∷ []) []) []) (sym short) refl in
       further keys kept to from
       (subst (StoreEncoding (long_keys keys ++ long_keys (key ∷ []))) (append-nil kept)
-      (joined (long_keys keys) (long_keys (key ∷ [])) kept [] p none))
+      (stores_joined (long_keys keys) (long_keys (key ∷ [])) kept [] p none))
 
 -- At the end, and where no entry is in front.
 no_more : (keys later : List PrivateKey) → StoreEncoding later [] → keys ++ later ≡ keys
@@ -137,8 +137,8 @@ no_more keys [] is = append-nil keys
 no_more keys (key ∷ later) (e, l, is, p, whole) =
     absurd (omega (arith, ap length whole, length-append e l, entry_long key e is))
 
-pub ended : (store rest kept : List ℕ) → length rest ≡ 0 → Walked store rest kept → Copies store kept
-ended store [] kept none (keys, to, from, p) = (
+pub walk_ends : (store rest kept : List ℕ) → length rest ≡ 0 → Walked store rest kept → Copies store kept
+walk_ends store [] kept none (keys, to, from, p) = (
   keys,
   (
     subst (λ k. StoreEncoding k store) (append-nil keys) (to [] refl),
@@ -146,7 +146,7 @@ ended store [] kept none (keys, to, from, p) = (
   ),
   p,
 )
-ended store (x ∷ rest) kept none walked = absurd (omega (arith, none))
+walk_ends store (x ∷ rest) kept none walked = absurd (omega (arith, none))
 
 stops : (rest : List ℕ) → length rest ≢ 0 → BeginsWithNone rest → (later : List PrivateKey) → StoreEncoding later rest → ⊥
 stops rest some none [] is = some (ap length is)
@@ -188,10 +188,10 @@ in_front (a ∷ b ∷ c ∷ d ∷ r) encoding behind n enough small says (within
       omega (arith, fits, count),
     )
 
-pub no_key : (bytes encoding behind : List ℕ)
+pub no_entry_begins : (bytes encoding behind : List ℕ)
     → (bytes ≡ prefix (length encoding) ++ (encoding ++ behind)) × (length encoding < 2 ^ 32)
     → Decodes PrivateKeyEncoding encoding None → BeginsWithNone bytes
-no_key bytes encoding behind (split, few) none key entry later is same =
+no_entry_begins bytes encoding behind (split, few) none key entry later is same =
     none key (same_octets bytes encoding behind entry later key split few is same).0
 
 -- So many bits.

@@ -6,20 +6,20 @@ use Rattle.pkcs1.specs.Words.{AnyNumber, PublicIsValid, public_printed}
 use Rattle.standard.specs.Statement.{Decodes, PublicKey, algorithm, any, integer, integers, rsa_encryption, sequence, tlv}
 use Rattle.examples.specs.SpkiKeys.{RsaInfoEncoding}
 
-abbrev Row : Type 0
-Row = Unit {0} × ((Unit {0} × (keys.PublicKey ℕ × Unit {0})) × Unit {0})
+abbrev KeyInfoRow : Type 0
+KeyInfoRow = Unit {0} × ((Unit {0} × (keys.PublicKey ℕ × Unit {0})) × Unit {0})
 
-abbrev IsRow : Row → Type 0
+abbrev IsRow : KeyInfoRow → Type 0
 IsRow v = Unit {0} × ((Unit {0} × (PublicIsValid AnyNumber v.1.0.1.0 × Unit {0})) × Unit {0})
 
-abbrev printed : Row → List ℕ
+abbrev printed : KeyInfoRow → List ℕ
 printed v =
     sequence (algorithm any rsa_encryption ++ (tlv 3 (0 ∷ (sequence (public_printed integer v.1.0.1.0) ++ [])) ++ []))
 
-abbrev key_of : Row → PublicKey
+abbrev key_of : KeyInfoRow → PublicKey
 key_of v = record { modulus = v.1.0.1.0.modulus; public_exponent = v.1.0.1.0.public_exponent }
 
-abbrev row_of : PublicKey → Row
+abbrev row_of : PublicKey → KeyInfoRow
 row_of key = (tt, ((tt, (record { modulus = key.modulus; public_exponent = key.public_exponent }, tt)), tt))
 
 abbrev key_octets : PublicKey → List ℕ
@@ -28,7 +28,7 @@ key_octets key = sequence (integers (key.modulus ∷ key.public_exponent ∷ [])
 abbrev info_octets : List ℕ → List ℕ
 info_octets inner = sequence (algorithm any rsa_encryption ++ tlv 3 (0 ∷ inner))
 
-ends : (v : Row) → printed v ≡ info_octets (key_octets (key_of v))
+ends : (v : KeyInfoRow) → printed v ≡ info_octets (key_octets (key_of v))
 ends v =
     let inner = key_octets (key_of v) in
     ap (λ x. sequence (algorithm any rsa_encryption ++ x)) (append-nil (tlv 3 (0 ∷ (inner ++ []))))
@@ -56,7 +56,7 @@ info_law =
     ))
 
 -- What was read as a row was read as a key.
-pub key_read : (bytes : List ℕ) (o : Option Row) → Decodes (Spells IsRow printed (λ v. v)) bytes o
+pub key_read : (bytes : List ℕ) (o : Option KeyInfoRow) → Decodes (Spells IsRow printed (λ v. v)) bytes o
     → Decodes RsaInfoEncoding bytes (option_map key_of o)
 key_read bytes o p =
     decodes_as (Spells IsRow printed (λ v. v)) RsaInfoEncoding key_of row_of (λ key. refl) bytes

@@ -29,8 +29,8 @@ Copies input output =
     (keys : List PrivateKey) × Decodes StoreEncoding input (Some keys) × StoreEncoding (long_keys keys) output
 
 -- The first entry is that of this key and no other, and this stands behind it.
-abbrev pub Begins : PrivateKey → List ℕ → List ℕ → Type 0
-Begins key bytes behind =
+abbrev pub BeginsWithEntry : PrivateKey → List ℕ → List ℕ → Type 0
+BeginsWithEntry key bytes behind =
     (encoding : List ℕ) × Decodes PrivateKeyEncoding encoding (Some key)
     × (bytes ≡ to_be_bytes w32 (length encoding) ++ (encoding ++ behind))
 

@@ -28,9 +28,9 @@ numbers_of list = record {
 -- What a slice is read as: the SEQUENCE, the version in it, the list behind that, and the numbers in the list.
 abbrev pub number_list_read : Reading NumberList
 number_list_read =
-    let list = tagged tags.sequence (items (tagged tags.integer number_of)) in
-    let row = parts (tagged tags.integer (ranged 0 1)) (parts list no_parts) in
-    made (λ v. record { version = v.0; numbers = v.1.0 }) (whole (tagged tags.sequence row))
+    let list = tagged tags.sequence_tag (items (tagged tags.integer_tag number_of)) in
+    let row = parts (tagged tags.integer_tag (ranged 0 1)) (parts list no_parts) in
+    made (λ v. record { version = v.0; numbers = v.1.0 }) (whole (tagged tags.sequence_tag row))
 
 -- Where reading may ask for memory: behind the version, a list begins with a number.
 abbrev pub BeginsList : List ℕ → Type 0

@@ -27,5 +27,5 @@ salt_of it =
 -- What a slice is read as: the SEQUENCE, the number in it, and the salt if anything is left.
 abbrev pub salt_read : Reading Salt
 salt_read =
-    let row = parts (tagged tags.integer number_of) (last (tagged tags.octet_string octets_of_all)) in
-    made (λ v. record { iterations = v.0; salt = v.1 }) (whole (tagged tags.sequence row))
+    let row = parts (tagged tags.integer_tag number_of) (last (tagged tags.octet_string_tag octets_of_all)) in
+    made (λ v. record { iterations = v.0; salt = v.1 }) (whole (tagged tags.sequence_tag row))

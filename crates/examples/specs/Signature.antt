@@ -21,5 +21,5 @@ signature_of it = record { r = number_from_digits 256 (bytes_of it.r); s = numbe
 -- What a slice is read as: the SEQUENCE, r in it, s behind r, and nothing behind both.
 abbrev pub signature_read : Reading Signature
 signature_read =
-    let number = tagged tags.integer number_of in
-    made (λ v. record { r = v.0; s = v.1.0 }) (whole (tagged tags.sequence (parts number (parts number no_parts))))
+    let number = tagged tags.integer_tag number_of in
+    made (λ v. record { r = v.0; s = v.1.0 }) (whole (tagged tags.sequence_tag (parts number (parts number no_parts))))

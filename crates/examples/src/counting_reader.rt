@@ -1,6 +1,6 @@
 //! A reader of one's own, and memory of one's own.
 ghost use Rattle.std.specs.Int.Digits.{number_from_digits};
-ghost use Rattle.der_core.specs.Words.{ReadsFront, bytes_of, integer, left_of, left_of-bounded, left_of-bytes, number_of, tagged};
+ghost use Rattle.der_core.specs.Words.{ReadsFront, bytes_of, integer_tag, left_of, left_of-bounded, left_of-bytes, number_of, tagged};
 
 use der_core::{
     BytesLeft, Decode, Error, ErrorKind, Length, Memory, Reader, Result, SliceReader, UintRef,
@@ -62,7 +62,8 @@ impl<'a> Reader<&'a [u8]> for CountingReader<'a> {
 /// The number at the front of what is left.
 pub fn read_number<'a>(reader: &mut CountingReader<'a>) -> Result<UintRef<'a>>
     ensures { let before = left_of reader.old.inner in let after = left_of reader.new.inner in
-        ReadsFront (λ n. number_from_digits 256 (bytes_of n)) (tagged integer number_of) (λ _. ⊥) result before after }
+        ReadsFront (λ n. number_from_digits 256 (bytes_of n)) (tagged integer_tag number_of) (λ _. ⊥)
+        result before after }
 {
     UintRef::decode(NoHeap, reader)
 }

@@ -1,7 +1,7 @@
 //! A writer of one's own.
 ghost use Rattle.std.specs.Prelude.{◌≡◌, ◌++◌, OnOk, Some};
 ghost use Rattle.std.specs.Int.Digits.{number_from_digits};
-ghost use Rattle.der_core.specs.Words.{bytes_of, integer, number_contents, tlv};
+ghost use Rattle.der_core.specs.Words.{bytes_of, integer_tag, number_contents, tlv};
 ghost use Rattle.der_core.specs.SliceWriters.{Keeps, room_of, written_of};
 ghost use Rattle.der_core.specs.Laws.Numbers.{Keeps-itself, Keeps-through};
 
@@ -35,7 +35,7 @@ impl Writer for CountingWriter<'_> {
 
 /// Appends the encoding of a number.
 pub fn write_number(number: &UintRef<'_>, writer: &mut CountingWriter<'_>) -> Result<()>
-    ensures { let encoding = tlv integer.octet (number_contents (number_from_digits 256 (bytes_of number.now))) in
+    ensures { let encoding = tlv integer_tag.octet (number_contents (number_from_digits 256 (bytes_of number.now))) in
         OnOk result (written_of writer.new.inner ≡ written_of writer.old.inner ++ encoding) }
 {
     number.encode(writer)

@@ -1,7 +1,7 @@
 //! A record with a part that is there or not, in front of another.
 ghost use Rattle.std.specs.Prelude.{◌≡◌, ◌∷◌, [], IfErr, length, refl, bytes_eq};
 ghost use Rattle.standard.specs.Statement as standard;
-ghost use Rattle.der_core.specs.Words.{Answers, Spells, Unwritten, alike, encode_error, ok_of, one_spelling, whole, itself_once};
+ghost use Rattle.der_core.specs.Words.{Answers, Spells, Unwritten, reading_alike, encode_error, ok_of, one_spelling_shortest, whole, itself_once};
 ghost use Rattle.examples.specs.Extension.{IsTrueOctet, critical_part, true_law, true_octets, true_read};
 
 use der_core::{
@@ -47,9 +47,9 @@ impl Contents for True {
 
     ghost law = { true_law };
 
-    ghost shortest = { one_spelling IsTrueOctet true_octets };
+    ghost shortest = { one_spelling_shortest IsTrueOctet true_octets };
 
-    ghost reads_alike = { alike true_read };
+    ghost reads_alike = { reading_alike true_read };
 }
 
 impl TaggedBy for True {

@@ -1,8 +1,8 @@
 //! Octets that have to stand in a place, as a part of a record.
 ghost use Rattle.std.specs.Prelude.{◌≡◌, ◌≤◌, ◌<◌, List, ℕ, length, true};
 ghost use Rattle.der_core.specs.declared.error.ErrorKind.{ErrorKind as Kind};
-ghost use Rattle.der_core.specs.Words.{ReadsFront, TellsOfBytes, front_alike, itself_once, limit, one_spelling, starts_with_any};
-ghost use Rattle.examples.specs.FixedOctets.{fixed_law, fixed_octets, fixed_read, fixed_some};
+ghost use Rattle.der_core.specs.Words.{ReadsFront, TellsOfBytes, front_alike, itself_once, limit, one_spelling_shortest, starts_with_any};
+ghost use Rattle.examples.specs.FixedOctets.{fixed_octets, fixed_octets_law, fixed_read, fixed_some};
 
 use der_core::{
     AsksNone, BackWriter, Decode, Encode, Encoding, ErrorKind, Length, Memory, OneEncoding, Reader,
@@ -57,9 +57,9 @@ impl<F: FixedOctets> Encoding for Fixed<F> {
 
     ghost read_front = { fixed_read F.octets F.fault };
 
-    ghost law = { fixed_law F.octets F.fault F.tells };
+    ghost law = { fixed_octets_law F.octets F.fault F.tells };
 
-    ghost shortest = { one_spelling (λ _. Unit {0}) (fixed_octets F.octets) };
+    ghost shortest = { one_spelling_shortest (λ _. Unit {0}) (fixed_octets F.octets) };
 
     ghost some = { fixed_some F.octets F.some };
 

@@ -4,7 +4,7 @@ ghost use Rattle.std.specs.Io.KnownBytes.{Appends, Keeps};
 ghost use Rattle.standard.specs.Statement.{Decodes};
 ghost use Rattle.der_core.specs.Words.{AppendsFront, GivesAll, OneFailed, WhyReadingStopped};
 ghost use Rattle.pkcs1.specs.Words.{held_view};
-ghost use Rattle.examples.specs.KeyStore.{Begins, BeginsWithNone, Copies, StoreEncoding, is_long};
+ghost use Rattle.examples.specs.KeyStore.{BeginsWithEntry, BeginsWithNone, Copies, StoreEncoding, is_long};
 
 use der_core::{Error, Length, Sink, Source, put_all, read_all};
 use pkcs1::RsaPrivateKeyView;
@@ -28,7 +28,7 @@ pub enum StoreError {
 
 /// The key of the first entry of a store, and what stands behind the entry.
 fn first_entry(store: &[u8]) -> Option<(RsaPrivateKeyView<'_>, &[u8])>
-    ensures some { IfSome result (λ first. Begins (held_view first.0) store.now first.1.now) }
+    ensures some { IfSome result (λ first. BeginsWithEntry (held_view first.0) store.now first.1.now) }
     ensures none { IsNone result → BeginsWithNone store.now }
 {
     match store {

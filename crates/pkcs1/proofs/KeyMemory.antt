@@ -4,7 +4,7 @@ use Rattle.std.proofs.Common.{ℕ, List, [], ◌∷◌, ◌++◌, ◌≡◌, ◌
 use Rattle.std.specs.List.{concat}
 use Rattle.der_core.specs.declared.error.ErrorKind.{ErrorKind}
 use Rattle.der_core.specs.Words.{tlv_recast, tlv_not_empty, tlv_split, parts_ask_none, tlv_fit, tlv_is, tlv_made, prints_one, limit, AllocatesInParts, ReadsFrontPrinted, number_contents, AllocatesBehind, AllocatesIn, Begins, FaultOrMemory, NoValueOrMemory, FrontReading, Tlv, tlv}
-use Rattle.pkcs1.specs.Words.{AllocatesForKey, AllocatesInNumbers, AllocatesInOther, AllocatesInOthers, NumberPrints, OthersFollow, VersionPrints, OtherRow, PrivateRow, front_parts, key_numbers, integer_law, front_law, others_in, private_spells, read_valid, others_as, AnyNumber, FrontPrints, OtherPrints, PrivateIsValid, PrivateSpells, front_printed, others_printed, private_printed, other_from, private_from}
+use Rattle.pkcs1.specs.Words.{AllocatesForKey, AllocatesInNumbers, AllocatesInOther, AllocatesInOthers, NumberPrints, OthersFollow, VersionPrints, OtherRow, PrivateRow, private_front_parts, key_numbers, integer_law, front_law, others_in, private_spells, read_valid, others_as, AnyNumber, FrontPrints, OtherPrints, PrivateIsValid, PrivateSpells, front_printed, others_printed, private_printed, other_from, private_from}
 use Rattle.standard.specs.Statement as standard
 use Rattle.standard.specs.Statement.{integer}
 
@@ -30,11 +30,11 @@ module _ {S V : Type 0} {valid : S → Type 0} {printed : S → List ℕ} {at : 
       → (c : List ℕ) → c ≡ private_printed printed s → length c ≤ limit
       → AllocatesBehind (FrontPrints valid printed means) (AllocatesIn (Tlv 48 Listed)) c → ⊥
   no_others s two ok c is few (front, (x, y, (f, m, right, begun), begins, joined)) =
-      let mine : c ≡ front_printed printed (front_parts s) ++ [] =
-      is ∙ ap (λ o. front_printed printed (front_parts s) ++ others_printed printed o) two in
+      let mine : c ≡ front_printed printed (private_front_parts s) ++ [] =
+      is ∙ ap (λ o. front_printed printed (private_front_parts s) ++ others_printed printed o) two in
       let theirs : c ≡ front_printed printed f ++ y = joined ∙ ap (λ l. l ++ y) begun in
       let one =
-      prints_one (front_law law) f (front_parts s) y [] right (read_valid law s ok).0
+      prints_one (front_law law) f (private_front_parts s) y [] right (read_valid law s ok).0
       (omega (arith, few, ap length theirs)) (sym theirs ∙ mine) in
       omega (
         arith,

@@ -6,7 +6,7 @@ use Rattle.std.specs.declared.vec.Vec.{Vec}
 use Rattle.der_core.specs.Words.{Prepends, limit, Appends, Counts}
 use Rattle.der_core.specs.declared.back_writer.BackWriter.{BackWriter}
 use Rattle.der_core.specs.declared.error.Error.{Error}
-use Rattle.pkcs1.specs.Words.{Row, RowIsValid, row_printed, OtherRow, OthersAreValid, PrivateRow, eight_behind, others_in, version_of, private_row, other_as, others_as, ListsNone, other_of, others_of, AreSome, OtherIsValid, PrivateIsValid, primes_printed, private_printed}
+use Rattle.pkcs1.specs.Words.{KeyRow, RowIsValid, row_printed, OtherRow, OthersAreValid, PrivateRow, eight_behind, others_in, version_of, private_row, other_as, others_as, ListsNone, other_of, others_of, AreSome, OtherIsValid, PrivateIsValid, primes_printed, private_printed}
 use Rattle.pkcs1.specs.declared.private_key.other_prime_info.OtherPrimeInfo.{OtherPrimeInfo}
 use Rattle.pkcs1_params.proofs.Masks.{appends_as, counts_as}
 use Rattle.standard.specs.Statement.{IfPresent, sequence}
@@ -19,60 +19,67 @@ version_is value f (Some v) = refl
 
 module _ {S : Type 0} (valid : S → Type 0) (printed : S → List ℕ) (key : PrivateRow S) (version : ℕ)
     (is : version ≡ version_of (others_in key)) where
-  abbrev pub Parts : Row S (List (OtherRow S))
-  Parts = (version, key)
+  abbrev pub private_row_parts : KeyRow S (List (OtherRow S))
+  private_row_parts = (version, key)
 
-  abbrev AreValid : List (OtherRow S) → Type 0
-  AreValid = AllByRecursion (OtherIsValid valid)
+  abbrev RowPrimesAreValid : List (OtherRow S) → Type 0
+  RowPrimesAreValid = AllByRecursion (OtherIsValid valid)
 
-  abbrev pub IsValid : Type 0
-  IsValid = RowIsValid valid AreValid Parts
+  abbrev pub PrivateRowIsValid : Type 0
+  PrivateRowIsValid = RowIsValid valid RowPrimesAreValid private_row_parts
 
-  abbrev pub octets : List ℕ
-  octets = row_printed printed (λ others. sequence (primes_printed printed others)) Parts
+  abbrev pub private_row_octets : List ℕ
+  private_row_octets = row_printed printed (λ others. sequence (primes_printed printed others)) private_row_parts
 
-  pub row_is : octets ≡ private_printed printed key
-  row_is =
+  pub private_row_is : private_row_octets ≡ private_printed printed key
+  private_row_is =
       sym (private_row printed key
       ∙ ap (λ v. row_printed printed (λ others. sequence (primes_printed printed others)) (v, key))
       (sym is))
 
-  small : version < 256
-  small = go (others_in key) is
+  version_small_octet : version < 256
+  version_small_octet = go (others_in key) is
     where
       go : (o : Option (List (OtherRow S))) → version ≡ version_of o → version < 256
       go None e = omega (arith, e)
       go (Some others) e = omega (arith, e)
 
-  pub key_valid : AreSome (others_in key) → IsValid → PrivateIsValid valid key
+  pub key_valid : AreSome (others_in key) → PrivateRowIsValid → PrivateIsValid valid key
   key_valid some r =
-      eight_behind valid (IfPresent AreValid) (OthersAreValid valid) key (others_in key) (λ all. (some, all)) r.1
+      eight_behind valid (IfPresent RowPrimesAreValid) (OthersAreValid valid) key (others_in key) (λ all. (some, all))
+      r.1
 
-  pub row_valid : PrivateIsValid valid key → IsValid
-  row_valid p =
-      (small, eight_behind valid (OthersAreValid valid) (IfPresent AreValid) key (others_in key) (λ both. both.1) p)
+  pub row_valid : PrivateIsValid valid key → PrivateRowIsValid
+  row_valid p = (
+    version_small_octet,
+    eight_behind valid (OthersAreValid valid) (IfPresent RowPrimesAreValid) key (others_in key)
+        (λ both. both.1) p,
+  )
 
-  pub key_counted : (r : Result ℕ Error) → AreSome (others_in key) → Counts IsValid octets r
+  pub key_counted : (r : Result ℕ Error) → AreSome (others_in key) → Counts PrivateRowIsValid private_row_octets r
       → Counts (PrivateIsValid valid key) (private_printed printed key) r
   key_counted r some counted =
-      subst (λ o. Counts (PrivateIsValid valid key) o r) row_is
-      (counts_as octets r (key_valid some) row_valid counted)
+      subst (λ o. Counts (PrivateIsValid valid key) o r) private_row_is
+      (counts_as private_row_octets r (key_valid some) row_valid counted)
 
-  pub row_fits : length (private_printed printed key) ≤ limit → length octets ≤ limit
-  row_fits fits = omega (arith, fits, ap length row_is)
+  pub row_fits : length (private_printed printed key) ≤ limit → length private_row_octets ≤ limit
+  row_fits fits = omega (arith, fits, ap length private_row_is)
 
-  pub row_room : {n : ℕ} → length (private_printed printed key) ≤ n → length octets ≤ n
-  row_room fits = omega (arith, fits, ap length row_is)
+  pub row_room : {n : ℕ} → length (private_printed printed key) ≤ n → length private_row_octets ≤ n
+  row_room fits = omega (arith, fits, ap length private_row_is)
 
   pub key_appended : {W A : Type 0} (Room : W → Option ℕ) (Written : W → List ℕ → Type 0) (old new : W)
-      (r : Result A Error) → PrivateIsValid valid key → Appends IsValid octets Room Written old new r
+      (r : Result A Error) → PrivateIsValid valid key
+      → Appends PrivateRowIsValid private_row_octets Room Written old new r
       → Appends (PrivateIsValid valid key) (private_printed printed key) Room Written old new r
   key_appended Room Written old new r ok told =
-      appends_as IsValid (PrivateIsValid valid key) (row_valid ok) ok octets (private_printed printed key) Room Written
-      old new r row_is told
+      appends_as PrivateRowIsValid (PrivateIsValid valid key) (row_valid ok) ok private_row_octets
+      (private_printed printed key) Room Written
+      old new r private_row_is told
 
-  pub key_prepended : (old new : BackWriter) → Prepends octets old new → Prepends (private_printed printed key) old new
-  key_prepended old new told = subst (λ o. Prepends o old new) row_is told
+  pub key_prepended : (old new : BackWriter) → Prepends private_row_octets old new
+      → Prepends (private_printed printed key) old new
+  key_prepended old new told = subst (λ o. Prepends o old new) private_row_is told
 
 -- A list that isn't there empty.
 pub listed_some : {U N M : Type 0} (value : U → N) (f : N → M) (o : Option (Vec (OtherPrimeInfo U) Global))

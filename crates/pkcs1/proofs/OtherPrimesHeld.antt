@@ -3,8 +3,8 @@ use Rattle.std.proofs.Common.{◌≡◌, ℕ, ◌-◌, ◌<◌, List, [], ◌∷
 use Rattle.der_core.specs.Words.{nat_tests, AreBytes, Input, front_of, read_from, ok_pair, HoldsBytes}
 use Rattle.std.proofs.lemmas.Grind.{common_steps}
 use Rattle.std.proofs.lemmas.List.{length-map}
-use Rattle.der_core.proofs.ReadSteps.{Gives, some_same}
-use Rattle.pkcs1.specs.Words.{held_other_primes, primes_encoded, number, primes_read, OtherRow, item_shorter, integer_law, primes_law, listed_printed, held_behind, held_read, next_law, next_some, one_held, next_prime, others_left, others_left-is, other_stated}
+use Rattle.der_core.proofs.ReadSteps.{Gives, input_injective}
+use Rattle.pkcs1.specs.Words.{held_other_primes, primes_encoded, number_front, primes_read, OtherRow, item_shorter, integer_law, primes_law, listed_printed, held_behind, held_read, next_law, next_some, one_held, next_prime, others_left, others_left-is, other_stated}
 use Rattle.std.specs.List.{concat}
 use Rattle.pkcs1.specs.declared.other_primes.OtherPrimes.{OtherPrimes}
 
@@ -27,39 +27,39 @@ left_encoded primes are =
     ∙ ap (λ others. primes_encoded (map other_stated others)) (sym (others_left-is primes))
 
 -- what an iterator has left, and what it has left behind the first one
-pub steps_behind : (old new : OtherPrimes) (other : OtherRow ℕ) → new.left ≡ old.left - 1 → AreBytes old.bytes.now
+pub held_primes_step : (old new : OtherPrimes) (other : OtherRow ℕ) → new.left ≡ old.left - 1 → AreBytes old.bytes.now
     → next_prime old.bytes.now ≡ Ok (other, new.bytes.now)
     → held_other_primes old ≡ other_stated other ∷ held_other_primes new
-steps_behind old new other less are next =
+held_primes_step old new other less are next =
     let s = held_behind old.bytes.now new.bytes.now old.left other old.held are next in
     let same = one_held new.bytes.now (old.left - 1) new.left s.0 new.held in
     ap (map other_stated) (others_left-is old ∙ s.1 ∙ ap (λ (o : List (OtherRow ℕ)). other ∷ o)
     (same ∙ sym (others_left-is new)))
 
 -- the list that was kept
-pub list_read : (primes : OtherPrimes) (bytes : List ℕ) → primes.bytes.now ≡ bytes
-    → primes_read number bytes ≡ Ok (others_left primes)
-list_read primes bytes is =
-    ap (primes_read number) (sym is)
+pub held_primes_read : (primes : OtherPrimes) (bytes : List ℕ) → primes.bytes.now ≡ bytes
+    → primes_read number_front bytes ≡ Ok (others_left primes)
+held_primes_read primes bytes is =
+    ap (primes_read number_front) (sym is)
     ∙ held_read primes.bytes.now primes.left primes.held
     ∙ ap (λ o. Ok o) (sym (others_left-is primes))
 
 -- what reading the first one gave
-pub next_read : {X : Type 0} (value : X → OtherRow ℕ) (other : X) (i : List ℕ) (before after : Input)
+pub next_prime_read : {X : Type 0} (value : X → OtherRow ℕ) (other : X) (i : List ℕ) (before after : Input)
     → before ≡ Some i → Gives next_prime (value other) before after
     → (rest : List ℕ) × (next_prime i ≡ Ok (value other, rest)) × (after ≡ Some rest)
-next_read value other i None after is gives = let never = is in cc
-next_read value other i (Some j) after is (rest, read, left) =
-    (rest, ap next_prime (sym (some_same j i is)) ∙ read, left)
+next_prime_read value other i None after is gives = let never = is in cc
+next_prime_read value other i (Some j) after is (rest, read, left) =
+    (rest, ap next_prime (sym (input_injective j i is)) ∙ read, left)
 
-pub front_shorter : (i rest : List ℕ) (other : OtherRow ℕ) → AreBytes i → next_prime i ≡ Ok (other, rest)
+pub next_prime_shorter : (i rest : List ℕ) (other : OtherRow ℕ) → AreBytes i → next_prime i ≡ Ok (other, rest)
     → length rest < length i
-front_shorter i rest other are next = (item_shorter next_law next_some i rest other are next).0
+next_prime_shorter i rest other are next = (item_shorter next_law next_some i rest other are next).0
 
-pub all_taken : (before : Input) (n : ℕ) (bytes rest : List ℕ) → HoldsBytes before n
+pub front_of_all_taken : (before : Input) (n : ℕ) (bytes rest : List ℕ) → HoldsBytes before n
     → read_from before (front_of n) ≡ Ok (bytes, rest) → (before ≡ Some bytes) × (rest ≡ [])
-all_taken None n bytes rest h r = absurd h
-all_taken (Some c) n bytes rest h r =
+front_of_all_taken None n bytes rest h r = absurd h
+front_of_all_taken (Some c) n bytes rest h r =
     let room : nat_lt (length c) n ≡ false = grind (arith, nat_tests, h) in
     let p = ok_pair (take n c) bytes (drop n c) rest (rw room at r) in
     let none : length rest ≡ 0 = rw (← p.1) (grind (arith, common_steps, h)) in

@@ -2,7 +2,7 @@
 use Rattle.std.specs.Prelude.{ℕ, List, [], ◌++◌, ◌<◌, length, map, ◌↔◌, Option}
 use Rattle.std.specs.List.{AllByRecursion, concat}
 use Rattle.der_core.specs.Words.{Prints, Spells, row}
-use Rattle.pkcs1.specs.Keys.{Eight, OtherRow, PrivateRow, Row, Three, front_as, front_parts, other_as, others_in, private_as}
+use Rattle.pkcs1.specs.Keys.{Eight, KeyRow, OtherRow, PrivateRow, Three, front_as, other_as, others_in, private_as, private_front_parts}
 use Rattle.standard.specs.Statement.{IfPresent, integer, optional, sequence}
 
 -- Each number is valid.
@@ -46,7 +46,7 @@ module _ {Number : Type 0} (valid : Number → Type 0) where
   FrontIsValid front = (front.0 < 2) × EightAreValid valid (λ _. Unit {0}) front.1
 
   -- A row with its version.
-  abbrev pub RowIsValid : {Others : Type 0} → (Others → Type 0) → Row Number Others → Type 0
+  abbrev pub RowIsValid : {Others : Type 0} → (Others → Type 0) → KeyRow Number Others → Type 0
   RowIsValid AreValid row = (row.0 < 256) × EightAreValid valid (IfPresent AreValid) row.1
 
 -- The contents of one of the other primes, of their list, and the list as a part.
@@ -65,9 +65,9 @@ module _ {Number : Type 0} (printed : Number → List ℕ) where
   front_printed = row integer (eight_printed printed (λ _. []))
 
   abbrev pub private_printed : PrivateRow Number → List ℕ
-  private_printed key = front_printed (front_parts key) ++ others_printed (others_in key)
+  private_printed key = front_printed (private_front_parts key) ++ others_printed (others_in key)
 
-  abbrev pub row_printed : {Others : Type 0} → (Others → List ℕ) → Row Number Others → List ℕ
+  abbrev pub row_printed : {Others : Type 0} → (Others → List ℕ) → KeyRow Number Others → List ℕ
   row_printed others = row integer (eight_printed printed (optional others))
 
 -- What is written of a key is valid.

@@ -3,8 +3,8 @@ ghost use Rattle.std.specs.Prelude.{◌≡◌, [], ◌≤◌, List, ℕ, length,
 ghost use Rattle.std.specs.List.{AllByRecursion};
 ghost use Rattle.std.specs.Iterator.{UpTo, YieldsFirstBy, item_count};
 ghost use Rattle.std.specs.Iterator.SizeHint.{IsWithinCount};
-ghost use Rattle.der_core.specs.Words.{AreBytes, ReadsFront, alike, bytes_of, left_of, limit, one_spelling};
-ghost use Rattle.pkcs1.specs.KeyReadings.{number, primes_read};
+ghost use Rattle.der_core.specs.Words.{AreBytes, ReadsFront, bytes_of, left_of, limit, one_spelling_shortest, reading_alike};
+ghost use Rattle.pkcs1.specs.KeyReadings.{number_front, primes_read};
 ghost use Rattle.pkcs1.specs.Keys.{OtherRow};
 ghost use Rattle.pkcs1.specs.Laws.PrimesHeld.{HoldsPrimes-prop};
 ghost use Rattle.pkcs1.specs.Laws.PrintedKeys.{integer_law, primes_law};
@@ -104,7 +104,7 @@ fn as_octets(bytes: &[u8]) -> &[u8]
 fn count_others(bytes: &[u8]) -> Result<usize>
     requires { length bytes.now ≤ limit }
     ensures ok { IfOk result (HoldsPrimes bytes.now) }
-    ensures exact { IfErr result (λ e. primes_read number bytes.now ≡ Err e.kind) }
+    ensures exact { IfErr result (λ e. primes_read number_front bytes.now ≡ Err e.kind) }
 {
     let mut reader = SliceReader::new(bytes)?;
     let mut count = 0;
@@ -162,15 +162,16 @@ impl Contents for OtherPrimes<'_> {
 
     ghost printed = { primes_printed standard.integer };
 
-    ghost read_spelling = { primes_read number };
+    ghost read_spelling = { primes_read number_front };
 
-    ghost read = { primes_read number };
+    ghost read = { primes_read number_front };
 
     ghost law = { primes_law integer_law };
 
-    ghost shortest = { one_spelling (AllByRecursion (OtherIsValid AnyNumber)) (primes_printed standard.integer) };
+    ghost shortest = { one_spelling_shortest (AllByRecursion (OtherIsValid AnyNumber))
+        (primes_printed standard.integer) };
 
-    ghost reads_alike = { alike (primes_read number) };
+    ghost reads_alike = { reading_alike (primes_read number_front) };
 }
 
 impl TaggedBy for OtherPrimes<'_> {

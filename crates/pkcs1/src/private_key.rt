@@ -1,6 +1,6 @@
 //! RSA private keys.
 ghost use Rattle.std.specs.Prelude.{◌≡◌, ◌↔◌, ◌⊎◌, ⊤, IsSome, IsErrAnd, refl};
-ghost use Rattle.der_core.specs.Words.{Appends, Counts, RefusedAs, bytes_of, sequence};
+ghost use Rattle.der_core.specs.Words.{Appends, Counts, RefusedAs, bytes_of, sequence_tag};
 ghost use Rattle.pkcs1.specs.Words.{AllocatesForKey, ListsNone, PrivateIsValid, PrivateRow, held_private_key, held_public_key, private_alike, private_as, private_key_read, private_key_with, private_law, private_printed, private_shortest, public_part};
 
 mod der;
@@ -177,14 +177,14 @@ impl<'a, U: Decode<&'a [u8], Global>> DecodeValue<&'a [u8], Global> for RsaPriva
 }
 
 impl<U: Encode> EncodeValue for RsaPrivateKey<U> {
-    ghost refused = { λ tag. (tag ≡ sequence) ⊎ U.Encode.refused tag };
+    ghost refused = { λ tag. (tag ≡ sequence_tag) ⊎ U.Encode.refused tag };
 
     fn value_len(&self) -> Result<Length>
         ensures counts { let s = private_as U.written (private_key_with U.value self.now) in
             Counts (PrivateIsValid U.valid s) (private_printed U.printed s) result }
-        ensures tag { RefusedAs (λ tag. (tag ≡ sequence) ⊎ U.Encode.refused tag) result }
+        ensures tag { RefusedAs (λ tag. (tag ≡ sequence_tag) ⊎ U.Encode.refused tag) result }
         ensures no_primes { ListsNone self.now.other_prime_infos
-            → IsErrAnd result (λ e. e.kind ≡ ErrorKind.Value sequence) }
+            → IsErrAnd result (λ e. e.kind ≡ ErrorKind.Value sequence_tag) }
     {
         if lists_none(&self.other_prime_infos) {
             return Err(der_core::Error::new(ErrorKind::Value { tag: Tag::SEQUENCE }));
@@ -200,10 +200,10 @@ impl<U: Encode> EncodeValue for RsaPrivateKey<U> {
         ensures appends { let s = private_as U.written (private_key_with U.value self.now) in
             let octets = private_printed U.printed s in
             Appends (PrivateIsValid U.valid s) octets W.room W.written writer.old writer.new result }
-        ensures tag { RefusedAs (λ tag. (tag ≡ sequence) ⊎ U.Encode.refused tag) result }
+        ensures tag { RefusedAs (λ tag. (tag ≡ sequence_tag) ⊎ U.Encode.refused tag) result }
         ensures kept { W.keeps writer.old writer.new }
         ensures no_primes { ListsNone self.now.other_prime_infos
-            → IsErrAnd result (λ e. e.kind ≡ ErrorKind.Value sequence) }
+            → IsErrAnd result (λ e. e.kind ≡ ErrorKind.Value sequence_tag) }
     {
         self.value_len()?;
         self.append_value(writer)

@@ -1,7 +1,7 @@
 //! Traits for keys of any type: PKCS #1 encodings decoded and written, in memory and in files.
 ghost use Rattle.std.specs.Prelude.{◌≡◌, ◌⊎◌, ⊤, List, ℕ, Err, IfOk, IfErr, OnOk, IsErrAnd, Some};
 ghost use Rattle.std.specs.Path.{path_bytes};
-ghost use Rattle.der_core.specs.Words.{FileFault, FileGives, FileRefuses, FileTakes, IsDocument, encoding_of, FaultOrMemory, IsFile, sequence, bytes_of, own_bytes_of};
+ghost use Rattle.der_core.specs.Words.{FileFault, FileGives, FileRefuses, FileTakes, IsDocument, encoding_of, FaultOrMemory, IsFile, sequence_tag, bytes_of, own_bytes_of};
 ghost use Rattle.pkcs1.specs.Words.{OwnedKeyAllocates, OwnedPublicKeyAllocates, rsa_private_key, rsa_public_key, IsPrivateKey, ListsNone, Rejects, Withholds, held_private_key, held_public_key};
 ghost use Rattle.pkcs1_params.specs.Words.{ErrsOrAsks, IsAsn1};
 ghost use Rattle.standard.specs.Statement.{Decodes, IsShortest, PrivateKeyEncoding, PublicKeyEncoding};
@@ -188,7 +188,7 @@ impl<'a> EncodeRsaPrivateKey for RsaPrivateKey<UintRef<'a>> {
             IfOk result (λ document. IsShortest PrivateKeyEncoding key (encoding_of document)) }
         ensures err { IfErr result (Withholds IsPrivateKey PrivateKeyEncoding (held_private_key bytes_of self.now)) }
         ensures no_primes { ListsNone self.now.other_prime_infos
-            → IsErrAnd result (IsAsn1 (λ e. e.kind ≡ ErrorKind.Value sequence)) }
+            → IsErrAnd result (IsAsn1 (λ e. e.kind ≡ ErrorKind.Value sequence_tag)) }
     {
         self.to_document(alloc)
     }
@@ -205,7 +205,7 @@ impl EncodeRsaPrivateKey for RsaPrivateKey<Uint> {
         ensures err { let key = held_private_key own_bytes_of self.now in
             IfErr result (Withholds IsPrivateKey PrivateKeyEncoding key) }
         ensures no_primes { ListsNone self.now.other_prime_infos
-            → IsErrAnd result (IsAsn1 (λ e. e.kind ≡ ErrorKind.Value sequence)) }
+            → IsErrAnd result (IsAsn1 (λ e. e.kind ≡ ErrorKind.Value sequence_tag)) }
     {
         self.to_document(alloc)
     }

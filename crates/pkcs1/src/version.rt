@@ -4,8 +4,8 @@ ghost use Rattle.std.proofs.Common.{rules};
 ghost use Rattle.std.specs.Cmp.{partial_order_from_own_ties};
 ghost use Rattle.std.specs.Cmp.Rules.{comparing};
 ghost use Rattle.std.specs.Ordering.{on, nat_cmp, as_partial_cmp};
-ghost use Rattle.der_core.specs.Words.{alike, number_contents};
-ghost use Rattle.pkcs1.specs.Words.{IsVersionOf, number_of, version_law, version_read, version_shortest};
+ghost use Rattle.der_core.specs.Words.{number_contents, reading_alike};
+ghost use Rattle.pkcs1.specs.Words.{IsVersionOf, version_law, version_number, version_read, version_shortest};
 
 use der_core::{
     BackWriter, Contents, DecodeValue, EncodeValue, ErrorKind, Header, IntegerTag, Length, Memory,
@@ -37,7 +37,7 @@ impl Version {
 }
 
 impl PartialEq for Version {
-    ghost eq = { on number_of nat_eq };
+    ghost eq = { on version_number nat_eq };
 
     ghost laws = { Prim.search (comparing, rules) };
 
@@ -51,7 +51,7 @@ impl Eq for Version {
 }
 
 impl PartialOrd for Version {
-    ghost partial_cmp = { as_partial_cmp (on number_of nat_cmp) };
+    ghost partial_cmp = { as_partial_cmp (on version_number nat_cmp) };
 
     ghost laws = { partial_order_from_own_ties (Prim.search (comparing, rules)) (Prim.search (comparing, rules)) };
 
@@ -61,7 +61,7 @@ impl PartialOrd for Version {
 }
 
 impl Ord for Version {
-    ghost cmp = { on number_of nat_cmp };
+    ghost cmp = { on version_number nat_cmp };
 
     ghost total = { Prim.search (comparing, rules) };
 
@@ -76,10 +76,10 @@ impl Ord for Version {
 }
 
 impl From<Version> for u8 {
-    ghost from_gives = { λ version n. n ≡ number_of version };
+    ghost from_gives = { λ version n. n ≡ version_number version };
 
     fn from(version: Version) -> u8
-        ensures { result ≡ number_of version }
+        ensures { result ≡ version_number version }
     {
         version as u8
     }
@@ -104,7 +104,7 @@ impl TryFrom<u8> for Version {
 impl Contents for Version {
     ghost Value = { ℕ };
 
-    ghost value = { number_of };
+    ghost value = { version_number };
 
     ghost Spelling = { ℕ };
 
@@ -124,7 +124,7 @@ impl Contents for Version {
 
     ghost shortest = { version_shortest };
 
-    ghost reads_alike = { alike version_read };
+    ghost reads_alike = { reading_alike version_read };
 }
 
 impl TaggedBy for Version {

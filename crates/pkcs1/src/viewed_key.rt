@@ -1,7 +1,7 @@
 //! The numbers of a private key over the input, and where its other primes lie: what `RsaPrivateKeyView` reads.
 ghost use Rattle.std.specs.Prelude.{◌≡◌, ℕ, IsTrue, IfSome, Ok, Some, ◌↔◌, option_map};
-ghost use Rattle.der_core.specs.Words.{ReadsWhole, alike, bytes_of, one_spelling};
-ghost use Rattle.pkcs1.specs.Words.{AnyNumber, HoldsNone, PrivateIsValid, PrivateRow, integer_law, key_with, number, number_in, number_of, others_left, others_read, private_key_read, private_law, private_printed};
+ghost use Rattle.der_core.specs.Words.{ReadsWhole, bytes_of, one_spelling_shortest, reading_alike};
+ghost use Rattle.pkcs1.specs.Words.{AnyNumber, HoldsNone, PrivateIsValid, PrivateRow, integer_law, key_with, number_front, number_in, others_left, others_read, private_key_read, private_law, private_printed, version_number};
 ghost use Rattle.standard.specs.Statement as standard;
 
 use crate::key_numbers::{KeyFront, key_of};
@@ -31,7 +31,7 @@ fn read_listed<'a, R: Reader<&'a [u8]>>(
     reader: &mut R,
     version: Version,
 ) -> Result<Option<OtherPrimes<'a>>>
-    ensures { let read = others_read number (number_of version) in
+    ensures { let read = others_read number_front (version_number version) in
         ReadsWhole (option_map others_left) read (λ _. ⊥) result (R.left reader.old) (R.left reader.new) }
 {
     let others: Option<OtherPrimes<'a>> = decode_optional(NoMemory, reader)?;
@@ -48,7 +48,7 @@ fn read_listed<'a, R: Reader<&'a [u8]>>(
 /// The other primes of a key of several that all of the bytes encode, if that is quickly told.
 #[inline(never)]
 fn quick_others(bytes: &[u8]) -> Option<OtherPrimes<'_>>
-    ensures { IfSome result (λ others. others_read number 1 bytes.now ≡ Ok (Some (others_left others))) }
+    ensures { IfSome result (λ others. others_read number_front 1 bytes.now ≡ Ok (Some (others_left others))) }
 {
     if !begins_with(bytes, Tag::SEQUENCE) {
         return None;
@@ -65,7 +65,7 @@ fn quick_others(bytes: &[u8]) -> Option<OtherPrimes<'_>>
 #[inline(always)]
 fn quick_listed(bytes: &[u8], version: Version) -> Option<Option<OtherPrimes<'_>>>
     ensures { IfSome result (λ others.
-        others_read number (number_of version) bytes.now ≡ Ok (option_map others_left others)) }
+        others_read number_front (version_number version) bytes.now ≡ Ok (option_map others_left others)) }
 {
     match version {
         Version::Multi => match quick_others(bytes) {
@@ -92,15 +92,15 @@ impl Contents for ViewedKey<'_> {
 
     ghost printed = { private_printed standard.integer };
 
-    ghost read_spelling = { private_key_read number };
+    ghost read_spelling = { private_key_read number_front };
 
-    ghost read = { private_key_read number };
+    ghost read = { private_key_read number_front };
 
     ghost law = { private_law integer_law };
 
-    ghost shortest = { one_spelling (PrivateIsValid AnyNumber) (private_printed standard.integer) };
+    ghost shortest = { one_spelling_shortest (PrivateIsValid AnyNumber) (private_printed standard.integer) };
 
-    ghost reads_alike = { alike (private_key_read number) };
+    ghost reads_alike = { reading_alike (private_key_read number_front) };
 }
 
 impl<'a> DecodeValue<&'a [u8], NoMemory> for ViewedKey<'a> {

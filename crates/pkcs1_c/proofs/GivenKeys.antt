@@ -12,32 +12,33 @@ use Rattle.pkcs1_c.specs.declared.given_number.Number.{Number}
 use Rattle.pkcs1_c.specs.declared.private_key.OtherPrime.{OtherPrime}
 use Rattle.pkcs1_c.specs.declared.private_key.PrivateKey.{PrivateKey}
 use Rattle.pkcs1_c.specs.declared.public_key.PublicKey.{PublicKey}
-use Rattle.pkcs1_c.specs.Words.{number_of, NoStatus, NumberError, NumbersError, given_numbers, numbers_of_primes, two_numbers, HasNumbers, HasPrivateNumbers, HaveBytes, number, numbers_of_key, numbers_of_prime, other_prime, other_primes, private_key, public_key, AreCounted, given_encoded}
-use Rattle.pkcs1_c.proofs.StructErrors.{none_apart, none_both, numbers_have, part_none}
+use Rattle.pkcs1_c.specs.Words.{given_octets_of, NoStatus, NumberError, NumbersError, given_numbers, numbers_of_primes, two_numbers, HasNumbers, HasPrivateNumbers, HaveBytes, number_seen, numbers_of_key, numbers_of_prime, other_prime_seen, other_primes_seen, private_key_seen, public_key_seen, AreCounted, given_encoded}
+use Rattle.pkcs1_c.proofs.StructErrors.{numbers_have, numbers_none_apart, numbers_none_both, part_none}
 use Rattle.der_core.proofs.Writing.{counts_joined}
 use Rattle.der_core.proofs.Items.{encodings_behind_len, encodings_more}
 use Rattle.der_core.specs.declared.error.Error.{Error}
-use Rattle.pkcs1_params.proofs.Masks.{uncounted_as}
+use Rattle.pkcs1_params.proofs.Masks.{uncounted_overflows}
 
 -- == Numbers in an encoding within the limit ==
 number_fits : (n : ℕ) → length (octets n) ≤ length (integer n)
 number_fits n =
     let fit = tlv_fit 2 (if nat_lt (slice_index (octets n) 0) 128 then octets n else (0 ∷ octets n)) in grind arith
 
-numbers_fit : (ns : List (List ℕ)) → HaveBytes ns → length (integers (map number ns)) ≤ limit
+numbers_fit : (ns : List (List ℕ)) → HaveBytes ns → length (integers (map number_seen ns)) ≤ limit
     → NoStatus (NumbersError ns)
 numbers_fit [] some few = λ s p. p
 numbers_fit (n ∷ ns) some few =
-    let l = length-append (integer (number n)) (integers (map number ns)) in
+    let l = length-append (integer (number_seen n)) (integers (map number_seen ns)) in
     part_none (NumberError n) (NumbersError ns)
-    (λ s p. omega (arith, p, number_fits (number n), l, some.0))
+    (λ s p. omega (arith, p, number_fits (number_seen n), l, some.0))
     (numbers_fit ns some.1 (omega (arith, l, few)))
 
-pub public_fits : (key : PublicKey) → HasNumbers key → (bytes : List ℕ) → PublicKeyEncoding (public_key key) bytes
+pub public_fits : (key : PublicKey) → HasNumbers key → (bytes : List ℕ) → PublicKeyEncoding (public_key_seen key) bytes
     → NoStatus (NumbersError (two_numbers key))
 public_fits key some bytes p =
     let ns = two_numbers key in
-    numbers_fit ns (some.0, (some.1, tt)) (omega (arith, tlv_fit 48 (integers (map number ns)), ap length p.1, p.0))
+    numbers_fit ns (some.0, (some.1, tt))
+    (omega (arith, tlv_fit 48 (integers (map number_seen ns)), ap length p.1, p.0))
 
 abbrev prime_contents : statement.OtherPrime → List ℕ
 prime_contents o = integers (o.prime ∷ o.exponent ∷ o.coefficient ∷ [])
@@ -46,110 +47,113 @@ abbrev HavePrimes : List OtherPrime → Type 0
 HavePrimes = AllByRecursion (λ o. HaveBytes (numbers_of_prime o))
 
 primes_fit : (others : List OtherPrime) → HavePrimes others
-    → length (concat (map (λ o. sequence (prime_contents o)) (map other_prime others))) ≤ limit
+    → length (concat (map (λ o. sequence (prime_contents o)) (map other_prime_seen others))) ≤ limit
     → NoStatus (NumbersError (numbers_of_primes others))
 primes_fit [] some few = λ s p. p
 primes_fit (o ∷ others) some few =
-    let c = prime_contents (other_prime o) in
-    let l = length-append (sequence c) (concat (map (λ o. sequence (prime_contents o)) (map other_prime others))) in
-    none_both (numbers_of_prime o) (numbers_of_primes others)
+    let c = prime_contents (other_prime_seen o) in
+    let l = length-append (sequence c)
+    (concat (map (λ o. sequence (prime_contents o)) (map other_prime_seen others))) in
+    numbers_none_both (numbers_of_prime o) (numbers_of_primes others)
     (numbers_fit (numbers_of_prime o) some.0 (omega (arith, tlv_fit 48 c, l, few)))
     (primes_fit others some.1 (omega (arith, l, few)))
 
 listed_fit : (others : List OtherPrime) → HavePrimes others
-    → length (optional statement.other_primes (other_primes others)) ≤ limit
+    → length (optional statement.other_primes (other_primes_seen others)) ≤ limit
     → NoStatus (NumbersError (numbers_of_primes others))
 listed_fit [] some few = λ s p. p
 listed_fit (o ∷ others) some few =
-    let c = concat (map (λ o. sequence (prime_contents o)) (map other_prime (o ∷ others))) in
+    let c = concat (map (λ o. sequence (prime_contents o)) (map other_prime_seen (o ∷ others))) in
     primes_fit (o ∷ others) some (omega (arith, tlv_fit 48 c, few))
 
 pub private_fits : (key : PrivateKey) (others : List OtherPrime) → HasPrivateNumbers key others → (bytes : List ℕ)
-    → PrivateKeyEncoding (private_key key others) bytes → NoStatus (NumbersError (given_numbers key others))
+    → PrivateKeyEncoding (private_key_seen key others) bytes → NoStatus (NumbersError (given_numbers key others))
 private_fits key others some bytes p =
     let ns = numbers_of_key key in
-    let first = integer (version (other_primes others)) in
-    let list = optional statement.other_primes (other_primes others) in
-    let front = first ++ integers (map number ns) in
+    let first = integer (version (other_primes_seen others)) in
+    let list = optional statement.other_primes (other_primes_seen others) in
+    let front = first ++ integers (map number_seen ns) in
     let whole : length (front ++ list) ≤ limit = omega (arith, tlv_fit 48 (front ++ list), ap length p.2, p.0) in
     let l = length-append front list in
-    let m = length-append first (integers (map number ns)) in
-    none_both ns (numbers_of_primes others) (numbers_fit ns some.1 (omega (arith, l, m, whole)))
+    let m = length-append first (integers (map number_seen ns)) in
+    numbers_none_both ns (numbers_of_primes others) (numbers_fit ns some.1 (omega (arith, l, m, whole)))
     (listed_fit others some.2 (omega (arith, l, whole)))
 
 -- == Numbers that can be held ==
 primes_have : (others : List OtherPrime) → NoStatus (NumbersError (numbers_of_primes others)) → HavePrimes others
 primes_have [] none = tt
 primes_have (o ∷ others) none =
-    let p = none_apart (numbers_of_prime o) (numbers_of_primes others) none in
+    let p = numbers_none_apart (numbers_of_prime o) (numbers_of_primes others) none in
     (numbers_have (numbers_of_prime o) p.0, primes_have others p.1)
 
 pub private_has : (key : PrivateKey) (others : List OtherPrime) → key.other_primes ≡ length others
     → NoStatus (NumbersError (given_numbers key others)) → HasPrivateNumbers key others
 private_has key others count none =
-    let p = none_apart (numbers_of_key key) (numbers_of_primes others) none in
+    let p = numbers_none_apart (numbers_of_key key) (numbers_of_primes others) none in
     (count, numbers_have (numbers_of_key key) p.0, primes_have others p.1)
 
 -- == What is made of them ==
-abbrev pub PublicSpells : keys.PublicRow ℕ → List ℕ → Type 0
-PublicSpells = Spells PublicIsValid public_encoding (λ row. row)
+abbrev pub GivenPublicSpells : keys.PublicRow ℕ → List ℕ → Type 0
+GivenPublicSpells = Spells PublicIsValid public_encoding (λ row. row)
 
-abbrev pub PrivateSpells : keys.PrivateRow ℕ → List ℕ → Type 0
-PrivateSpells = Spells (PrivateIsValid AnyNumber) private_encoding (λ key. key)
+abbrev pub GivenPrivateSpells : keys.PrivateRow ℕ → List ℕ → Type 0
+GivenPrivateSpells = Spells (PrivateIsValid AnyNumber) private_encoding (λ key. key)
 
 -- Its numbers mean themselves.
-same_spelled : (key : keys.PrivateRow ℕ) (bytes : List ℕ) → PrivateSpells key bytes
+given_private_same : (key : keys.PrivateRow ℕ) (bytes : List ℕ) → GivenPrivateSpells key bytes
     ↔ Spells (PrivateIsValid AnyNumber) private_encoding (private_as (λ n. n)) key bytes
-same_spelled key bytes = (
+given_private_same key bytes = (
   λ (few, (s, is, valid, same)). (few, (s, private_itself s ∙ is, valid, same)),
   λ (few, (s, is, valid, same)). (few, (s, sym (private_itself s) ∙ is, valid, same)),
 )
 
-pub public_law : (key : PublicKey) (made : RsaPublicKey Number) → held_public_key number_of made ≡ public_key key
+pub given_public_spelled : (key : PublicKey) (made : RsaPublicKey Number)
+    → held_public_key given_octets_of made ≡ public_key_seen key
     → (bytes : List ℕ)
-    → PublicSpells (public_row (number_in number_of) made) bytes ↔ PublicKeyEncoding (public_key key) bytes
-public_law key made same bytes =
-    subst (λ v. PublicSpells (public_row (number_in number_of) made) bytes ↔ PublicKeyEncoding v bytes) same
-    (public_as_stated.same (public_row (number_in number_of) made) bytes)
+    → GivenPublicSpells (public_row (number_in given_octets_of) made) bytes
+    ↔ PublicKeyEncoding (public_key_seen key) bytes
+given_public_spelled key made same bytes =
+    subst (λ v. GivenPublicSpells (public_row (number_in given_octets_of) made) bytes ↔ PublicKeyEncoding v bytes) same
+    (public_as_stated.same (public_row (number_in given_octets_of) made) bytes)
 
-pub private_law : (key : PrivateKey) (others : List OtherPrime) (made : keys.PrivateRow ℕ)
-    → private_stated made ≡ private_key key others → (bytes : List ℕ)
-    → PrivateSpells made bytes ↔ PrivateKeyEncoding (private_key key others) bytes
-private_law key others made same bytes =
-    let itself = same_spelled made bytes in
+pub given_private_spelled : (key : PrivateKey) (others : List OtherPrime) (made : keys.PrivateRow ℕ)
+    → private_stated made ≡ private_key_seen key others → (bytes : List ℕ)
+    → GivenPrivateSpells made bytes ↔ PrivateKeyEncoding (private_key_seen key others) bytes
+given_private_spelled key others made same bytes =
+    let itself = given_private_same made bytes in
     let spelled = private_as_stated.same made bytes in
-    subst (λ v. PrivateSpells made bytes ↔ PrivateKeyEncoding v bytes) same
+    subst (λ v. GivenPrivateSpells made bytes ↔ PrivateKeyEncoding v bytes) same
     (λ p. spelled.0 (itself.0 p), λ p. itself.1 (spelled.1 p))
 
-pub private_valid : (key : PrivateKey) (others : List OtherPrime) (made : keys.PrivateRow ℕ)
-    → private_stated made ≡ private_key key others → PrivateIsValid AnyNumber made
-private_valid key others made same =
-    let is : IsPrivateKey (private_key key others) = search rules in
+pub given_private_valid : (key : PrivateKey) (others : List OtherPrime) (made : keys.PrivateRow ℕ)
+    → private_stated made ≡ private_key_seen key others → PrivateIsValid AnyNumber made
+given_private_valid key others made same =
+    let is : IsPrivateKey (private_key_seen key others) = search rules in
     subst (PrivateIsValid AnyNumber) (private_itself made)
     ((private_as_stated.valid made).1 (subst IsPrivateKey (sym same) is))
 
 -- == Other primes that the caller passes: their encodings are those of the primes with these numbers ==
 
 -- What is printed of the primes.
-pub encoded_is : (others : List OtherPrime)
-    → all_encodings given_encoded others ≡ primes_printed integer (map (λ o. other_from (other_prime o)) others)
-encoded_is [] = refl
-encoded_is (o ∷ others) = ap (λ rest. given_encoded o ++ rest) (encoded_is others)
+pub given_encodings_are : (others : List OtherPrime)
+    → all_encodings given_encoded others ≡ primes_printed integer (map (λ o. other_from (other_prime_seen o)) others)
+given_encodings_are [] = refl
+given_encodings_are (o ∷ others) = ap (λ rest. given_encoded o ++ rest) (given_encodings_are others)
 
-pub any_given : (others : List OtherPrime)
-    → AllByRecursion (OtherIsValid AnyNumber) (map (λ o. other_from (other_prime o)) others)
-any_given [] = tt
-any_given (o ∷ others) = ((tt, (tt, (tt, tt))), any_given others)
+pub given_primes_valid : (others : List OtherPrime)
+    → AllByRecursion (OtherIsValid AnyNumber) (map (λ o. other_from (other_prime_seen o)) others)
+given_primes_valid [] = tt
+given_primes_valid (o ∷ others) = ((tt, (tt, (tt, tt))), given_primes_valid others)
 
 -- What they mean.
 given_stated : (others : List OtherPrime)
-    → map other_stated (map (λ o. other_from (other_prime o)) others) ≡ map other_prime others
+    → map other_stated (map (λ o. other_from (other_prime_seen o)) others) ≡ map other_prime_seen others
 given_stated [] = refl
-given_stated (o ∷ others) = ap (λ rest. other_prime o ∷ rest) (given_stated others)
+given_stated (o ∷ others) = ap (λ rest. other_prime_seen o ∷ rest) (given_stated others)
 
-pub given_some : (others : List OtherPrime) → 0 < length others
-    → Some (map other_stated (map (λ o. other_from (other_prime o)) others)) ≡ other_primes others
-given_some others some = grind (arith, common_steps, given_stated)
+pub given_primes_some : (others : List OtherPrime) → 0 < length others
+    → Some (map other_stated (map (λ o. other_from (other_prime_seen o)) others)) ≡ other_primes_seen others
+given_primes_some others some = grind (arith, common_steps, given_stated)
 
 -- One more is counted.
 pub counted_more : (others : List OtherPrime) (i : ℕ) (d : OtherPrime) → i < length others → (a b : Result ℕ Error)
@@ -160,18 +164,18 @@ counted_more others i d less a b p q =
     (counts_joined _ _ (λ _ _. tt) (λ _. (tt, tt)) a b p q)
 
 -- What the compiler takes for an element that isn't there.
-abbrev pub nothing : OtherPrime
-nothing = record {
+abbrev pub empty_prime : OtherPrime
+empty_prime = record {
   prime = record { ref_ptr = (0, 0); now = [] };
   exponent = record { ref_ptr = (0, 0); now = [] };
   coefficient = record { ref_ptr = (0, 0); now = [] };
 }
 
 -- One of them and those behind it are no more than all.
-pub behind_fits : (others : List OtherPrime) (left : ℕ) (d : OtherPrime) → 0 < left → left ≤ length others
+pub given_prime_fits : (others : List OtherPrime) (left : ℕ) (d : OtherPrime) → 0 < left → left ≤ length others
     → length (given_encoded (get_or others (left - 1) d)) + length (all_encodings given_encoded (drop left others))
     ≤ length (all_encodings given_encoded others)
-behind_fits others left d some few =
+given_prime_fits others left d some few =
     let next : left - 1 + 1 ≡ left = omega (arith, some) in
     omega (
       arith,
@@ -180,7 +184,8 @@ behind_fits others left d some few =
     )
 
 -- They are counted, if they are within the limit.
-pub not_uncounted : (others : List OtherPrime) (e : Error) → AreCounted others (Err e)
+pub given_primes_not_uncounted : (others : List OtherPrime) (e : Error) → AreCounted others (Err e)
     → length (all_encodings given_encoded others) ≤ limit → ⊥
-not_uncounted others e counted fits =
-    let many = (uncounted_as (all_encodings given_encoded others) e.kind tt counted).1 in omega (arith, fits, many)
+given_primes_not_uncounted others e counted fits =
+    let many = (uncounted_overflows (all_encodings given_encoded others) e.kind tt counted).1 in omega
+    (arith, fits, many)

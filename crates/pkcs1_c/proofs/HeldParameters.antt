@@ -1,6 +1,6 @@
 -- Parameters that are held: their parts can be, and they have encodings. Their faults are about the bytes.
 use Rattle.std.proofs.Common.{ℕ, List, ◌≡◌, arith, rules, refl, subst, Option, Some, None, option_map, ◌∙◌}
-use Rattle.spki_core.specs.Words.{viewed_with, any_of, viewed_held, octets_of, FieldRecord, record_means, record_whole, spelling_read, record_alike, record_front_law}
+use Rattle.spki_core.specs.Words.{viewed_with, any_of, viewed_held, identifier_octets, FieldRecord, record_means, record_whole, spelling_read, record_alike, record_front_law}
 use Rattle.spki_core.specs.declared.algorithm_identifier.AlgorithmIdentifierOf.{AlgorithmIdentifierOf}
 use Rattle.spki_core.specs.declared.any.AnyRef.{AnyRef}
 use Rattle.spki_core.specs.declared.identifier_view.IdentifierView.{IdentifierView}
@@ -62,12 +62,12 @@ oaep_none p seen is =
     subst (λ v. NoStatus (OaepFieldError v)) is
     (hash_none p.hash p.mask_gen (PlainError (viewed_with any_of p.p_source)) (plain_none p.p_source _ refl))
 
-pub oid_none : (oid : IdentifierView) (octets : List ℕ) → octets_of oid ≡ octets → NoStatus (OidError octets)
+pub oid_none : (oid : IdentifierView) (octets : List ℕ) → identifier_octets oid ≡ octets → NoStatus (OidError octets)
 oid_none oid octets is s p = p.1 (subst IsIdentifier is (viewed_held oid))
 
 -- The faults of parameters are about the bytes.
 pub record_tells : {V : Type 0} {Is : V → Type 0} {fields : V → List Field} (r : FieldRecord Is fields)
     → FaultsTell (record_whole r)
 record_tells r b k e =
-    made_tells (record_means r) (whole (tagged tags.sequence (spelling_read r.kinds)) b)
-    (whole_tells (record_front_law r) b k) ((whole_alike (tagged_alike (record_alike r) tags.sequence)).same b ∙ e)
+    made_tells (record_means r) (whole (tagged tags.sequence_tag (spelling_read r.kinds)) b)
+    (whole_tells (record_front_law r) b k) ((whole_alike (tagged_alike (record_alike r) tags.sequence_tag)).same b ∙ e)

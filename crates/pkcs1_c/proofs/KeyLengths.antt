@@ -7,7 +7,7 @@ use Rattle.der_core.specs.declared.error.Error.{Error}
 use Rattle.der_core.specs.declared.error.ErrorKind.TheVariants.{Overflow}
 use Rattle.std.specs.List.{concat}
 use Rattle.pkcs1.specs.Words.{OtherRow, PrivateRow, key_numbers, others_in, version_of}
-use Rattle.pkcs1_c.specs.Words.{front_of, prime_encoded}
+use Rattle.pkcs1_c.specs.Words.{key_front_encoded, prime_encoded}
 use Rattle.standard.specs.Statement.{OtherPrime, integer, integers, length_octets, tlv}
 
 -- Two numbers of octets are equal, if one of them is within the limit.
@@ -33,8 +33,8 @@ pub agree_number : (size result n : ℕ) → size ≡ n → (size ≤ limit → 
     → Agree result (tlv_len n)
 agree_number size result n is = agree_tlv size result n (λ few. is)
 
-tagged : (tag : ℕ) (c : List ℕ) → length (tlv tag c) ≡ tlv_len (length c)
-tagged tag c = omega (arith, length-append (length_octets (length c)) c)
+tlv_len_of_contents : (tag : ℕ) (c : List ℕ) → length (tlv tag c) ≡ tlv_len (length c)
+tlv_len_of_contents tag c = omega (arith, length-append (length_octets (length c)) c)
 
 abbrev number_len : ℕ → ℕ
 number_len n = tlv_len (length (number_contents n))
@@ -42,7 +42,8 @@ number_len n = tlv_len (length (number_contents n))
 pub prime_len : (o : OtherPrime) → length (prime_encoded o)
     ≡ tlv_len (number_len o.prime + number_len o.exponent + number_len o.coefficient)
 prime_len o =
-    tagged 48 (integers (o.prime ∷ o.exponent ∷ o.coefficient ∷ [])) ∙ ap tlv_len (simp length-append (omega arith))
+    tlv_len_of_contents 48 (integers (o.prime ∷ o.exponent ∷ o.coefficient ∷ []))
+    ∙ ap tlv_len (simp length-append (omega arith))
 
 version_len : (others : Option (List (OtherRow ℕ))) → length (integer (version_of others)) ≡ 3
 unfolding length_octets
@@ -54,18 +55,18 @@ numbers_len : (k : PrivateRow ℕ) → length (concat (map integer (key_numbers 
     + (number_len k.1.1.1.1.0 + number_len k.1.1.1.1.1.0 + number_len k.1.1.1.1.1.1.0 + number_len k.1.1.1.1.1.1.1.0)
 numbers_len k = simp length-append (omega arith)
 
-pub front_len : (k : PrivateRow ℕ) → length (front_of k)
+pub front_len : (k : PrivateRow ℕ) → length (key_front_encoded k)
     ≡ 3 + (number_len k.0 + number_len k.1.0 + number_len k.1.1.0 + number_len k.1.1.1.0)
     + (number_len k.1.1.1.1.0 + number_len k.1.1.1.1.1.0 + number_len k.1.1.1.1.1.1.0 + number_len k.1.1.1.1.1.1.1.0)
 front_len k =
     length-append (integer (version_of (others_in k))) (concat (map integer (key_numbers k)))
     ∙ omega (arith, version_len (others_in k), numbers_len k)
 
-pub counted : (octets : List ℕ) (s n : ℕ) → length octets ≡ n → Agree s n → (r : Result ℕ Error)
+pub agreed_length_counted : (octets : List ℕ) (s n : ℕ) → length octets ≡ n → Agree s n → (r : Result ℕ Error)
     → IfOk r (λ m. (m ≡ s) × (s ≤ limit)) → IfErr r (λ f. (f.kind ≡ Overflow) × (limit < s))
     → Counts (Unit {0}) octets r
-counted octets s n is same (Ok m) ok err = (tt, omega (arith, ok, is, same (inl ok.1)), omega (arith, ok))
-counted octets s n is same (Err f) ok err =
+agreed_length_counted octets s n is same (Ok m) ok err = (tt, omega (arith, ok, is, same (inl ok.1)), omega (arith, ok))
+agreed_length_counted octets s n is same (Err f) ok err =
     rw err.0 (
       tt,
       elim (cases_lt limit n) [

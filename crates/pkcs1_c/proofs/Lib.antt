@@ -1,10 +1,10 @@
 pub mod Containers
-pub mod Fits
+pub mod FittingFields
 pub mod GivenKeys
 pub mod GivenRows
 pub mod HeldKeys
 pub mod HeldParameters
-pub mod Placing
+pub mod PlacedPrimes
 pub mod Writes
 pub mod StructErrors
 pub mod StatusRows

@@ -2,37 +2,38 @@
 use Rattle.std.proofs.Common.{ℕ, [], ◌∷◌, ◌≡◌, ◌<◌, arith, codes, refl, length, map, Result, Ok, Err}
 use Rattle.der_core.specs.declared.error.ErrorKind.{ErrorKind}
 use Rattle.der_core.specs.declared.error.ErrorKind.TheVariants.{Failed, File, Incomplete, IndefiniteLength, Length, NoRoom, Noncanonical, OidMalformed, OidUnknown, OutOfMemory, Overflow, Overlength, ParametersMissing, TagUnexpected, TagUnknown, TrailingData, Value}
-use Rattle.der_core.specs.Words.{integer, sequence}
+use Rattle.der_core.specs.Words.{integer_tag, sequence_tag}
 use Rattle.pkcs1_params.specs.declared.error.Error.TheVariants as error
 use Rattle.pkcs1_c.specs.Status.{IsErrorNumber, IsErrorOf, IsStatusOf, NoStatus, kind_number, status_of, status_text, status_texts}
 
-kinds : map kind_number (Failed ∷ Incomplete ∷ IndefiniteLength ∷ Length integer ∷ Noncanonical integer ∷ OidMalformed
-    ∷ OidUnknown ∷ Overflow ∷ Overlength ∷ ParametersMissing ∷ TagUnexpected sequence integer ∷ TagUnknown 31
-    ∷ TrailingData ∷ Value integer ∷ NoRoom ∷ File ∷ OutOfMemory ∷ [])
+kind_numbers : map kind_number
+    (Failed ∷ Incomplete ∷ IndefiniteLength ∷ Length integer_tag ∷ Noncanonical integer_tag ∷ OidMalformed
+    ∷ OidUnknown ∷ Overflow ∷ Overlength ∷ ParametersMissing ∷ TagUnexpected sequence_tag integer_tag ∷ TagUnknown 31
+    ∷ TrailingData ∷ Value integer_tag ∷ NoRoom ∷ File ∷ OutOfMemory ∷ [])
     ≡ 1 ∷ 2 ∷ 3 ∷ 4 ∷ 5 ∷ 6 ∷ 7 ∷ 8 ∷ 9 ∷ 10 ∷ 11 ∷ 12 ∷ 13 ∷ 14 ∷ 15 ∷ 16 ∷ 17 ∷ []
-kinds = refl
+kind_numbers = refl
 
-errors : map status_of (error.Crypto ∷ error.KeyMalformed ∷ error.Version ∷ []) ≡ 18 ∷ 19 ∷ 20 ∷ []
-errors = refl
+error_statuses : map status_of (error.Crypto ∷ error.KeyMalformed ∷ error.Version ∷ []) ≡ 18 ∷ 19 ∷ 20 ∷ []
+error_statuses = refl
 
 -- == Which status ==
-abbrev gives : ErrorKind → Result ℕ ErrorKind
-gives kind = Err kind
+abbrev fault_of : ErrorKind → Result ℕ ErrorKind
+fault_of kind = Err kind
 
-value : IsStatusOf {V = ℕ} (Ok 7) 0
-value = (7, refl)
+value_has_status_0 : IsStatusOf {V = ℕ} (Ok 7) 0
+value_has_status_0 = (7, refl)
 
-error_is_not_0 : IsStatusOf (gives Incomplete) 0 → ⊥
+error_is_not_0 : IsStatusOf (fault_of Incomplete) 0 → ⊥
 error_is_not_0 p = let same = p.1 in cc
 
-status : IsStatusOf (gives Incomplete) 2
-status = (omega arith, (Incomplete, refl, refl))
+incomplete_has_status_2 : IsStatusOf (fault_of Incomplete) 2
+incomplete_has_status_2 = (omega arith, (Incomplete, refl, refl))
 
-another_status : IsErrorNumber (gives Incomplete) 3 → ⊥
+another_status : IsErrorNumber (fault_of Incomplete) 3 → ⊥
 another_status (kind, is, number) = cc
 
-no_room : IsStatusOf (gives NoRoom) 15 → ⊥
-no_room p = omega (arith, p.0)
+no_room_is_no_status : IsStatusOf (fault_of NoRoom) 15 → ⊥
+no_room_is_no_status p = omega (arith, p.0)
 
 -- == Which error ==
 nothing_wrong : NoStatus (λ status. status ≡ 4) → ⊥
@@ -48,8 +49,8 @@ not_the_only_one : IsErrorOf (λ status. status < 9) 4 → ⊥
 not_the_only_one p = omega (arith, p.1 5 (omega arith))
 
 -- == Strings ==
-texts : length status_texts ≡ 22
-texts = refl
+status_texts_counted : length status_texts ≡ 22
+status_texts_counted = refl
 
 text_of_incomplete : status_text 2 ≡ codes "the input ends too early: it is empty or cut off, or a field is missing"
 text_of_incomplete = refl

@@ -3,7 +3,7 @@ use Rattle.std.proofs.Common.{ℕ, List, [], ◌∷◌, ◌++◌, ◌≡◌, ◌
 use Rattle.std.proofs.lemmas.List.{take_more, drop_more}
 use Rattle.der_core.specs.Words.{WhyNoNumber, octets_canonical, octets_number, AllHave}
 use Rattle.der_core.specs.declared.error.ErrorKind.{ErrorKind}
-use Rattle.pkcs1_c.specs.Words.{NoStatus, kind_number, PartThen, NumberError, NumbersError, Unwritten, numbers_of_primes, OidError, AnyError, OptionError, AlgorithmError, PlainError, HashFieldsThen, PssFieldError, OaepFieldError, HaveBytes, number, numbers_of_prime}
+use Rattle.pkcs1_c.specs.Words.{NoStatus, kind_number, PartThen, NumberError, NumbersError, UnwrittenStatus, numbers_of_primes, OidError, AnyError, OptionError, AlgorithmError, PlainError, HashFieldsThen, PssFieldError, OaepFieldError, HaveBytes, number_seen, numbers_of_prime}
 use Rattle.pkcs1_c.specs.declared.private_key.OtherPrime.{OtherPrime}
 use Rattle.standard.specs.Statement.{Algorithm, IsShortest, OaepParameters, PssParameters, TagAndContents, octets}
 
@@ -12,27 +12,27 @@ abbrev pub IsOne : (ℕ → Type 0) → Type 0
 IsOne WhyNot = (s t : ℕ) → WhyNot s → WhyNot t → s ≡ t
 
 -- An error, and not lack of room.
-abbrev pub IsTold : (ℕ → Type 0) → Type 0
-IsTold WhyNot = (s : ℕ) → WhyNot s → (0 < s) × (s ≢ 15)
+abbrev pub IsOtherError : (ℕ → Type 0) → Type 0
+IsOtherError WhyNot = (s : ℕ) → WhyNot s → (0 < s) × (s ≢ 15)
 
 -- What is so of each part.
-abbrev pub IsPart : (ℕ → Type 0) → Type 0
-IsPart WhyNot = IsOne WhyNot × IsTold WhyNot
+abbrev pub IsPartError : (ℕ → Type 0) → Type 0
+IsPartError WhyNot = IsOne WhyNot × IsOtherError WhyNot
 
 -- Encodings.
 module _ {V : Type 0} (Encoding : V → List ℕ → Type 0) (v : V) (room : ℕ) where
-  pub unwritten_one : IsOne (Unwritten Encoding v room)
+  pub unwritten_one : IsOne (UnwrittenStatus Encoding v room)
   unwritten_one s t p q = grind arith
 
   -- An encoding that fits is written.
   pub fits_written : (bytes : List ℕ) → IsShortest Encoding v bytes → length bytes ≤ room
-      → NoStatus (Unwritten Encoding v room)
+      → NoStatus (UnwrittenStatus Encoding v room)
   fits_written bytes shortest fits s p = grind arith
 
 -- Parts.
 module _ (WhyNot Rest : ℕ → Type 0) where
   -- A part, then another.
-  pub part_then : IsPart WhyNot → IsPart Rest → IsPart (PartThen WhyNot Rest)
+  pub part_then : IsPartError WhyNot → IsPartError Rest → IsPartError (PartThen WhyNot Rest)
   part_then p q = search rules
 
   pub part_first : NoStatus (PartThen WhyNot Rest) → NoStatus WhyNot
@@ -46,20 +46,21 @@ pub number_rejected : (bytes : List ℕ) (k : ErrorKind) → WhyNoNumber bytes k
 number_rejected bytes k (inl p) = search rules
 number_rejected [] k (inr p) = absurd (omega (arith, p.0 (0 ∷ []) (inl refl) refl))
 number_rejected (b ∷ bytes) k (inr p) =
-    let n = number (b ∷ bytes) in
+    let n = number_seen (b ∷ bytes) in
     inr (ap kind_number p.1, omega arith, p.0 (octets n) (octets_canonical n) (octets_number n))
 
 number_has : (bytes : List ℕ) → NoStatus (NumberError bytes) → 0 < length bytes
 number_has [] none = absurd (none 4 (search rules))
 number_has (b ∷ bytes) none = omega arith
 
-pub numbers_part : (ns : List (List ℕ)) → IsPart (NumbersError ns)
+pub numbers_part : (ns : List (List ℕ)) → IsPartError (NumbersError ns)
 numbers_part [] = (λ s t p q. absurd p, λ s p. absurd p)
 numbers_part (n ∷ ns) = part_then (NumberError n) (NumbersError ns) (grind arith, grind arith) (numbers_part ns)
 
-pub held_none : (ns : List (List ℕ)) → AllHave (λ n. NoStatus (NumberError n)) ns → NoStatus (NumbersError ns)
-held_none [] none s p = p
-held_none (n ∷ ns) none s p = part_none (NumberError n) (NumbersError ns) none.0 (held_none ns none.1) s p
+pub numbers_none_held : (ns : List (List ℕ)) → AllHave (λ n. NoStatus (NumberError n)) ns → NoStatus (NumbersError ns)
+numbers_none_held [] none s p = p
+numbers_none_held (n ∷ ns) none s p =
+    part_none (NumberError n) (NumbersError ns) none.0 (numbers_none_held ns none.1) s p
 
 -- Numbers that can be held have bytes.
 pub numbers_have : (ns : List (List ℕ)) → NoStatus (NumbersError ns) → HaveBytes ns
@@ -77,17 +78,18 @@ numbers_behind [] ms none s p = p
 numbers_behind (n ∷ ns) ms none s p =
     let first = part_first (NumberError n) (NumbersError ns) none in search (rules, numbers_behind ns ms)
 
-pub none_both : (ns ms : List (List ℕ)) → NoStatus (NumbersError ns) → NoStatus (NumbersError ms)
+pub numbers_none_both : (ns ms : List (List ℕ)) → NoStatus (NumbersError ns) → NoStatus (NumbersError ms)
     → NoStatus (NumbersError (ns ++ ms))
-none_both [] ms none more = more
-none_both (n ∷ ns) ms none more =
+numbers_none_both [] ms none more = more
+numbers_none_both (n ∷ ns) ms none more =
     let first = part_first (NumberError n) (NumbersError ns) none in
-    part_none (NumberError n) (NumbersError (ns ++ ms)) first (none_both ns ms (λ t q. none t (inr (first, q))) more)
+    part_none (NumberError n) (NumbersError (ns ++ ms)) first
+    (numbers_none_both ns ms (λ t q. none t (inr (first, q))) more)
 
 -- Numbers that can be held, of which some are in front.
-pub none_apart : (ns ms : List (List ℕ)) → NoStatus (NumbersError (ns ++ ms))
+pub numbers_none_apart : (ns ms : List (List ℕ)) → NoStatus (NumbersError (ns ++ ms))
     → NoStatus (NumbersError ns) × NoStatus (NumbersError ms)
-none_apart ns ms none =
+numbers_none_apart ns ms none =
     let first : NoStatus (NumbersError ns) = λ s p. none s (numbers_before ns ms s p) in
     (first, λ s p. none s (numbers_behind ns ms first s p))
 
@@ -98,61 +100,65 @@ numbers_joined (o ∷ os) more = ap (λ ns. numbers_of_prime o ++ ns) (numbers_j
 
 -- One of the primes, those before it, and those behind it.
 module _ (os : List OtherPrime) (i : ℕ) (d : OtherPrime) (l : i < length os) where
-  abbrev before : List (List ℕ)
-  before = numbers_of_primes (take i os)
+  abbrev numbers_in_front : List (List ℕ)
+  numbers_in_front = numbers_of_primes (take i os)
 
-  abbrev here : List (List ℕ)
-  here = numbers_of_prime (get_or os i d)
+  abbrev numbers_of_one : List (List ℕ)
+  numbers_of_one = numbers_of_prime (get_or os i d)
 
-  abbrev behind : List (List ℕ)
-  behind = numbers_of_primes (drop (i + 1) os)
+  abbrev numbers_after : List (List ℕ)
+  numbers_after = numbers_of_primes (drop (i + 1) os)
 
-  around : numbers_of_primes os ≡ before ++ (here ++ behind)
-  around =
+  numbers_around_prime : numbers_of_primes os ≡ numbers_in_front ++ (numbers_of_one ++ numbers_after)
+  numbers_around_prime =
       ap numbers_of_primes (sym (take-append-drop i os)) ∙ numbers_joined (take i os) (drop i os)
-      ∙ ap (λ more. before ++ numbers_of_primes more) (drop_more os i d l)
+      ∙ ap (λ more. numbers_in_front ++ numbers_of_primes more) (drop_more os i d l)
 
   -- It is rejected, and those before it can be held.
-  pub others_at : (s : ℕ) → NoStatus (NumbersError before) → NumbersError here s → NumbersError (numbers_of_primes os) s
-  others_at s none p =
-      subst (λ ns. NumbersError ns s) (sym around)
-      (numbers_behind before (here ++ behind) none s (numbers_before here behind s p))
+  pub numbers_rejected_at : (s : ℕ) → NoStatus (NumbersError numbers_in_front) → NumbersError numbers_of_one s
+      → NumbersError (numbers_of_primes os) s
+  numbers_rejected_at s none p =
+      subst (λ ns. NumbersError ns s) (sym numbers_around_prime)
+      (numbers_behind numbers_in_front (numbers_of_one ++ numbers_after) none s
+      (numbers_before numbers_of_one numbers_after s p))
 
   -- All of them can be held.
-  pub held_at : NoStatus (NumbersError (numbers_of_primes os)) → NoStatus (NumbersError here)
-  held_at none =
-      let all = subst (λ ns. NoStatus (NumbersError ns)) around none in
-      (none_apart here behind (none_apart before (here ++ behind) all).1).0
+  pub numbers_held_at : NoStatus (NumbersError (numbers_of_primes os)) → NoStatus (NumbersError numbers_of_one)
+  numbers_held_at none =
+      let all = subst (λ ns. NoStatus (NumbersError ns)) numbers_around_prime none in
+      (numbers_none_apart numbers_of_one numbers_after
+      (numbers_none_apart numbers_in_front (numbers_of_one ++ numbers_after) all).1).0
 
   -- One more of them can be held.
-  pub others_held_more : NoStatus (NumbersError before) → NoStatus (NumbersError here)
+  pub others_held_more : NoStatus (NumbersError numbers_in_front) → NoStatus (NumbersError numbers_of_one)
       → NoStatus (NumbersError (numbers_of_primes (take (i + 1) os)))
   others_held_more none one =
-      rw (take_more os i d l, numbers_joined (take i os) (get_or os i d ∷ [])) (none_both before here none one)
+      rw (take_more os i d l, numbers_joined (take i os) (get_or os i d ∷ []))
+      (numbers_none_both numbers_in_front numbers_of_one none one)
 
 -- Algorithms.
-module _ {P : Type 0} (WhyNot : P → ℕ → Type 0) (part : (v : P) → IsPart (WhyNot v)) where
-  option_part : (o : Option P) → IsPart (OptionError WhyNot o)
+module _ {P : Type 0} (WhyNot : P → ℕ → Type 0) (part : (v : P) → IsPartError (WhyNot v)) where
+  option_part : (o : Option P) → IsPartError (OptionError WhyNot o)
   option_part None = (λ s t p q. absurd p, λ s p. absurd p)
   option_part (Some v) = part v
 
-  algorithm_part : (a : Algorithm P) → IsPart (AlgorithmError WhyNot a)
+  algorithm_part : (a : Algorithm P) → IsPartError (AlgorithmError WhyNot a)
   algorithm_part a =
       part_then (OidError a.oid) (OptionError WhyNot a.parameters)
       (grind arith, grind arith) (option_part a.parameters)
 
-plain_part : (a : Algorithm TagAndContents) → IsPart (PlainError a)
+plain_part : (a : Algorithm TagAndContents) → IsPartError (PlainError a)
 plain_part = algorithm_part AnyError (λ v. (grind arith, grind arith))
 
 -- Parameters.
 hash_part : (hash : Algorithm TagAndContents) (mask : Algorithm (Algorithm TagAndContents)) (Rest : ℕ → Type 0)
-    → IsPart Rest → IsPart (HashFieldsThen hash mask Rest)
+    → IsPartError Rest → IsPartError (HashFieldsThen hash mask Rest)
 hash_part hash mask Rest rest =
     let first = plain_part hash in
     let second = algorithm_part PlainError plain_part mask in search (rules, part_then)
 
-pub pss_part : (p : PssParameters) → IsPart (PssFieldError p)
+pub pss_part : (p : PssParameters) → IsPartError (PssFieldError p)
 pss_part p = hash_part p.hash p.mask_gen _ (grind arith, grind arith)
 
-pub oaep_part : (p : OaepParameters) → IsPart (OaepFieldError p)
+pub oaep_part : (p : OaepParameters) → IsPartError (OaepFieldError p)
 oaep_part p = hash_part p.hash p.mask_gen (PlainError p.p_source) (plain_part p.p_source)

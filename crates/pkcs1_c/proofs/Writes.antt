@@ -1,9 +1,9 @@
 -- What is so of all calls that write: the front, the reason, the code of an error, the needed length.
 use Rattle.std.proofs.Common.{ℕ, zero, suc, List, ◌≡◌, ◌<◌, ◌∙◌, ◌⊎◌, length, take, refl, sym, subst, arith, rules, inl, inr, Some, length-take-le, ◌↔◌, Result, Ok, Err, IfOk, IfErr, ◌≤◌, ap}
 use Rattle.standard.specs.Statement.{Decodes, Encodes}
-use Rattle.pkcs1_c.specs.Words.{IsErrorOf, NoStatus, FieldsError, PartThen, Unwritten, If, IsLength, WritesOrTells, kind_number, status_of, IsErrorNumber, IsStatusOf}
-use Rattle.pkcs1_c.proofs.StructErrors.{IsOne, IsPart, fits_written}
-use Rattle.der_core.specs.Words.{EncodeError, TellsOfBytes, another, encode_error, no_encoding, no_room, shortest_is, too_long, limit, Spells, WritesShortest}
+use Rattle.pkcs1_c.specs.Words.{IsErrorOf, NoStatus, FieldsError, PartThen, UnwrittenStatus, If, IsShortestLength, WritesOrTells, kind_number, status_of, IsErrorNumber, IsStatusOf}
+use Rattle.pkcs1_c.proofs.StructErrors.{IsOne, IsPartError, fits_written}
+use Rattle.der_core.specs.Words.{EncodeError, TellsOfBytes, another, encode_error, no_encoding, no_room, written_is_shortest, too_long, limit, Spells, WritesShortest}
 use Rattle.der_core.specs.Writing as writing
 use Rattle.der_core.specs.declared.error.ErrorKind.{ErrorKind}
 use Rattle.pkcs1_params.specs.Words.{IsAsn1, Refuses, WritesOrCounts}
@@ -22,24 +22,24 @@ error_as A B (suc n) there back error = search rules
 
 module _ {V : Type 0} (Encoding : V → List ℕ → Type 0) (v : V) (old new : List ℕ) (l m : ℕ) where
   -- The shortest encoding is at the front.
-  pub written : Encodes Encoding v old new (Some m) → length new ≡ length old
-      → WritesOrTells Encoding v old new l m 0 × IsErrorOf (Unwritten Encoding v (length old)) 0
-  written made same = (
+  pub shortest_written : Encodes Encoding v old new (Some m) → length new ≡ length old
+      → WritesOrTells Encoding v old new l m 0 × IsErrorOf (UnwrittenStatus Encoding v (length old)) 0
+  shortest_written made same = (
     search rules,
     fits_written Encoding v (length old) (take m new) made.1 (omega (arith, length-take-le {A = ℕ})),
   )
 
   -- It isn't, and its length is told if it has one.
-  pub not_written : (status s : ℕ) → status ≡ s → Unwritten Encoding v (length old) s → new ≡ old
-      → ((n : ℕ) → IsLength Encoding v n → m ≡ n) → (((bytes : List ℕ) → Encoding v bytes → ⊥) → m ≡ l)
+  pub not_written : (status s : ℕ) → status ≡ s → UnwrittenStatus Encoding v (length old) s → new ≡ old
+      → ((n : ℕ) → IsShortestLength Encoding v n → m ≡ n) → (((bytes : List ℕ) → Encoding v bytes → ⊥) → m ≡ l)
       → WritesOrTells Encoding v old new l m status
   not_written status s is (inl p) same needed kept = search rules
   not_written status s is (inr p) same needed kept = let e = needed p.1 p.2 in search rules
 
 -- Why it isn't, of all reasons the only one.
 module _ {V : Type 0} (Encoding : V → List ℕ → Type 0) (v : V) (room : ℕ) where
-  pub unwritten_is : (status s : ℕ) → status ≡ s → Unwritten Encoding v room s
-      → IsErrorOf (Unwritten Encoding v room) status
+  pub unwritten_is : (status s : ℕ) → status ≡ s → UnwrittenStatus Encoding v room s
+      → IsErrorOf (UnwrittenStatus Encoding v room) status
   unwritten_is status s is p = search (rules, is_error)
 
 -- A value, and another that has the same encodings.
@@ -49,12 +49,14 @@ module _ {V W : Type 0} (Encoding : V → List ℕ → Type 0) (v : V) (Other : 
       → WritesOrTells Encoding v old new l m s
   written_as told = search rules
 
-  pub unwritten_as : (room s : ℕ) → Unwritten Other w room s → Unwritten Encoding v room s
+  pub unwritten_as : (room s : ℕ) → UnwrittenStatus Other w room s → UnwrittenStatus Encoding v room s
   unwritten_as room s p = search rules
 
-  pub unwritten_so : (room s : ℕ) → IsErrorOf (Unwritten Other w room) s → IsErrorOf (Unwritten Encoding v room) s
-  unwritten_so room s =
-      error_as (Unwritten Other w room) (Unwritten Encoding v room) s (λ t p. search rules) (λ t p. search rules)
+  pub unwritten_error_as : (room s : ℕ) → IsErrorOf (UnwrittenStatus Other w room) s
+      → IsErrorOf (UnwrittenStatus Encoding v room) s
+  unwritten_error_as room s =
+      error_as (UnwrittenStatus Other w room) (UnwrittenStatus Encoding v room) s (λ t p. search rules)
+      (λ t p. search rules)
 
   -- Parts of the value can be held.
   pub held_written : (Has : Type 0) → Has → {old new : List ℕ} {l m s : ℕ} → WritesOrTells Other w old new l m s
@@ -67,40 +69,41 @@ pub error_behind : (Part Rest : ℕ → Type 0) (s : ℕ) → NoStatus Part → 
 error_behind Part Rest zero none error = search rules
 error_behind Part Rest (suc n) none error = search rules
 
-error_first : (Part Rest : ℕ → Type 0) (s : ℕ) → IsPart Part → Part s → IsErrorOf (PartThen Part Rest) s
+error_first : (Part Rest : ℕ → Type 0) (s : ℕ) → IsPartError Part → Part s → IsErrorOf (PartThen Part Rest) s
 error_first Part Rest zero part p = absurd (omega (arith, part.1 zero p))
 error_first Part Rest (suc n) part p = search rules
 
 -- A call whose status is that of a part that can't be held. What has the encoding that is asked for has such parts.
-pub part_told : (Part Rest : ℕ → Type 0) → IsPart Part → {V : Type 0} (Asked : V → List ℕ → Type 0) (v : V)
+pub part_rejected : (Part Rest : ℕ → Type 0) → IsPartError Part → {V : Type 0} (Asked : V → List ℕ → Type 0) (v : V)
     → ((bytes : List ℕ) → Asked v bytes → NoStatus Part) → (old : List ℕ) (l : ℕ) {s t : ℕ} → s ≡ t → Part t
     → WritesOrTells Asked v old old l l s × IsErrorOf (PartThen Part Rest) s
-part_told Part Rest part Asked v fits old l {s} is p =
+part_rejected Part Rest part Asked v fits old l {s} is p =
     let q = subst Part (sym is) p in
     let told = part.1 s q in (search rules, error_first Part Rest s part q)
 
 -- Parameters, a field of which can't be held.
-pub fields_told : {V : Type 0} (Part : V → ℕ → Type 0) (Encoding : V → List ℕ → Type 0) (v : V) → IsPart (Part v)
+pub fields_rejected : {V : Type 0} (Part : V → ℕ → Type 0) (Encoding : V → List ℕ → Type 0) (v : V)
+    → IsPartError (Part v)
     → ((bytes : List ℕ) → Encoding v bytes → NoStatus (Part v)) → (old : List ℕ) (l : ℕ) {s t : ℕ} → s ≡ t
     → Part v t → WritesOrTells Encoding v old old l l s × IsErrorOf (FieldsError Part Encoding v (length old)) s
-fields_told Part Encoding v part fits old =
-    part_told (Part v) (Unwritten Encoding v (length old)) part Encoding v fits old
+fields_rejected Part Encoding v part fits old =
+    part_rejected (Part v) (UnwrittenStatus Encoding v (length old)) part Encoding v fits old
 
 -- Parameters that are written as known octets, or counted: none of their fields is at fault.
 module _ {V : Type 0} (Part : V → ℕ → Type 0) (Encoding : V → List ℕ → Type 0) (v : V)
     (fits : (bytes : List ℕ) → Encoding v bytes → NoStatus (Part v)) (old new : List ℕ) (l m s : ℕ) where
-  pub known_told : (r : Result ℕ ℕ) → WritesOrCounts Encoding v old new r → length new ≡ length old
+  pub known_written : (r : Result ℕ ℕ) → WritesOrCounts Encoding v old new r → length new ≡ length old
       → IfOk r (λ n. (s ≡ 0) × (m ≡ n)) → IfErr r (λ n. (s ≡ 15) × (m ≡ n))
       → WritesOrTells Encoding v old new l m s × IsErrorOf (FieldsError Part Encoding v (length old)) s
-  known_told (Ok n) made kept (ok, count) none =
-      let told = written Encoding v old new l n made kept in (
+  known_written (Ok n) made kept (ok, count) none =
+      let told = shortest_written Encoding v old new l n made kept in (
         rw (ok, count) told.0,
-        rw ok (error_behind (Part v) (Unwritten Encoding v (length old)) 0 (fits (take n new) made.1.0) told.1),
+        rw ok (error_behind (Part v) (UnwrittenStatus Encoding v (length old)) 0 (fits (take n new) made.1.0) told.1),
       )
-  known_told (Err n) (same, less, bytes, short, is) kept none (full, count) =
-      let why : Unwritten Encoding v (length old) 15 = inr (refl, n, (bytes, short, is), less) in (
+  known_written (Err n) (same, less, bytes, short, is) kept none (full, count) =
+      let why : UnwrittenStatus Encoding v (length old) 15 = inr (refl, n, (bytes, short, is), less) in (
         not_written Encoding v old new l m s 15 full why same (λ k other. grind arith) (λ no. absurd (no bytes short.0)),
-        error_behind (Part v) (Unwritten Encoding v (length old)) s (fits bytes short.0)
+        error_behind (Part v) (UnwrittenStatus Encoding v (length old)) s (fits bytes short.0)
             (unwritten_is Encoding v (length old) s 15 full why),
       )
 
@@ -127,23 +130,23 @@ module _ {V : Type 0} (given : Result V ErrorKind) (tells : (k : ErrorKind) → 
 module _ {V : Type 0} (Is : V → Type 0) (Encoding : V → List ℕ → Type 0) (v : V) (room : ℕ) (ok : Is v) where
   error_unwritten : (e : EncodeError) → writing.Unwritten Is Encoding v room e
       → ((e ≡ too_long) × ((bytes : List ℕ) → Encoding v bytes → ⊥))
-      ⊎ ((e ≡ no_room) × (n : ℕ) × IsLength Encoding v n × (room < n))
+      ⊎ ((e ≡ no_room) × (n : ℕ) × IsShortestLength Encoding v n × (room < n))
   error_unwritten no_encoding p = absurd (p ok)
   error_unwritten too_long p = inl (refl, p.1)
   error_unwritten no_room p = inr (refl, length p.0, (p.0, p.1, refl), p.2)
   error_unwritten another p = absurd p
 
   pub kind_unwritten : (k : ErrorKind) → writing.Unwritten Is Encoding v room (encode_error k)
-      → Unwritten Encoding v room (kind_number k)
+      → UnwrittenStatus Encoding v room (kind_number k)
   kind_unwritten k p = let why = error_unwritten (encode_error k) p in grind arith
 
-  pub status_unwritten : (e : Error) → Refuses Is Encoding v room e → Unwritten Encoding v room (status_of e)
+  pub status_unwritten : (e : Error) → Refuses Is Encoding v room e → UnwrittenStatus Encoding v room (status_of e)
   status_unwritten e p = grind (arith, kind_unwritten)
 
 -- A value that was read, and the equal one that a struct has.
-pub decodes_as : {V : Type 0} (Encoding : V → List ℕ → Type 0) {bytes : List ℕ} {u v : V} → u ≡ v
+pub decodes_equal_value : {V : Type 0} (Encoding : V → List ℕ → Type 0) {bytes : List ℕ} {u v : V} → u ≡ v
     → Decodes Encoding bytes (Some v) → Decodes Encoding bytes (Some u)
-decodes_as Encoding {bytes} is read = subst (λ v. Decodes Encoding bytes (Some v)) (sym is) read
+decodes_equal_value Encoding {bytes} is read = subst (λ v. Decodes Encoding bytes (Some v)) (sym is) read
 
 -- The needed length: that of the shortest encoding, which is the one that is written.
 module _ {S V : Type 0} {valid : S → Type 0} {printed : S → List ℕ} {means : S → V} {written : V → S}
@@ -151,22 +154,22 @@ module _ {S V : Type 0} {valid : S → Type 0} {printed : S → List ℕ} {means
   abbrev Needed : ℕ
   Needed = length (printed (written v))
 
-  within : (bytes : List ℕ) → Spells valid printed means v bytes → Needed ≤ length bytes
-  within bytes (few, (s, e, known, is)) =
+  needed_least : (bytes : List ℕ) → Spells valid printed means v bytes → Needed ≤ length bytes
+  needed_least bytes (few, (s, e, known, is)) =
       let same = ap (λ u. length (printed (written u))) e in
       let least = law.least s known (omega (arith, few, ap length is)) in grind arith
 
   pub needed_is : {m : ℕ} → (valid (written v) → Needed ≤ limit → m ≡ Needed) → (n : ℕ)
-      → IsLength (Spells valid printed means) v n → m ≡ n
+      → IsShortestLength (Spells valid printed means) v n → m ≡ n
   needed_is told n (bytes, short, is) =
-      let less = within bytes short.0 in
+      let less = needed_least bytes short.0 in
       let few : Needed ≤ limit = omega (arith, less, short.0.0) in
       let t = told ok few in
-      let least = short.1 (printed (written v)) (shortest_is law v ok few).0 in grind arith
+      let least = short.1 (printed (written v)) (written_is_shortest law v ok few).0 in grind arith
 
   pub needed_kept : {m l : ℕ} → (limit < Needed → m ≡ l) → ((bytes : List ℕ) → Spells valid printed means v bytes → ⊥)
       → m ≡ l
   needed_kept told none = elim (cases_lt limit Needed) [
     | inl more ↦ told more
-    | inr few ↦ absurd (none (printed (written v)) (shortest_is law v ok (omega (arith, few))).0)
+    | inr few ↦ absurd (none (printed (written v)) (written_is_shortest law v ok (omega (arith, few))).0)
   ]

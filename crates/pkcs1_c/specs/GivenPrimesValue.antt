@@ -5,24 +5,24 @@ use Rattle.pkcs1.specs.Words.{number_in, key_with, other_from, other_stated, pri
 use Rattle.pkcs1.specs.Keys as keys
 use Rattle.pkcs1.specs.declared.private_key.PrivateKeyOf.{PrivateKeyOf}
 use Rattle.standard.specs.Statement.{OtherPrime, PrivateKey, integer}
-use Rattle.pkcs1_c.specs.NumberValue.{number_of}
-use Rattle.pkcs1_c.specs.Structs.{other_prime}
+use Rattle.pkcs1_c.specs.NumberValue.{given_octets_of}
+use Rattle.pkcs1_c.specs.Structs.{other_prime_seen}
 use Rattle.pkcs1_c.specs.declared.given_number.Number.{Number}
 use Rattle.pkcs1_c.specs.declared.given_primes.GivenPrimes.{GivenPrimes}
 
 -- The other primes.
 abbrev pub given_primes : GivenPrimes → List (keys.OtherRow ℕ)
-given_primes given = map (λ o. other_from (other_prime o)) given.others.now
+given_primes given = map (λ o. other_from (other_prime_seen o)) given.others.now
 
 abbrev pub held_primes : GivenPrimes → List OtherPrime
 held_primes given = map other_stated (given_primes given)
 
 abbrev pub given_key : PrivateKeyOf Number GivenPrimes → keys.PrivateRow ℕ
-given_key = key_with (number_in number_of) given_primes
+given_key = key_with (number_in given_octets_of) given_primes
 
 abbrev pub held_given_key : PrivateKeyOf Number GivenPrimes → PrivateKey
 held_given_key key = private_stated (given_key key)
 
 -- The octets in front of other primes: the version and the eight numbers.
-abbrev pub front_of : keys.PrivateRow ℕ → List ℕ
-front_of key = integer (keys.version_of (keys.others_in key)) ++ concat (map integer (keys.key_numbers key))
+abbrev pub key_front_encoded : keys.PrivateRow ℕ → List ℕ
+key_front_encoded key = integer (keys.version_of (keys.others_in key)) ++ concat (map integer (keys.key_numbers key))

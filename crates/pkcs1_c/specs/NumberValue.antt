@@ -3,5 +3,5 @@ use Rattle.std.specs.Prelude.{ℕ, List}
 use Rattle.pkcs1_c.specs.declared.given_number.Number.{Number}
 
 -- its bytes, most significant first
-abbrev pub number_of : Number → List ℕ
-number_of number = number.bytes.now
+abbrev pub given_octets_of : Number → List ℕ
+given_octets_of number = number.bytes.now

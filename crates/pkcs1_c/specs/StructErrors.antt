@@ -9,7 +9,7 @@ use Rattle.pkcs1_c.specs.declared.public_key.PublicKey.{PublicKey}
 use Rattle.pkcs1_c.specs.declared.private_key.PrivateKey.{PrivateKey}
 use Rattle.pkcs1_c.specs.declared.private_key.OtherPrime.{OtherPrime}
 use Rattle.pkcs1_c.specs.Status.{IsErrorNumber, NoStatus}
-use Rattle.pkcs1_c.specs.Structs.{HasKey, IsLength, number, numbers_of_key, numbers_of_prime, private_key, private_key_info, public_key}
+use Rattle.pkcs1_c.specs.Structs.{HasKey, IsShortestLength, number_seen, numbers_of_key, numbers_of_prime, private_key_info_seen, private_key_seen, public_key_seen}
 
 -- The statuses of structs that aren't written, by the names that `src/status.rt` gives to numbers.
 abbrev pub LENGTH : ℕ
@@ -34,10 +34,10 @@ abbrev pub OTHER_PRIMES : ℕ
 OTHER_PRIMES = 21
 
 -- All parts can be held: the value has no encoding, or its shortest one is longer than the room.
-abbrev pub Unwritten : {V : Type 0} → (V → List ℕ → Type 0) → V → ℕ → ℕ → Type 0
-Unwritten Encoding v room status =
+abbrev pub UnwrittenStatus : {V : Type 0} → (V → List ℕ → Type 0) → V → ℕ → ℕ → Type 0
+UnwrittenStatus Encoding v room status =
     ((status ≡ OVERFLOW) × ((bytes : List ℕ) → Encoding v bytes → ⊥))
-    ⊎ ((status ≡ NO_ROOM) × (n : ℕ) × IsLength Encoding v n × (room < n))
+    ⊎ ((status ≡ NO_ROOM) × (n : ℕ) × IsShortestLength Encoding v n × (room < n))
 
 -- A part can't be held; or it can, and what follows it can't be, or isn't written.
 abbrev pub PartThen : (ℕ → Type 0) → (ℕ → Type 0) → ℕ → Type 0
@@ -47,7 +47,7 @@ PartThen WhyNot Rest status = WhyNot status ⊎ (NoStatus WhyNot × Rest status)
 abbrev pub NumberError : List ℕ → ℕ → Type 0
 NumberError bytes status =
     ((status ≡ LENGTH) × (length bytes ≡ 0))
-    ⊎ ((status ≡ OVERFLOW) × (0 < length bytes) × (limit < length (octets (number bytes))))
+    ⊎ ((status ≡ OVERFLOW) × (0 < length bytes) × (limit < length (octets (number_seen bytes))))
 
 -- One of the numbers, in order, can't be held.
 abbrev pub NumbersError : List (List ℕ) → ℕ → Type 0
@@ -60,7 +60,7 @@ two_numbers key = key.modulus.now ∷ key.public_exponent.now ∷ []
 
 abbrev pub PublicKeyError : PublicKey → ℕ → ℕ → Type 0
 PublicKeyError key room =
-    PartThen (NumbersError (two_numbers key)) (Unwritten PublicKeyEncoding (public_key key) room)
+    PartThen (NumbersError (two_numbers key)) (UnwrittenStatus PublicKeyEncoding (public_key_seen key) room)
 
 abbrev pub numbers_of_primes : List OtherPrime → List (List ℕ)
 numbers_of_primes [] = []
@@ -79,13 +79,13 @@ abbrev pub PrivateKeyError : PrivateKey → List OtherPrime → ℕ → ℕ → 
 PrivateKeyError key others room =
     PartThen (Miscounted key others)
     (PartThen (NumbersError (given_numbers key others))
-    (Unwritten PrivateKeyEncoding (private_key key others) room))
+    (UnwrittenStatus PrivateKeyEncoding (private_key_seen key others) room))
 
 -- The octets don't encode a private key (the status is that of their first fault); or the container isn't written.
 abbrev pub InfoError : PrivateKeyInfo → ℕ → ℕ → Type 0
 InfoError info room status =
     IsErrorNumber (rsa_private_key info.private_key.now) status
-    ⊎ (HasKey info × Unwritten ContainerEncoding (private_key_info info) room status)
+    ⊎ (HasKey info × UnwrittenStatus ContainerEncoding (private_key_info_seen info) room status)
 
 -- Octets that are no object identifier.
 abbrev pub OidError : List ℕ → ℕ → Type 0
@@ -123,4 +123,4 @@ OaepFieldError p = HashFieldsThen p.hash p.mask_gen (PlainError p.p_source)
 -- One of the fields can't be held; or parameters with these fields aren't written, by their own encoding or by that of
 -- the algorithm identifier that they stand in.
 abbrev pub FieldsError : {V : Type 0} → (V → ℕ → Type 0) → (V → List ℕ → Type 0) → V → ℕ → ℕ → Type 0
-FieldsError FieldError Encoding v room = PartThen (FieldError v) (Unwritten Encoding v room)
+FieldsError FieldError Encoding v room = PartThen (FieldError v) (UnwrittenStatus Encoding v room)

@@ -1,6 +1,6 @@
 -- What the structs for C hold, in the words of `Statement.antt`, and what a call that writes says and leaves.
--- One rule: the function that is named as a struct, in lower case with underscores, gives the value that it holds; of
--- parameters it ends with `seen`.
+-- One rule: the function that is named as a struct, in lower case with underscores, and ends with `seen`, gives the value
+-- that it holds.
 use Rattle.std.specs.Prelude.{ℕ, List, [], ◌∷◌, ◌≡◌, ◌≢◌, ◌<◌, length, take, map, Option, Some, None, false, if◌then◌else◌}
 use Rattle.der_core.specs.Words.{number_from_digits}
 use Rattle.std.specs.List.{AllByRecursion}
@@ -17,8 +17,8 @@ use Rattle.standard.specs.Statement.{octets, PublicKey, PrivateKey, PrivateKeyEn
 
 -- == Writing ==
 -- The length of the value's shortest encoding.
-abbrev pub IsLength : {V : Type 0} → (V → List ℕ → Type 0) → V → ℕ → Type 0
-IsLength Encoding v n = (bytes : List ℕ) × IsShortest Encoding v bytes × (n ≡ length bytes)
+abbrev pub IsShortestLength : {V : Type 0} → (V → List ℕ → Type 0) → V → ℕ → Type 0
+IsShortestLength Encoding v n = (bytes : List ℕ) × IsShortest Encoding v bytes × (n ≡ length bytes)
 
 -- A call was to write a value's shortest encoding over a slice, and its length over a number. Status 0: it did, and the
 -- rest of the slice is as before. 15, `PKCS1_NO_ROOM`: the encoding is longer than the slice, and the number is its
@@ -26,7 +26,7 @@ IsLength Encoding v n = (bytes : List ℕ) × IsShortest Encoding v bytes × (n 
 pub record WritesOrTells {V : Type 0} (Encoding : V → List ℕ → Type 0) (v : V) (old new : List ℕ)
     (old_len new_len status : ℕ) : Type 0 where
   pub ok : status ≡ 0 → Encodes Encoding v old new (Some new_len)
-  pub no_room : status ≡ 15 → IsLength Encoding v new_len × (length old < new_len)
+  pub no_room : status ≡ 15 → IsShortestLength Encoding v new_len × (length old < new_len)
   pub rejected : status ≢ 0 → status ≢ 15 → (bytes : List ℕ) → Encoding v bytes → ⊥
   pub unchanged : status ≢ 0 → (new ≡ old) × (status ≢ 15 → new_len ≡ old_len)
 
@@ -35,13 +35,13 @@ abbrev pub If : {V : Type 0} → Type 0 → (V → List ℕ → Type 0) → V �
 If IsHeld Encoding v bytes = IsHeld × Encoding v bytes
 
 -- == Public keys ==
-abbrev pub number : List ℕ → ℕ
-number bytes = number_from_digits 256 bytes
+abbrev pub number_seen : List ℕ → ℕ
+number_seen bytes = number_from_digits 256 bytes
 
 -- The key with these numbers: zeros in front don't matter.
-abbrev pub public_key : public_structs.PublicKey → PublicKey
-public_key key =
-    record { modulus = number key.modulus.now; public_exponent = number key.public_exponent.now }
+abbrev pub public_key_seen : public_structs.PublicKey → PublicKey
+public_key_seen key =
+    record { modulus = number_seen key.modulus.now; public_exponent = number_seen key.public_exponent.now }
 
 -- Each number has a byte.
 abbrev pub HasNumbers : public_structs.PublicKey → Type 0
@@ -111,30 +111,30 @@ HasPrivateNumbers key others =
     (key.other_primes ≡ length others) × HaveBytes (numbers_of_key key)
     × AllByRecursion (λ o. HaveBytes (numbers_of_prime o)) others
 
-abbrev pub other_prime : prime_structs.OtherPrime → OtherPrime
-other_prime o = record {
-  prime = number o.prime.now;
-  exponent = number o.exponent.now;
-  coefficient = number o.coefficient.now;
+abbrev pub other_prime_seen : prime_structs.OtherPrime → OtherPrime
+other_prime_seen o = record {
+  prime = number_seen o.prime.now;
+  exponent = number_seen o.exponent.now;
+  coefficient = number_seen o.coefficient.now;
 }
 
 -- An empty array: there are none.
-abbrev pub other_primes : List prime_structs.OtherPrime → Option (List OtherPrime)
-other_primes [] = None
-other_primes (o ∷ others) = Some (map other_prime (o ∷ others))
+abbrev pub other_primes_seen : List prime_structs.OtherPrime → Option (List OtherPrime)
+other_primes_seen [] = None
+other_primes_seen (o ∷ others) = Some (map other_prime_seen (o ∷ others))
 
 -- The key with the numbers of a struct and of an array: zeros in front don't matter.
-abbrev pub private_key : key_structs.PrivateKey → List prime_structs.OtherPrime → PrivateKey
-private_key key others = record {
-  modulus = number key.modulus.now;
-  public_exponent = number key.public_exponent.now;
-  private_exponent = number key.private_exponent.now;
-  prime1 = number key.prime1.now;
-  prime2 = number key.prime2.now;
-  exponent1 = number key.exponent1.now;
-  exponent2 = number key.exponent2.now;
-  coefficient = number key.coefficient.now;
-  other_primes = other_primes others;
+abbrev pub private_key_seen : key_structs.PrivateKey → List prime_structs.OtherPrime → PrivateKey
+private_key_seen key others = record {
+  modulus = number_seen key.modulus.now;
+  public_exponent = number_seen key.public_exponent.now;
+  private_exponent = number_seen key.private_exponent.now;
+  prime1 = number_seen key.prime1.now;
+  prime2 = number_seen key.prime2.now;
+  exponent1 = number_seen key.exponent1.now;
+  exponent2 = number_seen key.exponent2.now;
+  coefficient = number_seen key.coefficient.now;
+  other_primes = other_primes_seen others;
 }
 
 abbrev pub octets_of_prime : OtherPrime → List (List ℕ)
@@ -163,8 +163,8 @@ DecodesPrivate bytes key list =
 
 -- == Containers ==
 -- The algorithm is always rsaEncryption with NULL. Attributes count only if `has_attributes` is true.
-abbrev pub private_key_info : PrivateKeyInfo → Container
-private_key_info info = record {
+abbrev pub private_key_info_seen : PrivateKeyInfo → Container
+private_key_info_seen info = record {
   algorithm = rsa_encryption;
   private_key = info.private_key.now;
   attributes = if info.has_attributes then Some info.attributes.now else None;

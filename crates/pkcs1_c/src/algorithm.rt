@@ -1,6 +1,6 @@
 //! Algorithm identifiers.
 ghost use Rattle.std.specs.Prelude.{Decides, ◌≡◌, IfOk, IfErr, IsTrue};
-ghost use Rattle.spki_core.specs.Words.{IsHash, TagAndContents, any_of, null_value, octets_of, viewed_with};
+ghost use Rattle.spki_core.specs.Words.{IsHash, TagAndContents, any_of, identifier_octets, null_value, viewed_with};
 ghost use Rattle.pkcs1_params.specs.Words.{UsesHash, with_parameters};
 ghost use Rattle.pkcs1_c.specs.Words.{kind_number, algorithm_seen, mask_gen_seen, AlgorithmIsTidy, MaskGenIsTidy, OidError, PlainError, MaskError};
 
@@ -87,7 +87,7 @@ pub(crate) fn to_c_mask_gen<'a>(
 /// The object identifier with these contents octets, or `OidMalformed`.
 #[inline(always)]
 fn from_c_oid<'a>(octets: &'a [u8]) -> Result<IdentifierView<'a>>
-    ensures ok { IfOk result (λ made. octets_of made ≡ octets.now) }
+    ensures ok { IfOk result (λ made. identifier_octets made ≡ octets.now) }
     ensures err { IfErr result (λ e. OidError octets.now (kind_number e.kind)) }
 {
     IdentifierView::from_bytes(octets)

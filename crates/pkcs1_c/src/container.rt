@@ -3,7 +3,7 @@ ghost use Rattle.std.specs.Prelude.{◌≡◌, ◌≢◌, length, IfErr, IfOk, O
 ghost use Rattle.pkcs1.specs.Words.{held_view, rsa_private_key};
 ghost use Rattle.pkcs1_params.specs.Words.{ErrsAs, IsAsn1};
 ghost use Rattle.pkcs8_core.specs.Words.{ContainedKey, IsContainer, info_of, info_viewed, rsa_encryption, rsa_private_key_info};
-ghost use Rattle.pkcs1_c.specs.Words.{DecodesPrivate, HasKey, If, InfoError, InfoIsTidy, IsErrorOf, IsStatusOf, WritesOrTells, private_key_info};
+ghost use Rattle.pkcs1_c.specs.Words.{DecodesPrivate, HasKey, If, InfoError, InfoIsTidy, IsErrorOf, IsStatusOf, WritesOrTells, private_key_info_seen};
 ghost use Rattle.standard.specs.Statement.{ContainedKeyEncoding, ContainerEncoding, Decodes};
 
 use crate::bytes::Bytes;
@@ -43,7 +43,8 @@ fn read_container<'a>(
 
 /// The C struct of a container of an RSA key.
 fn to_c_info<'a>(info: &PrivateKeyInfoView<'a>) -> PrivateKeyInfo<'a>
-    ensures seen { (info_viewed info.now).algorithm ≡ rsa_encryption → private_key_info result ≡ info_viewed info.now }
+    ensures seen { (info_viewed info.now).algorithm ≡ rsa_encryption
+        → private_key_info_seen result ≡ info_viewed info.now }
     ensures tidy { InfoIsTidy result }
 {
     let private_key = info.private_key.as_bytes();
@@ -71,7 +72,7 @@ pub extern "C" fn pkcs1_c_private_key_info_decode<'a>(
     key: &mut PrivateKey<'a>,
     listed: &mut Bytes<'a>,
 ) -> u32
-    ensures ok { result ≡ OK → Decodes ContainerEncoding encoding.now (Some (private_key_info info.new)) }
+    ensures ok { result ≡ OK → Decodes ContainerEncoding encoding.now (Some (private_key_info_seen info.new)) }
     ensures key { result ≡ OK → DecodesPrivate info.new.private_key.now key.new listed.new.octets.now }
     ensures rejected { result ≢ OK → Decodes ContainedKeyEncoding encoding.now None }
     ensures exact { IsStatusOf (rsa_private_key_info encoding.now) result }
@@ -91,7 +92,7 @@ pub extern "C" fn pkcs1_c_private_key_info_decode<'a>(
 
 /// The container of a C struct. Its `private_key` must be the encoding of a private key.
 fn from_c_info<'a>(info: &PrivateKeyInfo<'a>) -> pkcs1::Result<PrivateKeyInfoRef<'a>>
-    ensures ok { IfOk result (λ made. info_of made ≡ private_key_info info.now) }
+    ensures ok { IfOk result (λ made. info_of made ≡ private_key_info_seen info.now) }
     ensures key { OnOk result (HasKey info.now) }
     ensures some { IfOk result (λ made. IsContainer (info_of made)) }
     ensures exact { IfErr result (IsAsn1 (λ e. rsa_private_key info.now.private_key.now ≡ Err e.kind)) }
@@ -121,7 +122,7 @@ pub extern "C" fn pkcs1_c_private_key_info_encode(
     len: &mut usize,
 ) -> u32
     ensures writes { let Encoding = If (HasKey info.now) ContainerEncoding in
-        WritesOrTells Encoding (private_key_info info.now) out.old out.new len.old len.new result }
+        WritesOrTells Encoding (private_key_info_seen info.now) out.old out.new len.old len.new result }
     ensures exact { IsErrorOf (InfoError info.now (length out.old)) result }
 {
     match from_c_info(info) {

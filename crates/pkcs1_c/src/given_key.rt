@@ -1,8 +1,8 @@
 //! Private keys that the caller passes.
 ghost use Rattle.std.specs.Prelude.{◌≡◌, ℕ, IfErr, IfOk, OnOk};
-ghost use Rattle.der_core.specs.Words.{Counts, alike, one_spelling};
-ghost use Rattle.pkcs1.specs.Words.{AnyNumber, PrivateIsValid, PrivateRow, integer_law, number as number_at, private_key_read, private_law, private_printed};
-ghost use Rattle.pkcs1_c.specs.Words.{NoStatus, NumbersError, front_of, given_key, given_numbers, held_given_key, private_key, status_of};
+ghost use Rattle.der_core.specs.Words.{Counts, one_spelling_shortest, reading_alike};
+ghost use Rattle.pkcs1.specs.Words.{AnyNumber, PrivateIsValid, PrivateRow, integer_law, number_front as number_at, private_key_read, private_law, private_printed};
+ghost use Rattle.pkcs1_c.specs.Words.{NoStatus, NumbersError, given_key, given_numbers, held_given_key, key_front_encoded, private_key_seen, status_of};
 ghost use Rattle.standard.specs.Statement.{integer};
 
 use crate::given_number::Number;
@@ -27,7 +27,7 @@ impl<'a> GivenKey<'a> {
         key: &PrivateKey<'a>,
         others: &'a [OtherPrime<'a>],
     ) -> pkcs1::Result<GivenKey<'a>>
-        ensures ok { IfOk result (λ made. held_given_key made.0 ≡ private_key key.now others.now) }
+        ensures ok { IfOk result (λ made. held_given_key made.0 ≡ private_key_seen key.now others.now) }
         ensures held { OnOk result (NoStatus (NumbersError (given_numbers key.now others.now))) }
         ensures err { let numbers = given_numbers key.now others.now in
             IfErr result (λ e. NumbersError numbers (status_of e)) }
@@ -53,7 +53,7 @@ impl<'a> GivenKey<'a> {
 /// length of some octets, and the version has one.
 #[inline(always)]
 fn numbers_len(key: &PrivateKeyOf<Number<'_>, GivenPrimes<'_>>) -> Result<Length>
-    ensures { Counts (Unit {0}) (front_of (given_key key.now)) result }
+    ensures { Counts (Unit {0}) (key_front_encoded (given_key key.now)) result }
 {
     let first = octets_with_tag(key.modulus.size())
         + octets_with_tag(key.public_exponent.size())
@@ -87,9 +87,9 @@ impl Contents for GivenKey<'_> {
 
     ghost law = { private_law integer_law };
 
-    ghost shortest = { one_spelling (PrivateIsValid AnyNumber) (private_printed integer) };
+    ghost shortest = { one_spelling_shortest (PrivateIsValid AnyNumber) (private_printed integer) };
 
-    ghost reads_alike = { alike (private_key_read number_at) };
+    ghost reads_alike = { reading_alike (private_key_read number_at) };
 }
 
 impl TaggedBy for GivenKey<'_> {

@@ -1,7 +1,7 @@
 //! Numbers to be written.
 ghost use Rattle.std.specs.Prelude.{◌≡◌, ◌+◌, ◌≤◌, length, slice_index, nat_lt, if◌then◌else◌, ℕ};
 ghost use Rattle.std.specs.Int.Digits.{number_from_digits};
-ghost use Rattle.der_core.specs.Words.{HoldsNumber, limit, bytes_of, alike, number_law, one_spelling, number_contents};
+ghost use Rattle.der_core.specs.Words.{HoldsNumber, limit, bytes_of, reading_alike, number_law, one_spelling_shortest, number_contents};
 ghost use Rattle.der_core.specs.Printed as printed;
 ghost use Rattle.standard.specs.Statement.{integer};
 
@@ -17,16 +17,16 @@ pub struct Number<'a> {
     zeros: usize,
     ghost canonical: { HoldsNumber bytes.now },
     ghost bounded: { length bytes.now ≤ limit },
-    ghost told: { zeros ≡ (if nat_lt (slice_index bytes.now 0) 128 then 0 else 1) },
+    ghost zero_counted: { zeros ≡ (if nat_lt (slice_index bytes.now 0) 128 then 0 else 1) },
 }
 
 impl<'a> Number<'a> {
-    ghost use Rattle.pkcs1_c.specs.NumberValue.{number_of};
+    ghost use Rattle.pkcs1_c.specs.NumberValue.{given_octets_of};
 
     /// The same number.
     #[inline(always)]
     pub(crate) fn of(number: UintRef<'a>) -> Number<'a>
-        ensures { number_of result ≡ bytes_of number.entry }
+        ensures { given_octets_of result ≡ bytes_of number.entry }
     {
         let bytes = number.as_bytes();
         Number {
@@ -38,7 +38,7 @@ impl<'a> Number<'a> {
     /// How many octets the contents are.
     #[inline(always)]
     pub(crate) fn size(&self) -> usize
-        ensures is { result ≡ length (number_contents (number_from_digits 256 (number_of self.now))) }
+        ensures is { result ≡ length (number_contents (number_from_digits 256 (given_octets_of self.now))) }
         ensures bound { result ≤ limit + 1 }
     {
         self.bytes.len() + self.zeros
@@ -48,7 +48,7 @@ impl<'a> Number<'a> {
     /// are 7 at most.
     #[inline(always)]
     pub(crate) fn octets_at_most(&self) -> usize
-        ensures bounds { let octets = length (integer (number_from_digits 256 (number_of self.now))) in
+        ensures bounds { let octets = length (integer (number_from_digits 256 (given_octets_of self.now))) in
             octets ≤ limit → octets ≤ result }
         ensures most { result ≤ limit + 7 }
     {
@@ -57,11 +57,11 @@ impl<'a> Number<'a> {
 }
 
 impl Contents for Number<'_> {
-    ghost use Rattle.pkcs1_c.specs.NumberValue.{number_of};
+    ghost use Rattle.pkcs1_c.specs.NumberValue.{given_octets_of};
 
     ghost Value = { ℕ };
 
-    ghost value = { λ number. number_from_digits 256 (number_of number) };
+    ghost value = { λ number. number_from_digits 256 (given_octets_of number) };
 
     ghost Spelling = { ℕ };
 
@@ -79,9 +79,9 @@ impl Contents for Number<'_> {
 
     ghost law = { number_law };
 
-    ghost shortest = { one_spelling (λ _. Unit {0}) printed.number_contents };
+    ghost shortest = { one_spelling_shortest (λ _. Unit {0}) printed.number_contents };
 
-    ghost reads_alike = { alike printed.number_of };
+    ghost reads_alike = { reading_alike printed.number_of };
 }
 
 impl TaggedBy for Number<'_> {

@@ -2,11 +2,11 @@
 ghost use Rattle.std.specs.Prelude.{◌≡◌, ◌+◌, ◌^◌, ◌≤◌, ◌<◌, length, IsTrue, IfOk, IfErr, OnOk};
 ghost use Rattle.der_core.specs.Words.{Prepends, free_of, limit, tlv_len, Appends, Counts};
 ghost use Rattle.pkcs1.specs.Words.{held_other_prime};
-ghost use Rattle.pkcs1_c.specs.NumberValue.{number_of};
+ghost use Rattle.pkcs1_c.specs.NumberValue.{given_octets_of};
 ghost use Rattle.pkcs1_c.specs.PrimeLists.{AreCounted, AreCounted-prop, given_encoded, prime_encoded};
 ghost use Rattle.pkcs1_c.specs.Status.{NoStatus, status_of};
 ghost use Rattle.pkcs1_c.specs.StructErrors.{NumbersError, numbers_of_primes};
-ghost use Rattle.pkcs1_c.specs.Structs.{numbers_of_prime, other_prime, other_primes};
+ghost use Rattle.pkcs1_c.specs.Structs.{numbers_of_prime, other_prime_seen, other_primes_seen};
 
 use crate::given_number::Number;
 use crate::numbers::number;
@@ -31,7 +31,7 @@ pub struct GivenPrimes<'a> {
 /// The prime with these numbers.
 #[inline(always)]
 fn from_c_other_prime<'a>(other: &OtherPrime<'a>) -> pkcs1::Result<OtherPrimeInfo<Number<'a>>>
-    ensures ok { IfOk result (λ info. held_other_prime number_of info ≡ other_prime other.now) }
+    ensures ok { IfOk result (λ info. held_other_prime given_octets_of info ≡ other_prime_seen other.now) }
     ensures held { OnOk result (NoStatus (NumbersError (numbers_of_prime other.now))) }
     ensures err { IfErr result (λ e. NumbersError (numbers_of_prime other.now) (status_of e)) }
 {
@@ -70,7 +70,7 @@ pub(crate) fn octets_with_tag(contents: usize) -> usize
 /// some octets.
 #[inline(always)]
 fn length_of(info: &OtherPrimeInfo<Number<'_>>) -> Result<Length>
-    ensures { Counts (Unit {0}) (prime_encoded (held_other_prime number_of info.now)) result }
+    ensures { Counts (Unit {0}) (prime_encoded (held_other_prime given_octets_of info.now)) result }
 {
     let numbers = octets_with_tag(info.prime.size())
         + octets_with_tag(info.exponent.size())
@@ -94,7 +94,7 @@ fn append_given<W: Writer>(other: &OtherPrime<'_>, writer: &mut W) -> Result<()>
 /// Whether a bound on the octets of the prime's encoding says that they are no more than `left`.
 #[inline(always)]
 fn is_surely_within(info: &OtherPrimeInfo<Number<'_>>, left: usize) -> bool
-    ensures { let octets = length (prime_encoded (held_other_prime number_of info.now)) in
+    ensures { let octets = length (prime_encoded (held_other_prime given_octets_of info.now)) in
         IsTrue result → octets ≤ limit → octets ≤ left }
 {
     let numbers = info.prime.octets_at_most()
@@ -133,7 +133,7 @@ impl<'a> GivenPrimes<'a> {
     /// The primes of the array, or `None` if it is empty; or why the first number that can't be held can't be.
     #[inline(always)]
     pub(crate) fn of(others: &'a [OtherPrime<'a>]) -> pkcs1::Result<Option<GivenPrimes<'a>>>
-        ensures ok { IfOk result (λ given. option_map held_primes given ≡ other_primes others.now) }
+        ensures ok { IfOk result (λ given. option_map held_primes given ≡ other_primes_seen others.now) }
         ensures held { OnOk result (NoStatus (NumbersError (numbers_of_primes others.now))) }
         ensures err { IfErr result (λ e. NumbersError (numbers_of_primes others.now) (status_of e)) }
     {
@@ -152,8 +152,8 @@ impl<'a> GivenPrimes<'a> {
 impl Contents for GivenPrimes<'_> {
     ghost use Rattle.std.specs.Prelude.{List, ℕ};
     ghost use Rattle.std.specs.List.{AllByRecursion};
-    ghost use Rattle.der_core.specs.Words.{alike, one_spelling};
-    ghost use Rattle.pkcs1.specs.Words.{number, primes_read, integer_law, primes_law, AnyNumber, OtherIsValid, primes_printed};
+    ghost use Rattle.der_core.specs.Words.{one_spelling_shortest, reading_alike};
+    ghost use Rattle.pkcs1.specs.Words.{number_front, primes_read, integer_law, primes_law, AnyNumber, OtherIsValid, primes_printed};
     ghost use Rattle.pkcs1.specs.Keys as keys;
     ghost use Rattle.pkcs1_c.specs.GivenPrimesValue.{given_primes};
     ghost use Rattle.standard.specs.Statement.{integer};
@@ -172,15 +172,15 @@ impl Contents for GivenPrimes<'_> {
 
     ghost printed = { primes_printed integer };
 
-    ghost read_spelling = { primes_read number };
+    ghost read_spelling = { primes_read number_front };
 
-    ghost read = { primes_read number };
+    ghost read = { primes_read number_front };
 
     ghost law = { primes_law integer_law };
 
-    ghost shortest = { one_spelling (AllByRecursion (OtherIsValid AnyNumber)) (primes_printed integer) };
+    ghost shortest = { one_spelling_shortest (AllByRecursion (OtherIsValid AnyNumber)) (primes_printed integer) };
 
-    ghost reads_alike = { alike (primes_read number) };
+    ghost reads_alike = { reading_alike (primes_read number_front) };
 }
 
 impl TaggedBy for GivenPrimes<'_> {

@@ -2,7 +2,7 @@
 ghost use Rattle.std.specs.Prelude.{◌≡◌, ◌<◌, ◌≤◌, ◌-◌, ◌^◌, length, OnOk, IfOk, IfErr};
 ghost use Rattle.std.specs.Int.Digits.{number_from_digits};
 ghost use Rattle.der_core.specs.Words.{IsBitLength, limit};
-ghost use Rattle.pkcs1_c.specs.Words.{number_of, status_of, NumberError, NoStatus};
+ghost use Rattle.pkcs1_c.specs.Words.{given_octets_of, status_of, NumberError, NoStatus};
 ghost use Rattle.standard.specs.Statement.{octets};
 
 use crate::given_number::Number;
@@ -12,7 +12,7 @@ use pkcs1::UintRef;
 /// limit.
 #[inline(always)]
 pub(crate) fn number<'a>(bytes: &'a [u8]) -> pkcs1::Result<Number<'a>>
-    ensures ok { IfOk result (λ n. number_from_digits 256 (number_of n) ≡ number_from_digits 256 bytes.now) }
+    ensures ok { IfOk result (λ n. number_from_digits 256 (given_octets_of n) ≡ number_from_digits 256 bytes.now) }
     ensures held { OnOk result (NoStatus (NumberError bytes.now)) }
     ensures err { IfErr result (λ e. NumberError bytes.now (status_of e)) }
 {

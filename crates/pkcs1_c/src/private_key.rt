@@ -2,7 +2,7 @@
 ghost use Rattle.std.specs.Prelude.{length, drop, ◌≡◌, ◌≢◌, ◌≤◌, List, None};
 ghost use Rattle.der_core.specs.Words.{ReadsFront, bytes_of, left_of, limit};
 ghost use Rattle.pkcs1.specs.Words.{held_other_prime, held_view, listed_others, next_prime, primes_encoded, rsa_private_key};
-ghost use Rattle.pkcs1_c.specs.Words.{ArePlaced, DecodesPrivate, HasPrivateNumbers, HoldsPrivate, If, IsErrorOf, IsStatusOf, PrivateKeyError, WritesOrTells, numbers_of_prime, octets_of_prime, private_key};
+ghost use Rattle.pkcs1_c.specs.Words.{ArePlaced, DecodesPrivate, HasPrivateNumbers, HoldsPrivate, If, IsErrorOf, IsStatusOf, PrivateKeyError, WritesOrTells, numbers_of_prime, octets_of_prime, private_key_seen};
 ghost use Rattle.standard.specs.Statement.{Decodes, OtherPrime as Prime, PrivateKeyEncoding};
 
 use crate::bytes::Bytes;
@@ -151,7 +151,7 @@ pub extern "C" fn pkcs1_c_private_key_encode(
     len: &mut usize,
 ) -> u32
     ensures writes { let Encoding = If (HasPrivateNumbers key.now others.now) PrivateKeyEncoding in
-        WritesOrTells Encoding (private_key key.now others.now) out.old out.new len.old len.new result }
+        WritesOrTells Encoding (private_key_seen key.now others.now) out.old out.new len.old len.new result }
     ensures exact { IsErrorOf (PrivateKeyError key.now others.now (length out.old)) result }
 {
     if key.other_primes != others.len() {

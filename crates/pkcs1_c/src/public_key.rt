@@ -1,7 +1,7 @@
 //! Public keys.
 ghost use Rattle.std.specs.Prelude.{◌≡◌, ◌≢◌, length, IfOk, IfErr, OnOk, Some, None};
 ghost use Rattle.pkcs1.specs.Words.{held_public_key, rsa_public_key};
-ghost use Rattle.pkcs1_c.specs.Words.{HasNumbers, Holds, If, IsErrorOf, IsStatusOf, NoStatus, NumbersError, PublicKeyError, WritesOrTells, number_of, public_key, status_of, two_numbers};
+ghost use Rattle.pkcs1_c.specs.Words.{HasNumbers, Holds, If, IsErrorOf, IsStatusOf, NoStatus, NumbersError, PublicKeyError, WritesOrTells, given_octets_of, public_key_seen, status_of, two_numbers};
 ghost use Rattle.standard.specs.Statement as statement;
 ghost use Rattle.standard.specs.Statement.{Decodes, PublicKeyEncoding};
 
@@ -42,7 +42,7 @@ pub extern "C" fn pkcs1_c_public_key_decode<'a>(encoding: &'a [u8], key: &mut Pu
 
 /// The key with these numbers.
 fn from_c_key<'a>(key: &PublicKey<'a>) -> pkcs1::Result<RsaPublicKey<Number<'a>>>
-    ensures ok { IfOk result (λ made. held_public_key number_of made ≡ public_key key.now) }
+    ensures ok { IfOk result (λ made. held_public_key given_octets_of made ≡ public_key_seen key.now) }
     ensures held { OnOk result (NoStatus (NumbersError (two_numbers key.now))) }
     ensures err { IfErr result (λ e. NumbersError (two_numbers key.now) (status_of e)) }
 {
@@ -61,7 +61,7 @@ pub extern "C" fn pkcs1_c_public_key_encode(
     len: &mut usize,
 ) -> u32
     ensures writes { let Encoding = If (HasNumbers key.now) PublicKeyEncoding in
-        WritesOrTells Encoding (public_key key.now) out.old out.new len.old len.new result }
+        WritesOrTells Encoding (public_key_seen key.now) out.old out.new len.old len.new result }
     ensures exact { IsErrorOf (PublicKeyError key.now (length out.old)) result }
 {
     match from_c_key(key) {

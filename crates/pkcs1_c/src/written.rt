@@ -2,7 +2,7 @@
 ghost use Rattle.std.specs.Prelude.{◌≡◌, ◌≤◌, ◌<◌, length, IfErr, IfOk};
 ghost use Rattle.der_core.specs.Words.{Spells, limit};
 ghost use Rattle.pkcs1_params.specs.Words.{Encoded};
-ghost use Rattle.pkcs1_c.specs.Words.{IsErrorOf, Unwritten, WritesOrTells};
+ghost use Rattle.pkcs1_c.specs.Words.{IsErrorOf, UnwrittenStatus, WritesOrTells};
 ghost use Rattle.standard.specs.Statement.{AlgorithmEncoding};
 
 use crate::status::{NO_ROOM, OK, kind_number, status};
@@ -47,7 +47,7 @@ pub(crate) fn write_encoding<T: Encode>(value: &T, out: &mut [u8], len: &mut usi
     ensures writes { let Encoding = Spells T.valid T.printed T.means in
         WritesOrTells Encoding (T.value value.now) out.old out.new len.old len.new result }
     ensures exact { let Encoding = Spells T.valid T.printed T.means in
-        IsErrorOf (Unwritten Encoding (T.value value.now) (length out.old)) result }
+        IsErrorOf (UnwrittenStatus Encoding (T.value value.now) (length out.old)) result }
 {
     match value.encode_into(out) {
         Ok(written) => {
@@ -66,7 +66,7 @@ pub(crate) fn write_params<T: EncodeParams>(params: T, out: &mut [u8], len: &mut
     ensures writes { let Encoding = Encoded T.Is T.fields_of in
         WritesOrTells Encoding (T.params params) out.old out.new len.old len.new result }
     ensures exact { let Encoding = Encoded T.Is T.fields_of in
-        IsErrorOf (Unwritten Encoding (T.params params) (length out.old)) result }
+        IsErrorOf (UnwrittenStatus Encoding (T.params params) (length out.old)) result }
 {
     params.lemma_is_valid();
     match params.encode_params(out) {
@@ -90,7 +90,7 @@ pub(crate) fn write_algorithm<D: AssociatedOid, T: EncodeParams>(
     ensures writes { let Encoding = AlgorithmEncoding D.contents (Encoded T.Is T.fields_of) in
         WritesOrTells Encoding (T.params params) out.old out.new len.old len.new result }
     ensures exact { let Encoding = AlgorithmEncoding D.contents (Encoded T.Is T.fields_of) in
-        IsErrorOf (Unwritten Encoding (T.params params) (length out.old)) result }
+        IsErrorOf (UnwrittenStatus Encoding (T.params params) (length out.old)) result }
 {
     write_encoding(&Shortest::identified::<D>(params), out, len)
 }

@@ -1,13 +1,13 @@
 -- Algorithm identifiers with parameters of their own: what is read of them, and how many encodings there are.
 use Rattle.std.proofs.Common.{ℕ, Bool, true, List, ◌++◌, ◌≡◌, ◌≤◌, ◌^◌, length, refl, sym, subst, ap, ◌∙◌, arith, ⊎_elim, map, Option, Some, None, Result, Ok, Err, inl, inr, false, ◌==◌, ◌↔◌, if◌then◌else◌, option_map, bytes_eq}
-use Rattle.der_core.specs.Words.{nat_tests, AreBytes, back_bytes, front_bytes, chosen, tlv_fit, whole_decodes, whole_takes, bind_err, bind_ok, ok_same, unexpected_not, limit, tagged_shortest, Spells, WritesShortest, value_in, Reading, whole, ◌>>=◌}
+use Rattle.der_core.specs.Words.{nat_tests, AreBytes, back_bytes, front_bytes, cond_cases, tlv_fit, whole_decodes, whole_takes, bind_err, bind_ok, ok_injective, unexpected_not, limit, tagged_shortest, Spells, WritesShortest, value_in, Reading, whole, ◌>>=◌}
 use Rattle.std.proofs.lemmas.Slice.Eq.{bytes_eq-Decides}
 use Rattle.der_core.specs.declared.error.ErrorKind.{ErrorKind}
 use Rattle.spki_core.specs.Words.{is_identifier, is_identifier-sound, algorithm_contents, algorithm_map, AreSpelled, FieldRecord, Spelling, record_means, record_read, record_strictly, spelled, record_under, spelling_read, strict_value, strict_whole, upto, record_alike, record_front_law, record_law, record_reads, record_shortest, spelled_from, spelled_to, under_valid, algorithm_writes_shortest, any_as}
-use Rattle.spki_core.proofs.Fielded.{are_all, counted, default_count, each_within, made}
+use Rattle.spki_core.proofs.RecordEncodings.{default_count, default_count_only, encoding_under, encodings_are_all, encodings_within_longest}
 use Rattle.spki_core.proofs.StrictFields.{contents_bytes, strict_decodes}
 use Rattle.pkcs1_params.specs.Words.{Identifies, PlainEncoding, identified, parameters_as, whole_algorithm, plain_law, plain_front, with_parameters}
-use Rattle.pkcs1_params.proofs.Wrapped.{are_all_in, inner_is, shortest_decodes, wrapped, wrapped_fit, wrapped_one}
+use Rattle.pkcs1_params.proofs.Wrapped.{are_all_in, wrapped, wrapped_fit, wrapped_inner_encodes, wrapped_one, wrapped_shortest_decodes}
 use Rattle.standard.specs.Statement.{Algorithm, AlgorithmEncoding, AreAll, Decodes, Field, Fields, IfPresent, IsAlgorithm, IsAny, IsIdentifier, IsShortest, SequenceOf, TagAndContents, optional, TwoToTheDefaultsIn, algorithm, any, longest, sequence, tlv}
 use Rattle.der_core.specs.Tags as tags
 
@@ -21,17 +21,17 @@ pub identified_is : {V : Type 0} (oid : List ℕ) (read : Reading V) (c : List �
 identified_is oid read c = let same : bytes_eq oid oid ≡ true = (bytes_eq-Decides oid oid).1 refl in rw same refl
 
 -- What a whole slice is read as, by its identifier.
-pub behind_any : {V : Type 0} (oid bytes : List ℕ) (a : Algorithm TagAndContents) (x : TagAndContents)
-    → whole plain_front bytes ≡ Ok a → ((read : Reading V) → identified oid read a ≡ any_as tags.sequence read x)
-    → (read : Reading V) → whole_algorithm oid read bytes ≡ any_as tags.sequence read x
-behind_any oid bytes a x is given read = ap (λ r. r >>= identified oid read) is ∙ given read
+pub identified_behind_any : {V : Type 0} (oid bytes : List ℕ) (a : Algorithm TagAndContents) (x : TagAndContents)
+    → whole plain_front bytes ≡ Ok a → ((read : Reading V) → identified oid read a ≡ any_as tags.sequence_tag read x)
+    → (read : Reading V) → whole_algorithm oid read bytes ≡ any_as tags.sequence_tag read x
+identified_behind_any oid bytes a x is given read = ap (λ r. r >>= identified oid read) is ∙ given read
 
 -- And nothing is read of another one.
 pub identified_holds : {V : Type 0} (oid : List ℕ) (read : Reading V) (a : Algorithm TagAndContents) (v : V)
     → identified oid read a ≡ Ok v → (c : List ℕ) × (a ≡ holding oid c) × (read c ≡ Ok v)
 identified_holds {V} oid read a v is =
     ⊎_elim (λ w. go a.parameters refl w.1 ((bytes_eq-Decides a.oid oid).0 w.0)) (λ w. let no = w.1 in cc)
-    (chosen (bytes_eq a.oid oid) _ _ _ is)
+    (cond_cases (bytes_eq a.oid oid) _ _ _ is)
   where
     go : (o : Option TagAndContents) → a.parameters ≡ o → parameters_as read o ≡ Ok v → a.oid ≡ oid
         → (c : List ℕ) × (a ≡ holding oid c) × (read c ≡ Ok v)
@@ -44,7 +44,7 @@ identified_holds {V} oid read a v is =
             parameters = (e ∙ (λ j. Some (record { tag = tag j; contents = x.contents }))) i;
           }),
           w.1,
-        )) (λ w. absurd (unexpected_not tags.sequence x.tag v w.1)) (chosen (x.tag == 48) _ _ _ p)
+        )) (λ w. absurd (unexpected_not tags.sequence_tag x.tag v w.1)) (cond_cases (x.tag == 48) _ _ _ p)
 
 -- Parameters that the code holds are octets, within the limit.
 abbrev pub AreHeld : TagAndContents → Type 0
@@ -53,7 +53,7 @@ AreHeld x = AreBytes x.contents × (length x.contents ≤ limit)
 -- What a function promises that gives a value exactly for its encodings.
 decodes_by : {V B : Type 0} (E : V → B → Type 0) (b : B) (o : Result V ErrorKind) → ((v : V) → o ≡ Ok v → E v b)
     → ((v : V) → E v b → o ≡ Ok v) → Decodes E b (value_in o)
-decodes_by E b (Ok v) gives takes = (gives v refl, λ w e. ok_same (sym (takes w e)))
+decodes_by E b (Ok v) gives takes = (gives v refl, λ w e. ok_injective (sym (takes w e)))
 decodes_by E b (Err k) gives takes = λ w e. let no = takes w e in cc
 
 pub identified_decodes : {V : Type 0} {Is : V → Type 0} {fields : V → List Field} (r : FieldRecord Is fields)
@@ -102,9 +102,9 @@ module _ (oid : List ℕ) (valid : is_identifier oid ≡ true) where
       contents_bytes 48 c
       (back_bytes (tlv 6 oid) (sequence c) (contents_bytes 48 (tlv 6 oid ++ sequence c) (subst AreBytes is are)))
 
-  pub algorithm_is : {V : Type 0} (read : Reading V) (c bytes : List ℕ) → AreBytes bytes → length bytes ≤ limit
+  pub whole_algorithm_is : {V : Type 0} (read : Reading V) (c bytes : List ℕ) → AreBytes bytes → length bytes ≤ limit
       → bytes ≡ wrapped oid (sequence c) → whole_algorithm oid read bytes ≡ read c
-  algorithm_is read c bytes are few is =
+  whole_algorithm_is read c bytes are few is =
       let held : IsAlgorithm IsAny (holding oid c) =
       (identifier_in (sequence c) bytes are is, ((λ i. true), bytes_in c bytes are is)) in
       ap (λ r. r >>= identified oid read) (whole_takes plain_law (holding oid c) bytes (few, held, is))
@@ -120,58 +120,69 @@ module _ (oid : List ℕ) (valid : is_identifier oid ≡ true) where
       let held = subst (IsAlgorithm IsAny) e d.0.1 in (c, d.0.0, held.1.1, d.0.2 ∙ ap (algorithm any) e, known)
 
   module _ {V : Type 0} {Is : V → Type 0} {fields : V → List Field} (r : FieldRecord Is fields) where
-    abbrev E : V → List ℕ → Type 0
-    E = SequenceOf Is fields Fields
+    abbrev ParametersEncoding : V → List ℕ → Type 0
+    ParametersEncoding = SequenceOf Is fields Fields
 
-    abbrev A : V → List ℕ → Type 0
-    A = AlgorithmEncoding oid E
+    abbrev IdentifierEncoding : V → List ℕ → Type 0
+    IdentifierEncoding = AlgorithmEncoding oid ParametersEncoding
 
-    read_of : (w : V) (bytes : List ℕ) → AreBytes bytes → A w bytes → whole_algorithm oid (record_read r) bytes ≡ Ok w
-    read_of w bytes are (few, p, (ok, within, c, held, same), is) =
+    whole_algorithm_read : (w : V) (bytes : List ℕ) → AreBytes bytes → IdentifierEncoding w bytes
+        → whole_algorithm oid (record_read r) bytes ≡ Ok w
+    whole_algorithm_read w bytes are (few, p, (ok, within, c, held, same), is) =
         let whole = is ∙ ap (wrapped oid) same in
         let less : length c ≤ limit = omega (arith, within, ap length same, tlv_fit 48 c) in
-        algorithm_is (record_read r) c bytes are few whole
+        whole_algorithm_is (record_read r) c bytes are few whole
         ∙ (record_reads r).takes c w less (ok, held)
 
     -- What the function is promised to give.
     pub algorithm_decodes : (bytes : List ℕ) → AreBytes bytes
-        → Decodes A bytes (value_in (whole_algorithm oid (record_read r) bytes))
+        → Decodes IdentifierEncoding bytes (value_in (whole_algorithm oid (record_read r) bytes))
     algorithm_decodes bytes are =
-        decodes_by A bytes (whole_algorithm oid (record_read r) bytes)
+        decodes_by IdentifierEncoding bytes (whole_algorithm oid (record_read r) bytes)
         (λ v was.
         let (c, few, held, is, read) = algorithm_holds (record_read r) v bytes are was in
         let law = (record_reads r).gives c v held read in
         let within : length (sequence c) ≤ limit = omega (arith, few, ap length is, wrapped_fit oid (sequence c)) in
         (few, sequence c, (law.0, within, c, law.1, refl), is))
-        (λ v e. read_of v bytes are e)
+        (λ v e. whole_algorithm_read v bytes are e)
 
     pub algorithm_encodes : (v : V) (bytes : List ℕ) → AreBytes bytes
-        → whole_algorithm oid (record_read r) bytes ≡ Ok v → A v bytes
+        → whole_algorithm oid (record_read r) bytes ≡ Ok v → IdentifierEncoding v bytes
     algorithm_encodes v bytes are is =
-        (subst (λ x. Decodes A bytes (value_in x)) is (algorithm_decodes bytes are)).0
+        (subst (λ x. Decodes IdentifierEncoding bytes (value_in x)) is (algorithm_decodes bytes are)).0
 
     -- Strict reading of the identifier is that of the parameters.
-    pub strict_in : (v : V) (bytes p : List ℕ) → AreBytes bytes → A v bytes → bytes ≡ wrapped oid p
+    pub strict_algorithm_in : (v : V) (bytes p : List ℕ) → AreBytes bytes → IdentifierEncoding v bytes
+        → bytes ≡ wrapped oid p
         → whole_algorithm oid (record_strictly r) bytes ≡ strict_whole r p
-    strict_in v bytes p are (few, q, x, is) given =
+    strict_algorithm_in v bytes p are (few, q, x, is) given =
         let one : q ≡ p = wrapped_one oid q p (omega (arith, few, ap length is)) (sym is ∙ given) in
         let (within, (s, e, ok, there)) = spelled_from r v q x in
         let c = spelled r.kinds s in
         let less : length c ≤ limit = omega (arith, within, ap length there, tlv_fit 48 c) in
         let fit : length p ≤ limit = omega (arith, within, ap length one) in
-        algorithm_is (record_strictly r) c bytes are few (is ∙ ap (wrapped oid) there)
+        whole_algorithm_is (record_strictly r) c bytes are few (is ∙ ap (wrapped oid) there)
         ∙ ap (λ x. x >>= strict_value r.kinds r.join)
         ((record_law r).takes s ok less ∙ sym (whole_takes (record_front_law r) s p (fit, ok, sym one ∙ there)))
 
     -- What is read, where the parameters are found as an encoding of any tag.
-    pub behind_reads : (a : Algorithm TagAndContents) (x : TagAndContents) (v : V) (bytes : List ℕ) → AreBytes bytes
-        → whole plain_front bytes ≡ Ok a → ((read : Reading V) → identified oid read a ≡ any_as tags.sequence read x)
-        → any_as tags.sequence (record_read r) x ≡ Ok v
-        → A v bytes × ((p : List ℕ) → bytes ≡ wrapped oid p
-        → E v p × (whole_algorithm oid (record_strictly r) bytes ≡ strict_whole r p))
-    behind_reads a x v bytes are is given read =
-        let holds = algorithm_encodes v bytes are (behind_any oid bytes a x is given (record_read r) ∙ read) in
-        (holds, λ p at. (inner_is oid E v bytes p holds at, strict_in v bytes p are holds at))
+    pub identified_behind_reads : (a : Algorithm TagAndContents) (x : TagAndContents) (v : V) (bytes : List ℕ)
+        → AreBytes bytes
+        → whole plain_front bytes ≡ Ok a
+        → ((read : Reading V) → identified oid read a ≡ any_as tags.sequence_tag read x)
+        → any_as tags.sequence_tag (record_read r) x ≡ Ok v
+        → IdentifierEncoding v bytes × ((p : List ℕ) → bytes ≡ wrapped oid p
+        → ParametersEncoding v p × (whole_algorithm oid (record_strictly r) bytes ≡ strict_whole r p))
+    identified_behind_reads a x v bytes are is given read =
+        let holds = algorithm_encodes v bytes are
+        (identified_behind_any oid bytes a x is given (record_read r) ∙ read) in (
+          holds,
+          λ p at. (
+            wrapped_inner_encodes oid ParametersEncoding v bytes p holds at,
+            strict_algorithm_in v bytes p
+                are holds at,
+          ),
+        )
 
     pub strict_algorithm_errs : (bytes : List ℕ) (k : ErrorKind) → whole_algorithm oid (record_read r) bytes ≡ Err k
         → whole_algorithm oid (record_strictly r) bytes ≡ Err k
@@ -183,27 +194,29 @@ module _ (oid : List ℕ) (valid : is_identifier oid ≡ true) where
         ]) oid bytes k
 
     pub strict_algorithm_decodes : (bytes : List ℕ) → AreBytes bytes
-        → Decodes (IsShortest A) bytes (value_in (whole_algorithm oid (record_strictly r) bytes))
+        → Decodes (IsShortest IdentifierEncoding) bytes (value_in (whole_algorithm oid (record_strictly r) bytes))
     strict_algorithm_decodes bytes are =
         go (whole_algorithm oid (record_read r) bytes) refl (algorithm_decodes bytes are)
       where
-        go : (o : Result V ErrorKind) → whole_algorithm oid (record_read r) bytes ≡ o → Decodes A bytes (value_in o)
-            → Decodes (IsShortest A) bytes (value_in (whole_algorithm oid (record_strictly r) bytes))
+        go : (o : Result V ErrorKind) → whole_algorithm oid (record_read r) bytes ≡ o
+            → Decodes IdentifierEncoding bytes (value_in o)
+            → Decodes (IsShortest IdentifierEncoding) bytes (value_in (whole_algorithm oid (record_strictly r) bytes))
         go (Ok v) was ((few, p, holds, is), one) =
             let octets = back_bytes (tlv 6 oid) p (contents_bytes 48 (tlv 6 oid ++ p) (subst AreBytes is are)) in
-            rw (strict_in v bytes p are (few, p, holds, is) is, is)
-            (shortest_decodes oid E p (omega (arith, few, ap length is)) (value_in (strict_whole r p))
+            rw (strict_algorithm_in v bytes p are (few, p, holds, is) is, is)
+            (wrapped_shortest_decodes oid ParametersEncoding p (omega (arith, few, ap length is))
+            (value_in (strict_whole r p))
             (strict_decodes r p octets))
         go (Err k) was none = rw (strict_algorithm_errs bytes k was) (λ v s. none v s.0)
 
 -- Of an identifier that is one.
 module _ (oid : List ℕ) (identifier : IsIdentifier oid) where
   module _ {V : Type 0} {Is : V → Type 0} {fields : V → List Field} (r : FieldRecord Is fields) where
-    abbrev Inner : V → List ℕ → Type 0
-    Inner = SequenceOf Is fields Fields
+    abbrev HeldEncoding : V → List ℕ → Type 0
+    HeldEncoding = SequenceOf Is fields Fields
 
-    abbrev Outer : V → List ℕ → Type 0
-    Outer = AlgorithmEncoding oid Inner
+    abbrev HoldingEncoding : V → List ℕ → Type 0
+    HoldingEncoding = AlgorithmEncoding oid HeldEncoding
 
     -- What the kernel prints of the algorithm with these parameters is such an encoding.
     abbrev pub algorithm_printed : Algorithm (Spelling r.kinds) → List ℕ
@@ -216,10 +229,11 @@ module _ (oid : List ℕ) (identifier : IsIdentifier oid) where
         (algorithm_map (record_means r)) (algorithm_map (record_under r 0))
     algorithm_written = tagged_shortest (algorithm_writes_shortest (tagged_shortest (record_shortest r) 48)) 48
 
-    pub algorithm_spelled : (v : V) (bytes : List ℕ) → AlgorithmSpelled (with_parameters oid v) bytes ↔ Outer v bytes
+    pub algorithm_spelled : (v : V) (bytes : List ℕ)
+        → AlgorithmSpelled (with_parameters oid v) bytes ↔ HoldingEncoding v bytes
     algorithm_spelled v bytes = (to, from)
       where
-        to : AlgorithmSpelled (with_parameters oid v) bytes → Outer v bytes
+        to : AlgorithmSpelled (with_parameters oid v) bytes → HoldingEncoding v bytes
         to (few, (a, e, ok, is)) =
             go a.parameters (ap (λ (a : Algorithm V). a.parameters) e) ok.1
             (is ∙ ap (λ x. sequence (tlv 6 x ++ optional (λ s. sequence (spelled r.kinds s)) a.parameters))
@@ -227,14 +241,15 @@ module _ (oid : List ℕ) (identifier : IsIdentifier oid) where
           where
             go : (o : Option (Spelling r.kinds)) → option_map (record_means r) o ≡ Some v
                 → IfPresent (AreSpelled r.kinds) o
-                → bytes ≡ sequence (tlv 6 oid ++ optional (λ s. sequence (spelled r.kinds s)) o) → Outer v bytes
+                → bytes ≡ sequence (tlv 6 oid ++ optional (λ s. sequence (spelled r.kinds s)) o)
+                → HoldingEncoding v bytes
             go None never ok all = cc
             go (Some s) means ok all =
                 let p = sequence (spelled r.kinds s) in
                 let one : record_means r s ≡ v = cc in
                 (few, p, spelled_to r v p (omega (arith, few, ap length all, wrapped_fit oid p), (s, one, ok, refl)), all)
 
-        from : Outer v bytes → AlgorithmSpelled (with_parameters oid v) bytes
+        from : HoldingEncoding v bytes → AlgorithmSpelled (with_parameters oid v) bytes
         from (few, p, q, is) =
             let (i, (s, e, ok, made_p)) = spelled_from r v p q in (
               few,
@@ -254,8 +269,9 @@ module _ (oid : List ℕ) (identifier : IsIdentifier oid) where
     pub algorithm_counted : TwoToTheDefaultsIn oid Is fields
     algorithm_counted v k ok d few =
         let less : length (longest (fields v)) ≤ limit = omega (arith, few, wrapped_fit oid (longest (fields v))) in
-        subst (λ n. (all : List (List ℕ)) × AreAll (AlgorithmEncoding oid) Is fields v n all) (sym (counted r v k d)) (
-          map (wrapped oid) (upto (2 ^ default_count r v) (made r v)),
-          are_all_in oid Is fields v (default_count r v) few (upto (2 ^ default_count r v) (made r v))
-              (each_within r v less) (are_all r v ok less),
+        subst (λ n. (all : List (List ℕ)) × AreAll (AlgorithmEncoding oid) Is fields v n all)
+        (sym (default_count_only r v k d)) (
+          map (wrapped oid) (upto (2 ^ default_count r v) (encoding_under r v)),
+          are_all_in oid Is fields v (default_count r v) few (upto (2 ^ default_count r v) (encoding_under r v))
+              (encodings_within_longest r v less) (encodings_are_all r v ok less),
         )

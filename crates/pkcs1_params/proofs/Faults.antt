@@ -3,23 +3,23 @@ use Rattle.std.proofs.Common.{ℕ, Bool, true, false, List, ◌≡◌, ⊎_elim,
 use Rattle.der_core.specs.declared.error.ErrorKind.{ErrorKind}
 use Rattle.der_core.specs.declared.error.ErrorKind.TheVariants.{Noncanonical, OidUnknown, Overflow, ParametersMissing, TagUnknown}
 use Rattle.der_core.specs.declared.tag.Tag.{Tag}
-use Rattle.der_core.specs.Words.{chosen, alone_law, bind_err, unexpected_tells, limit, ReadsFrontPrinted, TellsOfBytes, FrontReading, checked, tagged, whole, context_tag, is_allowed, ok_of, value_in, ◌>>=◌, nat_tests, whole_takes, is_next}
+use Rattle.der_core.specs.Words.{cond_cases, alone_law, bind_err, unexpected_tells, limit, ReadsFrontPrinted, TellsOfBytes, FrontReading, checked, tagged, whole, context_octet, is_allowed, ok_of, value_in, ◌>>=◌, nat_tests, whole_takes, is_next}
 use Rattle.der_core.specs.Tags as tags
-use Rattle.spki_core.specs.Words.{FieldRecord, first_written, record_means, record_strictly, spelling_read, strict_whole, record_front_law, record_law, noncanonical, unless_found, AreLawful, AreNumbered, Kind, Spelling, Values, fields_of, meant, one_spelled, spelled, strict_value, spelled_from, not_next, is_identifier}
+use Rattle.spki_core.specs.Words.{FieldRecord, first_written, record_means, record_strictly, spelling_read, strict_whole, record_front_law, record_law, noncanonical, unless_found, AreLawful, AreNumbered, Kind, Spelling, Values, fields_of, spelling_means, one_spelled, spelled, strict_value, spelled_from, spelled_not_next, is_identifier}
 use Rattle.pkcs1_params.specs.Words.{identified, parameters_as, whole_algorithm, plain_law, FaultsTell, plain_front, Error, IsAsn1, ErrsAs, IsEncoded, fault_in, NamesFirstDefaultIn, FirstWritten, NamesFirstDefault}
 use Rattle.standard.specs.Statement.{Algorithm, Field, TagAndContents, Decodes, Fields, SequenceOf, sequence}
 use Rattle.der_core.specs.declared.error.Error as der
 use Rattle.pkcs1_params.specs.declared.error.Error.TheVariants as error
 use Rattle.std.proofs.Math.Seq.{drop-append_seam}
 use Rattle.spki_core.proofs.StrictFields.{noncanonical_is}
-use Rattle.pkcs1_params.proofs.Algorithms.{strict_in}
+use Rattle.pkcs1_params.proofs.Algorithms.{strict_algorithm_in}
 use Rattle.pkcs1_params.proofs.Wrapped.{same_contents, wrapped_one}
 
 noncanonical_tells : (n : ℕ) → TellsOfBytes (noncanonical n)
-noncanonical_tells n = go (is_allowed (context_tag n)) (λ ok. record { octet = context_tag n; allowed = ok })
+noncanonical_tells n = go (is_allowed (context_octet n)) (λ ok. record { octet = context_octet n; allowed = ok })
   where
     go : (b : Bool) (tag : b ≡ true → Tag)
-        → TellsOfBytes (checked b (λ ok. Noncanonical (tag ok)) (TagUnknown (context_tag n)))
+        → TellsOfBytes (checked b (λ ok. Noncanonical (tag ok)) (TagUnknown (context_octet n)))
     go true tag = (λ no. cc, λ no. cc, λ no. cc)
     go false tag = (λ no. cc, λ no. cc, λ no. cc)
 
@@ -31,7 +31,7 @@ pub whole_tells : {S : Type 0} {valid : S → Type 0} {printed : S → List ℕ}
     → ReadsFrontPrinted valid printed at → FaultsTell (whole at)
 whole_tells law bytes k e =
     ⊎_elim (λ w. let same : Overflow ≡ k = let is = w.1 in cc in (λ no. cc, λ no. cc, λ no. cc))
-    (λ w. (alone_law law).tells bytes k w.1) (chosen (nat_lt limit (length bytes)) _ _ _ e)
+    (λ w. (alone_law law).tells bytes k w.1) (cond_cases (nat_lt limit (length bytes)) _ _ _ e)
 
 module _ {V : Type 0} {Is : V → Type 0} {fields : V → List Field} (r : FieldRecord Is fields) where
   pub strictly_tells : FaultsTell (record_strictly r)
@@ -43,7 +43,7 @@ module _ {V : Type 0} {Is : V → Type 0} {fields : V → List Field} (r : Field
   strict_tells b k e =
       ⊎_elim (whole_tells (record_front_law r) b k)
       (λ s. found_tells (first_written r.kinds s.0) (record_means r s.0) k s.2)
-      (bind_err (whole (tagged tags.sequence (spelling_read r.kinds)) b) _ e)
+      (bind_err (whole (tagged tags.sequence_tag (spelling_read r.kinds)) b) _ e)
 
 pub whole_algorithm_tells : {V : Type 0} {read : List ℕ → Result V ErrorKind} → FaultsTell read → (oid : List ℕ)
     → FaultsTell (whole_algorithm oid read)
@@ -53,21 +53,21 @@ whole_algorithm_tells {V} {read} tell oid b k e =
     parameters_tell : (p : Option TagAndContents) (k : ErrorKind) → parameters_as read p ≡ Err k → TellsOfBytes k
     parameters_tell None k e = let same : ParametersMissing ≡ k = let q = e in cc in (λ no. cc, λ no. cc, λ no. cc)
     parameters_tell (Some any) k e =
-        ⊎_elim (λ w. tell any.contents k w.1) (λ w. unexpected_tells tags.sequence any.tag k w.1)
-        (chosen (any.tag == 48) _ _ _ e)
+        ⊎_elim (λ w. tell any.contents k w.1) (λ w. unexpected_tells tags.sequence_tag any.tag k w.1)
+        (cond_cases (any.tag == 48) _ _ _ e)
 
     identified_tells : (a : Algorithm TagAndContents) (k : ErrorKind) → identified oid read a ≡ Err k → TellsOfBytes k
     identified_tells a k e =
         ⊎_elim (λ w. parameters_tell a.parameters k w.1)
         (λ w. let same : OidUnknown ≡ k = let q = w.1 in cc in (λ no. cc, λ no. cc, λ no. cc))
-        (chosen (bytes_eq a.oid oid) _ _ _ e)
+        (cond_cases (bytes_eq a.oid oid) _ _ _ e)
 
 -- == What holds of errors, whatever the call ==
 
 -- What holds anyway, holds on an error.
-pub on_err : {T E : Type 0} (P : Type 0) (r : Result T E) → P → OnErr r P
-on_err P (Ok x) p = tt
-on_err P (Err e) p = p
+pub err_holds : {T E : Type 0} (P : Type 0) (r : Result T E) → P → OnErr r P
+err_holds P (Ok x) p = tt
+err_holds P (Err e) p = p
 
 -- What follows from a fact on an error.
 pub if_err_as : {T E : Type 0} {P Q : E → Type 0} (r : Result T E) → ((e : E) → P e → Q e) → IfErr r P → IfErr r Q
@@ -90,14 +90,14 @@ errs_behind value first behind a is (Ok x) p = ap (λ r. r >>= behind) is ∙ p
 errs_behind value first behind a is (Err e) p = asn1_as (λ k f. ap (λ r. r >>= behind) is ∙ f) e p
 
 -- The error of a fault.
-pub told_as : {V : Type 0} (given : Result V ErrorKind) (k : ErrorKind) → given ≡ Err k → (e : Error)
+pub fault_kind_given : {V : Type 0} (given : Result V ErrorKind) (k : ErrorKind) → given ≡ Err k → (e : Error)
     → IsAsn1 (λ a. a.kind ≡ k) e → IsAsn1 (λ a. given ≡ Err a.kind) e
-told_as given k is = asn1_as (λ a p. is ∙ ap (λ k. Err k) (sym p))
+fault_kind_given given k is = asn1_as (λ a p. is ∙ ap (λ k. Err k) (sym p))
 
 -- The same error of a function that gives the same.
-pub told_same : {V : Type 0} {given other : Result V ErrorKind} → given ≡ other → (e : Error)
+pub fault_kind_same : {V : Type 0} {given other : Result V ErrorKind} → given ≡ other → (e : Error)
     → IsAsn1 (λ a. other ≡ Err a.kind) e → IsAsn1 (λ a. given ≡ Err a.kind) e
-told_same same e p = subst (λ r. IsAsn1 (λ a. r ≡ Err a.kind) e) (sym same) p
+fault_kind_same same e p = subst (λ r. IsAsn1 (λ a. r ≡ Err a.kind) e) (sym same) p
 
 -- A call that returns what a function gives decodes what the function does.
 pub errs_decode : {X V B : Type 0} (E : V → B → Type 0) (bytes : B) (value : X → V) (given : Result V ErrorKind)
@@ -109,50 +109,50 @@ errs_decode E bytes value given d (Err error.KeyMalformed) p = absurd p
 errs_decode E bytes value given d (Err error.Version) p = absurd p
 
 -- There is no fault exactly of bytes that encode a value.
-pub no_fault : {V : Type 0} (E : V → List ℕ → Type 0) (bytes : List ℕ) (given : Result V ErrorKind)
+pub fault_in_none : {V : Type 0} (E : V → List ℕ → Type 0) (bytes : List ℕ) (given : Result V ErrorKind)
     → Decodes E bytes (value_in given) → (fault_in given ≡ None) ↔ IsEncoded E bytes
-no_fault E bytes (Ok v) d = (λ _. (v, d.0), λ _. refl)
-no_fault E bytes (Err k) d = (λ no. cc, λ p. absurd (d p.0 p.1))
+fault_in_none E bytes (Ok v) d = (λ _. (v, d.0), λ _. refl)
+fault_in_none E bytes (Err k) d = (λ no. cc, λ p. absurd (d p.0 p.1))
 
 -- == Strict reading names the first default that is written ==
 
 -- Contents that a later field is found in don't begin with an earlier tag.
-later_tag : (ks : List Kind) (m n : ℕ) → m < n → AreLawful n ks → (v : Values ks) (i : ℕ) (c : List ℕ)
+later_tag_not_next : (ks : List Kind) (m n : ℕ) → m < n → AreLawful n ks → (v : Values ks) (i : ℕ) (c : List ℕ)
     → FirstWritten (fields_of ks v) i c → is_next (160 + m) c ≡ false
-later_tag [] m n less law v i c p = absurd p
-later_tag (k ∷ ks) m n less law (x, v) i c (inl (d, e, later, is, rest)) =
+later_tag_not_next [] m n less law v i c p = absurd p
+later_tag_not_next (k ∷ ks) m n less law (x, v) i c (inl (d, e, later, is, rest)) =
     let other : m < k.number = omega (arith, less, law.0) in rw is (grind (arith, nat_tests, other))
-later_tag (k ∷ ks) m n less law (x, v) i c (inr (inl (d, j, e, p))) =
-    later_tag ks m (k.number + 1) (omega (arith, less, law.0)) law.4 v j c p
-later_tag (k ∷ ks) m n less law (x, v) i c (inr (inr (d, j, e, later, is, p))) =
+later_tag_not_next (k ∷ ks) m n less law (x, v) i c (inr (inl (d, j, e, p))) =
+    later_tag_not_next ks m (k.number + 1) (omega (arith, less, law.0)) law.4 v j c p
+later_tag_not_next (k ∷ ks) m n less law (x, v) i c (inr (inr (d, j, e, later, is, p))) =
     let other : m < k.number = omega (arith, less, law.0) in rw is (grind (arith, nat_tests, other))
 
-found : (ks : List Kind) (m : ℕ) → AreLawful m ks → AreNumbered m ks → (s : Spelling ks) (n : ℕ)
-    → FirstWritten (fields_of ks (meant ks s)) n (spelled ks s) → first_written ks s ≡ Some (m + n)
-found [] m law numbered s n p = absurd p
-found (k ∷ ks) m law numbered (None, s) n (inl (d, e, later, is, rest)) =
-    let other = not_next ks (k.number + 1) k.number (omega arith) law.4 s in
+first_written_found : (ks : List Kind) (m : ℕ) → AreLawful m ks → AreNumbered m ks → (s : Spelling ks) (n : ℕ)
+    → FirstWritten (fields_of ks (spelling_means ks s)) n (spelled ks s) → first_written ks s ≡ Some (m + n)
+first_written_found [] m law numbered s n p = absurd p
+first_written_found (k ∷ ks) m law numbered (None, s) n (inl (d, e, later, is, rest)) =
+    let other = spelled_not_next ks (k.number + 1) k.number (omega arith) law.4 s in
     let here : is_next (160 + k.number) (spelled ks s) ≡ true = rw is (grind (arith, nat_tests)) in
     let never : true ≡ false = sym here ∙ other in cc
-found (k ∷ ks) m law numbered (None, s) n (inr (inl (d, j, e, p))) =
+first_written_found (k ∷ ks) m law numbered (None, s) n (inr (inl (d, j, e, p))) =
     let step : k.number + 1 ≡ m + 1 = omega (arith, numbered.0) in
-    found ks (m + 1) (subst (λ i. AreLawful i ks) step law.4) numbered.1 s j p
+    first_written_found ks (m + 1) (subst (λ i. AreLawful i ks) step law.4) numbered.1 s j p
     ∙ ap (λ i. Some i) (omega (arith, e))
-found (k ∷ ks) m law numbered (None, s) n (inr (inr (d, j, e, later, is, p))) = absurd (d refl)
-found (k ∷ ks) m law numbered (Some x, s) n (inl (d, e, later, is, rest)) =
+first_written_found (k ∷ ks) m law numbered (None, s) n (inr (inr (d, j, e, later, is, p))) = absurd (d refl)
+first_written_found (k ∷ ks) m law numbered (Some x, s) n (inl (d, e, later, is, rest)) =
     let yes : k.is_default x ≡ true = (law.2 x).1 d in rw yes (ap (λ i. Some i) (omega (arith, numbered.0, e)))
-found (k ∷ ks) m law numbered (Some x, s) n (inr (inl (d, j, e, p))) =
-    let other = later_tag ks k.number (k.number + 1) (omega arith) law.4 (meant ks s) j _ p in
+first_written_found (k ∷ ks) m law numbered (Some x, s) n (inr (inl (d, j, e, p))) =
+    let other = later_tag_not_next ks k.number (k.number + 1) (omega arith) law.4 (spelling_means ks s) j _ p in
     let here : is_next (160 + k.number) (one_spelled k x ++ spelled ks s) ≡ true = grind (arith, nat_tests) in
     let never : true ≡ false = sym here ∙ other in cc
-found (k ∷ ks) m law numbered (Some x, s) n (inr (inr (d, j, e, later, is, p))) =
+first_written_found (k ∷ ks) m law numbered (Some x, s) n (inr (inr (d, j, e, later, is, p))) =
     let step : k.number + 1 ≡ m + 1 = omega (arith, numbered.0) in
     let rest : later ≡ spelled ks s =
     sym (drop-append_seam (one_spelled k x) later) ∙ ap (drop (length (one_spelled k x))) (sym is)
     ∙ drop-append_seam (one_spelled k x) (spelled ks s) in
     go (k.is_default x) refl
-    (found ks (m + 1) (subst (λ i. AreLawful i ks) step law.4) numbered.1 s j
-    (subst (FirstWritten (fields_of ks (meant ks s)) j) rest p) ∙ ap (λ i. Some i) (omega (arith, e)))
+    (first_written_found ks (m + 1) (subst (λ i. AreLawful i ks) step law.4) numbered.1 s j
+    (subst (FirstWritten (fields_of ks (spelling_means ks s)) j) rest p) ∙ ap (λ i. Some i) (omega (arith, e)))
   where
     go : (b : Bool) → k.is_default x ≡ b → first_written ks s ≡ Some (m + n)
         → (if b then Some k.number else first_written ks s) ≡ Some (m + n)
@@ -165,14 +165,14 @@ module _ {V : Type 0} {Is : V → Type 0} {fields : V → List Field} (r : Field
       let (few, (s, e, ok, same)) = spelled_from r v bytes p in
       let one : contents ≡ spelled r.kinds s =
       same_contents contents (spelled r.kinds s) (omega (arith, few, ap length is)) (sym is ∙ same) in
-      let means : meant r.kinds s ≡ r.split v = sym (r.parted (meant r.kinds s)) ∙ ap r.split e in
-      let here : FirstWritten (fields_of r.kinds (meant r.kinds s)) n (spelled r.kinds s) =
+      let means : spelling_means r.kinds s ≡ r.split v = sym (r.parted (spelling_means r.kinds s)) ∙ ap r.split e in
+      let here : FirstWritten (fields_of r.kinds (spelling_means r.kinds s)) n (spelled r.kinds s) =
       subst (λ u. FirstWritten (fields_of r.kinds u) n (spelled r.kinds s)) (sym means)
       (subst (λ fs. FirstWritten fs n (spelled r.kinds s)) (r.fields_are v) (subst (FirstWritten (fields v) n) one first)) in
-      let at = found r.kinds 0 r.lawful r.numbered s n here in
+      let at = first_written_found r.kinds 0 r.lawful r.numbered s n here in
       let zero : 0 + n ≡ n = omega arith in
       ap (λ x. x >>= strict_value r.kinds r.join) (whole_takes (record_front_law r) s bytes (few, ok, same))
-      ∙ ap (λ o. unless_found o (r.join (meant r.kinds s))) (at ∙ ap (λ i. Some i) zero)
+      ∙ ap (λ o. unless_found o (r.join (spelling_means r.kinds s))) (at ∙ ap (λ i. Some i) zero)
       ∙ ap (λ k. Err k) (noncanonical_is n tag octet)
 
   pub first_named_in : (oid : List ℕ) → is_identifier oid ≡ true
@@ -181,5 +181,5 @@ module _ {V : Type 0} {Is : V → Type 0} {fields : V → List Field} (r : Field
       let (few, q, there, same) = p in
       let one : q ≡ sequence contents =
       wrapped_one oid q (sequence contents) (omega (arith, few, ap length same)) (sym same ∙ is) in
-      strict_in oid valid r v bytes (sequence contents) are p is
+      strict_algorithm_in oid valid r v bytes (sequence contents) are p is
       ∙ first_named v n tag contents (sequence contents) (subst (SequenceOf Is fields Fields v) one there) refl first octet

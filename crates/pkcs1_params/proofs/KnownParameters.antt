@@ -3,8 +3,8 @@
 use Rattle.std.proofs.Common.{ℕ, List, [], ◌∷◌, ◌++◌, ◌==◌, ◌≡◌, ◌≤◌, ◌<◌, ◌+◌, refl, append-nil, ap, true, false, arith, rules, subst, sym, ◌∙◌, length, length-append, drop, inl, inr, nat_lt, None, Some, Option, Result, Ok, Err}
 use Rattle.der_core.specs.Words.{nat_tests, AreBytes, length_octets-short, small_contents_as, written_encodes}
 use Rattle.spki_core.specs.Words.{FieldRecord, Kind, Values, is_identifier-sound, null_value, record_under, spelled, under}
-use Rattle.spki_core.proofs.Fielded.{made, shortest_is}
-use Rattle.pkcs1_params.specs.Words.{hash_algorithm, hash_kind, mask_kind, mgf1_identifier, label_front, oaep_record, octets_value, pkcs1_algorithm, pss_lawful, pss_record, salt_kind, source_identifier, source_kind, trailer_kind, id_p_specified, Encoded, AreKnown, InPlace, IsKnownHash, Puts, WritesOrCounts, known_fields, known_label, long_salt_field, oaep_with_hashes, place_front, pss_with_hashes, salt_field, with_parameters}
+use Rattle.spki_core.proofs.RecordEncodings.{encoding_under, encoding_under_zero_shortest}
+use Rattle.pkcs1_params.specs.Words.{hash_algorithm, hash_kind, mask_kind, mgf1_identifier, label_front, oaep_record, octets_value, pkcs1_algorithm, pss_lawful, pss_record, salt_kind, source_identifier, source_kind, trailer_kind, id_p_specified, Encoded, AreKnown, InPlace, IsKnownHash, PutsOrCounts, WritesOrCounts, known_fields, known_label, long_salt_field, oaep_with_hashes, place_front, pss_with_hashes, salt_field, with_parameters}
 use Rattle.pkcs1_params.proofs.Wrapped.{shortest_outside, wrapped}
 use Rattle.standard.specs.Statement.{Encodes, Field, IsIdentifier, IsShortest, length_octets, sequence, tlv}
 
@@ -77,21 +77,22 @@ module _ (hash mask_gen inner : List ℕ) where
   known_identifier oid None is = rw is pss_lawful.3.0
   known_identifier oid (Some n) (few, is) = rw is (hash_identifier n few)
 
-  few_octets : (h u : Option ℕ) → length (known_fields h u) ≤ 47
-  few_octets None None = omega arith
-  few_octets None (Some n) = omega arith
-  few_octets (Some n) None = omega arith
-  few_octets (Some n) (Some m) = omega arith
+  known_fields_few : (h u : Option ℕ) → length (known_fields h u) ≤ 47
+  known_fields_few None None = omega arith
+  known_fields_few None (Some n) = omega arith
+  known_fields_few (Some n) None = omega arith
+  known_fields_few (Some n) (Some m) = omega arith
 
-  both_written : (ks : List Kind) (v : Values ks) (l : List ℕ) (h u : Option ℕ) → AreKnown hash mask_gen inner h u
+  known_fields_written : (ks : List Kind) (v : Values ks) (l : List ℕ) (h u : Option ℕ)
+      → AreKnown hash mask_gen inner h u
       → AreBehind ks v l → spelled (hash_kind ∷ mask_kind ∷ ks) (under (hash_kind ∷ mask_kind ∷ ks) 0
       (with_parameters hash null_value, (with_parameters mask_gen (with_parameters inner null_value), v)))
       ≡ known_fields h u ++ l
   unfolding length_octets
-  both_written ks v l None None (mask, is, same) w = rw (mask, is, same, w) refl
-  both_written ks v l None (Some n) (mask, is, same) w = rw (mask, is, same.1, w) refl
-  both_written ks v l (Some n) None (mask, is, same) w = rw (mask, is.1, same, w) refl
-  both_written ks v l (Some n) (Some m) (mask, is, same) w = rw (mask, is.1, same.1, w) refl
+  known_fields_written ks v l None None (mask, is, same) w = rw (mask, is, same, w) refl
+  known_fields_written ks v l None (Some n) (mask, is, same) w = rw (mask, is, same.1, w) refl
+  known_fields_written ks v l (Some n) None (mask, is, same) w = rw (mask, is.1, same, w) refl
+  known_fields_written ks v l (Some n) (Some m) (mask, is, same) w = rw (mask, is.1, same.1, w) refl
 
   pub known_pss : (h u : Option ℕ) (s : ℕ) (l : List ℕ) → AreKnown hash mask_gen inner h u → s < 256 → SaltBehind s l
       → AreWritten pss_record (pss_with_hashes hash mask_gen inner s) (known_fields h u) l
@@ -99,8 +100,8 @@ module _ (hash mask_gen inner : List ℕ) where
       let first = known_identifier hash h known.1 in
       let second = known_identifier inner u known.2 in record {
         valid = ((first, (refl, tt)), (rw known.0 mgf1_identifier, (second, (refl, tt))), byte, refl);
-        written = both_written (salt_kind ∷ trailer_kind ∷ []) (s, (1, tt)) l h u known w;
-        few = few_octets h u;
+        written = known_fields_written (salt_kind ∷ trailer_kind ∷ []) (s, (1, tt)) l h u known w;
+        few = known_fields_few h u;
       }
 
   pub known_oaep : (h u : Option ℕ) (p label l : List ℕ) → AreKnown hash mask_gen inner h u → p ≡ id_p_specified
@@ -111,14 +112,14 @@ module _ (hash mask_gen inner : List ℕ) where
       let second = known_identifier inner u known.2 in
       rw source (record {
         valid = ((first, (refl, tt)), (rw known.0 mgf1_identifier, (second, (refl, tt))), (source_identifier, (refl, bytes)));
-        written = both_written (source_kind ∷ []) (with_parameters id_p_specified (octets_value label), tt) l h u known w;
-        few = few_octets h u;
+        written = known_fields_written (source_kind ∷ []) (with_parameters id_p_specified (octets_value label), tt) l h u known w;
+        few = known_fields_few h u;
       })
 
 -- The identifier of an algorithm of PKCS #1, and it in front of few octets.
-identifier_is : (n : ℕ) → tlv 6 (pkcs1_algorithm n) ≡ 0x06 ∷ 0x09 ∷ pkcs1_algorithm n
+pkcs1_algorithm_tlv : (n : ℕ) → tlv 6 (pkcs1_algorithm n) ≡ 0x06 ∷ 0x09 ∷ pkcs1_algorithm n
 unfolding length_octets
-identifier_is n = refl
+pkcs1_algorithm_tlv n = refl
 
 wrapped_is : (n : ℕ) (p : List ℕ) → 11 + length p < 128
     → wrapped (pkcs1_algorithm n) p ≡ place_front (Some n) (length p) ++ p
@@ -126,18 +127,18 @@ wrapped_is n p few =
     let contents = 0x06 ∷ 0x09 ∷ pkcs1_algorithm n ++ p in
     let count : length contents ≡ 11 + length p = omega arith in
     let octets = length_octets-short (length contents) (omega (arith, few, count)) in
-    ap (λ t. sequence (t ++ p)) (identifier_is n)
+    ap (λ t. sequence (t ++ p)) (pkcs1_algorithm_tlv n)
     ∙ ap (λ l. 0x30 ∷ l ++ contents) (octets ∙ ap (λ k. k ∷ []) count)
 
 -- There is room for what stands in front of parameters.
-pub few_behind : (place : Option ℕ) (l : List ℕ) → length l ≤ 67 → length l + length (place_front place 0) ≤ 80
-few_behind None l few = omega (arith, few)
-few_behind (Some n) l few = omega (arith, few)
+pub place_front_few : (place : Option ℕ) (l : List ℕ) → length l ≤ 67 → length l + length (place_front place 0) ≤ 80
+place_front_few None l few = omega (arith, few)
+place_front_few (Some n) l few = omega (arith, few)
 
-pub label_fits : (place : Option ℕ) (l : List ℕ) → length l < known_label place
+pub known_label_fits : (place : Option ℕ) (l : List ℕ) → length l < known_label place
     → (length l < 64) × (length (label_front (length l) ++ l) + length (place_front place 0) ≤ 80)
-label_fits None l few = (omega (arith, few), omega (arith, few))
-label_fits (Some n) l few = (omega (arith, few), omega (arith, few))
+known_label_fits None l few = (omega (arith, few), omega (arith, few))
+known_label_fits (Some n) l few = (omega (arith, few), omega (arith, few))
 
 -- Contents that are written so, with a header in front, are the shortest encoding of the value, and with an identifier
 -- in front of that, of the algorithm.
@@ -147,25 +148,25 @@ module _ {V : Type 0} {Is : V → Type 0} {fields : V → List Field} {r : Field
     abbrev params : List ℕ
     params = 0x30 ∷ length (f ++ l) ∷ (f ++ l)
 
-    least : length (f ++ l) < 128 → IsShortest (Encoded Is fields) v params
-    least short =
-        let is : made r v 0 ≡ params = rw (are.written, length_octets-short (length (f ++ l)) short) refl in
+    known_shortest : length (f ++ l) < 128 → IsShortest (Encoded Is fields) v params
+    known_shortest short =
+        let is : encoding_under r v 0 ≡ params = rw (are.written, length_octets-short (length (f ++ l)) short) refl in
         subst (IsShortest (Encoded Is fields) v) is
-        (shortest_is r v are.valid (omega (arith, ap length is, short)))
+        (encoding_under_zero_shortest r v are.valid (omega (arith, ap length is, short)))
 
-    placed : (at : Option ℕ) → length l + length (place_front at 0) ≤ 80
+    known_placed : (at : Option ℕ) → length l + length (place_front at 0) ≤ 80
         → IsShortest (InPlace at (Encoded Is fields)) v (place_front at (length params) ++ params)
-    placed None few = least (omega (arith, are.few, few, length-append f l))
-    placed (Some n) few =
+    known_placed None few = known_shortest (omega (arith, are.few, few, length-append f l))
+    known_placed (Some n) few =
         let all : length (f ++ l) < 115 = omega (arith, are.few, few, length-append f l) in
         let is = wrapped_is n params (omega (arith, all)) in
         subst (IsShortest (InPlace (Some n) (Encoded Is fields)) v) is
         (shortest_outside (pkcs1_algorithm n) (Encoded Is fields) v params (omega (arith, ap length is, all))
-        (least (omega (arith, all))))
+        (known_shortest (omega (arith, all))))
 
-    pub put_told : (old new : List ℕ) (result : Result ℕ ℕ) → length new ≡ length old
-        → Puts (place_front place (length params) ++ params) old new result
+    pub known_octets_put : (old new : List ℕ) (result : Result ℕ ℕ) → length new ≡ length old
+        → PutsOrCounts (place_front place (length params) ++ params) old new result
         → WritesOrCounts (InPlace place (Encoded Is fields)) v old new result
-    put_told old new (Ok n) kept (count, is) =
-        written_encodes (InPlace place (Encoded Is fields)) v old new _ n (placed place few) count is kept
-    put_told old new (Err n) kept (count, less, same) = (same, less, _, placed place few, count)
+    known_octets_put old new (Ok n) kept (count, is) =
+        written_encodes (InPlace place (Encoded Is fields)) v old new _ n (known_placed place few) count is kept
+    known_octets_put old new (Err n) kept (count, less, same) = (same, less, _, known_placed place few, count)

@@ -6,9 +6,9 @@ use Rattle.der_core.specs.Words.{AreBytes, tlv_fit, limit, Counts, joined}
 use Rattle.der_core.specs.declared.error.Error.{Error}
 use Rattle.der_core.specs.declared.error.ErrorKind.TheVariants as kind
 use Rattle.spki_core.specs.Words.{WrittenField, field_with, octets_under, out_under, record_under, rest_under, spelled}
-use Rattle.spki_core.proofs.Fielded.{made, shortest_is, zero_least}
+use Rattle.spki_core.proofs.RecordEncodings.{encoding_under, encoding_under_zero_shortest, zero_least}
 use Rattle.pkcs1_params.specs.Words.{CountsLabelled, source_with, written_labelled, written_source, mgf1_identifier, oaep_record, source_identifier, LabelFits, NoLabelFits, labelled, hash_kind, mask_kind, oaep_kinds, source_kind, id_p_specified}
-use Rattle.pkcs1_params.proofs.Masks.{octets_are, uncounted_as}
+use Rattle.pkcs1_params.proofs.Masks.{octets_under_spelled, uncounted_overflows}
 use Rattle.standard.specs.Statement.{IsIdentifier, IsOaep, OaepParameters, sequence, tlv}
 
 -- The source of a label that isn't empty is written.
@@ -53,8 +53,9 @@ labelled_written oid label =
     (field_with source_kind (source_with label))
 
 -- As what is written under mask 0.
-made_is : (oid label : List ℕ) → made oaep_record (labelled oid label) 0 ≡ sequence (written_labelled oid label)
-made_is oid label = ap sequence (sym (octets_are oaep_record (labelled oid label) 0 _ refl))
+labelled_encoding_is : (oid label : List ℕ)
+    → encoding_under oaep_record (labelled oid label) 0 ≡ sequence (written_labelled oid label)
+labelled_encoding_is oid label = ap sequence (sym (octets_under_spelled oaep_record (labelled oid label) 0 _ refl))
 
 -- What is counted of a label.
 pub label_counted : (label : List ℕ) (n : ℕ) (r : Result ℕ Error) → length label ≡ n
@@ -78,7 +79,7 @@ pub labelled_counted : {Has : Type 0} (oid label : List ℕ) (v : OaepParameters
 labelled_counted {Has} oid label v contents source has same c d =
     let before : spelled oaep_kinds (record_under oaep_record 0 v) ≡ written_before oid =
     ap (λ u. spelled oaep_kinds (record_under oaep_record 0 u)) same
-    ∙ sym (octets_are oaep_record (labelled oid []) 0 _ refl)
+    ∙ sym (octets_under_spelled oaep_record (labelled oid []) 0 _ refl)
     ∙ labelled_written oid [] ∙ append-nil (written_before oid) in
     let counted : Counts Has (written_before oid) contents = subst (λ z. Counts Has z contents) before c in
     subst (λ z. Counts ⊤ z (joined contents source)) (sym (labelled_written oid label))
@@ -86,22 +87,23 @@ labelled_counted {Has} oid label v contents source has same c d =
     contents source counted d)
 
 -- Where the encoding is counted, one fits, and else none does.
-pub fits_where_counted : (oid : List ℕ) (n : ℕ) (r : Result ℕ Error) → is_ok r ≡ true
+pub label_fits_where_counted : (oid : List ℕ) (n : ℕ) (r : Result ℕ Error) → is_ok r ≡ true
     → ((label : List ℕ) → AreBytes label → length label ≡ n → CountsLabelled oid label r) → LabelFits oid n
-fits_where_counted oid n (Ok m) ok all label bytes e =
+label_fits_where_counted oid n (Ok m) ok all label bytes e =
     let p = labelled oid label in
     let c = all label bytes e in
-    let few : length (made oaep_record p 0) ≤ limit = omega (arith, c.1, c.2, ap length (made_is oid label)) in
-    (made oaep_record p 0, (shortest_is oaep_record p c.0 few).0)
-fits_where_counted oid n (Err x) ok all label bytes e = cc
+    let few : length (encoding_under oaep_record p 0) ≤ limit = omega
+    (arith, c.1, c.2, ap length (labelled_encoding_is oid label)) in
+    (encoding_under oaep_record p 0, (encoding_under_zero_shortest oaep_record p c.0 few).0)
+label_fits_where_counted oid n (Err x) ok all label bytes e = cc
 
-pub none_where_uncounted : (oid : List ℕ) (n : ℕ) (r : Result ℕ Error) → is_ok r ≡ false
+pub no_label_fits_where_uncounted : (oid : List ℕ) (n : ℕ) (r : Result ℕ Error) → is_ok r ≡ false
     → ((label : List ℕ) → AreBytes label → length label ≡ n → CountsLabelled oid label r) → NoLabelFits oid n
-none_where_uncounted oid n (Ok m) ok all label bytes e encoding means = cc
-none_where_uncounted oid n (Err x) ok all label bytes e encoding means =
+no_label_fits_where_uncounted oid n (Ok m) ok all label bytes e encoding means = cc
+no_label_fits_where_uncounted oid n (Err x) ok all label bytes e encoding means =
     let least = (zero_least oaep_record (labelled oid label) encoding means).1 in
-    let long = uncounted_as (sequence (written_labelled oid label)) x.kind means.0 (all label bytes e) in
-    omega (arith, least, means.1, long.1, ap length (made_is oid label))
+    let long = uncounted_overflows (sequence (written_labelled oid label)) x.kind means.0 (all label bytes e) in
+    omega (arith, least, means.1, long.1, ap length (labelled_encoding_is oid label))
 
 -- A label is no longer than the encoding that holds it.
 source_longer : (label : List ℕ) → length label ≤ length (written_source label)
@@ -128,7 +130,7 @@ label_within oid label bytes fits =
       ap length written,
       length-append (written_before oid) (written_source label),
       tlv_fit 48 (written_labelled oid label),
-      ap length (made_is oid label),
+      ap length (labelled_encoding_is oid label),
       least,
       means.1.1,
     )

@@ -1,6 +1,6 @@
 -- What is written of parameters: of equal values, under a mask; and what their encodings exclude.
 use Rattle.std.proofs.Common.{ℕ, List, ◌≡◌, ◌<◌, length, refl, subst, take, Result, Ok, Err, ◌↔◌, Option, Some, None, [], ◌∷◌, ◌++◌, ◌+◌, ◌*◌, Bool, true, false, arith, ap, ◌∙◌, sym, ◌^◌, if◌then◌else◌, pow_pos, inl, inr, append-nil, ◌≤◌, slice_index}
-use Rattle.der_core.specs.Words.{limit, EncodeError, no_encoding, too_long, no_room, another, Appends, Counts, Unwritten, WhyOctetsNotCounted, WhyOctetsNotWritten, encode_error, one_spelling, tagged_shortest, Spells, WritesShortest, prints_one, Excludes}
+use Rattle.der_core.specs.Words.{limit, EncodeError, no_encoding, too_long, no_room, another, Appends, Counts, Unwritten, WhyOctetsNotCounted, WhyOctetsNotWritten, encode_error, one_spelling_shortest, tagged_shortest, Spells, WritesShortest, prints_one, Excludes}
 use Rattle.der_core.specs.declared.error.Error as errors
 use Rattle.der_core.specs.declared.error.ErrorKind.{ErrorKind}
 use Rattle.der_core.specs.declared.error.ErrorKind.TheVariants.{Overflow}
@@ -9,7 +9,7 @@ use Rattle.pkcs1_params.specs.Words.{Refuses, Error, bit_of, bits_of, Encoded, E
 use Rattle.pkcs1_params.specs.declared.error.Error.TheVariants as error
 use Rattle.standard.specs.Statement.{AlgorithmEncoding, Encodes, IsShortest, Field, sequence, Fields, SameByShortest, SequenceOf, IsOaep, IsPss, OaepAlgorithmEncoding, OaepEncoding, OaepParameters, PssEncoding, PssAlgorithmEncoding, PssParameters, id_rsaes_oaep, id_rsassa_pss, length_octets, oaep_fields, pss_fields, tlv}
 use Rattle.spki_core.specs.Words.{AreSpelled, FieldRecord, WrittenField, are_defaults, octets_under, out_under, record_fields, record_under, rest_under, spelled, Spelling, under_valid, octets_spelled, record_means, record_front_law, spelled_from}
-use Rattle.spki_core.proofs.Fielded.{counted, counted_there, default_count, made, mask_fits, under_spelled, zero_least, zero_shortest, has_one_mask, only_under, under_is_one}
+use Rattle.spki_core.proofs.RecordEncodings.{default_count_only, default_count_there, default_count, encoding_under, mask_below_count, under_spelled, zero_least, zero_shortest, encoding_has_one_mask, encoding_under_only, under_is_one}
 use Rattle.pkcs1_params.proofs.Faults.{asn1_as}
 use Rattle.pkcs1_params.proofs.Wrapped.{same_contents, wrapped_front}
 
@@ -23,81 +23,83 @@ module _ {V W : Type 0} (Encoding : V → List ℕ → Type 0) (Other : W → Li
   encodes_as old new None e = (e.0, λ bytes p. e.1 bytes ((same bytes).1 p))
 
   module _ (Is : V → Type 0) (Valid : W → Type 0) (valid : Is v ↔ Valid w) where
-    pub unwritten_so : (room : ℕ) (k : EncodeError) → Unwritten Is Encoding v room k → Unwritten Valid Other w room k
-    unwritten_so room no_encoding h = λ ok. h (valid.1 ok)
-    unwritten_so room too_long h = (valid.0 h.0, λ bytes p. h.1 bytes ((same bytes).1 p))
-    unwritten_so room no_room h = (h.0, shortest_as h.0 h.1, h.2)
-    unwritten_so room another h = h
+    pub unwritten_carried : (room : ℕ) (k : EncodeError) → Unwritten Is Encoding v room k
+        → Unwritten Valid Other w room k
+    unwritten_carried room no_encoding h = λ ok. h (valid.1 ok)
+    unwritten_carried room too_long h = (valid.0 h.0, λ bytes p. h.1 bytes ((same bytes).1 p))
+    unwritten_carried room no_room h = (h.0, shortest_as h.0 h.1, h.2)
+    unwritten_carried room another h = h
 
     pub refuses_as : (room : ℕ) (e : Error) → Refuses Is Encoding v room e → Refuses Valid Other w room e
-    refuses_as room = asn1_as (λ e. unwritten_so room (encode_error e.kind))
+    refuses_as room = asn1_as (λ e. unwritten_carried room (encode_error e.kind))
 
 -- The same octets, of a value with an encoding.
 module _ (Has Is : Type 0) (has : Has) (is : Is) where
-  stopped_so : (octets : List ℕ) (room : Option ℕ) (old new : List ℕ → Type 0) (k : EncodeError)
+  unwritten_octets_carried : (octets : List ℕ) (room : Option ℕ) (old new : List ℕ → Type 0) (k : EncodeError)
       → WhyOctetsNotWritten Has octets room old new k → WhyOctetsNotWritten Is octets room old new k
-  stopped_so octets room old new no_encoding h = absurd (h.0 has)
-  stopped_so octets room old new too_long h = (is, h.1, h.2)
-  stopped_so octets room old new no_room h = (is, h.1, h.2, h.3)
-  stopped_so octets room old new another h = h
+  unwritten_octets_carried octets room old new no_encoding h = absurd (h.0 has)
+  unwritten_octets_carried octets room old new too_long h = (is, h.1, h.2)
+  unwritten_octets_carried octets room old new no_room h = (is, h.1, h.2, h.3)
+  unwritten_octets_carried octets room old new another h = h
 
-  appends_so : {W A : Type 0} (octets : List ℕ) (Room : W → Option ℕ) (Written : W → List ℕ → Type 0) (old new : W)
+  appends_carried : {W A : Type 0} (octets : List ℕ) (Room : W → Option ℕ) (Written : W → List ℕ → Type 0) (old new : W)
       (r : Result A errors.Error) → Appends Has octets Room Written old new r → Appends Is octets Room Written old new r
-  appends_so octets Room Written old new (Ok x) a =
+  appends_carried octets Room Written old new (Ok x) a =
       record { has = (is, a.has.1); written = a.written; room = a.room; left = a.left }
-  appends_so octets Room Written old new (Err e) a = record {
+  appends_carried octets Room Written old new (Err e) a = record {
     has = a.has;
     written = a.written;
     room = a.room;
-    left = stopped_so octets (Room old) (Written old) (Written new) (encode_error e.kind) a.left;
+    left = unwritten_octets_carried octets (Room old) (Written old) (Written new) (encode_error e.kind) a.left;
   }
 
   pub appends_as : {W A : Type 0} (octets others : List ℕ) (Room : W → Option ℕ) (Written : W → List ℕ → Type 0)
       (old new : W) (r : Result A errors.Error) → octets ≡ others → Appends Has octets Room Written old new r
       → Appends Is others Room Written old new r
   appends_as octets others Room Written old new r same a =
-      subst (λ o. Appends Is o Room Written old new r) same (appends_so octets Room Written old new r a)
+      subst (λ o. Appends Is o Room Written old new r) same (appends_carried octets Room Written old new r a)
 
 -- Octets that there are aren't counted only if there are too many.
-pub uncounted_as : {H : Type 0} (octets : List ℕ) (k : ErrorKind) → H → WhyOctetsNotCounted H octets (encode_error k)
+pub uncounted_overflows : {H : Type 0} (octets : List ℕ) (k : ErrorKind) → H
+    → WhyOctetsNotCounted H octets (encode_error k)
     → (k ≡ Overflow) × (limit < length octets)
-uncounted_as octets (kinds.Value tag) has h = absurd (h has)
-uncounted_as octets kinds.Overflow has h = (refl, h.1)
-uncounted_as octets kinds.NoRoom has h = absurd h
-uncounted_as octets kinds.Failed has h = absurd h
-uncounted_as octets kinds.Incomplete has h = absurd h
-uncounted_as octets kinds.IndefiniteLength has h = absurd h
-uncounted_as octets (kinds.Length tag) has h = absurd h
-uncounted_as octets (kinds.Noncanonical tag) has h = absurd h
-uncounted_as octets kinds.OidMalformed has h = absurd h
-uncounted_as octets kinds.OidUnknown has h = absurd h
-uncounted_as octets kinds.Overlength has h = absurd h
-uncounted_as octets kinds.ParametersMissing has h = absurd h
-uncounted_as octets (kinds.TagUnexpected expected actual) has h = absurd h
-uncounted_as octets (kinds.TagUnknown octet) has h = absurd h
-uncounted_as octets kinds.TrailingData has h = absurd h
-uncounted_as octets kinds.File has h = absurd h
-uncounted_as octets kinds.OutOfMemory has h = absurd h
+uncounted_overflows octets (kinds.Value tag) has h = absurd (h has)
+uncounted_overflows octets kinds.Overflow has h = (refl, h.1)
+uncounted_overflows octets kinds.NoRoom has h = absurd h
+uncounted_overflows octets kinds.Failed has h = absurd h
+uncounted_overflows octets kinds.Incomplete has h = absurd h
+uncounted_overflows octets kinds.IndefiniteLength has h = absurd h
+uncounted_overflows octets (kinds.Length tag) has h = absurd h
+uncounted_overflows octets (kinds.Noncanonical tag) has h = absurd h
+uncounted_overflows octets kinds.OidMalformed has h = absurd h
+uncounted_overflows octets kinds.OidUnknown has h = absurd h
+uncounted_overflows octets kinds.Overlength has h = absurd h
+uncounted_overflows octets kinds.ParametersMissing has h = absurd h
+uncounted_overflows octets (kinds.TagUnexpected expected actual) has h = absurd h
+uncounted_overflows octets (kinds.TagUnknown octet) has h = absurd h
+uncounted_overflows octets kinds.TrailingData has h = absurd h
+uncounted_overflows octets kinds.File has h = absurd h
+uncounted_overflows octets kinds.OutOfMemory has h = absurd h
 
-counts_why : {P Q : Type 0} (octets : List ℕ) → (P → Q) → (Q → P) → (k : EncodeError)
+uncounted_carried : {P Q : Type 0} (octets : List ℕ) → (P → Q) → (Q → P) → (k : EncodeError)
     → WhyOctetsNotCounted P octets k → WhyOctetsNotCounted Q octets k
-counts_why octets there back no_encoding u = λ q. u (back q)
-counts_why octets there back too_long u = (there u.0, u.1)
-counts_why octets there back no_room u = u
-counts_why octets there back another u = u
+uncounted_carried octets there back no_encoding u = λ q. u (back q)
+uncounted_carried octets there back too_long u = (there u.0, u.1)
+uncounted_carried octets there back no_room u = u
+uncounted_carried octets there back another u = u
 
 -- Counted under one premise is counted under another.
 pub counts_as : {P Q : Type 0} (octets : List ℕ) (r : Result ℕ errors.Error) → (P → Q) → (Q → P) → Counts P octets r
     → Counts Q octets r
 counts_as octets (Ok n) there back c = (there c.0, c.1, c.2)
-counts_as octets (Err e) there back c = counts_why octets there back (encode_error e.kind) c
+counts_as octets (Err e) there back c = uncounted_carried octets there back (encode_error e.kind) c
 
 -- == Under a mask, what the code joins field by field is what is printed of the spelling ==
 
 -- Of fields that all have their defaults, none is there under mask 0.
-none_under : (fs : List WrittenField) → bits_of (are_defaults fs) ≡ 0 → octets_under 0 fs ≡ []
-none_under [] none = refl
-none_under (f ∷ fs) none = go f.is_default (none_under fs) none
+octets_under_none : (fs : List WrittenField) → bits_of (are_defaults fs) ≡ 0 → octets_under 0 fs ≡ []
+octets_under_none [] none = refl
+octets_under_none (f ∷ fs) none = go f.is_default (octets_under_none fs) none
   where
     go : (b : Bool) → (bits_of (are_defaults fs) ≡ 0 → octets_under 0 fs ≡ [])
         → bit_of b + 2 * bits_of (are_defaults fs) ≡ 0
@@ -106,66 +108,74 @@ none_under (f ∷ fs) none = go f.is_default (none_under fs) none
     go false later is = absurd (omega (arith, is))
 
 module _ {V : Type 0} {Is : V → Type 0} {fields : V → List Field} (r : FieldRecord Is fields) (v : V) (mask : ℕ) where
-  pub is_spelled : Is v → AreSpelled r.kinds (record_under r mask v)
-  is_spelled ok = under_valid r.kinds mask (r.split v) (r.are v ok)
+  pub record_is_spelled : Is v → AreSpelled r.kinds (record_under r mask v)
+  record_is_spelled ok = under_valid r.kinds mask (r.split v) (r.are v ok)
 
-  pub octets_are : (fs : List WrittenField) → fs ≡ record_fields r v
+  pub octets_under_spelled : (fs : List WrittenField) → fs ≡ record_fields r v
       → octets_under mask fs ≡ spelled r.kinds (record_under r mask v)
-  octets_are fs is = ap (octets_under mask) is ∙ octets_spelled r.kinds mask (r.split v)
+  octets_under_spelled fs is = ap (octets_under mask) is ∙ octets_spelled r.kinds mask (r.split v)
 
-  pub none_spelled : mask ≡ 0 → bits_of (are_defaults (record_fields r v)) ≡ 0
+  pub nothing_spelled : mask ≡ 0 → bits_of (are_defaults (record_fields r v)) ≡ 0
       → spelled r.kinds (record_under r mask v) ≡ []
-  none_spelled zero none =
+  nothing_spelled zero none =
       sym (octets_spelled r.kinds mask (r.split v)) ∙ ap (λ m. octets_under m (record_fields r v)) zero
-      ∙ none_under (record_fields r v) none
+      ∙ octets_under_none (record_fields r v) none
 
 module _ {V : Type 0} {Is : V → Type 0} {fields : V → List Field} (r : FieldRecord Is fields) where
   -- The kernel writes the spelling under the mask, which is its only one.
-  abbrev pub encoding_of : Spelling r.kinds → List ℕ
-  encoding_of s = sequence (spelled r.kinds s)
+  abbrev pub spelling_encoding : Spelling r.kinds → List ℕ
+  spelling_encoding s = sequence (spelled r.kinds s)
 
-  pub spelling_written : WritesShortest (AreSpelled r.kinds) encoding_of (λ s. s) (λ s. s)
-  spelling_written = tagged_shortest (one_spelling (AreSpelled r.kinds) (spelled r.kinds)) 48
+  pub spelling_written : WritesShortest (AreSpelled r.kinds) spelling_encoding (λ s. s) (λ s. s)
+  spelling_written = tagged_shortest (one_spelling_shortest (AreSpelled r.kinds) (spelled r.kinds)) 48
 
-  abbrev pub Spelled : Spelling r.kinds → List ℕ → Type 0
-  Spelled = Spells (AreSpelled r.kinds) encoding_of (λ s. s)
+  abbrev pub SpellingSpells : Spelling r.kinds → List ℕ → Type 0
+  SpellingSpells = Spells (AreSpelled r.kinds) spelling_encoding (λ s. s)
 
-  pub in_range : (v : V) (mask : ℕ) → IsMask (fields v) mask → InRange (fields v) mask
-  in_range v mask m = λ k d. subst (λ n. mask < 2 ^ n) (sym (counted r v k d)) (mask_fits r v mask m)
+  pub mask_in_range : (v : V) (mask : ℕ) → IsMask (fields v) mask → InRange (fields v) mask
+  mask_in_range v mask m =
+      λ k d. subst (λ n. mask < 2 ^ n) (sym (default_count_only r v k d)) (mask_below_count r v mask m)
 
   module _ (v : V) (ok : Is v) (mask : ℕ) (m : IsMask (fields v) mask) where
-    same : (bytes : List ℕ) → Spelled (record_under r mask v) bytes ↔ EncodedUnder mask Is fields v bytes
-    same = under_spelled r v mask ok (mask_fits r v mask m)
+    under_mask_spelled : (bytes : List ℕ)
+        → SpellingSpells (record_under r mask v) bytes ↔ EncodedUnder mask Is fields v bytes
+    under_mask_spelled = under_spelled r v mask ok (mask_below_count r v mask m)
 
-    pub under_encodes : (old new : List ℕ) (n : Option ℕ) → Encodes Spelled (record_under r mask v) old new n
+    pub under_encodes : (old new : List ℕ) (n : Option ℕ) → Encodes SpellingSpells (record_under r mask v) old new n
         → Encodes (EncodedUnder mask Is fields) v old new n
-    under_encodes = encodes_as Spelled (EncodedUnder mask Is fields) (record_under r mask v) v same
+    under_encodes = encodes_as SpellingSpells (EncodedUnder mask Is fields) (record_under r mask v) v under_mask_spelled
 
-    pub under_shortest : (bytes : List ℕ) → IsShortest Spelled (record_under r mask v) bytes
+    pub under_shortest : (bytes : List ℕ) → IsShortest SpellingSpells (record_under r mask v) bytes
         → IsShortest (EncodedUnder mask Is fields) v bytes
-    under_shortest = shortest_as Spelled (EncodedUnder mask Is fields) (record_under r mask v) v same
+    under_shortest = shortest_as SpellingSpells (EncodedUnder mask Is fields) (record_under r mask v) v
+        under_mask_spelled
 
-    pub under_refuses : (room : ℕ) (e : Error) → Refuses (AreSpelled r.kinds) Spelled (record_under r mask v) room e
+    pub under_refuses : (room : ℕ) (e : Error)
+        → Refuses (AreSpelled r.kinds) SpellingSpells (record_under r mask v) room e
         → Refuses (λ _. Unit {0}) (EncodedUnder mask Is fields) v room e
     under_refuses =
-        refuses_as Spelled (EncodedUnder mask Is fields) (record_under r mask v) v same (AreSpelled r.kinds)
-        (λ _. Unit {0}) ((λ _. tt), (λ _. is_spelled r v mask ok))
+        refuses_as SpellingSpells (EncodedUnder mask Is fields) (record_under r mask v) v under_mask_spelled
+        (AreSpelled r.kinds)
+        (λ _. Unit {0}) ((λ _. tt), (λ _. record_is_spelled r v mask ok))
 
   -- Mask 0 is one of each value, and gives the shortest encoding.
   pub zero_mask : (v : V) → IsMask (fields v) 0
-  zero_mask v = (default_count r v, counted_there r v, pow_pos (default_count r v))
+  zero_mask v = (default_count r v, default_count_there r v, pow_pos (default_count r v))
 
   module _ (v : V) where
     pub zero_encodes : (old new : List ℕ) (n : Option ℕ) → Encodes (EncodedUnder 0 Is fields) v old new n
         → Encodes (Encoded Is fields) v old new n
     zero_encodes old new (Some n) e = (e.0, zero_shortest r v (take n new) e.1.0, e.2)
-    zero_encodes old new None e =
-        (e.0, λ bytes p. let z = zero_least r v bytes p in let l = e.1 (made r v 0) z.0 in omega (arith, l, z.1))
+    zero_encodes old new None e = (
+      e.0,
+      λ bytes p. let z = zero_least r v bytes p in let l = e.1 (encoding_under r v 0) z.0 in omega
+          (arith, l, z.1),
+    )
 
     unwritten_zero : (room : ℕ) (k : EncodeError) → Unwritten (λ _. Unit {0}) (EncodedUnder 0 Is fields) v room k
         → Unwritten (λ _. Unit {0}) (Encoded Is fields) v room k
     unwritten_zero room no_encoding h = h
-    unwritten_zero room too_long h = (h.0, λ bytes p. h.1 (made r v 0) (zero_least r v bytes p).0)
+    unwritten_zero room too_long h = (h.0, λ bytes p. h.1 (encoding_under r v 0) (zero_least r v bytes p).0)
     unwritten_zero room no_room h = (h.0, zero_shortest r v h.0 h.1.0, h.2)
     unwritten_zero room another h = h
 
@@ -175,9 +185,9 @@ module _ {V : Type 0} {Is : V → Type 0} {fields : V → List Field} (r : Field
 
 -- Encodings of parameters: none is a proper beginning of another, and two mean the same by the shortest.
 module _ {V : Type 0} {Is : V → Type 0} {fields : V → List Field} (r : FieldRecord Is fields) where
-  follow : (v w : V) (bytes rest : List ℕ) → SequenceOf Is fields Fields v bytes
+  record_follow : (v w : V) (bytes rest : List ℕ) → SequenceOf Is fields Fields v bytes
       → SequenceOf Is fields Fields w (bytes ++ rest) → (v ≡ w) × (rest ≡ [])
-  follow v w bytes rest x y =
+  record_follow v w bytes rest x y =
       let (few, (s, e, ok, is)) = spelled_from r v bytes x in
       let (within, (t, f, right, same)) = spelled_from r w (bytes ++ rest) y in
       let all = ap (λ z. z ++ rest) (sym is) ∙ same ∙ sym (append-nil (sequence (spelled r.kinds t))) in
@@ -186,7 +196,7 @@ module _ {V : Type 0} {Is : V → Type 0} {fields : V → List Field} (r : Field
       (sym e ∙ ap (record_means r) one.0 ∙ f, one.1)
 
   pub record_delimited : AreDelimited (SequenceOf Is fields Fields)
-  record_delimited = ((λ v p. let never = p.4 in cc), follow)
+  record_delimited = ((λ v p. let never = p.4 in cc), record_follow)
 
   pub algorithm_delimited : (oid : List ℕ) → AreDelimited (AlgorithmEncoding oid (SequenceOf Is fields Fields))
   algorithm_delimited oid = (
@@ -197,21 +207,21 @@ module _ {V : Type 0} {Is : V → Type 0} {fields : V → List Field} (r : Field
         (ap (λ z. z ++ rest) (sym is) ∙ same) in
         let other : SequenceOf Is fields Fields w (p ++ []) =
         subst (SequenceOf Is fields Fields w) (sym (append-nil p ∙ one.0)) y in
-        ((follow v w p [] x other).0, one.1),
+        ((record_follow v w p [] x other).0, one.1),
   )
 
   -- The laws of masks.
   pub defaults_counted : DefaultsAreCounted fields
-  defaults_counted v = (default_count r v, counted_there r v, counted r v)
+  defaults_counted v = (default_count r v, default_count_there r v, default_count_only r v)
 
   pub each_has_one_mask : EachHasOneMask Is fields
   each_has_one_mask v bytes p =
-      let (mask, q, only) = has_one_mask r v bytes p in
-      (mask, (default_count r v, counted_there r v, (only_under r v mask bytes q).0), q, only)
+      let (mask, q, only) = encoding_has_one_mask r v bytes p in
+      (mask, (default_count r v, default_count_there r v, (encoding_under_only r v mask bytes q).0), q, only)
 
   pub each_mask_has_one : EachMaskHasOne Is fields
   each_mask_has_one v mask x y p q =
-      let same = (only_under r v mask x p).1 ∙ sym (only_under r v mask y q).1 in
+      let same = (encoding_under_only r v mask x p).1 ∙ sym (encoding_under_only r v mask y q).1 in
       (same, under_is_one r v mask x p)
 
   pub shortest_has_no_defaults : ShortestHasNoDefaults Is fields
@@ -219,14 +229,14 @@ module _ {V : Type 0} {Is : V → Type 0} {fields : V → List Field} (r : Field
     zero_shortest r v bytes,
     λ s.
         let z = zero_least r v bytes s.0 in
-        elim (s.1 (made r v 0) (under_is_one r v 0 (made r v 0) z.0)) [
+        elim (s.1 (encoding_under r v 0) (under_is_one r v 0 (encoding_under r v 0) z.0)) [
           | inl same ↦ subst (EncodedUnder 0 Is fields v) same z.0
           | inr l ↦ absurd (omega (arith, l, z.1))
         ],
   )
 
   pub accepted_fits : AcceptedFits Is fields
-  accepted_fits v bytes p = let z = zero_least r v bytes p in (made r v 0, z.0, z.1)
+  accepted_fits v bytes p = let z = zero_least r v bytes p in (encoding_under r v 0, z.0, z.1)
 
 module _ {V : Type 0} (Encoding : V → List ℕ → Type 0) where
   one_shortest : (v : V) (s t : List ℕ) → IsShortest Encoding v s → IsShortest Encoding v t → s ≡ t
@@ -248,10 +258,11 @@ abbrev pub Begin : List Field → Type 0
 Begin [] = Unit {0}
 Begin (f ∷ fields) = (160 ≤ slice_index f.written 0) × Begin fields
 
-pub begins : (fields : List Field) (tag : ℕ) (rest : List ℕ) → tag < 160 → Begin fields → Fields fields (tag ∷ rest) → ⊥
-begins [] tag rest low ok e = cc
-begins (f ∷ fields) tag rest low ok (inl p) = begins fields tag rest low ok.1 p.1
-begins (f ∷ fields) tag rest low ok (inr (later, is, more)) = go f.written ok.0 is
+pub fields_begin_high : (fields : List Field) (tag : ℕ) (rest : List ℕ) → tag < 160 → Begin fields
+    → Fields fields (tag ∷ rest) → ⊥
+fields_begin_high [] tag rest low ok e = cc
+fields_begin_high (f ∷ fields) tag rest low ok (inl p) = fields_begin_high fields tag rest low ok.1 p.1
+fields_begin_high (f ∷ fields) tag rest low ok (inr (later, is, more)) = go f.written ok.0 is
   where
     go : (w : List ℕ) → 160 ≤ slice_index w 0 → tag ∷ rest ≡ w ++ later → ⊥
     go [] high e = omega (arith, high)
@@ -264,18 +275,18 @@ pub oaep_begin : (v : OaepParameters) → Begin (oaep_fields v)
 oaep_begin v = (omega arith, (omega arith, (omega arith, tt)))
 
 -- A SEQUENCE that begins with a lower tag, of such fields.
-pub differs : {V : Type 0} (Is : V → Type 0) (fields : V → List Field) (v : V) (tag : ℕ) (bytes rest : List ℕ)
+pub record_differs : {V : Type 0} (Is : V → Type 0) (fields : V → List Field) (v : V) (tag : ℕ) (bytes rest : List ℕ)
     → tag < 160 → Begin (fields v) → bytes ≡ sequence (tag ∷ rest) → SequenceOf Is fields Fields v bytes → ⊥
-differs Is fields v tag bytes rest low ok is (valid, few, c, holds, same) =
-    begins (fields v) tag rest low ok
+record_differs Is fields v tag bytes rest low ok is (valid, few, c, holds, same) =
+    fields_begin_high (fields v) tag rest low ok
     (subst (Fields (fields v))
     (same_contents c (tag ∷ rest) (omega (arith, few, ap length same)) (sym same ∙ is)) holds)
 
 pub pss_no_identifier : Excludes PssEncoding PlainEncoding
-pss_no_identifier v a bytes p q = differs IsPss pss_fields v 6 bytes _ (omega arith) (pss_begin v) q.2 p
+pss_no_identifier v a bytes p q = record_differs IsPss pss_fields v 6 bytes _ (omega arith) (pss_begin v) q.2 p
 
 pub oaep_no_identifier : Excludes OaepEncoding PlainEncoding
-oaep_no_identifier v a bytes p q = differs IsOaep oaep_fields v 6 bytes _ (omega arith) (oaep_begin v) q.2 p
+oaep_no_identifier v a bytes p q = record_differs IsOaep oaep_fields v 6 bytes _ (omega arith) (oaep_begin v) q.2 p
 
 pub algorithms_differ : Excludes PssAlgorithmEncoding OaepAlgorithmEncoding
 unfolding length_octets

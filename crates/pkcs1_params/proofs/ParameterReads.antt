@@ -4,7 +4,7 @@ use Rattle.std.proofs.Common.{◌≡◌, ℕ, List, [], ◌∷◌, refl, sym, ap
 use Rattle.der_core.specs.declared.error.ErrorKind.{ErrorKind}
 use Rattle.der_core.specs.Words.{Input, end_of, read_from, left_in, ok_pair, AllocatesIn, Asks, FrontReading, Reading, ◌>>=◌, made, AreBytes, made_errs, Tlv}
 use Rattle.spki_core.specs.Words.{FieldAllocates, AlgorithmAllocates, Kind, Values, values_read, FieldRecord, record_read, defaulted, record_reads}
-use Rattle.der_core.proofs.ReadSteps.{Fails, Gives, chain_from, fails_so}
+use Rattle.der_core.proofs.ReadSteps.{Fails, Gives, chain_read_from, failure_carried}
 use Rattle.der_core.specs.declared.error.ErrorKind.TheVariants.{OutOfMemory}
 use Rattle.standard.specs.Statement.{Field, Fields}
 
@@ -33,7 +33,7 @@ module _ {k : Kind} {ks : List Kind} {given : k.Value} {n : ℕ} (same : given �
   field_fails {asks} never {e} {before} {after} fails =
       let known : Fails (field_at k) (AllocatesIn (FieldAllocates k.number asks)) e before after = rw (is, same) at fails in record {
         fails =
-            fails_so (field_at k) (values_read (k ∷ ks)) (λ k c p. ap (λ r. r >>= λ p. values_read ks p.1 >>= λ b. Ok (p.0, b)) p)
+            failure_carried (field_at k) (values_read (k ∷ ks)) (λ k c p. ap (λ r. r >>= λ p. values_read ks p.1 >>= λ b. Ok (p.0, b)) p)
             (AllocatesIn (FieldAllocates k.number asks)) (λ _. ⊥)
             (λ c w. let inner = w.3.holds in never inner.0 inner.3) e before after known;
       }
@@ -60,7 +60,7 @@ module _ {k : Kind} {ks : List Kind} {given : k.Value} {n : ℕ} (same : given �
     field_gives {w} later = record {
       gives =
           let known : Gives (field_at k) v before mid = rw (is, same) at read in
-          chain_from (field_at k) (λ a. made (λ b. (a, b)) (values_read ks)) v before mid known
+          chain_read_from (field_at k) (λ a. made (λ b. (a, b)) (values_read ks)) v before mid known
           ∙ made_gives (λ b. (v, b)) (values_read ks) mid later.gives;
     }
 
@@ -78,15 +78,15 @@ end_fails None (p, failed) = record { fails = (failed, inr (let q = p in cc)) }
 end_fails (Some []) (p, failed) = let no = p in cc
 end_fails (Some (x ∷ xs)) (p, failed) = record { fails = (failed, inr (let q = p in cc)) }
 
-pub never : (b : List ℕ) → ⊥ → ⊥
-never b h = h
+pub absurd_never : (b : List ℕ) → ⊥ → ⊥
+absurd_never b h = h
 
 pub algorithm_never : {asks : List ℕ → Type 0} → ((b : List ℕ) → asks b → ⊥) → (b : List ℕ)
     → AlgorithmAllocates asks b → ⊥
 algorithm_never nothing b p = let h = p.holds in let l = h.1.3 in nothing l.1.0 l.1.3
 
 pub plain_never : (b : List ℕ) → AlgorithmAllocates (λ _. ⊥) b → ⊥
-plain_never = algorithm_never never
+plain_never = algorithm_never absurd_never
 
 pub mask_never : (b : List ℕ) → AlgorithmAllocates (AlgorithmAllocates (λ _. ⊥)) b → ⊥
 mask_never = algorithm_never plain_never
@@ -97,7 +97,8 @@ number_never b p = p.holds
 pub record_fails : {V : Type 0} {Is : V → Type 0} {fields : V → List Field} (r : FieldRecord Is fields) {e : ErrorKind}
     {before after : Input} → FieldsFail r.kinds e before after → Fails (record_read r) (λ _. ⊥) e before after
 record_fails r {e} {before} {after} f =
-    fails_so (values_read r.kinds) (record_read r) (made_errs r.join (values_read r.kinds)) (λ _. ⊥) (λ _. ⊥) never e
+    failure_carried (values_read r.kinds) (record_read r) (made_errs r.join (values_read r.kinds)) (λ _. ⊥) (λ _. ⊥)
+    absurd_never e
     before after f.fails
 
 pub record_gives : {V : Type 0} {Is : V → Type 0} {fields : V → List Field} (r : FieldRecord Is fields)

@@ -51,9 +51,10 @@ module _ (oid : List ℕ) where
       (wrapped_front p q [] few (omega (arith, few, ap length is)) (append-nil (wrapped p) ∙ is)).0
 
   -- What the identifier holds encodes its parameters.
-  pub inner_is : {V : Type 0} (E : V → List ℕ → Type 0) (v : V) (bytes p : List ℕ) → AlgorithmEncoding oid E v bytes
+  pub wrapped_inner_encodes : {V : Type 0} (E : V → List ℕ → Type 0) (v : V) (bytes p : List ℕ)
+      → AlgorithmEncoding oid E v bytes
       → bytes ≡ wrapped p → E v p
-  inner_is E v bytes p (few, q, holds, is) given =
+  wrapped_inner_encodes E v bytes p (few, q, holds, is) given =
       subst (E v) (wrapped_one q p (omega (arith, few, ap length is)) (sym is ∙ given)) holds
 
   -- The shortest encoding of the identifier holds the shortest of the parameters.
@@ -71,7 +72,7 @@ module _ (oid : List ℕ) where
 
     shortest_inside : IsShortest (AlgorithmEncoding oid E) v (wrapped p) → IsShortest E v p
     shortest_inside s = (
-      inner_is E v (wrapped p) p s.0 refl,
+      wrapped_inner_encodes E v (wrapped p) p s.0 refl,
       λ q holds. elim (cases_lt (length p) (length q)) [
         | inl less ↦ inr less
         | inr more ↦
@@ -83,39 +84,41 @@ module _ (oid : List ℕ) where
       ],
     )
 
-  pub shortest_decodes : {V : Type 0} (E : V → List ℕ → Type 0) (p : List ℕ) → length (wrapped p) ≤ limit
+  pub wrapped_shortest_decodes : {V : Type 0} (E : V → List ℕ → Type 0) (p : List ℕ) → length (wrapped p) ≤ limit
       → (o : Option V) → Decodes (IsShortest E) p o → Decodes (IsShortest (AlgorithmEncoding oid E)) (wrapped p) o
-  shortest_decodes E p few (Some v) d =
+  wrapped_shortest_decodes E p few (Some v) d =
       (shortest_outside E v p few d.0, λ w s. d.1 w (shortest_inside E w p few s))
-  shortest_decodes E p few None d = λ w s. d w (shortest_inside E w p few s)
+  wrapped_shortest_decodes E p few None d = λ w s. d w (shortest_inside E w p few s)
 
   -- All encodings, by those of the parameters.
   module _ {V : Type 0} (Is : V → Type 0) (fields : V → List Field) (v : V) (k : ℕ)
       (few : length (wrapped (longest (fields v))) ≤ limit) (all : List (List ℕ))
       (each : (i : ℕ) → i < 2 ^ k → length (slice_index_or all i []) ≤ length (longest (fields v)))
       (a : AreAll (λ E. E) Is fields v k all) where
-    at : (i : ℕ) → i < 2 ^ k → slice_index_or (map wrapped all) i [] ≡ wrapped (slice_index_or all i [])
-    at i h = get_or-map wrapped all i [] [] (omega (arith, h, a.count))
+    wrapped_at : (i : ℕ) → i < 2 ^ k → slice_index_or (map wrapped all) i [] ≡ wrapped (slice_index_or all i [])
+    wrapped_at i h = get_or-map wrapped all i [] [] (omega (arith, h, a.count))
 
-    fit : (i : ℕ) → i < 2 ^ k → length (wrapped (slice_index_or all i [])) ≤ limit
-    fit i h =
+    wrapped_at_fits : (i : ℕ) → i < 2 ^ k → length (wrapped (slice_index_or all i [])) ≤ limit
+    wrapped_at_fits i h =
         let g = wrapped_grows (slice_index_or all i []) (longest (fields v)) (each i h) few in omega (arith, g, each i h, few)
 
-    entry : (E : V → List ℕ → Type 0) (i : ℕ) → i < 2 ^ k → E v (slice_index_or all i [])
+    wrapped_at_encodes : (E : V → List ℕ → Type 0) (i : ℕ) → i < 2 ^ k → E v (slice_index_or all i [])
         → AlgorithmEncoding oid E v (slice_index_or (map wrapped all) i [])
-    entry E i h e = subst (AlgorithmEncoding oid E v) (sym (at i h)) (fit i h, slice_index_or all i [], e, refl)
+    wrapped_at_encodes E i h e = subst (AlgorithmEncoding oid E v) (sym (wrapped_at i h))
+        (wrapped_at_fits i h, slice_index_or all i [], e, refl)
 
     pub are_all_in : AreAll (AlgorithmEncoding oid) Is fields v k (map wrapped all)
     are_all_in = record {
       count = length-map all wrapped ∙ a.count;
-      under = λ i h. entry (SequenceOf Is fields (FieldsUnder i)) i h (a.under i h);
+      under = λ i h. wrapped_at_encodes (SequenceOf Is fields (FieldsUnder i)) i h (a.under i h);
       different =
           λ i j h n e. a.different i j h n
-          (wrapped_one (slice_index_or all i []) (slice_index_or all j []) (fit i h) (sym (at i h) ∙ e ∙ at j n));
+          (wrapped_one (slice_index_or all i []) (slice_index_or all j []) (wrapped_at_fits i h)
+          (sym (wrapped_at i h) ∙ e ∙ wrapped_at j n));
       every = λ bytes. (
-        λ (within, y, e, same). let (i, h, is) = (a.every y).0 e in (i, h, at i h ∙ ap wrapped is ∙ sym same),
+        λ (within, y, e, same). let (i, h, is) = (a.every y).0 e in (i, h, wrapped_at i h ∙ ap wrapped is ∙ sym same),
         λ (i, h, is). subst (AlgorithmEncoding oid (SequenceOf Is fields Fields) v) is
-            (entry (SequenceOf Is fields Fields) i h ((a.every (slice_index_or all i [])).1 (i, h, refl))),
+            (wrapped_at_encodes (SequenceOf Is fields Fields) i h ((a.every (slice_index_or all i [])).1 (i, h, refl))),
       );
     }
 

@@ -3,7 +3,7 @@
 use Rattle.std.specs.Prelude.{ℕ, List, ◌≡◌, ◌≤◌, ◌++◌, length, Option, Some, None, Result, Err, if◌then◌else◌, bytes_eq}
 use Rattle.der_core.specs.declared.error.ErrorKind.{ErrorKind}
 use Rattle.der_core.specs.declared.error.ErrorKind.TheVariants.{Noncanonical, OidUnknown, ParametersMissing}
-use Rattle.der_core.specs.Words.{AreBytes, limit, Reading, ◌>>=◌, whole, context_tag}
+use Rattle.der_core.specs.Words.{AreBytes, limit, Reading, ◌>>=◌, whole, context_octet}
 use Rattle.der_core.specs.Tags as tags
 use Rattle.der_core.specs.declared.tag.Tag.{Tag}
 use Rattle.spki_core.specs.Words.{any_as}
@@ -24,7 +24,7 @@ PlainEncoding a bytes = (length bytes ≤ limit) × IsAlgorithm IsAny a × (byte
 -- The parameters in an algorithm identifier: another one is unknown, and none are missing.
 abbrev pub parameters_as : {V : Type 0} → Reading V → Option TagAndContents → Result V ErrorKind
 parameters_as read None = Err ParametersMissing
-parameters_as read (Some any) = any_as tags.sequence read any
+parameters_as read (Some any) = any_as tags.sequence_tag read any
 
 abbrev pub identified : {V : Type 0} → List ℕ → Reading V → Algorithm TagAndContents → Result V ErrorKind
 identified oid read a = if bytes_eq a.oid oid then parameters_as read a.parameters else Err OidUnknown
@@ -54,5 +54,5 @@ NamesFirstDefaultIn {V} oid Is fields strictly =
     AlgorithmEncoding oid (Encoded Is fields) v bytes →
     bytes ≡ sequence (tlv 6 oid ++ sequence contents) →
     FirstWritten (fields v) n contents →
-    tag.octet ≡ context_tag n →
+    tag.octet ≡ context_octet n →
     strictly bytes ≡ Err (Noncanonical tag)

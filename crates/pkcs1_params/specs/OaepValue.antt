@@ -2,7 +2,7 @@
 -- them owned ones ask for memory.
 use Rattle.std.specs.Prelude.{ℕ, List, ◌≡◌, length}
 use Rattle.der_core.specs.Words.{AreBytes}
-use Rattle.spki_core.specs.Words.{TagAndContents, null_value, any_of, algorithm_in, mask_in, own_octets_of, octets_of}
+use Rattle.spki_core.specs.Words.{TagAndContents, null_value, any_of, algorithm_in, mask_gen_in, own_octets_of, identifier_octets}
 use Rattle.spki_core.specs.declared.any.AnyRef.{AnyRef}
 use Rattle.pkcs1_params.specs.Parameters.{id_mgf1, id_p_specified, with_parameters, octets_value, OaepParameters}
 use Rattle.standard.specs.Statement.{Fields, IfPresent, IsBare, IsOaep, OaepEncoding, oaep_fields}
@@ -14,7 +14,7 @@ abbrev pub oaep_in : {O X : Type 0} → (O → List ℕ) → (X → TagAndConten
 oaep_in octets any p =
     record {
       hash = algorithm_in octets any p.hash;
-      mask_gen = mask_in octets any p.mask_gen;
+      mask_gen = mask_gen_in octets any p.mask_gen;
       p_source = algorithm_in octets any p.p_source;
     }
 
@@ -28,7 +28,7 @@ oaep_of = oaep_with any_of
 
 -- that borrow from the input
 abbrev pub oaep_viewed : OaepParamsOf IdentifierView AnyRef → OaepParameters
-oaep_viewed = oaep_in octets_of any_of
+oaep_viewed = oaep_in identifier_octets any_of
 
 -- a hash function with NULL, MGF1 with the same, and a label
 abbrev pub labelled : List ℕ → List ℕ → OaepParameters

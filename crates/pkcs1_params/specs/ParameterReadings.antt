@@ -3,21 +3,21 @@ use Rattle.std.specs.Prelude.{ℕ, ◌+◌, ◌<◌, ◌≡◌, ◌==◌, List, 
 use Rattle.der_core.specs.Words.{small_of, FrontReading, Reading, made, such, tagged, whole, is_allowed}
 use Rattle.der_core.specs.Tags as tags
 use Rattle.der_core.specs.declared.error.ErrorKind.TheVariants.{Value}
-use Rattle.spki_core.specs.Words.{same_mask, same_plain, Kind, Values, strict_contents, strict_slice, values_read, algorithm_read, any as any_front, WrittenField, field_with}
+use Rattle.spki_core.specs.Words.{same_mask, same_plain, Kind, Values, strict_contents, strict_slice, values_read, algorithm_read, any_front, WrittenField, field_with}
 use Rattle.pkcs1_params.specs.declared.fields.FieldRef.{FieldRef}
 use Rattle.pkcs1_params.specs.declared.fields.FieldRef.TheVariants as ref
 use Rattle.standard.specs.Statement.{Algorithm, IsAlgorithm, IsAny, OaepParameters, PssParameters, TagAndContents, algorithm, any, empty_label, integer, mgf1_sha1, sha1}
 
 -- Algorithm identifiers with parameters of any tag, and with such an identifier as parameters.
 abbrev pub plain_front : FrontReading (Algorithm TagAndContents)
-plain_front = tagged tags.sequence (algorithm_read any_front)
+plain_front = tagged tags.sequence_tag (algorithm_read any_front)
 
 abbrev pub mask_front : FrontReading (Algorithm (Algorithm TagAndContents))
-mask_front = tagged tags.sequence (algorithm_read plain_front)
+mask_front = tagged tags.sequence_tag (algorithm_read plain_front)
 
 -- The number 1.
 abbrev pub trailer_read : Reading ℕ
-trailer_read = such (λ n. n == 1) (Value tags.integer) small_of
+trailer_read = such (λ n. n == 1) (Value tags.integer_tag) small_of
 
 -- The kinds of the fields.
 abbrev pub plain_kind : (n : ℕ) → IsTrue (is_allowed (160 + n)) → Algorithm TagAndContents → Kind
@@ -57,7 +57,7 @@ salt_kind =
       allowed = λ i. true;
       Is = λ n. n < 256;
       printed = integer;
-      at = tagged tags.integer small_of;
+      at = tagged tags.integer_tag small_of;
       default = 20;
       is_default = λ n. eqb n 20;
     }
@@ -70,7 +70,7 @@ trailer_kind =
       allowed = λ i. true;
       Is = λ n. n ≡ 1;
       printed = integer;
-      at = tagged tags.integer trailer_read;
+      at = tagged tags.integer_tag trailer_read;
       default = 1;
       is_default = λ n. eqb n 1;
     }
@@ -105,10 +105,10 @@ abbrev pub oaep_read : Reading OaepParameters
 oaep_read = made of_oaep_fields (values_read oaep_kinds)
 
 abbrev pub rsa_pss_params : Reading PssParameters
-rsa_pss_params = whole (tagged tags.sequence pss_read)
+rsa_pss_params = whole (tagged tags.sequence_tag pss_read)
 
 abbrev pub rsa_oaep_params : Reading OaepParameters
-rsa_oaep_params = whole (tagged tags.sequence oaep_read)
+rsa_oaep_params = whole (tagged tags.sequence_tag oaep_read)
 
 -- The same of shortest encodings alone (X.690 11.5).
 abbrev pub strict_pss_read : Reading PssParameters

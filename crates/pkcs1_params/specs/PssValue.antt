@@ -1,7 +1,7 @@
 -- What RSASSA-PSS parameters mean, by what holds their identifiers and the parameters of algorithms, and for which of
 -- them owned ones ask for memory.
 use Rattle.std.specs.Prelude.{ℕ, List}
-use Rattle.spki_core.specs.Words.{TagAndContents, any_of, algorithm_in, mask_in, own_octets_of, octets_of}
+use Rattle.spki_core.specs.Words.{TagAndContents, any_of, algorithm_in, mask_gen_in, own_octets_of, identifier_octets}
 use Rattle.spki_core.specs.declared.any.AnyRef.{AnyRef}
 use Rattle.pkcs1_params.specs.Parameters.{PssParameters}
 use Rattle.pkcs1_params.specs.declared.pss.PssParamsOf.{PssParamsOf}
@@ -13,7 +13,7 @@ abbrev pub pss_in : {O X : Type 0} → (O → List ℕ) → (X → TagAndContent
 pss_in octets any p =
     record {
       hash = algorithm_in octets any p.hash;
-      mask_gen = mask_in octets any p.mask_gen;
+      mask_gen = mask_gen_in octets any p.mask_gen;
       salt_len = p.salt_len;
       trailer_field = 1;
     }
@@ -28,7 +28,7 @@ pss_of = pss_with any_of
 
 -- that borrow from the input
 abbrev pub pss_viewed : PssParamsOf IdentifierView AnyRef → PssParameters
-pss_viewed = pss_in octets_of any_of
+pss_viewed = pss_in identifier_octets any_of
 
 -- No algorithm in them has parameters with octets.
 abbrev pub IsBarePss : PssParameters → Type 0

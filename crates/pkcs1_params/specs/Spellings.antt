@@ -1,7 +1,7 @@
 -- The encodings of a SEQUENCE of fields with defaults: one under each mask, and why one isn't written or listed.
 use Rattle.std.specs.Prelude.{ℕ, List, [], ◌∷◌, ◌++◌, ◌+◌, ◌≡◌, ◌<◌, ◌≤◌, ◌^◌, ◌⊎◌, ◌↔◌, length, map, Err}
 use Rattle.std.specs.Global.{Vec}
-use Rattle.der_core.specs.Words.{limit, Reading, context_tag}
+use Rattle.der_core.specs.Words.{limit, Reading, context_octet}
 use Rattle.der_core.specs.declared.error.ErrorKind.{ErrorKind}
 use Rattle.der_core.specs.declared.error.ErrorKind.TheVariants.{Noncanonical, OutOfMemory, Overflow}
 use Rattle.der_core.specs.declared.tag.Tag.{Tag}
@@ -69,7 +69,7 @@ NamesFirstDefault {V} Is fields strictly =
     Encoded Is fields v bytes →
     bytes ≡ sequence contents →
     FirstWritten (fields v) n contents →
-    tag.octet ≡ context_tag n →
+    tag.octet ≡ context_octet n →
     strictly bytes ≡ Err (Noncanonical tag)
 
 abbrev pub encodings_in : Vec (Vec ℕ) → List (List ℕ)

@@ -101,9 +101,9 @@ IsKnownOaep place hash mask_gen under source label =
     IsKnownPss hash mask_gen under × (source ≡ id_p_specified) × (length label < known_label place)
 
 -- Octets were written over a slice, and their length is told; or they are longer than it, and it stayed as it was.
-abbrev pub Puts : List ℕ → List ℕ → List ℕ → Result ℕ ℕ → Type 0
-Puts octets old new (Ok n) = (n ≡ length octets) × (new ≡ octets ++ drop n old)
-Puts octets old new (Err n) = (n ≡ length octets) × (length old < n) × (new ≡ old)
+abbrev pub PutsOrCounts : List ℕ → List ℕ → List ℕ → Result ℕ ℕ → Type 0
+PutsOrCounts octets old new (Ok n) = (n ≡ length octets) × (new ≡ octets ++ drop n old)
+PutsOrCounts octets old new (Err n) = (n ≡ length octets) × (length old < n) × (new ≡ old)
 
 -- A value's shortest encoding was written over a slice, and how long it is; or it is longer than the slice, which stayed
 -- as it was.

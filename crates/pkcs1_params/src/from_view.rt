@@ -1,6 +1,6 @@
 //! Parameters that were read as views, by what is to hold their identifiers.
 ghost use Rattle.std.specs.Prelude.{◌≡◌};
-ghost use Rattle.spki_core.specs.Words.{any_of, mask_of, viewed_with};
+ghost use Rattle.spki_core.specs.Words.{any_of, mask_gen_of, viewed_with};
 ghost use Rattle.pkcs1_params.specs.Words.{oaep_in, oaep_viewed, pss_in, pss_viewed};
 
 use crate::hash_fields::MaskGenOf;
@@ -57,7 +57,7 @@ impl<'a> ReadParams<'a> for ObjectIdentifier {
 fn mask_gen_from_view<'a>(
     mask_gen: MaskGenOf<IdentifierView<'a>, AnyRef<'a>>,
 ) -> MaskGenOf<ObjectIdentifier, AnyRef<'a>>
-    ensures { mask_of result ≡ viewed_with (viewed_with any_of) mask_gen.entry }
+    ensures { mask_gen_of result ≡ viewed_with (viewed_with any_of) mask_gen.entry }
 {
     AlgorithmIdentifier {
         oid: mask_gen.oid.to_object_identifier(),

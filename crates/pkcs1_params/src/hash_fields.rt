@@ -1,6 +1,6 @@
 //! hashAlgorithm and maskGenAlgorithm, which both sets of parameters begin with.
 ghost use Rattle.std.specs.Prelude.{Decides, ◌≡◌, bytes_eq};
-ghost use Rattle.spki_core.specs.Words.{null_value, algorithm_in, mask_in};
+ghost use Rattle.spki_core.specs.Words.{null_value, algorithm_in, mask_gen_in};
 ghost use Rattle.pkcs1_params.specs.Words.{AreSameMask, UsesHash, id_mgf1, id_sha1, pkcs1_algorithm, with_parameters};
 
 use crate::hash_functions::Mgf1;
@@ -35,7 +35,7 @@ pub(crate) fn mgf1_with<D: AssociatedOid, O: IdentifierValue, P: AnyParams<M>, M
     memory: M,
 ) -> MaskGenOf<O, P>
     ensures { let hash = with_parameters D.contents null_value in
-        mask_in O.octets P.any result ≡ with_parameters id_mgf1 hash }
+        mask_gen_in O.octets P.any result ≡ with_parameters id_mgf1 hash }
 {
     AlgorithmIdentifierOf {
         oid: O::named::<Mgf1>(),
@@ -86,7 +86,7 @@ pub(crate) fn uses_hash<D: AssociatedOid, O: IdentifierValue, P: AnyValue>(
     hash: &AlgorithmIdentifierOf<O, P>,
     mask_gen: &MaskGenOf<O, P>,
 ) -> bool
-    ensures { let mask_gen = mask_in O.octets P.any mask_gen.now in
+    ensures { let mask_gen = mask_gen_in O.octets P.any mask_gen.now in
         Decides result (UsesHash D.contents (algorithm_in O.octets P.any hash.now) mask_gen) }
 {
     match &mask_gen.parameters {
@@ -104,8 +104,8 @@ pub(crate) fn is_same_mask<O: IdentifierValue, P: AnyValue, Q: IdentifierValue, 
     a: &MaskGenOf<O, P>,
     b: &MaskGenOf<Q, R>,
 ) -> bool
-    ensures { let other = mask_in Q.octets R.any b.now in
-        Decides result (AreSameMask (mask_in O.octets P.any a.now) other) }
+    ensures { let other = mask_gen_in Q.octets R.any b.now in
+        Decides result (AreSameMask (mask_gen_in O.octets P.any a.now) other) }
 {
     let same_hash = match (&a.parameters, &b.parameters) {
         (Some(a), Some(b)) => a.is_same_hash(b),

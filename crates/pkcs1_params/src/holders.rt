@@ -1,6 +1,6 @@
 //! The algorithms in parameters, whatever holds their identifiers and parameters: how they are written.
 ghost use Rattle.std.specs.Prelude.{◌≡◌};
-ghost use Rattle.spki_core.specs.Words.{Algorithm, TagAndContents, algorithm_held, algorithm_in, algorithm_map, mask_in, same_mask, same_plain};
+ghost use Rattle.spki_core.specs.Words.{Algorithm, TagAndContents, algorithm_held, algorithm_in, algorithm_map, mask_gen_in, same_mask, same_plain};
 ghost use Rattle.spki_core.specs.Laws.HaveEncodings.{WritesAs, algorithm_writes};
 ghost use Rattle.standard.specs.Statement.{IsAlgorithm, IsAny, algorithm, any, empty_label, mgf1_sha1, sha1};
 
@@ -77,7 +77,7 @@ pub trait MaskHolder: Encode {
 
 impl<O: IdentifierValue, P: AnyValue> MaskHolder
     for AlgorithmIdentifierOf<O, AlgorithmIdentifierOf<O, P>> {
-    ghost mask = { mask_in O.octets P.any };
+    ghost mask = { mask_gen_in O.octets P.any };
 
     fn is_default(&self) -> bool {
         match &self.parameters {

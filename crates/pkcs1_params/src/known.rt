@@ -1,8 +1,8 @@
 //! Writing of parameters whose hash functions are known: SHA-1 and those of NIST, with NULL. Most are such, so they are
 //! written as octets that are known, without a test of their identifiers, and their length is known without writing.
 ghost use Rattle.std.specs.Prelude.{◌≡◌, ◌+◌, ◌<◌, ◌≤◌, ◌∷◌, ◌++◌, length, IfSome, None, Option, ℕ};
-ghost use Rattle.der_core.specs.Words.{Prepends, free_of, sequence_tag};
-ghost use Rattle.pkcs1_params.specs.Words.{AreKnown, InPlace, IsKnownHash, IsKnownOaep, IsKnownPss, Puts, WritesOrCounts, field_with_hash, hash_algorithm, known_fields, known_label, label_front, mask_field_with_hash, oaep_with_hashes, place_front, pss_with_hashes};
+ghost use Rattle.der_core.specs.Words.{Prepends, free_of, sequence_octet};
+ghost use Rattle.pkcs1_params.specs.Words.{AreKnown, InPlace, IsKnownHash, IsKnownOaep, IsKnownPss, PutsOrCounts, WritesOrCounts, field_with_hash, hash_algorithm, known_fields, known_label, label_front, mask_field_with_hash, oaep_with_hashes, place_front, pss_with_hashes};
 ghost use Rattle.standard.specs.Statement.{OaepEncoding, PssEncoding};
 
 use crate::hash_fields::{is_mgf1, is_sha1};
@@ -162,8 +162,8 @@ fn put(
 ) -> Written
     requires { length later.now + length last.now + length (place_front place 0) ≤ 80 }
     ensures { let contents = known_fields hash under ++ (later.now ++ last.now) in
-        let params = sequence_tag ∷ length contents ∷ contents in
-        Puts (place_front place (length params) ++ params) out.old out.new result }
+        let params = sequence_octet ∷ length contents ∷ contents in
+        PutsOrCounts (place_front place (length params) ++ params) out.old out.new result }
 {
     let count = fields_len(hash, under) + later.len() + last.len();
     let len = front_len(place) + 2 + count;

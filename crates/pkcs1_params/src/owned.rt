@@ -2,7 +2,7 @@
 ghost use Rattle.std.specs.Prelude.{◌≡◌, ◌≢◌, [], IfOk, IfErr};
 ghost use Rattle.der_core.specs.declared.error.ErrorKind.TheVariants.{OutOfMemory};
 ghost use Rattle.pkcs1_params.specs.Words.{IsBareOaep, IsBarePss, OwnedOaepAllocates, OwnedPssAllocates, oaep_of, oaep_with, pss_of, pss_with};
-ghost use Rattle.spki_core.specs.Words.{algorithm_with, algorithm_of, mask_of, any_of, own_any_of};
+ghost use Rattle.spki_core.specs.Words.{algorithm_with, algorithm_of, mask_gen_of, any_of, own_any_of};
 ghost use Rattle.standard.specs.Statement.{IfPresent, IsBare};
 
 use crate::hash_fields::{MaskGenOf, MaskGenRef};
@@ -49,8 +49,8 @@ fn copy_mask_gen(
     alloc: Global,
     mask_gen: MaskGenRef<'_>,
 ) -> Result<MaskGenOf<ObjectIdentifier, Any>>
-    ensures ok { IfOk result (λ copy. algorithm_with (algorithm_with own_any_of) copy ≡ mask_of mask_gen.entry) }
-    ensures err { let bare = IfPresent IsBare (mask_of mask_gen.entry).parameters in
+    ensures ok { IfOk result (λ copy. algorithm_with (algorithm_with own_any_of) copy ≡ mask_gen_of mask_gen.entry) }
+    ensures err { let bare = IfPresent IsBare (mask_gen_of mask_gen.entry).parameters in
         IfErr result (λ e. (e.kind ≡ OutOfMemory) × (bare → ⊥)) }
 {
     let parameters = match mask_gen.parameters {

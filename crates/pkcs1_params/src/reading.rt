@@ -1,6 +1,6 @@
 //! Reading of parameters: the octets that most have are known, and others are read field by field.
 ghost use Rattle.std.specs.Prelude.{◌≡◌, ℕ, List, IfSome, if◌then◌else◌};
-ghost use Rattle.der_core.specs.Words.{Answers, ok_of, sequence as sequence_kind, tagged, whole};
+ghost use Rattle.der_core.specs.Words.{Answers, ok_of, sequence_tag as sequence_kind, tagged, whole};
 ghost use Rattle.spki_core.specs.Words.{FieldRecord, any_as, any_of, record_read, record_strictly, strict_whole, record_whole};
 ghost use Rattle.pkcs1_params.specs.Words.{Encoded, ErrsAs};
 ghost use Rattle.standard.specs.Statement.{Decodes, Field, IsShortest};

@@ -1,8 +1,8 @@
 //! Spellings of parameters: a mask says which of their defaults are written.
 ghost use Rattle.std.specs.Prelude.{◌≡◌, ◌≤◌, ◌<◌, ⊤, List, length, IfErr, IfOk, option_map};
-ghost use Rattle.der_core.specs.Words.{alike, limit, ok_of, one_spelling};
+ghost use Rattle.der_core.specs.Words.{limit, ok_of, one_spelling_shortest, reading_alike};
 ghost use Rattle.der_core.specs.declared.error.ErrorKind.{ErrorKind};
-ghost use Rattle.spki_core.specs.Words.{AreSpelled, FieldRecord, are_defaults, first_default, number_in, record_fields, record_law, record_under, spelled, spelling_read};
+ghost use Rattle.spki_core.specs.Words.{AreSpelled, FieldRecord, are_defaults, first_default, record_fields, record_law, record_under, spelled, spelling_read, tag_number_in};
 ghost use Rattle.spki_core.specs.FieldSpellings as spellings;
 ghost use Rattle.pkcs1_params.specs.DefaultBits.{bits_of};
 ghost use Rattle.pkcs1_params.specs.Meanings.{Refuses};
@@ -47,7 +47,7 @@ pub trait EncodeParams: Copy + Drop {
     /// the encoding is known to be one of these parameters.
     fn written_default(self, bytes: &[u8]) -> Option<TagNumber>
         ensures { let defaults = are_defaults (record_fields form (params self)) in
-            option_map number_in result ≡ first_default defaults bytes.now };
+            option_map tag_number_in result ≡ first_default defaults bytes.now };
 
     /// Does nothing: its contract says that the parameters may be encoded.
     fn lemma_is_valid(self)
@@ -135,9 +135,9 @@ impl<T: EncodeParams> Contents for Spelling<T> {
 
     ghost law = { record_law T.form };
 
-    ghost shortest = { one_spelling (AreSpelled T.form.kinds) (spelled T.form.kinds) };
+    ghost shortest = { one_spelling_shortest (AreSpelled T.form.kinds) (spelled T.form.kinds) };
 
-    ghost reads_alike = { alike (spelling_read T.form.kinds) };
+    ghost reads_alike = { reading_alike (spelling_read T.form.kinds) };
 }
 
 impl<T: EncodeParams> TaggedBy for Spelling<T> {

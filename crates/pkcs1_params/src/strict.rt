@@ -1,6 +1,6 @@
 //! Strict reading: encodings in which a default is written are rejected.
 ghost use Rattle.std.specs.Prelude.{◌≡◌};
-ghost use Rattle.spki_core.specs.Words.{noncanonical, number_in, strict_whole};
+ghost use Rattle.spki_core.specs.Words.{noncanonical, strict_whole, tag_number_in};
 ghost use Rattle.pkcs1_params.specs.Words.{Encoded, ErrsAs, IsAsn1};
 
 use crate::error::{Error, Result};
@@ -9,7 +9,7 @@ use der_core::{ErrorKind, Tag, TagNumber};
 
 /// The error for a field that is written though it equals its default.
 fn is_written(number: TagNumber) -> Error
-    ensures { IsAsn1 (λ e. e.kind ≡ noncanonical (number_in number)) result }
+    ensures { IsAsn1 (λ e. e.kind ≡ noncanonical (tag_number_in number)) result }
 {
     let tag = Tag::context(number);
     Error::Asn1(der_core::Error::new(ErrorKind::Noncanonical { tag }))

@@ -1,6 +1,6 @@
 //! The trailer field of RSASSA-PSS.
 ghost use Rattle.std.specs.Prelude.{◌≡◌, ℕ, refl};
-ghost use Rattle.der_core.specs.Words.{alike, number_contents, one_spelling};
+ghost use Rattle.der_core.specs.Words.{number_contents, one_spelling_shortest, reading_alike};
 ghost use Rattle.pkcs1_params.specs.Words.{trailer_law, trailer_read};
 
 use der_core::{
@@ -46,9 +46,9 @@ impl Contents for TrailerField {
 
     ghost law = { trailer_law };
 
-    ghost shortest = { one_spelling (λ n. n ≡ 1) number_contents };
+    ghost shortest = { one_spelling_shortest (λ n. n ≡ 1) number_contents };
 
-    ghost reads_alike = { alike trailer_read };
+    ghost reads_alike = { reading_alike trailer_read };
 }
 
 impl TaggedBy for TrailerField {

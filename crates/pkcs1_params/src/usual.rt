@@ -1,8 +1,8 @@
 //! Parameters that begin with a SHA-2 or SHA-3 hash function with NULL, and MGF1 with the same hash function, or have a salt length
 //! alone. Most are such, so their octets are compared before they are read field by field.
 ghost use Rattle.std.specs.Prelude.{◌≡◌, ◌<◌, ◌∷◌, ◌&&◌, [], eqb, false, length, IfSome, IsTrue};
-ghost use Rattle.der_core.specs.Words.{sequence_tag};
-ghost use Rattle.spki_core.specs.Words.{any_of, mask_in, octets_of, viewed_with};
+ghost use Rattle.der_core.specs.Words.{sequence_octet};
+ghost use Rattle.spki_core.specs.Words.{any_of, identifier_octets, mask_gen_in, viewed_with};
 ghost use Rattle.pkcs1_params.specs.Words.{AreUsual, HaveUsualHash, IsUsualOaep, IsUsualPss, id_mgf1, oaep_viewed, fields_with_hash, hash_algorithm, pss_viewed, with_parameters};
 
 use crate::oaep::RsaOaepParamsView;
@@ -67,7 +67,7 @@ struct UsualAlgorithms<'a> {
 /// The algorithms in these octets of both fields, if the hash function is one of these.
 fn usual_algorithms(fields: &[u8]) -> Option<UsualAlgorithms<'_>>
     ensures hash { IfSome result (λ it. AreUsual (viewed_with any_of it.hash) fields.now) }
-    ensures mask_gen { IfSome result (λ it. mask_in octets_of any_of it.mask_gen
+    ensures mask_gen { IfSome result (λ it. mask_gen_in identifier_octets any_of it.mask_gen
         ≡ with_parameters id_mgf1 (viewed_with any_of it.hash)) }
 {
     if !have_usual_hash(fields) {
@@ -146,7 +146,7 @@ pub(crate) fn usual_oaep(contents: &[u8]) -> Option<RsaOaepParamsView<'_>>
 #[inline(always)]
 pub(crate) fn short_contents(bytes: &[u8]) -> Option<&[u8]>
     ensures { IfSome result (λ contents. (length contents.now < 128)
-        × (bytes.now ≡ sequence_tag ∷ length contents.now ∷ contents.now)) }
+        × (bytes.now ≡ sequence_octet ∷ length contents.now ∷ contents.now)) }
 {
     match bytes {
         [0x30, count, contents @ ..] if *count < 0x80 && usize::from(*count) == contents.len() => {

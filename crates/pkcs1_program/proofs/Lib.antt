@@ -1,5 +1,5 @@
 pub mod CutAtByte
 pub mod Runs
 pub mod OneAnswer
-pub mod PutBehind
+pub mod AppendedOutput
 pub mod Verdicts

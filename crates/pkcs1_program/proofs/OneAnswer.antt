@@ -3,14 +3,14 @@ use Rattle.std.proofs.Common.{◌≡◌, ℕ, ◌<◌, ◌≤◌, List, [], ◌+
 use Rattle.std.specs.Global.{Vec}
 use Rattle.std.proofs.lemmas.List.{length-map}
 use Rattle.std.proofs.lemmas.List.Folds.{flat_map-map}
-use Rattle.spki_core.proofs.Fielded.{counted}
+use Rattle.spki_core.proofs.RecordEncodings.{default_count_only}
 use Rattle.spki_core.specs.Words.{FieldRecord}
 use Rattle.pkcs1_params.proofs.Masks.{each_mask_has_one, record_delimited, same_by_shortest}
 use Rattle.standard.specs.Statement.{Decodes, Field, Fields, Lists, SequenceOf, limit, longest, IsShortest, PrivateKeyEncoding}
-use Rattle.pkcs1_program.specs.Words.{ListedEncoding, field, number_field, spell_answer, Asked, bad_line, asks, asks_pair, asked_by, Answered, Tells, TellsParameters, SaysWhether, TellsStrict, TellsSame, TellsSpellings, RsaContainerEncoding, TellsContainer, WordAnswer, PairAnswer, AnswerTo, Answer, Outputs, pub_answer, priv_answer, p8_answer, pss_answer, oaep_answer}
-use Rattle.pkcs1_program.proofs.PutBehind.{three}
+use Rattle.pkcs1_program.specs.Words.{ListedEncoding, hex_field, number_field, spell_answer, Asked, bad_line, asks, asks_pair, asked_by, Answered, Tells, TellsParameters, SaysWhether, TellsStrict, TellsSame, TellsSpellings, RsaContainerEncoding, TellsContainer, WordAnswer, PairAnswer, AnswerTo, Answer, Outputs, pub_answer, priv_answer, p8_answer, pss_answer, oaep_answer}
+use Rattle.pkcs1_program.proofs.AppendedOutput.{appended_three}
 use Rattle.std.proofs.Math.Path.{subst₂}
-use Rattle.der_core.specs.Words.{AtMostOne}
+use Rattle.der_core.specs.Words.{HasAtMostOne}
 use Rattle.pkcs1_params.specs.Words.{oaep_record, pss_record, AreDelimited}
 use Rattle.pkcs1.proofs.KeyReads.{private_delimited, public_delimited}
 use Rattle.pkcs8_core.proofs.ContainedKeys.{containers_delimited}
@@ -22,32 +22,32 @@ use Rattle.pkcs1_program.specs.declared.request.PairWord.TheVariants as pair
 -- the word, the number of encodings and each encoding are the answer
 pub spellings_put : (word old one two new : List ℕ) (encodings : List (Vec ℕ)) → one ≡ old ++ word
     → two ≡ one ++ number_field (codes " ") (length encodings)
-    → new ≡ two ++ flat_map (λ encoding. field (codes " ") encoding.items) encodings
+    → new ≡ two ++ flat_map (λ encoding. hex_field (codes " ") encoding.items) encodings
     → new ≡ old ++ spell_answer word (map (λ encoding. encoding.items) encodings)
 spellings_put word old one two new encodings a b c =
     rw (
-      flat_map-map (λ encoding. field (codes " ") encoding) (λ (encoding : Vec ℕ). encoding.items) encodings,
+      flat_map-map (λ encoding. hex_field (codes " ") encoding) (λ (encoding : Vec ℕ). encoding.items) encodings,
       length-map,
     )
-    (three old one two new word (number_field (codes " ") (length encodings))
-    (flat_map (λ (encoding : Vec ℕ). field (codes " ") encoding.items) encodings) a b c)
+    (appended_three old one two new word (number_field (codes " ") (length encodings))
+    (flat_map (λ (encoding : Vec ℕ). hex_field (codes " ") encoding.items) encodings) a b c)
 
 module _ {V : Type 0} (Is : V → Type 0) (fields : V → List Field) where
   -- a value whose longest encoding isn't within the limit
-  pub none_fits : (v : V) (encoding : List ℕ) → Decodes (SequenceOf Is fields Fields) encoding (Some v)
+  pub unlisted_decodes_none : (v : V) (encoding : List ℕ) → Decodes (SequenceOf Is fields Fields) encoding (Some v)
       → Lists Is fields v None
       → Decodes (ListedEncoding Is fields) encoding None
-  none_fits v encoding read none w p =
+  unlisted_decodes_none v encoding read none w p =
       let fits = subst (λ u. length (longest (fields u)) ≤ limit) (read.1 w p.0) p.1 in
       let past : limit < length (longest (fields v)) = none read.0.0 in
       omega (arith, fits, past)
 
 -- the list of all encodings is this one alone
-pub one_list : {V : Type 0} {Is : V → Type 0} {fields : V → List Field} → FieldRecord Is fields → (v : V)
+pub lists_one : {V : Type 0} {Is : V → Type 0} {fields : V → List Field} → FieldRecord Is fields → (v : V)
     (xs ys : List (List ℕ)) → Lists Is fields v (Some xs)
     → Lists Is fields v (Some ys) → xs ≡ ys
-one_list r v xs ys (k, d, p) (j, e, q) =
-    let same : k ≡ j = counted r v k d ∙ sym (counted r v j e) in
+lists_one r v xs ys (k, d, p) (j, e, q) =
+    let same : k ≡ j = default_count_only r v k d ∙ sym (default_count_only r v j e) in
     ext_get_or [] xs ys (p.count ∙ ap (λ n. 2 ^ n) same ∙ sym q.count)
     (λ i below.
     let first : i < 2 ^ k = omega (arith, below, p.count) in
@@ -62,8 +62,8 @@ IsOfOne {V} Encoding = (v w : V) (encoding : List ℕ) → Encoding v encoding �
 
 -- what is told of the one value is one
 answered_one : {V : Type 0} (Encoding : V → List ℕ → Type 0) (Told : V → List ℕ → Type 0) → IsOfOne Encoding
-    → ((value : V) → AtMostOne (Told value)) → (encoding : List ℕ)
-    → AtMostOne (Answered Encoding Told encoding)
+    → ((value : V) → HasAtMostOne (Told value)) → (encoding : List ℕ)
+    → HasAtMostOne (Answered Encoding Told encoding)
 answered_one Encoding Told one told encoding a b (inl p) (inl q) = p.1 ∙ sym q.1
 answered_one Encoding Told one told encoding a b (inl p) (inr q) = absurd (p.0 q.0 q.1)
 answered_one Encoding Told one told encoding a b (inr p) (inl q) = absurd (q.0 p.0 p.1)
@@ -71,7 +71,7 @@ answered_one Encoding Told one told encoding a b (inr p) (inr q) =
     let value : p.0 ≡ q.0 = one p.0 q.0 encoding p.1 q.1 in
     told q.0 a b (subst (λ v. Told v a) value p.2) q.2
 
-says_one : (word : List ℕ) (fact : Type 0) → AtMostOne (SaysWhether word fact)
+says_one : (word : List ℕ) (fact : Type 0) → HasAtMostOne (SaysWhether word fact)
 says_one word fact a b (inl p) (inl q) = p.1 ∙ sym q.1
 says_one word fact a b (inl p) (inr q) = absurd (q.0 p.0)
 says_one word fact a b (inr p) (inl q) = absurd (p.0 q.0)
@@ -82,51 +82,51 @@ module _ {V : Type 0} {Encoding : V → List ℕ → Type 0} (delimited : AreDel
   means_one v w encoding p q =
       (delimited.1 v w encoding [] p (subst (Encoding w) (sym (append-nil encoding)) q)).0
 
-  shortest_one : (v : V) → AtMostOne (IsShortest Encoding v)
+  shortest_one : (v : V) → HasAtMostOne (IsShortest Encoding v)
   shortest_one v s t p q = (same_by_shortest Encoding delimited v v s s s t p.0 p.0 p q).0 refl
 
-  tells_one : (told : V → List ℕ → List ℕ) (encoding : List ℕ) → AtMostOne (Tells Encoding told encoding)
+  tells_one : (told : V → List ℕ → List ℕ) (encoding : List ℕ) → HasAtMostOne (Tells Encoding told encoding)
   tells_one told encoding =
       answered_one Encoding _ means_one
       (λ value a b p q. p.2 ∙ ap (told value) (shortest_one value p.0 q.0 p.1 q.1) ∙ sym q.2) encoding
 
-  tells_strict_one : (word encoding : List ℕ) → AtMostOne (TellsStrict word Encoding encoding)
+  tells_strict_one : (word encoding : List ℕ) → HasAtMostOne (TellsStrict word Encoding encoding)
   tells_strict_one word encoding =
       answered_one Encoding _ means_one (λ value. says_one word (IsShortest Encoding value encoding)) encoding
 
   -- no value has one of two encodings, and some value has each
-  not_both : (a b : List ℕ) (v w : V) → Decodes Encoding a None ⊎ Decodes Encoding b None → Encoding v a
+  undecoded_not_both : (a b : List ℕ) (v w : V) → Decodes Encoding a None ⊎ Decodes Encoding b None → Encoding v a
       → Encoding w b → ⊥
-  not_both a b v w (inl none) p q = none v p
-  not_both a b v w (inr none) p q = none w q
+  undecoded_not_both a b v w (inl none) p q = none v p
+  undecoded_not_both a b v w (inr none) p q = none w q
 
-  tells_same_one : (word first second : List ℕ) → AtMostOne (TellsSame word Encoding first second)
+  tells_same_one : (word first second : List ℕ) → HasAtMostOne (TellsSame word Encoding first second)
   tells_same_one word first second a b (inl p) (inl q) = p.1 ∙ sym q.1
-  tells_same_one word first second a b (inl p) (inr q) = absurd (not_both first second q.0 q.1 p.0 q.2 q.3)
-  tells_same_one word first second a b (inr p) (inl q) = absurd (not_both first second p.0 p.1 q.0 p.2 p.3)
+  tells_same_one word first second a b (inl p) (inr q) = absurd (undecoded_not_both first second q.0 q.1 p.0 q.2 q.3)
+  tells_same_one word first second a b (inr p) (inl q) = absurd (undecoded_not_both first second p.0 p.1 q.0 p.2 p.3)
   tells_same_one word first second a b (inr p) (inr q) =
       let v = means_one p.0 q.0 first p.2 q.2 in
       let w = means_one p.1 q.1 second p.3 q.3 in
       says_one word (q.0 ≡ q.1) a b (subst₂ (λ x y. SaysWhether word (x ≡ y) a) v w p.4) q.4
 
 module _ {V : Type 0} {Is : V → Type 0} {fields : V → List Field} (r : FieldRecord Is fields) where
-  abbrev Encoding : V → List ℕ → Type 0
-  Encoding = SequenceOf Is fields Fields
+  abbrev FieldsEncoding : V → List ℕ → Type 0
+  FieldsEncoding = SequenceOf Is fields Fields
 
   tells_parameters_one : (told : V → ℕ → List ℕ → List ℕ) (encoding : List ℕ)
-      → AtMostOne (TellsParameters Encoding fields told encoding)
+      → HasAtMostOne (TellsParameters FieldsEncoding fields told encoding)
   tells_parameters_one told encoding =
-      answered_one Encoding _ (means_one (record_delimited r))
+      answered_one FieldsEncoding _ (means_one (record_delimited r))
       (λ value a b p q.
-      let defaults : p.0 ≡ q.0 = counted r value p.0 p.1 ∙ sym (counted r value q.0 q.1) in
+      let defaults : p.0 ≡ q.0 = default_count_only r value p.0 p.1 ∙ sym (default_count_only r value q.0 q.1) in
       let again : p.2 ≡ q.2 = shortest_one (record_delimited r) value p.2 q.2 p.3 q.3 in
       p.4 ∙ (λ i. told value (defaults i) (again i)) ∙ sym q.4)
       encoding
 
-  tells_spellings_one : (word encoding : List ℕ) → AtMostOne (TellsSpellings word Is fields encoding)
+  tells_spellings_one : (word encoding : List ℕ) → HasAtMostOne (TellsSpellings word Is fields encoding)
   tells_spellings_one word encoding =
       answered_one (ListedEncoding Is fields) _ (λ v w t p q. means_one (record_delimited r) v w t p.0 q.0)
-      (λ value a b p q. p.2 ∙ ap (spell_answer word) (one_list r value p.0 q.0 p.1 q.1) ∙ sym q.2) encoding
+      (λ value a b p q. p.2 ∙ ap (spell_answer word) (lists_one r value p.0 q.0 p.1 q.1) ∙ sym q.2) encoding
 
 container_means_one : IsOfOne RsaContainerEncoding
 container_means_one v w encoding p q =
@@ -136,12 +136,12 @@ container_means_one v w encoding p q =
     let key : v.key ≡ w.key = means_one private_delimited v.key w.key w.info.private_key same q.1.1 in
     λ i. record { info = info i; key = key i }
 
-tells_container_one : (encoding : List ℕ) → AtMostOne (TellsContainer encoding)
+tells_container_one : (encoding : List ℕ) → HasAtMostOne (TellsContainer encoding)
 tells_container_one encoding =
     answered_one RsaContainerEncoding (λ held a. a ≡ p8_answer held.key held.info.attributes encoding)
     container_means_one (λ held a b p q. p ∙ sym q) encoding
 
-word_answer_one : (asked : Word) (encoding : List ℕ) → AtMostOne (WordAnswer asked encoding)
+word_answer_one : (asked : Word) (encoding : List ℕ) → HasAtMostOne (WordAnswer asked encoding)
 word_answer_one word.Pub encoding = tells_one public_delimited pub_answer encoding
 word_answer_one word.Priv encoding = tells_one private_delimited priv_answer encoding
 word_answer_one word.Pss encoding = tells_parameters_one pss_record pss_answer encoding
@@ -154,21 +154,21 @@ word_answer_one word.StrictPss encoding =
 word_answer_one word.StrictOaep encoding =
     tells_strict_one (record_delimited oaep_record) (codes "strict-oaep") encoding
 
-pair_answer_one : (asked : PairWord) (first second : List ℕ) → AtMostOne (PairAnswer asked first second)
+pair_answer_one : (asked : PairWord) (first second : List ℕ) → HasAtMostOne (PairAnswer asked first second)
 pair_answer_one pair.SamePss first second =
     tells_same_one (record_delimited pss_record) (codes "same-pss") first second
 pair_answer_one pair.SameOaep first second =
     tells_same_one (record_delimited oaep_record) (codes "same-oaep") first second
 
-answer_to_one : (asked : Asked) → AtMostOne (AnswerTo asked)
+answer_to_one : (asked : Asked) → HasAtMostOne (AnswerTo asked)
 answer_to_one bad_line a b p q = p ∙ sym q
 answer_to_one (asks word encoding) a b p q = word_answer_one word encoding a b p q
 answer_to_one (asks_pair word first second) a b p q = pair_answer_one word first second a b p q
 
-pub answers_at_most_one : (line : List ℕ) → AtMostOne (Answer line)
+pub answers_at_most_one : (line : List ℕ) → HasAtMostOne (Answer line)
 answers_at_most_one line a b p q = answer_to_one (asked_by line) a b p q
 
-pub output_at_most_one : (lines : List (List ℕ)) → AtMostOne (Outputs lines)
+pub output_at_most_one : (lines : List (List ℕ)) → HasAtMostOne (Outputs lines)
 output_at_most_one [] a b p q = p ∙ sym q
 output_at_most_one (line ∷ lines) a b p q =
     let answer : p.0 ≡ q.0 = answers_at_most_one line p.0 q.0 p.2 q.2 in

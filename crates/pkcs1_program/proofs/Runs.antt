@@ -4,8 +4,8 @@ use Rattle.std.specs.Io.KnownBytes.{Appends}
 use Rattle.std.proofs.KnownBytes.{Appends-nil, Appends-trans}
 use Rattle.std.proofs.Math.Seq.{take-append-add}
 use Rattle.std.proofs.lemmas.List.{take-append-le, take_min}
-use Rattle.der_core.specs.Words.{AppendsFront, AtMostOne}
-use Rattle.pkcs1_program.specs.Words.{Answer, Outputs, Makes, WritesFront, WritesFrontOfAll, parts_of, bad_line, words, pair_words, named, decoded, encoding_of, asked_with, pair_asked_with, asked_by, asked_by_parts}
+use Rattle.der_core.specs.Words.{AppendsFront, HasAtMostOne}
+use Rattle.pkcs1_program.specs.Words.{Answer, Outputs, Makes, WritesFront, WritesFrontOfAll, parts_of, bad_line, words, pair_words, named, decoded, encoding_in_hex, asked_with, pair_asked_with, asked_by, asked_by_parts}
 use Rattle.std.proofs.lemmas.Bool.{false_from_ne_true}
 use Rattle.std.specs.List.{join_with_byte}
 use Rattle.std.proofs.lemmas.List.Splits.{slice_split_none, join_with_byte-slice_split}
@@ -72,7 +72,7 @@ take-front : (n : ℕ) (xs ys : List ℕ) → take (min n (length xs)) (xs ++ ys
 take-front n xs ys = take-append-le (min n (length xs)) xs ys (omega arith) ∙ take_min n xs
 
 -- what is a beginning of the answers of some first lines is one of whatever answers all of the lines
-pub WritesFront-all : ((lines : List (List ℕ)) → AtMostOne (Outputs lines))
+pub WritesFront-all : ((lines : List (List ℕ)) → HasAtMostOne (Outputs lines))
     → (old new : Option (List ℕ)) (lines : List (List ℕ)) → WritesFront old new lines → WritesFrontOfAll old new lines
 WritesFront-all one old new lines written all answers =
     let n = written.5.0 in
@@ -85,32 +85,33 @@ WritesFront-all one old new lines written all answers =
 -- What a line asks for.
 
 -- a space is no digit
-not_space : (b : ℕ) → is_hex_digit b ≡ true → (b == 32) ≡ false
-not_space b digit =
+hex_digit_not_space : (b : ℕ) → is_hex_digit b ≡ true → (b == 32) ≡ false
+hex_digit_not_space b digit =
     false_from_ne_true (b == 32)
     (λ e. let no : false ≡ true = subst (λ x. is_hex_digit x ≡ true) (eqb-true b 32 e) digit in cc)
 
 -- what stands for an encoding has no space, so what has one stands for no encoding
 hex_one_part : (hex bytes : List ℕ) → decode_of hex ≡ Ok bytes → parts_of hex ≡ hex ∷ []
 hex_one_part hex bytes ok =
-    slice_split_none (λ byte. byte == 32) hex (λ k d below. not_space _ ((decode_of-ok hex bytes ok).1 k d below))
+    slice_split_none (λ byte. byte == 32) hex
+    (λ k d below. hex_digit_not_space _ ((decode_of-ok hex bytes ok).1 k d below))
 
-no_encoding_at : (r : Result (List ℕ) FromHexError) (hex a b : List ℕ) (more : List (List ℕ)) → decode_of hex ≡ r
+parts_not_decoded : (r : Result (List ℕ) FromHexError) (hex a b : List ℕ) (more : List (List ℕ)) → decode_of hex ≡ r
     → parts_of hex ≡ a ∷ b ∷ more → decoded r ≡ None
-no_encoding_at (Ok bytes) hex a b more ok cut =
+parts_not_decoded (Ok bytes) hex a b more ok cut =
     let lengths : length (hex ∷ []) ≡ length (a ∷ b ∷ more) = ap length (sym (hex_one_part hex bytes ok) ∙ cut) in
     absurd (omega (arith, lengths))
-no_encoding_at (Err failure) hex a b more e cut = refl
+parts_not_decoded (Err failure) hex a b more e cut = refl
 
-no_encoding : (hex a b : List ℕ) (more : List (List ℕ)) → parts_of hex ≡ a ∷ b ∷ more → encoding_of hex ≡ None
-no_encoding hex a b more cut = no_encoding_at (decode_of hex) hex a b more refl cut
+parts_no_encoding : (hex a b : List ℕ) (more : List (List ℕ)) → parts_of hex ≡ a ∷ b ∷ more → encoding_in_hex hex ≡ None
+parts_no_encoding hex a b more cut = parts_not_decoded (decode_of hex) hex a b more refl cut
 
 -- the only part is the whole
 one_part : (line part : List ℕ) → parts_of line ≡ part ∷ [] → part ≡ line
 one_part line part cut = sym (ap (join_with_byte 32) cut) ∙ join_with_byte-slice_split 32 line
 
-no_parts : (line : List ℕ) → parts_of line ≡ [] → ⊥
-no_parts line cut =
+parts_not_none : (line : List ℕ) → parts_of line ≡ [] → ⊥
+parts_not_none line cut =
     let some = parts_of-some line in
     let none : length (parts_of line) ≡ 0 = ap length cut in
     omega (arith, some, none)
@@ -129,41 +130,43 @@ no_pair_word word w is =
     rw (another_name (codes "same-pss") word w refl is, another_name (codes "same-oaep") word w refl is)
 
 -- What follows a word of one encoding is that encoding, or the line is bad.
-one_encoding : (word rest : List ℕ) (w : Word) (parts : List (List ℕ)) → parts_of rest ≡ parts
+one_encoding_asked : (word rest : List ℕ) (w : Word) (parts : List (List ℕ)) → parts_of rest ≡ parts
     → named words word ≡ Some w
-    → asked_by_parts (word ∷ parts) ≡ asked_with (Some w) (encoding_of rest)
-one_encoding word rest w [] cut is = absurd (no_parts rest cut)
-one_encoding word rest w (hex ∷ []) cut is =
-    ap (λ n. asked_with n (encoding_of hex)) is ∙ ap (λ h. asked_with (Some w) (encoding_of h)) (one_part rest hex cut)
-one_encoding word rest w (hex ∷ second ∷ []) cut is =
-    ap (λ n. pair_asked_with n (encoding_of hex) (encoding_of second)) (no_pair_word word w is)
-    ∙ sym (ap (λ t. asked_with (Some w) t) (no_encoding rest hex second [] cut))
-one_encoding word rest w (hex ∷ second ∷ more ∷ parts) cut is =
-    sym (ap (λ t. asked_with (Some w) t) (no_encoding rest hex second (more ∷ parts) cut))
+    → asked_by_parts (word ∷ parts) ≡ asked_with (Some w) (encoding_in_hex rest)
+one_encoding_asked word rest w [] cut is = absurd (parts_not_none rest cut)
+one_encoding_asked word rest w (hex ∷ []) cut is =
+    ap (λ n. asked_with n (encoding_in_hex hex)) is
+    ∙ ap (λ h. asked_with (Some w) (encoding_in_hex h)) (one_part rest hex cut)
+one_encoding_asked word rest w (hex ∷ second ∷ []) cut is =
+    ap (λ n. pair_asked_with n (encoding_in_hex hex) (encoding_in_hex second)) (no_pair_word word w is)
+    ∙ sym (ap (λ t. asked_with (Some w) t) (parts_no_encoding rest hex second [] cut))
+one_encoding_asked word rest w (hex ∷ second ∷ more ∷ parts) cut is =
+    sym (ap (λ t. asked_with (Some w) t) (parts_no_encoding rest hex second (more ∷ parts) cut))
 
 pub asks_one : (line word rest : List ℕ) (w : Word) → parts_of line ≡ word ∷ parts_of rest → named words word ≡ Some w
-    → asked_by line ≡ asked_with (Some w) (encoding_of rest)
-asks_one line word rest w cut is = ap asked_by_parts cut ∙ one_encoding word rest w (parts_of rest) refl is
+    → asked_by line ≡ asked_with (Some w) (encoding_in_hex rest)
+asks_one line word rest w cut is = ap asked_by_parts cut ∙ one_encoding_asked word rest w (parts_of rest) refl is
 
 -- What follows the first part of a word of two encodings is the second encoding, or the line is bad.
-no_second : (w : PairWord) (first : Option (List ℕ)) → pair_asked_with (Some w) first None ≡ bad_line
-no_second w (Some first) = refl
-no_second w None = refl
+second_missing : (w : PairWord) (first : Option (List ℕ)) → pair_asked_with (Some w) first None ≡ bad_line
+second_missing w (Some first) = refl
+second_missing w None = refl
 
-two_encodings : (word first rest : List ℕ) (w : PairWord) (parts : List (List ℕ)) → parts_of rest ≡ parts
+two_encodings_asked : (word first rest : List ℕ) (w : PairWord) (parts : List (List ℕ)) → parts_of rest ≡ parts
     → named pair_words word ≡ Some w
-    → asked_by_parts (word ∷ first ∷ parts) ≡ pair_asked_with (Some w) (encoding_of first) (encoding_of rest)
-two_encodings word first rest w [] cut is = absurd (no_parts rest cut)
-two_encodings word first rest w (second ∷ []) cut is =
-    ap (λ n. pair_asked_with n (encoding_of first) (encoding_of second)) is
-    ∙ ap (λ s. pair_asked_with (Some w) (encoding_of first) (encoding_of s)) (one_part rest second cut)
-two_encodings word first rest w (second ∷ more ∷ parts) cut is =
-    sym (ap (λ t. pair_asked_with (Some w) (encoding_of first) t) (no_encoding rest second more parts cut)
-    ∙ no_second w (encoding_of first))
+    → asked_by_parts (word ∷ first ∷ parts) ≡ pair_asked_with (Some w) (encoding_in_hex first) (encoding_in_hex rest)
+two_encodings_asked word first rest w [] cut is = absurd (parts_not_none rest cut)
+two_encodings_asked word first rest w (second ∷ []) cut is =
+    ap (λ n. pair_asked_with n (encoding_in_hex first) (encoding_in_hex second)) is
+    ∙ ap (λ s. pair_asked_with (Some w) (encoding_in_hex first) (encoding_in_hex s)) (one_part rest second cut)
+two_encodings_asked word first rest w (second ∷ more ∷ parts) cut is =
+    sym (ap (λ t. pair_asked_with (Some w) (encoding_in_hex first) t) (parts_no_encoding rest second more parts cut)
+    ∙ second_missing w (encoding_in_hex first))
 
 pub asks_two : (line word rest first second : List ℕ) (w : PairWord) → parts_of line ≡ word ∷ parts_of rest
     → parts_of rest ≡ first ∷ parts_of second
-    → named pair_words word ≡ Some w → asked_by line ≡ pair_asked_with (Some w) (encoding_of first) (encoding_of second)
+    → named pair_words word ≡ Some w
+    → asked_by line ≡ pair_asked_with (Some w) (encoding_in_hex first) (encoding_in_hex second)
 asks_two line word rest first second w cut cut2 is =
     ap asked_by_parts (cut ∙ ap (λ parts. word ∷ parts) cut2)
-    ∙ two_encodings word first second w (parts_of second) refl is
+    ∙ two_encodings_asked word first second w (parts_of second) refl is

@@ -6,13 +6,13 @@ use Rattle.pkcs1_params.specs.Words.{IsEncoded}
 use Rattle.standard.specs.Statement.{Decodes, IsShortest}
 use Rattle.pkcs1_program.specs.Words.{SaysWhether}
 
-abbrev pub said : List ℕ → Bool → List ℕ
-said word holds = word ++ (if holds then codes " yes" else codes " no")
+abbrev pub verdict_of : List ℕ → Bool → List ℕ
+verdict_of word holds = word ++ (if holds then codes " yes" else codes " no")
 
-pub says : (word : List ℕ) (holds : Bool) (fact : Type 0) → IsTrue holds ↔ fact
-    → SaysWhether word fact (said word holds)
-says word true fact is = inl (is.0 refl, refl)
-says word false fact is = inr ((λ so. let no : false ≡ true = is.1 so in cc), refl)
+pub verdict_says : (word : List ℕ) (holds : Bool) (fact : Type 0) → IsTrue holds ↔ fact
+    → SaysWhether word fact (verdict_of word holds)
+verdict_says word true fact is = inl (is.0 refl, refl)
+verdict_says word false fact is = inr ((λ so. let no : false ≡ true = is.1 so in cc), refl)
 
 module _ {V : Type 0} (Encoding : V → List ℕ → Type 0) (bytes : List ℕ) where
   -- whether the encoding of a value is the shortest one of some value, or of this one
@@ -44,7 +44,7 @@ pub is_written : {S V : Type 0} (valid : S → Type 0) (printed : S → List ℕ
 is_written valid printed means Has v room encoding no_encoding spells fits none = none encoding spells.1
 is_written valid printed means Has v room encoding too_long spells fits none = none.1 encoding spells
 is_written valid printed means Has v room encoding no_room spells fits (shortest, is, less) =
-    elim (is.least encoding spells) [
+    elim (is.1 encoding spells) [
       | inl same ↦ omega (arith, less, fits, ap length same)
       | inr longer ↦ omega (arith, less, fits, longer)
     ]

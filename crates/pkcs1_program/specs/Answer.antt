@@ -10,28 +10,28 @@ use Rattle.pkcs1_program.specs.declared.request.PairWord.TheVariants as pair
 use Rattle.pkcs1_program.specs.Request.{Asked, asked_by, asks, asks_pair, bad_line, lines_of}
 
 -- a label, and bytes in hexadecimal digits
-abbrev pub field : List ℕ → List ℕ → List ℕ
-field label bytes = label ++ encode_lower bytes
+abbrev pub hex_field : List ℕ → List ℕ → List ℕ
+hex_field label bytes = label ++ encode_lower bytes
 
 -- a label, and the octets of a number in hexadecimal digits
-abbrev pub numbers : List (List ℕ × ℕ) → List ℕ
-numbers told = flat_map (λ n. field n.0 (octets n.1)) told
+abbrev pub number_fields : List (List ℕ × ℕ) → List ℕ
+number_fields told = flat_map (λ n. hex_field n.0 (octets n.1)) told
 
 -- `pub n=N e=E again=HEX`
 abbrev pub pub_answer : PublicKey → List ℕ → List ℕ
 pub_answer key again =
-    codes "pub" ++ (numbers ((codes " n=", key.modulus) ∷ (codes " e=", key.public_exponent) ∷ [])
-    ++ field (codes " again=") again)
+    codes "pub" ++ (number_fields ((codes " n=", key.modulus) ∷ (codes " e=", key.public_exponent) ∷ [])
+    ++ hex_field (codes " again=") again)
 
 -- the version is 1 if there are other primes
-abbrev pub version_told : Option (List OtherPrime) → List ℕ
-version_told None = codes " version=0"
-version_told (Some others) = codes " version=1"
+abbrev pub version_field : Option (List OtherPrime) → List ℕ
+version_field None = codes " version=0"
+version_field (Some others) = codes " version=1"
 
 -- ` n=N e=E d=D p=P q=Q dp=DP dq=DQ qi=QI`
-abbrev pub numbers_told : PrivateKey → List ℕ
-numbers_told key =
-    numbers
+abbrev pub key_number_fields : PrivateKey → List ℕ
+key_number_fields key =
+    number_fields
     ((codes " n=", key.modulus)
     ∷ (codes " e=", key.public_exponent)
     ∷ (codes " d=", key.private_exponent)
@@ -43,91 +43,92 @@ numbers_told key =
     ∷ [])
 
 -- ` other=R,D,T`
-abbrev pub other_told : OtherPrime → List ℕ
-other_told other =
-    numbers ((codes " other=", other.prime) ∷ (codes ",", other.exponent) ∷ (codes ",", other.coefficient) ∷ [])
+abbrev pub other_prime_field : OtherPrime → List ℕ
+other_prime_field other =
+    number_fields ((codes " other=", other.prime) ∷ (codes ",", other.exponent) ∷ (codes ",", other.coefficient) ∷ [])
 
 -- each other prime, in order
-abbrev pub others_told : Option (List OtherPrime) → List ℕ
-others_told None = []
-others_told (Some others) = flat_map other_told others
+abbrev pub other_prime_fields : Option (List OtherPrime) → List ℕ
+other_prime_fields None = []
+other_prime_fields (Some others) = flat_map other_prime_field others
 
 -- ` version=V n=N e=E d=D p=P q=Q dp=DP dq=DQ qi=QI`, and ` other=R,D,T` for each other prime
-abbrev pub key_told : PrivateKey → List ℕ
-key_told key = version_told key.other_primes ++ (numbers_told key ++ others_told key.other_primes)
+abbrev pub key_fields : PrivateKey → List ℕ
+key_fields key = version_field key.other_primes ++ (key_number_fields key ++ other_prime_fields key.other_primes)
 
 -- `priv version=V n=N e=E d=D p=P q=Q dp=DP dq=DQ qi=QI`, ` other=R,D,T` for each other prime, and ` again=HEX`
 abbrev pub priv_answer : PrivateKey → List ℕ → List ℕ
-priv_answer key again = codes "priv" ++ (key_told key ++ field (codes " again=") again)
+priv_answer key again = codes "priv" ++ (key_fields key ++ hex_field (codes " again=") again)
 
 -- ` attributes=-`, or ` attributes=` and their contents
-abbrev pub attributes_told : Option (List ℕ) → List ℕ
-attributes_told None = codes " attributes=-"
-attributes_told (Some contents) = field (codes " attributes=") contents
+abbrev pub attributes_field : Option (List ℕ) → List ℕ
+attributes_field None = codes " attributes=-"
+attributes_field (Some contents) = hex_field (codes " attributes=") contents
 
 -- as `priv`, with the word `p8`, and with the attributes before ` again=HEX`
 abbrev pub p8_answer : PrivateKey → Option (List ℕ) → List ℕ → List ℕ
 p8_answer key attributes again =
-    codes "p8" ++ (key_told key ++ (attributes_told attributes ++ field (codes " again=") again))
+    codes "p8" ++ (key_fields key ++ (attributes_field attributes ++ hex_field (codes " again=") again))
 
 -- a label, and a number in decimal digits
 abbrev pub number_field : List ℕ → ℕ → List ℕ
 number_field label number = label ++ decimal number
 
 -- a tag in two hexadecimal digits, `:`, and the contents in hexadecimal digits
-abbrev pub any_told : TagAndContents → List ℕ
-any_told any = encode_lower (any.tag ∷ []) ++ field (codes ":") any.contents
+abbrev pub any_digits : TagAndContents → List ℕ
+any_digits any = encode_lower (any.tag ∷ []) ++ hex_field (codes ":") any.contents
 
 -- `-` if parameters are absent, else what `told` says of them
-abbrev pub parameters_told : {P : Type 0} → (P → List ℕ) → Option P → List ℕ
-parameters_told told None = codes "-"
-parameters_told told (Some parameters) = told parameters
+abbrev pub parameters_digits : {P : Type 0} → (P → List ℕ) → Option P → List ℕ
+parameters_digits told None = codes "-"
+parameters_digits told (Some parameters) = told parameters
 
 -- the contents of an identifier in hexadecimal digits, and `/`
-abbrev pub identifier_told : List ℕ → List ℕ
-identifier_told oid = encode_lower oid ++ codes "/"
+abbrev pub identifier_digits : List ℕ → List ℕ
+identifier_digits oid = encode_lower oid ++ codes "/"
 
-abbrev pub algorithm_told : {P : Type 0} → (P → List ℕ) → Algorithm P → List ℕ
-algorithm_told told algorithm = identifier_told algorithm.oid ++ parameters_told told algorithm.parameters
+abbrev pub algorithm_digits : {P : Type 0} → (P → List ℕ) → Algorithm P → List ℕ
+algorithm_digits told algorithm = identifier_digits algorithm.oid ++ parameters_digits told algorithm.parameters
 
 -- ALG: an algorithm with parameters of any type
-abbrev pub plain_told : Algorithm TagAndContents → List ℕ
-plain_told algorithm = algorithm_told any_told algorithm
+abbrev pub plain_digits : Algorithm TagAndContents → List ℕ
+plain_digits algorithm = algorithm_digits any_digits algorithm
 
 -- `[` ALG `]`
-abbrev pub bracketed : Algorithm TagAndContents → List ℕ
-bracketed algorithm = codes "[" ++ (plain_told algorithm ++ codes "]")
+abbrev pub bracketed_digits : Algorithm TagAndContents → List ℕ
+bracketed_digits algorithm = codes "[" ++ (plain_digits algorithm ++ codes "]")
 
 -- MASK: an algorithm whose parameters are one
-abbrev pub mask_told : Algorithm (Algorithm TagAndContents) → List ℕ
-mask_told mask_gen = algorithm_told bracketed mask_gen
+abbrev pub mask_digits : Algorithm (Algorithm TagAndContents) → List ℕ
+mask_digits mask_gen = algorithm_digits bracketed_digits mask_gen
 
 -- ` hash=ALG mask=MASK`
-abbrev pub hash_fields_told : Algorithm TagAndContents → Algorithm (Algorithm TagAndContents) → List ℕ
-hash_fields_told hash mask_gen = codes " hash=" ++ (plain_told hash ++ (codes " mask=" ++ mask_told mask_gen))
+abbrev pub hash_and_mask_fields : Algorithm TagAndContents → Algorithm (Algorithm TagAndContents) → List ℕ
+hash_and_mask_fields hash mask_gen = codes " hash=" ++ (plain_digits hash ++ (codes " mask=" ++ mask_digits mask_gen))
 
 -- ` defaults=K again=HEX`
-abbrev pub spelling_told : ℕ → List ℕ → List ℕ
-spelling_told k again = number_field (codes " defaults=") k ++ field (codes " again=") again
+abbrev pub spelling_fields : ℕ → List ℕ → List ℕ
+spelling_fields k again = number_field (codes " defaults=") k ++ hex_field (codes " again=") again
 
 -- `pss hash=ALG mask=MASK salt=S trailer=T defaults=K again=HEX`; T is 1 for all parameters that have an encoding
 abbrev pub pss_answer : PssParameters → ℕ → List ℕ → List ℕ
 pss_answer p k again =
     codes "pss"
-    ++ (hash_fields_told p.hash p.mask_gen
+    ++ (hash_and_mask_fields p.hash p.mask_gen
     ++ (number_field (codes " salt=") p.salt_len
-    ++ (number_field (codes " trailer=") p.trailer_field ++ spelling_told k again)))
+    ++ (number_field (codes " trailer=") p.trailer_field ++ spelling_fields k again)))
 
 -- the word, the number of encodings, and each of them
 abbrev pub spell_answer : List ℕ → List (List ℕ) → List ℕ
 spell_answer word encodings =
-    word ++ (number_field (codes " ") (length encodings) ++ flat_map (λ encoding. field (codes " ") encoding) encodings)
+    word ++ (number_field (codes " ") (length encodings)
+    ++ flat_map (λ encoding. hex_field (codes " ") encoding) encodings)
 
 -- `oaep hash=ALG mask=MASK source=ALG defaults=K again=HEX`
 abbrev pub oaep_answer : OaepParameters → ℕ → List ℕ → List ℕ
 oaep_answer p k again =
-    codes "oaep" ++ (hash_fields_told p.hash p.mask_gen
-    ++ (codes " source=" ++ (plain_told p.p_source ++ spelling_told k again)))
+    codes "oaep" ++ (hash_and_mask_fields p.hash p.mask_gen
+    ++ (codes " source=" ++ (plain_digits p.p_source ++ spelling_fields k again)))
 
 -- If no value has the encoding, the output is `refused`; else it is what `Told` says of the value.
 abbrev pub Answered : {V : Type 0} → (V → List ℕ → Type 0) → (V → List ℕ → Type 0) → List ℕ → List ℕ → Type 0

@@ -30,11 +30,11 @@ planned_by (a ∷ b ∷ input ∷ output ∷ []) =
     else usage
 planned_by (a ∷ b ∷ c ∷ d ∷ e ∷ more) = usage
 
-abbrev pub status_of : Plan → Bool → ℕ
-status_of Usage ok = 2
-status_of Lines ok = if ok then 0 else 1
-status_of (CopyPub input output) ok = if ok then 0 else 1
-status_of (CopyPriv input output) ok = if ok then 0 else 1
+abbrev pub exit_status_of : Plan → Bool → ℕ
+exit_status_of Usage ok = 2
+exit_status_of Lines ok = if ok then 0 else 1
+exit_status_of (CopyPub input output) ok = if ok then 0 else 1
+exit_status_of (CopyPriv input output) ok = if ok then 0 else 1
 
 -- What was asked for is done: the lines are answered, or the file is copied.
 abbrev pub IsDone : Plan → Type 0 → (List ℕ → List ℕ → Type 0) → (List ℕ → List ℕ → Type 0) → Type 0

@@ -75,9 +75,9 @@ RefusesAt old new renames removes error.Create in_place path bytes = ⊥
 RefusesAt old new renames removes error.Rename in_place path bytes = ⊥
 RefusesAt old new renames removes error.Open (replaced to beside) path bytes = ⊥
 
-abbrev pub Refuses : (List ℕ → Option Aim → Type 0) → (List ℕ → Filled → List ℕ → Type 0)
+abbrev pub RefusesFile : (List ℕ → Option Aim → Type 0) → (List ℕ → Filled → List ℕ → Type 0)
     → (List ℕ → Filled → List ℕ → Type 0) → (List ℕ → List ℕ → Bool → Type 0) → (List ℕ → Bool → Type 0) → List ℕ
     → WriteError → List ℕ → Type 0
-Refuses aims old new renames removes path e bytes =
+RefusesFile aims old new renames removes path e bytes =
     ((e ≡ error.Memory) × aims path None)
     ⊎ ((aim : Aim) × aims path (Some aim) × RefusesAt old new renames removes e aim path bytes)

@@ -55,8 +55,8 @@ decoded (Ok encoding) = Some encoding
 decoded (Err e) = None
 
 -- the bytes of an even number of hexadecimal digits, of either case
-abbrev pub encoding_of : List ℕ → Option (List ℕ)
-encoding_of hex = decoded (decode_of hex)
+abbrev pub encoding_in_hex : List ℕ → Option (List ℕ)
+encoding_in_hex hex = decoded (decode_of hex)
 
 -- the value beside the name in a list
 abbrev pub named : {W : Type 0} → List (List ℕ × W) → List ℕ → Option W
@@ -76,9 +76,9 @@ pair_asked_with None first second = bad_line
 abbrev pub asked_by_parts : List (List ℕ) → Asked
 asked_by_parts [] = bad_line
 asked_by_parts (word ∷ []) = bad_line
-asked_by_parts (word ∷ hex ∷ []) = asked_with (named words word) (encoding_of hex)
+asked_by_parts (word ∷ hex ∷ []) = asked_with (named words word) (encoding_in_hex hex)
 asked_by_parts (word ∷ hex ∷ second ∷ []) =
-    pair_asked_with (named pair_words word) (encoding_of hex) (encoding_of second)
+    pair_asked_with (named pair_words word) (encoding_in_hex hex) (encoding_in_hex second)
 asked_by_parts (word ∷ hex ∷ second ∷ more ∷ rest) = bad_line
 
 -- what the line asks for

@@ -5,7 +5,7 @@ ghost use Rattle.der_core.specs.Words.{GivesAll, Reading};
 ghost use Rattle.pkcs1.specs.Words.{IsEncoded, rsa_private_key, rsa_public_key};
 ghost use Rattle.pkcs1_params.specs.Words.{IsAsn1};
 ghost use Rattle.standard.specs.Statement.{PrivateKey, PrivateKeyEncoding, PublicKey, PublicKeyEncoding};
-ghost use Rattle.pkcs1_program.specs.Words.{CopiesFile, CopiesKey, FillsFile, PutsFile, Refuses, WhyKeyNotCopied, WhyKeyNotRead, WhyNotCopied, file_of};
+ghost use Rattle.pkcs1_program.specs.Words.{CopiesFile, CopiesKey, FillsFile, PutsFile, RefusesFile, WhyKeyNotCopied, WhyKeyNotRead, WhyNotCopied, file_of};
 
 use crate::copy_error::{CopyError, FileError, WriteError, with_path};
 use crate::place::{FileAt, Place};
@@ -145,7 +145,7 @@ fn copy_file<'a, K: Copied, F: ReplaceFiles>(
         F.Created.failures in
         let new = FillsFile F.creates_new F.New.is_closed F.New.contents F.New.is_flushed F.New.failures in
         IfErr result (WhyNotCopied K.encoding K.given (F.opens (path_bytes input.entry)) F.Opened.remaining
-        F.Opened.failures (Refuses F.aims old new F.renames F.removes (path_bytes output.entry))) }
+        F.Opened.failures (RefusesFile F.aims old new F.renames F.removes (path_bytes output.entry))) }
 {
     let mut source = files.open(input)?;
     let place = FileAt::new(files, alloc, output, rights);
@@ -169,7 +169,7 @@ pub fn copy_pub<'a, F: ReplaceFiles>(
         let new = FillsFile F.creates_new F.New.is_closed F.New.contents F.New.is_flushed F.New.failures in
         IfErr result (λ told. WhyNotCopied PublicKeyEncoding rsa_public_key (F.opens (path_bytes input.entry))
         F.Opened.remaining F.Opened.failures
-        (Refuses F.aims old new F.renames F.removes (path_bytes output.entry)) told.error) }
+        (RefusesFile F.aims old new F.renames F.removes (path_bytes output.entry)) told.error) }
     ensures path { IfErr result (λ told. path_bytes told.path
         ≡ file_of told.error (path_bytes input.entry) (path_bytes output.entry)) }
 {
@@ -195,7 +195,7 @@ pub fn copy_priv<'a, F: ReplaceFiles>(
         let new = FillsFile F.creates_new F.New.is_closed F.New.contents F.New.is_flushed F.New.failures in
         IfErr result (λ told. WhyNotCopied PrivateKeyEncoding rsa_private_key (F.opens (path_bytes input.entry))
         F.Opened.remaining F.Opened.failures
-        (Refuses F.aims old new F.renames F.removes (path_bytes output.entry)) told.error) }
+        (RefusesFile F.aims old new F.renames F.removes (path_bytes output.entry)) told.error) }
     ensures path { IfErr result (λ told. path_bytes told.path
         ≡ file_of told.error (path_bytes input.entry) (path_bytes output.entry)) }
 {

@@ -1,7 +1,7 @@
 //! Bytes in hexadecimal digits, numbers in decimal ones.
 ghost use Rattle.std.specs.Prelude.{◌≡◌, ◌++◌, OnOk};
 ghost use Rattle.hex.specs.Hex.{encode_lower};
-ghost use Rattle.pkcs1_program.specs.Words.{field, number_field};
+ghost use Rattle.pkcs1_program.specs.Words.{hex_field, number_field};
 
 use std::alloc::AllocError;
 use std::io::Write;
@@ -26,7 +26,7 @@ pub fn put_hex(bytes: &[u8], out: &mut Vec<u8>) -> Result<(), AllocError>
 
 /// Appends the label to `out`, and then the bytes in hexadecimal digits.
 pub fn put_field(label: &[u8], bytes: &[u8], out: &mut Vec<u8>) -> Result<(), AllocError>
-    ensures { OnOk result (out.new.items ≡ out.old.items ++ field label.now bytes.now) }
+    ensures { OnOk result (out.new.items ≡ out.old.items ++ hex_field label.now bytes.now) }
 {
     out.extend_from_slice(label)?;
     put_hex(bytes, out)

@@ -1,7 +1,7 @@
 //! The program as a filter: reading lines and writing the output for each.
 ghost use Rattle.std.specs.Prelude.{◌≡◌, ◌<◌, ◌≤◌, ◌⊎◌, ℕ, List, [], length, IfSome, IfOk, OnOk, IsErrOf, vec_len};
 ghost use Rattle.std.specs.Io.KnownBytes.{Appends, Keeps, IsAtEnd};
-ghost use Rattle.der_core.specs.Words.{piece, AppendsFront, GivesAll, GivesMore, GivesSome, OneFailed, AtMostOne};
+ghost use Rattle.der_core.specs.Words.{piece, AppendsFront, GivesAll, GivesMore, GivesSome, OneFailed, HasAtMostOne};
 ghost use Rattle.pkcs1_program.specs.Words.{Answer, Output, lines_of, longest_input, Makes, MakesFirst, Writes, WritesFirst, WritesFront, WritesFrontOfAll, WritesHeld, WritesOut};
 
 use crate::answer::answer_line;
@@ -160,8 +160,8 @@ pub fn run<R: Source, W: Sink>(alloc: Global, source: &mut R, sink: &mut W) -> R
     ensures wanted { IsErrOf result Fault.Memory
         → GivesSome longest_input (R.remaining source.old) (R.remaining source.new) }
     ensures flushed { OnOk result (W.is_flushed sink.new) }
-    ensures one_answer { (line : List ℕ) → AtMostOne (Answer line) }
-    ensures one_output { (input : List ℕ) → AtMostOne (Output input) }
+    ensures one_answer { (line : List ℕ) → HasAtMostOne (Answer line) }
+    ensures one_output { (input : List ℕ) → HasAtMostOne (Output input) }
 {
     lemma_answers_are_one();
     let input = read_input(alloc, source)?;

@@ -4,7 +4,7 @@ ghost use Rattle.der_core.specs.Words.{bytes_of};
 ghost use Rattle.pkcs1.specs.Words.{held_other_prime, held_public_key, held_view, number_in, viewed_encoding};
 ghost use Rattle.pkcs8_core.specs.Words.{info_of};
 ghost use Rattle.standard.specs.Statement.{Decodes, PrivateKeyEncoding, PublicKeyEncoding, octets};
-ghost use Rattle.pkcs1_program.specs.Words.{Tells, RsaContainerEncoding, TellsContainer, Puts, field, pub_answer, version_told, numbers_told, other_told, others_told, key_told, priv_answer, attributes_told, p8_answer};
+ghost use Rattle.pkcs1_program.specs.Words.{Tells, RsaContainerEncoding, TellsContainer, Puts, hex_field, pub_answer, version_field, key_number_fields, other_prime_field, other_prime_fields, key_fields, priv_answer, attributes_field, p8_answer};
 
 use crate::digits::put_field;
 use crate::verdict::put_refused;
@@ -14,7 +14,7 @@ use std::alloc::AllocError;
 
 /// Appends each label and its number to `out`.
 fn put_numbers(numbers: &[(&[u8], UintRef<'_>)], out: &mut Vec<u8>) -> Result<(), AllocError>
-    ensures { let told = flat_map (λ n. field n.0.now (octets (number_in bytes_of n.1))) numbers.now in
+    ensures { let told = flat_map (λ n. hex_field n.0.now (octets (number_in bytes_of n.1))) numbers.now in
         OnOk result (out.new.items ≡ out.old.items ++ told) }
 {
     for (label, number) in numbers {
@@ -45,7 +45,7 @@ pub fn answer_pub(encoding: &[u8], out: &mut Vec<u8>) -> Result<(), AllocError>
 
 /// Appends the version of a private key to `out`.
 fn put_version(key: &RsaPrivateKeyView<'_>, out: &mut Vec<u8>) -> Result<(), AllocError>
-    ensures { OnOk result (out.new.items ≡ out.old.items ++ version_told (held_view key.now).other_primes) }
+    ensures { OnOk result (out.new.items ≡ out.old.items ++ version_field (held_view key.now).other_primes) }
 {
     match key.version() {
         Version::TwoPrime => out.extend_from_slice(b" version=0"),
@@ -55,7 +55,7 @@ fn put_version(key: &RsaPrivateKeyView<'_>, out: &mut Vec<u8>) -> Result<(), All
 
 /// Appends the eight numbers of a private key to `out`.
 fn put_private_numbers(key: &RsaPrivateKeyView<'_>, out: &mut Vec<u8>) -> Result<(), AllocError>
-    ensures { OnOk result (out.new.items ≡ out.old.items ++ numbers_told (held_view key.now)) }
+    ensures { OnOk result (out.new.items ≡ out.old.items ++ key_number_fields (held_view key.now)) }
 {
     put_numbers(
         &[
@@ -74,7 +74,7 @@ fn put_private_numbers(key: &RsaPrivateKeyView<'_>, out: &mut Vec<u8>) -> Result
 
 /// Appends one of the other primes to `out`.
 fn put_other(other: &OtherPrimeInfo<UintRef<'_>>, out: &mut Vec<u8>) -> Result<(), AllocError>
-    ensures { OnOk result (out.new.items ≡ out.old.items ++ other_told (held_other_prime bytes_of other.now)) }
+    ensures { OnOk result (out.new.items ≡ out.old.items ++ other_prime_field (held_other_prime bytes_of other.now)) }
 {
     put_numbers(
         &[
@@ -88,7 +88,7 @@ fn put_other(other: &OtherPrimeInfo<UintRef<'_>>, out: &mut Vec<u8>) -> Result<(
 
 /// Appends the other primes of a private key to `out`, in order.
 fn put_others(key: &RsaPrivateKeyView<'_>, out: &mut Vec<u8>) -> Result<(), AllocError>
-    ensures { OnOk result (out.new.items ≡ out.old.items ++ others_told (held_view key.now).other_primes) }
+    ensures { OnOk result (out.new.items ≡ out.old.items ++ other_prime_fields (held_view key.now).other_primes) }
 {
     for other in key.other_primes() {
         put_other(&other, out)?;
@@ -98,7 +98,7 @@ fn put_others(key: &RsaPrivateKeyView<'_>, out: &mut Vec<u8>) -> Result<(), Allo
 
 /// Appends the version, the numbers and the other primes of a private key to `out`.
 fn put_key(key: &RsaPrivateKeyView<'_>, out: &mut Vec<u8>) -> Result<(), AllocError>
-    ensures { OnOk result (out.new.items ≡ out.old.items ++ key_told (held_view key.now)) }
+    ensures { OnOk result (out.new.items ≡ out.old.items ++ key_fields (held_view key.now)) }
 {
     put_version(key, out)?;
     put_private_numbers(key, out)?;
@@ -141,7 +141,7 @@ fn read_container<'a>(encoding: &'a [u8]) -> Option<(PrivateKeyInfoRef<'a>, RsaP
 
 /// Appends the attributes of a container to `out`.
 fn put_attributes(info: &PrivateKeyInfoRef<'_>, out: &mut Vec<u8>) -> Result<(), AllocError>
-    ensures { OnOk result (out.new.items ≡ out.old.items ++ attributes_told (info_of info.now).attributes) }
+    ensures { OnOk result (out.new.items ≡ out.old.items ++ attributes_field (info_of info.now).attributes) }
 {
     match info.attributes() {
         Some(contents) => put_field(b" attributes=", contents, out),

@@ -1,7 +1,7 @@
 //! The output for lines with parameters.
 ghost use Rattle.std.specs.Prelude.{◌≡◌, ℕ, List, ◌++◌, OnOk, map, codes, flat_map};
 ghost use Rattle.pkcs1_params.specs.Words.{Encoded};
-ghost use Rattle.pkcs1_program.specs.Words.{Puts, TellsParameters, TellsSame, TellsSpellings, TellsStrict, field, spell_answer};
+ghost use Rattle.pkcs1_program.specs.Words.{Puts, TellsParameters, TellsSame, TellsSpellings, TellsStrict, hex_field, spell_answer};
 
 use crate::digits::{put_field, put_number};
 use crate::parameter_text::Parameters;
@@ -15,7 +15,7 @@ pub fn answer_parameters<'a, T: Parameters<'a>>(
     encoding: &'a [u8],
     out: &mut Vec<u8>,
 ) -> Result<(), AllocError>
-    ensures { let answers = TellsParameters (Encoded T.Is T.fields_of) T.fields_of T.told encoding.now in
+    ensures { let answers = TellsParameters (Encoded T.Is T.fields_of) T.fields_of T.answer_of encoding.now in
         OnOk result (Puts answers out.old.items out.new.items) }
 {
     match T::read(encoding) {
@@ -31,7 +31,7 @@ pub fn answer_parameters<'a, T: Parameters<'a>>(
 /// Appends a space and each encoding to `out`, in order.
 fn put_encodings(encodings: &[Vec<u8>], out: &mut Vec<u8>) -> Result<(), AllocError>
     ensures { OnOk result (out.new.items ≡ out.old.items
-        ++ flat_map (λ encoding. field (codes " ") encoding.items) encodings.now) }
+        ++ flat_map (λ encoding. hex_field (codes " ") encoding.items) encodings.now) }
 {
     for encoding in encodings {
         put_field(b" ", encoding.as_slice(), out)?;

@@ -1,10 +1,10 @@
 //! Parameters, and the output for them.
 ghost use Rattle.std.specs.Prelude.{◌≡◌, ◌≤◌, ℕ, List, ◌++◌, ◌↔◌, length, IsTrue, OnOk, IfOk, IfSome, IfNone, IsErrAnd, option_map};
 ghost use Rattle.der_core.specs.Words.{Spells};
-ghost use Rattle.spki_core.specs.Words.{FieldRecord, algorithm_of, any_of, mask_of, own_octets_of, spelled_from, spelled_to};
+ghost use Rattle.spki_core.specs.Words.{FieldRecord, algorithm_of, any_of, mask_gen_of, own_octets_of, spelled_from, spelled_to};
 ghost use Rattle.pkcs1_params.specs.Words.{Encoded, IsEncoded, encodings_in, oaep_of, oaep_record, pss_of, pss_record};
 ghost use Rattle.standard.specs.Statement.{Decodes, Defaults, Field, IsOaep, IsPss, IsShortest, Lists, OaepParameters, PssParameters, limit, longest, oaep_fields, pss_fields};
-ghost use Rattle.pkcs1_program.specs.Words.{IsMemoryError, any_told, identifier_told, plain_told, bracketed, mask_told, hash_fields_told, spelling_told, pss_answer, oaep_answer};
+ghost use Rattle.pkcs1_program.specs.Words.{IsMemoryError, any_digits, identifier_digits, plain_digits, bracketed_digits, mask_digits, hash_and_mask_fields, spelling_fields, pss_answer, oaep_answer};
 
 use crate::digits::{put_field, put_hex, put_number};
 use der_core::{Encode, ErrorKind};
@@ -30,7 +30,7 @@ pub trait Parameters<'a>: Encode + Drop + Sized {
     ghost form: { FieldRecord Is fields_of };
 
     /// The output for parameters, given how many of their fields have their defaults, and their encoding.
-    ghost told: { Params → ℕ → List ℕ → List ℕ };
+    ghost answer_of: { Params → ℕ → List ℕ → List ℕ };
 
     /// Decodes the parameters, or returns `None`.
     fn read(encoding: &'a [u8]) -> Option<Self>
@@ -52,7 +52,7 @@ pub trait Parameters<'a>: Encode + Drop + Sized {
 
     /// Appends the output for the parameters to `out`; `again` is their encoding.
     fn put(&self, defaults: u8, again: &[u8], out: &mut Vec<u8>) -> Result<(), AllocError>
-        ensures { OnOk result (out.new.items ≡ out.old.items ++ told (params self.now) defaults again.now) };
+        ensures { OnOk result (out.new.items ≡ out.old.items ++ answer_of (params self.now) defaults again.now) };
 
     /// The encodings of a value for `Encode` are those of the parameters.
     ghost encodings_are: { (value : Self) (encoding : List ℕ)
@@ -94,7 +94,7 @@ type MaskGenRef<'a> = AlgorithmIdentifier<AlgorithmIdentifierRef<'a>>;
 
 /// Appends the tag and the contents to `out`.
 fn put_any(any: &AnyRef<'_>, out: &mut Vec<u8>) -> Result<(), AllocError>
-    ensures { OnOk result (out.new.items ≡ out.old.items ++ any_told (any_of any.now)) }
+    ensures { OnOk result (out.new.items ≡ out.old.items ++ any_digits (any_of any.now)) }
 {
     put_hex(&[any.tag().octet()], out)?;
     put_field(b":", any.value(), out)
@@ -102,7 +102,7 @@ fn put_any(any: &AnyRef<'_>, out: &mut Vec<u8>) -> Result<(), AllocError>
 
 /// Appends the object identifier and `/` to `out`.
 fn put_identifier(oid: &ObjectIdentifier, out: &mut Vec<u8>) -> Result<(), AllocError>
-    ensures { OnOk result (out.new.items ≡ out.old.items ++ identifier_told (own_octets_of oid.now)) }
+    ensures { OnOk result (out.new.items ≡ out.old.items ++ identifier_digits (own_octets_of oid.now)) }
 {
     put_hex(oid.as_bytes(), out)?;
     out.extend_from_slice(b"/")
@@ -110,7 +110,7 @@ fn put_identifier(oid: &ObjectIdentifier, out: &mut Vec<u8>) -> Result<(), Alloc
 
 /// Appends an algorithm with parameters of any type to `out`.
 fn put_plain(algorithm: &AlgorithmIdentifierRef<'_>, out: &mut Vec<u8>) -> Result<(), AllocError>
-    ensures { OnOk result (out.new.items ≡ out.old.items ++ plain_told (algorithm_of algorithm.now)) }
+    ensures { OnOk result (out.new.items ≡ out.old.items ++ plain_digits (algorithm_of algorithm.now)) }
 {
     put_identifier(&algorithm.oid, out)?;
     match &algorithm.parameters {
@@ -124,7 +124,7 @@ fn put_bracketed(
     algorithm: &AlgorithmIdentifierRef<'_>,
     out: &mut Vec<u8>,
 ) -> Result<(), AllocError>
-    ensures { OnOk result (out.new.items ≡ out.old.items ++ bracketed (algorithm_of algorithm.now)) }
+    ensures { OnOk result (out.new.items ≡ out.old.items ++ bracketed_digits (algorithm_of algorithm.now)) }
 {
     out.extend_from_slice(b"[")?;
     put_plain(algorithm, out)?;
@@ -133,7 +133,7 @@ fn put_bracketed(
 
 /// Appends a mask generation function to `out`.
 fn put_mask(mask_gen: &MaskGenRef<'_>, out: &mut Vec<u8>) -> Result<(), AllocError>
-    ensures { OnOk result (out.new.items ≡ out.old.items ++ mask_told (mask_of mask_gen.now)) }
+    ensures { OnOk result (out.new.items ≡ out.old.items ++ mask_digits (mask_gen_of mask_gen.now)) }
 {
     put_identifier(&mask_gen.oid, out)?;
     match &mask_gen.parameters {
@@ -148,7 +148,7 @@ fn put_hash_fields(
     mask_gen: &MaskGenRef<'_>,
     out: &mut Vec<u8>,
 ) -> Result<(), AllocError>
-    ensures { let told = hash_fields_told (algorithm_of hash.now) (mask_of mask_gen.now) in
+    ensures { let told = hash_and_mask_fields (algorithm_of hash.now) (mask_gen_of mask_gen.now) in
         OnOk result (out.new.items ≡ out.old.items ++ told) }
 {
     out.extend_from_slice(b" hash=")?;
@@ -159,7 +159,7 @@ fn put_hash_fields(
 
 /// Appends to `out` how many fields equal their defaults, and the encoding.
 fn put_spelling(defaults: u8, again: &[u8], out: &mut Vec<u8>) -> Result<(), AllocError>
-    ensures { OnOk result (out.new.items ≡ out.old.items ++ spelling_told defaults again.now) }
+    ensures { OnOk result (out.new.items ≡ out.old.items ++ spelling_fields defaults again.now) }
 {
     put_number(b" defaults=", usize::from(defaults), out)?;
     put_field(b" again=", again, out)
@@ -208,7 +208,7 @@ impl<'a> Parameters<'a> for RsaPssParamsRef<'a> {
 
     ghost form = { pss_record };
 
-    ghost told = { pss_answer };
+    ghost answer_of = { pss_answer };
 
     fn read(encoding: &'a [u8]) -> Option<RsaPssParamsRef<'a>> {
         RsaPssParamsRef::try_from(encoding).ok()
@@ -245,7 +245,7 @@ impl<'a> Parameters<'a> for RsaOaepParamsRef<'a> {
 
     ghost form = { oaep_record };
 
-    ghost told = { oaep_answer };
+    ghost answer_of = { oaep_answer };
 
     fn read(encoding: &'a [u8]) -> Option<RsaOaepParamsRef<'a>> {
         RsaOaepParamsRef::try_from(encoding).ok()

@@ -1,7 +1,7 @@
 //! Where a key is written once.
 ghost use Rattle.std.specs.Prelude.{◌≡◌, List, ℕ, IfErr, OnOk};
 ghost use Rattle.std.specs.Path.{path_buf_bytes, path_bytes};
-ghost use Rattle.pkcs1_program.specs.Words.{FillsFile, PutsFile, PutsAt, Refuses, RefusesAt, SinkStops, SinkTakes, in_place, replaced};
+ghost use Rattle.pkcs1_program.specs.Words.{FillsFile, PutsFile, PutsAt, RefusesFile, RefusesAt, SinkStops, SinkTakes, in_place, replaced};
 
 use crate::copy_error::WriteError;
 use crate::filter::finish;
@@ -129,7 +129,7 @@ impl<F: ReplaceFiles> Place for FileAt<'_, F> {
         let old = FillsFile F.creates F.Created.is_closed F.Created.contents F.Created.is_flushed
         F.Created.failures in
         let new = FillsFile F.creates_new F.New.is_closed F.New.contents F.New.is_flushed F.New.failures in
-        Refuses F.aims old new F.renames F.removes (path_bytes place.path) };
+        RefusesFile F.aims old new F.renames F.removes (path_bytes place.path) };
 
     fn write(self, bytes: &[u8]) -> Result<(), WriteError> {
         match self.files.target(self.alloc, self.path, self.model) {

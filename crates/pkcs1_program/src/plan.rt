@@ -1,6 +1,6 @@
 //! What the program is to do.
 ghost use Rattle.std.specs.Prelude.{◌≡◌, drop, map, string_bytes};
-ghost use Rattle.pkcs1_program.specs.Words.{planned_by, status_of, task_of};
+ghost use Rattle.pkcs1_program.specs.Words.{exit_status_of, planned_by, task_of};
 
 /// What the program is to do.
 #[derive(Clone, Copy, Debug, PartialEq, Eq)]
@@ -48,7 +48,7 @@ pub fn plan_of(words: &[String]) -> Plan<'_>
 
 /// The exit status: 2 for `Usage`, else 0 on success and 1 after an error.
 pub fn status(plan: &Plan<'_>, ok: bool) -> u8
-    ensures { result ≡ status_of plan.now ok }
+    ensures { result ≡ exit_status_of plan.now ok }
 {
     match (plan, ok) {
         (Plan::Usage, _) => 2,

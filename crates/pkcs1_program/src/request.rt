@@ -1,6 +1,6 @@
 //! Parsing a line into a request.
 ghost use Rattle.std.specs.Prelude.{◌≡◌, IfOk, Some, None, if◌then◌else◌, map};
-ghost use Rattle.pkcs1_program.specs.Words.{asked_by, asked_with, named, pair_asked_with, pair_words, encoding_of, words, seen};
+ghost use Rattle.pkcs1_program.specs.Words.{asked_by, asked_with, named, pair_asked_with, pair_words, encoding_in_hex, words, seen};
 
 use crate::lines::split_part;
 use std::alloc::{AllocError, Global};
@@ -102,7 +102,7 @@ fn pair_word_of(part: &[u8]) -> Option<PairWord>
 /// Decodes hexadecimal digits into `encoding`. Returns false if they aren't an even number of digits; `encoding` may
 /// then hold anything.
 fn read_hex(hex: &[u8], encoding: &mut Vec<u8>) -> Result<bool, AllocError>
-    ensures { IfOk result (λ is_hex. encoding_of hex.now ≡ (if is_hex then Some encoding.new.items else None)) }
+    ensures { IfOk result (λ is_hex. encoding_in_hex hex.now ≡ (if is_hex then Some encoding.new.items else None)) }
 {
     encoding.resize(hex.len() / 2, 0)?;
     Ok(hex::decode_to_slice(hex, encoding.as_mut_slice()).is_ok())
@@ -110,7 +110,7 @@ fn read_hex(hex: &[u8], encoding: &mut Vec<u8>) -> Result<bool, AllocError>
 
 /// The request of a word with one HEX part.
 fn request_with(word: Word, hex: &[u8], encodings: &mut Encodings) -> Result<Request, AllocError>
-    ensures { let asked = asked_with (Some word) (encoding_of hex.now) in
+    ensures { let asked = asked_with (Some word) (encoding_in_hex hex.now) in
         IfOk result (λ request. seen request encodings.new.first.items encodings.new.second.items ≡ asked) }
 {
     if read_hex(hex, &mut encodings.first)? {
@@ -127,7 +127,7 @@ fn pair_request_with(
     second: &[u8],
     encodings: &mut Encodings,
 ) -> Result<Request, AllocError>
-    ensures { let asked = pair_asked_with (Some word) (encoding_of first.now) (encoding_of second.now) in
+    ensures { let asked = pair_asked_with (Some word) (encoding_in_hex first.now) (encoding_in_hex second.now) in
         IfOk result (λ request. seen request encodings.new.first.items encodings.new.second.items ≡ asked) }
 {
     if read_hex(first, &mut encodings.first)? && read_hex(second, &mut encodings.second)? {

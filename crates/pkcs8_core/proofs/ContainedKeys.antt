@@ -3,10 +3,10 @@ use Rattle.std.proofs.Common.{ℕ, Bool, true, false, List, [], ◌≡◌, ◌==
 use Rattle.der_core.specs.declared.error.ErrorKind.{ErrorKind}
 use Rattle.der_core.specs.declared.error.ErrorKind.TheVariants as kind
 use Rattle.der_core.specs.declared.tag.Tag.{Tag}
-use Rattle.der_core.specs.Words.{bytes_decide, bind_err, checked_as, same_tag, TellsOfBytes, checked, is_allowed, AreBytes, Answers, prints_one, tagged_law, ok_of, value_in, ◌>>=◌, Excludes, tlv_fit, ok_same, limit, ReadsPrinted, number_contents, octets_of_all}
+use Rattle.der_core.specs.Words.{bytes_decide, bind_err, checked_as, same_tag, TellsOfBytes, checked, is_allowed, AreBytes, Answers, prints_one, tagged_law, ok_of, value_in, ◌>>=◌, Excludes, tlv_fit, ok_injective, limit, ReadsPrinted, number_contents, octets_of_all}
 use Rattle.spki_core.specs.Words.{Algorithm, same_any, TagAndContents, null_value, any_decides}
 use Rattle.pkcs1_params.specs.Words.{id_rsa_encryption, AreDelimited, ErrsOrAsks}
-use Rattle.pkcs1.proofs.KeyReads.{private_tells, one_spelling}
+use Rattle.pkcs1.proofs.KeyReads.{private_tells, printed_front_unique}
 use Rattle.pkcs8_core.specs.Words.{Container, key_in, null_only, rsa_only, rsa_encryption, private_key_info, rsa_held, rsa_private_key_info, container_encoded, container_law, containers_decode, IsContainer, container_printed, ContainedKey}
 use Rattle.der_core.specs.Tags as tags
 use Rattle.der_core.specs.declared.error.Error as der
@@ -15,12 +15,12 @@ use Rattle.pkcs1.specs.declared.view.RsaPrivateKeyView.{RsaPrivateKeyView}
 use Rattle.pkcs1_params.proofs.Faults.{asn1_as}
 use Rattle.pkcs1_params.specs.declared.error.Error.{Error}
 use Rattle.standard.specs.Statement.{ContainedKeyEncoding, Container, ContainerEncoding, Decodes, PrivateKey, PrivateKeyEncoding, sequence, IsOaep, IsPss, OaepEncoding, PssEncoding, PublicKeyEncoding, algorithm, any, integer, integers, oaep_fields, optional, other_primes, pss_fields, tlv, version}
-use Rattle.pkcs1_params.proofs.Masks.{differs, oaep_begin, pss_begin}
+use Rattle.pkcs1_params.proofs.Masks.{oaep_begin, pss_begin, record_differs}
 
 -- Algorithms that the function rejects.
-not_null : (v : TagAndContents) (tag : Tag) → tag.octet ≡ v.tag → same_any v null_value ≡ false
+null_only_refuses : (v : TagAndContents) (tag : Tag) → tag.octet ≡ v.tag → same_any v null_value ≡ false
     → null_only (Some v) ≡ Err (kind.Value tag)
-not_null v tag same test =
+null_only_refuses v tag same test =
     let allowed : is_allowed v.tag ≡ true = ap is_allowed (sym same) ∙ tag.allowed in
     let r =
     checked_as (is_allowed v.tag) (λ ok. Err (kind.Value (record { octet = v.tag; allowed = ok })))
@@ -30,7 +30,7 @@ not_null v tag same test =
 pub rsa_other : (a : Algorithm TagAndContents) (v : TagAndContents) (tag : Tag)
     → bytes_eq a.oid id_rsa_encryption ≡ true → a.parameters ≡ Some v → tag.octet ≡ v.tag
     → same_any v null_value ≡ false → rsa_only a ≡ Err (kind.Value tag)
-rsa_other a v tag is some same test = rw (is, some) (not_null v tag same test)
+rsa_other a v tag is some same test = rw (is, some) (null_only_refuses v tag same test)
 
 -- Its errors are about the bytes.
 null_tells : (p : Option TagAndContents) (k : ErrorKind) → null_only p ≡ Err k → TellsOfBytes k
@@ -139,8 +139,8 @@ container_follow : (v w : Container) (bytes rest : List ℕ) → ContainerEncodi
 container_follow v w bytes rest p q =
     let a = (container_encoded v bytes).1 p in
     let b = (container_encoded w (bytes ++ rest)).1 q in
-    one_spelling IsContainer (λ c. sequence (container_printed c))
-    (prints_one (tagged_law container_law tags.sequence)) v w a.1 b.1 bytes rest b.0 a.2 b.2
+    printed_front_unique IsContainer (λ c. sequence (container_printed c))
+    (prints_one (tagged_law container_law tags.sequence_tag)) v w a.1 b.1 bytes rest b.0 a.2 b.2
 
 pub containers_delimited : AreDelimited ContainerEncoding
 containers_delimited = (λ v p. let never = p.4 in cc, container_follow)
@@ -165,11 +165,11 @@ module _ (bytes : List ℕ) (are : AreBytes bytes) where
       go (Err k) never = λ other p. never p.0 p.1
 
   -- What a call returned that gives the container.
-  pub container_told : {X : Type 0} (value : X → Container) (r : Result X der.Error)
+  pub container_answers_decode : {X : Type 0} (value : X → Container) (r : Result X der.Error)
       → Answers value r (private_key_info bytes) → Decodes ContainerEncoding bytes (ok_of value r)
-  container_told value (Ok x) e =
+  container_answers_decode value (Ok x) e =
       subst (λ r. Decodes ContainerEncoding bytes (value_in r)) e (containers_decode bytes are)
-  container_told value (Err k) e =
+  container_answers_decode value (Err k) e =
       subst (λ r. Decodes ContainerEncoding bytes (value_in r)) e (containers_decode bytes are)
 
 -- A key whose encoding is that of the container.
@@ -183,55 +183,57 @@ viewed_in c bytes octets is same (Err k) e = tt
 -- Behind the first INTEGER a container has a SEQUENCE, and a key a number. Parameters begin with the tag of a field.
 
 -- Any octets behind a tag, and what follows them.
-raw_law : ReadsPrinted (λ (o : List ℕ). Unit {0}) (λ o. o) octets_of_all
-raw_law = record {
-  gives = λ c o bytes e. (tt, ok_same e);
+octets_of_all_law : ReadsPrinted (λ (o : List ℕ). Unit {0}) (λ o. o) octets_of_all
+octets_of_all_law = record {
+  gives = λ c o bytes e. (tt, ok_injective e);
   takes = λ o ok few. refl;
   tells = λ c k e. cc;
 }
 
-split : (tag : Tag) (x y r s : List ℕ) → length (tlv tag.octet x ++ r) ≤ limit
+tlv_front_injective : (tag : Tag) (x y r s : List ℕ) → length (tlv tag.octet x ++ r) ≤ limit
     → tlv tag.octet x ++ r ≡ tlv tag.octet y ++ s → (x ≡ y) × (r ≡ s)
-split tag x y r s few same = prints_one (tagged_law raw_law tag) x y r s tt tt few same
+tlv_front_injective tag x y r s few same = prints_one (tagged_law octets_of_all_law tag) x y r s tt tt few same
 
 -- The contents of what encodes a container.
-contents_are : (c : Container) (bytes contents : List ℕ) → ContainerEncoding c bytes → bytes ≡ sequence contents
+container_contents_are : (c : Container) (bytes contents : List ℕ) → ContainerEncoding c bytes
+    → bytes ≡ sequence contents
     → (container_printed c ≡ contents) × (length (container_printed c) ≤ limit)
-contents_are c bytes contents p is =
+container_contents_are c bytes contents p is =
     let (few, ok, same) = (container_encoded c bytes).1 p in
     let all = append-nil (sequence (container_printed c)) in
     let same_bytes = all ∙ sym same ∙ is ∙ sym (append-nil (sequence contents)) in (
-      (split tags.sequence (container_printed c) contents [] [] (omega (arith, few, ap length same, ap length all))
+      (tlv_front_injective tags.sequence_tag (container_printed c) contents [] []
+          (omega (arith, few, ap length same, ap length all))
           same_bytes).0,
       omega (arith, few, ap length same, tlv_fit 48 (container_printed c)),
     )
 
 -- Keys.
-second_differs : (c : Container) (bytes : List ℕ) (n : ℕ) (rest : List ℕ) → ContainerEncoding c bytes
+container_second_differs : (c : Container) (bytes : List ℕ) (n : ℕ) (rest : List ℕ) → ContainerEncoding c bytes
     → bytes ≡ sequence (integer n ++ rest) → slice_index rest 0 ≡ 2 → ⊥
-second_differs c bytes n rest p is number =
+container_second_differs c bytes n rest p is number =
     let behind = algorithm any c.algorithm ++ (tlv 4 c.private_key ++ optional (tlv 160) c.attributes) in
-    let (same, few) = contents_are c bytes (integer n ++ rest) p is in
+    let (same, few) = container_contents_are c bytes (integer n ++ rest) p is in
     let next : behind ≡ rest =
-    (split tags.integer (number_contents 0) (number_contents n) behind rest few same).1 in
+    (tlv_front_injective tags.integer_tag (number_contents 0) (number_contents n) behind rest few same).1 in
     let octets : 48 ≡ 2 = ap (λ b. slice_index b 0) next ∙ number in absurd (omega (arith, octets))
 
-pub public_key : Excludes ContainerEncoding PublicKeyEncoding
-public_key c key bytes p q =
-    second_differs c bytes key.modulus (integers (key.public_exponent ∷ [])) p q.1 refl
+pub container_excludes_public_key : Excludes ContainerEncoding PublicKeyEncoding
+container_excludes_public_key c key bytes p q =
+    container_second_differs c bytes key.modulus (integers (key.public_exponent ∷ [])) p q.1 refl
 
-pub private_key : Excludes ContainerEncoding PrivateKeyEncoding
-private_key c key bytes p q =
+pub container_excludes_private_key : Excludes ContainerEncoding PrivateKeyEncoding
+container_excludes_private_key c key bytes p q =
     let first = integer (version key.other_primes) in
     let numbers = integers (key.modulus ∷ key.public_exponent ∷ key.private_exponent ∷ key.prime1 ∷ key.prime2
     ∷ key.exponent1 ∷ key.exponent2 ∷ key.coefficient ∷ []) in
     let others = optional other_primes key.other_primes in
-    second_differs c bytes (version key.other_primes) (numbers ++ others) p
+    container_second_differs c bytes (version key.other_primes) (numbers ++ others) p
     (q.2 ∙ ap sequence (append_assoc first numbers others)) refl
 
 -- Parameters.
-pub pss : Excludes ContainerEncoding PssEncoding
-pss c v bytes p q = differs IsPss pss_fields v 2 bytes _ (omega arith) (pss_begin v) p.4 q
+pub container_excludes_pss : Excludes ContainerEncoding PssEncoding
+container_excludes_pss c v bytes p q = record_differs IsPss pss_fields v 2 bytes _ (omega arith) (pss_begin v) p.4 q
 
-pub oaep : Excludes ContainerEncoding OaepEncoding
-oaep c v bytes p q = differs IsOaep oaep_fields v 2 bytes _ (omega arith) (oaep_begin v) p.4 q
+pub container_excludes_oaep : Excludes ContainerEncoding OaepEncoding
+container_excludes_oaep c v bytes p q = record_differs IsOaep oaep_fields v 2 bytes _ (omega arith) (oaep_begin v) p.4 q

@@ -3,8 +3,8 @@
 use Rattle.std.specs.Prelude.{ℕ, List, [], ◌==◌, ◌&&◌, Option, Some, None, Result, Ok, Err, if◌then◌else◌, bytes_eq}
 use Rattle.der_core.specs.declared.error.ErrorKind.{ErrorKind}
 use Rattle.der_core.specs.declared.error.ErrorKind.TheVariants as kind
-use Rattle.der_core.specs.Words.{Reading, ◌>>=◌, alone, checked, expected, made, octets_of_all, optional, parts, tagged, whole, is_allowed, integer, octet_string, sequence}
-use Rattle.spki_core.specs.Words.{Algorithm, TagAndContents, algorithm_read, any}
+use Rattle.der_core.specs.Words.{Reading, ◌>>=◌, alone, checked, expected, made, octets_of_all, optional_front, parts, tagged, whole, is_allowed, integer_tag, octet_string_tag, sequence_tag}
+use Rattle.spki_core.specs.Words.{Algorithm, TagAndContents, algorithm_read, any_front}
 use Rattle.pkcs1_params.specs.Words.{id_rsa_encryption}
 use Rattle.pkcs1.specs.Words.{rsa_private_key}
 use Rattle.pkcs8_core.specs.Container.{Container}
@@ -13,7 +13,7 @@ use Rattle.standard.specs.Statement.{PrivateKey}
 
 -- The attributes, whose contents aren't looked at.
 abbrev pub attributes : Reading (Option (List ℕ))
-attributes = alone (optional attributes_tag.octet (tagged attributes_tag octets_of_all))
+attributes = alone (optional_front attributes_tag.octet (tagged attributes_tag octets_of_all))
 
 -- A container, whose version is 0.
 abbrev pub of_info_parts : Unit {0} × (Algorithm TagAndContents × (List ℕ × Option (List ℕ))) → Container
@@ -21,12 +21,12 @@ of_info_parts p = record { algorithm = p.1.0; private_key = p.1.1.0; attributes 
 
 abbrev pub info_read : Reading Container
 info_read =
-    made of_info_parts (parts (tagged integer (expected 0)) (parts (tagged sequence (algorithm_read any))
-    (parts (tagged octet_string octets_of_all) attributes)))
+    made of_info_parts (parts (tagged integer_tag (expected 0)) (parts (tagged sequence_tag (algorithm_read any_front))
+    (parts (tagged octet_string_tag octets_of_all) attributes)))
 
 -- A whole slice, as a container.
 abbrev pub private_key_info : Reading Container
-private_key_info = whole (tagged sequence info_read)
+private_key_info = whole (tagged sequence_tag info_read)
 
 -- The algorithm is rsaEncryption with NULL (RFC 8017 A.1).
 abbrev pub null_only : Option TagAndContents → Result (Unit {0}) ErrorKind

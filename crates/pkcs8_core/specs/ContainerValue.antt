@@ -2,7 +2,7 @@
 use Rattle.std.specs.Prelude.{ℕ, List, option_map}
 use Rattle.std.specs.Borrow.{Bor}
 use Rattle.der_core.specs.Words.{octets_of}
-use Rattle.spki_core.specs.Words.{algorithm_in, any_of, own_octets_of, octets_of as identifier_octets}
+use Rattle.spki_core.specs.Words.{algorithm_in, any_of, own_octets_of, identifier_octets}
 use Rattle.spki_core.specs.declared.identifier_view.IdentifierView.{IdentifierView}
 use Rattle.spki_core.specs.declared.object_identifier.ObjectIdentifier.{ObjectIdentifier}
 use Rattle.pkcs8_core.specs.declared.attributes.Attributes.{Attributes}

@@ -1,6 +1,6 @@
 //! The attributes of containers, as opaque bytes.
 ghost use Rattle.std.specs.Prelude.{◌≡◌, ◌<◌, ◌^◌, ℕ, List, length, slice_index};
-ghost use Rattle.der_core.specs.Words.{octets_of_all, AreBytes, alike, octets_law, one_spelling};
+ghost use Rattle.der_core.specs.Words.{octets_of_all, AreBytes, reading_alike, octets_law, one_spelling_shortest};
 ghost use Rattle.pkcs8_core.specs.Tags.{attributes_tag};
 
 use pkcs1::der::{
@@ -60,9 +60,9 @@ impl Contents for Attributes<'_> {
 
     ghost law = { octets_law };
 
-    ghost shortest = { one_spelling AreBytes (λ octets. octets) };
+    ghost shortest = { one_spelling_shortest AreBytes (λ octets. octets) };
 
-    ghost reads_alike = { alike octets_of_all };
+    ghost reads_alike = { reading_alike octets_of_all };
 }
 
 impl TaggedBy for Attributes<'_> {

@@ -1,4 +1,4 @@
 pub mod Octets
 pub mod Readings
-pub mod Fielded
+pub mod RecordEncodings
 pub mod StrictFields

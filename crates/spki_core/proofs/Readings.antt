@@ -2,7 +2,7 @@
 -- mapped.
 use Rattle.std.proofs.Common.{◌≡◌, ◌∙◌, ◌&&◌, ℕ, Bool, List, [], ◌∷◌, Option, Some, None, Ok, true, false, ap, refl, sym, ◌+◌, Result, if◌then◌else◌, option_map, subst, Err, IfOk, inl, inr}
 use Rattle.std.proofs.lemmas.Bool.{cases_Bool}
-use Rattle.der_core.specs.Words.{ok_pair, alone, is_next, tagged, ◌>>=◌, AreBytes, Input, ReadsFront, ReadsWhole, FrontReading, Reading, ReadsContents, context_tag, Tlv}
+use Rattle.der_core.specs.Words.{ok_pair, alone, is_next, tagged, ◌>>=◌, AreBytes, Input, ReadsFront, ReadsWhole, FrontReading, Reading, ReadsContents, context_octet, Tlv}
 use Rattle.spki_core.specs.Words.{FieldRecord, Kind, Spelling, first_written, or_default, record_means, record_read, record_strictly, spelling_read, strict_value, tag_of, record_alike, explicit_is, defaulted, explicit, unless_found, algorithm_map, algorithm_with, Carried, TagAndContents}
 use Rattle.standard.specs.Statement.{Field}
 use Rattle.der_core.specs.declared.tag.Tag.{Tag}
@@ -24,30 +24,30 @@ there k v c = if is_next (160 + k.number) c then Some v else None
 -- One field and those behind it, with the number and the default of the first as the code has them.
 module _ (k : Kind) (ks : List Kind) {given v : k.Value} {n : ℕ} (same : given ≡ k.default) (is : n ≡ k.number)
     (c rest : List ℕ) (read : defaulted n k.at given c ≡ Ok (v, rest)) where
-  known : defaulted k.number k.at k.default c ≡ Ok (v, rest)
-  known = rw (is, same) at read
+  field_known : defaulted k.number k.at k.default c ≡ Ok (v, rest)
+  field_known = rw (is, same) at read
 
   pub field_spelled : (s : Spelling ks) → spelling_read ks rest ≡ Ok s → spelling_read (k ∷ ks) c ≡ Ok (there k v c, s)
   field_spelled s behind = elim (cases_Bool (is_next (160 + k.number) c)) [
     | inl next ↦
         let front : tagged (tag_of k) (alone k.at) c ≡ Ok (v, rest) =
-        sym (explicit_is k.at k.number (tag_of k) c refl) ∙ rw next at known in
+        sym (explicit_is k.at k.number (tag_of k) c refl) ∙ rw next at field_known in
         rw (next, front, behind) refl
-    | inr gone ↦ let p = ok_pair k.default v c rest (rw gone at known) in rw (gone, p.1, behind) refl
+    | inr gone ↦ let p = ok_pair k.default v c rest (rw gone at field_known) in rw (gone, p.1, behind) refl
   ]
 
   -- It means the value.
   pub field_meant : or_default k.default (there k v c) ≡ v
   field_meant = elim (cases_Bool (is_next (160 + k.number) c)) [
     | inl next ↦ rw next refl
-    | inr gone ↦ rw gone (ok_pair k.default v c rest (rw gone at known)).0
+    | inr gone ↦ rw gone (ok_pair k.default v c rest (rw gone at field_known)).0
   ]
 
 -- Whether a field is there with its default, by the octet of its tag.
-pub accepted : (k : Kind) (v : k.Value) (c : List ℕ) (strict : Bool)
+pub default_accepted : (k : Kind) (v : k.Value) (c : List ℕ) (strict : Bool)
     → (strict && (is_next (160 + k.number) c && k.is_default v)) ≡ false
     → (strict && there_by_default k (there k v c)) ≡ false
-accepted k v c strict p = elim (cases_Bool (is_next (160 + k.number) c)) [
+default_accepted k v c strict p = elim (cases_Bool (is_next (160 + k.number) c)) [
   | inl next ↦ rw next (rw next at p)
   | inr gone ↦ rw gone (rw gone at p)
 ]
@@ -94,9 +94,10 @@ read_as_any value tag law v may bytes same before after is (Err e) p = tt
 
 -- Where the tag of a number was read.
 pub reads_at_tag : {X V : Type 0} (value : X → V) (at : FrontReading V) (may : List ℕ → Type 0) (n : ℕ) (tag : Tag)
-    → tag.octet ≡ context_tag n → (r : Result X Error) (before after : Input)
+    → tag.octet ≡ context_octet n → (r : Result X Error) (before after : Input)
     → ReadsFront value (tagged tag (alone at)) (Tlv tag.octet may) r before after
-    → ReadsFront value (explicit n at) (Tlv (context_tag n) may) r before after
+    → ReadsFront value (explicit n at) (Tlv (context_octet n) may) r before after
 reads_at_tag value at may n tag is r before after reads =
-    subst (λ f. ReadsFront value f (Tlv (context_tag n) may) r before after) (λ j i. sym (explicit_is at n tag i is) j)
+    subst (λ f. ReadsFront value f (Tlv (context_octet n) may) r before after)
+    (λ j i. sym (explicit_is at n tag i is) j)
     (subst (λ o. ReadsFront value (tagged tag (alone at)) (Tlv o may) r before after) is reads)

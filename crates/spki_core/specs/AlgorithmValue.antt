@@ -5,7 +5,7 @@ use Rattle.spki_core.specs.declared.algorithm_identifier.AlgorithmIdentifierOf.{
 use Rattle.spki_core.specs.declared.identifier_view.IdentifierView.{IdentifierView}
 use Rattle.spki_core.specs.declared.object_identifier.ObjectIdentifier.{ObjectIdentifier}
 use Rattle.spki_core.specs.Identifiers.{TagAndContents, Algorithm}
-use Rattle.spki_core.specs.HeldValues.{any_of, own_octets_of, octets_of}
+use Rattle.spki_core.specs.HeldValues.{any_of, own_octets_of, identifier_octets}
 
 -- by the octets of its object identifier too
 abbrev pub algorithm_in : {O X V : Type 0} → (O → List ℕ) → (X → V) → AlgorithmIdentifierOf O X → Algorithm V
@@ -19,15 +19,15 @@ abbrev pub algorithm_of : AlgorithmIdentifierOf ObjectIdentifier AnyRef → Algo
 algorithm_of = algorithm_with any_of
 
 -- whose parameters are an algorithm identifier
-abbrev pub mask_in : {O X : Type 0} → (O → List ℕ) → (X → TagAndContents)
+abbrev pub mask_gen_in : {O X : Type 0} → (O → List ℕ) → (X → TagAndContents)
     → AlgorithmIdentifierOf O (AlgorithmIdentifierOf O X) → Algorithm (Algorithm TagAndContents)
-mask_in octets any = algorithm_in octets (algorithm_in octets any)
+mask_gen_in octets any = algorithm_in octets (algorithm_in octets any)
 
 -- with borrowed parameters
-abbrev pub mask_of : AlgorithmIdentifierOf ObjectIdentifier (AlgorithmIdentifierOf ObjectIdentifier AnyRef)
+abbrev pub mask_gen_of : AlgorithmIdentifierOf ObjectIdentifier (AlgorithmIdentifierOf ObjectIdentifier AnyRef)
     → Algorithm (Algorithm TagAndContents)
-mask_of = mask_in own_octets_of any_of
+mask_gen_of = mask_gen_in own_octets_of any_of
 
 -- with a borrowed object identifier
 abbrev pub viewed_with : {X V : Type 0} → (X → V) → AlgorithmIdentifierOf IdentifierView X → Algorithm V
-viewed_with = algorithm_in octets_of
+viewed_with = algorithm_in identifier_octets

@@ -2,7 +2,7 @@
 -- mask names each.
 use Rattle.std.specs.Prelude.{ℕ, zero, suc, Bool, ◌+◌, ◌*◌, ◌/◌, ◌%◌, ◌==◌, ◌≡◌, ◌≤◌, List, [], ◌∷◌, ◌++◌, IsTrue, Option, Some, None, Result, if◌then◌else◌, true, false, map, Decides}
 use Rattle.der_core.specs.declared.error.ErrorKind.{ErrorKind}
-use Rattle.der_core.specs.Words.{ReadsFrontPrinted, FrontReading, Reading, alone, no_parts, optional as optional_front, parts, tagged, is_allowed, made, whole, ◌>>=◌, sequence}
+use Rattle.der_core.specs.Words.{ReadsFrontPrinted, FrontReading, Reading, alone, no_parts, optional_front, parts, tagged, is_allowed, made, whole, ◌>>=◌, sequence_tag}
 use Rattle.der_core.specs.declared.tag.Tag.{Tag}
 use Rattle.spki_core.specs.Readings.{defaulted}
 use Rattle.spki_core.specs.StrictFields.{unless_found}
@@ -46,9 +46,9 @@ abbrev pub or_default : {V : Type 0} → V → Option V → V
 or_default default None = default
 or_default default (Some v) = v
 
-abbrev pub meant : (ks : List Kind) → Spelling ks → Values ks
-meant [] s = tt
-meant (k ∷ ks) s = (or_default k.default s.0, meant ks s.1)
+abbrev pub spelling_means : (ks : List Kind) → Spelling ks → Values ks
+spelling_means [] s = tt
+spelling_means (k ∷ ks) s = (or_default k.default s.0, spelling_means ks s.1)
 
 abbrev pub AreSpelled : (ks : List Kind) → Spelling ks → Type 0
 AreSpelled [] s = Unit {0}
@@ -122,13 +122,13 @@ first_written (k ∷ ks) s = written_here k s.0 (first_written ks s.1)
 
 -- The value of contents in which no default is there, which is asked once all is read; and of a whole slice.
 abbrev pub strict_value : (ks : List Kind) {V : Type 0} → (Values ks → V) → Spelling ks → Result V ErrorKind
-strict_value ks join s = unless_found (first_written ks s) (join (meant ks s))
+strict_value ks join s = unless_found (first_written ks s) (join (spelling_means ks s))
 
 abbrev pub strict_contents : (ks : List Kind) {V : Type 0} → (Values ks → V) → Reading V
 strict_contents ks join contents = spelling_read ks contents >>= strict_value ks join
 
 abbrev pub strict_slice : (ks : List Kind) {V : Type 0} → (Values ks → V) → Reading V
-strict_slice ks join bytes = whole (tagged sequence (spelling_read ks)) bytes >>= strict_value ks join
+strict_slice ks join bytes = whole (tagged sequence_tag (spelling_read ks)) bytes >>= strict_value ks join
 
 -- A field as it is written, whatever its kind is: whether it has its default, and its octets.
 pub record WrittenField : Type 0 where
@@ -181,7 +181,7 @@ pub record FieldRecord {V : Type 0} (Is : V → Type 0) (fields : V → List Fie
 module _ {V : Type 0} {Is : V → Type 0} {fields : V → List Field} (r : FieldRecord Is fields) where
   -- What a spelling means, and the spelling of a value under a mask.
   abbrev pub record_means : Spelling r.kinds → V
-  record_means s = r.join (meant r.kinds s)
+  record_means s = r.join (spelling_means r.kinds s)
 
   abbrev pub record_under : ℕ → V → Spelling r.kinds
   record_under mask v = under r.kinds mask (r.split v)
@@ -195,7 +195,7 @@ module _ {V : Type 0} {Is : V → Type 0} {fields : V → List Field} (r : Field
   record_read = made r.join (values_read r.kinds)
 
   abbrev pub record_whole : Reading V
-  record_whole = whole (tagged sequence record_read)
+  record_whole = whole (tagged sequence_tag record_read)
 
   abbrev pub record_strictly : Reading V
   record_strictly = strict_contents r.kinds r.join

@@ -10,8 +10,8 @@ use Rattle.standard.specs.Statement.{TagAndContents}
 abbrev pub own_octets_of : ObjectIdentifier → List ℕ
 own_octets_of oid = take oid.length oid.octets
 
-abbrev pub octets_of : IdentifierView → List ℕ
-octets_of oid = oid.octets.now
+abbrev pub identifier_octets : IdentifierView → List ℕ
+identifier_octets oid = oid.octets.now
 
 -- An encoding of any tag, borrowed and owned.
 abbrev pub any_of : AnyRef → TagAndContents

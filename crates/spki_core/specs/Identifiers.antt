@@ -4,7 +4,7 @@
 --     SEQUENCE { algorithm OBJECT IDENTIFIER, parameters ANY DEFINED BY algorithm OPTIONAL }
 use Rattle.std.specs.Prelude.{ℕ, Bool, List, [], Option, Some, None, ◌≡◌, ◌⊎◌, ◌++◌, ◌&&◌, eqb, option_map, bytes_eq}
 use Rattle.std.specs.Option.{option_eq}
-use Rattle.der_core.specs.Words.{object_identifier_tag, tlv}
+use Rattle.der_core.specs.Words.{object_identifier_octet, tlv}
 use Rattle.standard.specs.Statement.{optional}
 pub use Rattle.standard.specs.Statement.{Algorithm, IsAny, IsIdentifier, TagAndContents, any as written_any}
 
@@ -18,7 +18,7 @@ algorithm_map f a = record { oid = a.oid; parameters = option_map f a.parameters
 
 -- What is printed of it, without the tag of the SEQUENCE.
 abbrev pub algorithm_contents : {P : Type 0} → (P → List ℕ) → Algorithm P → List ℕ
-algorithm_contents printed a = tlv object_identifier_tag a.oid ++ optional printed a.parameters
+algorithm_contents printed a = tlv object_identifier_octet a.oid ++ optional printed a.parameters
 
 -- Tests for equality.
 abbrev pub same_any : TagAndContents → TagAndContents → Bool

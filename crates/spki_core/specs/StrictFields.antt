@@ -1,11 +1,11 @@
 -- Fields with defaults, which are not to be written if they equal them (X.690 11.5).
 use Rattle.std.specs.Prelude.{ℕ, Bool, true, false, List, [], ◌∷◌, ◌+◌, Option, Some, None, Result, Ok, Err, if◌then◌else◌}
-use Rattle.der_core.specs.Words.{context_tag, is_allowed, checked, is_next, whole}
+use Rattle.der_core.specs.Words.{context_octet, is_allowed, checked, is_next, whole}
 use Rattle.der_core.specs.declared.tag.TagNumber.{TagNumber}
 use Rattle.der_core.specs.declared.error.ErrorKind.{ErrorKind}
 use Rattle.der_core.specs.declared.error.ErrorKind.TheVariants.{Noncanonical, TagUnknown}
 use Rattle.spki_core.specs.Identifiers.{TagAndContents}
-use Rattle.spki_core.specs.Readings.{any}
+use Rattle.spki_core.specs.Readings.{any_front}
 
 -- What a walk finds behind an encoding of any tag, and in its contents.
 abbrev pub behind_any : (List ℕ → Option ℕ) → Result (TagAndContents × List ℕ) ErrorKind → Option ℕ
@@ -21,21 +21,21 @@ inside_any walk (Err k) = None
 -- tag.
 abbrev pub walked : ℕ → List Bool → List ℕ → Option ℕ
 walked n [] c = None
-walked n (true ∷ ds) c = if is_next (context_tag n) c then Some n else walked (n + 1) ds c
-walked n (false ∷ ds) c = behind_any (walked (n + 1) ds) (any c)
+walked n (true ∷ ds) c = if is_next (context_octet n) c then Some n else walked (n + 1) ds c
+walked n (false ∷ ds) c = behind_any (walked (n + 1) ds) (any_front c)
 
 -- A walk over the contents of a whole encoding.
 abbrev pub first_default : List Bool → List ℕ → Option ℕ
-first_default ds encoding = inside_any (walked 0 ds) (whole any encoding)
+first_default ds encoding = inside_any (walked 0 ds) (whole any_front encoding)
 
-abbrev pub number_in : TagNumber → ℕ
-number_in number = number.value
+abbrev pub tag_number_in : TagNumber → ℕ
+tag_number_in number = number.value
 
 -- The error that names the tag [n].
 abbrev pub noncanonical : ℕ → ErrorKind
 noncanonical n =
-    checked (is_allowed (context_tag n)) (λ ok. Noncanonical (record { octet = context_tag n; allowed = ok }))
-    (TagUnknown (context_tag n))
+    checked (is_allowed (context_octet n)) (λ ok. Noncanonical (record { octet = context_octet n; allowed = ok }))
+    (TagUnknown (context_octet n))
 
 -- The value, unless a default is found that is written.
 abbrev pub unless_found : {V : Type 0} → Option ℕ → V → Result V ErrorKind

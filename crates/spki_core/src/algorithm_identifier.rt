@@ -1,7 +1,7 @@
 //! Algorithm identifiers (RFC 5280 4.1.1.2).
 ghost use Rattle.std.specs.Prelude.{◌≡◌, ◌≢◌, refl, IfOk, IfErr, IfSome, IsOk, option_map, Some, None, Decides};
 ghost use Rattle.std.specs.Option.{unwrap_or};
-ghost use Rattle.spki_core.specs.Words.{Algorithm, AllocatesForParameters, AreSameHash, IsHash, NothingAskedAlone, TagAndContents, algorithm_alike, algorithm_contents, algorithm_decides, algorithm_in, algorithm_law, algorithm_map, algorithm_read, algorithm_with, algorithm_writes_shortest, any_of, null_value, octets_of, own_octets_of, viewed_with};
+ghost use Rattle.spki_core.specs.Words.{Algorithm, AllocatesForParameters, AreSameHash, IsHash, NothingAskedAlone, TagAndContents, algorithm_alike, algorithm_contents, algorithm_decides, algorithm_in, algorithm_law, algorithm_map, algorithm_read, algorithm_with, algorithm_writes_shortest, any_of, identifier_octets, null_value, own_octets_of, viewed_with};
 ghost use Rattle.standard.specs.Statement as standard;
 
 use crate::any::{AnyRef, AnyValue};
@@ -189,7 +189,7 @@ impl<'a, P> AlgorithmView<'a, P> {
     /// Copies the octets of the identifier.
     #[inline(always)]
     pub fn to_algorithm_identifier(self) -> AlgorithmIdentifier<P>
-        ensures oid { own_octets_of result.oid ≡ octets_of self.entry.oid }
+        ensures oid { own_octets_of result.oid ≡ identifier_octets self.entry.oid }
         ensures parameters { result.parameters ≡ self.entry.parameters }
     {
         ObjectIdentifier::algorithm_from_view(self)
@@ -200,7 +200,7 @@ impl<'a, P> AlgorithmView<'a, P> {
 pub trait ReadIdentifier<'a>: IdentifierValue + Drop {
     /// The algorithm of a view.
     fn algorithm_from_view<P>(algorithm: AlgorithmView<'a, P>) -> AlgorithmIdentifierOf<Self, P>
-        ensures oid { Self.octets result.oid ≡ octets_of algorithm.entry.oid }
+        ensures oid { Self.octets result.oid ≡ identifier_octets algorithm.entry.oid }
         ensures parameters { result.parameters ≡ algorithm.entry.parameters };
 }
 

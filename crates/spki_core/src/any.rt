@@ -1,7 +1,7 @@
 //! Encodings of any tag.
 ghost use Rattle.std.specs.Prelude.{◌≡◌, ◌≤◌, ◌<◌, ℕ, [], length, slice_index, refl, true, ⊤, IfOk, IsOk, IfErr, IsTrue};
-ghost use Rattle.der_core.specs.Words.{limit, is_allowed, ReadsFront, NoValueOrMemory, Returns, Prints, front_alike, one_spelling, starts_with_any};
-ghost use Rattle.spki_core.specs.Readings.{any, any_as};
+ghost use Rattle.der_core.specs.Words.{limit, is_allowed, ReadsFront, NoValueOrMemory, Returns, Prints, front_alike, one_spelling_shortest, starts_with_any};
+ghost use Rattle.spki_core.specs.Readings.{any_as, any_front};
 ghost use Rattle.spki_core.specs.Identifiers.{TagAndContents, null_value};
 ghost use Rattle.spki_core.specs.Laws.Printed.Readings.{any_law};
 ghost use Rattle.spki_core.specs.Laws.Printed.Shortest.{any_some};
@@ -129,17 +129,17 @@ impl Encoding for AnyRef<'_> {
 
     ghost printed = { standard.any };
 
-    ghost read_spelling = { any };
+    ghost read_spelling = { any_front };
 
-    ghost read_front = { any };
+    ghost read_front = { any_front };
 
     ghost law = { any_law };
 
-    ghost shortest = { one_spelling standard.IsAny standard.any };
+    ghost shortest = { one_spelling_shortest standard.IsAny standard.any };
 
     ghost some = { any_some };
 
-    ghost reads_alike = { front_alike any };
+    ghost reads_alike = { front_alike any_front };
 
     ghost starts = { starts_with_any standard.any };
 
@@ -178,7 +178,7 @@ impl<'a, M: Memory> Decode<&'a [u8], M> for AnyRef<'a> {
 #[inline(always)]
 fn read_any<'a, R: Reader<&'a [u8]>>(reader: &mut R) -> Result<AnyRef<'a>>
     ensures { ReadsFront (λ (held : AnyRef). record { tag = held.tag.octet; contents = held.contents.now })
-        any (λ _. ⊥) result (R.left reader.old) (R.left reader.new) }
+        any_front (λ _. ⊥) result (R.left reader.old) (R.left reader.new) }
 {
     let header = Header::decode(reader)?;
     let contents = reader.read_slice(header.length)?;
@@ -229,7 +229,7 @@ pub trait AnyValue: EqualByValue + Encode {
 
     /// The tag and contents, borrowed.
     fn as_any_ref(&self) -> AnyRef<'_>
-        ensures { any_of result ≡ any self.now };
+        ensures { any_of result ≡ any_front self.now };
 
     /// The tag and contents are what the value means.
     ghost holds: { HoldsAny Self.value Self.any };
@@ -239,7 +239,7 @@ pub trait AnyValue: EqualByValue + Encode {
         standard.IsAny standard.any };
 
     /// The tag and contents that are held have an encoding.
-    ghost held: { (x : Self) → standard.IsAny (any x) };
+    ghost held: { (x : Self) → standard.IsAny (any_front x) };
 }
 
 impl EqualByValue for AnyRef<'_> {

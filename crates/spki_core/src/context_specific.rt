@@ -1,6 +1,6 @@
 //! Values inside explicit context-specific tags (X.690 8.14.2).
 ghost use Rattle.std.specs.Prelude.{◌≡◌, ◌+◌, true, option_map};
-ghost use Rattle.der_core.specs.Words.{context_tag, Tlv, ReadsFront, alone, optional, tagged, AllocatesIn, TellsNext, starts_with_any};
+ghost use Rattle.der_core.specs.Words.{context_octet, Tlv, ReadsFront, alone, optional_front, tagged, AllocatesIn, TellsNext, starts_with_any};
 ghost use Rattle.spki_core.specs.Words.{FieldAllocates, explicit, numbered, Numbered, HasNumbered, numbered_alike, numbered_law, numbered_map, numbered_some, numbered_writes_shortest, written_numbered};
 
 use der_core::{
@@ -19,7 +19,7 @@ pub struct ContextSpecificRef<'b, T> {
 
 impl<'b, T> ContextSpecificRef<'b, T> {
     fn tag(&self) -> Tag
-        ensures { result.octet ≡ context_tag self.now.tag_number.value }
+        ensures { result.octet ≡ context_octet self.now.tag_number.value }
     {
         Tag::context(self.tag_number)
     }
@@ -88,7 +88,7 @@ impl<'b, T: Encode> Encode for ContextSpecificRef<'b, T> {
 /// Whether the next octet is that of the field's tag. Nothing is read. `Failed` on a reader that has failed.
 #[inline(always)]
 pub fn is_field_next<'a, R: Reader<&'a [u8]>>(reader: &mut R, number: TagNumber) -> Result<bool>
-    ensures { TellsNext (context_tag number.value) result (R.left reader.old) (R.left reader.new) }
+    ensures { TellsNext (context_octet number.value) result (R.left reader.old) (R.left reader.new) }
 {
     is_tag_next(reader, Tag::context(number))
 }
@@ -100,9 +100,9 @@ pub fn read_context_specific<'a, T: Decode<&'a [u8], M>, M: Memory, R: Reader<&'
     reader: &mut R,
     number: TagNumber,
 ) -> Result<Option<T>>
-    ensures { let tag = context_tag number.value in
+    ensures { let tag = context_octet number.value in
         let may = FieldAllocates number.value T.Decode.may_allocate in
-        let at = optional tag (explicit number.value T.read_front) in
+        let at = optional_front tag (explicit number.value T.read_front) in
         ReadsFront (option_map T.value) at may result (R.left reader.old) (R.left reader.new) }
 {
     if !is_field_next(reader, number)? {

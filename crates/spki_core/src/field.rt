@@ -1,6 +1,6 @@
 //! Explicit fields with defaults (X.690 8.14.2, 11.5).
 ghost use Rattle.std.specs.Prelude.{◌≡◌, ◌≤◌, ◌+◌, ℕ, length, IfSome, Ok};
-ghost use Rattle.der_core.specs.Words.{limit, free_of, Prepends, Counts, Appends, context_tag, tlv, ReadsFront, OptionalRead, Prints, ReadsBy, ReadsFronts, Tlv, optional};
+ghost use Rattle.der_core.specs.Words.{limit, free_of, Prepends, Counts, Appends, context_octet, tlv, ReadsFront, OptionalRead, Prints, ReadsBy, ReadsFronts, Tlv, optional_front};
 ghost use Rattle.spki_core.specs.Words.{FieldAllocates, FieldRead, defaulted, explicit};
 
 use crate::context_specific::{ContextSpecificRef, is_field_next, read_explicit};
@@ -52,7 +52,7 @@ pub fn quick_field<'a, T: Decode<&'a [u8], M>, M: Memory>(
 /// The length of a field that is written.
 pub fn field_len<T: Encode>(tag_number: TagNumber, value: &T) -> Result<Length>
     ensures { let v = T.value value.now in
-        Counts (T.valid (T.written v)) (tlv (context_tag tag_number.value) (T.printed (T.written v))) result }
+        Counts (T.valid (T.written v)) (tlv (context_octet tag_number.value) (T.printed (T.written v))) result }
 {
     ContextSpecificRef { tag_number, value }.encoded_len()
 }
@@ -64,7 +64,7 @@ pub fn encode_field<T: Encode, W: Writer>(
     writer: &mut W,
 ) -> Result<()>
     ensures appends { let s = T.written (T.value value.now) in
-        let octets = tlv (context_tag tag_number.value) (T.printed s) in
+        let octets = tlv (context_octet tag_number.value) (T.printed s) in
         Appends (T.valid s) octets W.room W.written writer.old writer.new result }
     ensures kept { W.keeps writer.old writer.new }
 {
@@ -74,10 +74,10 @@ pub fn encode_field<T: Encode, W: Writer>(
 /// Writes a field in front of what is filled.
 pub fn prepend_field<T: Encode>(tag_number: TagNumber, value: &T, writer: &mut BackWriter<'_>)
     requires has { T.valid (T.written (T.value value.now)) }
-    requires fits { length (tlv (context_tag tag_number.value) (T.printed (T.written (T.value value.now)))) ≤ limit }
-    requires room { length (tlv (context_tag tag_number.value) (T.printed (T.written (T.value value.now))))
+    requires fits { length (tlv (context_octet tag_number.value) (T.printed (T.written (T.value value.now)))) ≤ limit }
+    requires room { length (tlv (context_octet tag_number.value) (T.printed (T.written (T.value value.now))))
         ≤ free_of writer.old }
-    ensures { Prepends (tlv (context_tag tag_number.value) (T.printed (T.written (T.value value.now))))
+    ensures { Prepends (tlv (context_octet tag_number.value) (T.printed (T.written (T.value value.now))))
         writer.old writer.new }
 {
     ContextSpecificRef { tag_number, value }.prepend(writer);
@@ -87,10 +87,10 @@ pub fn prepend_field<T: Encode>(tag_number: TagNumber, value: &T, writer: &mut B
 /// where the octet of the tag isn't next. In place of nothing, `read_field` gives the default.
 pub fn lemma_fields_are_read<T: Encoding>()
     ensures explicit { (n : ℕ) → n ≤ 30
-        → ReadsFronts (λ v. Tlv (context_tag n) (Prints T.valid T.printed T.means v)) (explicit n T.read_front) }
+        → ReadsFronts (λ v. Tlv (context_octet n) (Prints T.valid T.printed T.means v)) (explicit n T.read_front) }
     ensures optional { (n : ℕ) → n ≤ 30
-        → ReadsBy (OptionalRead (context_tag n) (λ v. Tlv (context_tag n) (Prints T.valid T.printed T.means v)))
-        (optional (context_tag n) (explicit n T.read_front)) }
+        → ReadsBy (OptionalRead (context_octet n) (λ v. Tlv (context_octet n) (Prints T.valid T.printed T.means v)))
+        (optional_front (context_octet n) (explicit n T.read_front)) }
     ensures default { (n : ℕ) (default : T.Value) → n ≤ 30
         → ReadsBy (FieldRead n (Prints T.valid T.printed T.means) default) (defaulted n T.read_front default) }
 {}

@@ -2,7 +2,7 @@
 ghost use Rattle.std.specs.Prelude.{◌≡◌, ℕ, ◌<◌, List, length, slice_index, IsTrue, IfOk, IfErr};
 ghost use Rattle.spki_core.specs.IdentifierTest as specs;
 ghost use Rattle.spki_core.specs.Identifiers.{IsIdentifier};
-ghost use Rattle.der_core.specs.Words.{Answers, alike, one_spelling};
+ghost use Rattle.der_core.specs.Words.{Answers, one_spelling_shortest, reading_alike};
 ghost use Rattle.spki_core.specs.Readings.{identifier_read};
 ghost use Rattle.spki_core.specs.Laws.Printed.Readings.{oid_law};
 ghost use Rattle.standard.specs.Statement as standard;
@@ -24,13 +24,13 @@ pub struct IdentifierView<'a> {
 }
 
 impl<'a> IdentifierView<'a> {
-    ghost use Rattle.spki_core.specs.Words.{own_octets_of, octets_of};
+    ghost use Rattle.spki_core.specs.Words.{own_octets_of, identifier_octets};
 
     /// The identifier with these contents octets, which are known to be one. `from_bytes` tests them.
     #[inline(always)]
     pub fn over(octets: &'a [u8]) -> IdentifierView<'a>
         requires { IsTrue (specs.is_identifier octets.now) }
-        ensures { octets_of result ≡ octets.now }
+        ensures { identifier_octets result ≡ octets.now }
     {
         IdentifierView { octets }
     }
@@ -38,9 +38,9 @@ impl<'a> IdentifierView<'a> {
     /// The identifier with these contents octets, or `OidMalformed`.
     #[inline(always)]
     pub fn from_bytes(bytes: &'a [u8]) -> Result<IdentifierView<'a>>
-        ensures ok { IfOk result (λ oid. IsIdentifier bytes.now × (octets_of oid ≡ bytes.now)) }
+        ensures ok { IfOk result (λ oid. IsIdentifier bytes.now × (identifier_octets oid ≡ bytes.now)) }
         ensures err { IfErr result (λ e. (e.kind ≡ ErrorKind.OidMalformed) × (IsIdentifier bytes.now → ⊥)) }
-        ensures exact { Answers octets_of result (identifier_read bytes.now) }
+        ensures exact { Answers identifier_octets result (identifier_read bytes.now) }
     {
         if !is_identifier(bytes) {
             return Err(Error::new(ErrorKind::OidMalformed));
@@ -51,8 +51,8 @@ impl<'a> IdentifierView<'a> {
     /// The contents octets, at least one.
     #[inline(always)]
     pub fn as_bytes(&self) -> &'a [u8]
-        ensures octets { result.now ≡ octets_of self.now }
-        ensures valid { IsIdentifier (octets_of self.now) }
+        ensures octets { result.now ≡ identifier_octets self.now }
+        ensures valid { IsIdentifier (identifier_octets self.now) }
     {
         self.octets
     }
@@ -60,7 +60,7 @@ impl<'a> IdentifierView<'a> {
     /// How many octets there are.
     #[inline(always)]
     fn octet_count(&self) -> u8
-        ensures { result ≡ length (octets_of self.now) }
+        ensures { result ≡ length (identifier_octets self.now) }
     {
         self.octets.len() as u8
     }
@@ -68,7 +68,7 @@ impl<'a> IdentifierView<'a> {
     /// Copies the octets.
     #[inline(always)]
     pub fn to_object_identifier(self) -> ObjectIdentifier
-        ensures { own_octets_of result ≡ octets_of self.entry }
+        ensures { own_octets_of result ≡ identifier_octets self.entry }
     {
         ObjectIdentifier::new(self.octets)
     }
@@ -76,7 +76,7 @@ impl<'a> IdentifierView<'a> {
 
 /// A type that holds an object identifier: `ObjectIdentifier` or `IdentifierView`.
 pub trait IdentifierValue: Sized {
-    ghost use Rattle.spki_core.specs.Words.{octets_of};
+    ghost use Rattle.spki_core.specs.Words.{identifier_octets};
 
     /// The contents octets that are held.
     ghost octets: { Self → List ℕ };
@@ -87,16 +87,16 @@ pub trait IdentifierValue: Sized {
 
     /// The identifier, borrowed.
     fn as_identifier_view(&self) -> IdentifierView<'_>
-        ensures { octets_of result ≡ octets self.now };
+        ensures { identifier_octets result ≡ octets self.now };
 
     /// What is held is the contents of an object identifier.
     ghost identifies: { (oid : Self) → IsIdentifier (octets oid) };
 }
 
 impl<'a> IdentifierValue for IdentifierView<'a> {
-    ghost use Rattle.spki_core.specs.Words.{octets_of, viewed_held};
+    ghost use Rattle.spki_core.specs.Words.{identifier_octets, viewed_held};
 
-    ghost octets = { octets_of };
+    ghost octets = { identifier_octets };
 
     #[inline(always)]
     fn named<D: AssociatedOid>() -> IdentifierView<'a> {
@@ -130,11 +130,11 @@ impl IdentifierValue for ObjectIdentifier {
 }
 
 impl Contents for IdentifierView<'_> {
-    ghost use Rattle.spki_core.specs.Words.{octets_of};
+    ghost use Rattle.spki_core.specs.Words.{identifier_octets};
 
     ghost Value = { List ℕ };
 
-    ghost value = { octets_of };
+    ghost value = { identifier_octets };
 
     ghost Spelling = { List ℕ };
 
@@ -152,9 +152,9 @@ impl Contents for IdentifierView<'_> {
 
     ghost law = { oid_law };
 
-    ghost shortest = { one_spelling standard.IsIdentifier (λ oid. oid) };
+    ghost shortest = { one_spelling_shortest standard.IsIdentifier (λ oid. oid) };
 
-    ghost reads_alike = { alike identifier_read };
+    ghost reads_alike = { reading_alike identifier_read };
 }
 
 impl TaggedBy for IdentifierView<'_> {

@@ -3,7 +3,7 @@ ghost use Rattle.std.specs.Prelude.{◌≡◌, ◌-◌, ℕ, ◌≤◌, ◌<◌,
 ghost use Rattle.std.proofs.Math.ListN.{replicate};
 ghost use Rattle.spki_core.specs.IdentifierTest as specs;
 ghost use Rattle.spki_core.specs.Identifiers.{IsIdentifier};
-ghost use Rattle.der_core.specs.Words.{Answers, alike, one_spelling, object_identifier};
+ghost use Rattle.der_core.specs.Words.{Answers, reading_alike, one_spelling_shortest, object_identifier_tag};
 ghost use Rattle.spki_core.specs.Readings.{identifier_read};
 ghost use Rattle.spki_core.specs.Laws.Printed.Readings.{oid_law};
 ghost use Rattle.standard.specs.Statement as standard;
@@ -63,7 +63,7 @@ fn has_no_80(octets: &[u8]) -> bool
 
 /// Whether these are whole subidentifiers, for sure: no octet is 80, and the last one ends a subidentifier.
 #[inline(always)]
-#[tactic(auto, using(crate::proofs::Octets::ends_plain))]
+#[tactic(auto, using(crate::proofs::Octets::ends_well_plain))]
 fn ends_plainly(octets: &[u8]) -> bool
     ensures { IsTrue result → specs.ends_well true octets.now ≡ true }
 {
@@ -82,7 +82,7 @@ pub(crate) fn is_identifier(octets: &[u8]) -> bool
 }
 
 /// Whether these are whole subidentifiers, octet by octet.
-#[tactic(auto, using(crate::proofs::Octets::next))]
+#[tactic(auto, using(crate::proofs::Octets::ends_well_next))]
 fn ends_well(octets: &[u8]) -> bool
     ensures { result ≡ specs.ends_well true octets.now }
 {
@@ -206,7 +206,7 @@ impl Hash for ObjectIdentifier {
 pub struct ObjectIdentifierTag;
 
 impl TagMarker for ObjectIdentifierTag {
-    ghost TAG = { object_identifier };
+    ghost TAG = { object_identifier_tag };
 
     const TAG: Tag = Tag::OBJECT_IDENTIFIER;
 }
@@ -234,9 +234,9 @@ impl Contents for ObjectIdentifier {
 
     ghost law = { oid_law };
 
-    ghost shortest = { one_spelling standard.IsIdentifier (λ oid. oid) };
+    ghost shortest = { one_spelling_shortest standard.IsIdentifier (λ oid. oid) };
 
-    ghost reads_alike = { alike identifier_read };
+    ghost reads_alike = { reading_alike identifier_read };
 }
 
 impl TaggedBy for ObjectIdentifier {

@@ -1,7 +1,7 @@
 //! Encodings of any tag that own their contents.
 ghost use Rattle.std.specs.Prelude.{◌≡◌, ◌≤◌, ◌<◌, ◌⊎◌, ℕ, length, slice_index, true, IfOk, IfErr};
-ghost use Rattle.der_core.specs.Words.{limit, Prints, front_alike, one_spelling, starts_with_any};
-ghost use Rattle.spki_core.specs.Readings.{any};
+ghost use Rattle.der_core.specs.Words.{limit, Prints, front_alike, one_spelling_shortest, starts_with_any};
+ghost use Rattle.spki_core.specs.Readings.{any_front};
 ghost use Rattle.spki_core.specs.Identifiers.{TagAndContents};
 ghost use Rattle.spki_core.specs.Laws.Printed.Readings.{any_law};
 ghost use Rattle.spki_core.specs.Laws.Printed.Shortest.{any_some};
@@ -78,17 +78,17 @@ impl Encoding for Any {
 
     ghost printed = { standard.any };
 
-    ghost read_spelling = { any };
+    ghost read_spelling = { any_front };
 
-    ghost read_front = { any };
+    ghost read_front = { any_front };
 
     ghost law = { any_law };
 
-    ghost shortest = { one_spelling standard.IsAny standard.any };
+    ghost shortest = { one_spelling_shortest standard.IsAny standard.any };
 
     ghost some = { any_some };
 
-    ghost reads_alike = { front_alike any };
+    ghost reads_alike = { front_alike any_front };
 
     ghost starts = { starts_with_any standard.any };
 

@@ -1,7 +1,7 @@
 //! Fields that are written though they equal their defaults, which DER forbids (X.690 11.5).
 ghost use Rattle.std.specs.Prelude.{◌≡◌, ◌≤◌, ◌+◌, length, option_map};
 ghost use Rattle.der_core.specs.Words.{Answers, limit};
-ghost use Rattle.spki_core.specs.Words.{any, any_of, first_default, number_in, walked};
+ghost use Rattle.spki_core.specs.Words.{any_front, any_of, first_default, tag_number_in, walked};
 
 use crate::any::AnyRef;
 use der_core::{Decode, NoMemory, Reader, Result, SliceReader, TagNumber};
@@ -9,7 +9,7 @@ use der_core::{Decode, NoMemory, Reader, Result, SliceReader, TagNumber};
 /// The first encoding, of any tag, and the bytes behind it.
 fn first_any<'a>(bytes: &'a [u8]) -> Result<(AnyRef<'a>, &'a [u8])>
     requires { length bytes.now ≤ limit }
-    ensures { Answers (λ p. (any_of p.0, p.1.now)) result (any bytes.now) }
+    ensures { Answers (λ p. (any_of p.0, p.1.now)) result (any_front bytes.now) }
 {
     let mut reader = SliceReader::new(bytes)?;
     let any = AnyRef::decode(NoMemory, &mut reader)?;
@@ -22,7 +22,7 @@ fn first_any<'a>(bytes: &'a [u8]) -> Result<(AnyRef<'a>, &'a [u8])>
 fn first_written(contents: &[u8], number: u8, defaults: &[bool]) -> Option<TagNumber>
     requires fits { length contents.now ≤ limit }
     requires few { number + length defaults.now ≤ 31 }
-    ensures { option_map number_in result ≡ walked number defaults.now contents.now }
+    ensures { option_map tag_number_in result ≡ walked number defaults.now contents.now }
 {
     if contents.is_empty() {
         return None;
@@ -50,7 +50,7 @@ fn first_written(contents: &[u8], number: u8, defaults: &[bool]) -> Option<TagNu
 /// SEQUENCE of such fields.
 pub fn written_default(bytes: &[u8], defaults: &[bool]) -> Option<TagNumber>
     requires { length defaults.now ≤ 31 }
-    ensures { option_map number_in result ≡ first_default defaults.now bytes.now }
+    ensures { option_map tag_number_in result ≡ first_default defaults.now bytes.now }
 {
     match AnyRef::from_der(NoMemory, bytes) {
         Ok(any) => first_written(any.value(), 0, defaults),

@@ -1,40 +1,32 @@
 -- Worked rows of `specs/Statement.antt` of `standard`: each fails for a common mistake in a definition or in a promise.
-use Rattle.std.proofs.Common.{ℕ, List, [], ◌∷◌, ◌++◌, ◌≡◌, ◌≢◌, ◌≤◌, ◌<◌, ◌+◌, ◌*◌, ◌∙◌, ◌⊎◌, length, refl, ap, sym, arith, Some, None, inl, inr, codes, nat_lt, if◌then◌else◌, ◌-◌, ◌^◌, replicate, drop}
+use Rattle.std.proofs.Common.{ℕ, List, [], ◌∷◌, ◌++◌, ◌≡◌, ◌≢◌, ◌≤◌, ◌<◌, ◌∙◌, ◌⊎◌, length, refl, ap, sym, arith, Some, None, inl, inr, codes, ◌^◌, replicate, drop}
 use Rattle.std.specs.Prelude.{slice_index}
 use Rattle.std.specs.List.{AllByRecursion, concat}
+use Rattle.standard.proofs.Rows.{digit, hex}
 use Rattle.standard.specs.Statement.{Algorithm, AlgorithmEncoding, AreAll, AreOctets, AtMostOne, Container, ContainedKeyEncoding, ContainerEncoding, Decodes, Encodes, Field, Fields, FieldsUnder, IsAny, IsBare, IsIdentifier, IsOaep, IsPss, IsShortest, Lists, OaepAlgorithmEncoding, OaepParameters, PrivateKey, PrivateKeyEncoding, PssAlgorithmEncoding, PssParameters, PublicKey, PublicKeyEncoding, SameByShortest, TagAndContents, TwoToTheDefaults, TwoToTheDefaultsIn, id_rsaes_oaep, integer, length_octets, mgf1_sha1, pss_fields, rsa_encryption, sequence, sha1, tlv}
 
-digit : ℕ → ℕ
-digit c = if nat_lt c 58 then c - 48 else c - 87
-
--- The octets with these hexadecimal digits.
-hex : List ℕ → List ℕ
-unfolding digit
-hex [] = []
-hex (a ∷ []) = []
-hex (a ∷ b ∷ digits) = (16 * digit a + digit b) ∷ hex digits
-
 -- == Lengths, numbers ==
-lengths : (length_octets 127 ≡ hex (codes "7f")) × (length_octets 128 ≡ hex (codes "8180"))
+length_octets_rows : (length_octets 127 ≡ hex (codes "7f")) × (length_octets 128 ≡ hex (codes "8180"))
     × (length_octets 255 ≡ hex (codes "81ff")) × (length_octets 256 ≡ hex (codes "820100"))
 unfolding hex digit length_octets
-lengths = (refl, refl, refl, refl)
+length_octets_rows = (refl, refl, refl, refl)
 
-numbers : (integer 0 ≡ hex (codes "020100")) × (integer 127 ≡ hex (codes "02017f"))
+integer_octets_rows : (integer 0 ≡ hex (codes "020100")) × (integer 127 ≡ hex (codes "02017f"))
     × (integer 128 ≡ hex (codes "02020080")) × (integer 256 ≡ hex (codes "02020100"))
 unfolding hex digit length_octets
-numbers = (refl, refl, refl, refl)
+integer_octets_rows = (refl, refl, refl, refl)
 
 -- == Keys: the order of their numbers ==
-public_key : PublicKey
-public_key = record { modulus = 7; public_exponent = 3 }
+small_public_key : PublicKey
+small_public_key = record { modulus = 7; public_exponent = 3 }
 
-public_key_is : (bytes : List ℕ) → PublicKeyEncoding public_key bytes → bytes ≡ hex (codes "3006020107020103")
-unfolding public_key hex digit length_octets
-public_key_is bytes p = p.1
+small_public_key_octets : (bytes : List ℕ) → PublicKeyEncoding small_public_key bytes
+    → bytes ≡ hex (codes "3006020107020103")
+unfolding small_public_key hex digit length_octets
+small_public_key_octets bytes p = p.1
 
-private_key : PrivateKey
-private_key = record {
+small_private_key : PrivateKey
+small_private_key = record {
   modulus = 7;
   public_exponent = 3;
   private_exponent = 5;
@@ -46,33 +38,33 @@ private_key = record {
   other_primes = Some (record { prime = 17; exponent = 8; coefficient = 9 } ∷ []);
 }
 
-private_key_is : (bytes : List ℕ) → PrivateKeyEncoding private_key bytes → bytes ≡ hex
+small_private_key_octets : (bytes : List ℕ) → PrivateKeyEncoding small_private_key bytes → bytes ≡ hex
     (codes "302802010102010702010302010502010b02010d020102020104020106300b3009020111020108020109")
-unfolding private_key hex digit length_octets
-private_key_is bytes p = p.2
+unfolding small_private_key hex digit length_octets
+small_private_key_octets bytes p = p.2
 
 -- == Containers ==
-with_attributes : Container
-with_attributes = record { algorithm = rsa_encryption; private_key = 1 ∷ []; attributes = Some [] }
+container_with_attributes : Container
+container_with_attributes = record { algorithm = rsa_encryption; private_key = 1 ∷ []; attributes = Some [] }
 
-with_attributes_is : (bytes : List ℕ) → ContainerEncoding with_attributes bytes
+container_with_attributes_octets : (bytes : List ℕ) → ContainerEncoding container_with_attributes bytes
     → bytes ≡ hex (codes "3017020100300d06092a864886f70d0101010500040101a000")
-unfolding with_attributes hex digit length_octets
-with_attributes_is bytes p = p.4
+unfolding container_with_attributes hex digit length_octets
+container_with_attributes_octets bytes p = p.4
 
 -- A key in a container is under rsaEncryption.
-contained : (bytes : List ℕ) → ContainedKeyEncoding private_key bytes
+contained_key_under_rsa : (bytes : List ℕ) → ContainedKeyEncoding small_private_key bytes
     → (c : Container) × ContainerEncoding c bytes × (c.algorithm.oid ≡ hex (codes "2a864886f70d010101"))
 unfolding hex digit
-contained bytes p = (p.0, p.1, ap (λ a. a.oid) p.2)
+contained_key_under_rsa bytes p = (p.0, p.1, ap (λ a. a.oid) p.2)
 
 -- == Identifiers, tags ==
-forty_octets : IsIdentifier (replicate 40 1) → ⊥
-forty_octets p = omega (arith, p.4)
+identifier_of_forty_octets : IsIdentifier (replicate 40 1) → ⊥
+identifier_of_forty_octets p = omega (arith, p.4)
 
 -- What is so of each subidentifier.
-abbrev IsPart : List ℕ → Type 0
-IsPart id =
+abbrev IsSubidentifierPart : List ℕ → Type 0
+IsSubidentifierPart id =
     (front : List ℕ) × (last : ℕ) × (id ≡ front ++ last ∷ [])
     × AllByRecursion (λ b. (128 ≤ b) × (b < 256)) front × (last < 128) × (slice_index id 0 ≢ 128)
 
@@ -87,24 +79,26 @@ part_below [] rest more last b all below e = ap (drop 1) e
 part_below (f ∷ front) rest more last b all below e =
     absurd (omega (arith, all.0.0, below, ap (λ octets. slice_index octets 0) e))
 
-part_of_80 : (id : List ℕ) → IsPart id → (rest more : List ℕ) → id ++ rest ≡ 128 ∷ more → ⊥
+part_of_80 : (id : List ℕ) → IsSubidentifierPart id → (rest more : List ℕ) → id ++ rest ≡ 128 ∷ more → ⊥
 part_of_80 [] (front, last, is, all, below, begins) rest more e =
     not_empty front [] last (ap (λ octets. octets ++ []) is)
 part_of_80 (b ∷ id) (front, last, is, all, below, begins) rest more e = begins (ap (λ octets. slice_index octets 0) e)
 
-parts_of_none : (ids : List (List ℕ)) → 0 < length ids → AllByRecursion IsPart ids → [] ≡ concat ids → ⊥
+parts_of_none : (ids : List (List ℕ)) → 0 < length ids → AllByRecursion IsSubidentifierPart ids → [] ≡ concat ids → ⊥
 parts_of_none [] some all e = omega (arith, some)
 parts_of_none (id ∷ ids) some all e =
     not_empty all.0.0 (concat ids) all.0.1 (e ∙ ap (λ it. it ++ concat ids) all.0.2)
 
-no_octets : IsIdentifier [] → ⊥
-no_octets p = parts_of_none p.0 p.1 p.2 p.3
+identifier_of_no_octets : IsIdentifier [] → ⊥
+identifier_of_no_octets p = parts_of_none p.0 p.1 p.2 p.3
 
-parts_of_80 : (ids : List (List ℕ)) → AllByRecursion IsPart ids → (more : List ℕ) → concat ids ≡ 128 ∷ more → ⊥
+parts_of_80 : (ids : List (List ℕ)) → AllByRecursion IsSubidentifierPart ids → (more : List ℕ) → concat ids ≡ 128 ∷ more
+    → ⊥
 parts_of_80 [] all more e = cc
 parts_of_80 (id ∷ ids) all more e = part_of_80 id all.0 (concat ids) more e
 
-second_begins_with_80 : (ids : List (List ℕ)) → AllByRecursion IsPart ids → hex (codes "2a8001") ≡ concat ids → ⊥
+second_begins_with_80 : (ids : List (List ℕ)) → AllByRecursion IsSubidentifierPart ids
+    → hex (codes "2a8001") ≡ concat ids → ⊥
 unfolding hex digit
 second_begins_with_80 [] all e = cc
 second_begins_with_80 (id ∷ ids) all e =
@@ -112,41 +106,42 @@ second_begins_with_80 (id ∷ ids) all e =
     parts_of_80 ids all.1 (1 ∷ [])
     (part_below all.0.0 (concat ids) (128 ∷ 1 ∷ []) all.0.1 42 all.0.3 (omega arith) first)
 
-subidentifier_of_80 : IsIdentifier (hex (codes "2a8001")) → ⊥
-subidentifier_of_80 p = second_begins_with_80 p.0 p.2 p.3
+identifier_with_part_of_80 : IsIdentifier (hex (codes "2a8001")) → ⊥
+identifier_with_part_of_80 p = second_begins_with_80 p.0 p.2 p.3
 
-oaep_identifier : id_rsaes_oaep ≡ hex (codes "2a864886f70d010107")
+oaep_identifier_octets : id_rsaes_oaep ≡ hex (codes "2a864886f70d010107")
 unfolding hex digit
-oaep_identifier = refl
+oaep_identifier_octets = refl
 
-tag_0 : IsAny (record { tag = 0; contents = [] }) → ⊥
-tag_0 p = let never = p.0 in cc
+any_of_tag_0 : IsAny (record { tag = 0; contents = [] }) → ⊥
+any_of_tag_0 p = let never = p.0 in cc
 
-tag_32 : IsAny (record { tag = 32; contents = [] }) → ⊥
-tag_32 p = let never = p.0 in cc
+any_of_tag_32 : IsAny (record { tag = 32; contents = [] }) → ⊥
+any_of_tag_32 p = let never = p.0 in cc
 
-tag_256 : IsAny (record { tag = 256; contents = [] }) → ⊥
-tag_256 p = let never = p.0 in cc
+any_of_tag_256 : IsAny (record { tag = 256; contents = [] }) → ⊥
+any_of_tag_256 p = let never = p.0 in cc
 
-octet_256 : IsAny (record { tag = 5; contents = 256 ∷ [] }) → ⊥
-octet_256 p = omega (arith, p.1.0)
+any_of_octet_256 : IsAny (record { tag = 5; contents = 256 ∷ [] }) → ⊥
+any_of_octet_256 p = omega (arith, p.1.0)
 
 not_an_octet : AreOctets (256 ∷ []) → ⊥
 not_an_octet p = omega (arith, p.0)
 
 -- == Parameters ==
-usual : PssParameters
-usual = record { hash = sha1; mask_gen = mgf1_sha1; salt_len = 20; trailer_field = 1 }
+usual_pss_parameters : PssParameters
+usual_pss_parameters = record { hash = sha1; mask_gen = mgf1_sha1; salt_len = 20; trailer_field = 1 }
 
 salt_256 : IsPss (record { hash = sha1; mask_gen = mgf1_sha1; salt_len = 256; trailer_field = 1 }) → ⊥
 salt_256 p = omega (arith, p.2)
 
 -- NULL without octets is copied without memory; with an octet it isn't.
-bare : IsBare sha1
-bare = refl
+sha1_is_bare : IsBare sha1
+sha1_is_bare = refl
 
-not_bare : IsBare (record { oid = []; parameters = Some (record { tag = 5; contents = 1 ∷ [] }) }) → ⊥
-not_bare p = cc
+null_with_octet_is_not_bare : IsBare (record { oid = []; parameters = Some (record { tag = 5; contents = 1 ∷ [] }) })
+    → ⊥
+null_with_octet_is_not_bare p = cc
 
 abbrev of_tag_0 : Algorithm TagAndContents
 of_tag_0 = record { oid = 1 ∷ []; parameters = Some (record { tag = 0; contents = [] }) }
@@ -158,48 +153,48 @@ source_of_tag_0 : IsOaep (record { hash = sha1; mask_gen = mgf1_sha1; p_source =
 source_of_tag_0 p = let never = p.2.1.0 in cc
 
 -- An algorithm with parameters begins with its own identifier.
-Begins : List ℕ → List ℕ → Type 0
-Begins oid bytes = (parameters : List ℕ) × (bytes ≡ sequence (tlv 6 oid ++ parameters))
+BeginsWithIdentifier : List ℕ → List ℕ → Type 0
+BeginsWithIdentifier oid bytes = (parameters : List ℕ) × (bytes ≡ sequence (tlv 6 oid ++ parameters))
 
-pss_algorithm : (p : PssParameters) (bytes : List ℕ) → PssAlgorithmEncoding p bytes
-    → Begins (hex (codes "2a864886f70d01010a")) bytes
-unfolding Begins hex digit
-pss_algorithm p bytes is = (is.1, is.3)
+pss_algorithm_begins : (p : PssParameters) (bytes : List ℕ) → PssAlgorithmEncoding p bytes
+    → BeginsWithIdentifier (hex (codes "2a864886f70d01010a")) bytes
+unfolding BeginsWithIdentifier hex digit
+pss_algorithm_begins p bytes is = (is.1, is.3)
 
-oaep_algorithm : (p : OaepParameters) (bytes : List ℕ) → OaepAlgorithmEncoding p bytes
-    → Begins (hex (codes "2a864886f70d010107")) bytes
-unfolding Begins hex digit
-oaep_algorithm p bytes is = (is.1, is.3)
+oaep_algorithm_begins : (p : OaepParameters) (bytes : List ℕ) → OaepAlgorithmEncoding p bytes
+    → BeginsWithIdentifier (hex (codes "2a864886f70d010107")) bytes
+unfolding BeginsWithIdentifier hex digit
+oaep_algorithm_begins p bytes is = (is.1, is.3)
 
 -- Fields that have their defaults may be left out, and may be written.
-all_left_out : Fields (pss_fields usual) []
-unfolding usual
+all_left_out : Fields (pss_fields usual_pss_parameters) []
+unfolding usual_pss_parameters
 all_left_out = inl (refl, inl (refl, inl (refl, inl (refl, refl))))
 
-salt_written : Fields (pss_fields usual) (hex (codes "a203020114"))
-unfolding usual hex digit length_octets
+salt_written : Fields (pss_fields usual_pss_parameters) (hex (codes "a203020114"))
+unfolding usual_pss_parameters hex digit length_octets
 salt_written = inl (refl, inl (refl, inr ([], refl, inl (refl, refl))))
 
 -- The salt length is the third of them: bit 2.
-salt_alone : FieldsUnder 4 (pss_fields usual) (hex (codes "a203020114"))
-unfolding usual hex digit length_octets
+salt_alone : FieldsUnder 4 (pss_fields usual_pss_parameters) (hex (codes "a203020114"))
+unfolding usual_pss_parameters hex digit length_octets
 salt_alone =
     inl (refl, 2, refl, inl (refl, 1, refl, inr (inl (refl, 0, refl, [], refl, inl (refl, 0, refl, (refl, refl))))))
 
 -- == Promises: each of these would hold if the promise claimed too little ==
-abbrev Empty : ℕ → List ℕ → Type 0
-Empty v bytes = bytes ≡ []
+abbrev EmptyEncoding : ℕ → List ℕ → Type 0
+EmptyEncoding v bytes = bytes ≡ []
 
 abbrev Whatever : ℕ → List ℕ → Type 0
 Whatever v bytes = bytes ≡ bytes
 
-nothing_read : Decodes Empty [] None → ⊥
+nothing_read : Decodes EmptyEncoding [] None → ⊥
 nothing_read p = p 0 refl
 
-two_values_read : Decodes Empty [] (Some 1) → ⊥
+two_values_read : Decodes EmptyEncoding [] (Some 1) → ⊥
 two_values_read p = omega (arith, p.1 0 refl)
 
-no_encoding_read : Decodes Empty (1 ∷ []) (Some 0) → ⊥
+no_encoding_read : Decodes EmptyEncoding (1 ∷ []) (Some 0) → ⊥
 no_encoding_read p = let same = p.0 in cc
 
 less_than_none : (◌≡◌ {A = List ℕ} [] (1 ∷ [])) ⊎ (1 < 0) → ⊥
@@ -209,23 +204,23 @@ less_than_none (inr less) = omega (arith, less)
 longer_one : IsShortest Whatever 0 (1 ∷ []) → ⊥
 longer_one p = less_than_none (p.1 [] refl)
 
-no_encoding : IsShortest Empty 0 (1 ∷ []) → ⊥
-no_encoding p = let same = p.0 in cc
+shortest_encodes : IsShortest EmptyEncoding 0 (1 ∷ []) → ⊥
+shortest_encodes p = let same = p.0 in cc
 
-nothing_written : Encodes Empty 0 [] [] None → ⊥
+nothing_written : Encodes EmptyEncoding 0 [] [] None → ⊥
 nothing_written p = omega (arith, p.1 [] refl)
 
-unchanged : Encodes (λ (v : ℕ) bytes. bytes ≡ 1 ∷ 2 ∷ []) 0 [] (3 ∷ []) None → ⊥
-unchanged p = let same = p.0 in cc
+unwritten_slice_unchanged : Encodes (λ (v : ℕ) bytes. bytes ≡ 1 ∷ 2 ∷ []) 0 [] (3 ∷ []) None → ⊥
+unwritten_slice_unchanged p = let same = p.0 in cc
 
-too_long : Encodes (λ (v : ℕ) bytes. bytes ≡ []) 0 [] [] (Some 1) → ⊥
-too_long p = omega (arith, p.0)
+written_within_slice : Encodes (λ (v : ℕ) bytes. bytes ≡ []) 0 [] [] (Some 1) → ⊥
+written_within_slice p = omega (arith, p.0)
 
-rest_kept : Encodes Empty 0 (1 ∷ []) (2 ∷ []) (Some 0) → ⊥
+rest_kept : Encodes EmptyEncoding 0 (1 ∷ []) (2 ∷ []) (Some 0) → ⊥
 rest_kept p = let same = p.2 in cc
 
-two_encodings : AtMostOne Whatever → ⊥
-two_encodings p = let same = p 0 [] (1 ∷ []) refl refl in cc
+at_most_one_encoding : AtMostOne Whatever → ⊥
+at_most_one_encoding p = let same = p 0 [] (1 ∷ []) refl refl in cc
 
 nothing_listed : Lists (λ (v : ℕ). v ≡ v) (λ (v : ℕ). []) 0 None → ⊥
 unfolding length_octets
@@ -234,10 +229,10 @@ nothing_listed p = omega (arith, p refl)
 none_listed : Lists (λ (v : ℕ). v ≡ v) (λ (v : ℕ). []) 0 (Some []) → ⊥
 none_listed p = omega (arith, p.2.count, ap (λ k. 2 ^ k) p.1)
 
-empty_is_shortest : (v : ℕ) → IsShortest Empty v []
+empty_is_shortest : (v : ℕ) → IsShortest EmptyEncoding v []
 empty_is_shortest v = (refl, λ other is. inl is)
 
-same_means : SameByShortest Empty → ⊥
+same_means : SameByShortest EmptyEncoding → ⊥
 same_means p =
     omega (arith, (p 0 1 [] [] [] [] refl refl (empty_is_shortest 0) (empty_is_shortest 1)).1 refl)
 

@@ -12,25 +12,25 @@ use Rattle.pkcs1.specs.declared.public_key.RsaPublicKey.{RsaPublicKey}
 use Rattle.pkcs1.specs.declared.view.RsaPrivateKeyView.{RsaPrivateKeyView}
 use Rattle.standard.specs.Statement.{OtherPrime, PrivateKey, PublicKey, length_octets}
 
-abbrev itself : List ℕ → List ℕ
-itself octets = octets
+abbrev number_itself : List ℕ → List ℕ
+number_itself octets = octets
 
 -- == Public keys ==
-abbrev given : RsaPublicKey (List ℕ)
-given = record { modulus = 1 ∷ 2 ∷ []; public_exponent = 3 ∷ 4 ∷ [] }
+abbrev given_public_key : RsaPublicKey (List ℕ)
+given_public_key = record { modulus = 1 ∷ 2 ∷ []; public_exponent = 3 ∷ 4 ∷ [] }
 
-abbrev meant : PublicKey
-meant = record { modulus = 258; public_exponent = 772 }
+abbrev meant_public_key : PublicKey
+meant_public_key = record { modulus = 258; public_exponent = 772 }
 
-public_key : held_public_key itself given ≡ meant
-public_key = refl
+public_key_held : held_public_key number_itself given_public_key ≡ meant_public_key
+public_key_held = refl
 
-number : number_in itself (1 ∷ 0 ∷ 2 ∷ []) ≡ 65538
-number = refl
+number_held : number_in number_itself (1 ∷ 0 ∷ 2 ∷ []) ≡ 65538
+number_held = refl
 
 -- == Private keys ==
-abbrev listed : Listed (List ℕ)
-listed = record {
+abbrev given_private_key : Listed (List ℕ)
+given_private_key = record {
   modulus = 7 ∷ [];
   public_exponent = 3 ∷ [];
   private_exponent = 5 ∷ [];
@@ -42,8 +42,8 @@ listed = record {
   other_prime_infos = None;
 }
 
-abbrev key : Option (List OtherPrime) → PrivateKey
-key others = record {
+abbrev meant_private_key : Option (List OtherPrime) → PrivateKey
+meant_private_key others = record {
   modulus = 7;
   public_exponent = 3;
   private_exponent = 5;
@@ -55,32 +55,32 @@ key others = record {
   other_primes = others;
 }
 
-private_key : held_private_key itself listed ≡ key None
-private_key = refl
+private_key_held : held_private_key number_itself given_private_key ≡ meant_private_key None
+private_key_held = refl
 
-viewed : (view : RsaPrivateKeyView) → (held_view view).prime2 ≡ number_from_digits 256 (bytes_of view.key.prime2)
-viewed view = refl
+view_held : (view : RsaPrivateKeyView) → (held_view view).prime2 ≡ number_from_digits 256 (bytes_of view.key.prime2)
+view_held view = refl
 
 -- == Other primes ==
-abbrev info : OtherPrimeInfo (List ℕ)
-info = record { prime = 1 ∷ 0 ∷ []; exponent = 8 ∷ []; coefficient = 9 ∷ [] }
+abbrev given_other_prime : OtherPrimeInfo (List ℕ)
+given_other_prime = record { prime = 1 ∷ 0 ∷ []; exponent = 8 ∷ []; coefficient = 9 ∷ [] }
 
-abbrev prime : OtherPrime
-prime = record { prime = 256; exponent = 8; coefficient = 9 }
+abbrev meant_other_prime : OtherPrime
+meant_other_prime = record { prime = 256; exponent = 8; coefficient = 9 }
 
-other_prime : held_other_prime itself info ≡ prime
-other_prime = refl
+other_prime_held : held_other_prime number_itself given_other_prime ≡ meant_other_prime
+other_prime_held = refl
 
-abbrev left : keys.OtherRow ℕ
-left = (256, (8, (9, tt)))
+abbrev other_prime_left : keys.OtherRow ℕ
+other_prime_left = (256, (8, (9, tt)))
 
-other_primes : (primes : OtherPrimes) → others_left primes ≡ left ∷ left ∷ []
-    → held_other_primes primes ≡ prime ∷ prime ∷ []
-other_primes primes are = ap (map other_stated) are
+other_primes_held : (primes : OtherPrimes) → others_left primes ≡ other_prime_left ∷ other_prime_left ∷ []
+    → held_other_primes primes ≡ meant_other_prime ∷ meant_other_prime ∷ []
+other_primes_held primes are = ap (map other_stated) are
 
-encoded : primes_encoded (prime ∷ []) ≡ 48 ∷ 10 ∷ 2 ∷ 2 ∷ 1 ∷ 0 ∷ 2 ∷ 1 ∷ 8 ∷ 2 ∷ 1 ∷ 9 ∷ []
+other_prime_encoded : primes_encoded (meant_other_prime ∷ []) ≡ 48 ∷ 10 ∷ 2 ∷ 2 ∷ 1 ∷ 0 ∷ 2 ∷ 1 ∷ 8 ∷ 2 ∷ 1 ∷ 9 ∷ []
 unfolding length_octets
-encoded = refl
+other_prime_encoded = refl
 
 no_list : HoldsNone None → ⊥
 no_list p = p
@@ -88,16 +88,16 @@ no_list p = p
 no_prime : (primes : OtherPrimes) → others_left primes ≡ [] → HoldsNone (Some primes)
 no_prime primes none = ap (λ others. length (map other_stated others)) none
 
-one_prime : (primes : OtherPrimes) → others_left primes ≡ left ∷ [] → HoldsNone (Some primes) → ⊥
+one_prime : (primes : OtherPrimes) → others_left primes ≡ other_prime_left ∷ [] → HoldsNone (Some primes) → ⊥
 one_prime primes one none =
     omega (arith, ap (λ others. length (map other_stated others)) one, none)
 
 -- == What may be written ==
-without_primes : IsPrivateKey (key None)
+without_primes : IsPrivateKey (meant_private_key None)
 without_primes = tt
 
-with_primes : IsPrivateKey (key (Some (prime ∷ [])))
+with_primes : IsPrivateKey (meant_private_key (Some (meant_other_prime ∷ [])))
 with_primes = omega arith
 
-empty_list : IsPrivateKey (key (Some [])) → ⊥
+empty_list : IsPrivateKey (meant_private_key (Some [])) → ⊥
 empty_list p = omega (arith, p)

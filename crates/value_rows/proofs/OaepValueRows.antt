@@ -5,34 +5,34 @@ use Rattle.der_core.specs.Words.{AreBytes}
 use Rattle.spki_core.specs.declared.any.AnyRef.{AnyRef}
 use Rattle.spki_core.specs.declared.identifier_view.IdentifierView.{IdentifierView}
 use Rattle.spki_core.specs.declared.object_identifier.ObjectIdentifier.{ObjectIdentifier}
-use Rattle.spki_core.specs.Words.{octets_of, own_octets_of}
+use Rattle.spki_core.specs.Words.{identifier_octets, own_octets_of}
 use Rattle.pkcs1_params.specs.OaepValue.{IsBareOaep, LabelFits, NoLabelFits, OwnedOaepAllocates, labelled, oaep_in, oaep_of, oaep_viewed, oaep_with}
 use Rattle.pkcs1_params.specs.declared.oaep.OaepParamsOf.{OaepParamsOf}
 use Rattle.standard.specs.Statement.{Algorithm, Fields, IfPresent, IsBare, OaepEncoding, OaepParameters, TagAndContents, empty_label, mgf1_sha1, oaep_fields, sha1}
 
 -- == What they hold ==
 module _ (p : OaepParamsOf (List ℕ) TagAndContents) where
-  abbrev held : OaepParameters
-  held = oaep_in (λ octets. octets) (λ any. any) p
+  abbrev oaep_held : OaepParameters
+  oaep_held = oaep_in (λ octets. octets) (λ any. any) p
 
-  hash : held.hash.oid ≡ p.hash.oid
-  hash = refl
+  oaep_hash : oaep_held.hash.oid ≡ p.hash.oid
+  oaep_hash = refl
 
-  mask_gen : held.mask_gen.oid ≡ p.mask_gen.oid
-  mask_gen = refl
+  oaep_mask_gen : oaep_held.mask_gen.oid ≡ p.mask_gen.oid
+  oaep_mask_gen = refl
 
-  p_source : held.p_source.oid ≡ p.p_source.oid
-  p_source = refl
+  oaep_source : oaep_held.p_source.oid ≡ p.p_source.oid
+  oaep_source = refl
 
-owned : (p : OaepParamsOf ObjectIdentifier AnyRef) → (oaep_of p).p_source.oid ≡ own_octets_of p.p_source.oid
-owned p = refl
+oaep_owned : (p : OaepParamsOf ObjectIdentifier AnyRef) → (oaep_of p).p_source.oid ≡ own_octets_of p.p_source.oid
+oaep_owned p = refl
 
-with_own : (p : OaepParamsOf ObjectIdentifier TagAndContents)
+oaep_owned_identifiers : (p : OaepParamsOf ObjectIdentifier TagAndContents)
     → (oaep_with (λ any. any) p).mask_gen.oid ≡ own_octets_of p.mask_gen.oid
-with_own p = refl
+oaep_owned_identifiers p = refl
 
-viewed : (p : OaepParamsOf IdentifierView AnyRef) → (oaep_viewed p).hash.oid ≡ octets_of p.hash.oid
-viewed p = refl
+oaep_view : (p : OaepParamsOf IdentifierView AnyRef) → (oaep_viewed p).hash.oid ≡ identifier_octets p.hash.oid
+oaep_view p = refl
 
 -- == Labels ==
 abbrev null_of : List ℕ → Algorithm TagAndContents
@@ -49,8 +49,9 @@ default_label : labelled sha1.oid [] ≡ record { hash = sha1; mask_gen = mgf1_s
 default_label = refl
 
 -- Never both.
-not_both : (oid label : List ℕ) (n : ℕ) → AreBytes label → length label ≡ n → LabelFits oid n → NoLabelFits oid n → ⊥
-not_both oid label n bytes is fits none = none label bytes is (fits label bytes is).0 (fits label bytes is).1
+label_fits_or_not : (oid label : List ℕ) (n : ℕ) → AreBytes label → length label ≡ n → LabelFits oid n
+    → NoLabelFits oid n → ⊥
+label_fits_or_not oid label n bytes is fits none = none label bytes is (fits label bytes is).0 (fits label bytes is).1
 
 fits_by : (oid : List ℕ) (n : ℕ)
     → ((label : List ℕ) → AreBytes label → length label ≡ n → (b : List ℕ) × OaepEncoding (labelled oid label) b)
@@ -59,35 +60,35 @@ fits_by oid n fits = fits
 
 -- == Which need no memory ==
 -- An algorithm whose parameters have an octet.
-abbrev with_octet : Algorithm TagAndContents
-with_octet = record { oid = 1 ∷ []; parameters = Some (record { tag = 5; contents = 0 ∷ [] }) }
+abbrev oaep_null_with_octet : Algorithm TagAndContents
+oaep_null_with_octet = record { oid = 1 ∷ []; parameters = Some (record { tag = 5; contents = 0 ∷ [] }) }
 
-abbrev parameters : Algorithm TagAndContents → Algorithm TagAndContents → Algorithm TagAndContents → OaepParameters
-parameters hash inner source =
+abbrev oaep_sample : Algorithm TagAndContents → Algorithm TagAndContents → Algorithm TagAndContents → OaepParameters
+oaep_sample hash inner source =
     record { hash = hash; mask_gen = record { oid = 1 ∷ []; parameters = Some inner }; p_source = source }
 
-bare : IsBareOaep (parameters sha1 sha1 empty_label)
-bare = (refl, refl, refl)
+oaep_bare : IsBareOaep (oaep_sample sha1 sha1 empty_label)
+oaep_bare = (refl, refl, refl)
 
-octet_in_hash : IsBareOaep (parameters with_octet sha1 empty_label) → ⊥
-octet_in_hash p = let same = p.0 in cc
+oaep_octet_in_hash : IsBareOaep (oaep_sample oaep_null_with_octet sha1 empty_label) → ⊥
+oaep_octet_in_hash p = let same = p.0 in cc
 
-octet_in_mask : IsBareOaep (parameters sha1 with_octet empty_label) → ⊥
-octet_in_mask p = let same = p.1 in cc
+oaep_octet_in_mask : IsBareOaep (oaep_sample sha1 oaep_null_with_octet empty_label) → ⊥
+oaep_octet_in_mask p = let same = p.1 in cc
 
-octet_in_source : IsBareOaep (parameters sha1 sha1 with_octet) → ⊥
-octet_in_source p = let same = p.2 in cc
+oaep_octet_in_source : IsBareOaep (oaep_sample sha1 sha1 oaep_null_with_octet) → ⊥
+oaep_octet_in_source p = let same = p.2 in cc
 
-abbrev IsBareMask : Algorithm (Algorithm TagAndContents) → Type 0
-IsBareMask mask_gen = IfPresent IsBare mask_gen.parameters
+abbrev OaepMaskIsBare : Algorithm (Algorithm TagAndContents) → Type 0
+OaepMaskIsBare mask_gen = IfPresent IsBare mask_gen.parameters
 
 -- Contents without octets have the defaults alone.
-defaults_are_bare : (p : OaepParameters) → Fields (oaep_fields p) [] → IsBareOaep p
-defaults_are_bare p (inl (hash, inl (mask, inl (source, rest)))) =
-    (subst IsBare (sym hash) refl, subst IsBareMask (sym mask) refl, subst IsBare (sym source) refl)
-defaults_are_bare p (inl (hash, inl (mask, inr (later, is, rest)))) = cc
-defaults_are_bare p (inl (hash, inr (later, is, rest))) = cc
-defaults_are_bare p (inr (later, is, rest)) = cc
+oaep_defaults_are_bare : (p : OaepParameters) → Fields (oaep_fields p) [] → IsBareOaep p
+oaep_defaults_are_bare p (inl (hash, inl (mask, inl (source, rest)))) =
+    (subst IsBare (sym hash) refl, subst OaepMaskIsBare (sym mask) refl, subst IsBare (sym source) refl)
+oaep_defaults_are_bare p (inl (hash, inl (mask, inr (later, is, rest)))) = cc
+oaep_defaults_are_bare p (inl (hash, inr (later, is, rest))) = cc
+oaep_defaults_are_bare p (inr (later, is, rest)) = cc
 
-no_memory : OwnedOaepAllocates [] → ⊥
-no_memory p = p.3 (defaults_are_bare p.0 p.2)
+oaep_defaults_take_no_memory : OwnedOaepAllocates [] → ⊥
+oaep_defaults_take_no_memory p = p.3 (oaep_defaults_are_bare p.0 p.2)

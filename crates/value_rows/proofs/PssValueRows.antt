@@ -3,69 +3,69 @@ use Rattle.std.proofs.Common.{ℕ, List, [], ◌∷◌, ◌≡◌, inl, inr, ref
 use Rattle.spki_core.specs.declared.any.AnyRef.{AnyRef}
 use Rattle.spki_core.specs.declared.identifier_view.IdentifierView.{IdentifierView}
 use Rattle.spki_core.specs.declared.object_identifier.ObjectIdentifier.{ObjectIdentifier}
-use Rattle.spki_core.specs.Words.{octets_of, own_octets_of}
+use Rattle.spki_core.specs.Words.{identifier_octets, own_octets_of}
 use Rattle.pkcs1_params.specs.PssValue.{IsBarePss, OwnedPssAllocates, pss_in, pss_of, pss_viewed, pss_with}
 use Rattle.pkcs1_params.specs.declared.pss.PssParamsOf.{PssParamsOf}
 use Rattle.standard.specs.Statement.{Algorithm, Fields, IfPresent, IsBare, PssParameters, TagAndContents, pss_fields, sha1}
 
 -- == What they hold ==
 module _ (p : PssParamsOf (List ℕ) TagAndContents) where
-  abbrev held : PssParameters
-  held = pss_in (λ octets. octets) (λ any. any) p
+  abbrev pss_held : PssParameters
+  pss_held = pss_in (λ octets. octets) (λ any. any) p
 
-  hash : held.hash.oid ≡ p.hash.oid
-  hash = refl
+  pss_hash : pss_held.hash.oid ≡ p.hash.oid
+  pss_hash = refl
 
-  mask_gen : held.mask_gen.oid ≡ p.mask_gen.oid
-  mask_gen = refl
+  pss_mask_gen : pss_held.mask_gen.oid ≡ p.mask_gen.oid
+  pss_mask_gen = refl
 
-  salt_len : held.salt_len ≡ p.salt_len
-  salt_len = refl
+  pss_salt_len : pss_held.salt_len ≡ p.salt_len
+  pss_salt_len = refl
 
-  trailer_field : held.trailer_field ≡ 1
-  trailer_field = refl
+  pss_trailer_field : pss_held.trailer_field ≡ 1
+  pss_trailer_field = refl
 
-owned : (p : PssParamsOf ObjectIdentifier AnyRef) → (pss_of p).hash.oid ≡ own_octets_of p.hash.oid
-owned p = refl
+pss_owned : (p : PssParamsOf ObjectIdentifier AnyRef) → (pss_of p).hash.oid ≡ own_octets_of p.hash.oid
+pss_owned p = refl
 
-with_own : (p : PssParamsOf ObjectIdentifier TagAndContents)
+pss_owned_identifiers : (p : PssParamsOf ObjectIdentifier TagAndContents)
     → (pss_with (λ any. any) p).mask_gen.oid ≡ own_octets_of p.mask_gen.oid
-with_own p = refl
+pss_owned_identifiers p = refl
 
-viewed : (p : PssParamsOf IdentifierView AnyRef) → (pss_viewed p).hash.oid ≡ octets_of p.hash.oid
-viewed p = refl
+pss_view : (p : PssParamsOf IdentifierView AnyRef) → (pss_viewed p).hash.oid ≡ identifier_octets p.hash.oid
+pss_view p = refl
 
 -- == Which need no memory ==
 -- A hash function whose parameters have an octet.
-abbrev with_octet : Algorithm TagAndContents
-with_octet = record { oid = 1 ∷ []; parameters = Some (record { tag = 5; contents = 0 ∷ [] }) }
+abbrev pss_null_with_octet : Algorithm TagAndContents
+pss_null_with_octet = record { oid = 1 ∷ []; parameters = Some (record { tag = 5; contents = 0 ∷ [] }) }
 
-abbrev parameters : Algorithm TagAndContents → Algorithm TagAndContents → PssParameters
-parameters hash inner = record {
+abbrev pss_sample : Algorithm TagAndContents → Algorithm TagAndContents → PssParameters
+pss_sample hash inner = record {
   hash = hash;
   mask_gen = record { oid = 1 ∷ []; parameters = Some inner };
   salt_len = 20;
   trailer_field = 1;
 }
 
-bare : IsBarePss (parameters sha1 sha1)
-bare = (refl, refl)
+pss_bare : IsBarePss (pss_sample sha1 sha1)
+pss_bare = (refl, refl)
 
-octet_in_hash : IsBarePss (parameters with_octet sha1) → ⊥
-octet_in_hash p = let same = p.0 in cc
+pss_octet_in_hash : IsBarePss (pss_sample pss_null_with_octet sha1) → ⊥
+pss_octet_in_hash p = let same = p.0 in cc
 
-octet_in_mask : IsBarePss (parameters sha1 with_octet) → ⊥
-octet_in_mask p = let same = p.1 in cc
+pss_octet_in_mask : IsBarePss (pss_sample sha1 pss_null_with_octet) → ⊥
+pss_octet_in_mask p = let same = p.1 in cc
 
-abbrev IsBareMask : Algorithm (Algorithm TagAndContents) → Type 0
-IsBareMask mask_gen = IfPresent IsBare mask_gen.parameters
+abbrev PssMaskIsBare : Algorithm (Algorithm TagAndContents) → Type 0
+PssMaskIsBare mask_gen = IfPresent IsBare mask_gen.parameters
 
 -- Contents without octets have the defaults alone.
-defaults_are_bare : (p : PssParameters) → Fields (pss_fields p) [] → IsBarePss p
-defaults_are_bare p (inl (hash, inl (mask, rest))) =
-    (subst IsBare (sym hash) refl, subst IsBareMask (sym mask) refl)
-defaults_are_bare p (inl (hash, inr (later, is, rest))) = cc
-defaults_are_bare p (inr (later, is, rest)) = cc
+pss_defaults_are_bare : (p : PssParameters) → Fields (pss_fields p) [] → IsBarePss p
+pss_defaults_are_bare p (inl (hash, inl (mask, rest))) =
+    (subst IsBare (sym hash) refl, subst PssMaskIsBare (sym mask) refl)
+pss_defaults_are_bare p (inl (hash, inr (later, is, rest))) = cc
+pss_defaults_are_bare p (inr (later, is, rest)) = cc
 
-no_memory : OwnedPssAllocates [] → ⊥
-no_memory p = p.3 (defaults_are_bare p.0 p.2)
+pss_defaults_take_no_memory : OwnedPssAllocates [] → ⊥
+pss_defaults_take_no_memory p = p.3 (pss_defaults_are_bare p.0 p.2)

@@ -1,39 +1,31 @@
 -- Worked rows of reading, beside those of `ReadingsRows.antt` of `pkcs8_core`: attributes, tags, identifiers, salts.
-use Rattle.std.proofs.Common.{ℕ, List, [], ◌∷◌, ◌≡◌, ◌+◌, ◌*◌, refl, Ok, Err, Some, None, codes, nat_lt, if◌then◌else◌, ◌-◌}
-use Rattle.der_core.specs.Words.{alone, header_at, length_at, object_identifier, tagged}
+use Rattle.std.proofs.Common.{[], ◌≡◌, refl, Ok, Err, Some, None, codes}
+use Rattle.der_core.specs.Words.{alone, header_at, length_at, object_identifier_tag, tagged}
 use Rattle.der_core.specs.declared.error.ErrorKind.TheVariants.{OidMalformed, TagUnknown}
-use Rattle.spki_core.specs.Words.{any, identifier_read}
+use Rattle.spki_core.specs.Words.{any_front, identifier_read}
 use Rattle.pkcs1_params.specs.Words.{rsa_pss_params}
 use Rattle.pkcs8_core.specs.Words.{private_key_info}
+use Rattle.standard.proofs.Rows.{digit, hex}
 use Rattle.standard.specs.Statement.{mgf1_sha1, sha1}
 
-digit : ℕ → ℕ
-digit c = if nat_lt c 58 then c - 48 else c - 87
-
--- The octets with these hexadecimal digits.
-hex : List ℕ → List ℕ
-unfolding digit
-hex [] = []
-hex (a ∷ []) = []
-hex (a ∷ b ∷ digits) = (16 * digit a + digit b) ∷ hex digits
-
-attributes : private_key_info (hex (codes "300f020100300406022a030402050aa000")) ≡ Ok (record {
+attributes_read : private_key_info (hex (codes "300f020100300406022a030402050aa000")) ≡ Ok (record {
   algorithm = record { oid = hex (codes "2a03"); parameters = None };
   private_key = hex (codes "050a");
   attributes = Some [];
 })
 unfolding hex digit header_at length_at
-attributes = refl
+attributes_read = refl
 
-subidentifier_of_80 : alone (tagged object_identifier identifier_read) (hex (codes "06032a8001")) ≡ Err OidMalformed
+subidentifier_of_80_refused : alone (tagged object_identifier_tag identifier_read) (hex (codes "06032a8001"))
+    ≡ Err OidMalformed
 unfolding hex digit header_at length_at
-subidentifier_of_80 = refl
+subidentifier_of_80_refused = refl
 
-tag_32 : alone any (hex (codes "2000")) ≡ Err (TagUnknown 32)
+tag_32_refused : alone any_front (hex (codes "2000")) ≡ Err (TagUnknown 32)
 unfolding hex digit header_at length_at
-tag_32 = refl
+tag_32_refused = refl
 
-salt_255 : rsa_pss_params (hex (codes "3006a204020200ff"))
+salt_255_read : rsa_pss_params (hex (codes "3006a204020200ff"))
     ≡ Ok (record { hash = sha1; mask_gen = mgf1_sha1; salt_len = 255; trailer_field = 1 })
 unfolding hex digit header_at length_at
-salt_255 = refl
+salt_255_read = refl

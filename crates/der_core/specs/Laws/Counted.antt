@@ -5,30 +5,32 @@ use Rattle.der_core.specs.Writing.{Appends, Counts, WhyOctetsNotCounted, WhyOcte
 use Rattle.der_core.specs.declared.error.Error.{Error}
 
 module _ {P Q : Type 0} (p : P) (q : Q) where
-  uncounted_as : (octets : List ℕ) (k : EncodeError) → WhyOctetsNotCounted P octets k → WhyOctetsNotCounted Q octets k
-  uncounted_as octets no_encoding h = absurd (h p)
-  uncounted_as octets too_long h = (q, h.1)
-  uncounted_as octets no_room h = h
-  uncounted_as octets another h = h
+  octets_uncounted_as : (octets : List ℕ) (k : EncodeError) → WhyOctetsNotCounted P octets k
+      → WhyOctetsNotCounted Q octets k
+  octets_uncounted_as octets no_encoding h = absurd (h p)
+  octets_uncounted_as octets too_long h = (q, h.1)
+  octets_uncounted_as octets no_room h = h
+  octets_uncounted_as octets another h = h
 
-  pub counts_as : (octets : List ℕ) (r : Result ℕ Error) → Counts P octets r → Counts Q octets r
-  counts_as octets (Ok n) h = (q, h.1, h.2)
-  counts_as octets (Err e) h = uncounted_as octets (encode_error e.kind) h
+  pub octets_counted_as : (octets : List ℕ) (r : Result ℕ Error) → Counts P octets r → Counts Q octets r
+  octets_counted_as octets (Ok n) h = (q, h.1, h.2)
+  octets_counted_as octets (Err e) h = octets_uncounted_as octets (encode_error e.kind) h
 
-  unwritten_as : (octets : List ℕ) (room : Option ℕ) (old new : List ℕ → Type 0) (k : EncodeError)
+  octets_unwritten_as : (octets : List ℕ) (room : Option ℕ) (old new : List ℕ → Type 0) (k : EncodeError)
       → WhyOctetsNotWritten P octets room old new k → WhyOctetsNotWritten Q octets room old new k
-  unwritten_as octets room old new no_encoding h = absurd (h.0 p)
-  unwritten_as octets room old new too_long h = (q, h.1, h.2)
-  unwritten_as octets room old new no_room h = (q, h.1, h.2, h.3)
-  unwritten_as octets room old new another h = h
+  octets_unwritten_as octets room old new no_encoding h = absurd (h.0 p)
+  octets_unwritten_as octets room old new too_long h = (q, h.1, h.2)
+  octets_unwritten_as octets room old new no_room h = (q, h.1, h.2, h.3)
+  octets_unwritten_as octets room old new another h = h
 
-  pub appends_as : {W A : Type 0} (octets : List ℕ) (Room : W → Option ℕ) (Written : W → List ℕ → Type 0) (old new : W)
+  pub octets_appended_as : {W A : Type 0} (octets : List ℕ) (Room : W → Option ℕ) (Written : W → List ℕ → Type 0)
+      (old new : W)
       (r : Result A Error) → Appends P octets Room Written old new r → Appends Q octets Room Written old new r
-  appends_as octets Room Written old new (Ok x) h =
+  octets_appended_as octets Room Written old new (Ok x) h =
       record { has = (q, h.has.1); written = h.written; room = h.room; left = h.left }
-  appends_as octets Room Written old new (Err e) h = record {
+  octets_appended_as octets Room Written old new (Err e) h = record {
     has = h.has;
     written = h.written;
     room = h.room;
-    left = unwritten_as octets (Room old) (Written old) (Written new) (encode_error e.kind) h.left;
+    left = octets_unwritten_as octets (Room old) (Written old) (Written new) (encode_error e.kind) h.left;
   }

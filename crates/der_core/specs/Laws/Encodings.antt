@@ -2,7 +2,7 @@
 use Rattle.std.proofs.Common.{ℕ, List, ◌∷◌, ◌++◌, ◌≡◌, ◌<◌, ◌≤◌, ◌^◌, length, refl, arith, append_assoc, length-append, ◌+◌, inl, inr, true, IsTrue}
 use Rattle.der_core.specs.Length.{length_octets}
 use Rattle.der_core.specs.Tlv.{Tlv, tlv}
-use Rattle.der_core.specs.Laws.Numbers.{same_cons, same_fronts}
+use Rattle.der_core.specs.Laws.Numbers.{append_injective, cons_injective}
 use Rattle.der_core.specs.Laws.Length.{length_split, length_octets-within, length_few}
 use Rattle.der_core.specs.Reading.{AllocatesLast}
 use Rattle.der_core.specs.Parts.{AllocatesInParts}
@@ -18,11 +18,11 @@ tlv_split {t} {u} {P} {Q} x y x' y' p q h =
     let c : t ∷ (p.octets ++ (p.contents ++ y)) ≡ u ∷ (q.octets ++ (q.contents ++ y')) =
     rw (p.written, q.written, append_assoc (t ∷ p.octets) p.contents y, append_assoc (u ∷ q.octets) q.contents y')
     at h in
-    let d = same_cons c in
+    let d = cons_injective c in
     let s =
     length_split (length p.contents) (length q.contents) p.octets (p.contents ++ y) q.octets (q.contents ++ y')
     p.counted q.counted d.1 in
-    let f = same_fronts p.contents y q.contents y' s.1 s.2 in
+    let f = append_injective p.contents y q.contents y' s.1 s.2 in
     (rw (p.written, q.written, d.0, s.0, f.0), d.0, f.1, p.contents, p.holds, rw (← f.0) at q.holds)
 
 pub tlv_not_empty : {t : ℕ} {P : List ℕ → Type 0} (x : List ℕ) → Tlv t P x → 0 < length x

@@ -1,9 +1,9 @@
 -- INTEGER: one number for each encoding, one encoding for each number, how it is read. Equality of what values mean.
 use Rattle.std.proofs.Common.{ℕ, List, [], ◌∷◌, ◌≡◌, ◌<◌, ◌≤◌, refl, sym, ap, ◌∙◌, arith, inl, inr, slice_index, nat_lt, true, false, length, Result, Ok, Err, ◌==◌, Bool, ◌&&◌, eqb, Decides, option_map, bytes_eq, Option, Some, None, eqb-true, eq-eqb}
 use Rattle.std.specs.Int.Digits.{number_from_digits}
-use Rattle.der_core.specs.Encodings.{AtMostOne}
+use Rattle.der_core.specs.Encodings.{HasAtMostOne}
 use Rattle.der_core.specs.Integer.{IsCanonical, IntegerContents, HoldsNumber, integer_contents, SmallContents}
-use Rattle.der_core.specs.Laws.LengthReading.{are_bytes, chosen, is_value}
+use Rattle.der_core.specs.Laws.LengthReading.{are_bytes, cond_cases, value_error_tells}
 use Rattle.std.proofs.lemmas.Bool.{cases_lt}
 use Rattle.std.proofs.lemmas.Bool.Decides.{nat_tests}
 use Rattle.der_core.specs.Laws.Numbers.{base256_same, base256_pos}
@@ -11,11 +11,11 @@ use Rattle.der_core.specs.Reading.{TellsOfBytes}
 use Rattle.der_core.specs.IntegerReading.{integer_of, as_small, small_of}
 use Rattle.der_core.specs.declared.error.ErrorKind.{ErrorKind}
 use Rattle.der_core.specs.declared.error.ErrorKind.TheVariants as kind
-use Rattle.der_core.specs.Tags.{integer}
+use Rattle.der_core.specs.Tags.{integer_tag}
 use Rattle.std.specs.Option.{option_eq}
 use Rattle.std.proofs.lemmas.Slice.Eq.{bytes_eq-Decides}
 
-pub contents_at_most_one : (bytes : List ℕ) → AtMostOne (IntegerContents bytes)
+pub contents_at_most_one : (bytes : List ℕ) → HasAtMostOne (IntegerContents bytes)
 contents_at_most_one n x y (p, inl a) (q, inl b) = a.1 ∙ sym b.1
 contents_at_most_one n x y (p, inl a) (q, inr b) = absurd (omega arith)
 contents_at_most_one n x y (p, inr a) (q, inl b) = absurd (omega arith)
@@ -79,61 +79,61 @@ pub one_byte : (n : ℕ) (bytes : List ℕ) → n < 256 → IsCanonical bytes �
 one_byte n bytes l p e = canonical_same bytes (n ∷ []) p (byte_canonical n l) (e ∙ sym (byte_number n))
 
 -- What is read of the contents of a number.
-pub contents_read : (bytes c : List ℕ) → IntegerContents bytes c → integer_of c ≡ Ok bytes
-contents_read [] c (p, inl i) = absurd (none p)
+pub integer_of_takes : (bytes c : List ℕ) → IntegerContents bytes c → integer_of c ≡ Ok bytes
+integer_of_takes [] c (p, inl i) = absurd (none p)
   where
     none : IsCanonical [] → ⊥
     none (inl e) = cc
     none (inr h) = omega (arith, h.1)
-contents_read [] c (p, inr i) = absurd (omega (arith, i.0))
-contents_read (x ∷ []) c (p, inl i) =
+integer_of_takes [] c (p, inr i) = absurd (omega (arith, i.0))
+integer_of_takes (x ∷ []) c (p, inl i) =
     let less : nat_lt x 128 ≡ true = grind (arith, nat_tests, i.0) in
     rw (i.1, less) refl
-contents_read (x ∷ y ∷ ys) c (inl e, inl i) = absurd (omega (arith, ap length e))
-contents_read (x ∷ y ∷ ys) c (inr h, inl i) =
+integer_of_takes (x ∷ y ∷ ys) c (inl e, inl i) = absurd (omega (arith, ap length e))
+integer_of_takes (x ∷ y ∷ ys) c (inr h, inl i) =
     let less : nat_lt x 128 ≡ true = grind (arith, nat_tests, i.0) in
     let other : (x == 0) ≡ false = grind (arith, nat_tests, h.1) in
     rw (i.1, less, other) refl
-contents_read (x ∷ xs) c (p, inr i) =
+integer_of_takes (x ∷ xs) c (p, inr i) =
     let more : nat_lt x 128 ≡ false = grind (arith, nat_tests, i.0) in
     rw (i.1, more) refl
 
-pub small_read : (n : ℕ) (c : List ℕ) → SmallContents n c → small_of c ≡ Ok n
-small_read n c (l, bytes, e, i) =
+pub small_of_takes : (n : ℕ) (c : List ℕ) → SmallContents n c → small_of c ≡ Ok n
+small_of_takes n c (l, bytes, e, i) =
     let test : nat_lt (number_from_digits 256 bytes) 256 ≡ true = rw e (grind (arith, nat_tests)) in
-    rw (contents_read bytes c i, test, e) refl
+    rw (integer_of_takes bytes c i, test, e) refl
 
 -- The errors are about the bytes.
-as_tells : (k : ErrorKind) (r : Result (List ℕ) ErrorKind) → ((d : ErrorKind) → r ≡ Err d → TellsOfBytes d)
+as_small_tells : (k : ErrorKind) (r : Result (List ℕ) ErrorKind) → ((d : ErrorKind) → r ≡ Err d → TellsOfBytes d)
     → as_small r ≡ Err k → TellsOfBytes k
-as_tells k (Err d) h e = let same : d ≡ k = cc in h k (ap (λ x. Err x) same)
-as_tells k (Ok bytes) h e = elim (chosen (nat_lt (number_from_digits 256 bytes) 256) _ _ _ e) [
+as_small_tells k (Err d) h e = let same : d ≡ k = cc in h k (ap (λ x. Err x) same)
+as_small_tells k (Ok bytes) h e = elim (cond_cases (nat_lt (number_from_digits 256 bytes) 256) _ _ _ e) [
   | inl w ↦ let no = w.1 in cc
   | inr w ↦ value_tells k w.1
 ]
   where
-    value_tells : (k : ErrorKind) → ◌≡◌ {A = Result ℕ ErrorKind} (Err (kind.Value integer)) (Err k) → TellsOfBytes k
-    value_tells k e = let same : kind.Value integer ≡ k = cc in is_value (sym same)
+    value_tells : (k : ErrorKind) → ◌≡◌ {A = Result ℕ ErrorKind} (Err (kind.Value integer_tag)) (Err k) → TellsOfBytes k
+    value_tells k e = let same : kind.Value integer_tag ≡ k = cc in value_error_tells (sym same)
 
 pub integer_tells : (c : List ℕ) (k : ErrorKind) → integer_of c ≡ Err k → TellsOfBytes k
-integer_tells [] k e = let same : kind.Length integer ≡ k = cc in (λ no. cc, λ no. cc, λ no. cc)
-integer_tells (x ∷ []) k e = elim (chosen (nat_lt x 128) _ _ _ e) [
+integer_tells [] k e = let same : kind.Length integer_tag ≡ k = cc in (λ no. cc, λ no. cc, λ no. cc)
+integer_tells (x ∷ []) k e = elim (cond_cases (nat_lt x 128) _ _ _ e) [
   | inl w ↦ let no = w.1 in cc
-  | inr w ↦ let is = w.1 in let same : kind.Value integer ≡ k = cc in is_value (sym same)
+  | inr w ↦ let is = w.1 in let same : kind.Value integer_tag ≡ k = cc in value_error_tells (sym same)
 ]
-integer_tells (x ∷ y ∷ ys) k e = elim (chosen (nat_lt x 128) _ _ _ e) [
-  | inl w ↦ elim (chosen (x == 0) _ _ _ w.1) [
-    | inl v ↦ elim (chosen (nat_lt y 128) _ _ _ v.1) [
-      | inl u ↦ let is = u.1 in let same : kind.Noncanonical integer ≡ k = cc in (λ no. cc, λ no. cc, λ no. cc)
+integer_tells (x ∷ y ∷ ys) k e = elim (cond_cases (nat_lt x 128) _ _ _ e) [
+  | inl w ↦ elim (cond_cases (x == 0) _ _ _ w.1) [
+    | inl v ↦ elim (cond_cases (nat_lt y 128) _ _ _ v.1) [
+      | inl u ↦ let is = u.1 in let same : kind.Noncanonical integer_tag ≡ k = cc in (λ no. cc, λ no. cc, λ no. cc)
       | inr u ↦ let no = u.1 in cc
     ]
     | inr v ↦ let no = v.1 in cc
   ]
-  | inr w ↦ let is = w.1 in let same : kind.Value integer ≡ k = cc in is_value (sym same)
+  | inr w ↦ let is = w.1 in let same : kind.Value integer_tag ≡ k = cc in value_error_tells (sym same)
 ]
 
 pub small_tells : (c : List ℕ) (k : ErrorKind) → small_of c ≡ Err k → TellsOfBytes k
-small_tells c k e = as_tells k (integer_of c) (integer_tells c) e
+small_tells c k e = as_small_tells k (integer_of c) (integer_tells c) e
 
 -- Equality of what values mean, part by part.
 pub number_decides : (m n : ℕ) → Decides (eqb m n) (m ≡ n)
@@ -142,21 +142,21 @@ number_decides m n = (λ e. eqb-true m n e, λ e. eq-eqb m n e)
 pub bytes_decide : (x y : List ℕ) → Decides (bytes_eq x y) (x ≡ y)
 bytes_decide x y = bytes_eq-Decides x y
 
-both : (a b : Bool) → (a && b) ≡ true → (a ≡ true) × (b ≡ true)
-both true true e = (refl, refl)
-both true false e = cc
-both false b e = cc
+and_true : (a b : Bool) → (a && b) ≡ true → (a ≡ true) × (b ≡ true)
+and_true true true e = (refl, refl)
+and_true true false e = cc
+and_true false b e = cc
 
 -- Two parts that make up the whole.
-pub both_decide : {A B C : Type 0} {a b : Bool} → Decides a A → Decides b B → (A → B → C) → (C → A) → (C → B)
+pub and_decides : {A B C : Type 0} {a b : Bool} → Decides a A → Decides b B → (A → B → C) → (C → A) → (C → B)
     → Decides (a && b) C
-both_decide {A} {B} {C} {a} {b} p q make first second = (
-  λ e. let w = both a b e in make (p.0 w.0) (q.0 w.1),
+and_decides {A} {B} {C} {a} {b} p q make first second = (
+  λ e. let w = and_true a b e in make (p.0 w.0) (q.0 w.1),
   λ e. rw (p.1 (first e), q.1 (second e)) refl,
 )
 
-some_same : {V : Type 0} (v w : V) → ◌≡◌ {A = Option V} (Some v) (Some w) → v ≡ w
-some_same v w e = cc
+some_injective : {V : Type 0} (v w : V) → ◌≡◌ {A = Option V} (Some v) (Some w) → v ≡ w
+some_injective v w e = cc
 
 pub option_decides : {P V : Type 0} (value : P → V) (E : P → P → Bool)
     → ((a b : P) → Decides (E a b) (value a ≡ value b))
@@ -165,4 +165,4 @@ option_decides value E d None None = (λ e. refl, λ e. refl)
 option_decides value E d None (Some y) = (λ e. cc, λ e. cc)
 option_decides value E d (Some x) None = (λ e. cc, λ e. cc)
 option_decides value E d (Some x) (Some y) =
-    (λ e. ap (λ v. Some v) ((d x y).0 e), λ e. (d x y).1 (some_same (value x) (value y) e))
+    (λ e. ap (λ v. Some v) ((d x y).0 e), λ e. (d x y).1 (some_injective (value x) (value y) e))

@@ -5,7 +5,7 @@ use Rattle.std.specs.Int.Digits.{digits_of, number_from_digits}
 use Rattle.std.proofs.lemmas.Int.Digits.{all_below_base_digits_of, number_digits_of, first_digits_of, length-digits_of-le}
 use Rattle.der_core.specs.Length.{IsLength, IsBase256, short, long, length_octets}
 use Rattle.std.proofs.lemmas.Bool.Decides.{nat_tests}
-use Rattle.der_core.specs.Laws.Numbers.{same_cons, same_fronts, base256_grows, base256_same}
+use Rattle.der_core.specs.Laws.Numbers.{cons_injective, append_injective, base256_grows, base256_same}
 use mathlib.Core.HLevel.{is_prop→PathP, ×_prop, Unit-prop}
 use denote.Struct.Props.{props}
 use Rattle.std.specs.Coded.{le_prop}
@@ -17,21 +17,21 @@ pub length_split : (m n : ℕ) (x y x' y' : List ℕ) → IsLength m x → IsLen
     → (x ≡ x') × (m ≡ n) × (y ≡ y')
 length_split m n x y x' y' (short p e) (short q f) h =
     let c : m ∷ y ≡ n ∷ y' = rw (e, f) at h in
-    let d = same_cons c in
+    let d = cons_injective c in
     (rw (e, f, d.0), d.0, d.1)
 length_split m n x y x' y' (short p e) (long ds q k b f) h =
     let c : m ∷ y ≡ (128 + length ds) ∷ (ds ++ y') = rw (e, f) at h in
-    let d : m ≡ 128 + length ds = (same_cons c).0 in
+    let d : m ≡ 128 + length ds = (cons_injective c).0 in
     absurd (omega arith)
 length_split m n x y x' y' (long ds q k b f) (short p e) h =
     let c : (128 + length ds) ∷ (ds ++ y) ≡ n ∷ y' = rw (f, e) at h in
-    let d : 128 + length ds ≡ n = (same_cons c).0 in
+    let d : 128 + length ds ≡ n = (cons_injective c).0 in
     absurd (omega arith)
 length_split m n x y x' y' (long ds p j a e) (long ds' q k b f) h =
     let c : (128 + length ds) ∷ (ds ++ y) ≡ (128 + length ds') ∷ (ds' ++ y') = rw (e, f) at h in
-    let d = same_cons c in
+    let d = cons_injective c in
     let l : 128 + length ds ≡ 128 + length ds' = d.0 in
-    let s = same_fronts ds y ds' y' (omega arith) d.1 in
+    let s = append_injective ds y ds' y' (omega arith) d.1 in
     let v : number_from_digits 256 ds ≡ number_from_digits 256 ds' = ap (number_from_digits 256) s.0 in
     (rw (e, f, s.0), sym a.value ∙ v ∙ b.value, s.1)
 
@@ -79,8 +79,8 @@ pub length_octets-long : (n : ℕ) → 128 ≤ n → length_octets n ≡ (128 + 
 unfolding length_octets
 length_octets-long n h = let e : nat_lt n 128 ≡ false = grind (arith, nat_tests) in rw e refl
 
-digits_are : (n : ℕ) → 0 < n → IsBase256 n (digits_of 256 n)
-digits_are n h =
+digits_of_base256 : (n : ℕ) → 0 < n → IsBase256 n (digits_of 256 n)
+digits_of_base256 n h =
     record {
       bytes = all_below_base_digits_of 256 n (omega arith);
       value = number_digits_of 256 n (omega arith);
@@ -91,7 +91,7 @@ digits_are n h =
 pub length_octets-are : (m n : ℕ) (s : List ℕ) → m ≤ n → IsLength n s → IsLength m (length_octets m)
 length_octets-are m n s le p = elim (cases_lt m 128) [
   | inl h ↦ short h (length_octets-short m h)
-  | inr h ↦ long (digits_of 256 m) h (few p) (digits_are m (omega arith)) (length_octets-long m h)
+  | inr h ↦ long (digits_of 256 m) h (few p) (digits_of_base256 m (omega arith)) (length_octets-long m h)
 ]
   where
     few : IsLength n s → length (digits_of 256 m) ≤ 126
@@ -102,7 +102,7 @@ length_octets-are m n s le p = elim (cases_lt m 128) [
     ]
     few (long ds q k b f) = elim (cases_lt 0 m) [
       | inl h ↦ let g : length (digits_of 256 m) ≤ length ds =
-          base256_grows m n (digits_of 256 m) ds (digits_are m h) b le in omega arith
+          base256_grows m n (digits_of 256 m) ds (digits_of_base256 m h) b le in omega arith
       | inr h ↦ let g : length (digits_of 256 m) ≤ 1 =
           length-digits_of-le 256 1 m (omega arith) (omega arith) in omega arith
     ]
@@ -144,7 +144,7 @@ IsLength-prop n octets (long ds p j a e) (long ds' q k b f) =
 Tlv-prop : (t : ℕ) (Contents : List ℕ → Type 0) → ((c : List ℕ) → IsProp (Contents c)) → (encoding : List ℕ)
     → IsProp (Tlv t Contents encoding)
 Tlv-prop t Contents is_prop encoding p q =
-    let c = same_cons (sym p.written ∙ q.written) in
+    let c = cons_injective (sym p.written ∙ q.written) in
     let s =
     length_split (length p.contents) (length q.contents) p.octets p.contents q.octets q.contents p.counted q.counted
     c.1 in λ i. record {

@@ -46,9 +46,9 @@ bytes_front [] (suc i) h = tt
 bytes_front (x ∷ xs) (suc i) h = (h.0, bytes_front xs i h.1)
 
 -- digits with no leading zero fill their number
-fills : (xs : List ℕ) → 0 < slice_index xs 0 → 256 ^ length xs ≤ number_from_digits 256 xs * 256
-fills [] h = absurd (omega (arith, h))
-fills (x ∷ xs) h =
+digits_fill : (xs : List ℕ) → 0 < slice_index xs 0 → 256 ^ length xs ≤ number_from_digits 256 xs * 256
+digits_fill [] h = absurd (omega (arith, h))
+digits_fill (x ∷ xs) h =
     let g : 256 ^ length xs ≤ number_from_digits 256 (x ∷ xs) =
     base256_ge (number_from_digits 256 (x ∷ xs)) xs x h refl in
     rw (pow-suc 256 (length xs)) (omega arith)
@@ -56,14 +56,14 @@ fills (x ∷ xs) h =
 -- five octets that start with a digit spell more than the limit
 pub short_within_limit : (xs : List ℕ) → 0 < slice_index xs 0 → number_from_digits 256 xs ≤ limit → length xs ≤ 4
 short_within_limit xs h below =
-    let full : 256 ^ length xs ≤ number_from_digits 256 xs * 256 = fills xs h in
+    let full : 256 ^ length xs ≤ number_from_digits 256 xs * 256 = digits_fill xs h in
     let more : 5 ≤ length xs → 256 ^ 5 ≤ 256 ^ length xs =
     λ m. (let positive : 0 < 256 = omega arith in pow-le-pow_right positive m) in
     grind arith
 
-pub chosen : {X : Type 0} (b : Bool) (x y z : X) → cond b x y ≡ z → ((b ≡ true) × (x ≡ z)) ⊎ ((b ≡ false) × (y ≡ z))
-chosen true x y z e = inl (refl, e)
-chosen false x y z e = inr (refl, e)
+pub cond_cases : {X : Type 0} (b : Bool) (x y z : X) → cond b x y ≡ z → ((b ≡ true) × (x ≡ z)) ⊎ ((b ≡ false) × (y ≡ z))
+cond_cases true x y z e = inl (refl, e)
+cond_cases false x y z e = inr (refl, e)
 
 pub guard_ok : {X : Type 0} (b : Bool) (d : ErrorKind) (r : Result X ErrorKind) (x : X) → cond b (Err d) r ≡ Ok x
     → (b ≡ false) × (r ≡ Ok x)
@@ -78,7 +78,8 @@ not_overlong (x ∷ []) h e =
     let big : 128 ≤ x = grind (arith, nat_tests) in (omega arith, omega arith)
 not_overlong (x ∷ y ∷ ys) h e =
     let nonzero : 0 < x = grind (arith, nat_tests) in
-    let full : 256 ^ length (x ∷ y ∷ ys) ≤ number_from_digits 256 (x ∷ y ∷ ys) * 256 = fills (x ∷ y ∷ ys) nonzero in
+    let full : 256 ^ length (x ∷ y ∷ ys) ≤ number_from_digits 256 (x ∷ y ∷ ys) * 256 = digits_fill (x ∷ y ∷ ys)
+    nonzero in
     let positive : 0 < 256 = omega arith in
     let two : 2 ≤ length (x ∷ y ∷ ys) = omega arith in
     let more : 256 ^ 2 ≤ 256 ^ length (x ∷ y ∷ ys) = pow-le-pow_right positive two in
@@ -133,7 +134,7 @@ length_at-sound (x ∷ b) rest n bytes e =
       ap (λ t. x ∷ t) read.4,
       read.5,
     ))
-    (chosen (nat_lt x 128) _ _ _ e)
+    (cond_cases (nat_lt x 128) _ _ _ e)
 
 first_positive : (m : List ℕ) → 0 < slice_index m 0 → 0 < length m
 first_positive [] h = absurd (omega (arith, h))
@@ -171,17 +172,18 @@ length_at-complete n s rest (long m p few b e) within =
     ) refl)
 
 -- Kinds of errors that are about the bytes.
-pub is_incomplete : {k : ErrorKind} → k ≡ kind.Incomplete → TellsOfBytes k
-is_incomplete e = (λ no. cc, λ no. cc, λ no. cc)
+pub incomplete_error_tells : {k : ErrorKind} → k ≡ kind.Incomplete → TellsOfBytes k
+incomplete_error_tells e = (λ no. cc, λ no. cc, λ no. cc)
 
-pub is_trailing : {k : ErrorKind} → k ≡ kind.TrailingData → TellsOfBytes k
-is_trailing e = (λ no. cc, λ no. cc, λ no. cc)
+pub trailing_error_tells : {k : ErrorKind} → k ≡ kind.TrailingData → TellsOfBytes k
+trailing_error_tells e = (λ no. cc, λ no. cc, λ no. cc)
 
-pub is_other_tag : {k : ErrorKind} {expected actual : Tag} → k ≡ kind.TagUnexpected expected actual → TellsOfBytes k
-is_other_tag e = (λ no. cc, λ no. cc, λ no. cc)
+pub unexpected_tag_error_tells : {k : ErrorKind} {expected actual : Tag} → k ≡ kind.TagUnexpected expected actual
+    → TellsOfBytes k
+unexpected_tag_error_tells e = (λ no. cc, λ no. cc, λ no. cc)
 
-pub is_value : {k : ErrorKind} {tag : Tag} → k ≡ kind.Value tag → TellsOfBytes k
-is_value e = (λ no. cc, λ no. cc, λ no. cc)
+pub value_error_tells : {k : ErrorKind} {tag : Tag} → k ≡ kind.Value tag → TellsOfBytes k
+value_error_tells e = (λ no. cc, λ no. cc, λ no. cc)
 
 -- An error about the bytes, or the result that it guards.
 pub guard_tells : {X : Type 0} (b : Bool) (d k : ErrorKind) (r : Result X ErrorKind) → TellsOfBytes d
@@ -202,8 +204,8 @@ with_tag_ok t (Ok p) u n rest e =
     let number : p.0 ≡ n = ap (λ q. q.1) parts.0 in
     (tag, rw (← number, ← parts.1) refl)
 
-allowed_as : (x t : ℕ) → x ≡ t → is_allowed x ≡ true → IsTrue (is_allowed t)
-allowed_as x t same ok = let is : is_allowed t ≡ true = ap is_allowed (sym same) ∙ ok in is
+is_allowed_same : (x t : ℕ) → x ≡ t → is_allowed x ≡ true → IsTrue (is_allowed t)
+is_allowed_same x t same ok = let is : is_allowed t ≡ true = ap is_allowed (sym same) ∙ ok in is
 
 -- What header_at reads is an allowed tag and length octets.
 pub header_at-sound : (i rest : List ℕ) (t n : ℕ) → AreBytes i → header_at i ≡ Ok ((t, n), rest)
@@ -215,9 +217,9 @@ header_at-sound (x ∷ b) rest t n octets e =
     (λ w.
     let parts = with_tag_ok x (length_at b) t n rest w.1 in
     let read = length_at-sound b rest n octets.1 parts.1 in
-    (read.0, read.1, ap (λ z. z ∷ b) parts.0 ∙ ap (λ l. t ∷ l) read.2, read.3, allowed_as x t parts.0 w.0))
+    (read.0, read.1, ap (λ z. z ∷ b) parts.0 ∙ ap (λ l. t ∷ l) read.2, read.3, is_allowed_same x t parts.0 w.0))
     (λ w. cc)
-    (chosen (is_allowed x) (with_tag x (length_at b)) (Err (TagUnknown x)) _ e)
+    (cond_cases (is_allowed x) (with_tag x (length_at b)) (Err (TagUnknown x)) _ e)
 
 -- An allowed tag and length octets are read, whatever follows.
 pub header_at-complete : (t n : ℕ) (s rest : List ℕ) → IsTrue (is_allowed t) → IsLength n s → n ≤ limit
@@ -240,19 +242,19 @@ tlv_header t b i rest allowed within p is =
 -- The errors of reading lengths are about the bytes.
 long_length_at-tells : (m : ℕ) (b : List ℕ) (k : ErrorKind) → long_length_at m b ≡ Err k → TellsOfBytes k
 long_length_at-tells m b k e =
-    guard_tells (nat_lt (length b) m) Incomplete k _ (is_incomplete refl)
+    guard_tells (nat_lt (length b) m) Incomplete k _ (incomplete_error_tells refl)
     (guard_tells (is_overlong (take m b)) Overlength k _ (λ no. cc, λ no. cc, λ no. cc)
     (guard_tells (nat_lt limit (number_from_digits 256 (take m b))) Overflow k _ (λ no. cc, λ no. cc, λ no. cc)
     (λ is. cc))) e
 
 pub length_at-tells : (b : List ℕ) (k : ErrorKind) → length_at b ≡ Err k → TellsOfBytes k
 unfolding length_at
-length_at-tells [] k e = is_incomplete (let same : Incomplete ≡ k = cc in sym same)
+length_at-tells [] k e = incomplete_error_tells (let same : Incomplete ≡ k = cc in sym same)
 length_at-tells (x ∷ b) k e =
     ⊎_elim (λ w. let is = w.1 in cc) (λ w.
     guard_tells (x == 128) IndefiniteLength k _ (λ no. cc, λ no. cc, λ no. cc)
     (guard_tells (nat_lt 132 x) Overflow k _ (λ no. cc, λ no. cc, λ no. cc) (long_length_at-tells (x - 128) b k)) w.1)
-    (chosen (nat_lt x 128) _ _ _ e)
+    (cond_cases (nat_lt x 128) _ _ _ e)
 
 with_tag-err : (t : ℕ) (k : ErrorKind) (r : Result (ℕ × List ℕ) ErrorKind) → with_tag t r ≡ Err k → r ≡ Err k
 with_tag-err t k (Ok p) e = cc
@@ -260,11 +262,11 @@ with_tag-err t k (Err d) e = let same : d ≡ k = cc in ap (λ x. Err x) same
 
 pub header_at-tells : (i : List ℕ) (k : ErrorKind) → header_at i ≡ Err k → TellsOfBytes k
 unfolding header_at
-header_at-tells [] k e = is_incomplete (let same : Incomplete ≡ k = cc in sym same)
+header_at-tells [] k e = incomplete_error_tells (let same : Incomplete ≡ k = cc in sym same)
 header_at-tells (x ∷ b) k e =
     ⊎_elim (λ w. length_at-tells b k (with_tag-err x k (length_at b) w.1))
     (λ w. let is = w.1 in let same : TagUnknown x ≡ k = cc in (λ no. cc, λ no. cc, λ no. cc))
-    (chosen (is_allowed x) _ _ _ e)
+    (cond_cases (is_allowed x) _ _ _ e)
 
 pub header_sound : (i rest : List ℕ) (h : ℕ × ℕ) → AreBytes i → header_at i ≡ Ok (h, rest)
     → (b : List ℕ) × (i ≡ b ++ rest) × HeaderEncoding h b

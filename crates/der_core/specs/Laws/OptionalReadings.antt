@@ -3,27 +3,27 @@ use Rattle.std.proofs.Common.{ℕ, true, false, List, [], ◌∷◌, ◌++◌, �
 use Rattle.std.proofs.lemmas.Bool.Decides.{nat_tests}
 use Rattle.der_core.specs.declared.error.ErrorKind.{ErrorKind}
 use Rattle.der_core.specs.declared.tag.Tag.{Tag}
-use Rattle.der_core.specs.Laws.LengthReading.{ok_pair, chosen}
-use Rattle.der_core.specs.Laws.Numbers.{same_cons}
+use Rattle.der_core.specs.Laws.LengthReading.{ok_pair, cond_cases}
+use Rattle.der_core.specs.Laws.Numbers.{cons_injective}
 use Rattle.der_core.specs.Laws.Readings.{bind_err, bind_ok}
 use Rattle.der_core.specs.Laws.TaggedReadings.{tagged_reads}
 use Rattle.der_core.specs.Length.{limit}
 use Rattle.der_core.specs.Encodings.{AreBytes}
 use Rattle.der_core.specs.Optional.{IsNext, Optional, OptionalRead}
 use Rattle.der_core.specs.Reading.{TellsOfBytes}
-use Rattle.der_core.specs.Readings.{Reading, FrontReading, ReadsBy, ReadsContents, ReadsFronts, ◌>>=◌, alone, ended, is_next, optional, tagged}
+use Rattle.der_core.specs.Readings.{Reading, FrontReading, ReadsBy, ReadsContents, ReadsFronts, ◌>>=◌, alone, ended, is_next, optional_front, tagged}
 use Rattle.der_core.specs.Tlv.{Tlv}
 
 -- The octet that is next.
 pub next_is : (t : ℕ) (i : List ℕ) → IsNext t i → is_next t i ≡ true
 next_is t [] (rest, e) = cc
-next_is t (x ∷ xs) (rest, e) = let same : x ≡ t = (same_cons e).0 in grind (arith, nat_tests, same)
+next_is t (x ∷ xs) (rest, e) = let same : x ≡ t = (cons_injective e).0 in grind (arith, nat_tests, same)
 
 pub isnt_next : (t : ℕ) (i : List ℕ) → (IsNext t i → ⊥) → is_next t i ≡ false
 isnt_next t [] other = refl
 isnt_next t (x ∷ xs) other =
     ⊎_elim (λ w. let same : x ≡ t = grind (arith, nat_tests, w.0) in absurd (other (xs, ap (λ z. z ∷ xs) same)))
-    (λ w. w.0) (chosen (x == t) true false _ refl)
+    (λ w. w.0) (cond_cases (x == t) true false _ refl)
 
 pub next_isnt : (t : ℕ) (i : List ℕ) → is_next t i ≡ false → IsNext t i → ⊥
 next_isnt t i isnt next = let yes = next_is t i next in let never : true ≡ false = sym yes ∙ isnt in cc
@@ -35,7 +35,7 @@ front_next t b rest i p is = (
 )
 
 module _ {V : Type 0} (t : ℕ) (at : FrontReading V) (i : List ℕ) where
-  pub optional_is : (o : Option V) (rest : List ℕ) → optional t at i ≡ Ok (o, rest)
+  pub optional_is : (o : Option V) (rest : List ℕ) → optional_front t at i ≡ Ok (o, rest)
       → ((o ≡ None) × (i ≡ rest)) ⊎ ((v : V) × (o ≡ Some v) × (at i ≡ Ok (v, rest)))
   optional_is o rest e =
       ⊎_elim
@@ -44,17 +44,18 @@ module _ {V : Type 0} (t : ℕ) (at : FrontReading V) (i : List ℕ) where
       let q = ok_pair (Some s.0.0) o s.0.1 rest s.2 in
       inr (s.0.0, sym q.0, s.1 ∙ ap (λ r. Ok (s.0.0, r)) q.1))
       (λ w. let q = ok_pair None o i rest w.1 in inl (sym q.0, q.1))
-      (chosen (is_next t i) _ _ _ e)
+      (cond_cases (is_next t i) _ _ _ e)
 
   pub optional_takes : (v : V) (rest : List ℕ) → is_next t i ≡ true → at i ≡ Ok (v, rest)
-      → optional t at i ≡ Ok (Some v, rest)
+      → optional_front t at i ≡ Ok (Some v, rest)
   optional_takes v rest first e = rw first (ap (λ r. r >>= λ p. Ok (Some p.0, p.1)) e)
 
-  pub optional_tells : ((k : ErrorKind) → at i ≡ Err k → TellsOfBytes k) → (k : ErrorKind) → optional t at i ≡ Err k
+  pub optional_tells : ((k : ErrorKind) → at i ≡ Err k → TellsOfBytes k) → (k : ErrorKind)
+      → optional_front t at i ≡ Err k
       → TellsOfBytes k
   optional_tells tells k e =
       ⊎_elim (λ w. ⊎_elim (tells k) (λ s. let no = s.2 in cc) (bind_err (at i) _ w.1)) (λ w. let no = w.1 in cc)
-      (chosen (is_next t i) _ _ _ e)
+      (cond_cases (is_next t i) _ _ _ e)
 
 -- A part that is known by its first octet, and what is behind it.
 module _ {V : Type 0} (t : ℕ) {encoding : V → List ℕ → Type 0} {at : FrontReading V} (law : ReadsFronts encoding at)
@@ -62,7 +63,7 @@ module _ {V : Type 0} (t : ℕ) {encoding : V → List ℕ → Type 0} {at : Fro
   abbrev Read : List ℕ → Option V → List ℕ → Type 0
   Read = OptionalRead t encoding
 
-  read_gives : (i rest : List ℕ) (o : Option V) → AreBytes i → optional t at i ≡ Ok (o, rest) → Read i o rest
+  read_gives : (i rest : List ℕ) (o : Option V) → AreBytes i → optional_front t at i ≡ Ok (o, rest) → Read i o rest
   read_gives i rest o b e =
       ⊎_elim
       (λ w.
@@ -71,16 +72,17 @@ module _ {V : Type 0} (t : ℕ) {encoding : V → List ℕ → Type 0} {at : Fro
       let x = law.gives i s.0.1 s.0.0 b s.1 in
       subst (λ o. Read i o rest) q.0 (x.0, rest, x.2, refl, x.1 ∙ ap (λ r. x.0 ++ r) q.1))
       (λ w. let q = ok_pair None o i rest w.1 in subst (λ o. Read i o rest) q.0 (next_isnt t i w.0, sym q.1))
-      (chosen (is_next t i) _ _ _ e)
+      (cond_cases (is_next t i) _ _ _ e)
 
-  read_takes : (i rest : List ℕ) (o : Option V) → length i ≤ limit → Read i o rest → optional t at i ≡ Ok (o, rest)
+  read_takes : (i rest : List ℕ) (o : Option V) → length i ≤ limit → Read i o rest
+      → optional_front t at i ≡ Ok (o, rest)
   read_takes i rest None within (not_next, same) =
       let no : is_next t i ≡ false = isnt_next t i not_next in rw (no, same) refl
   read_takes i rest (Some v) within (b, more, p, same, split) =
       let yes : is_next t i ≡ true = next_is t i (starts v b more i p split) in
       optional_takes t at i v rest yes (law.takes i b rest v within (split ∙ ap (λ r. b ++ r) same) p)
 
-  pub optional_reads : ReadsBy (OptionalRead t encoding) (optional t at)
+  pub optional_reads : ReadsBy (OptionalRead t encoding) (optional_front t at)
   optional_reads = record {
     gives = read_gives;
     takes = read_takes;
@@ -90,19 +92,19 @@ module _ {V : Type 0} (t : ℕ) {encoding : V → List ℕ → Type 0} {at : Fro
 -- The last part that is known by its tag.
 module _ {V : Type 0} (tag : Tag) {contents : V → List ℕ → Type 0} {read : Reading V}
     (law : ReadsContents contents read) where
-  abbrev Encoding : V → List ℕ → Type 0
-  Encoding v = Tlv tag.octet (contents v)
+  abbrev TaggedEncoding : V → List ℕ → Type 0
+  TaggedEncoding v = Tlv tag.octet (contents v)
 
-  abbrev at : FrontReading V
-  at = tagged tag read
+  abbrev tagged_at : FrontReading V
+  tagged_at = tagged tag read
 
-  reads : ReadsFronts Encoding at
-  reads = tagged_reads tag law
+  tagged_at_reads : ReadsFronts TaggedEncoding tagged_at
+  tagged_at_reads = tagged_reads tag law
 
-  takes : (c : List ℕ) (v : Option V) → length c ≤ limit → Optional Encoding v c
-      → alone (optional tag.octet at) c ≡ Ok v
-  takes c None within p = ap (alone (optional tag.octet at)) p
-  takes c (Some v) within p =
+  optional_tagged_takes : (c : List ℕ) (v : Option V) → length c ≤ limit → Optional TaggedEncoding v c
+      → alone (optional_front tag.octet tagged_at) c ≡ Ok v
+  optional_tagged_takes c None within p = ap (alone (optional_front tag.octet tagged_at)) p
+  optional_tagged_takes c (Some v) within p =
       let first : is_next tag.octet c ≡ true = rw p.written (grind (arith, nat_tests)) in
       ap (λ r. r >>= λ p. ended p.0 p.1)
-      (optional_takes tag.octet at c v [] first (reads.takes c c [] v within (sym (append-nil c)) p))
+      (optional_takes tag.octet tagged_at c v [] first (tagged_at_reads.takes c c [] v within (sym (append-nil c)) p))

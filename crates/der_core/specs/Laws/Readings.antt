@@ -4,34 +4,34 @@ use Rattle.std.specs.Int.Digits.{number_from_digits}
 use Rattle.std.proofs.lemmas.Bool.Decides.{nat_tests}
 use Rattle.der_core.specs.Integer.{IsCanonical, IntegerContents, SmallContents}
 use Rattle.der_core.specs.IntegerReading.{integer_of, as_small, small_of}
-use Rattle.der_core.specs.Laws.LengthReading.{chosen, is_trailing}
+use Rattle.der_core.specs.Laws.LengthReading.{cond_cases, trailing_error_tells}
 use Rattle.der_core.specs.Encodings.{AreBytes}
 use Rattle.der_core.specs.declared.error.ErrorKind.{ErrorKind}
 use Rattle.der_core.specs.declared.error.ErrorKind.TheVariants.{TrailingData}
-use Rattle.der_core.specs.Laws.Integer.{contents_read, integer_tells, small_read, small_tells}
+use Rattle.der_core.specs.Laws.Integer.{integer_of_takes, integer_tells, small_of_takes, small_tells}
 use Rattle.der_core.specs.Length.{limit}
 use Rattle.der_core.specs.Reading.{TellsOfBytes}
 use Rattle.der_core.specs.Readings.{Reading, FrontReading, ◌>>=◌, ended, made, alone, any_contents, ReadsContents, ReadsFronts}
 
-one_octet : (x : ℕ) → AreBytes (x ∷ []) → IsCanonical (x ∷ [])
-one_octet zero b = inl refl
-one_octet (suc n) b = inr (b, omega arith)
+octet_canonical : (x : ℕ) → AreBytes (x ∷ []) → IsCanonical (x ∷ [])
+octet_canonical zero b = inl refl
+octet_canonical (suc n) b = inr (b, omega arith)
 
 -- The number that is read has these contents.
 pub integer_gives : (c bytes : List ℕ) → AreBytes c → integer_of c ≡ Ok bytes → IntegerContents bytes c
 integer_gives [] bytes b e = cc
-integer_gives (x ∷ []) bytes b e = elim (chosen (nat_lt x 128) _ _ _ e) [
+integer_gives (x ∷ []) bytes b e = elim (cond_cases (nat_lt x 128) _ _ _ e) [
   | inl w ↦
       let less : x < 128 = grind (arith, nat_tests, w.0) in
       let same : x ∷ [] ≡ bytes = let is = w.1 in cc in
-      rw (← same) (one_octet x b, inl (less, refl))
+      rw (← same) (octet_canonical x b, inl (less, refl))
   | inr w ↦ let no = w.1 in cc
 ]
-integer_gives (x ∷ y ∷ ys) bytes b e = elim (chosen (nat_lt x 128) _ _ _ e) [
+integer_gives (x ∷ y ∷ ys) bytes b e = elim (cond_cases (nat_lt x 128) _ _ _ e) [
   | inl w ↦
       let less : x < 128 = grind (arith, nat_tests, w.0) in
-      elim (chosen (x == 0) _ _ _ w.1) [
-        | inl v ↦ elim (chosen (nat_lt y 128) _ _ _ v.1) [
+      elim (cond_cases (x == 0) _ _ _ w.1) [
+        | inl v ↦ elim (cond_cases (nat_lt y 128) _ _ _ v.1) [
           | inl u ↦ let no = u.1 in cc
           | inr u ↦
               let empty : x ≡ 0 = grind (arith, nat_tests, v.0) in
@@ -51,7 +51,7 @@ integer_gives (x ∷ y ∷ ys) bytes b e = elim (chosen (nat_lt x 128) _ _ _ e) 
 small_gives_of : (c : List ℕ) (n : ℕ) → AreBytes c → (r : Result (List ℕ) ErrorKind) → integer_of c ≡ r
     → as_small r ≡ Ok n → SmallContents n c
 small_gives_of c n b (Err k) is e = cc
-small_gives_of c n b (Ok bytes) is e = elim (chosen (nat_lt (number_from_digits 256 bytes) 256) _ _ _ e) [
+small_gives_of c n b (Ok bytes) is e = elim (cond_cases (nat_lt (number_from_digits 256 bytes) 256) _ _ _ e) [
   | inl w ↦
       let less : number_from_digits 256 bytes < 256 = grind (arith, nat_tests, w.0) in
       let same : number_from_digits 256 bytes ≡ n = let is = w.1 in cc in
@@ -79,12 +79,12 @@ behind_bytes x y is b = back_bytes x y (rw is at b)
 pub behind_within : {i : List ℕ} (x y : List ℕ) → i ≡ x ++ y → length i ≤ limit → length y ≤ limit
 behind_within x y is within = omega (arith, within, ap length is, length-append x y)
 
-pub carry : {V : Type 0} (P : V → List ℕ → Type 0) {v w : V} {b c : List ℕ} → v ≡ w → b ≡ c → P v b → P w c
-carry P e f p = rw (← e, ← f) p
+pub relation_carried : {V : Type 0} (P : V → List ℕ → Type 0) {v w : V} {b c : List ℕ} → v ≡ w → b ≡ c → P v b → P w c
+relation_carried P e f p = rw (← e, ← f) p
 
 -- A step of reading.
-pub ok_same : {A : Type 0} {a b : A} → ◌≡◌ {A = Result A ErrorKind} (Ok a) (Ok b) → a ≡ b
-ok_same e = cc
+pub ok_injective : {A : Type 0} {a b : A} → ◌≡◌ {A = Result A ErrorKind} (Ok a) (Ok b) → a ≡ b
+ok_injective e = cc
 
 pub bind_ok : {A B : Type 0} (r : Result A ErrorKind) (f : A → Result B ErrorKind) {b : B} → (r >>= f) ≡ Ok b
     → (a : A) × (r ≡ Ok a) × (f a ≡ Ok b)
@@ -107,22 +107,22 @@ made_errs make read k c e = ap (λ r. r >>= λ a. Ok (make a)) e
 
 -- INTEGER, one expected number, and contents without restrictions.
 pub integer_reads : ReadsContents IntegerContents integer_of
-integer_reads = record { gives = integer_gives; takes = λ c v w p. contents_read v c p; tells = integer_tells }
+integer_reads = record { gives = integer_gives; takes = λ c v w p. integer_of_takes v c p; tells = integer_tells }
 
 pub small_reads : ReadsContents SmallContents small_of
-small_reads = record { gives = small_gives; takes = λ c v w p. small_read v c p; tells = small_tells }
+small_reads = record { gives = small_gives; takes = λ c v w p. small_of_takes v c p; tells = small_tells }
 
-pub any_read : ReadsContents (λ (_ : Unit {0}) c. AreBytes c) any_contents
-any_read = record { gives = λ c v b e. b; takes = λ c v w p. refl; tells = λ c k e. cc }
+pub any_contents_reads : ReadsContents (λ (_ : Unit {0}) c. AreBytes c) any_contents
+any_contents_reads = record { gives = λ c v b e. b; takes = λ c v w p. refl; tells = λ c k e. cc }
 
 -- The end.
 pub ended_is : {V : Type 0} (v w : V) (c : List ℕ) → ended v c ≡ Ok w → (c ≡ []) × (v ≡ w)
-ended_is v w [] e = (refl, ok_same e)
+ended_is v w [] e = (refl, ok_injective e)
 ended_is v w (x ∷ xs) e = cc
 
 pub ended_tells : {V : Type 0} (v : V) (c : List ℕ) (k : ErrorKind) → ended v c ≡ Err k → TellsOfBytes k
 ended_tells v [] k e = cc
-ended_tells v (x ∷ xs) k e = let same : TrailingData ≡ k = cc in is_trailing (sym same)
+ended_tells v (x ∷ xs) k e = let same : TrailingData ≡ k = cc in trailing_error_tells (sym same)
 
 -- One encoding alone.
 module _ {V : Type 0} {encoding : V → List ℕ → Type 0} {at : FrontReading V} (law : ReadsFronts encoding at) where
@@ -133,7 +133,7 @@ module _ {V : Type 0} {encoding : V → List ℕ → Type 0} {at : FrontReading 
         let x = law.gives c s.0.1 s.0.0 b s.1 in
         let end = ended_is s.0.0 v s.0.1 s.2 in
         let all : c ≡ x.0 = x.1 ∙ ap (λ y. x.0 ++ y) end.0 ∙ append-nil x.0 in
-        carry encoding end.1 (sym all) x.2;
+        relation_carried encoding end.1 (sym all) x.2;
     takes = λ c v w p. ap (λ r. r >>= λ p. ended p.0 p.1) (law.takes c c [] v w (sym (append-nil c)) p);
     tells = λ c k e. ⊎_elim (law.tells c k) (λ s. ended_tells s.0.0 s.0.1 k s.2) (bind_err (at c) _ e);
   }

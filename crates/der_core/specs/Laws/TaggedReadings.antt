@@ -8,8 +8,8 @@ use Rattle.der_core.specs.declared.tag.Tag.{Tag}
 use Rattle.der_core.specs.Encodings.{AreBytes}
 use Rattle.der_core.specs.Headers.{HeaderEncoding}
 use Rattle.der_core.specs.Input.{header_at, front_of}
-use Rattle.der_core.specs.Laws.LengthReading.{tlv_header, header_sound, header_at-tells, ok_pair, chosen, is_incomplete, is_other_tag, is_trailing}
-use Rattle.der_core.specs.Laws.Readings.{front_bytes, back_bytes, behind_bytes, behind_within, carry, ok_same, bind_ok, bind_err, made_tells}
+use Rattle.der_core.specs.Laws.LengthReading.{tlv_header, header_sound, header_at-tells, ok_pair, cond_cases, incomplete_error_tells, unexpected_tag_error_tells, trailing_error_tells}
+use Rattle.der_core.specs.Laws.Readings.{front_bytes, back_bytes, behind_bytes, behind_within, relation_carried, ok_injective, bind_ok, bind_err, made_tells}
 use Rattle.der_core.specs.Length.{limit}
 use Rattle.der_core.specs.Reading.{TellsOfBytes}
 use Rattle.der_core.specs.Readings.{Reading, FrontReading, ◌>>=◌, made, items_within, items, checked, unexpected, by_tag, contents_behind, inside, tagged, ReadsContents, ReadsFronts}
@@ -33,7 +33,8 @@ unexpected_not tag n v e =
 pub unexpected_tells : {V : Type 0} (tag : Tag) (n : ℕ) (k : ErrorKind) → unexpected {V = V} tag n ≡ Err k
     → TellsOfBytes k
 unexpected_tells {V} tag n k e =
-    go (is_allowed n) (λ ok. TagUnexpected tag (record { octet = n; allowed = ok })) (λ q. is_other_tag refl) e
+    go (is_allowed n) (λ ok. TagUnexpected tag (record { octet = n; allowed = ok }))
+    (λ q. unexpected_tag_error_tells refl) e
   where
     go : (b : Bool) (f : b ≡ true → ErrorKind) → ((q : b ≡ true) → TellsOfBytes (f q))
         → ◌≡◌ {A = Result V ErrorKind} (checked b (λ q. Err (f q)) (Err (TagUnknown n))) (Err k) → TellsOfBytes k
@@ -41,17 +42,19 @@ unexpected_tells {V} tag n k e =
     go false f t e = let same : TagUnknown n ≡ k = cc in (λ no. cc, λ no. cc, λ no. cc)
 
 -- The contents behind a header.
-behind : (tag : Tag) (c rest : List ℕ) → contents_behind tag ((tag.octet, length c), c ++ rest) ≡ Ok (c, rest)
-behind tag c rest =
+contents_behind_tag : (tag : Tag) (c rest : List ℕ)
+    → contents_behind tag ((tag.octet, length c), c ++ rest) ≡ Ok (c, rest)
+contents_behind_tag tag c rest =
     let is : (tag.octet == tag.octet) ≡ true = grind (arith, nat_tests) in
     let enough : nat_lt (length (c ++ rest)) (length c) ≡ false = grind (arith, nat_tests, length-append c rest) in
     rw (is, enough)
     (ap (λ x. Ok (x, drop (length c) (c ++ rest))) (take-append_seam c rest)
     ∙ ap (λ y. Ok (c, y)) (drop-append_seam c rest))
 
-behind_is : (tag : Tag) (t n : ℕ) (left c rest : List ℕ) → contents_behind tag ((t, n), left) ≡ Ok (c, rest)
+contents_behind_splits : (tag : Tag) (t n : ℕ) (left c rest : List ℕ)
+    → contents_behind tag ((t, n), left) ≡ Ok (c, rest)
     → (t ≡ tag.octet) × (left ≡ c ++ rest) × (length c ≡ n)
-behind_is tag t n left c rest e =
+contents_behind_splits tag t n left c rest e =
     ⊎_elim
     (λ w.
     let same : t ≡ tag.octet = grind (arith, nat_tests, w.0) in
@@ -63,18 +66,20 @@ behind_is tag t n left c rest e =
       sym (take-append-drop n left) ∙ ap (λ x. x ++ drop n left) parts.0 ∙ ap (λ y. c ++ y) parts.1,
       sym (ap length parts.0) ∙ simp length-take (omega arith),
     ))
-    (chosen (nat_lt (length left) n) _ _ _ w.1))
+    (cond_cases (nat_lt (length left) n) _ _ _ w.1))
     (λ w. absurd (unexpected_not tag t (c, rest) w.1))
-    (chosen (t == tag.octet) _ _ _ e)
+    (cond_cases (t == tag.octet) _ _ _ e)
 
-behind_tells : (tag : Tag) (h : (ℕ × ℕ) × List ℕ) (k : ErrorKind) → contents_behind tag h ≡ Err k → TellsOfBytes k
-behind_tells tag h k e =
+contents_behind_tells : (tag : Tag) (h : (ℕ × ℕ) × List ℕ) (k : ErrorKind) → contents_behind tag h ≡ Err k
+    → TellsOfBytes k
+contents_behind_tells tag h k e =
     ⊎_elim
     (λ w.
-    ⊎_elim (λ u. let same : Incomplete ≡ k = let q = u.1 in cc in is_incomplete (sym same)) (λ u. let no = u.1 in cc)
-    (chosen (nat_lt (length h.1) h.0.1) _ _ _ w.1))
+    ⊎_elim (λ u. let same : Incomplete ≡ k = let q = u.1 in cc in incomplete_error_tells (sym same))
+    (λ u. let no = u.1 in cc)
+    (cond_cases (nat_lt (length h.1) h.0.1) _ _ _ w.1))
     (λ w. unexpected_tells tag h.0.0 k w.1)
-    (chosen (h.0.0 == tag.octet) _ _ _ e)
+    (cond_cases (h.0.0 == tag.octet) _ _ _ e)
 
 -- A header and contents are an encoding, whose contents are within the limit.
 tlv_joined : (i rest : List ℕ) (t n : ℕ) (left header c : List ℕ) → AreBytes i → i ≡ header ++ left
@@ -108,49 +113,49 @@ tlv_within i b rest u within is t =
 
 module _ {V : Type 0} (tag : Tag) {contents : V → List ℕ → Type 0} {read : Reading V}
     (law : ReadsContents contents read) where
-  takes : (i b rest : List ℕ) (v : V) → length i ≤ limit → i ≡ b ++ rest → Tlv tag.octet (contents v) b
+  tagged_takes : (i b rest : List ℕ) (v : V) → length i ≤ limit → i ≡ b ++ rest → Tlv tag.octet (contents v) b
       → tagged tag read i ≡ Ok (v, rest)
-  takes i b rest v within is t =
+  tagged_takes i b rest v within is t =
       let few = tlv_within i b rest tag.octet within is t in
       ap (λ r. r >>= λ h. contents_behind tag h >>= inside read)
       (tlv_header tag.octet b i rest tag.allowed within t is)
-      ∙ ap (λ r. r >>= inside read) (behind tag t.contents rest)
+      ∙ ap (λ r. r >>= inside read) (contents_behind_tag tag t.contents rest)
       ∙ ap (λ r. r >>= λ v. Ok (v, rest)) (law.takes t.contents v few t.holds)
 
-  gives : (i rest : List ℕ) (v : V) → AreBytes i → tagged tag read i ≡ Ok (v, rest)
+  tagged_gives : (i rest : List ℕ) (v : V) → AreBytes i → tagged tag read i ≡ Ok (v, rest)
       → (b : List ℕ) × (i ≡ b ++ rest) × Tlv tag.octet (contents v) b
-  gives i rest v bytes e =
+  tagged_gives i rest v bytes e =
       let s = bind_ok (header_at i) (λ h. contents_behind tag h >>= inside read) e in
       let u = bind_ok (contents_behind tag s.0) (inside read) s.2 in
       let w = bind_ok (read u.0.0) (λ v. Ok (v, u.0.1)) u.2 in
       let end = ok_pair w.0 v u.0.1 rest w.2 in
       let front = header_sound i s.0.1 s.0.0 bytes s.1 in
-      let is = behind_is tag s.0.0.0 s.0.0.1 s.0.1 u.0.0 u.0.1 u.1 in
+      let is = contents_behind_splits tag s.0.0.0 s.0.0.1 s.0.1 u.0.0 u.0.1 u.1 in
       tlv_joined i rest s.0.0.0 s.0.0.1 s.0.1 front.0 u.0.0 bytes front.1 front.2
       (is.1 ∙ ap (λ y. u.0.0 ++ y) end.1) is.2 tag.octet (contents v)
       (λ are. (sym is.0, law.gives u.0.0 v are (w.1 ∙ ap (λ a. Ok a) end.0)))
 
   pub tagged_reads : ReadsFronts (λ v. Tlv tag.octet (contents v)) (tagged tag read)
   tagged_reads = record {
-    gives = gives;
-    takes = takes;
+    gives = tagged_gives;
+    takes = tagged_takes;
     tells = λ i k e.
         ⊎_elim (header_at-tells i k)
-        (λ s. ⊎_elim (behind_tells tag s.0 k)
+        (λ s. ⊎_elim (contents_behind_tells tag s.0 k)
         (λ u. made_tells (λ v. (v, u.0.1)) (read u.0.0) (law.tells u.0.0 k) u.2)
         (bind_err (contents_behind tag s.0) (inside read) s.2))
         (bind_err (header_at i) (λ h. contents_behind tag h >>= inside read) e);
   }
 
 -- An encoding of any tag.
-front_taken : (c rest : List ℕ) → front_of (length c) (c ++ rest) ≡ Ok (c, rest)
-front_taken c rest =
+front_of_takes : (c rest : List ℕ) → front_of (length c) (c ++ rest) ≡ Ok (c, rest)
+front_of_takes c rest =
     let enough : nat_lt (length (c ++ rest)) (length c) ≡ false = grind (arith, nat_tests, length-append c rest) in
     rw enough (ap (λ x. Ok (x, drop (length c) (c ++ rest))) (take-append_seam c rest)
     ∙ ap (λ y. Ok (c, y)) (drop-append_seam c rest))
 
-front_is : (n : ℕ) (left c rest : List ℕ) → front_of n left ≡ Ok (c, rest) → (left ≡ c ++ rest) × (length c ≡ n)
-front_is n left c rest e =
+front_of_splits : (n : ℕ) (left c rest : List ℕ) → front_of n left ≡ Ok (c, rest) → (left ≡ c ++ rest) × (length c ≡ n)
+front_of_splits n left c rest e =
     ⊎_elim (λ u. let no = u.1 in cc)
     (λ u.
     let parts = ok_pair (take n left) c (drop n left) rest u.1 in
@@ -158,12 +163,13 @@ front_is n left c rest e =
       sym (take-append-drop n left) ∙ ap (λ x. x ++ drop n left) parts.0 ∙ ap (λ y. c ++ y) parts.1,
       sym (ap length parts.0) ∙ simp length-take (omega arith),
     ))
-    (chosen (nat_lt (length left) n) _ _ _ e)
+    (cond_cases (nat_lt (length left) n) _ _ _ e)
 
-front_tells : (n : ℕ) (left : List ℕ) (k : ErrorKind) → front_of n left ≡ Err k → TellsOfBytes k
-front_tells n left k e =
-    ⊎_elim (λ u. let same : Incomplete ≡ k = let q = u.1 in cc in is_incomplete (sym same)) (λ u. let no = u.1 in cc)
-    (chosen (nat_lt (length left) n) _ _ _ e)
+front_of_tells : (n : ℕ) (left : List ℕ) (k : ErrorKind) → front_of n left ≡ Err k → TellsOfBytes k
+front_of_tells n left k e =
+    ⊎_elim (λ u. let same : Incomplete ≡ k = let q = u.1 in cc in incomplete_error_tells (sym same))
+    (λ u. let no = u.1 in cc)
+    (cond_cases (nat_lt (length left) n) _ _ _ e)
 
 module _ {V : Type 0} (octet : V → ℕ) (Inner : V → List ℕ → Type 0) (read : ℕ → Reading V)
     (inner : (t : ℕ) → IsTrue (is_allowed t) → ReadsContents (λ v c. (octet v ≡ t) × Inner v c) (read t))
@@ -177,7 +183,7 @@ module _ {V : Type 0} (octet : V → ℕ) (Inner : V → List ℕ → Type 0) (r
         let w = bind_ok (read s.0.0.0 u.0.0) (λ v. Ok (v, u.0.1)) u.2 in
         let end = ok_pair w.0 v u.0.1 rest w.2 in
         let front = header_sound i s.0.1 s.0.0 bytes s.1 in
-        let is = front_is s.0.0.1 s.0.1 u.0.0 u.0.1 u.1 in
+        let is = front_of_splits s.0.0.1 s.0.1 u.0.0 u.0.1 u.1 in
         tlv_joined i rest s.0.0.0 s.0.0.1 s.0.1 front.0 u.0.0 bytes front.1 front.2
         (is.0 ∙ ap (λ y. u.0.0 ++ y) end.1) is.1 (octet v) (Inner v)
         (λ are. (inner s.0.0.0 front.2.0).gives u.0.0 v are (w.1 ∙ ap (λ a. Ok a) end.0));
@@ -185,11 +191,11 @@ module _ {V : Type 0} (octet : V → ℕ) (Inner : V → List ℕ → Type 0) (r
         let few = tlv_within i b rest (octet v) within is t in
         let ok = allowed v t.contents t.holds in
         ap (λ r. r >>= λ h. front_of h.0.1 h.1 >>= inside (read h.0.0)) (tlv_header (octet v) b i rest ok within t is)
-        ∙ ap (λ r. r >>= inside (read (octet v))) (front_taken t.contents rest)
+        ∙ ap (λ r. r >>= inside (read (octet v))) (front_of_takes t.contents rest)
         ∙ ap (λ r. r >>= λ v. Ok (v, rest)) ((inner (octet v) ok).takes t.contents v few (refl, t.holds));
     tells = λ i k e.
         ⊎_elim (header_at-tells i k)
-        (λ s. ⊎_elim (front_tells s.0.0.1 s.0.1 k)
+        (λ s. ⊎_elim (front_of_tells s.0.0.1 s.0.1 k)
         (λ u. made_tells (λ v. (v, u.0.1)) (read s.0.0.0 u.0.0) (tells s.0.0.0 u.0.0 k) u.2)
         (bind_err (front_of s.0.0.1 s.0.1) (inside (read s.0.0.0)) s.2))
         (bind_err (header_at i) (λ h. front_of h.0.1 h.1 >>= inside (read h.0.0)) e);
@@ -200,14 +206,14 @@ module _ {V : Type 0} {encoding : V → List ℕ → Type 0} {at : FrontReading 
     (some : (v : V) (b : List ℕ) → encoding v b → 0 < length b) where
   items_give : (n : ℕ) (c : List ℕ) (vs : List V) → AreBytes c → items_within n at c ≡ Ok vs
       → ItemsContents encoding vs c
-  items_give n [] vs b e = carry (ItemsContents encoding) (ok_same e) refl refl
+  items_give n [] vs b e = relation_carried (ItemsContents encoding) (ok_injective e) refl refl
   items_give zero (x ∷ xs) vs b e = cc
   items_give (suc n) (x ∷ xs) vs b e =
       let s = bind_ok (at (x ∷ xs)) _ e in
       let u = bind_ok (items_within n at s.0.1) _ s.2 in
       let p = law.gives (x ∷ xs) s.0.1 s.0.0 b s.1 in
       let q = items_give n s.0.1 u.0 (behind_bytes p.0 s.0.1 p.1 b) u.1 in
-      carry (ItemsContents encoding) (ok_same u.2) refl (p.0, s.0.1, p.2, q, p.1)
+      relation_carried (ItemsContents encoding) (ok_injective u.2) refl (p.0, s.0.1, p.2, q, p.1)
 
   items_take : (vs : List V) (n : ℕ) (c : List ℕ) → length c ≤ n → length c ≤ limit → ItemsContents encoding vs c
       → items_within n at c ≡ Ok vs
@@ -223,7 +229,7 @@ module _ {V : Type 0} {encoding : V → List ℕ → Type 0} {at : FrontReading 
 
   items_tell : (n : ℕ) (c : List ℕ) (k : ErrorKind) → items_within n at c ≡ Err k → TellsOfBytes k
   items_tell n [] k e = cc
-  items_tell zero (x ∷ xs) k e = let same : TrailingData ≡ k = cc in is_trailing (sym same)
+  items_tell zero (x ∷ xs) k e = let same : TrailingData ≡ k = cc in trailing_error_tells (sym same)
   items_tell (suc n) (x ∷ xs) k e =
       ⊎_elim (law.tells (x ∷ xs) k)
       (λ s. made_tells (λ vs. s.0.0 ∷ vs) (items_within n at s.0.1) (items_tell n s.0.1 k) s.2)

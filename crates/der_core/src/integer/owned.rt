@@ -4,9 +4,9 @@ ghost use Rattle.std.specs.Int.Digits.{number_from_digits};
 ghost use Rattle.der_core.specs.Length.{limit};
 ghost use Rattle.der_core.specs.Integer.{HoldsNumber, IsCanonical, AreCanonicalOf};
 ghost use Rattle.der_core.specs.IntegerReading.{WhyNoNumber, IsOutOfMemoryForNumber};
-ghost use Rattle.der_core.specs.Laws.Printed.Alike.{alike};
+ghost use Rattle.der_core.specs.Laws.Printed.Alike.{reading_alike};
 ghost use Rattle.der_core.specs.Laws.Printed.Leaves.{number_law, numbers_encode};
-ghost use Rattle.der_core.specs.Laws.Printed.Shortest.{one_spelling};
+ghost use Rattle.der_core.specs.Laws.Printed.Shortest.{one_spelling_shortest};
 ghost use Rattle.der_core.specs.Printed.{number_contents, number_of};
 
 use super::uint::{AsUintRef, UintEncoding, UintRef};
@@ -122,9 +122,9 @@ impl Contents for Uint {
 
     ghost law = { number_law };
 
-    ghost shortest = { one_spelling (λ _. Unit {0}) number_contents };
+    ghost shortest = { one_spelling_shortest (λ _. Unit {0}) number_contents };
 
-    ghost reads_alike = { alike number_of };
+    ghost reads_alike = { reading_alike number_of };
 }
 
 impl TaggedBy for Uint {

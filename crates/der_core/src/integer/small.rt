@@ -1,6 +1,6 @@
 //! INTEGER from 0 to 255, as `u8`.
 ghost use Rattle.std.specs.Prelude.{◌≤◌, ◌<◌, ℕ, length};
-ghost use Rattle.der_core.specs.Words.{Answers, alike, limit, number_contents, one_spelling, small_law, small_of};
+ghost use Rattle.der_core.specs.Words.{Answers, limit, number_contents, one_spelling_shortest, reading_alike, small_law, small_of};
 
 use crate::back_writer::BackWriter;
 use crate::decode::DecodeValue;
@@ -50,9 +50,9 @@ impl Contents for u8 {
 
     ghost law = { small_law };
 
-    ghost shortest = { one_spelling (λ n. n < 256) number_contents };
+    ghost shortest = { one_spelling_shortest (λ n. n < 256) number_contents };
 
-    ghost reads_alike = { alike small_of };
+    ghost reads_alike = { reading_alike small_of };
 }
 
 impl TaggedBy for u8 {

@@ -4,9 +4,9 @@ ghost use Rattle.std.specs.Int.Digits.{number_from_digits};
 ghost use Rattle.der_core.specs.Length.{limit};
 ghost use Rattle.der_core.specs.Integer.{HoldsNumber, IsCanonical, AreCanonicalOf, IsBitLength, EncodesNumbers};
 ghost use Rattle.der_core.specs.IntegerReading.{integer_of, Answers, WhyNoNumber};
-ghost use Rattle.der_core.specs.Laws.Printed.Alike.{alike};
+ghost use Rattle.der_core.specs.Laws.Printed.Alike.{reading_alike};
 ghost use Rattle.der_core.specs.Laws.Printed.Leaves.{number_law, numbers_encode};
-ghost use Rattle.der_core.specs.Laws.Printed.Shortest.{one_spelling};
+ghost use Rattle.der_core.specs.Laws.Printed.Shortest.{one_spelling_shortest};
 ghost use Rattle.der_core.specs.Printed.{Prints, number_contents, number_of};
 
 use crate::back_writer::BackWriter;
@@ -133,7 +133,7 @@ impl<'a> UintRef<'a> {
     }
 
     /// The bit length of the number, as 2048 of the modulus of an RSA-2048 key. It is 0 of 0.
-    #[tactic(auto, using(crate::proofs::Integers::bit_length))]
+    #[tactic(auto, using(crate::proofs::Integers::number_bit_length))]
     pub fn bit_len(&self) -> u64
         ensures { IsBitLength (number_from_digits 256 (bytes_of self.now)) result }
     {
@@ -193,9 +193,9 @@ impl<'a> Contents for UintRef<'a> {
 
     ghost law = { number_law };
 
-    ghost shortest = { one_spelling (λ _. Unit {0}) number_contents };
+    ghost shortest = { one_spelling_shortest (λ _. Unit {0}) number_contents };
 
-    ghost reads_alike = { alike number_of };
+    ghost reads_alike = { reading_alike number_of };
 }
 
 impl<'a> TaggedBy for UintRef<'a> {

@@ -1,36 +1,37 @@
 -- Private keys are read as their spellings mean, if their numbers are.
 use Rattle.std.proofs.Common.{ℕ, Bool, true, false, List, [], ◌∷◌, ◌≡◌, ◌==◌, map, refl, sym, ◌∙◌, Option, Some, None, Ok, Err, if◌then◌else◌}
 use Rattle.der_core.specs.declared.error.ErrorKind.TheVariants.{Value}
-use Rattle.der_core.specs.Words.{alike, chain_alike, front_alike, front_row_alike, items_alike, made_alike, optional_alike, row_alike, tagged_alike, ReadsAlike, ReadsFrontAlike, FrontReading, Reading, ended, front_done, made, no_parts, tagged, ◌>>=◌}
+use Rattle.der_core.specs.Words.{reading_alike, chain_alike, front_alike, front_row_alike, items_alike, made_alike, optional_alike, row_alike, tagged_alike, ReadsAlike, ReadsFrontAlike, FrontReading, Reading, ended, front_done, made, no_parts, tagged, ◌>>=◌}
 use Rattle.der_core.specs.Tags as tags
 use Rattle.pkcs1.specs.KeyReadings.{agreed, front_read, lists_none, others_read, primes_read, private_key_read, version_read}
 use Rattle.pkcs1.specs.Keys.{OtherRow, front_as, key_from, other_as, others_as, private_as, version_of}
 
 -- The version of a key, and whether its list of other primes is empty.
-abbrev Primes : Type 0 → Type 0
-Primes N = Option (List (OtherRow N))
+abbrev SpelledPrimes : Type 0 → Type 0
+SpelledPrimes N = Option (List (OtherRow N))
 
-pub version_as : {N M : Type 0} (f : N → M) (primes : Primes N) → version_of (others_as f primes) ≡ version_of primes
+pub version_as : {N M : Type 0} (f : N → M) (primes : SpelledPrimes N)
+    → version_of (others_as f primes) ≡ version_of primes
 version_as f None = refl
 version_as f (Some others) = refl
 
-lists_as : {N M : Type 0} (f : N → M) (primes : Primes N) → lists_none (others_as f primes) ≡ lists_none primes
+lists_as : {N M : Type 0} (f : N → M) (primes : SpelledPrimes N) → lists_none (others_as f primes) ≡ lists_none primes
 lists_as f None = refl
 lists_as f (Some []) = refl
 lists_as f (Some (x ∷ xs)) = refl
 
 -- What is behind the list, by whether it agrees with the version, and whether it is empty.
-abbrev ending : {N : Type 0} → Primes N → Bool → Bool → Reading (Primes N)
+abbrev ending : {N : Type 0} → SpelledPrimes N → Bool → Bool → Reading (SpelledPrimes N)
 ending primes agrees none c =
-    if agrees then (if none then Err (Value tags.sequence) else ended primes c) else Err (Value tags.integer)
+    if agrees then (if none then Err (Value tags.sequence_tag) else ended primes c) else Err (Value tags.integer_tag)
 
 module _ {S V : Type 0} {at : FrontReading S} {means : S → V} {old : FrontReading V}
     (law : ReadsFrontAlike at means old) where
   pub primes_alike : ReadsAlike (primes_read at) (map (other_as means)) (primes_read old)
-  primes_alike = items_alike (tagged_alike (row_alike law (row_alike law (row_alike law (alike no_parts)))) tags.sequence)
+  primes_alike = items_alike (tagged_alike (row_alike law (row_alike law (row_alike law (reading_alike no_parts)))) tags.sequence_tag)
 
   -- The list behind a version.
-  agreed_alike : (v : ℕ) (primes : Primes S)
+  agreed_alike : (v : ℕ) (primes : SpelledPrimes S)
       → ReadsAlike (agreed v primes) (others_as means) (agreed v (others_as means primes))
   agreed_alike v primes = record {
     same = λ c.
@@ -52,11 +53,11 @@ module _ {S V : Type 0} {at : FrontReading S} {means : S → V} {old : FrontRead
 
   others_alike : (v : ℕ) → ReadsAlike (others_read at v) (others_as means) (others_read old v)
   others_alike v =
-      chain_alike (optional_alike (tagged_alike primes_alike tags.sequence) 48) (agreed v) (agreed_alike v)
+      chain_alike (optional_alike (tagged_alike primes_alike tags.sequence_tag) 48) (agreed v) (agreed_alike v)
 
   pub fronts_alike : ReadsFrontAlike (front_read at) (front_as means) (front_read old)
   fronts_alike =
-      front_row_alike (front_alike (tagged tags.integer version_read)) (front_row_alike law (front_row_alike law
+      front_row_alike (front_alike (tagged tags.integer_tag version_read)) (front_row_alike law (front_row_alike law
       (front_row_alike law (front_row_alike law (front_row_alike law (front_row_alike law (front_row_alike law
       (front_row_alike law (front_alike front_done)))))))))
 

@@ -5,7 +5,7 @@ use Rattle.der_core.specs.Words.{AreBytes, back_bytes, ReadsFrontPrinted, FrontR
 use Prim.{IsProp, IsSet}
 use mathlib.Core.HLevel.{is_prop→PathP}
 use denote.Struct.Props.{props}
-use Rattle.pkcs1.specs.KeyReadings.{number, primes_read}
+use Rattle.pkcs1.specs.KeyReadings.{number_front, primes_read}
 use Rattle.pkcs1.specs.Keys.{OtherRow}
 use Rattle.pkcs1.specs.OtherPrimesHeld.{HoldsPrimes, next_prime}
 use Rattle.pkcs1.specs.Laws.PrintedKeys.{integer_law, other_law}
@@ -54,12 +54,12 @@ module _ {V : Type 0} {valid : V → Type 0} {printed : V → List ℕ} {at : Fr
         back_bytes (printed v) rest (subst AreBytes is bytes),
       )
 
-  within : (n m : ℕ) (c : List ℕ) → AreBytes c → length c ≤ n → length c ≤ m
+  items_within_enough : (n m : ℕ) (c : List ℕ) → AreBytes c → length c ≤ n → length c ≤ m
       → items_within n at c ≡ items_within m at c
-  within n m [] bytes few less = refl
-  within zero m (x ∷ xs) bytes few less = absurd (omega (arith, few))
-  within (suc n) zero (x ∷ xs) bytes few less = absurd (omega (arith, less))
-  within (suc n) (suc m) (x ∷ xs) bytes few less = go (within n m) (at (x ∷ xs)) refl
+  items_within_enough n m [] bytes few less = refl
+  items_within_enough zero m (x ∷ xs) bytes few less = absurd (omega (arith, few))
+  items_within_enough (suc n) zero (x ∷ xs) bytes few less = absurd (omega (arith, less))
+  items_within_enough (suc n) (suc m) (x ∷ xs) bytes few less = go (items_within_enough n m) (at (x ∷ xs)) refl
     where
       go : ((c : List ℕ) → AreBytes c → length c ≤ n → length c ≤ m → items_within n at c ≡ items_within m at c)
           → (r : Result (V × List ℕ) ErrorKind) → at (x ∷ xs) ≡ r
@@ -77,7 +77,7 @@ module _ {V : Type 0} {valid : V → Type 0} {printed : V → List ℕ} {at : Fr
       let s = item_shorter (x ∷ xs) rest v bytes e in
       ap (λ r. r >>= λ p. made (λ ws. p.0 ∷ ws) (items_within (length xs) at) p.1) e
       ∙ ap (λ r. r >>= λ ws. Ok (v ∷ ws))
-      (within (length xs) (length rest) rest s.1 (omega (arith, s.0)) (omega arith))
+      (items_within_enough (length xs) (length rest) rest s.1 (omega (arith, s.0)) (omega arith))
 
   -- One more was read.
   pub more_read : (bytes : List ℕ) (vs : List V) (rest behind : List ℕ) (v : V) → AreBytes rest
@@ -102,16 +102,16 @@ primes_set = hlevel props
 count_set : IsSet ℕ
 count_set = hlevel props
 
-some_same : {V : Type 0} {v w : V} → ◌≡◌ {A = Option V} (Some v) (Some w) → v ≡ w
-some_same e = cc
+primes_some_injective : {V : Type 0} {v w : V} → ◌≡◌ {A = Option V} (Some v) (Some w) → v ≡ w
+primes_some_injective e = cc
 
 pub one_held : (bytes : List ℕ) (left right : ℕ) (p : HoldsPrimes bytes left) (q : HoldsPrimes bytes right) → p.0 ≡ q.0
-one_held bytes left right p q = some_same (sym p.1 ∙ q.1)
+one_held bytes left right p q = primes_some_injective (sym p.1 ∙ q.1)
 
 pub HoldsPrimes-prop : (bytes : List ℕ) (left : ℕ) → IsProp (HoldsPrimes bytes left)
 HoldsPrimes-prop bytes left p q =
     let s = one_held bytes left left p q in
-    let read = value_in (primes_read number bytes) in
+    let read = value_in (primes_read number_front bytes) in
     λ i. (
       s i,
       is_prop→PathP (λ h. read ≡ Some (s h)) (λ h. primes_set read (Some (s h))) p.1 q.1 i,
@@ -120,45 +120,46 @@ HoldsPrimes-prop bytes left p q =
 
 -- The function reads the list that is held.
 read_of : {V : Type 0} (r : Result V ErrorKind) (v : V) → value_in r ≡ Some v → r ≡ Ok v
-read_of (Ok w) v e = ap (λ u. Ok u) (some_same e)
+read_of (Ok w) v e = ap (λ u. Ok u) (primes_some_injective e)
 read_of (Err k) v e = cc
 
-pub held_read : (bytes : List ℕ) (left : ℕ) (h : HoldsPrimes bytes left) → primes_read number bytes ≡ Ok h.0
-held_read bytes left h = read_of (primes_read number bytes) h.0 h.1
+pub held_read : (bytes : List ℕ) (left : ℕ) (h : HoldsPrimes bytes left) → primes_read number_front bytes ≡ Ok h.0
+held_read bytes left h = read_of (primes_read number_front bytes) h.0 h.1
 
 -- The first one, and those behind it.
 pub held_behind : (bytes rest : List ℕ) (left : ℕ) (other : OtherRow ℕ) (h : HoldsPrimes bytes left) → AreBytes bytes
     → next_prime bytes ≡ Ok (other, rest) → (t : HoldsPrimes rest (left - 1)) × (h.0 ≡ other ∷ t.0)
 held_behind bytes rest left other h are next =
-    go (primes_read number rest) refl
+    go (primes_read number_front rest) refl
     (sym (items_step next_law next_some bytes rest other are next) ∙ held_read bytes left h)
   where
-    go : (r : Result (List (OtherRow ℕ)) ErrorKind) → primes_read number rest ≡ r
+    go : (r : Result (List (OtherRow ℕ)) ErrorKind) → primes_read number_front rest ≡ r
         → (r >>= λ os. Ok (other ∷ os)) ≡ Ok h.0 → (t : HoldsPrimes rest (left - 1)) × (h.0 ≡ other ∷ t.0)
     go (Ok os) read e =
-        let same : other ∷ os ≡ h.0 = some_same (ap value_in e) in
+        let same : other ∷ os ≡ h.0 = primes_some_injective (ap value_in e) in
         ((os, ap value_in read, omega (arith, h.2, ap length same)), sym same)
     go (Err k) read e = cc
 
 pub held_first : (bytes : List ℕ) (left : ℕ) (k : ErrorKind) → HoldsPrimes bytes left → (left ≡ 0 → ⊥)
     → next_prime bytes ≡ Err k → ⊥
-held_first [] left k h some fault = some (sym h.2 ∙ ap length (some_same (sym h.1)))
+held_first [] left k h some fault = some (sym h.2 ∙ ap length (primes_some_injective (sym h.1)))
 held_first (x ∷ xs) left k h some fault =
     let never = fault_read next_prime (x ∷ xs) [] (x ∷ xs) k (none_read next_prime (x ∷ xs)) (omega arith) fault in
     let both = sym (held_read (x ∷ xs) left h) ∙ never in cc
 
 -- So many were read of the bytes, and the rest is left.
-abbrev pub AreCounted : List ℕ → List ℕ → ℕ → Type 0
-AreCounted bytes rest count =
+abbrev pub PrimesAreCounted : List ℕ → List ℕ → ℕ → Type 0
+PrimesAreCounted bytes rest count =
     (others : List (OtherRow ℕ)) × AreRead next_prime bytes others rest × (length others ≡ count)
     × (count + length rest ≤ length bytes)
 
-pub none_counted : (bytes : List ℕ) → AreCounted bytes bytes 0
-none_counted bytes = ([], none_read next_prime bytes, refl, omega arith)
+pub no_primes_counted : (bytes : List ℕ) → PrimesAreCounted bytes bytes 0
+no_primes_counted bytes = ([], none_read next_prime bytes, refl, omega arith)
 
-pub more_counted : (bytes rest behind : List ℕ) (count : ℕ) (other : OtherRow ℕ) → AreBytes rest
-    → AreCounted bytes rest count → next_prime rest ≡ Ok (other, behind) → AreCounted bytes behind (count + 1)
-more_counted bytes rest behind count other are (others, read, counted, few) next =
+pub one_more_prime_counted : (bytes rest behind : List ℕ) (count : ℕ) (other : OtherRow ℕ) → AreBytes rest
+    → PrimesAreCounted bytes rest count → next_prime rest ≡ Ok (other, behind)
+    → PrimesAreCounted bytes behind (count + 1)
+one_more_prime_counted bytes rest behind count other are (others, read, counted, few) next =
     let less = (item_shorter next_law next_some rest behind other are next).0 in (
       others ++ other ∷ [],
       more_read next_law next_some bytes others rest behind other are read next,
@@ -166,11 +167,13 @@ more_counted bytes rest behind count other are (others, read, counted, few) next
       omega (arith, few, less),
     )
 
-pub all_counted : (bytes rest : List ℕ) (count : ℕ) → AreCounted bytes rest count → rest ≡ [] → HoldsPrimes bytes count
-all_counted bytes rest count (others, read, counted, few) none =
+pub all_primes_counted : (bytes rest : List ℕ) (count : ℕ) → PrimesAreCounted bytes rest count → rest ≡ []
+    → HoldsPrimes bytes count
+all_primes_counted bytes rest count (others, read, counted, few) none =
     (others, ap value_in (all_read next_prime bytes others rest read none), counted)
 
-pub fault_counted : (bytes rest : List ℕ) (count : ℕ) (k : ErrorKind) → AreCounted bytes rest count → 0 < length rest
-    → next_prime rest ≡ Err k → primes_read number bytes ≡ Err k
-fault_counted bytes rest count k (others, read, counted, few) more fault =
+pub prime_fault_counted : (bytes rest : List ℕ) (count : ℕ) (k : ErrorKind) → PrimesAreCounted bytes rest count
+    → 0 < length rest
+    → next_prime rest ≡ Err k → primes_read number_front bytes ≡ Err k
+prime_fault_counted bytes rest count k (others, read, counted, few) more fault =
     fault_read next_prime bytes others rest k read more fault

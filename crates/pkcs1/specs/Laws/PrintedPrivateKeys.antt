@@ -1,24 +1,24 @@
 -- Private keys are read as they are printed, if their numbers are.
 use Rattle.std.proofs.Common.{ℕ, true, List, [], ◌∷◌, ◌++◌, ◌≡◌, ◌<◌, ◌==◌, refl, sym, subst, ap, map, ◌∙◌, arith, ⊎_elim, append_assoc, Option, Some, None, Result, Ok, Err}
-use Rattle.der_core.specs.Words.{nat_tests, chosen, agreed_law, chain_law, front_end_law, front_row_law, tagged_law, valid_as, bind_ok, ended_is, ended_tells, made_tells, ok_same, is_value, ReadsFrontPrinted, ReadsPrinted, TellsOfBytes, FrontReading, ended, made, ◌>>=◌}
+use Rattle.der_core.specs.Words.{nat_tests, cond_cases, agreed_law, chain_law, front_end_law, front_row_law, tagged_law, valid_as, bind_ok, ended_is, ended_tells, made_tells, ok_injective, value_error_tells, ReadsFrontPrinted, ReadsPrinted, TellsOfBytes, FrontReading, ended, made, ◌>>=◌}
 use Rattle.std.specs.List.{AllByRecursion, concat}
 use Rattle.der_core.specs.declared.error.ErrorKind.{ErrorKind}
 use Rattle.der_core.specs.Tags as tags
 use Rattle.pkcs1.specs.KeyReadings.{agreed, front_read, lists_none, others_read, private_key_read}
-use Rattle.pkcs1.specs.Keys.{Eight, OtherRow, PrivateRow, front_parts, key_from, key_numbers, others_in, version_of}
+use Rattle.pkcs1.specs.Keys.{Eight, OtherRow, PrivateRow, key_from, key_numbers, others_in, private_front_parts, version_of}
 use Rattle.pkcs1.specs.Laws.PrintedKeys.{are_some, primes_law, some_listed, version_law}
 use Rattle.pkcs1.specs.Printing.{AreSome, EightAreValid, FrontIsValid, OtherIsValid, OthersAreValid, PrivateIsValid, front_printed, others_printed, primes_printed, private_printed, row_printed}
 use Rattle.standard.specs.Statement.{IfPresent, integer, sequence}
 
 -- == Other primes that agree with the version ==
-abbrev pub Primes : Type 0 → Type 0
-Primes N = Option (List (OtherRow N))
+abbrev pub PrimesOver : Type 0 → Type 0
+PrimesOver N = Option (List (OtherRow N))
 
 module _ {N : Type 0} where
-  abbrev pub Agrees : ℕ → Primes N → Type 0
+  abbrev pub Agrees : ℕ → PrimesOver N → Type 0
   Agrees version primes = (version ≡ version_of primes) × AreSome primes
 
-  agreed_ends : (v : ℕ) (primes : Primes N) → Agrees v primes → agreed v primes ≡ ended primes
+  agreed_ends : (v : ℕ) (primes : PrimesOver N) → Agrees v primes → agreed v primes ≡ ended primes
   agreed_ends v primes a = λ i bytes. at bytes i
     where
       at : (bytes : List ℕ) → agreed v primes bytes ≡ ended primes bytes
@@ -26,7 +26,7 @@ module _ {N : Type 0} where
           let same : (v == version_of primes) ≡ true = grind (arith, nat_tests, a.0) in
           let there = some_listed primes a.1 in rw (same, there) refl
 
-  agreed_gives : (v : ℕ) (primes given : Primes N) (c : List ℕ) → agreed v primes c ≡ Ok given
+  agreed_gives : (v : ℕ) (primes given : PrimesOver N) (c : List ℕ) → agreed v primes c ≡ Ok given
       → Agrees v primes × (c ≡ []) × (primes ≡ given)
   agreed_gives v primes given c e =
       ⊎_elim
@@ -34,27 +34,28 @@ module _ {N : Type 0} where
       let same : v ≡ version_of primes = grind (arith, nat_tests, w.0) in
       ⊎_elim (λ u. let never = u.1 in cc)
       (λ u. let end = ended_is primes given c u.1 in ((same, are_some primes u.0), end.0, end.1))
-      (chosen (lists_none primes) _ _ _ w.1))
-      (λ w. let never = w.1 in cc) (chosen (v == version_of primes) _ _ _ e)
+      (cond_cases (lists_none primes) _ _ _ w.1))
+      (λ w. let never = w.1 in cc) (cond_cases (v == version_of primes) _ _ _ e)
 
-  agreed_tells : (v : ℕ) (primes : Primes N) (c : List ℕ) (k : ErrorKind) → agreed v primes c ≡ Err k → TellsOfBytes k
+  agreed_tells : (v : ℕ) (primes : PrimesOver N) (c : List ℕ) (k : ErrorKind) → agreed v primes c ≡ Err k
+      → TellsOfBytes k
   agreed_tells v primes c k e =
       ⊎_elim
       (λ w.
-      ⊎_elim (λ u. is_value (sym (err_same u.1))) (λ u. ended_tells primes c k u.1)
-      (chosen (lists_none primes) _ _ _ w.1))
-      (λ w. is_value (sym (err_same w.1))) (chosen (v == version_of primes) _ _ _ e)
+      ⊎_elim (λ u. value_error_tells (sym (err_same u.1))) (λ u. ended_tells primes c k u.1)
+      (cond_cases (lists_none primes) _ _ _ w.1))
+      (λ w. value_error_tells (sym (err_same w.1))) (cond_cases (v == version_of primes) _ _ _ e)
     where
-      err_same : {j k : ErrorKind} → ◌≡◌ {A = Result (Primes N) ErrorKind} (Err j) (Err k) → j ≡ k
+      err_same : {j k : ErrorKind} → ◌≡◌ {A = Result (PrimesOver N) ErrorKind} (Err j) (Err k) → j ≡ k
       err_same e = cc
 
 -- == What is printed, joined from the right ==
-abbrev before : {N : Type 0} → (N → List ℕ) → List N → List ℕ → List ℕ
-before printed [] rest = rest
-before printed (n ∷ ns) rest = printed n ++ before printed ns rest
+abbrev printed_before : {N : Type 0} → (N → List ℕ) → List N → List ℕ → List ℕ
+printed_before printed [] rest = rest
+printed_before printed (n ∷ ns) rest = printed n ++ printed_before printed ns rest
 
 joined_before : {N : Type 0} (printed : N → List ℕ) (ns : List N) (rest : List ℕ)
-    → concat (map printed ns) ++ rest ≡ before printed ns rest
+    → concat (map printed ns) ++ rest ≡ printed_before printed ns rest
 joined_before printed [] rest = refl
 joined_before printed (n ∷ ns) rest =
     append_assoc (printed n) (concat (map printed ns)) rest
@@ -90,7 +91,7 @@ module _ {N R S : Type 0} (valid : N → Type 0) (Follows : R → Type 0) (Other
     ),
   )
 
-version_small : {N : Type 0} (primes : Primes N) → version_of primes < 2
+version_small : {N : Type 0} (primes : PrimesOver N) → version_of primes < 2
 version_small None = omega arith
 version_small (Some others) = omega arith
 
@@ -101,23 +102,23 @@ module _ {N : Type 0} {valid : N → Type 0} {printed : N → List ℕ} {at : Fr
 
   pub front_law : ReadsFrontPrinted (FrontIsValid valid) (front_printed printed) (front_read at)
   front_law =
-      front_row_law (tagged_law version_law tags.integer) (front_row_law law (front_row_law law (front_row_law law
+      front_row_law (tagged_law version_law tags.integer_tag) (front_row_law law (front_row_law law (front_row_law law
       (front_row_law law (front_row_law law (front_row_law law (front_row_law law (front_row_law law
       front_end_law))))))))
 
   -- What stands behind them, and the whole key.
-  abbrev pub Listed : Primes N → Type 0
-  Listed primes = IfPresent (AllByRecursion (OtherIsValid valid)) primes
+  abbrev pub PrimesAreListed : PrimesOver N → Type 0
+  PrimesAreListed primes = IfPresent (AllByRecursion (OtherIsValid valid)) primes
 
   others_law : (v : ℕ)
-      → ReadsPrinted (λ primes. Agrees v primes × Listed primes) (others_printed printed) (others_read at v)
+      → ReadsPrinted (λ primes. Agrees v primes × PrimesAreListed primes) (others_printed printed) (others_read at v)
   others_law v =
-      agreed_law (tagged_law (primes_law law) tags.sequence) 48 (λ others rest. refl) (Agrees v) (agreed v)
+      agreed_law (tagged_law (primes_law law) tags.sequence_tag) 48 (λ others rest. refl) (Agrees v) (agreed v)
       (agreed_ends v) (agreed_gives v) (agreed_tells v)
 
   abbrev pub Behind : ℕ × Numbers → PrivateRow N → Type 0
   Behind front key =
-      (front_parts key ≡ front) × (Agrees front.0 (others_in key) × Listed (others_in key))
+      (private_front_parts key ≡ front) × (Agrees front.0 (others_in key) × PrimesAreListed (others_in key))
 
   behind_law : (front : ℕ × Numbers)
       → ReadsPrinted (Behind front) (λ key. others_printed printed (others_in key))
@@ -126,8 +127,8 @@ module _ {N : Type 0} {valid : N → Type 0} {printed : N → List ℕ} {at : Fr
     gives = λ c key b e.
         let s = bind_ok (others_read at front.0 c) _ e in
         let h = (others_law front.0).gives c s.0 b s.1 in
-        let there : front_parts (key_from front.1 s.0) ≡ front = λ i. (sym h.0.0.0 i, front.1) in
-        subst (λ u. Behind front u × (c ≡ others_printed printed (others_in u))) (ok_same s.2)
+        let there : private_front_parts (key_from front.1 s.0) ≡ front = λ i. (sym h.0.0.0 i, front.1) in
+        subst (λ u. Behind front u × (c ≡ others_printed printed (others_in u))) (ok_injective s.2)
         ((there, h.0), h.1);
     takes = λ key ok few.
         ap (λ r. r >>= λ primes. Ok (key_from front.1 primes))
@@ -138,7 +139,7 @@ module _ {N : Type 0} {valid : N → Type 0} {printed : N → List ℕ} {at : Fr
 
   -- The key is valid.
   abbrev pub IsRead : PrivateRow N → Type 0
-  IsRead key = FrontIsValid valid (front_parts key) × Behind (front_parts key) key
+  IsRead key = FrontIsValid valid (private_front_parts key) × Behind (private_front_parts key) key
 
   valid_read : (key : PrivateRow N) → IsRead key → PrivateIsValid valid key
   valid_read key ((small, n), (same, (agrees, all))) =
@@ -156,4 +157,4 @@ module _ {N : Type 0} {valid : N → Type 0} {printed : N → List ℕ} {at : Fr
       )
 
   pub private_law : ReadsPrinted (PrivateIsValid valid) (private_printed printed) (private_key_read at)
-  private_law = valid_as (chain_law front_parts front_law behind_law (λ x y h. h.0)) valid_read read_valid
+  private_law = valid_as (chain_law private_front_parts front_law behind_law (λ x y h. h.0)) valid_read read_valid

@@ -1,7 +1,7 @@
 -- What is written of keys is the shortest, if what is written of their numbers is.
 use Rattle.std.proofs.Common.{ℕ, List, [], ◌∷◌, ◌++◌, ◌≡◌, ◌<◌, length, map, sym, subst, ap, ◌∙◌, inl, inr, arith, length-append, Option, Some, None}
 use Rattle.std.specs.List.{AllByRecursion}
-use Rattle.der_core.specs.Words.{last_shortest, list_shortest, one_spelling, row_shortest, tagged_shortest, WritesShortest, number_contents}
+use Rattle.der_core.specs.Words.{last_shortest, list_shortest, one_spelling_shortest, row_shortest, tagged_shortest, WritesShortest, number_contents}
 use Rattle.pkcs1.specs.Keys.{OtherRow, other_as, others_as, others_in, private_as, version_of}
 use Rattle.pkcs1.specs.Laws.KeysAlike.{version_as}
 use Rattle.pkcs1.specs.Laws.PrintedPrivateKeys.{private_row}
@@ -34,28 +34,28 @@ module _ {S V : Type 0} {Is : S → Type 0} {printed : S → List ℕ} {means : 
   }
 
 -- A list that has some other primes.
-some_as : {N M : Type 0} (f : N → M) (primes : Option (List (OtherRow N))) → AreSome primes
+some_primes_as : {N M : Type 0} (f : N → M) (primes : Option (List (OtherRow N))) → AreSome primes
     → AreSome (others_as f primes)
-some_as f None some = tt
-some_as f (Some []) some = some
-some_as f (Some (x ∷ xs)) some = omega arith
+some_primes_as f None some = tt
+some_primes_as f (Some []) some = some
+some_primes_as f (Some (x ∷ xs)) some = omega arith
 
 module _ {S V : Type 0} {valid : S → Type 0} {printed : S → List ℕ} {means : S → V} {written : V → S}
     (law : WritesShortest valid printed means written) where
-  abbrev end : WritesShortest (λ (_ : Unit {0}). Unit {0}) (λ _. []) (λ v. v) (λ v. v)
-  end = one_spelling (λ _. Unit {0}) (λ _. [])
+  abbrev end_shortest : WritesShortest (λ (_ : Unit {0}). Unit {0}) (λ _. []) (λ v. v) (λ v. v)
+  end_shortest = one_spelling_shortest (λ _. Unit {0}) (λ _. [])
 
   pub primes_shortest : WritesShortest (AllByRecursion (OtherIsValid valid)) (primes_printed printed)
       (map (other_as means)) (map (other_as written))
   primes_shortest =
-      list_shortest (tagged_shortest (row_shortest law (row_shortest law (row_shortest law end))) 48)
+      list_shortest (tagged_shortest (row_shortest law (row_shortest law (row_shortest law end_shortest))) 48)
 
   -- The list as a last part, and the key.
   pub others_shortest : WritesShortest (OthersAreValid valid) (others_printed printed) (others_as means)
       (others_as written)
   others_shortest =
       such_shortest (last_shortest (tagged_shortest primes_shortest 48)) AreSome
-      (λ primes some. some_as written (others_as means primes) (some_as means primes some))
+      (λ primes some. some_primes_as written (others_as means primes) (some_primes_as means primes some))
 
   numbers_shortest : WritesShortest (PrivateIsValid valid) (eight_printed printed (others_printed printed))
       (private_as means) (private_as written)
@@ -73,4 +73,4 @@ module _ {S V : Type 0} {valid : S → Type 0} {printed : S → List ℕ} {means
 
 -- The version of a private key.
 pub version_shortest : WritesShortest (λ n. n < 2) number_contents (λ n. n) (λ n. n)
-version_shortest = one_spelling (λ n. n < 2) number_contents
+version_shortest = one_spelling_shortest (λ n. n < 2) number_contents

@@ -13,10 +13,10 @@ use Rattle.pkcs1.specs.StatedKeys.{other_from, other_stated, private_from, priva
 use Rattle.standard.specs.Statement as standard
 use Rattle.standard.specs.Statement.{Decodes, IfPresent, PrivateKeyEncoding, integers, limit, optional, sequence}
 
-abbrev Primes : Type 0
-Primes = Option (List (OtherRow ℕ))
+abbrev PrimesOfNumbers : Type 0
+PrimesOfNumbers = Option (List (OtherRow ℕ))
 
-abbrev others_stated : Primes → Option (List standard.OtherPrime)
+abbrev others_stated : PrimesOfNumbers → Option (List standard.OtherPrime)
 others_stated = option_map (map other_stated)
 
 -- Keys of the statement, for keys of this crate and back.
@@ -28,8 +28,8 @@ others_back : (primes : Option (List standard.OtherPrime)) → others_stated (op
 others_back None = refl
 others_back (Some others) = ap (λ o. Some o) (listed_back others)
 
-pub key_back : (key : standard.PrivateKey) → private_stated (private_from key) ≡ key
-key_back key = ap (λ primes. record {
+pub private_key_back : (key : standard.PrivateKey) → private_stated (private_from key) ≡ key
+private_key_back key = ap (λ primes. record {
   modulus = key.modulus;
   public_exponent = key.public_exponent;
   private_exponent = key.private_exponent;
@@ -57,19 +57,20 @@ private_itself key = ap (key_from key) (others_itself (others_in key))
 abbrev pub other_encoded : standard.OtherPrime → List ℕ
 other_encoded o = sequence (integers (o.prime ∷ o.exponent ∷ o.coefficient ∷ []))
 
-abbrev pub encoded : OtherRow ℕ → List ℕ
-encoded other = sequence (other_printed standard.integer other)
+abbrev pub prime_encoding : OtherRow ℕ → List ℕ
+prime_encoding other = sequence (other_printed standard.integer other)
 
-pub listed_printed : (others : List (OtherRow ℕ)) → map other_encoded (map other_stated others) ≡ map encoded others
+pub listed_printed : (others : List (OtherRow ℕ))
+    → map other_encoded (map other_stated others) ≡ map prime_encoding others
 listed_printed [] = refl
-listed_printed (other ∷ others) = ap (λ rest. encoded other ∷ rest) (listed_printed others)
+listed_printed (other ∷ others) = ap (λ rest. prime_encoding other ∷ rest) (listed_printed others)
 
-stated_printed : (primes : Primes)
+stated_printed : (primes : PrimesOfNumbers)
     → optional standard.other_primes (others_stated primes) ≡ others_printed standard.integer primes
 stated_printed None = refl
 stated_printed (Some others) = ap (λ all. sequence (concat all)) (listed_printed others)
 
-version_stated : (primes : Primes) → standard.version (others_stated primes) ≡ version_of primes
+version_stated : (primes : PrimesOfNumbers) → standard.version (others_stated primes) ≡ version_of primes
 version_stated None = refl
 version_stated (Some others) = refl
 
@@ -83,33 +84,33 @@ key_printed key = λ i.
     sequence (integers (version_stated (others_in key) i ∷ key_numbers key) ++ stated_printed (others_in key) i)
 
 -- Which of them are valid.
-some_stated : (primes : Primes) → AreSome primes → AreSome (others_stated primes)
+some_stated : (primes : PrimesOfNumbers) → AreSome primes → AreSome (others_stated primes)
 some_stated None some = tt
 some_stated (Some []) some = some
 some_stated (Some (x ∷ xs)) some = omega arith
 
-stated_some : (primes : Primes) → AreSome (others_stated primes) → AreSome primes
+stated_some : (primes : PrimesOfNumbers) → AreSome (others_stated primes) → AreSome primes
 stated_some None some = tt
 stated_some (Some []) some = some
 stated_some (Some (x ∷ xs)) some = omega arith
 
-any_listed : (others : List (OtherRow ℕ)) → AllByRecursion (OtherIsValid AnyNumber) others
-any_listed [] = tt
-any_listed (other ∷ others) = ((tt, (tt, (tt, tt))), any_listed others)
+listed_valid : (others : List (OtherRow ℕ)) → AllByRecursion (OtherIsValid AnyNumber) others
+listed_valid [] = tt
+listed_valid (other ∷ others) = ((tt, (tt, (tt, tt))), listed_valid others)
 
-any_others : (primes : Primes) → IfPresent (AllByRecursion (OtherIsValid AnyNumber)) primes
-any_others None = tt
-any_others (Some others) = any_listed others
+others_valid : (primes : PrimesOfNumbers) → IfPresent (AllByRecursion (OtherIsValid AnyNumber)) primes
+others_valid None = tt
+others_valid (Some others) = listed_valid others
 
 private_valid : (key : PrivateRow ℕ) → AreSome (others_in key) → PrivateIsValid AnyNumber key
 private_valid key some =
-    (tt, (tt, (tt, (tt, (tt, (tt, (tt, (tt, (some, any_others (others_in key))))))))))
+    (tt, (tt, (tt, (tt, (tt, (tt, (tt, (tt, (some, others_valid (others_in key))))))))))
 
 -- The spellings of a row are the encodings of what the statement calls it; so a whole slice is read as one.
-same_encoding : (key : PrivateRow ℕ) (bytes : List ℕ)
+private_same_encoding : (key : PrivateRow ℕ) (bytes : List ℕ)
     → ((length bytes ≤ limit) × PrivateIsValid AnyNumber key × (bytes ≡ private_encoding key))
     ↔ PrivateKeyEncoding (private_stated key) bytes
-same_encoding key bytes = (
+private_same_encoding key bytes = (
   λ (few, valid, is).
       (few, some_stated (others_in key) valid.1.1.1.1.1.1.1.1.0, is ∙ sym (key_printed key)),
   λ (few, some, is). (few, private_valid key (stated_some (others_in key) some), is ∙ key_printed key),
@@ -118,21 +119,21 @@ same_encoding key bytes = (
 pub private_as_stated : StatedAs (PrivateIsWritten AnyNumber (λ n. n)) (PrivateSpells AnyNumber standard.integer (λ n. n))
     IsPrivateKey PrivateKeyEncoding private_stated
 private_as_stated =
-    stated (private_as (λ n. n)) private_itself private_from key_back
+    stated (private_as (λ n. n)) private_itself private_from private_key_back
     (λ key. (
       λ valid. some_stated (others_in key) valid.1.1.1.1.1.1.1.1.0,
       λ some. private_valid key (stated_some (others_in key) some),
     ))
-    same_encoding
+    private_same_encoding
 
 pub private_spells : (key : standard.PrivateKey) (bytes : List ℕ) → PrivateKeyEncoding key bytes
     → PrivateSpells AnyNumber standard.integer (λ n. n) (private_from key) bytes
 private_spells key bytes encodes =
     (private_as_stated.same (private_from key) bytes).1
-    (subst (λ k. PrivateKeyEncoding k bytes) (sym (key_back key)) encodes)
+    (subst (λ k. PrivateKeyEncoding k bytes) (sym (private_key_back key)) encodes)
 
 pub private_decodes : (bytes : List ℕ) → AreBytes bytes
     → Decodes PrivateKeyEncoding bytes (value_in (rsa_private_key bytes))
 private_decodes =
-    made_decodes (tagged_law (private_law integer_law) tags.sequence) private_stated PrivateKeyEncoding private_from
-    key_back same_encoding
+    made_decodes (tagged_law (private_law integer_law) tags.sequence_tag) private_stated PrivateKeyEncoding private_from
+    private_key_back private_same_encoding

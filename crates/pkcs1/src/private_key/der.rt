@@ -1,6 +1,6 @@
 //! Decoding private keys from whole slices; encoding them into slices and documents.
 ghost use Rattle.std.specs.Prelude.{◌≡◌, length, List, ℕ, IfOk, IfErr, IsOk, IsErrAnd, None, Some};
-ghost use Rattle.der_core.specs.Words.{AllocatesIn, Tlv, ok_of, sequence, sequence_tag};
+ghost use Rattle.der_core.specs.Words.{AllocatesIn, Tlv, ok_of, sequence_octet, sequence_tag};
 ghost use Rattle.pkcs1.specs.Words.{AllocatesForKey, IsPrivateKey, ListsNone, PrivateIsWritten, PrivateRow, PrivateSpells, Refuses, Rejects, Withholds, held_private_key, others_in, private_key, private_key_with, rsa_private_key};
 ghost use Rattle.pkcs1_params.specs.Words.{ErrsOrAsks, IsAsn1};
 ghost use Rattle.standard.specs.Statement.{Decodes, Encodes, IsShortest, PrivateKeyEncoding};
@@ -23,7 +23,7 @@ impl<U: Encode> RsaPrivateKey<U> {
             let spells = PrivateSpells U.valid U.printed U.means in
             IfErr result (Refuses (PrivateIsWritten U.valid U.written) spells key (length out.old)) }
         ensures no_primes { ListsNone self.now.other_prime_infos
-            → IsErrAnd result (IsAsn1 (λ e. e.kind ≡ ErrorKind.Value sequence)) }
+            → IsErrAnd result (IsAsn1 (λ e. e.kind ≡ ErrorKind.Value sequence_tag)) }
     {
         if lists_none(&self.other_prime_infos) {
             let kind = ErrorKind::Value { tag: Tag::SEQUENCE };
@@ -41,7 +41,7 @@ impl<U: Encode> RsaPrivateKey<U> {
             let spells = PrivateSpells U.valid U.printed U.means in
             IfErr result (Withholds (PrivateIsWritten U.valid U.written) spells key) }
         ensures no_primes { ListsNone self.now.other_prime_infos
-            → IsErrAnd result (IsAsn1 (λ e. e.kind ≡ ErrorKind.Value sequence)) }
+            → IsErrAnd result (IsAsn1 (λ e. e.kind ≡ ErrorKind.Value sequence_tag)) }
     {
         if lists_none(&self.other_prime_infos) {
             let rejected = der_core::Error::new(ErrorKind::Value { tag: Tag::SEQUENCE });
@@ -65,10 +65,10 @@ impl<U> RsaPrivateKey<U> {
         ensures ok { let spells = PrivateSpells U.valid U.printed U.means in
             IfOk result (λ key. Decodes spells (octets_of octets.entry) (Some (private_key_with U.value key))) }
         ensures err { let may = AllocatesForKey U.valid U.printed U.means U.Decode.may_allocate in
-            let asked = AllocatesIn (Tlv sequence_tag may) (octets_of octets.entry) in
+            let asked = AllocatesIn (Tlv sequence_octet may) (octets_of octets.entry) in
             IfErr result (Rejects (PrivateSpells U.valid U.printed U.means) (octets_of octets.entry) asked) }
         ensures exact { let may = AllocatesForKey U.valid U.printed U.means U.Decode.may_allocate in
-            let asked = AllocatesIn (Tlv sequence_tag may) (octets_of octets.entry) in
+            let asked = AllocatesIn (Tlv sequence_octet may) (octets_of octets.entry) in
             let given = private_key U.read_front (octets_of octets.entry) in
             ErrsOrAsks (private_key_with U.value) given asked result }
         ensures two_primes { ((encoding : List ℕ) → U.Decode.may_allocate encoding → ⊥)
@@ -106,7 +106,7 @@ impl<'a> RsaPrivateKey<UintRef<'a>> {
         ensures err { let key = held_private_key bytes_of self.now in
             IfErr result (Refuses IsPrivateKey PrivateKeyEncoding key (length out.old)) }
         ensures no_primes { ListsNone self.now.other_prime_infos
-            → IsErrAnd result (IsAsn1 (λ e. e.kind ≡ ErrorKind.Value sequence)) }
+            → IsErrAnd result (IsAsn1 (λ e. e.kind ≡ ErrorKind.Value sequence_tag)) }
     {
         self.encode_naming_tag(out)
     }
@@ -135,7 +135,7 @@ impl RsaPrivateKey<Uint> {
         ensures err { let key = held_private_key own_bytes_of self.now in
             IfErr result (Refuses IsPrivateKey PrivateKeyEncoding key (length out.old)) }
         ensures no_primes { ListsNone self.now.other_prime_infos
-            → IsErrAnd result (IsAsn1 (λ e. e.kind ≡ ErrorKind.Value sequence)) }
+            → IsErrAnd result (IsAsn1 (λ e. e.kind ≡ ErrorKind.Value sequence_tag)) }
     {
         self.encode_naming_tag(out)
     }

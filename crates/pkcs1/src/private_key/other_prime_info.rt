@@ -1,7 +1,7 @@
 //! Other primes of private keys.
 ghost use Rattle.std.specs.Prelude.{◌≡◌, ◌↔◌, IsTrue, None, Some, Ok, IfOk, IfSome, IsOk, IfErr};
 ghost use Rattle.der_core.specs.Words.{ReadsWhole};
-ghost use Rattle.pkcs1.specs.Words.{AllocatesInOthers, ListsNone, number_of, other_of, others_of, others_read};
+ghost use Rattle.pkcs1.specs.Words.{AllocatesInOthers, ListsNone, other_of, others_of, others_read, version_number};
 
 use crate::version::Version;
 use der_core::{
@@ -141,7 +141,7 @@ pub(crate) fn read_other_primes<'a, U: Decode<&'a [u8], Global>, R: Reader<&'a [
     version: Version,
 ) -> Result<Option<OtherPrimeInfos<U>>>
     ensures { let may = AllocatesInOthers U.valid U.printed U.means U.Decode.may_allocate in
-        let read = others_read U.read_front (number_of version) in
+        let read = others_read U.read_front (version_number version) in
         ReadsWhole (others_of U.value) read may result (R.left reader.old) (R.left reader.new) }
 {
     let others: Option<OtherPrimeInfos<U>> = decode_optional(memory, reader)?;
@@ -162,7 +162,7 @@ pub(crate) fn quick_other_primes<'a, U: Decode<&'a [u8], Global>>(
     bytes: &'a [u8],
     version: Version,
 ) -> Option<Option<OtherPrimeInfos<U>>>
-    ensures { let read = others_read U.read_front (number_of version) in
+    ensures { let read = others_read U.read_front (version_number version) in
         IfSome result (λ others. read bytes.now ≡ Ok (others_of U.value others)) }
 {
     match version {

@@ -2,7 +2,7 @@
 -- their fields.
 use Rattle.std.proofs.Common.{Bool, true, ◌≡◌, ◌&&◌, eqb, refl, ap, Decides, bytes_eq}
 use Rattle.std.specs.Option.{option_eq}
-use Rattle.der_core.specs.Words.{both_decide, number_decides}
+use Rattle.der_core.specs.Words.{and_decides, number_decides}
 use Rattle.spki_core.specs.Words.{algorithm_decides, algorithm_with, own_octets_of}
 use Rattle.spki_core.specs.declared.algorithm_identifier.AlgorithmIdentifierOf.{AlgorithmIdentifierOf}
 use Rattle.spki_core.specs.declared.object_identifier.ObjectIdentifier.{ObjectIdentifier}
@@ -25,7 +25,7 @@ pub mask_decides : {X V : Type 0} (any : X → V) (E : X → X → Bool) → ((x
 mask_decides any E d = plain_decides (algorithm_with any) (eq_with E) (plain_decides any E d)
 
 pair_decides : {A B : Type 0} {a b : Bool} → Decides a A → Decides b B → Decides (a && b) (A × B)
-pair_decides p q = both_decide p q (λ s u. (s, u)) (λ w. w.0) (λ w. w.1)
+pair_decides p q = and_decides p q (λ s u. (s, u)) (λ w. w.0) (λ w. w.1)
 
 held_decides : {A : Type 0} → A → Decides true A
 held_decides a = (λ _. a, λ _. refl)
@@ -34,7 +34,7 @@ pub pss_decides : {h g : Bool} (a b : PssParameters) → Decides h (a.hash ≡ b
     → a.trailer_field ≡ b.trailer_field
     → Decides (h && (g && (eqb a.salt_len b.salt_len && true))) (a ≡ b)
 pss_decides a b p q t =
-    both_decide p (pair_decides q (pair_decides (number_decides a.salt_len b.salt_len) (held_decides t)))
+    and_decides p (pair_decides q (pair_decides (number_decides a.salt_len b.salt_len) (held_decides t)))
     (λ hash rest. λ i. record { hash = hash i; mask_gen = rest.0 i; salt_len = rest.1.0 i; trailer_field = rest.1.1 i })
     (λ e. ap (λ (v : PssParameters). v.hash) e)
     (λ e. (
@@ -45,7 +45,7 @@ pss_decides a b p q t =
 pub oaep_decides : {h g s : Bool} (a b : OaepParameters) → Decides h (a.hash ≡ b.hash)
     → Decides g (a.mask_gen ≡ b.mask_gen) → Decides s (a.p_source ≡ b.p_source) → Decides (h && (g && s)) (a ≡ b)
 oaep_decides a b p q r =
-    both_decide p (pair_decides q r)
+    and_decides p (pair_decides q r)
     (λ hash rest. λ i. record { hash = hash i; mask_gen = rest.0 i; p_source = rest.1 i })
     (λ e. ap (λ (v : OaepParameters). v.hash) e)
     (λ e. (ap (λ (v : OaepParameters). v.mask_gen) e, ap (λ (v : OaepParameters). v.p_source) e))

@@ -1,22 +1,22 @@
 -- The laws of parameters: of their fields, and of the records that hold these.
 use Rattle.std.proofs.Common.{List, [], ◌∷◌, ◌≡◌, ◌<◌, ◌==◌, refl, arith, rules}
-use Rattle.der_core.specs.Words.{nat_tests, number_decides, small_law, such_law, tagged_law, valid_as, is_value, ReadsFrontPrinted, ReadsPrinted, number_contents}
+use Rattle.der_core.specs.Words.{nat_tests, number_decides, small_law, such_law, tagged_law, valid_as, value_error_tells, ReadsFrontPrinted, ReadsPrinted, number_contents}
 use Rattle.der_core.specs.Tags as tags
 use Rattle.spki_core.specs.Words.{AreLawful, FieldRecord, Kind, same_mask_decides, same_plain_decides, is_identifier-sound, algorithm_law, any_law, any_some}
 use Rattle.pkcs1_params.specs.ParameterReadings.{hash_kind, in_oaep_fields, in_pss_fields, mask_front, mask_kind, oaep_kinds, of_oaep_fields, of_pss_fields, plain_front, pss_kinds, salt_kind, source_kind, trailer_kind, trailer_read}
 use Rattle.standard.specs.Statement.{IsAlgorithm, IsAny, IsIdentifier, IsOaep, IsPss, algorithm, any, empty_label, id_rsaes_oaep, id_rsassa_pss, mgf1_sha1, oaep_fields, pss_fields, sha1}
 
 pub plain_law : ReadsFrontPrinted (IsAlgorithm IsAny) (algorithm any) plain_front
-plain_law = tagged_law (algorithm_law any_law any_some) tags.sequence
+plain_law = tagged_law (algorithm_law any_law any_some) tags.sequence_tag
 
 mask_law : ReadsFrontPrinted (IsAlgorithm (IsAlgorithm IsAny)) (algorithm (algorithm any)) mask_front
-mask_law = tagged_law (algorithm_law plain_law (λ a. omega arith)) tags.sequence
+mask_law = tagged_law (algorithm_law plain_law (λ a. omega arith)) tags.sequence_tag
 
 pub trailer_law : ReadsPrinted (λ n. n ≡ 1) number_contents trailer_read
 trailer_law =
     valid_as
     (such_law small_law (λ n. n ≡ 1) (λ n. n == 1) _ (λ n e. grind (arith, nat_tests, e))
-    (λ n e. grind (arith, nat_tests, e)) (is_value refl))
+    (λ n e. grind (arith, nat_tests, e)) (value_error_tells refl))
     (λ n ok. ok.0) (λ n is. let less : n < 256 = omega (arith, is) in (is, less))
 
 -- The identifiers in defaults, and those of the algorithms that parameters are of.
@@ -50,10 +50,10 @@ pub pss_lawful : AreLawful 0 pss_kinds
 pss_lawful =
     hash_lawful (salt_kind ∷ trailer_kind ∷ []) (
       omega arith,
-      tagged_law small_law tags.integer,
+      tagged_law small_law tags.integer_tag,
       (λ n. number_decides n 20),
       omega arith,
-      (omega arith, tagged_law trailer_law tags.integer, (λ n. number_decides n 1), refl, tt),
+      (omega arith, tagged_law trailer_law tags.integer_tag, (λ n. number_decides n 1), refl, tt),
     )
 
 abbrev pub pss_record : FieldRecord IsPss pss_fields

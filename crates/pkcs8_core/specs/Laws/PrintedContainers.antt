@@ -11,26 +11,26 @@ use Rattle.standard.specs.Statement.{AtMostOne, Container, ContainerEncoding, De
 
 pub container_law : ReadsPrinted IsContainer container_printed info_read
 container_law =
-    made_law (row_law (tagged_law (expected_law 0) tags.integer)
-    (row_law (tagged_law (algorithm_law any_law (λ v. omega arith)) tags.sequence)
-    (row_law (tagged_law octets_law tags.octet_string) (last_by_tag_law octets_law attributes_tag)))) of_info_parts
+    made_law (row_law (tagged_law (expected_law 0) tags.integer_tag)
+    (row_law (tagged_law (algorithm_law any_law (λ v. omega arith)) tags.sequence_tag)
+    (row_law (tagged_law octets_law tags.octet_string_tag) (last_by_tag_law octets_law attributes_tag)))) of_info_parts
     info_parts (λ p. refl) (λ c. refl)
 
 -- The statement joins the parts from the left.
-joined : (v a k t : List ℕ) → v ++ (a ++ (k ++ t)) ≡ ((v ++ a) ++ k) ++ t
-joined v a k t = sym (append_assoc (v ++ a) k t ∙ append_assoc v a (k ++ t))
+append_regrouped : (v a k t : List ℕ) → v ++ (a ++ (k ++ t)) ≡ ((v ++ a) ++ k) ++ t
+append_regrouped v a k t = sym (append_assoc (v ++ a) k t ∙ append_assoc v a (k ++ t))
 
 container_joined : (c : Container) → sequence (container_printed c)
     ≡ sequence (((integer 0 ++ algorithm any c.algorithm) ++ tlv 4 c.private_key) ++ optional (tlv 160) c.attributes)
 container_joined c =
     ap sequence
-    (joined (integer 0) (algorithm any c.algorithm) (tlv 4 c.private_key) (optional (tlv 160) c.attributes))
+    (append_regrouped (integer 0) (algorithm any c.algorithm) (tlv 4 c.private_key) (optional (tlv 160) c.attributes))
 
 -- A container that has an encoding, within the limit.
-abbrev Encodes : Container → List ℕ → Type 0
-Encodes c bytes = (length bytes ≤ limit) × IsContainer c × (bytes ≡ sequence (container_printed c))
+abbrev ContainerEncodes : Container → List ℕ → Type 0
+ContainerEncodes c bytes = (length bytes ≤ limit) × IsContainer c × (bytes ≡ sequence (container_printed c))
 
-pub container_encoded : (c : Container) (bytes : List ℕ) → Encodes c bytes ↔ ContainerEncoding c bytes
+pub container_encoded : (c : Container) (bytes : List ℕ) → ContainerEncodes c bytes ↔ ContainerEncoding c bytes
 container_encoded c bytes = (
   λ (few, ok, same). (few, ok.1.0, ok.1.1.0, ok.1.1.1, same ∙ container_joined c),
   λ (few, algorithm, key, attributes, same).
@@ -48,9 +48,9 @@ container_spells c bytes =
 pub containers_decode : (bytes : List ℕ) → AreBytes bytes
     → Decodes ContainerEncoding bytes (value_in (private_key_info bytes))
 containers_decode bytes are =
-    go (value_in (private_key_info bytes)) (whole_decodes (tagged_law container_law tags.sequence) bytes are)
+    go (value_in (private_key_info bytes)) (whole_decodes (tagged_law container_law tags.sequence_tag) bytes are)
   where
-    go : (o : Option Container) → Decodes Encodes bytes o → Decodes ContainerEncoding bytes o
+    go : (o : Option Container) → Decodes ContainerEncodes bytes o → Decodes ContainerEncoding bytes o
     go (Some c) (is, only) =
         ((container_encoded c bytes).0 is, λ other p. only other ((container_encoded other bytes).1 p))
     go None never = λ c p. never c ((container_encoded c bytes).1 p)

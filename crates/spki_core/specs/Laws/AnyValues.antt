@@ -1,6 +1,6 @@
 -- Tags with contents and algorithm identifiers: equality, and values that are mapped to others.
 use Rattle.std.proofs.Common.{ℕ, List, ◌≡◌, ap, Decides, eqb, ◌&&◌, bytes_eq, sym, ◌∙◌, Bool, refl, Option, option_map}
-use Rattle.der_core.specs.Words.{bytes_decide, number_decides, both_decide, option_decides, optional_itself}
+use Rattle.der_core.specs.Words.{bytes_decide, number_decides, and_decides, option_decides, optional_itself}
 use Rattle.spki_core.specs.Identifiers.{TagAndContents, Algorithm, same_any, same_algorithm, same_plain, same_mask}
 use Rattle.std.specs.Option.{option_eq}
 
@@ -9,7 +9,7 @@ pub any_decides : (t u : ℕ) (c d : List ℕ)
     → Decides (eqb t u && bytes_eq c d)
     (◌≡◌ {A = TagAndContents} (record { tag = t; contents = c }) (record { tag = u; contents = d }))
 any_decides t u c d =
-    both_decide (number_decides t u) (bytes_decide c d) (λ p q i. record { tag = p i; contents = q i })
+    and_decides (number_decides t u) (bytes_decide c d) (λ p q i. record { tag = p i; contents = q i })
     (λ e. ap (λ (v : TagAndContents). v.tag) e) (λ e. ap (λ (v : TagAndContents). v.contents) e)
 
 -- == Values that are mapped to other ones and back ==
@@ -54,7 +54,7 @@ pub algorithm_decides : {P V : Type 0} (value : P → V) (E : P → P → Bool)
     (◌≡◌ {A = Algorithm V} (record { oid = x; parameters = option_map value p })
     (record { oid = y; parameters = option_map value q }))
 algorithm_decides {P} {V} value E d x y p q =
-    both_decide (bytes_decide x y) (option_decides value E d p q) (λ p q i. record { oid = p i; parameters = q i })
+    and_decides (bytes_decide x y) (option_decides value E d p q) (λ p q i. record { oid = p i; parameters = q i })
     (λ e. ap (λ (v : Algorithm V). v.oid) e) (λ e. ap (λ (v : Algorithm V). v.parameters) e)
 
 option_same : {V : Type 0} (E : V → V → Bool) → ((v w : V) → Decides (E v w) (v ≡ w)) → (p q : Option V)
@@ -64,7 +64,7 @@ option_same E d p q = rw (optional_itself p, optional_itself q) at (option_decid
 pub same_algorithm_decides : {P : Type 0} (same : P → P → Bool) → ((v w : P) → Decides (same v w) (v ≡ w))
     → (a b : Algorithm P) → Decides (same_algorithm same a b) (a ≡ b)
 same_algorithm_decides {P} same d a b =
-    both_decide (bytes_decide a.oid b.oid) (option_same same d a.parameters b.parameters) (λ p q i. record { oid = p i; parameters = q i })
+    and_decides (bytes_decide a.oid b.oid) (option_same same d a.parameters b.parameters) (λ p q i. record { oid = p i; parameters = q i })
     (λ e. ap (λ (v : Algorithm P). v.oid) e) (λ e. ap (λ (v : Algorithm P). v.parameters) e)
 
 pub same_plain_decides : (a b : Algorithm TagAndContents) → Decides (same_plain a b) (a ≡ b)

@@ -1,8 +1,8 @@
 -- What memory holds has an encoding, and is written as what it holds.
 use Rattle.std.proofs.Common.{List, ℕ, Option, Some, None, option_map, ◌++◌, ◌≡◌, ◌↔◌, refl, ap}
-use Rattle.der_core.specs.Words.{are_bytes, object_identifier_tag, sequence_tag, tlv, last_part_asks_none, last_once, AreSpelledOnce}
+use Rattle.der_core.specs.Words.{are_bytes, object_identifier_octet, sequence_octet, tlv, last_part_asks_none, last_once, AreSpelledOnce}
 use Rattle.spki_core.specs.AlgorithmValue.{algorithm_in}
-use Rattle.spki_core.specs.HeldValues.{any_of, own_octets_of, octets_of, own_any_of}
+use Rattle.spki_core.specs.HeldValues.{any_of, own_octets_of, identifier_octets, own_any_of}
 use Rattle.spki_core.specs.Laws.IdentifierTest.{is_identifier-sound}
 use Rattle.spki_core.specs.declared.algorithm_identifier.AlgorithmIdentifierOf.{AlgorithmIdentifierOf}
 use Rattle.spki_core.specs.declared.any.AnyRef.{AnyRef}
@@ -16,8 +16,8 @@ use Rattle.spki_core.specs.Allocating.{AllocatesForParameters}
 pub identifier_held : (oid : ObjectIdentifier) → IsIdentifier (own_octets_of oid)
 identifier_held oid = is_identifier-sound (own_octets_of oid) (are_bytes (own_octets_of oid) oid.bytes) oid.valid
 
-pub viewed_held : (oid : IdentifierView) → IsIdentifier (octets_of oid)
-viewed_held oid = is_identifier-sound (octets_of oid) (are_bytes (octets_of oid) oid.bytes) oid.valid
+pub viewed_held : (oid : IdentifierView) → IsIdentifier (identifier_octets oid)
+viewed_held oid = is_identifier-sound (identifier_octets oid) (are_bytes (identifier_octets oid) oid.bytes) oid.valid
 
 pub any_held : (any : AnyRef) → IsAny (any_of any)
 any_held any = (any.tag.allowed, are_bytes any.contents.now any.octets)
@@ -52,20 +52,21 @@ writes_itself value Has written = record { has_to = λ x h. h; has_of = λ x h. 
 module _ {O X V W S : Type 0} (oid_of : O → List ℕ) {value : X → V} (spelling : V → S) (valid : S → Type 0)
     (printed : S → List ℕ) {held : X → W} {Holds : W → Type 0} {octets : W → List ℕ}
     (w : WritesAs value (λ v. valid (spelling v)) (λ v. printed (spelling v)) held Holds octets) where
-  parameters_as : (p : Option X)
+  parameters_written : (p : Option X)
       → (IfPresent valid (option_map spelling (option_map value p)) ↔ IfPresent Holds (option_map held p))
       × (optional printed (option_map spelling (option_map value p)) ≡ optional octets (option_map held p))
-  parameters_as None = ((λ h. h, λ h. h), refl)
-  parameters_as (Some x) = ((w.has_to x, w.has_of x), w.same x)
+  parameters_written None = ((λ h. h, λ h. h), refl)
+  parameters_written (Some x) = ((w.has_to x, w.has_of x), w.same x)
 
   pub algorithm_writes : WritesAs (algorithm_in oid_of value) (λ a. IsAlgorithm valid (algorithm_map spelling a))
-      (λ a. tlv sequence_tag (algorithm_contents printed (algorithm_map spelling a))) (algorithm_in oid_of held)
+      (λ a. tlv sequence_octet (algorithm_contents printed (algorithm_map spelling a))) (algorithm_in oid_of held)
       (IsAlgorithm Holds) (algorithm octets)
   algorithm_writes = record {
-    has_to = λ (a : AlgorithmIdentifierOf O X) h. (h.0, (parameters_as a.parameters).0.0 h.1);
-    has_of = λ (a : AlgorithmIdentifierOf O X) h. (h.0, (parameters_as a.parameters).0.1 h.1);
+    has_to = λ (a : AlgorithmIdentifierOf O X) h. (h.0, (parameters_written a.parameters).0.0 h.1);
+    has_of = λ (a : AlgorithmIdentifierOf O X) h. (h.0, (parameters_written a.parameters).0.1 h.1);
     same = λ (a : AlgorithmIdentifierOf O X).
-        ap (λ p. tlv sequence_tag (tlv object_identifier_tag (oid_of a.oid) ++ p)) (parameters_as a.parameters).1;
+        ap (λ p. tlv sequence_octet (tlv object_identifier_octet (oid_of a.oid) ++ p))
+        (parameters_written a.parameters).1;
   }
 
 -- Algorithm identifiers as parts of records. No memory is asked for one if none is for its parameters; and it has one

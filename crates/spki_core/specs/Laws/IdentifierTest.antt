@@ -16,30 +16,35 @@ IsSubidentifier id =
     (front : List ℕ) × (last : ℕ) × (id ≡ front ++ last ∷ []) × AreInner front × (last < 128) × (slice_index id 0 ≢ 128)
 
 -- The octets are whole subidentifiers.
-abbrev Parts : List ℕ → Type 0
-Parts c = (subs : List (List ℕ)) × AllByRecursion IsSubidentifier subs × (c ≡ concat subs)
+abbrev AreSubidentifiers : List ℕ → Type 0
+AreSubidentifiers c = (subs : List (List ℕ)) × AllByRecursion IsSubidentifier subs × (c ≡ concat subs)
 
 -- The octets are the rest of a subidentifier, and whole ones behind it.
-abbrev Rest : List ℕ → Type 0
-Rest c = (front : List ℕ) × (last : ℕ) × (c' : List ℕ) × Parts c' × AreInner front × (last < 128) × (c ≡ front ++ last ∷ c')
+abbrev AreRestOfSubidentifiers : List ℕ → Type 0
+AreRestOfSubidentifiers c = (front : List ℕ) × (last : ℕ) × (c' : List ℕ) × AreSubidentifiers c' × AreInner front × (last < 128) × (c ≡ front ++ last ∷ c')
 
 -- From an octet that isn't 128 on, the rest of one is a whole one.
-first_kept : (front : List ℕ) (last : ℕ) (x y : List ℕ) → slice_index (front ++ last ∷ x) 0 ≡ slice_index (front ++ last ∷ y) 0
-first_kept [] last x y = refl
-first_kept (b ∷ front) last x y = refl
+first_octet_kept : (front : List ℕ) (last : ℕ) (x y : List ℕ) → slice_index (front ++ last ∷ x) 0 ≡ slice_index (front ++ last ∷ y) 0
+first_octet_kept [] last x y = refl
+first_octet_kept (b ∷ front) last x y = refl
 
-whole_of : (c : List ℕ) → slice_index c 0 ≢ 128 → Rest c → Parts c
-whole_of c other (front, last, c', p, all, low, is) = (
+subidentifiers_of_rest : (c : List ℕ) → slice_index c 0 ≢ 128 → AreRestOfSubidentifiers c → AreSubidentifiers c
+subidentifiers_of_rest c other (front, last, c', p, all, low, is) = (
   (front ++ last ∷ []) ∷ p.0,
-  ((front, last, refl, all, low, λ h. other (ap (λ l. slice_index l 0) is ∙ first_kept front last c' [] ∙ h)), p.1),
+  (
+    (front, last, refl, all, low, λ h. other (ap (λ l. slice_index l 0) is ∙ first_octet_kept front last c' [] ∙ h)),
+    p.1,
+  ),
   is ∙ ap (λ l. front ++ last ∷ l) p.2 ∙ sym (append_assoc front (last ∷ []) (concat p.0)),
 )
 
-cut : (c : List ℕ) → AreBytes c → (ends_well true c ≡ true → Parts c) × (ends_well false c ≡ true → Rest c)
-cut [] o = (λ e. ([], tt, refl), λ e. cc)
-cut (b ∷ bs) o =
-    let ih = cut bs o.1 in
-    let rest : ends_well (nat_lt b 128) bs ≡ true → Rest (b ∷ bs) = elim (cases_Bool (nat_lt b 128)) [
+identifier_cut : (c : List ℕ) → AreBytes c
+    → (ends_well true c ≡ true → AreSubidentifiers c) × (ends_well false c ≡ true → AreRestOfSubidentifiers c)
+identifier_cut [] o = (λ e. ([], tt, refl), λ e. cc)
+identifier_cut (b ∷ bs) o =
+    let ih = identifier_cut bs o.1 in
+    let rest : ends_well (nat_lt b 128) bs ≡ true
+    → AreRestOfSubidentifiers (b ∷ bs) = elim (cases_Bool (nat_lt b 128)) [
       | inl small ↦ λ e.
           let low : b < 128 = grind (arith, nat_tests, small) in
           ([], b, bs, ih.0 (rw small at e), tt, low, refl)
@@ -51,36 +56,40 @@ cut (b ∷ bs) o =
       λ e.
           let t = and_parts (not (b == 128)) (ends_well (nat_lt b 128) bs) e in
           let other : b ≢ 128 = grind (arith, nat_tests, t.0) in
-          whole_of (b ∷ bs) other (rest t.1),
+          subidentifiers_of_rest (b ∷ bs) other (rest t.1),
       rest,
     )
 
 -- A subidentifier ends well, whatever follows.
-within_ends : (front : List ℕ) (last : ℕ) (rest : List ℕ) → AreInner front → last < 128
+rest_of_subidentifier_ends_well : (front : List ℕ) (last : ℕ) (rest : List ℕ) → AreInner front → last < 128
     → ends_well false (front ++ last ∷ rest) ≡ ends_well true rest
-within_ends [] last rest all low = let small : nat_lt last 128 ≡ true = grind (arith, nat_tests) in rw small refl
-within_ends (b ∷ front) last rest all low =
+rest_of_subidentifier_ends_well [] last rest all low =
+    let small : nat_lt last 128 ≡ true = grind (arith, nat_tests) in rw small refl
+rest_of_subidentifier_ends_well (b ∷ front) last rest all low =
     let large : nat_lt b 128 ≡ false = grind (arith, nat_tests, all.0.0) in
-    rw large (within_ends front last rest all.1 low)
+    rw large (rest_of_subidentifier_ends_well front last rest all.1 low)
 
 -- An octet other than 128 goes on alike from the start and from within.
-pub goes_on : (start : Bool) (b : ℕ) (bs : List ℕ) → (start ≡ false) ⊎ (b ≢ 128)
+pub ends_well_goes_on : (start : Bool) (b : ℕ) (bs : List ℕ) → (start ≡ false) ⊎ (b ≢ 128)
     → ends_well start (b ∷ bs) ≡ ends_well (nat_lt b 128) bs
-goes_on start b bs (inl within) = rw within refl
-goes_on true b bs (inr other) = let no : (b == 128) ≡ false = grind (arith, nat_tests) in rw no refl
-goes_on false b bs (inr other) = refl
+ends_well_goes_on start b bs (inl within) = rw within refl
+ends_well_goes_on true b bs (inr other) = let no : (b == 128) ≡ false = grind (arith, nat_tests) in rw no refl
+ends_well_goes_on false b bs (inr other) = refl
 
-one_ends : (front : List ℕ) (last : ℕ) (rest : List ℕ) → AreInner front → last < 128
+subidentifier_ends_well : (front : List ℕ) (last : ℕ) (rest : List ℕ) → AreInner front → last < 128
     → slice_index (front ++ last ∷ []) 0 ≢ 128 → ends_well true (front ++ last ∷ rest) ≡ ends_well true rest
-one_ends [] last rest all low other = goes_on true last rest (inr other) ∙ within_ends [] last rest all low
-one_ends (b ∷ front) last rest all low other =
-    goes_on true b (front ++ last ∷ rest) (inr other) ∙ within_ends (b ∷ front) last rest all low
+subidentifier_ends_well [] last rest all low other =
+    ends_well_goes_on true last rest (inr other) ∙ rest_of_subidentifier_ends_well [] last rest all low
+subidentifier_ends_well (b ∷ front) last rest all low other =
+    ends_well_goes_on true b (front ++ last ∷ rest) (inr other)
+    ∙ rest_of_subidentifier_ends_well (b ∷ front) last rest all low
 
-parts_end : (subs : List (List ℕ)) → AllByRecursion IsSubidentifier subs → ends_well true (concat subs) ≡ true
-parts_end [] all = refl
-parts_end (s ∷ subs) ((front, last, whole, inner, low, least), all) =
+subidentifiers_end_well : (subs : List (List ℕ)) → AllByRecursion IsSubidentifier subs
+    → ends_well true (concat subs) ≡ true
+subidentifiers_end_well [] all = refl
+subidentifiers_end_well (s ∷ subs) ((front, last, whole, inner, low, least), all) =
     rw (whole, append_assoc front (last ∷ []) (concat subs))
-    (one_ends front last (concat subs) inner low (rw whole at least) ∙ parts_end subs all)
+    (subidentifier_ends_well front last (concat subs) inner low (rw whole at least) ∙ subidentifiers_end_well subs all)
 
 -- The test is exact, for octets.
 pub is_identifier-sound : (c : List ℕ) → AreBytes c → is_identifier c ≡ true → IsIdentifier c
@@ -89,7 +98,7 @@ is_identifier-sound c o e =
     let u = and_parts (nat_lt 0 (length c)) (nat_lt (length c) 40) t.0 in
     let some : 0 < length c = grind (arith, nat_tests, u.0) in
     let short : length c ≤ 39 = grind (arith, nat_tests, u.1) in
-    let p = (cut c o).0 t.1 in
+    let p = (identifier_cut c o).0 t.1 in
     (p.0, count p.0 p.2 some, p.1, p.2, short)
   where
     count : (subs : List (List ℕ)) → c ≡ concat subs → 0 < length c → 0 < length subs
@@ -98,7 +107,7 @@ is_identifier-sound c o e =
 
 pub is_identifier-complete : (c : List ℕ) → IsIdentifier c → is_identifier c ≡ true
 is_identifier-complete c (ids, many, each, joined, short) =
-    let ends : ends_well true c ≡ true = rw joined (parts_end ids each) in
+    let ends : ends_well true c ≡ true = rw joined (subidentifiers_end_well ids each) in
     let some : 0 < length c = count ids many each joined in
     let a : nat_lt 0 (length c) ≡ true = grind (arith, nat_tests) in
     let b : nat_lt (length c) 40 ≡ true = grind (arith, nat_tests) in

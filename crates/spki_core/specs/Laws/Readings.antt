@@ -2,50 +2,52 @@
 use Rattle.std.proofs.Common.{ℕ, true, false, List, ◌++◌, ◌≡◌, ◌≤◌, refl, sym, ap, ◌∙◌, inl, inr, subst, ⊎_elim, Ok, Err, IsTrue, arith}
 use Rattle.der_core.specs.declared.error.ErrorKind.TheVariants.{TagUnknown}
 use Rattle.der_core.specs.declared.tag.Tag.{Tag}
-use Rattle.der_core.specs.Words.{ok_pair, chosen, front_next, isnt_next, next_is, next_isnt, alone_reads, checked_as, tagged_reads, same_tag, FrontReading, alone, is_next, tagged, ReadsBy, ReadsFronts, context_tag, is_allowed, Tlv, nat_tests}
+use Rattle.der_core.specs.Words.{ok_pair, cond_cases, front_next, isnt_next, next_is, next_isnt, alone_reads, checked_as, tagged_reads, same_tag, FrontReading, alone, is_next, tagged, ReadsBy, ReadsFronts, context_octet, is_allowed, Tlv, nat_tests}
 use Rattle.spki_core.specs.Explicit.{FieldRead}
 use Rattle.spki_core.specs.Readings.{defaulted, explicit}
 
-pub explicit_is : {V : Type 0} (at : FrontReading V) (n : ℕ) (tag : Tag) (bytes : List ℕ) → tag.octet ≡ context_tag n
+pub explicit_is : {V : Type 0} (at : FrontReading V) (n : ℕ) (tag : Tag) (bytes : List ℕ) → tag.octet ≡ context_octet n
     → explicit n at bytes ≡ tagged tag (alone at) bytes
 explicit_is at n tag bytes is =
-    let ok : is_allowed (context_tag n) ≡ true = ap is_allowed (sym is) ∙ tag.allowed in
+    let ok : is_allowed (context_octet n) ≡ true = ap is_allowed (sym is) ∙ tag.allowed in
     let r =
-    checked_as (is_allowed (context_tag n))
-    (λ ok. tagged (record { octet = context_tag n; allowed = ok }) (alone at) bytes) (Err (TagUnknown (context_tag n)))
+    checked_as (is_allowed (context_octet n))
+    (λ ok. tagged (record { octet = context_octet n; allowed = ok }) (alone at) bytes)
+    (Err (TagUnknown (context_octet n)))
     ok in
-    r.1 ∙ ap (λ t. tagged t (alone at) bytes) (same_tag (record { octet = context_tag n; allowed = r.0 }) tag (sym is))
+    r.1 ∙ ap (λ t. tagged t (alone at) bytes)
+    (same_tag (record { octet = context_octet n; allowed = r.0 }) tag (sym is))
 
 -- The octet of a number up to 30 is allowed.
-pub number_allowed : (n : ℕ) → n ≤ 30 → IsTrue (is_allowed (context_tag n))
+pub number_allowed : (n : ℕ) → n ≤ 30 → IsTrue (is_allowed (context_octet n))
 number_allowed n h = go n h
   where
-    go : (n : ℕ) → n ≤ 30 → is_allowed (context_tag n) ≡ true
+    go : (n : ℕ) → n ≤ 30 → is_allowed (context_octet n) ≡ true
     go n h = grind (arith, nat_tests)
 
 module _ {V : Type 0} {encoding : V → List ℕ → Type 0} {at : FrontReading V} (law : ReadsFronts encoding at) (n : ℕ)
     (few : n ≤ 30) where
-  pub explicit_reads : ReadsFronts (λ v. Tlv (context_tag n) (encoding v)) (explicit n at)
+  pub explicit_reads : ReadsFronts (λ v. Tlv (context_octet n) (encoding v)) (explicit n at)
   explicit_reads =
-      let tag : Tag = record { octet = context_tag n; allowed = number_allowed n few } in
-      subst (ReadsFronts (λ v. Tlv (context_tag n) (encoding v))) (λ j i. sym (explicit_is at n tag i refl) j)
+      let tag : Tag = record { octet = context_octet n; allowed = number_allowed n few } in
+      subst (ReadsFronts (λ v. Tlv (context_octet n) (encoding v))) (λ j i. sym (explicit_is at n tag i refl) j)
       (tagged_reads tag (alone_reads law))
 
   pub defaulted_reads : (default : V) → ReadsBy (FieldRead n encoding default) (defaulted n at default)
   defaulted_reads default = record {
     gives = λ i rest v b e.
         ⊎_elim (λ w. let s = explicit_reads.gives i rest v b w.1 in inr (s.0, rest, s.2, refl, s.1))
-        (λ w. let p = ok_pair default v i rest w.1 in inl (next_isnt (context_tag n) i w.0, sym p.0, sym p.1))
-        (chosen (is_next (context_tag n) i) _ _ _ e);
+        (λ w. let p = ok_pair default v i rest w.1 in inl (next_isnt (context_octet n) i w.0, sym p.0, sym p.1))
+        (cond_cases (is_next (context_octet n) i) _ _ _ e);
     takes = λ i rest v w read. elim read [
       | inl (not_next, value, same) ↦
-          let no : is_next (context_tag n) i ≡ false = isnt_next (context_tag n) i not_next in
+          let no : is_next (context_octet n) i ≡ false = isnt_next (context_octet n) i not_next in
           rw no (λ j. Ok (sym value j, sym same j))
       | inr (b, more, p, same, split) ↦
-          let yes : is_next (context_tag n) i ≡ true =
-          next_is (context_tag n) i (front_next (context_tag n) b more i p split) in
+          let yes : is_next (context_octet n) i ≡ true =
+          next_is (context_octet n) i (front_next (context_octet n) b more i p split) in
           rw yes (explicit_reads.takes i b rest v w (split ∙ ap (λ r. b ++ r) same) p)
     ];
     tells = λ i k e.
-        ⊎_elim (λ w. explicit_reads.tells i k w.1) (λ w. let no = w.1 in cc) (chosen (is_next (context_tag n) i) _ _ _ e);
+        ⊎_elim (λ w. explicit_reads.tells i k w.1) (λ w. let no = w.1 in cc) (cond_cases (is_next (context_octet n) i) _ _ _ e);
   }

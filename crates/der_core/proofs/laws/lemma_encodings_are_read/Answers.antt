@@ -1,9 +1,9 @@
-use Rattle.der_core.specs.Words.{reads_front}
+use Rattle.der_core.specs.Words.{front_reading_reads}
 use Rattle.der_core.proofs.Readings.{answers_decode, values_decode}
 use Rattle.der_core.proofs.laws.lemma_encodings_are_read.Goals as goal
 
 pub returns-clause-reads : goal.returns-clause-reads
-returns-clause-reads g c = reads_front g.T.Encoding.law g.T.Encoding.reads_alike
+returns-clause-reads g c = front_reading_reads g.T.Encoding.law g.T.Encoding.reads_alike
 
 pub returns-clause-decodes : goal.returns-clause-decodes
 returns-clause-decodes g c = values_decode g.T.Encoding.law g.T.Encoding.reads_alike

@@ -1,10 +1,11 @@
 use Rattle.std.proofs.Common.{ap}
-use Rattle.der_core.proofs.Compared.{by_tells, kind_itself, kind_tells}
+use Rattle.der_core.proofs.ErrorEquality.{equality_decides, kind_equals_itself, kind_tells}
 use Rattle.der_core.proofs.laws.lemma_kinds_compare_by_value.Goals as goal
 
 pub returns-clause-kind : goal.returns-clause-kind
-returns-clause-kind c = by_tells _ kind_itself kind_tells
+returns-clause-kind c = equality_decides _ kind_equals_itself kind_tells
 
 pub returns-clause-error : goal.returns-clause-error
 returns-clause-error c =
-    by_tells _ (λ a. kind_itself a.kind) (λ a b e. ap (λ k. record { kind = k }) (kind_tells a.kind b.kind e))
+    equality_decides _ (λ a. kind_equals_itself a.kind)
+    (λ a b e. ap (λ k. record { kind = k }) (kind_tells a.kind b.kind e))

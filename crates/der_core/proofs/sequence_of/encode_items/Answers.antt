@@ -1,22 +1,23 @@
 use Rattle.std.proofs.Common.{arith, rules, refl, ap, sym, ◌∙◌, subst, length-append, ◌≡◌, ◌+◌, ◌≤◌, ◌<◌, ◌++◌, length, get_or, take, drop, List, ℕ}
 use Rattle.der_core.specs.Words.{err_from_is_err_and, AllHave, all_encodings, limit}
-use Rattle.der_core.proofs.Items.{encodings_more, encodings_around, have_at}
+use Rattle.der_core.proofs.Items.{encodings_more, encodings_around, AllHave-at}
 use Rattle.der_core.proofs.Writing.{appends_in_front, appends_behind, receives_both, takes_both}
 use Rattle.der_core.proofs.sequence_of.encode_items.Goals as goal
 
 module _ {T : Type 0} (has : T → Type 0) (encoding : T → List ℕ) (xs : List T) (i : ℕ) (x : T) (h : i < length xs)
     (e : x ≡ get_or xs i x) where
-  more : all_encodings encoding (take (i + 1) xs) ≡ all_encodings encoding (take i xs) ++ encoding x
-  more = encodings_more has encoding xs i x h ∙ ap (λ y. all_encodings encoding (take i xs) ++ encoding y) (sym e)
+  encodings_with_item : all_encodings encoding (take (i + 1) xs) ≡ all_encodings encoding (take i xs) ++ encoding x
+  encodings_with_item =
+      encodings_more has encoding xs i x h ∙ ap (λ y. all_encodings encoding (take i xs) ++ encoding y) (sym e)
 
-  around : all_encodings encoding xs ≡ all_encodings encoding (take i xs)
+  encodings_around_item : all_encodings encoding xs ≡ all_encodings encoding (take i xs)
       ++ (encoding x ++ all_encodings encoding (drop (i + 1) xs))
-  around =
+  encodings_around_item =
       encodings_around has encoding xs i x h
       ∙ ap (λ y. all_encodings encoding (take i xs) ++ (encoding y ++ all_encodings encoding (drop (i + 1) xs))) (sym e)
 
-  here : AllHave has xs → has x
-  here p = subst has (sym e) (have_at has encoding xs i x h p)
+  item_has : AllHave has xs → has x
+  item_has p = subst has (sym e) (AllHave-at has encoding xs i x h p)
 
 pub returns-in_err-encode-clause-appends : goal.returns-in_err-encode-clause-appends
 returns-in_err-encode-clause-appends g c =
@@ -28,8 +29,8 @@ returns-in_err-encode-clause-appends g c =
     let i = c.loop-item.item-index in
     let all : AllHave valid xs = c.requires.has in
     let few : length (all_encodings printed xs) ≤ limit = c.requires.fits in
-    let has = here valid printed xs i x c.loop-item-test.true c.item-item.is all in
-    let whole = around valid printed xs i x c.loop-item-test.true c.item-item.is in
+    let has = item_has valid printed xs i x c.loop-item-test.true c.item-item.is all in
+    let whole = encodings_around_item valid printed xs i x c.loop-item-test.true c.item-item.is in
     let rest = all_encodings printed (drop (i + 1) xs) in
     let front = length-append (all_encodings printed (take i xs)) (printed x ++ rest) in
     let less : length (printed x ++ rest) ≤ limit = omega (arith, few, ap length whole, front) in
@@ -42,7 +43,8 @@ loop-item-preserved g c =
     let printed = λ (x : g.row.T.Denot). g.T.Encoding.printed (g.T.Encoding.written (g.T.Encoding.value x)) in
     let x = c.item-item.result in
     let front = all_encodings printed (take c.loop-item.item-index c.args.items.now) in
-    let q = more valid printed c.args.items.now c.loop-item.item-index x c.loop-item-test.true c.item-item.is in
+    let q = encodings_with_item valid printed c.args.items.now c.loop-item.item-index x c.loop-item-test.true
+    c.item-item.is in
     let appends = c.in_ok-encode.ensures.appends in
     let written = g.W.Writer.written in
     record {

@@ -4,10 +4,10 @@ use Rattle.der_core.proofs.Items.{encodings_behind_len}
 use Rattle.der_core.proofs.sequence_of.prepend_items.Goals as goal
 
 -- the item and those behind it are no more than all of them
-fits : {T : Type 0} (has : T → Type 0) (encoding : T → List ℕ) (xs : List T) (left : ℕ) (x : T) → 0 < left
+item_fits : {T : Type 0} (has : T → Type 0) (encoding : T → List ℕ) (xs : List T) (left : ℕ) (x : T) → 0 < left
     → left ≤ length xs → x ≡ get_or xs (left - 1) x
     → length (encoding x) + length (all_encodings encoding (drop left xs)) ≤ length (all_encodings encoding xs)
-fits has encoding xs left x p l e =
+item_fits has encoding xs left x p l e =
     let next : left - 1 + 1 ≡ left = omega arith in
     let same = ap (λ y. length (encoding y)) e in
     omega (
@@ -22,7 +22,7 @@ prepend-requires-clause-fits g c =
     let valid = λ (x : g.row.T.Denot). g.T.Encoding.valid (g.T.Encoding.written (g.T.Encoding.value x)) in
     let printed = λ (x : g.row.T.Denot). g.T.Encoding.printed (g.T.Encoding.written (g.T.Encoding.value x)) in
     let less =
-    fits valid printed c.args.items.now c.loop-left.left c.index-items-left.result c.loop-left-test.true
+    item_fits valid printed c.args.items.now c.loop-left.left c.index-items-left.result c.loop-left-test.true
     c.loop-left.invariant.0 c.index-items-left.is in
     omega (arith, c.requires.fits, less)
 
@@ -31,6 +31,6 @@ prepend-requires-clause-room g c =
     let valid = λ (x : g.row.T.Denot). g.T.Encoding.valid (g.T.Encoding.written (g.T.Encoding.value x)) in
     let printed = λ (x : g.row.T.Denot). g.T.Encoding.printed (g.T.Encoding.written (g.T.Encoding.value x)) in
     let less =
-    fits valid printed c.args.items.now c.loop-left.left c.index-items-left.result c.loop-left-test.true
+    item_fits valid printed c.args.items.now c.loop-left.left c.index-items-left.result c.loop-left-test.true
     c.loop-left.invariant.0 c.index-items-left.is in
     omega (arith, c.requires.room, c.loop-left.invariant.1.1, less)

@@ -4,23 +4,23 @@ use Rattle.der_core.specs.declared.error.ErrorKind.{ErrorKind}
 use Rattle.der_core.specs.declared.error.ErrorKind.TheVariants.{Overflow}
 use Rattle.der_core.specs.declared.tag.Tag.{Tag}
 use Rattle.der_core.specs.Input.{header_at}
-use Rattle.der_core.specs.Laws.Printed.Items.{both, joined, listed, meant, meant_front, paired, paired_front, present}
+use Rattle.der_core.specs.Laws.Printed.Items.{bind_associative, ok_listed, ok_meant, ok_meant_front, ok_paired, ok_paired_front, ok_present, pair_map}
 use Rattle.der_core.specs.Length.{limit}
 use Rattle.der_core.specs.Printed.{ReadsAlike, ReadsFrontAlike, value_in, AreSpelledOnce}
-use Rattle.der_core.specs.Readings.{FrontReading, Reading, alone, chain, contents_behind, ended, front_parts, inside, is_next, items, items_within, last, made, optional, parts, tagged, whole, ◌>>=◌}
+use Rattle.der_core.specs.Readings.{FrontReading, Reading, alone, chain, contents_behind, ended, front_parts, inside, is_next, items, items_within, last, made, optional_front, parts, tagged, whole, ◌>>=◌}
 
 -- The same function: values are spelled as themselves.
-pub alike : {V : Type 0} (read : Reading V) → ReadsAlike read (λ v. v) read
-alike {V} read = record { same = λ c. go (read c) }
+pub reading_alike : {V : Type 0} (read : Reading V) → ReadsAlike read (λ v. v) read
+reading_alike {V} read = record { same = λ c. go (read c) }
   where
-    go : (r : Result V ErrorKind) → (r >>= meant (λ v. v)) ≡ r
+    go : (r : Result V ErrorKind) → (r >>= ok_meant (λ v. v)) ≡ r
     go (Ok v) = refl
     go (Err k) = refl
 
 pub front_alike : {V : Type 0} (at : FrontReading V) → ReadsFrontAlike at (λ v. v) at
 front_alike {V} at = record { same = λ i. go (at i) }
   where
-    go : (r : Result (V × List ℕ) ErrorKind) → (r >>= meant_front (λ v. v)) ≡ r
+    go : (r : Result (V × List ℕ) ErrorKind) → (r >>= ok_meant_front (λ v. v)) ≡ r
     go (Ok p) = refl
     go (Err k) = refl
 
@@ -30,32 +30,32 @@ module _ {A B V W : Type 0} {at : FrontReading A} {meansA : A → V} {meansB : B
   pub row_alike : {read : Reading B} {old : Reading W} → ReadsAlike read meansB old
       → ReadsAlike (parts at read) (λ p. let q : V × W = (meansA p.0, meansB p.1) in q) (parts at_old old)
   row_alike {read} {old} b = record {
-    same = λ c. go (at c) ∙ ap (λ r. r >>= λ q. old q.1 >>= paired q.0) (a.same c);
+    same = λ c. go (at c) ∙ ap (λ r. r >>= λ q. old q.1 >>= ok_paired q.0) (a.same c);
   }
     where
       go : (r : Result (A × List ℕ) ErrorKind)
-          → ((r >>= λ p. read p.1 >>= paired p.0) >>= meant (both meansA meansB))
-          ≡ ((r >>= meant_front meansA) >>= λ q. old q.1 >>= paired q.0)
+          → ((r >>= λ p. read p.1 >>= ok_paired p.0) >>= ok_meant (pair_map meansA meansB))
+          ≡ ((r >>= ok_meant_front meansA) >>= λ q. old q.1 >>= ok_paired q.0)
       go (Ok p) =
-          joined (read p.1) (paired p.0) (meant (both meansA meansB))
-          ∙ sym (joined (read p.1) (meant meansB) (paired (meansA p.0)))
-          ∙ ap (λ r. r >>= paired (meansA p.0)) (b.same p.1)
+          bind_associative (read p.1) (ok_paired p.0) (ok_meant (pair_map meansA meansB))
+          ∙ sym (bind_associative (read p.1) (ok_meant meansB) (ok_paired (meansA p.0)))
+          ∙ ap (λ r. r >>= ok_paired (meansA p.0)) (b.same p.1)
       go (Err k) = refl
 
   pub front_row_alike : {next : FrontReading B} {old : FrontReading W} → ReadsFrontAlike next meansB old
       → ReadsFrontAlike (front_parts at next) (λ p. let q : V × W = (meansA p.0, meansB p.1) in q)
       (front_parts at_old old)
   front_row_alike {next} {old} b = record {
-    same = λ i. go (at i) ∙ ap (λ r. r >>= λ q. old q.1 >>= paired_front q.0) (a.same i);
+    same = λ i. go (at i) ∙ ap (λ r. r >>= λ q. old q.1 >>= ok_paired_front q.0) (a.same i);
   }
     where
       go : (r : Result (A × List ℕ) ErrorKind)
-          → ((r >>= λ p. next p.1 >>= paired_front p.0) >>= meant_front (both meansA meansB))
-          ≡ ((r >>= meant_front meansA) >>= λ q. old q.1 >>= paired_front q.0)
+          → ((r >>= λ p. next p.1 >>= ok_paired_front p.0) >>= ok_meant_front (pair_map meansA meansB))
+          ≡ ((r >>= ok_meant_front meansA) >>= λ q. old q.1 >>= ok_paired_front q.0)
       go (Ok p) =
-          joined (next p.1) (paired_front p.0) (meant_front (both meansA meansB))
-          ∙ sym (joined (next p.1) (meant_front meansB) (paired_front (meansA p.0)))
-          ∙ ap (λ r. r >>= paired_front (meansA p.0)) (b.same p.1)
+          bind_associative (next p.1) (ok_paired_front p.0) (ok_meant_front (pair_map meansA meansB))
+          ∙ sym (bind_associative (next p.1) (ok_meant_front meansB) (ok_paired_front (meansA p.0)))
+          ∙ ap (λ r. r >>= ok_paired_front (meansA p.0)) (b.same p.1)
       go (Err k) = refl
 
   -- What follows depends on the first part.
@@ -65,7 +65,7 @@ module _ {A B V W : Type 0} {at : FrontReading A} {meansA : A → V} {meansB : B
   chain_alike {read} old b = record { same = λ c. go (at c) ∙ ap (λ r. r >>= λ q. old q.0 q.1) (a.same c) }
     where
       go : (r : Result (A × List ℕ) ErrorKind)
-          → ((r >>= λ p. read p.0 p.1) >>= meant meansB) ≡ ((r >>= meant_front meansA) >>= λ q. old q.0 q.1)
+          → ((r >>= λ p. read p.0 p.1) >>= ok_meant meansB) ≡ ((r >>= ok_meant_front meansA) >>= λ q. old q.0 q.1)
       go (Ok p) = (b p.0).same p.1
       go (Err k) = refl
 
@@ -74,30 +74,31 @@ module _ {S V : Type 0} {read : Reading S} {means : S → V} {old : Reading V} (
   pub made_alike : {T W : Type 0} (make : S → T) (make_old : V → W) (meansT : T → W)
       → ((s : S) → meansT (make s) ≡ make_old (means s)) → ReadsAlike (made make read) meansT (made make_old old)
   made_alike make make_old meansT new = record {
-    same = λ c. go (read c) ∙ ap (λ r. r >>= meant make_old) (law.same c);
+    same = λ c. go (read c) ∙ ap (λ r. r >>= ok_meant make_old) (law.same c);
   }
     where
       go : (r : Result S ErrorKind)
-          → ((r >>= meant make) >>= meant meansT) ≡ ((r >>= meant means) >>= meant make_old)
+          → ((r >>= ok_meant make) >>= ok_meant meansT) ≡ ((r >>= ok_meant means) >>= ok_meant make_old)
       go (Ok s) = ap (λ w. Ok w) (new s)
       go (Err k) = refl
 
   -- Contents behind a tag.
-  inside_alike : (p : List ℕ × List ℕ) → (inside read p >>= meant_front means) ≡ inside old p
+  inside_alike : (p : List ℕ × List ℕ) → (inside read p >>= ok_meant_front means) ≡ inside old p
   inside_alike p =
-      joined (read p.0) (λ s. paired s p.1) (meant_front means)
-      ∙ sym (joined (read p.0) (meant means) (λ v. paired v p.1)) ∙ ap (λ r. r >>= λ v. paired v p.1) (law.same p.0)
+      bind_associative (read p.0) (λ s. ok_paired s p.1) (ok_meant_front means)
+      ∙ sym (bind_associative (read p.0) (ok_meant means) (λ v. ok_paired v p.1))
+      ∙ ap (λ r. r >>= λ v. ok_paired v p.1) (law.same p.0)
 
   pub tagged_alike : (tag : Tag) → ReadsFrontAlike (tagged tag read) means (tagged tag old)
   tagged_alike tag = record { same = λ i. go (header_at i) }
     where
       next : (r : Result (List ℕ × List ℕ) ErrorKind)
-          → ((r >>= inside read) >>= meant_front means) ≡ (r >>= inside old)
+          → ((r >>= inside read) >>= ok_meant_front means) ≡ (r >>= inside old)
       next (Ok p) = inside_alike p
       next (Err k) = refl
 
       go : (r : Result ((ℕ × ℕ) × List ℕ) ErrorKind)
-          → ((r >>= λ h. contents_behind tag h >>= inside read) >>= meant_front means)
+          → ((r >>= λ h. contents_behind tag h >>= inside read) >>= ok_meant_front means)
           ≡ (r >>= λ h. contents_behind tag h >>= inside old)
       go (Ok h) = next (contents_behind tag h)
       go (Err k) = refl
@@ -106,7 +107,7 @@ module _ {S V : Type 0} {read : Reading S} {means : S → V} {old : Reading V} (
   pub values_alike : (c : List ℕ) → option_map means (value_in (read c)) ≡ value_in (old c)
   values_alike c = go (read c) ∙ ap value_in (law.same c)
     where
-      go : (r : Result S ErrorKind) → option_map means (value_in r) ≡ value_in (r >>= meant means)
+      go : (r : Result S ErrorKind) → option_map means (value_in r) ≡ value_in (r >>= ok_meant means)
       go (Ok s) = refl
       go (Err k) = refl
 
@@ -116,12 +117,12 @@ module _ {S V : Type 0} {at : FrontReading S} {means : S → V} {old : FrontRead
   pub alone_alike : ReadsAlike (alone at) means (alone old)
   alone_alike = record { same = λ c. go (at c) ∙ ap (λ r. r >>= λ p. ended p.0 p.1) (law.same c) }
     where
-      end : (s : S) (rest : List ℕ) → (ended s rest >>= meant means) ≡ ended (means s) rest
+      end : (s : S) (rest : List ℕ) → (ended s rest >>= ok_meant means) ≡ ended (means s) rest
       end s [] = refl
       end s (x ∷ xs) = refl
 
       go : (r : Result (S × List ℕ) ErrorKind)
-          → ((r >>= λ p. ended p.0 p.1) >>= meant means) ≡ ((r >>= meant_front means) >>= λ p. ended p.0 p.1)
+          → ((r >>= λ p. ended p.0 p.1) >>= ok_meant means) ≡ ((r >>= ok_meant_front means) >>= λ p. ended p.0 p.1)
       go (Ok p) = end p.0 p.1
       go (Err k) = refl
 
@@ -129,42 +130,43 @@ module _ {S V : Type 0} {at : FrontReading S} {means : S → V} {old : FrontRead
   last_alike = record { same = go }
     where
       there : (r : Result S ErrorKind)
-          → ((r >>= meant Some) >>= meant (option_map means)) ≡ ((r >>= meant means) >>= meant Some)
+          → ((r >>= ok_meant Some) >>= ok_meant (option_map means)) ≡ ((r >>= ok_meant means) >>= ok_meant Some)
       there (Ok s) = refl
       there (Err k) = refl
 
       go : (c : List ℕ) → made (option_map means) (last at) c ≡ last old c
       go [] = refl
-      go (x ∷ xs) = there (alone at (x ∷ xs)) ∙ ap (λ r. r >>= meant Some) (alone_alike.same (x ∷ xs))
+      go (x ∷ xs) = there (alone at (x ∷ xs)) ∙ ap (λ r. r >>= ok_meant Some) (alone_alike.same (x ∷ xs))
 
-  pub optional_alike : (t : ℕ) → ReadsFrontAlike (optional t at) (option_map means) (optional t old)
+  pub optional_alike : (t : ℕ) → ReadsFrontAlike (optional_front t at) (option_map means) (optional_front t old)
   optional_alike t = record { same = λ i. go i (is_next t i) }
     where
       there : (r : Result (S × List ℕ) ErrorKind)
-          → ((r >>= present) >>= meant_front (option_map means)) ≡ ((r >>= meant_front means) >>= present)
+          → ((r >>= ok_present) >>= ok_meant_front (option_map means)) ≡ ((r >>= ok_meant_front means) >>= ok_present)
       there (Ok p) = refl
       there (Err k) = refl
 
       go : (i : List ℕ) (b : Bool)
-          → ((if b then (at i >>= present) else paired None i) >>= meant_front (option_map means))
-          ≡ (if b then (old i >>= present) else paired None i)
-      go i true = there (at i) ∙ ap (λ r. r >>= present) (law.same i)
+          → ((if b then (at i >>= ok_present) else ok_paired None i) >>= ok_meant_front (option_map means))
+          ≡ (if b then (old i >>= ok_present) else ok_paired None i)
+      go i true = there (at i) ∙ ap (λ r. r >>= ok_present) (law.same i)
       go i false = refl
 
   items_same : (n : ℕ) (c : List ℕ) → made (map means) (items_within n at) c ≡ items_within n old c
   items_same n [] = refl
   items_same zero (x ∷ xs) = refl
   items_same (suc n) (x ∷ xs) =
-      go (items_same n) (at (x ∷ xs)) ∙ ap (λ r. r >>= λ p. items_within n old p.1 >>= listed p.0) (law.same (x ∷ xs))
+      go (items_same n) (at (x ∷ xs))
+      ∙ ap (λ r. r >>= λ p. items_within n old p.1 >>= ok_listed p.0) (law.same (x ∷ xs))
     where
       go : ((c : List ℕ) → made (map means) (items_within n at) c ≡ items_within n old c)
           → (r : Result (S × List ℕ) ErrorKind)
-          → ((r >>= λ p. items_within n at p.1 >>= listed p.0) >>= meant (map means))
-          ≡ ((r >>= meant_front means) >>= λ p. items_within n old p.1 >>= listed p.0)
+          → ((r >>= λ p. items_within n at p.1 >>= ok_listed p.0) >>= ok_meant (map means))
+          ≡ ((r >>= ok_meant_front means) >>= λ p. items_within n old p.1 >>= ok_listed p.0)
       go more (Ok p) =
-          joined (items_within n at p.1) (listed p.0) (meant (map means))
-          ∙ sym (joined (items_within n at p.1) (meant (map means)) (listed (means p.0)))
-          ∙ ap (λ r. r >>= listed (means p.0)) (more p.1)
+          bind_associative (items_within n at p.1) (ok_listed p.0) (ok_meant (map means))
+          ∙ sym (bind_associative (items_within n at p.1) (ok_meant (map means)) (ok_listed (means p.0)))
+          ∙ ap (λ r. r >>= ok_listed (means p.0)) (more p.1)
       go more (Err k) = refl
 
   pub items_alike : ReadsAlike (items at) (map means) (items old)
@@ -174,7 +176,7 @@ module _ {S V : Type 0} {at : FrontReading S} {means : S → V} {old : FrontRead
   whole_alike = record { same = λ c. go c (nat_lt limit (length c)) }
     where
       go : (c : List ℕ) (b : Bool)
-          → ((if b then Err Overflow else alone at c) >>= meant means) ≡ (if b then Err Overflow else alone old c)
+          → ((if b then Err Overflow else alone at c) >>= ok_meant means) ≡ (if b then Err Overflow else alone old c)
       go c true = refl
       go c false = alone_alike.same c
 

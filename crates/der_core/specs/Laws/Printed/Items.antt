@@ -2,8 +2,8 @@
 use Rattle.std.proofs.Common.{ℕ, zero, suc, List, [], ◌∷◌, ◌++◌, ◌≡◌, ◌<◌, ◌≤◌, length, map, refl, sym, subst, ap, ◌∙◌, arith, ⊎_elim, length-append, Ok, Err, inl, inr, Result, Option, Some}
 use Rattle.std.specs.List.{AllByRecursion, concat}
 use Rattle.der_core.specs.Encodings.{AreBytes}
-use Rattle.der_core.specs.Laws.Readings.{back_bytes, bind_err, bind_ok, made_tells, ok_same}
-use Rattle.der_core.specs.Laws.LengthReading.{is_trailing, ok_pair}
+use Rattle.der_core.specs.Laws.Readings.{back_bytes, bind_err, bind_ok, made_tells, ok_injective}
+use Rattle.der_core.specs.Laws.LengthReading.{ok_pair, trailing_error_tells}
 use Rattle.der_core.specs.Length.{limit}
 use Rattle.der_core.specs.Reading.{TellsOfBytes}
 use Rattle.der_core.specs.Readings.{FrontReading, items, items_within, made, ◌>>=◌, Reading, ReadsContents, ReadsFronts}
@@ -14,60 +14,64 @@ use Rattle.der_core.specs.Printed.{ReadsFrontPrinted, ReadsPrinted, Prints, Read
 module _ {V : Type 0} {Is : V → Type 0} {printed : V → List ℕ} {at : FrontReading V}
     (law : ReadsFrontPrinted Is printed at)
     (some : (v : V) → 0 < length (printed v)) where
-  abbrev Printed : List V → List ℕ
-  Printed vs = concat (map printed vs)
+  abbrev items_printed : List V → List ℕ
+  items_printed vs = concat (map printed vs)
 
-  give : (n : ℕ) (c : List ℕ) (vs : List V) → AreBytes c → items_within n at c ≡ Ok vs
-      → AllByRecursion Is vs × (c ≡ Printed vs)
-  give n [] vs b e = subst (λ us. AllByRecursion Is us × ([] ≡ Printed us)) (ok_same e) (tt, refl)
-  give zero (x ∷ xs) vs b e = cc
-  give (suc n) (x ∷ xs) vs b e =
+  items_within_gives : (n : ℕ) (c : List ℕ) (vs : List V) → AreBytes c → items_within n at c ≡ Ok vs
+      → AllByRecursion Is vs × (c ≡ items_printed vs)
+  items_within_gives n [] vs b e =
+      subst (λ us. AllByRecursion Is us × ([] ≡ items_printed us)) (ok_injective e) (tt, refl)
+  items_within_gives zero (x ∷ xs) vs b e = cc
+  items_within_gives (suc n) (x ∷ xs) vs b e =
       let s = bind_ok (at (x ∷ xs)) _ e in
       let u = bind_ok (items_within n at s.0.1) _ s.2 in
       let p = law.gives (x ∷ xs) s.0.1 s.0.0 b s.1 in
-      let q = give n s.0.1 u.0 (back_bytes (printed s.0.0) s.0.1 (subst AreBytes p.1 b)) u.1 in
-      subst (λ us. AllByRecursion Is us × ((x ∷ xs) ≡ Printed us)) (ok_same u.2)
+      let q = items_within_gives n s.0.1 u.0 (back_bytes (printed s.0.0) s.0.1 (subst AreBytes p.1 b)) u.1 in
+      subst (λ us. AllByRecursion Is us × ((x ∷ xs) ≡ items_printed us)) (ok_injective u.2)
       ((p.0, q.0), p.1 ∙ ap (λ z. printed s.0.0 ++ z) q.1)
 
-  take : (vs : List V) (n : ℕ) (c : List ℕ) → c ≡ Printed vs → length c ≤ n → length c ≤ limit → AllByRecursion Is vs
+  items_within_takes : (vs : List V) (n : ℕ) (c : List ℕ) → c ≡ items_printed vs → length c ≤ n → length c ≤ limit
+      → AllByRecursion Is vs
       → items_within n at c ≡ Ok vs
-  take [] n c is l w ok = ap (items_within n at) is
-  take (v ∷ vs) n [] is l w ok =
-      absurd (omega (arith, some v, ap length is, length-append (printed v) (Printed vs)))
-  take (v ∷ vs) zero (z ∷ zs) is l w ok = absurd (omega (arith, l))
-  take (v ∷ vs) (suc n) (z ∷ zs) is l w ok =
-      let both = length-append (printed v) (Printed vs) in
+  items_within_takes [] n c is l w ok = ap (items_within n at) is
+  items_within_takes (v ∷ vs) n [] is l w ok =
+      absurd (omega (arith, some v, ap length is, length-append (printed v) (items_printed vs)))
+  items_within_takes (v ∷ vs) zero (z ∷ zs) is l w ok = absurd (omega (arith, l))
+  items_within_takes (v ∷ vs) (suc n) (z ∷ zs) is l w ok =
+      let both = length-append (printed v) (items_printed vs) in
       ap (λ r. r >>= λ p. made (λ vs. p.0 ∷ vs) (items_within n at) p.1)
-      (ap at is ∙ law.takes v (Printed vs) ok.0 (omega (arith, w, ap length is)))
+      (ap at is ∙ law.takes v (items_printed vs) ok.0 (omega (arith, w, ap length is)))
       ∙ ap (λ r. r >>= λ vs. Ok (v ∷ vs))
-      (take vs n (Printed vs) refl (omega (arith, l, some v, ap length is, both)) (omega (arith, w, ap length is, both))
+      (items_within_takes vs n (items_printed vs) refl (omega (arith, l, some v, ap length is, both))
+      (omega (arith, w, ap length is, both))
       ok.1)
 
-  tell : (n : ℕ) (c : List ℕ) (k : ErrorKind) → items_within n at c ≡ Err k → TellsOfBytes k
-  tell n [] k e = cc
-  tell zero (x ∷ xs) k e = let same : TrailingData ≡ k = cc in is_trailing (sym same)
-  tell (suc n) (x ∷ xs) k e =
+  items_within_tells : (n : ℕ) (c : List ℕ) (k : ErrorKind) → items_within n at c ≡ Err k → TellsOfBytes k
+  items_within_tells n [] k e = cc
+  items_within_tells zero (x ∷ xs) k e = let same : TrailingData ≡ k = cc in trailing_error_tells (sym same)
+  items_within_tells (suc n) (x ∷ xs) k e =
       ⊎_elim (law.tells (x ∷ xs) k)
-      (λ s. made_tells (λ vs. s.0.0 ∷ vs) (items_within n at s.0.1) (tell n s.0.1 k) s.2) (bind_err (at (x ∷ xs)) _ e)
+      (λ s. made_tells (λ vs. s.0.0 ∷ vs) (items_within n at s.0.1) (items_within_tells n s.0.1 k) s.2)
+      (bind_err (at (x ∷ xs)) _ e)
 
   pub items_law : ReadsPrinted (AllByRecursion Is) (λ vs. concat (map printed vs)) (items at)
   items_law = record {
-    gives = λ c vs b e. give (length c) c vs b e;
-    takes = λ vs ok few. take vs (length (Printed vs)) (Printed vs) refl (omega arith) few ok;
-    tells = λ c k e. tell (length c) c k e;
+    gives = λ c vs b e. items_within_gives (length c) c vs b e;
+    takes = λ vs ok few. items_within_takes vs (length (items_printed vs)) (items_printed vs) refl (omega arith) few ok;
+    tells = λ c k e. items_within_tells (length c) c k e;
   }
 
 -- == What the laws of a type say of its values: what is read, what is written, that each has one encoding ==
 
 -- A type's function reads the contents of its values and no others, and its faults are about the bytes.
-pub reads : {S V : Type 0} {valid : S → Type 0} {printed : S → List ℕ} {spelling : Reading S} {means : S → V}
+pub reading_reads : {S V : Type 0} {valid : S → Type 0} {printed : S → List ℕ} {spelling : Reading S} {means : S → V}
     {read : Reading V} → ReadsPrinted valid printed spelling → ReadsAlike spelling means read
     → ReadsContents (Prints valid printed means) read
-reads {spelling = spelling} {means} law alike = record {
+reading_reads {spelling = spelling} {means} law alike = record {
   gives = λ c v bytes e.
       let s = bind_ok (spelling c) _ (alike.same c ∙ e) in
       let g = law.gives c s.0 bytes s.1 in
-      (s.0, ok_same s.2, g.0, g.1);
+      (s.0, ok_injective s.2, g.0, g.1);
   takes = λ c v few p.
       let (s, is, ok, same) = p in
       sym (alike.same c)
@@ -80,10 +84,11 @@ reads {spelling = spelling} {means} law alike = record {
 }
 
 -- The same of encodings at the front of bytes.
-pub reads_front : {S V : Type 0} {valid : S → Type 0} {printed : S → List ℕ} {spelling : FrontReading S} {means : S → V}
+pub front_reading_reads : {S V : Type 0} {valid : S → Type 0} {printed : S → List ℕ} {spelling : FrontReading S}
+    {means : S → V}
     {at : FrontReading V} → ReadsFrontPrinted valid printed spelling → ReadsFrontAlike spelling means at
     → ReadsFronts (Prints valid printed means) at
-reads_front {printed = printed} {spelling} {means} law alike = record {
+front_reading_reads {printed = printed} {spelling} {means} law alike = record {
   gives = λ i rest v bytes e.
       let s = bind_ok (spelling i) _ (alike.same i ∙ e) in
       let end = ok_pair (means s.0.0) v s.0.1 rest s.2 in
@@ -116,29 +121,30 @@ written_prints {written = written} law v ok = (written v, law.back v, ok, refl)
 -- == What steps of reading give, and steps that are joined otherwise ==
 
 -- What a step gives: a value, and the bytes behind it; a pair; a list.
-abbrev pub meant : {S M : Type 0} → (S → M) → S → Result M ErrorKind
-meant means s = Ok (means s)
+abbrev pub ok_meant : {S M : Type 0} → (S → M) → S → Result M ErrorKind
+ok_meant means s = Ok (means s)
 
-abbrev pub meant_front : {S M : Type 0} → (S → M) → S × List ℕ → Result (M × List ℕ) ErrorKind
-meant_front means p = Ok (means p.0, p.1)
+abbrev pub ok_meant_front : {S M : Type 0} → (S → M) → S × List ℕ → Result (M × List ℕ) ErrorKind
+ok_meant_front means p = Ok (means p.0, p.1)
 
-abbrev pub paired : {A B : Type 0} → A → B → Result (A × B) ErrorKind
-paired a b = Ok (a, b)
+abbrev pub ok_paired : {A B : Type 0} → A → B → Result (A × B) ErrorKind
+ok_paired a b = Ok (a, b)
 
-abbrev pub paired_front : {A B : Type 0} → A → B × List ℕ → Result ((A × B) × List ℕ) ErrorKind
-paired_front a q = Ok ((a, q.0), q.1)
+abbrev pub ok_paired_front : {A B : Type 0} → A → B × List ℕ → Result ((A × B) × List ℕ) ErrorKind
+ok_paired_front a q = Ok ((a, q.0), q.1)
 
-abbrev pub both : {A B M N : Type 0} → (A → M) → (B → N) → A × B → M × N
-both f g p = (f p.0, g p.1)
+abbrev pub pair_map : {A B M N : Type 0} → (A → M) → (B → N) → A × B → M × N
+pair_map f g p = (f p.0, g p.1)
 
-abbrev pub listed : {A : Type 0} → A → List A → Result (List A) ErrorKind
-listed a rest = Ok (a ∷ rest)
+abbrev pub ok_listed : {A : Type 0} → A → List A → Result (List A) ErrorKind
+ok_listed a rest = Ok (a ∷ rest)
 
-abbrev pub present : {A : Type 0} → A × List ℕ → Result (Option A × List ℕ) ErrorKind
-present p = Ok (Some p.0, p.1)
+abbrev pub ok_present : {A : Type 0} → A × List ℕ → Result (Option A × List ℕ) ErrorKind
+ok_present p = Ok (Some p.0, p.1)
 
 -- Steps of reading, joined otherwise.
-pub joined : {A B C : Type 0} (r : Result A ErrorKind) (f : A → Result B ErrorKind) (g : B → Result C ErrorKind)
+pub bind_associative : {A B C : Type 0} (r : Result A ErrorKind) (f : A → Result B ErrorKind)
+    (g : B → Result C ErrorKind)
     → ((r >>= f) >>= g) ≡ (r >>= λ a. f a >>= g)
-joined (Ok a) f g = refl
-joined (Err k) f g = refl
+bind_associative (Ok a) f g = refl
+bind_associative (Err k) f g = refl

@@ -10,7 +10,7 @@ use Rattle.der_core.specs.IntegerReading.{integer_of, small_of}
 use Rattle.der_core.specs.Laws.Encodings.{tlv_relates}
 use Rattle.der_core.specs.Laws.Integer.{bytes_decide, canonical_same, contents_at_most_one, holds_canonical, integer_relates, one_byte}
 use Rattle.der_core.specs.Laws.Length.{length_grows, length_octets-only, length_octets-within}
-use Rattle.der_core.specs.Laws.Readings.{bind_ok, integer_reads, made_tells, ok_same, small_reads}
+use Rattle.der_core.specs.Laws.Readings.{bind_ok, integer_reads, made_tells, ok_injective, small_reads}
 use Rattle.der_core.specs.Printed.{Prints, ReadsAlike, ReadsPrinted, WritesShortest, number_contents, number_of}
 use Rattle.der_core.specs.Readings.{any_contents, octets_of_all, ◌>>=◌}
 use Rattle.der_core.specs.Tlv.{Tlv}
@@ -42,17 +42,18 @@ number_octets x p =
     (octets_number (number_from_digits 256 x))
 
 -- INTEGER
-contents_are : (n : ℕ) → IntegerContents (octets n) (number_contents n)
-contents_are n = integer_relates (octets n) (octets_canonical n)
+number_contents_hold : (n : ℕ) → IntegerContents (octets n) (number_contents n)
+number_contents_hold n = integer_relates (octets n) (octets_canonical n)
 
-contents_is : (x c : List ℕ) (n : ℕ) → number_from_digits 256 x ≡ n → IntegerContents x c → c ≡ number_contents n
-contents_is x c n e p =
+number_contents_only : (x c : List ℕ) (n : ℕ) → number_from_digits 256 x ≡ n → IntegerContents x c
+    → c ≡ number_contents n
+number_contents_only x c n e p =
     let same : octets n ≡ x = ap octets (sym e) ∙ number_octets x p.0 in
     contents_at_most_one x c (integer_contents x) p (integer_relates x p.0) ∙ ap integer_contents (sym same)
 
 -- What is written of a number whose octets are held; numbers are equal exactly if their octets are; they are encoded.
-pub contents_as : (x : List ℕ) → IsCanonical x → number_contents (number_from_digits 256 x) ≡ integer_contents x
-contents_as x p = ap integer_contents (number_octets x p)
+pub number_contents_as : (x : List ℕ) → IsCanonical x → number_contents (number_from_digits 256 x) ≡ integer_contents x
+number_contents_as x p = ap integer_contents (number_octets x p)
 
 pub small_contents_as : (n : ℕ) → n < 256 → number_contents n ≡ integer_contents (n ∷ [])
 small_contents_as n less = ap integer_contents (one_byte n (octets n) less (octets_canonical n) (octets_number n))
@@ -76,10 +77,10 @@ pub number_law : ReadsPrinted (λ _. Unit {0}) number_contents number_of
 number_law = record {
   gives = λ c n bytes e.
       let s = bind_ok (integer_of c) (λ x. Ok (number_from_digits 256 x)) e in
-      (tt, contents_is s.0 c n (ok_same s.2) (integer_reads.gives c s.0 bytes s.1));
+      (tt, number_contents_only s.0 c n (ok_injective s.2) (integer_reads.gives c s.0 bytes s.1));
   takes = λ n ok few.
       ap (λ r. r >>= λ x. Ok (number_from_digits 256 x))
-      (integer_reads.takes (number_contents n) (octets n) few (contents_are n))
+      (integer_reads.takes (number_contents n) (octets n) few (number_contents_hold n))
       ∙ ap (λ m. Ok m) (octets_number n);
   tells = λ c k e. made_tells (number_from_digits 256) (integer_of c) (integer_reads.tells c k) e;
 }
@@ -88,16 +89,16 @@ pub small_law : ReadsPrinted (λ n. n < 256) number_contents small_of
 small_law = record {
   gives = λ c n bytes e.
       let (less, x, number, p) : SmallContents n c = small_reads.gives c n bytes e in
-      (less, contents_is x c n number p);
+      (less, number_contents_only x c n number p);
   takes = λ n less few.
-      small_reads.takes (number_contents n) n few (less, octets n, octets_number n, contents_are n);
+      small_reads.takes (number_contents n) n few (less, octets n, octets_number n, number_contents_hold n);
   tells = small_reads.tells;
 }
 
 -- OCTET STRING
 pub octets_law : ReadsPrinted AreBytes (λ o. o) octets_of_all
 octets_law = record {
-  gives = λ c o bytes e. let same : c ≡ o = ok_same e in (subst AreBytes same bytes, same);
+  gives = λ c o bytes e. let same : c ≡ o = ok_injective e in (subst AreBytes same bytes, same);
   takes = λ o ok few. refl;
   tells = λ c k e. cc;
 }

@@ -4,19 +4,19 @@ use Rattle.std.proofs.lemmas.Bool.Decides.{nat_tests}
 use Rattle.der_core.specs.declared.error.ErrorKind.{ErrorKind}
 use Rattle.der_core.specs.declared.tag.Tag.{Tag}
 use Rattle.der_core.specs.Encodings.{AreBytes}
-use Rattle.der_core.specs.Laws.LengthReading.{ok_pair, is_value}
+use Rattle.der_core.specs.Laws.LengthReading.{ok_pair, value_error_tells}
 use Rattle.der_core.specs.Laws.OptionalReadings.{optional_is, optional_tells}
 use Rattle.der_core.specs.Laws.Printed.Rows.{alone_law, tagged_law, valid_as, such_law}
-use Rattle.der_core.specs.Laws.Readings.{back_bytes, bind_err, bind_ok, ended_is, ended_tells, made_tells, ok_same}
+use Rattle.der_core.specs.Laws.Readings.{back_bytes, bind_err, bind_ok, ended_is, ended_tells, made_tells, ok_injective}
 use Rattle.der_core.specs.Length.{limit}
 use Rattle.der_core.specs.Printed.{ReadsFrontPrinted, ReadsPrinted, ReadsAlike, Starts, WritesShortest, number_contents, row}
 use Rattle.der_core.specs.Reading.{TellsOfBytes}
-use Rattle.der_core.specs.Readings.{FrontReading, Reading, alone, chain, ended, front_done, front_parts, is_next, last, optional as optional_front, parts, tagged, ◌>>=◌, ReadsFronts, in_range, ranged, unless}
+use Rattle.der_core.specs.Readings.{FrontReading, Reading, alone, chain, ended, front_done, front_parts, is_next, last, optional_front, parts, tagged, ◌>>=◌, ReadsFronts, in_range, ranged, unless}
 use Rattle.standard.specs.Statement.{IfPresent, optional, tlv}
 use Rattle.der_core.specs.declared.error.ErrorKind.TheVariants.{Value}
 use Rattle.der_core.specs.Laws.Printed.Leaves.{small_law}
 use Rattle.der_core.specs.Optional.{Optional}
-use Rattle.der_core.specs.Tags.{integer}
+use Rattle.der_core.specs.Tags.{integer_tag}
 
 -- A last part that is there or not: whatever is left is read as the part.
 module _ {V : Type 0} {Is : V → Type 0} {printed : V → List ℕ} {at : FrontReading V}
@@ -26,11 +26,11 @@ module _ {V : Type 0} {Is : V → Type 0} {printed : V → List ℕ} {at : Front
     where
       gives : (c : List ℕ) (v : Option V) → AreBytes c → last at c ≡ Ok v → IfPresent Is v × (c ≡ optional printed v)
       gives [] v b e =
-          subst (λ (u : Option V). IfPresent Is u × ([] ≡ optional printed u)) (ok_same e) (tt, refl)
+          subst (λ (u : Option V). IfPresent Is u × ([] ≡ optional printed u)) (ok_injective e) (tt, refl)
       gives (x ∷ xs) v b e =
           let s = bind_ok (alone at (x ∷ xs)) _ e in
           let h = (alone_law law).gives (x ∷ xs) s.0 b s.1 in
-          subst (λ (u : Option V). IfPresent Is u × ((x ∷ xs) ≡ optional printed u)) (ok_same s.2) h
+          subst (λ (u : Option V). IfPresent Is u × ((x ∷ xs) ≡ optional printed u)) (ok_injective s.2) h
 
       there : (v : V) (c : List ℕ) → c ≡ printed v → Is v → length c ≤ limit → last at c ≡ Ok (Some v)
       there v [] e ok few = absurd (omega (arith, some v, ap length e))
@@ -53,11 +53,11 @@ module _ {A B : Type 0} {IsA : A → Type 0} {IsB : B → Type 0} {first : A →
     (t : ℕ)
     (begins : (v : A) (x : List ℕ) → is_next t (first v ++ x) ≡ true)
     (other : (w : B) → IsB w → is_next t (rest w) ≡ false) where
-  abbrev Printed : Option A × B → List ℕ
-  Printed v = optional first v.0 ++ rest v.1
+  abbrev optional_row_printed : Option A × B → List ℕ
+  optional_row_printed v = optional first v.0 ++ rest v.1
 
-  abbrev Are : Option A × B → Type 0
-  Are v = IfPresent IsA v.0 × IsB v.1
+  abbrev OptionalRowIsValid : Option A × B → Type 0
+  OptionalRowIsValid v = IfPresent IsA v.0 × IsB v.1
 
   front_takes : (v : Option A) (w : B) → IfPresent IsA v → IsB w → length (optional first v ++ rest w) ≤ limit
       → optional_front t at (optional first v ++ rest w) ≡ Ok (v, rest w)
@@ -71,7 +71,7 @@ module _ {A B : Type 0} {IsA : A → Type 0} {IsB : B → Type 0} {first : A →
     gives = λ c v bytes e.
         let s = bind_ok (optional_front t at c) _ e in
         let u = bind_ok (read s.0.1) _ s.2 in
-        subst (λ (w : Option A × B). Are w × (c ≡ Printed w)) (ok_same u.2)
+        subst (λ (w : Option A × B). OptionalRowIsValid w × (c ≡ optional_row_printed w)) (ok_injective u.2)
         (⊎_elim
         (λ n.
         let h = b.gives s.0.1 u.0 (subst AreBytes n.1 bytes) u.1 in
@@ -206,9 +206,9 @@ IsInRange least most n = ((least ≤ n) × (n ≤ most)) × (n < 256)
 
 pub ranged_law : (least most : ℕ) → ReadsPrinted (IsInRange least most) number_contents (ranged least most)
 ranged_law least most =
-    such_law small_law (λ n. (least ≤ n) × (n ≤ most)) (in_range least most) (Value integer)
+    such_law small_law (λ n. (least ≤ n) × (n ≤ most)) (in_range least most) (Value integer_tag)
     (λ n e. (grind (arith, nat_tests, e), grind (arith, nat_tests, e)))
-    (λ n ok. grind (arith, nat_tests, ok.0, ok.1)) (is_value refl)
+    (λ n ok. grind (arith, nat_tests, ok.0, ok.1)) (value_error_tells refl)
 
 -- == Rows whose tags may clash ==
 -- Where a row may begin with the tag of the part in front, the two can't be told apart, so nothing is read or written.
@@ -252,7 +252,7 @@ module _ {A B C : Type 0} {IsA : A → Type 0} {IsB : B × C → Type 0} {first 
       (row (optional (λ x. tlv tag.octet (first x))) (row second rest))
       (parts (optional_front tag.octet (tagged tag inner)) (unless (starts.with tag.octet) (Value tag) read))
   optional_part_law =
-      optional_row_law (tagged_law one tag) (unless_law (starts.with tag.octet) (Value tag) (is_value refl) more) tag.octet
+      optional_row_law (tagged_law one tag) (unless_law (starts.with tag.octet) (Value tag) (value_error_tells refl) more) tag.octet
       (λ s c. grind (arith, nat_tests)) (λ s ok. starts.only s.0 (rest s.1) tag.octet ok.0)
 
 -- What is read of the part is one encoding or nothing.

@@ -44,17 +44,17 @@ module _ {V W : Type 0} {Is : V → Type 0} {E : V → List ℕ → Type 0} {Val
   encodes_stated v old new (Some n) e = (e.0, shortest_stated v (take n new) e.1, e.2)
   encodes_stated v old new None e = (e.0, λ bytes p. e.1 bytes ((law.same v bytes).1 p))
 
-  unwritten_for : (v : V) (room : ℕ) (k : EncodeError) → Unwritten Is E v room k → Unwritten Valid F (to v) room k
-  unwritten_for v room no_encoding h = λ ok. h ((law.valid v).1 ok)
-  unwritten_for v room too_long h = ((law.valid v).0 h.0, λ bytes p. h.1 bytes ((law.same v bytes).1 p))
-  unwritten_for v room no_room h = (h.0, shortest_stated v h.0 h.1, h.2)
-  unwritten_for v room another h = h
+  unwritten_stated_by : (v : V) (room : ℕ) (k : EncodeError) → Unwritten Is E v room k → Unwritten Valid F (to v) room k
+  unwritten_stated_by v room no_encoding h = λ ok. h ((law.valid v).1 ok)
+  unwritten_stated_by v room too_long h = ((law.valid v).0 h.0, λ bytes p. h.1 bytes ((law.same v bytes).1 p))
+  unwritten_stated_by v room no_room h = (h.0, shortest_stated v h.0 h.1, h.2)
+  unwritten_stated_by v room another h = h
 
   pub unwritten_stated : {X : Type 0} (v : V) (room : ℕ) (r : Result X Error)
       → IfErr r (λ e. Unwritten Is E v room (encode_error e.kind))
       → IfErr r (λ e. Unwritten Valid F (to v) room (encode_error e.kind))
   unwritten_stated v room (Ok x) h = tt
-  unwritten_stated v room (Err e) h = unwritten_for v room (encode_error e.kind) h
+  unwritten_stated v room (Err e) h = unwritten_stated_by v room (encode_error e.kind) h
 
 -- A type whose values have one spelling each, and all an encoding.
 module _ {V : Type 0} (valid : V → Type 0) (printed : V → List ℕ) where

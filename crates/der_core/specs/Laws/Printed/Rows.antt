@@ -6,11 +6,11 @@ use Rattle.der_core.specs.declared.error.ErrorKind.{ErrorKind}
 use Rattle.der_core.specs.declared.error.ErrorKind.TheVariants.{Overflow, Value}
 use Rattle.der_core.specs.declared.tag.Tag.{Tag}
 use Rattle.der_core.specs.Encodings.{AreBytes}
-use Rattle.der_core.specs.Laws.LengthReading.{chosen, is_value}
+use Rattle.der_core.specs.Laws.LengthReading.{cond_cases, value_error_tells}
 use Rattle.der_core.specs.Laws.Printed.Leaves.{small_law, tlv_is, tlv_made}
-use Rattle.der_core.specs.Laws.Readings.{back_bytes, bind_err, bind_ok, ended_is, ended_tells, made_tells, ok_same}
+use Rattle.der_core.specs.Laws.Readings.{back_bytes, bind_err, bind_ok, ended_is, ended_tells, made_tells, ok_injective}
 use Rattle.der_core.specs.Laws.TaggedReadings.{tagged_reads}
-use Rattle.der_core.specs.Tags.{integer}
+use Rattle.der_core.specs.Tags.{integer_tag}
 use Rattle.der_core.specs.Length.{limit}
 use Rattle.der_core.specs.Printed.{number_contents, PrintsOne, ReadsFrontPrinted, ReadsPrinted, Spells, row, value_in}
 use Rattle.der_core.specs.Reading.{TellsOfBytes}
@@ -44,7 +44,7 @@ module _ {A B : Type 0} {IsA : A → Type 0} {IsB : B → Type 0} {first : A →
         let u = bind_ok (read s.0.1) _ s.2 in
         let g = a.gives c s.0.1 s.0.0 bytes s.1 in
         let h = b.gives s.0.1 u.0 (back_bytes (first s.0.0) s.0.1 (subst AreBytes g.1 bytes)) u.1 in
-        subst (λ (w : A × B). (IsA w.0 × IsB w.1) × (c ≡ row first rest w)) (ok_same u.2)
+        subst (λ (w : A × B). (IsA w.0 × IsB w.1) × (c ≡ row first rest w)) (ok_injective u.2)
         ((g.0, h.0), g.1 ∙ ap (λ z. first s.0.0 ++ z) h.1);
     takes = λ v ok few.
         ap (λ r. r >>= λ p. read p.1 >>= λ y. let q : A × B = (p.0, y) in Ok q) (a.takes v.0 (rest v.1) ok.0 few)
@@ -62,7 +62,7 @@ module _ {A V : Type 0} {Is : A → Type 0} {printed : A → List ℕ} {read : R
   made_law = record {
     gives = λ c v bytes e.
         let s = bind_ok (read c) (λ x. Ok (make x)) e in
-        subst (λ y. Is y × (c ≡ printed y)) (sym (there s.0) ∙ ap back (ok_same s.2)) (law.gives c s.0 bytes s.1);
+        subst (λ y. Is y × (c ≡ printed y)) (sym (there s.0) ∙ ap back (ok_injective s.2)) (law.gives c s.0 bytes s.1);
     takes = λ v ok few. ap (λ r. r >>= λ x. Ok (make x)) (law.takes (back v) ok few) ∙ ap (λ w. Ok w) (again v);
     tells = λ c k e. made_tells make (read c) (law.tells c k) e;
   }
@@ -78,15 +78,15 @@ module _ {V : Type 0} {Is : V → Type 0} {printed : V → List ℕ} {read : Rea
         ⊎_elim
         (λ w.
         let h = law.gives c s.0 b s.1 in
-        subst (λ u. (Passes u × Is u) × (c ≡ printed u)) (ok_same w.1) ((to s.0 w.0, h.0), h.1))
-        (λ w. let never = w.1 in cc) (chosen (test s.0) _ _ _ s.2);
+        subst (λ u. (Passes u × Is u) × (c ≡ printed u)) (ok_injective w.1) ((to s.0 w.0, h.0), h.1))
+        (λ w. let never = w.1 in cc) (cond_cases (test s.0) _ _ _ s.2);
     takes = λ v ok few.
         let passed : test v ≡ true = from v ok.0 in
         ap (λ r. r >>= λ v. if test v then Ok v else Err failure) (law.takes v ok.1 few) ∙ rw passed refl;
     tells = λ c k e.
         ⊎_elim (law.tells c k)
         (λ s. ⊎_elim (λ w. let never = w.1 in cc) (λ w. let same : failure ≡ k = let q = w.1 in cc in rw same at told)
-        (chosen (test s.0) _ _ _ s.2)) (bind_err (read c) _ e);
+        (cond_cases (test s.0) _ _ _ s.2)) (bind_err (read c) _ e);
   }
 
 -- One value that has to be there, which isn't kept.
@@ -110,8 +110,9 @@ module _ {V : Type 0} {Is : V → Type 0} {printed : V → List ℕ} {read : Rea
 
 pub expected_law : (n : ℕ) → ReadsPrinted (λ _. n < 256) (λ _. number_contents n) (expected n)
 expected_law n =
-    fixed_law small_law n (λ v. v == n) (Value integer) (λ v e. grind (arith, nat_tests, e)) (grind (arith, nat_tests))
-    (is_value refl)
+    fixed_law small_law n (λ v. v == n) (Value integer_tag) (λ v e. grind (arith, nat_tests, e))
+    (grind (arith, nat_tests))
+    (value_error_tells refl)
 
 -- A tag in front.
 module _ {V : Type 0} {Is : V → Type 0} {printed : V → List ℕ} {read : Reading V} (law : ReadsPrinted Is printed read)
@@ -156,16 +157,16 @@ module _ {S : Type 0} {valid : S → Type 0} {printed : S → List ℕ} {at : Fr
   }
 
   -- A spelling, as a value that encodes as itself.
-  abbrev Encodes : S → List ℕ → Type 0
-  Encodes s bytes = (length bytes ≤ limit) × valid s × (bytes ≡ printed s)
+  abbrev PrintsWithinLimit : S → List ℕ → Type 0
+  PrintsWithinLimit s bytes = (length bytes ≤ limit) × valid s × (bytes ≡ printed s)
 
-  pub whole_takes : (s : S) (bytes : List ℕ) → Encodes s bytes → whole at bytes ≡ Ok s
+  pub whole_takes : (s : S) (bytes : List ℕ) → PrintsWithinLimit s bytes → whole at bytes ≡ Ok s
   whole_takes s bytes (few, ok, is) =
       let t : nat_lt limit (length bytes) ≡ false = grind (arith, nat_tests) in
       ap (λ b. if b then Err Overflow else alone at bytes) t ∙ ap (alone at) is
       ∙ alone_law.takes s ok (omega (arith, few, ap length is))
 
-  whole_gives : (s : S) (bytes : List ℕ) → AreBytes bytes → whole at bytes ≡ Ok s → Encodes s bytes
+  whole_gives : (s : S) (bytes : List ℕ) → AreBytes bytes → whole at bytes ≡ Ok s → PrintsWithinLimit s bytes
   whole_gives s bytes are was = elim (cases_lt limit (length bytes)) [
     | inl long ↦ let t : nat_lt limit (length bytes) ≡ true = grind (arith, nat_tests) in
         let never : ◌≡◌ {A = Result S ErrorKind} (Err Overflow) (Ok s) =
@@ -177,12 +178,12 @@ module _ {S : Type 0} {valid : S → Type 0} {printed : S → List ℕ} {at : Fr
         (within, h.0, h.1)
   ]
 
-  pub whole_decodes : (bytes : List ℕ) → AreBytes bytes → Decodes Encodes bytes (value_in (whole at bytes))
+  pub whole_decodes : (bytes : List ℕ) → AreBytes bytes → Decodes PrintsWithinLimit bytes (value_in (whole at bytes))
   whole_decodes bytes are = go (whole at bytes) refl
     where
-      go : (r : Result S ErrorKind) → whole at bytes ≡ r → Decodes Encodes bytes (value_in r)
+      go : (r : Result S ErrorKind) → whole at bytes ≡ r → Decodes PrintsWithinLimit bytes (value_in r)
       go (Ok s) was =
-          (whole_gives s bytes are was, λ other p. ok_same (sym (whole_takes other bytes p) ∙ was))
+          (whole_gives s bytes are was, λ other p. ok_injective (sym (whole_takes other bytes p) ∙ was))
       go (Err k) was = λ s p. let never = sym (whole_takes s bytes p) ∙ was in cc
 
   -- What reading a whole slice is promised to give, of the values that spellings mean.
@@ -190,7 +191,8 @@ module _ {S : Type 0} {valid : S → Type 0} {printed : S → List ℕ} {at : Fr
       → Decodes (Spells valid printed means) bytes (option_map means (value_in (whole at bytes)))
   meant_decodes {V} means bytes are = go (value_in (whole at bytes)) (whole_decodes bytes are)
     where
-      go : (o : Option S) → Decodes Encodes bytes o → Decodes (Spells valid printed means) bytes (option_map means o)
+      go : (o : Option S) → Decodes PrintsWithinLimit bytes o
+          → Decodes (Spells valid printed means) bytes (option_map means o)
       go (Some s) p =
           ((p.0.0, (s, refl, p.0.1, p.0.2)), λ other q. sym q.1.1 ∙ ap means (p.1 q.1.0 (q.0, q.1.2, q.1.3)))
       go None p = λ v q. p q.1.0 (q.0, q.1.2, q.1.3)

@@ -7,8 +7,9 @@ use Rattle.der_core.specs.Printed.{Spells, WritesShortest, row}
 use Rattle.standard.specs.Statement.{IfPresent, IsShortest, length_octets, optional, tlv}
 
 -- A type whose values have one spelling each.
-pub one_spelling : {V : Type 0} (Is : V → Type 0) (printed : V → List ℕ) → WritesShortest Is printed (λ v. v) (λ v. v)
-one_spelling Is printed = record { back = λ v. refl; valid = λ s ok. ok; least = λ s ok few. inl refl }
+pub one_spelling_shortest : {V : Type 0} (Is : V → Type 0) (printed : V → List ℕ)
+    → WritesShortest Is printed (λ v. v) (λ v. v)
+one_spelling_shortest Is printed = record { back = λ v. refl; valid = λ s ok. ok; least = λ s ok few. inl refl }
 
 module _ {S V T W : Type 0} {IsA : S → Type 0} {IsB : T → Type 0} {first : S → List ℕ} {rest : T → List ℕ}
     {meansA : S → V} {meansB : T → W} {writtenA : V → S} {writtenB : W → T}
@@ -56,9 +57,9 @@ module _ {S V : Type 0} {Is : S → Type 0} {printed : S → List ℕ} {means : 
   }
 
   -- What a writer promises of what it wrote.
-  pub shortest_is : (v : V) → Is (written v) → length (printed (written v)) ≤ limit
+  pub written_is_shortest : (v : V) → Is (written v) → length (printed (written v)) ≤ limit
       → IsShortest (Spells Is printed means) v (printed (written v))
-  shortest_is v ok few = (
+  written_is_shortest v ok few = (
     (few, (written v, law.back v, ok, refl)),
     λ other q.
         let (within, (s, e, valid, is)) = q in
@@ -128,11 +129,11 @@ module _ {S V : Type 0} {Is : S → Type 0} {printed : S → List ℕ} {means : 
 -- A list.
 module _ {S V : Type 0} {Is : S → Type 0} {printed : S → List ℕ} {means : S → V} {written : V → S}
     (law : WritesShortest Is printed means written) where
-  abbrev Printed : List S → List ℕ
-  Printed ss = concat (map printed ss)
+  abbrev list_printed : List S → List ℕ
+  list_printed ss = concat (map printed ss)
 
-  abbrev Least : List S → List S → Type 0
-  Least ss other = (ss ≡ other) ⊎ (length (Printed other) < length (Printed ss))
+  abbrev ListIsLeast : List S → List S → Type 0
+  ListIsLeast ss other = (ss ≡ other) ⊎ (length (list_printed other) < length (list_printed ss))
 
   pub list_shortest : WritesShortest (AllByRecursion Is) (λ ss. concat (map printed ss)) (map means) (map written)
   list_shortest = record { back = back; valid = valid; least = least }
@@ -145,19 +146,19 @@ module _ {S V : Type 0} {Is : S → Type 0} {printed : S → List ℕ} {means : 
       valid [] ok = tt
       valid (s ∷ ss) ok = (law.valid s ok.0, valid ss ok.1)
 
-      least : (ss : List S) → AllByRecursion Is ss → length (Printed ss) ≤ limit
-          → Least ss (map written (map means ss))
+      least : (ss : List S) → AllByRecursion Is ss → length (list_printed ss) ≤ limit
+          → ListIsLeast ss (map written (map means ss))
       least [] ok few = inl refl
       least (s ∷ ss) ok few =
-          let both = length-append (printed s) (Printed ss) in
-          let new = length-append (printed (written (means s))) (Printed (map written (map means ss))) in
+          let both = length-append (printed s) (list_printed ss) in
+          let new = length-append (printed (written (means s))) (list_printed (map written (map means ss))) in
           elim (law.least s ok.0 (omega (arith, few, both))) [
             | inl e ↦ elim (least ss ok.1 (omega (arith, few, both))) [
               | inl f ↦ inl (λ i. e i ∷ f i)
               | inr m ↦ inr (omega (arith, both, new, m, ap (λ x. length (printed x)) e))
             ]
             | inr l ↦ elim (least ss ok.1 (omega (arith, few, both))) [
-              | inl f ↦ inr (omega (arith, both, new, l, ap (λ x. length (Printed x)) f))
+              | inl f ↦ inr (omega (arith, both, new, l, ap (λ x. length (list_printed x)) f))
               | inr m ↦ inr (omega (arith, both, new, l, m))
             ]
           ]

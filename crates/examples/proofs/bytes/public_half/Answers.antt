@@ -11,30 +11,30 @@ use Rattle.examples.proofs.bytes.public_half.Goals as goal
 -- What is said of a key with the numbers of the public half is said of that half.
 module _ (key : PrivateKey) (half : PublicKey) (is : half ≡ public_half_of key) (encoding : List ℕ)
     (decodes : Decodes PrivateKeyEncoding encoding (Some key)) where
-  of_half : (result : Result (DocumentOf Open) Error)
+  half_decodes : (result : Result (DocumentOf Open) Error)
       → IfOk result (λ document. IsShortest PublicKeyEncoding half (encoding_of document))
       → IfOk result (λ document. (other : PrivateKey) × Decodes PrivateKeyEncoding encoding (Some other)
       × IsShortest PublicKeyEncoding (public_half_of other) (encoding_of document))
-  of_half (Ok document) shortest =
+  half_decodes (Ok document) shortest =
       (key, decodes, subst (λ one. IsShortest PublicKeyEncoding one (encoding_of document)) is shortest)
-  of_half (Err e) shortest = tt
+  half_decodes (Err e) shortest = tt
 
-  withheld : (Before : Error → Type 0) (result : Result (DocumentOf Open) Error)
+  half_withheld : (Before : Error → Type 0) (result : Result (DocumentOf Open) Error)
       → IfErr result (Withholds (λ _. Unit {0}) PublicKeyEncoding half)
       → IfErr result (λ e. Before e ⊎ ((other : PrivateKey) × Decodes PrivateKeyEncoding encoding (Some other)
       × Withholds (λ _. Unit {0}) PublicKeyEncoding (public_half_of other) e))
-  withheld Before (Ok document) why = tt
-  withheld Before (Err e) why =
+  half_withheld Before (Ok document) why = tt
+  half_withheld Before (Err e) why =
       inr (key, decodes, subst (λ one. Withholds (λ _. Unit {0}) PublicKeyEncoding one e) is why)
 
 pub returns-clause-ok : goal.returns-clause-ok
 returns-clause-ok c =
-    of_half (held_private_key bytes_of c.in_ok-key.key) (held_public_key bytes_of c.public_key.result)
+    half_decodes (held_private_key bytes_of c.in_ok-key.key) (held_public_key bytes_of c.public_key.result)
     c.public_key.ensures c.args.encoding.now c.in_ok-key.ensures.ok c.to_pkcs1_der.result
     c.to_pkcs1_der.ensures.encoding
 
 pub returns-clause-err : goal.returns-clause-err
 returns-clause-err c =
-    withheld (held_private_key bytes_of c.in_ok-key.key) (held_public_key bytes_of c.public_key.result)
+    half_withheld (held_private_key bytes_of c.in_ok-key.key) (held_public_key bytes_of c.public_key.result)
     c.public_key.ensures c.args.encoding.now c.in_ok-key.ensures.ok _ c.to_pkcs1_der.result
     c.to_pkcs1_der.ensures.err

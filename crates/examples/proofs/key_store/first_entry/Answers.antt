@@ -1,5 +1,5 @@
 use Rattle.std.proofs.Common.{arith}
-use Rattle.examples.proofs.KeyStore.{in_front, no_key}
+use Rattle.examples.proofs.KeyStore.{in_front, no_entry_begins}
 use Rattle.examples.proofs.key_store.first_entry.Goals as goal
 
 pub returns-in-Ok-clause-some : goal.returns-in-Ok-clause-some
@@ -16,4 +16,4 @@ returns-in-Err-clause-none c =
     let front =
     in_front c.args.store.now cut.encoding.now cut.behind.now c.from_be_bytes-len.result c.in-len4-up.len_at_least
     (λ i. omega (arith, c.type_inv.store i)) c.from_be_bytes-len.ensures cut.ensures.cases in
-    λ _. no_key c.args.store.now cut.encoding.now cut.behind.now front c.in-Err.ensures.read
+    λ _. no_entry_begins c.args.store.now cut.encoding.now cut.behind.now front c.in-Err.ensures.read

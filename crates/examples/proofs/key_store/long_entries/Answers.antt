@@ -1,6 +1,6 @@
 use Rattle.std.proofs.Common.{◌≡◌, ◌++◌, ◌-◌, ◌∙◌, inr, length, refl, rules, subst, sym, take}
 use Rattle.pkcs1.specs.Words.{held_view}
-use Rattle.examples.proofs.KeyStore.{Walked, ended, none_left, refused, some_left, walked_long, walked_short}
+use Rattle.examples.proofs.KeyStore.{Walked, none_left, refused, some_left, walk_ends, walked_long, walked_short}
 use Rattle.examples.proofs.key_store.long_entries.Goals as goal
 
 pub returns-in-None-clause-err : goal.returns-in-None-clause-err
@@ -30,4 +30,4 @@ loop-rest-preserved c =
 pub returns-clause-ok : goal.returns-clause-ok
 returns-clause-ok c =
     let none = none_left c.is_empty.result (length c.loop-rest.rest.now) c.loop-rest-test.false c.is_empty.ensures in
-    ended c.args.store.now c.loop-rest.rest.now c.loop-rest.kept.items none c.loop-rest.invariant
+    walk_ends c.args.store.now c.loop-rest.rest.now c.loop-rest.kept.items none c.loop-rest.invariant

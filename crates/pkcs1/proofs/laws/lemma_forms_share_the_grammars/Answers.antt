@@ -1,5 +1,5 @@
 use Rattle.pkcs1_params.specs.Words.{oaep_record, pss_record}
-use Rattle.spki_core.proofs.Fielded.{record_spelled}
+use Rattle.spki_core.proofs.RecordEncodings.{record_spelled}
 use Rattle.pkcs1.specs.Words.{private_as_stated, public_as_stated}
 use Rattle.pkcs1.proofs.laws.lemma_forms_share_the_grammars.Goals as goal
 

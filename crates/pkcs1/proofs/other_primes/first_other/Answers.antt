@@ -1,15 +1,15 @@
 use Rattle.std.proofs.Common.{◌∙◌, Ok, ap, arith, sym}
 use Rattle.der_core.specs.Words.{err_from_is_err_and, are_bytes, bytes_of}
-use Rattle.der_core.proofs.ReadSteps.{all_front, front_errs}
+use Rattle.der_core.proofs.ReadSteps.{front_errs, front_of_all}
 use Rattle.pkcs1.specs.Words.{number_in, next_prime, other_of}
-use Rattle.pkcs1.proofs.OtherPrimesHeld.{next_read}
+use Rattle.pkcs1.proofs.OtherPrimesHeld.{next_prime_read}
 use Rattle.pkcs1.proofs.other_primes.first_other.Goals as goal
 
 pub returns-clause-ok : goal.returns-clause-ok
 returns-clause-ok c =
     let value = other_of (number_in bytes_of) in
-    let p = next_read value c.in_ok-other.other _ _ _ c.in_ok-reader.ensures.ok c.in_ok-other.ensures in
-    let rest = all_front _ _ _ _ _ p.2 c.remaining_len.ensures c.in_ok-rest.ensures.1 in
+    let p = next_prime_read value c.in_ok-other.other _ _ _ c.in_ok-reader.ensures.ok c.in_ok-other.ensures in
+    let rest = front_of_all _ _ _ _ _ p.2 c.remaining_len.ensures c.in_ok-rest.ensures.1 in
     p.1 ∙ ap (λ r. Ok (value c.in_ok-other.other, r)) (sym rest)
 
 pub returns-in_err-other-clause-err : goal.returns-in_err-other-clause-err

@@ -1,9 +1,9 @@
 use Rattle.std.proofs.Common.{length}
-use Rattle.pkcs1.specs.Words.{AreCounted}
+use Rattle.pkcs1.specs.Words.{PrimesAreCounted}
 use Rattle.pkcs1.proofs.other_primes.quick_count.Given as goal
 
 abbrev pub invariant-loop-rest : goal.invariant-loop-rest
-invariant-loop-rest l = AreCounted l.bytes l.rest l.count
+invariant-loop-rest l = PrimesAreCounted l.bytes l.rest l.count
 
 abbrev pub decreases-loop-rest : goal.decreases-loop-rest
 decreases-loop-rest l = length l.rest

@@ -1,32 +1,33 @@
 use Rattle.der_core.specs.Words.{encoding_of, own_bytes_of}
 use Rattle.pkcs1.specs.Words.{OwnedPublicKeyAllocates, held_public_key, rsa_public_key}
-use Rattle.pkcs1.proofs.KeyReads.{public_one}
-use Rattle.pkcs1.proofs.KeysWritten.{comes_out, if_ok, memory_wanted, rejects}
+use Rattle.pkcs1.proofs.KeyReads.{public_key_at_most_one}
+use Rattle.pkcs1.proofs.KeysWritten.{memory_wanted, ok_result_holds, shortest_comes_out, withheld_is_memory}
 use Rattle.pkcs1.proofs.reencode.reencode_public_key.Goals as goal
 
 pub returns-clause-same : goal.returns-clause-same
 returns-clause-same c =
     let read = c.in_ok-from_pkcs1_der in
     let key = held_public_key own_bytes_of read.field-0 in
-    comes_out (λ _. Unit {0}) public_one key tt c.args.bytes.now read.ensures.ok.0 encoding_of c.to_pkcs1_der.result
+    shortest_comes_out (λ _. Unit {0}) public_key_at_most_one key tt c.args.bytes.now read.ensures.ok.0 encoding_of
+    c.to_pkcs1_der.result
     c.to_pkcs1_der.ensures.encoding
 
 pub returns-clause-sentence : goal.returns-clause-sentence
 returns-clause-sentence c =
     let read = c.in_ok-from_pkcs1_der in
-    if_ok c.to_pkcs1_der.result (held_public_key own_bytes_of read.field-0, read.ensures.ok.0)
+    ok_result_holds c.to_pkcs1_der.result (held_public_key own_bytes_of read.field-0, read.ensures.ok.0)
 
 pub returns-clause-err : goal.returns-clause-err
 returns-clause-err c =
     let read = c.in_ok-from_pkcs1_der in
     let key = held_public_key own_bytes_of read.field-0 in
-    rejects (λ _. Unit {0}) public_one key tt c.args.bytes.now read.ensures.ok.0 encoding_of
+    withheld_is_memory (λ _. Unit {0}) public_key_at_most_one key tt c.args.bytes.now read.ensures.ok.0 encoding_of
     (OwnedPublicKeyAllocates c.args.bytes.now) c.to_pkcs1_der.result c.to_pkcs1_der.ensures.err
 
 pub returns-clause-exact : goal.returns-clause-exact
 returns-clause-exact c =
     let read = c.in_ok-from_pkcs1_der in
     let key = held_public_key own_bytes_of read.field-0 in
-    memory_wanted (λ _. Unit {0}) public_one key tt c.args.bytes.now read.ensures.ok.0 encoding_of
+    memory_wanted (λ _. Unit {0}) public_key_at_most_one key tt c.args.bytes.now read.ensures.ok.0 encoding_of
     (OwnedPublicKeyAllocates c.args.bytes.now) rsa_public_key read.ensures.exact c.to_pkcs1_der.result
     c.to_pkcs1_der.ensures.encoding c.to_pkcs1_der.ensures.err

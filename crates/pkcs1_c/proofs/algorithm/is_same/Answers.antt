@@ -3,12 +3,12 @@ use Rattle.der_core.specs.Words.{nat_tests}
 use Rattle.spki_core.specs.Words.{upto}
 use Rattle.pkcs1_c.proofs.algorithm.is_same.Goals as goal
 
-rebuilt : (l : List ℕ) → l ≡ upto (length l) (slice_index l)
-rebuilt [] = refl
-rebuilt (x ∷ xs) = ap (λ ys. x ∷ ys) (rebuilt xs)
+list_upto : (l : List ℕ) → l ≡ upto (length l) (slice_index l)
+list_upto [] = refl
+list_upto (x ∷ xs) = ap (λ ys. x ∷ ys) (list_upto xs)
 
-nine : (l : List ℕ) → length l ≡ 9 → l ≡ upto 9 (slice_index l)
-nine l is = rebuilt l ∙ ap (λ n. upto n (slice_index l)) is
+nine_octets_upto : (l : List ℕ) → length l ≡ 9 → l ≡ upto 9 (slice_index l)
+nine_octets_upto l is = list_upto l ∙ ap (λ n. upto n (slice_index l)) is
 
 abbrev Alike : (ℕ → ℕ) → (ℕ → ℕ) → Bool
 Alike f g =
@@ -27,6 +27,6 @@ returns-in-len9-other c =
     let b = c.args.other.now in
     let first : length a ≡ 9 = omega (arith, c.in-len9.len_at_least, c.in-len9.len_below) in
     let second : length b ≡ 9 = omega (arith, c.in-len9-other.len_at_least, c.in-len9-other.len_below) in (
-      λ is. nine a first ∙ alike_same (slice_index a) (slice_index b) is ∙ sym (nine b second),
+      λ is. nine_octets_upto a first ∙ alike_same (slice_index a) (slice_index b) is ∙ sym (nine_octets_upto b second),
       λ same. subst (λ l. Alike (slice_index a) (slice_index l) ≡ true) same (alike_itself (slice_index a)),
     )

@@ -3,12 +3,12 @@ use Rattle.pkcs1.specs.Words.{held_view}
 use Rattle.pkcs8_core.specs.Words.{rsa_private_key_info}
 use Rattle.standard.specs.Statement.{Container, ContainerEncoding, Decodes, PrivateKeyEncoding}
 use Rattle.pkcs1_c.proofs.Containers.{contained_keys_tell}
-use Rattle.pkcs1_c.proofs.Writes.{decodes_as, status_exact}
+use Rattle.pkcs1_c.proofs.Writes.{decodes_equal_value, status_exact}
 use Rattle.pkcs1_c.proofs.container.pkcs1_c_private_key_info_decode.Goals as goal
 
 pub returns-in-Ok-clause-ok : goal.returns-in-Ok-clause-ok
 returns-in-Ok-clause-ok c = λ _.
-    decodes_as ContainerEncoding (c.to_c_info.ensures.seen c.in-Ok.ensures.key.0.0) c.in-Ok.ensures.container
+    decodes_equal_value ContainerEncoding (c.to_c_info.ensures.seen c.in-Ok.ensures.key.0.0) c.in-Ok.ensures.container
 
 pub returns-in-Ok-clause-key : goal.returns-in-Ok-clause-key
 returns-in-Ok-clause-key c = λ _.

@@ -3,9 +3,9 @@ use Rattle.pkcs1.proofs.KeyReads.{private_tells}
 use Rattle.pkcs1.specs.Words.{rsa_private_key}
 use Rattle.pkcs8_core.specs.Words.{container_spells}
 use Rattle.standard.specs.Statement.{ContainerEncoding}
-use Rattle.pkcs1_c.specs.Words.{InfoError, Unwritten, HasKey, private_key_info}
+use Rattle.pkcs1_c.specs.Words.{InfoError, UnwrittenStatus, HasKey, private_key_info_seen}
 use Rattle.pkcs1_c.proofs.Containers.{ContainerSpells, error_none, info_one, info_rest}
-use Rattle.pkcs1_c.proofs.Writes.{status_known, error_as, held_written, is_error, unwritten_so}
+use Rattle.pkcs1_c.proofs.Writes.{status_known, error_as, held_written, is_error, unwritten_error_as}
 use Rattle.pkcs1_c.proofs.container.pkcs1_c_private_key_info_encode.Goals as goal
 
 pub write_encoding-requires : goal.write_encoding-requires
@@ -14,7 +14,7 @@ write_encoding-requires c = c.in-Ok.ensures.some
 pub returns-in-Ok : goal.returns-in-Ok
 returns-in-Ok c =
     let info = c.args.info.now in
-    let v = private_key_info info in
+    let v = private_key_info_seen info in
     let room = length c.args.out.now in
     let holds = c.in-Ok.ensures.key in
     let told = c.write_encoding.ensures in record {
@@ -22,9 +22,9 @@ returns-in-Ok c =
           held_written ContainerEncoding v ContainerSpells v (container_spells v) (HasKey info) holds
           (rw c.in-Ok.ensures.ok at told.writes);
       exact =
-          error_as (Unwritten ContainerEncoding v room) (InfoError info room) _ (λ t p. inr (holds, p))
+          error_as (UnwrittenStatus ContainerEncoding v room) (InfoError info room) _ (λ t p. inr (holds, p))
           (info_rest info room holds)
-          (unwritten_so ContainerEncoding v ContainerSpells v (container_spells v) room _
+          (unwritten_error_as ContainerEncoding v ContainerSpells v (container_spells v) room _
           (rw c.in-Ok.ensures.ok at told.exact));
     }
 

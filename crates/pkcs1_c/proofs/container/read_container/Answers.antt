@@ -2,7 +2,7 @@ use Rattle.std.proofs.Common.{rules, ap, subst, None, Ok, Err}
 use Rattle.der_core.specs.Words.{err_from_is_err_and, ◌>>=◌}
 use Rattle.pkcs1.specs.Words.{held_view}
 use Rattle.pkcs1.specs.declared.view.RsaPrivateKeyView.{RsaPrivateKeyView}
-use Rattle.pkcs1_params.proofs.Faults.{on_err, errs_behind}
+use Rattle.pkcs1_params.proofs.Faults.{err_holds, errs_behind}
 use Rattle.pkcs8_core.specs.Words.{private_key_info, rsa_held, ContainedKey}
 use Rattle.standard.specs.Statement.{ContainedKeyEncoding, Decodes}
 use Rattle.pkcs1_c.proofs.container.read_container.Goals as goal
@@ -13,7 +13,7 @@ returns-in_err-info-clause-err c =
 
 pub returns-in_err-view-clause-err : goal.returns-in_err-view-clause-err
 returns-in_err-view-clause-err c =
-    on_err (Decodes ContainedKeyEncoding c.args.encoding.now None) _
+    err_holds (Decodes ContainedKeyEncoding c.args.encoding.now None) _
     (λ key p. c.in_err-view.ensures.read key
     (subst (λ d. ContainedKey d key d.private_key) (c.in_ok-info.ensures.read.1 p.0 p.1) (p.2, p.3)))
 

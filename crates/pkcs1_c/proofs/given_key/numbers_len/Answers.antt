@@ -1,6 +1,6 @@
 use Rattle.std.proofs.Common.{refl}
-use Rattle.pkcs1_c.specs.Words.{front_of, given_key}
-use Rattle.pkcs1_c.proofs.KeyLengths.{agree_number, agree_sum, counted, front_len}
+use Rattle.pkcs1_c.specs.Words.{given_key, key_front_encoded}
+use Rattle.pkcs1_c.proofs.KeyLengths.{agree_number, agree_sum, agreed_length_counted, front_len}
 use Rattle.pkcs1_c.proofs.given_key.numbers_len.Goals as goal
 
 pub returns : goal.returns
@@ -17,5 +17,5 @@ returns c =
     let first = agree_sum _ _ _ _ (agree_sum _ _ _ _ (agree_sum _ _ _ _ n e) d) p in
     let second = agree_sum _ _ _ _ (agree_sum _ _ _ _ (agree_sum _ _ _ _ q x) y) f in
     let all = agree_sum _ _ _ _ (agree_sum _ _ _ _ (λ few. refl) first) second in
-    counted (front_of k) _ _ (front_len k) all c.try_from.result c.try_from.ensures.ok
+    agreed_length_counted (key_front_encoded k) _ _ (front_len k) all c.try_from.result c.try_from.ensures.ok
     c.try_from.ensures.err

@@ -1,7 +1,7 @@
 use Rattle.std.proofs.Common.{rules}
 use Rattle.pkcs1_c.specs.Words.{numbers_of_prime}
-use Rattle.pkcs1_c.proofs.StructErrors.{held_none}
+use Rattle.pkcs1_c.proofs.StructErrors.{numbers_none_held}
 use Rattle.pkcs1_c.proofs.given_primes.from_c_other_prime.Goals as goal
 
 pub returns-clause-held : goal.returns-clause-held
-returns-clause-held c = held_none (numbers_of_prime c.args.other.now) (search rules)
+returns-clause-held c = numbers_none_held (numbers_of_prime c.args.other.now) (search rules)

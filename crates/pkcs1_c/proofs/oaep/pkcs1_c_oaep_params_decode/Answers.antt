@@ -1,11 +1,11 @@
 use Rattle.pkcs1_params.specs.Words.{oaep_record}
 use Rattle.standard.specs.Statement.{OaepEncoding}
-use Rattle.pkcs1_c.proofs.Writes.{decodes_as, status_exact}
+use Rattle.pkcs1_c.proofs.Writes.{decodes_equal_value, status_exact}
 use Rattle.pkcs1_c.proofs.HeldParameters.{record_tells}
 use Rattle.pkcs1_c.proofs.oaep.pkcs1_c_oaep_params_decode.Goals as goal
 
 pub returns-in-Ok-clause-ok : goal.returns-in-Ok-clause-ok
-returns-in-Ok-clause-ok c = λ _. decodes_as OaepEncoding c.to_c_oaep.ensures.seen c.in-Ok.ensures.read
+returns-in-Ok-clause-ok c = λ _. decodes_equal_value OaepEncoding c.to_c_oaep.ensures.seen c.in-Ok.ensures.read
 
 pub returns-in-Err-clause-exact : goal.returns-in-Err-clause-exact
 returns-in-Err-clause-exact c =

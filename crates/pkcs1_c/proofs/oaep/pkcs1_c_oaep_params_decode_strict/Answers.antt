@@ -1,11 +1,12 @@
 use Rattle.pkcs1_params.specs.Words.{oaep_record}
 use Rattle.pkcs1_params.proofs.Faults.{strict_tells}
 use Rattle.standard.specs.Statement.{IsShortest, OaepEncoding}
-use Rattle.pkcs1_c.proofs.Writes.{decodes_as, status_exact}
+use Rattle.pkcs1_c.proofs.Writes.{decodes_equal_value, status_exact}
 use Rattle.pkcs1_c.proofs.oaep.pkcs1_c_oaep_params_decode_strict.Goals as goal
 
 pub returns-in-Ok-clause-ok : goal.returns-in-Ok-clause-ok
-returns-in-Ok-clause-ok c = λ _. decodes_as (IsShortest OaepEncoding) c.to_c_oaep.ensures.seen c.in-Ok.ensures.read
+returns-in-Ok-clause-ok c =
+    λ _. decodes_equal_value (IsShortest OaepEncoding) c.to_c_oaep.ensures.seen c.in-Ok.ensures.read
 
 pub returns-in-Err-clause-exact : goal.returns-in-Err-clause-exact
 returns-in-Err-clause-exact c =

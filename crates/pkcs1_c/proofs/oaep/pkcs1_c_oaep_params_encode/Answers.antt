@@ -1,7 +1,7 @@
 use Rattle.standard.specs.Statement.{OaepEncoding}
 use Rattle.pkcs1_c.specs.Words.{OaepFieldError, oaep_seen}
-use Rattle.pkcs1_c.proofs.Fits.{oaep_fits}
-use Rattle.pkcs1_c.proofs.Writes.{known_told}
+use Rattle.pkcs1_c.proofs.FittingFields.{oaep_fits}
+use Rattle.pkcs1_c.proofs.Writes.{known_written}
 use Rattle.pkcs1_c.proofs.oaep.pkcs1_c_oaep_params_encode.Goals as goal
 
 pub returns-in-Some : goal.returns-in-Some
@@ -9,7 +9,7 @@ returns-in-Some c =
     let v = oaep_seen c.args.params.now in
     let status = c.written_status.ensures in
     let told =
-    known_told OaepFieldError OaepEncoding v (oaep_fits v) c.args.out.now _ c.args.len.now _ _ c.in-Some.written
+    known_written OaepFieldError OaepEncoding v (oaep_fits v) c.args.out.now _ c.args.len.now _ _ c.in-Some.written
     c.in-Some.ensures.written c.write_known.auto.out status.ok status.no_room in
     record { writes = told.0; exact = told.1 }
 

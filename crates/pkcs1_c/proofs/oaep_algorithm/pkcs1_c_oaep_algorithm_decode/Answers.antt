@@ -2,11 +2,11 @@ use Rattle.spki_core.specs.Words.{record_reads}
 use Rattle.pkcs1_params.specs.Words.{oaep_record}
 use Rattle.pkcs1_params.proofs.Faults.{whole_algorithm_tells}
 use Rattle.standard.specs.Statement.{OaepAlgorithmEncoding, id_rsaes_oaep}
-use Rattle.pkcs1_c.proofs.Writes.{decodes_as, status_exact}
+use Rattle.pkcs1_c.proofs.Writes.{decodes_equal_value, status_exact}
 use Rattle.pkcs1_c.proofs.oaep_algorithm.pkcs1_c_oaep_algorithm_decode.Goals as goal
 
 pub returns-in-Ok-clause-ok : goal.returns-in-Ok-clause-ok
-returns-in-Ok-clause-ok c = λ _. decodes_as OaepAlgorithmEncoding c.to_c_oaep.ensures.seen c.in-Ok.ensures.read
+returns-in-Ok-clause-ok c = λ _. decodes_equal_value OaepAlgorithmEncoding c.to_c_oaep.ensures.seen c.in-Ok.ensures.read
 
 pub returns-in-Err-clause-exact : goal.returns-in-Err-clause-exact
 returns-in-Err-clause-exact c =

@@ -1,12 +1,12 @@
 use Rattle.pkcs1_params.specs.Words.{oaep_record}
 use Rattle.pkcs1_params.proofs.Faults.{strictly_tells, whole_algorithm_tells}
 use Rattle.standard.specs.Statement.{IsShortest, OaepAlgorithmEncoding, id_rsaes_oaep}
-use Rattle.pkcs1_c.proofs.Writes.{decodes_as, status_exact}
+use Rattle.pkcs1_c.proofs.Writes.{decodes_equal_value, status_exact}
 use Rattle.pkcs1_c.proofs.oaep_algorithm.pkcs1_c_oaep_algorithm_decode_strict.Goals as goal
 
 pub returns-in-Ok-clause-ok : goal.returns-in-Ok-clause-ok
 returns-in-Ok-clause-ok c = λ _.
-    decodes_as (IsShortest OaepAlgorithmEncoding) c.to_c_oaep.ensures.seen c.in-Ok.ensures.read
+    decodes_equal_value (IsShortest OaepAlgorithmEncoding) c.to_c_oaep.ensures.seen c.in-Ok.ensures.read
 
 pub returns-in-Err-clause-exact : goal.returns-in-Err-clause-exact
 returns-in-Err-clause-exact c =

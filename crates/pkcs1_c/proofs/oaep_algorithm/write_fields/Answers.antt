@@ -1,10 +1,10 @@
 use Rattle.std.proofs.Common.{rules}
 use Rattle.standard.specs.Statement.{OaepAlgorithmEncoding}
 use Rattle.pkcs1_c.specs.Words.{OaepFieldError, oaep_seen}
-use Rattle.pkcs1_c.proofs.Fits.{oaep_fits}
+use Rattle.pkcs1_c.proofs.FittingFields.{oaep_fits}
 use Rattle.pkcs1_c.proofs.HeldParameters.{oaep_none}
 use Rattle.pkcs1_c.proofs.StructErrors.{oaep_part}
-use Rattle.pkcs1_c.proofs.Writes.{error_behind, fields_told}
+use Rattle.pkcs1_c.proofs.Writes.{error_behind, fields_rejected}
 use Rattle.pkcs1_c.proofs.oaep_algorithm.write_fields.Goals as goal
 
 pub returns-in-Ok : goal.returns-in-Ok
@@ -18,6 +18,6 @@ pub returns-in-Err : goal.returns-in-Err
 returns-in-Err c =
     let v = oaep_seen c.args.params.now in
     let told =
-    fields_told OaepFieldError OaepAlgorithmEncoding v (oaep_part v) (λ bytes p. oaep_fits v p.1 p.2) c.args.out.now
+    fields_rejected OaepFieldError OaepAlgorithmEncoding v (oaep_part v) (λ bytes p. oaep_fits v p.1 p.2) c.args.out.now
     c.args.len.now c.status.ensures c.in-Err.ensures.err in
     record { writes = told.0; exact = told.1 }

@@ -2,7 +2,7 @@ use Rattle.std.proofs.Common.{arith, inl, refl}
 use Rattle.der_core.proofs.ReadSteps.{front_errs}
 use Rattle.der_core.specs.Words.{bytes_of}
 use Rattle.pkcs1.specs.Words.{number_in, next_prime, other_of}
-use Rattle.pkcs1_c.proofs.Placing.{all_placed, one_placed, stopped}
+use Rattle.pkcs1_c.proofs.PlacedPrimes.{one_placed, placing_all_placed, placing_stopped}
 use Rattle.pkcs1_c.proofs.private_key.pkcs1_c_other_primes.Goals as goal
 
 pub loop-i-init : goal.loop-i-init
@@ -23,7 +23,7 @@ loop-i-preserved c = λ primes few whole.
 pub returns-in-Err : goal.returns-in-Err
 returns-in-Err c = record {
   placed = λ primes few whole.
-      stopped primes _ c.loop-i.others c.args.others.now c.loop-i.i
+      placing_stopped primes _ c.loop-i.others c.args.others.now c.loop-i.i
       (omega (arith, c.loop-i-test.true, c.loop-i.auto.others)) c.loop-i.auto.others
       (λ l is. front_errs next_prime _ _ _ is c.in-Err.ensures.1) (c.loop-i.invariant primes few whole);
 }
@@ -31,7 +31,7 @@ returns-in-Err c = record {
 pub returns : goal.returns
 returns c = record {
   placed = λ primes few whole.
-      all_placed primes _ c.loop-i.others c.args.others.now c.loop-i.i
+      placing_all_placed primes _ c.loop-i.others c.args.others.now c.loop-i.i
       (omega (arith, c.loop-i.auto.i-end, c.loop-i.auto.others)) c.loop-i.auto.others
       (c.loop-i.invariant primes few whole) (inl (omega (arith, c.loop-i-test.false, c.loop-i.auto.i-end)));
 }

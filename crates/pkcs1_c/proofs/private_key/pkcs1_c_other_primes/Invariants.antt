@@ -2,7 +2,7 @@ use Rattle.std.proofs.Common.{◌≡◌, ◌≤◌, List, length}
 use Rattle.der_core.specs.Words.{limit, left_of}
 use Rattle.pkcs1.specs.Words.{primes_encoded}
 use Rattle.standard.specs.Statement.{OtherPrime}
-use Rattle.pkcs1_c.proofs.Placing.{Placing}
+use Rattle.pkcs1_c.proofs.PlacedPrimes.{Placing}
 use Rattle.pkcs1_c.proofs.private_key.pkcs1_c_other_primes.Given as goal
 
 -- Of any primes that are listed, those so far are placed.

@@ -1,7 +1,7 @@
 use Rattle.standard.specs.Statement.{PssEncoding}
 use Rattle.pkcs1_c.specs.Words.{PssFieldError, pss_seen}
-use Rattle.pkcs1_c.proofs.Fits.{pss_fits}
-use Rattle.pkcs1_c.proofs.Writes.{known_told}
+use Rattle.pkcs1_c.proofs.FittingFields.{pss_fits}
+use Rattle.pkcs1_c.proofs.Writes.{known_written}
 use Rattle.pkcs1_c.proofs.pss.pkcs1_c_pss_params_encode.Goals as goal
 
 pub returns-in-Some : goal.returns-in-Some
@@ -9,7 +9,7 @@ returns-in-Some c =
     let v = pss_seen c.args.params.now in
     let status = c.written_status.ensures in
     let told =
-    known_told PssFieldError PssEncoding v (pss_fits v) c.args.out.now _ c.args.len.now _ _ c.in-Some.written
+    known_written PssFieldError PssEncoding v (pss_fits v) c.args.out.now _ c.args.len.now _ _ c.in-Some.written
     c.in-Some.ensures.written c.write_known.auto.out status.ok status.no_room in
     record { writes = told.0; exact = told.1 }
 

@@ -1,12 +1,12 @@
 use Rattle.pkcs1_params.specs.Words.{pss_record}
 use Rattle.pkcs1_params.proofs.Faults.{strictly_tells, whole_algorithm_tells}
 use Rattle.standard.specs.Statement.{IsShortest, PssAlgorithmEncoding, id_rsassa_pss}
-use Rattle.pkcs1_c.proofs.Writes.{decodes_as, status_exact}
+use Rattle.pkcs1_c.proofs.Writes.{decodes_equal_value, status_exact}
 use Rattle.pkcs1_c.proofs.pss_algorithm.pkcs1_c_pss_algorithm_decode_strict.Goals as goal
 
 pub returns-in-Ok-clause-ok : goal.returns-in-Ok-clause-ok
 returns-in-Ok-clause-ok c = λ _.
-    decodes_as (IsShortest PssAlgorithmEncoding) c.to_c_pss.ensures.seen c.in-Ok.ensures.read
+    decodes_equal_value (IsShortest PssAlgorithmEncoding) c.to_c_pss.ensures.seen c.in-Ok.ensures.read
 
 pub returns-in-Err-clause-exact : goal.returns-in-Err-clause-exact
 returns-in-Err-clause-exact c =

@@ -1,10 +1,10 @@
 use Rattle.std.proofs.Common.{rules}
 use Rattle.standard.specs.Statement.{PssAlgorithmEncoding}
 use Rattle.pkcs1_c.specs.Words.{PssFieldError, pss_seen}
-use Rattle.pkcs1_c.proofs.Fits.{pss_fits}
+use Rattle.pkcs1_c.proofs.FittingFields.{pss_fits}
 use Rattle.pkcs1_c.proofs.HeldParameters.{pss_none}
 use Rattle.pkcs1_c.proofs.StructErrors.{pss_part}
-use Rattle.pkcs1_c.proofs.Writes.{error_behind, fields_told}
+use Rattle.pkcs1_c.proofs.Writes.{error_behind, fields_rejected}
 use Rattle.pkcs1_c.proofs.pss_algorithm.write_fields.Goals as goal
 
 pub returns-in-Ok : goal.returns-in-Ok
@@ -18,6 +18,6 @@ pub returns-in-Err : goal.returns-in-Err
 returns-in-Err c =
     let v = pss_seen c.args.params.now in
     let told =
-    fields_told PssFieldError PssAlgorithmEncoding v (pss_part v) (λ bytes p. pss_fits v p.1 p.2) c.args.out.now
+    fields_rejected PssFieldError PssAlgorithmEncoding v (pss_part v) (λ bytes p. pss_fits v p.1 p.2) c.args.out.now
     c.args.len.now c.status.ensures c.in-Err.ensures.err in
     record { writes = told.0; exact = told.1 }

@@ -1,9 +1,9 @@
 use Rattle.std.proofs.Common.{length, rules}
 use Rattle.standard.specs.Statement.{PublicKeyEncoding}
-use Rattle.pkcs1_c.specs.Words.{NumbersError, Unwritten, two_numbers, HasNumbers, If, public_key}
-use Rattle.pkcs1_c.proofs.GivenKeys.{PublicSpells, public_fits, public_law}
+use Rattle.pkcs1_c.specs.Words.{NumbersError, UnwrittenStatus, two_numbers, HasNumbers, If, public_key_seen}
+use Rattle.pkcs1_c.proofs.GivenKeys.{GivenPublicSpells, given_public_spelled, public_fits}
 use Rattle.pkcs1_c.proofs.StructErrors.{numbers_have, numbers_part}
-use Rattle.pkcs1_c.proofs.Writes.{error_behind, held_written, part_told, unwritten_so}
+use Rattle.pkcs1_c.proofs.Writes.{error_behind, held_written, part_rejected, unwritten_error_as}
 use Rattle.pkcs1_c.proofs.public_key.pkcs1_c_public_key_encode.Goals as goal
 
 pub write_encoding-requires : goal.write_encoding-requires
@@ -12,27 +12,27 @@ write_encoding-requires c = (tt, (tt, tt))
 pub returns-in-Ok : goal.returns-in-Ok
 returns-in-Ok c =
     let key = c.args.key.now in
-    let v = public_key key in
+    let v = public_key_seen key in
     let room = length c.args.out.now in
-    let law = public_law key c.in-Ok.key c.in-Ok.ensures.ok in
+    let law = given_public_spelled key c.in-Ok.key c.in-Ok.ensures.ok in
     let told = c.write_encoding.ensures in
     let held = c.in-Ok.ensures.held in
     let has = numbers_have (two_numbers key) held in record {
       writes =
-          held_written PublicKeyEncoding v PublicSpells _ law (HasNumbers key) (has.0, has.1.0) told.writes;
+          held_written PublicKeyEncoding v GivenPublicSpells _ law (HasNumbers key) (has.0, has.1.0) told.writes;
       exact =
-          let rest = unwritten_so PublicKeyEncoding v PublicSpells _ law room _ told.exact in
+          let rest = unwritten_error_as PublicKeyEncoding v GivenPublicSpells _ law room _ told.exact in
           search (rules, error_behind);
     }
 
 pub returns-in-Err : goal.returns-in-Err
 returns-in-Err c =
     let key = c.args.key.now in
-    let v = public_key key in
+    let v = public_key_seen key in
     let room = length c.args.out.now in
     let numbers = two_numbers key in
     let told =
-    part_told (NumbersError numbers) (Unwritten PublicKeyEncoding v room) (numbers_part numbers)
+    part_rejected (NumbersError numbers) (UnwrittenStatus PublicKeyEncoding v room) (numbers_part numbers)
     (If (HasNumbers key) PublicKeyEncoding) v (λ bytes p. public_fits key p.0 bytes p.1) c.args.out.now
     c.args.len.now c.status.ensures c.in-Err.ensures.err in
     record { writes = told.0; exact = told.1 }

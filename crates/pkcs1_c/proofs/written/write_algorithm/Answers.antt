@@ -3,8 +3,8 @@ use Rattle.spki_core.specs.Words.{algorithm_map, AreSpelled, record_under, viewe
 use Rattle.pkcs1_params.specs.Words.{with_parameters, Encoded}
 use Rattle.pkcs1_params.proofs.Algorithms.{AlgorithmSpelled, algorithm_spelled, algorithm_valid}
 use Rattle.standard.specs.Statement.{Algorithm, AlgorithmEncoding, IsAlgorithm, IsIdentifier}
-use Rattle.pkcs1_c.specs.Words.{IsErrorOf, Unwritten, WritesOrTells}
-use Rattle.pkcs1_c.proofs.Writes.{unwritten_so, written_as}
+use Rattle.pkcs1_c.specs.Words.{IsErrorOf, UnwrittenStatus, WritesOrTells}
+use Rattle.pkcs1_c.proofs.Writes.{unwritten_error_as, written_as}
 use Rattle.pkcs1_c.proofs.written.write_algorithm.Goals as goal
 
 pub write_encoding-requires : goal.write_encoding-requires
@@ -34,6 +34,7 @@ returns g c =
           (subst (λ a. WritesOrTells Spelled a c.args.out.now told.new.out c.args.len.now told.new.len told.result) is
           told.ensures.writes);
       exact =
-          unwritten_so (AlgorithmEncoding oid (Encoded t.Is t.fields_of)) v Spelled (with_parameters oid v) same room
-          told.result (subst (λ a. IsErrorOf (Unwritten Spelled a room) told.result) is told.ensures.exact);
+          unwritten_error_as (AlgorithmEncoding oid (Encoded t.Is t.fields_of)) v Spelled (with_parameters oid v) same
+          room
+          told.result (subst (λ a. IsErrorOf (UnwrittenStatus Spelled a room) told.result) is told.ensures.exact);
     }

@@ -1,7 +1,7 @@
 use Rattle.std.proofs.Common.{ℕ, Ok, Err, length}
-use Rattle.der_core.proofs.Writing.{into_encodes, into_unwritten}
+use Rattle.der_core.proofs.Writing.{encode_into_encodes, encode_into_unwritten}
 use Rattle.der_core.specs.Words.{Spells}
-use Rattle.pkcs1_c.proofs.Writes.{needed_is, needed_kept, kind_unwritten, not_written, unwritten_is, written}
+use Rattle.pkcs1_c.proofs.Writes.{needed_is, needed_kept, kind_unwritten, not_written, unwritten_is, shortest_written}
 use Rattle.pkcs1_c.proofs.written.write_encoding.Goals as goal
 
 pub returns-in-Ok : goal.returns-in-Ok
@@ -11,9 +11,10 @@ returns-in-Ok g c =
     let v = t.value c.args.value.now in
     let Encoding = Spells t.valid t.printed t.means in
     let encodes =
-    into_encodes t.shortest v c.args.out.now c.encode_into.new.out (Ok c.in-Ok.written) made.ok made.shortest tt tt
+    encode_into_encodes t.shortest v c.args.out.now c.encode_into.new.out (Ok c.in-Ok.written) made.ok made.shortest tt
+    tt
     c.encode_into.auto.out in
-    let told = written Encoding v _ _ c.args.len.now c.in-Ok.written encodes c.encode_into.auto.out in
+    let told = shortest_written Encoding v _ _ c.args.len.now c.in-Ok.written encodes c.encode_into.auto.out in
     record { writes = told.0; exact = told.1 }
 
 pub returns-in-Err : goal.returns-in-Err
@@ -24,7 +25,7 @@ returns-in-Err g c =
     let Encoding = Spells t.valid t.printed t.means in
     let why =
     kind_unwritten (λ u. t.valid (t.written u)) Encoding v room c.requires c.in-Err.error.kind
-    (into_unwritten t.shortest v {X = ℕ} room (Err c.in-Err.error) c.in-Err.ensures.err) in record {
+    (encode_into_unwritten t.shortest v {X = ℕ} room (Err c.in-Err.error) c.in-Err.ensures.err) in record {
       writes =
           not_written Encoding v c.args.out.now _ c.args.len.now _ _ _ c.kind_number.ensures why
           c.in-Err.ensures.unchanged (needed_is t.shortest v c.requires c.set_needed.ensures.needed)

@@ -3,14 +3,14 @@ use Rattle.der_core.specs.Words.{tagged_shortest, Spells}
 use Rattle.spki_core.specs.Words.{AreSpelled, record_means, spelled, under_valid, record_shortest, spelled_from, spelled_to}
 use Rattle.pkcs1_params.specs.Words.{Encoded}
 use Rattle.standard.specs.Statement.{sequence}
-use Rattle.pkcs1_c.proofs.Writes.{needed_is, needed_kept, status_unwritten, not_written, unwritten_as, unwritten_is, written, written_as}
+use Rattle.pkcs1_c.proofs.Writes.{needed_is, needed_kept, status_unwritten, not_written, unwritten_as, unwritten_is, shortest_written, written_as}
 use Rattle.pkcs1_c.proofs.written.write_params.Goals as goal
 
 pub returns-in-Ok : goal.returns-in-Ok
 returns-in-Ok g c =
     let t = g.T.EncodeParams in
     let told =
-    written (Encoded t.Is t.fields_of) (t.params c.args.params) _ _ c.args.len.now c.in-Ok.count
+    shortest_written (Encoded t.Is t.fields_of) (t.params c.args.params) _ _ c.args.len.now c.in-Ok.count
     c.in-Ok.ensures.written c.encode_params.auto.out in
     record { writes = told.0; exact = told.1 }
 

@@ -1,6 +1,6 @@
 use Rattle.std.proofs.Common.{ℕ, length, subst, Ok, Err, Some, None}
 use Rattle.der_core.specs.Words.{err_from_is_err_and}
-use Rattle.der_core.proofs.Writing.{into_encodes, into_unwritten}
+use Rattle.der_core.proofs.Writing.{encode_into_encodes, encode_into_unwritten}
 use Rattle.spki_core.specs.Words.{algorithm_map, viewed_with, AreSpelled, record_under, viewed_held}
 use Rattle.pkcs1_params.specs.Words.{Refuses, with_parameters, Encoded}
 use Rattle.pkcs1_params.specs.declared.error.Error.TheVariants as error
@@ -23,7 +23,7 @@ returns-clause-written g c =
     (subst
     (λ a. Encodes (AlgorithmSpelled oid identifier t.form) a c.args.out.now c.encode_into.new.out
     (Some c.in_ok-encode_into.field-0)) it.ensures.means
-    (into_encodes (algorithm_written oid identifier t.form) (viewed_with (λ s. t.params s.params) it.result)
+    (encode_into_encodes (algorithm_written oid identifier t.form) (viewed_with (λ s. t.params s.params) it.result)
     c.args.out.now _ (Ok c.in_ok-encode_into.field-0) made.ok made.shortest tt tt c.encode_into.auto.out))
 
 pub returns-in_err-encode_into : goal.returns-in_err-encode_into
@@ -46,7 +46,8 @@ returns-in_err-encode_into g c =
           (subst
           (λ a. Encodes (AlgorithmSpelled oid identifier t.form) a c.args.out.now c.encode_into.new.out None)
           it.ensures.means
-          (into_encodes (algorithm_written oid identifier t.form) (viewed_with (λ s. t.params s.params) it.result)
+          (encode_into_encodes (algorithm_written oid identifier t.form)
+          (viewed_with (λ s. t.params s.params) it.result)
           c.args.out.now _ (Err c.in_err-encode_into.field-0.0) tt tt told.err told.unchanged c.encode_into.auto.out)));
       err =
           rw (p.1, p.2)
@@ -55,6 +56,7 @@ returns-in_err-encode_into g c =
           ((λ _. tt), (λ _. algorithm_valid oid identifier t.form v it.ensures.valid)) (length c.args.out.now) e
           (subst (λ a. Refuses Written (AlgorithmSpelled oid identifier t.form) a (length c.args.out.now) e)
           it.ensures.means
-          (into_unwritten (algorithm_written oid identifier t.form) (viewed_with (λ s. t.params s.params) it.result)
+          (encode_into_unwritten (algorithm_written oid identifier t.form)
+          (viewed_with (λ s. t.params s.params) it.result)
           {X = ℕ} _ (Err c.in_err-encode_into.field-0.0) told.err)));
     }

@@ -2,8 +2,8 @@ use Rattle.std.proofs.Common.{arith, ap, refl, ◌∙◌}
 use Rattle.der_core.specs.Words.{err_from_is_err_and, are_bytes, ◌>>=◌}
 use Rattle.spki_core.specs.Words.{any_of, record_read, record_strictly}
 use Rattle.pkcs1_params.specs.Words.{identified}
-use Rattle.pkcs1_params.proofs.Algorithms.{behind_any, behind_reads, strict_algorithm_errs}
-use Rattle.pkcs1_params.proofs.Faults.{asn1_as, told_same}
+use Rattle.pkcs1_params.proofs.Algorithms.{identified_behind_any, identified_behind_reads, strict_algorithm_errs}
+use Rattle.pkcs1_params.proofs.Faults.{asn1_as, fault_kind_same}
 use Rattle.pkcs1_params.proofs.algorithm.from_identifier_strict.Goals as goal
 
 pub returns-in_err-any : goal.returns-in_err-any
@@ -11,7 +11,7 @@ returns-in_err-any g c =
     let read = record_strictly g.T.AlgorithmParams.form in
     let p = err_from_is_err_and c.from_residual-in_err-any.result c.from_residual-in_err-any.ensures.1 in
     rw (p.1, p.2)
-    (told_same (ap (λ r. r >>= identified g.T.Oid.AssociatedOid.contents read) c.in_ok-algorithm.ensures.exact)
+    (fault_kind_same (ap (λ r. r >>= identified g.T.Oid.AssociatedOid.contents read) c.in_ok-algorithm.ensures.exact)
     c.in_err-any.field-0.0 (c.in_err-any.ensures.err read))
 
 pub returns-in_err-params : goal.returns-in_err-params
@@ -20,11 +20,12 @@ returns-in_err-params g c =
     let oid = g.T.Oid.AssociatedOid in
     let p = err_from_is_err_and c.from_residual-in_err-params.result c.from_residual-in_err-params.ensures.1 in
     let is =
-    behind_any oid.contents _ _ (any_of c.in_ok-any.any) c.in_ok-algorithm.ensures.exact c.in_ok-any.ensures.ok
+    identified_behind_any oid.contents _ _ (any_of c.in_ok-any.any) c.in_ok-algorithm.ensures.exact
+    c.in_ok-any.ensures.ok
     (record_read t.form) in
     rw (p.1, p.2)
     (asn1_as (λ e. strict_algorithm_errs oid.contents oid.valid t.form _ e.kind) c.in_err-params.field-0.0
-    (told_same is c.in_err-params.field-0.0 c.in_err-params.ensures))
+    (fault_kind_same is c.in_err-params.field-0.0 c.in_err-params.ensures))
 
 pub encoded_parameters-requires : goal.encoded_parameters-requires
 encoded_parameters-requires g c κs =
@@ -32,7 +33,8 @@ encoded_parameters-requires g c κs =
     let oid = g.T.Oid.AssociatedOid in
     let bytes = are_bytes _ (λ i. omega (arith, c.type_inv.bytes i)) in
     let reads =
-    behind_reads oid.contents oid.valid t.form _ (any_of c.in_ok-any.any) _ _ bytes c.in_ok-algorithm.ensures.exact
+    identified_behind_reads oid.contents oid.valid t.form _ (any_of c.in_ok-any.any) _ _ bytes
+    c.in_ok-algorithm.ensures.exact
     c.in_ok-any.ensures.ok c.in_ok-params.ensures in
     ((refl, tt), (t.params c.in_ok-params.params, reads.0))
 
@@ -42,7 +44,8 @@ reject_defaults-requires g c κs =
     let oid = g.T.Oid.AssociatedOid in
     let bytes = are_bytes _ (λ i. omega (arith, c.type_inv.bytes i)) in
     let reads =
-    behind_reads oid.contents oid.valid t.form _ (any_of c.in_ok-any.any) _ _ bytes c.in_ok-algorithm.ensures.exact
+    identified_behind_reads oid.contents oid.valid t.form _ (any_of c.in_ok-any.any) _ _ bytes
+    c.in_ok-algorithm.ensures.exact
     c.in_ok-any.ensures.ok c.in_ok-params.ensures in
     ((refl, tt), (reads.1 _ c.encoded_parameters.ensures).0)
 
@@ -55,10 +58,11 @@ returns-in_err-reject_defaults g c =
     let oid = g.T.Oid.AssociatedOid in
     let bytes = are_bytes _ (λ i. omega (arith, c.type_inv.bytes i)) in
     let reads =
-    behind_reads oid.contents oid.valid t.form _ (any_of c.in_ok-any.any) _ _ bytes c.in_ok-algorithm.ensures.exact
+    identified_behind_reads oid.contents oid.valid t.form _ (any_of c.in_ok-any.any) _ _ bytes
+    c.in_ok-algorithm.ensures.exact
     c.in_ok-any.ensures.ok c.in_ok-params.ensures in
     rw (p.1, p.2)
-    (told_same (reads.1 _ c.encoded_parameters.ensures).1 c.in_err-reject_defaults.field-0.0
+    (fault_kind_same (reads.1 _ c.encoded_parameters.ensures).1 c.in_err-reject_defaults.field-0.0
     c.in_err-reject_defaults.ensures)
 
 pub returns : goal.returns
@@ -67,6 +71,7 @@ returns g c =
     let oid = g.T.Oid.AssociatedOid in
     let bytes = are_bytes _ (λ i. omega (arith, c.type_inv.bytes i)) in
     let reads =
-    behind_reads oid.contents oid.valid t.form _ (any_of c.in_ok-any.any) _ _ bytes c.in_ok-algorithm.ensures.exact
+    identified_behind_reads oid.contents oid.valid t.form _ (any_of c.in_ok-any.any) _ _ bytes
+    c.in_ok-algorithm.ensures.exact
     c.in_ok-any.ensures.ok c.in_ok-params.ensures in
     (reads.1 _ c.encoded_parameters.ensures).1 ∙ c.in_ok-reject_defaults.ensures

@@ -1,7 +1,7 @@
 use Rattle.std.proofs.Common.{arith, subst, sym, ◌≡◌, ◌∙◌, refl}
 use Rattle.der_core.specs.Words.{nat_tests, Counts}
 use Rattle.spki_core.specs.Words.{AreSpelled, record_under}
-use Rattle.pkcs1_params.proofs.Masks.{is_spelled, none_spelled, octets_are, counts_as}
+use Rattle.pkcs1_params.proofs.Masks.{record_is_spelled, nothing_spelled, octets_under_spelled, counts_as}
 use Rattle.pkcs1_params.proofs.contents.contents_len.Goals as goal
 
 pub returns-then-mask-eq0 : goal.returns-then-mask-eq0
@@ -9,8 +9,8 @@ returns-then-mask-eq0 g c =
     let t = g.T.EncodeParams in
     let mask : c.args.mask ≡ 0 = grind (arith, nat_tests) in
     let v = t.params c.args.params in
-    let none = none_spelled t.form v c.args.mask mask (sym c.requires ∙ c.if-non_defaults-eq0.true) in
-    rw none (is_spelled t.form v c.args.mask c.lemma_is_valid.ensures, refl, omega arith)
+    let none = nothing_spelled t.form v c.args.mask mask (sym c.requires ∙ c.if-non_defaults-eq0.true) in
+    rw none (record_is_spelled t.form v c.args.mask c.lemma_is_valid.ensures, refl, omega arith)
 
 pub returns : goal.returns
 returns g c =
@@ -18,5 +18,6 @@ returns g c =
     let v = t.params c.args.params in
     let s = record_under t.form c.args.mask v in
     subst (λ z. Counts (AreSpelled t.form.kinds s) z c.len.result)
-    (octets_are t.form v c.args.mask _ c.fields.ensures.are)
-    (counts_as _ c.len.result (λ _. is_spelled t.form v c.args.mask c.lemma_is_valid.ensures) (λ _. tt) c.len.ensures)
+    (octets_under_spelled t.form v c.args.mask _ c.fields.ensures.are)
+    (counts_as _ c.len.result (λ _. record_is_spelled t.form v c.args.mask c.lemma_is_valid.ensures) (λ _. tt)
+    c.len.ensures)

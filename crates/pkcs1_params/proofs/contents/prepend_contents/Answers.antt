@@ -1,6 +1,6 @@
 use Rattle.std.proofs.Common.{arith, rules, subst, sym, length, ◌≡◌, ◌≤◌, ◌∙◌, refl, take-append-drop}
 use Rattle.der_core.specs.Words.{nat_tests, Prepends, free_of, limit}
-use Rattle.pkcs1_params.proofs.Masks.{none_spelled, octets_are}
+use Rattle.pkcs1_params.proofs.Masks.{nothing_spelled, octets_under_spelled}
 use Rattle.pkcs1_params.proofs.contents.prepend_contents.Goals as goal
 
 pub returns-then-mask-eq0 : goal.returns-then-mask-eq0
@@ -8,14 +8,14 @@ returns-then-mask-eq0 g c =
     let t = g.T.EncodeParams in
     let mask : c.args.mask ≡ 0 = grind (arith, nat_tests) in
     let none =
-    none_spelled t.form (t.params c.args.params) c.args.mask mask
+    nothing_spelled t.form (t.params c.args.params) c.args.mask mask
     (sym c.requires.non_defaults ∙ c.if-non_defaults-eq0.true) in
     rw none (refl, omega arith, sym (take-append-drop c.args.writer.now.free c.args.writer.now.slice.now))
 
 pub prepend-requires : goal.prepend-requires
 prepend-requires g c =
     let t = g.T.EncodeParams in
-    let is = octets_are t.form (t.params c.args.params) c.args.mask _ c.fields.ensures.are in record {
+    let is = octets_under_spelled t.form (t.params c.args.params) c.args.mask _ c.fields.ensures.are in record {
       non_defaults = search rules;
       fits = subst (λ z. length z ≤ limit) (sym is) c.requires.fits;
       room = subst (λ z. length z ≤ free_of c.args.writer.now) (sym is) c.requires.room;
@@ -25,4 +25,4 @@ pub returns : goal.returns
 returns g c =
     let t = g.T.EncodeParams in
     subst (λ z. Prepends z c.args.writer.now c.prepend.new.writer)
-    (octets_are t.form (t.params c.args.params) c.args.mask _ c.fields.ensures.are) c.prepend.ensures
+    (octets_under_spelled t.form (t.params c.args.params) c.args.mask _ c.fields.ensures.are) c.prepend.ensures

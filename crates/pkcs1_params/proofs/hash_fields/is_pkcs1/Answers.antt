@@ -4,13 +4,13 @@ use Rattle.spki_core.specs.Words.{upto}
 use Rattle.pkcs1_params.specs.Words.{pkcs1_algorithm}
 use Rattle.pkcs1_params.proofs.hash_fields.is_pkcs1.Goals as goal
 
-rebuilt : (l : List ℕ) → l ≡ upto (length l) (slice_index l)
-rebuilt [] = refl
-rebuilt (x ∷ xs) = ap (λ ys. x ∷ ys) (rebuilt xs)
+octets_upto : (l : List ℕ) → l ≡ upto (length l) (slice_index l)
+octets_upto [] = refl
+octets_upto (x ∷ xs) = ap (λ ys. x ∷ ys) (octets_upto xs)
 
 pub returns-then-front : goal.returns-then-front
 returns-then-front c =
     let octets = c.args.octets.now in
     let nine : length octets ≡ 9 = omega (arith, c.in-len9.len_at_least, c.in-len9.len_below) in
-    let is = rebuilt octets ∙ ap (λ n. upto n (slice_index octets)) nine in
+    let is = octets_upto octets ∙ ap (λ n. upto n (slice_index octets)) nine in
     grind (arith, nat_tests, c.if-front.true, ap (λ x. bytes_eq x (pkcs1_algorithm c.args.number)) is)

@@ -1,7 +1,7 @@
 use Rattle.std.proofs.Common.{◌≡◌, ◌<◌, [], arith, length, rules}
 use Rattle.der_core.specs.Words.{AreBytes, are_bytes}
 use Rattle.pkcs1_params.specs.Words.{id_p_specified, known_label}
-use Rattle.pkcs1_params.proofs.KnownParameters.{few_behind, known_oaep, label_fits, label_none, label_some, put_told}
+use Rattle.pkcs1_params.proofs.KnownParameters.{known_label_fits, known_oaep, known_octets_put, label_none, label_some, place_front_few}
 use Rattle.pkcs1_params.proofs.known.encode_known_oaep.Goals as goal
 
 pub returns-then-is_empty-clause-written : goal.returns-then-is_empty-clause-written
@@ -11,7 +11,7 @@ returns-then-is_empty-clause-written c =
     let bytes : AreBytes label = are_bytes _ (λ i. omega (arith, c.type_inv.label i)) in
     let none : length label ≡ 0 = search rules in
     let written = known_oaep _ _ _ _ _ _ label [] c.in_ok-hash.ensures.some source bytes (label_none label none) in
-    put_told written c.args.place (few_behind c.args.place [] (omega arith)) c.args.out.now _ c.put.result c.put.auto.out
+    known_octets_put written c.args.place (place_front_few c.args.place [] (omega arith)) c.args.out.now _ c.put.result c.put.auto.out
     c.put.ensures
 
 pub returns-clause-written : goal.returns-clause-written
@@ -21,7 +21,7 @@ returns-clause-written c =
     let bytes : AreBytes label = are_bytes _ (λ i. omega (arith, c.type_inv.label i)) in
     let some : 0 < length label = search rules in
     let known : length label < known_label c.args.place = search rules in
-    let fits = label_fits c.args.place label known in
+    let fits = known_label_fits c.args.place label known in
     let written = known_oaep _ _ _ _ _ _ label _ c.in_ok-hash.ensures.some source bytes (label_some label some fits.0) in
-    put_told written c.args.place fits.1 c.args.out.now _ c.put-2.result c.put-2.auto.out
+    known_octets_put written c.args.place fits.1 c.args.out.now _ c.put-2.result c.put-2.auto.out
     (rw c.label_front-later.ensures at c.put-2.ensures)

@@ -2,7 +2,7 @@ use Rattle.std.proofs.Common.{[], ap, subst, sym}
 use Rattle.spki_core.specs.Words.{identifier_held}
 use Rattle.pkcs1_params.specs.Words.{written_labelled, oaep_of, oaep_record}
 use Rattle.pkcs1_params.proofs.Labels.{labelled_counted, labelled_is}
-use Rattle.pkcs1_params.proofs.Masks.{is_spelled, counts_as}
+use Rattle.pkcs1_params.proofs.Masks.{record_is_spelled, counts_as}
 use Rattle.standard.specs.Statement.{IsOaep, OaepParameters, sequence}
 use Rattle.pkcs1_params.proofs.label.labelled_len.Goals as goal
 
@@ -16,4 +16,4 @@ returns g c label bytes same =
     counts_as (sequence (written_labelled oid label)) _ (λ _. labelled_is oid label held bytes) (λ _. tt)
     (c.tagged_len.ensures (written_labelled oid label)
     (rw c.joined_len.ensures
-    (labelled_counted oid label v _ _ (is_spelled oaep_record v 0 valid) c.new.ensures counted (c.source_len.ensures label same))))
+    (labelled_counted oid label v _ _ (record_is_spelled oaep_record v 0 valid) c.new.ensures counted (c.source_len.ensures label same))))

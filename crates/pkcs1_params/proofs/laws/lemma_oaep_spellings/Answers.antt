@@ -1,4 +1,4 @@
-use Rattle.spki_core.proofs.Fielded.{two_to_the_defaults}
+use Rattle.spki_core.proofs.RecordEncodings.{two_to_the_defaults}
 use Rattle.pkcs1_params.specs.Words.{oaep_record}
 use Rattle.pkcs1_params.proofs.Masks.{accepted_fits, defaults_counted, each_has_one_mask, each_mask_has_one, record_delimited, same_by_shortest, shortest_has_no_defaults}
 use Rattle.standard.specs.Statement.{OaepEncoding}

@@ -1,4 +1,4 @@
-use Rattle.spki_core.proofs.Fielded.{record_decodes}
+use Rattle.spki_core.proofs.RecordEncodings.{record_decodes}
 use Rattle.spki_core.proofs.StrictFields.{strict_decodes}
 use Rattle.pkcs1_params.specs.Words.{oaep_record, pss_record}
 use Rattle.pkcs1_params.proofs.Faults.{strict_tells, first_named}

@@ -3,7 +3,7 @@ use Rattle.std.specs.Global.{Vec}
 use Rattle.std.proofs.lemmas.List.{map-append}
 use Rattle.der_core.specs.Words.{err_from_is_err_and}
 use Rattle.spki_core.specs.Words.{upto}
-use Rattle.spki_core.proofs.Fielded.{counted, fits, made, upto_more}
+use Rattle.spki_core.proofs.RecordEncodings.{default_count_only, encoding_under, encoding_under_fits, upto_more}
 use Rattle.pkcs1_params.proofs.listing.encodings_under.Goals as goal
 
 pub invariant_of-spelling : goal.invariant_of-spelling
@@ -11,7 +11,8 @@ invariant_of-spelling g c =
     let t = g.T.EncodeParams in
     let v = t.params c.args.params in
     record {
-      range = λ k d. subst (λ n. c.loop-mask.mask < n) (c.requires.masks ∙ ap (λ n. 2 ^ n) (sym (counted t.form v k d)))
+      range = λ k d. subst (λ n. c.loop-mask.mask < n)
+          (c.requires.masks ∙ ap (λ n. 2 ^ n) (sym (default_count_only t.form v k d)))
           c.loop-mask-test.true;
       known = c.requires.non_defaults;
     }
@@ -23,7 +24,7 @@ returns-in_err-to_vec-clause-err g c =
     rw (e.1, e.2) (elim c.in_err-to_vec.ensures.err [
       | inl memory ↦ memory
       | inr long ↦
-          let few = fits t.form (t.params c.args.params) c.loop-mask.mask c.requires.fit in
+          let few = encoding_under_fits t.form (t.params c.args.params) c.loop-mask.mask c.requires.fit in
           absurd (omega (arith, few, long.1))
     ])
 
@@ -34,5 +35,5 @@ loop-mask-preserved g c =
     let item : Vec ℕ → List ℕ = λ encoding. encoding.items in
     ap (map item) c.in_ok-push.ensures.items ∙ map-append item c.loop-mask.encodings.items (c.in_ok-to_vec.field-0 ∷ [])
     ∙ ap (λ xs. xs ++ c.in_ok-to_vec.field-0.items ∷ []) c.loop-mask.invariant
-    ∙ ap (λ x. upto c.loop-mask.mask (made t.form v) ++ x ∷ []) c.in_ok-to_vec.ensures.ok
-    ∙ sym (upto_more c.loop-mask.mask (made t.form v))
+    ∙ ap (λ x. upto c.loop-mask.mask (encoding_under t.form v) ++ x ∷ []) c.in_ok-to_vec.ensures.ok
+    ∙ sym (upto_more c.loop-mask.mask (encoding_under t.form v))

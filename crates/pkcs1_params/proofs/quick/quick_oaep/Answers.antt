@@ -1,5 +1,5 @@
 use Rattle.std.proofs.Common.{[], ◌∷◌, ◌∙◌, List, Ok}
-use Rattle.spki_core.proofs.Readings.{NoneRefused, accepted, field_meant, field_spelled, record_found, there}
+use Rattle.spki_core.proofs.Readings.{NoneRefused, default_accepted, field_meant, field_spelled, record_found, there}
 use Rattle.spki_core.specs.Words.{viewed_with, any_of, Kind, Spelling}
 use Rattle.pkcs1_params.specs.Words.{oaep_record, hash_kind, mask_kind, oaep_kinds, of_oaep_fields, source_kind}
 use Rattle.pkcs1_params.proofs.quick.quick_oaep.Goals as goal
@@ -21,10 +21,10 @@ returns c =
     (field_spelled mask_kind behind c.mgf1_with-default.ensures c.new-2.ensures second third c.in_ok-mask_gen.ensures _
     (field_spelled source_kind [] c.empty_source-default.ensures c.new-3.ensures third _ c.in_ok-p_source.ensures _ c.in_ok-quick_parts.ensures)) in
     let none : NoneRefused strict oaep_kinds found = (
-      accepted hash_kind hash first strict c.in_ok-accept_hash.ensures,
+      default_accepted hash_kind hash first strict c.in_ok-accept_hash.ensures,
       (
-        accepted mask_kind mask second strict c.in_ok-accept_mask_gen.ensures,
-        (accepted source_kind source third strict c.in_ok-accept_source.ensures, tt),
+        default_accepted mask_kind mask second strict c.in_ok-accept_mask_gen.ensures,
+        (default_accepted source_kind source third strict c.in_ok-accept_source.ensures, tt),
       ),
     ) in
     let hash_is = field_meant hash_kind (mask_kind ∷ behind) c.with_null-default.ensures c.new.ensures first second c.in_ok-hash.ensures in

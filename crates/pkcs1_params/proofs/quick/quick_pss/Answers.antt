@@ -1,5 +1,5 @@
 use Rattle.std.proofs.Common.{[], ◌∷◌, ◌∙◌, List, Ok, refl}
-use Rattle.spki_core.proofs.Readings.{NoneRefused, accepted, field_meant, field_spelled, record_found, there}
+use Rattle.spki_core.proofs.Readings.{NoneRefused, default_accepted, field_meant, field_spelled, record_found, there}
 use Rattle.spki_core.specs.Words.{viewed_with, any_of, Kind, Spelling}
 use Rattle.pkcs1_params.specs.Words.{pss_record, hash_kind, mask_kind, of_pss_fields, pss_kinds, salt_kind, trailer_kind}
 use Rattle.pkcs1_params.proofs.quick.quick_pss.Goals as goal
@@ -25,12 +25,12 @@ returns c =
     (field_spelled salt_kind last refl c.new-3.ensures third fourth c.in_ok-salt_len.ensures _
     (field_spelled trailer_kind [] refl c.new-5.ensures fourth _ c.in_ok-trailer_field.ensures _ c.in_ok-quick_parts.ensures))) in
     let none : NoneRefused strict pss_kinds found = (
-      accepted hash_kind hash first strict c.in_ok-accept_hash.ensures,
+      default_accepted hash_kind hash first strict c.in_ok-accept_hash.ensures,
       (
-        accepted mask_kind mask second strict c.in_ok-accept_mask_gen.ensures,
+        default_accepted mask_kind mask second strict c.in_ok-accept_mask_gen.ensures,
         (
-          accepted salt_kind salt third strict (rw c.new-4.ensures at c.in_ok-accept_number.ensures),
-          (accepted trailer_kind 1 fourth strict (rw c.new-6.ensures at c.in_ok-accept_number-2.ensures), tt),
+          default_accepted salt_kind salt third strict (rw c.new-4.ensures at c.in_ok-accept_number.ensures),
+          (default_accepted trailer_kind 1 fourth strict (rw c.new-6.ensures at c.in_ok-accept_number-2.ensures), tt),
         ),
       ),
     ) in

@@ -1,6 +1,6 @@
 use Rattle.std.proofs.Common.{sym, subst, ap, ◌∙◌}
 use Rattle.spki_core.specs.Words.{defaults_in, defaults_same}
-use Rattle.spki_core.proofs.Fielded.{counted_there}
+use Rattle.spki_core.proofs.RecordEncodings.{default_count_there}
 use Rattle.standard.specs.Statement.{Defaults}
 use Rattle.pkcs1_params.proofs.spelling.count_defaults.Goals as goal
 
@@ -11,4 +11,4 @@ returns-clause-count g c =
     let is =
     c.count_defaults.ensures.count ∙ ap defaults_in c.fields.ensures.are
     ∙ defaults_same t.form.kinds (t.form.split v) in
-    subst (Defaults (t.fields_of v)) (sym is) (counted_there t.form v)
+    subst (Defaults (t.fields_of v)) (sym is) (default_count_there t.form v)

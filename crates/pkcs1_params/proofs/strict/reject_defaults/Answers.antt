@@ -2,7 +2,7 @@ use Rattle.std.proofs.Common.{arith, ap, sym, ◌∙◌}
 use Rattle.der_core.specs.Words.{are_bytes}
 use Rattle.spki_core.specs.Words.{unless_found}
 use Rattle.spki_core.proofs.StrictFields.{strict_walks}
-use Rattle.pkcs1_params.proofs.Faults.{told_as}
+use Rattle.pkcs1_params.proofs.Faults.{fault_kind_given}
 use Rattle.pkcs1_params.proofs.strict.reject_defaults.Goals as goal
 
 pub returns-in-Some : goal.returns-in-Some
@@ -10,7 +10,7 @@ returns-in-Some g c =
     let t = g.T.EncodeParams in
     let v = t.params c.args.params in
     let bytes = are_bytes _ (λ i. omega (arith, c.type_inv.bytes i)) in
-    told_as _ _
+    fault_kind_given _ _
     (strict_walks t.form v c.args.bytes.now bytes c.requires ∙ ap (λ found. unless_found found v) (sym c.in-Some.ensures))
     c.is_written.result c.is_written.ensures
 

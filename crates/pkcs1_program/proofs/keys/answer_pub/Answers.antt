@@ -1,17 +1,17 @@
 use Rattle.der_core.specs.Words.{bytes_of}
-use Rattle.pkcs1.proofs.KeyReads.{public_one}
+use Rattle.pkcs1.proofs.KeyReads.{public_key_at_most_one}
 use Rattle.pkcs1.specs.Words.{held_public_key}
 use Rattle.standard.specs.Statement.{PublicKeyEncoding}
 use Rattle.pkcs1_program.specs.Words.{pub_answer}
-use Rattle.pkcs1_program.proofs.PutBehind.{key_told, refused}
+use Rattle.pkcs1_program.proofs.AppendedOutput.{key_answer_put, refusal_put}
 use Rattle.pkcs1_program.proofs.keys.answer_pub.Goals as goal
 
 pub returns-in-Ok : goal.returns-in-Ok
 returns-in-Ok c =
-    key_told PublicKeyEncoding c.args.encoding.now _ _ c.put_pub.result pub_answer public_one
+    key_answer_put PublicKeyEncoding c.args.encoding.now _ _ c.put_pub.result pub_answer public_key_at_most_one
     (held_public_key bytes_of c.in-Ok.key) c.in-Ok.ensures.read.0 c.put_pub.ensures
 
 pub returns-in-Err : goal.returns-in-Err
 returns-in-Err c =
-    refused PublicKeyEncoding c.args.encoding.now _ _ c.put_refused.result _ c.in-Err.ensures.read
+    refusal_put PublicKeyEncoding c.args.encoding.now _ _ c.put_refused.result _ c.in-Err.ensures.read
     c.put_refused.ensures

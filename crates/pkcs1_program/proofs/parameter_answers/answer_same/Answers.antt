@@ -3,7 +3,7 @@ use Rattle.std.proofs.lemmas.Result.{on_ok_weaker}
 use Rattle.std.proofs.lemmas.Slice.Eq.{bytes_eq-Decides}
 use Rattle.pkcs1_params.proofs.Masks.{record_delimited, same_by_shortest}
 use Rattle.pkcs1_params.specs.Words.{Encoded}
-use Rattle.pkcs1_program.proofs.Verdicts.{said, says}
+use Rattle.pkcs1_program.proofs.Verdicts.{verdict_of, verdict_says}
 use Rattle.pkcs1_program.proofs.parameter_answers.answer_same.Goals as goal
 
 pub returns-in_ok-second_buffer-in-Some-Some : goal.returns-in_ok-second_buffer-in-Some-Some
@@ -22,7 +22,7 @@ returns-in_ok-second_buffer-in-Some-Some g c =
     let own : IsTrue c.eq.result ↔ (v ≡ w) =
     (λ so. law.1 (decides.0 (sym c.eq.ensures ∙ so)), λ same. c.eq.ensures ∙ decides.1 (law.0 same)) in
     on_ok_weaker c.put_verdict.result (λ put. (
-      said c.args.word.now c.eq.result,
-      inr (v, w, first, second, says c.args.word.now c.eq.result (v ≡ w) own),
+      verdict_of c.args.word.now c.eq.result,
+      inr (v, w, first, second, verdict_says c.args.word.now c.eq.result (v ≡ w) own),
       put,
     )) c.put_verdict.ensures

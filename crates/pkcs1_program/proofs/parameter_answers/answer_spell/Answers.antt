@@ -1,8 +1,8 @@
 use Rattle.std.proofs.Common.{refl}
 use Rattle.pkcs1_params.specs.Words.{encodings_in}
 use Rattle.pkcs1_program.specs.Words.{ListedEncoding}
-use Rattle.pkcs1_program.proofs.PutBehind.{refused, told}
-use Rattle.pkcs1_program.proofs.OneAnswer.{none_fits}
+use Rattle.pkcs1_program.proofs.AppendedOutput.{answer_put, refusal_put}
+use Rattle.pkcs1_program.proofs.OneAnswer.{unlisted_decodes_none}
 use Rattle.pkcs1_program.proofs.parameter_answers.answer_spell.Goals as goal
 
 pub returns-in-Some-2 : goal.returns-in-Some-2
@@ -10,7 +10,7 @@ returns-in-Some-2 g c =
     let t = g.T.Parameters in
     let lists = rw c.in-Some-2.is at c.in_ok-encodings.ensures.listed in
     let fit = rw c.in-Some-2.is at c.in_ok-encodings.ensures.fit in
-    told (ListedEncoding t.Is t.fields_of) c.args.encoding.now _ _ c.put_spellings.result _
+    answer_put (ListedEncoding t.Is t.fields_of) c.args.encoding.now _ _ c.put_spellings.result _
     (t.params c.in-Some.params) _ (c.in-Some.ensures.0, fit) (encodings_in c.in-Some-2.encodings, lists, refl)
     (rw c.as_slice.ensures.value at c.put_spellings.ensures)
 
@@ -18,12 +18,12 @@ pub returns : goal.returns
 returns g c =
     let t = g.T.Parameters in
     let lists = rw c.in-None.is at c.in_ok-encodings.ensures.listed in
-    refused (ListedEncoding t.Is t.fields_of) c.args.encoding.now _ _ c.put_refused-in-None.result _
-    (none_fits t.Is t.fields_of (t.params c.in-Some.params) c.args.encoding.now c.in-Some.ensures lists)
+    refusal_put (ListedEncoding t.Is t.fields_of) c.args.encoding.now _ _ c.put_refused-in-None.result _
+    (unlisted_decodes_none t.Is t.fields_of (t.params c.in-Some.params) c.args.encoding.now c.in-Some.ensures lists)
     c.put_refused-in-None.ensures
 
 pub returns-in_default : goal.returns-in_default
 returns-in_default g c =
     let t = g.T.Parameters in
-    refused (ListedEncoding t.Is t.fields_of) c.args.encoding.now _ _ c.put_refused.result _
+    refusal_put (ListedEncoding t.Is t.fields_of) c.args.encoding.now _ _ c.put_refused.result _
     (λ v p. c.in_default.ensures v p.0) c.put_refused.ensures

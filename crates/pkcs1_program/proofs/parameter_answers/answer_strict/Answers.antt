@@ -1,6 +1,6 @@
 use Rattle.pkcs1_params.specs.Words.{Encoded}
-use Rattle.pkcs1_program.proofs.PutBehind.{told}
-use Rattle.pkcs1_program.proofs.Verdicts.{own_shortest, says}
+use Rattle.pkcs1_program.proofs.AppendedOutput.{answer_put}
+use Rattle.pkcs1_program.proofs.Verdicts.{own_shortest, verdict_says}
 use Rattle.pkcs1_program.proofs.parameter_answers.answer_strict.Goals as goal
 
 pub returns-in-Some : goal.returns-in-Some
@@ -10,5 +10,5 @@ returns-in-Some g c =
     let encoding = c.args.encoding.now in
     let v = t.params c.in-Some._params in
     let own = own_shortest E encoding c.is_strict.result v c.in-Some.ensures c.is_strict.ensures in
-    told E encoding _ _ c.put_verdict.result _ v _ c.in-Some.ensures.0
-    (says c.args.word.now c.is_strict.result _ own) c.put_verdict.ensures
+    answer_put E encoding _ _ c.put_verdict.result _ v _ c.in-Some.ensures.0
+    (verdict_says c.args.word.now c.is_strict.result _ own) c.put_verdict.ensures

@@ -12,7 +12,7 @@ returns g c =
     let params = c.args.params.now in
     let is = c.in-Ok.ensures.shortest in
     shortest_as (Spells t.valid t.printed t.means) (Encoded a.Is a.fields_of) (t.value params) (a.params params)
-    ((g.met.T.Parameters c.lifetimes claim).encodings_are params) c.in-Ok.shortest.now (is.spells, is.least)
+    ((g.met.T.Parameters c.lifetimes claim).encodings_are params) c.in-Ok.shortest.now is
 
 pub unreachable-requires : goal.unreachable-requires
 unreachable-requires g c =

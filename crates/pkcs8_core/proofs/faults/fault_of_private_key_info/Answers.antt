@@ -1,12 +1,12 @@
 use Rattle.std.proofs.Common.{Ok, Err}
-use Rattle.pkcs1_params.proofs.Faults.{no_fault}
+use Rattle.pkcs1_params.proofs.Faults.{fault_in_none}
 use Rattle.standard.specs.Statement.{Container, ContainerEncoding}
 use Rattle.pkcs8_core.proofs.faults.fault_of_private_key_info.Goals as goal
 
 pub returns-in-Ok-clause-encodes : goal.returns-in-Ok-clause-encodes
 returns-in-Ok-clause-encodes c =
-    no_fault {V = Container} ContainerEncoding c.args.bytes.now (Ok _) c.in-Ok.ensures.read
+    fault_in_none {V = Container} ContainerEncoding c.args.bytes.now (Ok _) c.in-Ok.ensures.read
 
 pub returns-in-Err-clause-encodes : goal.returns-in-Err-clause-encodes
 returns-in-Err-clause-encodes c =
-    no_fault {V = Container} ContainerEncoding c.args.bytes.now (Err _) c.in-Err.ensures.read
+    fault_in_none {V = Container} ContainerEncoding c.args.bytes.now (Err _) c.in-Err.ensures.read

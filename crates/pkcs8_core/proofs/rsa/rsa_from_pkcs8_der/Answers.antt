@@ -1,6 +1,6 @@
 use Rattle.std.proofs.Common.{arith, refl, rules}
 use Rattle.der_core.specs.Words.{are_bytes}
-use Rattle.spki_core.specs.Words.{octets_of}
+use Rattle.spki_core.specs.Words.{identifier_octets}
 use Rattle.pkcs1.specs.Words.{held_view}
 use Rattle.pkcs1_params.proofs.Faults.{errs_behind, errs_decode}
 use Rattle.pkcs1_params.specs.Words.{ErrsAs}
@@ -13,7 +13,7 @@ pub returns-clause-read : goal.returns-clause-read
 returns-clause-read c =
     let bytes = c.args.bytes.now in
     let are = are_bytes bytes (λ i. omega (arith, c.type_inv.bytes i)) in
-    let told = errs_behind held_view (private_key_info bytes) rsa_held (info_in octets_of c.in_ok-info.info)
+    let told = errs_behind held_view (private_key_info bytes) rsa_held (info_in identifier_octets c.in_ok-info.info)
     c.in_ok-info.ensures.exact c.rsa_view.result c.rsa_view.ensures.exact in
     errs_decode ContainedKeyEncoding bytes held_view (rsa_private_key_info bytes) (contained_keys_decode bytes are)
     c.rsa_view.result told
@@ -28,6 +28,6 @@ returns-in_err-info-clause-read c =
 
 pub returns-clause-bytes : goal.returns-clause-bytes
 returns-clause-bytes c =
-    let info = info_in octets_of c.in_ok-info.info in
+    let info = info_in identifier_octets c.in_ok-info.info in
     viewed_in info c.args.bytes.now info.private_key c.in_ok-info.ensures.read.0 refl c.rsa_view.result
     c.rsa_view.ensures.bytes

@@ -1,5 +1,5 @@
 use Rattle.std.proofs.Common.{◌≡◌, [], ◌++◌, ◌≤◌, length, refl, sym, subst, ap, ◌∙◌, arith, append-nil}
-use Rattle.der_core.specs.Words.{Is, tlv_split, tlv_made, prints_one, tagged_law, tlv_short, object_identifier, Tlv, tlv}
+use Rattle.der_core.specs.Words.{Is, tlv_split, tlv_made, prints_one, tagged_law, tlv_short, object_identifier_tag, Tlv, tlv}
 use Rattle.spki_core.specs.Words.{oid_law}
 use Rattle.spki_core.proofs.algorithm_identifier.lemma_identifier_alone_takes_no_memory.Goals as goal
 
@@ -14,6 +14,6 @@ returns g c oid encoding held same (b, rest, is, asks) =
     let both : tlv 6 oid ++ [] ≡ tlv 6 o ++ last =
     append-nil (tlv 6 oid) ∙ sym only ∙ split ∙ ap (λ x. x ++ last) printed in
     let one =
-    prints_one (tagged_law oid_law object_identifier) oid o [] last held identifier
+    prints_one (tagged_law oid_law object_identifier_tag) oid o [] last held identifier
     (omega (arith, few, ap length (append-nil (tlv 6 oid)))) both in
     omega (arith, more, ap length one.1)

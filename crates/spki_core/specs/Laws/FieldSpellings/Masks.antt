@@ -4,7 +4,7 @@ use Rattle.std.proofs.Math.Nat.{pow-suc}
 use Rattle.std.proofs.lemmas.Bool.{cases_Bool, false_from_ne_true}
 use Rattle.std.specs.List.{concat}
 use Rattle.der_core.specs.Words.{nat_tests}
-use Rattle.spki_core.specs.FieldSpellings.{AreLawful, AreSpelled, AreValid, Kind, Spelling, Values, defaults, fields_of, mask_of, meant, one_spelled, spelled, under}
+use Rattle.spki_core.specs.FieldSpellings.{AreLawful, AreSpelled, AreValid, Kind, Spelling, Values, defaults, fields_of, mask_of, one_spelled, spelled, spelling_means, under}
 use Rattle.standard.specs.Statement.{Defaults, Field, FieldsUnder}
 
 two_pow : (d : ℕ) → 2 ^ (d + 1) ≡ 2 ^ d * 2
@@ -25,11 +25,12 @@ by_field k ks mask x v P out there other = elim (cases_Bool (k.is_default x)) [
 ]
 
 pub under_means : (ks : List Kind) (n : ℕ) → AreLawful n ks → (mask : ℕ) (v : Values ks)
-    → meant ks (under ks mask v) ≡ v
+    → spelling_means ks (under ks mask v) ≡ v
 under_means [] n law mask v = refl
 under_means (k ∷ ks) n law mask (x, v) =
     let later = λ (m : ℕ). under_means ks (k.number + 1) law.4 m v in
-    by_field k ks mask x v (λ s. meant (k ∷ ks) s ≡ (x, v)) (λ is even i. (sym ((law.2 x).0 is) i, later (mask / 2) i))
+    by_field k ks mask x v (λ s. spelling_means (k ∷ ks) s ≡ (x, v))
+    (λ is even i. (sym ((law.2 x).0 is) i, later (mask / 2) i))
     (λ is odd i. (x, later (mask / 2) i)) (λ isnt i. (x, later mask i))
 
 pub under_valid : (ks : List Kind) (mask : ℕ) (v : Values ks) → AreValid ks v → AreSpelled ks (under ks mask v)
@@ -51,27 +52,28 @@ under_mask (k ∷ ks) n law mask (x, v) less =
     (λ is odd. rw is (grind (arith, nat_tests, odd, half is))) (λ isnt. rw isnt (later mask (rw isnt at less)))
 
 -- The mask of a spelling is below two to the defaults, gives the spelling back, and is what `Statement.antt` calls so.
-pub masked : (ks : List Kind) (n : ℕ) → AreLawful n ks → (s : Spelling ks)
-    → (mask_of ks s < 2 ^ defaults ks (meant ks s)) × (under ks (mask_of ks s) (meant ks s) ≡ s)
-    × FieldsUnder (mask_of ks s) (fields_of ks (meant ks s)) (spelled ks s)
-masked [] n law s = (omega arith, refl, (refl, refl))
-masked (k ∷ ks) n law (None, s) =
-    let (less, same, fields) = masked ks (k.number + 1) law.4 s in
+pub spelling_masked : (ks : List Kind) (n : ℕ) → AreLawful n ks → (s : Spelling ks)
+    → (mask_of ks s < 2 ^ defaults ks (spelling_means ks s)) × (under ks (mask_of ks s) (spelling_means ks s) ≡ s)
+    × FieldsUnder (mask_of ks s) (fields_of ks (spelling_means ks s)) (spelled ks s)
+spelling_masked [] n law s = (omega arith, refl, (refl, refl))
+spelling_masked (k ∷ ks) n law (None, s) =
+    let (less, same, fields) = spelling_masked ks (k.number + 1) law.4 s in
     let m = mask_of ks s in
     let is : k.is_default k.default ≡ true = (law.2 k.default).1 refl in
     let even : ((2 * m) % 2 == 0) ≡ true = grind (arith, nat_tests) in
     let half : (2 * m) / 2 ≡ m = omega arith in
-    let below : 2 * m < 2 ^ (defaults ks (meant ks s) + 1) = omega (arith, less, two_pow (defaults ks (meant ks s))) in
+    let below : 2 * m < 2 ^ (defaults ks (spelling_means ks s) + 1) = omega
+    (arith, less, two_pow (defaults ks (spelling_means ks s))) in
     rw (is, even, half) (below, (λ i. (None, same i)), inl (refl, m, refl, fields))
-masked (k ∷ ks) n law (Some x, s) =
-    let (less, same, fields) = masked ks (k.number + 1) law.4 s in
+spelling_masked (k ∷ ks) n law (Some x, s) =
+    let (less, same, fields) = spelling_masked ks (k.number + 1) law.4 s in
     let m = mask_of ks s in
     elim (cases_Bool (k.is_default x)) [
       | inl is ↦
           let odd : ((2 * m + 1) % 2 == 0) ≡ false = grind (arith, nat_tests) in
           let half : (2 * m + 1) / 2 ≡ m = omega arith in
-          let below : 2 * m + 1 < 2 ^ (defaults ks (meant ks s) + 1) =
-          omega (arith, less, two_pow (defaults ks (meant ks s))) in
+          let below : 2 * m + 1 < 2 ^ (defaults ks (spelling_means ks s) + 1) =
+          omega (arith, less, two_pow (defaults ks (spelling_means ks s))) in
           rw (is, odd, half) (
             below,
             (λ i. (Some x, same i)),
@@ -85,7 +87,7 @@ masked (k ∷ ks) n law (Some x, s) =
 -- And such fields are a spelling.
 fields_masked : (ks : List Kind) (n : ℕ) → AreLawful n ks → (mask : ℕ) (v : Values ks) (c : List ℕ)
     → FieldsUnder mask (fields_of ks v) c
-    → (s : Spelling ks) × (meant ks s ≡ v) × (mask_of ks s ≡ mask) × (c ≡ spelled ks s)
+    → (s : Spelling ks) × (spelling_means ks s ≡ v) × (mask_of ks s ≡ mask) × (c ≡ spelled ks s)
 fields_masked [] n law mask v c p = (tt, refl, sym p.1, p.0)
 fields_masked (k ∷ ks) n law mask (x, v) c (inl (d, half, is, p)) =
     let (s, e, m, same) = fields_masked ks (k.number + 1) law.4 half v c p in
@@ -102,13 +104,13 @@ fields_masked (k ∷ ks) n law mask (x, v) c (inr (inr (other, later, split, p))
 pub under_is : (ks : List Kind) (n : ℕ) → AreLawful n ks → (mask : ℕ) (v : Values ks) → mask < 2 ^ defaults ks v
     → FieldsUnder mask (fields_of ks v) (spelled ks (under ks mask v))
 under_is ks n law mask v less =
-    rw (under_mask ks n law mask v less, under_means ks n law mask v) at (masked ks n law (under ks mask v)).2
+    rw (under_mask ks n law mask v less, under_means ks n law mask v) at (spelling_masked ks n law (under ks mask v)).2
 
 pub under_only : (ks : List Kind) (n : ℕ) → AreLawful n ks → (mask : ℕ) (v : Values ks) (c : List ℕ)
     → FieldsUnder mask (fields_of ks v) c → (mask < 2 ^ defaults ks v) × (c ≡ spelled ks (under ks mask v))
 under_only ks n law mask v c p =
     let (s, e, m, same) = fields_masked ks n law mask v c p in
-    let (less, back, fields) = masked ks n law s in
+    let (less, back, fields) = spelling_masked ks n law s in
     (rw (m, e) at less, same ∙ ap (spelled ks) (sym (rw (m, e) at back)))
 
 -- The number of defaults is what `Statement.antt` says.
@@ -136,13 +138,13 @@ defaults_there (k ∷ ks) n law (x, v) =
 abbrev pub full : (ks : List Kind) → Values ks → List ℕ
 full ks v = concat (map (λ (f : Field). f.written) (fields_of ks v))
 
-pub full_last : (ks : List Kind) (s : Spelling ks) → length (spelled ks s) ≤ length (full ks (meant ks s))
+pub full_last : (ks : List Kind) (s : Spelling ks) → length (spelled ks s) ≤ length (full ks (spelling_means ks s))
 full_last [] s = omega arith
 full_last (k ∷ ks) (None, s) =
-    omega (arith, full_last ks s, length-append (one_spelled k k.default) (full ks (meant ks s)))
+    omega (arith, full_last ks s, length-append (one_spelled k k.default) (full ks (spelling_means ks s)))
 full_last (k ∷ ks) (Some x, s) =
     let front = length-append (one_spelled k x) in
-    omega (arith, full_last ks s, front (full ks (meant ks s)), front (spelled ks s))
+    omega (arith, full_last ks s, front (full ks (spelling_means ks s)), front (spelled ks s))
 
 -- It stands under the greatest mask.
 pub full_there : (ks : List Kind) (v : Values ks) (mask : ℕ) → mask + 1 ≡ 2 ^ defaults ks v

@@ -1,6 +1,6 @@
 -- The laws of a record that holds the values of fields: what reads it, and what is written of it.
 use Rattle.std.proofs.Common.{ℕ, List, refl, ap, ◌∙◌}
-use Rattle.der_core.specs.Words.{tagged_law, joined_shortest, reads, Prints, ReadsAlike, ReadsFrontPrinted, ReadsPrinted, Spells, WritesShortest, ReadsContents, tagged}
+use Rattle.der_core.specs.Words.{tagged_law, joined_shortest, reading_reads, Prints, ReadsAlike, ReadsFrontPrinted, ReadsPrinted, Spells, WritesShortest, ReadsContents, tagged}
 use Rattle.der_core.specs.Tags as tags
 use Rattle.spki_core.specs.FieldSpellings.{AreSpelled, FieldRecord, record_means, record_read, record_under, spelled, spelling_read}
 use Rattle.spki_core.specs.Laws.FieldSpellings.Shortest.{fields_alike, fields_shortest, fields_spelled, spelled_fields, spelled_valid, spellings_law}
@@ -11,8 +11,8 @@ module _ {V : Type 0} {Is : V → Type 0} {fields : V → List Field} (r : Field
   record_law = spellings_law r.kinds 0 r.lawful
 
   pub record_front_law : ReadsFrontPrinted (AreSpelled r.kinds) (λ s. sequence (spelled r.kinds s))
-      (tagged tags.sequence (spelling_read r.kinds))
-  record_front_law = tagged_law record_law tags.sequence
+      (tagged tags.sequence_tag (spelling_read r.kinds))
+  record_front_law = tagged_law record_law tags.sequence_tag
 
   pub record_alike : ReadsAlike (spelling_read r.kinds) (record_means r) (record_read r)
   record_alike = fields_alike r.kinds r.join
@@ -37,7 +37,7 @@ module _ {V : Type 0} {Is : V → Type 0} {fields : V → List Field} (r : Field
 
   pub record_reads : ReadsContents (λ v c. Is v × Fields (fields v) c) (record_read r)
   record_reads =
-      let old = reads record_law record_alike in
+      let old = reading_reads record_law record_alike in
       record {
         gives = λ c v bytes e. fields_to v c (old.gives c v bytes e);
         takes = λ c v few p. old.takes c v few (fields_from v c p.0 p.1);

@@ -1,25 +1,28 @@
 use Rattle.std.proofs.Common.{arith, rules, ℕ, List, Ok, Result}
-use Rattle.der_core.specs.Words.{Error, Tag, AreBytes, are_bytes, tagged_alike, tagged_law, reads_front, Prints, ReadsAlike, ReadsPrinted, AllocatesIn, ReadsAll, Returns, Reading, tagged, whole, tlv}
+use Rattle.der_core.specs.Words.{Error, Tag, AreBytes, are_bytes, tagged_alike, tagged_law, front_reading_reads, Prints, ReadsAlike, ReadsPrinted, AllocatesIn, ReadsAll, Returns, Reading, tagged, whole, tlv}
 use Rattle.der_core.proofs.Readings.{whole_reads}
-use Rattle.der_core.proofs.ReadSteps.{reads_all}
+use Rattle.der_core.proofs.ReadSteps.{whole_returned_reads_all}
 use Rattle.der_core.proofs.decode.AnyDecodeRefSliceU8.from_der.Goals as goal
 
 -- The values of what the function gives.
-meant : {X S V : Type 0} (value : X → V) (tag : Tag) {valid : S → Type 0} {printed : S → List ℕ} {spelling : Reading S}
+whole_tagged_meant : {X S V : Type 0} (value : X → V) (tag : Tag) {valid : S → Type 0} {printed : S → List ℕ}
+    {spelling : Reading S}
     {means : S → V} {read : Reading V} → ReadsPrinted valid printed spelling → ReadsAlike spelling means read
     → (may : List ℕ → Type 0) (b : List ℕ) → AreBytes b → (r : Result X Error)
     → Returns value (whole (tagged tag read) b) (AllocatesIn may b) r
     → ReadsAll value (Prints valid (λ s. tlv tag.octet (printed s)) means) may r b
-meant value tag {read = read} law alike may b bytes r exact =
-    reads_all value (tagged tag read) b (whole_reads (reads_front (tagged_law law tag) (tagged_alike alike tag))) may r
+whole_tagged_meant value tag {read = read} law alike may b bytes r exact =
+    whole_returned_reads_all value (tagged tag read) b
+    (whole_reads (front_reading_reads (tagged_law law tag) (tagged_alike alike tag))) may r
     bytes exact
 
 pub returns-in-Some-clause-encoding : goal.returns-in-Some-clause-encoding
 returns-in-Some-clause-encoding g c =
-    meant g.T.Contents.value g.T.FixedTag.TAG g.T.Contents.law g.T.Contents.reads_alike (λ _. ⊥) c.args.bytes.now
+    whole_tagged_meant g.T.Contents.value g.T.FixedTag.TAG g.T.Contents.law g.T.Contents.reads_alike (λ _. ⊥)
+    c.args.bytes.now
     (are_bytes _ (λ i. omega (arith, c.type_inv.bytes i))) (Ok c.in-Some.value) (search rules)
 
 pub returns-clause-encoding : goal.returns-clause-encoding
 returns-clause-encoding g c =
-    meant g.T.Contents.value g.T.FixedTag.TAG g.T.Contents.law g.T.Contents.reads_alike _ c.args.bytes.now
+    whole_tagged_meant g.T.Contents.value g.T.FixedTag.TAG g.T.Contents.law g.T.Contents.reads_alike _ c.args.bytes.now
     (are_bytes _ (λ i. omega (arith, c.type_inv.bytes i))) c.read_slowly.result c.read_slowly.ensures

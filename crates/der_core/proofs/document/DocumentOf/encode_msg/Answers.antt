@@ -1,8 +1,8 @@
 use Rattle.std.proofs.Common.{◌∙◌, ◌≡◌, ◌≤◌, ◌++◌, length, take, drop, sym, subst, ap, arith}
-use Rattle.der_core.specs.Words.{AreBytes, limit, tlv, IsDocument, IsShortest, tagged_shortest, Prints}
-use Rattle.der_core.proofs.Writing.{is_shortest}
-use Rattle.der_core.proofs.Documents.{written_document, written_over}
+use Rattle.der_core.specs.Words.{AreBytes, limit, tlv, IsDocument, written_is_shortest, tagged_shortest, Spells}
+use Rattle.der_core.proofs.Documents.{front_written_over, written_document}
 use Rattle.der_core.proofs.document.DocumentOf.encode_msg.Goals as goal
+use Rattle.standard.specs.Statement.{IsShortest}
 
 pub invariant_of-result : goal.invariant_of-result
 invariant_of-result g c =
@@ -12,7 +12,7 @@ invariant_of-result g c =
     let encoding = tlv tag contents in
     let same : take c.in_ok-bytes.bytes.len
     (c.write_over.new.out ++ drop (length c.write_over.new.out) c.in_ok-bytes.bytes.items) ≡ encoding =
-    written_over _ _ _ encoding c.write_over.ensures
+    front_written_over _ _ _ encoding c.write_over.ensures
     (c.in_ok-bytes.ensures.len ∙ c.to_usize-length.ensures.value ∙ c.in_ok-encoded_len.ensures.counted.1) in
     let fits : length encoding ≤ limit = omega (arith, c.in_ok-encoded_len.ensures.counted) in
     let claim : g.claim c.lifetimes = assumption in
@@ -28,10 +28,10 @@ returns-clause-holds g c =
     let encoding = tlv tag (t.printed (t.written v)) in
     let same : take c.in_ok-bytes.bytes.len
     (c.write_over.new.out ++ drop (length c.write_over.new.out) c.in_ok-bytes.bytes.items) ≡ encoding =
-    written_over _ _ _ encoding c.write_over.ensures
+    front_written_over _ _ _ encoding c.write_over.ensures
     (c.in_ok-bytes.ensures.len ∙ c.to_usize-length.ensures.value ∙ c.in_ok-encoded_len.ensures.counted.1) in
     let fits : length encoding ≤ limit = omega (arith, c.in_ok-encoded_len.ensures.counted) in
-    let Printed = Prints t.valid (λ s. tlv tag (t.printed s)) t.means in
-    let shortest : IsShortest Printed v encoding =
-    is_shortest (tagged_shortest t.shortest tag) v c.in_ok-encoded_len.ensures.counted.0 fits in
-    (c.in_ok-encoded_len.ensures.counted.0, same, subst (IsShortest Printed v) (sym same) shortest)
+    let encodings = Spells t.valid (λ s. tlv tag (t.printed s)) t.means in
+    let shortest : IsShortest encodings v encoding =
+    written_is_shortest (tagged_shortest t.shortest tag) v c.in_ok-encoded_len.ensures.counted.0 fits in
+    (c.in_ok-encoded_len.ensures.counted.0, same, subst (IsShortest encodings v) (sym same) shortest)

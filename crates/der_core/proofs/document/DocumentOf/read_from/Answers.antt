@@ -1,7 +1,7 @@
 use Rattle.std.proofs.Common.{subst, inr}
 use Rattle.der_core.specs.Words.{err_from_is_err_and, IsDocument}
 use Rattle.der_core.proofs.Documents.{means_document, no_document, none_given}
-use Rattle.der_core.proofs.ReadSteps.{no_memory}
+use Rattle.der_core.proofs.ReadSteps.{fault_without_memory}
 use Rattle.der_core.proofs.document.DocumentOf.read_from.Goals as goal
 
 pub returns-in_err-from_der : goal.returns-in_err-from_der
@@ -11,7 +11,7 @@ returns-in_err-from_der g c =
     rw (p.1, p.2) (inr (
       c.in_ok-bytes.ensures.same,
       none_given _ _ _ _ _ c.as_slice.ensures.value c.in_ok-bytes.ensures.all none.1
-          (no_memory (λ w. w.3.holds) c.in_err-from_der.ensures.exact),
+          (fault_without_memory (λ w. w.3.holds) c.in_err-from_der.ensures.exact),
     ))
 
 pub invariant_of-result : goal.invariant_of-result

@@ -1,8 +1,8 @@
 use Rattle.der_core.specs.Words.{tagged_shortest}
-use Rattle.der_core.proofs.Writing.{uncounted}
+use Rattle.der_core.proofs.Writing.{value_uncounted}
 use Rattle.der_core.proofs.encode.AnyEncode.encoded_len.Goals as goal
 
 pub returns-clause-err : goal.returns-clause-err
 returns-clause-err g c =
     let t = g.T.Contents in
-    uncounted (tagged_shortest t.shortest g.T.FixedTag.TAG.octet) (t.value c.args.self.now) _ c.encoding_len.ensures.counts
+    value_uncounted (tagged_shortest t.shortest g.T.FixedTag.TAG.octet) (t.value c.args.self.now) _ c.encoding_len.ensures.counts

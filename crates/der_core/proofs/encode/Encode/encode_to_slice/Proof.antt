@@ -39,8 +39,8 @@ use Rattle.der_core.specs.contracts.encode.Encode.encode_to_slice.Key.{name as #
 use Rattle.der_core.specs.contracts.encode.Encode.encode_into as g
 use Rattle.der_core.proofs.encode.Encode.encode_into.Met.{met as writes}
 use Rattle.der_core.specs.contracts.encode.front as h
-use Rattle.der_core.specs.Words.{IsFront, LeavesRest, RefusedAs, Error, IsShortest, WhyNotWritten, Prints, encode_error}
-use Rattle.der_core.proofs.EncodeToSlice.{rests, Wrote, fits, front_refused, leaves_rest, on_front, on_error, within}
+use Rattle.der_core.specs.Words.{IsFront, LeavesRest, RefusedAs, Error, WhyNotWritten, Prints, Spells, encode_error}
+use Rattle.der_core.proofs.EncodeToSlice.{slice_rests_finally, Wrote, written_fits, front_refused, leaves_rest, front_holds, front_error_kept, front_within}
 use Rattle.std.proofs.result.Result.TheLaws.{the_row_laws as result_laws}
 use denote.Param.Laws.{Laws, of_field}
 use denote.Param.Shared.{copy_shared}
@@ -50,6 +50,7 @@ use Rattle.der_core.proofs.encode.front.Met.{met as answers}
 use Rattle.der_core.specs.contracts.error.Error.{the_row as ErrorRow}
 use Rattle.der_core.proofs.error.Error.TheLaws.{the_row_laws as error_laws}
 use Rattle.der_core.proofs.encode.Encode.encode_to_slice.Statement.{statement}
+use Rattle.standard.specs.Statement.{IsShortest}
 use Rattle.der_core.proofs.encode.Encode.encode_to_slice.Code as code
 
 abbrev byte_laws : Laws u8
@@ -145,7 +146,7 @@ encode_to_slice_spec 𝓤 𝓛 𝓜 𝓡 wired W L gh d gt dt met of_encoding =
     ((‵ (flft κ₀ qs.0) ⊛ ‵ (flft (α ∷ []) full_share) ⊛ ‵ (flft κ₂ qs.1.1.0) ⊛ ‵ ftrue)
     ⊛ ‵ (Count.own_val r (v ∷ [])))
     ⊛ some (λ (ws : Unit {0} × (List ℕ × Unit {0})). ‵ (lasts (g.ended W gh d gt dt) z.0.0 z.0.3 ws)
-    ⊛ given (Wrote encoding xs ws.1.0 r) (‵ ftrue) ⊛ given (OnOk r (IsShortest (Prints gt.valid gt.printed gt.means) value encoding)) (‵ ftrue)
+    ⊛ given (Wrote encoding xs ws.1.0 r) (‵ ftrue) ⊛ given (OnOk r (IsShortest (Spells gt.valid gt.printed gt.means) value encoding)) (‵ ftrue)
     ⊛ given (IfErr r Rejected) (‵ ftrue) ⊛ given (RefusedAs gh.refused r) (‵ ftrue)
     ⊛ given (OnErr r (ws.1.0 ≡ xs)) (‵ ftrue))))) (id⊢ 𝓤 _) $
     await ! tt $ pick ! (λ r. split ! $ split ! $ move ! (1 ∷ []) $
@@ -178,7 +179,8 @@ encode_to_slice_spec 𝓤 𝓛 𝓜 𝓡 wired W L gh d gt dt met of_encoding =
     nothing ! $ move ! (9 ∷ 0 ∷ []) $ join ! $ move ! (1 ∷ 0 ∷ []) $ join ! $ nothing ! $ move ! (3 ∷ 0 ∷ []) $ join ! $
     join ! $
     use0 𝓛 (raw (fact 𝓤 (IfOk r (λ n. n ≤ length ys))))
-    (fact_i 𝓤 (IfOk r (λ n. n ≤ length ys)) (emp 𝓤) (fits encoding xs ys r wrote)) $ move ! (1 ∷ 0 ∷ []) $ join ! $
+    (fact_i 𝓤 (IfOk r (λ n. n ≤ length ys)) (emp 𝓤) (written_fits encoding xs ys r wrote)) $ move ! (1 ∷ 0 ∷ []) $ join
+    ! $
     use1 𝓛 (raw (B.pre x)) (id⊢ 𝓤 _) $
     calls_at ! (framed 𝓤 H 𝓜 𝓣) B (answers 𝓤 𝓛 𝓜 𝓡 (code.calls-der_core::encode::front 𝓡.env wired)) x
     (and_then ! (get ! refl) (and_then ! (get ! refl) (no_more !))) (λ u.
@@ -196,20 +198,21 @@ encode_to_slice_spec 𝓤 𝓛 𝓜 𝓡 wired W L gh d gt dt met of_encoding =
     join ! $ move ! (2 ∷ []) $
     let F₁ : Type 0 =
     IfOk t (λ front. front.now ≡ encoding) in let F₂ : Type 0 =
-    IfOk t (λ front. IsShortest (Prints gt.valid gt.printed gt.means) value front.now) in let F₃ : Type 0 =
+    IfOk t (λ front. IsShortest (Spells gt.valid gt.printed gt.means) value front.now) in let F₃ : Type 0 =
     IfOk t (λ front. length front.now ≤ length xs) in let F₄ : Type 0 = IfErr t Rejected in
     let F₅ : Type 0 = RefusedAs gh.refused t in
     use1 𝓛 (‵ (LeavesRest out encoding t))
-    (rests 𝓛 out ys (λ end. MatchResult t (λ _. end ≡ encoding ++ list-drop (length encoding) xs) (λ _. end ≡ xs))
+    (slice_rests_finally 𝓛 out ys
+    (λ end. MatchResult t (λ _. end ≡ encoding ++ list-drop (length encoding) xs) (λ _. end ≡ xs))
     (leaves_rest encoding xs ys r t wrote kept answered)) $
     use0 𝓛 (raw (fact 𝓤 F₅)) (fact_i 𝓤 F₅ (emp 𝓤) (front_refused ys r t refused answered)) $
-    use0 𝓛 (raw (fact 𝓤 F₄)) (fact_i 𝓤 F₄ (emp 𝓤) (on_error ys Rejected r t rejected answered)) $ join ! $
-    use0 𝓛 (raw (fact 𝓤 F₃)) (fact_i 𝓤 F₃ (emp 𝓤) (within encoding xs ys long r t answered)) $ join ! $
+    use0 𝓛 (raw (fact 𝓤 F₄)) (fact_i 𝓤 F₄ (emp 𝓤) (front_error_kept ys Rejected r t rejected answered)) $ join ! $
+    use0 𝓛 (raw (fact 𝓤 F₃)) (fact_i 𝓤 F₃ (emp 𝓤) (front_within encoding xs ys long r t answered)) $ join ! $
     use0 𝓛 (raw (fact 𝓤 F₂)) (fact_i 𝓤 F₂ (emp 𝓤)
-    (on_front encoding xs ys (IsShortest (Prints gt.valid gt.printed gt.means) value encoding) (λ x. IsShortest (Prints gt.valid gt.printed gt.means) value x) (λ k. k)
+    (front_holds encoding xs ys (IsShortest (Spells gt.valid gt.printed gt.means) value encoding) (λ x. IsShortest (Spells gt.valid gt.printed gt.means) value x) (λ k. k)
     r t wrote least answered)) $ join ! $
     use0 𝓛 (raw (fact 𝓤 F₁)) (fact_i 𝓤 F₁ (emp 𝓤)
-    (on_front encoding xs ys (IsShortest (Prints gt.valid gt.printed gt.means) value encoding) (λ x. x ≡ encoding) (λ _. refl) r t wrote least
+    (front_holds encoding xs ys (IsShortest (Spells gt.valid gt.printed gt.means) value encoding) (λ x. x ≡ encoding) (λ _. refl) r t wrote least
     answered)) $ join ! $ move ! (1 ∷ 0 ∷ []) $ join ! $
     nothing ! $ nothing ! $ fjoin ! $ nothing ! $ fjoin ! $ move ! (2 ∷ 0 ∷ 3 ∷ 1 ∷ []) $
     by ! (leaves 𝓛 En hs c y u t (tt, (tt, tt)) (tt, (tt, tt))))))))))))))))))))))))

@@ -1,9 +1,9 @@
 use Rattle.std.proofs.Common.{ap, ◌∙◌, refl}
-use Rattle.der_core.specs.Words.{integer, same_tag}
+use Rattle.der_core.specs.Words.{integer_tag, same_tag}
 use Rattle.der_core.specs.declared.error.ErrorKind.TheVariants as kind
 use Rattle.der_core.proofs.Writing.{refused_with}
 use Rattle.der_core.proofs.in_range.InRangeEncodeValue.value_len.Goals as goal
 
 pub returns-then-not-is_within-clause-tag : goal.returns-then-not-is_within-clause-tag
 returns-then-not-is_within-clause-tag g c =
-    refused_with integer _ (ap (λ e. e.kind) c.new.ensures ∙ ap kind.Value (same_tag _ integer refl))
+    refused_with integer_tag _ (ap (λ e. e.kind) c.new.ensures ∙ ap kind.Value (same_tag _ integer_tag refl))

@@ -1,4 +1,4 @@
-use Rattle.der_core.specs.Words.{err_from_is_err_and, reads_front}
+use Rattle.der_core.specs.Words.{err_from_is_err_and, front_reading_reads}
 use Rattle.der_core.proofs.ReadSteps.{parts_fail}
 use Rattle.der_core.proofs.parts.Tuple2DecodePartsRefSliceU8.decode_parts.Goals as goal
 
@@ -6,5 +6,5 @@ pub returns-in_err-rest : goal.returns-in_err-rest
 returns-in_err-rest g c =
     let p = err_from_is_err_and c.from_residual-in_err-rest.result c.from_residual-in_err-rest.ensures.1 in
     rw (p.1, p.2)
-    (parts_fail (reads_front g.A.Encoding.law g.A.Encoding.reads_alike).gives g.B.Contents.read _ _ _ _ _ _ _
+    (parts_fail (front_reading_reads g.A.Encoding.law g.A.Encoding.reads_alike).gives g.B.Contents.read _ _ _ _ _ _ _
     (g.R.BytesLeft.bytes c.args.reader.now) c.in_ok-first.ensures c.in_err-rest.ensures)

@@ -1,16 +1,16 @@
 use Rattle.der_core.specs.Words.{err_from_is_err_and}
-use Rattle.der_core.proofs.ReadSteps.{fails_so, parts_taken}
+use Rattle.der_core.proofs.ReadSteps.{failure_carried, row_read_as}
 use Rattle.der_core.proofs.record.AnyDecodeValueRefSliceU8.decode_value.Goals as goal
 
 pub returns-in_err-parts : goal.returns-in_err-parts
 returns-in_err-parts g c =
     let p = err_from_is_err_and c.from_residual.result c.from_residual.ensures.1 in
     rw (p.1, p.2)
-    (fails_so g.T.Parts.Contents.read g.T.Contents.read g.met.T.InParts.errs _ _ (λ b asks. asks) _ _ _
+    (failure_carried g.T.Parts.Contents.read g.T.Contents.read g.met.T.InParts.errs _ _ (λ b asks. asks) _ _ _
     c.in_err-parts.ensures)
 
 pub returns : goal.returns
 returns g c = (
-  parts_taken g.T.Parts.Contents.read g.T.Contents.read _ _ c.from_parts.ensures _ c.in_ok-parts.ensures.0,
+  row_read_as g.T.Parts.Contents.read g.T.Contents.read _ _ c.from_parts.ensures _ c.in_ok-parts.ensures.0,
   c.in_ok-parts.ensures.1,
 )

@@ -1,5 +1,5 @@
 use Rattle.std.proofs.Common.{[], ◌∷◌, refl, ap, sym, ◌∙◌, ◌≡◌, ◌++◌, ◌==◌, ℕ, List, true, false, is_ok, is_some, length, Ok, Some, arith, subst}
-use Rattle.der_core.specs.Words.{AreBytes, FrontReading, Input, ReadsFronts, back_bytes, left_in, nat_tests, prints_some, reads_front, Prints, are_bytes}
+use Rattle.der_core.specs.Words.{AreBytes, FrontReading, Input, ReadsFronts, back_bytes, left_in, nat_tests, prints_some, front_reading_reads, Prints, are_bytes}
 use Rattle.der_core.proofs.Items.{EncodingGives, items_more, items_end, item_taken}
 use Rattle.der_core.proofs.ReadSteps.{front_gives}
 use Rattle.der_core.proofs.sequence_of.VecDecodeValueRefSliceU8Global.quick_value.Goals as goal
@@ -13,9 +13,9 @@ item_read law v contents left behind read rest bytes from is given =
     front_gives law v (Some left) (Some behind) (subst of (sym is) (back_bytes read rest (subst of from bytes)))
     (behind, given, refl)
 
-no_more : (left rest : List ℕ) → Some left ≡ Some rest → true ≡ (length left == 0) → rest ≡ []
-no_more [] rest is ends = sym (ap left_in is)
-no_more (x ∷ xs) rest is ends = let no : true ≡ false = grind (arith, nat_tests, ends) in cc
+no_items_left : (left rest : List ℕ) → Some left ≡ Some rest → true ≡ (length left == 0) → rest ≡ []
+no_items_left [] rest is ends = sym (ap left_in is)
+no_items_left (x ∷ xs) rest is ends = let no : true ≡ false = grind (arith, nat_tests, ends) in cc
 
 pub loop-left-init : goal.loop-left-init
 loop-left-init g c = ([], c.args.contents.now, refl, refl, rw c.new-items.ensures.items refl)
@@ -26,7 +26,7 @@ loop-left-smaller g c =
     let i = c.loop-left.invariant in
     let all = are_bytes c.args.contents.now (λ i. omega (arith, c.type_inv.contents i)) in
     item_taken t.Value (Prints t.valid t.printed t.means) (prints_some t.some) _ _ _
-    (item_read (reads_front t.law t.reads_alike) _ _ _ _ i.0 i.1 all i.2 i.3 c.in_ok-item.ensures)
+    (item_read (front_reading_reads t.law t.reads_alike) _ _ _ _ i.0 i.1 all i.2 i.3 c.in_ok-item.ensures)
 
 pub loop-left-preserved : goal.loop-left-preserved
 loop-left-preserved g c =
@@ -36,11 +36,11 @@ loop-left-preserved g c =
     let pushed : is_ok c.push.result ≡ true = sym c.ok.ensures.variant ∙ ap is_some c.in_ok-ok.was in
     rw (c.push.ensures.items, pushed) (items_more t.Value (Prints t.valid t.printed t.means) (prints_some t.some) _
     t.value _ _ i.0 i.1 _ _ _ i.2 i.3 i.4
-    (item_read (reads_front t.law t.reads_alike) _ _ _ _ i.0 i.1 all i.2 i.3 c.in_ok-item.ensures))
+    (item_read (front_reading_reads t.law t.reads_alike) _ _ _ _ i.0 i.1 all i.2 i.3 c.in_ok-item.ensures))
 
 pub returns : goal.returns
 returns g c =
     let t = g.T.Encoding in
     let i = c.loop-left.invariant in
-    (items_end t.Value (Prints t.valid t.printed t.means) (prints_some t.some) (reads_front t.law t.reads_alike)
-    _ i.0 i.1 _ _ i.2 i.3 c.requires i.4 (no_more _ i.1 i.3 c.loop-left-test.ensures)).0
+    (items_end t.Value (Prints t.valid t.printed t.means) (prints_some t.some) (front_reading_reads t.law t.reads_alike)
+    _ i.0 i.1 _ _ i.2 i.3 c.requires i.4 (no_items_left _ i.1 i.3 c.loop-left-test.ensures)).0

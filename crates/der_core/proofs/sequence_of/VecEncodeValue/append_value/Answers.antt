@@ -1,9 +1,9 @@
-use Rattle.der_core.proofs.Items.{have_map, encodings_map}
+use Rattle.der_core.proofs.Items.{AllHave-map, encodings_map}
 use Rattle.der_core.proofs.sequence_of.VecEncodeValue.append_value.Goals as goal
 
 pub encode_items-requires-clause-has : goal.encode_items-requires-clause-has
 encode_items-requires-clause-has g c =
-    rw (c.as_slice.ensures.value, ← have_map g.T.Encoding.value g.T.Encoding.written g.T.Encoding.valid c.args.self.now.items)
+    rw (c.as_slice.ensures.value, ← AllHave-map g.T.Encoding.value g.T.Encoding.written g.T.Encoding.valid c.args.self.now.items)
     c.requires.has
 
 pub encode_items-requires-clause-fits : goal.encode_items-requires-clause-fits
@@ -17,7 +17,7 @@ encode_items-requires-clause-fits g c =
 pub returns-clause-appends : goal.returns-clause-appends
 returns-clause-appends g c =
     rw (
-      have_map g.T.Encoding.value g.T.Encoding.written g.T.Encoding.valid c.args.self.now.items,
+      AllHave-map g.T.Encoding.value g.T.Encoding.written g.T.Encoding.valid c.args.self.now.items,
       encodings_map g.T.Encoding.value g.T.Encoding.written g.T.Encoding.printed c.args.self.now.items,
       ← c.as_slice.ensures.value,
     )

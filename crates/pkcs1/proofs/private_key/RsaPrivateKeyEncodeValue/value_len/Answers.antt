@@ -1,6 +1,6 @@
 use Rattle.std.proofs.Common.{ap, ◌∙◌, ◌≡◌, ⊎_elim, false, inl, inr, refl, true}
 use Rattle.der_core.specs.declared.error.ErrorKind.TheVariants as kind
-use Rattle.der_core.specs.Words.{same_tag, sequence}
+use Rattle.der_core.specs.Words.{same_tag, sequence_tag}
 use Rattle.der_core.proofs.Writing.{refused_with}
 use Rattle.pkcs1.specs.Words.{private_as, private_key_with}
 use Rattle.pkcs1.proofs.KeyRows.{key_counted, listed_some, version_is}
@@ -12,7 +12,8 @@ returns-then-lists_none-clause-no_primes g c =
 
 pub returns-then-lists_none-clause-tag : goal.returns-then-lists_none-clause-tag
 returns-then-lists_none-clause-tag g c =
-    λ tag e. inl (refused_with sequence _ (ap (λ e. e.kind) c.new.ensures ∙ ap kind.Value (same_tag _ _ refl)) tag e)
+    λ tag e. inl (refused_with sequence_tag _ (ap (λ e. e.kind) c.new.ensures ∙ ap kind.Value (same_tag _ _ refl)) tag
+    e)
 
 pub returns-clause-counts : goal.returns-clause-counts
 returns-clause-counts g c =

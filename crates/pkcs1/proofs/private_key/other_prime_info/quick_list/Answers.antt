@@ -2,7 +2,7 @@ use Rattle.std.proofs.Common.{◌∙◌, ◌≡◌, ap, arith, length, sym, true
 use Rattle.std.proofs.lemmas.List.{length-map}
 use Rattle.der_core.specs.Words.{nat_tests}
 use Rattle.pkcs1.specs.Words.{other_of}
-use Rattle.pkcs1.proofs.OtherReads.{others_taken}
+use Rattle.pkcs1.proofs.OtherPrimeReads.{others_taken}
 use Rattle.pkcs1.proofs.private_key.other_prime_info.quick_list.Goals as goal
 
 pub returns-else-is_empty : goal.returns-else-is_empty

@@ -1,29 +1,30 @@
 use Rattle.std.proofs.Common.{arith}
 use Rattle.der_core.specs.Words.{err_from_is_err_and, are_bytes, whole}
 use Rattle.pkcs1.specs.Words.{public_decodes, public_read, public_stated}
-use Rattle.pkcs1.proofs.KeyReads.{made_fault, made_ok, read_none, read_some}
+use Rattle.pkcs1.proofs.KeyReads.{made_reading_fault, made_reading_ok, reading_decodes_none, reading_decodes_some}
 use Rattle.pkcs1.proofs.KeyMemory.{none_in_public}
-use Rattle.der_core.proofs.ReadSteps.{no_memory}
+use Rattle.der_core.proofs.ReadSteps.{fault_without_memory}
 use Rattle.standard.specs.Statement.{PublicKeyEncoding}
 use Rattle.pkcs1.proofs.public_key.RsaPublicKeyUintRefTryFromRefSliceU8.try_from.Goals as goal
 
 pub returns-clause-exact : goal.returns-clause-exact
-returns-clause-exact c = made_ok public_stated (whole public_read) c.args.bytes.now _ c.in_ok-from_der.ensures.exact
+returns-clause-exact c =
+    made_reading_ok public_stated (whole public_read) c.args.bytes.now _ c.in_ok-from_der.ensures.exact
 
 pub returns-clause-read : goal.returns-clause-read
 returns-clause-read c =
-    read_some public_stated (whole public_read) PublicKeyEncoding public_decodes c.args.bytes.now
+    reading_decodes_some public_stated (whole public_read) PublicKeyEncoding public_decodes c.args.bytes.now
     (are_bytes c.args.bytes.now (λ i. omega (arith, c.type_inv.bytes i))) _ c.in_ok-from_der.ensures.exact
 
 pub returns-in_err-from_der-clause-exact : goal.returns-in_err-from_der-clause-exact
 returns-in_err-from_der-clause-exact c =
     let p = err_from_is_err_and c.from_residual.result c.from_residual.ensures.1 in
-    rw (p.1, p.2) (made_fault public_stated (whole public_read) c.args.bytes.now _
-    (no_memory (λ w. none_in_public w.3.contents w.3.holds) c.in_err-from_der.ensures.exact))
+    rw (p.1, p.2) (made_reading_fault public_stated (whole public_read) c.args.bytes.now _
+    (fault_without_memory (λ w. none_in_public w.3.contents w.3.holds) c.in_err-from_der.ensures.exact))
 
 pub returns-in_err-from_der-clause-read : goal.returns-in_err-from_der-clause-read
 returns-in_err-from_der-clause-read c =
     let p = err_from_is_err_and c.from_residual.result c.from_residual.ensures.1 in
-    rw p.1 (read_none public_stated (whole public_read) PublicKeyEncoding public_decodes c.args.bytes.now
+    rw p.1 (reading_decodes_none public_stated (whole public_read) PublicKeyEncoding public_decodes c.args.bytes.now
     (are_bytes c.args.bytes.now (λ i. omega (arith, c.type_inv.bytes i))) _
-    (no_memory (λ w. none_in_public w.3.contents w.3.holds) c.in_err-from_der.ensures.exact))
+    (fault_without_memory (λ w. none_in_public w.3.contents w.3.holds) c.in_err-from_der.ensures.exact))

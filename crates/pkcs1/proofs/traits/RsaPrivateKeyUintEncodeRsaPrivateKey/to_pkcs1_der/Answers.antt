@@ -1,6 +1,6 @@
 use Rattle.der_core.specs.Words.{encoding_of, own_bytes_of}
 use Rattle.pkcs1.specs.Words.{number_in, private_as_stated, private_key_with}
-use Rattle.pkcs1.proofs.Promised.{stated_shortest, stated_withholds}
+use Rattle.pkcs1.proofs.WritingStated.{stated_shortest, stated_withholds}
 use Rattle.pkcs1.proofs.traits.RsaPrivateKeyUintEncodeRsaPrivateKey.to_pkcs1_der.Goals as goal
 
 pub returns-clause-encoding : goal.returns-clause-encoding

@@ -1,17 +1,18 @@
 use Rattle.std.proofs.Common.{arith}
 use Rattle.der_core.specs.Words.{err_from_is_err_and, are_bytes, whole}
 use Rattle.pkcs1.specs.Words.{public_decodes, public_read, public_stated}
-use Rattle.pkcs1.proofs.KeyReads.{made_faulty, made_ok, public_tells, read_rejected, read_some}
+use Rattle.pkcs1.proofs.KeyReads.{made_reading_faulty, made_reading_ok, public_tells, read_rejected, reading_decodes_some}
 use Rattle.pkcs1.proofs.KeyMemory.{owned_parts_ask, faulty_as}
 use Rattle.standard.specs.Statement.{PublicKeyEncoding}
 use Rattle.pkcs1.proofs.traits.RsaPublicKeyUintDecodeRsaPublicKey.from_pkcs1_der.Goals as goal
 
 pub returns-clause-exact : goal.returns-clause-exact
-returns-clause-exact c = made_ok public_stated (whole public_read) c.args.bytes.now _ c.in_ok-from_der.ensures.exact
+returns-clause-exact c =
+    made_reading_ok public_stated (whole public_read) c.args.bytes.now _ c.in_ok-from_der.ensures.exact
 
 pub returns-clause-ok : goal.returns-clause-ok
 returns-clause-ok c =
-    read_some public_stated (whole public_read) PublicKeyEncoding public_decodes c.args.bytes.now
+    reading_decodes_some public_stated (whole public_read) PublicKeyEncoding public_decodes c.args.bytes.now
     (are_bytes c.args.bytes.now (λ i. omega (arith, c.type_inv.bytes i))) _ c.in_ok-from_der.ensures.exact
 
 pub returns-in_err-from_der-clause-err : goal.returns-in_err-from_der-clause-err
@@ -24,5 +25,5 @@ returns-in_err-from_der-clause-err c =
 pub returns-in_err-from_der-clause-exact : goal.returns-in_err-from_der-clause-exact
 returns-in_err-from_der-clause-exact c =
     let p = err_from_is_err_and c.from_residual.result c.from_residual.ensures.1 in
-    rw (p.1, p.2) (made_faulty public_stated (whole public_read) c.args.bytes.now _ _
+    rw (p.1, p.2) (made_reading_faulty public_stated (whole public_read) c.args.bytes.now _ _
     (faulty_as owned_parts_ask _ _ c.in_err-from_der.ensures.exact))

@@ -1,7 +1,7 @@
 use Rattle.std.proofs.Common.{◌≡◌, ◌∙◌, ap, arith, false, inr, refl, nat_lt}
-use Rattle.der_core.specs.Words.{nat_tests, small_of, same_tag, integer}
+use Rattle.der_core.specs.Words.{nat_tests, small_of, same_tag, integer_tag}
 use Rattle.der_core.specs.declared.error.ErrorKind.TheVariants as kind
-use Rattle.der_core.proofs.ReadSteps.{such_fails}
+use Rattle.der_core.proofs.ReadSteps.{such_refuses_value}
 use Rattle.pkcs1.proofs.version.VersionDecodeValueRefSliceU8.decode_value.Goals as goal
 
 pub returns-in-Err : goal.returns-in-Err
@@ -9,7 +9,7 @@ returns-in-Err g c =
     let high : nat_lt c.in_ok-number.number 2 ≡ false = grind (arith, nat_tests, c.in-Err.ensures.1) in (
       c.error.ensures.failed,
       inr
-          (such_fails small_of (λ n. nat_lt n 2) (kind.Value integer) _ c.in_ok-number.number
+          (such_refuses_value small_of (λ n. nat_lt n 2) (kind.Value integer_tag) _ c.in_ok-number.number
           (g.R.BytesLeft.left c.args.reader.now) c.in_ok-number.ensures.0
-          high (c.error.ensures.value ∙ ap kind.Value (same_tag _ integer refl))),
+          high (c.error.ensures.value ∙ ap kind.Value (same_tag _ integer_tag refl))),
     )

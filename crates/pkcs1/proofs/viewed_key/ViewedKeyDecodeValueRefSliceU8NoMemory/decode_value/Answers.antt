@@ -1,17 +1,18 @@
 use Rattle.der_core.specs.Words.{err_from_is_err_and, bytes_of}
 use Rattle.std.proofs.Common.{option_map}
-use Rattle.pkcs1.specs.Words.{number_in, number, others_left}
-use Rattle.pkcs1.proofs.KeyReads.{front_of, key_gives, key_others_fault}
+use Rattle.pkcs1.specs.Words.{number_in, number_front, others_left}
+use Rattle.pkcs1.proofs.KeyReads.{key_gives, key_others_fault, version_and_numbers}
 use Rattle.pkcs1.proofs.viewed_key.ViewedKeyDecodeValueRefSliceU8NoMemory.decode_value.Goals as goal
 
 pub returns-in_err-others : goal.returns-in_err-others
 returns-in_err-others g c =
     let p = err_from_is_err_and c.from_residual-in_err-others.result c.from_residual-in_err-others.ensures.1 in
-    let front = front_of (number_in bytes_of) c.in_ok-version.version c.in_ok-version.numbers in
-    rw (p.1, p.2) (key_others_fault number _ front _ _ _ _ c.requires c.in_ok-version.ensures c.in_err-others.ensures)
+    let front = version_and_numbers (number_in bytes_of) c.in_ok-version.version c.in_ok-version.numbers in
+    rw (p.1, p.2) (key_others_fault number_front _ front _ _ _ _ c.requires c.in_ok-version.ensures
+    c.in_err-others.ensures)
 
 pub returns : goal.returns
 returns g c =
-    let front = front_of (number_in bytes_of) c.in_ok-version.version c.in_ok-version.numbers in
-    rw c.key_of.ensures (key_gives number front (option_map others_left c.in_ok-others.others) _ _ _ _ c.requires
+    let front = version_and_numbers (number_in bytes_of) c.in_ok-version.version c.in_ok-version.numbers in
+    rw c.key_of.ensures (key_gives number_front front (option_map others_left c.in_ok-others.others) _ _ _ _ c.requires
     c.in_ok-version.ensures c.in_ok-others.ensures)

@@ -1,18 +1,18 @@
 use Rattle.std.proofs.Common.{arith, rules}
 use Rattle.std.proofs.lemmas.Grind.{common_steps}
 use Rattle.pkcs1_c.specs.Words.{status_of, numbers_of_primes, numbers_of_key}
-use Rattle.pkcs1_c.proofs.StructErrors.{held_none, none_both, numbers_behind}
+use Rattle.pkcs1_c.proofs.StructErrors.{numbers_behind, numbers_none_both, numbers_none_held}
 use Rattle.pkcs1_c.proofs.given_key.GivenKey.of.Goals as goal
 
 pub returns-in-Err-clause-err : goal.returns-in-Err-clause-err
 returns-in-Err-clause-err c =
     numbers_behind (numbers_of_key c.args.key.now) (numbers_of_primes c.args.others.now)
-    (held_none (numbers_of_key c.args.key.now) (search rules)) (status_of c.in-Err.error) c.in-Err.ensures.err
+    (numbers_none_held (numbers_of_key c.args.key.now) (search rules)) (status_of c.in-Err.error) c.in-Err.ensures.err
 
 pub returns-clause-held : goal.returns-clause-held
 returns-clause-held c =
-    none_both (numbers_of_key c.args.key.now) (numbers_of_primes c.args.others.now)
-    (held_none (numbers_of_key c.args.key.now) (search rules)) c.in-Ok.ensures.held
+    numbers_none_both (numbers_of_key c.args.key.now) (numbers_of_primes c.args.others.now)
+    (numbers_none_held (numbers_of_key c.args.key.now) (search rules)) c.in-Ok.ensures.held
 
 pub returns-clause-ok : goal.returns-clause-ok
 returns-clause-ok c = grind (arith, common_steps)

@@ -1,23 +1,23 @@
 use Rattle.std.proofs.Common.{ℕ, List, ◌∷◌, ◌+◌, ◌≤◌, length, arith, ap, Bool, nat_lt, slice_index, if◌then◌else◌}
 use Rattle.std.specs.Int.Digits.{number_from_digits}
-use Rattle.der_core.specs.Words.{holds_canonical, contents_as, number_contents}
-use Rattle.pkcs1_c.specs.Words.{number_of}
-use Rattle.pkcs1_c.proofs.Fits.{few_more}
+use Rattle.der_core.specs.Words.{holds_canonical, number_contents_as, number_contents}
+use Rattle.pkcs1_c.specs.Words.{given_octets_of}
+use Rattle.pkcs1_c.proofs.FittingFields.{tlv_adds_at_most_six}
 use Rattle.pkcs1_c.proofs.given_number.Number.octets_at_most.Goals as goal
 
-most : (bytes : List ℕ) (low : Bool) → length (if low then bytes else (0 ∷ bytes)) ≤ length bytes + 1
-most bytes low = grind arith
+zero_adds_at_most_one : (bytes : List ℕ) (low : Bool) → length (if low then bytes else (0 ∷ bytes)) ≤ length bytes + 1
+zero_adds_at_most_one bytes low = grind arith
 
 pub returns-clause-bounds : goal.returns-clause-bounds
 returns-clause-bounds c few =
     let number = c.args.self.now in
     let bytes = number.bytes.now in
-    let contents = number_contents (number_from_digits 256 (number_of number)) in
-    let is = ap length (contents_as bytes (holds_canonical bytes number.canonical)) in
+    let contents = number_contents (number_from_digits 256 (given_octets_of number)) in
+    let is = ap length (number_contents_as bytes (holds_canonical bytes number.canonical)) in
     omega (
       arith,
       few,
       is,
-      most bytes (nat_lt (slice_index bytes 0) 128),
-      few_more 2 contents few,
+      zero_adds_at_most_one bytes (nat_lt (slice_index bytes 0) 128),
+      tlv_adds_at_most_six 2 contents few,
     )

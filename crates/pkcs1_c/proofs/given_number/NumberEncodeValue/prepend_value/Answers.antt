@@ -1,36 +1,36 @@
 use Rattle.std.proofs.Common.{ℕ, List, ◌∷◌, ◌≡◌, ◌<◌, ◌≤◌, ◌∙◌, length, arith, rules, Bool, nat_lt, slice_index, if◌then◌else◌}
 use Rattle.std.proofs.lemmas.Grind.{common_steps}
-use Rattle.der_core.specs.Words.{free_of, integer_contents, holds_canonical, contents_as}
+use Rattle.der_core.specs.Words.{free_of, integer_contents, holds_canonical, number_contents_as}
 use Rattle.pkcs1_c.proofs.given_number.NumberEncodeValue.prepend_value.Goals as goal
 
 pub prepend-requires : goal.prepend-requires
 prepend-requires c =
     let bytes = c.args.self.now.bytes.now in
-    let is = contents_as bytes (holds_canonical bytes c.args.self.now.canonical) in
+    let is = number_contents_as bytes (holds_canonical bytes c.args.self.now.canonical) in
     let room : length (integer_contents bytes) ≤ free_of c.args.writer.now = rw is at c.requires.room in
     search rules
 
 pub prepend-requires-then-self-gt0 : goal.prepend-requires-then-self-gt0
 prepend-requires-then-self-gt0 c =
     let bytes = c.args.self.now.bytes.now in
-    let is = contents_as bytes (holds_canonical bytes c.args.self.now.canonical) in
+    let is = number_contents_as bytes (holds_canonical bytes c.args.self.now.canonical) in
     let room : length (integer_contents bytes) ≤ free_of c.args.writer.now = rw is at c.requires.room in
     search rules
 
-with_zero : (bytes : List ℕ) (count : ℕ) (low : Bool) → count ≡ (if low then 0 else 1) → 0 < count
+zero_in_front : (bytes : List ℕ) (count : ℕ) (low : Bool) → count ≡ (if low then 0 else 1) → 0 < count
     → (if low then bytes else (0 ∷ bytes)) ≡ 0 ∷ bytes
-with_zero bytes count low told some = grind arith
+zero_in_front bytes count low told some = grind arith
 
 pub returns-then-self-gt0 : goal.returns-then-self-gt0
 returns-then-self-gt0 c =
     let number = c.args.self.now in
     let bytes = number.bytes.now in
-    let whole = contents_as bytes (holds_canonical bytes number.canonical)
-    ∙ with_zero bytes number.zeros (nat_lt (slice_index bytes 0) 128) number.told c.if-self-gt0.true in
+    let whole = number_contents_as bytes (holds_canonical bytes number.canonical)
+    ∙ zero_in_front bytes number.zeros (nat_lt (slice_index bytes 0) 128) number.zero_counted c.if-self-gt0.true in
     rw whole (grind (arith, common_steps))
 
 pub returns-else-self-gt0 : goal.returns-else-self-gt0
 returns-else-self-gt0 c =
     let bytes = c.args.self.now.bytes.now in
-    let is = contents_as bytes (holds_canonical bytes c.args.self.now.canonical) in
+    let is = number_contents_as bytes (holds_canonical bytes c.args.self.now.canonical) in
     rw is (search rules)

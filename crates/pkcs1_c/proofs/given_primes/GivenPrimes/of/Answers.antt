@@ -1,8 +1,8 @@
 use Rattle.std.proofs.Common.{◌<◌, ap, arith, rules, length, subst}
 use Rattle.der_core.specs.Words.{nat_tests, Counts}
 use Rattle.pkcs1_c.specs.Words.{prime_encoded}
-use Rattle.pkcs1_c.proofs.GivenKeys.{counted_more, given_some}
-use Rattle.pkcs1_c.proofs.StructErrors.{others_at, others_held_more}
+use Rattle.pkcs1_c.proofs.GivenKeys.{counted_more, given_primes_some}
+use Rattle.pkcs1_c.proofs.StructErrors.{numbers_rejected_at, others_held_more}
 use Rattle.pkcs1_c.proofs.given_primes.GivenPrimes.of.Goals as goal
 
 pub loop-other-preserved : goal.loop-other-preserved
@@ -21,10 +21,10 @@ loop-other-preserved c =
 
 pub returns-in_err-info-clause-err : goal.returns-in_err-info-clause-err
 returns-in_err-info-clause-err c =
-    let rejected = others_at c.args.others.now c.loop-other.other-index _ c.loop-other-test.true _
+    let rejected = numbers_rejected_at c.args.others.now c.loop-other.other-index _ c.loop-other-test.true _
     c.loop-other.invariant.held c.in_err-info.ensures.err in search rules
 
 pub returns-clause-ok : goal.returns-clause-ok
 returns-clause-ok c =
     let some : 0 < length c.args.others.now = grind (arith, nat_tests, c.is_empty.ensures, c.if-is_empty.false) in
-    given_some c.args.others.now some
+    given_primes_some c.args.others.now some

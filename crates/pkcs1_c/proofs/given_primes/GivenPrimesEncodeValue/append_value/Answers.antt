@@ -4,22 +4,25 @@ use Rattle.der_core.specs.Words.{Receives, TakesRoom, err_from_is_err_and, limit
 use Rattle.der_core.proofs.Items.{encodings_around, encodings_more}
 use Rattle.der_core.proofs.Writing.{appends_behind, appends_in_front, receives_both, takes_both}
 use Rattle.pkcs1_c.specs.Words.{given_encoded}
-use Rattle.pkcs1_c.proofs.GivenKeys.{any_given, encoded_is, nothing}
-use Rattle.pkcs1_c.proofs.StructErrors.{held_at}
+use Rattle.pkcs1_c.proofs.GivenKeys.{empty_prime, given_encodings_are, given_primes_valid}
+use Rattle.pkcs1_c.proofs.StructErrors.{numbers_held_at}
 use Rattle.pkcs1_c.proofs.given_primes.GivenPrimesEncodeValue.append_value.Goals as goal
 
 pub append_given-requires : goal.append_given-requires
 append_given-requires g c =
     let given = c.args.self.now in
-    record { held = held_at given.others.now c.loop-other.other-index nothing c.loop-other-test.true given.held }
+    record {
+      held = numbers_held_at given.others.now c.loop-other.other-index empty_prime c.loop-other-test.true
+          given.held;
+    }
 
 pub loop-other-preserved : goal.loop-other-preserved
 loop-other-preserved g c =
     let others = c.args.self.now.others.now in
     let i = c.loop-other.other-index in
-    let more = encodings_more (λ _. Unit {0}) given_encoded others i nothing c.loop-other-test.true in
+    let more = encodings_more (λ _. Unit {0}) given_encoded others i empty_prime c.loop-other-test.true in
     let front = all_encodings given_encoded (take i others) in
-    let here = given_encoded (get_or others i nothing) in
+    let here = given_encoded (get_or others i empty_prime) in
     let one = c.in_ok-append_given.ensures.appends in
     let written = g.W.Writer.written in
     record {
@@ -36,11 +39,12 @@ returns-in_err-append_given-clause-appends g c =
     let others = c.args.self.now.others.now in
     let i = c.loop-other.other-index in
     let unit : Unit {0} = tt in
-    let here = given_encoded (get_or others i nothing) in
+    let here = given_encoded (get_or others i empty_prime) in
     let rest = all_encodings given_encoded (drop (i + 1) others) in
-    let whole = sym (encoded_is others) ∙ encodings_around (λ _. Unit {0}) given_encoded others i nothing c.loop-other-test.true in
+    let whole = sym (given_encodings_are others) ∙ encodings_around (λ _. Unit {0}) given_encoded others i empty_prime c.loop-other-test.true in
     let less : length (here ++ rest) ≤ limit = grind (arith, common_steps, c.requires.fits) in
-    rw (p.1, p.2) (appends_behind _ _ _ unit (any_given others) whole c.requires.fits c.loop-other.invariant.written
+    rw (p.1, p.2) (appends_behind _ _ _ unit (given_primes_valid others) whole c.requires.fits
+    c.loop-other.invariant.written
     c.loop-other.invariant.room (appends_in_front _ _ rest unit unit refl less c.in_err-append_given.ensures.appends))
 
 pub returns-clause-appends : goal.returns-clause-appends
@@ -48,12 +52,12 @@ returns-clause-appends g c =
     let others = c.args.self.now.others.now in
     let all : take c.loop-other.other-index others ≡ others = take_all c.loop-other.other-index others
     (omega (arith, c.loop-other-test.false)) in
-    let is = ap (all_encodings given_encoded) all ∙ encoded_is others in
+    let is = ap (all_encodings given_encoded) all ∙ given_encodings_are others in
     let w = g.W.Writer in
     let old = c.args.writer.now in
     let new = c.loop-other.writer in
     record {
-      has = (any_given others, c.requires.fits);
+      has = (given_primes_valid others, c.requires.fits);
       written = subst (λ o. Receives o (w.written old) (w.written new)) is c.loop-other.invariant.written;
       room = subst (λ o. TakesRoom (length o) (w.room old) (w.room new)) is c.loop-other.invariant.room;
       left = tt;

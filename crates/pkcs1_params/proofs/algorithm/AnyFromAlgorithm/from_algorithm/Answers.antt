@@ -8,13 +8,13 @@ use Rattle.pkcs1_params.proofs.Faults.{errs_decode}
 use Rattle.standard.specs.Statement.{IfPresent}
 use Rattle.pkcs1_params.proofs.algorithm.AnyFromAlgorithm.from_algorithm.Goals as goal
 
-held : (o : Option AnyRef) → IfPresent AreHeld (option_map any_of o)
-held None = tt
-held (Some any) = (are_bytes any.contents.now any.octets, any.bounded)
+parameters_are_held : (o : Option AnyRef) → IfPresent AreHeld (option_map any_of o)
+parameters_are_held None = tt
+parameters_are_held (Some any) = (are_bytes any.contents.now any.octets, any.bounded)
 
 pub returns-clause-read : goal.returns-clause-read
 returns-clause-read g c =
     let t = g.T.AlgorithmParams in
     let oid = g.T.Oid.AssociatedOid.contents in
     errs_decode (Identifies oid t.Is t.fields_of) _ t.params _
-    (identified_decodes t.form oid _ (held c.args.algorithm.now.parameters)) _ c.from_identifier.ensures
+    (identified_decodes t.form oid _ (parameters_are_held c.args.algorithm.now.parameters)) _ c.from_identifier.ensures

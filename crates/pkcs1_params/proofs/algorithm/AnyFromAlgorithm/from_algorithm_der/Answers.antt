@@ -3,7 +3,7 @@ use Rattle.der_core.specs.Words.{err_from_is_err_and, are_bytes, value_in, ◌>>
 use Rattle.spki_core.specs.Words.{record_read}
 use Rattle.pkcs1_params.specs.Words.{identified, Encoded}
 use Rattle.pkcs1_params.proofs.Algorithms.{algorithm_decodes}
-use Rattle.der_core.proofs.ReadSteps.{no_memory}
+use Rattle.der_core.proofs.ReadSteps.{fault_without_memory}
 use Rattle.pkcs1_params.proofs.Faults.{errs_behind, errs_decode}
 use Rattle.pkcs1_params.proofs.ParameterReads.{plain_never}
 use Rattle.standard.specs.Statement.{AlgorithmEncoding, Decodes}
@@ -15,7 +15,7 @@ returns-in_err-algorithm-clause-read g c =
     let oid = g.T.Oid.AssociatedOid.contents in
     let bytes = are_bytes _ (λ i. omega (arith, c.type_inv.bytes i)) in
     let p = err_from_is_err_and c.from_residual.result c.from_residual.ensures.1 in
-    let fault = no_memory (λ w. plain_never _ w.3) c.in_err-algorithm.ensures.exact in
+    let fault = fault_without_memory (λ w. plain_never _ w.3) c.in_err-algorithm.ensures.exact in
     rw p.1
     (subst (λ x. Decodes (AlgorithmEncoding oid (Encoded t.Is t.fields_of)) c.args.bytes.now (value_in x))
     (ap (λ x. x >>= identified oid (record_read t.form)) fault)

@@ -1,11 +1,12 @@
-use Rattle.pkcs1_params.proofs.Labels.{fits_where_counted, none_where_uncounted}
+use Rattle.pkcs1_params.proofs.Labels.{label_fits_where_counted, no_label_fits_where_uncounted}
 use Rattle.pkcs1_params.proofs.label.RsaOaepParams+AnyRef.label_fits.Goals as goal
 
 pub returns-clause-fits : goal.returns-clause-fits
 returns-clause-fits g c ok =
-    fits_where_counted g.D.AssociatedOid.contents c.args.len _ (rw c.is_ok.ensures.value at ok) c.labelled_len.ensures
+    label_fits_where_counted g.D.AssociatedOid.contents c.args.len _ (rw c.is_ok.ensures.value at ok)
+    c.labelled_len.ensures
 
 pub returns-clause-too_long : goal.returns-clause-too_long
 returns-clause-too_long g c err =
-    none_where_uncounted g.D.AssociatedOid.contents c.args.len _ (rw c.is_ok.ensures.value at err)
+    no_label_fits_where_uncounted g.D.AssociatedOid.contents c.args.len _ (rw c.is_ok.ensures.value at err)
     c.labelled_len.ensures

@@ -1,5 +1,5 @@
 use Rattle.der_core.specs.Words.{err_from_is_err_and}
-use Rattle.pkcs1_params.proofs.Masks.{is_spelled, encoding_of, uncounted_as}
+use Rattle.pkcs1_params.proofs.Masks.{record_is_spelled, spelling_encoding, uncounted_overflows}
 use Rattle.spki_core.specs.Words.{record_under}
 use Rattle.pkcs1_params.proofs.spelling.Spelling.len.Goals as goal
 
@@ -10,5 +10,5 @@ returns-in_err-encoded_len-clause-err g c =
     let s = c.args.self.now in
     let v = t.params s.params in
     rw (e.1, e.2)
-    (uncounted_as (encoding_of t.form (record_under t.form s.mask v)) _
-    (is_spelled t.form v s.mask c.lemma_is_valid.ensures) c.in_err-encoded_len.ensures.counted)
+    (uncounted_overflows (spelling_encoding t.form (record_under t.form s.mask v)) _
+    (record_is_spelled t.form v s.mask c.lemma_is_valid.ensures) c.in_err-encoded_len.ensures.counted)

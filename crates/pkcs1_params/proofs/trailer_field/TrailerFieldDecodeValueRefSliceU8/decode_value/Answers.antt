@@ -1,16 +1,17 @@
 use Rattle.std.proofs.Common.{◌≡◌, ◌==◌, ◌∙◌, false, refl, ap, inr, arith}
-use Rattle.der_core.specs.Words.{nat_tests, small_of, same_tag, integer}
+use Rattle.der_core.specs.Words.{nat_tests, small_of, same_tag, integer_tag}
 use Rattle.der_core.specs.declared.error.ErrorKind.TheVariants as kind
-use Rattle.der_core.proofs.ReadSteps.{such_fails}
+use Rattle.der_core.proofs.ReadSteps.{such_refuses_value}
 use Rattle.pkcs1_params.proofs.trailer_field.TrailerFieldDecodeValueRefSliceU8.decode_value.Goals as goal
 
 pub returns-in_default : goal.returns-in_default
 returns-in_default g c =
     let n = c.in_ok-decode_value.field-0 in
     let isnt : (n == 1) ≡ false = grind (arith, nat_tests) in
-    let named = c.error.ensures.value ∙ ap kind.Value (same_tag _ integer refl) in
+    let named = c.error.ensures.value ∙ ap kind.Value (same_tag _ integer_tag refl) in
     let read = c.in_ok-decode_value.ensures.0 in (
       c.error.ensures.failed,
-      inr (such_fails small_of (λ n. n == 1) (kind.Value integer) _ n (g.R.BytesLeft.left c.args.reader.now) read isnt
+      inr (such_refuses_value small_of (λ n. n == 1) (kind.Value integer_tag) _ n (g.R.BytesLeft.left c.args.reader.now)
+          read isnt
           named),
     )

@@ -1,7 +1,7 @@
 use Rattle.std.proofs.Common.{◌≡◌, arith, subst, sym, Err, Ok, Some, option_map}
 use Rattle.der_core.specs.Words.{err_from_is_err_and, are_bytes, octets_of}
 use Rattle.spki_core.specs.Words.{algorithm_in, any_of}
-use Rattle.pkcs8_core.proofs.ContainedKeys.{container_told}
+use Rattle.pkcs8_core.proofs.ContainedKeys.{container_answers_decode}
 use Rattle.pkcs8_core.specs.Words.{info_viewed, slice_now}
 use Rattle.standard.specs.Statement.{ContainerEncoding, Decodes}
 use Rattle.pkcs8_core.proofs.info.PrivateKeyInfoOfTryFromRefSliceU8.try_from.Goals as goal
@@ -10,7 +10,7 @@ pub returns-in_err-view-clause-read : goal.returns-in_err-view-clause-read
 returns-in_err-view-clause-read g c =
     let bytes = c.args.bytes.now in
     let p = err_from_is_err_and c.from_residual.result c.from_residual.ensures.1 in
-    rw p.1 (container_told bytes (are_bytes bytes (λ i. omega (arith, c.type_inv.bytes i))) info_viewed
+    rw p.1 (container_answers_decode bytes (are_bytes bytes (λ i. omega (arith, c.type_inv.bytes i))) info_viewed
     (Err c.in_err-view.field-0.0) c.in_err-view.ensures.exact)
 
 pub returns-clause-read : goal.returns-clause-read
@@ -28,5 +28,5 @@ returns-clause-read g c =
       attributes = option_map slice_now view.attributes;
     } in
     subst (λ x. Decodes ContainerEncoding bytes (Some x)) same
-    (container_told bytes (are_bytes bytes (λ i. omega (arith, c.type_inv.bytes i))) info_viewed (Ok view)
+    (container_answers_decode bytes (are_bytes bytes (λ i. omega (arith, c.type_inv.bytes i))) info_viewed (Ok view)
     c.in_ok-view.ensures.exact)

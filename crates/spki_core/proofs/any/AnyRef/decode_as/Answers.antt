@@ -1,29 +1,31 @@
 use Rattle.std.proofs.Common.{Err, arith, rules, ap, false, inr, sym, ◌==◌, ◌≡◌, ◌∙◌}
-use Rattle.der_core.proofs.Readings.{other_is}
+use Rattle.der_core.proofs.Readings.{unexpected_tag_read}
 use Rattle.der_core.specs.declared.error.ErrorKind.TheVariants.{TagUnexpected}
-use Rattle.der_core.specs.Words.{are_bytes, nat_tests, reads, unexpected}
-use Rattle.der_core.proofs.ReadSteps.{ne_true, ne_false}
+use Rattle.der_core.specs.Words.{are_bytes, nat_tests, reading_reads, unexpected}
+use Rattle.der_core.proofs.ReadSteps.{unequal_test_true, unequal_test_false}
 use Rattle.spki_core.specs.Words.{any_of}
 use Rattle.spki_core.proofs.Readings.{read_as_any}
 use Rattle.spki_core.proofs.any.AnyRef.decode_as.Goals as goal
 
 pub returns-then-ne-clause-exact : goal.returns-then-ne-clause-exact
 returns-then-ne-clause-exact g c =
-    let other = rw c.tag.ensures at (ne_true _ _ _ _ c.if-ne.true c.ne.ensures (ap (λ t. t.octet) c.TAG.ensures)) in
+    let other = rw c.tag.ensures at
+    (unequal_test_true _ _ _ _ c.if-ne.true c.ne.ensures (ap (λ t. t.octet) c.TAG.ensures)) in
     let kind = ap (λ e. e.kind) c.new.ensures ∙ ap (λ t. TagUnexpected t c.tag-then-ne.result) c.TAG-then-ne.ensures in
     let isnt : ((any_of c.args.self).tag == g.T.FixedTag.TAG.octet) ≡ false = grind (arith, nat_tests, other) in
-    inr (rw isnt (ap (unexpected g.T.FixedTag.TAG) (sym c.tag-then-ne.ensures) ∙ other_is _ c.tag-then-ne.result
+    inr (rw isnt (ap (unexpected g.T.FixedTag.TAG) (sym c.tag-then-ne.ensures)
+    ∙ unexpected_tag_read _ c.tag-then-ne.result
     ∙ ap (λ k. Err k) (sym kind)))
 
 pub returns-clause-ok : goal.returns-clause-ok
 returns-clause-ok g c =
-    let same = ne_false _ _ _ _ c.if-ne.false c.ne.ensures (ap (λ t. t.octet) c.TAG.ensures) in
-    read_as_any g.T.Contents.value g.T.FixedTag.TAG (reads g.T.Contents.law g.T.Contents.reads_alike) (any_of c.args.self) _
+    let same = unequal_test_false _ _ _ _ c.if-ne.false c.ne.ensures (ap (λ t. t.octet) c.TAG.ensures) in
+    read_as_any g.T.Contents.value g.T.FixedTag.TAG (reading_reads g.T.Contents.law g.T.Contents.reads_alike) (any_of c.args.self) _
     (are_bytes _ c.args.self.octets) (sym c.tag.ensures ∙ same) _ _ c.in_ok-reader.ensures.ok c.decode_value.result
     c.decode_value.ensures
 
 pub returns-in-Some-clause-ok : goal.returns-in-Some-clause-ok
 returns-in-Some-clause-ok g c =
-    let same = ne_false _ _ _ _ c.if-ne.false c.ne.ensures (ap (λ t. t.octet) c.TAG.ensures) in
-    let law = reads g.T.Contents.law g.T.Contents.reads_alike in
+    let same = unequal_test_false _ _ _ _ c.if-ne.false c.ne.ensures (ap (λ t. t.octet) c.TAG.ensures) in
+    let law = reading_reads g.T.Contents.law g.T.Contents.reads_alike in
     (sym c.tag.ensures ∙ same, law.gives _ _ (are_bytes _ c.args.self.octets) (search rules))

@@ -1,6 +1,6 @@
 use Rattle.std.proofs.Common.{rules, arith, ◌≤◌, length}
-use Rattle.der_core.specs.Words.{err_from_is_err_and, limit, one_spelling}
-use Rattle.der_core.proofs.Writing.{appends_at_once, stopped}
+use Rattle.der_core.specs.Words.{err_from_is_err_and, limit, one_spelling_shortest}
+use Rattle.der_core.proofs.Writing.{appends_at_once, value_unwritten}
 use Rattle.der_core.proofs.Headers.{behind_header, no_header}
 use Rattle.spki_core.specs.Words.{IsAny, any_of, written_any}
 use Rattle.spki_core.proofs.any.AnyRefEncode.encode.Goals as goal
@@ -16,7 +16,7 @@ returns-in_err-write-clause-appends g c =
 
 pub returns-in_err-write-clause-err : goal.returns-in_err-write-clause-err
 returns-in_err-write-clause-err g c =
-    stopped (one_spelling IsAny written_any) _ _ _ _ _ (returns-in_err-write-clause-appends g c).left
+    value_unwritten (one_spelling_shortest IsAny written_any) _ _ _ _ _ (returns-in_err-write-clause-appends g c).left
 
 pub returns-clause-appends : goal.returns-clause-appends
 returns-clause-appends g c =
@@ -29,4 +29,5 @@ returns-clause-appends g c =
     c.write-2.ensures.nothing)
 
 pub returns-clause-err : goal.returns-clause-err
-returns-clause-err g c = stopped (one_spelling IsAny written_any) _ _ _ _ _ (returns-clause-appends g c).left
+returns-clause-err g c =
+    value_unwritten (one_spelling_shortest IsAny written_any) _ _ _ _ _ (returns-clause-appends g c).left

@@ -1,6 +1,6 @@
 use Rattle.std.proofs.Common.{ℕ, List, Option, ◌+◌, arith, length, length-append, rules}
 use Rattle.der_core.specs.Words.{EncodeError, WhyOctetsNotCounted, WhyOctetsNotWritten, another, err_from_is_err_and, length_octets, no_encoding, no_room, tlv, too_long}
-use Rattle.der_core.proofs.Writing.{stopped}
+use Rattle.der_core.proofs.Writing.{value_unwritten}
 use Rattle.spki_core.specs.Words.{numbered_writes_shortest}
 use Rattle.der_core.proofs.Headers.{behind_header, counted_fits, header_too_long, no_header}
 use Rattle.spki_core.proofs.context_specific.ContextSpecificRefEncode.encode.Goals as goal
@@ -26,7 +26,8 @@ returns-in_err-length-clause-appends g c =
 
 pub returns-in_err-length-clause-err : goal.returns-in_err-length-clause-err
 returns-in_err-length-clause-err g c =
-    stopped (numbered_writes_shortest g.T.Encoding.shortest) _ _ _ _ _ (returns-in_err-length-clause-appends g c).left
+    value_unwritten (numbered_writes_shortest g.T.Encoding.shortest) _ _ _ _ _
+    (returns-in_err-length-clause-appends g c).left
 
 pub returns-in_err-for_tlv-clause-appends : goal.returns-in_err-for_tlv-clause-appends
 returns-in_err-for_tlv-clause-appends g c =
@@ -37,7 +38,8 @@ returns-in_err-for_tlv-clause-appends g c =
 
 pub returns-in_err-for_tlv-clause-err : goal.returns-in_err-for_tlv-clause-err
 returns-in_err-for_tlv-clause-err g c =
-    stopped (numbered_writes_shortest g.T.Encoding.shortest) _ _ _ _ _ (returns-in_err-for_tlv-clause-appends g c).left
+    value_unwritten (numbered_writes_shortest g.T.Encoding.shortest) _ _ _ _ _
+    (returns-in_err-for_tlv-clause-appends g c).left
 
 pub returns-in_err-write-clause-appends : goal.returns-in_err-write-clause-appends
 returns-in_err-write-clause-appends g c =
@@ -50,7 +52,8 @@ returns-in_err-write-clause-appends g c =
 
 pub returns-in_err-write-clause-err : goal.returns-in_err-write-clause-err
 returns-in_err-write-clause-err g c =
-    stopped (numbered_writes_shortest g.T.Encoding.shortest) _ _ _ _ _ (returns-in_err-write-clause-appends g c).left
+    value_unwritten (numbered_writes_shortest g.T.Encoding.shortest) _ _ _ _ _
+    (returns-in_err-write-clause-appends g c).left
 
 pub returns-clause-appends : goal.returns-clause-appends
 returns-clause-appends g c =
@@ -62,4 +65,4 @@ returns-clause-appends g c =
 
 pub returns-clause-err : goal.returns-clause-err
 returns-clause-err g c =
-    stopped (numbered_writes_shortest g.T.Encoding.shortest) _ _ _ _ _ (returns-clause-appends g c).left
+    value_unwritten (numbered_writes_shortest g.T.Encoding.shortest) _ _ _ _ _ (returns-clause-appends g c).left

@@ -1,5 +1,5 @@
 use Rattle.std.proofs.Common.{◌+◌}
-use Rattle.der_core.proofs.Writing.{counts_encoding, uncounted}
+use Rattle.der_core.proofs.Writing.{counts_encoding, value_uncounted}
 use Rattle.spki_core.specs.Words.{numbered_writes_shortest}
 use Rattle.spki_core.proofs.context_specific.ContextSpecificRefEncode.encoded_len.Goals as goal
 
@@ -12,4 +12,4 @@ returns-clause-counted g c =
 
 pub returns-clause-err : goal.returns-clause-err
 returns-clause-err g c =
-    uncounted (numbered_writes_shortest g.T.Encoding.shortest) _ _ (returns-clause-counted g c)
+    value_uncounted (numbered_writes_shortest g.T.Encoding.shortest) _ _ (returns-clause-counted g c)

@@ -1,8 +1,8 @@
 use Rattle.std.proofs.Common.{arith}
 use Rattle.der_core.specs.Words.{are_bytes, Prints}
 use Rattle.der_core.proofs.Readings.{whole_reads}
-use Rattle.der_core.proofs.ReadSteps.{copy_returns, reads_all}
-use Rattle.spki_core.specs.Words.{IsAny, written_any, any_of, any_values, own_any_of, any}
+use Rattle.der_core.proofs.ReadSteps.{copy_returns, whole_returned_reads_all}
+use Rattle.spki_core.specs.Words.{IsAny, written_any, any_of, any_values, own_any_of, any_front}
 use Rattle.spki_core.proofs.owned_any.AnyDecodeRefSliceU8Global.from_der.Goals as goal
 
 pub returns-clause-exact : goal.returns-clause-exact
@@ -13,5 +13,6 @@ returns-clause-exact c =
 
 pub returns-clause-encoding : goal.returns-clause-encoding
 returns-clause-encoding c =
-    reads_all own_any_of any _ (whole_reads any_values) _ _ (are_bytes _ (λ i. omega (arith, c.type_inv.bytes i)))
+    whole_returned_reads_all own_any_of any_front _ (whole_reads any_values) _ _
+    (are_bytes _ (λ i. omega (arith, c.type_inv.bytes i)))
     (returns-clause-exact c)

@@ -1,5 +1,5 @@
 use Rattle.std.proofs.Common.{arith, sym, subst, ◌∷◌, ◌++◌, ◌≡◌, ◌≤◌, [], length}
-use Rattle.der_core.specs.Words.{integer_contents, holds_canonical, contents_as, limit, Appends}
+use Rattle.der_core.specs.Words.{integer_contents, holds_canonical, number_contents_as, limit, Appends}
 use Rattle.der_core.proofs.Writing.{appends_at_once, appends_behind}
 use Rattle.der_core.proofs.integer.uint.UintRefEncodeValue.append_value.Goals.{then-self-ge128+in_ok-write, else-self-ge128}
 use Rattle.der_core.proofs.integer.uint.UintRefEncodeValue.append_value.Goals as goal
@@ -8,7 +8,7 @@ pub returns-clause-appends : goal.returns-clause-appends
 returns-clause-appends g c =
     let bytes = c.args.self.now.bytes.now in
     let w = g.W.Writer in
-    let is = contents_as bytes (holds_canonical bytes c.args.self.now.canonical) in
+    let is = number_contents_as bytes (holds_canonical bytes c.args.self.now.canonical) in
     let fits : length (integer_contents bytes) ≤ limit = rw is at c.requires.fits in
     let told : Appends (Unit {0}) (integer_contents bytes) w.room w.written c.args.writer.now c.write-2.new.self
     c.write-2.result = elim c.if-self-ge128.branch [

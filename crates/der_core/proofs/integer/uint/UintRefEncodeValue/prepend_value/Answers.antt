@@ -1,26 +1,26 @@
 use Rattle.std.proofs.Common.{arith, rules, sym, subst, ◌≤◌, ◌∷◌, ◌∙◌, length}
 use Rattle.std.proofs.lemmas.Grind.{common_steps}
-use Rattle.der_core.specs.Words.{Prepends, free_of, integer_contents, holds_canonical, written_large, contents_as}
+use Rattle.der_core.specs.Words.{Prepends, free_of, integer_contents, holds_canonical, written_large, number_contents_as}
 use Rattle.der_core.proofs.integer.uint.UintRefEncodeValue.prepend_value.Goals as goal
 
 pub prepend-requires : goal.prepend-requires
 prepend-requires c =
     let bytes = c.args.self.now.bytes.now in
-    let is = contents_as bytes (holds_canonical bytes c.args.self.now.canonical) in
+    let is = number_contents_as bytes (holds_canonical bytes c.args.self.now.canonical) in
     let room : length (integer_contents bytes) ≤ free_of c.args.writer.now = rw is at c.requires.room in
     search rules
 
 pub prepend-requires-then-self-ge128 : goal.prepend-requires-then-self-ge128
 prepend-requires-then-self-ge128 c =
     let bytes = c.args.self.now.bytes.now in
-    let is = contents_as bytes (holds_canonical bytes c.args.self.now.canonical) in
+    let is = number_contents_as bytes (holds_canonical bytes c.args.self.now.canonical) in
     let room : length (integer_contents bytes) ≤ free_of c.args.writer.now = rw is at c.requires.room in
     search rules
 
 pub returns-then-self-ge128 : goal.returns-then-self-ge128
 returns-then-self-ge128 c =
     let bytes = c.args.self.now.bytes.now in
-    let is = contents_as bytes (holds_canonical bytes c.args.self.now.canonical) in
+    let is = number_contents_as bytes (holds_canonical bytes c.args.self.now.canonical) in
     let whole = is ∙ written_large bytes c.if-self-ge128.true in
     let told : Prepends (0 ∷ bytes) c.args.writer.now c.prepend-then-self-ge128.new.self =
     grind (arith, common_steps) in
@@ -29,6 +29,6 @@ returns-then-self-ge128 c =
 pub returns-else-self-ge128 : goal.returns-else-self-ge128
 returns-else-self-ge128 c =
     let bytes = c.args.self.now.bytes.now in
-    let is = contents_as bytes (holds_canonical bytes c.args.self.now.canonical) in
+    let is = number_contents_as bytes (holds_canonical bytes c.args.self.now.canonical) in
     let told : Prepends (integer_contents bytes) c.args.writer.now c.prepend.new.self = search rules in
     subst (λ octets. Prepends octets c.args.writer.now c.prepend.new.self) (sym is) told

@@ -1,6 +1,6 @@
 use Rattle.der_core.specs.Words.{encodes_stated, bytes_of}
 use Rattle.pkcs1.specs.Words.{number_in, private_as_stated, private_key_with}
-use Rattle.pkcs1.proofs.Promised.{stated_refuses}
+use Rattle.pkcs1.proofs.WritingStated.{stated_refuses}
 use Rattle.pkcs1.proofs.private_key.der.RsaPrivateKey+UintRef.encode_key.Goals as goal
 
 pub returns-clause-written : goal.returns-clause-written

@@ -15,9 +15,9 @@ record Fitting {V : Type 0} (Is : V → Type 0) (encoding : V → List ℕ) (Why
 any_fits : Fitting IsAny any AnyError
 any_fits = record { none = λ v ok few s p. let fit = tlv_fit v.tag v.contents in grind arith }
 
-identified : {P : Type 0} (WhyNot : P → ℕ → Type 0) (a : Algorithm P) → IsIdentifier a.oid
+algorithm_parts_fit : {P : Type 0} (WhyNot : P → ℕ → Type 0) (a : Algorithm P) → IsIdentifier a.oid
     → NoStatus (OptionError WhyNot a.parameters) → NoStatus (AlgorithmError WhyNot a)
-identified WhyNot a is = part_none (OidError a.oid) (OptionError WhyNot a.parameters) (λ s q. q.1 is)
+algorithm_parts_fit WhyNot a is = part_none (OidError a.oid) (OptionError WhyNot a.parameters) (λ s q. q.1 is)
 
 module _ {P : Type 0} {Is : P → Type 0} {encoding : P → List ℕ} {WhyNot : P → ℕ → Type 0}
     (fit : Fitting Is encoding WhyNot) where
@@ -30,28 +30,28 @@ module _ {P : Type 0} {Is : P → Type 0} {encoding : P → List ℕ} {WhyNot : 
     none = λ a ok few.
         let front = tlv 6 a.oid in
         let back = optional encoding a.parameters in
-        identified WhyNot a ok.0
+        algorithm_parts_fit WhyNot a ok.0
         (option_fits a.parameters ok.1 (omega (arith, few, tlv_fit 48 (front ++ back), length-append front back)));
   }
 
 plain_fits : Fitting (IsAlgorithm IsAny) (algorithm any) PlainError
 plain_fits = algorithm_fits any_fits
 
-mask_fits : Fitting (IsAlgorithm (IsAlgorithm IsAny)) (algorithm (algorithm any)) MaskError
-mask_fits = algorithm_fits plain_fits
+mask_gen_fits : Fitting (IsAlgorithm (IsAlgorithm IsAny)) (algorithm (algorithm any)) MaskError
+mask_gen_fits = algorithm_fits plain_fits
 
 -- The defaults can be held.
 empty_fits : (tag : ℕ) → is_allowed tag ≡ true → NoStatus (AnyError (record { tag = tag; contents = [] }))
 empty_fits tag allowed s p = grind arith
 
 sha1_fits : NoStatus (PlainError sha1)
-sha1_fits = identified AnyError sha1 pss_lawful.3.0 (empty_fits 5 refl)
+sha1_fits = algorithm_parts_fit AnyError sha1 pss_lawful.3.0 (empty_fits 5 refl)
 
 mgf1_fits : NoStatus (MaskError mgf1_sha1)
-mgf1_fits = identified PlainError mgf1_sha1 mgf1_identifier sha1_fits
+mgf1_fits = algorithm_parts_fit PlainError mgf1_sha1 mgf1_identifier sha1_fits
 
-label_fits : NoStatus (PlainError empty_label)
-label_fits = identified AnyError empty_label source_identifier (empty_fits 4 refl)
+empty_label_fits : NoStatus (PlainError empty_label)
+empty_label_fits = algorithm_parts_fit AnyError empty_label source_identifier (empty_fits 4 refl)
 
 -- A field that is first in contents within the limit, and what is behind it.
 module _ {V : Type 0} {Is : V → Type 0} {encoding : V → List ℕ} {WhyNot : V → ℕ → Type 0}
@@ -79,7 +79,7 @@ hash_fit : (hash : Algorithm TagAndContents) (mask : Algorithm (Algorithm TagAnd
 hash_fit hash mask is_hash is_mask later Rest rest c p few =
     let second = field 1 (algorithm (algorithm any)) mgf1_sha1 mask ∷ later in
     let (a, d, q, fewer) = field_fits plain_fits 0 sha1 hash sha1_fits is_hash second c p few in
-    let (b, r, behind, last) = field_fits mask_fits 1 mgf1_sha1 mask mgf1_fits is_mask later d q fewer in
+    let (b, r, behind, last) = field_fits mask_gen_fits 1 mgf1_sha1 mask mgf1_fits is_mask later d q fewer in
     let later = rest r behind last in search (rules, part_none)
 
 pub pss_fits : (p : PssParameters) (bytes : List ℕ) → PssEncoding p bytes → NoStatus (PssFieldError p)
@@ -90,12 +90,12 @@ pss_fits p bytes (ok, few, c, held, is) =
 pub oaep_fits : (p : OaepParameters) (bytes : List ℕ) → OaepEncoding p bytes → NoStatus (OaepFieldError p)
 oaep_fits p bytes (ok, few, c, held, is) =
     hash_fit p.hash p.mask_gen ok.0 ok.1 (field 2 (algorithm any) empty_label p.p_source ∷ []) (PlainError p.p_source)
-    (λ d q fewer. (field_fits plain_fits 2 empty_label p.p_source label_fits ok.2 [] d q fewer).0) c held
+    (λ d q fewer. (field_fits plain_fits 2 empty_label p.p_source empty_label_fits ok.2 [] d q fewer).0) c held
     (omega (arith, few, ap length is, tlv_fit 48 c))
 
 -- A tag and a length are 6 octets at most.
-pub few_more : (tag : ℕ) (c : List ℕ) → length (tlv tag c) ≤ limit → length (tlv tag c) ≤ length c + 6
-few_more tag c few =
+pub tlv_adds_at_most_six : (tag : ℕ) (c : List ℕ) → length (tlv tag c) ≤ limit → length (tlv tag c) ≤ length c + 6
+tlv_adds_at_most_six tag c few =
     let whole = length-append (length_octets (length c)) c in
     let most = octets_grow (length c) limit (omega (arith, few, whole)) (omega arith) in
     omega (arith, whole, most, ap length (length_octets-4 limit (omega arith) (omega arith)))

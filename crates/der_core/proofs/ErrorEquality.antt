@@ -1,28 +1,28 @@
 -- What an `==` that is true tells of errors.
 use Rattle.std.proofs.Common.{ℕ, ◌≡◌, ◌&&◌, Bool, true, false, refl, eqb, ap, subst, Decides, eqb-true, eq-eqb}
-use Rattle.der_core.specs.Words.{ErrorKind, both_decide, number_decides, same_tag}
+use Rattle.der_core.specs.Words.{ErrorKind, and_decides, number_decides, same_tag}
 use Rattle.der_core.specs.declared.error.ErrorKind.TheVariants as kind
 use Rattle.der_core.specs.contracts.error.ErrorKindPartialEq.TheImpl.{ghosts}
 
 -- An `==` that is reflexive, and true only of the same, is equality.
-pub by_tells : {K : Type 0} (E : K → K → Bool) → ((a : K) → E a a ≡ true) → ((a b : K) → E a b ≡ true → a ≡ b)
+pub equality_decides : {K : Type 0} (E : K → K → Bool) → ((a : K) → E a a ≡ true) → ((a b : K) → E a b ≡ true → a ≡ b)
     → (a b : K) → Decides (E a b) (a ≡ b)
-by_tells E itself tells a b = (tells a b, λ e. subst (λ x. E a x ≡ true) e (itself a))
+equality_decides E itself tells a b = (tells a b, λ e. subst (λ x. E a x ≡ true) e (itself a))
 
 pairs_decide : (k l m n : ℕ) → Decides (eqb k m && eqb l n) ((k ≡ m) × (l ≡ n))
 pairs_decide k l m n =
-    both_decide (number_decides k m) (number_decides l n) (λ first second. (first, second)) (λ p. p.0) (λ p. p.1)
+    and_decides (number_decides k m) (number_decides l n) (λ first second. (first, second)) (λ p. p.0) (λ p. p.1)
 
-pub kind_itself : (a : ErrorKind) → ghosts.eq a a ≡ true
-kind_itself (kind.Length t) = eq-eqb _ _ refl
-kind_itself (kind.Noncanonical t) = eq-eqb _ _ refl
-kind_itself (kind.TagUnexpected s t) = (pairs_decide s.octet t.octet s.octet t.octet).1 (refl, refl)
-kind_itself (kind.TagUnknown n) = eq-eqb _ _ refl
-kind_itself (kind.Value t) = eq-eqb _ _ refl
-kind_itself a = refl
+pub kind_equals_itself : (a : ErrorKind) → ghosts.eq a a ≡ true
+kind_equals_itself (kind.Length t) = eq-eqb _ _ refl
+kind_equals_itself (kind.Noncanonical t) = eq-eqb _ _ refl
+kind_equals_itself (kind.TagUnexpected s t) = (pairs_decide s.octet t.octet s.octet t.octet).1 (refl, refl)
+kind_equals_itself (kind.TagUnknown n) = eq-eqb _ _ refl
+kind_equals_itself (kind.Value t) = eq-eqb _ _ refl
+kind_equals_itself a = refl
 
-pub clash : {A : Type 0} → ◌≡◌ {A = Bool} false true → A
-clash e = cc
+pub false_is_not_true : {A : Type 0} → ◌≡◌ {A = Bool} false true → A
+false_is_not_true e = cc
 
 pub kind_tells : (a b : ErrorKind) → ghosts.eq a b ≡ true → a ≡ b
 kind_tells kind.Failed kind.Failed e = refl
@@ -44,4 +44,4 @@ kind_tells (kind.Value s) (kind.Value t) e = ap kind.Value (same_tag s t (eqb-tr
 kind_tells kind.NoRoom kind.NoRoom e = refl
 kind_tells kind.File kind.File e = refl
 kind_tells kind.OutOfMemory kind.OutOfMemory e = refl
-kind_tells a b e = clash e
+kind_tells a b e = false_is_not_true e

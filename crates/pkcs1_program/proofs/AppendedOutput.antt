@@ -10,16 +10,16 @@ use Rattle.standard.specs.Statement.{AtMostOne, Decodes, IsShortest, octets}
 use Rattle.pkcs1_program.specs.Words.{Answered, Tells}
 
 -- one piece more in front of those that follow
-more : (old now new piece rest : List ℕ) → now ≡ old ++ piece → new ≡ now ++ rest → new ≡ old ++ (piece ++ rest)
-more old now new piece rest e f = f ∙ ap (λ b. b ++ rest) e ∙ append_assoc old piece rest
+appended_two : (old now new piece rest : List ℕ) → now ≡ old ++ piece → new ≡ now ++ rest → new ≡ old ++ (piece ++ rest)
+appended_two old now new piece rest e f = f ∙ ap (λ b. b ++ rest) e ∙ append_assoc old piece rest
 
 -- three pieces, and four
-pub three : (o p q new a b c : List ℕ) → p ≡ o ++ a → q ≡ p ++ b → new ≡ q ++ c → new ≡ o ++ (a ++ (b ++ c))
-three o p q new a b c h i j = more o p new a _ h (more p q new b _ i j)
+pub appended_three : (o p q new a b c : List ℕ) → p ≡ o ++ a → q ≡ p ++ b → new ≡ q ++ c → new ≡ o ++ (a ++ (b ++ c))
+appended_three o p q new a b c h i j = appended_two o p new a _ h (appended_two p q new b _ i j)
 
-pub four : (o p q r new a b c d : List ℕ) → p ≡ o ++ a → q ≡ p ++ b → r ≡ q ++ c → new ≡ r ++ d
+pub appended_four : (o p q r new a b c d : List ℕ) → p ≡ o ++ a → q ≡ p ++ b → r ≡ q ++ c → new ≡ r ++ d
     → new ≡ o ++ (a ++ (b ++ (c ++ d)))
-four o p q r new a b c d h i j k = more o p new a _ h (three p q r new b c d i j k)
+appended_four o p q r new a b c d h i j k = appended_two o p new a _ h (appended_three p q r new b c d i j k)
 
 -- one item more of a list
 pub item_put : {X : Type 0} (tell : X → List ℕ) (xs : List X) (i : ℕ) (x : X) (old now new : List ℕ) → i < length xs
@@ -36,26 +36,26 @@ item_put tell xs i x old now new below is before put =
 
 module _ {V T E : Type 0} (Encoding : V → List ℕ → Type 0) (encoding old new : List ℕ) (r : Result T E) where
   -- what is put of a value is an answer
-  pub told : (Told : V → List ℕ → Type 0) (v : V) (answer : List ℕ) → Encoding v encoding → Told v answer
+  pub answer_put : (Told : V → List ℕ → Type 0) (v : V) (answer : List ℕ) → Encoding v encoding → Told v answer
       → OnOk r (new ≡ old ++ answer)
       → OnOk r ((a : List ℕ) × Answered Encoding Told encoding a × (new ≡ old ++ a))
-  told Told v answer is tells put = on_ok_weaker r (λ p. (answer, inr (v, is, tells), p)) put
+  answer_put Told v answer is tells put = on_ok_weaker r (λ p. (answer, inr (v, is, tells), p)) put
 
-  -- so is `refused`, of no value
-  pub refused : (Told : V → List ℕ → Type 0) → Decodes Encoding encoding None
+  -- so is `refusal_put`, of no value
+  pub refusal_put : (Told : V → List ℕ → Type 0) → Decodes Encoding encoding None
       → OnOk r (new ≡ old ++ codes "refused")
       → OnOk r ((a : List ℕ) × Answered Encoding Told encoding a × (new ≡ old ++ a))
-  refused Told none put = on_ok_weaker r (λ p. (codes "refused", inl (none, refl), p)) put
+  refusal_put Told none put = on_ok_weaker r (λ p. (codes "refused", inl (none, refl), p)) put
 
   -- what is put of a value, with its only encoding
-  pub key_told : (tell : V → List ℕ → List ℕ) → AtMostOne Encoding → (v : V) → Encoding v encoding
+  pub key_answer_put : (tell : V → List ℕ → List ℕ) → AtMostOne Encoding → (v : V) → Encoding v encoding
       → OnOk r (new ≡ old ++ tell v encoding)
       → OnOk r ((a : List ℕ) × Tells Encoding tell encoding a × (new ≡ old ++ a))
-  key_told tell one v is put =
+  key_answer_put tell one v is put =
       let shortest : IsShortest Encoding v encoding = (is, λ other p. inl (one v other encoding p is)) in
-      told (λ v a. (again : List ℕ) × IsShortest Encoding v again × (a ≡ tell v again)) v (tell v encoding) is
+      answer_put (λ v a. (again : List ℕ) × IsShortest Encoding v again × (a ≡ tell v again)) v (tell v encoding) is
       (encoding, shortest, refl) put
 
 -- the octets of a number
-pub octets_held : (u : UintRef) → bytes_of u ≡ octets (number_in bytes_of u)
-octets_held u = sym (number_octets (bytes_of u) (holds_canonical (bytes_of u) u.canonical))
+pub uint_octets_held : (u : UintRef) → bytes_of u ≡ octets (number_in bytes_of u)
+uint_octets_held u = sym (number_octets (bytes_of u) (holds_canonical (bytes_of u) u.canonical))

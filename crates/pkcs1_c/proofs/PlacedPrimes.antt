@@ -5,7 +5,7 @@ use Rattle.std.proofs.lemmas.Grind.{common_steps}
 use Rattle.der_core.proofs.ReadSteps.{Gives}
 use Rattle.der_core.specs.Words.{Input, limit, ok_pair}
 use Rattle.der_core.specs.declared.error.ErrorKind.{ErrorKind}
-use Rattle.pkcs1.proofs.OtherPrimesHeld.{front_shorter}
+use Rattle.pkcs1.proofs.OtherPrimesHeld.{next_prime_shorter}
 use Rattle.pkcs1.specs.Words.{primes_encoded, next_law, next_prime, other_from, other_stated}
 use Rattle.pkcs1.specs.Keys as keys
 use Rattle.standard.specs.Statement.{OtherPrime}
@@ -21,9 +21,9 @@ pub record Placing (primes : List OtherPrime) (left : Input) (others old : List 
   pub kept : drop i others ≡ drop i old
 
 -- What the reader finds of the primes that are left.
-found : (o : OtherPrime) (others : List OtherPrime) → length (primes_encoded (o ∷ others)) ≤ limit
+next_prime_found : (o : OtherPrime) (others : List OtherPrime) → length (primes_encoded (o ∷ others)) ≤ limit
     → next_prime (primes_encoded (o ∷ others)) ≡ Ok (other_from o, primes_encoded others)
-found o others few = next_law.takes (other_from o) (primes_encoded others) (tt, (tt, (tt, tt))) few
+next_prime_found o others few = next_law.takes (other_from o) (primes_encoded others) (tt, (tt, (tt, tt))) few
 
 -- The next one is placed.
 module _ (primes : List OtherPrime) (left after : Input) (others old : List struct.OtherPrime) (i : ℕ)
@@ -37,9 +37,9 @@ module _ (primes : List OtherPrime) (left after : Input) (others old : List stru
             → take i (map numbers_of_prime others) ++ map octets_of_prime behind ≡ map octets_of_prime primes
             → Gives next_prime other (Some (primes_encoded behind)) after
             → Placing primes after (set others i made) old (i + 1)
-        go [] few placed (rest, read, more) = absurd (omega (arith, front_shorter [] rest other tt read))
+        go [] few placed (rest, read, more) = absurd (omega (arith, next_prime_shorter [] rest other tt read))
         go (o ∷ behind) few placed (rest, read, more) =
-            let same = ok_pair _ _ _ _ (sym (found o behind few) ∙ read) in
+            let same = ok_pair _ _ _ _ (sym (next_prime_found o behind few) ∙ read) in
             let first : octets_of_prime (other_stated other) ≡ octets_of_prime o =
             ap (λ u. octets_of_prime (other_stated u)) (sym same.0) in
             record {
@@ -53,19 +53,20 @@ module _ (primes : List OtherPrime) (left after : Input) (others old : List stru
 -- All are placed, as many as fit: the array is full, or the reader finds no more.
 module _ (primes : List OtherPrime) (left : Input) (others old : List struct.OtherPrime) (i : ℕ)
     (less : i ≤ length others) (same : length others ≡ length old) where
-  pub all_placed : (p : Placing primes left others old i) → (i ≡ length others) ⊎ (p.behind ≡ [])
+  pub placing_all_placed : (p : Placing primes left others old i) → (i ≡ length others) ⊎ (p.behind ≡ [])
       → ArePlaced primes others × (drop (length primes) others ≡ drop (length primes) old)
-  all_placed p end =
+  placing_all_placed p end =
       let count = length-map primes octets_of_prime in
       let counted = length-map others numbers_of_prime in
       let placed = p.placed in
       let kept = p.kept in (grind (arith, common_steps), grind (arith, common_steps))
 
-  none_left : {k : ErrorKind} → ((l : List ℕ) → left ≡ Some l → next_prime l ≡ Err k) → (behind : List OtherPrime)
+  placing_none_left : {k : ErrorKind} → ((l : List ℕ) → left ≡ Some l → next_prime l ≡ Err k)
+      → (behind : List OtherPrime)
       → length (primes_encoded behind) ≤ limit → left ≡ Some (primes_encoded behind) → behind ≡ []
-  none_left fault [] few reads = refl
-  none_left fault (o ∷ behind) few reads = let never = sym (fault _ reads) ∙ found o behind few in cc
+  placing_none_left fault [] few reads = refl
+  placing_none_left fault (o ∷ behind) few reads = let never = sym (fault _ reads) ∙ next_prime_found o behind few in cc
 
-  pub stopped : {k : ErrorKind} → ((l : List ℕ) → left ≡ Some l → next_prime l ≡ Err k) → Placing primes left others old i
+  pub placing_stopped : {k : ErrorKind} → ((l : List ℕ) → left ≡ Some l → next_prime l ≡ Err k) → Placing primes left others old i
       → ArePlaced primes others × (drop (length primes) others ≡ drop (length primes) old)
-  stopped fault p = all_placed p (inr (none_left fault p.behind p.few p.reads))
+  placing_stopped fault p = placing_all_placed p (inr (placing_none_left fault p.behind p.few p.reads))
