@@ -6,7 +6,8 @@ cd "$(dirname "$0")/../.."
 python3 - << 'PYTHON'
 import re, sys
 WORDS = {"rsa_public_key": "pub", "rsa_private_key": "priv", "identifier_alone": "oid", "(alone any_front)": "any",
-         "(alone (algorithm_front any_front))": "algorithm", "(alone (algorithm_front (algorithm_front any_front)))": "mask", "rsa_pss_params": "pss",
+         "(alone (algorithm_front any_front))": "algorithm",
+         "(alone (algorithm_front (algorithm_front any_front)))": "mask", "rsa_pss_params": "pss",
          "rsa_oaep_params": "oaep", "rsa_pss_algorithm": "pss-algorithm", "rsa_oaep_algorithm": "oaep-algorithm",
          "private_key_info": "info", "rsa_private_key_info": "info"}
 text = open("crates/pkcs8_core/proofs/ReadingsRows.antt", encoding="utf-8").read()

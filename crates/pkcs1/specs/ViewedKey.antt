@@ -13,10 +13,14 @@ use denote.Struct.Props.{props}
 abbrev pub held_viewed_key : PrivateKeyOf UintRef OtherPrimes → PrivateKey
 held_viewed_key key = private_stated (key_with (λ u. number_from_digits 256 (bytes_of u)) others_left key)
 
--- That bytes encode a key is a proposition, as a type's field has to be.
+-- The bytes encode this key.
+abbrev pub IsViewed : PrivateKeyOf UintRef OtherPrimes → List ℕ → Type 0
+IsViewed key bytes = PrivateKeyEncoding (held_viewed_key key) bytes
+
+-- That is a proposition, as the type of a ghost field has to be.
 some_primes_prop : (o : Option (List OtherPrime)) → IsProp (IfPresent (λ others. 0 < length others) o)
 some_primes_prop None = hlevel props
 some_primes_prop (Some others) = hlevel props
 
-pub private_encoding_prop : (key : PrivateKey) (bytes : List ℕ) → IsProp (PrivateKeyEncoding key bytes)
-private_encoding_prop key bytes = hlevel (props, some_primes_prop key.other_primes)
+pub viewed_prop : (key : PrivateKeyOf UintRef OtherPrimes) (bytes : List ℕ) → IsProp (IsViewed key bytes)
+viewed_prop key bytes = hlevel (props, some_primes_prop (held_viewed_key key).other_primes)

@@ -1,6 +1,5 @@
 //! RSA private keys over the input, without a list of their other primes.
-ghost use Rattle.pkcs1.specs.ViewedKey.{held_viewed_key, private_encoding_prop};
-ghost use Rattle.standard.specs.Statement.{PrivateKeyEncoding};
+ghost use Rattle.pkcs1.specs.ViewedKey.{IsViewed, viewed_prop};
 
 use crate::other_primes::OtherPrimes;
 use crate::public_key::{RsaPublicKey, RsaPublicKeyRef};
@@ -16,7 +15,7 @@ use std::fmt;
 pub struct RsaPrivateKeyView<'a> {
     bytes: &'a [u8],
     key: ViewedKey<'a>,
-    ghost encodes: { PrivateKeyEncoding (held_viewed_key key) bytes.now } by { private_encoding_prop (held_viewed_key key) bytes.now },
+    ghost encodes: { IsViewed key bytes.now } by { viewed_prop key bytes.now },
 }
 
 impl<'a> RsaPrivateKeyView<'a> {
