@@ -1,26 +1,26 @@
 -- What is printed of the row of a SubjectPublicKeyInfo is what its grammar says.
 use Rattle.std.proofs.Common.{ℕ, List, [], ◌∷◌, ◌++◌, ◌≡◌, ◌≤◌, ◌∙◌, refl, sym, ap, append-nil, length, length-append, arith, Option, option_map}
 use Rattle.der_core.specs.Words.{StatedAs, decodes_as, stated, Spells, tlv_fit}
-use Rattle.pkcs1.specs.Keys as keys
-use Rattle.pkcs1.specs.Words.{AnyNumber, PublicIsValid, public_printed}
+use Rattle.pkcs1.specs.Words.{PublicRow, public_from, public_stated}
 use Rattle.standard.specs.Statement.{Decodes, PublicKey, algorithm, any, integer, integers, rsa_encryption, sequence, tlv}
 use Rattle.examples.specs.SpkiKeys.{RsaInfoEncoding}
 
 abbrev KeyInfoRow : Type 0
-KeyInfoRow = Unit {0} × ((Unit {0} × (keys.PublicKey ℕ × Unit {0})) × Unit {0})
+KeyInfoRow = Unit {0} × ((Unit {0} × (PublicRow ℕ × Unit {0})) × Unit {0})
 
 abbrev IsRow : KeyInfoRow → Type 0
-IsRow v = Unit {0} × ((Unit {0} × (PublicIsValid AnyNumber v.1.0.1.0 × Unit {0})) × Unit {0})
+IsRow v = Unit {0} × ((Unit {0} × ((Unit {0} × (Unit {0} × Unit {0})) × Unit {0})) × Unit {0})
 
 abbrev printed : KeyInfoRow → List ℕ
 printed v =
-    sequence (algorithm any rsa_encryption ++ (tlv 3 (0 ∷ (sequence (public_printed integer v.1.0.1.0) ++ [])) ++ []))
+    let key = integer v.1.0.1.0.0 ++ (integer v.1.0.1.0.1.0 ++ []) in
+    sequence (algorithm any rsa_encryption ++ (tlv 3 (0 ∷ (sequence key ++ [])) ++ []))
 
 abbrev key_of : KeyInfoRow → PublicKey
-key_of v = record { modulus = v.1.0.1.0.modulus; public_exponent = v.1.0.1.0.public_exponent }
+key_of v = public_stated v.1.0.1.0
 
 abbrev row_of : PublicKey → KeyInfoRow
-row_of key = (tt, ((tt, (record { modulus = key.modulus; public_exponent = key.public_exponent }, tt)), tt))
+row_of key = (tt, ((tt, (public_from key, tt)), tt))
 
 abbrev key_octets : PublicKey → List ℕ
 key_octets key = sequence (integers (key.modulus ∷ key.public_exponent ∷ []))
