@@ -1,7 +1,8 @@
 -- What is printed of the row of a SubjectPublicKeyInfo is what its grammar says.
 use Rattle.std.proofs.Common.{ℕ, List, [], ◌∷◌, ◌++◌, ◌≡◌, ◌≤◌, ◌∙◌, refl, sym, ap, append-nil, length, length-append, arith, Option, option_map}
 use Rattle.der_core.specs.Words.{StatedAs, decodes_as, stated, Spells, tlv_fit}
-use Rattle.pkcs1.specs.Words.{PublicRow, public_from, public_stated}
+use Rattle.pkcs1.specs.Keys.{PublicRow}
+use Rattle.pkcs1.specs.Words.{public_from, public_stated}
 use Rattle.standard.specs.Statement.{Decodes, PublicKey, algorithm, any, integer, integers, rsa_encryption, sequence, tlv}
 use Rattle.examples.specs.SpkiKeys.{RsaInfoEncoding}
 
