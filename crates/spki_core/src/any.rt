@@ -229,7 +229,7 @@ pub trait AnyValue: EqualByValue + Encode {
 
     /// The tag and contents, borrowed.
     fn as_any_ref(&self) -> AnyRef<'_>
-        ensures { any_of result ≡ any_front self.now };
+        ensures { any_of result ≡ any self.now };
 
     /// The tag and contents are what the value means.
     ghost holds: { HoldsAny Self.value Self.any };
@@ -239,7 +239,7 @@ pub trait AnyValue: EqualByValue + Encode {
         standard.IsAny standard.any };
 
     /// The tag and contents that are held have an encoding.
-    ghost held: { (x : Self) → standard.IsAny (any_front x) };
+    ghost held: { (x : Self) → standard.IsAny (any x) };
 }
 
 impl EqualByValue for AnyRef<'_> {
