@@ -1,6 +1,6 @@
 -- What is written of parameters: of equal values, under a mask; and what their encodings exclude.
 use Rattle.std.proofs.Common.{ℕ, List, ◌≡◌, ◌<◌, length, refl, subst, take, Result, Ok, Err, ◌↔◌, Option, Some, None, [], ◌∷◌, ◌++◌, ◌+◌, ◌*◌, Bool, true, false, arith, ap, ◌∙◌, sym, ◌^◌, if◌then◌else◌, pow_pos, inl, inr, append-nil, ◌≤◌, slice_index}
-use Rattle.der_core.specs.Words.{limit, EncodeError, no_encoding, too_long, no_room, another, Appends, Counts, Unwritten, WhyOctetsNotCounted, WhyOctetsNotWritten, encode_error, one_spelling_shortest, tagged_shortest, Spells, WritesShortest, prints_one, Excludes}
+use Rattle.der_core.specs.Words.{limit, EncodeError, no_encoding, too_long, no_room, another, Appends, Counts, Unwritten, WhyOctetsNotCounted, encode_error, octets_appended_as, one_spelling_shortest, tagged_shortest, Spells, WritesShortest, prints_one, Excludes}
 use Rattle.der_core.specs.declared.error.Error as errors
 use Rattle.der_core.specs.declared.error.ErrorKind.{ErrorKind}
 use Rattle.der_core.specs.declared.error.ErrorKind.TheVariants.{Overflow}
@@ -35,29 +35,11 @@ module _ {V W : Type 0} (Encoding : V → List ℕ → Type 0) (Other : W → Li
 
 -- The same octets, of a value with an encoding.
 module _ (Has Is : Type 0) (has : Has) (is : Is) where
-  unwritten_octets_carried : (octets : List ℕ) (room : Option ℕ) (old new : List ℕ → Type 0) (k : EncodeError)
-      → WhyOctetsNotWritten Has octets room old new k → WhyOctetsNotWritten Is octets room old new k
-  unwritten_octets_carried octets room old new no_encoding h = absurd (h.0 has)
-  unwritten_octets_carried octets room old new too_long h = (is, h.1, h.2)
-  unwritten_octets_carried octets room old new no_room h = (is, h.1, h.2, h.3)
-  unwritten_octets_carried octets room old new another h = h
-
-  appends_carried : {W A : Type 0} (octets : List ℕ) (Room : W → Option ℕ) (Written : W → List ℕ → Type 0) (old new : W)
-      (r : Result A errors.Error) → Appends Has octets Room Written old new r → Appends Is octets Room Written old new r
-  appends_carried octets Room Written old new (Ok x) a =
-      record { has = (is, a.has.1); written = a.written; room = a.room; left = a.left }
-  appends_carried octets Room Written old new (Err e) a = record {
-    has = a.has;
-    written = a.written;
-    room = a.room;
-    left = unwritten_octets_carried octets (Room old) (Written old) (Written new) (encode_error e.kind) a.left;
-  }
-
   pub appends_as : {W A : Type 0} (octets others : List ℕ) (Room : W → Option ℕ) (Written : W → List ℕ → Type 0)
       (old new : W) (r : Result A errors.Error) → octets ≡ others → Appends Has octets Room Written old new r
       → Appends Is others Room Written old new r
   appends_as octets others Room Written old new r same a =
-      subst (λ o. Appends Is o Room Written old new r) same (appends_carried octets Room Written old new r a)
+      subst (λ o. Appends Is o Room Written old new r) same (octets_appended_as has is octets Room Written old new r a)
 
 -- Octets that there are aren't counted only if there are too many.
 pub uncounted_overflows : {H : Type 0} (octets : List ℕ) (k : ErrorKind) → H

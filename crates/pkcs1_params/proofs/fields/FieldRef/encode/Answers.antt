@@ -1,0 +1,28 @@
+use Rattle.std.proofs.Common.{ap}
+use Rattle.pkcs1_params.proofs.Masks.{appends_as}
+use Rattle.standard.specs.Statement.{tlv}
+use Rattle.pkcs1_params.proofs.fields.FieldRef.encode.Goals as goal
+
+pub returns-in-Hash-clause-appends : goal.returns-in-Hash-clause-appends
+returns-in-Hash-clause-appends g c =
+    let hash = c.in-Hash.hash.now in
+    let writes = g.met.Plain.PlainHolder.writes in
+    let has = writes.has_of hash (g.met.Plain.PlainHolder.held hash) in
+    let known = rw (c.number-number.ensures, c.in-Hash.is) at c.encode_field.ensures.appends in
+    rw c.in-Hash.is (appends_as _ _ has tt _ _ _ _ _ _ _ (ap (tlv 160) (writes.same hash)) known)
+
+pub returns-in-MaskGen-clause-appends : goal.returns-in-MaskGen-clause-appends
+returns-in-MaskGen-clause-appends g c =
+    let mask_gen = c.in-MaskGen.mask_gen.now in
+    let writes = g.met.Mask.MaskHolder.writes in
+    let has = writes.has_of mask_gen (g.met.Mask.MaskHolder.held mask_gen) in
+    let known = rw (c.number-number.ensures, c.in-MaskGen.is) at c.encode_field-in-MaskGen.ensures.appends in
+    rw c.in-MaskGen.is (appends_as _ _ has tt _ _ _ _ _ _ _ (ap (tlv 161) (writes.same mask_gen)) known)
+
+pub returns-in-PSource-clause-appends : goal.returns-in-PSource-clause-appends
+returns-in-PSource-clause-appends g c =
+    let p_source = c.in-PSource.p_source.now in
+    let writes = g.met.Plain.PlainHolder.writes in
+    let has = writes.has_of p_source (g.met.Plain.PlainHolder.held p_source) in
+    let known = rw (c.number-number.ensures, c.in-PSource.is) at c.encode_field-in-PSource.ensures.appends in
+    rw c.in-PSource.is (appends_as _ _ has tt _ _ _ _ _ _ _ (ap (tlv 162) (writes.same p_source)) known)
