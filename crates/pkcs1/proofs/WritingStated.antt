@@ -8,6 +8,7 @@ use Rattle.pkcs1.specs.Words.{Refuses, Unmade, Withholds}
 use Rattle.pkcs1_params.proofs.Faults.{asn1_as, if_err_as}
 use Rattle.pkcs1_params.proofs.Masks.{refuses_as, shortest_as}
 use Rattle.pkcs1_params.specs.declared.error.Error.{Error}
+use Rattle.standard.specs.Statement.{IsShortest}
 
 -- What the calls of der_core promise of a type.
 module _ {S V : Type 0} {valid : S → Type 0} {printed : S → List ℕ} {means : S → V} {written : V → S}
