@@ -31,7 +31,8 @@
 //! aren't proved, but tested beside the library that is built of what the proof's own compiler made. The README has
 //! more: which name is for what, what stands beside RustCrypto's `pkcs1`, and what isn't read.
 //!
-//! There is no `unsafe`, and no dependency. Without the feature `alloc`, whatever wants memory returns `OutOfMemory`.
+//! There is no `unsafe`, and no dependency. Without the feature `alloc`, what returns a `Vec` or a document isn't there,
+//! and what else wants memory returns `OutOfMemory`.
 #![no_std]
 #![forbid(unsafe_code)]
 #![warn(missing_docs)]

@@ -26,6 +26,7 @@ fn the_programs_do_what_they_say() {
     let [one, two, three] = ["one", "two", "three"].map(|name| room.join(name));
     let same = |made: &Path, name: &str| assert_eq!(std::fs::read(made).unwrap(), std::fs::read(key(name)).unwrap());
 
+    assert_eq!(run("write_key", &[], None).unwrap(), "[30, 08, 02, 03, 00, c1, 7f, 02, 01, 03]\n");
     assert_eq!(run("bits", &[], Some(&key("pub2.der"))).unwrap(), "2048 bits\n");
     let numbers = std::fs::read_to_string(key("pub2.numbers")).unwrap().to_lowercase();
     assert_eq!(run("modulus", &[&key("pub2.der")], None).unwrap().trim(), numbers.lines().next().unwrap());

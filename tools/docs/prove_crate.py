@@ -3,8 +3,8 @@
 
     tools/docs/prove_crate.py    behind `rt ci` or `rt check`, which leave the proved libraries in crates/*/out
 
-The commands are the block that begins with `rt new`. In place of `rt check`, with which it ends, stands what that
-calls, over these libraries: `rt check` itself would prove again those that `rt ci` made."""
+The commands are the block that begins with `rt new`. In place of `rt ci`, with which it ends, stands what `rt check`
+calls, over these libraries."""
 import os
 import pathlib
 import re
@@ -19,17 +19,15 @@ sys.dont_write_bytecode = True
 sys.path.insert(0, str(TOP / "tools/wrong_bodies"))
 from prover import KIT, check_words, read_crates
 
-BLOCK = re.compile(r"(?m)^    rt new crates/(\w+) .*\n(?:    .*\n)*")
-CHECK = "&& rt check"
+BLOCK = re.compile(r"(?m)^    rt new crates/(\w+) .*\n(?:    .*\n)*    rt ci \1\n(?!    )")
 
 
 def commands():
     """The name of the document's crate, and the commands that make it, up to the one that proves it."""
     block = BLOCK.search((TOP / "docs/RATTLE.md").read_text(encoding="utf-8"))
-    text = block and "".join(line[4:] for line in block[0].splitlines(True)).rstrip()
-    if not text or not text.endswith(CHECK):
-        sys.exit(f"docs/RATTLE.md has no block of commands from `rt new` to `{CHECK}`")
-    return block[1], text.removesuffix(CHECK)
+    if not block:
+        sys.exit("docs/RATTLE.md has no block of commands from `rt new` to `rt ci`")
+    return block[1], "".join(line[4:] for line in block[0].splitlines(True)[:-1])
 
 
 def copy_tree(room):
@@ -46,8 +44,8 @@ def main():
     with tempfile.TemporaryDirectory() as folder:
         room = pathlib.Path(folder)
         copy_tree(room)
-        made = subprocess.run(["sh", "-euc", f"{text}\npwd"], cwd=room, capture_output=True, text=True)
-        if made.returncode or made.stdout.split("\n")[-2] != str(room / "crates" / name):
+        made = subprocess.run(["sh", "-euc", text], cwd=room, capture_output=True, text=True)
+        if made.returncode:
             sys.exit(f"the commands of docs/RATTLE.md fail:\n{made.stdout}{made.stderr}")
         os.chdir(room)
         words = [f"{KIT}/bin/rattle", "check", *check_words(name, read_crates())]

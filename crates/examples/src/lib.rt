@@ -2,7 +2,6 @@
 #![tactic(auto)]
 
 mod by_grammar;
-mod by_value;
 mod bytes;
 mod counting_reader;
 mod counting_writer;
@@ -28,7 +27,6 @@ mod sizes;
 mod spki_keys;
 
 pub use by_grammar::{read_signature, write_signature};
-pub use by_value::equal;
 pub use bytes::{modulus_of, public_half};
 pub use counting_reader::{CountingReader, NoHeap, read_number};
 pub use counting_writer::{CountingWriter, write_number};

@@ -79,7 +79,7 @@ impl<'a> RsaPrivateKeyView<'a> {
         OtherPrimes::none()
     }
 
-    /// The whole encoding: the slice that was read.
+    /// The encoding of the key: the slice that was read, or the octets in the container's privateKey.
     pub fn as_bytes(&self) -> &'a [u8] {
         self.bytes
     }
