@@ -28,8 +28,8 @@ contents=(
 # packed, and with RELEASE.
 readme() {
     perl -0pi -e '
-        s/<!-- clone -->.*?<!-- end -->\n?//sg;
         s/<!-- release -->\n/`cat docs\/RELEASE.md`/e;
+        s/<!-- clone -->.*?<!-- end -->\n?//sg;
         s{\]\(\.\./}{](}g;
         s{^\|.*\]\((?!https?:)([^)#]+).*\n}{-e $1 ? $& : ""}gme' README.md
     rm docs/RELEASE.md
