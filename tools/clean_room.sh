@@ -249,6 +249,10 @@ release() {
     echo > "$room/again/new"
     ! "$room/again/tools/release.sh" "$room/refused" || stop "a release is made of what isn't committed"
     [ ! -e "$room/refused" ] || stop "a release is refused, and made in part"
+    make -C "$room/again"
+    for it in libpkcs1.a libpkcs1.so pkcs1_tool; do
+        cmp "out/$it" "$room/again/out/$it"
+    done
     (cd "$room/release" && sha256sum --quiet -c -- *.sha256)
     for it in "$room"/release/*.tar.gz; do
         tar xzf "$it" -C "$room"

@@ -42,7 +42,7 @@ in_dialect() {
 # runs FOLDER: the program that was built there prints the modulus.
 runs() {
     cmake --build "$1"
-    [ "$(ctest --test-dir "$1" --verbose --no-tests=error | tr -d '\r' | grep -cx '[0-9]: c17f')" = 1 ] ||
+    [ "$(cd "$1" && ctest --verbose --no-tests=error | tr -d '\r' | grep -cx '[0-9]: c17f')" = 1 ] ||
         stop "$1: the program prints another modulus"
 }
 # by_cmake SHARED OPTION..: configured, built, tested and installed, OFF: static, or ON: shared. A program finds it, and
@@ -50,10 +50,10 @@ runs() {
 by_cmake() {
     local built=$room/cmake.$1
     rm -rf "$built"
-    cmake -B "$built" -DCMAKE_BUILD_TYPE=Debug "-DBUILD_SHARED_LIBS=$1" "${@:2}"
+    cmake -B "$built" -DCMAKE_BUILD_TYPE=Debug "-DBUILD_SHARED_LIBS=$1" "-DCMAKE_INSTALL_PREFIX=$built/prefix" "${@:2}"
     cmake --build "$built"
-    ctest --test-dir "$built" --output-on-failure --no-tests=error
-    cmake --install "$built" --prefix "$built/prefix"
+    (cd "$built" && ctest --output-on-failure --no-tests=error)
+    cmake --build "$built" --target install
     cmake -S "$room/program" -B "$built/program" "-DCMAKE_PREFIX_PATH=$built/prefix" "${@:2}"
     [ ! -d "$built/prefix/bin" ] || cp "$built"/prefix/bin/*.dll "$built/program"
     runs "$built/program"

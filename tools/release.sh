@@ -4,7 +4,7 @@
 # one file, in pkcs1-proved-VERSION-one-file.tar.gz, and the hash of each.
 # Two checkouts of a commit give the same bytes. A tree with changes that aren't committed is refused, and one whose
 # generated files are made of other sources. A release must not be published before the licence of the kit's library is
-# settled: docs/DECISIONS.md.
+# settled: docs/USING.md.
 set -eu
 . "$(dirname "$0")/shell.sh"
 failure=2
@@ -28,8 +28,8 @@ contents=(
 # packed, and with RELEASE.
 readme() {
     perl -0pi -e '
-        s/<!-- clone -->.*?<!-- end -->\n?//sg;
         s/<!-- release -->\n/`cat docs\/RELEASE.md`/e;
+        s/<!-- clone -->.*?<!-- end -->\n?//sg;
         s{\]\(\.\./}{](}g;
         s{^\|.*\]\((?!https?:)([^)#]+).*\n}{-e $1 ? $& : ""}gme' README.md
     rm docs/RELEASE.md

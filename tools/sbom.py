@@ -11,7 +11,7 @@ import sys
 
 OURS = "Apache-2.0 OR MIT"
 NONE = "NOASSERTION"
-PORTS = {"hex": (OURS, "0.4.3")}
+PORTS = {"arrayvec": (OURS, "0.7.8"), "hex": (OURS, "0.4.3")}
 
 
 def provenance():

@@ -175,7 +175,7 @@ struct pkcs1_other_prime {
 };
 
 /* Decodes a private key. Puts the first `others_room` of the other primes into `others`, and leaves any further
- * elements unchanged. key->other_primes is how many there are, which may be more. */
+ * elements unchanged. key->other_primes is how many there are, which may be more: it is PKCS1_OK then too. */
 PKCS1_MUST_CHECK
 uint32_t pkcs1_private_key_decode(const uint8_t *der, size_t der_len, struct pkcs1_private_key *key,
                                   struct pkcs1_other_prime *others, size_t others_room);

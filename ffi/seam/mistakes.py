@@ -1,7 +1,7 @@
 #!/usr/bin/env python3
 """Plants each mistake of the file `mistakes` in a copy of ffi/proof/pkcs1.acsl.h. Each must be refused: by
-ffi/proof/check_requires.py, which reads it, or by calls that are watched by what is made of it.
-Prints by which, and at which clause. The status is 1 if one passed.
+ffi/proof/check_requires.py, which reads it, by calls that are watched by what is made of it, or else by
+ffi/proof/check_ensures.py. Prints by which, and at which clause. The status is 1 if one passed.
 
     mistakes.py OUT     OUT: what `make` left there"""
 import os
@@ -18,7 +18,6 @@ FLAGS = ["-std=gnu11", "-w", "-DWATCHED", *(f"-I{TOP}/ffi/{it}" for it in ("incl
 SOURCES = [f"{TOP}/ffi/{it}.c" for it in (
     "seam/terms", "seam/meaning", "seam/writer", "fuzz/reference", "fuzz/elements", "fuzz/compare", "c/rows", "c/large",
     "c/test")]
-CHECKS = ["proof/check_requires.py"]
 
 
 def mistakes():
@@ -44,10 +43,16 @@ def refused_by(text, room, objects):
     acsl, made, test = f"{room}/pkcs1.acsl.h", f"{room}/seam.c", f"{room}/test"
     with open(acsl, "w", encoding="utf-8") as it:
         it.write(text)
-    for check in CHECKS:
-        found = run(f"{TOP}/ffi/{check}", acsl)
-        if found.returncode:
-            return f"{check}: {found.stdout.splitlines()[0]}"
+    return checked("proof/check_requires.py", acsl) or watched(acsl, made, test, objects) or \
+        checked("proof/check_ensures.py", acsl)
+
+
+def checked(check, acsl):
+    found = run(f"{TOP}/ffi/{check}", acsl)
+    return f"{check}: {found.stdout.splitlines()[0]}" if found.returncode else None
+
+
+def watched(acsl, made, test, objects):
     with open(made, "w", encoding="utf-8") as it:
         it.write(run(f"{HERE}/seam.py", acsl, f"{TOP}/ffi/include/pkcs1.h").stdout)
     wraps = [f"-Wl,--wrap={it}" for it in re.findall(r"^\w+ __real_(\w+)\(.*;$", open(made).read(), re.M)]
