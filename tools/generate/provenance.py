@@ -32,8 +32,8 @@ Licences. Functions that each module has, by the crate that they come from:
 
 {counts}
 
-Those of der_core, spki_core, pkcs8_core and pkcs1* are this repository's: Apache-2.0 or MIT. hex is a port
-of hex 0.4.3, Apache-2.0 or MIT. core, io, libc, os and std* are the kit's, which states no licence for them: until that
+Those of der_core, spki_core, pkcs8_core and pkcs1* are this repository's: Apache-2.0 or MIT. arrayvec and hex are ports
+of arrayvec 0.7.8 and hex 0.4.3, Apache-2.0 or MIT. core, io, libc, os and std* are the kit's, which states no licence for them: until that
 is settled, nothing that is made of these files may be published.
 """
 
