@@ -150,11 +150,12 @@ static const unsigned char f_static_33[47] = {160, 15, 48, 13, 6, 9, 96, 134, 72
 static const unsigned char f_static_34[47] = {160, 15, 48, 13, 6, 9, 96, 134, 72, 1, 101, 3, 4, 2, 9, 5, 0, 161, 28, 48, 26, 6, 9, 42, 134, 72, 134, 247, 13, 1, 1, 8, 48, 13, 6, 9, 96, 134, 72, 1, 101, 3, 4, 2, 9, 5, 0};
 static const unsigned char f_static_35[47] = {160, 15, 48, 13, 6, 9, 96, 134, 72, 1, 101, 3, 4, 2, 10, 5, 0, 161, 28, 48, 26, 6, 9, 42, 134, 72, 134, 247, 13, 1, 1, 8, 48, 13, 6, 9, 96, 134, 72, 1, 101, 3, 4, 2, 10, 5, 0};
 static const unsigned char f_static_36[9] = {42, 134, 72, 134, 247, 13, 1, 1, 10};
+static u1 f_pkcs1_c_algorithm_is_hash_otherwise(P v_a0, P v_a1_0_val, u64 v_a1_8_val);
 static u1 f_pkcs1_c_algorithm_is_same_otherwise(P v_a0, u64 v_a1, P v_a2, u64 v_a3);
 static u1 f_core_cmp_slices_groups_equal_i8_31_core_cmp_number(P v_a0, u64 v_a1, P v_a2);
-static void f_der_core_decode_read_slowly_f6b5580abe373ff8(P v_a0, P v_a1, u64 v_a2);
-static void f_pkcs1_view_quick_others(P v_a0, P v_a1, u64 v_a2);
-static void f_der_core_decode_read_slowly_025ef17fb6cfc887(P v_a0, P v_a1, u64 v_a2);
+static void f_der_core_decode_read_slowly_963873ccf5d50ada(P v_a0, P v_a1, u64 v_a2);
+static void f_pkcs1_viewed_key_quick_others(P v_a0, P v_a1, u64 v_a2);
+static void f_der_core_decode_read_slowly_746ba62194330879(P v_a0, P v_a1, u64 v_a2);
 static void f_pkcs1_other_primes_OtherPrimesDecodeValueRefSliceU(P v_a0, P v_a1, u32 v_a3);
 static u1 f_spki_core_object_identifier_has_no_80(P v_a0, u64 v_a1);
 static u1 f_spki_core_object_identifier_ends_well(P v_a0, u64 v_a1);
@@ -177,7 +178,7 @@ static void f_pkcs1_params_trailer_field_TrailerFieldDecodeValue(P v_a0, P v_a1,
 static void f_pkcs1_params_strict_reject_defaults_2a8ca97c434130(P v_a0, P v_a1, P v_a2, u64 v_a3);
 static void f_der_core_decode_read_slowly_cdb4c436e23d2e77(P v_a0, P v_a1, u64 v_a2);
 static void f_pkcs1_params_trailer_field_TrailerFieldDecodeValue__2(P v_a0, P v_a1, u32 v_a3);
-static u1 f_pkcs1_c_algorithm_uses_hash_otherwise(P v_a0, P v_a1, P v_a2, u64 v_a3);
+static u1 f_pkcs1_c_algorithm_uses_hash_otherwise(P v_a0, P v_a1, P v_a2_0_val, u64 v_a2_8_val);
 static void f_der_core_encode_AnyEncode_encoded_len_ef326f824b52(P v_a0, P v_a1);
 static void f_der_core_back_writer_BackWriter_prepend_header(P v_a0, u8 v_a1, u32 v_a2);
 static void f_der_core_encode_AnyEncode_encoded_len_b37897193353(P v_a0, P v_a1);
@@ -192,7 +193,7 @@ static u32 f_pkcs1_c_pss_algorithm_write_fields(P v_a0, P v_a1, u64 v_a2, P v_a3
 static void f_pkcs1_c_pss_from_c_pss(P v_a0, P v_a1);
 static void f_der_core_encode_AnyEncode_encoded_len_5a57132c6d95(P v_a0, P v_a1_0_val, u8 v_a1_8_val);
 static u32 f_pkcs1_c_pss_write_fields(P v_a0, P v_a1, u64 v_a2, P v_a3);
-static u1 proved_algorithm_is(P v_a0, P v_a1, u64 v_a2);
+static u1 proved_algorithm_is(P v_a0, P v_a1);
 static u64 proved_bit_len(P v_a0, u64 v_a1);
 static u1 proved_oaep_label(P v_a0, P v_a1);
 static void proved_version(P v_a0);
@@ -209,7 +210,7 @@ static ONCE u32 proved_pss_algorithm_decode(P v_a0, u64 v_a1, P v_a2);
 static ONCE u32 proved_pss_algorithm_decode_strict(P v_a0, u64 v_a1, P v_a2);
 static ONCE u32 proved_pss_params_decode(P v_a0, u64 v_a1, P v_a2);
 static ONCE u32 proved_pss_params_decode_strict(P v_a0, u64 v_a1, P v_a2);
-static u1 proved_uses_hash(P v_a0, P v_a1, P v_a2, u64 v_a3);
+static u1 proved_uses_hash(P v_a0, P v_a1, P v_a2);
 static u32 proved_private_key_encode(P v_a0, P v_a1, u64 v_a2, P v_a3, u64 v_a4, P v_a5);
 static u32 proved_private_key_info_encode(P v_a0, P v_a1, u64 v_a2, P v_a3);
 static u32 proved_public_key_encode(P v_a0, P v_a1, u64 v_a2, P v_a3);
@@ -217,6 +218,220 @@ static u32 proved_oaep_algorithm_encode(P v_a0, P v_a1, u64 v_a2, P v_a3);
 static u32 proved_oaep_params_encode(P v_a0, P v_a1, u64 v_a2, P v_a3);
 static u32 proved_pss_algorithm_encode(P v_a0, P v_a1, u64 v_a2, P v_a3);
 static u32 proved_pss_params_encode(P v_a0, P v_a1, u64 v_a2, P v_a3);
+static u1 f_pkcs1_c_algorithm_is_hash_otherwise(P v_a0, P v_a1_0_val, u64 v_a1_8_val) {
+    u1 p_v_common_ret_op_i;
+    P v_r12_i;
+    u8 v_r13_i;
+    u1 v_r14_i;
+    P v_r18_i;
+    u8 v_r19_i;
+    u1 v_r24_not_i;
+    P v_r9_sroa_3_0_r28_sroa_idx_i;
+    u64 v_r9_sroa_3_0_copyload_i;
+    u1 v_r7_i;
+    P v_r11_sroa_0_0_copyload_i;
+    P v_r11_sroa_3_0_a0_sroa_idx_i;
+    u64 v_r11_sroa_3_0_copyload_i;
+    u1 v_r128_not_i;
+    u1 v_r135_i;
+    P v_r154_i;
+    P v_r152_i;
+    P v_r150_i;
+    P v_r148_i;
+    P v_r175_i;
+    P v_r177_i;
+    P v_r179_i;
+    P v_r181_i;
+    u8 v_r188_i;
+    u8 v_r190_i;
+    u1 v_r193_i;
+    u8 v_r196_i;
+    u8 v_r198_i;
+    u1 v_r201_i;
+    u1 v_r207_i;
+    u8 v_r210_i;
+    u8 v_r212_i;
+    u1 v_r215_i;
+    u1 v_r221_i;
+    u8 v_r224_i;
+    u8 v_r226_i;
+    u1 v_r229_i;
+    u1 v_r235_i;
+    u8 v_r238_i;
+    u8 v_r240_i;
+    u1 v_r243_i;
+    u1 v_r249_i;
+    P v_r284_i;
+    P v_r282_i;
+    P v_r280_i;
+    P v_r278_i;
+    P v_r276_i;
+    P v_r274_i;
+    P v_r272_i;
+    P v_r270_i;
+    P v_r309_i;
+    P v_r311_i;
+    P v_r313_i;
+    P v_r315_i;
+    P v_r317_i;
+    P v_r319_i;
+    P v_r321_i;
+    P v_r323_i;
+    u8 v_r334_i;
+    u8 v_r336_i;
+    u1 v_r339_i;
+    u8 v_r342_i;
+    u8 v_r344_i;
+    u1 v_r347_i;
+    u1 v_r353_i;
+    u8 v_r356_i;
+    u8 v_r358_i;
+    u1 v_r361_i;
+    u1 v_r367_i;
+    u8 v_r370_i;
+    u8 v_r372_i;
+    u1 v_r375_i;
+    u1 v_r381_i;
+    u8 v_r384_i;
+    u8 v_r386_i;
+    u1 v_r389_i;
+    u1 v_r395_i;
+    u8 v_r398_i;
+    u8 v_r400_i;
+    u1 v_r403_i;
+    u1 v_r409_i;
+    u8 v_r412_i;
+    u8 v_r414_i;
+    u1 v_r417_i;
+    u1 v_r423_i;
+    u8 v_r426_i;
+    u8 v_r428_i;
+    u1 v_r431_i;
+    u1 v_r437_i;
+    u8 v_r440_i;
+    u8 v_r442_i;
+    u1 v_r445_i;
+    u1 v_r451_i;
+    u1 v_r463_i;
+    u1 v_common_ret_op_i;
+    v_r12_i = v_a0 + 16;
+    v_r13_i = get_u8(v_r12_i);
+    v_r14_i = (u1)((v_r13_i) & 1);
+    if (v_r14_i) { goto L_then_1_i; } else { goto L_join_3_i; }
+L_then_1_i:;
+    v_r18_i = v_a0 + 17;
+    v_r19_i = get_u8(v_r18_i);
+    v_r24_not_i = v_r19_i == 5u;
+    if (v_r24_not_i) { goto L_else_7_i; } else { p_v_common_ret_op_i = 0u; goto L_pkcs1_c_algorithm_is_hash_exit; }
+L_else_7_i:;
+    v_r9_sroa_3_0_r28_sroa_idx_i = v_a0 + 32;
+    v_r9_sroa_3_0_copyload_i = get_u64(v_r9_sroa_3_0_r28_sroa_idx_i);
+    v_r7_i = v_r9_sroa_3_0_copyload_i == 0u;
+    if (v_r7_i) { goto L_join_3_i; } else { p_v_common_ret_op_i = 0u; goto L_pkcs1_c_algorithm_is_hash_exit; }
+L_join_3_i:;
+    v_r11_sroa_0_0_copyload_i = get_P(v_a0);
+    v_r11_sroa_3_0_a0_sroa_idx_i = v_a0 + 8;
+    v_r11_sroa_3_0_copyload_i = get_u64(v_r11_sroa_3_0_a0_sroa_idx_i);
+    v_r128_not_i = v_r11_sroa_3_0_copyload_i == v_a1_8_val;
+    if (v_r128_not_i) { goto L_join_4_i; } else { p_v_common_ret_op_i = 0u; goto L_pkcs1_c_algorithm_is_hash_exit; }
+L_join_4_i:;
+    v_r135_i = v_a1_8_val < 5u;
+    if (v_r135_i) { goto L_after_6_i; } else { goto L_join_9_i; }
+L_join_9_i:;
+    switch (v_a1_8_val) {
+    case 5u: { goto L_then_18_i; }
+    case 9u: { goto L_then_32_i; }
+    default: { goto L_after_6_i; }
+    }
+L_then_18_i:;
+    v_r154_i = v_r11_sroa_0_0_copyload_i + 4;
+    v_r152_i = v_r11_sroa_0_0_copyload_i + 3;
+    v_r150_i = v_r11_sroa_0_0_copyload_i + 2;
+    v_r148_i = v_r11_sroa_0_0_copyload_i + 1;
+    v_r175_i = v_a1_0_val + 1;
+    v_r177_i = v_a1_0_val + 2;
+    v_r179_i = v_a1_0_val + 3;
+    v_r181_i = v_a1_0_val + 4;
+    v_r188_i = get_u8(v_r11_sroa_0_0_copyload_i);
+    v_r190_i = get_u8(v_a1_0_val);
+    v_r193_i = v_r188_i == v_r190_i;
+    v_r196_i = get_u8(v_r148_i);
+    v_r198_i = get_u8(v_r175_i);
+    v_r201_i = v_r196_i == v_r198_i;
+    v_r207_i = (u1)(((u32)(v_r193_i) & (u32)(v_r201_i)) & 1);
+    v_r210_i = get_u8(v_r150_i);
+    v_r212_i = get_u8(v_r177_i);
+    v_r215_i = v_r210_i == v_r212_i;
+    v_r221_i = (u1)(((u32)(v_r207_i) & (u32)(v_r215_i)) & 1);
+    v_r224_i = get_u8(v_r152_i);
+    v_r226_i = get_u8(v_r179_i);
+    v_r229_i = v_r224_i == v_r226_i;
+    v_r235_i = (u1)(((u32)(v_r221_i) & (u32)(v_r229_i)) & 1);
+    v_r238_i = get_u8(v_r154_i);
+    v_r240_i = get_u8(v_r181_i);
+    v_r243_i = v_r238_i == v_r240_i;
+    v_r249_i = (u1)(((u32)(v_r235_i) & (u32)(v_r243_i)) & 1);
+    { p_v_common_ret_op_i = v_r249_i; goto L_pkcs1_c_algorithm_is_hash_exit; }
+L_then_32_i:;
+    v_r284_i = v_r11_sroa_0_0_copyload_i + 8;
+    v_r282_i = v_r11_sroa_0_0_copyload_i + 7;
+    v_r280_i = v_r11_sroa_0_0_copyload_i + 6;
+    v_r278_i = v_r11_sroa_0_0_copyload_i + 5;
+    v_r276_i = v_r11_sroa_0_0_copyload_i + 4;
+    v_r274_i = v_r11_sroa_0_0_copyload_i + 3;
+    v_r272_i = v_r11_sroa_0_0_copyload_i + 2;
+    v_r270_i = v_r11_sroa_0_0_copyload_i + 1;
+    v_r309_i = v_a1_0_val + 1;
+    v_r311_i = v_a1_0_val + 2;
+    v_r313_i = v_a1_0_val + 3;
+    v_r315_i = v_a1_0_val + 4;
+    v_r317_i = v_a1_0_val + 5;
+    v_r319_i = v_a1_0_val + 6;
+    v_r321_i = v_a1_0_val + 7;
+    v_r323_i = v_a1_0_val + 8;
+    v_r334_i = get_u8(v_r11_sroa_0_0_copyload_i);
+    v_r336_i = get_u8(v_a1_0_val);
+    v_r339_i = v_r334_i == v_r336_i;
+    v_r342_i = get_u8(v_r270_i);
+    v_r344_i = get_u8(v_r309_i);
+    v_r347_i = v_r342_i == v_r344_i;
+    v_r353_i = (u1)(((u32)(v_r339_i) & (u32)(v_r347_i)) & 1);
+    v_r356_i = get_u8(v_r272_i);
+    v_r358_i = get_u8(v_r311_i);
+    v_r361_i = v_r356_i == v_r358_i;
+    v_r367_i = (u1)(((u32)(v_r353_i) & (u32)(v_r361_i)) & 1);
+    v_r370_i = get_u8(v_r274_i);
+    v_r372_i = get_u8(v_r313_i);
+    v_r375_i = v_r370_i == v_r372_i;
+    v_r381_i = (u1)(((u32)(v_r367_i) & (u32)(v_r375_i)) & 1);
+    v_r384_i = get_u8(v_r276_i);
+    v_r386_i = get_u8(v_r315_i);
+    v_r389_i = v_r384_i == v_r386_i;
+    v_r395_i = (u1)(((u32)(v_r381_i) & (u32)(v_r389_i)) & 1);
+    v_r398_i = get_u8(v_r278_i);
+    v_r400_i = get_u8(v_r317_i);
+    v_r403_i = v_r398_i == v_r400_i;
+    v_r409_i = (u1)(((u32)(v_r395_i) & (u32)(v_r403_i)) & 1);
+    v_r412_i = get_u8(v_r280_i);
+    v_r414_i = get_u8(v_r319_i);
+    v_r417_i = v_r412_i == v_r414_i;
+    v_r423_i = (u1)(((u32)(v_r409_i) & (u32)(v_r417_i)) & 1);
+    v_r426_i = get_u8(v_r282_i);
+    v_r428_i = get_u8(v_r321_i);
+    v_r431_i = v_r426_i == v_r428_i;
+    v_r437_i = (u1)(((u32)(v_r423_i) & (u32)(v_r431_i)) & 1);
+    v_r440_i = get_u8(v_r284_i);
+    v_r442_i = get_u8(v_r323_i);
+    v_r445_i = v_r440_i == v_r442_i;
+    v_r451_i = (u1)(((u32)(v_r437_i) & (u32)(v_r445_i)) & 1);
+    { p_v_common_ret_op_i = v_r451_i; goto L_pkcs1_c_algorithm_is_hash_exit; }
+L_after_6_i:;
+    v_r463_i = f_pkcs1_c_algorithm_is_same_otherwise(v_r11_sroa_0_0_copyload_i, v_a1_8_val, v_a1_0_val, v_a1_8_val);
+    { p_v_common_ret_op_i = v_r463_i; goto L_pkcs1_c_algorithm_is_hash_exit; }
+L_pkcs1_c_algorithm_is_hash_exit:;
+    v_common_ret_op_i = p_v_common_ret_op_i;
+    return v_common_ret_op_i;
+}
 static u1 f_pkcs1_c_algorithm_is_same_otherwise(P v_a0, u64 v_a1, P v_a2, u64 v_a3) {
     u64 p_v_common_ret_op_i_ph_i;
     u1 p_v_common_ret_op_i;
@@ -335,54 +550,54 @@ L_core_cmp_slices_slices_equal_i8_31_core_cmp_number:;
 static u1 f_core_cmp_slices_groups_equal_i8_31_core_cmp_number(P v_a0, u64 v_a1, P v_a2) {
     return same(v_a0, v_a2, v_a1);
 }
-static void f_der_core_decode_read_slowly_f6b5580abe373ff8(P v_a0, P v_a1, u64 v_a2) {
-    u8 p_v_r4_i55_sroa_6_02196;
-    u64 p_v_r4_sroa_10_32252;
-    P p_v_r4_sroa_0_22250;
+static void f_der_core_decode_read_slowly_963873ccf5d50ada(P v_a0, P v_a1, u64 v_a2) {
+    u8 p_v_r4_i55_sroa_6_02197;
+    u64 p_v_r4_sroa_10_32253;
+    P p_v_r4_sroa_0_22251;
     u64 p_v_r12_sroa_10_0_i;
-    u8 p_v_r4_i20_i_sroa_6_02331;
-    u64 p_v_r6_i_sroa_22_32387;
-    P p_v_r6_i_sroa_0_32385;
-    u32 p_v_r12_sroa_10_0_i962;
-    P p_v_r12_sroa_10_i1118_sroa_3_0_ph;
-    u64 p_v_r12_sroa_10_i1118_sroa_5_0_ph;
-    u8 p_v_r4_i20_i_i_sroa_6_02504;
-    u64 p_v_r6_i_sroa_22_82560;
-    P p_v_r6_i_sroa_0_82558;
-    u32 p_v_r12_sroa_10_0_i1302;
-    P p_v_r12_sroa_10_i1470_sroa_3_0_ph;
-    u64 p_v_r12_sroa_10_i1470_sroa_5_0_ph;
+    u8 p_v_r4_i20_i_sroa_6_02332;
+    u64 p_v_r6_i_sroa_22_32388;
+    P p_v_r6_i_sroa_0_32386;
+    u32 p_v_r12_sroa_10_0_i963;
+    P p_v_r12_sroa_10_i1119_sroa_3_0_ph;
+    u64 p_v_r12_sroa_10_i1119_sroa_5_0_ph;
+    u8 p_v_r4_i20_i_i_sroa_6_02505;
+    u64 p_v_r6_i_sroa_22_82561;
+    P p_v_r6_i_sroa_0_82559;
+    u32 p_v_r12_sroa_10_0_i1303;
+    P p_v_r12_sroa_10_i1471_sroa_3_0_ph;
+    u64 p_v_r12_sroa_10_i1471_sroa_5_0_ph;
     u8 p_v_r15_sroa_7_0_ph;
     u8 p_v_r15_sroa_13_0_ph;
     u8 p_v_r15_sroa_19_0_ph;
-    u1 v_r16_i546;
-    u1 v_r39_i_i560;
-    P v_r16_i_i_i562;
-    u8 v_r29_i564;
+    u1 v_r16_i547;
+    u1 v_r39_i_i561;
+    P v_r16_i_i_i563;
+    u8 v_r29_i565;
     u1 v_r8_i57;
-    u8 v_r9_i577;
-    u1 v_r11_i578;
+    u8 v_r9_i578;
+    u1 v_r11_i579;
     u8 v_0;
     u1 v_1;
     u1 v_r2_0_in_i_not;
-    u8 v_r4_i55_sroa_6_02196;
-    u1 v_r39_i_i594;
-    P v_r16_i_i_i597;
-    u64 v_r19_i_i_i598;
-    u8 v_r29_i599;
+    u8 v_r4_i55_sroa_6_02197;
+    u1 v_r39_i_i595;
+    P v_r16_i_i_i598;
+    u64 v_r19_i_i_i599;
+    u8 v_r29_i600;
     u1 v_r51_i103;
     u64 v_r56_i145;
     u1 v_r68_i105;
     u1 v_r87_i106;
     u8 v_r106_i107;
     u64 v_r3_i25_i;
-    u1 v_r39_i642;
-    P v_r16_i_i644;
-    u64 v_r19_i_i645;
-    u8 v_r36_i677;
-    u1 v_r38_i678;
-    u8 v_r28_i674;
-    u1 v_r30_i675;
+    u1 v_r39_i643;
+    P v_r16_i_i645;
+    u64 v_r19_i_i646;
+    u8 v_r36_i678;
+    u1 v_r38_i679;
+    u8 v_r28_i675;
+    u1 v_r30_i676;
     u64 v_r71_i154;
     u1 v_r74_i156;
     P v_r81_i182;
@@ -420,38 +635,38 @@ static void f_der_core_decode_read_slowly_f6b5580abe373ff8(P v_a0, P v_a1, u64 v
     u8 v_r177_i;
     u64 v_r179_i;
     u64 v_r182_i;
-    u64 v_r4_sroa_10_32252;
-    P v_r4_sroa_0_22250;
+    u64 v_r4_sroa_10_32253;
+    P v_r4_sroa_0_22251;
     u64 v_r12_sroa_10_0_i;
-    u1 v_r7_i_i_i740_not;
+    u1 v_r7_i_i_i741_not;
     u64 v_2;
     u1 v_or_cond_not;
-    P v_r16_i_i_i799;
-    u8 v_r29_i801;
+    P v_r16_i_i_i800;
+    u8 v_r29_i802;
     u1 v_r8_i22_i;
-    u8 v_r9_i823;
-    u1 v_r11_i824;
+    u8 v_r9_i824;
+    u1 v_r11_i825;
     u8 v_3;
     u1 v_4;
-    u1 v_r2_0_in_i825_not;
-    u8 v_r4_i20_i_sroa_6_02331;
-    u1 v_r39_i_i844;
-    P v_r16_i_i_i847;
-    u64 v_r19_i_i_i848;
-    u8 v_r29_i849;
+    u1 v_r2_0_in_i826_not;
+    u8 v_r4_i20_i_sroa_6_02332;
+    u1 v_r39_i_i845;
+    P v_r16_i_i_i848;
+    u64 v_r19_i_i_i849;
+    u8 v_r29_i850;
     u1 v_r51_i62_i;
     u32 v_r56_i73_i;
     u1 v_r68_i64_i;
     u1 v_r87_i_i;
     u8 v_r106_i_i;
-    u64 v_r3_i25_i891;
-    u1 v_r39_i894;
-    P v_r16_i_i898;
-    u64 v_r19_i_i899;
-    u8 v_r36_i936;
-    u1 v_r38_i937;
-    u8 v_r28_i932;
-    u1 v_r30_i933;
+    u64 v_r3_i25_i892;
+    u1 v_r39_i895;
+    P v_r16_i_i899;
+    u64 v_r19_i_i900;
+    u8 v_r36_i937;
+    u1 v_r38_i938;
+    u8 v_r28_i933;
+    u1 v_r30_i934;
     u32 v_r71_i_i;
     u1 v_r74_i83_i;
     P v_r81_i107_i;
@@ -489,54 +704,54 @@ static void f_der_core_decode_read_slowly_f6b5580abe373ff8(P v_a0, P v_a1, u64 v
     u8 v_r177_i_i;
     u32 v_r179_i_i;
     u32 v_r182_i_i;
-    u64 v_r6_i_sroa_22_32387;
-    P v_r6_i_sroa_0_32385;
-    u32 v_r12_sroa_10_0_i962;
-    u1 v_r7_i_i_i1006_not;
-    u64 v_r3_i25_i_i1022;
-    u1 v_r39_i_i1025;
-    P v_r16_i_i_i1028;
-    u1 v_r7_i_i_i1073;
-    u8 v_r60_i_i1074;
-    u1 v_r62_i_i1075;
-    u1 v_r74_i_i1076;
+    u64 v_r6_i_sroa_22_32388;
+    P v_r6_i_sroa_0_32386;
+    u32 v_r12_sroa_10_0_i963;
+    u1 v_r7_i_i_i1007_not;
+    u64 v_r3_i25_i_i1023;
+    u1 v_r39_i_i1026;
+    P v_r16_i_i_i1029;
+    u1 v_r7_i_i_i1074;
+    u8 v_r60_i_i1075;
+    u1 v_r62_i_i1076;
+    u1 v_r74_i_i1077;
     u1 v_cond_i_i;
     u1 v_or_cond_i_i;
-    P v_r84_i_i1085;
-    u8 v_r87_i_i1086;
-    u1 v_r89_i_i1087;
-    u64 v_r103_i_i1088;
-    P v_r12_sroa_10_i1118_sroa_3_0_ph;
-    u64 v_r12_sroa_10_i1118_sroa_5_0_ph;
-    u1 v_r39_i_i1136;
-    P v_r16_i_i_i1139;
+    P v_r84_i_i1086;
+    u8 v_r87_i_i1087;
+    u1 v_r89_i_i1088;
+    u64 v_r103_i_i1089;
+    P v_r12_sroa_10_i1119_sroa_3_0_ph;
+    u64 v_r12_sroa_10_i1119_sroa_5_0_ph;
+    u1 v_r39_i_i1137;
+    P v_r16_i_i_i1140;
     u64 v_5;
-    u64 v_r19_i_i_i1140;
-    u8 v_r29_i1141;
+    u64 v_r19_i_i_i1141;
+    u8 v_r29_i1142;
     u1 v_r8_i22_i_i;
-    u8 v_r9_i1163;
-    u1 v_r11_i1164;
+    u8 v_r9_i1164;
+    u1 v_r11_i1165;
     u8 v_6;
     u1 v_7;
-    u1 v_r2_0_in_i1165_not;
-    u8 v_r4_i20_i_i_sroa_6_02504;
-    u1 v_r39_i_i1184;
-    P v_r16_i_i_i1187;
-    u64 v_r19_i_i_i1188;
-    u8 v_r29_i1189;
+    u1 v_r2_0_in_i1166_not;
+    u8 v_r4_i20_i_i_sroa_6_02505;
+    u1 v_r39_i_i1185;
+    P v_r16_i_i_i1188;
+    u64 v_r19_i_i_i1189;
+    u8 v_r29_i1190;
     u1 v_r51_i62_i_i;
     u32 v_r56_i73_i_i;
     u1 v_r68_i64_i_i;
     u1 v_r87_i_i_i;
     u8 v_r106_i_i_i;
-    u64 v_r3_i25_i1231;
-    u1 v_r39_i1234;
-    P v_r16_i_i1238;
-    u64 v_r19_i_i1239;
-    u8 v_r36_i1276;
-    u1 v_r38_i1277;
-    u8 v_r28_i1272;
-    u1 v_r30_i1273;
+    u64 v_r3_i25_i1232;
+    u1 v_r39_i1235;
+    P v_r16_i_i1239;
+    u64 v_r19_i_i1240;
+    u8 v_r36_i1277;
+    u1 v_r38_i1278;
+    u8 v_r28_i1273;
+    u1 v_r30_i1274;
     u32 v_r71_i_i_i;
     u1 v_r74_i83_i_i;
     P v_r81_i107_i_i;
@@ -574,30 +789,30 @@ static void f_der_core_decode_read_slowly_f6b5580abe373ff8(P v_a0, P v_a1, u64 v
     u8 v_r177_i_i_i;
     u32 v_r179_i_i_i;
     u32 v_r182_i_i_i;
-    u64 v_r6_i_sroa_22_82560;
-    P v_r6_i_sroa_0_82558;
-    u32 v_r12_sroa_10_0_i1302;
-    u1 v_r7_i_i_i1346_not;
-    u64 v_r3_i25_i_i1362;
-    u1 v_r39_i_i1365;
-    u1 v_r7_i_i_i1413;
-    u8 v_r60_i_i1415;
-    u1 v_r62_i_i1416;
-    u1 v_r74_i_i1418;
-    u1 v_cond_i_i1419;
-    u1 v_or_cond_i_i1420;
-    P v_r84_i_i1433;
-    u8 v_r87_i_i1434;
-    u1 v_r89_i_i1435;
-    u64 v_r103_i_i1437;
-    P v_r12_sroa_10_i1470_sroa_3_0_ph;
-    u64 v_r12_sroa_10_i1470_sroa_5_0_ph;
-    u1 v_r7_i_i1487;
+    u64 v_r6_i_sroa_22_82561;
+    P v_r6_i_sroa_0_82559;
+    u32 v_r12_sroa_10_0_i1303;
+    u1 v_r7_i_i_i1347_not;
+    u64 v_r3_i25_i_i1363;
+    u1 v_r39_i_i1366;
+    u1 v_r7_i_i_i1414;
+    u8 v_r60_i_i1416;
+    u1 v_r62_i_i1417;
+    u1 v_r74_i_i1419;
+    u1 v_cond_i_i1420;
+    u1 v_or_cond_i_i1421;
+    P v_r84_i_i1434;
+    u8 v_r87_i_i1435;
+    u1 v_r89_i_i1436;
+    u64 v_r103_i_i1438;
+    P v_r12_sroa_10_i1471_sroa_3_0_ph;
+    u64 v_r12_sroa_10_i1471_sroa_5_0_ph;
+    u1 v_r7_i_i1488;
     P v_r32;
     P v_r34;
     P v_r36;
     P v_r38;
-    u1 v_r7_i_i1623;
+    u1 v_r7_i_i1624;
     u8 v_r15_sroa_7_0_ph;
     u8 v_r15_sroa_13_0_ph;
     u8 v_r15_sroa_19_0_ph;
@@ -613,84 +828,84 @@ static void f_der_core_decode_read_slowly_f6b5580abe373ff8(P v_a0, P v_a1, u64 v
     P v_r66;
     P v_r68;
     P v_r70;
-    v_r16_i546 = v_a2 < 4294967296ull;
-    if (v_r16_i546) { goto L_join_3_i_i; } else { goto L_arm_2; }
+    v_r16_i547 = v_a2 < 4294967296ull;
+    if (v_r16_i547) { goto L_join_3_i_i; } else { goto L_arm_2; }
 L_join_3_i_i:;
-    v_r39_i_i560 = v_a2 == 0u;
-    if (v_r39_i_i560) { p_v_r15_sroa_7_0_ph = 1u; p_v_r15_sroa_13_0_ph = 0u; p_v_r15_sroa_19_0_ph = 0u; goto L_arm_6; } else { goto L_arm_1_i24; }
+    v_r39_i_i561 = v_a2 == 0u;
+    if (v_r39_i_i561) { p_v_r15_sroa_7_0_ph = 1u; p_v_r15_sroa_13_0_ph = 0u; p_v_r15_sroa_19_0_ph = 0u; goto L_arm_6; } else { goto L_arm_1_i24; }
 L_arm_1_i24:;
-    v_r16_i_i_i562 = v_a1 + 1;
-    v_r29_i564 = get_u8(v_a1);
-    v_r8_i57 = v_r29_i564 == 48u;
-    if (v_r8_i57) { p_v_r4_i55_sroa_6_02196 = 48u; goto L_join_3_i_i591; } else { goto L_der_core_header_tag_of_exit; }
+    v_r16_i_i_i563 = v_a1 + 1;
+    v_r29_i565 = get_u8(v_a1);
+    v_r8_i57 = v_r29_i565 == 48u;
+    if (v_r8_i57) { p_v_r4_i55_sroa_6_02197 = 48u; goto L_join_3_i_i592; } else { goto L_der_core_header_tag_of_exit; }
 L_der_core_header_tag_of_exit:;
-    v_r9_i577 = (u8)((u32)(v_r29_i564) & (u32)(31u));
-    v_r11_i578 = v_r9_i577 != 31u;
-    v_0 = (u8)((u32)(v_r29_i564) & (u32)(223u));
+    v_r9_i578 = (u8)((u32)(v_r29_i565) & (u32)(31u));
+    v_r11_i579 = v_r9_i578 != 31u;
+    v_0 = (u8)((u32)(v_r29_i565) & (u32)(223u));
     v_1 = v_0 != 0u;
-    v_r2_0_in_i_not = (u1)(((u32)(v_r11_i578) & (u32)(v_1)) & 1);
-    if (v_r2_0_in_i_not) { p_v_r4_i55_sroa_6_02196 = v_r29_i564; goto L_join_3_i_i591; } else { p_v_r15_sroa_7_0_ph = 11u; p_v_r15_sroa_13_0_ph = v_r29_i564; p_v_r15_sroa_19_0_ph = 0u; goto L_arm_6; }
-L_join_3_i_i591:;
-    v_r4_i55_sroa_6_02196 = p_v_r4_i55_sroa_6_02196;
-    v_r39_i_i594 = v_a2 == 1u;
-    if (v_r39_i_i594) { p_v_r15_sroa_7_0_ph = 1u; p_v_r15_sroa_13_0_ph = 0u; p_v_r15_sroa_19_0_ph = 0u; goto L_arm_6; } else { goto L_arm_1_i100; }
+    v_r2_0_in_i_not = (u1)(((u32)(v_r11_i579) & (u32)(v_1)) & 1);
+    if (v_r2_0_in_i_not) { p_v_r4_i55_sroa_6_02197 = v_r29_i565; goto L_join_3_i_i592; } else { p_v_r15_sroa_7_0_ph = 11u; p_v_r15_sroa_13_0_ph = v_r29_i565; p_v_r15_sroa_19_0_ph = 0u; goto L_arm_6; }
+L_join_3_i_i592:;
+    v_r4_i55_sroa_6_02197 = p_v_r4_i55_sroa_6_02197;
+    v_r39_i_i595 = v_a2 == 1u;
+    if (v_r39_i_i595) { p_v_r15_sroa_7_0_ph = 1u; p_v_r15_sroa_13_0_ph = 0u; p_v_r15_sroa_19_0_ph = 0u; goto L_arm_6; } else { goto L_arm_1_i100; }
 L_arm_1_i100:;
-    v_r16_i_i_i597 = v_a1 + 2;
-    v_r19_i_i_i598 = (u64)((u64)(v_a2) + (u64)(18446744073709551614ull));
-    v_r29_i599 = get_u8(v_r16_i_i_i562);
-    v_r51_i103 = (u8)(v_r29_i599 ^ ((u8)1 << 7)) > (u8)(255u ^ ((u8)1 << 7));
+    v_r16_i_i_i598 = v_a1 + 2;
+    v_r19_i_i_i599 = (u64)((u64)(v_a2) + (u64)(18446744073709551614ull));
+    v_r29_i600 = get_u8(v_r16_i_i_i563);
+    v_r51_i103 = (u8)(v_r29_i600 ^ ((u8)1 << 7)) > (u8)(255u ^ ((u8)1 << 7));
     if (v_r51_i103) { goto L_then_5_i144; } else { goto L_join_7_i104; }
 L_then_5_i144:;
-    v_r56_i145 = (u64)v_r29_i599;
-    { p_v_r4_sroa_10_32252 = v_r19_i_i_i598; p_v_r4_sroa_0_22250 = v_r16_i_i_i597; p_v_r12_sroa_10_0_i = v_r56_i145; goto L_arm_1_i; }
+    v_r56_i145 = (u64)v_r29_i600;
+    { p_v_r4_sroa_10_32253 = v_r19_i_i_i599; p_v_r4_sroa_0_22251 = v_r16_i_i_i598; p_v_r12_sroa_10_0_i = v_r56_i145; goto L_arm_1_i; }
 L_join_7_i104:;
-    v_r68_i105 = v_r29_i599 == 128u;
+    v_r68_i105 = v_r29_i600 == 128u;
     if (v_r68_i105) { p_v_r15_sroa_7_0_ph = 2u; p_v_r15_sroa_13_0_ph = 0u; p_v_r15_sroa_19_0_ph = 0u; goto L_arm_6; } else { goto L_join_10_i; }
 L_join_10_i:;
-    v_r87_i106 = v_r29_i599 > 132u;
+    v_r87_i106 = v_r29_i600 > 132u;
     if (v_r87_i106) { p_v_r15_sroa_7_0_ph = 7u; p_v_r15_sroa_13_0_ph = 0u; p_v_r15_sroa_19_0_ph = 0u; goto L_arm_6; } else { goto L_join_3_i; }
 L_join_3_i:;
-    v_r106_i107 = (u8)((u32)(v_r29_i599) & (u32)(127u));
+    v_r106_i107 = (u8)((u32)(v_r29_i600) & (u32)(127u));
     v_r3_i25_i = (u64)v_r106_i107;
-    v_r39_i642 = v_r19_i_i_i598 < v_r3_i25_i;
-    if (v_r39_i642) { p_v_r15_sroa_7_0_ph = 1u; p_v_r15_sroa_13_0_ph = 0u; p_v_r15_sroa_19_0_ph = 0u; goto L_arm_6; } else { goto L_arm_14_i; }
+    v_r39_i643 = v_r19_i_i_i599 < v_r3_i25_i;
+    if (v_r39_i643) { p_v_r15_sroa_7_0_ph = 1u; p_v_r15_sroa_13_0_ph = 0u; p_v_r15_sroa_19_0_ph = 0u; goto L_arm_6; } else { goto L_arm_14_i; }
 L_arm_14_i:;
-    v_r16_i_i644 = (P)((u64)v_r16_i_i_i597 + (u64)(v_r3_i25_i));
-    v_r19_i_i645 = (u64)((u64)(v_r19_i_i_i598) - (u64)(v_r3_i25_i));
+    v_r16_i_i645 = (P)((u64)v_r16_i_i_i598 + (u64)(v_r3_i25_i));
+    v_r19_i_i646 = (u64)((u64)(v_r19_i_i_i599) - (u64)(v_r3_i25_i));
     switch (v_r106_i107) {
     case 0u: { p_v_r15_sroa_7_0_ph = 8u; p_v_r15_sroa_13_0_ph = v_r106_i107; p_v_r15_sroa_19_0_ph = v_r106_i107; goto L_arm_6; }
     case 1u: { goto L_der_core_length_is_overlong_exit; }
-    default: { goto L_join_7_i676; }
+    default: { goto L_join_7_i677; }
     }
-L_join_7_i676:;
-    v_r36_i677 = get_u8(v_r16_i_i_i597);
-    v_r38_i678 = v_r36_i677 == 0u;
-    if (v_r38_i678) { p_v_r15_sroa_7_0_ph = 8u; p_v_r15_sroa_13_0_ph = 0u; p_v_r15_sroa_19_0_ph = 0u; goto L_arm_6; } else { goto L_join_7_i155; }
+L_join_7_i677:;
+    v_r36_i678 = get_u8(v_r16_i_i_i598);
+    v_r38_i679 = v_r36_i678 == 0u;
+    if (v_r38_i679) { p_v_r15_sroa_7_0_ph = 8u; p_v_r15_sroa_13_0_ph = 0u; p_v_r15_sroa_19_0_ph = 0u; goto L_arm_6; } else { goto L_join_7_i155; }
 L_der_core_length_is_overlong_exit:;
-    v_r28_i674 = get_u8(v_r16_i_i_i597);
-    v_r30_i675 = (u8)(v_r28_i674 ^ ((u8)1 << 7)) > (u8)(255u ^ ((u8)1 << 7));
-    if (v_r30_i675) { p_v_r15_sroa_7_0_ph = 8u; p_v_r15_sroa_13_0_ph = 0u; p_v_r15_sroa_19_0_ph = 0u; goto L_arm_6; } else { goto L_then_5_i152; }
+    v_r28_i675 = get_u8(v_r16_i_i_i598);
+    v_r30_i676 = (u8)(v_r28_i675 ^ ((u8)1 << 7)) > (u8)(255u ^ ((u8)1 << 7));
+    if (v_r30_i676) { p_v_r15_sroa_7_0_ph = 8u; p_v_r15_sroa_13_0_ph = 0u; p_v_r15_sroa_19_0_ph = 0u; goto L_arm_6; } else { goto L_then_5_i152; }
 L_then_5_i152:;
-    v_r71_i154 = (u64)v_r28_i674;
-    { p_v_r4_sroa_10_32252 = v_r19_i_i645; p_v_r4_sroa_0_22250 = v_r16_i_i644; p_v_r12_sroa_10_0_i = v_r71_i154; goto L_arm_1_i; }
+    v_r71_i154 = (u64)v_r28_i675;
+    { p_v_r4_sroa_10_32253 = v_r19_i_i646; p_v_r4_sroa_0_22251 = v_r16_i_i645; p_v_r12_sroa_10_0_i = v_r71_i154; goto L_arm_1_i; }
 L_join_7_i155:;
     v_r74_i156 = v_r106_i107 < 3u;
     if (v_r74_i156) { goto L_then_8_i181; } else { goto L_join_10_i157; }
 L_then_8_i181:;
     v_r81_i182 = v_a1 + 3;
-    v_r87_i184 = (u64)v_r36_i677;
+    v_r87_i184 = (u64)v_r36_i678;
     v_r89_i185 = (u64)((u64)(v_r87_i184) << (u64)((8u & 63)));
     v_r91_i186 = get_u8(v_r81_i182);
     v_r93_i187 = (u64)v_r91_i186;
     v_r96_i188 = (u64)((u64)(v_r89_i185) | (u64)(v_r93_i187));
-    { p_v_r4_sroa_10_32252 = v_r19_i_i645; p_v_r4_sroa_0_22250 = v_r16_i_i644; p_v_r12_sroa_10_0_i = v_r96_i188; goto L_arm_1_i; }
+    { p_v_r4_sroa_10_32253 = v_r19_i_i646; p_v_r4_sroa_0_22251 = v_r16_i_i645; p_v_r12_sroa_10_0_i = v_r96_i188; goto L_arm_1_i; }
 L_join_10_i157:;
     v_r99_i158 = v_r106_i107 == 3u;
     if (v_r99_i158) { goto L_then_11_i168; } else { goto L_join_13_i159; }
 L_then_11_i168:;
     v_r106_i169 = v_a1 + 3;
     v_r108_i170 = v_a1 + 4;
-    v_r115_i172 = (u64)v_r36_i677;
+    v_r115_i172 = (u64)v_r36_i678;
     v_r117_i173 = (u64)((u64)(v_r115_i172) << (u64)((16u & 63)));
     v_r119_i174 = get_u8(v_r106_i169);
     v_r121_i175 = (u64)v_r119_i174;
@@ -699,7 +914,7 @@ L_then_11_i168:;
     v_r128_i178 = get_u8(v_r108_i170);
     v_r130_i179 = (u64)v_r128_i178;
     v_r133_i180 = (u64)((u64)(v_r126_i177) | (u64)(v_r130_i179));
-    { p_v_r4_sroa_10_32252 = v_r19_i_i645; p_v_r4_sroa_0_22250 = v_r16_i_i644; p_v_r12_sroa_10_0_i = v_r133_i180; goto L_arm_1_i; }
+    { p_v_r4_sroa_10_32253 = v_r19_i_i646; p_v_r4_sroa_0_22251 = v_r16_i_i645; p_v_r12_sroa_10_0_i = v_r133_i180; goto L_arm_1_i; }
 L_join_13_i159:;
     v_r136_i160 = v_r106_i107 < 5u;
     if (v_r136_i160) { goto L_then_14_i; } else { goto L_join_16_i; }
@@ -707,7 +922,7 @@ L_then_14_i:;
     v_r143_i161 = v_a1 + 3;
     v_r145_i162 = v_a1 + 4;
     v_r147_i163 = v_a1 + 5;
-    v_r155_i165 = (u64)v_r36_i677;
+    v_r155_i165 = (u64)v_r36_i678;
     v_r157_i166 = (u64)((u64)(v_r155_i165) << (u64)((24u & 63)));
     v_r159_i167 = get_u8(v_r143_i161);
     v_r161_i = (u64)v_r159_i167;
@@ -720,93 +935,93 @@ L_then_14_i:;
     v_r177_i = get_u8(v_r147_i163);
     v_r179_i = (u64)v_r177_i;
     v_r182_i = (u64)((u64)(v_r175_i) | (u64)(v_r179_i));
-    { p_v_r4_sroa_10_32252 = v_r19_i_i645; p_v_r4_sroa_0_22250 = v_r16_i_i644; p_v_r12_sroa_10_0_i = v_r182_i; goto L_arm_1_i; }
+    { p_v_r4_sroa_10_32253 = v_r19_i_i646; p_v_r4_sroa_0_22251 = v_r16_i_i645; p_v_r12_sroa_10_0_i = v_r182_i; goto L_arm_1_i; }
 L_join_16_i:;
     TRAP();
     TRAP();
 L_arm_1_i:;
-    v_r4_sroa_10_32252 = p_v_r4_sroa_10_32252;
-    v_r4_sroa_0_22250 = p_v_r4_sroa_0_22250;
+    v_r4_sroa_10_32253 = p_v_r4_sroa_10_32253;
+    v_r4_sroa_0_22251 = p_v_r4_sroa_0_22251;
     v_r12_sroa_10_0_i = p_v_r12_sroa_10_0_i;
-    v_r7_i_i_i740_not = v_r4_i55_sroa_6_02196 == 48u;
-    if (v_r7_i_i_i740_not) { goto L_join_3_i_i755; } else { p_v_r15_sroa_7_0_ph = 10u; p_v_r15_sroa_13_0_ph = 48u; p_v_r15_sroa_19_0_ph = v_r4_i55_sroa_6_02196; goto L_arm_6; }
-L_join_3_i_i755:;
+    v_r7_i_i_i741_not = v_r4_i55_sroa_6_02197 == 48u;
+    if (v_r7_i_i_i741_not) { goto L_join_3_i_i756; } else { p_v_r15_sroa_7_0_ph = 10u; p_v_r15_sroa_13_0_ph = 48u; p_v_r15_sroa_19_0_ph = v_r4_i55_sroa_6_02197; goto L_arm_6; }
+L_join_3_i_i756:;
     v_2 = (u64)((u64)(v_r12_sroa_10_0_i) + (u64)(18446744073709551615ull));
-    v_or_cond_not = v_2 < v_r4_sroa_10_32252;
+    v_or_cond_not = v_2 < v_r4_sroa_10_32253;
     if (v_or_cond_not) { goto L_arm_1_i_i; } else { p_v_r15_sroa_7_0_ph = 1u; p_v_r15_sroa_13_0_ph = 0u; p_v_r15_sroa_19_0_ph = 0u; goto L_arm_6; }
 L_arm_1_i_i:;
-    v_r16_i_i_i799 = v_r4_sroa_0_22250 + 1;
-    v_r29_i801 = get_u8(v_r4_sroa_0_22250);
-    v_r8_i22_i = v_r29_i801 == 2u;
-    if (v_r8_i22_i) { p_v_r4_i20_i_sroa_6_02331 = 2u; goto L_join_3_i_i841; } else { goto L_der_core_header_tag_of_exit_i; }
+    v_r16_i_i_i800 = v_r4_sroa_0_22251 + 1;
+    v_r29_i802 = get_u8(v_r4_sroa_0_22251);
+    v_r8_i22_i = v_r29_i802 == 2u;
+    if (v_r8_i22_i) { p_v_r4_i20_i_sroa_6_02332 = 2u; goto L_join_3_i_i842; } else { goto L_der_core_header_tag_of_exit_i; }
 L_der_core_header_tag_of_exit_i:;
-    v_r9_i823 = (u8)((u32)(v_r29_i801) & (u32)(31u));
-    v_r11_i824 = v_r9_i823 != 31u;
-    v_3 = (u8)((u32)(v_r29_i801) & (u32)(223u));
+    v_r9_i824 = (u8)((u32)(v_r29_i802) & (u32)(31u));
+    v_r11_i825 = v_r9_i824 != 31u;
+    v_3 = (u8)((u32)(v_r29_i802) & (u32)(223u));
     v_4 = v_3 != 0u;
-    v_r2_0_in_i825_not = (u1)(((u32)(v_r11_i824) & (u32)(v_4)) & 1);
-    if (v_r2_0_in_i825_not) { p_v_r4_i20_i_sroa_6_02331 = v_r29_i801; goto L_join_3_i_i841; } else { p_v_r15_sroa_7_0_ph = 11u; p_v_r15_sroa_13_0_ph = v_r29_i801; p_v_r15_sroa_19_0_ph = 0u; goto L_arm_6; }
-L_join_3_i_i841:;
-    v_r4_i20_i_sroa_6_02331 = p_v_r4_i20_i_sroa_6_02331;
-    v_r39_i_i844 = v_r12_sroa_10_0_i == 1u;
-    if (v_r39_i_i844) { p_v_r15_sroa_7_0_ph = 1u; p_v_r15_sroa_13_0_ph = 0u; p_v_r15_sroa_19_0_ph = 0u; goto L_arm_6; } else { goto L_arm_1_i59_i; }
+    v_r2_0_in_i826_not = (u1)(((u32)(v_r11_i825) & (u32)(v_4)) & 1);
+    if (v_r2_0_in_i826_not) { p_v_r4_i20_i_sroa_6_02332 = v_r29_i802; goto L_join_3_i_i842; } else { p_v_r15_sroa_7_0_ph = 11u; p_v_r15_sroa_13_0_ph = v_r29_i802; p_v_r15_sroa_19_0_ph = 0u; goto L_arm_6; }
+L_join_3_i_i842:;
+    v_r4_i20_i_sroa_6_02332 = p_v_r4_i20_i_sroa_6_02332;
+    v_r39_i_i845 = v_r12_sroa_10_0_i == 1u;
+    if (v_r39_i_i845) { p_v_r15_sroa_7_0_ph = 1u; p_v_r15_sroa_13_0_ph = 0u; p_v_r15_sroa_19_0_ph = 0u; goto L_arm_6; } else { goto L_arm_1_i59_i; }
 L_arm_1_i59_i:;
-    v_r16_i_i_i847 = v_r4_sroa_0_22250 + 2;
-    v_r19_i_i_i848 = (u64)((u64)(v_r12_sroa_10_0_i) + (u64)(18446744073709551614ull));
-    v_r29_i849 = get_u8(v_r16_i_i_i799);
-    v_r51_i62_i = (u8)(v_r29_i849 ^ ((u8)1 << 7)) > (u8)(255u ^ ((u8)1 << 7));
+    v_r16_i_i_i848 = v_r4_sroa_0_22251 + 2;
+    v_r19_i_i_i849 = (u64)((u64)(v_r12_sroa_10_0_i) + (u64)(18446744073709551614ull));
+    v_r29_i850 = get_u8(v_r16_i_i_i800);
+    v_r51_i62_i = (u8)(v_r29_i850 ^ ((u8)1 << 7)) > (u8)(255u ^ ((u8)1 << 7));
     if (v_r51_i62_i) { goto L_then_5_i_i; } else { goto L_join_7_i63_i; }
 L_then_5_i_i:;
-    v_r56_i73_i = (u32)v_r29_i849;
-    { p_v_r6_i_sroa_22_32387 = v_r19_i_i_i848; p_v_r6_i_sroa_0_32385 = v_r16_i_i_i847; p_v_r12_sroa_10_0_i962 = v_r56_i73_i; goto L_arm_1_i321; }
+    v_r56_i73_i = (u32)v_r29_i850;
+    { p_v_r6_i_sroa_22_32388 = v_r19_i_i_i849; p_v_r6_i_sroa_0_32386 = v_r16_i_i_i848; p_v_r12_sroa_10_0_i963 = v_r56_i73_i; goto L_arm_1_i322; }
 L_join_7_i63_i:;
-    v_r68_i64_i = v_r29_i849 == 128u;
+    v_r68_i64_i = v_r29_i850 == 128u;
     if (v_r68_i64_i) { p_v_r15_sroa_7_0_ph = 2u; p_v_r15_sroa_13_0_ph = 0u; p_v_r15_sroa_19_0_ph = 0u; goto L_arm_6; } else { goto L_join_10_i_i; }
 L_join_10_i_i:;
-    v_r87_i_i = v_r29_i849 > 132u;
-    if (v_r87_i_i) { p_v_r15_sroa_7_0_ph = 7u; p_v_r15_sroa_13_0_ph = 0u; p_v_r15_sroa_19_0_ph = 0u; goto L_arm_6; } else { goto L_join_3_i890; }
-L_join_3_i890:;
-    v_r106_i_i = (u8)((u32)(v_r29_i849) & (u32)(127u));
-    v_r3_i25_i891 = (u64)v_r106_i_i;
-    v_r39_i894 = v_r19_i_i_i848 < v_r3_i25_i891;
-    if (v_r39_i894) { p_v_r15_sroa_7_0_ph = 1u; p_v_r15_sroa_13_0_ph = 0u; p_v_r15_sroa_19_0_ph = 0u; goto L_arm_6; } else { goto L_arm_14_i_i; }
+    v_r87_i_i = v_r29_i850 > 132u;
+    if (v_r87_i_i) { p_v_r15_sroa_7_0_ph = 7u; p_v_r15_sroa_13_0_ph = 0u; p_v_r15_sroa_19_0_ph = 0u; goto L_arm_6; } else { goto L_join_3_i891; }
+L_join_3_i891:;
+    v_r106_i_i = (u8)((u32)(v_r29_i850) & (u32)(127u));
+    v_r3_i25_i892 = (u64)v_r106_i_i;
+    v_r39_i895 = v_r19_i_i_i849 < v_r3_i25_i892;
+    if (v_r39_i895) { p_v_r15_sroa_7_0_ph = 1u; p_v_r15_sroa_13_0_ph = 0u; p_v_r15_sroa_19_0_ph = 0u; goto L_arm_6; } else { goto L_arm_14_i_i; }
 L_arm_14_i_i:;
-    v_r16_i_i898 = (P)((u64)v_r16_i_i_i847 + (u64)(v_r3_i25_i891));
-    v_r19_i_i899 = (u64)((u64)(v_r19_i_i_i848) - (u64)(v_r3_i25_i891));
+    v_r16_i_i899 = (P)((u64)v_r16_i_i_i848 + (u64)(v_r3_i25_i892));
+    v_r19_i_i900 = (u64)((u64)(v_r19_i_i_i849) - (u64)(v_r3_i25_i892));
     switch (v_r106_i_i) {
     case 0u: { p_v_r15_sroa_7_0_ph = 8u; p_v_r15_sroa_13_0_ph = v_r106_i_i; p_v_r15_sroa_19_0_ph = v_r106_i_i; goto L_arm_6; }
-    case 1u: { goto L_der_core_length_is_overlong_exit938; }
-    default: { goto L_join_7_i935; }
+    case 1u: { goto L_der_core_length_is_overlong_exit939; }
+    default: { goto L_join_7_i936; }
     }
-L_join_7_i935:;
-    v_r36_i936 = get_u8(v_r16_i_i_i847);
-    v_r38_i937 = v_r36_i936 == 0u;
-    if (v_r38_i937) { p_v_r15_sroa_7_0_ph = 8u; p_v_r15_sroa_13_0_ph = 0u; p_v_r15_sroa_19_0_ph = 0u; goto L_arm_6; } else { goto L_join_7_i82_i; }
-L_der_core_length_is_overlong_exit938:;
-    v_r28_i932 = get_u8(v_r16_i_i_i847);
-    v_r30_i933 = (u8)(v_r28_i932 ^ ((u8)1 << 7)) > (u8)(255u ^ ((u8)1 << 7));
-    if (v_r30_i933) { p_v_r15_sroa_7_0_ph = 8u; p_v_r15_sroa_13_0_ph = 0u; p_v_r15_sroa_19_0_ph = 0u; goto L_arm_6; } else { goto L_then_5_i80_i; }
+L_join_7_i936:;
+    v_r36_i937 = get_u8(v_r16_i_i_i848);
+    v_r38_i938 = v_r36_i937 == 0u;
+    if (v_r38_i938) { p_v_r15_sroa_7_0_ph = 8u; p_v_r15_sroa_13_0_ph = 0u; p_v_r15_sroa_19_0_ph = 0u; goto L_arm_6; } else { goto L_join_7_i82_i; }
+L_der_core_length_is_overlong_exit939:;
+    v_r28_i933 = get_u8(v_r16_i_i_i848);
+    v_r30_i934 = (u8)(v_r28_i933 ^ ((u8)1 << 7)) > (u8)(255u ^ ((u8)1 << 7));
+    if (v_r30_i934) { p_v_r15_sroa_7_0_ph = 8u; p_v_r15_sroa_13_0_ph = 0u; p_v_r15_sroa_19_0_ph = 0u; goto L_arm_6; } else { goto L_then_5_i80_i; }
 L_then_5_i80_i:;
-    v_r71_i_i = (u32)v_r28_i932;
-    { p_v_r6_i_sroa_22_32387 = v_r19_i_i899; p_v_r6_i_sroa_0_32385 = v_r16_i_i898; p_v_r12_sroa_10_0_i962 = v_r71_i_i; goto L_arm_1_i321; }
+    v_r71_i_i = (u32)v_r28_i933;
+    { p_v_r6_i_sroa_22_32388 = v_r19_i_i900; p_v_r6_i_sroa_0_32386 = v_r16_i_i899; p_v_r12_sroa_10_0_i963 = v_r71_i_i; goto L_arm_1_i322; }
 L_join_7_i82_i:;
     v_r74_i83_i = v_r106_i_i < 3u;
     if (v_r74_i83_i) { goto L_then_8_i106_i; } else { goto L_join_10_i84_i; }
 L_then_8_i106_i:;
-    v_r81_i107_i = v_r4_sroa_0_22250 + 3;
-    v_r87_i109_i = (u32)v_r36_i936;
+    v_r81_i107_i = v_r4_sroa_0_22251 + 3;
+    v_r87_i109_i = (u32)v_r36_i937;
     v_r89_i_i = (u32)((u32)(v_r87_i109_i) << (u32)((8u & 31)));
     v_r91_i_i = get_u8(v_r81_i107_i);
     v_r93_i110_i = (u32)v_r91_i_i;
     v_r96_i111_i = (u32)((u32)(v_r89_i_i) | (u32)(v_r93_i110_i));
-    { p_v_r6_i_sroa_22_32387 = v_r19_i_i899; p_v_r6_i_sroa_0_32385 = v_r16_i_i898; p_v_r12_sroa_10_0_i962 = v_r96_i111_i; goto L_arm_1_i321; }
+    { p_v_r6_i_sroa_22_32388 = v_r19_i_i900; p_v_r6_i_sroa_0_32386 = v_r16_i_i899; p_v_r12_sroa_10_0_i963 = v_r96_i111_i; goto L_arm_1_i322; }
 L_join_10_i84_i:;
     v_r99_i85_i = v_r106_i_i == 3u;
     if (v_r99_i85_i) { goto L_then_11_i95_i; } else { goto L_join_13_i86_i; }
 L_then_11_i95_i:;
-    v_r106_i96_i = v_r4_sroa_0_22250 + 3;
-    v_r108_i97_i = v_r4_sroa_0_22250 + 4;
-    v_r115_i99_i = (u32)v_r36_i936;
+    v_r106_i96_i = v_r4_sroa_0_22251 + 3;
+    v_r108_i97_i = v_r4_sroa_0_22251 + 4;
+    v_r115_i99_i = (u32)v_r36_i937;
     v_r117_i100_i = (u32)((u32)(v_r115_i99_i) << (u32)((16u & 31)));
     v_r119_i101_i = get_u8(v_r106_i96_i);
     v_r121_i102_i = (u32)v_r119_i101_i;
@@ -815,15 +1030,15 @@ L_then_11_i95_i:;
     v_r128_i_i = get_u8(v_r108_i97_i);
     v_r130_i105_i = (u32)v_r128_i_i;
     v_r133_i_i = (u32)((u32)(v_r126_i104_i) | (u32)(v_r130_i105_i));
-    { p_v_r6_i_sroa_22_32387 = v_r19_i_i899; p_v_r6_i_sroa_0_32385 = v_r16_i_i898; p_v_r12_sroa_10_0_i962 = v_r133_i_i; goto L_arm_1_i321; }
+    { p_v_r6_i_sroa_22_32388 = v_r19_i_i900; p_v_r6_i_sroa_0_32386 = v_r16_i_i899; p_v_r12_sroa_10_0_i963 = v_r133_i_i; goto L_arm_1_i322; }
 L_join_13_i86_i:;
     v_r136_i87_i = v_r106_i_i < 5u;
     if (v_r136_i87_i) { goto L_then_14_i_i; } else { goto L_join_16_i_i; }
 L_then_14_i_i:;
-    v_r143_i88_i = v_r4_sroa_0_22250 + 3;
-    v_r145_i89_i = v_r4_sroa_0_22250 + 4;
-    v_r147_i90_i = v_r4_sroa_0_22250 + 5;
-    v_r155_i92_i = (u32)v_r36_i936;
+    v_r143_i88_i = v_r4_sroa_0_22251 + 3;
+    v_r145_i89_i = v_r4_sroa_0_22251 + 4;
+    v_r147_i90_i = v_r4_sroa_0_22251 + 5;
+    v_r155_i92_i = (u32)v_r36_i937;
     v_r157_i93_i = (u32)((u32)(v_r155_i92_i) << (u32)((24u & 31)));
     v_r159_i94_i = get_u8(v_r143_i88_i);
     v_r161_i_i = (u32)v_r159_i94_i;
@@ -836,121 +1051,121 @@ L_then_14_i_i:;
     v_r177_i_i = get_u8(v_r147_i90_i);
     v_r179_i_i = (u32)v_r177_i_i;
     v_r182_i_i = (u32)((u32)(v_r175_i_i) | (u32)(v_r179_i_i));
-    { p_v_r6_i_sroa_22_32387 = v_r19_i_i899; p_v_r6_i_sroa_0_32385 = v_r16_i_i898; p_v_r12_sroa_10_0_i962 = v_r182_i_i; goto L_arm_1_i321; }
+    { p_v_r6_i_sroa_22_32388 = v_r19_i_i900; p_v_r6_i_sroa_0_32386 = v_r16_i_i899; p_v_r12_sroa_10_0_i963 = v_r182_i_i; goto L_arm_1_i322; }
 L_join_16_i_i:;
     TRAP();
     TRAP();
-L_arm_1_i321:;
-    v_r6_i_sroa_22_32387 = p_v_r6_i_sroa_22_32387;
-    v_r6_i_sroa_0_32385 = p_v_r6_i_sroa_0_32385;
-    v_r12_sroa_10_0_i962 = p_v_r12_sroa_10_0_i962;
-    v_r7_i_i_i1006_not = v_r4_i20_i_sroa_6_02331 == 2u;
-    if (v_r7_i_i_i1006_not) { goto L_join_3_i_i1021; } else { p_v_r15_sroa_7_0_ph = 10u; p_v_r15_sroa_13_0_ph = 2u; p_v_r15_sroa_19_0_ph = v_r4_i20_i_sroa_6_02331; goto L_arm_6; }
-L_join_3_i_i1021:;
-    v_r3_i25_i_i1022 = (u64)v_r12_sroa_10_0_i962;
-    v_r39_i_i1025 = v_r6_i_sroa_22_32387 < v_r3_i25_i_i1022;
-    if (v_r39_i_i1025) { p_v_r15_sroa_7_0_ph = 1u; p_v_r15_sroa_13_0_ph = 0u; p_v_r15_sroa_19_0_ph = 0u; goto L_arm_6; } else { goto L_join_3_i_i1064; }
-L_join_3_i_i1064:;
-    v_r16_i_i_i1028 = (P)((u64)v_r6_i_sroa_0_32385 + (u64)(v_r3_i25_i_i1022));
-    v_r7_i_i_i1073 = v_r12_sroa_10_0_i962 == 0u;
-    if (v_r7_i_i_i1073) { p_v_r15_sroa_7_0_ph = 3u; p_v_r15_sroa_13_0_ph = 2u; p_v_r15_sroa_19_0_ph = 0u; goto L_arm_6; } else { goto L_join_8_i_i; }
+L_arm_1_i322:;
+    v_r6_i_sroa_22_32388 = p_v_r6_i_sroa_22_32388;
+    v_r6_i_sroa_0_32386 = p_v_r6_i_sroa_0_32386;
+    v_r12_sroa_10_0_i963 = p_v_r12_sroa_10_0_i963;
+    v_r7_i_i_i1007_not = v_r4_i20_i_sroa_6_02332 == 2u;
+    if (v_r7_i_i_i1007_not) { goto L_join_3_i_i1022; } else { p_v_r15_sroa_7_0_ph = 10u; p_v_r15_sroa_13_0_ph = 2u; p_v_r15_sroa_19_0_ph = v_r4_i20_i_sroa_6_02332; goto L_arm_6; }
+L_join_3_i_i1022:;
+    v_r3_i25_i_i1023 = (u64)v_r12_sroa_10_0_i963;
+    v_r39_i_i1026 = v_r6_i_sroa_22_32388 < v_r3_i25_i_i1023;
+    if (v_r39_i_i1026) { p_v_r15_sroa_7_0_ph = 1u; p_v_r15_sroa_13_0_ph = 0u; p_v_r15_sroa_19_0_ph = 0u; goto L_arm_6; } else { goto L_join_3_i_i1065; }
+L_join_3_i_i1065:;
+    v_r16_i_i_i1029 = (P)((u64)v_r6_i_sroa_0_32386 + (u64)(v_r3_i25_i_i1023));
+    v_r7_i_i_i1074 = v_r12_sroa_10_0_i963 == 0u;
+    if (v_r7_i_i_i1074) { p_v_r15_sroa_7_0_ph = 3u; p_v_r15_sroa_13_0_ph = 2u; p_v_r15_sroa_19_0_ph = 0u; goto L_arm_6; } else { goto L_join_8_i_i; }
 L_join_8_i_i:;
-    v_r60_i_i1074 = get_u8(v_r6_i_sroa_0_32385);
-    v_r62_i_i1075 = (u8)(v_r60_i_i1074 ^ ((u8)1 << 7)) < (u8)(0u ^ ((u8)1 << 7));
-    if (v_r62_i_i1075) { p_v_r15_sroa_7_0_ph = 13u; p_v_r15_sroa_13_0_ph = 2u; p_v_r15_sroa_19_0_ph = 0u; goto L_arm_6; } else { goto L_join_11_i_i; }
+    v_r60_i_i1075 = get_u8(v_r6_i_sroa_0_32386);
+    v_r62_i_i1076 = (u8)(v_r60_i_i1075 ^ ((u8)1 << 7)) < (u8)(0u ^ ((u8)1 << 7));
+    if (v_r62_i_i1076) { p_v_r15_sroa_7_0_ph = 13u; p_v_r15_sroa_13_0_ph = 2u; p_v_r15_sroa_19_0_ph = 0u; goto L_arm_6; } else { goto L_join_11_i_i; }
 L_join_11_i_i:;
-    v_r74_i_i1076 = v_r12_sroa_10_0_i962 != 1u;
-    v_cond_i_i = v_r60_i_i1074 == 0u;
-    v_or_cond_i_i = (u1)(((u32)(v_r74_i_i1076) & (u32)(v_cond_i_i)) & 1);
-    if (v_or_cond_i_i) { goto L_arm_15_i_i1084; } else { p_v_r12_sroa_10_i1118_sroa_3_0_ph = v_r6_i_sroa_0_32385; p_v_r12_sroa_10_i1118_sroa_5_0_ph = v_r3_i25_i_i1022; goto L_join_3_i_i1133; }
-L_arm_15_i_i1084:;
-    v_r84_i_i1085 = v_r6_i_sroa_0_32385 + 1;
-    v_r87_i_i1086 = get_u8(v_r84_i_i1085);
-    v_r89_i_i1087 = (u8)(v_r87_i_i1086 ^ ((u8)1 << 7)) > (u8)(255u ^ ((u8)1 << 7));
-    if (v_r89_i_i1087) { p_v_r15_sroa_7_0_ph = 4u; p_v_r15_sroa_13_0_ph = 2u; p_v_r15_sroa_19_0_ph = 0u; goto L_arm_6; } else { goto L_join_20_i_i; }
+    v_r74_i_i1077 = v_r12_sroa_10_0_i963 != 1u;
+    v_cond_i_i = v_r60_i_i1075 == 0u;
+    v_or_cond_i_i = (u1)(((u32)(v_r74_i_i1077) & (u32)(v_cond_i_i)) & 1);
+    if (v_or_cond_i_i) { goto L_arm_15_i_i1085; } else { p_v_r12_sroa_10_i1119_sroa_3_0_ph = v_r6_i_sroa_0_32386; p_v_r12_sroa_10_i1119_sroa_5_0_ph = v_r3_i25_i_i1023; goto L_join_3_i_i1134; }
+L_arm_15_i_i1085:;
+    v_r84_i_i1086 = v_r6_i_sroa_0_32386 + 1;
+    v_r87_i_i1087 = get_u8(v_r84_i_i1086);
+    v_r89_i_i1088 = (u8)(v_r87_i_i1087 ^ ((u8)1 << 7)) > (u8)(255u ^ ((u8)1 << 7));
+    if (v_r89_i_i1088) { p_v_r15_sroa_7_0_ph = 4u; p_v_r15_sroa_13_0_ph = 2u; p_v_r15_sroa_19_0_ph = 0u; goto L_arm_6; } else { goto L_join_20_i_i; }
 L_join_20_i_i:;
-    v_r103_i_i1088 = (u64)((u64)(v_r3_i25_i_i1022) + (u64)(18446744073709551615ull));
-    { p_v_r12_sroa_10_i1118_sroa_3_0_ph = v_r84_i_i1085; p_v_r12_sroa_10_i1118_sroa_5_0_ph = v_r103_i_i1088; goto L_join_3_i_i1133; }
-L_join_3_i_i1133:;
-    v_r12_sroa_10_i1118_sroa_3_0_ph = p_v_r12_sroa_10_i1118_sroa_3_0_ph;
-    v_r12_sroa_10_i1118_sroa_5_0_ph = p_v_r12_sroa_10_i1118_sroa_5_0_ph;
-    v_r39_i_i1136 = v_r6_i_sroa_22_32387 == v_r3_i25_i_i1022;
-    if (v_r39_i_i1136) { p_v_r15_sroa_7_0_ph = 1u; p_v_r15_sroa_13_0_ph = 0u; p_v_r15_sroa_19_0_ph = 0u; goto L_arm_6; } else { goto L_arm_1_i_i_i; }
+    v_r103_i_i1089 = (u64)((u64)(v_r3_i25_i_i1023) + (u64)(18446744073709551615ull));
+    { p_v_r12_sroa_10_i1119_sroa_3_0_ph = v_r84_i_i1086; p_v_r12_sroa_10_i1119_sroa_5_0_ph = v_r103_i_i1089; goto L_join_3_i_i1134; }
+L_join_3_i_i1134:;
+    v_r12_sroa_10_i1119_sroa_3_0_ph = p_v_r12_sroa_10_i1119_sroa_3_0_ph;
+    v_r12_sroa_10_i1119_sroa_5_0_ph = p_v_r12_sroa_10_i1119_sroa_5_0_ph;
+    v_r39_i_i1137 = v_r6_i_sroa_22_32388 == v_r3_i25_i_i1023;
+    if (v_r39_i_i1137) { p_v_r15_sroa_7_0_ph = 1u; p_v_r15_sroa_13_0_ph = 0u; p_v_r15_sroa_19_0_ph = 0u; goto L_arm_6; } else { goto L_arm_1_i_i_i; }
 L_arm_1_i_i_i:;
-    v_r16_i_i_i1139 = v_r16_i_i_i1028 + 1;
-    v_5 = (u64)((u64)(v_r3_i25_i_i1022) ^ (u64)(18446744073709551615ull));
-    v_r19_i_i_i1140 = (u64)((u64)(v_r6_i_sroa_22_32387) + (u64)(v_5));
-    v_r29_i1141 = get_u8(v_r16_i_i_i1028);
-    v_r8_i22_i_i = v_r29_i1141 == 2u;
-    if (v_r8_i22_i_i) { p_v_r4_i20_i_i_sroa_6_02504 = 2u; goto L_join_3_i_i1181; } else { goto L_der_core_header_tag_of_exit_i_i; }
+    v_r16_i_i_i1140 = v_r16_i_i_i1029 + 1;
+    v_5 = (u64)((u64)(v_r3_i25_i_i1023) ^ (u64)(18446744073709551615ull));
+    v_r19_i_i_i1141 = (u64)((u64)(v_r6_i_sroa_22_32388) + (u64)(v_5));
+    v_r29_i1142 = get_u8(v_r16_i_i_i1029);
+    v_r8_i22_i_i = v_r29_i1142 == 2u;
+    if (v_r8_i22_i_i) { p_v_r4_i20_i_i_sroa_6_02505 = 2u; goto L_join_3_i_i1182; } else { goto L_der_core_header_tag_of_exit_i_i; }
 L_der_core_header_tag_of_exit_i_i:;
-    v_r9_i1163 = (u8)((u32)(v_r29_i1141) & (u32)(31u));
-    v_r11_i1164 = v_r9_i1163 != 31u;
-    v_6 = (u8)((u32)(v_r29_i1141) & (u32)(223u));
+    v_r9_i1164 = (u8)((u32)(v_r29_i1142) & (u32)(31u));
+    v_r11_i1165 = v_r9_i1164 != 31u;
+    v_6 = (u8)((u32)(v_r29_i1142) & (u32)(223u));
     v_7 = v_6 != 0u;
-    v_r2_0_in_i1165_not = (u1)(((u32)(v_r11_i1164) & (u32)(v_7)) & 1);
-    if (v_r2_0_in_i1165_not) { p_v_r4_i20_i_i_sroa_6_02504 = v_r29_i1141; goto L_join_3_i_i1181; } else { p_v_r15_sroa_7_0_ph = 11u; p_v_r15_sroa_13_0_ph = v_r29_i1141; p_v_r15_sroa_19_0_ph = 0u; goto L_arm_6; }
-L_join_3_i_i1181:;
-    v_r4_i20_i_i_sroa_6_02504 = p_v_r4_i20_i_i_sroa_6_02504;
-    v_r39_i_i1184 = v_r19_i_i_i1140 == 0u;
-    if (v_r39_i_i1184) { p_v_r15_sroa_7_0_ph = 1u; p_v_r15_sroa_13_0_ph = 0u; p_v_r15_sroa_19_0_ph = 0u; goto L_arm_6; } else { goto L_arm_1_i59_i_i; }
+    v_r2_0_in_i1166_not = (u1)(((u32)(v_r11_i1165) & (u32)(v_7)) & 1);
+    if (v_r2_0_in_i1166_not) { p_v_r4_i20_i_i_sroa_6_02505 = v_r29_i1142; goto L_join_3_i_i1182; } else { p_v_r15_sroa_7_0_ph = 11u; p_v_r15_sroa_13_0_ph = v_r29_i1142; p_v_r15_sroa_19_0_ph = 0u; goto L_arm_6; }
+L_join_3_i_i1182:;
+    v_r4_i20_i_i_sroa_6_02505 = p_v_r4_i20_i_i_sroa_6_02505;
+    v_r39_i_i1185 = v_r19_i_i_i1141 == 0u;
+    if (v_r39_i_i1185) { p_v_r15_sroa_7_0_ph = 1u; p_v_r15_sroa_13_0_ph = 0u; p_v_r15_sroa_19_0_ph = 0u; goto L_arm_6; } else { goto L_arm_1_i59_i_i; }
 L_arm_1_i59_i_i:;
-    v_r16_i_i_i1187 = v_r16_i_i_i1028 + 2;
-    v_r19_i_i_i1188 = (u64)((u64)(v_r19_i_i_i1140) + (u64)(18446744073709551615ull));
-    v_r29_i1189 = get_u8(v_r16_i_i_i1139);
-    v_r51_i62_i_i = (u8)(v_r29_i1189 ^ ((u8)1 << 7)) > (u8)(255u ^ ((u8)1 << 7));
+    v_r16_i_i_i1188 = v_r16_i_i_i1029 + 2;
+    v_r19_i_i_i1189 = (u64)((u64)(v_r19_i_i_i1141) + (u64)(18446744073709551615ull));
+    v_r29_i1190 = get_u8(v_r16_i_i_i1140);
+    v_r51_i62_i_i = (u8)(v_r29_i1190 ^ ((u8)1 << 7)) > (u8)(255u ^ ((u8)1 << 7));
     if (v_r51_i62_i_i) { goto L_then_5_i_i_i; } else { goto L_join_7_i63_i_i; }
 L_then_5_i_i_i:;
-    v_r56_i73_i_i = (u32)v_r29_i1189;
-    { p_v_r6_i_sroa_22_82560 = v_r19_i_i_i1188; p_v_r6_i_sroa_0_82558 = v_r16_i_i_i1187; p_v_r12_sroa_10_0_i1302 = v_r56_i73_i_i; goto L_arm_1_i_i483; }
+    v_r56_i73_i_i = (u32)v_r29_i1190;
+    { p_v_r6_i_sroa_22_82561 = v_r19_i_i_i1189; p_v_r6_i_sroa_0_82559 = v_r16_i_i_i1188; p_v_r12_sroa_10_0_i1303 = v_r56_i73_i_i; goto L_arm_1_i_i484; }
 L_join_7_i63_i_i:;
-    v_r68_i64_i_i = v_r29_i1189 == 128u;
+    v_r68_i64_i_i = v_r29_i1190 == 128u;
     if (v_r68_i64_i_i) { p_v_r15_sroa_7_0_ph = 2u; p_v_r15_sroa_13_0_ph = 0u; p_v_r15_sroa_19_0_ph = 0u; goto L_arm_6; } else { goto L_join_10_i_i_i; }
 L_join_10_i_i_i:;
-    v_r87_i_i_i = v_r29_i1189 > 132u;
-    if (v_r87_i_i_i) { p_v_r15_sroa_7_0_ph = 7u; p_v_r15_sroa_13_0_ph = 0u; p_v_r15_sroa_19_0_ph = 0u; goto L_arm_6; } else { goto L_join_3_i1230; }
-L_join_3_i1230:;
-    v_r106_i_i_i = (u8)((u32)(v_r29_i1189) & (u32)(127u));
-    v_r3_i25_i1231 = (u64)v_r106_i_i_i;
-    v_r39_i1234 = v_r19_i_i_i1188 < v_r3_i25_i1231;
-    if (v_r39_i1234) { p_v_r15_sroa_7_0_ph = 1u; p_v_r15_sroa_13_0_ph = 0u; p_v_r15_sroa_19_0_ph = 0u; goto L_arm_6; } else { goto L_arm_14_i_i_i; }
+    v_r87_i_i_i = v_r29_i1190 > 132u;
+    if (v_r87_i_i_i) { p_v_r15_sroa_7_0_ph = 7u; p_v_r15_sroa_13_0_ph = 0u; p_v_r15_sroa_19_0_ph = 0u; goto L_arm_6; } else { goto L_join_3_i1231; }
+L_join_3_i1231:;
+    v_r106_i_i_i = (u8)((u32)(v_r29_i1190) & (u32)(127u));
+    v_r3_i25_i1232 = (u64)v_r106_i_i_i;
+    v_r39_i1235 = v_r19_i_i_i1189 < v_r3_i25_i1232;
+    if (v_r39_i1235) { p_v_r15_sroa_7_0_ph = 1u; p_v_r15_sroa_13_0_ph = 0u; p_v_r15_sroa_19_0_ph = 0u; goto L_arm_6; } else { goto L_arm_14_i_i_i; }
 L_arm_14_i_i_i:;
-    v_r16_i_i1238 = (P)((u64)v_r16_i_i_i1187 + (u64)(v_r3_i25_i1231));
-    v_r19_i_i1239 = (u64)((u64)(v_r19_i_i_i1188) - (u64)(v_r3_i25_i1231));
+    v_r16_i_i1239 = (P)((u64)v_r16_i_i_i1188 + (u64)(v_r3_i25_i1232));
+    v_r19_i_i1240 = (u64)((u64)(v_r19_i_i_i1189) - (u64)(v_r3_i25_i1232));
     switch (v_r106_i_i_i) {
     case 0u: { p_v_r15_sroa_7_0_ph = 8u; p_v_r15_sroa_13_0_ph = v_r106_i_i_i; p_v_r15_sroa_19_0_ph = v_r106_i_i_i; goto L_arm_6; }
-    case 1u: { goto L_der_core_length_is_overlong_exit1278; }
-    default: { goto L_join_7_i1275; }
+    case 1u: { goto L_der_core_length_is_overlong_exit1279; }
+    default: { goto L_join_7_i1276; }
     }
-L_join_7_i1275:;
-    v_r36_i1276 = get_u8(v_r16_i_i_i1187);
-    v_r38_i1277 = v_r36_i1276 == 0u;
-    if (v_r38_i1277) { p_v_r15_sroa_7_0_ph = 8u; p_v_r15_sroa_13_0_ph = 0u; p_v_r15_sroa_19_0_ph = 0u; goto L_arm_6; } else { goto L_join_7_i82_i_i; }
-L_der_core_length_is_overlong_exit1278:;
-    v_r28_i1272 = get_u8(v_r16_i_i_i1187);
-    v_r30_i1273 = (u8)(v_r28_i1272 ^ ((u8)1 << 7)) > (u8)(255u ^ ((u8)1 << 7));
-    if (v_r30_i1273) { p_v_r15_sroa_7_0_ph = 8u; p_v_r15_sroa_13_0_ph = 0u; p_v_r15_sroa_19_0_ph = 0u; goto L_arm_6; } else { goto L_then_5_i80_i_i; }
+L_join_7_i1276:;
+    v_r36_i1277 = get_u8(v_r16_i_i_i1188);
+    v_r38_i1278 = v_r36_i1277 == 0u;
+    if (v_r38_i1278) { p_v_r15_sroa_7_0_ph = 8u; p_v_r15_sroa_13_0_ph = 0u; p_v_r15_sroa_19_0_ph = 0u; goto L_arm_6; } else { goto L_join_7_i82_i_i; }
+L_der_core_length_is_overlong_exit1279:;
+    v_r28_i1273 = get_u8(v_r16_i_i_i1188);
+    v_r30_i1274 = (u8)(v_r28_i1273 ^ ((u8)1 << 7)) > (u8)(255u ^ ((u8)1 << 7));
+    if (v_r30_i1274) { p_v_r15_sroa_7_0_ph = 8u; p_v_r15_sroa_13_0_ph = 0u; p_v_r15_sroa_19_0_ph = 0u; goto L_arm_6; } else { goto L_then_5_i80_i_i; }
 L_then_5_i80_i_i:;
-    v_r71_i_i_i = (u32)v_r28_i1272;
-    { p_v_r6_i_sroa_22_82560 = v_r19_i_i1239; p_v_r6_i_sroa_0_82558 = v_r16_i_i1238; p_v_r12_sroa_10_0_i1302 = v_r71_i_i_i; goto L_arm_1_i_i483; }
+    v_r71_i_i_i = (u32)v_r28_i1273;
+    { p_v_r6_i_sroa_22_82561 = v_r19_i_i1240; p_v_r6_i_sroa_0_82559 = v_r16_i_i1239; p_v_r12_sroa_10_0_i1303 = v_r71_i_i_i; goto L_arm_1_i_i484; }
 L_join_7_i82_i_i:;
     v_r74_i83_i_i = v_r106_i_i_i < 3u;
     if (v_r74_i83_i_i) { goto L_then_8_i106_i_i; } else { goto L_join_10_i84_i_i; }
 L_then_8_i106_i_i:;
-    v_r81_i107_i_i = v_r16_i_i_i1028 + 3;
-    v_r87_i109_i_i = (u32)v_r36_i1276;
+    v_r81_i107_i_i = v_r16_i_i_i1029 + 3;
+    v_r87_i109_i_i = (u32)v_r36_i1277;
     v_r89_i_i_i = (u32)((u32)(v_r87_i109_i_i) << (u32)((8u & 31)));
     v_r91_i_i_i = get_u8(v_r81_i107_i_i);
     v_r93_i110_i_i = (u32)v_r91_i_i_i;
     v_r96_i111_i_i = (u32)((u32)(v_r89_i_i_i) | (u32)(v_r93_i110_i_i));
-    { p_v_r6_i_sroa_22_82560 = v_r19_i_i1239; p_v_r6_i_sroa_0_82558 = v_r16_i_i1238; p_v_r12_sroa_10_0_i1302 = v_r96_i111_i_i; goto L_arm_1_i_i483; }
+    { p_v_r6_i_sroa_22_82561 = v_r19_i_i1240; p_v_r6_i_sroa_0_82559 = v_r16_i_i1239; p_v_r12_sroa_10_0_i1303 = v_r96_i111_i_i; goto L_arm_1_i_i484; }
 L_join_10_i84_i_i:;
     v_r99_i85_i_i = v_r106_i_i_i == 3u;
     if (v_r99_i85_i_i) { goto L_then_11_i95_i_i; } else { goto L_join_13_i86_i_i; }
 L_then_11_i95_i_i:;
-    v_r106_i96_i_i = v_r16_i_i_i1028 + 3;
-    v_r108_i97_i_i = v_r16_i_i_i1028 + 4;
-    v_r115_i99_i_i = (u32)v_r36_i1276;
+    v_r106_i96_i_i = v_r16_i_i_i1029 + 3;
+    v_r108_i97_i_i = v_r16_i_i_i1029 + 4;
+    v_r115_i99_i_i = (u32)v_r36_i1277;
     v_r117_i100_i_i = (u32)((u32)(v_r115_i99_i_i) << (u32)((16u & 31)));
     v_r119_i101_i_i = get_u8(v_r106_i96_i_i);
     v_r121_i102_i_i = (u32)v_r119_i101_i_i;
@@ -959,15 +1174,15 @@ L_then_11_i95_i_i:;
     v_r128_i_i_i = get_u8(v_r108_i97_i_i);
     v_r130_i105_i_i = (u32)v_r128_i_i_i;
     v_r133_i_i_i = (u32)((u32)(v_r126_i104_i_i) | (u32)(v_r130_i105_i_i));
-    { p_v_r6_i_sroa_22_82560 = v_r19_i_i1239; p_v_r6_i_sroa_0_82558 = v_r16_i_i1238; p_v_r12_sroa_10_0_i1302 = v_r133_i_i_i; goto L_arm_1_i_i483; }
+    { p_v_r6_i_sroa_22_82561 = v_r19_i_i1240; p_v_r6_i_sroa_0_82559 = v_r16_i_i1239; p_v_r12_sroa_10_0_i1303 = v_r133_i_i_i; goto L_arm_1_i_i484; }
 L_join_13_i86_i_i:;
     v_r136_i87_i_i = v_r106_i_i_i < 5u;
     if (v_r136_i87_i_i) { goto L_then_14_i_i_i; } else { goto L_join_16_i_i_i; }
 L_then_14_i_i_i:;
-    v_r143_i88_i_i = v_r16_i_i_i1028 + 3;
-    v_r145_i89_i_i = v_r16_i_i_i1028 + 4;
-    v_r147_i90_i_i = v_r16_i_i_i1028 + 5;
-    v_r155_i92_i_i = (u32)v_r36_i1276;
+    v_r143_i88_i_i = v_r16_i_i_i1029 + 3;
+    v_r145_i89_i_i = v_r16_i_i_i1029 + 4;
+    v_r147_i90_i_i = v_r16_i_i_i1029 + 5;
+    v_r155_i92_i_i = (u32)v_r36_i1277;
     v_r157_i93_i_i = (u32)((u32)(v_r155_i92_i_i) << (u32)((24u & 31)));
     v_r159_i94_i_i = get_u8(v_r143_i88_i_i);
     v_r161_i_i_i = (u32)v_r159_i94_i_i;
@@ -980,45 +1195,45 @@ L_then_14_i_i_i:;
     v_r177_i_i_i = get_u8(v_r147_i90_i_i);
     v_r179_i_i_i = (u32)v_r177_i_i_i;
     v_r182_i_i_i = (u32)((u32)(v_r175_i_i_i) | (u32)(v_r179_i_i_i));
-    { p_v_r6_i_sroa_22_82560 = v_r19_i_i1239; p_v_r6_i_sroa_0_82558 = v_r16_i_i1238; p_v_r12_sroa_10_0_i1302 = v_r182_i_i_i; goto L_arm_1_i_i483; }
+    { p_v_r6_i_sroa_22_82561 = v_r19_i_i1240; p_v_r6_i_sroa_0_82559 = v_r16_i_i1239; p_v_r12_sroa_10_0_i1303 = v_r182_i_i_i; goto L_arm_1_i_i484; }
 L_join_16_i_i_i:;
     TRAP();
     TRAP();
-L_arm_1_i_i483:;
-    v_r6_i_sroa_22_82560 = p_v_r6_i_sroa_22_82560;
-    v_r6_i_sroa_0_82558 = p_v_r6_i_sroa_0_82558;
-    v_r12_sroa_10_0_i1302 = p_v_r12_sroa_10_0_i1302;
-    v_r7_i_i_i1346_not = v_r4_i20_i_i_sroa_6_02504 == 2u;
-    if (v_r7_i_i_i1346_not) { goto L_join_3_i_i1361; } else { p_v_r15_sroa_7_0_ph = 10u; p_v_r15_sroa_13_0_ph = 2u; p_v_r15_sroa_19_0_ph = v_r4_i20_i_i_sroa_6_02504; goto L_arm_6; }
-L_join_3_i_i1361:;
-    v_r3_i25_i_i1362 = (u64)v_r12_sroa_10_0_i1302;
-    v_r39_i_i1365 = v_r6_i_sroa_22_82560 < v_r3_i25_i_i1362;
-    if (v_r39_i_i1365) { p_v_r15_sroa_7_0_ph = 1u; p_v_r15_sroa_13_0_ph = 0u; p_v_r15_sroa_19_0_ph = 0u; goto L_arm_6; } else { goto L_join_3_i_i1404; }
-L_join_3_i_i1404:;
-    v_r7_i_i_i1413 = v_r12_sroa_10_0_i1302 == 0u;
-    if (v_r7_i_i_i1413) { p_v_r15_sroa_7_0_ph = 3u; p_v_r15_sroa_13_0_ph = 2u; p_v_r15_sroa_19_0_ph = 0u; goto L_arm_6; } else { goto L_join_8_i_i1414; }
-L_join_8_i_i1414:;
-    v_r60_i_i1415 = get_u8(v_r6_i_sroa_0_82558);
-    v_r62_i_i1416 = (u8)(v_r60_i_i1415 ^ ((u8)1 << 7)) < (u8)(0u ^ ((u8)1 << 7));
-    if (v_r62_i_i1416) { p_v_r15_sroa_7_0_ph = 13u; p_v_r15_sroa_13_0_ph = 2u; p_v_r15_sroa_19_0_ph = 0u; goto L_arm_6; } else { goto L_join_11_i_i1417; }
-L_join_11_i_i1417:;
-    v_r74_i_i1418 = v_r12_sroa_10_0_i1302 != 1u;
-    v_cond_i_i1419 = v_r60_i_i1415 == 0u;
-    v_or_cond_i_i1420 = (u1)(((u32)(v_r74_i_i1418) & (u32)(v_cond_i_i1419)) & 1);
-    if (v_or_cond_i_i1420) { goto L_arm_15_i_i1432; } else { p_v_r12_sroa_10_i1470_sroa_3_0_ph = v_r6_i_sroa_0_82558; p_v_r12_sroa_10_i1470_sroa_5_0_ph = v_r3_i25_i_i1362; goto L_join_3_i1486; }
-L_arm_15_i_i1432:;
-    v_r84_i_i1433 = v_r6_i_sroa_0_82558 + 1;
-    v_r87_i_i1434 = get_u8(v_r84_i_i1433);
-    v_r89_i_i1435 = (u8)(v_r87_i_i1434 ^ ((u8)1 << 7)) > (u8)(255u ^ ((u8)1 << 7));
-    if (v_r89_i_i1435) { p_v_r15_sroa_7_0_ph = 4u; p_v_r15_sroa_13_0_ph = 2u; p_v_r15_sroa_19_0_ph = 0u; goto L_arm_6; } else { goto L_join_20_i_i1436; }
-L_join_20_i_i1436:;
-    v_r103_i_i1437 = (u64)((u64)(v_r3_i25_i_i1362) + (u64)(18446744073709551615ull));
-    { p_v_r12_sroa_10_i1470_sroa_3_0_ph = v_r84_i_i1433; p_v_r12_sroa_10_i1470_sroa_5_0_ph = v_r103_i_i1437; goto L_join_3_i1486; }
-L_join_3_i1486:;
-    v_r12_sroa_10_i1470_sroa_3_0_ph = p_v_r12_sroa_10_i1470_sroa_3_0_ph;
-    v_r12_sroa_10_i1470_sroa_5_0_ph = p_v_r12_sroa_10_i1470_sroa_5_0_ph;
-    v_r7_i_i1487 = v_r6_i_sroa_22_82560 == v_r3_i25_i_i1362;
-    if (v_r7_i_i1487) { goto L_join_3_i1620; } else { p_v_r15_sroa_7_0_ph = 12u; p_v_r15_sroa_13_0_ph = 0u; p_v_r15_sroa_19_0_ph = 0u; goto L_arm_6; }
+L_arm_1_i_i484:;
+    v_r6_i_sroa_22_82561 = p_v_r6_i_sroa_22_82561;
+    v_r6_i_sroa_0_82559 = p_v_r6_i_sroa_0_82559;
+    v_r12_sroa_10_0_i1303 = p_v_r12_sroa_10_0_i1303;
+    v_r7_i_i_i1347_not = v_r4_i20_i_i_sroa_6_02505 == 2u;
+    if (v_r7_i_i_i1347_not) { goto L_join_3_i_i1362; } else { p_v_r15_sroa_7_0_ph = 10u; p_v_r15_sroa_13_0_ph = 2u; p_v_r15_sroa_19_0_ph = v_r4_i20_i_i_sroa_6_02505; goto L_arm_6; }
+L_join_3_i_i1362:;
+    v_r3_i25_i_i1363 = (u64)v_r12_sroa_10_0_i1303;
+    v_r39_i_i1366 = v_r6_i_sroa_22_82561 < v_r3_i25_i_i1363;
+    if (v_r39_i_i1366) { p_v_r15_sroa_7_0_ph = 1u; p_v_r15_sroa_13_0_ph = 0u; p_v_r15_sroa_19_0_ph = 0u; goto L_arm_6; } else { goto L_join_3_i_i1405; }
+L_join_3_i_i1405:;
+    v_r7_i_i_i1414 = v_r12_sroa_10_0_i1303 == 0u;
+    if (v_r7_i_i_i1414) { p_v_r15_sroa_7_0_ph = 3u; p_v_r15_sroa_13_0_ph = 2u; p_v_r15_sroa_19_0_ph = 0u; goto L_arm_6; } else { goto L_join_8_i_i1415; }
+L_join_8_i_i1415:;
+    v_r60_i_i1416 = get_u8(v_r6_i_sroa_0_82559);
+    v_r62_i_i1417 = (u8)(v_r60_i_i1416 ^ ((u8)1 << 7)) < (u8)(0u ^ ((u8)1 << 7));
+    if (v_r62_i_i1417) { p_v_r15_sroa_7_0_ph = 13u; p_v_r15_sroa_13_0_ph = 2u; p_v_r15_sroa_19_0_ph = 0u; goto L_arm_6; } else { goto L_join_11_i_i1418; }
+L_join_11_i_i1418:;
+    v_r74_i_i1419 = v_r12_sroa_10_0_i1303 != 1u;
+    v_cond_i_i1420 = v_r60_i_i1416 == 0u;
+    v_or_cond_i_i1421 = (u1)(((u32)(v_r74_i_i1419) & (u32)(v_cond_i_i1420)) & 1);
+    if (v_or_cond_i_i1421) { goto L_arm_15_i_i1433; } else { p_v_r12_sroa_10_i1471_sroa_3_0_ph = v_r6_i_sroa_0_82559; p_v_r12_sroa_10_i1471_sroa_5_0_ph = v_r3_i25_i_i1363; goto L_join_3_i1487; }
+L_arm_15_i_i1433:;
+    v_r84_i_i1434 = v_r6_i_sroa_0_82559 + 1;
+    v_r87_i_i1435 = get_u8(v_r84_i_i1434);
+    v_r89_i_i1436 = (u8)(v_r87_i_i1435 ^ ((u8)1 << 7)) > (u8)(255u ^ ((u8)1 << 7));
+    if (v_r89_i_i1436) { p_v_r15_sroa_7_0_ph = 4u; p_v_r15_sroa_13_0_ph = 2u; p_v_r15_sroa_19_0_ph = 0u; goto L_arm_6; } else { goto L_join_20_i_i1437; }
+L_join_20_i_i1437:;
+    v_r103_i_i1438 = (u64)((u64)(v_r3_i25_i_i1363) + (u64)(18446744073709551615ull));
+    { p_v_r12_sroa_10_i1471_sroa_3_0_ph = v_r84_i_i1434; p_v_r12_sroa_10_i1471_sroa_5_0_ph = v_r103_i_i1438; goto L_join_3_i1487; }
+L_join_3_i1487:;
+    v_r12_sroa_10_i1471_sroa_3_0_ph = p_v_r12_sroa_10_i1471_sroa_3_0_ph;
+    v_r12_sroa_10_i1471_sroa_5_0_ph = p_v_r12_sroa_10_i1471_sroa_5_0_ph;
+    v_r7_i_i1488 = v_r6_i_sroa_22_82561 == v_r3_i25_i_i1363;
+    if (v_r7_i_i1488) { goto L_join_3_i1621; } else { p_v_r15_sroa_7_0_ph = 12u; p_v_r15_sroa_13_0_ph = 0u; p_v_r15_sroa_19_0_ph = 0u; goto L_arm_6; }
 L_common_ret:;
     return;
 L_arm_2:;
@@ -1032,9 +1247,9 @@ L_arm_2:;
     v_r38 = v_a0 + 8;
     fill(v_r38, 0u, 32u);
     { goto L_common_ret; }
-L_join_3_i1620:;
-    v_r7_i_i1623 = v_r4_sroa_10_32252 == v_r12_sroa_10_0_i;
-    if (v_r7_i_i1623) { goto L_arm_8; } else { goto L_arm_9; }
+L_join_3_i1621:;
+    v_r7_i_i1624 = v_r4_sroa_10_32253 == v_r12_sroa_10_0_i;
+    if (v_r7_i_i1624) { goto L_arm_8; } else { goto L_arm_9; }
 L_arm_6:;
     v_r15_sroa_7_0_ph = p_v_r15_sroa_7_0_ph;
     v_r15_sroa_13_0_ph = p_v_r15_sroa_13_0_ph;
@@ -1053,12 +1268,12 @@ L_arm_8:;
     v_r0_sroa_29_sroa_11_4_r79_sroa_idx = v_a0 + 32;
     v_r79 = v_a0 + 8;
     put_u32(v_a0, 0u);
-    put_P(v_r79, v_r12_sroa_10_i1118_sroa_3_0_ph);
+    put_P(v_r79, v_r12_sroa_10_i1119_sroa_3_0_ph);
     v_r0_sroa_29_sroa_9_4_r79_sroa_idx = v_a0 + 16;
-    put_u64(v_r0_sroa_29_sroa_9_4_r79_sroa_idx, v_r12_sroa_10_i1118_sroa_5_0_ph);
+    put_u64(v_r0_sroa_29_sroa_9_4_r79_sroa_idx, v_r12_sroa_10_i1119_sroa_5_0_ph);
     v_r0_sroa_29_sroa_10_4_r79_sroa_idx = v_a0 + 24;
-    put_P(v_r0_sroa_29_sroa_10_4_r79_sroa_idx, v_r12_sroa_10_i1470_sroa_3_0_ph);
-    put_u64(v_r0_sroa_29_sroa_11_4_r79_sroa_idx, v_r12_sroa_10_i1470_sroa_5_0_ph);
+    put_P(v_r0_sroa_29_sroa_10_4_r79_sroa_idx, v_r12_sroa_10_i1471_sroa_3_0_ph);
+    put_u64(v_r0_sroa_29_sroa_11_4_r79_sroa_idx, v_r12_sroa_10_i1471_sroa_5_0_ph);
     { goto L_common_ret; }
 L_arm_9:;
     put_u8(v_a0, 1u);
@@ -1072,17 +1287,17 @@ L_arm_9:;
     fill(v_r70, 0u, 32u);
     { goto L_common_ret; }
 }
-static void f_pkcs1_view_quick_others(P v_a0, P v_a1, u64 v_a2) {
-    u64 p_v_r0_i_sroa_13_01251;
-    u64 p_v_r0_i_sroa_11_01249;
-    P p_v_r0_i_sroa_7_01247;
-    u64 p_v_r4_0_i1233;
-    u64 p_v_r3_sroa_5_0_i1232;
-    P p_v_r3_sroa_0_0_i1231;
-    u64 p_v_r0_i75_sroa_11_11267;
-    u64 p_v_r0_i75_sroa_12_sroa_7_11265;
-    P p_v_r0_i75_sroa_12_sroa_0_11263;
-    P p_v_r0_i_i71_sroa_9_11262;
+static void f_pkcs1_viewed_key_quick_others(P v_a0, P v_a1, u64 v_a2) {
+    u64 p_v_r0_i_sroa_13_01307;
+    u64 p_v_r0_i_sroa_11_01305;
+    P p_v_r0_i_sroa_7_01303;
+    u64 p_v_r4_0_i1289;
+    u64 p_v_r3_sroa_5_0_i1288;
+    P p_v_r3_sroa_0_0_i1287;
+    u64 p_v_r0_i75_sroa_11_11323;
+    u64 p_v_r0_i75_sroa_12_sroa_7_11321;
+    P p_v_r0_i75_sroa_12_sroa_0_11319;
+    P p_v_r0_i_i71_sroa_9_11318;
     P p_v_r0_i_i_i_sroa_9_2;
     u64 p_v_r0_i_i_i_sroa_15_2;
     P p_v_r0_i_i_i_sroa_21_2;
@@ -1108,7 +1323,7 @@ static void f_pkcs1_view_quick_others(P v_a0, P v_a1, u64 v_a2) {
     u8 v_r83_i_i;
     u1 v_r85_i_i;
     u64 v_r92_i_i;
-    u1 v_r15_i175;
+    u1 v_r15_i176;
     u1 v_r104_i_i;
     u1 v_r110_i_i;
     u8 v_r130_i_i;
@@ -1120,9 +1335,9 @@ static void f_pkcs1_view_quick_others(P v_a0, P v_a1, u64 v_a2) {
     u8 v_r143_i_i;
     u64 v_r145_i_i;
     u64 v_r148_i_i;
-    u1 v_r15_i178;
+    u1 v_r15_i179;
     P v_r119_i_i;
-    u64 v_r32_i181;
+    u64 v_r32_i182;
     u1 v_r163_i_i;
     P v_r170_i_i;
     u64 v_r173_i_i;
@@ -1130,16 +1345,16 @@ static void f_pkcs1_view_quick_others(P v_a0, P v_a1, u64 v_a2) {
     u8 v_r187_i_i;
     u1 v_r189_i_i;
     u64 v_r199_i_i;
-    u1 v_r15_i188;
-    u64 v_r32_i191;
-    u64 v_r32_i177;
-    u1 v_r7_i1981230;
-    u64 v_r0_i_sroa_13_01251;
-    u64 v_r0_i_sroa_11_01249;
-    P v_r0_i_sroa_7_01247;
-    u64 v_r4_0_i1233;
-    u64 v_r3_sroa_5_0_i1232;
-    P v_r3_sroa_0_0_i1231;
+    u1 v_r15_i189;
+    u64 v_r32_i192;
+    u64 v_r32_i178;
+    u1 v_r7_i1991286;
+    u64 v_r0_i_sroa_13_01307;
+    u64 v_r0_i_sroa_11_01305;
+    P v_r0_i_sroa_7_01303;
+    u64 v_r4_0_i1289;
+    u64 v_r3_sroa_5_0_i1288;
+    P v_r3_sroa_0_0_i1287;
     u1 v_r53_i_i76;
     P v_r62_i_i78;
     u64 v_r65_i_i79;
@@ -1149,11 +1364,11 @@ static void f_pkcs1_view_quick_others(P v_a0, P v_a1, u64 v_a2) {
     u8 v_r83_i_i95;
     u1 v_r85_i_i96;
     u64 v_r92_i_i138;
-    u1 v_r15_i199;
-    P v_r29_i201;
-    u64 v_r32_i202;
+    u1 v_r15_i200;
+    P v_r29_i202;
+    u64 v_r32_i203;
     u1 v_r53_i_i_i;
-    u1 v_or_cond1309;
+    u1 v_or_cond1365;
     u1 v_r104_i_i98;
     u1 v_r110_i_i115;
     u8 v_r130_i_i117;
@@ -1165,10 +1380,10 @@ static void f_pkcs1_view_quick_others(P v_a0, P v_a1, u64 v_a2) {
     u8 v_r143_i_i125;
     u64 v_r145_i_i126;
     u64 v_r148_i_i127;
-    u1 v_r15_i209;
+    u1 v_r15_i210;
     P v_r119_i_i121;
-    P v_r29_i211;
-    u64 v_r32_i212;
+    P v_r29_i212;
+    u64 v_r32_i213;
     u1 v_r163_i_i100;
     P v_r170_i_i102;
     u64 v_r173_i_i103;
@@ -1176,13 +1391,13 @@ static void f_pkcs1_view_quick_others(P v_a0, P v_a1, u64 v_a2) {
     u8 v_r187_i_i110;
     u1 v_r189_i_i111;
     u64 v_r199_i_i113;
-    u1 v_r15_i219;
-    P v_r29_i221;
-    u64 v_r32_i222;
-    u64 v_r0_i75_sroa_11_11267;
-    u64 v_r0_i75_sroa_12_sroa_7_11265;
-    P v_r0_i75_sroa_12_sroa_0_11263;
-    P v_r0_i_i71_sroa_9_11262;
+    u1 v_r15_i220;
+    P v_r29_i222;
+    u64 v_r32_i223;
+    u64 v_r0_i75_sroa_11_11323;
+    u64 v_r0_i75_sroa_12_sroa_7_11321;
+    P v_r0_i75_sroa_12_sroa_0_11319;
+    P v_r0_i_i71_sroa_9_11318;
     P v_r62_i_i_i;
     u64 v_r65_i_i_i;
     u8 v_r73_i_i_i;
@@ -1191,9 +1406,9 @@ static void f_pkcs1_view_quick_others(P v_a0, P v_a1, u64 v_a2) {
     u8 v_r83_i_i_i;
     u1 v_r85_i_i_i;
     u64 v_r92_i_i_i;
-    u1 v_r15_i229;
-    P v_r29_i231;
-    u64 v_r32_i232;
+    u1 v_r15_i230;
+    P v_r29_i232;
+    u64 v_r32_i233;
     u1 v_r104_i_i_i;
     u1 v_r110_i_i_i;
     u8 v_r130_i_i_i;
@@ -1205,10 +1420,10 @@ static void f_pkcs1_view_quick_others(P v_a0, P v_a1, u64 v_a2) {
     u8 v_r143_i_i_i;
     u64 v_r145_i_i_i;
     u64 v_r148_i_i_i;
-    u1 v_r15_i239;
+    u1 v_r15_i240;
     P v_r119_i_i_i;
-    P v_r29_i241;
-    u64 v_r32_i242;
+    P v_r29_i242;
+    u64 v_r32_i243;
     u1 v_r163_i_i_i;
     P v_r170_i_i_i;
     u64 v_r173_i_i_i;
@@ -1216,9 +1431,9 @@ static void f_pkcs1_view_quick_others(P v_a0, P v_a1, u64 v_a2) {
     u8 v_r187_i_i_i;
     u1 v_r189_i_i_i;
     u64 v_r199_i_i_i;
-    u1 v_r15_i249;
-    P v_r29_i251;
-    u64 v_r32_i252;
+    u1 v_r15_i250;
+    P v_r29_i252;
+    u64 v_r32_i253;
     P v_r0_i_i_i_sroa_9_2;
     u64 v_r0_i_i_i_sroa_15_2;
     P v_r0_i_i_i_sroa_21_2;
@@ -1229,12 +1444,12 @@ static void f_pkcs1_view_quick_others(P v_a0, P v_a1, u64 v_a2) {
     u1 v_r47_i_i;
     u1 v_r73_i_i174;
     u1 v_r53_i_i43_i_old;
-    u1 v_or_cond1311;
+    u1 v_or_cond1367;
     P v_r37_i_i;
     u8 v_r56_i_i;
     u1 v_not;
     u1 v_r53_i_i43_i;
-    u1 v_or_cond1310;
+    u1 v_or_cond1366;
     u1 v_r53_i_i43_i_old_old;
     P v_r62_i_i45_i;
     u64 v_r65_i_i46_i;
@@ -1244,9 +1459,9 @@ static void f_pkcs1_view_quick_others(P v_a0, P v_a1, u64 v_a2) {
     u8 v_r83_i_i62_i;
     u1 v_r85_i_i63_i;
     u64 v_r92_i_i105_i;
-    u1 v_r15_i259;
-    P v_r29_i261;
-    u64 v_r32_i262;
+    u1 v_r15_i260;
+    P v_r29_i262;
+    u64 v_r32_i263;
     u1 v_r104_i_i65_i;
     u1 v_r110_i_i82_i;
     u8 v_r130_i_i84_i;
@@ -1258,10 +1473,10 @@ static void f_pkcs1_view_quick_others(P v_a0, P v_a1, u64 v_a2) {
     u8 v_r143_i_i92_i;
     u64 v_r145_i_i93_i;
     u64 v_r148_i_i94_i;
-    u1 v_r15_i269;
+    u1 v_r15_i270;
     P v_r119_i_i88_i;
-    P v_r29_i271;
-    u64 v_r32_i272;
+    P v_r29_i272;
+    u64 v_r32_i273;
     u1 v_r163_i_i67_i;
     P v_r170_i_i69_i;
     u64 v_r173_i_i70_i;
@@ -1269,9 +1484,9 @@ static void f_pkcs1_view_quick_others(P v_a0, P v_a1, u64 v_a2) {
     u8 v_r187_i_i77_i;
     u1 v_r189_i_i78_i;
     u64 v_r199_i_i80_i;
-    u1 v_r15_i279;
-    P v_r29_i281;
-    u64 v_r32_i282;
+    u1 v_r15_i280;
+    P v_r29_i282;
+    u64 v_r32_i283;
     P v_r0_i_i38_i_sroa_9_2;
     u64 v_r0_i_i38_i_sroa_15_2;
     P v_r0_i_i38_i_sroa_21_2;
@@ -1282,12 +1497,12 @@ static void f_pkcs1_view_quick_others(P v_a0, P v_a1, u64 v_a2) {
     u1 v_r47_i129_i;
     u1 v_r73_i119_i;
     u1 v_r53_i_i_i_i_old;
-    u1 v_or_cond1313;
+    u1 v_or_cond1369;
     P v_r37_i127_i;
     u8 v_r56_i131_i;
-    u1 v_not1223;
+    u1 v_not1279;
     u1 v_r53_i_i_i_i;
-    u1 v_or_cond1312;
+    u1 v_or_cond1368;
     u1 v_r53_i_i_i_i_old_old;
     P v_r62_i_i_i_i;
     u64 v_r65_i_i_i_i;
@@ -1297,8 +1512,8 @@ static void f_pkcs1_view_quick_others(P v_a0, P v_a1, u64 v_a2) {
     u8 v_r83_i_i_i_i;
     u1 v_r85_i_i_i_i;
     u64 v_r92_i_i_i_i;
-    u1 v_r15_i289;
-    u64 v_r32_i292;
+    u1 v_r15_i290;
+    u64 v_r32_i293;
     u1 v_r104_i_i_i_i;
     u1 v_r110_i_i_i_i;
     u8 v_r130_i_i_i_i;
@@ -1310,9 +1525,9 @@ static void f_pkcs1_view_quick_others(P v_a0, P v_a1, u64 v_a2) {
     u8 v_r143_i_i_i_i;
     u64 v_r145_i_i_i_i;
     u64 v_r148_i_i_i_i;
-    u1 v_r15_i299;
+    u1 v_r15_i300;
     P v_r119_i_i_i_i;
-    u64 v_r32_i302;
+    u64 v_r32_i303;
     u1 v_r163_i_i_i_i;
     P v_r170_i_i_i_i;
     u64 v_r173_i_i_i_i;
@@ -1320,8 +1535,8 @@ static void f_pkcs1_view_quick_others(P v_a0, P v_a1, u64 v_a2) {
     u8 v_r187_i_i_i_i;
     u1 v_r189_i_i_i_i;
     u64 v_r199_i_i_i_i;
-    u1 v_r15_i309;
-    u64 v_r32_i312;
+    u1 v_r15_i310;
+    u64 v_r32_i313;
     P v_r0_i_i_i_i_sroa_9_3;
     u64 v_r0_i_i_i_i_sroa_15_3;
     u64 v_r0_i_i_i_i_sroa_27_3;
@@ -1330,18 +1545,18 @@ static void f_pkcs1_view_quick_others(P v_a0, P v_a1, u64 v_a2) {
     u1 v_cond_i_i_i;
     u1 v_r47_i_i_i;
     u1 v_r73_i_i150_i;
-    u1 v_r7_i319_old;
-    u1 v_or_cond1225;
+    u1 v_r7_i320_old;
+    u1 v_or_cond1281;
     P v_r37_i_i_i;
     u8 v_r56_i_i_i;
-    u1 v_not1224;
-    u1 v_r7_i319;
+    u1 v_not1280;
+    u1 v_r7_i320;
     u1 v_or_cond;
-    u1 v_r7_i319_old_old;
+    u1 v_r7_i320_old_old;
     u64 v_r39_i29;
-    u1 v_r7_i198;
-    u1 v_r7_i338;
-    u1 v_r7_i3381300;
+    u1 v_r7_i199;
+    u1 v_r7_i340;
+    u1 v_r7_i3401356;
     u1 v_r46;
     u64 v_r15_sroa_4_sroa_0_sroa_3_0;
     P v_r15_sroa_4_sroa_0_sroa_0_0;
@@ -1373,8 +1588,8 @@ L_then_6_i_i:;
     if (v_r85_i_i) { goto L_then_9_i_i; } else { goto L_join_11_i_i; }
 L_then_9_i_i:;
     v_r92_i_i = (u64)v_r83_i_i;
-    v_r15_i175 = v_r65_i_i < v_r92_i_i;
-    if (v_r15_i175) { goto L_arm_5; } else { goto L_loop_2_i_preheader; }
+    v_r15_i176 = v_r65_i_i < v_r92_i_i;
+    if (v_r15_i176) { goto L_arm_5; } else { goto L_loop_2_i_preheader; }
 L_join_11_i_i:;
     v_r104_i_i = v_r83_i_i == 130u;
     if (v_r104_i_i) { goto L_then_12_i_i; } else { goto L_join_14_i_i; }
@@ -1393,12 +1608,12 @@ L_then_20_i_i:;
     v_r143_i_i = get_u8(v_r117_i_i);
     v_r145_i_i = (u64)v_r143_i_i;
     v_r148_i_i = (u64)((u64)(v_r141_i_i) | (u64)(v_r145_i_i));
-    v_r15_i178 = v_r122_i_i < v_r148_i_i;
-    if (v_r15_i178) { goto L_arm_5; } else { goto L_join_3_i179; }
-L_join_3_i179:;
+    v_r15_i179 = v_r122_i_i < v_r148_i_i;
+    if (v_r15_i179) { goto L_arm_5; } else { goto L_join_3_i180; }
+L_join_3_i180:;
     v_r119_i_i = v_a1 + 4;
-    v_r32_i181 = (u64)((u64)(v_r122_i_i) - (u64)(v_r148_i_i));
-    { p_v_r0_i_sroa_13_01251 = v_r32_i181; p_v_r0_i_sroa_11_01249 = v_r148_i_i; p_v_r0_i_sroa_7_01247 = v_r119_i_i; goto L_join_5_i_preheader; }
+    v_r32_i182 = (u64)((u64)(v_r122_i_i) - (u64)(v_r148_i_i));
+    { p_v_r0_i_sroa_13_01307 = v_r32_i182; p_v_r0_i_sroa_11_01305 = v_r148_i_i; p_v_r0_i_sroa_7_01303 = v_r119_i_i; goto L_join_5_i_preheader; }
 L_join_14_i_i:;
     v_r163_i_i = v_r65_i_i == 0u;
     if (v_r163_i_i) { goto L_arm_5; } else { goto L_join_27_i_i; }
@@ -1413,45 +1628,45 @@ L_then_28_i_i:;
     if (v_r189_i_i) { goto L_then_31_i_i; } else { goto L_arm_5; }
 L_then_31_i_i:;
     v_r199_i_i = (u64)v_r187_i_i;
-    v_r15_i188 = v_r173_i_i < v_r199_i_i;
-    if (v_r15_i188) { goto L_arm_5; } else { goto L_join_3_i189; }
-L_join_3_i189:;
-    v_r32_i191 = (u64)((u64)(v_r173_i_i) - (u64)(v_r199_i_i));
-    { p_v_r0_i_sroa_13_01251 = v_r32_i191; p_v_r0_i_sroa_11_01249 = v_r199_i_i; p_v_r0_i_sroa_7_01247 = v_r170_i_i; goto L_join_5_i_preheader; }
+    v_r15_i189 = v_r173_i_i < v_r199_i_i;
+    if (v_r15_i189) { goto L_arm_5; } else { goto L_join_3_i190; }
+L_join_3_i190:;
+    v_r32_i192 = (u64)((u64)(v_r173_i_i) - (u64)(v_r199_i_i));
+    { p_v_r0_i_sroa_13_01307 = v_r32_i192; p_v_r0_i_sroa_11_01305 = v_r199_i_i; p_v_r0_i_sroa_7_01303 = v_r170_i_i; goto L_join_5_i_preheader; }
 L_loop_2_i_preheader:;
-    v_r32_i177 = (u64)((u64)(v_r65_i_i) - (u64)(v_r92_i_i));
-    v_r7_i1981230 = v_r83_i_i == 0u;
-    if (v_r7_i1981230) { goto L_pkcs1_other_primes_quick_count_exit_thread1294; } else { p_v_r0_i_sroa_13_01251 = v_r32_i177; p_v_r0_i_sroa_11_01249 = v_r92_i_i; p_v_r0_i_sroa_7_01247 = v_r62_i_i; goto L_join_5_i_preheader; }
+    v_r32_i178 = (u64)((u64)(v_r65_i_i) - (u64)(v_r92_i_i));
+    v_r7_i1991286 = v_r83_i_i == 0u;
+    if (v_r7_i1991286) { goto L_pkcs1_other_primes_quick_count_exit_thread1350; } else { p_v_r0_i_sroa_13_01307 = v_r32_i178; p_v_r0_i_sroa_11_01305 = v_r92_i_i; p_v_r0_i_sroa_7_01303 = v_r62_i_i; goto L_join_5_i_preheader; }
 L_join_5_i_preheader:;
-    v_r0_i_sroa_13_01251 = p_v_r0_i_sroa_13_01251;
-    v_r0_i_sroa_11_01249 = p_v_r0_i_sroa_11_01249;
-    v_r0_i_sroa_7_01247 = p_v_r0_i_sroa_7_01247;
-    { p_v_r4_0_i1233 = 0u; p_v_r3_sroa_5_0_i1232 = v_r0_i_sroa_11_01249; p_v_r3_sroa_0_0_i1231 = v_r0_i_sroa_7_01247; goto L_join_5_i; }
+    v_r0_i_sroa_13_01307 = p_v_r0_i_sroa_13_01307;
+    v_r0_i_sroa_11_01305 = p_v_r0_i_sroa_11_01305;
+    v_r0_i_sroa_7_01303 = p_v_r0_i_sroa_7_01303;
+    { p_v_r4_0_i1289 = 0u; p_v_r3_sroa_5_0_i1288 = v_r0_i_sroa_11_01305; p_v_r3_sroa_0_0_i1287 = v_r0_i_sroa_7_01303; goto L_join_5_i; }
 L_join_5_i:;
-    v_r4_0_i1233 = p_v_r4_0_i1233;
-    v_r3_sroa_5_0_i1232 = p_v_r3_sroa_5_0_i1232;
-    v_r3_sroa_0_0_i1231 = p_v_r3_sroa_0_0_i1231;
-    v_r53_i_i76 = v_r3_sroa_5_0_i1232 == 1u;
+    v_r4_0_i1289 = p_v_r4_0_i1289;
+    v_r3_sroa_5_0_i1288 = p_v_r3_sroa_5_0_i1288;
+    v_r3_sroa_0_0_i1287 = p_v_r3_sroa_0_0_i1287;
+    v_r53_i_i76 = v_r3_sroa_5_0_i1288 == 1u;
     if (v_r53_i_i76) { goto L_arm_5; } else { goto L_join_5_i_i77; }
 L_join_5_i_i77:;
-    v_r62_i_i78 = v_r3_sroa_0_0_i1231 + 2;
-    v_r65_i_i79 = (u64)((u64)(v_r3_sroa_5_0_i1232) + (u64)(18446744073709551614ull));
-    v_r73_i_i80 = get_u8(v_r3_sroa_0_0_i1231);
+    v_r62_i_i78 = v_r3_sroa_0_0_i1287 + 2;
+    v_r65_i_i79 = (u64)((u64)(v_r3_sroa_5_0_i1288) + (u64)(18446744073709551614ull));
+    v_r73_i_i80 = get_u8(v_r3_sroa_0_0_i1287);
     v_r78_i_i82 = v_r73_i_i80 == 48u;
     if (v_r78_i_i82) { goto L_then_6_i_i93; } else { goto L_arm_5; }
 L_then_6_i_i93:;
-    v_r60_i_i94 = v_r3_sroa_0_0_i1231 + 1;
+    v_r60_i_i94 = v_r3_sroa_0_0_i1287 + 1;
     v_r83_i_i95 = get_u8(v_r60_i_i94);
     v_r85_i_i96 = (u8)(v_r83_i_i95 ^ ((u8)1 << 7)) > (u8)(255u ^ ((u8)1 << 7));
     if (v_r85_i_i96) { goto L_then_9_i_i137; } else { goto L_join_11_i_i97; }
 L_then_9_i_i137:;
     v_r92_i_i138 = (u64)v_r83_i_i95;
-    v_r15_i199 = v_r65_i_i79 < v_r92_i_i138;
-    v_r29_i201 = (P)((u64)v_r62_i_i78 + (u64)(v_r92_i_i138));
-    v_r32_i202 = (u64)((u64)(v_r65_i_i79) - (u64)(v_r92_i_i138));
+    v_r15_i200 = v_r65_i_i79 < v_r92_i_i138;
+    v_r29_i202 = (P)((u64)v_r62_i_i78 + (u64)(v_r92_i_i138));
+    v_r32_i203 = (u64)((u64)(v_r65_i_i79) - (u64)(v_r92_i_i138));
     v_r53_i_i_i = v_r83_i_i95 < 2u;
-    v_or_cond1309 = (u1)(((u32)(v_r15_i199) | (u32)(v_r53_i_i_i)) & 1);
-    if (v_or_cond1309) { goto L_arm_5; } else { p_v_r0_i75_sroa_11_11267 = v_r92_i_i138; p_v_r0_i75_sroa_12_sroa_7_11265 = v_r32_i202; p_v_r0_i75_sroa_12_sroa_0_11263 = v_r29_i201; p_v_r0_i_i71_sroa_9_11262 = v_r62_i_i78; goto L_join_5_i_i_i; }
+    v_or_cond1365 = (u1)(((u32)(v_r15_i200) | (u32)(v_r53_i_i_i)) & 1);
+    if (v_or_cond1365) { goto L_arm_5; } else { p_v_r0_i75_sroa_11_11323 = v_r92_i_i138; p_v_r0_i75_sroa_12_sroa_7_11321 = v_r32_i203; p_v_r0_i75_sroa_12_sroa_0_11319 = v_r29_i202; p_v_r0_i_i71_sroa_9_11318 = v_r62_i_i78; goto L_join_5_i_i_i; }
 L_join_11_i_i97:;
     v_r104_i_i98 = v_r83_i_i95 == 130u;
     if (v_r104_i_i98) { goto L_then_12_i_i114; } else { goto L_join_14_i_i99; }
@@ -1463,26 +1678,26 @@ L_join_19_i_i116:;
     v_r132_not_i_i118 = v_r130_i_i117 == 0u;
     if (v_r132_not_i_i118) { goto L_arm_5; } else { goto L_then_20_i_i119; }
 L_then_20_i_i119:;
-    v_r122_i_i120 = (u64)((u64)(v_r3_sroa_5_0_i1232) + (u64)(18446744073709551612ull));
-    v_r117_i_i122 = v_r3_sroa_0_0_i1231 + 3;
+    v_r122_i_i120 = (u64)((u64)(v_r3_sroa_5_0_i1288) + (u64)(18446744073709551612ull));
+    v_r117_i_i122 = v_r3_sroa_0_0_i1287 + 3;
     v_r139_i_i123 = (u64)v_r130_i_i117;
     v_r141_i_i124 = (u64)((u64)(v_r139_i_i123) << (u64)((8u & 63)));
     v_r143_i_i125 = get_u8(v_r117_i_i122);
     v_r145_i_i126 = (u64)v_r143_i_i125;
     v_r148_i_i127 = (u64)((u64)(v_r141_i_i124) | (u64)(v_r145_i_i126));
-    v_r15_i209 = v_r122_i_i120 < v_r148_i_i127;
-    if (v_r15_i209) { goto L_arm_5; } else { goto L_join_3_i210; }
-L_join_3_i210:;
-    v_r119_i_i121 = v_r3_sroa_0_0_i1231 + 4;
-    v_r29_i211 = (P)((u64)v_r119_i_i121 + (u64)(v_r148_i_i127));
-    v_r32_i212 = (u64)((u64)(v_r122_i_i120) - (u64)(v_r148_i_i127));
-    { p_v_r0_i75_sroa_11_11267 = v_r148_i_i127; p_v_r0_i75_sroa_12_sroa_7_11265 = v_r32_i212; p_v_r0_i75_sroa_12_sroa_0_11263 = v_r29_i211; p_v_r0_i_i71_sroa_9_11262 = v_r119_i_i121; goto L_join_5_i_i_i; }
+    v_r15_i210 = v_r122_i_i120 < v_r148_i_i127;
+    if (v_r15_i210) { goto L_arm_5; } else { goto L_join_3_i211; }
+L_join_3_i211:;
+    v_r119_i_i121 = v_r3_sroa_0_0_i1287 + 4;
+    v_r29_i212 = (P)((u64)v_r119_i_i121 + (u64)(v_r148_i_i127));
+    v_r32_i213 = (u64)((u64)(v_r122_i_i120) - (u64)(v_r148_i_i127));
+    { p_v_r0_i75_sroa_11_11323 = v_r148_i_i127; p_v_r0_i75_sroa_12_sroa_7_11321 = v_r32_i213; p_v_r0_i75_sroa_12_sroa_0_11319 = v_r29_i212; p_v_r0_i_i71_sroa_9_11318 = v_r119_i_i121; goto L_join_5_i_i_i; }
 L_join_14_i_i99:;
     v_r163_i_i100 = v_r65_i_i79 == 0u;
     if (v_r163_i_i100) { goto L_arm_5; } else { goto L_join_27_i_i101; }
 L_join_27_i_i101:;
-    v_r170_i_i102 = v_r3_sroa_0_0_i1231 + 3;
-    v_r173_i_i103 = (u64)((u64)(v_r3_sroa_5_0_i1232) + (u64)(18446744073709551613ull));
+    v_r170_i_i102 = v_r3_sroa_0_0_i1287 + 3;
+    v_r173_i_i103 = (u64)((u64)(v_r3_sroa_5_0_i1288) + (u64)(18446744073709551613ull));
     v_r182_i_i104 = v_r83_i_i95 == 129u;
     if (v_r182_i_i104) { goto L_then_28_i_i109; } else { goto L_arm_5; }
 L_then_28_i_i109:;
@@ -1491,66 +1706,66 @@ L_then_28_i_i109:;
     if (v_r189_i_i111) { goto L_then_31_i_i112; } else { goto L_arm_5; }
 L_then_31_i_i112:;
     v_r199_i_i113 = (u64)v_r187_i_i110;
-    v_r15_i219 = v_r173_i_i103 < v_r199_i_i113;
-    if (v_r15_i219) { goto L_arm_5; } else { goto L_join_3_i220; }
-L_join_3_i220:;
-    v_r29_i221 = (P)((u64)v_r170_i_i102 + (u64)(v_r199_i_i113));
-    v_r32_i222 = (u64)((u64)(v_r173_i_i103) - (u64)(v_r199_i_i113));
-    { p_v_r0_i75_sroa_11_11267 = v_r199_i_i113; p_v_r0_i75_sroa_12_sroa_7_11265 = v_r32_i222; p_v_r0_i75_sroa_12_sroa_0_11263 = v_r29_i221; p_v_r0_i_i71_sroa_9_11262 = v_r170_i_i102; goto L_join_5_i_i_i; }
+    v_r15_i220 = v_r173_i_i103 < v_r199_i_i113;
+    if (v_r15_i220) { goto L_arm_5; } else { goto L_join_3_i221; }
+L_join_3_i221:;
+    v_r29_i222 = (P)((u64)v_r170_i_i102 + (u64)(v_r199_i_i113));
+    v_r32_i223 = (u64)((u64)(v_r173_i_i103) - (u64)(v_r199_i_i113));
+    { p_v_r0_i75_sroa_11_11323 = v_r199_i_i113; p_v_r0_i75_sroa_12_sroa_7_11321 = v_r32_i223; p_v_r0_i75_sroa_12_sroa_0_11319 = v_r29_i222; p_v_r0_i_i71_sroa_9_11318 = v_r170_i_i102; goto L_join_5_i_i_i; }
 L_join_5_i_i_i:;
-    v_r0_i75_sroa_11_11267 = p_v_r0_i75_sroa_11_11267;
-    v_r0_i75_sroa_12_sroa_7_11265 = p_v_r0_i75_sroa_12_sroa_7_11265;
-    v_r0_i75_sroa_12_sroa_0_11263 = p_v_r0_i75_sroa_12_sroa_0_11263;
-    v_r0_i_i71_sroa_9_11262 = p_v_r0_i_i71_sroa_9_11262;
-    v_r62_i_i_i = v_r0_i_i71_sroa_9_11262 + 2;
-    v_r65_i_i_i = (u64)((u64)(v_r0_i75_sroa_11_11267) + (u64)(18446744073709551614ull));
-    v_r73_i_i_i = get_u8(v_r0_i_i71_sroa_9_11262);
+    v_r0_i75_sroa_11_11323 = p_v_r0_i75_sroa_11_11323;
+    v_r0_i75_sroa_12_sroa_7_11321 = p_v_r0_i75_sroa_12_sroa_7_11321;
+    v_r0_i75_sroa_12_sroa_0_11319 = p_v_r0_i75_sroa_12_sroa_0_11319;
+    v_r0_i_i71_sroa_9_11318 = p_v_r0_i_i71_sroa_9_11318;
+    v_r62_i_i_i = v_r0_i_i71_sroa_9_11318 + 2;
+    v_r65_i_i_i = (u64)((u64)(v_r0_i75_sroa_11_11323) + (u64)(18446744073709551614ull));
+    v_r73_i_i_i = get_u8(v_r0_i_i71_sroa_9_11318);
     v_r78_i_i_i = v_r73_i_i_i == 2u;
     if (v_r78_i_i_i) { goto L_then_6_i_i_i; } else { goto L_arm_5; }
 L_then_6_i_i_i:;
-    v_r60_i_i_i = v_r0_i_i71_sroa_9_11262 + 1;
+    v_r60_i_i_i = v_r0_i_i71_sroa_9_11318 + 1;
     v_r83_i_i_i = get_u8(v_r60_i_i_i);
     v_r85_i_i_i = (u8)(v_r83_i_i_i ^ ((u8)1 << 7)) > (u8)(255u ^ ((u8)1 << 7));
     if (v_r85_i_i_i) { goto L_then_9_i_i_i; } else { goto L_join_11_i_i_i; }
 L_then_9_i_i_i:;
     v_r92_i_i_i = (u64)v_r83_i_i_i;
-    v_r15_i229 = v_r65_i_i_i < v_r92_i_i_i;
-    if (v_r15_i229) { goto L_arm_5; } else { goto L_join_3_i230; }
-L_join_3_i230:;
-    v_r29_i231 = (P)((u64)v_r62_i_i_i + (u64)(v_r92_i_i_i));
-    v_r32_i232 = (u64)((u64)(v_r65_i_i_i) - (u64)(v_r92_i_i_i));
-    { p_v_r0_i_i_i_sroa_9_2 = v_r62_i_i_i; p_v_r0_i_i_i_sroa_15_2 = v_r92_i_i_i; p_v_r0_i_i_i_sroa_21_2 = v_r29_i231; p_v_r0_i_i_i_sroa_27_2 = v_r32_i232; goto L_der_core_integer_uint_UintRefDecodeValueRefSliceU8; }
+    v_r15_i230 = v_r65_i_i_i < v_r92_i_i_i;
+    if (v_r15_i230) { goto L_arm_5; } else { goto L_join_3_i231; }
+L_join_3_i231:;
+    v_r29_i232 = (P)((u64)v_r62_i_i_i + (u64)(v_r92_i_i_i));
+    v_r32_i233 = (u64)((u64)(v_r65_i_i_i) - (u64)(v_r92_i_i_i));
+    { p_v_r0_i_i_i_sroa_9_2 = v_r62_i_i_i; p_v_r0_i_i_i_sroa_15_2 = v_r92_i_i_i; p_v_r0_i_i_i_sroa_21_2 = v_r29_i232; p_v_r0_i_i_i_sroa_27_2 = v_r32_i233; goto L_der_core_integer_uint_UintRefDecodeValueRefSliceU8; }
 L_join_11_i_i_i:;
     v_r104_i_i_i = v_r83_i_i_i == 130u;
     if (v_r104_i_i_i) { goto L_then_12_i_i_i; } else { goto L_join_14_i_i_i; }
 L_then_12_i_i_i:;
-    v_r110_i_i_i = v_r0_i75_sroa_11_11267 < 4u;
+    v_r110_i_i_i = v_r0_i75_sroa_11_11323 < 4u;
     if (v_r110_i_i_i) { goto L_arm_5; } else { goto L_join_19_i_i_i; }
 L_join_19_i_i_i:;
     v_r130_i_i_i = get_u8(v_r62_i_i_i);
     v_r132_not_i_i_i = v_r130_i_i_i == 0u;
     if (v_r132_not_i_i_i) { goto L_arm_5; } else { goto L_then_20_i_i_i; }
 L_then_20_i_i_i:;
-    v_r122_i_i_i = (u64)((u64)(v_r0_i75_sroa_11_11267) + (u64)(18446744073709551612ull));
-    v_r117_i_i_i = v_r0_i_i71_sroa_9_11262 + 3;
+    v_r122_i_i_i = (u64)((u64)(v_r0_i75_sroa_11_11323) + (u64)(18446744073709551612ull));
+    v_r117_i_i_i = v_r0_i_i71_sroa_9_11318 + 3;
     v_r139_i_i_i = (u64)v_r130_i_i_i;
     v_r141_i_i_i = (u64)((u64)(v_r139_i_i_i) << (u64)((8u & 63)));
     v_r143_i_i_i = get_u8(v_r117_i_i_i);
     v_r145_i_i_i = (u64)v_r143_i_i_i;
     v_r148_i_i_i = (u64)((u64)(v_r141_i_i_i) | (u64)(v_r145_i_i_i));
-    v_r15_i239 = v_r122_i_i_i < v_r148_i_i_i;
-    if (v_r15_i239) { goto L_arm_5; } else { goto L_join_3_i240; }
-L_join_3_i240:;
-    v_r119_i_i_i = v_r0_i_i71_sroa_9_11262 + 4;
-    v_r29_i241 = (P)((u64)v_r119_i_i_i + (u64)(v_r148_i_i_i));
-    v_r32_i242 = (u64)((u64)(v_r122_i_i_i) - (u64)(v_r148_i_i_i));
-    { p_v_r0_i_i_i_sroa_9_2 = v_r119_i_i_i; p_v_r0_i_i_i_sroa_15_2 = v_r148_i_i_i; p_v_r0_i_i_i_sroa_21_2 = v_r29_i241; p_v_r0_i_i_i_sroa_27_2 = v_r32_i242; goto L_der_core_integer_uint_UintRefDecodeValueRefSliceU8; }
+    v_r15_i240 = v_r122_i_i_i < v_r148_i_i_i;
+    if (v_r15_i240) { goto L_arm_5; } else { goto L_join_3_i241; }
+L_join_3_i241:;
+    v_r119_i_i_i = v_r0_i_i71_sroa_9_11318 + 4;
+    v_r29_i242 = (P)((u64)v_r119_i_i_i + (u64)(v_r148_i_i_i));
+    v_r32_i243 = (u64)((u64)(v_r122_i_i_i) - (u64)(v_r148_i_i_i));
+    { p_v_r0_i_i_i_sroa_9_2 = v_r119_i_i_i; p_v_r0_i_i_i_sroa_15_2 = v_r148_i_i_i; p_v_r0_i_i_i_sroa_21_2 = v_r29_i242; p_v_r0_i_i_i_sroa_27_2 = v_r32_i243; goto L_der_core_integer_uint_UintRefDecodeValueRefSliceU8; }
 L_join_14_i_i_i:;
     v_r163_i_i_i = v_r65_i_i_i == 0u;
     if (v_r163_i_i_i) { goto L_arm_5; } else { goto L_join_27_i_i_i; }
 L_join_27_i_i_i:;
-    v_r170_i_i_i = v_r0_i_i71_sroa_9_11262 + 3;
-    v_r173_i_i_i = (u64)((u64)(v_r0_i75_sroa_11_11267) + (u64)(18446744073709551613ull));
+    v_r170_i_i_i = v_r0_i_i71_sroa_9_11318 + 3;
+    v_r173_i_i_i = (u64)((u64)(v_r0_i75_sroa_11_11323) + (u64)(18446744073709551613ull));
     v_r182_i_i_i = v_r83_i_i_i == 129u;
     if (v_r182_i_i_i) { goto L_then_28_i_i_i; } else { goto L_arm_5; }
 L_then_28_i_i_i:;
@@ -1559,12 +1774,12 @@ L_then_28_i_i_i:;
     if (v_r189_i_i_i) { goto L_then_31_i_i_i; } else { goto L_arm_5; }
 L_then_31_i_i_i:;
     v_r199_i_i_i = (u64)v_r187_i_i_i;
-    v_r15_i249 = v_r173_i_i_i < v_r199_i_i_i;
-    if (v_r15_i249) { goto L_arm_5; } else { goto L_join_3_i250; }
-L_join_3_i250:;
-    v_r29_i251 = (P)((u64)v_r170_i_i_i + (u64)(v_r199_i_i_i));
-    v_r32_i252 = (u64)((u64)(v_r173_i_i_i) - (u64)(v_r199_i_i_i));
-    { p_v_r0_i_i_i_sroa_9_2 = v_r170_i_i_i; p_v_r0_i_i_i_sroa_15_2 = v_r199_i_i_i; p_v_r0_i_i_i_sroa_21_2 = v_r29_i251; p_v_r0_i_i_i_sroa_27_2 = v_r32_i252; goto L_der_core_integer_uint_UintRefDecodeValueRefSliceU8; }
+    v_r15_i250 = v_r173_i_i_i < v_r199_i_i_i;
+    if (v_r15_i250) { goto L_arm_5; } else { goto L_join_3_i251; }
+L_join_3_i251:;
+    v_r29_i252 = (P)((u64)v_r170_i_i_i + (u64)(v_r199_i_i_i));
+    v_r32_i253 = (u64)((u64)(v_r173_i_i_i) - (u64)(v_r199_i_i_i));
+    { p_v_r0_i_i_i_sroa_9_2 = v_r170_i_i_i; p_v_r0_i_i_i_sroa_15_2 = v_r199_i_i_i; p_v_r0_i_i_i_sroa_21_2 = v_r29_i252; p_v_r0_i_i_i_sroa_27_2 = v_r32_i253; goto L_der_core_integer_uint_UintRefDecodeValueRefSliceU8; }
 L_der_core_integer_uint_UintRefDecodeValueRefSliceU8:;
     v_r0_i_i_i_sroa_9_2 = p_v_r0_i_i_i_sroa_9_2;
     v_r0_i_i_i_sroa_15_2 = p_v_r0_i_i_i_sroa_15_2;
@@ -1582,15 +1797,15 @@ L_arm_6_i112_i:;
 L_default_7_i_i:;
     v_r73_i_i174 = (u8)(v_r34_i_i ^ ((u8)1 << 7)) < (u8)(0u ^ ((u8)1 << 7));
     v_r53_i_i43_i_old = v_r0_i_i_i_sroa_27_2 < 2u;
-    v_or_cond1311 = v_r73_i_i174 ? 1u : v_r53_i_i43_i_old;
-    if (v_or_cond1311) { goto L_arm_5; } else { goto L_join_5_i_i44_i; }
+    v_or_cond1367 = v_r73_i_i174 ? 1u : v_r53_i_i43_i_old;
+    if (v_or_cond1367) { goto L_arm_5; } else { goto L_join_5_i_i44_i; }
 L_der_core_integer_uint_UintRefDecodeValueRefSliceU8__2:;
     v_r37_i_i = v_r0_i_i_i_sroa_9_2 + 1;
     v_r56_i_i = get_u8(v_r37_i_i);
     v_not = (u8)(v_r56_i_i ^ ((u8)1 << 7)) > (u8)(255u ^ ((u8)1 << 7));
     v_r53_i_i43_i = v_r0_i_i_i_sroa_27_2 < 2u;
-    v_or_cond1310 = v_not ? 1u : v_r53_i_i43_i;
-    if (v_or_cond1310) { goto L_arm_5; } else { goto L_join_5_i_i44_i; }
+    v_or_cond1366 = v_not ? 1u : v_r53_i_i43_i;
+    if (v_or_cond1366) { goto L_arm_5; } else { goto L_join_5_i_i44_i; }
 L_arm_1_i162:;
     v_r53_i_i43_i_old_old = v_r0_i_i_i_sroa_27_2 < 2u;
     if (v_r53_i_i43_i_old_old) { goto L_arm_5; } else { goto L_join_5_i_i44_i; }
@@ -1607,12 +1822,12 @@ L_then_6_i_i60_i:;
     if (v_r85_i_i63_i) { goto L_then_9_i_i104_i; } else { goto L_join_11_i_i64_i; }
 L_then_9_i_i104_i:;
     v_r92_i_i105_i = (u64)v_r83_i_i62_i;
-    v_r15_i259 = v_r65_i_i46_i < v_r92_i_i105_i;
-    if (v_r15_i259) { goto L_arm_5; } else { goto L_join_3_i260; }
-L_join_3_i260:;
-    v_r29_i261 = (P)((u64)v_r62_i_i45_i + (u64)(v_r92_i_i105_i));
-    v_r32_i262 = (u64)((u64)(v_r65_i_i46_i) - (u64)(v_r92_i_i105_i));
-    { p_v_r0_i_i38_i_sroa_9_2 = v_r62_i_i45_i; p_v_r0_i_i38_i_sroa_15_2 = v_r92_i_i105_i; p_v_r0_i_i38_i_sroa_21_2 = v_r29_i261; p_v_r0_i_i38_i_sroa_27_2 = v_r32_i262; goto L_der_core_integer_uint_UintRefDecodeValueRefSliceU8__3; }
+    v_r15_i260 = v_r65_i_i46_i < v_r92_i_i105_i;
+    if (v_r15_i260) { goto L_arm_5; } else { goto L_join_3_i261; }
+L_join_3_i261:;
+    v_r29_i262 = (P)((u64)v_r62_i_i45_i + (u64)(v_r92_i_i105_i));
+    v_r32_i263 = (u64)((u64)(v_r65_i_i46_i) - (u64)(v_r92_i_i105_i));
+    { p_v_r0_i_i38_i_sroa_9_2 = v_r62_i_i45_i; p_v_r0_i_i38_i_sroa_15_2 = v_r92_i_i105_i; p_v_r0_i_i38_i_sroa_21_2 = v_r29_i262; p_v_r0_i_i38_i_sroa_27_2 = v_r32_i263; goto L_der_core_integer_uint_UintRefDecodeValueRefSliceU8__3; }
 L_join_11_i_i64_i:;
     v_r104_i_i65_i = v_r83_i_i62_i == 130u;
     if (v_r104_i_i65_i) { goto L_then_12_i_i81_i; } else { goto L_join_14_i_i66_i; }
@@ -1631,13 +1846,13 @@ L_then_20_i_i86_i:;
     v_r143_i_i92_i = get_u8(v_r117_i_i89_i);
     v_r145_i_i93_i = (u64)v_r143_i_i92_i;
     v_r148_i_i94_i = (u64)((u64)(v_r141_i_i91_i) | (u64)(v_r145_i_i93_i));
-    v_r15_i269 = v_r122_i_i87_i < v_r148_i_i94_i;
-    if (v_r15_i269) { goto L_arm_5; } else { goto L_join_3_i270; }
-L_join_3_i270:;
+    v_r15_i270 = v_r122_i_i87_i < v_r148_i_i94_i;
+    if (v_r15_i270) { goto L_arm_5; } else { goto L_join_3_i271; }
+L_join_3_i271:;
     v_r119_i_i88_i = v_r0_i_i_i_sroa_21_2 + 4;
-    v_r29_i271 = (P)((u64)v_r119_i_i88_i + (u64)(v_r148_i_i94_i));
-    v_r32_i272 = (u64)((u64)(v_r122_i_i87_i) - (u64)(v_r148_i_i94_i));
-    { p_v_r0_i_i38_i_sroa_9_2 = v_r119_i_i88_i; p_v_r0_i_i38_i_sroa_15_2 = v_r148_i_i94_i; p_v_r0_i_i38_i_sroa_21_2 = v_r29_i271; p_v_r0_i_i38_i_sroa_27_2 = v_r32_i272; goto L_der_core_integer_uint_UintRefDecodeValueRefSliceU8__3; }
+    v_r29_i272 = (P)((u64)v_r119_i_i88_i + (u64)(v_r148_i_i94_i));
+    v_r32_i273 = (u64)((u64)(v_r122_i_i87_i) - (u64)(v_r148_i_i94_i));
+    { p_v_r0_i_i38_i_sroa_9_2 = v_r119_i_i88_i; p_v_r0_i_i38_i_sroa_15_2 = v_r148_i_i94_i; p_v_r0_i_i38_i_sroa_21_2 = v_r29_i272; p_v_r0_i_i38_i_sroa_27_2 = v_r32_i273; goto L_der_core_integer_uint_UintRefDecodeValueRefSliceU8__3; }
 L_join_14_i_i66_i:;
     v_r163_i_i67_i = v_r65_i_i46_i == 0u;
     if (v_r163_i_i67_i) { goto L_arm_5; } else { goto L_join_27_i_i68_i; }
@@ -1652,12 +1867,12 @@ L_then_28_i_i76_i:;
     if (v_r189_i_i78_i) { goto L_then_31_i_i79_i; } else { goto L_arm_5; }
 L_then_31_i_i79_i:;
     v_r199_i_i80_i = (u64)v_r187_i_i77_i;
-    v_r15_i279 = v_r173_i_i70_i < v_r199_i_i80_i;
-    if (v_r15_i279) { goto L_arm_5; } else { goto L_join_3_i280; }
-L_join_3_i280:;
-    v_r29_i281 = (P)((u64)v_r170_i_i69_i + (u64)(v_r199_i_i80_i));
-    v_r32_i282 = (u64)((u64)(v_r173_i_i70_i) - (u64)(v_r199_i_i80_i));
-    { p_v_r0_i_i38_i_sroa_9_2 = v_r170_i_i69_i; p_v_r0_i_i38_i_sroa_15_2 = v_r199_i_i80_i; p_v_r0_i_i38_i_sroa_21_2 = v_r29_i281; p_v_r0_i_i38_i_sroa_27_2 = v_r32_i282; goto L_der_core_integer_uint_UintRefDecodeValueRefSliceU8__3; }
+    v_r15_i280 = v_r173_i_i70_i < v_r199_i_i80_i;
+    if (v_r15_i280) { goto L_arm_5; } else { goto L_join_3_i281; }
+L_join_3_i281:;
+    v_r29_i282 = (P)((u64)v_r170_i_i69_i + (u64)(v_r199_i_i80_i));
+    v_r32_i283 = (u64)((u64)(v_r173_i_i70_i) - (u64)(v_r199_i_i80_i));
+    { p_v_r0_i_i38_i_sroa_9_2 = v_r170_i_i69_i; p_v_r0_i_i38_i_sroa_15_2 = v_r199_i_i80_i; p_v_r0_i_i38_i_sroa_21_2 = v_r29_i282; p_v_r0_i_i38_i_sroa_27_2 = v_r32_i283; goto L_der_core_integer_uint_UintRefDecodeValueRefSliceU8__3; }
 L_der_core_integer_uint_UintRefDecodeValueRefSliceU8__3:;
     v_r0_i_i38_i_sroa_9_2 = p_v_r0_i_i38_i_sroa_9_2;
     v_r0_i_i38_i_sroa_15_2 = p_v_r0_i_i38_i_sroa_15_2;
@@ -1675,15 +1890,15 @@ L_arm_6_i126_i:;
 L_default_7_i118_i:;
     v_r73_i119_i = (u8)(v_r34_i116_i ^ ((u8)1 << 7)) < (u8)(0u ^ ((u8)1 << 7));
     v_r53_i_i_i_i_old = v_r0_i_i38_i_sroa_27_2 < 2u;
-    v_or_cond1313 = v_r73_i119_i ? 1u : v_r53_i_i_i_i_old;
-    if (v_or_cond1313) { goto L_arm_5; } else { goto L_join_5_i_i_i_i; }
+    v_or_cond1369 = v_r73_i119_i ? 1u : v_r53_i_i_i_i_old;
+    if (v_or_cond1369) { goto L_arm_5; } else { goto L_join_5_i_i_i_i; }
 L_der_core_integer_uint_UintRefDecodeValueRefSliceU8__4:;
     v_r37_i127_i = v_r0_i_i38_i_sroa_9_2 + 1;
     v_r56_i131_i = get_u8(v_r37_i127_i);
-    v_not1223 = (u8)(v_r56_i131_i ^ ((u8)1 << 7)) > (u8)(255u ^ ((u8)1 << 7));
+    v_not1279 = (u8)(v_r56_i131_i ^ ((u8)1 << 7)) > (u8)(255u ^ ((u8)1 << 7));
     v_r53_i_i_i_i = v_r0_i_i38_i_sroa_27_2 < 2u;
-    v_or_cond1312 = v_not1223 ? 1u : v_r53_i_i_i_i;
-    if (v_or_cond1312) { goto L_arm_5; } else { goto L_join_5_i_i_i_i; }
+    v_or_cond1368 = v_not1279 ? 1u : v_r53_i_i_i_i;
+    if (v_or_cond1368) { goto L_arm_5; } else { goto L_join_5_i_i_i_i; }
 L_arm_1_i_i:;
     v_r53_i_i_i_i_old_old = v_r0_i_i38_i_sroa_27_2 < 2u;
     if (v_r53_i_i_i_i_old_old) { goto L_arm_5; } else { goto L_join_5_i_i_i_i; }
@@ -1700,11 +1915,11 @@ L_then_6_i_i_i_i:;
     if (v_r85_i_i_i_i) { goto L_then_9_i_i_i_i; } else { goto L_join_11_i_i_i_i; }
 L_then_9_i_i_i_i:;
     v_r92_i_i_i_i = (u64)v_r83_i_i_i_i;
-    v_r15_i289 = v_r65_i_i_i_i < v_r92_i_i_i_i;
-    if (v_r15_i289) { goto L_arm_5; } else { goto L_join_3_i290; }
-L_join_3_i290:;
-    v_r32_i292 = (u64)((u64)(v_r65_i_i_i_i) - (u64)(v_r92_i_i_i_i));
-    { p_v_r0_i_i_i_i_sroa_9_3 = v_r62_i_i_i_i; p_v_r0_i_i_i_i_sroa_15_3 = v_r92_i_i_i_i; p_v_r0_i_i_i_i_sroa_27_3 = v_r32_i292; goto L_der_core_integer_uint_UintRefDecodeValueRefSliceU8__5; }
+    v_r15_i290 = v_r65_i_i_i_i < v_r92_i_i_i_i;
+    if (v_r15_i290) { goto L_arm_5; } else { goto L_join_3_i291; }
+L_join_3_i291:;
+    v_r32_i293 = (u64)((u64)(v_r65_i_i_i_i) - (u64)(v_r92_i_i_i_i));
+    { p_v_r0_i_i_i_i_sroa_9_3 = v_r62_i_i_i_i; p_v_r0_i_i_i_i_sroa_15_3 = v_r92_i_i_i_i; p_v_r0_i_i_i_i_sroa_27_3 = v_r32_i293; goto L_der_core_integer_uint_UintRefDecodeValueRefSliceU8__5; }
 L_join_11_i_i_i_i:;
     v_r104_i_i_i_i = v_r83_i_i_i_i == 130u;
     if (v_r104_i_i_i_i) { goto L_then_12_i_i_i_i; } else { goto L_join_14_i_i_i_i; }
@@ -1723,12 +1938,12 @@ L_then_20_i_i_i_i:;
     v_r143_i_i_i_i = get_u8(v_r117_i_i_i_i);
     v_r145_i_i_i_i = (u64)v_r143_i_i_i_i;
     v_r148_i_i_i_i = (u64)((u64)(v_r141_i_i_i_i) | (u64)(v_r145_i_i_i_i));
-    v_r15_i299 = v_r122_i_i_i_i < v_r148_i_i_i_i;
-    if (v_r15_i299) { goto L_arm_5; } else { goto L_join_3_i300; }
-L_join_3_i300:;
+    v_r15_i300 = v_r122_i_i_i_i < v_r148_i_i_i_i;
+    if (v_r15_i300) { goto L_arm_5; } else { goto L_join_3_i301; }
+L_join_3_i301:;
     v_r119_i_i_i_i = v_r0_i_i38_i_sroa_21_2 + 4;
-    v_r32_i302 = (u64)((u64)(v_r122_i_i_i_i) - (u64)(v_r148_i_i_i_i));
-    { p_v_r0_i_i_i_i_sroa_9_3 = v_r119_i_i_i_i; p_v_r0_i_i_i_i_sroa_15_3 = v_r148_i_i_i_i; p_v_r0_i_i_i_i_sroa_27_3 = v_r32_i302; goto L_der_core_integer_uint_UintRefDecodeValueRefSliceU8__5; }
+    v_r32_i303 = (u64)((u64)(v_r122_i_i_i_i) - (u64)(v_r148_i_i_i_i));
+    { p_v_r0_i_i_i_i_sroa_9_3 = v_r119_i_i_i_i; p_v_r0_i_i_i_i_sroa_15_3 = v_r148_i_i_i_i; p_v_r0_i_i_i_i_sroa_27_3 = v_r32_i303; goto L_der_core_integer_uint_UintRefDecodeValueRefSliceU8__5; }
 L_join_14_i_i_i_i:;
     v_r163_i_i_i_i = v_r65_i_i_i_i == 0u;
     if (v_r163_i_i_i_i) { goto L_arm_5; } else { goto L_join_27_i_i_i_i; }
@@ -1743,11 +1958,11 @@ L_then_28_i_i_i_i:;
     if (v_r189_i_i_i_i) { goto L_then_31_i_i_i_i; } else { goto L_arm_5; }
 L_then_31_i_i_i_i:;
     v_r199_i_i_i_i = (u64)v_r187_i_i_i_i;
-    v_r15_i309 = v_r173_i_i_i_i < v_r199_i_i_i_i;
-    if (v_r15_i309) { goto L_arm_5; } else { goto L_join_3_i310; }
-L_join_3_i310:;
-    v_r32_i312 = (u64)((u64)(v_r173_i_i_i_i) - (u64)(v_r199_i_i_i_i));
-    { p_v_r0_i_i_i_i_sroa_9_3 = v_r170_i_i_i_i; p_v_r0_i_i_i_i_sroa_15_3 = v_r199_i_i_i_i; p_v_r0_i_i_i_i_sroa_27_3 = v_r32_i312; goto L_der_core_integer_uint_UintRefDecodeValueRefSliceU8__5; }
+    v_r15_i310 = v_r173_i_i_i_i < v_r199_i_i_i_i;
+    if (v_r15_i310) { goto L_arm_5; } else { goto L_join_3_i311; }
+L_join_3_i311:;
+    v_r32_i313 = (u64)((u64)(v_r173_i_i_i_i) - (u64)(v_r199_i_i_i_i));
+    { p_v_r0_i_i_i_i_sroa_9_3 = v_r170_i_i_i_i; p_v_r0_i_i_i_i_sroa_15_3 = v_r199_i_i_i_i; p_v_r0_i_i_i_i_sroa_27_3 = v_r32_i313; goto L_der_core_integer_uint_UintRefDecodeValueRefSliceU8__5; }
 L_der_core_integer_uint_UintRefDecodeValueRefSliceU8__5:;
     v_r0_i_i_i_i_sroa_9_3 = p_v_r0_i_i_i_i_sroa_9_3;
     v_r0_i_i_i_i_sroa_15_3 = p_v_r0_i_i_i_i_sroa_15_3;
@@ -1763,29 +1978,29 @@ L_arm_6_i_i_i:;
     if (v_r47_i_i_i) { goto L_arm_1_i141_i; } else { goto L_der_core_integer_uint_UintRefDecodeValueRefSliceU8__6; }
 L_default_7_i_i_i:;
     v_r73_i_i150_i = (u8)(v_r34_i_i_i ^ ((u8)1 << 7)) > (u8)(255u ^ ((u8)1 << 7));
-    v_r7_i319_old = v_r0_i_i_i_i_sroa_27_3 == 0u;
-    v_or_cond1225 = v_r73_i_i150_i ? v_r7_i319_old : 0u;
-    if (v_or_cond1225) { goto L_arm_5_i_i; } else { goto L_arm_5; }
+    v_r7_i320_old = v_r0_i_i_i_i_sroa_27_3 == 0u;
+    v_or_cond1281 = v_r73_i_i150_i ? v_r7_i320_old : 0u;
+    if (v_or_cond1281) { goto L_arm_5_i_i; } else { goto L_arm_5; }
 L_der_core_integer_uint_UintRefDecodeValueRefSliceU8__6:;
     v_r37_i_i_i = v_r0_i_i_i_i_sroa_9_3 + 1;
     v_r56_i_i_i = get_u8(v_r37_i_i_i);
-    v_not1224 = (u8)(v_r56_i_i_i ^ ((u8)1 << 7)) < (u8)(0u ^ ((u8)1 << 7));
-    v_r7_i319 = v_r0_i_i_i_i_sroa_27_3 == 0u;
-    v_or_cond = v_not1224 ? v_r7_i319 : 0u;
+    v_not1280 = (u8)(v_r56_i_i_i ^ ((u8)1 << 7)) < (u8)(0u ^ ((u8)1 << 7));
+    v_r7_i320 = v_r0_i_i_i_i_sroa_27_3 == 0u;
+    v_or_cond = v_not1280 ? v_r7_i320 : 0u;
     if (v_or_cond) { goto L_arm_5_i_i; } else { goto L_arm_5; }
 L_arm_1_i141_i:;
-    v_r7_i319_old_old = v_r0_i_i_i_i_sroa_27_3 == 0u;
-    if (v_r7_i319_old_old) { goto L_arm_5_i_i; } else { goto L_arm_5; }
+    v_r7_i320_old_old = v_r0_i_i_i_i_sroa_27_3 == 0u;
+    if (v_r7_i320_old_old) { goto L_arm_5_i_i; } else { goto L_arm_5; }
 L_arm_5_i_i:;
-    v_r39_i29 = (u64)((u64)(v_r4_0_i1233) + (u64)(1u));
-    v_r7_i198 = v_r0_i75_sroa_12_sroa_7_11265 == 0u;
-    if (v_r7_i198) { goto L_pkcs1_other_primes_quick_count_exit; } else { p_v_r4_0_i1233 = v_r39_i29; p_v_r3_sroa_5_0_i1232 = v_r0_i75_sroa_12_sroa_7_11265; p_v_r3_sroa_0_0_i1231 = v_r0_i75_sroa_12_sroa_0_11263; goto L_join_5_i; }
+    v_r39_i29 = (u64)((u64)(v_r4_0_i1289) + (u64)(1u));
+    v_r7_i199 = v_r0_i75_sroa_12_sroa_7_11321 == 0u;
+    if (v_r7_i199) { goto L_pkcs1_other_primes_quick_count_exit; } else { p_v_r4_0_i1289 = v_r39_i29; p_v_r3_sroa_5_0_i1288 = v_r0_i75_sroa_12_sroa_7_11321; p_v_r3_sroa_0_0_i1287 = v_r0_i75_sroa_12_sroa_0_11319; goto L_join_5_i; }
 L_pkcs1_other_primes_quick_count_exit:;
-    v_r7_i338 = v_r0_i_sroa_13_01251 == 0u;
-    if (v_r7_i338) { goto L_arm_4; } else { goto L_arm_5; }
-L_pkcs1_other_primes_quick_count_exit_thread1294:;
-    v_r7_i3381300 = v_r32_i177 == 0u;
-    if (v_r7_i3381300) { p_v_r15_sroa_4_sroa_0_sroa_3_0 = 0u; p_v_r15_sroa_4_sroa_0_sroa_0_0 = (P)0; p_v_r15_sroa_4_sroa_3_0 = 0u; p_v_r15_sroa_0_sroa_0_0 = 0u; goto L_join_10; } else { goto L_arm_5; }
+    v_r7_i340 = v_r0_i_sroa_13_01307 == 0u;
+    if (v_r7_i340) { goto L_arm_4; } else { goto L_arm_5; }
+L_pkcs1_other_primes_quick_count_exit_thread1350:;
+    v_r7_i3401356 = v_r32_i178 == 0u;
+    if (v_r7_i3401356) { p_v_r15_sroa_4_sroa_0_sroa_3_0 = 0u; p_v_r15_sroa_4_sroa_0_sroa_0_0 = (P)0; p_v_r15_sroa_4_sroa_3_0 = 0u; p_v_r15_sroa_0_sroa_0_0 = 0u; goto L_join_10; } else { goto L_arm_5; }
 L_arm_4:;
     v_r46 = v_r39_i29 == 0u;
     if (v_r46) { p_v_r15_sroa_4_sroa_0_sroa_3_0 = 0u; p_v_r15_sroa_4_sroa_0_sroa_0_0 = (P)0; p_v_r15_sroa_4_sroa_3_0 = 0u; p_v_r15_sroa_0_sroa_0_0 = 0u; goto L_join_10; } else { goto L_else_9; }
@@ -1793,7 +2008,7 @@ L_arm_5:;
     fill(v_a0, 0u, 32u);
     { goto L_common_ret; }
 L_else_9:;
-    { p_v_r15_sroa_4_sroa_0_sroa_3_0 = v_r0_i_sroa_11_01249; p_v_r15_sroa_4_sroa_0_sroa_0_0 = v_r0_i_sroa_7_01247; p_v_r15_sroa_4_sroa_3_0 = v_r39_i29; p_v_r15_sroa_0_sroa_0_0 = 1u; goto L_join_10; }
+    { p_v_r15_sroa_4_sroa_0_sroa_3_0 = v_r0_i_sroa_11_01305; p_v_r15_sroa_4_sroa_0_sroa_0_0 = v_r0_i_sroa_7_01303; p_v_r15_sroa_4_sroa_3_0 = v_r39_i29; p_v_r15_sroa_0_sroa_0_0 = 1u; goto L_join_10; }
 L_join_10:;
     v_r15_sroa_4_sroa_0_sroa_3_0 = p_v_r15_sroa_4_sroa_0_sroa_3_0;
     v_r15_sroa_4_sroa_0_sroa_0_0 = p_v_r15_sroa_4_sroa_0_sroa_0_0;
@@ -1808,7 +2023,7 @@ L_join_10:;
     put_u64(v_r0_sroa_10_8_r57_sroa_idx, v_r15_sroa_4_sroa_3_0);
     { goto L_common_ret; }
 }
-static void f_der_core_decode_read_slowly_025ef17fb6cfc887(P v_a0, P v_a1, u64 v_a2) {
+static void f_der_core_decode_read_slowly_746ba62194330879(P v_a0, P v_a1, u64 v_a2) {
     ALIGNED(8) unsigned char m_v_r6_i26_i_i_i[24];
     ALIGNED(8) unsigned char m_v_r30_i39_i_i_i[32];
     ALIGNED(4) unsigned char m_v_r0_i19_sroa_27_i_i_sroa_0_i[20];
@@ -4511,21 +4726,21 @@ L_arm_9:;
     { goto L_common_ret; }
 }
 static void f_pkcs1_other_primes_OtherPrimesDecodeValueRefSliceU(P v_a0, P v_a1, u32 v_a3) {
-    u64 p_v_r6_05880_i;
-    u64 p_v_r3_sroa_11_05879_i;
-    P p_v_r3_sroa_0_05878_i;
-    u64 p_v_r3_sroa_11_43422_i;
-    P p_v_r3_sroa_0_43420_i;
+    u64 p_v_r6_05761_i;
+    u64 p_v_r3_sroa_11_05760_i;
+    P p_v_r3_sroa_0_05759_i;
+    u64 p_v_r3_sroa_11_43423_i;
+    P p_v_r3_sroa_0_43421_i;
     u64 p_v_r12_sroa_10_0_i_i;
-    u64 p_v_r6_i12_sroa_30_53863_i;
-    P p_v_r6_i12_sroa_0_53861_i;
-    u32 p_v_r12_sroa_10_0_i1521_i;
-    u64 p_v_r6_i12_sroa_30_104449_i;
-    P p_v_r6_i12_sroa_0_104447_i;
-    u32 p_v_r12_sroa_10_0_i1861_i;
-    u64 p_v_r6_i12_sroa_30_155035_i;
-    P p_v_r6_i12_sroa_0_155033_i;
-    u32 p_v_r12_sroa_10_0_i2214_i;
+    u64 p_v_r6_i12_sroa_30_53864_i;
+    P p_v_r6_i12_sroa_0_53862_i;
+    u32 p_v_r12_sroa_10_0_i1522_i;
+    u64 p_v_r6_i12_sroa_30_104450_i;
+    P p_v_r6_i12_sroa_0_104448_i;
+    u32 p_v_r12_sroa_10_0_i1862_i;
+    u64 p_v_r6_i12_sroa_30_155036_i;
+    P p_v_r6_i12_sroa_0_155034_i;
+    u32 p_v_r12_sroa_10_0_i2215_i;
     u8 p_v_r10_sroa_0_sroa_5_0_ph;
     u8 p_v_r14_sroa_0_sroa_5_0_ph;
     u8 p_v_r14_sroa_0_sroa_8_0_ph;
@@ -4547,35 +4762,35 @@ static void f_pkcs1_other_primes_OtherPrimesDecodeValueRefSliceU(P v_a0, P v_a1,
     P v_r13_sroa_0_0_copyload_i;
     P v_r16_i_i;
     u64 v_r19_i_i;
-    u1 v_r12_i_i_i_not_i5877_i;
-    u64 v_r6_05880_i;
-    u64 v_r3_sroa_11_05879_i;
-    P v_r3_sroa_0_05878_i;
-    P v_r16_i_i_i1121_i;
-    u8 v_r29_i1123_i;
+    u1 v_r12_i_i_i_not_i5758_i;
+    u64 v_r6_05761_i;
+    u64 v_r3_sroa_11_05760_i;
+    P v_r3_sroa_0_05759_i;
+    P v_r16_i_i_i1122_i;
+    u8 v_r29_i1124_i;
     u1 v_r8_i_i_i;
-    u8 v_r9_i1136_i;
-    u1 v_r11_i1137_i;
+    u8 v_r9_i1137_i;
+    u1 v_r11_i1138_i;
     u8 v_0;
     u1 v_1;
     u1 v_r2_0_in_i_not_i;
-    u1 v_r39_i_i1153_i;
-    P v_r16_i_i_i1156_i;
-    u64 v_r19_i_i_i1157_i;
-    u8 v_r29_i1158_i;
+    u1 v_r39_i_i1154_i;
+    P v_r16_i_i_i1157_i;
+    u64 v_r19_i_i_i1158_i;
+    u8 v_r29_i1159_i;
     u1 v_r51_i132_i;
     u64 v_r56_i174_i;
     u1 v_r68_i134_i;
     u1 v_r87_i135_i;
     u8 v_r106_i136_i;
     u64 v_r3_i25_i_i;
-    u1 v_r39_i1201_i;
-    P v_r16_i_i1203_i;
-    u64 v_r19_i_i1204_i;
-    u8 v_r36_i1235_i;
-    u1 v_r38_i1236_i;
-    u8 v_r28_i1232_i;
-    u1 v_r30_i1233_i;
+    u1 v_r39_i1202_i;
+    P v_r16_i_i1204_i;
+    u64 v_r19_i_i1205_i;
+    u8 v_r36_i1236_i;
+    u1 v_r38_i1237_i;
+    u8 v_r28_i1233_i;
+    u1 v_r30_i1234_i;
     u64 v_r71_i_i_i;
     u1 v_r74_i_i_i;
     P v_r81_i_i_i;
@@ -4613,38 +4828,38 @@ static void f_pkcs1_other_primes_OtherPrimesDecodeValueRefSliceU(P v_a0, P v_a1,
     u8 v_r177_i_i_i;
     u64 v_r179_i_i_i;
     u64 v_r182_i_i_i;
-    u64 v_r3_sroa_11_43422_i;
-    P v_r3_sroa_0_43420_i;
+    u64 v_r3_sroa_11_43423_i;
+    P v_r3_sroa_0_43421_i;
     u64 v_r12_sroa_10_0_i_i;
-    u1 v_r39_i_i1317_i;
-    P v_r16_i_i_i1320_i;
-    u64 v_r19_i_i_i1321_i;
-    u1 v_r39_i_i1355_i;
-    P v_r16_i_i_i1358_i;
-    u8 v_r29_i1360_i;
+    u1 v_r39_i_i1318_i;
+    P v_r16_i_i_i1321_i;
+    u64 v_r19_i_i_i1322_i;
+    u1 v_r39_i_i1356_i;
+    P v_r16_i_i_i1359_i;
+    u8 v_r29_i1361_i;
     u1 v_r8_i_i_i_i;
-    u8 v_r9_i1382_i;
-    u1 v_r11_i1383_i;
+    u8 v_r9_i1383_i;
+    u1 v_r11_i1384_i;
     u8 v_2;
     u1 v_3;
-    u1 v_r2_0_in_i1384_not_i;
-    u1 v_r39_i_i1403_i;
-    P v_r16_i_i_i1406_i;
-    u64 v_r19_i_i_i1407_i;
-    u8 v_r29_i1408_i;
+    u1 v_r2_0_in_i1385_not_i;
+    u1 v_r39_i_i1404_i;
+    P v_r16_i_i_i1407_i;
+    u64 v_r19_i_i_i1408_i;
+    u8 v_r29_i1409_i;
     u1 v_r51_i53_i_i;
     u32 v_r56_i64_i_i;
     u1 v_r68_i55_i_i;
-    u1 v_r87_i_i404_i;
-    u8 v_r106_i_i406_i;
-    u64 v_r3_i25_i1450_i;
-    u1 v_r39_i1453_i;
-    P v_r16_i_i1457_i;
-    u64 v_r19_i_i1458_i;
-    u8 v_r36_i1495_i;
-    u1 v_r38_i1496_i;
-    u8 v_r28_i1491_i;
-    u1 v_r30_i1492_i;
+    u1 v_r87_i_i405_i;
+    u8 v_r106_i_i407_i;
+    u64 v_r3_i25_i1451_i;
+    u1 v_r39_i1454_i;
+    P v_r16_i_i1458_i;
+    u64 v_r19_i_i1459_i;
+    u8 v_r36_i1496_i;
+    u1 v_r38_i1497_i;
+    u8 v_r28_i1492_i;
+    u1 v_r30_i1493_i;
     u32 v_r71_i_i_i_i;
     u1 v_r74_i_i_i_i;
     P v_r81_i_i_i_i;
@@ -4682,48 +4897,48 @@ static void f_pkcs1_other_primes_OtherPrimesDecodeValueRefSliceU(P v_a0, P v_a1,
     u8 v_r177_i_i_i_i;
     u32 v_r179_i_i_i_i;
     u32 v_r182_i_i_i_i;
-    u64 v_r6_i12_sroa_30_53863_i;
-    P v_r6_i12_sroa_0_53861_i;
-    u32 v_r12_sroa_10_0_i1521_i;
-    u64 v_r3_i25_i_i1581_i;
-    u1 v_r39_i_i1584_i;
-    P v_r16_i_i_i1587_i;
-    u64 v_r19_i_i_i1588_i;
-    u1 v_r7_i_i_i1632_i;
-    u8 v_r60_i_i1633_i;
-    u1 v_r62_i_i1634_i;
-    u1 v_r74_i_i1635_i;
+    u64 v_r6_i12_sroa_30_53864_i;
+    P v_r6_i12_sroa_0_53862_i;
+    u32 v_r12_sroa_10_0_i1522_i;
+    u64 v_r3_i25_i_i1582_i;
+    u1 v_r39_i_i1585_i;
+    P v_r16_i_i_i1588_i;
+    u64 v_r19_i_i_i1589_i;
+    u1 v_r7_i_i_i1633_i;
+    u8 v_r60_i_i1634_i;
+    u1 v_r62_i_i1635_i;
+    u1 v_r74_i_i1636_i;
     u1 v_cond_i_i_i;
     u1 v_or_cond_i_i_i;
-    P v_r84_i_i1644_i;
-    u8 v_r87_i_i1645_i;
-    u1 v_r89_i_i1646_i;
-    u1 v_r39_i_i1695_i;
-    P v_r16_i_i_i1698_i;
-    u8 v_r29_i1700_i;
+    P v_r84_i_i1645_i;
+    u8 v_r87_i_i1646_i;
+    u1 v_r89_i_i1647_i;
+    u1 v_r39_i_i1696_i;
+    P v_r16_i_i_i1699_i;
+    u8 v_r29_i1701_i;
     u1 v_r8_i_i_i_i_i;
-    u8 v_r9_i1722_i;
-    u1 v_r11_i1723_i;
+    u8 v_r9_i1723_i;
+    u1 v_r11_i1724_i;
     u8 v_4;
     u1 v_5;
-    u1 v_r2_0_in_i1724_not_i;
-    u1 v_r39_i_i1743_i;
-    P v_r16_i_i_i1746_i;
-    u64 v_r19_i_i_i1747_i;
-    u8 v_r29_i1748_i;
+    u1 v_r2_0_in_i1725_not_i;
+    u1 v_r39_i_i1744_i;
+    P v_r16_i_i_i1747_i;
+    u64 v_r19_i_i_i1748_i;
+    u8 v_r29_i1749_i;
     u1 v_r51_i53_i_i_i;
     u32 v_r56_i64_i_i_i;
     u1 v_r68_i55_i_i_i;
-    u1 v_r87_i_i_i596_i;
-    u8 v_r106_i_i_i598_i;
-    u64 v_r3_i25_i1790_i;
-    u1 v_r39_i1793_i;
-    P v_r16_i_i1797_i;
-    u64 v_r19_i_i1798_i;
-    u8 v_r36_i1835_i;
-    u1 v_r38_i1836_i;
-    u8 v_r28_i1831_i;
-    u1 v_r30_i1832_i;
+    u1 v_r87_i_i_i597_i;
+    u8 v_r106_i_i_i599_i;
+    u64 v_r3_i25_i1791_i;
+    u1 v_r39_i1794_i;
+    P v_r16_i_i1798_i;
+    u64 v_r19_i_i1799_i;
+    u8 v_r36_i1836_i;
+    u1 v_r38_i1837_i;
+    u8 v_r28_i1832_i;
+    u1 v_r30_i1833_i;
     u32 v_r71_i_i_i_i_i;
     u1 v_r74_i_i_i_i_i;
     P v_r81_i_i_i_i_i;
@@ -4761,100 +4976,100 @@ static void f_pkcs1_other_primes_OtherPrimesDecodeValueRefSliceU(P v_a0, P v_a1,
     u8 v_r177_i_i_i_i_i;
     u32 v_r179_i_i_i_i_i;
     u32 v_r182_i_i_i_i_i;
-    u64 v_r6_i12_sroa_30_104449_i;
-    P v_r6_i12_sroa_0_104447_i;
-    u32 v_r12_sroa_10_0_i1861_i;
-    u64 v_r3_i25_i_i1921_i;
-    u1 v_r39_i_i1924_i;
-    P v_r16_i_i_i1927_i;
-    u64 v_r19_i_i_i1928_i;
-    u1 v_r7_i_i_i1972_i;
-    u8 v_r60_i_i1974_i;
-    u1 v_r62_i_i1975_i;
-    u1 v_r74_i_i1977_i;
-    u1 v_cond_i_i1978_i;
-    u1 v_or_cond_i_i1979_i;
-    P v_r84_i_i1992_i;
-    u8 v_r87_i_i1993_i;
-    u1 v_r89_i_i1994_i;
-    u1 v_r39_i_i2048_i;
-    P v_r16_i_i_i2051_i;
-    u8 v_r29_i2053_i;
-    u1 v_r8_i_i_i_i855_i;
-    u8 v_r9_i2075_i;
-    u1 v_r11_i2076_i;
+    u64 v_r6_i12_sroa_30_104450_i;
+    P v_r6_i12_sroa_0_104448_i;
+    u32 v_r12_sroa_10_0_i1862_i;
+    u64 v_r3_i25_i_i1922_i;
+    u1 v_r39_i_i1925_i;
+    P v_r16_i_i_i1928_i;
+    u64 v_r19_i_i_i1929_i;
+    u1 v_r7_i_i_i1973_i;
+    u8 v_r60_i_i1975_i;
+    u1 v_r62_i_i1976_i;
+    u1 v_r74_i_i1978_i;
+    u1 v_cond_i_i1979_i;
+    u1 v_or_cond_i_i1980_i;
+    P v_r84_i_i1993_i;
+    u8 v_r87_i_i1994_i;
+    u1 v_r89_i_i1995_i;
+    u1 v_r39_i_i2049_i;
+    P v_r16_i_i_i2052_i;
+    u8 v_r29_i2054_i;
+    u1 v_r8_i_i_i_i856_i;
+    u8 v_r9_i2076_i;
+    u1 v_r11_i2077_i;
     u8 v_6;
     u1 v_7;
-    u1 v_r2_0_in_i2077_not_i;
-    u1 v_r39_i_i2096_i;
-    P v_r16_i_i_i2099_i;
-    u64 v_r19_i_i_i2100_i;
-    u8 v_r29_i2101_i;
-    u1 v_r51_i53_i_i945_i;
-    u32 v_r56_i64_i_i1074_i;
-    u1 v_r68_i55_i_i947_i;
-    u1 v_r87_i_i_i949_i;
-    u8 v_r106_i_i_i951_i;
-    u64 v_r3_i25_i2143_i;
-    u1 v_r39_i2146_i;
-    P v_r16_i_i2150_i;
-    u64 v_r19_i_i2151_i;
-    u8 v_r36_i2188_i;
-    u1 v_r38_i2189_i;
-    u8 v_r28_i2184_i;
-    u1 v_r30_i2185_i;
-    u32 v_r71_i_i_i_i977_i;
-    u1 v_r74_i_i_i_i989_i;
-    P v_r81_i_i_i_i1027_i;
-    u32 v_r87_i_i_i_i1029_i;
-    u32 v_r89_i_i_i_i1030_i;
-    u8 v_r91_i_i_i_i1031_i;
-    u32 v_r93_i_i_i_i1032_i;
-    u32 v_r96_i_i_i_i1033_i;
-    u1 v_r99_i_i_i_i991_i;
-    P v_r106_i_i_i_i1014_i;
-    P v_r108_i_i_i_i1015_i;
-    u32 v_r115_i_i_i_i1017_i;
-    u32 v_r117_i_i_i_i1018_i;
-    u8 v_r119_i_i_i_i1019_i;
-    u32 v_r121_i_i_i_i1020_i;
-    u32 v_r123_i_i_i_i1021_i;
-    u32 v_r126_i_i_i_i1022_i;
-    u8 v_r128_i_i_i_i1023_i;
-    u32 v_r130_i_i_i_i1024_i;
-    u32 v_r133_i_i_i_i1025_i;
-    u1 v_r136_i_i_i_i993_i;
-    P v_r143_i_i_i_i996_i;
-    P v_r145_i_i_i_i997_i;
-    P v_r147_i_i_i_i998_i;
-    u32 v_r155_i_i_i_i1000_i;
-    u32 v_r157_i_i_i_i1001_i;
-    u8 v_r159_i_i_i_i1002_i;
-    u32 v_r161_i_i_i_i1003_i;
-    u32 v_r163_i_i_i_i1004_i;
-    u32 v_r166_i_i_i_i1005_i;
-    u8 v_r168_i_i_i_i1006_i;
-    u32 v_r170_i_i_i_i1007_i;
-    u32 v_r172_i_i_i_i1008_i;
-    u32 v_r175_i_i_i_i1009_i;
-    u8 v_r177_i_i_i_i1010_i;
-    u32 v_r179_i_i_i_i1011_i;
-    u32 v_r182_i_i_i_i1012_i;
-    u64 v_r6_i12_sroa_30_155035_i;
-    P v_r6_i12_sroa_0_155033_i;
-    u32 v_r12_sroa_10_0_i2214_i;
-    u64 v_r3_i25_i_i2274_i;
-    u1 v_r39_i_i2277_i;
-    u1 v_r7_i_i_i2325_i;
-    u8 v_r60_i_i2327_i;
-    u1 v_r62_i_i2328_i;
-    u1 v_r74_i_i2330_i;
-    u1 v_cond_i_i2331_i;
-    u1 v_or_cond_i_i2332_i;
-    P v_r84_i_i2345_i;
-    u8 v_r87_i_i2346_i;
-    u1 v_r89_i_i2347_i;
-    u1 v_r7_i_i2400_i;
+    u1 v_r2_0_in_i2078_not_i;
+    u1 v_r39_i_i2097_i;
+    P v_r16_i_i_i2100_i;
+    u64 v_r19_i_i_i2101_i;
+    u8 v_r29_i2102_i;
+    u1 v_r51_i53_i_i946_i;
+    u32 v_r56_i64_i_i1075_i;
+    u1 v_r68_i55_i_i948_i;
+    u1 v_r87_i_i_i950_i;
+    u8 v_r106_i_i_i952_i;
+    u64 v_r3_i25_i2144_i;
+    u1 v_r39_i2147_i;
+    P v_r16_i_i2151_i;
+    u64 v_r19_i_i2152_i;
+    u8 v_r36_i2189_i;
+    u1 v_r38_i2190_i;
+    u8 v_r28_i2185_i;
+    u1 v_r30_i2186_i;
+    u32 v_r71_i_i_i_i978_i;
+    u1 v_r74_i_i_i_i990_i;
+    P v_r81_i_i_i_i1028_i;
+    u32 v_r87_i_i_i_i1030_i;
+    u32 v_r89_i_i_i_i1031_i;
+    u8 v_r91_i_i_i_i1032_i;
+    u32 v_r93_i_i_i_i1033_i;
+    u32 v_r96_i_i_i_i1034_i;
+    u1 v_r99_i_i_i_i992_i;
+    P v_r106_i_i_i_i1015_i;
+    P v_r108_i_i_i_i1016_i;
+    u32 v_r115_i_i_i_i1018_i;
+    u32 v_r117_i_i_i_i1019_i;
+    u8 v_r119_i_i_i_i1020_i;
+    u32 v_r121_i_i_i_i1021_i;
+    u32 v_r123_i_i_i_i1022_i;
+    u32 v_r126_i_i_i_i1023_i;
+    u8 v_r128_i_i_i_i1024_i;
+    u32 v_r130_i_i_i_i1025_i;
+    u32 v_r133_i_i_i_i1026_i;
+    u1 v_r136_i_i_i_i994_i;
+    P v_r143_i_i_i_i997_i;
+    P v_r145_i_i_i_i998_i;
+    P v_r147_i_i_i_i999_i;
+    u32 v_r155_i_i_i_i1001_i;
+    u32 v_r157_i_i_i_i1002_i;
+    u8 v_r159_i_i_i_i1003_i;
+    u32 v_r161_i_i_i_i1004_i;
+    u32 v_r163_i_i_i_i1005_i;
+    u32 v_r166_i_i_i_i1006_i;
+    u8 v_r168_i_i_i_i1007_i;
+    u32 v_r170_i_i_i_i1008_i;
+    u32 v_r172_i_i_i_i1009_i;
+    u32 v_r175_i_i_i_i1010_i;
+    u8 v_r177_i_i_i_i1011_i;
+    u32 v_r179_i_i_i_i1012_i;
+    u32 v_r182_i_i_i_i1013_i;
+    u64 v_r6_i12_sroa_30_155036_i;
+    P v_r6_i12_sroa_0_155034_i;
+    u32 v_r12_sroa_10_0_i2215_i;
+    u64 v_r3_i25_i_i2275_i;
+    u1 v_r39_i_i2278_i;
+    u1 v_r7_i_i_i2326_i;
+    u8 v_r60_i_i2328_i;
+    u1 v_r62_i_i2329_i;
+    u1 v_r74_i_i2331_i;
+    u1 v_cond_i_i2332_i;
+    u1 v_or_cond_i_i2333_i;
+    P v_r84_i_i2346_i;
+    u8 v_r87_i_i2347_i;
+    u1 v_r89_i_i2348_i;
+    u1 v_r7_i_i2401_i;
     u64 v_r70_i;
     u1 v_r12_i_i_i_not_i_i;
     u8 v_r10_sroa_0_sroa_5_0_ph;
@@ -4897,83 +5112,83 @@ L_loop_6_preheader_i:;
     v_r19_i_i = (u64)((u64)(v_r36_i) - (u64)(v_r3_i25_i));
     put_P(v_a1, v_r16_i_i);
     put_u64(v_r35_i, v_r19_i_i);
-    v_r12_i_i_i_not_i5877_i = v_a3 == 0u;
-    if (v_r12_i_i_i_not_i5877_i) { p_v_r14_sroa_0_sroa_0_052 = 0u; p_v_r15_sroa_10_sroa_1_0 = v_r13_sroa_0_0_copyload_i; p_v_r15_sroa_10_sroa_3_0 = 0u; p_v_r15_sroa_4_0 = 0u; p_v_r15_sroa_6_0 = 0u; p_v_r15_sroa_8_0 = 0u; p_v_r15_sroa_12_0 = 0u; goto L_join_7; } else { p_v_r6_05880_i = 0u; p_v_r3_sroa_11_05879_i = v_r3_i25_i; p_v_r3_sroa_0_05878_i = v_r13_sroa_0_0_copyload_i; goto L_arm_1_i60_i; }
+    v_r12_i_i_i_not_i5758_i = v_a3 == 0u;
+    if (v_r12_i_i_i_not_i5758_i) { p_v_r14_sroa_0_sroa_0_052 = 0u; p_v_r15_sroa_10_sroa_1_0 = v_r13_sroa_0_0_copyload_i; p_v_r15_sroa_10_sroa_3_0 = 0u; p_v_r15_sroa_4_0 = 0u; p_v_r15_sroa_6_0 = 0u; p_v_r15_sroa_8_0 = 0u; p_v_r15_sroa_12_0 = 0u; goto L_join_7; } else { p_v_r6_05761_i = 0u; p_v_r3_sroa_11_05760_i = v_r3_i25_i; p_v_r3_sroa_0_05759_i = v_r13_sroa_0_0_copyload_i; goto L_arm_1_i60_i; }
 L_arm_1_i60_i:;
-    v_r6_05880_i = p_v_r6_05880_i;
-    v_r3_sroa_11_05879_i = p_v_r3_sroa_11_05879_i;
-    v_r3_sroa_0_05878_i = p_v_r3_sroa_0_05878_i;
-    v_r16_i_i_i1121_i = v_r3_sroa_0_05878_i + 1;
-    v_r29_i1123_i = get_u8(v_r3_sroa_0_05878_i);
-    v_r8_i_i_i = v_r29_i1123_i == 48u;
-    if (v_r8_i_i_i) { goto L_join_3_i_i1150_i; } else { goto L_der_core_header_tag_of_exit_i_i; }
+    v_r6_05761_i = p_v_r6_05761_i;
+    v_r3_sroa_11_05760_i = p_v_r3_sroa_11_05760_i;
+    v_r3_sroa_0_05759_i = p_v_r3_sroa_0_05759_i;
+    v_r16_i_i_i1122_i = v_r3_sroa_0_05759_i + 1;
+    v_r29_i1124_i = get_u8(v_r3_sroa_0_05759_i);
+    v_r8_i_i_i = v_r29_i1124_i == 48u;
+    if (v_r8_i_i_i) { goto L_join_3_i_i1151_i; } else { goto L_der_core_header_tag_of_exit_i_i; }
 L_der_core_header_tag_of_exit_i_i:;
-    v_r9_i1136_i = (u8)((u32)(v_r29_i1123_i) & (u32)(31u));
-    v_r11_i1137_i = v_r9_i1136_i != 31u;
-    v_0 = (u8)((u32)(v_r29_i1123_i) & (u32)(223u));
+    v_r9_i1137_i = (u8)((u32)(v_r29_i1124_i) & (u32)(31u));
+    v_r11_i1138_i = v_r9_i1137_i != 31u;
+    v_0 = (u8)((u32)(v_r29_i1124_i) & (u32)(223u));
     v_1 = v_0 != 0u;
-    v_r2_0_in_i_not_i = (u1)(((u32)(v_r11_i1137_i) & (u32)(v_1)) & 1);
-    if (v_r2_0_in_i_not_i) { goto L_join_3_i_i1150_i; } else { p_v_r14_sroa_0_sroa_5_0_ph = 11u; p_v_r14_sroa_0_sroa_8_0_ph = v_r29_i1123_i; p_v_r14_sroa_0_sroa_11_0_ph = 0u; goto L_arm_6; }
-L_join_3_i_i1150_i:;
-    v_r39_i_i1153_i = v_r3_sroa_11_05879_i == 1u;
-    if (v_r39_i_i1153_i) { p_v_r14_sroa_0_sroa_5_0_ph = 1u; p_v_r14_sroa_0_sroa_8_0_ph = 0u; p_v_r14_sroa_0_sroa_11_0_ph = 0u; goto L_arm_6; } else { goto L_arm_1_i129_i; }
+    v_r2_0_in_i_not_i = (u1)(((u32)(v_r11_i1138_i) & (u32)(v_1)) & 1);
+    if (v_r2_0_in_i_not_i) { goto L_join_3_i_i1151_i; } else { p_v_r14_sroa_0_sroa_5_0_ph = 11u; p_v_r14_sroa_0_sroa_8_0_ph = v_r29_i1124_i; p_v_r14_sroa_0_sroa_11_0_ph = 0u; goto L_arm_6; }
+L_join_3_i_i1151_i:;
+    v_r39_i_i1154_i = v_r3_sroa_11_05760_i == 1u;
+    if (v_r39_i_i1154_i) { p_v_r14_sroa_0_sroa_5_0_ph = 1u; p_v_r14_sroa_0_sroa_8_0_ph = 0u; p_v_r14_sroa_0_sroa_11_0_ph = 0u; goto L_arm_6; } else { goto L_arm_1_i129_i; }
 L_arm_1_i129_i:;
-    v_r16_i_i_i1156_i = v_r3_sroa_0_05878_i + 2;
-    v_r19_i_i_i1157_i = (u64)((u64)(v_r3_sroa_11_05879_i) + (u64)(18446744073709551614ull));
-    v_r29_i1158_i = get_u8(v_r16_i_i_i1121_i);
-    v_r51_i132_i = (u8)(v_r29_i1158_i ^ ((u8)1 << 7)) > (u8)(255u ^ ((u8)1 << 7));
+    v_r16_i_i_i1157_i = v_r3_sroa_0_05759_i + 2;
+    v_r19_i_i_i1158_i = (u64)((u64)(v_r3_sroa_11_05760_i) + (u64)(18446744073709551614ull));
+    v_r29_i1159_i = get_u8(v_r16_i_i_i1122_i);
+    v_r51_i132_i = (u8)(v_r29_i1159_i ^ ((u8)1 << 7)) > (u8)(255u ^ ((u8)1 << 7));
     if (v_r51_i132_i) { goto L_then_5_i173_i; } else { goto L_join_7_i133_i; }
 L_then_5_i173_i:;
-    v_r56_i174_i = (u64)v_r29_i1158_i;
-    { p_v_r3_sroa_11_43422_i = v_r19_i_i_i1157_i; p_v_r3_sroa_0_43420_i = v_r16_i_i_i1156_i; p_v_r12_sroa_10_0_i_i = v_r56_i174_i; goto L_arm_1_i27_i; }
+    v_r56_i174_i = (u64)v_r29_i1159_i;
+    { p_v_r3_sroa_11_43423_i = v_r19_i_i_i1158_i; p_v_r3_sroa_0_43421_i = v_r16_i_i_i1157_i; p_v_r12_sroa_10_0_i_i = v_r56_i174_i; goto L_arm_1_i27_i; }
 L_join_7_i133_i:;
-    v_r68_i134_i = v_r29_i1158_i == 128u;
+    v_r68_i134_i = v_r29_i1159_i == 128u;
     if (v_r68_i134_i) { p_v_r14_sroa_0_sroa_5_0_ph = 2u; p_v_r14_sroa_0_sroa_8_0_ph = 0u; p_v_r14_sroa_0_sroa_11_0_ph = 0u; goto L_arm_6; } else { goto L_join_10_i_i; }
 L_join_10_i_i:;
-    v_r87_i135_i = v_r29_i1158_i > 132u;
+    v_r87_i135_i = v_r29_i1159_i > 132u;
     if (v_r87_i135_i) { p_v_r14_sroa_0_sroa_5_0_ph = 7u; p_v_r14_sroa_0_sroa_8_0_ph = 0u; p_v_r14_sroa_0_sroa_11_0_ph = 0u; goto L_arm_6; } else { goto L_join_3_i_i; }
 L_join_3_i_i:;
-    v_r106_i136_i = (u8)((u32)(v_r29_i1158_i) & (u32)(127u));
+    v_r106_i136_i = (u8)((u32)(v_r29_i1159_i) & (u32)(127u));
     v_r3_i25_i_i = (u64)v_r106_i136_i;
-    v_r39_i1201_i = v_r19_i_i_i1157_i < v_r3_i25_i_i;
-    if (v_r39_i1201_i) { p_v_r14_sroa_0_sroa_5_0_ph = 1u; p_v_r14_sroa_0_sroa_8_0_ph = 0u; p_v_r14_sroa_0_sroa_11_0_ph = 0u; goto L_arm_6; } else { goto L_arm_14_i_i; }
+    v_r39_i1202_i = v_r19_i_i_i1158_i < v_r3_i25_i_i;
+    if (v_r39_i1202_i) { p_v_r14_sroa_0_sroa_5_0_ph = 1u; p_v_r14_sroa_0_sroa_8_0_ph = 0u; p_v_r14_sroa_0_sroa_11_0_ph = 0u; goto L_arm_6; } else { goto L_arm_14_i_i; }
 L_arm_14_i_i:;
-    v_r16_i_i1203_i = (P)((u64)v_r16_i_i_i1156_i + (u64)(v_r3_i25_i_i));
-    v_r19_i_i1204_i = (u64)((u64)(v_r19_i_i_i1157_i) - (u64)(v_r3_i25_i_i));
+    v_r16_i_i1204_i = (P)((u64)v_r16_i_i_i1157_i + (u64)(v_r3_i25_i_i));
+    v_r19_i_i1205_i = (u64)((u64)(v_r19_i_i_i1158_i) - (u64)(v_r3_i25_i_i));
     switch (v_r106_i136_i) {
     case 0u: { p_v_r14_sroa_0_sroa_5_0_ph = 8u; p_v_r14_sroa_0_sroa_8_0_ph = v_r106_i136_i; p_v_r14_sroa_0_sroa_11_0_ph = v_r106_i136_i; goto L_arm_6; }
     case 1u: { goto L_der_core_length_is_overlong_exit_i; }
-    default: { goto L_join_7_i1234_i; }
+    default: { goto L_join_7_i1235_i; }
     }
-L_join_7_i1234_i:;
-    v_r36_i1235_i = get_u8(v_r16_i_i_i1156_i);
-    v_r38_i1236_i = v_r36_i1235_i == 0u;
-    if (v_r38_i1236_i) { p_v_r14_sroa_0_sroa_5_0_ph = 8u; p_v_r14_sroa_0_sroa_8_0_ph = 0u; p_v_r14_sroa_0_sroa_11_0_ph = 0u; goto L_arm_6; } else { goto L_join_7_i_i_i; }
+L_join_7_i1235_i:;
+    v_r36_i1236_i = get_u8(v_r16_i_i_i1157_i);
+    v_r38_i1237_i = v_r36_i1236_i == 0u;
+    if (v_r38_i1237_i) { p_v_r14_sroa_0_sroa_5_0_ph = 8u; p_v_r14_sroa_0_sroa_8_0_ph = 0u; p_v_r14_sroa_0_sroa_11_0_ph = 0u; goto L_arm_6; } else { goto L_join_7_i_i_i; }
 L_der_core_length_is_overlong_exit_i:;
-    v_r28_i1232_i = get_u8(v_r16_i_i_i1156_i);
-    v_r30_i1233_i = (u8)(v_r28_i1232_i ^ ((u8)1 << 7)) > (u8)(255u ^ ((u8)1 << 7));
-    if (v_r30_i1233_i) { p_v_r14_sroa_0_sroa_5_0_ph = 8u; p_v_r14_sroa_0_sroa_8_0_ph = 0u; p_v_r14_sroa_0_sroa_11_0_ph = 0u; goto L_arm_6; } else { goto L_then_5_i_i_i; }
+    v_r28_i1233_i = get_u8(v_r16_i_i_i1157_i);
+    v_r30_i1234_i = (u8)(v_r28_i1233_i ^ ((u8)1 << 7)) > (u8)(255u ^ ((u8)1 << 7));
+    if (v_r30_i1234_i) { p_v_r14_sroa_0_sroa_5_0_ph = 8u; p_v_r14_sroa_0_sroa_8_0_ph = 0u; p_v_r14_sroa_0_sroa_11_0_ph = 0u; goto L_arm_6; } else { goto L_then_5_i_i_i; }
 L_then_5_i_i_i:;
-    v_r71_i_i_i = (u64)v_r28_i1232_i;
-    { p_v_r3_sroa_11_43422_i = v_r19_i_i1204_i; p_v_r3_sroa_0_43420_i = v_r16_i_i1203_i; p_v_r12_sroa_10_0_i_i = v_r71_i_i_i; goto L_arm_1_i27_i; }
+    v_r71_i_i_i = (u64)v_r28_i1233_i;
+    { p_v_r3_sroa_11_43423_i = v_r19_i_i1205_i; p_v_r3_sroa_0_43421_i = v_r16_i_i1204_i; p_v_r12_sroa_10_0_i_i = v_r71_i_i_i; goto L_arm_1_i27_i; }
 L_join_7_i_i_i:;
     v_r74_i_i_i = v_r106_i136_i < 3u;
     if (v_r74_i_i_i) { goto L_then_8_i_i_i; } else { goto L_join_10_i_i_i; }
 L_then_8_i_i_i:;
-    v_r81_i_i_i = v_r3_sroa_0_05878_i + 3;
-    v_r87_i_i_i = (u64)v_r36_i1235_i;
+    v_r81_i_i_i = v_r3_sroa_0_05759_i + 3;
+    v_r87_i_i_i = (u64)v_r36_i1236_i;
     v_r89_i_i_i = (u64)((u64)(v_r87_i_i_i) << (u64)((8u & 63)));
     v_r91_i_i_i = get_u8(v_r81_i_i_i);
     v_r93_i_i_i = (u64)v_r91_i_i_i;
     v_r96_i_i_i = (u64)((u64)(v_r89_i_i_i) | (u64)(v_r93_i_i_i));
-    { p_v_r3_sroa_11_43422_i = v_r19_i_i1204_i; p_v_r3_sroa_0_43420_i = v_r16_i_i1203_i; p_v_r12_sroa_10_0_i_i = v_r96_i_i_i; goto L_arm_1_i27_i; }
+    { p_v_r3_sroa_11_43423_i = v_r19_i_i1205_i; p_v_r3_sroa_0_43421_i = v_r16_i_i1204_i; p_v_r12_sroa_10_0_i_i = v_r96_i_i_i; goto L_arm_1_i27_i; }
 L_join_10_i_i_i:;
     v_r99_i_i_i = v_r106_i136_i == 3u;
     if (v_r99_i_i_i) { goto L_then_11_i_i_i; } else { goto L_join_13_i_i_i; }
 L_then_11_i_i_i:;
-    v_r106_i_i_i = v_r3_sroa_0_05878_i + 3;
-    v_r108_i_i_i = v_r3_sroa_0_05878_i + 4;
-    v_r115_i_i_i = (u64)v_r36_i1235_i;
+    v_r106_i_i_i = v_r3_sroa_0_05759_i + 3;
+    v_r108_i_i_i = v_r3_sroa_0_05759_i + 4;
+    v_r115_i_i_i = (u64)v_r36_i1236_i;
     v_r117_i_i_i = (u64)((u64)(v_r115_i_i_i) << (u64)((16u & 63)));
     v_r119_i_i_i = get_u8(v_r106_i_i_i);
     v_r121_i_i_i = (u64)v_r119_i_i_i;
@@ -4982,15 +5197,15 @@ L_then_11_i_i_i:;
     v_r128_i_i_i = get_u8(v_r108_i_i_i);
     v_r130_i_i_i = (u64)v_r128_i_i_i;
     v_r133_i_i_i = (u64)((u64)(v_r126_i_i_i) | (u64)(v_r130_i_i_i));
-    { p_v_r3_sroa_11_43422_i = v_r19_i_i1204_i; p_v_r3_sroa_0_43420_i = v_r16_i_i1203_i; p_v_r12_sroa_10_0_i_i = v_r133_i_i_i; goto L_arm_1_i27_i; }
+    { p_v_r3_sroa_11_43423_i = v_r19_i_i1205_i; p_v_r3_sroa_0_43421_i = v_r16_i_i1204_i; p_v_r12_sroa_10_0_i_i = v_r133_i_i_i; goto L_arm_1_i27_i; }
 L_join_13_i_i_i:;
     v_r136_i_i_i = v_r106_i136_i < 5u;
     if (v_r136_i_i_i) { goto L_then_14_i_i_i; } else { goto L_join_16_i_i_i; }
 L_then_14_i_i_i:;
-    v_r143_i_i_i = v_r3_sroa_0_05878_i + 3;
-    v_r145_i_i_i = v_r3_sroa_0_05878_i + 4;
-    v_r147_i_i_i = v_r3_sroa_0_05878_i + 5;
-    v_r155_i_i_i = (u64)v_r36_i1235_i;
+    v_r143_i_i_i = v_r3_sroa_0_05759_i + 3;
+    v_r145_i_i_i = v_r3_sroa_0_05759_i + 4;
+    v_r147_i_i_i = v_r3_sroa_0_05759_i + 5;
+    v_r155_i_i_i = (u64)v_r36_i1236_i;
     v_r157_i_i_i = (u64)((u64)(v_r155_i_i_i) << (u64)((24u & 63)));
     v_r159_i_i_i = get_u8(v_r143_i_i_i);
     v_r161_i_i_i = (u64)v_r159_i_i_i;
@@ -5003,95 +5218,95 @@ L_then_14_i_i_i:;
     v_r177_i_i_i = get_u8(v_r147_i_i_i);
     v_r179_i_i_i = (u64)v_r177_i_i_i;
     v_r182_i_i_i = (u64)((u64)(v_r175_i_i_i) | (u64)(v_r179_i_i_i));
-    { p_v_r3_sroa_11_43422_i = v_r19_i_i1204_i; p_v_r3_sroa_0_43420_i = v_r16_i_i1203_i; p_v_r12_sroa_10_0_i_i = v_r182_i_i_i; goto L_arm_1_i27_i; }
+    { p_v_r3_sroa_11_43423_i = v_r19_i_i1205_i; p_v_r3_sroa_0_43421_i = v_r16_i_i1204_i; p_v_r12_sroa_10_0_i_i = v_r182_i_i_i; goto L_arm_1_i27_i; }
 L_join_16_i_i_i:;
     TRAP();
     TRAP();
 L_arm_1_i27_i:;
-    v_r3_sroa_11_43422_i = p_v_r3_sroa_11_43422_i;
-    v_r3_sroa_0_43420_i = p_v_r3_sroa_0_43420_i;
+    v_r3_sroa_11_43423_i = p_v_r3_sroa_11_43423_i;
+    v_r3_sroa_0_43421_i = p_v_r3_sroa_0_43421_i;
     v_r12_sroa_10_0_i_i = p_v_r12_sroa_10_0_i_i;
-    if (v_r8_i_i_i) { goto L_join_3_i_i1314_i; } else { p_v_r14_sroa_0_sroa_5_0_ph = 10u; p_v_r14_sroa_0_sroa_8_0_ph = 48u; p_v_r14_sroa_0_sroa_11_0_ph = v_r29_i1123_i; goto L_arm_6; }
-L_join_3_i_i1314_i:;
-    v_r39_i_i1317_i = v_r3_sroa_11_43422_i < v_r12_sroa_10_0_i_i;
-    if (v_r39_i_i1317_i) { p_v_r14_sroa_0_sroa_5_0_ph = 1u; p_v_r14_sroa_0_sroa_8_0_ph = 0u; p_v_r14_sroa_0_sroa_11_0_ph = 0u; goto L_arm_6; } else { goto L_join_3_i_i1352_i; }
-L_join_3_i_i1352_i:;
-    v_r16_i_i_i1320_i = (P)((u64)v_r3_sroa_0_43420_i + (u64)(v_r12_sroa_10_0_i_i));
-    v_r19_i_i_i1321_i = (u64)((u64)(v_r3_sroa_11_43422_i) - (u64)(v_r12_sroa_10_0_i_i));
-    v_r39_i_i1355_i = v_r12_sroa_10_0_i_i == 0u;
-    if (v_r39_i_i1355_i) { p_v_r14_sroa_0_sroa_5_0_ph = 1u; p_v_r14_sroa_0_sroa_8_0_ph = 0u; p_v_r14_sroa_0_sroa_11_0_ph = 0u; goto L_arm_6; } else { goto L_arm_1_i_i_i; }
+    if (v_r8_i_i_i) { goto L_join_3_i_i1315_i; } else { p_v_r14_sroa_0_sroa_5_0_ph = 10u; p_v_r14_sroa_0_sroa_8_0_ph = 48u; p_v_r14_sroa_0_sroa_11_0_ph = v_r29_i1124_i; goto L_arm_6; }
+L_join_3_i_i1315_i:;
+    v_r39_i_i1318_i = v_r3_sroa_11_43423_i < v_r12_sroa_10_0_i_i;
+    if (v_r39_i_i1318_i) { p_v_r14_sroa_0_sroa_5_0_ph = 1u; p_v_r14_sroa_0_sroa_8_0_ph = 0u; p_v_r14_sroa_0_sroa_11_0_ph = 0u; goto L_arm_6; } else { goto L_join_3_i_i1353_i; }
+L_join_3_i_i1353_i:;
+    v_r16_i_i_i1321_i = (P)((u64)v_r3_sroa_0_43421_i + (u64)(v_r12_sroa_10_0_i_i));
+    v_r19_i_i_i1322_i = (u64)((u64)(v_r3_sroa_11_43423_i) - (u64)(v_r12_sroa_10_0_i_i));
+    v_r39_i_i1356_i = v_r12_sroa_10_0_i_i == 0u;
+    if (v_r39_i_i1356_i) { p_v_r14_sroa_0_sroa_5_0_ph = 1u; p_v_r14_sroa_0_sroa_8_0_ph = 0u; p_v_r14_sroa_0_sroa_11_0_ph = 0u; goto L_arm_6; } else { goto L_arm_1_i_i_i; }
 L_arm_1_i_i_i:;
-    v_r16_i_i_i1358_i = v_r3_sroa_0_43420_i + 1;
-    v_r29_i1360_i = get_u8(v_r3_sroa_0_43420_i);
-    v_r8_i_i_i_i = v_r29_i1360_i == 2u;
-    if (v_r8_i_i_i_i) { goto L_join_3_i_i1400_i; } else { goto L_der_core_header_tag_of_exit_i_i_i; }
+    v_r16_i_i_i1359_i = v_r3_sroa_0_43421_i + 1;
+    v_r29_i1361_i = get_u8(v_r3_sroa_0_43421_i);
+    v_r8_i_i_i_i = v_r29_i1361_i == 2u;
+    if (v_r8_i_i_i_i) { goto L_join_3_i_i1401_i; } else { goto L_der_core_header_tag_of_exit_i_i_i; }
 L_der_core_header_tag_of_exit_i_i_i:;
-    v_r9_i1382_i = (u8)((u32)(v_r29_i1360_i) & (u32)(31u));
-    v_r11_i1383_i = v_r9_i1382_i != 31u;
-    v_2 = (u8)((u32)(v_r29_i1360_i) & (u32)(223u));
+    v_r9_i1383_i = (u8)((u32)(v_r29_i1361_i) & (u32)(31u));
+    v_r11_i1384_i = v_r9_i1383_i != 31u;
+    v_2 = (u8)((u32)(v_r29_i1361_i) & (u32)(223u));
     v_3 = v_2 != 0u;
-    v_r2_0_in_i1384_not_i = (u1)(((u32)(v_r11_i1383_i) & (u32)(v_3)) & 1);
-    if (v_r2_0_in_i1384_not_i) { goto L_join_3_i_i1400_i; } else { p_v_r14_sroa_0_sroa_5_0_ph = 11u; p_v_r14_sroa_0_sroa_8_0_ph = v_r29_i1360_i; p_v_r14_sroa_0_sroa_11_0_ph = 0u; goto L_arm_6; }
-L_join_3_i_i1400_i:;
-    v_r39_i_i1403_i = v_r12_sroa_10_0_i_i == 1u;
-    if (v_r39_i_i1403_i) { p_v_r14_sroa_0_sroa_5_0_ph = 1u; p_v_r14_sroa_0_sroa_8_0_ph = 0u; p_v_r14_sroa_0_sroa_11_0_ph = 0u; goto L_arm_6; } else { goto L_arm_1_i50_i_i; }
+    v_r2_0_in_i1385_not_i = (u1)(((u32)(v_r11_i1384_i) & (u32)(v_3)) & 1);
+    if (v_r2_0_in_i1385_not_i) { goto L_join_3_i_i1401_i; } else { p_v_r14_sroa_0_sroa_5_0_ph = 11u; p_v_r14_sroa_0_sroa_8_0_ph = v_r29_i1361_i; p_v_r14_sroa_0_sroa_11_0_ph = 0u; goto L_arm_6; }
+L_join_3_i_i1401_i:;
+    v_r39_i_i1404_i = v_r12_sroa_10_0_i_i == 1u;
+    if (v_r39_i_i1404_i) { p_v_r14_sroa_0_sroa_5_0_ph = 1u; p_v_r14_sroa_0_sroa_8_0_ph = 0u; p_v_r14_sroa_0_sroa_11_0_ph = 0u; goto L_arm_6; } else { goto L_arm_1_i50_i_i; }
 L_arm_1_i50_i_i:;
-    v_r16_i_i_i1406_i = v_r3_sroa_0_43420_i + 2;
-    v_r19_i_i_i1407_i = (u64)((u64)(v_r12_sroa_10_0_i_i) + (u64)(18446744073709551614ull));
-    v_r29_i1408_i = get_u8(v_r16_i_i_i1358_i);
-    v_r51_i53_i_i = (u8)(v_r29_i1408_i ^ ((u8)1 << 7)) > (u8)(255u ^ ((u8)1 << 7));
-    if (v_r51_i53_i_i) { goto L_then_5_i_i432_i; } else { goto L_join_7_i54_i_i; }
-L_then_5_i_i432_i:;
-    v_r56_i64_i_i = (u32)v_r29_i1408_i;
-    { p_v_r6_i12_sroa_30_53863_i = v_r19_i_i_i1407_i; p_v_r6_i12_sroa_0_53861_i = v_r16_i_i_i1406_i; p_v_r12_sroa_10_0_i1521_i = v_r56_i64_i_i; goto L_arm_1_i325_i; }
+    v_r16_i_i_i1407_i = v_r3_sroa_0_43421_i + 2;
+    v_r19_i_i_i1408_i = (u64)((u64)(v_r12_sroa_10_0_i_i) + (u64)(18446744073709551614ull));
+    v_r29_i1409_i = get_u8(v_r16_i_i_i1359_i);
+    v_r51_i53_i_i = (u8)(v_r29_i1409_i ^ ((u8)1 << 7)) > (u8)(255u ^ ((u8)1 << 7));
+    if (v_r51_i53_i_i) { goto L_then_5_i_i433_i; } else { goto L_join_7_i54_i_i; }
+L_then_5_i_i433_i:;
+    v_r56_i64_i_i = (u32)v_r29_i1409_i;
+    { p_v_r6_i12_sroa_30_53864_i = v_r19_i_i_i1408_i; p_v_r6_i12_sroa_0_53862_i = v_r16_i_i_i1407_i; p_v_r12_sroa_10_0_i1522_i = v_r56_i64_i_i; goto L_arm_1_i326_i; }
 L_join_7_i54_i_i:;
-    v_r68_i55_i_i = v_r29_i1408_i == 128u;
-    if (v_r68_i55_i_i) { p_v_r14_sroa_0_sroa_5_0_ph = 2u; p_v_r14_sroa_0_sroa_8_0_ph = 0u; p_v_r14_sroa_0_sroa_11_0_ph = 0u; goto L_arm_6; } else { goto L_join_10_i_i403_i; }
-L_join_10_i_i403_i:;
-    v_r87_i_i404_i = v_r29_i1408_i > 132u;
-    if (v_r87_i_i404_i) { p_v_r14_sroa_0_sroa_5_0_ph = 7u; p_v_r14_sroa_0_sroa_8_0_ph = 0u; p_v_r14_sroa_0_sroa_11_0_ph = 0u; goto L_arm_6; } else { goto L_join_3_i1449_i; }
-L_join_3_i1449_i:;
-    v_r106_i_i406_i = (u8)((u32)(v_r29_i1408_i) & (u32)(127u));
-    v_r3_i25_i1450_i = (u64)v_r106_i_i406_i;
-    v_r39_i1453_i = v_r19_i_i_i1407_i < v_r3_i25_i1450_i;
-    if (v_r39_i1453_i) { p_v_r14_sroa_0_sroa_5_0_ph = 1u; p_v_r14_sroa_0_sroa_8_0_ph = 0u; p_v_r14_sroa_0_sroa_11_0_ph = 0u; goto L_arm_6; } else { goto L_arm_14_i_i_i; }
+    v_r68_i55_i_i = v_r29_i1409_i == 128u;
+    if (v_r68_i55_i_i) { p_v_r14_sroa_0_sroa_5_0_ph = 2u; p_v_r14_sroa_0_sroa_8_0_ph = 0u; p_v_r14_sroa_0_sroa_11_0_ph = 0u; goto L_arm_6; } else { goto L_join_10_i_i404_i; }
+L_join_10_i_i404_i:;
+    v_r87_i_i405_i = v_r29_i1409_i > 132u;
+    if (v_r87_i_i405_i) { p_v_r14_sroa_0_sroa_5_0_ph = 7u; p_v_r14_sroa_0_sroa_8_0_ph = 0u; p_v_r14_sroa_0_sroa_11_0_ph = 0u; goto L_arm_6; } else { goto L_join_3_i1450_i; }
+L_join_3_i1450_i:;
+    v_r106_i_i407_i = (u8)((u32)(v_r29_i1409_i) & (u32)(127u));
+    v_r3_i25_i1451_i = (u64)v_r106_i_i407_i;
+    v_r39_i1454_i = v_r19_i_i_i1408_i < v_r3_i25_i1451_i;
+    if (v_r39_i1454_i) { p_v_r14_sroa_0_sroa_5_0_ph = 1u; p_v_r14_sroa_0_sroa_8_0_ph = 0u; p_v_r14_sroa_0_sroa_11_0_ph = 0u; goto L_arm_6; } else { goto L_arm_14_i_i_i; }
 L_arm_14_i_i_i:;
-    v_r16_i_i1457_i = (P)((u64)v_r16_i_i_i1406_i + (u64)(v_r3_i25_i1450_i));
-    v_r19_i_i1458_i = (u64)((u64)(v_r19_i_i_i1407_i) - (u64)(v_r3_i25_i1450_i));
-    switch (v_r106_i_i406_i) {
-    case 0u: { p_v_r14_sroa_0_sroa_5_0_ph = 8u; p_v_r14_sroa_0_sroa_8_0_ph = v_r106_i_i406_i; p_v_r14_sroa_0_sroa_11_0_ph = v_r106_i_i406_i; goto L_arm_6; }
-    case 1u: { goto L_der_core_length_is_overlong_exit1497_i; }
-    default: { goto L_join_7_i1494_i; }
+    v_r16_i_i1458_i = (P)((u64)v_r16_i_i_i1407_i + (u64)(v_r3_i25_i1451_i));
+    v_r19_i_i1459_i = (u64)((u64)(v_r19_i_i_i1408_i) - (u64)(v_r3_i25_i1451_i));
+    switch (v_r106_i_i407_i) {
+    case 0u: { p_v_r14_sroa_0_sroa_5_0_ph = 8u; p_v_r14_sroa_0_sroa_8_0_ph = v_r106_i_i407_i; p_v_r14_sroa_0_sroa_11_0_ph = v_r106_i_i407_i; goto L_arm_6; }
+    case 1u: { goto L_der_core_length_is_overlong_exit1498_i; }
+    default: { goto L_join_7_i1495_i; }
     }
-L_join_7_i1494_i:;
-    v_r36_i1495_i = get_u8(v_r16_i_i_i1406_i);
-    v_r38_i1496_i = v_r36_i1495_i == 0u;
-    if (v_r38_i1496_i) { p_v_r14_sroa_0_sroa_5_0_ph = 8u; p_v_r14_sroa_0_sroa_8_0_ph = 0u; p_v_r14_sroa_0_sroa_11_0_ph = 0u; goto L_arm_6; } else { goto L_join_7_i_i_i_i; }
-L_der_core_length_is_overlong_exit1497_i:;
-    v_r28_i1491_i = get_u8(v_r16_i_i_i1406_i);
-    v_r30_i1492_i = (u8)(v_r28_i1491_i ^ ((u8)1 << 7)) > (u8)(255u ^ ((u8)1 << 7));
-    if (v_r30_i1492_i) { p_v_r14_sroa_0_sroa_5_0_ph = 8u; p_v_r14_sroa_0_sroa_8_0_ph = 0u; p_v_r14_sroa_0_sroa_11_0_ph = 0u; goto L_arm_6; } else { goto L_then_5_i_i_i_i; }
+L_join_7_i1495_i:;
+    v_r36_i1496_i = get_u8(v_r16_i_i_i1407_i);
+    v_r38_i1497_i = v_r36_i1496_i == 0u;
+    if (v_r38_i1497_i) { p_v_r14_sroa_0_sroa_5_0_ph = 8u; p_v_r14_sroa_0_sroa_8_0_ph = 0u; p_v_r14_sroa_0_sroa_11_0_ph = 0u; goto L_arm_6; } else { goto L_join_7_i_i_i_i; }
+L_der_core_length_is_overlong_exit1498_i:;
+    v_r28_i1492_i = get_u8(v_r16_i_i_i1407_i);
+    v_r30_i1493_i = (u8)(v_r28_i1492_i ^ ((u8)1 << 7)) > (u8)(255u ^ ((u8)1 << 7));
+    if (v_r30_i1493_i) { p_v_r14_sroa_0_sroa_5_0_ph = 8u; p_v_r14_sroa_0_sroa_8_0_ph = 0u; p_v_r14_sroa_0_sroa_11_0_ph = 0u; goto L_arm_6; } else { goto L_then_5_i_i_i_i; }
 L_then_5_i_i_i_i:;
-    v_r71_i_i_i_i = (u32)v_r28_i1491_i;
-    { p_v_r6_i12_sroa_30_53863_i = v_r19_i_i1458_i; p_v_r6_i12_sroa_0_53861_i = v_r16_i_i1457_i; p_v_r12_sroa_10_0_i1521_i = v_r71_i_i_i_i; goto L_arm_1_i325_i; }
+    v_r71_i_i_i_i = (u32)v_r28_i1492_i;
+    { p_v_r6_i12_sroa_30_53864_i = v_r19_i_i1459_i; p_v_r6_i12_sroa_0_53862_i = v_r16_i_i1458_i; p_v_r12_sroa_10_0_i1522_i = v_r71_i_i_i_i; goto L_arm_1_i326_i; }
 L_join_7_i_i_i_i:;
-    v_r74_i_i_i_i = v_r106_i_i406_i < 3u;
+    v_r74_i_i_i_i = v_r106_i_i407_i < 3u;
     if (v_r74_i_i_i_i) { goto L_then_8_i_i_i_i; } else { goto L_join_10_i_i_i_i; }
 L_then_8_i_i_i_i:;
-    v_r81_i_i_i_i = v_r3_sroa_0_43420_i + 3;
-    v_r87_i_i_i_i = (u32)v_r36_i1495_i;
+    v_r81_i_i_i_i = v_r3_sroa_0_43421_i + 3;
+    v_r87_i_i_i_i = (u32)v_r36_i1496_i;
     v_r89_i_i_i_i = (u32)((u32)(v_r87_i_i_i_i) << (u32)((8u & 31)));
     v_r91_i_i_i_i = get_u8(v_r81_i_i_i_i);
     v_r93_i_i_i_i = (u32)v_r91_i_i_i_i;
     v_r96_i_i_i_i = (u32)((u32)(v_r89_i_i_i_i) | (u32)(v_r93_i_i_i_i));
-    { p_v_r6_i12_sroa_30_53863_i = v_r19_i_i1458_i; p_v_r6_i12_sroa_0_53861_i = v_r16_i_i1457_i; p_v_r12_sroa_10_0_i1521_i = v_r96_i_i_i_i; goto L_arm_1_i325_i; }
+    { p_v_r6_i12_sroa_30_53864_i = v_r19_i_i1459_i; p_v_r6_i12_sroa_0_53862_i = v_r16_i_i1458_i; p_v_r12_sroa_10_0_i1522_i = v_r96_i_i_i_i; goto L_arm_1_i326_i; }
 L_join_10_i_i_i_i:;
-    v_r99_i_i_i_i = v_r106_i_i406_i == 3u;
+    v_r99_i_i_i_i = v_r106_i_i407_i == 3u;
     if (v_r99_i_i_i_i) { goto L_then_11_i_i_i_i; } else { goto L_join_13_i_i_i_i; }
 L_then_11_i_i_i_i:;
-    v_r106_i_i_i_i = v_r3_sroa_0_43420_i + 3;
-    v_r108_i_i_i_i = v_r3_sroa_0_43420_i + 4;
-    v_r115_i_i_i_i = (u32)v_r36_i1495_i;
+    v_r106_i_i_i_i = v_r3_sroa_0_43421_i + 3;
+    v_r108_i_i_i_i = v_r3_sroa_0_43421_i + 4;
+    v_r115_i_i_i_i = (u32)v_r36_i1496_i;
     v_r117_i_i_i_i = (u32)((u32)(v_r115_i_i_i_i) << (u32)((16u & 31)));
     v_r119_i_i_i_i = get_u8(v_r106_i_i_i_i);
     v_r121_i_i_i_i = (u32)v_r119_i_i_i_i;
@@ -5100,15 +5315,15 @@ L_then_11_i_i_i_i:;
     v_r128_i_i_i_i = get_u8(v_r108_i_i_i_i);
     v_r130_i_i_i_i = (u32)v_r128_i_i_i_i;
     v_r133_i_i_i_i = (u32)((u32)(v_r126_i_i_i_i) | (u32)(v_r130_i_i_i_i));
-    { p_v_r6_i12_sroa_30_53863_i = v_r19_i_i1458_i; p_v_r6_i12_sroa_0_53861_i = v_r16_i_i1457_i; p_v_r12_sroa_10_0_i1521_i = v_r133_i_i_i_i; goto L_arm_1_i325_i; }
+    { p_v_r6_i12_sroa_30_53864_i = v_r19_i_i1459_i; p_v_r6_i12_sroa_0_53862_i = v_r16_i_i1458_i; p_v_r12_sroa_10_0_i1522_i = v_r133_i_i_i_i; goto L_arm_1_i326_i; }
 L_join_13_i_i_i_i:;
-    v_r136_i_i_i_i = v_r106_i_i406_i < 5u;
+    v_r136_i_i_i_i = v_r106_i_i407_i < 5u;
     if (v_r136_i_i_i_i) { goto L_then_14_i_i_i_i; } else { goto L_join_16_i_i_i_i; }
 L_then_14_i_i_i_i:;
-    v_r143_i_i_i_i = v_r3_sroa_0_43420_i + 3;
-    v_r145_i_i_i_i = v_r3_sroa_0_43420_i + 4;
-    v_r147_i_i_i_i = v_r3_sroa_0_43420_i + 5;
-    v_r155_i_i_i_i = (u32)v_r36_i1495_i;
+    v_r143_i_i_i_i = v_r3_sroa_0_43421_i + 3;
+    v_r145_i_i_i_i = v_r3_sroa_0_43421_i + 4;
+    v_r147_i_i_i_i = v_r3_sroa_0_43421_i + 5;
+    v_r155_i_i_i_i = (u32)v_r36_i1496_i;
     v_r157_i_i_i_i = (u32)((u32)(v_r155_i_i_i_i) << (u32)((24u & 31)));
     v_r159_i_i_i_i = get_u8(v_r143_i_i_i_i);
     v_r161_i_i_i_i = (u32)v_r159_i_i_i_i;
@@ -5121,113 +5336,113 @@ L_then_14_i_i_i_i:;
     v_r177_i_i_i_i = get_u8(v_r147_i_i_i_i);
     v_r179_i_i_i_i = (u32)v_r177_i_i_i_i;
     v_r182_i_i_i_i = (u32)((u32)(v_r175_i_i_i_i) | (u32)(v_r179_i_i_i_i));
-    { p_v_r6_i12_sroa_30_53863_i = v_r19_i_i1458_i; p_v_r6_i12_sroa_0_53861_i = v_r16_i_i1457_i; p_v_r12_sroa_10_0_i1521_i = v_r182_i_i_i_i; goto L_arm_1_i325_i; }
+    { p_v_r6_i12_sroa_30_53864_i = v_r19_i_i1459_i; p_v_r6_i12_sroa_0_53862_i = v_r16_i_i1458_i; p_v_r12_sroa_10_0_i1522_i = v_r182_i_i_i_i; goto L_arm_1_i326_i; }
 L_join_16_i_i_i_i:;
     TRAP();
     TRAP();
-L_arm_1_i325_i:;
-    v_r6_i12_sroa_30_53863_i = p_v_r6_i12_sroa_30_53863_i;
-    v_r6_i12_sroa_0_53861_i = p_v_r6_i12_sroa_0_53861_i;
-    v_r12_sroa_10_0_i1521_i = p_v_r12_sroa_10_0_i1521_i;
-    if (v_r8_i_i_i_i) { goto L_join_3_i_i1580_i; } else { p_v_r14_sroa_0_sroa_5_0_ph = 10u; p_v_r14_sroa_0_sroa_8_0_ph = 2u; p_v_r14_sroa_0_sroa_11_0_ph = v_r29_i1360_i; goto L_arm_6; }
-L_join_3_i_i1580_i:;
-    v_r3_i25_i_i1581_i = (u64)v_r12_sroa_10_0_i1521_i;
-    v_r39_i_i1584_i = v_r6_i12_sroa_30_53863_i < v_r3_i25_i_i1581_i;
-    if (v_r39_i_i1584_i) { p_v_r14_sroa_0_sroa_5_0_ph = 1u; p_v_r14_sroa_0_sroa_8_0_ph = 0u; p_v_r14_sroa_0_sroa_11_0_ph = 0u; goto L_arm_6; } else { goto L_join_3_i_i1623_i; }
-L_join_3_i_i1623_i:;
-    v_r16_i_i_i1587_i = (P)((u64)v_r6_i12_sroa_0_53861_i + (u64)(v_r3_i25_i_i1581_i));
-    v_r19_i_i_i1588_i = (u64)((u64)(v_r6_i12_sroa_30_53863_i) - (u64)(v_r3_i25_i_i1581_i));
-    v_r7_i_i_i1632_i = v_r12_sroa_10_0_i1521_i == 0u;
-    if (v_r7_i_i_i1632_i) { p_v_r14_sroa_0_sroa_5_0_ph = 3u; p_v_r14_sroa_0_sroa_8_0_ph = 2u; p_v_r14_sroa_0_sroa_11_0_ph = 0u; goto L_arm_6; } else { goto L_join_8_i_i_i; }
+L_arm_1_i326_i:;
+    v_r6_i12_sroa_30_53864_i = p_v_r6_i12_sroa_30_53864_i;
+    v_r6_i12_sroa_0_53862_i = p_v_r6_i12_sroa_0_53862_i;
+    v_r12_sroa_10_0_i1522_i = p_v_r12_sroa_10_0_i1522_i;
+    if (v_r8_i_i_i_i) { goto L_join_3_i_i1581_i; } else { p_v_r14_sroa_0_sroa_5_0_ph = 10u; p_v_r14_sroa_0_sroa_8_0_ph = 2u; p_v_r14_sroa_0_sroa_11_0_ph = v_r29_i1361_i; goto L_arm_6; }
+L_join_3_i_i1581_i:;
+    v_r3_i25_i_i1582_i = (u64)v_r12_sroa_10_0_i1522_i;
+    v_r39_i_i1585_i = v_r6_i12_sroa_30_53864_i < v_r3_i25_i_i1582_i;
+    if (v_r39_i_i1585_i) { p_v_r14_sroa_0_sroa_5_0_ph = 1u; p_v_r14_sroa_0_sroa_8_0_ph = 0u; p_v_r14_sroa_0_sroa_11_0_ph = 0u; goto L_arm_6; } else { goto L_join_3_i_i1624_i; }
+L_join_3_i_i1624_i:;
+    v_r16_i_i_i1588_i = (P)((u64)v_r6_i12_sroa_0_53862_i + (u64)(v_r3_i25_i_i1582_i));
+    v_r19_i_i_i1589_i = (u64)((u64)(v_r6_i12_sroa_30_53864_i) - (u64)(v_r3_i25_i_i1582_i));
+    v_r7_i_i_i1633_i = v_r12_sroa_10_0_i1522_i == 0u;
+    if (v_r7_i_i_i1633_i) { p_v_r14_sroa_0_sroa_5_0_ph = 3u; p_v_r14_sroa_0_sroa_8_0_ph = 2u; p_v_r14_sroa_0_sroa_11_0_ph = 0u; goto L_arm_6; } else { goto L_join_8_i_i_i; }
 L_join_8_i_i_i:;
-    v_r60_i_i1633_i = get_u8(v_r6_i12_sroa_0_53861_i);
-    v_r62_i_i1634_i = (u8)(v_r60_i_i1633_i ^ ((u8)1 << 7)) < (u8)(0u ^ ((u8)1 << 7));
-    if (v_r62_i_i1634_i) { p_v_r14_sroa_0_sroa_5_0_ph = 13u; p_v_r14_sroa_0_sroa_8_0_ph = 2u; p_v_r14_sroa_0_sroa_11_0_ph = 0u; goto L_arm_6; } else { goto L_join_11_i_i_i; }
+    v_r60_i_i1634_i = get_u8(v_r6_i12_sroa_0_53862_i);
+    v_r62_i_i1635_i = (u8)(v_r60_i_i1634_i ^ ((u8)1 << 7)) < (u8)(0u ^ ((u8)1 << 7));
+    if (v_r62_i_i1635_i) { p_v_r14_sroa_0_sroa_5_0_ph = 13u; p_v_r14_sroa_0_sroa_8_0_ph = 2u; p_v_r14_sroa_0_sroa_11_0_ph = 0u; goto L_arm_6; } else { goto L_join_11_i_i_i; }
 L_join_11_i_i_i:;
-    v_r74_i_i1635_i = v_r12_sroa_10_0_i1521_i != 1u;
-    v_cond_i_i_i = v_r60_i_i1633_i == 0u;
-    v_or_cond_i_i_i = (u1)(((u32)(v_r74_i_i1635_i) & (u32)(v_cond_i_i_i)) & 1);
-    if (v_or_cond_i_i_i) { goto L_arm_15_i_i1643_i; } else { goto L_join_3_i_i1692_i; }
-L_arm_15_i_i1643_i:;
-    v_r84_i_i1644_i = v_r6_i12_sroa_0_53861_i + 1;
-    v_r87_i_i1645_i = get_u8(v_r84_i_i1644_i);
-    v_r89_i_i1646_i = (u8)(v_r87_i_i1645_i ^ ((u8)1 << 7)) > (u8)(255u ^ ((u8)1 << 7));
-    if (v_r89_i_i1646_i) { p_v_r14_sroa_0_sroa_5_0_ph = 4u; p_v_r14_sroa_0_sroa_8_0_ph = 2u; p_v_r14_sroa_0_sroa_11_0_ph = 0u; goto L_arm_6; } else { goto L_join_3_i_i1692_i; }
-L_join_3_i_i1692_i:;
-    v_r39_i_i1695_i = v_r6_i12_sroa_30_53863_i == v_r3_i25_i_i1581_i;
-    if (v_r39_i_i1695_i) { p_v_r14_sroa_0_sroa_5_0_ph = 1u; p_v_r14_sroa_0_sroa_8_0_ph = 0u; p_v_r14_sroa_0_sroa_11_0_ph = 0u; goto L_arm_6; } else { goto L_arm_1_i_i_i_i; }
+    v_r74_i_i1636_i = v_r12_sroa_10_0_i1522_i != 1u;
+    v_cond_i_i_i = v_r60_i_i1634_i == 0u;
+    v_or_cond_i_i_i = (u1)(((u32)(v_r74_i_i1636_i) & (u32)(v_cond_i_i_i)) & 1);
+    if (v_or_cond_i_i_i) { goto L_arm_15_i_i1644_i; } else { goto L_join_3_i_i1693_i; }
+L_arm_15_i_i1644_i:;
+    v_r84_i_i1645_i = v_r6_i12_sroa_0_53862_i + 1;
+    v_r87_i_i1646_i = get_u8(v_r84_i_i1645_i);
+    v_r89_i_i1647_i = (u8)(v_r87_i_i1646_i ^ ((u8)1 << 7)) > (u8)(255u ^ ((u8)1 << 7));
+    if (v_r89_i_i1647_i) { p_v_r14_sroa_0_sroa_5_0_ph = 4u; p_v_r14_sroa_0_sroa_8_0_ph = 2u; p_v_r14_sroa_0_sroa_11_0_ph = 0u; goto L_arm_6; } else { goto L_join_3_i_i1693_i; }
+L_join_3_i_i1693_i:;
+    v_r39_i_i1696_i = v_r6_i12_sroa_30_53864_i == v_r3_i25_i_i1582_i;
+    if (v_r39_i_i1696_i) { p_v_r14_sroa_0_sroa_5_0_ph = 1u; p_v_r14_sroa_0_sroa_8_0_ph = 0u; p_v_r14_sroa_0_sroa_11_0_ph = 0u; goto L_arm_6; } else { goto L_arm_1_i_i_i_i; }
 L_arm_1_i_i_i_i:;
-    v_r16_i_i_i1698_i = v_r16_i_i_i1587_i + 1;
-    v_r29_i1700_i = get_u8(v_r16_i_i_i1587_i);
-    v_r8_i_i_i_i_i = v_r29_i1700_i == 2u;
-    if (v_r8_i_i_i_i_i) { goto L_join_3_i_i1740_i; } else { goto L_der_core_header_tag_of_exit_i_i_i_i; }
+    v_r16_i_i_i1699_i = v_r16_i_i_i1588_i + 1;
+    v_r29_i1701_i = get_u8(v_r16_i_i_i1588_i);
+    v_r8_i_i_i_i_i = v_r29_i1701_i == 2u;
+    if (v_r8_i_i_i_i_i) { goto L_join_3_i_i1741_i; } else { goto L_der_core_header_tag_of_exit_i_i_i_i; }
 L_der_core_header_tag_of_exit_i_i_i_i:;
-    v_r9_i1722_i = (u8)((u32)(v_r29_i1700_i) & (u32)(31u));
-    v_r11_i1723_i = v_r9_i1722_i != 31u;
-    v_4 = (u8)((u32)(v_r29_i1700_i) & (u32)(223u));
+    v_r9_i1723_i = (u8)((u32)(v_r29_i1701_i) & (u32)(31u));
+    v_r11_i1724_i = v_r9_i1723_i != 31u;
+    v_4 = (u8)((u32)(v_r29_i1701_i) & (u32)(223u));
     v_5 = v_4 != 0u;
-    v_r2_0_in_i1724_not_i = (u1)(((u32)(v_r11_i1723_i) & (u32)(v_5)) & 1);
-    if (v_r2_0_in_i1724_not_i) { goto L_join_3_i_i1740_i; } else { p_v_r14_sroa_0_sroa_5_0_ph = 11u; p_v_r14_sroa_0_sroa_8_0_ph = v_r29_i1700_i; p_v_r14_sroa_0_sroa_11_0_ph = 0u; goto L_arm_6; }
-L_join_3_i_i1740_i:;
-    v_r39_i_i1743_i = v_r19_i_i_i1588_i == 1u;
-    if (v_r39_i_i1743_i) { p_v_r14_sroa_0_sroa_5_0_ph = 1u; p_v_r14_sroa_0_sroa_8_0_ph = 0u; p_v_r14_sroa_0_sroa_11_0_ph = 0u; goto L_arm_6; } else { goto L_arm_1_i50_i_i_i; }
+    v_r2_0_in_i1725_not_i = (u1)(((u32)(v_r11_i1724_i) & (u32)(v_5)) & 1);
+    if (v_r2_0_in_i1725_not_i) { goto L_join_3_i_i1741_i; } else { p_v_r14_sroa_0_sroa_5_0_ph = 11u; p_v_r14_sroa_0_sroa_8_0_ph = v_r29_i1701_i; p_v_r14_sroa_0_sroa_11_0_ph = 0u; goto L_arm_6; }
+L_join_3_i_i1741_i:;
+    v_r39_i_i1744_i = v_r19_i_i_i1589_i == 1u;
+    if (v_r39_i_i1744_i) { p_v_r14_sroa_0_sroa_5_0_ph = 1u; p_v_r14_sroa_0_sroa_8_0_ph = 0u; p_v_r14_sroa_0_sroa_11_0_ph = 0u; goto L_arm_6; } else { goto L_arm_1_i50_i_i_i; }
 L_arm_1_i50_i_i_i:;
-    v_r16_i_i_i1746_i = v_r16_i_i_i1587_i + 2;
-    v_r19_i_i_i1747_i = (u64)((u64)(v_r19_i_i_i1588_i) + (u64)(18446744073709551614ull));
-    v_r29_i1748_i = get_u8(v_r16_i_i_i1698_i);
-    v_r51_i53_i_i_i = (u8)(v_r29_i1748_i ^ ((u8)1 << 7)) > (u8)(255u ^ ((u8)1 << 7));
-    if (v_r51_i53_i_i_i) { goto L_then_5_i_i_i624_i; } else { goto L_join_7_i54_i_i_i; }
-L_then_5_i_i_i624_i:;
-    v_r56_i64_i_i_i = (u32)v_r29_i1748_i;
-    { p_v_r6_i12_sroa_30_104449_i = v_r19_i_i_i1747_i; p_v_r6_i12_sroa_0_104447_i = v_r16_i_i_i1746_i; p_v_r12_sroa_10_0_i1861_i = v_r56_i64_i_i_i; goto L_arm_1_i_i537_i; }
+    v_r16_i_i_i1747_i = v_r16_i_i_i1588_i + 2;
+    v_r19_i_i_i1748_i = (u64)((u64)(v_r19_i_i_i1589_i) + (u64)(18446744073709551614ull));
+    v_r29_i1749_i = get_u8(v_r16_i_i_i1699_i);
+    v_r51_i53_i_i_i = (u8)(v_r29_i1749_i ^ ((u8)1 << 7)) > (u8)(255u ^ ((u8)1 << 7));
+    if (v_r51_i53_i_i_i) { goto L_then_5_i_i_i625_i; } else { goto L_join_7_i54_i_i_i; }
+L_then_5_i_i_i625_i:;
+    v_r56_i64_i_i_i = (u32)v_r29_i1749_i;
+    { p_v_r6_i12_sroa_30_104450_i = v_r19_i_i_i1748_i; p_v_r6_i12_sroa_0_104448_i = v_r16_i_i_i1747_i; p_v_r12_sroa_10_0_i1862_i = v_r56_i64_i_i_i; goto L_arm_1_i_i538_i; }
 L_join_7_i54_i_i_i:;
-    v_r68_i55_i_i_i = v_r29_i1748_i == 128u;
-    if (v_r68_i55_i_i_i) { p_v_r14_sroa_0_sroa_5_0_ph = 2u; p_v_r14_sroa_0_sroa_8_0_ph = 0u; p_v_r14_sroa_0_sroa_11_0_ph = 0u; goto L_arm_6; } else { goto L_join_10_i_i_i595_i; }
-L_join_10_i_i_i595_i:;
-    v_r87_i_i_i596_i = v_r29_i1748_i > 132u;
-    if (v_r87_i_i_i596_i) { p_v_r14_sroa_0_sroa_5_0_ph = 7u; p_v_r14_sroa_0_sroa_8_0_ph = 0u; p_v_r14_sroa_0_sroa_11_0_ph = 0u; goto L_arm_6; } else { goto L_join_3_i1789_i; }
-L_join_3_i1789_i:;
-    v_r106_i_i_i598_i = (u8)((u32)(v_r29_i1748_i) & (u32)(127u));
-    v_r3_i25_i1790_i = (u64)v_r106_i_i_i598_i;
-    v_r39_i1793_i = v_r19_i_i_i1747_i < v_r3_i25_i1790_i;
-    if (v_r39_i1793_i) { p_v_r14_sroa_0_sroa_5_0_ph = 1u; p_v_r14_sroa_0_sroa_8_0_ph = 0u; p_v_r14_sroa_0_sroa_11_0_ph = 0u; goto L_arm_6; } else { goto L_arm_14_i_i_i_i; }
+    v_r68_i55_i_i_i = v_r29_i1749_i == 128u;
+    if (v_r68_i55_i_i_i) { p_v_r14_sroa_0_sroa_5_0_ph = 2u; p_v_r14_sroa_0_sroa_8_0_ph = 0u; p_v_r14_sroa_0_sroa_11_0_ph = 0u; goto L_arm_6; } else { goto L_join_10_i_i_i596_i; }
+L_join_10_i_i_i596_i:;
+    v_r87_i_i_i597_i = v_r29_i1749_i > 132u;
+    if (v_r87_i_i_i597_i) { p_v_r14_sroa_0_sroa_5_0_ph = 7u; p_v_r14_sroa_0_sroa_8_0_ph = 0u; p_v_r14_sroa_0_sroa_11_0_ph = 0u; goto L_arm_6; } else { goto L_join_3_i1790_i; }
+L_join_3_i1790_i:;
+    v_r106_i_i_i599_i = (u8)((u32)(v_r29_i1749_i) & (u32)(127u));
+    v_r3_i25_i1791_i = (u64)v_r106_i_i_i599_i;
+    v_r39_i1794_i = v_r19_i_i_i1748_i < v_r3_i25_i1791_i;
+    if (v_r39_i1794_i) { p_v_r14_sroa_0_sroa_5_0_ph = 1u; p_v_r14_sroa_0_sroa_8_0_ph = 0u; p_v_r14_sroa_0_sroa_11_0_ph = 0u; goto L_arm_6; } else { goto L_arm_14_i_i_i_i; }
 L_arm_14_i_i_i_i:;
-    v_r16_i_i1797_i = (P)((u64)v_r16_i_i_i1746_i + (u64)(v_r3_i25_i1790_i));
-    v_r19_i_i1798_i = (u64)((u64)(v_r19_i_i_i1747_i) - (u64)(v_r3_i25_i1790_i));
-    switch (v_r106_i_i_i598_i) {
-    case 0u: { p_v_r14_sroa_0_sroa_5_0_ph = 8u; p_v_r14_sroa_0_sroa_8_0_ph = v_r106_i_i_i598_i; p_v_r14_sroa_0_sroa_11_0_ph = v_r106_i_i_i598_i; goto L_arm_6; }
-    case 1u: { goto L_der_core_length_is_overlong_exit1837_i; }
-    default: { goto L_join_7_i1834_i; }
+    v_r16_i_i1798_i = (P)((u64)v_r16_i_i_i1747_i + (u64)(v_r3_i25_i1791_i));
+    v_r19_i_i1799_i = (u64)((u64)(v_r19_i_i_i1748_i) - (u64)(v_r3_i25_i1791_i));
+    switch (v_r106_i_i_i599_i) {
+    case 0u: { p_v_r14_sroa_0_sroa_5_0_ph = 8u; p_v_r14_sroa_0_sroa_8_0_ph = v_r106_i_i_i599_i; p_v_r14_sroa_0_sroa_11_0_ph = v_r106_i_i_i599_i; goto L_arm_6; }
+    case 1u: { goto L_der_core_length_is_overlong_exit1838_i; }
+    default: { goto L_join_7_i1835_i; }
     }
-L_join_7_i1834_i:;
-    v_r36_i1835_i = get_u8(v_r16_i_i_i1746_i);
-    v_r38_i1836_i = v_r36_i1835_i == 0u;
-    if (v_r38_i1836_i) { p_v_r14_sroa_0_sroa_5_0_ph = 8u; p_v_r14_sroa_0_sroa_8_0_ph = 0u; p_v_r14_sroa_0_sroa_11_0_ph = 0u; goto L_arm_6; } else { goto L_join_7_i_i_i_i_i; }
-L_der_core_length_is_overlong_exit1837_i:;
-    v_r28_i1831_i = get_u8(v_r16_i_i_i1746_i);
-    v_r30_i1832_i = (u8)(v_r28_i1831_i ^ ((u8)1 << 7)) > (u8)(255u ^ ((u8)1 << 7));
-    if (v_r30_i1832_i) { p_v_r14_sroa_0_sroa_5_0_ph = 8u; p_v_r14_sroa_0_sroa_8_0_ph = 0u; p_v_r14_sroa_0_sroa_11_0_ph = 0u; goto L_arm_6; } else { goto L_then_5_i_i_i_i_i; }
+L_join_7_i1835_i:;
+    v_r36_i1836_i = get_u8(v_r16_i_i_i1747_i);
+    v_r38_i1837_i = v_r36_i1836_i == 0u;
+    if (v_r38_i1837_i) { p_v_r14_sroa_0_sroa_5_0_ph = 8u; p_v_r14_sroa_0_sroa_8_0_ph = 0u; p_v_r14_sroa_0_sroa_11_0_ph = 0u; goto L_arm_6; } else { goto L_join_7_i_i_i_i_i; }
+L_der_core_length_is_overlong_exit1838_i:;
+    v_r28_i1832_i = get_u8(v_r16_i_i_i1747_i);
+    v_r30_i1833_i = (u8)(v_r28_i1832_i ^ ((u8)1 << 7)) > (u8)(255u ^ ((u8)1 << 7));
+    if (v_r30_i1833_i) { p_v_r14_sroa_0_sroa_5_0_ph = 8u; p_v_r14_sroa_0_sroa_8_0_ph = 0u; p_v_r14_sroa_0_sroa_11_0_ph = 0u; goto L_arm_6; } else { goto L_then_5_i_i_i_i_i; }
 L_then_5_i_i_i_i_i:;
-    v_r71_i_i_i_i_i = (u32)v_r28_i1831_i;
-    { p_v_r6_i12_sroa_30_104449_i = v_r19_i_i1798_i; p_v_r6_i12_sroa_0_104447_i = v_r16_i_i1797_i; p_v_r12_sroa_10_0_i1861_i = v_r71_i_i_i_i_i; goto L_arm_1_i_i537_i; }
+    v_r71_i_i_i_i_i = (u32)v_r28_i1832_i;
+    { p_v_r6_i12_sroa_30_104450_i = v_r19_i_i1799_i; p_v_r6_i12_sroa_0_104448_i = v_r16_i_i1798_i; p_v_r12_sroa_10_0_i1862_i = v_r71_i_i_i_i_i; goto L_arm_1_i_i538_i; }
 L_join_7_i_i_i_i_i:;
-    v_r74_i_i_i_i_i = v_r106_i_i_i598_i < 3u;
+    v_r74_i_i_i_i_i = v_r106_i_i_i599_i < 3u;
     if (v_r74_i_i_i_i_i) { goto L_then_8_i_i_i_i_i; } else { goto L_join_10_i_i_i_i_i; }
 L_then_8_i_i_i_i_i:;
-    v_r81_i_i_i_i_i = v_r16_i_i_i1587_i + 3;
-    v_r87_i_i_i_i_i = (u32)v_r36_i1835_i;
+    v_r81_i_i_i_i_i = v_r16_i_i_i1588_i + 3;
+    v_r87_i_i_i_i_i = (u32)v_r36_i1836_i;
     v_r89_i_i_i_i_i = (u32)((u32)(v_r87_i_i_i_i_i) << (u32)((8u & 31)));
     v_r91_i_i_i_i_i = get_u8(v_r81_i_i_i_i_i);
     v_r93_i_i_i_i_i = (u32)v_r91_i_i_i_i_i;
     v_r96_i_i_i_i_i = (u32)((u32)(v_r89_i_i_i_i_i) | (u32)(v_r93_i_i_i_i_i));
-    { p_v_r6_i12_sroa_30_104449_i = v_r19_i_i1798_i; p_v_r6_i12_sroa_0_104447_i = v_r16_i_i1797_i; p_v_r12_sroa_10_0_i1861_i = v_r96_i_i_i_i_i; goto L_arm_1_i_i537_i; }
+    { p_v_r6_i12_sroa_30_104450_i = v_r19_i_i1799_i; p_v_r6_i12_sroa_0_104448_i = v_r16_i_i1798_i; p_v_r12_sroa_10_0_i1862_i = v_r96_i_i_i_i_i; goto L_arm_1_i_i538_i; }
 L_join_10_i_i_i_i_i:;
-    v_r99_i_i_i_i_i = v_r106_i_i_i598_i == 3u;
+    v_r99_i_i_i_i_i = v_r106_i_i_i599_i == 3u;
     if (v_r99_i_i_i_i_i) { goto L_then_11_i_i_i_i_i; } else { goto L_join_13_i_i_i_i_i; }
 L_then_11_i_i_i_i_i:;
-    v_r106_i_i_i_i_i = v_r16_i_i_i1587_i + 3;
-    v_r108_i_i_i_i_i = v_r16_i_i_i1587_i + 4;
-    v_r115_i_i_i_i_i = (u32)v_r36_i1835_i;
+    v_r106_i_i_i_i_i = v_r16_i_i_i1588_i + 3;
+    v_r108_i_i_i_i_i = v_r16_i_i_i1588_i + 4;
+    v_r115_i_i_i_i_i = (u32)v_r36_i1836_i;
     v_r117_i_i_i_i_i = (u32)((u32)(v_r115_i_i_i_i_i) << (u32)((16u & 31)));
     v_r119_i_i_i_i_i = get_u8(v_r106_i_i_i_i_i);
     v_r121_i_i_i_i_i = (u32)v_r119_i_i_i_i_i;
@@ -5236,15 +5451,15 @@ L_then_11_i_i_i_i_i:;
     v_r128_i_i_i_i_i = get_u8(v_r108_i_i_i_i_i);
     v_r130_i_i_i_i_i = (u32)v_r128_i_i_i_i_i;
     v_r133_i_i_i_i_i = (u32)((u32)(v_r126_i_i_i_i_i) | (u32)(v_r130_i_i_i_i_i));
-    { p_v_r6_i12_sroa_30_104449_i = v_r19_i_i1798_i; p_v_r6_i12_sroa_0_104447_i = v_r16_i_i1797_i; p_v_r12_sroa_10_0_i1861_i = v_r133_i_i_i_i_i; goto L_arm_1_i_i537_i; }
+    { p_v_r6_i12_sroa_30_104450_i = v_r19_i_i1799_i; p_v_r6_i12_sroa_0_104448_i = v_r16_i_i1798_i; p_v_r12_sroa_10_0_i1862_i = v_r133_i_i_i_i_i; goto L_arm_1_i_i538_i; }
 L_join_13_i_i_i_i_i:;
-    v_r136_i_i_i_i_i = v_r106_i_i_i598_i < 5u;
+    v_r136_i_i_i_i_i = v_r106_i_i_i599_i < 5u;
     if (v_r136_i_i_i_i_i) { goto L_then_14_i_i_i_i_i; } else { goto L_join_16_i_i_i_i_i; }
 L_then_14_i_i_i_i_i:;
-    v_r143_i_i_i_i_i = v_r16_i_i_i1587_i + 3;
-    v_r145_i_i_i_i_i = v_r16_i_i_i1587_i + 4;
-    v_r147_i_i_i_i_i = v_r16_i_i_i1587_i + 5;
-    v_r155_i_i_i_i_i = (u32)v_r36_i1835_i;
+    v_r143_i_i_i_i_i = v_r16_i_i_i1588_i + 3;
+    v_r145_i_i_i_i_i = v_r16_i_i_i1588_i + 4;
+    v_r147_i_i_i_i_i = v_r16_i_i_i1588_i + 5;
+    v_r155_i_i_i_i_i = (u32)v_r36_i1836_i;
     v_r157_i_i_i_i_i = (u32)((u32)(v_r155_i_i_i_i_i) << (u32)((24u & 31)));
     v_r159_i_i_i_i_i = get_u8(v_r143_i_i_i_i_i);
     v_r161_i_i_i_i_i = (u32)v_r159_i_i_i_i_i;
@@ -5257,179 +5472,179 @@ L_then_14_i_i_i_i_i:;
     v_r177_i_i_i_i_i = get_u8(v_r147_i_i_i_i_i);
     v_r179_i_i_i_i_i = (u32)v_r177_i_i_i_i_i;
     v_r182_i_i_i_i_i = (u32)((u32)(v_r175_i_i_i_i_i) | (u32)(v_r179_i_i_i_i_i));
-    { p_v_r6_i12_sroa_30_104449_i = v_r19_i_i1798_i; p_v_r6_i12_sroa_0_104447_i = v_r16_i_i1797_i; p_v_r12_sroa_10_0_i1861_i = v_r182_i_i_i_i_i; goto L_arm_1_i_i537_i; }
+    { p_v_r6_i12_sroa_30_104450_i = v_r19_i_i1799_i; p_v_r6_i12_sroa_0_104448_i = v_r16_i_i1798_i; p_v_r12_sroa_10_0_i1862_i = v_r182_i_i_i_i_i; goto L_arm_1_i_i538_i; }
 L_join_16_i_i_i_i_i:;
     TRAP();
     TRAP();
-L_arm_1_i_i537_i:;
-    v_r6_i12_sroa_30_104449_i = p_v_r6_i12_sroa_30_104449_i;
-    v_r6_i12_sroa_0_104447_i = p_v_r6_i12_sroa_0_104447_i;
-    v_r12_sroa_10_0_i1861_i = p_v_r12_sroa_10_0_i1861_i;
-    if (v_r8_i_i_i_i_i) { goto L_join_3_i_i1920_i; } else { p_v_r14_sroa_0_sroa_5_0_ph = 10u; p_v_r14_sroa_0_sroa_8_0_ph = 2u; p_v_r14_sroa_0_sroa_11_0_ph = v_r29_i1700_i; goto L_arm_6; }
-L_join_3_i_i1920_i:;
-    v_r3_i25_i_i1921_i = (u64)v_r12_sroa_10_0_i1861_i;
-    v_r39_i_i1924_i = v_r6_i12_sroa_30_104449_i < v_r3_i25_i_i1921_i;
-    if (v_r39_i_i1924_i) { p_v_r14_sroa_0_sroa_5_0_ph = 1u; p_v_r14_sroa_0_sroa_8_0_ph = 0u; p_v_r14_sroa_0_sroa_11_0_ph = 0u; goto L_arm_6; } else { goto L_join_3_i_i1963_i; }
-L_join_3_i_i1963_i:;
-    v_r16_i_i_i1927_i = (P)((u64)v_r6_i12_sroa_0_104447_i + (u64)(v_r3_i25_i_i1921_i));
-    v_r19_i_i_i1928_i = (u64)((u64)(v_r6_i12_sroa_30_104449_i) - (u64)(v_r3_i25_i_i1921_i));
-    v_r7_i_i_i1972_i = v_r12_sroa_10_0_i1861_i == 0u;
-    if (v_r7_i_i_i1972_i) { p_v_r14_sroa_0_sroa_5_0_ph = 3u; p_v_r14_sroa_0_sroa_8_0_ph = 2u; p_v_r14_sroa_0_sroa_11_0_ph = 0u; goto L_arm_6; } else { goto L_join_8_i_i1973_i; }
-L_join_8_i_i1973_i:;
-    v_r60_i_i1974_i = get_u8(v_r6_i12_sroa_0_104447_i);
-    v_r62_i_i1975_i = (u8)(v_r60_i_i1974_i ^ ((u8)1 << 7)) < (u8)(0u ^ ((u8)1 << 7));
-    if (v_r62_i_i1975_i) { p_v_r14_sroa_0_sroa_5_0_ph = 13u; p_v_r14_sroa_0_sroa_8_0_ph = 2u; p_v_r14_sroa_0_sroa_11_0_ph = 0u; goto L_arm_6; } else { goto L_join_11_i_i1976_i; }
-L_join_11_i_i1976_i:;
-    v_r74_i_i1977_i = v_r12_sroa_10_0_i1861_i != 1u;
-    v_cond_i_i1978_i = v_r60_i_i1974_i == 0u;
-    v_or_cond_i_i1979_i = (u1)(((u32)(v_r74_i_i1977_i) & (u32)(v_cond_i_i1978_i)) & 1);
-    if (v_or_cond_i_i1979_i) { goto L_arm_15_i_i1991_i; } else { goto L_join_3_i_i2045_i; }
-L_arm_15_i_i1991_i:;
-    v_r84_i_i1992_i = v_r6_i12_sroa_0_104447_i + 1;
-    v_r87_i_i1993_i = get_u8(v_r84_i_i1992_i);
-    v_r89_i_i1994_i = (u8)(v_r87_i_i1993_i ^ ((u8)1 << 7)) > (u8)(255u ^ ((u8)1 << 7));
-    if (v_r89_i_i1994_i) { p_v_r14_sroa_0_sroa_5_0_ph = 4u; p_v_r14_sroa_0_sroa_8_0_ph = 2u; p_v_r14_sroa_0_sroa_11_0_ph = 0u; goto L_arm_6; } else { goto L_join_3_i_i2045_i; }
-L_join_3_i_i2045_i:;
-    v_r39_i_i2048_i = v_r6_i12_sroa_30_104449_i == v_r3_i25_i_i1921_i;
-    if (v_r39_i_i2048_i) { p_v_r14_sroa_0_sroa_5_0_ph = 1u; p_v_r14_sroa_0_sroa_8_0_ph = 0u; p_v_r14_sroa_0_sroa_11_0_ph = 0u; goto L_arm_6; } else { goto L_arm_1_i_i_i851_i; }
-L_arm_1_i_i_i851_i:;
-    v_r16_i_i_i2051_i = v_r16_i_i_i1927_i + 1;
-    v_r29_i2053_i = get_u8(v_r16_i_i_i1927_i);
-    v_r8_i_i_i_i855_i = v_r29_i2053_i == 2u;
-    if (v_r8_i_i_i_i855_i) { goto L_join_3_i_i2093_i; } else { goto L_der_core_header_tag_of_exit_i_i_i857_i; }
-L_der_core_header_tag_of_exit_i_i_i857_i:;
-    v_r9_i2075_i = (u8)((u32)(v_r29_i2053_i) & (u32)(31u));
-    v_r11_i2076_i = v_r9_i2075_i != 31u;
-    v_6 = (u8)((u32)(v_r29_i2053_i) & (u32)(223u));
+L_arm_1_i_i538_i:;
+    v_r6_i12_sroa_30_104450_i = p_v_r6_i12_sroa_30_104450_i;
+    v_r6_i12_sroa_0_104448_i = p_v_r6_i12_sroa_0_104448_i;
+    v_r12_sroa_10_0_i1862_i = p_v_r12_sroa_10_0_i1862_i;
+    if (v_r8_i_i_i_i_i) { goto L_join_3_i_i1921_i; } else { p_v_r14_sroa_0_sroa_5_0_ph = 10u; p_v_r14_sroa_0_sroa_8_0_ph = 2u; p_v_r14_sroa_0_sroa_11_0_ph = v_r29_i1701_i; goto L_arm_6; }
+L_join_3_i_i1921_i:;
+    v_r3_i25_i_i1922_i = (u64)v_r12_sroa_10_0_i1862_i;
+    v_r39_i_i1925_i = v_r6_i12_sroa_30_104450_i < v_r3_i25_i_i1922_i;
+    if (v_r39_i_i1925_i) { p_v_r14_sroa_0_sroa_5_0_ph = 1u; p_v_r14_sroa_0_sroa_8_0_ph = 0u; p_v_r14_sroa_0_sroa_11_0_ph = 0u; goto L_arm_6; } else { goto L_join_3_i_i1964_i; }
+L_join_3_i_i1964_i:;
+    v_r16_i_i_i1928_i = (P)((u64)v_r6_i12_sroa_0_104448_i + (u64)(v_r3_i25_i_i1922_i));
+    v_r19_i_i_i1929_i = (u64)((u64)(v_r6_i12_sroa_30_104450_i) - (u64)(v_r3_i25_i_i1922_i));
+    v_r7_i_i_i1973_i = v_r12_sroa_10_0_i1862_i == 0u;
+    if (v_r7_i_i_i1973_i) { p_v_r14_sroa_0_sroa_5_0_ph = 3u; p_v_r14_sroa_0_sroa_8_0_ph = 2u; p_v_r14_sroa_0_sroa_11_0_ph = 0u; goto L_arm_6; } else { goto L_join_8_i_i1974_i; }
+L_join_8_i_i1974_i:;
+    v_r60_i_i1975_i = get_u8(v_r6_i12_sroa_0_104448_i);
+    v_r62_i_i1976_i = (u8)(v_r60_i_i1975_i ^ ((u8)1 << 7)) < (u8)(0u ^ ((u8)1 << 7));
+    if (v_r62_i_i1976_i) { p_v_r14_sroa_0_sroa_5_0_ph = 13u; p_v_r14_sroa_0_sroa_8_0_ph = 2u; p_v_r14_sroa_0_sroa_11_0_ph = 0u; goto L_arm_6; } else { goto L_join_11_i_i1977_i; }
+L_join_11_i_i1977_i:;
+    v_r74_i_i1978_i = v_r12_sroa_10_0_i1862_i != 1u;
+    v_cond_i_i1979_i = v_r60_i_i1975_i == 0u;
+    v_or_cond_i_i1980_i = (u1)(((u32)(v_r74_i_i1978_i) & (u32)(v_cond_i_i1979_i)) & 1);
+    if (v_or_cond_i_i1980_i) { goto L_arm_15_i_i1992_i; } else { goto L_join_3_i_i2046_i; }
+L_arm_15_i_i1992_i:;
+    v_r84_i_i1993_i = v_r6_i12_sroa_0_104448_i + 1;
+    v_r87_i_i1994_i = get_u8(v_r84_i_i1993_i);
+    v_r89_i_i1995_i = (u8)(v_r87_i_i1994_i ^ ((u8)1 << 7)) > (u8)(255u ^ ((u8)1 << 7));
+    if (v_r89_i_i1995_i) { p_v_r14_sroa_0_sroa_5_0_ph = 4u; p_v_r14_sroa_0_sroa_8_0_ph = 2u; p_v_r14_sroa_0_sroa_11_0_ph = 0u; goto L_arm_6; } else { goto L_join_3_i_i2046_i; }
+L_join_3_i_i2046_i:;
+    v_r39_i_i2049_i = v_r6_i12_sroa_30_104450_i == v_r3_i25_i_i1922_i;
+    if (v_r39_i_i2049_i) { p_v_r14_sroa_0_sroa_5_0_ph = 1u; p_v_r14_sroa_0_sroa_8_0_ph = 0u; p_v_r14_sroa_0_sroa_11_0_ph = 0u; goto L_arm_6; } else { goto L_arm_1_i_i_i852_i; }
+L_arm_1_i_i_i852_i:;
+    v_r16_i_i_i2052_i = v_r16_i_i_i1928_i + 1;
+    v_r29_i2054_i = get_u8(v_r16_i_i_i1928_i);
+    v_r8_i_i_i_i856_i = v_r29_i2054_i == 2u;
+    if (v_r8_i_i_i_i856_i) { goto L_join_3_i_i2094_i; } else { goto L_der_core_header_tag_of_exit_i_i_i858_i; }
+L_der_core_header_tag_of_exit_i_i_i858_i:;
+    v_r9_i2076_i = (u8)((u32)(v_r29_i2054_i) & (u32)(31u));
+    v_r11_i2077_i = v_r9_i2076_i != 31u;
+    v_6 = (u8)((u32)(v_r29_i2054_i) & (u32)(223u));
     v_7 = v_6 != 0u;
-    v_r2_0_in_i2077_not_i = (u1)(((u32)(v_r11_i2076_i) & (u32)(v_7)) & 1);
-    if (v_r2_0_in_i2077_not_i) { goto L_join_3_i_i2093_i; } else { p_v_r14_sroa_0_sroa_5_0_ph = 11u; p_v_r14_sroa_0_sroa_8_0_ph = v_r29_i2053_i; p_v_r14_sroa_0_sroa_11_0_ph = 0u; goto L_arm_6; }
-L_join_3_i_i2093_i:;
-    v_r39_i_i2096_i = v_r19_i_i_i1928_i == 1u;
-    if (v_r39_i_i2096_i) { p_v_r14_sroa_0_sroa_5_0_ph = 1u; p_v_r14_sroa_0_sroa_8_0_ph = 0u; p_v_r14_sroa_0_sroa_11_0_ph = 0u; goto L_arm_6; } else { goto L_arm_1_i50_i_i942_i; }
-L_arm_1_i50_i_i942_i:;
-    v_r16_i_i_i2099_i = v_r16_i_i_i1927_i + 2;
-    v_r19_i_i_i2100_i = (u64)((u64)(v_r19_i_i_i1928_i) + (u64)(18446744073709551614ull));
-    v_r29_i2101_i = get_u8(v_r16_i_i_i2051_i);
-    v_r51_i53_i_i945_i = (u8)(v_r29_i2101_i ^ ((u8)1 << 7)) > (u8)(255u ^ ((u8)1 << 7));
-    if (v_r51_i53_i_i945_i) { goto L_then_5_i_i_i1073_i; } else { goto L_join_7_i54_i_i946_i; }
-L_then_5_i_i_i1073_i:;
-    v_r56_i64_i_i1074_i = (u32)v_r29_i2101_i;
-    { p_v_r6_i12_sroa_30_155035_i = v_r19_i_i_i2100_i; p_v_r6_i12_sroa_0_155033_i = v_r16_i_i_i2099_i; p_v_r12_sroa_10_0_i2214_i = v_r56_i64_i_i1074_i; goto L_arm_1_i_i775_i; }
-L_join_7_i54_i_i946_i:;
-    v_r68_i55_i_i947_i = v_r29_i2101_i == 128u;
-    if (v_r68_i55_i_i947_i) { p_v_r14_sroa_0_sroa_5_0_ph = 2u; p_v_r14_sroa_0_sroa_8_0_ph = 0u; p_v_r14_sroa_0_sroa_11_0_ph = 0u; goto L_arm_6; } else { goto L_join_10_i_i_i948_i; }
-L_join_10_i_i_i948_i:;
-    v_r87_i_i_i949_i = v_r29_i2101_i > 132u;
-    if (v_r87_i_i_i949_i) { p_v_r14_sroa_0_sroa_5_0_ph = 7u; p_v_r14_sroa_0_sroa_8_0_ph = 0u; p_v_r14_sroa_0_sroa_11_0_ph = 0u; goto L_arm_6; } else { goto L_join_3_i2142_i; }
-L_join_3_i2142_i:;
-    v_r106_i_i_i951_i = (u8)((u32)(v_r29_i2101_i) & (u32)(127u));
-    v_r3_i25_i2143_i = (u64)v_r106_i_i_i951_i;
-    v_r39_i2146_i = v_r19_i_i_i2100_i < v_r3_i25_i2143_i;
-    if (v_r39_i2146_i) { p_v_r14_sroa_0_sroa_5_0_ph = 1u; p_v_r14_sroa_0_sroa_8_0_ph = 0u; p_v_r14_sroa_0_sroa_11_0_ph = 0u; goto L_arm_6; } else { goto L_arm_14_i_i_i968_i; }
-L_arm_14_i_i_i968_i:;
-    v_r16_i_i2150_i = (P)((u64)v_r16_i_i_i2099_i + (u64)(v_r3_i25_i2143_i));
-    v_r19_i_i2151_i = (u64)((u64)(v_r19_i_i_i2100_i) - (u64)(v_r3_i25_i2143_i));
-    switch (v_r106_i_i_i951_i) {
-    case 0u: { p_v_r14_sroa_0_sroa_5_0_ph = 8u; p_v_r14_sroa_0_sroa_8_0_ph = v_r106_i_i_i951_i; p_v_r14_sroa_0_sroa_11_0_ph = v_r106_i_i_i951_i; goto L_arm_6; }
-    case 1u: { goto L_der_core_length_is_overlong_exit2190_i; }
-    default: { goto L_join_7_i2187_i; }
+    v_r2_0_in_i2078_not_i = (u1)(((u32)(v_r11_i2077_i) & (u32)(v_7)) & 1);
+    if (v_r2_0_in_i2078_not_i) { goto L_join_3_i_i2094_i; } else { p_v_r14_sroa_0_sroa_5_0_ph = 11u; p_v_r14_sroa_0_sroa_8_0_ph = v_r29_i2054_i; p_v_r14_sroa_0_sroa_11_0_ph = 0u; goto L_arm_6; }
+L_join_3_i_i2094_i:;
+    v_r39_i_i2097_i = v_r19_i_i_i1929_i == 1u;
+    if (v_r39_i_i2097_i) { p_v_r14_sroa_0_sroa_5_0_ph = 1u; p_v_r14_sroa_0_sroa_8_0_ph = 0u; p_v_r14_sroa_0_sroa_11_0_ph = 0u; goto L_arm_6; } else { goto L_arm_1_i50_i_i943_i; }
+L_arm_1_i50_i_i943_i:;
+    v_r16_i_i_i2100_i = v_r16_i_i_i1928_i + 2;
+    v_r19_i_i_i2101_i = (u64)((u64)(v_r19_i_i_i1929_i) + (u64)(18446744073709551614ull));
+    v_r29_i2102_i = get_u8(v_r16_i_i_i2052_i);
+    v_r51_i53_i_i946_i = (u8)(v_r29_i2102_i ^ ((u8)1 << 7)) > (u8)(255u ^ ((u8)1 << 7));
+    if (v_r51_i53_i_i946_i) { goto L_then_5_i_i_i1074_i; } else { goto L_join_7_i54_i_i947_i; }
+L_then_5_i_i_i1074_i:;
+    v_r56_i64_i_i1075_i = (u32)v_r29_i2102_i;
+    { p_v_r6_i12_sroa_30_155036_i = v_r19_i_i_i2101_i; p_v_r6_i12_sroa_0_155034_i = v_r16_i_i_i2100_i; p_v_r12_sroa_10_0_i2215_i = v_r56_i64_i_i1075_i; goto L_arm_1_i_i776_i; }
+L_join_7_i54_i_i947_i:;
+    v_r68_i55_i_i948_i = v_r29_i2102_i == 128u;
+    if (v_r68_i55_i_i948_i) { p_v_r14_sroa_0_sroa_5_0_ph = 2u; p_v_r14_sroa_0_sroa_8_0_ph = 0u; p_v_r14_sroa_0_sroa_11_0_ph = 0u; goto L_arm_6; } else { goto L_join_10_i_i_i949_i; }
+L_join_10_i_i_i949_i:;
+    v_r87_i_i_i950_i = v_r29_i2102_i > 132u;
+    if (v_r87_i_i_i950_i) { p_v_r14_sroa_0_sroa_5_0_ph = 7u; p_v_r14_sroa_0_sroa_8_0_ph = 0u; p_v_r14_sroa_0_sroa_11_0_ph = 0u; goto L_arm_6; } else { goto L_join_3_i2143_i; }
+L_join_3_i2143_i:;
+    v_r106_i_i_i952_i = (u8)((u32)(v_r29_i2102_i) & (u32)(127u));
+    v_r3_i25_i2144_i = (u64)v_r106_i_i_i952_i;
+    v_r39_i2147_i = v_r19_i_i_i2101_i < v_r3_i25_i2144_i;
+    if (v_r39_i2147_i) { p_v_r14_sroa_0_sroa_5_0_ph = 1u; p_v_r14_sroa_0_sroa_8_0_ph = 0u; p_v_r14_sroa_0_sroa_11_0_ph = 0u; goto L_arm_6; } else { goto L_arm_14_i_i_i969_i; }
+L_arm_14_i_i_i969_i:;
+    v_r16_i_i2151_i = (P)((u64)v_r16_i_i_i2100_i + (u64)(v_r3_i25_i2144_i));
+    v_r19_i_i2152_i = (u64)((u64)(v_r19_i_i_i2101_i) - (u64)(v_r3_i25_i2144_i));
+    switch (v_r106_i_i_i952_i) {
+    case 0u: { p_v_r14_sroa_0_sroa_5_0_ph = 8u; p_v_r14_sroa_0_sroa_8_0_ph = v_r106_i_i_i952_i; p_v_r14_sroa_0_sroa_11_0_ph = v_r106_i_i_i952_i; goto L_arm_6; }
+    case 1u: { goto L_der_core_length_is_overlong_exit2191_i; }
+    default: { goto L_join_7_i2188_i; }
     }
-L_join_7_i2187_i:;
-    v_r36_i2188_i = get_u8(v_r16_i_i_i2099_i);
-    v_r38_i2189_i = v_r36_i2188_i == 0u;
-    if (v_r38_i2189_i) { p_v_r14_sroa_0_sroa_5_0_ph = 8u; p_v_r14_sroa_0_sroa_8_0_ph = 0u; p_v_r14_sroa_0_sroa_11_0_ph = 0u; goto L_arm_6; } else { goto L_join_7_i_i_i_i988_i; }
-L_der_core_length_is_overlong_exit2190_i:;
-    v_r28_i2184_i = get_u8(v_r16_i_i_i2099_i);
-    v_r30_i2185_i = (u8)(v_r28_i2184_i ^ ((u8)1 << 7)) > (u8)(255u ^ ((u8)1 << 7));
-    if (v_r30_i2185_i) { p_v_r14_sroa_0_sroa_5_0_ph = 8u; p_v_r14_sroa_0_sroa_8_0_ph = 0u; p_v_r14_sroa_0_sroa_11_0_ph = 0u; goto L_arm_6; } else { goto L_then_5_i_i_i_i975_i; }
-L_then_5_i_i_i_i975_i:;
-    v_r71_i_i_i_i977_i = (u32)v_r28_i2184_i;
-    { p_v_r6_i12_sroa_30_155035_i = v_r19_i_i2151_i; p_v_r6_i12_sroa_0_155033_i = v_r16_i_i2150_i; p_v_r12_sroa_10_0_i2214_i = v_r71_i_i_i_i977_i; goto L_arm_1_i_i775_i; }
-L_join_7_i_i_i_i988_i:;
-    v_r74_i_i_i_i989_i = v_r106_i_i_i951_i < 3u;
-    if (v_r74_i_i_i_i989_i) { goto L_then_8_i_i_i_i1026_i; } else { goto L_join_10_i_i_i_i990_i; }
-L_then_8_i_i_i_i1026_i:;
-    v_r81_i_i_i_i1027_i = v_r16_i_i_i1927_i + 3;
-    v_r87_i_i_i_i1029_i = (u32)v_r36_i2188_i;
-    v_r89_i_i_i_i1030_i = (u32)((u32)(v_r87_i_i_i_i1029_i) << (u32)((8u & 31)));
-    v_r91_i_i_i_i1031_i = get_u8(v_r81_i_i_i_i1027_i);
-    v_r93_i_i_i_i1032_i = (u32)v_r91_i_i_i_i1031_i;
-    v_r96_i_i_i_i1033_i = (u32)((u32)(v_r89_i_i_i_i1030_i) | (u32)(v_r93_i_i_i_i1032_i));
-    { p_v_r6_i12_sroa_30_155035_i = v_r19_i_i2151_i; p_v_r6_i12_sroa_0_155033_i = v_r16_i_i2150_i; p_v_r12_sroa_10_0_i2214_i = v_r96_i_i_i_i1033_i; goto L_arm_1_i_i775_i; }
-L_join_10_i_i_i_i990_i:;
-    v_r99_i_i_i_i991_i = v_r106_i_i_i951_i == 3u;
-    if (v_r99_i_i_i_i991_i) { goto L_then_11_i_i_i_i1013_i; } else { goto L_join_13_i_i_i_i992_i; }
-L_then_11_i_i_i_i1013_i:;
-    v_r106_i_i_i_i1014_i = v_r16_i_i_i1927_i + 3;
-    v_r108_i_i_i_i1015_i = v_r16_i_i_i1927_i + 4;
-    v_r115_i_i_i_i1017_i = (u32)v_r36_i2188_i;
-    v_r117_i_i_i_i1018_i = (u32)((u32)(v_r115_i_i_i_i1017_i) << (u32)((16u & 31)));
-    v_r119_i_i_i_i1019_i = get_u8(v_r106_i_i_i_i1014_i);
-    v_r121_i_i_i_i1020_i = (u32)v_r119_i_i_i_i1019_i;
-    v_r123_i_i_i_i1021_i = (u32)((u32)(v_r121_i_i_i_i1020_i) << (u32)((8u & 31)));
-    v_r126_i_i_i_i1022_i = (u32)((u32)(v_r123_i_i_i_i1021_i) | (u32)(v_r117_i_i_i_i1018_i));
-    v_r128_i_i_i_i1023_i = get_u8(v_r108_i_i_i_i1015_i);
-    v_r130_i_i_i_i1024_i = (u32)v_r128_i_i_i_i1023_i;
-    v_r133_i_i_i_i1025_i = (u32)((u32)(v_r126_i_i_i_i1022_i) | (u32)(v_r130_i_i_i_i1024_i));
-    { p_v_r6_i12_sroa_30_155035_i = v_r19_i_i2151_i; p_v_r6_i12_sroa_0_155033_i = v_r16_i_i2150_i; p_v_r12_sroa_10_0_i2214_i = v_r133_i_i_i_i1025_i; goto L_arm_1_i_i775_i; }
-L_join_13_i_i_i_i992_i:;
-    v_r136_i_i_i_i993_i = v_r106_i_i_i951_i < 5u;
-    if (v_r136_i_i_i_i993_i) { goto L_then_14_i_i_i_i995_i; } else { goto L_join_16_i_i_i_i994_i; }
-L_then_14_i_i_i_i995_i:;
-    v_r143_i_i_i_i996_i = v_r16_i_i_i1927_i + 3;
-    v_r145_i_i_i_i997_i = v_r16_i_i_i1927_i + 4;
-    v_r147_i_i_i_i998_i = v_r16_i_i_i1927_i + 5;
-    v_r155_i_i_i_i1000_i = (u32)v_r36_i2188_i;
-    v_r157_i_i_i_i1001_i = (u32)((u32)(v_r155_i_i_i_i1000_i) << (u32)((24u & 31)));
-    v_r159_i_i_i_i1002_i = get_u8(v_r143_i_i_i_i996_i);
-    v_r161_i_i_i_i1003_i = (u32)v_r159_i_i_i_i1002_i;
-    v_r163_i_i_i_i1004_i = (u32)((u32)(v_r161_i_i_i_i1003_i) << (u32)((16u & 31)));
-    v_r166_i_i_i_i1005_i = (u32)((u32)(v_r163_i_i_i_i1004_i) | (u32)(v_r157_i_i_i_i1001_i));
-    v_r168_i_i_i_i1006_i = get_u8(v_r145_i_i_i_i997_i);
-    v_r170_i_i_i_i1007_i = (u32)v_r168_i_i_i_i1006_i;
-    v_r172_i_i_i_i1008_i = (u32)((u32)(v_r170_i_i_i_i1007_i) << (u32)((8u & 31)));
-    v_r175_i_i_i_i1009_i = (u32)((u32)(v_r166_i_i_i_i1005_i) | (u32)(v_r172_i_i_i_i1008_i));
-    v_r177_i_i_i_i1010_i = get_u8(v_r147_i_i_i_i998_i);
-    v_r179_i_i_i_i1011_i = (u32)v_r177_i_i_i_i1010_i;
-    v_r182_i_i_i_i1012_i = (u32)((u32)(v_r175_i_i_i_i1009_i) | (u32)(v_r179_i_i_i_i1011_i));
-    { p_v_r6_i12_sroa_30_155035_i = v_r19_i_i2151_i; p_v_r6_i12_sroa_0_155033_i = v_r16_i_i2150_i; p_v_r12_sroa_10_0_i2214_i = v_r182_i_i_i_i1012_i; goto L_arm_1_i_i775_i; }
-L_join_16_i_i_i_i994_i:;
+L_join_7_i2188_i:;
+    v_r36_i2189_i = get_u8(v_r16_i_i_i2100_i);
+    v_r38_i2190_i = v_r36_i2189_i == 0u;
+    if (v_r38_i2190_i) { p_v_r14_sroa_0_sroa_5_0_ph = 8u; p_v_r14_sroa_0_sroa_8_0_ph = 0u; p_v_r14_sroa_0_sroa_11_0_ph = 0u; goto L_arm_6; } else { goto L_join_7_i_i_i_i989_i; }
+L_der_core_length_is_overlong_exit2191_i:;
+    v_r28_i2185_i = get_u8(v_r16_i_i_i2100_i);
+    v_r30_i2186_i = (u8)(v_r28_i2185_i ^ ((u8)1 << 7)) > (u8)(255u ^ ((u8)1 << 7));
+    if (v_r30_i2186_i) { p_v_r14_sroa_0_sroa_5_0_ph = 8u; p_v_r14_sroa_0_sroa_8_0_ph = 0u; p_v_r14_sroa_0_sroa_11_0_ph = 0u; goto L_arm_6; } else { goto L_then_5_i_i_i_i976_i; }
+L_then_5_i_i_i_i976_i:;
+    v_r71_i_i_i_i978_i = (u32)v_r28_i2185_i;
+    { p_v_r6_i12_sroa_30_155036_i = v_r19_i_i2152_i; p_v_r6_i12_sroa_0_155034_i = v_r16_i_i2151_i; p_v_r12_sroa_10_0_i2215_i = v_r71_i_i_i_i978_i; goto L_arm_1_i_i776_i; }
+L_join_7_i_i_i_i989_i:;
+    v_r74_i_i_i_i990_i = v_r106_i_i_i952_i < 3u;
+    if (v_r74_i_i_i_i990_i) { goto L_then_8_i_i_i_i1027_i; } else { goto L_join_10_i_i_i_i991_i; }
+L_then_8_i_i_i_i1027_i:;
+    v_r81_i_i_i_i1028_i = v_r16_i_i_i1928_i + 3;
+    v_r87_i_i_i_i1030_i = (u32)v_r36_i2189_i;
+    v_r89_i_i_i_i1031_i = (u32)((u32)(v_r87_i_i_i_i1030_i) << (u32)((8u & 31)));
+    v_r91_i_i_i_i1032_i = get_u8(v_r81_i_i_i_i1028_i);
+    v_r93_i_i_i_i1033_i = (u32)v_r91_i_i_i_i1032_i;
+    v_r96_i_i_i_i1034_i = (u32)((u32)(v_r89_i_i_i_i1031_i) | (u32)(v_r93_i_i_i_i1033_i));
+    { p_v_r6_i12_sroa_30_155036_i = v_r19_i_i2152_i; p_v_r6_i12_sroa_0_155034_i = v_r16_i_i2151_i; p_v_r12_sroa_10_0_i2215_i = v_r96_i_i_i_i1034_i; goto L_arm_1_i_i776_i; }
+L_join_10_i_i_i_i991_i:;
+    v_r99_i_i_i_i992_i = v_r106_i_i_i952_i == 3u;
+    if (v_r99_i_i_i_i992_i) { goto L_then_11_i_i_i_i1014_i; } else { goto L_join_13_i_i_i_i993_i; }
+L_then_11_i_i_i_i1014_i:;
+    v_r106_i_i_i_i1015_i = v_r16_i_i_i1928_i + 3;
+    v_r108_i_i_i_i1016_i = v_r16_i_i_i1928_i + 4;
+    v_r115_i_i_i_i1018_i = (u32)v_r36_i2189_i;
+    v_r117_i_i_i_i1019_i = (u32)((u32)(v_r115_i_i_i_i1018_i) << (u32)((16u & 31)));
+    v_r119_i_i_i_i1020_i = get_u8(v_r106_i_i_i_i1015_i);
+    v_r121_i_i_i_i1021_i = (u32)v_r119_i_i_i_i1020_i;
+    v_r123_i_i_i_i1022_i = (u32)((u32)(v_r121_i_i_i_i1021_i) << (u32)((8u & 31)));
+    v_r126_i_i_i_i1023_i = (u32)((u32)(v_r123_i_i_i_i1022_i) | (u32)(v_r117_i_i_i_i1019_i));
+    v_r128_i_i_i_i1024_i = get_u8(v_r108_i_i_i_i1016_i);
+    v_r130_i_i_i_i1025_i = (u32)v_r128_i_i_i_i1024_i;
+    v_r133_i_i_i_i1026_i = (u32)((u32)(v_r126_i_i_i_i1023_i) | (u32)(v_r130_i_i_i_i1025_i));
+    { p_v_r6_i12_sroa_30_155036_i = v_r19_i_i2152_i; p_v_r6_i12_sroa_0_155034_i = v_r16_i_i2151_i; p_v_r12_sroa_10_0_i2215_i = v_r133_i_i_i_i1026_i; goto L_arm_1_i_i776_i; }
+L_join_13_i_i_i_i993_i:;
+    v_r136_i_i_i_i994_i = v_r106_i_i_i952_i < 5u;
+    if (v_r136_i_i_i_i994_i) { goto L_then_14_i_i_i_i996_i; } else { goto L_join_16_i_i_i_i995_i; }
+L_then_14_i_i_i_i996_i:;
+    v_r143_i_i_i_i997_i = v_r16_i_i_i1928_i + 3;
+    v_r145_i_i_i_i998_i = v_r16_i_i_i1928_i + 4;
+    v_r147_i_i_i_i999_i = v_r16_i_i_i1928_i + 5;
+    v_r155_i_i_i_i1001_i = (u32)v_r36_i2189_i;
+    v_r157_i_i_i_i1002_i = (u32)((u32)(v_r155_i_i_i_i1001_i) << (u32)((24u & 31)));
+    v_r159_i_i_i_i1003_i = get_u8(v_r143_i_i_i_i997_i);
+    v_r161_i_i_i_i1004_i = (u32)v_r159_i_i_i_i1003_i;
+    v_r163_i_i_i_i1005_i = (u32)((u32)(v_r161_i_i_i_i1004_i) << (u32)((16u & 31)));
+    v_r166_i_i_i_i1006_i = (u32)((u32)(v_r163_i_i_i_i1005_i) | (u32)(v_r157_i_i_i_i1002_i));
+    v_r168_i_i_i_i1007_i = get_u8(v_r145_i_i_i_i998_i);
+    v_r170_i_i_i_i1008_i = (u32)v_r168_i_i_i_i1007_i;
+    v_r172_i_i_i_i1009_i = (u32)((u32)(v_r170_i_i_i_i1008_i) << (u32)((8u & 31)));
+    v_r175_i_i_i_i1010_i = (u32)((u32)(v_r166_i_i_i_i1006_i) | (u32)(v_r172_i_i_i_i1009_i));
+    v_r177_i_i_i_i1011_i = get_u8(v_r147_i_i_i_i999_i);
+    v_r179_i_i_i_i1012_i = (u32)v_r177_i_i_i_i1011_i;
+    v_r182_i_i_i_i1013_i = (u32)((u32)(v_r175_i_i_i_i1010_i) | (u32)(v_r179_i_i_i_i1012_i));
+    { p_v_r6_i12_sroa_30_155036_i = v_r19_i_i2152_i; p_v_r6_i12_sroa_0_155034_i = v_r16_i_i2151_i; p_v_r12_sroa_10_0_i2215_i = v_r182_i_i_i_i1013_i; goto L_arm_1_i_i776_i; }
+L_join_16_i_i_i_i995_i:;
     TRAP();
     TRAP();
-L_arm_1_i_i775_i:;
-    v_r6_i12_sroa_30_155035_i = p_v_r6_i12_sroa_30_155035_i;
-    v_r6_i12_sroa_0_155033_i = p_v_r6_i12_sroa_0_155033_i;
-    v_r12_sroa_10_0_i2214_i = p_v_r12_sroa_10_0_i2214_i;
-    if (v_r8_i_i_i_i855_i) { goto L_join_3_i_i2273_i; } else { p_v_r14_sroa_0_sroa_5_0_ph = 10u; p_v_r14_sroa_0_sroa_8_0_ph = 2u; p_v_r14_sroa_0_sroa_11_0_ph = v_r29_i2053_i; goto L_arm_6; }
-L_join_3_i_i2273_i:;
-    v_r3_i25_i_i2274_i = (u64)v_r12_sroa_10_0_i2214_i;
-    v_r39_i_i2277_i = v_r6_i12_sroa_30_155035_i < v_r3_i25_i_i2274_i;
-    if (v_r39_i_i2277_i) { p_v_r14_sroa_0_sroa_5_0_ph = 1u; p_v_r14_sroa_0_sroa_8_0_ph = 0u; p_v_r14_sroa_0_sroa_11_0_ph = 0u; goto L_arm_6; } else { goto L_join_3_i_i2316_i; }
-L_join_3_i_i2316_i:;
-    v_r7_i_i_i2325_i = v_r12_sroa_10_0_i2214_i == 0u;
-    if (v_r7_i_i_i2325_i) { p_v_r14_sroa_0_sroa_5_0_ph = 3u; p_v_r14_sroa_0_sroa_8_0_ph = 2u; p_v_r14_sroa_0_sroa_11_0_ph = 0u; goto L_arm_6; } else { goto L_join_8_i_i2326_i; }
-L_join_8_i_i2326_i:;
-    v_r60_i_i2327_i = get_u8(v_r6_i12_sroa_0_155033_i);
-    v_r62_i_i2328_i = (u8)(v_r60_i_i2327_i ^ ((u8)1 << 7)) < (u8)(0u ^ ((u8)1 << 7));
-    if (v_r62_i_i2328_i) { p_v_r14_sroa_0_sroa_5_0_ph = 13u; p_v_r14_sroa_0_sroa_8_0_ph = 2u; p_v_r14_sroa_0_sroa_11_0_ph = 0u; goto L_arm_6; } else { goto L_join_11_i_i2329_i; }
-L_join_11_i_i2329_i:;
-    v_r74_i_i2330_i = v_r12_sroa_10_0_i2214_i != 1u;
-    v_cond_i_i2331_i = v_r60_i_i2327_i == 0u;
-    v_or_cond_i_i2332_i = (u1)(((u32)(v_r74_i_i2330_i) & (u32)(v_cond_i_i2331_i)) & 1);
-    if (v_or_cond_i_i2332_i) { goto L_arm_15_i_i2344_i; } else { goto L_der_core_parts_Tuple2DecodePartsRefSliceU8_decode_; }
-L_arm_15_i_i2344_i:;
-    v_r84_i_i2345_i = v_r6_i12_sroa_0_155033_i + 1;
-    v_r87_i_i2346_i = get_u8(v_r84_i_i2345_i);
-    v_r89_i_i2347_i = (u8)(v_r87_i_i2346_i ^ ((u8)1 << 7)) > (u8)(255u ^ ((u8)1 << 7));
-    if (v_r89_i_i2347_i) { p_v_r14_sroa_0_sroa_5_0_ph = 4u; p_v_r14_sroa_0_sroa_8_0_ph = 2u; p_v_r14_sroa_0_sroa_11_0_ph = 0u; goto L_arm_6; } else { goto L_der_core_parts_Tuple2DecodePartsRefSliceU8_decode_; }
+L_arm_1_i_i776_i:;
+    v_r6_i12_sroa_30_155036_i = p_v_r6_i12_sroa_30_155036_i;
+    v_r6_i12_sroa_0_155034_i = p_v_r6_i12_sroa_0_155034_i;
+    v_r12_sroa_10_0_i2215_i = p_v_r12_sroa_10_0_i2215_i;
+    if (v_r8_i_i_i_i856_i) { goto L_join_3_i_i2274_i; } else { p_v_r14_sroa_0_sroa_5_0_ph = 10u; p_v_r14_sroa_0_sroa_8_0_ph = 2u; p_v_r14_sroa_0_sroa_11_0_ph = v_r29_i2054_i; goto L_arm_6; }
+L_join_3_i_i2274_i:;
+    v_r3_i25_i_i2275_i = (u64)v_r12_sroa_10_0_i2215_i;
+    v_r39_i_i2278_i = v_r6_i12_sroa_30_155036_i < v_r3_i25_i_i2275_i;
+    if (v_r39_i_i2278_i) { p_v_r14_sroa_0_sroa_5_0_ph = 1u; p_v_r14_sroa_0_sroa_8_0_ph = 0u; p_v_r14_sroa_0_sroa_11_0_ph = 0u; goto L_arm_6; } else { goto L_join_3_i_i2317_i; }
+L_join_3_i_i2317_i:;
+    v_r7_i_i_i2326_i = v_r12_sroa_10_0_i2215_i == 0u;
+    if (v_r7_i_i_i2326_i) { p_v_r14_sroa_0_sroa_5_0_ph = 3u; p_v_r14_sroa_0_sroa_8_0_ph = 2u; p_v_r14_sroa_0_sroa_11_0_ph = 0u; goto L_arm_6; } else { goto L_join_8_i_i2327_i; }
+L_join_8_i_i2327_i:;
+    v_r60_i_i2328_i = get_u8(v_r6_i12_sroa_0_155034_i);
+    v_r62_i_i2329_i = (u8)(v_r60_i_i2328_i ^ ((u8)1 << 7)) < (u8)(0u ^ ((u8)1 << 7));
+    if (v_r62_i_i2329_i) { p_v_r14_sroa_0_sroa_5_0_ph = 13u; p_v_r14_sroa_0_sroa_8_0_ph = 2u; p_v_r14_sroa_0_sroa_11_0_ph = 0u; goto L_arm_6; } else { goto L_join_11_i_i2330_i; }
+L_join_11_i_i2330_i:;
+    v_r74_i_i2331_i = v_r12_sroa_10_0_i2215_i != 1u;
+    v_cond_i_i2332_i = v_r60_i_i2328_i == 0u;
+    v_or_cond_i_i2333_i = (u1)(((u32)(v_r74_i_i2331_i) & (u32)(v_cond_i_i2332_i)) & 1);
+    if (v_or_cond_i_i2333_i) { goto L_arm_15_i_i2345_i; } else { goto L_der_core_parts_Tuple2DecodePartsRefSliceU8_decode_; }
+L_arm_15_i_i2345_i:;
+    v_r84_i_i2346_i = v_r6_i12_sroa_0_155034_i + 1;
+    v_r87_i_i2347_i = get_u8(v_r84_i_i2346_i);
+    v_r89_i_i2348_i = (u8)(v_r87_i_i2347_i ^ ((u8)1 << 7)) > (u8)(255u ^ ((u8)1 << 7));
+    if (v_r89_i_i2348_i) { p_v_r14_sroa_0_sroa_5_0_ph = 4u; p_v_r14_sroa_0_sroa_8_0_ph = 2u; p_v_r14_sroa_0_sroa_11_0_ph = 0u; goto L_arm_6; } else { goto L_der_core_parts_Tuple2DecodePartsRefSliceU8_decode_; }
 L_der_core_parts_Tuple2DecodePartsRefSliceU8_decode_:;
-    v_r7_i_i2400_i = v_r6_i12_sroa_30_155035_i == v_r3_i25_i_i2274_i;
-    if (v_r7_i_i2400_i) { goto L_arm_10_i; } else { p_v_r14_sroa_0_sroa_5_0_ph = 12u; p_v_r14_sroa_0_sroa_8_0_ph = 0u; p_v_r14_sroa_0_sroa_11_0_ph = 0u; goto L_arm_6; }
+    v_r7_i_i2401_i = v_r6_i12_sroa_30_155036_i == v_r3_i25_i_i2275_i;
+    if (v_r7_i_i2401_i) { goto L_arm_10_i; } else { p_v_r14_sroa_0_sroa_5_0_ph = 12u; p_v_r14_sroa_0_sroa_8_0_ph = 0u; p_v_r14_sroa_0_sroa_11_0_ph = 0u; goto L_arm_6; }
 L_arm_10_i:;
-    v_r70_i = (u64)((u64)(v_r6_05880_i) + (u64)(1u));
-    v_r12_i_i_i_not_i_i = v_r19_i_i_i1321_i == 0u;
-    if (v_r12_i_i_i_not_i_i) { p_v_r14_sroa_0_sroa_0_052 = 0u; p_v_r15_sroa_10_sroa_1_0 = v_r13_sroa_0_0_copyload_i; p_v_r15_sroa_10_sroa_3_0 = v_r3_i25_i; p_v_r15_sroa_4_0 = 0u; p_v_r15_sroa_6_0 = 0u; p_v_r15_sroa_8_0 = 0u; p_v_r15_sroa_12_0 = v_r70_i; goto L_join_7; } else { p_v_r6_05880_i = v_r70_i; p_v_r3_sroa_11_05879_i = v_r19_i_i_i1321_i; p_v_r3_sroa_0_05878_i = v_r16_i_i_i1320_i; goto L_arm_1_i60_i; }
+    v_r70_i = (u64)((u64)(v_r6_05761_i) + (u64)(1u));
+    v_r12_i_i_i_not_i_i = v_r19_i_i_i1322_i == 0u;
+    if (v_r12_i_i_i_not_i_i) { p_v_r14_sroa_0_sroa_0_052 = 0u; p_v_r15_sroa_10_sroa_1_0 = v_r13_sroa_0_0_copyload_i; p_v_r15_sroa_10_sroa_3_0 = v_r3_i25_i; p_v_r15_sroa_4_0 = 0u; p_v_r15_sroa_6_0 = 0u; p_v_r15_sroa_8_0 = 0u; p_v_r15_sroa_12_0 = v_r70_i; goto L_join_7; } else { p_v_r6_05761_i = v_r70_i; p_v_r3_sroa_11_05760_i = v_r19_i_i_i1322_i; p_v_r3_sroa_0_05759_i = v_r16_i_i_i1321_i; goto L_arm_1_i60_i; }
 L_common_ret:;
     return;
 L_arm_2:;
@@ -23125,7 +23340,7 @@ L_common_ret:;
     put_u8(v_r56, 0u);
     return;
 }
-static u1 f_pkcs1_c_algorithm_uses_hash_otherwise(P v_a0, P v_a1, P v_a2, u64 v_a3) {
+static u1 f_pkcs1_c_algorithm_uses_hash_otherwise(P v_a0, P v_a1, P v_a2_0_val, u64 v_a2_8_val) {
     u1 p_v_r3_0_i;
     P v_r8_i;
     u8 v_r9_i;
@@ -23179,60 +23394,87 @@ static u1 f_pkcs1_c_algorithm_uses_hash_otherwise(P v_a0, P v_a1, P v_a2, u64 v_
     P v_r11_sroa_0_0_copyload_i9_i;
     P v_r11_sroa_3_0_a0_sroa_idx_i10_i;
     u64 v_r11_sroa_3_0_copyload_i11_i;
-    u1 v_r86_i_i;
+    u1 v_r128_not_i_i;
     u1 v_r135_i_i;
-    u1 v_r123_i_i;
-    P v_r107_i_i;
-    P v_r105_i_i;
-    P v_r103_i_i;
-    P v_r101_i_i;
-    P v_r99_i_i;
-    P v_r97_i_i;
-    P v_r95_i_i;
-    P v_r93_i_i;
-    P v_r142_i_i;
-    P v_r144_i_i;
-    P v_r146_i_i;
-    P v_r148_i_i;
-    P v_r150_i_i;
-    P v_r152_i_i;
     P v_r154_i_i;
-    P v_r156_i_i;
-    u8 v_r167_i_i;
-    u8 v_r169_i_i;
-    u1 v_r172_i_i;
-    u8 v_r175_i_i;
-    u8 v_r177_i_i;
-    u1 v_r180_i_i;
-    u1 v_r186_i_i;
-    u8 v_r189_i_i;
-    u8 v_r191_i_i;
-    u1 v_r194_i_i;
-    u1 v_r200_i_i;
-    u8 v_r203_i_i;
-    u8 v_r205_i_i;
-    u1 v_r208_i_i;
-    u1 v_r214_i_i;
-    u8 v_r217_i_i;
-    u8 v_r219_i_i;
-    u1 v_r222_i_i;
-    u1 v_r228_i_i;
-    u8 v_r231_i_i;
-    u8 v_r233_i_i;
-    u1 v_r236_i_i;
-    u1 v_r242_i_i;
-    u8 v_r245_i_i;
-    u8 v_r247_i_i;
-    u1 v_r250_i_i;
-    u1 v_r256_i_i;
-    u8 v_r259_i_i;
-    u8 v_r261_i_i;
-    u1 v_r264_i_i;
-    u1 v_r270_i_i;
-    u8 v_r273_i_i;
-    u8 v_r275_i_i;
-    u1 v_r278_i_i;
-    u1 v_r284_i_i;
+    P v_r152_i_i;
+    P v_r150_i_i;
+    P v_r148_i_i;
+    P v_r175_i_i;
+    P v_r177_i_i;
+    P v_r179_i_i;
+    P v_r181_i_i;
+    u8 v_r188_i_i;
+    u8 v_r190_i_i;
+    u1 v_r193_i_i;
+    u8 v_r196_i_i;
+    u8 v_r198_i_i;
+    u1 v_r201_i_i;
+    u1 v_r207_i_i;
+    u8 v_r210_i_i;
+    u8 v_r212_i_i;
+    u1 v_r215_i_i;
+    u1 v_r221_i_i;
+    u8 v_r224_i_i;
+    u8 v_r226_i_i;
+    u1 v_r229_i_i;
+    u1 v_r235_i_i;
+    u8 v_r238_i_i;
+    u8 v_r240_i_i;
+    u1 v_r243_i_i;
+    u1 v_r249_i_i;
+    u1 v_r463_i_i;
+    P v_r284_i_i;
+    P v_r282_i_i;
+    P v_r280_i_i;
+    P v_r278_i_i;
+    P v_r276_i_i;
+    P v_r274_i_i;
+    P v_r272_i_i;
+    P v_r270_i_i;
+    P v_r309_i_i;
+    P v_r311_i_i;
+    P v_r313_i_i;
+    P v_r315_i_i;
+    P v_r317_i_i;
+    P v_r319_i_i;
+    P v_r321_i_i;
+    P v_r323_i_i;
+    u8 v_r334_i_i;
+    u8 v_r336_i_i;
+    u1 v_r339_i_i;
+    u8 v_r342_i_i;
+    u8 v_r344_i_i;
+    u1 v_r347_i_i;
+    u1 v_r353_i_i;
+    u8 v_r356_i_i;
+    u8 v_r358_i_i;
+    u1 v_r361_i_i;
+    u1 v_r367_i_i;
+    u8 v_r370_i_i;
+    u8 v_r372_i_i;
+    u1 v_r375_i_i;
+    u1 v_r381_i_i;
+    u8 v_r384_i_i;
+    u8 v_r386_i_i;
+    u1 v_r389_i_i;
+    u1 v_r395_i_i;
+    u8 v_r398_i_i;
+    u8 v_r400_i_i;
+    u1 v_r403_i_i;
+    u1 v_r409_i_i;
+    u8 v_r412_i_i;
+    u8 v_r414_i_i;
+    u1 v_r417_i_i;
+    u1 v_r423_i_i;
+    u8 v_r426_i_i;
+    u8 v_r428_i_i;
+    u1 v_r431_i_i;
+    u1 v_r437_i_i;
+    u8 v_r440_i_i;
+    u8 v_r442_i_i;
+    u1 v_r445_i_i;
+    u1 v_r451_i_i;
     P v_r34_i;
     P v_r12_i_i;
     u8 v_r13_i_i;
@@ -23246,60 +23488,86 @@ static u1 f_pkcs1_c_algorithm_uses_hash_otherwise(P v_a0, P v_a1, P v_a2, u64 v_
     P v_r11_sroa_0_0_copyload_i_i;
     P v_r11_sroa_3_0_a0_sroa_idx_i_i;
     u64 v_r11_sroa_3_0_copyload_i_i;
-    u1 v_r86_i28_i;
-    u1 v_r135_i42_i;
-    u1 v_r123_i30_i;
-    P v_r107_i40_i;
-    P v_r105_i39_i;
-    P v_r103_i38_i;
-    P v_r101_i37_i;
-    P v_r99_i36_i;
-    P v_r97_i35_i;
-    P v_r95_i34_i;
-    P v_r93_i33_i;
-    P v_r142_i44_i;
-    P v_r144_i45_i;
-    P v_r146_i46_i;
-    P v_r148_i47_i;
-    P v_r150_i48_i;
-    P v_r152_i49_i;
-    P v_r154_i50_i;
-    P v_r156_i51_i;
-    u8 v_r167_i52_i;
-    u8 v_r169_i53_i;
-    u1 v_r172_i54_i;
-    u8 v_r175_i55_i;
-    u8 v_r177_i56_i;
-    u1 v_r180_i57_i;
-    u1 v_r186_i58_i;
-    u8 v_r189_i59_i;
-    u8 v_r191_i60_i;
-    u1 v_r194_i61_i;
-    u1 v_r200_i62_i;
-    u8 v_r203_i63_i;
-    u8 v_r205_i64_i;
-    u1 v_r208_i65_i;
-    u1 v_r214_i66_i;
-    u8 v_r217_i67_i;
-    u8 v_r219_i68_i;
-    u1 v_r222_i69_i;
-    u1 v_r228_i70_i;
-    u8 v_r231_i71_i;
-    u8 v_r233_i72_i;
-    u1 v_r236_i73_i;
-    u1 v_r242_i74_i;
-    u8 v_r245_i75_i;
-    u8 v_r247_i76_i;
-    u1 v_r250_i77_i;
-    u1 v_r256_i78_i;
-    u8 v_r259_i79_i;
-    u8 v_r261_i80_i;
-    u1 v_r264_i81_i;
-    u1 v_r270_i82_i;
-    u8 v_r273_i83_i;
-    u8 v_r275_i84_i;
-    u1 v_r278_i85_i;
-    u1 v_r284_i86_i;
+    u1 v_r128_not_i26_i;
+    P v_r154_i96_i;
+    P v_r152_i95_i;
+    P v_r150_i94_i;
+    P v_r148_i93_i;
+    P v_r175_i100_i;
+    P v_r177_i101_i;
+    P v_r179_i102_i;
+    P v_r181_i103_i;
+    u8 v_r188_i104_i;
+    u8 v_r190_i105_i;
+    u1 v_r193_i106_i;
+    u8 v_r196_i107_i;
+    u8 v_r198_i108_i;
+    u1 v_r201_i109_i;
+    u1 v_r207_i110_i;
+    u8 v_r210_i111_i;
+    u8 v_r212_i112_i;
+    u1 v_r215_i113_i;
+    u1 v_r221_i114_i;
+    u8 v_r224_i115_i;
+    u8 v_r226_i116_i;
+    u1 v_r229_i117_i;
+    u1 v_r235_i118_i;
+    u8 v_r238_i119_i;
+    u8 v_r240_i120_i;
+    u1 v_r243_i121_i;
+    u1 v_r249_i122_i;
+    P v_r284_i45_i;
+    P v_r282_i44_i;
+    P v_r280_i43_i;
+    P v_r278_i42_i;
+    P v_r276_i41_i;
+    P v_r274_i40_i;
+    P v_r272_i39_i;
+    P v_r270_i38_i;
+    P v_r309_i49_i;
+    P v_r311_i50_i;
+    P v_r313_i51_i;
+    P v_r315_i52_i;
+    P v_r317_i53_i;
+    P v_r319_i54_i;
+    P v_r321_i55_i;
+    P v_r323_i56_i;
+    u8 v_r334_i57_i;
+    u8 v_r336_i58_i;
+    u1 v_r339_i59_i;
+    u8 v_r342_i60_i;
+    u8 v_r344_i61_i;
+    u1 v_r347_i62_i;
+    u1 v_r353_i63_i;
+    u8 v_r356_i64_i;
+    u8 v_r358_i65_i;
+    u1 v_r361_i66_i;
+    u1 v_r367_i67_i;
+    u8 v_r370_i68_i;
+    u8 v_r372_i69_i;
+    u1 v_r375_i70_i;
+    u1 v_r381_i71_i;
+    u8 v_r384_i72_i;
+    u8 v_r386_i73_i;
+    u1 v_r389_i74_i;
+    u1 v_r395_i75_i;
+    u8 v_r398_i76_i;
+    u8 v_r400_i77_i;
+    u1 v_r403_i78_i;
+    u1 v_r409_i79_i;
+    u8 v_r412_i80_i;
+    u8 v_r414_i81_i;
+    u1 v_r417_i82_i;
+    u1 v_r423_i83_i;
+    u8 v_r426_i84_i;
+    u8 v_r428_i85_i;
+    u1 v_r431_i86_i;
+    u1 v_r437_i87_i;
+    u8 v_r440_i88_i;
+    u8 v_r442_i89_i;
+    u1 v_r445_i90_i;
+    u1 v_r451_i91_i;
+    u1 v_r463_i36_i;
     u1 v_r3_0_i;
     v_r8_i = v_a1 + 16;
     v_r9_i = get_u8(v_r8_i);
@@ -23367,67 +23635,102 @@ L_join_3_i8_i:;
     v_r11_sroa_0_0_copyload_i9_i = get_P(v_a0);
     v_r11_sroa_3_0_a0_sroa_idx_i10_i = v_a0 + 8;
     v_r11_sroa_3_0_copyload_i11_i = get_u64(v_r11_sroa_3_0_a0_sroa_idx_i10_i);
-    v_r86_i_i = v_r11_sroa_3_0_copyload_i11_i == 9u;
-    if (v_r86_i_i) { goto L_then_6_i_i; } else { goto L_after_2_i_i; }
-L_then_6_i_i:;
-    v_r135_i_i = v_a3 == 9u;
-    if (v_r135_i_i) { goto L_join_6_i; } else { p_v_r3_0_i = 0u; goto L_pkcs1_c_algorithm_uses_hash_exit; }
-L_after_2_i_i:;
-    v_r123_i_i = f_pkcs1_c_algorithm_is_same_otherwise(v_r11_sroa_0_0_copyload_i9_i, v_r11_sroa_3_0_copyload_i11_i, v_a2, v_a3);
-    if (v_r123_i_i) { goto L_then_7_i; } else { p_v_r3_0_i = 0u; goto L_pkcs1_c_algorithm_uses_hash_exit; }
+    v_r128_not_i_i = v_r11_sroa_3_0_copyload_i11_i == v_a2_8_val;
+    if (v_r128_not_i_i) { goto L_join_4_i_i; } else { p_v_r3_0_i = 0u; goto L_pkcs1_c_algorithm_uses_hash_exit; }
+L_join_4_i_i:;
+    v_r135_i_i = v_a2_8_val < 5u;
+    if (v_r135_i_i) { goto L_after_6_i_i; } else { goto L_join_9_i_i; }
+L_join_9_i_i:;
+    switch (v_a2_8_val) {
+    case 5u: { goto L_then_18_i_i; }
+    case 9u: { goto L_join_6_i; }
+    default: { goto L_after_6_i_i; }
+    }
+L_then_18_i_i:;
+    v_r154_i_i = v_r11_sroa_0_0_copyload_i9_i + 4;
+    v_r152_i_i = v_r11_sroa_0_0_copyload_i9_i + 3;
+    v_r150_i_i = v_r11_sroa_0_0_copyload_i9_i + 2;
+    v_r148_i_i = v_r11_sroa_0_0_copyload_i9_i + 1;
+    v_r175_i_i = v_a2_0_val + 1;
+    v_r177_i_i = v_a2_0_val + 2;
+    v_r179_i_i = v_a2_0_val + 3;
+    v_r181_i_i = v_a2_0_val + 4;
+    v_r188_i_i = get_u8(v_r11_sroa_0_0_copyload_i9_i);
+    v_r190_i_i = get_u8(v_a2_0_val);
+    v_r193_i_i = v_r188_i_i == v_r190_i_i;
+    v_r196_i_i = get_u8(v_r148_i_i);
+    v_r198_i_i = get_u8(v_r175_i_i);
+    v_r201_i_i = v_r196_i_i == v_r198_i_i;
+    v_r207_i_i = (u1)(((u32)(v_r193_i_i) & (u32)(v_r201_i_i)) & 1);
+    v_r210_i_i = get_u8(v_r150_i_i);
+    v_r212_i_i = get_u8(v_r177_i_i);
+    v_r215_i_i = v_r210_i_i == v_r212_i_i;
+    v_r221_i_i = (u1)(((u32)(v_r207_i_i) & (u32)(v_r215_i_i)) & 1);
+    v_r224_i_i = get_u8(v_r152_i_i);
+    v_r226_i_i = get_u8(v_r179_i_i);
+    v_r229_i_i = v_r224_i_i == v_r226_i_i;
+    v_r235_i_i = (u1)(((u32)(v_r221_i_i) & (u32)(v_r229_i_i)) & 1);
+    v_r238_i_i = get_u8(v_r154_i_i);
+    v_r240_i_i = get_u8(v_r181_i_i);
+    v_r243_i_i = v_r238_i_i == v_r240_i_i;
+    v_r249_i_i = (u1)(((u32)(v_r235_i_i) & (u32)(v_r243_i_i)) & 1);
+    if (v_r249_i_i) { goto L_then_7_i; } else { p_v_r3_0_i = 0u; goto L_pkcs1_c_algorithm_uses_hash_exit; }
+L_after_6_i_i:;
+    v_r463_i_i = f_pkcs1_c_algorithm_is_same_otherwise(v_r11_sroa_0_0_copyload_i9_i, v_a2_8_val, v_a2_0_val, v_a2_8_val);
+    if (v_r463_i_i) { goto L_then_7_i; } else { p_v_r3_0_i = 0u; goto L_pkcs1_c_algorithm_uses_hash_exit; }
 L_join_6_i:;
-    v_r107_i_i = v_r11_sroa_0_0_copyload_i9_i + 8;
-    v_r105_i_i = v_r11_sroa_0_0_copyload_i9_i + 7;
-    v_r103_i_i = v_r11_sroa_0_0_copyload_i9_i + 6;
-    v_r101_i_i = v_r11_sroa_0_0_copyload_i9_i + 5;
-    v_r99_i_i = v_r11_sroa_0_0_copyload_i9_i + 4;
-    v_r97_i_i = v_r11_sroa_0_0_copyload_i9_i + 3;
-    v_r95_i_i = v_r11_sroa_0_0_copyload_i9_i + 2;
-    v_r93_i_i = v_r11_sroa_0_0_copyload_i9_i + 1;
-    v_r142_i_i = v_a2 + 1;
-    v_r144_i_i = v_a2 + 2;
-    v_r146_i_i = v_a2 + 3;
-    v_r148_i_i = v_a2 + 4;
-    v_r150_i_i = v_a2 + 5;
-    v_r152_i_i = v_a2 + 6;
-    v_r154_i_i = v_a2 + 7;
-    v_r156_i_i = v_a2 + 8;
-    v_r167_i_i = get_u8(v_r11_sroa_0_0_copyload_i9_i);
-    v_r169_i_i = get_u8(v_a2);
-    v_r172_i_i = v_r167_i_i == v_r169_i_i;
-    v_r175_i_i = get_u8(v_r93_i_i);
-    v_r177_i_i = get_u8(v_r142_i_i);
-    v_r180_i_i = v_r175_i_i == v_r177_i_i;
-    v_r186_i_i = (u1)(((u32)(v_r172_i_i) & (u32)(v_r180_i_i)) & 1);
-    v_r189_i_i = get_u8(v_r95_i_i);
-    v_r191_i_i = get_u8(v_r144_i_i);
-    v_r194_i_i = v_r189_i_i == v_r191_i_i;
-    v_r200_i_i = (u1)(((u32)(v_r186_i_i) & (u32)(v_r194_i_i)) & 1);
-    v_r203_i_i = get_u8(v_r97_i_i);
-    v_r205_i_i = get_u8(v_r146_i_i);
-    v_r208_i_i = v_r203_i_i == v_r205_i_i;
-    v_r214_i_i = (u1)(((u32)(v_r200_i_i) & (u32)(v_r208_i_i)) & 1);
-    v_r217_i_i = get_u8(v_r99_i_i);
-    v_r219_i_i = get_u8(v_r148_i_i);
-    v_r222_i_i = v_r217_i_i == v_r219_i_i;
-    v_r228_i_i = (u1)(((u32)(v_r214_i_i) & (u32)(v_r222_i_i)) & 1);
-    v_r231_i_i = get_u8(v_r101_i_i);
-    v_r233_i_i = get_u8(v_r150_i_i);
-    v_r236_i_i = v_r231_i_i == v_r233_i_i;
-    v_r242_i_i = (u1)(((u32)(v_r228_i_i) & (u32)(v_r236_i_i)) & 1);
-    v_r245_i_i = get_u8(v_r103_i_i);
-    v_r247_i_i = get_u8(v_r152_i_i);
-    v_r250_i_i = v_r245_i_i == v_r247_i_i;
-    v_r256_i_i = (u1)(((u32)(v_r242_i_i) & (u32)(v_r250_i_i)) & 1);
-    v_r259_i_i = get_u8(v_r105_i_i);
-    v_r261_i_i = get_u8(v_r154_i_i);
-    v_r264_i_i = v_r259_i_i == v_r261_i_i;
-    v_r270_i_i = (u1)(((u32)(v_r256_i_i) & (u32)(v_r264_i_i)) & 1);
-    v_r273_i_i = get_u8(v_r107_i_i);
-    v_r275_i_i = get_u8(v_r156_i_i);
-    v_r278_i_i = v_r273_i_i == v_r275_i_i;
-    v_r284_i_i = (u1)(((u32)(v_r270_i_i) & (u32)(v_r278_i_i)) & 1);
-    if (v_r284_i_i) { goto L_then_7_i; } else { p_v_r3_0_i = 0u; goto L_pkcs1_c_algorithm_uses_hash_exit; }
+    v_r284_i_i = v_r11_sroa_0_0_copyload_i9_i + 8;
+    v_r282_i_i = v_r11_sroa_0_0_copyload_i9_i + 7;
+    v_r280_i_i = v_r11_sroa_0_0_copyload_i9_i + 6;
+    v_r278_i_i = v_r11_sroa_0_0_copyload_i9_i + 5;
+    v_r276_i_i = v_r11_sroa_0_0_copyload_i9_i + 4;
+    v_r274_i_i = v_r11_sroa_0_0_copyload_i9_i + 3;
+    v_r272_i_i = v_r11_sroa_0_0_copyload_i9_i + 2;
+    v_r270_i_i = v_r11_sroa_0_0_copyload_i9_i + 1;
+    v_r309_i_i = v_a2_0_val + 1;
+    v_r311_i_i = v_a2_0_val + 2;
+    v_r313_i_i = v_a2_0_val + 3;
+    v_r315_i_i = v_a2_0_val + 4;
+    v_r317_i_i = v_a2_0_val + 5;
+    v_r319_i_i = v_a2_0_val + 6;
+    v_r321_i_i = v_a2_0_val + 7;
+    v_r323_i_i = v_a2_0_val + 8;
+    v_r334_i_i = get_u8(v_r11_sroa_0_0_copyload_i9_i);
+    v_r336_i_i = get_u8(v_a2_0_val);
+    v_r339_i_i = v_r334_i_i == v_r336_i_i;
+    v_r342_i_i = get_u8(v_r270_i_i);
+    v_r344_i_i = get_u8(v_r309_i_i);
+    v_r347_i_i = v_r342_i_i == v_r344_i_i;
+    v_r353_i_i = (u1)(((u32)(v_r339_i_i) & (u32)(v_r347_i_i)) & 1);
+    v_r356_i_i = get_u8(v_r272_i_i);
+    v_r358_i_i = get_u8(v_r311_i_i);
+    v_r361_i_i = v_r356_i_i == v_r358_i_i;
+    v_r367_i_i = (u1)(((u32)(v_r353_i_i) & (u32)(v_r361_i_i)) & 1);
+    v_r370_i_i = get_u8(v_r274_i_i);
+    v_r372_i_i = get_u8(v_r313_i_i);
+    v_r375_i_i = v_r370_i_i == v_r372_i_i;
+    v_r381_i_i = (u1)(((u32)(v_r367_i_i) & (u32)(v_r375_i_i)) & 1);
+    v_r384_i_i = get_u8(v_r276_i_i);
+    v_r386_i_i = get_u8(v_r315_i_i);
+    v_r389_i_i = v_r384_i_i == v_r386_i_i;
+    v_r395_i_i = (u1)(((u32)(v_r381_i_i) & (u32)(v_r389_i_i)) & 1);
+    v_r398_i_i = get_u8(v_r278_i_i);
+    v_r400_i_i = get_u8(v_r317_i_i);
+    v_r403_i_i = v_r398_i_i == v_r400_i_i;
+    v_r409_i_i = (u1)(((u32)(v_r395_i_i) & (u32)(v_r403_i_i)) & 1);
+    v_r412_i_i = get_u8(v_r280_i_i);
+    v_r414_i_i = get_u8(v_r319_i_i);
+    v_r417_i_i = v_r412_i_i == v_r414_i_i;
+    v_r423_i_i = (u1)(((u32)(v_r409_i_i) & (u32)(v_r417_i_i)) & 1);
+    v_r426_i_i = get_u8(v_r282_i_i);
+    v_r428_i_i = get_u8(v_r321_i_i);
+    v_r431_i_i = v_r426_i_i == v_r428_i_i;
+    v_r437_i_i = (u1)(((u32)(v_r423_i_i) & (u32)(v_r431_i_i)) & 1);
+    v_r440_i_i = get_u8(v_r284_i_i);
+    v_r442_i_i = get_u8(v_r323_i_i);
+    v_r445_i_i = v_r440_i_i == v_r442_i_i;
+    v_r451_i_i = (u1)(((u32)(v_r437_i_i) & (u32)(v_r445_i_i)) & 1);
+    if (v_r451_i_i) { goto L_then_7_i; } else { p_v_r3_0_i = 0u; goto L_pkcs1_c_algorithm_uses_hash_exit; }
 L_then_7_i:;
     v_r34_i = v_a1 + 24;
     v_r12_i_i = v_a1 + 40;
@@ -23448,67 +23751,101 @@ L_join_3_i_i:;
     v_r11_sroa_0_0_copyload_i_i = get_P(v_r34_i);
     v_r11_sroa_3_0_a0_sroa_idx_i_i = v_a1 + 32;
     v_r11_sroa_3_0_copyload_i_i = get_u64(v_r11_sroa_3_0_a0_sroa_idx_i_i);
-    v_r86_i28_i = v_r11_sroa_3_0_copyload_i_i == 9u;
-    if (v_r86_i28_i) { goto L_then_6_i32_i; } else { goto L_after_2_i29_i; }
-L_then_6_i32_i:;
-    v_r135_i42_i = v_a3 == 9u;
-    if (v_r135_i42_i) { goto L_then_14_i43_i; } else { p_v_r3_0_i = 0u; goto L_pkcs1_c_algorithm_uses_hash_exit; }
-L_after_2_i29_i:;
-    v_r123_i30_i = f_pkcs1_c_algorithm_is_same_otherwise(v_r11_sroa_0_0_copyload_i_i, v_r11_sroa_3_0_copyload_i_i, v_a2, v_a3);
-    { p_v_r3_0_i = v_r123_i30_i; goto L_pkcs1_c_algorithm_uses_hash_exit; }
-L_then_14_i43_i:;
-    v_r107_i40_i = v_r11_sroa_0_0_copyload_i_i + 8;
-    v_r105_i39_i = v_r11_sroa_0_0_copyload_i_i + 7;
-    v_r103_i38_i = v_r11_sroa_0_0_copyload_i_i + 6;
-    v_r101_i37_i = v_r11_sroa_0_0_copyload_i_i + 5;
-    v_r99_i36_i = v_r11_sroa_0_0_copyload_i_i + 4;
-    v_r97_i35_i = v_r11_sroa_0_0_copyload_i_i + 3;
-    v_r95_i34_i = v_r11_sroa_0_0_copyload_i_i + 2;
-    v_r93_i33_i = v_r11_sroa_0_0_copyload_i_i + 1;
-    v_r142_i44_i = v_a2 + 1;
-    v_r144_i45_i = v_a2 + 2;
-    v_r146_i46_i = v_a2 + 3;
-    v_r148_i47_i = v_a2 + 4;
-    v_r150_i48_i = v_a2 + 5;
-    v_r152_i49_i = v_a2 + 6;
-    v_r154_i50_i = v_a2 + 7;
-    v_r156_i51_i = v_a2 + 8;
-    v_r167_i52_i = get_u8(v_r11_sroa_0_0_copyload_i_i);
-    v_r169_i53_i = get_u8(v_a2);
-    v_r172_i54_i = v_r167_i52_i == v_r169_i53_i;
-    v_r175_i55_i = get_u8(v_r93_i33_i);
-    v_r177_i56_i = get_u8(v_r142_i44_i);
-    v_r180_i57_i = v_r175_i55_i == v_r177_i56_i;
-    v_r186_i58_i = (u1)(((u32)(v_r172_i54_i) & (u32)(v_r180_i57_i)) & 1);
-    v_r189_i59_i = get_u8(v_r95_i34_i);
-    v_r191_i60_i = get_u8(v_r144_i45_i);
-    v_r194_i61_i = v_r189_i59_i == v_r191_i60_i;
-    v_r200_i62_i = (u1)(((u32)(v_r186_i58_i) & (u32)(v_r194_i61_i)) & 1);
-    v_r203_i63_i = get_u8(v_r97_i35_i);
-    v_r205_i64_i = get_u8(v_r146_i46_i);
-    v_r208_i65_i = v_r203_i63_i == v_r205_i64_i;
-    v_r214_i66_i = (u1)(((u32)(v_r200_i62_i) & (u32)(v_r208_i65_i)) & 1);
-    v_r217_i67_i = get_u8(v_r99_i36_i);
-    v_r219_i68_i = get_u8(v_r148_i47_i);
-    v_r222_i69_i = v_r217_i67_i == v_r219_i68_i;
-    v_r228_i70_i = (u1)(((u32)(v_r214_i66_i) & (u32)(v_r222_i69_i)) & 1);
-    v_r231_i71_i = get_u8(v_r101_i37_i);
-    v_r233_i72_i = get_u8(v_r150_i48_i);
-    v_r236_i73_i = v_r231_i71_i == v_r233_i72_i;
-    v_r242_i74_i = (u1)(((u32)(v_r228_i70_i) & (u32)(v_r236_i73_i)) & 1);
-    v_r245_i75_i = get_u8(v_r103_i38_i);
-    v_r247_i76_i = get_u8(v_r152_i49_i);
-    v_r250_i77_i = v_r245_i75_i == v_r247_i76_i;
-    v_r256_i78_i = (u1)(((u32)(v_r242_i74_i) & (u32)(v_r250_i77_i)) & 1);
-    v_r259_i79_i = get_u8(v_r105_i39_i);
-    v_r261_i80_i = get_u8(v_r154_i50_i);
-    v_r264_i81_i = v_r259_i79_i == v_r261_i80_i;
-    v_r270_i82_i = (u1)(((u32)(v_r256_i78_i) & (u32)(v_r264_i81_i)) & 1);
-    v_r273_i83_i = get_u8(v_r107_i40_i);
-    v_r275_i84_i = get_u8(v_r156_i51_i);
-    v_r278_i85_i = v_r273_i83_i == v_r275_i84_i;
-    v_r284_i86_i = (u1)(((u32)(v_r270_i82_i) & (u32)(v_r278_i85_i)) & 1);
-    { p_v_r3_0_i = v_r284_i86_i; goto L_pkcs1_c_algorithm_uses_hash_exit; }
+    v_r128_not_i26_i = v_r11_sroa_3_0_copyload_i_i == v_a2_8_val;
+    if (v_r128_not_i26_i) { goto L_join_4_i28_i; } else { p_v_r3_0_i = 0u; goto L_pkcs1_c_algorithm_uses_hash_exit; }
+L_join_4_i28_i:;
+    if (v_r135_i_i) { goto L_after_6_i35_i; } else { goto L_join_9_i30_i; }
+L_join_9_i30_i:;
+    switch (v_a2_8_val) {
+    case 5u: { goto L_then_18_i99_i; }
+    case 9u: { goto L_then_32_i48_i; }
+    default: { goto L_after_6_i35_i; }
+    }
+L_then_18_i99_i:;
+    v_r154_i96_i = v_r11_sroa_0_0_copyload_i_i + 4;
+    v_r152_i95_i = v_r11_sroa_0_0_copyload_i_i + 3;
+    v_r150_i94_i = v_r11_sroa_0_0_copyload_i_i + 2;
+    v_r148_i93_i = v_r11_sroa_0_0_copyload_i_i + 1;
+    v_r175_i100_i = v_a2_0_val + 1;
+    v_r177_i101_i = v_a2_0_val + 2;
+    v_r179_i102_i = v_a2_0_val + 3;
+    v_r181_i103_i = v_a2_0_val + 4;
+    v_r188_i104_i = get_u8(v_r11_sroa_0_0_copyload_i_i);
+    v_r190_i105_i = get_u8(v_a2_0_val);
+    v_r193_i106_i = v_r188_i104_i == v_r190_i105_i;
+    v_r196_i107_i = get_u8(v_r148_i93_i);
+    v_r198_i108_i = get_u8(v_r175_i100_i);
+    v_r201_i109_i = v_r196_i107_i == v_r198_i108_i;
+    v_r207_i110_i = (u1)(((u32)(v_r193_i106_i) & (u32)(v_r201_i109_i)) & 1);
+    v_r210_i111_i = get_u8(v_r150_i94_i);
+    v_r212_i112_i = get_u8(v_r177_i101_i);
+    v_r215_i113_i = v_r210_i111_i == v_r212_i112_i;
+    v_r221_i114_i = (u1)(((u32)(v_r207_i110_i) & (u32)(v_r215_i113_i)) & 1);
+    v_r224_i115_i = get_u8(v_r152_i95_i);
+    v_r226_i116_i = get_u8(v_r179_i102_i);
+    v_r229_i117_i = v_r224_i115_i == v_r226_i116_i;
+    v_r235_i118_i = (u1)(((u32)(v_r221_i114_i) & (u32)(v_r229_i117_i)) & 1);
+    v_r238_i119_i = get_u8(v_r154_i96_i);
+    v_r240_i120_i = get_u8(v_r181_i103_i);
+    v_r243_i121_i = v_r238_i119_i == v_r240_i120_i;
+    v_r249_i122_i = (u1)(((u32)(v_r235_i118_i) & (u32)(v_r243_i121_i)) & 1);
+    { p_v_r3_0_i = v_r249_i122_i; goto L_pkcs1_c_algorithm_uses_hash_exit; }
+L_then_32_i48_i:;
+    v_r284_i45_i = v_r11_sroa_0_0_copyload_i_i + 8;
+    v_r282_i44_i = v_r11_sroa_0_0_copyload_i_i + 7;
+    v_r280_i43_i = v_r11_sroa_0_0_copyload_i_i + 6;
+    v_r278_i42_i = v_r11_sroa_0_0_copyload_i_i + 5;
+    v_r276_i41_i = v_r11_sroa_0_0_copyload_i_i + 4;
+    v_r274_i40_i = v_r11_sroa_0_0_copyload_i_i + 3;
+    v_r272_i39_i = v_r11_sroa_0_0_copyload_i_i + 2;
+    v_r270_i38_i = v_r11_sroa_0_0_copyload_i_i + 1;
+    v_r309_i49_i = v_a2_0_val + 1;
+    v_r311_i50_i = v_a2_0_val + 2;
+    v_r313_i51_i = v_a2_0_val + 3;
+    v_r315_i52_i = v_a2_0_val + 4;
+    v_r317_i53_i = v_a2_0_val + 5;
+    v_r319_i54_i = v_a2_0_val + 6;
+    v_r321_i55_i = v_a2_0_val + 7;
+    v_r323_i56_i = v_a2_0_val + 8;
+    v_r334_i57_i = get_u8(v_r11_sroa_0_0_copyload_i_i);
+    v_r336_i58_i = get_u8(v_a2_0_val);
+    v_r339_i59_i = v_r334_i57_i == v_r336_i58_i;
+    v_r342_i60_i = get_u8(v_r270_i38_i);
+    v_r344_i61_i = get_u8(v_r309_i49_i);
+    v_r347_i62_i = v_r342_i60_i == v_r344_i61_i;
+    v_r353_i63_i = (u1)(((u32)(v_r339_i59_i) & (u32)(v_r347_i62_i)) & 1);
+    v_r356_i64_i = get_u8(v_r272_i39_i);
+    v_r358_i65_i = get_u8(v_r311_i50_i);
+    v_r361_i66_i = v_r356_i64_i == v_r358_i65_i;
+    v_r367_i67_i = (u1)(((u32)(v_r353_i63_i) & (u32)(v_r361_i66_i)) & 1);
+    v_r370_i68_i = get_u8(v_r274_i40_i);
+    v_r372_i69_i = get_u8(v_r313_i51_i);
+    v_r375_i70_i = v_r370_i68_i == v_r372_i69_i;
+    v_r381_i71_i = (u1)(((u32)(v_r367_i67_i) & (u32)(v_r375_i70_i)) & 1);
+    v_r384_i72_i = get_u8(v_r276_i41_i);
+    v_r386_i73_i = get_u8(v_r315_i52_i);
+    v_r389_i74_i = v_r384_i72_i == v_r386_i73_i;
+    v_r395_i75_i = (u1)(((u32)(v_r381_i71_i) & (u32)(v_r389_i74_i)) & 1);
+    v_r398_i76_i = get_u8(v_r278_i42_i);
+    v_r400_i77_i = get_u8(v_r317_i53_i);
+    v_r403_i78_i = v_r398_i76_i == v_r400_i77_i;
+    v_r409_i79_i = (u1)(((u32)(v_r395_i75_i) & (u32)(v_r403_i78_i)) & 1);
+    v_r412_i80_i = get_u8(v_r280_i43_i);
+    v_r414_i81_i = get_u8(v_r319_i54_i);
+    v_r417_i82_i = v_r412_i80_i == v_r414_i81_i;
+    v_r423_i83_i = (u1)(((u32)(v_r409_i79_i) & (u32)(v_r417_i82_i)) & 1);
+    v_r426_i84_i = get_u8(v_r282_i44_i);
+    v_r428_i85_i = get_u8(v_r321_i55_i);
+    v_r431_i86_i = v_r426_i84_i == v_r428_i85_i;
+    v_r437_i87_i = (u1)(((u32)(v_r423_i83_i) & (u32)(v_r431_i86_i)) & 1);
+    v_r440_i88_i = get_u8(v_r284_i45_i);
+    v_r442_i89_i = get_u8(v_r323_i56_i);
+    v_r445_i90_i = v_r440_i88_i == v_r442_i89_i;
+    v_r451_i91_i = (u1)(((u32)(v_r437_i87_i) & (u32)(v_r445_i90_i)) & 1);
+    { p_v_r3_0_i = v_r451_i91_i; goto L_pkcs1_c_algorithm_uses_hash_exit; }
+L_after_6_i35_i:;
+    v_r463_i36_i = f_pkcs1_c_algorithm_is_same_otherwise(v_r11_sroa_0_0_copyload_i_i, v_a2_8_val, v_a2_0_val, v_a2_8_val);
+    { p_v_r3_0_i = v_r463_i36_i; goto L_pkcs1_c_algorithm_uses_hash_exit; }
 L_pkcs1_c_algorithm_uses_hash_exit:;
     v_r3_0_i = p_v_r3_0_i;
     return v_r3_0_i;
@@ -32856,11 +33193,15 @@ L_join_4:;
     v_r6_0 = p_v_r6_0;
     return v_r6_0;
 }
-static u1 proved_algorithm_is(P v_a0, P v_a1, u64 v_a2) {
-    u1 p_v_common_ret_op_i_i;
-    u1 v_r1;
-    u64 v_r3;
-    P v_r4;
+static u1 proved_algorithm_is(P v_a0, P v_a1) {
+    u1 p_v_common_ret_op_i;
+    P v_r4_i;
+    u64 v_r5_i;
+    u1 v_r7_not_i;
+    P v_r3_sroa_0_0_copyload_i;
+    P v_r3_sroa_3_0_a1_sroa_idx_i;
+    u64 v_r3_sroa_3_0_copyload_i;
+    u1 v_r11_i;
     P v_r12_i_i;
     u8 v_r13_i_i;
     u1 v_r14_i_i;
@@ -32870,67 +33211,73 @@ static u1 proved_algorithm_is(P v_a0, P v_a1, u64 v_a2) {
     P v_r9_sroa_3_0_r28_sroa_idx_i_i;
     u64 v_r9_sroa_3_0_copyload_i_i;
     u1 v_r7_i_i;
+    u1 v_r128_not_i_i;
+    u1 v_or_cond_i;
+    u1 v_r128_not_i_old_i;
     P v_r11_sroa_0_0_copyload_i_i;
-    P v_r11_sroa_3_0_a0_sroa_idx_i_i;
-    u64 v_r11_sroa_3_0_copyload_i_i;
-    u1 v_r86_i_i;
-    u1 v_r135_i_i;
-    u1 v_r123_i_i;
-    P v_r107_i_i;
-    P v_r105_i_i;
-    P v_r103_i_i;
-    P v_r101_i_i;
-    P v_r99_i_i;
-    P v_r97_i_i;
-    P v_r95_i_i;
-    P v_r93_i_i;
-    P v_r142_i_i;
-    P v_r144_i_i;
-    P v_r146_i_i;
-    P v_r148_i_i;
-    P v_r150_i_i;
-    P v_r152_i_i;
-    P v_r154_i_i;
-    P v_r156_i_i;
-    u8 v_r167_i_i;
-    u8 v_r169_i_i;
-    u1 v_r172_i_i;
-    u8 v_r175_i_i;
-    u8 v_r177_i_i;
-    u1 v_r180_i_i;
-    u1 v_r186_i_i;
-    u8 v_r189_i_i;
-    u8 v_r191_i_i;
-    u1 v_r194_i_i;
-    u1 v_r200_i_i;
-    u8 v_r203_i_i;
-    u8 v_r205_i_i;
-    u1 v_r208_i_i;
-    u1 v_r214_i_i;
-    u8 v_r217_i_i;
-    u8 v_r219_i_i;
-    u1 v_r222_i_i;
-    u1 v_r228_i_i;
-    u8 v_r231_i_i;
-    u8 v_r233_i_i;
-    u1 v_r236_i_i;
-    u1 v_r242_i_i;
-    u8 v_r245_i_i;
-    u8 v_r247_i_i;
-    u1 v_r250_i_i;
-    u1 v_r256_i_i;
-    u8 v_r259_i_i;
-    u8 v_r261_i_i;
-    u1 v_r264_i_i;
-    u1 v_r270_i_i;
-    u8 v_r273_i_i;
-    u8 v_r275_i_i;
-    u1 v_r278_i_i;
-    u1 v_r284_i_i;
-    u1 v_common_ret_op_i_i;
-    v_r1 = v_a1 == (P)0;
-    v_r3 = v_r1 ? 4096u : 0u;
-    v_r4 = (P)((u64)v_a1 + (u64)(v_r3));
+    P v_r270_i_i;
+    P v_r272_i_i;
+    P v_r274_i_i;
+    P v_r276_i_i;
+    P v_r278_i_i;
+    P v_r280_i_i;
+    P v_r282_i_i;
+    P v_r284_i_i;
+    P v_r309_i_i;
+    P v_r311_i_i;
+    P v_r313_i_i;
+    P v_r315_i_i;
+    P v_r317_i_i;
+    P v_r319_i_i;
+    P v_r321_i_i;
+    P v_r323_i_i;
+    u8 v_r334_i_i;
+    u8 v_r336_i_i;
+    u1 v_r339_i_i;
+    u8 v_r342_i_i;
+    u8 v_r344_i_i;
+    u1 v_r347_i_i;
+    u1 v_r353_i_i;
+    u8 v_r356_i_i;
+    u8 v_r358_i_i;
+    u1 v_r361_i_i;
+    u1 v_r367_i_i;
+    u8 v_r370_i_i;
+    u8 v_r372_i_i;
+    u1 v_r375_i_i;
+    u1 v_r381_i_i;
+    u8 v_r384_i_i;
+    u8 v_r386_i_i;
+    u1 v_r389_i_i;
+    u1 v_r395_i_i;
+    u8 v_r398_i_i;
+    u8 v_r400_i_i;
+    u1 v_r403_i_i;
+    u1 v_r409_i_i;
+    u8 v_r412_i_i;
+    u8 v_r414_i_i;
+    u1 v_r417_i_i;
+    u1 v_r423_i_i;
+    u8 v_r426_i_i;
+    u8 v_r428_i_i;
+    u1 v_r431_i_i;
+    u1 v_r437_i_i;
+    u8 v_r440_i_i;
+    u8 v_r442_i_i;
+    u1 v_r445_i_i;
+    u1 v_r451_i_i;
+    u1 v_common_ret_op_i;
+    v_r4_i = v_a0 + 8;
+    v_r5_i = get_u64(v_r4_i);
+    v_r7_not_i = v_r5_i == 9u;
+    v_r3_sroa_0_0_copyload_i = get_P(v_a1);
+    v_r3_sroa_3_0_a1_sroa_idx_i = v_a1 + 8;
+    v_r3_sroa_3_0_copyload_i = get_u64(v_r3_sroa_3_0_a1_sroa_idx_i);
+    if (v_r7_not_i) { goto L_join_3_i; } else { goto L_then_1_i; }
+L_then_1_i:;
+    v_r11_i = f_pkcs1_c_algorithm_is_hash_otherwise(v_a0, v_r3_sroa_0_0_copyload_i, v_r3_sroa_3_0_copyload_i);
+    { p_v_common_ret_op_i = v_r11_i; goto L_pkcs1_c_algorithm_pkcs1_c_algorithm_is_exit; }
+L_join_3_i:;
     v_r12_i_i = v_a0 + 16;
     v_r13_i_i = get_u8(v_r12_i_i);
     v_r14_i_i = (u1)((v_r13_i_i) & 1);
@@ -32939,80 +33286,74 @@ L_then_1_i_i:;
     v_r18_i_i = v_a0 + 17;
     v_r19_i_i = get_u8(v_r18_i_i);
     v_r24_not_i_i = v_r19_i_i == 5u;
-    if (v_r24_not_i_i) { goto L_else_7_i_i; } else { p_v_common_ret_op_i_i = 0u; goto L_pkcs1_c_algorithm_pkcs1_c_algorithm_is_exit; }
+    if (v_r24_not_i_i) { goto L_else_7_i_i; } else { p_v_common_ret_op_i = 0u; goto L_pkcs1_c_algorithm_pkcs1_c_algorithm_is_exit; }
 L_else_7_i_i:;
     v_r9_sroa_3_0_r28_sroa_idx_i_i = v_a0 + 32;
     v_r9_sroa_3_0_copyload_i_i = get_u64(v_r9_sroa_3_0_r28_sroa_idx_i_i);
     v_r7_i_i = v_r9_sroa_3_0_copyload_i_i == 0u;
-    if (v_r7_i_i) { goto L_join_3_i_i; } else { p_v_common_ret_op_i_i = 0u; goto L_pkcs1_c_algorithm_pkcs1_c_algorithm_is_exit; }
+    v_r128_not_i_i = v_r3_sroa_3_0_copyload_i == 9u;
+    v_or_cond_i = v_r7_i_i ? v_r128_not_i_i : 0u;
+    if (v_or_cond_i) { goto L_then_32_i_i; } else { p_v_common_ret_op_i = 0u; goto L_pkcs1_c_algorithm_pkcs1_c_algorithm_is_exit; }
 L_join_3_i_i:;
+    v_r128_not_i_old_i = v_r3_sroa_3_0_copyload_i == 9u;
+    if (v_r128_not_i_old_i) { goto L_then_32_i_i; } else { p_v_common_ret_op_i = 0u; goto L_pkcs1_c_algorithm_pkcs1_c_algorithm_is_exit; }
+L_then_32_i_i:;
     v_r11_sroa_0_0_copyload_i_i = get_P(v_a0);
-    v_r11_sroa_3_0_a0_sroa_idx_i_i = v_a0 + 8;
-    v_r11_sroa_3_0_copyload_i_i = get_u64(v_r11_sroa_3_0_a0_sroa_idx_i_i);
-    v_r86_i_i = v_r11_sroa_3_0_copyload_i_i == 9u;
-    if (v_r86_i_i) { goto L_then_6_i_i; } else { goto L_after_2_i_i; }
-L_then_6_i_i:;
-    v_r135_i_i = v_a2 == 9u;
-    if (v_r135_i_i) { goto L_then_14_i_i; } else { p_v_common_ret_op_i_i = 0u; goto L_pkcs1_c_algorithm_pkcs1_c_algorithm_is_exit; }
-L_after_2_i_i:;
-    v_r123_i_i = f_pkcs1_c_algorithm_is_same_otherwise(v_r11_sroa_0_0_copyload_i_i, v_r11_sroa_3_0_copyload_i_i, v_r4, v_a2);
-    { p_v_common_ret_op_i_i = v_r123_i_i; goto L_pkcs1_c_algorithm_pkcs1_c_algorithm_is_exit; }
-L_then_14_i_i:;
-    v_r107_i_i = v_r11_sroa_0_0_copyload_i_i + 8;
-    v_r105_i_i = v_r11_sroa_0_0_copyload_i_i + 7;
-    v_r103_i_i = v_r11_sroa_0_0_copyload_i_i + 6;
-    v_r101_i_i = v_r11_sroa_0_0_copyload_i_i + 5;
-    v_r99_i_i = v_r11_sroa_0_0_copyload_i_i + 4;
-    v_r97_i_i = v_r11_sroa_0_0_copyload_i_i + 3;
-    v_r95_i_i = v_r11_sroa_0_0_copyload_i_i + 2;
-    v_r93_i_i = v_r11_sroa_0_0_copyload_i_i + 1;
-    v_r142_i_i = v_r4 + 1;
-    v_r144_i_i = v_r4 + 2;
-    v_r146_i_i = v_r4 + 3;
-    v_r148_i_i = v_r4 + 4;
-    v_r150_i_i = v_r4 + 5;
-    v_r152_i_i = v_r4 + 6;
-    v_r154_i_i = v_r4 + 7;
-    v_r156_i_i = v_r4 + 8;
-    v_r167_i_i = get_u8(v_r11_sroa_0_0_copyload_i_i);
-    v_r169_i_i = get_u8(v_r4);
-    v_r172_i_i = v_r167_i_i == v_r169_i_i;
-    v_r175_i_i = get_u8(v_r93_i_i);
-    v_r177_i_i = get_u8(v_r142_i_i);
-    v_r180_i_i = v_r175_i_i == v_r177_i_i;
-    v_r186_i_i = (u1)(((u32)(v_r172_i_i) & (u32)(v_r180_i_i)) & 1);
-    v_r189_i_i = get_u8(v_r95_i_i);
-    v_r191_i_i = get_u8(v_r144_i_i);
-    v_r194_i_i = v_r189_i_i == v_r191_i_i;
-    v_r200_i_i = (u1)(((u32)(v_r186_i_i) & (u32)(v_r194_i_i)) & 1);
-    v_r203_i_i = get_u8(v_r97_i_i);
-    v_r205_i_i = get_u8(v_r146_i_i);
-    v_r208_i_i = v_r203_i_i == v_r205_i_i;
-    v_r214_i_i = (u1)(((u32)(v_r200_i_i) & (u32)(v_r208_i_i)) & 1);
-    v_r217_i_i = get_u8(v_r99_i_i);
-    v_r219_i_i = get_u8(v_r148_i_i);
-    v_r222_i_i = v_r217_i_i == v_r219_i_i;
-    v_r228_i_i = (u1)(((u32)(v_r214_i_i) & (u32)(v_r222_i_i)) & 1);
-    v_r231_i_i = get_u8(v_r101_i_i);
-    v_r233_i_i = get_u8(v_r150_i_i);
-    v_r236_i_i = v_r231_i_i == v_r233_i_i;
-    v_r242_i_i = (u1)(((u32)(v_r228_i_i) & (u32)(v_r236_i_i)) & 1);
-    v_r245_i_i = get_u8(v_r103_i_i);
-    v_r247_i_i = get_u8(v_r152_i_i);
-    v_r250_i_i = v_r245_i_i == v_r247_i_i;
-    v_r256_i_i = (u1)(((u32)(v_r242_i_i) & (u32)(v_r250_i_i)) & 1);
-    v_r259_i_i = get_u8(v_r105_i_i);
-    v_r261_i_i = get_u8(v_r154_i_i);
-    v_r264_i_i = v_r259_i_i == v_r261_i_i;
-    v_r270_i_i = (u1)(((u32)(v_r256_i_i) & (u32)(v_r264_i_i)) & 1);
-    v_r273_i_i = get_u8(v_r107_i_i);
-    v_r275_i_i = get_u8(v_r156_i_i);
-    v_r278_i_i = v_r273_i_i == v_r275_i_i;
-    v_r284_i_i = (u1)(((u32)(v_r270_i_i) & (u32)(v_r278_i_i)) & 1);
-    { p_v_common_ret_op_i_i = v_r284_i_i; goto L_pkcs1_c_algorithm_pkcs1_c_algorithm_is_exit; }
+    v_r270_i_i = v_r11_sroa_0_0_copyload_i_i + 1;
+    v_r272_i_i = v_r11_sroa_0_0_copyload_i_i + 2;
+    v_r274_i_i = v_r11_sroa_0_0_copyload_i_i + 3;
+    v_r276_i_i = v_r11_sroa_0_0_copyload_i_i + 4;
+    v_r278_i_i = v_r11_sroa_0_0_copyload_i_i + 5;
+    v_r280_i_i = v_r11_sroa_0_0_copyload_i_i + 6;
+    v_r282_i_i = v_r11_sroa_0_0_copyload_i_i + 7;
+    v_r284_i_i = v_r11_sroa_0_0_copyload_i_i + 8;
+    v_r309_i_i = v_r3_sroa_0_0_copyload_i + 1;
+    v_r311_i_i = v_r3_sroa_0_0_copyload_i + 2;
+    v_r313_i_i = v_r3_sroa_0_0_copyload_i + 3;
+    v_r315_i_i = v_r3_sroa_0_0_copyload_i + 4;
+    v_r317_i_i = v_r3_sroa_0_0_copyload_i + 5;
+    v_r319_i_i = v_r3_sroa_0_0_copyload_i + 6;
+    v_r321_i_i = v_r3_sroa_0_0_copyload_i + 7;
+    v_r323_i_i = v_r3_sroa_0_0_copyload_i + 8;
+    v_r334_i_i = get_u8(v_r11_sroa_0_0_copyload_i_i);
+    v_r336_i_i = get_u8(v_r3_sroa_0_0_copyload_i);
+    v_r339_i_i = v_r334_i_i == v_r336_i_i;
+    v_r342_i_i = get_u8(v_r270_i_i);
+    v_r344_i_i = get_u8(v_r309_i_i);
+    v_r347_i_i = v_r342_i_i == v_r344_i_i;
+    v_r353_i_i = (u1)(((u32)(v_r339_i_i) & (u32)(v_r347_i_i)) & 1);
+    v_r356_i_i = get_u8(v_r272_i_i);
+    v_r358_i_i = get_u8(v_r311_i_i);
+    v_r361_i_i = v_r356_i_i == v_r358_i_i;
+    v_r367_i_i = (u1)(((u32)(v_r353_i_i) & (u32)(v_r361_i_i)) & 1);
+    v_r370_i_i = get_u8(v_r274_i_i);
+    v_r372_i_i = get_u8(v_r313_i_i);
+    v_r375_i_i = v_r370_i_i == v_r372_i_i;
+    v_r381_i_i = (u1)(((u32)(v_r367_i_i) & (u32)(v_r375_i_i)) & 1);
+    v_r384_i_i = get_u8(v_r276_i_i);
+    v_r386_i_i = get_u8(v_r315_i_i);
+    v_r389_i_i = v_r384_i_i == v_r386_i_i;
+    v_r395_i_i = (u1)(((u32)(v_r381_i_i) & (u32)(v_r389_i_i)) & 1);
+    v_r398_i_i = get_u8(v_r278_i_i);
+    v_r400_i_i = get_u8(v_r317_i_i);
+    v_r403_i_i = v_r398_i_i == v_r400_i_i;
+    v_r409_i_i = (u1)(((u32)(v_r395_i_i) & (u32)(v_r403_i_i)) & 1);
+    v_r412_i_i = get_u8(v_r280_i_i);
+    v_r414_i_i = get_u8(v_r319_i_i);
+    v_r417_i_i = v_r412_i_i == v_r414_i_i;
+    v_r423_i_i = (u1)(((u32)(v_r409_i_i) & (u32)(v_r417_i_i)) & 1);
+    v_r426_i_i = get_u8(v_r282_i_i);
+    v_r428_i_i = get_u8(v_r321_i_i);
+    v_r431_i_i = v_r426_i_i == v_r428_i_i;
+    v_r437_i_i = (u1)(((u32)(v_r423_i_i) & (u32)(v_r431_i_i)) & 1);
+    v_r440_i_i = get_u8(v_r284_i_i);
+    v_r442_i_i = get_u8(v_r323_i_i);
+    v_r445_i_i = v_r440_i_i == v_r442_i_i;
+    v_r451_i_i = (u1)(((u32)(v_r437_i_i) & (u32)(v_r445_i_i)) & 1);
+    { p_v_common_ret_op_i = v_r451_i_i; goto L_pkcs1_c_algorithm_pkcs1_c_algorithm_is_exit; }
 L_pkcs1_c_algorithm_pkcs1_c_algorithm_is_exit:;
-    v_common_ret_op_i_i = p_v_common_ret_op_i_i;
-    return v_common_ret_op_i_i;
+    v_common_ret_op_i = p_v_common_ret_op_i;
+    return v_common_ret_op_i;
 }
 static u64 proved_bit_len(P v_a0, u64 v_a1) {
     P p_v_r3_sroa_0_08_i_i_i;
@@ -33228,7 +33569,7 @@ static ONCE u32 proved_public_key_decode(P v_a0, u64 v_a1, P v_a2) {
     u64 v_r3;
     P v_r4;
     u64 v_0;
-    u1 v_or_cond376_i_i;
+    u1 v_or_cond377_i_i;
     P v_r62_i5_i_i;
     u64 v_r65_i6_i_i;
     u8 v_r73_i_i_i;
@@ -33237,8 +33578,8 @@ static ONCE u32 proved_public_key_decode(P v_a0, u64 v_a1, P v_a2) {
     u8 v_r83_i_i_i;
     u1 v_r85_i_i_i;
     u64 v_r92_i_i_i;
-    u1 v_r15_i63_i_i;
-    u64 v_r32_i65_i_i;
+    u1 v_r15_i64_i_i;
+    u64 v_r32_i66_i_i;
     u1 v_r104_i_i_i;
     u1 v_r110_i_i_i;
     u8 v_r130_i_i_i;
@@ -33250,9 +33591,9 @@ static ONCE u32 proved_public_key_decode(P v_a0, u64 v_a1, P v_a2) {
     u8 v_r143_i_i_i;
     u64 v_r145_i_i_i;
     u64 v_r148_i_i_i;
-    u1 v_r15_i66_i_i;
+    u1 v_r15_i67_i_i;
     P v_r119_i_i_i;
-    u64 v_r32_i69_i_i;
+    u64 v_r32_i70_i_i;
     u1 v_r163_i_i_i;
     P v_r170_i_i_i;
     u64 v_r173_i_i_i;
@@ -33260,14 +33601,14 @@ static ONCE u32 proved_public_key_decode(P v_a0, u64 v_a1, P v_a2) {
     u8 v_r187_i_i_i;
     u1 v_r189_i_i_i;
     u64 v_r199_i_i_i;
-    u1 v_r15_i76_i_i;
-    u64 v_r32_i79_i_i;
+    u1 v_r15_i77_i_i;
+    u64 v_r32_i80_i_i;
     P v_r0_i1_sroa_7_0_i_i;
     u64 v_r0_i1_sroa_11_0_i_i;
     u64 v_r0_i1_sroa_13_0_i_i;
     u1 v_r36_i_i_i;
     u1 v_r53_i_i_i_i;
-    u1 v_or_cond377_i_i;
+    u1 v_or_cond378_i_i;
     P v_r62_i_i_i_i;
     u64 v_r65_i_i_i_i;
     u8 v_r73_i_i_i_i;
@@ -33276,9 +33617,9 @@ static ONCE u32 proved_public_key_decode(P v_a0, u64 v_a1, P v_a2) {
     u8 v_r83_i_i_i_i;
     u1 v_r85_i_i_i_i;
     u64 v_r92_i_i_i_i;
-    u1 v_r15_i86_i_i;
-    P v_r29_i88_i_i;
-    u64 v_r32_i89_i_i;
+    u1 v_r15_i87_i_i;
+    P v_r29_i89_i_i;
+    u64 v_r32_i90_i_i;
     u1 v_r27_i37_i_i;
     u1 v_or_cond_i;
     u1 v_r104_i_i_i_i;
@@ -33292,10 +33633,10 @@ static ONCE u32 proved_public_key_decode(P v_a0, u64 v_a1, P v_a2) {
     u8 v_r143_i_i_i_i;
     u64 v_r145_i_i_i_i;
     u64 v_r148_i_i_i_i;
-    u1 v_r15_i96_i_i;
+    u1 v_r15_i97_i_i;
     P v_r119_i_i_i_i;
-    P v_r29_i98_i_i;
-    u64 v_r32_i99_i_i;
+    P v_r29_i99_i_i;
+    u64 v_r32_i100_i_i;
     u1 v_r163_i_i_i_i;
     P v_r170_i_i_i_i;
     u64 v_r173_i_i_i_i;
@@ -33303,9 +33644,9 @@ static ONCE u32 proved_public_key_decode(P v_a0, u64 v_a1, P v_a2) {
     u8 v_r187_i_i_i_i;
     u1 v_r189_i_i_i_i;
     u64 v_r199_i_i_i_i;
-    u1 v_r15_i106_i_i;
-    P v_r29_i108_i_i;
-    u64 v_r32_i109_i_i;
+    u1 v_r15_i107_i_i;
+    P v_r29_i109_i_i;
+    u64 v_r32_i110_i_i;
     u64 v_r0_i32_sroa_13_0_i27_i;
     P v_r0_i32_sroa_12_0_i26_i;
     u64 v_r0_i32_sroa_11_0_i25_i;
@@ -33332,8 +33673,8 @@ static ONCE u32 proved_public_key_decode(P v_a0, u64 v_a1, P v_a2) {
     u8 v_r83_i_i_i_i_i;
     u1 v_r85_i_i_i_i_i;
     u64 v_r92_i_i_i_i_i;
-    u1 v_r15_i116_i_i;
-    u64 v_r32_i119_i_i;
+    u1 v_r15_i117_i_i;
+    u64 v_r32_i120_i_i;
     u1 v_r27_i4_i_i_i;
     u1 v_or_cond45_i;
     u1 v_r104_i_i_i_i_i;
@@ -33347,9 +33688,9 @@ static ONCE u32 proved_public_key_decode(P v_a0, u64 v_a1, P v_a2) {
     u8 v_r143_i_i_i_i_i;
     u64 v_r145_i_i_i_i_i;
     u64 v_r148_i_i_i_i_i;
-    u1 v_r15_i126_i_i;
+    u1 v_r15_i127_i_i;
     P v_r119_i_i_i_i_i;
-    u64 v_r32_i129_i_i;
+    u64 v_r32_i130_i_i;
     u1 v_r163_i_i_i_i_i;
     P v_r170_i_i_i_i_i;
     u64 v_r173_i_i_i_i_i;
@@ -33357,8 +33698,8 @@ static ONCE u32 proved_public_key_decode(P v_a0, u64 v_a1, P v_a2) {
     u8 v_r187_i_i_i_i_i;
     u1 v_r189_i_i_i_i_i;
     u64 v_r199_i_i_i_i_i;
-    u1 v_r15_i136_i_i;
-    u64 v_r32_i139_i_i;
+    u1 v_r15_i137_i_i;
+    u64 v_r32_i140_i_i;
     u64 v_r0_i_i45_sroa_13_0_i34_i;
     u64 v_r0_i_i45_sroa_11_0_i33_i;
     P v_r0_i_i45_sroa_7_0_i32_i;
@@ -33372,10 +33713,10 @@ static ONCE u32 proved_public_key_decode(P v_a0, u64 v_a1, P v_a2) {
     u1 v_r58_i_i_i_i;
     u64 v_r40_i_i_i_i;
     P v_r37_i_i_i_i__2;
-    u1 v_not357_i_i;
+    u1 v_not358_i_i;
     P v_r11_sroa_4_i_i_sroa_0_0_ph_i_i;
     u64 v_r11_sroa_4_i_i_sroa_5_0_ph_i_i;
-    u1 v_r7_i146_i_i;
+    u1 v_r7_i147_i_i;
     u8 v_1;
     P v_r59_i_i_i;
     u8 v_2;
@@ -33404,14 +33745,14 @@ static ONCE u32 proved_public_key_decode(P v_a0, u64 v_a1, P v_a2) {
     v_r4 = (P)((u64)v_a0 + (u64)(v_r3));
     fill(v_r0_i_i_i, 0u, 40u);
     v_0 = (u64)((u64)(v_a1) + (u64)(18446744069414584320ull));
-    v_or_cond376_i_i = v_0 < 18446744069414584322ull;
-    if (v_or_cond376_i_i) { goto L_der_core_decode_AnyDecodeRefSliceU8_from_der_fcd42; } else { goto L_join_5_i_i_i; }
+    v_or_cond377_i_i = v_0 < 18446744069414584322ull;
+    if (v_or_cond377_i_i) { goto L_der_core_decode_AnyDecodeRefSliceU8_from_der_a5016; } else { goto L_join_5_i_i_i; }
 L_join_5_i_i_i:;
     v_r62_i5_i_i = v_r4 + 2;
     v_r65_i6_i_i = (u64)((u64)(v_a1) + (u64)(18446744073709551614ull));
     v_r73_i_i_i = get_u8(v_r4);
     v_r78_i_i_i = v_r73_i_i_i == 48u;
-    if (v_r78_i_i_i) { goto L_then_6_i_i_i; } else { goto L_der_core_decode_AnyDecodeRefSliceU8_from_der_fcd42; }
+    if (v_r78_i_i_i) { goto L_then_6_i_i_i; } else { goto L_der_core_decode_AnyDecodeRefSliceU8_from_der_a5016; }
 L_then_6_i_i_i:;
     v_r60_i7_i_i = v_r4 + 1;
     v_r83_i_i_i = get_u8(v_r60_i7_i_i);
@@ -33419,21 +33760,21 @@ L_then_6_i_i_i:;
     if (v_r85_i_i_i) { goto L_then_9_i_i_i; } else { goto L_join_11_i_i_i; }
 L_then_9_i_i_i:;
     v_r92_i_i_i = (u64)v_r83_i_i_i;
-    v_r15_i63_i_i = v_r65_i6_i_i < v_r92_i_i_i;
-    if (v_r15_i63_i_i) { goto L_der_core_decode_AnyDecodeRefSliceU8_from_der_fcd42; } else { goto L_join_3_i64_i_i; }
-L_join_3_i64_i_i:;
-    v_r32_i65_i_i = (u64)((u64)(v_r65_i6_i_i) - (u64)(v_r92_i_i_i));
-    { p_v_r0_i1_sroa_7_0_i_i = v_r62_i5_i_i; p_v_r0_i1_sroa_11_0_i_i = v_r92_i_i_i; p_v_r0_i1_sroa_13_0_i_i = v_r32_i65_i_i; goto L_der_core_quick_quick_contents_exit_i_i; }
+    v_r15_i64_i_i = v_r65_i6_i_i < v_r92_i_i_i;
+    if (v_r15_i64_i_i) { goto L_der_core_decode_AnyDecodeRefSliceU8_from_der_a5016; } else { goto L_join_3_i65_i_i; }
+L_join_3_i65_i_i:;
+    v_r32_i66_i_i = (u64)((u64)(v_r65_i6_i_i) - (u64)(v_r92_i_i_i));
+    { p_v_r0_i1_sroa_7_0_i_i = v_r62_i5_i_i; p_v_r0_i1_sroa_11_0_i_i = v_r92_i_i_i; p_v_r0_i1_sroa_13_0_i_i = v_r32_i66_i_i; goto L_der_core_quick_quick_contents_exit_i_i; }
 L_join_11_i_i_i:;
     v_r104_i_i_i = v_r83_i_i_i == 130u;
     if (v_r104_i_i_i) { goto L_then_12_i_i_i; } else { goto L_join_14_i_i_i; }
 L_then_12_i_i_i:;
     v_r110_i_i_i = v_a1 < 4u;
-    if (v_r110_i_i_i) { goto L_der_core_decode_AnyDecodeRefSliceU8_from_der_fcd42; } else { goto L_join_19_i_i_i; }
+    if (v_r110_i_i_i) { goto L_der_core_decode_AnyDecodeRefSliceU8_from_der_a5016; } else { goto L_join_19_i_i_i; }
 L_join_19_i_i_i:;
     v_r130_i_i_i = get_u8(v_r62_i5_i_i);
     v_r132_not_i_i_i = v_r130_i_i_i == 0u;
-    if (v_r132_not_i_i_i) { goto L_der_core_decode_AnyDecodeRefSliceU8_from_der_fcd42; } else { goto L_then_20_i_i_i; }
+    if (v_r132_not_i_i_i) { goto L_der_core_decode_AnyDecodeRefSliceU8_from_der_a5016; } else { goto L_then_20_i_i_i; }
 L_then_20_i_i_i:;
     v_r122_i_i_i = (u64)((u64)(v_a1) + (u64)(18446744073709551612ull));
     v_r117_i_i_i = v_r4 + 3;
@@ -33442,45 +33783,45 @@ L_then_20_i_i_i:;
     v_r143_i_i_i = get_u8(v_r117_i_i_i);
     v_r145_i_i_i = (u64)v_r143_i_i_i;
     v_r148_i_i_i = (u64)((u64)(v_r141_i_i_i) | (u64)(v_r145_i_i_i));
-    v_r15_i66_i_i = v_r122_i_i_i < v_r148_i_i_i;
-    if (v_r15_i66_i_i) { goto L_der_core_decode_AnyDecodeRefSliceU8_from_der_fcd42; } else { goto L_join_3_i67_i_i; }
-L_join_3_i67_i_i:;
+    v_r15_i67_i_i = v_r122_i_i_i < v_r148_i_i_i;
+    if (v_r15_i67_i_i) { goto L_der_core_decode_AnyDecodeRefSliceU8_from_der_a5016; } else { goto L_join_3_i68_i_i; }
+L_join_3_i68_i_i:;
     v_r119_i_i_i = v_r4 + 4;
-    v_r32_i69_i_i = (u64)((u64)(v_r122_i_i_i) - (u64)(v_r148_i_i_i));
-    { p_v_r0_i1_sroa_7_0_i_i = v_r119_i_i_i; p_v_r0_i1_sroa_11_0_i_i = v_r148_i_i_i; p_v_r0_i1_sroa_13_0_i_i = v_r32_i69_i_i; goto L_der_core_quick_quick_contents_exit_i_i; }
+    v_r32_i70_i_i = (u64)((u64)(v_r122_i_i_i) - (u64)(v_r148_i_i_i));
+    { p_v_r0_i1_sroa_7_0_i_i = v_r119_i_i_i; p_v_r0_i1_sroa_11_0_i_i = v_r148_i_i_i; p_v_r0_i1_sroa_13_0_i_i = v_r32_i70_i_i; goto L_der_core_quick_quick_contents_exit_i_i; }
 L_join_14_i_i_i:;
     v_r163_i_i_i = v_r65_i6_i_i == 0u;
-    if (v_r163_i_i_i) { goto L_der_core_decode_AnyDecodeRefSliceU8_from_der_fcd42; } else { goto L_join_27_i_i_i; }
+    if (v_r163_i_i_i) { goto L_der_core_decode_AnyDecodeRefSliceU8_from_der_a5016; } else { goto L_join_27_i_i_i; }
 L_join_27_i_i_i:;
     v_r170_i_i_i = v_r4 + 3;
     v_r173_i_i_i = (u64)((u64)(v_a1) + (u64)(18446744073709551613ull));
     v_r182_i_i_i = v_r83_i_i_i == 129u;
-    if (v_r182_i_i_i) { goto L_then_28_i_i_i; } else { goto L_der_core_decode_AnyDecodeRefSliceU8_from_der_fcd42; }
+    if (v_r182_i_i_i) { goto L_then_28_i_i_i; } else { goto L_der_core_decode_AnyDecodeRefSliceU8_from_der_a5016; }
 L_then_28_i_i_i:;
     v_r187_i_i_i = get_u8(v_r62_i5_i_i);
     v_r189_i_i_i = (u8)(v_r187_i_i_i ^ ((u8)1 << 7)) < (u8)(0u ^ ((u8)1 << 7));
-    if (v_r189_i_i_i) { goto L_then_31_i_i_i; } else { goto L_der_core_decode_AnyDecodeRefSliceU8_from_der_fcd42; }
+    if (v_r189_i_i_i) { goto L_then_31_i_i_i; } else { goto L_der_core_decode_AnyDecodeRefSliceU8_from_der_a5016; }
 L_then_31_i_i_i:;
     v_r199_i_i_i = (u64)v_r187_i_i_i;
-    v_r15_i76_i_i = v_r173_i_i_i < v_r199_i_i_i;
-    if (v_r15_i76_i_i) { goto L_der_core_decode_AnyDecodeRefSliceU8_from_der_fcd42; } else { goto L_join_3_i77_i_i; }
-L_join_3_i77_i_i:;
-    v_r32_i79_i_i = (u64)((u64)(v_r173_i_i_i) - (u64)(v_r199_i_i_i));
-    { p_v_r0_i1_sroa_7_0_i_i = v_r170_i_i_i; p_v_r0_i1_sroa_11_0_i_i = v_r199_i_i_i; p_v_r0_i1_sroa_13_0_i_i = v_r32_i79_i_i; goto L_der_core_quick_quick_contents_exit_i_i; }
+    v_r15_i77_i_i = v_r173_i_i_i < v_r199_i_i_i;
+    if (v_r15_i77_i_i) { goto L_der_core_decode_AnyDecodeRefSliceU8_from_der_a5016; } else { goto L_join_3_i78_i_i; }
+L_join_3_i78_i_i:;
+    v_r32_i80_i_i = (u64)((u64)(v_r173_i_i_i) - (u64)(v_r199_i_i_i));
+    { p_v_r0_i1_sroa_7_0_i_i = v_r170_i_i_i; p_v_r0_i1_sroa_11_0_i_i = v_r199_i_i_i; p_v_r0_i1_sroa_13_0_i_i = v_r32_i80_i_i; goto L_der_core_quick_quick_contents_exit_i_i; }
 L_der_core_quick_quick_contents_exit_i_i:;
     v_r0_i1_sroa_7_0_i_i = p_v_r0_i1_sroa_7_0_i_i;
     v_r0_i1_sroa_11_0_i_i = p_v_r0_i1_sroa_11_0_i_i;
     v_r0_i1_sroa_13_0_i_i = p_v_r0_i1_sroa_13_0_i_i;
     v_r36_i_i_i = v_r0_i1_sroa_13_0_i_i != 0u;
     v_r53_i_i_i_i = v_r0_i1_sroa_11_0_i_i < 2u;
-    v_or_cond377_i_i = v_r36_i_i_i ? 1u : v_r53_i_i_i_i;
-    if (v_or_cond377_i_i) { goto L_der_core_decode_AnyDecodeRefSliceU8_from_der_fcd42; } else { goto L_join_5_i_i_i_i; }
+    v_or_cond378_i_i = v_r36_i_i_i ? 1u : v_r53_i_i_i_i;
+    if (v_or_cond378_i_i) { goto L_der_core_decode_AnyDecodeRefSliceU8_from_der_a5016; } else { goto L_join_5_i_i_i_i; }
 L_join_5_i_i_i_i:;
     v_r62_i_i_i_i = v_r0_i1_sroa_7_0_i_i + 2;
     v_r65_i_i_i_i = (u64)((u64)(v_r0_i1_sroa_11_0_i_i) + (u64)(18446744073709551614ull));
     v_r73_i_i_i_i = get_u8(v_r0_i1_sroa_7_0_i_i);
     v_r78_i_i_i_i = v_r73_i_i_i_i == 2u;
-    if (v_r78_i_i_i_i) { goto L_then_6_i_i_i_i; } else { goto L_der_core_decode_AnyDecodeRefSliceU8_from_der_fcd42; }
+    if (v_r78_i_i_i_i) { goto L_then_6_i_i_i_i; } else { goto L_der_core_decode_AnyDecodeRefSliceU8_from_der_a5016; }
 L_then_6_i_i_i_i:;
     v_r60_i_i_i_i = v_r0_i1_sroa_7_0_i_i + 1;
     v_r83_i_i_i_i = get_u8(v_r60_i_i_i_i);
@@ -33488,22 +33829,22 @@ L_then_6_i_i_i_i:;
     if (v_r85_i_i_i_i) { goto L_then_9_i_i_i_i; } else { goto L_join_11_i_i_i_i; }
 L_then_9_i_i_i_i:;
     v_r92_i_i_i_i = (u64)v_r83_i_i_i_i;
-    v_r15_i86_i_i = v_r65_i_i_i_i < v_r92_i_i_i_i;
-    v_r29_i88_i_i = (P)((u64)v_r62_i_i_i_i + (u64)(v_r92_i_i_i_i));
-    v_r32_i89_i_i = (u64)((u64)(v_r65_i_i_i_i) - (u64)(v_r92_i_i_i_i));
+    v_r15_i87_i_i = v_r65_i_i_i_i < v_r92_i_i_i_i;
+    v_r29_i89_i_i = (P)((u64)v_r62_i_i_i_i + (u64)(v_r92_i_i_i_i));
+    v_r32_i90_i_i = (u64)((u64)(v_r65_i_i_i_i) - (u64)(v_r92_i_i_i_i));
     v_r27_i37_i_i = v_r83_i_i_i_i == 0u;
-    v_or_cond_i = (u1)(((u32)(v_r27_i37_i_i) | (u32)(v_r15_i86_i_i)) & 1);
-    if (v_or_cond_i) { goto L_der_core_decode_AnyDecodeRefSliceU8_from_der_fcd42; } else { p_v_r0_i32_sroa_13_0_i27_i = v_r32_i89_i_i; p_v_r0_i32_sroa_12_0_i26_i = v_r29_i88_i_i; p_v_r0_i32_sroa_11_0_i25_i = v_r92_i_i_i_i; p_v_r0_i32_sroa_7_0_i24_i = v_r62_i_i_i_i; goto L_join_5_i38_i_i; }
+    v_or_cond_i = (u1)(((u32)(v_r27_i37_i_i) | (u32)(v_r15_i87_i_i)) & 1);
+    if (v_or_cond_i) { goto L_der_core_decode_AnyDecodeRefSliceU8_from_der_a5016; } else { p_v_r0_i32_sroa_13_0_i27_i = v_r32_i90_i_i; p_v_r0_i32_sroa_12_0_i26_i = v_r29_i89_i_i; p_v_r0_i32_sroa_11_0_i25_i = v_r92_i_i_i_i; p_v_r0_i32_sroa_7_0_i24_i = v_r62_i_i_i_i; goto L_join_5_i38_i_i; }
 L_join_11_i_i_i_i:;
     v_r104_i_i_i_i = v_r83_i_i_i_i == 130u;
     if (v_r104_i_i_i_i) { goto L_then_12_i_i_i_i; } else { goto L_join_14_i_i_i_i; }
 L_then_12_i_i_i_i:;
     v_r110_i_i_i_i = v_r0_i1_sroa_11_0_i_i < 4u;
-    if (v_r110_i_i_i_i) { goto L_der_core_decode_AnyDecodeRefSliceU8_from_der_fcd42; } else { goto L_join_19_i_i_i_i; }
+    if (v_r110_i_i_i_i) { goto L_der_core_decode_AnyDecodeRefSliceU8_from_der_a5016; } else { goto L_join_19_i_i_i_i; }
 L_join_19_i_i_i_i:;
     v_r130_i_i_i_i = get_u8(v_r62_i_i_i_i);
     v_r132_not_i_i_i_i = v_r130_i_i_i_i == 0u;
-    if (v_r132_not_i_i_i_i) { goto L_der_core_decode_AnyDecodeRefSliceU8_from_der_fcd42; } else { goto L_then_20_i_i_i_i; }
+    if (v_r132_not_i_i_i_i) { goto L_der_core_decode_AnyDecodeRefSliceU8_from_der_a5016; } else { goto L_then_20_i_i_i_i; }
 L_then_20_i_i_i_i:;
     v_r122_i_i_i_i = (u64)((u64)(v_r0_i1_sroa_11_0_i_i) + (u64)(18446744073709551612ull));
     v_r117_i_i_i_i = v_r0_i1_sroa_7_0_i_i + 3;
@@ -33512,33 +33853,33 @@ L_then_20_i_i_i_i:;
     v_r143_i_i_i_i = get_u8(v_r117_i_i_i_i);
     v_r145_i_i_i_i = (u64)v_r143_i_i_i_i;
     v_r148_i_i_i_i = (u64)((u64)(v_r141_i_i_i_i) | (u64)(v_r145_i_i_i_i));
-    v_r15_i96_i_i = v_r122_i_i_i_i < v_r148_i_i_i_i;
-    if (v_r15_i96_i_i) { goto L_der_core_decode_AnyDecodeRefSliceU8_from_der_fcd42; } else { goto L_join_3_i97_i_i; }
-L_join_3_i97_i_i:;
+    v_r15_i97_i_i = v_r122_i_i_i_i < v_r148_i_i_i_i;
+    if (v_r15_i97_i_i) { goto L_der_core_decode_AnyDecodeRefSliceU8_from_der_a5016; } else { goto L_join_3_i98_i_i; }
+L_join_3_i98_i_i:;
     v_r119_i_i_i_i = v_r0_i1_sroa_7_0_i_i + 4;
-    v_r29_i98_i_i = (P)((u64)v_r119_i_i_i_i + (u64)(v_r148_i_i_i_i));
-    v_r32_i99_i_i = (u64)((u64)(v_r122_i_i_i_i) - (u64)(v_r148_i_i_i_i));
-    { p_v_r0_i32_sroa_13_0_i27_i = v_r32_i99_i_i; p_v_r0_i32_sroa_12_0_i26_i = v_r29_i98_i_i; p_v_r0_i32_sroa_11_0_i25_i = v_r148_i_i_i_i; p_v_r0_i32_sroa_7_0_i24_i = v_r119_i_i_i_i; goto L_join_5_i38_i_i; }
+    v_r29_i99_i_i = (P)((u64)v_r119_i_i_i_i + (u64)(v_r148_i_i_i_i));
+    v_r32_i100_i_i = (u64)((u64)(v_r122_i_i_i_i) - (u64)(v_r148_i_i_i_i));
+    { p_v_r0_i32_sroa_13_0_i27_i = v_r32_i100_i_i; p_v_r0_i32_sroa_12_0_i26_i = v_r29_i99_i_i; p_v_r0_i32_sroa_11_0_i25_i = v_r148_i_i_i_i; p_v_r0_i32_sroa_7_0_i24_i = v_r119_i_i_i_i; goto L_join_5_i38_i_i; }
 L_join_14_i_i_i_i:;
     v_r163_i_i_i_i = v_r65_i_i_i_i == 0u;
-    if (v_r163_i_i_i_i) { goto L_der_core_decode_AnyDecodeRefSliceU8_from_der_fcd42; } else { goto L_join_27_i_i_i_i; }
+    if (v_r163_i_i_i_i) { goto L_der_core_decode_AnyDecodeRefSliceU8_from_der_a5016; } else { goto L_join_27_i_i_i_i; }
 L_join_27_i_i_i_i:;
     v_r170_i_i_i_i = v_r0_i1_sroa_7_0_i_i + 3;
     v_r173_i_i_i_i = (u64)((u64)(v_r0_i1_sroa_11_0_i_i) + (u64)(18446744073709551613ull));
     v_r182_i_i_i_i = v_r83_i_i_i_i == 129u;
-    if (v_r182_i_i_i_i) { goto L_then_28_i_i_i_i; } else { goto L_der_core_decode_AnyDecodeRefSliceU8_from_der_fcd42; }
+    if (v_r182_i_i_i_i) { goto L_then_28_i_i_i_i; } else { goto L_der_core_decode_AnyDecodeRefSliceU8_from_der_a5016; }
 L_then_28_i_i_i_i:;
     v_r187_i_i_i_i = get_u8(v_r62_i_i_i_i);
     v_r189_i_i_i_i = (u8)(v_r187_i_i_i_i ^ ((u8)1 << 7)) < (u8)(0u ^ ((u8)1 << 7));
-    if (v_r189_i_i_i_i) { goto L_then_31_i_i_i_i; } else { goto L_der_core_decode_AnyDecodeRefSliceU8_from_der_fcd42; }
+    if (v_r189_i_i_i_i) { goto L_then_31_i_i_i_i; } else { goto L_der_core_decode_AnyDecodeRefSliceU8_from_der_a5016; }
 L_then_31_i_i_i_i:;
     v_r199_i_i_i_i = (u64)v_r187_i_i_i_i;
-    v_r15_i106_i_i = v_r173_i_i_i_i < v_r199_i_i_i_i;
-    if (v_r15_i106_i_i) { goto L_der_core_decode_AnyDecodeRefSliceU8_from_der_fcd42; } else { goto L_join_3_i107_i_i; }
-L_join_3_i107_i_i:;
-    v_r29_i108_i_i = (P)((u64)v_r170_i_i_i_i + (u64)(v_r199_i_i_i_i));
-    v_r32_i109_i_i = (u64)((u64)(v_r173_i_i_i_i) - (u64)(v_r199_i_i_i_i));
-    { p_v_r0_i32_sroa_13_0_i27_i = v_r32_i109_i_i; p_v_r0_i32_sroa_12_0_i26_i = v_r29_i108_i_i; p_v_r0_i32_sroa_11_0_i25_i = v_r199_i_i_i_i; p_v_r0_i32_sroa_7_0_i24_i = v_r170_i_i_i_i; goto L_join_5_i38_i_i; }
+    v_r15_i107_i_i = v_r173_i_i_i_i < v_r199_i_i_i_i;
+    if (v_r15_i107_i_i) { goto L_der_core_decode_AnyDecodeRefSliceU8_from_der_a5016; } else { goto L_join_3_i108_i_i; }
+L_join_3_i108_i_i:;
+    v_r29_i109_i_i = (P)((u64)v_r170_i_i_i_i + (u64)(v_r199_i_i_i_i));
+    v_r32_i110_i_i = (u64)((u64)(v_r173_i_i_i_i) - (u64)(v_r199_i_i_i_i));
+    { p_v_r0_i32_sroa_13_0_i27_i = v_r32_i110_i_i; p_v_r0_i32_sroa_12_0_i26_i = v_r29_i109_i_i; p_v_r0_i32_sroa_11_0_i25_i = v_r199_i_i_i_i; p_v_r0_i32_sroa_7_0_i24_i = v_r170_i_i_i_i; goto L_join_5_i38_i_i; }
 L_join_5_i38_i_i:;
     v_r0_i32_sroa_13_0_i27_i = p_v_r0_i32_sroa_13_0_i27_i;
     v_r0_i32_sroa_12_0_i26_i = p_v_r0_i32_sroa_12_0_i26_i;
@@ -33553,7 +33894,7 @@ L_arm_6_i41_i_i:;
     if (v_r47_i43_i_i) { p_v_r11_sroa_4_i_sroa_0_0_ph_i_i = v_r0_i32_sroa_7_0_i24_i; p_v_r11_sroa_4_i_sroa_5_0_ph_i_i = 1u; goto L_arm_1_i13_i_i; } else { goto L_der_core_integer_uint_UintRefDecodeValueRefSliceU8; }
 L_default_7_i_i_i:;
     v_r73_i39_i_i = (u8)(v_r34_i_i_i ^ ((u8)1 << 7)) > (u8)(255u ^ ((u8)1 << 7));
-    if (v_r73_i39_i_i) { p_v_r11_sroa_4_i_sroa_0_0_ph_i_i = v_r0_i32_sroa_7_0_i24_i; p_v_r11_sroa_4_i_sroa_5_0_ph_i_i = v_r0_i32_sroa_11_0_i25_i; goto L_arm_1_i13_i_i; } else { goto L_der_core_decode_AnyDecodeRefSliceU8_from_der_fcd42; }
+    if (v_r73_i39_i_i) { p_v_r11_sroa_4_i_sroa_0_0_ph_i_i = v_r0_i32_sroa_7_0_i24_i; p_v_r11_sroa_4_i_sroa_5_0_ph_i_i = v_r0_i32_sroa_11_0_i25_i; goto L_arm_1_i13_i_i; } else { goto L_der_core_decode_AnyDecodeRefSliceU8_from_der_a5016; }
 L_der_core_integer_uint_UintRefDecodeValueRefSliceU8:;
     v_r37_i_i_i = v_r0_i32_sroa_7_0_i24_i + 1;
     v_r56_i_i_i = get_u8(v_r37_i_i_i);
@@ -33561,18 +33902,18 @@ L_der_core_integer_uint_UintRefDecodeValueRefSliceU8:;
     v_r40_i_i_i = v_r58_i44_i_i ? v_r40_i42_i_i : 0u;
     v_r37_i_i_i__2 = v_r58_i44_i_i ? v_r37_i_i_i : (P)0;
     v_not_i_i = (u8)(v_r56_i_i_i ^ ((u8)1 << 7)) > (u8)(255u ^ ((u8)1 << 7));
-    if (v_not_i_i) { goto L_der_core_decode_AnyDecodeRefSliceU8_from_der_fcd42; } else { p_v_r11_sroa_4_i_sroa_0_0_ph_i_i = v_r37_i_i_i__2; p_v_r11_sroa_4_i_sroa_5_0_ph_i_i = v_r40_i_i_i; goto L_arm_1_i13_i_i; }
+    if (v_not_i_i) { goto L_der_core_decode_AnyDecodeRefSliceU8_from_der_a5016; } else { p_v_r11_sroa_4_i_sroa_0_0_ph_i_i = v_r37_i_i_i__2; p_v_r11_sroa_4_i_sroa_5_0_ph_i_i = v_r40_i_i_i; goto L_arm_1_i13_i_i; }
 L_arm_1_i13_i_i:;
     v_r11_sroa_4_i_sroa_0_0_ph_i_i = p_v_r11_sroa_4_i_sroa_0_0_ph_i_i;
     v_r11_sroa_4_i_sroa_5_0_ph_i_i = p_v_r11_sroa_4_i_sroa_5_0_ph_i_i;
     v_r53_i_i_i_i_i = v_r0_i32_sroa_13_0_i27_i < 2u;
-    if (v_r53_i_i_i_i_i) { goto L_der_core_decode_AnyDecodeRefSliceU8_from_der_fcd42; } else { goto L_join_5_i_i_i_i_i; }
+    if (v_r53_i_i_i_i_i) { goto L_der_core_decode_AnyDecodeRefSliceU8_from_der_a5016; } else { goto L_join_5_i_i_i_i_i; }
 L_join_5_i_i_i_i_i:;
     v_r62_i_i_i_i_i = v_r0_i32_sroa_12_0_i26_i + 2;
     v_r65_i_i_i_i_i = (u64)((u64)(v_r0_i32_sroa_13_0_i27_i) + (u64)(18446744073709551614ull));
     v_r73_i_i_i_i_i = get_u8(v_r0_i32_sroa_12_0_i26_i);
     v_r78_i_i_i_i_i = v_r73_i_i_i_i_i == 2u;
-    if (v_r78_i_i_i_i_i) { goto L_then_6_i_i_i_i_i; } else { goto L_der_core_decode_AnyDecodeRefSliceU8_from_der_fcd42; }
+    if (v_r78_i_i_i_i_i) { goto L_then_6_i_i_i_i_i; } else { goto L_der_core_decode_AnyDecodeRefSliceU8_from_der_a5016; }
 L_then_6_i_i_i_i_i:;
     v_r60_i_i_i_i_i = v_r0_i32_sroa_12_0_i26_i + 1;
     v_r83_i_i_i_i_i = get_u8(v_r60_i_i_i_i_i);
@@ -33580,21 +33921,21 @@ L_then_6_i_i_i_i_i:;
     if (v_r85_i_i_i_i_i) { goto L_then_9_i_i_i_i_i; } else { goto L_join_11_i_i_i_i_i; }
 L_then_9_i_i_i_i_i:;
     v_r92_i_i_i_i_i = (u64)v_r83_i_i_i_i_i;
-    v_r15_i116_i_i = v_r65_i_i_i_i_i < v_r92_i_i_i_i_i;
-    v_r32_i119_i_i = (u64)((u64)(v_r65_i_i_i_i_i) - (u64)(v_r92_i_i_i_i_i));
+    v_r15_i117_i_i = v_r65_i_i_i_i_i < v_r92_i_i_i_i_i;
+    v_r32_i120_i_i = (u64)((u64)(v_r65_i_i_i_i_i) - (u64)(v_r92_i_i_i_i_i));
     v_r27_i4_i_i_i = v_r83_i_i_i_i_i == 0u;
-    v_or_cond45_i = (u1)(((u32)(v_r27_i4_i_i_i) | (u32)(v_r15_i116_i_i)) & 1);
-    if (v_or_cond45_i) { goto L_der_core_decode_AnyDecodeRefSliceU8_from_der_fcd42; } else { p_v_r0_i_i45_sroa_13_0_i34_i = v_r32_i119_i_i; p_v_r0_i_i45_sroa_11_0_i33_i = v_r92_i_i_i_i_i; p_v_r0_i_i45_sroa_7_0_i32_i = v_r62_i_i_i_i_i; goto L_join_5_i_i59_i_i; }
+    v_or_cond45_i = (u1)(((u32)(v_r27_i4_i_i_i) | (u32)(v_r15_i117_i_i)) & 1);
+    if (v_or_cond45_i) { goto L_der_core_decode_AnyDecodeRefSliceU8_from_der_a5016; } else { p_v_r0_i_i45_sroa_13_0_i34_i = v_r32_i120_i_i; p_v_r0_i_i45_sroa_11_0_i33_i = v_r92_i_i_i_i_i; p_v_r0_i_i45_sroa_7_0_i32_i = v_r62_i_i_i_i_i; goto L_join_5_i_i59_i_i; }
 L_join_11_i_i_i_i_i:;
     v_r104_i_i_i_i_i = v_r83_i_i_i_i_i == 130u;
     if (v_r104_i_i_i_i_i) { goto L_then_12_i_i_i_i_i; } else { goto L_join_14_i_i_i_i_i; }
 L_then_12_i_i_i_i_i:;
     v_r110_i_i_i_i_i = v_r0_i32_sroa_13_0_i27_i < 4u;
-    if (v_r110_i_i_i_i_i) { goto L_der_core_decode_AnyDecodeRefSliceU8_from_der_fcd42; } else { goto L_join_19_i_i_i_i_i; }
+    if (v_r110_i_i_i_i_i) { goto L_der_core_decode_AnyDecodeRefSliceU8_from_der_a5016; } else { goto L_join_19_i_i_i_i_i; }
 L_join_19_i_i_i_i_i:;
     v_r130_i_i_i_i_i = get_u8(v_r62_i_i_i_i_i);
     v_r132_not_i_i_i_i_i = v_r130_i_i_i_i_i == 0u;
-    if (v_r132_not_i_i_i_i_i) { goto L_der_core_decode_AnyDecodeRefSliceU8_from_der_fcd42; } else { goto L_then_20_i_i_i_i_i; }
+    if (v_r132_not_i_i_i_i_i) { goto L_der_core_decode_AnyDecodeRefSliceU8_from_der_a5016; } else { goto L_then_20_i_i_i_i_i; }
 L_then_20_i_i_i_i_i:;
     v_r122_i_i_i_i_i = (u64)((u64)(v_r0_i32_sroa_13_0_i27_i) + (u64)(18446744073709551612ull));
     v_r117_i_i_i_i_i = v_r0_i32_sroa_12_0_i26_i + 3;
@@ -33603,31 +33944,31 @@ L_then_20_i_i_i_i_i:;
     v_r143_i_i_i_i_i = get_u8(v_r117_i_i_i_i_i);
     v_r145_i_i_i_i_i = (u64)v_r143_i_i_i_i_i;
     v_r148_i_i_i_i_i = (u64)((u64)(v_r141_i_i_i_i_i) | (u64)(v_r145_i_i_i_i_i));
-    v_r15_i126_i_i = v_r122_i_i_i_i_i < v_r148_i_i_i_i_i;
-    if (v_r15_i126_i_i) { goto L_der_core_decode_AnyDecodeRefSliceU8_from_der_fcd42; } else { goto L_join_3_i127_i_i; }
-L_join_3_i127_i_i:;
+    v_r15_i127_i_i = v_r122_i_i_i_i_i < v_r148_i_i_i_i_i;
+    if (v_r15_i127_i_i) { goto L_der_core_decode_AnyDecodeRefSliceU8_from_der_a5016; } else { goto L_join_3_i128_i_i; }
+L_join_3_i128_i_i:;
     v_r119_i_i_i_i_i = v_r0_i32_sroa_12_0_i26_i + 4;
-    v_r32_i129_i_i = (u64)((u64)(v_r122_i_i_i_i_i) - (u64)(v_r148_i_i_i_i_i));
-    { p_v_r0_i_i45_sroa_13_0_i34_i = v_r32_i129_i_i; p_v_r0_i_i45_sroa_11_0_i33_i = v_r148_i_i_i_i_i; p_v_r0_i_i45_sroa_7_0_i32_i = v_r119_i_i_i_i_i; goto L_join_5_i_i59_i_i; }
+    v_r32_i130_i_i = (u64)((u64)(v_r122_i_i_i_i_i) - (u64)(v_r148_i_i_i_i_i));
+    { p_v_r0_i_i45_sroa_13_0_i34_i = v_r32_i130_i_i; p_v_r0_i_i45_sroa_11_0_i33_i = v_r148_i_i_i_i_i; p_v_r0_i_i45_sroa_7_0_i32_i = v_r119_i_i_i_i_i; goto L_join_5_i_i59_i_i; }
 L_join_14_i_i_i_i_i:;
     v_r163_i_i_i_i_i = v_r65_i_i_i_i_i == 0u;
-    if (v_r163_i_i_i_i_i) { goto L_der_core_decode_AnyDecodeRefSliceU8_from_der_fcd42; } else { goto L_join_27_i_i_i_i_i; }
+    if (v_r163_i_i_i_i_i) { goto L_der_core_decode_AnyDecodeRefSliceU8_from_der_a5016; } else { goto L_join_27_i_i_i_i_i; }
 L_join_27_i_i_i_i_i:;
     v_r170_i_i_i_i_i = v_r0_i32_sroa_12_0_i26_i + 3;
     v_r173_i_i_i_i_i = (u64)((u64)(v_r0_i32_sroa_13_0_i27_i) + (u64)(18446744073709551613ull));
     v_r182_i_i_i_i_i = v_r83_i_i_i_i_i == 129u;
-    if (v_r182_i_i_i_i_i) { goto L_then_28_i_i_i_i_i; } else { goto L_der_core_decode_AnyDecodeRefSliceU8_from_der_fcd42; }
+    if (v_r182_i_i_i_i_i) { goto L_then_28_i_i_i_i_i; } else { goto L_der_core_decode_AnyDecodeRefSliceU8_from_der_a5016; }
 L_then_28_i_i_i_i_i:;
     v_r187_i_i_i_i_i = get_u8(v_r62_i_i_i_i_i);
     v_r189_i_i_i_i_i = (u8)(v_r187_i_i_i_i_i ^ ((u8)1 << 7)) < (u8)(0u ^ ((u8)1 << 7));
-    if (v_r189_i_i_i_i_i) { goto L_then_31_i_i_i_i_i; } else { goto L_der_core_decode_AnyDecodeRefSliceU8_from_der_fcd42; }
+    if (v_r189_i_i_i_i_i) { goto L_then_31_i_i_i_i_i; } else { goto L_der_core_decode_AnyDecodeRefSliceU8_from_der_a5016; }
 L_then_31_i_i_i_i_i:;
     v_r199_i_i_i_i_i = (u64)v_r187_i_i_i_i_i;
-    v_r15_i136_i_i = v_r173_i_i_i_i_i < v_r199_i_i_i_i_i;
-    if (v_r15_i136_i_i) { goto L_der_core_decode_AnyDecodeRefSliceU8_from_der_fcd42; } else { goto L_join_3_i137_i_i; }
-L_join_3_i137_i_i:;
-    v_r32_i139_i_i = (u64)((u64)(v_r173_i_i_i_i_i) - (u64)(v_r199_i_i_i_i_i));
-    { p_v_r0_i_i45_sroa_13_0_i34_i = v_r32_i139_i_i; p_v_r0_i_i45_sroa_11_0_i33_i = v_r199_i_i_i_i_i; p_v_r0_i_i45_sroa_7_0_i32_i = v_r170_i_i_i_i_i; goto L_join_5_i_i59_i_i; }
+    v_r15_i137_i_i = v_r173_i_i_i_i_i < v_r199_i_i_i_i_i;
+    if (v_r15_i137_i_i) { goto L_der_core_decode_AnyDecodeRefSliceU8_from_der_a5016; } else { goto L_join_3_i138_i_i; }
+L_join_3_i138_i_i:;
+    v_r32_i140_i_i = (u64)((u64)(v_r173_i_i_i_i_i) - (u64)(v_r199_i_i_i_i_i));
+    { p_v_r0_i_i45_sroa_13_0_i34_i = v_r32_i140_i_i; p_v_r0_i_i45_sroa_11_0_i33_i = v_r199_i_i_i_i_i; p_v_r0_i_i45_sroa_7_0_i32_i = v_r170_i_i_i_i_i; goto L_join_5_i_i59_i_i; }
 L_join_5_i_i59_i_i:;
     v_r0_i_i45_sroa_13_0_i34_i = p_v_r0_i_i45_sroa_13_0_i34_i;
     v_r0_i_i45_sroa_11_0_i33_i = p_v_r0_i_i45_sroa_11_0_i33_i;
@@ -33641,24 +33982,24 @@ L_arm_6_i_i_i_i:;
     if (v_r47_i_i_i_i) { p_v_r11_sroa_4_i_i_sroa_0_0_ph_i_i = v_r0_i_i45_sroa_7_0_i32_i; p_v_r11_sroa_4_i_i_sroa_5_0_ph_i_i = 1u; goto L_arm_1_i50_i_i; } else { goto L_der_core_integer_uint_UintRefDecodeValueRefSliceU8__2; }
 L_default_7_i_i_i_i:;
     v_r73_i_i60_i_i = (u8)(v_r34_i_i_i_i ^ ((u8)1 << 7)) > (u8)(255u ^ ((u8)1 << 7));
-    if (v_r73_i_i60_i_i) { p_v_r11_sroa_4_i_i_sroa_0_0_ph_i_i = v_r0_i_i45_sroa_7_0_i32_i; p_v_r11_sroa_4_i_i_sroa_5_0_ph_i_i = v_r0_i_i45_sroa_11_0_i33_i; goto L_arm_1_i50_i_i; } else { goto L_der_core_decode_AnyDecodeRefSliceU8_from_der_fcd42; }
+    if (v_r73_i_i60_i_i) { p_v_r11_sroa_4_i_i_sroa_0_0_ph_i_i = v_r0_i_i45_sroa_7_0_i32_i; p_v_r11_sroa_4_i_i_sroa_5_0_ph_i_i = v_r0_i_i45_sroa_11_0_i33_i; goto L_arm_1_i50_i_i; } else { goto L_der_core_decode_AnyDecodeRefSliceU8_from_der_a5016; }
 L_der_core_integer_uint_UintRefDecodeValueRefSliceU8__2:;
     v_r37_i_i_i_i = v_r0_i_i45_sroa_7_0_i32_i + 1;
     v_r56_i_i_i_i = get_u8(v_r37_i_i_i_i);
     v_r58_i_i_i_i = (u8)(v_r56_i_i_i_i ^ ((u8)1 << 7)) < (u8)(0u ^ ((u8)1 << 7));
     v_r40_i_i_i_i = v_r58_i_i_i_i ? v_r40_i5_i_i_i : 0u;
     v_r37_i_i_i_i__2 = v_r58_i_i_i_i ? v_r37_i_i_i_i : (P)0;
-    v_not357_i_i = (u8)(v_r56_i_i_i_i ^ ((u8)1 << 7)) > (u8)(255u ^ ((u8)1 << 7));
-    if (v_not357_i_i) { goto L_der_core_decode_AnyDecodeRefSliceU8_from_der_fcd42; } else { p_v_r11_sroa_4_i_i_sroa_0_0_ph_i_i = v_r37_i_i_i_i__2; p_v_r11_sroa_4_i_i_sroa_5_0_ph_i_i = v_r40_i_i_i_i; goto L_arm_1_i50_i_i; }
+    v_not358_i_i = (u8)(v_r56_i_i_i_i ^ ((u8)1 << 7)) > (u8)(255u ^ ((u8)1 << 7));
+    if (v_not358_i_i) { goto L_der_core_decode_AnyDecodeRefSliceU8_from_der_a5016; } else { p_v_r11_sroa_4_i_i_sroa_0_0_ph_i_i = v_r37_i_i_i_i__2; p_v_r11_sroa_4_i_i_sroa_5_0_ph_i_i = v_r40_i_i_i_i; goto L_arm_1_i50_i_i; }
 L_arm_1_i50_i_i:;
     v_r11_sroa_4_i_i_sroa_0_0_ph_i_i = p_v_r11_sroa_4_i_i_sroa_0_0_ph_i_i;
     v_r11_sroa_4_i_i_sroa_5_0_ph_i_i = p_v_r11_sroa_4_i_i_sroa_5_0_ph_i_i;
-    v_r7_i146_i_i = v_r0_i_i45_sroa_13_0_i34_i == 0u;
-    if (v_r7_i146_i_i) { goto L_der_core_decode_AnyDecodeRefSliceU8_from_der_fcd42__2; } else { goto L_der_core_decode_AnyDecodeRefSliceU8_from_der_fcd42; }
-L_der_core_decode_AnyDecodeRefSliceU8_from_der_fcd42__2:;
+    v_r7_i147_i_i = v_r0_i_i45_sroa_13_0_i34_i == 0u;
+    if (v_r7_i147_i_i) { goto L_der_core_decode_AnyDecodeRefSliceU8_from_der_a5016__2; } else { goto L_der_core_decode_AnyDecodeRefSliceU8_from_der_a5016; }
+L_der_core_decode_AnyDecodeRefSliceU8_from_der_a5016__2:;
     { p_v_r5_sroa_12_sroa_1_0_ph_i = v_r11_sroa_4_i_sroa_0_0_ph_i_i; p_v_r5_sroa_12_sroa_4_0_ph_i = v_r11_sroa_4_i_sroa_5_0_ph_i_i; p_v_r5_sroa_12_sroa_5_0_ph_i = v_r11_sroa_4_i_i_sroa_0_0_ph_i_i; p_v_r5_sroa_12_sroa_6_0_ph_i = v_r11_sroa_4_i_i_sroa_5_0_ph_i_i; goto L_arm_1_i; }
-L_der_core_decode_AnyDecodeRefSliceU8_from_der_fcd42:;
-    f_der_core_decode_read_slowly_f6b5580abe373ff8(v_r0_i_i_i, v_r4, v_a1);
+L_der_core_decode_AnyDecodeRefSliceU8_from_der_a5016:;
+    f_der_core_decode_read_slowly_963873ccf5d50ada(v_r0_i_i_i, v_r4, v_a1);
     v_1 = get_u8(v_r0_i_i_i);
     v_r59_i_i_i = v_r0_i_i_i + 1;
     v_2 = get_u8(v_r59_i_i_i);
@@ -34473,13 +34814,13 @@ static ONCE u32 proved_private_key_decode(P v_a0, u64 v_a1, P v_a2, P v_a3) {
     fill(v_r14_i_sroa_5_sroa_6_i, 0u, 24u);
     v_0 = (u64)((u64)(v_a1) + (u64)(18446744069414584320ull));
     v_or_cond2902_i = v_0 < 18446744069414584322ull;
-    if (v_or_cond2902_i) { goto L_der_core_decode_AnyDecodeRefSliceU8_from_der_70ca1; } else { goto L_join_5_i_i_i; }
+    if (v_or_cond2902_i) { goto L_der_core_decode_AnyDecodeRefSliceU8_from_der_f0286; } else { goto L_join_5_i_i_i; }
 L_join_5_i_i_i:;
     v_r62_i_i_i = v_r4 + 2;
     v_r65_i_i_i = (u64)((u64)(v_a1) + (u64)(18446744073709551614ull));
     v_r73_i_i_i = get_u8(v_r4);
     v_r78_i_i_i = v_r73_i_i_i == 48u;
-    if (v_r78_i_i_i) { goto L_then_6_i_i_i; } else { goto L_der_core_decode_AnyDecodeRefSliceU8_from_der_70ca1; }
+    if (v_r78_i_i_i) { goto L_then_6_i_i_i; } else { goto L_der_core_decode_AnyDecodeRefSliceU8_from_der_f0286; }
 L_then_6_i_i_i:;
     v_r60_i_i_i = v_r4 + 1;
     v_r83_i_i_i = get_u8(v_r60_i_i_i);
@@ -34488,20 +34829,20 @@ L_then_6_i_i_i:;
 L_then_9_i_i_i:;
     v_r92_i_i_i = (u64)v_r83_i_i_i;
     v_r15_i1331_i = v_r65_i_i_i < v_r92_i_i_i;
-    if (v_r15_i1331_i) { goto L_der_core_decode_AnyDecodeRefSliceU8_from_der_70ca1; } else { goto L_join_3_i1332_i; }
+    if (v_r15_i1331_i) { goto L_der_core_decode_AnyDecodeRefSliceU8_from_der_f0286; } else { goto L_join_3_i1332_i; }
 L_join_3_i1332_i:;
     v_r32_i1334_i = (u64)((u64)(v_r65_i_i_i) - (u64)(v_r92_i_i_i));
-    { p_v_r0_i9_sroa_7_0_i = v_r62_i_i_i; p_v_r0_i9_sroa_11_0_i = v_r92_i_i_i; p_v_r0_i9_sroa_13_0_i = v_r32_i1334_i; goto L_pkcs1_view_ViewedKeyDecodeValueRefSliceU8NoMemory_; }
+    { p_v_r0_i9_sroa_7_0_i = v_r62_i_i_i; p_v_r0_i9_sroa_11_0_i = v_r92_i_i_i; p_v_r0_i9_sroa_13_0_i = v_r32_i1334_i; goto L_pkcs1_viewed_key_ViewedKeyDecodeValueRefSliceU8NoM; }
 L_join_11_i_i_i:;
     v_r104_i_i_i = v_r83_i_i_i == 130u;
     if (v_r104_i_i_i) { goto L_then_12_i_i_i; } else { goto L_join_14_i_i_i; }
 L_then_12_i_i_i:;
     v_r110_i_i_i = v_a1 < 4u;
-    if (v_r110_i_i_i) { goto L_der_core_decode_AnyDecodeRefSliceU8_from_der_70ca1; } else { goto L_join_19_i_i_i; }
+    if (v_r110_i_i_i) { goto L_der_core_decode_AnyDecodeRefSliceU8_from_der_f0286; } else { goto L_join_19_i_i_i; }
 L_join_19_i_i_i:;
     v_r130_i_i_i = get_u8(v_r62_i_i_i);
     v_r132_not_i_i_i = v_r130_i_i_i == 0u;
-    if (v_r132_not_i_i_i) { goto L_der_core_decode_AnyDecodeRefSliceU8_from_der_70ca1; } else { goto L_then_20_i_i_i; }
+    if (v_r132_not_i_i_i) { goto L_der_core_decode_AnyDecodeRefSliceU8_from_der_f0286; } else { goto L_then_20_i_i_i; }
 L_then_20_i_i_i:;
     v_r122_i_i_i = (u64)((u64)(v_a1) + (u64)(18446744073709551612ull));
     v_r117_i_i_i = v_r4 + 3;
@@ -34511,98 +34852,98 @@ L_then_20_i_i_i:;
     v_r145_i_i_i = (u64)v_r143_i_i_i;
     v_r148_i_i_i = (u64)((u64)(v_r141_i_i_i) | (u64)(v_r145_i_i_i));
     v_r15_i1335_i = v_r122_i_i_i < v_r148_i_i_i;
-    if (v_r15_i1335_i) { goto L_der_core_decode_AnyDecodeRefSliceU8_from_der_70ca1; } else { goto L_join_3_i1336_i; }
+    if (v_r15_i1335_i) { goto L_der_core_decode_AnyDecodeRefSliceU8_from_der_f0286; } else { goto L_join_3_i1336_i; }
 L_join_3_i1336_i:;
     v_r119_i_i_i = v_r4 + 4;
     v_r32_i1338_i = (u64)((u64)(v_r122_i_i_i) - (u64)(v_r148_i_i_i));
-    { p_v_r0_i9_sroa_7_0_i = v_r119_i_i_i; p_v_r0_i9_sroa_11_0_i = v_r148_i_i_i; p_v_r0_i9_sroa_13_0_i = v_r32_i1338_i; goto L_pkcs1_view_ViewedKeyDecodeValueRefSliceU8NoMemory_; }
+    { p_v_r0_i9_sroa_7_0_i = v_r119_i_i_i; p_v_r0_i9_sroa_11_0_i = v_r148_i_i_i; p_v_r0_i9_sroa_13_0_i = v_r32_i1338_i; goto L_pkcs1_viewed_key_ViewedKeyDecodeValueRefSliceU8NoM; }
 L_join_14_i_i_i:;
     v_r163_i_i_i = v_r65_i_i_i == 0u;
-    if (v_r163_i_i_i) { goto L_der_core_decode_AnyDecodeRefSliceU8_from_der_70ca1; } else { goto L_join_27_i_i_i; }
+    if (v_r163_i_i_i) { goto L_der_core_decode_AnyDecodeRefSliceU8_from_der_f0286; } else { goto L_join_27_i_i_i; }
 L_join_27_i_i_i:;
     v_r170_i_i_i = v_r4 + 3;
     v_r173_i_i_i = (u64)((u64)(v_a1) + (u64)(18446744073709551613ull));
     v_r182_i_i_i = v_r83_i_i_i == 129u;
-    if (v_r182_i_i_i) { goto L_then_28_i_i_i; } else { goto L_der_core_decode_AnyDecodeRefSliceU8_from_der_70ca1; }
+    if (v_r182_i_i_i) { goto L_then_28_i_i_i; } else { goto L_der_core_decode_AnyDecodeRefSliceU8_from_der_f0286; }
 L_then_28_i_i_i:;
     v_r187_i_i_i = get_u8(v_r62_i_i_i);
     v_r189_i_i_i = (u8)(v_r187_i_i_i ^ ((u8)1 << 7)) < (u8)(0u ^ ((u8)1 << 7));
-    if (v_r189_i_i_i) { goto L_then_31_i_i_i; } else { goto L_der_core_decode_AnyDecodeRefSliceU8_from_der_70ca1; }
+    if (v_r189_i_i_i) { goto L_then_31_i_i_i; } else { goto L_der_core_decode_AnyDecodeRefSliceU8_from_der_f0286; }
 L_then_31_i_i_i:;
     v_r199_i_i_i = (u64)v_r187_i_i_i;
     v_r15_i1345_i = v_r173_i_i_i < v_r199_i_i_i;
-    if (v_r15_i1345_i) { goto L_der_core_decode_AnyDecodeRefSliceU8_from_der_70ca1; } else { goto L_join_3_i1346_i; }
+    if (v_r15_i1345_i) { goto L_der_core_decode_AnyDecodeRefSliceU8_from_der_f0286; } else { goto L_join_3_i1346_i; }
 L_join_3_i1346_i:;
     v_r32_i1348_i = (u64)((u64)(v_r173_i_i_i) - (u64)(v_r199_i_i_i));
-    { p_v_r0_i9_sroa_7_0_i = v_r170_i_i_i; p_v_r0_i9_sroa_11_0_i = v_r199_i_i_i; p_v_r0_i9_sroa_13_0_i = v_r32_i1348_i; goto L_pkcs1_view_ViewedKeyDecodeValueRefSliceU8NoMemory_; }
-L_pkcs1_view_ViewedKeyDecodeValueRefSliceU8NoMemory_:;
+    { p_v_r0_i9_sroa_7_0_i = v_r170_i_i_i; p_v_r0_i9_sroa_11_0_i = v_r199_i_i_i; p_v_r0_i9_sroa_13_0_i = v_r32_i1348_i; goto L_pkcs1_viewed_key_ViewedKeyDecodeValueRefSliceU8NoM; }
+L_pkcs1_viewed_key_ViewedKeyDecodeValueRefSliceU8NoM:;
     v_r0_i9_sroa_7_0_i = p_v_r0_i9_sroa_7_0_i;
     v_r0_i9_sroa_11_0_i = p_v_r0_i9_sroa_11_0_i;
     v_r0_i9_sroa_13_0_i = p_v_r0_i9_sroa_13_0_i;
     v_r36_i8_i = v_r0_i9_sroa_13_0_i == 0u;
-    if (v_r36_i8_i) { goto L_then_10_i_i; } else { goto L_der_core_decode_AnyDecodeRefSliceU8_from_der_70ca1; }
+    if (v_r36_i8_i) { goto L_then_10_i_i; } else { goto L_der_core_decode_AnyDecodeRefSliceU8_from_der_f0286; }
 L_then_10_i_i:;
     fill(v_r10_i14_sroa_7_i, 0u, 24u);
     v_r23_i76_i = v_r0_i9_sroa_11_0_i < 2u;
-    if (v_r23_i76_i) { goto L_der_core_decode_AnyDecodeRefSliceU8_from_der_70ca1__2; } else { goto L_join_5_i_i; }
+    if (v_r23_i76_i) { goto L_der_core_decode_AnyDecodeRefSliceU8_from_der_f0286__2; } else { goto L_join_5_i_i; }
 L_join_5_i_i:;
     v_r32_i77_i = v_r0_i9_sroa_7_0_i + 2;
     v_r35_i78_i = (u64)((u64)(v_r0_i9_sroa_11_0_i) + (u64)(18446744073709551614ull));
     v_r43_i_i = get_u8(v_r0_i9_sroa_7_0_i);
     v_r48_i80_i = v_r43_i_i == 2u;
-    if (v_r48_i80_i) { goto L_then_6_i_i; } else { goto L_der_core_decode_AnyDecodeRefSliceU8_from_der_70ca1__2; }
+    if (v_r48_i80_i) { goto L_then_6_i_i; } else { goto L_der_core_decode_AnyDecodeRefSliceU8_from_der_f0286__2; }
 L_then_6_i_i:;
     v_r30_i81_i = v_r0_i9_sroa_7_0_i + 1;
     v_r53_i82_i = get_u8(v_r30_i81_i);
     v_r55_i_i = (u8)(v_r53_i82_i ^ ((u8)1 << 7)) > (u8)(255u ^ ((u8)1 << 7));
-    if (v_r55_i_i) { goto L_then_9_i_i; } else { goto L_der_core_decode_AnyDecodeRefSliceU8_from_der_70ca1__2; }
+    if (v_r55_i_i) { goto L_then_9_i_i; } else { goto L_der_core_decode_AnyDecodeRefSliceU8_from_der_f0286__2; }
 L_then_9_i_i:;
     v_r65_i83_i = (u64)v_r53_i82_i;
     v_r15_i1355_i = v_r35_i78_i < v_r65_i83_i;
-    if (v_r15_i1355_i) { goto L_der_core_decode_AnyDecodeRefSliceU8_from_der_70ca1__2; } else { goto L_arm_1_i58_i; }
+    if (v_r15_i1355_i) { goto L_der_core_decode_AnyDecodeRefSliceU8_from_der_f0286__2; } else { goto L_arm_1_i58_i; }
 L_arm_1_i58_i:;
     v_r29_i1357_i = (P)((u64)v_r32_i77_i + (u64)(v_r65_i83_i));
     v_r32_i1358_i = (u64)((u64)(v_r35_i78_i) - (u64)(v_r65_i83_i));
     switch (v_r53_i82_i) {
-    case 0u: { goto L_der_core_decode_AnyDecodeRefSliceU8_from_der_70ca1__2; }
+    case 0u: { goto L_der_core_decode_AnyDecodeRefSliceU8_from_der_f0286__2; }
     case 1u: { goto L_then_6_i97_i; }
     default: { goto L_join_8_i_i; }
     }
 L_then_6_i97_i:;
     v_r34_i98_i = get_u8(v_r32_i77_i);
     v_r36_i99_i = (u8)(v_r34_i98_i ^ ((u8)1 << 7)) > (u8)(255u ^ ((u8)1 << 7));
-    if (v_r36_i99_i) { p_v_r6_sroa_5_0_i_i = v_r34_i98_i; goto L_arm_1_i92_i; } else { goto L_der_core_decode_AnyDecodeRefSliceU8_from_der_70ca1__2; }
+    if (v_r36_i99_i) { p_v_r6_sroa_5_0_i_i = v_r34_i98_i; goto L_arm_1_i92_i; } else { goto L_der_core_decode_AnyDecodeRefSliceU8_from_der_f0286__2; }
 L_join_8_i_i:;
     v_r46_i101_i = v_r53_i82_i < 3u;
-    if (v_r46_i101_i) { goto L_then_12_i_i; } else { goto L_der_core_decode_AnyDecodeRefSliceU8_from_der_70ca1__2; }
+    if (v_r46_i101_i) { goto L_then_12_i_i; } else { goto L_der_core_decode_AnyDecodeRefSliceU8_from_der_f0286__2; }
 L_then_12_i_i:;
     v_r53_i102_i = get_u8(v_r32_i77_i);
     v_cond_i_i = v_r53_i102_i == 0u;
-    if (v_cond_i_i) { goto L_arm_15_i_i; } else { goto L_der_core_decode_AnyDecodeRefSliceU8_from_der_70ca1__2; }
+    if (v_cond_i_i) { goto L_arm_15_i_i; } else { goto L_der_core_decode_AnyDecodeRefSliceU8_from_der_f0286__2; }
 L_arm_15_i_i:;
     v_r56_i_i = v_r0_i9_sroa_7_0_i + 3;
     v_r59_i103_i = get_u8(v_r56_i_i);
     v_r61_i104_i = (u8)(v_r59_i103_i ^ ((u8)1 << 7)) < (u8)(0u ^ ((u8)1 << 7));
-    if (v_r61_i104_i) { p_v_r6_sroa_5_0_i_i = v_r59_i103_i; goto L_arm_1_i92_i; } else { goto L_der_core_decode_AnyDecodeRefSliceU8_from_der_70ca1__2; }
+    if (v_r61_i104_i) { p_v_r6_sroa_5_0_i_i = v_r59_i103_i; goto L_arm_1_i92_i; } else { goto L_der_core_decode_AnyDecodeRefSliceU8_from_der_f0286__2; }
 L_arm_1_i92_i:;
     v_r6_sroa_5_0_i_i = p_v_r6_sroa_5_0_i_i;
     switch (v_r6_sroa_5_0_i_i) {
     case 0u: { goto L_arm_5_i67_i; }
     case 1u: { p_v_r11_sroa_4_0_i66_i = 1u; goto L_arm_1_i38_i; }
-    default: { goto L_der_core_decode_AnyDecodeRefSliceU8_from_der_70ca1__2; }
+    default: { goto L_der_core_decode_AnyDecodeRefSliceU8_from_der_f0286__2; }
     }
 L_arm_5_i67_i:;
     { p_v_r11_sroa_4_0_i66_i = 0u; goto L_arm_1_i38_i; }
 L_arm_1_i38_i:;
     v_r11_sroa_4_0_i66_i = p_v_r11_sroa_4_0_i66_i;
     v_r53_i_i_i_i = v_r32_i1358_i < 2u;
-    if (v_r53_i_i_i_i) { goto L_der_core_decode_AnyDecodeRefSliceU8_from_der_70ca1__2; } else { goto L_join_5_i_i_i_i; }
+    if (v_r53_i_i_i_i) { goto L_der_core_decode_AnyDecodeRefSliceU8_from_der_f0286__2; } else { goto L_join_5_i_i_i_i; }
 L_join_5_i_i_i_i:;
     v_r62_i_i_i_i = v_r29_i1357_i + 2;
     v_r65_i_i_i_i = (u64)((u64)(v_r32_i1358_i) + (u64)(18446744073709551614ull));
     v_r73_i_i_i_i = get_u8(v_r29_i1357_i);
     v_r78_i_i_i_i = v_r73_i_i_i_i == 2u;
-    if (v_r78_i_i_i_i) { goto L_then_6_i_i_i_i; } else { goto L_der_core_decode_AnyDecodeRefSliceU8_from_der_70ca1__2; }
+    if (v_r78_i_i_i_i) { goto L_then_6_i_i_i_i; } else { goto L_der_core_decode_AnyDecodeRefSliceU8_from_der_f0286__2; }
 L_then_6_i_i_i_i:;
     v_r60_i_i_i_i = v_r29_i1357_i + 1;
     v_r83_i_i_i_i = get_u8(v_r60_i_i_i_i);
@@ -34615,17 +34956,17 @@ L_then_9_i_i_i_i:;
     v_r32_i1374_i = (u64)((u64)(v_r65_i_i_i_i) - (u64)(v_r92_i_i_i_i));
     v_r27_i4_i_i = v_r83_i_i_i_i == 0u;
     v_or_cond = (u1)(((u32)(v_r27_i4_i_i) | (u32)(v_r15_i1371_i)) & 1);
-    if (v_or_cond) { goto L_der_core_decode_AnyDecodeRefSliceU8_from_der_70ca1__2; } else { p_v_r0_i_i105_sroa_13_0_i9 = v_r32_i1374_i; p_v_r0_i_i105_sroa_12_0_i8 = v_r29_i1373_i; p_v_r0_i_i105_sroa_11_0_i7 = v_r92_i_i_i_i; p_v_r0_i_i105_sroa_7_0_i6 = v_r62_i_i_i_i; goto L_join_5_i_i129_i; }
+    if (v_or_cond) { goto L_der_core_decode_AnyDecodeRefSliceU8_from_der_f0286__2; } else { p_v_r0_i_i105_sroa_13_0_i9 = v_r32_i1374_i; p_v_r0_i_i105_sroa_12_0_i8 = v_r29_i1373_i; p_v_r0_i_i105_sroa_11_0_i7 = v_r92_i_i_i_i; p_v_r0_i_i105_sroa_7_0_i6 = v_r62_i_i_i_i; goto L_join_5_i_i129_i; }
 L_join_11_i_i_i_i:;
     v_r104_i_i_i_i = v_r83_i_i_i_i == 130u;
     if (v_r104_i_i_i_i) { goto L_then_12_i_i_i_i; } else { goto L_join_14_i_i_i_i; }
 L_then_12_i_i_i_i:;
     v_r110_i_i_i_i = v_r32_i1358_i < 4u;
-    if (v_r110_i_i_i_i) { goto L_der_core_decode_AnyDecodeRefSliceU8_from_der_70ca1__2; } else { goto L_join_19_i_i_i_i; }
+    if (v_r110_i_i_i_i) { goto L_der_core_decode_AnyDecodeRefSliceU8_from_der_f0286__2; } else { goto L_join_19_i_i_i_i; }
 L_join_19_i_i_i_i:;
     v_r130_i_i_i_i = get_u8(v_r62_i_i_i_i);
     v_r132_not_i_i_i_i = v_r130_i_i_i_i == 0u;
-    if (v_r132_not_i_i_i_i) { goto L_der_core_decode_AnyDecodeRefSliceU8_from_der_70ca1__2; } else { goto L_then_20_i_i_i_i; }
+    if (v_r132_not_i_i_i_i) { goto L_der_core_decode_AnyDecodeRefSliceU8_from_der_f0286__2; } else { goto L_then_20_i_i_i_i; }
 L_then_20_i_i_i_i:;
     v_r122_i_i_i_i = (u64)((u64)(v_r32_i1358_i) + (u64)(18446744073709551612ull));
     v_r117_i_i_i_i = v_r29_i1357_i + 3;
@@ -34635,7 +34976,7 @@ L_then_20_i_i_i_i:;
     v_r145_i_i_i_i = (u64)v_r143_i_i_i_i;
     v_r148_i_i_i_i = (u64)((u64)(v_r141_i_i_i_i) | (u64)(v_r145_i_i_i_i));
     v_r15_i1381_i = v_r122_i_i_i_i < v_r148_i_i_i_i;
-    if (v_r15_i1381_i) { goto L_der_core_decode_AnyDecodeRefSliceU8_from_der_70ca1__2; } else { goto L_join_3_i1382_i; }
+    if (v_r15_i1381_i) { goto L_der_core_decode_AnyDecodeRefSliceU8_from_der_f0286__2; } else { goto L_join_3_i1382_i; }
 L_join_3_i1382_i:;
     v_r119_i_i_i_i = v_r29_i1357_i + 4;
     v_r29_i1383_i = (P)((u64)v_r119_i_i_i_i + (u64)(v_r148_i_i_i_i));
@@ -34643,20 +34984,20 @@ L_join_3_i1382_i:;
     { p_v_r0_i_i105_sroa_13_0_i9 = v_r32_i1384_i; p_v_r0_i_i105_sroa_12_0_i8 = v_r29_i1383_i; p_v_r0_i_i105_sroa_11_0_i7 = v_r148_i_i_i_i; p_v_r0_i_i105_sroa_7_0_i6 = v_r119_i_i_i_i; goto L_join_5_i_i129_i; }
 L_join_14_i_i_i_i:;
     v_r163_i_i_i_i = v_r65_i_i_i_i == 0u;
-    if (v_r163_i_i_i_i) { goto L_der_core_decode_AnyDecodeRefSliceU8_from_der_70ca1__2; } else { goto L_join_27_i_i_i_i; }
+    if (v_r163_i_i_i_i) { goto L_der_core_decode_AnyDecodeRefSliceU8_from_der_f0286__2; } else { goto L_join_27_i_i_i_i; }
 L_join_27_i_i_i_i:;
     v_r170_i_i_i_i = v_r29_i1357_i + 3;
     v_r173_i_i_i_i = (u64)((u64)(v_r32_i1358_i) + (u64)(18446744073709551613ull));
     v_r182_i_i_i_i = v_r83_i_i_i_i == 129u;
-    if (v_r182_i_i_i_i) { goto L_then_28_i_i_i_i; } else { goto L_der_core_decode_AnyDecodeRefSliceU8_from_der_70ca1__2; }
+    if (v_r182_i_i_i_i) { goto L_then_28_i_i_i_i; } else { goto L_der_core_decode_AnyDecodeRefSliceU8_from_der_f0286__2; }
 L_then_28_i_i_i_i:;
     v_r187_i_i_i_i = get_u8(v_r62_i_i_i_i);
     v_r189_i_i_i_i = (u8)(v_r187_i_i_i_i ^ ((u8)1 << 7)) < (u8)(0u ^ ((u8)1 << 7));
-    if (v_r189_i_i_i_i) { goto L_then_31_i_i_i_i; } else { goto L_der_core_decode_AnyDecodeRefSliceU8_from_der_70ca1__2; }
+    if (v_r189_i_i_i_i) { goto L_then_31_i_i_i_i; } else { goto L_der_core_decode_AnyDecodeRefSliceU8_from_der_f0286__2; }
 L_then_31_i_i_i_i:;
     v_r199_i_i_i_i = (u64)v_r187_i_i_i_i;
     v_r15_i1391_i = v_r173_i_i_i_i < v_r199_i_i_i_i;
-    if (v_r15_i1391_i) { goto L_der_core_decode_AnyDecodeRefSliceU8_from_der_70ca1__2; } else { goto L_join_3_i1392_i; }
+    if (v_r15_i1391_i) { goto L_der_core_decode_AnyDecodeRefSliceU8_from_der_f0286__2; } else { goto L_join_3_i1392_i; }
 L_join_3_i1392_i:;
     v_r29_i1393_i = (P)((u64)v_r170_i_i_i_i + (u64)(v_r199_i_i_i_i));
     v_r32_i1394_i = (u64)((u64)(v_r173_i_i_i_i) - (u64)(v_r199_i_i_i_i));
@@ -34675,7 +35016,7 @@ L_arm_6_i_i_i:;
     if (v_r47_i_i_i) { p_v_r11_sroa_4_i_i_sroa_0_0_ph_i = v_r0_i_i105_sroa_7_0_i6; p_v_r11_sroa_4_i_i_sroa_5_0_ph_i = 1u; goto L_arm_1_i116_i; } else { goto L_der_core_integer_uint_UintRefDecodeValueRefSliceU8; }
 L_default_7_i_i_i:;
     v_r73_i_i130_i = (u8)(v_r34_i_i_i ^ ((u8)1 << 7)) > (u8)(255u ^ ((u8)1 << 7));
-    if (v_r73_i_i130_i) { p_v_r11_sroa_4_i_i_sroa_0_0_ph_i = v_r0_i_i105_sroa_7_0_i6; p_v_r11_sroa_4_i_i_sroa_5_0_ph_i = v_r0_i_i105_sroa_11_0_i7; goto L_arm_1_i116_i; } else { goto L_der_core_decode_AnyDecodeRefSliceU8_from_der_70ca1__2; }
+    if (v_r73_i_i130_i) { p_v_r11_sroa_4_i_i_sroa_0_0_ph_i = v_r0_i_i105_sroa_7_0_i6; p_v_r11_sroa_4_i_i_sroa_5_0_ph_i = v_r0_i_i105_sroa_11_0_i7; goto L_arm_1_i116_i; } else { goto L_der_core_decode_AnyDecodeRefSliceU8_from_der_f0286__2; }
 L_der_core_integer_uint_UintRefDecodeValueRefSliceU8:;
     v_r37_i_i_i = v_r0_i_i105_sroa_7_0_i6 + 1;
     v_r56_i_i_i = get_u8(v_r37_i_i_i);
@@ -34683,18 +35024,18 @@ L_der_core_integer_uint_UintRefDecodeValueRefSliceU8:;
     v_r40_i_i_i = v_r58_i_i_i ? v_r40_i5_i_i : 0u;
     v_r37_i_i_i__2 = v_r58_i_i_i ? v_r37_i_i_i : (P)0;
     v_not_i = (u8)(v_r56_i_i_i ^ ((u8)1 << 7)) > (u8)(255u ^ ((u8)1 << 7));
-    if (v_not_i) { goto L_der_core_decode_AnyDecodeRefSliceU8_from_der_70ca1__2; } else { p_v_r11_sroa_4_i_i_sroa_0_0_ph_i = v_r37_i_i_i__2; p_v_r11_sroa_4_i_i_sroa_5_0_ph_i = v_r40_i_i_i; goto L_arm_1_i116_i; }
+    if (v_not_i) { goto L_der_core_decode_AnyDecodeRefSliceU8_from_der_f0286__2; } else { p_v_r11_sroa_4_i_i_sroa_0_0_ph_i = v_r37_i_i_i__2; p_v_r11_sroa_4_i_i_sroa_5_0_ph_i = v_r40_i_i_i; goto L_arm_1_i116_i; }
 L_arm_1_i116_i:;
     v_r11_sroa_4_i_i_sroa_0_0_ph_i = p_v_r11_sroa_4_i_i_sroa_0_0_ph_i;
     v_r11_sroa_4_i_i_sroa_5_0_ph_i = p_v_r11_sroa_4_i_i_sroa_5_0_ph_i;
     v_r53_i_i_i160_i = v_r0_i_i105_sroa_13_0_i9 < 2u;
-    if (v_r53_i_i_i160_i) { goto L_der_core_decode_AnyDecodeRefSliceU8_from_der_70ca1__2; } else { goto L_join_5_i_i_i161_i; }
+    if (v_r53_i_i_i160_i) { goto L_der_core_decode_AnyDecodeRefSliceU8_from_der_f0286__2; } else { goto L_join_5_i_i_i161_i; }
 L_join_5_i_i_i161_i:;
     v_r62_i_i_i162_i = v_r0_i_i105_sroa_12_0_i8 + 2;
     v_r65_i_i_i163_i = (u64)((u64)(v_r0_i_i105_sroa_13_0_i9) + (u64)(18446744073709551614ull));
     v_r73_i_i_i164_i = get_u8(v_r0_i_i105_sroa_12_0_i8);
     v_r78_i_i_i166_i = v_r73_i_i_i164_i == 2u;
-    if (v_r78_i_i_i166_i) { goto L_then_6_i_i_i241_i; } else { goto L_der_core_decode_AnyDecodeRefSliceU8_from_der_70ca1__2; }
+    if (v_r78_i_i_i166_i) { goto L_then_6_i_i_i241_i; } else { goto L_der_core_decode_AnyDecodeRefSliceU8_from_der_f0286__2; }
 L_then_6_i_i_i241_i:;
     v_r60_i_i_i242_i = v_r0_i_i105_sroa_12_0_i8 + 1;
     v_r83_i_i_i243_i = get_u8(v_r60_i_i_i242_i);
@@ -34707,17 +35048,17 @@ L_then_9_i_i_i285_i:;
     v_r32_i1404_i = (u64)((u64)(v_r65_i_i_i163_i) - (u64)(v_r92_i_i_i286_i));
     v_r27_i4_i213_i = v_r83_i_i_i243_i == 0u;
     v_or_cond73 = (u1)(((u32)(v_r27_i4_i213_i) | (u32)(v_r15_i1401_i)) & 1);
-    if (v_or_cond73) { goto L_der_core_decode_AnyDecodeRefSliceU8_from_der_70ca1__2; } else { p_v_r0_i_i135_sroa_13_0_i18 = v_r32_i1404_i; p_v_r0_i_i135_sroa_12_0_i17 = v_r29_i1403_i; p_v_r0_i_i135_sroa_11_0_i16 = v_r92_i_i_i286_i; p_v_r0_i_i135_sroa_7_0_i15 = v_r62_i_i_i162_i; goto L_join_5_i_i214_i; }
+    if (v_or_cond73) { goto L_der_core_decode_AnyDecodeRefSliceU8_from_der_f0286__2; } else { p_v_r0_i_i135_sroa_13_0_i18 = v_r32_i1404_i; p_v_r0_i_i135_sroa_12_0_i17 = v_r29_i1403_i; p_v_r0_i_i135_sroa_11_0_i16 = v_r92_i_i_i286_i; p_v_r0_i_i135_sroa_7_0_i15 = v_r62_i_i_i162_i; goto L_join_5_i_i214_i; }
 L_join_11_i_i_i245_i:;
     v_r104_i_i_i246_i = v_r83_i_i_i243_i == 130u;
     if (v_r104_i_i_i246_i) { goto L_then_12_i_i_i262_i; } else { goto L_join_14_i_i_i247_i; }
 L_then_12_i_i_i262_i:;
     v_r110_i_i_i263_i = v_r0_i_i105_sroa_13_0_i9 < 4u;
-    if (v_r110_i_i_i263_i) { goto L_der_core_decode_AnyDecodeRefSliceU8_from_der_70ca1__2; } else { goto L_join_19_i_i_i264_i; }
+    if (v_r110_i_i_i263_i) { goto L_der_core_decode_AnyDecodeRefSliceU8_from_der_f0286__2; } else { goto L_join_19_i_i_i264_i; }
 L_join_19_i_i_i264_i:;
     v_r130_i_i_i265_i = get_u8(v_r62_i_i_i162_i);
     v_r132_not_i_i_i266_i = v_r130_i_i_i265_i == 0u;
-    if (v_r132_not_i_i_i266_i) { goto L_der_core_decode_AnyDecodeRefSliceU8_from_der_70ca1__2; } else { goto L_then_20_i_i_i267_i; }
+    if (v_r132_not_i_i_i266_i) { goto L_der_core_decode_AnyDecodeRefSliceU8_from_der_f0286__2; } else { goto L_then_20_i_i_i267_i; }
 L_then_20_i_i_i267_i:;
     v_r122_i_i_i268_i = (u64)((u64)(v_r0_i_i105_sroa_13_0_i9) + (u64)(18446744073709551612ull));
     v_r117_i_i_i270_i = v_r0_i_i105_sroa_12_0_i8 + 3;
@@ -34727,7 +35068,7 @@ L_then_20_i_i_i267_i:;
     v_r145_i_i_i274_i = (u64)v_r143_i_i_i273_i;
     v_r148_i_i_i275_i = (u64)((u64)(v_r141_i_i_i272_i) | (u64)(v_r145_i_i_i274_i));
     v_r15_i1411_i = v_r122_i_i_i268_i < v_r148_i_i_i275_i;
-    if (v_r15_i1411_i) { goto L_der_core_decode_AnyDecodeRefSliceU8_from_der_70ca1__2; } else { goto L_join_3_i1412_i; }
+    if (v_r15_i1411_i) { goto L_der_core_decode_AnyDecodeRefSliceU8_from_der_f0286__2; } else { goto L_join_3_i1412_i; }
 L_join_3_i1412_i:;
     v_r119_i_i_i269_i = v_r0_i_i105_sroa_12_0_i8 + 4;
     v_r29_i1413_i = (P)((u64)v_r119_i_i_i269_i + (u64)(v_r148_i_i_i275_i));
@@ -34735,20 +35076,20 @@ L_join_3_i1412_i:;
     { p_v_r0_i_i135_sroa_13_0_i18 = v_r32_i1414_i; p_v_r0_i_i135_sroa_12_0_i17 = v_r29_i1413_i; p_v_r0_i_i135_sroa_11_0_i16 = v_r148_i_i_i275_i; p_v_r0_i_i135_sroa_7_0_i15 = v_r119_i_i_i269_i; goto L_join_5_i_i214_i; }
 L_join_14_i_i_i247_i:;
     v_r163_i_i_i248_i = v_r65_i_i_i163_i == 0u;
-    if (v_r163_i_i_i248_i) { goto L_der_core_decode_AnyDecodeRefSliceU8_from_der_70ca1__2; } else { goto L_join_27_i_i_i249_i; }
+    if (v_r163_i_i_i248_i) { goto L_der_core_decode_AnyDecodeRefSliceU8_from_der_f0286__2; } else { goto L_join_27_i_i_i249_i; }
 L_join_27_i_i_i249_i:;
     v_r170_i_i_i250_i = v_r0_i_i105_sroa_12_0_i8 + 3;
     v_r173_i_i_i251_i = (u64)((u64)(v_r0_i_i105_sroa_13_0_i9) + (u64)(18446744073709551613ull));
     v_r182_i_i_i252_i = v_r83_i_i_i243_i == 129u;
-    if (v_r182_i_i_i252_i) { goto L_then_28_i_i_i257_i; } else { goto L_der_core_decode_AnyDecodeRefSliceU8_from_der_70ca1__2; }
+    if (v_r182_i_i_i252_i) { goto L_then_28_i_i_i257_i; } else { goto L_der_core_decode_AnyDecodeRefSliceU8_from_der_f0286__2; }
 L_then_28_i_i_i257_i:;
     v_r187_i_i_i258_i = get_u8(v_r62_i_i_i162_i);
     v_r189_i_i_i259_i = (u8)(v_r187_i_i_i258_i ^ ((u8)1 << 7)) < (u8)(0u ^ ((u8)1 << 7));
-    if (v_r189_i_i_i259_i) { goto L_then_31_i_i_i260_i; } else { goto L_der_core_decode_AnyDecodeRefSliceU8_from_der_70ca1__2; }
+    if (v_r189_i_i_i259_i) { goto L_then_31_i_i_i260_i; } else { goto L_der_core_decode_AnyDecodeRefSliceU8_from_der_f0286__2; }
 L_then_31_i_i_i260_i:;
     v_r199_i_i_i261_i = (u64)v_r187_i_i_i258_i;
     v_r15_i1421_i = v_r173_i_i_i251_i < v_r199_i_i_i261_i;
-    if (v_r15_i1421_i) { goto L_der_core_decode_AnyDecodeRefSliceU8_from_der_70ca1__2; } else { goto L_join_3_i1422_i; }
+    if (v_r15_i1421_i) { goto L_der_core_decode_AnyDecodeRefSliceU8_from_der_f0286__2; } else { goto L_join_3_i1422_i; }
 L_join_3_i1422_i:;
     v_r29_i1423_i = (P)((u64)v_r170_i_i_i250_i + (u64)(v_r199_i_i_i261_i));
     v_r32_i1424_i = (u64)((u64)(v_r173_i_i_i251_i) - (u64)(v_r199_i_i_i261_i));
@@ -34767,7 +35108,7 @@ L_arm_6_i_i231_i:;
     if (v_r47_i_i234_i) { p_v_r11_sroa_4_i_i142_sroa_0_0_ph_i = v_r0_i_i135_sroa_7_0_i15; p_v_r11_sroa_4_i_i142_sroa_5_0_ph_i = 1u; goto L_arm_1_i190_i; } else { goto L_der_core_integer_uint_UintRefDecodeValueRefSliceU8__2; }
 L_default_7_i_i217_i:;
     v_r73_i_i218_i = (u8)(v_r34_i_i215_i ^ ((u8)1 << 7)) > (u8)(255u ^ ((u8)1 << 7));
-    if (v_r73_i_i218_i) { p_v_r11_sroa_4_i_i142_sroa_0_0_ph_i = v_r0_i_i135_sroa_7_0_i15; p_v_r11_sroa_4_i_i142_sroa_5_0_ph_i = v_r0_i_i135_sroa_11_0_i16; goto L_arm_1_i190_i; } else { goto L_der_core_decode_AnyDecodeRefSliceU8_from_der_70ca1__2; }
+    if (v_r73_i_i218_i) { p_v_r11_sroa_4_i_i142_sroa_0_0_ph_i = v_r0_i_i135_sroa_7_0_i15; p_v_r11_sroa_4_i_i142_sroa_5_0_ph_i = v_r0_i_i135_sroa_11_0_i16; goto L_arm_1_i190_i; } else { goto L_der_core_decode_AnyDecodeRefSliceU8_from_der_f0286__2; }
 L_der_core_integer_uint_UintRefDecodeValueRefSliceU8__2:;
     v_r37_i_i232_i = v_r0_i_i135_sroa_7_0_i15 + 1;
     v_r56_i_i236_i = get_u8(v_r37_i_i232_i);
@@ -34775,18 +35116,18 @@ L_der_core_integer_uint_UintRefDecodeValueRefSliceU8__2:;
     v_r40_i_i238_i = v_r58_i_i237_i ? v_r40_i5_i233_i : 0u;
     v_r37_i_i239_i = v_r58_i_i237_i ? v_r37_i_i232_i : (P)0;
     v_not2804_i = (u8)(v_r56_i_i236_i ^ ((u8)1 << 7)) > (u8)(255u ^ ((u8)1 << 7));
-    if (v_not2804_i) { goto L_der_core_decode_AnyDecodeRefSliceU8_from_der_70ca1__2; } else { p_v_r11_sroa_4_i_i142_sroa_0_0_ph_i = v_r37_i_i239_i; p_v_r11_sroa_4_i_i142_sroa_5_0_ph_i = v_r40_i_i238_i; goto L_arm_1_i190_i; }
+    if (v_not2804_i) { goto L_der_core_decode_AnyDecodeRefSliceU8_from_der_f0286__2; } else { p_v_r11_sroa_4_i_i142_sroa_0_0_ph_i = v_r37_i_i239_i; p_v_r11_sroa_4_i_i142_sroa_5_0_ph_i = v_r40_i_i238_i; goto L_arm_1_i190_i; }
 L_arm_1_i190_i:;
     v_r11_sroa_4_i_i142_sroa_0_0_ph_i = p_v_r11_sroa_4_i_i142_sroa_0_0_ph_i;
     v_r11_sroa_4_i_i142_sroa_5_0_ph_i = p_v_r11_sroa_4_i_i142_sroa_5_0_ph_i;
     v_r53_i_i_i320_i = v_r0_i_i135_sroa_13_0_i18 < 2u;
-    if (v_r53_i_i_i320_i) { goto L_der_core_decode_AnyDecodeRefSliceU8_from_der_70ca1__2; } else { goto L_join_5_i_i_i321_i; }
+    if (v_r53_i_i_i320_i) { goto L_der_core_decode_AnyDecodeRefSliceU8_from_der_f0286__2; } else { goto L_join_5_i_i_i321_i; }
 L_join_5_i_i_i321_i:;
     v_r62_i_i_i322_i = v_r0_i_i135_sroa_12_0_i17 + 2;
     v_r65_i_i_i323_i = (u64)((u64)(v_r0_i_i135_sroa_13_0_i18) + (u64)(18446744073709551614ull));
     v_r73_i_i_i324_i = get_u8(v_r0_i_i135_sroa_12_0_i17);
     v_r78_i_i_i326_i = v_r73_i_i_i324_i == 2u;
-    if (v_r78_i_i_i326_i) { goto L_then_6_i_i_i401_i; } else { goto L_der_core_decode_AnyDecodeRefSliceU8_from_der_70ca1__2; }
+    if (v_r78_i_i_i326_i) { goto L_then_6_i_i_i401_i; } else { goto L_der_core_decode_AnyDecodeRefSliceU8_from_der_f0286__2; }
 L_then_6_i_i_i401_i:;
     v_r60_i_i_i402_i = v_r0_i_i135_sroa_12_0_i17 + 1;
     v_r83_i_i_i403_i = get_u8(v_r60_i_i_i402_i);
@@ -34799,17 +35140,17 @@ L_then_9_i_i_i445_i:;
     v_r32_i1434_i = (u64)((u64)(v_r65_i_i_i323_i) - (u64)(v_r92_i_i_i446_i));
     v_r27_i4_i373_i = v_r83_i_i_i403_i == 0u;
     v_or_cond74 = (u1)(((u32)(v_r27_i4_i373_i) | (u32)(v_r15_i1431_i)) & 1);
-    if (v_or_cond74) { goto L_der_core_decode_AnyDecodeRefSliceU8_from_der_70ca1__2; } else { p_v_r0_i_i295_sroa_13_0_i27 = v_r32_i1434_i; p_v_r0_i_i295_sroa_12_0_i26 = v_r29_i1433_i; p_v_r0_i_i295_sroa_11_0_i25 = v_r92_i_i_i446_i; p_v_r0_i_i295_sroa_7_0_i24 = v_r62_i_i_i322_i; goto L_join_5_i_i374_i; }
+    if (v_or_cond74) { goto L_der_core_decode_AnyDecodeRefSliceU8_from_der_f0286__2; } else { p_v_r0_i_i295_sroa_13_0_i27 = v_r32_i1434_i; p_v_r0_i_i295_sroa_12_0_i26 = v_r29_i1433_i; p_v_r0_i_i295_sroa_11_0_i25 = v_r92_i_i_i446_i; p_v_r0_i_i295_sroa_7_0_i24 = v_r62_i_i_i322_i; goto L_join_5_i_i374_i; }
 L_join_11_i_i_i405_i:;
     v_r104_i_i_i406_i = v_r83_i_i_i403_i == 130u;
     if (v_r104_i_i_i406_i) { goto L_then_12_i_i_i422_i; } else { goto L_join_14_i_i_i407_i; }
 L_then_12_i_i_i422_i:;
     v_r110_i_i_i423_i = v_r0_i_i135_sroa_13_0_i18 < 4u;
-    if (v_r110_i_i_i423_i) { goto L_der_core_decode_AnyDecodeRefSliceU8_from_der_70ca1__2; } else { goto L_join_19_i_i_i424_i; }
+    if (v_r110_i_i_i423_i) { goto L_der_core_decode_AnyDecodeRefSliceU8_from_der_f0286__2; } else { goto L_join_19_i_i_i424_i; }
 L_join_19_i_i_i424_i:;
     v_r130_i_i_i425_i = get_u8(v_r62_i_i_i322_i);
     v_r132_not_i_i_i426_i = v_r130_i_i_i425_i == 0u;
-    if (v_r132_not_i_i_i426_i) { goto L_der_core_decode_AnyDecodeRefSliceU8_from_der_70ca1__2; } else { goto L_then_20_i_i_i427_i; }
+    if (v_r132_not_i_i_i426_i) { goto L_der_core_decode_AnyDecodeRefSliceU8_from_der_f0286__2; } else { goto L_then_20_i_i_i427_i; }
 L_then_20_i_i_i427_i:;
     v_r122_i_i_i428_i = (u64)((u64)(v_r0_i_i135_sroa_13_0_i18) + (u64)(18446744073709551612ull));
     v_r117_i_i_i430_i = v_r0_i_i135_sroa_12_0_i17 + 3;
@@ -34819,7 +35160,7 @@ L_then_20_i_i_i427_i:;
     v_r145_i_i_i434_i = (u64)v_r143_i_i_i433_i;
     v_r148_i_i_i435_i = (u64)((u64)(v_r141_i_i_i432_i) | (u64)(v_r145_i_i_i434_i));
     v_r15_i1441_i = v_r122_i_i_i428_i < v_r148_i_i_i435_i;
-    if (v_r15_i1441_i) { goto L_der_core_decode_AnyDecodeRefSliceU8_from_der_70ca1__2; } else { goto L_join_3_i1442_i; }
+    if (v_r15_i1441_i) { goto L_der_core_decode_AnyDecodeRefSliceU8_from_der_f0286__2; } else { goto L_join_3_i1442_i; }
 L_join_3_i1442_i:;
     v_r119_i_i_i429_i = v_r0_i_i135_sroa_12_0_i17 + 4;
     v_r29_i1443_i = (P)((u64)v_r119_i_i_i429_i + (u64)(v_r148_i_i_i435_i));
@@ -34827,20 +35168,20 @@ L_join_3_i1442_i:;
     { p_v_r0_i_i295_sroa_13_0_i27 = v_r32_i1444_i; p_v_r0_i_i295_sroa_12_0_i26 = v_r29_i1443_i; p_v_r0_i_i295_sroa_11_0_i25 = v_r148_i_i_i435_i; p_v_r0_i_i295_sroa_7_0_i24 = v_r119_i_i_i429_i; goto L_join_5_i_i374_i; }
 L_join_14_i_i_i407_i:;
     v_r163_i_i_i408_i = v_r65_i_i_i323_i == 0u;
-    if (v_r163_i_i_i408_i) { goto L_der_core_decode_AnyDecodeRefSliceU8_from_der_70ca1__2; } else { goto L_join_27_i_i_i409_i; }
+    if (v_r163_i_i_i408_i) { goto L_der_core_decode_AnyDecodeRefSliceU8_from_der_f0286__2; } else { goto L_join_27_i_i_i409_i; }
 L_join_27_i_i_i409_i:;
     v_r170_i_i_i410_i = v_r0_i_i135_sroa_12_0_i17 + 3;
     v_r173_i_i_i411_i = (u64)((u64)(v_r0_i_i135_sroa_13_0_i18) + (u64)(18446744073709551613ull));
     v_r182_i_i_i412_i = v_r83_i_i_i403_i == 129u;
-    if (v_r182_i_i_i412_i) { goto L_then_28_i_i_i417_i; } else { goto L_der_core_decode_AnyDecodeRefSliceU8_from_der_70ca1__2; }
+    if (v_r182_i_i_i412_i) { goto L_then_28_i_i_i417_i; } else { goto L_der_core_decode_AnyDecodeRefSliceU8_from_der_f0286__2; }
 L_then_28_i_i_i417_i:;
     v_r187_i_i_i418_i = get_u8(v_r62_i_i_i322_i);
     v_r189_i_i_i419_i = (u8)(v_r187_i_i_i418_i ^ ((u8)1 << 7)) < (u8)(0u ^ ((u8)1 << 7));
-    if (v_r189_i_i_i419_i) { goto L_then_31_i_i_i420_i; } else { goto L_der_core_decode_AnyDecodeRefSliceU8_from_der_70ca1__2; }
+    if (v_r189_i_i_i419_i) { goto L_then_31_i_i_i420_i; } else { goto L_der_core_decode_AnyDecodeRefSliceU8_from_der_f0286__2; }
 L_then_31_i_i_i420_i:;
     v_r199_i_i_i421_i = (u64)v_r187_i_i_i418_i;
     v_r15_i1451_i = v_r173_i_i_i411_i < v_r199_i_i_i421_i;
-    if (v_r15_i1451_i) { goto L_der_core_decode_AnyDecodeRefSliceU8_from_der_70ca1__2; } else { goto L_join_3_i1452_i; }
+    if (v_r15_i1451_i) { goto L_der_core_decode_AnyDecodeRefSliceU8_from_der_f0286__2; } else { goto L_join_3_i1452_i; }
 L_join_3_i1452_i:;
     v_r29_i1453_i = (P)((u64)v_r170_i_i_i410_i + (u64)(v_r199_i_i_i421_i));
     v_r32_i1454_i = (u64)((u64)(v_r173_i_i_i411_i) - (u64)(v_r199_i_i_i421_i));
@@ -34859,7 +35200,7 @@ L_arm_6_i_i391_i:;
     if (v_r47_i_i394_i) { p_v_r11_sroa_4_i_i302_sroa_0_0_ph_i = v_r0_i_i295_sroa_7_0_i24; p_v_r11_sroa_4_i_i302_sroa_5_0_ph_i = 1u; goto L_arm_1_i350_i; } else { goto L_der_core_integer_uint_UintRefDecodeValueRefSliceU8__3; }
 L_default_7_i_i377_i:;
     v_r73_i_i378_i = (u8)(v_r34_i_i375_i ^ ((u8)1 << 7)) > (u8)(255u ^ ((u8)1 << 7));
-    if (v_r73_i_i378_i) { p_v_r11_sroa_4_i_i302_sroa_0_0_ph_i = v_r0_i_i295_sroa_7_0_i24; p_v_r11_sroa_4_i_i302_sroa_5_0_ph_i = v_r0_i_i295_sroa_11_0_i25; goto L_arm_1_i350_i; } else { goto L_der_core_decode_AnyDecodeRefSliceU8_from_der_70ca1__2; }
+    if (v_r73_i_i378_i) { p_v_r11_sroa_4_i_i302_sroa_0_0_ph_i = v_r0_i_i295_sroa_7_0_i24; p_v_r11_sroa_4_i_i302_sroa_5_0_ph_i = v_r0_i_i295_sroa_11_0_i25; goto L_arm_1_i350_i; } else { goto L_der_core_decode_AnyDecodeRefSliceU8_from_der_f0286__2; }
 L_der_core_integer_uint_UintRefDecodeValueRefSliceU8__3:;
     v_r37_i_i392_i = v_r0_i_i295_sroa_7_0_i24 + 1;
     v_r56_i_i396_i = get_u8(v_r37_i_i392_i);
@@ -34867,18 +35208,18 @@ L_der_core_integer_uint_UintRefDecodeValueRefSliceU8__3:;
     v_r40_i_i398_i = v_r58_i_i397_i ? v_r40_i5_i393_i : 0u;
     v_r37_i_i399_i = v_r58_i_i397_i ? v_r37_i_i392_i : (P)0;
     v_not2805_i = (u8)(v_r56_i_i396_i ^ ((u8)1 << 7)) > (u8)(255u ^ ((u8)1 << 7));
-    if (v_not2805_i) { goto L_der_core_decode_AnyDecodeRefSliceU8_from_der_70ca1__2; } else { p_v_r11_sroa_4_i_i302_sroa_0_0_ph_i = v_r37_i_i399_i; p_v_r11_sroa_4_i_i302_sroa_5_0_ph_i = v_r40_i_i398_i; goto L_arm_1_i350_i; }
+    if (v_not2805_i) { goto L_der_core_decode_AnyDecodeRefSliceU8_from_der_f0286__2; } else { p_v_r11_sroa_4_i_i302_sroa_0_0_ph_i = v_r37_i_i399_i; p_v_r11_sroa_4_i_i302_sroa_5_0_ph_i = v_r40_i_i398_i; goto L_arm_1_i350_i; }
 L_arm_1_i350_i:;
     v_r11_sroa_4_i_i302_sroa_0_0_ph_i = p_v_r11_sroa_4_i_i302_sroa_0_0_ph_i;
     v_r11_sroa_4_i_i302_sroa_5_0_ph_i = p_v_r11_sroa_4_i_i302_sroa_5_0_ph_i;
     v_r53_i_i_i480_i = v_r0_i_i295_sroa_13_0_i27 < 2u;
-    if (v_r53_i_i_i480_i) { goto L_der_core_decode_AnyDecodeRefSliceU8_from_der_70ca1__2; } else { goto L_join_5_i_i_i481_i; }
+    if (v_r53_i_i_i480_i) { goto L_der_core_decode_AnyDecodeRefSliceU8_from_der_f0286__2; } else { goto L_join_5_i_i_i481_i; }
 L_join_5_i_i_i481_i:;
     v_r62_i_i_i482_i = v_r0_i_i295_sroa_12_0_i26 + 2;
     v_r65_i_i_i483_i = (u64)((u64)(v_r0_i_i295_sroa_13_0_i27) + (u64)(18446744073709551614ull));
     v_r73_i_i_i484_i = get_u8(v_r0_i_i295_sroa_12_0_i26);
     v_r78_i_i_i486_i = v_r73_i_i_i484_i == 2u;
-    if (v_r78_i_i_i486_i) { goto L_then_6_i_i_i561_i; } else { goto L_der_core_decode_AnyDecodeRefSliceU8_from_der_70ca1__2; }
+    if (v_r78_i_i_i486_i) { goto L_then_6_i_i_i561_i; } else { goto L_der_core_decode_AnyDecodeRefSliceU8_from_der_f0286__2; }
 L_then_6_i_i_i561_i:;
     v_r60_i_i_i562_i = v_r0_i_i295_sroa_12_0_i26 + 1;
     v_r83_i_i_i563_i = get_u8(v_r60_i_i_i562_i);
@@ -34891,17 +35232,17 @@ L_then_9_i_i_i605_i:;
     v_r32_i1464_i = (u64)((u64)(v_r65_i_i_i483_i) - (u64)(v_r92_i_i_i606_i));
     v_r27_i4_i533_i = v_r83_i_i_i563_i == 0u;
     v_or_cond75 = (u1)(((u32)(v_r27_i4_i533_i) | (u32)(v_r15_i1461_i)) & 1);
-    if (v_or_cond75) { goto L_der_core_decode_AnyDecodeRefSliceU8_from_der_70ca1__2; } else { p_v_r0_i_i455_sroa_13_0_i36 = v_r32_i1464_i; p_v_r0_i_i455_sroa_12_0_i35 = v_r29_i1463_i; p_v_r0_i_i455_sroa_11_0_i34 = v_r92_i_i_i606_i; p_v_r0_i_i455_sroa_7_0_i33 = v_r62_i_i_i482_i; goto L_join_5_i_i534_i; }
+    if (v_or_cond75) { goto L_der_core_decode_AnyDecodeRefSliceU8_from_der_f0286__2; } else { p_v_r0_i_i455_sroa_13_0_i36 = v_r32_i1464_i; p_v_r0_i_i455_sroa_12_0_i35 = v_r29_i1463_i; p_v_r0_i_i455_sroa_11_0_i34 = v_r92_i_i_i606_i; p_v_r0_i_i455_sroa_7_0_i33 = v_r62_i_i_i482_i; goto L_join_5_i_i534_i; }
 L_join_11_i_i_i565_i:;
     v_r104_i_i_i566_i = v_r83_i_i_i563_i == 130u;
     if (v_r104_i_i_i566_i) { goto L_then_12_i_i_i582_i; } else { goto L_join_14_i_i_i567_i; }
 L_then_12_i_i_i582_i:;
     v_r110_i_i_i583_i = v_r0_i_i295_sroa_13_0_i27 < 4u;
-    if (v_r110_i_i_i583_i) { goto L_der_core_decode_AnyDecodeRefSliceU8_from_der_70ca1__2; } else { goto L_join_19_i_i_i584_i; }
+    if (v_r110_i_i_i583_i) { goto L_der_core_decode_AnyDecodeRefSliceU8_from_der_f0286__2; } else { goto L_join_19_i_i_i584_i; }
 L_join_19_i_i_i584_i:;
     v_r130_i_i_i585_i = get_u8(v_r62_i_i_i482_i);
     v_r132_not_i_i_i586_i = v_r130_i_i_i585_i == 0u;
-    if (v_r132_not_i_i_i586_i) { goto L_der_core_decode_AnyDecodeRefSliceU8_from_der_70ca1__2; } else { goto L_then_20_i_i_i587_i; }
+    if (v_r132_not_i_i_i586_i) { goto L_der_core_decode_AnyDecodeRefSliceU8_from_der_f0286__2; } else { goto L_then_20_i_i_i587_i; }
 L_then_20_i_i_i587_i:;
     v_r122_i_i_i588_i = (u64)((u64)(v_r0_i_i295_sroa_13_0_i27) + (u64)(18446744073709551612ull));
     v_r117_i_i_i590_i = v_r0_i_i295_sroa_12_0_i26 + 3;
@@ -34911,7 +35252,7 @@ L_then_20_i_i_i587_i:;
     v_r145_i_i_i594_i = (u64)v_r143_i_i_i593_i;
     v_r148_i_i_i595_i = (u64)((u64)(v_r141_i_i_i592_i) | (u64)(v_r145_i_i_i594_i));
     v_r15_i1471_i = v_r122_i_i_i588_i < v_r148_i_i_i595_i;
-    if (v_r15_i1471_i) { goto L_der_core_decode_AnyDecodeRefSliceU8_from_der_70ca1__2; } else { goto L_join_3_i1472_i; }
+    if (v_r15_i1471_i) { goto L_der_core_decode_AnyDecodeRefSliceU8_from_der_f0286__2; } else { goto L_join_3_i1472_i; }
 L_join_3_i1472_i:;
     v_r119_i_i_i589_i = v_r0_i_i295_sroa_12_0_i26 + 4;
     v_r29_i1473_i = (P)((u64)v_r119_i_i_i589_i + (u64)(v_r148_i_i_i595_i));
@@ -34919,20 +35260,20 @@ L_join_3_i1472_i:;
     { p_v_r0_i_i455_sroa_13_0_i36 = v_r32_i1474_i; p_v_r0_i_i455_sroa_12_0_i35 = v_r29_i1473_i; p_v_r0_i_i455_sroa_11_0_i34 = v_r148_i_i_i595_i; p_v_r0_i_i455_sroa_7_0_i33 = v_r119_i_i_i589_i; goto L_join_5_i_i534_i; }
 L_join_14_i_i_i567_i:;
     v_r163_i_i_i568_i = v_r65_i_i_i483_i == 0u;
-    if (v_r163_i_i_i568_i) { goto L_der_core_decode_AnyDecodeRefSliceU8_from_der_70ca1__2; } else { goto L_join_27_i_i_i569_i; }
+    if (v_r163_i_i_i568_i) { goto L_der_core_decode_AnyDecodeRefSliceU8_from_der_f0286__2; } else { goto L_join_27_i_i_i569_i; }
 L_join_27_i_i_i569_i:;
     v_r170_i_i_i570_i = v_r0_i_i295_sroa_12_0_i26 + 3;
     v_r173_i_i_i571_i = (u64)((u64)(v_r0_i_i295_sroa_13_0_i27) + (u64)(18446744073709551613ull));
     v_r182_i_i_i572_i = v_r83_i_i_i563_i == 129u;
-    if (v_r182_i_i_i572_i) { goto L_then_28_i_i_i577_i; } else { goto L_der_core_decode_AnyDecodeRefSliceU8_from_der_70ca1__2; }
+    if (v_r182_i_i_i572_i) { goto L_then_28_i_i_i577_i; } else { goto L_der_core_decode_AnyDecodeRefSliceU8_from_der_f0286__2; }
 L_then_28_i_i_i577_i:;
     v_r187_i_i_i578_i = get_u8(v_r62_i_i_i482_i);
     v_r189_i_i_i579_i = (u8)(v_r187_i_i_i578_i ^ ((u8)1 << 7)) < (u8)(0u ^ ((u8)1 << 7));
-    if (v_r189_i_i_i579_i) { goto L_then_31_i_i_i580_i; } else { goto L_der_core_decode_AnyDecodeRefSliceU8_from_der_70ca1__2; }
+    if (v_r189_i_i_i579_i) { goto L_then_31_i_i_i580_i; } else { goto L_der_core_decode_AnyDecodeRefSliceU8_from_der_f0286__2; }
 L_then_31_i_i_i580_i:;
     v_r199_i_i_i581_i = (u64)v_r187_i_i_i578_i;
     v_r15_i1481_i = v_r173_i_i_i571_i < v_r199_i_i_i581_i;
-    if (v_r15_i1481_i) { goto L_der_core_decode_AnyDecodeRefSliceU8_from_der_70ca1__2; } else { goto L_join_3_i1482_i; }
+    if (v_r15_i1481_i) { goto L_der_core_decode_AnyDecodeRefSliceU8_from_der_f0286__2; } else { goto L_join_3_i1482_i; }
 L_join_3_i1482_i:;
     v_r29_i1483_i = (P)((u64)v_r170_i_i_i570_i + (u64)(v_r199_i_i_i581_i));
     v_r32_i1484_i = (u64)((u64)(v_r173_i_i_i571_i) - (u64)(v_r199_i_i_i581_i));
@@ -34951,7 +35292,7 @@ L_arm_6_i_i551_i:;
     if (v_r47_i_i554_i) { p_v_r11_sroa_4_i_i462_sroa_0_0_ph_i = v_r0_i_i455_sroa_7_0_i33; p_v_r11_sroa_4_i_i462_sroa_5_0_ph_i = 1u; goto L_arm_1_i510_i; } else { goto L_der_core_integer_uint_UintRefDecodeValueRefSliceU8__4; }
 L_default_7_i_i537_i:;
     v_r73_i_i538_i = (u8)(v_r34_i_i535_i ^ ((u8)1 << 7)) > (u8)(255u ^ ((u8)1 << 7));
-    if (v_r73_i_i538_i) { p_v_r11_sroa_4_i_i462_sroa_0_0_ph_i = v_r0_i_i455_sroa_7_0_i33; p_v_r11_sroa_4_i_i462_sroa_5_0_ph_i = v_r0_i_i455_sroa_11_0_i34; goto L_arm_1_i510_i; } else { goto L_der_core_decode_AnyDecodeRefSliceU8_from_der_70ca1__2; }
+    if (v_r73_i_i538_i) { p_v_r11_sroa_4_i_i462_sroa_0_0_ph_i = v_r0_i_i455_sroa_7_0_i33; p_v_r11_sroa_4_i_i462_sroa_5_0_ph_i = v_r0_i_i455_sroa_11_0_i34; goto L_arm_1_i510_i; } else { goto L_der_core_decode_AnyDecodeRefSliceU8_from_der_f0286__2; }
 L_der_core_integer_uint_UintRefDecodeValueRefSliceU8__4:;
     v_r37_i_i552_i = v_r0_i_i455_sroa_7_0_i33 + 1;
     v_r56_i_i556_i = get_u8(v_r37_i_i552_i);
@@ -34959,18 +35300,18 @@ L_der_core_integer_uint_UintRefDecodeValueRefSliceU8__4:;
     v_r40_i_i558_i = v_r58_i_i557_i ? v_r40_i5_i553_i : 0u;
     v_r37_i_i559_i = v_r58_i_i557_i ? v_r37_i_i552_i : (P)0;
     v_not2806_i = (u8)(v_r56_i_i556_i ^ ((u8)1 << 7)) > (u8)(255u ^ ((u8)1 << 7));
-    if (v_not2806_i) { goto L_der_core_decode_AnyDecodeRefSliceU8_from_der_70ca1__2; } else { p_v_r11_sroa_4_i_i462_sroa_0_0_ph_i = v_r37_i_i559_i; p_v_r11_sroa_4_i_i462_sroa_5_0_ph_i = v_r40_i_i558_i; goto L_arm_1_i510_i; }
+    if (v_not2806_i) { goto L_der_core_decode_AnyDecodeRefSliceU8_from_der_f0286__2; } else { p_v_r11_sroa_4_i_i462_sroa_0_0_ph_i = v_r37_i_i559_i; p_v_r11_sroa_4_i_i462_sroa_5_0_ph_i = v_r40_i_i558_i; goto L_arm_1_i510_i; }
 L_arm_1_i510_i:;
     v_r11_sroa_4_i_i462_sroa_0_0_ph_i = p_v_r11_sroa_4_i_i462_sroa_0_0_ph_i;
     v_r11_sroa_4_i_i462_sroa_5_0_ph_i = p_v_r11_sroa_4_i_i462_sroa_5_0_ph_i;
     v_r53_i_i_i640_i = v_r0_i_i455_sroa_13_0_i36 < 2u;
-    if (v_r53_i_i_i640_i) { goto L_der_core_decode_AnyDecodeRefSliceU8_from_der_70ca1__2; } else { goto L_join_5_i_i_i641_i; }
+    if (v_r53_i_i_i640_i) { goto L_der_core_decode_AnyDecodeRefSliceU8_from_der_f0286__2; } else { goto L_join_5_i_i_i641_i; }
 L_join_5_i_i_i641_i:;
     v_r62_i_i_i642_i = v_r0_i_i455_sroa_12_0_i35 + 2;
     v_r65_i_i_i643_i = (u64)((u64)(v_r0_i_i455_sroa_13_0_i36) + (u64)(18446744073709551614ull));
     v_r73_i_i_i644_i = get_u8(v_r0_i_i455_sroa_12_0_i35);
     v_r78_i_i_i646_i = v_r73_i_i_i644_i == 2u;
-    if (v_r78_i_i_i646_i) { goto L_then_6_i_i_i721_i; } else { goto L_der_core_decode_AnyDecodeRefSliceU8_from_der_70ca1__2; }
+    if (v_r78_i_i_i646_i) { goto L_then_6_i_i_i721_i; } else { goto L_der_core_decode_AnyDecodeRefSliceU8_from_der_f0286__2; }
 L_then_6_i_i_i721_i:;
     v_r60_i_i_i722_i = v_r0_i_i455_sroa_12_0_i35 + 1;
     v_r83_i_i_i723_i = get_u8(v_r60_i_i_i722_i);
@@ -34983,17 +35324,17 @@ L_then_9_i_i_i765_i:;
     v_r32_i1494_i = (u64)((u64)(v_r65_i_i_i643_i) - (u64)(v_r92_i_i_i766_i));
     v_r27_i4_i693_i = v_r83_i_i_i723_i == 0u;
     v_or_cond76 = (u1)(((u32)(v_r27_i4_i693_i) | (u32)(v_r15_i1491_i)) & 1);
-    if (v_or_cond76) { goto L_der_core_decode_AnyDecodeRefSliceU8_from_der_70ca1__2; } else { p_v_r0_i_i615_sroa_13_0_i45 = v_r32_i1494_i; p_v_r0_i_i615_sroa_12_0_i44 = v_r29_i1493_i; p_v_r0_i_i615_sroa_11_0_i43 = v_r92_i_i_i766_i; p_v_r0_i_i615_sroa_7_0_i42 = v_r62_i_i_i642_i; goto L_join_5_i_i694_i; }
+    if (v_or_cond76) { goto L_der_core_decode_AnyDecodeRefSliceU8_from_der_f0286__2; } else { p_v_r0_i_i615_sroa_13_0_i45 = v_r32_i1494_i; p_v_r0_i_i615_sroa_12_0_i44 = v_r29_i1493_i; p_v_r0_i_i615_sroa_11_0_i43 = v_r92_i_i_i766_i; p_v_r0_i_i615_sroa_7_0_i42 = v_r62_i_i_i642_i; goto L_join_5_i_i694_i; }
 L_join_11_i_i_i725_i:;
     v_r104_i_i_i726_i = v_r83_i_i_i723_i == 130u;
     if (v_r104_i_i_i726_i) { goto L_then_12_i_i_i742_i; } else { goto L_join_14_i_i_i727_i; }
 L_then_12_i_i_i742_i:;
     v_r110_i_i_i743_i = v_r0_i_i455_sroa_13_0_i36 < 4u;
-    if (v_r110_i_i_i743_i) { goto L_der_core_decode_AnyDecodeRefSliceU8_from_der_70ca1__2; } else { goto L_join_19_i_i_i744_i; }
+    if (v_r110_i_i_i743_i) { goto L_der_core_decode_AnyDecodeRefSliceU8_from_der_f0286__2; } else { goto L_join_19_i_i_i744_i; }
 L_join_19_i_i_i744_i:;
     v_r130_i_i_i745_i = get_u8(v_r62_i_i_i642_i);
     v_r132_not_i_i_i746_i = v_r130_i_i_i745_i == 0u;
-    if (v_r132_not_i_i_i746_i) { goto L_der_core_decode_AnyDecodeRefSliceU8_from_der_70ca1__2; } else { goto L_then_20_i_i_i747_i; }
+    if (v_r132_not_i_i_i746_i) { goto L_der_core_decode_AnyDecodeRefSliceU8_from_der_f0286__2; } else { goto L_then_20_i_i_i747_i; }
 L_then_20_i_i_i747_i:;
     v_r122_i_i_i748_i = (u64)((u64)(v_r0_i_i455_sroa_13_0_i36) + (u64)(18446744073709551612ull));
     v_r117_i_i_i750_i = v_r0_i_i455_sroa_12_0_i35 + 3;
@@ -35003,7 +35344,7 @@ L_then_20_i_i_i747_i:;
     v_r145_i_i_i754_i = (u64)v_r143_i_i_i753_i;
     v_r148_i_i_i755_i = (u64)((u64)(v_r141_i_i_i752_i) | (u64)(v_r145_i_i_i754_i));
     v_r15_i1501_i = v_r122_i_i_i748_i < v_r148_i_i_i755_i;
-    if (v_r15_i1501_i) { goto L_der_core_decode_AnyDecodeRefSliceU8_from_der_70ca1__2; } else { goto L_join_3_i1502_i; }
+    if (v_r15_i1501_i) { goto L_der_core_decode_AnyDecodeRefSliceU8_from_der_f0286__2; } else { goto L_join_3_i1502_i; }
 L_join_3_i1502_i:;
     v_r119_i_i_i749_i = v_r0_i_i455_sroa_12_0_i35 + 4;
     v_r29_i1503_i = (P)((u64)v_r119_i_i_i749_i + (u64)(v_r148_i_i_i755_i));
@@ -35011,20 +35352,20 @@ L_join_3_i1502_i:;
     { p_v_r0_i_i615_sroa_13_0_i45 = v_r32_i1504_i; p_v_r0_i_i615_sroa_12_0_i44 = v_r29_i1503_i; p_v_r0_i_i615_sroa_11_0_i43 = v_r148_i_i_i755_i; p_v_r0_i_i615_sroa_7_0_i42 = v_r119_i_i_i749_i; goto L_join_5_i_i694_i; }
 L_join_14_i_i_i727_i:;
     v_r163_i_i_i728_i = v_r65_i_i_i643_i == 0u;
-    if (v_r163_i_i_i728_i) { goto L_der_core_decode_AnyDecodeRefSliceU8_from_der_70ca1__2; } else { goto L_join_27_i_i_i729_i; }
+    if (v_r163_i_i_i728_i) { goto L_der_core_decode_AnyDecodeRefSliceU8_from_der_f0286__2; } else { goto L_join_27_i_i_i729_i; }
 L_join_27_i_i_i729_i:;
     v_r170_i_i_i730_i = v_r0_i_i455_sroa_12_0_i35 + 3;
     v_r173_i_i_i731_i = (u64)((u64)(v_r0_i_i455_sroa_13_0_i36) + (u64)(18446744073709551613ull));
     v_r182_i_i_i732_i = v_r83_i_i_i723_i == 129u;
-    if (v_r182_i_i_i732_i) { goto L_then_28_i_i_i737_i; } else { goto L_der_core_decode_AnyDecodeRefSliceU8_from_der_70ca1__2; }
+    if (v_r182_i_i_i732_i) { goto L_then_28_i_i_i737_i; } else { goto L_der_core_decode_AnyDecodeRefSliceU8_from_der_f0286__2; }
 L_then_28_i_i_i737_i:;
     v_r187_i_i_i738_i = get_u8(v_r62_i_i_i642_i);
     v_r189_i_i_i739_i = (u8)(v_r187_i_i_i738_i ^ ((u8)1 << 7)) < (u8)(0u ^ ((u8)1 << 7));
-    if (v_r189_i_i_i739_i) { goto L_then_31_i_i_i740_i; } else { goto L_der_core_decode_AnyDecodeRefSliceU8_from_der_70ca1__2; }
+    if (v_r189_i_i_i739_i) { goto L_then_31_i_i_i740_i; } else { goto L_der_core_decode_AnyDecodeRefSliceU8_from_der_f0286__2; }
 L_then_31_i_i_i740_i:;
     v_r199_i_i_i741_i = (u64)v_r187_i_i_i738_i;
     v_r15_i1511_i = v_r173_i_i_i731_i < v_r199_i_i_i741_i;
-    if (v_r15_i1511_i) { goto L_der_core_decode_AnyDecodeRefSliceU8_from_der_70ca1__2; } else { goto L_join_3_i1512_i; }
+    if (v_r15_i1511_i) { goto L_der_core_decode_AnyDecodeRefSliceU8_from_der_f0286__2; } else { goto L_join_3_i1512_i; }
 L_join_3_i1512_i:;
     v_r29_i1513_i = (P)((u64)v_r170_i_i_i730_i + (u64)(v_r199_i_i_i741_i));
     v_r32_i1514_i = (u64)((u64)(v_r173_i_i_i731_i) - (u64)(v_r199_i_i_i741_i));
@@ -35043,7 +35384,7 @@ L_arm_6_i_i711_i:;
     if (v_r47_i_i714_i) { p_v_r11_sroa_4_i_i622_sroa_0_0_ph_i = v_r0_i_i615_sroa_7_0_i42; p_v_r11_sroa_4_i_i622_sroa_5_0_ph_i = 1u; goto L_arm_1_i670_i; } else { goto L_der_core_integer_uint_UintRefDecodeValueRefSliceU8__5; }
 L_default_7_i_i697_i:;
     v_r73_i_i698_i = (u8)(v_r34_i_i695_i ^ ((u8)1 << 7)) > (u8)(255u ^ ((u8)1 << 7));
-    if (v_r73_i_i698_i) { p_v_r11_sroa_4_i_i622_sroa_0_0_ph_i = v_r0_i_i615_sroa_7_0_i42; p_v_r11_sroa_4_i_i622_sroa_5_0_ph_i = v_r0_i_i615_sroa_11_0_i43; goto L_arm_1_i670_i; } else { goto L_der_core_decode_AnyDecodeRefSliceU8_from_der_70ca1__2; }
+    if (v_r73_i_i698_i) { p_v_r11_sroa_4_i_i622_sroa_0_0_ph_i = v_r0_i_i615_sroa_7_0_i42; p_v_r11_sroa_4_i_i622_sroa_5_0_ph_i = v_r0_i_i615_sroa_11_0_i43; goto L_arm_1_i670_i; } else { goto L_der_core_decode_AnyDecodeRefSliceU8_from_der_f0286__2; }
 L_der_core_integer_uint_UintRefDecodeValueRefSliceU8__5:;
     v_r37_i_i712_i = v_r0_i_i615_sroa_7_0_i42 + 1;
     v_r56_i_i716_i = get_u8(v_r37_i_i712_i);
@@ -35051,18 +35392,18 @@ L_der_core_integer_uint_UintRefDecodeValueRefSliceU8__5:;
     v_r40_i_i718_i = v_r58_i_i717_i ? v_r40_i5_i713_i : 0u;
     v_r37_i_i719_i = v_r58_i_i717_i ? v_r37_i_i712_i : (P)0;
     v_not2807_i = (u8)(v_r56_i_i716_i ^ ((u8)1 << 7)) > (u8)(255u ^ ((u8)1 << 7));
-    if (v_not2807_i) { goto L_der_core_decode_AnyDecodeRefSliceU8_from_der_70ca1__2; } else { p_v_r11_sroa_4_i_i622_sroa_0_0_ph_i = v_r37_i_i719_i; p_v_r11_sroa_4_i_i622_sroa_5_0_ph_i = v_r40_i_i718_i; goto L_arm_1_i670_i; }
+    if (v_not2807_i) { goto L_der_core_decode_AnyDecodeRefSliceU8_from_der_f0286__2; } else { p_v_r11_sroa_4_i_i622_sroa_0_0_ph_i = v_r37_i_i719_i; p_v_r11_sroa_4_i_i622_sroa_5_0_ph_i = v_r40_i_i718_i; goto L_arm_1_i670_i; }
 L_arm_1_i670_i:;
     v_r11_sroa_4_i_i622_sroa_0_0_ph_i = p_v_r11_sroa_4_i_i622_sroa_0_0_ph_i;
     v_r11_sroa_4_i_i622_sroa_5_0_ph_i = p_v_r11_sroa_4_i_i622_sroa_5_0_ph_i;
     v_r53_i_i_i800_i = v_r0_i_i615_sroa_13_0_i45 < 2u;
-    if (v_r53_i_i_i800_i) { goto L_der_core_decode_AnyDecodeRefSliceU8_from_der_70ca1__2; } else { goto L_join_5_i_i_i801_i; }
+    if (v_r53_i_i_i800_i) { goto L_der_core_decode_AnyDecodeRefSliceU8_from_der_f0286__2; } else { goto L_join_5_i_i_i801_i; }
 L_join_5_i_i_i801_i:;
     v_r62_i_i_i802_i = v_r0_i_i615_sroa_12_0_i44 + 2;
     v_r65_i_i_i803_i = (u64)((u64)(v_r0_i_i615_sroa_13_0_i45) + (u64)(18446744073709551614ull));
     v_r73_i_i_i804_i = get_u8(v_r0_i_i615_sroa_12_0_i44);
     v_r78_i_i_i806_i = v_r73_i_i_i804_i == 2u;
-    if (v_r78_i_i_i806_i) { goto L_then_6_i_i_i881_i; } else { goto L_der_core_decode_AnyDecodeRefSliceU8_from_der_70ca1__2; }
+    if (v_r78_i_i_i806_i) { goto L_then_6_i_i_i881_i; } else { goto L_der_core_decode_AnyDecodeRefSliceU8_from_der_f0286__2; }
 L_then_6_i_i_i881_i:;
     v_r60_i_i_i882_i = v_r0_i_i615_sroa_12_0_i44 + 1;
     v_r83_i_i_i883_i = get_u8(v_r60_i_i_i882_i);
@@ -35075,17 +35416,17 @@ L_then_9_i_i_i925_i:;
     v_r32_i1524_i = (u64)((u64)(v_r65_i_i_i803_i) - (u64)(v_r92_i_i_i926_i));
     v_r27_i4_i853_i = v_r83_i_i_i883_i == 0u;
     v_or_cond77 = (u1)(((u32)(v_r27_i4_i853_i) | (u32)(v_r15_i1521_i)) & 1);
-    if (v_or_cond77) { goto L_der_core_decode_AnyDecodeRefSliceU8_from_der_70ca1__2; } else { p_v_r0_i_i775_sroa_13_0_i54 = v_r32_i1524_i; p_v_r0_i_i775_sroa_12_0_i53 = v_r29_i1523_i; p_v_r0_i_i775_sroa_11_0_i52 = v_r92_i_i_i926_i; p_v_r0_i_i775_sroa_7_0_i51 = v_r62_i_i_i802_i; goto L_join_5_i_i854_i; }
+    if (v_or_cond77) { goto L_der_core_decode_AnyDecodeRefSliceU8_from_der_f0286__2; } else { p_v_r0_i_i775_sroa_13_0_i54 = v_r32_i1524_i; p_v_r0_i_i775_sroa_12_0_i53 = v_r29_i1523_i; p_v_r0_i_i775_sroa_11_0_i52 = v_r92_i_i_i926_i; p_v_r0_i_i775_sroa_7_0_i51 = v_r62_i_i_i802_i; goto L_join_5_i_i854_i; }
 L_join_11_i_i_i885_i:;
     v_r104_i_i_i886_i = v_r83_i_i_i883_i == 130u;
     if (v_r104_i_i_i886_i) { goto L_then_12_i_i_i902_i; } else { goto L_join_14_i_i_i887_i; }
 L_then_12_i_i_i902_i:;
     v_r110_i_i_i903_i = v_r0_i_i615_sroa_13_0_i45 < 4u;
-    if (v_r110_i_i_i903_i) { goto L_der_core_decode_AnyDecodeRefSliceU8_from_der_70ca1__2; } else { goto L_join_19_i_i_i904_i; }
+    if (v_r110_i_i_i903_i) { goto L_der_core_decode_AnyDecodeRefSliceU8_from_der_f0286__2; } else { goto L_join_19_i_i_i904_i; }
 L_join_19_i_i_i904_i:;
     v_r130_i_i_i905_i = get_u8(v_r62_i_i_i802_i);
     v_r132_not_i_i_i906_i = v_r130_i_i_i905_i == 0u;
-    if (v_r132_not_i_i_i906_i) { goto L_der_core_decode_AnyDecodeRefSliceU8_from_der_70ca1__2; } else { goto L_then_20_i_i_i907_i; }
+    if (v_r132_not_i_i_i906_i) { goto L_der_core_decode_AnyDecodeRefSliceU8_from_der_f0286__2; } else { goto L_then_20_i_i_i907_i; }
 L_then_20_i_i_i907_i:;
     v_r122_i_i_i908_i = (u64)((u64)(v_r0_i_i615_sroa_13_0_i45) + (u64)(18446744073709551612ull));
     v_r117_i_i_i910_i = v_r0_i_i615_sroa_12_0_i44 + 3;
@@ -35095,7 +35436,7 @@ L_then_20_i_i_i907_i:;
     v_r145_i_i_i914_i = (u64)v_r143_i_i_i913_i;
     v_r148_i_i_i915_i = (u64)((u64)(v_r141_i_i_i912_i) | (u64)(v_r145_i_i_i914_i));
     v_r15_i1531_i = v_r122_i_i_i908_i < v_r148_i_i_i915_i;
-    if (v_r15_i1531_i) { goto L_der_core_decode_AnyDecodeRefSliceU8_from_der_70ca1__2; } else { goto L_join_3_i1532_i; }
+    if (v_r15_i1531_i) { goto L_der_core_decode_AnyDecodeRefSliceU8_from_der_f0286__2; } else { goto L_join_3_i1532_i; }
 L_join_3_i1532_i:;
     v_r119_i_i_i909_i = v_r0_i_i615_sroa_12_0_i44 + 4;
     v_r29_i1533_i = (P)((u64)v_r119_i_i_i909_i + (u64)(v_r148_i_i_i915_i));
@@ -35103,20 +35444,20 @@ L_join_3_i1532_i:;
     { p_v_r0_i_i775_sroa_13_0_i54 = v_r32_i1534_i; p_v_r0_i_i775_sroa_12_0_i53 = v_r29_i1533_i; p_v_r0_i_i775_sroa_11_0_i52 = v_r148_i_i_i915_i; p_v_r0_i_i775_sroa_7_0_i51 = v_r119_i_i_i909_i; goto L_join_5_i_i854_i; }
 L_join_14_i_i_i887_i:;
     v_r163_i_i_i888_i = v_r65_i_i_i803_i == 0u;
-    if (v_r163_i_i_i888_i) { goto L_der_core_decode_AnyDecodeRefSliceU8_from_der_70ca1__2; } else { goto L_join_27_i_i_i889_i; }
+    if (v_r163_i_i_i888_i) { goto L_der_core_decode_AnyDecodeRefSliceU8_from_der_f0286__2; } else { goto L_join_27_i_i_i889_i; }
 L_join_27_i_i_i889_i:;
     v_r170_i_i_i890_i = v_r0_i_i615_sroa_12_0_i44 + 3;
     v_r173_i_i_i891_i = (u64)((u64)(v_r0_i_i615_sroa_13_0_i45) + (u64)(18446744073709551613ull));
     v_r182_i_i_i892_i = v_r83_i_i_i883_i == 129u;
-    if (v_r182_i_i_i892_i) { goto L_then_28_i_i_i897_i; } else { goto L_der_core_decode_AnyDecodeRefSliceU8_from_der_70ca1__2; }
+    if (v_r182_i_i_i892_i) { goto L_then_28_i_i_i897_i; } else { goto L_der_core_decode_AnyDecodeRefSliceU8_from_der_f0286__2; }
 L_then_28_i_i_i897_i:;
     v_r187_i_i_i898_i = get_u8(v_r62_i_i_i802_i);
     v_r189_i_i_i899_i = (u8)(v_r187_i_i_i898_i ^ ((u8)1 << 7)) < (u8)(0u ^ ((u8)1 << 7));
-    if (v_r189_i_i_i899_i) { goto L_then_31_i_i_i900_i; } else { goto L_der_core_decode_AnyDecodeRefSliceU8_from_der_70ca1__2; }
+    if (v_r189_i_i_i899_i) { goto L_then_31_i_i_i900_i; } else { goto L_der_core_decode_AnyDecodeRefSliceU8_from_der_f0286__2; }
 L_then_31_i_i_i900_i:;
     v_r199_i_i_i901_i = (u64)v_r187_i_i_i898_i;
     v_r15_i1541_i = v_r173_i_i_i891_i < v_r199_i_i_i901_i;
-    if (v_r15_i1541_i) { goto L_der_core_decode_AnyDecodeRefSliceU8_from_der_70ca1__2; } else { goto L_join_3_i1542_i; }
+    if (v_r15_i1541_i) { goto L_der_core_decode_AnyDecodeRefSliceU8_from_der_f0286__2; } else { goto L_join_3_i1542_i; }
 L_join_3_i1542_i:;
     v_r29_i1543_i = (P)((u64)v_r170_i_i_i890_i + (u64)(v_r199_i_i_i901_i));
     v_r32_i1544_i = (u64)((u64)(v_r173_i_i_i891_i) - (u64)(v_r199_i_i_i901_i));
@@ -35135,7 +35476,7 @@ L_arm_6_i_i871_i:;
     if (v_r47_i_i874_i) { p_v_r11_sroa_4_i_i782_sroa_0_0_ph_i = v_r0_i_i775_sroa_7_0_i51; p_v_r11_sroa_4_i_i782_sroa_5_0_ph_i = 1u; goto L_arm_1_i830_i; } else { goto L_der_core_integer_uint_UintRefDecodeValueRefSliceU8__6; }
 L_default_7_i_i857_i:;
     v_r73_i_i858_i = (u8)(v_r34_i_i855_i ^ ((u8)1 << 7)) > (u8)(255u ^ ((u8)1 << 7));
-    if (v_r73_i_i858_i) { p_v_r11_sroa_4_i_i782_sroa_0_0_ph_i = v_r0_i_i775_sroa_7_0_i51; p_v_r11_sroa_4_i_i782_sroa_5_0_ph_i = v_r0_i_i775_sroa_11_0_i52; goto L_arm_1_i830_i; } else { goto L_der_core_decode_AnyDecodeRefSliceU8_from_der_70ca1__2; }
+    if (v_r73_i_i858_i) { p_v_r11_sroa_4_i_i782_sroa_0_0_ph_i = v_r0_i_i775_sroa_7_0_i51; p_v_r11_sroa_4_i_i782_sroa_5_0_ph_i = v_r0_i_i775_sroa_11_0_i52; goto L_arm_1_i830_i; } else { goto L_der_core_decode_AnyDecodeRefSliceU8_from_der_f0286__2; }
 L_der_core_integer_uint_UintRefDecodeValueRefSliceU8__6:;
     v_r37_i_i872_i = v_r0_i_i775_sroa_7_0_i51 + 1;
     v_r56_i_i876_i = get_u8(v_r37_i_i872_i);
@@ -35143,18 +35484,18 @@ L_der_core_integer_uint_UintRefDecodeValueRefSliceU8__6:;
     v_r40_i_i878_i = v_r58_i_i877_i ? v_r40_i5_i873_i : 0u;
     v_r37_i_i879_i = v_r58_i_i877_i ? v_r37_i_i872_i : (P)0;
     v_not2808_i = (u8)(v_r56_i_i876_i ^ ((u8)1 << 7)) > (u8)(255u ^ ((u8)1 << 7));
-    if (v_not2808_i) { goto L_der_core_decode_AnyDecodeRefSliceU8_from_der_70ca1__2; } else { p_v_r11_sroa_4_i_i782_sroa_0_0_ph_i = v_r37_i_i879_i; p_v_r11_sroa_4_i_i782_sroa_5_0_ph_i = v_r40_i_i878_i; goto L_arm_1_i830_i; }
+    if (v_not2808_i) { goto L_der_core_decode_AnyDecodeRefSliceU8_from_der_f0286__2; } else { p_v_r11_sroa_4_i_i782_sroa_0_0_ph_i = v_r37_i_i879_i; p_v_r11_sroa_4_i_i782_sroa_5_0_ph_i = v_r40_i_i878_i; goto L_arm_1_i830_i; }
 L_arm_1_i830_i:;
     v_r11_sroa_4_i_i782_sroa_0_0_ph_i = p_v_r11_sroa_4_i_i782_sroa_0_0_ph_i;
     v_r11_sroa_4_i_i782_sroa_5_0_ph_i = p_v_r11_sroa_4_i_i782_sroa_5_0_ph_i;
     v_r53_i_i_i960_i = v_r0_i_i775_sroa_13_0_i54 < 2u;
-    if (v_r53_i_i_i960_i) { goto L_der_core_decode_AnyDecodeRefSliceU8_from_der_70ca1__2; } else { goto L_join_5_i_i_i961_i; }
+    if (v_r53_i_i_i960_i) { goto L_der_core_decode_AnyDecodeRefSliceU8_from_der_f0286__2; } else { goto L_join_5_i_i_i961_i; }
 L_join_5_i_i_i961_i:;
     v_r62_i_i_i962_i = v_r0_i_i775_sroa_12_0_i53 + 2;
     v_r65_i_i_i963_i = (u64)((u64)(v_r0_i_i775_sroa_13_0_i54) + (u64)(18446744073709551614ull));
     v_r73_i_i_i964_i = get_u8(v_r0_i_i775_sroa_12_0_i53);
     v_r78_i_i_i966_i = v_r73_i_i_i964_i == 2u;
-    if (v_r78_i_i_i966_i) { goto L_then_6_i_i_i1041_i; } else { goto L_der_core_decode_AnyDecodeRefSliceU8_from_der_70ca1__2; }
+    if (v_r78_i_i_i966_i) { goto L_then_6_i_i_i1041_i; } else { goto L_der_core_decode_AnyDecodeRefSliceU8_from_der_f0286__2; }
 L_then_6_i_i_i1041_i:;
     v_r60_i_i_i1042_i = v_r0_i_i775_sroa_12_0_i53 + 1;
     v_r83_i_i_i1043_i = get_u8(v_r60_i_i_i1042_i);
@@ -35167,17 +35508,17 @@ L_then_9_i_i_i1085_i:;
     v_r32_i1554_i = (u64)((u64)(v_r65_i_i_i963_i) - (u64)(v_r92_i_i_i1086_i));
     v_r27_i4_i1013_i = v_r83_i_i_i1043_i == 0u;
     v_or_cond78 = (u1)(((u32)(v_r27_i4_i1013_i) | (u32)(v_r15_i1551_i)) & 1);
-    if (v_or_cond78) { goto L_der_core_decode_AnyDecodeRefSliceU8_from_der_70ca1__2; } else { p_v_r0_i_i935_sroa_13_0_i63 = v_r32_i1554_i; p_v_r0_i_i935_sroa_12_0_i62 = v_r29_i1553_i; p_v_r0_i_i935_sroa_11_0_i61 = v_r92_i_i_i1086_i; p_v_r0_i_i935_sroa_7_0_i60 = v_r62_i_i_i962_i; goto L_join_5_i_i1014_i; }
+    if (v_or_cond78) { goto L_der_core_decode_AnyDecodeRefSliceU8_from_der_f0286__2; } else { p_v_r0_i_i935_sroa_13_0_i63 = v_r32_i1554_i; p_v_r0_i_i935_sroa_12_0_i62 = v_r29_i1553_i; p_v_r0_i_i935_sroa_11_0_i61 = v_r92_i_i_i1086_i; p_v_r0_i_i935_sroa_7_0_i60 = v_r62_i_i_i962_i; goto L_join_5_i_i1014_i; }
 L_join_11_i_i_i1045_i:;
     v_r104_i_i_i1046_i = v_r83_i_i_i1043_i == 130u;
     if (v_r104_i_i_i1046_i) { goto L_then_12_i_i_i1062_i; } else { goto L_join_14_i_i_i1047_i; }
 L_then_12_i_i_i1062_i:;
     v_r110_i_i_i1063_i = v_r0_i_i775_sroa_13_0_i54 < 4u;
-    if (v_r110_i_i_i1063_i) { goto L_der_core_decode_AnyDecodeRefSliceU8_from_der_70ca1__2; } else { goto L_join_19_i_i_i1064_i; }
+    if (v_r110_i_i_i1063_i) { goto L_der_core_decode_AnyDecodeRefSliceU8_from_der_f0286__2; } else { goto L_join_19_i_i_i1064_i; }
 L_join_19_i_i_i1064_i:;
     v_r130_i_i_i1065_i = get_u8(v_r62_i_i_i962_i);
     v_r132_not_i_i_i1066_i = v_r130_i_i_i1065_i == 0u;
-    if (v_r132_not_i_i_i1066_i) { goto L_der_core_decode_AnyDecodeRefSliceU8_from_der_70ca1__2; } else { goto L_then_20_i_i_i1067_i; }
+    if (v_r132_not_i_i_i1066_i) { goto L_der_core_decode_AnyDecodeRefSliceU8_from_der_f0286__2; } else { goto L_then_20_i_i_i1067_i; }
 L_then_20_i_i_i1067_i:;
     v_r122_i_i_i1068_i = (u64)((u64)(v_r0_i_i775_sroa_13_0_i54) + (u64)(18446744073709551612ull));
     v_r117_i_i_i1070_i = v_r0_i_i775_sroa_12_0_i53 + 3;
@@ -35187,7 +35528,7 @@ L_then_20_i_i_i1067_i:;
     v_r145_i_i_i1074_i = (u64)v_r143_i_i_i1073_i;
     v_r148_i_i_i1075_i = (u64)((u64)(v_r141_i_i_i1072_i) | (u64)(v_r145_i_i_i1074_i));
     v_r15_i1561_i = v_r122_i_i_i1068_i < v_r148_i_i_i1075_i;
-    if (v_r15_i1561_i) { goto L_der_core_decode_AnyDecodeRefSliceU8_from_der_70ca1__2; } else { goto L_join_3_i1562_i; }
+    if (v_r15_i1561_i) { goto L_der_core_decode_AnyDecodeRefSliceU8_from_der_f0286__2; } else { goto L_join_3_i1562_i; }
 L_join_3_i1562_i:;
     v_r119_i_i_i1069_i = v_r0_i_i775_sroa_12_0_i53 + 4;
     v_r29_i1563_i = (P)((u64)v_r119_i_i_i1069_i + (u64)(v_r148_i_i_i1075_i));
@@ -35195,20 +35536,20 @@ L_join_3_i1562_i:;
     { p_v_r0_i_i935_sroa_13_0_i63 = v_r32_i1564_i; p_v_r0_i_i935_sroa_12_0_i62 = v_r29_i1563_i; p_v_r0_i_i935_sroa_11_0_i61 = v_r148_i_i_i1075_i; p_v_r0_i_i935_sroa_7_0_i60 = v_r119_i_i_i1069_i; goto L_join_5_i_i1014_i; }
 L_join_14_i_i_i1047_i:;
     v_r163_i_i_i1048_i = v_r65_i_i_i963_i == 0u;
-    if (v_r163_i_i_i1048_i) { goto L_der_core_decode_AnyDecodeRefSliceU8_from_der_70ca1__2; } else { goto L_join_27_i_i_i1049_i; }
+    if (v_r163_i_i_i1048_i) { goto L_der_core_decode_AnyDecodeRefSliceU8_from_der_f0286__2; } else { goto L_join_27_i_i_i1049_i; }
 L_join_27_i_i_i1049_i:;
     v_r170_i_i_i1050_i = v_r0_i_i775_sroa_12_0_i53 + 3;
     v_r173_i_i_i1051_i = (u64)((u64)(v_r0_i_i775_sroa_13_0_i54) + (u64)(18446744073709551613ull));
     v_r182_i_i_i1052_i = v_r83_i_i_i1043_i == 129u;
-    if (v_r182_i_i_i1052_i) { goto L_then_28_i_i_i1057_i; } else { goto L_der_core_decode_AnyDecodeRefSliceU8_from_der_70ca1__2; }
+    if (v_r182_i_i_i1052_i) { goto L_then_28_i_i_i1057_i; } else { goto L_der_core_decode_AnyDecodeRefSliceU8_from_der_f0286__2; }
 L_then_28_i_i_i1057_i:;
     v_r187_i_i_i1058_i = get_u8(v_r62_i_i_i962_i);
     v_r189_i_i_i1059_i = (u8)(v_r187_i_i_i1058_i ^ ((u8)1 << 7)) < (u8)(0u ^ ((u8)1 << 7));
-    if (v_r189_i_i_i1059_i) { goto L_then_31_i_i_i1060_i; } else { goto L_der_core_decode_AnyDecodeRefSliceU8_from_der_70ca1__2; }
+    if (v_r189_i_i_i1059_i) { goto L_then_31_i_i_i1060_i; } else { goto L_der_core_decode_AnyDecodeRefSliceU8_from_der_f0286__2; }
 L_then_31_i_i_i1060_i:;
     v_r199_i_i_i1061_i = (u64)v_r187_i_i_i1058_i;
     v_r15_i1571_i = v_r173_i_i_i1051_i < v_r199_i_i_i1061_i;
-    if (v_r15_i1571_i) { goto L_der_core_decode_AnyDecodeRefSliceU8_from_der_70ca1__2; } else { goto L_join_3_i1572_i; }
+    if (v_r15_i1571_i) { goto L_der_core_decode_AnyDecodeRefSliceU8_from_der_f0286__2; } else { goto L_join_3_i1572_i; }
 L_join_3_i1572_i:;
     v_r29_i1573_i = (P)((u64)v_r170_i_i_i1050_i + (u64)(v_r199_i_i_i1061_i));
     v_r32_i1574_i = (u64)((u64)(v_r173_i_i_i1051_i) - (u64)(v_r199_i_i_i1061_i));
@@ -35227,7 +35568,7 @@ L_arm_6_i_i1031_i:;
     if (v_r47_i_i1034_i) { p_v_r11_sroa_4_i_i942_sroa_0_0_ph_i = v_r0_i_i935_sroa_7_0_i60; p_v_r11_sroa_4_i_i942_sroa_5_0_ph_i = 1u; goto L_arm_1_i990_i; } else { goto L_der_core_integer_uint_UintRefDecodeValueRefSliceU8__7; }
 L_default_7_i_i1017_i:;
     v_r73_i_i1018_i = (u8)(v_r34_i_i1015_i ^ ((u8)1 << 7)) > (u8)(255u ^ ((u8)1 << 7));
-    if (v_r73_i_i1018_i) { p_v_r11_sroa_4_i_i942_sroa_0_0_ph_i = v_r0_i_i935_sroa_7_0_i60; p_v_r11_sroa_4_i_i942_sroa_5_0_ph_i = v_r0_i_i935_sroa_11_0_i61; goto L_arm_1_i990_i; } else { goto L_der_core_decode_AnyDecodeRefSliceU8_from_der_70ca1__2; }
+    if (v_r73_i_i1018_i) { p_v_r11_sroa_4_i_i942_sroa_0_0_ph_i = v_r0_i_i935_sroa_7_0_i60; p_v_r11_sroa_4_i_i942_sroa_5_0_ph_i = v_r0_i_i935_sroa_11_0_i61; goto L_arm_1_i990_i; } else { goto L_der_core_decode_AnyDecodeRefSliceU8_from_der_f0286__2; }
 L_der_core_integer_uint_UintRefDecodeValueRefSliceU8__7:;
     v_r37_i_i1032_i = v_r0_i_i935_sroa_7_0_i60 + 1;
     v_r56_i_i1036_i = get_u8(v_r37_i_i1032_i);
@@ -35235,18 +35576,18 @@ L_der_core_integer_uint_UintRefDecodeValueRefSliceU8__7:;
     v_r40_i_i1038_i = v_r58_i_i1037_i ? v_r40_i5_i1033_i : 0u;
     v_r37_i_i1039_i = v_r58_i_i1037_i ? v_r37_i_i1032_i : (P)0;
     v_not2809_i = (u8)(v_r56_i_i1036_i ^ ((u8)1 << 7)) > (u8)(255u ^ ((u8)1 << 7));
-    if (v_not2809_i) { goto L_der_core_decode_AnyDecodeRefSliceU8_from_der_70ca1__2; } else { p_v_r11_sroa_4_i_i942_sroa_0_0_ph_i = v_r37_i_i1039_i; p_v_r11_sroa_4_i_i942_sroa_5_0_ph_i = v_r40_i_i1038_i; goto L_arm_1_i990_i; }
+    if (v_not2809_i) { goto L_der_core_decode_AnyDecodeRefSliceU8_from_der_f0286__2; } else { p_v_r11_sroa_4_i_i942_sroa_0_0_ph_i = v_r37_i_i1039_i; p_v_r11_sroa_4_i_i942_sroa_5_0_ph_i = v_r40_i_i1038_i; goto L_arm_1_i990_i; }
 L_arm_1_i990_i:;
     v_r11_sroa_4_i_i942_sroa_0_0_ph_i = p_v_r11_sroa_4_i_i942_sroa_0_0_ph_i;
     v_r11_sroa_4_i_i942_sroa_5_0_ph_i = p_v_r11_sroa_4_i_i942_sroa_5_0_ph_i;
     v_r53_i_i_i1110_i = v_r0_i_i935_sroa_13_0_i63 < 2u;
-    if (v_r53_i_i_i1110_i) { goto L_der_core_decode_AnyDecodeRefSliceU8_from_der_70ca1__2; } else { goto L_join_5_i_i_i1111_i; }
+    if (v_r53_i_i_i1110_i) { goto L_der_core_decode_AnyDecodeRefSliceU8_from_der_f0286__2; } else { goto L_join_5_i_i_i1111_i; }
 L_join_5_i_i_i1111_i:;
     v_r62_i_i_i1112_i = v_r0_i_i935_sroa_12_0_i62 + 2;
     v_r65_i_i_i1113_i = (u64)((u64)(v_r0_i_i935_sroa_13_0_i63) + (u64)(18446744073709551614ull));
     v_r73_i_i_i1114_i = get_u8(v_r0_i_i935_sroa_12_0_i62);
     v_r78_i_i_i1116_i = v_r73_i_i_i1114_i == 2u;
-    if (v_r78_i_i_i1116_i) { goto L_then_6_i_i_i1180_i; } else { goto L_der_core_decode_AnyDecodeRefSliceU8_from_der_70ca1__2; }
+    if (v_r78_i_i_i1116_i) { goto L_then_6_i_i_i1180_i; } else { goto L_der_core_decode_AnyDecodeRefSliceU8_from_der_f0286__2; }
 L_then_6_i_i_i1180_i:;
     v_r60_i_i_i1181_i = v_r0_i_i935_sroa_12_0_i62 + 1;
     v_r83_i_i_i1182_i = get_u8(v_r60_i_i_i1181_i);
@@ -35259,17 +35600,17 @@ L_then_9_i_i_i1224_i:;
     v_r32_i1584_i = (u64)((u64)(v_r65_i_i_i1113_i) - (u64)(v_r92_i_i_i1225_i));
     v_r27_i4_i1152_i = v_r83_i_i_i1182_i == 0u;
     v_or_cond79 = (u1)(((u32)(v_r27_i4_i1152_i) | (u32)(v_r15_i1581_i)) & 1);
-    if (v_or_cond79) { goto L_der_core_decode_AnyDecodeRefSliceU8_from_der_70ca1__2; } else { p_v_r0_i_i1095_sroa_13_0_i72 = v_r32_i1584_i; p_v_r0_i_i1095_sroa_12_0_i71 = v_r29_i1583_i; p_v_r0_i_i1095_sroa_11_0_i70 = v_r92_i_i_i1225_i; p_v_r0_i_i1095_sroa_7_0_i69 = v_r62_i_i_i1112_i; goto L_join_5_i_i1153_i; }
+    if (v_or_cond79) { goto L_der_core_decode_AnyDecodeRefSliceU8_from_der_f0286__2; } else { p_v_r0_i_i1095_sroa_13_0_i72 = v_r32_i1584_i; p_v_r0_i_i1095_sroa_12_0_i71 = v_r29_i1583_i; p_v_r0_i_i1095_sroa_11_0_i70 = v_r92_i_i_i1225_i; p_v_r0_i_i1095_sroa_7_0_i69 = v_r62_i_i_i1112_i; goto L_join_5_i_i1153_i; }
 L_join_11_i_i_i1184_i:;
     v_r104_i_i_i1185_i = v_r83_i_i_i1182_i == 130u;
     if (v_r104_i_i_i1185_i) { goto L_then_12_i_i_i1201_i; } else { goto L_join_14_i_i_i1186_i; }
 L_then_12_i_i_i1201_i:;
     v_r110_i_i_i1202_i = v_r0_i_i935_sroa_13_0_i63 < 4u;
-    if (v_r110_i_i_i1202_i) { goto L_der_core_decode_AnyDecodeRefSliceU8_from_der_70ca1__2; } else { goto L_join_19_i_i_i1203_i; }
+    if (v_r110_i_i_i1202_i) { goto L_der_core_decode_AnyDecodeRefSliceU8_from_der_f0286__2; } else { goto L_join_19_i_i_i1203_i; }
 L_join_19_i_i_i1203_i:;
     v_r130_i_i_i1204_i = get_u8(v_r62_i_i_i1112_i);
     v_r132_not_i_i_i1205_i = v_r130_i_i_i1204_i == 0u;
-    if (v_r132_not_i_i_i1205_i) { goto L_der_core_decode_AnyDecodeRefSliceU8_from_der_70ca1__2; } else { goto L_then_20_i_i_i1206_i; }
+    if (v_r132_not_i_i_i1205_i) { goto L_der_core_decode_AnyDecodeRefSliceU8_from_der_f0286__2; } else { goto L_then_20_i_i_i1206_i; }
 L_then_20_i_i_i1206_i:;
     v_r122_i_i_i1207_i = (u64)((u64)(v_r0_i_i935_sroa_13_0_i63) + (u64)(18446744073709551612ull));
     v_r117_i_i_i1209_i = v_r0_i_i935_sroa_12_0_i62 + 3;
@@ -35279,7 +35620,7 @@ L_then_20_i_i_i1206_i:;
     v_r145_i_i_i1213_i = (u64)v_r143_i_i_i1212_i;
     v_r148_i_i_i1214_i = (u64)((u64)(v_r141_i_i_i1211_i) | (u64)(v_r145_i_i_i1213_i));
     v_r15_i1591_i = v_r122_i_i_i1207_i < v_r148_i_i_i1214_i;
-    if (v_r15_i1591_i) { goto L_der_core_decode_AnyDecodeRefSliceU8_from_der_70ca1__2; } else { goto L_join_3_i1592_i; }
+    if (v_r15_i1591_i) { goto L_der_core_decode_AnyDecodeRefSliceU8_from_der_f0286__2; } else { goto L_join_3_i1592_i; }
 L_join_3_i1592_i:;
     v_r119_i_i_i1208_i = v_r0_i_i935_sroa_12_0_i62 + 4;
     v_r29_i1593_i = (P)((u64)v_r119_i_i_i1208_i + (u64)(v_r148_i_i_i1214_i));
@@ -35287,20 +35628,20 @@ L_join_3_i1592_i:;
     { p_v_r0_i_i1095_sroa_13_0_i72 = v_r32_i1594_i; p_v_r0_i_i1095_sroa_12_0_i71 = v_r29_i1593_i; p_v_r0_i_i1095_sroa_11_0_i70 = v_r148_i_i_i1214_i; p_v_r0_i_i1095_sroa_7_0_i69 = v_r119_i_i_i1208_i; goto L_join_5_i_i1153_i; }
 L_join_14_i_i_i1186_i:;
     v_r163_i_i_i1187_i = v_r65_i_i_i1113_i == 0u;
-    if (v_r163_i_i_i1187_i) { goto L_der_core_decode_AnyDecodeRefSliceU8_from_der_70ca1__2; } else { goto L_join_27_i_i_i1188_i; }
+    if (v_r163_i_i_i1187_i) { goto L_der_core_decode_AnyDecodeRefSliceU8_from_der_f0286__2; } else { goto L_join_27_i_i_i1188_i; }
 L_join_27_i_i_i1188_i:;
     v_r170_i_i_i1189_i = v_r0_i_i935_sroa_12_0_i62 + 3;
     v_r173_i_i_i1190_i = (u64)((u64)(v_r0_i_i935_sroa_13_0_i63) + (u64)(18446744073709551613ull));
     v_r182_i_i_i1191_i = v_r83_i_i_i1182_i == 129u;
-    if (v_r182_i_i_i1191_i) { goto L_then_28_i_i_i1196_i; } else { goto L_der_core_decode_AnyDecodeRefSliceU8_from_der_70ca1__2; }
+    if (v_r182_i_i_i1191_i) { goto L_then_28_i_i_i1196_i; } else { goto L_der_core_decode_AnyDecodeRefSliceU8_from_der_f0286__2; }
 L_then_28_i_i_i1196_i:;
     v_r187_i_i_i1197_i = get_u8(v_r62_i_i_i1112_i);
     v_r189_i_i_i1198_i = (u8)(v_r187_i_i_i1197_i ^ ((u8)1 << 7)) < (u8)(0u ^ ((u8)1 << 7));
-    if (v_r189_i_i_i1198_i) { goto L_then_31_i_i_i1199_i; } else { goto L_der_core_decode_AnyDecodeRefSliceU8_from_der_70ca1__2; }
+    if (v_r189_i_i_i1198_i) { goto L_then_31_i_i_i1199_i; } else { goto L_der_core_decode_AnyDecodeRefSliceU8_from_der_f0286__2; }
 L_then_31_i_i_i1199_i:;
     v_r199_i_i_i1200_i = (u64)v_r187_i_i_i1197_i;
     v_r15_i1601_i = v_r173_i_i_i1190_i < v_r199_i_i_i1200_i;
-    if (v_r15_i1601_i) { goto L_der_core_decode_AnyDecodeRefSliceU8_from_der_70ca1__2; } else { goto L_join_3_i1602_i; }
+    if (v_r15_i1601_i) { goto L_der_core_decode_AnyDecodeRefSliceU8_from_der_f0286__2; } else { goto L_join_3_i1602_i; }
 L_join_3_i1602_i:;
     v_r29_i1603_i = (P)((u64)v_r170_i_i_i1189_i + (u64)(v_r199_i_i_i1200_i));
     v_r32_i1604_i = (u64)((u64)(v_r173_i_i_i1190_i) - (u64)(v_r199_i_i_i1200_i));
@@ -35319,7 +35660,7 @@ L_arm_6_i_i1170_i:;
     if (v_r47_i_i1173_i) { p_v_r11_sroa_4_sroa_4_i_sroa_6_sroa_6_sroa_6_sroa_6_sr = v_r0_i_i1095_sroa_7_0_i69; p_v_r11_sroa_4_sroa_4_i_sroa_6_sroa_6_sroa_6_sroa_6_sr__2 = 1u; goto L_arm_5_i44_i; } else { goto L_der_core_integer_uint_UintRefDecodeValueRefSliceU8__8; }
 L_default_7_i_i1156_i:;
     v_r73_i_i1157_i = (u8)(v_r34_i_i1154_i ^ ((u8)1 << 7)) > (u8)(255u ^ ((u8)1 << 7));
-    if (v_r73_i_i1157_i) { p_v_r11_sroa_4_sroa_4_i_sroa_6_sroa_6_sroa_6_sroa_6_sr = v_r0_i_i1095_sroa_7_0_i69; p_v_r11_sroa_4_sroa_4_i_sroa_6_sroa_6_sroa_6_sroa_6_sr__2 = v_r0_i_i1095_sroa_11_0_i70; goto L_arm_5_i44_i; } else { goto L_der_core_decode_AnyDecodeRefSliceU8_from_der_70ca1__2; }
+    if (v_r73_i_i1157_i) { p_v_r11_sroa_4_sroa_4_i_sroa_6_sroa_6_sroa_6_sroa_6_sr = v_r0_i_i1095_sroa_7_0_i69; p_v_r11_sroa_4_sroa_4_i_sroa_6_sroa_6_sroa_6_sroa_6_sr__2 = v_r0_i_i1095_sroa_11_0_i70; goto L_arm_5_i44_i; } else { goto L_der_core_decode_AnyDecodeRefSliceU8_from_der_f0286__2; }
 L_der_core_integer_uint_UintRefDecodeValueRefSliceU8__8:;
     v_r37_i_i1171_i = v_r0_i_i1095_sroa_7_0_i69 + 1;
     v_r56_i_i1175_i = get_u8(v_r37_i_i1171_i);
@@ -35327,30 +35668,30 @@ L_der_core_integer_uint_UintRefDecodeValueRefSliceU8__8:;
     v_r40_i_i1177_i = v_r58_i_i1176_i ? v_r40_i5_i1172_i : 0u;
     v_r37_i_i1178_i = v_r58_i_i1176_i ? v_r37_i_i1171_i : (P)0;
     v_not2810_i = (u8)(v_r56_i_i1175_i ^ ((u8)1 << 7)) > (u8)(255u ^ ((u8)1 << 7));
-    if (v_not2810_i) { goto L_der_core_decode_AnyDecodeRefSliceU8_from_der_70ca1__2; } else { p_v_r11_sroa_4_sroa_4_i_sroa_6_sroa_6_sroa_6_sroa_6_sr = v_r37_i_i1178_i; p_v_r11_sroa_4_sroa_4_i_sroa_6_sroa_6_sroa_6_sroa_6_sr__2 = v_r40_i_i1177_i; goto L_arm_5_i44_i; }
+    if (v_not2810_i) { goto L_der_core_decode_AnyDecodeRefSliceU8_from_der_f0286__2; } else { p_v_r11_sroa_4_sroa_4_i_sroa_6_sroa_6_sroa_6_sroa_6_sr = v_r37_i_i1178_i; p_v_r11_sroa_4_sroa_4_i_sroa_6_sroa_6_sroa_6_sroa_6_sr__2 = v_r40_i_i1177_i; goto L_arm_5_i44_i; }
 L_arm_5_i44_i:;
     v_r11_sroa_4_sroa_4_i_sroa_6_sroa_6_sroa_6_sroa_6_sr = p_v_r11_sroa_4_sroa_4_i_sroa_6_sroa_6_sroa_6_sroa_6_sr;
     v_r11_sroa_4_sroa_4_i_sroa_6_sroa_6_sroa_6_sroa_6_sr__2 = p_v_r11_sroa_4_sroa_4_i_sroa_6_sroa_6_sroa_6_sroa_6_sr__2;
     fill(v_r6_i1233_i, 0u, 32u);
     if (v_r11_sroa_4_0_i66_i) { goto L_arm_1_i1239_i; } else { goto L_arm_2_i1235_i; }
 L_arm_1_i1239_i:;
-    f_pkcs1_view_quick_others(v_r6_i1233_i, v_r0_i_i1095_sroa_12_0_i71, v_r0_i_i1095_sroa_13_0_i72);
+    f_pkcs1_viewed_key_quick_others(v_r6_i1233_i, v_r0_i_i1095_sroa_12_0_i71, v_r0_i_i1095_sroa_13_0_i72);
     v_r16_i1240_i = get_u8(v_r6_i1233_i);
     v_1 = v_r16_i1240_i == 1u;
-    if (v_1) { goto L_pkcs1_view_quick_listed_exit_thread2882_i; } else { goto L_pkcs1_view_ViewedKeyDecodeValueRefSliceU8NoMemory___2; }
-L_pkcs1_view_quick_listed_exit_thread2882_i:;
+    if (v_1) { goto L_pkcs1_viewed_key_quick_listed_exit_thread2882_i; } else { goto L_pkcs1_viewed_key_ViewedKeyDecodeValueRefSliceU8NoM__2; }
+L_pkcs1_viewed_key_quick_listed_exit_thread2882_i:;
     v_r17_i1243_i = v_r6_i1233_i + 8;
     copy(v_r10_i14_sroa_7_i, v_r17_i1243_i, 24u);
-    { p_v_r5_sroa_5_sroa_0_0_i2878_i = 1u; goto L_der_core_decode_AnyDecodeRefSliceU8_from_der_70ca1__3; }
+    { p_v_r5_sroa_5_sroa_0_0_i2878_i = 1u; goto L_der_core_decode_AnyDecodeRefSliceU8_from_der_f0286__3; }
 L_arm_2_i1235_i:;
     v_r7_i1611_i = v_r0_i_i1095_sroa_13_0_i72 == 0u;
-    if (v_r7_i1611_i) { goto L_pkcs1_view_quick_listed_exit_thread_i; } else { goto L_pkcs1_view_ViewedKeyDecodeValueRefSliceU8NoMemory___2; }
-L_pkcs1_view_quick_listed_exit_thread_i:;
+    if (v_r7_i1611_i) { goto L_pkcs1_viewed_key_quick_listed_exit_thread_i; } else { goto L_pkcs1_viewed_key_ViewedKeyDecodeValueRefSliceU8NoM__2; }
+L_pkcs1_viewed_key_quick_listed_exit_thread_i:;
     fill(v_r10_i14_sroa_7_i, 0u, 24u);
-    { p_v_r5_sroa_5_sroa_0_0_i2878_i = 0u; goto L_der_core_decode_AnyDecodeRefSliceU8_from_der_70ca1__3; }
-L_pkcs1_view_ViewedKeyDecodeValueRefSliceU8NoMemory___2:;
-    { goto L_der_core_decode_AnyDecodeRefSliceU8_from_der_70ca1__2; }
-L_der_core_decode_AnyDecodeRefSliceU8_from_der_70ca1__3:;
+    { p_v_r5_sroa_5_sroa_0_0_i2878_i = 0u; goto L_der_core_decode_AnyDecodeRefSliceU8_from_der_f0286__3; }
+L_pkcs1_viewed_key_ViewedKeyDecodeValueRefSliceU8NoM__2:;
+    { goto L_der_core_decode_AnyDecodeRefSliceU8_from_der_f0286__2; }
+L_der_core_decode_AnyDecodeRefSliceU8_from_der_f0286__3:;
     v_r5_sroa_5_sroa_0_0_i2878_i = p_v_r5_sroa_5_sroa_0_0_i2878_i;
     copy(v_r14_i_sroa_5_sroa_6_i, v_r10_i14_sroa_7_i, 24u);
     v_r15_i4_sroa_6_0_r46_i_sroa_idx_i = v_r0_i1_i + 144;
@@ -35361,10 +35702,10 @@ L_der_core_decode_AnyDecodeRefSliceU8_from_der_70ca1__3:;
     v_r7_i_sroa_15_sroa_25_4_r46_i_sroa_idx_i = v_r0_i1_i + 160;
     v_r7_i_sroa_15_sroa_25_4_copyload2004_i = get_u64(v_r7_i_sroa_15_sroa_25_4_r46_i_sroa_idx_i);
     { p_v_r7_i_sroa_15_sroa_3_02718_i = v_r11_sroa_4_i_i_sroa_0_0_ph_i; p_v_r7_i_sroa_15_sroa_25_02717_i = v_r7_i_sroa_15_sroa_25_4_copyload2004_i; p_v_r7_i_sroa_15_sroa_24_02716_i = v_r7_i_sroa_15_sroa_24_4_copyload2003_i; p_v_r7_i_sroa_15_sroa_23_02715_i = v_r7_i_sroa_15_sroa_23_4_copyload2002_i; p_v_r7_i_sroa_15_sroa_21_02714_i = v_r5_sroa_5_sroa_0_0_i2878_i; p_v_r7_i_sroa_15_sroa_20_02713_i = v_r11_sroa_4_sroa_4_i_sroa_6_sroa_6_sroa_6_sroa_6_sr__2; p_v_r7_i_sroa_15_sroa_19_02712_i = v_r11_sroa_4_sroa_4_i_sroa_6_sroa_6_sroa_6_sroa_6_sr; p_v_r7_i_sroa_15_sroa_18_02711_i = v_r11_sroa_4_i_i942_sroa_5_0_ph_i; p_v_r7_i_sroa_15_sroa_17_02710_i = v_r11_sroa_4_i_i942_sroa_0_0_ph_i; p_v_r7_i_sroa_15_sroa_16_02709_i = v_r11_sroa_4_i_i782_sroa_5_0_ph_i; p_v_r7_i_sroa_15_sroa_15_02708_i = v_r11_sroa_4_i_i782_sroa_0_0_ph_i; p_v_r7_i_sroa_15_sroa_14_02707_i = v_r11_sroa_4_i_i622_sroa_5_0_ph_i; p_v_r7_i_sroa_15_sroa_13_02706_i = v_r11_sroa_4_i_i622_sroa_0_0_ph_i; p_v_r7_i_sroa_15_sroa_12_02705_i = v_r11_sroa_4_i_i462_sroa_5_0_ph_i; p_v_r7_i_sroa_15_sroa_11_02704_i = v_r11_sroa_4_i_i462_sroa_0_0_ph_i; p_v_r7_i_sroa_15_sroa_10_02703_i = v_r11_sroa_4_i_i302_sroa_5_0_ph_i; p_v_r7_i_sroa_15_sroa_9_02702_i = v_r11_sroa_4_i_i302_sroa_0_0_ph_i; p_v_r7_i_sroa_15_sroa_8_02701_i = v_r11_sroa_4_i_i142_sroa_5_0_ph_i; p_v_r7_i_sroa_15_sroa_7_02700_i = v_r11_sroa_4_i_i142_sroa_0_0_ph_i; p_v_r7_i_sroa_15_sroa_6_02699_i = v_r11_sroa_4_i_i_sroa_5_0_ph_i; goto L_arm_1_i; }
-L_der_core_decode_AnyDecodeRefSliceU8_from_der_70ca1__2:;
-    { goto L_der_core_decode_AnyDecodeRefSliceU8_from_der_70ca1; }
-L_der_core_decode_AnyDecodeRefSliceU8_from_der_70ca1:;
-    f_der_core_decode_read_slowly_025ef17fb6cfc887(v_r0_i1_i, v_r4, v_a1);
+L_der_core_decode_AnyDecodeRefSliceU8_from_der_f0286__2:;
+    { goto L_der_core_decode_AnyDecodeRefSliceU8_from_der_f0286; }
+L_der_core_decode_AnyDecodeRefSliceU8_from_der_f0286:;
+    f_der_core_decode_read_slowly_746ba62194330879(v_r0_i1_i, v_r4, v_a1);
     v_2 = get_u8(v_r0_i1_i);
     v_r59_i_i = v_r0_i1_i + 1;
     v_3 = get_u8(v_r59_i_i);
@@ -37066,13 +37407,13 @@ L_arm_1_i1041_i_i:;
     fill(v_r14_i_sroa_5_sroa_6_i_i_i, 0u, 24u);
     v_9 = (u64)((u64)(v_r0_i1_sroa_15_sroa_8_sroa_6_02150_i_i) + (u64)(18446744069414584320ull));
     v_or_cond2704_i_i_i = v_9 < 18446744069414584322ull;
-    if (v_or_cond2704_i_i_i) { goto L_der_core_decode_AnyDecodeRefSliceU8_from_der_70ca1; } else { goto L_join_5_i_i_i_i_i; }
+    if (v_or_cond2704_i_i_i) { goto L_der_core_decode_AnyDecodeRefSliceU8_from_der_f0286; } else { goto L_join_5_i_i_i_i_i; }
 L_join_5_i_i_i_i_i:;
     v_r62_i_i_i_i_i = v_r0_i1_sroa_15_sroa_8_sroa_0_02147_i_i + 2;
     v_r65_i_i_i_i_i = (u64)((u64)(v_r0_i1_sroa_15_sroa_8_sroa_6_02150_i_i) + (u64)(18446744073709551614ull));
     v_r73_i_i_i_i_i = get_u8(v_r0_i1_sroa_15_sroa_8_sroa_0_02147_i_i);
     v_r78_i_i_i_i_i = v_r73_i_i_i_i_i == 48u;
-    if (v_r78_i_i_i_i_i) { goto L_then_6_i_i_i_i_i; } else { goto L_der_core_decode_AnyDecodeRefSliceU8_from_der_70ca1; }
+    if (v_r78_i_i_i_i_i) { goto L_then_6_i_i_i_i_i; } else { goto L_der_core_decode_AnyDecodeRefSliceU8_from_der_f0286; }
 L_then_6_i_i_i_i_i:;
     v_r60_i_i_i_i_i = v_r0_i1_sroa_15_sroa_8_sroa_0_02147_i_i + 1;
     v_r83_i_i_i_i_i = get_u8(v_r60_i_i_i_i_i);
@@ -37081,20 +37422,20 @@ L_then_6_i_i_i_i_i:;
 L_then_9_i_i_i_i_i:;
     v_r92_i_i_i_i_i = (u64)v_r83_i_i_i_i_i;
     v_r15_i1359_i_i_i = v_r65_i_i_i_i_i < v_r92_i_i_i_i_i;
-    if (v_r15_i1359_i_i_i) { goto L_der_core_decode_AnyDecodeRefSliceU8_from_der_70ca1; } else { goto L_join_3_i1360_i_i_i; }
+    if (v_r15_i1359_i_i_i) { goto L_der_core_decode_AnyDecodeRefSliceU8_from_der_f0286; } else { goto L_join_3_i1360_i_i_i; }
 L_join_3_i1360_i_i_i:;
     v_r32_i1362_i_i_i = (u64)((u64)(v_r65_i_i_i_i_i) - (u64)(v_r92_i_i_i_i_i));
-    { p_v_r0_i9_sroa_7_0_i_i_i = v_r62_i_i_i_i_i; p_v_r0_i9_sroa_11_0_i_i_i = v_r92_i_i_i_i_i; p_v_r0_i9_sroa_13_0_i_i_i = v_r32_i1362_i_i_i; goto L_pkcs1_view_ViewedKeyDecodeValueRefSliceU8NoMemory_; }
+    { p_v_r0_i9_sroa_7_0_i_i_i = v_r62_i_i_i_i_i; p_v_r0_i9_sroa_11_0_i_i_i = v_r92_i_i_i_i_i; p_v_r0_i9_sroa_13_0_i_i_i = v_r32_i1362_i_i_i; goto L_pkcs1_viewed_key_ViewedKeyDecodeValueRefSliceU8NoM; }
 L_join_11_i_i_i_i_i:;
     v_r104_i_i_i_i_i = v_r83_i_i_i_i_i == 130u;
     if (v_r104_i_i_i_i_i) { goto L_then_12_i_i_i_i_i; } else { goto L_join_14_i_i_i_i_i; }
 L_then_12_i_i_i_i_i:;
     v_r110_i_i_i_i_i = v_r0_i1_sroa_15_sroa_8_sroa_6_02150_i_i < 4u;
-    if (v_r110_i_i_i_i_i) { goto L_der_core_decode_AnyDecodeRefSliceU8_from_der_70ca1; } else { goto L_join_19_i_i_i_i_i; }
+    if (v_r110_i_i_i_i_i) { goto L_der_core_decode_AnyDecodeRefSliceU8_from_der_f0286; } else { goto L_join_19_i_i_i_i_i; }
 L_join_19_i_i_i_i_i:;
     v_r130_i_i_i_i_i = get_u8(v_r62_i_i_i_i_i);
     v_r132_not_i_i_i_i_i = v_r130_i_i_i_i_i == 0u;
-    if (v_r132_not_i_i_i_i_i) { goto L_der_core_decode_AnyDecodeRefSliceU8_from_der_70ca1; } else { goto L_then_20_i_i_i_i_i; }
+    if (v_r132_not_i_i_i_i_i) { goto L_der_core_decode_AnyDecodeRefSliceU8_from_der_f0286; } else { goto L_then_20_i_i_i_i_i; }
 L_then_20_i_i_i_i_i:;
     v_r122_i_i_i_i_i = (u64)((u64)(v_r0_i1_sroa_15_sroa_8_sroa_6_02150_i_i) + (u64)(18446744073709551612ull));
     v_r117_i_i_i_i_i = v_r0_i1_sroa_15_sroa_8_sroa_0_02147_i_i + 3;
@@ -37104,98 +37445,98 @@ L_then_20_i_i_i_i_i:;
     v_r145_i_i_i_i_i = (u64)v_r143_i_i_i_i_i;
     v_r148_i_i_i_i_i = (u64)((u64)(v_r141_i_i_i_i_i) | (u64)(v_r145_i_i_i_i_i));
     v_r15_i1363_i_i_i = v_r122_i_i_i_i_i < v_r148_i_i_i_i_i;
-    if (v_r15_i1363_i_i_i) { goto L_der_core_decode_AnyDecodeRefSliceU8_from_der_70ca1; } else { goto L_join_3_i1364_i_i_i; }
+    if (v_r15_i1363_i_i_i) { goto L_der_core_decode_AnyDecodeRefSliceU8_from_der_f0286; } else { goto L_join_3_i1364_i_i_i; }
 L_join_3_i1364_i_i_i:;
     v_r119_i_i_i_i_i = v_r0_i1_sroa_15_sroa_8_sroa_0_02147_i_i + 4;
     v_r32_i1366_i_i_i = (u64)((u64)(v_r122_i_i_i_i_i) - (u64)(v_r148_i_i_i_i_i));
-    { p_v_r0_i9_sroa_7_0_i_i_i = v_r119_i_i_i_i_i; p_v_r0_i9_sroa_11_0_i_i_i = v_r148_i_i_i_i_i; p_v_r0_i9_sroa_13_0_i_i_i = v_r32_i1366_i_i_i; goto L_pkcs1_view_ViewedKeyDecodeValueRefSliceU8NoMemory_; }
+    { p_v_r0_i9_sroa_7_0_i_i_i = v_r119_i_i_i_i_i; p_v_r0_i9_sroa_11_0_i_i_i = v_r148_i_i_i_i_i; p_v_r0_i9_sroa_13_0_i_i_i = v_r32_i1366_i_i_i; goto L_pkcs1_viewed_key_ViewedKeyDecodeValueRefSliceU8NoM; }
 L_join_14_i_i_i_i_i:;
     v_r163_i_i_i_i_i = v_r65_i_i_i_i_i == 0u;
-    if (v_r163_i_i_i_i_i) { goto L_der_core_decode_AnyDecodeRefSliceU8_from_der_70ca1; } else { goto L_join_27_i_i_i_i_i; }
+    if (v_r163_i_i_i_i_i) { goto L_der_core_decode_AnyDecodeRefSliceU8_from_der_f0286; } else { goto L_join_27_i_i_i_i_i; }
 L_join_27_i_i_i_i_i:;
     v_r170_i_i_i_i_i = v_r0_i1_sroa_15_sroa_8_sroa_0_02147_i_i + 3;
     v_r173_i_i_i_i_i = (u64)((u64)(v_r0_i1_sroa_15_sroa_8_sroa_6_02150_i_i) + (u64)(18446744073709551613ull));
     v_r182_i_i_i_i_i = v_r83_i_i_i_i_i == 129u;
-    if (v_r182_i_i_i_i_i) { goto L_then_28_i_i_i_i_i; } else { goto L_der_core_decode_AnyDecodeRefSliceU8_from_der_70ca1; }
+    if (v_r182_i_i_i_i_i) { goto L_then_28_i_i_i_i_i; } else { goto L_der_core_decode_AnyDecodeRefSliceU8_from_der_f0286; }
 L_then_28_i_i_i_i_i:;
     v_r187_i_i_i_i_i = get_u8(v_r62_i_i_i_i_i);
     v_r189_i_i_i_i_i = (u8)(v_r187_i_i_i_i_i ^ ((u8)1 << 7)) < (u8)(0u ^ ((u8)1 << 7));
-    if (v_r189_i_i_i_i_i) { goto L_then_31_i_i_i_i_i; } else { goto L_der_core_decode_AnyDecodeRefSliceU8_from_der_70ca1; }
+    if (v_r189_i_i_i_i_i) { goto L_then_31_i_i_i_i_i; } else { goto L_der_core_decode_AnyDecodeRefSliceU8_from_der_f0286; }
 L_then_31_i_i_i_i_i:;
     v_r199_i_i_i_i_i = (u64)v_r187_i_i_i_i_i;
     v_r15_i1373_i_i_i = v_r173_i_i_i_i_i < v_r199_i_i_i_i_i;
-    if (v_r15_i1373_i_i_i) { goto L_der_core_decode_AnyDecodeRefSliceU8_from_der_70ca1; } else { goto L_join_3_i1374_i_i_i; }
+    if (v_r15_i1373_i_i_i) { goto L_der_core_decode_AnyDecodeRefSliceU8_from_der_f0286; } else { goto L_join_3_i1374_i_i_i; }
 L_join_3_i1374_i_i_i:;
     v_r32_i1376_i_i_i = (u64)((u64)(v_r173_i_i_i_i_i) - (u64)(v_r199_i_i_i_i_i));
-    { p_v_r0_i9_sroa_7_0_i_i_i = v_r170_i_i_i_i_i; p_v_r0_i9_sroa_11_0_i_i_i = v_r199_i_i_i_i_i; p_v_r0_i9_sroa_13_0_i_i_i = v_r32_i1376_i_i_i; goto L_pkcs1_view_ViewedKeyDecodeValueRefSliceU8NoMemory_; }
-L_pkcs1_view_ViewedKeyDecodeValueRefSliceU8NoMemory_:;
+    { p_v_r0_i9_sroa_7_0_i_i_i = v_r170_i_i_i_i_i; p_v_r0_i9_sroa_11_0_i_i_i = v_r199_i_i_i_i_i; p_v_r0_i9_sroa_13_0_i_i_i = v_r32_i1376_i_i_i; goto L_pkcs1_viewed_key_ViewedKeyDecodeValueRefSliceU8NoM; }
+L_pkcs1_viewed_key_ViewedKeyDecodeValueRefSliceU8NoM:;
     v_r0_i9_sroa_7_0_i_i_i = p_v_r0_i9_sroa_7_0_i_i_i;
     v_r0_i9_sroa_11_0_i_i_i = p_v_r0_i9_sroa_11_0_i_i_i;
     v_r0_i9_sroa_13_0_i_i_i = p_v_r0_i9_sroa_13_0_i_i_i;
     v_r36_i8_i_i_i = v_r0_i9_sroa_13_0_i_i_i == 0u;
-    if (v_r36_i8_i_i_i) { goto L_then_10_i_i_i_i; } else { goto L_der_core_decode_AnyDecodeRefSliceU8_from_der_70ca1; }
+    if (v_r36_i8_i_i_i) { goto L_then_10_i_i_i_i; } else { goto L_der_core_decode_AnyDecodeRefSliceU8_from_der_f0286; }
 L_then_10_i_i_i_i:;
     fill(v_r10_i14_sroa_7_i_i_i, 0u, 24u);
     v_r23_i76_i_i_i = v_r0_i9_sroa_11_0_i_i_i < 2u;
-    if (v_r23_i76_i_i_i) { goto L_der_core_decode_AnyDecodeRefSliceU8_from_der_70ca1__2; } else { goto L_join_5_i_i1052_i_i; }
+    if (v_r23_i76_i_i_i) { goto L_der_core_decode_AnyDecodeRefSliceU8_from_der_f0286__2; } else { goto L_join_5_i_i1052_i_i; }
 L_join_5_i_i1052_i_i:;
     v_r32_i77_i_i_i = v_r0_i9_sroa_7_0_i_i_i + 2;
     v_r35_i78_i_i_i = (u64)((u64)(v_r0_i9_sroa_11_0_i_i_i) + (u64)(18446744073709551614ull));
     v_r43_i_i1053_i_i = get_u8(v_r0_i9_sroa_7_0_i_i_i);
     v_r48_i80_i_i_i = v_r43_i_i1053_i_i == 2u;
-    if (v_r48_i80_i_i_i) { goto L_then_6_i_i1054_i_i; } else { goto L_der_core_decode_AnyDecodeRefSliceU8_from_der_70ca1__2; }
+    if (v_r48_i80_i_i_i) { goto L_then_6_i_i1054_i_i; } else { goto L_der_core_decode_AnyDecodeRefSliceU8_from_der_f0286__2; }
 L_then_6_i_i1054_i_i:;
     v_r30_i81_i_i_i = v_r0_i9_sroa_7_0_i_i_i + 1;
     v_r53_i82_i_i_i = get_u8(v_r30_i81_i_i_i);
     v_r55_i_i1055_i_i = (u8)(v_r53_i82_i_i_i ^ ((u8)1 << 7)) > (u8)(255u ^ ((u8)1 << 7));
-    if (v_r55_i_i1055_i_i) { goto L_then_9_i_i1056_i_i; } else { goto L_der_core_decode_AnyDecodeRefSliceU8_from_der_70ca1__2; }
+    if (v_r55_i_i1055_i_i) { goto L_then_9_i_i1056_i_i; } else { goto L_der_core_decode_AnyDecodeRefSliceU8_from_der_f0286__2; }
 L_then_9_i_i1056_i_i:;
     v_r65_i83_i_i_i = (u64)v_r53_i82_i_i_i;
     v_r15_i1383_i_i_i = v_r35_i78_i_i_i < v_r65_i83_i_i_i;
-    if (v_r15_i1383_i_i_i) { goto L_der_core_decode_AnyDecodeRefSliceU8_from_der_70ca1__2; } else { goto L_arm_1_i58_i_i_i; }
+    if (v_r15_i1383_i_i_i) { goto L_der_core_decode_AnyDecodeRefSliceU8_from_der_f0286__2; } else { goto L_arm_1_i58_i_i_i; }
 L_arm_1_i58_i_i_i:;
     v_r29_i1385_i_i_i = (P)((u64)v_r32_i77_i_i_i + (u64)(v_r65_i83_i_i_i));
     v_r32_i1386_i_i_i = (u64)((u64)(v_r35_i78_i_i_i) - (u64)(v_r65_i83_i_i_i));
     switch (v_r53_i82_i_i_i) {
-    case 0u: { goto L_der_core_decode_AnyDecodeRefSliceU8_from_der_70ca1__2; }
+    case 0u: { goto L_der_core_decode_AnyDecodeRefSliceU8_from_der_f0286__2; }
     case 1u: { goto L_then_6_i97_i_i_i; }
     default: { goto L_join_8_i_i1059_i_i; }
     }
 L_then_6_i97_i_i_i:;
     v_r34_i98_i_i_i = get_u8(v_r32_i77_i_i_i);
     v_r36_i99_i_i_i = (u8)(v_r34_i98_i_i_i ^ ((u8)1 << 7)) > (u8)(255u ^ ((u8)1 << 7));
-    if (v_r36_i99_i_i_i) { p_v_r6_sroa_5_0_i_i1057_i_i = v_r34_i98_i_i_i; goto L_arm_1_i92_i_i_i; } else { goto L_der_core_decode_AnyDecodeRefSliceU8_from_der_70ca1__2; }
+    if (v_r36_i99_i_i_i) { p_v_r6_sroa_5_0_i_i1057_i_i = v_r34_i98_i_i_i; goto L_arm_1_i92_i_i_i; } else { goto L_der_core_decode_AnyDecodeRefSliceU8_from_der_f0286__2; }
 L_join_8_i_i1059_i_i:;
     v_r46_i101_i_i_i = v_r53_i82_i_i_i < 3u;
-    if (v_r46_i101_i_i_i) { goto L_then_12_i_i1060_i_i; } else { goto L_der_core_decode_AnyDecodeRefSliceU8_from_der_70ca1__2; }
+    if (v_r46_i101_i_i_i) { goto L_then_12_i_i1060_i_i; } else { goto L_der_core_decode_AnyDecodeRefSliceU8_from_der_f0286__2; }
 L_then_12_i_i1060_i_i:;
     v_r53_i102_i_i_i = get_u8(v_r32_i77_i_i_i);
     v_cond_i_i1061_i_i = v_r53_i102_i_i_i == 0u;
-    if (v_cond_i_i1061_i_i) { goto L_arm_15_i_i1062_i_i; } else { goto L_der_core_decode_AnyDecodeRefSliceU8_from_der_70ca1__2; }
+    if (v_cond_i_i1061_i_i) { goto L_arm_15_i_i1062_i_i; } else { goto L_der_core_decode_AnyDecodeRefSliceU8_from_der_f0286__2; }
 L_arm_15_i_i1062_i_i:;
     v_r56_i_i1063_i_i = v_r0_i9_sroa_7_0_i_i_i + 3;
     v_r59_i103_i_i_i = get_u8(v_r56_i_i1063_i_i);
     v_r61_i104_i_i_i = (u8)(v_r59_i103_i_i_i ^ ((u8)1 << 7)) < (u8)(0u ^ ((u8)1 << 7));
-    if (v_r61_i104_i_i_i) { p_v_r6_sroa_5_0_i_i1057_i_i = v_r59_i103_i_i_i; goto L_arm_1_i92_i_i_i; } else { goto L_der_core_decode_AnyDecodeRefSliceU8_from_der_70ca1__2; }
+    if (v_r61_i104_i_i_i) { p_v_r6_sroa_5_0_i_i1057_i_i = v_r59_i103_i_i_i; goto L_arm_1_i92_i_i_i; } else { goto L_der_core_decode_AnyDecodeRefSliceU8_from_der_f0286__2; }
 L_arm_1_i92_i_i_i:;
     v_r6_sroa_5_0_i_i1057_i_i = p_v_r6_sroa_5_0_i_i1057_i_i;
     switch (v_r6_sroa_5_0_i_i1057_i_i) {
     case 0u: { goto L_arm_5_i67_i_i_i; }
     case 1u: { p_v_r11_sroa_4_0_i66_i_i_i = 1u; goto L_arm_1_i38_i_i_i; }
-    default: { goto L_der_core_decode_AnyDecodeRefSliceU8_from_der_70ca1__2; }
+    default: { goto L_der_core_decode_AnyDecodeRefSliceU8_from_der_f0286__2; }
     }
 L_arm_5_i67_i_i_i:;
     { p_v_r11_sroa_4_0_i66_i_i_i = 0u; goto L_arm_1_i38_i_i_i; }
 L_arm_1_i38_i_i_i:;
     v_r11_sroa_4_0_i66_i_i_i = p_v_r11_sroa_4_0_i66_i_i_i;
     v_r53_i_i_i_i_i_i = v_r32_i1386_i_i_i < 2u;
-    if (v_r53_i_i_i_i_i_i) { goto L_der_core_decode_AnyDecodeRefSliceU8_from_der_70ca1__2; } else { goto L_join_5_i_i_i_i_i_i; }
+    if (v_r53_i_i_i_i_i_i) { goto L_der_core_decode_AnyDecodeRefSliceU8_from_der_f0286__2; } else { goto L_join_5_i_i_i_i_i_i; }
 L_join_5_i_i_i_i_i_i:;
     v_r62_i_i_i_i_i_i = v_r29_i1385_i_i_i + 2;
     v_r65_i_i_i_i_i_i = (u64)((u64)(v_r32_i1386_i_i_i) + (u64)(18446744073709551614ull));
     v_r73_i_i_i_i_i_i = get_u8(v_r29_i1385_i_i_i);
     v_r78_i_i_i_i_i_i = v_r73_i_i_i_i_i_i == 2u;
-    if (v_r78_i_i_i_i_i_i) { goto L_then_6_i_i_i_i_i_i; } else { goto L_der_core_decode_AnyDecodeRefSliceU8_from_der_70ca1__2; }
+    if (v_r78_i_i_i_i_i_i) { goto L_then_6_i_i_i_i_i_i; } else { goto L_der_core_decode_AnyDecodeRefSliceU8_from_der_f0286__2; }
 L_then_6_i_i_i_i_i_i:;
     v_r60_i_i_i_i_i_i = v_r29_i1385_i_i_i + 1;
     v_r83_i_i_i_i_i_i = get_u8(v_r60_i_i_i_i_i_i);
@@ -37208,17 +37549,17 @@ L_then_9_i_i_i_i_i_i:;
     v_r32_i1403_i_i_i = (u64)((u64)(v_r65_i_i_i_i_i_i) - (u64)(v_r92_i_i_i_i_i_i));
     v_r27_i4_i_i_i_i = v_r83_i_i_i_i_i_i == 0u;
     v_or_cond2099_i_i = (u1)(((u32)(v_r27_i4_i_i_i_i) | (u32)(v_r15_i1400_i_i_i)) & 1);
-    if (v_or_cond2099_i_i) { goto L_der_core_decode_AnyDecodeRefSliceU8_from_der_70ca1__2; } else { p_v_r0_i_i105_sroa_13_0_i2014_i_i = v_r32_i1403_i_i_i; p_v_r0_i_i105_sroa_12_0_i2013_i_i = v_r29_i1402_i_i_i; p_v_r0_i_i105_sroa_11_0_i2012_i_i = v_r92_i_i_i_i_i_i; p_v_r0_i_i105_sroa_7_0_i2011_i_i = v_r62_i_i_i_i_i_i; goto L_join_5_i_i129_i_i_i; }
+    if (v_or_cond2099_i_i) { goto L_der_core_decode_AnyDecodeRefSliceU8_from_der_f0286__2; } else { p_v_r0_i_i105_sroa_13_0_i2014_i_i = v_r32_i1403_i_i_i; p_v_r0_i_i105_sroa_12_0_i2013_i_i = v_r29_i1402_i_i_i; p_v_r0_i_i105_sroa_11_0_i2012_i_i = v_r92_i_i_i_i_i_i; p_v_r0_i_i105_sroa_7_0_i2011_i_i = v_r62_i_i_i_i_i_i; goto L_join_5_i_i129_i_i_i; }
 L_join_11_i_i_i_i_i_i:;
     v_r104_i_i_i_i_i_i = v_r83_i_i_i_i_i_i == 130u;
     if (v_r104_i_i_i_i_i_i) { goto L_then_12_i_i_i_i_i_i; } else { goto L_join_14_i_i_i_i_i_i; }
 L_then_12_i_i_i_i_i_i:;
     v_r110_i_i_i_i_i_i = v_r32_i1386_i_i_i < 4u;
-    if (v_r110_i_i_i_i_i_i) { goto L_der_core_decode_AnyDecodeRefSliceU8_from_der_70ca1__2; } else { goto L_join_19_i_i_i_i_i_i; }
+    if (v_r110_i_i_i_i_i_i) { goto L_der_core_decode_AnyDecodeRefSliceU8_from_der_f0286__2; } else { goto L_join_19_i_i_i_i_i_i; }
 L_join_19_i_i_i_i_i_i:;
     v_r130_i_i_i_i_i_i = get_u8(v_r62_i_i_i_i_i_i);
     v_r132_not_i_i_i_i_i_i = v_r130_i_i_i_i_i_i == 0u;
-    if (v_r132_not_i_i_i_i_i_i) { goto L_der_core_decode_AnyDecodeRefSliceU8_from_der_70ca1__2; } else { goto L_then_20_i_i_i_i_i_i; }
+    if (v_r132_not_i_i_i_i_i_i) { goto L_der_core_decode_AnyDecodeRefSliceU8_from_der_f0286__2; } else { goto L_then_20_i_i_i_i_i_i; }
 L_then_20_i_i_i_i_i_i:;
     v_r122_i_i_i_i_i_i = (u64)((u64)(v_r32_i1386_i_i_i) + (u64)(18446744073709551612ull));
     v_r117_i_i_i_i_i_i = v_r29_i1385_i_i_i + 3;
@@ -37228,7 +37569,7 @@ L_then_20_i_i_i_i_i_i:;
     v_r145_i_i_i_i_i_i = (u64)v_r143_i_i_i_i_i_i;
     v_r148_i_i_i_i_i_i = (u64)((u64)(v_r141_i_i_i_i_i_i) | (u64)(v_r145_i_i_i_i_i_i));
     v_r15_i1410_i_i_i = v_r122_i_i_i_i_i_i < v_r148_i_i_i_i_i_i;
-    if (v_r15_i1410_i_i_i) { goto L_der_core_decode_AnyDecodeRefSliceU8_from_der_70ca1__2; } else { goto L_join_3_i1411_i_i_i; }
+    if (v_r15_i1410_i_i_i) { goto L_der_core_decode_AnyDecodeRefSliceU8_from_der_f0286__2; } else { goto L_join_3_i1411_i_i_i; }
 L_join_3_i1411_i_i_i:;
     v_r119_i_i_i_i_i_i = v_r29_i1385_i_i_i + 4;
     v_r29_i1412_i_i_i = (P)((u64)v_r119_i_i_i_i_i_i + (u64)(v_r148_i_i_i_i_i_i));
@@ -37236,20 +37577,20 @@ L_join_3_i1411_i_i_i:;
     { p_v_r0_i_i105_sroa_13_0_i2014_i_i = v_r32_i1413_i_i_i; p_v_r0_i_i105_sroa_12_0_i2013_i_i = v_r29_i1412_i_i_i; p_v_r0_i_i105_sroa_11_0_i2012_i_i = v_r148_i_i_i_i_i_i; p_v_r0_i_i105_sroa_7_0_i2011_i_i = v_r119_i_i_i_i_i_i; goto L_join_5_i_i129_i_i_i; }
 L_join_14_i_i_i_i_i_i:;
     v_r163_i_i_i_i_i_i = v_r65_i_i_i_i_i_i == 0u;
-    if (v_r163_i_i_i_i_i_i) { goto L_der_core_decode_AnyDecodeRefSliceU8_from_der_70ca1__2; } else { goto L_join_27_i_i_i_i_i_i; }
+    if (v_r163_i_i_i_i_i_i) { goto L_der_core_decode_AnyDecodeRefSliceU8_from_der_f0286__2; } else { goto L_join_27_i_i_i_i_i_i; }
 L_join_27_i_i_i_i_i_i:;
     v_r170_i_i_i_i_i_i = v_r29_i1385_i_i_i + 3;
     v_r173_i_i_i_i_i_i = (u64)((u64)(v_r32_i1386_i_i_i) + (u64)(18446744073709551613ull));
     v_r182_i_i_i_i_i_i = v_r83_i_i_i_i_i_i == 129u;
-    if (v_r182_i_i_i_i_i_i) { goto L_then_28_i_i_i_i_i_i; } else { goto L_der_core_decode_AnyDecodeRefSliceU8_from_der_70ca1__2; }
+    if (v_r182_i_i_i_i_i_i) { goto L_then_28_i_i_i_i_i_i; } else { goto L_der_core_decode_AnyDecodeRefSliceU8_from_der_f0286__2; }
 L_then_28_i_i_i_i_i_i:;
     v_r187_i_i_i_i_i_i = get_u8(v_r62_i_i_i_i_i_i);
     v_r189_i_i_i_i_i_i = (u8)(v_r187_i_i_i_i_i_i ^ ((u8)1 << 7)) < (u8)(0u ^ ((u8)1 << 7));
-    if (v_r189_i_i_i_i_i_i) { goto L_then_31_i_i_i_i_i_i; } else { goto L_der_core_decode_AnyDecodeRefSliceU8_from_der_70ca1__2; }
+    if (v_r189_i_i_i_i_i_i) { goto L_then_31_i_i_i_i_i_i; } else { goto L_der_core_decode_AnyDecodeRefSliceU8_from_der_f0286__2; }
 L_then_31_i_i_i_i_i_i:;
     v_r199_i_i_i_i_i_i = (u64)v_r187_i_i_i_i_i_i;
     v_r15_i1420_i_i_i = v_r173_i_i_i_i_i_i < v_r199_i_i_i_i_i_i;
-    if (v_r15_i1420_i_i_i) { goto L_der_core_decode_AnyDecodeRefSliceU8_from_der_70ca1__2; } else { goto L_join_3_i1421_i_i_i; }
+    if (v_r15_i1420_i_i_i) { goto L_der_core_decode_AnyDecodeRefSliceU8_from_der_f0286__2; } else { goto L_join_3_i1421_i_i_i; }
 L_join_3_i1421_i_i_i:;
     v_r29_i1422_i_i_i = (P)((u64)v_r170_i_i_i_i_i_i + (u64)(v_r199_i_i_i_i_i_i));
     v_r32_i1423_i_i_i = (u64)((u64)(v_r173_i_i_i_i_i_i) - (u64)(v_r199_i_i_i_i_i_i));
@@ -37268,7 +37609,7 @@ L_arm_6_i_i_i_i_i:;
     if (v_r47_i_i_i_i_i) { p_v_r11_sroa_4_i_i_sroa_0_0_ph_i_i_i = v_r0_i_i105_sroa_7_0_i2011_i_i; p_v_r11_sroa_4_i_i_sroa_5_0_ph_i_i_i = 1u; goto L_arm_1_i116_i_i_i; } else { goto L_der_core_integer_uint_UintRefDecodeValueRefSliceU8; }
 L_default_7_i_i_i_i_i:;
     v_r73_i_i130_i_i_i = (u8)(v_r34_i_i_i_i_i ^ ((u8)1 << 7)) > (u8)(255u ^ ((u8)1 << 7));
-    if (v_r73_i_i130_i_i_i) { p_v_r11_sroa_4_i_i_sroa_0_0_ph_i_i_i = v_r0_i_i105_sroa_7_0_i2011_i_i; p_v_r11_sroa_4_i_i_sroa_5_0_ph_i_i_i = v_r0_i_i105_sroa_11_0_i2012_i_i; goto L_arm_1_i116_i_i_i; } else { goto L_der_core_decode_AnyDecodeRefSliceU8_from_der_70ca1__2; }
+    if (v_r73_i_i130_i_i_i) { p_v_r11_sroa_4_i_i_sroa_0_0_ph_i_i_i = v_r0_i_i105_sroa_7_0_i2011_i_i; p_v_r11_sroa_4_i_i_sroa_5_0_ph_i_i_i = v_r0_i_i105_sroa_11_0_i2012_i_i; goto L_arm_1_i116_i_i_i; } else { goto L_der_core_decode_AnyDecodeRefSliceU8_from_der_f0286__2; }
 L_der_core_integer_uint_UintRefDecodeValueRefSliceU8:;
     v_r37_i_i_i_i_i = v_r0_i_i105_sroa_7_0_i2011_i_i + 1;
     v_r56_i_i_i_i_i = get_u8(v_r37_i_i_i_i_i);
@@ -37276,18 +37617,18 @@ L_der_core_integer_uint_UintRefDecodeValueRefSliceU8:;
     v_r40_i_i_i_i_i = v_r58_i_i_i_i_i ? v_r40_i5_i_i_i_i : 0u;
     v_r37_i_i_i_i_i__2 = v_r58_i_i_i_i_i ? v_r37_i_i_i_i_i : (P)0;
     v_not_i_i_i = (u8)(v_r56_i_i_i_i_i ^ ((u8)1 << 7)) > (u8)(255u ^ ((u8)1 << 7));
-    if (v_not_i_i_i) { goto L_der_core_decode_AnyDecodeRefSliceU8_from_der_70ca1__2; } else { p_v_r11_sroa_4_i_i_sroa_0_0_ph_i_i_i = v_r37_i_i_i_i_i__2; p_v_r11_sroa_4_i_i_sroa_5_0_ph_i_i_i = v_r40_i_i_i_i_i; goto L_arm_1_i116_i_i_i; }
+    if (v_not_i_i_i) { goto L_der_core_decode_AnyDecodeRefSliceU8_from_der_f0286__2; } else { p_v_r11_sroa_4_i_i_sroa_0_0_ph_i_i_i = v_r37_i_i_i_i_i__2; p_v_r11_sroa_4_i_i_sroa_5_0_ph_i_i_i = v_r40_i_i_i_i_i; goto L_arm_1_i116_i_i_i; }
 L_arm_1_i116_i_i_i:;
     v_r11_sroa_4_i_i_sroa_0_0_ph_i_i_i = p_v_r11_sroa_4_i_i_sroa_0_0_ph_i_i_i;
     v_r11_sroa_4_i_i_sroa_5_0_ph_i_i_i = p_v_r11_sroa_4_i_i_sroa_5_0_ph_i_i_i;
     v_r53_i_i_i160_i_i_i = v_r0_i_i105_sroa_13_0_i2014_i_i < 2u;
-    if (v_r53_i_i_i160_i_i_i) { goto L_der_core_decode_AnyDecodeRefSliceU8_from_der_70ca1__2; } else { goto L_join_5_i_i_i161_i_i_i; }
+    if (v_r53_i_i_i160_i_i_i) { goto L_der_core_decode_AnyDecodeRefSliceU8_from_der_f0286__2; } else { goto L_join_5_i_i_i161_i_i_i; }
 L_join_5_i_i_i161_i_i_i:;
     v_r62_i_i_i162_i_i_i = v_r0_i_i105_sroa_12_0_i2013_i_i + 2;
     v_r65_i_i_i163_i_i_i = (u64)((u64)(v_r0_i_i105_sroa_13_0_i2014_i_i) + (u64)(18446744073709551614ull));
     v_r73_i_i_i164_i_i_i = get_u8(v_r0_i_i105_sroa_12_0_i2013_i_i);
     v_r78_i_i_i166_i_i_i = v_r73_i_i_i164_i_i_i == 2u;
-    if (v_r78_i_i_i166_i_i_i) { goto L_then_6_i_i_i241_i_i_i; } else { goto L_der_core_decode_AnyDecodeRefSliceU8_from_der_70ca1__2; }
+    if (v_r78_i_i_i166_i_i_i) { goto L_then_6_i_i_i241_i_i_i; } else { goto L_der_core_decode_AnyDecodeRefSliceU8_from_der_f0286__2; }
 L_then_6_i_i_i241_i_i_i:;
     v_r60_i_i_i242_i_i_i = v_r0_i_i105_sroa_12_0_i2013_i_i + 1;
     v_r83_i_i_i243_i_i_i = get_u8(v_r60_i_i_i242_i_i_i);
@@ -37300,17 +37641,17 @@ L_then_9_i_i_i285_i_i_i:;
     v_r32_i1433_i_i_i = (u64)((u64)(v_r65_i_i_i163_i_i_i) - (u64)(v_r92_i_i_i286_i_i_i));
     v_r27_i4_i213_i_i_i = v_r83_i_i_i243_i_i_i == 0u;
     v_or_cond2100_i_i = (u1)(((u32)(v_r27_i4_i213_i_i_i) | (u32)(v_r15_i1430_i_i_i)) & 1);
-    if (v_or_cond2100_i_i) { goto L_der_core_decode_AnyDecodeRefSliceU8_from_der_70ca1__2; } else { p_v_r0_i_i135_sroa_13_0_i2023_i_i = v_r32_i1433_i_i_i; p_v_r0_i_i135_sroa_12_0_i2022_i_i = v_r29_i1432_i_i_i; p_v_r0_i_i135_sroa_11_0_i2021_i_i = v_r92_i_i_i286_i_i_i; p_v_r0_i_i135_sroa_7_0_i2020_i_i = v_r62_i_i_i162_i_i_i; goto L_join_5_i_i214_i_i_i; }
+    if (v_or_cond2100_i_i) { goto L_der_core_decode_AnyDecodeRefSliceU8_from_der_f0286__2; } else { p_v_r0_i_i135_sroa_13_0_i2023_i_i = v_r32_i1433_i_i_i; p_v_r0_i_i135_sroa_12_0_i2022_i_i = v_r29_i1432_i_i_i; p_v_r0_i_i135_sroa_11_0_i2021_i_i = v_r92_i_i_i286_i_i_i; p_v_r0_i_i135_sroa_7_0_i2020_i_i = v_r62_i_i_i162_i_i_i; goto L_join_5_i_i214_i_i_i; }
 L_join_11_i_i_i245_i_i_i:;
     v_r104_i_i_i246_i_i_i = v_r83_i_i_i243_i_i_i == 130u;
     if (v_r104_i_i_i246_i_i_i) { goto L_then_12_i_i_i262_i_i_i; } else { goto L_join_14_i_i_i247_i_i_i; }
 L_then_12_i_i_i262_i_i_i:;
     v_r110_i_i_i263_i_i_i = v_r0_i_i105_sroa_13_0_i2014_i_i < 4u;
-    if (v_r110_i_i_i263_i_i_i) { goto L_der_core_decode_AnyDecodeRefSliceU8_from_der_70ca1__2; } else { goto L_join_19_i_i_i264_i_i_i; }
+    if (v_r110_i_i_i263_i_i_i) { goto L_der_core_decode_AnyDecodeRefSliceU8_from_der_f0286__2; } else { goto L_join_19_i_i_i264_i_i_i; }
 L_join_19_i_i_i264_i_i_i:;
     v_r130_i_i_i265_i_i_i = get_u8(v_r62_i_i_i162_i_i_i);
     v_r132_not_i_i_i266_i_i_i = v_r130_i_i_i265_i_i_i == 0u;
-    if (v_r132_not_i_i_i266_i_i_i) { goto L_der_core_decode_AnyDecodeRefSliceU8_from_der_70ca1__2; } else { goto L_then_20_i_i_i267_i_i_i; }
+    if (v_r132_not_i_i_i266_i_i_i) { goto L_der_core_decode_AnyDecodeRefSliceU8_from_der_f0286__2; } else { goto L_then_20_i_i_i267_i_i_i; }
 L_then_20_i_i_i267_i_i_i:;
     v_r122_i_i_i268_i_i_i = (u64)((u64)(v_r0_i_i105_sroa_13_0_i2014_i_i) + (u64)(18446744073709551612ull));
     v_r117_i_i_i270_i_i_i = v_r0_i_i105_sroa_12_0_i2013_i_i + 3;
@@ -37320,7 +37661,7 @@ L_then_20_i_i_i267_i_i_i:;
     v_r145_i_i_i274_i_i_i = (u64)v_r143_i_i_i273_i_i_i;
     v_r148_i_i_i275_i_i_i = (u64)((u64)(v_r141_i_i_i272_i_i_i) | (u64)(v_r145_i_i_i274_i_i_i));
     v_r15_i1440_i_i_i = v_r122_i_i_i268_i_i_i < v_r148_i_i_i275_i_i_i;
-    if (v_r15_i1440_i_i_i) { goto L_der_core_decode_AnyDecodeRefSliceU8_from_der_70ca1__2; } else { goto L_join_3_i1441_i_i_i; }
+    if (v_r15_i1440_i_i_i) { goto L_der_core_decode_AnyDecodeRefSliceU8_from_der_f0286__2; } else { goto L_join_3_i1441_i_i_i; }
 L_join_3_i1441_i_i_i:;
     v_r119_i_i_i269_i_i_i = v_r0_i_i105_sroa_12_0_i2013_i_i + 4;
     v_r29_i1442_i_i_i = (P)((u64)v_r119_i_i_i269_i_i_i + (u64)(v_r148_i_i_i275_i_i_i));
@@ -37328,20 +37669,20 @@ L_join_3_i1441_i_i_i:;
     { p_v_r0_i_i135_sroa_13_0_i2023_i_i = v_r32_i1443_i_i_i; p_v_r0_i_i135_sroa_12_0_i2022_i_i = v_r29_i1442_i_i_i; p_v_r0_i_i135_sroa_11_0_i2021_i_i = v_r148_i_i_i275_i_i_i; p_v_r0_i_i135_sroa_7_0_i2020_i_i = v_r119_i_i_i269_i_i_i; goto L_join_5_i_i214_i_i_i; }
 L_join_14_i_i_i247_i_i_i:;
     v_r163_i_i_i248_i_i_i = v_r65_i_i_i163_i_i_i == 0u;
-    if (v_r163_i_i_i248_i_i_i) { goto L_der_core_decode_AnyDecodeRefSliceU8_from_der_70ca1__2; } else { goto L_join_27_i_i_i249_i_i_i; }
+    if (v_r163_i_i_i248_i_i_i) { goto L_der_core_decode_AnyDecodeRefSliceU8_from_der_f0286__2; } else { goto L_join_27_i_i_i249_i_i_i; }
 L_join_27_i_i_i249_i_i_i:;
     v_r170_i_i_i250_i_i_i = v_r0_i_i105_sroa_12_0_i2013_i_i + 3;
     v_r173_i_i_i251_i_i_i = (u64)((u64)(v_r0_i_i105_sroa_13_0_i2014_i_i) + (u64)(18446744073709551613ull));
     v_r182_i_i_i252_i_i_i = v_r83_i_i_i243_i_i_i == 129u;
-    if (v_r182_i_i_i252_i_i_i) { goto L_then_28_i_i_i257_i_i_i; } else { goto L_der_core_decode_AnyDecodeRefSliceU8_from_der_70ca1__2; }
+    if (v_r182_i_i_i252_i_i_i) { goto L_then_28_i_i_i257_i_i_i; } else { goto L_der_core_decode_AnyDecodeRefSliceU8_from_der_f0286__2; }
 L_then_28_i_i_i257_i_i_i:;
     v_r187_i_i_i258_i_i_i = get_u8(v_r62_i_i_i162_i_i_i);
     v_r189_i_i_i259_i_i_i = (u8)(v_r187_i_i_i258_i_i_i ^ ((u8)1 << 7)) < (u8)(0u ^ ((u8)1 << 7));
-    if (v_r189_i_i_i259_i_i_i) { goto L_then_31_i_i_i260_i_i_i; } else { goto L_der_core_decode_AnyDecodeRefSliceU8_from_der_70ca1__2; }
+    if (v_r189_i_i_i259_i_i_i) { goto L_then_31_i_i_i260_i_i_i; } else { goto L_der_core_decode_AnyDecodeRefSliceU8_from_der_f0286__2; }
 L_then_31_i_i_i260_i_i_i:;
     v_r199_i_i_i261_i_i_i = (u64)v_r187_i_i_i258_i_i_i;
     v_r15_i1450_i_i_i = v_r173_i_i_i251_i_i_i < v_r199_i_i_i261_i_i_i;
-    if (v_r15_i1450_i_i_i) { goto L_der_core_decode_AnyDecodeRefSliceU8_from_der_70ca1__2; } else { goto L_join_3_i1451_i_i_i; }
+    if (v_r15_i1450_i_i_i) { goto L_der_core_decode_AnyDecodeRefSliceU8_from_der_f0286__2; } else { goto L_join_3_i1451_i_i_i; }
 L_join_3_i1451_i_i_i:;
     v_r29_i1452_i_i_i = (P)((u64)v_r170_i_i_i250_i_i_i + (u64)(v_r199_i_i_i261_i_i_i));
     v_r32_i1453_i_i_i = (u64)((u64)(v_r173_i_i_i251_i_i_i) - (u64)(v_r199_i_i_i261_i_i_i));
@@ -37360,7 +37701,7 @@ L_arm_6_i_i231_i_i_i:;
     if (v_r47_i_i234_i_i_i) { p_v_r11_sroa_4_i_i142_sroa_0_0_ph_i_i_i = v_r0_i_i135_sroa_7_0_i2020_i_i; p_v_r11_sroa_4_i_i142_sroa_5_0_ph_i_i_i = 1u; goto L_arm_1_i190_i_i_i; } else { goto L_der_core_integer_uint_UintRefDecodeValueRefSliceU8__2; }
 L_default_7_i_i217_i_i_i:;
     v_r73_i_i218_i_i_i = (u8)(v_r34_i_i215_i_i_i ^ ((u8)1 << 7)) > (u8)(255u ^ ((u8)1 << 7));
-    if (v_r73_i_i218_i_i_i) { p_v_r11_sroa_4_i_i142_sroa_0_0_ph_i_i_i = v_r0_i_i135_sroa_7_0_i2020_i_i; p_v_r11_sroa_4_i_i142_sroa_5_0_ph_i_i_i = v_r0_i_i135_sroa_11_0_i2021_i_i; goto L_arm_1_i190_i_i_i; } else { goto L_der_core_decode_AnyDecodeRefSliceU8_from_der_70ca1__2; }
+    if (v_r73_i_i218_i_i_i) { p_v_r11_sroa_4_i_i142_sroa_0_0_ph_i_i_i = v_r0_i_i135_sroa_7_0_i2020_i_i; p_v_r11_sroa_4_i_i142_sroa_5_0_ph_i_i_i = v_r0_i_i135_sroa_11_0_i2021_i_i; goto L_arm_1_i190_i_i_i; } else { goto L_der_core_decode_AnyDecodeRefSliceU8_from_der_f0286__2; }
 L_der_core_integer_uint_UintRefDecodeValueRefSliceU8__2:;
     v_r37_i_i232_i_i_i = v_r0_i_i135_sroa_7_0_i2020_i_i + 1;
     v_r56_i_i236_i_i_i = get_u8(v_r37_i_i232_i_i_i);
@@ -37368,18 +37709,18 @@ L_der_core_integer_uint_UintRefDecodeValueRefSliceU8__2:;
     v_r40_i_i238_i_i_i = v_r58_i_i237_i_i_i ? v_r40_i5_i233_i_i_i : 0u;
     v_r37_i_i239_i_i_i = v_r58_i_i237_i_i_i ? v_r37_i_i232_i_i_i : (P)0;
     v_not2629_i_i_i = (u8)(v_r56_i_i236_i_i_i ^ ((u8)1 << 7)) > (u8)(255u ^ ((u8)1 << 7));
-    if (v_not2629_i_i_i) { goto L_der_core_decode_AnyDecodeRefSliceU8_from_der_70ca1__2; } else { p_v_r11_sroa_4_i_i142_sroa_0_0_ph_i_i_i = v_r37_i_i239_i_i_i; p_v_r11_sroa_4_i_i142_sroa_5_0_ph_i_i_i = v_r40_i_i238_i_i_i; goto L_arm_1_i190_i_i_i; }
+    if (v_not2629_i_i_i) { goto L_der_core_decode_AnyDecodeRefSliceU8_from_der_f0286__2; } else { p_v_r11_sroa_4_i_i142_sroa_0_0_ph_i_i_i = v_r37_i_i239_i_i_i; p_v_r11_sroa_4_i_i142_sroa_5_0_ph_i_i_i = v_r40_i_i238_i_i_i; goto L_arm_1_i190_i_i_i; }
 L_arm_1_i190_i_i_i:;
     v_r11_sroa_4_i_i142_sroa_0_0_ph_i_i_i = p_v_r11_sroa_4_i_i142_sroa_0_0_ph_i_i_i;
     v_r11_sroa_4_i_i142_sroa_5_0_ph_i_i_i = p_v_r11_sroa_4_i_i142_sroa_5_0_ph_i_i_i;
     v_r53_i_i_i320_i_i_i = v_r0_i_i135_sroa_13_0_i2023_i_i < 2u;
-    if (v_r53_i_i_i320_i_i_i) { goto L_der_core_decode_AnyDecodeRefSliceU8_from_der_70ca1__2; } else { goto L_join_5_i_i_i321_i_i_i; }
+    if (v_r53_i_i_i320_i_i_i) { goto L_der_core_decode_AnyDecodeRefSliceU8_from_der_f0286__2; } else { goto L_join_5_i_i_i321_i_i_i; }
 L_join_5_i_i_i321_i_i_i:;
     v_r62_i_i_i322_i_i_i = v_r0_i_i135_sroa_12_0_i2022_i_i + 2;
     v_r65_i_i_i323_i_i_i = (u64)((u64)(v_r0_i_i135_sroa_13_0_i2023_i_i) + (u64)(18446744073709551614ull));
     v_r73_i_i_i324_i_i_i = get_u8(v_r0_i_i135_sroa_12_0_i2022_i_i);
     v_r78_i_i_i326_i_i_i = v_r73_i_i_i324_i_i_i == 2u;
-    if (v_r78_i_i_i326_i_i_i) { goto L_then_6_i_i_i401_i_i_i; } else { goto L_der_core_decode_AnyDecodeRefSliceU8_from_der_70ca1__2; }
+    if (v_r78_i_i_i326_i_i_i) { goto L_then_6_i_i_i401_i_i_i; } else { goto L_der_core_decode_AnyDecodeRefSliceU8_from_der_f0286__2; }
 L_then_6_i_i_i401_i_i_i:;
     v_r60_i_i_i402_i_i_i = v_r0_i_i135_sroa_12_0_i2022_i_i + 1;
     v_r83_i_i_i403_i_i_i = get_u8(v_r60_i_i_i402_i_i_i);
@@ -37392,17 +37733,17 @@ L_then_9_i_i_i445_i_i_i:;
     v_r32_i1463_i_i_i = (u64)((u64)(v_r65_i_i_i323_i_i_i) - (u64)(v_r92_i_i_i446_i_i_i));
     v_r27_i4_i373_i_i_i = v_r83_i_i_i403_i_i_i == 0u;
     v_or_cond2101_i_i = (u1)(((u32)(v_r27_i4_i373_i_i_i) | (u32)(v_r15_i1460_i_i_i)) & 1);
-    if (v_or_cond2101_i_i) { goto L_der_core_decode_AnyDecodeRefSliceU8_from_der_70ca1__2; } else { p_v_r0_i_i295_sroa_13_0_i2032_i_i = v_r32_i1463_i_i_i; p_v_r0_i_i295_sroa_12_0_i2031_i_i = v_r29_i1462_i_i_i; p_v_r0_i_i295_sroa_11_0_i2030_i_i = v_r92_i_i_i446_i_i_i; p_v_r0_i_i295_sroa_7_0_i2029_i_i = v_r62_i_i_i322_i_i_i; goto L_join_5_i_i374_i_i_i; }
+    if (v_or_cond2101_i_i) { goto L_der_core_decode_AnyDecodeRefSliceU8_from_der_f0286__2; } else { p_v_r0_i_i295_sroa_13_0_i2032_i_i = v_r32_i1463_i_i_i; p_v_r0_i_i295_sroa_12_0_i2031_i_i = v_r29_i1462_i_i_i; p_v_r0_i_i295_sroa_11_0_i2030_i_i = v_r92_i_i_i446_i_i_i; p_v_r0_i_i295_sroa_7_0_i2029_i_i = v_r62_i_i_i322_i_i_i; goto L_join_5_i_i374_i_i_i; }
 L_join_11_i_i_i405_i_i_i:;
     v_r104_i_i_i406_i_i_i = v_r83_i_i_i403_i_i_i == 130u;
     if (v_r104_i_i_i406_i_i_i) { goto L_then_12_i_i_i422_i_i_i; } else { goto L_join_14_i_i_i407_i_i_i; }
 L_then_12_i_i_i422_i_i_i:;
     v_r110_i_i_i423_i_i_i = v_r0_i_i135_sroa_13_0_i2023_i_i < 4u;
-    if (v_r110_i_i_i423_i_i_i) { goto L_der_core_decode_AnyDecodeRefSliceU8_from_der_70ca1__2; } else { goto L_join_19_i_i_i424_i_i_i; }
+    if (v_r110_i_i_i423_i_i_i) { goto L_der_core_decode_AnyDecodeRefSliceU8_from_der_f0286__2; } else { goto L_join_19_i_i_i424_i_i_i; }
 L_join_19_i_i_i424_i_i_i:;
     v_r130_i_i_i425_i_i_i = get_u8(v_r62_i_i_i322_i_i_i);
     v_r132_not_i_i_i426_i_i_i = v_r130_i_i_i425_i_i_i == 0u;
-    if (v_r132_not_i_i_i426_i_i_i) { goto L_der_core_decode_AnyDecodeRefSliceU8_from_der_70ca1__2; } else { goto L_then_20_i_i_i427_i_i_i; }
+    if (v_r132_not_i_i_i426_i_i_i) { goto L_der_core_decode_AnyDecodeRefSliceU8_from_der_f0286__2; } else { goto L_then_20_i_i_i427_i_i_i; }
 L_then_20_i_i_i427_i_i_i:;
     v_r122_i_i_i428_i_i_i = (u64)((u64)(v_r0_i_i135_sroa_13_0_i2023_i_i) + (u64)(18446744073709551612ull));
     v_r117_i_i_i430_i_i_i = v_r0_i_i135_sroa_12_0_i2022_i_i + 3;
@@ -37412,7 +37753,7 @@ L_then_20_i_i_i427_i_i_i:;
     v_r145_i_i_i434_i_i_i = (u64)v_r143_i_i_i433_i_i_i;
     v_r148_i_i_i435_i_i_i = (u64)((u64)(v_r141_i_i_i432_i_i_i) | (u64)(v_r145_i_i_i434_i_i_i));
     v_r15_i1470_i_i_i = v_r122_i_i_i428_i_i_i < v_r148_i_i_i435_i_i_i;
-    if (v_r15_i1470_i_i_i) { goto L_der_core_decode_AnyDecodeRefSliceU8_from_der_70ca1__2; } else { goto L_join_3_i1471_i_i_i; }
+    if (v_r15_i1470_i_i_i) { goto L_der_core_decode_AnyDecodeRefSliceU8_from_der_f0286__2; } else { goto L_join_3_i1471_i_i_i; }
 L_join_3_i1471_i_i_i:;
     v_r119_i_i_i429_i_i_i = v_r0_i_i135_sroa_12_0_i2022_i_i + 4;
     v_r29_i1472_i_i_i = (P)((u64)v_r119_i_i_i429_i_i_i + (u64)(v_r148_i_i_i435_i_i_i));
@@ -37420,20 +37761,20 @@ L_join_3_i1471_i_i_i:;
     { p_v_r0_i_i295_sroa_13_0_i2032_i_i = v_r32_i1473_i_i_i; p_v_r0_i_i295_sroa_12_0_i2031_i_i = v_r29_i1472_i_i_i; p_v_r0_i_i295_sroa_11_0_i2030_i_i = v_r148_i_i_i435_i_i_i; p_v_r0_i_i295_sroa_7_0_i2029_i_i = v_r119_i_i_i429_i_i_i; goto L_join_5_i_i374_i_i_i; }
 L_join_14_i_i_i407_i_i_i:;
     v_r163_i_i_i408_i_i_i = v_r65_i_i_i323_i_i_i == 0u;
-    if (v_r163_i_i_i408_i_i_i) { goto L_der_core_decode_AnyDecodeRefSliceU8_from_der_70ca1__2; } else { goto L_join_27_i_i_i409_i_i_i; }
+    if (v_r163_i_i_i408_i_i_i) { goto L_der_core_decode_AnyDecodeRefSliceU8_from_der_f0286__2; } else { goto L_join_27_i_i_i409_i_i_i; }
 L_join_27_i_i_i409_i_i_i:;
     v_r170_i_i_i410_i_i_i = v_r0_i_i135_sroa_12_0_i2022_i_i + 3;
     v_r173_i_i_i411_i_i_i = (u64)((u64)(v_r0_i_i135_sroa_13_0_i2023_i_i) + (u64)(18446744073709551613ull));
     v_r182_i_i_i412_i_i_i = v_r83_i_i_i403_i_i_i == 129u;
-    if (v_r182_i_i_i412_i_i_i) { goto L_then_28_i_i_i417_i_i_i; } else { goto L_der_core_decode_AnyDecodeRefSliceU8_from_der_70ca1__2; }
+    if (v_r182_i_i_i412_i_i_i) { goto L_then_28_i_i_i417_i_i_i; } else { goto L_der_core_decode_AnyDecodeRefSliceU8_from_der_f0286__2; }
 L_then_28_i_i_i417_i_i_i:;
     v_r187_i_i_i418_i_i_i = get_u8(v_r62_i_i_i322_i_i_i);
     v_r189_i_i_i419_i_i_i = (u8)(v_r187_i_i_i418_i_i_i ^ ((u8)1 << 7)) < (u8)(0u ^ ((u8)1 << 7));
-    if (v_r189_i_i_i419_i_i_i) { goto L_then_31_i_i_i420_i_i_i; } else { goto L_der_core_decode_AnyDecodeRefSliceU8_from_der_70ca1__2; }
+    if (v_r189_i_i_i419_i_i_i) { goto L_then_31_i_i_i420_i_i_i; } else { goto L_der_core_decode_AnyDecodeRefSliceU8_from_der_f0286__2; }
 L_then_31_i_i_i420_i_i_i:;
     v_r199_i_i_i421_i_i_i = (u64)v_r187_i_i_i418_i_i_i;
     v_r15_i1480_i_i_i = v_r173_i_i_i411_i_i_i < v_r199_i_i_i421_i_i_i;
-    if (v_r15_i1480_i_i_i) { goto L_der_core_decode_AnyDecodeRefSliceU8_from_der_70ca1__2; } else { goto L_join_3_i1481_i_i_i; }
+    if (v_r15_i1480_i_i_i) { goto L_der_core_decode_AnyDecodeRefSliceU8_from_der_f0286__2; } else { goto L_join_3_i1481_i_i_i; }
 L_join_3_i1481_i_i_i:;
     v_r29_i1482_i_i_i = (P)((u64)v_r170_i_i_i410_i_i_i + (u64)(v_r199_i_i_i421_i_i_i));
     v_r32_i1483_i_i_i = (u64)((u64)(v_r173_i_i_i411_i_i_i) - (u64)(v_r199_i_i_i421_i_i_i));
@@ -37452,7 +37793,7 @@ L_arm_6_i_i391_i_i_i:;
     if (v_r47_i_i394_i_i_i) { p_v_r11_sroa_4_i_i302_sroa_0_0_ph_i_i_i = v_r0_i_i295_sroa_7_0_i2029_i_i; p_v_r11_sroa_4_i_i302_sroa_5_0_ph_i_i_i = 1u; goto L_arm_1_i350_i_i_i; } else { goto L_der_core_integer_uint_UintRefDecodeValueRefSliceU8__3; }
 L_default_7_i_i377_i_i_i:;
     v_r73_i_i378_i_i_i = (u8)(v_r34_i_i375_i_i_i ^ ((u8)1 << 7)) > (u8)(255u ^ ((u8)1 << 7));
-    if (v_r73_i_i378_i_i_i) { p_v_r11_sroa_4_i_i302_sroa_0_0_ph_i_i_i = v_r0_i_i295_sroa_7_0_i2029_i_i; p_v_r11_sroa_4_i_i302_sroa_5_0_ph_i_i_i = v_r0_i_i295_sroa_11_0_i2030_i_i; goto L_arm_1_i350_i_i_i; } else { goto L_der_core_decode_AnyDecodeRefSliceU8_from_der_70ca1__2; }
+    if (v_r73_i_i378_i_i_i) { p_v_r11_sroa_4_i_i302_sroa_0_0_ph_i_i_i = v_r0_i_i295_sroa_7_0_i2029_i_i; p_v_r11_sroa_4_i_i302_sroa_5_0_ph_i_i_i = v_r0_i_i295_sroa_11_0_i2030_i_i; goto L_arm_1_i350_i_i_i; } else { goto L_der_core_decode_AnyDecodeRefSliceU8_from_der_f0286__2; }
 L_der_core_integer_uint_UintRefDecodeValueRefSliceU8__3:;
     v_r37_i_i392_i_i_i = v_r0_i_i295_sroa_7_0_i2029_i_i + 1;
     v_r56_i_i396_i_i_i = get_u8(v_r37_i_i392_i_i_i);
@@ -37460,18 +37801,18 @@ L_der_core_integer_uint_UintRefDecodeValueRefSliceU8__3:;
     v_r40_i_i398_i_i_i = v_r58_i_i397_i_i_i ? v_r40_i5_i393_i_i_i : 0u;
     v_r37_i_i399_i_i_i = v_r58_i_i397_i_i_i ? v_r37_i_i392_i_i_i : (P)0;
     v_not2630_i_i_i = (u8)(v_r56_i_i396_i_i_i ^ ((u8)1 << 7)) > (u8)(255u ^ ((u8)1 << 7));
-    if (v_not2630_i_i_i) { goto L_der_core_decode_AnyDecodeRefSliceU8_from_der_70ca1__2; } else { p_v_r11_sroa_4_i_i302_sroa_0_0_ph_i_i_i = v_r37_i_i399_i_i_i; p_v_r11_sroa_4_i_i302_sroa_5_0_ph_i_i_i = v_r40_i_i398_i_i_i; goto L_arm_1_i350_i_i_i; }
+    if (v_not2630_i_i_i) { goto L_der_core_decode_AnyDecodeRefSliceU8_from_der_f0286__2; } else { p_v_r11_sroa_4_i_i302_sroa_0_0_ph_i_i_i = v_r37_i_i399_i_i_i; p_v_r11_sroa_4_i_i302_sroa_5_0_ph_i_i_i = v_r40_i_i398_i_i_i; goto L_arm_1_i350_i_i_i; }
 L_arm_1_i350_i_i_i:;
     v_r11_sroa_4_i_i302_sroa_0_0_ph_i_i_i = p_v_r11_sroa_4_i_i302_sroa_0_0_ph_i_i_i;
     v_r11_sroa_4_i_i302_sroa_5_0_ph_i_i_i = p_v_r11_sroa_4_i_i302_sroa_5_0_ph_i_i_i;
     v_r53_i_i_i480_i_i_i = v_r0_i_i295_sroa_13_0_i2032_i_i < 2u;
-    if (v_r53_i_i_i480_i_i_i) { goto L_der_core_decode_AnyDecodeRefSliceU8_from_der_70ca1__2; } else { goto L_join_5_i_i_i481_i_i_i; }
+    if (v_r53_i_i_i480_i_i_i) { goto L_der_core_decode_AnyDecodeRefSliceU8_from_der_f0286__2; } else { goto L_join_5_i_i_i481_i_i_i; }
 L_join_5_i_i_i481_i_i_i:;
     v_r62_i_i_i482_i_i_i = v_r0_i_i295_sroa_12_0_i2031_i_i + 2;
     v_r65_i_i_i483_i_i_i = (u64)((u64)(v_r0_i_i295_sroa_13_0_i2032_i_i) + (u64)(18446744073709551614ull));
     v_r73_i_i_i484_i_i_i = get_u8(v_r0_i_i295_sroa_12_0_i2031_i_i);
     v_r78_i_i_i486_i_i_i = v_r73_i_i_i484_i_i_i == 2u;
-    if (v_r78_i_i_i486_i_i_i) { goto L_then_6_i_i_i561_i_i_i; } else { goto L_der_core_decode_AnyDecodeRefSliceU8_from_der_70ca1__2; }
+    if (v_r78_i_i_i486_i_i_i) { goto L_then_6_i_i_i561_i_i_i; } else { goto L_der_core_decode_AnyDecodeRefSliceU8_from_der_f0286__2; }
 L_then_6_i_i_i561_i_i_i:;
     v_r60_i_i_i562_i_i_i = v_r0_i_i295_sroa_12_0_i2031_i_i + 1;
     v_r83_i_i_i563_i_i_i = get_u8(v_r60_i_i_i562_i_i_i);
@@ -37484,17 +37825,17 @@ L_then_9_i_i_i605_i_i_i:;
     v_r32_i1493_i_i_i = (u64)((u64)(v_r65_i_i_i483_i_i_i) - (u64)(v_r92_i_i_i606_i_i_i));
     v_r27_i4_i533_i_i_i = v_r83_i_i_i563_i_i_i == 0u;
     v_or_cond2102_i_i = (u1)(((u32)(v_r27_i4_i533_i_i_i) | (u32)(v_r15_i1490_i_i_i)) & 1);
-    if (v_or_cond2102_i_i) { goto L_der_core_decode_AnyDecodeRefSliceU8_from_der_70ca1__2; } else { p_v_r0_i_i455_sroa_13_0_i2041_i_i = v_r32_i1493_i_i_i; p_v_r0_i_i455_sroa_12_0_i2040_i_i = v_r29_i1492_i_i_i; p_v_r0_i_i455_sroa_11_0_i2039_i_i = v_r92_i_i_i606_i_i_i; p_v_r0_i_i455_sroa_7_0_i2038_i_i = v_r62_i_i_i482_i_i_i; goto L_join_5_i_i534_i_i_i; }
+    if (v_or_cond2102_i_i) { goto L_der_core_decode_AnyDecodeRefSliceU8_from_der_f0286__2; } else { p_v_r0_i_i455_sroa_13_0_i2041_i_i = v_r32_i1493_i_i_i; p_v_r0_i_i455_sroa_12_0_i2040_i_i = v_r29_i1492_i_i_i; p_v_r0_i_i455_sroa_11_0_i2039_i_i = v_r92_i_i_i606_i_i_i; p_v_r0_i_i455_sroa_7_0_i2038_i_i = v_r62_i_i_i482_i_i_i; goto L_join_5_i_i534_i_i_i; }
 L_join_11_i_i_i565_i_i_i:;
     v_r104_i_i_i566_i_i_i = v_r83_i_i_i563_i_i_i == 130u;
     if (v_r104_i_i_i566_i_i_i) { goto L_then_12_i_i_i582_i_i_i; } else { goto L_join_14_i_i_i567_i_i_i; }
 L_then_12_i_i_i582_i_i_i:;
     v_r110_i_i_i583_i_i_i = v_r0_i_i295_sroa_13_0_i2032_i_i < 4u;
-    if (v_r110_i_i_i583_i_i_i) { goto L_der_core_decode_AnyDecodeRefSliceU8_from_der_70ca1__2; } else { goto L_join_19_i_i_i584_i_i_i; }
+    if (v_r110_i_i_i583_i_i_i) { goto L_der_core_decode_AnyDecodeRefSliceU8_from_der_f0286__2; } else { goto L_join_19_i_i_i584_i_i_i; }
 L_join_19_i_i_i584_i_i_i:;
     v_r130_i_i_i585_i_i_i = get_u8(v_r62_i_i_i482_i_i_i);
     v_r132_not_i_i_i586_i_i_i = v_r130_i_i_i585_i_i_i == 0u;
-    if (v_r132_not_i_i_i586_i_i_i) { goto L_der_core_decode_AnyDecodeRefSliceU8_from_der_70ca1__2; } else { goto L_then_20_i_i_i587_i_i_i; }
+    if (v_r132_not_i_i_i586_i_i_i) { goto L_der_core_decode_AnyDecodeRefSliceU8_from_der_f0286__2; } else { goto L_then_20_i_i_i587_i_i_i; }
 L_then_20_i_i_i587_i_i_i:;
     v_r122_i_i_i588_i_i_i = (u64)((u64)(v_r0_i_i295_sroa_13_0_i2032_i_i) + (u64)(18446744073709551612ull));
     v_r117_i_i_i590_i_i_i = v_r0_i_i295_sroa_12_0_i2031_i_i + 3;
@@ -37504,7 +37845,7 @@ L_then_20_i_i_i587_i_i_i:;
     v_r145_i_i_i594_i_i_i = (u64)v_r143_i_i_i593_i_i_i;
     v_r148_i_i_i595_i_i_i = (u64)((u64)(v_r141_i_i_i592_i_i_i) | (u64)(v_r145_i_i_i594_i_i_i));
     v_r15_i1500_i_i_i = v_r122_i_i_i588_i_i_i < v_r148_i_i_i595_i_i_i;
-    if (v_r15_i1500_i_i_i) { goto L_der_core_decode_AnyDecodeRefSliceU8_from_der_70ca1__2; } else { goto L_join_3_i1501_i_i_i; }
+    if (v_r15_i1500_i_i_i) { goto L_der_core_decode_AnyDecodeRefSliceU8_from_der_f0286__2; } else { goto L_join_3_i1501_i_i_i; }
 L_join_3_i1501_i_i_i:;
     v_r119_i_i_i589_i_i_i = v_r0_i_i295_sroa_12_0_i2031_i_i + 4;
     v_r29_i1502_i_i_i = (P)((u64)v_r119_i_i_i589_i_i_i + (u64)(v_r148_i_i_i595_i_i_i));
@@ -37512,20 +37853,20 @@ L_join_3_i1501_i_i_i:;
     { p_v_r0_i_i455_sroa_13_0_i2041_i_i = v_r32_i1503_i_i_i; p_v_r0_i_i455_sroa_12_0_i2040_i_i = v_r29_i1502_i_i_i; p_v_r0_i_i455_sroa_11_0_i2039_i_i = v_r148_i_i_i595_i_i_i; p_v_r0_i_i455_sroa_7_0_i2038_i_i = v_r119_i_i_i589_i_i_i; goto L_join_5_i_i534_i_i_i; }
 L_join_14_i_i_i567_i_i_i:;
     v_r163_i_i_i568_i_i_i = v_r65_i_i_i483_i_i_i == 0u;
-    if (v_r163_i_i_i568_i_i_i) { goto L_der_core_decode_AnyDecodeRefSliceU8_from_der_70ca1__2; } else { goto L_join_27_i_i_i569_i_i_i; }
+    if (v_r163_i_i_i568_i_i_i) { goto L_der_core_decode_AnyDecodeRefSliceU8_from_der_f0286__2; } else { goto L_join_27_i_i_i569_i_i_i; }
 L_join_27_i_i_i569_i_i_i:;
     v_r170_i_i_i570_i_i_i = v_r0_i_i295_sroa_12_0_i2031_i_i + 3;
     v_r173_i_i_i571_i_i_i = (u64)((u64)(v_r0_i_i295_sroa_13_0_i2032_i_i) + (u64)(18446744073709551613ull));
     v_r182_i_i_i572_i_i_i = v_r83_i_i_i563_i_i_i == 129u;
-    if (v_r182_i_i_i572_i_i_i) { goto L_then_28_i_i_i577_i_i_i; } else { goto L_der_core_decode_AnyDecodeRefSliceU8_from_der_70ca1__2; }
+    if (v_r182_i_i_i572_i_i_i) { goto L_then_28_i_i_i577_i_i_i; } else { goto L_der_core_decode_AnyDecodeRefSliceU8_from_der_f0286__2; }
 L_then_28_i_i_i577_i_i_i:;
     v_r187_i_i_i578_i_i_i = get_u8(v_r62_i_i_i482_i_i_i);
     v_r189_i_i_i579_i_i_i = (u8)(v_r187_i_i_i578_i_i_i ^ ((u8)1 << 7)) < (u8)(0u ^ ((u8)1 << 7));
-    if (v_r189_i_i_i579_i_i_i) { goto L_then_31_i_i_i580_i_i_i; } else { goto L_der_core_decode_AnyDecodeRefSliceU8_from_der_70ca1__2; }
+    if (v_r189_i_i_i579_i_i_i) { goto L_then_31_i_i_i580_i_i_i; } else { goto L_der_core_decode_AnyDecodeRefSliceU8_from_der_f0286__2; }
 L_then_31_i_i_i580_i_i_i:;
     v_r199_i_i_i581_i_i_i = (u64)v_r187_i_i_i578_i_i_i;
     v_r15_i1510_i_i_i = v_r173_i_i_i571_i_i_i < v_r199_i_i_i581_i_i_i;
-    if (v_r15_i1510_i_i_i) { goto L_der_core_decode_AnyDecodeRefSliceU8_from_der_70ca1__2; } else { goto L_join_3_i1511_i_i_i; }
+    if (v_r15_i1510_i_i_i) { goto L_der_core_decode_AnyDecodeRefSliceU8_from_der_f0286__2; } else { goto L_join_3_i1511_i_i_i; }
 L_join_3_i1511_i_i_i:;
     v_r29_i1512_i_i_i = (P)((u64)v_r170_i_i_i570_i_i_i + (u64)(v_r199_i_i_i581_i_i_i));
     v_r32_i1513_i_i_i = (u64)((u64)(v_r173_i_i_i571_i_i_i) - (u64)(v_r199_i_i_i581_i_i_i));
@@ -37544,7 +37885,7 @@ L_arm_6_i_i551_i_i_i:;
     if (v_r47_i_i554_i_i_i) { p_v_r11_sroa_4_i_i462_sroa_0_0_ph_i_i_i = v_r0_i_i455_sroa_7_0_i2038_i_i; p_v_r11_sroa_4_i_i462_sroa_5_0_ph_i_i_i = 1u; goto L_arm_1_i510_i_i_i; } else { goto L_der_core_integer_uint_UintRefDecodeValueRefSliceU8__4; }
 L_default_7_i_i537_i_i_i:;
     v_r73_i_i538_i_i_i = (u8)(v_r34_i_i535_i_i_i ^ ((u8)1 << 7)) > (u8)(255u ^ ((u8)1 << 7));
-    if (v_r73_i_i538_i_i_i) { p_v_r11_sroa_4_i_i462_sroa_0_0_ph_i_i_i = v_r0_i_i455_sroa_7_0_i2038_i_i; p_v_r11_sroa_4_i_i462_sroa_5_0_ph_i_i_i = v_r0_i_i455_sroa_11_0_i2039_i_i; goto L_arm_1_i510_i_i_i; } else { goto L_der_core_decode_AnyDecodeRefSliceU8_from_der_70ca1__2; }
+    if (v_r73_i_i538_i_i_i) { p_v_r11_sroa_4_i_i462_sroa_0_0_ph_i_i_i = v_r0_i_i455_sroa_7_0_i2038_i_i; p_v_r11_sroa_4_i_i462_sroa_5_0_ph_i_i_i = v_r0_i_i455_sroa_11_0_i2039_i_i; goto L_arm_1_i510_i_i_i; } else { goto L_der_core_decode_AnyDecodeRefSliceU8_from_der_f0286__2; }
 L_der_core_integer_uint_UintRefDecodeValueRefSliceU8__4:;
     v_r37_i_i552_i_i_i = v_r0_i_i455_sroa_7_0_i2038_i_i + 1;
     v_r56_i_i556_i_i_i = get_u8(v_r37_i_i552_i_i_i);
@@ -37552,18 +37893,18 @@ L_der_core_integer_uint_UintRefDecodeValueRefSliceU8__4:;
     v_r40_i_i558_i_i_i = v_r58_i_i557_i_i_i ? v_r40_i5_i553_i_i_i : 0u;
     v_r37_i_i559_i_i_i = v_r58_i_i557_i_i_i ? v_r37_i_i552_i_i_i : (P)0;
     v_not2631_i_i_i = (u8)(v_r56_i_i556_i_i_i ^ ((u8)1 << 7)) > (u8)(255u ^ ((u8)1 << 7));
-    if (v_not2631_i_i_i) { goto L_der_core_decode_AnyDecodeRefSliceU8_from_der_70ca1__2; } else { p_v_r11_sroa_4_i_i462_sroa_0_0_ph_i_i_i = v_r37_i_i559_i_i_i; p_v_r11_sroa_4_i_i462_sroa_5_0_ph_i_i_i = v_r40_i_i558_i_i_i; goto L_arm_1_i510_i_i_i; }
+    if (v_not2631_i_i_i) { goto L_der_core_decode_AnyDecodeRefSliceU8_from_der_f0286__2; } else { p_v_r11_sroa_4_i_i462_sroa_0_0_ph_i_i_i = v_r37_i_i559_i_i_i; p_v_r11_sroa_4_i_i462_sroa_5_0_ph_i_i_i = v_r40_i_i558_i_i_i; goto L_arm_1_i510_i_i_i; }
 L_arm_1_i510_i_i_i:;
     v_r11_sroa_4_i_i462_sroa_0_0_ph_i_i_i = p_v_r11_sroa_4_i_i462_sroa_0_0_ph_i_i_i;
     v_r11_sroa_4_i_i462_sroa_5_0_ph_i_i_i = p_v_r11_sroa_4_i_i462_sroa_5_0_ph_i_i_i;
     v_r53_i_i_i640_i_i_i = v_r0_i_i455_sroa_13_0_i2041_i_i < 2u;
-    if (v_r53_i_i_i640_i_i_i) { goto L_der_core_decode_AnyDecodeRefSliceU8_from_der_70ca1__2; } else { goto L_join_5_i_i_i641_i_i_i; }
+    if (v_r53_i_i_i640_i_i_i) { goto L_der_core_decode_AnyDecodeRefSliceU8_from_der_f0286__2; } else { goto L_join_5_i_i_i641_i_i_i; }
 L_join_5_i_i_i641_i_i_i:;
     v_r62_i_i_i642_i_i_i = v_r0_i_i455_sroa_12_0_i2040_i_i + 2;
     v_r65_i_i_i643_i_i_i = (u64)((u64)(v_r0_i_i455_sroa_13_0_i2041_i_i) + (u64)(18446744073709551614ull));
     v_r73_i_i_i644_i_i_i = get_u8(v_r0_i_i455_sroa_12_0_i2040_i_i);
     v_r78_i_i_i646_i_i_i = v_r73_i_i_i644_i_i_i == 2u;
-    if (v_r78_i_i_i646_i_i_i) { goto L_then_6_i_i_i721_i_i_i; } else { goto L_der_core_decode_AnyDecodeRefSliceU8_from_der_70ca1__2; }
+    if (v_r78_i_i_i646_i_i_i) { goto L_then_6_i_i_i721_i_i_i; } else { goto L_der_core_decode_AnyDecodeRefSliceU8_from_der_f0286__2; }
 L_then_6_i_i_i721_i_i_i:;
     v_r60_i_i_i722_i_i_i = v_r0_i_i455_sroa_12_0_i2040_i_i + 1;
     v_r83_i_i_i723_i_i_i = get_u8(v_r60_i_i_i722_i_i_i);
@@ -37576,17 +37917,17 @@ L_then_9_i_i_i765_i_i_i:;
     v_r32_i1523_i_i_i = (u64)((u64)(v_r65_i_i_i643_i_i_i) - (u64)(v_r92_i_i_i766_i_i_i));
     v_r27_i4_i693_i_i_i = v_r83_i_i_i723_i_i_i == 0u;
     v_or_cond2103_i_i = (u1)(((u32)(v_r27_i4_i693_i_i_i) | (u32)(v_r15_i1520_i_i_i)) & 1);
-    if (v_or_cond2103_i_i) { goto L_der_core_decode_AnyDecodeRefSliceU8_from_der_70ca1__2; } else { p_v_r0_i_i615_sroa_13_0_i2050_i_i = v_r32_i1523_i_i_i; p_v_r0_i_i615_sroa_12_0_i2049_i_i = v_r29_i1522_i_i_i; p_v_r0_i_i615_sroa_11_0_i2048_i_i = v_r92_i_i_i766_i_i_i; p_v_r0_i_i615_sroa_7_0_i2047_i_i = v_r62_i_i_i642_i_i_i; goto L_join_5_i_i694_i_i_i; }
+    if (v_or_cond2103_i_i) { goto L_der_core_decode_AnyDecodeRefSliceU8_from_der_f0286__2; } else { p_v_r0_i_i615_sroa_13_0_i2050_i_i = v_r32_i1523_i_i_i; p_v_r0_i_i615_sroa_12_0_i2049_i_i = v_r29_i1522_i_i_i; p_v_r0_i_i615_sroa_11_0_i2048_i_i = v_r92_i_i_i766_i_i_i; p_v_r0_i_i615_sroa_7_0_i2047_i_i = v_r62_i_i_i642_i_i_i; goto L_join_5_i_i694_i_i_i; }
 L_join_11_i_i_i725_i_i_i:;
     v_r104_i_i_i726_i_i_i = v_r83_i_i_i723_i_i_i == 130u;
     if (v_r104_i_i_i726_i_i_i) { goto L_then_12_i_i_i742_i_i_i; } else { goto L_join_14_i_i_i727_i_i_i; }
 L_then_12_i_i_i742_i_i_i:;
     v_r110_i_i_i743_i_i_i = v_r0_i_i455_sroa_13_0_i2041_i_i < 4u;
-    if (v_r110_i_i_i743_i_i_i) { goto L_der_core_decode_AnyDecodeRefSliceU8_from_der_70ca1__2; } else { goto L_join_19_i_i_i744_i_i_i; }
+    if (v_r110_i_i_i743_i_i_i) { goto L_der_core_decode_AnyDecodeRefSliceU8_from_der_f0286__2; } else { goto L_join_19_i_i_i744_i_i_i; }
 L_join_19_i_i_i744_i_i_i:;
     v_r130_i_i_i745_i_i_i = get_u8(v_r62_i_i_i642_i_i_i);
     v_r132_not_i_i_i746_i_i_i = v_r130_i_i_i745_i_i_i == 0u;
-    if (v_r132_not_i_i_i746_i_i_i) { goto L_der_core_decode_AnyDecodeRefSliceU8_from_der_70ca1__2; } else { goto L_then_20_i_i_i747_i_i_i; }
+    if (v_r132_not_i_i_i746_i_i_i) { goto L_der_core_decode_AnyDecodeRefSliceU8_from_der_f0286__2; } else { goto L_then_20_i_i_i747_i_i_i; }
 L_then_20_i_i_i747_i_i_i:;
     v_r122_i_i_i748_i_i_i = (u64)((u64)(v_r0_i_i455_sroa_13_0_i2041_i_i) + (u64)(18446744073709551612ull));
     v_r117_i_i_i750_i_i_i = v_r0_i_i455_sroa_12_0_i2040_i_i + 3;
@@ -37596,7 +37937,7 @@ L_then_20_i_i_i747_i_i_i:;
     v_r145_i_i_i754_i_i_i = (u64)v_r143_i_i_i753_i_i_i;
     v_r148_i_i_i755_i_i_i = (u64)((u64)(v_r141_i_i_i752_i_i_i) | (u64)(v_r145_i_i_i754_i_i_i));
     v_r15_i1530_i_i_i = v_r122_i_i_i748_i_i_i < v_r148_i_i_i755_i_i_i;
-    if (v_r15_i1530_i_i_i) { goto L_der_core_decode_AnyDecodeRefSliceU8_from_der_70ca1__2; } else { goto L_join_3_i1531_i_i_i; }
+    if (v_r15_i1530_i_i_i) { goto L_der_core_decode_AnyDecodeRefSliceU8_from_der_f0286__2; } else { goto L_join_3_i1531_i_i_i; }
 L_join_3_i1531_i_i_i:;
     v_r119_i_i_i749_i_i_i = v_r0_i_i455_sroa_12_0_i2040_i_i + 4;
     v_r29_i1532_i_i_i = (P)((u64)v_r119_i_i_i749_i_i_i + (u64)(v_r148_i_i_i755_i_i_i));
@@ -37604,20 +37945,20 @@ L_join_3_i1531_i_i_i:;
     { p_v_r0_i_i615_sroa_13_0_i2050_i_i = v_r32_i1533_i_i_i; p_v_r0_i_i615_sroa_12_0_i2049_i_i = v_r29_i1532_i_i_i; p_v_r0_i_i615_sroa_11_0_i2048_i_i = v_r148_i_i_i755_i_i_i; p_v_r0_i_i615_sroa_7_0_i2047_i_i = v_r119_i_i_i749_i_i_i; goto L_join_5_i_i694_i_i_i; }
 L_join_14_i_i_i727_i_i_i:;
     v_r163_i_i_i728_i_i_i = v_r65_i_i_i643_i_i_i == 0u;
-    if (v_r163_i_i_i728_i_i_i) { goto L_der_core_decode_AnyDecodeRefSliceU8_from_der_70ca1__2; } else { goto L_join_27_i_i_i729_i_i_i; }
+    if (v_r163_i_i_i728_i_i_i) { goto L_der_core_decode_AnyDecodeRefSliceU8_from_der_f0286__2; } else { goto L_join_27_i_i_i729_i_i_i; }
 L_join_27_i_i_i729_i_i_i:;
     v_r170_i_i_i730_i_i_i = v_r0_i_i455_sroa_12_0_i2040_i_i + 3;
     v_r173_i_i_i731_i_i_i = (u64)((u64)(v_r0_i_i455_sroa_13_0_i2041_i_i) + (u64)(18446744073709551613ull));
     v_r182_i_i_i732_i_i_i = v_r83_i_i_i723_i_i_i == 129u;
-    if (v_r182_i_i_i732_i_i_i) { goto L_then_28_i_i_i737_i_i_i; } else { goto L_der_core_decode_AnyDecodeRefSliceU8_from_der_70ca1__2; }
+    if (v_r182_i_i_i732_i_i_i) { goto L_then_28_i_i_i737_i_i_i; } else { goto L_der_core_decode_AnyDecodeRefSliceU8_from_der_f0286__2; }
 L_then_28_i_i_i737_i_i_i:;
     v_r187_i_i_i738_i_i_i = get_u8(v_r62_i_i_i642_i_i_i);
     v_r189_i_i_i739_i_i_i = (u8)(v_r187_i_i_i738_i_i_i ^ ((u8)1 << 7)) < (u8)(0u ^ ((u8)1 << 7));
-    if (v_r189_i_i_i739_i_i_i) { goto L_then_31_i_i_i740_i_i_i; } else { goto L_der_core_decode_AnyDecodeRefSliceU8_from_der_70ca1__2; }
+    if (v_r189_i_i_i739_i_i_i) { goto L_then_31_i_i_i740_i_i_i; } else { goto L_der_core_decode_AnyDecodeRefSliceU8_from_der_f0286__2; }
 L_then_31_i_i_i740_i_i_i:;
     v_r199_i_i_i741_i_i_i = (u64)v_r187_i_i_i738_i_i_i;
     v_r15_i1540_i_i_i = v_r173_i_i_i731_i_i_i < v_r199_i_i_i741_i_i_i;
-    if (v_r15_i1540_i_i_i) { goto L_der_core_decode_AnyDecodeRefSliceU8_from_der_70ca1__2; } else { goto L_join_3_i1541_i_i_i; }
+    if (v_r15_i1540_i_i_i) { goto L_der_core_decode_AnyDecodeRefSliceU8_from_der_f0286__2; } else { goto L_join_3_i1541_i_i_i; }
 L_join_3_i1541_i_i_i:;
     v_r29_i1542_i_i_i = (P)((u64)v_r170_i_i_i730_i_i_i + (u64)(v_r199_i_i_i741_i_i_i));
     v_r32_i1543_i_i_i = (u64)((u64)(v_r173_i_i_i731_i_i_i) - (u64)(v_r199_i_i_i741_i_i_i));
@@ -37636,7 +37977,7 @@ L_arm_6_i_i711_i_i_i:;
     if (v_r47_i_i714_i_i_i) { p_v_r11_sroa_4_i_i622_sroa_0_0_ph_i_i_i = v_r0_i_i615_sroa_7_0_i2047_i_i; p_v_r11_sroa_4_i_i622_sroa_5_0_ph_i_i_i = 1u; goto L_arm_1_i670_i_i_i; } else { goto L_der_core_integer_uint_UintRefDecodeValueRefSliceU8__5; }
 L_default_7_i_i697_i_i_i:;
     v_r73_i_i698_i_i_i = (u8)(v_r34_i_i695_i_i_i ^ ((u8)1 << 7)) > (u8)(255u ^ ((u8)1 << 7));
-    if (v_r73_i_i698_i_i_i) { p_v_r11_sroa_4_i_i622_sroa_0_0_ph_i_i_i = v_r0_i_i615_sroa_7_0_i2047_i_i; p_v_r11_sroa_4_i_i622_sroa_5_0_ph_i_i_i = v_r0_i_i615_sroa_11_0_i2048_i_i; goto L_arm_1_i670_i_i_i; } else { goto L_der_core_decode_AnyDecodeRefSliceU8_from_der_70ca1__2; }
+    if (v_r73_i_i698_i_i_i) { p_v_r11_sroa_4_i_i622_sroa_0_0_ph_i_i_i = v_r0_i_i615_sroa_7_0_i2047_i_i; p_v_r11_sroa_4_i_i622_sroa_5_0_ph_i_i_i = v_r0_i_i615_sroa_11_0_i2048_i_i; goto L_arm_1_i670_i_i_i; } else { goto L_der_core_decode_AnyDecodeRefSliceU8_from_der_f0286__2; }
 L_der_core_integer_uint_UintRefDecodeValueRefSliceU8__5:;
     v_r37_i_i712_i_i_i = v_r0_i_i615_sroa_7_0_i2047_i_i + 1;
     v_r56_i_i716_i_i_i = get_u8(v_r37_i_i712_i_i_i);
@@ -37644,18 +37985,18 @@ L_der_core_integer_uint_UintRefDecodeValueRefSliceU8__5:;
     v_r40_i_i718_i_i_i = v_r58_i_i717_i_i_i ? v_r40_i5_i713_i_i_i : 0u;
     v_r37_i_i719_i_i_i = v_r58_i_i717_i_i_i ? v_r37_i_i712_i_i_i : (P)0;
     v_not2632_i_i_i = (u8)(v_r56_i_i716_i_i_i ^ ((u8)1 << 7)) > (u8)(255u ^ ((u8)1 << 7));
-    if (v_not2632_i_i_i) { goto L_der_core_decode_AnyDecodeRefSliceU8_from_der_70ca1__2; } else { p_v_r11_sroa_4_i_i622_sroa_0_0_ph_i_i_i = v_r37_i_i719_i_i_i; p_v_r11_sroa_4_i_i622_sroa_5_0_ph_i_i_i = v_r40_i_i718_i_i_i; goto L_arm_1_i670_i_i_i; }
+    if (v_not2632_i_i_i) { goto L_der_core_decode_AnyDecodeRefSliceU8_from_der_f0286__2; } else { p_v_r11_sroa_4_i_i622_sroa_0_0_ph_i_i_i = v_r37_i_i719_i_i_i; p_v_r11_sroa_4_i_i622_sroa_5_0_ph_i_i_i = v_r40_i_i718_i_i_i; goto L_arm_1_i670_i_i_i; }
 L_arm_1_i670_i_i_i:;
     v_r11_sroa_4_i_i622_sroa_0_0_ph_i_i_i = p_v_r11_sroa_4_i_i622_sroa_0_0_ph_i_i_i;
     v_r11_sroa_4_i_i622_sroa_5_0_ph_i_i_i = p_v_r11_sroa_4_i_i622_sroa_5_0_ph_i_i_i;
     v_r53_i_i_i800_i_i_i = v_r0_i_i615_sroa_13_0_i2050_i_i < 2u;
-    if (v_r53_i_i_i800_i_i_i) { goto L_der_core_decode_AnyDecodeRefSliceU8_from_der_70ca1__2; } else { goto L_join_5_i_i_i801_i_i_i; }
+    if (v_r53_i_i_i800_i_i_i) { goto L_der_core_decode_AnyDecodeRefSliceU8_from_der_f0286__2; } else { goto L_join_5_i_i_i801_i_i_i; }
 L_join_5_i_i_i801_i_i_i:;
     v_r62_i_i_i802_i_i_i = v_r0_i_i615_sroa_12_0_i2049_i_i + 2;
     v_r65_i_i_i803_i_i_i = (u64)((u64)(v_r0_i_i615_sroa_13_0_i2050_i_i) + (u64)(18446744073709551614ull));
     v_r73_i_i_i804_i_i_i = get_u8(v_r0_i_i615_sroa_12_0_i2049_i_i);
     v_r78_i_i_i806_i_i_i = v_r73_i_i_i804_i_i_i == 2u;
-    if (v_r78_i_i_i806_i_i_i) { goto L_then_6_i_i_i881_i_i_i; } else { goto L_der_core_decode_AnyDecodeRefSliceU8_from_der_70ca1__2; }
+    if (v_r78_i_i_i806_i_i_i) { goto L_then_6_i_i_i881_i_i_i; } else { goto L_der_core_decode_AnyDecodeRefSliceU8_from_der_f0286__2; }
 L_then_6_i_i_i881_i_i_i:;
     v_r60_i_i_i882_i_i_i = v_r0_i_i615_sroa_12_0_i2049_i_i + 1;
     v_r83_i_i_i883_i_i_i = get_u8(v_r60_i_i_i882_i_i_i);
@@ -37668,17 +38009,17 @@ L_then_9_i_i_i925_i_i_i:;
     v_r32_i1553_i_i_i = (u64)((u64)(v_r65_i_i_i803_i_i_i) - (u64)(v_r92_i_i_i926_i_i_i));
     v_r27_i4_i853_i_i_i = v_r83_i_i_i883_i_i_i == 0u;
     v_or_cond2104_i_i = (u1)(((u32)(v_r27_i4_i853_i_i_i) | (u32)(v_r15_i1550_i_i_i)) & 1);
-    if (v_or_cond2104_i_i) { goto L_der_core_decode_AnyDecodeRefSliceU8_from_der_70ca1__2; } else { p_v_r0_i_i775_sroa_13_0_i2059_i_i = v_r32_i1553_i_i_i; p_v_r0_i_i775_sroa_12_0_i2058_i_i = v_r29_i1552_i_i_i; p_v_r0_i_i775_sroa_11_0_i2057_i_i = v_r92_i_i_i926_i_i_i; p_v_r0_i_i775_sroa_7_0_i2056_i_i = v_r62_i_i_i802_i_i_i; goto L_join_5_i_i854_i_i_i; }
+    if (v_or_cond2104_i_i) { goto L_der_core_decode_AnyDecodeRefSliceU8_from_der_f0286__2; } else { p_v_r0_i_i775_sroa_13_0_i2059_i_i = v_r32_i1553_i_i_i; p_v_r0_i_i775_sroa_12_0_i2058_i_i = v_r29_i1552_i_i_i; p_v_r0_i_i775_sroa_11_0_i2057_i_i = v_r92_i_i_i926_i_i_i; p_v_r0_i_i775_sroa_7_0_i2056_i_i = v_r62_i_i_i802_i_i_i; goto L_join_5_i_i854_i_i_i; }
 L_join_11_i_i_i885_i_i_i:;
     v_r104_i_i_i886_i_i_i = v_r83_i_i_i883_i_i_i == 130u;
     if (v_r104_i_i_i886_i_i_i) { goto L_then_12_i_i_i902_i_i_i; } else { goto L_join_14_i_i_i887_i_i_i; }
 L_then_12_i_i_i902_i_i_i:;
     v_r110_i_i_i903_i_i_i = v_r0_i_i615_sroa_13_0_i2050_i_i < 4u;
-    if (v_r110_i_i_i903_i_i_i) { goto L_der_core_decode_AnyDecodeRefSliceU8_from_der_70ca1__2; } else { goto L_join_19_i_i_i904_i_i_i; }
+    if (v_r110_i_i_i903_i_i_i) { goto L_der_core_decode_AnyDecodeRefSliceU8_from_der_f0286__2; } else { goto L_join_19_i_i_i904_i_i_i; }
 L_join_19_i_i_i904_i_i_i:;
     v_r130_i_i_i905_i_i_i = get_u8(v_r62_i_i_i802_i_i_i);
     v_r132_not_i_i_i906_i_i_i = v_r130_i_i_i905_i_i_i == 0u;
-    if (v_r132_not_i_i_i906_i_i_i) { goto L_der_core_decode_AnyDecodeRefSliceU8_from_der_70ca1__2; } else { goto L_then_20_i_i_i907_i_i_i; }
+    if (v_r132_not_i_i_i906_i_i_i) { goto L_der_core_decode_AnyDecodeRefSliceU8_from_der_f0286__2; } else { goto L_then_20_i_i_i907_i_i_i; }
 L_then_20_i_i_i907_i_i_i:;
     v_r122_i_i_i908_i_i_i = (u64)((u64)(v_r0_i_i615_sroa_13_0_i2050_i_i) + (u64)(18446744073709551612ull));
     v_r117_i_i_i910_i_i_i = v_r0_i_i615_sroa_12_0_i2049_i_i + 3;
@@ -37688,7 +38029,7 @@ L_then_20_i_i_i907_i_i_i:;
     v_r145_i_i_i914_i_i_i = (u64)v_r143_i_i_i913_i_i_i;
     v_r148_i_i_i915_i_i_i = (u64)((u64)(v_r141_i_i_i912_i_i_i) | (u64)(v_r145_i_i_i914_i_i_i));
     v_r15_i1560_i_i_i = v_r122_i_i_i908_i_i_i < v_r148_i_i_i915_i_i_i;
-    if (v_r15_i1560_i_i_i) { goto L_der_core_decode_AnyDecodeRefSliceU8_from_der_70ca1__2; } else { goto L_join_3_i1561_i_i_i; }
+    if (v_r15_i1560_i_i_i) { goto L_der_core_decode_AnyDecodeRefSliceU8_from_der_f0286__2; } else { goto L_join_3_i1561_i_i_i; }
 L_join_3_i1561_i_i_i:;
     v_r119_i_i_i909_i_i_i = v_r0_i_i615_sroa_12_0_i2049_i_i + 4;
     v_r29_i1562_i_i_i = (P)((u64)v_r119_i_i_i909_i_i_i + (u64)(v_r148_i_i_i915_i_i_i));
@@ -37696,20 +38037,20 @@ L_join_3_i1561_i_i_i:;
     { p_v_r0_i_i775_sroa_13_0_i2059_i_i = v_r32_i1563_i_i_i; p_v_r0_i_i775_sroa_12_0_i2058_i_i = v_r29_i1562_i_i_i; p_v_r0_i_i775_sroa_11_0_i2057_i_i = v_r148_i_i_i915_i_i_i; p_v_r0_i_i775_sroa_7_0_i2056_i_i = v_r119_i_i_i909_i_i_i; goto L_join_5_i_i854_i_i_i; }
 L_join_14_i_i_i887_i_i_i:;
     v_r163_i_i_i888_i_i_i = v_r65_i_i_i803_i_i_i == 0u;
-    if (v_r163_i_i_i888_i_i_i) { goto L_der_core_decode_AnyDecodeRefSliceU8_from_der_70ca1__2; } else { goto L_join_27_i_i_i889_i_i_i; }
+    if (v_r163_i_i_i888_i_i_i) { goto L_der_core_decode_AnyDecodeRefSliceU8_from_der_f0286__2; } else { goto L_join_27_i_i_i889_i_i_i; }
 L_join_27_i_i_i889_i_i_i:;
     v_r170_i_i_i890_i_i_i = v_r0_i_i615_sroa_12_0_i2049_i_i + 3;
     v_r173_i_i_i891_i_i_i = (u64)((u64)(v_r0_i_i615_sroa_13_0_i2050_i_i) + (u64)(18446744073709551613ull));
     v_r182_i_i_i892_i_i_i = v_r83_i_i_i883_i_i_i == 129u;
-    if (v_r182_i_i_i892_i_i_i) { goto L_then_28_i_i_i897_i_i_i; } else { goto L_der_core_decode_AnyDecodeRefSliceU8_from_der_70ca1__2; }
+    if (v_r182_i_i_i892_i_i_i) { goto L_then_28_i_i_i897_i_i_i; } else { goto L_der_core_decode_AnyDecodeRefSliceU8_from_der_f0286__2; }
 L_then_28_i_i_i897_i_i_i:;
     v_r187_i_i_i898_i_i_i = get_u8(v_r62_i_i_i802_i_i_i);
     v_r189_i_i_i899_i_i_i = (u8)(v_r187_i_i_i898_i_i_i ^ ((u8)1 << 7)) < (u8)(0u ^ ((u8)1 << 7));
-    if (v_r189_i_i_i899_i_i_i) { goto L_then_31_i_i_i900_i_i_i; } else { goto L_der_core_decode_AnyDecodeRefSliceU8_from_der_70ca1__2; }
+    if (v_r189_i_i_i899_i_i_i) { goto L_then_31_i_i_i900_i_i_i; } else { goto L_der_core_decode_AnyDecodeRefSliceU8_from_der_f0286__2; }
 L_then_31_i_i_i900_i_i_i:;
     v_r199_i_i_i901_i_i_i = (u64)v_r187_i_i_i898_i_i_i;
     v_r15_i1570_i_i_i = v_r173_i_i_i891_i_i_i < v_r199_i_i_i901_i_i_i;
-    if (v_r15_i1570_i_i_i) { goto L_der_core_decode_AnyDecodeRefSliceU8_from_der_70ca1__2; } else { goto L_join_3_i1571_i_i_i; }
+    if (v_r15_i1570_i_i_i) { goto L_der_core_decode_AnyDecodeRefSliceU8_from_der_f0286__2; } else { goto L_join_3_i1571_i_i_i; }
 L_join_3_i1571_i_i_i:;
     v_r29_i1572_i_i_i = (P)((u64)v_r170_i_i_i890_i_i_i + (u64)(v_r199_i_i_i901_i_i_i));
     v_r32_i1573_i_i_i = (u64)((u64)(v_r173_i_i_i891_i_i_i) - (u64)(v_r199_i_i_i901_i_i_i));
@@ -37728,7 +38069,7 @@ L_arm_6_i_i871_i_i_i:;
     if (v_r47_i_i874_i_i_i) { p_v_r11_sroa_4_i_i782_sroa_0_0_ph_i_i_i = v_r0_i_i775_sroa_7_0_i2056_i_i; p_v_r11_sroa_4_i_i782_sroa_5_0_ph_i_i_i = 1u; goto L_arm_1_i830_i_i_i; } else { goto L_der_core_integer_uint_UintRefDecodeValueRefSliceU8__6; }
 L_default_7_i_i857_i_i_i:;
     v_r73_i_i858_i_i_i = (u8)(v_r34_i_i855_i_i_i ^ ((u8)1 << 7)) > (u8)(255u ^ ((u8)1 << 7));
-    if (v_r73_i_i858_i_i_i) { p_v_r11_sroa_4_i_i782_sroa_0_0_ph_i_i_i = v_r0_i_i775_sroa_7_0_i2056_i_i; p_v_r11_sroa_4_i_i782_sroa_5_0_ph_i_i_i = v_r0_i_i775_sroa_11_0_i2057_i_i; goto L_arm_1_i830_i_i_i; } else { goto L_der_core_decode_AnyDecodeRefSliceU8_from_der_70ca1__2; }
+    if (v_r73_i_i858_i_i_i) { p_v_r11_sroa_4_i_i782_sroa_0_0_ph_i_i_i = v_r0_i_i775_sroa_7_0_i2056_i_i; p_v_r11_sroa_4_i_i782_sroa_5_0_ph_i_i_i = v_r0_i_i775_sroa_11_0_i2057_i_i; goto L_arm_1_i830_i_i_i; } else { goto L_der_core_decode_AnyDecodeRefSliceU8_from_der_f0286__2; }
 L_der_core_integer_uint_UintRefDecodeValueRefSliceU8__6:;
     v_r37_i_i872_i_i_i = v_r0_i_i775_sroa_7_0_i2056_i_i + 1;
     v_r56_i_i876_i_i_i = get_u8(v_r37_i_i872_i_i_i);
@@ -37736,18 +38077,18 @@ L_der_core_integer_uint_UintRefDecodeValueRefSliceU8__6:;
     v_r40_i_i878_i_i_i = v_r58_i_i877_i_i_i ? v_r40_i5_i873_i_i_i : 0u;
     v_r37_i_i879_i_i_i = v_r58_i_i877_i_i_i ? v_r37_i_i872_i_i_i : (P)0;
     v_not2633_i_i_i = (u8)(v_r56_i_i876_i_i_i ^ ((u8)1 << 7)) > (u8)(255u ^ ((u8)1 << 7));
-    if (v_not2633_i_i_i) { goto L_der_core_decode_AnyDecodeRefSliceU8_from_der_70ca1__2; } else { p_v_r11_sroa_4_i_i782_sroa_0_0_ph_i_i_i = v_r37_i_i879_i_i_i; p_v_r11_sroa_4_i_i782_sroa_5_0_ph_i_i_i = v_r40_i_i878_i_i_i; goto L_arm_1_i830_i_i_i; }
+    if (v_not2633_i_i_i) { goto L_der_core_decode_AnyDecodeRefSliceU8_from_der_f0286__2; } else { p_v_r11_sroa_4_i_i782_sroa_0_0_ph_i_i_i = v_r37_i_i879_i_i_i; p_v_r11_sroa_4_i_i782_sroa_5_0_ph_i_i_i = v_r40_i_i878_i_i_i; goto L_arm_1_i830_i_i_i; }
 L_arm_1_i830_i_i_i:;
     v_r11_sroa_4_i_i782_sroa_0_0_ph_i_i_i = p_v_r11_sroa_4_i_i782_sroa_0_0_ph_i_i_i;
     v_r11_sroa_4_i_i782_sroa_5_0_ph_i_i_i = p_v_r11_sroa_4_i_i782_sroa_5_0_ph_i_i_i;
     v_r53_i_i_i960_i_i_i = v_r0_i_i775_sroa_13_0_i2059_i_i < 2u;
-    if (v_r53_i_i_i960_i_i_i) { goto L_der_core_decode_AnyDecodeRefSliceU8_from_der_70ca1__2; } else { goto L_join_5_i_i_i961_i_i_i; }
+    if (v_r53_i_i_i960_i_i_i) { goto L_der_core_decode_AnyDecodeRefSliceU8_from_der_f0286__2; } else { goto L_join_5_i_i_i961_i_i_i; }
 L_join_5_i_i_i961_i_i_i:;
     v_r62_i_i_i962_i_i_i = v_r0_i_i775_sroa_12_0_i2058_i_i + 2;
     v_r65_i_i_i963_i_i_i = (u64)((u64)(v_r0_i_i775_sroa_13_0_i2059_i_i) + (u64)(18446744073709551614ull));
     v_r73_i_i_i964_i_i_i = get_u8(v_r0_i_i775_sroa_12_0_i2058_i_i);
     v_r78_i_i_i966_i_i_i = v_r73_i_i_i964_i_i_i == 2u;
-    if (v_r78_i_i_i966_i_i_i) { goto L_then_6_i_i_i1041_i_i_i; } else { goto L_der_core_decode_AnyDecodeRefSliceU8_from_der_70ca1__2; }
+    if (v_r78_i_i_i966_i_i_i) { goto L_then_6_i_i_i1041_i_i_i; } else { goto L_der_core_decode_AnyDecodeRefSliceU8_from_der_f0286__2; }
 L_then_6_i_i_i1041_i_i_i:;
     v_r60_i_i_i1042_i_i_i = v_r0_i_i775_sroa_12_0_i2058_i_i + 1;
     v_r83_i_i_i1043_i_i_i = get_u8(v_r60_i_i_i1042_i_i_i);
@@ -37760,17 +38101,17 @@ L_then_9_i_i_i1085_i_i_i:;
     v_r32_i1583_i_i_i = (u64)((u64)(v_r65_i_i_i963_i_i_i) - (u64)(v_r92_i_i_i1086_i_i_i));
     v_r27_i4_i1013_i_i_i = v_r83_i_i_i1043_i_i_i == 0u;
     v_or_cond2105_i_i = (u1)(((u32)(v_r27_i4_i1013_i_i_i) | (u32)(v_r15_i1580_i_i_i)) & 1);
-    if (v_or_cond2105_i_i) { goto L_der_core_decode_AnyDecodeRefSliceU8_from_der_70ca1__2; } else { p_v_r0_i_i935_sroa_13_0_i2068_i_i = v_r32_i1583_i_i_i; p_v_r0_i_i935_sroa_12_0_i2067_i_i = v_r29_i1582_i_i_i; p_v_r0_i_i935_sroa_11_0_i2066_i_i = v_r92_i_i_i1086_i_i_i; p_v_r0_i_i935_sroa_7_0_i2065_i_i = v_r62_i_i_i962_i_i_i; goto L_join_5_i_i1014_i_i_i; }
+    if (v_or_cond2105_i_i) { goto L_der_core_decode_AnyDecodeRefSliceU8_from_der_f0286__2; } else { p_v_r0_i_i935_sroa_13_0_i2068_i_i = v_r32_i1583_i_i_i; p_v_r0_i_i935_sroa_12_0_i2067_i_i = v_r29_i1582_i_i_i; p_v_r0_i_i935_sroa_11_0_i2066_i_i = v_r92_i_i_i1086_i_i_i; p_v_r0_i_i935_sroa_7_0_i2065_i_i = v_r62_i_i_i962_i_i_i; goto L_join_5_i_i1014_i_i_i; }
 L_join_11_i_i_i1045_i_i_i:;
     v_r104_i_i_i1046_i_i_i = v_r83_i_i_i1043_i_i_i == 130u;
     if (v_r104_i_i_i1046_i_i_i) { goto L_then_12_i_i_i1062_i_i_i; } else { goto L_join_14_i_i_i1047_i_i_i; }
 L_then_12_i_i_i1062_i_i_i:;
     v_r110_i_i_i1063_i_i_i = v_r0_i_i775_sroa_13_0_i2059_i_i < 4u;
-    if (v_r110_i_i_i1063_i_i_i) { goto L_der_core_decode_AnyDecodeRefSliceU8_from_der_70ca1__2; } else { goto L_join_19_i_i_i1064_i_i_i; }
+    if (v_r110_i_i_i1063_i_i_i) { goto L_der_core_decode_AnyDecodeRefSliceU8_from_der_f0286__2; } else { goto L_join_19_i_i_i1064_i_i_i; }
 L_join_19_i_i_i1064_i_i_i:;
     v_r130_i_i_i1065_i_i_i = get_u8(v_r62_i_i_i962_i_i_i);
     v_r132_not_i_i_i1066_i_i_i = v_r130_i_i_i1065_i_i_i == 0u;
-    if (v_r132_not_i_i_i1066_i_i_i) { goto L_der_core_decode_AnyDecodeRefSliceU8_from_der_70ca1__2; } else { goto L_then_20_i_i_i1067_i_i_i; }
+    if (v_r132_not_i_i_i1066_i_i_i) { goto L_der_core_decode_AnyDecodeRefSliceU8_from_der_f0286__2; } else { goto L_then_20_i_i_i1067_i_i_i; }
 L_then_20_i_i_i1067_i_i_i:;
     v_r122_i_i_i1068_i_i_i = (u64)((u64)(v_r0_i_i775_sroa_13_0_i2059_i_i) + (u64)(18446744073709551612ull));
     v_r117_i_i_i1070_i_i_i = v_r0_i_i775_sroa_12_0_i2058_i_i + 3;
@@ -37780,7 +38121,7 @@ L_then_20_i_i_i1067_i_i_i:;
     v_r145_i_i_i1074_i_i_i = (u64)v_r143_i_i_i1073_i_i_i;
     v_r148_i_i_i1075_i_i_i = (u64)((u64)(v_r141_i_i_i1072_i_i_i) | (u64)(v_r145_i_i_i1074_i_i_i));
     v_r15_i1590_i_i_i = v_r122_i_i_i1068_i_i_i < v_r148_i_i_i1075_i_i_i;
-    if (v_r15_i1590_i_i_i) { goto L_der_core_decode_AnyDecodeRefSliceU8_from_der_70ca1__2; } else { goto L_join_3_i1591_i_i_i; }
+    if (v_r15_i1590_i_i_i) { goto L_der_core_decode_AnyDecodeRefSliceU8_from_der_f0286__2; } else { goto L_join_3_i1591_i_i_i; }
 L_join_3_i1591_i_i_i:;
     v_r119_i_i_i1069_i_i_i = v_r0_i_i775_sroa_12_0_i2058_i_i + 4;
     v_r29_i1592_i_i_i = (P)((u64)v_r119_i_i_i1069_i_i_i + (u64)(v_r148_i_i_i1075_i_i_i));
@@ -37788,20 +38129,20 @@ L_join_3_i1591_i_i_i:;
     { p_v_r0_i_i935_sroa_13_0_i2068_i_i = v_r32_i1593_i_i_i; p_v_r0_i_i935_sroa_12_0_i2067_i_i = v_r29_i1592_i_i_i; p_v_r0_i_i935_sroa_11_0_i2066_i_i = v_r148_i_i_i1075_i_i_i; p_v_r0_i_i935_sroa_7_0_i2065_i_i = v_r119_i_i_i1069_i_i_i; goto L_join_5_i_i1014_i_i_i; }
 L_join_14_i_i_i1047_i_i_i:;
     v_r163_i_i_i1048_i_i_i = v_r65_i_i_i963_i_i_i == 0u;
-    if (v_r163_i_i_i1048_i_i_i) { goto L_der_core_decode_AnyDecodeRefSliceU8_from_der_70ca1__2; } else { goto L_join_27_i_i_i1049_i_i_i; }
+    if (v_r163_i_i_i1048_i_i_i) { goto L_der_core_decode_AnyDecodeRefSliceU8_from_der_f0286__2; } else { goto L_join_27_i_i_i1049_i_i_i; }
 L_join_27_i_i_i1049_i_i_i:;
     v_r170_i_i_i1050_i_i_i = v_r0_i_i775_sroa_12_0_i2058_i_i + 3;
     v_r173_i_i_i1051_i_i_i = (u64)((u64)(v_r0_i_i775_sroa_13_0_i2059_i_i) + (u64)(18446744073709551613ull));
     v_r182_i_i_i1052_i_i_i = v_r83_i_i_i1043_i_i_i == 129u;
-    if (v_r182_i_i_i1052_i_i_i) { goto L_then_28_i_i_i1057_i_i_i; } else { goto L_der_core_decode_AnyDecodeRefSliceU8_from_der_70ca1__2; }
+    if (v_r182_i_i_i1052_i_i_i) { goto L_then_28_i_i_i1057_i_i_i; } else { goto L_der_core_decode_AnyDecodeRefSliceU8_from_der_f0286__2; }
 L_then_28_i_i_i1057_i_i_i:;
     v_r187_i_i_i1058_i_i_i = get_u8(v_r62_i_i_i962_i_i_i);
     v_r189_i_i_i1059_i_i_i = (u8)(v_r187_i_i_i1058_i_i_i ^ ((u8)1 << 7)) < (u8)(0u ^ ((u8)1 << 7));
-    if (v_r189_i_i_i1059_i_i_i) { goto L_then_31_i_i_i1060_i_i_i; } else { goto L_der_core_decode_AnyDecodeRefSliceU8_from_der_70ca1__2; }
+    if (v_r189_i_i_i1059_i_i_i) { goto L_then_31_i_i_i1060_i_i_i; } else { goto L_der_core_decode_AnyDecodeRefSliceU8_from_der_f0286__2; }
 L_then_31_i_i_i1060_i_i_i:;
     v_r199_i_i_i1061_i_i_i = (u64)v_r187_i_i_i1058_i_i_i;
     v_r15_i1600_i_i_i = v_r173_i_i_i1051_i_i_i < v_r199_i_i_i1061_i_i_i;
-    if (v_r15_i1600_i_i_i) { goto L_der_core_decode_AnyDecodeRefSliceU8_from_der_70ca1__2; } else { goto L_join_3_i1601_i_i_i; }
+    if (v_r15_i1600_i_i_i) { goto L_der_core_decode_AnyDecodeRefSliceU8_from_der_f0286__2; } else { goto L_join_3_i1601_i_i_i; }
 L_join_3_i1601_i_i_i:;
     v_r29_i1602_i_i_i = (P)((u64)v_r170_i_i_i1050_i_i_i + (u64)(v_r199_i_i_i1061_i_i_i));
     v_r32_i1603_i_i_i = (u64)((u64)(v_r173_i_i_i1051_i_i_i) - (u64)(v_r199_i_i_i1061_i_i_i));
@@ -37820,7 +38161,7 @@ L_arm_6_i_i1031_i_i_i:;
     if (v_r47_i_i1034_i_i_i) { p_v_r11_sroa_4_i_i942_sroa_0_0_ph_i_i_i = v_r0_i_i935_sroa_7_0_i2065_i_i; p_v_r11_sroa_4_i_i942_sroa_5_0_ph_i_i_i = 1u; goto L_arm_1_i990_i_i_i; } else { goto L_der_core_integer_uint_UintRefDecodeValueRefSliceU8__7; }
 L_default_7_i_i1017_i_i_i:;
     v_r73_i_i1018_i_i_i = (u8)(v_r34_i_i1015_i_i_i ^ ((u8)1 << 7)) > (u8)(255u ^ ((u8)1 << 7));
-    if (v_r73_i_i1018_i_i_i) { p_v_r11_sroa_4_i_i942_sroa_0_0_ph_i_i_i = v_r0_i_i935_sroa_7_0_i2065_i_i; p_v_r11_sroa_4_i_i942_sroa_5_0_ph_i_i_i = v_r0_i_i935_sroa_11_0_i2066_i_i; goto L_arm_1_i990_i_i_i; } else { goto L_der_core_decode_AnyDecodeRefSliceU8_from_der_70ca1__2; }
+    if (v_r73_i_i1018_i_i_i) { p_v_r11_sroa_4_i_i942_sroa_0_0_ph_i_i_i = v_r0_i_i935_sroa_7_0_i2065_i_i; p_v_r11_sroa_4_i_i942_sroa_5_0_ph_i_i_i = v_r0_i_i935_sroa_11_0_i2066_i_i; goto L_arm_1_i990_i_i_i; } else { goto L_der_core_decode_AnyDecodeRefSliceU8_from_der_f0286__2; }
 L_der_core_integer_uint_UintRefDecodeValueRefSliceU8__7:;
     v_r37_i_i1032_i_i_i = v_r0_i_i935_sroa_7_0_i2065_i_i + 1;
     v_r56_i_i1036_i_i_i = get_u8(v_r37_i_i1032_i_i_i);
@@ -37828,18 +38169,18 @@ L_der_core_integer_uint_UintRefDecodeValueRefSliceU8__7:;
     v_r40_i_i1038_i_i_i = v_r58_i_i1037_i_i_i ? v_r40_i5_i1033_i_i_i : 0u;
     v_r37_i_i1039_i_i_i = v_r58_i_i1037_i_i_i ? v_r37_i_i1032_i_i_i : (P)0;
     v_not2634_i_i_i = (u8)(v_r56_i_i1036_i_i_i ^ ((u8)1 << 7)) > (u8)(255u ^ ((u8)1 << 7));
-    if (v_not2634_i_i_i) { goto L_der_core_decode_AnyDecodeRefSliceU8_from_der_70ca1__2; } else { p_v_r11_sroa_4_i_i942_sroa_0_0_ph_i_i_i = v_r37_i_i1039_i_i_i; p_v_r11_sroa_4_i_i942_sroa_5_0_ph_i_i_i = v_r40_i_i1038_i_i_i; goto L_arm_1_i990_i_i_i; }
+    if (v_not2634_i_i_i) { goto L_der_core_decode_AnyDecodeRefSliceU8_from_der_f0286__2; } else { p_v_r11_sroa_4_i_i942_sroa_0_0_ph_i_i_i = v_r37_i_i1039_i_i_i; p_v_r11_sroa_4_i_i942_sroa_5_0_ph_i_i_i = v_r40_i_i1038_i_i_i; goto L_arm_1_i990_i_i_i; }
 L_arm_1_i990_i_i_i:;
     v_r11_sroa_4_i_i942_sroa_0_0_ph_i_i_i = p_v_r11_sroa_4_i_i942_sroa_0_0_ph_i_i_i;
     v_r11_sroa_4_i_i942_sroa_5_0_ph_i_i_i = p_v_r11_sroa_4_i_i942_sroa_5_0_ph_i_i_i;
     v_r53_i_i_i1110_i_i_i = v_r0_i_i935_sroa_13_0_i2068_i_i < 2u;
-    if (v_r53_i_i_i1110_i_i_i) { goto L_der_core_decode_AnyDecodeRefSliceU8_from_der_70ca1__2; } else { goto L_join_5_i_i_i1111_i_i_i; }
+    if (v_r53_i_i_i1110_i_i_i) { goto L_der_core_decode_AnyDecodeRefSliceU8_from_der_f0286__2; } else { goto L_join_5_i_i_i1111_i_i_i; }
 L_join_5_i_i_i1111_i_i_i:;
     v_r62_i_i_i1112_i_i_i = v_r0_i_i935_sroa_12_0_i2067_i_i + 2;
     v_r65_i_i_i1113_i_i_i = (u64)((u64)(v_r0_i_i935_sroa_13_0_i2068_i_i) + (u64)(18446744073709551614ull));
     v_r73_i_i_i1114_i_i_i = get_u8(v_r0_i_i935_sroa_12_0_i2067_i_i);
     v_r78_i_i_i1116_i_i_i = v_r73_i_i_i1114_i_i_i == 2u;
-    if (v_r78_i_i_i1116_i_i_i) { goto L_then_6_i_i_i1180_i_i_i; } else { goto L_der_core_decode_AnyDecodeRefSliceU8_from_der_70ca1__2; }
+    if (v_r78_i_i_i1116_i_i_i) { goto L_then_6_i_i_i1180_i_i_i; } else { goto L_der_core_decode_AnyDecodeRefSliceU8_from_der_f0286__2; }
 L_then_6_i_i_i1180_i_i_i:;
     v_r60_i_i_i1181_i_i_i = v_r0_i_i935_sroa_12_0_i2067_i_i + 1;
     v_r83_i_i_i1182_i_i_i = get_u8(v_r60_i_i_i1181_i_i_i);
@@ -37852,17 +38193,17 @@ L_then_9_i_i_i1224_i_i_i:;
     v_r32_i1613_i_i_i = (u64)((u64)(v_r65_i_i_i1113_i_i_i) - (u64)(v_r92_i_i_i1225_i_i_i));
     v_r27_i4_i1152_i_i_i = v_r83_i_i_i1182_i_i_i == 0u;
     v_or_cond2106_i_i = (u1)(((u32)(v_r27_i4_i1152_i_i_i) | (u32)(v_r15_i1610_i_i_i)) & 1);
-    if (v_or_cond2106_i_i) { goto L_der_core_decode_AnyDecodeRefSliceU8_from_der_70ca1__2; } else { p_v_r0_i_i1095_sroa_13_0_i2077_i_i = v_r32_i1613_i_i_i; p_v_r0_i_i1095_sroa_12_0_i2076_i_i = v_r29_i1612_i_i_i; p_v_r0_i_i1095_sroa_11_0_i2075_i_i = v_r92_i_i_i1225_i_i_i; p_v_r0_i_i1095_sroa_7_0_i2074_i_i = v_r62_i_i_i1112_i_i_i; goto L_join_5_i_i1153_i_i_i; }
+    if (v_or_cond2106_i_i) { goto L_der_core_decode_AnyDecodeRefSliceU8_from_der_f0286__2; } else { p_v_r0_i_i1095_sroa_13_0_i2077_i_i = v_r32_i1613_i_i_i; p_v_r0_i_i1095_sroa_12_0_i2076_i_i = v_r29_i1612_i_i_i; p_v_r0_i_i1095_sroa_11_0_i2075_i_i = v_r92_i_i_i1225_i_i_i; p_v_r0_i_i1095_sroa_7_0_i2074_i_i = v_r62_i_i_i1112_i_i_i; goto L_join_5_i_i1153_i_i_i; }
 L_join_11_i_i_i1184_i_i_i:;
     v_r104_i_i_i1185_i_i_i = v_r83_i_i_i1182_i_i_i == 130u;
     if (v_r104_i_i_i1185_i_i_i) { goto L_then_12_i_i_i1201_i_i_i; } else { goto L_join_14_i_i_i1186_i_i_i; }
 L_then_12_i_i_i1201_i_i_i:;
     v_r110_i_i_i1202_i_i_i = v_r0_i_i935_sroa_13_0_i2068_i_i < 4u;
-    if (v_r110_i_i_i1202_i_i_i) { goto L_der_core_decode_AnyDecodeRefSliceU8_from_der_70ca1__2; } else { goto L_join_19_i_i_i1203_i_i_i; }
+    if (v_r110_i_i_i1202_i_i_i) { goto L_der_core_decode_AnyDecodeRefSliceU8_from_der_f0286__2; } else { goto L_join_19_i_i_i1203_i_i_i; }
 L_join_19_i_i_i1203_i_i_i:;
     v_r130_i_i_i1204_i_i_i = get_u8(v_r62_i_i_i1112_i_i_i);
     v_r132_not_i_i_i1205_i_i_i = v_r130_i_i_i1204_i_i_i == 0u;
-    if (v_r132_not_i_i_i1205_i_i_i) { goto L_der_core_decode_AnyDecodeRefSliceU8_from_der_70ca1__2; } else { goto L_then_20_i_i_i1206_i_i_i; }
+    if (v_r132_not_i_i_i1205_i_i_i) { goto L_der_core_decode_AnyDecodeRefSliceU8_from_der_f0286__2; } else { goto L_then_20_i_i_i1206_i_i_i; }
 L_then_20_i_i_i1206_i_i_i:;
     v_r122_i_i_i1207_i_i_i = (u64)((u64)(v_r0_i_i935_sroa_13_0_i2068_i_i) + (u64)(18446744073709551612ull));
     v_r117_i_i_i1209_i_i_i = v_r0_i_i935_sroa_12_0_i2067_i_i + 3;
@@ -37872,7 +38213,7 @@ L_then_20_i_i_i1206_i_i_i:;
     v_r145_i_i_i1213_i_i_i = (u64)v_r143_i_i_i1212_i_i_i;
     v_r148_i_i_i1214_i_i_i = (u64)((u64)(v_r141_i_i_i1211_i_i_i) | (u64)(v_r145_i_i_i1213_i_i_i));
     v_r15_i1620_i_i_i = v_r122_i_i_i1207_i_i_i < v_r148_i_i_i1214_i_i_i;
-    if (v_r15_i1620_i_i_i) { goto L_der_core_decode_AnyDecodeRefSliceU8_from_der_70ca1__2; } else { goto L_join_3_i1621_i_i_i; }
+    if (v_r15_i1620_i_i_i) { goto L_der_core_decode_AnyDecodeRefSliceU8_from_der_f0286__2; } else { goto L_join_3_i1621_i_i_i; }
 L_join_3_i1621_i_i_i:;
     v_r119_i_i_i1208_i_i_i = v_r0_i_i935_sroa_12_0_i2067_i_i + 4;
     v_r29_i1622_i_i_i = (P)((u64)v_r119_i_i_i1208_i_i_i + (u64)(v_r148_i_i_i1214_i_i_i));
@@ -37880,20 +38221,20 @@ L_join_3_i1621_i_i_i:;
     { p_v_r0_i_i1095_sroa_13_0_i2077_i_i = v_r32_i1623_i_i_i; p_v_r0_i_i1095_sroa_12_0_i2076_i_i = v_r29_i1622_i_i_i; p_v_r0_i_i1095_sroa_11_0_i2075_i_i = v_r148_i_i_i1214_i_i_i; p_v_r0_i_i1095_sroa_7_0_i2074_i_i = v_r119_i_i_i1208_i_i_i; goto L_join_5_i_i1153_i_i_i; }
 L_join_14_i_i_i1186_i_i_i:;
     v_r163_i_i_i1187_i_i_i = v_r65_i_i_i1113_i_i_i == 0u;
-    if (v_r163_i_i_i1187_i_i_i) { goto L_der_core_decode_AnyDecodeRefSliceU8_from_der_70ca1__2; } else { goto L_join_27_i_i_i1188_i_i_i; }
+    if (v_r163_i_i_i1187_i_i_i) { goto L_der_core_decode_AnyDecodeRefSliceU8_from_der_f0286__2; } else { goto L_join_27_i_i_i1188_i_i_i; }
 L_join_27_i_i_i1188_i_i_i:;
     v_r170_i_i_i1189_i_i_i = v_r0_i_i935_sroa_12_0_i2067_i_i + 3;
     v_r173_i_i_i1190_i_i_i = (u64)((u64)(v_r0_i_i935_sroa_13_0_i2068_i_i) + (u64)(18446744073709551613ull));
     v_r182_i_i_i1191_i_i_i = v_r83_i_i_i1182_i_i_i == 129u;
-    if (v_r182_i_i_i1191_i_i_i) { goto L_then_28_i_i_i1196_i_i_i; } else { goto L_der_core_decode_AnyDecodeRefSliceU8_from_der_70ca1__2; }
+    if (v_r182_i_i_i1191_i_i_i) { goto L_then_28_i_i_i1196_i_i_i; } else { goto L_der_core_decode_AnyDecodeRefSliceU8_from_der_f0286__2; }
 L_then_28_i_i_i1196_i_i_i:;
     v_r187_i_i_i1197_i_i_i = get_u8(v_r62_i_i_i1112_i_i_i);
     v_r189_i_i_i1198_i_i_i = (u8)(v_r187_i_i_i1197_i_i_i ^ ((u8)1 << 7)) < (u8)(0u ^ ((u8)1 << 7));
-    if (v_r189_i_i_i1198_i_i_i) { goto L_then_31_i_i_i1199_i_i_i; } else { goto L_der_core_decode_AnyDecodeRefSliceU8_from_der_70ca1__2; }
+    if (v_r189_i_i_i1198_i_i_i) { goto L_then_31_i_i_i1199_i_i_i; } else { goto L_der_core_decode_AnyDecodeRefSliceU8_from_der_f0286__2; }
 L_then_31_i_i_i1199_i_i_i:;
     v_r199_i_i_i1200_i_i_i = (u64)v_r187_i_i_i1197_i_i_i;
     v_r15_i1630_i_i_i = v_r173_i_i_i1190_i_i_i < v_r199_i_i_i1200_i_i_i;
-    if (v_r15_i1630_i_i_i) { goto L_der_core_decode_AnyDecodeRefSliceU8_from_der_70ca1__2; } else { goto L_join_3_i1631_i_i_i; }
+    if (v_r15_i1630_i_i_i) { goto L_der_core_decode_AnyDecodeRefSliceU8_from_der_f0286__2; } else { goto L_join_3_i1631_i_i_i; }
 L_join_3_i1631_i_i_i:;
     v_r29_i1632_i_i_i = (P)((u64)v_r170_i_i_i1189_i_i_i + (u64)(v_r199_i_i_i1200_i_i_i));
     v_r32_i1633_i_i_i = (u64)((u64)(v_r173_i_i_i1190_i_i_i) - (u64)(v_r199_i_i_i1200_i_i_i));
@@ -37912,7 +38253,7 @@ L_arm_6_i_i1170_i_i_i:;
     if (v_r47_i_i1173_i_i_i) { p_v_r11_sroa_4_sroa_4_i_sroa_6_sroa_6_sroa_6_sroa_6_sr = v_r0_i_i1095_sroa_7_0_i2074_i_i; p_v_r11_sroa_4_sroa_4_i_sroa_6_sroa_6_sroa_6_sroa_6_sr__2 = 1u; goto L_arm_5_i44_i_i_i; } else { goto L_der_core_integer_uint_UintRefDecodeValueRefSliceU8__8; }
 L_default_7_i_i1156_i_i_i:;
     v_r73_i_i1157_i_i_i = (u8)(v_r34_i_i1154_i_i_i ^ ((u8)1 << 7)) > (u8)(255u ^ ((u8)1 << 7));
-    if (v_r73_i_i1157_i_i_i) { p_v_r11_sroa_4_sroa_4_i_sroa_6_sroa_6_sroa_6_sroa_6_sr = v_r0_i_i1095_sroa_7_0_i2074_i_i; p_v_r11_sroa_4_sroa_4_i_sroa_6_sroa_6_sroa_6_sroa_6_sr__2 = v_r0_i_i1095_sroa_11_0_i2075_i_i; goto L_arm_5_i44_i_i_i; } else { goto L_der_core_decode_AnyDecodeRefSliceU8_from_der_70ca1__2; }
+    if (v_r73_i_i1157_i_i_i) { p_v_r11_sroa_4_sroa_4_i_sroa_6_sroa_6_sroa_6_sroa_6_sr = v_r0_i_i1095_sroa_7_0_i2074_i_i; p_v_r11_sroa_4_sroa_4_i_sroa_6_sroa_6_sroa_6_sroa_6_sr__2 = v_r0_i_i1095_sroa_11_0_i2075_i_i; goto L_arm_5_i44_i_i_i; } else { goto L_der_core_decode_AnyDecodeRefSliceU8_from_der_f0286__2; }
 L_der_core_integer_uint_UintRefDecodeValueRefSliceU8__8:;
     v_r37_i_i1171_i_i_i = v_r0_i_i1095_sroa_7_0_i2074_i_i + 1;
     v_r56_i_i1175_i_i_i = get_u8(v_r37_i_i1171_i_i_i);
@@ -37920,25 +38261,25 @@ L_der_core_integer_uint_UintRefDecodeValueRefSliceU8__8:;
     v_r40_i_i1177_i_i_i = v_r58_i_i1176_i_i_i ? v_r40_i5_i1172_i_i_i : 0u;
     v_r37_i_i1178_i_i_i = v_r58_i_i1176_i_i_i ? v_r37_i_i1171_i_i_i : (P)0;
     v_not2635_i_i_i = (u8)(v_r56_i_i1175_i_i_i ^ ((u8)1 << 7)) > (u8)(255u ^ ((u8)1 << 7));
-    if (v_not2635_i_i_i) { goto L_der_core_decode_AnyDecodeRefSliceU8_from_der_70ca1__2; } else { p_v_r11_sroa_4_sroa_4_i_sroa_6_sroa_6_sroa_6_sroa_6_sr = v_r37_i_i1178_i_i_i; p_v_r11_sroa_4_sroa_4_i_sroa_6_sroa_6_sroa_6_sroa_6_sr__2 = v_r40_i_i1177_i_i_i; goto L_arm_5_i44_i_i_i; }
+    if (v_not2635_i_i_i) { goto L_der_core_decode_AnyDecodeRefSliceU8_from_der_f0286__2; } else { p_v_r11_sroa_4_sroa_4_i_sroa_6_sroa_6_sroa_6_sroa_6_sr = v_r37_i_i1178_i_i_i; p_v_r11_sroa_4_sroa_4_i_sroa_6_sroa_6_sroa_6_sroa_6_sr__2 = v_r40_i_i1177_i_i_i; goto L_arm_5_i44_i_i_i; }
 L_arm_5_i44_i_i_i:;
     v_r11_sroa_4_sroa_4_i_sroa_6_sroa_6_sroa_6_sroa_6_sr = p_v_r11_sroa_4_sroa_4_i_sroa_6_sroa_6_sroa_6_sroa_6_sr;
     v_r11_sroa_4_sroa_4_i_sroa_6_sroa_6_sroa_6_sroa_6_sr__2 = p_v_r11_sroa_4_sroa_4_i_sroa_6_sroa_6_sroa_6_sroa_6_sr__2;
     fill(v_r6_i1233_i_i_i, 0u, 32u);
     if (v_r11_sroa_4_0_i66_i_i_i) { goto L_arm_1_i1239_i_i_i; } else { goto L_arm_2_i1235_i_i_i; }
 L_arm_1_i1239_i_i_i:;
-    f_pkcs1_view_quick_others(v_r6_i1233_i_i_i, v_r0_i_i1095_sroa_12_0_i2076_i_i, v_r0_i_i1095_sroa_13_0_i2077_i_i);
+    f_pkcs1_viewed_key_quick_others(v_r6_i1233_i_i_i, v_r0_i_i1095_sroa_12_0_i2076_i_i, v_r0_i_i1095_sroa_13_0_i2077_i_i);
     v_r16_i1240_i_i_i = get_u8(v_r6_i1233_i_i_i);
     v_10 = v_r16_i1240_i_i_i == 1u;
-    if (v_10) { goto L_pkcs1_view_quick_listed_exit_thread2703_i_i_i; } else { goto L_der_core_decode_AnyDecodeRefSliceU8_from_der_70ca1__3; }
-L_pkcs1_view_quick_listed_exit_thread2703_i_i_i:;
+    if (v_10) { goto L_pkcs1_viewed_key_quick_listed_exit_thread2703_i_i_; } else { goto L_der_core_decode_AnyDecodeRefSliceU8_from_der_f0286__3; }
+L_pkcs1_viewed_key_quick_listed_exit_thread2703_i_i_:;
     v_r17_i1243_i_i_i = v_r6_i1233_i_i_i + 8;
     copy(v_r10_i14_sroa_7_i_i_i, v_r17_i1243_i_i_i, 24u);
     { p_v_r5_sroa_5_sroa_0_0_i2702_i_i_i = 1u; goto L_arm_5_i_i_i_i; }
 L_arm_2_i1235_i_i_i:;
     v_r7_i1640_i_i_i = v_r0_i_i1095_sroa_13_0_i2077_i_i == 0u;
-    if (v_r7_i1640_i_i_i) { goto L_pkcs1_view_quick_listed_exit_thread_i_i_i; } else { goto L_der_core_decode_AnyDecodeRefSliceU8_from_der_70ca1__3; }
-L_pkcs1_view_quick_listed_exit_thread_i_i_i:;
+    if (v_r7_i1640_i_i_i) { goto L_pkcs1_viewed_key_quick_listed_exit_thread_i_i_i; } else { goto L_der_core_decode_AnyDecodeRefSliceU8_from_der_f0286__3; }
+L_pkcs1_viewed_key_quick_listed_exit_thread_i_i_i:;
     fill(v_r10_i14_sroa_7_i_i_i, 0u, 24u);
     { p_v_r5_sroa_5_sroa_0_0_i2702_i_i_i = 0u; goto L_arm_5_i_i_i_i; }
 L_arm_5_i_i_i_i:;
@@ -37952,12 +38293,12 @@ L_arm_5_i_i_i_i:;
     v_r7_i_sroa_15_i_i_sroa_26_4_r46_i_i1058_i_sroa_idx_ = v_r0_i1_i_i_i + 160;
     v_r7_i_sroa_15_i_i_sroa_26_4_copyload191_i = get_u64(v_r7_i_sroa_15_i_i_sroa_26_4_r46_i_i1058_i_sroa_idx_);
     { p_v_r7_i_sroa_15_i_i_sroa_4_0_i = v_r11_sroa_4_i_i_sroa_0_0_ph_i_i_i; p_v_r7_i_sroa_15_i_i_sroa_7_0_i = v_r11_sroa_4_i_i_sroa_5_0_ph_i_i_i; p_v_r7_i_sroa_15_i_i_sroa_8_0_i = v_r11_sroa_4_i_i142_sroa_0_0_ph_i_i_i; p_v_r7_i_sroa_15_i_i_sroa_9_0_i = v_r11_sroa_4_i_i142_sroa_5_0_ph_i_i_i; p_v_r7_i_sroa_15_i_i_sroa_10_0_i = v_r11_sroa_4_i_i302_sroa_0_0_ph_i_i_i; p_v_r7_i_sroa_15_i_i_sroa_11_0_i = v_r11_sroa_4_i_i302_sroa_5_0_ph_i_i_i; p_v_r7_i_sroa_15_i_i_sroa_12_0_i = v_r11_sroa_4_i_i462_sroa_0_0_ph_i_i_i; p_v_r7_i_sroa_15_i_i_sroa_13_0_i = v_r11_sroa_4_i_i462_sroa_5_0_ph_i_i_i; p_v_r7_i_sroa_15_i_i_sroa_14_0_i = v_r11_sroa_4_i_i622_sroa_0_0_ph_i_i_i; p_v_r7_i_sroa_15_i_i_sroa_15_0_i = v_r11_sroa_4_i_i622_sroa_5_0_ph_i_i_i; p_v_r7_i_sroa_15_i_i_sroa_16_0_i = v_r11_sroa_4_i_i782_sroa_0_0_ph_i_i_i; p_v_r7_i_sroa_15_i_i_sroa_17_0_i = v_r11_sroa_4_i_i782_sroa_5_0_ph_i_i_i; p_v_r7_i_sroa_15_i_i_sroa_18_0_i = v_r11_sroa_4_i_i942_sroa_0_0_ph_i_i_i; p_v_r7_i_sroa_15_i_i_sroa_19_0_i = v_r11_sroa_4_i_i942_sroa_5_0_ph_i_i_i; p_v_r7_i_sroa_15_i_i_sroa_20_0_i = v_r11_sroa_4_sroa_4_i_sroa_6_sroa_6_sroa_6_sroa_6_sr; p_v_r7_i_sroa_15_i_i_sroa_21_0_i = v_r11_sroa_4_sroa_4_i_sroa_6_sroa_6_sroa_6_sroa_6_sr__2; p_v_r7_i_sroa_15_i_i_sroa_22_0_i = v_r5_sroa_5_sroa_0_0_i2702_i_i_i; p_v_r7_i_sroa_15_i_i_sroa_24_0_i = v_r7_i_sroa_15_i_i_sroa_24_4_copyload189_i; p_v_r7_i_sroa_15_i_i_sroa_25_0_i = v_r7_i_sroa_15_i_i_sroa_25_4_copyload190_i; p_v_r7_i_sroa_15_i_i_sroa_26_0_i = v_r7_i_sroa_15_i_i_sroa_26_4_copyload191_i; goto L_arm_1_i; }
-L_der_core_decode_AnyDecodeRefSliceU8_from_der_70ca1__3:;
-    { goto L_der_core_decode_AnyDecodeRefSliceU8_from_der_70ca1__2; }
-L_der_core_decode_AnyDecodeRefSliceU8_from_der_70ca1__2:;
-    { goto L_der_core_decode_AnyDecodeRefSliceU8_from_der_70ca1; }
-L_der_core_decode_AnyDecodeRefSliceU8_from_der_70ca1:;
-    f_der_core_decode_read_slowly_025ef17fb6cfc887(v_r0_i1_i_i_i, v_r0_i1_sroa_15_sroa_8_sroa_0_02147_i_i, v_r0_i1_sroa_15_sroa_8_sroa_6_02150_i_i);
+L_der_core_decode_AnyDecodeRefSliceU8_from_der_f0286__3:;
+    { goto L_der_core_decode_AnyDecodeRefSliceU8_from_der_f0286__2; }
+L_der_core_decode_AnyDecodeRefSliceU8_from_der_f0286__2:;
+    { goto L_der_core_decode_AnyDecodeRefSliceU8_from_der_f0286; }
+L_der_core_decode_AnyDecodeRefSliceU8_from_der_f0286:;
+    f_der_core_decode_read_slowly_746ba62194330879(v_r0_i1_i_i_i, v_r0_i1_sroa_15_sroa_8_sroa_0_02147_i_i, v_r0_i1_sroa_15_sroa_8_sroa_6_02150_i_i);
     v_11 = get_u8(v_r0_i1_i_i_i);
     v_r59_i_i1043_i_i = v_r0_i1_i_i_i + 1;
     v_12 = get_u8(v_r59_i_i1043_i_i);
@@ -41623,55 +41964,55 @@ L_pkcs1_c_oaep_pkcs1_c_oaep_params_decode_strict_exi:;
     return v_r6_0_i;
 }
 static void proved_other_primes(P v_a0, u64 v_a1, P v_a2, u64 v_a3) {
-    u64 p_v_r5_05756_i;
-    u64 p_v_r4_sroa_10_05755_i;
-    P p_v_r4_sroa_0_05754_i;
-    u64 p_v_r4_sroa_10_43357_i;
-    P p_v_r4_sroa_0_43355_i;
+    u64 p_v_r5_05635_i;
+    u64 p_v_r4_sroa_10_05634_i;
+    P p_v_r4_sroa_0_05633_i;
+    u64 p_v_r4_sroa_10_43358_i;
+    P p_v_r4_sroa_0_43356_i;
     u64 p_v_r12_sroa_10_0_i_i;
-    u64 p_v_r6_i12_sroa_30_53798_i;
-    P p_v_r6_i12_sroa_0_53796_i;
-    u32 p_v_r12_sroa_10_0_i1488_i;
+    u64 p_v_r6_i12_sroa_30_53799_i;
+    P p_v_r6_i12_sroa_0_53797_i;
+    u32 p_v_r12_sroa_10_0_i1489_i;
     P p_v_r0_i268_sroa_27_sroa_3_2_i;
     u64 p_v_r0_i268_sroa_27_sroa_9_2_i;
-    u64 p_v_r6_i12_sroa_30_104384_i;
-    P p_v_r6_i12_sroa_0_104382_i;
-    u32 p_v_r12_sroa_10_0_i1828_i;
-    P p_v_r0_i_i450_sroa_27_sroa_3_3_i;
-    u64 p_v_r0_i_i450_sroa_27_sroa_9_3_i;
-    u64 p_v_r6_i12_sroa_30_154970_i;
-    P p_v_r6_i12_sroa_0_154968_i;
-    u32 p_v_r12_sroa_10_0_i2181_i;
-    P p_v_r0_i_i675_sroa_27_sroa_3_4_i;
-    u64 p_v_r0_i_i675_sroa_27_sroa_9_4_i;
+    u64 p_v_r6_i12_sroa_30_104385_i;
+    P p_v_r6_i12_sroa_0_104383_i;
+    u32 p_v_r12_sroa_10_0_i1829_i;
+    P p_v_r0_i_i451_sroa_27_sroa_3_3_i;
+    u64 p_v_r0_i_i451_sroa_27_sroa_9_3_i;
+    u64 p_v_r6_i12_sroa_30_154971_i;
+    P p_v_r6_i12_sroa_0_154969_i;
+    u32 p_v_r12_sroa_10_0_i2182_i;
+    P p_v_r0_i_i676_sroa_27_sroa_3_4_i;
+    u64 p_v_r0_i_i676_sroa_27_sroa_9_4_i;
     u1 v_r10;
     u64 v_r12;
     P v_r13;
-    u1 v_r16_i1092_i;
-    u1 v_r255750_not_i;
-    u1 v_r39_i_i10975752_i;
-    u1 v_or_cond57465753_i;
+    u1 v_r16_i1093_i;
+    u1 v_r255629_not_i;
+    u1 v_r39_i_i10985631_i;
+    u1 v_or_cond56275632_i;
     u1 v_r1;
     u64 v_r3;
     P v_r4;
-    u64 v_r5_05756_i;
-    u64 v_r4_sroa_10_05755_i;
-    P v_r4_sroa_0_05754_i;
-    P v_r16_i_i_i1099_i;
-    u64 v_r19_i_i_i1100_i;
-    u8 v_r29_i1101_i;
+    u64 v_r5_05635_i;
+    u64 v_r4_sroa_10_05634_i;
+    P v_r4_sroa_0_05633_i;
+    P v_r16_i_i_i1100_i;
+    u64 v_r19_i_i_i1101_i;
+    u8 v_r29_i1102_i;
     u1 v_r8_i_i_i;
-    u8 v_r9_i1112_i;
-    u1 v_r11_i1113_i;
+    u8 v_r9_i1113_i;
+    u1 v_r11_i1114_i;
     u8 v_0;
     u1 v_1;
-    u1 v_r2_0_in_i_not_not5758_i;
-    u1 v_r39_i_i1129_i;
-    u1 v_or_cond5747_i;
-    u1 v_r39_i_i1129_old_i;
-    P v_r16_i_i_i1132_i;
-    u64 v_r19_i_i_i1133_i;
-    u8 v_r29_i1134_i;
+    u1 v_r2_0_in_i_not_not5636_i;
+    u1 v_r39_i_i1130_i;
+    u1 v_or_cond5628_i;
+    u1 v_r39_i_i1130_old_i;
+    P v_r16_i_i_i1133_i;
+    u64 v_r19_i_i_i1134_i;
+    u8 v_r29_i1135_i;
     u1 v_r51_i132_i;
     u64 v_r56_i174_i;
     u1 v_r68_i134_i;
@@ -41679,13 +42020,13 @@ static void proved_other_primes(P v_a0, u64 v_a1, P v_a2, u64 v_a3) {
     u1 v_or_cond_i;
     u8 v_r106_i136_i;
     u64 v_r3_i25_i_i;
-    u1 v_r39_i1177_i;
-    P v_r16_i_i1179_i;
-    u64 v_r19_i_i1180_i;
-    u8 v_r36_i1203_i;
-    u1 v_r38_i1204_i;
-    u8 v_r28_i1200_i;
-    u1 v_r30_i1201_i;
+    u1 v_r39_i1178_i;
+    P v_r16_i_i1180_i;
+    u64 v_r19_i_i1181_i;
+    u8 v_r36_i1204_i;
+    u1 v_r38_i1205_i;
+    u8 v_r28_i1201_i;
+    u1 v_r30_i1202_i;
     u64 v_r71_i_i_i;
     u1 v_r74_i_i_i;
     P v_r81_i_i_i;
@@ -41723,43 +42064,43 @@ static void proved_other_primes(P v_a0, u64 v_a1, P v_a2, u64 v_a3) {
     u8 v_r177_i_i_i;
     u64 v_r179_i_i_i;
     u64 v_r182_i_i_i;
-    u64 v_r4_sroa_10_43357_i;
-    P v_r4_sroa_0_43355_i;
+    u64 v_r4_sroa_10_43358_i;
+    P v_r4_sroa_0_43356_i;
     u64 v_r12_sroa_10_0_i_i;
-    u1 v_r39_i_i1285_i;
-    u1 v_or_cond5772_i;
-    P v_r16_i_i_i1288_i;
-    u64 v_r19_i_i_i1289_i;
-    u1 v_r39_i_i1322_i;
-    P v_r16_i_i_i1325_i;
-    u64 v_r19_i_i_i1326_i;
-    u8 v_r29_i1327_i;
+    u1 v_r39_i_i1286_i;
+    u1 v_or_cond5664_i;
+    P v_r16_i_i_i1289_i;
+    u64 v_r19_i_i_i1290_i;
+    u1 v_r39_i_i1323_i;
+    P v_r16_i_i_i1326_i;
+    u64 v_r19_i_i_i1327_i;
+    u8 v_r29_i1328_i;
     u1 v_r8_i_i_i_i;
-    u8 v_r9_i1349_i;
-    u1 v_r11_i1350_i;
+    u8 v_r9_i1350_i;
+    u1 v_r11_i1351_i;
     u8 v_2;
     u1 v_3;
-    u1 v_r2_0_in_i1351_not_not5776_i;
-    u1 v_r39_i_i1370_i;
-    u1 v_or_cond5773_i;
-    u1 v_r39_i_i1370_old_i;
-    P v_r16_i_i_i1373_i;
-    u64 v_r19_i_i_i1374_i;
-    u8 v_r29_i1375_i;
+    u1 v_r2_0_in_i1352_not_not5668_i;
+    u1 v_r39_i_i1371_i;
+    u1 v_or_cond5665_i;
+    u1 v_r39_i_i1371_old_i;
+    P v_r16_i_i_i1374_i;
+    u64 v_r19_i_i_i1375_i;
+    u8 v_r29_i1376_i;
     u1 v_r51_i53_i_i;
     u32 v_r56_i64_i_i;
     u1 v_r68_i55_i_i;
-    u1 v_r87_i_i404_i;
-    u1 v_or_cond5743_i;
-    u8 v_r106_i_i406_i;
-    u64 v_r3_i25_i1417_i;
-    u1 v_r39_i1420_i;
-    P v_r16_i_i1424_i;
-    u64 v_r19_i_i1425_i;
-    u8 v_r36_i1462_i;
-    u1 v_r38_i1463_i;
-    u8 v_r28_i1458_i;
-    u1 v_r30_i1459_i;
+    u1 v_r87_i_i405_i;
+    u1 v_or_cond5624_i;
+    u8 v_r106_i_i407_i;
+    u64 v_r3_i25_i1418_i;
+    u1 v_r39_i1421_i;
+    P v_r16_i_i1425_i;
+    u64 v_r19_i_i1426_i;
+    u8 v_r36_i1463_i;
+    u1 v_r38_i1464_i;
+    u8 v_r28_i1459_i;
+    u1 v_r30_i1460_i;
     u32 v_r71_i_i_i_i;
     u1 v_r74_i_i_i_i;
     P v_r81_i_i_i_i;
@@ -41797,55 +42138,55 @@ static void proved_other_primes(P v_a0, u64 v_a1, P v_a2, u64 v_a3) {
     u8 v_r177_i_i_i_i;
     u32 v_r179_i_i_i_i;
     u32 v_r182_i_i_i_i;
-    u64 v_r6_i12_sroa_30_53798_i;
-    P v_r6_i12_sroa_0_53796_i;
-    u32 v_r12_sroa_10_0_i1488_i;
-    u64 v_r3_i25_i_i1548_i;
-    u1 v_r39_i_i1551_i;
-    P v_r16_i_i_i1554_i;
-    u64 v_r19_i_i_i1555_i;
-    u1 v_r7_i_i_i1599_i;
-    u8 v_r60_i_i1600_i;
-    u1 v_r62_i_i1601_i;
-    u1 v_r74_i_i1602_i;
+    u64 v_r6_i12_sroa_30_53799_i;
+    P v_r6_i12_sroa_0_53797_i;
+    u32 v_r12_sroa_10_0_i1489_i;
+    u64 v_r3_i25_i_i1549_i;
+    u1 v_r39_i_i1552_i;
+    P v_r16_i_i_i1555_i;
+    u64 v_r19_i_i_i1556_i;
+    u1 v_r7_i_i_i1600_i;
+    u8 v_r60_i_i1601_i;
+    u1 v_r62_i_i1602_i;
+    u1 v_r74_i_i1603_i;
     u1 v_cond_i_i_i;
     u1 v_or_cond_i_i_i;
-    P v_r84_i_i1611_i;
-    u8 v_r87_i_i1612_i;
-    u1 v_r89_i_i1613_i;
-    u64 v_r103_i_i1614_i;
+    P v_r84_i_i1612_i;
+    u8 v_r87_i_i1613_i;
+    u1 v_r89_i_i1614_i;
+    u64 v_r103_i_i1615_i;
     P v_r0_i268_sroa_27_sroa_3_2_i;
     u64 v_r0_i268_sroa_27_sroa_9_2_i;
-    u1 v_r39_i_i1662_i;
-    P v_r16_i_i_i1665_i;
-    u64 v_r19_i_i_i1666_i;
-    u8 v_r29_i1667_i;
+    u1 v_r39_i_i1663_i;
+    P v_r16_i_i_i1666_i;
+    u64 v_r19_i_i_i1667_i;
+    u8 v_r29_i1668_i;
     u1 v_r8_i_i_i_i_i;
-    u8 v_r9_i1689_i;
-    u1 v_r11_i1690_i;
+    u8 v_r9_i1690_i;
+    u1 v_r11_i1691_i;
     u8 v_4;
     u1 v_5;
-    u1 v_r2_0_in_i1691_not_not5777_i;
-    u1 v_r39_i_i1710_i;
-    u1 v_or_cond5774_i;
-    u1 v_r39_i_i1710_old_i;
-    P v_r16_i_i_i1713_i;
-    u64 v_r19_i_i_i1714_i;
-    u8 v_r29_i1715_i;
+    u1 v_r2_0_in_i1692_not_not5669_i;
+    u1 v_r39_i_i1711_i;
+    u1 v_or_cond5666_i;
+    u1 v_r39_i_i1711_old_i;
+    P v_r16_i_i_i1714_i;
+    u64 v_r19_i_i_i1715_i;
+    u8 v_r29_i1716_i;
     u1 v_r51_i53_i_i_i;
     u32 v_r56_i64_i_i_i;
     u1 v_r68_i55_i_i_i;
-    u1 v_r87_i_i_i596_i;
-    u1 v_or_cond5744_i;
-    u8 v_r106_i_i_i598_i;
-    u64 v_r3_i25_i1757_i;
-    u1 v_r39_i1760_i;
-    P v_r16_i_i1764_i;
-    u64 v_r19_i_i1765_i;
-    u8 v_r36_i1802_i;
-    u1 v_r38_i1803_i;
-    u8 v_r28_i1798_i;
-    u1 v_r30_i1799_i;
+    u1 v_r87_i_i_i597_i;
+    u1 v_or_cond5625_i;
+    u8 v_r106_i_i_i599_i;
+    u64 v_r3_i25_i1758_i;
+    u1 v_r39_i1761_i;
+    P v_r16_i_i1765_i;
+    u64 v_r19_i_i1766_i;
+    u8 v_r36_i1803_i;
+    u1 v_r38_i1804_i;
+    u8 v_r28_i1799_i;
+    u1 v_r30_i1800_i;
     u32 v_r71_i_i_i_i_i;
     u1 v_r74_i_i_i_i_i;
     P v_r81_i_i_i_i_i;
@@ -41883,111 +42224,111 @@ static void proved_other_primes(P v_a0, u64 v_a1, P v_a2, u64 v_a3) {
     u8 v_r177_i_i_i_i_i;
     u32 v_r179_i_i_i_i_i;
     u32 v_r182_i_i_i_i_i;
-    u64 v_r6_i12_sroa_30_104384_i;
-    P v_r6_i12_sroa_0_104382_i;
-    u32 v_r12_sroa_10_0_i1828_i;
-    u64 v_r3_i25_i_i1888_i;
-    u1 v_r39_i_i1891_i;
-    P v_r16_i_i_i1894_i;
-    u64 v_r19_i_i_i1895_i;
-    u1 v_r7_i_i_i1939_i;
-    u8 v_r60_i_i1941_i;
-    u1 v_r62_i_i1942_i;
-    u1 v_r74_i_i1944_i;
-    u1 v_cond_i_i1945_i;
-    u1 v_or_cond_i_i1946_i;
-    P v_r84_i_i1959_i;
-    u8 v_r87_i_i1960_i;
-    u1 v_r89_i_i1961_i;
-    u64 v_r103_i_i1963_i;
-    P v_r0_i_i450_sroa_27_sroa_3_3_i;
-    u64 v_r0_i_i450_sroa_27_sroa_9_3_i;
-    u1 v_r39_i_i2015_i;
-    P v_r16_i_i_i2018_i;
-    u64 v_r19_i_i_i2019_i;
-    u8 v_r29_i2020_i;
-    u1 v_r8_i_i_i_i855_i;
-    u8 v_r9_i2042_i;
-    u1 v_r11_i2043_i;
+    u64 v_r6_i12_sroa_30_104385_i;
+    P v_r6_i12_sroa_0_104383_i;
+    u32 v_r12_sroa_10_0_i1829_i;
+    u64 v_r3_i25_i_i1889_i;
+    u1 v_r39_i_i1892_i;
+    P v_r16_i_i_i1895_i;
+    u64 v_r19_i_i_i1896_i;
+    u1 v_r7_i_i_i1940_i;
+    u8 v_r60_i_i1942_i;
+    u1 v_r62_i_i1943_i;
+    u1 v_r74_i_i1945_i;
+    u1 v_cond_i_i1946_i;
+    u1 v_or_cond_i_i1947_i;
+    P v_r84_i_i1960_i;
+    u8 v_r87_i_i1961_i;
+    u1 v_r89_i_i1962_i;
+    u64 v_r103_i_i1964_i;
+    P v_r0_i_i451_sroa_27_sroa_3_3_i;
+    u64 v_r0_i_i451_sroa_27_sroa_9_3_i;
+    u1 v_r39_i_i2016_i;
+    P v_r16_i_i_i2019_i;
+    u64 v_r19_i_i_i2020_i;
+    u8 v_r29_i2021_i;
+    u1 v_r8_i_i_i_i856_i;
+    u8 v_r9_i2043_i;
+    u1 v_r11_i2044_i;
     u8 v_6;
     u1 v_7;
-    u1 v_r2_0_in_i2044_not_not5760_i;
-    u1 v_r39_i_i2063_i;
-    u1 v_or_cond5749_i;
-    u1 v_r39_i_i2063_old_i;
-    P v_r16_i_i_i2066_i;
-    u64 v_r19_i_i_i2067_i;
-    u8 v_r29_i2068_i;
-    u1 v_r51_i53_i_i945_i;
-    u32 v_r56_i64_i_i1074_i;
-    u1 v_r68_i55_i_i947_i;
-    u1 v_r87_i_i_i949_i;
-    u1 v_or_cond5745_i;
-    u8 v_r106_i_i_i951_i;
-    u64 v_r3_i25_i2110_i;
-    u1 v_r39_i2113_i;
-    P v_r16_i_i2117_i;
-    u64 v_r19_i_i2118_i;
-    u8 v_r36_i2155_i;
-    u1 v_r38_i2156_i;
-    u8 v_r28_i2151_i;
-    u1 v_r30_i2152_i;
-    u32 v_r71_i_i_i_i977_i;
-    u1 v_r74_i_i_i_i989_i;
-    P v_r81_i_i_i_i1027_i;
-    u32 v_r87_i_i_i_i1029_i;
-    u32 v_r89_i_i_i_i1030_i;
-    u8 v_r91_i_i_i_i1031_i;
-    u32 v_r93_i_i_i_i1032_i;
-    u32 v_r96_i_i_i_i1033_i;
-    u1 v_r99_i_i_i_i991_i;
-    P v_r106_i_i_i_i1014_i;
-    P v_r108_i_i_i_i1015_i;
-    u32 v_r115_i_i_i_i1017_i;
-    u32 v_r117_i_i_i_i1018_i;
-    u8 v_r119_i_i_i_i1019_i;
-    u32 v_r121_i_i_i_i1020_i;
-    u32 v_r123_i_i_i_i1021_i;
-    u32 v_r126_i_i_i_i1022_i;
-    u8 v_r128_i_i_i_i1023_i;
-    u32 v_r130_i_i_i_i1024_i;
-    u32 v_r133_i_i_i_i1025_i;
-    u1 v_r136_i_i_i_i993_i;
-    P v_r143_i_i_i_i996_i;
-    P v_r145_i_i_i_i997_i;
-    P v_r147_i_i_i_i998_i;
-    u32 v_r155_i_i_i_i1000_i;
-    u32 v_r157_i_i_i_i1001_i;
-    u8 v_r159_i_i_i_i1002_i;
-    u32 v_r161_i_i_i_i1003_i;
-    u32 v_r163_i_i_i_i1004_i;
-    u32 v_r166_i_i_i_i1005_i;
-    u8 v_r168_i_i_i_i1006_i;
-    u32 v_r170_i_i_i_i1007_i;
-    u32 v_r172_i_i_i_i1008_i;
-    u32 v_r175_i_i_i_i1009_i;
-    u8 v_r177_i_i_i_i1010_i;
-    u32 v_r179_i_i_i_i1011_i;
-    u32 v_r182_i_i_i_i1012_i;
-    u64 v_r6_i12_sroa_30_154970_i;
-    P v_r6_i12_sroa_0_154968_i;
-    u32 v_r12_sroa_10_0_i2181_i;
-    u64 v_r3_i25_i_i2241_i;
-    u1 v_r39_i_i2244_i;
-    u1 v_r7_i_i_i2292_i;
-    u1 v_or_cond5775_i;
-    u8 v_r60_i_i2294_i;
-    u1 v_r62_i_i2295_i;
-    u1 v_r74_i_i2297_i;
-    u1 v_cond_i_i2298_i;
-    u1 v_or_cond_i_i2299_i;
-    P v_r84_i_i2312_i;
-    u8 v_r87_i_i2313_i;
-    u1 v_r89_i_i2314_i;
-    u64 v_r103_i_i2316_i;
-    P v_r0_i_i675_sroa_27_sroa_3_4_i;
-    u64 v_r0_i_i675_sroa_27_sroa_9_4_i;
-    u1 v_r7_i_i2366_i;
+    u1 v_r2_0_in_i2045_not_not5670_i;
+    u1 v_r39_i_i2064_i;
+    u1 v_or_cond5667_i;
+    u1 v_r39_i_i2064_old_i;
+    P v_r16_i_i_i2067_i;
+    u64 v_r19_i_i_i2068_i;
+    u8 v_r29_i2069_i;
+    u1 v_r51_i53_i_i946_i;
+    u32 v_r56_i64_i_i1075_i;
+    u1 v_r68_i55_i_i948_i;
+    u1 v_r87_i_i_i950_i;
+    u1 v_or_cond5626_i;
+    u8 v_r106_i_i_i952_i;
+    u64 v_r3_i25_i2111_i;
+    u1 v_r39_i2114_i;
+    P v_r16_i_i2118_i;
+    u64 v_r19_i_i2119_i;
+    u8 v_r36_i2156_i;
+    u1 v_r38_i2157_i;
+    u8 v_r28_i2152_i;
+    u1 v_r30_i2153_i;
+    u32 v_r71_i_i_i_i978_i;
+    u1 v_r74_i_i_i_i990_i;
+    P v_r81_i_i_i_i1028_i;
+    u32 v_r87_i_i_i_i1030_i;
+    u32 v_r89_i_i_i_i1031_i;
+    u8 v_r91_i_i_i_i1032_i;
+    u32 v_r93_i_i_i_i1033_i;
+    u32 v_r96_i_i_i_i1034_i;
+    u1 v_r99_i_i_i_i992_i;
+    P v_r106_i_i_i_i1015_i;
+    P v_r108_i_i_i_i1016_i;
+    u32 v_r115_i_i_i_i1018_i;
+    u32 v_r117_i_i_i_i1019_i;
+    u8 v_r119_i_i_i_i1020_i;
+    u32 v_r121_i_i_i_i1021_i;
+    u32 v_r123_i_i_i_i1022_i;
+    u32 v_r126_i_i_i_i1023_i;
+    u8 v_r128_i_i_i_i1024_i;
+    u32 v_r130_i_i_i_i1025_i;
+    u32 v_r133_i_i_i_i1026_i;
+    u1 v_r136_i_i_i_i994_i;
+    P v_r143_i_i_i_i997_i;
+    P v_r145_i_i_i_i998_i;
+    P v_r147_i_i_i_i999_i;
+    u32 v_r155_i_i_i_i1001_i;
+    u32 v_r157_i_i_i_i1002_i;
+    u8 v_r159_i_i_i_i1003_i;
+    u32 v_r161_i_i_i_i1004_i;
+    u32 v_r163_i_i_i_i1005_i;
+    u32 v_r166_i_i_i_i1006_i;
+    u8 v_r168_i_i_i_i1007_i;
+    u32 v_r170_i_i_i_i1008_i;
+    u32 v_r172_i_i_i_i1009_i;
+    u32 v_r175_i_i_i_i1010_i;
+    u8 v_r177_i_i_i_i1011_i;
+    u32 v_r179_i_i_i_i1012_i;
+    u32 v_r182_i_i_i_i1013_i;
+    u64 v_r6_i12_sroa_30_154971_i;
+    P v_r6_i12_sroa_0_154969_i;
+    u32 v_r12_sroa_10_0_i2182_i;
+    u64 v_r3_i25_i_i2242_i;
+    u1 v_r39_i_i2245_i;
+    u1 v_r7_i_i_i2293_i;
+    u1 v_or_cond;
+    u8 v_r60_i_i2295_i;
+    u1 v_r62_i_i2296_i;
+    u1 v_r74_i_i2298_i;
+    u1 v_cond_i_i2299_i;
+    u1 v_or_cond_i_i2300_i;
+    P v_r84_i_i2313_i;
+    u8 v_r87_i_i2314_i;
+    u1 v_r89_i_i2315_i;
+    u64 v_r103_i_i2317_i;
+    P v_r0_i_i676_sroa_27_sroa_3_4_i;
+    u64 v_r0_i_i676_sroa_27_sroa_9_4_i;
+    u1 v_r7_i_i2367_i;
     u64 v_r34_i;
     P v_r37_i;
     P v_r12_sroa_3_0_r37_sroa_idx_i;
@@ -41997,100 +42338,100 @@ static void proved_other_primes(P v_a0, u64 v_a1, P v_a2, u64 v_a3) {
     P v_r12_sroa_7_0_r37_sroa_idx_i;
     u64 v_r40_i;
     u1 v_r25_i;
-    u1 v_r39_i_i1097_i;
-    u1 v_or_cond5746_i;
+    u1 v_r39_i_i1098_i;
+    u1 v_or_cond5627_i;
     v_r10 = v_a2 == (P)0;
     v_r12 = v_r10 ? 4096u : 0u;
     v_r13 = (P)((u64)v_a2 + (u64)(v_r12));
-    v_r16_i1092_i = v_a1 < 4294967296ull;
-    if (v_r16_i1092_i) { goto L_loop_6_preheader_i; } else { goto L_pkcs1_c_private_key_pkcs1_c_other_primes_exit; }
+    v_r16_i1093_i = v_a1 < 4294967296ull;
+    if (v_r16_i1093_i) { goto L_loop_6_preheader_i; } else { goto L_pkcs1_c_private_key_pkcs1_c_other_primes_exit; }
 L_loop_6_preheader_i:;
-    v_r255750_not_i = v_a3 == 0u;
-    v_r39_i_i10975752_i = v_a1 == 0u;
-    v_or_cond57465753_i = (u1)(((u32)(v_r39_i_i10975752_i) | (u32)(v_r255750_not_i)) & 1);
-    if (v_or_cond57465753_i) { goto L_pkcs1_c_private_key_pkcs1_c_other_primes_exit; } else { goto L_arm_1_i60_i_preheader; }
+    v_r255629_not_i = v_a3 == 0u;
+    v_r39_i_i10985631_i = v_a1 == 0u;
+    v_or_cond56275632_i = (u1)(((u32)(v_r39_i_i10985631_i) | (u32)(v_r255629_not_i)) & 1);
+    if (v_or_cond56275632_i) { goto L_pkcs1_c_private_key_pkcs1_c_other_primes_exit; } else { goto L_arm_1_i60_i_preheader; }
 L_arm_1_i60_i_preheader:;
     v_r1 = v_a0 == (P)0;
     v_r3 = v_r1 ? 4096u : 0u;
     v_r4 = (P)((u64)v_a0 + (u64)(v_r3));
-    { p_v_r5_05756_i = 0u; p_v_r4_sroa_10_05755_i = v_a1; p_v_r4_sroa_0_05754_i = v_r4; goto L_arm_1_i60_i; }
+    { p_v_r5_05635_i = 0u; p_v_r4_sroa_10_05634_i = v_a1; p_v_r4_sroa_0_05633_i = v_r4; goto L_arm_1_i60_i; }
 L_arm_1_i60_i:;
-    v_r5_05756_i = p_v_r5_05756_i;
-    v_r4_sroa_10_05755_i = p_v_r4_sroa_10_05755_i;
-    v_r4_sroa_0_05754_i = p_v_r4_sroa_0_05754_i;
-    v_r16_i_i_i1099_i = v_r4_sroa_0_05754_i + 1;
-    v_r19_i_i_i1100_i = (u64)((u64)(v_r4_sroa_10_05755_i) + (u64)(18446744073709551615ull));
-    v_r29_i1101_i = get_u8(v_r4_sroa_0_05754_i);
-    v_r8_i_i_i = v_r29_i1101_i != 48u;
-    if (v_r8_i_i_i) { goto L_der_core_header_tag_of_exit_i_i; } else { goto L_join_3_i_i1126_i; }
+    v_r5_05635_i = p_v_r5_05635_i;
+    v_r4_sroa_10_05634_i = p_v_r4_sroa_10_05634_i;
+    v_r4_sroa_0_05633_i = p_v_r4_sroa_0_05633_i;
+    v_r16_i_i_i1100_i = v_r4_sroa_0_05633_i + 1;
+    v_r19_i_i_i1101_i = (u64)((u64)(v_r4_sroa_10_05634_i) + (u64)(18446744073709551615ull));
+    v_r29_i1102_i = get_u8(v_r4_sroa_0_05633_i);
+    v_r8_i_i_i = v_r29_i1102_i != 48u;
+    if (v_r8_i_i_i) { goto L_der_core_header_tag_of_exit_i_i; } else { goto L_join_3_i_i1127_i; }
 L_der_core_header_tag_of_exit_i_i:;
-    v_r9_i1112_i = (u8)((u32)(v_r29_i1101_i) & (u32)(31u));
-    v_r11_i1113_i = v_r9_i1112_i == 31u;
-    v_0 = (u8)((u32)(v_r29_i1101_i) & (u32)(223u));
+    v_r9_i1113_i = (u8)((u32)(v_r29_i1102_i) & (u32)(31u));
+    v_r11_i1114_i = v_r9_i1113_i == 31u;
+    v_0 = (u8)((u32)(v_r29_i1102_i) & (u32)(223u));
     v_1 = v_0 == 0u;
-    v_r2_0_in_i_not_not5758_i = (u1)(((u32)(v_r11_i1113_i) | (u32)(v_1)) & 1);
-    v_r39_i_i1129_i = v_r19_i_i_i1100_i == 0u;
-    v_or_cond5747_i = v_r2_0_in_i_not_not5758_i ? 1u : v_r39_i_i1129_i;
-    if (v_or_cond5747_i) { goto L_pkcs1_c_private_key_pkcs1_c_other_primes_exit; } else { goto L_arm_1_i129_i; }
-L_join_3_i_i1126_i:;
-    v_r39_i_i1129_old_i = v_r19_i_i_i1100_i == 0u;
-    if (v_r39_i_i1129_old_i) { goto L_pkcs1_c_private_key_pkcs1_c_other_primes_exit; } else { goto L_arm_1_i129_i; }
+    v_r2_0_in_i_not_not5636_i = (u1)(((u32)(v_r11_i1114_i) | (u32)(v_1)) & 1);
+    v_r39_i_i1130_i = v_r19_i_i_i1101_i == 0u;
+    v_or_cond5628_i = v_r2_0_in_i_not_not5636_i ? 1u : v_r39_i_i1130_i;
+    if (v_or_cond5628_i) { goto L_pkcs1_c_private_key_pkcs1_c_other_primes_exit; } else { goto L_arm_1_i129_i; }
+L_join_3_i_i1127_i:;
+    v_r39_i_i1130_old_i = v_r19_i_i_i1101_i == 0u;
+    if (v_r39_i_i1130_old_i) { goto L_pkcs1_c_private_key_pkcs1_c_other_primes_exit; } else { goto L_arm_1_i129_i; }
 L_arm_1_i129_i:;
-    v_r16_i_i_i1132_i = v_r4_sroa_0_05754_i + 2;
-    v_r19_i_i_i1133_i = (u64)((u64)(v_r4_sroa_10_05755_i) + (u64)(18446744073709551614ull));
-    v_r29_i1134_i = get_u8(v_r16_i_i_i1099_i);
-    v_r51_i132_i = (u8)(v_r29_i1134_i ^ ((u8)1 << 7)) > (u8)(255u ^ ((u8)1 << 7));
+    v_r16_i_i_i1133_i = v_r4_sroa_0_05633_i + 2;
+    v_r19_i_i_i1134_i = (u64)((u64)(v_r4_sroa_10_05634_i) + (u64)(18446744073709551614ull));
+    v_r29_i1135_i = get_u8(v_r16_i_i_i1100_i);
+    v_r51_i132_i = (u8)(v_r29_i1135_i ^ ((u8)1 << 7)) > (u8)(255u ^ ((u8)1 << 7));
     if (v_r51_i132_i) { goto L_then_5_i173_i; } else { goto L_join_7_i133_i; }
 L_then_5_i173_i:;
-    v_r56_i174_i = (u64)v_r29_i1134_i;
-    { p_v_r4_sroa_10_43357_i = v_r19_i_i_i1133_i; p_v_r4_sroa_0_43355_i = v_r16_i_i_i1132_i; p_v_r12_sroa_10_0_i_i = v_r56_i174_i; goto L_arm_1_i27_i; }
+    v_r56_i174_i = (u64)v_r29_i1135_i;
+    { p_v_r4_sroa_10_43358_i = v_r19_i_i_i1134_i; p_v_r4_sroa_0_43356_i = v_r16_i_i_i1133_i; p_v_r12_sroa_10_0_i_i = v_r56_i174_i; goto L_arm_1_i27_i; }
 L_join_7_i133_i:;
-    v_r68_i134_i = v_r29_i1134_i == 128u;
-    v_r87_i135_i = v_r29_i1134_i > 132u;
+    v_r68_i134_i = v_r29_i1135_i == 128u;
+    v_r87_i135_i = v_r29_i1135_i > 132u;
     v_or_cond_i = (u1)(((u32)(v_r68_i134_i) | (u32)(v_r87_i135_i)) & 1);
     if (v_or_cond_i) { goto L_pkcs1_c_private_key_pkcs1_c_other_primes_exit; } else { goto L_join_3_i_i; }
 L_join_3_i_i:;
-    v_r106_i136_i = (u8)((u32)(v_r29_i1134_i) & (u32)(127u));
+    v_r106_i136_i = (u8)((u32)(v_r29_i1135_i) & (u32)(127u));
     v_r3_i25_i_i = (u64)v_r106_i136_i;
-    v_r39_i1177_i = v_r19_i_i_i1133_i < v_r3_i25_i_i;
-    if (v_r39_i1177_i) { goto L_pkcs1_c_private_key_pkcs1_c_other_primes_exit; } else { goto L_arm_14_i_i; }
+    v_r39_i1178_i = v_r19_i_i_i1134_i < v_r3_i25_i_i;
+    if (v_r39_i1178_i) { goto L_pkcs1_c_private_key_pkcs1_c_other_primes_exit; } else { goto L_arm_14_i_i; }
 L_arm_14_i_i:;
-    v_r16_i_i1179_i = (P)((u64)v_r16_i_i_i1132_i + (u64)(v_r3_i25_i_i));
-    v_r19_i_i1180_i = (u64)((u64)(v_r19_i_i_i1133_i) - (u64)(v_r3_i25_i_i));
+    v_r16_i_i1180_i = (P)((u64)v_r16_i_i_i1133_i + (u64)(v_r3_i25_i_i));
+    v_r19_i_i1181_i = (u64)((u64)(v_r19_i_i_i1134_i) - (u64)(v_r3_i25_i_i));
     switch (v_r106_i136_i) {
     case 0u: { goto L_pkcs1_c_private_key_pkcs1_c_other_primes_exit; }
     case 1u: { goto L_der_core_length_is_overlong_exit_i; }
-    default: { goto L_join_7_i1202_i; }
+    default: { goto L_join_7_i1203_i; }
     }
-L_join_7_i1202_i:;
-    v_r36_i1203_i = get_u8(v_r16_i_i_i1132_i);
-    v_r38_i1204_i = v_r36_i1203_i == 0u;
-    if (v_r38_i1204_i) { goto L_pkcs1_c_private_key_pkcs1_c_other_primes_exit; } else { goto L_join_7_i_i_i; }
+L_join_7_i1203_i:;
+    v_r36_i1204_i = get_u8(v_r16_i_i_i1133_i);
+    v_r38_i1205_i = v_r36_i1204_i == 0u;
+    if (v_r38_i1205_i) { goto L_pkcs1_c_private_key_pkcs1_c_other_primes_exit; } else { goto L_join_7_i_i_i; }
 L_der_core_length_is_overlong_exit_i:;
-    v_r28_i1200_i = get_u8(v_r16_i_i_i1132_i);
-    v_r30_i1201_i = (u8)(v_r28_i1200_i ^ ((u8)1 << 7)) > (u8)(255u ^ ((u8)1 << 7));
-    if (v_r30_i1201_i) { goto L_pkcs1_c_private_key_pkcs1_c_other_primes_exit; } else { goto L_then_5_i_i_i; }
+    v_r28_i1201_i = get_u8(v_r16_i_i_i1133_i);
+    v_r30_i1202_i = (u8)(v_r28_i1201_i ^ ((u8)1 << 7)) > (u8)(255u ^ ((u8)1 << 7));
+    if (v_r30_i1202_i) { goto L_pkcs1_c_private_key_pkcs1_c_other_primes_exit; } else { goto L_then_5_i_i_i; }
 L_then_5_i_i_i:;
-    v_r71_i_i_i = (u64)v_r28_i1200_i;
-    { p_v_r4_sroa_10_43357_i = v_r19_i_i1180_i; p_v_r4_sroa_0_43355_i = v_r16_i_i1179_i; p_v_r12_sroa_10_0_i_i = v_r71_i_i_i; goto L_arm_1_i27_i; }
+    v_r71_i_i_i = (u64)v_r28_i1201_i;
+    { p_v_r4_sroa_10_43358_i = v_r19_i_i1181_i; p_v_r4_sroa_0_43356_i = v_r16_i_i1180_i; p_v_r12_sroa_10_0_i_i = v_r71_i_i_i; goto L_arm_1_i27_i; }
 L_join_7_i_i_i:;
     v_r74_i_i_i = v_r106_i136_i < 3u;
     if (v_r74_i_i_i) { goto L_then_8_i_i_i; } else { goto L_join_10_i_i_i; }
 L_then_8_i_i_i:;
-    v_r81_i_i_i = v_r4_sroa_0_05754_i + 3;
-    v_r87_i_i_i = (u64)v_r36_i1203_i;
+    v_r81_i_i_i = v_r4_sroa_0_05633_i + 3;
+    v_r87_i_i_i = (u64)v_r36_i1204_i;
     v_r89_i_i_i = (u64)((u64)(v_r87_i_i_i) << (u64)((8u & 63)));
     v_r91_i_i_i = get_u8(v_r81_i_i_i);
     v_r93_i_i_i = (u64)v_r91_i_i_i;
     v_r96_i_i_i = (u64)((u64)(v_r89_i_i_i) | (u64)(v_r93_i_i_i));
-    { p_v_r4_sroa_10_43357_i = v_r19_i_i1180_i; p_v_r4_sroa_0_43355_i = v_r16_i_i1179_i; p_v_r12_sroa_10_0_i_i = v_r96_i_i_i; goto L_arm_1_i27_i; }
+    { p_v_r4_sroa_10_43358_i = v_r19_i_i1181_i; p_v_r4_sroa_0_43356_i = v_r16_i_i1180_i; p_v_r12_sroa_10_0_i_i = v_r96_i_i_i; goto L_arm_1_i27_i; }
 L_join_10_i_i_i:;
     v_r99_i_i_i = v_r106_i136_i == 3u;
     if (v_r99_i_i_i) { goto L_then_11_i_i_i; } else { goto L_join_13_i_i_i; }
 L_then_11_i_i_i:;
-    v_r106_i_i_i = v_r4_sroa_0_05754_i + 3;
-    v_r108_i_i_i = v_r4_sroa_0_05754_i + 4;
-    v_r115_i_i_i = (u64)v_r36_i1203_i;
+    v_r106_i_i_i = v_r4_sroa_0_05633_i + 3;
+    v_r108_i_i_i = v_r4_sroa_0_05633_i + 4;
+    v_r115_i_i_i = (u64)v_r36_i1204_i;
     v_r117_i_i_i = (u64)((u64)(v_r115_i_i_i) << (u64)((16u & 63)));
     v_r119_i_i_i = get_u8(v_r106_i_i_i);
     v_r121_i_i_i = (u64)v_r119_i_i_i;
@@ -42099,15 +42440,15 @@ L_then_11_i_i_i:;
     v_r128_i_i_i = get_u8(v_r108_i_i_i);
     v_r130_i_i_i = (u64)v_r128_i_i_i;
     v_r133_i_i_i = (u64)((u64)(v_r126_i_i_i) | (u64)(v_r130_i_i_i));
-    { p_v_r4_sroa_10_43357_i = v_r19_i_i1180_i; p_v_r4_sroa_0_43355_i = v_r16_i_i1179_i; p_v_r12_sroa_10_0_i_i = v_r133_i_i_i; goto L_arm_1_i27_i; }
+    { p_v_r4_sroa_10_43358_i = v_r19_i_i1181_i; p_v_r4_sroa_0_43356_i = v_r16_i_i1180_i; p_v_r12_sroa_10_0_i_i = v_r133_i_i_i; goto L_arm_1_i27_i; }
 L_join_13_i_i_i:;
     v_r136_i_i_i = v_r106_i136_i < 5u;
     if (v_r136_i_i_i) { goto L_then_14_i_i_i; } else { goto L_join_16_i_i_i; }
 L_then_14_i_i_i:;
-    v_r143_i_i_i = v_r4_sroa_0_05754_i + 3;
-    v_r145_i_i_i = v_r4_sroa_0_05754_i + 4;
-    v_r147_i_i_i = v_r4_sroa_0_05754_i + 5;
-    v_r155_i_i_i = (u64)v_r36_i1203_i;
+    v_r143_i_i_i = v_r4_sroa_0_05633_i + 3;
+    v_r145_i_i_i = v_r4_sroa_0_05633_i + 4;
+    v_r147_i_i_i = v_r4_sroa_0_05633_i + 5;
+    v_r155_i_i_i = (u64)v_r36_i1204_i;
     v_r157_i_i_i = (u64)((u64)(v_r155_i_i_i) << (u64)((24u & 63)));
     v_r159_i_i_i = get_u8(v_r143_i_i_i);
     v_r161_i_i_i = (u64)v_r159_i_i_i;
@@ -42120,96 +42461,96 @@ L_then_14_i_i_i:;
     v_r177_i_i_i = get_u8(v_r147_i_i_i);
     v_r179_i_i_i = (u64)v_r177_i_i_i;
     v_r182_i_i_i = (u64)((u64)(v_r175_i_i_i) | (u64)(v_r179_i_i_i));
-    { p_v_r4_sroa_10_43357_i = v_r19_i_i1180_i; p_v_r4_sroa_0_43355_i = v_r16_i_i1179_i; p_v_r12_sroa_10_0_i_i = v_r182_i_i_i; goto L_arm_1_i27_i; }
+    { p_v_r4_sroa_10_43358_i = v_r19_i_i1181_i; p_v_r4_sroa_0_43356_i = v_r16_i_i1180_i; p_v_r12_sroa_10_0_i_i = v_r182_i_i_i; goto L_arm_1_i27_i; }
 L_join_16_i_i_i:;
     TRAP();
     TRAP();
 L_arm_1_i27_i:;
-    v_r4_sroa_10_43357_i = p_v_r4_sroa_10_43357_i;
-    v_r4_sroa_0_43355_i = p_v_r4_sroa_0_43355_i;
+    v_r4_sroa_10_43358_i = p_v_r4_sroa_10_43358_i;
+    v_r4_sroa_0_43356_i = p_v_r4_sroa_0_43356_i;
     v_r12_sroa_10_0_i_i = p_v_r12_sroa_10_0_i_i;
-    v_r39_i_i1285_i = v_r4_sroa_10_43357_i < v_r12_sroa_10_0_i_i;
-    v_or_cond5772_i = v_r8_i_i_i ? 1u : v_r39_i_i1285_i;
-    if (v_or_cond5772_i) { goto L_pkcs1_c_private_key_pkcs1_c_other_primes_exit; } else { goto L_join_3_i_i1319_i; }
-L_join_3_i_i1319_i:;
-    v_r16_i_i_i1288_i = (P)((u64)v_r4_sroa_0_43355_i + (u64)(v_r12_sroa_10_0_i_i));
-    v_r19_i_i_i1289_i = (u64)((u64)(v_r4_sroa_10_43357_i) - (u64)(v_r12_sroa_10_0_i_i));
-    v_r39_i_i1322_i = v_r12_sroa_10_0_i_i == 0u;
-    if (v_r39_i_i1322_i) { goto L_pkcs1_c_private_key_pkcs1_c_other_primes_exit; } else { goto L_arm_1_i_i_i; }
+    v_r39_i_i1286_i = v_r4_sroa_10_43358_i < v_r12_sroa_10_0_i_i;
+    v_or_cond5664_i = v_r8_i_i_i ? 1u : v_r39_i_i1286_i;
+    if (v_or_cond5664_i) { goto L_pkcs1_c_private_key_pkcs1_c_other_primes_exit; } else { goto L_join_3_i_i1320_i; }
+L_join_3_i_i1320_i:;
+    v_r16_i_i_i1289_i = (P)((u64)v_r4_sroa_0_43356_i + (u64)(v_r12_sroa_10_0_i_i));
+    v_r19_i_i_i1290_i = (u64)((u64)(v_r4_sroa_10_43358_i) - (u64)(v_r12_sroa_10_0_i_i));
+    v_r39_i_i1323_i = v_r12_sroa_10_0_i_i == 0u;
+    if (v_r39_i_i1323_i) { goto L_pkcs1_c_private_key_pkcs1_c_other_primes_exit; } else { goto L_arm_1_i_i_i; }
 L_arm_1_i_i_i:;
-    v_r16_i_i_i1325_i = v_r4_sroa_0_43355_i + 1;
-    v_r19_i_i_i1326_i = (u64)((u64)(v_r12_sroa_10_0_i_i) + (u64)(18446744073709551615ull));
-    v_r29_i1327_i = get_u8(v_r4_sroa_0_43355_i);
-    v_r8_i_i_i_i = v_r29_i1327_i == 2u;
-    if (v_r8_i_i_i_i) { goto L_join_3_i_i1367_i; } else { goto L_der_core_header_tag_of_exit_i_i_i; }
+    v_r16_i_i_i1326_i = v_r4_sroa_0_43356_i + 1;
+    v_r19_i_i_i1327_i = (u64)((u64)(v_r12_sroa_10_0_i_i) + (u64)(18446744073709551615ull));
+    v_r29_i1328_i = get_u8(v_r4_sroa_0_43356_i);
+    v_r8_i_i_i_i = v_r29_i1328_i == 2u;
+    if (v_r8_i_i_i_i) { goto L_join_3_i_i1368_i; } else { goto L_der_core_header_tag_of_exit_i_i_i; }
 L_der_core_header_tag_of_exit_i_i_i:;
-    v_r9_i1349_i = (u8)((u32)(v_r29_i1327_i) & (u32)(31u));
-    v_r11_i1350_i = v_r9_i1349_i == 31u;
-    v_2 = (u8)((u32)(v_r29_i1327_i) & (u32)(223u));
+    v_r9_i1350_i = (u8)((u32)(v_r29_i1328_i) & (u32)(31u));
+    v_r11_i1351_i = v_r9_i1350_i == 31u;
+    v_2 = (u8)((u32)(v_r29_i1328_i) & (u32)(223u));
     v_3 = v_2 == 0u;
-    v_r2_0_in_i1351_not_not5776_i = (u1)(((u32)(v_r11_i1350_i) | (u32)(v_3)) & 1);
-    v_r39_i_i1370_i = v_r19_i_i_i1326_i == 0u;
-    v_or_cond5773_i = v_r2_0_in_i1351_not_not5776_i ? 1u : v_r39_i_i1370_i;
-    if (v_or_cond5773_i) { goto L_pkcs1_c_private_key_pkcs1_c_other_primes_exit; } else { goto L_arm_1_i50_i_i; }
-L_join_3_i_i1367_i:;
-    v_r39_i_i1370_old_i = v_r19_i_i_i1326_i == 0u;
-    if (v_r39_i_i1370_old_i) { goto L_pkcs1_c_private_key_pkcs1_c_other_primes_exit; } else { goto L_arm_1_i50_i_i; }
+    v_r2_0_in_i1352_not_not5668_i = (u1)(((u32)(v_r11_i1351_i) | (u32)(v_3)) & 1);
+    v_r39_i_i1371_i = v_r19_i_i_i1327_i == 0u;
+    v_or_cond5665_i = v_r2_0_in_i1352_not_not5668_i ? 1u : v_r39_i_i1371_i;
+    if (v_or_cond5665_i) { goto L_pkcs1_c_private_key_pkcs1_c_other_primes_exit; } else { goto L_arm_1_i50_i_i; }
+L_join_3_i_i1368_i:;
+    v_r39_i_i1371_old_i = v_r19_i_i_i1327_i == 0u;
+    if (v_r39_i_i1371_old_i) { goto L_pkcs1_c_private_key_pkcs1_c_other_primes_exit; } else { goto L_arm_1_i50_i_i; }
 L_arm_1_i50_i_i:;
-    v_r16_i_i_i1373_i = v_r4_sroa_0_43355_i + 2;
-    v_r19_i_i_i1374_i = (u64)((u64)(v_r12_sroa_10_0_i_i) + (u64)(18446744073709551614ull));
-    v_r29_i1375_i = get_u8(v_r16_i_i_i1325_i);
-    v_r51_i53_i_i = (u8)(v_r29_i1375_i ^ ((u8)1 << 7)) > (u8)(255u ^ ((u8)1 << 7));
-    if (v_r51_i53_i_i) { goto L_then_5_i_i432_i; } else { goto L_join_7_i54_i_i; }
-L_then_5_i_i432_i:;
-    v_r56_i64_i_i = (u32)v_r29_i1375_i;
-    { p_v_r6_i12_sroa_30_53798_i = v_r19_i_i_i1374_i; p_v_r6_i12_sroa_0_53796_i = v_r16_i_i_i1373_i; p_v_r12_sroa_10_0_i1488_i = v_r56_i64_i_i; goto L_arm_1_i325_i; }
+    v_r16_i_i_i1374_i = v_r4_sroa_0_43356_i + 2;
+    v_r19_i_i_i1375_i = (u64)((u64)(v_r12_sroa_10_0_i_i) + (u64)(18446744073709551614ull));
+    v_r29_i1376_i = get_u8(v_r16_i_i_i1326_i);
+    v_r51_i53_i_i = (u8)(v_r29_i1376_i ^ ((u8)1 << 7)) > (u8)(255u ^ ((u8)1 << 7));
+    if (v_r51_i53_i_i) { goto L_then_5_i_i433_i; } else { goto L_join_7_i54_i_i; }
+L_then_5_i_i433_i:;
+    v_r56_i64_i_i = (u32)v_r29_i1376_i;
+    { p_v_r6_i12_sroa_30_53799_i = v_r19_i_i_i1375_i; p_v_r6_i12_sroa_0_53797_i = v_r16_i_i_i1374_i; p_v_r12_sroa_10_0_i1489_i = v_r56_i64_i_i; goto L_arm_1_i326_i; }
 L_join_7_i54_i_i:;
-    v_r68_i55_i_i = v_r29_i1375_i == 128u;
-    v_r87_i_i404_i = v_r29_i1375_i > 132u;
-    v_or_cond5743_i = (u1)(((u32)(v_r68_i55_i_i) | (u32)(v_r87_i_i404_i)) & 1);
-    if (v_or_cond5743_i) { goto L_pkcs1_c_private_key_pkcs1_c_other_primes_exit; } else { goto L_join_3_i1416_i; }
-L_join_3_i1416_i:;
-    v_r106_i_i406_i = (u8)((u32)(v_r29_i1375_i) & (u32)(127u));
-    v_r3_i25_i1417_i = (u64)v_r106_i_i406_i;
-    v_r39_i1420_i = v_r19_i_i_i1374_i < v_r3_i25_i1417_i;
-    if (v_r39_i1420_i) { goto L_pkcs1_c_private_key_pkcs1_c_other_primes_exit; } else { goto L_arm_14_i_i_i; }
+    v_r68_i55_i_i = v_r29_i1376_i == 128u;
+    v_r87_i_i405_i = v_r29_i1376_i > 132u;
+    v_or_cond5624_i = (u1)(((u32)(v_r68_i55_i_i) | (u32)(v_r87_i_i405_i)) & 1);
+    if (v_or_cond5624_i) { goto L_pkcs1_c_private_key_pkcs1_c_other_primes_exit; } else { goto L_join_3_i1417_i; }
+L_join_3_i1417_i:;
+    v_r106_i_i407_i = (u8)((u32)(v_r29_i1376_i) & (u32)(127u));
+    v_r3_i25_i1418_i = (u64)v_r106_i_i407_i;
+    v_r39_i1421_i = v_r19_i_i_i1375_i < v_r3_i25_i1418_i;
+    if (v_r39_i1421_i) { goto L_pkcs1_c_private_key_pkcs1_c_other_primes_exit; } else { goto L_arm_14_i_i_i; }
 L_arm_14_i_i_i:;
-    v_r16_i_i1424_i = (P)((u64)v_r16_i_i_i1373_i + (u64)(v_r3_i25_i1417_i));
-    v_r19_i_i1425_i = (u64)((u64)(v_r19_i_i_i1374_i) - (u64)(v_r3_i25_i1417_i));
-    switch (v_r106_i_i406_i) {
+    v_r16_i_i1425_i = (P)((u64)v_r16_i_i_i1374_i + (u64)(v_r3_i25_i1418_i));
+    v_r19_i_i1426_i = (u64)((u64)(v_r19_i_i_i1375_i) - (u64)(v_r3_i25_i1418_i));
+    switch (v_r106_i_i407_i) {
     case 0u: { goto L_pkcs1_c_private_key_pkcs1_c_other_primes_exit; }
-    case 1u: { goto L_der_core_length_is_overlong_exit1464_i; }
-    default: { goto L_join_7_i1461_i; }
+    case 1u: { goto L_der_core_length_is_overlong_exit1465_i; }
+    default: { goto L_join_7_i1462_i; }
     }
-L_join_7_i1461_i:;
-    v_r36_i1462_i = get_u8(v_r16_i_i_i1373_i);
-    v_r38_i1463_i = v_r36_i1462_i == 0u;
-    if (v_r38_i1463_i) { goto L_pkcs1_c_private_key_pkcs1_c_other_primes_exit; } else { goto L_join_7_i_i_i_i; }
-L_der_core_length_is_overlong_exit1464_i:;
-    v_r28_i1458_i = get_u8(v_r16_i_i_i1373_i);
-    v_r30_i1459_i = (u8)(v_r28_i1458_i ^ ((u8)1 << 7)) > (u8)(255u ^ ((u8)1 << 7));
-    if (v_r30_i1459_i) { goto L_pkcs1_c_private_key_pkcs1_c_other_primes_exit; } else { goto L_then_5_i_i_i_i; }
+L_join_7_i1462_i:;
+    v_r36_i1463_i = get_u8(v_r16_i_i_i1374_i);
+    v_r38_i1464_i = v_r36_i1463_i == 0u;
+    if (v_r38_i1464_i) { goto L_pkcs1_c_private_key_pkcs1_c_other_primes_exit; } else { goto L_join_7_i_i_i_i; }
+L_der_core_length_is_overlong_exit1465_i:;
+    v_r28_i1459_i = get_u8(v_r16_i_i_i1374_i);
+    v_r30_i1460_i = (u8)(v_r28_i1459_i ^ ((u8)1 << 7)) > (u8)(255u ^ ((u8)1 << 7));
+    if (v_r30_i1460_i) { goto L_pkcs1_c_private_key_pkcs1_c_other_primes_exit; } else { goto L_then_5_i_i_i_i; }
 L_then_5_i_i_i_i:;
-    v_r71_i_i_i_i = (u32)v_r28_i1458_i;
-    { p_v_r6_i12_sroa_30_53798_i = v_r19_i_i1425_i; p_v_r6_i12_sroa_0_53796_i = v_r16_i_i1424_i; p_v_r12_sroa_10_0_i1488_i = v_r71_i_i_i_i; goto L_arm_1_i325_i; }
+    v_r71_i_i_i_i = (u32)v_r28_i1459_i;
+    { p_v_r6_i12_sroa_30_53799_i = v_r19_i_i1426_i; p_v_r6_i12_sroa_0_53797_i = v_r16_i_i1425_i; p_v_r12_sroa_10_0_i1489_i = v_r71_i_i_i_i; goto L_arm_1_i326_i; }
 L_join_7_i_i_i_i:;
-    v_r74_i_i_i_i = v_r106_i_i406_i < 3u;
+    v_r74_i_i_i_i = v_r106_i_i407_i < 3u;
     if (v_r74_i_i_i_i) { goto L_then_8_i_i_i_i; } else { goto L_join_10_i_i_i_i; }
 L_then_8_i_i_i_i:;
-    v_r81_i_i_i_i = v_r4_sroa_0_43355_i + 3;
-    v_r87_i_i_i_i = (u32)v_r36_i1462_i;
+    v_r81_i_i_i_i = v_r4_sroa_0_43356_i + 3;
+    v_r87_i_i_i_i = (u32)v_r36_i1463_i;
     v_r89_i_i_i_i = (u32)((u32)(v_r87_i_i_i_i) << (u32)((8u & 31)));
     v_r91_i_i_i_i = get_u8(v_r81_i_i_i_i);
     v_r93_i_i_i_i = (u32)v_r91_i_i_i_i;
     v_r96_i_i_i_i = (u32)((u32)(v_r89_i_i_i_i) | (u32)(v_r93_i_i_i_i));
-    { p_v_r6_i12_sroa_30_53798_i = v_r19_i_i1425_i; p_v_r6_i12_sroa_0_53796_i = v_r16_i_i1424_i; p_v_r12_sroa_10_0_i1488_i = v_r96_i_i_i_i; goto L_arm_1_i325_i; }
+    { p_v_r6_i12_sroa_30_53799_i = v_r19_i_i1426_i; p_v_r6_i12_sroa_0_53797_i = v_r16_i_i1425_i; p_v_r12_sroa_10_0_i1489_i = v_r96_i_i_i_i; goto L_arm_1_i326_i; }
 L_join_10_i_i_i_i:;
-    v_r99_i_i_i_i = v_r106_i_i406_i == 3u;
+    v_r99_i_i_i_i = v_r106_i_i407_i == 3u;
     if (v_r99_i_i_i_i) { goto L_then_11_i_i_i_i; } else { goto L_join_13_i_i_i_i; }
 L_then_11_i_i_i_i:;
-    v_r106_i_i_i_i = v_r4_sroa_0_43355_i + 3;
-    v_r108_i_i_i_i = v_r4_sroa_0_43355_i + 4;
-    v_r115_i_i_i_i = (u32)v_r36_i1462_i;
+    v_r106_i_i_i_i = v_r4_sroa_0_43356_i + 3;
+    v_r108_i_i_i_i = v_r4_sroa_0_43356_i + 4;
+    v_r115_i_i_i_i = (u32)v_r36_i1463_i;
     v_r117_i_i_i_i = (u32)((u32)(v_r115_i_i_i_i) << (u32)((16u & 31)));
     v_r119_i_i_i_i = get_u8(v_r106_i_i_i_i);
     v_r121_i_i_i_i = (u32)v_r119_i_i_i_i;
@@ -42218,15 +42559,15 @@ L_then_11_i_i_i_i:;
     v_r128_i_i_i_i = get_u8(v_r108_i_i_i_i);
     v_r130_i_i_i_i = (u32)v_r128_i_i_i_i;
     v_r133_i_i_i_i = (u32)((u32)(v_r126_i_i_i_i) | (u32)(v_r130_i_i_i_i));
-    { p_v_r6_i12_sroa_30_53798_i = v_r19_i_i1425_i; p_v_r6_i12_sroa_0_53796_i = v_r16_i_i1424_i; p_v_r12_sroa_10_0_i1488_i = v_r133_i_i_i_i; goto L_arm_1_i325_i; }
+    { p_v_r6_i12_sroa_30_53799_i = v_r19_i_i1426_i; p_v_r6_i12_sroa_0_53797_i = v_r16_i_i1425_i; p_v_r12_sroa_10_0_i1489_i = v_r133_i_i_i_i; goto L_arm_1_i326_i; }
 L_join_13_i_i_i_i:;
-    v_r136_i_i_i_i = v_r106_i_i406_i < 5u;
+    v_r136_i_i_i_i = v_r106_i_i407_i < 5u;
     if (v_r136_i_i_i_i) { goto L_then_14_i_i_i_i; } else { goto L_join_16_i_i_i_i; }
 L_then_14_i_i_i_i:;
-    v_r143_i_i_i_i = v_r4_sroa_0_43355_i + 3;
-    v_r145_i_i_i_i = v_r4_sroa_0_43355_i + 4;
-    v_r147_i_i_i_i = v_r4_sroa_0_43355_i + 5;
-    v_r155_i_i_i_i = (u32)v_r36_i1462_i;
+    v_r143_i_i_i_i = v_r4_sroa_0_43356_i + 3;
+    v_r145_i_i_i_i = v_r4_sroa_0_43356_i + 4;
+    v_r147_i_i_i_i = v_r4_sroa_0_43356_i + 5;
+    v_r155_i_i_i_i = (u32)v_r36_i1463_i;
     v_r157_i_i_i_i = (u32)((u32)(v_r155_i_i_i_i) << (u32)((24u & 31)));
     v_r159_i_i_i_i = get_u8(v_r143_i_i_i_i);
     v_r161_i_i_i_i = (u32)v_r159_i_i_i_i;
@@ -42239,120 +42580,120 @@ L_then_14_i_i_i_i:;
     v_r177_i_i_i_i = get_u8(v_r147_i_i_i_i);
     v_r179_i_i_i_i = (u32)v_r177_i_i_i_i;
     v_r182_i_i_i_i = (u32)((u32)(v_r175_i_i_i_i) | (u32)(v_r179_i_i_i_i));
-    { p_v_r6_i12_sroa_30_53798_i = v_r19_i_i1425_i; p_v_r6_i12_sroa_0_53796_i = v_r16_i_i1424_i; p_v_r12_sroa_10_0_i1488_i = v_r182_i_i_i_i; goto L_arm_1_i325_i; }
+    { p_v_r6_i12_sroa_30_53799_i = v_r19_i_i1426_i; p_v_r6_i12_sroa_0_53797_i = v_r16_i_i1425_i; p_v_r12_sroa_10_0_i1489_i = v_r182_i_i_i_i; goto L_arm_1_i326_i; }
 L_join_16_i_i_i_i:;
     TRAP();
     TRAP();
-L_arm_1_i325_i:;
-    v_r6_i12_sroa_30_53798_i = p_v_r6_i12_sroa_30_53798_i;
-    v_r6_i12_sroa_0_53796_i = p_v_r6_i12_sroa_0_53796_i;
-    v_r12_sroa_10_0_i1488_i = p_v_r12_sroa_10_0_i1488_i;
-    if (v_r8_i_i_i_i) { goto L_join_3_i_i1547_i; } else { goto L_pkcs1_c_private_key_pkcs1_c_other_primes_exit; }
-L_join_3_i_i1547_i:;
-    v_r3_i25_i_i1548_i = (u64)v_r12_sroa_10_0_i1488_i;
-    v_r39_i_i1551_i = v_r6_i12_sroa_30_53798_i < v_r3_i25_i_i1548_i;
-    if (v_r39_i_i1551_i) { goto L_pkcs1_c_private_key_pkcs1_c_other_primes_exit; } else { goto L_join_3_i_i1590_i; }
-L_join_3_i_i1590_i:;
-    v_r16_i_i_i1554_i = (P)((u64)v_r6_i12_sroa_0_53796_i + (u64)(v_r3_i25_i_i1548_i));
-    v_r19_i_i_i1555_i = (u64)((u64)(v_r6_i12_sroa_30_53798_i) - (u64)(v_r3_i25_i_i1548_i));
-    v_r7_i_i_i1599_i = v_r12_sroa_10_0_i1488_i == 0u;
-    if (v_r7_i_i_i1599_i) { goto L_pkcs1_c_private_key_pkcs1_c_other_primes_exit; } else { goto L_join_8_i_i_i; }
+L_arm_1_i326_i:;
+    v_r6_i12_sroa_30_53799_i = p_v_r6_i12_sroa_30_53799_i;
+    v_r6_i12_sroa_0_53797_i = p_v_r6_i12_sroa_0_53797_i;
+    v_r12_sroa_10_0_i1489_i = p_v_r12_sroa_10_0_i1489_i;
+    if (v_r8_i_i_i_i) { goto L_join_3_i_i1548_i; } else { goto L_pkcs1_c_private_key_pkcs1_c_other_primes_exit; }
+L_join_3_i_i1548_i:;
+    v_r3_i25_i_i1549_i = (u64)v_r12_sroa_10_0_i1489_i;
+    v_r39_i_i1552_i = v_r6_i12_sroa_30_53799_i < v_r3_i25_i_i1549_i;
+    if (v_r39_i_i1552_i) { goto L_pkcs1_c_private_key_pkcs1_c_other_primes_exit; } else { goto L_join_3_i_i1591_i; }
+L_join_3_i_i1591_i:;
+    v_r16_i_i_i1555_i = (P)((u64)v_r6_i12_sroa_0_53797_i + (u64)(v_r3_i25_i_i1549_i));
+    v_r19_i_i_i1556_i = (u64)((u64)(v_r6_i12_sroa_30_53799_i) - (u64)(v_r3_i25_i_i1549_i));
+    v_r7_i_i_i1600_i = v_r12_sroa_10_0_i1489_i == 0u;
+    if (v_r7_i_i_i1600_i) { goto L_pkcs1_c_private_key_pkcs1_c_other_primes_exit; } else { goto L_join_8_i_i_i; }
 L_join_8_i_i_i:;
-    v_r60_i_i1600_i = get_u8(v_r6_i12_sroa_0_53796_i);
-    v_r62_i_i1601_i = (u8)(v_r60_i_i1600_i ^ ((u8)1 << 7)) < (u8)(0u ^ ((u8)1 << 7));
-    if (v_r62_i_i1601_i) { goto L_pkcs1_c_private_key_pkcs1_c_other_primes_exit; } else { goto L_join_11_i_i_i; }
+    v_r60_i_i1601_i = get_u8(v_r6_i12_sroa_0_53797_i);
+    v_r62_i_i1602_i = (u8)(v_r60_i_i1601_i ^ ((u8)1 << 7)) < (u8)(0u ^ ((u8)1 << 7));
+    if (v_r62_i_i1602_i) { goto L_pkcs1_c_private_key_pkcs1_c_other_primes_exit; } else { goto L_join_11_i_i_i; }
 L_join_11_i_i_i:;
-    v_r74_i_i1602_i = v_r12_sroa_10_0_i1488_i != 1u;
-    v_cond_i_i_i = v_r60_i_i1600_i == 0u;
-    v_or_cond_i_i_i = (u1)(((u32)(v_r74_i_i1602_i) & (u32)(v_cond_i_i_i)) & 1);
-    if (v_or_cond_i_i_i) { goto L_arm_15_i_i1610_i; } else { p_v_r0_i268_sroa_27_sroa_3_2_i = v_r6_i12_sroa_0_53796_i; p_v_r0_i268_sroa_27_sroa_9_2_i = v_r3_i25_i_i1548_i; goto L_join_3_i_i1659_i; }
-L_arm_15_i_i1610_i:;
-    v_r84_i_i1611_i = v_r6_i12_sroa_0_53796_i + 1;
-    v_r87_i_i1612_i = get_u8(v_r84_i_i1611_i);
-    v_r89_i_i1613_i = (u8)(v_r87_i_i1612_i ^ ((u8)1 << 7)) > (u8)(255u ^ ((u8)1 << 7));
-    if (v_r89_i_i1613_i) { goto L_pkcs1_c_private_key_pkcs1_c_other_primes_exit; } else { goto L_join_20_i_i_i; }
+    v_r74_i_i1603_i = v_r12_sroa_10_0_i1489_i != 1u;
+    v_cond_i_i_i = v_r60_i_i1601_i == 0u;
+    v_or_cond_i_i_i = (u1)(((u32)(v_r74_i_i1603_i) & (u32)(v_cond_i_i_i)) & 1);
+    if (v_or_cond_i_i_i) { goto L_arm_15_i_i1611_i; } else { p_v_r0_i268_sroa_27_sroa_3_2_i = v_r6_i12_sroa_0_53797_i; p_v_r0_i268_sroa_27_sroa_9_2_i = v_r3_i25_i_i1549_i; goto L_join_3_i_i1660_i; }
+L_arm_15_i_i1611_i:;
+    v_r84_i_i1612_i = v_r6_i12_sroa_0_53797_i + 1;
+    v_r87_i_i1613_i = get_u8(v_r84_i_i1612_i);
+    v_r89_i_i1614_i = (u8)(v_r87_i_i1613_i ^ ((u8)1 << 7)) > (u8)(255u ^ ((u8)1 << 7));
+    if (v_r89_i_i1614_i) { goto L_pkcs1_c_private_key_pkcs1_c_other_primes_exit; } else { goto L_join_20_i_i_i; }
 L_join_20_i_i_i:;
-    v_r103_i_i1614_i = (u64)((u64)(v_r3_i25_i_i1548_i) + (u64)(18446744073709551615ull));
-    { p_v_r0_i268_sroa_27_sroa_3_2_i = v_r84_i_i1611_i; p_v_r0_i268_sroa_27_sroa_9_2_i = v_r103_i_i1614_i; goto L_join_3_i_i1659_i; }
-L_join_3_i_i1659_i:;
+    v_r103_i_i1615_i = (u64)((u64)(v_r3_i25_i_i1549_i) + (u64)(18446744073709551615ull));
+    { p_v_r0_i268_sroa_27_sroa_3_2_i = v_r84_i_i1612_i; p_v_r0_i268_sroa_27_sroa_9_2_i = v_r103_i_i1615_i; goto L_join_3_i_i1660_i; }
+L_join_3_i_i1660_i:;
     v_r0_i268_sroa_27_sroa_3_2_i = p_v_r0_i268_sroa_27_sroa_3_2_i;
     v_r0_i268_sroa_27_sroa_9_2_i = p_v_r0_i268_sroa_27_sroa_9_2_i;
-    v_r39_i_i1662_i = v_r6_i12_sroa_30_53798_i == v_r3_i25_i_i1548_i;
-    if (v_r39_i_i1662_i) { goto L_pkcs1_c_private_key_pkcs1_c_other_primes_exit; } else { goto L_arm_1_i_i_i_i; }
+    v_r39_i_i1663_i = v_r6_i12_sroa_30_53799_i == v_r3_i25_i_i1549_i;
+    if (v_r39_i_i1663_i) { goto L_pkcs1_c_private_key_pkcs1_c_other_primes_exit; } else { goto L_arm_1_i_i_i_i; }
 L_arm_1_i_i_i_i:;
-    v_r16_i_i_i1665_i = v_r16_i_i_i1554_i + 1;
-    v_r19_i_i_i1666_i = (u64)((u64)(v_r19_i_i_i1555_i) + (u64)(18446744073709551615ull));
-    v_r29_i1667_i = get_u8(v_r16_i_i_i1554_i);
-    v_r8_i_i_i_i_i = v_r29_i1667_i == 2u;
-    if (v_r8_i_i_i_i_i) { goto L_join_3_i_i1707_i; } else { goto L_der_core_header_tag_of_exit_i_i_i_i; }
+    v_r16_i_i_i1666_i = v_r16_i_i_i1555_i + 1;
+    v_r19_i_i_i1667_i = (u64)((u64)(v_r19_i_i_i1556_i) + (u64)(18446744073709551615ull));
+    v_r29_i1668_i = get_u8(v_r16_i_i_i1555_i);
+    v_r8_i_i_i_i_i = v_r29_i1668_i == 2u;
+    if (v_r8_i_i_i_i_i) { goto L_join_3_i_i1708_i; } else { goto L_der_core_header_tag_of_exit_i_i_i_i; }
 L_der_core_header_tag_of_exit_i_i_i_i:;
-    v_r9_i1689_i = (u8)((u32)(v_r29_i1667_i) & (u32)(31u));
-    v_r11_i1690_i = v_r9_i1689_i == 31u;
-    v_4 = (u8)((u32)(v_r29_i1667_i) & (u32)(223u));
+    v_r9_i1690_i = (u8)((u32)(v_r29_i1668_i) & (u32)(31u));
+    v_r11_i1691_i = v_r9_i1690_i == 31u;
+    v_4 = (u8)((u32)(v_r29_i1668_i) & (u32)(223u));
     v_5 = v_4 == 0u;
-    v_r2_0_in_i1691_not_not5777_i = (u1)(((u32)(v_r11_i1690_i) | (u32)(v_5)) & 1);
-    v_r39_i_i1710_i = v_r19_i_i_i1666_i == 0u;
-    v_or_cond5774_i = v_r2_0_in_i1691_not_not5777_i ? 1u : v_r39_i_i1710_i;
-    if (v_or_cond5774_i) { goto L_pkcs1_c_private_key_pkcs1_c_other_primes_exit; } else { goto L_arm_1_i50_i_i_i; }
-L_join_3_i_i1707_i:;
-    v_r39_i_i1710_old_i = v_r19_i_i_i1666_i == 0u;
-    if (v_r39_i_i1710_old_i) { goto L_pkcs1_c_private_key_pkcs1_c_other_primes_exit; } else { goto L_arm_1_i50_i_i_i; }
+    v_r2_0_in_i1692_not_not5669_i = (u1)(((u32)(v_r11_i1691_i) | (u32)(v_5)) & 1);
+    v_r39_i_i1711_i = v_r19_i_i_i1667_i == 0u;
+    v_or_cond5666_i = v_r2_0_in_i1692_not_not5669_i ? 1u : v_r39_i_i1711_i;
+    if (v_or_cond5666_i) { goto L_pkcs1_c_private_key_pkcs1_c_other_primes_exit; } else { goto L_arm_1_i50_i_i_i; }
+L_join_3_i_i1708_i:;
+    v_r39_i_i1711_old_i = v_r19_i_i_i1667_i == 0u;
+    if (v_r39_i_i1711_old_i) { goto L_pkcs1_c_private_key_pkcs1_c_other_primes_exit; } else { goto L_arm_1_i50_i_i_i; }
 L_arm_1_i50_i_i_i:;
-    v_r16_i_i_i1713_i = v_r16_i_i_i1554_i + 2;
-    v_r19_i_i_i1714_i = (u64)((u64)(v_r19_i_i_i1555_i) + (u64)(18446744073709551614ull));
-    v_r29_i1715_i = get_u8(v_r16_i_i_i1665_i);
-    v_r51_i53_i_i_i = (u8)(v_r29_i1715_i ^ ((u8)1 << 7)) > (u8)(255u ^ ((u8)1 << 7));
-    if (v_r51_i53_i_i_i) { goto L_then_5_i_i_i624_i; } else { goto L_join_7_i54_i_i_i; }
-L_then_5_i_i_i624_i:;
-    v_r56_i64_i_i_i = (u32)v_r29_i1715_i;
-    { p_v_r6_i12_sroa_30_104384_i = v_r19_i_i_i1714_i; p_v_r6_i12_sroa_0_104382_i = v_r16_i_i_i1713_i; p_v_r12_sroa_10_0_i1828_i = v_r56_i64_i_i_i; goto L_arm_1_i_i537_i; }
+    v_r16_i_i_i1714_i = v_r16_i_i_i1555_i + 2;
+    v_r19_i_i_i1715_i = (u64)((u64)(v_r19_i_i_i1556_i) + (u64)(18446744073709551614ull));
+    v_r29_i1716_i = get_u8(v_r16_i_i_i1666_i);
+    v_r51_i53_i_i_i = (u8)(v_r29_i1716_i ^ ((u8)1 << 7)) > (u8)(255u ^ ((u8)1 << 7));
+    if (v_r51_i53_i_i_i) { goto L_then_5_i_i_i625_i; } else { goto L_join_7_i54_i_i_i; }
+L_then_5_i_i_i625_i:;
+    v_r56_i64_i_i_i = (u32)v_r29_i1716_i;
+    { p_v_r6_i12_sroa_30_104385_i = v_r19_i_i_i1715_i; p_v_r6_i12_sroa_0_104383_i = v_r16_i_i_i1714_i; p_v_r12_sroa_10_0_i1829_i = v_r56_i64_i_i_i; goto L_arm_1_i_i538_i; }
 L_join_7_i54_i_i_i:;
-    v_r68_i55_i_i_i = v_r29_i1715_i == 128u;
-    v_r87_i_i_i596_i = v_r29_i1715_i > 132u;
-    v_or_cond5744_i = (u1)(((u32)(v_r68_i55_i_i_i) | (u32)(v_r87_i_i_i596_i)) & 1);
-    if (v_or_cond5744_i) { goto L_pkcs1_c_private_key_pkcs1_c_other_primes_exit; } else { goto L_join_3_i1756_i; }
-L_join_3_i1756_i:;
-    v_r106_i_i_i598_i = (u8)((u32)(v_r29_i1715_i) & (u32)(127u));
-    v_r3_i25_i1757_i = (u64)v_r106_i_i_i598_i;
-    v_r39_i1760_i = v_r19_i_i_i1714_i < v_r3_i25_i1757_i;
-    if (v_r39_i1760_i) { goto L_pkcs1_c_private_key_pkcs1_c_other_primes_exit; } else { goto L_arm_14_i_i_i_i; }
+    v_r68_i55_i_i_i = v_r29_i1716_i == 128u;
+    v_r87_i_i_i597_i = v_r29_i1716_i > 132u;
+    v_or_cond5625_i = (u1)(((u32)(v_r68_i55_i_i_i) | (u32)(v_r87_i_i_i597_i)) & 1);
+    if (v_or_cond5625_i) { goto L_pkcs1_c_private_key_pkcs1_c_other_primes_exit; } else { goto L_join_3_i1757_i; }
+L_join_3_i1757_i:;
+    v_r106_i_i_i599_i = (u8)((u32)(v_r29_i1716_i) & (u32)(127u));
+    v_r3_i25_i1758_i = (u64)v_r106_i_i_i599_i;
+    v_r39_i1761_i = v_r19_i_i_i1715_i < v_r3_i25_i1758_i;
+    if (v_r39_i1761_i) { goto L_pkcs1_c_private_key_pkcs1_c_other_primes_exit; } else { goto L_arm_14_i_i_i_i; }
 L_arm_14_i_i_i_i:;
-    v_r16_i_i1764_i = (P)((u64)v_r16_i_i_i1713_i + (u64)(v_r3_i25_i1757_i));
-    v_r19_i_i1765_i = (u64)((u64)(v_r19_i_i_i1714_i) - (u64)(v_r3_i25_i1757_i));
-    switch (v_r106_i_i_i598_i) {
+    v_r16_i_i1765_i = (P)((u64)v_r16_i_i_i1714_i + (u64)(v_r3_i25_i1758_i));
+    v_r19_i_i1766_i = (u64)((u64)(v_r19_i_i_i1715_i) - (u64)(v_r3_i25_i1758_i));
+    switch (v_r106_i_i_i599_i) {
     case 0u: { goto L_pkcs1_c_private_key_pkcs1_c_other_primes_exit; }
-    case 1u: { goto L_der_core_length_is_overlong_exit1804_i; }
-    default: { goto L_join_7_i1801_i; }
+    case 1u: { goto L_der_core_length_is_overlong_exit1805_i; }
+    default: { goto L_join_7_i1802_i; }
     }
-L_join_7_i1801_i:;
-    v_r36_i1802_i = get_u8(v_r16_i_i_i1713_i);
-    v_r38_i1803_i = v_r36_i1802_i == 0u;
-    if (v_r38_i1803_i) { goto L_pkcs1_c_private_key_pkcs1_c_other_primes_exit; } else { goto L_join_7_i_i_i_i_i; }
-L_der_core_length_is_overlong_exit1804_i:;
-    v_r28_i1798_i = get_u8(v_r16_i_i_i1713_i);
-    v_r30_i1799_i = (u8)(v_r28_i1798_i ^ ((u8)1 << 7)) > (u8)(255u ^ ((u8)1 << 7));
-    if (v_r30_i1799_i) { goto L_pkcs1_c_private_key_pkcs1_c_other_primes_exit; } else { goto L_then_5_i_i_i_i_i; }
+L_join_7_i1802_i:;
+    v_r36_i1803_i = get_u8(v_r16_i_i_i1714_i);
+    v_r38_i1804_i = v_r36_i1803_i == 0u;
+    if (v_r38_i1804_i) { goto L_pkcs1_c_private_key_pkcs1_c_other_primes_exit; } else { goto L_join_7_i_i_i_i_i; }
+L_der_core_length_is_overlong_exit1805_i:;
+    v_r28_i1799_i = get_u8(v_r16_i_i_i1714_i);
+    v_r30_i1800_i = (u8)(v_r28_i1799_i ^ ((u8)1 << 7)) > (u8)(255u ^ ((u8)1 << 7));
+    if (v_r30_i1800_i) { goto L_pkcs1_c_private_key_pkcs1_c_other_primes_exit; } else { goto L_then_5_i_i_i_i_i; }
 L_then_5_i_i_i_i_i:;
-    v_r71_i_i_i_i_i = (u32)v_r28_i1798_i;
-    { p_v_r6_i12_sroa_30_104384_i = v_r19_i_i1765_i; p_v_r6_i12_sroa_0_104382_i = v_r16_i_i1764_i; p_v_r12_sroa_10_0_i1828_i = v_r71_i_i_i_i_i; goto L_arm_1_i_i537_i; }
+    v_r71_i_i_i_i_i = (u32)v_r28_i1799_i;
+    { p_v_r6_i12_sroa_30_104385_i = v_r19_i_i1766_i; p_v_r6_i12_sroa_0_104383_i = v_r16_i_i1765_i; p_v_r12_sroa_10_0_i1829_i = v_r71_i_i_i_i_i; goto L_arm_1_i_i538_i; }
 L_join_7_i_i_i_i_i:;
-    v_r74_i_i_i_i_i = v_r106_i_i_i598_i < 3u;
+    v_r74_i_i_i_i_i = v_r106_i_i_i599_i < 3u;
     if (v_r74_i_i_i_i_i) { goto L_then_8_i_i_i_i_i; } else { goto L_join_10_i_i_i_i_i; }
 L_then_8_i_i_i_i_i:;
-    v_r81_i_i_i_i_i = v_r16_i_i_i1554_i + 3;
-    v_r87_i_i_i_i_i = (u32)v_r36_i1802_i;
+    v_r81_i_i_i_i_i = v_r16_i_i_i1555_i + 3;
+    v_r87_i_i_i_i_i = (u32)v_r36_i1803_i;
     v_r89_i_i_i_i_i = (u32)((u32)(v_r87_i_i_i_i_i) << (u32)((8u & 31)));
     v_r91_i_i_i_i_i = get_u8(v_r81_i_i_i_i_i);
     v_r93_i_i_i_i_i = (u32)v_r91_i_i_i_i_i;
     v_r96_i_i_i_i_i = (u32)((u32)(v_r89_i_i_i_i_i) | (u32)(v_r93_i_i_i_i_i));
-    { p_v_r6_i12_sroa_30_104384_i = v_r19_i_i1765_i; p_v_r6_i12_sroa_0_104382_i = v_r16_i_i1764_i; p_v_r12_sroa_10_0_i1828_i = v_r96_i_i_i_i_i; goto L_arm_1_i_i537_i; }
+    { p_v_r6_i12_sroa_30_104385_i = v_r19_i_i1766_i; p_v_r6_i12_sroa_0_104383_i = v_r16_i_i1765_i; p_v_r12_sroa_10_0_i1829_i = v_r96_i_i_i_i_i; goto L_arm_1_i_i538_i; }
 L_join_10_i_i_i_i_i:;
-    v_r99_i_i_i_i_i = v_r106_i_i_i598_i == 3u;
+    v_r99_i_i_i_i_i = v_r106_i_i_i599_i == 3u;
     if (v_r99_i_i_i_i_i) { goto L_then_11_i_i_i_i_i; } else { goto L_join_13_i_i_i_i_i; }
 L_then_11_i_i_i_i_i:;
-    v_r106_i_i_i_i_i = v_r16_i_i_i1554_i + 3;
-    v_r108_i_i_i_i_i = v_r16_i_i_i1554_i + 4;
-    v_r115_i_i_i_i_i = (u32)v_r36_i1802_i;
+    v_r106_i_i_i_i_i = v_r16_i_i_i1555_i + 3;
+    v_r108_i_i_i_i_i = v_r16_i_i_i1555_i + 4;
+    v_r115_i_i_i_i_i = (u32)v_r36_i1803_i;
     v_r117_i_i_i_i_i = (u32)((u32)(v_r115_i_i_i_i_i) << (u32)((16u & 31)));
     v_r119_i_i_i_i_i = get_u8(v_r106_i_i_i_i_i);
     v_r121_i_i_i_i_i = (u32)v_r119_i_i_i_i_i;
@@ -42361,15 +42702,15 @@ L_then_11_i_i_i_i_i:;
     v_r128_i_i_i_i_i = get_u8(v_r108_i_i_i_i_i);
     v_r130_i_i_i_i_i = (u32)v_r128_i_i_i_i_i;
     v_r133_i_i_i_i_i = (u32)((u32)(v_r126_i_i_i_i_i) | (u32)(v_r130_i_i_i_i_i));
-    { p_v_r6_i12_sroa_30_104384_i = v_r19_i_i1765_i; p_v_r6_i12_sroa_0_104382_i = v_r16_i_i1764_i; p_v_r12_sroa_10_0_i1828_i = v_r133_i_i_i_i_i; goto L_arm_1_i_i537_i; }
+    { p_v_r6_i12_sroa_30_104385_i = v_r19_i_i1766_i; p_v_r6_i12_sroa_0_104383_i = v_r16_i_i1765_i; p_v_r12_sroa_10_0_i1829_i = v_r133_i_i_i_i_i; goto L_arm_1_i_i538_i; }
 L_join_13_i_i_i_i_i:;
-    v_r136_i_i_i_i_i = v_r106_i_i_i598_i < 5u;
+    v_r136_i_i_i_i_i = v_r106_i_i_i599_i < 5u;
     if (v_r136_i_i_i_i_i) { goto L_then_14_i_i_i_i_i; } else { goto L_join_16_i_i_i_i_i; }
 L_then_14_i_i_i_i_i:;
-    v_r143_i_i_i_i_i = v_r16_i_i_i1554_i + 3;
-    v_r145_i_i_i_i_i = v_r16_i_i_i1554_i + 4;
-    v_r147_i_i_i_i_i = v_r16_i_i_i1554_i + 5;
-    v_r155_i_i_i_i_i = (u32)v_r36_i1802_i;
+    v_r143_i_i_i_i_i = v_r16_i_i_i1555_i + 3;
+    v_r145_i_i_i_i_i = v_r16_i_i_i1555_i + 4;
+    v_r147_i_i_i_i_i = v_r16_i_i_i1555_i + 5;
+    v_r155_i_i_i_i_i = (u32)v_r36_i1803_i;
     v_r157_i_i_i_i_i = (u32)((u32)(v_r155_i_i_i_i_i) << (u32)((24u & 31)));
     v_r159_i_i_i_i_i = get_u8(v_r143_i_i_i_i_i);
     v_r161_i_i_i_i_i = (u32)v_r159_i_i_i_i_i;
@@ -42382,205 +42723,205 @@ L_then_14_i_i_i_i_i:;
     v_r177_i_i_i_i_i = get_u8(v_r147_i_i_i_i_i);
     v_r179_i_i_i_i_i = (u32)v_r177_i_i_i_i_i;
     v_r182_i_i_i_i_i = (u32)((u32)(v_r175_i_i_i_i_i) | (u32)(v_r179_i_i_i_i_i));
-    { p_v_r6_i12_sroa_30_104384_i = v_r19_i_i1765_i; p_v_r6_i12_sroa_0_104382_i = v_r16_i_i1764_i; p_v_r12_sroa_10_0_i1828_i = v_r182_i_i_i_i_i; goto L_arm_1_i_i537_i; }
+    { p_v_r6_i12_sroa_30_104385_i = v_r19_i_i1766_i; p_v_r6_i12_sroa_0_104383_i = v_r16_i_i1765_i; p_v_r12_sroa_10_0_i1829_i = v_r182_i_i_i_i_i; goto L_arm_1_i_i538_i; }
 L_join_16_i_i_i_i_i:;
     TRAP();
     TRAP();
-L_arm_1_i_i537_i:;
-    v_r6_i12_sroa_30_104384_i = p_v_r6_i12_sroa_30_104384_i;
-    v_r6_i12_sroa_0_104382_i = p_v_r6_i12_sroa_0_104382_i;
-    v_r12_sroa_10_0_i1828_i = p_v_r12_sroa_10_0_i1828_i;
-    if (v_r8_i_i_i_i_i) { goto L_join_3_i_i1887_i; } else { goto L_pkcs1_c_private_key_pkcs1_c_other_primes_exit; }
-L_join_3_i_i1887_i:;
-    v_r3_i25_i_i1888_i = (u64)v_r12_sroa_10_0_i1828_i;
-    v_r39_i_i1891_i = v_r6_i12_sroa_30_104384_i < v_r3_i25_i_i1888_i;
-    if (v_r39_i_i1891_i) { goto L_pkcs1_c_private_key_pkcs1_c_other_primes_exit; } else { goto L_join_3_i_i1930_i; }
-L_join_3_i_i1930_i:;
-    v_r16_i_i_i1894_i = (P)((u64)v_r6_i12_sroa_0_104382_i + (u64)(v_r3_i25_i_i1888_i));
-    v_r19_i_i_i1895_i = (u64)((u64)(v_r6_i12_sroa_30_104384_i) - (u64)(v_r3_i25_i_i1888_i));
-    v_r7_i_i_i1939_i = v_r12_sroa_10_0_i1828_i == 0u;
-    if (v_r7_i_i_i1939_i) { goto L_pkcs1_c_private_key_pkcs1_c_other_primes_exit; } else { goto L_join_8_i_i1940_i; }
-L_join_8_i_i1940_i:;
-    v_r60_i_i1941_i = get_u8(v_r6_i12_sroa_0_104382_i);
-    v_r62_i_i1942_i = (u8)(v_r60_i_i1941_i ^ ((u8)1 << 7)) < (u8)(0u ^ ((u8)1 << 7));
-    if (v_r62_i_i1942_i) { goto L_pkcs1_c_private_key_pkcs1_c_other_primes_exit; } else { goto L_join_11_i_i1943_i; }
-L_join_11_i_i1943_i:;
-    v_r74_i_i1944_i = v_r12_sroa_10_0_i1828_i != 1u;
-    v_cond_i_i1945_i = v_r60_i_i1941_i == 0u;
-    v_or_cond_i_i1946_i = (u1)(((u32)(v_r74_i_i1944_i) & (u32)(v_cond_i_i1945_i)) & 1);
-    if (v_or_cond_i_i1946_i) { goto L_arm_15_i_i1958_i; } else { p_v_r0_i_i450_sroa_27_sroa_3_3_i = v_r6_i12_sroa_0_104382_i; p_v_r0_i_i450_sroa_27_sroa_9_3_i = v_r3_i25_i_i1888_i; goto L_der_core_decode_read_encoding_d25002354a06649a_exi; }
-L_arm_15_i_i1958_i:;
-    v_r84_i_i1959_i = v_r6_i12_sroa_0_104382_i + 1;
-    v_r87_i_i1960_i = get_u8(v_r84_i_i1959_i);
-    v_r89_i_i1961_i = (u8)(v_r87_i_i1960_i ^ ((u8)1 << 7)) > (u8)(255u ^ ((u8)1 << 7));
-    if (v_r89_i_i1961_i) { goto L_pkcs1_c_private_key_pkcs1_c_other_primes_exit; } else { goto L_join_20_i_i1962_i; }
-L_join_20_i_i1962_i:;
-    v_r103_i_i1963_i = (u64)((u64)(v_r3_i25_i_i1888_i) + (u64)(18446744073709551615ull));
-    { p_v_r0_i_i450_sroa_27_sroa_3_3_i = v_r84_i_i1959_i; p_v_r0_i_i450_sroa_27_sroa_9_3_i = v_r103_i_i1963_i; goto L_der_core_decode_read_encoding_d25002354a06649a_exi; }
-L_der_core_decode_read_encoding_d25002354a06649a_exi:;
-    v_r0_i_i450_sroa_27_sroa_3_3_i = p_v_r0_i_i450_sroa_27_sroa_3_3_i;
-    v_r0_i_i450_sroa_27_sroa_9_3_i = p_v_r0_i_i450_sroa_27_sroa_9_3_i;
-    v_r39_i_i2015_i = v_r6_i12_sroa_30_104384_i == v_r3_i25_i_i1888_i;
-    if (v_r39_i_i2015_i) { goto L_pkcs1_c_private_key_pkcs1_c_other_primes_exit; } else { goto L_arm_1_i_i_i851_i; }
-L_arm_1_i_i_i851_i:;
-    v_r16_i_i_i2018_i = v_r16_i_i_i1894_i + 1;
-    v_r19_i_i_i2019_i = (u64)((u64)(v_r19_i_i_i1895_i) + (u64)(18446744073709551615ull));
-    v_r29_i2020_i = get_u8(v_r16_i_i_i1894_i);
-    v_r8_i_i_i_i855_i = v_r29_i2020_i == 2u;
-    if (v_r8_i_i_i_i855_i) { goto L_join_3_i_i2060_i; } else { goto L_der_core_header_tag_of_exit_i_i_i857_i; }
-L_der_core_header_tag_of_exit_i_i_i857_i:;
-    v_r9_i2042_i = (u8)((u32)(v_r29_i2020_i) & (u32)(31u));
-    v_r11_i2043_i = v_r9_i2042_i == 31u;
-    v_6 = (u8)((u32)(v_r29_i2020_i) & (u32)(223u));
+L_arm_1_i_i538_i:;
+    v_r6_i12_sroa_30_104385_i = p_v_r6_i12_sroa_30_104385_i;
+    v_r6_i12_sroa_0_104383_i = p_v_r6_i12_sroa_0_104383_i;
+    v_r12_sroa_10_0_i1829_i = p_v_r12_sroa_10_0_i1829_i;
+    if (v_r8_i_i_i_i_i) { goto L_join_3_i_i1888_i; } else { goto L_pkcs1_c_private_key_pkcs1_c_other_primes_exit; }
+L_join_3_i_i1888_i:;
+    v_r3_i25_i_i1889_i = (u64)v_r12_sroa_10_0_i1829_i;
+    v_r39_i_i1892_i = v_r6_i12_sroa_30_104385_i < v_r3_i25_i_i1889_i;
+    if (v_r39_i_i1892_i) { goto L_pkcs1_c_private_key_pkcs1_c_other_primes_exit; } else { goto L_join_3_i_i1931_i; }
+L_join_3_i_i1931_i:;
+    v_r16_i_i_i1895_i = (P)((u64)v_r6_i12_sroa_0_104383_i + (u64)(v_r3_i25_i_i1889_i));
+    v_r19_i_i_i1896_i = (u64)((u64)(v_r6_i12_sroa_30_104385_i) - (u64)(v_r3_i25_i_i1889_i));
+    v_r7_i_i_i1940_i = v_r12_sroa_10_0_i1829_i == 0u;
+    if (v_r7_i_i_i1940_i) { goto L_pkcs1_c_private_key_pkcs1_c_other_primes_exit; } else { goto L_join_8_i_i1941_i; }
+L_join_8_i_i1941_i:;
+    v_r60_i_i1942_i = get_u8(v_r6_i12_sroa_0_104383_i);
+    v_r62_i_i1943_i = (u8)(v_r60_i_i1942_i ^ ((u8)1 << 7)) < (u8)(0u ^ ((u8)1 << 7));
+    if (v_r62_i_i1943_i) { goto L_pkcs1_c_private_key_pkcs1_c_other_primes_exit; } else { goto L_join_11_i_i1944_i; }
+L_join_11_i_i1944_i:;
+    v_r74_i_i1945_i = v_r12_sroa_10_0_i1829_i != 1u;
+    v_cond_i_i1946_i = v_r60_i_i1942_i == 0u;
+    v_or_cond_i_i1947_i = (u1)(((u32)(v_r74_i_i1945_i) & (u32)(v_cond_i_i1946_i)) & 1);
+    if (v_or_cond_i_i1947_i) { goto L_arm_15_i_i1959_i; } else { p_v_r0_i_i451_sroa_27_sroa_3_3_i = v_r6_i12_sroa_0_104383_i; p_v_r0_i_i451_sroa_27_sroa_9_3_i = v_r3_i25_i_i1889_i; goto L_join_3_i_i2013_i; }
+L_arm_15_i_i1959_i:;
+    v_r84_i_i1960_i = v_r6_i12_sroa_0_104383_i + 1;
+    v_r87_i_i1961_i = get_u8(v_r84_i_i1960_i);
+    v_r89_i_i1962_i = (u8)(v_r87_i_i1961_i ^ ((u8)1 << 7)) > (u8)(255u ^ ((u8)1 << 7));
+    if (v_r89_i_i1962_i) { goto L_pkcs1_c_private_key_pkcs1_c_other_primes_exit; } else { goto L_join_20_i_i1963_i; }
+L_join_20_i_i1963_i:;
+    v_r103_i_i1964_i = (u64)((u64)(v_r3_i25_i_i1889_i) + (u64)(18446744073709551615ull));
+    { p_v_r0_i_i451_sroa_27_sroa_3_3_i = v_r84_i_i1960_i; p_v_r0_i_i451_sroa_27_sroa_9_3_i = v_r103_i_i1964_i; goto L_join_3_i_i2013_i; }
+L_join_3_i_i2013_i:;
+    v_r0_i_i451_sroa_27_sroa_3_3_i = p_v_r0_i_i451_sroa_27_sroa_3_3_i;
+    v_r0_i_i451_sroa_27_sroa_9_3_i = p_v_r0_i_i451_sroa_27_sroa_9_3_i;
+    v_r39_i_i2016_i = v_r6_i12_sroa_30_104385_i == v_r3_i25_i_i1889_i;
+    if (v_r39_i_i2016_i) { goto L_pkcs1_c_private_key_pkcs1_c_other_primes_exit; } else { goto L_arm_1_i_i_i852_i; }
+L_arm_1_i_i_i852_i:;
+    v_r16_i_i_i2019_i = v_r16_i_i_i1895_i + 1;
+    v_r19_i_i_i2020_i = (u64)((u64)(v_r19_i_i_i1896_i) + (u64)(18446744073709551615ull));
+    v_r29_i2021_i = get_u8(v_r16_i_i_i1895_i);
+    v_r8_i_i_i_i856_i = v_r29_i2021_i == 2u;
+    if (v_r8_i_i_i_i856_i) { goto L_join_3_i_i2061_i; } else { goto L_der_core_header_tag_of_exit_i_i_i858_i; }
+L_der_core_header_tag_of_exit_i_i_i858_i:;
+    v_r9_i2043_i = (u8)((u32)(v_r29_i2021_i) & (u32)(31u));
+    v_r11_i2044_i = v_r9_i2043_i == 31u;
+    v_6 = (u8)((u32)(v_r29_i2021_i) & (u32)(223u));
     v_7 = v_6 == 0u;
-    v_r2_0_in_i2044_not_not5760_i = (u1)(((u32)(v_r11_i2043_i) | (u32)(v_7)) & 1);
-    v_r39_i_i2063_i = v_r19_i_i_i2019_i == 0u;
-    v_or_cond5749_i = v_r2_0_in_i2044_not_not5760_i ? 1u : v_r39_i_i2063_i;
-    if (v_or_cond5749_i) { goto L_pkcs1_c_private_key_pkcs1_c_other_primes_exit; } else { goto L_arm_1_i50_i_i942_i; }
-L_join_3_i_i2060_i:;
-    v_r39_i_i2063_old_i = v_r19_i_i_i2019_i == 0u;
-    if (v_r39_i_i2063_old_i) { goto L_pkcs1_c_private_key_pkcs1_c_other_primes_exit; } else { goto L_arm_1_i50_i_i942_i; }
-L_arm_1_i50_i_i942_i:;
-    v_r16_i_i_i2066_i = v_r16_i_i_i1894_i + 2;
-    v_r19_i_i_i2067_i = (u64)((u64)(v_r19_i_i_i1895_i) + (u64)(18446744073709551614ull));
-    v_r29_i2068_i = get_u8(v_r16_i_i_i2018_i);
-    v_r51_i53_i_i945_i = (u8)(v_r29_i2068_i ^ ((u8)1 << 7)) > (u8)(255u ^ ((u8)1 << 7));
-    if (v_r51_i53_i_i945_i) { goto L_then_5_i_i_i1073_i; } else { goto L_join_7_i54_i_i946_i; }
-L_then_5_i_i_i1073_i:;
-    v_r56_i64_i_i1074_i = (u32)v_r29_i2068_i;
-    { p_v_r6_i12_sroa_30_154970_i = v_r19_i_i_i2067_i; p_v_r6_i12_sroa_0_154968_i = v_r16_i_i_i2066_i; p_v_r12_sroa_10_0_i2181_i = v_r56_i64_i_i1074_i; goto L_arm_1_i_i775_i; }
-L_join_7_i54_i_i946_i:;
-    v_r68_i55_i_i947_i = v_r29_i2068_i == 128u;
-    v_r87_i_i_i949_i = v_r29_i2068_i > 132u;
-    v_or_cond5745_i = (u1)(((u32)(v_r68_i55_i_i947_i) | (u32)(v_r87_i_i_i949_i)) & 1);
-    if (v_or_cond5745_i) { goto L_pkcs1_c_private_key_pkcs1_c_other_primes_exit; } else { goto L_join_3_i2109_i; }
-L_join_3_i2109_i:;
-    v_r106_i_i_i951_i = (u8)((u32)(v_r29_i2068_i) & (u32)(127u));
-    v_r3_i25_i2110_i = (u64)v_r106_i_i_i951_i;
-    v_r39_i2113_i = v_r19_i_i_i2067_i < v_r3_i25_i2110_i;
-    if (v_r39_i2113_i) { goto L_pkcs1_c_private_key_pkcs1_c_other_primes_exit; } else { goto L_arm_14_i_i_i968_i; }
-L_arm_14_i_i_i968_i:;
-    v_r16_i_i2117_i = (P)((u64)v_r16_i_i_i2066_i + (u64)(v_r3_i25_i2110_i));
-    v_r19_i_i2118_i = (u64)((u64)(v_r19_i_i_i2067_i) - (u64)(v_r3_i25_i2110_i));
-    switch (v_r106_i_i_i951_i) {
+    v_r2_0_in_i2045_not_not5670_i = (u1)(((u32)(v_r11_i2044_i) | (u32)(v_7)) & 1);
+    v_r39_i_i2064_i = v_r19_i_i_i2020_i == 0u;
+    v_or_cond5667_i = v_r2_0_in_i2045_not_not5670_i ? 1u : v_r39_i_i2064_i;
+    if (v_or_cond5667_i) { goto L_pkcs1_c_private_key_pkcs1_c_other_primes_exit; } else { goto L_arm_1_i50_i_i943_i; }
+L_join_3_i_i2061_i:;
+    v_r39_i_i2064_old_i = v_r19_i_i_i2020_i == 0u;
+    if (v_r39_i_i2064_old_i) { goto L_pkcs1_c_private_key_pkcs1_c_other_primes_exit; } else { goto L_arm_1_i50_i_i943_i; }
+L_arm_1_i50_i_i943_i:;
+    v_r16_i_i_i2067_i = v_r16_i_i_i1895_i + 2;
+    v_r19_i_i_i2068_i = (u64)((u64)(v_r19_i_i_i1896_i) + (u64)(18446744073709551614ull));
+    v_r29_i2069_i = get_u8(v_r16_i_i_i2019_i);
+    v_r51_i53_i_i946_i = (u8)(v_r29_i2069_i ^ ((u8)1 << 7)) > (u8)(255u ^ ((u8)1 << 7));
+    if (v_r51_i53_i_i946_i) { goto L_then_5_i_i_i1074_i; } else { goto L_join_7_i54_i_i947_i; }
+L_then_5_i_i_i1074_i:;
+    v_r56_i64_i_i1075_i = (u32)v_r29_i2069_i;
+    { p_v_r6_i12_sroa_30_154971_i = v_r19_i_i_i2068_i; p_v_r6_i12_sroa_0_154969_i = v_r16_i_i_i2067_i; p_v_r12_sroa_10_0_i2182_i = v_r56_i64_i_i1075_i; goto L_arm_1_i_i776_i; }
+L_join_7_i54_i_i947_i:;
+    v_r68_i55_i_i948_i = v_r29_i2069_i == 128u;
+    v_r87_i_i_i950_i = v_r29_i2069_i > 132u;
+    v_or_cond5626_i = (u1)(((u32)(v_r68_i55_i_i948_i) | (u32)(v_r87_i_i_i950_i)) & 1);
+    if (v_or_cond5626_i) { goto L_pkcs1_c_private_key_pkcs1_c_other_primes_exit; } else { goto L_join_3_i2110_i; }
+L_join_3_i2110_i:;
+    v_r106_i_i_i952_i = (u8)((u32)(v_r29_i2069_i) & (u32)(127u));
+    v_r3_i25_i2111_i = (u64)v_r106_i_i_i952_i;
+    v_r39_i2114_i = v_r19_i_i_i2068_i < v_r3_i25_i2111_i;
+    if (v_r39_i2114_i) { goto L_pkcs1_c_private_key_pkcs1_c_other_primes_exit; } else { goto L_arm_14_i_i_i969_i; }
+L_arm_14_i_i_i969_i:;
+    v_r16_i_i2118_i = (P)((u64)v_r16_i_i_i2067_i + (u64)(v_r3_i25_i2111_i));
+    v_r19_i_i2119_i = (u64)((u64)(v_r19_i_i_i2068_i) - (u64)(v_r3_i25_i2111_i));
+    switch (v_r106_i_i_i952_i) {
     case 0u: { goto L_pkcs1_c_private_key_pkcs1_c_other_primes_exit; }
-    case 1u: { goto L_der_core_length_is_overlong_exit2157_i; }
-    default: { goto L_join_7_i2154_i; }
+    case 1u: { goto L_der_core_length_is_overlong_exit2158_i; }
+    default: { goto L_join_7_i2155_i; }
     }
-L_join_7_i2154_i:;
-    v_r36_i2155_i = get_u8(v_r16_i_i_i2066_i);
-    v_r38_i2156_i = v_r36_i2155_i == 0u;
-    if (v_r38_i2156_i) { goto L_pkcs1_c_private_key_pkcs1_c_other_primes_exit; } else { goto L_join_7_i_i_i_i988_i; }
-L_der_core_length_is_overlong_exit2157_i:;
-    v_r28_i2151_i = get_u8(v_r16_i_i_i2066_i);
-    v_r30_i2152_i = (u8)(v_r28_i2151_i ^ ((u8)1 << 7)) > (u8)(255u ^ ((u8)1 << 7));
-    if (v_r30_i2152_i) { goto L_pkcs1_c_private_key_pkcs1_c_other_primes_exit; } else { goto L_then_5_i_i_i_i975_i; }
-L_then_5_i_i_i_i975_i:;
-    v_r71_i_i_i_i977_i = (u32)v_r28_i2151_i;
-    { p_v_r6_i12_sroa_30_154970_i = v_r19_i_i2118_i; p_v_r6_i12_sroa_0_154968_i = v_r16_i_i2117_i; p_v_r12_sroa_10_0_i2181_i = v_r71_i_i_i_i977_i; goto L_arm_1_i_i775_i; }
-L_join_7_i_i_i_i988_i:;
-    v_r74_i_i_i_i989_i = v_r106_i_i_i951_i < 3u;
-    if (v_r74_i_i_i_i989_i) { goto L_then_8_i_i_i_i1026_i; } else { goto L_join_10_i_i_i_i990_i; }
-L_then_8_i_i_i_i1026_i:;
-    v_r81_i_i_i_i1027_i = v_r16_i_i_i1894_i + 3;
-    v_r87_i_i_i_i1029_i = (u32)v_r36_i2155_i;
-    v_r89_i_i_i_i1030_i = (u32)((u32)(v_r87_i_i_i_i1029_i) << (u32)((8u & 31)));
-    v_r91_i_i_i_i1031_i = get_u8(v_r81_i_i_i_i1027_i);
-    v_r93_i_i_i_i1032_i = (u32)v_r91_i_i_i_i1031_i;
-    v_r96_i_i_i_i1033_i = (u32)((u32)(v_r89_i_i_i_i1030_i) | (u32)(v_r93_i_i_i_i1032_i));
-    { p_v_r6_i12_sroa_30_154970_i = v_r19_i_i2118_i; p_v_r6_i12_sroa_0_154968_i = v_r16_i_i2117_i; p_v_r12_sroa_10_0_i2181_i = v_r96_i_i_i_i1033_i; goto L_arm_1_i_i775_i; }
-L_join_10_i_i_i_i990_i:;
-    v_r99_i_i_i_i991_i = v_r106_i_i_i951_i == 3u;
-    if (v_r99_i_i_i_i991_i) { goto L_then_11_i_i_i_i1013_i; } else { goto L_join_13_i_i_i_i992_i; }
-L_then_11_i_i_i_i1013_i:;
-    v_r106_i_i_i_i1014_i = v_r16_i_i_i1894_i + 3;
-    v_r108_i_i_i_i1015_i = v_r16_i_i_i1894_i + 4;
-    v_r115_i_i_i_i1017_i = (u32)v_r36_i2155_i;
-    v_r117_i_i_i_i1018_i = (u32)((u32)(v_r115_i_i_i_i1017_i) << (u32)((16u & 31)));
-    v_r119_i_i_i_i1019_i = get_u8(v_r106_i_i_i_i1014_i);
-    v_r121_i_i_i_i1020_i = (u32)v_r119_i_i_i_i1019_i;
-    v_r123_i_i_i_i1021_i = (u32)((u32)(v_r121_i_i_i_i1020_i) << (u32)((8u & 31)));
-    v_r126_i_i_i_i1022_i = (u32)((u32)(v_r123_i_i_i_i1021_i) | (u32)(v_r117_i_i_i_i1018_i));
-    v_r128_i_i_i_i1023_i = get_u8(v_r108_i_i_i_i1015_i);
-    v_r130_i_i_i_i1024_i = (u32)v_r128_i_i_i_i1023_i;
-    v_r133_i_i_i_i1025_i = (u32)((u32)(v_r126_i_i_i_i1022_i) | (u32)(v_r130_i_i_i_i1024_i));
-    { p_v_r6_i12_sroa_30_154970_i = v_r19_i_i2118_i; p_v_r6_i12_sroa_0_154968_i = v_r16_i_i2117_i; p_v_r12_sroa_10_0_i2181_i = v_r133_i_i_i_i1025_i; goto L_arm_1_i_i775_i; }
-L_join_13_i_i_i_i992_i:;
-    v_r136_i_i_i_i993_i = v_r106_i_i_i951_i < 5u;
-    if (v_r136_i_i_i_i993_i) { goto L_then_14_i_i_i_i995_i; } else { goto L_join_16_i_i_i_i994_i; }
-L_then_14_i_i_i_i995_i:;
-    v_r143_i_i_i_i996_i = v_r16_i_i_i1894_i + 3;
-    v_r145_i_i_i_i997_i = v_r16_i_i_i1894_i + 4;
-    v_r147_i_i_i_i998_i = v_r16_i_i_i1894_i + 5;
-    v_r155_i_i_i_i1000_i = (u32)v_r36_i2155_i;
-    v_r157_i_i_i_i1001_i = (u32)((u32)(v_r155_i_i_i_i1000_i) << (u32)((24u & 31)));
-    v_r159_i_i_i_i1002_i = get_u8(v_r143_i_i_i_i996_i);
-    v_r161_i_i_i_i1003_i = (u32)v_r159_i_i_i_i1002_i;
-    v_r163_i_i_i_i1004_i = (u32)((u32)(v_r161_i_i_i_i1003_i) << (u32)((16u & 31)));
-    v_r166_i_i_i_i1005_i = (u32)((u32)(v_r163_i_i_i_i1004_i) | (u32)(v_r157_i_i_i_i1001_i));
-    v_r168_i_i_i_i1006_i = get_u8(v_r145_i_i_i_i997_i);
-    v_r170_i_i_i_i1007_i = (u32)v_r168_i_i_i_i1006_i;
-    v_r172_i_i_i_i1008_i = (u32)((u32)(v_r170_i_i_i_i1007_i) << (u32)((8u & 31)));
-    v_r175_i_i_i_i1009_i = (u32)((u32)(v_r166_i_i_i_i1005_i) | (u32)(v_r172_i_i_i_i1008_i));
-    v_r177_i_i_i_i1010_i = get_u8(v_r147_i_i_i_i998_i);
-    v_r179_i_i_i_i1011_i = (u32)v_r177_i_i_i_i1010_i;
-    v_r182_i_i_i_i1012_i = (u32)((u32)(v_r175_i_i_i_i1009_i) | (u32)(v_r179_i_i_i_i1011_i));
-    { p_v_r6_i12_sroa_30_154970_i = v_r19_i_i2118_i; p_v_r6_i12_sroa_0_154968_i = v_r16_i_i2117_i; p_v_r12_sroa_10_0_i2181_i = v_r182_i_i_i_i1012_i; goto L_arm_1_i_i775_i; }
-L_join_16_i_i_i_i994_i:;
+L_join_7_i2155_i:;
+    v_r36_i2156_i = get_u8(v_r16_i_i_i2067_i);
+    v_r38_i2157_i = v_r36_i2156_i == 0u;
+    if (v_r38_i2157_i) { goto L_pkcs1_c_private_key_pkcs1_c_other_primes_exit; } else { goto L_join_7_i_i_i_i989_i; }
+L_der_core_length_is_overlong_exit2158_i:;
+    v_r28_i2152_i = get_u8(v_r16_i_i_i2067_i);
+    v_r30_i2153_i = (u8)(v_r28_i2152_i ^ ((u8)1 << 7)) > (u8)(255u ^ ((u8)1 << 7));
+    if (v_r30_i2153_i) { goto L_pkcs1_c_private_key_pkcs1_c_other_primes_exit; } else { goto L_then_5_i_i_i_i976_i; }
+L_then_5_i_i_i_i976_i:;
+    v_r71_i_i_i_i978_i = (u32)v_r28_i2152_i;
+    { p_v_r6_i12_sroa_30_154971_i = v_r19_i_i2119_i; p_v_r6_i12_sroa_0_154969_i = v_r16_i_i2118_i; p_v_r12_sroa_10_0_i2182_i = v_r71_i_i_i_i978_i; goto L_arm_1_i_i776_i; }
+L_join_7_i_i_i_i989_i:;
+    v_r74_i_i_i_i990_i = v_r106_i_i_i952_i < 3u;
+    if (v_r74_i_i_i_i990_i) { goto L_then_8_i_i_i_i1027_i; } else { goto L_join_10_i_i_i_i991_i; }
+L_then_8_i_i_i_i1027_i:;
+    v_r81_i_i_i_i1028_i = v_r16_i_i_i1895_i + 3;
+    v_r87_i_i_i_i1030_i = (u32)v_r36_i2156_i;
+    v_r89_i_i_i_i1031_i = (u32)((u32)(v_r87_i_i_i_i1030_i) << (u32)((8u & 31)));
+    v_r91_i_i_i_i1032_i = get_u8(v_r81_i_i_i_i1028_i);
+    v_r93_i_i_i_i1033_i = (u32)v_r91_i_i_i_i1032_i;
+    v_r96_i_i_i_i1034_i = (u32)((u32)(v_r89_i_i_i_i1031_i) | (u32)(v_r93_i_i_i_i1033_i));
+    { p_v_r6_i12_sroa_30_154971_i = v_r19_i_i2119_i; p_v_r6_i12_sroa_0_154969_i = v_r16_i_i2118_i; p_v_r12_sroa_10_0_i2182_i = v_r96_i_i_i_i1034_i; goto L_arm_1_i_i776_i; }
+L_join_10_i_i_i_i991_i:;
+    v_r99_i_i_i_i992_i = v_r106_i_i_i952_i == 3u;
+    if (v_r99_i_i_i_i992_i) { goto L_then_11_i_i_i_i1014_i; } else { goto L_join_13_i_i_i_i993_i; }
+L_then_11_i_i_i_i1014_i:;
+    v_r106_i_i_i_i1015_i = v_r16_i_i_i1895_i + 3;
+    v_r108_i_i_i_i1016_i = v_r16_i_i_i1895_i + 4;
+    v_r115_i_i_i_i1018_i = (u32)v_r36_i2156_i;
+    v_r117_i_i_i_i1019_i = (u32)((u32)(v_r115_i_i_i_i1018_i) << (u32)((16u & 31)));
+    v_r119_i_i_i_i1020_i = get_u8(v_r106_i_i_i_i1015_i);
+    v_r121_i_i_i_i1021_i = (u32)v_r119_i_i_i_i1020_i;
+    v_r123_i_i_i_i1022_i = (u32)((u32)(v_r121_i_i_i_i1021_i) << (u32)((8u & 31)));
+    v_r126_i_i_i_i1023_i = (u32)((u32)(v_r123_i_i_i_i1022_i) | (u32)(v_r117_i_i_i_i1019_i));
+    v_r128_i_i_i_i1024_i = get_u8(v_r108_i_i_i_i1016_i);
+    v_r130_i_i_i_i1025_i = (u32)v_r128_i_i_i_i1024_i;
+    v_r133_i_i_i_i1026_i = (u32)((u32)(v_r126_i_i_i_i1023_i) | (u32)(v_r130_i_i_i_i1025_i));
+    { p_v_r6_i12_sroa_30_154971_i = v_r19_i_i2119_i; p_v_r6_i12_sroa_0_154969_i = v_r16_i_i2118_i; p_v_r12_sroa_10_0_i2182_i = v_r133_i_i_i_i1026_i; goto L_arm_1_i_i776_i; }
+L_join_13_i_i_i_i993_i:;
+    v_r136_i_i_i_i994_i = v_r106_i_i_i952_i < 5u;
+    if (v_r136_i_i_i_i994_i) { goto L_then_14_i_i_i_i996_i; } else { goto L_join_16_i_i_i_i995_i; }
+L_then_14_i_i_i_i996_i:;
+    v_r143_i_i_i_i997_i = v_r16_i_i_i1895_i + 3;
+    v_r145_i_i_i_i998_i = v_r16_i_i_i1895_i + 4;
+    v_r147_i_i_i_i999_i = v_r16_i_i_i1895_i + 5;
+    v_r155_i_i_i_i1001_i = (u32)v_r36_i2156_i;
+    v_r157_i_i_i_i1002_i = (u32)((u32)(v_r155_i_i_i_i1001_i) << (u32)((24u & 31)));
+    v_r159_i_i_i_i1003_i = get_u8(v_r143_i_i_i_i997_i);
+    v_r161_i_i_i_i1004_i = (u32)v_r159_i_i_i_i1003_i;
+    v_r163_i_i_i_i1005_i = (u32)((u32)(v_r161_i_i_i_i1004_i) << (u32)((16u & 31)));
+    v_r166_i_i_i_i1006_i = (u32)((u32)(v_r163_i_i_i_i1005_i) | (u32)(v_r157_i_i_i_i1002_i));
+    v_r168_i_i_i_i1007_i = get_u8(v_r145_i_i_i_i998_i);
+    v_r170_i_i_i_i1008_i = (u32)v_r168_i_i_i_i1007_i;
+    v_r172_i_i_i_i1009_i = (u32)((u32)(v_r170_i_i_i_i1008_i) << (u32)((8u & 31)));
+    v_r175_i_i_i_i1010_i = (u32)((u32)(v_r166_i_i_i_i1006_i) | (u32)(v_r172_i_i_i_i1009_i));
+    v_r177_i_i_i_i1011_i = get_u8(v_r147_i_i_i_i999_i);
+    v_r179_i_i_i_i1012_i = (u32)v_r177_i_i_i_i1011_i;
+    v_r182_i_i_i_i1013_i = (u32)((u32)(v_r175_i_i_i_i1010_i) | (u32)(v_r179_i_i_i_i1012_i));
+    { p_v_r6_i12_sroa_30_154971_i = v_r19_i_i2119_i; p_v_r6_i12_sroa_0_154969_i = v_r16_i_i2118_i; p_v_r12_sroa_10_0_i2182_i = v_r182_i_i_i_i1013_i; goto L_arm_1_i_i776_i; }
+L_join_16_i_i_i_i995_i:;
     TRAP();
     TRAP();
-L_arm_1_i_i775_i:;
-    v_r6_i12_sroa_30_154970_i = p_v_r6_i12_sroa_30_154970_i;
-    v_r6_i12_sroa_0_154968_i = p_v_r6_i12_sroa_0_154968_i;
-    v_r12_sroa_10_0_i2181_i = p_v_r12_sroa_10_0_i2181_i;
-    if (v_r8_i_i_i_i855_i) { goto L_join_3_i_i2240_i; } else { goto L_pkcs1_c_private_key_pkcs1_c_other_primes_exit; }
-L_join_3_i_i2240_i:;
-    v_r3_i25_i_i2241_i = (u64)v_r12_sroa_10_0_i2181_i;
-    v_r39_i_i2244_i = v_r6_i12_sroa_30_154970_i < v_r3_i25_i_i2241_i;
-    v_r7_i_i_i2292_i = v_r12_sroa_10_0_i2181_i == 0u;
-    v_or_cond5775_i = (u1)(((u32)(v_r7_i_i_i2292_i) | (u32)(v_r39_i_i2244_i)) & 1);
-    if (v_or_cond5775_i) { goto L_pkcs1_c_private_key_pkcs1_c_other_primes_exit; } else { goto L_join_8_i_i2293_i; }
-L_join_8_i_i2293_i:;
-    v_r60_i_i2294_i = get_u8(v_r6_i12_sroa_0_154968_i);
-    v_r62_i_i2295_i = (u8)(v_r60_i_i2294_i ^ ((u8)1 << 7)) < (u8)(0u ^ ((u8)1 << 7));
-    if (v_r62_i_i2295_i) { goto L_pkcs1_c_private_key_pkcs1_c_other_primes_exit; } else { goto L_join_11_i_i2296_i; }
-L_join_11_i_i2296_i:;
-    v_r74_i_i2297_i = v_r12_sroa_10_0_i2181_i != 1u;
-    v_cond_i_i2298_i = v_r60_i_i2294_i == 0u;
-    v_or_cond_i_i2299_i = (u1)(((u32)(v_r74_i_i2297_i) & (u32)(v_cond_i_i2298_i)) & 1);
-    if (v_or_cond_i_i2299_i) { goto L_arm_15_i_i2311_i; } else { p_v_r0_i_i675_sroa_27_sroa_3_4_i = v_r6_i12_sroa_0_154968_i; p_v_r0_i_i675_sroa_27_sroa_9_4_i = v_r3_i25_i_i2241_i; goto L_join_3_i2365_i; }
-L_arm_15_i_i2311_i:;
-    v_r84_i_i2312_i = v_r6_i12_sroa_0_154968_i + 1;
-    v_r87_i_i2313_i = get_u8(v_r84_i_i2312_i);
-    v_r89_i_i2314_i = (u8)(v_r87_i_i2313_i ^ ((u8)1 << 7)) > (u8)(255u ^ ((u8)1 << 7));
-    if (v_r89_i_i2314_i) { goto L_pkcs1_c_private_key_pkcs1_c_other_primes_exit; } else { goto L_join_20_i_i2315_i; }
-L_join_20_i_i2315_i:;
-    v_r103_i_i2316_i = (u64)((u64)(v_r3_i25_i_i2241_i) + (u64)(18446744073709551615ull));
-    { p_v_r0_i_i675_sroa_27_sroa_3_4_i = v_r84_i_i2312_i; p_v_r0_i_i675_sroa_27_sroa_9_4_i = v_r103_i_i2316_i; goto L_join_3_i2365_i; }
-L_join_3_i2365_i:;
-    v_r0_i_i675_sroa_27_sroa_3_4_i = p_v_r0_i_i675_sroa_27_sroa_3_4_i;
-    v_r0_i_i675_sroa_27_sroa_9_4_i = p_v_r0_i_i675_sroa_27_sroa_9_4_i;
-    v_r7_i_i2366_i = v_r6_i12_sroa_30_154970_i == v_r3_i25_i_i2241_i;
-    if (v_r7_i_i2366_i) { goto L_arm_10_i; } else { goto L_pkcs1_c_private_key_pkcs1_c_other_primes_exit; }
+L_arm_1_i_i776_i:;
+    v_r6_i12_sroa_30_154971_i = p_v_r6_i12_sroa_30_154971_i;
+    v_r6_i12_sroa_0_154969_i = p_v_r6_i12_sroa_0_154969_i;
+    v_r12_sroa_10_0_i2182_i = p_v_r12_sroa_10_0_i2182_i;
+    if (v_r8_i_i_i_i856_i) { goto L_join_3_i_i2241_i; } else { goto L_pkcs1_c_private_key_pkcs1_c_other_primes_exit; }
+L_join_3_i_i2241_i:;
+    v_r3_i25_i_i2242_i = (u64)v_r12_sroa_10_0_i2182_i;
+    v_r39_i_i2245_i = v_r6_i12_sroa_30_154971_i < v_r3_i25_i_i2242_i;
+    v_r7_i_i_i2293_i = v_r12_sroa_10_0_i2182_i == 0u;
+    v_or_cond = (u1)(((u32)(v_r7_i_i_i2293_i) | (u32)(v_r39_i_i2245_i)) & 1);
+    if (v_or_cond) { goto L_pkcs1_c_private_key_pkcs1_c_other_primes_exit; } else { goto L_join_8_i_i2294_i; }
+L_join_8_i_i2294_i:;
+    v_r60_i_i2295_i = get_u8(v_r6_i12_sroa_0_154969_i);
+    v_r62_i_i2296_i = (u8)(v_r60_i_i2295_i ^ ((u8)1 << 7)) < (u8)(0u ^ ((u8)1 << 7));
+    if (v_r62_i_i2296_i) { goto L_pkcs1_c_private_key_pkcs1_c_other_primes_exit; } else { goto L_join_11_i_i2297_i; }
+L_join_11_i_i2297_i:;
+    v_r74_i_i2298_i = v_r12_sroa_10_0_i2182_i != 1u;
+    v_cond_i_i2299_i = v_r60_i_i2295_i == 0u;
+    v_or_cond_i_i2300_i = (u1)(((u32)(v_r74_i_i2298_i) & (u32)(v_cond_i_i2299_i)) & 1);
+    if (v_or_cond_i_i2300_i) { goto L_arm_15_i_i2312_i; } else { p_v_r0_i_i676_sroa_27_sroa_3_4_i = v_r6_i12_sroa_0_154969_i; p_v_r0_i_i676_sroa_27_sroa_9_4_i = v_r3_i25_i_i2242_i; goto L_join_3_i2366_i; }
+L_arm_15_i_i2312_i:;
+    v_r84_i_i2313_i = v_r6_i12_sroa_0_154969_i + 1;
+    v_r87_i_i2314_i = get_u8(v_r84_i_i2313_i);
+    v_r89_i_i2315_i = (u8)(v_r87_i_i2314_i ^ ((u8)1 << 7)) > (u8)(255u ^ ((u8)1 << 7));
+    if (v_r89_i_i2315_i) { goto L_pkcs1_c_private_key_pkcs1_c_other_primes_exit; } else { goto L_join_20_i_i2316_i; }
+L_join_20_i_i2316_i:;
+    v_r103_i_i2317_i = (u64)((u64)(v_r3_i25_i_i2242_i) + (u64)(18446744073709551615ull));
+    { p_v_r0_i_i676_sroa_27_sroa_3_4_i = v_r84_i_i2313_i; p_v_r0_i_i676_sroa_27_sroa_9_4_i = v_r103_i_i2317_i; goto L_join_3_i2366_i; }
+L_join_3_i2366_i:;
+    v_r0_i_i676_sroa_27_sroa_3_4_i = p_v_r0_i_i676_sroa_27_sroa_3_4_i;
+    v_r0_i_i676_sroa_27_sroa_9_4_i = p_v_r0_i_i676_sroa_27_sroa_9_4_i;
+    v_r7_i_i2367_i = v_r6_i12_sroa_30_154971_i == v_r3_i25_i_i2242_i;
+    if (v_r7_i_i2367_i) { goto L_arm_10_i; } else { goto L_pkcs1_c_private_key_pkcs1_c_other_primes_exit; }
 L_arm_10_i:;
-    v_r34_i = (u64)((u64)(v_r5_05756_i) * (u64)(48u));
+    v_r34_i = (u64)((u64)(v_r5_05635_i) * (u64)(48u));
     v_r37_i = v_r13 + (int64_t)(v_r34_i);
     put_P(v_r37_i, v_r0_i268_sroa_27_sroa_3_2_i);
     v_r12_sroa_3_0_r37_sroa_idx_i = v_r37_i + 8;
     put_u64(v_r12_sroa_3_0_r37_sroa_idx_i, v_r0_i268_sroa_27_sroa_9_2_i);
     v_r12_sroa_4_0_r37_sroa_idx_i = v_r37_i + 16;
-    put_P(v_r12_sroa_4_0_r37_sroa_idx_i, v_r0_i_i450_sroa_27_sroa_3_3_i);
+    put_P(v_r12_sroa_4_0_r37_sroa_idx_i, v_r0_i_i451_sroa_27_sroa_3_3_i);
     v_r12_sroa_5_0_r37_sroa_idx_i = v_r37_i + 24;
-    put_u64(v_r12_sroa_5_0_r37_sroa_idx_i, v_r0_i_i450_sroa_27_sroa_9_3_i);
+    put_u64(v_r12_sroa_5_0_r37_sroa_idx_i, v_r0_i_i451_sroa_27_sroa_9_3_i);
     v_r12_sroa_6_0_r37_sroa_idx_i = v_r37_i + 32;
-    put_P(v_r12_sroa_6_0_r37_sroa_idx_i, v_r0_i_i675_sroa_27_sroa_3_4_i);
+    put_P(v_r12_sroa_6_0_r37_sroa_idx_i, v_r0_i_i676_sroa_27_sroa_3_4_i);
     v_r12_sroa_7_0_r37_sroa_idx_i = v_r37_i + 40;
-    put_u64(v_r12_sroa_7_0_r37_sroa_idx_i, v_r0_i_i675_sroa_27_sroa_9_4_i);
-    v_r40_i = (u64)((u64)(v_r5_05756_i) + (u64)(1u));
+    put_u64(v_r12_sroa_7_0_r37_sroa_idx_i, v_r0_i_i676_sroa_27_sroa_9_4_i);
+    v_r40_i = (u64)((u64)(v_r5_05635_i) + (u64)(1u));
     v_r25_i = v_r40_i >= v_a3;
-    v_r39_i_i1097_i = v_r19_i_i_i1289_i == 0u;
-    v_or_cond5746_i = v_r25_i ? 1u : v_r39_i_i1097_i;
-    if (v_or_cond5746_i) { goto L_pkcs1_c_private_key_pkcs1_c_other_primes_exit; } else { p_v_r5_05756_i = v_r40_i; p_v_r4_sroa_10_05755_i = v_r19_i_i_i1289_i; p_v_r4_sroa_0_05754_i = v_r16_i_i_i1288_i; goto L_arm_1_i60_i; }
+    v_r39_i_i1098_i = v_r19_i_i_i1290_i == 0u;
+    v_or_cond5627_i = v_r25_i ? 1u : v_r39_i_i1098_i;
+    if (v_or_cond5627_i) { goto L_pkcs1_c_private_key_pkcs1_c_other_primes_exit; } else { p_v_r5_05635_i = v_r40_i; p_v_r4_sroa_10_05634_i = v_r19_i_i_i1290_i; p_v_r4_sroa_0_05633_i = v_r16_i_i_i1289_i; goto L_arm_1_i60_i; }
 L_pkcs1_c_private_key_pkcs1_c_other_primes_exit:;
     return;
 }
@@ -45950,15 +46291,15 @@ L_pkcs1_c_pss_pkcs1_c_pss_params_decode_strict_exit:;
     v_r6_0_i = p_v_r6_0_i;
     return v_r6_0_i;
 }
-static u1 proved_uses_hash(P v_a0, P v_a1, P v_a2, u64 v_a3) {
+static u1 proved_uses_hash(P v_a0, P v_a1, P v_a2) {
     u1 p_v_common_ret_op_i;
-    u1 v_r1;
-    u64 v_r3;
-    P v_r4;
-    P v_r5_i;
-    u64 v_r6_i;
-    u1 v_r8_not_i;
-    u1 v_r15_i;
+    P v_r4_i;
+    u64 v_r5_i;
+    u1 v_r7_not_i;
+    P v_r3_sroa_0_0_copyload_i;
+    P v_r3_sroa_3_0_a2_sroa_idx_i;
+    u64 v_r3_sroa_3_0_copyload_i;
+    u1 v_r11_i;
     P v_r8_i_i;
     u8 v_r9_i_i;
     u1 v_r10_i_i;
@@ -46008,61 +46349,61 @@ static u1 proved_uses_hash(P v_a0, P v_a1, P v_a2, u64 v_a3) {
     P v_r9_sroa_3_0_r28_sroa_idx_i22_i_i;
     u64 v_r9_sroa_3_0_copyload_i23_i_i;
     u1 v_r7_i_i;
-    u1 v_r135_i_i_i;
+    u1 v_r128_not_i_i_i;
     u1 v_or_cond_i;
-    u1 v_r135_i_i_old_i;
+    u1 v_r128_not_i_i_old_i;
     P v_r11_sroa_0_0_copyload_i9_i_i;
-    P v_r107_i_i_i;
-    P v_r105_i_i_i;
-    P v_r103_i_i_i;
-    P v_r101_i_i_i;
-    P v_r99_i_i_i;
-    P v_r97_i_i_i;
-    P v_r95_i_i_i;
-    P v_r93_i_i_i;
-    P v_r142_i_i_i;
-    P v_r144_i_i_i;
-    P v_r146_i_i_i;
-    P v_r148_i_i_i;
-    P v_r150_i_i_i;
-    P v_r152_i_i_i;
-    P v_r154_i_i_i;
-    P v_r156_i_i_i;
-    u8 v_r167_i_i_i;
-    u8 v_r169_i_i_i;
-    u1 v_r172_i_i_i;
-    u8 v_r175_i_i_i;
-    u8 v_r177_i_i_i;
-    u1 v_r180_i_i_i;
-    u1 v_r186_i_i_i;
-    u8 v_r189_i_i_i;
-    u8 v_r191_i_i_i;
-    u1 v_r194_i_i_i;
-    u1 v_r200_i_i_i;
-    u8 v_r203_i_i_i;
-    u8 v_r205_i_i_i;
-    u1 v_r208_i_i_i;
-    u1 v_r214_i_i_i;
-    u8 v_r217_i_i_i;
-    u8 v_r219_i_i_i;
-    u1 v_r222_i_i_i;
-    u1 v_r228_i_i_i;
-    u8 v_r231_i_i_i;
-    u8 v_r233_i_i_i;
-    u1 v_r236_i_i_i;
-    u1 v_r242_i_i_i;
-    u8 v_r245_i_i_i;
-    u8 v_r247_i_i_i;
-    u1 v_r250_i_i_i;
-    u1 v_r256_i_i_i;
-    u8 v_r259_i_i_i;
-    u8 v_r261_i_i_i;
-    u1 v_r264_i_i_i;
-    u1 v_r270_i_i_i;
-    u8 v_r273_i_i_i;
-    u8 v_r275_i_i_i;
-    u1 v_r278_i_i_i;
-    u1 v_r284_i_i_i;
+    P v_r270_i_i_i;
+    P v_r272_i_i_i;
+    P v_r274_i_i_i;
+    P v_r276_i_i_i;
+    P v_r278_i_i_i;
+    P v_r280_i_i_i;
+    P v_r282_i_i_i;
+    P v_r284_i_i_i;
+    P v_r309_i_i_i;
+    P v_r311_i_i_i;
+    P v_r313_i_i_i;
+    P v_r315_i_i_i;
+    P v_r317_i_i_i;
+    P v_r319_i_i_i;
+    P v_r321_i_i_i;
+    P v_r323_i_i_i;
+    u8 v_r334_i_i_i;
+    u8 v_r336_i_i_i;
+    u1 v_r339_i_i_i;
+    u8 v_r342_i_i_i;
+    u8 v_r344_i_i_i;
+    u1 v_r347_i_i_i;
+    u1 v_r353_i_i_i;
+    u8 v_r356_i_i_i;
+    u8 v_r358_i_i_i;
+    u1 v_r361_i_i_i;
+    u1 v_r367_i_i_i;
+    u8 v_r370_i_i_i;
+    u8 v_r372_i_i_i;
+    u1 v_r375_i_i_i;
+    u1 v_r381_i_i_i;
+    u8 v_r384_i_i_i;
+    u8 v_r386_i_i_i;
+    u1 v_r389_i_i_i;
+    u1 v_r395_i_i_i;
+    u8 v_r398_i_i_i;
+    u8 v_r400_i_i_i;
+    u1 v_r403_i_i_i;
+    u1 v_r409_i_i_i;
+    u8 v_r412_i_i_i;
+    u8 v_r414_i_i_i;
+    u1 v_r417_i_i_i;
+    u1 v_r423_i_i_i;
+    u8 v_r426_i_i_i;
+    u8 v_r428_i_i_i;
+    u1 v_r431_i_i_i;
+    u1 v_r437_i_i_i;
+    u8 v_r440_i_i_i;
+    u8 v_r442_i_i_i;
+    u1 v_r445_i_i_i;
+    u1 v_r451_i_i_i;
     P v_r34_i_i;
     P v_r12_i_i_i;
     u8 v_r13_i_i_i;
@@ -46073,56 +46414,55 @@ static u1 proved_uses_hash(P v_a0, P v_a1, P v_a2, u64 v_a3) {
     P v_r9_sroa_3_0_r28_sroa_idx_i_i_i;
     u64 v_r9_sroa_3_0_copyload_i_i_i;
     u1 v_r7_i3_i;
-    P v_r11_sroa_0_0_copyload_i_i_i;
     P v_r11_sroa_3_0_a0_sroa_idx_i_i_i;
     u64 v_r11_sroa_3_0_copyload_i_i_i;
-    u1 v_r86_i28_i_i;
-    u1 v_r123_i30_i_i;
-    P v_r93_i33_i_i;
-    P v_r95_i34_i_i;
-    P v_r97_i35_i_i;
-    P v_r99_i36_i_i;
-    P v_r101_i37_i_i;
-    P v_r103_i38_i_i;
-    P v_r105_i39_i_i;
-    P v_r107_i40_i_i;
-    u8 v_r167_i52_i_i;
-    u1 v_r172_i54_i_i;
-    u8 v_r175_i55_i_i;
-    u1 v_r180_i57_i_i;
-    u1 v_r186_i58_i_i;
-    u8 v_r189_i59_i_i;
-    u1 v_r194_i61_i_i;
-    u1 v_r200_i62_i_i;
-    u8 v_r203_i63_i_i;
-    u1 v_r208_i65_i_i;
-    u1 v_r214_i66_i_i;
-    u8 v_r217_i67_i_i;
-    u1 v_r222_i69_i_i;
-    u1 v_r228_i70_i_i;
-    u8 v_r231_i71_i_i;
-    u1 v_r236_i73_i_i;
-    u1 v_r242_i74_i_i;
-    u8 v_r245_i75_i_i;
-    u1 v_r250_i77_i_i;
-    u1 v_r256_i78_i_i;
-    u8 v_r259_i79_i_i;
-    u1 v_r264_i81_i_i;
-    u1 v_r270_i82_i_i;
-    u8 v_r273_i83_i_i;
-    u1 v_r278_i85_i_i;
-    u1 v_r284_i86_i_i;
+    u1 v_r128_not_i26_i_i;
+    P v_r11_sroa_0_0_copyload_i_i_i;
+    P v_r270_i38_i_i;
+    P v_r272_i39_i_i;
+    P v_r274_i40_i_i;
+    P v_r276_i41_i_i;
+    P v_r278_i42_i_i;
+    P v_r280_i43_i_i;
+    P v_r282_i44_i_i;
+    P v_r284_i45_i_i;
+    u8 v_r334_i57_i_i;
+    u1 v_r339_i59_i_i;
+    u8 v_r342_i60_i_i;
+    u1 v_r347_i62_i_i;
+    u1 v_r353_i63_i_i;
+    u8 v_r356_i64_i_i;
+    u1 v_r361_i66_i_i;
+    u1 v_r367_i67_i_i;
+    u8 v_r370_i68_i_i;
+    u1 v_r375_i70_i_i;
+    u1 v_r381_i71_i_i;
+    u8 v_r384_i72_i_i;
+    u1 v_r389_i74_i_i;
+    u1 v_r395_i75_i_i;
+    u8 v_r398_i76_i_i;
+    u1 v_r403_i78_i_i;
+    u1 v_r409_i79_i_i;
+    u8 v_r412_i80_i_i;
+    u1 v_r417_i82_i_i;
+    u1 v_r423_i83_i_i;
+    u8 v_r426_i84_i_i;
+    u1 v_r431_i86_i_i;
+    u1 v_r437_i87_i_i;
+    u8 v_r440_i88_i_i;
+    u1 v_r445_i90_i_i;
+    u1 v_r451_i91_i_i;
     u1 v_common_ret_op_i;
-    v_r1 = v_a2 == (P)0;
-    v_r3 = v_r1 ? 4096u : 0u;
-    v_r4 = (P)((u64)v_a2 + (u64)(v_r3));
-    v_r5_i = v_a0 + 8;
-    v_r6_i = get_u64(v_r5_i);
-    v_r8_not_i = v_r6_i == 9u;
-    if (v_r8_not_i) { goto L_join_3_i; } else { goto L_then_1_i; }
+    v_r4_i = v_a0 + 8;
+    v_r5_i = get_u64(v_r4_i);
+    v_r7_not_i = v_r5_i == 9u;
+    v_r3_sroa_0_0_copyload_i = get_P(v_a2);
+    v_r3_sroa_3_0_a2_sroa_idx_i = v_a2 + 8;
+    v_r3_sroa_3_0_copyload_i = get_u64(v_r3_sroa_3_0_a2_sroa_idx_i);
+    if (v_r7_not_i) { goto L_join_3_i; } else { goto L_then_1_i; }
 L_then_1_i:;
-    v_r15_i = f_pkcs1_c_algorithm_uses_hash_otherwise(v_a0, v_a1, v_r4, v_a3);
-    { p_v_common_ret_op_i = v_r15_i; goto L_pkcs1_c_algorithm_pkcs1_c_uses_hash_exit; }
+    v_r11_i = f_pkcs1_c_algorithm_uses_hash_otherwise(v_a0, v_a1, v_r3_sroa_0_0_copyload_i, v_r3_sroa_3_0_copyload_i);
+    { p_v_common_ret_op_i = v_r11_i; goto L_pkcs1_c_algorithm_pkcs1_c_uses_hash_exit; }
 L_join_3_i:;
     v_r8_i_i = v_a1 + 16;
     v_r9_i_i = get_u8(v_r8_i_i);
@@ -46175,7 +46515,7 @@ L_then_4_i_i:;
     v_r12_i5_i_i = v_a0 + 16;
     v_r13_i6_i_i = get_u8(v_r12_i5_i_i);
     v_r14_i7_i_i = (u1)((v_r13_i6_i_i) & 1);
-    if (v_r14_i7_i_i) { goto L_then_1_i14_i_i; } else { goto L_then_6_i_i_i; }
+    if (v_r14_i7_i_i) { goto L_then_1_i14_i_i; } else { goto L_join_3_i8_i_i; }
 L_then_1_i14_i_i:;
     v_r18_i15_i_i = v_a0 + 17;
     v_r19_i16_i_i = get_u8(v_r18_i15_i_i);
@@ -46185,66 +46525,66 @@ L_else_7_i19_i_i:;
     v_r9_sroa_3_0_r28_sroa_idx_i22_i_i = v_a0 + 32;
     v_r9_sroa_3_0_copyload_i23_i_i = get_u64(v_r9_sroa_3_0_r28_sroa_idx_i22_i_i);
     v_r7_i_i = v_r9_sroa_3_0_copyload_i23_i_i == 0u;
-    v_r135_i_i_i = v_a3 == 9u;
-    v_or_cond_i = (u1)(((u32)(v_r135_i_i_i) & (u32)(v_r7_i_i)) & 1);
+    v_r128_not_i_i_i = v_r3_sroa_3_0_copyload_i == 9u;
+    v_or_cond_i = v_r7_i_i ? v_r128_not_i_i_i : 0u;
     if (v_or_cond_i) { goto L_join_6_i_i; } else { p_v_common_ret_op_i = 0u; goto L_pkcs1_c_algorithm_pkcs1_c_uses_hash_exit; }
-L_then_6_i_i_i:;
-    v_r135_i_i_old_i = v_a3 == 9u;
-    if (v_r135_i_i_old_i) { goto L_join_6_i_i; } else { p_v_common_ret_op_i = 0u; goto L_pkcs1_c_algorithm_pkcs1_c_uses_hash_exit; }
+L_join_3_i8_i_i:;
+    v_r128_not_i_i_old_i = v_r3_sroa_3_0_copyload_i == 9u;
+    if (v_r128_not_i_i_old_i) { goto L_join_6_i_i; } else { p_v_common_ret_op_i = 0u; goto L_pkcs1_c_algorithm_pkcs1_c_uses_hash_exit; }
 L_join_6_i_i:;
     v_r11_sroa_0_0_copyload_i9_i_i = get_P(v_a0);
-    v_r107_i_i_i = v_r11_sroa_0_0_copyload_i9_i_i + 8;
-    v_r105_i_i_i = v_r11_sroa_0_0_copyload_i9_i_i + 7;
-    v_r103_i_i_i = v_r11_sroa_0_0_copyload_i9_i_i + 6;
-    v_r101_i_i_i = v_r11_sroa_0_0_copyload_i9_i_i + 5;
-    v_r99_i_i_i = v_r11_sroa_0_0_copyload_i9_i_i + 4;
-    v_r97_i_i_i = v_r11_sroa_0_0_copyload_i9_i_i + 3;
-    v_r95_i_i_i = v_r11_sroa_0_0_copyload_i9_i_i + 2;
-    v_r93_i_i_i = v_r11_sroa_0_0_copyload_i9_i_i + 1;
-    v_r142_i_i_i = v_r4 + 1;
-    v_r144_i_i_i = v_r4 + 2;
-    v_r146_i_i_i = v_r4 + 3;
-    v_r148_i_i_i = v_r4 + 4;
-    v_r150_i_i_i = v_r4 + 5;
-    v_r152_i_i_i = v_r4 + 6;
-    v_r154_i_i_i = v_r4 + 7;
-    v_r156_i_i_i = v_r4 + 8;
-    v_r167_i_i_i = get_u8(v_r11_sroa_0_0_copyload_i9_i_i);
-    v_r169_i_i_i = get_u8(v_r4);
-    v_r172_i_i_i = v_r167_i_i_i == v_r169_i_i_i;
-    v_r175_i_i_i = get_u8(v_r93_i_i_i);
-    v_r177_i_i_i = get_u8(v_r142_i_i_i);
-    v_r180_i_i_i = v_r175_i_i_i == v_r177_i_i_i;
-    v_r186_i_i_i = (u1)(((u32)(v_r172_i_i_i) & (u32)(v_r180_i_i_i)) & 1);
-    v_r189_i_i_i = get_u8(v_r95_i_i_i);
-    v_r191_i_i_i = get_u8(v_r144_i_i_i);
-    v_r194_i_i_i = v_r189_i_i_i == v_r191_i_i_i;
-    v_r200_i_i_i = (u1)(((u32)(v_r186_i_i_i) & (u32)(v_r194_i_i_i)) & 1);
-    v_r203_i_i_i = get_u8(v_r97_i_i_i);
-    v_r205_i_i_i = get_u8(v_r146_i_i_i);
-    v_r208_i_i_i = v_r203_i_i_i == v_r205_i_i_i;
-    v_r214_i_i_i = (u1)(((u32)(v_r200_i_i_i) & (u32)(v_r208_i_i_i)) & 1);
-    v_r217_i_i_i = get_u8(v_r99_i_i_i);
-    v_r219_i_i_i = get_u8(v_r148_i_i_i);
-    v_r222_i_i_i = v_r217_i_i_i == v_r219_i_i_i;
-    v_r228_i_i_i = (u1)(((u32)(v_r214_i_i_i) & (u32)(v_r222_i_i_i)) & 1);
-    v_r231_i_i_i = get_u8(v_r101_i_i_i);
-    v_r233_i_i_i = get_u8(v_r150_i_i_i);
-    v_r236_i_i_i = v_r231_i_i_i == v_r233_i_i_i;
-    v_r242_i_i_i = (u1)(((u32)(v_r228_i_i_i) & (u32)(v_r236_i_i_i)) & 1);
-    v_r245_i_i_i = get_u8(v_r103_i_i_i);
-    v_r247_i_i_i = get_u8(v_r152_i_i_i);
-    v_r250_i_i_i = v_r245_i_i_i == v_r247_i_i_i;
-    v_r256_i_i_i = (u1)(((u32)(v_r242_i_i_i) & (u32)(v_r250_i_i_i)) & 1);
-    v_r259_i_i_i = get_u8(v_r105_i_i_i);
-    v_r261_i_i_i = get_u8(v_r154_i_i_i);
-    v_r264_i_i_i = v_r259_i_i_i == v_r261_i_i_i;
-    v_r270_i_i_i = (u1)(((u32)(v_r256_i_i_i) & (u32)(v_r264_i_i_i)) & 1);
-    v_r273_i_i_i = get_u8(v_r107_i_i_i);
-    v_r275_i_i_i = get_u8(v_r156_i_i_i);
-    v_r278_i_i_i = v_r273_i_i_i == v_r275_i_i_i;
-    v_r284_i_i_i = (u1)(((u32)(v_r270_i_i_i) & (u32)(v_r278_i_i_i)) & 1);
-    if (v_r284_i_i_i) { goto L_then_7_i_i; } else { p_v_common_ret_op_i = 0u; goto L_pkcs1_c_algorithm_pkcs1_c_uses_hash_exit; }
+    v_r270_i_i_i = v_r11_sroa_0_0_copyload_i9_i_i + 1;
+    v_r272_i_i_i = v_r11_sroa_0_0_copyload_i9_i_i + 2;
+    v_r274_i_i_i = v_r11_sroa_0_0_copyload_i9_i_i + 3;
+    v_r276_i_i_i = v_r11_sroa_0_0_copyload_i9_i_i + 4;
+    v_r278_i_i_i = v_r11_sroa_0_0_copyload_i9_i_i + 5;
+    v_r280_i_i_i = v_r11_sroa_0_0_copyload_i9_i_i + 6;
+    v_r282_i_i_i = v_r11_sroa_0_0_copyload_i9_i_i + 7;
+    v_r284_i_i_i = v_r11_sroa_0_0_copyload_i9_i_i + 8;
+    v_r309_i_i_i = v_r3_sroa_0_0_copyload_i + 1;
+    v_r311_i_i_i = v_r3_sroa_0_0_copyload_i + 2;
+    v_r313_i_i_i = v_r3_sroa_0_0_copyload_i + 3;
+    v_r315_i_i_i = v_r3_sroa_0_0_copyload_i + 4;
+    v_r317_i_i_i = v_r3_sroa_0_0_copyload_i + 5;
+    v_r319_i_i_i = v_r3_sroa_0_0_copyload_i + 6;
+    v_r321_i_i_i = v_r3_sroa_0_0_copyload_i + 7;
+    v_r323_i_i_i = v_r3_sroa_0_0_copyload_i + 8;
+    v_r334_i_i_i = get_u8(v_r11_sroa_0_0_copyload_i9_i_i);
+    v_r336_i_i_i = get_u8(v_r3_sroa_0_0_copyload_i);
+    v_r339_i_i_i = v_r334_i_i_i == v_r336_i_i_i;
+    v_r342_i_i_i = get_u8(v_r270_i_i_i);
+    v_r344_i_i_i = get_u8(v_r309_i_i_i);
+    v_r347_i_i_i = v_r342_i_i_i == v_r344_i_i_i;
+    v_r353_i_i_i = (u1)(((u32)(v_r339_i_i_i) & (u32)(v_r347_i_i_i)) & 1);
+    v_r356_i_i_i = get_u8(v_r272_i_i_i);
+    v_r358_i_i_i = get_u8(v_r311_i_i_i);
+    v_r361_i_i_i = v_r356_i_i_i == v_r358_i_i_i;
+    v_r367_i_i_i = (u1)(((u32)(v_r353_i_i_i) & (u32)(v_r361_i_i_i)) & 1);
+    v_r370_i_i_i = get_u8(v_r274_i_i_i);
+    v_r372_i_i_i = get_u8(v_r313_i_i_i);
+    v_r375_i_i_i = v_r370_i_i_i == v_r372_i_i_i;
+    v_r381_i_i_i = (u1)(((u32)(v_r367_i_i_i) & (u32)(v_r375_i_i_i)) & 1);
+    v_r384_i_i_i = get_u8(v_r276_i_i_i);
+    v_r386_i_i_i = get_u8(v_r315_i_i_i);
+    v_r389_i_i_i = v_r384_i_i_i == v_r386_i_i_i;
+    v_r395_i_i_i = (u1)(((u32)(v_r381_i_i_i) & (u32)(v_r389_i_i_i)) & 1);
+    v_r398_i_i_i = get_u8(v_r278_i_i_i);
+    v_r400_i_i_i = get_u8(v_r317_i_i_i);
+    v_r403_i_i_i = v_r398_i_i_i == v_r400_i_i_i;
+    v_r409_i_i_i = (u1)(((u32)(v_r395_i_i_i) & (u32)(v_r403_i_i_i)) & 1);
+    v_r412_i_i_i = get_u8(v_r280_i_i_i);
+    v_r414_i_i_i = get_u8(v_r319_i_i_i);
+    v_r417_i_i_i = v_r412_i_i_i == v_r414_i_i_i;
+    v_r423_i_i_i = (u1)(((u32)(v_r409_i_i_i) & (u32)(v_r417_i_i_i)) & 1);
+    v_r426_i_i_i = get_u8(v_r282_i_i_i);
+    v_r428_i_i_i = get_u8(v_r321_i_i_i);
+    v_r431_i_i_i = v_r426_i_i_i == v_r428_i_i_i;
+    v_r437_i_i_i = (u1)(((u32)(v_r423_i_i_i) & (u32)(v_r431_i_i_i)) & 1);
+    v_r440_i_i_i = get_u8(v_r284_i_i_i);
+    v_r442_i_i_i = get_u8(v_r323_i_i_i);
+    v_r445_i_i_i = v_r440_i_i_i == v_r442_i_i_i;
+    v_r451_i_i_i = (u1)(((u32)(v_r437_i_i_i) & (u32)(v_r445_i_i_i)) & 1);
+    if (v_r451_i_i_i) { goto L_then_7_i_i; } else { p_v_common_ret_op_i = 0u; goto L_pkcs1_c_algorithm_pkcs1_c_uses_hash_exit; }
 L_then_7_i_i:;
     v_r34_i_i = v_a1 + 24;
     v_r12_i_i_i = v_a1 + 40;
@@ -46262,50 +46602,47 @@ L_else_7_i_i_i:;
     v_r7_i3_i = v_r9_sroa_3_0_copyload_i_i_i == 0u;
     if (v_r7_i3_i) { goto L_join_3_i_i_i; } else { p_v_common_ret_op_i = 0u; goto L_pkcs1_c_algorithm_pkcs1_c_uses_hash_exit; }
 L_join_3_i_i_i:;
-    v_r11_sroa_0_0_copyload_i_i_i = get_P(v_r34_i_i);
     v_r11_sroa_3_0_a0_sroa_idx_i_i_i = v_a1 + 32;
     v_r11_sroa_3_0_copyload_i_i_i = get_u64(v_r11_sroa_3_0_a0_sroa_idx_i_i_i);
-    v_r86_i28_i_i = v_r11_sroa_3_0_copyload_i_i_i == 9u;
-    if (v_r86_i28_i_i) { goto L_then_14_i43_i_i; } else { goto L_after_2_i29_i_i; }
-L_after_2_i29_i_i:;
-    v_r123_i30_i_i = f_pkcs1_c_algorithm_is_same_otherwise(v_r11_sroa_0_0_copyload_i_i_i, v_r11_sroa_3_0_copyload_i_i_i, v_r4, v_a3);
-    { p_v_common_ret_op_i = v_r123_i30_i_i; goto L_pkcs1_c_algorithm_pkcs1_c_uses_hash_exit; }
-L_then_14_i43_i_i:;
-    v_r93_i33_i_i = v_r11_sroa_0_0_copyload_i_i_i + 1;
-    v_r95_i34_i_i = v_r11_sroa_0_0_copyload_i_i_i + 2;
-    v_r97_i35_i_i = v_r11_sroa_0_0_copyload_i_i_i + 3;
-    v_r99_i36_i_i = v_r11_sroa_0_0_copyload_i_i_i + 4;
-    v_r101_i37_i_i = v_r11_sroa_0_0_copyload_i_i_i + 5;
-    v_r103_i38_i_i = v_r11_sroa_0_0_copyload_i_i_i + 6;
-    v_r105_i39_i_i = v_r11_sroa_0_0_copyload_i_i_i + 7;
-    v_r107_i40_i_i = v_r11_sroa_0_0_copyload_i_i_i + 8;
-    v_r167_i52_i_i = get_u8(v_r11_sroa_0_0_copyload_i_i_i);
-    v_r172_i54_i_i = v_r167_i52_i_i == v_r167_i_i_i;
-    v_r175_i55_i_i = get_u8(v_r93_i33_i_i);
-    v_r180_i57_i_i = v_r175_i55_i_i == v_r175_i_i_i;
-    v_r186_i58_i_i = (u1)(((u32)(v_r172_i54_i_i) & (u32)(v_r180_i57_i_i)) & 1);
-    v_r189_i59_i_i = get_u8(v_r95_i34_i_i);
-    v_r194_i61_i_i = v_r189_i59_i_i == v_r189_i_i_i;
-    v_r200_i62_i_i = (u1)(((u32)(v_r186_i58_i_i) & (u32)(v_r194_i61_i_i)) & 1);
-    v_r203_i63_i_i = get_u8(v_r97_i35_i_i);
-    v_r208_i65_i_i = v_r203_i63_i_i == v_r203_i_i_i;
-    v_r214_i66_i_i = (u1)(((u32)(v_r200_i62_i_i) & (u32)(v_r208_i65_i_i)) & 1);
-    v_r217_i67_i_i = get_u8(v_r99_i36_i_i);
-    v_r222_i69_i_i = v_r217_i67_i_i == v_r217_i_i_i;
-    v_r228_i70_i_i = (u1)(((u32)(v_r214_i66_i_i) & (u32)(v_r222_i69_i_i)) & 1);
-    v_r231_i71_i_i = get_u8(v_r101_i37_i_i);
-    v_r236_i73_i_i = v_r231_i71_i_i == v_r231_i_i_i;
-    v_r242_i74_i_i = (u1)(((u32)(v_r228_i70_i_i) & (u32)(v_r236_i73_i_i)) & 1);
-    v_r245_i75_i_i = get_u8(v_r103_i38_i_i);
-    v_r250_i77_i_i = v_r245_i75_i_i == v_r245_i_i_i;
-    v_r256_i78_i_i = (u1)(((u32)(v_r242_i74_i_i) & (u32)(v_r250_i77_i_i)) & 1);
-    v_r259_i79_i_i = get_u8(v_r105_i39_i_i);
-    v_r264_i81_i_i = v_r259_i79_i_i == v_r259_i_i_i;
-    v_r270_i82_i_i = (u1)(((u32)(v_r256_i78_i_i) & (u32)(v_r264_i81_i_i)) & 1);
-    v_r273_i83_i_i = get_u8(v_r107_i40_i_i);
-    v_r278_i85_i_i = v_r273_i83_i_i == v_r273_i_i_i;
-    v_r284_i86_i_i = (u1)(((u32)(v_r270_i82_i_i) & (u32)(v_r278_i85_i_i)) & 1);
-    { p_v_common_ret_op_i = v_r284_i86_i_i; goto L_pkcs1_c_algorithm_pkcs1_c_uses_hash_exit; }
+    v_r128_not_i26_i_i = v_r11_sroa_3_0_copyload_i_i_i == v_r3_sroa_3_0_copyload_i;
+    if (v_r128_not_i26_i_i) { goto L_then_32_i48_i_i; } else { p_v_common_ret_op_i = 0u; goto L_pkcs1_c_algorithm_pkcs1_c_uses_hash_exit; }
+L_then_32_i48_i_i:;
+    v_r11_sroa_0_0_copyload_i_i_i = get_P(v_r34_i_i);
+    v_r270_i38_i_i = v_r11_sroa_0_0_copyload_i_i_i + 1;
+    v_r272_i39_i_i = v_r11_sroa_0_0_copyload_i_i_i + 2;
+    v_r274_i40_i_i = v_r11_sroa_0_0_copyload_i_i_i + 3;
+    v_r276_i41_i_i = v_r11_sroa_0_0_copyload_i_i_i + 4;
+    v_r278_i42_i_i = v_r11_sroa_0_0_copyload_i_i_i + 5;
+    v_r280_i43_i_i = v_r11_sroa_0_0_copyload_i_i_i + 6;
+    v_r282_i44_i_i = v_r11_sroa_0_0_copyload_i_i_i + 7;
+    v_r284_i45_i_i = v_r11_sroa_0_0_copyload_i_i_i + 8;
+    v_r334_i57_i_i = get_u8(v_r11_sroa_0_0_copyload_i_i_i);
+    v_r339_i59_i_i = v_r334_i57_i_i == v_r334_i_i_i;
+    v_r342_i60_i_i = get_u8(v_r270_i38_i_i);
+    v_r347_i62_i_i = v_r342_i60_i_i == v_r342_i_i_i;
+    v_r353_i63_i_i = (u1)(((u32)(v_r339_i59_i_i) & (u32)(v_r347_i62_i_i)) & 1);
+    v_r356_i64_i_i = get_u8(v_r272_i39_i_i);
+    v_r361_i66_i_i = v_r356_i64_i_i == v_r356_i_i_i;
+    v_r367_i67_i_i = (u1)(((u32)(v_r353_i63_i_i) & (u32)(v_r361_i66_i_i)) & 1);
+    v_r370_i68_i_i = get_u8(v_r274_i40_i_i);
+    v_r375_i70_i_i = v_r370_i68_i_i == v_r370_i_i_i;
+    v_r381_i71_i_i = (u1)(((u32)(v_r367_i67_i_i) & (u32)(v_r375_i70_i_i)) & 1);
+    v_r384_i72_i_i = get_u8(v_r276_i41_i_i);
+    v_r389_i74_i_i = v_r384_i72_i_i == v_r384_i_i_i;
+    v_r395_i75_i_i = (u1)(((u32)(v_r381_i71_i_i) & (u32)(v_r389_i74_i_i)) & 1);
+    v_r398_i76_i_i = get_u8(v_r278_i42_i_i);
+    v_r403_i78_i_i = v_r398_i76_i_i == v_r398_i_i_i;
+    v_r409_i79_i_i = (u1)(((u32)(v_r395_i75_i_i) & (u32)(v_r403_i78_i_i)) & 1);
+    v_r412_i80_i_i = get_u8(v_r280_i43_i_i);
+    v_r417_i82_i_i = v_r412_i80_i_i == v_r412_i_i_i;
+    v_r423_i83_i_i = (u1)(((u32)(v_r409_i79_i_i) & (u32)(v_r417_i82_i_i)) & 1);
+    v_r426_i84_i_i = get_u8(v_r282_i44_i_i);
+    v_r431_i86_i_i = v_r426_i84_i_i == v_r426_i_i_i;
+    v_r437_i87_i_i = (u1)(((u32)(v_r423_i83_i_i) & (u32)(v_r431_i86_i_i)) & 1);
+    v_r440_i88_i_i = get_u8(v_r284_i45_i_i);
+    v_r445_i90_i_i = v_r440_i88_i_i == v_r440_i_i_i;
+    v_r451_i91_i_i = (u1)(((u32)(v_r437_i87_i_i) & (u32)(v_r445_i90_i_i)) & 1);
+    { p_v_common_ret_op_i = v_r451_i91_i_i; goto L_pkcs1_c_algorithm_pkcs1_c_uses_hash_exit; }
 L_pkcs1_c_algorithm_pkcs1_c_uses_hash_exit:;
     v_common_ret_op_i = p_v_common_ret_op_i;
     return v_common_ret_op_i;
@@ -51712,13 +52049,13 @@ static u32 proved_private_key_info_encode(P v_a0, P v_a1, u64 v_a2, P v_a3) {
     fill(v_r0_i5_i_i, 0u, 168u);
     v_0 = (u64)((u64)(v_r11_sroa_5_0_copyload_i_i) + (u64)(18446744069414584320ull));
     v_or_cond2770_i_i = v_0 < 18446744069414584322ull;
-    if (v_or_cond2770_i_i) { goto L_der_core_decode_AnyDecodeRefSliceU8_from_der_70ca1; } else { goto L_join_5_i_i_i_i; }
+    if (v_or_cond2770_i_i) { goto L_der_core_decode_AnyDecodeRefSliceU8_from_der_f0286; } else { goto L_join_5_i_i_i_i; }
 L_join_5_i_i_i_i:;
     v_r62_i_i_i_i = v_r11_sroa_0_0_copyload_i_i + 2;
     v_r65_i_i_i_i = (u64)((u64)(v_r11_sroa_5_0_copyload_i_i) + (u64)(18446744073709551614ull));
     v_r73_i_i_i_i = get_u8(v_r11_sroa_0_0_copyload_i_i);
     v_r78_i_i_i_i = v_r73_i_i_i_i == 48u;
-    if (v_r78_i_i_i_i) { goto L_then_6_i_i_i_i; } else { goto L_der_core_decode_AnyDecodeRefSliceU8_from_der_70ca1; }
+    if (v_r78_i_i_i_i) { goto L_then_6_i_i_i_i; } else { goto L_der_core_decode_AnyDecodeRefSliceU8_from_der_f0286; }
 L_then_6_i_i_i_i:;
     v_r60_i_i_i_i = v_r11_sroa_0_0_copyload_i_i + 1;
     v_r83_i_i_i_i = get_u8(v_r60_i_i_i_i);
@@ -51727,20 +52064,20 @@ L_then_6_i_i_i_i:;
 L_then_9_i_i_i_i:;
     v_r92_i_i_i_i = (u64)v_r83_i_i_i_i;
     v_r15_i1275_i_i = v_r65_i_i_i_i < v_r92_i_i_i_i;
-    if (v_r15_i1275_i_i) { goto L_der_core_decode_AnyDecodeRefSliceU8_from_der_70ca1; } else { goto L_join_3_i1276_i_i; }
+    if (v_r15_i1275_i_i) { goto L_der_core_decode_AnyDecodeRefSliceU8_from_der_f0286; } else { goto L_join_3_i1276_i_i; }
 L_join_3_i1276_i_i:;
     v_r32_i1278_i_i = (u64)((u64)(v_r65_i_i_i_i) - (u64)(v_r92_i_i_i_i));
-    { p_v_r0_i13_sroa_7_0_i_i = v_r62_i_i_i_i; p_v_r0_i13_sroa_11_0_i_i = v_r92_i_i_i_i; p_v_r0_i13_sroa_13_0_i_i = v_r32_i1278_i_i; goto L_pkcs1_view_ViewedKeyDecodeValueRefSliceU8NoMemory_; }
+    { p_v_r0_i13_sroa_7_0_i_i = v_r62_i_i_i_i; p_v_r0_i13_sroa_11_0_i_i = v_r92_i_i_i_i; p_v_r0_i13_sroa_13_0_i_i = v_r32_i1278_i_i; goto L_pkcs1_viewed_key_ViewedKeyDecodeValueRefSliceU8NoM; }
 L_join_11_i_i_i_i:;
     v_r104_i_i_i_i = v_r83_i_i_i_i == 130u;
     if (v_r104_i_i_i_i) { goto L_then_12_i_i_i_i; } else { goto L_join_14_i_i_i_i; }
 L_then_12_i_i_i_i:;
     v_r110_i_i_i_i = v_r11_sroa_5_0_copyload_i_i < 4u;
-    if (v_r110_i_i_i_i) { goto L_der_core_decode_AnyDecodeRefSliceU8_from_der_70ca1; } else { goto L_join_19_i_i_i_i; }
+    if (v_r110_i_i_i_i) { goto L_der_core_decode_AnyDecodeRefSliceU8_from_der_f0286; } else { goto L_join_19_i_i_i_i; }
 L_join_19_i_i_i_i:;
     v_r130_i_i_i_i = get_u8(v_r62_i_i_i_i);
     v_r132_not_i_i_i_i = v_r130_i_i_i_i == 0u;
-    if (v_r132_not_i_i_i_i) { goto L_der_core_decode_AnyDecodeRefSliceU8_from_der_70ca1; } else { goto L_then_20_i_i_i_i; }
+    if (v_r132_not_i_i_i_i) { goto L_der_core_decode_AnyDecodeRefSliceU8_from_der_f0286; } else { goto L_then_20_i_i_i_i; }
 L_then_20_i_i_i_i:;
     v_r122_i_i_i_i = (u64)((u64)(v_r11_sroa_5_0_copyload_i_i) + (u64)(18446744073709551612ull));
     v_r117_i_i_i_i = v_r11_sroa_0_0_copyload_i_i + 3;
@@ -51750,96 +52087,96 @@ L_then_20_i_i_i_i:;
     v_r145_i_i_i_i = (u64)v_r143_i_i_i_i;
     v_r148_i_i_i_i = (u64)((u64)(v_r141_i_i_i_i) | (u64)(v_r145_i_i_i_i));
     v_r15_i1279_i_i = v_r122_i_i_i_i < v_r148_i_i_i_i;
-    if (v_r15_i1279_i_i) { goto L_der_core_decode_AnyDecodeRefSliceU8_from_der_70ca1; } else { goto L_join_3_i1280_i_i; }
+    if (v_r15_i1279_i_i) { goto L_der_core_decode_AnyDecodeRefSliceU8_from_der_f0286; } else { goto L_join_3_i1280_i_i; }
 L_join_3_i1280_i_i:;
     v_r119_i_i_i_i = v_r11_sroa_0_0_copyload_i_i + 4;
     v_r32_i1282_i_i = (u64)((u64)(v_r122_i_i_i_i) - (u64)(v_r148_i_i_i_i));
-    { p_v_r0_i13_sroa_7_0_i_i = v_r119_i_i_i_i; p_v_r0_i13_sroa_11_0_i_i = v_r148_i_i_i_i; p_v_r0_i13_sroa_13_0_i_i = v_r32_i1282_i_i; goto L_pkcs1_view_ViewedKeyDecodeValueRefSliceU8NoMemory_; }
+    { p_v_r0_i13_sroa_7_0_i_i = v_r119_i_i_i_i; p_v_r0_i13_sroa_11_0_i_i = v_r148_i_i_i_i; p_v_r0_i13_sroa_13_0_i_i = v_r32_i1282_i_i; goto L_pkcs1_viewed_key_ViewedKeyDecodeValueRefSliceU8NoM; }
 L_join_14_i_i_i_i:;
     v_r163_i_i_i_i = v_r65_i_i_i_i == 0u;
-    if (v_r163_i_i_i_i) { goto L_der_core_decode_AnyDecodeRefSliceU8_from_der_70ca1; } else { goto L_join_27_i_i_i_i; }
+    if (v_r163_i_i_i_i) { goto L_der_core_decode_AnyDecodeRefSliceU8_from_der_f0286; } else { goto L_join_27_i_i_i_i; }
 L_join_27_i_i_i_i:;
     v_r170_i_i_i_i = v_r11_sroa_0_0_copyload_i_i + 3;
     v_r173_i_i_i_i = (u64)((u64)(v_r11_sroa_5_0_copyload_i_i) + (u64)(18446744073709551613ull));
     v_r182_i_i_i_i = v_r83_i_i_i_i == 129u;
-    if (v_r182_i_i_i_i) { goto L_then_28_i_i_i_i; } else { goto L_der_core_decode_AnyDecodeRefSliceU8_from_der_70ca1; }
+    if (v_r182_i_i_i_i) { goto L_then_28_i_i_i_i; } else { goto L_der_core_decode_AnyDecodeRefSliceU8_from_der_f0286; }
 L_then_28_i_i_i_i:;
     v_r187_i_i_i_i = get_u8(v_r62_i_i_i_i);
     v_r189_i_i_i_i = (u8)(v_r187_i_i_i_i ^ ((u8)1 << 7)) < (u8)(0u ^ ((u8)1 << 7));
-    if (v_r189_i_i_i_i) { goto L_then_31_i_i_i_i; } else { goto L_der_core_decode_AnyDecodeRefSliceU8_from_der_70ca1; }
+    if (v_r189_i_i_i_i) { goto L_then_31_i_i_i_i; } else { goto L_der_core_decode_AnyDecodeRefSliceU8_from_der_f0286; }
 L_then_31_i_i_i_i:;
     v_r199_i_i_i_i = (u64)v_r187_i_i_i_i;
     v_r15_i1289_i_i = v_r173_i_i_i_i < v_r199_i_i_i_i;
-    if (v_r15_i1289_i_i) { goto L_der_core_decode_AnyDecodeRefSliceU8_from_der_70ca1; } else { goto L_join_3_i1290_i_i; }
+    if (v_r15_i1289_i_i) { goto L_der_core_decode_AnyDecodeRefSliceU8_from_der_f0286; } else { goto L_join_3_i1290_i_i; }
 L_join_3_i1290_i_i:;
     v_r32_i1292_i_i = (u64)((u64)(v_r173_i_i_i_i) - (u64)(v_r199_i_i_i_i));
-    { p_v_r0_i13_sroa_7_0_i_i = v_r170_i_i_i_i; p_v_r0_i13_sroa_11_0_i_i = v_r199_i_i_i_i; p_v_r0_i13_sroa_13_0_i_i = v_r32_i1292_i_i; goto L_pkcs1_view_ViewedKeyDecodeValueRefSliceU8NoMemory_; }
-L_pkcs1_view_ViewedKeyDecodeValueRefSliceU8NoMemory_:;
+    { p_v_r0_i13_sroa_7_0_i_i = v_r170_i_i_i_i; p_v_r0_i13_sroa_11_0_i_i = v_r199_i_i_i_i; p_v_r0_i13_sroa_13_0_i_i = v_r32_i1292_i_i; goto L_pkcs1_viewed_key_ViewedKeyDecodeValueRefSliceU8NoM; }
+L_pkcs1_viewed_key_ViewedKeyDecodeValueRefSliceU8NoM:;
     v_r0_i13_sroa_7_0_i_i = p_v_r0_i13_sroa_7_0_i_i;
     v_r0_i13_sroa_11_0_i_i = p_v_r0_i13_sroa_11_0_i_i;
     v_r0_i13_sroa_13_0_i_i = p_v_r0_i13_sroa_13_0_i_i;
     v_r36_i12_i_i = v_r0_i13_sroa_13_0_i_i != 0u;
     v_r23_i80_i_i = v_r0_i13_sroa_11_0_i_i < 2u;
     v_or_cond_i = v_r36_i12_i_i ? 1u : v_r23_i80_i_i;
-    if (v_or_cond_i) { goto L_der_core_decode_AnyDecodeRefSliceU8_from_der_70ca1; } else { goto L_join_5_i_i_i; }
+    if (v_or_cond_i) { goto L_der_core_decode_AnyDecodeRefSliceU8_from_der_f0286; } else { goto L_join_5_i_i_i; }
 L_join_5_i_i_i:;
     v_r32_i81_i_i = v_r0_i13_sroa_7_0_i_i + 2;
     v_r35_i82_i_i = (u64)((u64)(v_r0_i13_sroa_11_0_i_i) + (u64)(18446744073709551614ull));
     v_r43_i_i_i = get_u8(v_r0_i13_sroa_7_0_i_i);
     v_r48_i84_i_i = v_r43_i_i_i == 2u;
-    if (v_r48_i84_i_i) { goto L_then_6_i_i_i; } else { goto L_der_core_decode_AnyDecodeRefSliceU8_from_der_70ca1; }
+    if (v_r48_i84_i_i) { goto L_then_6_i_i_i; } else { goto L_der_core_decode_AnyDecodeRefSliceU8_from_der_f0286; }
 L_then_6_i_i_i:;
     v_r30_i85_i_i = v_r0_i13_sroa_7_0_i_i + 1;
     v_r53_i86_i_i = get_u8(v_r30_i85_i_i);
     v_r55_i_i_i = (u8)(v_r53_i86_i_i ^ ((u8)1 << 7)) > (u8)(255u ^ ((u8)1 << 7));
-    if (v_r55_i_i_i) { goto L_then_9_i_i_i; } else { goto L_der_core_decode_AnyDecodeRefSliceU8_from_der_70ca1; }
+    if (v_r55_i_i_i) { goto L_then_9_i_i_i; } else { goto L_der_core_decode_AnyDecodeRefSliceU8_from_der_f0286; }
 L_then_9_i_i_i:;
     v_r65_i87_i_i = (u64)v_r53_i86_i_i;
     v_r15_i1299_i_i = v_r35_i82_i_i < v_r65_i87_i_i;
-    if (v_r15_i1299_i_i) { goto L_der_core_decode_AnyDecodeRefSliceU8_from_der_70ca1; } else { goto L_arm_1_i62_i_i; }
+    if (v_r15_i1299_i_i) { goto L_der_core_decode_AnyDecodeRefSliceU8_from_der_f0286; } else { goto L_arm_1_i62_i_i; }
 L_arm_1_i62_i_i:;
     v_r29_i1301_i_i = (P)((u64)v_r32_i81_i_i + (u64)(v_r65_i87_i_i));
     v_r32_i1302_i_i = (u64)((u64)(v_r35_i82_i_i) - (u64)(v_r65_i87_i_i));
     switch (v_r53_i86_i_i) {
-    case 0u: { goto L_der_core_decode_AnyDecodeRefSliceU8_from_der_70ca1; }
+    case 0u: { goto L_der_core_decode_AnyDecodeRefSliceU8_from_der_f0286; }
     case 1u: { goto L_then_6_i101_i_i; }
     default: { goto L_join_8_i_i_i; }
     }
 L_then_6_i101_i_i:;
     v_r34_i102_i_i = get_u8(v_r32_i81_i_i);
     v_r36_i103_i_i = (u8)(v_r34_i102_i_i ^ ((u8)1 << 7)) > (u8)(255u ^ ((u8)1 << 7));
-    if (v_r36_i103_i_i) { p_v_r6_sroa_5_0_i_i_i = v_r34_i102_i_i; goto L_arm_1_i96_i_i; } else { goto L_der_core_decode_AnyDecodeRefSliceU8_from_der_70ca1; }
+    if (v_r36_i103_i_i) { p_v_r6_sroa_5_0_i_i_i = v_r34_i102_i_i; goto L_arm_1_i96_i_i; } else { goto L_der_core_decode_AnyDecodeRefSliceU8_from_der_f0286; }
 L_join_8_i_i_i:;
     v_r46_i105_i_i = v_r53_i86_i_i < 3u;
-    if (v_r46_i105_i_i) { goto L_then_12_i_i_i; } else { goto L_der_core_decode_AnyDecodeRefSliceU8_from_der_70ca1; }
+    if (v_r46_i105_i_i) { goto L_then_12_i_i_i; } else { goto L_der_core_decode_AnyDecodeRefSliceU8_from_der_f0286; }
 L_then_12_i_i_i:;
     v_r53_i106_i_i = get_u8(v_r32_i81_i_i);
     v_cond_i_i_i = v_r53_i106_i_i == 0u;
-    if (v_cond_i_i_i) { goto L_arm_15_i_i_i; } else { goto L_der_core_decode_AnyDecodeRefSliceU8_from_der_70ca1; }
+    if (v_cond_i_i_i) { goto L_arm_15_i_i_i; } else { goto L_der_core_decode_AnyDecodeRefSliceU8_from_der_f0286; }
 L_arm_15_i_i_i:;
     v_r56_i_i_i = v_r0_i13_sroa_7_0_i_i + 3;
     v_r59_i107_i_i = get_u8(v_r56_i_i_i);
     v_r61_i108_i_i = (u8)(v_r59_i107_i_i ^ ((u8)1 << 7)) < (u8)(0u ^ ((u8)1 << 7));
-    if (v_r61_i108_i_i) { p_v_r6_sroa_5_0_i_i_i = v_r59_i107_i_i; goto L_arm_1_i96_i_i; } else { goto L_der_core_decode_AnyDecodeRefSliceU8_from_der_70ca1; }
+    if (v_r61_i108_i_i) { p_v_r6_sroa_5_0_i_i_i = v_r59_i107_i_i; goto L_arm_1_i96_i_i; } else { goto L_der_core_decode_AnyDecodeRefSliceU8_from_der_f0286; }
 L_arm_1_i96_i_i:;
     v_r6_sroa_5_0_i_i_i = p_v_r6_sroa_5_0_i_i_i;
     switch (v_r6_sroa_5_0_i_i_i) {
     case 0u: { goto L_arm_5_i71_i_i; }
     case 1u: { p_v_r11_sroa_4_0_i70_i_i = 1u; goto L_arm_1_i42_i_i; }
-    default: { goto L_der_core_decode_AnyDecodeRefSliceU8_from_der_70ca1; }
+    default: { goto L_der_core_decode_AnyDecodeRefSliceU8_from_der_f0286; }
     }
 L_arm_5_i71_i_i:;
     { p_v_r11_sroa_4_0_i70_i_i = 0u; goto L_arm_1_i42_i_i; }
 L_arm_1_i42_i_i:;
     v_r11_sroa_4_0_i70_i_i = p_v_r11_sroa_4_0_i70_i_i;
     v_r53_i_i_i_i_i = v_r32_i1302_i_i < 2u;
-    if (v_r53_i_i_i_i_i) { goto L_der_core_decode_AnyDecodeRefSliceU8_from_der_70ca1; } else { goto L_join_5_i_i_i_i_i; }
+    if (v_r53_i_i_i_i_i) { goto L_der_core_decode_AnyDecodeRefSliceU8_from_der_f0286; } else { goto L_join_5_i_i_i_i_i; }
 L_join_5_i_i_i_i_i:;
     v_r62_i_i_i_i_i = v_r29_i1301_i_i + 2;
     v_r65_i_i_i_i_i = (u64)((u64)(v_r32_i1302_i_i) + (u64)(18446744073709551614ull));
     v_r73_i_i_i_i_i = get_u8(v_r29_i1301_i_i);
     v_r78_i_i_i_i_i = v_r73_i_i_i_i_i == 2u;
-    if (v_r78_i_i_i_i_i) { goto L_then_6_i_i_i_i_i; } else { goto L_der_core_decode_AnyDecodeRefSliceU8_from_der_70ca1; }
+    if (v_r78_i_i_i_i_i) { goto L_then_6_i_i_i_i_i; } else { goto L_der_core_decode_AnyDecodeRefSliceU8_from_der_f0286; }
 L_then_6_i_i_i_i_i:;
     v_r60_i_i_i_i_i = v_r29_i1301_i_i + 1;
     v_r83_i_i_i_i_i = get_u8(v_r60_i_i_i_i_i);
@@ -51852,17 +52189,17 @@ L_then_9_i_i_i_i_i:;
     v_r32_i1318_i_i = (u64)((u64)(v_r65_i_i_i_i_i) - (u64)(v_r92_i_i_i_i_i));
     v_r27_i4_i_i_i = v_r83_i_i_i_i_i == 0u;
     v_or_cond140_i = (u1)(((u32)(v_r27_i4_i_i_i) | (u32)(v_r15_i1315_i_i)) & 1);
-    if (v_or_cond140_i) { goto L_der_core_decode_AnyDecodeRefSliceU8_from_der_70ca1; } else { p_v_r0_i_i109_sroa_13_0_i57_i = v_r32_i1318_i_i; p_v_r0_i_i109_sroa_12_0_i56_i = v_r29_i1317_i_i; p_v_r0_i_i109_sroa_11_0_i55_i = v_r92_i_i_i_i_i; p_v_r0_i_i109_sroa_7_0_i54_i = v_r62_i_i_i_i_i; goto L_join_5_i_i133_i_i; }
+    if (v_or_cond140_i) { goto L_der_core_decode_AnyDecodeRefSliceU8_from_der_f0286; } else { p_v_r0_i_i109_sroa_13_0_i57_i = v_r32_i1318_i_i; p_v_r0_i_i109_sroa_12_0_i56_i = v_r29_i1317_i_i; p_v_r0_i_i109_sroa_11_0_i55_i = v_r92_i_i_i_i_i; p_v_r0_i_i109_sroa_7_0_i54_i = v_r62_i_i_i_i_i; goto L_join_5_i_i133_i_i; }
 L_join_11_i_i_i_i_i:;
     v_r104_i_i_i_i_i = v_r83_i_i_i_i_i == 130u;
     if (v_r104_i_i_i_i_i) { goto L_then_12_i_i_i_i_i; } else { goto L_join_14_i_i_i_i_i; }
 L_then_12_i_i_i_i_i:;
     v_r110_i_i_i_i_i = v_r32_i1302_i_i < 4u;
-    if (v_r110_i_i_i_i_i) { goto L_der_core_decode_AnyDecodeRefSliceU8_from_der_70ca1; } else { goto L_join_19_i_i_i_i_i; }
+    if (v_r110_i_i_i_i_i) { goto L_der_core_decode_AnyDecodeRefSliceU8_from_der_f0286; } else { goto L_join_19_i_i_i_i_i; }
 L_join_19_i_i_i_i_i:;
     v_r130_i_i_i_i_i = get_u8(v_r62_i_i_i_i_i);
     v_r132_not_i_i_i_i_i = v_r130_i_i_i_i_i == 0u;
-    if (v_r132_not_i_i_i_i_i) { goto L_der_core_decode_AnyDecodeRefSliceU8_from_der_70ca1; } else { goto L_then_20_i_i_i_i_i; }
+    if (v_r132_not_i_i_i_i_i) { goto L_der_core_decode_AnyDecodeRefSliceU8_from_der_f0286; } else { goto L_then_20_i_i_i_i_i; }
 L_then_20_i_i_i_i_i:;
     v_r122_i_i_i_i_i = (u64)((u64)(v_r32_i1302_i_i) + (u64)(18446744073709551612ull));
     v_r117_i_i_i_i_i = v_r29_i1301_i_i + 3;
@@ -51872,7 +52209,7 @@ L_then_20_i_i_i_i_i:;
     v_r145_i_i_i_i_i = (u64)v_r143_i_i_i_i_i;
     v_r148_i_i_i_i_i = (u64)((u64)(v_r141_i_i_i_i_i) | (u64)(v_r145_i_i_i_i_i));
     v_r15_i1325_i_i = v_r122_i_i_i_i_i < v_r148_i_i_i_i_i;
-    if (v_r15_i1325_i_i) { goto L_der_core_decode_AnyDecodeRefSliceU8_from_der_70ca1; } else { goto L_join_3_i1326_i_i; }
+    if (v_r15_i1325_i_i) { goto L_der_core_decode_AnyDecodeRefSliceU8_from_der_f0286; } else { goto L_join_3_i1326_i_i; }
 L_join_3_i1326_i_i:;
     v_r119_i_i_i_i_i = v_r29_i1301_i_i + 4;
     v_r29_i1327_i_i = (P)((u64)v_r119_i_i_i_i_i + (u64)(v_r148_i_i_i_i_i));
@@ -51880,20 +52217,20 @@ L_join_3_i1326_i_i:;
     { p_v_r0_i_i109_sroa_13_0_i57_i = v_r32_i1328_i_i; p_v_r0_i_i109_sroa_12_0_i56_i = v_r29_i1327_i_i; p_v_r0_i_i109_sroa_11_0_i55_i = v_r148_i_i_i_i_i; p_v_r0_i_i109_sroa_7_0_i54_i = v_r119_i_i_i_i_i; goto L_join_5_i_i133_i_i; }
 L_join_14_i_i_i_i_i:;
     v_r163_i_i_i_i_i = v_r65_i_i_i_i_i == 0u;
-    if (v_r163_i_i_i_i_i) { goto L_der_core_decode_AnyDecodeRefSliceU8_from_der_70ca1; } else { goto L_join_27_i_i_i_i_i; }
+    if (v_r163_i_i_i_i_i) { goto L_der_core_decode_AnyDecodeRefSliceU8_from_der_f0286; } else { goto L_join_27_i_i_i_i_i; }
 L_join_27_i_i_i_i_i:;
     v_r170_i_i_i_i_i = v_r29_i1301_i_i + 3;
     v_r173_i_i_i_i_i = (u64)((u64)(v_r32_i1302_i_i) + (u64)(18446744073709551613ull));
     v_r182_i_i_i_i_i = v_r83_i_i_i_i_i == 129u;
-    if (v_r182_i_i_i_i_i) { goto L_then_28_i_i_i_i_i; } else { goto L_der_core_decode_AnyDecodeRefSliceU8_from_der_70ca1; }
+    if (v_r182_i_i_i_i_i) { goto L_then_28_i_i_i_i_i; } else { goto L_der_core_decode_AnyDecodeRefSliceU8_from_der_f0286; }
 L_then_28_i_i_i_i_i:;
     v_r187_i_i_i_i_i = get_u8(v_r62_i_i_i_i_i);
     v_r189_i_i_i_i_i = (u8)(v_r187_i_i_i_i_i ^ ((u8)1 << 7)) < (u8)(0u ^ ((u8)1 << 7));
-    if (v_r189_i_i_i_i_i) { goto L_then_31_i_i_i_i_i; } else { goto L_der_core_decode_AnyDecodeRefSliceU8_from_der_70ca1; }
+    if (v_r189_i_i_i_i_i) { goto L_then_31_i_i_i_i_i; } else { goto L_der_core_decode_AnyDecodeRefSliceU8_from_der_f0286; }
 L_then_31_i_i_i_i_i:;
     v_r199_i_i_i_i_i = (u64)v_r187_i_i_i_i_i;
     v_r15_i1335_i_i = v_r173_i_i_i_i_i < v_r199_i_i_i_i_i;
-    if (v_r15_i1335_i_i) { goto L_der_core_decode_AnyDecodeRefSliceU8_from_der_70ca1; } else { goto L_join_3_i1336_i_i; }
+    if (v_r15_i1335_i_i) { goto L_der_core_decode_AnyDecodeRefSliceU8_from_der_f0286; } else { goto L_join_3_i1336_i_i; }
 L_join_3_i1336_i_i:;
     v_r29_i1337_i_i = (P)((u64)v_r170_i_i_i_i_i + (u64)(v_r199_i_i_i_i_i));
     v_r32_i1338_i_i = (u64)((u64)(v_r173_i_i_i_i_i) - (u64)(v_r199_i_i_i_i_i));
@@ -51913,23 +52250,23 @@ L_default_7_i_i_i_i:;
     v_r73_i_i134_i_i = (u8)(v_r34_i_i_i_i ^ ((u8)1 << 7)) < (u8)(0u ^ ((u8)1 << 7));
     v_r53_i_i_i164_old_i_i = v_r0_i_i109_sroa_13_0_i57_i < 2u;
     v_or_cond2772_i_i = v_r73_i_i134_i_i ? 1u : v_r53_i_i_i164_old_i_i;
-    if (v_or_cond2772_i_i) { goto L_der_core_decode_AnyDecodeRefSliceU8_from_der_70ca1; } else { goto L_join_5_i_i_i165_i_i; }
+    if (v_or_cond2772_i_i) { goto L_der_core_decode_AnyDecodeRefSliceU8_from_der_f0286; } else { goto L_join_5_i_i_i165_i_i; }
 L_der_core_integer_uint_UintRefDecodeValueRefSliceU8:;
     v_r37_i_i_i_i = v_r0_i_i109_sroa_7_0_i54_i + 1;
     v_r56_i_i_i_i = get_u8(v_r37_i_i_i_i);
     v_not_i_i = (u8)(v_r56_i_i_i_i ^ ((u8)1 << 7)) > (u8)(255u ^ ((u8)1 << 7));
     v_r53_i_i_i164_i_i = v_r0_i_i109_sroa_13_0_i57_i < 2u;
     v_or_cond2771_i_i = v_not_i_i ? 1u : v_r53_i_i_i164_i_i;
-    if (v_or_cond2771_i_i) { goto L_der_core_decode_AnyDecodeRefSliceU8_from_der_70ca1; } else { goto L_join_5_i_i_i165_i_i; }
+    if (v_or_cond2771_i_i) { goto L_der_core_decode_AnyDecodeRefSliceU8_from_der_f0286; } else { goto L_join_5_i_i_i165_i_i; }
 L_arm_1_i120_i_i:;
     v_r53_i_i_i164_old_old_i_i = v_r0_i_i109_sroa_13_0_i57_i < 2u;
-    if (v_r53_i_i_i164_old_old_i_i) { goto L_der_core_decode_AnyDecodeRefSliceU8_from_der_70ca1; } else { goto L_join_5_i_i_i165_i_i; }
+    if (v_r53_i_i_i164_old_old_i_i) { goto L_der_core_decode_AnyDecodeRefSliceU8_from_der_f0286; } else { goto L_join_5_i_i_i165_i_i; }
 L_join_5_i_i_i165_i_i:;
     v_r62_i_i_i166_i_i = v_r0_i_i109_sroa_12_0_i56_i + 2;
     v_r65_i_i_i167_i_i = (u64)((u64)(v_r0_i_i109_sroa_13_0_i57_i) + (u64)(18446744073709551614ull));
     v_r73_i_i_i168_i_i = get_u8(v_r0_i_i109_sroa_12_0_i56_i);
     v_r78_i_i_i170_i_i = v_r73_i_i_i168_i_i == 2u;
-    if (v_r78_i_i_i170_i_i) { goto L_then_6_i_i_i245_i_i; } else { goto L_der_core_decode_AnyDecodeRefSliceU8_from_der_70ca1; }
+    if (v_r78_i_i_i170_i_i) { goto L_then_6_i_i_i245_i_i; } else { goto L_der_core_decode_AnyDecodeRefSliceU8_from_der_f0286; }
 L_then_6_i_i_i245_i_i:;
     v_r60_i_i_i246_i_i = v_r0_i_i109_sroa_12_0_i56_i + 1;
     v_r83_i_i_i247_i_i = get_u8(v_r60_i_i_i246_i_i);
@@ -51942,17 +52279,17 @@ L_then_9_i_i_i289_i_i:;
     v_r32_i1348_i_i = (u64)((u64)(v_r65_i_i_i167_i_i) - (u64)(v_r92_i_i_i290_i_i));
     v_r27_i4_i217_i_i = v_r83_i_i_i247_i_i == 0u;
     v_or_cond141_i = (u1)(((u32)(v_r27_i4_i217_i_i) | (u32)(v_r15_i1345_i_i)) & 1);
-    if (v_or_cond141_i) { goto L_der_core_decode_AnyDecodeRefSliceU8_from_der_70ca1; } else { p_v_r0_i_i139_sroa_13_0_i66_i = v_r32_i1348_i_i; p_v_r0_i_i139_sroa_12_0_i65_i = v_r29_i1347_i_i; p_v_r0_i_i139_sroa_11_0_i64_i = v_r92_i_i_i290_i_i; p_v_r0_i_i139_sroa_7_0_i63_i = v_r62_i_i_i166_i_i; goto L_join_5_i_i218_i_i; }
+    if (v_or_cond141_i) { goto L_der_core_decode_AnyDecodeRefSliceU8_from_der_f0286; } else { p_v_r0_i_i139_sroa_13_0_i66_i = v_r32_i1348_i_i; p_v_r0_i_i139_sroa_12_0_i65_i = v_r29_i1347_i_i; p_v_r0_i_i139_sroa_11_0_i64_i = v_r92_i_i_i290_i_i; p_v_r0_i_i139_sroa_7_0_i63_i = v_r62_i_i_i166_i_i; goto L_join_5_i_i218_i_i; }
 L_join_11_i_i_i249_i_i:;
     v_r104_i_i_i250_i_i = v_r83_i_i_i247_i_i == 130u;
     if (v_r104_i_i_i250_i_i) { goto L_then_12_i_i_i266_i_i; } else { goto L_join_14_i_i_i251_i_i; }
 L_then_12_i_i_i266_i_i:;
     v_r110_i_i_i267_i_i = v_r0_i_i109_sroa_13_0_i57_i < 4u;
-    if (v_r110_i_i_i267_i_i) { goto L_der_core_decode_AnyDecodeRefSliceU8_from_der_70ca1; } else { goto L_join_19_i_i_i268_i_i; }
+    if (v_r110_i_i_i267_i_i) { goto L_der_core_decode_AnyDecodeRefSliceU8_from_der_f0286; } else { goto L_join_19_i_i_i268_i_i; }
 L_join_19_i_i_i268_i_i:;
     v_r130_i_i_i269_i_i = get_u8(v_r62_i_i_i166_i_i);
     v_r132_not_i_i_i270_i_i = v_r130_i_i_i269_i_i == 0u;
-    if (v_r132_not_i_i_i270_i_i) { goto L_der_core_decode_AnyDecodeRefSliceU8_from_der_70ca1; } else { goto L_then_20_i_i_i271_i_i; }
+    if (v_r132_not_i_i_i270_i_i) { goto L_der_core_decode_AnyDecodeRefSliceU8_from_der_f0286; } else { goto L_then_20_i_i_i271_i_i; }
 L_then_20_i_i_i271_i_i:;
     v_r122_i_i_i272_i_i = (u64)((u64)(v_r0_i_i109_sroa_13_0_i57_i) + (u64)(18446744073709551612ull));
     v_r117_i_i_i274_i_i = v_r0_i_i109_sroa_12_0_i56_i + 3;
@@ -51962,7 +52299,7 @@ L_then_20_i_i_i271_i_i:;
     v_r145_i_i_i278_i_i = (u64)v_r143_i_i_i277_i_i;
     v_r148_i_i_i279_i_i = (u64)((u64)(v_r141_i_i_i276_i_i) | (u64)(v_r145_i_i_i278_i_i));
     v_r15_i1355_i_i = v_r122_i_i_i272_i_i < v_r148_i_i_i279_i_i;
-    if (v_r15_i1355_i_i) { goto L_der_core_decode_AnyDecodeRefSliceU8_from_der_70ca1; } else { goto L_join_3_i1356_i_i; }
+    if (v_r15_i1355_i_i) { goto L_der_core_decode_AnyDecodeRefSliceU8_from_der_f0286; } else { goto L_join_3_i1356_i_i; }
 L_join_3_i1356_i_i:;
     v_r119_i_i_i273_i_i = v_r0_i_i109_sroa_12_0_i56_i + 4;
     v_r29_i1357_i_i = (P)((u64)v_r119_i_i_i273_i_i + (u64)(v_r148_i_i_i279_i_i));
@@ -51970,20 +52307,20 @@ L_join_3_i1356_i_i:;
     { p_v_r0_i_i139_sroa_13_0_i66_i = v_r32_i1358_i_i; p_v_r0_i_i139_sroa_12_0_i65_i = v_r29_i1357_i_i; p_v_r0_i_i139_sroa_11_0_i64_i = v_r148_i_i_i279_i_i; p_v_r0_i_i139_sroa_7_0_i63_i = v_r119_i_i_i273_i_i; goto L_join_5_i_i218_i_i; }
 L_join_14_i_i_i251_i_i:;
     v_r163_i_i_i252_i_i = v_r65_i_i_i167_i_i == 0u;
-    if (v_r163_i_i_i252_i_i) { goto L_der_core_decode_AnyDecodeRefSliceU8_from_der_70ca1; } else { goto L_join_27_i_i_i253_i_i; }
+    if (v_r163_i_i_i252_i_i) { goto L_der_core_decode_AnyDecodeRefSliceU8_from_der_f0286; } else { goto L_join_27_i_i_i253_i_i; }
 L_join_27_i_i_i253_i_i:;
     v_r170_i_i_i254_i_i = v_r0_i_i109_sroa_12_0_i56_i + 3;
     v_r173_i_i_i255_i_i = (u64)((u64)(v_r0_i_i109_sroa_13_0_i57_i) + (u64)(18446744073709551613ull));
     v_r182_i_i_i256_i_i = v_r83_i_i_i247_i_i == 129u;
-    if (v_r182_i_i_i256_i_i) { goto L_then_28_i_i_i261_i_i; } else { goto L_der_core_decode_AnyDecodeRefSliceU8_from_der_70ca1; }
+    if (v_r182_i_i_i256_i_i) { goto L_then_28_i_i_i261_i_i; } else { goto L_der_core_decode_AnyDecodeRefSliceU8_from_der_f0286; }
 L_then_28_i_i_i261_i_i:;
     v_r187_i_i_i262_i_i = get_u8(v_r62_i_i_i166_i_i);
     v_r189_i_i_i263_i_i = (u8)(v_r187_i_i_i262_i_i ^ ((u8)1 << 7)) < (u8)(0u ^ ((u8)1 << 7));
-    if (v_r189_i_i_i263_i_i) { goto L_then_31_i_i_i264_i_i; } else { goto L_der_core_decode_AnyDecodeRefSliceU8_from_der_70ca1; }
+    if (v_r189_i_i_i263_i_i) { goto L_then_31_i_i_i264_i_i; } else { goto L_der_core_decode_AnyDecodeRefSliceU8_from_der_f0286; }
 L_then_31_i_i_i264_i_i:;
     v_r199_i_i_i265_i_i = (u64)v_r187_i_i_i262_i_i;
     v_r15_i1365_i_i = v_r173_i_i_i255_i_i < v_r199_i_i_i265_i_i;
-    if (v_r15_i1365_i_i) { goto L_der_core_decode_AnyDecodeRefSliceU8_from_der_70ca1; } else { goto L_join_3_i1366_i_i; }
+    if (v_r15_i1365_i_i) { goto L_der_core_decode_AnyDecodeRefSliceU8_from_der_f0286; } else { goto L_join_3_i1366_i_i; }
 L_join_3_i1366_i_i:;
     v_r29_i1367_i_i = (P)((u64)v_r170_i_i_i254_i_i + (u64)(v_r199_i_i_i265_i_i));
     v_r32_i1368_i_i = (u64)((u64)(v_r173_i_i_i255_i_i) - (u64)(v_r199_i_i_i265_i_i));
@@ -52003,23 +52340,23 @@ L_default_7_i_i221_i_i:;
     v_r73_i_i222_i_i = (u8)(v_r34_i_i219_i_i ^ ((u8)1 << 7)) < (u8)(0u ^ ((u8)1 << 7));
     v_r53_i_i_i324_old_i_i = v_r0_i_i139_sroa_13_0_i66_i < 2u;
     v_or_cond2774_i_i = v_r73_i_i222_i_i ? 1u : v_r53_i_i_i324_old_i_i;
-    if (v_or_cond2774_i_i) { goto L_der_core_decode_AnyDecodeRefSliceU8_from_der_70ca1; } else { goto L_join_5_i_i_i325_i_i; }
+    if (v_or_cond2774_i_i) { goto L_der_core_decode_AnyDecodeRefSliceU8_from_der_f0286; } else { goto L_join_5_i_i_i325_i_i; }
 L_der_core_integer_uint_UintRefDecodeValueRefSliceU8__2:;
     v_r37_i_i236_i_i = v_r0_i_i139_sroa_7_0_i63_i + 1;
     v_r56_i_i240_i_i = get_u8(v_r37_i_i236_i_i);
     v_not2696_i_i = (u8)(v_r56_i_i240_i_i ^ ((u8)1 << 7)) > (u8)(255u ^ ((u8)1 << 7));
     v_r53_i_i_i324_i_i = v_r0_i_i139_sroa_13_0_i66_i < 2u;
     v_or_cond2773_i_i = v_not2696_i_i ? 1u : v_r53_i_i_i324_i_i;
-    if (v_or_cond2773_i_i) { goto L_der_core_decode_AnyDecodeRefSliceU8_from_der_70ca1; } else { goto L_join_5_i_i_i325_i_i; }
+    if (v_or_cond2773_i_i) { goto L_der_core_decode_AnyDecodeRefSliceU8_from_der_f0286; } else { goto L_join_5_i_i_i325_i_i; }
 L_arm_1_i194_i_i:;
     v_r53_i_i_i324_old_old_i_i = v_r0_i_i139_sroa_13_0_i66_i < 2u;
-    if (v_r53_i_i_i324_old_old_i_i) { goto L_der_core_decode_AnyDecodeRefSliceU8_from_der_70ca1; } else { goto L_join_5_i_i_i325_i_i; }
+    if (v_r53_i_i_i324_old_old_i_i) { goto L_der_core_decode_AnyDecodeRefSliceU8_from_der_f0286; } else { goto L_join_5_i_i_i325_i_i; }
 L_join_5_i_i_i325_i_i:;
     v_r62_i_i_i326_i_i = v_r0_i_i139_sroa_12_0_i65_i + 2;
     v_r65_i_i_i327_i_i = (u64)((u64)(v_r0_i_i139_sroa_13_0_i66_i) + (u64)(18446744073709551614ull));
     v_r73_i_i_i328_i_i = get_u8(v_r0_i_i139_sroa_12_0_i65_i);
     v_r78_i_i_i330_i_i = v_r73_i_i_i328_i_i == 2u;
-    if (v_r78_i_i_i330_i_i) { goto L_then_6_i_i_i405_i_i; } else { goto L_der_core_decode_AnyDecodeRefSliceU8_from_der_70ca1; }
+    if (v_r78_i_i_i330_i_i) { goto L_then_6_i_i_i405_i_i; } else { goto L_der_core_decode_AnyDecodeRefSliceU8_from_der_f0286; }
 L_then_6_i_i_i405_i_i:;
     v_r60_i_i_i406_i_i = v_r0_i_i139_sroa_12_0_i65_i + 1;
     v_r83_i_i_i407_i_i = get_u8(v_r60_i_i_i406_i_i);
@@ -52032,17 +52369,17 @@ L_then_9_i_i_i449_i_i:;
     v_r32_i1378_i_i = (u64)((u64)(v_r65_i_i_i327_i_i) - (u64)(v_r92_i_i_i450_i_i));
     v_r27_i4_i377_i_i = v_r83_i_i_i407_i_i == 0u;
     v_or_cond142_i = (u1)(((u32)(v_r27_i4_i377_i_i) | (u32)(v_r15_i1375_i_i)) & 1);
-    if (v_or_cond142_i) { goto L_der_core_decode_AnyDecodeRefSliceU8_from_der_70ca1; } else { p_v_r0_i_i299_sroa_13_0_i75_i = v_r32_i1378_i_i; p_v_r0_i_i299_sroa_12_0_i74_i = v_r29_i1377_i_i; p_v_r0_i_i299_sroa_11_0_i73_i = v_r92_i_i_i450_i_i; p_v_r0_i_i299_sroa_7_0_i72_i = v_r62_i_i_i326_i_i; goto L_join_5_i_i378_i_i; }
+    if (v_or_cond142_i) { goto L_der_core_decode_AnyDecodeRefSliceU8_from_der_f0286; } else { p_v_r0_i_i299_sroa_13_0_i75_i = v_r32_i1378_i_i; p_v_r0_i_i299_sroa_12_0_i74_i = v_r29_i1377_i_i; p_v_r0_i_i299_sroa_11_0_i73_i = v_r92_i_i_i450_i_i; p_v_r0_i_i299_sroa_7_0_i72_i = v_r62_i_i_i326_i_i; goto L_join_5_i_i378_i_i; }
 L_join_11_i_i_i409_i_i:;
     v_r104_i_i_i410_i_i = v_r83_i_i_i407_i_i == 130u;
     if (v_r104_i_i_i410_i_i) { goto L_then_12_i_i_i426_i_i; } else { goto L_join_14_i_i_i411_i_i; }
 L_then_12_i_i_i426_i_i:;
     v_r110_i_i_i427_i_i = v_r0_i_i139_sroa_13_0_i66_i < 4u;
-    if (v_r110_i_i_i427_i_i) { goto L_der_core_decode_AnyDecodeRefSliceU8_from_der_70ca1; } else { goto L_join_19_i_i_i428_i_i; }
+    if (v_r110_i_i_i427_i_i) { goto L_der_core_decode_AnyDecodeRefSliceU8_from_der_f0286; } else { goto L_join_19_i_i_i428_i_i; }
 L_join_19_i_i_i428_i_i:;
     v_r130_i_i_i429_i_i = get_u8(v_r62_i_i_i326_i_i);
     v_r132_not_i_i_i430_i_i = v_r130_i_i_i429_i_i == 0u;
-    if (v_r132_not_i_i_i430_i_i) { goto L_der_core_decode_AnyDecodeRefSliceU8_from_der_70ca1; } else { goto L_then_20_i_i_i431_i_i; }
+    if (v_r132_not_i_i_i430_i_i) { goto L_der_core_decode_AnyDecodeRefSliceU8_from_der_f0286; } else { goto L_then_20_i_i_i431_i_i; }
 L_then_20_i_i_i431_i_i:;
     v_r122_i_i_i432_i_i = (u64)((u64)(v_r0_i_i139_sroa_13_0_i66_i) + (u64)(18446744073709551612ull));
     v_r117_i_i_i434_i_i = v_r0_i_i139_sroa_12_0_i65_i + 3;
@@ -52052,7 +52389,7 @@ L_then_20_i_i_i431_i_i:;
     v_r145_i_i_i438_i_i = (u64)v_r143_i_i_i437_i_i;
     v_r148_i_i_i439_i_i = (u64)((u64)(v_r141_i_i_i436_i_i) | (u64)(v_r145_i_i_i438_i_i));
     v_r15_i1385_i_i = v_r122_i_i_i432_i_i < v_r148_i_i_i439_i_i;
-    if (v_r15_i1385_i_i) { goto L_der_core_decode_AnyDecodeRefSliceU8_from_der_70ca1; } else { goto L_join_3_i1386_i_i; }
+    if (v_r15_i1385_i_i) { goto L_der_core_decode_AnyDecodeRefSliceU8_from_der_f0286; } else { goto L_join_3_i1386_i_i; }
 L_join_3_i1386_i_i:;
     v_r119_i_i_i433_i_i = v_r0_i_i139_sroa_12_0_i65_i + 4;
     v_r29_i1387_i_i = (P)((u64)v_r119_i_i_i433_i_i + (u64)(v_r148_i_i_i439_i_i));
@@ -52060,20 +52397,20 @@ L_join_3_i1386_i_i:;
     { p_v_r0_i_i299_sroa_13_0_i75_i = v_r32_i1388_i_i; p_v_r0_i_i299_sroa_12_0_i74_i = v_r29_i1387_i_i; p_v_r0_i_i299_sroa_11_0_i73_i = v_r148_i_i_i439_i_i; p_v_r0_i_i299_sroa_7_0_i72_i = v_r119_i_i_i433_i_i; goto L_join_5_i_i378_i_i; }
 L_join_14_i_i_i411_i_i:;
     v_r163_i_i_i412_i_i = v_r65_i_i_i327_i_i == 0u;
-    if (v_r163_i_i_i412_i_i) { goto L_der_core_decode_AnyDecodeRefSliceU8_from_der_70ca1; } else { goto L_join_27_i_i_i413_i_i; }
+    if (v_r163_i_i_i412_i_i) { goto L_der_core_decode_AnyDecodeRefSliceU8_from_der_f0286; } else { goto L_join_27_i_i_i413_i_i; }
 L_join_27_i_i_i413_i_i:;
     v_r170_i_i_i414_i_i = v_r0_i_i139_sroa_12_0_i65_i + 3;
     v_r173_i_i_i415_i_i = (u64)((u64)(v_r0_i_i139_sroa_13_0_i66_i) + (u64)(18446744073709551613ull));
     v_r182_i_i_i416_i_i = v_r83_i_i_i407_i_i == 129u;
-    if (v_r182_i_i_i416_i_i) { goto L_then_28_i_i_i421_i_i; } else { goto L_der_core_decode_AnyDecodeRefSliceU8_from_der_70ca1; }
+    if (v_r182_i_i_i416_i_i) { goto L_then_28_i_i_i421_i_i; } else { goto L_der_core_decode_AnyDecodeRefSliceU8_from_der_f0286; }
 L_then_28_i_i_i421_i_i:;
     v_r187_i_i_i422_i_i = get_u8(v_r62_i_i_i326_i_i);
     v_r189_i_i_i423_i_i = (u8)(v_r187_i_i_i422_i_i ^ ((u8)1 << 7)) < (u8)(0u ^ ((u8)1 << 7));
-    if (v_r189_i_i_i423_i_i) { goto L_then_31_i_i_i424_i_i; } else { goto L_der_core_decode_AnyDecodeRefSliceU8_from_der_70ca1; }
+    if (v_r189_i_i_i423_i_i) { goto L_then_31_i_i_i424_i_i; } else { goto L_der_core_decode_AnyDecodeRefSliceU8_from_der_f0286; }
 L_then_31_i_i_i424_i_i:;
     v_r199_i_i_i425_i_i = (u64)v_r187_i_i_i422_i_i;
     v_r15_i1395_i_i = v_r173_i_i_i415_i_i < v_r199_i_i_i425_i_i;
-    if (v_r15_i1395_i_i) { goto L_der_core_decode_AnyDecodeRefSliceU8_from_der_70ca1; } else { goto L_join_3_i1396_i_i; }
+    if (v_r15_i1395_i_i) { goto L_der_core_decode_AnyDecodeRefSliceU8_from_der_f0286; } else { goto L_join_3_i1396_i_i; }
 L_join_3_i1396_i_i:;
     v_r29_i1397_i_i = (P)((u64)v_r170_i_i_i414_i_i + (u64)(v_r199_i_i_i425_i_i));
     v_r32_i1398_i_i = (u64)((u64)(v_r173_i_i_i415_i_i) - (u64)(v_r199_i_i_i425_i_i));
@@ -52093,23 +52430,23 @@ L_default_7_i_i381_i_i:;
     v_r73_i_i382_i_i = (u8)(v_r34_i_i379_i_i ^ ((u8)1 << 7)) < (u8)(0u ^ ((u8)1 << 7));
     v_r53_i_i_i484_old_i_i = v_r0_i_i299_sroa_13_0_i75_i < 2u;
     v_or_cond2776_i_i = v_r73_i_i382_i_i ? 1u : v_r53_i_i_i484_old_i_i;
-    if (v_or_cond2776_i_i) { goto L_der_core_decode_AnyDecodeRefSliceU8_from_der_70ca1; } else { goto L_join_5_i_i_i485_i_i; }
+    if (v_or_cond2776_i_i) { goto L_der_core_decode_AnyDecodeRefSliceU8_from_der_f0286; } else { goto L_join_5_i_i_i485_i_i; }
 L_der_core_integer_uint_UintRefDecodeValueRefSliceU8__3:;
     v_r37_i_i396_i_i = v_r0_i_i299_sroa_7_0_i72_i + 1;
     v_r56_i_i400_i_i = get_u8(v_r37_i_i396_i_i);
     v_not2697_i_i = (u8)(v_r56_i_i400_i_i ^ ((u8)1 << 7)) > (u8)(255u ^ ((u8)1 << 7));
     v_r53_i_i_i484_i_i = v_r0_i_i299_sroa_13_0_i75_i < 2u;
     v_or_cond2775_i_i = v_not2697_i_i ? 1u : v_r53_i_i_i484_i_i;
-    if (v_or_cond2775_i_i) { goto L_der_core_decode_AnyDecodeRefSliceU8_from_der_70ca1; } else { goto L_join_5_i_i_i485_i_i; }
+    if (v_or_cond2775_i_i) { goto L_der_core_decode_AnyDecodeRefSliceU8_from_der_f0286; } else { goto L_join_5_i_i_i485_i_i; }
 L_arm_1_i354_i_i:;
     v_r53_i_i_i484_old_old_i_i = v_r0_i_i299_sroa_13_0_i75_i < 2u;
-    if (v_r53_i_i_i484_old_old_i_i) { goto L_der_core_decode_AnyDecodeRefSliceU8_from_der_70ca1; } else { goto L_join_5_i_i_i485_i_i; }
+    if (v_r53_i_i_i484_old_old_i_i) { goto L_der_core_decode_AnyDecodeRefSliceU8_from_der_f0286; } else { goto L_join_5_i_i_i485_i_i; }
 L_join_5_i_i_i485_i_i:;
     v_r62_i_i_i486_i_i = v_r0_i_i299_sroa_12_0_i74_i + 2;
     v_r65_i_i_i487_i_i = (u64)((u64)(v_r0_i_i299_sroa_13_0_i75_i) + (u64)(18446744073709551614ull));
     v_r73_i_i_i488_i_i = get_u8(v_r0_i_i299_sroa_12_0_i74_i);
     v_r78_i_i_i490_i_i = v_r73_i_i_i488_i_i == 2u;
-    if (v_r78_i_i_i490_i_i) { goto L_then_6_i_i_i565_i_i; } else { goto L_der_core_decode_AnyDecodeRefSliceU8_from_der_70ca1; }
+    if (v_r78_i_i_i490_i_i) { goto L_then_6_i_i_i565_i_i; } else { goto L_der_core_decode_AnyDecodeRefSliceU8_from_der_f0286; }
 L_then_6_i_i_i565_i_i:;
     v_r60_i_i_i566_i_i = v_r0_i_i299_sroa_12_0_i74_i + 1;
     v_r83_i_i_i567_i_i = get_u8(v_r60_i_i_i566_i_i);
@@ -52122,17 +52459,17 @@ L_then_9_i_i_i609_i_i:;
     v_r32_i1408_i_i = (u64)((u64)(v_r65_i_i_i487_i_i) - (u64)(v_r92_i_i_i610_i_i));
     v_r27_i4_i537_i_i = v_r83_i_i_i567_i_i == 0u;
     v_or_cond143_i = (u1)(((u32)(v_r27_i4_i537_i_i) | (u32)(v_r15_i1405_i_i)) & 1);
-    if (v_or_cond143_i) { goto L_der_core_decode_AnyDecodeRefSliceU8_from_der_70ca1; } else { p_v_r0_i_i459_sroa_13_0_i84_i = v_r32_i1408_i_i; p_v_r0_i_i459_sroa_12_0_i83_i = v_r29_i1407_i_i; p_v_r0_i_i459_sroa_11_0_i82_i = v_r92_i_i_i610_i_i; p_v_r0_i_i459_sroa_7_0_i81_i = v_r62_i_i_i486_i_i; goto L_join_5_i_i538_i_i; }
+    if (v_or_cond143_i) { goto L_der_core_decode_AnyDecodeRefSliceU8_from_der_f0286; } else { p_v_r0_i_i459_sroa_13_0_i84_i = v_r32_i1408_i_i; p_v_r0_i_i459_sroa_12_0_i83_i = v_r29_i1407_i_i; p_v_r0_i_i459_sroa_11_0_i82_i = v_r92_i_i_i610_i_i; p_v_r0_i_i459_sroa_7_0_i81_i = v_r62_i_i_i486_i_i; goto L_join_5_i_i538_i_i; }
 L_join_11_i_i_i569_i_i:;
     v_r104_i_i_i570_i_i = v_r83_i_i_i567_i_i == 130u;
     if (v_r104_i_i_i570_i_i) { goto L_then_12_i_i_i586_i_i; } else { goto L_join_14_i_i_i571_i_i; }
 L_then_12_i_i_i586_i_i:;
     v_r110_i_i_i587_i_i = v_r0_i_i299_sroa_13_0_i75_i < 4u;
-    if (v_r110_i_i_i587_i_i) { goto L_der_core_decode_AnyDecodeRefSliceU8_from_der_70ca1; } else { goto L_join_19_i_i_i588_i_i; }
+    if (v_r110_i_i_i587_i_i) { goto L_der_core_decode_AnyDecodeRefSliceU8_from_der_f0286; } else { goto L_join_19_i_i_i588_i_i; }
 L_join_19_i_i_i588_i_i:;
     v_r130_i_i_i589_i_i = get_u8(v_r62_i_i_i486_i_i);
     v_r132_not_i_i_i590_i_i = v_r130_i_i_i589_i_i == 0u;
-    if (v_r132_not_i_i_i590_i_i) { goto L_der_core_decode_AnyDecodeRefSliceU8_from_der_70ca1; } else { goto L_then_20_i_i_i591_i_i; }
+    if (v_r132_not_i_i_i590_i_i) { goto L_der_core_decode_AnyDecodeRefSliceU8_from_der_f0286; } else { goto L_then_20_i_i_i591_i_i; }
 L_then_20_i_i_i591_i_i:;
     v_r122_i_i_i592_i_i = (u64)((u64)(v_r0_i_i299_sroa_13_0_i75_i) + (u64)(18446744073709551612ull));
     v_r117_i_i_i594_i_i = v_r0_i_i299_sroa_12_0_i74_i + 3;
@@ -52142,7 +52479,7 @@ L_then_20_i_i_i591_i_i:;
     v_r145_i_i_i598_i_i = (u64)v_r143_i_i_i597_i_i;
     v_r148_i_i_i599_i_i = (u64)((u64)(v_r141_i_i_i596_i_i) | (u64)(v_r145_i_i_i598_i_i));
     v_r15_i1415_i_i = v_r122_i_i_i592_i_i < v_r148_i_i_i599_i_i;
-    if (v_r15_i1415_i_i) { goto L_der_core_decode_AnyDecodeRefSliceU8_from_der_70ca1; } else { goto L_join_3_i1416_i_i; }
+    if (v_r15_i1415_i_i) { goto L_der_core_decode_AnyDecodeRefSliceU8_from_der_f0286; } else { goto L_join_3_i1416_i_i; }
 L_join_3_i1416_i_i:;
     v_r119_i_i_i593_i_i = v_r0_i_i299_sroa_12_0_i74_i + 4;
     v_r29_i1417_i_i = (P)((u64)v_r119_i_i_i593_i_i + (u64)(v_r148_i_i_i599_i_i));
@@ -52150,20 +52487,20 @@ L_join_3_i1416_i_i:;
     { p_v_r0_i_i459_sroa_13_0_i84_i = v_r32_i1418_i_i; p_v_r0_i_i459_sroa_12_0_i83_i = v_r29_i1417_i_i; p_v_r0_i_i459_sroa_11_0_i82_i = v_r148_i_i_i599_i_i; p_v_r0_i_i459_sroa_7_0_i81_i = v_r119_i_i_i593_i_i; goto L_join_5_i_i538_i_i; }
 L_join_14_i_i_i571_i_i:;
     v_r163_i_i_i572_i_i = v_r65_i_i_i487_i_i == 0u;
-    if (v_r163_i_i_i572_i_i) { goto L_der_core_decode_AnyDecodeRefSliceU8_from_der_70ca1; } else { goto L_join_27_i_i_i573_i_i; }
+    if (v_r163_i_i_i572_i_i) { goto L_der_core_decode_AnyDecodeRefSliceU8_from_der_f0286; } else { goto L_join_27_i_i_i573_i_i; }
 L_join_27_i_i_i573_i_i:;
     v_r170_i_i_i574_i_i = v_r0_i_i299_sroa_12_0_i74_i + 3;
     v_r173_i_i_i575_i_i = (u64)((u64)(v_r0_i_i299_sroa_13_0_i75_i) + (u64)(18446744073709551613ull));
     v_r182_i_i_i576_i_i = v_r83_i_i_i567_i_i == 129u;
-    if (v_r182_i_i_i576_i_i) { goto L_then_28_i_i_i581_i_i; } else { goto L_der_core_decode_AnyDecodeRefSliceU8_from_der_70ca1; }
+    if (v_r182_i_i_i576_i_i) { goto L_then_28_i_i_i581_i_i; } else { goto L_der_core_decode_AnyDecodeRefSliceU8_from_der_f0286; }
 L_then_28_i_i_i581_i_i:;
     v_r187_i_i_i582_i_i = get_u8(v_r62_i_i_i486_i_i);
     v_r189_i_i_i583_i_i = (u8)(v_r187_i_i_i582_i_i ^ ((u8)1 << 7)) < (u8)(0u ^ ((u8)1 << 7));
-    if (v_r189_i_i_i583_i_i) { goto L_then_31_i_i_i584_i_i; } else { goto L_der_core_decode_AnyDecodeRefSliceU8_from_der_70ca1; }
+    if (v_r189_i_i_i583_i_i) { goto L_then_31_i_i_i584_i_i; } else { goto L_der_core_decode_AnyDecodeRefSliceU8_from_der_f0286; }
 L_then_31_i_i_i584_i_i:;
     v_r199_i_i_i585_i_i = (u64)v_r187_i_i_i582_i_i;
     v_r15_i1425_i_i = v_r173_i_i_i575_i_i < v_r199_i_i_i585_i_i;
-    if (v_r15_i1425_i_i) { goto L_der_core_decode_AnyDecodeRefSliceU8_from_der_70ca1; } else { goto L_join_3_i1426_i_i; }
+    if (v_r15_i1425_i_i) { goto L_der_core_decode_AnyDecodeRefSliceU8_from_der_f0286; } else { goto L_join_3_i1426_i_i; }
 L_join_3_i1426_i_i:;
     v_r29_i1427_i_i = (P)((u64)v_r170_i_i_i574_i_i + (u64)(v_r199_i_i_i585_i_i));
     v_r32_i1428_i_i = (u64)((u64)(v_r173_i_i_i575_i_i) - (u64)(v_r199_i_i_i585_i_i));
@@ -52183,23 +52520,23 @@ L_default_7_i_i541_i_i:;
     v_r73_i_i542_i_i = (u8)(v_r34_i_i539_i_i ^ ((u8)1 << 7)) < (u8)(0u ^ ((u8)1 << 7));
     v_r53_i_i_i644_old_i_i = v_r0_i_i459_sroa_13_0_i84_i < 2u;
     v_or_cond2778_i_i = v_r73_i_i542_i_i ? 1u : v_r53_i_i_i644_old_i_i;
-    if (v_or_cond2778_i_i) { goto L_der_core_decode_AnyDecodeRefSliceU8_from_der_70ca1; } else { goto L_join_5_i_i_i645_i_i; }
+    if (v_or_cond2778_i_i) { goto L_der_core_decode_AnyDecodeRefSliceU8_from_der_f0286; } else { goto L_join_5_i_i_i645_i_i; }
 L_der_core_integer_uint_UintRefDecodeValueRefSliceU8__4:;
     v_r37_i_i556_i_i = v_r0_i_i459_sroa_7_0_i81_i + 1;
     v_r56_i_i560_i_i = get_u8(v_r37_i_i556_i_i);
     v_not2698_i_i = (u8)(v_r56_i_i560_i_i ^ ((u8)1 << 7)) > (u8)(255u ^ ((u8)1 << 7));
     v_r53_i_i_i644_i_i = v_r0_i_i459_sroa_13_0_i84_i < 2u;
     v_or_cond2777_i_i = v_not2698_i_i ? 1u : v_r53_i_i_i644_i_i;
-    if (v_or_cond2777_i_i) { goto L_der_core_decode_AnyDecodeRefSliceU8_from_der_70ca1; } else { goto L_join_5_i_i_i645_i_i; }
+    if (v_or_cond2777_i_i) { goto L_der_core_decode_AnyDecodeRefSliceU8_from_der_f0286; } else { goto L_join_5_i_i_i645_i_i; }
 L_arm_1_i514_i_i:;
     v_r53_i_i_i644_old_old_i_i = v_r0_i_i459_sroa_13_0_i84_i < 2u;
-    if (v_r53_i_i_i644_old_old_i_i) { goto L_der_core_decode_AnyDecodeRefSliceU8_from_der_70ca1; } else { goto L_join_5_i_i_i645_i_i; }
+    if (v_r53_i_i_i644_old_old_i_i) { goto L_der_core_decode_AnyDecodeRefSliceU8_from_der_f0286; } else { goto L_join_5_i_i_i645_i_i; }
 L_join_5_i_i_i645_i_i:;
     v_r62_i_i_i646_i_i = v_r0_i_i459_sroa_12_0_i83_i + 2;
     v_r65_i_i_i647_i_i = (u64)((u64)(v_r0_i_i459_sroa_13_0_i84_i) + (u64)(18446744073709551614ull));
     v_r73_i_i_i648_i_i = get_u8(v_r0_i_i459_sroa_12_0_i83_i);
     v_r78_i_i_i650_i_i = v_r73_i_i_i648_i_i == 2u;
-    if (v_r78_i_i_i650_i_i) { goto L_then_6_i_i_i725_i_i; } else { goto L_der_core_decode_AnyDecodeRefSliceU8_from_der_70ca1; }
+    if (v_r78_i_i_i650_i_i) { goto L_then_6_i_i_i725_i_i; } else { goto L_der_core_decode_AnyDecodeRefSliceU8_from_der_f0286; }
 L_then_6_i_i_i725_i_i:;
     v_r60_i_i_i726_i_i = v_r0_i_i459_sroa_12_0_i83_i + 1;
     v_r83_i_i_i727_i_i = get_u8(v_r60_i_i_i726_i_i);
@@ -52212,17 +52549,17 @@ L_then_9_i_i_i769_i_i:;
     v_r32_i1438_i_i = (u64)((u64)(v_r65_i_i_i647_i_i) - (u64)(v_r92_i_i_i770_i_i));
     v_r27_i4_i697_i_i = v_r83_i_i_i727_i_i == 0u;
     v_or_cond144_i = (u1)(((u32)(v_r27_i4_i697_i_i) | (u32)(v_r15_i1435_i_i)) & 1);
-    if (v_or_cond144_i) { goto L_der_core_decode_AnyDecodeRefSliceU8_from_der_70ca1; } else { p_v_r0_i_i619_sroa_13_0_i93_i = v_r32_i1438_i_i; p_v_r0_i_i619_sroa_12_0_i92_i = v_r29_i1437_i_i; p_v_r0_i_i619_sroa_11_0_i91_i = v_r92_i_i_i770_i_i; p_v_r0_i_i619_sroa_7_0_i90_i = v_r62_i_i_i646_i_i; goto L_join_5_i_i698_i_i; }
+    if (v_or_cond144_i) { goto L_der_core_decode_AnyDecodeRefSliceU8_from_der_f0286; } else { p_v_r0_i_i619_sroa_13_0_i93_i = v_r32_i1438_i_i; p_v_r0_i_i619_sroa_12_0_i92_i = v_r29_i1437_i_i; p_v_r0_i_i619_sroa_11_0_i91_i = v_r92_i_i_i770_i_i; p_v_r0_i_i619_sroa_7_0_i90_i = v_r62_i_i_i646_i_i; goto L_join_5_i_i698_i_i; }
 L_join_11_i_i_i729_i_i:;
     v_r104_i_i_i730_i_i = v_r83_i_i_i727_i_i == 130u;
     if (v_r104_i_i_i730_i_i) { goto L_then_12_i_i_i746_i_i; } else { goto L_join_14_i_i_i731_i_i; }
 L_then_12_i_i_i746_i_i:;
     v_r110_i_i_i747_i_i = v_r0_i_i459_sroa_13_0_i84_i < 4u;
-    if (v_r110_i_i_i747_i_i) { goto L_der_core_decode_AnyDecodeRefSliceU8_from_der_70ca1; } else { goto L_join_19_i_i_i748_i_i; }
+    if (v_r110_i_i_i747_i_i) { goto L_der_core_decode_AnyDecodeRefSliceU8_from_der_f0286; } else { goto L_join_19_i_i_i748_i_i; }
 L_join_19_i_i_i748_i_i:;
     v_r130_i_i_i749_i_i = get_u8(v_r62_i_i_i646_i_i);
     v_r132_not_i_i_i750_i_i = v_r130_i_i_i749_i_i == 0u;
-    if (v_r132_not_i_i_i750_i_i) { goto L_der_core_decode_AnyDecodeRefSliceU8_from_der_70ca1; } else { goto L_then_20_i_i_i751_i_i; }
+    if (v_r132_not_i_i_i750_i_i) { goto L_der_core_decode_AnyDecodeRefSliceU8_from_der_f0286; } else { goto L_then_20_i_i_i751_i_i; }
 L_then_20_i_i_i751_i_i:;
     v_r122_i_i_i752_i_i = (u64)((u64)(v_r0_i_i459_sroa_13_0_i84_i) + (u64)(18446744073709551612ull));
     v_r117_i_i_i754_i_i = v_r0_i_i459_sroa_12_0_i83_i + 3;
@@ -52232,7 +52569,7 @@ L_then_20_i_i_i751_i_i:;
     v_r145_i_i_i758_i_i = (u64)v_r143_i_i_i757_i_i;
     v_r148_i_i_i759_i_i = (u64)((u64)(v_r141_i_i_i756_i_i) | (u64)(v_r145_i_i_i758_i_i));
     v_r15_i1445_i_i = v_r122_i_i_i752_i_i < v_r148_i_i_i759_i_i;
-    if (v_r15_i1445_i_i) { goto L_der_core_decode_AnyDecodeRefSliceU8_from_der_70ca1; } else { goto L_join_3_i1446_i_i; }
+    if (v_r15_i1445_i_i) { goto L_der_core_decode_AnyDecodeRefSliceU8_from_der_f0286; } else { goto L_join_3_i1446_i_i; }
 L_join_3_i1446_i_i:;
     v_r119_i_i_i753_i_i = v_r0_i_i459_sroa_12_0_i83_i + 4;
     v_r29_i1447_i_i = (P)((u64)v_r119_i_i_i753_i_i + (u64)(v_r148_i_i_i759_i_i));
@@ -52240,20 +52577,20 @@ L_join_3_i1446_i_i:;
     { p_v_r0_i_i619_sroa_13_0_i93_i = v_r32_i1448_i_i; p_v_r0_i_i619_sroa_12_0_i92_i = v_r29_i1447_i_i; p_v_r0_i_i619_sroa_11_0_i91_i = v_r148_i_i_i759_i_i; p_v_r0_i_i619_sroa_7_0_i90_i = v_r119_i_i_i753_i_i; goto L_join_5_i_i698_i_i; }
 L_join_14_i_i_i731_i_i:;
     v_r163_i_i_i732_i_i = v_r65_i_i_i647_i_i == 0u;
-    if (v_r163_i_i_i732_i_i) { goto L_der_core_decode_AnyDecodeRefSliceU8_from_der_70ca1; } else { goto L_join_27_i_i_i733_i_i; }
+    if (v_r163_i_i_i732_i_i) { goto L_der_core_decode_AnyDecodeRefSliceU8_from_der_f0286; } else { goto L_join_27_i_i_i733_i_i; }
 L_join_27_i_i_i733_i_i:;
     v_r170_i_i_i734_i_i = v_r0_i_i459_sroa_12_0_i83_i + 3;
     v_r173_i_i_i735_i_i = (u64)((u64)(v_r0_i_i459_sroa_13_0_i84_i) + (u64)(18446744073709551613ull));
     v_r182_i_i_i736_i_i = v_r83_i_i_i727_i_i == 129u;
-    if (v_r182_i_i_i736_i_i) { goto L_then_28_i_i_i741_i_i; } else { goto L_der_core_decode_AnyDecodeRefSliceU8_from_der_70ca1; }
+    if (v_r182_i_i_i736_i_i) { goto L_then_28_i_i_i741_i_i; } else { goto L_der_core_decode_AnyDecodeRefSliceU8_from_der_f0286; }
 L_then_28_i_i_i741_i_i:;
     v_r187_i_i_i742_i_i = get_u8(v_r62_i_i_i646_i_i);
     v_r189_i_i_i743_i_i = (u8)(v_r187_i_i_i742_i_i ^ ((u8)1 << 7)) < (u8)(0u ^ ((u8)1 << 7));
-    if (v_r189_i_i_i743_i_i) { goto L_then_31_i_i_i744_i_i; } else { goto L_der_core_decode_AnyDecodeRefSliceU8_from_der_70ca1; }
+    if (v_r189_i_i_i743_i_i) { goto L_then_31_i_i_i744_i_i; } else { goto L_der_core_decode_AnyDecodeRefSliceU8_from_der_f0286; }
 L_then_31_i_i_i744_i_i:;
     v_r199_i_i_i745_i_i = (u64)v_r187_i_i_i742_i_i;
     v_r15_i1455_i_i = v_r173_i_i_i735_i_i < v_r199_i_i_i745_i_i;
-    if (v_r15_i1455_i_i) { goto L_der_core_decode_AnyDecodeRefSliceU8_from_der_70ca1; } else { goto L_join_3_i1456_i_i; }
+    if (v_r15_i1455_i_i) { goto L_der_core_decode_AnyDecodeRefSliceU8_from_der_f0286; } else { goto L_join_3_i1456_i_i; }
 L_join_3_i1456_i_i:;
     v_r29_i1457_i_i = (P)((u64)v_r170_i_i_i734_i_i + (u64)(v_r199_i_i_i745_i_i));
     v_r32_i1458_i_i = (u64)((u64)(v_r173_i_i_i735_i_i) - (u64)(v_r199_i_i_i745_i_i));
@@ -52273,23 +52610,23 @@ L_default_7_i_i701_i_i:;
     v_r73_i_i702_i_i = (u8)(v_r34_i_i699_i_i ^ ((u8)1 << 7)) < (u8)(0u ^ ((u8)1 << 7));
     v_r53_i_i_i804_old_i_i = v_r0_i_i619_sroa_13_0_i93_i < 2u;
     v_or_cond2780_i_i = v_r73_i_i702_i_i ? 1u : v_r53_i_i_i804_old_i_i;
-    if (v_or_cond2780_i_i) { goto L_der_core_decode_AnyDecodeRefSliceU8_from_der_70ca1; } else { goto L_join_5_i_i_i805_i_i; }
+    if (v_or_cond2780_i_i) { goto L_der_core_decode_AnyDecodeRefSliceU8_from_der_f0286; } else { goto L_join_5_i_i_i805_i_i; }
 L_der_core_integer_uint_UintRefDecodeValueRefSliceU8__5:;
     v_r37_i_i716_i_i = v_r0_i_i619_sroa_7_0_i90_i + 1;
     v_r56_i_i720_i_i = get_u8(v_r37_i_i716_i_i);
     v_not2699_i_i = (u8)(v_r56_i_i720_i_i ^ ((u8)1 << 7)) > (u8)(255u ^ ((u8)1 << 7));
     v_r53_i_i_i804_i_i = v_r0_i_i619_sroa_13_0_i93_i < 2u;
     v_or_cond2779_i_i = v_not2699_i_i ? 1u : v_r53_i_i_i804_i_i;
-    if (v_or_cond2779_i_i) { goto L_der_core_decode_AnyDecodeRefSliceU8_from_der_70ca1; } else { goto L_join_5_i_i_i805_i_i; }
+    if (v_or_cond2779_i_i) { goto L_der_core_decode_AnyDecodeRefSliceU8_from_der_f0286; } else { goto L_join_5_i_i_i805_i_i; }
 L_arm_1_i674_i_i:;
     v_r53_i_i_i804_old_old_i_i = v_r0_i_i619_sroa_13_0_i93_i < 2u;
-    if (v_r53_i_i_i804_old_old_i_i) { goto L_der_core_decode_AnyDecodeRefSliceU8_from_der_70ca1; } else { goto L_join_5_i_i_i805_i_i; }
+    if (v_r53_i_i_i804_old_old_i_i) { goto L_der_core_decode_AnyDecodeRefSliceU8_from_der_f0286; } else { goto L_join_5_i_i_i805_i_i; }
 L_join_5_i_i_i805_i_i:;
     v_r62_i_i_i806_i_i = v_r0_i_i619_sroa_12_0_i92_i + 2;
     v_r65_i_i_i807_i_i = (u64)((u64)(v_r0_i_i619_sroa_13_0_i93_i) + (u64)(18446744073709551614ull));
     v_r73_i_i_i808_i_i = get_u8(v_r0_i_i619_sroa_12_0_i92_i);
     v_r78_i_i_i810_i_i = v_r73_i_i_i808_i_i == 2u;
-    if (v_r78_i_i_i810_i_i) { goto L_then_6_i_i_i885_i_i; } else { goto L_der_core_decode_AnyDecodeRefSliceU8_from_der_70ca1; }
+    if (v_r78_i_i_i810_i_i) { goto L_then_6_i_i_i885_i_i; } else { goto L_der_core_decode_AnyDecodeRefSliceU8_from_der_f0286; }
 L_then_6_i_i_i885_i_i:;
     v_r60_i_i_i886_i_i = v_r0_i_i619_sroa_12_0_i92_i + 1;
     v_r83_i_i_i887_i_i = get_u8(v_r60_i_i_i886_i_i);
@@ -52302,17 +52639,17 @@ L_then_9_i_i_i929_i_i:;
     v_r32_i1468_i_i = (u64)((u64)(v_r65_i_i_i807_i_i) - (u64)(v_r92_i_i_i930_i_i));
     v_r27_i4_i857_i_i = v_r83_i_i_i887_i_i == 0u;
     v_or_cond145_i = (u1)(((u32)(v_r27_i4_i857_i_i) | (u32)(v_r15_i1465_i_i)) & 1);
-    if (v_or_cond145_i) { goto L_der_core_decode_AnyDecodeRefSliceU8_from_der_70ca1; } else { p_v_r0_i_i779_sroa_13_0_i102_i = v_r32_i1468_i_i; p_v_r0_i_i779_sroa_12_0_i101_i = v_r29_i1467_i_i; p_v_r0_i_i779_sroa_11_0_i100_i = v_r92_i_i_i930_i_i; p_v_r0_i_i779_sroa_7_0_i99_i = v_r62_i_i_i806_i_i; goto L_join_5_i_i858_i_i; }
+    if (v_or_cond145_i) { goto L_der_core_decode_AnyDecodeRefSliceU8_from_der_f0286; } else { p_v_r0_i_i779_sroa_13_0_i102_i = v_r32_i1468_i_i; p_v_r0_i_i779_sroa_12_0_i101_i = v_r29_i1467_i_i; p_v_r0_i_i779_sroa_11_0_i100_i = v_r92_i_i_i930_i_i; p_v_r0_i_i779_sroa_7_0_i99_i = v_r62_i_i_i806_i_i; goto L_join_5_i_i858_i_i; }
 L_join_11_i_i_i889_i_i:;
     v_r104_i_i_i890_i_i = v_r83_i_i_i887_i_i == 130u;
     if (v_r104_i_i_i890_i_i) { goto L_then_12_i_i_i906_i_i; } else { goto L_join_14_i_i_i891_i_i; }
 L_then_12_i_i_i906_i_i:;
     v_r110_i_i_i907_i_i = v_r0_i_i619_sroa_13_0_i93_i < 4u;
-    if (v_r110_i_i_i907_i_i) { goto L_der_core_decode_AnyDecodeRefSliceU8_from_der_70ca1; } else { goto L_join_19_i_i_i908_i_i; }
+    if (v_r110_i_i_i907_i_i) { goto L_der_core_decode_AnyDecodeRefSliceU8_from_der_f0286; } else { goto L_join_19_i_i_i908_i_i; }
 L_join_19_i_i_i908_i_i:;
     v_r130_i_i_i909_i_i = get_u8(v_r62_i_i_i806_i_i);
     v_r132_not_i_i_i910_i_i = v_r130_i_i_i909_i_i == 0u;
-    if (v_r132_not_i_i_i910_i_i) { goto L_der_core_decode_AnyDecodeRefSliceU8_from_der_70ca1; } else { goto L_then_20_i_i_i911_i_i; }
+    if (v_r132_not_i_i_i910_i_i) { goto L_der_core_decode_AnyDecodeRefSliceU8_from_der_f0286; } else { goto L_then_20_i_i_i911_i_i; }
 L_then_20_i_i_i911_i_i:;
     v_r122_i_i_i912_i_i = (u64)((u64)(v_r0_i_i619_sroa_13_0_i93_i) + (u64)(18446744073709551612ull));
     v_r117_i_i_i914_i_i = v_r0_i_i619_sroa_12_0_i92_i + 3;
@@ -52322,7 +52659,7 @@ L_then_20_i_i_i911_i_i:;
     v_r145_i_i_i918_i_i = (u64)v_r143_i_i_i917_i_i;
     v_r148_i_i_i919_i_i = (u64)((u64)(v_r141_i_i_i916_i_i) | (u64)(v_r145_i_i_i918_i_i));
     v_r15_i1475_i_i = v_r122_i_i_i912_i_i < v_r148_i_i_i919_i_i;
-    if (v_r15_i1475_i_i) { goto L_der_core_decode_AnyDecodeRefSliceU8_from_der_70ca1; } else { goto L_join_3_i1476_i_i; }
+    if (v_r15_i1475_i_i) { goto L_der_core_decode_AnyDecodeRefSliceU8_from_der_f0286; } else { goto L_join_3_i1476_i_i; }
 L_join_3_i1476_i_i:;
     v_r119_i_i_i913_i_i = v_r0_i_i619_sroa_12_0_i92_i + 4;
     v_r29_i1477_i_i = (P)((u64)v_r119_i_i_i913_i_i + (u64)(v_r148_i_i_i919_i_i));
@@ -52330,20 +52667,20 @@ L_join_3_i1476_i_i:;
     { p_v_r0_i_i779_sroa_13_0_i102_i = v_r32_i1478_i_i; p_v_r0_i_i779_sroa_12_0_i101_i = v_r29_i1477_i_i; p_v_r0_i_i779_sroa_11_0_i100_i = v_r148_i_i_i919_i_i; p_v_r0_i_i779_sroa_7_0_i99_i = v_r119_i_i_i913_i_i; goto L_join_5_i_i858_i_i; }
 L_join_14_i_i_i891_i_i:;
     v_r163_i_i_i892_i_i = v_r65_i_i_i807_i_i == 0u;
-    if (v_r163_i_i_i892_i_i) { goto L_der_core_decode_AnyDecodeRefSliceU8_from_der_70ca1; } else { goto L_join_27_i_i_i893_i_i; }
+    if (v_r163_i_i_i892_i_i) { goto L_der_core_decode_AnyDecodeRefSliceU8_from_der_f0286; } else { goto L_join_27_i_i_i893_i_i; }
 L_join_27_i_i_i893_i_i:;
     v_r170_i_i_i894_i_i = v_r0_i_i619_sroa_12_0_i92_i + 3;
     v_r173_i_i_i895_i_i = (u64)((u64)(v_r0_i_i619_sroa_13_0_i93_i) + (u64)(18446744073709551613ull));
     v_r182_i_i_i896_i_i = v_r83_i_i_i887_i_i == 129u;
-    if (v_r182_i_i_i896_i_i) { goto L_then_28_i_i_i901_i_i; } else { goto L_der_core_decode_AnyDecodeRefSliceU8_from_der_70ca1; }
+    if (v_r182_i_i_i896_i_i) { goto L_then_28_i_i_i901_i_i; } else { goto L_der_core_decode_AnyDecodeRefSliceU8_from_der_f0286; }
 L_then_28_i_i_i901_i_i:;
     v_r187_i_i_i902_i_i = get_u8(v_r62_i_i_i806_i_i);
     v_r189_i_i_i903_i_i = (u8)(v_r187_i_i_i902_i_i ^ ((u8)1 << 7)) < (u8)(0u ^ ((u8)1 << 7));
-    if (v_r189_i_i_i903_i_i) { goto L_then_31_i_i_i904_i_i; } else { goto L_der_core_decode_AnyDecodeRefSliceU8_from_der_70ca1; }
+    if (v_r189_i_i_i903_i_i) { goto L_then_31_i_i_i904_i_i; } else { goto L_der_core_decode_AnyDecodeRefSliceU8_from_der_f0286; }
 L_then_31_i_i_i904_i_i:;
     v_r199_i_i_i905_i_i = (u64)v_r187_i_i_i902_i_i;
     v_r15_i1485_i_i = v_r173_i_i_i895_i_i < v_r199_i_i_i905_i_i;
-    if (v_r15_i1485_i_i) { goto L_der_core_decode_AnyDecodeRefSliceU8_from_der_70ca1; } else { goto L_join_3_i1486_i_i; }
+    if (v_r15_i1485_i_i) { goto L_der_core_decode_AnyDecodeRefSliceU8_from_der_f0286; } else { goto L_join_3_i1486_i_i; }
 L_join_3_i1486_i_i:;
     v_r29_i1487_i_i = (P)((u64)v_r170_i_i_i894_i_i + (u64)(v_r199_i_i_i905_i_i));
     v_r32_i1488_i_i = (u64)((u64)(v_r173_i_i_i895_i_i) - (u64)(v_r199_i_i_i905_i_i));
@@ -52363,23 +52700,23 @@ L_default_7_i_i861_i_i:;
     v_r73_i_i862_i_i = (u8)(v_r34_i_i859_i_i ^ ((u8)1 << 7)) < (u8)(0u ^ ((u8)1 << 7));
     v_r53_i_i_i964_old_i_i = v_r0_i_i779_sroa_13_0_i102_i < 2u;
     v_or_cond2782_i_i = v_r73_i_i862_i_i ? 1u : v_r53_i_i_i964_old_i_i;
-    if (v_or_cond2782_i_i) { goto L_der_core_decode_AnyDecodeRefSliceU8_from_der_70ca1; } else { goto L_join_5_i_i_i965_i_i; }
+    if (v_or_cond2782_i_i) { goto L_der_core_decode_AnyDecodeRefSliceU8_from_der_f0286; } else { goto L_join_5_i_i_i965_i_i; }
 L_der_core_integer_uint_UintRefDecodeValueRefSliceU8__6:;
     v_r37_i_i876_i_i = v_r0_i_i779_sroa_7_0_i99_i + 1;
     v_r56_i_i880_i_i = get_u8(v_r37_i_i876_i_i);
     v_not2700_i_i = (u8)(v_r56_i_i880_i_i ^ ((u8)1 << 7)) > (u8)(255u ^ ((u8)1 << 7));
     v_r53_i_i_i964_i_i = v_r0_i_i779_sroa_13_0_i102_i < 2u;
     v_or_cond2781_i_i = v_not2700_i_i ? 1u : v_r53_i_i_i964_i_i;
-    if (v_or_cond2781_i_i) { goto L_der_core_decode_AnyDecodeRefSliceU8_from_der_70ca1; } else { goto L_join_5_i_i_i965_i_i; }
+    if (v_or_cond2781_i_i) { goto L_der_core_decode_AnyDecodeRefSliceU8_from_der_f0286; } else { goto L_join_5_i_i_i965_i_i; }
 L_arm_1_i834_i_i:;
     v_r53_i_i_i964_old_old_i_i = v_r0_i_i779_sroa_13_0_i102_i < 2u;
-    if (v_r53_i_i_i964_old_old_i_i) { goto L_der_core_decode_AnyDecodeRefSliceU8_from_der_70ca1; } else { goto L_join_5_i_i_i965_i_i; }
+    if (v_r53_i_i_i964_old_old_i_i) { goto L_der_core_decode_AnyDecodeRefSliceU8_from_der_f0286; } else { goto L_join_5_i_i_i965_i_i; }
 L_join_5_i_i_i965_i_i:;
     v_r62_i_i_i966_i_i = v_r0_i_i779_sroa_12_0_i101_i + 2;
     v_r65_i_i_i967_i_i = (u64)((u64)(v_r0_i_i779_sroa_13_0_i102_i) + (u64)(18446744073709551614ull));
     v_r73_i_i_i968_i_i = get_u8(v_r0_i_i779_sroa_12_0_i101_i);
     v_r78_i_i_i970_i_i = v_r73_i_i_i968_i_i == 2u;
-    if (v_r78_i_i_i970_i_i) { goto L_then_6_i_i_i1045_i_i; } else { goto L_der_core_decode_AnyDecodeRefSliceU8_from_der_70ca1; }
+    if (v_r78_i_i_i970_i_i) { goto L_then_6_i_i_i1045_i_i; } else { goto L_der_core_decode_AnyDecodeRefSliceU8_from_der_f0286; }
 L_then_6_i_i_i1045_i_i:;
     v_r60_i_i_i1046_i_i = v_r0_i_i779_sroa_12_0_i101_i + 1;
     v_r83_i_i_i1047_i_i = get_u8(v_r60_i_i_i1046_i_i);
@@ -52392,17 +52729,17 @@ L_then_9_i_i_i1089_i_i:;
     v_r32_i1498_i_i = (u64)((u64)(v_r65_i_i_i967_i_i) - (u64)(v_r92_i_i_i1090_i_i));
     v_r27_i4_i1017_i_i = v_r83_i_i_i1047_i_i == 0u;
     v_or_cond146_i = (u1)(((u32)(v_r27_i4_i1017_i_i) | (u32)(v_r15_i1495_i_i)) & 1);
-    if (v_or_cond146_i) { goto L_der_core_decode_AnyDecodeRefSliceU8_from_der_70ca1; } else { p_v_r0_i_i939_sroa_13_0_i111_i = v_r32_i1498_i_i; p_v_r0_i_i939_sroa_12_0_i110_i = v_r29_i1497_i_i; p_v_r0_i_i939_sroa_11_0_i109_i = v_r92_i_i_i1090_i_i; p_v_r0_i_i939_sroa_7_0_i108_i = v_r62_i_i_i966_i_i; goto L_join_5_i_i1018_i_i; }
+    if (v_or_cond146_i) { goto L_der_core_decode_AnyDecodeRefSliceU8_from_der_f0286; } else { p_v_r0_i_i939_sroa_13_0_i111_i = v_r32_i1498_i_i; p_v_r0_i_i939_sroa_12_0_i110_i = v_r29_i1497_i_i; p_v_r0_i_i939_sroa_11_0_i109_i = v_r92_i_i_i1090_i_i; p_v_r0_i_i939_sroa_7_0_i108_i = v_r62_i_i_i966_i_i; goto L_join_5_i_i1018_i_i; }
 L_join_11_i_i_i1049_i_i:;
     v_r104_i_i_i1050_i_i = v_r83_i_i_i1047_i_i == 130u;
     if (v_r104_i_i_i1050_i_i) { goto L_then_12_i_i_i1066_i_i; } else { goto L_join_14_i_i_i1051_i_i; }
 L_then_12_i_i_i1066_i_i:;
     v_r110_i_i_i1067_i_i = v_r0_i_i779_sroa_13_0_i102_i < 4u;
-    if (v_r110_i_i_i1067_i_i) { goto L_der_core_decode_AnyDecodeRefSliceU8_from_der_70ca1; } else { goto L_join_19_i_i_i1068_i_i; }
+    if (v_r110_i_i_i1067_i_i) { goto L_der_core_decode_AnyDecodeRefSliceU8_from_der_f0286; } else { goto L_join_19_i_i_i1068_i_i; }
 L_join_19_i_i_i1068_i_i:;
     v_r130_i_i_i1069_i_i = get_u8(v_r62_i_i_i966_i_i);
     v_r132_not_i_i_i1070_i_i = v_r130_i_i_i1069_i_i == 0u;
-    if (v_r132_not_i_i_i1070_i_i) { goto L_der_core_decode_AnyDecodeRefSliceU8_from_der_70ca1; } else { goto L_then_20_i_i_i1071_i_i; }
+    if (v_r132_not_i_i_i1070_i_i) { goto L_der_core_decode_AnyDecodeRefSliceU8_from_der_f0286; } else { goto L_then_20_i_i_i1071_i_i; }
 L_then_20_i_i_i1071_i_i:;
     v_r122_i_i_i1072_i_i = (u64)((u64)(v_r0_i_i779_sroa_13_0_i102_i) + (u64)(18446744073709551612ull));
     v_r117_i_i_i1074_i_i = v_r0_i_i779_sroa_12_0_i101_i + 3;
@@ -52412,7 +52749,7 @@ L_then_20_i_i_i1071_i_i:;
     v_r145_i_i_i1078_i_i = (u64)v_r143_i_i_i1077_i_i;
     v_r148_i_i_i1079_i_i = (u64)((u64)(v_r141_i_i_i1076_i_i) | (u64)(v_r145_i_i_i1078_i_i));
     v_r15_i1505_i_i = v_r122_i_i_i1072_i_i < v_r148_i_i_i1079_i_i;
-    if (v_r15_i1505_i_i) { goto L_der_core_decode_AnyDecodeRefSliceU8_from_der_70ca1; } else { goto L_join_3_i1506_i_i; }
+    if (v_r15_i1505_i_i) { goto L_der_core_decode_AnyDecodeRefSliceU8_from_der_f0286; } else { goto L_join_3_i1506_i_i; }
 L_join_3_i1506_i_i:;
     v_r119_i_i_i1073_i_i = v_r0_i_i779_sroa_12_0_i101_i + 4;
     v_r29_i1507_i_i = (P)((u64)v_r119_i_i_i1073_i_i + (u64)(v_r148_i_i_i1079_i_i));
@@ -52420,20 +52757,20 @@ L_join_3_i1506_i_i:;
     { p_v_r0_i_i939_sroa_13_0_i111_i = v_r32_i1508_i_i; p_v_r0_i_i939_sroa_12_0_i110_i = v_r29_i1507_i_i; p_v_r0_i_i939_sroa_11_0_i109_i = v_r148_i_i_i1079_i_i; p_v_r0_i_i939_sroa_7_0_i108_i = v_r119_i_i_i1073_i_i; goto L_join_5_i_i1018_i_i; }
 L_join_14_i_i_i1051_i_i:;
     v_r163_i_i_i1052_i_i = v_r65_i_i_i967_i_i == 0u;
-    if (v_r163_i_i_i1052_i_i) { goto L_der_core_decode_AnyDecodeRefSliceU8_from_der_70ca1; } else { goto L_join_27_i_i_i1053_i_i; }
+    if (v_r163_i_i_i1052_i_i) { goto L_der_core_decode_AnyDecodeRefSliceU8_from_der_f0286; } else { goto L_join_27_i_i_i1053_i_i; }
 L_join_27_i_i_i1053_i_i:;
     v_r170_i_i_i1054_i_i = v_r0_i_i779_sroa_12_0_i101_i + 3;
     v_r173_i_i_i1055_i_i = (u64)((u64)(v_r0_i_i779_sroa_13_0_i102_i) + (u64)(18446744073709551613ull));
     v_r182_i_i_i1056_i_i = v_r83_i_i_i1047_i_i == 129u;
-    if (v_r182_i_i_i1056_i_i) { goto L_then_28_i_i_i1061_i_i; } else { goto L_der_core_decode_AnyDecodeRefSliceU8_from_der_70ca1; }
+    if (v_r182_i_i_i1056_i_i) { goto L_then_28_i_i_i1061_i_i; } else { goto L_der_core_decode_AnyDecodeRefSliceU8_from_der_f0286; }
 L_then_28_i_i_i1061_i_i:;
     v_r187_i_i_i1062_i_i = get_u8(v_r62_i_i_i966_i_i);
     v_r189_i_i_i1063_i_i = (u8)(v_r187_i_i_i1062_i_i ^ ((u8)1 << 7)) < (u8)(0u ^ ((u8)1 << 7));
-    if (v_r189_i_i_i1063_i_i) { goto L_then_31_i_i_i1064_i_i; } else { goto L_der_core_decode_AnyDecodeRefSliceU8_from_der_70ca1; }
+    if (v_r189_i_i_i1063_i_i) { goto L_then_31_i_i_i1064_i_i; } else { goto L_der_core_decode_AnyDecodeRefSliceU8_from_der_f0286; }
 L_then_31_i_i_i1064_i_i:;
     v_r199_i_i_i1065_i_i = (u64)v_r187_i_i_i1062_i_i;
     v_r15_i1515_i_i = v_r173_i_i_i1055_i_i < v_r199_i_i_i1065_i_i;
-    if (v_r15_i1515_i_i) { goto L_der_core_decode_AnyDecodeRefSliceU8_from_der_70ca1; } else { goto L_join_3_i1516_i_i; }
+    if (v_r15_i1515_i_i) { goto L_der_core_decode_AnyDecodeRefSliceU8_from_der_f0286; } else { goto L_join_3_i1516_i_i; }
 L_join_3_i1516_i_i:;
     v_r29_i1517_i_i = (P)((u64)v_r170_i_i_i1054_i_i + (u64)(v_r199_i_i_i1065_i_i));
     v_r32_i1518_i_i = (u64)((u64)(v_r173_i_i_i1055_i_i) - (u64)(v_r199_i_i_i1065_i_i));
@@ -52453,23 +52790,23 @@ L_default_7_i_i1021_i_i:;
     v_r73_i_i1022_i_i = (u8)(v_r34_i_i1019_i_i ^ ((u8)1 << 7)) < (u8)(0u ^ ((u8)1 << 7));
     v_r53_i_i_i1114_old_i_i = v_r0_i_i939_sroa_13_0_i111_i < 2u;
     v_or_cond2784_i_i = v_r73_i_i1022_i_i ? 1u : v_r53_i_i_i1114_old_i_i;
-    if (v_or_cond2784_i_i) { goto L_der_core_decode_AnyDecodeRefSliceU8_from_der_70ca1; } else { goto L_join_5_i_i_i1115_i_i; }
+    if (v_or_cond2784_i_i) { goto L_der_core_decode_AnyDecodeRefSliceU8_from_der_f0286; } else { goto L_join_5_i_i_i1115_i_i; }
 L_der_core_integer_uint_UintRefDecodeValueRefSliceU8__7:;
     v_r37_i_i1036_i_i = v_r0_i_i939_sroa_7_0_i108_i + 1;
     v_r56_i_i1040_i_i = get_u8(v_r37_i_i1036_i_i);
     v_not2701_i_i = (u8)(v_r56_i_i1040_i_i ^ ((u8)1 << 7)) > (u8)(255u ^ ((u8)1 << 7));
     v_r53_i_i_i1114_i_i = v_r0_i_i939_sroa_13_0_i111_i < 2u;
     v_or_cond2783_i_i = v_not2701_i_i ? 1u : v_r53_i_i_i1114_i_i;
-    if (v_or_cond2783_i_i) { goto L_der_core_decode_AnyDecodeRefSliceU8_from_der_70ca1; } else { goto L_join_5_i_i_i1115_i_i; }
+    if (v_or_cond2783_i_i) { goto L_der_core_decode_AnyDecodeRefSliceU8_from_der_f0286; } else { goto L_join_5_i_i_i1115_i_i; }
 L_arm_1_i994_i_i:;
     v_r53_i_i_i1114_old_old_i_i = v_r0_i_i939_sroa_13_0_i111_i < 2u;
-    if (v_r53_i_i_i1114_old_old_i_i) { goto L_der_core_decode_AnyDecodeRefSliceU8_from_der_70ca1; } else { goto L_join_5_i_i_i1115_i_i; }
+    if (v_r53_i_i_i1114_old_old_i_i) { goto L_der_core_decode_AnyDecodeRefSliceU8_from_der_f0286; } else { goto L_join_5_i_i_i1115_i_i; }
 L_join_5_i_i_i1115_i_i:;
     v_r62_i_i_i1116_i_i = v_r0_i_i939_sroa_12_0_i110_i + 2;
     v_r65_i_i_i1117_i_i = (u64)((u64)(v_r0_i_i939_sroa_13_0_i111_i) + (u64)(18446744073709551614ull));
     v_r73_i_i_i1118_i_i = get_u8(v_r0_i_i939_sroa_12_0_i110_i);
     v_r78_i_i_i1120_i_i = v_r73_i_i_i1118_i_i == 2u;
-    if (v_r78_i_i_i1120_i_i) { goto L_then_6_i_i_i1184_i_i; } else { goto L_der_core_decode_AnyDecodeRefSliceU8_from_der_70ca1; }
+    if (v_r78_i_i_i1120_i_i) { goto L_then_6_i_i_i1184_i_i; } else { goto L_der_core_decode_AnyDecodeRefSliceU8_from_der_f0286; }
 L_then_6_i_i_i1184_i_i:;
     v_r60_i_i_i1185_i_i = v_r0_i_i939_sroa_12_0_i110_i + 1;
     v_r83_i_i_i1186_i_i = get_u8(v_r60_i_i_i1185_i_i);
@@ -52482,17 +52819,17 @@ L_then_9_i_i_i1228_i_i:;
     v_r32_i1528_i_i = (u64)((u64)(v_r65_i_i_i1117_i_i) - (u64)(v_r92_i_i_i1229_i_i));
     v_r27_i4_i1156_i_i = v_r83_i_i_i1186_i_i == 0u;
     v_or_cond147_i = (u1)(((u32)(v_r27_i4_i1156_i_i) | (u32)(v_r15_i1525_i_i)) & 1);
-    if (v_or_cond147_i) { goto L_der_core_decode_AnyDecodeRefSliceU8_from_der_70ca1; } else { p_v_r0_i_i1099_sroa_13_0_i120_i = v_r32_i1528_i_i; p_v_r0_i_i1099_sroa_12_0_i119_i = v_r29_i1527_i_i; p_v_r0_i_i1099_sroa_11_0_i118_i = v_r92_i_i_i1229_i_i; p_v_r0_i_i1099_sroa_7_0_i117_i = v_r62_i_i_i1116_i_i; goto L_join_5_i_i1157_i_i; }
+    if (v_or_cond147_i) { goto L_der_core_decode_AnyDecodeRefSliceU8_from_der_f0286; } else { p_v_r0_i_i1099_sroa_13_0_i120_i = v_r32_i1528_i_i; p_v_r0_i_i1099_sroa_12_0_i119_i = v_r29_i1527_i_i; p_v_r0_i_i1099_sroa_11_0_i118_i = v_r92_i_i_i1229_i_i; p_v_r0_i_i1099_sroa_7_0_i117_i = v_r62_i_i_i1116_i_i; goto L_join_5_i_i1157_i_i; }
 L_join_11_i_i_i1188_i_i:;
     v_r104_i_i_i1189_i_i = v_r83_i_i_i1186_i_i == 130u;
     if (v_r104_i_i_i1189_i_i) { goto L_then_12_i_i_i1205_i_i; } else { goto L_join_14_i_i_i1190_i_i; }
 L_then_12_i_i_i1205_i_i:;
     v_r110_i_i_i1206_i_i = v_r0_i_i939_sroa_13_0_i111_i < 4u;
-    if (v_r110_i_i_i1206_i_i) { goto L_der_core_decode_AnyDecodeRefSliceU8_from_der_70ca1; } else { goto L_join_19_i_i_i1207_i_i; }
+    if (v_r110_i_i_i1206_i_i) { goto L_der_core_decode_AnyDecodeRefSliceU8_from_der_f0286; } else { goto L_join_19_i_i_i1207_i_i; }
 L_join_19_i_i_i1207_i_i:;
     v_r130_i_i_i1208_i_i = get_u8(v_r62_i_i_i1116_i_i);
     v_r132_not_i_i_i1209_i_i = v_r130_i_i_i1208_i_i == 0u;
-    if (v_r132_not_i_i_i1209_i_i) { goto L_der_core_decode_AnyDecodeRefSliceU8_from_der_70ca1; } else { goto L_then_20_i_i_i1210_i_i; }
+    if (v_r132_not_i_i_i1209_i_i) { goto L_der_core_decode_AnyDecodeRefSliceU8_from_der_f0286; } else { goto L_then_20_i_i_i1210_i_i; }
 L_then_20_i_i_i1210_i_i:;
     v_r122_i_i_i1211_i_i = (u64)((u64)(v_r0_i_i939_sroa_13_0_i111_i) + (u64)(18446744073709551612ull));
     v_r117_i_i_i1213_i_i = v_r0_i_i939_sroa_12_0_i110_i + 3;
@@ -52502,7 +52839,7 @@ L_then_20_i_i_i1210_i_i:;
     v_r145_i_i_i1217_i_i = (u64)v_r143_i_i_i1216_i_i;
     v_r148_i_i_i1218_i_i = (u64)((u64)(v_r141_i_i_i1215_i_i) | (u64)(v_r145_i_i_i1217_i_i));
     v_r15_i1535_i_i = v_r122_i_i_i1211_i_i < v_r148_i_i_i1218_i_i;
-    if (v_r15_i1535_i_i) { goto L_der_core_decode_AnyDecodeRefSliceU8_from_der_70ca1; } else { goto L_join_3_i1536_i_i; }
+    if (v_r15_i1535_i_i) { goto L_der_core_decode_AnyDecodeRefSliceU8_from_der_f0286; } else { goto L_join_3_i1536_i_i; }
 L_join_3_i1536_i_i:;
     v_r119_i_i_i1212_i_i = v_r0_i_i939_sroa_12_0_i110_i + 4;
     v_r29_i1537_i_i = (P)((u64)v_r119_i_i_i1212_i_i + (u64)(v_r148_i_i_i1218_i_i));
@@ -52510,20 +52847,20 @@ L_join_3_i1536_i_i:;
     { p_v_r0_i_i1099_sroa_13_0_i120_i = v_r32_i1538_i_i; p_v_r0_i_i1099_sroa_12_0_i119_i = v_r29_i1537_i_i; p_v_r0_i_i1099_sroa_11_0_i118_i = v_r148_i_i_i1218_i_i; p_v_r0_i_i1099_sroa_7_0_i117_i = v_r119_i_i_i1212_i_i; goto L_join_5_i_i1157_i_i; }
 L_join_14_i_i_i1190_i_i:;
     v_r163_i_i_i1191_i_i = v_r65_i_i_i1117_i_i == 0u;
-    if (v_r163_i_i_i1191_i_i) { goto L_der_core_decode_AnyDecodeRefSliceU8_from_der_70ca1; } else { goto L_join_27_i_i_i1192_i_i; }
+    if (v_r163_i_i_i1191_i_i) { goto L_der_core_decode_AnyDecodeRefSliceU8_from_der_f0286; } else { goto L_join_27_i_i_i1192_i_i; }
 L_join_27_i_i_i1192_i_i:;
     v_r170_i_i_i1193_i_i = v_r0_i_i939_sroa_12_0_i110_i + 3;
     v_r173_i_i_i1194_i_i = (u64)((u64)(v_r0_i_i939_sroa_13_0_i111_i) + (u64)(18446744073709551613ull));
     v_r182_i_i_i1195_i_i = v_r83_i_i_i1186_i_i == 129u;
-    if (v_r182_i_i_i1195_i_i) { goto L_then_28_i_i_i1200_i_i; } else { goto L_der_core_decode_AnyDecodeRefSliceU8_from_der_70ca1; }
+    if (v_r182_i_i_i1195_i_i) { goto L_then_28_i_i_i1200_i_i; } else { goto L_der_core_decode_AnyDecodeRefSliceU8_from_der_f0286; }
 L_then_28_i_i_i1200_i_i:;
     v_r187_i_i_i1201_i_i = get_u8(v_r62_i_i_i1116_i_i);
     v_r189_i_i_i1202_i_i = (u8)(v_r187_i_i_i1201_i_i ^ ((u8)1 << 7)) < (u8)(0u ^ ((u8)1 << 7));
-    if (v_r189_i_i_i1202_i_i) { goto L_then_31_i_i_i1203_i_i; } else { goto L_der_core_decode_AnyDecodeRefSliceU8_from_der_70ca1; }
+    if (v_r189_i_i_i1202_i_i) { goto L_then_31_i_i_i1203_i_i; } else { goto L_der_core_decode_AnyDecodeRefSliceU8_from_der_f0286; }
 L_then_31_i_i_i1203_i_i:;
     v_r199_i_i_i1204_i_i = (u64)v_r187_i_i_i1201_i_i;
     v_r15_i1545_i_i = v_r173_i_i_i1194_i_i < v_r199_i_i_i1204_i_i;
-    if (v_r15_i1545_i_i) { goto L_der_core_decode_AnyDecodeRefSliceU8_from_der_70ca1; } else { goto L_join_3_i1546_i_i; }
+    if (v_r15_i1545_i_i) { goto L_der_core_decode_AnyDecodeRefSliceU8_from_der_f0286; } else { goto L_join_3_i1546_i_i; }
 L_join_3_i1546_i_i:;
     v_r29_i1547_i_i = (P)((u64)v_r170_i_i_i1193_i_i + (u64)(v_r199_i_i_i1204_i_i));
     v_r32_i1548_i_i = (u64)((u64)(v_r173_i_i_i1194_i_i) - (u64)(v_r199_i_i_i1204_i_i));
@@ -52541,29 +52878,29 @@ L_arm_6_i_i1174_i_i:;
     if (v_r47_i_i1177_i_i) { goto L_arm_5_i48_i_i; } else { goto L_der_core_integer_uint_UintRefDecodeValueRefSliceU8__8; }
 L_default_7_i_i1160_i_i:;
     v_r73_i_i1161_i_i = (u8)(v_r34_i_i1158_i_i ^ ((u8)1 << 7)) > (u8)(255u ^ ((u8)1 << 7));
-    if (v_r73_i_i1161_i_i) { goto L_arm_5_i48_i_i; } else { goto L_der_core_decode_AnyDecodeRefSliceU8_from_der_70ca1; }
+    if (v_r73_i_i1161_i_i) { goto L_arm_5_i48_i_i; } else { goto L_der_core_decode_AnyDecodeRefSliceU8_from_der_f0286; }
 L_der_core_integer_uint_UintRefDecodeValueRefSliceU8__8:;
     v_r37_i_i1175_i_i = v_r0_i_i1099_sroa_7_0_i117_i + 1;
     v_r56_i_i1179_i_i = get_u8(v_r37_i_i1175_i_i);
     v_not2702_i_i = (u8)(v_r56_i_i1179_i_i ^ ((u8)1 << 7)) > (u8)(255u ^ ((u8)1 << 7));
-    if (v_not2702_i_i) { goto L_der_core_decode_AnyDecodeRefSliceU8_from_der_70ca1; } else { goto L_arm_5_i48_i_i; }
+    if (v_not2702_i_i) { goto L_der_core_decode_AnyDecodeRefSliceU8_from_der_f0286; } else { goto L_arm_5_i48_i_i; }
 L_arm_5_i48_i_i:;
     fill(v_r6_i1237_i_i, 0u, 32u);
     if (v_r11_sroa_4_0_i70_i_i) { goto L_arm_1_i1243_i_i; } else { goto L_arm_2_i1239_i_i; }
 L_arm_1_i1243_i_i:;
-    f_pkcs1_view_quick_others(v_r6_i1237_i_i, v_r0_i_i1099_sroa_12_0_i119_i, v_r0_i_i1099_sroa_13_0_i120_i);
+    f_pkcs1_viewed_key_quick_others(v_r6_i1237_i_i, v_r0_i_i1099_sroa_12_0_i119_i, v_r0_i_i1099_sroa_13_0_i120_i);
     v_r16_i1244_i_i = get_u8(v_r6_i1237_i_i);
     v_1 = v_r16_i1244_i_i == 1u;
-    if (v_1) { goto L_arm_5_i_i_i; } else { goto L_der_core_decode_AnyDecodeRefSliceU8_from_der_70ca1__2; }
+    if (v_1) { goto L_arm_5_i_i_i; } else { goto L_der_core_decode_AnyDecodeRefSliceU8_from_der_f0286__2; }
 L_arm_2_i1239_i_i:;
     v_r7_i1555_i_i = v_r0_i_i1099_sroa_13_0_i120_i == 0u;
-    if (v_r7_i1555_i_i) { goto L_arm_5_i_i_i; } else { goto L_der_core_decode_AnyDecodeRefSliceU8_from_der_70ca1__2; }
+    if (v_r7_i1555_i_i) { goto L_arm_5_i_i_i; } else { goto L_der_core_decode_AnyDecodeRefSliceU8_from_der_f0286__2; }
 L_arm_5_i_i_i:;
     { goto L_arm_1_i_i; }
-L_der_core_decode_AnyDecodeRefSliceU8_from_der_70ca1__2:;
-    { goto L_der_core_decode_AnyDecodeRefSliceU8_from_der_70ca1; }
-L_der_core_decode_AnyDecodeRefSliceU8_from_der_70ca1:;
-    f_der_core_decode_read_slowly_025ef17fb6cfc887(v_r0_i5_i_i, v_r11_sroa_0_0_copyload_i_i, v_r11_sroa_5_0_copyload_i_i);
+L_der_core_decode_AnyDecodeRefSliceU8_from_der_f0286__2:;
+    { goto L_der_core_decode_AnyDecodeRefSliceU8_from_der_f0286; }
+L_der_core_decode_AnyDecodeRefSliceU8_from_der_f0286:;
+    f_der_core_decode_read_slowly_746ba62194330879(v_r0_i5_i_i, v_r11_sroa_0_0_copyload_i_i, v_r11_sroa_5_0_copyload_i_i);
     v_2 = get_u8(v_r0_i5_i_i);
     v_r59_i_i_i = v_r0_i5_i_i + 1;
     v_3 = get_u8(v_r59_i_i_i);
@@ -53580,17 +53917,17 @@ L_pkcs1_public_key_RsaPublicKeyEncodeInParts_parts_l:;
     if (v_r7_i_not_i_i89_i_not_i_i_i_i_i) { p_v_r5_sroa_0_sroa_5_0_i_i = 7u; goto L_arm_2_i2_i; } else { goto L_arm_1_i_i_i_i_i; }
 L_arm_1_i_i_i_i_i:;
     v_r12_i_i_i_i_i_i_i = v_r11_i_i_i90_i_i_i_i_i_i < 128u;
-    if (v_r12_i_i_i_i_i_i_i) { p_v_r4_0_i_i_i_i_i_i_i = 2u; goto L_der_core_encode_AnyEncode_encoded_len_08c2330acc56; } else { goto L_else_2_i_i_i_i_i_i_i; }
+    if (v_r12_i_i_i_i_i_i_i) { p_v_r4_0_i_i_i_i_i_i_i = 2u; goto L_der_core_encode_AnyEncode_encoded_len_97c72389bc9e; } else { goto L_else_2_i_i_i_i_i_i_i; }
 L_else_2_i_i_i_i_i_i_i:;
     v_r17_i_i_i_i_i_i_i = v_r11_i_i_i90_i_i_i_i_i_i < 256u;
-    if (v_r17_i_i_i_i_i_i_i) { p_v_r4_0_i_i_i_i_i_i_i = 3u; goto L_der_core_encode_AnyEncode_encoded_len_08c2330acc56; } else { goto L_else_5_i_i_i_i_i_i_i; }
+    if (v_r17_i_i_i_i_i_i_i) { p_v_r4_0_i_i_i_i_i_i_i = 3u; goto L_der_core_encode_AnyEncode_encoded_len_97c72389bc9e; } else { goto L_else_5_i_i_i_i_i_i_i; }
 L_else_5_i_i_i_i_i_i_i:;
     v_r22_i_i_i_i_i_i_i = v_r11_i_i_i90_i_i_i_i_i_i < 65536u;
     v_r27_i_i_i_i_i_i_i = v_r11_i_i_i90_i_i_i_i_i_i < 16777216u;
     v_i_i_i_i_i_i_i = v_r27_i_i_i_i_i_i_i ? 5u : 6u;
     v_r8_0_i_i_i_i_i_i_i = v_r22_i_i_i_i_i_i_i ? 4u : v_i_i_i_i_i_i_i;
-    { p_v_r4_0_i_i_i_i_i_i_i = v_r8_0_i_i_i_i_i_i_i; goto L_der_core_encode_AnyEncode_encoded_len_08c2330acc56; }
-L_der_core_encode_AnyEncode_encoded_len_08c2330acc56:;
+    { p_v_r4_0_i_i_i_i_i_i_i = v_r8_0_i_i_i_i_i_i_i; goto L_der_core_encode_AnyEncode_encoded_len_97c72389bc9e; }
+L_der_core_encode_AnyEncode_encoded_len_97c72389bc9e:;
     v_r4_0_i_i_i_i_i_i_i = p_v_r4_0_i_i_i_i_i_i_i;
     v_r5_i_i_i_i_i_i_i_i = (u32)((u32)(v_r11_i_i_i90_i_i_i_i_i_i) ^ (u32)(4294967295ull));
     v_r7_i_not_i_i_i_i_not_i_i_i = v_r4_0_i_i_i_i_i_i_i > v_r5_i_i_i_i_i_i_i_i;
@@ -54009,7 +54346,7 @@ L_der_core_borrowed_BorrowedEncode_encoded_len_f4fc9__3:;
 L_der_core_encode_joined_len_exit_i_i_i_i7_i_i:;
     v_not_i_i_i8_i_i = p_v_not_i_i_i8_i_i;
     v_r24_sroa_13_0_sink_i_i_i_i_i9_i_i = p_v_r24_sroa_13_0_sink_i_i_i_i_i9_i_i;
-    if (v_r12_not_i_i_i_i_i28_i_i_i_i_i_i) { goto L_arm_1_i_i_i38_i_i_i_i16_i_i; } else { goto L_pkcs1_c_written_set_needed_2cbef5cdb3ac673a_exit_i; }
+    if (v_r12_not_i_i_i_i_i28_i_i_i_i_i_i) { goto L_arm_1_i_i_i38_i_i_i_i16_i_i; } else { goto L_pkcs1_c_written_set_needed_2b8094a583d9ee70_exit_i; }
 L_arm_1_i_i_i38_i_i_i_i16_i_i:;
     v_r12_i_i_i_i_i39_i_i_i_i17_i_i = v_r4_sroa_10_0_i_i_i_i_i30_i_i_i_i_i_i < 128u;
     if (v_r12_i_i_i_i_i39_i_i_i_i17_i_i) { p_v_r4_0_i_i_i_i_i48_i_i_i_i26_i_i = 2u; goto L_der_core_borrowed_BorrowedEncode_encoded_len_f4fc9__4; } else { goto L_else_2_i_i_i_i_i40_i_i_i_i18_i_i; }
@@ -54027,36 +54364,36 @@ L_der_core_borrowed_BorrowedEncode_encoded_len_f4fc9__4:;
     v_r5_i_i_i_i_i_i49_i_i_i_i27_i_i = (u32)((u32)(v_r4_sroa_10_0_i_i_i_i_i30_i_i_i_i_i_i) ^ (u32)(4294967295ull));
     v_r7_i_not_i_i_i_i_i50_not_i_i_i_i28_i_i = v_r4_0_i_i_i_i_i48_i_i_i_i26_i_i > v_r5_i_i_i_i_i_i49_i_i_i_i27_i_i;
     v_brmerge_i_i_i29_i_i = (u1)(((u32)(v_not_i_i_i8_i_i) | (u32)(v_r7_i_not_i_i_i_i_i50_not_i_i_i_i28_i_i)) & 1);
-    if (v_brmerge_i_i_i29_i_i) { goto L_pkcs1_c_written_set_needed_2cbef5cdb3ac673a_exit_i; } else { goto L_pkcs1_public_key_RsaPublicKeyEncodeInParts_parts_l__2; }
+    if (v_brmerge_i_i_i29_i_i) { goto L_pkcs1_c_written_set_needed_2b8094a583d9ee70_exit_i; } else { goto L_pkcs1_public_key_RsaPublicKeyEncodeInParts_parts_l__2; }
 L_pkcs1_public_key_RsaPublicKeyEncodeInParts_parts_l__2:;
     v_r11_i_i_i_i_i_i51_i_i_i_i31_i_i = (u32)((u32)(v_r4_0_i_i_i_i_i48_i_i_i_i26_i_i) + (u32)(v_r4_sroa_10_0_i_i_i_i_i30_i_i_i_i_i_i));
     v_r5_i_i_i88_i_i_i_i32_i_i = (u32)((u32)(v_r24_sroa_13_0_sink_i_i_i_i_i9_i_i) ^ (u32)(4294967295ull));
     v_r7_i_not_i_i89_i_not_i_i_i33_i_i = v_r11_i_i_i_i_i_i51_i_i_i_i31_i_i > v_r5_i_i_i88_i_i_i_i32_i_i;
     v_r11_i_i_i90_i_i_i_i34_i_i = (u32)((u32)(v_r11_i_i_i_i_i_i51_i_i_i_i31_i_i) + (u32)(v_r24_sroa_13_0_sink_i_i_i_i_i9_i_i));
-    if (v_r7_i_not_i_i89_i_not_i_i_i33_i_i) { goto L_pkcs1_c_written_set_needed_2cbef5cdb3ac673a_exit_i; } else { goto L_arm_1_i_i_i35_i_i; }
+    if (v_r7_i_not_i_i89_i_not_i_i_i33_i_i) { goto L_pkcs1_c_written_set_needed_2b8094a583d9ee70_exit_i; } else { goto L_arm_1_i_i_i35_i_i; }
 L_arm_1_i_i_i35_i_i:;
     v_r12_i_i_i_i_i36_i_i = v_r11_i_i_i90_i_i_i_i34_i_i < 128u;
-    if (v_r12_i_i_i_i_i36_i_i) { p_v_r4_0_i_i_i_i_i45_i_i = 2u; goto L_der_core_encode_AnyEncode_encoded_len_08c2330acc56__2; } else { goto L_else_2_i_i_i_i_i37_i_i; }
+    if (v_r12_i_i_i_i_i36_i_i) { p_v_r4_0_i_i_i_i_i45_i_i = 2u; goto L_der_core_encode_AnyEncode_encoded_len_97c72389bc9e__2; } else { goto L_else_2_i_i_i_i_i37_i_i; }
 L_else_2_i_i_i_i_i37_i_i:;
     v_r17_i_i_i_i_i38_i_i = v_r11_i_i_i90_i_i_i_i34_i_i < 256u;
-    if (v_r17_i_i_i_i_i38_i_i) { p_v_r4_0_i_i_i_i_i45_i_i = 3u; goto L_der_core_encode_AnyEncode_encoded_len_08c2330acc56__2; } else { goto L_else_5_i_i_i_i_i39_i_i; }
+    if (v_r17_i_i_i_i_i38_i_i) { p_v_r4_0_i_i_i_i_i45_i_i = 3u; goto L_der_core_encode_AnyEncode_encoded_len_97c72389bc9e__2; } else { goto L_else_5_i_i_i_i_i39_i_i; }
 L_else_5_i_i_i_i_i39_i_i:;
     v_r22_i_i_i_i_i40_i_i = v_r11_i_i_i90_i_i_i_i34_i_i < 65536u;
     v_r27_i_i_i_i_i41_i_i = v_r11_i_i_i90_i_i_i_i34_i_i < 16777216u;
     v_i_i_i_i_i42_i_i = v_r27_i_i_i_i_i41_i_i ? 5u : 6u;
     v_r8_0_i_i_i_i_i43_i_i = v_r22_i_i_i_i_i40_i_i ? 4u : v_i_i_i_i_i42_i_i;
-    { p_v_r4_0_i_i_i_i_i45_i_i = v_r8_0_i_i_i_i_i43_i_i; goto L_der_core_encode_AnyEncode_encoded_len_08c2330acc56__2; }
-L_der_core_encode_AnyEncode_encoded_len_08c2330acc56__2:;
+    { p_v_r4_0_i_i_i_i_i45_i_i = v_r8_0_i_i_i_i_i43_i_i; goto L_der_core_encode_AnyEncode_encoded_len_97c72389bc9e__2; }
+L_der_core_encode_AnyEncode_encoded_len_97c72389bc9e__2:;
     v_r4_0_i_i_i_i_i45_i_i = p_v_r4_0_i_i_i_i_i45_i_i;
     v_r5_i_i_i_i_i_i46_i_i = (u32)((u32)(v_r11_i_i_i90_i_i_i_i34_i_i) ^ (u32)(4294967295ull));
     v_r7_i_not_i_i_i_i_not_i47_i_i = v_r4_0_i_i_i_i_i45_i_i > v_r5_i_i_i_i_i_i46_i_i;
-    if (v_r7_i_not_i_i_i_i_not_i47_i_i) { goto L_pkcs1_c_written_set_needed_2cbef5cdb3ac673a_exit_i; } else { goto L_arm_1_i48_i_i; }
+    if (v_r7_i_not_i_i_i_i_not_i47_i_i) { goto L_pkcs1_c_written_set_needed_2b8094a583d9ee70_exit_i; } else { goto L_arm_1_i48_i_i; }
 L_arm_1_i48_i_i:;
     v_r11_i_i_i_i_i_i49_i_i = (u32)((u32)(v_r4_0_i_i_i_i_i45_i_i) + (u32)(v_r11_i_i_i90_i_i_i_i34_i_i));
     v_r3_i1_i_i_i = (u64)v_r11_i_i_i_i_i_i49_i_i;
     put_u64(v_a3, v_r3_i1_i_i_i);
-    { goto L_pkcs1_c_written_set_needed_2cbef5cdb3ac673a_exit_i; }
-L_pkcs1_c_written_set_needed_2cbef5cdb3ac673a_exit_i:;
+    { goto L_pkcs1_c_written_set_needed_2b8094a583d9ee70_exit_i; }
+L_pkcs1_c_written_set_needed_2b8094a583d9ee70_exit_i:;
     v_switch_offset_i_i_i = (u32)((u32)(v_r5_sroa_0_sroa_5_0_i_i) + (u32)(1u));
     { p_v_r6_0_i = v_switch_offset_i_i_i; goto L_pkcs1_c_public_key_pkcs1_c_public_key_encode_exit; }
 L_pkcs1_c_public_key_pkcs1_c_public_key_encode_exit:;
@@ -58420,16 +58757,18 @@ uint32_t pkcs1_c_private_key_encode(const struct pkcs1_private_key *key, const s
     return status;
 }
 
-bool pkcs1_c_algorithm_is(const struct pkcs1_algorithm *algorithm, const uint8_t *oid, size_t oid_len) {
+bool pkcs1_c_algorithm_is(const struct pkcs1_algorithm *algorithm, const struct pkcs1_bytes *oid) {
     TAKE(own, algorithm, ALGORITHM);
-    return proved_algorithm_is(own, AT(oid), oid_len);
+    TAKE(own_oid, oid, BYTES);
+    return proved_algorithm_is(own, own_oid);
 }
 
-bool pkcs1_c_uses_hash(const struct pkcs1_algorithm *hash, const struct pkcs1_mask_gen *mask_gen, const uint8_t *oid,
-                       size_t oid_len) {
+bool pkcs1_c_uses_hash(const struct pkcs1_algorithm *hash, const struct pkcs1_mask_gen *mask_gen,
+                       const struct pkcs1_bytes *oid) {
     TAKE(own, hash, ALGORITHM);
     TAKE(own_mask_gen, mask_gen, MASK_GEN);
-    return proved_uses_hash(own, own_mask_gen, AT(oid), oid_len);
+    TAKE(own_oid, oid, BYTES);
+    return proved_uses_hash(own, own_mask_gen, own_oid);
 }
 
 bool pkcs1_c_oaep_label(const struct pkcs1_algorithm *source, struct pkcs1_bytes *label) {

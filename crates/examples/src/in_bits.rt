@@ -4,8 +4,8 @@ ghost use Rattle.examples.specs.InBits.{bit_string, bits_fault, bits_tells, few_
 
 use crate::fixed_octets::{Fixed, FixedOctets};
 use der_core::{
-    BackWriter, Borrowed, Encode, EncodeInParts, EncodeValue, Encoding, ErrorKind, Length, Record,
-    Result, Tag, TagMarker, Writer,
+    BackWriter, Borrowed, Contents, Encode, EncodeInParts, EncodeValue, Encoding, ErrorKind,
+    InParts, Length, Result, Tag, TagMarker, TaggedBy, Writer,
 };
 use std::marker::PhantomData;
 
@@ -48,17 +48,50 @@ impl FixedOctets for NoUnusedBits {
 #[derive(Clone, Copy, Debug, PartialEq, Eq, Drop)]
 pub struct InBits<K>(pub K);
 
-impl<K: Encoding> Record for InBits<K> {
+/// Its contents.
+type Row<K> = (Fixed<NoUnusedBits>, (K, ()));
+
+impl<K: Encoding> Contents for InBits<K> {
+    ghost Value = { ⟦<Row<K> as Contents>⟧.Value };
+
+    ghost value = { λ bits. (tt, (K.value bits.0, tt)) };
+
+    ghost Spelling = { ⟦<Row<K> as Contents>⟧.Spelling };
+
+    ghost means = { ⟦<Row<K> as Contents>⟧.means };
+
+    ghost written = { ⟦<Row<K> as Contents>⟧.written };
+
+    ghost valid = { ⟦<Row<K> as Contents>⟧.valid };
+
+    ghost printed = { ⟦<Row<K> as Contents>⟧.printed };
+
+    ghost read_spelling = { ⟦<Row<K> as Contents>⟧.read_spelling };
+
+    ghost read = { ⟦<Row<K> as Contents>⟧.read };
+
+    ghost law = { ⟦<Row<K> as Contents>⟧.law };
+
+    ghost shortest = { ⟦<Row<K> as Contents>⟧.shortest };
+
+    ghost reads_alike = { ⟦<Row<K> as Contents>⟧.reads_alike };
+}
+
+impl<K> TaggedBy for InBits<K> {
     type Marker = BitStringTag;
+}
 
-    type Fields = (Fixed<NoUnusedBits>, (K, ()));
+impl<K: Encoding> InParts for InBits<K> {
+    type Parts = Row<K>;
 
-    ghost fields = { λ bits. (record { 0 = record {} }, (bits.0, tt)) };
-
-    fn from_fields(row: (Fixed<NoUnusedBits>, (K, ()))) -> InBits<K> {
-        let (_octet, (value, ())) = row;
+    fn from_parts(parts: Row<K>) -> InBits<K> {
+        let (_octet, (value, ())) = parts;
         InBits(value)
     }
+
+    ghost errs = { λ k c e. e };
+
+    ghost once = { λ once. once };
 }
 
 impl<K: Encode> EncodeInParts for InBits<K> {

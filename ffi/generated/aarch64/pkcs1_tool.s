@@ -4887,7 +4887,7 @@
 	mov	x1, x8
 	stp	x16, x15, [sp, #48]
 	str	x14, [sp, #64]
-	bl	"pkcs1::view::quick_others"
+	bl	"pkcs1::viewed_key::quick_others"
 	ldrb	w8, [sp, #304]
 	cmp	w8, #1
 	b.ne	.LBB8_976
@@ -5448,7 +5448,7 @@
 	add	x0, sp, #720
 	mov	x2, x20
 	mov	x27, x1
-	bl	"der_core::decode::read_slowly::<#025ef17fb6cfc887>"
+	bl	"der_core::decode::read_slowly::<#746ba62194330879>"
 	ldur	q0, [x28, #136]
 	ldur	q1, [x28, #152]
 	ldrb	w8, [sp, #720]
@@ -5665,7 +5665,7 @@
 	stp	q0, q0, [x9, #544]
 	cbz	w8, .LBB8_1021
 	add	x0, sp, #688
-	bl	"pkcs1::view::quick_others"
+	bl	"pkcs1::viewed_key::quick_others"
 	ldrb	w8, [sp, #688]
 	cmp	w8, #1
 	b.ne	.LBB8_1024
@@ -5748,7 +5748,7 @@
 	add	x0, sp, #720
 	mov	x2, x24
 	mov	x23, x1
-	bl	"der_core::decode::read_slowly::<#025ef17fb6cfc887>"
+	bl	"der_core::decode::read_slowly::<#746ba62194330879>"
 	ldur	q0, [x28, #136]
 	ldur	q1, [x28, #152]
 	ldrb	w8, [sp, #720]
@@ -6187,7 +6187,7 @@
 	b.hs	.LBB9_33
 .LBB9_56:
 	add	x0, sp, #48
-	bl	"der_core::decode::read_slowly::<#f6b5580abe373ff8>"
+	bl	"der_core::decode::read_slowly::<#963873ccf5d50ada>"
 	ldur	q0, [sp, #56]
 	ldrb	w11, [sp, #48]
 	ldrb	w10, [sp, #49]
@@ -6244,10 +6244,10 @@
 	.zero	1
 	.zero	1
 	.zero	1
-	.section	".text.unlikely.der_core::decode::read_slowly::<#f6b5580abe373ff8>","ax",@progbits
+	.section	".text.unlikely.der_core::decode::read_slowly::<#963873ccf5d50ada>","ax",@progbits
 	.p2align	2
-	.type	"der_core::decode::read_slowly::<#f6b5580abe373ff8>",@function
-"der_core::decode::read_slowly::<#f6b5580abe373ff8>":
+	.type	"der_core::decode::read_slowly::<#963873ccf5d50ada>",@function
+"der_core::decode::read_slowly::<#963873ccf5d50ada>":
 	.cfi_startproc
 	lsr	x8, x2, #32
 	cbnz	x8, .LBB10_9
@@ -6623,7 +6623,7 @@
 .LBB10_112:
 	brk	#0x1
 .Lfunc_end10:
-	.size	"der_core::decode::read_slowly::<#f6b5580abe373ff8>", .Lfunc_end10-"der_core::decode::read_slowly::<#f6b5580abe373ff8>"
+	.size	"der_core::decode::read_slowly::<#963873ccf5d50ada>", .Lfunc_end10-"der_core::decode::read_slowly::<#963873ccf5d50ada>"
 	.cfi_endproc
 
 	.section	".text.pkcs1_program::digits::put_hex","ax",@progbits
@@ -6747,10 +6747,10 @@
 	.size	"pkcs1_program::digits::put_hex", .Lfunc_end11-"pkcs1_program::digits::put_hex"
 	.cfi_endproc
 
-	.section	".text.pkcs1::view::quick_others","ax",@progbits
+	.section	".text.pkcs1::viewed_key::quick_others","ax",@progbits
 	.p2align	2
-	.type	"pkcs1::view::quick_others",@function
-"pkcs1::view::quick_others":
+	.type	"pkcs1::viewed_key::quick_others",@function
+"pkcs1::viewed_key::quick_others":
 	.cfi_startproc
 	cbz	x2, .LBB12_90
 	ldrb	w8, [x1]
@@ -7017,7 +7017,7 @@
 	cbnz	x9, .LBB12_6
 	b	.LBB12_79
 .Lfunc_end12:
-	.size	"pkcs1::view::quick_others", .Lfunc_end12-"pkcs1::view::quick_others"
+	.size	"pkcs1::viewed_key::quick_others", .Lfunc_end12-"pkcs1::viewed_key::quick_others"
 	.cfi_endproc
 
 	.section	.rodata.cst8,"aM",@progbits,8
@@ -7040,10 +7040,10 @@
 	.zero	1
 	.zero	1
 	.zero	1
-	.section	".text.unlikely.der_core::decode::read_slowly::<#025ef17fb6cfc887>","ax",@progbits
+	.section	".text.unlikely.der_core::decode::read_slowly::<#746ba62194330879>","ax",@progbits
 	.p2align	2
-	.type	"der_core::decode::read_slowly::<#025ef17fb6cfc887>",@function
-"der_core::decode::read_slowly::<#025ef17fb6cfc887>":
+	.type	"der_core::decode::read_slowly::<#746ba62194330879>",@function
+"der_core::decode::read_slowly::<#746ba62194330879>":
 	.cfi_startproc
 	sub	sp, sp, #368
 	lsr	x8, x2, #32
@@ -8308,7 +8308,7 @@
 	stur	q0, [x20, #152]
 	b	.LBB13_10
 .Lfunc_end13:
-	.size	"der_core::decode::read_slowly::<#025ef17fb6cfc887>", .Lfunc_end13-"der_core::decode::read_slowly::<#025ef17fb6cfc887>"
+	.size	"der_core::decode::read_slowly::<#746ba62194330879>", .Lfunc_end13-"der_core::decode::read_slowly::<#746ba62194330879>"
 	.cfi_endproc
 
 	.section	".text.pkcs1::other_primes::OtherPrimesDecodeValueRefSliceU8::decode_value::<#dd378bceb3d120f2>","ax",@progbits
@@ -33972,11 +33972,11 @@ pkcs1_tool_main:
 	mov	x0, x19
 	bl	pkcs1_rattle_dealloc
 .LBB69_29:
-	ldp	x26, x27, [x28, #368]
+	ldp	x23, x27, [x28, #368]
 	sub	x10, x29, #24
-	ldr	x23, [x28, #384]
+	ldr	x26, [x28, #384]
 	cmp	x27, #0
-	add	x9, x26, #24
+	add	x9, x23, #24
 	cset	w8, ne
 	csel	x19, x10, x9, eq
 	sub	x8, x27, x8
@@ -34461,24 +34461,21 @@ pkcs1_tool_main:
 	str	xzr, [x28, #376]
 	str	w8, [x28, #368]
 	stp	q0, q0, [x28, #640]
-	str	q0, [sp, #192]
-	str	q0, [x25, #16]
-	str	xzr, [sp, #224]
 	bl	"pkcs1_program::sequence::read_sequence::<#7bddbfc0ec190683>"
 	ldrb	w8, [x28, #640]
 	cbz	w8, .LBB69_349
-	stp	x21, x24, [sp, #40]
-	ldrb	w23, [x28, #643]
-	ldrb	w25, [x28, #642]
-	ldrb	w24, [x28, #641]
+	stp	x24, x21, [sp, #40]
 	mov	x21, x20
 	mov	x20, x26
-	mov	w26, wzr
+	ldrb	w23, [x28, #643]
+	ldrb	w25, [x28, #642]
+	ldrb	w26, [x28, #641]
+	mov	w24, wzr
 .LBB69_122:
-	orr	w8, w26, w24, lsl #8
+	orr	w8, w24, w26, lsl #8
 	mov	x26, x20
 	mov	x20, x21
-	ldp	x21, x24, [sp, #40]
+	ldp	x24, x21, [sp, #40]
 	mov	w22, wzr
 	orr	w8, w8, w25, lsl #16
 	mov	w19, wzr
@@ -35440,7 +35437,7 @@ pkcs1_tool_main:
 	add	x0, sp, #16, lsl #12
 	add	x1, sp, #16, lsl #12
 	add	x0, x0, #288
-	str	x24, [sp, #48]
+	str	x26, [sp, #48]
 	add	x1, x1, #240
 	str	xzr, [x28, #56]
 	stp	w8, wzr, [x28, #48]
@@ -35452,11 +35449,11 @@ pkcs1_tool_main:
 	cbz	w8, .LBB69_357
 	ldrb	w19, [x28, #99]
 	ldrb	w23, [x28, #98]
-	ldrb	w24, [x28, #97]
+	ldrb	w26, [x28, #97]
 .LBB69_343:
-	lsl	w8, w24, #8
+	lsl	w8, w26, #8
 	orr	w8, w8, w23, lsl #16
-	ldp	x24, x23, [sp, #48]
+	ldp	x26, x23, [sp, #48]
 	orr	w22, w8, w19, lsl #24
 	mov	w19, wzr
 	ldr	w0, [x28, #48]
@@ -35499,22 +35496,26 @@ pkcs1_tool_main:
 	mov	w20, #21
 	b	.LBB69_83
 .LBB69_349:
+	movi	v0.2d, #0000000000000000
 	ldr	x22, [x28, #648]
 	ldr	x23, [x28, #656]
-	add	x0, sp, #192
 	ldr	x19, [x28, #664]
+	add	x0, sp, #192
+	str	xzr, [sp, #224]
 	mov	x1, x22
 	mov	x2, x23
+	str	q0, [x25, #16]
+	str	q0, [sp, #192]
 	bl	"pkcs1::public_key::RsaPublicKeyUintRefTryFromRefSliceU8::try_from"
 	ldrb	w8, [sp, #192]
 	cbz	w8, .LBB69_361
-	stp	x21, x24, [sp, #40]
+	stp	x24, x21, [sp, #40]
 	mov	x21, x20
 	mov	x20, x26
-	ldrb	w26, [sp, #193]
-	ldrb	w24, [sp, #194]
-	ldrb	w25, [sp, #195]
 	ldrb	w23, [sp, #196]
+	ldrb	w25, [sp, #195]
+	ldrb	w26, [sp, #194]
+	ldrb	w24, [sp, #193]
 	cbz	x19, .LBB69_122
 	mov	x0, x22
 	bl	pkcs1_rattle_dealloc
@@ -36140,7 +36141,7 @@ pkcs1_tool_main:
 	cbz	w8, .LBB69_565
 	add	x0, sp, #16, lsl #12
 	add	x0, x0, #560
-	bl	"pkcs1::view::quick_others"
+	bl	"pkcs1::viewed_key::quick_others"
 	ldrb	w8, [x28, #368]
 	cmp	w8, #1
 	b.eq	.LBB69_569
@@ -36151,10 +36152,10 @@ pkcs1_tool_main:
 	add	x0, sp, #192
 	mov	x1, x22
 	mov	x2, x23
-	bl	"der_core::decode::read_slowly::<#025ef17fb6cfc887>"
+	bl	"der_core::decode::read_slowly::<#746ba62194330879>"
 	ldrb	w8, [sp, #192]
 	cbz	w8, .LBB69_569
-	ldrb	w24, [sp, #193]
+	ldrb	w26, [sp, #193]
 	ldrb	w23, [sp, #194]
 	ldrb	w19, [sp, #195]
 	cbz	x25, .LBB69_343
@@ -36164,7 +36165,6 @@ pkcs1_tool_main:
 .LBB69_569:
 	sub	x8, x29, #24
 	ldr	x9, [sp, #64]
-	ldr	x24, [sp, #48]
 	add	x0, sp, #16, lsl #12
 	str	x8, [x28, #640]
 	mov	w8, #1
@@ -36179,6 +36179,7 @@ pkcs1_tool_main:
 	bl	"pkcs1_program::place::FileAtPlace::write::<#63fd06c64af5a428>"
 	tst	w0, #0xff
 	b.eq	.LBB69_573
+	ldr	x26, [sp, #48]
 	mov	w23, w1
 	cbz	x25, .LBB69_572
 	mov	x0, x22
@@ -36189,6 +36190,7 @@ pkcs1_tool_main:
 	mov	w19, #1
 	b	.LBB69_576
 .LBB69_573:
+	ldr	x26, [sp, #48]
 	cbz	x25, .LBB69_575
 	mov	x0, x22
 	bl	pkcs1_rattle_dealloc
@@ -36231,7 +36233,7 @@ pkcs1_tool_main:
 	eor	w20, w0, #0x1
 .LBB69_581:
 	cbz	x27, .LBB69_586
-	add	x19, x26, #16
+	add	x19, x23, #16
 	b	.LBB69_584
 .LBB69_583:
 	subs	x27, x27, #1
@@ -36244,8 +36246,8 @@ pkcs1_tool_main:
 	bl	pkcs1_rattle_dealloc
 	b	.LBB69_583
 .LBB69_586:
-	cbz	x23, .LBB69_588
-	mov	x0, x26
+	cbz	x26, .LBB69_588
+	mov	x0, x23
 	bl	pkcs1_rattle_dealloc
 .LBB69_588:
 	mov	w0, w20

@@ -5026,7 +5026,7 @@
 	movq	%rsi, %r15
 	leaq	1296(%rsp), %rdi
 	movq	%rax, %rsi
-	callq	"pkcs1::view::quick_others"
+	callq	"pkcs1::viewed_key::quick_others"
 	cmpb	$1, 1296(%rsp)
 	jne	.LBB7_1027
 	movq	1320(%rsp), %rax
@@ -5628,7 +5628,7 @@
 	leaq	96(%rsp), %rdi
 	movq	%rsi, %r15
 	movq	%r14, %rdx
-	callq	"der_core::decode::read_slowly::<#025ef17fb6cfc887>"
+	callq	"der_core::decode::read_slowly::<#746ba62194330879>"
 	leaq	104(%rsp), %rsi
 	leaq	372(%rsp), %rdi
 	movzbl	96(%rsp), %ebx
@@ -5871,7 +5871,7 @@
 	testb	%al, %al
 	je	.LBB7_1079
 	leaq	576(%rsp), %rdi
-	callq	"pkcs1::view::quick_others"
+	callq	"pkcs1::viewed_key::quick_others"
 	cmpb	$1, 576(%rsp)
 	jne	.LBB7_1082
 	movq	600(%rsp), %rax
@@ -5940,7 +5940,7 @@
 	leaq	96(%rsp), %rdi
 	movq	%rdx, %r12
 	movq	%rsi, %rbp
-	callq	"der_core::decode::read_slowly::<#025ef17fb6cfc887>"
+	callq	"der_core::decode::read_slowly::<#746ba62194330879>"
 	leaq	104(%rsp), %rsi
 	leaq	372(%rsp), %rdi
 	movzbl	96(%rsp), %ebx
@@ -6370,7 +6370,7 @@
 	je	.LBB8_59
 .LBB8_61:
 	movq	%rsp, %rdi
-	callq	"der_core::decode::read_slowly::<#f6b5580abe373ff8>"
+	callq	"der_core::decode::read_slowly::<#963873ccf5d50ada>"
 	movzbl	1(%rsp), %eax
 	movzbl	2(%rsp), %ecx
 	movzbl	3(%rsp), %edx
@@ -6413,10 +6413,10 @@
 	.size	"pkcs1::public_key::RsaPublicKeyUintRefTryFromRefSliceU8::try_from", .Lfunc_end8-"pkcs1::public_key::RsaPublicKeyUintRefTryFromRefSliceU8::try_from"
 	.cfi_endproc
 
-	.section	".text.unlikely.der_core::decode::read_slowly::<#f6b5580abe373ff8>","ax",@progbits
+	.section	".text.unlikely.der_core::decode::read_slowly::<#963873ccf5d50ada>","ax",@progbits
 	.p2align	4
-	.type	"der_core::decode::read_slowly::<#f6b5580abe373ff8>",@function
-"der_core::decode::read_slowly::<#f6b5580abe373ff8>":
+	.type	"der_core::decode::read_slowly::<#963873ccf5d50ada>",@function
+"der_core::decode::read_slowly::<#963873ccf5d50ada>":
 	.cfi_startproc
 	pushq	%rbp
 	.cfi_def_cfa_offset 16
@@ -6805,7 +6805,7 @@
 .LBB9_105:
 	ud2
 .Lfunc_end9:
-	.size	"der_core::decode::read_slowly::<#f6b5580abe373ff8>", .Lfunc_end9-"der_core::decode::read_slowly::<#f6b5580abe373ff8>"
+	.size	"der_core::decode::read_slowly::<#963873ccf5d50ada>", .Lfunc_end9-"der_core::decode::read_slowly::<#963873ccf5d50ada>"
 	.cfi_endproc
 
 	.section	".text.pkcs1_program::digits::put_hex","ax",@progbits
@@ -6976,10 +6976,10 @@
 	.size	"pkcs1_program::digits::put_hex", .Lfunc_end10-"pkcs1_program::digits::put_hex"
 	.cfi_endproc
 
-	.section	".text.pkcs1::view::quick_others","ax",@progbits
+	.section	".text.pkcs1::viewed_key::quick_others","ax",@progbits
 	.p2align	4
-	.type	"pkcs1::view::quick_others",@function
-"pkcs1::view::quick_others":
+	.type	"pkcs1::viewed_key::quick_others",@function
+"pkcs1::viewed_key::quick_others":
 	.cfi_startproc
 	pushq	%r15
 	.cfi_def_cfa_offset 16
@@ -7318,13 +7318,13 @@
 	movq	%rdx, 24(%rdi)
 	jmp	.LBB11_3
 .Lfunc_end11:
-	.size	"pkcs1::view::quick_others", .Lfunc_end11-"pkcs1::view::quick_others"
+	.size	"pkcs1::viewed_key::quick_others", .Lfunc_end11-"pkcs1::viewed_key::quick_others"
 	.cfi_endproc
 
-	.section	".text.unlikely.der_core::decode::read_slowly::<#025ef17fb6cfc887>","ax",@progbits
+	.section	".text.unlikely.der_core::decode::read_slowly::<#746ba62194330879>","ax",@progbits
 	.p2align	4
-	.type	"der_core::decode::read_slowly::<#025ef17fb6cfc887>",@function
-"der_core::decode::read_slowly::<#025ef17fb6cfc887>":
+	.type	"der_core::decode::read_slowly::<#746ba62194330879>",@function
+"der_core::decode::read_slowly::<#746ba62194330879>":
 	.cfi_startproc
 	pushq	%rbp
 	.cfi_def_cfa_offset 16
@@ -8723,7 +8723,7 @@
 	movups	%xmm0, 152(%rbx)
 	jmp	.LBB12_11
 .Lfunc_end12:
-	.size	"der_core::decode::read_slowly::<#025ef17fb6cfc887>", .Lfunc_end12-"der_core::decode::read_slowly::<#025ef17fb6cfc887>"
+	.size	"der_core::decode::read_slowly::<#746ba62194330879>", .Lfunc_end12-"der_core::decode::read_slowly::<#746ba62194330879>"
 	.cfi_endproc
 
 	.section	".text.pkcs1::other_primes::OtherPrimesDecodeValueRefSliceU8::decode_value::<#dd378bceb3d120f2>","ax",@progbits
@@ -37130,11 +37130,8 @@ pkcs1_tool_main:
 	movl	$0, 356(%rsp)
 	movq	$0, 360(%rsp)
 	pxor	%xmm0, %xmm0
-	movdqa	%xmm0, 896(%rsp)
 	movdqa	%xmm0, 912(%rsp)
-	movdqa	%xmm0, 2032(%rsp)
-	movdqa	%xmm0, 2048(%rsp)
-	movq	$0, 2064(%rsp)
+	movdqa	%xmm0, 896(%rsp)
 	leaq	896(%rsp), %rdi
 	leaq	352(%rsp), %rsi
 	callq	"pkcs1_program::sequence::read_sequence::<#7bddbfc0ec190683>"
@@ -37322,6 +37319,10 @@ pkcs1_tool_main:
 	movq	912(%rsp), %r13
 	movq	920(%rsp), %rax
 	movq	%rax, 16(%rsp)
+	pxor	%xmm0, %xmm0
+	movdqa	%xmm0, 2048(%rsp)
+	movdqa	%xmm0, 2032(%rsp)
+	movq	$0, 2064(%rsp)
 	leaq	2032(%rsp), %rdi
 	movq	%rsi, 96(%rsp)
 	movq	%r13, %rdx
@@ -37329,10 +37330,10 @@ pkcs1_tool_main:
 	cmpb	$0, 2032(%rsp)
 	je	.LBB68_411
 	movq	%r12, 8(%rsp)
+	movzbl	2036(%rsp), %ebp
+	movzbl	2035(%rsp), %r15d
 	movzbl	2033(%rsp), %r12d
 	movzbl	2034(%rsp), %r13d
-	movzbl	2035(%rsp), %r15d
-	movzbl	2036(%rsp), %ebp
 	cmpq	$0, 16(%rsp)
 	je	.LBB68_374
 	movq	96(%rsp), %rdi
@@ -38037,7 +38038,7 @@ pkcs1_tool_main:
 	testb	%al, %al
 	je	.LBB68_617
 	leaq	352(%rsp), %rdi
-	callq	"pkcs1::view::quick_others"
+	callq	"pkcs1::viewed_key::quick_others"
 	cmpb	$1, 352(%rsp)
 	je	.LBB68_621
 	jmp	.LBB68_618
@@ -38048,7 +38049,7 @@ pkcs1_tool_main:
 	leaq	2032(%rsp), %rdi
 	movq	16(%rsp), %rsi
 	movq	%r13, %rdx
-	callq	"der_core::decode::read_slowly::<#025ef17fb6cfc887>"
+	callq	"der_core::decode::read_slowly::<#746ba62194330879>"
 	cmpb	$0, 2032(%rsp)
 	je	.LBB68_621
 	movzbl	2033(%rsp), %r12d
