@@ -1,5 +1,4 @@
 pub mod Signature
 pub mod Salt
 pub mod Numbers
-pub mod SpkiKeys
 pub mod KeyStore

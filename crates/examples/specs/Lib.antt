@@ -6,6 +6,4 @@ pub mod Extension
 pub mod NumberList
 pub mod Fnv
 pub mod KeyStore
-pub mod FixedOctets
-pub mod InBits
-pub mod SpkiKeys
+pub mod ImplicitPair

@@ -2,8 +2,8 @@
 use crate::told::{PrintedError, Told};
 use der_core::Result;
 use examples::{
-    Bytes, StoreError, Taken, copy_long_keys, key_from_spki, key_to_spki, read_digest_info,
-    read_dsa_algorithm, read_extension, write_digest_info, write_dsa_algorithm, write_extension,
+    Bytes, StoreError, Taken, copy_long_keys, read_digest_info, read_dsa_algorithm, read_extension,
+    read_pair, write_digest_info, write_dsa_algorithm, write_extension, write_pair,
 };
 
 /// More octets than a row here has.
@@ -62,14 +62,14 @@ pub fn dsa_algorithm(to: &mut Told, bytes: &[u8]) {
     }
 }
 
-/// `spki HEX`: the modulus of the RSA key in it, and it again.
-pub fn spki(to: &mut Told, bytes: &[u8]) {
+/// `implicit-pair HEX`: the first number, and the pair again.
+pub fn implicit_pair(to: &mut Told, bytes: &[u8]) {
     let mut out = [0; ROOM];
-    match key_from_spki(bytes) {
-        Ok(key) => {
-            to.octets(key.modulus.as_bytes());
+    match read_pair(bytes) {
+        Ok(pair) => {
+            to.octets(pair.first.as_bytes());
             to.gap();
-            let count = key_to_spki(&key, &mut out);
+            let count = write_pair(&pair, &mut out);
             written_again(to, &out, count);
         }
         Err(error) => error.told(to),

@@ -122,7 +122,7 @@ fn of_record_text(to: &mut Told, word: &str, bytes: &[u8]) -> bool {
         "extension" => records::extension(to, bytes),
         "digest-info" => records::digest_info(to, bytes),
         "dsa" => records::dsa_algorithm(to, bytes),
-        "spki" => records::spki(to, bytes),
+        "implicit-pair" => records::implicit_pair(to, bytes),
         "key-store" => records::key_store(to, bytes),
         _ => return false,
     }
