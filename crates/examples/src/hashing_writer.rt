@@ -1,6 +1,7 @@
 //! A writer of one's own that forgets its octets: a hash of an encoding, made while it is written.
 ghost use Rattle.std.specs.Prelude.{◌≡◌, List, None, [], ℕ, ⊤, IfErr, IfOk};
-ghost use Rattle.der_core.specs.Words.{IsShortest, Prints, WhyNotCounted, encode_error};
+ghost use Rattle.standard.specs.Statement.{IsShortest};
+ghost use Rattle.der_core.specs.Words.{Prints, Spells, WhyNotCounted, encode_error};
 ghost use Rattle.examples.specs.Fnv.{fnv};
 
 use der_core::{Encode, Result, Writer};
@@ -42,7 +43,7 @@ impl Writer for HashingWriter {
 
 /// The hash of a value's shortest encoding, which never stands in memory.
 pub fn hash_of<T: Encode>(value: &T) -> Result<u32>
-    ensures ok { let encodings = Prints T.valid T.printed T.means in
+    ensures ok { let encodings = Spells T.valid T.printed T.means in
         IfOk result (λ hash. (encoding : List ℕ) × IsShortest encodings (T.value value.now) encoding
         × (hash ≡ fnv encoding)) }
     ensures err { let v = T.value value.now in let encodings = Prints T.valid T.printed T.means in
