@@ -1,4 +1,4 @@
--- Documents, read and made.
+-- Documents, read and made: for `from_der`, `read_from` and `encode_msg` of `src/document.rt`.
 use Rattle.std.proofs.Common.{ℕ, List, ◌∷◌, ◌≡◌, ◌≤◌, length, take, ◌++◌, ◌∙◌, arith, refl, sym, subst, ap, ⊎_elim, Option, Err, [], map, Ok}
 use Rattle.std.proofs.Math.Seq.{take-append_seam}
 use Rattle.der_core.specs.Words.{AreBytes, Tlv, tlv, length_octets, limit, WithinLimit, IsDocument, GivesNone, Prints, read_document, GivesAll, NoValueOrMemory, AllocatesIn, TellsOfBytes, ErrorKind, length_octets-only, tlv_made, back_bytes, header_at, length_at, null_tag, sequence_tag}
@@ -8,6 +8,7 @@ use Rattle.der_core.specs.declared.error.ErrorKind.TheVariants.{Incomplete, TagU
 abbrev pub DocumentPrints : Unit {0} → List ℕ → Type 0
 DocumentPrints = Prints AreBytes (λ o. tlv 48 o) (λ (_ : List ℕ). let v : Unit {0} = tt in v)
 
+-- What `IsDocument` says, and what is printed within the limit, are the same.
 document_means : (b : List ℕ) → IsDocument b → (v : Unit {0}) → WithinLimit DocumentPrints v b
 document_means b (few, p) v = (
   few,

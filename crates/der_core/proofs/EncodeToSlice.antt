@@ -1,4 +1,4 @@
--- What a call leaves in the slice that it answers the front of, from what the calls in it say.
+-- What `encode_to_slice` leaves in the slice that it answers the front of, from what the calls in it say.
 use Rattle.std.proofs.Common.{ℕ, List, ◌∷◌, ◌≡◌, ◌≤◌, length, take, ◌++◌, ◌∙◌, arith, sym, subst, ap, Err, [], Ok, drop, Result, IfOk, IfErr, OnOk, OnErr, MatchResult, length-append, length-take, Bor, MutBor}
 use Rattle.std.proofs.Math.Seq.{take-append_seam}
 use Rattle.der_core.specs.Words.{Error, IsFront, RefusedAs, SliceRests, Tag}
@@ -31,12 +31,14 @@ abbrev pub Wrote : {E : Type 0} → List ℕ → List ℕ → List ℕ → Resul
 Wrote encoding xs ys r = IfOk r (λ n. (n ≡ length encoding) × (ys ≡ encoding ++ drop n xs))
 
 module _ {E : Type 0} (encoding xs ys : List ℕ) where
+  -- The length that is returned is no more than the slice's.
   pub written_fits : (r : Result ℕ E) → Wrote encoding xs ys r → IfOk r (λ n. n ≤ length ys)
   written_fits (Ok n) w =
       let l : length ys ≡ length (encoding ++ drop n xs) =
       ap length w.1 in let k = length-append encoding (drop n xs) in let e = w.0 in omega arith
   written_fits (Err e) w = tt
 
+  -- After Ok the encoding stands in front of the rest. After an error all is as it was.
   pub leaves_rest : (r : Result ℕ E) (t : Result (Bor (List ℕ)) E) → Wrote encoding xs ys r → OnErr r (ys ≡ xs)
       → IsFront ys r t
       → MatchResult t (λ _. ys ≡ encoding ++ drop (length encoding) xs) (λ _. ys ≡ xs)
@@ -45,6 +47,7 @@ module _ {E : Type 0} (encoding xs ys : List ℕ) where
   leaves_rest (Err e) (Ok front) w k a = absurd a
   leaves_rest (Err e) (Err e') w k a = k
 
+  -- What holds of the encoding, if something does after Ok, holds of the front that is answered.
   pub front_holds : (H : Type 0) (P : List ℕ → Type 0) → (H → P encoding)
       → (r : Result ℕ E) (t : Result (Bor (List ℕ)) E)
       → Wrote encoding xs ys r → OnOk r H → IsFront ys r t → IfOk t (λ front. P front.now)
@@ -55,6 +58,7 @@ module _ {E : Type 0} (encoding xs ys : List ℕ) where
   front_holds H P f (Err e) (Ok front) w h a = absurd a
   front_holds H P f (Err e) (Err e') w h a = tt
 
+  -- The front is no longer than the slice was.
   pub front_within : length ys ≡ length xs → (r : Result ℕ E) (t : Result (Bor (List ℕ)) E) → IsFront ys r t
       → IfOk t (λ front. length front.now ≤ length xs)
   front_within l (Ok n) (Ok front) a = rw a (omega (arith, length-take n ys))
@@ -62,6 +66,7 @@ module _ {E : Type 0} (encoding xs ys : List ℕ) where
   front_within l (Err e) (Ok front) a = absurd a
   front_within l (Err e) (Err e') a = tt
 
+-- What holds of the inner call's error holds of the one that is answered.
 pub front_error_kept : {E : Type 0} (ys : List ℕ) (Q : E → Type 0) (r : Result ℕ E) (t : Result (Bor (List ℕ)) E)
     → IfErr r Q
     → IsFront ys r t → IfErr t Q
@@ -70,6 +75,7 @@ front_error_kept ys Q (Ok n) (Err e) h a = absurd a
 front_error_kept ys Q (Err e) (Ok front) h a = absurd a
 front_error_kept ys Q (Err e) (Err e') h a = subst Q (sym a) h
 
+-- It is refused with the same tag.
 pub front_refused : {Tags : Tag → Type 0} (ys : List ℕ) (r : Result ℕ Error) (t : Result (Bor (List ℕ)) Error)
     → RefusedAs Tags r → IsFront ys r t → RefusedAs Tags t
 front_refused ys (Ok n) (Ok front) h a tag e = cc

@@ -1,4 +1,5 @@
--- What an `==` that is true tells of errors.
+-- What an `==` that is true tells of errors: for `lemma_kinds_compare_by_value`, and of `pkcs1`
+-- `lemma_errors_compare_by_value`.
 use Rattle.std.proofs.Common.{ℕ, ◌≡◌, ◌&&◌, Bool, true, false, refl, eqb, ap, subst, Decides, eqb-true, eq-eqb}
 use Rattle.der_core.specs.Words.{ErrorKind, and_decides, number_decides, same_tag}
 use Rattle.der_core.specs.declared.error.ErrorKind.TheVariants as kind
@@ -9,6 +10,7 @@ pub equality_decides : {K : Type 0} (E : K → K → Bool) → ((a : K) → E a 
     → (a b : K) → Decides (E a b) (a ≡ b)
 equality_decides E itself tells a b = (tells a b, λ e. subst (λ x. E a x ≡ true) e (itself a))
 
+-- Two numbers are compared with two others.
 pairs_decide : (k l m n : ℕ) → Decides (eqb k m && eqb l n) ((k ≡ m) × (l ≡ n))
 pairs_decide k l m n =
     and_decides (number_decides k m) (number_decides l n) (λ first second. (first, second)) (λ p. p.0) (λ p. p.1)
@@ -24,6 +26,7 @@ kind_equals_itself a = refl
 pub false_is_not_true : {A : Type 0} → ◌≡◌ {A = Bool} false true → A
 false_is_not_true e = cc
 
+-- Kinds that compare as equal are the same.
 pub kind_tells : (a b : ErrorKind) → ghosts.eq a b ≡ true → a ≡ b
 kind_tells kind.Failed kind.Failed e = refl
 kind_tells kind.Incomplete kind.Incomplete e = refl

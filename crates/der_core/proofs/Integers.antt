@@ -1,4 +1,4 @@
--- INTEGER: faults of its contents, worked examples, its length, bit lengths, numbers above 255.
+-- INTEGER: faults of its contents, worked examples, its length, bit lengths, numbers above 255. For `src/integer`.
 use Rattle.std.proofs.Common.{take_all, ℕ, suc, List, [], ◌∷◌, ◌≡◌, ◌<◌, ◌≤◌, ◌-◌, length, get_or, take, drop, arith, sym, ap, ◌∙◌, Err, true, false, nat_lt, ◌==◌, map, refl, Ok, ◌+◌, Result, IfOk, IfErr, slice_index, zero, ◌*◌, ◌^◌, inl, inr, lit<, mul-le-mul_right, zero-le, pow-add}
 use Rattle.der_core.specs.Words.{HoldsNumber, nat_tests, Tag, ErrorKind, integer_of, integer_tag, same_tag, limit, number_from_digits, integer_contents, number_contents_as, number_contents, holds_canonical, Counts, Error, IsBitLength, are_bytes, after_ge, base256_ge, small_of}
 use Rattle.der_core.specs.declared.error.ErrorKind.TheVariants as kind
@@ -86,6 +86,7 @@ pub contents_length_large : (bytes : List ℕ) → 128 ≤ slice_index bytes 0
 contents_length_large bytes h =
     let e : nat_lt (slice_index bytes 0) 128 ≡ false = grind (arith, nat_tests) in rw e (omega arith)
 
+-- A call that returns this length, or `Overflow` where it passes the limit, counts what is printed of the number.
 pub counts_integer : (bytes : List ℕ) (r : Result ℕ Error) (n : ℕ) → HoldsNumber bytes
     → n ≡ length (integer_contents bytes)
     → IfOk r (λ m. (m ≡ n) × (n ≤ limit)) → IfErr r (λ e. (e.kind ≡ Overflow) × (limit < n))
@@ -126,6 +127,7 @@ bit_length_from_first first j k n low high least most = (below, fewest)
       | inr l ↦ l
     ]
 
+-- So it is eight bits for each byte, without the zero bits in front of the first one.
 pub number_bit_length : (bytes : List ℕ) → HoldsNumber bytes
     → IsBitLength (number_from_digits 256 bytes) (8 * length bytes - count_leading_zeros 8 (slice_index bytes 0))
 number_bit_length [] h = absurd (omega (arith, h.0))
@@ -157,6 +159,7 @@ number_of_bytes_large (x ∷ xs) h l =
     let up : 256 ^ 1 ≤ 256 ^ length xs = pow-le-pow_right positive one in
     omega arith
 
+-- So it has the fault of a value.
 pub small_of_large : (xs bytes : List ℕ) (k : ErrorKind) (t : Tag) → integer_of xs ≡ Ok bytes → HoldsNumber bytes
     → 1 < length bytes → k ≡ kind.Value t → t.octet ≡ 2 → small_of xs ≡ Err k
 small_of_large xs bytes k t read h l e o =

@@ -1,4 +1,5 @@
--- Length octets: which they are, worked rows, and how lengths and headers are read.
+-- Length octets: which they are, worked rows, and how lengths and headers are read. For `src/length.rt` and
+-- `src/header.rt`.
 use Rattle.std.proofs.Common.{◌/◌, ◌%◌, ℕ, [], ◌∷◌, ◌≡◌, ◌<◌, ◌≤◌, refl, sym, arith, List, map, Ok, Err, ◌++◌, inr, ap, ◌∙◌, Result, Some, None}
 use Rattle.der_core.specs.Words.{IsLength, long, length_octets, length_octets-only, length_octets-short, length_at, ErrorKind, AreBytes, LengthEncoding, HeaderEncoding, ReadsEncoding, TellsOfBytes, Error, Input, left_in, Reads, header_at, length_at-sound, length_at-complete, header_at-complete, length_at-tells, header_at-tells, header_sound}
 use Rattle.der_core.specs.declared.error.ErrorKind.TheVariants.{Incomplete, IndefiniteLength, Overflow, Overlength}
@@ -32,6 +33,7 @@ length_4 n h l =
       no_leading_zero = omega arith;
     }) refl
 
+-- So these are what `length_octets` gives.
 pub length_octets-1 : (n : ℕ) → 128 ≤ n → n < 256 → length_octets n ≡ 129 ∷ n ∷ []
 length_octets-1 n h l = sym (length_octets-only n (129 ∷ n ∷ []) (length_1 n h l))
 
@@ -123,6 +125,7 @@ length_sound : (i rest : List ℕ) (n : ℕ) → AreBytes i → length_at i ≡ 
     → (b : List ℕ) × (i ≡ b ++ rest) × LengthEncoding n b
 length_sound i rest n bytes e = let p = length_at-sound i rest n bytes e in (p.0, p.2, (p.3, p.1))
 
+-- A call that returns a length.
 pub length_reads : {X : Type 0} (view : X → ℕ) (r : Result X Error) (before after : Input) → AreBytes (left_in before)
     → Reads view r before after length_at → ReadsEncoding view LengthEncoding (λ _. ⊥) r before after
 length_reads =
@@ -132,6 +135,7 @@ length_reads =
 pub header_complete : (h : ℕ × ℕ) (b rest : List ℕ) → HeaderEncoding h b → header_at (b ++ rest) ≡ Ok (h, rest)
 header_complete h b rest t = rw t.3 (header_at-complete h.0 h.1 t.1 rest t.0 t.2.1 t.2.0)
 
+-- A call that returns a header.
 pub header_reads : {X : Type 0} (view : X → ℕ × ℕ) (r : Result X Error) (before after : Input)
     → AreBytes (left_in before) → Reads view r before after header_at
     → ReadsEncoding view HeaderEncoding (λ _. ⊥) r before after

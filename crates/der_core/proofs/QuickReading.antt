@@ -1,4 +1,5 @@
--- Quick reading: what it takes is what the functions of reading give.
+-- Quick reading: what it takes is what the functions of reading give. For `src/quick.rt`, and the quick functions of
+-- numbers, of `AnyRef` and of fields.
 use Rattle.std.proofs.Common.{ℕ, suc, true, false, List, [], ◌∷◌, ◌≡◌, ◌≤◌, ◌<◌, ◌-◌, ◌+◌, ◌*◌, length, take, drop, refl, sym, ap, ◌∙◌, arith, Ok, Option, Some, None, slice_index_or, take_all, ⊎_elim, nat_lt, ◌==◌, MatchOption, IfSome}
 use Rattle.der_core.specs.Words.{nat_tests, number_from_digits, Tag, front_of, header_at, length_at, HoldsNumber, ok_pair, cond_cases, length_at-complete, bind_ok, unexpected_not, IsBase256, IsLength, short, long, Reading, ◌>>=◌, by_tag, contents_behind, inside, octets_of_all, tagged, is_allowed}
 use Rattle.std.specs.List.{IsSplitAt}
@@ -49,6 +50,7 @@ header_at_length : (t n : ℕ) (b rest : List ℕ) → is_allowed t ≡ true →
 unfolding header_at
 header_at_length t n b rest allowed read = rw (allowed, read) refl
 
+-- The contents are split off.
 split_there : (tag : Tag) (n : ℕ) (b front back : List ℕ) → IsSplitAt b n front back
     → contents_behind tag ((tag.octet, n), b) ≡ Ok (front, back)
 split_there tag n b front back (within, is_front, is_back, front_len, back_len) =
@@ -56,6 +58,7 @@ split_there tag n b front back (within, is_front, is_back, front_len, back_len) 
     let enough : nat_lt (length b) n ≡ false = grind (arith, nat_tests, within) in
     rw (is, enough) (ap (λ x. Ok (x, drop n b)) (sym is_front) ∙ ap (λ y. Ok (front, y)) (sym is_back))
 
+-- So a whole encoding is read at the front.
 tag_in_front : (tag : Tag) (n : ℕ) (b behind rest front back : List ℕ) → 1 ≤ length b
     → slice_index_or b 0 0 ≡ tag.octet → behind ≡ take (length b - 1) (drop 1 b) → length_at behind ≡ Ok (n, rest)
     → IsSplitAt rest n front back → tagged tag octets_of_all b ≡ Ok (front, back)
@@ -69,6 +72,7 @@ tag_in_front tag n (x ∷ xs) behind rest front back l t is read s =
     ∙ ap (λ r. r >>= inside octets_of_all) (split_there tag n rest front back s)
 
 module _ {X : Type 0} (none : Type 0) (front back : X → List ℕ) (tag : Tag) where
+  -- The same of a call that may give nothing.
   split_found : (n : ℕ) (b behind rest : List ℕ) → 1 ≤ length b → slice_index_or b 0 0 ≡ tag.octet
       → behind ≡ take (length b - 1) (drop 1 b) → length_at behind ≡ Ok (n, rest) → (r : Option X)
       → MatchOption r none (λ p. IsSplitAt rest n (front p) (back p))
@@ -76,6 +80,7 @@ module _ {X : Type 0} (none : Type 0) (front back : X → List ℕ) (tag : Tag) 
   split_found n b behind rest l t is read None s = tt
   split_found n b behind rest l t is read (Some p) s = tag_in_front tag n b behind rest (front p) (back p) l t is read s
 
+  -- The length is one octet; or it stands in one behind the first, or in two.
   pub short_found : (b : List ℕ) → 2 ≤ length b → slice_index_or b 0 0 ≡ tag.octet → slice_index_or b 1 0 < 128
       → (r : Option X)
       → MatchOption r none (λ p. IsSplitAt (take (length b - 2) (drop 2 b)) (slice_index_or b 1 0) (front p) (back p))

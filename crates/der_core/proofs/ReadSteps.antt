@@ -1,4 +1,4 @@
--- Reading with `?`: each step of the code is one lemma.
+-- Reading with `?`: each step of the code is one lemma. For readers of this crate, and of those above.
 use Rattle.std.proofs.Common.{ℕ, Bool, true, false, List, [], ◌∷◌, ◌++◌, ◌≡◌, ◌≢◌, ◌≤◌, ◌==◌, length, take, drop, refl, sym, ap, ◌∙◌, arith, inl, inr, ⊎_elim, append_assoc, length-take, append-nil, take_all, Result, Ok, Err, Some, None, take-append-drop, nat_lt, not, eqb, if◌then◌else◌, IfOk, IfErr}
 use Rattle.der_core.specs.Words.{nat_tests, Error, ErrorKind, Tag, WithinLimit, AreBytes, Input, left_in, read_from, header_at, inner_of, end_of, front_of, small_of, header_at-sound, ok_pair, cond_cases, limit, AllocatesInParts, ReadsPrinted, AllocatesIn, Asks, FaultOrMemory, Returns, ReadsAll, Reading, FrontReading, ◌>>=◌, chain, ended, expected, front_parts, parts, such, alone, tagged, contents_behind, inside, whole, ReadsContents, ReadsFronts, integer_tag, Tlv}
 use Rattle.der_core.specs.declared.error.ErrorKind.TheVariants.{OutOfMemory, TagUnexpected, Value}
@@ -111,6 +111,7 @@ front_errs at e None b is faulty = let no = is in cc
 front_errs at e (Some i) b is (inl w) = absurd w.1.3
 front_errs at e (Some i) b is (inr p) = ap at (sym (input_injective i b is)) ∙ p
 
+-- All that is left is the front.
 pub front_of_all : (mid : Input) (r c rest : List ℕ) (n : ℕ) → mid ≡ Some r → n ≡ length (left_in mid)
     → read_from mid (front_of n) ≡ Ok (c, rest) → c ≡ r
 front_of_all None r c rest n is len e = let no = is in cc
@@ -152,6 +153,7 @@ pub unequal_test_false : (r : Bool) (a b t : ℕ) → r ≡ false → r ≡ not 
 unequal_test_false r a b t e f g =
     let yes : eqb a b ≡ true = not_false (eqb a b) (sym (sym e ∙ f)) in grind (arith, nat_tests)
 
+-- Contents are split off, if there are as many octets as the header says.
 inner_of_splits : (n : ℕ) (left rest : List ℕ) (inner : Input) → inner_of n left ≡ Ok (inner, rest)
     → (nat_lt (length left) n ≡ false) × (inner ≡ Some (take n left)) × (rest ≡ drop n left)
 inner_of_splits n left rest inner is =
@@ -160,6 +162,7 @@ inner_of_splits n left rest inner is =
     (cond_cases (nat_lt (length left) n) _ _ _ is)
 
 module _ {V : Type 0} (tag : Tag) (read : Reading V) (may : List ℕ → Type 0) where
+  -- the tag is another one
   pub tag_fails : {n : ℕ} (before mid after : Input) (e : ErrorKind) (actual : Tag)
       → Gives header_at (actual.octet, n) before mid → actual.octet ≢ tag.octet → e ≡ TagUnexpected tag actual
       → after ≡ None → Fails (tagged tag read) (AllocatesIn (Tlv tag.octet may)) e before after
@@ -188,6 +191,7 @@ module _ {V : Type 0} (tag : Tag) (read : Reading V) (may : List ℕ → Type 0)
         record { octets = head.0; contents = c; counted = rw len head.1; holds = asks; written = refl },
       )
 
+  -- the contents have a fault
   pub value_fails : (before mid inner mid2 ended after : Input) (e : ErrorKind) (t n : ℕ) → AreBytes (left_in before)
       → Gives header_at (t, n) before mid → t ≡ tag.octet → Gives (inner_of n) inner mid mid2
       → Fails read may e inner ended → after ≡ None
@@ -233,9 +237,11 @@ whole_trailing at before mid b e v is within (rest, p, left) ends =
 -- The grammar of what was returned.
 module _ {X V : Type 0} (value : X → V) {encoding : V → List ℕ → Type 0} (at : FrontReading V) (b : List ℕ)
     (law : ReadsContents (WithinLimit encoding) (whole at)) where
+  -- A fault: the bytes encode no value.
   whole_fault_encodes_none : {e : ErrorKind} → whole at b ≡ Err e → (v : V) → WithinLimit encoding v b → ⊥
   whole_fault_encodes_none e v m = let no = sym e ∙ law.takes b v m.0 m in cc
 
+  -- What a call returned.
   pub whole_returned_reads_all : (may : List ℕ → Type 0) (r : Result X Error) → AreBytes b
       → Returns value (whole at b) (AllocatesIn may b) r → ReadsAll value encoding may r b
   whole_returned_reads_all may (Ok x) bytes p =

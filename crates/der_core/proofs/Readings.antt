@@ -1,4 +1,5 @@
--- What functions read: whole slices, other tags, documents, a list with a fault, values that spellings mean.
+-- What functions read: whole slices, other tags, documents, a list with a fault, values that spellings mean. For
+-- `from_der` of each type, `decode_as`, and `lemma_encodings_are_read`.
 use Rattle.std.proofs.Common.{ℕ, false, List, ◌≡◌, ◌≤◌, length, arith, ⊎_elim, nat_lt, zero, suc, [], ◌∷◌, ◌++◌, ◌≢◌, ◌<◌, ◌==◌, refl, ap, ◌∙◌, length-append, append_assoc, Ok, Err, subst, Result}
 use Rattle.der_core.specs.Words.{nat_tests, WithinLimit, cond_cases, limit, FrontReading, whole, ReadsContents, ReadsFronts, alone_reads, ErrorKind, Tag, AreBytes, behind_within, any_contents_reads, same_tag, ◌>>=◌, made, items_within, unexpected, contents_behind, read_document, ItemsContents, is_allowed, sequence_tag, Tlv, checked_as, tagged_reads, ReadsFrontAlike, ReadsFrontPrinted, Spells, Answers, Error, ok_of, value_in, values_alike, whole_alike, meant_decodes}
 use Rattle.standard.specs.Statement.{Decodes}
@@ -29,6 +30,7 @@ unexpected_tag_read tag actual =
     actual.allowed in
     r.1 ∙ ap (λ t. Err (TagUnexpected tag t)) (same_tag (record { octet = actual.octet; allowed = r.0 }) actual refl)
 
+-- So the contents behind it aren't read.
 pub contents_behind_other_tag : (tag actual : Tag) (n : ℕ) (rest : List ℕ) → actual.octet ≢ tag.octet
     → contents_behind tag ((actual.octet, n), rest) ≡ Err (TagUnexpected tag actual)
 contents_behind_other_tag tag actual n rest ne =

@@ -1,4 +1,5 @@
--- Why values aren't written, what writing one part after another leaves, and lengths.
+-- Why values aren't written, what writing one part after another leaves, and lengths. For each call that writes or
+-- counts, also of the crates above.
 use Rattle.std.proofs.Common.{ℕ, Bool, List, ◌<◌, ◌≤◌, length, subst, ap, ◌∙◌, arith, inl, inr, Result, Ok, Err, IfErr, ◌≡◌, ◌++◌, drop, refl, IfOk, OnErr, OnOk, ◌+◌, length-append, [], Option, Some, None, sym, append_assoc, append-nil, true, false, if◌then◌else◌, nat_le}
 use Rattle.der_core.specs.Words.{limit, WhyNotCounted, WhyNotWritten, EncodeError, no_encoding, too_long, no_room, another, written_is_shortest, Prints, WritesShortest, WhyOctetsNotCounted, Counts, WhyOctetsNotWritten, encode_error, Error, ErrorKind, RefusedAs, Receives, ReceivesNothing, TakesRoom, LacksRoom, WhyNotAppended, Tag, written_encodes, Spells, ok_of, Unwritten, IsLength, length_octets, Is, Tlv, length_octets-only, Appends, tlv, joined, is_no_encoding}
 use Rattle.standard.specs.Statement.{Encodes, IsShortest}
@@ -11,6 +12,7 @@ module _ {S V : Type 0} {valid : S → Type 0} {printed : S → List ℕ} {means
   pub written_valid : (encoding : List ℕ) → Prints valid printed means v encoding → valid (written v)
   written_valid encoding (s, e, ok, is) = subst (λ u. valid (written u)) e (law.valid s ok)
 
+  -- where the spelling that is written passes the limit, each does
   written_too_long : limit < length (printed (written v)) → (encoding : List ℕ)
       → Spells valid printed means v encoding → ⊥
   written_too_long long encoding (few, (s, e, ok, is)) = elim (law.least s ok (omega (arith, few, ap length is))) [
@@ -18,6 +20,7 @@ module _ {S V : Type 0} {valid : S → Type 0} {printed : S → List ℕ} {means
     | inr less ↦ omega (arith, long, few, ap length is, less, ap (λ u. length (printed (written u))) e)
   ]
 
+  -- why its octets aren't counted is why the value isn't
   value_uncounted_by : (k : EncodeError) → WhyOctetsNotCounted (valid (written v)) (printed (written v)) k
       → WhyNotCounted (valid (written v)) (Prints valid printed means) v k
   value_uncounted_by no_encoding h = λ encoding p. h (written_valid encoding p)
@@ -30,6 +33,7 @@ module _ {S V : Type 0} {valid : S → Type 0} {printed : S → List ℕ} {means
   value_uncounted (Ok n) h = tt
   value_uncounted (Err e) h = value_uncounted_by (encode_error e.kind) h
 
+  -- why they aren't written is why it isn't
   value_unwritten_by : (room : Option ℕ) (old new : List ℕ → Type 0) (k : EncodeError)
       → WhyOctetsNotWritten (valid (written v)) (printed (written v)) room old new k
       → WhyNotAppended (valid (written v)) (Prints valid printed means) v room k
@@ -54,6 +58,7 @@ module _ {S V : Type 0} {valid : S → Type 0} {printed : S → List ℕ} {means
   abbrev WhyValueNotWritten : ℕ → EncodeError → Type 0
   WhyValueNotWritten room k = WhyNotWritten (valid (written v)) (Prints valid printed means) v room k
 
+  -- Each encoding is longer than the room.
   room_below_encodings : (room : ℕ) (k : EncodeError) → WhyValueNotWritten room k → (bytes : List ℕ)
       → Spells valid printed means v bytes
       → room < length bytes
@@ -65,6 +70,7 @@ module _ {S V : Type 0} {valid : S → Type 0} {printed : S → List ℕ} {means
   ]
   room_below_encodings room another h bytes p = absurd h
 
+  -- What the call left in the slice.
   pub encode_into_encodes : (old new : List ℕ) (r : Result ℕ Error)
       → IfOk r (λ n. (n ≡ length (printed (written v))) × (new ≡ printed (written v) ++ drop n old))
       → OnOk r (IsShortest (Spells valid printed means) v (printed (written v)))
@@ -76,6 +82,7 @@ module _ {S V : Type 0} {valid : S → Type 0} {printed : S → List ℕ} {means
   encode_into_encodes old new (Err e) is s why same kept =
       (same, room_below_encodings (length old) (encode_error e.kind) why)
 
+  -- Its error, in the words of the statement.
   encode_into_unwritten_by : (room : ℕ) (k : EncodeError) → WhyValueNotWritten room k
       → Unwritten (λ u. valid (written u)) (Spells valid printed means) v room k
   encode_into_unwritten_by room no_encoding h = λ ok. h (printed (written v)) (written v, law.back v, ok, refl)
@@ -235,6 +242,7 @@ appends_at_once (Err e) h l w n full same = appends_nothing h l full.0 full.1 sa
 
 -- The length of two parts.
 module _ {P Q R : Type 0} (xs ys : List ℕ) (there : P → Q → R) (back : R → P × Q) where
+  -- one of them isn't counted, and the other has octets
   second_uncounted : (k : EncodeError) → P → WhyOctetsNotCounted Q ys k → WhyOctetsNotCounted R (xs ++ ys) k
   second_uncounted no_encoding p u = λ r. u (back r).1
   second_uncounted too_long p u = (there p u.0, omega (arith, u.1, length-append xs ys))
@@ -247,6 +255,7 @@ module _ {P Q R : Type 0} (xs ys : List ℕ) (there : P → Q → R) (back : R �
   first_uncounted no_room q u = absurd u
   first_uncounted another q u = absurd u
 
+  -- the first has no encoding, so both together have none
   none_uncounted : (k : EncodeError) → is_no_encoding k ≡ true → WhyOctetsNotCounted P xs k
       → WhyOctetsNotCounted R (xs ++ ys) k
   none_uncounted no_encoding e u = λ r. u (back r).0
@@ -254,6 +263,7 @@ module _ {P Q R : Type 0} (xs ys : List ℕ) (there : P → Q → R) (back : R �
   none_uncounted no_room e u = absurd u
   none_uncounted another e u = absurd u
 
+  -- the first is too long, and the second isn't counted: the second's reason is that of both
   other_uncounted : (k j : EncodeError) → is_no_encoding k ≡ false → WhyOctetsNotCounted P xs k
       → WhyOctetsNotCounted Q ys j → WhyOctetsNotCounted R (xs ++ ys) j
   other_uncounted no_encoding j e u v = cc
@@ -261,6 +271,7 @@ module _ {P Q R : Type 0} (xs ys : List ℕ) (there : P → Q → R) (back : R �
   other_uncounted no_room j e u v = absurd u
   other_uncounted another j e u v = absurd u
 
+  -- the sum of what was counted of each
   pub counts_joined : (a b : Result ℕ Error) → Counts P xs a → Counts Q ys b → Counts R (xs ++ ys) (joined a b)
   counts_joined (Ok m) (Ok n) p q =
       elim (nat_le (m + n) limit) as (λ t. nat_le (m + n) limit ≡ t
@@ -307,6 +318,7 @@ counts_encoding tag contents n (Err x) p e ok err =
       ),
     )
 
+-- The kind of the error.
 abbrev kind_in : {A : Type 0} → Result A Error → ErrorKind
 kind_in (Ok x) = NoRoom
 kind_in (Err e) = e.kind

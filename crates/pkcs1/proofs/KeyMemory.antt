@@ -1,5 +1,5 @@
 -- Which encodings of keys need memory: none of two primes, where its numbers need none; and what borrowed and owned
--- numbers make of it.
+-- numbers make of it. For the calls that decode keys.
 use Rattle.std.proofs.Common.{ℕ, List, [], ◌∷◌, ◌++◌, ◌≡◌, ◌≤◌, length, map, refl, sym, ap, ◌∙◌, arith, append_assoc, append-nil, length-append, inl, inr, ⊎_elim, Option, Some, None, option_map}
 use Rattle.std.specs.List.{concat}
 use Rattle.der_core.specs.declared.error.ErrorKind.{ErrorKind}
@@ -18,6 +18,7 @@ numbers_ask_none {V} {encoding} {may} none =
         → AllocatesInParts encoding may rest c → ⊥
     next rest = parts_ask_none encoding none rest
 
+-- Primes that mean none are none.
 none_others : {S V : Type 0} (means : S → V) (primes : Option (List (OtherRow S))) → others_as means primes ≡ None
     → primes ≡ None
 none_others means None e = refl
@@ -93,17 +94,21 @@ Borrowed = Tlv 2 (λ _. ⊥)
 pub borrowed_ask : (b : List ℕ) → Borrowed b → ⊥
 borrowed_ask b t = t.holds
 
+-- A number, and parts behind it that need none.
 none_in_parts : {rest : List ℕ → Type 0} → ((c : List ℕ) → rest c → ⊥) → (c : List ℕ)
     → AllocatesInParts NumberPrints Borrowed rest c → ⊥
 none_in_parts none = parts_ask_none NumberPrints borrowed_ask none
 
+-- Both numbers of a public key.
 pub none_in_public : (c : List ℕ)
     → AllocatesInParts NumberPrints Borrowed (AllocatesInParts NumberPrints Borrowed (λ _. ⊥)) c → ⊥
 none_in_public = none_in_parts (none_in_parts (λ _ w. w))
 
+-- Another prime.
 none_in_other : (c : List ℕ) → AllocatesInOther NumberPrints Borrowed c → ⊥
 none_in_other = none_in_parts none_in_public
 
+-- Where the list of other primes needs memory, it isn't empty.
 others_begin : (c : List ℕ) → AllocatesInOthers AnyNumber integer (λ n. n) Borrowed c
     → AllocatesIn (Tlv 48 (Begins (OtherPrints AnyNumber integer (λ n. n)))) c
 others_begin = asks_as (λ c. ⊎_elim (λ w. w) (λ w. let t = w.3 in absurd (none_in_other t.contents t.holds)))
@@ -116,20 +121,24 @@ borrowed_key_asks c (inr (front, (x, y, t, others, is))) = (front, (x, y, t, oth
 abbrev Copied : List ℕ → Type 0
 Copied = Tlv 2 (λ c. (n : ℕ) × (c ≡ number_contents n))
 
+-- What is copied is a number.
 begins_copied : (c : List ℕ) → AllocatesIn Copied c → Begins NumberPrints c
 begins_copied c (b, rest, e, t) =
     let number : Tlv 2 (λ c. c ≡ number_contents t.holds.0) b = tlv_recast b t t.holds.1 in
     (b, rest, e, (t.holds.0, (t.holds.0, refl, tt, tlv_is 2 (number_contents t.holds.0) b (λ c p. p) number)))
 
+-- The first of some numbers.
 pub owned_parts_ask : {rest : List ℕ → Type 0} (c : List ℕ) → AllocatesInParts NumberPrints Copied rest c
     → Begins NumberPrints c
 owned_parts_ask c (inl w) = begins_copied c w
 owned_parts_ask c (inr (v, (x, y, t, w, is))) = (x, y, is, (v, t))
 
+-- The numbers behind the first.
 abbrev later : List ℕ → List ℕ
 later [] = []
 later (n ∷ ns) = ns
 
+-- Behind the version.
 pub owned_key_asks : (c : List ℕ) → AllocatesForKey AnyNumber integer (λ n. n) Copied c
     → AllocatesBehind VersionPrints (Begins NumberPrints) c
 owned_key_asks c (inl (inl w)) = absurd w.3.holds

@@ -1,4 +1,5 @@
--- Reading keys: a private one part by part, faults, what calls decode. A key has one encoding.
+-- Reading keys: a private one part by part, faults, what calls decode. A key has one encoding. For the calls that
+-- decode keys, and their laws.
 use Rattle.std.proofs.Common.{◌≡◌, ℕ, List, [], refl, ap, ◌∙◌, inl, inr, ⊎_elim, Option, Some, None, Ok, Err, subst, ◌++◌, ◌≤◌, length, sym, arith, append-nil}
 use Rattle.der_core.specs.declared.error.ErrorKind.{ErrorKind}
 use Rattle.der_core.specs.Words.{AreBytes, Input, left_in, read_from, Asks, HoldsBytes, front_reading_reads, ReadsFrontAlike, ReadsFrontPrinted, FrontReading, ◌>>=◌, made, tagged_law, made_tells, whole, value_in, FaultOrMemory, NoValueOrMemory, Reading, prints_one, limit, PrintsOne}
@@ -31,6 +32,7 @@ module _ {V : Type 0} (at : FrontReading V) where
       ap (λ r. r >>= λ q. made (key_from q.0.1) (others_read at q.0.0) q.1) read
       ∙ ap (λ r. r >>= λ o. Ok (key_from front.1 o)) others
 
+  -- The same of a reader that holds the contents.
   pub key_gives : (front : ℕ × Eight V (Unit {0})) (primes : Option (List (OtherRow V))) (before mid after : Input)
       (n : ℕ) → HoldsBytes before n → FrontGives front before mid
       → (read_from mid (others_read at front.0) ≡ Ok primes) × (after ≡ Some [])
@@ -39,6 +41,7 @@ module _ {V : Type 0} (at : FrontReading V) where
   key_gives front primes (Some i) mid after n holds gives others =
       let g = gives.1 i refl in (private_key_taken front primes i g.0 g.1 (rw g.2 at others.0), others.1)
 
+  -- They are in front of a fault of the other primes.
   others_fault : (e : ErrorKind) (front : ℕ × Eight V (Unit {0})) (i : List ℕ) (mid : Input)
       → FrontGives front (Some i) mid → read_from mid (others_read at front.0) ≡ Err e
       → private_key_read at i ≡ Err e
@@ -63,9 +66,11 @@ module _ {V : Type 0} (at : FrontReading V) where
 module _ {S V : Type 0} {valid : S → Type 0} {printed : S → List ℕ} {spelling : FrontReading S} {means : S → V}
     {at : FrontReading V} (law : ReadsFrontPrinted valid printed spelling) (alike : ReadsFrontAlike spelling means at)
     (may wants : List ℕ → Type 0) (e : ErrorKind) where
+  -- A fault of a private key, or memory ran out.
   abbrev pub KeyFails : Input → Input → Type 0
   KeyFails = Fails (private_key_read at) (AllocatesInKey valid printed means may wants) e
 
+  -- The other primes behind the front aren't read.
   pub key_others_fail : (front : ℕ × Eight V (Unit {0})) (before mid after : Input) (n : ℕ) → HoldsBytes before n
       → AreBytes (left_in before) → FrontGives at front before mid → Fails (others_read at front.0) wants e mid after
       → KeyFails before after

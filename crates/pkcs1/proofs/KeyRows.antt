@@ -1,4 +1,5 @@
--- A private key that is written as a row of its parts: the same octets, and valid alike if it lists no empty list.
+-- A private key that is written as a row of its parts: the same octets, and valid alike if it lists no empty list. For
+-- `RsaPrivateKey` as it is written, and the keys given to `pkcs1_c`.
 use Rattle.std.proofs.Common.{ℕ, List, [], ◌∷◌, map, ◌≡◌, ◌<◌, ◌≤◌, length, refl, sym, subst, ap, ◌∙◌, arith, Option, Some, None, Result}
 use Rattle.std.specs.List.{AllByRecursion}
 use Rattle.std.specs.declared.alloc.Global.{Global}
@@ -19,6 +20,7 @@ version_is value f (Some v) = refl
 
 module _ {S : Type 0} (valid : S → Type 0) (printed : S → List ℕ) (key : PrivateRow S) (version : ℕ)
     (is : version ≡ version_of (others_in key)) where
+  -- The row: the version, and the key without it.
   abbrev pub private_row_parts : KeyRow S (List (OtherRow S))
   private_row_parts = (version, key)
 
@@ -28,6 +30,7 @@ module _ {S : Type 0} (valid : S → Type 0) (printed : S → List ℕ) (key : P
   abbrev pub PrivateRowIsValid : Type 0
   PrivateRowIsValid = RowIsValid valid RowPrimesAreValid private_row_parts
 
+  -- What is printed of it.
   abbrev pub private_row_octets : List ℕ
   private_row_octets = row_printed printed (λ others. sequence (primes_printed printed others)) private_row_parts
 
@@ -44,6 +47,7 @@ module _ {S : Type 0} (valid : S → Type 0) (printed : S → List ℕ) (key : P
       go None e = omega (arith, e)
       go (Some others) e = omega (arith, e)
 
+  -- A row is valid exactly if its key is.
   pub key_valid : AreSome (others_in key) → PrivateRowIsValid → PrivateIsValid valid key
   key_valid some r =
       eight_behind valid (IfPresent RowPrimesAreValid) (OthersAreValid valid) key (others_in key) (λ all. (some, all))
@@ -56,6 +60,7 @@ module _ {S : Type 0} (valid : S → Type 0) (printed : S → List ℕ) (key : P
         (λ both. both.1) p,
   )
 
+  -- What is counted, has room and is written of the row, is so of the key.
   pub key_counted : (r : Result ℕ Error) → AreSome (others_in key) → Counts PrivateRowIsValid private_row_octets r
       → Counts (PrivateIsValid valid key) (private_printed printed key) r
   key_counted r some counted =

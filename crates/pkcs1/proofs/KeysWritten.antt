@@ -1,4 +1,5 @@
--- Writing keys, and keys written again. No encoding is that of two kinds.
+-- Writing keys, and keys written again. No encoding is that of two kinds. For `encode_key`, `to_pkcs1_der`,
+-- `src/reencode.rt`, and the law that types exclude each other.
 use Rattle.std.proofs.Common.{ℕ, List, sym, Result, Ok, Err, IfErr, IfOk, ◌≡◌, ◌⊎◌, ◌∙◌, inl, inr, ap, arith, [], ◌∷◌, ◌++◌, ◌≤◌, length, append_assoc, length-append}
 use Rattle.der_core.specs.Words.{one_spelling_shortest, row_shortest, tagged_shortest, WritesShortest, EncodeError, no_encoding, too_long, no_room, another, Reading, ◌>>=◌, encode_error, Excludes, tlv_fit, prints_one, limit}
 use Rattle.pkcs1.specs.Words.{Withholds, public_encoding, AnyNumber, PublicIsValid, IsEncoded, Rejects, Unmade, kept, integer_law}
@@ -34,6 +35,7 @@ module _ {V : Type 0} (Is : V → Type 0) {Encoding : V → List ℕ → Type 0}
   unmade_is_memory k another h = h.0
 
   module _ (asked : Type 0) where
+    -- So the error says that memory ran out.
     pub withheld_is_memory : (r : Result X Error) → IfErr r (Withholds Is Encoding v)
         → IfErr r (Rejects Encoding bytes (asked ⊎ IsEncoded Encoding bytes))
     withheld_is_memory (Ok document) h = tt
@@ -42,6 +44,7 @@ module _ {V : Type 0} (Is : V → Type 0) {Encoding : V → List ℕ → Type 0}
     withheld_is_memory (Err error.KeyMalformed) h = h
     withheld_is_memory (Err error.Version) h = h
 
+    -- Reading and writing again gives what was read, or memory ran out.
     pub memory_wanted : {W : Type 0} {w : W} (read : Reading W) → read bytes ≡ Ok w → (r : Result X Error)
         → IfOk r (λ document. IsShortest Encoding v (encoding_of document)) → IfErr r (Withholds Is Encoding v)
         → ErrsOrAsks encoding_of (kept read bytes) (asked ⊎ IsEncoded Encoding bytes) r
@@ -53,6 +56,7 @@ module _ {V : Type 0} (Is : V → Type 0) {Encoding : V → List ℕ → Type 0}
     memory_wanted read is (Err error.KeyMalformed) s h = h
     memory_wanted read is (Err error.Version) s h = h
 
+-- What holds anyway, holds of Ok.
 pub ok_result_holds : {X E P : Type 0} (r : Result X E) → P → IfOk r (λ _. P)
 ok_result_holds (Ok x) p = p
 ok_result_holds (Err e) p = tt
@@ -77,6 +81,7 @@ integers_split a b ns rest =
     append_assoc (integer a) (integer b ++ integers ns) rest
     ∙ ap (λ l. integer a ++ l) (append_assoc (integer b) (integers ns) rest)
 
+-- Two numbers are no beginning of three or more.
 two_integers_alone : (n e a b c : ℕ) (ns rest : List ℕ) → length (integers (n ∷ e ∷ [])) ≤ limit
     → integers (n ∷ e ∷ []) ≡ integers (a ∷ b ∷ c ∷ ns) ++ rest → ⊥
 two_integers_alone n e a b c ns rest few same =

@@ -1,4 +1,5 @@
--- Reading the other primes of a private key, whatever holds them.
+-- Reading the other primes of a private key, whatever holds them. For `read_other_primes`, `read_listed`, and their
+-- quick forms.
 use Rattle.std.proofs.Common.{◌≡◌, ◌↔◌, ℕ, ◌==◌, List, [], ◌∷◌, length, refl, sym, ap, ◌∙◌, arith, Option, inr, Some, None, Ok, Err, Bool, true, false, IsTrue, is_some, if◌then◌else◌, not, Result, option_map}
 use Rattle.der_core.specs.Words.{Input, read_from, end_of, ok_pair, bind_ok, ok_injective, FrontReading, ◌>>=◌, alone, ended, is_next, optional_front, tagged, integer_tag, sequence_tag}
 use mathlib.Core.Bool.{beq}
@@ -50,6 +51,7 @@ module _ {X V : Type 0} (items : X → List (OtherRow V)) (count : X → ℕ)
   CountsNone None = ⊥
   CountsNone (Some x) = count x ≡ 0
 
+  -- The version is compared with that of the primes by two flags.
   version_compared : (v : Version) (r : Option X)
       → (version_number v == version_of (option_map items r)) ≡ beq (flag v) (is_some r)
   version_compared TwoPrime None = refl
@@ -57,6 +59,7 @@ module _ {X V : Type 0} (items : X → List (OtherRow V)) (count : X → ℕ)
   version_compared Multi None = refl
   version_compared Multi (Some x) = refl
 
+  -- A list of none is told by its count.
   lists_none_of_list : (primes : List (OtherRow V)) (n : ℕ) (none : Bool) → length primes ≡ n → IsTrue none ↔ (n ≡ 0)
       → lists_none (Some primes) ≡ none
   lists_none_of_list [] n true e h = refl
@@ -75,6 +78,7 @@ module _ {X V : Type 0} (items : X → List (OtherRow V)) (count : X → ℕ)
     abbrev FailsThere : ErrorKind → Type 0
     FailsThere e = Fails (others_read at (version_number v)) asked e before after
 
+    -- The rest of the function is asked of them.
     others_read_agreed : read_from before (others_read at (version_number v))
         ≡ agreed (version_number v) (option_map items r) found.0
     others_read_agreed =
@@ -95,6 +99,7 @@ module _ {X V : Type 0} (items : X → List (OtherRow V)) (count : X → ℕ)
           ∙ not_true (beq multi some) differ in (failed, inr (others_read_agreed ∙ rw (isnt, told) refl))
 
       module _ (alike : not (beq multi some) ≡ false) {none : Bool} (lists : IsTrue none ↔ CountsNone r) where
+        -- It agrees.
         version_agrees : (version_number v == version_of (option_map items r)) ≡ true
         version_agrees = version_compared_there ∙ not_false (beq multi some) alike
 

@@ -1,4 +1,5 @@
--- The other primes that an iterator has left: how many, and the first one.
+-- The other primes that an iterator has left: how many, and the first one. For `src/other_primes.rt`, and what makes
+-- one in `src/viewed_key.rt`.
 use Rattle.std.proofs.Common.{◌≡◌, ℕ, ◌-◌, ◌<◌, List, [], ◌∷◌, length, map, sym, ap, ◌∙◌, arith, drop, take, take_all, Some, None, Ok, false, nat_lt, refl}
 use Rattle.der_core.specs.Words.{nat_tests, AreBytes, Input, front_of, read_from, ok_pair, HoldsBytes}
 use Rattle.std.proofs.lemmas.Grind.{common_steps}
@@ -8,6 +9,7 @@ use Rattle.pkcs1.specs.Words.{held_other_primes, primes_encoded, number_front, p
 use Rattle.std.specs.List.{concat}
 use Rattle.pkcs1.specs.declared.other_primes.OtherPrimes.{OtherPrimes}
 
+-- as many primes as rows
 pub held_length : (primes : OtherPrimes) → length (others_left primes) ≡ length (held_other_primes primes)
 held_length primes = sym (length-map (others_left primes) other_stated)
 
@@ -52,10 +54,12 @@ next_prime_read value other i None after is gives = let never = is in cc
 next_prime_read value other i (Some j) after is (rest, read, left) =
     (rest, ap next_prime (sym (input_injective j i is)) ∙ read, left)
 
+-- reading one leaves less
 pub next_prime_shorter : (i rest : List ℕ) (other : OtherRow ℕ) → AreBytes i → next_prime i ≡ Ok (other, rest)
     → length rest < length i
 next_prime_shorter i rest other are next = (item_shorter next_law next_some i rest other are next).0
 
+-- all that is left is the front
 pub front_of_all_taken : (before : Input) (n : ℕ) (bytes rest : List ℕ) → HoldsBytes before n
     → read_from before (front_of n) ≡ Ok (bytes, rest) → (before ≡ Some bytes) × (rest ≡ [])
 front_of_all_taken None n bytes rest h r = absurd h

@@ -1,5 +1,5 @@
 -- What is written of a value and why it isn't, in the words of `Statement.antt`; and of a value that another one stands
--- for.
+-- for. For `encode_key` and `to_pkcs1_der`.
 use Rattle.std.proofs.Common.{ℕ, List, ◌≡◌, ◌⊎◌, sym, ap, ◌∙◌, inl, inr, Result, Ok, Err, IfOk, IfErr}
 use Rattle.der_core.specs.Words.{EncodeError, no_encoding, too_long, no_room, another, WhyNotCounted, written_prints, Prints, Spells, WritesShortest, IsOutOfMemory, WhyOctetsNotCounted, encode_error, StatedAs}
 use Rattle.der_core.specs.declared.error.ErrorKind.{ErrorKind}
@@ -25,11 +25,13 @@ module _ {S V : Type 0} {valid : S → Type 0} {printed : S → List ℕ} {means
   out_of_memory_is_another : (k : ErrorKind) (c : EncodeError) → k ≡ OutOfMemory → encode_error k ≡ c → another ≡ c
   out_of_memory_is_another k c memory told = sym (ap encode_error memory) ∙ told
 
+  -- Memory ran out for a value with an encoding; or its octets aren't counted, and it has none.
   abbrev Unencoded : ErrorKind → EncodeError → Type 0
   Unencoded k c =
       IsOutOfMemory (IsWritten v) (printed (written v)) k
       ⊎ (WhyOctetsNotCounted (IsWritten v) (printed (written v)) c × WhyNotCounted (IsWritten v) ValuePrints v c)
 
+  -- So no document is made of it.
   unencoded_unmade_by : (k : ErrorKind) (c : EncodeError) → encode_error k ≡ c → Unencoded k c
       → Unmade IsWritten ValueSpells v k c
   unencoded_unmade_by k no_encoding told (inl m) = let never = out_of_memory_is_another k no_encoding m.0 told in cc

@@ -1,4 +1,4 @@
--- Containers: why one isn't read or written: one status at most.
+-- Containers: why one isn't read or written: one status at most. For `src/container.rt`.
 use Rattle.std.proofs.Common.{ℕ, List, ◌≡◌, ◌∙◌, ap, arith, false, inl, inr, length, sym, ⊎_elim, Err, Ok, if◌then◌else◌, nat_lt}
 use Rattle.der_core.specs.Words.{nat_tests, alone_law, tagged_law, Spells, bind_err, limit, TellsOfBytes, alone, tagged, whole, ◌>>=◌}
 use Rattle.der_core.specs.Tags as tags
@@ -37,17 +37,20 @@ abbrev pub ContainerSpells : Container → List ℕ → Type 0
 ContainerSpells = Spells IsContainer (λ c. sequence (container_printed c)) (λ c. c)
 
 module _ (info : PrivateKeyInfo) where
+  -- A key in it has no fault.
   pub error_none : (s : ℕ) → IsErrorNumber (rsa_private_key info.private_key.now) s → HasKey info → ⊥
   error_none s (k, p, a) (key, holds) =
       let taken = private_key_octets_read key info.private_key.now holds in let no = sym p ∙ taken in cc
 
   module _ (room : ℕ) where
+    -- There is one status at most.
     pub info_one : IsOne (InfoError info room)
     info_one s t (inl p) (inl q) = grind arith
     info_one s t (inl p) (inr q) = absurd (error_none s p q.0)
     info_one s t (inr p) (inl q) = absurd (error_none t q p.0)
     info_one s t (inr p) (inr q) = unwritten_one ContainerEncoding (private_key_info_seen info) room s t p.1 q.1
 
+    -- Where a key is in it, the container isn't written for another reason.
     pub info_rest : HasKey info → (s : ℕ) → InfoError info room s
         → UnwrittenStatus ContainerEncoding (private_key_info_seen info) room s
     info_rest holds s (inl p) = absurd (error_none s p holds)

@@ -1,4 +1,4 @@
--- Parameters that have an encoding can be held.
+-- Parameters that have an encoding can be held. For the calls that write parameters, and the octets that a header adds.
 use Rattle.std.proofs.Common.{ℕ, List, [], ◌∷◌, ◌++◌, ◌≡◌, ◌≤◌, length, length-append, refl, sym, subst, ap, arith, rules, ◌+◌, true, inl, inr, Option, Some, None}
 use Rattle.der_core.proofs.Lengths.{length_octets-4}
 use Rattle.der_core.specs.Words.{length_octets, octets_grow, tlv_fit, is_allowed}
@@ -12,6 +12,7 @@ use Rattle.pkcs1_c.proofs.StructErrors.{part_none}
 record Fitting {V : Type 0} (Is : V → Type 0) (encoding : V → List ℕ) (WhyNot : V → ℕ → Type 0) : Type 0 where
   none : (v : V) → Is v → length (encoding v) ≤ limit → NoStatus (WhyNot v)
 
+-- An encoding of any tag, and algorithms over it.
 any_fits : Fitting IsAny any AnyError
 any_fits = record { none = λ v ok few s p. let fit = tlv_fit v.tag v.contents in grind arith }
 
@@ -82,6 +83,7 @@ hash_fit hash mask is_hash is_mask later Rest rest c p few =
     let (b, r, behind, last) = field_fits mask_gen_fits 1 mgf1_sha1 mask mgf1_fits is_mask later d q fewer in
     let later = rest r behind last in search (rules, part_none)
 
+-- So parameters with an encoding have no field that can't be held.
 pub pss_fits : (p : PssParameters) (bytes : List ℕ) → PssEncoding p bytes → NoStatus (PssFieldError p)
 pss_fits p bytes (ok, few, c, held, is) =
     hash_fit p.hash p.mask_gen ok.0 ok.1 (field 2 integer 20 p.salt_len ∷ field 3 integer 1 p.trailer_field ∷ []) _

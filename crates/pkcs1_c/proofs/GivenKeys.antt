@@ -1,4 +1,5 @@
--- Keys and other primes that the caller passes: their numbers, their encodings, their length.
+-- Keys and other primes that the caller passes: their numbers, their encodings, their length. For the calls that write
+-- keys, and `src/given_primes.rt`.
 use Rattle.std.proofs.Common.{ℕ, List, [], ◌∷◌, ◌++◌, ◌≡◌, ◌≤◌, ◌∙◌, length, length-append, map, subst, sym, ap, arith, rules, nat_lt, ◌↔◌, slice_index, if◌then◌else◌, ◌+◌, ◌-◌, ◌<◌, take, drop, get_or, refl, Some, Result, Err}
 use Rattle.std.specs.List.{AllByRecursion, concat}
 use Rattle.std.proofs.lemmas.Grind.{common_steps}
@@ -107,6 +108,7 @@ given_private_same key bytes = (
   λ (few, (s, is, valid, same)). (few, (s, sym (private_itself s) ∙ is, valid, same)),
 )
 
+-- What is made has the encodings of what the struct holds.
 pub given_public_spelled : (key : PublicKey) (made : RsaPublicKey Number)
     → held_public_key given_octets_of made ≡ public_key_seen key
     → (bytes : List ℕ)
@@ -125,6 +127,7 @@ given_private_spelled key others made same bytes =
     subst (λ v. GivenPrivateSpells made bytes ↔ PrivateKeyEncoding v bytes) same
     (λ p. spelled.0 (itself.0 p), λ p. itself.1 (spelled.1 p))
 
+-- It is valid.
 pub given_private_valid : (key : PrivateKey) (others : List OtherPrime) (made : keys.PrivateRow ℕ)
     → private_stated made ≡ private_key_seen key others → PrivateIsValid AnyNumber made
 given_private_valid key others made same =

@@ -1,4 +1,4 @@
--- A key that the caller passes, as the row that it is written as.
+-- A key that the caller passes, as the row that it is written as. For `src/given_key.rt`.
 use Rattle.std.proofs.Common.{ℕ, List, ◌++◌, ◌≡◌, ◌≤◌, length, sym, subst, ap, arith, Option, Some, None, Result, option_map}
 use Rattle.std.proofs.lemmas.Grind.{common_steps}
 use Rattle.std.proofs.lemmas.List.{length-map}
@@ -19,9 +19,11 @@ use Rattle.pkcs1_c.specs.declared.given_primes.GivenPrimes.{GivenPrimes}
 option_itself : {V : Type 0} (o : Option V) → option_map (λ v. v) o ≡ o
 option_itself o = grind (arith, common_steps)
 
+-- It has the version of the primes that are given.
 version_given : (o : Option GivenPrimes) → version_of o ≡ version_of (option_map given_primes o)
 version_given o = grind (arith, common_steps)
 
+-- A list that is there isn't empty, and is valid.
 given_option_some : (o : Option GivenPrimes) → AreSome (option_map given_primes o)
 given_option_some None = tt
 given_option_some (Some given) =
@@ -32,6 +34,7 @@ given_valid_primes : (o : Option GivenPrimes)
 given_valid_primes None = tt
 given_valid_primes (Some given) = given_primes_valid given.others.now
 
+-- What is printed of a row, and whether it is valid.
 abbrev pub given_row_octets : KeyRow ℕ (List (OtherRow ℕ)) → List ℕ
 given_row_octets = row_printed integer (λ others. sequence (primes_printed integer others))
 
@@ -45,10 +48,12 @@ module _ (key : PrivateKeyOf Number GivenPrimes) where
   abbrev given_version : version_of key.other_prime_infos ≡ version_of (others_in (given_key key))
   given_version = version_given key.other_prime_infos
 
+  -- It is the row of the key with these numbers.
   given_row_is : given_row
       ≡ private_row_parts AnyNumber integer (given_key key) (version_of key.other_prime_infos) given_version
   given_row_is = simp option_itself
 
+  -- So it is valid, has room and is written as the key is.
   pub given_valid : PrivateIsValid AnyNumber (given_key key) → GivenRowIsValid given_row
   given_valid ok =
       subst GivenRowIsValid (sym given_row_is) (row_valid AnyNumber integer (given_key key) _ given_version ok)

@@ -1,4 +1,5 @@
--- Parameters that are held: their parts can be, and they have encodings. Their faults are about the bytes.
+-- Parameters that are held: their parts can be, and they have encodings. Their faults are about the bytes. For what
+-- makes parameters of structs, and for the decoders.
 use Rattle.std.proofs.Common.{ℕ, List, ◌≡◌, arith, rules, refl, subst, Option, Some, None, option_map, ◌∙◌}
 use Rattle.spki_core.specs.Words.{viewed_with, any_of, viewed_held, identifier_octets, FieldRecord, record_means, record_whole, spelling_read, record_alike, record_front_law}
 use Rattle.spki_core.specs.declared.algorithm_identifier.AlgorithmIdentifierOf.{AlgorithmIdentifierOf}
@@ -23,11 +24,13 @@ RsaPssParamsView = PssParamsOf IdentifierView AnyRef
 abbrev RsaOaepParamsView : Type 0
 RsaOaepParamsView = OaepParamsOf IdentifierView AnyRef
 
+-- What was read of any tag has no error.
 any_none : (any : Option AnyRef) → NoStatus (OptionError AnyError (option_map any_of any))
 any_none None s p = p
 any_none (Some any) s p = let allowed = any.tag.allowed in let bounded = any.bounded in grind arith
 
 module _ {P V : Type 0} (of : P → V) (WhyNot : V → ℕ → Type 0) (a : AlgorithmView P) where
+  -- Nor has an algorithm, if its parameters have none.
   algorithm_none : NoStatus (OptionError WhyNot (option_map of a.parameters))
       → NoStatus (AlgorithmError WhyNot (viewed_with of a))
   algorithm_none none =
@@ -49,6 +52,7 @@ pub mask_none : (m : AlgorithmView (AlgorithmView AnyRef)) (seen : Algorithm (Al
 mask_none m seen is =
     subst (λ m. NoStatus (MaskError m)) is (algorithm_none (viewed_with any_of) PlainError m (under_none m.parameters))
 
+-- Nor have both fields, in front of what has none.
 hash_none : (hash : AlgorithmView AnyRef) (mask : AlgorithmView (AlgorithmView AnyRef)) (Rest : ℕ → Type 0)
     → NoStatus Rest → NoStatus (HashFieldsThen (viewed_with any_of hash) (viewed_with (viewed_with any_of) mask) Rest)
 hash_none hash mask Rest none =
@@ -62,6 +66,7 @@ oaep_none p seen is =
     subst (λ v. NoStatus (OaepFieldError v)) is
     (hash_none p.hash p.mask_gen (PlainError (viewed_with any_of p.p_source)) (plain_none p.p_source _ refl))
 
+-- The octets of an identifier have none.
 pub oid_none : (oid : IdentifierView) (octets : List ℕ) → identifier_octets oid ≡ octets → NoStatus (OidError octets)
 oid_none oid octets is s p = p.1 (subst IsIdentifier is (viewed_held oid))
 

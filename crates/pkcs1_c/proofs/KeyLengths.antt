@@ -1,5 +1,5 @@
 -- How many octets the encodings of numbers, of a prime and of a key have: as many as are told, if those or these are
--- within the limit.
+-- within the limit. For `numbers_len` and `length_of`.
 use Rattle.std.proofs.Common.{ℕ, List, [], ◌∷◌, ◌≡◌, ◌∙◌, ◌+◌, ◌≤◌, ◌<◌, ◌⊎◌, ap, length, length-append, map, arith, refl, Result, Ok, Err, Option, None, Some, inl, inr, IfErr, IfOk}
 use Rattle.std.proofs.lemmas.Bool.{cases_lt}
 use Rattle.der_core.specs.Words.{limit, tlv_len, number_contents, Counts}
@@ -36,9 +36,11 @@ agree_number size result n is = agree_tlv size result n (λ few. is)
 tlv_len_of_contents : (tag : ℕ) (c : List ℕ) → length (tlv tag c) ≡ tlv_len (length c)
 tlv_len_of_contents tag c = omega (arith, length-append (length_octets (length c)) c)
 
+-- The length of a number's encoding.
 abbrev number_len : ℕ → ℕ
 number_len n = tlv_len (length (number_contents n))
 
+-- Those of a prime, of a version, of eight numbers, and of all in front of the other primes.
 pub prime_len : (o : OtherPrime) → length (prime_encoded o)
     ≡ tlv_len (number_len o.prime + number_len o.exponent + number_len o.coefficient)
 prime_len o =
@@ -62,6 +64,7 @@ front_len k =
     length-append (integer (version_of (others_in k))) (concat (map integer (key_numbers k)))
     ∙ omega (arith, version_len (others_in k), numbers_len k)
 
+-- A call that returns a length that agrees counts the octets.
 pub agreed_length_counted : (octets : List ℕ) (s n : ℕ) → length octets ≡ n → Agree s n → (r : Result ℕ Error)
     → IfOk r (λ m. (m ≡ s) × (s ≤ limit)) → IfErr r (λ f. (f.kind ≡ Overflow) × (limit < s))
     → Counts (Unit {0}) octets r

@@ -1,4 +1,4 @@
--- Other primes that are read from a list and placed in an array.
+-- Other primes that are read from a list and placed in an array. For `pkcs1_c_other_primes`.
 use Rattle.std.proofs.Common.{ℕ, List, [], ◌∷◌, ◌++◌, ◌≡◌, ◌+◌, ◌<◌, ◌⊎◌, inr, length, map, take, drop, sym, ap, ◌∙◌, arith, set, drop-set-lt, drop-drop, ◌≤◌, refl, Err, Ok, Some, length-append}
 use Rattle.std.proofs.lemmas.List.{map-set, take_more_set, length-map}
 use Rattle.std.proofs.lemmas.Grind.{common_steps}
@@ -61,6 +61,7 @@ module _ (primes : List OtherPrime) (left : Input) (others old : List struct.Oth
       let placed = p.placed in
       let kept = p.kept in (grind (arith, common_steps), grind (arith, common_steps))
 
+  -- where the reader finds no more, none is left
   placing_none_left : {k : ErrorKind} → ((l : List ℕ) → left ≡ Some l → next_prime l ≡ Err k)
       → (behind : List OtherPrime)
       → length (primes_encoded behind) ≤ limit → left ≡ Some (primes_encoded behind) → behind ≡ []

@@ -1,4 +1,5 @@
--- Why what a program gives isn't written: one status at most, neither 0 nor that of lack of room for a part.
+-- Why what a program gives isn't written: one status at most, neither 0 nor that of lack of room for a part. For each
+-- call that takes a struct.
 use Rattle.std.proofs.Common.{ℕ, List, [], ◌∷◌, ◌++◌, ◌≡◌, ◌≢◌, ◌+◌, ◌<◌, ◌≤◌, length, take, drop, take-append-drop, get_or, refl, subst, sym, ap, ◌∙◌, arith, rules, Option, Some, None, inl, inr}
 use Rattle.std.proofs.lemmas.List.{take_more, drop_more}
 use Rattle.der_core.specs.Words.{WhyNoNumber, octets_canonical, octets_number, AllHave}
@@ -21,6 +22,7 @@ IsPartError WhyNot = IsOne WhyNot × IsOtherError WhyNot
 
 -- Encodings.
 module _ {V : Type 0} (Encoding : V → List ℕ → Type 0) (v : V) (room : ℕ) where
+  -- There is one status at most.
   pub unwritten_one : IsOne (UnwrittenStatus Encoding v room)
   unwritten_one s t p q = grind arith
 
@@ -35,6 +37,7 @@ module _ (WhyNot Rest : ℕ → Type 0) where
   pub part_then : IsPartError WhyNot → IsPartError Rest → IsPartError (PartThen WhyNot Rest)
   part_then p q = search rules
 
+  -- Where neither has a status, the first has none; and the other way round.
   pub part_first : NoStatus (PartThen WhyNot Rest) → NoStatus WhyNot
   part_first none s p = none s (inl p)
 
@@ -53,6 +56,7 @@ number_has : (bytes : List ℕ) → NoStatus (NumberError bytes) → 0 < length 
 number_has [] none = absurd (none 4 (search rules))
 number_has (b ∷ bytes) none = omega arith
 
+-- There is one status at most, and none if each number has none.
 pub numbers_part : (ns : List (List ℕ)) → IsPartError (NumbersError ns)
 numbers_part [] = (λ s t p q. absurd p, λ s p. absurd p)
 numbers_part (n ∷ ns) = part_then (NumberError n) (NumbersError ns) (grind arith, grind arith) (numbers_part ns)
@@ -68,6 +72,7 @@ numbers_have [] none = tt
 numbers_have (n ∷ ns) none =
     let first = part_first (NumberError n) (NumbersError ns) none in search (rules, number_has, numbers_have ns)
 
+-- A number that can't be held is in front; or behind those that can be.
 pub numbers_before : (ns ms : List (List ℕ)) (s : ℕ) → NumbersError ns s → NumbersError (ns ++ ms) s
 numbers_before [] ms s p = absurd p
 numbers_before (n ∷ ns) ms s p = search (rules, numbers_before ns ms s)
@@ -93,6 +98,7 @@ numbers_none_apart ns ms none =
     let first : NoStatus (NumbersError ns) = λ s p. none s (numbers_before ns ms s p) in
     (first, λ s p. none s (numbers_behind ns ms first s p))
 
+-- The numbers of primes, and of those behind them.
 numbers_joined : (os more : List OtherPrime)
     → numbers_of_primes (os ++ more) ≡ numbers_of_primes os ++ numbers_of_primes more
 numbers_joined [] more = refl
@@ -109,6 +115,7 @@ module _ (os : List OtherPrime) (i : ℕ) (d : OtherPrime) (l : i < length os) w
   abbrev numbers_after : List (List ℕ)
   numbers_after = numbers_of_primes (drop (i + 1) os)
 
+  -- All numbers are those before it, its own, and those after it.
   numbers_around_prime : numbers_of_primes os ≡ numbers_in_front ++ (numbers_of_one ++ numbers_after)
   numbers_around_prime =
       ap numbers_of_primes (sym (take-append-drop i os)) ∙ numbers_joined (take i os) (drop i os)

@@ -1,4 +1,5 @@
--- What is so of all calls that write: the front, the reason, the code of an error, the needed length.
+-- What is so of all calls that write: the front, the reason, the code of an error, the needed length. For each call
+-- that returns a status.
 use Rattle.std.proofs.Common.{ℕ, zero, suc, List, ◌≡◌, ◌<◌, ◌∙◌, ◌⊎◌, length, take, refl, sym, subst, arith, rules, inl, inr, Some, length-take-le, ◌↔◌, Result, Ok, Err, IfOk, IfErr, ◌≤◌, ap}
 use Rattle.standard.specs.Statement.{Decodes, Encodes}
 use Rattle.pkcs1_c.specs.Words.{IsErrorOf, NoStatus, FieldsError, PartThen, UnwrittenStatus, If, IsShortestLength, WritesOrTells, kind_number, status_of, IsErrorNumber, IsStatusOf}
@@ -11,10 +12,12 @@ use Rattle.pkcs1_params.specs.declared.error.Error.{Error}
 use Rattle.pkcs1_params.specs.declared.error.Error.TheVariants as error
 use Rattle.std.proofs.lemmas.Bool.{cases_lt}
 
+-- A status that is the only one is that of the error.
 pub is_error : (WhyNot : ℕ → Type 0) (s : ℕ) → IsOne WhyNot → 0 < s → WhyNot s → IsErrorOf WhyNot s
 is_error WhyNot zero one some p = absurd (omega (arith, some))
 is_error WhyNot (suc n) one some p = search rules
 
+-- Two ways to say the same reasons.
 pub error_as : (A B : ℕ → Type 0) (s : ℕ) → ((t : ℕ) → A t → B t) → ((t : ℕ) → B t → A t) → IsErrorOf A s
     → IsErrorOf B s
 error_as A B zero there back none = search rules
@@ -113,6 +116,7 @@ tells_below e t = grind arith
 
 -- What is known of an error, of its number.
 module _ {V : Type 0} (given : Result V ErrorKind) (tells : (k : ErrorKind) → given ≡ Err k → TellsOfBytes k) where
+  -- its number is that of the fault, and not that of lack of room
   pub status_known : (e : Error) → IsAsn1 (λ a. given ≡ Err a.kind) e
       → ((0 < status_of e) × (status_of e < 15)) × IsErrorNumber given (status_of e)
   status_known (error.Asn1 a) p = (tells_below a.kind (tells a.kind p), (a.kind, p, refl))
@@ -120,6 +124,7 @@ module _ {V : Type 0} (given : Result V ErrorKind) (tells : (k : ErrorKind) → 
   status_known error.KeyMalformed p = absurd p
   status_known error.Version p = absurd p
 
+  -- so the call returns that status
   pub status_exact : (e : Error) (number : ℕ) → number ≡ status_of e → IsAsn1 (λ a. given ≡ Err a.kind) e
       → IsStatusOf given number
   status_exact e zero is p = absurd (omega (arith, is, (status_known e p).0.0))
@@ -128,6 +133,7 @@ module _ {V : Type 0} (given : Result V ErrorKind) (tells : (k : ErrorKind) → 
 
 -- What an error of writing says of a value that may be encoded.
 module _ {V : Type 0} (Is : V → Type 0) (Encoding : V → List ℕ → Type 0) (v : V) (room : ℕ) (ok : Is v) where
+  -- there is no encoding, or too little room for the shortest
   error_unwritten : (e : EncodeError) → writing.Unwritten Is Encoding v room e
       → ((e ≡ too_long) × ((bytes : List ℕ) → Encoding v bytes → ⊥))
       ⊎ ((e ≡ no_room) × (n : ℕ) × IsShortestLength Encoding v n × (room < n))
@@ -136,6 +142,7 @@ module _ {V : Type 0} (Is : V → Type 0) (Encoding : V → List ℕ → Type 0)
   error_unwritten no_room p = inr (refl, length p.0, (p.0, p.1, refl), p.2)
   error_unwritten another p = absurd p
 
+  -- so the number of the error says why
   pub kind_unwritten : (k : ErrorKind) → writing.Unwritten Is Encoding v room (encode_error k)
       → UnwrittenStatus Encoding v room (kind_number k)
   kind_unwritten k p = let why = error_unwritten (encode_error k) p in grind arith
@@ -154,11 +161,13 @@ module _ {S V : Type 0} {valid : S → Type 0} {printed : S → List ℕ} {means
   abbrev Needed : ℕ
   Needed = length (printed (written v))
 
+  -- No encoding is shorter.
   needed_least : (bytes : List ℕ) → Spells valid printed means v bytes → Needed ≤ length bytes
   needed_least bytes (few, (s, e, known, is)) =
       let same = ap (λ u. length (printed (written u))) e in
       let least = law.least s known (omega (arith, few, ap length is)) in grind arith
 
+  -- A number that is this one for a value within the limit is its shortest length.
   pub needed_is : {m : ℕ} → (valid (written v) → Needed ≤ limit → m ≡ Needed) → (n : ℕ)
       → IsShortestLength (Spells valid printed means) v n → m ≡ n
   needed_is told n (bytes, short, is) =
@@ -167,6 +176,7 @@ module _ {S V : Type 0} {valid : S → Type 0} {printed : S → List ℕ} {means
       let t = told ok few in
       let least = short.1 (printed (written v)) (written_is_shortest law v ok few).0 in grind arith
 
+  -- A number that is as before past the limit is so for a value without an encoding.
   pub needed_kept : {m l : ℕ} → (limit < Needed → m ≡ l) → ((bytes : List ℕ) → Spells valid printed means v bytes → ⊥)
       → m ≡ l
   needed_kept told none = elim (cases_lt limit Needed) [

@@ -1,4 +1,5 @@
--- Algorithm identifiers with parameters of their own: what is read of them, and how many encodings there are.
+-- Algorithm identifiers with parameters of their own: what is read of them, and how many encodings there are. For
+-- `src/algorithm.rt` and `lemma_algorithms`.
 use Rattle.std.proofs.Common.{ℕ, Bool, true, List, ◌++◌, ◌≡◌, ◌≤◌, ◌^◌, length, refl, sym, subst, ap, ◌∙◌, arith, ⊎_elim, map, Option, Some, None, Result, Ok, Err, inl, inr, false, ◌==◌, ◌↔◌, if◌then◌else◌, option_map, bytes_eq}
 use Rattle.der_core.specs.Words.{nat_tests, AreBytes, back_bytes, front_bytes, cond_cases, tlv_fit, whole_decodes, whole_takes, bind_err, bind_ok, ok_injective, unexpected_not, limit, tagged_shortest, Spells, WritesShortest, value_in, Reading, whole, ◌>>=◌}
 use Rattle.std.proofs.lemmas.Slice.Eq.{bytes_eq-Decides}
@@ -56,6 +57,7 @@ decodes_by : {V B : Type 0} (E : V → B → Type 0) (b : B) (o : Result V Error
 decodes_by E b (Ok v) gives takes = (gives v refl, λ w e. ok_injective (sym (takes w e)))
 decodes_by E b (Err k) gives takes = λ w e. let no = takes w e in cc
 
+-- What is read of an identifier that the code holds.
 pub identified_decodes : {V : Type 0} {Is : V → Type 0} {fields : V → List Field} (r : FieldRecord Is fields)
     (oid : List ℕ) (a : Algorithm TagAndContents) → IfPresent AreHeld a.parameters
     → Decodes (Identifies oid Is fields) a (value_in (identified oid (record_read r) a))
@@ -102,6 +104,7 @@ module _ (oid : List ℕ) (valid : is_identifier oid ≡ true) where
       contents_bytes 48 c
       (back_bytes (tlv 6 oid) (sequence c) (contents_bytes 48 (tlv 6 oid ++ sequence c) (subst AreBytes is are)))
 
+  -- It is read as the contents of its parameters are.
   pub whole_algorithm_is : {V : Type 0} (read : Reading V) (c bytes : List ℕ) → AreBytes bytes → length bytes ≤ limit
       → bytes ≡ wrapped oid (sequence c) → whole_algorithm oid read bytes ≡ read c
   whole_algorithm_is read c bytes are few is =
@@ -110,6 +113,7 @@ module _ (oid : List ℕ) (valid : is_identifier oid ≡ true) where
       ap (λ r. r >>= identified oid read) (whole_takes plain_law (holding oid c) bytes (few, held, is))
       ∙ identified_is oid read c
 
+  -- And what is read as a value is such an encoding.
   pub algorithm_holds : {V : Type 0} (read : Reading V) (v : V) (bytes : List ℕ) → AreBytes bytes
       → whole_algorithm oid read bytes ≡ Ok v
       → (c : List ℕ) × (length bytes ≤ limit) × AreBytes c × (bytes ≡ wrapped oid (sequence c)) × (read c ≡ Ok v)
@@ -126,6 +130,7 @@ module _ (oid : List ℕ) (valid : is_identifier oid ≡ true) where
     abbrev IdentifierEncoding : V → List ℕ → Type 0
     IdentifierEncoding = AlgorithmEncoding oid ParametersEncoding
 
+    -- An encoding is read as its value.
     whole_algorithm_read : (w : V) (bytes : List ℕ) → AreBytes bytes → IdentifierEncoding w bytes
         → whole_algorithm oid (record_read r) bytes ≡ Ok w
     whole_algorithm_read w bytes are (few, p, (ok, within, c, held, same), is) =
@@ -146,6 +151,7 @@ module _ (oid : List ℕ) (valid : is_identifier oid ≡ true) where
         (few, sequence c, (law.0, within, c, law.1, refl), is))
         (λ v e. whole_algorithm_read v bytes are e)
 
+    -- A value that is read has this encoding.
     pub algorithm_encodes : (v : V) (bytes : List ℕ) → AreBytes bytes
         → whole_algorithm oid (record_read r) bytes ≡ Ok v → IdentifierEncoding v bytes
     algorithm_encodes v bytes are is =
@@ -184,6 +190,7 @@ module _ (oid : List ℕ) (valid : is_identifier oid ≡ true) where
           ),
         )
 
+    -- What isn't read isn't read strictly, for the same fault.
     pub strict_algorithm_errs : (bytes : List ℕ) (k : ErrorKind) → whole_algorithm oid (record_read r) bytes ≡ Err k
         → whole_algorithm oid (record_strictly r) bytes ≡ Err k
     strict_algorithm_errs bytes k =
@@ -193,6 +200,7 @@ module _ (oid : List ℕ) (valid : is_identifier oid ≡ true) where
           | inr q ↦ let never = q.2 in cc
         ]) oid bytes k
 
+    -- What strict reading is promised to give.
     pub strict_algorithm_decodes : (bytes : List ℕ) → AreBytes bytes
         → Decodes (IsShortest IdentifierEncoding) bytes (value_in (whole_algorithm oid (record_strictly r) bytes))
     strict_algorithm_decodes bytes are =
@@ -225,10 +233,12 @@ module _ (oid : List ℕ) (identifier : IsIdentifier oid) where
     abbrev pub AlgorithmSpelled : Algorithm V → List ℕ → Type 0
     AlgorithmSpelled = Spells (IsAlgorithm (AreSpelled r.kinds)) algorithm_printed (algorithm_map (record_means r))
 
+    -- The one under mask 0 is written.
     pub algorithm_written : WritesShortest (IsAlgorithm (AreSpelled r.kinds)) algorithm_printed
         (algorithm_map (record_means r)) (algorithm_map (record_under r 0))
     algorithm_written = tagged_shortest (algorithm_writes_shortest (tagged_shortest (record_shortest r) 48)) 48
 
+    -- It has the encodings that the statement has.
     pub algorithm_spelled : (v : V) (bytes : List ℕ)
         → AlgorithmSpelled (with_parameters oid v) bytes ↔ HoldingEncoding v bytes
     algorithm_spelled v bytes = (to, from)
@@ -261,6 +271,7 @@ module _ (oid : List ℕ) (identifier : IsIdentifier oid) where
               ),
             )
 
+    -- What is written of it is valid.
     pub algorithm_valid : (v : V) → Is v
         → IsAlgorithm (AreSpelled r.kinds) (algorithm_map (record_under r 0) (with_parameters oid v))
     algorithm_valid v ok = (identifier, under_valid r.kinds 0 (r.split v) (r.are v ok))

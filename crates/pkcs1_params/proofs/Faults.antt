@@ -1,4 +1,5 @@
--- Faults of parameters: they are about the bytes, what holds of errors, and the first default that is written.
+-- Faults of parameters: they are about the bytes, what holds of errors, and the first default that is written. For the
+-- calls that decode parameters, and their laws.
 use Rattle.std.proofs.Common.{ℕ, Bool, true, false, List, ◌≡◌, ⊎_elim, Option, Some, None, Err, Result, length, ◌==◌, nat_lt, bytes_eq, Ok, IfErr, OnErr, ◌∙◌, ap, inl, inr, refl, subst, sym, ◌↔◌, [], ◌∷◌, ◌++◌, ◌<◌, ◌+◌, drop, arith, if◌then◌else◌}
 use Rattle.der_core.specs.declared.error.ErrorKind.{ErrorKind}
 use Rattle.der_core.specs.declared.error.ErrorKind.TheVariants.{Noncanonical, OidUnknown, Overflow, ParametersMissing, TagUnknown}
@@ -15,6 +16,7 @@ use Rattle.spki_core.proofs.StrictFields.{noncanonical_is}
 use Rattle.pkcs1_params.proofs.Algorithms.{strict_algorithm_in}
 use Rattle.pkcs1_params.proofs.Wrapped.{same_contents, wrapped_one}
 
+-- A default that is written.
 noncanonical_tells : (n : ℕ) → TellsOfBytes (noncanonical n)
 noncanonical_tells n = go (is_allowed (context_octet n)) (λ ok. record { octet = context_octet n; allowed = ok })
   where
@@ -27,6 +29,7 @@ found_tells : {V : Type 0} (found : Option ℕ) (v : V) (k : ErrorKind) → unle
 found_tells None v k e = cc
 found_tells (Some n) v k e = let same : noncanonical n ≡ k = let q = e in cc in rw same at (noncanonical_tells n)
 
+-- A fault of a whole slice.
 pub whole_tells : {S : Type 0} {valid : S → Type 0} {printed : S → List ℕ} {at : FrontReading S}
     → ReadsFrontPrinted valid printed at → FaultsTell (whole at)
 whole_tells law bytes k e =
@@ -34,6 +37,7 @@ whole_tells law bytes k e =
     (λ w. (alone_law law).tells bytes k w.1) (cond_cases (nat_lt limit (length bytes)) _ _ _ e)
 
 module _ {V : Type 0} {Is : V → Type 0} {fields : V → List Field} (r : FieldRecord Is fields) where
+  -- One of strict reading, of contents and of a whole slice.
   pub strictly_tells : FaultsTell (record_strictly r)
   strictly_tells c k e =
       ⊎_elim ((record_law r).tells c k) (λ s. found_tells (first_written r.kinds s.0) (record_means r s.0) k s.2)
@@ -45,6 +49,7 @@ module _ {V : Type 0} {Is : V → Type 0} {fields : V → List Field} (r : Field
       (λ s. found_tells (first_written r.kinds s.0) (record_means r s.0) k s.2)
       (bind_err (whole (tagged tags.sequence_tag (spelling_read r.kinds)) b) _ e)
 
+-- One of parameters in their identifier.
 pub whole_algorithm_tells : {V : Type 0} {read : List ℕ → Result V ErrorKind} → FaultsTell read → (oid : List ℕ)
     → FaultsTell (whole_algorithm oid read)
 whole_algorithm_tells {V} {read} tell oid b k e =
@@ -127,6 +132,7 @@ later_tag_not_next (k ∷ ks) m n less law (x, v) i c (inr (inl (d, j, e, p))) =
 later_tag_not_next (k ∷ ks) m n less law (x, v) i c (inr (inr (d, j, e, later, is, p))) =
     let other : m < k.number = omega (arith, less, law.0) in rw is (grind (arith, nat_tests, other))
 
+-- So what is found in a spelling is the first one there.
 first_written_found : (ks : List Kind) (m : ℕ) → AreLawful m ks → AreNumbered m ks → (s : Spelling ks) (n : ℕ)
     → FirstWritten (fields_of ks (spelling_means ks s)) n (spelled ks s) → first_written ks s ≡ Some (m + n)
 first_written_found [] m law numbered s n p = absurd p
@@ -160,6 +166,7 @@ first_written_found (k ∷ ks) m law numbered (Some x, s) n (inr (inr (d, j, e, 
     go false is later = later
 
 module _ {V : Type 0} {Is : V → Type 0} {fields : V → List Field} (r : FieldRecord Is fields) where
+  -- Strict reading names it.
   pub first_named : NamesFirstDefault Is fields (strict_whole r)
   first_named v n tag contents bytes p is first octet =
       let (few, (s, e, ok, same)) = spelled_from r v bytes p in
@@ -175,6 +182,7 @@ module _ {V : Type 0} {Is : V → Type 0} {fields : V → List Field} (r : Field
       ∙ ap (λ o. unless_found o (r.join (spelling_means r.kinds s))) (at ∙ ap (λ i. Some i) zero)
       ∙ ap (λ k. Err k) (noncanonical_is n tag octet)
 
+  -- So it does in an identifier.
   pub first_named_in : (oid : List ℕ) → is_identifier oid ≡ true
       → NamesFirstDefaultIn oid Is fields (λ bytes. whole_algorithm oid (record_strictly r) bytes)
   first_named_in oid valid v n tag contents bytes are p is first octet =

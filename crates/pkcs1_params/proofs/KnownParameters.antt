@@ -1,5 +1,5 @@
 -- Parameters that are written as known octets: these are what is written where no default is, so they are the shortest
--- encoding.
+-- encoding. For `src/known.rt`.
 use Rattle.std.proofs.Common.{ℕ, List, [], ◌∷◌, ◌++◌, ◌==◌, ◌≡◌, ◌≤◌, ◌<◌, ◌+◌, refl, append-nil, ap, true, false, arith, rules, subst, sym, ◌∙◌, length, length-append, drop, inl, inr, nat_lt, None, Some, Option, Result, Ok, Err}
 use Rattle.der_core.specs.Words.{nat_tests, AreBytes, length_octets-short, small_contents_as, written_encodes}
 use Rattle.spki_core.specs.Words.{FieldRecord, Kind, Values, is_identifier-sound, null_value, record_under, spelled, under}
@@ -77,12 +77,14 @@ module _ (hash mask_gen inner : List ℕ) where
   known_identifier oid None is = rw is pss_lawful.3.0
   known_identifier oid (Some n) (few, is) = rw is (hash_identifier n few)
 
+  -- They are few octets.
   known_fields_few : (h u : Option ℕ) → length (known_fields h u) ≤ 47
   known_fields_few None None = omega arith
   known_fields_few None (Some n) = omega arith
   known_fields_few (Some n) None = omega arith
   known_fields_few (Some n) (Some m) = omega arith
 
+  -- They are what is written of both fields, where no default is.
   known_fields_written : (ks : List Kind) (v : Values ks) (l : List ℕ) (h u : Option ℕ)
       → AreKnown hash mask_gen inner h u
       → AreBehind ks v l → spelled (hash_kind ∷ mask_kind ∷ ks) (under (hash_kind ∷ mask_kind ∷ ks) 0
@@ -94,6 +96,7 @@ module _ (hash mask_gen inner : List ℕ) where
   known_fields_written ks v l (Some n) None (mask, is, same) w = rw (mask, is.1, same, w) refl
   known_fields_written ks v l (Some n) (Some m) (mask, is, same) w = rw (mask, is.1, same.1, w) refl
 
+  -- So it is with a salt length behind them.
   pub known_pss : (h u : Option ℕ) (s : ℕ) (l : List ℕ) → AreKnown hash mask_gen inner h u → s < 256 → SaltBehind s l
       → AreWritten pss_record (pss_with_hashes hash mask_gen inner s) (known_fields h u) l
   known_pss h u s l known byte w =
@@ -104,6 +107,7 @@ module _ (hash mask_gen inner : List ℕ) where
         few = known_fields_few h u;
       }
 
+  -- So it is with a label behind them.
   pub known_oaep : (h u : Option ℕ) (p label l : List ℕ) → AreKnown hash mask_gen inner h u → p ≡ id_p_specified
       → AreBytes label → LabelBehind label l
       → AreWritten oaep_record (oaep_with_hashes hash mask_gen inner p label) (known_fields h u) l
@@ -148,12 +152,14 @@ module _ {V : Type 0} {Is : V → Type 0} {fields : V → List Field} {r : Field
     abbrev params : List ℕ
     params = 0x30 ∷ length (f ++ l) ∷ (f ++ l)
 
+    -- alone
     known_shortest : length (f ++ l) < 128 → IsShortest (Encoded Is fields) v params
     known_shortest short =
         let is : encoding_under r v 0 ≡ params = rw (are.written, length_octets-short (length (f ++ l)) short) refl in
         subst (IsShortest (Encoded Is fields) v) is
         (encoding_under_zero_shortest r v are.valid (omega (arith, ap length is, short)))
 
+    -- in their place
     known_placed : (at : Option ℕ) → length l + length (place_front at 0) ≤ 80
         → IsShortest (InPlace at (Encoded Is fields)) v (place_front at (length params) ++ params)
     known_placed None few = known_shortest (omega (arith, are.few, few, length-append f l))
@@ -164,6 +170,7 @@ module _ {V : Type 0} {Is : V → Type 0} {fields : V → List Field} {r : Field
         (shortest_outside (pkcs1_algorithm n) (Encoded Is fields) v params (omega (arith, ap length is, all))
         (known_shortest (omega (arith, all))))
 
+    -- What a call wrote or counted that has these octets.
     pub known_octets_put : (old new : List ℕ) (result : Result ℕ ℕ) → length new ≡ length old
         → PutsOrCounts (place_front place (length params) ++ params) old new result
         → WritesOrCounts (InPlace place (Encoded Is fields)) v old new result

@@ -1,4 +1,4 @@
--- Parameters with a label: their encodings, by the length of the label.
+-- Parameters with a label: their encodings, by the length of the label. For `src/label.rt`.
 use Rattle.std.proofs.Common.{ℕ, List, [], ◌∷◌, ◌++◌, ◌≡◌, ◌<◌, ◌≤◌, length, true, false, subst, sym, ap, ◌∙◌, arith, length-append, append-nil, append_assoc, Bool, Result, Ok, Err, refl, IfOk, IfErr, if◌then◌else◌, is_ok}
 use Rattle.std.specs.Prelude.{⊤}
 use Rattle.der_core.proofs.Writing.{counts_joined}
@@ -46,6 +46,7 @@ octets_last (g ∷ fs) f = go g.is_default (octets_last fs f)
         ap (λ z. g.octets ++ z) later
         ∙ sym (append_assoc g.octets (octets_under 0 fs) (if f.is_default then [] else f.octets))
 
+-- The source comes last.
 labelled_written : (oid label : List ℕ) → written_labelled oid label ≡ written_before oid ++ written_source label
 labelled_written oid label =
     let p = labelled oid [] in
@@ -63,6 +64,7 @@ pub label_counted : (label : List ℕ) (n : ℕ) (r : Result ℕ Error) → leng
 label_counted label n (Ok m) e ok err = (tt, omega arith, omega arith)
 label_counted label n (Err x) e ok err = rw err.0 (tt, omega (arith, err.1))
 
+-- Its field is counted, by both parts of its contents.
 pub source_counted : (label : List ℕ) (identifier octets : Result ℕ Error)
     → Counts (IsIdentifier id_p_specified) (tlv 6 id_p_specified) identifier → Counts ⊤ (tlv 4 label) octets
     → Counts ⊤ (tlv 6 id_p_specified ++ tlv 4 label) (joined identifier octets)
@@ -119,6 +121,7 @@ source_longer (x ∷ xs) =
       tlv_fit 162 (tlv 48 source),
     )
 
+-- So a label that fits is within the limit.
 pub label_within : (oid label : List ℕ) → AreBytes label → LabelFits oid (length label) → length label ≤ limit
 label_within oid label bytes fits =
     let means = fits label bytes refl in

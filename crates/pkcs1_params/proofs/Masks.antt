@@ -1,4 +1,6 @@
--- What is written of parameters: of equal values, under a mask; and what their encodings exclude.
+-- What is written of parameters: of equal values, under a mask; and what their encodings exclude. For
+-- `src/spelling.rt`, `src/contents.rt` and the laws of spellings. What holds of any encoding, the crates above cite
+-- too.
 use Rattle.std.proofs.Common.{ℕ, List, ◌≡◌, ◌<◌, length, refl, subst, take, Result, Ok, Err, ◌↔◌, Option, Some, None, [], ◌∷◌, ◌++◌, ◌+◌, ◌*◌, Bool, true, false, arith, ap, ◌∙◌, sym, ◌^◌, if◌then◌else◌, pow_pos, inl, inr, append-nil, ◌≤◌, slice_index}
 use Rattle.der_core.specs.Words.{limit, EncodeError, no_encoding, too_long, no_room, another, Appends, Counts, Unwritten, WhyOctetsNotCounted, encode_error, octets_appended_as, one_spelling_shortest, tagged_shortest, Spells, WritesShortest, prints_one, Excludes}
 use Rattle.der_core.specs.declared.error.Error as errors
@@ -13,6 +15,7 @@ use Rattle.spki_core.proofs.RecordEncodings.{default_count_only, default_count_t
 use Rattle.pkcs1_params.proofs.Faults.{asn1_as}
 use Rattle.pkcs1_params.proofs.Wrapped.{same_contents, wrapped_front}
 
+-- A value, and another that has the same encodings.
 module _ {V W : Type 0} (Encoding : V → List ℕ → Type 0) (Other : W → List ℕ → Type 0) (v : V) (w : W)
     (same : (bytes : List ℕ) → Encoding v bytes ↔ Other w bytes) where
   pub shortest_as : (bytes : List ℕ) → IsShortest Encoding v bytes → IsShortest Other w bytes
@@ -63,6 +66,7 @@ uncounted_overflows octets kinds.TrailingData has h = absurd h
 uncounted_overflows octets kinds.File has h = absurd h
 uncounted_overflows octets kinds.OutOfMemory has h = absurd h
 
+-- Why octets aren't counted, under one premise and under another.
 uncounted_carried : {P Q : Type 0} (octets : List ℕ) → (P → Q) → (Q → P) → (k : EncodeError)
     → WhyOctetsNotCounted P octets k → WhyOctetsNotCounted Q octets k
 uncounted_carried octets there back no_encoding u = λ q. u (back q)
@@ -97,6 +101,7 @@ module _ {V : Type 0} {Is : V → Type 0} {fields : V → List Field} (r : Field
       → octets_under mask fs ≡ spelled r.kinds (record_under r mask v)
   octets_under_spelled fs is = ap (octets_under mask) is ∙ octets_spelled r.kinds mask (r.split v)
 
+  -- Of defaults alone, nothing is printed under mask 0.
   pub nothing_spelled : mask ≡ 0 → bits_of (are_defaults (record_fields r v)) ≡ 0
       → spelled r.kinds (record_under r mask v) ≡ []
   nothing_spelled zero none =
@@ -108,6 +113,7 @@ module _ {V : Type 0} {Is : V → Type 0} {fields : V → List Field} (r : Field
   abbrev pub spelling_encoding : Spelling r.kinds → List ℕ
   spelling_encoding s = sequence (spelled r.kinds s)
 
+  -- Each spelling has one encoding.
   pub spelling_written : WritesShortest (AreSpelled r.kinds) spelling_encoding (λ s. s) (λ s. s)
   spelling_written = tagged_shortest (one_spelling_shortest (AreSpelled r.kinds) (spelled r.kinds)) 48
 
@@ -119,10 +125,12 @@ module _ {V : Type 0} {Is : V → Type 0} {fields : V → List Field} (r : Field
       λ k d. subst (λ n. mask < 2 ^ n) (sym (default_count_only r v k d)) (mask_below_count r v mask m)
 
   module _ (v : V) (ok : Is v) (mask : ℕ) (m : IsMask (fields v) mask) where
+    -- It has the encoding of the value under the mask.
     under_mask_spelled : (bytes : List ℕ)
         → SpellingSpells (record_under r mask v) bytes ↔ EncodedUnder mask Is fields v bytes
     under_mask_spelled = under_spelled r v mask ok (mask_below_count r v mask m)
 
+    -- So what a call wrote, and why it didn't, is so of the value under the mask.
     pub under_encodes : (old new : List ℕ) (n : Option ℕ) → Encodes SpellingSpells (record_under r mask v) old new n
         → Encodes (EncodedUnder mask Is fields) v old new n
     under_encodes = encodes_as SpellingSpells (EncodedUnder mask Is fields) (record_under r mask v) v under_mask_spelled
@@ -145,6 +153,7 @@ module _ {V : Type 0} {Is : V → Type 0} {fields : V → List Field} (r : Field
   zero_mask v = (default_count r v, default_count_there r v, pow_pos (default_count r v))
 
   module _ (v : V) where
+    -- So what was written under it, and why it wasn't, is so of the value.
     pub zero_encodes : (old new : List ℕ) (n : Option ℕ) → Encodes (EncodedUnder 0 Is fields) v old new n
         → Encodes (Encoded Is fields) v old new n
     zero_encodes old new (Some n) e = (e.0, zero_shortest r v (take n new) e.1.0, e.2)
@@ -180,6 +189,7 @@ module _ {V : Type 0} {Is : V → Type 0} {fields : V → List Field} (r : Field
   pub record_delimited : AreDelimited (SequenceOf Is fields Fields)
   record_delimited = ((λ v p. let never = p.4 in cc), record_follow)
 
+  -- So are those of identifiers with parameters.
   pub algorithm_delimited : (oid : List ℕ) → AreDelimited (AlgorithmEncoding oid (SequenceOf Is fields Fields))
   algorithm_delimited oid = (
     (λ v p. let never = p.3 in cc),

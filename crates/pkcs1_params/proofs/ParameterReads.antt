@@ -1,5 +1,5 @@
 -- Reading a list of fields with `?`: each exit of the code is one lemma. Nothing asks for memory, and what is made of
--- the fields has their faults.
+-- the fields has their faults. For `decode_value` of either type, borrowed and owned.
 use Rattle.std.proofs.Common.{◌≡◌, ℕ, List, [], ◌∷◌, refl, sym, ap, ◌∙◌, inl, inr, Ok, Err, Some, None}
 use Rattle.der_core.specs.declared.error.ErrorKind.{ErrorKind}
 use Rattle.der_core.specs.Words.{Input, end_of, read_from, left_in, ok_pair, AllocatesIn, Asks, FrontReading, Reading, ◌>>=◌, made, AreBytes, made_errs, Tlv}
@@ -21,6 +21,7 @@ pub record FieldsFail (ks : List Kind) (e : ErrorKind) (before after : Input) : 
 pub record FieldsGive (ks : List Kind) (v : Values ks) (before : Input) : Type 0 where
   pub gives : read_from before (values_read ks) ≡ Ok v
 
+-- How a field of this kind is read at the front.
 abbrev field_at : (k : Kind) → FrontReading k.Value
 field_at k = defaulted k.number k.at k.default
 
@@ -40,6 +41,7 @@ module _ {k : Kind} {ks : List Kind} {given : k.Value} {n : ℕ} (same : given �
 
   -- it was read
   module _ {v : k.Value} {before mid : Input} (read : Gives (defaulted n k.at given) v before mid) where
+    -- a fault is in those behind it
     pub behind_field : {e : ErrorKind} {after : Input} → FieldsFail ks e mid after → FieldsFail (k ∷ ks) e before after
     behind_field {e} {after} later =
         let known : Gives (field_at k) v before mid = rw (is, same) at read in
@@ -56,6 +58,7 @@ module _ {k : Kind} {ks : List Kind} {given : k.Value} {n : ℕ} (same : given �
               ∙ ap (λ r. r >>= λ b. Ok (v, b)) (rw there at q)),
         )
 
+    -- so were those behind it
     pub field_gives : {w : Values ks} → FieldsGive ks w mid → FieldsGive (k ∷ ks) (v, w) before
     field_gives {w} later = record {
       gives =
@@ -78,6 +81,7 @@ end_fails None (p, failed) = record { fails = (failed, inr (let q = p in cc)) }
 end_fails (Some []) (p, failed) = let no = p in cc
 end_fails (Some (x ∷ xs)) (p, failed) = record { fails = (failed, inr (let q = p in cc)) }
 
+-- Nothing asks for memory.
 pub absurd_never : (b : List ℕ) → ⊥ → ⊥
 absurd_never b h = h
 
@@ -94,6 +98,7 @@ mask_never = algorithm_never plain_never
 pub number_never : (b : List ℕ) → Tlv 2 (λ _. ⊥) b → ⊥
 number_never b p = p.holds
 
+-- What is made of the fields.
 pub record_fails : {V : Type 0} {Is : V → Type 0} {fields : V → List Field} (r : FieldRecord Is fields) {e : ErrorKind}
     {before after : Input} → FieldsFail r.kinds e before after → Fails (record_read r) (λ _. ⊥) e before after
 record_fails r {e} {before} {after} f =
@@ -108,6 +113,7 @@ record_gives r {v} {before} f = made_gives r.join (values_read r.kinds) before f
 -- Reading of owned parameters that fails: there was no memory for the copy of what was read.
 module _ {V : Type 0} {Is : V → Type 0} {fields : V → List Field} (r : FieldRecord Is fields)
     (may : List ℕ → Type 0) (before after : Input) (e : ErrorKind) where
+  -- What was read is parameters, for which memory may be asked for.
   copy_asks : (v : V) (input : Input) → AreBytes (left_in input) → read_from input (record_read r) ≡ Ok v
       → ((c : List ℕ) → Is v → Fields (fields v) c → may c) → Asks may input
   copy_asks v None bytes p asks = let no = p in cc

@@ -1,5 +1,5 @@
 -- Whole slices that are read as parameters. Those that begin with the usual two fields: what reads parameters computes
--- them, strictly too.
+-- them, strictly too. For `usual` of either type, and `src/reading.rt`.
 use Rattle.std.proofs.Common.{ℕ, Bool, List, [], ◌∷◌, ◌++◌, ◌==◌, ◌&&◌, ◌≡◌, ◌≤◌, ◌<◌, ◌∙◌, refl, ap, sym, Ok, true, false, arith, length, take, drop, eqb, nat_lt, if◌then◌else◌, Result, take_all}
 use Rattle.der_core.specs.Words.{number_from_digits, nat_tests, header_at, length_at, limit, Reading, tagged, whole, ◌>>=◌, sequence_tag, AreBytes, bind_ok, ok_of}
 use Rattle.std.proofs.lemmas.List.{drop_all}
@@ -68,6 +68,7 @@ module _ (n : ℕ) (few : n < 128) where
   oaep_fields_read true = rw (oid_starts, oid_ends, oid_starts, oid_ends) refl
   oaep_fields_read false = rw (oid_starts, oid_ends, oid_starts, oid_ends) refl
 
+-- So usual parameters are read.
 pub pss_usual : (strict : Bool) (p : PssParameters) (c : List ℕ) → IsUsualPss p c → (strict && eqb p.salt_len 20) ≡ false
     → (if strict then record_strictly pss_record else record_read pss_record) c ≡ Ok p
 pss_usual strict p c (fields, (n, few, h, f), small, is, at) other =
@@ -82,6 +83,7 @@ oaep_usual strict p c ((n, few, h, f), is) =
     ap read f ∙ oaep_fields_read n few strict ∙ ap (λ x. Ok x) (sym (is ∙ ap oaep_with_hash h))
 
 module _ {V : Type 0} {Is : V → Type 0} {fields : V → List Field} (r : FieldRecord Is fields) (bytes : List ℕ) where
+  -- A whole slice of few octets is read as its contents are.
   pub short_read : (strict : Bool) (c : List ℕ) (v : V) → length c < 128 → bytes ≡ 0x30 ∷ length c ∷ c
       → (if strict then record_strictly r else record_read r) c ≡ Ok v
       → (if strict then strict_whole r else record_whole r) bytes ≡ Ok v
@@ -90,6 +92,7 @@ module _ {V : Type 0} {Is : V → Type 0} {fields : V → List Field} (r : Field
       ap (λ x. x >>= strict_value r.kinds r.join) (whole_sequence (spelling_read r.kinds) s.0 c bytes few is s.1) ∙ s.2
   short_read false c v few is read = whole_sequence (record_read r) v c bytes few is read
 
+  -- What a call decodes that returns what was read, strictly too.
   pub record_whole_decodes : {X : Type 0} (value : X → V) (result : Result X Error) → AreBytes bytes
       → ErrsAs value (record_whole r bytes) result → Decodes (Encoded Is fields) bytes (ok_of value result)
   record_whole_decodes value result are =

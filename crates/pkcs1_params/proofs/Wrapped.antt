@@ -1,4 +1,5 @@
--- SEQUENCEs of an identifier and parameters: each encoding of the parameters stands in one.
+-- SEQUENCEs of an identifier and parameters: each encoding of the parameters stands in one. For algorithm identifiers:
+-- `src/algorithm.rt`, `src/known.rt` and their laws.
 use Rattle.std.proofs.Common.{ℕ, List, [], ◌++◌, ◌≡◌, ◌<◌, ◌≤◌, ◌^◌, length, drop, map, refl, sym, subst, ap, ◌∙◌, arith, inl, inr, length-append, append-nil, true, ◌+◌, nat_lt, slice_index_or, Option, Some, None}
 use Rattle.std.proofs.Math.Seq.{drop-append_seam}
 use Rattle.std.proofs.lemmas.Bool.{cases_lt}
@@ -37,6 +38,7 @@ module _ (oid : List ℕ) where
       let g = octets_grow (length c) (length d) (omega (arith, less)) (omega (arith, few, tlv_fit 48 d)) in
       omega (arith, g, length-append (length_octets (length c)) c, length-append (length_octets (length d)) d)
 
+  -- None is a proper beginning of another, and the same one has the same parameters.
   pub wrapped_front : (p q rest : List ℕ) → length (wrapped p) ≤ limit → length (wrapped q) ≤ limit
       → wrapped p ++ rest ≡ wrapped q → (p ≡ q) × (rest ≡ [])
   wrapped_front p q rest few less is =
@@ -84,6 +86,7 @@ module _ (oid : List ℕ) where
       ],
     )
 
+  -- So strict reading of the one decodes what that of the other does.
   pub wrapped_shortest_decodes : {V : Type 0} (E : V → List ℕ → Type 0) (p : List ℕ) → length (wrapped p) ≤ limit
       → (o : Option V) → Decodes (IsShortest E) p o → Decodes (IsShortest (AlgorithmEncoding oid E)) (wrapped p) o
   wrapped_shortest_decodes E p few (Some v) d =
@@ -107,6 +110,7 @@ module _ (oid : List ℕ) where
     wrapped_at_encodes E i h e = subst (AlgorithmEncoding oid E v) (sym (wrapped_at i h))
         (wrapped_at_fits i h, slice_index_or all i [], e, refl)
 
+    -- They are all, in the same order.
     pub are_all_in : AreAll (AlgorithmEncoding oid) Is fields v k (map wrapped all)
     are_all_in = record {
       count = length-map all wrapped ∙ a.count;

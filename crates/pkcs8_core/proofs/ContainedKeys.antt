@@ -1,4 +1,5 @@
--- Containers: algorithms that the function takes, faults, the key in one, and what they exclude.
+-- Containers: algorithms that the function takes, faults, the key in one, and what they exclude. For `src/rsa.rt`, and
+-- the calls and laws of `src/info.rt`.
 use Rattle.std.proofs.Common.{ℕ, Bool, true, false, List, [], ◌≡◌, ◌==◌, refl, sym, ap, ◌∙◌, ⊎_elim, Option, Some, None, Ok, Err, Decides, ◌&&◌, if◌then◌else◌, bytes_eq, ◌++◌, subst, inl, inr, IfErr, IfOk, Result, ◌∷◌, ◌≤◌, length, arith, append-nil, append_assoc, slice_index}
 use Rattle.der_core.specs.declared.error.ErrorKind.{ErrorKind}
 use Rattle.der_core.specs.declared.error.ErrorKind.TheVariants as kind
@@ -27,6 +28,7 @@ null_only_refuses v tag same test =
     (Err (kind.TagUnknown v.tag)) allowed in
     rw test (r.1 ∙ ap (λ t. Err (kind.Value t)) (same_tag (record { octet = v.tag; allowed = r.0 }) tag (sym same)))
 
+-- So rsaEncryption with such parameters is rejected.
 pub rsa_other : (a : Algorithm TagAndContents) (v : TagAndContents) (tag : Tag)
     → bytes_eq a.oid id_rsa_encryption ≡ true → a.parameters ≡ Some v → tag.octet ≡ v.tag
     → same_any v null_value ≡ false → rsa_only a ≡ Err (kind.Value tag)
@@ -51,6 +53,7 @@ rsa_only_tells a k e = chosen (bytes_eq a.oid id_rsa_encryption) e
     chosen true e = null_tells a.parameters k e
     chosen false e = let same : kind.OidUnknown ≡ k = cc in rw (← same) (λ no. cc, λ no. cc, λ no. cc)
 
+-- It takes rsaEncryption with NULL alone.
 pub rsa_taken : (a : Algorithm TagAndContents) → a ≡ rsa_encryption → rsa_only a ≡ Ok tt
 rsa_taken a is = ap rsa_only is
 
@@ -118,6 +121,7 @@ asked_held value c octets same agrees (Err e) p =
 
 -- What such a call decodes.
 module _ {X : Type 0} (value : X → PrivateKey) (c : Container) (are : AreBytes c.private_key) (asked : Type 0) where
+  -- by what the function gives
   given : (r : Result PrivateKey ErrorKind) → rsa_held c ≡ r → Decodes (ContainedKey c) c.private_key (value_in r)
   given r is =
       subst (λ r. Decodes (ContainedKey c) c.private_key (value_in r)) is (contained_decode c c.private_key are)
@@ -190,6 +194,7 @@ octets_of_all_law = record {
   tells = λ c k e. cc;
 }
 
+-- Of two encodings of a tag at one front, the contents are the same.
 tlv_front_injective : (tag : Tag) (x y r s : List ℕ) → length (tlv tag.octet x ++ r) ≤ limit
     → tlv tag.octet x ++ r ≡ tlv tag.octet y ++ s → (x ≡ y) × (r ≡ s)
 tlv_front_injective tag x y r s few same = prints_one (tagged_law octets_of_all_law tag) x y r s tt tt few same

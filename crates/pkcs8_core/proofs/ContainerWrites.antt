@@ -1,4 +1,5 @@
--- Writing of containers: each value that is held has an encoding, and no more than one.
+-- Writing of containers: each value that is held has an encoding, and no more than one. For `encode_info` and
+-- `lemma_has_encoding`.
 use Rattle.std.proofs.Common.{ℕ, List, ◌++◌, ◌≡◌, length, drop, Option, Some, None, option_map, Result, Ok, Err, IfOk, IfErr, OnErr, OnOk}
 use Rattle.der_core.specs.Words.{WhyNotWritten, are_bytes, one_spelling_shortest, Prints, Spells, ok_of, Unwritten, encode_error}
 use Rattle.der_core.specs.declared.error.Error.{Error}
@@ -27,6 +28,7 @@ module _ (c : Container) (ok : IsContainer c) (old new : List ℕ) where
   abbrev WhyContainerNotWritten : Error → Type 0
   WhyContainerNotWritten e = WhyNotWritten (IsContainer c) ContainerPrints c (length old) (encode_error e.kind)
 
+  -- What the call left in the slice.
   pub container_written : (r : Result ℕ Error) → IfOk r (λ n. (n ≡ length (container_encoding c)) × (new ≡ container_encoding c ++ drop n old))
       → OnOk r (IsShortest ContainerIsSpelled c (container_encoding c)) → IfErr r WhyContainerNotWritten
       → OnErr r (new ≡ old)
@@ -35,6 +37,7 @@ module _ (c : Container) (ok : IsContainer c) (old new : List ℕ) where
       encodes_as ContainerIsSpelled ContainerEncoding c c (container_spells c) old new _
       (encode_into_encodes (one_spelling_shortest IsContainer container_encoding) c old new r is s why same kept)
 
+  -- Its error, in the words of the statement.
   pub container_refused : (r : Result ℕ Error) → IfErr r WhyContainerNotWritten
       → IfErr r (λ e. Unwritten (λ _. Unit {0}) ContainerEncoding c (length old) (encode_error e.kind))
   container_refused (Ok n) why = tt

@@ -1,12 +1,14 @@
--- Steps of the test for identifiers.
+-- Steps of the test for identifiers: for `ends_well` and `of` of `src/object_identifier.rt`.
 use Rattle.std.proofs.Common.{Bool, true, false, nat_lt, ℕ, zero, suc, List, [], ◌∷◌, ◌≡◌, ◌≢◌, ◌<◌, ◌≤◌, ◌+◌, ◌-◌, ◌⊎◌, inr, length, take, drop, get_or, slice_index, refl, ap, ◌∙◌, arith}
 use Rattle.std.proofs.lemmas.List.{at_drop_more}
 use Rattle.der_core.specs.Words.{nat_tests}
 use Rattle.spki_core.specs.Words.{ends_well, ends_well_goes_on, has_no_128, starts_at}
 
+-- Whether a subidentifier starts at the next octet is told by this one.
 starts_at_next : (c : List ℕ) (i : ℕ) → nat_lt (get_or c i 0) 128 ≡ starts_at c (i + 1)
 starts_at_next c i = let more : i + 1 ≡ suc i = omega arith in rw more refl
 
+-- One octet more was looked at.
 pub ends_well_next : (c : List ℕ) (i : ℕ) → i < length c → (starts_at c i ≡ false) ⊎ (get_or c i 0 ≢ 128)
     → ends_well true c ≡ ends_well (starts_at c i) (drop i c)
     → ends_well true c ≡ ends_well (starts_at c (i + 1)) (drop (i + 1) c)
@@ -15,6 +17,7 @@ ends_well_next c i l h is =
     ∙ ends_well_goes_on (starts_at c i) (get_or c i 0) (drop (i + 1) c) h
     ∙ ap (λ s. ends_well s (drop (i + 1) c)) (starts_at_next c i)
 
+-- Octets without 128 end well, if the last one is below it.
 ends_well_plain_from : (s : Bool) (n : ℕ) (c : List ℕ) → length c ≡ suc n → has_no_128 (take n c) ≡ true
     → slice_index c n < 128
     → ends_well s c ≡ true

@@ -1,5 +1,5 @@
 -- What the functions that read give: records by their fields, encodings of any tag, fields. Identifiers that are
--- mapped.
+-- mapped. For quick reading and copies of parameters, `decode_as` and `read_explicit`.
 use Rattle.std.proofs.Common.{◌≡◌, ◌∙◌, ◌&&◌, ℕ, Bool, List, [], ◌∷◌, Option, Some, None, Ok, true, false, ap, refl, sym, ◌+◌, Result, if◌then◌else◌, option_map, subst, Err, IfOk, inl, inr}
 use Rattle.std.proofs.lemmas.Bool.{cases_Bool}
 use Rattle.der_core.specs.Words.{ok_pair, alone, is_next, tagged, ◌>>=◌, AreBytes, Input, ReadsFront, ReadsWhole, FrontReading, Reading, ReadsContents, context_octet, Tlv}
@@ -24,9 +24,11 @@ there k v c = if is_next (160 + k.number) c then Some v else None
 -- One field and those behind it, with the number and the default of the first as the code has them.
 module _ (k : Kind) (ks : List Kind) {given v : k.Value} {n : ℕ} (same : given ≡ k.default) (is : n ≡ k.number)
     (c rest : List ℕ) (read : defaulted n k.at given c ≡ Ok (v, rest)) where
+  -- It is read as a field of its kind.
   field_known : defaulted k.number k.at k.default c ≡ Ok (v, rest)
   field_known = rw (is, same) at read
 
+  -- With those behind it, it is a spelling.
   pub field_spelled : (s : Spelling ks) → spelling_read ks rest ≡ Ok s → spelling_read (k ∷ ks) c ≡ Ok (there k v c, s)
   field_spelled s behind = elim (cases_Bool (is_next (160 + k.number) c)) [
     | inl next ↦
@@ -52,11 +54,13 @@ default_accepted k v c strict p = elim (cases_Bool (is_next (160 + k.number) c))
   | inr gone ↦ rw gone (rw gone at p)
 ]
 
+-- Where none is refused strictly, none is written.
 none_written : (ks : List Kind) (s : Spelling ks) → NoneRefused true ks s → first_written ks s ≡ None
 none_written [] s none = refl
 none_written (k ∷ ks) (None, s) none = none_written ks s none.1
 none_written (k ∷ ks) (Some v, s) none = rw none.0 (none_written ks s none.1)
 
+-- So the record is read as what the spelling means.
 pub record_found : {V : Type 0} {Is : V → Type 0} {fields : V → List Field} (r : FieldRecord Is fields) (strict : Bool)
     (c : List ℕ) (s : Spelling r.kinds) → spelling_read r.kinds c ≡ Ok s → NoneRefused strict r.kinds s
     → (if strict then record_strictly r else record_read r) c ≡ Ok (record_means r s)

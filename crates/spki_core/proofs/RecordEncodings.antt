@@ -1,5 +1,5 @@
--- What follows for every SEQUENCE of fields with defaults: what is read, the shortest encoding, the one under each mask,
--- and how many there are.
+-- What follows for every SEQUENCE of fields with defaults: what is read, the shortest encoding, the one under each
+-- mask, and how many there are. For the calls and laws of parameters.
 use Rattle.std.proofs.Common.{ℕ, zero, suc, ◌+◌, List, [], ◌∷◌, ◌++◌, ◌≡◌, ◌<◌, ◌≤◌, ◌^◌, length, refl, sym, subst, ap, ◌∙◌, arith, length-append, append-nil, inl, inr, pow_pos, ◌↔◌, slice_index_or}
 use Rattle.der_core.specs.Words.{AreBytes, tagged_alike, values_alike, whole_alike, octets_grow, tlv_fit, decodes_as, meant_decodes, optional_itself, prints_one, written_is_shortest as shortest_of, tagged_shortest, limit, Spells, value_in}
 use Rattle.der_core.specs.Tags as tags
@@ -64,12 +64,14 @@ module _ {V : Type 0} {Is : V → Type 0} {fields : V → List Field} (r : Field
   pub valid_under : (v : V) (mask : ℕ) → Is v → AreSpelled r.kinds (record_under r mask v)
   valid_under v mask ok = under_valid r.kinds mask (r.split v) (r.are v ok)
 
+  -- It encodes the value.
   encoding_under_spells : (v : V) (mask : ℕ) → Is v → length (encoding_under v mask) ≤ limit
       → SequenceOf Is fields Fields v (encoding_under v mask)
   encoding_under_spells v mask ok few =
       let means = ap r.join (under_means r.kinds 0 r.lawful mask (r.split v)) ∙ r.whole v in
       spelled_to r v (encoding_under v mask) (few, (record_under r mask v, means, valid_under v mask ok, refl))
 
+  -- Under mask 0 it is the shortest.
   pub encoding_under_zero_shortest : (v : V) → Is v → length (encoding_under v 0) ≤ limit
       → IsShortest (SequenceOf Is fields Fields) v (encoding_under v 0)
   encoding_under_zero_shortest v ok few =
@@ -121,6 +123,7 @@ module _ {V : Type 0} {Is : V → Type 0} {fields : V → List Field} (r : Field
       let (less, back, fields) = spelling_masked r.kinds 0 r.lawful s in
       (mask_of r.kinds s, rw same at less, is ∙ ap (λ z. sequence (spelled r.kinds z)) (sym (rw same at back)))
 
+  -- Two masks have two encodings.
   pub masks_differ : (v : V) (i j : ℕ) → Is v → i < 2 ^ default_count v → j < 2 ^ default_count v
       → length (encoding_under v i) ≤ limit → encoding_under v i ≡ encoding_under v j → i ≡ j
   masks_differ v i j ok less also few e =
@@ -182,6 +185,7 @@ module _ {V : Type 0} {Is : V → Type 0} {fields : V → List Field} (r : Field
   full_longest v mask is =
       ap sequence (full_there r.kinds (r.split v) mask is) ∙ ap longest (sym (r.fields_are v))
 
+  -- The list under all masks is that of all encodings.
   pub encodings_are_all : (v : V) → Is v → length (longest (fields v)) ≤ limit
       → AreAll (λ E. E) Is fields v (default_count v) (upto (2 ^ default_count v) (encoding_under v))
   encodings_are_all v ok few = record {
@@ -200,12 +204,14 @@ module _ {V : Type 0} {Is : V → Type 0} {fields : V → List Field} (r : Field
           → slice_index_or (upto (2 ^ default_count v) (encoding_under v)) i [] ≡ encoding_under v i
       at i less = index_upto (2 ^ default_count v) (encoding_under v) [] i less
 
+  -- None is longer than the longest.
   pub encodings_within_longest : (v : V) → length (longest (fields v)) ≤ limit → (i : ℕ) → i < 2 ^ default_count v
       → length (slice_index_or (upto (2 ^ default_count v) (encoding_under v)) i []) ≤ length (longest (fields v))
   encodings_within_longest v few i less =
       let e = index_upto (2 ^ default_count v) (encoding_under v) [] i less in omega
       (arith, encoding_under_below_longest v i few, ap length e)
 
+  -- So there are two to the number of defaults.
   pub two_to_the_defaults : TwoToTheDefaults Is fields
   two_to_the_defaults v k ok d few =
       rw (default_count_only v k d) (upto (2 ^ default_count v) (encoding_under v), encodings_are_all v ok few)

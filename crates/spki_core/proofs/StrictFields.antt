@@ -1,5 +1,5 @@
 -- Strict reading of fields with defaults: what is read is the shortest encoding, and the walk of the code finds what
--- isn't.
+-- isn't. For `src/strict.rt`, and strict reading of parameters.
 use Rattle.std.proofs.Common.{ℕ, List, [], ◌∷◌, ◌++◌, ◌≡◌, ◌≤◌, ◌+◌, length, refl, sym, subst, ap, ◌∙◌, arith, Bool, true, false, Option, Some, None, Result, Ok, Err, length-append, inl, inr, ◌↔◌, pow_pos}
 use Rattle.std.proofs.lemmas.Bool.{cases_Bool}
 use Rattle.der_core.specs.Words.{nat_tests, AreBytes, back_bytes, tlv_fit, whole_decodes, whole_takes, tagged_alike, whole_alike, bind_err, limit, value_in, is_next, tagged, whole, ◌>>=◌, checked_as, same_tag, context_octet, is_allowed, header_at, front_bytes}
@@ -41,10 +41,12 @@ first_written_none (k ∷ ks) (Some x, s) = elim (cases_Bool (k.is_default x)) [
   | inr isnt ↦ rw isnt (first_written_none ks s)
 ]
 
+-- None is there under mask 0.
 first_written_under_zero : (ks : List Kind) → AreLawful 0 ks → (v : Values ks) → first_written ks (under ks 0 v) ≡ None
 first_written_under_zero ks law v =
     (first_written_none ks (under ks 0 v)).1 (under_mask ks 0 law 0 v (pow_pos (defaults ks v)))
 
+-- And that spelling is the only one.
 first_written_none_only : (ks : List Kind) → AreLawful 0 ks → (s : Spelling ks) → first_written ks s ≡ None
     → s ≡ under ks 0 (spelling_means ks s)
 first_written_none_only ks law s none = sym (rw ((first_written_none ks s).0 none) at (spelling_masked ks 0 law s).1)
@@ -53,6 +55,7 @@ first_written_none_only ks law s none = sym (rw ((first_written_none ks s).0 non
 pub contents_bytes : (tag : ℕ) (c : List ℕ) → AreBytes (tlv tag c) → AreBytes c
 contents_bytes tag c bytes = back_bytes _ c bytes.1
 
+-- At the front it finds the first field that is there, as an encoding of any tag.
 any_front_of_field : (k : Kind) (v : k.Value) (rest : List ℕ) → AreBytes (one_spelled k v ++ rest)
     → length (one_spelled k v ++ rest) ≤ limit
     → any_front (one_spelled k v ++ rest) ≡ Ok (record { tag = 160 + k.number; contents = k.printed v }, rest)
@@ -60,6 +63,7 @@ any_front_of_field k v rest bytes few =
     any_law.takes (record { tag = 160 + k.number; contents = k.printed v }) rest
     (k.allowed, contents_bytes (160 + k.number) (k.printed v) (front_bytes (one_spelled k v) rest bytes)) few
 
+-- It finds the first default that is written.
 walk_finds : (ks : List Kind) (n m : ℕ) → AreLawful n ks → AreNumbered m ks → (s : Spelling ks)
     → AreBytes (spelled ks s) → length (spelled ks s) ≤ limit
     → walked m (are_defaults (fields_with ks (spelling_means ks s))) (spelled ks s) ≡ first_written ks s
@@ -108,6 +112,7 @@ module _ {V : Type 0} {Is : V → Type 0} {fields : V → List Field} (r : Field
         | inr s ↦ let never = s.2 in cc
       ]
 
+  -- a valid spelling is printed, within the limit
   abbrev Stands : Spelling r.kinds → List ℕ → Type 0
   Stands s b = (length b ≤ limit) × AreSpelled r.kinds s × (b ≡ sequence (spelled r.kinds s))
 
