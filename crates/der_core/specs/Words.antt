@@ -35,7 +35,7 @@ pub use Rattle.der_core.specs.declared.error.Error.{Error}
 pub use Rattle.der_core.specs.declared.error.ErrorKind.{ErrorKind}
 pub use Rattle.der_core.specs.declared.tag.Tag.{Tag}
 pub use Rattle.der_core.specs.Laws.Counted.{octets_appended_as, octets_counted_as}
-pub use Rattle.der_core.specs.Laws.Encodings.{last_part_asks_none, parts_ask_none, same_tag, tlv_not_empty, tlv_recast, tlv_short, tlv_split}
+pub use Rattle.der_core.specs.Laws.Encodings.{last_part_asks_as_it, nothing_asked, parts_ask_as_each, same_tag, tlv_not_empty, tlv_recast, tlv_short, tlv_split}
 pub use Rattle.der_core.specs.Laws.Integer.{and_decides, bytes_decide, canonical_same, holds_canonical, number_decides, option_decides, written_large}
 pub use Rattle.der_core.specs.Laws.Length.{length_octets-only, length_octets-short, length_octets-within}
 pub use Rattle.der_core.specs.Laws.LengthReading.{are_bytes, cond_cases, header_at-complete, header_at-sound, header_at-tells, header_sound, length_at-complete, length_at-sound, length_at-tells, ok_pair, value_error_tells}

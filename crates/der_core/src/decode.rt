@@ -1,12 +1,13 @@
 //! Reading of values.
 ghost use Rattle.std.specs.Prelude.{◌≡◌, ◌≤◌, ℕ, List, length, Ok, IfSome, option_map};
-ghost use Rattle.der_core.specs.Words.{Tlv, AllocatesIn, HoldsBytes, ReadsAll, ReadsFront, ReadsWhole, Returns, DecodesOrMemory, Prints, Spells, TellsNext, limit, octets_of_all, optional_front, tagged, whole};
+ghost use Rattle.standard.specs.Statement as standard;
+ghost use Rattle.der_core.specs.Words.{Answers, Tlv, AllocatesIn, HoldsBytes, ReadsAll, ReadsFront, ReadsWhole, Returns, DecodesOrMemory, Prints, Spells, TellsNext, limit, octets_of_all, ok_of, optional_front, tagged, whole};
 
 use crate::error::{ErrorKind, Result};
 use crate::grammar::{Contents, Encoding, FixedTag};
 use crate::header::Header;
 use crate::length::Length;
-use crate::memory::Memory;
+use crate::memory::{Memory, NoMemory};
 use crate::reader::{Octets, Reader, reject_if_failed};
 use crate::slice_reader::SliceReader;
 use crate::tag::Tag;
@@ -40,6 +41,9 @@ pub trait DecodeValue<B: Octets, M: Memory>: Contents + Sized + Drop {
     {
         None
     }
+
+    /// Memory is asked for only where there is any.
+    ghost asks_memory: { (c : List ℕ) → Self.may_allocate c → M.gives };
 }
 
 /// A type whose values are read from their encodings.
@@ -67,10 +71,15 @@ pub trait Decode<B: Octets, M: Memory>: Encoding + Sized + Drop {
             ReadsAll Self.value encodings may_allocate result (B.octets bytes) }
         ensures exact { let b = B.octets bytes in
             Returns Self.value (whole Self.read_front b) (AllocatesIn may_allocate b) result };
+
+    /// Memory is asked for only where there is any.
+    ghost asks_memory: { (b : List ℕ) → Self.may_allocate b → M.gives };
 }
 
 impl<'a, M: Memory, T: DecodeValue<&'a [u8], M> + FixedTag> Decode<&'a [u8], M> for T {
     ghost may_allocate = { Tlv T.TAG.octet T.DecodeValue.may_allocate };
+
+    ghost asks_memory = { λ b t. T.DecodeValue.asks_memory t.contents t.holds };
 
     #[inline(always)]
     fn decode<R: Reader<&'a [u8]>>(memory: M, reader: &mut R) -> Result<T> {
@@ -115,6 +124,15 @@ fn read_slowly<'a, T: DecodeValue<&'a [u8], M> + FixedTag, M: Memory>(
     let value = read_encoding(memory, &mut reader)?;
     reader.finish()?;
     Ok(value)
+}
+
+/// Reads a whole slice without memory: the value that it means, or the error of its first fault.
+#[inline(always)]
+pub fn read_borrowed<'a, T: Decode<&'a [u8], NoMemory>>(bytes: &'a [u8]) -> Result<T>
+    ensures read { standard.Decodes (Spells T.valid T.printed T.means) bytes.now (ok_of T.value result) }
+    ensures exact { Answers T.value result (whole T.read_front bytes.now) }
+{
+    T::from_der(NoMemory, bytes)
 }
 
 /// Reads a whole slice of a type that may take memory: the value that it means, or the error of its first fault, or

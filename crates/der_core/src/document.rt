@@ -14,6 +14,7 @@ ghost use Rattle.der_core.specs.ErrorKinds.{IsFile};
 ghost use Rattle.der_core.specs.Encodings.{AreBytes};
 ghost use Rattle.der_core.specs.Tlv.{tlv};
 ghost use Rattle.der_core.specs.Writing.{RefusedAs};
+ghost use Rattle.der_core.specs.Laws.Encodings.{nothing_asked};
 
 use crate::back_writer::BackWriter;
 use crate::decode::{Decode, DecodeValue};
@@ -68,6 +69,8 @@ impl TaggedBy for AnySequence {
 
 impl<'a> DecodeValue<&'a [u8], NoMemory> for AnySequence {
     ghost may_allocate = { λ _. ⊥ };
+
+    ghost asks_memory = { nothing_asked };
 
     fn decode_value<R: Reader<&'a [u8]>>(
         _memory: NoMemory,

@@ -1,6 +1,6 @@
 //! An INTEGER that has to be one number, such as the version of a structure that has only one.
 ghost use Rattle.std.specs.Prelude.{◌<◌};
-ghost use Rattle.der_core.specs.Words.{expected, expected_law, number_contents, one_spelling_shortest, reading_alike};
+ghost use Rattle.der_core.specs.Words.{expected, expected_law, nothing_asked, number_contents, one_spelling_shortest, reading_alike};
 
 use crate::back_writer::BackWriter;
 use crate::decode::DecodeValue;
@@ -51,6 +51,8 @@ impl<const N: u8> TaggedBy for Expected<N> {
 
 impl<'a, M: Memory, const N: u8> DecodeValue<&'a [u8], M> for Expected<N> {
     ghost may_allocate = { λ _. ⊥ };
+
+    ghost asks_memory = { nothing_asked };
 
     fn decode_value<R: Reader<&'a [u8]>>(
         memory: M,

@@ -3,7 +3,7 @@
 //!
 //! The author of a type writes `Contents` (ghosts alone), `TaggedBy` (the tag), and then `DecodeValue` or `EncodeValue`
 //! or both.
-ghost use Rattle.std.specs.Prelude.{◌≡◌, ◌<◌, ℕ, List, length, Decides};
+ghost use Rattle.std.specs.Prelude.{◌≡◌, ◌<◌, ℕ, List, length, Decides, refl};
 ghost use Rattle.standard.specs.Statement as standard;
 ghost use Rattle.der_core.specs.Words.{FrontReading, Reading, ReadsAlike, ReadsFrontAlike, ReadsFrontPrinted, ReadsPrinted, Starts, WritesShortest, integer_tag, sequence_tag, tagged, tagged_alike, tagged_law, tagged_shortest, tagged_some, tagged_starts};
 ghost use Rattle.der_core.specs.declared.tag.Tag.{Tag};
@@ -98,13 +98,13 @@ pub trait Encoding {
         ensures { result ≡ starts.with tag.octet };
 }
 
-/// A type with an `==` that is true exactly if both sides mean the same value.
+/// A type with an `==` that is true exactly if both sides hold the same value.
 pub trait EqualByValue: Encoding + PartialEq {
-    /// `==` is true exactly if both sides mean the same value.
+    /// `==` is true exactly if both sides hold the same value.
     ghost decides: { (a b : Self) → Decides (Self.eq a b) (Self.value a ≡ Self.value b) };
 }
 
-/// Whether both sides mean the same value: `==`, with a contract that says so of any type.
+/// Whether both sides hold the same value: `==`, with a contract that says so of any type.
 #[inline(always)]
 pub fn equal<T: EqualByValue>(left: &T, right: &T) -> bool
     ensures { Decides result (T.value left.now ≡ T.value right.now) }
@@ -164,6 +164,10 @@ impl TagMarker for SequenceTag {
 pub trait Sequence<'a>: FixedTag {
     /// The tag is that of SEQUENCE.
     ghost is_sequence: { Self.TAG ≡ sequence_tag };
+}
+
+impl<'a, T: TaggedBy<Marker = SequenceTag>> Sequence<'a> for T {
+    ghost is_sequence = { refl };
 }
 
 impl<T: Contents + FixedTag> Encoding for T {

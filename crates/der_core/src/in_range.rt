@@ -1,6 +1,6 @@
 //! An INTEGER in a range, such as the version of a structure that has several.
 ghost use Rattle.std.specs.Prelude.{◌≡◌, ℕ};
-ghost use Rattle.der_core.specs.Words.{IsInRange, in_range, integer_tag, number_contents, one_spelling_shortest, ranged, ranged_law, reading_alike};
+ghost use Rattle.der_core.specs.Words.{IsInRange, in_range, integer_tag, nothing_asked, number_contents, one_spelling_shortest, ranged, ranged_law, reading_alike};
 
 use crate::back_writer::BackWriter;
 use crate::decode::DecodeValue;
@@ -61,6 +61,8 @@ impl<const MIN: u8, const MAX: u8> TaggedBy for InRange<MIN, MAX> {
 
 impl<'a, M: Memory, const MIN: u8, const MAX: u8> DecodeValue<&'a [u8], M> for InRange<MIN, MAX> {
     ghost may_allocate = { λ _. ⊥ };
+
+    ghost asks_memory = { nothing_asked };
 
     fn decode_value<R: Reader<&'a [u8]>>(
         memory: M,

@@ -1,7 +1,7 @@
 //! The last part of some contents: one encoding, or an OPTIONAL one.
 ghost use Rattle.std.specs.Prelude.{◌≡◌, Option, option_map};
 ghost use Rattle.standard.specs.Statement as standard;
-ghost use Rattle.der_core.specs.Words.{AllocatesIn, AllocatesLast, ReadsWhole, Tlv, alone, alone_alike, last, last_alike, last_by_tag_law, last_law, last_shortest, optional_alike, optional_front, tagged, tagged_alike, tagged_shortest};
+ghost use Rattle.der_core.specs.Words.{AllocatesIn, AllocatesLast, ReadsWhole, Tlv, alone, alone_alike, last, last_alike, last_by_tag_law, last_law, last_part_asks_as_it, last_shortest, optional_alike, optional_front, tagged, tagged_alike, tagged_shortest};
 
 use crate::back_writer::BackWriter;
 use crate::borrowed::Borrowed;
@@ -61,6 +61,8 @@ impl<T: Encoding> Contents for Last<T> {
 
 impl<'a, M: Memory, T: Decode<&'a [u8], M>> DecodeParts<&'a [u8], M> for Last<T> {
     ghost may_allocate = { AllocatesLast T.Decode.may_allocate };
+
+    ghost asks_memory = { last_part_asks_as_it T.Decode.asks_memory };
 
     #[inline(always)]
     fn decode_parts<R: Reader<&'a [u8]>>(memory: M, reader: &mut R) -> Result<Last<T>> {
@@ -138,6 +140,8 @@ impl<T: Contents + FixedTag> Contents for LastByTag<T> {
 impl<'a, M: Memory, T: DecodeValue<&'a [u8], M> + FixedTag> DecodeParts<&'a [u8], M>
     for LastByTag<T> {
     ghost may_allocate = { AllocatesIn (Tlv T.TAG.octet T.DecodeValue.may_allocate) };
+
+    ghost asks_memory = { λ c t. T.DecodeValue.asks_memory t.3.contents t.3.holds };
 
     #[inline(always)]
     fn decode_parts<R: Reader<&'a [u8]>>(memory: M, reader: &mut R) -> Result<LastByTag<T>> {

@@ -8,7 +8,6 @@
 //! encoding of at most `Length::MAX` bytes that means a value.
 #![tactic(auto)]
 
-mod asks_none;
 mod back_writer;
 mod borrowed;
 mod decode;
@@ -42,10 +41,9 @@ mod transfer;
 mod try_clone;
 mod writer;
 
-pub use asks_none::{AsksNone, ContentsAskNone, PartsAskNone, read_borrowed};
 pub use back_writer::BackWriter;
 pub use borrowed::Borrowed;
-pub use decode::{Decode, DecodeValue, decode_optional, is_tag_next, read_owned};
+pub use decode::{Decode, DecodeValue, decode_optional, is_tag_next, read_borrowed, read_owned};
 pub use document::{Document, DocumentOf, Open, Secret, SecretDocument, write_over};
 pub use encode::{Encode, EncodeValue, joined_len};
 pub use error::{Error, ErrorKind, Result};

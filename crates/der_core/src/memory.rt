@@ -6,15 +6,22 @@ use crate::error::Result;
 use std::alloc::Global;
 
 /// The memory that a reading call may allocate from, as `NoMemory` or `Global`.
-pub trait Memory: Copy + Drop {}
+pub trait Memory: Copy + Drop {
+    /// Whether there is any.
+    ghost gives: { Type 0 };
+}
 
 /// Nothing is allocated. Types that borrow from the input need no more.
 #[derive(Clone, Copy, Drop)]
 pub struct NoMemory;
 
-impl Memory for NoMemory {}
+impl Memory for NoMemory {
+    ghost gives = { ⊥ };
+}
 
-impl Memory for Global {}
+impl Memory for Global {
+    ghost gives = { Unit {0} };
+}
 
 /// Copies the bytes.
 pub(crate) fn copy_of(alloc: Global, bytes: &[u8]) -> Result<Vec<u8>>

@@ -7,6 +7,7 @@ ghost use Rattle.der_core.specs.Laws.Printed.Leaves.{octets_law};
 ghost use Rattle.der_core.specs.Laws.Printed.Shortest.{one_spelling_shortest};
 ghost use Rattle.der_core.specs.Tags.{octet_string_tag};
 ghost use Rattle.der_core.specs.Encodings.{AreBytes};
+ghost use Rattle.der_core.specs.Laws.Encodings.{nothing_asked};
 
 use crate::back_writer::BackWriter;
 use crate::decode::DecodeValue;
@@ -115,6 +116,8 @@ impl EqualByValue for OctetStringRef<'_> {
 
 impl<'a, M: Memory> DecodeValue<&'a [u8], M> for OctetStringRef<'a> {
     ghost may_allocate = { λ _. ⊥ };
+
+    ghost asks_memory = { nothing_asked };
 
     fn decode_value<R: Reader<&'a [u8]>>(
         _memory: M,

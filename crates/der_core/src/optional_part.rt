@@ -2,7 +2,7 @@
 ghost use Rattle.std.specs.Prelude.{◌≡◌, ◌⊎◌, IsSome, Option, false, option_map};
 ghost use Rattle.standard.specs.Statement as standard;
 ghost use Rattle.der_core.specs.declared.error.ErrorKind.TheVariants as kinds;
-ghost use Rattle.der_core.specs.Words.{AllocatesInParts, Optional, Prints, ReadsWhole, Tlv, last_shortest, optional_alike, optional_front, optional_part_law, parts, row, row_alike, row_law, row_shortest, tagged, tagged_alike, tagged_shortest, unless, unless_alike, unless_shortest};
+ghost use Rattle.der_core.specs.Words.{AllocatesInParts, Optional, Prints, ReadsWhole, Tlv, last_shortest, optional_alike, optional_front, optional_part_law, parts, parts_ask_as_each, row, row_alike, row_law, row_shortest, tagged, tagged_alike, tagged_shortest, unless, unless_alike, unless_shortest};
 
 use crate::back_writer::BackWriter;
 use crate::decode::{Decode, DecodeValue, decode_optional};
@@ -85,6 +85,11 @@ where
         let second = Prints A.valid A.printed A.means in
         AllocatesInParts (Optional part) (Tlv T.TAG.octet T.DecodeValue.may_allocate)
         (AllocatesInParts second A.Decode.may_allocate B.DecodeParts.may_allocate) };
+
+    ghost asks_memory = { let part = Prints T.valid (λ s. standard.tlv T.TAG.octet (T.printed s)) T.means in
+        let second = Prints A.valid A.printed A.means in
+        parts_ask_as_each (Optional part) (λ b t. T.DecodeValue.asks_memory t.contents t.holds)
+        (parts_ask_as_each second A.Decode.asks_memory B.DecodeParts.asks_memory) };
 
     #[inline(always)]
     fn decode_parts<R: Reader<&'a [u8]>>(

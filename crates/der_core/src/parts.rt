@@ -1,7 +1,7 @@
 //! Parts of contents in a row, as a type: a nested pair that ends with `()`, as `(A, (B, ()))`, or with an OPTIONAL last
 //! part, as `(A, Last<B>)`. A row is written as contents, `(Borrowed(&self.a), (Borrowed(&self.b), ())).value_len()`.
 ghost use Rattle.std.specs.Prelude.{◌≡◌, ◌⊎◌, List, [], ℕ, Ok, IfSome};
-ghost use Rattle.der_core.specs.Words.{AllocatesInParts, Prints, ReadsWhole, end_law, no_parts, one_spelling_shortest, parts, reading_alike, row, row_alike, row_law, row_shortest};
+ghost use Rattle.der_core.specs.Words.{AllocatesInParts, Prints, ReadsWhole, end_law, no_parts, nothing_asked, one_spelling_shortest, parts, parts_ask_as_each, reading_alike, row, row_alike, row_law, row_shortest};
 
 use crate::back_writer::BackWriter;
 use crate::decode::Decode;
@@ -30,6 +30,9 @@ pub trait DecodeParts<B: Octets, M: Memory>: Contents + Sized + Drop {
     {
         None
     }
+
+    /// Memory is asked for only where there is any.
+    ghost asks_memory: { (c : List ℕ) → Self.may_allocate c → M.gives };
 }
 
 impl Contents for () {
@@ -87,6 +90,8 @@ impl<A: Encoding, B: Contents> Contents for (A, B) {
 impl<'a, M: Memory> DecodeParts<&'a [u8], M> for () {
     ghost may_allocate = { λ _. ⊥ };
 
+    ghost asks_memory = { nothing_asked };
+
     #[inline(always)]
     fn decode_parts<R: Reader<&'a [u8]>>(_memory: M, reader: &mut R) -> Result<()> {
         reader.finish()
@@ -102,6 +107,9 @@ impl<'a, M: Memory, A: Decode<&'a [u8], M>, B: DecodeParts<&'a [u8], M>> DecodeP
     for (A, B) {
     ghost may_allocate = { let first = Prints A.valid A.printed A.means in
         AllocatesInParts first A.Decode.may_allocate B.DecodeParts.may_allocate };
+
+    ghost asks_memory = { let first = Prints A.valid A.printed A.means in
+        parts_ask_as_each first A.Decode.asks_memory B.DecodeParts.asks_memory };
 
     #[inline(always)]
     fn decode_parts<R: Reader<&'a [u8]>>(memory: M, reader: &mut R) -> Result<(A, B)> {

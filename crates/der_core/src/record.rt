@@ -8,7 +8,7 @@ use crate::back_writer::BackWriter;
 use crate::decode::DecodeValue;
 use crate::encode::EncodeValue;
 use crate::error::Result;
-use crate::grammar::{Contents, Sequence, SequenceTag, TagMarker, TaggedBy};
+use crate::grammar::Contents;
 use crate::header::Header;
 use crate::length::Length;
 use crate::memory::Memory;
@@ -40,6 +40,8 @@ where
     T::Parts: DecodeParts<&'a [u8], M>,
 {
     ghost may_allocate = { T.Parts.DecodeParts.may_allocate };
+
+    ghost asks_memory = { T.Parts.DecodeParts.asks_memory };
 
     #[inline(always)]
     fn decode_value<R: Reader<&'a [u8]>>(memory: M, reader: &mut R, _header: Header) -> Result<T> {
@@ -87,10 +89,7 @@ pub trait EncodeInParts: InParts {
         ensures { Prepends (Self.printed (Self.written (Self.value self.now))) writer.old writer.new };
 }
 
-impl<T: EncodeInParts> EncodeValue for T
-where
-    T::Parts: EncodeValue,
-{
+impl<T: EncodeInParts> EncodeValue for T {
     ghost refused = { T.EncodeInParts.refused };
 
     #[inline(always)]
@@ -111,9 +110,6 @@ where
 
 /// A type that means its parts: their row is all that there is to say of it, and the tag around them.
 pub trait Record: Sized {
-    /// The marker of the tag: `SequenceTag` of a SEQUENCE.
-    type Marker: TagMarker;
-
     /// The row.
     type Fields: Contents;
 
@@ -149,14 +145,6 @@ impl<T: Record> Contents for T {
     ghost shortest = { T.Fields.shortest };
 
     ghost reads_alike = { T.Fields.reads_alike };
-}
-
-impl<T: Record> TaggedBy for T {
-    type Marker = T::Marker;
-}
-
-impl<'a, T: Record<Marker = SequenceTag>> Sequence<'a> for T {
-    ghost is_sequence = { refl };
 }
 
 impl<T: Record> InParts for T {

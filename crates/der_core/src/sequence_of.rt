@@ -49,6 +49,8 @@ impl<T> TaggedBy for Vec<T> {
 impl<'a, T: Decode<&'a [u8], Global>> DecodeValue<&'a [u8], Global> for Vec<T> {
     ghost may_allocate = { AllocatesForItems (Prints T.valid T.printed T.means) T.Decode.may_allocate };
 
+    ghost asks_memory = { λ _ _. tt };
+
     fn decode_value<R: Reader<&'a [u8]>>(
         memory: Global,
         reader: &mut R,

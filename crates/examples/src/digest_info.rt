@@ -5,7 +5,7 @@ ghost use Rattle.der_core.specs.Words.{Answers, Spells, Unwritten, encode_error,
 
 use der_core::{
     BackWriter, Borrowed, Encode, EncodeInParts, EncodeValue, Encoding, Length, OctetStringRef,
-    Record, Result, SequenceTag, Writer, read_borrowed, write_only,
+    Record, Result, SequenceTag, Writer, read_borrowed, write_only, TaggedBy,
 };
 use spki_core::{AlgorithmView, AnyRef};
 
@@ -25,9 +25,11 @@ pub struct DigestInfo<A, D> {
 /// One that borrows its parts.
 pub type DigestInfoRef<'a> = DigestInfo<AlgorithmView<'a, AnyRef<'a>>, OctetStringRef<'a>>;
 
-impl<A: Encoding, D: Encoding> Record for DigestInfo<A, D> {
+impl<A, D> TaggedBy for DigestInfo<A, D> {
     type Marker = SequenceTag;
+}
 
+impl<A: Encoding, D: Encoding> Record for DigestInfo<A, D> {
     type Fields = (A, (D, ()));
 
     ghost fields = { λ info. (info.algorithm, (info.digest, tt)) };

@@ -5,7 +5,7 @@ ghost use Rattle.der_core.specs.Words.{Answers, Spells, Unwritten, encode_error,
 
 use der_core::{
     BackWriter, Borrowed, Encode, EncodeInParts, EncodeValue, Encoding, Length, Record, Result,
-    SequenceTag, UintRef, Writer, read_borrowed, write_only,
+    SequenceTag, UintRef, Writer, read_borrowed, write_only, TaggedBy,
 };
 use spki_core::AlgorithmView;
 
@@ -30,9 +30,11 @@ pub type DsaParamsRef<'a> = DsaParams<UintRef<'a>>;
 /// An algorithm identifier whose parameters are of DSA, or left out.
 pub type DsaAlgorithmRef<'a> = AlgorithmView<'a, DsaParamsRef<'a>>;
 
-impl<U: Encoding> Record for DsaParams<U> {
+impl<U> TaggedBy for DsaParams<U> {
     type Marker = SequenceTag;
+}
 
+impl<U: Encoding> Record for DsaParams<U> {
     type Fields = (U, (U, (U, ())));
 
     ghost fields = { λ params. (params.p, (params.q, (params.g, tt))) };

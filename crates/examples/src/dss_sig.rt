@@ -6,7 +6,7 @@ ghost use Rattle.der_core.specs.Words.{Answers, Spells, Unwritten, encode_error,
 
 use der_core::{
     BackWriter, Borrowed, Encode, EncodeInParts, EncodeValue, Encoding, Length, Record, Result,
-    SequenceTag, UintRef, Writer, read_borrowed, write_only,
+    SequenceTag, UintRef, Writer, read_borrowed, write_only, TaggedBy,
 };
 
 /// The value of a DSA or ECDSA signature.
@@ -25,9 +25,11 @@ pub struct DssSigValue<U> {
 /// A signature that borrows its numbers.
 pub type DssSigValueRef<'a> = DssSigValue<UintRef<'a>>;
 
-impl<U: Encoding> Record for DssSigValue<U> {
+impl<U> TaggedBy for DssSigValue<U> {
     type Marker = SequenceTag;
+}
 
+impl<U: Encoding> Record for DssSigValue<U> {
     type Fields = (U, (U, ()));
 
     ghost fields = { λ signature. (signature.r, (signature.s, tt)) };

@@ -1,11 +1,11 @@
 //! A record with a part that is there or not, in front of another.
 ghost use Rattle.std.specs.Prelude.{◌≡◌, ◌∷◌, [], IfErr, length, refl, bytes_eq};
 ghost use Rattle.standard.specs.Statement as standard;
-ghost use Rattle.der_core.specs.Words.{Answers, Spells, Unwritten, reading_alike, encode_error, ok_of, one_spelling_shortest, whole, itself_once};
+ghost use Rattle.der_core.specs.Words.{Answers, Spells, Unwritten, encode_error, itself_once, nothing_asked, ok_of, one_spelling_shortest, reading_alike, whole};
 ghost use Rattle.examples.specs.Extension.{IsTrueOctet, critical_part, true_law, true_octets, true_read};
 
 use der_core::{
-    BackWriter, Borrowed, Contents, ContentsAskNone, DecodeValue, Encode, EncodeInParts,
+    BackWriter, Borrowed, Contents, DecodeValue, Encode, EncodeInParts,
     EncodeValue, Encoding, Error, ErrorKind, Header, Length, Memory, OctetStringRef, OneContents,
     OptionalThen, Reader, Record, Result, SequenceTag, Tag, TagMarker, TaggedBy, Writer,
     read_borrowed, write_only,
@@ -79,6 +79,8 @@ fn true_of(contents: &[u8]) -> Result<True>
 impl<'a, M: Memory> DecodeValue<&'a [u8], M> for True {
     ghost may_allocate = { λ _. ⊥ };
 
+    ghost asks_memory = { nothing_asked };
+
     fn decode_value<R: Reader<&'a [u8]>>(
         _memory: M,
         reader: &mut R,
@@ -104,10 +106,6 @@ impl EncodeValue for True {
     fn prepend_value(&self, writer: &mut BackWriter<'_>) {
         writer.prepend(&[0xff]);
     }
-}
-
-impl<'a> ContentsAskNone<&'a [u8]> for True {
-    ghost contents_ask_none = { λ c no. no };
 }
 
 impl OneContents for True {
@@ -136,9 +134,11 @@ pub struct Extension<V> {
 /// One that borrows its value.
 pub type ExtensionRef<'a> = Extension<OctetStringRef<'a>>;
 
-impl<V: Encoding> Record for Extension<V> {
+impl<V> TaggedBy for Extension<V> {
     type Marker = SequenceTag;
+}
 
+impl<V: Encoding> Record for Extension<V> {
     type Fields = (ObjectIdentifier, OptionalThen<True, (V, ())>);
 
     ghost fields = { λ it. (it.id, record { 0 = critical_part it.critical; 1 = (it.value, tt) }) };

@@ -6,7 +6,7 @@ ghost use Rattle.examples.specs.ImplicitPair.{implicit_tag};
 
 use der_core::{
     BackWriter, Borrowed, Encode, EncodeInParts, EncodeValue, Encoding, Length, Record, Result,
-    Tag, TagMarker, UintRef, Writer, read_borrowed, write_only,
+    Tag, TagMarker, UintRef, Writer, read_borrowed, write_only, TaggedBy,
 };
 
 /// The tag `[0]`.
@@ -34,9 +34,11 @@ pub struct ImplicitPair<U> {
 /// A pair that borrows its numbers.
 pub type ImplicitPairRef<'a> = ImplicitPair<UintRef<'a>>;
 
-impl<U: Encoding> Record for ImplicitPair<U> {
+impl<U> TaggedBy for ImplicitPair<U> {
     type Marker = ImplicitTag;
+}
 
+impl<U: Encoding> Record for ImplicitPair<U> {
     type Fields = (U, (U, ()));
 
     ghost fields = { λ pair. (pair.first, (pair.second, tt)) };

@@ -2,7 +2,7 @@
 ghost use Rattle.std.specs.Prelude.{ℕ};
 ghost use Rattle.std.specs.Int.Digits.{number_from_digits};
 ghost use Rattle.standard.specs.Statement.{Encodes, PublicKeyEncoding};
-ghost use Rattle.der_core.specs.Words.{bytes_of, number_contents, number_law, number_of, numbers_encode, ok_of, one_spelling_shortest, reading_alike};
+ghost use Rattle.der_core.specs.Words.{bytes_of, nothing_asked, number_contents, number_law, number_of, numbers_encode, ok_of, one_spelling_shortest, reading_alike};
 ghost use Rattle.pkcs1.specs.Words.{held_public_key};
 
 use der_core::{
@@ -62,6 +62,8 @@ impl UintEncoding for KeyNumber<'_> {
 
 impl<'a, M: Memory> DecodeValue<&'a [u8], M> for KeyNumber<'a> {
     ghost may_allocate = { λ _. ⊥ };
+
+    ghost asks_memory = { nothing_asked };
 
     fn decode_value<R: Reader<&'a [u8]>>(
         memory: M,

@@ -6,7 +6,7 @@ ghost use Rattle.examples.specs.NumberList.{IsNumberList, MayAskMemory, NumberLi
 
 use der_core::{
     BackWriter, Borrowed, Encode, EncodeInParts, EncodeValue, Encoding, InRange, Length, Record,
-    Result, SequenceTag, UintRef, Writer, read_owned, write_only,
+    Result, SequenceTag, UintRef, Writer, read_owned, write_only, TaggedBy,
 };
 use std::alloc::Global;
 
@@ -26,9 +26,11 @@ pub struct NumberList<U> {
 /// One that borrows its numbers.
 pub type NumberListRef<'a> = NumberList<UintRef<'a>>;
 
-impl<U: Encoding> Record for NumberList<U> {
+impl<U> TaggedBy for NumberList<U> {
     type Marker = SequenceTag;
+}
 
+impl<U: Encoding> Record for NumberList<U> {
     type Fields = (InRange<0, 1>, (Vec<U>, ()));
 
     ghost fields = { λ list. (list.version, (list.numbers, tt)) };

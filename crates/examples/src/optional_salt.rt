@@ -6,7 +6,7 @@ ghost use Rattle.examples.specs.Salt.{IsSalt, SaltEncoding, salt_of, salt_read};
 
 use der_core::{
     BackWriter, Borrowed, Encode, EncodeInParts, EncodeValue, Encoding, Last, Length,
-    OctetStringRef, Record, Result, SequenceTag, UintRef, Writer, read_borrowed, write_only,
+    OctetStringRef, Record, Result, SequenceTag, UintRef, Writer, read_borrowed, write_only, TaggedBy,
 };
 
 /// A number of iterations, and a salt that is there or not.
@@ -25,9 +25,11 @@ pub struct OptionalSalt<U, S> {
 /// One that borrows its parts.
 pub type OptionalSaltRef<'a> = OptionalSalt<UintRef<'a>, OctetStringRef<'a>>;
 
-impl<U: Encoding, S: Encoding> Record for OptionalSalt<U, S> {
+impl<U, S> TaggedBy for OptionalSalt<U, S> {
     type Marker = SequenceTag;
+}
 
+impl<U: Encoding, S: Encoding> Record for OptionalSalt<U, S> {
     type Fields = (U, Last<S>);
 
     ghost fields = { λ it. (it.iterations, record { 0 = it.salt }) };

@@ -3,7 +3,7 @@
 use Rattle.std.proofs.Common.{ℕ, List, [], ◌∷◌, ◌++◌, ◌≡◌, ◌≤◌, length, map, refl, sym, ap, ◌∙◌, arith, append_assoc, append-nil, length-append, inl, inr, ⊎_elim, Option, Some, None, option_map}
 use Rattle.std.specs.List.{concat}
 use Rattle.der_core.specs.declared.error.ErrorKind.{ErrorKind}
-use Rattle.der_core.specs.Words.{tlv_recast, tlv_not_empty, tlv_split, parts_ask_none, tlv_fit, tlv_is, tlv_made, prints_one, limit, AllocatesInParts, ReadsFrontPrinted, number_contents, AllocatesBehind, AllocatesIn, Begins, FaultOrMemory, NoValueOrMemory, FrontReading, Tlv, tlv}
+use Rattle.der_core.specs.Words.{tlv_recast, tlv_not_empty, tlv_split, parts_ask_as_each, tlv_fit, tlv_is, tlv_made, prints_one, limit, AllocatesInParts, ReadsFrontPrinted, number_contents, AllocatesBehind, AllocatesIn, Begins, FaultOrMemory, NoValueOrMemory, FrontReading, Tlv, tlv}
 use Rattle.pkcs1.specs.Words.{AllocatesForKey, AllocatesInNumbers, AllocatesInOther, AllocatesInOthers, NumberPrints, OthersFollow, VersionPrints, OtherRow, PrivateRow, private_front_parts, key_numbers, integer_law, front_law, others_in, private_spells, read_valid, others_as, AnyNumber, FrontPrints, OtherPrints, PrivateIsValid, PrivateSpells, front_printed, others_printed, private_printed, other_from, private_from}
 use Rattle.standard.specs.Statement as standard
 use Rattle.standard.specs.Statement.{integer}
@@ -12,11 +12,11 @@ use Rattle.standard.specs.Statement.{integer}
 pub numbers_ask_none : {V : Type 0} {encoding : V → List ℕ → Type 0} {may : List ℕ → Type 0}
     → ((b : List ℕ) → may b → ⊥) → (c : List ℕ) → AllocatesInNumbers encoding may c → ⊥
 numbers_ask_none {V} {encoding} {may} none =
-    parts_ask_none VersionPrints (λ b t. t.holds) (next (next (next (next (next (next (next (next (λ c w. w)))))))))
+    parts_ask_as_each VersionPrints (λ b t. t.holds) (next (next (next (next (next (next (next (next (λ c w. w)))))))))
   where
     next : {rest : List ℕ → Type 0} → ((c : List ℕ) → rest c → ⊥) → (c : List ℕ)
         → AllocatesInParts encoding may rest c → ⊥
-    next rest = parts_ask_none encoding none rest
+    next rest = parts_ask_as_each encoding none rest
 
 -- Primes that mean none are none.
 none_others : {S V : Type 0} (means : S → V) (primes : Option (List (OtherRow S))) → others_as means primes ≡ None
@@ -97,7 +97,7 @@ borrowed_ask b t = t.holds
 -- A number, and parts behind it that need none.
 none_in_parts : {rest : List ℕ → Type 0} → ((c : List ℕ) → rest c → ⊥) → (c : List ℕ)
     → AllocatesInParts NumberPrints Borrowed rest c → ⊥
-none_in_parts none = parts_ask_none NumberPrints borrowed_ask none
+none_in_parts none = parts_ask_as_each NumberPrints borrowed_ask none
 
 -- Both numbers of a public key.
 pub none_in_public : (c : List ℕ)

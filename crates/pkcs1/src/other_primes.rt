@@ -3,7 +3,7 @@ ghost use Rattle.std.specs.Prelude.{◌≡◌, [], ◌≤◌, List, ℕ, length,
 ghost use Rattle.std.specs.List.{AllByRecursion};
 ghost use Rattle.std.specs.Iterator.{UpTo, YieldsFirstBy, item_count};
 ghost use Rattle.std.specs.Iterator.SizeHint.{IsWithinCount};
-ghost use Rattle.der_core.specs.Words.{AreBytes, ReadsFront, bytes_of, left_of, limit, one_spelling_shortest, reading_alike};
+ghost use Rattle.der_core.specs.Words.{AreBytes, ReadsFront, bytes_of, left_of, limit, nothing_asked, one_spelling_shortest, reading_alike};
 ghost use Rattle.pkcs1.specs.KeyReadings.{number_front, primes_read};
 ghost use Rattle.pkcs1.specs.Keys.{OtherRow};
 ghost use Rattle.pkcs1.specs.Laws.PrimesHeld.{HoldsPrimes-prop};
@@ -180,6 +180,8 @@ impl TaggedBy for OtherPrimes<'_> {
 
 impl<'a, M: Memory> DecodeValue<&'a [u8], M> for OtherPrimes<'a> {
     ghost may_allocate = { λ _. ⊥ };
+
+    ghost asks_memory = { nothing_asked };
 
     fn decode_value<R: Reader<&'a [u8]>>(
         _memory: M,

@@ -142,12 +142,10 @@ impl<U, O> TaggedBy for PrivateKeyOf<U, O> {
     type Marker = SequenceTag;
 }
 
-impl<'a, U, O> Sequence<'a> for PrivateKeyOf<U, O> {
-    ghost is_sequence = { refl };
-}
-
 impl<'a, U: Decode<&'a [u8], Global>> DecodeValue<&'a [u8], Global> for RsaPrivateKey<U> {
     ghost may_allocate = { AllocatesForKey U.valid U.printed U.means U.Decode.may_allocate };
+
+    ghost asks_memory = { λ _ _. tt };
 
     fn decode_value<R: Reader<&'a [u8]>>(
         memory: Global,

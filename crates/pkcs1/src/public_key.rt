@@ -4,7 +4,7 @@ ghost use Rattle.pkcs1.specs.Words.{public_row};
 
 use der_core::{
     BackWriter, Borrowed, Decode, Encode, EncodeInParts, EncodeValue, Encoding, EqualByValue,
-    Length, NoMemory, Record, SequenceTag, TryClone, Uint, UintEncoding, UintRef, Writer,
+    Length, NoMemory, Record, SequenceTag, TryClone, Uint, UintEncoding, UintRef, Writer, TaggedBy,
 };
 use pkcs1_params::{Error, Result};
 use std::alloc::Global;
@@ -31,9 +31,11 @@ pub type RsaPublicKeyRef<'a> = RsaPublicKey<UintRef<'a>>;
 /// A public key that owns its numbers.
 pub type RsaPublicKeyOwned = RsaPublicKey<Uint>;
 
-impl<U: Encoding> Record for RsaPublicKey<U> {
+impl<U> TaggedBy for RsaPublicKey<U> {
     type Marker = SequenceTag;
+}
 
+impl<U: Encoding> Record for RsaPublicKey<U> {
     type Fields = (U, (U, ()));
 
     ghost fields = { λ key. (key.modulus, (key.public_exponent, tt)) };

@@ -4,7 +4,7 @@ ghost use Rattle.std.proofs.Common.{rules};
 ghost use Rattle.std.specs.Cmp.{partial_order_from_own_ties};
 ghost use Rattle.std.specs.Cmp.Rules.{comparing};
 ghost use Rattle.std.specs.Ordering.{on, nat_cmp, as_partial_cmp};
-ghost use Rattle.der_core.specs.Words.{number_contents, reading_alike};
+ghost use Rattle.der_core.specs.Words.{nothing_asked, number_contents, reading_alike};
 ghost use Rattle.pkcs1.specs.Words.{IsVersionOf, version_law, version_number, version_read, version_shortest};
 
 use der_core::{
@@ -133,6 +133,8 @@ impl TaggedBy for Version {
 
 impl<'a, M: Memory> DecodeValue<&'a [u8], M> for Version {
     ghost may_allocate = { λ _. ⊥ };
+
+    ghost asks_memory = { nothing_asked };
 
     fn decode_value<R: Reader<&'a [u8]>>(
         memory: M,

@@ -1,6 +1,6 @@
 //! The numbers of a private key over the input, and where its other primes lie: what `RsaPrivateKeyView` reads.
 ghost use Rattle.std.specs.Prelude.{◌≡◌, ℕ, IsTrue, IfSome, Ok, Some, ◌↔◌, option_map};
-ghost use Rattle.der_core.specs.Words.{ReadsWhole, bytes_of, one_spelling_shortest, reading_alike};
+ghost use Rattle.der_core.specs.Words.{ReadsWhole, bytes_of, nothing_asked, one_spelling_shortest, reading_alike};
 ghost use Rattle.pkcs1.specs.Words.{AnyNumber, HoldsNone, PrivateIsValid, PrivateRow, integer_law, key_with, number_front, number_in, others_left, others_read, private_key_read, private_law, private_printed, version_number};
 ghost use Rattle.standard.specs.Statement as standard;
 
@@ -105,6 +105,8 @@ impl Contents for ViewedKey<'_> {
 
 impl<'a> DecodeValue<&'a [u8], NoMemory> for ViewedKey<'a> {
     ghost may_allocate = { λ _. ⊥ };
+
+    ghost asks_memory = { nothing_asked };
 
     fn decode_value<R: Reader<&'a [u8]>>(
         memory: NoMemory,

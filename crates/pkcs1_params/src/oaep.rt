@@ -84,10 +84,6 @@ impl<O, P> TaggedBy for OaepParamsOf<O, P> {
     type Marker = SequenceTag;
 }
 
-impl<'a, O, P> Sequence<'a> for OaepParamsOf<O, P> {
-    ghost is_sequence = { refl };
-}
-
 impl<O: IdentifierValue, P: AnyValue> EncodeValue for OaepParamsOf<O, P> {
     fn value_len(&self) -> der_core::Result<Length> {
         contents_len(self, non_defaults_in(self), 0)

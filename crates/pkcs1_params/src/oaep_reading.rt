@@ -3,6 +3,7 @@ ghost use Rattle.std.specs.Prelude.{◌≡◌, ◌↔◌, None};
 ghost use Rattle.pkcs1_params.specs.Words.{IsEncoded, OaepParameters, fault_in, oaep_in, oaep_of, oaep_record, oaep_viewed, rsa_oaep_params, strict_oaep_params};
 ghost use Rattle.spki_core.specs.Words.{any_of};
 ghost use Rattle.standard.specs.Statement.{IsOaep, OaepEncoding, empty_label, mgf1_sha1, oaep_fields, sha1};
+ghost use Rattle.der_core.specs.Words.{nothing_asked};
 
 use crate::error::{Error, Result};
 use crate::from_view::ReadParams;
@@ -121,6 +122,8 @@ impl<'a, O: ReadParams<'a>> TryFrom<&'a [u8]> for OaepParamsOf<O, AnyRef<'a>> {
 
 impl<'a, M: Memory, O: ReadParams<'a>> DecodeValue<&'a [u8], M> for OaepParamsOf<O, AnyRef<'a>> {
     ghost may_allocate = { λ _. ⊥ };
+
+    ghost asks_memory = { nothing_asked };
 
     #[inline(always)]
     fn decode_value<R: Reader<&'a [u8]>>(

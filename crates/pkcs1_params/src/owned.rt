@@ -93,6 +93,8 @@ fn copy_oaep(alloc: Global, params: RsaOaepParamsRef<'_>) -> Result<RsaOaepParam
 impl<'a> DecodeValue<&'a [u8], Global> for RsaPssParams<Any> {
     ghost may_allocate = { OwnedPssAllocates };
 
+    ghost asks_memory = { λ _ _. tt };
+
     fn decode_value<R: Reader<&'a [u8]>>(
         memory: Global,
         reader: &mut R,
@@ -108,6 +110,8 @@ impl<'a> DecodeValue<&'a [u8], Global> for RsaPssParams<Any> {
 
 impl<'a> DecodeValue<&'a [u8], Global> for RsaOaepParams<Any> {
     ghost may_allocate = { OwnedOaepAllocates };
+
+    ghost asks_memory = { λ _ _. tt };
 
     fn decode_value<R: Reader<&'a [u8]>>(
         memory: Global,

@@ -87,10 +87,6 @@ impl<O, P> TaggedBy for PssParamsOf<O, P> {
     type Marker = SequenceTag;
 }
 
-impl<'a, O, P> Sequence<'a> for PssParamsOf<O, P> {
-    ghost is_sequence = { refl };
-}
-
 impl<O: IdentifierValue, P: AnyValue> EncodeValue for PssParamsOf<O, P> {
     fn value_len(&self) -> der_core::Result<Length> {
         contents_len(self, non_defaults_in(self), 0)

@@ -3,6 +3,7 @@ ghost use Rattle.std.specs.Prelude.{◌≡◌, ◌↔◌, None};
 ghost use Rattle.pkcs1_params.specs.Words.{IsEncoded, PssParameters, fault_in, pss_in, pss_of, pss_record, pss_viewed, rsa_pss_params, strict_pss_params};
 ghost use Rattle.spki_core.specs.Words.{any_of};
 ghost use Rattle.standard.specs.Statement.{IsPss, PssEncoding, mgf1_sha1, pss_fields, sha1};
+ghost use Rattle.der_core.specs.Words.{nothing_asked};
 
 use crate::error::{Error, Result};
 use crate::from_view::ReadParams;
@@ -126,6 +127,8 @@ impl<'a, O: ReadParams<'a>> TryFrom<&'a [u8]> for PssParamsOf<O, AnyRef<'a>> {
 
 impl<'a, M: Memory, O: ReadParams<'a>> DecodeValue<&'a [u8], M> for PssParamsOf<O, AnyRef<'a>> {
     ghost may_allocate = { λ _. ⊥ };
+
+    ghost asks_memory = { nothing_asked };
 
     #[inline(always)]
     fn decode_value<R: Reader<&'a [u8]>>(

@@ -1,6 +1,6 @@
 //! The trailer field of RSASSA-PSS.
 ghost use Rattle.std.specs.Prelude.{◌≡◌, ℕ, refl};
-ghost use Rattle.der_core.specs.Words.{number_contents, one_spelling_shortest, reading_alike};
+ghost use Rattle.der_core.specs.Words.{nothing_asked, number_contents, one_spelling_shortest, reading_alike};
 ghost use Rattle.pkcs1_params.specs.Words.{trailer_law, trailer_read};
 
 use der_core::{
@@ -61,6 +61,8 @@ impl EqualByValue for TrailerField {
 
 impl<'a, M: Memory> DecodeValue<&'a [u8], M> for TrailerField {
     ghost may_allocate = { λ _. ⊥ };
+
+    ghost asks_memory = { nothing_asked };
 
     fn decode_value<R: Reader<&'a [u8]>>(
         memory: M,

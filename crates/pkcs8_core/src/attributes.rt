@@ -1,10 +1,10 @@
 //! The attributes of containers, as opaque bytes.
 ghost use Rattle.std.specs.Prelude.{◌≡◌, ◌<◌, ◌^◌, ℕ, List, length, slice_index};
-ghost use Rattle.der_core.specs.Words.{octets_of_all, AreBytes, reading_alike, octets_law, one_spelling_shortest};
+ghost use Rattle.der_core.specs.Words.{AreBytes, nothing_asked, octets_law, octets_of_all, one_spelling_shortest, reading_alike};
 ghost use Rattle.pkcs8_core.specs.Tags.{attributes_tag};
 
 use pkcs1::der::{
-    BackWriter, Contents, ContentsAskNone, DecodeValue, EncodeValue, Header, Length, Memory,
+    BackWriter, Contents, DecodeValue, EncodeValue, Header, Length, Memory,
     Reader, Result, Tag, TagMarker, TaggedBy, Writer, quick_contents,
 };
 
@@ -72,6 +72,8 @@ impl TaggedBy for Attributes<'_> {
 impl<'a, M: Memory> DecodeValue<&'a [u8], M> for Attributes<'a> {
     ghost may_allocate = { λ _. ⊥ };
 
+    ghost asks_memory = { nothing_asked };
+
     fn decode_value<R: Reader<&'a [u8]>>(
         _memory: M,
         reader: &mut R,
@@ -90,10 +92,6 @@ impl<'a, M: Memory> DecodeValue<&'a [u8], M> for Attributes<'a> {
     fn quick_value(_memory: M, contents: &'a [u8]) -> Option<Attributes<'a>> {
         Some(Attributes::new(contents))
     }
-}
-
-impl<'a> ContentsAskNone<&'a [u8]> for Attributes<'a> {
-    ghost contents_ask_none = { λ c no. no };
 }
 
 impl EncodeValue for Attributes<'_> {

@@ -92,10 +92,6 @@ impl<O> TaggedBy for PrivateKeyInfoOf<'_, O> {
     type Marker = SequenceTag;
 }
 
-impl<'a, O> Sequence<'a> for PrivateKeyInfoOf<'_, O> {
-    ghost is_sequence = { refl };
-}
-
 impl<'a, O: ReadIdentifier<'a>> InParts for PrivateKeyInfoOf<'a, O> {
     type Parts = InfoParts<'a, O>;
 

@@ -12,7 +12,7 @@ pub use Rattle.spki_core.specs.Laws.AnyValues.{Carried, HoldsAny, algorithm_deci
 pub use Rattle.spki_core.specs.Laws.FieldSpellings.Masks.{defaults_are, defaults_there, full, full_last, full_there, spelling_masked, under_is, under_mask, under_means, under_only, under_valid}
 pub use Rattle.spki_core.specs.Laws.FieldSpellings.Records.{record_alike, record_front_law, record_law, record_reads, record_shortest, spelled_from, spelled_to}
 pub use Rattle.spki_core.specs.Laws.FieldSpellings.Shortest.{defaults_same, octets_spelled, spelled_not_next}
-pub use Rattle.spki_core.specs.Laws.HaveEncodings.{WritesAs, algorithm_asks_none, algorithm_held, algorithm_once, any_held, identifier_held, own_any_held, viewed_held, writes_itself}
+pub use Rattle.spki_core.specs.Laws.HaveEncodings.{WritesAs, algorithm_asks_as_parameters, algorithm_held, algorithm_once, any_held, identifier_held, own_any_held, viewed_held, writes_itself}
 pub use Rattle.spki_core.specs.Laws.IdentifierTest.{ends_well_goes_on, is_identifier-complete, is_identifier-sound}
 pub use Rattle.spki_core.specs.Laws.Printed.Readings.{algorithm_alike, algorithm_law, any_law, any_values, numbered_alike, numbered_law, oid_law}
 pub use Rattle.spki_core.specs.Laws.Printed.Shortest.{algorithm_writes_shortest, any_some, numbered_some, numbered_writes_shortest}

@@ -1,7 +1,7 @@
 //! Algorithm identifiers (RFC 5280 4.1.1.2).
 ghost use Rattle.std.specs.Prelude.{◌≡◌, ◌≢◌, refl, IfOk, IfErr, IfSome, IsOk, option_map, Some, None, Decides};
 ghost use Rattle.std.specs.Option.{unwrap_or};
-ghost use Rattle.spki_core.specs.Words.{Algorithm, AllocatesForParameters, AreSameHash, IsHash, NothingAskedAlone, TagAndContents, algorithm_alike, algorithm_contents, algorithm_decides, algorithm_in, algorithm_law, algorithm_map, algorithm_read, algorithm_with, algorithm_writes_shortest, any_of, identifier_octets, null_value, own_octets_of, viewed_with};
+ghost use Rattle.spki_core.specs.Words.{Algorithm, AllocatesForParameters, AreSameHash, IsHash, NothingAskedAlone, TagAndContents, algorithm_alike, algorithm_asks_as_parameters, algorithm_contents, algorithm_decides, algorithm_in, algorithm_law, algorithm_map, algorithm_read, algorithm_with, algorithm_writes_shortest, any_of, identifier_octets, null_value, own_octets_of, viewed_with};
 ghost use Rattle.standard.specs.Statement as standard;
 
 use crate::any::{AnyRef, AnyValue};
@@ -82,10 +82,6 @@ impl<O, P> TaggedBy for AlgorithmIdentifierOf<O, P> {
     type Marker = SequenceTag;
 }
 
-impl<'a, O, P> Sequence<'a> for AlgorithmIdentifierOf<O, P> {
-    ghost is_sequence = { refl };
-}
-
 impl<P: EqualByValue> EqualByValue for AlgorithmIdentifier<P> {
     ghost decides = { λ a b. let left = own_octets_of a.oid in
         algorithm_decides P.value P.eq P.decides left (own_octets_of b.oid) a.parameters b.parameters };
@@ -94,6 +90,8 @@ impl<P: EqualByValue> EqualByValue for AlgorithmIdentifier<P> {
 impl<'a, M: Memory, O: ReadIdentifier<'a>, P: Decode<&'a [u8], M>> DecodeValue<&'a [u8], M>
     for AlgorithmIdentifierOf<O, P> {
     ghost may_allocate = { AllocatesForParameters P.Decode.may_allocate };
+
+    ghost asks_memory = { algorithm_asks_as_parameters P.Decode.asks_memory };
 
     #[inline(always)]
     fn decode_value<R: Reader<&'a [u8]>>(

@@ -1,6 +1,6 @@
 //! Encodings of any tag.
 ghost use Rattle.std.specs.Prelude.{◌≡◌, ◌≤◌, ◌<◌, ℕ, [], length, slice_index, refl, true, ⊤, IfOk, IsOk, IfErr, IsTrue};
-ghost use Rattle.der_core.specs.Words.{limit, is_allowed, ReadsFront, NoValueOrMemory, Returns, Prints, front_alike, one_spelling_shortest, starts_with_any};
+ghost use Rattle.der_core.specs.Words.{NoValueOrMemory, Prints, ReadsFront, Returns, front_alike, is_allowed, limit, nothing_asked, one_spelling_shortest, starts_with_any};
 ghost use Rattle.spki_core.specs.Readings.{any_as, any_front};
 ghost use Rattle.spki_core.specs.Identifiers.{TagAndContents, null_value};
 ghost use Rattle.spki_core.specs.Laws.Printed.Readings.{any_law};
@@ -152,6 +152,8 @@ impl Encoding for AnyRef<'_> {
 
 impl<'a, M: Memory> Decode<&'a [u8], M> for AnyRef<'a> {
     ghost may_allocate = { λ _. ⊥ };
+
+    ghost asks_memory = { nothing_asked };
 
     #[inline(always)]
     fn decode<R: Reader<&'a [u8]>>(_memory: M, reader: &mut R) -> Result<AnyRef<'a>> {

@@ -2,7 +2,7 @@
 ghost use Rattle.std.specs.Prelude.{◌≡◌, ℕ, ◌<◌, List, length, slice_index, IsTrue, IfOk, IfErr};
 ghost use Rattle.spki_core.specs.IdentifierTest as specs;
 ghost use Rattle.spki_core.specs.Identifiers.{IsIdentifier};
-ghost use Rattle.der_core.specs.Words.{Answers, one_spelling_shortest, reading_alike};
+ghost use Rattle.der_core.specs.Words.{Answers, nothing_asked, one_spelling_shortest, reading_alike};
 ghost use Rattle.spki_core.specs.Readings.{identifier_read};
 ghost use Rattle.spki_core.specs.Laws.Printed.Readings.{oid_law};
 ghost use Rattle.standard.specs.Statement as standard;
@@ -163,6 +163,8 @@ impl TaggedBy for IdentifierView<'_> {
 
 impl<'a, M: Memory> DecodeValue<&'a [u8], M> for IdentifierView<'a> {
     ghost may_allocate = { λ _. ⊥ };
+
+    ghost asks_memory = { nothing_asked };
 
     #[inline(always)]
     fn decode_value<R: Reader<&'a [u8]>>(

@@ -3,7 +3,7 @@ ghost use Rattle.std.specs.Prelude.{◌≡◌, ◌-◌, ℕ, ◌≤◌, ◌<◌,
 ghost use Rattle.std.proofs.Math.ListN.{replicate};
 ghost use Rattle.spki_core.specs.IdentifierTest as specs;
 ghost use Rattle.spki_core.specs.Identifiers.{IsIdentifier};
-ghost use Rattle.der_core.specs.Words.{Answers, reading_alike, one_spelling_shortest, object_identifier_tag};
+ghost use Rattle.der_core.specs.Words.{Answers, nothing_asked, object_identifier_tag, one_spelling_shortest, reading_alike};
 ghost use Rattle.spki_core.specs.Readings.{identifier_read};
 ghost use Rattle.spki_core.specs.Laws.Printed.Readings.{oid_law};
 ghost use Rattle.standard.specs.Statement as standard;
@@ -252,6 +252,8 @@ impl EqualByValue for ObjectIdentifier {
 
 impl<'a, M: Memory> DecodeValue<&'a [u8], M> for ObjectIdentifier {
     ghost may_allocate = { λ _. ⊥ };
+
+    ghost asks_memory = { nothing_asked };
 
     fn decode_value<R: Reader<&'a [u8]>>(
         _memory: M,

@@ -102,6 +102,8 @@ impl Encoding for Any {
 impl<'a> Decode<&'a [u8], Global> for Any {
     ghost may_allocate = { λ b. (v : TagAndContents) × Prints standard.IsAny standard.any (λ v. v) v b };
 
+    ghost asks_memory = { λ _ _. tt };
+
     fn decode<R: Reader<&'a [u8]>>(memory: Global, reader: &mut R) -> Result<Any> {
         let any = AnyRef::decode(NoMemory, reader)?;
         match Any::copy_of(memory, any.tag(), any.value()) {

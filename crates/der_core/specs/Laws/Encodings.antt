@@ -55,14 +55,20 @@ tlv_short tag m c h small =
     length_few (length c) (length_octets (length c)) (length_octets-within (length c) (omega (arith, h, small))) in
     omega (arith, few, h, length-append (length_octets (length c)) c)
 
--- Where no part asks for memory.
-pub parts_ask_none : {A : Type 0} (First : A → List ℕ → Type 0) {first rest : List ℕ → Type 0}
-    → ((b : List ℕ) → first b → ⊥) → ((c : List ℕ) → rest c → ⊥) → (c : List ℕ) → AllocatesInParts First first rest c → ⊥
-parts_ask_none First none behind c (inl w) = none w.0 w.3
-parts_ask_none First none behind c (inr (v, (x, y, t, w, is))) = behind y w
+-- What reading asks of memory, as Asked: nothing, where it never allocates; of a row what each part asks, and of an
+-- OPTIONAL last part what it asks.
+pub nothing_asked : {Asked : Type 0} → (b : List ℕ) → ⊥ → Asked
+nothing_asked b never = absurd never
 
-pub last_part_asks_none : {may : List ℕ → Type 0} → ((b : List ℕ) → may b → ⊥) → (c : List ℕ) → AllocatesLast may c → ⊥
-last_part_asks_none none c w = none w.1.0 w.1.3
+pub parts_ask_as_each : {A : Type 0} (First : A → List ℕ → Type 0) {first rest : List ℕ → Type 0} {Asked : Type 0}
+    → ((b : List ℕ) → first b → Asked) → ((c : List ℕ) → rest c → Asked) → (c : List ℕ)
+    → AllocatesInParts First first rest c → Asked
+parts_ask_as_each First front behind c (inl w) = front w.0 w.3
+parts_ask_as_each First front behind c (inr (v, (x, y, t, w, is))) = behind y w
+
+pub last_part_asks_as_it : {may : List ℕ → Type 0} {Asked : Type 0} → ((b : List ℕ) → may b → Asked) → (c : List ℕ)
+    → AllocatesLast may c → Asked
+last_part_asks_as_it part c w = part w.1.0 w.1.3
 
 -- Tags of one octet are the same.
 pub same_tag : (s t : Tag) → s.octet ≡ t.octet → s ≡ t

@@ -140,6 +140,8 @@ impl EqualByValue for Uint {
 impl<'a> DecodeValue<&'a [u8], Global> for Uint {
     ghost may_allocate = { λ c. (n : ℕ) × (c ≡ number_contents n) };
 
+    ghost asks_memory = { λ _ _. tt };
+
     fn decode_value<R: Reader<&'a [u8]>>(
         memory: Global,
         reader: &mut R,

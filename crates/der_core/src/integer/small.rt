@@ -1,6 +1,6 @@
 //! INTEGER from 0 to 255, as `u8`.
 ghost use Rattle.std.specs.Prelude.{◌≤◌, ◌<◌, ℕ, length};
-ghost use Rattle.der_core.specs.Words.{Answers, limit, number_contents, one_spelling_shortest, reading_alike, small_law, small_of};
+ghost use Rattle.der_core.specs.Words.{Answers, limit, nothing_asked, number_contents, one_spelling_shortest, reading_alike, small_law, small_of};
 
 use crate::back_writer::BackWriter;
 use crate::decode::DecodeValue;
@@ -67,6 +67,8 @@ impl EqualByValue for u8 {
 
 impl<'a, M: Memory> DecodeValue<&'a [u8], M> for u8 {
     ghost may_allocate = { λ _. ⊥ };
+
+    ghost asks_memory = { nothing_asked };
 
     #[inline(always)]
     fn decode_value<R: Reader<&'a [u8]>>(_memory: M, reader: &mut R, header: Header) -> Result<u8> {

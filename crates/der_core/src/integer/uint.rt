@@ -8,6 +8,7 @@ ghost use Rattle.der_core.specs.Laws.Printed.Alike.{reading_alike};
 ghost use Rattle.der_core.specs.Laws.Printed.Leaves.{number_law, numbers_encode};
 ghost use Rattle.der_core.specs.Laws.Printed.Shortest.{one_spelling_shortest};
 ghost use Rattle.der_core.specs.Printed.{Prints, number_contents, number_of};
+ghost use Rattle.der_core.specs.Laws.Encodings.{nothing_asked};
 
 use crate::back_writer::BackWriter;
 use crate::decode::DecodeValue;
@@ -212,6 +213,8 @@ impl<'a, M: Memory> DecodeValue<&'a [u8], M> for UintRef<'a> {
     ghost use Rattle.der_core.specs.UintRefValue.{bytes_of};
 
     ghost may_allocate = { λ _. ⊥ };
+
+    ghost asks_memory = { nothing_asked };
 
     fn decode_value<R: Reader<&'a [u8]>>(
         _memory: M,

@@ -7,7 +7,7 @@ use crate::version::Version;
 use der_core::{
     BackWriter, Borrowed, Decode, Encode, EncodeInParts, EncodeValue, Encoding, ErrorKind, Length,
     Reader, Record, Result, SequenceTag, Tag, TryClone, Writer, begins_with, decode_optional,
-    quick_alone,
+    quick_alone, TaggedBy,
 };
 use std::alloc::{AllocError, Global};
 
@@ -51,9 +51,11 @@ impl<U: Clone> Clone for OtherPrimeInfo<U> {
     }
 }
 
-impl<U: Encoding> Record for OtherPrimeInfo<U> {
+impl<U> TaggedBy for OtherPrimeInfo<U> {
     type Marker = SequenceTag;
+}
 
+impl<U: Encoding> Record for OtherPrimeInfo<U> {
     type Fields = (U, (U, (U, ())));
 
     ghost fields = { λ other. (other.prime, (other.exponent, (other.coefficient, tt))) };

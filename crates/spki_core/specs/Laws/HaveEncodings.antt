@@ -1,6 +1,6 @@
 -- What memory holds has an encoding, and is written as what it holds.
 use Rattle.std.proofs.Common.{List, ℕ, Option, Some, None, option_map, ◌++◌, ◌≡◌, ◌↔◌, refl, ap}
-use Rattle.der_core.specs.Words.{are_bytes, object_identifier_octet, sequence_octet, tlv, last_part_asks_none, last_once, AreSpelledOnce}
+use Rattle.der_core.specs.Words.{are_bytes, object_identifier_octet, sequence_octet, tlv, last_part_asks_as_it, last_once, AreSpelledOnce}
 use Rattle.spki_core.specs.AlgorithmValue.{algorithm_in}
 use Rattle.spki_core.specs.HeldValues.{any_of, own_octets_of, identifier_octets, own_any_of}
 use Rattle.spki_core.specs.Laws.IdentifierTest.{is_identifier-sound}
@@ -69,11 +69,11 @@ module _ {O X V W S : Type 0} (oid_of : O → List ℕ) {value : X → V} (spell
         (parameters_written a.parameters).1;
   }
 
--- Algorithm identifiers as parts of records. No memory is asked for one if none is for its parameters; and it has one
--- spelling if they have.
-pub algorithm_asks_none : {may : List ℕ → Type 0} → ((b : List ℕ) → may b → ⊥) → (c : List ℕ)
-    → AllocatesForParameters may c → ⊥
-algorithm_asks_none none c (v, (x, y, t, w, is)) = last_part_asks_none none y w
+-- Algorithm identifiers as parts of records. One asks of memory what its parameters ask; and it has one spelling if
+-- they have.
+pub algorithm_asks_as_parameters : {may : List ℕ → Type 0} {Asked : Type 0} → ((b : List ℕ) → may b → Asked)
+    → (c : List ℕ) → AllocatesForParameters may c → Asked
+algorithm_asks_as_parameters parameters c (v, (x, y, t, w, is)) = last_part_asks_as_it parameters y w
 
 pub algorithm_once : {S V : Type 0} {means : S → V} → AreSpelledOnce means → AreSpelledOnce (algorithm_map means)
 algorithm_once once s t e =
