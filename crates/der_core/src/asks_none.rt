@@ -47,6 +47,10 @@ impl<'a> ContentsAskNone<&'a [u8]> for u8 {
     ghost contents_ask_none = { λ c no. no };
 }
 
+impl<'a> ContentsAskNone<&'a [u8]> for bool {
+    ghost contents_ask_none = { λ c no. no };
+}
+
 impl<'a> ContentsAskNone<&'a [u8]> for OctetStringRef<'a> {
     ghost contents_ask_none = { λ c no. no };
 }

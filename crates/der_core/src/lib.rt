@@ -10,6 +10,7 @@
 
 mod asks_none;
 mod back_writer;
+mod boolean;
 mod borrowed;
 mod decode;
 mod document;
@@ -44,6 +45,7 @@ mod writer;
 
 pub use asks_none::{AsksNone, ContentsAskNone, PartsAskNone, read_borrowed};
 pub use back_writer::BackWriter;
+pub use boolean::BooleanTag;
 pub use borrowed::Borrowed;
 pub use decode::{Decode, DecodeValue, decode_optional, is_tag_next, read_owned};
 pub use document::{Document, DocumentOf, Open, Secret, SecretDocument, write_over};

@@ -47,6 +47,10 @@ impl OneContents for u8 {
     ghost once = { itself_once };
 }
 
+impl OneContents for bool {
+    ghost once = { itself_once };
+}
+
 impl OneContents for OctetStringRef<'_> {
     ghost once = { itself_once };
 }

@@ -15,6 +15,9 @@ pub struct Tag {
 }
 
 impl Tag {
+    /// The tag of BOOLEAN (X.690 8.2): universal, primitive, number 1.
+    pub const BOOLEAN: Tag = Tag { octet: 0x01 };
+
     /// The tag of INTEGER (X.690 8.3): universal, primitive, number 2.
     pub const INTEGER: Tag = Tag { octet: 0x02 };
 
