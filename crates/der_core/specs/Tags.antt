@@ -8,6 +8,9 @@ boolean_tag = record { octet = 1; allowed = refl }
 abbrev pub integer_tag : Tag
 integer_tag = record { octet = 2; allowed = refl }
 
+abbrev pub bit_string_tag : Tag
+bit_string_tag = record { octet = 3; allowed = refl }
+
 abbrev pub octet_string_tag : Tag
 octet_string_tag = record { octet = 4; allowed = refl }
 

@@ -1,5 +1,6 @@
 -- The words that contracts and proofs cite, from all files of specs, and three of std that most proofs cite.
 pub use Rattle.der_core.specs.BackWriters.{Prepends, free_of}
+pub use Rattle.der_core.specs.BitString.{AllocatesBehindZero, behind_zero, no_unused_bits, whole_octets}
 pub use Rattle.der_core.specs.Boolean.{boolean_contents, boolean_of}
 pub use Rattle.der_core.specs.Document.{EncodeError, Excludes, IsDocument, WhyNotCounted, WhyNotWritten, WithinLimit, another, no_encoding, no_room, too_long}
 pub use Rattle.der_core.specs.DocumentValue.{encoding_of}
@@ -25,7 +26,7 @@ pub use Rattle.der_core.specs.SliceReaders.{left_of}
 pub use Rattle.der_core.specs.SourcesSinks.{AppendsFront, CountsFailure, GivesAll, GivesMore, GivesSome, OneFailed}
 pub use Rattle.der_core.specs.StdIo.{IsCreated, IsOpened, read_faults, reader_of, write_faults, writer_of}
 pub use Rattle.der_core.specs.Tag.{context_octet, integer_octet, is_allowed, object_identifier_octet, sequence_octet}
-pub use Rattle.der_core.specs.Tags.{boolean_tag, integer_tag, null_tag, object_identifier_tag, octet_string_tag, sequence_tag}
+pub use Rattle.der_core.specs.Tags.{bit_string_tag, boolean_tag, integer_tag, null_tag, object_identifier_tag, octet_string_tag, sequence_tag}
 pub use Rattle.der_core.specs.Tlv.{Tlv, tlv}
 pub use Rattle.der_core.specs.Transfer.{GivesNone, WhyDocumentNotRead, WhyReadingStopped, WritesAll, piece}
 pub use Rattle.der_core.specs.UintRefValue.{bytes_of}
@@ -35,6 +36,7 @@ pub use Rattle.der_core.specs.Writing.{Appends, Counts, IsOutOfMemory, RefusedAs
 pub use Rattle.der_core.specs.declared.error.Error.{Error}
 pub use Rattle.der_core.specs.declared.error.ErrorKind.{ErrorKind}
 pub use Rattle.der_core.specs.declared.tag.Tag.{Tag}
+pub use Rattle.der_core.specs.Laws.BitString.{behind_zero_alike, behind_zero_asks_none, behind_zero_law, behind_zero_shortest}
 pub use Rattle.der_core.specs.Laws.Boolean.{boolean_law}
 pub use Rattle.der_core.specs.Laws.Counted.{octets_appended_as, octets_counted_as}
 pub use Rattle.der_core.specs.Laws.Encodings.{last_part_asks_none, parts_ask_none, same_tag, tlv_not_empty, tlv_recast, tlv_short, tlv_split}

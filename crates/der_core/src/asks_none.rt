@@ -1,8 +1,9 @@
 //! Types that are read without memory.
 ghost use Rattle.std.specs.Prelude.{List, ℕ};
 ghost use Rattle.standard.specs.Statement as standard;
-ghost use Rattle.der_core.specs.Words.{Answers, Optional, Prints, Spells, last_part_asks_none, ok_of, parts_ask_none, whole};
+ghost use Rattle.der_core.specs.Words.{Answers, Optional, Prints, Spells, behind_zero_asks_none, last_part_asks_none, ok_of, parts_ask_none, whole};
 
+use crate::bit_string::BitString;
 use crate::decode::{Decode, DecodeValue};
 use crate::error::Result;
 use crate::expected::Expected;
@@ -53,6 +54,10 @@ impl<'a> ContentsAskNone<&'a [u8]> for bool {
 
 impl<'a> ContentsAskNone<&'a [u8]> for OctetStringRef<'a> {
     ghost contents_ask_none = { λ c no. no };
+}
+
+impl<'a, C: ContentsAskNone<&'a [u8]>> ContentsAskNone<&'a [u8]> for BitString<C> {
+    ghost contents_ask_none = { behind_zero_asks_none C.contents_ask_none };
 }
 
 impl<'a, const N: u8> ContentsAskNone<&'a [u8]> for Expected<N> {

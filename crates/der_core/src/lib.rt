@@ -10,6 +10,7 @@
 
 mod asks_none;
 mod back_writer;
+mod bit_string;
 mod boolean;
 mod borrowed;
 mod decode;
@@ -45,6 +46,7 @@ mod writer;
 
 pub use asks_none::{AsksNone, ContentsAskNone, PartsAskNone, read_borrowed};
 pub use back_writer::BackWriter;
+pub use bit_string::{BitString, BitStringRef, BitStringTag};
 pub use boolean::BooleanTag;
 pub use borrowed::Borrowed;
 pub use decode::{Decode, DecodeValue, decode_optional, is_tag_next, read_owned};

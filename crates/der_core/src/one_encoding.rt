@@ -3,6 +3,7 @@ ghost use Rattle.std.specs.Prelude.{IfErr, length};
 ghost use Rattle.standard.specs.Statement as standard;
 ghost use Rattle.der_core.specs.Words.{AreSpelledOnce, HasAtMostOne, Prints, Spells, Unwritten, encode_error, itself_once, last_once, list_once, ok_of, row_once};
 
+use crate::bit_string::BitString;
 use crate::borrowed::Borrowed;
 use crate::encode::Encode;
 use crate::error::Result;
@@ -53,6 +54,10 @@ impl OneContents for bool {
 
 impl OneContents for OctetStringRef<'_> {
     ghost once = { itself_once };
+}
+
+impl<C: OneContents> OneContents for BitString<C> {
+    ghost once = { C.OneContents.once };
 }
 
 impl<const N: u8> OneContents for Expected<N> {

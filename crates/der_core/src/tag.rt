@@ -21,6 +21,9 @@ impl Tag {
     /// The tag of INTEGER (X.690 8.3): universal, primitive, number 2.
     pub const INTEGER: Tag = Tag { octet: 0x02 };
 
+    /// The tag of BIT STRING (X.690 8.6): universal, number 3, and primitive, as DER demands (10.2).
+    pub const BIT_STRING: Tag = Tag { octet: 0x03 };
+
     /// The tag of OCTET STRING (X.690 8.7): universal, number 4, and primitive, as DER demands (10.2).
     pub const OCTET_STRING: Tag = Tag { octet: 0x04 };
 
