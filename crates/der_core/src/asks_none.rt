@@ -4,6 +4,7 @@ ghost use Rattle.standard.specs.Statement as standard;
 ghost use Rattle.der_core.specs.Words.{Answers, Optional, Prints, Spells, behind_zero_asks_none, last_part_asks_none, ok_of, parts_ask_none, whole};
 
 use crate::bit_string::BitString;
+use crate::containing::Containing;
 use crate::decode::{Decode, DecodeValue};
 use crate::error::Result;
 use crate::expected::Expected;
@@ -58,6 +59,10 @@ impl<'a> ContentsAskNone<&'a [u8]> for OctetStringRef<'a> {
 
 impl<'a, C: ContentsAskNone<&'a [u8]>> ContentsAskNone<&'a [u8]> for BitString<C> {
     ghost contents_ask_none = { behind_zero_asks_none C.contents_ask_none };
+}
+
+impl<'a, T: AsksNone<&'a [u8]>> ContentsAskNone<&'a [u8]> for Containing<T> {
+    ghost contents_ask_none = { λ c asks. T.asks_none asks.0 asks.3 };
 }
 
 impl<'a, const N: u8> ContentsAskNone<&'a [u8]> for Expected<N> {

@@ -5,6 +5,7 @@ ghost use Rattle.der_core.specs.Words.{AreSpelledOnce, HasAtMostOne, Prints, Spe
 
 use crate::bit_string::BitString;
 use crate::borrowed::Borrowed;
+use crate::containing::Containing;
 use crate::encode::Encode;
 use crate::error::Result;
 use crate::expected::Expected;
@@ -58,6 +59,10 @@ impl OneContents for OctetStringRef<'_> {
 
 impl<C: OneContents> OneContents for BitString<C> {
     ghost once = { C.OneContents.once };
+}
+
+impl<T: OneEncoding> OneContents for Containing<T> {
+    ghost once = { T.OneEncoding.once };
 }
 
 impl<const N: u8> OneContents for Expected<N> {
