@@ -8,7 +8,7 @@ use crate::containing::Containing;
 use crate::decode::{Decode, DecodeValue};
 use crate::error::Result;
 use crate::expected::Expected;
-use crate::grammar::FixedTag;
+use crate::grammar::{FixedTag, TagMarker};
 use crate::in_range::InRange;
 use crate::integer::UintRef;
 use crate::last_part::{Last, LastByTag};
@@ -18,6 +18,7 @@ use crate::optional_part::OptionalThen;
 use crate::parts::DecodeParts;
 use crate::reader::Octets;
 use crate::record::InParts;
+use crate::tagged::Tagged;
 
 /// Contents that are read without memory.
 pub trait ContentsAskNone<B: Octets>: DecodeValue<B, NoMemory> {
@@ -63,6 +64,11 @@ impl<'a, C: ContentsAskNone<&'a [u8]>> ContentsAskNone<&'a [u8]> for BitString<C
 
 impl<'a, T: AsksNone<&'a [u8]>> ContentsAskNone<&'a [u8]> for Containing<T> {
     ghost contents_ask_none = { λ c asks. T.asks_none asks.0 asks.3 };
+}
+
+impl<'a, M: TagMarker + Drop, C: ContentsAskNone<&'a [u8]>> ContentsAskNone<&'a [u8]>
+    for Tagged<M, C> {
+    ghost contents_ask_none = { C.contents_ask_none };
 }
 
 impl<'a, const N: u8> ContentsAskNone<&'a [u8]> for Expected<N> {

@@ -16,6 +16,7 @@ use crate::last_part::{Last, LastByTag};
 use crate::octet_string::OctetStringRef;
 use crate::optional_part::OptionalThen;
 use crate::record::InParts;
+use crate::tagged::Tagged;
 
 /// Contents of which each value has at most one.
 pub trait OneContents: Contents {
@@ -63,6 +64,10 @@ impl<C: OneContents> OneContents for BitString<C> {
 
 impl<T: OneEncoding> OneContents for Containing<T> {
     ghost once = { T.OneEncoding.once };
+}
+
+impl<M, C: OneContents> OneContents for Tagged<M, C> {
+    ghost once = { C.OneContents.once };
 }
 
 impl<const N: u8> OneContents for Expected<N> {
