@@ -29,6 +29,7 @@ mod last_part;
 mod laws;
 mod length;
 mod memory;
+mod null;
 mod octet_string;
 mod one_encoding;
 mod optional_part;
@@ -75,6 +76,7 @@ pub use laws::{
 };
 pub use length::Length;
 pub use memory::{Memory, NoMemory};
+pub use null::{Null, NullTag};
 pub use octet_string::{OctetStringRef, OctetStringTag};
 pub use one_encoding::{OneContents, OneEncoding, lemma_one_encoding, write_only};
 pub use optional_part::OptionalThen;
