@@ -1,7 +1,7 @@
 -- Worked rows: contents octets, with the value or the kind of the fault.
 use Rattle.std.proofs.Common.{ℕ, Bool, true, false, List, [], ◌∷◌, ◌≡◌, map, refl, Ok, Err}
 use Rattle.der_core.specs.Words.{ErrorKind, behind_zero, bit_string_tag, boolean_contents, boolean_of, boolean_tag, octets_of_all, whole_octets}
-use Rattle.der_core.specs.declared.error.ErrorKind.TheVariants.{Length, Noncanonical, Value}
+use Rattle.der_core.specs.declared.error.ErrorKind.TheVariants.{Length, Value}
 
 -- BOOLEAN: ff, 00
 abbrev boolean_rows : List (List ℕ × Bool)
@@ -13,11 +13,11 @@ boolean_rows_read = refl
 boolean_rows_printed : map (λ row. boolean_contents row.1) boolean_rows ≡ map (λ row. row.0) boolean_rows
 boolean_rows_printed = refl
 
--- No contents; 01, which is TRUE in BER alone; two octets.
+-- No contents; 01, which is TRUE in BER alone (11.1); two octets.
 abbrev boolean_faults : List (List ℕ × ErrorKind)
 boolean_faults =
     ([], Length boolean_tag)
-    ∷ (0x01 ∷ [], Noncanonical boolean_tag)
+    ∷ (0x01 ∷ [], Value boolean_tag)
     ∷ (0xff ∷ 0x00 ∷ [], Length boolean_tag)
     ∷ []
 

@@ -1,6 +1,6 @@
 -- BOOLEAN (X.690 8.2).
 use Rattle.std.specs.Prelude.{ℕ, Bool, true, false, List, [], ◌∷◌, ◌==◌, Ok, Err, if◌then◌else◌}
-use Rattle.der_core.specs.declared.error.ErrorKind.TheVariants.{Length, Noncanonical}
+use Rattle.der_core.specs.declared.error.ErrorKind.TheVariants.{Length, Value}
 use Rattle.der_core.specs.Readings.{Reading}
 use Rattle.der_core.specs.Tags.{boolean_tag}
 
@@ -12,5 +12,5 @@ boolean_contents value = (if value then 255 else 0) ∷ []
 abbrev pub boolean_of : Reading Bool
 boolean_of [] = Err (Length boolean_tag)
 boolean_of (x ∷ []) =
-    if x == 255 then Ok true else if x == 0 then Ok false else Err (Noncanonical boolean_tag)
+    if x == 255 then Ok true else if x == 0 then Ok false else Err (Value boolean_tag)
 boolean_of (x ∷ y ∷ ys) = Err (Length boolean_tag)

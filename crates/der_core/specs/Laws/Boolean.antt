@@ -2,7 +2,7 @@
 use Rattle.std.proofs.Common.{ℕ, Bool, true, false, List, [], ◌∷◌, ◌≡◌, ◌==◌, ◌∙◌, Ok, Err, refl, ap, arith, ⊎_elim}
 use Rattle.std.proofs.lemmas.Bool.Decides.{nat_tests}
 use Rattle.der_core.specs.declared.error.ErrorKind.{ErrorKind}
-use Rattle.der_core.specs.declared.error.ErrorKind.TheVariants.{Length, Noncanonical}
+use Rattle.der_core.specs.declared.error.ErrorKind.TheVariants.{Length, Value}
 use Rattle.der_core.specs.Boolean.{boolean_contents, boolean_of}
 use Rattle.der_core.specs.Encodings.{AreBytes}
 use Rattle.der_core.specs.Laws.LengthReading.{cond_cases}
@@ -35,7 +35,7 @@ boolean_tells [] k e = let same : Length boolean_tag ≡ k = let q = e in cc in 
 boolean_tells (x ∷ []) k e =
     ⊎_elim (λ w. let never = w.1 in cc)
     (λ w. ⊎_elim (λ u. let never = u.1 in cc)
-    (λ u. let same : Noncanonical boolean_tag ≡ k = let q = u.1 in cc in (λ no. cc, λ no. cc, λ no. cc))
+    (λ u. let same : Value boolean_tag ≡ k = let q = u.1 in cc in (λ no. cc, λ no. cc, λ no. cc))
     (cond_cases (x == 0) _ _ _ w.1)) (cond_cases (x == 255) _ _ _ e)
 boolean_tells (x ∷ y ∷ ys) k e =
     let same : Length boolean_tag ≡ k = let q = e in cc in (λ no. cc, λ no. cc, λ no. cc)

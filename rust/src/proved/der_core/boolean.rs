@@ -27,7 +27,7 @@ impl TaggedBy for bool {
     type Marker = BooleanTag;
 }
 
-/// The value with these contents octets: `Length` if there isn't one octet, `Noncanonical` if it is neither `00` nor
+/// The value with these contents octets: `Length` if there isn't one octet, `Value` if it is neither `00` nor
 /// `ff`.
 fn boolean(contents: &[u8]) -> Result<bool> {
     let tag = Tag::BOOLEAN;
@@ -39,7 +39,7 @@ fn boolean(contents: &[u8]) -> Result<bool> {
     } else if contents[0] == 0x00 {
         Ok(false)
     } else {
-        Err(Error::new(ErrorKind::Noncanonical { tag }))
+        Err(Error::new(ErrorKind::Value { tag }))
     }
 }
 
