@@ -107,6 +107,16 @@ where
         (parts_ask_none (Prints A.valid A.printed A.means) A.asks_none B.parts_ask_none) };
 }
 
+impl<'a, T, A> PartsAskNone<&'a [u8]> for OptionalThen<T, Last<A>>
+where
+    T: ContentsAskNone<&'a [u8]> + FixedTag,
+    A: AsksNone<&'a [u8]>,
+{
+    ghost parts_ask_none = { parts_ask_none
+        (Optional (Prints T.valid (λ s. standard.tlv T.TAG.octet (T.printed s)) T.means))
+        (λ b t. T.contents_ask_none t.contents t.holds) (last_part_asks_none A.asks_none) };
+}
+
 impl<'a, T: InParts + Drop> ContentsAskNone<&'a [u8]> for T
 where
     T::Parts: PartsAskNone<&'a [u8]>,

@@ -103,6 +103,10 @@ where
     ghost once = { row_once (last_once T.OneContents.once) (row_once A.OneEncoding.once B.OneContents.once) };
 }
 
+impl<T: OneContents + FixedTag, A: OneEncoding> OneContents for OptionalThen<T, Last<A>> {
+    ghost once = { row_once (last_once T.OneContents.once) (last_once A.OneEncoding.once) };
+}
+
 impl<T: OneEncoding> OneContents for Vec<T> {
     ghost once = { list_once T.OneEncoding.once };
 }

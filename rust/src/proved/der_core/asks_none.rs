@@ -63,6 +63,12 @@ where
     B: PartsAskNone<&'a [u8]>,
 {}
 
+impl<'a, T, A> PartsAskNone<&'a [u8]> for OptionalThen<T, Last<A>>
+where
+    T: ContentsAskNone<&'a [u8]> + FixedTag,
+    A: AsksNone<&'a [u8]>,
+{}
+
 impl<'a, T: InParts> ContentsAskNone<&'a [u8]> for T
 where
     T::Parts: PartsAskNone<&'a [u8]>,

@@ -32,6 +32,7 @@ mod memory;
 mod null;
 mod octet_string;
 mod one_encoding;
+mod optional_last;
 mod optional_part;
 mod parts;
 mod quick;

@@ -62,6 +62,8 @@ where
     B: OneContents,
 {}
 
+impl<T: OneContents + FixedTag, A: OneEncoding> OneContents for OptionalThen<T, Last<A>> {}
+
 impl<T: OneEncoding> OneContents for Vec<T> {}
 
 impl<T: InParts> OneContents for T
