@@ -9,3 +9,4 @@ pub mod Writing
 pub mod Headers
 pub mod Readings
 pub mod QuickReading
+pub mod ContentsRows

@@ -2,6 +2,8 @@
 pub mod Readings
 pub mod Length
 pub mod Integer
+pub mod Boolean
+pub mod BitString
 pub mod Encodings
 pub mod LengthReading
 pub mod Numbers

@@ -2,6 +2,8 @@ pub mod Encodings
 pub mod Length
 pub mod Tlv
 pub mod Integer
+pub mod Boolean
+pub mod BitString
 pub mod Document
 pub mod Tag
 pub mod Tags

@@ -1,5 +1,7 @@
 -- The words that contracts and proofs cite, from all files of specs, and three of std that most proofs cite.
 pub use Rattle.der_core.specs.BackWriters.{Prepends, free_of}
+pub use Rattle.der_core.specs.BitString.{AllocatesBehindZero, behind_zero, no_unused_bits, whole_octets}
+pub use Rattle.der_core.specs.Boolean.{boolean_contents, boolean_of}
 pub use Rattle.der_core.specs.Document.{EncodeError, Excludes, IsDocument, WhyNotCounted, WhyNotWritten, WithinLimit, another, no_encoding, no_room, too_long}
 pub use Rattle.der_core.specs.DocumentValue.{encoding_of}
 pub use Rattle.der_core.specs.EncodeToSlice.{IsFront, LeavesRest, SliceRests}
@@ -24,7 +26,7 @@ pub use Rattle.der_core.specs.SliceReaders.{left_of}
 pub use Rattle.der_core.specs.SourcesSinks.{AppendsFront, CountsFailure, GivesAll, GivesMore, GivesSome, OneFailed}
 pub use Rattle.der_core.specs.StdIo.{IsCreated, IsOpened, read_faults, reader_of, write_faults, writer_of}
 pub use Rattle.der_core.specs.Tag.{context_octet, integer_octet, is_allowed, object_identifier_octet, sequence_octet}
-pub use Rattle.der_core.specs.Tags.{integer_tag, null_tag, object_identifier_tag, octet_string_tag, sequence_tag}
+pub use Rattle.der_core.specs.Tags.{bit_string_tag, boolean_tag, integer_tag, null_tag, object_identifier_tag, octet_string_tag, sequence_tag}
 pub use Rattle.der_core.specs.Tlv.{Tlv, tlv}
 pub use Rattle.der_core.specs.Transfer.{GivesNone, WhyDocumentNotRead, WhyReadingStopped, WritesAll, piece}
 pub use Rattle.der_core.specs.UintRefValue.{bytes_of}
@@ -34,6 +36,8 @@ pub use Rattle.der_core.specs.Writing.{Appends, Counts, IsOutOfMemory, RefusedAs
 pub use Rattle.der_core.specs.declared.error.Error.{Error}
 pub use Rattle.der_core.specs.declared.error.ErrorKind.{ErrorKind}
 pub use Rattle.der_core.specs.declared.tag.Tag.{Tag}
+pub use Rattle.der_core.specs.Laws.BitString.{behind_zero_alike, behind_zero_asks_as_contents, behind_zero_law, behind_zero_shortest}
+pub use Rattle.der_core.specs.Laws.Boolean.{boolean_law}
 pub use Rattle.der_core.specs.Laws.Counted.{octets_appended_as, octets_counted_as}
 pub use Rattle.der_core.specs.Laws.Encodings.{last_part_asks_as_it, nothing_asked, parts_ask_as_each, same_tag, tlv_not_empty, tlv_recast, tlv_short, tlv_split}
 pub use Rattle.der_core.specs.Laws.Integer.{and_decides, bytes_decide, canonical_same, holds_canonical, number_decides, option_decides, written_large}
@@ -44,7 +48,7 @@ pub use Rattle.der_core.specs.Laws.OptionalReadings.{front_next, isnt_next, next
 pub use Rattle.der_core.specs.Laws.Printed.Alike.{alone_alike, chain_alike, front_alike, front_row_alike, items_alike, itself_once, last_alike, last_once, list_once, made_alike, made_once, optional_alike, reading_alike, row_alike, row_once, tagged_alike, values_alike, whole_alike}
 pub use Rattle.der_core.specs.Laws.Printed.Items.{front_reading_reads, items_law, ok_meant, ok_meant_front, ok_paired, prints_some, reading_reads, written_prints}
 pub use Rattle.der_core.specs.Laws.Printed.Leaves.{number_contents_as, number_law, number_octets, numbers_encode, octets_canonical, octets_grow, octets_law, octets_number, small_contents_as, small_law, tlv_fit, tlv_is, tlv_made}
-pub use Rattle.der_core.specs.Laws.Printed.Optional.{IsInRange, agreed_law, chain_law, front_end_law, front_row_law, last_by_tag_law, last_law, optional_gives, optional_part_law, optional_row_law, ranged_law, tagged_starts, unless_alike, unless_shortest}
+pub use Rattle.der_core.specs.Laws.Printed.Optional.{IsInRange, agreed_law, chain_law, front_end_law, front_row_law, last_by_tag_law, last_law, optional_gives, optional_last_law, optional_part_law, optional_row_law, ranged_law, tagged_starts, unless_alike, unless_shortest}
 pub use Rattle.der_core.specs.Laws.Printed.Relations.{StatedAs, decodes_stated, encodes_stated, memory_stated, optional_itself, spells_once, stated, unwritten_stated, written_encodes}
 pub use Rattle.der_core.specs.Laws.Printed.Rows.{alone_law, decodes_as, end_law, expected_law, made_law, meant_decodes, prints_one, row_law, such_law, tagged_law, valid_as, whole_decodes, whole_takes}
 pub use Rattle.der_core.specs.Laws.Printed.Shortest.{joined_shortest, last_shortest, list_shortest, made_shortest, one_spelling_shortest, row_shortest, tagged_shortest, tagged_some, written_is_shortest}

@@ -9,7 +9,10 @@
 #![tactic(auto)]
 
 mod back_writer;
+mod bit_string;
+mod boolean;
 mod borrowed;
+mod containing;
 mod decode;
 mod document;
 mod encode;
@@ -25,8 +28,10 @@ mod last_part;
 mod laws;
 mod length;
 mod memory;
+mod null;
 mod octet_string;
 mod one_encoding;
+mod optional_last;
 mod optional_part;
 mod parts;
 mod quick;
@@ -37,12 +42,16 @@ mod slice_reader;
 mod source_sink;
 mod std_io;
 mod tag;
+mod tagged;
 mod transfer;
 mod try_clone;
 mod writer;
 
 pub use back_writer::BackWriter;
+pub use bit_string::{BitString, BitStringRef, BitStringTag};
+pub use boolean::BooleanTag;
 pub use borrowed::Borrowed;
+pub use containing::Containing;
 pub use decode::{Decode, DecodeValue, decode_optional, is_tag_next, read_borrowed, read_owned};
 pub use document::{Document, DocumentOf, Open, Secret, SecretDocument, write_over};
 pub use encode::{Encode, EncodeValue, joined_len};
@@ -66,6 +75,7 @@ pub use laws::{
 };
 pub use length::Length;
 pub use memory::{Memory, NoMemory};
+pub use null::{Null, NullTag};
 pub use octet_string::{OctetStringRef, OctetStringTag};
 pub use one_encoding::{OneContents, OneEncoding, lemma_one_encoding, write_only};
 pub use optional_part::OptionalThen;
@@ -77,6 +87,7 @@ pub use slice_reader::SliceReader;
 pub use source_sink::{Close, Sink, Source};
 pub use std_io::{FromRead, ToWrite};
 pub use tag::{Tag, TagNumber};
+pub use tagged::{Explicit, Tagged};
 pub use transfer::{put_all, read_all};
 pub use try_clone::TryClone;
 pub use writer::{SliceWriter, Writer};

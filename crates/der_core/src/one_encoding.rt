@@ -3,7 +3,9 @@ ghost use Rattle.std.specs.Prelude.{IfErr, length};
 ghost use Rattle.standard.specs.Statement as standard;
 ghost use Rattle.der_core.specs.Words.{AreSpelledOnce, HasAtMostOne, Prints, Spells, Unwritten, encode_error, itself_once, last_once, list_once, ok_of, row_once};
 
+use crate::bit_string::BitString;
 use crate::borrowed::Borrowed;
+use crate::containing::Containing;
 use crate::encode::Encode;
 use crate::error::Result;
 use crate::expected::Expected;
@@ -14,6 +16,7 @@ use crate::last_part::{Last, LastByTag};
 use crate::octet_string::OctetStringRef;
 use crate::optional_part::OptionalThen;
 use crate::record::InParts;
+use crate::tagged::Tagged;
 
 /// Contents of which each value has at most one.
 pub trait OneContents: Contents {
@@ -47,8 +50,24 @@ impl OneContents for u8 {
     ghost once = { itself_once };
 }
 
+impl OneContents for bool {
+    ghost once = { itself_once };
+}
+
 impl OneContents for OctetStringRef<'_> {
     ghost once = { itself_once };
+}
+
+impl<C: OneContents> OneContents for BitString<C> {
+    ghost once = { C.OneContents.once };
+}
+
+impl<T: OneEncoding> OneContents for Containing<T> {
+    ghost once = { T.OneEncoding.once };
+}
+
+impl<M, C: OneContents> OneContents for Tagged<M, C> {
+    ghost once = { C.OneContents.once };
 }
 
 impl<const N: u8> OneContents for Expected<N> {
@@ -82,6 +101,10 @@ where
     B: OneContents,
 {
     ghost once = { row_once (last_once T.OneContents.once) (row_once A.OneEncoding.once B.OneContents.once) };
+}
+
+impl<T: OneContents + FixedTag, A: OneEncoding> OneContents for OptionalThen<T, Last<A>> {
+    ghost once = { row_once (last_once T.OneContents.once) (last_once A.OneEncoding.once) };
 }
 
 impl<T: OneEncoding> OneContents for Vec<T> {

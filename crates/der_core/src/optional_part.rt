@@ -16,8 +16,9 @@ use crate::reader::Reader;
 use crate::tag::Tag;
 use crate::writer::Writer;
 
-/// An OPTIONAL part that is known by its tag, and the row behind it, as in `OptionalThen<T, (A, B)>`. Where an `A` may
-/// begin with that tag too, no value has contents: reading and writing are `Value` of the tag.
+/// An OPTIONAL part that is known by its tag, and the row behind it: `OptionalThen<T, (A, B)>`, or an OPTIONAL last part,
+/// as in `OptionalThen<T, Last<A>>`. Where an `A` may begin with that tag too, no value has contents: reading and writing
+/// are `Value` of the tag.
 #[derive(Drop)]
 pub struct OptionalThen<T, R>(pub Option<T>, pub R);
 

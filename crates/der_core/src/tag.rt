@@ -15,8 +15,14 @@ pub struct Tag {
 }
 
 impl Tag {
+    /// The tag of BOOLEAN (X.690 8.2): universal, primitive, number 1.
+    pub const BOOLEAN: Tag = Tag { octet: 0x01 };
+
     /// The tag of INTEGER (X.690 8.3): universal, primitive, number 2.
     pub const INTEGER: Tag = Tag { octet: 0x02 };
+
+    /// The tag of BIT STRING (X.690 8.6): universal, number 3, and primitive, as DER demands (10.2).
+    pub const BIT_STRING: Tag = Tag { octet: 0x03 };
 
     /// The tag of OCTET STRING (X.690 8.7): universal, number 4, and primitive, as DER demands (10.2).
     pub const OCTET_STRING: Tag = Tag { octet: 0x04 };

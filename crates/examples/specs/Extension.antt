@@ -1,12 +1,8 @@
 -- The BOOLEAN TRUE, as contents octets (X.690 8.2.2, 11.1).
 use Rattle.std.proofs.Common.{ℕ, Bool, true, false, List, [], ◌∷◌, ◌≡◌, Option, Some, None, Ok, Err, refl, subst, sym, ⊎_elim, if◌then◌else◌, bytes_eq}
 use Rattle.der_core.specs.declared.error.ErrorKind.TheVariants.{Value}
-use Rattle.der_core.specs.declared.tag.Tag.{Tag}
-use Rattle.der_core.specs.Words.{AreBytes, bytes_decide, cond_cases, value_error_tells, ReadsPrinted, Reading}
+use Rattle.der_core.specs.Words.{AreBytes, boolean_tag, bytes_decide, cond_cases, value_error_tells, ReadsPrinted, Reading}
 use Rattle.examples.specs.declared.extension.True.{True}
-
-abbrev pub boolean_tag : Tag
-boolean_tag = record { octet = 1; allowed = refl }
 
 abbrev pub true_octets : Unit {0} → List ℕ
 true_octets _ = 255 ∷ []

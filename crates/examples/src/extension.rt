@@ -1,25 +1,16 @@
 //! A record with a part that is there or not, in front of another.
-ghost use Rattle.std.specs.Prelude.{◌≡◌, ◌∷◌, [], IfErr, length, refl, bytes_eq};
+ghost use Rattle.std.specs.Prelude.{◌≡◌, ◌∷◌, [], IfErr, length, bytes_eq};
 ghost use Rattle.standard.specs.Statement as standard;
 ghost use Rattle.der_core.specs.Words.{Answers, Spells, Unwritten, encode_error, itself_once, nothing_asked, ok_of, one_spelling_shortest, reading_alike, whole};
 ghost use Rattle.examples.specs.Extension.{IsTrueOctet, critical_part, true_law, true_octets, true_read};
 
 use der_core::{
-    BackWriter, Borrowed, Contents, DecodeValue, Encode, EncodeInParts,
-    EncodeValue, Encoding, Error, ErrorKind, Header, Length, Memory, OctetStringRef, OneContents,
-    OptionalThen, Reader, Record, Result, SequenceTag, Tag, TagMarker, TaggedBy, Writer,
+    BackWriter, BooleanTag, Borrowed, Contents, DecodeValue, Encode,
+    EncodeInParts, EncodeValue, Encoding, Error, ErrorKind, Header, Length, Memory, OctetStringRef,
+    OneContents, OptionalThen, Reader, Record, Result, SequenceTag, Tag, TaggedBy, Writer,
     read_borrowed, write_only,
 };
 use spki_core::ObjectIdentifier;
-
-/// The tag of BOOLEAN.
-pub struct BooleanTag;
-
-impl TagMarker for BooleanTag {
-    ghost TAG = { record { octet = 1; allowed = refl } };
-
-    const TAG: Tag = Tag { octet: 0x01 };
-}
 
 /// The BOOLEAN TRUE and no other (X.690 8.2, 11.1). It is what stands in the place of `BOOLEAN DEFAULT FALSE`, if
 /// anything does: DER leaves the default out (11.5).
@@ -70,9 +61,7 @@ fn true_of(contents: &[u8]) -> Result<True>
     if is_true(contents) {
         Ok(True)
     } else {
-        Err(Error::new(ErrorKind::Value {
-            tag: BooleanTag::TAG,
-        }))
+        Err(Error::new(ErrorKind::Value { tag: Tag::BOOLEAN }))
     }
 }
 

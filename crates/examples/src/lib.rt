@@ -32,7 +32,7 @@ pub use digest_info::{DigestInfo, DigestInfoRef, read_digest_info, write_digest_
 pub use dsa::{DsaAlgorithmRef, DsaParams, DsaParamsRef, read_dsa_algorithm, write_dsa_algorithm};
 pub use dss_sig::{DssSigValue, DssSigValueRef, read, write};
 pub use errors::Advice;
-pub use extension::{BooleanTag, Extension, ExtensionRef, True, read_extension, write_extension};
+pub use extension::{Extension, ExtensionRef, True, read_extension, write_extension};
 pub use files::publish;
 pub use hashing_writer::{HashingWriter, hash_of};
 pub use implicit_pair::{ImplicitPair, ImplicitPairRef, ImplicitTag, read_pair, write_pair};

@@ -1,10 +1,12 @@
 // Made of crates/der_core/src/asks_none.rt by tools/erase/erase.py, and not to be edited.
 //! Types that are read without memory.
 
+use crate::proved::der_core::bit_string::BitString;
+use crate::proved::der_core::containing::Containing;
 use crate::proved::der_core::decode::{Decode, DecodeValue};
 use crate::proved::der_core::error::Result;
 use crate::proved::der_core::expected::Expected;
-use crate::proved::der_core::grammar::FixedTag;
+use crate::proved::der_core::grammar::{FixedTag, TagMarker};
 use crate::proved::der_core::in_range::InRange;
 use crate::proved::der_core::integer::UintRef;
 use crate::proved::der_core::last_part::{Last, LastByTag};
@@ -14,6 +16,7 @@ use crate::proved::der_core::optional_part::OptionalThen;
 use crate::proved::der_core::parts::DecodeParts;
 use crate::proved::der_core::reader::Octets;
 use crate::proved::der_core::record::InParts;
+use crate::proved::der_core::tagged::Tagged;
 
 /// Contents that are read without memory.
 pub trait ContentsAskNone<B: Octets>: DecodeValue<B, NoMemory> {}
@@ -30,7 +33,16 @@ impl<'a> ContentsAskNone<&'a [u8]> for UintRef<'a> {}
 
 impl<'a> ContentsAskNone<&'a [u8]> for u8 {}
 
+impl<'a> ContentsAskNone<&'a [u8]> for bool {}
+
 impl<'a> ContentsAskNone<&'a [u8]> for OctetStringRef<'a> {}
+
+impl<'a, C: ContentsAskNone<&'a [u8]>> ContentsAskNone<&'a [u8]> for BitString<C> {}
+
+impl<'a, T: AsksNone<&'a [u8]>> ContentsAskNone<&'a [u8]> for Containing<T> {}
+
+impl<'a, M: TagMarker, C: ContentsAskNone<&'a [u8]>> ContentsAskNone<&'a [u8]>
+    for Tagged<M, C> {}
 
 impl<'a, const N: u8> ContentsAskNone<&'a [u8]> for Expected<N> {}
 
@@ -49,6 +61,12 @@ where
     T: ContentsAskNone<&'a [u8]> + FixedTag,
     A: AsksNone<&'a [u8]>,
     B: PartsAskNone<&'a [u8]>,
+{}
+
+impl<'a, T, A> PartsAskNone<&'a [u8]> for OptionalThen<T, Last<A>>
+where
+    T: ContentsAskNone<&'a [u8]> + FixedTag,
+    A: AsksNone<&'a [u8]>,
 {}
 
 impl<'a, T: InParts> ContentsAskNone<&'a [u8]> for T

@@ -14,7 +14,7 @@ pub enum ErrorKind {
     Incomplete,
     /// The length octet is 80 (X.690 8.1.3.6), which DER forbids (10.1).
     IndefiniteLength,
-    /// An INTEGER without contents octets.
+    /// An INTEGER or a BIT STRING without contents octets, or a BOOLEAN of another number of them than one.
     Length { tag: Tag },
     /// Contents that aren't in shortest form, such as an INTEGER with a needless leading zero.
     Noncanonical { tag: Tag },

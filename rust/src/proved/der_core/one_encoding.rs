@@ -2,7 +2,9 @@
 //! Types whose values have one encoding each: what is written is the only one.
 
 use crate::rattle_std::prelude::Vec;
+use crate::proved::der_core::bit_string::BitString;
 use crate::proved::der_core::borrowed::Borrowed;
+use crate::proved::der_core::containing::Containing;
 use crate::proved::der_core::encode::Encode;
 use crate::proved::der_core::error::Result;
 use crate::proved::der_core::expected::Expected;
@@ -13,6 +15,7 @@ use crate::proved::der_core::last_part::{Last, LastByTag};
 use crate::proved::der_core::octet_string::OctetStringRef;
 use crate::proved::der_core::optional_part::OptionalThen;
 use crate::proved::der_core::record::InParts;
+use crate::proved::der_core::tagged::Tagged;
 
 /// Contents of which each value has at most one.
 pub trait OneContents: Contents {}
@@ -30,7 +33,15 @@ impl OneContents for Uint {}
 
 impl OneContents for u8 {}
 
+impl OneContents for bool {}
+
 impl OneContents for OctetStringRef<'_> {}
+
+impl<C: OneContents> OneContents for BitString<C> {}
+
+impl<T: OneEncoding> OneContents for Containing<T> {}
+
+impl<M, C: OneContents> OneContents for Tagged<M, C> {}
 
 impl<const N: u8> OneContents for Expected<N> {}
 
@@ -50,6 +61,8 @@ where
     A: OneEncoding,
     B: OneContents,
 {}
+
+impl<T: OneContents + FixedTag, A: OneEncoding> OneContents for OptionalThen<T, Last<A>> {}
 
 impl<T: OneEncoding> OneContents for Vec<T> {}
 

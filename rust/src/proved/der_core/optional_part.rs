@@ -13,8 +13,9 @@ use crate::proved::der_core::reader::Reader;
 use crate::proved::der_core::tag::Tag;
 use crate::proved::der_core::writer::Writer;
 
-/// An OPTIONAL part that is known by its tag, and the row behind it, as in `OptionalThen<T, (A, B)>`. Where an `A` may
-/// begin with that tag too, no value has contents: reading and writing are `Value` of the tag.
+/// An OPTIONAL part that is known by its tag, and the row behind it: `OptionalThen<T, (A, B)>`, or an OPTIONAL last part,
+/// as in `OptionalThen<T, Last<A>>`. Where an `A` may begin with that tag too, no value has contents: reading and writing
+/// are `Value` of the tag.
 pub struct OptionalThen<T, R>(pub Option<T>, pub R);
 
 impl<T: Contents + FixedTag, A: Encoding, B: Contents> Contents for OptionalThen<T, (A, B)> {}

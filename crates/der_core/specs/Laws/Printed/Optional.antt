@@ -255,6 +255,25 @@ module _ {A B C : Type 0} {IsA : A → Type 0} {IsB : B × C → Type 0} {first 
       optional_row_law (tagged_law one tag) (unless_law (starts.with tag.octet) (Value tag) (value_error_tells refl) more) tag.octet
       (λ s c. grind (arith, nat_tests)) (λ s ok. starts.only s.0 (rest s.1) tag.octet ok.0)
 
+-- The same in front of a last part that is there or not.
+module _ {A B : Type 0} {IsA : A → Type 0} {IsB : B → Type 0} {first : A → List ℕ} {second : B → List ℕ}
+    {inner : Reading A} {at : FrontReading B} (one : ReadsPrinted IsA first inner)
+    (more : ReadsFrontPrinted IsB second at) (some : (b : B) → 0 < length (second b)) (tag : Tag)
+    (starts : Starts second) where
+  last_starts_otherwise : (o : Option B) → (starts.with tag.octet ≡ false) × IfPresent IsB o
+      → is_next tag.octet (optional second o) ≡ false
+  last_starts_otherwise None ok = refl
+  last_starts_otherwise (Some b) ok =
+      ap (is_next tag.octet) (sym (append-nil (second b))) ∙ starts.only b [] tag.octet ok.0
+
+  pub optional_last_law : ReadsPrinted (λ s. IfPresent IsA s.0 × ((starts.with tag.octet ≡ false) × IfPresent IsB s.1))
+      (row (optional (λ x. tlv tag.octet (first x))) (optional second))
+      (parts (optional_front tag.octet (tagged tag inner)) (unless (starts.with tag.octet) (Value tag) (last at)))
+  optional_last_law =
+      optional_row_law (tagged_law one tag)
+      (unless_law (starts.with tag.octet) (Value tag) (value_error_tells refl) (last_law more some)) tag.octet
+      (λ s c. grind (arith, nat_tests)) last_starts_otherwise
+
 -- What is read of the part is one encoding or nothing.
 pub optional_gives : {V : Type 0} {encoding : V → List ℕ → Type 0} {at : FrontReading V} (t : ℕ)
     → ReadsFronts encoding at → (i rest : List ℕ) (o : Option V) → AreBytes i → optional_front t at i ≡ Ok (o, rest)

@@ -1,7 +1,6 @@
 use Rattle.std.proofs.Common.{ap, sym, ◌∙◌, refl, Ok, Err, if◌then◌else◌}
 use Rattle.der_core.specs.declared.error.ErrorKind.TheVariants.{Value}
-use Rattle.der_core.specs.Words.{same_tag}
-use Rattle.examples.specs.Extension.{boolean_tag}
+use Rattle.der_core.specs.Words.{boolean_tag, same_tag}
 use Rattle.examples.proofs.extension.true_of.Goals as goal
 
 pub returns-else-is_true : goal.returns-else-is_true

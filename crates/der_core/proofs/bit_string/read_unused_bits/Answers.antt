@@ -1,0 +1,39 @@
+use Rattle.std.proofs.Common.{ℕ, List, [], ◌∷◌, ◌≡◌, ◌≢◌, ◌==◌, ◌∙◌, false, length, nat_lt, slice_index_or, refl, sym, ap, arith, ⊎_elim, Ok, Err, Some, None}
+use Rattle.der_core.specs.declared.error.ErrorKind.TheVariants.{Length, Value}
+use Rattle.der_core.specs.Words.{ErrorKind, HoldsBytes, Input, Tag, bit_string_tag, cond_cases, front_of, nat_tests, no_unused_bits, ok_pair, read_from, same_tag}
+use Rattle.der_core.proofs.bit_string.read_unused_bits.Goals as goal
+
+no_unused_bits_missing : (before : Input) (n : ℕ) (e : ErrorKind) (t : Tag) → HoldsBytes before n → n ≡ 0
+    → t.octet ≡ 3 → e ≡ Length t → read_from before no_unused_bits ≡ Err e
+no_unused_bits_missing None n e t held none o is = absurd held
+no_unused_bits_missing (Some []) n e t held none o is =
+    ap (λ t. Err (Length t)) (same_tag bit_string_tag t (sym o)) ∙ ap (λ k. Err k) (sym is)
+no_unused_bits_missing (Some (x ∷ xs)) n e t held none o is = absurd (omega (arith, held, none))
+
+no_unused_bits_other : (before : Input) (u rest : List ℕ) (e : ErrorKind) (t : Tag)
+    → read_from before (front_of 1) ≡ Ok (u, rest) → slice_index_or u 0 0 ≢ 0 → t.octet ≡ 3 → e ≡ Value t
+    → read_from before no_unused_bits ≡ Err e
+no_unused_bits_other None u rest e t was some o is = let never = was in cc
+no_unused_bits_other (Some []) u rest e t was some o is = let never = was in cc
+no_unused_bits_other (Some (x ∷ xs)) u rest e t was some o is =
+    ⊎_elim (λ w. let never = w.1 in cc)
+    (λ w.
+    let first : x ∷ [] ≡ u = (ok_pair (x ∷ []) u xs rest w.1).0 in
+    let unused : x ≢ 0 = rw (sym first) at some in
+    let no : (x == 0) ≡ false = grind (arith, nat_tests, unused) in
+    rw no (ap (λ t. Err (Value t)) (same_tag bit_string_tag t (sym o)) ∙ ap (λ k. Err k) (sym is)))
+    (cond_cases (nat_lt (length (x ∷ xs)) 1) _ _ _ was)
+
+pub returns-then-to_usize-eq0-clause-octet : goal.returns-then-to_usize-eq0-clause-octet
+returns-then-to_usize-eq0-clause-octet g c = (
+  no_unused_bits_missing (g.R.BytesLeft.left c.args.reader.now) _ _ _ c.requires (sym c.to_usize.ensures.value ∙ c.if-to_usize-eq0.true) refl
+      c.error.ensures.value,
+  c.error.ensures.failed,
+)
+
+pub returns-then-unused-ne0-clause-octet : goal.returns-then-unused-ne0-clause-octet
+returns-then-unused-ne0-clause-octet g c = (
+  no_unused_bits_other (g.R.BytesLeft.left c.args.reader.now) _ _ _ _ c.in_ok-unused.ensures.1 c.if-unused-ne0.true refl
+      c.error-then-unused-ne0.ensures.value,
+  c.error-then-unused-ne0.ensures.failed,
+)

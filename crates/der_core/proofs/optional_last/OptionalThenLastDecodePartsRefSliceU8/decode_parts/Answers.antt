@@ -1,0 +1,12 @@
+use Rattle.der_core.specs.Words.{err_from_is_err_and, optional_gives, tagged_alike, tagged_law, front_reading_reads}
+use Rattle.der_core.proofs.ReadSteps.{parts_fail}
+use Rattle.der_core.proofs.optional_last.OptionalThenLastDecodePartsRefSliceU8.decode_parts.Goals as goal
+
+pub returns-in_err-rest : goal.returns-in_err-rest
+returns-in_err-rest g c =
+    let p = err_from_is_err_and c.from_residual-in_err-rest.result c.from_residual-in_err-rest.ensures.1 in
+    let tag = g.T.FixedTag.TAG in
+    let law = front_reading_reads (tagged_law g.T.Contents.law tag) (tagged_alike g.T.Contents.reads_alike tag) in
+    rw (p.1, p.2)
+    (parts_fail (optional_gives tag.octet law) _ _ _ _ _ _ _ _
+    (g.R.BytesLeft.bytes c.args.reader.now) c.in_ok-part.ensures (rw c.TAG.ensures at c.in_err-rest.ensures))

@@ -1,0 +1,131 @@
+//! BIT STRINGs of whole octets (X.690 8.6).
+ghost use Rattle.std.specs.Prelude.{IfOk};
+ghost use Rattle.der_core.specs.Words.{AllocatesBehindZero, HoldsBytes, Reads, behind_zero, behind_zero_alike, behind_zero_asks_as_contents, behind_zero_law, behind_zero_shortest, bit_string_tag, no_unused_bits, whole_octets};
+
+use crate::back_writer::BackWriter;
+use crate::decode::DecodeValue;
+use crate::encode::{EncodeValue, joined_len};
+use crate::error::{ErrorKind, Result};
+use crate::grammar::{Contents, TagMarker, TaggedBy};
+use crate::header::Header;
+use crate::length::Length;
+use crate::memory::Memory;
+use crate::octet_string::OctetStringRef;
+use crate::quick::quick_contents;
+use crate::reader::Reader;
+use crate::tag::Tag;
+use crate::writer::Writer;
+
+/// The tag of BIT STRING.
+pub struct BitStringTag;
+
+impl TagMarker for BitStringTag {
+    ghost TAG = { bit_string_tag };
+
+    const TAG: Tag = Tag::BIT_STRING;
+}
+
+/// A BIT STRING of whole octets, which are the contents octets of a `C`. If bits are unused it is `Value` of BIT STRING.
+#[derive(Clone, Copy, Debug, PartialEq, Eq, Drop)]
+pub struct BitString<C>(pub C);
+
+/// A BIT STRING of any octets, which are borrowed.
+pub type BitStringRef<'a> = BitString<OctetStringRef<'a>>;
+
+impl<C: Contents> Contents for BitString<C> {
+    ghost Value = { C.Value };
+
+    ghost value = { λ bits. C.value bits.0 };
+
+    ghost Spelling = { C.Spelling };
+
+    ghost means = { C.means };
+
+    ghost written = { C.written };
+
+    ghost valid = { C.valid };
+
+    ghost printed = { whole_octets C.printed };
+
+    ghost read_spelling = { behind_zero C.read_spelling };
+
+    ghost read = { behind_zero C.read };
+
+    ghost law = { behind_zero_law C.law };
+
+    ghost shortest = { behind_zero_shortest C.shortest };
+
+    ghost reads_alike = { behind_zero_alike C.reads_alike };
+}
+
+impl<C> TaggedBy for BitString<C> {
+    type Marker = BitStringTag;
+}
+
+/// Reads the number of unused bits, which has to be 0: how many octets are left behind it.
+fn read_unused_bits<'a, R: Reader<&'a [u8]>>(reader: &mut R, length: Length) -> Result<Length>
+    requires { HoldsBytes (R.left reader.old) length }
+    ensures octet { Reads (λ _. tt) result (R.left reader.old) (R.left reader.new) no_unused_bits }
+    ensures left { IfOk result (λ left. HoldsBytes (R.left reader.new) left) }
+{
+    let tag = Tag::BIT_STRING;
+    if length.to_usize() == 0 {
+        return Err(reader.error(ErrorKind::Length { tag }));
+    }
+    let unused = reader.read_slice(Length::ONE)?;
+    if unused[0] != 0 {
+        return Err(reader.error(ErrorKind::Value { tag }));
+    }
+    Ok(Length::of(length.to_usize() - 1))
+}
+
+impl<'a, M: Memory, C: DecodeValue<&'a [u8], M>> DecodeValue<&'a [u8], M> for BitString<C> {
+    ghost may_allocate = { AllocatesBehindZero C.DecodeValue.may_allocate };
+
+    ghost asks_memory = { behind_zero_asks_as_contents C.DecodeValue.asks_memory };
+
+    fn decode_value<R: Reader<&'a [u8]>>(
+        memory: M,
+        reader: &mut R,
+        header: Header,
+    ) -> Result<BitString<C>> {
+        let length = read_unused_bits(reader, header.length)?;
+        let tag = header.tag;
+        let contents = C::decode_value(memory, reader, Header { tag, length })?;
+        Ok(BitString(contents))
+    }
+
+    #[inline(always)]
+    fn quick_split(bytes: &'a [u8], tag: Tag) -> Option<(&'a [u8], &'a [u8])> {
+        quick_contents(bytes, tag)
+    }
+
+    #[inline(always)]
+    fn quick_value(memory: M, contents: &'a [u8]) -> Option<BitString<C>> {
+        match contents {
+            [0, octets @ ..] => match C::quick_value(memory, octets) {
+                Some(contents) => Some(BitString(contents)),
+                None => None,
+            },
+            _ => None,
+        }
+    }
+}
+
+impl<C: EncodeValue> EncodeValue for BitString<C> {
+    ghost refused = { C.EncodeValue.refused };
+
+    fn value_len(&self) -> Result<Length> {
+        joined_len(Ok(Length::ONE), self.0.value_len())
+    }
+
+    fn append_value<W: Writer>(&self, writer: &mut W) -> Result<()> {
+        writer.write(&[0])?;
+        self.0.append_value(writer)
+    }
+
+    fn prepend_value(&self, writer: &mut BackWriter<'_>) {
+        self.0.prepend_value(writer);
+        writer.prepend(&[0]);
+    }
+}

@@ -1,0 +1,121 @@
+//! BOOLEAN (X.690 8.2), as `bool`.
+ghost use Rattle.std.specs.Prelude.{◌≡◌, Bool};
+ghost use Rattle.der_core.specs.Words.{Answers, boolean_contents, boolean_law, boolean_of, boolean_tag, nothing_asked, one_spelling_shortest, reading_alike};
+
+use crate::back_writer::BackWriter;
+use crate::decode::DecodeValue;
+use crate::encode::EncodeValue;
+use crate::error::{Error, ErrorKind, Result};
+use crate::grammar::{Contents, TagMarker, TaggedBy};
+use crate::header::Header;
+use crate::length::Length;
+use crate::memory::Memory;
+use crate::quick::quick_short;
+use crate::reader::Reader;
+use crate::tag::Tag;
+use crate::writer::Writer;
+
+/// The tag of BOOLEAN.
+pub struct BooleanTag;
+
+impl TagMarker for BooleanTag {
+    ghost TAG = { boolean_tag };
+
+    const TAG: Tag = Tag::BOOLEAN;
+}
+
+impl Contents for bool {
+    ghost Value = { Bool };
+
+    ghost value = { λ b. b };
+
+    ghost Spelling = { Bool };
+
+    ghost means = { λ b. b };
+
+    ghost written = { λ b. b };
+
+    ghost valid = { λ _. Unit {0} };
+
+    ghost printed = { boolean_contents };
+
+    ghost read_spelling = { boolean_of };
+
+    ghost read = { boolean_of };
+
+    ghost law = { boolean_law };
+
+    ghost shortest = { one_spelling_shortest (λ _. Unit {0}) boolean_contents };
+
+    ghost reads_alike = { reading_alike boolean_of };
+}
+
+impl TaggedBy for bool {
+    type Marker = BooleanTag;
+}
+
+/// The value with these contents octets: `Length` if there isn't one octet, `Value` if it is neither `00` nor
+/// `ff`.
+fn boolean(contents: &[u8]) -> Result<bool>
+    ensures { Answers (λ b. b) result (boolean_of contents.now) }
+{
+    let tag = Tag::BOOLEAN;
+    if contents.len() != 1 {
+        return Err(Error::new(ErrorKind::Length { tag }));
+    }
+    if contents[0] == 0xff {
+        Ok(true)
+    } else if contents[0] == 0x00 {
+        Ok(false)
+    } else {
+        Err(Error::new(ErrorKind::Value { tag }))
+    }
+}
+
+impl<'a, M: Memory> DecodeValue<&'a [u8], M> for bool {
+    ghost may_allocate = { λ _. ⊥ };
+
+    ghost asks_memory = { nothing_asked };
+
+    fn decode_value<R: Reader<&'a [u8]>>(
+        _memory: M,
+        reader: &mut R,
+        header: Header,
+    ) -> Result<bool> {
+        let contents = reader.read_slice(header.length)?;
+        match boolean(contents) {
+            Ok(value) => Ok(value),
+            Err(e) => Err(reader.error(e.kind())),
+        }
+    }
+
+    #[inline(always)]
+    fn quick_split(bytes: &'a [u8], tag: Tag) -> Option<(&'a [u8], &'a [u8])> {
+        quick_short(bytes, tag)
+    }
+
+    #[inline(always)]
+    fn quick_value(_memory: M, contents: &'a [u8]) -> Option<bool> {
+        match contents {
+            [0xff] => Some(true),
+            [0x00] => Some(false),
+            _ => None,
+        }
+    }
+}
+
+impl EncodeValue for bool {
+    ghost refused = { λ _. ⊥ };
+
+    fn value_len(&self) -> Result<Length> {
+        Ok(Length::ONE)
+    }
+
+    fn append_value<W: Writer>(&self, writer: &mut W) -> Result<()> {
+        writer.write(&[if *self { 0xff } else { 0x00 }])
+    }
+
+    fn prepend_value(&self, writer: &mut BackWriter<'_>) {
+        writer.prepend(&[if *self { 0xff } else { 0x00 }]);
+    }
+}

@@ -1,0 +1,85 @@
+//! Contents octets that are one encoding.
+ghost use Rattle.der_core.specs.Words.{AllocatesIn, alone, alone_alike, alone_law};
+
+use crate::back_writer::BackWriter;
+use crate::decode::{Decode, DecodeValue};
+use crate::encode::{Encode, EncodeValue};
+use crate::error::Result;
+use crate::grammar::{Contents, Encoding};
+use crate::header::Header;
+use crate::last_part::decode_whole;
+use crate::length::Length;
+use crate::memory::Memory;
+use crate::quick::quick_alone;
+use crate::reader::Reader;
+use crate::writer::Writer;
+
+/// Contents octets that are one encoding of a `T`, as those of `BIT STRING (CONTAINING T)`. `TrailingData` if octets
+/// follow it.
+#[derive(Clone, Copy, Debug, PartialEq, Eq, Drop)]
+pub struct Containing<T>(pub T);
+
+impl<T: Encoding> Contents for Containing<T> {
+    ghost Value = { T.Value };
+
+    ghost value = { λ inside. T.value inside.0 };
+
+    ghost Spelling = { T.Spelling };
+
+    ghost means = { T.means };
+
+    ghost written = { T.written };
+
+    ghost valid = { T.valid };
+
+    ghost printed = { T.printed };
+
+    ghost read_spelling = { alone T.read_spelling };
+
+    ghost read = { alone T.read_front };
+
+    ghost law = { alone_law T.law };
+
+    ghost shortest = { T.shortest };
+
+    ghost reads_alike = { alone_alike T.reads_alike };
+}
+
+impl<'a, M: Memory, T: Decode<&'a [u8], M>> DecodeValue<&'a [u8], M> for Containing<T> {
+    ghost may_allocate = { AllocatesIn T.Decode.may_allocate };
+
+    ghost asks_memory = { λ c asks. T.Decode.asks_memory asks.0 asks.3 };
+
+    fn decode_value<R: Reader<&'a [u8]>>(
+        memory: M,
+        reader: &mut R,
+        _header: Header,
+    ) -> Result<Containing<T>> {
+        let value = decode_whole(memory, reader)?;
+        Ok(Containing(value))
+    }
+
+    #[inline(always)]
+    fn quick_value(memory: M, contents: &'a [u8]) -> Option<Containing<T>> {
+        match quick_alone(memory, contents) {
+            Some(value) => Some(Containing(value)),
+            None => None,
+        }
+    }
+}
+
+impl<T: Encode> EncodeValue for Containing<T> {
+    ghost refused = { T.Encode.refused };
+
+    fn value_len(&self) -> Result<Length> {
+        self.0.encoded_len()
+    }
+
+    fn append_value<W: Writer>(&self, writer: &mut W) -> Result<()> {
+        self.0.encode(writer)
+    }
+
+    fn prepend_value(&self, writer: &mut BackWriter<'_>) {
+        self.0.prepend(writer);
+    }
+}

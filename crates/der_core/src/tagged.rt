@@ -1,0 +1,116 @@
+//! Values under a tag of one's own (X.690 8.14).
+ghost use Rattle.std.specs.Prelude.{◌≡◌};
+
+use crate::back_writer::BackWriter;
+use crate::containing::Containing;
+use crate::decode::DecodeValue;
+use crate::encode::EncodeValue;
+use crate::error::Result;
+use crate::grammar::{Contents, TagMarker, TaggedBy};
+use crate::header::Header;
+use crate::length::Length;
+use crate::memory::Memory;
+use crate::quick::quick_contents;
+use crate::reader::Reader;
+use crate::tag::Tag;
+use crate::writer::Writer;
+use std::marker::PhantomData;
+
+/// The contents octets of a `C` under the tag of a marker, as in `[n] IMPLICIT` (8.14.3).
+#[derive(Clone, Copy, Debug, PartialEq, Eq, Drop)]
+pub struct Tagged<M, C> {
+    /// What has these contents octets.
+    pub contents: C,
+    marker: PhantomData<M>,
+}
+
+/// `[n] EXPLICIT` (8.14.2): the contents octets are one encoding of a `T`.
+pub type Explicit<M, T> = Tagged<M, Containing<T>>;
+
+impl<M, C> Tagged<M, C> {
+    /// These contents under the tag.
+    #[inline(always)]
+    pub fn new(contents: C) -> Tagged<M, C>
+        ensures { result.contents ≡ contents }
+    {
+        Tagged {
+            contents,
+            marker: PhantomData,
+        }
+    }
+}
+
+impl<M, C: Contents> Contents for Tagged<M, C> {
+    ghost Value = { C.Value };
+
+    ghost value = { λ tagged. C.value tagged.contents };
+
+    ghost Spelling = { C.Spelling };
+
+    ghost means = { C.means };
+
+    ghost written = { C.written };
+
+    ghost valid = { C.valid };
+
+    ghost printed = { C.printed };
+
+    ghost read_spelling = { C.read_spelling };
+
+    ghost read = { C.read };
+
+    ghost law = { C.law };
+
+    ghost shortest = { C.shortest };
+
+    ghost reads_alike = { C.reads_alike };
+}
+
+impl<M: TagMarker, C> TaggedBy for Tagged<M, C> {
+    type Marker = M;
+}
+
+impl<'a, K: TagMarker + Drop, M: Memory, C: DecodeValue<&'a [u8], M>> DecodeValue<&'a [u8], M>
+    for Tagged<K, C> {
+    ghost may_allocate = { C.DecodeValue.may_allocate };
+
+    ghost asks_memory = { C.DecodeValue.asks_memory };
+
+    fn decode_value<R: Reader<&'a [u8]>>(
+        memory: M,
+        reader: &mut R,
+        header: Header,
+    ) -> Result<Tagged<K, C>> {
+        let contents = C::decode_value(memory, reader, header)?;
+        Ok(Tagged::new(contents))
+    }
+
+    #[inline(always)]
+    fn quick_split(bytes: &'a [u8], tag: Tag) -> Option<(&'a [u8], &'a [u8])> {
+        quick_contents(bytes, tag)
+    }
+
+    #[inline(always)]
+    fn quick_value(memory: M, contents: &'a [u8]) -> Option<Tagged<K, C>> {
+        match C::quick_value(memory, contents) {
+            Some(contents) => Some(Tagged::new(contents)),
+            None => None,
+        }
+    }
+}
+
+impl<M: TagMarker, C: EncodeValue> EncodeValue for Tagged<M, C> {
+    ghost refused = { C.EncodeValue.refused };
+
+    fn value_len(&self) -> Result<Length> {
+        self.contents.value_len()
+    }
+
+    fn append_value<W: Writer>(&self, writer: &mut W) -> Result<()> {
+        self.contents.append_value(writer)
+    }
+
+    fn prepend_value(&self, writer: &mut BackWriter<'_>) {
+        self.contents.prepend_value(writer);
+    }
+}

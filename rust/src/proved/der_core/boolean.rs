@@ -1,0 +1,86 @@
+// Made of crates/der_core/src/boolean.rt by tools/erase/erase.py, and not to be edited.
+//! BOOLEAN (X.690 8.2), as `bool`.
+
+use crate::proved::der_core::back_writer::BackWriter;
+use crate::proved::der_core::decode::DecodeValue;
+use crate::proved::der_core::encode::EncodeValue;
+use crate::proved::der_core::error::{Error, ErrorKind, Result};
+use crate::proved::der_core::grammar::{Contents, TagMarker, TaggedBy};
+use crate::proved::der_core::header::Header;
+use crate::proved::der_core::length::Length;
+use crate::proved::der_core::memory::Memory;
+use crate::proved::der_core::quick::quick_short;
+use crate::proved::der_core::reader::Reader;
+use crate::proved::der_core::tag::Tag;
+use crate::proved::der_core::writer::Writer;
+
+/// The tag of BOOLEAN.
+pub struct BooleanTag;
+
+impl TagMarker for BooleanTag {
+    const TAG: Tag = Tag::BOOLEAN;
+}
+
+impl Contents for bool {}
+
+impl TaggedBy for bool {
+    type Marker = BooleanTag;
+}
+
+/// The value with these contents octets: `Length` if there isn't one octet, `Value` if it is neither `00` nor
+/// `ff`.
+fn boolean(contents: &[u8]) -> Result<bool> {
+    let tag = Tag::BOOLEAN;
+    if contents.len() != 1 {
+        return Err(Error::new(ErrorKind::Length { tag }));
+    }
+    if contents[0] == 0xff {
+        Ok(true)
+    } else if contents[0] == 0x00 {
+        Ok(false)
+    } else {
+        Err(Error::new(ErrorKind::Value { tag }))
+    }
+}
+
+impl<'a, M: Memory> DecodeValue<&'a [u8], M> for bool {
+    fn decode_value<R: Reader<&'a [u8]>>(
+        _memory: M,
+        reader: &mut R,
+        header: Header,
+    ) -> Result<bool> {
+        let contents = reader.read_slice(header.length)?;
+        match boolean(contents) {
+            Ok(value) => Ok(value),
+            Err(e) => Err(reader.error(e.kind())),
+        }
+    }
+
+    #[inline(always)]
+    fn quick_split(bytes: &'a [u8], tag: Tag) -> Option<(&'a [u8], &'a [u8])> {
+        quick_short(bytes, tag)
+    }
+
+    #[inline(always)]
+    fn quick_value(_memory: M, contents: &'a [u8]) -> Option<bool> {
+        match contents {
+            [0xff] => Some(true),
+            [0x00] => Some(false),
+            _ => None,
+        }
+    }
+}
+
+impl EncodeValue for bool {
+    fn value_len(&self) -> Result<Length> {
+        Ok(Length::ONE)
+    }
+
+    fn append_value<W: Writer>(&self, writer: &mut W) -> Result<()> {
+        writer.write(&[if *self { 0xff } else { 0x00 }])
+    }
+
+    fn prepend_value(&self, writer: &mut BackWriter<'_>) {
+        writer.prepend(&[if *self { 0xff } else { 0x00 }]);
+    }
+}

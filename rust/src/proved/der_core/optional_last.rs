@@ -1,0 +1,99 @@
+// Made of crates/der_core/src/optional_last.rt by tools/erase/erase.py, and not to be edited.
+//! An OPTIONAL part in front of an OPTIONAL last one.
+
+use crate::proved::der_core::back_writer::BackWriter;
+use crate::proved::der_core::decode::{Decode, DecodeValue, decode_optional};
+use crate::proved::der_core::encode::{Encode, EncodeValue, joined_len};
+use crate::proved::der_core::error::{Error, ErrorKind, Result};
+use crate::proved::der_core::grammar::{Contents, Encoding, FixedTag};
+use crate::proved::der_core::last_part::Last;
+use crate::proved::der_core::length::Length;
+use crate::proved::der_core::memory::Memory;
+use crate::proved::der_core::optional_part::OptionalThen;
+use crate::proved::der_core::parts::DecodeParts;
+use crate::proved::der_core::reader::Reader;
+use crate::proved::der_core::tag::Tag;
+use crate::proved::der_core::writer::Writer;
+
+impl<T: Contents + FixedTag, A: Encoding> Contents for OptionalThen<T, Last<A>> {}
+
+/// Reads the last part behind a part with this tag: `Value` of the tag if it may begin with that too.
+#[inline(always)]
+fn decode_last_behind<'a, A: Decode<&'a [u8], M>, M: Memory, R: Reader<&'a [u8]>>(
+    memory: M,
+    reader: &mut R,
+    tag: Tag,
+) -> Result<Last<A>> {
+    if A::may_start_with(tag) {
+        return Err(reader.error(ErrorKind::Value { tag }));
+    }
+    Last::decode_parts(memory, reader)
+}
+
+impl<'a, M, T, A> DecodeParts<&'a [u8], M> for OptionalThen<T, Last<A>>
+where
+    M: Memory,
+    T: DecodeValue<&'a [u8], M> + FixedTag,
+    A: Decode<&'a [u8], M>,
+{
+    #[inline(always)]
+    fn decode_parts<R: Reader<&'a [u8]>>(
+        memory: M,
+        reader: &mut R,
+    ) -> Result<OptionalThen<T, Last<A>>> {
+        let part = decode_optional(memory, reader)?;
+        let rest = decode_last_behind(memory, reader, T::TAG)?;
+        Ok(OptionalThen(part, rest))
+    }
+
+    #[inline(always)]
+    fn quick_parts(memory: M, contents: &'a [u8]) -> Option<OptionalThen<T, Last<A>>> {
+        if A::may_start_with(T::TAG) {
+            return None;
+        }
+        match contents {
+            [first, ..] if *first == T::TAG.octet() => {
+                let (part, behind) = T::quick(memory, contents)?;
+                let rest = Last::quick_parts(memory, behind)?;
+                Some(OptionalThen(Some(part), rest))
+            }
+            _ => {
+                let rest = Last::quick_parts(memory, contents)?;
+                Some(OptionalThen(None, rest))
+            }
+        }
+    }
+}
+
+impl<T: EncodeValue + FixedTag, A: Encode> EncodeValue for OptionalThen<T, Last<A>> {
+    #[inline(always)]
+    fn value_len(&self) -> Result<Length> {
+        if A::may_start_with(T::TAG) {
+            return Err(Error::new(ErrorKind::Value { tag: T::TAG }));
+        }
+        let rest = self.1.value_len();
+        match &self.0 {
+            Some(part) => joined_len(part.encoded_len(), rest),
+            None => rest,
+        }
+    }
+
+    #[inline(always)]
+    fn append_value<W: Writer>(&self, writer: &mut W) -> Result<()> {
+        match &self.0 {
+            Some(part) => {
+                part.encode(writer)?;
+                self.1.append_value(writer)
+            }
+            None => self.1.append_value(writer),
+        }
+    }
+
+    #[inline(always)]
+    fn prepend_value(&self, writer: &mut BackWriter<'_>) {
+        self.1.prepend_value(writer);
+        if let Some(part) = &self.0 {
+            part.prepend(writer);
+        }
+    }
+}

@@ -1,0 +1,84 @@
+// Made of crates/der_core/src/tagged.rt by tools/erase/erase.py, and not to be edited.
+//! Values under a tag of one's own (X.690 8.14).
+
+use crate::proved::der_core::back_writer::BackWriter;
+use crate::proved::der_core::containing::Containing;
+use crate::proved::der_core::decode::DecodeValue;
+use crate::proved::der_core::encode::EncodeValue;
+use crate::proved::der_core::error::Result;
+use crate::proved::der_core::grammar::{Contents, TagMarker, TaggedBy};
+use crate::proved::der_core::header::Header;
+use crate::proved::der_core::length::Length;
+use crate::proved::der_core::memory::Memory;
+use crate::proved::der_core::quick::quick_contents;
+use crate::proved::der_core::reader::Reader;
+use crate::proved::der_core::tag::Tag;
+use crate::proved::der_core::writer::Writer;
+use crate::rattle_std::marker::PhantomData;
+
+/// The contents octets of a `C` under the tag of a marker, as in `[n] IMPLICIT` (8.14.3).
+#[derive(Clone, Copy, Debug, PartialEq, Eq)]
+pub struct Tagged<M, C> {
+    /// What has these contents octets.
+    pub contents: C,
+    marker: PhantomData<M>,
+}
+
+/// `[n] EXPLICIT` (8.14.2): the contents octets are one encoding of a `T`.
+pub type Explicit<M, T> = Tagged<M, Containing<T>>;
+
+impl<M, C> Tagged<M, C> {
+    /// These contents under the tag.
+    #[inline(always)]
+    pub fn new(contents: C) -> Tagged<M, C> {
+        Tagged {
+            contents,
+            marker: PhantomData,
+        }
+    }
+}
+
+impl<M, C: Contents> Contents for Tagged<M, C> {}
+
+impl<M: TagMarker, C> TaggedBy for Tagged<M, C> {
+    type Marker = M;
+}
+
+impl<'a, K: TagMarker, M: Memory, C: DecodeValue<&'a [u8], M>> DecodeValue<&'a [u8], M>
+    for Tagged<K, C> {
+    fn decode_value<R: Reader<&'a [u8]>>(
+        memory: M,
+        reader: &mut R,
+        header: Header,
+    ) -> Result<Tagged<K, C>> {
+        let contents = C::decode_value(memory, reader, header)?;
+        Ok(Tagged::new(contents))
+    }
+
+    #[inline(always)]
+    fn quick_split(bytes: &'a [u8], tag: Tag) -> Option<(&'a [u8], &'a [u8])> {
+        quick_contents(bytes, tag)
+    }
+
+    #[inline(always)]
+    fn quick_value(memory: M, contents: &'a [u8]) -> Option<Tagged<K, C>> {
+        match C::quick_value(memory, contents) {
+            Some(contents) => Some(Tagged::new(contents)),
+            None => None,
+        }
+    }
+}
+
+impl<M: TagMarker, C: EncodeValue> EncodeValue for Tagged<M, C> {
+    fn value_len(&self) -> Result<Length> {
+        self.contents.value_len()
+    }
+
+    fn append_value<W: Writer>(&self, writer: &mut W) -> Result<()> {
+        self.contents.append_value(writer)
+    }
+
+    fn prepend_value(&self, writer: &mut BackWriter<'_>) {
+        self.contents.prepend_value(writer);
+    }
+}
