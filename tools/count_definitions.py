@@ -12,8 +12,8 @@ CRATES = pathlib.Path(__file__).resolve().parent.parent / "crates"
 FILES = {
     "pkcs1": "public_key view private_key/der traits reencode laws faults",
     "pkcs8_core": "info rsa faults",
-    "pkcs1_params": """pss oaep pss_reading oaep_reading spelling pss_spelling oaep_spelling algorithm pss_algorithm
-        oaep_algorithm label laws""",
+    "pkcs1_params": """pss oaep pss_reading oaep_reading from_view spelling pss_spelling oaep_spelling algorithm
+        pss_algorithm oaep_algorithm label laws""",
     "spki_core": "algorithm_identifier",
 }
 CALLS = """try_from encode_key decode_key decode_owned_key from_pkcs1_der to_pkcs1_der reencode_public_key

@@ -17,4 +17,4 @@ pub use Rattle.pkcs1.specs.Laws.PrimesHeld.{PrimesAreCounted, all_primes_counted
 pub use Rattle.pkcs1.specs.Laws.PrintedKeys.{PublicIsValid, integer_law, primes_law, public_as_stated, public_decodes, public_encoding, public_key_decides, public_law, version_law}
 pub use Rattle.pkcs1.specs.Laws.PrintedPrivateKeys.{eight_behind, front_law, private_law, private_row, read_valid}
 pub use Rattle.pkcs1.specs.Laws.ShortestKeys.{private_shortest, version_shortest}
-pub use Rattle.pkcs1.specs.Laws.StatedPrivateKeys.{listed_printed, private_as_stated, private_decodes, private_encoding, private_itself, private_key_back, private_spells}
+pub use Rattle.pkcs1.specs.Laws.StatedPrivateKeys.{listed_printed, private_as_stated, private_decodes, private_encoding, private_itself, private_key_back, private_same_encoding, private_spells, private_valid, some_stated, stated_some}

@@ -1,16 +1,17 @@
 //! Traits for keys of any type: PKCS #1 encodings decoded and written, in memory and in files.
 ghost use Rattle.std.specs.Prelude.{◌≡◌, ◌⊎◌, ⊤, List, ℕ, Err, IfOk, IfErr, OnOk, IsErrAnd, Some};
 ghost use Rattle.std.specs.Path.{path_bytes};
-ghost use Rattle.der_core.specs.Words.{FileFault, FileGives, FileRefuses, FileTakes, IsDocument, encoding_of, FaultOrMemory, IsFile, sequence_tag, bytes_of, own_bytes_of};
+ghost use Rattle.der_core.specs.Words.{FileFault, FileGives, FileRefuses, FileTakes, IsDocument, encoding_of, FaultOrMemory, IsFile, sequence_tag, own_bytes_of};
 ghost use Rattle.pkcs1.specs.Words.{OwnedKeyAllocates, OwnedPublicKeyAllocates, rsa_private_key, rsa_public_key, IsPrivateKey, ListsNone, Rejects, Withholds, held_private_key, held_public_key};
 ghost use Rattle.pkcs1_params.specs.Words.{ErrsOrAsks, IsAsn1};
 ghost use Rattle.standard.specs.Statement.{Decodes, IsShortest, PrivateKeyEncoding, PublicKeyEncoding};
 ghost use Rattle.pkcs1_params.specs.declared.error.Error.{Error};
 
 use crate::private_key::RsaPrivateKey;
+use crate::private_key::other_prime_info::lists_none;
 use crate::public_key::RsaPublicKey;
 use der_core::{
-    Decode, Document, ErrorKind, FileSystem, SecretDocument, Uint, UintEncoding, UintRef,
+    Decode, Document, Encode, ErrorKind, FileSystem, SecretDocument, Tag, Uint, UintEncoding,
 };
 use pkcs1_params::Result;
 use std::alloc::Global;
@@ -178,36 +179,25 @@ impl DecodeRsaPublicKey for RsaPublicKey<Uint> {
     }
 }
 
-impl<'a> EncodeRsaPrivateKey for RsaPrivateKey<UintRef<'a>> {
-    ghost written_as = { λ key. IsShortest PrivateKeyEncoding (held_private_key bytes_of key) };
+impl<U: Encode + UintEncoding> EncodeRsaPrivateKey for RsaPrivateKey<U> {
+    ghost written_as = { λ key. IsShortest PrivateKeyEncoding (held_private_key U.number key) };
 
-    ghost unwritten_by = { λ key. Withholds IsPrivateKey PrivateKeyEncoding (held_private_key bytes_of key) };
+    ghost unwritten_by = { λ key. Withholds IsPrivateKey PrivateKeyEncoding (held_private_key U.number key) };
 
+    /// As `encode_msg`. It looks for an empty list of other primes first, so its contract says the tag of `Value`.
     fn to_pkcs1_der(&self, alloc: Global) -> Result<SecretDocument>
-        ensures encoding { let key = held_private_key bytes_of self.now in
+        ensures encoding { let key = held_private_key U.number self.now in
             IfOk result (λ document. IsShortest PrivateKeyEncoding key (encoding_of document)) }
-        ensures err { IfErr result (Withholds IsPrivateKey PrivateKeyEncoding (held_private_key bytes_of self.now)) }
-        ensures no_primes { ListsNone self.now.other_prime_infos
-            → IsErrAnd result (IsAsn1 (λ e. e.kind ≡ ErrorKind.Value sequence_tag)) }
-    {
-        self.to_document(alloc)
-    }
-}
-
-impl EncodeRsaPrivateKey for RsaPrivateKey<Uint> {
-    ghost written_as = { λ key. IsShortest PrivateKeyEncoding (held_private_key own_bytes_of key) };
-
-    ghost unwritten_by = { λ key. Withholds IsPrivateKey PrivateKeyEncoding (held_private_key own_bytes_of key) };
-
-    fn to_pkcs1_der(&self, alloc: Global) -> Result<SecretDocument>
-        ensures encoding { let key = held_private_key own_bytes_of self.now in
-            IfOk result (λ document. IsShortest PrivateKeyEncoding key (encoding_of document)) }
-        ensures err { let key = held_private_key own_bytes_of self.now in
+        ensures err { let key = held_private_key U.number self.now in
             IfErr result (Withholds IsPrivateKey PrivateKeyEncoding key) }
         ensures no_primes { ListsNone self.now.other_prime_infos
             → IsErrAnd result (IsAsn1 (λ e. e.kind ≡ ErrorKind.Value sequence_tag)) }
     {
-        self.to_document(alloc)
+        if lists_none(&self.other_prime_infos) {
+            let rejected = der_core::Error::new(ErrorKind::Value { tag: Tag::SEQUENCE });
+            return Err(pkcs1_params::Error::Asn1(rejected));
+        }
+        Ok(SecretDocument::encode_msg(alloc, self)?)
     }
 }
 

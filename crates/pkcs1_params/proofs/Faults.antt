@@ -7,7 +7,7 @@ use Rattle.der_core.specs.declared.tag.Tag.{Tag}
 use Rattle.der_core.specs.Words.{cond_cases, alone_law, bind_err, unexpected_tells, limit, ReadsFrontPrinted, TellsOfBytes, FrontReading, checked, tagged, whole, context_octet, is_allowed, ok_of, value_in, ◌>>=◌, nat_tests, whole_takes, is_next}
 use Rattle.der_core.specs.Tags as tags
 use Rattle.spki_core.specs.Words.{FieldRecord, first_written, record_means, record_strictly, spelling_read, strict_whole, record_front_law, record_law, noncanonical, unless_found, AreLawful, AreNumbered, Kind, Spelling, Values, fields_of, spelling_means, one_spelled, spelled, strict_value, spelled_from, spelled_not_next, is_identifier}
-use Rattle.pkcs1_params.specs.Words.{identified, parameters_as, whole_algorithm, plain_law, FaultsTell, plain_front, Error, IsAsn1, ErrsAs, IsEncoded, fault_in, NamesFirstDefaultIn, FirstWritten, NamesFirstDefault}
+use Rattle.pkcs1_params.specs.Words.{identified, parameters_as, whole_algorithm, plain_law, FaultsTell, plain_front, Error, IsAsn1, ErrsAs, IsEncoded, fault_in, fault_told, NamesFirstDefaultIn, FirstWritten, NamesFirstDefault}
 use Rattle.standard.specs.Statement.{Algorithm, Field, TagAndContents, Decodes, Fields, SequenceOf, sequence}
 use Rattle.der_core.specs.declared.error.Error as der
 use Rattle.pkcs1_params.specs.declared.error.Error.TheVariants as error
@@ -112,6 +112,25 @@ errs_decode E bytes value given d (Err (error.Asn1 e)) p = subst (λ g. Decodes 
 errs_decode E bytes value given d (Err error.Crypto) p = absurd p
 errs_decode E bytes value given d (Err error.KeyMalformed) p = absurd p
 errs_decode E bytes value given d (Err error.Version) p = absurd p
+
+-- The fault of such a call is that of the function, and there is none exactly of bytes that encode a value.
+pub fault_told_given : {X V : Type 0} (value : X → V) (given : Result V ErrorKind) (r : Result X Error)
+    (fault : Option ErrorKind) → fault ≡ fault_told r → ErrsAs value given r → fault ≡ fault_in given
+fault_told_given value given (Ok x) fault told p = told ∙ sym (ap fault_in p)
+fault_told_given value given (Err (error.Asn1 e)) fault told p = told ∙ sym (ap fault_in p)
+fault_told_given value given (Err error.Crypto) fault told p = absurd p
+fault_told_given value given (Err error.KeyMalformed) fault told p = absurd p
+fault_told_given value given (Err error.Version) fault told p = absurd p
+
+pub fault_told_encoded : {X V : Type 0} (E : V → List ℕ → Type 0) (bytes : List ℕ) (value : X → V)
+    (given : Result V ErrorKind) (r : Result X Error) (fault : Option ErrorKind) → fault ≡ fault_told r
+    → ErrsAs value given r → Decodes E bytes (ok_of value r) → (fault ≡ None) ↔ IsEncoded E bytes
+fault_told_encoded E bytes value given (Ok x) fault told p d = (λ _. (value x, d.0), λ _. told)
+fault_told_encoded E bytes value given (Err (error.Asn1 e)) fault told p d =
+    (λ no. let q = sym told ∙ no in cc, λ q. absurd (d q.0 q.1))
+fault_told_encoded E bytes value given (Err error.Crypto) fault told p d = absurd p
+fault_told_encoded E bytes value given (Err error.KeyMalformed) fault told p d = absurd p
+fault_told_encoded E bytes value given (Err error.Version) fault told p d = absurd p
 
 -- There is no fault exactly of bytes that encode a value.
 pub fault_in_none : {V : Type 0} (E : V → List ℕ → Type 0) (bytes : List ℕ) (given : Result V ErrorKind)

@@ -3,6 +3,7 @@ use Rattle.std.specs.Prelude.{ℕ, List, [], ◌++◌, ◌≡◌, Option, Some, 
 use Rattle.der_core.specs.declared.error.ErrorKind.{ErrorKind}
 use Rattle.der_core.specs.Words.{FaultOrMemory, TellsOfBytes, Reading, Unwritten, encode_error}
 use Rattle.pkcs1_params.specs.declared.error.Error.{Error}
+use Rattle.pkcs1_params.specs.declared.error.Error.TheVariants as error
 use Rattle.pkcs1_params.specs.Errors.{IsAsn1}
 
 -- The bytes encode some value.
@@ -19,6 +20,14 @@ AreDelimited {V} Encoding =
 abbrev pub fault_in : {V : Type 0} → Result V ErrorKind → Option ErrorKind
 fault_in (Ok v) = None
 fault_in (Err k) = Some k
+
+-- The kind of the error of der_core that a call returned, if it returned one.
+abbrev pub fault_told : {X : Type 0} → Result X Error → Option ErrorKind
+fault_told (Ok x) = None
+fault_told (Err (error.Asn1 e)) = Some e.kind
+fault_told (Err error.Crypto) = None
+fault_told (Err error.KeyMalformed) = None
+fault_told (Err error.Version) = None
 
 -- The call returned what the function gives. An error of this crate holds one of der_core.
 abbrev pub ErrsAs : {X V : Type 0} → (X → V) → Result V ErrorKind → Result X Error → Type 0

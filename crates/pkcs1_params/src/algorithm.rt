@@ -1,4 +1,5 @@
-//! Parameters in their algorithm identifier (RFC 8017 A.2.3, A.2.1; RFC 5280 4.1.1.2).
+//! Parameters in their algorithm identifier (RFC 8017 A.2.3, A.2.1; RFC 5280 4.1.1.2). `AlgorithmView::from_der` reads one, and
+//! `reading.rt` the parameters in it.
 ghost use Rattle.std.specs.Prelude.{◌≡◌, ◌++◌, ⊤, drop, length, Err, IfErr, IfOk};
 ghost use Rattle.der_core.specs.Words.{Reading, ok_of, sequence_tag as sequence_kind, tlv};
 ghost use Rattle.spki_core.specs.Words.{algorithm_in, algorithm_of, any_as, any_of, record_read, record_strictly};
@@ -58,26 +59,6 @@ impl<'a, T: AlgorithmParams<'a>> FromAlgorithm<'a> for T {
     }
 }
 
-/// The parameters in an algorithm identifier, whatever holds its object identifier, as they are before they are read.
-#[inline(always)]
-fn parameters_of<'a, O: IdentifierValue, T: AlgorithmParams<'a>>(
-    algorithm: &AlgorithmIdentifierOf<O, AnyRef<'a>>,
-) -> Result<AnyRef<'a>>
-    ensures ok { let a = algorithm_in O.octets any_of algorithm.now in (read : Reading T.Params) →
-        IfOk result (λ any. identified T.Oid.contents read a ≡ any_as sequence_kind read (any_of any)) }
-    ensures err { let a = algorithm_in O.octets any_of algorithm.now in (read : Reading T.Params) →
-        IfErr result (IsAsn1 (λ e. identified T.Oid.contents read a ≡ Err e.kind)) }
-{
-    let oid = algorithm.oid.as_identifier_view();
-    if oid.as_bytes() != T::Oid::octets() {
-        return Err(Error::Asn1(der_core::Error::new(ErrorKind::OidUnknown)));
-    }
-    match algorithm.parameters {
-        Some(any) => Ok(any),
-        None => Err(Error::Asn1(der_core::Error::new(ErrorKind::ParametersMissing))),
-    }
-}
-
 /// The parameters in an algorithm identifier, whatever holds its object identifier.
 #[inline(always)]
 fn from_identifier<'a, O: IdentifierValue, T: AlgorithmParams<'a>>(
@@ -108,14 +89,23 @@ fn from_identifier_strict<'a, T: AlgorithmParams<'a>>(bytes: &'a [u8]) -> Result
     Ok(params)
 }
 
-/// The octets behind the first `count`, or none if there are fewer.
-fn behind(octets: &[u8], count: usize) -> &[u8]
-    ensures { result.now ≡ drop count octets.now }
+/// The parameters in an algorithm identifier, whatever holds its object identifier, as they are before they are read.
+#[inline(always)]
+fn parameters_of<'a, O: IdentifierValue, T: AlgorithmParams<'a>>(
+    algorithm: &AlgorithmIdentifierOf<O, AnyRef<'a>>,
+) -> Result<AnyRef<'a>>
+    ensures ok { let a = algorithm_in O.octets any_of algorithm.now in (read : Reading T.Params) →
+        IfOk result (λ any. identified T.Oid.contents read a ≡ any_as sequence_kind read (any_of any)) }
+    ensures err { let a = algorithm_in O.octets any_of algorithm.now in (read : Reading T.Params) →
+        IfErr result (IsAsn1 (λ e. identified T.Oid.contents read a ≡ Err e.kind)) }
 {
-    if count <= octets.len() {
-        &octets[count..]
-    } else {
-        &[]
+    let oid = algorithm.oid.as_identifier_view();
+    if oid.as_bytes() != T::Oid::octets() {
+        return Err(Error::Asn1(der_core::Error::new(ErrorKind::OidUnknown)));
+    }
+    match algorithm.parameters {
+        Some(any) => Ok(any),
+        None => Err(Error::Asn1(der_core::Error::new(ErrorKind::ParametersMissing))),
     }
 }
 
@@ -128,6 +118,17 @@ fn encoded_parameters<'a, T: AlgorithmParams<'a>>(identifier: &'a [u8]) -> &'a [
     match AnyRef::from_der(NoMemory, identifier) {
         Ok(any) => behind(any.value(), 2 + T::Oid::octets().len()),
         Err(_) => &[],
+    }
+}
+
+/// The octets behind the first `count`, or none if there are fewer.
+fn behind(octets: &[u8], count: usize) -> &[u8]
+    ensures { result.now ≡ drop count octets.now }
+{
+    if count <= octets.len() {
+        &octets[count..]
+    } else {
+        &[]
     }
 }
 

@@ -44,12 +44,14 @@ pub use laws::{
 };
 pub use oaep::{
     OaepParamsOf, RsaOaepParams, RsaOaepParamsOwned, RsaOaepParamsRef, RsaOaepParamsView,
+    fault_of_oaep_params,
 };
 pub use oaep_algorithm::{RsaesOaep, fault_of_oaep_algorithm, rsaes_oaep_oid};
-pub use oaep_reading::fault_of_oaep_params;
-pub use pss::{PssParamsOf, RsaPssParams, RsaPssParamsOwned, RsaPssParamsRef, RsaPssParamsView};
+pub use pss::{
+    PssParamsOf, RsaPssParams, RsaPssParamsOwned, RsaPssParamsRef, RsaPssParamsView,
+    fault_of_pss_params,
+};
 pub use pss_algorithm::{RsassaPss, fault_of_pss_algorithm, rsassa_pss_oid};
-pub use pss_reading::fault_of_pss_params;
 pub use shortest::Shortest;
 pub use spelling::EncodeParams;
 pub use trailer_field::TrailerField;

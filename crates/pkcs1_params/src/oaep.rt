@@ -1,17 +1,19 @@
-//! Parameters of RSAES-OAEP (RFC 8017 A.2.1).
-ghost use Rattle.std.specs.Prelude.{◌≡◌, [], refl};
-ghost use Rattle.pkcs1_params.specs.Words.{OaepParameters, oaep_in, oaep_kinds, oaep_read, oaep_record};
-ghost use Rattle.spki_core.specs.Words.{AreSpelled, Spelling, record_alike, record_law, record_means, record_shortest, record_under, spelled, spelling_read};
-ghost use Rattle.standard.specs.Statement.{empty_label, mgf1_sha1, sha1};
+//! Parameters of RSAES-OAEP (RFC 8017 A.2.1). `try_from` and `from_der_strict` read them by the functions of `reading.rt`.
+ghost use Rattle.std.specs.Prelude.{◌≡◌, ◌↔◌, [], None, refl};
+ghost use Rattle.pkcs1_params.specs.Words.{IsEncoded, OaepParameters, fault_in, oaep_in, oaep_kinds, oaep_read, oaep_record, rsa_oaep_params, strict_oaep_params};
+ghost use Rattle.spki_core.specs.Words.{AreSpelled, Spelling, any_of, record_alike, record_law, record_means, record_shortest, record_under, spelled, spelling_read};
+ghost use Rattle.standard.specs.Statement.{OaepEncoding, empty_label, mgf1_sha1, sha1};
 
 use crate::contents::{append_contents, contents_len, prepend_contents};
-use crate::error::Result;
+use crate::error::{Error, Result, fault_of};
+use crate::from_view::ReadParams;
 use crate::hash_fields::{MaskGenOf, mgf1_with, with_null};
 use crate::hash_functions::Sha1;
 use crate::label::empty_source;
+use crate::reading::{read_params, read_params_strict};
 use crate::spelling::non_defaults_in;
 use der_core::{
-    BackWriter, Contents, EncodeValue, EqualByValue, Length, Memory, NoMemory, Sequence,
+    BackWriter, Contents, EncodeValue, EqualByValue, ErrorKind, Length, Memory, NoMemory, Sequence,
     SequenceTag, TaggedBy, TryClone, Writer,
 };
 use spki_core::{
@@ -53,6 +55,49 @@ pub type RsaOaepParamsOwned = RsaOaepParams<Any>;
 
 /// RSAES-OAEP parameters over their encoding, whose octets are their identifiers. Only `to_params` copies them.
 pub type RsaOaepParamsView<'a> = OaepParamsOf<IdentifierView<'a>, AnyRef<'a>>;
+
+impl<'a, O: ReadParams<'a>> TryFrom<&'a [u8]> for OaepParamsOf<O, AnyRef<'a>> {
+    ghost use Rattle.der_core.specs.Words.{ok_of};
+    ghost use Rattle.pkcs1_params.specs.Words.{ErrsAs};
+    ghost use Rattle.standard.specs.Statement.{Decodes};
+
+    type Error = Error;
+
+    /// Reads a whole slice. Nothing is allocated.
+    fn try_from(bytes: &'a [u8]) -> Result<OaepParamsOf<O, AnyRef<'a>>>
+        ensures read { Decodes OaepEncoding bytes.now (ok_of (oaep_in O.octets any_of) result) }
+        ensures exact { ErrsAs (oaep_in O.octets any_of) (rsa_oaep_params bytes.now) result }
+    {
+        let view = read_params::<RsaOaepParamsView<'a>>(bytes)?;
+        Ok(O::oaep_from_view(view))
+    }
+}
+
+impl<'a, O: ReadParams<'a>> OaepParamsOf<O, AnyRef<'a>> {
+    ghost use Rattle.der_core.specs.Words.{ok_of};
+    ghost use Rattle.pkcs1_params.specs.Words.{ErrsAs};
+    ghost use Rattle.standard.specs.Statement.{Decodes, IsShortest};
+
+    /// Like `try_from`, but rejects an encoding in which a default is written: `Noncanonical` with the tag of the first
+    /// such field. So what is read is the shortest encoding of its value.
+    pub fn from_der_strict(bytes: &'a [u8]) -> Result<OaepParamsOf<O, AnyRef<'a>>>
+        ensures read { Decodes (IsShortest OaepEncoding) bytes.now (ok_of (oaep_in O.octets any_of) result) }
+        ensures exact { ErrsAs (oaep_in O.octets any_of) (strict_oaep_params bytes.now) result }
+    {
+        let view = read_params_strict::<RsaOaepParamsView<'a>>(bytes)?;
+        Ok(O::oaep_from_view(view))
+    }
+}
+
+/// The first fault of bytes that aren't RSAES-OAEP parameters, of which they have exactly one; `None` if they are such
+/// parameters.
+#[tactic(auto, using(crate::proofs::Faults::fault_told_given))]
+pub fn fault_of_oaep_params(bytes: &[u8]) -> Option<ErrorKind>
+    ensures fault { result ≡ fault_in (rsa_oaep_params bytes.now) }
+    ensures encodes { (result ≡ None) ↔ IsEncoded OaepEncoding bytes.now }
+{
+    fault_of(RsaOaepParamsView::try_from(bytes))
+}
 
 impl<O: IdentifierValue, P: AnyValue> Contents for OaepParamsOf<O, P> {
     ghost Value = { OaepParameters };
@@ -169,6 +214,17 @@ impl<P: AnyValue + TryClone> RsaOaepParams<P> {
             mask_gen: self.mask_gen.try_clone(alloc)?,
             p_source: self.p_source.try_clone(alloc)?,
         })
+    }
+}
+
+impl<'a, O: IdentifierValue> Default for OaepParamsOf<O, AnyRef<'a>> {
+    /// Every field at its default.
+    #[inline(always)]
+    fn default() -> OaepParamsOf<O, AnyRef<'a>>
+        ensures { oaep_in O.octets any_of result
+            ≡ record { hash = sha1; mask_gen = mgf1_sha1; p_source = empty_label } }
+    {
+        OaepParamsOf::of_hash::<Sha1, NoMemory>(NoMemory)
     }
 }
 

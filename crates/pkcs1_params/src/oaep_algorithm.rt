@@ -6,7 +6,7 @@ ghost use Rattle.pkcs1_params.specs.Words.{IsEncoded, Refuses, fault_in, oaep_in
 ghost use Rattle.standard.specs.Statement.{Encodes, IsOaep, OaepAlgorithmEncoding, id_rsaes_oaep};
 
 use crate::algorithm::{FromAlgorithm, encode_identifier};
-use crate::error::{Error, Result};
+use crate::error::{Result, fault_of};
 use crate::oaep::{OaepParamsOf, RsaOaepParamsView};
 use crate::spelling::EncodeParams;
 use der_core::{Borrowed, ErrorKind};
@@ -65,13 +65,10 @@ impl<O: IdentifierValue, P: AnyValue> OaepParamsOf<O, P> {
 
 /// The first fault of bytes that aren't the algorithm identifier id-RSAES-OAEP with parameters, of which they have
 /// exactly one; `None` if they are.
+#[tactic(auto, using(crate::proofs::Faults::fault_told_given))]
 pub fn fault_of_oaep_algorithm(bytes: &[u8]) -> Option<ErrorKind>
     ensures fault { result ≡ fault_in (rsa_oaep_algorithm bytes.now) }
     ensures encodes { (result ≡ None) ↔ IsEncoded OaepAlgorithmEncoding bytes.now }
 {
-    match RsaOaepParamsView::from_algorithm_der(bytes) {
-        Ok(_) => None,
-        Err(Error::Asn1(error)) => Some(error.kind()),
-        Err(_) => unreachable!(),
-    }
+    fault_of(RsaOaepParamsView::from_algorithm_der(bytes))
 }

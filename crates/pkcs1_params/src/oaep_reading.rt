@@ -1,64 +1,26 @@
-//! Reading of RSAES-OAEP parameters.
-ghost use Rattle.std.specs.Prelude.{◌≡◌, ◌↔◌, None};
-ghost use Rattle.pkcs1_params.specs.Words.{IsEncoded, OaepParameters, fault_in, oaep_in, oaep_of, oaep_record, oaep_viewed, rsa_oaep_params, strict_oaep_params};
-ghost use Rattle.spki_core.specs.Words.{any_of};
-ghost use Rattle.standard.specs.Statement.{IsOaep, OaepEncoding, empty_label, mgf1_sha1, oaep_fields, sha1};
+//! What `reading.rt` calls of RSAES-OAEP parameters: octets that are known, in `usual.rt`; fields that are read quickly, in
+//! `quick.rt`; each field by `read_field` of `spki_core`; and defaults that are written, in `strict.rt`.
 ghost use Rattle.der_core.specs.Words.{nothing_asked};
+ghost use Rattle.pkcs1_params.specs.Words.{OaepParameters, oaep_in, oaep_record};
+ghost use Rattle.spki_core.specs.Words.{any_of};
+ghost use Rattle.standard.specs.Statement.{IsOaep, oaep_fields};
 
-use crate::error::{Error, Result};
-use crate::from_view::ReadParams;
+use crate::error::Result;
+use crate::from_view::{ReadParams, decode_borrowed};
 use crate::hash_fields::{mgf1_with, with_null};
 use crate::hash_functions::Sha1;
 use crate::label::empty_source;
-use crate::oaep::{OaepParamsOf, RsaOaepParamsRef, RsaOaepParamsView};
+use crate::oaep::{OaepParamsOf, RsaOaepParamsView};
 use crate::oaep_algorithm::RsaesOaep;
 use crate::quick::quick_oaep;
-use crate::reading::{
-    AlgorithmParams, decode_borrowed, decode_whole, read_params, read_params_strict,
-};
+use crate::reading::AlgorithmParams;
 use crate::strict;
 use crate::usual::usual_oaep;
 use der_core::{
-    DecodeValue, ErrorKind, Header, Memory, NoMemory, Reader, Tag, TagNumber, quick_short,
+    ContentsAskNone, DecodeValue, Header, Memory, NoMemory, Reader, Tag, TagNumber, quick_short,
+    read_borrowed,
 };
-use spki_core::{AnyRef, IdentifierValue, ObjectIdentifier, read_field};
-
-impl<'a> RsaOaepParamsView<'a> {
-    /// The parameters as a struct that holds its identifiers.
-    #[inline(always)]
-    pub fn to_params(self) -> RsaOaepParamsRef<'a>
-        ensures { oaep_of result ≡ oaep_viewed self.entry }
-    {
-        ObjectIdentifier::oaep_from_view(self)
-    }
-}
-
-impl<'a, O: ReadParams<'a>> OaepParamsOf<O, AnyRef<'a>> {
-    ghost use Rattle.der_core.specs.Words.{ok_of};
-    ghost use Rattle.pkcs1_params.specs.Words.{ErrsAs};
-    ghost use Rattle.standard.specs.Statement.{Decodes, IsShortest};
-
-    /// Like `try_from`, but rejects an encoding in which a default is written: `Noncanonical` with the tag of the first
-    /// such field. So what is read is the shortest encoding of its value.
-    pub fn from_der_strict(bytes: &'a [u8]) -> Result<OaepParamsOf<O, AnyRef<'a>>>
-        ensures read { Decodes (IsShortest OaepEncoding) bytes.now (ok_of (oaep_in O.octets any_of) result) }
-        ensures exact { ErrsAs (oaep_in O.octets any_of) (strict_oaep_params bytes.now) result }
-    {
-        let view = read_params_strict::<RsaOaepParamsView<'a>>(bytes)?;
-        Ok(O::oaep_from_view(view))
-    }
-}
-
-impl<'a, O: IdentifierValue> Default for OaepParamsOf<O, AnyRef<'a>> {
-    /// Every field at its default.
-    #[inline(always)]
-    fn default() -> OaepParamsOf<O, AnyRef<'a>>
-        ensures { oaep_in O.octets any_of result
-            ≡ record { hash = sha1; mask_gen = mgf1_sha1; p_source = empty_label } }
-    {
-        OaepParamsOf::of_hash::<Sha1, NoMemory>(NoMemory)
-    }
-}
+use spki_core::{AnyRef, read_field};
 
 impl<'a, O: ReadParams<'a>> AlgorithmParams<'a> for OaepParamsOf<O, AnyRef<'a>> {
     type Oid = RsaesOaep;
@@ -94,7 +56,7 @@ impl<'a, O: ReadParams<'a>> AlgorithmParams<'a> for OaepParamsOf<O, AnyRef<'a>> 
 
     #[inline(always)]
     fn read_whole(bytes: &'a [u8]) -> Result<OaepParamsOf<O, AnyRef<'a>>> {
-        let view = decode_whole::<RsaOaepParamsView<'a>>(bytes)?;
+        let view = read_borrowed::<RsaOaepParamsView<'a>>(bytes)?;
         Ok(O::oaep_from_view(view))
     }
 
@@ -103,21 +65,8 @@ impl<'a, O: ReadParams<'a>> AlgorithmParams<'a> for OaepParamsOf<O, AnyRef<'a>> 
     }
 }
 
-impl<'a, O: ReadParams<'a>> TryFrom<&'a [u8]> for OaepParamsOf<O, AnyRef<'a>> {
-    ghost use Rattle.der_core.specs.Words.{ok_of};
-    ghost use Rattle.pkcs1_params.specs.Words.{ErrsAs};
-    ghost use Rattle.standard.specs.Statement.{Decodes};
-
-    type Error = Error;
-
-    /// Reads a whole slice. Nothing is allocated.
-    fn try_from(bytes: &'a [u8]) -> Result<OaepParamsOf<O, AnyRef<'a>>>
-        ensures read { Decodes OaepEncoding bytes.now (ok_of (oaep_in O.octets any_of) result) }
-        ensures exact { ErrsAs (oaep_in O.octets any_of) (rsa_oaep_params bytes.now) result }
-    {
-        let view = read_params::<RsaOaepParamsView<'a>>(bytes)?;
-        Ok(O::oaep_from_view(view))
-    }
+impl<'a, O: ReadParams<'a>> ContentsAskNone<&'a [u8]> for OaepParamsOf<O, AnyRef<'a>> {
+    ghost contents_ask_none = { λ c no. no };
 }
 
 impl<'a, M: Memory, O: ReadParams<'a>> DecodeValue<&'a [u8], M> for OaepParamsOf<O, AnyRef<'a>> {
@@ -165,18 +114,5 @@ impl<'a, M: Memory, O: ReadParams<'a>> DecodeValue<&'a [u8], M> for OaepParamsOf
     fn quick_value(_memory: M, contents: &'a [u8]) -> Option<OaepParamsOf<O, AnyRef<'a>>> {
         let view = quick_oaep(contents, false)?;
         Some(O::oaep_from_view(view))
-    }
-}
-
-/// The first fault of bytes that aren't RSAES-OAEP parameters, of which they have exactly one; `None` if they are such
-/// parameters.
-pub fn fault_of_oaep_params(bytes: &[u8]) -> Option<ErrorKind>
-    ensures fault { result ≡ fault_in (rsa_oaep_params bytes.now) }
-    ensures encodes { (result ≡ None) ↔ IsEncoded OaepEncoding bytes.now }
-{
-    match RsaOaepParamsView::try_from(bytes) {
-        Ok(_) => None,
-        Err(Error::Asn1(error)) => Some(error.kind()),
-        Err(_) => unreachable!(),
     }
 }

@@ -1,17 +1,19 @@
-//! Parameters of RSASSA-PSS (RFC 8017 A.2.3).
-ghost use Rattle.std.specs.Prelude.{◌≡◌, refl};
-ghost use Rattle.pkcs1_params.specs.Words.{PssParameters, id_mgf1, pss_in, pss_kinds, pss_of, pss_read, pss_record, pss_with, with_parameters};
-ghost use Rattle.spki_core.specs.Words.{AreSpelled, Spelling, null_value, record_alike, record_law, record_means, record_shortest, record_under, spelled, spelling_read};
-ghost use Rattle.standard.specs.Statement.{mgf1_sha1, sha1};
+//! Parameters of RSASSA-PSS (RFC 8017 A.2.3). `try_from` and `from_der_strict` read them by the functions of `reading.rt`.
+ghost use Rattle.std.specs.Prelude.{◌≡◌, ◌↔◌, None, refl};
+ghost use Rattle.pkcs1_params.specs.Words.{IsEncoded, PssParameters, fault_in, id_mgf1, pss_in, pss_kinds, pss_of, pss_read, pss_record, pss_with, rsa_pss_params, strict_pss_params, with_parameters};
+ghost use Rattle.spki_core.specs.Words.{AreSpelled, Spelling, any_of, null_value, record_alike, record_law, record_means, record_shortest, record_under, spelled, spelling_read};
+ghost use Rattle.standard.specs.Statement.{PssEncoding, mgf1_sha1, sha1};
 
 use crate::contents::{append_contents, contents_len, prepend_contents};
-use crate::error::Result;
+use crate::error::{Error, Result, fault_of};
+use crate::from_view::ReadParams;
 use crate::hash_fields::{MaskGenOf, mgf1_with, with_null};
 use crate::hash_functions::Sha1;
+use crate::reading::{read_params, read_params_strict};
 use crate::spelling::non_defaults_in;
 use crate::trailer_field::TrailerField;
 use der_core::{
-    BackWriter, Contents, EncodeValue, EqualByValue, Length, Memory, NoMemory, Sequence,
+    BackWriter, Contents, EncodeValue, EqualByValue, ErrorKind, Length, Memory, NoMemory, Sequence,
     SequenceTag, TaggedBy, TryClone, Writer,
 };
 use spki_core::{
@@ -56,6 +58,49 @@ pub type RsaPssParamsOwned = RsaPssParams<Any>;
 
 /// RSASSA-PSS parameters over their encoding, whose octets are their identifiers. Only `to_params` copies them.
 pub type RsaPssParamsView<'a> = PssParamsOf<IdentifierView<'a>, AnyRef<'a>>;
+
+impl<'a, O: ReadParams<'a>> TryFrom<&'a [u8]> for PssParamsOf<O, AnyRef<'a>> {
+    ghost use Rattle.der_core.specs.Words.{ok_of};
+    ghost use Rattle.pkcs1_params.specs.Words.{ErrsAs};
+    ghost use Rattle.standard.specs.Statement.{Decodes};
+
+    type Error = Error;
+
+    /// Reads a whole slice. Nothing is allocated.
+    fn try_from(bytes: &'a [u8]) -> Result<PssParamsOf<O, AnyRef<'a>>>
+        ensures read { Decodes PssEncoding bytes.now (ok_of (pss_in O.octets any_of) result) }
+        ensures exact { ErrsAs (pss_in O.octets any_of) (rsa_pss_params bytes.now) result }
+    {
+        let view = read_params::<RsaPssParamsView<'a>>(bytes)?;
+        Ok(O::pss_from_view(view))
+    }
+}
+
+impl<'a, O: ReadParams<'a>> PssParamsOf<O, AnyRef<'a>> {
+    ghost use Rattle.der_core.specs.Words.{ok_of};
+    ghost use Rattle.pkcs1_params.specs.Words.{ErrsAs};
+    ghost use Rattle.standard.specs.Statement.{Decodes, IsShortest};
+
+    /// Like `try_from`, but rejects an encoding in which a default is written: `Noncanonical` with the tag of the first
+    /// such field. So what is read is the shortest encoding of its value.
+    pub fn from_der_strict(bytes: &'a [u8]) -> Result<PssParamsOf<O, AnyRef<'a>>>
+        ensures read { Decodes (IsShortest PssEncoding) bytes.now (ok_of (pss_in O.octets any_of) result) }
+        ensures exact { ErrsAs (pss_in O.octets any_of) (strict_pss_params bytes.now) result }
+    {
+        let view = read_params_strict::<RsaPssParamsView<'a>>(bytes)?;
+        Ok(O::pss_from_view(view))
+    }
+}
+
+/// The first fault of bytes that aren't RSASSA-PSS parameters, of which they have exactly one; `None` if they are such
+/// parameters.
+#[tactic(auto, using(crate::proofs::Faults::fault_told_given))]
+pub fn fault_of_pss_params(bytes: &[u8]) -> Option<ErrorKind>
+    ensures fault { result ≡ fault_in (rsa_pss_params bytes.now) }
+    ensures encodes { (result ≡ None) ↔ IsEncoded PssEncoding bytes.now }
+{
+    fault_of(RsaPssParamsView::try_from(bytes))
+}
 
 impl<O: IdentifierValue, P: AnyValue> Contents for PssParamsOf<O, P> {
     ghost Value = { PssParameters };
@@ -176,6 +221,17 @@ impl<P: AnyValue + TryClone> RsaPssParams<P> {
             salt_len: self.salt_len,
             trailer_field: self.trailer_field,
         })
+    }
+}
+
+impl<'a, O: IdentifierValue> Default for PssParamsOf<O, AnyRef<'a>> {
+    /// Every field at its default.
+    #[inline(always)]
+    fn default() -> PssParamsOf<O, AnyRef<'a>>
+        ensures { pss_in O.octets any_of result
+            ≡ record { hash = sha1; mask_gen = mgf1_sha1; salt_len = 20; trailer_field = 1 } }
+    {
+        PssParamsOf::of_hash::<Sha1, NoMemory>(NoMemory, RsaPssParamsRef::SALT_LEN_DEFAULT)
     }
 }
 

@@ -6,7 +6,7 @@ ghost use Rattle.pkcs1_params.specs.Words.{IsEncoded, Refuses, fault_in, pss_in,
 ghost use Rattle.standard.specs.Statement.{Encodes, IsPss, PssAlgorithmEncoding, id_rsassa_pss};
 
 use crate::algorithm::{FromAlgorithm, encode_identifier};
-use crate::error::{Error, Result};
+use crate::error::{Result, fault_of};
 use crate::pss::{PssParamsOf, RsaPssParamsView};
 use crate::spelling::EncodeParams;
 use der_core::{Borrowed, ErrorKind};
@@ -65,13 +65,10 @@ impl<O: IdentifierValue, P: AnyValue> PssParamsOf<O, P> {
 
 /// The first fault of bytes that aren't the algorithm identifier id-RSASSA-PSS with parameters, of which they have
 /// exactly one; `None` if they are.
+#[tactic(auto, using(crate::proofs::Faults::fault_told_given))]
 pub fn fault_of_pss_algorithm(bytes: &[u8]) -> Option<ErrorKind>
     ensures fault { result ≡ fault_in (rsa_pss_algorithm bytes.now) }
     ensures encodes { (result ≡ None) ↔ IsEncoded PssAlgorithmEncoding bytes.now }
 {
-    match RsaPssParamsView::from_algorithm_der(bytes) {
-        Ok(_) => None,
-        Err(Error::Asn1(error)) => Some(error.kind()),
-        Err(_) => unreachable!(),
-    }
+    fault_of(RsaPssParamsView::from_algorithm_der(bytes))
 }

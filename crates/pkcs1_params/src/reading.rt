@@ -1,14 +1,82 @@
-//! Reading of parameters: the octets that most have are known, and others are read field by field.
-ghost use Rattle.std.specs.Prelude.{◌≡◌, ℕ, List, IfSome, if◌then◌else◌};
-ghost use Rattle.der_core.specs.Words.{Answers, ok_of, sequence_tag as sequence_kind, tagged, whole};
+//! Reading of parameters: the octets that most have are known, and others are read field by field. What differs between
+//! the kinds is a member of `AlgorithmParams`; `pss_reading.rt` and `oaep_reading.rt` have its bodies.
+ghost use Rattle.std.specs.Prelude.{◌≡◌, List, IfSome, if◌then◌else◌};
+ghost use Rattle.der_core.specs.Words.{ok_of, sequence_tag as sequence_kind};
 ghost use Rattle.spki_core.specs.Words.{FieldRecord, any_as, any_of, record_read, record_strictly, strict_whole, record_whole};
 ghost use Rattle.pkcs1_params.specs.Words.{Encoded, ErrsAs};
 ghost use Rattle.standard.specs.Statement.{Decodes, Field, IsShortest};
 
 use crate::error::Result;
 use crate::usual::short_contents;
-use der_core::{Decode, DecodeValue, FixedTag, NoMemory, Tag};
+use der_core::Tag;
 use spki_core::{AnyRef, AssociatedOid};
+
+/// Reads a whole slice. Nothing is allocated.
+#[inline(always)]
+pub(crate) fn read_params<'a, T: AlgorithmParams<'a>>(bytes: &'a [u8]) -> Result<T>
+    ensures read { Decodes (Encoded T.Is T.fields_of) bytes.now (ok_of T.params result) }
+    ensures exact { ErrsAs T.params (record_whole T.form bytes.now) result }
+{
+    match quick_encoding(bytes, false) {
+        Some(params) => Ok(params),
+        None => T::read_whole(bytes),
+    }
+}
+
+/// Like `read_params`, but rejects an encoding in which a default is written.
+#[inline(always)]
+pub(crate) fn read_params_strict<'a, T: AlgorithmParams<'a>>(bytes: &'a [u8]) -> Result<T>
+    ensures read { Decodes (IsShortest (Encoded T.Is T.fields_of)) bytes.now (ok_of T.params result) }
+    ensures exact { ErrsAs T.params (strict_whole T.form bytes.now) result }
+{
+    if let Some(params) = quick_encoding::<T>(bytes, true) {
+        return Ok(params);
+    }
+    let params = T::read_whole(bytes)?;
+    params.reject_defaults(bytes)?;
+    Ok(params)
+}
+
+/// The parameters in a whole slice, if they are known. If `strict`, where that is quickly told too.
+#[inline(always)]
+fn quick_encoding<'a, T: AlgorithmParams<'a>>(bytes: &'a [u8], strict: bool) -> Option<T>
+    ensures { let read = if strict then strict_whole T.form else record_whole T.form in
+        IfSome result (λ it. read bytes.now ≡ Ok (T.params it)) }
+{
+    let contents = short_contents(bytes)?;
+    let params = known_or_quick::<T>(contents, strict)?;
+    Some(params)
+}
+
+/// The same of the parameters of an algorithm.
+#[inline(always)]
+pub(crate) fn quick_parameters<'a, T: AlgorithmParams<'a>>(
+    any: &AnyRef<'a>,
+    strict: bool,
+) -> Option<T>
+    ensures { let read = if strict then record_strictly T.form else record_read T.form in
+        IfSome result (λ it. any_as sequence_kind read (any_of any.now) ≡ Ok (T.params it)) }
+{
+    if any.tag() != Tag::SEQUENCE {
+        return None;
+    }
+    known_or_quick(any.value(), strict)
+}
+
+/// The same of contents octets.
+#[inline(always)]
+fn known_or_quick<'a, T: AlgorithmParams<'a>>(contents: &'a [u8], strict: bool) -> Option<T>
+    ensures { let read = if strict then record_strictly T.form else record_read T.form in
+        IfSome result (λ it. read contents.now ≡ Ok (T.params it)) }
+{
+    if let Some(params) = T::usual(contents, strict) {
+        return Some(params);
+    }
+    if strict {
+        return T::quick_strictly(contents);
+    }
+    None
+}
 
 /// Borrowed parameters of an algorithm.
 pub trait AlgorithmParams<'a>: Sized + Drop {
@@ -52,100 +120,4 @@ pub trait AlgorithmParams<'a>: Sized + Drop {
     fn reject_defaults(&self, encoding: &[u8]) -> Result<()>
         requires { Encoded Is fields_of (params self.now) encoding.now }
         ensures { ErrsAs (λ _. params self.now) (strict_whole form encoding.now) result };
-}
-
-/// The parameters with these contents octets, if they are known. If `strict`, where that is quickly told too.
-#[inline(always)]
-fn known_or_quick<'a, T: AlgorithmParams<'a>>(contents: &'a [u8], strict: bool) -> Option<T>
-    ensures { let read = if strict then record_strictly T.form else record_read T.form in
-        IfSome result (λ it. read contents.now ≡ Ok (T.params it)) }
-{
-    if let Some(params) = T::usual(contents, strict) {
-        return Some(params);
-    }
-    if strict {
-        return T::quick_strictly(contents);
-    }
-    None
-}
-
-/// The same of a whole slice.
-#[inline(always)]
-fn quick_encoding<'a, T: AlgorithmParams<'a>>(bytes: &'a [u8], strict: bool) -> Option<T>
-    ensures { let read = if strict then strict_whole T.form else record_whole T.form in
-        IfSome result (λ it. read bytes.now ≡ Ok (T.params it)) }
-{
-    let contents = short_contents(bytes)?;
-    let params = known_or_quick::<T>(contents, strict)?;
-    Some(params)
-}
-
-/// The same of the parameters of an algorithm.
-#[inline(always)]
-pub(crate) fn quick_parameters<'a, T: AlgorithmParams<'a>>(
-    any: &AnyRef<'a>,
-    strict: bool,
-) -> Option<T>
-    ensures { let read = if strict then record_strictly T.form else record_read T.form in
-        IfSome result (λ it. any_as sequence_kind read (any_of any.now) ≡ Ok (T.params it)) }
-{
-    if any.tag() != Tag::SEQUENCE {
-        return None;
-    }
-    known_or_quick(any.value(), strict)
-}
-
-/// Reads a whole slice. Nothing is allocated.
-#[inline(always)]
-pub(crate) fn read_params<'a, T: AlgorithmParams<'a>>(bytes: &'a [u8]) -> Result<T>
-    ensures read { Decodes (Encoded T.Is T.fields_of) bytes.now (ok_of T.params result) }
-    ensures exact { ErrsAs T.params (record_whole T.form bytes.now) result }
-{
-    match quick_encoding(bytes, false) {
-        Some(params) => Ok(params),
-        None => T::read_whole(bytes),
-    }
-}
-
-/// Like `read_params`, but rejects an encoding in which a default is written.
-#[inline(always)]
-pub(crate) fn read_params_strict<'a, T: AlgorithmParams<'a>>(bytes: &'a [u8]) -> Result<T>
-    ensures read { Decodes (IsShortest (Encoded T.Is T.fields_of)) bytes.now (ok_of T.params result) }
-    ensures exact { ErrsAs T.params (strict_whole T.form bytes.now) result }
-{
-    shortest_params(bytes)
-}
-
-/// The parameters in a whole slice, unless a default is written in them.
-#[inline(always)]
-fn shortest_params<'a, T: AlgorithmParams<'a>>(bytes: &'a [u8]) -> Result<T>
-    ensures { ErrsAs T.params (strict_whole T.form bytes.now) result }
-{
-    if let Some(params) = quick_encoding::<T>(bytes, true) {
-        return Ok(params);
-    }
-    let params = T::read_whole(bytes)?;
-    params.reject_defaults(bytes)?;
-    Ok(params)
-}
-
-/// `AnyRef::decode_as` of a type that asks for no memory.
-pub(crate) fn decode_borrowed<'a, T: DecodeValue<&'a [u8], NoMemory> + FixedTag>(
-    any: AnyRef<'a>,
-) -> der_core::Result<T>
-    requires { (contents : List ℕ) → T.may_allocate contents → ⊥ }
-    ensures { Answers T.value result (any_as T.TAG T.read (any_of any.entry)) }
-{
-    any.decode_as(NoMemory)
-}
-
-/// `from_der` of a type that asks for no memory.
-#[inline(always)]
-pub(crate) fn decode_whole<'a, T: DecodeValue<&'a [u8], NoMemory> + FixedTag>(
-    bytes: &'a [u8],
-) -> der_core::Result<T>
-    requires { (contents : List ℕ) → T.may_allocate contents → ⊥ }
-    ensures { Answers T.value result (whole (tagged T.TAG T.read) bytes.now) }
-{
-    T::from_der(NoMemory, bytes)
 }

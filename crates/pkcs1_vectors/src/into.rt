@@ -1,7 +1,7 @@
 //! Values written into slices of a given length.
 use crate::told::{PrintedError, Told};
 use crate::written::UNTOUCHED;
-use der_core::{Decode, Encode, Error, ErrorKind, Uint, UintEncoding, UintRef};
+use der_core::{Decode, Encode, Error, ErrorKind, UintEncoding};
 use pkcs1::{EncodeParams, OaepParamsOf, PssParamsOf, RsaPrivateKey, RsaPublicKey};
 use pkcs8_core::PrivateKeyInfoRef;
 use spki_core::{AnyValue, IdentifierValue};
@@ -58,13 +58,7 @@ impl<U: UintEncoding + Encode> WriteInto for RsaPublicKey<U> {
     }
 }
 
-impl WriteInto for RsaPrivateKey<UintRef<'_>> {
-    fn write_into(&self, slice: &mut [u8]) -> pkcs1::Result<usize> {
-        self.encode_key(slice)
-    }
-}
-
-impl WriteInto for RsaPrivateKey<Uint> {
+impl<U: UintEncoding + Encode> WriteInto for RsaPrivateKey<U> {
     fn write_into(&self, slice: &mut [u8]) -> pkcs1::Result<usize> {
         self.encode_key(slice)
     }

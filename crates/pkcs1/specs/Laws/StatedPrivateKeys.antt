@@ -84,12 +84,12 @@ key_printed key = λ i.
     sequence (integers (version_stated (others_in key) i ∷ key_numbers key) ++ stated_printed (others_in key) i)
 
 -- Which of them are valid.
-some_stated : (primes : PrimesOfNumbers) → AreSome primes → AreSome (others_stated primes)
+pub some_stated : (primes : PrimesOfNumbers) → AreSome primes → AreSome (others_stated primes)
 some_stated None some = tt
 some_stated (Some []) some = some
 some_stated (Some (x ∷ xs)) some = omega arith
 
-stated_some : (primes : PrimesOfNumbers) → AreSome (others_stated primes) → AreSome primes
+pub stated_some : (primes : PrimesOfNumbers) → AreSome (others_stated primes) → AreSome primes
 stated_some None some = tt
 stated_some (Some []) some = some
 stated_some (Some (x ∷ xs)) some = omega arith
@@ -102,12 +102,12 @@ others_valid : (primes : PrimesOfNumbers) → IfPresent (AllByRecursion (OtherIs
 others_valid None = tt
 others_valid (Some others) = listed_valid others
 
-private_valid : (key : PrivateRow ℕ) → AreSome (others_in key) → PrivateIsValid AnyNumber key
+pub private_valid : (key : PrivateRow ℕ) → AreSome (others_in key) → PrivateIsValid AnyNumber key
 private_valid key some =
     (tt, (tt, (tt, (tt, (tt, (tt, (tt, (tt, (some, others_valid (others_in key))))))))))
 
 -- The spellings of a row are the encodings of what the statement calls it; so a whole slice is read as one.
-private_same_encoding : (key : PrivateRow ℕ) (bytes : List ℕ)
+pub private_same_encoding : (key : PrivateRow ℕ) (bytes : List ℕ)
     → ((length bytes ≤ limit) × PrivateIsValid AnyNumber key × (bytes ≡ private_encoding key))
     ↔ PrivateKeyEncoding (private_stated key) bytes
 private_same_encoding key bytes = (

@@ -1,55 +1,16 @@
-//! Decoding private keys from whole slices; encoding them into slices and documents.
+//! Decoding private keys from whole slices; encoding them into slices.
 ghost use Rattle.std.specs.Prelude.{◌≡◌, length, List, ℕ, IfOk, IfErr, IsOk, IsErrAnd, None, Some};
 ghost use Rattle.der_core.specs.Words.{AllocatesIn, Tlv, ok_of, sequence_octet, sequence_tag};
-ghost use Rattle.pkcs1.specs.Words.{AllocatesForKey, IsPrivateKey, ListsNone, PrivateIsWritten, PrivateRow, PrivateSpells, Refuses, Rejects, Withholds, held_private_key, others_in, private_key, private_key_with, rsa_private_key};
+ghost use Rattle.pkcs1.specs.Words.{AllocatesForKey, IsPrivateKey, ListsNone, PrivateRow, PrivateSpells, Refuses, Rejects, held_private_key, others_in, private_key, private_key_with, rsa_private_key};
 ghost use Rattle.pkcs1_params.specs.Words.{ErrsOrAsks, IsAsn1};
-ghost use Rattle.standard.specs.Statement.{Decodes, Encodes, IsShortest, PrivateKeyEncoding};
+ghost use Rattle.standard.specs.Statement.{Decodes, Encodes, PrivateKeyEncoding};
 ghost use Rattle.standard.specs.Statement as standard;
 
 use super::RsaPrivateKey;
 use super::other_prime_info::lists_none;
-use der_core::{Decode, Encode, ErrorKind, OctetStringRef, SecretDocument, Tag, Uint, UintRef};
+use der_core::{Decode, Encode, ErrorKind, OctetStringRef, Tag, Uint, UintEncoding, UintRef};
 use pkcs1_params::Error;
 use std::alloc::Global;
-
-impl<U: Encode> RsaPrivateKey<U> {
-    ghost use Rattle.der_core.specs.Words.{encoding_of};
-
-    /// As `encode_into`. It looks for an empty list of other primes first, so its contract says the tag of `Value`.
-    fn encode_naming_tag(&self, out: &mut [u8]) -> crate::Result<usize>
-        ensures written { let key = private_key_with U.value self.now in
-            Encodes (PrivateSpells U.valid U.printed U.means) key out.old out.new (ok_of (λ n. n) result) }
-        ensures err { let key = private_key_with U.value self.now in
-            let spells = PrivateSpells U.valid U.printed U.means in
-            IfErr result (Refuses (PrivateIsWritten U.valid U.written) spells key (length out.old)) }
-        ensures no_primes { ListsNone self.now.other_prime_infos
-            → IsErrAnd result (IsAsn1 (λ e. e.kind ≡ ErrorKind.Value sequence_tag)) }
-    {
-        if lists_none(&self.other_prime_infos) {
-            let kind = ErrorKind::Value { tag: Tag::SEQUENCE };
-            return Err(Error::Asn1(der_core::Error::new(kind)));
-        }
-        Ok(self.encode_into(out)?)
-    }
-
-    /// As `encode_msg`. It looks for an empty list of other primes first, so its contract says the tag of `Value`.
-    pub(crate) fn to_document(&self, alloc: Global) -> crate::Result<SecretDocument>
-        ensures encoding { let key = private_key_with U.value self.now in
-            let spells = PrivateSpells U.valid U.printed U.means in
-            IfOk result (λ document. IsShortest spells key (encoding_of document)) }
-        ensures err { let key = private_key_with U.value self.now in
-            let spells = PrivateSpells U.valid U.printed U.means in
-            IfErr result (Withholds (PrivateIsWritten U.valid U.written) spells key) }
-        ensures no_primes { ListsNone self.now.other_prime_infos
-            → IsErrAnd result (IsAsn1 (λ e. e.kind ≡ ErrorKind.Value sequence_tag)) }
-    {
-        if lists_none(&self.other_prime_infos) {
-            let rejected = der_core::Error::new(ErrorKind::Value { tag: Tag::SEQUENCE });
-            return Err(Error::Asn1(rejected));
-        }
-        Ok(SecretDocument::encode_msg(alloc, self)?)
-    }
-}
 
 impl<U> RsaPrivateKey<U> {
     ghost use Rattle.der_core.specs.Words.{octets_of};
@@ -96,20 +57,6 @@ impl<'a> RsaPrivateKey<UintRef<'a>> {
     {
         Ok(RsaPrivateKey::from_der(alloc, bytes)?) // its numbers are parts of the bytes
     }
-
-    /// Writes the key's only encoding to the front of a slice and returns its length, as `encode_into` does. Returns
-    /// `Value` of SEQUENCE if the list of other primes is there but empty, `Overflow` if the encoding is longer than
-    /// `Length::MAX`, `NoRoom` if it is longer than the slice.
-    pub fn encode_key(&self, out: &mut [u8]) -> crate::Result<usize>
-        ensures written { let key = held_private_key bytes_of self.now in
-            Encodes PrivateKeyEncoding key out.old out.new (ok_of (λ n. n) result) }
-        ensures err { let key = held_private_key bytes_of self.now in
-            IfErr result (Refuses IsPrivateKey PrivateKeyEncoding key (length out.old)) }
-        ensures no_primes { ListsNone self.now.other_prime_infos
-            → IsErrAnd result (IsAsn1 (λ e. e.kind ≡ ErrorKind.Value sequence_tag)) }
-    {
-        self.encode_naming_tag(out)
-    }
 }
 
 impl RsaPrivateKey<Uint> {
@@ -127,16 +74,25 @@ impl RsaPrivateKey<Uint> {
     {
         Ok(RsaPrivateKey::from_der(alloc, bytes)?) // its numbers are copies
     }
+}
 
-    /// Writes the key's only encoding to the front of a slice, as `encode_key` of `RsaPrivateKeyRef` does.
+impl<U: Encode + UintEncoding> RsaPrivateKey<U> {
+    /// Writes the key's only encoding to the front of a slice and returns its length, as `encode_into` does. Returns
+    /// `Value` of SEQUENCE if the list of other primes is there but empty, `Overflow` if the encoding is longer than
+    /// `Length::MAX`, `NoRoom` if it is longer than the slice. It looks for an empty list first, so its contract says the
+    /// tag of `Value`.
     pub fn encode_key(&self, out: &mut [u8]) -> crate::Result<usize>
-        ensures written { let key = held_private_key own_bytes_of self.now in
+        ensures written { let key = held_private_key U.number self.now in
             Encodes PrivateKeyEncoding key out.old out.new (ok_of (λ n. n) result) }
-        ensures err { let key = held_private_key own_bytes_of self.now in
+        ensures err { let key = held_private_key U.number self.now in
             IfErr result (Refuses IsPrivateKey PrivateKeyEncoding key (length out.old)) }
         ensures no_primes { ListsNone self.now.other_prime_infos
             → IsErrAnd result (IsAsn1 (λ e. e.kind ≡ ErrorKind.Value sequence_tag)) }
     {
-        self.encode_naming_tag(out)
+        if lists_none(&self.other_prime_infos) {
+            let kind = ErrorKind::Value { tag: Tag::SEQUENCE };
+            return Err(Error::Asn1(der_core::Error::new(kind)));
+        }
+        Ok(self.encode_into(out)?)
     }
 }

@@ -2,9 +2,10 @@
 //! Traits for keys of any type: PKCS #1 encodings decoded and written, in memory and in files.
 
 use crate::proved::pkcs1::private_key::RsaPrivateKey;
+use crate::proved::pkcs1::private_key::other_prime_info::lists_none;
 use crate::proved::pkcs1::public_key::RsaPublicKey;
 use crate::proved::der_core::{
-    Decode, Document, ErrorKind, FileSystem, SecretDocument, Uint, UintEncoding, UintRef,
+    Decode, Document, Encode, ErrorKind, FileSystem, SecretDocument, Tag, Uint, UintEncoding,
 };
 use crate::proved::pkcs1_params::Result;
 use crate::rattle_std::alloc::Global;
@@ -92,15 +93,14 @@ impl DecodeRsaPublicKey for RsaPublicKey<Uint> {
     }
 }
 
-impl<'a> EncodeRsaPrivateKey for RsaPrivateKey<UintRef<'a>> {
+impl<U: Encode + UintEncoding> EncodeRsaPrivateKey for RsaPrivateKey<U> {
+    /// As `encode_msg`. It looks for an empty list of other primes first, so its contract says the tag of `Value`.
     fn to_pkcs1_der(&self, alloc: Global) -> Result<SecretDocument> {
-        self.to_document(alloc)
-    }
-}
-
-impl EncodeRsaPrivateKey for RsaPrivateKey<Uint> {
-    fn to_pkcs1_der(&self, alloc: Global) -> Result<SecretDocument> {
-        self.to_document(alloc)
+        if lists_none(&self.other_prime_infos) {
+            let rejected = crate::proved::der_core::Error::new(ErrorKind::Value { tag: Tag::SEQUENCE });
+            return Err(crate::proved::pkcs1_params::Error::Asn1(rejected));
+        }
+        Ok(SecretDocument::encode_msg(alloc, self)?)
     }
 }
 

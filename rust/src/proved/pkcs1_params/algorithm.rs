@@ -1,5 +1,6 @@
 // Made of crates/pkcs1_params/src/algorithm.rt by tools/erase/erase.py, and not to be edited.
-//! Parameters in their algorithm identifier (RFC 8017 A.2.3, A.2.1; RFC 5280 4.1.1.2).
+//! Parameters in their algorithm identifier (RFC 8017 A.2.3, A.2.1; RFC 5280 4.1.1.2). `AlgorithmView::from_der` reads one, and
+//! `reading.rt` the parameters in it.
 
 use crate::proved::pkcs1_params::error::{Error, Result};
 use crate::proved::pkcs1_params::reading::{AlgorithmParams, quick_parameters};
@@ -42,21 +43,6 @@ impl<'a, T: AlgorithmParams<'a>> FromAlgorithm<'a> for T {
     }
 }
 
-/// The parameters in an algorithm identifier, whatever holds its object identifier, as they are before they are read.
-#[inline(always)]
-fn parameters_of<'a, O: IdentifierValue, T: AlgorithmParams<'a>>(
-    algorithm: &AlgorithmIdentifierOf<O, AnyRef<'a>>,
-) -> Result<AnyRef<'a>> {
-    let oid = algorithm.oid.as_identifier_view();
-    if oid.as_bytes() != T::Oid::octets() {
-        return Err(Error::Asn1(crate::proved::der_core::Error::new(ErrorKind::OidUnknown)));
-    }
-    match algorithm.parameters {
-        Some(any) => Ok(any),
-        None => Err(Error::Asn1(crate::proved::der_core::Error::new(ErrorKind::ParametersMissing))),
-    }
-}
-
 /// The parameters in an algorithm identifier, whatever holds its object identifier.
 #[inline(always)]
 fn from_identifier<'a, O: IdentifierValue, T: AlgorithmParams<'a>>(
@@ -81,12 +67,18 @@ fn from_identifier_strict<'a, T: AlgorithmParams<'a>>(bytes: &'a [u8]) -> Result
     Ok(params)
 }
 
-/// The octets behind the first `count`, or none if there are fewer.
-fn behind(octets: &[u8], count: usize) -> &[u8] {
-    if count <= octets.len() {
-        &octets[count..]
-    } else {
-        &[]
+/// The parameters in an algorithm identifier, whatever holds its object identifier, as they are before they are read.
+#[inline(always)]
+fn parameters_of<'a, O: IdentifierValue, T: AlgorithmParams<'a>>(
+    algorithm: &AlgorithmIdentifierOf<O, AnyRef<'a>>,
+) -> Result<AnyRef<'a>> {
+    let oid = algorithm.oid.as_identifier_view();
+    if oid.as_bytes() != T::Oid::octets() {
+        return Err(Error::Asn1(crate::proved::der_core::Error::new(ErrorKind::OidUnknown)));
+    }
+    match algorithm.parameters {
+        Some(any) => Ok(any),
+        None => Err(Error::Asn1(crate::proved::der_core::Error::new(ErrorKind::ParametersMissing))),
     }
 }
 
@@ -95,6 +87,15 @@ fn encoded_parameters<'a, T: AlgorithmParams<'a>>(identifier: &'a [u8]) -> &'a [
     match AnyRef::from_der(NoMemory, identifier) {
         Ok(any) => behind(any.value(), 2 + T::Oid::octets().len()),
         Err(_) => &[],
+    }
+}
+
+/// The octets behind the first `count`, or none if there are fewer.
+fn behind(octets: &[u8], count: usize) -> &[u8] {
+    if count <= octets.len() {
+        &octets[count..]
+    } else {
+        &[]
     }
 }
 

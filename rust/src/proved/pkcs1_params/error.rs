@@ -1,6 +1,7 @@
 // Made of crates/pkcs1_params/src/error.rt by tools/erase/erase.py, and not to be edited.
 //! The error of keys and parameters.
 
+use crate::proved::der_core::ErrorKind;
 use crate::rattle_std::fmt;
 
 /// What went wrong.
@@ -18,6 +19,14 @@ pub enum Error {
 
 /// The result of the calls in this crate, except those of traits in `der_core`.
 pub type Result<T> = crate::rattle_std::result::Result<T, Error>;
+
+/// The kind of the error of `der_core` that a call returned, if it returned one.
+pub(crate) fn fault_of<T>(returned: Result<T>) -> Option<ErrorKind> {
+    match returned {
+        Err(Error::Asn1(error)) => Some(error.kind()),
+        _ => None,
+    }
+}
 
 impl From<crate::proved::der_core::Error> for Error {
     fn from(error: crate::proved::der_core::Error) -> Error {

@@ -1,10 +1,18 @@
 // Made of crates/pkcs1_params/src/from_view.rt by tools/erase/erase.py, and not to be edited.
-//! Parameters that were read as views, by what is to hold their identifiers.
+//! Parameters are read as views. Then they are kept or copied, by what is to hold their identifiers.
 
 use crate::proved::pkcs1_params::hash_fields::MaskGenOf;
-use crate::proved::pkcs1_params::oaep::{OaepParamsOf, RsaOaepParams, RsaOaepParamsView};
-use crate::proved::pkcs1_params::pss::{PssParamsOf, RsaPssParams, RsaPssParamsView};
+use crate::proved::pkcs1_params::oaep::{OaepParamsOf, RsaOaepParams, RsaOaepParamsRef, RsaOaepParamsView};
+use crate::proved::pkcs1_params::pss::{PssParamsOf, RsaPssParams, RsaPssParamsRef, RsaPssParamsView};
+use crate::proved::der_core::{DecodeValue, FixedTag, NoMemory};
 use crate::proved::spki_core::{AlgorithmIdentifier, AnyRef, IdentifierView, ObjectIdentifier, ReadIdentifier};
+
+/// `AnyRef::decode_as` of a type that asks for no memory.
+pub(crate) fn decode_borrowed<'a, T: DecodeValue<&'a [u8], NoMemory> + FixedTag>(
+    any: AnyRef<'a>,
+) -> crate::proved::der_core::Result<T> {
+    any.decode_as(NoMemory)
+}
 
 /// What holds the identifiers of parameters that are read: `IdentifierView`, or `ObjectIdentifier` as copies.
 pub trait ReadParams<'a>: ReadIdentifier<'a> {
@@ -59,5 +67,21 @@ fn mask_gen_from_view<'a>(
             Some(hash) => Some(hash.to_algorithm_identifier()),
             None => None,
         },
+    }
+}
+
+impl<'a> RsaPssParamsView<'a> {
+    /// The parameters as a struct that holds its identifiers.
+    #[inline(always)]
+    pub fn to_params(self) -> RsaPssParamsRef<'a> {
+        ObjectIdentifier::pss_from_view(self)
+    }
+}
+
+impl<'a> RsaOaepParamsView<'a> {
+    /// The parameters as a struct that holds its identifiers.
+    #[inline(always)]
+    pub fn to_params(self) -> RsaOaepParamsRef<'a> {
+        ObjectIdentifier::oaep_from_view(self)
     }
 }

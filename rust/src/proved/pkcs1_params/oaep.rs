@@ -1,14 +1,16 @@
 // Made of crates/pkcs1_params/src/oaep.rt by tools/erase/erase.py, and not to be edited.
-//! Parameters of RSAES-OAEP (RFC 8017 A.2.1).
+//! Parameters of RSAES-OAEP (RFC 8017 A.2.1). `try_from` and `from_der_strict` read them by the functions of `reading.rt`.
 
 use crate::proved::pkcs1_params::contents::{append_contents, contents_len, prepend_contents};
-use crate::proved::pkcs1_params::error::Result;
+use crate::proved::pkcs1_params::error::{Error, Result, fault_of};
+use crate::proved::pkcs1_params::from_view::ReadParams;
 use crate::proved::pkcs1_params::hash_fields::{MaskGenOf, mgf1_with, with_null};
 use crate::proved::pkcs1_params::hash_functions::Sha1;
 use crate::proved::pkcs1_params::label::empty_source;
+use crate::proved::pkcs1_params::reading::{read_params, read_params_strict};
 use crate::proved::pkcs1_params::spelling::non_defaults_in;
 use crate::proved::der_core::{
-    BackWriter, Contents, EncodeValue, EqualByValue, Length, Memory, NoMemory, Sequence,
+    BackWriter, Contents, EncodeValue, EqualByValue, ErrorKind, Length, Memory, NoMemory, Sequence,
     SequenceTag, TaggedBy, TryClone, Writer,
 };
 use crate::proved::spki_core::{
@@ -50,6 +52,31 @@ pub type RsaOaepParamsOwned = RsaOaepParams<Any>;
 
 /// RSAES-OAEP parameters over their encoding, whose octets are their identifiers. Only `to_params` copies them.
 pub type RsaOaepParamsView<'a> = OaepParamsOf<IdentifierView<'a>, AnyRef<'a>>;
+
+impl<'a, O: ReadParams<'a>> TryFrom<&'a [u8]> for OaepParamsOf<O, AnyRef<'a>> {
+    type Error = Error;
+
+    /// Reads a whole slice. Nothing is allocated.
+    fn try_from(bytes: &'a [u8]) -> Result<OaepParamsOf<O, AnyRef<'a>>> {
+        let view = read_params::<RsaOaepParamsView<'a>>(bytes)?;
+        Ok(O::oaep_from_view(view))
+    }
+}
+
+impl<'a, O: ReadParams<'a>> OaepParamsOf<O, AnyRef<'a>> {
+    /// Like `try_from`, but rejects an encoding in which a default is written: `Noncanonical` with the tag of the first
+    /// such field. So what is read is the shortest encoding of its value.
+    pub fn from_der_strict(bytes: &'a [u8]) -> Result<OaepParamsOf<O, AnyRef<'a>>> {
+        let view = read_params_strict::<RsaOaepParamsView<'a>>(bytes)?;
+        Ok(O::oaep_from_view(view))
+    }
+}
+
+/// The first fault of bytes that aren't RSAES-OAEP parameters, of which they have exactly one; `None` if they are such
+/// parameters.
+pub fn fault_of_oaep_params(bytes: &[u8]) -> Option<ErrorKind> {
+    fault_of(RsaOaepParamsView::try_from(bytes))
+}
 
 impl<O: IdentifierValue, P: AnyValue> Contents for OaepParamsOf<O, P> {}
 
@@ -111,6 +138,14 @@ impl<P: AnyValue + TryClone> RsaOaepParams<P> {
             mask_gen: self.mask_gen.try_clone(alloc)?,
             p_source: self.p_source.try_clone(alloc)?,
         })
+    }
+}
+
+impl<'a, O: IdentifierValue> Default for OaepParamsOf<O, AnyRef<'a>> {
+    /// Every field at its default.
+    #[inline(always)]
+    fn default() -> OaepParamsOf<O, AnyRef<'a>> {
+        OaepParamsOf::of_hash::<Sha1, NoMemory>(NoMemory)
     }
 }
 

@@ -1,48 +1,23 @@
 // Made of crates/pkcs1_params/src/oaep_reading.rt by tools/erase/erase.py, and not to be edited.
-//! Reading of RSAES-OAEP parameters.
+//! What `reading.rt` calls of RSAES-OAEP parameters: octets that are known, in `usual.rt`; fields that are read quickly, in
+//! `quick.rt`; each field by `read_field` of `spki_core`; and defaults that are written, in `strict.rt`.
 
-use crate::proved::pkcs1_params::error::{Error, Result};
-use crate::proved::pkcs1_params::from_view::ReadParams;
+use crate::proved::pkcs1_params::error::Result;
+use crate::proved::pkcs1_params::from_view::{ReadParams, decode_borrowed};
 use crate::proved::pkcs1_params::hash_fields::{mgf1_with, with_null};
 use crate::proved::pkcs1_params::hash_functions::Sha1;
 use crate::proved::pkcs1_params::label::empty_source;
-use crate::proved::pkcs1_params::oaep::{OaepParamsOf, RsaOaepParamsRef, RsaOaepParamsView};
+use crate::proved::pkcs1_params::oaep::{OaepParamsOf, RsaOaepParamsView};
 use crate::proved::pkcs1_params::oaep_algorithm::RsaesOaep;
 use crate::proved::pkcs1_params::quick::quick_oaep;
-use crate::proved::pkcs1_params::reading::{
-    AlgorithmParams, decode_borrowed, decode_whole, read_params, read_params_strict,
-};
+use crate::proved::pkcs1_params::reading::AlgorithmParams;
 use crate::proved::pkcs1_params::strict;
 use crate::proved::pkcs1_params::usual::usual_oaep;
 use crate::proved::der_core::{
-    DecodeValue, ErrorKind, Header, Memory, NoMemory, Reader, Tag, TagNumber, quick_short,
+    ContentsAskNone, DecodeValue, Header, Memory, NoMemory, Reader, Tag, TagNumber, quick_short,
+    read_borrowed,
 };
-use crate::proved::spki_core::{AnyRef, IdentifierValue, ObjectIdentifier, read_field};
-
-impl<'a> RsaOaepParamsView<'a> {
-    /// The parameters as a struct that holds its identifiers.
-    #[inline(always)]
-    pub fn to_params(self) -> RsaOaepParamsRef<'a> {
-        ObjectIdentifier::oaep_from_view(self)
-    }
-}
-
-impl<'a, O: ReadParams<'a>> OaepParamsOf<O, AnyRef<'a>> {
-    /// Like `try_from`, but rejects an encoding in which a default is written: `Noncanonical` with the tag of the first
-    /// such field. So what is read is the shortest encoding of its value.
-    pub fn from_der_strict(bytes: &'a [u8]) -> Result<OaepParamsOf<O, AnyRef<'a>>> {
-        let view = read_params_strict::<RsaOaepParamsView<'a>>(bytes)?;
-        Ok(O::oaep_from_view(view))
-    }
-}
-
-impl<'a, O: IdentifierValue> Default for OaepParamsOf<O, AnyRef<'a>> {
-    /// Every field at its default.
-    #[inline(always)]
-    fn default() -> OaepParamsOf<O, AnyRef<'a>> {
-        OaepParamsOf::of_hash::<Sha1, NoMemory>(NoMemory)
-    }
-}
+use crate::proved::spki_core::{AnyRef, read_field};
 
 impl<'a, O: ReadParams<'a>> AlgorithmParams<'a> for OaepParamsOf<O, AnyRef<'a>> {
     type Oid = RsaesOaep;
@@ -68,7 +43,7 @@ impl<'a, O: ReadParams<'a>> AlgorithmParams<'a> for OaepParamsOf<O, AnyRef<'a>> 
 
     #[inline(always)]
     fn read_whole(bytes: &'a [u8]) -> Result<OaepParamsOf<O, AnyRef<'a>>> {
-        let view = decode_whole::<RsaOaepParamsView<'a>>(bytes)?;
+        let view = read_borrowed::<RsaOaepParamsView<'a>>(bytes)?;
         Ok(O::oaep_from_view(view))
     }
 
@@ -77,15 +52,7 @@ impl<'a, O: ReadParams<'a>> AlgorithmParams<'a> for OaepParamsOf<O, AnyRef<'a>> 
     }
 }
 
-impl<'a, O: ReadParams<'a>> TryFrom<&'a [u8]> for OaepParamsOf<O, AnyRef<'a>> {
-    type Error = Error;
-
-    /// Reads a whole slice. Nothing is allocated.
-    fn try_from(bytes: &'a [u8]) -> Result<OaepParamsOf<O, AnyRef<'a>>> {
-        let view = read_params::<RsaOaepParamsView<'a>>(bytes)?;
-        Ok(O::oaep_from_view(view))
-    }
-}
+impl<'a, O: ReadParams<'a>> ContentsAskNone<&'a [u8]> for OaepParamsOf<O, AnyRef<'a>> {}
 
 impl<'a, M: Memory, O: ReadParams<'a>> DecodeValue<&'a [u8], M> for OaepParamsOf<O, AnyRef<'a>> {
     #[inline(always)]
@@ -128,15 +95,5 @@ impl<'a, M: Memory, O: ReadParams<'a>> DecodeValue<&'a [u8], M> for OaepParamsOf
     fn quick_value(_memory: M, contents: &'a [u8]) -> Option<OaepParamsOf<O, AnyRef<'a>>> {
         let view = quick_oaep(contents, false)?;
         Some(O::oaep_from_view(view))
-    }
-}
-
-/// The first fault of bytes that aren't RSAES-OAEP parameters, of which they have exactly one; `None` if they are such
-/// parameters.
-pub fn fault_of_oaep_params(bytes: &[u8]) -> Option<ErrorKind> {
-    match RsaOaepParamsView::try_from(bytes) {
-        Ok(_) => None,
-        Err(Error::Asn1(error)) => Some(error.kind()),
-        Err(_) => unreachable!(),
     }
 }

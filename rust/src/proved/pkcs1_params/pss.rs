@@ -1,14 +1,16 @@
 // Made of crates/pkcs1_params/src/pss.rt by tools/erase/erase.py, and not to be edited.
-//! Parameters of RSASSA-PSS (RFC 8017 A.2.3).
+//! Parameters of RSASSA-PSS (RFC 8017 A.2.3). `try_from` and `from_der_strict` read them by the functions of `reading.rt`.
 
 use crate::proved::pkcs1_params::contents::{append_contents, contents_len, prepend_contents};
-use crate::proved::pkcs1_params::error::Result;
+use crate::proved::pkcs1_params::error::{Error, Result, fault_of};
+use crate::proved::pkcs1_params::from_view::ReadParams;
 use crate::proved::pkcs1_params::hash_fields::{MaskGenOf, mgf1_with, with_null};
 use crate::proved::pkcs1_params::hash_functions::Sha1;
+use crate::proved::pkcs1_params::reading::{read_params, read_params_strict};
 use crate::proved::pkcs1_params::spelling::non_defaults_in;
 use crate::proved::pkcs1_params::trailer_field::TrailerField;
 use crate::proved::der_core::{
-    BackWriter, Contents, EncodeValue, EqualByValue, Length, Memory, NoMemory, Sequence,
+    BackWriter, Contents, EncodeValue, EqualByValue, ErrorKind, Length, Memory, NoMemory, Sequence,
     SequenceTag, TaggedBy, TryClone, Writer,
 };
 use crate::proved::spki_core::{
@@ -53,6 +55,31 @@ pub type RsaPssParamsOwned = RsaPssParams<Any>;
 
 /// RSASSA-PSS parameters over their encoding, whose octets are their identifiers. Only `to_params` copies them.
 pub type RsaPssParamsView<'a> = PssParamsOf<IdentifierView<'a>, AnyRef<'a>>;
+
+impl<'a, O: ReadParams<'a>> TryFrom<&'a [u8]> for PssParamsOf<O, AnyRef<'a>> {
+    type Error = Error;
+
+    /// Reads a whole slice. Nothing is allocated.
+    fn try_from(bytes: &'a [u8]) -> Result<PssParamsOf<O, AnyRef<'a>>> {
+        let view = read_params::<RsaPssParamsView<'a>>(bytes)?;
+        Ok(O::pss_from_view(view))
+    }
+}
+
+impl<'a, O: ReadParams<'a>> PssParamsOf<O, AnyRef<'a>> {
+    /// Like `try_from`, but rejects an encoding in which a default is written: `Noncanonical` with the tag of the first
+    /// such field. So what is read is the shortest encoding of its value.
+    pub fn from_der_strict(bytes: &'a [u8]) -> Result<PssParamsOf<O, AnyRef<'a>>> {
+        let view = read_params_strict::<RsaPssParamsView<'a>>(bytes)?;
+        Ok(O::pss_from_view(view))
+    }
+}
+
+/// The first fault of bytes that aren't RSASSA-PSS parameters, of which they have exactly one; `None` if they are such
+/// parameters.
+pub fn fault_of_pss_params(bytes: &[u8]) -> Option<ErrorKind> {
+    fault_of(RsaPssParamsView::try_from(bytes))
+}
 
 impl<O: IdentifierValue, P: AnyValue> Contents for PssParamsOf<O, P> {}
 
@@ -121,6 +148,14 @@ impl<P: AnyValue + TryClone> RsaPssParams<P> {
             salt_len: self.salt_len,
             trailer_field: self.trailer_field,
         })
+    }
+}
+
+impl<'a, O: IdentifierValue> Default for PssParamsOf<O, AnyRef<'a>> {
+    /// Every field at its default.
+    #[inline(always)]
+    fn default() -> PssParamsOf<O, AnyRef<'a>> {
+        PssParamsOf::of_hash::<Sha1, NoMemory>(NoMemory, RsaPssParamsRef::SALT_LEN_DEFAULT)
     }
 }
 

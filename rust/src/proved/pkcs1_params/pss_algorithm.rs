@@ -2,7 +2,7 @@
 //! The algorithm identifier id-RSASSA-PSS with its parameters (RFC 8017 A.2.3).
 
 use crate::proved::pkcs1_params::algorithm::{FromAlgorithm, encode_identifier};
-use crate::proved::pkcs1_params::error::{Error, Result};
+use crate::proved::pkcs1_params::error::{Result, fault_of};
 use crate::proved::pkcs1_params::pss::{PssParamsOf, RsaPssParamsView};
 use crate::proved::pkcs1_params::spelling::EncodeParams;
 use crate::proved::der_core::{Borrowed, ErrorKind};
@@ -47,9 +47,5 @@ impl<O: IdentifierValue, P: AnyValue> PssParamsOf<O, P> {
 /// The first fault of bytes that aren't the algorithm identifier id-RSASSA-PSS with parameters, of which they have
 /// exactly one; `None` if they are.
 pub fn fault_of_pss_algorithm(bytes: &[u8]) -> Option<ErrorKind> {
-    match RsaPssParamsView::from_algorithm_der(bytes) {
-        Ok(_) => None,
-        Err(Error::Asn1(error)) => Some(error.kind()),
-        Err(_) => unreachable!(),
-    }
+    fault_of(RsaPssParamsView::from_algorithm_der(bytes))
 }

@@ -1,48 +1,23 @@
 // Made of crates/pkcs1_params/src/pss_reading.rt by tools/erase/erase.py, and not to be edited.
-//! Reading of RSASSA-PSS parameters.
+//! What `reading.rt` calls of RSASSA-PSS parameters: octets that are known, in `usual.rt`; fields that are read quickly, in
+//! `quick.rt`; each field by `read_field` of `spki_core`; and defaults that are written, in `strict.rt`.
 
-use crate::proved::pkcs1_params::error::{Error, Result};
-use crate::proved::pkcs1_params::from_view::ReadParams;
+use crate::proved::pkcs1_params::error::Result;
+use crate::proved::pkcs1_params::from_view::{ReadParams, decode_borrowed};
 use crate::proved::pkcs1_params::hash_fields::{mgf1_with, with_null};
 use crate::proved::pkcs1_params::hash_functions::Sha1;
 use crate::proved::pkcs1_params::pss::{PssParamsOf, RsaPssParamsRef, RsaPssParamsView};
 use crate::proved::pkcs1_params::pss_algorithm::RsassaPss;
 use crate::proved::pkcs1_params::quick::quick_pss;
-use crate::proved::pkcs1_params::reading::{
-    AlgorithmParams, decode_borrowed, decode_whole, read_params, read_params_strict,
-};
+use crate::proved::pkcs1_params::reading::AlgorithmParams;
 use crate::proved::pkcs1_params::strict;
 use crate::proved::pkcs1_params::trailer_field::TrailerField;
 use crate::proved::pkcs1_params::usual::{accept_salt, usual_pss, usual_salt};
 use crate::proved::der_core::{
-    DecodeValue, ErrorKind, Header, Memory, NoMemory, Reader, Tag, TagNumber, quick_short,
+    ContentsAskNone, DecodeValue, Header, Memory, NoMemory, Reader, Tag, TagNumber, quick_short,
+    read_borrowed,
 };
-use crate::proved::spki_core::{AnyRef, IdentifierValue, ObjectIdentifier, read_field};
-
-impl<'a> RsaPssParamsView<'a> {
-    /// The parameters as a struct that holds its identifiers.
-    #[inline(always)]
-    pub fn to_params(self) -> RsaPssParamsRef<'a> {
-        ObjectIdentifier::pss_from_view(self)
-    }
-}
-
-impl<'a, O: ReadParams<'a>> PssParamsOf<O, AnyRef<'a>> {
-    /// Like `try_from`, but rejects an encoding in which a default is written: `Noncanonical` with the tag of the first
-    /// such field. So what is read is the shortest encoding of its value.
-    pub fn from_der_strict(bytes: &'a [u8]) -> Result<PssParamsOf<O, AnyRef<'a>>> {
-        let view = read_params_strict::<RsaPssParamsView<'a>>(bytes)?;
-        Ok(O::pss_from_view(view))
-    }
-}
-
-impl<'a, O: IdentifierValue> Default for PssParamsOf<O, AnyRef<'a>> {
-    /// Every field at its default.
-    #[inline(always)]
-    fn default() -> PssParamsOf<O, AnyRef<'a>> {
-        PssParamsOf::of_hash::<Sha1, NoMemory>(NoMemory, RsaPssParamsRef::SALT_LEN_DEFAULT)
-    }
-}
+use crate::proved::spki_core::{AnyRef, read_field};
 
 impl<'a, O: ReadParams<'a>> AlgorithmParams<'a> for PssParamsOf<O, AnyRef<'a>> {
     type Oid = RsassaPss;
@@ -73,7 +48,7 @@ impl<'a, O: ReadParams<'a>> AlgorithmParams<'a> for PssParamsOf<O, AnyRef<'a>> {
 
     #[inline(always)]
     fn read_whole(bytes: &'a [u8]) -> Result<PssParamsOf<O, AnyRef<'a>>> {
-        let view = decode_whole::<RsaPssParamsView<'a>>(bytes)?;
+        let view = read_borrowed::<RsaPssParamsView<'a>>(bytes)?;
         Ok(O::pss_from_view(view))
     }
 
@@ -82,15 +57,7 @@ impl<'a, O: ReadParams<'a>> AlgorithmParams<'a> for PssParamsOf<O, AnyRef<'a>> {
     }
 }
 
-impl<'a, O: ReadParams<'a>> TryFrom<&'a [u8]> for PssParamsOf<O, AnyRef<'a>> {
-    type Error = Error;
-
-    /// Reads a whole slice. Nothing is allocated.
-    fn try_from(bytes: &'a [u8]) -> Result<PssParamsOf<O, AnyRef<'a>>> {
-        let view = read_params::<RsaPssParamsView<'a>>(bytes)?;
-        Ok(O::pss_from_view(view))
-    }
-}
+impl<'a, O: ReadParams<'a>> ContentsAskNone<&'a [u8]> for PssParamsOf<O, AnyRef<'a>> {}
 
 impl<'a, M: Memory, O: ReadParams<'a>> DecodeValue<&'a [u8], M> for PssParamsOf<O, AnyRef<'a>> {
     #[inline(always)]
@@ -136,15 +103,5 @@ impl<'a, M: Memory, O: ReadParams<'a>> DecodeValue<&'a [u8], M> for PssParamsOf<
     fn quick_value(_memory: M, contents: &'a [u8]) -> Option<PssParamsOf<O, AnyRef<'a>>> {
         let view = quick_pss(contents, false)?;
         Some(O::pss_from_view(view))
-    }
-}
-
-/// The first fault of bytes that aren't RSASSA-PSS parameters, of which they have exactly one; `None` if they are such
-/// parameters.
-pub fn fault_of_pss_params(bytes: &[u8]) -> Option<ErrorKind> {
-    match RsaPssParamsView::try_from(bytes) {
-        Ok(_) => None,
-        Err(Error::Asn1(error)) => Some(error.kind()),
-        Err(_) => unreachable!(),
     }
 }

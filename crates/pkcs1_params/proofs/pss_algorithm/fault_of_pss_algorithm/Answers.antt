@@ -1,4 +1,9 @@
+use Rattle.pkcs1_params.proofs.Faults.{fault_told_encoded}
+use Rattle.pkcs1_params.specs.Words.{pss_viewed}
+use Rattle.standard.specs.Statement.{PssAlgorithmEncoding}
 use Rattle.pkcs1_params.proofs.pss_algorithm.fault_of_pss_algorithm.Goals as goal
 
-pub returns-in-Err-Asn1-clause-encodes : goal.returns-in-Err-Asn1-clause-encodes
-returns-in-Err-Asn1-clause-encodes c = ((λ no. cc), (λ p. absurd (c.in-Err-Asn1.ensures.read p.0 p.1)))
+pub returns-clause-encodes : goal.returns-clause-encodes
+returns-clause-encodes c =
+    let read = c.from_algorithm_der.ensures in
+    fault_told_encoded PssAlgorithmEncoding _ pss_viewed _ _ _ c.fault_of.ensures read.exact read.read

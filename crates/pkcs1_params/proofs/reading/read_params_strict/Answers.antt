@@ -1,9 +1,47 @@
-use Rattle.std.proofs.Common.{arith}
-use Rattle.der_core.specs.Words.{are_bytes}
-use Rattle.pkcs1_params.proofs.UsualParameters.{strict_whole_decodes}
+use Rattle.std.proofs.Common.{arith, refl, Ok}
+use Rattle.der_core.specs.Words.{err_from_is_err_and, are_bytes}
+use Rattle.spki_core.proofs.StrictFields.{strict_errs}
+use Rattle.spki_core.specs.Words.{strict_whole}
+use Rattle.pkcs1_params.specs.Words.{ErrsAs}
+use Rattle.pkcs1_params.proofs.Faults.{asn1_as}
+use Rattle.pkcs1_params.proofs.UsualParameters.{record_whole_decodes, strict_whole_decodes}
 use Rattle.pkcs1_params.proofs.reading.read_params_strict.Goals as goal
+
+pub returns-in-Some-clause-read : goal.returns-in-Some-clause-read
+returns-in-Some-clause-read g c =
+    let t = g.T.AlgorithmParams in
+    let bytes = are_bytes _ (λ i. omega (arith, c.type_inv.bytes i)) in
+    strict_whole_decodes t.form _ t.params (Ok c.in-Some.params) bytes c.in-Some.ensures
+
+pub returns-in_err-params-clause-exact : goal.returns-in_err-params-clause-exact
+returns-in_err-params-clause-exact g c =
+    let p = err_from_is_err_and c.from_residual.result c.from_residual.ensures.1 in
+    rw (p.1, p.2) (asn1_as (λ e. strict_errs g.T.AlgorithmParams.form _ e.kind) _ c.in_err-params.ensures)
+
+pub returns-in_err-params-clause-read : goal.returns-in_err-params-clause-read
+returns-in_err-params-clause-read g c =
+    let t = g.T.AlgorithmParams in
+    let bytes = are_bytes _ (λ i. omega (arith, c.type_inv.bytes i)) in
+    strict_whole_decodes t.form _ t.params _ bytes (returns-in_err-params-clause-exact g c)
+
+pub reject_defaults-requires : goal.reject_defaults-requires
+reject_defaults-requires g c κs =
+    let t = g.T.AlgorithmParams in
+    let bytes = are_bytes _ (λ i. omega (arith, c.type_inv.bytes i)) in
+    ((refl, tt), (record_whole_decodes t.form _ t.params (Ok c.in_ok-params.params) bytes c.in_ok-params.ensures).0)
+
+pub returns-in_err-reject_defaults-clause-read : goal.returns-in_err-reject_defaults-clause-read
+returns-in_err-reject_defaults-clause-read g c =
+    let t = g.T.AlgorithmParams in
+    let bytes = are_bytes _ (λ i. omega (arith, c.type_inv.bytes i)) in
+    let told = c.from_residual-in_err-reject_defaults in
+    let p = err_from_is_err_and told.result told.ensures.1 in
+    let exact : ErrsAs t.params (strict_whole t.form c.args.bytes.now) told.result =
+    rw (p.1, p.2) c.in_err-reject_defaults.ensures in
+    strict_whole_decodes t.form _ t.params _ bytes exact
 
 pub returns-clause-read : goal.returns-clause-read
 returns-clause-read g c =
     let t = g.T.AlgorithmParams in
-    strict_whole_decodes t.form _ t.params _ (are_bytes _ (λ i. omega (arith, c.type_inv.bytes i))) c.shortest_params.ensures
+    let bytes = are_bytes _ (λ i. omega (arith, c.type_inv.bytes i)) in
+    strict_whole_decodes t.form _ t.params (Ok c.in_ok-params.params) bytes c.in_ok-reject_defaults.ensures

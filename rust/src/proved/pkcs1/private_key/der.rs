@@ -1,31 +1,11 @@
 // Made of crates/pkcs1/src/private_key/der.rt by tools/erase/erase.py, and not to be edited.
-//! Decoding private keys from whole slices; encoding them into slices and documents.
+//! Decoding private keys from whole slices; encoding them into slices.
 
 use super::RsaPrivateKey;
 use super::other_prime_info::lists_none;
-use crate::proved::der_core::{Decode, Encode, ErrorKind, OctetStringRef, SecretDocument, Tag, Uint, UintRef};
+use crate::proved::der_core::{Decode, Encode, ErrorKind, OctetStringRef, Tag, Uint, UintEncoding, UintRef};
 use crate::proved::pkcs1_params::Error;
 use crate::rattle_std::alloc::Global;
-
-impl<U: Encode> RsaPrivateKey<U> {
-    /// As `encode_into`. It looks for an empty list of other primes first, so its contract says the tag of `Value`.
-    fn encode_naming_tag(&self, out: &mut [u8]) -> crate::proved::pkcs1::Result<usize> {
-        if lists_none(&self.other_prime_infos) {
-            let kind = ErrorKind::Value { tag: Tag::SEQUENCE };
-            return Err(Error::Asn1(crate::proved::der_core::Error::new(kind)));
-        }
-        Ok(self.encode_into(out)?)
-    }
-
-    /// As `encode_msg`. It looks for an empty list of other primes first, so its contract says the tag of `Value`.
-    pub(crate) fn to_document(&self, alloc: Global) -> crate::proved::pkcs1::Result<SecretDocument> {
-        if lists_none(&self.other_prime_infos) {
-            let rejected = crate::proved::der_core::Error::new(ErrorKind::Value { tag: Tag::SEQUENCE });
-            return Err(Error::Asn1(rejected));
-        }
-        Ok(SecretDocument::encode_msg(alloc, self)?)
-    }
-}
 
 impl<U> RsaPrivateKey<U> {
     /// Decodes the contents of an OCTET STRING, as `from_der` does. If the numbers need no memory, a key of two primes
@@ -47,13 +27,6 @@ impl<'a> RsaPrivateKey<UintRef<'a>> {
     pub fn decode_key(alloc: Global, bytes: &'a [u8]) -> crate::proved::pkcs1::Result<RsaPrivateKey<UintRef<'a>>> {
         Ok(RsaPrivateKey::from_der(alloc, bytes)?) // its numbers are parts of the bytes
     }
-
-    /// Writes the key's only encoding to the front of a slice and returns its length, as `encode_into` does. Returns
-    /// `Value` of SEQUENCE if the list of other primes is there but empty, `Overflow` if the encoding is longer than
-    /// `Length::MAX`, `NoRoom` if it is longer than the slice.
-    pub fn encode_key(&self, out: &mut [u8]) -> crate::proved::pkcs1::Result<usize> {
-        self.encode_naming_tag(out)
-    }
 }
 
 impl RsaPrivateKey<Uint> {
@@ -62,9 +35,18 @@ impl RsaPrivateKey<Uint> {
     pub fn decode_owned_key(alloc: Global, bytes: &[u8]) -> crate::proved::pkcs1::Result<RsaPrivateKey<Uint>> {
         Ok(RsaPrivateKey::from_der(alloc, bytes)?) // its numbers are copies
     }
+}
 
-    /// Writes the key's only encoding to the front of a slice, as `encode_key` of `RsaPrivateKeyRef` does.
+impl<U: Encode + UintEncoding> RsaPrivateKey<U> {
+    /// Writes the key's only encoding to the front of a slice and returns its length, as `encode_into` does. Returns
+    /// `Value` of SEQUENCE if the list of other primes is there but empty, `Overflow` if the encoding is longer than
+    /// `Length::MAX`, `NoRoom` if it is longer than the slice. It looks for an empty list first, so its contract says the
+    /// tag of `Value`.
     pub fn encode_key(&self, out: &mut [u8]) -> crate::proved::pkcs1::Result<usize> {
-        self.encode_naming_tag(out)
+        if lists_none(&self.other_prime_infos) {
+            let kind = ErrorKind::Value { tag: Tag::SEQUENCE };
+            return Err(Error::Asn1(crate::proved::der_core::Error::new(kind)));
+        }
+        Ok(self.encode_into(out)?)
     }
 }

@@ -1,6 +1,6 @@
 use Rattle.std.proofs.Common.{subst, sym, Some}
 use Rattle.standard.specs.Statement.{Decodes, IsShortest, OaepEncoding}
-use Rattle.pkcs1_params.proofs.oaep_reading.OaepParamsOf+O+AnyRef.from_der_strict.Goals as goal
+use Rattle.pkcs1_params.proofs.oaep.OaepParamsOf+O+AnyRef.from_der_strict.Goals as goal
 
 pub returns-clause-read : goal.returns-clause-read
 returns-clause-read g c =

@@ -1,6 +1,6 @@
 use Rattle.std.proofs.Common.{subst, sym, Some}
 use Rattle.standard.specs.Statement.{Decodes, PssEncoding}
-use Rattle.pkcs1_params.proofs.pss_reading.PssParamsOfAnyRefTryFromRefSliceU8.try_from.Goals as goal
+use Rattle.pkcs1_params.proofs.pss.PssParamsOfAnyRefTryFromRefSliceU8.try_from.Goals as goal
 
 pub returns-clause-read : goal.returns-clause-read
 returns-clause-read g c =

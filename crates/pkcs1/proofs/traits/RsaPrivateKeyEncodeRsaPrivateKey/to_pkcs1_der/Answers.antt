@@ -1,0 +1,36 @@
+use Rattle.std.proofs.Common.{ap, ◌∙◌, refl}
+use Rattle.der_core.specs.Words.{err_from_is_err_and, tagged_shortest, same_tag}
+use Rattle.der_core.specs.declared.error.ErrorKind.TheVariants as kind
+use Rattle.pkcs1.specs.Words.{IsPrivateKey, PrivateIsWritten, PrivateSpells, held_private_key, private_key_with, private_shortest}
+use Rattle.pkcs1.proofs.NumberKeys.{number_key_encodes, number_key_written}
+use Rattle.pkcs1.proofs.WritingStated.{unencoded_unmade, unmade_carried}
+use Rattle.pkcs1_params.proofs.Masks.{shortest_as}
+use Rattle.standard.specs.Statement.{PrivateKeyEncoding}
+use Rattle.pkcs1.proofs.traits.RsaPrivateKeyEncodeRsaPrivateKey.to_pkcs1_der.Goals as goal
+
+pub returns-then-lists_none-clause-no_primes : goal.returns-then-lists_none-clause-no_primes
+returns-then-lists_none-clause-no_primes g c =
+    λ _. ap (λ e. e.kind) c.new-rejected.ensures ∙ ap kind.Value (same_tag _ _ refl)
+
+pub returns-clause-encoding : goal.returns-clause-encoding
+returns-clause-encoding g c =
+    let e = g.U.Encoding in
+    let key = c.args.self.now in
+    let number = g.U.AsUintRef.number in
+    shortest_as (PrivateSpells e.valid e.printed e.means) PrivateKeyEncoding (private_key_with e.value key)
+    (held_private_key number key)
+    (number_key_encodes e.valid e.printed e.means e.value number g.met.U.UintEncoding.encodes_number e.shortest key) _
+    c.in_ok-encode_msg.ensures.holds.2
+
+pub returns-in_err-encode_msg-clause-err : goal.returns-in_err-encode_msg-clause-err
+returns-in_err-encode_msg-clause-err g c =
+    let e = g.U.Encoding in
+    let key = c.args.self.now in
+    let number = g.U.AsUintRef.number in
+    let law = g.met.U.UintEncoding.encodes_number in
+    let p = err_from_is_err_and c.from_residual.result c.from_residual.ensures.1 in
+    rw (p.1, p.2) (unmade_carried (PrivateIsWritten e.valid e.written) (PrivateSpells e.valid e.printed e.means)
+    IsPrivateKey PrivateKeyEncoding (private_key_with e.value key) (held_private_key number key)
+    (number_key_written e.valid e.printed e.means e.value number law e.shortest key)
+    (number_key_encodes e.valid e.printed e.means e.value number law e.shortest key) _ _
+    (unencoded_unmade (tagged_shortest (private_shortest e.shortest) 48) _ _ c.in_err-encode_msg.ensures.holds))

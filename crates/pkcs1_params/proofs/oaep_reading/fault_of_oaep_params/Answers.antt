@@ -1,4 +1,0 @@
-use Rattle.pkcs1_params.proofs.oaep_reading.fault_of_oaep_params.Goals as goal
-
-pub returns-in-Err-Asn1-clause-encodes : goal.returns-in-Err-Asn1-clause-encodes
-returns-in-Err-Asn1-clause-encodes c = ((λ no. cc), (λ p. absurd (c.in-Err-Asn1.ensures.read p.0 p.1)))
