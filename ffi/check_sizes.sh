@@ -30,12 +30,14 @@ $CC ${CFLAGS-} -fno-lto -std=c99 -ffreestanding -fno-stack-protector -ffunction-
     -c "$here/c/freestanding.c" -o "$room/own.o"
 cat > "$room/table" << 'TABLE'
 pkcs1_algorithm_is 3600
+pkcs1_algorithm_is_same_hash 4000
 pkcs1_bit_len 500
 pkcs1_oaep_algorithm_decode 21300
 pkcs1_oaep_algorithm_decode_strict 23400
 pkcs1_oaep_algorithm_encode 12200
 pkcs1_oaep_is 4900
 pkcs1_oaep_label 4300
+pkcs1_oaep_means_same 6000
 pkcs1_oaep_params_decode 18900
 pkcs1_oaep_params_decode_strict 20800
 pkcs1_oaep_params_encode 16300
@@ -49,6 +51,7 @@ pkcs1_pss_algorithm_decode 20800
 pkcs1_pss_algorithm_decode_strict 22600
 pkcs1_pss_algorithm_encode 10000
 pkcs1_pss_is 4700
+pkcs1_pss_means_same 5500
 pkcs1_pss_params_decode 18000
 pkcs1_pss_params_decode_strict 20300
 pkcs1_pss_params_encode 12700

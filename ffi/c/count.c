@@ -90,6 +90,9 @@ static void questions(const char *input) {
     COUNT(true, pkcs1_oaep_is, &oaep_params, &pkcs1_oid_sha256);
     COUNT(true, pkcs1_algorithm_is, &pss_params.hash, &pkcs1_oid_sha256);
     COUNT(true, pkcs1_oaep_label, &oaep_params, &label);
+    COUNT(true, pkcs1_pss_means_same, &pss_params, &pss_params);
+    COUNT(true, pkcs1_oaep_means_same, &oaep_params, &oaep_params);
+    COUNT(true, pkcs1_algorithm_is_same_hash, &pss_params.hash, &oaep_params.hash);
 }
 
 /* Is compiled to no instruction, so its count is what each other has besides its call. */

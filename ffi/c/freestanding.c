@@ -75,10 +75,12 @@ static int params(void) {
     CHECK(pkcs1_pss_params_encode(&pss, out, sizeof out, &len) == PKCS1_OK);
     CHECK(pkcs1_pss_params_decode_strict(out, len, &pss) == PKCS1_OK && pkcs1_pss_is(&pss, &pkcs1_oid_sha256));
     CHECK(pkcs1_algorithm_is(&pss.hash, &pkcs1_oid_sha256) && pkcs1_oid_equal(&pss.mask_gen.oid, &pkcs1_oid_mgf1));
+    CHECK(pkcs1_algorithm_is_same_hash(&pss.hash, &pss.mask_gen.hash) && pkcs1_pss_means_same(&pss, &pss));
     CHECK(pkcs1_pss_algorithm_decode(out, len, &pss) == PKCS1_TAG_UNEXPECTED);
     pkcs1_oaep_params_init(&oaep, &pkcs1_oid_sha512, one.data, one.len);
     CHECK(pkcs1_oaep_algorithm_encode(&oaep, out, sizeof out, &len) == PKCS1_OK);
     CHECK(pkcs1_oaep_algorithm_decode(out, len, &oaep) == PKCS1_OK && pkcs1_oaep_is(&oaep, &pkcs1_oid_sha512));
+    CHECK(pkcs1_oaep_means_same(&oaep, &oaep));
     CHECK(pkcs1_oaep_label(&oaep, &one) && one.len == 1 && *one.data == 1 && *pkcs1_strerror(PKCS1_OK) == 'n');
     return 0;
 }

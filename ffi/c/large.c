@@ -98,7 +98,7 @@ static void labels(void) {
     }
 }
 
-/* Identifiers of these lengths that are alike, and ones that differ in the last octet, or in length. */
+/* Identifiers and labels of these lengths that are alike, and ones that differ in the last octet, or in length. */
 static void identifiers(void) {
     static const size_t lens[] = {1, 8, 9, 10, 15, 16, 38, 39, 40, 128, 255, 256, 257, 65536, LONG};
     uint8_t *octets = malloc(LONG);
@@ -106,17 +106,21 @@ static void identifiers(void) {
     memset(octets, 1, LONG);
     for (size_t i = 0; i < sizeof lens / sizeof lens[0]; i++) {
         struct pkcs1_bytes left = {ones, lens[i]}, right = {octets, lens[i]}, shorter = {octets, lens[i] - 1};
-        struct pkcs1_pss_params pss;
-        struct pkcs1_oaep_params oaep;
+        struct pkcs1_pss_params pss, other_pss;
+        struct pkcs1_oaep_params oaep, other_oaep;
         pkcs1_pss_params_init(&pss, &left, 32);
-        pkcs1_oaep_params_init(&oaep, &left, NULL, 0);
+        pkcs1_pss_params_init(&other_pss, &right, 32);
+        pkcs1_oaep_params_init(&oaep, &left, left.data, left.len);
+        pkcs1_oaep_params_init(&other_oaep, &left, right.data, right.len);
         CHECK(pkcs1_oid_equal(&left, &right) && !pkcs1_oid_equal(&left, &shorter));
         CHECK(pkcs1_algorithm_is(&pss.hash, &right) && !pkcs1_algorithm_is(&pss.hash, &shorter));
         CHECK(pkcs1_pss_is(&pss, &right) && !pkcs1_pss_is(&pss, &shorter));
         CHECK(pkcs1_oaep_is(&oaep, &right) && !pkcs1_oaep_is(&oaep, &shorter));
+        CHECK(pkcs1_pss_means_same(&pss, &other_pss) && pkcs1_oaep_means_same(&oaep, &other_oaep));
         octets[lens[i] - 1] = 2;
         CHECK(!pkcs1_oid_equal(&left, &right) && !pkcs1_algorithm_is(&pss.hash, &right));
         CHECK(!pkcs1_pss_is(&pss, &right) && !pkcs1_oaep_is(&oaep, &right));
+        CHECK(!pkcs1_pss_means_same(&pss, &other_pss) && !pkcs1_oaep_means_same(&oaep, &other_oaep));
         octets[lens[i] - 1] = 1;
     }
     free(octets);

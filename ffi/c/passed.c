@@ -141,6 +141,13 @@ TEST(pkcs1_c_algorithm_is,
 TEST(pkcs1_c_uses_hash,
      (const struct pkcs1_algorithm *hash, const struct pkcs1_mask_gen *given, const struct pkcs1_bytes *oid),
      (hash, given, oid), algorithm(hash); mask_gen(given); bytes(*oid))
+/* A question about two structs of this type. */
+#define TWO(call, type, check)                                                                                        \
+    TEST(pkcs1_c_##call, (const struct pkcs1_##type *left, const struct pkcs1_##type *right), (left, right),          \
+         check(left); check(right))
+TWO(algorithm_is_same_hash, algorithm, algorithm)
+TWO(pss_means_same, pss_params, pss)
+TWO(oaep_means_same, oaep_params, oaep)
 TEST(pkcs1_c_oaep_label,
      (const struct pkcs1_algorithm *source, struct pkcs1_bytes *label),
      (source, label), algorithm(source); bytes(*label))

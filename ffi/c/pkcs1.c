@@ -291,6 +291,19 @@ bool pkcs1_algorithm_is(const struct pkcs1_algorithm *given, const struct pkcs1_
     return copied_algorithm_is(given, oid);
 }
 
+RARE static bool copied_are_same_hash(const struct pkcs1_algorithm *left, const struct pkcs1_algorithm *right) {
+    struct pkcs1_algorithm made_left, made_right;
+    copy_algorithm(&made_left, left);
+    copy_algorithm(&made_right, right);
+    return pkcs1_c_algorithm_is_same_hash(&made_left, &made_right);
+}
+
+bool pkcs1_algorithm_is_same_hash(const struct pkcs1_algorithm *left, const struct pkcs1_algorithm *right) {
+    if (is_whole_algorithm(left) && is_whole_algorithm(right))
+        return pkcs1_c_algorithm_is_same_hash(left, right);
+    return copied_are_same_hash(left, right);
+}
+
 /* The same for a mask generation function, which holds an algorithm. */
 static inline bool is_whole_mask_gen(const struct pkcs1_mask_gen *given) {
     return given->oid.data != NULL && is_one(&given->has_hash) && is_whole_algorithm(&given->hash);
@@ -353,6 +366,22 @@ RARE static void copy_pss(struct pkcs1_pss_params *made, const struct pkcs1_pss_
 
 bool pkcs1_pss_is(const struct pkcs1_pss_params *params, const struct pkcs1_bytes *hash) {
     return both_use(&params->hash, &params->mask_gen, hash);
+}
+
+/* Looks at copies of both. */
+RARE static bool copied_pss_mean_same(const struct pkcs1_pss_params *left, const struct pkcs1_pss_params *right) {
+    struct pkcs1_pss_params made_left, made_right;
+    copy_pss(&made_left, left);
+    copy_pss(&made_right, right);
+    //@ assert left: pss_seen(made_left) == \at(pss_seen(*left), Pre);
+    //@ assert right: pss_seen(made_right) == \at(pss_seen(*right), Pre);
+    return pkcs1_c_pss_means_same(&made_left, &made_right);
+}
+
+bool pkcs1_pss_means_same(const struct pkcs1_pss_params *left, const struct pkcs1_pss_params *right) {
+    if (is_whole_pss(left) && is_whole_pss(right))
+        return pkcs1_c_pss_means_same(left, right);
+    return copied_pss_mean_same(left, right);
 }
 
 /* Copies what was read into the caller's struct, on success. */
@@ -431,6 +460,22 @@ RARE static void copy_oaep(struct pkcs1_oaep_params *made, const struct pkcs1_oa
 
 bool pkcs1_oaep_is(const struct pkcs1_oaep_params *params, const struct pkcs1_bytes *hash) {
     return both_use(&params->hash, &params->mask_gen, hash);
+}
+
+/* Looks at copies of both. */
+RARE static bool copied_oaep_mean_same(const struct pkcs1_oaep_params *left, const struct pkcs1_oaep_params *right) {
+    struct pkcs1_oaep_params made_left, made_right;
+    copy_oaep(&made_left, left);
+    copy_oaep(&made_right, right);
+    //@ assert left: oaep_seen(made_left) == \at(oaep_seen(*left), Pre);
+    //@ assert right: oaep_seen(made_right) == \at(oaep_seen(*right), Pre);
+    return pkcs1_c_oaep_means_same(&made_left, &made_right);
+}
+
+bool pkcs1_oaep_means_same(const struct pkcs1_oaep_params *left, const struct pkcs1_oaep_params *right) {
+    if (is_whole_oaep(left) && is_whole_oaep(right))
+        return pkcs1_c_oaep_means_same(left, right);
+    return copied_oaep_mean_same(left, right);
 }
 
 /* Looks for the label in a copy of the source. */

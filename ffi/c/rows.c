@@ -1,6 +1,7 @@
 /* The worked rows whose word is a kind. Decoding has the status that follows from a row. An error leaves the struct
  * unchanged. An accepted value is encoded again, as the row says. It is also encoded with too little room and with
- * more, and with each of its fields empty. Each field points to where it stands in the input. */
+ * more, and with each of its fields empty. Each field points to where it stands in the input. The rows that ask whether
+ * two values mean the same, too. */
 #include "test.h"
 #include <string.h>
 
@@ -259,6 +260,44 @@ static void try_row(const char *kind, const char *digits, const char *text) {
     free(old);
 }
 
+static bool means_same(const char *word, const union value *left, const union value *right) {
+    if (strcmp(word, "same-hash") == 0) return pkcs1_algorithm_is_same_hash(&left->pss.hash, &right->pss.hash);
+    if (strcmp(word, "pss-means-same") == 0) return pkcs1_pss_means_same(&left->pss, &right->pss);
+    return pkcs1_oaep_means_same(&left->oaep, &right->oaep);
+}
+
+/* Reads one of the two. An algorithm identifier of a hash function is read as the only field of parameters. */
+static bool is_read(const char *word, const uint8_t *der, size_t len, union value *value, uint8_t *params) {
+    if (strcmp(word, "same-hash") != 0)
+        return read_row(word[0] == 'p' ? "pss" : "oaep", der, len, value) == PKCS1_OK;
+    const uint8_t front[] = {0x30, (uint8_t)(len + 2), 0xa0, (uint8_t)len};
+    CHECK(len < 0x7e);
+    memcpy(params, front, sizeof front);
+    memcpy(params + sizeof front, der, len);
+    return read_row("pss", params, sizeof front + len, value) == PKCS1_OK;
+}
+
+/* Whether two that are read mean the same, asked in either order. */
+static void try_question(const char *word, const char *digits, const char *text) {
+    const char *next = strchr(digits, ' ');
+    CHECK(next != NULL);
+    size_t len, other_len;
+    uint8_t *der = octets_of(digits, &len), *other_der = octets_of(next + 1, &other_len);
+    uint8_t params[0x80], other_params[0x80];
+    union value value, other;
+    bool are_read = is_read(word, der, len, &value, params) && is_read(word, other_der, other_len, &other, other_params);
+    bool want = strncmp(text, "yes", 3) == 0;
+    CHECK(are_read == (want || strncmp(text, "no", 2) == 0));
+    CHECK(!are_read || means_same(word, &value, &other) == want);
+    CHECK(!are_read || means_same(word, &other, &value) == want);
+    free(der);
+    free(other_der);
+}
+
+static bool is_question(const char *word) {
+    return strcmp(word, "same-hash") == 0 || strcmp(word, "pss-means-same") == 0 || strcmp(word, "oaep-means-same") == 0;
+}
+
 static bool is_kind(const char *word) {
     for (size_t i = 0; i < KINDS; i++)
         if (strcmp(word, kinds[i]) == 0)
@@ -270,18 +309,21 @@ void try_rows(const char *path) {
     static char line[8 * LONGEST];
     FILE *file = fopen(path, "r");
     CHECK(file != NULL);
-    int count = 0;
+    int count = 0, questions = 0;
     while (fgets(line, sizeof line, file) != NULL) {
         char *digits = strchr(line, ' '), *text = strstr(line, " = ");
         CHECK(strchr(line, '\n') != NULL);
         if (line[0] == '#' || digits == NULL || text == NULL)
             continue;
         *digits = *text = '\0';
-        if (!is_kind(line))
-            continue;
-        try_row(line, digits + 1, text + 3);
-        count++;
+        if (is_question(line)) {
+            try_question(line, digits + 1, text + 3);
+            questions++;
+        } else if (is_kind(line)) {
+            try_row(line, digits + 1, text + 3);
+            count++;
+        }
     }
     fclose(file);
-    CHECK(count > 350);
+    CHECK(count > 350 && questions > 40);
 }

@@ -55,12 +55,20 @@ static void write_again(const char *kind, const union value *value) {
 static void ask(const char *kind, const union value *value) {
     struct pkcs1_bytes label;
     const struct pkcs1_bytes *hash = &value->pss.hash.oid;
-    if (strncmp(kind, "pss", 3) == 0)
+    union value other = *value;
+    if (strncmp(kind, "pss", 3) == 0) {
+        other.pss.hash = value->pss.mask_gen.hash;
         pkcs1_pss_is(&value->pss, hash);
-    else if (strncmp(kind, "oaep", 4) == 0 && pkcs1_oaep_label(&value->oaep, &label))
-        pkcs1_oaep_is(&value->oaep, hash);
-    else if (strncmp(kind, "oaep", 4) != 0)
+        pkcs1_algorithm_is_same_hash(&value->pss.hash, &other.pss.hash);
+        pkcs1_pss_means_same(&value->pss, &other.pss);
+    } else if (strncmp(kind, "oaep", 4) == 0) {
+        other.oaep.mask_gen.hash = value->oaep.hash;
+        if (pkcs1_oaep_label(&value->oaep, &label))
+            pkcs1_oaep_is(&value->oaep, hash);
+        pkcs1_oaep_means_same(&value->oaep, &other.oaep);
+    } else {
         pkcs1_bit_len(value->key.modulus);
+    }
 }
 
 /* The input taken for a list of primes, with room behind them. */

@@ -229,6 +229,10 @@ struct pkcs1_algorithm {
  * (RFC 4055 2.1), and both are met. */
 bool pkcs1_algorithm_is(const struct pkcs1_algorithm *algorithm, const struct pkcs1_bytes *oid);
 
+/* Whether both are the same hash function: the identifiers are equal, and so are the parameters, where NULL and none
+ * are alike. Whether they can be encoded isn't looked at. */
+bool pkcs1_algorithm_is_same_hash(const struct pkcs1_algorithm *left, const struct pkcs1_algorithm *right);
+
 /* A mask generation function, whose parameters are the AlgorithmIdentifier of a hash function, or absent. If they are
  * absent, a decoder sets `hash` to empty: `hash.oid.len` is 0. Even MGF1 may be without one, which a verifier should
  * reject. */
@@ -268,6 +272,13 @@ bool pkcs1_pss_is(const struct pkcs1_pss_params *params, const struct pkcs1_byte
 
 /* The same of parameters of RSAES-OAEP. */
 bool pkcs1_oaep_is(const struct pkcs1_oaep_params *params, const struct pkcs1_bytes *hash);
+
+/* Whether both mean the same: all fields are equal, but that hash functions, that of the mask generation function too,
+ * are compared by pkcs1_algorithm_is_same_hash. Whether they can be encoded isn't looked at. */
+bool pkcs1_pss_means_same(const struct pkcs1_pss_params *left, const struct pkcs1_pss_params *right);
+
+/* The same of parameters of RSAES-OAEP. In a source NULL and no parameters aren't alike. */
+bool pkcs1_oaep_means_same(const struct pkcs1_oaep_params *left, const struct pkcs1_oaep_params *right);
 
 /* If the source is pSpecified with an OCTET STRING, sets `label` to its octets, which may be none, and returns true.
  * Another source has no label. Then it returns false, and `label` is unchanged. The octets aren't copied. */

@@ -165,7 +165,8 @@
   @   logic integer write_status(integer kind, value v, integer room);
   @   logic integer written_len(integer kind, value v); logic integer written_octet(integer kind, value v, integer i);
   @   predicate is_hash(value algorithm, octets oid); predicate uses_hash(value hash, value mask_gen, octets oid);
-  @   predicate has_label(value p_source);
+  @   predicate are_same_hash(value left, value right); predicate are_same_pss(value left, value right);
+  @   predicate are_same_oaep(value left, value right); predicate has_label(value p_source);
   @   logic uint8_t *text_of(integer status); logic uint8_t *version_text;
   @ }
   @ // Why a number can't be held, or PKCS1_OK. Then the same of the first one of a key that can't be.
@@ -358,6 +359,20 @@ bool pkcs1_pss_is(const PSS, const struct pkcs1_bytes *hash);
 /*@ requires \valid_read(params); BOTH_USE(params->hash, params->mask_gen, hash); */
 bool pkcs1_oaep_is(const OAEP, const struct pkcs1_bytes *hash);
 
+/* Two structs mean the same, as `so` of their values says. */
+#define MEAN_SAME(is, name, so)                                                                                        \
+    requires \valid_read(left) && is##_##name(*left) && \valid_read(right) && is##_##name(*right);                     \
+    TELLS(so(name##_seen(*left), name##_seen(*right)))
+#define TWO_ALGORITHMS const struct pkcs1_algorithm *left, const struct pkcs1_algorithm *right
+#define TWO_PSS const struct pkcs1_pss_params *left, const struct pkcs1_pss_params *right
+#define TWO_OAEP const struct pkcs1_oaep_params *left, const struct pkcs1_oaep_params *right
+/*@ MEAN_SAME(ok, algorithm, are_same_hash); */ bool pkcs1_c_algorithm_is_same_hash(TWO_ALGORITHMS);
+/*@ MEAN_SAME(given, algorithm, are_same_hash); */ bool pkcs1_algorithm_is_same_hash(TWO_ALGORITHMS);
+/*@ MEAN_SAME(ok, pss, are_same_pss); */ bool pkcs1_c_pss_means_same(TWO_PSS);
+/*@ MEAN_SAME(given, pss, are_same_pss); */ bool pkcs1_pss_means_same(TWO_PSS);
+/*@ MEAN_SAME(ok, oaep, are_same_oaep); */ bool pkcs1_c_oaep_means_same(TWO_OAEP);
+/*@ MEAN_SAME(given, oaep, are_same_oaep); */ bool pkcs1_oaep_means_same(TWO_OAEP);
+
 /* The label of the source `of`, which is in `s`. */
 #define LABELS(is, s, of)                                                                                              \
     requires \valid_read(s) && is##_algorithm(of) && FILLED_##is(bytes, label) && \separated(label, s);                \
@@ -482,6 +497,9 @@ static bool copied_algorithm_is(const struct pkcs1_algorithm *algorithm, const s
 static bool both_copied_use(BOTH, const struct pkcs1_bytes *oid);
 /*@ requires \valid_read(hash) && \valid_read(mask_gen); BOTH_USE(*hash, *mask_gen, oid); */
 static bool both_use(BOTH, const struct pkcs1_bytes *oid);
+/*@ MEAN_SAME(given, algorithm, are_same_hash); */ static bool copied_are_same_hash(TWO_ALGORITHMS);
+/*@ MEAN_SAME(given, pss, are_same_pss); */ static bool copied_pss_mean_same(TWO_PSS);
+/*@ MEAN_SAME(given, oaep, are_same_oaep); */ static bool copied_oaep_mean_same(TWO_OAEP);
 /*@ requires ok_bytes(*label); LABELS(given, source, *source); */
 static bool label_of_copied(const struct pkcs1_algorithm *source, struct pkcs1_bytes *label);
 /*@ ENCODES(given, PSS_PARAMS, params, pss); */ static uint32_t write_copied_pss_params(const PSS, OUT);

@@ -229,15 +229,40 @@ static bool is(octets oid, struct pkcs1_bytes constant) {
     return equal_octets(oid, (octets){constant.data, constant.len});
 }
 
+static bool is_null_or_absent(value algorithm) {
+    return !is_with(algorithm) || (algorithm->parts[1].integer == 5 && algorithm->parts[2].octets.len == 0);
+}
+
 bool is_hash(value algorithm, octets oid) {
-    const struct part *parts = algorithm->parts;
-    return equal_octets(parts[0].octets, oid) &&
-           (!is_with(algorithm) || (parts[1].integer == 5 && parts[2].octets.len == 0));
+    return equal_octets(algorithm->parts[0].octets, oid) && is_null_or_absent(algorithm);
 }
 
 bool uses_hash(value hash, value mask_gen, octets oid) {
     return is_hash(hash, oid) && is(mask_gen->parts[0].octets, pkcs1_oid_mgf1) && is_with(mask_gen) &&
            is_hash(mask_gen->parts[1].value, oid);
+}
+
+bool are_same_hash(value left, value right) {
+    return equal_value(left, right) || (is_null_or_absent(right) && is_hash(left, right->parts[0].octets));
+}
+
+/* The hash functions and the mask generation functions, with which parameters begin, mean the same. */
+static bool begin_alike(value left, value right) {
+    value mask = left->parts[1].value, other = right->parts[1].value;
+    bool same_mask = is_with(mask) && is_with(other)
+        ? equal_octets(mask->parts[0].octets, other->parts[0].octets) &&
+            are_same_hash(mask->parts[1].value, other->parts[1].value)
+        : equal_value(mask, other);
+    return are_same_hash(left->parts[0].value, right->parts[0].value) && same_mask;
+}
+
+bool are_same_pss(value left, value right) {
+    return begin_alike(left, right) && left->parts[2].integer == right->parts[2].integer &&
+           left->parts[3].integer == right->parts[3].integer;
+}
+
+bool are_same_oaep(value left, value right) {
+    return begin_alike(left, right) && equal_value(left->parts[2].value, right->parts[2].value);
 }
 
 bool has_label(value p_source) {

@@ -197,6 +197,16 @@ bool pkcs1_c_uses_hash(const struct pkcs1_algorithm *hash, const struct pkcs1_ma
     return proved_uses_hash(own, own_mask_gen, own_oid);
 }
 
+#define COMPARISON(name, type, FIELDS)                                                          \
+    bool pkcs1_c_##name(const struct pkcs1_##type *left, const struct pkcs1_##type *right) {    \
+        TAKE(own, left, FIELDS);                                                                \
+        TAKE(own_right, right, FIELDS);                                                         \
+        return proved_##name(own, own_right);                                                   \
+    }
+COMPARISON(algorithm_is_same_hash, algorithm, ALGORITHM)
+COMPARISON(pss_means_same, pss_params, PSS)
+COMPARISON(oaep_means_same, oaep_params, OAEP)
+
 bool pkcs1_c_oaep_label(const struct pkcs1_algorithm *source, struct pkcs1_bytes *label) {
     TAKE(own, source, ALGORITHM);
     TAKE(own_label, label, BYTES);

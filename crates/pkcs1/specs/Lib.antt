@@ -11,5 +11,6 @@ pub mod OtherPrimesLeft
 pub mod ViewedKey
 pub mod Held
 pub mod ViewParts
+pub mod RsaEncryption
 pub mod Laws
 pub mod Words

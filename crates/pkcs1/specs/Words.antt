@@ -9,6 +9,7 @@ pub use Rattle.pkcs1.specs.OtherPrimesHeld.{next_prime}
 pub use Rattle.pkcs1.specs.OtherPrimesLeft.{others_left-is}
 unfoldable pub use Rattle.pkcs1.specs.OtherPrimesLeft.{others_left}
 pub use Rattle.pkcs1.specs.Printing.{AnyNumber, AreSome, AreStated, FrontPrints, OtherIsValid, OtherPrints, OthersAreValid, PrivateIsValid, PrivateIsWritten, PrivateSpells, RowIsValid, ThreeAreValid, front_printed, others_printed, primes_printed, private_printed, row_printed, three_printed}
+pub use Rattle.pkcs1.specs.RsaEncryption.{null_only, rsa_only}
 pub use Rattle.pkcs1.specs.StatedKeys.{other_from, other_stated, private_from, private_stated, public_from, public_part, public_stated}
 pub use Rattle.pkcs1.specs.Versions.{IsVersionOf, version_number}
 pub use Rattle.pkcs1.specs.ViewParts.{listed_others, viewed_encodes, viewed_encoding}

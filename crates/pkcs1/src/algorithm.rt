@@ -1,11 +1,17 @@
 //! The algorithm identifier of RSA keys (RFC 8017 A.1).
-ghost use Rattle.std.specs.Prelude.{◌≡◌, refl};
-ghost use Rattle.spki_core.specs.Words.{null_value, algorithm_of, own_octets_of};
+ghost use Rattle.std.specs.Prelude.{◌≡◌, IfOk, bytes_eq, refl};
+ghost use Rattle.der_core.specs.Words.{Answers};
+ghost use Rattle.spki_core.specs.Words.{algorithm_in, null_value, algorithm_of, own_octets_of};
 ghost use Rattle.pkcs1_params.specs.Words.{id_rsa_encryption, with_parameters};
+ghost use Rattle.pkcs1.specs.Words.{rsa_only};
+ghost use Rattle.standard.specs.Statement.{rsa_encryption};
 
-use der_core::NoMemory;
+use der_core::{Error, ErrorKind, NoMemory, Result, Tag};
 use pkcs1_params::with_null;
-use spki_core::{AlgorithmIdentifierRef, AnyRef, AssociatedOid, ObjectIdentifier};
+use spki_core::{
+    AlgorithmIdentifierOf, AlgorithmIdentifierRef, AnyRef, AnyValue, AssociatedOid,
+    IdentifierValue, ObjectIdentifier,
+};
 
 /// The contents octets of the object identifier rsaEncryption, 1.2.840.113549.1.1.1.
 pub const ALGORITHM_OID: &'static [u8] = &[0x2a, 0x86, 0x48, 0x86, 0xf7, 0x0d, 0x01, 0x01, 0x01];
@@ -46,4 +52,42 @@ pub fn algorithm_id() -> AlgorithmIdentifierRef<'static>
     ensures { algorithm_of result ≡ with_parameters id_rsa_encryption null_value }
 {
     with_null::<RsaEncryption, ObjectIdentifier, AnyRef<'static>, NoMemory>(NoMemory)
+}
+
+/// Whether these are the octets of rsaEncryption.
+#[inline(always)]
+fn is_rsa_encryption(octets: &[u8]) -> bool
+    ensures { result ≡ bytes_eq octets.now id_rsa_encryption }
+{
+    match octets {
+        [0x2a, 0x86, 0x48, 0x86, later @ ..] => matches!(later, [0xf7, 0x0d, 0x01, 0x01, 0x01]),
+        _ => false,
+    }
+}
+
+/// Accepts the algorithm identifier of RSA keys alone, as a reader of PKCS #8 or of SubjectPublicKeyInfo does. It must
+/// be rsaEncryption (else `OidUnknown`) with parameters (else `ParametersMissing`) that are NULL (else `Value` of their
+/// tag).
+#[inline(always)]
+pub fn require_rsa_encryption<O: IdentifierValue, P: AnyValue>(
+    algorithm: &AlgorithmIdentifierOf<O, P>,
+) -> Result<()>
+    ensures ok { IfOk result (λ _. algorithm_in O.octets P.any algorithm.now ≡ rsa_encryption) }
+    ensures exact { Answers (λ done. done) result (rsa_only (algorithm_in O.octets P.any algorithm.now)) }
+{
+    let oid = algorithm.oid.as_identifier_view();
+    if !is_rsa_encryption(oid.as_bytes()) {
+        return Err(Error::new(ErrorKind::OidUnknown));
+    }
+    match &algorithm.parameters {
+        Some(parameters) => {
+            let any = parameters.as_any_ref();
+            if any.is_alone(Tag::NULL) {
+                Ok(())
+            } else {
+                Err(Error::new(ErrorKind::Value { tag: any.tag() }))
+            }
+        }
+        None => Err(Error::new(ErrorKind::ParametersMissing)),
+    }
 }

@@ -17,7 +17,7 @@ mod version;
 mod view;
 mod viewed_key;
 
-pub use algorithm::{ALGORITHM_OID, algorithm_id, rsa_encryption_oid};
+pub use algorithm::{ALGORITHM_OID, algorithm_id, require_rsa_encryption, rsa_encryption_oid};
 pub use der_core as der;
 pub use der_core::{Uint, UintRef};
 pub use faults::{fault_of_private_key, fault_of_public_key};

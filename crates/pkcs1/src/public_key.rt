@@ -3,8 +3,9 @@
 ghost use Rattle.pkcs1.specs.Words.{public_row};
 
 use der_core::{
-    BackWriter, Borrowed, Decode, Encode, EncodeInParts, EncodeValue, Encoding, EqualByValue,
-    Length, NoMemory, Record, SequenceTag, TryClone, Uint, UintEncoding, UintRef, Writer, TaggedBy,
+    AsUintRef, BackWriter, Borrowed, Decode, Encode, EncodeInParts, EncodeValue, Encoding,
+    EqualByValue, Length, NoMemory, Record, SequenceTag, TaggedBy, TryClone, Uint, UintEncoding, UintRef,
+    Writer,
 };
 use pkcs1_params::{Error, Result};
 use std::alloc::Global;
@@ -128,14 +129,13 @@ impl<'a> TryFrom<&'a [u8]> for RsaPublicKey<UintRef<'a>> {
     }
 }
 
-impl<U: UintEncoding> RsaPublicKey<U> {
-    ghost use Rattle.std.specs.Prelude.{◌≡◌, ⊤, length, IfErr};
-    ghost use Rattle.der_core.specs.Words.{bytes_of, ok_of};
-    ghost use Rattle.pkcs1.specs.Words.{Refuses, held_public_key};
-    ghost use Rattle.standard.specs.Statement.{Encodes, PublicKeyEncoding};
+impl<U: AsUintRef> RsaPublicKey<U> {
+    ghost use Rattle.std.specs.Prelude.{◌≡◌};
+    ghost use Rattle.der_core.specs.Words.{bytes_of};
+    ghost use Rattle.pkcs1.specs.Words.{held_public_key};
 
-    /// The same key, borrowed.
-    pub(crate) fn as_key_ref(&self) -> RsaPublicKey<UintRef<'_>>
+    /// The same key, borrowed, whatever the type of its numbers.
+    pub fn as_key_ref(&self) -> RsaPublicKeyRef<'_>
         ensures { held_public_key bytes_of result ≡ held_public_key U.number self.now }
     {
         RsaPublicKey {
@@ -143,6 +143,13 @@ impl<U: UintEncoding> RsaPublicKey<U> {
             public_exponent: self.public_exponent.as_uint_ref(),
         }
     }
+}
+
+impl<U: UintEncoding> RsaPublicKey<U> {
+    ghost use Rattle.std.specs.Prelude.{⊤, length, IfErr};
+    ghost use Rattle.der_core.specs.Words.{ok_of};
+    ghost use Rattle.pkcs1.specs.Words.{Refuses, held_public_key};
+    ghost use Rattle.standard.specs.Statement.{Encodes, PublicKeyEncoding};
 
     /// Writes the key's only encoding to the front of a slice and returns its length, as `encode_into` does. Returns
     /// `Overflow` if the encoding is longer than `Length::MAX`, `NoRoom` if it is longer than the slice.

@@ -1,6 +1,6 @@
 //! Algorithm identifiers.
 ghost use Rattle.std.specs.Prelude.{Decides, ◌≡◌, IfOk, IfErr, IsTrue};
-ghost use Rattle.spki_core.specs.Words.{IsHash, TagAndContents, any_of, identifier_octets, null_value, viewed_with};
+ghost use Rattle.spki_core.specs.Words.{AreNullOrAbsent, IsHash, TagAndContents, any_of, identifier_octets, null_value, viewed_with};
 ghost use Rattle.pkcs1_params.specs.Words.{UsesHash, with_parameters};
 ghost use Rattle.pkcs1_c.specs.Words.{kind_number, algorithm_seen, mask_gen_seen, AlgorithmIsTidy, MaskGenIsTidy, OidError, PlainError, MaskError};
 
@@ -167,7 +167,7 @@ fn is_same_otherwise(oid: &[u8], other: &[u8]) -> bool
 /// Whether two identifiers have the same octets. That of SHA-1 has five, and those of the other hash functions have
 /// nine. These are compared in line.
 #[inline(always)]
-fn is_same(oid: &[u8], other: &[u8]) -> bool
+pub(crate) fn is_same(oid: &[u8], other: &[u8]) -> bool
     ensures { Decides result (oid.now ≡ other.now) }
 {
     match oid {
@@ -194,18 +194,21 @@ fn is_same(oid: &[u8], other: &[u8]) -> bool
     }
 }
 
-/// Whether the algorithm is the hash function with this identifier: with NULL or without parameters, which mean the
-/// same (RFC 4055 2.1).
+/// Whether the parameters are NULL or absent, which mean the same of a hash function (RFC 4055 2.1).
+#[inline(always)]
+pub(crate) fn is_null_or_absent(algorithm: &Algorithm<'_>) -> bool
+    ensures { Decides result (AreNullOrAbsent (algorithm_seen algorithm.now).parameters) }
+{
+    !algorithm.has_parameters
+        || (algorithm.tag == Tag::NULL.octet() && algorithm.parameters.is_empty())
+}
+
+/// Whether the algorithm is the hash function with this identifier, with NULL or without parameters.
 #[inline(always)]
 fn is_hash(algorithm: &Algorithm<'_>, oid: &[u8]) -> bool
     ensures { Decides result (IsHash oid.now (algorithm_seen algorithm.now)) }
 {
-    if algorithm.has_parameters {
-        if algorithm.tag != Tag::NULL.octet() || !algorithm.parameters.is_empty() {
-            return false;
-        }
-    }
-    is_same(algorithm.oid, oid)
+    is_null_or_absent(algorithm) && is_same(algorithm.oid, oid)
 }
 
 /// The same, out of line.

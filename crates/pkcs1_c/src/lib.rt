@@ -9,6 +9,7 @@ mod filled;
 mod given_key;
 mod given_number;
 mod given_primes;
+mod meanings;
 mod numbers;
 mod oaep;
 mod oaep_algorithm;
@@ -23,6 +24,9 @@ pub use algorithm::{Algorithm, MaskGen, pkcs1_c_algorithm_is, pkcs1_c_uses_hash}
 pub use bytes::Bytes;
 pub use container::{
     PrivateKeyInfo, pkcs1_c_private_key_info_decode, pkcs1_c_private_key_info_encode,
+};
+pub use meanings::{
+    pkcs1_c_algorithm_is_same_hash, pkcs1_c_oaep_means_same, pkcs1_c_pss_means_same,
 };
 pub use numbers::pkcs1_c_bit_len;
 pub use oaep::{

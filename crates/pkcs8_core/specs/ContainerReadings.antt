@@ -1,12 +1,10 @@
 -- Containers as functions of the bytes (RFC 5208 5): the container, or the RSA key in it, or the kind of the first
 -- fault.
-use Rattle.std.specs.Prelude.{ℕ, List, [], ◌==◌, ◌&&◌, Option, Some, None, Result, Ok, Err, if◌then◌else◌, bytes_eq}
+use Rattle.std.specs.Prelude.{ℕ, List, Option, Result}
 use Rattle.der_core.specs.declared.error.ErrorKind.{ErrorKind}
-use Rattle.der_core.specs.declared.error.ErrorKind.TheVariants as kind
-use Rattle.der_core.specs.Words.{Reading, ◌>>=◌, alone, checked, expected, made, octets_of_all, optional_front, parts, tagged, whole, is_allowed, integer_tag, octet_string_tag, sequence_tag}
+use Rattle.der_core.specs.Words.{Reading, ◌>>=◌, alone, expected, made, octets_of_all, optional_front, parts, tagged, whole, integer_tag, octet_string_tag, sequence_tag}
 use Rattle.spki_core.specs.Words.{Algorithm, TagAndContents, algorithm_read, any_front}
-use Rattle.pkcs1_params.specs.Words.{id_rsa_encryption}
-use Rattle.pkcs1.specs.Words.{rsa_private_key}
+use Rattle.pkcs1.specs.Words.{rsa_only, rsa_private_key}
 use Rattle.pkcs8_core.specs.Container.{Container}
 use Rattle.pkcs8_core.specs.Tags.{attributes_tag}
 use Rattle.standard.specs.Statement.{PrivateKey}
@@ -27,17 +25,6 @@ info_read =
 -- A whole slice, as a container.
 abbrev pub private_key_info : Reading Container
 private_key_info = whole (tagged sequence_tag info_read)
-
--- The algorithm is rsaEncryption with NULL (RFC 8017 A.1).
-abbrev pub null_only : Option TagAndContents → Result (Unit {0}) ErrorKind
-null_only None = Err kind.ParametersMissing
-null_only (Some v) =
-    if v.tag == 5 && bytes_eq v.contents [] then Ok tt
-    else checked (is_allowed v.tag) (λ ok. Err (kind.Value (record { octet = v.tag; allowed = ok })))
-    (Err (kind.TagUnknown v.tag))
-
-abbrev pub rsa_only : Algorithm TagAndContents → Result (Unit {0}) ErrorKind
-rsa_only a = if bytes_eq a.oid id_rsa_encryption then null_only a.parameters else Err kind.OidUnknown
 
 -- The RSA key that these octets of the container encode.
 abbrev pub key_in : Container → Reading PrivateKey

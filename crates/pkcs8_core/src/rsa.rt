@@ -1,61 +1,25 @@
 //! RSA keys in containers.
-ghost use Rattle.std.specs.Prelude.{◌≡◌, IfOk, IfErr, IsOk, None, Some, bytes_eq};
-ghost use Rattle.der_core.specs.Words.{Answers, bytes_of, ok_of};
-ghost use Rattle.spki_core.specs.Words.{algorithm_in, any_of};
+ghost use Rattle.std.specs.Prelude.{◌≡◌, IfOk, IfErr, IsOk, None, Some};
+ghost use Rattle.der_core.specs.Words.{bytes_of, ok_of};
 ghost use Rattle.pkcs1.specs.Words.{MayAllocate, Rejects, held_private_key, held_view, viewed_encoding};
-ghost use Rattle.pkcs1_params.specs.Words.{ErrsAs, ErrsOrAsks, id_rsa_encryption};
-ghost use Rattle.pkcs8_core.specs.Words.{ContainedKey, info_in, rsa_encryption, rsa_held, rsa_only, rsa_private_key_info};
+ghost use Rattle.pkcs1_params.specs.Words.{ErrsAs, ErrsOrAsks};
+ghost use Rattle.pkcs8_core.specs.Words.{ContainedKey, info_in, rsa_encryption, rsa_held, rsa_private_key_info};
 ghost use Rattle.standard.specs.Statement.{ContainedKeyEncoding, Container, ContainerEncoding, Decodes, PrivateKey};
 
 use crate::info::{PrivateKeyInfoOf, PrivateKeyInfoView};
-use pkcs1::der::{Error, ErrorKind, Result, Tag};
-use pkcs1::spki::{AlgorithmIdentifierOf, AnyRef, IdentifierValue, ReadIdentifier};
-use pkcs1::{RsaPrivateKeyRef, RsaPrivateKeyView};
+use pkcs1::spki::ReadIdentifier;
+use pkcs1::{RsaPrivateKeyRef, RsaPrivateKeyView, require_rsa_encryption};
 use std::alloc::Global;
 
-/// Whether these are the octets of rsaEncryption.
-#[inline(always)]
-fn is_rsa_encryption(octets: &[u8]) -> bool
-    ensures { result ≡ bytes_eq octets.now id_rsa_encryption }
-{
-    match octets {
-        [0x2a, 0x86, 0x48, 0x86, later @ ..] => matches!(later, [0xf7, 0x0d, 0x01, 0x01, 0x01]),
-        _ => false,
-    }
-}
-
-/// Rejects each algorithm but rsaEncryption with NULL.
-#[inline(always)]
-fn require_rsa<O: IdentifierValue>(algorithm: &AlgorithmIdentifierOf<O, AnyRef<'_>>) -> Result<()>
-    ensures ok { IfOk result (λ _. algorithm_in O.octets any_of algorithm.now ≡ rsa_encryption) }
-    ensures exact { Answers (λ done. done) result (rsa_only (algorithm_in O.octets any_of algorithm.now)) }
-{
-    let oid = algorithm.oid.as_identifier_view();
-    if !is_rsa_encryption(oid.as_bytes()) {
-        return Err(Error::new(ErrorKind::OidUnknown));
-    }
-    match algorithm.parameters {
-        Some(any) => {
-            if any.is_alone(Tag::NULL) {
-                Ok(())
-            } else {
-                Err(Error::new(ErrorKind::Value { tag: any.tag() }))
-            }
-        }
-        None => Err(Error::new(ErrorKind::ParametersMissing)),
-    }
-}
-
 impl<'a, O: ReadIdentifier<'a>> PrivateKeyInfoOf<'a, O> {
-    /// Decodes the RSA key, and allocates nothing. The algorithm must be rsaEncryption (else `OidUnknown`) with
-    /// parameters (else `ParametersMissing`) that are NULL (else `Value` of their tag).
+    /// Decodes the RSA key, and allocates nothing. The errors of the algorithm are those of `require_rsa_encryption`.
     pub fn rsa_view(&self) -> pkcs1::Result<RsaPrivateKeyView<'a>>
         ensures read { let c = info_in O.octets self.now in
             Decodes (ContainedKey c) c.private_key (ok_of held_view result) }
         ensures bytes { IfOk result (λ view. viewed_encoding view ≡ (info_in O.octets self.now).private_key) }
         ensures exact { ErrsAs held_view (rsa_held (info_in O.octets self.now)) result }
     {
-        require_rsa(&self.algorithm)?;
+        require_rsa_encryption(&self.algorithm)?;
         RsaPrivateKeyView::try_from(self.private_key.as_bytes())
     }
 
@@ -73,7 +37,7 @@ impl<'a, O: ReadIdentifier<'a>> PrivateKeyInfoOf<'a, O> {
         ensures two_primes { let c = info_in O.octets self.now in (key : PrivateKey)
             → key.other_primes ≡ None → ContainedKey c key c.private_key → IsOk result }
     {
-        require_rsa(&self.algorithm)?;
+        require_rsa_encryption(&self.algorithm)?;
         RsaPrivateKeyRef::decode_key(alloc, self.private_key.as_bytes())
     }
 }

@@ -3,8 +3,9 @@
 //! read the row of parts that `Record` names. `traits.rt` has the calls for owned keys.
 
 use crate::proved::der_core::{
-    BackWriter, Borrowed, Decode, Encode, EncodeInParts, EncodeValue, Encoding, EqualByValue,
-    Length, NoMemory, Record, SequenceTag, TryClone, Uint, UintEncoding, UintRef, Writer,
+    AsUintRef, BackWriter, Borrowed, Decode, Encode, EncodeInParts, EncodeValue, Encoding,
+    EqualByValue, Length, NoMemory, Record, SequenceTag, TryClone, Uint, UintEncoding, UintRef,
+    Writer,
 };
 use crate::proved::pkcs1_params::{Error, Result};
 use crate::rattle_std::alloc::Global;
@@ -98,15 +99,17 @@ impl<'a> TryFrom<&'a [u8]> for RsaPublicKey<UintRef<'a>> {
     }
 }
 
-impl<U: UintEncoding> RsaPublicKey<U> {
-    /// The same key, borrowed.
-    pub(crate) fn as_key_ref(&self) -> RsaPublicKey<UintRef<'_>> {
+impl<U: AsUintRef> RsaPublicKey<U> {
+    /// The same key, borrowed, whatever the type of its numbers.
+    pub fn as_key_ref(&self) -> RsaPublicKeyRef<'_> {
         RsaPublicKey {
             modulus: self.modulus.as_uint_ref(),
             public_exponent: self.public_exponent.as_uint_ref(),
         }
     }
+}
 
+impl<U: UintEncoding> RsaPublicKey<U> {
     /// Writes the key's only encoding to the front of a slice and returns its length, as `encode_into` does. Returns
     /// `Overflow` if the encoding is longer than `Length::MAX`, `NoRoom` if it is longer than the slice.
     pub fn encode_key(&self, out: &mut [u8]) -> Result<usize> {

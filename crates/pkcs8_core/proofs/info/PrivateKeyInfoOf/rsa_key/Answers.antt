@@ -11,7 +11,7 @@ pub returns-clause-ok : goal.returns-clause-ok
 returns-clause-ok g c =
     let info = info_in g.O.IdentifierValue.octets c.args.self.now in
     let told = asked_held (held_private_key bytes_of) info c.as_bytes.result.now c.as_bytes.ensures.octets
-    c.in_ok-require_rsa.ensures.ok c.decode_key.result c.decode_key.ensures.exact in
+    c.in_ok-require_rsa_encryption.ensures.ok c.decode_key.result c.decode_key.ensures.exact in
     held_ok (held_private_key bytes_of) info (are_bytes info.private_key c.args.self.now.private_key.octets) _
     c.decode_key.result told
 
@@ -19,12 +19,12 @@ pub returns-clause-err : goal.returns-clause-err
 returns-clause-err g c =
     let info = info_in g.O.IdentifierValue.octets c.args.self.now in
     let told = asked_held (held_private_key bytes_of) info c.as_bytes.result.now c.as_bytes.ensures.octets
-    c.in_ok-require_rsa.ensures.ok c.decode_key.result c.decode_key.ensures.exact in
+    c.in_ok-require_rsa_encryption.ensures.ok c.decode_key.result c.decode_key.ensures.exact in
     held_err (held_private_key bytes_of) info (are_bytes info.private_key c.args.self.now.private_key.octets) _
     c.decode_key.result told
 
-pub returns-in_err-require_rsa-clause-err : goal.returns-in_err-require_rsa-clause-err
-returns-in_err-require_rsa-clause-err g c =
+pub returns-in_err-require_rsa_encryption-clause-err : goal.returns-in_err-require_rsa_encryption-clause-err
+returns-in_err-require_rsa_encryption-clause-err g c =
     let info = info_in g.O.IdentifierValue.octets c.args.self.now in
     let asked : Type 0 = (info.algorithm ≡ rsa_encryption) × MayAllocate info.private_key in
     let told : ErrsOrAsks (held_private_key bytes_of) (rsa_held info) asked c.from_residual.result = search rules in

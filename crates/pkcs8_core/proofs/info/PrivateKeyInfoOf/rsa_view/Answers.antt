@@ -11,14 +11,14 @@ pub returns-clause-read : goal.returns-clause-read
 returns-clause-read g c =
     let info = info_in g.O.IdentifierValue.octets c.args.self.now in
     let told = subst (λ given. ErrsAs held_view given c.try_from.result)
-    (sym (read_held info c.as_bytes.result.now c.as_bytes.ensures.octets c.in_ok-require_rsa.ensures.ok))
+    (sym (read_held info c.as_bytes.result.now c.as_bytes.ensures.octets c.in_ok-require_rsa_encryption.ensures.ok))
     c.try_from.ensures.exact in
     errs_decode (ContainedKey info) info.private_key held_view (rsa_held info)
     (contained_decode info info.private_key (are_bytes info.private_key c.args.self.now.private_key.octets))
     c.try_from.result told
 
-pub returns-in_err-require_rsa-clause-read : goal.returns-in_err-require_rsa-clause-read
-returns-in_err-require_rsa-clause-read g c =
+pub returns-in_err-require_rsa_encryption-clause-read : goal.returns-in_err-require_rsa_encryption-clause-read
+returns-in_err-require_rsa_encryption-clause-read g c =
     let info = info_in g.O.IdentifierValue.octets c.args.self.now in
     let told : ErrsAs held_view (rsa_held info) c.from_residual.result = search rules in
     errs_decode (ContainedKey info) info.private_key held_view (rsa_held info)
