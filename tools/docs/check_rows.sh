@@ -14,11 +14,11 @@ text = open("crates/pkcs8_core/proofs/ReadingsRows.antt", encoding="utf-8").read
 rows = [it.split(" = ", 1) for it in open("crates/pkcs1_vectors/stdin", encoding="utf-8") if " = " in it]
 outcome = {asked: answer.strip() for asked, answer in rows}
 count, wrong = 0, []
-for how, read, body in re.findall(r": (Mean|AreRejected) (.*?) \(\n(.*?)\n    \)\n", text, re.S):
+for how, read, body in re.findall(r": (RowsMean|RowsAreRejected) (.*?) \(\n(.*?)\n    \)\n", text, re.S):
     for digits, said in re.findall(r'codes\s+"([0-9a-f]*)",\s*(\w*)', body):
         asked = f"{WORDS[read]} {digits or '-'}"
         printed = re.sub(r"0x..", "0x..", outcome.get(f"kind {said}", said))
-        wanted = "(?!refused: ).+" if how == "Mean" else f"(.*; )?refused: {printed}"
+        wanted = "(?!refused: ).+" if how == "RowsMean" else f"(.*; )?refused: {printed}"
         if not re.fullmatch(wanted, outcome.get(asked, "")):
             wrong.append(f"{asked}: {said} there, here {outcome.get(asked)}")
         count += 1

@@ -1,7 +1,7 @@
 -- Documents, read and made: for `from_der`, `read_from` and `encode_msg` of `src/document.rt`.
 use Rattle.std.proofs.Common.{ℕ, List, ◌∷◌, ◌≡◌, ◌≤◌, length, take, ◌++◌, ◌∙◌, arith, refl, sym, subst, ap, ⊎_elim, Option, Err, [], map, Ok}
 use Rattle.std.proofs.Math.Seq.{take-append_seam}
-use Rattle.der_core.specs.Words.{AreBytes, Tlv, tlv, length_octets, limit, WithinLimit, IsDocument, GivesNone, Prints, read_document, GivesAll, NoValueOrMemory, AllocatesIn, TellsOfBytes, ErrorKind, length_octets-only, tlv_made, back_bytes, header_at, length_at, null_tag, sequence_tag}
+use Rattle.der_core.specs.Words.{AreBytes, Tlv, tlv, length_octets, limit, WithinLimit, IsDocument, GivesNone, Prints, read_document, GivesAll, NoValueOrMemory, AllocatesAtFront, TellsOfBytes, ErrorKind, length_octets-only, tlv_made, back_bytes, header_at, length_at, null_tag, sequence_tag}
 use Rattle.der_core.specs.declared.error.ErrorKind.TheVariants.{Incomplete, TagUnexpected, TrailingData}
 
 -- A document is one SEQUENCE of octets, as it is printed.
@@ -27,7 +27,7 @@ means_document b v (few, (o, e, bytes, is)) =
 
 -- Reading a SEQUENCE asks for no memory, so an error says that the bytes are no document.
 pub no_document : (e : ErrorKind) (b : List ℕ)
-    → NoValueOrMemory e (AllocatesIn (Tlv 48 (λ _. ⊥)) b) ((v : Unit {0}) → WithinLimit DocumentPrints v b → ⊥)
+    → NoValueOrMemory e (AllocatesAtFront (Tlv 48 (λ _. ⊥)) b) ((v : Unit {0}) → WithinLimit DocumentPrints v b → ⊥)
     → TellsOfBytes e × (IsDocument b → ⊥)
 no_document e b r = ⊎_elim (λ w. absurd w.1.3.holds) (λ w. (w.0, λ p. w.1 tt (document_means b p tt))) r
 

@@ -27,19 +27,19 @@ module _ {M : Type 1} {𝓤 : Ura M} (𝓛 : Logic 𝓤) where
       t.0.1) (((λ w. w), ys), (λ w. tt), p) $ done !
 
 -- An encoding was written over xs, which gave ys, and r is its length, or why it wasn't.
-abbrev pub Wrote : {E : Type 0} → List ℕ → List ℕ → List ℕ → Result ℕ E → Type 0
-Wrote encoding xs ys r = IfOk r (λ n. (n ≡ length encoding) × (ys ≡ encoding ++ drop n xs))
+abbrev pub WroteOver : {E : Type 0} → List ℕ → List ℕ → List ℕ → Result ℕ E → Type 0
+WroteOver encoding xs ys r = IfOk r (λ n. (n ≡ length encoding) × (ys ≡ encoding ++ drop n xs))
 
 module _ {E : Type 0} (encoding xs ys : List ℕ) where
   -- The length that is returned is no more than the slice's.
-  pub written_fits : (r : Result ℕ E) → Wrote encoding xs ys r → IfOk r (λ n. n ≤ length ys)
+  pub written_fits : (r : Result ℕ E) → WroteOver encoding xs ys r → IfOk r (λ n. n ≤ length ys)
   written_fits (Ok n) w =
       let l : length ys ≡ length (encoding ++ drop n xs) =
       ap length w.1 in let k = length-append encoding (drop n xs) in let e = w.0 in omega arith
   written_fits (Err e) w = tt
 
   -- After Ok the encoding stands in front of the rest. After an error all is as it was.
-  pub leaves_rest : (r : Result ℕ E) (t : Result (Bor (List ℕ)) E) → Wrote encoding xs ys r → OnErr r (ys ≡ xs)
+  pub leaves_rest : (r : Result ℕ E) (t : Result (Bor (List ℕ)) E) → WroteOver encoding xs ys r → OnErr r (ys ≡ xs)
       → IsFront ys r t
       → MatchResult t (λ _. ys ≡ encoding ++ drop (length encoding) xs) (λ _. ys ≡ xs)
   leaves_rest (Ok n) (Ok front) w k a = rw w.0 at w.1
@@ -48,15 +48,15 @@ module _ {E : Type 0} (encoding xs ys : List ℕ) where
   leaves_rest (Err e) (Err e') w k a = k
 
   -- What holds of the encoding, if something does after Ok, holds of the front that is answered.
-  pub front_holds : (H : Type 0) (P : List ℕ → Type 0) → (H → P encoding)
+  pub front_has_encoding_property : (H : Type 0) (P : List ℕ → Type 0) → (H → P encoding)
       → (r : Result ℕ E) (t : Result (Bor (List ℕ)) E)
-      → Wrote encoding xs ys r → OnOk r H → IsFront ys r t → IfOk t (λ front. P front.now)
-  front_holds H P f (Ok n) (Ok front) w h a =
+      → WroteOver encoding xs ys r → OnOk r H → IsFront ys r t → IfOk t (λ front. P front.now)
+  front_has_encoding_property H P f (Ok n) (Ok front) w h a =
       let seam =
       take-append_seam encoding (drop n xs) in subst P (sym (a ∙ ap (λ l. take n l) w.1 ∙ (rw (sym w.0) at seam))) (f h)
-  front_holds H P f (Ok n) (Err e) w h a = absurd a
-  front_holds H P f (Err e) (Ok front) w h a = absurd a
-  front_holds H P f (Err e) (Err e') w h a = tt
+  front_has_encoding_property H P f (Ok n) (Err e) w h a = absurd a
+  front_has_encoding_property H P f (Err e) (Ok front) w h a = absurd a
+  front_has_encoding_property H P f (Err e) (Err e') w h a = tt
 
   -- The front is no longer than the slice was.
   pub front_within : length ys ≡ length xs → (r : Result ℕ E) (t : Result (Bor (List ℕ)) E) → IsFront ys r t

@@ -1,7 +1,7 @@
 -- Length octets: which they are, worked rows, and how lengths and headers are read. For `src/length.rt` and
 -- `src/header.rt`.
 use Rattle.std.proofs.Common.{◌/◌, ◌%◌, ℕ, [], ◌∷◌, ◌≡◌, ◌<◌, ◌≤◌, refl, sym, arith, List, map, Ok, Err, ◌++◌, inr, ap, ◌∙◌, Result, Some, None}
-use Rattle.der_core.specs.Words.{IsLength, long, length_octets, length_octets-only, length_octets-short, length_at, ErrorKind, AreBytes, LengthEncoding, HeaderEncoding, ReadsEncoding, TellsOfBytes, Error, Input, left_in, Reads, header_at, length_at-sound, length_at-complete, header_at-complete, length_at-tells, header_at-tells, header_sound}
+use Rattle.der_core.specs.Words.{IsLength, long, length_octets, length_octets-only, length_octets-short, length_at, ErrorKind, AreBytes, LengthEncoding, HeaderEncoding, ReadsEncoding, TellsOfBytes, Error, Input, left_in, ReadsOrFails, header_at, length_at-sound, length_at-complete, header_at-complete, length_at-tells, header_at-tells, header_sound}
 use Rattle.der_core.specs.declared.error.ErrorKind.TheVariants.{Incomplete, IndefiniteLength, Overflow, Overlength}
 
 -- The length octets of the lengths below 2 ^ 32.
@@ -102,7 +102,7 @@ module _ {Y : Type 0} (f : List ℕ → Result (Y × List ℕ) ErrorKind) (encod
     (complete : (y : Y) (b rest : List ℕ) → encoding y b → f (b ++ rest) ≡ Ok (y, rest))
     (tells : (i : List ℕ) (k : ErrorKind) → f i ≡ Err k → TellsOfBytes k) where
   pub exact_reads : {X : Type 0} (view : X → Y) (r : Result X Error) (before after : Input) → AreBytes (left_in before)
-      → Reads view r before after f → ReadsEncoding view encoding (λ _. ⊥) r before after
+      → ReadsOrFails view r before after f → ReadsEncoding view encoding (λ _. ⊥) r before after
   exact_reads view (Ok x) None after bytes h = let no = h.1 in cc
   exact_reads view (Ok x) (Some i) after bytes h =
       let p = sound i h.0 (view x) bytes h.1 in
@@ -127,7 +127,7 @@ length_sound i rest n bytes e = let p = length_at-sound i rest n bytes e in (p.0
 
 -- A call that returns a length.
 pub length_reads : {X : Type 0} (view : X → ℕ) (r : Result X Error) (before after : Input) → AreBytes (left_in before)
-    → Reads view r before after length_at → ReadsEncoding view LengthEncoding (λ _. ⊥) r before after
+    → ReadsOrFails view r before after length_at → ReadsEncoding view LengthEncoding (λ _. ⊥) r before after
 length_reads =
     exact_reads length_at LengthEncoding length_sound (λ n b rest t. length_at-complete n b rest t.1 t.0)
     length_at-tells
@@ -137,6 +137,6 @@ header_complete h b rest t = rw t.3 (header_at-complete h.0 h.1 t.1 rest t.0 t.2
 
 -- A call that returns a header.
 pub header_reads : {X : Type 0} (view : X → ℕ × ℕ) (r : Result X Error) (before after : Input)
-    → AreBytes (left_in before) → Reads view r before after header_at
+    → AreBytes (left_in before) → ReadsOrFails view r before after header_at
     → ReadsEncoding view HeaderEncoding (λ _. ⊥) r before after
 header_reads = exact_reads header_at HeaderEncoding header_sound header_complete header_at-tells

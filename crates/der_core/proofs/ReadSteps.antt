@@ -1,6 +1,6 @@
 -- Reading with `?`: each step of the code is one lemma. For readers of this crate, and of those above.
 use Rattle.std.proofs.Common.{ℕ, Bool, true, false, List, [], ◌∷◌, ◌++◌, ◌≡◌, ◌≢◌, ◌≤◌, ◌==◌, length, take, drop, refl, sym, ap, ◌∙◌, arith, inl, inr, ⊎_elim, append_assoc, length-take, append-nil, take_all, Result, Ok, Err, Some, None, take-append-drop, nat_lt, not, eqb, if◌then◌else◌, IfOk, IfErr}
-use Rattle.der_core.specs.Words.{nat_tests, Error, ErrorKind, Tag, WithinLimit, AreBytes, Input, left_in, read_from, header_at, inner_of, end_of, front_of, small_of, header_at-sound, ok_pair, cond_cases, limit, AllocatesInParts, ReadsPrinted, AllocatesIn, Asks, FaultOrMemory, Returns, ReadsAll, Reading, FrontReading, ◌>>=◌, chain, ended, expected, front_parts, parts, such, alone, tagged, contents_behind, inside, whole, ReadsContents, ReadsFronts, integer_tag, Tlv}
+use Rattle.der_core.specs.Words.{nat_tests, Error, ErrorKind, Tag, WithinLimit, AreBytes, Input, left_in, read_from, header_at, inner_of, end_of, front_of, small_of, header_at-sound, ok_pair, cond_cases, limit, AllocatesInParts, ReadsPrinted, AllocatesAtFront, InputAllocates, FaultOrMemory, Returns, ReadsAll, Reading, FrontReading, ◌>>=◌, chain, ended, expected, front_parts, parts, such, alone, tagged, contents_behind, inside, whole, ReadsContents, ReadsFronts, integer_tag, Tlv}
 use Rattle.der_core.specs.declared.error.ErrorKind.TheVariants.{OutOfMemory, TagUnexpected, Value}
 use Rattle.der_core.proofs.Readings.{contents_behind_other_tag}
 
@@ -8,32 +8,34 @@ pub input_injective : (a b : List ℕ) (e : ◌≡◌ {A = Input} (Some a) (Some
 input_injective a b e = cc
 
 -- What a call ensures of an error, and of a value with what is left.
-abbrev pub Fails : {R : Type 0} → Reading R → (List ℕ → Type 0) → ErrorKind → Input → Input → Type 0
-Fails read asked e before after = (after ≡ None) × FaultOrMemory e (Asks asked before) (read_from before read ≡ Err e)
+abbrev pub ReadingFails : {R : Type 0} → Reading R → (List ℕ → Type 0) → ErrorKind → Input → Input → Type 0
+ReadingFails read asked e before after = (after ≡ None)
+    × FaultOrMemory e (InputAllocates asked before) (read_from before read ≡ Err e)
 
-abbrev pub Gives : {V : Type 0} → FrontReading V → V → Input → Input → Type 0
-Gives at v before after = (rest : List ℕ) × (read_from before at ≡ Ok (v, rest)) × (after ≡ Some rest)
+abbrev pub ReadingGives : {V : Type 0} → FrontReading V → V → Input → Input → Type 0
+ReadingGives at v before after = (rest : List ℕ) × (read_from before at ≡ Ok (v, rest)) × (after ≡ Some rest)
 
 -- A function with the same faults, of contents that may ask for memory wherever the first ones may.
-pub failure_carried : {A B : Type 0} (read : Reading A) (other : Reading B)
+pub failure_of_same_faults : {A B : Type 0} (read : Reading A) (other : Reading B)
     → ((k : ErrorKind) (c : List ℕ) → read c ≡ Err k → other c ≡ Err k) → (asked more : List ℕ → Type 0)
-    → ((c : List ℕ) → asked c → more c) → (e : ErrorKind) (before after : Input) → Fails read asked e before after
-    → Fails other more e before after
-failure_carried read other errs asked more to e None after (failed, inl w) = (failed, inl w)
-failure_carried read other errs asked more to e (Some c) after (failed, inl w) = (failed, inl (w.0, to c w.1))
-failure_carried read other errs asked more to e None after (failed, inr p) = (failed, inr (let q = p in cc))
-failure_carried read other errs asked more to e (Some c) after (failed, inr p) = (failed, inr (errs e c p))
+    → ((c : List ℕ) → asked c → more c) → (e : ErrorKind) (before after : Input)
+    → ReadingFails read asked e before after
+    → ReadingFails other more e before after
+failure_of_same_faults read other errs asked more to e None after (failed, inl w) = (failed, inl w)
+failure_of_same_faults read other errs asked more to e (Some c) after (failed, inl w) = (failed, inl (w.0, to c w.1))
+failure_of_same_faults read other errs asked more to e None after (failed, inr p) = (failed, inr (let q = p in cc))
+failure_of_same_faults read other errs asked more to e (Some c) after (failed, inr p) = (failed, inr (errs e c p))
 
 -- Contents may ask for memory that were read.
 pub asks_read : {S : Type 0} {valid : S → Type 0} {printed : S → List ℕ} {read : Reading S}
     → ReadsPrinted valid printed read → (s : S) (before : Input) → AreBytes (left_in before)
-    → read_from before read ≡ Ok s → Asks (λ c. (t : S) × (c ≡ printed t)) before
+    → read_from before read ≡ Ok s → InputAllocates (λ c. (t : S) × (c ≡ printed t)) before
 asks_read law s None bytes p = cc
 asks_read law s (Some c) bytes p = (s, (law.gives c s bytes p).1)
 
 -- Behind a first part, what the chain gives is what follows it.
 pub chain_read_from : {A B : Type 0} (at : FrontReading A) (behind : A → Reading B) (x : A) (before mid : Input)
-    → Gives at x before mid → read_from before (chain at behind) ≡ read_from mid (behind x)
+    → ReadingGives at x before mid → read_from before (chain at behind) ≡ read_from mid (behind x)
 chain_read_from at behind x None mid (rest, p, is) = let never = p in cc
 chain_read_from at behind x (Some i) mid (rest, p, is) = ap (λ r. r >>= λ q. behind q.0 q.1) p ∙ (rw is refl)
 
@@ -64,8 +66,8 @@ row_read_as row read a b to (Some c) p = to c p
 -- A row at the front, of which what follows the first part has a fault.
 pub row_fails : {A B : Type 0} {First : A → List ℕ → Type 0} {at : FrontReading A} → ReadsFronts First at
     → (row : FrontReading B) (first rest : List ℕ → Type 0) (a : A) (e : ErrorKind) (before mid after : Input)
-    → AreBytes (left_in before) → Gives at a before mid → Fails row rest e mid after
-    → Fails (front_parts at row) (AllocatesInParts First first rest) e before after
+    → AreBytes (left_in before) → ReadingGives at a before mid → ReadingFails row rest e mid after
+    → ReadingFails (front_parts at row) (AllocatesInParts First first rest) e before after
 row_fails law row first rest a e None mid after bytes (left, p, is) fails = let no = p in cc
 row_fails law row first rest a e (Some i) mid after bytes (left, p, is) (failed, inl w) =
     let s = law.gives i left a bytes p in (failed, inl (w.0, inr (a, (s.0, left, s.2, rw is at w.1, s.1))))
@@ -80,8 +82,8 @@ row_fails law row first rest a e (Some i) mid after bytes (left, p, is) (failed,
 pub parts_fail : {A B : Type 0} {First : A → List ℕ → Type 0} {at : FrontReading A}
     → ((i rest : List ℕ) (a : A) → AreBytes i → at i ≡ Ok (a, rest) → (b : List ℕ) × (i ≡ b ++ rest) × First a b)
     → (rest : Reading B) (first later : List ℕ → Type 0) (a : A) (e : ErrorKind) (before mid after : Input)
-    → AreBytes (left_in before) → Gives at a before mid → Fails rest later e mid after
-    → Fails (parts at rest) (AllocatesInParts First first later) e before after
+    → AreBytes (left_in before) → ReadingGives at a before mid → ReadingFails rest later e mid after
+    → ReadingFails (parts at rest) (AllocatesInParts First first later) e before after
 parts_fail gives rest first later a e None mid after bytes (left, p, is) fails = let no = p in cc
 parts_fail gives rest first later a e (Some i) mid after bytes (left, p, is) (failed, inl w) =
     let s = gives i left a bytes p in (failed, inl (w.0, inr (a, (s.0, left, s.2, rw is at w.1, s.1))))
@@ -93,20 +95,20 @@ parts_fail gives rest first later a e (Some i) mid after bytes (left, p, is) (fa
 
 -- What was read at the front, by the grammar, and that memory may be asked for it. A fault, where none is asked for.
 module _ {V : Type 0} {encoding : V → List ℕ → Type 0} {at : FrontReading V} (law : ReadsFronts encoding at) where
-  pub front_gives : (x : V) (before after : Input) → AreBytes (left_in before) → Gives at x before after
+  pub front_gives : (x : V) (before after : Input) → AreBytes (left_in before) → ReadingGives at x before after
       → (b : List ℕ) × (rest : List ℕ) × (before ≡ Some (b ++ rest)) × (after ≡ Some rest) × encoding x b
   front_gives x None after bytes (rest, p, is) = let no = p in cc
   front_gives x (Some i) after bytes (rest, p, is) =
       let s = law.gives i rest x bytes p in (s.0, rest, ap (λ l. Some l) s.1, is, s.2)
 
-  pub front_asks : (x : V) (before after : Input) → AreBytes (left_in before) → Gives at x before after
-      → Asks (AllocatesIn (λ b. (v : V) × encoding v b)) before
+  pub front_asks : (x : V) (before after : Input) → AreBytes (left_in before) → ReadingGives at x before after
+      → InputAllocates (AllocatesAtFront (λ b. (v : V) × encoding v b)) before
   front_asks x None after bytes (rest, p, is) = let no = p in cc
   front_asks x (Some i) after bytes (rest, p, is) =
       let s = law.gives i rest x bytes p in (s.0, rest, s.1, (x, s.2))
 
 pub front_errs : {V : Type 0} (at : FrontReading V) (e : ErrorKind) (before : Input) (b : List ℕ) → before ≡ Some b
-    → FaultOrMemory e (Asks (AllocatesIn (λ _. ⊥)) before) (read_from before at ≡ Err e) → at b ≡ Err e
+    → FaultOrMemory e (InputAllocates (AllocatesAtFront (λ _. ⊥)) before) (read_from before at ≡ Err e) → at b ≡ Err e
 front_errs at e None b is faulty = let no = is in cc
 front_errs at e (Some i) b is (inl w) = absurd w.1.3
 front_errs at e (Some i) b is (inr p) = ap at (sym (input_injective i b is)) ∙ p
@@ -126,7 +128,7 @@ front_of_all (Some l) r c rest n is len e =
 pub copy_returns : {X V : Type 0} (value : X → V) (encoding : V → List ℕ → Type 0) (given : Result V ErrorKind)
     (b : List ℕ) (v : V) → WithinLimit encoding v b → given ≡ Ok v → (r : Result X Error) → IfOk r (λ x. value x ≡ v)
     → IfErr r (λ e. e.kind ≡ OutOfMemory)
-    → Returns value given (AllocatesIn (λ c. (w : V) × encoding w c) b) r
+    → Returns value given (AllocatesAtFront (λ c. (w : V) × encoding w c) b) r
 copy_returns value encoding given b v means is (Ok x) same memory = is ∙ ap (λ w. Ok w) (sym same)
 copy_returns value encoding given b v means is (Err e) same memory =
     inl (memory, (b, [], sym (append-nil b), (v, means.1)))
@@ -164,8 +166,8 @@ inner_of_splits n left rest inner is =
 module _ {V : Type 0} (tag : Tag) (read : Reading V) (may : List ℕ → Type 0) where
   -- the tag is another one
   pub tag_fails : {n : ℕ} (before mid after : Input) (e : ErrorKind) (actual : Tag)
-      → Gives header_at (actual.octet, n) before mid → actual.octet ≢ tag.octet → e ≡ TagUnexpected tag actual
-      → after ≡ None → Fails (tagged tag read) (AllocatesIn (Tlv tag.octet may)) e before after
+      → ReadingGives header_at (actual.octet, n) before mid → actual.octet ≢ tag.octet → e ≡ TagUnexpected tag actual
+      → after ≡ None → ReadingFails (tagged tag read) (AllocatesAtFront (Tlv tag.octet may)) e before after
   tag_fails None mid after e actual (rest, p, is) ne kind failed = let no = p in cc
   tag_fails {n} (Some i) mid after e actual (rest, p, is) ne kind failed = (
     failed,
@@ -176,7 +178,7 @@ module _ {V : Type 0} (tag : Tag) (read : Reading V) (may : List ℕ → Type 0)
 
   -- the encoding whose contents ask for memory
   front_of_tlv : (i left : List ℕ) (n : ℕ) → AreBytes i → header_at i ≡ Ok ((tag.octet, n), left)
-      → nat_lt (length left) n ≡ false → may (take n left) → AllocatesIn (Tlv tag.octet may) i
+      → nat_lt (length left) n ≡ false → may (take n left) → AllocatesAtFront (Tlv tag.octet may) i
   front_of_tlv i left n bytes p room asks =
       let head = header_at-sound i left tag.octet n bytes p in
       let c = take n left in
@@ -193,9 +195,9 @@ module _ {V : Type 0} (tag : Tag) (read : Reading V) (may : List ℕ → Type 0)
 
   -- the contents have a fault
   pub value_fails : (before mid inner mid2 ended after : Input) (e : ErrorKind) (t n : ℕ) → AreBytes (left_in before)
-      → Gives header_at (t, n) before mid → t ≡ tag.octet → Gives (inner_of n) inner mid mid2
-      → Fails read may e inner ended → after ≡ None
-      → Fails (tagged tag read) (AllocatesIn (Tlv tag.octet may)) e before after
+      → ReadingGives header_at (t, n) before mid → t ≡ tag.octet → ReadingGives (inner_of n) inner mid mid2
+      → ReadingFails read may e inner ended → after ≡ None
+      → ReadingFails (tagged tag read) (AllocatesAtFront (Tlv tag.octet may)) e before after
   value_fails None mid inner mid2 ended after e t n bytes (left, p, is) same (rest, q, are) fails failed =
       let no = p in cc
   value_fails (Some i) mid inner mid2 ended after e t n bytes (left, p, is) same (rest, q, are) fails failed =
@@ -220,14 +222,14 @@ ended_fails v [] p = cc
 ended_fails v (x ∷ xs) p = let q = p in cc
 
 pub alone_fails : {V : Type 0} (at : FrontReading V) (asked : List ℕ → Type 0) (before mid after : Input)
-    (e : ErrorKind) (v : V) → Gives at v before mid → read_from mid end_of ≡ Err e → after ≡ None
-    → Fails (alone at) asked e before after
+    (e : ErrorKind) (v : V) → ReadingGives at v before mid → read_from mid end_of ≡ Err e → after ≡ None
+    → ReadingFails (alone at) asked e before after
 alone_fails at asked None mid after e v (rest, p, is) ends failed = let no = p in cc
 alone_fails at asked (Some i) mid after e v (rest, p, is) ends failed =
     (failed, inr (ap (λ r. r >>= λ p. ended p.0 p.1) p ∙ ended_fails v rest (rw is at ends)))
 
 pub whole_trailing : {V : Type 0} (at : FrontReading V) (before mid : Input) (b : List ℕ) (e : ErrorKind) (v : V)
-    → before ≡ Some b → length (left_in before) ≤ limit → Gives at v before mid → read_from mid end_of ≡ Err e
+    → before ≡ Some b → length (left_in before) ≤ limit → ReadingGives at v before mid → read_from mid end_of ≡ Err e
     → whole at b ≡ Err e
 whole_trailing at before mid b e v is within (rest, p, left) ends =
     let few : length b ≤ limit = rw is at within in
@@ -243,7 +245,7 @@ module _ {X V : Type 0} (value : X → V) {encoding : V → List ℕ → Type 0}
 
   -- What a call returned.
   pub whole_returned_reads_all : (may : List ℕ → Type 0) (r : Result X Error) → AreBytes b
-      → Returns value (whole at b) (AllocatesIn may b) r → ReadsAll value encoding may r b
+      → Returns value (whole at b) (AllocatesAtFront may b) r → ReadsAll value encoding may r b
   whole_returned_reads_all may (Ok x) bytes p =
       (law.gives b (value x) bytes p, λ w m. let same : Ok w ≡ Ok (value x) = sym (law.takes b w m.0 m) ∙ p in cc)
   whole_returned_reads_all may (Err e) bytes (inl w) = inl w

@@ -1,7 +1,7 @@
 -- Why values aren't written, what writing one part after another leaves, and lengths. For each call that writes or
 -- counts, also of the crates above.
 use Rattle.std.proofs.Common.{ℕ, Bool, List, ◌<◌, ◌≤◌, length, subst, ap, ◌∙◌, arith, inl, inr, Result, Ok, Err, IfErr, ◌≡◌, ◌++◌, drop, refl, IfOk, OnErr, OnOk, ◌+◌, length-append, [], Option, Some, None, sym, append_assoc, append-nil, true, false, if◌then◌else◌, nat_le}
-use Rattle.der_core.specs.Words.{limit, WhyNotCounted, WhyNotWritten, EncodeError, no_encoding, too_long, no_room, another, written_is_shortest, Prints, WritesShortest, WhyOctetsNotCounted, Counts, WhyOctetsNotWritten, encode_error, Error, ErrorKind, RefusedAs, Receives, ReceivesNothing, TakesRoom, LacksRoom, WhyNotAppended, Tag, written_encodes, Spells, ok_of, Unwritten, IsLength, length_octets, Is, Tlv, length_octets-only, Appends, tlv, joined, is_no_encoding}
+use Rattle.der_core.specs.Words.{limit, WhyNotCounted, WhyNotWritten, EncodeError, no_encoding, too_long, no_room, another, written_is_shortest, Prints, WritesShortest, WhyOctetsNotCounted, Counts, WhyOctetsNotWritten, encode_error, Error, ErrorKind, RefusedAs, Receives, ReceivesNothing, TakesRoom, LacksRoom, WhyNotAppended, Tag, written_encodes, Spells, ok_of, Unwritten, IsLength, length_octets, IsExactly, Tlv, length_octets-only, Appends, tlv, sum_of_lengths, is_no_encoding}
 use Rattle.standard.specs.Statement.{Encodes, IsShortest}
 use Rattle.der_core.specs.declared.error.ErrorKind.TheVariants.{NoRoom, Overflow}
 use Rattle.der_core.specs.declared.error.ErrorKind.TheVariants as kind
@@ -97,7 +97,7 @@ module _ {S V : Type 0} {valid : S → Type 0} {printed : S → List ℕ} {means
   encode_into_unwritten room (Err e) h = encode_into_unwritten_by room (encode_error e.kind) h
 
 -- The length of an encoding, by that of its contents.
-pub tlv_length : (n t : ℕ) (c encoding : List ℕ) → length c ≡ n → Tlv t (Is c) encoding
+pub tlv_length : (n t : ℕ) (c encoding : List ℕ) → length c ≡ n → Tlv t (IsExactly c) encoding
     → length encoding ≡ 1 + length (length_octets n) + n
 tlv_length n t c encoding e p =
     let same : p.contents ≡ c = p.holds in
@@ -272,7 +272,7 @@ module _ {P Q R : Type 0} (xs ys : List ℕ) (there : P → Q → R) (back : R �
   other_uncounted another j e u v = absurd u
 
   -- the sum of what was counted of each
-  pub counts_joined : (a b : Result ℕ Error) → Counts P xs a → Counts Q ys b → Counts R (xs ++ ys) (joined a b)
+  pub counts_joined : (a b : Result ℕ Error) → Counts P xs a → Counts Q ys b → Counts R (xs ++ ys) (sum_of_lengths a b)
   counts_joined (Ok m) (Ok n) p q =
       elim (nat_le (m + n) limit) as (λ t. nat_le (m + n) limit ≡ t
       → Counts R (xs ++ ys) (if t then Ok (m + n) else Err (record { kind = kind.Overflow }))) [
@@ -324,7 +324,8 @@ kind_in (Ok x) = NoRoom
 kind_in (Err e) = e.kind
 
 -- A sum of two lengths is refused with the tag of one of them.
-pub joined_refused : {P : Tag → Type 0} (a b : Result ℕ Error) → RefusedAs P a → RefusedAs P b → RefusedAs P (joined a b)
+pub joined_refused : {P : Tag → Type 0} (a b : Result ℕ Error) → RefusedAs P a → RefusedAs P b
+    → RefusedAs P (sum_of_lengths a b)
 joined_refused {P = P} (Ok m) (Ok n) p q = sum_refused (nat_le (m + n) limit)
   where
     sum_refused : (fits : Bool) → RefusedAs {A = ℕ} P (if fits then Ok (m + n) else Err (record { kind = Overflow }))

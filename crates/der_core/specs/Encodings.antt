@@ -7,17 +7,18 @@ abbrev pub AreBytes : List ℕ → Type 0
 AreBytes encoding = AllBelowBase 256 encoding
 
 -- The bytes are just these.
-abbrev pub Is : List ℕ → List ℕ → Type 0
-Is wanted encoding = encoding ≡ wanted
+abbrev pub IsExactly : List ℕ → List ℕ → Type 0
+IsExactly wanted encoding = encoding ≡ wanted
 
 -- The bytes split into a front and a rest.
-abbrev pub Then : (List ℕ → Type 0) → (List ℕ → Type 0) → List ℕ → Type 0
-Then Front Rest encoding = (front : List ℕ) × (rest : List ℕ) × Front front × Rest rest × (encoding ≡ front ++ rest)
+abbrev pub SplitsInto : (List ℕ → Type 0) → (List ℕ → Type 0) → List ℕ → Type 0
+SplitsInto Front Rest encoding = (front : List ℕ) × (rest : List ℕ) × Front front × Rest rest
+    × (encoding ≡ front ++ rest)
 
 -- The bytes join one encoding of each part, in order.
-abbrev pub Joins : List (List ℕ → Type 0) → List ℕ → Type 0
-Joins [] encoding = encoding ≡ []
-Joins (Part ∷ parts) encoding = Then Part (Joins parts) encoding
+abbrev pub JoinsParts : List (List ℕ → Type 0) → List ℕ → Type 0
+JoinsParts [] encoding = encoding ≡ []
+JoinsParts (Part ∷ parts) encoding = SplitsInto Part (JoinsParts parts) encoding
 
 -- At most one encoding.
 abbrev pub HasAtMostOne : (List ℕ → Type 0) → Type 0

@@ -4,7 +4,7 @@ use Rattle.std.specs.Io.KnownBytes.{Appends}
 use Rattle.der_core.specs.declared.error.Error.{Error}
 use Rattle.der_core.specs.declared.error.ErrorKind.{ErrorKind}
 use Rattle.der_core.specs.declared.error.ErrorKind.TheVariants.{File}
-use Rattle.der_core.specs.ErrorKinds.{IsFile}
+use Rattle.der_core.specs.Errors.{IsFile}
 use Rattle.der_core.specs.Transfer.{WhyDocumentNotRead}
 use Rattle.der_core.specs.SourcesSinks.{AppendsFront, GivesAll, OneFailed}
 

@@ -21,10 +21,12 @@ read_from None f = Err Failed
 read_from (Some b) f = f b
 
 -- A call returned what f reads, and the rest is left; or it returned the error of f, and the reader has failed.
-abbrev pub Reads : {X Y : Type 0} → (X → Y) → Result X Error → Input → Input → (List ℕ → Result (Y × List ℕ) ErrorKind)
+abbrev pub ReadsOrFails : {X Y : Type 0} → (X → Y) → Result X Error → Input → Input
+    → (List ℕ → Result (Y × List ℕ) ErrorKind)
     → Type 0
-Reads view (Ok x) before after f = (rest : List ℕ) × (read_from before f ≡ Ok (view x, rest)) × (after ≡ Some rest)
-Reads view (Err e) before after f = (read_from before f ≡ Err e.kind) × (after ≡ None)
+ReadsOrFails view (Ok x) before after f = (rest : List ℕ) × (read_from before f ≡ Ok (view x, rest))
+    × (after ≡ Some rest)
+ReadsOrFails view (Err e) before after f = (read_from before f ≡ Err e.kind) × (after ≡ None)
 
 -- the first n bytes
 abbrev pub front_of : ℕ → List ℕ → Result (List ℕ × List ℕ) ErrorKind

@@ -1,6 +1,6 @@
 -- What sources and sinks over std's readers and writers consist of.
 use Rattle.std.specs.Prelude.{ℕ, ◌≡◌, Result, Ok, Err, IsOkAnd, IsErrAnd}
-use Rattle.der_core.specs.ErrorKinds.{IsFile}
+use Rattle.der_core.specs.Errors.{IsFile}
 use Rattle.der_core.specs.declared.error.Error.{Error}
 use Rattle.der_core.specs.declared.std_io.FromRead.{FromRead}
 use Rattle.der_core.specs.declared.std_io.ToWrite.{ToWrite}

@@ -14,7 +14,7 @@ pub struct BackWriter<'b> {
 impl<'b> BackWriter<'b> {
     ghost use Rattle.std.specs.Prelude.{◌≡◌, ◌+◌, ◌∷◌, drop};
     ghost use Rattle.der_core.specs.Length.{length_octets};
-    ghost use Rattle.der_core.specs.BackWriters.{back_slice_of, free_of, Prepends};
+    ghost use Rattle.der_core.specs.Slices.{back_slice_of, free_of, Prepends};
 
     /// A writer over a slice, with nothing filled yet.
     pub fn new(slice: &'b mut [u8]) -> BackWriter<'b>

@@ -1,6 +1,6 @@
 //! BIT STRINGs of whole octets (X.690 8.6).
 ghost use Rattle.std.specs.Prelude.{IfOk};
-ghost use Rattle.der_core.specs.Words.{AllocatesBehindZero, HoldsBytes, Reads, behind_zero, behind_zero_alike, behind_zero_asks_as_contents, behind_zero_law, behind_zero_shortest, bit_string_tag, no_unused_bits, whole_octets};
+ghost use Rattle.der_core.specs.Words.{AllocatesBehindZero, HoldsBytes, ReadsOrFails, behind_zero, behind_zero_alike, behind_zero_asks_as_contents, behind_zero_law, behind_zero_shortest, bit_string_tag, no_unused_bits, whole_octets};
 
 use crate::back_writer::BackWriter;
 use crate::decode::DecodeValue;
@@ -65,7 +65,7 @@ impl<C> TaggedBy for BitString<C> {
 /// Reads the number of unused bits, which has to be 0: how many octets are left behind it.
 fn read_unused_bits<'a, R: Reader<&'a [u8]>>(reader: &mut R, length: Length) -> Result<Length>
     requires { HoldsBytes (R.left reader.old) length }
-    ensures octet { Reads (λ _. tt) result (R.left reader.old) (R.left reader.new) no_unused_bits }
+    ensures octet { ReadsOrFails (λ _. tt) result (R.left reader.old) (R.left reader.new) no_unused_bits }
     ensures left { IfOk result (λ left. HoldsBytes (R.left reader.new) left) }
 {
     let tag = Tag::BIT_STRING;

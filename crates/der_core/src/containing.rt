@@ -1,5 +1,5 @@
 //! Contents octets that are one encoding.
-ghost use Rattle.der_core.specs.Words.{AllocatesIn, alone, alone_alike, alone_law};
+ghost use Rattle.der_core.specs.Words.{AllocatesAtFront, alone, alone_alike, alone_law};
 
 use crate::back_writer::BackWriter;
 use crate::decode::{Decode, DecodeValue};
@@ -46,7 +46,7 @@ impl<T: Encoding> Contents for Containing<T> {
 }
 
 impl<'a, M: Memory, T: Decode<&'a [u8], M>> DecodeValue<&'a [u8], M> for Containing<T> {
-    ghost may_allocate = { AllocatesIn T.Decode.may_allocate };
+    ghost may_allocate = { AllocatesAtFront T.Decode.may_allocate };
 
     ghost asks_memory = { λ c asks. T.Decode.asks_memory asks.0 asks.3 };
 

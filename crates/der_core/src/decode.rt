@@ -1,7 +1,7 @@
 //! Reading of values.
 ghost use Rattle.std.specs.Prelude.{◌≡◌, ◌≤◌, ℕ, List, length, Ok, IfSome, option_map};
 ghost use Rattle.standard.specs.Statement as standard;
-ghost use Rattle.der_core.specs.Words.{Answers, Tlv, AllocatesIn, HoldsBytes, ReadsAll, ReadsFront, ReadsWhole, Returns, DecodesOrMemory, Prints, Spells, TellsNext, limit, octets_of_all, ok_of, optional_front, tagged, whole};
+ghost use Rattle.der_core.specs.Words.{Answers, Tlv, AllocatesAtFront, HoldsBytes, ReadsAll, ReadsFront, ReadsWhole, Returns, DecodesOrMemory, Prints, Spells, TellsNext, limit, octets_of_all, ok_of, optional_front, tagged, whole};
 
 use crate::error::{ErrorKind, Result};
 use crate::grammar::{Contents, Encoding, FixedTag};
@@ -70,7 +70,7 @@ pub trait Decode<B: Octets, M: Memory>: Encoding + Sized + Drop {
         ensures encoding { let encodings = Prints Self.valid Self.printed Self.means in
             ReadsAll Self.value encodings may_allocate result (B.octets bytes) }
         ensures exact { let b = B.octets bytes in
-            Returns Self.value (whole Self.read_front b) (AllocatesIn may_allocate b) result };
+            Returns Self.value (whole Self.read_front b) (AllocatesAtFront may_allocate b) result };
 
     /// Memory is asked for only where there is any.
     ghost asks_memory: { (b : List ℕ) → Self.may_allocate b → M.gives };
@@ -117,7 +117,7 @@ fn read_slowly<'a, T: DecodeValue<&'a [u8], M> + FixedTag, M: Memory>(
     memory: M,
     bytes: &'a [u8],
 ) -> Result<T>
-    ensures { let may = AllocatesIn (Tlv T.TAG.octet T.DecodeValue.may_allocate) bytes.now in
+    ensures { let may = AllocatesAtFront (Tlv T.TAG.octet T.DecodeValue.may_allocate) bytes.now in
         Returns T.value (whole (tagged T.TAG T.read) bytes.now) may result }
 {
     let mut reader = SliceReader::new(bytes)?;
@@ -139,9 +139,9 @@ pub fn read_borrowed<'a, T: Decode<&'a [u8], NoMemory>>(bytes: &'a [u8]) -> Resu
 /// `OutOfMemory`.
 #[inline(always)]
 pub fn read_owned<'a, T: Decode<&'a [u8], M>, M: Memory>(memory: M, bytes: &'a [u8]) -> Result<T>
-    ensures read { let asked = AllocatesIn T.Decode.may_allocate bytes.now in
+    ensures read { let asked = AllocatesAtFront T.Decode.may_allocate bytes.now in
         DecodesOrMemory T.value (Spells T.valid T.printed T.means) asked bytes.now result }
-    ensures exact { let asked = AllocatesIn T.Decode.may_allocate bytes.now in
+    ensures exact { let asked = AllocatesAtFront T.Decode.may_allocate bytes.now in
         Returns T.value (whole T.read_front bytes.now) asked result }
 {
     T::from_der(memory, bytes)

@@ -10,7 +10,7 @@ ghost use Rattle.der_core.specs.Laws.Printed.Leaves.{any_alike, any_shortest, oc
 ghost use Rattle.der_core.specs.Printed.{Prints};
 ghost use Rattle.der_core.specs.Reading.{Returns, NoValueOrMemory};
 ghost use Rattle.der_core.specs.Readings.{any_contents, octets_of_all, read_document};
-ghost use Rattle.der_core.specs.ErrorKinds.{IsFile};
+ghost use Rattle.der_core.specs.Errors.{IsFile};
 ghost use Rattle.der_core.specs.Encodings.{AreBytes};
 ghost use Rattle.der_core.specs.Tlv.{tlv};
 ghost use Rattle.der_core.specs.Writing.{RefusedAs};

@@ -1,6 +1,6 @@
 //! Writing of values.
 ghost use Rattle.std.specs.Prelude.{◌≡◌, ◌≤◌, ◌++◌, length, drop, OnOk, OnErr, IfOk, IfErr};
-ghost use Rattle.der_core.specs.Words.{limit, length_octets, tlv, RefusedAs, WhyNotAppended, WhyNotCounted, WhyNotWritten, free_of, Prepends, Prints, Spells, IsFront, LeavesRest, Counts, Appends, encode_error, joined};
+ghost use Rattle.der_core.specs.Words.{limit, length_octets, tlv, RefusedAs, WhyNotAppended, WhyNotCounted, WhyNotWritten, free_of, Prepends, Prints, Spells, IsFront, LeavesRest, Counts, Appends, encode_error, sum_of_lengths};
 ghost use Rattle.standard.specs.Statement.{IsShortest};
 ghost use Rattle.std.specs.Borrow.{sem};
 ghost use Rattle.der_core.specs.declared.tag.Tag.{Tag as TheTag};
@@ -186,7 +186,7 @@ impl<T: EncodeValue + FixedTag> Encode for T {
 
 /// The sum of two lengths. `Value` is reported before `Overflow`.
 pub fn joined_len(a: Result<Length>, b: Result<Length>) -> Result<Length>
-    ensures { result ≡ joined a b }
+    ensures { result ≡ sum_of_lengths a b }
 {
     match a {
         Ok(a) => a.checked_add(b?),

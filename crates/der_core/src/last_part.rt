@@ -1,7 +1,7 @@
 //! The last part of some contents: one encoding, or an OPTIONAL one.
 ghost use Rattle.std.specs.Prelude.{◌≡◌, Option, option_map};
 ghost use Rattle.standard.specs.Statement as standard;
-ghost use Rattle.der_core.specs.Words.{AllocatesIn, AllocatesLast, ReadsWhole, Tlv, alone, alone_alike, last, last_alike, last_by_tag_law, last_law, last_part_asks_as_it, last_shortest, optional_alike, optional_front, tagged, tagged_alike, tagged_shortest};
+ghost use Rattle.der_core.specs.Words.{AllocatesAtFront, AllocatesLast, ReadsWhole, Tlv, alone, alone_alike, last, last_alike, last_by_tag_law, last_law, last_part_asks_as_it, last_shortest, optional_alike, optional_front, tagged, tagged_alike, tagged_shortest};
 
 use crate::back_writer::BackWriter;
 use crate::borrowed::Borrowed;
@@ -139,7 +139,7 @@ impl<T: Contents + FixedTag> Contents for LastByTag<T> {
 
 impl<'a, M: Memory, T: DecodeValue<&'a [u8], M> + FixedTag> DecodeParts<&'a [u8], M>
     for LastByTag<T> {
-    ghost may_allocate = { AllocatesIn (Tlv T.TAG.octet T.DecodeValue.may_allocate) };
+    ghost may_allocate = { AllocatesAtFront (Tlv T.TAG.octet T.DecodeValue.may_allocate) };
 
     ghost asks_memory = { λ c t. T.DecodeValue.asks_memory t.3.contents t.3.holds };
 
@@ -188,7 +188,7 @@ pub fn decode_whole<'a, T: Decode<&'a [u8], M>, M: Memory, R: Reader<&'a [u8]>>(
     memory: M,
     reader: &mut R,
 ) -> Result<T>
-    ensures { let may = AllocatesIn T.Decode.may_allocate in
+    ensures { let may = AllocatesAtFront T.Decode.may_allocate in
         ReadsWhole T.value (alone T.read_front) may result (R.left reader.old) (R.left reader.new) }
 {
     let value = T::decode(memory, reader)?;

@@ -2,7 +2,7 @@
 ghost use Rattle.std.specs.Prelude.{◌≡◌, ℕ, List, ◌+◌, ◌≤◌, ◌<◌, length, IfOk, IfErr, MatchResult};
 ghost use Rattle.der_core.specs.declared.error.ErrorKind.TheVariants.{Overflow};
 ghost use Rattle.std.specs.Int.Digits.{number_from_digits};
-ghost use Rattle.der_core.specs.Words.{limit, IsLength, length_octets, tlv_len, Reads, length_at, ReadsEncoding, LengthEncoding, Is, Tlv};
+ghost use Rattle.der_core.specs.Words.{limit, IsLength, length_octets, tlv_len, ReadsOrFails, length_at, ReadsEncoding, LengthEncoding, IsExactly, Tlv};
 ghost use Rattle.der_core.specs.Input as specs;
 
 use crate::error::{Error, ErrorKind, Result};
@@ -63,7 +63,7 @@ fn is_overlong(octets: &[u8]) -> bool
 #[inline(always)]
 #[tactic(auto, unfolding(crate::specs::Input::length_at))]
 fn read_length<'a, R: Reader<&'a [u8]>>(reader: &mut R) -> Result<Length>
-    ensures { Reads (λ n. n) result (R.left reader.old) (R.left reader.new) length_at }
+    ensures { ReadsOrFails (λ n. n) result (R.left reader.old) (R.left reader.new) length_at }
 {
     let first = read_octet(reader)?;
     if first < 0x80 {
@@ -153,7 +153,7 @@ impl Length {
         ensures ok { IfOk result (λ total. (total ≡ tlv_len self) × (total ≤ limit)) }
         ensures err { IfErr result (λ e. (e.kind ≡ ErrorKind.Overflow) × (limit < tlv_len self)) }
         ensures encoding { (octet : ℕ) (contents encoding : List ℕ)
-            → length contents ≡ self → Tlv octet (Is contents) encoding → length encoding ≡ tlv_len self }
+            → length contents ≡ self → Tlv octet (IsExactly contents) encoding → length encoding ≡ tlv_len self }
     {
         self.header_len().checked_add(self)
     }
@@ -223,7 +223,7 @@ impl Length {
     #[inline(always)]
     #[tactic(auto, using(crate::proofs::Lengths::length_reads))]
     pub fn decode<'a, R: Reader<&'a [u8]>>(reader: &mut R) -> Result<Length>
-        ensures exact { Reads (λ n. n) result (R.left reader.old) (R.left reader.new) length_at }
+        ensures exact { ReadsOrFails (λ n. n) result (R.left reader.old) (R.left reader.new) length_at }
         ensures encoding { ReadsEncoding (λ n. n) LengthEncoding (λ _. ⊥) result (R.left reader.old)
             (R.left reader.new) }
     {

@@ -4,8 +4,8 @@
 //! A type states once which spellings its values have and what is printed of them (`Contents`). Reading accepts exactly
 //! that, and writing gives the shortest encoding.
 //!
-//! An *encoding* is one whole DER encoding: tag, length and contents octets. A *sentence* is an
-//! encoding of at most `Length::MAX` bytes that means a value.
+//! An *encoding* is one whole DER encoding: tag, length and contents octets. The *limit* of its length is
+//! `Length::MAX` bytes.
 #![tactic(auto)]
 
 mod back_writer;

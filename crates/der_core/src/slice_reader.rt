@@ -16,7 +16,7 @@ pub struct SliceReader<'a> {
 }
 
 impl<'a> BytesLeft for SliceReader<'a> {
-    ghost use Rattle.der_core.specs.SliceReaders.{left_of};
+    ghost use Rattle.der_core.specs.Slices.{left_of};
     ghost use Rattle.der_core.specs.Laws.SliceReaders.{left_of-bounded, left_of-bytes};
 
     ghost left = { left_of };
@@ -28,7 +28,7 @@ impl<'a> BytesLeft for SliceReader<'a> {
 
 impl<'a> SliceReader<'a> {
     ghost use Rattle.std.specs.Prelude.{◌≡◌, Some, IfOk, IfErr};
-    ghost use Rattle.der_core.specs.SliceReaders.{left_of};
+    ghost use Rattle.der_core.specs.Slices.{left_of};
 
     /// A reader over all of the bytes, or `Overflow` if there are more than `Length::MAX`.
     pub fn new(bytes: &'a [u8]) -> Result<SliceReader<'a>>

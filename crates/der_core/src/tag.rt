@@ -91,7 +91,7 @@ impl TagNumber {
 }
 
 impl fmt::Display for Tag {
-    ghost use Rattle.der_core.specs.ErrorText.{tag_text};
+    ghost use Rattle.der_core.specs.Errors.{tag_text};
 
     ghost output = { λ tag. Some (tag_text tag) };
 
@@ -106,7 +106,7 @@ impl fmt::Display for Tag {
 pub(crate) struct PrintedOctet(pub(crate) u8);
 
 impl fmt::Display for PrintedOctet {
-    ghost use Rattle.der_core.specs.ErrorText.{octet_text};
+    ghost use Rattle.der_core.specs.Errors.{octet_text};
 
     ghost output = { λ printed. Some (octet_text printed.0) };
 

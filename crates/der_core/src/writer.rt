@@ -41,7 +41,7 @@ pub struct SliceWriter<'b> {
 }
 
 impl<'b> SliceWriter<'b> {
-    ghost use Rattle.der_core.specs.SliceWriters.{slice_of, len_of, written_of};
+    ghost use Rattle.der_core.specs.Slices.{slice_of, len_of, written_of};
 
     /// A writer over a slice. Bytes behind what is written stay as they are.
     pub fn new(slice: &'b mut [u8]) -> SliceWriter<'b>
@@ -63,7 +63,7 @@ impl<'b> SliceWriter<'b> {
 }
 
 impl Writer for SliceWriter<'_> {
-    ghost use Rattle.der_core.specs.SliceWriters.{room_of, written_of, Keeps};
+    ghost use Rattle.der_core.specs.Slices.{room_of, written_of, Keeps};
     ghost use Rattle.der_core.specs.Laws.Numbers.{Keeps-itself, Keeps-through};
 
     ghost room = { λ w. Some (room_of w) };

@@ -1,6 +1,6 @@
 -- NumberList ::= SEQUENCE { version INTEGER { v1(0), v2(1) }, numbers SEQUENCE OF INTEGER }
 use Rattle.std.specs.Prelude.{ℕ, List, map, ◌≡◌, ◌≤◌, ◌<◌, ◌++◌, length}
-use Rattle.der_core.specs.Words.{number_from_digits, AllocatesInParts, Prints, number_contents, number_of, AllocatesForItems, AllocatesIn, Reading, items, made, no_parts, parts, ranged, tagged, whole, Tlv, IsInRange, bytes_of}
+use Rattle.der_core.specs.Words.{number_from_digits, AllocatesInParts, Prints, number_contents, number_of, AllocatesForItems, AllocatesAtFront, Reading, items, made, no_parts, parts, ranged, tagged, whole, Tlv, IsInRange, bytes_of}
 use Rattle.std.specs.List.{AllByRecursion}
 use Rattle.der_core.specs.Tags as tags
 use Rattle.der_core.specs.declared.integer.uint.UintRef.{UintRef}
@@ -40,4 +40,4 @@ abbrev pub MayAskMemory : List ℕ → Type 0
 MayAskMemory =
     let version = Prints (IsInRange 0 1) (λ n. tlv 2 (number_contents n)) (λ n. n) in
     let list = Prints (AllByRecursion (λ _. Unit {0})) (λ ns. sequence (integers ns)) (map (λ n. n)) in
-    AllocatesIn (Tlv 48 (AllocatesInParts version (Tlv 2 (λ _. ⊥)) (AllocatesInParts list BeginsList (λ _. ⊥))))
+    AllocatesAtFront (Tlv 48 (AllocatesInParts version (Tlv 2 (λ _. ⊥)) (AllocatesInParts list BeginsList (λ _. ⊥))))

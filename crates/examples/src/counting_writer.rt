@@ -2,7 +2,7 @@
 ghost use Rattle.std.specs.Prelude.{◌≡◌, ◌++◌, OnOk, Some};
 ghost use Rattle.std.specs.Int.Digits.{number_from_digits};
 ghost use Rattle.der_core.specs.Words.{bytes_of, integer_tag, number_contents, tlv};
-ghost use Rattle.der_core.specs.SliceWriters.{Keeps, room_of, written_of};
+ghost use Rattle.der_core.specs.Slices.{Keeps, room_of, written_of};
 ghost use Rattle.der_core.specs.Laws.Numbers.{Keeps-itself, Keeps-through};
 
 use der_core::{Encode, Result, SliceWriter, UintRef, Writer};

@@ -5,7 +5,7 @@ ghost use Rattle.der_core.specs.Words.{Answers, Spells, Unwritten, encode_error,
 
 use der_core::{
     BackWriter, Borrowed, Encode, EncodeInParts, EncodeValue, Encoding, Length, OctetStringRef,
-    Record, Result, SequenceTag, Writer, read_borrowed, write_only, TaggedBy,
+    Record, Result, SequenceTag, TaggedBy, Writer, read_borrowed, write_only,
 };
 use spki_core::{AlgorithmView, AnyRef};
 

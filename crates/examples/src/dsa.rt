@@ -5,7 +5,7 @@ ghost use Rattle.der_core.specs.Words.{Answers, Spells, Unwritten, encode_error,
 
 use der_core::{
     BackWriter, Borrowed, Encode, EncodeInParts, EncodeValue, Encoding, Length, Record, Result,
-    SequenceTag, UintRef, Writer, read_borrowed, write_only, TaggedBy,
+    SequenceTag, TaggedBy, UintRef, Writer, read_borrowed, write_only,
 };
 use spki_core::AlgorithmView;
 

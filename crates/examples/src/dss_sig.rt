@@ -6,7 +6,7 @@ ghost use Rattle.der_core.specs.Words.{Answers, Spells, Unwritten, encode_error,
 
 use der_core::{
     BackWriter, Borrowed, Encode, EncodeInParts, EncodeValue, Encoding, Length, Record, Result,
-    SequenceTag, UintRef, Writer, read_borrowed, write_only, TaggedBy,
+    SequenceTag, TaggedBy, UintRef, Writer, read_borrowed, write_only,
 };
 
 /// The value of a DSA or ECDSA signature.

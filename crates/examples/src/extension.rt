@@ -5,10 +5,9 @@ ghost use Rattle.der_core.specs.Words.{Answers, Spells, Unwritten, encode_error,
 ghost use Rattle.examples.specs.Extension.{IsTrueOctet, critical_part, true_law, true_octets, true_read};
 
 use der_core::{
-    BackWriter, BooleanTag, Borrowed, Contents, DecodeValue, Encode,
-    EncodeInParts, EncodeValue, Encoding, Error, ErrorKind, Header, Length, Memory, OctetStringRef,
-    OneContents, OptionalThen, Reader, Record, Result, SequenceTag, Tag, TaggedBy, Writer,
-    read_borrowed, write_only,
+    BackWriter, BooleanTag, Borrowed, Contents, DecodeValue, Encode, EncodeInParts, EncodeValue,
+    Encoding, Error, ErrorKind, Header, Length, Memory, OctetStringRef, OneContents, OptionalThen,
+    Reader, Record, Result, SequenceTag, Tag, TaggedBy, Writer, read_borrowed, write_only,
 };
 use spki_core::ObjectIdentifier;
 

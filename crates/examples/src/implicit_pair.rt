@@ -6,7 +6,7 @@ ghost use Rattle.examples.specs.ImplicitPair.{implicit_tag};
 
 use der_core::{
     BackWriter, Borrowed, Encode, EncodeInParts, EncodeValue, Encoding, Length, Record, Result,
-    Tag, TagMarker, UintRef, Writer, read_borrowed, write_only, TaggedBy,
+    Tag, TagMarker, TaggedBy, UintRef, Writer, read_borrowed, write_only,
 };
 
 /// The tag `[0]`.

@@ -6,7 +6,7 @@ ghost use Rattle.examples.specs.NumberList.{IsNumberList, MayAskMemory, NumberLi
 
 use der_core::{
     BackWriter, Borrowed, Encode, EncodeInParts, EncodeValue, Encoding, InRange, Length, Record,
-    Result, SequenceTag, UintRef, Writer, read_owned, write_only, TaggedBy,
+    Result, SequenceTag, TaggedBy, UintRef, Writer, read_owned, write_only,
 };
 use std::alloc::Global;
 

@@ -6,7 +6,8 @@ ghost use Rattle.examples.specs.Salt.{IsSalt, SaltEncoding, salt_of, salt_read};
 
 use der_core::{
     BackWriter, Borrowed, Encode, EncodeInParts, EncodeValue, Encoding, Last, Length,
-    OctetStringRef, Record, Result, SequenceTag, UintRef, Writer, read_borrowed, write_only, TaggedBy,
+    OctetStringRef, Record, Result, SequenceTag, TaggedBy, UintRef, Writer, read_borrowed,
+    write_only,
 };
 
 /// A number of iterations, and a salt that is there or not.

@@ -3,7 +3,7 @@
 use Rattle.std.proofs.Common.{ℕ, List, [], ◌∷◌, ◌++◌, ◌≡◌, ◌≤◌, length, map, refl, sym, ap, ◌∙◌, arith, append_assoc, append-nil, length-append, inl, inr, ⊎_elim, Option, Some, None, option_map}
 use Rattle.std.specs.List.{concat}
 use Rattle.der_core.specs.declared.error.ErrorKind.{ErrorKind}
-use Rattle.der_core.specs.Words.{tlv_recast, tlv_not_empty, tlv_split, parts_ask_as_each, tlv_fit, tlv_is, tlv_made, prints_one, limit, AllocatesInParts, ReadsFrontPrinted, number_contents, AllocatesBehind, AllocatesIn, Begins, FaultOrMemory, NoValueOrMemory, FrontReading, Tlv, tlv}
+use Rattle.der_core.specs.Words.{tlv_recast, tlv_not_empty, tlv_split, parts_ask_as_each, tlv_fit, tlv_is, tlv_made, prints_one, limit, AllocatesInParts, ReadsFrontPrinted, number_contents, AllocatesBehind, AllocatesAtFront, BeginsWithEncoding, FaultOrMemory, NoValueOrMemory, FrontReading, Tlv, tlv}
 use Rattle.pkcs1.specs.Words.{AllocatesForKey, AllocatesInNumbers, AllocatesInOther, AllocatesInOthers, NumberPrints, OthersFollow, VersionPrints, OtherRow, PrivateRow, private_front_parts, key_numbers, integer_law, front_law, others_in, private_spells, read_valid, others_as, AnyNumber, FrontPrints, OtherPrints, PrivateIsValid, PrivateSpells, front_printed, others_printed, private_printed, other_from, private_from}
 use Rattle.standard.specs.Statement as standard
 use Rattle.standard.specs.Statement.{integer}
@@ -19,18 +19,19 @@ numbers_ask_none {V} {encoding} {may} none =
     next rest = parts_ask_as_each encoding none rest
 
 -- Primes that mean none are none.
-none_others : {S V : Type 0} (means : S → V) (primes : Option (List (OtherRow S))) → others_as means primes ≡ None
+others_as_none : {S V : Type 0} (means : S → V) (primes : Option (List (OtherRow S))) → others_as means primes ≡ None
     → primes ≡ None
-none_others means None e = refl
-none_others means (Some others) e = cc
+others_as_none means None e = refl
+others_as_none means (Some others) e = cc
 
 module _ {S V : Type 0} {valid : S → Type 0} {printed : S → List ℕ} {at : FrontReading S}
     (law : ReadsFrontPrinted valid printed at) (means : S → V) (may : List ℕ → Type 0) where
   -- Nothing is behind the eight numbers of a key of two primes.
-  no_others : {Listed : List ℕ → Type 0} (s : PrivateRow S) → others_in s ≡ None → PrivateIsValid valid s
+  nothing_behind_two_primes : {Listed : List ℕ → Type 0} (s : PrivateRow S) → others_in s ≡ None
+      → PrivateIsValid valid s
       → (c : List ℕ) → c ≡ private_printed printed s → length c ≤ limit
-      → AllocatesBehind (FrontPrints valid printed means) (AllocatesIn (Tlv 48 Listed)) c → ⊥
-  no_others s two ok c is few (front, (x, y, (f, m, right, begun), begins, joined)) =
+      → AllocatesBehind (FrontPrints valid printed means) (AllocatesAtFront (Tlv 48 Listed)) c → ⊥
+  nothing_behind_two_primes s two ok c is few (front, (x, y, (f, m, right, begun), begins, joined)) =
       let mine : c ≡ front_printed printed (private_front_parts s) ++ [] =
       is ∙ ap (λ o. front_printed printed (private_front_parts s) ++ others_printed printed o) two in
       let theirs : c ≡ front_printed printed f ++ y = joined ∙ ap (λ l. l ++ y) begun in
@@ -48,21 +49,21 @@ module _ {S V : Type 0} {valid : S → Type 0} {printed : S → List ℕ} {at : 
   -- So reading it needs no memory, where its numbers need none.
   pub two_primes_ask : (key : PrivateRow V) → others_in key ≡ None → ((b : List ℕ) → may b → ⊥)
       → (whole : List ℕ) → PrivateSpells valid printed means key whole
-      → AllocatesIn (Tlv 48 (AllocatesForKey valid printed means may)) whole → ⊥
+      → AllocatesAtFront (Tlv 48 (AllocatesForKey valid printed means may)) whole → ⊥
   two_primes_ask key two none whole (few, (s, m, ok, is)) (b, rest, e, q) =
       let contents = private_printed printed s in
       let within : length (tlv 48 contents) ≤ limit = omega (arith, few, ap length is) in
       let p : Tlv 48 (λ c. c ≡ contents) (tlv 48 contents) = tlv_made 48 contents refl within in
       let t = tlv_split b rest (tlv 48 contents) [] q p (sym e ∙ is ∙ sym (append-nil (tlv 48 contents))) in
       let none_there : others_in s ≡ None =
-      none_others means (others_in s) (ap (λ (k : PrivateRow V). others_in k) m ∙ two) in
+      others_as_none means (others_in s) (ap (λ (k : PrivateRow V). others_in k) m ∙ two) in
       let fits : length t.3 ≤ limit = omega (arith, within, tlv_fit 48 contents, ap length t.5) in
-      ⊎_elim (λ w. numbers_ask_none none t.3 w) (λ w. no_others s none_there ok t.3 t.5 fits w) t.4
+      ⊎_elim (λ w. numbers_ask_none none t.3 w) (λ w. nothing_behind_two_primes s none_there ok t.3 t.5 fits w) t.4
 
   -- So such an encoding isn't rejected.
   pub two_primes_rejected : (key : PrivateRow V) → others_in key ≡ None → ((b : List ℕ) → may b → ⊥)
       → (whole : List ℕ) (kind : ErrorKind) → PrivateSpells valid printed means key whole
-      → NoValueOrMemory kind (AllocatesIn (Tlv 48 (AllocatesForKey valid printed means may)) whole)
+      → NoValueOrMemory kind (AllocatesAtFront (Tlv 48 (AllocatesForKey valid printed means may)) whole)
       ((v : PrivateRow V) → PrivateSpells valid printed means v whole → ⊥) → ⊥
   two_primes_rejected key two none whole kind spelled (inl w) = two_primes_ask key two none whole spelled w.1
   two_primes_rejected key two none whole kind spelled (inr w) = w.1 key spelled
@@ -70,7 +71,7 @@ module _ {S V : Type 0} {valid : S → Type 0} {printed : S → List ℕ} {at : 
 -- A borrowed key of two primes, in the words of `Statement.antt`.
 pub two_primes_read : (key : standard.PrivateKey) → key.other_primes ≡ None → (bytes : List ℕ)
     → standard.PrivateKeyEncoding key bytes → (may : List ℕ → Type 0) → ((b : List ℕ) → may b → ⊥) → (kind : ErrorKind)
-    → NoValueOrMemory kind (AllocatesIn (Tlv 48 (AllocatesForKey AnyNumber integer (λ n. n) may)) bytes)
+    → NoValueOrMemory kind (AllocatesAtFront (Tlv 48 (AllocatesForKey AnyNumber integer (λ n. n) may)) bytes)
     ((v : PrivateRow ℕ) → PrivateSpells AnyNumber integer (λ n. n) v bytes → ⊥) → ⊥
 two_primes_read key two bytes encoded may none kind =
     two_primes_rejected integer_law (λ n. n) may (private_from key) (ap (option_map (map other_from)) two) none
@@ -78,74 +79,76 @@ two_primes_read key two bytes encoded may none kind =
 
 -- What the bytes that need memory begin with, told otherwise.
 module _ {Asks Needs : List ℕ → Type 0} (told : (c : List ℕ) → Asks c → Needs c) where
-  pub asks_as : (encoding : List ℕ) → AllocatesIn (Tlv 48 Asks) encoding → AllocatesIn (Tlv 48 Needs) encoding
+  pub asks_as : (encoding : List ℕ) → AllocatesAtFront (Tlv 48 Asks) encoding → AllocatesAtFront (Tlv 48 Needs) encoding
   asks_as encoding (b, rest, e, p) = (b, rest, e, tlv_recast b p (told p.contents p.holds))
 
   pub faulty_as : (kind : ErrorKind) (encoding : List ℕ) {fault : Type 0}
-      → FaultOrMemory kind (AllocatesIn (Tlv 48 Asks) encoding) fault
-      → FaultOrMemory kind (AllocatesIn (Tlv 48 Needs) encoding) fault
+      → FaultOrMemory kind (AllocatesAtFront (Tlv 48 Asks) encoding) fault
+      → FaultOrMemory kind (AllocatesAtFront (Tlv 48 Needs) encoding) fault
   faulty_as kind encoding (inl w) = inl (w.0, asks_as encoding w.1)
   faulty_as kind encoding (inr f) = inr f
 
 -- A number that is borrowed needs none, so a borrowed key needs it for other primes alone.
-abbrev pub Borrowed : List ℕ → Type 0
-Borrowed = Tlv 2 (λ _. ⊥)
+abbrev pub BorrowedNumberAllocates : List ℕ → Type 0
+BorrowedNumberAllocates = Tlv 2 (λ _. ⊥)
 
-pub borrowed_ask : (b : List ℕ) → Borrowed b → ⊥
+pub borrowed_ask : (b : List ℕ) → BorrowedNumberAllocates b → ⊥
 borrowed_ask b t = t.holds
 
 -- A number, and parts behind it that need none.
 none_in_parts : {rest : List ℕ → Type 0} → ((c : List ℕ) → rest c → ⊥) → (c : List ℕ)
-    → AllocatesInParts NumberPrints Borrowed rest c → ⊥
+    → AllocatesInParts NumberPrints BorrowedNumberAllocates rest c → ⊥
 none_in_parts none = parts_ask_as_each NumberPrints borrowed_ask none
 
 -- Both numbers of a public key.
 pub none_in_public : (c : List ℕ)
-    → AllocatesInParts NumberPrints Borrowed (AllocatesInParts NumberPrints Borrowed (λ _. ⊥)) c → ⊥
+    → AllocatesInParts NumberPrints BorrowedNumberAllocates
+    (AllocatesInParts NumberPrints BorrowedNumberAllocates (λ _. ⊥)) c → ⊥
 none_in_public = none_in_parts (none_in_parts (λ _ w. w))
 
 -- Another prime.
-none_in_other : (c : List ℕ) → AllocatesInOther NumberPrints Borrowed c → ⊥
+none_in_other : (c : List ℕ) → AllocatesInOther NumberPrints BorrowedNumberAllocates c → ⊥
 none_in_other = none_in_parts none_in_public
 
 -- Where the list of other primes needs memory, it isn't empty.
-others_begin : (c : List ℕ) → AllocatesInOthers AnyNumber integer (λ n. n) Borrowed c
-    → AllocatesIn (Tlv 48 (Begins (OtherPrints AnyNumber integer (λ n. n)))) c
+others_begin : (c : List ℕ) → AllocatesInOthers AnyNumber integer (λ n. n) BorrowedNumberAllocates c
+    → AllocatesAtFront (Tlv 48 (BeginsWithEncoding (OtherPrints AnyNumber integer (λ n. n)))) c
 others_begin = asks_as (λ c. ⊎_elim (λ w. w) (λ w. let t = w.3 in absurd (none_in_other t.contents t.holds)))
 
-pub borrowed_key_asks : (c : List ℕ) → AllocatesForKey AnyNumber integer (λ n. n) Borrowed c → OthersFollow c
+pub borrowed_key_asks : (c : List ℕ) → AllocatesForKey AnyNumber integer (λ n. n) BorrowedNumberAllocates c
+    → OthersFollow c
 borrowed_key_asks c (inl w) = absurd (numbers_ask_none borrowed_ask c w)
 borrowed_key_asks c (inr (front, (x, y, t, others, is))) = (front, (x, y, t, others_begin y others, is))
 
 -- A number that is owned is copied, so an owned key needs memory as soon as its first number is there.
-abbrev Copied : List ℕ → Type 0
-Copied = Tlv 2 (λ c. (n : ℕ) × (c ≡ number_contents n))
+abbrev CopiedNumberAllocates : List ℕ → Type 0
+CopiedNumberAllocates = Tlv 2 (λ c. (n : ℕ) × (c ≡ number_contents n))
 
 -- What is copied is a number.
-begins_copied : (c : List ℕ) → AllocatesIn Copied c → Begins NumberPrints c
+begins_copied : (c : List ℕ) → AllocatesAtFront CopiedNumberAllocates c → BeginsWithEncoding NumberPrints c
 begins_copied c (b, rest, e, t) =
     let number : Tlv 2 (λ c. c ≡ number_contents t.holds.0) b = tlv_recast b t t.holds.1 in
     (b, rest, e, (t.holds.0, (t.holds.0, refl, tt, tlv_is 2 (number_contents t.holds.0) b (λ c p. p) number)))
 
 -- The first of some numbers.
-pub owned_parts_ask : {rest : List ℕ → Type 0} (c : List ℕ) → AllocatesInParts NumberPrints Copied rest c
-    → Begins NumberPrints c
+pub owned_parts_ask : {rest : List ℕ → Type 0} (c : List ℕ) → AllocatesInParts NumberPrints CopiedNumberAllocates rest c
+    → BeginsWithEncoding NumberPrints c
 owned_parts_ask c (inl w) = begins_copied c w
 owned_parts_ask c (inr (v, (x, y, t, w, is))) = (x, y, is, (v, t))
 
 -- The numbers behind the first.
-abbrev later : List ℕ → List ℕ
-later [] = []
-later (n ∷ ns) = ns
+abbrev numbers_after_first : List ℕ → List ℕ
+numbers_after_first [] = []
+numbers_after_first (n ∷ ns) = ns
 
 -- Behind the version.
-pub owned_key_asks : (c : List ℕ) → AllocatesForKey AnyNumber integer (λ n. n) Copied c
-    → AllocatesBehind VersionPrints (Begins NumberPrints) c
+pub owned_key_asks : (c : List ℕ) → AllocatesForKey AnyNumber integer (λ n. n) CopiedNumberAllocates c
+    → AllocatesBehind VersionPrints (BeginsWithEncoding NumberPrints) c
 owned_key_asks c (inl (inl w)) = absurd w.3.holds
 owned_key_asks c (inl (inr (n, (x, y, t, w, is)))) = (n, (x, y, t, owned_parts_ask y w, is))
 owned_key_asks c (inr (front, (x, y, (f, m, right, begun), others, is))) =
     let number = f.1.0 in
-    let behind = concat (map integer (later (key_numbers f.1))) in (
+    let behind = concat (map integer (numbers_after_first (key_numbers f.1))) in (
       f.0,
       (
         integer f.0,

@@ -7,7 +7,7 @@ use Rattle.std.specs.declared.vec.Vec.{Vec}
 use Rattle.der_core.specs.Words.{Prepends, limit, Appends, Counts}
 use Rattle.der_core.specs.declared.back_writer.BackWriter.{BackWriter}
 use Rattle.der_core.specs.declared.error.Error.{Error}
-use Rattle.pkcs1.specs.Words.{KeyRow, RowIsValid, row_printed, OtherRow, OthersAreValid, PrivateRow, eight_behind, others_in, version_of, private_row, other_as, others_as, ListsNone, other_of, others_of, AreSome, OtherIsValid, PrivateIsValid, primes_printed, private_printed}
+use Rattle.pkcs1.specs.Words.{KeyRow, RowIsValid, row_printed, OtherRow, OthersAreValid, PrivateRow, eight_numbers_behind, others_in, version_of, private_row, other_as, others_as, ListsNone, other_of, others_of, AreSome, OtherIsValid, PrivateIsValid, primes_printed, private_printed}
 use Rattle.pkcs1.specs.declared.private_key.other_prime_info.OtherPrimeInfo.{OtherPrimeInfo}
 use Rattle.pkcs1_params.proofs.Masks.{appends_as, counts_as}
 use Rattle.standard.specs.Statement.{IfPresent, sequence}
@@ -50,13 +50,14 @@ module _ {S : Type 0} (valid : S → Type 0) (printed : S → List ℕ) (key : P
   -- A row is valid exactly if its key is.
   pub key_valid : AreSome (others_in key) → PrivateRowIsValid → PrivateIsValid valid key
   key_valid some r =
-      eight_behind valid (IfPresent RowPrimesAreValid) (OthersAreValid valid) key (others_in key) (λ all. (some, all))
+      eight_numbers_behind valid (IfPresent RowPrimesAreValid) (OthersAreValid valid) key (others_in key)
+      (λ all. (some, all))
       r.1
 
   pub row_valid : PrivateIsValid valid key → PrivateRowIsValid
   row_valid p = (
     version_small_octet,
-    eight_behind valid (OthersAreValid valid) (IfPresent RowPrimesAreValid) key (others_in key)
+    eight_numbers_behind valid (OthersAreValid valid) (IfPresent RowPrimesAreValid) key (others_in key)
         (λ both. both.1) p,
   )
 

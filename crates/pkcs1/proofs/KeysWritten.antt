@@ -2,12 +2,12 @@
 -- `src/reencode.rt`, and the law that types exclude each other.
 use Rattle.std.proofs.Common.{ℕ, List, sym, Result, Ok, Err, IfErr, IfOk, ◌≡◌, ◌⊎◌, ◌∙◌, inl, inr, ap, arith, [], ◌∷◌, ◌++◌, ◌≤◌, length, append_assoc, length-append}
 use Rattle.der_core.specs.Words.{one_spelling_shortest, row_shortest, tagged_shortest, WritesShortest, EncodeError, no_encoding, too_long, no_room, another, Reading, ◌>>=◌, encode_error, Excludes, tlv_fit, prints_one, limit}
-use Rattle.pkcs1.specs.Words.{Withholds, public_encoding, AnyNumber, PublicIsValid, IsEncoded, Rejects, Unmade, kept, integer_law}
-use Rattle.pkcs1_params.proofs.Masks.{oaep_begin, pss_begin, record_differs}
+use Rattle.pkcs1.specs.Words.{Withholds, public_encoding, AnyNumber, PublicIsValid, IsEncoded, Rejects, Unmade, bytes_if_read, integer_law}
+use Rattle.pkcs1_params.proofs.Masks.{oaep_fields_begin_high, pss_fields_begin_high, record_differs}
 use Rattle.standard.specs.Statement.{IsShortest, PrivateKeyEncoding, PublicKeyEncoding, integer, AtMostOne, IsOaep, IsPss, OaepEncoding, PssEncoding, oaep_fields, pss_fields, integers, optional, other_primes, sequence, version}
 use Rattle.der_core.specs.declared.error.ErrorKind.{ErrorKind}
 use Rattle.der_core.specs.declared.error.ErrorKind.TheVariants.{OutOfMemory}
-use Rattle.pkcs1_params.specs.Words.{ErrsOrAsks}
+use Rattle.pkcs1_params.specs.Words.{AnswersAsn1OrAsks}
 use Rattle.pkcs1_params.specs.declared.error.Error.{Error}
 use Rattle.pkcs1_params.specs.declared.error.Error.TheVariants as error
 use Rattle.pkcs1_params.proofs.Wrapped.{same_contents}
@@ -47,7 +47,7 @@ module _ {V : Type 0} (Is : V → Type 0) {Encoding : V → List ℕ → Type 0}
     -- Reading and writing again gives what was read, or memory ran out.
     pub memory_wanted : {W : Type 0} {w : W} (read : Reading W) → read bytes ≡ Ok w → (r : Result X Error)
         → IfOk r (λ document. IsShortest Encoding v (encoding_of document)) → IfErr r (Withholds Is Encoding v)
-        → ErrsOrAsks encoding_of (kept read bytes) (asked ⊎ IsEncoded Encoding bytes) r
+        → AnswersAsn1OrAsks encoding_of (bytes_if_read read bytes) (asked ⊎ IsEncoded Encoding bytes) r
     memory_wanted read is (Ok document) s h =
         ap (λ r. r >>= λ _. Ok bytes) is ∙ ap (λ b. Ok b) (one v bytes (encoding_of document) encodes s.0)
     memory_wanted read is (Err (error.Asn1 e)) s h =
@@ -63,16 +63,17 @@ ok_result_holds (Err e) p = tt
 
 -- No encoding of parameters is that of a key, which begins with an INTEGER.
 pub public_pss : Excludes PublicKeyEncoding PssEncoding
-public_pss k v bytes p q = record_differs IsPss pss_fields v 2 bytes _ (omega arith) (pss_begin v) p.1 q
+public_pss k v bytes p q = record_differs IsPss pss_fields v 2 bytes _ (omega arith) (pss_fields_begin_high v) p.1 q
 
 pub public_oaep : Excludes PublicKeyEncoding OaepEncoding
-public_oaep k v bytes p q = record_differs IsOaep oaep_fields v 2 bytes _ (omega arith) (oaep_begin v) p.1 q
+public_oaep k v bytes p q = record_differs IsOaep oaep_fields v 2 bytes _ (omega arith) (oaep_fields_begin_high v) p.1 q
 
 pub private_pss : Excludes PrivateKeyEncoding PssEncoding
-private_pss k v bytes p q = record_differs IsPss pss_fields v 2 bytes _ (omega arith) (pss_begin v) p.2 q
+private_pss k v bytes p q = record_differs IsPss pss_fields v 2 bytes _ (omega arith) (pss_fields_begin_high v) p.2 q
 
 pub private_oaep : Excludes PrivateKeyEncoding OaepEncoding
-private_oaep k v bytes p q = record_differs IsOaep oaep_fields v 2 bytes _ (omega arith) (oaep_begin v) p.2 q
+private_oaep k v bytes p q =
+    record_differs IsOaep oaep_fields v 2 bytes _ (omega arith) (oaep_fields_begin_high v) p.2 q
 
 -- No bytes encode both a public and a private key: more than two numbers are in a private key.
 integers_split : (a b : ℕ) (ns : List ℕ) (rest : List ℕ)

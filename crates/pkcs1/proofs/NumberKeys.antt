@@ -7,7 +7,7 @@ use Rattle.std.specs.declared.vec.Vec.{Vec}
 use Rattle.der_core.specs.Integer.{EncodesNumbers}
 use Rattle.der_core.specs.Words.{Prints, WritesShortest}
 use Rattle.pkcs1.specs.KeyValue.{Listed}
-use Rattle.pkcs1.specs.Words.{AreSome, IsPrivateKey, OtherIsValid, OtherRow, OthersAreValid, PrivateIsValid, PrivateIsWritten, PrivateRow, PrivateSpells, ThreeAreValid, held_private_key, number_in, other_as, other_of, others_as, others_in, others_of, others_printed, primes_printed, private_as, private_key_with, private_printed, private_same_encoding, private_shortest, private_valid, some_stated, stated_some, version_of}
+use Rattle.pkcs1.specs.Words.{AreSome, IsPrivateKey, OtherIsValid, OtherRow, OthersAreValid, PrivateIsValid, PrivateIsWritten, PrivateRow, PrivateSpells, ThreeNumbersAreValid, held_private_key, number_in, other_as, other_of, others_as, others_in, others_of, others_printed, primes_printed, private_as, private_key_with, private_printed, private_same_encoding, private_shortest, private_valid, some_stated, stated_some, version_of}
 use Rattle.pkcs1.specs.declared.private_key.other_prime_info.OtherPrimeInfo.{OtherPrimeInfo}
 use Rattle.standard.specs.Statement.{IfPresent, PrivateKeyEncoding, integer, sequence}
 
@@ -106,7 +106,7 @@ module _ {U S V : Type 0} (valid : S → Type 0) (printed : S → List ℕ) (mea
         let at = number_valid in
         let row = private_as written (private_key_with value key) in
         let primes : OthersAreValid valid (others_in row) = (some, primes_valid_numbers key.other_prime_infos) in
-        let crt : ThreeAreValid valid (OthersAreValid valid) row.1.1.1.1.1 =
+        let crt : ThreeNumbersAreValid valid (OthersAreValid valid) row.1.1.1.1.1 =
         (at key.exponent1, (at key.exponent2, (at key.coefficient, primes))) in
         (at key.modulus, (at key.public_exponent, (at key.private_exponent, (at key.prime1, (at key.prime2, crt)))))
 

@@ -5,10 +5,10 @@ use Rattle.der_core.specs.Words.{Input, read_from, end_of, ok_pair, bind_ok, ok_
 use mathlib.Core.Bool.{beq}
 use Rattle.der_core.specs.declared.error.ErrorKind.{ErrorKind}
 use Rattle.der_core.specs.declared.error.ErrorKind.TheVariants as kind
-use Rattle.der_core.proofs.ReadSteps.{not_true, not_false, Fails, Gives, chain_read_from}
+use Rattle.der_core.proofs.ReadSteps.{not_true, not_false, ReadingFails, ReadingGives, chain_read_from}
 use Rattle.pkcs1.specs.declared.version.Version.{Version}
 use Rattle.pkcs1.specs.declared.version.Version.TheVariants.{TwoPrime, Multi}
-use Rattle.pkcs1.specs.Words.{agreed, lists_none, others_read, primes_read, OtherRow, version_of, version_number}
+use Rattle.pkcs1.specs.Words.{others_if_agreed, lists_none, others_read, primes_read, OtherRow, version_of, version_number}
 
 -- All of some bytes are a list that isn't empty.
 pub others_taken : {V : Type 0} (at : FrontReading V) (b : List ℕ) (primes : List (OtherRow V)) → is_next 48 b ≡ true
@@ -25,20 +25,20 @@ others_taken {V} at (x ∷ xs) primes next read some =
     found r = r >>= λ p. Ok (Some p.0, p.1)
 
     judged : Result (Option (List (OtherRow V)) × List ℕ) ErrorKind → Result (Option (List (OtherRow V))) ErrorKind
-    judged r = r >>= λ q. agreed 1 q.0 q.1
+    judged r = r >>= λ q. others_if_agreed 1 q.0 q.1
 
     go : (v : List (OtherRow V)) (rest : List ℕ) → ended v rest ≡ Ok primes
-        → agreed 1 (Some v) rest ≡ Ok (Some primes)
+        → others_if_agreed 1 (Some v) rest ≡ Ok (Some primes)
     go [] [] e = absurd (some (ap length (sym (ok_injective e))))
     go (o ∷ os) [] e = ap (λ p. Ok (Some p)) (ok_injective e)
     go v (y ∷ ys) e = cc
 
 -- The version, as whether there are other primes.
-abbrev flag : Version → Bool
-flag TwoPrime = false
-flag Multi = true
+abbrev version_flag : Version → Bool
+version_flag TwoPrime = false
+version_flag Multi = true
 
-version_flag_is : (multi : Bool) (v : Version) → IsTrue multi ↔ (v ≡ Multi) → multi ≡ flag v
+version_flag_is : (multi : Bool) (v : Version) → IsTrue multi ↔ (v ≡ Multi) → multi ≡ version_flag v
 version_flag_is true TwoPrime h = let no : TwoPrime ≡ Multi = h.0 refl in cc
 version_flag_is false TwoPrime h = refl
 version_flag_is true Multi h = refl
@@ -53,7 +53,7 @@ module _ {X V : Type 0} (items : X → List (OtherRow V)) (count : X → ℕ)
 
   -- The version is compared with that of the primes by two flags.
   version_compared : (v : Version) (r : Option X)
-      → (version_number v == version_of (option_map items r)) ≡ beq (flag v) (is_some r)
+      → (version_number v == version_of (option_map items r)) ≡ beq (version_flag v) (is_some r)
   version_compared TwoPrime None = refl
   version_compared TwoPrime (Some x) = refl
   version_compared Multi None = refl
@@ -74,15 +74,16 @@ module _ {X V : Type 0} (items : X → List (OtherRow V)) (count : X → ℕ)
   lists_none_of_option (Some x) none h = lists_none_of_list (items x) (count x) none (counts x) h
 
   module _ (at : FrontReading V) (v : Version) (asked : List ℕ → Type 0) (r : Option X) (before mid after : Input)
-      (found : Gives (optional_front 48 (tagged sequence_tag (primes_read at))) (option_map items r) before mid) where
+      (found : ReadingGives (optional_front 48 (tagged sequence_tag (primes_read at)))
+      (option_map items r) before mid) where
     abbrev FailsThere : ErrorKind → Type 0
-    FailsThere e = Fails (others_read at (version_number v)) asked e before after
+    FailsThere e = ReadingFails (others_read at (version_number v)) asked e before after
 
     -- The rest of the function is asked of them.
     others_read_agreed : read_from before (others_read at (version_number v))
-        ≡ agreed (version_number v) (option_map items r) found.0
+        ≡ others_if_agreed (version_number v) (option_map items r) found.0
     others_read_agreed =
-        chain_read_from (optional_front 48 (tagged sequence_tag (primes_read at))) (agreed (version_number v))
+        chain_read_from (optional_front 48 (tagged sequence_tag (primes_read at))) (others_if_agreed (version_number v))
         (option_map items r) before
         mid found
         ∙ rw found.2 refl
@@ -112,8 +113,9 @@ module _ {X V : Type 0} (items : X → List (OtherRow V)) (count : X → ℕ)
         )
 
         -- Bytes follow them, or nothing does.
-        pub more_fails : (e : ErrorKind) → none ≡ false → (read_from mid end_of ≡ Err e) × (after ≡ None) → FailsThere e
-        more_fails e some_there ends = (
+        pub bytes_behind_others_fail : (e : ErrorKind) → none ≡ false → (read_from mid end_of ≡ Err e) × (after ≡ None)
+            → FailsThere e
+        bytes_behind_others_fail e some_there ends = (
           ends.1,
           inr (others_read_agreed
               ∙ rw (version_agrees, lists_none_of_option r none lists ∙ some_there) (go found.0 (rw found.2 at ends.0))),

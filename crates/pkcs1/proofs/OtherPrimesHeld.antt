@@ -4,8 +4,8 @@ use Rattle.std.proofs.Common.{◌≡◌, ℕ, ◌-◌, ◌<◌, List, [], ◌∷
 use Rattle.der_core.specs.Words.{nat_tests, AreBytes, Input, front_of, read_from, ok_pair, HoldsBytes}
 use Rattle.std.proofs.lemmas.Grind.{common_steps}
 use Rattle.std.proofs.lemmas.List.{length-map}
-use Rattle.der_core.proofs.ReadSteps.{Gives, input_injective}
-use Rattle.pkcs1.specs.Words.{held_other_primes, primes_encoded, number_front, primes_read, OtherRow, item_shorter, integer_law, primes_law, listed_printed, held_behind, held_read, next_law, next_some, one_held, next_prime, others_left, others_left-is, other_stated}
+use Rattle.der_core.proofs.ReadSteps.{ReadingGives, input_injective}
+use Rattle.pkcs1.specs.Words.{held_other_primes, primes_encoded, number_front, primes_read, OtherRow, item_shorter, integer_law, primes_law, listed_printed, held_primes_behind_first, held_primes_are_read, next_law, next_some, held_primes_are_one, next_prime, others_left, others_left-is, other_stated}
 use Rattle.std.specs.List.{concat}
 use Rattle.pkcs1.specs.declared.other_primes.OtherPrimes.{OtherPrimes}
 
@@ -24,7 +24,7 @@ pub left_encoded : (primes : OtherPrimes) → AreBytes primes.bytes.now
     → primes.bytes.now ≡ primes_encoded (held_other_primes primes)
 left_encoded primes are =
     let law = primes_law integer_law in
-    (law.gives primes.bytes.now primes.held.0 are (held_read primes.bytes.now primes.left primes.held)).1
+    (law.gives primes.bytes.now primes.held.0 are (held_primes_are_read primes.bytes.now primes.left primes.held)).1
     ∙ ap concat (sym (listed_printed primes.held.0))
     ∙ ap (λ others. primes_encoded (map other_stated others)) (sym (others_left-is primes))
 
@@ -33,8 +33,8 @@ pub held_primes_step : (old new : OtherPrimes) (other : OtherRow ℕ) → new.le
     → next_prime old.bytes.now ≡ Ok (other, new.bytes.now)
     → held_other_primes old ≡ other_stated other ∷ held_other_primes new
 held_primes_step old new other less are next =
-    let s = held_behind old.bytes.now new.bytes.now old.left other old.held are next in
-    let same = one_held new.bytes.now (old.left - 1) new.left s.0 new.held in
+    let s = held_primes_behind_first old.bytes.now new.bytes.now old.left other old.held are next in
+    let same = held_primes_are_one new.bytes.now (old.left - 1) new.left s.0 new.held in
     ap (map other_stated) (others_left-is old ∙ s.1 ∙ ap (λ (o : List (OtherRow ℕ)). other ∷ o)
     (same ∙ sym (others_left-is new)))
 
@@ -43,12 +43,12 @@ pub held_primes_read : (primes : OtherPrimes) (bytes : List ℕ) → primes.byte
     → primes_read number_front bytes ≡ Ok (others_left primes)
 held_primes_read primes bytes is =
     ap (primes_read number_front) (sym is)
-    ∙ held_read primes.bytes.now primes.left primes.held
+    ∙ held_primes_are_read primes.bytes.now primes.left primes.held
     ∙ ap (λ o. Ok o) (sym (others_left-is primes))
 
 -- what reading the first one gave
 pub next_prime_read : {X : Type 0} (value : X → OtherRow ℕ) (other : X) (i : List ℕ) (before after : Input)
-    → before ≡ Some i → Gives next_prime (value other) before after
+    → before ≡ Some i → ReadingGives next_prime (value other) before after
     → (rest : List ℕ) × (next_prime i ≡ Ok (value other, rest)) × (after ≡ Some rest)
 next_prime_read value other i None after is gives = let never = is in cc
 next_prime_read value other i (Some j) after is (rest, read, left) =

@@ -1,7 +1,7 @@
 //! RSA keys and parameters of PKCS #1 (RFC 8017) in DER.
 //!
-//! An encoding is one whole DER encoding: tag, length and contents octets. A sentence is
-//! an encoding of at most `der::Length::MAX` bytes that means a value.
+//! An encoding is one whole DER encoding: tag, length and contents octets. The limit of its length is
+//! `der::Length::MAX` bytes.
 #![tactic(auto)]
 
 mod algorithm;

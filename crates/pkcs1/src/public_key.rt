@@ -4,8 +4,8 @@ ghost use Rattle.pkcs1.specs.Words.{public_row};
 
 use der_core::{
     AsUintRef, BackWriter, Borrowed, Decode, Encode, EncodeInParts, EncodeValue, Encoding,
-    EqualByValue, Length, NoMemory, Record, SequenceTag, TaggedBy, TryClone, Uint, UintEncoding, UintRef,
-    Writer,
+    EqualByValue, Length, NoMemory, Record, SequenceTag, TaggedBy, TryClone, Uint, UintEncoding,
+    UintRef, Writer,
 };
 use pkcs1_params::{Error, Result};
 use std::alloc::Global;
@@ -115,7 +115,7 @@ impl<U: TryClone> RsaPublicKey<U> {
 impl<'a> TryFrom<&'a [u8]> for RsaPublicKey<UintRef<'a>> {
     ghost use Rattle.der_core.specs.Words.{bytes_of, ok_of};
     ghost use Rattle.pkcs1.specs.Words.{held_public_key, rsa_public_key};
-    ghost use Rattle.pkcs1_params.specs.Words.{ErrsAs};
+    ghost use Rattle.pkcs1_params.specs.Words.{AnswersAsn1};
     ghost use Rattle.standard.specs.Statement.{Decodes, PublicKeyEncoding};
 
     type Error = Error;
@@ -123,7 +123,7 @@ impl<'a> TryFrom<&'a [u8]> for RsaPublicKey<UintRef<'a>> {
     /// Decodes a whole slice, and allocates nothing.
     fn try_from(bytes: &'a [u8]) -> Result<RsaPublicKey<UintRef<'a>>>
         ensures read { Decodes PublicKeyEncoding bytes.now (ok_of (held_public_key bytes_of) result) }
-        ensures exact { ErrsAs (held_public_key bytes_of) (rsa_public_key bytes.now) result }
+        ensures exact { AnswersAsn1 (held_public_key bytes_of) (rsa_public_key bytes.now) result }
     {
         Ok(RsaPublicKey::from_der(NoMemory, bytes)?)
     }

@@ -1,7 +1,7 @@
 //! Keys that are decoded and encoded again.
 ghost use Rattle.std.specs.Prelude.{◌≡◌, ◌⊎◌, IfOk, IfErr};
-ghost use Rattle.pkcs1.specs.Words.{OwnedKeyAllocates, OwnedPublicKeyAllocates, kept, rsa_private_key, rsa_public_key, IsEncoded, Rejects};
-ghost use Rattle.pkcs1_params.specs.Words.{ErrsOrAsks};
+ghost use Rattle.pkcs1.specs.Words.{OwnedKeyAllocates, OwnedPublicKeyAllocates, bytes_if_read, rsa_private_key, rsa_public_key, IsEncoded, Rejects};
+ghost use Rattle.pkcs1_params.specs.Words.{AnswersAsn1OrAsks};
 ghost use Rattle.der_core.specs.Words.{encoding_of};
 ghost use Rattle.standard.specs.Statement.{PrivateKeyEncoding, PublicKeyEncoding};
 
@@ -18,11 +18,11 @@ use std::alloc::Global;
 /// `from_pkcs1_der`, and `OutOfMemory` for the document.
 pub fn reencode_public_key(alloc: Global, bytes: &[u8]) -> Result<Document>
     ensures same { IfOk result (λ document. encoding_of document ≡ bytes.now) }
-    ensures sentence { IfOk result (λ document. IsEncoded PublicKeyEncoding bytes.now) }
+    ensures encoding { IfOk result (λ document. IsEncoded PublicKeyEncoding bytes.now) }
     ensures err { IfErr result (Rejects PublicKeyEncoding bytes.now
         (OwnedPublicKeyAllocates bytes.now ⊎ IsEncoded PublicKeyEncoding bytes.now)) }
     ensures exact { let asked = OwnedPublicKeyAllocates bytes.now ⊎ IsEncoded PublicKeyEncoding bytes.now in
-        ErrsOrAsks encoding_of (kept rsa_public_key bytes.now) asked result }
+        AnswersAsn1OrAsks encoding_of (bytes_if_read rsa_public_key bytes.now) asked result }
 {
     RsaPublicKeyOwned::from_pkcs1_der(alloc, bytes)?.to_pkcs1_der(alloc)
 }
@@ -31,11 +31,11 @@ pub fn reencode_public_key(alloc: Global, bytes: &[u8]) -> Result<Document>
 /// `from_pkcs1_der`, and `OutOfMemory` for the document.
 pub fn reencode_private_key(alloc: Global, bytes: &[u8]) -> Result<SecretDocument>
     ensures same { IfOk result (λ document. encoding_of document ≡ bytes.now) }
-    ensures sentence { IfOk result (λ document. IsEncoded PrivateKeyEncoding bytes.now) }
+    ensures encoding { IfOk result (λ document. IsEncoded PrivateKeyEncoding bytes.now) }
     ensures err { IfErr result (Rejects PrivateKeyEncoding bytes.now
         (OwnedKeyAllocates bytes.now ⊎ IsEncoded PrivateKeyEncoding bytes.now)) }
     ensures exact { let asked = OwnedKeyAllocates bytes.now ⊎ IsEncoded PrivateKeyEncoding bytes.now in
-        ErrsOrAsks encoding_of (kept rsa_private_key bytes.now) asked result }
+        AnswersAsn1OrAsks encoding_of (bytes_if_read rsa_private_key bytes.now) asked result }
 {
     RsaPrivateKeyOwned::from_pkcs1_der(alloc, bytes)?.to_pkcs1_der(alloc)
 }

@@ -3,7 +3,7 @@ ghost use Rattle.std.specs.Prelude.{◌≡◌, ◌⊎◌, ⊤, List, ℕ, Err, I
 ghost use Rattle.std.specs.Path.{path_bytes};
 ghost use Rattle.der_core.specs.Words.{FileFault, FileGives, FileRefuses, FileTakes, IsDocument, encoding_of, FaultOrMemory, IsFile, sequence_tag, own_bytes_of};
 ghost use Rattle.pkcs1.specs.Words.{OwnedKeyAllocates, OwnedPublicKeyAllocates, rsa_private_key, rsa_public_key, IsPrivateKey, ListsNone, Rejects, Withholds, held_private_key, held_public_key};
-ghost use Rattle.pkcs1_params.specs.Words.{ErrsOrAsks, IsAsn1};
+ghost use Rattle.pkcs1_params.specs.Words.{AnswersAsn1OrAsks, IsAsn1};
 ghost use Rattle.standard.specs.Statement.{Decodes, IsShortest, PrivateKeyEncoding, PublicKeyEncoding};
 ghost use Rattle.pkcs1_params.specs.declared.error.Error.{Error};
 
@@ -156,7 +156,7 @@ impl DecodeRsaPrivateKey for RsaPrivateKey<Uint> {
             IfOk result (λ key. Decodes PrivateKeyEncoding bytes.now (Some (held key))) }
         ensures err { IfErr result (Rejects PrivateKeyEncoding bytes.now (OwnedKeyAllocates bytes.now)) }
         ensures exact { let asked = OwnedKeyAllocates bytes.now in
-            ErrsOrAsks (held_private_key own_bytes_of) (rsa_private_key bytes.now) asked result }
+            AnswersAsn1OrAsks (held_private_key own_bytes_of) (rsa_private_key bytes.now) asked result }
     {
         RsaPrivateKey::<Uint>::decode_owned_key(alloc, bytes)
     }
@@ -173,7 +173,7 @@ impl DecodeRsaPublicKey for RsaPublicKey<Uint> {
             IfOk result (λ key. Decodes PublicKeyEncoding bytes.now (Some (held key))) }
         ensures err { IfErr result (Rejects PublicKeyEncoding bytes.now (OwnedPublicKeyAllocates bytes.now)) }
         ensures exact { let asked = OwnedPublicKeyAllocates bytes.now in
-            ErrsOrAsks (held_public_key own_bytes_of) (rsa_public_key bytes.now) asked result }
+            AnswersAsn1OrAsks (held_public_key own_bytes_of) (rsa_public_key bytes.now) asked result }
     {
         Ok(RsaPublicKey::from_der(alloc, bytes)?)
     }

@@ -118,7 +118,7 @@ impl<'a> TryFrom<&'a [u8]> for RsaPrivateKeyView<'a> {
     ghost use Rattle.std.specs.Prelude.{◌≡◌, IfOk};
     ghost use Rattle.der_core.specs.Words.{ok_of};
     ghost use Rattle.pkcs1.specs.Words.{held_view, rsa_private_key, viewed_encoding};
-    ghost use Rattle.pkcs1_params.specs.Words.{ErrsAs};
+    ghost use Rattle.pkcs1_params.specs.Words.{AnswersAsn1};
     ghost use Rattle.standard.specs.Statement.{Decodes, PrivateKeyEncoding};
 
     type Error = Error;
@@ -128,7 +128,7 @@ impl<'a> TryFrom<&'a [u8]> for RsaPrivateKeyView<'a> {
     #[inline(always)]
     fn try_from(bytes: &'a [u8]) -> crate::Result<RsaPrivateKeyView<'a>>
         ensures read { Decodes PrivateKeyEncoding bytes.now (ok_of held_view result) }
-        ensures exact { ErrsAs held_view (rsa_private_key bytes.now) result }
+        ensures exact { AnswersAsn1 held_view (rsa_private_key bytes.now) result }
         ensures bytes { IfOk result (λ view. viewed_encoding view ≡ bytes.now) }
     {
         let key = ViewedKey::from_der(NoMemory, bytes)?;

@@ -11,8 +11,8 @@ use Rattle.pkcs8_core.specs.ContainerReadings as readings
 use Rattle.pkcs8_core.specs.Words.{rsa_held, rsa_private_key_info, container_law, IsContainer, container_printed}
 use Rattle.standard.specs.Statement.{Container, ContainerEncoding, PrivateKey, PrivateKeyEncoding, sequence}
 use Rattle.pkcs1_c.specs.declared.container.PrivateKeyInfo.{PrivateKeyInfo}
-use Rattle.pkcs1_c.specs.Words.{IsErrorNumber, InfoError, UnwrittenStatus, HasKey, private_key_info_seen}
-use Rattle.pkcs1_c.proofs.StructErrors.{IsOne, unwritten_one}
+use Rattle.pkcs1_c.specs.Words.{IsErrorNumber, InfoError, UnwrittenStatus, InfoHasKey, private_key_info_seen}
+use Rattle.pkcs1_c.proofs.StructErrors.{HasOneStatus, unwritten_one}
 
 -- Each fault of a container's RSA key is about the bytes.
 pub contained_keys_tell : (bytes : List ℕ) (k : ErrorKind) → rsa_private_key_info bytes ≡ Err k → TellsOfBytes k
@@ -38,20 +38,20 @@ ContainerSpells = Spells IsContainer (λ c. sequence (container_printed c)) (λ 
 
 module _ (info : PrivateKeyInfo) where
   -- A key in it has no fault.
-  pub error_none : (s : ℕ) → IsErrorNumber (rsa_private_key info.private_key.now) s → HasKey info → ⊥
+  pub error_none : (s : ℕ) → IsErrorNumber (rsa_private_key info.private_key.now) s → InfoHasKey info → ⊥
   error_none s (k, p, a) (key, holds) =
       let taken = private_key_octets_read key info.private_key.now holds in let no = sym p ∙ taken in cc
 
   module _ (room : ℕ) where
     -- There is one status at most.
-    pub info_one : IsOne (InfoError info room)
+    pub info_one : HasOneStatus (InfoError info room)
     info_one s t (inl p) (inl q) = grind arith
     info_one s t (inl p) (inr q) = absurd (error_none s p q.0)
     info_one s t (inr p) (inl q) = absurd (error_none t q p.0)
     info_one s t (inr p) (inr q) = unwritten_one ContainerEncoding (private_key_info_seen info) room s t p.1 q.1
 
     -- Where a key is in it, the container isn't written for another reason.
-    pub info_rest : HasKey info → (s : ℕ) → InfoError info room s
+    pub info_rest : InfoHasKey info → (s : ℕ) → InfoError info room s
         → UnwrittenStatus ContainerEncoding (private_key_info_seen info) room s
     info_rest holds s (inl p) = absurd (error_none s p holds)
     info_rest holds s (inr p) = p.1

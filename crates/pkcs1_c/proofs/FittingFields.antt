@@ -9,11 +9,12 @@ use Rattle.pkcs1_c.specs.Words.{NoStatus, AlgorithmError, AnyError, HashFieldsTh
 use Rattle.pkcs1_c.proofs.StructErrors.{part_none}
 
 -- A value with an encoding within the limit has none of the errors.
-record Fitting {V : Type 0} (Is : V → Type 0) (encoding : V → List ℕ) (WhyNot : V → ℕ → Type 0) : Type 0 where
+record HasNoErrorWhereEncoded {V : Type 0} (Is : V → Type 0) (encoding : V → List ℕ)
+    (WhyNot : V → ℕ → Type 0) : Type 0 where
   none : (v : V) → Is v → length (encoding v) ≤ limit → NoStatus (WhyNot v)
 
 -- An encoding of any tag, and algorithms over it.
-any_fits : Fitting IsAny any AnyError
+any_fits : HasNoErrorWhereEncoded IsAny any AnyError
 any_fits = record { none = λ v ok few s p. let fit = tlv_fit v.tag v.contents in grind arith }
 
 algorithm_parts_fit : {P : Type 0} (WhyNot : P → ℕ → Type 0) (a : Algorithm P) → IsIdentifier a.oid
@@ -21,12 +22,12 @@ algorithm_parts_fit : {P : Type 0} (WhyNot : P → ℕ → Type 0) (a : Algorith
 algorithm_parts_fit WhyNot a is = part_none (OidError a.oid) (OptionError WhyNot a.parameters) (λ s q. q.1 is)
 
 module _ {P : Type 0} {Is : P → Type 0} {encoding : P → List ℕ} {WhyNot : P → ℕ → Type 0}
-    (fit : Fitting Is encoding WhyNot) where
+    (fit : HasNoErrorWhereEncoded Is encoding WhyNot) where
   option_fits : (o : Option P) → IfPresent Is o → length (optional encoding o) ≤ limit → NoStatus (OptionError WhyNot o)
   option_fits None ok few s q = q
   option_fits (Some v) ok few s q = fit.none v ok few s q
 
-  algorithm_fits : Fitting (IsAlgorithm Is) (algorithm encoding) (AlgorithmError WhyNot)
+  algorithm_fits : HasNoErrorWhereEncoded (IsAlgorithm Is) (algorithm encoding) (AlgorithmError WhyNot)
   algorithm_fits = record {
     none = λ a ok few.
         let front = tlv 6 a.oid in
@@ -35,10 +36,10 @@ module _ {P : Type 0} {Is : P → Type 0} {encoding : P → List ℕ} {WhyNot : 
         (option_fits a.parameters ok.1 (omega (arith, few, tlv_fit 48 (front ++ back), length-append front back)));
   }
 
-plain_fits : Fitting (IsAlgorithm IsAny) (algorithm any) PlainError
+plain_fits : HasNoErrorWhereEncoded (IsAlgorithm IsAny) (algorithm any) PlainError
 plain_fits = algorithm_fits any_fits
 
-mask_gen_fits : Fitting (IsAlgorithm (IsAlgorithm IsAny)) (algorithm (algorithm any)) MaskError
+mask_gen_fits : HasNoErrorWhereEncoded (IsAlgorithm (IsAlgorithm IsAny)) (algorithm (algorithm any)) MaskError
 mask_gen_fits = algorithm_fits plain_fits
 
 -- The defaults can be held.
@@ -56,7 +57,8 @@ empty_label_fits = algorithm_parts_fit AnyError empty_label source_identifier (e
 
 -- A field that is first in contents within the limit, and what is behind it.
 module _ {V : Type 0} {Is : V → Type 0} {encoding : V → List ℕ} {WhyNot : V → ℕ → Type 0}
-    (fit : Fitting Is encoding WhyNot) (number : ℕ) (default v : V) (none : NoStatus (WhyNot default)) (ok : Is v)
+    (fit : HasNoErrorWhereEncoded Is encoding WhyNot) (number : ℕ) (default v : V) (none : NoStatus (WhyNot default))
+    (ok : Is v)
     (later : List Field) where
   field_fits : (c : List ℕ) → Fields (field number encoding default v ∷ later) c → length c ≤ limit
       → NoStatus (WhyNot v) × (d : List ℕ) × Fields later d × (length d ≤ limit)

@@ -3,7 +3,7 @@
 use Rattle.std.proofs.Common.{ℕ, List, [], ◌∷◌, ◌++◌, ◌≡◌, ◌≤◌, ◌∙◌, length, length-append, map, subst, sym, ap, arith, rules, nat_lt, ◌↔◌, slice_index, if◌then◌else◌, ◌+◌, ◌-◌, ◌<◌, take, drop, get_or, refl, Some, Result, Err}
 use Rattle.std.specs.List.{AllByRecursion, concat}
 use Rattle.std.proofs.lemmas.Grind.{common_steps}
-use Rattle.der_core.specs.Words.{tlv_fit, limit, Spells, all_encodings, Counts, joined}
+use Rattle.der_core.specs.Words.{tlv_fit, limit, Spells, all_encodings, Counts, sum_of_lengths}
 use Rattle.pkcs1.specs.Words.{IsPrivateKey, held_public_key, number_in, public_encoding, public_as_stated, private_as_stated, private_encoding, private_itself, private_stated, private_as, AnyNumber, PrivateIsValid, PublicIsValid, public_row, OtherIsValid, primes_printed, other_from, other_stated}
 use Rattle.pkcs1.specs.Keys as keys
 use Rattle.pkcs1.specs.declared.public_key.RsaPublicKey.{RsaPublicKey}
@@ -13,7 +13,7 @@ use Rattle.pkcs1_c.specs.declared.given_number.Number.{Number}
 use Rattle.pkcs1_c.specs.declared.private_key.OtherPrime.{OtherPrime}
 use Rattle.pkcs1_c.specs.declared.private_key.PrivateKey.{PrivateKey}
 use Rattle.pkcs1_c.specs.declared.public_key.PublicKey.{PublicKey}
-use Rattle.pkcs1_c.specs.Words.{given_octets_of, NoStatus, NumberError, NumbersError, given_numbers, numbers_of_primes, two_numbers, HasNumbers, HasPrivateNumbers, HaveBytes, number_seen, numbers_of_key, numbers_of_prime, other_prime_seen, other_primes_seen, private_key_seen, public_key_seen, AreCounted, given_encoded}
+use Rattle.pkcs1_c.specs.Words.{given_octets_of, NoStatus, NumberError, NumbersError, given_numbers, numbers_of_primes, two_numbers, HasPublicNumbers, HasPrivateNumbers, HaveBytes, number_seen, numbers_of_key, numbers_of_prime, other_prime_seen, other_primes_seen, private_key_seen, public_key_seen, AreCounted, given_encoded}
 use Rattle.pkcs1_c.proofs.StructErrors.{numbers_have, numbers_none_apart, numbers_none_both, part_none}
 use Rattle.der_core.proofs.Writing.{counts_joined}
 use Rattle.der_core.proofs.Items.{encodings_behind_len, encodings_more}
@@ -34,7 +34,8 @@ numbers_fit (n ∷ ns) some few =
     (λ s p. omega (arith, p, number_fits (number_seen n), l, some.0))
     (numbers_fit ns some.1 (omega (arith, l, few)))
 
-pub public_fits : (key : PublicKey) → HasNumbers key → (bytes : List ℕ) → PublicKeyEncoding (public_key_seen key) bytes
+pub public_fits : (key : PublicKey) → HasPublicNumbers key → (bytes : List ℕ)
+    → PublicKeyEncoding (public_key_seen key) bytes
     → NoStatus (NumbersError (two_numbers key))
 public_fits key some bytes p =
     let ns = two_numbers key in
@@ -161,7 +162,7 @@ given_primes_some others some = grind (arith, common_steps, given_stated)
 -- One more is counted.
 pub counted_more : (others : List OtherPrime) (i : ℕ) (d : OtherPrime) → i < length others → (a b : Result ℕ Error)
     → AreCounted (take i others) a → Counts (Unit {0}) (given_encoded (get_or others i d)) b
-    → AreCounted (take (i + 1) others) (joined a b)
+    → AreCounted (take (i + 1) others) (sum_of_lengths a b)
 counted_more others i d less a b p q =
     rw (encodings_more (λ _. Unit {0}) given_encoded others i d less)
     (counts_joined _ _ (λ _ _. tt) (λ _. (tt, tt)) a b p q)

@@ -4,7 +4,7 @@ use Rattle.std.proofs.lemmas.Grind.{common_steps}
 use Rattle.std.proofs.lemmas.List.{length-map}
 use Rattle.std.specs.List.{AllByRecursion}
 use Rattle.der_core.proofs.Writing.{counts_joined}
-use Rattle.der_core.specs.Words.{Prepends, Appends, Counts, joined}
+use Rattle.der_core.specs.Words.{Prepends, Appends, Counts, sum_of_lengths}
 use Rattle.der_core.specs.declared.back_writer.BackWriter.{BackWriter}
 use Rattle.der_core.specs.declared.error.Error.{Error}
 use Rattle.pkcs1.proofs.KeyRows.{key_appended, key_prepended, private_row_parts, row_room, row_valid}
@@ -83,13 +83,14 @@ module _ (key : PrivateKeyOf Number GivenPrimes) where
       → Counts (Unit {0}) (key_front_encoded (given_key key)) a
       → Counts (AllByRecursion (OtherIsValid AnyNumber) (given_primes others))
       (sequence (primes_printed integer (given_primes others))) b
-      → Counts (PrivateIsValid AnyNumber (given_key key)) (private_printed integer (given_key key)) (joined a b)
+      → Counts (PrivateIsValid AnyNumber (given_key key)) (private_printed integer (given_key key)) (sum_of_lengths a b)
   given_joined others is a b p q =
       let k = given_key key in
       let some = ap (option_map given_primes) is in
       let valid : PrivateIsValid AnyNumber k =
       (tt, (tt, (tt, (tt, (tt, (tt, (tt, (tt, (given_option_some key.other_prime_infos, given_valid_primes key.other_prime_infos))))))))) in
-      subst (λ o. Counts (PrivateIsValid AnyNumber k) (key_front_encoded k ++ others_printed integer o) (joined a b))
+      subst (λ o. Counts (PrivateIsValid AnyNumber k) (key_front_encoded k ++ others_printed integer o)
+      (sum_of_lengths a b))
       (sym some)
       (counts_joined (key_front_encoded k) (sequence (primes_printed integer (given_primes others))) (λ _ _. valid)
       (λ _. (tt, given_primes_valid others.others.now)) a b p q)

@@ -25,50 +25,58 @@ abbrev RsaOaepParamsView : Type 0
 RsaOaepParamsView = OaepParamsOf IdentifierView AnyRef
 
 -- What was read of any tag has no error.
-any_none : (any : Option AnyRef) → NoStatus (OptionError AnyError (option_map any_of any))
-any_none None s p = p
-any_none (Some any) s p = let allowed = any.tag.allowed in let bounded = any.bounded in grind arith
+any_has_no_status : (any : Option AnyRef) → NoStatus (OptionError AnyError (option_map any_of any))
+any_has_no_status None s p = p
+any_has_no_status (Some any) s p = let allowed = any.tag.allowed in let bounded = any.bounded in grind arith
 
 module _ {P V : Type 0} (of : P → V) (WhyNot : V → ℕ → Type 0) (a : AlgorithmView P) where
   -- Nor has an algorithm, if its parameters have none.
-  algorithm_none : NoStatus (OptionError WhyNot (option_map of a.parameters))
+  algorithm_has_no_status : NoStatus (OptionError WhyNot (option_map of a.parameters))
       → NoStatus (AlgorithmError WhyNot (viewed_with of a))
-  algorithm_none none =
+  algorithm_has_no_status none =
       part_none (OidError (viewed_with of a).oid) (OptionError WhyNot (viewed_with of a).parameters)
       (λ s p. p.1 (viewed_held a.oid)) none
 
-pub plain_none : (a : AlgorithmView AnyRef) (seen : Algorithm TagAndContents) → viewed_with any_of a ≡ seen
+pub plain_has_no_status : (a : AlgorithmView AnyRef) (seen : Algorithm TagAndContents) → viewed_with any_of a ≡ seen
     → NoStatus (PlainError seen)
-plain_none a seen is =
-    subst (λ a. NoStatus (PlainError a)) is (algorithm_none any_of AnyError a (any_none a.parameters))
+plain_has_no_status a seen is =
+    subst (λ a. NoStatus (PlainError a)) is (algorithm_has_no_status any_of AnyError a (any_has_no_status a.parameters))
 
-under_none : (under : Option (AlgorithmView AnyRef))
+mask_hash_has_no_status : (under : Option (AlgorithmView AnyRef))
     → NoStatus (OptionError PlainError (option_map (viewed_with any_of) under))
-under_none None s p = p
-under_none (Some a) s p = plain_none a _ refl s p
+mask_hash_has_no_status None s p = p
+mask_hash_has_no_status (Some a) s p = plain_has_no_status a _ refl s p
 
-pub mask_none : (m : AlgorithmView (AlgorithmView AnyRef)) (seen : Algorithm (Algorithm TagAndContents))
+pub mask_has_no_status : (m : AlgorithmView (AlgorithmView AnyRef)) (seen : Algorithm (Algorithm TagAndContents))
     → viewed_with (viewed_with any_of) m ≡ seen → NoStatus (MaskError seen)
-mask_none m seen is =
-    subst (λ m. NoStatus (MaskError m)) is (algorithm_none (viewed_with any_of) PlainError m (under_none m.parameters))
+mask_has_no_status m seen is =
+    subst (λ m. NoStatus (MaskError m)) is
+    (algorithm_has_no_status (viewed_with any_of) PlainError m (mask_hash_has_no_status m.parameters))
 
 -- Nor have both fields, in front of what has none.
-hash_none : (hash : AlgorithmView AnyRef) (mask : AlgorithmView (AlgorithmView AnyRef)) (Rest : ℕ → Type 0)
+hash_fields_have_no_status : (hash : AlgorithmView AnyRef) (mask : AlgorithmView (AlgorithmView AnyRef))
+    (Rest : ℕ → Type 0)
     → NoStatus Rest → NoStatus (HashFieldsThen (viewed_with any_of hash) (viewed_with (viewed_with any_of) mask) Rest)
-hash_none hash mask Rest none =
-    let first = plain_none hash _ refl in let second = mask_none mask _ refl in search (rules, part_none)
+hash_fields_have_no_status hash mask Rest none =
+    let first = plain_has_no_status hash _ refl in let second = mask_has_no_status mask _ refl in
+    search (rules, part_none)
 
-pub pss_none : (p : RsaPssParamsView) (seen : PssParameters) → pss_viewed p ≡ seen → NoStatus (PssFieldError seen)
-pss_none p seen is = subst (λ v. NoStatus (PssFieldError v)) is (hash_none p.hash p.mask_gen _ (λ s q. q.1 refl))
+pub pss_has_no_status : (p : RsaPssParamsView) (seen : PssParameters) → pss_viewed p ≡ seen
+    → NoStatus (PssFieldError seen)
+pss_has_no_status p seen is =
+    subst (λ v. NoStatus (PssFieldError v)) is (hash_fields_have_no_status p.hash p.mask_gen _ (λ s q. q.1 refl))
 
-pub oaep_none : (p : RsaOaepParamsView) (seen : OaepParameters) → oaep_viewed p ≡ seen → NoStatus (OaepFieldError seen)
-oaep_none p seen is =
+pub oaep_has_no_status : (p : RsaOaepParamsView) (seen : OaepParameters) → oaep_viewed p ≡ seen
+    → NoStatus (OaepFieldError seen)
+oaep_has_no_status p seen is =
     subst (λ v. NoStatus (OaepFieldError v)) is
-    (hash_none p.hash p.mask_gen (PlainError (viewed_with any_of p.p_source)) (plain_none p.p_source _ refl))
+    (hash_fields_have_no_status p.hash p.mask_gen (PlainError (viewed_with any_of p.p_source))
+    (plain_has_no_status p.p_source _ refl))
 
 -- The octets of an identifier have none.
-pub oid_none : (oid : IdentifierView) (octets : List ℕ) → identifier_octets oid ≡ octets → NoStatus (OidError octets)
-oid_none oid octets is s p = p.1 (subst IsIdentifier is (viewed_held oid))
+pub oid_has_no_status : (oid : IdentifierView) (octets : List ℕ) → identifier_octets oid ≡ octets
+    → NoStatus (OidError octets)
+oid_has_no_status oid octets is s p = p.1 (subst IsIdentifier is (viewed_held oid))
 
 -- The faults of parameters are about the bytes.
 pub record_tells : {V : Type 0} {Is : V → Type 0} {fields : V → List Field} (r : FieldRecord Is fields)

@@ -11,18 +11,18 @@ use Rattle.pkcs1_c.specs.Words.{key_front_encoded, prime_encoded}
 use Rattle.standard.specs.Statement.{OtherPrime, integer, integers, length_octets, tlv}
 
 -- Two numbers of octets are equal, if one of them is within the limit.
-abbrev pub Agree : ℕ → ℕ → Type 0
-Agree told is = (told ≤ limit) ⊎ (is ≤ limit) → told ≡ is
+abbrev pub AgreeWithinLimit : ℕ → ℕ → Type 0
+AgreeWithinLimit told is = (told ≤ limit) ⊎ (is ≤ limit) → told ≡ is
 
-pub agree_sum : (a b c d : ℕ) → Agree a b → Agree c d → Agree (a + c) (b + d)
+pub agree_sum : (a b c d : ℕ) → AgreeWithinLimit a b → AgreeWithinLimit c d → AgreeWithinLimit (a + c) (b + d)
 agree_sum a b c d p q (inl few) =
     let r = p (inl (omega (arith, few))) in let s = q (inl (omega (arith, few))) in omega (arith, r, s)
 agree_sum a b c d p q (inr few) =
     let r = p (inr (omega (arith, few))) in let s = q (inr (omega (arith, few))) in omega (arith, r, s)
 
 -- What is told of a tag and contents, by what is told of these.
-pub agree_tlv : (size result n : ℕ) → Agree size n → (size ≤ limit → result ≡ tlv_len size) → size ≤ result
-    → Agree result (tlv_len n)
+pub agree_tlv : (size result n : ℕ) → AgreeWithinLimit size n → (size ≤ limit → result ≡ tlv_len size) → size ≤ result
+    → AgreeWithinLimit result (tlv_len n)
 agree_tlv size result n p within least (inl few) =
     let less : size ≤ limit = omega (arith, few, least) in within less ∙ ap tlv_len (p (inl less))
 agree_tlv size result n p within least (inr few) =
@@ -30,7 +30,7 @@ agree_tlv size result n p within least (inr few) =
 
 -- Of a number, by how many octets its contents are.
 pub agree_number : (size result n : ℕ) → size ≡ n → (size ≤ limit → result ≡ tlv_len size) → size ≤ result
-    → Agree result (tlv_len n)
+    → AgreeWithinLimit result (tlv_len n)
 agree_number size result n is = agree_tlv size result n (λ few. is)
 
 tlv_len_of_contents : (tag : ℕ) (c : List ℕ) → length (tlv tag c) ≡ tlv_len (length c)
@@ -65,7 +65,8 @@ front_len k =
     ∙ omega (arith, version_len (others_in k), numbers_len k)
 
 -- A call that returns a length that agrees counts the octets.
-pub agreed_length_counted : (octets : List ℕ) (s n : ℕ) → length octets ≡ n → Agree s n → (r : Result ℕ Error)
+pub agreed_length_counted : (octets : List ℕ) (s n : ℕ) → length octets ≡ n → AgreeWithinLimit s n
+    → (r : Result ℕ Error)
     → IfOk r (λ m. (m ≡ s) × (s ≤ limit)) → IfErr r (λ f. (f.kind ≡ Overflow) × (limit < s))
     → Counts (Unit {0}) octets r
 agreed_length_counted octets s n is same (Ok m) ok err = (tt, omega (arith, ok, is, same (inl ok.1)), omega (arith, ok))

@@ -2,7 +2,7 @@
 use Rattle.std.proofs.Common.{ℕ, List, [], ◌∷◌, ◌++◌, ◌≡◌, ◌+◌, ◌<◌, ◌⊎◌, inr, length, map, take, drop, sym, ap, ◌∙◌, arith, set, drop-set-lt, drop-drop, ◌≤◌, refl, Err, Ok, Some, length-append}
 use Rattle.std.proofs.lemmas.List.{map-set, take_more_set, length-map}
 use Rattle.std.proofs.lemmas.Grind.{common_steps}
-use Rattle.der_core.proofs.ReadSteps.{Gives}
+use Rattle.der_core.proofs.ReadSteps.{ReadingGives}
 use Rattle.der_core.specs.Words.{Input, limit, ok_pair}
 use Rattle.der_core.specs.declared.error.ErrorKind.{ErrorKind}
 use Rattle.pkcs1.proofs.OtherPrimesHeld.{next_prime_shorter}
@@ -28,14 +28,15 @@ next_prime_found o others few = next_law.takes (other_from o) (primes_encoded ot
 -- The next one is placed.
 module _ (primes : List OtherPrime) (left after : Input) (others old : List struct.OtherPrime) (i : ℕ)
     (made : struct.OtherPrime) (other : keys.OtherRow ℕ) (less : i < length others)
-    (holds : numbers_of_prime made ≡ octets_of_prime (other_stated other)) (gives : Gives next_prime other left after)
+    (holds : numbers_of_prime made ≡ octets_of_prime (other_stated other))
+    (gives : ReadingGives next_prime other left after)
   where
     pub one_placed : Placing primes left others old i → Placing primes after (set others i made) old (i + 1)
     one_placed p = go p.behind p.few p.placed (rw p.reads at gives)
       where
         go : (behind : List OtherPrime) → length (primes_encoded behind) ≤ limit
             → take i (map numbers_of_prime others) ++ map octets_of_prime behind ≡ map octets_of_prime primes
-            → Gives next_prime other (Some (primes_encoded behind)) after
+            → ReadingGives next_prime other (Some (primes_encoded behind)) after
             → Placing primes after (set others i made) old (i + 1)
         go [] few placed (rest, read, more) = absurd (omega (arith, next_prime_shorter [] rest other tt read))
         go (o ∷ behind) few placed (rest, read, more) =

@@ -9,21 +9,21 @@ use Rattle.pkcs1_c.specs.declared.private_key.OtherPrime.{OtherPrime}
 use Rattle.standard.specs.Statement.{Algorithm, IsShortest, OaepParameters, PssParameters, TagAndContents, octets}
 
 -- There is one status at most.
-abbrev pub IsOne : (ℕ → Type 0) → Type 0
-IsOne WhyNot = (s t : ℕ) → WhyNot s → WhyNot t → s ≡ t
+abbrev pub HasOneStatus : (ℕ → Type 0) → Type 0
+HasOneStatus WhyNot = (s t : ℕ) → WhyNot s → WhyNot t → s ≡ t
 
 -- An error, and not lack of room.
-abbrev pub IsOtherError : (ℕ → Type 0) → Type 0
-IsOtherError WhyNot = (s : ℕ) → WhyNot s → (0 < s) × (s ≢ 15)
+abbrev pub IsNeitherOkNorNoRoom : (ℕ → Type 0) → Type 0
+IsNeitherOkNorNoRoom WhyNot = (s : ℕ) → WhyNot s → (0 < s) × (s ≢ 15)
 
 -- What is so of each part.
 abbrev pub IsPartError : (ℕ → Type 0) → Type 0
-IsPartError WhyNot = IsOne WhyNot × IsOtherError WhyNot
+IsPartError WhyNot = HasOneStatus WhyNot × IsNeitherOkNorNoRoom WhyNot
 
 -- Encodings.
 module _ {V : Type 0} (Encoding : V → List ℕ → Type 0) (v : V) (room : ℕ) where
   -- There is one status at most.
-  pub unwritten_one : IsOne (UnwrittenStatus Encoding v room)
+  pub unwritten_one : HasOneStatus (UnwrittenStatus Encoding v room)
   unwritten_one s t p q = grind arith
 
   -- An encoding that fits is written.

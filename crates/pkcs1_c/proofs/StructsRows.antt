@@ -1,7 +1,7 @@
 -- Worked rows of `Structs.antt`: what structs hold, and what a call that writes says and leaves.
 use Rattle.std.proofs.Common.{ℕ, List, [], ◌∷◌, ◌≡◌, arith, length, refl, Bool, true, false, Option, Some, None}
 use Rattle.std.specs.Borrow.{Bor}
-use Rattle.pkcs1_c.specs.Structs.{AlgorithmIsTidy, ArePlaced, HasKey, HasNumbers, HasPrivateNumbers, HaveBytes, Holds, HoldsPrivate, If, InfoIsTidy, MaskGenIsTidy, WritesOrTells, algorithm_seen, mask_gen_seen, numbers_of_key, oaep_seen, octets_of_key, other_primes_seen, private_key_info_seen, private_key_seen, pss_seen, public_key_seen}
+use Rattle.pkcs1_c.specs.Structs.{AlgorithmIsTidy, ArePlaced, EncodingIfHeld, HasPrivateNumbers, HasPublicNumbers, HaveBytes, HoldsPrivateKey, HoldsPublicKey, InfoHasKey, InfoIsTidy, MaskGenIsTidy, WritesOrTells, algorithm_seen, mask_gen_seen, numbers_of_key, oaep_seen, octets_of_key, other_primes_seen, private_key_info_seen, private_key_seen, pss_seen, public_key_seen}
 use Rattle.pkcs1_c.specs.declared.algorithm.Algorithm as algorithms
 use Rattle.pkcs1_c.specs.declared.algorithm.MaskGen.{MaskGen}
 use Rattle.pkcs1_c.specs.declared.container.PrivateKeyInfo.{PrivateKeyInfo}
@@ -40,10 +40,10 @@ unchanged_length : WritesOrTells NoOctets 0 [] [] 5 6 8 → ⊥
 unchanged_length p =
     omega (arith, (p.unchanged (λ e. omega (arith, e))).1 (λ e. omega (arith, e)))
 
-not_held : If ⊥ ItsOctet 0 (1 ∷ []) → ⊥
+not_held : EncodingIfHeld ⊥ ItsOctet 0 (1 ∷ []) → ⊥
 not_held p = p.0
 
-not_encoded : If (Unit {0}) ItsOctet 0 [] → ⊥
+not_encoded : EncodingIfHeld (Unit {0}) ItsOctet 0 [] → ⊥
 not_encoded p = let same = p.1 in cc
 
 -- == Public keys ==
@@ -56,16 +56,19 @@ public_meant = record { modulus = 256; public_exponent = 3 }
 public_struct_seen : public_key_seen public_struct ≡ public_meant
 public_struct_seen = refl
 
-public_struct_has_numbers : HasNumbers public_struct
+public_struct_has_numbers : HasPublicNumbers public_struct
 public_struct_has_numbers = (omega arith, omega arith)
 
-public_struct_without_modulus : HasNumbers (record { modulus = lent_at []; public_exponent = lent_at (3 ∷ []) }) → ⊥
+public_struct_without_modulus : HasPublicNumbers (record { modulus = lent_at []; public_exponent = lent_at (3 ∷ []) })
+    → ⊥
 public_struct_without_modulus p = omega (arith, p.0)
 
-public_struct_without_exponent : HasNumbers (record { modulus = lent_at (3 ∷ []); public_exponent = lent_at [] }) → ⊥
+public_struct_without_exponent : HasPublicNumbers (record { modulus = lent_at (3 ∷ []); public_exponent = lent_at [] })
+    → ⊥
 public_struct_without_exponent p = omega (arith, p.1)
 
-public_struct_holds : Holds (record { modulus = lent_at (1 ∷ 0 ∷ []); public_exponent = lent_at (3 ∷ []) }) public_meant
+public_struct_holds : HoldsPublicKey
+    (record { modulus = lent_at (1 ∷ 0 ∷ []); public_exponent = lent_at (3 ∷ []) }) public_meant
 public_struct_holds = (refl, refl)
 
 -- == Parameters ==
@@ -182,7 +185,7 @@ empty_prime_not_placed : ArePlaced (prime_meant ∷ [])
     (record { prime = lent_at []; exponent = lent_at []; coefficient = lent_at [] } ∷ []) → ⊥
 empty_prime_not_placed p = cc
 
-private_struct_holds : HoldsPrivate (private_struct 1) (private_meant (Some (prime_meant ∷ [])))
+private_struct_holds : HoldsPrivateKey (private_struct 1) (private_meant (Some (prime_meant ∷ [])))
 private_struct_holds = (refl, refl)
 
 -- == Containers ==
@@ -200,5 +203,5 @@ info_struct_without_attributes = refl
 untidy_info : InfoIsTidy (info_struct false) → ⊥
 untidy_info p = let same = p refl in cc
 
-no_key : HasKey (info_struct true) → ⊥
+no_key : InfoHasKey (info_struct true) → ⊥
 no_key p = let same = p.1.2 in cc

@@ -2,8 +2,8 @@
 -- that returns a status.
 use Rattle.std.proofs.Common.{ℕ, zero, suc, List, ◌≡◌, ◌<◌, ◌∙◌, ◌⊎◌, length, take, refl, sym, subst, arith, rules, inl, inr, Some, length-take-le, ◌↔◌, Result, Ok, Err, IfOk, IfErr, ◌≤◌, ap}
 use Rattle.standard.specs.Statement.{Decodes, Encodes}
-use Rattle.pkcs1_c.specs.Words.{IsErrorOf, NoStatus, FieldsError, PartThen, UnwrittenStatus, If, IsShortestLength, WritesOrTells, kind_number, status_of, IsErrorNumber, IsStatusOf}
-use Rattle.pkcs1_c.proofs.StructErrors.{IsOne, IsPartError, fits_written}
+use Rattle.pkcs1_c.specs.Words.{IsErrorOf, NoStatus, FieldsError, PartThen, UnwrittenStatus, EncodingIfHeld, IsShortestLength, WritesOrTells, kind_number, status_of, IsErrorNumber, IsStatusOf}
+use Rattle.pkcs1_c.proofs.StructErrors.{HasOneStatus, IsPartError, fits_written}
 use Rattle.der_core.specs.Words.{EncodeError, TellsOfBytes, another, encode_error, no_encoding, no_room, written_is_shortest, too_long, limit, Spells, WritesShortest}
 use Rattle.der_core.specs.Writing as writing
 use Rattle.der_core.specs.declared.error.ErrorKind.{ErrorKind}
@@ -13,15 +13,15 @@ use Rattle.pkcs1_params.specs.declared.error.Error.TheVariants as error
 use Rattle.std.proofs.lemmas.Bool.{cases_lt}
 
 -- A status that is the only one is that of the error.
-pub is_error : (WhyNot : ℕ → Type 0) (s : ℕ) → IsOne WhyNot → 0 < s → WhyNot s → IsErrorOf WhyNot s
-is_error WhyNot zero one some p = absurd (omega (arith, some))
-is_error WhyNot (suc n) one some p = search rules
+pub only_status_is_error : (WhyNot : ℕ → Type 0) (s : ℕ) → HasOneStatus WhyNot → 0 < s → WhyNot s → IsErrorOf WhyNot s
+only_status_is_error WhyNot zero one some p = absurd (omega (arith, some))
+only_status_is_error WhyNot (suc n) one some p = search rules
 
 -- Two ways to say the same reasons.
-pub error_as : (A B : ℕ → Type 0) (s : ℕ) → ((t : ℕ) → A t → B t) → ((t : ℕ) → B t → A t) → IsErrorOf A s
+pub error_of_same_reasons : (A B : ℕ → Type 0) (s : ℕ) → ((t : ℕ) → A t → B t) → ((t : ℕ) → B t → A t) → IsErrorOf A s
     → IsErrorOf B s
-error_as A B zero there back none = search rules
-error_as A B (suc n) there back error = search rules
+error_of_same_reasons A B zero there back none = search rules
+error_of_same_reasons A B (suc n) there back error = search rules
 
 module _ {V : Type 0} (Encoding : V → List ℕ → Type 0) (v : V) (old new : List ℕ) (l m : ℕ) where
   -- The shortest encoding is at the front.
@@ -33,17 +33,17 @@ module _ {V : Type 0} (Encoding : V → List ℕ → Type 0) (v : V) (old new : 
   )
 
   -- It isn't, and its length is told if it has one.
-  pub not_written : (status s : ℕ) → status ≡ s → UnwrittenStatus Encoding v (length old) s → new ≡ old
+  pub unwritten_tells_length : (status s : ℕ) → status ≡ s → UnwrittenStatus Encoding v (length old) s → new ≡ old
       → ((n : ℕ) → IsShortestLength Encoding v n → m ≡ n) → (((bytes : List ℕ) → Encoding v bytes → ⊥) → m ≡ l)
       → WritesOrTells Encoding v old new l m status
-  not_written status s is (inl p) same needed kept = search rules
-  not_written status s is (inr p) same needed kept = let e = needed p.1 p.2 in search rules
+  unwritten_tells_length status s is (inl p) same needed kept = search rules
+  unwritten_tells_length status s is (inr p) same needed kept = let e = needed p.1 p.2 in search rules
 
 -- Why it isn't, of all reasons the only one.
 module _ {V : Type 0} (Encoding : V → List ℕ → Type 0) (v : V) (room : ℕ) where
   pub unwritten_is : (status s : ℕ) → status ≡ s → UnwrittenStatus Encoding v room s
       → IsErrorOf (UnwrittenStatus Encoding v room) status
-  unwritten_is status s is p = search (rules, is_error)
+  unwritten_is status s is p = search (rules, only_status_is_error)
 
 -- A value, and another that has the same encodings.
 module _ {V W : Type 0} (Encoding : V → List ℕ → Type 0) (v : V) (Other : W → List ℕ → Type 0) (w : W)
@@ -58,12 +58,12 @@ module _ {V W : Type 0} (Encoding : V → List ℕ → Type 0) (v : V) (Other : 
   pub unwritten_error_as : (room s : ℕ) → IsErrorOf (UnwrittenStatus Other w room) s
       → IsErrorOf (UnwrittenStatus Encoding v room) s
   unwritten_error_as room s =
-      error_as (UnwrittenStatus Other w room) (UnwrittenStatus Encoding v room) s (λ t p. search rules)
+      error_of_same_reasons (UnwrittenStatus Other w room) (UnwrittenStatus Encoding v room) s (λ t p. search rules)
       (λ t p. search rules)
 
   -- Parts of the value can be held.
   pub held_written : (Has : Type 0) → Has → {old new : List ℕ} {l m s : ℕ} → WritesOrTells Other w old new l m s
-      → WritesOrTells (If Has Encoding) v old new l m s
+      → WritesOrTells (EncodingIfHeld Has Encoding) v old new l m s
   held_written Has has told = search rules
 
 -- A part that can be held, or not.
@@ -105,7 +105,8 @@ module _ {V : Type 0} (Part : V → ℕ → Type 0) (Encoding : V → List ℕ �
       )
   known_written (Err n) (same, less, bytes, short, is) kept none (full, count) =
       let why : UnwrittenStatus Encoding v (length old) 15 = inr (refl, n, (bytes, short, is), less) in (
-        not_written Encoding v old new l m s 15 full why same (λ k other. grind arith) (λ no. absurd (no bytes short.0)),
+        unwritten_tells_length Encoding v old new l m s 15 full why same (λ k other. grind arith)
+            (λ no. absurd (no bytes short.0)),
         error_behind (Part v) (UnwrittenStatus Encoding v (length old)) s (fits bytes short.0)
             (unwritten_is Encoding v (length old) s 15 full why),
       )
@@ -158,28 +159,29 @@ decodes_equal_value Encoding {bytes} is read = subst (λ v. Decodes Encoding byt
 -- The needed length: that of the shortest encoding, which is the one that is written.
 module _ {S V : Type 0} {valid : S → Type 0} {printed : S → List ℕ} {means : S → V} {written : V → S}
     (law : WritesShortest valid printed means written) (v : V) (ok : valid (written v)) where
-  abbrev Needed : ℕ
-  Needed = length (printed (written v))
+  abbrev needed_length : ℕ
+  needed_length = length (printed (written v))
 
   -- No encoding is shorter.
-  needed_least : (bytes : List ℕ) → Spells valid printed means v bytes → Needed ≤ length bytes
+  needed_least : (bytes : List ℕ) → Spells valid printed means v bytes → needed_length ≤ length bytes
   needed_least bytes (few, (s, e, known, is)) =
       let same = ap (λ u. length (printed (written u))) e in
       let least = law.least s known (omega (arith, few, ap length is)) in grind arith
 
   -- A number that is this one for a value within the limit is its shortest length.
-  pub needed_is : {m : ℕ} → (valid (written v) → Needed ≤ limit → m ≡ Needed) → (n : ℕ)
+  pub needed_is : {m : ℕ} → (valid (written v) → needed_length ≤ limit → m ≡ needed_length) → (n : ℕ)
       → IsShortestLength (Spells valid printed means) v n → m ≡ n
   needed_is told n (bytes, short, is) =
       let less = needed_least bytes short.0 in
-      let few : Needed ≤ limit = omega (arith, less, short.0.0) in
+      let few : needed_length ≤ limit = omega (arith, less, short.0.0) in
       let t = told ok few in
       let least = short.1 (printed (written v)) (written_is_shortest law v ok few).0 in grind arith
 
   -- A number that is as before past the limit is so for a value without an encoding.
-  pub needed_kept : {m l : ℕ} → (limit < Needed → m ≡ l) → ((bytes : List ℕ) → Spells valid printed means v bytes → ⊥)
+  pub needed_kept : {m l : ℕ} → (limit < needed_length → m ≡ l)
+      → ((bytes : List ℕ) → Spells valid printed means v bytes → ⊥)
       → m ≡ l
-  needed_kept told none = elim (cases_lt limit Needed) [
+  needed_kept told none = elim (cases_lt limit needed_length) [
     | inl more ↦ told more
     | inr few ↦ absurd (none (printed (written v)) (written_is_shortest law v ok (omega (arith, few))).0)
   ]

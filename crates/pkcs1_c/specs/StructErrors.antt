@@ -9,7 +9,7 @@ use Rattle.pkcs1_c.specs.declared.public_key.PublicKey.{PublicKey}
 use Rattle.pkcs1_c.specs.declared.private_key.PrivateKey.{PrivateKey}
 use Rattle.pkcs1_c.specs.declared.private_key.OtherPrime.{OtherPrime}
 use Rattle.pkcs1_c.specs.Status.{IsErrorNumber, NoStatus}
-use Rattle.pkcs1_c.specs.Structs.{HasKey, IsShortestLength, number_seen, numbers_of_key, numbers_of_prime, private_key_info_seen, private_key_seen, public_key_seen}
+use Rattle.pkcs1_c.specs.Structs.{InfoHasKey, IsShortestLength, number_seen, numbers_of_key, numbers_of_prime, private_key_info_seen, private_key_seen, public_key_seen}
 
 -- The statuses of structs that aren't written, by the names that `src/status.rt` gives to numbers.
 abbrev pub LENGTH : ℕ
@@ -85,7 +85,7 @@ PrivateKeyError key others room =
 abbrev pub InfoError : PrivateKeyInfo → ℕ → ℕ → Type 0
 InfoError info room status =
     IsErrorNumber (rsa_private_key info.private_key.now) status
-    ⊎ (HasKey info × UnwrittenStatus ContainerEncoding (private_key_info_seen info) room status)
+    ⊎ (InfoHasKey info × UnwrittenStatus ContainerEncoding (private_key_info_seen info) room status)
 
 -- Octets that are no object identifier.
 abbrev pub OidError : List ℕ → ℕ → Type 0

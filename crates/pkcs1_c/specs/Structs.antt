@@ -31,8 +31,8 @@ pub record WritesOrTells {V : Type 0} (Encoding : V → List ℕ → Type 0) (v 
   pub unchanged : status ≢ 0 → (new ≡ old) × (status ≢ 15 → new_len ≡ old_len)
 
 -- A value that can't be held has no encoding.
-abbrev pub If : {V : Type 0} → Type 0 → (V → List ℕ → Type 0) → V → List ℕ → Type 0
-If IsHeld Encoding v bytes = IsHeld × Encoding v bytes
+abbrev pub EncodingIfHeld : {V : Type 0} → Type 0 → (V → List ℕ → Type 0) → V → List ℕ → Type 0
+EncodingIfHeld IsHeld Encoding v bytes = IsHeld × Encoding v bytes
 
 -- == Public keys ==
 abbrev pub number_seen : List ℕ → ℕ
@@ -44,12 +44,12 @@ public_key_seen key =
     record { modulus = number_seen key.modulus.now; public_exponent = number_seen key.public_exponent.now }
 
 -- Each number has a byte.
-abbrev pub HasNumbers : public_structs.PublicKey → Type 0
-HasNumbers key = (0 < length key.modulus.now) × (0 < length key.public_exponent.now)
+abbrev pub HasPublicNumbers : public_structs.PublicKey → Type 0
+HasPublicNumbers key = (0 < length key.modulus.now) × (0 < length key.public_exponent.now)
 
 -- The struct has the octets of the key.
-abbrev pub Holds : public_structs.PublicKey → PublicKey → Type 0
-Holds key v = (key.modulus.now ≡ octets v.modulus) × (key.public_exponent.now ≡ octets v.public_exponent)
+abbrev pub HoldsPublicKey : public_structs.PublicKey → PublicKey → Type 0
+HoldsPublicKey key v = (key.modulus.now ≡ octets v.modulus) × (key.public_exponent.now ≡ octets v.public_exponent)
 
 -- == Parameters ==
 -- Tag and contents count only if `has_parameters` is true, the hash of MGF1 only if `has_hash` is.
@@ -151,14 +151,14 @@ ArePlaced others array =
     take (length array) (map octets_of_prime others) ≡ take (length others) (map numbers_of_prime array)
 
 -- The struct has the octets of the key and tells how many other primes it has.
-abbrev pub HoldsPrivate : key_structs.PrivateKey → PrivateKey → Type 0
-HoldsPrivate key v =
+abbrev pub HoldsPrivateKey : key_structs.PrivateKey → PrivateKey → Type 0
+HoldsPrivateKey key v =
     (numbers_of_key key ≡ octets_of_key v) × (key.other_primes ≡ length (listed_others v.other_primes))
 
 -- The bytes encode one key. The struct has it, and the list has the encodings of its other primes.
-abbrev pub DecodesPrivate : List ℕ → key_structs.PrivateKey → List ℕ → Type 0
-DecodesPrivate bytes key list =
-    (v : PrivateKey) × Decodes PrivateKeyEncoding bytes (Some v) × HoldsPrivate key v
+abbrev pub DecodesPrivateKey : List ℕ → key_structs.PrivateKey → List ℕ → Type 0
+DecodesPrivateKey bytes key list =
+    (v : PrivateKey) × Decodes PrivateKeyEncoding bytes (Some v) × HoldsPrivateKey key v
     × (list ≡ primes_encoded (listed_others v.other_primes))
 
 -- == Containers ==
@@ -175,5 +175,5 @@ abbrev pub InfoIsTidy : PrivateKeyInfo → Type 0
 InfoIsTidy info = info.has_attributes ≡ false → info.attributes.now ≡ []
 
 -- The private key's octets encode a key.
-abbrev pub HasKey : PrivateKeyInfo → Type 0
-HasKey info = (key : PrivateKey) × PrivateKeyEncoding key info.private_key.now
+abbrev pub InfoHasKey : PrivateKeyInfo → Type 0
+InfoHasKey info = (key : PrivateKey) × PrivateKeyEncoding key info.private_key.now

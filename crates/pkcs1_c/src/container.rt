@@ -1,9 +1,9 @@
 //! RSA keys in PKCS #8 containers.
 ghost use Rattle.std.specs.Prelude.{◌≡◌, ◌≢◌, length, IfErr, IfOk, OnErr, OnOk, Some, None};
 ghost use Rattle.pkcs1.specs.Words.{held_view, rsa_private_key};
-ghost use Rattle.pkcs1_params.specs.Words.{ErrsAs, IsAsn1};
+ghost use Rattle.pkcs1_params.specs.Words.{AnswersAsn1, IsAsn1};
 ghost use Rattle.pkcs8_core.specs.Words.{ContainedKey, IsContainer, info_of, info_viewed, rsa_encryption, rsa_private_key_info};
-ghost use Rattle.pkcs1_c.specs.Words.{DecodesPrivate, HasKey, If, InfoError, InfoIsTidy, IsErrorOf, IsStatusOf, WritesOrTells, private_key_info_seen};
+ghost use Rattle.pkcs1_c.specs.Words.{DecodesPrivateKey, EncodingIfHeld, InfoError, InfoHasKey, InfoIsTidy, IsErrorOf, IsStatusOf, WritesOrTells, private_key_info_seen};
 ghost use Rattle.standard.specs.Statement.{ContainedKeyEncoding, ContainerEncoding, Decodes};
 
 use crate::bytes::Bytes;
@@ -34,7 +34,7 @@ fn read_container<'a>(
     ensures key { IfOk result (λ read. let c = info_viewed read.0 in
         Decodes (ContainedKey c) c.private_key (Some (held_view read.1))) }
     ensures err { OnErr result (Decodes ContainedKeyEncoding encoding.now None) }
-    ensures exact { ErrsAs (λ read. held_view read.1) (rsa_private_key_info encoding.now) result }
+    ensures exact { AnswersAsn1 (λ read. held_view read.1) (rsa_private_key_info encoding.now) result }
 {
     let info = PrivateKeyInfoView::try_from(encoding)?;
     let view = info.rsa_view()?;
@@ -73,7 +73,7 @@ pub extern "C" fn pkcs1_c_private_key_info_decode<'a>(
     listed: &mut Bytes<'a>,
 ) -> u32
     ensures ok { result ≡ OK → Decodes ContainerEncoding encoding.now (Some (private_key_info_seen info.new)) }
-    ensures key { result ≡ OK → DecodesPrivate info.new.private_key.now key.new listed.new.octets.now }
+    ensures key { result ≡ OK → DecodesPrivateKey info.new.private_key.now key.new listed.new.octets.now }
     ensures rejected { result ≢ OK → Decodes ContainedKeyEncoding encoding.now None }
     ensures exact { IsStatusOf (rsa_private_key_info encoding.now) result }
     ensures tidy { result ≡ OK → InfoIsTidy info.new }
@@ -93,7 +93,7 @@ pub extern "C" fn pkcs1_c_private_key_info_decode<'a>(
 /// The container of a C struct. Its `private_key` must be the encoding of a private key.
 fn from_c_info<'a>(info: &PrivateKeyInfo<'a>) -> pkcs1::Result<PrivateKeyInfoRef<'a>>
     ensures ok { IfOk result (λ made. info_of made ≡ private_key_info_seen info.now) }
-    ensures key { OnOk result (HasKey info.now) }
+    ensures key { OnOk result (InfoHasKey info.now) }
     ensures some { IfOk result (λ made. IsContainer (info_of made)) }
     ensures exact { IfErr result (IsAsn1 (λ e. rsa_private_key info.now.private_key.now ≡ Err e.kind)) }
 {
@@ -121,7 +121,7 @@ pub extern "C" fn pkcs1_c_private_key_info_encode(
     out: &mut [u8],
     len: &mut usize,
 ) -> u32
-    ensures writes { let Encoding = If (HasKey info.now) ContainerEncoding in
+    ensures writes { let Encoding = EncodingIfHeld (InfoHasKey info.now) ContainerEncoding in
         WritesOrTells Encoding (private_key_info_seen info.now) out.old out.new len.old len.new result }
     ensures exact { IsErrorOf (InfoError info.now (length out.old)) result }
 {

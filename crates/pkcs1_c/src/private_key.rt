@@ -2,7 +2,7 @@
 ghost use Rattle.std.specs.Prelude.{length, drop, ◌≡◌, ◌≢◌, ◌≤◌, List, None};
 ghost use Rattle.der_core.specs.Words.{ReadsFront, bytes_of, left_of, limit};
 ghost use Rattle.pkcs1.specs.Words.{held_other_prime, held_view, listed_others, next_prime, primes_encoded, rsa_private_key};
-ghost use Rattle.pkcs1_c.specs.Words.{ArePlaced, DecodesPrivate, HasPrivateNumbers, HoldsPrivate, If, IsErrorOf, IsStatusOf, PrivateKeyError, WritesOrTells, numbers_of_prime, octets_of_prime, private_key_seen};
+ghost use Rattle.pkcs1_c.specs.Words.{ArePlaced, DecodesPrivateKey, EncodingIfHeld, HasPrivateNumbers, HoldsPrivateKey, IsErrorOf, IsStatusOf, PrivateKeyError, WritesOrTells, numbers_of_prime, octets_of_prime, private_key_seen};
 ghost use Rattle.standard.specs.Statement.{Decodes, OtherPrime as Prime, PrivateKeyEncoding};
 
 use crate::bytes::Bytes;
@@ -64,7 +64,7 @@ fn to_c_other_prime<'a>(info: &OtherPrimeInfo<UintRef<'a>>) -> OtherPrime<'a>
 #[tactic(auto, using(crate::proofs::HeldKeys::octets_held))]
 #[inline(always)]
 pub(crate) fn to_c_key<'a>(view: &RsaPrivateKeyView<'a>) -> PrivateKey<'a>
-    ensures { HoldsPrivate result (held_view view.now) }
+    ensures { HoldsPrivateKey result (held_view view.now) }
 {
     PrivateKey {
         modulus: view.modulus().as_bytes(),
@@ -97,7 +97,7 @@ pub extern "C" fn pkcs1_c_private_key_decode<'a>(
     key: &mut PrivateKey<'a>,
     listed: &mut Bytes<'a>,
 ) -> u32
-    ensures ok { result ≡ OK → DecodesPrivate encoding.now key.new listed.new.octets.now }
+    ensures ok { result ≡ OK → DecodesPrivateKey encoding.now key.new listed.new.octets.now }
     ensures rejected { result ≢ OK → Decodes PrivateKeyEncoding encoding.now None }
     ensures exact { IsStatusOf (rsa_private_key encoding.now) result }
     ensures unchanged { result ≢ OK → (key.new ≡ key.old) × (listed.new ≡ listed.old) }
@@ -150,7 +150,7 @@ pub extern "C" fn pkcs1_c_private_key_encode(
     out: &mut [u8],
     len: &mut usize,
 ) -> u32
-    ensures writes { let Encoding = If (HasPrivateNumbers key.now others.now) PrivateKeyEncoding in
+    ensures writes { let Encoding = EncodingIfHeld (HasPrivateNumbers key.now others.now) PrivateKeyEncoding in
         WritesOrTells Encoding (private_key_seen key.now others.now) out.old out.new len.old len.new result }
     ensures exact { IsErrorOf (PrivateKeyError key.now others.now (length out.old)) result }
 {

@@ -1,7 +1,7 @@
 //! Public keys.
 ghost use Rattle.std.specs.Prelude.{◌≡◌, ◌≢◌, length, IfOk, IfErr, OnOk, Some, None};
 ghost use Rattle.pkcs1.specs.Words.{held_public_key, rsa_public_key};
-ghost use Rattle.pkcs1_c.specs.Words.{HasNumbers, Holds, If, IsErrorOf, IsStatusOf, NoStatus, NumbersError, PublicKeyError, WritesOrTells, given_octets_of, public_key_seen, status_of, two_numbers};
+ghost use Rattle.pkcs1_c.specs.Words.{EncodingIfHeld, HasPublicNumbers, HoldsPublicKey, IsErrorOf, IsStatusOf, NoStatus, NumbersError, PublicKeyError, WritesOrTells, given_octets_of, public_key_seen, status_of, two_numbers};
 ghost use Rattle.standard.specs.Statement as statement;
 ghost use Rattle.standard.specs.Statement.{Decodes, PublicKeyEncoding};
 
@@ -25,7 +25,7 @@ pub struct PublicKey<'a> {
 #[unsafe(no_mangle)]
 pub extern "C" fn pkcs1_c_public_key_decode<'a>(encoding: &'a [u8], key: &mut PublicKey<'a>) -> u32
     ensures ok { result ≡ OK
-        → (v : statement.PublicKey) × Decodes PublicKeyEncoding encoding.now (Some v) × Holds key.new v }
+        → (v : statement.PublicKey) × Decodes PublicKeyEncoding encoding.now (Some v) × HoldsPublicKey key.new v }
     ensures rejected { result ≢ OK → Decodes PublicKeyEncoding encoding.now None }
     ensures exact { IsStatusOf (rsa_public_key encoding.now) result }
     ensures unchanged { result ≢ OK → key.new ≡ key.old }
@@ -60,7 +60,7 @@ pub extern "C" fn pkcs1_c_public_key_encode(
     out: &mut [u8],
     len: &mut usize,
 ) -> u32
-    ensures writes { let Encoding = If (HasNumbers key.now) PublicKeyEncoding in
+    ensures writes { let Encoding = EncodingIfHeld (HasPublicNumbers key.now) PublicKeyEncoding in
         WritesOrTells Encoding (public_key_seen key.now) out.old out.new len.old len.new result }
     ensures exact { IsErrorOf (PublicKeyError key.now (length out.old)) result }
 {

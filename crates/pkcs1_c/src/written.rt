@@ -1,7 +1,7 @@
 //! Encoding into a caller's slice.
 ghost use Rattle.std.specs.Prelude.{◌≡◌, ◌≤◌, ◌<◌, length, IfErr, IfOk};
 ghost use Rattle.der_core.specs.Words.{Spells, limit};
-ghost use Rattle.pkcs1_params.specs.Words.{Encoded};
+ghost use Rattle.pkcs1_params.specs.Words.{EncodingOfFields};
 ghost use Rattle.pkcs1_c.specs.Words.{IsErrorOf, UnwrittenStatus, WritesOrTells};
 ghost use Rattle.standard.specs.Statement.{AlgorithmEncoding};
 
@@ -63,9 +63,9 @@ pub(crate) fn write_encoding<T: Encode>(value: &T, out: &mut [u8], len: &mut usi
 
 /// Writes the shortest encoding of parameters, as `write_encoding` does.
 pub(crate) fn write_params<T: EncodeParams>(params: T, out: &mut [u8], len: &mut usize) -> u32
-    ensures writes { let Encoding = Encoded T.Is T.fields_of in
+    ensures writes { let Encoding = EncodingOfFields T.Is T.fields_of in
         WritesOrTells Encoding (T.params params) out.old out.new len.old len.new result }
-    ensures exact { let Encoding = Encoded T.Is T.fields_of in
+    ensures exact { let Encoding = EncodingOfFields T.Is T.fields_of in
         IsErrorOf (UnwrittenStatus Encoding (T.params params) (length out.old)) result }
 {
     params.lemma_is_valid();
@@ -87,9 +87,9 @@ pub(crate) fn write_algorithm<D: AssociatedOid, T: EncodeParams>(
     out: &mut [u8],
     len: &mut usize,
 ) -> u32
-    ensures writes { let Encoding = AlgorithmEncoding D.contents (Encoded T.Is T.fields_of) in
+    ensures writes { let Encoding = AlgorithmEncoding D.contents (EncodingOfFields T.Is T.fields_of) in
         WritesOrTells Encoding (T.params params) out.old out.new len.old len.new result }
-    ensures exact { let Encoding = AlgorithmEncoding D.contents (Encoded T.Is T.fields_of) in
+    ensures exact { let Encoding = AlgorithmEncoding D.contents (EncodingOfFields T.Is T.fields_of) in
         IsErrorOf (UnwrittenStatus Encoding (T.params params) (length out.old)) result }
 {
     write_encoding(&Shortest::identified::<D>(params), out, len)

@@ -4,7 +4,7 @@ use Rattle.std.proofs.Common.{ℕ, Bool, true, List, ◌++◌, ◌≡◌, ◌≤
 use Rattle.der_core.specs.Words.{nat_tests, AreBytes, back_bytes, front_bytes, cond_cases, tlv_fit, whole_decodes, whole_takes, bind_err, bind_ok, ok_injective, unexpected_not, limit, tagged_shortest, Spells, WritesShortest, value_in, Reading, whole, ◌>>=◌}
 use Rattle.std.proofs.lemmas.Slice.Eq.{bytes_eq-Decides}
 use Rattle.der_core.specs.declared.error.ErrorKind.{ErrorKind}
-use Rattle.spki_core.specs.Words.{is_identifier, is_identifier-sound, algorithm_contents, algorithm_map, AreSpelled, FieldRecord, Spelling, record_means, record_read, record_strictly, spelled, record_under, spelling_read, strict_value, strict_whole, upto, record_alike, record_front_law, record_law, record_reads, record_shortest, spelled_from, spelled_to, under_valid, algorithm_writes_shortest, any_as}
+use Rattle.spki_core.specs.Words.{is_identifier, is_identifier-sound, algorithm_contents, algorithm_map, AreSpelled, FieldRecord, Spelling, record_means, record_read, record_strictly, spelling_printed, record_under, spelling_read, strict_value, strict_whole, upto, record_alike, record_front_law, record_law, record_reads, record_shortest, spelled_from, spelled_to, under_valid, algorithm_writes_shortest, any_as}
 use Rattle.spki_core.proofs.RecordEncodings.{default_count, default_count_only, encoding_under, encodings_are_all, encodings_within_longest}
 use Rattle.spki_core.proofs.StrictFields.{contents_bytes, strict_decodes}
 use Rattle.pkcs1_params.specs.Words.{Identifies, PlainEncoding, identified, parameters_as, whole_algorithm, plain_law, plain_front, with_parameters}
@@ -13,12 +13,12 @@ use Rattle.standard.specs.Statement.{Algorithm, AlgorithmEncoding, AreAll, Decod
 use Rattle.der_core.specs.Tags as tags
 
 -- The algorithm with a SEQUENCE of these contents as parameters.
-abbrev pub holding : List ℕ → List ℕ → Algorithm TagAndContents
-holding oid c = record { oid = oid; parameters = Some (record { tag = 48; contents = c }) }
+abbrev pub algorithm_holding : List ℕ → List ℕ → Algorithm TagAndContents
+algorithm_holding oid c = record { oid = oid; parameters = Some (record { tag = 48; contents = c }) }
 
 -- In it, the parameters are read as their contents are.
 pub identified_is : {V : Type 0} (oid : List ℕ) (read : Reading V) (c : List ℕ)
-    → identified oid read (holding oid c) ≡ read c
+    → identified oid read (algorithm_holding oid c) ≡ read c
 identified_is oid read c = let same : bytes_eq oid oid ≡ true = (bytes_eq-Decides oid oid).1 refl in rw same refl
 
 -- What a whole slice is read as, by its identifier.
@@ -29,13 +29,13 @@ identified_behind_any oid bytes a x is given read = ap (λ r. r >>= identified o
 
 -- And nothing is read of another one.
 pub identified_holds : {V : Type 0} (oid : List ℕ) (read : Reading V) (a : Algorithm TagAndContents) (v : V)
-    → identified oid read a ≡ Ok v → (c : List ℕ) × (a ≡ holding oid c) × (read c ≡ Ok v)
+    → identified oid read a ≡ Ok v → (c : List ℕ) × (a ≡ algorithm_holding oid c) × (read c ≡ Ok v)
 identified_holds {V} oid read a v is =
     ⊎_elim (λ w. go a.parameters refl w.1 ((bytes_eq-Decides a.oid oid).0 w.0)) (λ w. let no = w.1 in cc)
     (cond_cases (bytes_eq a.oid oid) _ _ _ is)
   where
     go : (o : Option TagAndContents) → a.parameters ≡ o → parameters_as read o ≡ Ok v → a.oid ≡ oid
-        → (c : List ℕ) × (a ≡ holding oid c) × (read c ≡ Ok v)
+        → (c : List ℕ) × (a ≡ algorithm_holding oid c) × (read c ≡ Ok v)
     go None e p same = cc
     go (Some x) e p same = ⊎_elim (λ w.
         let tag : x.tag ≡ 48 = grind (arith, nat_tests, w.0) in (
@@ -70,7 +70,7 @@ identified_decodes {V} {Is} {fields} r oid a held =
     ap (identified oid (record_read r)) e ∙ identified_is oid (record_read r) c
     ∙ (record_reads r).takes c v (held_in c e).1 (ok, there))
   where
-    held_in : (c : List ℕ) → a ≡ holding oid c → AreBytes c × (length c ≤ limit)
+    held_in : (c : List ℕ) → a ≡ algorithm_holding oid c → AreBytes c × (length c ≤ limit)
     held_in c e = subst (λ (x : Algorithm TagAndContents). IfPresent AreHeld x.parameters) e held
 
 -- What isn't read by one function isn't read by another one that refuses it too, for the same fault.
@@ -108,9 +108,9 @@ module _ (oid : List ℕ) (valid : is_identifier oid ≡ true) where
   pub whole_algorithm_is : {V : Type 0} (read : Reading V) (c bytes : List ℕ) → AreBytes bytes → length bytes ≤ limit
       → bytes ≡ wrapped oid (sequence c) → whole_algorithm oid read bytes ≡ read c
   whole_algorithm_is read c bytes are few is =
-      let held : IsAlgorithm IsAny (holding oid c) =
+      let held : IsAlgorithm IsAny (algorithm_holding oid c) =
       (identifier_in (sequence c) bytes are is, ((λ i. true), bytes_in c bytes are is)) in
-      ap (λ r. r >>= identified oid read) (whole_takes plain_law (holding oid c) bytes (few, held, is))
+      ap (λ r. r >>= identified oid read) (whole_takes plain_law (algorithm_holding oid c) bytes (few, held, is))
       ∙ identified_is oid read c
 
   -- And what is read as a value is such an encoding.
@@ -164,7 +164,7 @@ module _ (oid : List ℕ) (valid : is_identifier oid ≡ true) where
     strict_algorithm_in v bytes p are (few, q, x, is) given =
         let one : q ≡ p = wrapped_one oid q p (omega (arith, few, ap length is)) (sym is ∙ given) in
         let (within, (s, e, ok, there)) = spelled_from r v q x in
-        let c = spelled r.kinds s in
+        let c = spelling_printed r.kinds s in
         let less : length c ≤ limit = omega (arith, within, ap length there, tlv_fit 48 c) in
         let fit : length p ≤ limit = omega (arith, within, ap length one) in
         whole_algorithm_is (record_strictly r) c bytes are few (is ∙ ap (wrapped oid) there)
@@ -228,7 +228,7 @@ module _ (oid : List ℕ) (identifier : IsIdentifier oid) where
 
     -- What the kernel prints of the algorithm with these parameters is such an encoding.
     abbrev pub algorithm_printed : Algorithm (Spelling r.kinds) → List ℕ
-    algorithm_printed a = sequence (algorithm_contents (λ s. sequence (spelled r.kinds s)) a)
+    algorithm_printed a = sequence (algorithm_contents (λ s. sequence (spelling_printed r.kinds s)) a)
 
     abbrev pub AlgorithmSpelled : Algorithm V → List ℕ → Type 0
     AlgorithmSpelled = Spells (IsAlgorithm (AreSpelled r.kinds)) algorithm_printed (algorithm_map (record_means r))
@@ -246,16 +246,16 @@ module _ (oid : List ℕ) (identifier : IsIdentifier oid) where
         to : AlgorithmSpelled (with_parameters oid v) bytes → HoldingEncoding v bytes
         to (few, (a, e, ok, is)) =
             go a.parameters (ap (λ (a : Algorithm V). a.parameters) e) ok.1
-            (is ∙ ap (λ x. sequence (tlv 6 x ++ optional (λ s. sequence (spelled r.kinds s)) a.parameters))
+            (is ∙ ap (λ x. sequence (tlv 6 x ++ optional (λ s. sequence (spelling_printed r.kinds s)) a.parameters))
             (ap (λ (a : Algorithm V). a.oid) e))
           where
             go : (o : Option (Spelling r.kinds)) → option_map (record_means r) o ≡ Some v
                 → IfPresent (AreSpelled r.kinds) o
-                → bytes ≡ sequence (tlv 6 oid ++ optional (λ s. sequence (spelled r.kinds s)) o)
+                → bytes ≡ sequence (tlv 6 oid ++ optional (λ s. sequence (spelling_printed r.kinds s)) o)
                 → HoldingEncoding v bytes
             go None never ok all = cc
             go (Some s) means ok all =
-                let p = sequence (spelled r.kinds s) in
+                let p = sequence (spelling_printed r.kinds s) in
                 let one : record_means r s ≡ v = cc in
                 (few, p, spelled_to r v p (omega (arith, few, ap length all, wrapped_fit oid p), (s, one, ok, refl)), all)
 

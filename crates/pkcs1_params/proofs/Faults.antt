@@ -6,8 +6,8 @@ use Rattle.der_core.specs.declared.error.ErrorKind.TheVariants.{Noncanonical, Oi
 use Rattle.der_core.specs.declared.tag.Tag.{Tag}
 use Rattle.der_core.specs.Words.{cond_cases, alone_law, bind_err, unexpected_tells, limit, ReadsFrontPrinted, TellsOfBytes, FrontReading, checked, tagged, whole, context_octet, is_allowed, ok_of, value_in, ◌>>=◌, nat_tests, whole_takes, is_next}
 use Rattle.der_core.specs.Tags as tags
-use Rattle.spki_core.specs.Words.{FieldRecord, first_written, record_means, record_strictly, spelling_read, strict_whole, record_front_law, record_law, noncanonical, unless_found, AreLawful, AreNumbered, Kind, Spelling, Values, fields_of, spelling_means, one_spelled, spelled, strict_value, spelled_from, spelled_not_next, is_identifier}
-use Rattle.pkcs1_params.specs.Words.{identified, parameters_as, whole_algorithm, plain_law, FaultsTell, plain_front, Error, IsAsn1, ErrsAs, IsEncoded, fault_in, fault_told, NamesFirstDefaultIn, FirstWritten, NamesFirstDefault}
+use Rattle.spki_core.specs.Words.{FieldRecord, first_written, record_means, record_strictly, spelling_read, strict_whole, record_front_law, record_law, noncanonical, unless_found, AreLawful, AreNumbered, Kind, Spelling, Values, fields_of, spelling_means, field_printed, spelling_printed, strict_value, spelled_from, spelled_not_next, is_identifier}
+use Rattle.pkcs1_params.specs.Words.{identified, parameters_as, whole_algorithm, plain_law, FaultsTell, plain_front, Error, IsAsn1, AnswersAsn1, IsEncoded, fault_in, fault_told, NamesFirstDefaultIn, FirstWritten, NamesFirstDefault}
 use Rattle.standard.specs.Statement.{Algorithm, Field, TagAndContents, Decodes, Fields, SequenceOf, sequence}
 use Rattle.der_core.specs.declared.error.Error as der
 use Rattle.pkcs1_params.specs.declared.error.Error.TheVariants as error
@@ -89,10 +89,12 @@ asn1_as f error.Version p = absurd p
 -- == What is done with a value that was read ==
 
 -- A value is read, and the rest of the function is asked.
-pub errs_behind : {X A B : Type 0} (value : X → B) (first : Result A ErrorKind) (behind : A → Result B ErrorKind)
-    (a : A) → first ≡ Ok a → (r : Result X Error) → ErrsAs value (behind a) r → ErrsAs value (first >>= behind) r
-errs_behind value first behind a is (Ok x) p = ap (λ r. r >>= behind) is ∙ p
-errs_behind value first behind a is (Err e) p = asn1_as (λ k f. ap (λ r. r >>= behind) is ∙ f) e p
+pub answers_asn1_behind : {X A B : Type 0} (value : X → B) (first : Result A ErrorKind)
+    (behind : A → Result B ErrorKind)
+    (a : A) → first ≡ Ok a → (r : Result X Error) → AnswersAsn1 value (behind a) r
+    → AnswersAsn1 value (first >>= behind) r
+answers_asn1_behind value first behind a is (Ok x) p = ap (λ r. r >>= behind) is ∙ p
+answers_asn1_behind value first behind a is (Err e) p = asn1_as (λ k f. ap (λ r. r >>= behind) is ∙ f) e p
 
 -- The error of a fault.
 pub fault_kind_given : {V : Type 0} (given : Result V ErrorKind) (k : ErrorKind) → given ≡ Err k → (e : Error)
@@ -105,17 +107,18 @@ pub fault_kind_same : {V : Type 0} {given other : Result V ErrorKind} → given 
 fault_kind_same same e p = subst (λ r. IsAsn1 (λ a. r ≡ Err a.kind) e) (sym same) p
 
 -- A call that returns what a function gives decodes what the function does.
-pub errs_decode : {X V B : Type 0} (E : V → B → Type 0) (bytes : B) (value : X → V) (given : Result V ErrorKind)
-    → Decodes E bytes (value_in given) → (r : Result X Error) → ErrsAs value given r → Decodes E bytes (ok_of value r)
-errs_decode E bytes value given d (Ok x) p = subst (λ g. Decodes E bytes (value_in g)) p d
-errs_decode E bytes value given d (Err (error.Asn1 e)) p = subst (λ g. Decodes E bytes (value_in g)) p d
-errs_decode E bytes value given d (Err error.Crypto) p = absurd p
-errs_decode E bytes value given d (Err error.KeyMalformed) p = absurd p
-errs_decode E bytes value given d (Err error.Version) p = absurd p
+pub answers_asn1_decode : {X V B : Type 0} (E : V → B → Type 0) (bytes : B) (value : X → V) (given : Result V ErrorKind)
+    → Decodes E bytes (value_in given) → (r : Result X Error) → AnswersAsn1 value given r
+    → Decodes E bytes (ok_of value r)
+answers_asn1_decode E bytes value given d (Ok x) p = subst (λ g. Decodes E bytes (value_in g)) p d
+answers_asn1_decode E bytes value given d (Err (error.Asn1 e)) p = subst (λ g. Decodes E bytes (value_in g)) p d
+answers_asn1_decode E bytes value given d (Err error.Crypto) p = absurd p
+answers_asn1_decode E bytes value given d (Err error.KeyMalformed) p = absurd p
+answers_asn1_decode E bytes value given d (Err error.Version) p = absurd p
 
 -- The fault of such a call is that of the function, and there is none exactly of bytes that encode a value.
 pub fault_told_given : {X V : Type 0} (value : X → V) (given : Result V ErrorKind) (r : Result X Error)
-    (fault : Option ErrorKind) → fault ≡ fault_told r → ErrsAs value given r → fault ≡ fault_in given
+    (fault : Option ErrorKind) → fault ≡ fault_told r → AnswersAsn1 value given r → fault ≡ fault_in given
 fault_told_given value given (Ok x) fault told p = told ∙ sym (ap fault_in p)
 fault_told_given value given (Err (error.Asn1 e)) fault told p = told ∙ sym (ap fault_in p)
 fault_told_given value given (Err error.Crypto) fault told p = absurd p
@@ -124,7 +127,7 @@ fault_told_given value given (Err error.Version) fault told p = absurd p
 
 pub fault_told_encoded : {X V : Type 0} (E : V → List ℕ → Type 0) (bytes : List ℕ) (value : X → V)
     (given : Result V ErrorKind) (r : Result X Error) (fault : Option ErrorKind) → fault ≡ fault_told r
-    → ErrsAs value given r → Decodes E bytes (ok_of value r) → (fault ≡ None) ↔ IsEncoded E bytes
+    → AnswersAsn1 value given r → Decodes E bytes (ok_of value r) → (fault ≡ None) ↔ IsEncoded E bytes
 fault_told_encoded E bytes value given (Ok x) fault told p d = (λ _. (value x, d.0), λ _. told)
 fault_told_encoded E bytes value given (Err (error.Asn1 e)) fault told p d =
     (λ no. let q = sym told ∙ no in cc, λ q. absurd (d q.0 q.1))
@@ -153,11 +156,11 @@ later_tag_not_next (k ∷ ks) m n less law (x, v) i c (inr (inr (d, j, e, later,
 
 -- So what is found in a spelling is the first one there.
 first_written_found : (ks : List Kind) (m : ℕ) → AreLawful m ks → AreNumbered m ks → (s : Spelling ks) (n : ℕ)
-    → FirstWritten (fields_of ks (spelling_means ks s)) n (spelled ks s) → first_written ks s ≡ Some (m + n)
+    → FirstWritten (fields_of ks (spelling_means ks s)) n (spelling_printed ks s) → first_written ks s ≡ Some (m + n)
 first_written_found [] m law numbered s n p = absurd p
 first_written_found (k ∷ ks) m law numbered (None, s) n (inl (d, e, later, is, rest)) =
     let other = spelled_not_next ks (k.number + 1) k.number (omega arith) law.4 s in
-    let here : is_next (160 + k.number) (spelled ks s) ≡ true = rw is (grind (arith, nat_tests)) in
+    let here : is_next (160 + k.number) (spelling_printed ks s) ≡ true = rw is (grind (arith, nat_tests)) in
     let never : true ≡ false = sym here ∙ other in cc
 first_written_found (k ∷ ks) m law numbered (None, s) n (inr (inl (d, j, e, p))) =
     let step : k.number + 1 ≡ m + 1 = omega (arith, numbered.0) in
@@ -168,13 +171,14 @@ first_written_found (k ∷ ks) m law numbered (Some x, s) n (inl (d, e, later, i
     let yes : k.is_default x ≡ true = (law.2 x).1 d in rw yes (ap (λ i. Some i) (omega (arith, numbered.0, e)))
 first_written_found (k ∷ ks) m law numbered (Some x, s) n (inr (inl (d, j, e, p))) =
     let other = later_tag_not_next ks k.number (k.number + 1) (omega arith) law.4 (spelling_means ks s) j _ p in
-    let here : is_next (160 + k.number) (one_spelled k x ++ spelled ks s) ≡ true = grind (arith, nat_tests) in
+    let here : is_next (160 + k.number) (field_printed k x ++ spelling_printed ks s) ≡ true =
+    grind (arith, nat_tests) in
     let never : true ≡ false = sym here ∙ other in cc
 first_written_found (k ∷ ks) m law numbered (Some x, s) n (inr (inr (d, j, e, later, is, p))) =
     let step : k.number + 1 ≡ m + 1 = omega (arith, numbered.0) in
-    let rest : later ≡ spelled ks s =
-    sym (drop-append_seam (one_spelled k x) later) ∙ ap (drop (length (one_spelled k x))) (sym is)
-    ∙ drop-append_seam (one_spelled k x) (spelled ks s) in
+    let rest : later ≡ spelling_printed ks s =
+    sym (drop-append_seam (field_printed k x) later) ∙ ap (drop (length (field_printed k x))) (sym is)
+    ∙ drop-append_seam (field_printed k x) (spelling_printed ks s) in
     go (k.is_default x) refl
     (first_written_found ks (m + 1) (subst (λ i. AreLawful i ks) step law.4) numbered.1 s j
     (subst (FirstWritten (fields_of ks (spelling_means ks s)) j) rest p) ∙ ap (λ i. Some i) (omega (arith, e)))
@@ -189,12 +193,13 @@ module _ {V : Type 0} {Is : V → Type 0} {fields : V → List Field} (r : Field
   pub first_named : NamesFirstDefault Is fields (strict_whole r)
   first_named v n tag contents bytes p is first octet =
       let (few, (s, e, ok, same)) = spelled_from r v bytes p in
-      let one : contents ≡ spelled r.kinds s =
-      same_contents contents (spelled r.kinds s) (omega (arith, few, ap length is)) (sym is ∙ same) in
+      let one : contents ≡ spelling_printed r.kinds s =
+      same_contents contents (spelling_printed r.kinds s) (omega (arith, few, ap length is)) (sym is ∙ same) in
       let means : spelling_means r.kinds s ≡ r.split v = sym (r.parted (spelling_means r.kinds s)) ∙ ap r.split e in
-      let here : FirstWritten (fields_of r.kinds (spelling_means r.kinds s)) n (spelled r.kinds s) =
-      subst (λ u. FirstWritten (fields_of r.kinds u) n (spelled r.kinds s)) (sym means)
-      (subst (λ fs. FirstWritten fs n (spelled r.kinds s)) (r.fields_are v) (subst (FirstWritten (fields v) n) one first)) in
+      let here : FirstWritten (fields_of r.kinds (spelling_means r.kinds s)) n (spelling_printed r.kinds s) =
+      subst (λ u. FirstWritten (fields_of r.kinds u) n (spelling_printed r.kinds s)) (sym means)
+      (subst (λ fs. FirstWritten fs n (spelling_printed r.kinds s)) (r.fields_are v)
+      (subst (FirstWritten (fields v) n) one first)) in
       let at = first_written_found r.kinds 0 r.lawful r.numbered s n here in
       let zero : 0 + n ≡ n = omega arith in
       ap (λ x. x >>= strict_value r.kinds r.join) (whole_takes (record_front_law r) s bytes (few, ok, same))

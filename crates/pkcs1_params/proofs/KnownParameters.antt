@@ -2,9 +2,9 @@
 -- encoding. For `src/known.rt`.
 use Rattle.std.proofs.Common.{ℕ, List, [], ◌∷◌, ◌++◌, ◌==◌, ◌≡◌, ◌≤◌, ◌<◌, ◌+◌, refl, append-nil, ap, true, false, arith, rules, subst, sym, ◌∙◌, length, length-append, drop, inl, inr, nat_lt, None, Some, Option, Result, Ok, Err}
 use Rattle.der_core.specs.Words.{nat_tests, AreBytes, length_octets-short, small_contents_as, written_encodes}
-use Rattle.spki_core.specs.Words.{FieldRecord, Kind, Values, is_identifier-sound, null_value, record_under, spelled, under}
+use Rattle.spki_core.specs.Words.{FieldRecord, Kind, Values, is_identifier-sound, null_value, record_under, spelling_printed, spelling_under}
 use Rattle.spki_core.proofs.RecordEncodings.{encoding_under, encoding_under_zero_shortest}
-use Rattle.pkcs1_params.specs.Words.{hash_algorithm, hash_kind, mask_kind, mgf1_identifier, label_front, oaep_record, octets_value, pkcs1_algorithm, pss_lawful, pss_record, salt_kind, source_identifier, source_kind, trailer_kind, id_p_specified, Encoded, AreKnown, InPlace, IsKnownHash, PutsOrCounts, WritesOrCounts, known_fields, known_label, long_salt_field, oaep_with_hashes, place_front, pss_with_hashes, salt_field, with_parameters}
+use Rattle.pkcs1_params.specs.Words.{hash_algorithm, hash_kind, mask_kind, mgf1_identifier, label_front, oaep_record, octets_value, pkcs1_algorithm, pss_lawful, pss_record, salt_kind, source_identifier, source_kind, trailer_kind, id_p_specified, EncodingOfFields, AreKnown, InPlace, IsKnownHash, PutsOrCounts, WritesOrCounts, known_fields, known_label, long_salt_field, oaep_with_hashes, place_front, pss_with_hashes, salt_field, with_parameters}
 use Rattle.pkcs1_params.proofs.Wrapped.{shortest_outside, wrapped}
 use Rattle.standard.specs.Statement.{Encodes, Field, IsIdentifier, IsShortest, length_octets, sequence, tlv}
 
@@ -12,12 +12,12 @@ use Rattle.standard.specs.Statement.{Encodes, Field, IsIdentifier, IsShortest, l
 pub record AreWritten {V : Type 0} {Is : V → Type 0} {fields : V → List Field} (r : FieldRecord Is fields) (v : V)
     (f l : List ℕ) : Type 0 where
   pub valid : Is v
-  pub written : spelled r.kinds (record_under r 0 v) ≡ f ++ l
+  pub written : spelling_printed r.kinds (record_under r 0 v) ≡ f ++ l
   pub few : length f ≤ 47
 
 -- The same of the fields behind the first two.
 abbrev AreBehind : (ks : List Kind) → Values ks → List ℕ → Type 0
-AreBehind ks v l = spelled ks (under ks 0 v) ≡ l
+AreBehind ks v l = spelling_printed ks (spelling_under ks 0 v) ≡ l
 
 hash_identifier : (n : ℕ) → n < 128 → IsIdentifier (hash_algorithm n)
 hash_identifier n few =
@@ -87,7 +87,7 @@ module _ (hash mask_gen inner : List ℕ) where
   -- They are what is written of both fields, where no default is.
   known_fields_written : (ks : List Kind) (v : Values ks) (l : List ℕ) (h u : Option ℕ)
       → AreKnown hash mask_gen inner h u
-      → AreBehind ks v l → spelled (hash_kind ∷ mask_kind ∷ ks) (under (hash_kind ∷ mask_kind ∷ ks) 0
+      → AreBehind ks v l → spelling_printed (hash_kind ∷ mask_kind ∷ ks) (spelling_under (hash_kind ∷ mask_kind ∷ ks) 0
       (with_parameters hash null_value, (with_parameters mask_gen (with_parameters inner null_value), v)))
       ≡ known_fields h u ++ l
   unfolding length_octets
@@ -153,27 +153,28 @@ module _ {V : Type 0} {Is : V → Type 0} {fields : V → List Field} {r : Field
     params = 0x30 ∷ length (f ++ l) ∷ (f ++ l)
 
     -- alone
-    known_shortest : length (f ++ l) < 128 → IsShortest (Encoded Is fields) v params
+    known_shortest : length (f ++ l) < 128 → IsShortest (EncodingOfFields Is fields) v params
     known_shortest short =
         let is : encoding_under r v 0 ≡ params = rw (are.written, length_octets-short (length (f ++ l)) short) refl in
-        subst (IsShortest (Encoded Is fields) v) is
+        subst (IsShortest (EncodingOfFields Is fields) v) is
         (encoding_under_zero_shortest r v are.valid (omega (arith, ap length is, short)))
 
     -- in their place
     known_placed : (at : Option ℕ) → length l + length (place_front at 0) ≤ 80
-        → IsShortest (InPlace at (Encoded Is fields)) v (place_front at (length params) ++ params)
+        → IsShortest (InPlace at (EncodingOfFields Is fields)) v (place_front at (length params) ++ params)
     known_placed None few = known_shortest (omega (arith, are.few, few, length-append f l))
     known_placed (Some n) few =
         let all : length (f ++ l) < 115 = omega (arith, are.few, few, length-append f l) in
         let is = wrapped_is n params (omega (arith, all)) in
-        subst (IsShortest (InPlace (Some n) (Encoded Is fields)) v) is
-        (shortest_outside (pkcs1_algorithm n) (Encoded Is fields) v params (omega (arith, ap length is, all))
+        subst (IsShortest (InPlace (Some n) (EncodingOfFields Is fields)) v) is
+        (shortest_outside (pkcs1_algorithm n) (EncodingOfFields Is fields) v params (omega (arith, ap length is, all))
         (known_shortest (omega (arith, all))))
 
     -- What a call wrote or counted that has these octets.
     pub known_octets_put : (old new : List ℕ) (result : Result ℕ ℕ) → length new ≡ length old
         → PutsOrCounts (place_front place (length params) ++ params) old new result
-        → WritesOrCounts (InPlace place (Encoded Is fields)) v old new result
+        → WritesOrCounts (InPlace place (EncodingOfFields Is fields)) v old new result
     known_octets_put old new (Ok n) kept (count, is) =
-        written_encodes (InPlace place (Encoded Is fields)) v old new _ n (known_placed place few) count is kept
+        written_encodes (InPlace place (EncodingOfFields Is fields)) v old new _ n
+        (known_placed place few) count is kept
     known_octets_put old new (Err n) kept (count, less, same) = (same, less, _, known_placed place few, count)

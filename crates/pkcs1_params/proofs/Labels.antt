@@ -2,10 +2,10 @@
 use Rattle.std.proofs.Common.{ℕ, List, [], ◌∷◌, ◌++◌, ◌≡◌, ◌<◌, ◌≤◌, length, true, false, subst, sym, ap, ◌∙◌, arith, length-append, append-nil, append_assoc, Bool, Result, Ok, Err, refl, IfOk, IfErr, if◌then◌else◌, is_ok}
 use Rattle.std.specs.Prelude.{⊤}
 use Rattle.der_core.proofs.Writing.{counts_joined}
-use Rattle.der_core.specs.Words.{AreBytes, tlv_fit, limit, Counts, joined}
+use Rattle.der_core.specs.Words.{AreBytes, tlv_fit, limit, Counts, sum_of_lengths}
 use Rattle.der_core.specs.declared.error.Error.{Error}
 use Rattle.der_core.specs.declared.error.ErrorKind.TheVariants as kind
-use Rattle.spki_core.specs.Words.{WrittenField, field_with, octets_under, out_under, record_under, rest_under, spelled}
+use Rattle.spki_core.specs.Words.{WrittenField, field_with, octets_under, out_under, record_under, rest_under, spelling_printed}
 use Rattle.spki_core.proofs.RecordEncodings.{encoding_under, encoding_under_zero_shortest, zero_least}
 use Rattle.pkcs1_params.specs.Words.{CountsLabelled, source_with, written_labelled, written_source, mgf1_identifier, oaep_record, source_identifier, LabelFits, NoLabelFits, labelled, hash_kind, mask_kind, oaep_kinds, source_kind, id_p_specified}
 use Rattle.pkcs1_params.proofs.Masks.{octets_under_spelled, uncounted_overflows}
@@ -67,7 +67,7 @@ label_counted label n (Err x) e ok err = rw err.0 (tt, omega (arith, err.1))
 -- Its field is counted, by both parts of its contents.
 pub source_counted : (label : List ℕ) (identifier octets : Result ℕ Error)
     → Counts (IsIdentifier id_p_specified) (tlv 6 id_p_specified) identifier → Counts ⊤ (tlv 4 label) octets
-    → Counts ⊤ (tlv 6 id_p_specified ++ tlv 4 label) (joined identifier octets)
+    → Counts ⊤ (tlv 6 id_p_specified ++ tlv 4 label) (sum_of_lengths identifier octets)
 source_counted label =
     counts_joined (tlv 6 id_p_specified) (tlv 4 label) (λ (_ : IsIdentifier id_p_specified) (_ : ⊤). tt)
     (λ (_ : ⊤). (source_identifier, tt))
@@ -75,16 +75,16 @@ source_counted label =
 -- Those without a label are counted, and then the source.
 pub labelled_counted : {Has : Type 0} (oid label : List ℕ) (v : OaepParameters) (contents source : Result ℕ Error)
     → Has → v ≡ labelled oid []
-    → Counts Has (spelled oaep_kinds (record_under oaep_record 0 v)) contents
+    → Counts Has (spelling_printed oaep_kinds (record_under oaep_record 0 v)) contents
     → Counts ⊤ (written_source label) source
-    → Counts ⊤ (written_labelled oid label) (joined contents source)
+    → Counts ⊤ (written_labelled oid label) (sum_of_lengths contents source)
 labelled_counted {Has} oid label v contents source has same c d =
-    let before : spelled oaep_kinds (record_under oaep_record 0 v) ≡ written_before oid =
-    ap (λ u. spelled oaep_kinds (record_under oaep_record 0 u)) same
+    let before : spelling_printed oaep_kinds (record_under oaep_record 0 v) ≡ written_before oid =
+    ap (λ u. spelling_printed oaep_kinds (record_under oaep_record 0 u)) same
     ∙ sym (octets_under_spelled oaep_record (labelled oid []) 0 _ refl)
     ∙ labelled_written oid [] ∙ append-nil (written_before oid) in
     let counted : Counts Has (written_before oid) contents = subst (λ z. Counts Has z contents) before c in
-    subst (λ z. Counts ⊤ z (joined contents source)) (sym (labelled_written oid label))
+    subst (λ z. Counts ⊤ z (sum_of_lengths contents source)) (sym (labelled_written oid label))
     (counts_joined (written_before oid) (written_source label) (λ (_ : Has) (_ : ⊤). tt) (λ (_ : ⊤). (has, tt))
     contents source counted d)
 

@@ -7,10 +7,10 @@ use Rattle.der_core.specs.declared.error.Error as errors
 use Rattle.der_core.specs.declared.error.ErrorKind.{ErrorKind}
 use Rattle.der_core.specs.declared.error.ErrorKind.TheVariants.{Overflow}
 use Rattle.der_core.specs.declared.error.ErrorKind.TheVariants as kinds
-use Rattle.pkcs1_params.specs.Words.{Refuses, Error, bit_of, bits_of, Encoded, EncodedUnder, InRange, IsMask, AreDelimited, AcceptedFits, DefaultsAreCounted, EachHasOneMask, EachMaskHasOne, ShortestHasNoDefaults, PlainEncoding}
+use Rattle.pkcs1_params.specs.Words.{Refuses, Error, bit_of, bits_of, EncodingOfFields, EncodingUnderMask, MaskIsInRange, IsMask, AreDelimited, EachHasMaskZero, DefaultsAreCounted, EachHasOneMask, EachMaskHasOne, ShortestHasNoDefaults, PlainEncoding}
 use Rattle.pkcs1_params.specs.declared.error.Error.TheVariants as error
 use Rattle.standard.specs.Statement.{AlgorithmEncoding, Encodes, IsShortest, Field, sequence, Fields, SameByShortest, SequenceOf, IsOaep, IsPss, OaepAlgorithmEncoding, OaepEncoding, OaepParameters, PssEncoding, PssAlgorithmEncoding, PssParameters, id_rsaes_oaep, id_rsassa_pss, length_octets, oaep_fields, pss_fields, tlv}
-use Rattle.spki_core.specs.Words.{AreSpelled, FieldRecord, WrittenField, are_defaults, octets_under, out_under, record_fields, record_under, rest_under, spelled, Spelling, under_valid, octets_spelled, record_means, record_front_law, spelled_from}
+use Rattle.spki_core.specs.Words.{AreSpelled, FieldRecord, WrittenField, are_defaults, octets_under, out_under, record_fields, record_under, rest_under, spelling_printed, Spelling, under_valid, octets_spelled, record_means, record_front_law, spelled_from}
 use Rattle.spki_core.proofs.RecordEncodings.{default_count_only, default_count_there, default_count, encoding_under, mask_below_count, under_spelled, zero_least, zero_shortest, encoding_has_one_mask, encoding_under_only, under_is_one}
 use Rattle.pkcs1_params.proofs.Faults.{asn1_as}
 use Rattle.pkcs1_params.proofs.Wrapped.{same_contents, wrapped_front}
@@ -26,15 +26,15 @@ module _ {V W : Type 0} (Encoding : V → List ℕ → Type 0) (Other : W → Li
   encodes_as old new None e = (e.0, λ bytes p. e.1 bytes ((same bytes).1 p))
 
   module _ (Is : V → Type 0) (Valid : W → Type 0) (valid : Is v ↔ Valid w) where
-    pub unwritten_carried : (room : ℕ) (k : EncodeError) → Unwritten Is Encoding v room k
+    pub unwritten_of_same_encodings : (room : ℕ) (k : EncodeError) → Unwritten Is Encoding v room k
         → Unwritten Valid Other w room k
-    unwritten_carried room no_encoding h = λ ok. h (valid.1 ok)
-    unwritten_carried room too_long h = (valid.0 h.0, λ bytes p. h.1 bytes ((same bytes).1 p))
-    unwritten_carried room no_room h = (h.0, shortest_as h.0 h.1, h.2)
-    unwritten_carried room another h = h
+    unwritten_of_same_encodings room no_encoding h = λ ok. h (valid.1 ok)
+    unwritten_of_same_encodings room too_long h = (valid.0 h.0, λ bytes p. h.1 bytes ((same bytes).1 p))
+    unwritten_of_same_encodings room no_room h = (h.0, shortest_as h.0 h.1, h.2)
+    unwritten_of_same_encodings room another h = h
 
     pub refuses_as : (room : ℕ) (e : Error) → Refuses Is Encoding v room e → Refuses Valid Other w room e
-    refuses_as room = asn1_as (λ e. unwritten_carried room (encode_error e.kind))
+    refuses_as room = asn1_as (λ e. unwritten_of_same_encodings room (encode_error e.kind))
 
 -- The same octets, of a value with an encoding.
 module _ (Has Is : Type 0) (has : Has) (is : Is) where
@@ -67,18 +67,18 @@ uncounted_overflows octets kinds.File has h = absurd h
 uncounted_overflows octets kinds.OutOfMemory has h = absurd h
 
 -- Why octets aren't counted, under one premise and under another.
-uncounted_carried : {P Q : Type 0} (octets : List ℕ) → (P → Q) → (Q → P) → (k : EncodeError)
+uncounted_of_same_premise : {P Q : Type 0} (octets : List ℕ) → (P → Q) → (Q → P) → (k : EncodeError)
     → WhyOctetsNotCounted P octets k → WhyOctetsNotCounted Q octets k
-uncounted_carried octets there back no_encoding u = λ q. u (back q)
-uncounted_carried octets there back too_long u = (there u.0, u.1)
-uncounted_carried octets there back no_room u = u
-uncounted_carried octets there back another u = u
+uncounted_of_same_premise octets there back no_encoding u = λ q. u (back q)
+uncounted_of_same_premise octets there back too_long u = (there u.0, u.1)
+uncounted_of_same_premise octets there back no_room u = u
+uncounted_of_same_premise octets there back another u = u
 
 -- Counted under one premise is counted under another.
 pub counts_as : {P Q : Type 0} (octets : List ℕ) (r : Result ℕ errors.Error) → (P → Q) → (Q → P) → Counts P octets r
     → Counts Q octets r
 counts_as octets (Ok n) there back c = (there c.0, c.1, c.2)
-counts_as octets (Err e) there back c = uncounted_carried octets there back (encode_error e.kind) c
+counts_as octets (Err e) there back c = uncounted_of_same_premise octets there back (encode_error e.kind) c
 
 -- == Under a mask, what the code joins field by field is what is printed of the spelling ==
 
@@ -98,12 +98,12 @@ module _ {V : Type 0} {Is : V → Type 0} {fields : V → List Field} (r : Field
   record_is_spelled ok = under_valid r.kinds mask (r.split v) (r.are v ok)
 
   pub octets_under_spelled : (fs : List WrittenField) → fs ≡ record_fields r v
-      → octets_under mask fs ≡ spelled r.kinds (record_under r mask v)
+      → octets_under mask fs ≡ spelling_printed r.kinds (record_under r mask v)
   octets_under_spelled fs is = ap (octets_under mask) is ∙ octets_spelled r.kinds mask (r.split v)
 
   -- Of defaults alone, nothing is printed under mask 0.
   pub nothing_spelled : mask ≡ 0 → bits_of (are_defaults (record_fields r v)) ≡ 0
-      → spelled r.kinds (record_under r mask v) ≡ []
+      → spelling_printed r.kinds (record_under r mask v) ≡ []
   nothing_spelled zero none =
       sym (octets_spelled r.kinds mask (r.split v)) ∙ ap (λ m. octets_under m (record_fields r v)) zero
       ∙ octets_under_none (record_fields r v) none
@@ -111,40 +111,41 @@ module _ {V : Type 0} {Is : V → Type 0} {fields : V → List Field} (r : Field
 module _ {V : Type 0} {Is : V → Type 0} {fields : V → List Field} (r : FieldRecord Is fields) where
   -- The kernel writes the spelling under the mask, which is its only one.
   abbrev pub spelling_encoding : Spelling r.kinds → List ℕ
-  spelling_encoding s = sequence (spelled r.kinds s)
+  spelling_encoding s = sequence (spelling_printed r.kinds s)
 
   -- Each spelling has one encoding.
   pub spelling_written : WritesShortest (AreSpelled r.kinds) spelling_encoding (λ s. s) (λ s. s)
-  spelling_written = tagged_shortest (one_spelling_shortest (AreSpelled r.kinds) (spelled r.kinds)) 48
+  spelling_written = tagged_shortest (one_spelling_shortest (AreSpelled r.kinds) (spelling_printed r.kinds)) 48
 
   abbrev pub SpellingSpells : Spelling r.kinds → List ℕ → Type 0
   SpellingSpells = Spells (AreSpelled r.kinds) spelling_encoding (λ s. s)
 
-  pub mask_in_range : (v : V) (mask : ℕ) → IsMask (fields v) mask → InRange (fields v) mask
+  pub mask_in_range : (v : V) (mask : ℕ) → IsMask (fields v) mask → MaskIsInRange (fields v) mask
   mask_in_range v mask m =
       λ k d. subst (λ n. mask < 2 ^ n) (sym (default_count_only r v k d)) (mask_below_count r v mask m)
 
   module _ (v : V) (ok : Is v) (mask : ℕ) (m : IsMask (fields v) mask) where
     -- It has the encoding of the value under the mask.
     under_mask_spelled : (bytes : List ℕ)
-        → SpellingSpells (record_under r mask v) bytes ↔ EncodedUnder mask Is fields v bytes
+        → SpellingSpells (record_under r mask v) bytes ↔ EncodingUnderMask mask Is fields v bytes
     under_mask_spelled = under_spelled r v mask ok (mask_below_count r v mask m)
 
     -- So what a call wrote, and why it didn't, is so of the value under the mask.
     pub under_encodes : (old new : List ℕ) (n : Option ℕ) → Encodes SpellingSpells (record_under r mask v) old new n
-        → Encodes (EncodedUnder mask Is fields) v old new n
-    under_encodes = encodes_as SpellingSpells (EncodedUnder mask Is fields) (record_under r mask v) v under_mask_spelled
+        → Encodes (EncodingUnderMask mask Is fields) v old new n
+    under_encodes =
+        encodes_as SpellingSpells (EncodingUnderMask mask Is fields) (record_under r mask v) v under_mask_spelled
 
     pub under_shortest : (bytes : List ℕ) → IsShortest SpellingSpells (record_under r mask v) bytes
-        → IsShortest (EncodedUnder mask Is fields) v bytes
-    under_shortest = shortest_as SpellingSpells (EncodedUnder mask Is fields) (record_under r mask v) v
+        → IsShortest (EncodingUnderMask mask Is fields) v bytes
+    under_shortest = shortest_as SpellingSpells (EncodingUnderMask mask Is fields) (record_under r mask v) v
         under_mask_spelled
 
     pub under_refuses : (room : ℕ) (e : Error)
         → Refuses (AreSpelled r.kinds) SpellingSpells (record_under r mask v) room e
-        → Refuses (λ _. Unit {0}) (EncodedUnder mask Is fields) v room e
+        → Refuses (λ _. Unit {0}) (EncodingUnderMask mask Is fields) v room e
     under_refuses =
-        refuses_as SpellingSpells (EncodedUnder mask Is fields) (record_under r mask v) v under_mask_spelled
+        refuses_as SpellingSpells (EncodingUnderMask mask Is fields) (record_under r mask v) v under_mask_spelled
         (AreSpelled r.kinds)
         (λ _. Unit {0}) ((λ _. tt), (λ _. record_is_spelled r v mask ok))
 
@@ -154,8 +155,8 @@ module _ {V : Type 0} {Is : V → Type 0} {fields : V → List Field} (r : Field
 
   module _ (v : V) where
     -- So what was written under it, and why it wasn't, is so of the value.
-    pub zero_encodes : (old new : List ℕ) (n : Option ℕ) → Encodes (EncodedUnder 0 Is fields) v old new n
-        → Encodes (Encoded Is fields) v old new n
+    pub zero_encodes : (old new : List ℕ) (n : Option ℕ) → Encodes (EncodingUnderMask 0 Is fields) v old new n
+        → Encodes (EncodingOfFields Is fields) v old new n
     zero_encodes old new (Some n) e = (e.0, zero_shortest r v (take n new) e.1.0, e.2)
     zero_encodes old new None e = (
       e.0,
@@ -163,15 +164,15 @@ module _ {V : Type 0} {Is : V → Type 0} {fields : V → List Field} (r : Field
           (arith, l, z.1),
     )
 
-    unwritten_zero : (room : ℕ) (k : EncodeError) → Unwritten (λ _. Unit {0}) (EncodedUnder 0 Is fields) v room k
-        → Unwritten (λ _. Unit {0}) (Encoded Is fields) v room k
+    unwritten_zero : (room : ℕ) (k : EncodeError) → Unwritten (λ _. Unit {0}) (EncodingUnderMask 0 Is fields) v room k
+        → Unwritten (λ _. Unit {0}) (EncodingOfFields Is fields) v room k
     unwritten_zero room no_encoding h = h
     unwritten_zero room too_long h = (h.0, λ bytes p. h.1 (encoding_under r v 0) (zero_least r v bytes p).0)
     unwritten_zero room no_room h = (h.0, zero_shortest r v h.0 h.1.0, h.2)
     unwritten_zero room another h = h
 
-    pub zero_refuses : (room : ℕ) (e : Error) → Refuses (λ _. Unit {0}) (EncodedUnder 0 Is fields) v room e
-        → Refuses (λ _. Unit {0}) (Encoded Is fields) v room e
+    pub zero_refuses : (room : ℕ) (e : Error) → Refuses (λ _. Unit {0}) (EncodingUnderMask 0 Is fields) v room e
+        → Refuses (λ _. Unit {0}) (EncodingOfFields Is fields) v room e
     zero_refuses room = asn1_as (λ e. unwritten_zero room (encode_error e.kind))
 
 -- Encodings of parameters: none is a proper beginning of another, and two mean the same by the shortest.
@@ -181,7 +182,7 @@ module _ {V : Type 0} {Is : V → Type 0} {fields : V → List Field} (r : Field
   record_follow v w bytes rest x y =
       let (few, (s, e, ok, is)) = spelled_from r v bytes x in
       let (within, (t, f, right, same)) = spelled_from r w (bytes ++ rest) y in
-      let all = ap (λ z. z ++ rest) (sym is) ∙ same ∙ sym (append-nil (sequence (spelled r.kinds t))) in
+      let all = ap (λ z. z ++ rest) (sym is) ∙ same ∙ sym (append-nil (sequence (spelling_printed r.kinds t))) in
       let one =
       prints_one (record_front_law r) s t rest [] ok right (omega (arith, within, ap (λ z. length (z ++ rest)) is)) all in
       (sym e ∙ ap (record_means r) one.0 ∙ f, one.1)
@@ -222,13 +223,13 @@ module _ {V : Type 0} {Is : V → Type 0} {fields : V → List Field} (r : Field
     λ s.
         let z = zero_least r v bytes s.0 in
         elim (s.1 (encoding_under r v 0) (under_is_one r v 0 (encoding_under r v 0) z.0)) [
-          | inl same ↦ subst (EncodedUnder 0 Is fields v) same z.0
+          | inl same ↦ subst (EncodingUnderMask 0 Is fields v) same z.0
           | inr l ↦ absurd (omega (arith, l, z.1))
         ],
   )
 
-  pub accepted_fits : AcceptedFits Is fields
-  accepted_fits v bytes p = let z = zero_least r v bytes p in (encoding_under r v 0, z.0, z.1)
+  pub each_has_mask_zero : EachHasMaskZero Is fields
+  each_has_mask_zero v bytes p = let z = zero_least r v bytes p in (encoding_under r v 0, z.0, z.1)
 
 module _ {V : Type 0} (Encoding : V → List ℕ → Type 0) where
   one_shortest : (v : V) (s t : List ℕ) → IsShortest Encoding v s → IsShortest Encoding v t → s ≡ t
@@ -246,11 +247,11 @@ module _ {V : Type 0} (Encoding : V → List ℕ → Type 0) where
 -- == No bytes encode parameters and something with another tag, or identifiers of two algorithms ==
 
 -- The fields of parameters have tags from 160 on.
-abbrev pub Begin : List Field → Type 0
-Begin [] = Unit {0}
-Begin (f ∷ fields) = (160 ≤ slice_index f.written 0) × Begin fields
+abbrev pub FieldsBeginHigh : List Field → Type 0
+FieldsBeginHigh [] = Unit {0}
+FieldsBeginHigh (f ∷ fields) = (160 ≤ slice_index f.written 0) × FieldsBeginHigh fields
 
-pub fields_begin_high : (fields : List Field) (tag : ℕ) (rest : List ℕ) → tag < 160 → Begin fields
+pub fields_begin_high : (fields : List Field) (tag : ℕ) (rest : List ℕ) → tag < 160 → FieldsBeginHigh fields
     → Fields fields (tag ∷ rest) → ⊥
 fields_begin_high [] tag rest low ok e = cc
 fields_begin_high (f ∷ fields) tag rest low ok (inl p) = fields_begin_high fields tag rest low ok.1 p.1
@@ -260,25 +261,27 @@ fields_begin_high (f ∷ fields) tag rest low ok (inr (later, is, more)) = go f.
     go [] high e = omega (arith, high)
     go (x ∷ xs) high e = let same : tag ≡ x = ap (λ b. slice_index b 0) e in omega (arith, high, same, low)
 
-pub pss_begin : (v : PssParameters) → Begin (pss_fields v)
-pss_begin v = (omega arith, (omega arith, (omega arith, (omega arith, tt))))
+pub pss_fields_begin_high : (v : PssParameters) → FieldsBeginHigh (pss_fields v)
+pss_fields_begin_high v = (omega arith, (omega arith, (omega arith, (omega arith, tt))))
 
-pub oaep_begin : (v : OaepParameters) → Begin (oaep_fields v)
-oaep_begin v = (omega arith, (omega arith, (omega arith, tt)))
+pub oaep_fields_begin_high : (v : OaepParameters) → FieldsBeginHigh (oaep_fields v)
+oaep_fields_begin_high v = (omega arith, (omega arith, (omega arith, tt)))
 
 -- A SEQUENCE that begins with a lower tag, of such fields.
 pub record_differs : {V : Type 0} (Is : V → Type 0) (fields : V → List Field) (v : V) (tag : ℕ) (bytes rest : List ℕ)
-    → tag < 160 → Begin (fields v) → bytes ≡ sequence (tag ∷ rest) → SequenceOf Is fields Fields v bytes → ⊥
+    → tag < 160 → FieldsBeginHigh (fields v) → bytes ≡ sequence (tag ∷ rest) → SequenceOf Is fields Fields v bytes → ⊥
 record_differs Is fields v tag bytes rest low ok is (valid, few, c, holds, same) =
     fields_begin_high (fields v) tag rest low ok
     (subst (Fields (fields v))
     (same_contents c (tag ∷ rest) (omega (arith, few, ap length same)) (sym same ∙ is)) holds)
 
 pub pss_no_identifier : Excludes PssEncoding PlainEncoding
-pss_no_identifier v a bytes p q = record_differs IsPss pss_fields v 6 bytes _ (omega arith) (pss_begin v) q.2 p
+pss_no_identifier v a bytes p q =
+    record_differs IsPss pss_fields v 6 bytes _ (omega arith) (pss_fields_begin_high v) q.2 p
 
 pub oaep_no_identifier : Excludes OaepEncoding PlainEncoding
-oaep_no_identifier v a bytes p q = record_differs IsOaep oaep_fields v 6 bytes _ (omega arith) (oaep_begin v) q.2 p
+oaep_no_identifier v a bytes p q =
+    record_differs IsOaep oaep_fields v 6 bytes _ (omega arith) (oaep_fields_begin_high v) q.2 p
 
 pub algorithms_differ : Excludes PssAlgorithmEncoding OaepAlgorithmEncoding
 unfolding length_octets

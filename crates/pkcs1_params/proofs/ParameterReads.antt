@@ -2,9 +2,9 @@
 -- the fields has their faults. For `decode_value` of either type, borrowed and owned.
 use Rattle.std.proofs.Common.{◌≡◌, ℕ, List, [], ◌∷◌, refl, sym, ap, ◌∙◌, inl, inr, Ok, Err, Some, None}
 use Rattle.der_core.specs.declared.error.ErrorKind.{ErrorKind}
-use Rattle.der_core.specs.Words.{Input, end_of, read_from, left_in, ok_pair, AllocatesIn, Asks, FrontReading, Reading, ◌>>=◌, made, AreBytes, made_errs, Tlv}
+use Rattle.der_core.specs.Words.{Input, end_of, read_from, left_in, ok_pair, AllocatesAtFront, InputAllocates, FrontReading, Reading, ◌>>=◌, made, AreBytes, made_errs, Tlv}
 use Rattle.spki_core.specs.Words.{FieldAllocates, AlgorithmAllocates, Kind, Values, values_read, FieldRecord, record_read, defaulted, record_reads}
-use Rattle.der_core.proofs.ReadSteps.{Fails, Gives, chain_read_from, failure_carried}
+use Rattle.der_core.proofs.ReadSteps.{ReadingFails, ReadingGives, chain_read_from, failure_of_same_faults}
 use Rattle.der_core.specs.declared.error.ErrorKind.TheVariants.{OutOfMemory}
 use Rattle.standard.specs.Statement.{Field, Fields}
 
@@ -16,7 +16,7 @@ made_gives make read (Some c) p = ap (λ r. r >>= λ a. Ok (make a)) p
 
 -- A fault of fields of these kinds, and what is read of them.
 pub record FieldsFail (ks : List Kind) (e : ErrorKind) (before after : Input) : Type 0 where
-  pub fails : Fails (values_read ks) (λ _. ⊥) e before after
+  pub fails : ReadingFails (values_read ks) (λ _. ⊥) e before after
 
 pub record FieldsGive (ks : List Kind) (v : Values ks) (before : Input) : Type 0 where
   pub gives : read_from before (values_read ks) ≡ Ok v
@@ -29,26 +29,29 @@ field_at k = defaulted k.number k.at k.default
 module _ {k : Kind} {ks : List Kind} {given : k.Value} {n : ℕ} (same : given ≡ k.default) (is : n ≡ k.number) where
   -- it has a fault
   pub field_fails : {asks : List ℕ → Type 0} → ((b : List ℕ) → asks b → ⊥) → {e : ErrorKind} {before after : Input}
-      → Fails (defaulted n k.at given) (AllocatesIn (FieldAllocates n asks)) e before after
+      → ReadingFails (defaulted n k.at given) (AllocatesAtFront (FieldAllocates n asks)) e before after
       → FieldsFail (k ∷ ks) e before after
   field_fails {asks} never {e} {before} {after} fails =
-      let known : Fails (field_at k) (AllocatesIn (FieldAllocates k.number asks)) e before after = rw (is, same) at fails in record {
+      let known : ReadingFails (field_at k) (AllocatesAtFront (FieldAllocates k.number asks)) e before after =
+      rw (is, same) at fails in record {
         fails =
-            failure_carried (field_at k) (values_read (k ∷ ks)) (λ k c p. ap (λ r. r >>= λ p. values_read ks p.1 >>= λ b. Ok (p.0, b)) p)
-            (AllocatesIn (FieldAllocates k.number asks)) (λ _. ⊥)
+            failure_of_same_faults (field_at k) (values_read (k ∷ ks))
+            (λ k c p. ap (λ r. r >>= λ p. values_read ks p.1 >>= λ b. Ok (p.0, b)) p)
+            (AllocatesAtFront (FieldAllocates k.number asks)) (λ _. ⊥)
             (λ c w. let inner = w.3.holds in never inner.0 inner.3) e before after known;
       }
 
   -- it was read
-  module _ {v : k.Value} {before mid : Input} (read : Gives (defaulted n k.at given) v before mid) where
+  module _ {v : k.Value} {before mid : Input} (read : ReadingGives (defaulted n k.at given) v before mid) where
     -- a fault is in those behind it
     pub behind_field : {e : ErrorKind} {after : Input} → FieldsFail ks e mid after → FieldsFail (k ∷ ks) e before after
     behind_field {e} {after} later =
-        let known : Gives (field_at k) v before mid = rw (is, same) at read in
+        let known : ReadingGives (field_at k) v before mid = rw (is, same) at read in
         record { fails = go before known later.fails }
       where
-        go : (input : Input) → Gives (field_at k) v input mid → Fails (values_read ks) (λ _. ⊥) e mid after
-            → Fails (values_read (k ∷ ks)) (λ _. ⊥) e input after
+        go : (input : Input) → ReadingGives (field_at k) v input mid
+            → ReadingFails (values_read ks) (λ _. ⊥) e mid after
+            → ReadingFails (values_read (k ∷ ks)) (λ _. ⊥) e input after
         go None (left, p, there) fails = let no = p in cc
         go (Some i) (left, p, there) (failed, inl w) = let asked = rw there at w.1 in absurd asked
         go (Some i) (left, p, there) (failed, inr q) = (
@@ -62,13 +65,13 @@ module _ {k : Kind} {ks : List Kind} {given : k.Value} {n : ℕ} (same : given �
     pub field_gives : {w : Values ks} → FieldsGive ks w mid → FieldsGive (k ∷ ks) (v, w) before
     field_gives {w} later = record {
       gives =
-          let known : Gives (field_at k) v before mid = rw (is, same) at read in
+          let known : ReadingGives (field_at k) v before mid = rw (is, same) at read in
           chain_read_from (field_at k) (λ a. made (λ b. (a, b)) (values_read ks)) v before mid known
           ∙ made_gives (λ b. (v, b)) (values_read ks) mid later.gives;
     }
 
 -- The end.
-pub end_gives : (before : Input) {after : Input} → Gives end_of tt before after
+pub end_gives : (before : Input) {after : Input} → ReadingGives end_of tt before after
     → FieldsGive [] tt before × (after ≡ Some [])
 end_gives None (rest, p, is) = let no = p in cc
 end_gives (Some []) (rest, p, is) =
@@ -100,9 +103,10 @@ number_never b p = p.holds
 
 -- What is made of the fields.
 pub record_fails : {V : Type 0} {Is : V → Type 0} {fields : V → List Field} (r : FieldRecord Is fields) {e : ErrorKind}
-    {before after : Input} → FieldsFail r.kinds e before after → Fails (record_read r) (λ _. ⊥) e before after
+    {before after : Input} → FieldsFail r.kinds e before after → ReadingFails (record_read r) (λ _. ⊥) e before after
 record_fails r {e} {before} {after} f =
-    failure_carried (values_read r.kinds) (record_read r) (made_errs r.join (values_read r.kinds)) (λ _. ⊥) (λ _. ⊥)
+    failure_of_same_faults (values_read r.kinds) (record_read r) (made_errs r.join (values_read r.kinds)) (λ _. ⊥)
+    (λ _. ⊥)
     absurd_never e
     before after f.fails
 
@@ -115,11 +119,11 @@ module _ {V : Type 0} {Is : V → Type 0} {fields : V → List Field} (r : Field
     (may : List ℕ → Type 0) (before after : Input) (e : ErrorKind) where
   -- What was read is parameters, for which memory may be asked for.
   copy_asks : (v : V) (input : Input) → AreBytes (left_in input) → read_from input (record_read r) ≡ Ok v
-      → ((c : List ℕ) → Is v → Fields (fields v) c → may c) → Asks may input
+      → ((c : List ℕ) → Is v → Fields (fields v) c → may c) → InputAllocates may input
   copy_asks v None bytes p asks = let no = p in cc
   copy_asks v (Some c) bytes p asks = let h = (record_reads r).gives c v bytes p in asks c h.0 h.1
 
   pub copy_fails : (v : V) → AreBytes (left_in before) → read_from before (record_read r) ≡ Ok v
       → ((c : List ℕ) → Is v → Fields (fields v) c → may c) → after ≡ None → e ≡ OutOfMemory
-      → Fails (record_read r) may e before after
+      → ReadingFails (record_read r) may e before after
   copy_fails v bytes p asks failed memory = (failed, inl (memory, copy_asks v before bytes p asks))

@@ -4,11 +4,11 @@ use Rattle.std.proofs.Common.{ℕ, Bool, List, [], ◌∷◌, ◌++◌, ◌==◌
 use Rattle.der_core.specs.Words.{number_from_digits, nat_tests, header_at, length_at, limit, Reading, tagged, whole, ◌>>=◌, sequence_tag, AreBytes, bind_ok, ok_of}
 use Rattle.std.proofs.lemmas.List.{drop_all}
 use Rattle.spki_core.specs.Words.{null_value, record_read, record_strictly, FieldRecord, record_whole, spelling_read, strict_value, strict_whole}
-use Rattle.pkcs1_params.specs.Words.{hash_algorithm, oaep_record, pss_record, with_parameters, IsUsualOaep, IsUsualPss, fields_with_hash, oaep_with_hash, pss_with_hash, salt_field, ErrsAs, Encoded, Error}
+use Rattle.pkcs1_params.specs.Words.{hash_algorithm, oaep_record, pss_record, with_parameters, IsUsualOaep, IsUsualPss, fields_with_hash, oaep_with_hash, pss_with_hash, salt_field, AnswersAsn1, EncodingOfFields, Error}
 use Rattle.standard.specs.Statement.{OaepParameters, PssParameters, Decodes, Field, IsShortest, sha1}
 use Rattle.spki_core.proofs.RecordEncodings.{record_decodes}
 use Rattle.spki_core.proofs.StrictFields.{strict_decodes}
-use Rattle.pkcs1_params.proofs.Faults.{errs_decode}
+use Rattle.pkcs1_params.proofs.Faults.{answers_asn1_decode}
 
 -- A SEQUENCE of fewer than 128 octets alone in a slice is read as its contents are.
 whole_sequence : {V : Type 0} (read : Reading V) (v : V) (c b : List ℕ) → length c < 128
@@ -94,11 +94,13 @@ module _ {V : Type 0} {Is : V → Type 0} {fields : V → List Field} (r : Field
 
   -- What a call decodes that returns what was read, strictly too.
   pub record_whole_decodes : {X : Type 0} (value : X → V) (result : Result X Error) → AreBytes bytes
-      → ErrsAs value (record_whole r bytes) result → Decodes (Encoded Is fields) bytes (ok_of value result)
+      → AnswersAsn1 value (record_whole r bytes) result
+      → Decodes (EncodingOfFields Is fields) bytes (ok_of value result)
   record_whole_decodes value result are =
-      errs_decode (Encoded Is fields) bytes value _ (record_decodes r bytes are) result
+      answers_asn1_decode (EncodingOfFields Is fields) bytes value _ (record_decodes r bytes are) result
 
   pub strict_whole_decodes : {X : Type 0} (value : X → V) (result : Result X Error) → AreBytes bytes
-      → ErrsAs value (strict_whole r bytes) result → Decodes (IsShortest (Encoded Is fields)) bytes (ok_of value result)
+      → AnswersAsn1 value (strict_whole r bytes) result
+      → Decodes (IsShortest (EncodingOfFields Is fields)) bytes (ok_of value result)
   strict_whole_decodes value result are =
-      errs_decode (IsShortest (Encoded Is fields)) bytes value _ (strict_decodes r bytes are) result
+      answers_asn1_decode (IsShortest (EncodingOfFields Is fields)) bytes value _ (strict_decodes r bytes are) result

@@ -8,7 +8,7 @@ use Rattle.der_core.specs.Tags as tags
 use Rattle.der_core.specs.declared.tag.Tag.{Tag}
 use Rattle.spki_core.specs.Words.{any_as}
 use Rattle.pkcs1_params.specs.ParameterReadings.{oaep_read, plain_front, pss_read, strict_oaep_read, strict_pss_read}
-use Rattle.pkcs1_params.specs.Spellings.{Encoded, FirstWritten}
+use Rattle.pkcs1_params.specs.Spellings.{EncodingOfFields, FirstWritten}
 use Rattle.standard.specs.Statement.{Algorithm, AlgorithmEncoding, Field, Fields, IsAlgorithm, IsAny, OaepParameters, PssParameters, TagAndContents, algorithm, any, id_rsaes_oaep, id_rsassa_pss, sequence, tlv}
 
 -- The algorithm has this identifier, and its parameters are the SEQUENCE of the fields of a value that may be encoded.
@@ -51,7 +51,7 @@ abbrev pub NamesFirstDefaultIn : {V : Type 0} → List ℕ → (V → Type 0) �
 NamesFirstDefaultIn {V} oid Is fields strictly =
     (v : V) (n : ℕ) (tag : Tag) (contents bytes : List ℕ) →
     AreBytes bytes →
-    AlgorithmEncoding oid (Encoded Is fields) v bytes →
+    AlgorithmEncoding oid (EncodingOfFields Is fields) v bytes →
     bytes ≡ sequence (tlv 6 oid ++ sequence contents) →
     FirstWritten (fields v) n contents →
     tag.octet ≡ context_octet n →

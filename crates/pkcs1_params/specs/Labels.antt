@@ -1,6 +1,6 @@
 -- The label of RSAES-OAEP parameters (RFC 8017 A.2.1), and what is written for it.
 use Rattle.std.specs.Prelude.{ℕ, List, ◌≡◌, Option, Some, None, [], Result, if◌then◌else◌}
-use Rattle.spki_core.specs.Words.{Algorithm, TagAndContents, fields_with, octets_under, one_spelled}
+use Rattle.spki_core.specs.Words.{Algorithm, TagAndContents, field_printed, fields_with, octets_under}
 use Rattle.pkcs1_params.specs.Parameters.{id_p_specified, octets_value, with_parameters}
 use Rattle.der_core.specs.Words.{Counts}
 use Rattle.der_core.specs.declared.error.Error.{Error}
@@ -23,7 +23,7 @@ source_with label = with_parameters id_p_specified (octets_value label)
 
 abbrev pub written_source : List ℕ → List ℕ
 written_source label =
-    if source_kind.is_default (source_with label) then [] else one_spelled source_kind (source_with label)
+    if source_kind.is_default (source_with label) then [] else field_printed source_kind (source_with label)
 
 -- What is written of parameters with a label.
 abbrev pub written_labelled : List ℕ → List ℕ → List ℕ

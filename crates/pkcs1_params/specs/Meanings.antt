@@ -30,14 +30,14 @@ fault_told (Err error.KeyMalformed) = None
 fault_told (Err error.Version) = None
 
 -- The call returned what the function gives. An error of this crate holds one of der_core.
-abbrev pub ErrsAs : {X V : Type 0} → (X → V) → Result V ErrorKind → Result X Error → Type 0
-ErrsAs value given (Ok x) = given ≡ Ok (value x)
-ErrsAs value given (Err e) = IsAsn1 (λ asn1. given ≡ Err asn1.kind) e
+abbrev pub AnswersAsn1 : {X V : Type 0} → (X → V) → Result V ErrorKind → Result X Error → Type 0
+AnswersAsn1 value given (Ok x) = given ≡ Ok (value x)
+AnswersAsn1 value given (Err e) = IsAsn1 (λ asn1. given ≡ Err asn1.kind) e
 
 -- The same of a call that may ask for memory.
-abbrev pub ErrsOrAsks : {X V : Type 0} → (X → V) → Result V ErrorKind → Type 0 → Result X Error → Type 0
-ErrsOrAsks value given asked (Ok x) = given ≡ Ok (value x)
-ErrsOrAsks value given asked (Err e) = IsAsn1 (λ asn1. FaultOrMemory asn1.kind asked (given ≡ Err asn1.kind)) e
+abbrev pub AnswersAsn1OrAsks : {X V : Type 0} → (X → V) → Result V ErrorKind → Type 0 → Result X Error → Type 0
+AnswersAsn1OrAsks value given asked (Ok x) = given ≡ Ok (value x)
+AnswersAsn1OrAsks value given asked (Err e) = IsAsn1 (λ asn1. FaultOrMemory asn1.kind asked (given ≡ Err asn1.kind)) e
 
 -- Each fault that the function gives is about the bytes.
 abbrev pub FaultsTell : {V : Type 0} → Reading V → Type 0

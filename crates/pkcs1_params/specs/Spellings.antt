@@ -10,19 +10,19 @@ use Rattle.pkcs1_params.specs.declared.error.Error.{Error}
 use Rattle.standard.specs.Statement.{Defaults, Field, Fields, FieldsUnder, IsShortest, SequenceOf, longest, sequence}
 
 -- The SEQUENCE of fields, any of whose defaults may be left out; and the one under a mask.
-abbrev pub Encoded : {V : Type 0} → (V → Type 0) → (V → List Field) → V → List ℕ → Type 0
-Encoded Is fields = SequenceOf Is fields Fields
+abbrev pub EncodingOfFields : {V : Type 0} → (V → Type 0) → (V → List Field) → V → List ℕ → Type 0
+EncodingOfFields Is fields = SequenceOf Is fields Fields
 
-abbrev pub EncodedUnder : {V : Type 0} → ℕ → (V → Type 0) → (V → List Field) → V → List ℕ → Type 0
-EncodedUnder mask Is fields = SequenceOf Is fields (FieldsUnder mask)
+abbrev pub EncodingUnderMask : {V : Type 0} → ℕ → (V → Type 0) → (V → List Field) → V → List ℕ → Type 0
+EncodingUnderMask mask Is fields = SequenceOf Is fields (FieldsUnder mask)
 
 -- The mask is below two to the number of default fields.
 abbrev pub IsMask : List Field → ℕ → Type 0
 IsMask fields mask = (k : ℕ) × Defaults fields k × (mask < 2 ^ k)
 
 -- It is, whatever that number is.
-abbrev pub InRange : List Field → ℕ → Type 0
-InRange fields mask = (k : ℕ) → Defaults fields k → mask < 2 ^ k
+abbrev pub MaskIsInRange : List Field → ℕ → Type 0
+MaskIsInRange fields mask = (k : ℕ) → Defaults fields k → mask < 2 ^ k
 
 -- Each value has one number of default fields.
 abbrev pub DefaultsAreCounted : {V : Type 0} → (V → List Field) → Type 0
@@ -32,26 +32,26 @@ DefaultsAreCounted {V} fields =
 -- Each encoding stands under exactly one mask, which is below two to the number of default fields.
 abbrev pub EachHasOneMask : {V : Type 0} → (V → Type 0) → (V → List Field) → Type 0
 EachHasOneMask {V} Is fields =
-    (v : V) (bytes : List ℕ) → Encoded Is fields v bytes
-    → (mask : ℕ) × IsMask (fields v) mask × EncodedUnder mask Is fields v bytes
-    × ((other : ℕ) → EncodedUnder other Is fields v bytes → other ≡ mask)
+    (v : V) (bytes : List ℕ) → EncodingOfFields Is fields v bytes
+    → (mask : ℕ) × IsMask (fields v) mask × EncodingUnderMask mask Is fields v bytes
+    × ((other : ℕ) → EncodingUnderMask other Is fields v bytes → other ≡ mask)
 
 -- Each mask has at most one encoding of a value.
 abbrev pub EachMaskHasOne : {V : Type 0} → (V → Type 0) → (V → List Field) → Type 0
 EachMaskHasOne {V} Is fields =
-    (v : V) (mask : ℕ) (x y : List ℕ) → EncodedUnder mask Is fields v x → EncodedUnder mask Is fields v y
-    → (x ≡ y) × Encoded Is fields v x
+    (v : V) (mask : ℕ) (x y : List ℕ) → EncodingUnderMask mask Is fields v x → EncodingUnderMask mask Is fields v y
+    → (x ≡ y) × EncodingOfFields Is fields v x
 
 -- The shortest encoding is the one in which no default is written.
 abbrev pub ShortestHasNoDefaults : {V : Type 0} → (V → Type 0) → (V → List Field) → Type 0
 ShortestHasNoDefaults {V} Is fields =
-    (v : V) (bytes : List ℕ) → EncodedUnder 0 Is fields v bytes ↔ IsShortest (Encoded Is fields) v bytes
+    (v : V) (bytes : List ℕ) → EncodingUnderMask 0 Is fields v bytes ↔ IsShortest (EncodingOfFields Is fields) v bytes
 
 -- A value with an encoding has one in which no default is written.
-abbrev pub AcceptedFits : {V : Type 0} → (V → Type 0) → (V → List Field) → Type 0
-AcceptedFits {V} Is fields =
-    (v : V) (bytes : List ℕ) → Encoded Is fields v bytes
-    → (shortest : List ℕ) × EncodedUnder 0 Is fields v shortest × (length shortest ≤ length bytes)
+abbrev pub EachHasMaskZero : {V : Type 0} → (V → Type 0) → (V → List Field) → Type 0
+EachHasMaskZero {V} Is fields =
+    (v : V) (bytes : List ℕ) → EncodingOfFields Is fields v bytes
+    → (shortest : List ℕ) × EncodingUnderMask 0 Is fields v shortest × (length shortest ≤ length bytes)
 
 -- The first field of contents that is written though it has its default is the n-th, from 0 on.
 abbrev pub FirstWritten : List Field → ℕ → List ℕ → Type 0
@@ -66,7 +66,7 @@ FirstWritten (f ∷ fields) n contents =
 abbrev pub NamesFirstDefault : {V : Type 0} → (V → Type 0) → (V → List Field) → Reading V → Type 0
 NamesFirstDefault {V} Is fields strictly =
     (v : V) (n : ℕ) (tag : Tag) (contents bytes : List ℕ) →
-    Encoded Is fields v bytes →
+    EncodingOfFields Is fields v bytes →
     bytes ≡ sequence contents →
     FirstWritten (fields v) n contents →
     tag.octet ≡ context_octet n →

@@ -3,7 +3,7 @@
 ghost use Rattle.std.specs.Prelude.{◌≡◌, ◌++◌, ⊤, drop, length, Err, IfErr, IfOk};
 ghost use Rattle.der_core.specs.Words.{Reading, ok_of, sequence_tag as sequence_kind, tlv};
 ghost use Rattle.spki_core.specs.Words.{algorithm_in, algorithm_of, any_as, any_of, record_read, record_strictly};
-ghost use Rattle.pkcs1_params.specs.Words.{Encoded, ErrsAs, Identifies, IsAsn1, Refuses, identified, whole_algorithm};
+ghost use Rattle.pkcs1_params.specs.Words.{AnswersAsn1, EncodingOfFields, Identifies, IsAsn1, Refuses, identified, whole_algorithm};
 ghost use Rattle.standard.specs.Statement.{AlgorithmEncoding, Decodes, Encodes, IsShortest, sequence};
 
 use crate::error::{Error, Result};
@@ -25,23 +25,23 @@ pub trait FromAlgorithm<'a>: AlgorithmParams<'a> {
         ensures read { let Holds = Identifies Self.Oid.contents Self.Is Self.fields_of in
             Decodes Holds (algorithm_of algorithm.now) (ok_of Self.params result) }
         ensures exact { let given = identified Self.Oid.contents (record_read Self.form) (algorithm_of algorithm.now) in
-            ErrsAs Self.params given result };
+            AnswersAsn1 Self.params given result };
 
     /// The parameters in a whole slice that is an algorithm identifier, as in a certificate's signatureAlgorithm. Once
     /// the slice is an algorithm identifier, errors are as of `from_algorithm`.
     fn from_algorithm_der(bytes: &'a [u8]) -> Result<Self>
-        ensures read { let Encoding = AlgorithmEncoding Self.Oid.contents (Encoded Self.Is Self.fields_of) in
+        ensures read { let Encoding = AlgorithmEncoding Self.Oid.contents (EncodingOfFields Self.Is Self.fields_of) in
             Decodes Encoding bytes.now (ok_of Self.params result) }
         ensures exact { let read = whole_algorithm Self.Oid.contents (record_read Self.form) in
-            ErrsAs Self.params (read bytes.now) result };
+            AnswersAsn1 Self.params (read bytes.now) result };
 
     /// Like `from_algorithm_der`, but rejects parameters in which a default is written: `Noncanonical` with the tag of
     /// the first such field. So what is read is the shortest encoding of the identifier.
     fn from_algorithm_der_strict(bytes: &'a [u8]) -> Result<Self>
-        ensures read { let Encoding = AlgorithmEncoding Self.Oid.contents (Encoded Self.Is Self.fields_of) in
+        ensures read { let Encoding = AlgorithmEncoding Self.Oid.contents (EncodingOfFields Self.Is Self.fields_of) in
             Decodes (IsShortest Encoding) bytes.now (ok_of Self.params result) }
         ensures exact { let read = whole_algorithm Self.Oid.contents (record_strictly Self.form) in
-            ErrsAs Self.params (read bytes.now) result };
+            AnswersAsn1 Self.params (read bytes.now) result };
 }
 
 impl<'a, T: AlgorithmParams<'a>> FromAlgorithm<'a> for T {
@@ -65,7 +65,7 @@ fn from_identifier<'a, O: IdentifierValue, T: AlgorithmParams<'a>>(
     algorithm: &AlgorithmIdentifierOf<O, AnyRef<'a>>,
 ) -> Result<T>
     ensures { let a = algorithm_in O.octets any_of algorithm.now in
-        ErrsAs T.params (identified T.Oid.contents (record_read T.form) a) result }
+        AnswersAsn1 T.params (identified T.Oid.contents (record_read T.form) a) result }
 {
     let any = parameters_of::<O, T>(algorithm)?;
     match quick_parameters(&any, false) {
@@ -77,7 +77,7 @@ fn from_identifier<'a, O: IdentifierValue, T: AlgorithmParams<'a>>(
 /// The parameters in a whole slice that is an algorithm identifier, unless a default is written in them.
 fn from_identifier_strict<'a, T: AlgorithmParams<'a>>(bytes: &'a [u8]) -> Result<T>
     ensures { let read = whole_algorithm T.Oid.contents (record_strictly T.form) in
-        ErrsAs T.params (read bytes.now) result }
+        AnswersAsn1 T.params (read bytes.now) result }
 {
     let algorithm = AlgorithmView::from_der(NoMemory, bytes)?;
     let any = parameters_of::<IdentifierView<'a>, T>(&algorithm)?;
@@ -112,7 +112,7 @@ fn parameters_of<'a, O: IdentifierValue, T: AlgorithmParams<'a>>(
 /// The encoding of the parameters in an algorithm identifier.
 fn encoded_parameters<'a, T: AlgorithmParams<'a>>(identifier: &'a [u8]) -> &'a [u8]
     requires { (params : T.Params)
-        × AlgorithmEncoding T.Oid.contents (Encoded T.Is T.fields_of) params identifier.now }
+        × AlgorithmEncoding T.Oid.contents (EncodingOfFields T.Is T.fields_of) params identifier.now }
     ensures { identifier.now ≡ sequence (tlv 6 T.Oid.contents ++ result.now) }
 {
     match AnyRef::from_der(NoMemory, identifier) {
@@ -138,9 +138,9 @@ pub(crate) fn encode_identifier<D: AssociatedOid, T: EncodeParams>(
     params: T,
     out: &mut [u8],
 ) -> Result<usize>
-    ensures written { let Encoding = AlgorithmEncoding D.contents (Encoded T.Is T.fields_of) in
+    ensures written { let Encoding = AlgorithmEncoding D.contents (EncodingOfFields T.Is T.fields_of) in
         Encodes Encoding (T.params params) out.old out.new (ok_of (λ n. n) result) }
-    ensures err { let Encoding = AlgorithmEncoding D.contents (Encoded T.Is T.fields_of) in
+    ensures err { let Encoding = AlgorithmEncoding D.contents (EncodingOfFields T.Is T.fields_of) in
         IfErr result (Refuses (λ _. ⊤) Encoding (T.params params) (length out.old)) }
 {
     let algorithm = Shortest::identified::<D>(params);

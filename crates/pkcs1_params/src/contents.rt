@@ -3,7 +3,7 @@
 ghost use Rattle.std.specs.Prelude.{◌≡◌, ◌≤◌, ⊤, length};
 ghost use Rattle.der_core.specs.Words.{Appends, Counts, Prepends, free_of, limit};
 ghost use Rattle.pkcs1_params.specs.DefaultBits.{bits_of};
-ghost use Rattle.spki_core.specs.Words.{AreSpelled, are_defaults, record_fields, record_under, spelled};
+ghost use Rattle.spki_core.specs.Words.{AreSpelled, are_defaults, record_fields, record_under, spelling_printed};
 
 use crate::fields::Fields;
 use crate::spelling::EncodeParams;
@@ -14,7 +14,7 @@ use der_core::{BackWriter, Length, Result, Writer};
 pub(crate) fn contents_len<T: EncodeParams>(params: T, non_defaults: u8, mask: u8) -> Result<Length>
     requires { non_defaults ≡ bits_of (are_defaults (record_fields T.form (T.params params))) }
     ensures { let s = record_under T.form mask (T.params params) in
-        Counts (AreSpelled T.form.kinds s) (spelled T.form.kinds s) result }
+        Counts (AreSpelled T.form.kinds s) (spelling_printed T.form.kinds s) result }
 {
     params.lemma_is_valid();
     if non_defaults == 0 && mask == 0 {
@@ -32,8 +32,8 @@ pub(crate) fn append_contents<T: EncodeParams, W: Writer>(
     writer: &mut W,
 ) -> Result<()>
     requires non_defaults { non_defaults ≡ bits_of (are_defaults (record_fields T.form (T.params params))) }
-    requires fits { length (spelled T.form.kinds (record_under T.form mask (T.params params))) ≤ limit }
-    ensures appends { let octets = spelled T.form.kinds (record_under T.form mask (T.params params)) in
+    requires fits { length (spelling_printed T.form.kinds (record_under T.form mask (T.params params))) ≤ limit }
+    ensures appends { let octets = spelling_printed T.form.kinds (record_under T.form mask (T.params params)) in
         Appends ⊤ octets W.room W.written writer.old writer.new result }
     ensures kept { W.keeps writer.old writer.new }
 {
@@ -49,9 +49,11 @@ pub(crate) fn prepend_contents<T: EncodeParams>(
     writer: &mut BackWriter<'_>,
 )
     requires non_defaults { non_defaults ≡ bits_of (are_defaults (record_fields T.form (T.params params))) }
-    requires fits { length (spelled T.form.kinds (record_under T.form mask (T.params params))) ≤ limit }
-    requires room { length (spelled T.form.kinds (record_under T.form mask (T.params params))) ≤ free_of writer.old }
-    ensures { Prepends (spelled T.form.kinds (record_under T.form mask (T.params params))) writer.old writer.new }
+    requires fits { length (spelling_printed T.form.kinds (record_under T.form mask (T.params params))) ≤ limit }
+    requires room { length (spelling_printed T.form.kinds (record_under T.form mask (T.params params)))
+        ≤ free_of writer.old }
+    ensures { Prepends (spelling_printed T.form.kinds (record_under T.form mask (T.params params)))
+        writer.old writer.new }
 {
     if non_defaults == 0 && mask == 0 {
         return;

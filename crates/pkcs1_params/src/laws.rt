@@ -1,7 +1,7 @@
 //! Laws of the encodings of parameters: functions that do nothing, each with a law as its contract.
 ghost use Rattle.std.specs.Prelude.{ℕ, List};
-ghost use Rattle.der_core.specs.Words.{AllocatesIn, AreBytes, Excludes, value_in};
-ghost use Rattle.pkcs1_params.specs.Words.{AcceptedFits, DefaultsAreCounted, EachHasOneMask, EachMaskHasOne, AreDelimited, FaultsTell, NamesFirstDefault, NamesFirstDefaultIn, IsBareOaep, IsBarePss, OaepParameters, PlainEncoding, PssParameters, rsa_oaep_algorithm, rsa_oaep_params, rsa_pss_algorithm, rsa_pss_params, strict_oaep_algorithm, strict_oaep_params, strict_pss_algorithm, ShortestHasNoDefaults, strict_pss_params};
+ghost use Rattle.der_core.specs.Words.{AllocatesAtFront, AreBytes, Excludes, value_in};
+ghost use Rattle.pkcs1_params.specs.Words.{EachHasMaskZero, DefaultsAreCounted, EachHasOneMask, EachMaskHasOne, AreDelimited, FaultsTell, NamesFirstDefault, NamesFirstDefaultIn, IsBareOaep, IsBarePss, OaepParameters, PlainEncoding, PssParameters, rsa_oaep_algorithm, rsa_oaep_params, rsa_pss_algorithm, rsa_pss_params, strict_oaep_algorithm, strict_oaep_params, strict_pss_algorithm, ShortestHasNoDefaults, strict_pss_params};
 ghost use Rattle.standard.specs.Statement.{Decodes, IsOaep, IsPss, IsShortest, OaepAlgorithmEncoding, OaepEncoding, PssAlgorithmEncoding, PssEncoding, SameByShortest, TwoToTheDefaults, TwoToTheDefaultsIn, id_rsaes_oaep, id_rsassa_pss, oaep_fields, pss_fields};
 
 use crate::oaep::RsaOaepParamsOwned;
@@ -17,7 +17,7 @@ pub fn lemma_pss_spellings()
     ensures mask { EachHasOneMask IsPss pss_fields }
     ensures encoding { EachMaskHasOne IsPss pss_fields }
     ensures shortest { ShortestHasNoDefaults IsPss pss_fields }
-    ensures fits { AcceptedFits IsPss pss_fields }
+    ensures fits { EachHasMaskZero IsPss pss_fields }
     ensures count { TwoToTheDefaults IsPss pss_fields }
     ensures same { SameByShortest PssEncoding }
 {}
@@ -30,7 +30,7 @@ pub fn lemma_oaep_spellings()
     ensures mask { EachHasOneMask IsOaep oaep_fields }
     ensures encoding { EachMaskHasOne IsOaep oaep_fields }
     ensures shortest { ShortestHasNoDefaults IsOaep oaep_fields }
-    ensures fits { AcceptedFits IsOaep oaep_fields }
+    ensures fits { EachHasMaskZero IsOaep oaep_fields }
     ensures count { TwoToTheDefaults IsOaep oaep_fields }
     ensures same { SameByShortest OaepEncoding }
 {}
@@ -54,9 +54,9 @@ pub fn lemma_params_decode()
 /// Reading owned parameters never asks for memory if no algorithm in them has parameters with octets.
 pub fn lemma_bare_params_take_no_memory()
     ensures pss { (params : PssParameters) (bytes : List ℕ) → PssEncoding params bytes → IsBarePss params
-        → AllocatesIn ⟦<RsaPssParamsOwned as Decode<&'static [u8], Global>>⟧.may_allocate bytes → ⊥ }
+        → AllocatesAtFront ⟦<RsaPssParamsOwned as Decode<&'static [u8], Global>>⟧.may_allocate bytes → ⊥ }
     ensures oaep { (params : OaepParameters) (bytes : List ℕ) → OaepEncoding params bytes → IsBareOaep params
-        → AllocatesIn ⟦<RsaOaepParamsOwned as Decode<&'static [u8], Global>>⟧.may_allocate bytes → ⊥ }
+        → AllocatesAtFront ⟦<RsaOaepParamsOwned as Decode<&'static [u8], Global>>⟧.may_allocate bytes → ⊥ }
 {}
 
 /// The encodings of identifiers with parameters: none is a proper beginning of another, of k default fields there are

@@ -2,9 +2,9 @@
 ghost use Rattle.std.specs.Prelude.{◌≡◌, ◌≤◌, ◌^◌, ℕ, List, [], length, slice_index_or, IfErr, IfOk, OnOk, Some};
 ghost use Rattle.der_core.specs.Words.{limit};
 ghost use Rattle.der_core.specs.declared.error.ErrorKind.{ErrorKind};
-ghost use Rattle.spki_core.specs.Words.{are_defaults, record_fields, record_under, spelled, defaults, upto};
+ghost use Rattle.spki_core.specs.Words.{are_defaults, record_fields, record_under, spelling_printed, number_of_defaults, upto};
 ghost use Rattle.pkcs1_params.specs.DefaultBits.{bits_of};
-ghost use Rattle.pkcs1_params.specs.Spellings.{Encoded, IsListingError, encodings_in};
+ghost use Rattle.pkcs1_params.specs.Spellings.{EncodingOfFields, IsListingError, encodings_in};
 ghost use Rattle.standard.specs.Statement.{IsShortest, Lists, longest, sequence};
 
 use crate::error::Result;
@@ -19,10 +19,10 @@ fn encodings_under<T: EncodeParams>(
     alloc: Global,
 ) -> der_core::Result<Vec<Vec<u8>>>
     requires non_defaults { non_defaults ≡ bits_of (are_defaults (record_fields T.form (T.params params))) }
-    requires masks { count ≡ 2 ^ defaults T.form.kinds (T.form.split (T.params params)) }
+    requires masks { count ≡ 2 ^ number_of_defaults T.form.kinds (T.form.split (T.params params)) }
     requires fit { length (longest (T.fields_of (T.params params))) ≤ limit }
     ensures ok { let v = T.params params in
-        let made : ℕ → List ℕ = λ mask. sequence (spelled T.form.kinds (record_under T.form mask v)) in
+        let made : ℕ → List ℕ = λ mask. sequence (spelling_printed T.form.kinds (record_under T.form mask v)) in
         IfOk result (λ encodings. encodings_in encodings ≡ upto count made) }
     ensures err { IfErr result (λ e. e.kind ≡ ErrorKind.OutOfMemory) }
 {
@@ -42,7 +42,7 @@ fn encodings_under<T: EncodeParams>(
 pub(crate) fn all_spellings<T: EncodeParams>(params: T, alloc: Global) -> Result<Vec<Vec<u8>>>
     ensures listed { IfOk result (λ encodings. Lists T.Is T.fields_of (T.params params)
         (Some (encodings_in encodings))) }
-    ensures shortest { IfOk result (λ encodings. IsShortest (Encoded T.Is T.fields_of) (T.params params)
+    ensures shortest { IfOk result (λ encodings. IsShortest (EncodingOfFields T.Is T.fields_of) (T.params params)
         (slice_index_or (encodings_in encodings) 0 [])) }
     ensures fit { OnOk result (length (longest (T.fields_of (T.params params))) ≤ limit) }
     ensures err { IfErr result (IsListingError (T.fields_of (T.params params))) }

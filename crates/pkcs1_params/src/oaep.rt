@@ -1,7 +1,7 @@
 //! Parameters of RSAES-OAEP (RFC 8017 A.2.1). `try_from` and `from_der_strict` read them by the functions of `reading.rt`.
 ghost use Rattle.std.specs.Prelude.{◌≡◌, ◌↔◌, [], None, refl};
 ghost use Rattle.pkcs1_params.specs.Words.{IsEncoded, OaepParameters, fault_in, oaep_in, oaep_kinds, oaep_read, oaep_record, rsa_oaep_params, strict_oaep_params};
-ghost use Rattle.spki_core.specs.Words.{AreSpelled, Spelling, any_of, record_alike, record_law, record_means, record_shortest, record_under, spelled, spelling_read};
+ghost use Rattle.spki_core.specs.Words.{AreSpelled, Spelling, any_of, record_alike, record_law, record_means, record_shortest, record_under, spelling_printed, spelling_read};
 ghost use Rattle.standard.specs.Statement.{OaepEncoding, empty_label, mgf1_sha1, sha1};
 
 use crate::contents::{append_contents, contents_len, prepend_contents};
@@ -58,7 +58,7 @@ pub type RsaOaepParamsView<'a> = OaepParamsOf<IdentifierView<'a>, AnyRef<'a>>;
 
 impl<'a, O: ReadParams<'a>> TryFrom<&'a [u8]> for OaepParamsOf<O, AnyRef<'a>> {
     ghost use Rattle.der_core.specs.Words.{ok_of};
-    ghost use Rattle.pkcs1_params.specs.Words.{ErrsAs};
+    ghost use Rattle.pkcs1_params.specs.Words.{AnswersAsn1};
     ghost use Rattle.standard.specs.Statement.{Decodes};
 
     type Error = Error;
@@ -66,7 +66,7 @@ impl<'a, O: ReadParams<'a>> TryFrom<&'a [u8]> for OaepParamsOf<O, AnyRef<'a>> {
     /// Reads a whole slice. Nothing is allocated.
     fn try_from(bytes: &'a [u8]) -> Result<OaepParamsOf<O, AnyRef<'a>>>
         ensures read { Decodes OaepEncoding bytes.now (ok_of (oaep_in O.octets any_of) result) }
-        ensures exact { ErrsAs (oaep_in O.octets any_of) (rsa_oaep_params bytes.now) result }
+        ensures exact { AnswersAsn1 (oaep_in O.octets any_of) (rsa_oaep_params bytes.now) result }
     {
         let view = read_params::<RsaOaepParamsView<'a>>(bytes)?;
         Ok(O::oaep_from_view(view))
@@ -75,14 +75,14 @@ impl<'a, O: ReadParams<'a>> TryFrom<&'a [u8]> for OaepParamsOf<O, AnyRef<'a>> {
 
 impl<'a, O: ReadParams<'a>> OaepParamsOf<O, AnyRef<'a>> {
     ghost use Rattle.der_core.specs.Words.{ok_of};
-    ghost use Rattle.pkcs1_params.specs.Words.{ErrsAs};
+    ghost use Rattle.pkcs1_params.specs.Words.{AnswersAsn1};
     ghost use Rattle.standard.specs.Statement.{Decodes, IsShortest};
 
     /// Like `try_from`, but rejects an encoding in which a default is written: `Noncanonical` with the tag of the first
     /// such field. So what is read is the shortest encoding of its value.
     pub fn from_der_strict(bytes: &'a [u8]) -> Result<OaepParamsOf<O, AnyRef<'a>>>
         ensures read { Decodes (IsShortest OaepEncoding) bytes.now (ok_of (oaep_in O.octets any_of) result) }
-        ensures exact { ErrsAs (oaep_in O.octets any_of) (strict_oaep_params bytes.now) result }
+        ensures exact { AnswersAsn1 (oaep_in O.octets any_of) (strict_oaep_params bytes.now) result }
     {
         let view = read_params_strict::<RsaOaepParamsView<'a>>(bytes)?;
         Ok(O::oaep_from_view(view))
@@ -112,7 +112,7 @@ impl<O: IdentifierValue, P: AnyValue> Contents for OaepParamsOf<O, P> {
 
     ghost valid = { AreSpelled oaep_kinds };
 
-    ghost printed = { spelled oaep_kinds };
+    ghost printed = { spelling_printed oaep_kinds };
 
     ghost read_spelling = { spelling_read oaep_kinds };
 

@@ -1,7 +1,7 @@
 //! Parameters of RSASSA-PSS (RFC 8017 A.2.3). `try_from` and `from_der_strict` read them by the functions of `reading.rt`.
 ghost use Rattle.std.specs.Prelude.{◌≡◌, ◌↔◌, None, refl};
 ghost use Rattle.pkcs1_params.specs.Words.{IsEncoded, PssParameters, fault_in, id_mgf1, pss_in, pss_kinds, pss_of, pss_read, pss_record, pss_with, rsa_pss_params, strict_pss_params, with_parameters};
-ghost use Rattle.spki_core.specs.Words.{AreSpelled, Spelling, any_of, null_value, record_alike, record_law, record_means, record_shortest, record_under, spelled, spelling_read};
+ghost use Rattle.spki_core.specs.Words.{AreSpelled, Spelling, any_of, null_value, record_alike, record_law, record_means, record_shortest, record_under, spelling_printed, spelling_read};
 ghost use Rattle.standard.specs.Statement.{PssEncoding, mgf1_sha1, sha1};
 
 use crate::contents::{append_contents, contents_len, prepend_contents};
@@ -61,7 +61,7 @@ pub type RsaPssParamsView<'a> = PssParamsOf<IdentifierView<'a>, AnyRef<'a>>;
 
 impl<'a, O: ReadParams<'a>> TryFrom<&'a [u8]> for PssParamsOf<O, AnyRef<'a>> {
     ghost use Rattle.der_core.specs.Words.{ok_of};
-    ghost use Rattle.pkcs1_params.specs.Words.{ErrsAs};
+    ghost use Rattle.pkcs1_params.specs.Words.{AnswersAsn1};
     ghost use Rattle.standard.specs.Statement.{Decodes};
 
     type Error = Error;
@@ -69,7 +69,7 @@ impl<'a, O: ReadParams<'a>> TryFrom<&'a [u8]> for PssParamsOf<O, AnyRef<'a>> {
     /// Reads a whole slice. Nothing is allocated.
     fn try_from(bytes: &'a [u8]) -> Result<PssParamsOf<O, AnyRef<'a>>>
         ensures read { Decodes PssEncoding bytes.now (ok_of (pss_in O.octets any_of) result) }
-        ensures exact { ErrsAs (pss_in O.octets any_of) (rsa_pss_params bytes.now) result }
+        ensures exact { AnswersAsn1 (pss_in O.octets any_of) (rsa_pss_params bytes.now) result }
     {
         let view = read_params::<RsaPssParamsView<'a>>(bytes)?;
         Ok(O::pss_from_view(view))
@@ -78,14 +78,14 @@ impl<'a, O: ReadParams<'a>> TryFrom<&'a [u8]> for PssParamsOf<O, AnyRef<'a>> {
 
 impl<'a, O: ReadParams<'a>> PssParamsOf<O, AnyRef<'a>> {
     ghost use Rattle.der_core.specs.Words.{ok_of};
-    ghost use Rattle.pkcs1_params.specs.Words.{ErrsAs};
+    ghost use Rattle.pkcs1_params.specs.Words.{AnswersAsn1};
     ghost use Rattle.standard.specs.Statement.{Decodes, IsShortest};
 
     /// Like `try_from`, but rejects an encoding in which a default is written: `Noncanonical` with the tag of the first
     /// such field. So what is read is the shortest encoding of its value.
     pub fn from_der_strict(bytes: &'a [u8]) -> Result<PssParamsOf<O, AnyRef<'a>>>
         ensures read { Decodes (IsShortest PssEncoding) bytes.now (ok_of (pss_in O.octets any_of) result) }
-        ensures exact { ErrsAs (pss_in O.octets any_of) (strict_pss_params bytes.now) result }
+        ensures exact { AnswersAsn1 (pss_in O.octets any_of) (strict_pss_params bytes.now) result }
     {
         let view = read_params_strict::<RsaPssParamsView<'a>>(bytes)?;
         Ok(O::pss_from_view(view))
@@ -115,7 +115,7 @@ impl<O: IdentifierValue, P: AnyValue> Contents for PssParamsOf<O, P> {
 
     ghost valid = { AreSpelled pss_kinds };
 
-    ghost printed = { spelled pss_kinds };
+    ghost printed = { spelling_printed pss_kinds };
 
     ghost read_spelling = { spelling_read pss_kinds };
 

@@ -3,7 +3,7 @@
 ghost use Rattle.std.specs.Prelude.{◌≡◌, List, IfSome, if◌then◌else◌};
 ghost use Rattle.der_core.specs.Words.{ok_of, sequence_tag as sequence_kind};
 ghost use Rattle.spki_core.specs.Words.{FieldRecord, any_as, any_of, record_read, record_strictly, strict_whole, record_whole};
-ghost use Rattle.pkcs1_params.specs.Words.{Encoded, ErrsAs};
+ghost use Rattle.pkcs1_params.specs.Words.{AnswersAsn1, EncodingOfFields};
 ghost use Rattle.standard.specs.Statement.{Decodes, Field, IsShortest};
 
 use crate::error::Result;
@@ -14,8 +14,8 @@ use spki_core::{AnyRef, AssociatedOid};
 /// Reads a whole slice. Nothing is allocated.
 #[inline(always)]
 pub(crate) fn read_params<'a, T: AlgorithmParams<'a>>(bytes: &'a [u8]) -> Result<T>
-    ensures read { Decodes (Encoded T.Is T.fields_of) bytes.now (ok_of T.params result) }
-    ensures exact { ErrsAs T.params (record_whole T.form bytes.now) result }
+    ensures read { Decodes (EncodingOfFields T.Is T.fields_of) bytes.now (ok_of T.params result) }
+    ensures exact { AnswersAsn1 T.params (record_whole T.form bytes.now) result }
 {
     match quick_encoding(bytes, false) {
         Some(params) => Ok(params),
@@ -26,8 +26,8 @@ pub(crate) fn read_params<'a, T: AlgorithmParams<'a>>(bytes: &'a [u8]) -> Result
 /// Like `read_params`, but rejects an encoding in which a default is written.
 #[inline(always)]
 pub(crate) fn read_params_strict<'a, T: AlgorithmParams<'a>>(bytes: &'a [u8]) -> Result<T>
-    ensures read { Decodes (IsShortest (Encoded T.Is T.fields_of)) bytes.now (ok_of T.params result) }
-    ensures exact { ErrsAs T.params (strict_whole T.form bytes.now) result }
+    ensures read { Decodes (IsShortest (EncodingOfFields T.Is T.fields_of)) bytes.now (ok_of T.params result) }
+    ensures exact { AnswersAsn1 T.params (strict_whole T.form bytes.now) result }
 {
     if let Some(params) = quick_encoding::<T>(bytes, true) {
         return Ok(params);
@@ -110,14 +110,14 @@ pub trait AlgorithmParams<'a>: Sized + Drop {
 
     /// Reads the parameters of an algorithm field by field: `TagUnexpected` if they are no SEQUENCE.
     fn read_any(any: AnyRef<'a>) -> Result<Self>
-        ensures { ErrsAs params (any_as sequence_kind (record_read form) (any_of any.entry)) result };
+        ensures { AnswersAsn1 params (any_as sequence_kind (record_read form) (any_of any.entry)) result };
 
     /// Reads a whole slice field by field.
     fn read_whole(bytes: &'a [u8]) -> Result<Self>
-        ensures { ErrsAs params (record_whole form bytes.now) result };
+        ensures { AnswersAsn1 params (record_whole form bytes.now) result };
 
     /// Rejects an encoding of the parameters in which a default is written: `Noncanonical` with the tag of the first.
     fn reject_defaults(&self, encoding: &[u8]) -> Result<()>
-        requires { Encoded Is fields_of (params self.now) encoding.now }
-        ensures { ErrsAs (λ _. params self.now) (strict_whole form encoding.now) result };
+        requires { EncodingOfFields Is fields_of (params self.now) encoding.now }
+        ensures { AnswersAsn1 (λ _. params self.now) (strict_whole form encoding.now) result };
 }

@@ -1,6 +1,6 @@
 //! Parameters as their shortest encoding.
 ghost use Rattle.std.specs.Prelude.{◌≡◌};
-ghost use Rattle.spki_core.specs.Words.{AreSpelled, are_defaults, record_alike, record_fields, record_law, record_means, record_read, record_shortest, record_under, spelled, spelling_read, viewed_with};
+ghost use Rattle.spki_core.specs.Words.{AreSpelled, are_defaults, record_alike, record_fields, record_law, record_means, record_read, record_shortest, record_under, spelling_printed, spelling_read, viewed_with};
 ghost use Rattle.spki_core.specs.FieldSpellings as spellings;
 ghost use Rattle.pkcs1_params.specs.DefaultBits.{bits_of};
 ghost use Rattle.pkcs1_params.specs.Parameters.{with_parameters};
@@ -59,7 +59,7 @@ impl<T: EncodeParams> Contents for Shortest<T> {
 
     ghost valid = { AreSpelled T.form.kinds };
 
-    ghost printed = { spelled T.form.kinds };
+    ghost printed = { spelling_printed T.form.kinds };
 
     ghost read_spelling = { spelling_read T.form.kinds };
 

@@ -2,11 +2,11 @@
 ghost use Rattle.std.specs.Prelude.{◌≡◌, ◌≤◌, ◌<◌, ⊤, List, length, IfErr, IfOk, option_map};
 ghost use Rattle.der_core.specs.Words.{limit, ok_of, one_spelling_shortest, reading_alike};
 ghost use Rattle.der_core.specs.declared.error.ErrorKind.{ErrorKind};
-ghost use Rattle.spki_core.specs.Words.{AreSpelled, FieldRecord, are_defaults, first_default, record_fields, record_law, record_under, spelled, spelling_read, tag_number_in};
+ghost use Rattle.spki_core.specs.Words.{AreSpelled, FieldRecord, are_defaults, first_default, record_fields, record_law, record_under, spelling_printed, spelling_read, tag_number_in};
 ghost use Rattle.spki_core.specs.FieldSpellings as spellings;
 ghost use Rattle.pkcs1_params.specs.DefaultBits.{bits_of};
 ghost use Rattle.pkcs1_params.specs.Meanings.{Refuses};
-ghost use Rattle.pkcs1_params.specs.Spellings.{Encoded, EncodedUnder, InRange, IsMask};
+ghost use Rattle.pkcs1_params.specs.Spellings.{EncodingOfFields, EncodingUnderMask, IsMask, MaskIsInRange};
 ghost use Rattle.standard.specs.Statement.{Defaults, Encodes, Field, IsShortest};
 
 use crate::contents::{append_contents, contents_len, prepend_contents};
@@ -58,9 +58,9 @@ pub trait EncodeParams: Copy + Drop {
     /// slice is shorter than it.
     #[inline(always)]
     final fn encode_params(self, out: &mut [u8]) -> Result<usize>
-        ensures written { let Encoding = Encoded Self.Is Self.fields_of in
+        ensures written { let Encoding = EncodingOfFields Self.Is Self.fields_of in
             Encodes Encoding (Self.params self) out.old out.new (ok_of (λ n. n) result) }
-        ensures err { let Encoding = Encoded Self.Is Self.fields_of in
+        ensures err { let Encoding = EncodingOfFields Self.Is Self.fields_of in
             IfErr result (Refuses (λ _. ⊤) Encoding (Self.params self) (length out.old)) }
     {
         self.encode_spelling_into(0, out)
@@ -71,9 +71,9 @@ pub trait EncodeParams: Copy + Drop {
     /// `Overflow` if the encoding is longer than `Length::MAX`, `NoRoom` if the slice is shorter than it.
     final fn encode_spelling_into(self, mask: u8, out: &mut [u8]) -> Result<usize>
         requires { IsMask (Self.fields_of (Self.params self)) mask }
-        ensures written { let Encoding = EncodedUnder mask Self.Is Self.fields_of in
+        ensures written { let Encoding = EncodingUnderMask mask Self.Is Self.fields_of in
             Encodes Encoding (Self.params self) out.old out.new (ok_of (λ n. n) result) }
-        ensures err { let Encoding = EncodedUnder mask Self.Is Self.fields_of in
+        ensures err { let Encoding = EncodingUnderMask mask Self.Is Self.fields_of in
             IfErr result (Refuses (λ _. ⊤) Encoding (Self.params self) (length out.old)) }
     {
         self.lemma_is_valid();
@@ -88,10 +88,10 @@ pub trait EncodeParams: Copy + Drop {
     /// Like `encode_spelling_into`, but returns the part of the slice that was written, as `encode_to_slice` does.
     final fn encode_spelling_to_slice<'b>(self, mask: u8, out: &'b mut [u8]) -> Result<&'b [u8]>
         requires { IsMask (Self.fields_of (Self.params self)) mask }
-        ensures written { let Encoding = EncodedUnder mask Self.Is Self.fields_of in
+        ensures written { let Encoding = EncodingUnderMask mask Self.Is Self.fields_of in
             IfOk result (λ encoding. IsShortest Encoding (Self.params self) encoding.now) }
         ensures room { IfOk result (λ encoding. length encoding.now ≤ length out.old) }
-        ensures err { let Encoding = EncodedUnder mask Self.Is Self.fields_of in
+        ensures err { let Encoding = EncodingUnderMask mask Self.Is Self.fields_of in
             IfErr result (Refuses (λ _. ⊤) Encoding (Self.params self) (length out.old)) }
     {
         self.lemma_is_valid();
@@ -110,7 +110,7 @@ pub(crate) struct Spelling<T: EncodeParams> {
     pub(crate) params: T,
     pub(crate) non_defaults: u8,
     pub(crate) mask: u8,
-    ghost range: { InRange (T.fields_of (T.params params)) mask },
+    ghost range: { MaskIsInRange (T.fields_of (T.params params)) mask },
     ghost known: { non_defaults ≡ bits_of (are_defaults (record_fields T.form (T.params params))) },
 }
 
@@ -127,7 +127,7 @@ impl<T: EncodeParams> Contents for Spelling<T> {
 
     ghost valid = { AreSpelled T.form.kinds };
 
-    ghost printed = { spelled T.form.kinds };
+    ghost printed = { spelling_printed T.form.kinds };
 
     ghost read_spelling = { spelling_read T.form.kinds };
 
@@ -135,7 +135,7 @@ impl<T: EncodeParams> Contents for Spelling<T> {
 
     ghost law = { record_law T.form };
 
-    ghost shortest = { one_spelling_shortest (AreSpelled T.form.kinds) (spelled T.form.kinds) };
+    ghost shortest = { one_spelling_shortest (AreSpelled T.form.kinds) (spelling_printed T.form.kinds) };
 
     ghost reads_alike = { reading_alike (spelling_read T.form.kinds) };
 }
@@ -182,10 +182,10 @@ impl<T: EncodeParams> Spelling<T> {
     /// The length of the encoding: `Overflow` if it is too long.
     pub(crate) fn len(&self) -> der_core::Result<usize>
         ensures ok { let s = record_under T.form self.now.mask (T.params self.now.params) in
-            let encoding = sequence (spelled T.form.kinds s) in
+            let encoding = sequence (spelling_printed T.form.kinds s) in
             IfOk result (λ n. (n ≡ length encoding) × (n ≤ limit)) }
         ensures err { let s = record_under T.form self.now.mask (T.params self.now.params) in
-            let encoding = sequence (spelled T.form.kinds s) in
+            let encoding = sequence (spelling_printed T.form.kinds s) in
             IfErr result (λ e. (e.kind ≡ ErrorKind.Overflow) × (limit < length encoding)) }
     {
         self.params.lemma_is_valid();
@@ -195,9 +195,9 @@ impl<T: EncodeParams> Spelling<T> {
     /// The encoding, in allocated memory.
     pub(crate) fn to_vec(&self, alloc: Global) -> der_core::Result<Vec<u8>>
         ensures ok { let s = record_under T.form self.now.mask (T.params self.now.params) in
-            IfOk result (λ encoding. encoding.items ≡ sequence (spelled T.form.kinds s)) }
+            IfOk result (λ encoding. encoding.items ≡ sequence (spelling_printed T.form.kinds s)) }
         ensures err { let s = record_under T.form self.now.mask (T.params self.now.params) in
-            let unfit : Type 0 = limit < length (sequence (spelled T.form.kinds s)) in
+            let unfit : Type 0 = limit < length (sequence (spelling_printed T.form.kinds s)) in
             IfErr result (λ e. (e.kind ≡ ErrorKind.OutOfMemory) ⊎ ((e.kind ≡ ErrorKind.Overflow) × unfit)) }
     {
         self.params.lemma_is_valid();

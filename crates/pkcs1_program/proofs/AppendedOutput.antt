@@ -7,7 +7,7 @@ use Rattle.der_core.specs.Words.{holds_canonical, number_octets, bytes_of}
 use Rattle.der_core.specs.declared.integer.uint.UintRef.{UintRef}
 use Rattle.pkcs1.specs.Words.{number_in}
 use Rattle.standard.specs.Statement.{AtMostOne, Decodes, IsShortest, octets}
-use Rattle.pkcs1_program.specs.Words.{Answered, Tells}
+use Rattle.pkcs1_program.specs.Words.{Answered, TellsValue}
 
 -- one piece more in front of those that follow
 appended_two : (old now new piece rest : List ℕ) → now ≡ old ++ piece → new ≡ now ++ rest → new ≡ old ++ (piece ++ rest)
@@ -50,7 +50,7 @@ module _ {V T E : Type 0} (Encoding : V → List ℕ → Type 0) (encoding old n
   -- what is put of a value, with its only encoding
   pub key_answer_put : (tell : V → List ℕ → List ℕ) → AtMostOne Encoding → (v : V) → Encoding v encoding
       → OnOk r (new ≡ old ++ tell v encoding)
-      → OnOk r ((a : List ℕ) × Tells Encoding tell encoding a × (new ≡ old ++ a))
+      → OnOk r ((a : List ℕ) × TellsValue Encoding tell encoding a × (new ≡ old ++ a))
   key_answer_put tell one v is put =
       let shortest : IsShortest Encoding v encoding = (is, λ other p. inl (one v other encoding p is)) in
       answer_put (λ v a. (again : List ℕ) × IsShortest Encoding v again × (a ≡ tell v again)) v (tell v encoding) is

@@ -7,7 +7,7 @@ use Rattle.spki_core.proofs.RecordEncodings.{default_count_only}
 use Rattle.spki_core.specs.Words.{FieldRecord}
 use Rattle.pkcs1_params.proofs.Masks.{each_mask_has_one, record_delimited, same_by_shortest}
 use Rattle.standard.specs.Statement.{Decodes, Field, Fields, Lists, SequenceOf, limit, longest, IsShortest, PrivateKeyEncoding}
-use Rattle.pkcs1_program.specs.Words.{ListedEncoding, hex_field, number_field, spell_answer, Asked, bad_line, asks, asks_pair, asked_by, Answered, Tells, TellsParameters, SaysWhether, TellsStrict, TellsSame, TellsSpellings, RsaContainerEncoding, TellsContainer, WordAnswer, PairAnswer, AnswerTo, Answer, Outputs, pub_answer, priv_answer, p8_answer, pss_answer, oaep_answer}
+use Rattle.pkcs1_program.specs.Words.{ListedEncoding, hex_field, number_field, spell_answer, Asked, bad_line, asks, asks_pair, asked_by, Answered, TellsValue, TellsParameters, SaysWhether, TellsStrict, TellsSame, TellsSpellings, RsaContainerEncoding, TellsContainer, WordAnswer, PairAnswer, AnswerTo, Answer, Outputs, pub_answer, priv_answer, p8_answer, pss_answer, oaep_answer}
 use Rattle.pkcs1_program.proofs.AppendedOutput.{appended_three}
 use Rattle.std.proofs.Math.Path.{subst₂}
 use Rattle.der_core.specs.Words.{HasAtMostOne}
@@ -85,7 +85,7 @@ module _ {V : Type 0} {Encoding : V → List ℕ → Type 0} (delimited : AreDel
   shortest_one : (v : V) → HasAtMostOne (IsShortest Encoding v)
   shortest_one v s t p q = (same_by_shortest Encoding delimited v v s s s t p.0 p.0 p q).0 refl
 
-  tells_one : (told : V → List ℕ → List ℕ) (encoding : List ℕ) → HasAtMostOne (Tells Encoding told encoding)
+  tells_one : (told : V → List ℕ → List ℕ) (encoding : List ℕ) → HasAtMostOne (TellsValue Encoding told encoding)
   tells_one told encoding =
       answered_one Encoding _ means_one
       (λ value a b p q. p.2 ∙ ap (told value) (shortest_one value p.0 q.0 p.1 q.1) ∙ sym q.2) encoding

@@ -5,7 +5,7 @@ use Rattle.std.proofs.KnownBytes.{Appends-nil, Appends-trans}
 use Rattle.std.proofs.Math.Seq.{take-append-add}
 use Rattle.std.proofs.lemmas.List.{take-append-le, take_min}
 use Rattle.der_core.specs.Words.{AppendsFront, HasAtMostOne}
-use Rattle.pkcs1_program.specs.Words.{Answer, Outputs, Makes, WritesFront, WritesFrontOfAll, parts_of, bad_line, words, pair_words, named, decoded, encoding_in_hex, asked_with, pair_asked_with, asked_by, asked_by_parts}
+use Rattle.pkcs1_program.specs.Words.{Answer, Outputs, MakesOutput, WritesFront, WritesFrontOfAll, parts_of, bad_line, words, pair_words, value_named, decoded, encoding_in_hex, asked_with, pair_asked_with, asked_by, asked_by_parts}
 use Rattle.std.proofs.lemmas.Bool.{false_from_ne_true}
 use Rattle.std.specs.List.{join_with_byte}
 use Rattle.std.proofs.lemmas.List.Splits.{slice_split_none, join_with_byte-slice_split}
@@ -31,8 +31,9 @@ Outputs-push (first ∷ lines) line output answer h k = (
 
 -- one more answer is held, and then a front of what is held is written
 pub Makes-push : (old mid new : Option (List ℕ)) (held all held2 : List ℕ) (lines : List (List ℕ))
-    (line answer front : List ℕ) → Makes old mid held lines → Answer line answer → all ≡ held ++ (answer ++ 10 ∷ [])
-    → Appends mid new front → all ≡ front ++ held2 → Makes old new held2 (lines ++ line ∷ [])
+    (line answer front : List ℕ) → MakesOutput old mid held lines → Answer line answer → all
+    ≡ held ++ (answer ++ 10 ∷ [])
+    → Appends mid new front → all ≡ front ++ held2 → MakesOutput old new held2 (lines ++ line ∷ [])
 Makes-push old mid new held all held2 lines line answer front made h e taken split =
     let whole : (made.0 ++ front) ++ held2 ≡ (made.0 ++ held) ++ (answer ++ 10 ∷ []) =
     rw (append_assoc, append_assoc, ← split, e) refl in
@@ -40,7 +41,7 @@ Makes-push old mid new held all held2 lines line answer front made h e taken spl
 
 -- a beginning of what is held was written
 pub Makes-front : (old mid new : Option (List ℕ)) (held : List ℕ) (all lines rest : List (List ℕ))
-    → all ≡ lines ++ rest → Makes old mid held lines → AppendsFront mid new held → WritesFront old new all
+    → all ≡ lines ++ rest → MakesOutput old mid held lines → AppendsFront mid new held → WritesFront old new all
 Makes-front old mid new held all lines rest e made taken =
     let front : AppendsFront old new (made.0 ++ held) =
     (length made.0 + taken.0, rw take-append-add (Appends-trans old mid new _ _ made.1 taken.1))
@@ -48,7 +49,7 @@ Makes-front old mid new held all lines rest e made taken =
 
 -- one more answer is held, and then a beginning of what is held was written
 pub Makes-stop : (old mid new : Option (List ℕ)) (held all : List ℕ) (whole lines rest : List (List ℕ))
-    (line answer : List ℕ) → whole ≡ lines ++ line ∷ rest → Makes old mid held lines → Answer line answer
+    (line answer : List ℕ) → whole ≡ lines ++ line ∷ rest → MakesOutput old mid held lines → Answer line answer
     → all ≡ held ++ (answer ++ 10 ∷ []) → AppendsFront mid new all → WritesFront old new whole
 Makes-stop old mid new held all whole lines rest line answer w made h e taken =
     Makes-front old mid new all whole (lines ++ line ∷ []) rest (rw (w, append_assoc))
@@ -117,21 +118,21 @@ parts_not_none line cut =
     omega (arith, some, none)
 
 -- a word of one encoding isn't one of two
-another_name : (name word : List ℕ) (w : Word) → named words name ≡ None → named words word ≡ Some w
+another_name : (name word : List ℕ) (w : Word) → value_named words name ≡ None → value_named words word ≡ Some w
     → bytes_eq name word ≡ false
 another_name name word w none some =
     false_from_ne_true (bytes_eq name word) (λ e.
     let no : None ≡ Some w =
-    sym none ∙ subst (λ n. named words n ≡ Some w) (sym ((bytes_eq-Decides name word).0 e)) some in
+    sym none ∙ subst (λ n. value_named words n ≡ Some w) (sym ((bytes_eq-Decides name word).0 e)) some in
     cc)
 
-no_pair_word : (word : List ℕ) (w : Word) → named words word ≡ Some w → named pair_words word ≡ None
+no_pair_word : (word : List ℕ) (w : Word) → value_named words word ≡ Some w → value_named pair_words word ≡ None
 no_pair_word word w is =
     rw (another_name (codes "same-pss") word w refl is, another_name (codes "same-oaep") word w refl is)
 
 -- What follows a word of one encoding is that encoding, or the line is bad.
 one_encoding_asked : (word rest : List ℕ) (w : Word) (parts : List (List ℕ)) → parts_of rest ≡ parts
-    → named words word ≡ Some w
+    → value_named words word ≡ Some w
     → asked_by_parts (word ∷ parts) ≡ asked_with (Some w) (encoding_in_hex rest)
 one_encoding_asked word rest w [] cut is = absurd (parts_not_none rest cut)
 one_encoding_asked word rest w (hex ∷ []) cut is =
@@ -143,7 +144,8 @@ one_encoding_asked word rest w (hex ∷ second ∷ []) cut is =
 one_encoding_asked word rest w (hex ∷ second ∷ more ∷ parts) cut is =
     sym (ap (λ t. asked_with (Some w) t) (parts_no_encoding rest hex second (more ∷ parts) cut))
 
-pub asks_one : (line word rest : List ℕ) (w : Word) → parts_of line ≡ word ∷ parts_of rest → named words word ≡ Some w
+pub asks_one : (line word rest : List ℕ) (w : Word) → parts_of line ≡ word ∷ parts_of rest → value_named words word
+    ≡ Some w
     → asked_by line ≡ asked_with (Some w) (encoding_in_hex rest)
 asks_one line word rest w cut is = ap asked_by_parts cut ∙ one_encoding_asked word rest w (parts_of rest) refl is
 
@@ -153,7 +155,7 @@ second_missing w (Some first) = refl
 second_missing w None = refl
 
 two_encodings_asked : (word first rest : List ℕ) (w : PairWord) (parts : List (List ℕ)) → parts_of rest ≡ parts
-    → named pair_words word ≡ Some w
+    → value_named pair_words word ≡ Some w
     → asked_by_parts (word ∷ first ∷ parts) ≡ pair_asked_with (Some w) (encoding_in_hex first) (encoding_in_hex rest)
 two_encodings_asked word first rest w [] cut is = absurd (parts_not_none rest cut)
 two_encodings_asked word first rest w (second ∷ []) cut is =
@@ -165,7 +167,7 @@ two_encodings_asked word first rest w (second ∷ more ∷ parts) cut is =
 
 pub asks_two : (line word rest first second : List ℕ) (w : PairWord) → parts_of line ≡ word ∷ parts_of rest
     → parts_of rest ≡ first ∷ parts_of second
-    → named pair_words word ≡ Some w
+    → value_named pair_words word ≡ Some w
     → asked_by line ≡ pair_asked_with (Some w) (encoding_in_hex first) (encoding_in_hex second)
 asks_two line word rest first second w cut cut2 is =
     ap asked_by_parts (cut ∙ ap (λ parts. word ∷ parts) cut2)

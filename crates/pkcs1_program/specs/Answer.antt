@@ -137,8 +137,8 @@ Answered {V} Encoding Told encoding answer =
     ⊎ ((value : V) × Encoding value encoding × Told value answer)
 
 -- the value and its shortest encoding
-abbrev pub Tells : {V : Type 0} → (V → List ℕ → Type 0) → (V → List ℕ → List ℕ) → List ℕ → List ℕ → Type 0
-Tells Encoding told encoding answer =
+abbrev pub TellsValue : {V : Type 0} → (V → List ℕ → Type 0) → (V → List ℕ → List ℕ) → List ℕ → List ℕ → Type 0
+TellsValue Encoding told encoding answer =
     Answered Encoding (λ value a. (again : List ℕ) × IsShortest Encoding value again × (a ≡ told value again)) encoding
     answer
 
@@ -192,8 +192,8 @@ TellsContainer encoding answer =
 
 -- the output for a word with one encoding
 abbrev pub WordAnswer : Word → List ℕ → List ℕ → Type 0
-WordAnswer word.Pub encoding answer = Tells PublicKeyEncoding pub_answer encoding answer
-WordAnswer word.Priv encoding answer = Tells PrivateKeyEncoding priv_answer encoding answer
+WordAnswer word.Pub encoding answer = TellsValue PublicKeyEncoding pub_answer encoding answer
+WordAnswer word.Priv encoding answer = TellsValue PrivateKeyEncoding priv_answer encoding answer
 WordAnswer word.Pss encoding answer = TellsParameters PssEncoding pss_fields pss_answer encoding answer
 WordAnswer word.Oaep encoding answer = TellsParameters OaepEncoding oaep_fields oaep_answer encoding answer
 WordAnswer word.P8 encoding answer = TellsContainer encoding answer

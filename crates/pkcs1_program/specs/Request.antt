@@ -59,8 +59,8 @@ abbrev pub encoding_in_hex : List ℕ → Option (List ℕ)
 encoding_in_hex hex = decoded (decode_of hex)
 
 -- the value beside the name in a list
-abbrev pub named : {W : Type 0} → List (List ℕ × W) → List ℕ → Option W
-named rows name = option_map (λ row. row.1) (find (λ row. bytes_eq row.0 name) rows)
+abbrev pub value_named : {W : Type 0} → List (List ℕ × W) → List ℕ → Option W
+value_named rows name = option_map (λ row. row.1) (find (λ row. bytes_eq row.0 name) rows)
 
 abbrev pub asked_with : Option Word → Option (List ℕ) → Asked
 asked_with (Some word) (Some encoding) = asks word encoding
@@ -76,9 +76,9 @@ pair_asked_with None first second = bad_line
 abbrev pub asked_by_parts : List (List ℕ) → Asked
 asked_by_parts [] = bad_line
 asked_by_parts (word ∷ []) = bad_line
-asked_by_parts (word ∷ hex ∷ []) = asked_with (named words word) (encoding_in_hex hex)
+asked_by_parts (word ∷ hex ∷ []) = asked_with (value_named words word) (encoding_in_hex hex)
 asked_by_parts (word ∷ hex ∷ second ∷ []) =
-    pair_asked_with (named pair_words word) (encoding_in_hex hex) (encoding_in_hex second)
+    pair_asked_with (value_named pair_words word) (encoding_in_hex hex) (encoding_in_hex second)
 asked_by_parts (word ∷ hex ∷ second ∷ more ∷ rest) = bad_line
 
 -- what the line asks for
@@ -86,7 +86,7 @@ abbrev pub asked_by : List ℕ → Asked
 asked_by line = asked_by_parts (parts_of line)
 
 -- A request, with the buffers that hold the bytes of its HEX parts.
-abbrev pub seen : Request → List ℕ → List ℕ → Asked
-seen request.BadLine first second = bad_line
-seen (request.Word word) first second = asks word first
-seen (request.Pair word) first second = asks_pair word first second
+abbrev pub request_seen : Request → List ℕ → List ℕ → Asked
+request_seen request.BadLine first second = bad_line
+request_seen (request.Word word) first second = asks word first
+request_seen (request.Pair word) first second = asks_pair word first second

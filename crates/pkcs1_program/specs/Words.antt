@@ -1,8 +1,8 @@
 -- The words that contracts and proofs cite, from all files of specs.
-pub use Rattle.pkcs1_program.specs.Answer.{Answer, AnswerTo, Answered, ListedEncoding, Output, Outputs, PairAnswer, Puts, PutsAnswer, RsaContainerEncoding, SaysWhether, Tells, TellsContainer, TellsParameters, TellsSame, TellsSpellings, TellsStrict, WordAnswer, any_digits, attributes_field, bracketed_digits, hash_and_mask_fields, hex_field, identifier_digits, key_fields, key_number_fields, mask_digits, number_field, oaep_answer, other_prime_field, other_prime_fields, p8_answer, plain_digits, priv_answer, pss_answer, pub_answer, spell_answer, spelling_fields, version_field}
+pub use Rattle.pkcs1_program.specs.Answer.{Answer, AnswerTo, Answered, ListedEncoding, Output, Outputs, PairAnswer, Puts, PutsAnswer, RsaContainerEncoding, SaysWhether, TellsContainer, TellsParameters, TellsSame, TellsSpellings, TellsStrict, TellsValue, WordAnswer, any_digits, attributes_field, bracketed_digits, hash_and_mask_fields, hex_field, identifier_digits, key_fields, key_number_fields, mask_digits, number_field, oaep_answer, other_prime_field, other_prime_fields, p8_answer, plain_digits, priv_answer, pss_answer, pub_answer, spell_answer, spelling_fields, version_field}
 pub use Rattle.pkcs1_program.specs.Copied.{CopiesAt, CopiesFile, CopiesKey, GivesWrong, PlaceRefuses, WhyFileNotRead, WhyKeyNotCopied, WhyKeyNotRead, WhyNotCopied, file_error_text, file_of, write_error_text}
 pub use Rattle.pkcs1_program.specs.Fault.{IsMemoryError, fault_text}
 pub use Rattle.pkcs1_program.specs.Plan.{IsDone, exit_status_of, planned_by, task_of}
 pub use Rattle.pkcs1_program.specs.Replaced.{Aim, Filled, FillsFile, PutsFile, PutsAt, RefusesFile, RefusesAt, SinkStops, SinkTakes, absent, aim_of, aimed, in_place, replaced, stopped, whole}
-pub use Rattle.pkcs1_program.specs.Request.{Asked, asked_by, asked_by_parts, asked_with, asks, asks_pair, bad_line, decoded, encoding_in_hex, lines_of, longest_input, named, pair_asked_with, pair_words, parts_of, seen, words}
-pub use Rattle.pkcs1_program.specs.Written.{Makes, MakesFirst, Writes, WritesFirst, WritesFront, WritesFrontOfAll, WritesHeld, WritesOut}
+pub use Rattle.pkcs1_program.specs.Request.{Asked, asked_by, asked_by_parts, asked_with, asks, asks_pair, bad_line, decoded, encoding_in_hex, lines_of, longest_input, pair_asked_with, pair_words, parts_of, request_seen, value_named, words}
+pub use Rattle.pkcs1_program.specs.Written.{MakesFirst, MakesOutput, WritesFirst, WritesFront, WritesFrontOfAll, WritesHeld, WritesOut, WritesOutput}

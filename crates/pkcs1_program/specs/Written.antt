@@ -7,13 +7,13 @@ use Rattle.pkcs1_program.specs.declared.fault.Fault.{Fault}
 use Rattle.pkcs1_program.specs.declared.fault.Fault.TheVariants.{Write}
 
 -- Exactly the output for these lines was written.
-abbrev pub Writes : Option (List ℕ) → Option (List ℕ) → List (List ℕ) → Type 0
-Writes old new lines = (output : List ℕ) × Outputs lines output × Appends old new output
+abbrev pub WritesOutput : Option (List ℕ) → Option (List ℕ) → List (List ℕ) → Type 0
+WritesOutput old new lines = (output : List ℕ) × Outputs lines output × Appends old new output
 
 -- Exactly the output for the first lines, however many, was written.
 abbrev pub WritesFirst : Option (List ℕ) → Option (List ℕ) → List (List ℕ) → Type 0
 WritesFirst old new lines =
-    (first : List (List ℕ)) × (later : List (List ℕ)) × (lines ≡ first ++ later) × Writes old new first
+    (first : List (List ℕ)) × (later : List (List ℕ)) × (lines ≡ first ++ later) × WritesOutput old new first
 
 -- Exactly a beginning of the output for the first lines, however many, was written.
 abbrev pub WritesFront : Option (List ℕ) → Option (List ℕ) → List (List ℕ) → Type 0
@@ -25,13 +25,13 @@ abbrev pub WritesFrontOfAll : Option (List ℕ) → Option (List ℕ) → List (
 WritesFrontOfAll old new lines = (output : List ℕ) → Outputs lines output → AppendsFront old new output
 
 -- The output for these lines was made: its front was written, and the rest is held.
-abbrev pub Makes : Option (List ℕ) → Option (List ℕ) → List ℕ → List (List ℕ) → Type 0
-Makes old new held lines = (front : List ℕ) × Appends old new front × Outputs lines (front ++ held)
+abbrev pub MakesOutput : Option (List ℕ) → Option (List ℕ) → List ℕ → List (List ℕ) → Type 0
+MakesOutput old new held lines = (front : List ℕ) × Appends old new front × Outputs lines (front ++ held)
 
 -- The same for the first lines, however many.
 abbrev pub MakesFirst : Option (List ℕ) → Option (List ℕ) → List ℕ → List (List ℕ) → Type 0
 MakesFirst old new held lines =
-    (first : List (List ℕ)) × (later : List (List ℕ)) × (lines ≡ first ++ later) × Makes old new held first
+    (first : List (List ℕ)) × (later : List (List ℕ)) × (lines ≡ first ++ later) × MakesOutput old new held first
 
 -- All bytes were written, in order, and no call failed; or a beginning of them was written, and one call failed.
 abbrev pub WritesOut : {X : Type 0} → List ℕ → Result X Fault → Option (List ℕ) → Option (List ℕ) → ℕ → ℕ → Type 0

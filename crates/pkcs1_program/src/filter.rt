@@ -2,7 +2,7 @@
 ghost use Rattle.std.specs.Prelude.{◌≡◌, ◌<◌, ◌≤◌, ◌⊎◌, ℕ, List, [], length, IfSome, IfOk, OnOk, IsErrOf, vec_len};
 ghost use Rattle.std.specs.Io.KnownBytes.{Appends, Keeps, IsAtEnd};
 ghost use Rattle.der_core.specs.Words.{piece, AppendsFront, GivesAll, GivesMore, GivesSome, OneFailed, HasAtMostOne};
-ghost use Rattle.pkcs1_program.specs.Words.{Answer, Output, lines_of, longest_input, Makes, MakesFirst, Writes, WritesFirst, WritesFront, WritesFrontOfAll, WritesHeld, WritesOut};
+ghost use Rattle.pkcs1_program.specs.Words.{Answer, Output, lines_of, longest_input, MakesOutput, MakesFirst, WritesOutput, WritesFirst, WritesFront, WritesFrontOfAll, WritesHeld, WritesOut};
 
 use crate::answer::answer_line;
 use crate::fault::Fault;
@@ -82,7 +82,8 @@ fn answer_lines<W: Sink>(
     sink: &mut W,
 ) -> Result<(), Fault>
     requires { held.old.items ≡ [] }
-    ensures ok { OnOk result (Makes (W.contents sink.old) (W.contents sink.new) held.new.items (lines_of input.now)) }
+    ensures ok { OnOk result (MakesOutput (W.contents sink.old) (W.contents sink.new) held.new.items
+        (lines_of input.now)) }
     ensures same { OnOk result (W.failures sink.new ≡ W.failures sink.old) }
     ensures read { ¬ IsErrOf result Fault.Read }
     ensures write { IsErrOf result Fault.Write → OneFailed (W.failures sink.old) (W.failures sink.new)
@@ -110,7 +111,7 @@ fn answer_lines<W: Sink>(
 /// Writes the output for each line, in order, and flushes the sink. If memory runs out, the output for the lines before
 /// is written.
 fn answer_input<W: Sink>(alloc: Global, input: &[u8], sink: &mut W) -> Result<(), Fault>
-    ensures ok { OnOk result (Writes (W.contents sink.old) (W.contents sink.new) (lines_of input.now)) }
+    ensures ok { OnOk result (WritesOutput (W.contents sink.old) (W.contents sink.new) (lines_of input.now)) }
     ensures same { OnOk result (W.failures sink.new ≡ W.failures sink.old) }
     ensures read { ¬ IsErrOf result Fault.Read }
     ensures write { IsErrOf result Fault.Write → OneFailed (W.failures sink.old) (W.failures sink.new)
@@ -134,13 +135,13 @@ fn answer_input<W: Sink>(alloc: Global, input: &[u8], sink: &mut W) -> Result<()
 
 /// Reads the whole input, then writes the output for each line, many lines at once.
 pub fn run<R: Source, W: Sink>(alloc: Global, source: &mut R, sink: &mut W) -> Result<(), Fault>
-    ensures ok { let writes = Writes (W.contents sink.old) (W.contents sink.new) in
+    ensures ok { let writes = WritesOutput (W.contents sink.old) (W.contents sink.new) in
         OnOk result (IfSome (R.remaining source.old) (λ input. writes (lines_of input))) }
     ensures whole { let gives = GivesAll (R.remaining source.old) (R.remaining source.new) in
         OnOk result (IfSome (R.remaining source.old) (λ input. gives input)) }
     ensures some { OnOk result ((input : List ℕ) × (length input ≤ longest_input)
         × GivesAll (R.remaining source.old) (R.remaining source.new) input
-        × Writes (W.contents sink.old) (W.contents sink.new) (lines_of input)) }
+        × WritesOutput (W.contents sink.old) (W.contents sink.new) (lines_of input)) }
     ensures within { OnOk result (IfSome (R.remaining source.old) (λ input. length input ≤ longest_input)) }
     ensures quiet { OnOk result ((R.failures source.new ≡ R.failures source.old)
         × (W.failures sink.new ≡ W.failures sink.old)) }

@@ -4,7 +4,7 @@ ghost use Rattle.der_core.specs.Words.{bytes_of};
 ghost use Rattle.pkcs1.specs.Words.{held_other_prime, held_public_key, held_view, number_in, viewed_encoding};
 ghost use Rattle.pkcs8_core.specs.Words.{info_of};
 ghost use Rattle.standard.specs.Statement.{Decodes, PrivateKeyEncoding, PublicKeyEncoding, octets};
-ghost use Rattle.pkcs1_program.specs.Words.{Tells, RsaContainerEncoding, TellsContainer, Puts, hex_field, pub_answer, version_field, key_number_fields, other_prime_field, other_prime_fields, key_fields, priv_answer, attributes_field, p8_answer};
+ghost use Rattle.pkcs1_program.specs.Words.{TellsValue, RsaContainerEncoding, TellsContainer, Puts, hex_field, pub_answer, version_field, key_number_fields, other_prime_field, other_prime_fields, key_fields, priv_answer, attributes_field, p8_answer};
 
 use crate::digits::put_field;
 use crate::verdict::put_refused;
@@ -35,7 +35,7 @@ fn put_pub(key: &RsaPublicKeyRef<'_>, again: &[u8], out: &mut Vec<u8>) -> Result
 /// Appends the output for `pub` to `out`. `again=` gets the input, since a key has only one encoding. Only `out`
 /// allocates.
 pub fn answer_pub(encoding: &[u8], out: &mut Vec<u8>) -> Result<(), AllocError>
-    ensures { OnOk result (Puts (Tells PublicKeyEncoding pub_answer encoding.now) out.old.items out.new.items) }
+    ensures { OnOk result (Puts (TellsValue PublicKeyEncoding pub_answer encoding.now) out.old.items out.new.items) }
 {
     match RsaPublicKeyRef::try_from(encoding) {
         Ok(key) => put_pub(&key, encoding, out),
@@ -116,7 +116,7 @@ fn put_priv(key: &RsaPrivateKeyView<'_>, out: &mut Vec<u8>) -> Result<(), AllocE
 
 /// Appends the output for `priv` to `out`. Only `out` allocates.
 pub fn answer_priv(encoding: &[u8], out: &mut Vec<u8>) -> Result<(), AllocError>
-    ensures { OnOk result (Puts (Tells PrivateKeyEncoding priv_answer encoding.now) out.old.items out.new.items) }
+    ensures { OnOk result (Puts (TellsValue PrivateKeyEncoding priv_answer encoding.now) out.old.items out.new.items) }
 {
     match RsaPrivateKeyView::try_from(encoding) {
         Ok(key) => put_priv(&key, out),

@@ -1,6 +1,6 @@
 //! The output for lines with parameters.
 ghost use Rattle.std.specs.Prelude.{◌≡◌, ℕ, List, ◌++◌, OnOk, map, codes, flat_map};
-ghost use Rattle.pkcs1_params.specs.Words.{Encoded};
+ghost use Rattle.pkcs1_params.specs.Words.{EncodingOfFields};
 ghost use Rattle.pkcs1_program.specs.Words.{Puts, TellsParameters, TellsSame, TellsSpellings, TellsStrict, hex_field, spell_answer};
 
 use crate::digits::{put_field, put_number};
@@ -15,7 +15,7 @@ pub fn answer_parameters<'a, T: Parameters<'a>>(
     encoding: &'a [u8],
     out: &mut Vec<u8>,
 ) -> Result<(), AllocError>
-    ensures { let answers = TellsParameters (Encoded T.Is T.fields_of) T.fields_of T.answer_of encoding.now in
+    ensures { let answers = TellsParameters (EncodingOfFields T.Is T.fields_of) T.fields_of T.answer_of encoding.now in
         OnOk result (Puts answers out.old.items out.new.items) }
 {
     match T::read(encoding) {
@@ -74,7 +74,7 @@ pub fn answer_strict<'a, T: Parameters<'a>>(
     encoding: &'a [u8],
     out: &mut Vec<u8>,
 ) -> Result<(), AllocError>
-    ensures { let answers = TellsStrict word.now (Encoded T.Is T.fields_of) encoding.now in
+    ensures { let answers = TellsStrict word.now (EncodingOfFields T.Is T.fields_of) encoding.now in
         OnOk result (Puts answers out.old.items out.new.items) }
 {
     match T::read(encoding) {
@@ -91,7 +91,7 @@ pub fn answer_same<'a, T: Parameters<'a>>(
     second: &'a [u8],
     out: &mut Vec<u8>,
 ) -> Result<(), AllocError>
-    ensures { let answers = TellsSame word.now (Encoded T.Is T.fields_of) first.now second.now in
+    ensures { let answers = TellsSame word.now (EncodingOfFields T.Is T.fields_of) first.now second.now in
         OnOk result (Puts answers out.old.items out.new.items) }
 {
     match (T::read(first), T::read(second)) {

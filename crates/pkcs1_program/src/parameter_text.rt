@@ -2,7 +2,7 @@
 ghost use Rattle.std.specs.Prelude.{◌≡◌, ◌≤◌, ℕ, List, ◌++◌, ◌↔◌, length, IsTrue, OnOk, IfOk, IfSome, IfNone, IsErrAnd, option_map};
 ghost use Rattle.der_core.specs.Words.{Spells};
 ghost use Rattle.spki_core.specs.Words.{FieldRecord, algorithm_of, any_of, mask_gen_of, own_octets_of, spelled_from, spelled_to};
-ghost use Rattle.pkcs1_params.specs.Words.{Encoded, IsEncoded, encodings_in, oaep_of, oaep_record, pss_of, pss_record};
+ghost use Rattle.pkcs1_params.specs.Words.{EncodingOfFields, IsEncoded, encodings_in, oaep_of, oaep_record, pss_of, pss_record};
 ghost use Rattle.standard.specs.Statement.{Decodes, Defaults, Field, IsOaep, IsPss, IsShortest, Lists, OaepParameters, PssParameters, limit, longest, oaep_fields, pss_fields};
 ghost use Rattle.pkcs1_program.specs.Words.{IsMemoryError, any_digits, identifier_digits, plain_digits, bracketed_digits, mask_digits, hash_and_mask_fields, spelling_fields, pss_answer, oaep_answer};
 
@@ -34,11 +34,11 @@ pub trait Parameters<'a>: Encode + Drop + Sized {
 
     /// Decodes the parameters, or returns `None`.
     fn read(encoding: &'a [u8]) -> Option<Self>
-        ensures { Decodes (Encoded Is fields_of) encoding.now (option_map params result) };
+        ensures { Decodes (EncodingOfFields Is fields_of) encoding.now (option_map params result) };
 
     /// Whether the bytes are the shortest encoding of some parameters.
     fn is_strict(encoding: &'a [u8]) -> bool
-        ensures { IsTrue result ↔ IsEncoded (IsShortest (Encoded Is fields_of)) encoding.now };
+        ensures { IsTrue result ↔ IsEncoded (IsShortest (EncodingOfFields Is fields_of)) encoding.now };
 
     /// All encodings, ordered by mask, or `None` if the longest of them is longer than `Length::MAX`.
     fn all_encodings(&self, alloc: Global) -> Result<Option<Vec<Vec<u8>>>, AllocError>
@@ -57,7 +57,7 @@ pub trait Parameters<'a>: Encode + Drop + Sized {
     /// The encodings of a value for `Encode` are those of the parameters.
     ghost encodings_are: { (value : Self) (encoding : List ℕ)
         → Spells Self.valid Self.printed Self.means (Self.value value) encoding
-        ↔ Encoded Is fields_of (params value) encoding };
+        ↔ EncodingOfFields Is fields_of (params value) encoding };
 }
 
 /// Whether the error is out of memory.

@@ -1,6 +1,6 @@
 //! Parsing a line into a request.
 ghost use Rattle.std.specs.Prelude.{◌≡◌, IfOk, Some, None, if◌then◌else◌, map};
-ghost use Rattle.pkcs1_program.specs.Words.{asked_by, asked_with, named, pair_asked_with, pair_words, encoding_in_hex, words, seen};
+ghost use Rattle.pkcs1_program.specs.Words.{asked_by, asked_with, value_named, pair_asked_with, pair_words, encoding_in_hex, words, request_seen};
 
 use crate::lines::split_part;
 use std::alloc::{AllocError, Global};
@@ -75,7 +75,7 @@ const PAIR_WORDS: [(&[u8], PairWord); 2] = [
 
 /// The value beside the name in a list.
 fn find_named<W: Copy>(rows: &[(&[u8], W)], name: &[u8]) -> Option<W>
-    ensures { result ≡ named (map (λ row. (row.0.now, row.1)) rows.now) name.now }
+    ensures { result ≡ value_named (map (λ row. (row.0.now, row.1)) rows.now) name.now }
 {
     for (other, value) in rows {
         if *other == name {
@@ -87,14 +87,14 @@ fn find_named<W: Copy>(rows: &[(&[u8], W)], name: &[u8]) -> Option<W>
 
 /// The word of a line with one HEX part.
 fn word_of(part: &[u8]) -> Option<Word>
-    ensures { result ≡ named words part.now }
+    ensures { result ≡ value_named words part.now }
 {
     find_named(&WORDS, part)
 }
 
 /// The word of a line with two HEX parts.
 fn pair_word_of(part: &[u8]) -> Option<PairWord>
-    ensures { result ≡ named pair_words part.now }
+    ensures { result ≡ value_named pair_words part.now }
 {
     find_named(&PAIR_WORDS, part)
 }
@@ -111,7 +111,7 @@ fn read_hex(hex: &[u8], encoding: &mut Vec<u8>) -> Result<bool, AllocError>
 /// The request of a word with one HEX part.
 fn request_with(word: Word, hex: &[u8], encodings: &mut Encodings) -> Result<Request, AllocError>
     ensures { let asked = asked_with (Some word) (encoding_in_hex hex.now) in
-        IfOk result (λ request. seen request encodings.new.first.items encodings.new.second.items ≡ asked) }
+        IfOk result (λ request. request_seen request encodings.new.first.items encodings.new.second.items ≡ asked) }
 {
     if read_hex(hex, &mut encodings.first)? {
         Ok(Request::Word(word))
@@ -128,7 +128,7 @@ fn pair_request_with(
     encodings: &mut Encodings,
 ) -> Result<Request, AllocError>
     ensures { let asked = pair_asked_with (Some word) (encoding_in_hex first.now) (encoding_in_hex second.now) in
-        IfOk result (λ request. seen request encodings.new.first.items encodings.new.second.items ≡ asked) }
+        IfOk result (λ request. request_seen request encodings.new.first.items encodings.new.second.items ≡ asked) }
 {
     if read_hex(first, &mut encodings.first)? && read_hex(second, &mut encodings.second)? {
         Ok(Request::Pair(word))
@@ -140,7 +140,7 @@ fn pair_request_with(
 /// Parses a line, and puts the bytes of its HEX parts into `encodings`. What follows the word isn't searched for a
 /// further part, since a space is no digit.
 pub fn request_of(line: &[u8], encodings: &mut Encodings) -> Result<Request, AllocError>
-    ensures { IfOk result (λ request. seen request encodings.new.first.items encodings.new.second.items
+    ensures { IfOk result (λ request. request_seen request encodings.new.first.items encodings.new.second.items
         ≡ asked_by line.now) }
 {
     let (name, rest) = split_part(line);

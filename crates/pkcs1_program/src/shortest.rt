@@ -1,6 +1,6 @@
 //! The shortest encoding of parameters.
 ghost use Rattle.std.specs.Prelude.{◌≤◌, length};
-ghost use Rattle.pkcs1_params.specs.Words.{Encoded};
+ghost use Rattle.pkcs1_params.specs.Words.{EncodingOfFields};
 ghost use Rattle.standard.specs.Statement.{IsShortest};
 
 use crate::parameter_text::Parameters;
@@ -12,9 +12,9 @@ pub fn shortest<'a, 'b, T: Parameters<'a>>(
     params: &T,
     buffer: &'b mut [u8],
 ) -> &'b [u8]
-    requires encodes { Encoded T.Is T.fields_of (T.params params.now) encoding.now }
+    requires encodes { EncodingOfFields T.Is T.fields_of (T.params params.now) encoding.now }
     requires room { length encoding.now ≤ length buffer.old }
-    ensures { IsShortest (Encoded T.Is T.fields_of) (T.params params.now) result.now }
+    ensures { IsShortest (EncodingOfFields T.Is T.fields_of) (T.params params.now) result.now }
 {
     match params.encode_to_slice(buffer) {
         Ok(shortest) => shortest,

@@ -6,7 +6,7 @@
 ghost use Rattle.std.specs.Prelude.{◌≡◌, ℕ, List, Bool, is_ok};
 ghost use Rattle.der_core.specs.Words.{GivesAll};
 ghost use Rattle.standard.specs.Statement.{PrivateKeyEncoding, PublicKeyEncoding};
-ghost use Rattle.pkcs1_program.specs.Words.{CopiesAt, FillsFile, IsDone, PutsFile, Writes, exit_status_of, lines_of};
+ghost use Rattle.pkcs1_program.specs.Words.{CopiesAt, FillsFile, IsDone, PutsFile, WritesOutput, exit_status_of, lines_of};
 
 #[cfg(test)]
 mod tests;
@@ -56,7 +56,7 @@ fn carry_out<P: Eprint, F: ReplaceFiles, R: Source, W: Sink>(
 ) -> u8
     ensures status { (ok : Bool) × (result ≡ exit_status_of plan.now ok) }
     ensures done { let answered = (input : List ℕ) × GivesAll (R.remaining source.old) (R.remaining source.new) input
-        × Writes (W.contents sink.old) (W.contents sink.new) (lines_of input) × W.is_flushed sink.new in
+        × WritesOutput (W.contents sink.old) (W.contents sink.new) (lines_of input) × W.is_flushed sink.new in
         let old = FillsFile F.creates F.Created.is_closed F.Created.contents F.Created.is_flushed
         F.Created.failures in
         let new = FillsFile F.creates_new F.New.is_closed F.New.contents F.New.is_flushed F.New.failures in

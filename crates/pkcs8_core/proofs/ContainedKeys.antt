@@ -3,7 +3,7 @@ use Rattle.std.proofs.Common.{ℕ, List, [], ◌≡◌, refl, sym, ap, ◌∙◌
 use Rattle.der_core.specs.declared.error.ErrorKind.{ErrorKind}
 use Rattle.der_core.specs.declared.tag.Tag.{Tag}
 use Rattle.der_core.specs.Words.{bind_err, TellsOfBytes, AreBytes, Answers, prints_one, tagged_law, ok_of, value_in, ◌>>=◌, Excludes, tlv_fit, ok_injective, limit, ReadsPrinted, number_contents, octets_of_all}
-use Rattle.pkcs1_params.specs.Words.{AreDelimited, ErrsOrAsks}
+use Rattle.pkcs1_params.specs.Words.{AnswersAsn1OrAsks, AreDelimited}
 use Rattle.pkcs1.proofs.KeyReads.{private_tells, printed_front_unique}
 use Rattle.pkcs1.proofs.RsaEncryption.{rsa_gives, rsa_only_tells, rsa_taken}
 use Rattle.pkcs8_core.specs.Words.{Container, key_in, rsa_encryption, private_key_info, rsa_held, rsa_private_key_info, container_encoded, container_law, containers_decode, IsContainer, container_printed, ContainedKey}
@@ -14,7 +14,7 @@ use Rattle.pkcs1.specs.declared.view.RsaPrivateKeyView.{RsaPrivateKeyView}
 use Rattle.pkcs1_params.proofs.Faults.{asn1_as}
 use Rattle.pkcs1_params.specs.declared.error.Error.{Error}
 use Rattle.standard.specs.Statement.{ContainedKeyEncoding, Container, ContainerEncoding, Decodes, PrivateKey, PrivateKeyEncoding, sequence, IsOaep, IsPss, OaepEncoding, PssEncoding, PublicKeyEncoding, algorithm, any, integer, integers, oaep_fields, optional, other_primes, pss_fields, tlv, version}
-use Rattle.pkcs1_params.proofs.Masks.{oaep_begin, pss_begin, record_differs}
+use Rattle.pkcs1_params.proofs.Masks.{oaep_fields_begin_high, pss_fields_begin_high, record_differs}
 
 -- Faults of a key in a container are about the bytes.
 pub key_tells : (c : Container) (octets : List ℕ) (k : ErrorKind) → key_in c octets ≡ Err k → TellsOfBytes k
@@ -41,39 +41,41 @@ contained_decode c octets are = go (rsa_only c.algorithm) refl
     go (Err k) e = λ other p. let never = sym e ∙ rsa_taken c.algorithm p.0 in cc
 
 -- The octets of a container whose algorithm is rsaEncryption.
-pub read_held : (c : Container) (octets : List ℕ) → octets ≡ c.private_key → c.algorithm ≡ rsa_encryption
+pub rsa_held_read : (c : Container) (octets : List ℕ) → octets ≡ c.private_key → c.algorithm ≡ rsa_encryption
     → rsa_held c ≡ rsa_private_key octets
-read_held c octets same agrees =
+rsa_held_read c octets same agrees =
     ap (λ r. r >>= λ _. rsa_private_key c.private_key) (rsa_taken c.algorithm agrees) ∙ ap rsa_private_key (sym same)
 
 -- The same of a call that may ask for memory.
-pub asked_held : {X : Type 0} (value : X → PrivateKey) (c : Container) (octets : List ℕ)
+pub rsa_held_asked : {X : Type 0} (value : X → PrivateKey) (c : Container) (octets : List ℕ)
     → octets ≡ c.private_key → c.algorithm ≡ rsa_encryption → (r : Result X Error)
-    → ErrsOrAsks value (rsa_private_key octets) (MayAllocate octets) r
-    → ErrsOrAsks value (rsa_held c) ((c.algorithm ≡ rsa_encryption) × MayAllocate c.private_key) r
-asked_held value c octets same agrees (Ok x) p = read_held c octets same agrees ∙ p
-asked_held value c octets same agrees (Err e) p =
+    → AnswersAsn1OrAsks value (rsa_private_key octets) (MayAllocate octets) r
+    → AnswersAsn1OrAsks value (rsa_held c) ((c.algorithm ≡ rsa_encryption) × MayAllocate c.private_key) r
+rsa_held_asked value c octets same agrees (Ok x) p = rsa_held_read c octets same agrees ∙ p
+rsa_held_asked value c octets same agrees (Err e) p =
     asn1_as
     (λ a f. ⊎_elim (λ w. inl (w.0, (agrees, subst MayAllocate same w.1)))
-    (λ g. inr (read_held c octets same agrees ∙ g)) f) e p
+    (λ g. inr (rsa_held_read c octets same agrees ∙ g)) f) e p
 
 -- What such a call decodes.
 module _ {X : Type 0} (value : X → PrivateKey) (c : Container) (are : AreBytes c.private_key) (asked : Type 0) where
   -- by what the function gives
-  given : (r : Result PrivateKey ErrorKind) → rsa_held c ≡ r → Decodes (ContainedKey c) c.private_key (value_in r)
-  given r is =
+  rsa_held_decodes : (r : Result PrivateKey ErrorKind) → rsa_held c ≡ r
+      → Decodes (ContainedKey c) c.private_key (value_in r)
+  rsa_held_decodes r is =
       subst (λ r. Decodes (ContainedKey c) c.private_key (value_in r)) is (contained_decode c c.private_key are)
 
-  pub held_ok : (r : Result X Error) → ErrsOrAsks value (rsa_held c) asked r
+  pub rsa_held_ok : (r : Result X Error) → AnswersAsn1OrAsks value (rsa_held c) asked r
       → IfOk r (λ x. Decodes (ContainedKey c) c.private_key (Some (value x)))
-  held_ok (Ok x) p = given (Ok (value x)) p
-  held_ok (Err e) p = tt
+  rsa_held_ok (Ok x) p = rsa_held_decodes (Ok (value x)) p
+  rsa_held_ok (Err e) p = tt
 
-  pub held_err : (r : Result X Error) → ErrsOrAsks value (rsa_held c) asked r
+  pub rsa_held_err : (r : Result X Error) → AnswersAsn1OrAsks value (rsa_held c) asked r
       → IfErr r (Rejects (ContainedKey c) c.private_key asked)
-  held_err (Ok x) p = tt
-  held_err (Err e) p =
-      asn1_as (λ a. ⊎_elim (λ w. inl w) (λ f. inr (key_tells c c.private_key a.kind f, given (Err a.kind) f))) e p
+  rsa_held_err (Ok x) p = tt
+  rsa_held_err (Err e) p =
+      asn1_as (λ a. ⊎_elim (λ w. inl w)
+      (λ f. inr (key_tells c c.private_key a.kind f, rsa_held_decodes (Err a.kind) f))) e p
 
 -- An encoding is that of one container, and no beginning of another.
 container_follow : (v w : Container) (bytes rest : List ℕ) → ContainerEncoding v bytes
@@ -176,7 +178,9 @@ container_excludes_private_key c key bytes p q =
 
 -- Parameters.
 pub container_excludes_pss : Excludes ContainerEncoding PssEncoding
-container_excludes_pss c v bytes p q = record_differs IsPss pss_fields v 2 bytes _ (omega arith) (pss_begin v) p.4 q
+container_excludes_pss c v bytes p q =
+    record_differs IsPss pss_fields v 2 bytes _ (omega arith) (pss_fields_begin_high v) p.4 q
 
 pub container_excludes_oaep : Excludes ContainerEncoding OaepEncoding
-container_excludes_oaep c v bytes p q = record_differs IsOaep oaep_fields v 2 bytes _ (omega arith) (oaep_begin v) p.4 q
+container_excludes_oaep c v bytes p q =
+    record_differs IsOaep oaep_fields v 2 bytes _ (omega arith) (oaep_fields_begin_high v) p.4 q

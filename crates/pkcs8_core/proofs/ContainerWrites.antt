@@ -4,7 +4,7 @@ use Rattle.std.proofs.Common.{ℕ, List, ◌++◌, ◌≡◌, length, drop, Opti
 use Rattle.der_core.specs.Words.{WhyNotWritten, are_bytes, one_spelling_shortest, Prints, Spells, ok_of, Unwritten, encode_error}
 use Rattle.der_core.specs.declared.error.Error.{Error}
 use Rattle.der_core.proofs.Writing.{encode_into_encodes, encode_into_unwritten}
-use Rattle.pkcs1_params.proofs.Masks.{encodes_as, unwritten_carried}
+use Rattle.pkcs1_params.proofs.Masks.{encodes_as, unwritten_of_same_encodings}
 use Rattle.pkcs8_core.specs.Words.{Container, attributes_of, container_spells, IsContainer, container_printed}
 use Rattle.pkcs8_core.specs.declared.attributes.Attributes.{Attributes}
 use Rattle.standard.specs.Statement.{AreOctets, ContainerEncoding, Encodes, IfPresent, IsShortest, sequence}
@@ -42,7 +42,8 @@ module _ (c : Container) (ok : IsContainer c) (old new : List ℕ) where
       → IfErr r (λ e. Unwritten (λ _. Unit {0}) ContainerEncoding c (length old) (encode_error e.kind))
   container_refused (Ok n) why = tt
   container_refused (Err e) why =
-      unwritten_carried ContainerIsSpelled ContainerEncoding c c (container_spells c) IsContainer (λ _. Unit {0})
+      unwritten_of_same_encodings ContainerIsSpelled ContainerEncoding c c (container_spells c) IsContainer
+      (λ _. Unit {0})
       (λ _. tt, λ _. ok)
       (length old) (encode_error e.kind)
       (encode_into_unwritten (one_spelling_shortest IsContainer container_encoding) c {X = ℕ} (length old) (Err e) why)

@@ -11,17 +11,17 @@ use Rattle.pkcs1.specs.Words.{rsa_private_key, rsa_public_key}
 use Rattle.pkcs1_params.specs.Words.{rsa_oaep_algorithm, rsa_pss_algorithm, rsa_oaep_params, rsa_pss_params}
 use Rattle.pkcs8_core.specs.Words.{private_key_info, rsa_private_key_info}
 
-abbrev Mean : {V : Type 0} → Reading V → List (List ℕ × V) → Type 0
-Mean read rows = map (λ row. read (hex row.0)) rows ≡ map (λ row. Ok row.1) rows
+abbrev RowsMean : {V : Type 0} → Reading V → List (List ℕ × V) → Type 0
+RowsMean read rows = map (λ row. read (hex row.0)) rows ≡ map (λ row. Ok row.1) rows
 
-abbrev AreRejected : {V : Type 0} → Reading V → List (List ℕ × ErrorKind) → Type 0
-AreRejected read rows = map (λ row. read (hex row.0)) rows ≡ map (λ row. Err row.1) rows
+abbrev RowsAreRejected : {V : Type 0} → Reading V → List (List ℕ × ErrorKind) → Type 0
+RowsAreRejected read rows = map (λ row. read (hex row.0)) rows ≡ map (λ row. Err row.1) rows
 
 -- == RSAPublicKey ==
 abbrev public_key_of : ℕ → ℕ → PublicKey
 public_key_of n e = record { modulus = n; public_exponent = e }
 
-public_keys : Mean rsa_public_key (
+public_keys : RowsMean rsa_public_key (
     (codes "3006020107020103", public_key_of 7 3)
     ∷ (codes "300602010702010b", public_key_of 7 11)
     ∷ (codes "300702020080020103", public_key_of 128 3)
@@ -33,7 +33,7 @@ public_keys : Mean rsa_public_key (
 unfolding hex digit header_at length_at
 public_keys = refl
 
-no_public_keys : AreRejected rsa_public_key (
+no_public_keys : RowsAreRejected rsa_public_key (
     -- No header, or not that of a SEQUENCE; lengths that aren't DER, or too long.
     (codes "", Incomplete)
     ∷ (codes "30", Incomplete)
@@ -83,7 +83,7 @@ key_with_others others = record {
 abbrev other_prime_of : ℕ → ℕ → ℕ → OtherPrime
 other_prime_of r d t = record { prime = r; exponent = d; coefficient = t }
 
-private_keys : Mean rsa_private_key (
+private_keys : RowsMean rsa_private_key (
     (codes "301b02010002010702010302010502010b02010d020102020104020106", key_with_others None)
     ∷ (
       codes "302802010102010702010302010502010b02010d020102020104020106300b3009020111020102020103",
@@ -99,7 +99,7 @@ private_keys : Mean rsa_private_key (
 unfolding hex digit header_at length_at
 private_keys = refl
 
-no_private_keys : AreRejected rsa_private_key (
+no_private_keys : RowsAreRejected rsa_private_key (
     (codes "3003020102", Value integer_tag)
     ∷ (codes "301b02010202010702010302010502010b02010d020102020104020106", Value integer_tag)
     -- Version 1 without other primes, and version 0 with them or with an empty list.
@@ -126,7 +126,7 @@ abbrev identifier_alone : Reading (List ℕ)
 identifier_alone = alone (tagged object_identifier_tag identifier_read)
 
 -- Identifiers that end within a subidentifier, begin one with 80, have no octet.
-no_identifiers : AreRejected identifier_alone (
+no_identifiers : RowsAreRejected identifier_alone (
     (codes "06022a80", OidMalformed)
     ∷ (codes "06028001", OidMalformed)
     ∷ (codes "0600", OidMalformed)
@@ -150,7 +150,7 @@ algorithm_front parameters = tagged sequence_tag (algorithm_read parameters)
 abbrev plain_any : ℕ → List ℕ → TagAndContents
 plain_any tag contents = record { tag = tag; contents = contents }
 
-any_encodings : Mean (alone any_front) (
+any_encodings : RowsMean (alone any_front) (
     (codes "0500", plain_any 5 [])
     ∷ (codes "050100", plain_any 5 (0x00 ∷ []))
     ∷ []
@@ -158,7 +158,7 @@ any_encodings : Mean (alone any_front) (
 unfolding hex digit header_at length_at
 any_encodings = refl
 
-no_any_encodings : AreRejected (alone any_front) (
+no_any_encodings : RowsAreRejected (alone any_front) (
     (codes "0000", TagUnknown 0)
     ∷ (codes "1f00", TagUnknown 0x1f)
     ∷ []
@@ -169,7 +169,7 @@ no_any_encodings = refl
 abbrev algorithm_of_oid : {P : Type 0} → List ℕ → Option P → Algorithm P
 algorithm_of_oid oid parameters = record { oid = oid; parameters = parameters }
 
-algorithms : Mean (alone (algorithm_front any_front)) (
+algorithms : RowsMean (alone (algorithm_front any_front)) (
     (codes "300906052b0e03021a0500", sha1)
     ∷ (codes "300706052b0e03021a", algorithm_of_oid sha1.oid None)
     ∷ (codes "300d06092a864886f70d0101010500", rsa_encryption)
@@ -178,7 +178,7 @@ algorithms : Mean (alone (algorithm_front any_front)) (
 unfolding hex digit header_at length_at
 algorithms = refl
 
-no_algorithms : AreRejected (alone (algorithm_front any_front)) (
+no_algorithms : RowsAreRejected (alone (algorithm_front any_front)) (
     (codes "3000", Incomplete)
     ∷ (codes "30020600", OidMalformed)
     ∷ (codes "30022b00", TagUnexpected object_identifier_tag (record { octet = 0x2b; allowed = refl }))
@@ -188,7 +188,7 @@ no_algorithms : AreRejected (alone (algorithm_front any_front)) (
 unfolding hex digit header_at length_at
 no_algorithms = refl
 
-mask_algorithms : Mean (alone (algorithm_front (algorithm_front any_front))) (
+mask_algorithms : RowsMean (alone (algorithm_front (algorithm_front any_front))) (
     (codes "301606092a864886f70d010108300906052b0e03021a0500", mgf1_sha1)
     ∷ (codes "300b06092a864886f70d010108", algorithm_of_oid mgf1_sha1.oid None)
     ∷ []
@@ -196,7 +196,7 @@ mask_algorithms : Mean (alone (algorithm_front (algorithm_front any_front))) (
 unfolding hex digit header_at length_at
 mask_algorithms = refl
 
-no_mask_algorithms : AreRejected (alone (algorithm_front (algorithm_front any_front))) (
+no_mask_algorithms : RowsAreRejected (alone (algorithm_front (algorithm_front any_front))) (
     (codes "300d06092a864886f70d0101080500", TagUnexpected sequence_tag null_tag)
     ∷ []
     )
@@ -210,7 +210,7 @@ pss_of_hash hash salt = record { hash = hash; mask_gen = mgf1_sha1; salt_len = s
 abbrev oaep_of_source : Algorithm TagAndContents → OaepParameters
 oaep_of_source source = record { hash = sha1; mask_gen = mgf1_sha1; p_source = source }
 
-pss_params : Mean rsa_pss_params (
+pss_params : RowsMean rsa_pss_params (
     (codes "3000", pss_of_hash sha1 20)
     ∷ (codes "3005a203020114", pss_of_hash sha1 20)
     ∷ (
@@ -224,7 +224,7 @@ pss_params : Mean rsa_pss_params (
 unfolding hex digit header_at length_at
 pss_params = refl
 
-no_pss_params : AreRejected rsa_pss_params (
+no_pss_params : RowsAreRejected rsa_pss_params (
     (codes "", Incomplete)
     ∷ (codes "3001", Incomplete)
     ∷ (codes "300000", TrailingData)
@@ -256,7 +256,7 @@ no_pss_params : AreRejected rsa_pss_params (
 unfolding hex digit header_at length_at
 no_pss_params = refl
 
-oaep_params : Mean rsa_oaep_params (
+oaep_params : RowsMean rsa_oaep_params (
     (codes "3000", oaep_of_source empty_label)
     ∷ (codes "300fa20d300b06092a864886f70d010109", oaep_of_source (algorithm_of_oid empty_label.oid None))
     ∷ (
@@ -268,7 +268,7 @@ oaep_params : Mean rsa_oaep_params (
 unfolding hex digit header_at length_at
 oaep_params = refl
 
-no_oaep_params : AreRejected rsa_oaep_params (
+no_oaep_params : RowsAreRejected rsa_oaep_params (
     (codes "0500", TagUnexpected sequence_tag null_tag)
     ∷ (codes "300000", TrailingData)
     ∷ (codes "3008a006300406028001", OidMalformed)
@@ -280,7 +280,7 @@ no_oaep_params : AreRejected rsa_oaep_params (
 unfolding hex digit header_at length_at
 no_oaep_params = refl
 
-pss_algorithms : Mean rsa_pss_algorithm (
+pss_algorithms : RowsMean rsa_pss_algorithm (
     (codes "300d06092a864886f70d01010a3000", pss_of_hash sha1 20)
     ∷ (codes "301206092a864886f70d01010a3005a203020114", pss_of_hash sha1 20)
     ∷ []
@@ -288,7 +288,7 @@ pss_algorithms : Mean rsa_pss_algorithm (
 unfolding hex digit header_at length_at
 pss_algorithms = refl
 
-no_pss_algorithms : AreRejected rsa_pss_algorithm (
+no_pss_algorithms : RowsAreRejected rsa_pss_algorithm (
     (codes "300b06092a864886f70d01010a", ParametersMissing)
     ∷ (codes "300b06092a864886f70d010107", OidUnknown)
     ∷ (codes "300d06092a864886f70d01010a0500", TagUnexpected sequence_tag null_tag)
@@ -297,7 +297,7 @@ no_pss_algorithms : AreRejected rsa_pss_algorithm (
 unfolding hex digit header_at length_at
 no_pss_algorithms = refl
 
-oaep_algorithms : Mean rsa_oaep_algorithm (
+oaep_algorithms : RowsMean rsa_oaep_algorithm (
     (codes "300d06092a864886f70d0101073000", oaep_of_source empty_label)
     ∷ []
     )
@@ -312,14 +312,14 @@ small_container = record {
   attributes = None;
 }
 
-containers : Mean private_key_info (
+containers : RowsMean private_key_info (
     (codes "300d020100300406022a030402050a", small_container)
     ∷ []
     )
 unfolding hex digit header_at length_at
 containers = refl
 
-no_containers : AreRejected private_key_info (
+no_containers : RowsAreRejected private_key_info (
     -- Version 1 (RFC 5958).
     (codes "3003020101", Value integer_tag)
     ∷ (codes "300d020101300406022a030402050a", Value integer_tag)
@@ -332,7 +332,7 @@ no_containers : AreRejected private_key_info (
 unfolding hex digit header_at length_at
 no_containers = refl
 
-no_contained_keys : AreRejected rsa_private_key_info (
+no_contained_keys : RowsAreRejected rsa_private_key_info (
     (codes "300d020100300406022a030402050a", OidUnknown)
     ∷ (codes "3014020100300b06092a864886f70d01010104023000", ParametersMissing)
     ∷ (codes "3016020100300d06092a864886f70d010101050004023006", Incomplete)

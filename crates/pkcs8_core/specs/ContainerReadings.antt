@@ -10,8 +10,8 @@ use Rattle.pkcs8_core.specs.Tags.{attributes_tag}
 use Rattle.standard.specs.Statement.{PrivateKey}
 
 -- The attributes, whose contents aren't looked at.
-abbrev pub attributes : Reading (Option (List ℕ))
-attributes = alone (optional_front attributes_tag.octet (tagged attributes_tag octets_of_all))
+abbrev pub last_attributes_read : Reading (Option (List ℕ))
+last_attributes_read = alone (optional_front attributes_tag.octet (tagged attributes_tag octets_of_all))
 
 -- A container, whose version is 0.
 abbrev pub of_info_parts : Unit {0} × (Algorithm TagAndContents × (List ℕ × Option (List ℕ))) → Container
@@ -20,7 +20,7 @@ of_info_parts p = record { algorithm = p.1.0; private_key = p.1.1.0; attributes 
 abbrev pub info_read : Reading Container
 info_read =
     made of_info_parts (parts (tagged integer_tag (expected 0)) (parts (tagged sequence_tag (algorithm_read any_front))
-    (parts (tagged octet_string_tag octets_of_all) attributes)))
+    (parts (tagged octet_string_tag octets_of_all) last_attributes_read)))
 
 -- A whole slice, as a container.
 abbrev pub private_key_info : Reading Container

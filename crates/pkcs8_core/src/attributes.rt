@@ -4,8 +4,8 @@ ghost use Rattle.der_core.specs.Words.{AreBytes, nothing_asked, octets_law, octe
 ghost use Rattle.pkcs8_core.specs.Tags.{attributes_tag};
 
 use pkcs1::der::{
-    BackWriter, Contents, DecodeValue, EncodeValue, Header, Length, Memory,
-    Reader, Result, Tag, TagMarker, TaggedBy, Writer, quick_contents,
+    BackWriter, Contents, DecodeValue, EncodeValue, Header, Length, Memory, Reader, Result, Tag,
+    TagMarker, TaggedBy, Writer, quick_contents,
 };
 
 /// The tag of attributes.

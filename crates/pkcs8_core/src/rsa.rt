@@ -2,7 +2,7 @@
 ghost use Rattle.std.specs.Prelude.{◌≡◌, IfOk, IfErr, IsOk, None, Some};
 ghost use Rattle.der_core.specs.Words.{bytes_of, ok_of};
 ghost use Rattle.pkcs1.specs.Words.{MayAllocate, Rejects, held_private_key, held_view, viewed_encoding};
-ghost use Rattle.pkcs1_params.specs.Words.{ErrsAs, ErrsOrAsks};
+ghost use Rattle.pkcs1_params.specs.Words.{AnswersAsn1, AnswersAsn1OrAsks};
 ghost use Rattle.pkcs8_core.specs.Words.{ContainedKey, info_in, rsa_encryption, rsa_held, rsa_private_key_info};
 ghost use Rattle.standard.specs.Statement.{ContainedKeyEncoding, Container, ContainerEncoding, Decodes, PrivateKey};
 
@@ -17,7 +17,7 @@ impl<'a, O: ReadIdentifier<'a>> PrivateKeyInfoOf<'a, O> {
         ensures read { let c = info_in O.octets self.now in
             Decodes (ContainedKey c) c.private_key (ok_of held_view result) }
         ensures bytes { IfOk result (λ view. viewed_encoding view ≡ (info_in O.octets self.now).private_key) }
-        ensures exact { ErrsAs held_view (rsa_held (info_in O.octets self.now)) result }
+        ensures exact { AnswersAsn1 held_view (rsa_held (info_in O.octets self.now)) result }
     {
         require_rsa_encryption(&self.algorithm)?;
         RsaPrivateKeyView::try_from(self.private_key.as_bytes())
@@ -33,7 +33,7 @@ impl<'a, O: ReadIdentifier<'a>> PrivateKeyInfoOf<'a, O> {
             IfErr result (Rejects (ContainedKey c) c.private_key asked) }
         ensures exact { let c = info_in O.octets self.now in
             let asked = (c.algorithm ≡ rsa_encryption) × MayAllocate c.private_key in
-            ErrsOrAsks (held_private_key bytes_of) (rsa_held c) asked result }
+            AnswersAsn1OrAsks (held_private_key bytes_of) (rsa_held c) asked result }
         ensures two_primes { let c = info_in O.octets self.now in (key : PrivateKey)
             → key.other_primes ≡ None → ContainedKey c key c.private_key → IsOk result }
     {
@@ -48,7 +48,7 @@ pub fn rsa_from_pkcs8_der<'a>(bytes: &'a [u8]) -> pkcs1::Result<RsaPrivateKeyVie
     ensures read { Decodes ContainedKeyEncoding bytes.now (ok_of held_view result) }
     ensures bytes { IfOk result (λ view. (c : Container) × ContainerEncoding c bytes.now
         × (viewed_encoding view ≡ c.private_key)) }
-    ensures exact { ErrsAs held_view (rsa_private_key_info bytes.now) result }
+    ensures exact { AnswersAsn1 held_view (rsa_private_key_info bytes.now) result }
 {
     let info = PrivateKeyInfoView::try_from(bytes)?;
     info.rsa_view()

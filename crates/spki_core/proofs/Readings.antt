@@ -3,23 +3,23 @@
 use Rattle.std.proofs.Common.{◌≡◌, ◌∙◌, ◌&&◌, ℕ, Bool, List, [], ◌∷◌, Option, Some, None, Ok, true, false, ap, refl, sym, ◌+◌, Result, if◌then◌else◌, option_map, subst, Err, IfOk, inl, inr}
 use Rattle.std.proofs.lemmas.Bool.{cases_Bool}
 use Rattle.der_core.specs.Words.{ok_pair, alone, is_next, tagged, ◌>>=◌, AreBytes, Input, ReadsFront, ReadsWhole, FrontReading, Reading, ReadsContents, context_octet, Tlv}
-use Rattle.spki_core.specs.Words.{FieldRecord, Kind, Spelling, first_written, or_default, record_means, record_read, record_strictly, spelling_read, strict_value, tag_of, record_alike, explicit_is, defaulted, explicit, unless_found, algorithm_map, algorithm_with, Carried, TagAndContents}
+use Rattle.spki_core.specs.Words.{FieldRecord, Kind, Spelling, first_written, or_default, record_means, record_read, record_strictly, spelling_read, strict_value, tag_of, record_alike, explicit_is, defaulted, explicit, unless_found, algorithm_map, algorithm_with, IsMapped, TagAndContents}
 use Rattle.standard.specs.Statement.{Field}
 use Rattle.der_core.specs.declared.tag.Tag.{Tag}
 use Rattle.der_core.specs.declared.error.Error.{Error}
 
 -- Whether the field is there though it has its default; and strictly, that no field is.
-abbrev pub there_by_default : (k : Kind) → Option k.Value → Bool
-there_by_default k None = false
-there_by_default k (Some v) = k.is_default v
+abbrev pub default_is_there : (k : Kind) → Option k.Value → Bool
+default_is_there k None = false
+default_is_there k (Some v) = k.is_default v
 
 abbrev pub NoneRefused : Bool → (ks : List Kind) → Spelling ks → Type 0
 NoneRefused strict [] s = Unit {0}
-NoneRefused strict (k ∷ ks) s = ((strict && there_by_default k s.0) ≡ false) × NoneRefused strict ks s.1
+NoneRefused strict (k ∷ ks) s = ((strict && default_is_there k s.0) ≡ false) × NoneRefused strict ks s.1
 
 -- A value that was read, if the octet of its field's tag is next.
-abbrev pub there : (k : Kind) → k.Value → List ℕ → Option k.Value
-there k v c = if is_next (160 + k.number) c then Some v else None
+abbrev pub value_if_next : (k : Kind) → k.Value → List ℕ → Option k.Value
+value_if_next k v c = if is_next (160 + k.number) c then Some v else None
 
 -- One field and those behind it, with the number and the default of the first as the code has them.
 module _ (k : Kind) (ks : List Kind) {given v : k.Value} {n : ℕ} (same : given ≡ k.default) (is : n ≡ k.number)
@@ -29,7 +29,8 @@ module _ (k : Kind) (ks : List Kind) {given v : k.Value} {n : ℕ} (same : given
   field_known = rw (is, same) at read
 
   -- With those behind it, it is a spelling.
-  pub field_spelled : (s : Spelling ks) → spelling_read ks rest ≡ Ok s → spelling_read (k ∷ ks) c ≡ Ok (there k v c, s)
+  pub field_spelled : (s : Spelling ks) → spelling_read ks rest ≡ Ok s → spelling_read (k ∷ ks) c
+      ≡ Ok (value_if_next k v c, s)
   field_spelled s behind = elim (cases_Bool (is_next (160 + k.number) c)) [
     | inl next ↦
         let front : tagged (tag_of k) (alone k.at) c ≡ Ok (v, rest) =
@@ -39,7 +40,7 @@ module _ (k : Kind) (ks : List Kind) {given v : k.Value} {n : ℕ} (same : given
   ]
 
   -- It means the value.
-  pub field_meant : or_default k.default (there k v c) ≡ v
+  pub field_meant : or_default k.default (value_if_next k v c) ≡ v
   field_meant = elim (cases_Bool (is_next (160 + k.number) c)) [
     | inl next ↦ rw next refl
     | inr gone ↦ rw gone (ok_pair k.default v c rest (rw gone at field_known)).0
@@ -48,7 +49,7 @@ module _ (k : Kind) (ks : List Kind) {given v : k.Value} {n : ℕ} (same : given
 -- Whether a field is there with its default, by the octet of its tag.
 pub default_accepted : (k : Kind) (v : k.Value) (c : List ℕ) (strict : Bool)
     → (strict && (is_next (160 + k.number) c && k.is_default v)) ≡ false
-    → (strict && there_by_default k (there k v c)) ≡ false
+    → (strict && default_is_there k (value_if_next k v c)) ≡ false
 default_accepted k v c strict p = elim (cases_Bool (is_next (160 + k.number) c)) [
   | inl next ↦ rw next (rw next at p)
   | inr gone ↦ rw gone (rw gone at p)
@@ -76,9 +77,9 @@ option_meant : {X V W : Type 0} (value : X → V) (other : X → W) (f : V → W
 option_meant value other f same None = refl
 option_meant value other f same (Some x) = ap Some (same x)
 
-pub algorithm_carried : {X V W : Type 0} {value : X → V} {other : X → W} → Carried value other
-    → Carried (algorithm_with value) (algorithm_with other)
-algorithm_carried {X} {V} {W} {value} {other} k = record {
+pub algorithm_mapped : {X V W : Type 0} {value : X → V} {other : X → W} → IsMapped value other
+    → IsMapped (algorithm_with value) (algorithm_with other)
+algorithm_mapped {X} {V} {W} {value} {other} k = record {
   there = algorithm_map k.there;
   back = algorithm_map k.back;
   meant =

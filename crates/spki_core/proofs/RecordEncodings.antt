@@ -3,7 +3,7 @@
 use Rattle.std.proofs.Common.{ℕ, zero, suc, ◌+◌, List, [], ◌∷◌, ◌++◌, ◌≡◌, ◌<◌, ◌≤◌, ◌^◌, length, refl, sym, subst, ap, ◌∙◌, arith, length-append, append-nil, inl, inr, pow_pos, ◌↔◌, slice_index_or}
 use Rattle.der_core.specs.Words.{AreBytes, tagged_alike, values_alike, whole_alike, octets_grow, tlv_fit, decodes_as, meant_decodes, optional_itself, prints_one, written_is_shortest as shortest_of, tagged_shortest, limit, Spells, value_in}
 use Rattle.der_core.specs.Tags as tags
-use Rattle.spki_core.specs.Words.{AreSpelled, FieldRecord, defaults, spelling_means, record_means, record_under, record_whole, spelled, upto, defaults_are, defaults_there, full, full_last, full_there, spelling_masked, under_is, under_mask, under_means, under_only, under_valid, record_alike, record_front_law, record_shortest, spelled_from, spelled_to}
+use Rattle.spki_core.specs.Words.{AreSpelled, FieldRecord, number_of_defaults, spelling_means, record_means, record_under, record_whole, spelling_printed, upto, defaults_are, defaults_there, full, full_last, full_there, spelling_masked, under_is, under_mask, under_means, under_only, under_valid, record_alike, record_front_law, record_shortest, spelled_from, spelled_to}
 use Rattle.spki_core.specs.FieldSpellings.{mask_of}
 use Rattle.standard.specs.Statement.{AreAll, Decodes, Defaults, Field, Fields, FieldsUnder, IsShortest, SequenceOf, TwoToTheDefaults, length_octets, longest, sequence}
 
@@ -33,7 +33,7 @@ sequence_grows c d less few =
 module _ {V : Type 0} {Is : V → Type 0} {fields : V → List Field} (r : FieldRecord Is fields) where
   -- What the kernel prints of spellings is the SEQUENCE of the standard's fields.
   pub record_spelled : (v : V) (bytes : List ℕ)
-      → Spells (AreSpelled r.kinds) (λ s. sequence (spelled r.kinds s)) (record_means r) v bytes
+      → Spells (AreSpelled r.kinds) (λ s. sequence (spelling_printed r.kinds s)) (record_means r) v bytes
       ↔ SequenceOf Is fields Fields v bytes
   record_spelled v bytes = (spelled_to r v bytes, spelled_from r v bytes)
 
@@ -41,7 +41,7 @@ module _ {V : Type 0} {Is : V → Type 0} {fields : V → List Field} (r : Field
   pub record_decodes : (bytes : List ℕ) → AreBytes bytes
       → Decodes (SequenceOf Is fields Fields) bytes (value_in (record_whole r bytes))
   record_decodes bytes octets =
-      let E = Spells (AreSpelled r.kinds) (λ s. sequence (spelled r.kinds s)) (record_means r) in
+      let E = Spells (AreSpelled r.kinds) (λ s. sequence (spelling_printed r.kinds s)) (record_means r) in
       let decoded : Decodes E bytes (value_in (record_whole r bytes)) =
       subst (Decodes E bytes) (values_alike (whole_alike (tagged_alike (record_alike r) tags.sequence_tag)) bytes)
       (meant_decodes (record_front_law r) (record_means r) bytes octets) in
@@ -50,10 +50,10 @@ module _ {V : Type 0} {Is : V → Type 0} {fields : V → List Field} (r : Field
 
   -- The encoding under a mask, and the number of defaults.
   abbrev pub encoding_under : V → ℕ → List ℕ
-  encoding_under v mask = sequence (spelled r.kinds (record_under r mask v))
+  encoding_under v mask = sequence (spelling_printed r.kinds (record_under r mask v))
 
   abbrev pub default_count : V → ℕ
-  default_count v = defaults r.kinds (r.split v)
+  default_count v = number_of_defaults r.kinds (r.split v)
 
   pub default_count_only : (v : V) (k : ℕ) → Defaults (fields v) k → k ≡ default_count v
   default_count_only v k d = defaults_are r.kinds 0 r.lawful (r.split v) k (rw (r.fields_are v) at d)
@@ -88,9 +88,9 @@ module _ {V : Type 0} {Is : V → Type 0} {fields : V → List Field} (r : Field
   pub written_under : (v : V) (mask : ℕ) → Is v → mask < 2 ^ default_count v → length (encoding_under v mask) ≤ limit
       → SequenceOf Is fields (FieldsUnder mask) v (encoding_under v mask)
   written_under v mask ok less few =
-      let there : FieldsUnder mask (fields v) (spelled r.kinds (record_under r mask v)) =
+      let there : FieldsUnder mask (fields v) (spelling_printed r.kinds (record_under r mask v)) =
       rw (r.fields_are v) (under_is r.kinds 0 r.lawful mask (r.split v) less) in
-      (ok, few, spelled r.kinds (record_under r mask v), there, refl)
+      (ok, few, spelling_printed r.kinds (record_under r mask v), there, refl)
 
   -- It is an encoding of the value.
   pub under_is_one : (v : V) (mask : ℕ) (bytes : List ℕ) → SequenceOf Is fields (FieldsUnder mask) v bytes
@@ -100,11 +100,11 @@ module _ {V : Type 0} {Is : V → Type 0} {fields : V → List Field} (r : Field
 
   -- As what the kernel prints of the spelling.
   pub under_spelled : (v : V) (mask : ℕ) → Is v → mask < 2 ^ default_count v → (bytes : List ℕ)
-      → Spells (AreSpelled r.kinds) (λ s. sequence (spelled r.kinds s)) (λ s. s) (record_under r mask v) bytes
+      → Spells (AreSpelled r.kinds) (λ s. sequence (spelling_printed r.kinds s)) (λ s. s) (record_under r mask v) bytes
       ↔ SequenceOf Is fields (FieldsUnder mask) v bytes
   under_spelled v mask ok less bytes = (
     (λ (few, (s, e, valid, is)).
-        let same : bytes ≡ encoding_under v mask = is ∙ ap (λ z. sequence (spelled r.kinds z)) e in
+        let same : bytes ≡ encoding_under v mask = is ∙ ap (λ z. sequence (spelling_printed r.kinds z)) e in
         rw same (written_under v mask ok less (rw same at few))),
     (λ q. (q.1, (record_under r mask v, refl, valid_under v mask ok, (encoding_under_only v mask bytes q).1))),
   )
@@ -121,7 +121,7 @@ module _ {V : Type 0} {Is : V → Type 0} {fields : V → List Field} (r : Field
       let (within, (s, e, valid, is)) = spelled_from r v bytes q in
       let same : spelling_means r.kinds s ≡ r.split v = sym (r.parted (spelling_means r.kinds s)) ∙ ap r.split e in
       let (less, back, fields) = spelling_masked r.kinds 0 r.lawful s in
-      (mask_of r.kinds s, rw same at less, is ∙ ap (λ z. sequence (spelled r.kinds z)) (sym (rw same at back)))
+      (mask_of r.kinds s, rw same at less, is ∙ ap (λ z. sequence (spelling_printed r.kinds z)) (sym (rw same at back)))
 
   -- Two masks have two encodings.
   pub masks_differ : (v : V) (i j : ℕ) → Is v → i < 2 ^ default_count v → j < 2 ^ default_count v
@@ -160,7 +160,7 @@ module _ {V : Type 0} {Is : V → Type 0} {fields : V → List Field} (r : Field
       let under = ap (λ w. length (encoding_under w 0)) e in
       let less : length (encoding_under v 0) ≤ length bytes =
       elim ((tagged_shortest (record_shortest r) 48).least s ok (omega (arith, few, count))) [
-        | inl same ↦ omega (arith, count, ap (λ z. length (sequence (spelled r.kinds z))) same, under)
+        | inl same ↦ omega (arith, count, ap (λ z. length (sequence (spelling_printed r.kinds z))) same, under)
         | inr l ↦ omega (arith, l, count, under)
       ] in
       (written_under v 0 q.0 (pow_pos (default_count v)) (omega (arith, less, few)), less)
@@ -171,10 +171,10 @@ module _ {V : Type 0} {Is : V → Type 0} {fields : V → List Field} (r : Field
   encoding_under_below_longest v mask few =
       let all = full r.kinds (r.split v) in
       let within : length (sequence all) ≤ limit = rw (r.fields_are v) at few in
-      let l : length (spelled r.kinds (record_under r mask v)) ≤ length all =
+      let l : length (spelling_printed r.kinds (record_under r mask v)) ≤ length all =
       rw (under_means r.kinds 0 r.lawful mask (r.split v)) at (full_last r.kinds (record_under r mask v)) in
       rw (r.fields_are v)
-      (sequence_grows (spelled r.kinds (record_under r mask v)) all l (omega (arith, within, tlv_fit 48 all)))
+      (sequence_grows (spelling_printed r.kinds (record_under r mask v)) all l (omega (arith, within, tlv_fit 48 all)))
 
   pub encoding_under_fits : (v : V) (mask : ℕ) → length (longest (fields v)) ≤ limit
       → length (encoding_under v mask) ≤ limit

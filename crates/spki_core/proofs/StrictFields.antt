@@ -7,7 +7,7 @@ use Rattle.der_core.specs.declared.error.ErrorKind.{ErrorKind}
 use Rattle.der_core.specs.declared.error.ErrorKind.TheVariants.{Incomplete, Noncanonical, TagUnknown}
 use Rattle.der_core.specs.declared.tag.Tag.{Tag}
 use Rattle.der_core.specs.Tags as tags
-use Rattle.spki_core.specs.Words.{AreLawful, AreNumbered, AreSpelled, FieldRecord, Kind, Spelling, Values, are_defaults, fields_with, first_written, spelling_means, one_spelled, record_fields, record_means, record_under, record_whole, spelled, spelling_read, strict_value, strict_whole, under, defaults, spelling_masked, under_mask, record_alike, record_front_law, spelled_from, spelled_to, spelled_not_next, any_law, any_front, behind_any, first_default, noncanonical, unless_found, walked}
+use Rattle.spki_core.specs.Words.{AreLawful, AreNumbered, AreSpelled, FieldRecord, Kind, Spelling, Values, are_defaults, fields_with, first_written, spelling_means, field_printed, record_fields, record_means, record_under, record_whole, spelling_printed, spelling_read, strict_value, strict_whole, spelling_under, number_of_defaults, spelling_masked, under_mask, record_alike, record_front_law, spelled_from, spelled_to, spelled_not_next, any_law, any_front, behind_any, first_default, noncanonical, unless_found, walked}
 use Rattle.spki_core.specs.FieldSpellings.{mask_of}
 use Rattle.spki_core.proofs.RecordEncodings.{encoding_under, encoding_under_zero_shortest, under_is_one, valid_under, zero_least}
 use Rattle.standard.specs.Statement.{Decodes, Field, Fields, IsShortest, SequenceOf, TagAndContents, sequence, tlv}
@@ -42,13 +42,14 @@ first_written_none (k ∷ ks) (Some x, s) = elim (cases_Bool (k.is_default x)) [
 ]
 
 -- None is there under mask 0.
-first_written_under_zero : (ks : List Kind) → AreLawful 0 ks → (v : Values ks) → first_written ks (under ks 0 v) ≡ None
+first_written_under_zero : (ks : List Kind) → AreLawful 0 ks → (v : Values ks)
+    → first_written ks (spelling_under ks 0 v) ≡ None
 first_written_under_zero ks law v =
-    (first_written_none ks (under ks 0 v)).1 (under_mask ks 0 law 0 v (pow_pos (defaults ks v)))
+    (first_written_none ks (spelling_under ks 0 v)).1 (under_mask ks 0 law 0 v (pow_pos (number_of_defaults ks v)))
 
 -- And that spelling is the only one.
 first_written_none_only : (ks : List Kind) → AreLawful 0 ks → (s : Spelling ks) → first_written ks s ≡ None
-    → s ≡ under ks 0 (spelling_means ks s)
+    → s ≡ spelling_under ks 0 (spelling_means ks s)
 first_written_none_only ks law s none = sym (rw ((first_written_none ks s).0 none) at (spelling_masked ks 0 law s).1)
 
 -- The walk of the code, over what is there.
@@ -56,31 +57,33 @@ pub contents_bytes : (tag : ℕ) (c : List ℕ) → AreBytes (tlv tag c) → Are
 contents_bytes tag c bytes = back_bytes _ c bytes.1
 
 -- At the front it finds the first field that is there, as an encoding of any tag.
-any_front_of_field : (k : Kind) (v : k.Value) (rest : List ℕ) → AreBytes (one_spelled k v ++ rest)
-    → length (one_spelled k v ++ rest) ≤ limit
-    → any_front (one_spelled k v ++ rest) ≡ Ok (record { tag = 160 + k.number; contents = k.printed v }, rest)
+any_front_of_field : (k : Kind) (v : k.Value) (rest : List ℕ) → AreBytes (field_printed k v ++ rest)
+    → length (field_printed k v ++ rest) ≤ limit
+    → any_front (field_printed k v ++ rest) ≡ Ok (record { tag = 160 + k.number; contents = k.printed v }, rest)
 any_front_of_field k v rest bytes few =
     any_law.takes (record { tag = 160 + k.number; contents = k.printed v }) rest
-    (k.allowed, contents_bytes (160 + k.number) (k.printed v) (front_bytes (one_spelled k v) rest bytes)) few
+    (k.allowed, contents_bytes (160 + k.number) (k.printed v) (front_bytes (field_printed k v) rest bytes)) few
 
 -- It finds the first default that is written.
 walk_finds : (ks : List Kind) (n m : ℕ) → AreLawful n ks → AreNumbered m ks → (s : Spelling ks)
-    → AreBytes (spelled ks s) → length (spelled ks s) ≤ limit
-    → walked m (are_defaults (fields_with ks (spelling_means ks s))) (spelled ks s) ≡ first_written ks s
+    → AreBytes (spelling_printed ks s) → length (spelling_printed ks s) ≤ limit
+    → walked m (are_defaults (fields_with ks (spelling_means ks s))) (spelling_printed ks s) ≡ first_written ks s
 walk_finds [] n m law numbered s bytes few = refl
 walk_finds (k ∷ ks) n m law numbered (None, s) bytes few =
     let is : k.is_default k.default ≡ true = (law.2 k.default).1 refl in
-    let other : is_next (160 + m) (spelled ks s) ≡ false =
+    let other : is_next (160 + m) (spelling_printed ks s) ≡ false =
     spelled_not_next ks (k.number + 1) m (omega (arith, numbered.0)) law.4 s in
     rw (is, other) (walk_finds ks (k.number + 1) (m + 1) law.4 numbered.1 s bytes few)
 walk_finds (k ∷ ks) n m law numbered (Some x, s) bytes few =
     let later =
-    walk_finds ks (k.number + 1) (m + 1) law.4 numbered.1 s (back_bytes (one_spelled k x) (spelled ks s) bytes)
-    (omega (arith, few, length-append (one_spelled k x) (spelled ks s))) in
-    let next : is_next (160 + m) (one_spelled k x ++ spelled ks s) ≡ true = grind (arith, nat_tests, numbered.0) in
+    walk_finds ks (k.number + 1) (m + 1) law.4 numbered.1 s
+    (back_bytes (field_printed k x) (spelling_printed ks s) bytes)
+    (omega (arith, few, length-append (field_printed k x) (spelling_printed ks s))) in
+    let next : is_next (160 + m) (field_printed k x ++ spelling_printed ks s) ≡ true =
+    grind (arith, nat_tests, numbered.0) in
     elim (cases_Bool (k.is_default x)) [
       | inl is ↦ rw (is, next) (ap (λ i. Some i) (sym numbered.0))
-      | inr isnt ↦ rw (isnt, any_front_of_field k x (spelled ks s) bytes few) later
+      | inr isnt ↦ rw (isnt, any_front_of_field k x (spelling_printed ks s) bytes few) later
     ]
 
 module _ {V : Type 0} {Is : V → Type 0} {fields : V → List Field} (r : FieldRecord Is fields) where
@@ -92,7 +95,7 @@ module _ {V : Type 0} {Is : V → Type 0} {fields : V → List Field} (r : Field
       → strict_whole r bytes ≡ unless_found (first_default (are_defaults (record_fields r v)) bytes) v
   strict_walks v bytes are p =
       let (few, (s, e, ok, is)) = spelled_from r v bytes p in
-      let c = spelled r.kinds s in
+      let c = spelling_printed r.kinds s in
       let held : AreBytes c = contents_bytes 48 c (subst AreBytes is are) in
       let within : length c ≤ limit = omega (arith, few, ap length is, tlv_fit 48 c) in
       let same : spelling_means r.kinds s ≡ r.split v = sym (r.parted (spelling_means r.kinds s)) ∙ ap r.split e in
@@ -114,7 +117,7 @@ module _ {V : Type 0} {Is : V → Type 0} {fields : V → List Field} (r : Field
 
   -- a valid spelling is printed, within the limit
   abbrev Stands : Spelling r.kinds → List ℕ → Type 0
-  Stands s b = (length b ≤ limit) × AreSpelled r.kinds s × (b ≡ sequence (spelled r.kinds s))
+  Stands s b = (length b ≤ limit) × AreSpelled r.kinds s × (b ≡ sequence (spelling_printed r.kinds s))
 
   -- What strict reading is promised to give.
   pub strict_decodes : (bytes : List ℕ) → AreBytes bytes
@@ -130,8 +133,8 @@ module _ {V : Type 0} {Is : V → Type 0} {fields : V → List Field} (r : Field
           let holds = spelled_to r v bytes (p.0.0, (s, refl, p.0.1, p.0.2)) in
           let first : s ≡ record_under r 0 v =
           first_written_none_only r.kinds r.lawful s none
-          ∙ ap (under r.kinds 0) (sym (r.parted (spelling_means r.kinds s))) in
-          let same : bytes ≡ encoding_under r v 0 = p.0.2 ∙ ap (λ z. sequence (spelled r.kinds z)) first in (
+          ∙ ap (spelling_under r.kinds 0) (sym (r.parted (spelling_means r.kinds s))) in
+          let same : bytes ≡ encoding_under r v 0 = p.0.2 ∙ ap (λ z. sequence (spelling_printed r.kinds z)) first in (
             rw same (encoding_under_zero_shortest r v holds.0 (rw same at p.0.0)),
             λ other q.
                 let (few, (t, e, ok, is)) = spelled_from r other bytes q.0 in

@@ -1,7 +1,7 @@
 -- Values inside explicit context-specific tags (X.690 8.14.2), and fields [n] EXPLICIT .. DEFAULT .. of a SEQUENCE
 -- (X.690 11.5).
 use Rattle.std.specs.Prelude.{ℕ, List, ◌≡◌, ◌⊎◌, ◌≤◌}
-use Rattle.der_core.specs.Words.{Is, Then, IsNext, context_octet, Tlv, tlv}
+use Rattle.der_core.specs.Words.{IsExactly, SplitsInto, IsNext, context_octet, Tlv, tlv}
 
 pub record Numbered (V : Type 0) : Type 0 where
   pub number : ℕ
@@ -22,4 +22,4 @@ written_numbered encoding v = tlv (context_octet v.number) (encoding v.value)
 abbrev pub FieldRead : {V : Type 0} → ℕ → (V → List ℕ → Type 0) → V → List ℕ → V → List ℕ → Type 0
 FieldRead number Grammar default bytes value rest =
     ((IsNext (context_octet number) bytes → ⊥) × (value ≡ default) × (rest ≡ bytes)) ⊎
-    Then (Tlv (context_octet number) (Grammar value)) (Is rest) bytes
+    SplitsInto (Tlv (context_octet number) (Grammar value)) (IsExactly rest) bytes

@@ -55,12 +55,12 @@ AreSpelled [] s = Unit {0}
 AreSpelled (k ∷ ks) s = IfPresent k.Is s.0 × AreSpelled ks s.1
 
 -- The octets of one field, and of all.
-abbrev pub one_spelled : (k : Kind) → k.Value → List ℕ
-one_spelled k v = tlv (160 + k.number) (k.printed v)
+abbrev pub field_printed : (k : Kind) → k.Value → List ℕ
+field_printed k v = tlv (160 + k.number) (k.printed v)
 
-abbrev pub spelled : (ks : List Kind) → Spelling ks → List ℕ
-spelled [] s = []
-spelled (k ∷ ks) s = optional (one_spelled k) s.0 ++ spelled ks s.1
+abbrev pub spelling_printed : (ks : List Kind) → Spelling ks → List ℕ
+spelling_printed [] s = []
+spelling_printed (k ∷ ks) s = optional (field_printed k) s.0 ++ spelling_printed ks s.1
 
 abbrev pub tag_of : Kind → Tag
 tag_of k = record { octet = 160 + k.number; allowed = k.allowed }
@@ -84,13 +84,14 @@ AreLawful n (k ∷ ks) =
 
 -- The spelling of a value under a mask. Of the fields that have their defaults, each takes a bit, the lowest first,
 -- which says whether it is there. Every other field is there.
-abbrev pub bit : {V : Type 0} → ℕ → V → Option V
-bit mask v = if mask % 2 == 0 then None else Some v
+abbrev pub default_by_bit : {V : Type 0} → ℕ → V → Option V
+default_by_bit mask v = if mask % 2 == 0 then None else Some v
 
-abbrev pub under : (ks : List Kind) → ℕ → Values ks → Spelling ks
-under [] mask v = tt
-under (k ∷ ks) mask v =
-    if k.is_default v.0 then (bit mask v.0, under ks (mask / 2) v.1) else (Some v.0, under ks mask v.1)
+abbrev pub spelling_under : (ks : List Kind) → ℕ → Values ks → Spelling ks
+spelling_under [] mask v = tt
+spelling_under (k ∷ ks) mask v =
+    if k.is_default v.0 then (default_by_bit mask v.0, spelling_under ks (mask / 2) v.1) else
+    (Some v.0, spelling_under ks mask v.1)
 
 -- The mask of a spelling.
 abbrev pub mask_here : (k : Kind) → Option k.Value → ℕ → ℕ
@@ -102,9 +103,9 @@ mask_of [] s = 0
 mask_of (k ∷ ks) s = mask_here k s.0 (mask_of ks s.1)
 
 -- How many fields have their defaults.
-abbrev pub defaults : (ks : List Kind) → Values ks → ℕ
-defaults [] v = 0
-defaults (k ∷ ks) v = if k.is_default v.0 then defaults ks v.1 + 1 else defaults ks v.1
+abbrev pub number_of_defaults : (ks : List Kind) → Values ks → ℕ
+number_of_defaults [] v = 0
+number_of_defaults (k ∷ ks) v = if k.is_default v.0 then number_of_defaults ks v.1 + 1 else number_of_defaults ks v.1
 
 -- Their numbers are n and the following ones.
 abbrev pub AreNumbered : ℕ → List Kind → Type 0
@@ -136,7 +137,7 @@ pub record WrittenField : Type 0 where
   pub octets : List ℕ
 
 abbrev pub field_with : (k : Kind) → k.Value → WrittenField
-field_with k v = record { is_default = k.is_default v; octets = one_spelled k v }
+field_with k v = record { is_default = k.is_default v; octets = field_printed k v }
 
 abbrev pub fields_with : (ks : List Kind) → Values ks → List WrittenField
 fields_with [] v = []
@@ -184,7 +185,7 @@ module _ {V : Type 0} {Is : V → Type 0} {fields : V → List Field} (r : Field
   record_means s = r.join (spelling_means r.kinds s)
 
   abbrev pub record_under : ℕ → V → Spelling r.kinds
-  record_under mask v = under r.kinds mask (r.split v)
+  record_under mask v = spelling_under r.kinds mask (r.split v)
 
   -- Its fields as they are written.
   abbrev pub record_fields : V → List WrittenField

@@ -1,6 +1,6 @@
 //! Values inside explicit context-specific tags (X.690 8.14.2).
 ghost use Rattle.std.specs.Prelude.{◌≡◌, ◌+◌, true, option_map};
-ghost use Rattle.der_core.specs.Words.{context_octet, Tlv, ReadsFront, alone, optional_front, tagged, AllocatesIn, TellsNext, starts_with_any};
+ghost use Rattle.der_core.specs.Words.{context_octet, Tlv, ReadsFront, alone, optional_front, tagged, AllocatesAtFront, TellsNext, starts_with_any};
 ghost use Rattle.spki_core.specs.Words.{FieldAllocates, explicit, numbered, Numbered, HasNumbered, numbered_alike, numbered_law, numbered_map, numbered_some, numbered_writes_shortest, written_numbered};
 
 use der_core::{
@@ -133,7 +133,7 @@ fn read_inside<'a, T: Decode<&'a [u8], M>, M: Memory, R: Reader<&'a [u8]>>(
     reader: &mut R,
     tag: Tag,
 ) -> Result<T>
-    ensures { let may = Tlv tag.octet (AllocatesIn T.Decode.may_allocate) in
+    ensures { let may = Tlv tag.octet (AllocatesAtFront T.Decode.may_allocate) in
         let at = tagged tag (alone T.read_front) in
         ReadsFront T.value at may result (R.left reader.old) (R.left reader.new) }
 {

@@ -12,8 +12,7 @@ use Rattle.der_core.specs.Laws.Numbers.{base256_ge}
 use Rattle.der_core.specs.declared.error.ErrorKind.TheVariants as kind
 use Rattle.der_core.specs.declared.tag.Tag.{Tag}
 use Rattle.der_core.specs.Reading.{TellsOfBytes}
-use Rattle.der_core.specs.Tlv.{Tlv}
-use Rattle.der_core.specs.Headers.{HeaderEncoding}
+use Rattle.der_core.specs.Tlv.{HeaderEncoding, Tlv}
 use Rattle.der_core.specs.Tag.{is_allowed}
 use Rattle.der_core.specs.declared.error.ErrorKind.TheVariants.{Incomplete, IndefiniteLength, Overflow, Overlength, TagUnknown}
 

@@ -5,7 +5,7 @@ use Rattle.std.proofs.lemmas.Bool.{cases_lt}
 use Rattle.std.specs.Int.Digits.{number_from_digits, number_from_digits_after, AllBelowBase}
 use Rattle.std.proofs.lemmas.Int.Digits.{number_lt}
 use Rattle.der_core.specs.Length.{IsBase256}
-use Rattle.der_core.specs.SliceWriters.{Keeps}
+use Rattle.der_core.specs.Slices.{Keeps}
 use Rattle.der_core.specs.declared.writer.SliceWriter.{SliceWriter}
 
 pub cons_same : {A : Type 0} {a b : A} {x y : List A} → a ≡ b → x ≡ y → a ∷ x ≡ b ∷ y

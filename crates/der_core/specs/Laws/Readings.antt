@@ -79,8 +79,8 @@ behind_bytes x y is b = back_bytes x y (rw is at b)
 pub behind_within : {i : List ℕ} (x y : List ℕ) → i ≡ x ++ y → length i ≤ limit → length y ≤ limit
 behind_within x y is within = omega (arith, within, ap length is, length-append x y)
 
-pub relation_carried : {V : Type 0} (P : V → List ℕ → Type 0) {v w : V} {b c : List ℕ} → v ≡ w → b ≡ c → P v b → P w c
-relation_carried P e f p = rw (← e, ← f) p
+pub relation_of_equals : {V : Type 0} (P : V → List ℕ → Type 0) {v w : V} {b c : List ℕ} → v ≡ w → b ≡ c → P v b → P w c
+relation_of_equals P e f p = rw (← e, ← f) p
 
 -- A step of reading.
 pub ok_injective : {A : Type 0} {a b : A} → ◌≡◌ {A = Result A ErrorKind} (Ok a) (Ok b) → a ≡ b
@@ -133,7 +133,7 @@ module _ {V : Type 0} {encoding : V → List ℕ → Type 0} {at : FrontReading 
         let x = law.gives c s.0.1 s.0.0 b s.1 in
         let end = ended_is s.0.0 v s.0.1 s.2 in
         let all : c ≡ x.0 = x.1 ∙ ap (λ y. x.0 ++ y) end.0 ∙ append-nil x.0 in
-        relation_carried encoding end.1 (sym all) x.2;
+        relation_of_equals encoding end.1 (sym all) x.2;
     takes = λ c v w p. ap (λ r. r >>= λ p. ended p.0 p.1) (law.takes c c [] v w (sym (append-nil c)) p);
     tells = λ c k e. ⊎_elim (law.tells c k) (λ s. ended_tells s.0.0 s.0.1 k s.2) (bind_err (at c) _ e);
   }

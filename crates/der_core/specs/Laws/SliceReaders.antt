@@ -3,7 +3,7 @@ use Rattle.std.specs.Prelude.{◌≤◌, length}
 use Rattle.der_core.specs.Length.{limit}
 use Rattle.der_core.specs.Encodings.{AreBytes}
 use Rattle.der_core.specs.Input.{left_in}
-use Rattle.der_core.specs.SliceReaders.{left_of}
+use Rattle.der_core.specs.Slices.{left_of}
 use Rattle.der_core.specs.Laws.LengthReading.{left_bounded, left_bytes}
 use Rattle.der_core.specs.declared.slice_reader.SliceReader.{SliceReader}
 

@@ -6,16 +6,15 @@ use Rattle.der_core.specs.declared.error.ErrorKind.{ErrorKind}
 use Rattle.der_core.specs.declared.error.ErrorKind.TheVariants.{Incomplete, TagUnexpected, TagUnknown, TrailingData}
 use Rattle.der_core.specs.declared.tag.Tag.{Tag}
 use Rattle.der_core.specs.Encodings.{AreBytes}
-use Rattle.der_core.specs.Headers.{HeaderEncoding}
+use Rattle.der_core.specs.Tlv.{HeaderEncoding, Tlv}
 use Rattle.der_core.specs.Input.{header_at, front_of}
 use Rattle.der_core.specs.Laws.LengthReading.{tlv_header, header_sound, header_at-tells, ok_pair, cond_cases, incomplete_error_tells, unexpected_tag_error_tells, trailing_error_tells}
-use Rattle.der_core.specs.Laws.Readings.{front_bytes, back_bytes, behind_bytes, behind_within, relation_carried, ok_injective, bind_ok, bind_err, made_tells}
+use Rattle.der_core.specs.Laws.Readings.{front_bytes, back_bytes, behind_bytes, behind_within, relation_of_equals, ok_injective, bind_ok, bind_err, made_tells}
 use Rattle.der_core.specs.Length.{limit}
 use Rattle.der_core.specs.Reading.{TellsOfBytes}
 use Rattle.der_core.specs.Readings.{Reading, FrontReading, ◌>>=◌, made, items_within, items, checked, unexpected, by_tag, contents_behind, inside, tagged, ReadsContents, ReadsFronts}
-use Rattle.der_core.specs.SequenceOf.{ItemsContents}
+use Rattle.der_core.specs.Parts.{ItemsContents}
 use Rattle.der_core.specs.Tag.{is_allowed}
-use Rattle.der_core.specs.Tlv.{Tlv}
 
 -- Another tag.
 pub checked_as : {X : Type 0} (b : Bool) (f : b ≡ true → X) (x : X) → b ≡ true → (q : b ≡ true) × (checked b f x ≡ f q)
@@ -206,14 +205,14 @@ module _ {V : Type 0} {encoding : V → List ℕ → Type 0} {at : FrontReading 
     (some : (v : V) (b : List ℕ) → encoding v b → 0 < length b) where
   items_give : (n : ℕ) (c : List ℕ) (vs : List V) → AreBytes c → items_within n at c ≡ Ok vs
       → ItemsContents encoding vs c
-  items_give n [] vs b e = relation_carried (ItemsContents encoding) (ok_injective e) refl refl
+  items_give n [] vs b e = relation_of_equals (ItemsContents encoding) (ok_injective e) refl refl
   items_give zero (x ∷ xs) vs b e = cc
   items_give (suc n) (x ∷ xs) vs b e =
       let s = bind_ok (at (x ∷ xs)) _ e in
       let u = bind_ok (items_within n at s.0.1) _ s.2 in
       let p = law.gives (x ∷ xs) s.0.1 s.0.0 b s.1 in
       let q = items_give n s.0.1 u.0 (behind_bytes p.0 s.0.1 p.1 b) u.1 in
-      relation_carried (ItemsContents encoding) (ok_injective u.2) refl (p.0, s.0.1, p.2, q, p.1)
+      relation_of_equals (ItemsContents encoding) (ok_injective u.2) refl (p.0, s.0.1, p.2, q, p.1)
 
   items_take : (vs : List V) (n : ℕ) (c : List ℕ) → length c ≤ n → length c ≤ limit → ItemsContents encoding vs c
       → items_within n at c ≡ Ok vs

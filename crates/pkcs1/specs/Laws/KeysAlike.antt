@@ -3,8 +3,8 @@ use Rattle.std.proofs.Common.{ℕ, Bool, true, false, List, [], ◌∷◌, ◌�
 use Rattle.der_core.specs.declared.error.ErrorKind.TheVariants.{Value}
 use Rattle.der_core.specs.Words.{reading_alike, chain_alike, front_alike, front_row_alike, items_alike, made_alike, optional_alike, row_alike, tagged_alike, ReadsAlike, ReadsFrontAlike, FrontReading, Reading, ended, front_done, made, no_parts, tagged, ◌>>=◌}
 use Rattle.der_core.specs.Tags as tags
-use Rattle.pkcs1.specs.KeyReadings.{agreed, front_read, lists_none, others_read, primes_read, private_key_read, version_read}
-use Rattle.pkcs1.specs.Keys.{OtherRow, front_as, key_from, other_as, others_as, private_as, version_of}
+use Rattle.pkcs1.specs.KeyReadings.{front_read, lists_none, others_if_agreed, others_read, primes_read, private_key_read, version_read}
+use Rattle.pkcs1.specs.Keys.{OtherRow, eight_numbers_before, front_as, other_as, others_as, private_as, version_of}
 
 -- The version of a key, and whether its list of other primes is empty.
 abbrev SpelledPrimes : Type 0 → Type 0
@@ -21,8 +21,8 @@ lists_as f (Some []) = refl
 lists_as f (Some (x ∷ xs)) = refl
 
 -- What is behind the list, by whether it agrees with the version, and whether it is empty.
-abbrev ending : {N : Type 0} → SpelledPrimes N → Bool → Bool → Reading (SpelledPrimes N)
-ending primes agrees none c =
+abbrev others_ending : {N : Type 0} → SpelledPrimes N → Bool → Bool → Reading (SpelledPrimes N)
+others_ending primes agrees none c =
     if agrees then (if none then Err (Value tags.sequence_tag) else ended primes c) else Err (Value tags.integer_tag)
 
 module _ {S V : Type 0} {at : FrontReading S} {means : S → V} {old : FrontReading V}
@@ -31,12 +31,12 @@ module _ {S V : Type 0} {at : FrontReading S} {means : S → V} {old : FrontRead
   primes_alike = items_alike (tagged_alike (row_alike law (row_alike law (row_alike law (reading_alike no_parts)))) tags.sequence_tag)
 
   -- The list behind a version.
-  agreed_alike : (v : ℕ) (primes : SpelledPrimes S)
-      → ReadsAlike (agreed v primes) (others_as means) (agreed v (others_as means primes))
-  agreed_alike v primes = record {
+  others_if_agreed_alike : (v : ℕ) (primes : SpelledPrimes S)
+      → ReadsAlike (others_if_agreed v primes) (others_as means) (others_if_agreed v (others_as means primes))
+  others_if_agreed_alike v primes = record {
     same = λ c.
         go c (v == version_of primes) (lists_none primes)
-        ∙ (λ i. ending (others_as means primes) (v == sym (version_as means primes) i)
+        ∙ (λ i. others_ending (others_as means primes) (v == sym (version_as means primes) i)
         (sym (lists_as means primes) i) c);
   }
     where
@@ -45,15 +45,16 @@ module _ {S V : Type 0} {at : FrontReading S} {means : S → V} {old : FrontRead
       end (x ∷ xs) = refl
 
       go : (c : List ℕ) (agrees none : Bool)
-          → (ending primes agrees none c >>= λ p. Ok (others_as means p))
-          ≡ ending (others_as means primes) agrees none c
+          → (others_ending primes agrees none c >>= λ p. Ok (others_as means p))
+          ≡ others_ending (others_as means primes) agrees none c
       go c true true = refl
       go c true false = end c
       go c false none = refl
 
   others_alike : (v : ℕ) → ReadsAlike (others_read at v) (others_as means) (others_read old v)
   others_alike v =
-      chain_alike (optional_alike (tagged_alike primes_alike tags.sequence_tag) 48) (agreed v) (agreed_alike v)
+      chain_alike (optional_alike (tagged_alike primes_alike tags.sequence_tag) 48) (others_if_agreed v)
+      (others_if_agreed_alike v)
 
   pub fronts_alike : ReadsFrontAlike (front_read at) (front_as means) (front_read old)
   fronts_alike =
@@ -63,6 +64,7 @@ module _ {S V : Type 0} {at : FrontReading S} {means : S → V} {old : FrontRead
 
   pub private_alike : ReadsAlike (private_key_read at) (private_as means) (private_key_read old)
   private_alike =
-      chain_alike fronts_alike (λ front. made (key_from front.1) (others_read old front.0))
-      (λ front. made_alike (others_alike front.0) (key_from front.1) (key_from (front_as means front).1)
+      chain_alike fronts_alike (λ front. made (eight_numbers_before front.1) (others_read old front.0))
+      (λ front. made_alike (others_alike front.0) (eight_numbers_before front.1)
+      (eight_numbers_before (front_as means front).1)
       (private_as means) (λ primes. refl))

@@ -14,8 +14,8 @@ use Rattle.standard.specs.Statement as standard
 use Rattle.standard.specs.Statement.{sequence}
 
 -- These items were read of the bytes, and the rest is left.
-abbrev pub AreRead : {V : Type 0} → FrontReading V → List ℕ → List V → List ℕ → Type 0
-AreRead at bytes vs rest = items at bytes ≡ made (λ ws. vs ++ ws) (items at) rest
+abbrev pub ItemsAreRead : {V : Type 0} → FrontReading V → List ℕ → List V → List ℕ → Type 0
+ItemsAreRead at bytes vs rest = items at bytes ≡ made (λ ws. vs ++ ws) (items at) rest
 
 made_itself : {V : Type 0} (r : Result V ErrorKind) → r ≡ (r >>= λ v. Ok v)
 made_itself (Ok v) = refl
@@ -26,20 +26,21 @@ made_again : {V : Type 0} (v : V) (vs : List V) (r : Result (List V) ErrorKind)
 made_again v vs (Ok ws) = ap (λ us. Ok us) (sym (append_assoc vs (v ∷ []) ws))
 made_again v vs (Err k) = refl
 
-pub none_read : {V : Type 0} (at : FrontReading V) (bytes : List ℕ) → AreRead at bytes [] bytes
-none_read at bytes = made_itself (items at bytes)
+pub no_items_are_read : {V : Type 0} (at : FrontReading V) (bytes : List ℕ) → ItemsAreRead at bytes [] bytes
+no_items_are_read at bytes = made_itself (items at bytes)
 
 -- None are left: all of them were read.
-pub all_read : {V : Type 0} (at : FrontReading V) (bytes : List ℕ) (vs : List V) (rest : List ℕ)
-    → AreRead at bytes vs rest → rest ≡ [] → items at bytes ≡ Ok vs
-all_read at bytes vs rest are none =
+pub all_items_are_read : {V : Type 0} (at : FrontReading V) (bytes : List ℕ) (vs : List V) (rest : List ℕ)
+    → ItemsAreRead at bytes vs rest → rest ≡ [] → items at bytes ≡ Ok vs
+all_items_are_read at bytes vs rest are none =
     are ∙ ap (made (λ ws. vs ++ ws) (items at)) none ∙ ap (λ us. Ok us) (append-nil vs)
 
 -- The next one isn't there.
-pub fault_read : {V : Type 0} (at : FrontReading V) (bytes : List ℕ) (vs : List V) (rest : List ℕ) (k : ErrorKind)
-    → AreRead at bytes vs rest → 0 < length rest → at rest ≡ Err k → items at bytes ≡ Err k
-fault_read at bytes vs [] k are more fault = absurd (omega (arith, more))
-fault_read at bytes vs (x ∷ xs) k are more fault =
+pub item_fault_is_read : {V : Type 0} (at : FrontReading V) (bytes : List ℕ) (vs : List V) (rest : List ℕ)
+    (k : ErrorKind)
+    → ItemsAreRead at bytes vs rest → 0 < length rest → at rest ≡ Err k → items at bytes ≡ Err k
+item_fault_is_read at bytes vs [] k are more fault = absurd (omega (arith, more))
+item_fault_is_read at bytes vs (x ∷ xs) k are more fault =
     are
     ∙ ap (λ r. (r >>= λ p. made (λ ws. p.0 ∷ ws) (items_within (length xs) at) p.1) >>= λ ws. Ok (vs ++ ws)) fault
 
@@ -80,9 +81,9 @@ module _ {V : Type 0} {valid : V → Type 0} {printed : V → List ℕ} {at : Fr
       (items_within_enough (length xs) (length rest) rest s.1 (omega (arith, s.0)) (omega arith))
 
   -- One more was read.
-  pub more_read : (bytes : List ℕ) (vs : List V) (rest behind : List ℕ) (v : V) → AreBytes rest
-      → AreRead at bytes vs rest → at rest ≡ Ok (v, behind) → AreRead at bytes (vs ++ v ∷ []) behind
-  more_read bytes vs rest behind v are read next =
+  pub one_more_item_is_read : (bytes : List ℕ) (vs : List V) (rest behind : List ℕ) (v : V) → AreBytes rest
+      → ItemsAreRead at bytes vs rest → at rest ≡ Ok (v, behind) → ItemsAreRead at bytes (vs ++ v ∷ []) behind
+  one_more_item_is_read bytes vs rest behind v are read next =
       read
       ∙ ap (λ r. r >>= λ ws. Ok (vs ++ ws)) (items_step rest behind v are next)
       ∙ made_again v vs (items at behind)
@@ -105,12 +106,13 @@ count_set = hlevel props
 primes_some_injective : {V : Type 0} {v w : V} → ◌≡◌ {A = Option V} (Some v) (Some w) → v ≡ w
 primes_some_injective e = cc
 
-pub one_held : (bytes : List ℕ) (left right : ℕ) (p : HoldsPrimes bytes left) (q : HoldsPrimes bytes right) → p.0 ≡ q.0
-one_held bytes left right p q = primes_some_injective (sym p.1 ∙ q.1)
+pub held_primes_are_one : (bytes : List ℕ) (left right : ℕ) (p : HoldsPrimes bytes left) (q : HoldsPrimes bytes right)
+    → p.0 ≡ q.0
+held_primes_are_one bytes left right p q = primes_some_injective (sym p.1 ∙ q.1)
 
 pub HoldsPrimes-prop : (bytes : List ℕ) (left : ℕ) → IsProp (HoldsPrimes bytes left)
 HoldsPrimes-prop bytes left p q =
-    let s = one_held bytes left left p q in
+    let s = held_primes_are_one bytes left left p q in
     let read = value_in (primes_read number_front bytes) in
     λ i. (
       s i,
@@ -123,15 +125,17 @@ read_of : {V : Type 0} (r : Result V ErrorKind) (v : V) → value_in r ≡ Some 
 read_of (Ok w) v e = ap (λ u. Ok u) (primes_some_injective e)
 read_of (Err k) v e = cc
 
-pub held_read : (bytes : List ℕ) (left : ℕ) (h : HoldsPrimes bytes left) → primes_read number_front bytes ≡ Ok h.0
-held_read bytes left h = read_of (primes_read number_front bytes) h.0 h.1
+pub held_primes_are_read : (bytes : List ℕ) (left : ℕ) (h : HoldsPrimes bytes left) → primes_read number_front bytes
+    ≡ Ok h.0
+held_primes_are_read bytes left h = read_of (primes_read number_front bytes) h.0 h.1
 
 -- The first one, and those behind it.
-pub held_behind : (bytes rest : List ℕ) (left : ℕ) (other : OtherRow ℕ) (h : HoldsPrimes bytes left) → AreBytes bytes
+pub held_primes_behind_first : (bytes rest : List ℕ) (left : ℕ) (other : OtherRow ℕ) (h : HoldsPrimes bytes left)
+    → AreBytes bytes
     → next_prime bytes ≡ Ok (other, rest) → (t : HoldsPrimes rest (left - 1)) × (h.0 ≡ other ∷ t.0)
-held_behind bytes rest left other h are next =
+held_primes_behind_first bytes rest left other h are next =
     go (primes_read number_front rest) refl
-    (sym (items_step next_law next_some bytes rest other are next) ∙ held_read bytes left h)
+    (sym (items_step next_law next_some bytes rest other are next) ∙ held_primes_are_read bytes left h)
   where
     go : (r : Result (List (OtherRow ℕ)) ErrorKind) → primes_read number_front rest ≡ r
         → (r >>= λ os. Ok (other ∷ os)) ≡ Ok h.0 → (t : HoldsPrimes rest (left - 1)) × (h.0 ≡ other ∷ t.0)
@@ -140,21 +144,22 @@ held_behind bytes rest left other h are next =
         ((os, ap value_in read, omega (arith, h.2, ap length same)), sym same)
     go (Err k) read e = cc
 
-pub held_first : (bytes : List ℕ) (left : ℕ) (k : ErrorKind) → HoldsPrimes bytes left → (left ≡ 0 → ⊥)
+pub held_primes_have_first : (bytes : List ℕ) (left : ℕ) (k : ErrorKind) → HoldsPrimes bytes left → (left ≡ 0 → ⊥)
     → next_prime bytes ≡ Err k → ⊥
-held_first [] left k h some fault = some (sym h.2 ∙ ap length (primes_some_injective (sym h.1)))
-held_first (x ∷ xs) left k h some fault =
-    let never = fault_read next_prime (x ∷ xs) [] (x ∷ xs) k (none_read next_prime (x ∷ xs)) (omega arith) fault in
-    let both = sym (held_read (x ∷ xs) left h) ∙ never in cc
+held_primes_have_first [] left k h some fault = some (sym h.2 ∙ ap length (primes_some_injective (sym h.1)))
+held_primes_have_first (x ∷ xs) left k h some fault =
+    let never = item_fault_is_read next_prime (x ∷ xs) [] (x ∷ xs) k (no_items_are_read next_prime (x ∷ xs))
+    (omega arith) fault in
+    let both = sym (held_primes_are_read (x ∷ xs) left h) ∙ never in cc
 
 -- So many were read of the bytes, and the rest is left.
 abbrev pub PrimesAreCounted : List ℕ → List ℕ → ℕ → Type 0
 PrimesAreCounted bytes rest count =
-    (others : List (OtherRow ℕ)) × AreRead next_prime bytes others rest × (length others ≡ count)
+    (others : List (OtherRow ℕ)) × ItemsAreRead next_prime bytes others rest × (length others ≡ count)
     × (count + length rest ≤ length bytes)
 
 pub no_primes_counted : (bytes : List ℕ) → PrimesAreCounted bytes bytes 0
-no_primes_counted bytes = ([], none_read next_prime bytes, refl, omega arith)
+no_primes_counted bytes = ([], no_items_are_read next_prime bytes, refl, omega arith)
 
 pub one_more_prime_counted : (bytes rest behind : List ℕ) (count : ℕ) (other : OtherRow ℕ) → AreBytes rest
     → PrimesAreCounted bytes rest count → next_prime rest ≡ Ok (other, behind)
@@ -162,7 +167,7 @@ pub one_more_prime_counted : (bytes rest behind : List ℕ) (count : ℕ) (other
 one_more_prime_counted bytes rest behind count other are (others, read, counted, few) next =
     let less = (item_shorter next_law next_some rest behind other are next).0 in (
       others ++ other ∷ [],
-      more_read next_law next_some bytes others rest behind other are read next,
+      one_more_item_is_read next_law next_some bytes others rest behind other are read next,
       omega (arith, counted, length-append others (other ∷ [])),
       omega (arith, few, less),
     )
@@ -170,10 +175,10 @@ one_more_prime_counted bytes rest behind count other are (others, read, counted,
 pub all_primes_counted : (bytes rest : List ℕ) (count : ℕ) → PrimesAreCounted bytes rest count → rest ≡ []
     → HoldsPrimes bytes count
 all_primes_counted bytes rest count (others, read, counted, few) none =
-    (others, ap value_in (all_read next_prime bytes others rest read none), counted)
+    (others, ap value_in (all_items_are_read next_prime bytes others rest read none), counted)
 
 pub prime_fault_counted : (bytes rest : List ℕ) (count : ℕ) (k : ErrorKind) → PrimesAreCounted bytes rest count
     → 0 < length rest
     → next_prime rest ≡ Err k → primes_read number_front bytes ≡ Err k
 prime_fault_counted bytes rest count k (others, read, counted, few) more fault =
-    fault_read next_prime bytes others rest k read more fault
+    item_fault_is_read next_prime bytes others rest k read more fault

@@ -2,7 +2,7 @@
 -- of the statement, and their equality.
 use Rattle.std.proofs.Common.{◌<◌, arith, refl, nat_lt, ℕ, List, ◌≡◌, ◌≤◌, length, subst, sym, Result, Ok, Err, option_map, ◌↔◌, Bool, ◌&&◌, ap, Decides, false, [], ◌∷◌, Option, Some, None}
 use Rattle.std.specs.List.{AllByRecursion}
-use Rattle.der_core.specs.Words.{nat_tests, number_law, small_law, such_law, tagged_law, valid_as, value_error_tells, ReadsFrontPrinted, ReadsPrinted, number_contents, AreBytes, StatedAs, stated, decodes_as, whole_decodes, Spells, value_in, made, tagged, whole, ◌>>=◌, and_decides, items_law, end_law, row_law, tagged_some, FrontReading}
+use Rattle.der_core.specs.Words.{nat_tests, number_law, small_law, such_law, tagged_law, reads_printed_as, value_error_tells, ReadsFrontPrinted, ReadsPrinted, number_contents, AreBytes, StatedAs, stated, decodes_as, whole_decodes, Spells, value_in, made, tagged, whole, ◌>>=◌, and_decides, items_law, end_law, row_law, tagged_some, FrontReading}
 use Rattle.der_core.specs.Tags as tags
 use Rattle.pkcs1.specs.KeyReadings.{number_front, public_read, version_read, rsa_public_key, lists_none, other_read, primes_read}
 use Rattle.pkcs1.specs.Printing.{AnyNumber, AreSome, OtherIsValid, other_printed, primes_printed}
@@ -17,7 +17,7 @@ integer_law = tagged_law number_law tags.integer_tag
 -- Version ::= INTEGER { two-prime(0), multi(1) }
 pub version_law : ReadsPrinted (λ n. n < 2) number_contents version_read
 version_law =
-    valid_as
+    reads_printed_as
     (such_law small_law (λ n. n < 2) (λ n. nat_lt n 2) _ (λ n e. grind (arith, nat_tests, e))
     (λ n h. grind (arith, nat_tests, h)) (value_error_tells refl)) (λ n ok. ok.0)
     (λ n less. (less, omega (arith, less)))

@@ -5,7 +5,7 @@ use Rattle.der_core.specs.Words.{last_shortest, list_shortest, one_spelling_shor
 use Rattle.pkcs1.specs.Keys.{OtherRow, other_as, others_as, others_in, private_as, version_of}
 use Rattle.pkcs1.specs.Laws.KeysAlike.{version_as}
 use Rattle.pkcs1.specs.Laws.PrintedPrivateKeys.{private_row}
-use Rattle.pkcs1.specs.Printing.{AreSome, OtherIsValid, OthersAreValid, PrivateIsValid, eight_printed, others_printed, primes_printed, private_printed}
+use Rattle.pkcs1.specs.Printing.{AreSome, OtherIsValid, OthersAreValid, PrivateIsValid, eight_numbers_printed, others_printed, primes_printed, private_printed}
 use Rattle.standard.specs.Statement.{integer}
 
 -- Spellings that pass a test, as does what is written of them; and octets in front that are the same of both.
@@ -57,7 +57,7 @@ module _ {S V : Type 0} {valid : S → Type 0} {printed : S → List ℕ} {means
       such_shortest (last_shortest (tagged_shortest primes_shortest 48)) AreSome
       (λ primes some. some_primes_as written (others_as means primes) (some_primes_as means primes some))
 
-  numbers_shortest : WritesShortest (PrivateIsValid valid) (eight_printed printed (others_printed printed))
+  numbers_shortest : WritesShortest (PrivateIsValid valid) (eight_numbers_printed printed (others_printed printed))
       (private_as means) (private_as written)
   numbers_shortest =
       row_shortest law (row_shortest law (row_shortest law (row_shortest law (row_shortest law (row_shortest law

@@ -5,7 +5,7 @@ use Rattle.der_core.specs.Words.{AreBytes, StatedAs, stated, tagged_law, value_i
 use Rattle.der_core.specs.Tags as tags
 use Rattle.pkcs1.specs.Held.{IsPrivateKey}
 use Rattle.pkcs1.specs.KeyReadings.{rsa_private_key}
-use Rattle.pkcs1.specs.Keys.{OtherRow, PrivateRow, key_from, key_numbers, other_as, others_as, others_in, private_as, version_of}
+use Rattle.pkcs1.specs.Keys.{OtherRow, PrivateRow, eight_numbers_before, key_numbers, other_as, others_as, others_in, private_as, version_of}
 use Rattle.pkcs1.specs.Laws.PrintedKeys.{integer_law, made_decodes}
 use Rattle.pkcs1.specs.Laws.PrintedPrivateKeys.{private_law}
 use Rattle.pkcs1.specs.Printing.{AnyNumber, AreSome, OtherIsValid, PrivateIsValid, PrivateIsWritten, PrivateSpells, other_printed, others_printed, private_printed}
@@ -51,7 +51,7 @@ others_itself None = refl
 others_itself (Some others) = ap (λ o. Some o) (listed_itself others)
 
 pub private_itself : {N : Type 0} (key : PrivateRow N) → private_as (λ n. n) key ≡ key
-private_itself key = ap (key_from key) (others_itself (others_in key))
+private_itself key = ap (eight_numbers_before key) (others_itself (others_in key))
 
 -- What is printed of them.
 abbrev pub other_encoded : standard.OtherPrime → List ℕ

@@ -1,8 +1,8 @@
 //! Decoding private keys from whole slices; encoding them into slices.
 ghost use Rattle.std.specs.Prelude.{◌≡◌, length, List, ℕ, IfOk, IfErr, IsOk, IsErrAnd, None, Some};
-ghost use Rattle.der_core.specs.Words.{AllocatesIn, Tlv, ok_of, sequence_octet, sequence_tag};
-ghost use Rattle.pkcs1.specs.Words.{AllocatesForKey, IsPrivateKey, ListsNone, PrivateRow, PrivateSpells, Refuses, Rejects, held_private_key, others_in, private_key, private_key_with, rsa_private_key};
-ghost use Rattle.pkcs1_params.specs.Words.{ErrsOrAsks, IsAsn1};
+ghost use Rattle.der_core.specs.Words.{AllocatesAtFront, Tlv, ok_of, sequence_octet, sequence_tag};
+ghost use Rattle.pkcs1.specs.Words.{AllocatesForKey, IsPrivateKey, ListsNone, PrivateRow, PrivateSpells, Refuses, Rejects, held_private_key, others_in, private_key_with, rsa_private_key, whole_private_key};
+ghost use Rattle.pkcs1_params.specs.Words.{AnswersAsn1OrAsks, IsAsn1};
 ghost use Rattle.standard.specs.Statement.{Decodes, Encodes, PrivateKeyEncoding};
 ghost use Rattle.standard.specs.Statement as standard;
 
@@ -26,12 +26,12 @@ impl<U> RsaPrivateKey<U> {
         ensures ok { let spells = PrivateSpells U.valid U.printed U.means in
             IfOk result (λ key. Decodes spells (octets_of octets.entry) (Some (private_key_with U.value key))) }
         ensures err { let may = AllocatesForKey U.valid U.printed U.means U.Decode.may_allocate in
-            let asked = AllocatesIn (Tlv sequence_octet may) (octets_of octets.entry) in
+            let asked = AllocatesAtFront (Tlv sequence_octet may) (octets_of octets.entry) in
             IfErr result (Rejects (PrivateSpells U.valid U.printed U.means) (octets_of octets.entry) asked) }
         ensures exact { let may = AllocatesForKey U.valid U.printed U.means U.Decode.may_allocate in
-            let asked = AllocatesIn (Tlv sequence_octet may) (octets_of octets.entry) in
-            let given = private_key U.read_front (octets_of octets.entry) in
-            ErrsOrAsks (private_key_with U.value) given asked result }
+            let asked = AllocatesAtFront (Tlv sequence_octet may) (octets_of octets.entry) in
+            let given = whole_private_key U.read_front (octets_of octets.entry) in
+            AnswersAsn1OrAsks (private_key_with U.value) given asked result }
         ensures two_primes { ((encoding : List ℕ) → U.Decode.may_allocate encoding → ⊥)
             → (key : PrivateRow U.Value) → others_in key ≡ None
             → PrivateSpells U.valid U.printed U.means key (octets_of octets.entry) → IsOk result }
@@ -51,7 +51,7 @@ impl<'a> RsaPrivateKey<UintRef<'a>> {
             IfOk result (λ key. Decodes PrivateKeyEncoding bytes.now (Some (held key))) }
         ensures err { IfErr result (Rejects PrivateKeyEncoding bytes.now (MayAllocate bytes.now)) }
         ensures exact { let held = held_private_key bytes_of in
-            ErrsOrAsks held (rsa_private_key bytes.now) (MayAllocate bytes.now) result }
+            AnswersAsn1OrAsks held (rsa_private_key bytes.now) (MayAllocate bytes.now) result }
         ensures two_primes { (key : standard.PrivateKey)
             → key.other_primes ≡ None → PrivateKeyEncoding key bytes.now → IsOk result }
     {
@@ -70,7 +70,7 @@ impl RsaPrivateKey<Uint> {
             IfOk result (λ key. Decodes PrivateKeyEncoding bytes.now (Some (held key))) }
         ensures err { IfErr result (Rejects PrivateKeyEncoding bytes.now (OwnedKeyAllocates bytes.now)) }
         ensures exact { let asked = OwnedKeyAllocates bytes.now in
-            ErrsOrAsks (held_private_key own_bytes_of) (rsa_private_key bytes.now) asked result }
+            AnswersAsn1OrAsks (held_private_key own_bytes_of) (rsa_private_key bytes.now) asked result }
     {
         Ok(RsaPrivateKey::from_der(alloc, bytes)?) // its numbers are copies
     }

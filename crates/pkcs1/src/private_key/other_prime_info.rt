@@ -6,8 +6,8 @@ ghost use Rattle.pkcs1.specs.Words.{AllocatesInOthers, ListsNone, other_of, othe
 use crate::version::Version;
 use der_core::{
     BackWriter, Borrowed, Decode, Encode, EncodeInParts, EncodeValue, Encoding, ErrorKind, Length,
-    Reader, Record, Result, SequenceTag, Tag, TryClone, Writer, begins_with, decode_optional,
-    quick_alone, TaggedBy,
+    Reader, Record, Result, SequenceTag, Tag, TaggedBy, TryClone, Writer, begins_with,
+    decode_optional, quick_alone,
 };
 use std::alloc::{AllocError, Global};
 

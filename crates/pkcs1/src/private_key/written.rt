@@ -2,7 +2,7 @@
 //! row is a type of its own.
 ghost use Rattle.std.specs.Prelude.{◌≡◌, ◌≤◌, ◌⊎◌, Option, length, option_map};
 ghost use Rattle.der_core.specs.Words.{Appends, Counts, Prepends, RefusedAs, free_of, last, last_alike, last_law, last_shortest, limit, parts, row_alike, row_law, row_shortest};
-ghost use Rattle.pkcs1.specs.Words.{RowIsValid, Three, ThreeAreValid, crt_with, key_row, parts_row, row_as, row_printed, three_as, three_printed};
+ghost use Rattle.pkcs1.specs.Words.{RowIsValid, ThreeNumbersAreValid, ThreeNumbersThen, crt_with, key_row, parts_row, row_as, row_printed, three_numbers_as, three_numbers_printed};
 ghost use Rattle.standard.specs.Statement.{IfPresent, optional};
 
 use super::PrivateKeyOf;
@@ -15,19 +15,19 @@ use der_core::{
 struct CrtParts<'b, U, O>(&'b PrivateKeyOf<U, O>);
 
 impl<'b, U: Encoding, O: Encoding> Contents for CrtParts<'b, U, O> {
-    ghost Value = { Three U.Value (Option O.Value) };
+    ghost Value = { ThreeNumbersThen U.Value (Option O.Value) };
 
     ghost value = { λ parts. crt_with U.value O.value parts.0.now };
 
-    ghost Spelling = { Three U.Spelling (Option O.Spelling) };
+    ghost Spelling = { ThreeNumbersThen U.Spelling (Option O.Spelling) };
 
-    ghost means = { three_as U.means (option_map O.means) };
+    ghost means = { three_numbers_as U.means (option_map O.means) };
 
-    ghost written = { three_as U.written (option_map O.written) };
+    ghost written = { three_numbers_as U.written (option_map O.written) };
 
-    ghost valid = { ThreeAreValid U.valid (IfPresent O.valid) };
+    ghost valid = { ThreeNumbersAreValid U.valid (IfPresent O.valid) };
 
-    ghost printed = { three_printed U.printed (optional O.printed) };
+    ghost printed = { three_numbers_printed U.printed (optional O.printed) };
 
     ghost read_spelling = { let at = U.read_spelling in parts at (parts at (parts at (last O.read_spelling))) };
 

@@ -1,6 +1,6 @@
 -- The laws of parameters: of their fields, and of the records that hold these.
 use Rattle.std.proofs.Common.{List, [], ◌∷◌, ◌≡◌, ◌<◌, ◌==◌, refl, arith, rules}
-use Rattle.der_core.specs.Words.{nat_tests, number_decides, small_law, such_law, tagged_law, valid_as, value_error_tells, ReadsFrontPrinted, ReadsPrinted, number_contents}
+use Rattle.der_core.specs.Words.{nat_tests, number_decides, small_law, such_law, tagged_law, reads_printed_as, value_error_tells, ReadsFrontPrinted, ReadsPrinted, number_contents}
 use Rattle.der_core.specs.Tags as tags
 use Rattle.spki_core.specs.Words.{AreLawful, FieldRecord, Kind, same_mask_decides, same_plain_decides, is_identifier-sound, algorithm_law, any_law, any_some}
 use Rattle.pkcs1_params.specs.ParameterReadings.{hash_kind, in_oaep_fields, in_pss_fields, mask_front, mask_kind, oaep_kinds, of_oaep_fields, of_pss_fields, plain_front, pss_kinds, salt_kind, source_kind, trailer_kind, trailer_read}
@@ -14,7 +14,7 @@ mask_law = tagged_law (algorithm_law plain_law (λ a. omega arith)) tags.sequenc
 
 pub trailer_law : ReadsPrinted (λ n. n ≡ 1) number_contents trailer_read
 trailer_law =
-    valid_as
+    reads_printed_as
     (such_law small_law (λ n. n ≡ 1) (λ n. n == 1) _ (λ n e. grind (arith, nat_tests, e))
     (λ n e. grind (arith, nat_tests, e)) (value_error_tells refl))
     (λ n ok. ok.0) (λ n is. let less : n < 256 = omega (arith, is) in (is, less))

@@ -15,21 +15,21 @@ any_decides t u c d =
 -- == Values that are mapped to other ones and back ==
 
 -- What X means one way is mapped to what it means the other way.
-pub record Carried {X V W : Type 0} (value : X → V) (other : X → W) : Type 0 where
+pub record IsMapped {X V W : Type 0} (value : X → V) (other : X → W) : Type 0 where
   pub there : V → W
   pub back : W → V
   pub meant : (x : X) → other x ≡ there (value x)
 
 -- Two that mean the same one way mean the same the other way.
-pub same_carried : {X V W : Type 0} {value : X → V} {other : X → W} → Carried value other → (x y : X)
+pub mapped_same : {X V W : Type 0} {value : X → V} {other : X → W} → IsMapped value other → (x y : X)
     → value x ≡ value y → other x ≡ other y
-same_carried k x y same = k.meant x ∙ ap k.there same ∙ sym (k.meant y)
+mapped_same k x y same = k.meant x ∙ ap k.there same ∙ sym (k.meant y)
 
 -- == A type that holds a tag with contents octets, whatever its values mean ==
 
 -- Its values are tags with contents.
 pub record HoldsAny {X V : Type 0} (value : X → V) (any : X → TagAndContents) : Type 0 where
-  pub carried : Carried value any
+  pub carried : IsMapped value any
   pub back_there : (v : V) → carried.back (carried.there v) ≡ v
 
 -- A type whose values mean their tag and contents.
@@ -42,7 +42,7 @@ pub holds_decides : {X V : Type 0} {value : X → V} {any : X → TagAndContents
     → ((x y : X) → Decides (E x y) (value x ≡ value y)) → (x y : X) → Decides (E x y) (any x ≡ any y)
 holds_decides E h d x y =
     let k = h.carried in (
-      λ e. same_carried k x y ((d x y).0 e),
+      λ e. mapped_same k x y ((d x y).0 e),
       λ same. (d x y).1 (sym (h.back_there _) ∙ ap k.back (sym (k.meant x) ∙ same ∙ k.meant y) ∙ h.back_there _),
     )
 

@@ -2,7 +2,7 @@
 use Rattle.std.proofs.Common.{ℕ, true, false, List, ◌++◌, ◌≡◌, ◌≤◌, refl, sym, ap, ◌∙◌, inl, inr, subst, ⊎_elim, Ok, Err, IsTrue, arith}
 use Rattle.der_core.specs.declared.error.ErrorKind.TheVariants.{TagUnknown}
 use Rattle.der_core.specs.declared.tag.Tag.{Tag}
-use Rattle.der_core.specs.Words.{ok_pair, cond_cases, front_next, isnt_next, next_is, next_isnt, alone_reads, checked_as, tagged_reads, same_tag, FrontReading, alone, is_next, tagged, ReadsBy, ReadsFronts, context_octet, is_allowed, Tlv, nat_tests}
+use Rattle.der_core.specs.Words.{ok_pair, cond_cases, tlv_front_is_next, is_next_false, is_next_true, is_next_false_only, alone_reads, checked_as, tagged_reads, same_tag, FrontReading, alone, is_next, tagged, ReadsBy, ReadsFronts, context_octet, is_allowed, Tlv, nat_tests}
 use Rattle.spki_core.specs.Explicit.{FieldRead}
 use Rattle.spki_core.specs.Readings.{defaulted, explicit}
 
@@ -37,15 +37,16 @@ module _ {V : Type 0} {encoding : V → List ℕ → Type 0} {at : FrontReading 
   defaulted_reads default = record {
     gives = λ i rest v b e.
         ⊎_elim (λ w. let s = explicit_reads.gives i rest v b w.1 in inr (s.0, rest, s.2, refl, s.1))
-        (λ w. let p = ok_pair default v i rest w.1 in inl (next_isnt (context_octet n) i w.0, sym p.0, sym p.1))
+        (λ w. let p = ok_pair default v i rest w.1 in
+        inl (is_next_false_only (context_octet n) i w.0, sym p.0, sym p.1))
         (cond_cases (is_next (context_octet n) i) _ _ _ e);
     takes = λ i rest v w read. elim read [
       | inl (not_next, value, same) ↦
-          let no : is_next (context_octet n) i ≡ false = isnt_next (context_octet n) i not_next in
+          let no : is_next (context_octet n) i ≡ false = is_next_false (context_octet n) i not_next in
           rw no (λ j. Ok (sym value j, sym same j))
       | inr (b, more, p, same, split) ↦
           let yes : is_next (context_octet n) i ≡ true =
-          next_is (context_octet n) i (front_next (context_octet n) b more i p split) in
+          is_next_true (context_octet n) i (tlv_front_is_next (context_octet n) b more i p split) in
           rw yes (explicit_reads.takes i b rest v w (split ∙ ap (λ r. b ++ r) same) p)
     ];
     tells = λ i k e.

@@ -6,7 +6,7 @@ use Rattle.der_core.specs.declared.tag.Tag.{Tag}
 use Rattle.der_core.specs.Encodings.{AreBytes}
 use Rattle.der_core.specs.Laws.LengthReading.{ok_pair, value_error_tells}
 use Rattle.der_core.specs.Laws.OptionalReadings.{optional_is, optional_tells}
-use Rattle.der_core.specs.Laws.Printed.Rows.{alone_law, tagged_law, valid_as, such_law}
+use Rattle.der_core.specs.Laws.Printed.Rows.{alone_law, tagged_law, reads_printed_as, such_law}
 use Rattle.der_core.specs.Laws.Readings.{back_bytes, bind_err, bind_ok, ended_is, ended_tells, made_tells, ok_injective}
 use Rattle.der_core.specs.Length.{limit}
 use Rattle.der_core.specs.Printed.{ReadsFrontPrinted, ReadsPrinted, ReadsAlike, Starts, WritesShortest, number_contents, row}
@@ -15,7 +15,7 @@ use Rattle.der_core.specs.Readings.{FrontReading, Reading, alone, chain, ended, 
 use Rattle.standard.specs.Statement.{IfPresent, optional, tlv}
 use Rattle.der_core.specs.declared.error.ErrorKind.TheVariants.{Value}
 use Rattle.der_core.specs.Laws.Printed.Leaves.{small_law}
-use Rattle.der_core.specs.Optional.{Optional}
+use Rattle.der_core.specs.Parts.{Optional}
 use Rattle.der_core.specs.Tags.{integer_tag}
 
 -- A last part that is there or not: whatever is left is read as the part.
@@ -167,8 +167,9 @@ module _ {V : Type 0} {Is : V → Type 0} {printed : V → List ℕ} {at : Front
       ∙ rw (begins v [])
       (ap (λ r. r >>= λ p. Ok (Some p.0, p.1)) (law.takes v [] ok (omega (arith, few, ap length all))))
 
-  pub agreed_law : ReadsPrinted (λ o. Agrees o × IfPresent Is o) (optional printed) (chain (optional_front t at) behind)
-  agreed_law = record {
+  pub checked_optional_law : ReadsPrinted (λ o. Agrees o × IfPresent Is o) (optional printed)
+      (chain (optional_front t at) behind)
+  checked_optional_law = record {
     gives = λ c v bytes e.
         let s = bind_ok (optional_front t at c) _ e in
         let h = only s.0.0 v s.0.1 s.2 in
@@ -196,7 +197,8 @@ module _ {V : Type 0} {Is : V → Type 0} {printed : V → List ℕ} {read : Rea
   pub last_by_tag_law : ReadsPrinted (IfPresent Is) (optional (λ v. tlv tag.octet (printed v)))
       (alone (optional_front tag.octet (tagged tag read)))
   last_by_tag_law =
-      valid_as (agreed_law (tagged_law law tag) tag.octet (λ v x. grind (arith, nat_tests)) (λ o. Unit {0}) ended
+      reads_printed_as
+      (checked_optional_law (tagged_law law tag) tag.octet (λ v x. grind (arith, nat_tests)) (λ o. Unit {0}) ended
       (λ o a. refl) (λ o p c e. let end = ended_is o p c e in (tt, end.0, end.1)) ended_tells) (λ o p. p.1)
       (λ o p. (tt, p))
 

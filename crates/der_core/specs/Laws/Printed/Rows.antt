@@ -18,10 +18,10 @@ use Rattle.der_core.specs.Readings.{FrontReading, Reading, ReadsContents, alone,
 use Rattle.standard.specs.Statement.{Decodes, tlv}
 
 -- The same spellings, said otherwise.
-pub valid_as : {S : Type 0} {Is Valid : S → Type 0} {printed : S → List ℕ} {read : Reading S}
+pub reads_printed_as : {S : Type 0} {Is Valid : S → Type 0} {printed : S → List ℕ} {read : Reading S}
     → ReadsPrinted Is printed read → ((s : S) → Is s → Valid s) → ((s : S) → Valid s → Is s)
     → ReadsPrinted Valid printed read
-valid_as law to from = record {
+reads_printed_as law to from = record {
   gives = λ c s bytes e. let h = law.gives c s bytes e in (to s h.0, h.1);
   takes = λ s ok few. law.takes s (from s ok) few;
   tells = law.tells;

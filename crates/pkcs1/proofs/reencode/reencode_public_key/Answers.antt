@@ -12,8 +12,8 @@ returns-clause-same c =
     c.to_pkcs1_der.result
     c.to_pkcs1_der.ensures.encoding
 
-pub returns-clause-sentence : goal.returns-clause-sentence
-returns-clause-sentence c =
+pub returns-clause-encoding : goal.returns-clause-encoding
+returns-clause-encoding c =
     let read = c.in_ok-from_pkcs1_der in
     ok_result_holds c.to_pkcs1_der.result (held_public_key own_bytes_of read.field-0, read.ensures.ok.0)
 

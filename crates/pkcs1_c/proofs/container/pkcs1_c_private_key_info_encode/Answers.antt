@@ -3,9 +3,9 @@ use Rattle.pkcs1.proofs.KeyReads.{private_tells}
 use Rattle.pkcs1.specs.Words.{rsa_private_key}
 use Rattle.pkcs8_core.specs.Words.{container_spells}
 use Rattle.standard.specs.Statement.{ContainerEncoding}
-use Rattle.pkcs1_c.specs.Words.{InfoError, UnwrittenStatus, HasKey, private_key_info_seen}
+use Rattle.pkcs1_c.specs.Words.{InfoError, UnwrittenStatus, InfoHasKey, private_key_info_seen}
 use Rattle.pkcs1_c.proofs.Containers.{ContainerSpells, error_none, info_one, info_rest}
-use Rattle.pkcs1_c.proofs.Writes.{status_known, error_as, held_written, is_error, unwritten_error_as}
+use Rattle.pkcs1_c.proofs.Writes.{status_known, error_of_same_reasons, held_written, only_status_is_error, unwritten_error_as}
 use Rattle.pkcs1_c.proofs.container.pkcs1_c_private_key_info_encode.Goals as goal
 
 pub write_encoding-requires : goal.write_encoding-requires
@@ -19,10 +19,11 @@ returns-in-Ok c =
     let holds = c.in-Ok.ensures.key in
     let told = c.write_encoding.ensures in record {
       writes =
-          held_written ContainerEncoding v ContainerSpells v (container_spells v) (HasKey info) holds
+          held_written ContainerEncoding v ContainerSpells v (container_spells v) (InfoHasKey info) holds
           (rw c.in-Ok.ensures.ok at told.writes);
       exact =
-          error_as (UnwrittenStatus ContainerEncoding v room) (InfoError info room) _ (λ t p. inr (holds, p))
+          error_of_same_reasons (UnwrittenStatus ContainerEncoding v room) (InfoError info room) _
+          (λ t p. inr (holds, p))
           (info_rest info room holds)
           (unwritten_error_as ContainerEncoding v ContainerSpells v (container_spells v) room _
           (rw c.in-Ok.ensures.ok at told.exact));
@@ -36,5 +37,6 @@ returns-in-Err c =
     let e = status_known (rsa_private_key octets) (private_tells octets) c.in-Err.failure c.in-Err.ensures.exact in
     let is = c.status.ensures in record {
       writes = let none = error_none info _ e.1 in search rules;
-      exact = is_error (InfoError info room) _ (info_one info room) (omega (arith, is, e.0.0)) (rw is (inl e.1));
+      exact = only_status_is_error (InfoError info room) _ (info_one info room) (omega (arith, is, e.0.0))
+          (rw is (inl e.1));
     }

@@ -2,7 +2,7 @@ use Rattle.std.proofs.Common.{rules, ap, subst, None, Ok, Err}
 use Rattle.der_core.specs.Words.{err_from_is_err_and, ◌>>=◌}
 use Rattle.pkcs1.specs.Words.{held_view}
 use Rattle.pkcs1.specs.declared.view.RsaPrivateKeyView.{RsaPrivateKeyView}
-use Rattle.pkcs1_params.proofs.Faults.{err_holds, errs_behind}
+use Rattle.pkcs1_params.proofs.Faults.{answers_asn1_behind, err_holds}
 use Rattle.pkcs8_core.specs.Words.{private_key_info, rsa_held, ContainedKey}
 use Rattle.standard.specs.Statement.{ContainedKeyEncoding, Decodes}
 use Rattle.pkcs1_c.proofs.container.read_container.Goals as goal
@@ -25,10 +25,11 @@ returns-in_err-info-clause-exact c =
 pub returns-in_err-view-clause-exact : goal.returns-in_err-view-clause-exact
 returns-in_err-view-clause-exact c =
     let p = err_from_is_err_and c.from_residual-in_err-view.result c.from_residual-in_err-view.ensures.1 in
-    rw (p.1, p.2) (errs_behind {X = RsaPrivateKeyView} held_view (private_key_info c.args.encoding.now) rsa_held _
+    rw (p.1, p.2)
+    (answers_asn1_behind {X = RsaPrivateKeyView} held_view (private_key_info c.args.encoding.now) rsa_held _
     c.in_ok-info.ensures.exact (Err _) c.in_err-view.ensures.exact)
 
 pub returns-clause-exact : goal.returns-clause-exact
 returns-clause-exact c =
-    errs_behind held_view (private_key_info c.args.encoding.now) rsa_held _ c.in_ok-info.ensures.exact
+    answers_asn1_behind held_view (private_key_info c.args.encoding.now) rsa_held _ c.in_ok-info.ensures.exact
     (Ok c.in_ok-view.view) c.in_ok-view.ensures.exact

@@ -1,14 +1,14 @@
 use Rattle.std.proofs.Common.{rules}
-use Rattle.pkcs1_c.proofs.HeldParameters.{plain_none, mask_none}
+use Rattle.pkcs1_c.proofs.HeldParameters.{plain_has_no_status, mask_has_no_status}
 use Rattle.pkcs1_c.proofs.oaep.from_c_oaep.Goals as goal
 
 pub returns-in_err-from_c_mask_gen-clause-err : goal.returns-in_err-from_c_mask_gen-clause-err
 returns-in_err-from_c_mask_gen-clause-err c =
-    let hash = plain_none c.in_ok-from_c_algorithm.field-0 _ c.in_ok-from_c_algorithm.ensures.ok in
+    let hash = plain_has_no_status c.in_ok-from_c_algorithm.field-0 _ c.in_ok-from_c_algorithm.ensures.ok in
     search rules
 
 pub returns-in_err-from_c_algorithm-2-clause-err : goal.returns-in_err-from_c_algorithm-2-clause-err
 returns-in_err-from_c_algorithm-2-clause-err c =
-    let hash = plain_none c.in_ok-from_c_algorithm.field-0 _ c.in_ok-from_c_algorithm.ensures.ok in
-    let mask = mask_none c.in_ok-from_c_mask_gen.field-0 _ c.in_ok-from_c_mask_gen.ensures.ok in
+    let hash = plain_has_no_status c.in_ok-from_c_algorithm.field-0 _ c.in_ok-from_c_algorithm.ensures.ok in
+    let mask = mask_has_no_status c.in_ok-from_c_mask_gen.field-0 _ c.in_ok-from_c_mask_gen.ensures.ok in
     search rules

@@ -1,6 +1,6 @@
 use Rattle.std.proofs.Common.{length, refl, arith, rules}
 use Rattle.standard.specs.Statement.{PrivateKeyEncoding}
-use Rattle.pkcs1_c.specs.Words.{given_key, Miscounted, NumbersError, PartThen, UnwrittenStatus, given_numbers, HasPrivateNumbers, If, private_key_seen}
+use Rattle.pkcs1_c.specs.Words.{given_key, Miscounted, NumbersError, PartThen, UnwrittenStatus, given_numbers, HasPrivateNumbers, EncodingIfHeld, private_key_seen}
 use Rattle.pkcs1_c.proofs.GivenKeys.{GivenPrivateSpells, given_private_spelled, given_private_valid, private_fits, private_has}
 use Rattle.pkcs1_c.proofs.StructErrors.{IsPartError, numbers_part}
 use Rattle.pkcs1_c.proofs.Writes.{error_behind, held_written, part_rejected, unwritten_error_as}
@@ -19,7 +19,8 @@ returns-then-key-others c =
     let later = PartThen (NumbersError (given_numbers key others)) (UnwrittenStatus PrivateKeyEncoding v room) in
     let counted : IsPartError (Miscounted key others) = (grind arith, grind arith) in
     let told =
-    part_rejected (Miscounted key others) later counted (If (HasPrivateNumbers key others) PrivateKeyEncoding) v
+    part_rejected (Miscounted key others) later counted
+    (EncodingIfHeld (HasPrivateNumbers key others) PrivateKeyEncoding) v
     (λ bytes p s q. q.1 p.0.0) c.args.out.now c.args.len.now refl (refl, c.if-key-others.true) in
     record { writes = told.0; exact = told.1 }
 
@@ -50,6 +51,7 @@ returns-in-Err c =
     let told =
     part_rejected (NumbersError numbers) (UnwrittenStatus PrivateKeyEncoding v (length c.args.out.now))
     (numbers_part numbers)
-    (If (HasPrivateNumbers key others) PrivateKeyEncoding) v (λ bytes p. private_fits key others p.0 bytes p.1)
+    (EncodingIfHeld (HasPrivateNumbers key others) PrivateKeyEncoding) v
+    (λ bytes p. private_fits key others p.0 bytes p.1)
     c.args.out.now c.args.len.now c.status.ensures c.in-Err.ensures.err in
     let rest = told.1 in record { writes = told.0; exact = search (rules, error_behind) }

@@ -2,7 +2,7 @@ use Rattle.std.proofs.Common.{rules}
 use Rattle.standard.specs.Statement.{PssAlgorithmEncoding}
 use Rattle.pkcs1_c.specs.Words.{PssFieldError, pss_seen}
 use Rattle.pkcs1_c.proofs.FittingFields.{pss_fits}
-use Rattle.pkcs1_c.proofs.HeldParameters.{pss_none}
+use Rattle.pkcs1_c.proofs.HeldParameters.{pss_has_no_status}
 use Rattle.pkcs1_c.proofs.StructErrors.{pss_part}
 use Rattle.pkcs1_c.proofs.Writes.{error_behind, fields_rejected}
 use Rattle.pkcs1_c.proofs.pss_algorithm.write_fields.Goals as goal
@@ -10,7 +10,7 @@ use Rattle.pkcs1_c.proofs.pss_algorithm.write_fields.Goals as goal
 pub returns-in-Ok : goal.returns-in-Ok
 returns-in-Ok c =
     let is = c.in-Ok.ensures.ok in
-    let none = pss_none c.in-Ok.made _ is in
+    let none = pss_has_no_status c.in-Ok.made _ is in
     let rest = rw is at c.write_algorithm.ensures.exact in
     record { writes = rw is at c.write_algorithm.ensures.writes; exact = search (rules, error_behind) }
 

@@ -1,6 +1,6 @@
 use Rattle.std.proofs.Common.{length, rules}
 use Rattle.standard.specs.Statement.{PublicKeyEncoding}
-use Rattle.pkcs1_c.specs.Words.{NumbersError, UnwrittenStatus, two_numbers, HasNumbers, If, public_key_seen}
+use Rattle.pkcs1_c.specs.Words.{NumbersError, UnwrittenStatus, two_numbers, HasPublicNumbers, EncodingIfHeld, public_key_seen}
 use Rattle.pkcs1_c.proofs.GivenKeys.{GivenPublicSpells, given_public_spelled, public_fits}
 use Rattle.pkcs1_c.proofs.StructErrors.{numbers_have, numbers_part}
 use Rattle.pkcs1_c.proofs.Writes.{error_behind, held_written, part_rejected, unwritten_error_as}
@@ -19,7 +19,7 @@ returns-in-Ok c =
     let held = c.in-Ok.ensures.held in
     let has = numbers_have (two_numbers key) held in record {
       writes =
-          held_written PublicKeyEncoding v GivenPublicSpells _ law (HasNumbers key) (has.0, has.1.0) told.writes;
+          held_written PublicKeyEncoding v GivenPublicSpells _ law (HasPublicNumbers key) (has.0, has.1.0) told.writes;
       exact =
           let rest = unwritten_error_as PublicKeyEncoding v GivenPublicSpells _ law room _ told.exact in
           search (rules, error_behind);
@@ -33,6 +33,7 @@ returns-in-Err c =
     let numbers = two_numbers key in
     let told =
     part_rejected (NumbersError numbers) (UnwrittenStatus PublicKeyEncoding v room) (numbers_part numbers)
-    (If (HasNumbers key) PublicKeyEncoding) v (λ bytes p. public_fits key p.0 bytes p.1) c.args.out.now
+    (EncodingIfHeld (HasPublicNumbers key) PublicKeyEncoding) v
+    (λ bytes p. public_fits key p.0 bytes p.1) c.args.out.now
     c.args.len.now c.status.ensures c.in-Err.ensures.err in
     record { writes = told.0; exact = told.1 }

@@ -1,6 +1,6 @@
 use Rattle.std.proofs.Common.{length, subst, sym}
 use Rattle.spki_core.specs.Words.{algorithm_map, AreSpelled, record_under, viewed_held}
-use Rattle.pkcs1_params.specs.Words.{with_parameters, Encoded}
+use Rattle.pkcs1_params.specs.Words.{with_parameters, EncodingOfFields}
 use Rattle.pkcs1_params.proofs.Algorithms.{AlgorithmSpelled, algorithm_spelled, algorithm_valid}
 use Rattle.standard.specs.Statement.{Algorithm, AlgorithmEncoding, IsAlgorithm, IsIdentifier}
 use Rattle.pkcs1_c.specs.Words.{IsErrorOf, UnwrittenStatus, WritesOrTells}
@@ -30,11 +30,12 @@ returns g c =
     let told = c.write_encoding in
     let room = length c.args.out.now in record {
       writes =
-          written_as (AlgorithmEncoding oid (Encoded t.Is t.fields_of)) v Spelled (with_parameters oid v) same
+          written_as (AlgorithmEncoding oid (EncodingOfFields t.Is t.fields_of)) v Spelled (with_parameters oid v) same
           (subst (λ a. WritesOrTells Spelled a c.args.out.now told.new.out c.args.len.now told.new.len told.result) is
           told.ensures.writes);
       exact =
-          unwritten_error_as (AlgorithmEncoding oid (Encoded t.Is t.fields_of)) v Spelled (with_parameters oid v) same
+          unwritten_error_as (AlgorithmEncoding oid (EncodingOfFields t.Is t.fields_of)) v Spelled
+          (with_parameters oid v) same
           room
           told.result (subst (λ a. IsErrorOf (UnwrittenStatus Spelled a room) told.result) is told.ensures.exact);
     }

@@ -1,7 +1,7 @@
 use Rattle.std.proofs.Common.{ℕ, Ok, Err, length}
 use Rattle.der_core.proofs.Writing.{encode_into_encodes, encode_into_unwritten}
 use Rattle.der_core.specs.Words.{Spells}
-use Rattle.pkcs1_c.proofs.Writes.{needed_is, needed_kept, kind_unwritten, not_written, unwritten_is, shortest_written}
+use Rattle.pkcs1_c.proofs.Writes.{needed_is, needed_kept, kind_unwritten, unwritten_tells_length, unwritten_is, shortest_written}
 use Rattle.pkcs1_c.proofs.written.write_encoding.Goals as goal
 
 pub returns-in-Ok : goal.returns-in-Ok
@@ -27,7 +27,7 @@ returns-in-Err g c =
     kind_unwritten (λ u. t.valid (t.written u)) Encoding v room c.requires c.in-Err.error.kind
     (encode_into_unwritten t.shortest v {X = ℕ} room (Err c.in-Err.error) c.in-Err.ensures.err) in record {
       writes =
-          not_written Encoding v c.args.out.now _ c.args.len.now _ _ _ c.kind_number.ensures why
+          unwritten_tells_length Encoding v c.args.out.now _ c.args.len.now _ _ _ c.kind_number.ensures why
           c.in-Err.ensures.unchanged (needed_is t.shortest v c.requires c.set_needed.ensures.needed)
           (needed_kept t.shortest v c.requires c.set_needed.ensures.kept);
       exact = unwritten_is Encoding v room _ _ c.kind_number.ensures why;

@@ -2,7 +2,7 @@ use Rattle.std.proofs.Common.{ℕ, length, subst, Ok, Err, Some, None}
 use Rattle.der_core.specs.Words.{err_from_is_err_and}
 use Rattle.der_core.proofs.Writing.{encode_into_encodes, encode_into_unwritten}
 use Rattle.spki_core.specs.Words.{algorithm_map, viewed_with, AreSpelled, record_under, viewed_held}
-use Rattle.pkcs1_params.specs.Words.{Refuses, with_parameters, Encoded}
+use Rattle.pkcs1_params.specs.Words.{Refuses, with_parameters, EncodingOfFields}
 use Rattle.pkcs1_params.specs.declared.error.Error.TheVariants as error
 use Rattle.pkcs1_params.proofs.Algorithms.{AlgorithmSpelled, algorithm_spelled, algorithm_valid, algorithm_written}
 use Rattle.pkcs1_params.proofs.Masks.{encodes_as, refuses_as}
@@ -17,7 +17,7 @@ returns-clause-written g c =
     let it = c.identified-algorithm in
     let identifier = subst (λ (a : Algorithm t.Params). IsIdentifier a.oid) it.ensures.means (viewed_held it.result.oid) in
     let made = c.in_ok-encode_into.ensures in
-    encodes_as (AlgorithmSpelled oid identifier t.form) (AlgorithmEncoding oid (Encoded t.Is t.fields_of))
+    encodes_as (AlgorithmSpelled oid identifier t.form) (AlgorithmEncoding oid (EncodingOfFields t.Is t.fields_of))
     (with_parameters oid v) v (algorithm_spelled oid identifier t.form v) c.args.out.now c.encode_into.new.out
     (Some c.in_ok-encode_into.field-0)
     (subst
@@ -40,7 +40,8 @@ returns-in_err-encode_into g c =
     λ a. IsAlgorithm (AreSpelled t.form.kinds) (algorithm_map (record_under t.form 0) a) in record {
       written =
           rw p.1
-          (encodes_as (AlgorithmSpelled oid identifier t.form) (AlgorithmEncoding oid (Encoded t.Is t.fields_of))
+          (encodes_as (AlgorithmSpelled oid identifier t.form)
+          (AlgorithmEncoding oid (EncodingOfFields t.Is t.fields_of))
           (with_parameters oid v) v (algorithm_spelled oid identifier t.form v) c.args.out.now
           c.encode_into.new.out None
           (subst
@@ -51,7 +52,8 @@ returns-in_err-encode_into g c =
           c.args.out.now _ (Err c.in_err-encode_into.field-0.0) tt tt told.err told.unchanged c.encode_into.auto.out)));
       err =
           rw (p.1, p.2)
-          (refuses_as (AlgorithmSpelled oid identifier t.form) (AlgorithmEncoding oid (Encoded t.Is t.fields_of))
+          (refuses_as (AlgorithmSpelled oid identifier t.form)
+          (AlgorithmEncoding oid (EncodingOfFields t.Is t.fields_of))
           (with_parameters oid v) v (algorithm_spelled oid identifier t.form v) Written (λ _. Unit {0})
           ((λ _. tt), (λ _. algorithm_valid oid identifier t.form v it.ensures.valid)) (length c.args.out.now) e
           (subst (λ a. Refuses Written (AlgorithmSpelled oid identifier t.form) a (length c.args.out.now) e)

@@ -1,5 +1,5 @@
 use Rattle.std.proofs.Common.{ℕ, List, ◌≡◌, ◌≤◌, length, length-append, sym, subst, ap, arith, refl}
-use Rattle.der_core.specs.Words.{tlv_recast, tlv_is, limit, AllocatesIn, Tlv}
+use Rattle.der_core.specs.Words.{tlv_recast, tlv_is, limit, AllocatesAtFront, Tlv}
 use Rattle.spki_core.specs.Words.{FieldRecord}
 use Rattle.pkcs1_params.proofs.Masks.{record_delimited}
 use Rattle.standard.specs.Statement.{Field, Fields, SequenceOf, sequence}
@@ -9,7 +9,7 @@ use Rattle.pkcs1_params.proofs.laws.lemma_bare_params_take_no_memory.Goals as go
 -- Of an encoding of bare parameters no beginning is one of others, so reading it asks for no memory.
 module _ {V : Type 0} {Is : V → Type 0} {fields : V → List Field} (r : FieldRecord Is fields) (IsBare : V → Type 0) where
   bare_asks_none : (v : V) (bytes : List ℕ) → SequenceOf Is fields Fields v bytes → IsBare v
-      → AllocatesIn (Tlv 48 (λ c. (w : V) × Is w × Fields (fields w) c × (IsBare w → ⊥))) bytes → ⊥
+      → AllocatesAtFront (Tlv 48 (λ c. (w : V) × Is w × Fields (fields w) c × (IsBare w → ⊥))) bytes → ⊥
   bare_asks_none v bytes encodes bare (b, rest, is, t) =
       let (w, ok, has, octets) = t.holds in
       let alone : Tlv 48 (λ c. c ≡ t.contents) b = tlv_recast b t refl in

@@ -1,6 +1,6 @@
 use Rattle.spki_core.proofs.RecordEncodings.{two_to_the_defaults}
 use Rattle.pkcs1_params.specs.Words.{pss_record}
-use Rattle.pkcs1_params.proofs.Masks.{accepted_fits, defaults_counted, each_has_one_mask, each_mask_has_one, record_delimited, same_by_shortest, shortest_has_no_defaults}
+use Rattle.pkcs1_params.proofs.Masks.{defaults_counted, each_has_mask_zero, each_has_one_mask, each_mask_has_one, record_delimited, same_by_shortest, shortest_has_no_defaults}
 use Rattle.standard.specs.Statement.{PssEncoding}
 use Rattle.pkcs1_params.proofs.laws.lemma_pss_spellings.Goals as goal
 
@@ -10,7 +10,7 @@ returns c = record {
   mask = each_has_one_mask pss_record;
   encoding = each_mask_has_one pss_record;
   shortest = shortest_has_no_defaults pss_record;
-  fits = accepted_fits pss_record;
+  fits = each_has_mask_zero pss_record;
   count = two_to_the_defaults pss_record;
   same = same_by_shortest PssEncoding (record_delimited pss_record);
 }

@@ -3,7 +3,7 @@ use Rattle.std.proofs.lemmas.Nat.{one_shl}
 use Rattle.der_core.specs.Words.{err_from_is_err_and, limit}
 use Rattle.spki_core.specs.Words.{FieldRecord, upto}
 use Rattle.spki_core.proofs.RecordEncodings.{default_count, default_count_only, default_count_there, encoding_under, encoding_under_fits, encoding_under_zero_shortest, encodings_are_all, full_longest, index_upto}
-use Rattle.pkcs1_params.specs.Words.{Encoded}
+use Rattle.pkcs1_params.specs.Words.{EncodingOfFields}
 use Rattle.pkcs1_params.proofs.Masks.{mask_in_range}
 use Rattle.standard.specs.Statement.{AreAll, Defaults, Field, IsShortest, longest}
 use Rattle.pkcs1_params.proofs.listing.all_spellings.Goals as goal
@@ -88,7 +88,7 @@ returns g c =
             (encodings_are_all t.form v c.lemma_is_valid.ensures fit),
       );
       shortest =
-          subst (IsShortest (Encoded t.Is t.fields_of) v) (sym first)
+          subst (IsShortest (EncodingOfFields t.Is t.fields_of) v) (sym first)
           (encoding_under_zero_shortest t.form v c.lemma_is_valid.ensures (encoding_under_fits t.form v 0 fit));
       fit = fit;
       err = tt;

@@ -1,5 +1,5 @@
 use Rattle.std.proofs.Common.{[], ◌∷◌, ◌∙◌, List, Ok}
-use Rattle.spki_core.proofs.Readings.{NoneRefused, default_accepted, field_meant, field_spelled, record_found, there}
+use Rattle.spki_core.proofs.Readings.{NoneRefused, default_accepted, field_meant, field_spelled, record_found, value_if_next}
 use Rattle.spki_core.specs.Words.{viewed_with, any_of, Kind, Spelling}
 use Rattle.pkcs1_params.specs.Words.{oaep_record, hash_kind, mask_kind, oaep_kinds, of_oaep_fields, source_kind}
 use Rattle.pkcs1_params.proofs.quick.quick_oaep.Goals as goal
@@ -14,8 +14,10 @@ returns c =
     let hash = viewed_with any_of c.in_ok-hash.hash in
     let mask = viewed_with (viewed_with any_of) c.in_ok-mask_gen.mask_gen in
     let source = viewed_with any_of c.in_ok-p_source.p_source in
-    let found : Spelling oaep_kinds =
-    (there hash_kind hash first, (there mask_kind mask second, (there source_kind source third, tt))) in
+    let found : Spelling oaep_kinds = (
+      value_if_next hash_kind hash first,
+      (value_if_next mask_kind mask second, (value_if_next source_kind source third, tt)),
+    ) in
     let read =
     field_spelled hash_kind (mask_kind ∷ behind) c.with_null-default.ensures c.new.ensures first second c.in_ok-hash.ensures _
     (field_spelled mask_kind behind c.mgf1_with-default.ensures c.new-2.ensures second third c.in_ok-mask_gen.ensures _

@@ -1,5 +1,5 @@
 use Rattle.std.proofs.Common.{[], ◌∷◌, ◌∙◌, List, Ok, refl}
-use Rattle.spki_core.proofs.Readings.{NoneRefused, default_accepted, field_meant, field_spelled, record_found, there}
+use Rattle.spki_core.proofs.Readings.{NoneRefused, default_accepted, field_meant, field_spelled, record_found, value_if_next}
 use Rattle.spki_core.specs.Words.{viewed_with, any_of, Kind, Spelling}
 use Rattle.pkcs1_params.specs.Words.{pss_record, hash_kind, mask_kind, of_pss_fields, pss_kinds, salt_kind, trailer_kind}
 use Rattle.pkcs1_params.proofs.quick.quick_pss.Goals as goal
@@ -16,8 +16,11 @@ returns c =
     let mask = viewed_with (viewed_with any_of) c.in_ok-mask_gen.mask_gen in
     let salt = c.in_ok-salt_len.salt_len in
     let found : Spelling pss_kinds = (
-      there hash_kind hash first,
-      (there mask_kind mask second, (there salt_kind salt third, (there trailer_kind 1 fourth, tt))),
+      value_if_next hash_kind hash first,
+      (
+        value_if_next mask_kind mask second,
+        (value_if_next salt_kind salt third, (value_if_next trailer_kind 1 fourth, tt)),
+      ),
     ) in
     let read =
     field_spelled hash_kind (mask_kind ∷ salt_kind ∷ last) c.with_null-default.ensures c.new.ensures first second c.in_ok-hash.ensures _

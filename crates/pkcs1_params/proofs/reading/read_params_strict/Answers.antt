@@ -2,7 +2,7 @@ use Rattle.std.proofs.Common.{arith, refl, Ok}
 use Rattle.der_core.specs.Words.{err_from_is_err_and, are_bytes}
 use Rattle.spki_core.proofs.StrictFields.{strict_errs}
 use Rattle.spki_core.specs.Words.{strict_whole}
-use Rattle.pkcs1_params.specs.Words.{ErrsAs}
+use Rattle.pkcs1_params.specs.Words.{AnswersAsn1}
 use Rattle.pkcs1_params.proofs.Faults.{asn1_as}
 use Rattle.pkcs1_params.proofs.UsualParameters.{record_whole_decodes, strict_whole_decodes}
 use Rattle.pkcs1_params.proofs.reading.read_params_strict.Goals as goal
@@ -36,7 +36,7 @@ returns-in_err-reject_defaults-clause-read g c =
     let bytes = are_bytes _ (λ i. omega (arith, c.type_inv.bytes i)) in
     let told = c.from_residual-in_err-reject_defaults in
     let p = err_from_is_err_and told.result told.ensures.1 in
-    let exact : ErrsAs t.params (strict_whole t.form c.args.bytes.now) told.result =
+    let exact : AnswersAsn1 t.params (strict_whole t.form c.args.bytes.now) told.result =
     rw (p.1, p.2) c.in_err-reject_defaults.ensures in
     strict_whole_decodes t.form _ t.params _ bytes exact
 

@@ -1,12 +1,12 @@
 use Rattle.std.proofs.Common.{◌≡◌, ◌≤◌, ℕ, ◌++◌, List, length}
-use Rattle.pkcs1_program.specs.Words.{Makes, lines_of}
+use Rattle.pkcs1_program.specs.Words.{MakesOutput, lines_of}
 use Rattle.pkcs1_program.proofs.filter.answer_lines.Given as goal
 
 -- the lines whose output was made, with those that are left, are all lines
 abbrev pub invariant-loop-rest : goal.invariant-loop-rest
 invariant-loop-rest g l = record {
   answered : (lines : List (List ℕ)) × (lines_of l.input ≡ lines ++ lines_of l.rest)
-      × Makes (g.W.Sink.contents l.fn.sink) (g.W.Sink.contents l.sink) l.held.items lines;
+      × MakesOutput (g.W.Sink.contents l.fn.sink) (g.W.Sink.contents l.sink) l.held.items lines;
   faults : g.W.Sink.failures l.sink ≡ g.W.Sink.failures l.fn.sink;
   within : length l.rest ≤ length l.input;
 }

@@ -2,7 +2,7 @@ use Rattle.std.proofs.Common.{◌≡◌, inr, sym, ◌∙◌, IsTrue, ◌↔◌}
 use Rattle.std.proofs.lemmas.Result.{on_ok_weaker}
 use Rattle.std.proofs.lemmas.Slice.Eq.{bytes_eq-Decides}
 use Rattle.pkcs1_params.proofs.Masks.{record_delimited, same_by_shortest}
-use Rattle.pkcs1_params.specs.Words.{Encoded}
+use Rattle.pkcs1_params.specs.Words.{EncodingOfFields}
 use Rattle.pkcs1_program.proofs.Verdicts.{verdict_of, verdict_says}
 use Rattle.pkcs1_program.proofs.parameter_answers.answer_same.Goals as goal
 
@@ -17,7 +17,8 @@ returns-in_ok-second_buffer-in-Some-Some g c =
     let other = c.shortest-other in
     let decides = bytes_eq-Decides again.result.now other.result.now in
     let law =
-    same_by_shortest (Encoded t.Is t.fields_of) (record_delimited t.form) v w c.args.first.now c.args.second.now
+    same_by_shortest (EncodingOfFields t.Is t.fields_of)
+    (record_delimited t.form) v w c.args.first.now c.args.second.now
     again.result.now other.result.now first second again.ensures other.ensures in
     let own : IsTrue c.eq.result ↔ (v ≡ w) =
     (λ so. law.1 (decides.0 (sym c.eq.ensures ∙ so)), λ same. c.eq.ensures ∙ decides.1 (law.0 same)) in

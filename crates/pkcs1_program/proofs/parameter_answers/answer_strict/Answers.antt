@@ -1,4 +1,4 @@
-use Rattle.pkcs1_params.specs.Words.{Encoded}
+use Rattle.pkcs1_params.specs.Words.{EncodingOfFields}
 use Rattle.pkcs1_program.proofs.AppendedOutput.{answer_put}
 use Rattle.pkcs1_program.proofs.Verdicts.{own_shortest, verdict_says}
 use Rattle.pkcs1_program.proofs.parameter_answers.answer_strict.Goals as goal
@@ -6,7 +6,7 @@ use Rattle.pkcs1_program.proofs.parameter_answers.answer_strict.Goals as goal
 pub returns-in-Some : goal.returns-in-Some
 returns-in-Some g c =
     let t = g.T.Parameters in
-    let E = Encoded t.Is t.fields_of in
+    let E = EncodingOfFields t.Is t.fields_of in
     let encoding = c.args.encoding.now in
     let v = t.params c.in-Some._params in
     let own = own_shortest E encoding c.is_strict.result v c.in-Some.ensures c.is_strict.ensures in

@@ -1,6 +1,6 @@
 use Rattle.der_core.specs.Words.{Spells, encode_error}
 use Rattle.pkcs1_params.proofs.Masks.{shortest_as}
-use Rattle.pkcs1_params.specs.Words.{Encoded}
+use Rattle.pkcs1_params.specs.Words.{EncodingOfFields}
 use Rattle.pkcs1_program.proofs.Verdicts.{is_written}
 use Rattle.pkcs1_program.proofs.shortest.shortest.Goals as goal
 
@@ -11,7 +11,8 @@ returns g c =
     let a = g.T.Parameters in
     let params = c.args.params.now in
     let is = c.in-Ok.ensures.shortest in
-    shortest_as (Spells t.valid t.printed t.means) (Encoded a.Is a.fields_of) (t.value params) (a.params params)
+    shortest_as (Spells t.valid t.printed t.means) (EncodingOfFields a.Is a.fields_of) (t.value params)
+    (a.params params)
     ((g.met.T.Parameters c.lifetimes claim).encodings_are params) c.in-Ok.shortest.now is
 
 pub unreachable-requires : goal.unreachable-requires

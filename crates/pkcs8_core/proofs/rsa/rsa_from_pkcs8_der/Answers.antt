@@ -2,8 +2,8 @@ use Rattle.std.proofs.Common.{arith, refl, rules}
 use Rattle.der_core.specs.Words.{are_bytes}
 use Rattle.spki_core.specs.Words.{identifier_octets}
 use Rattle.pkcs1.specs.Words.{held_view}
-use Rattle.pkcs1_params.proofs.Faults.{errs_behind, errs_decode}
-use Rattle.pkcs1_params.specs.Words.{ErrsAs}
+use Rattle.pkcs1_params.proofs.Faults.{answers_asn1_behind, answers_asn1_decode}
+use Rattle.pkcs1_params.specs.Words.{AnswersAsn1}
 use Rattle.pkcs8_core.proofs.ContainedKeys.{contained_keys_decode, viewed_in}
 use Rattle.pkcs8_core.specs.Words.{private_key_info, rsa_held, rsa_private_key_info, info_in}
 use Rattle.standard.specs.Statement.{ContainedKeyEncoding}
@@ -13,17 +13,20 @@ pub returns-clause-read : goal.returns-clause-read
 returns-clause-read c =
     let bytes = c.args.bytes.now in
     let are = are_bytes bytes (λ i. omega (arith, c.type_inv.bytes i)) in
-    let told = errs_behind held_view (private_key_info bytes) rsa_held (info_in identifier_octets c.in_ok-info.info)
+    let told =
+    answers_asn1_behind held_view (private_key_info bytes) rsa_held (info_in identifier_octets c.in_ok-info.info)
     c.in_ok-info.ensures.exact c.rsa_view.result c.rsa_view.ensures.exact in
-    errs_decode ContainedKeyEncoding bytes held_view (rsa_private_key_info bytes) (contained_keys_decode bytes are)
+    answers_asn1_decode ContainedKeyEncoding bytes held_view (rsa_private_key_info bytes)
+    (contained_keys_decode bytes are)
     c.rsa_view.result told
 
 pub returns-in_err-info-clause-read : goal.returns-in_err-info-clause-read
 returns-in_err-info-clause-read c =
     let bytes = c.args.bytes.now in
     let are = are_bytes bytes (λ i. omega (arith, c.type_inv.bytes i)) in
-    let told : ErrsAs held_view (rsa_private_key_info bytes) c.from_residual.result = search rules in
-    errs_decode ContainedKeyEncoding bytes held_view (rsa_private_key_info bytes) (contained_keys_decode bytes are)
+    let told : AnswersAsn1 held_view (rsa_private_key_info bytes) c.from_residual.result = search rules in
+    answers_asn1_decode ContainedKeyEncoding bytes held_view (rsa_private_key_info bytes)
+    (contained_keys_decode bytes are)
     c.from_residual.result told
 
 pub returns-clause-bytes : goal.returns-clause-bytes

@@ -1,13 +1,13 @@
 use Rattle.std.proofs.Common.{◌≡◌, [], ◌++◌, ◌≤◌, length, refl, sym, subst, ap, ◌∙◌, arith, append-nil}
-use Rattle.der_core.specs.Words.{Is, tlv_split, tlv_made, prints_one, tagged_law, tlv_short, object_identifier_tag, Tlv, tlv}
+use Rattle.der_core.specs.Words.{IsExactly, tlv_split, tlv_made, prints_one, tagged_law, tlv_short, object_identifier_tag, Tlv, tlv}
 use Rattle.spki_core.specs.Words.{oid_law}
 use Rattle.spki_core.proofs.algorithm_identifier.lemma_identifier_alone_takes_no_memory.Goals as goal
 
 pub returns : goal.returns
 returns g c oid encoding held same (b, rest, is, asks) =
     let few : length (tlv 6 oid) ≤ 167 = tlv_short 6 39 oid held.4 (omega arith) in
-    let alone : Tlv 48 (Is (tlv 6 oid)) encoding =
-    subst (Tlv 48 (Is (tlv 6 oid))) (sym same)
+    let alone : Tlv 48 (IsExactly (tlv 6 oid)) encoding =
+    subst (Tlv 48 (IsExactly (tlv 6 oid))) (sym same)
     (tlv_made 48 (tlv 6 oid) refl (omega (arith, tlv_short 48 167 (tlv 6 oid) few (omega arith)))) in
     let (_, _, _, c, only, (other, (front, last, (o, e, identifier, printed), (more, _), split))) =
     tlv_split encoding [] b rest alone asks (append-nil encoding ∙ is) in

@@ -3,7 +3,7 @@
 use Rattle.std.proofs.Common.{ℕ, List, [], ◌∷◌, ◌++◌, ◌≡◌, ◌<◌, ◌+◌, refl, sym, ap, ◌∙◌, arith, false, inl, inr, Some, None, ◌⊎◌, length, true, Bool, length-append, ◌/◌, if◌then◌else◌, Result, Ok, Err}
 use Rattle.std.proofs.lemmas.Bool.{cases_Bool}
 use Rattle.der_core.specs.Words.{nat_tests, optional_row_law, alone_law, end_law, tagged_law, ReadsPrinted, is_next, WritesShortest, ReadsAlike, ReadsFrontAlike, reading_alike, alone, made, ok_meant_front, no_parts, optional_front, ok_paired, row_alike, tagged, ◌>>=◌}
-use Rattle.spki_core.specs.FieldSpellings.{AreLawful, AreSpelled, AreValid, Kind, Spelling, Values, fields_of, spelling_means, one_spelled, spelled, spelling_read, tag_of, under, defaults, defaults_in, fields_with, octets_under, or_default, values_read}
+use Rattle.spki_core.specs.FieldSpellings.{AreLawful, AreSpelled, AreValid, Kind, Spelling, Values, fields_of, spelling_means, field_printed, spelling_printed, spelling_read, tag_of, spelling_under, number_of_defaults, defaults_in, fields_with, octets_under, or_default, values_read}
 use Rattle.standard.specs.Statement.{Fields}
 use Rattle.spki_core.specs.Laws.FieldSpellings.Masks.{by_field, under_means, under_valid}
 use Rattle.der_core.specs.declared.error.ErrorKind.{ErrorKind}
@@ -12,7 +12,7 @@ use Rattle.spki_core.specs.Laws.Readings.{explicit_is}
 use Rattle.spki_core.specs.Readings.{defaulted, explicit}
 
 pub spelled_not_next : (ks : List Kind) (n m : ℕ) → m < n → AreLawful n ks → (s : Spelling ks)
-    → is_next (160 + m) (spelled ks s) ≡ false
+    → is_next (160 + m) (spelling_printed ks s) ≡ false
 spelled_not_next [] n m less law s = refl
 spelled_not_next (k ∷ ks) n m less law (None, s) =
     spelled_not_next ks (k.number + 1) m (omega (arith, less, law.0)) law.4 s
@@ -20,7 +20,7 @@ spelled_not_next (k ∷ ks) n m less law (Some v, s) =
     let other : m < k.number = omega (arith, less, law.0) in grind (arith, nat_tests, other)
 
 pub spellings_law : (ks : List Kind) (n : ℕ) → AreLawful n ks
-    → ReadsPrinted (AreSpelled ks) (spelled ks) (spelling_read ks)
+    → ReadsPrinted (AreSpelled ks) (spelling_printed ks) (spelling_read ks)
 spellings_law [] n law = end_law
 spellings_law (k ∷ ks) n law =
     optional_row_law (tagged_law (alone_law law.1) (tag_of k)) (spellings_law ks (k.number + 1) law.4)
@@ -28,10 +28,11 @@ spellings_law (k ∷ ks) n law =
     (λ w ok. spelled_not_next ks (k.number + 1) k.number (omega arith) law.4 w)
 
 -- Spellings are what the standard calls fields.
-pub spelled_fields : (ks : List Kind) (s : Spelling ks) → Fields (fields_of ks (spelling_means ks s)) (spelled ks s)
+pub spelled_fields : (ks : List Kind) (s : Spelling ks)
+    → Fields (fields_of ks (spelling_means ks s)) (spelling_printed ks s)
 spelled_fields [] s = refl
 spelled_fields (k ∷ ks) (None, s) = inl (refl, spelled_fields ks s)
-spelled_fields (k ∷ ks) (Some v, s) = inr (spelled ks s, refl, spelled_fields ks s)
+spelled_fields (k ∷ ks) (Some v, s) = inr (spelling_printed ks s, refl, spelled_fields ks s)
 
 pub spelled_valid : (ks : List Kind) (n : ℕ) → AreLawful n ks → (s : Spelling ks) → AreSpelled ks s
     → AreValid ks (spelling_means ks s)
@@ -40,21 +41,21 @@ spelled_valid (k ∷ ks) n law (None, s) ok = (law.3, spelled_valid ks (k.number
 spelled_valid (k ∷ ks) n law (Some v, s) ok = (ok.0, spelled_valid ks (k.number + 1) law.4 s ok.1)
 
 pub fields_spelled : (ks : List Kind) (v : Values ks) (c : List ℕ) → Fields (fields_of ks v) c
-    → (s : Spelling ks) × (spelling_means ks s ≡ v) × (c ≡ spelled ks s) × (AreValid ks v → AreSpelled ks s)
+    → (s : Spelling ks) × (spelling_means ks s ≡ v) × (c ≡ spelling_printed ks s) × (AreValid ks v → AreSpelled ks s)
 fields_spelled [] v c p = (tt, refl, p, λ ok. tt)
 fields_spelled (k ∷ ks) (x, v) c (inl (d, p)) =
     let (s, e, is, ok) = fields_spelled ks v c p in
     ((None, s), (λ i. (sym d i, e i)), is, λ valid. (tt, ok valid.1))
 fields_spelled (k ∷ ks) (x, v) c (inr (later, is, p)) =
     let (s, e, same, ok) = fields_spelled ks v later p in
-    ((Some x, s), (λ i. (x, e i)), is ∙ ap (λ z. one_spelled k x ++ z) same, λ valid. (valid.0, ok valid.1))
+    ((Some x, s), (λ i. (x, e i)), is ∙ ap (λ z. field_printed k x ++ z) same, λ valid. (valid.0, ok valid.1))
 
 -- == The shortest spelling of fields with defaults leaves each default out ==
 
 -- Any spelling of the value is the one under mask 0, or longer.
 pub shortest_first : (ks : List Kind) (n : ℕ) → AreLawful n ks → (s : Spelling ks)
-    → (s ≡ under ks 0 (spelling_means ks s))
-    ⊎ (length (spelled ks (under ks 0 (spelling_means ks s))) < length (spelled ks s))
+    → (s ≡ spelling_under ks 0 (spelling_means ks s))
+    ⊎ (length (spelling_printed ks (spelling_under ks 0 (spelling_means ks s))) < length (spelling_printed ks s))
 shortest_first [] n law s = inl refl
 shortest_first (k ∷ ks) n law (None, s) =
     let is : k.is_default k.default ≡ true = (law.2 k.default).1 refl in
@@ -63,20 +64,26 @@ shortest_first (k ∷ ks) n law (None, s) =
       | inr l ↦ inr l
     ])
 shortest_first (k ∷ ks) n law (Some x, s) =
-    let front = length-append (one_spelled k x) in
+    let front = length-append (field_printed k x) in
     elim (cases_Bool (k.is_default x)) [
       | inl is ↦ rw is (inr (elim (shortest_first ks (k.number + 1) law.4 s) [
-        | inl e ↦ omega (arith, ap (λ z. length (spelled ks z)) e, front (spelled ks s))
-        | inr l ↦ omega (arith, l, front (spelled ks s))
+        | inl e ↦ omega (arith, ap (λ z. length (spelling_printed ks z)) e, front (spelling_printed ks s))
+        | inr l ↦ omega (arith, l, front (spelling_printed ks s))
       ]))
       | inr isnt ↦ rw isnt (elim (shortest_first ks (k.number + 1) law.4 s) [
         | inl e ↦ inl (λ i. (Some x, e i))
-        | inr l ↦ inr (omega (arith, l, front (spelled ks s), front (spelled ks (under ks 0 (spelling_means ks s)))))
+        | inr l ↦ inr (omega (
+          arith,
+          l,
+          front (spelling_printed ks s),
+          front
+              (spelling_printed ks (spelling_under ks 0 (spelling_means ks s))),
+        ))
       ])
     ]
 
 pub fields_shortest : (ks : List Kind) → AreLawful 0 ks
-    → WritesShortest (AreSpelled ks) (spelled ks) (spelling_means ks) (under ks 0)
+    → WritesShortest (AreSpelled ks) (spelling_printed ks) (spelling_means ks) (spelling_under ks 0)
 fields_shortest ks law = record {
   back = under_means ks 0 law 0;
   valid = λ s ok. under_valid ks 0 (spelling_means ks s) (spelled_valid ks 0 law s ok);
@@ -85,16 +92,16 @@ fields_shortest ks law = record {
 
 -- Fields as they are written, whatever their kinds are: what stands under a mask, and how many have their defaults.
 pub octets_spelled : (ks : List Kind) (mask : ℕ) (v : Values ks)
-    → octets_under mask (fields_with ks v) ≡ spelled ks (under ks mask v)
+    → octets_under mask (fields_with ks v) ≡ spelling_printed ks (spelling_under ks mask v)
 octets_spelled [] mask v = refl
 octets_spelled (k ∷ ks) mask (x, v) =
     let later = λ (m : ℕ). octets_spelled ks m v in
-    by_field k ks mask x v (λ s. octets_under mask (fields_with (k ∷ ks) (x, v)) ≡ spelled (k ∷ ks) s)
+    by_field k ks mask x v (λ s. octets_under mask (fields_with (k ∷ ks) (x, v)) ≡ spelling_printed (k ∷ ks) s)
     (λ is even. rw (is, even) (later (mask / 2)))
-    (λ is odd. rw (is, odd) (ap (λ z. one_spelled k x ++ z) (later (mask / 2))))
-    (λ isnt. rw isnt (ap (λ z. one_spelled k x ++ z) (later mask)))
+    (λ is odd. rw (is, odd) (ap (λ z. field_printed k x ++ z) (later (mask / 2))))
+    (λ isnt. rw isnt (ap (λ z. field_printed k x ++ z) (later mask)))
 
-pub defaults_same : (ks : List Kind) (v : Values ks) → defaults_in (fields_with ks v) ≡ defaults ks v
+pub defaults_same : (ks : List Kind) (v : Values ks) → defaults_in (fields_with ks v) ≡ number_of_defaults ks v
 defaults_same [] v = refl
 defaults_same (k ∷ ks) (x, v) = ap (λ n. if k.is_default x then n + 1 else n) (defaults_same ks v)
 

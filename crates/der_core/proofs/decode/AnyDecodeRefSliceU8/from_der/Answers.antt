@@ -1,5 +1,5 @@
 use Rattle.std.proofs.Common.{arith, rules, ℕ, List, Ok, Result}
-use Rattle.der_core.specs.Words.{Error, Tag, AreBytes, are_bytes, tagged_alike, tagged_law, front_reading_reads, Prints, ReadsAlike, ReadsPrinted, AllocatesIn, ReadsAll, Returns, Reading, tagged, whole, tlv}
+use Rattle.der_core.specs.Words.{Error, Tag, AreBytes, are_bytes, tagged_alike, tagged_law, front_reading_reads, Prints, ReadsAlike, ReadsPrinted, AllocatesAtFront, ReadsAll, Returns, Reading, tagged, whole, tlv}
 use Rattle.der_core.proofs.Readings.{whole_reads}
 use Rattle.der_core.proofs.ReadSteps.{whole_returned_reads_all}
 use Rattle.der_core.proofs.decode.AnyDecodeRefSliceU8.from_der.Goals as goal
@@ -9,7 +9,7 @@ whole_tagged_meant : {X S V : Type 0} (value : X → V) (tag : Tag) {valid : S �
     {spelling : Reading S}
     {means : S → V} {read : Reading V} → ReadsPrinted valid printed spelling → ReadsAlike spelling means read
     → (may : List ℕ → Type 0) (b : List ℕ) → AreBytes b → (r : Result X Error)
-    → Returns value (whole (tagged tag read) b) (AllocatesIn may b) r
+    → Returns value (whole (tagged tag read) b) (AllocatesAtFront may b) r
     → ReadsAll value (Prints valid (λ s. tlv tag.octet (printed s)) means) may r b
 whole_tagged_meant value tag {read = read} law alike may b bytes r exact =
     whole_returned_reads_all value (tagged tag read) b

@@ -40,7 +40,7 @@ use Rattle.der_core.specs.contracts.encode.Encode.encode_into as g
 use Rattle.der_core.proofs.encode.Encode.encode_into.Met.{met as writes}
 use Rattle.der_core.specs.contracts.encode.front as h
 use Rattle.der_core.specs.Words.{IsFront, LeavesRest, RefusedAs, Error, WhyNotWritten, Prints, Spells, encode_error}
-use Rattle.der_core.proofs.EncodeToSlice.{slice_rests_finally, Wrote, written_fits, front_refused, leaves_rest, front_holds, front_error_kept, front_within}
+use Rattle.der_core.proofs.EncodeToSlice.{slice_rests_finally, WroteOver, written_fits, front_refused, leaves_rest, front_has_encoding_property, front_error_kept, front_within}
 use Rattle.std.proofs.result.Result.TheLaws.{the_row_laws as result_laws}
 use denote.Param.Laws.{Laws, of_field}
 use denote.Param.Shared.{copy_shared}
@@ -146,7 +146,8 @@ encode_to_slice_spec 𝓤 𝓛 𝓜 𝓡 wired W L gh d gt dt met of_encoding =
     ((‵ (flft κ₀ qs.0) ⊛ ‵ (flft (α ∷ []) full_share) ⊛ ‵ (flft κ₂ qs.1.1.0) ⊛ ‵ ftrue)
     ⊛ ‵ (Count.own_val r (v ∷ [])))
     ⊛ some (λ (ws : Unit {0} × (List ℕ × Unit {0})). ‵ (lasts (g.ended W gh d gt dt) z.0.0 z.0.3 ws)
-    ⊛ given (Wrote encoding xs ws.1.0 r) (‵ ftrue) ⊛ given (OnOk r (IsShortest (Spells gt.valid gt.printed gt.means) value encoding)) (‵ ftrue)
+    ⊛ given (WroteOver encoding xs ws.1.0 r) (‵ ftrue) ⊛ given
+    (OnOk r (IsShortest (Spells gt.valid gt.printed gt.means) value encoding)) (‵ ftrue)
     ⊛ given (IfErr r Rejected) (‵ ftrue) ⊛ given (RefusedAs gh.refused r) (‵ ftrue)
     ⊛ given (OnErr r (ws.1.0 ≡ xs)) (‵ ftrue))))) (id⊢ 𝓤 _) $
     await ! tt $ pick ! (λ r. split ! $ split ! $ move ! (1 ∷ []) $
@@ -209,10 +210,12 @@ encode_to_slice_spec 𝓤 𝓛 𝓜 𝓡 wired W L gh d gt dt met of_encoding =
     use0 𝓛 (raw (fact 𝓤 F₄)) (fact_i 𝓤 F₄ (emp 𝓤) (front_error_kept ys Rejected r t rejected answered)) $ join ! $
     use0 𝓛 (raw (fact 𝓤 F₃)) (fact_i 𝓤 F₃ (emp 𝓤) (front_within encoding xs ys long r t answered)) $ join ! $
     use0 𝓛 (raw (fact 𝓤 F₂)) (fact_i 𝓤 F₂ (emp 𝓤)
-    (front_holds encoding xs ys (IsShortest (Spells gt.valid gt.printed gt.means) value encoding) (λ x. IsShortest (Spells gt.valid gt.printed gt.means) value x) (λ k. k)
+    (front_has_encoding_property encoding xs ys (IsShortest (Spells gt.valid gt.printed gt.means) value encoding)
+    (λ x. IsShortest (Spells gt.valid gt.printed gt.means) value x) (λ k. k)
     r t wrote least answered)) $ join ! $
     use0 𝓛 (raw (fact 𝓤 F₁)) (fact_i 𝓤 F₁ (emp 𝓤)
-    (front_holds encoding xs ys (IsShortest (Spells gt.valid gt.printed gt.means) value encoding) (λ x. x ≡ encoding) (λ _. refl) r t wrote least
+    (front_has_encoding_property encoding xs ys (IsShortest (Spells gt.valid gt.printed gt.means) value encoding)
+    (λ x. x ≡ encoding) (λ _. refl) r t wrote least
     answered)) $ join ! $ move ! (1 ∷ 0 ∷ []) $ join ! $
     nothing ! $ nothing ! $ fjoin ! $ nothing ! $ fjoin ! $ move ! (2 ∷ 0 ∷ 3 ∷ 1 ∷ []) $
     by ! (leaves 𝓛 En hs c y u t (tt, (tt, tt)) (tt, (tt, tt))))))))))))))))))))))))

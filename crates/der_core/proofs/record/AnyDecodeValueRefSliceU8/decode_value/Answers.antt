@@ -1,12 +1,12 @@
 use Rattle.der_core.specs.Words.{err_from_is_err_and}
-use Rattle.der_core.proofs.ReadSteps.{failure_carried, row_read_as}
+use Rattle.der_core.proofs.ReadSteps.{failure_of_same_faults, row_read_as}
 use Rattle.der_core.proofs.record.AnyDecodeValueRefSliceU8.decode_value.Goals as goal
 
 pub returns-in_err-parts : goal.returns-in_err-parts
 returns-in_err-parts g c =
     let p = err_from_is_err_and c.from_residual.result c.from_residual.ensures.1 in
     rw (p.1, p.2)
-    (failure_carried g.T.Parts.Contents.read g.T.Contents.read g.met.T.InParts.errs _ _ (λ b asks. asks) _ _ _
+    (failure_of_same_faults g.T.Parts.Contents.read g.T.Contents.read g.met.T.InParts.errs _ _ (λ b asks. asks) _ _ _
     c.in_err-parts.ensures)
 
 pub returns : goal.returns

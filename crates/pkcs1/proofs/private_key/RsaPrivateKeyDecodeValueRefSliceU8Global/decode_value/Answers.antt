@@ -1,6 +1,6 @@
 use Rattle.der_core.specs.Words.{err_from_is_err_and}
 use Rattle.pkcs1.specs.Words.{AllocatesInOthers, others_of}
-use Rattle.pkcs1.proofs.KeyReads.{key_gives, key_others_fail, version_and_numbers}
+use Rattle.pkcs1.proofs.KeyReads.{private_key_fails_at_others, private_key_gives, version_and_numbers}
 use Rattle.pkcs1.proofs.private_key.RsaPrivateKeyDecodeValueRefSliceU8Global.decode_value.Goals as goal
 
 pub returns-in_err-others : goal.returns-in_err-others
@@ -8,7 +8,7 @@ returns-in_err-others g c =
     let p = err_from_is_err_and c.from_residual-in_err-others.result c.from_residual-in_err-others.ensures.1 in
     let u = g.U.Encoding in
     let front = version_and_numbers u.value c.in_ok-version.version c.in_ok-version.numbers in
-    rw (p.1, p.2) (key_others_fail u.law u.reads_alike g.U.Decode.may_allocate
+    rw (p.1, p.2) (private_key_fails_at_others u.law u.reads_alike g.U.Decode.may_allocate
     (AllocatesInOthers u.valid u.printed u.means g.U.Decode.may_allocate) _ front _ _ _ _ c.requires
     (g.R.BytesLeft.bytes c.args.reader.now) c.in_ok-version.ensures c.in_err-others.ensures)
 
@@ -16,5 +16,6 @@ pub returns : goal.returns
 returns g c =
     let u = g.U.Encoding in
     let front = version_and_numbers u.value c.in_ok-version.version c.in_ok-version.numbers in
-    rw c.key_of.ensures (key_gives u.read_front front (others_of u.value c.in_ok-others.others) _ _ _ _ c.requires
+    rw c.key_of.ensures
+    (private_key_gives u.read_front front (others_of u.value c.in_ok-others.others) _ _ _ _ c.requires
     c.in_ok-version.ensures c.in_ok-others.ensures)

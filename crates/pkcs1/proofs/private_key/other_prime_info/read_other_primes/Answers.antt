@@ -6,7 +6,7 @@ use Rattle.std.specs.declared.vec.Vec.{Vec}
 use Rattle.der_core.specs.declared.error.ErrorKind.TheVariants as kind
 use Rattle.pkcs1.specs.declared.private_key.other_prime_info.OtherPrimeInfo.{OtherPrimeInfo}
 use Rattle.pkcs1.specs.Words.{AllocatesInOthers, OtherRow, other_of}
-use Rattle.pkcs1.proofs.OtherPrimeReads.{disagree_fails, empty_fails, more_fails, others_give}
+use Rattle.pkcs1.proofs.OtherPrimeReads.{bytes_behind_others_fail, disagree_fails, empty_fails, others_give}
 use Rattle.pkcs1.proofs.private_key.other_prime_info.read_other_primes.Goals as goal
 
 abbrev vec_primes : {U V : Type 0} → (U → V) → Vec (OtherPrimeInfo U) Global → List (OtherRow V)
@@ -40,7 +40,7 @@ pub returns-in_err-finish : goal.returns-in_err-finish
 returns-in_err-finish g c =
     let u = g.U.Encoding in
     let p = err_from_is_err_and c.from_residual-in_err-finish.result c.from_residual-in_err-finish.ensures.1 in
-    rw (p.1, p.2) (more_fails (vec_primes u.value) vec_count (vec_primes_counted u.value) u.read_front
+    rw (p.1, p.2) (bytes_behind_others_fail (vec_primes u.value) vec_count (vec_primes_counted u.value) u.read_front
     c.args.version (AllocatesInOthers u.valid u.printed u.means g.U.Decode.may_allocate) c.in_ok-others.others _ _ _
     c.in_ok-others.ensures c.is_multi.ensures c.is_some.ensures c.if-is_multi-is_some.false c.lists_none.ensures _
     c.if-lists_none.false c.in_err-finish.ensures)

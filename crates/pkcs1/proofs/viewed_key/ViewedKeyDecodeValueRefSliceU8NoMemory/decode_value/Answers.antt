@@ -1,18 +1,19 @@
 use Rattle.der_core.specs.Words.{err_from_is_err_and, bytes_of}
 use Rattle.std.proofs.Common.{option_map}
 use Rattle.pkcs1.specs.Words.{number_in, number_front, others_left}
-use Rattle.pkcs1.proofs.KeyReads.{key_gives, key_others_fault, version_and_numbers}
+use Rattle.pkcs1.proofs.KeyReads.{private_key_gives, version_and_numbers, viewed_key_fails_at_others}
 use Rattle.pkcs1.proofs.viewed_key.ViewedKeyDecodeValueRefSliceU8NoMemory.decode_value.Goals as goal
 
 pub returns-in_err-others : goal.returns-in_err-others
 returns-in_err-others g c =
     let p = err_from_is_err_and c.from_residual-in_err-others.result c.from_residual-in_err-others.ensures.1 in
     let front = version_and_numbers (number_in bytes_of) c.in_ok-version.version c.in_ok-version.numbers in
-    rw (p.1, p.2) (key_others_fault number_front _ front _ _ _ _ c.requires c.in_ok-version.ensures
+    rw (p.1, p.2) (viewed_key_fails_at_others number_front _ front _ _ _ _ c.requires c.in_ok-version.ensures
     c.in_err-others.ensures)
 
 pub returns : goal.returns
 returns g c =
     let front = version_and_numbers (number_in bytes_of) c.in_ok-version.version c.in_ok-version.numbers in
-    rw c.key_of.ensures (key_gives number_front front (option_map others_left c.in_ok-others.others) _ _ _ _ c.requires
+    rw c.key_of.ensures
+    (private_key_gives number_front front (option_map others_left c.in_ok-others.others) _ _ _ _ c.requires
     c.in_ok-version.ensures c.in_ok-others.ensures)

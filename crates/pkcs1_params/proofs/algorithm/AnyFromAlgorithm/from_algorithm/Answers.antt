@@ -4,7 +4,7 @@ use Rattle.spki_core.specs.Words.{any_of}
 use Rattle.spki_core.specs.declared.any.AnyRef.{AnyRef}
 use Rattle.pkcs1_params.specs.Words.{Identifies}
 use Rattle.pkcs1_params.proofs.Algorithms.{AreHeld, identified_decodes}
-use Rattle.pkcs1_params.proofs.Faults.{errs_decode}
+use Rattle.pkcs1_params.proofs.Faults.{answers_asn1_decode}
 use Rattle.standard.specs.Statement.{IfPresent}
 use Rattle.pkcs1_params.proofs.algorithm.AnyFromAlgorithm.from_algorithm.Goals as goal
 
@@ -16,5 +16,5 @@ pub returns-clause-read : goal.returns-clause-read
 returns-clause-read g c =
     let t = g.T.AlgorithmParams in
     let oid = g.T.Oid.AssociatedOid.contents in
-    errs_decode (Identifies oid t.Is t.fields_of) _ t.params _
+    answers_asn1_decode (Identifies oid t.Is t.fields_of) _ t.params _
     (identified_decodes t.form oid _ (parameters_are_held c.args.algorithm.now.parameters)) _ c.from_identifier.ensures

@@ -1,10 +1,10 @@
 use Rattle.std.proofs.Common.{arith, ap, subst}
 use Rattle.der_core.specs.Words.{err_from_is_err_and, are_bytes, value_in, ◌>>=◌}
 use Rattle.spki_core.specs.Words.{record_read}
-use Rattle.pkcs1_params.specs.Words.{identified, Encoded}
+use Rattle.pkcs1_params.specs.Words.{identified, EncodingOfFields}
 use Rattle.pkcs1_params.proofs.Algorithms.{algorithm_decodes}
 use Rattle.der_core.proofs.ReadSteps.{fault_without_memory}
-use Rattle.pkcs1_params.proofs.Faults.{errs_behind, errs_decode}
+use Rattle.pkcs1_params.proofs.Faults.{answers_asn1_behind, answers_asn1_decode}
 use Rattle.pkcs1_params.proofs.ParameterReads.{plain_never}
 use Rattle.standard.specs.Statement.{AlgorithmEncoding, Decodes}
 use Rattle.pkcs1_params.proofs.algorithm.AnyFromAlgorithm.from_algorithm_der.Goals as goal
@@ -17,7 +17,7 @@ returns-in_err-algorithm-clause-read g c =
     let p = err_from_is_err_and c.from_residual.result c.from_residual.ensures.1 in
     let fault = fault_without_memory (λ w. plain_never _ w.3) c.in_err-algorithm.ensures.exact in
     rw p.1
-    (subst (λ x. Decodes (AlgorithmEncoding oid (Encoded t.Is t.fields_of)) c.args.bytes.now (value_in x))
+    (subst (λ x. Decodes (AlgorithmEncoding oid (EncodingOfFields t.Is t.fields_of)) c.args.bytes.now (value_in x))
     (ap (λ x. x >>= identified oid (record_read t.form)) fault)
     (algorithm_decodes oid g.T.Oid.AssociatedOid.valid t.form _ bytes))
 
@@ -26,7 +26,7 @@ returns-clause-read g c =
     let t = g.T.AlgorithmParams in
     let oid = g.T.Oid.AssociatedOid.contents in
     let bytes = are_bytes _ (λ i. omega (arith, c.type_inv.bytes i)) in
-    errs_decode (AlgorithmEncoding oid (Encoded t.Is t.fields_of)) _ t.params _
+    answers_asn1_decode (AlgorithmEncoding oid (EncodingOfFields t.Is t.fields_of)) _ t.params _
     (algorithm_decodes oid g.T.Oid.AssociatedOid.valid t.form _ bytes) _
-    (errs_behind t.params _ (identified oid (record_read t.form)) _ c.in_ok-algorithm.ensures.exact _
+    (answers_asn1_behind t.params _ (identified oid (record_read t.form)) _ c.in_ok-algorithm.ensures.exact _
     c.from_identifier.ensures)

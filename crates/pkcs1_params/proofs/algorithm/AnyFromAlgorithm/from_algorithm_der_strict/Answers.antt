@@ -1,8 +1,8 @@
 use Rattle.std.proofs.Common.{arith}
 use Rattle.der_core.specs.Words.{are_bytes}
-use Rattle.pkcs1_params.specs.Words.{Encoded}
+use Rattle.pkcs1_params.specs.Words.{EncodingOfFields}
 use Rattle.pkcs1_params.proofs.Algorithms.{strict_algorithm_decodes}
-use Rattle.pkcs1_params.proofs.Faults.{errs_decode}
+use Rattle.pkcs1_params.proofs.Faults.{answers_asn1_decode}
 use Rattle.standard.specs.Statement.{AlgorithmEncoding, IsShortest}
 use Rattle.pkcs1_params.proofs.algorithm.AnyFromAlgorithm.from_algorithm_der_strict.Goals as goal
 
@@ -11,5 +11,5 @@ returns-clause-read g c =
     let t = g.T.AlgorithmParams in
     let oid = g.T.Oid.AssociatedOid in
     let bytes = are_bytes _ (λ i. omega (arith, c.type_inv.bytes i)) in
-    errs_decode (IsShortest (AlgorithmEncoding oid.contents (Encoded t.Is t.fields_of))) _ t.params _
+    answers_asn1_decode (IsShortest (AlgorithmEncoding oid.contents (EncodingOfFields t.Is t.fields_of))) _ t.params _
     (strict_algorithm_decodes oid.contents oid.valid t.form _ bytes) _ c.from_identifier_strict.ensures

@@ -1,8 +1,8 @@
 use Rattle.std.proofs.Common.{◌≡◌, rules, subst, sym}
 use Rattle.der_core.specs.Words.{are_bytes, bytes_of}
 use Rattle.pkcs1.specs.Words.{MayAllocate, held_private_key}
-use Rattle.pkcs1_params.specs.Words.{ErrsOrAsks}
-use Rattle.pkcs8_core.proofs.ContainedKeys.{asked_held, held_err, held_ok}
+use Rattle.pkcs1_params.specs.Words.{AnswersAsn1OrAsks}
+use Rattle.pkcs8_core.proofs.ContainedKeys.{rsa_held_asked, rsa_held_err, rsa_held_ok}
 use Rattle.pkcs8_core.specs.Words.{rsa_held, info_in, rsa_encryption}
 use Rattle.standard.specs.Statement.{PrivateKeyEncoding}
 use Rattle.pkcs8_core.proofs.info.PrivateKeyInfoOf.rsa_key.Goals as goal
@@ -10,25 +10,26 @@ use Rattle.pkcs8_core.proofs.info.PrivateKeyInfoOf.rsa_key.Goals as goal
 pub returns-clause-ok : goal.returns-clause-ok
 returns-clause-ok g c =
     let info = info_in g.O.IdentifierValue.octets c.args.self.now in
-    let told = asked_held (held_private_key bytes_of) info c.as_bytes.result.now c.as_bytes.ensures.octets
+    let told = rsa_held_asked (held_private_key bytes_of) info c.as_bytes.result.now c.as_bytes.ensures.octets
     c.in_ok-require_rsa_encryption.ensures.ok c.decode_key.result c.decode_key.ensures.exact in
-    held_ok (held_private_key bytes_of) info (are_bytes info.private_key c.args.self.now.private_key.octets) _
+    rsa_held_ok (held_private_key bytes_of) info (are_bytes info.private_key c.args.self.now.private_key.octets) _
     c.decode_key.result told
 
 pub returns-clause-err : goal.returns-clause-err
 returns-clause-err g c =
     let info = info_in g.O.IdentifierValue.octets c.args.self.now in
-    let told = asked_held (held_private_key bytes_of) info c.as_bytes.result.now c.as_bytes.ensures.octets
+    let told = rsa_held_asked (held_private_key bytes_of) info c.as_bytes.result.now c.as_bytes.ensures.octets
     c.in_ok-require_rsa_encryption.ensures.ok c.decode_key.result c.decode_key.ensures.exact in
-    held_err (held_private_key bytes_of) info (are_bytes info.private_key c.args.self.now.private_key.octets) _
+    rsa_held_err (held_private_key bytes_of) info (are_bytes info.private_key c.args.self.now.private_key.octets) _
     c.decode_key.result told
 
 pub returns-in_err-require_rsa_encryption-clause-err : goal.returns-in_err-require_rsa_encryption-clause-err
 returns-in_err-require_rsa_encryption-clause-err g c =
     let info = info_in g.O.IdentifierValue.octets c.args.self.now in
     let asked : Type 0 = (info.algorithm ≡ rsa_encryption) × MayAllocate info.private_key in
-    let told : ErrsOrAsks (held_private_key bytes_of) (rsa_held info) asked c.from_residual.result = search rules in
-    held_err (held_private_key bytes_of) info (are_bytes info.private_key c.args.self.now.private_key.octets) asked
+    let told : AnswersAsn1OrAsks (held_private_key bytes_of) (rsa_held info) asked c.from_residual.result =
+    search rules in
+    rsa_held_err (held_private_key bytes_of) info (are_bytes info.private_key c.args.self.now.private_key.octets) asked
     c.from_residual.result told
 
 pub returns-clause-two_primes : goal.returns-clause-two_primes

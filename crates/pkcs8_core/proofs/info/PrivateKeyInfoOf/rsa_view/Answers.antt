@@ -1,26 +1,26 @@
 use Rattle.std.proofs.Common.{rules, subst, sym}
 use Rattle.der_core.specs.Words.{are_bytes}
 use Rattle.pkcs1.specs.Words.{held_view}
-use Rattle.pkcs1_params.proofs.Faults.{errs_decode}
-use Rattle.pkcs1_params.specs.Words.{ErrsAs}
-use Rattle.pkcs8_core.proofs.ContainedKeys.{contained_decode, read_held}
+use Rattle.pkcs1_params.proofs.Faults.{answers_asn1_decode}
+use Rattle.pkcs1_params.specs.Words.{AnswersAsn1}
+use Rattle.pkcs8_core.proofs.ContainedKeys.{contained_decode, rsa_held_read}
 use Rattle.pkcs8_core.specs.Words.{rsa_held, info_in, ContainedKey}
 use Rattle.pkcs8_core.proofs.info.PrivateKeyInfoOf.rsa_view.Goals as goal
 
 pub returns-clause-read : goal.returns-clause-read
 returns-clause-read g c =
     let info = info_in g.O.IdentifierValue.octets c.args.self.now in
-    let told = subst (λ given. ErrsAs held_view given c.try_from.result)
-    (sym (read_held info c.as_bytes.result.now c.as_bytes.ensures.octets c.in_ok-require_rsa_encryption.ensures.ok))
+    let told = subst (λ given. AnswersAsn1 held_view given c.try_from.result)
+    (sym (rsa_held_read info c.as_bytes.result.now c.as_bytes.ensures.octets c.in_ok-require_rsa_encryption.ensures.ok))
     c.try_from.ensures.exact in
-    errs_decode (ContainedKey info) info.private_key held_view (rsa_held info)
+    answers_asn1_decode (ContainedKey info) info.private_key held_view (rsa_held info)
     (contained_decode info info.private_key (are_bytes info.private_key c.args.self.now.private_key.octets))
     c.try_from.result told
 
 pub returns-in_err-require_rsa_encryption-clause-read : goal.returns-in_err-require_rsa_encryption-clause-read
 returns-in_err-require_rsa_encryption-clause-read g c =
     let info = info_in g.O.IdentifierValue.octets c.args.self.now in
-    let told : ErrsAs held_view (rsa_held info) c.from_residual.result = search rules in
-    errs_decode (ContainedKey info) info.private_key held_view (rsa_held info)
+    let told : AnswersAsn1 held_view (rsa_held info) c.from_residual.result = search rules in
+    answers_asn1_decode (ContainedKey info) info.private_key held_view (rsa_held info)
     (contained_decode info info.private_key (are_bytes info.private_key c.args.self.now.private_key.octets))
     c.from_residual.result told

@@ -4,7 +4,7 @@ use Rattle.der_core.proofs.Writing.{encode_into_encodes, encode_into_unwritten}
 use Rattle.der_core.specs.declared.error.ErrorKind.TheVariants as kind
 use Rattle.pkcs1.specs.Words.{IsPrivateKey, PrivateIsWritten, PrivateSpells, held_private_key, private_key_with, private_shortest}
 use Rattle.pkcs1.proofs.NumberKeys.{number_key_encodes, number_key_written}
-use Rattle.pkcs1_params.proofs.Masks.{encodes_as, unwritten_carried}
+use Rattle.pkcs1_params.proofs.Masks.{encodes_as, unwritten_of_same_encodings}
 use Rattle.standard.specs.Statement.{PrivateKeyEncoding}
 use Rattle.pkcs1.proofs.private_key.der.RsaPrivateKey+U.encode_key.Goals as goal
 
@@ -43,7 +43,7 @@ returns-in_err-encode_into-clause-err g c =
     let number = g.U.AsUintRef.number in
     let law = g.met.U.UintEncoding.encodes_number in
     let p = err_from_is_err_and c.from_residual.result c.from_residual.ensures.1 in
-    rw (p.1, p.2) (unwritten_carried (PrivateSpells e.valid e.printed e.means) PrivateKeyEncoding
+    rw (p.1, p.2) (unwritten_of_same_encodings (PrivateSpells e.valid e.printed e.means) PrivateKeyEncoding
     (private_key_with e.value key) (held_private_key number key)
     (number_key_encodes e.valid e.printed e.means e.value number law e.shortest key)
     (PrivateIsWritten e.valid e.written) IsPrivateKey

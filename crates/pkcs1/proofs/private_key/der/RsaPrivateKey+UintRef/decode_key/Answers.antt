@@ -1,6 +1,6 @@
 use Rattle.std.proofs.Common.{arith}
 use Rattle.der_core.specs.Words.{err_from_is_err_and, are_bytes}
-use Rattle.pkcs1.specs.Words.{number_front, private_decodes, private_key, private_stated}
+use Rattle.pkcs1.specs.Words.{number_front, private_decodes, private_stated, whole_private_key}
 use Rattle.pkcs1.proofs.KeyReads.{made_reading_faulty, made_reading_ok, private_tells, read_rejected, reading_decodes_some}
 use Rattle.pkcs1.proofs.KeyMemory.{borrowed_ask, borrowed_key_asks, faulty_as, two_primes_read}
 use Rattle.standard.specs.Statement.{PrivateKeyEncoding}
@@ -8,17 +8,18 @@ use Rattle.pkcs1.proofs.private_key.der.RsaPrivateKey+UintRef.decode_key.Goals a
 
 pub returns-clause-exact : goal.returns-clause-exact
 returns-clause-exact c =
-    made_reading_ok private_stated (private_key number_front) c.args.bytes.now _ c.in_ok-from_der.ensures.exact
+    made_reading_ok private_stated (whole_private_key number_front) c.args.bytes.now _ c.in_ok-from_der.ensures.exact
 
 pub returns-clause-ok : goal.returns-clause-ok
 returns-clause-ok c =
-    reading_decodes_some private_stated (private_key number_front) PrivateKeyEncoding private_decodes c.args.bytes.now
+    reading_decodes_some private_stated
+    (whole_private_key number_front) PrivateKeyEncoding private_decodes c.args.bytes.now
     (are_bytes c.args.bytes.now (λ i. omega (arith, c.type_inv.bytes i))) _ c.in_ok-from_der.ensures.exact
 
 pub returns-in_err-from_der-clause-err : goal.returns-in_err-from_der-clause-err
 returns-in_err-from_der-clause-err c =
     let p = err_from_is_err_and c.from_residual.result c.from_residual.ensures.1 in
-    rw (p.1, p.2) (read_rejected private_stated (private_key number_front) PrivateKeyEncoding private_decodes
+    rw (p.1, p.2) (read_rejected private_stated (whole_private_key number_front) PrivateKeyEncoding private_decodes
     c.args.bytes.now
     (are_bytes c.args.bytes.now (λ i. omega (arith, c.type_inv.bytes i))) private_tells _ _
     (faulty_as borrowed_key_asks _ _ c.in_err-from_der.ensures.exact))
@@ -30,5 +31,5 @@ returns-in_err-from_der-clause-two_primes c key two encoded =
 pub returns-in_err-from_der-clause-exact : goal.returns-in_err-from_der-clause-exact
 returns-in_err-from_der-clause-exact c =
     let p = err_from_is_err_and c.from_residual.result c.from_residual.ensures.1 in
-    rw (p.1, p.2) (made_reading_faulty private_stated (private_key number_front) c.args.bytes.now _ _
+    rw (p.1, p.2) (made_reading_faulty private_stated (whole_private_key number_front) c.args.bytes.now _ _
     (faulty_as borrowed_key_asks _ _ c.in_err-from_der.ensures.exact))

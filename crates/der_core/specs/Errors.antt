@@ -1,9 +1,15 @@
--- What is printed of an error.
-use Rattle.std.specs.Prelude.{ℕ, ◌/◌, ◌%◌, List, [], ◌∷◌, ◌++◌, codes, false}
+-- Errors: which are of files, and what is printed of one.
+use Rattle.std.specs.Prelude.{◌≡◌, ℕ, ◌/◌, ◌%◌, List, [], ◌∷◌, ◌++◌, codes, false}
+use Rattle.der_core.specs.declared.error.Error.{Error}
+use Rattle.der_core.specs.declared.error.ErrorKind.TheVariants.{File}
 use Rattle.std.specs.Fmt.{digit_glyph}
 use Rattle.der_core.specs.declared.tag.Tag.{Tag}
 use Rattle.der_core.specs.declared.error.ErrorKind.{ErrorKind}
 use Rattle.der_core.specs.declared.error.ErrorKind.TheVariants as kind
+
+-- a call of a file, a source or a sink failed
+abbrev pub IsFile : Error → Type 0
+IsFile error = error.kind ≡ File
 
 -- 0x and two lower-case hexadecimal digits
 abbrev pub octet_text : ℕ → List ℕ
