@@ -53,9 +53,9 @@ module _ {V : Type 0} (at : FrontReading V) where
       ap (λ r. r >>= λ q. made (eight_numbers_before q.0.1) (others_read at q.0.0) q.1) g.1
       ∙ ap (λ r. r >>= λ o. Ok (eight_numbers_before front.1 o)) (rw g.2 at fault)
 
-  nothing_asked : (i : Input) → InputAllocates (λ _. ⊥) i → ⊥
-  nothing_asked None asked = asked
-  nothing_asked (Some i) asked = asked
+  input_allocates_nothing : (i : Input) → InputAllocates (λ _. ⊥) i → ⊥
+  input_allocates_nothing None asked = asked
+  input_allocates_nothing (Some i) asked = asked
 
   -- The same where no memory is asked for.
   pub viewed_key_fails_at_others : (e : ErrorKind) (front : ℕ × EightNumbersThen V (Unit {0}))
@@ -64,7 +64,7 @@ module _ {V : Type 0} (at : FrontReading V) where
       → ReadingFails (others_read at front.0) (λ _. ⊥) e mid after
       → ReadingFails (private_key_read at) (λ _. ⊥) e before after
   viewed_key_fails_at_others e front None mid after n holds gives fails = absurd holds
-  viewed_key_fails_at_others e front (Some i) mid after n holds gives (failed, inl w) = absurd (nothing_asked mid w.1)
+  viewed_key_fails_at_others e front (Some i) mid after n holds gives (failed, inl w) = absurd (input_allocates_nothing mid w.1)
   viewed_key_fails_at_others e front (Some i) mid after n holds gives (failed, inr f) =
       (failed, inr (private_key_fault_at_others e front i mid gives f))
 
