@@ -2,3 +2,4 @@ pub mod Signature
 pub mod Salt
 pub mod Numbers
 pub mod KeyStore
+pub mod SpkiKeys
