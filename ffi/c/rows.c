@@ -1,7 +1,7 @@
 /* The worked rows whose word is a kind. Decoding has the status that follows from a row. An error leaves the struct
  * unchanged. An accepted value is encoded again, as the row says. It is also encoded with too little room and with
- * more, and with each of its fields empty. Each field points to where it stands in the input. The rows of questions about
- * two values too. */
+ * more, and with each of its fields empty. Each field points to where it stands in the input. The rows that ask whether
+ * two values mean the same, too. */
 #include "test.h"
 #include <string.h>
 

@@ -229,8 +229,8 @@ struct pkcs1_algorithm {
  * (RFC 4055 2.1), and both are met. */
 bool pkcs1_algorithm_is(const struct pkcs1_algorithm *algorithm, const struct pkcs1_bytes *oid);
 
-/* Whether both are the same hash function: the identifiers are equal, and so are the parameters, where NULL and none are
- * alike. Whether they can be encoded isn't looked at. */
+/* Whether both are the same hash function: the identifiers are equal, and so are the parameters, where NULL and none
+ * are alike. Whether they can be encoded isn't looked at. */
 bool pkcs1_algorithm_is_same_hash(const struct pkcs1_algorithm *left, const struct pkcs1_algorithm *right);
 
 /* A mask generation function, whose parameters are the AlgorithmIdentifier of a hash function, or absent. If they are
@@ -273,8 +273,8 @@ bool pkcs1_pss_is(const struct pkcs1_pss_params *params, const struct pkcs1_byte
 /* The same of parameters of RSAES-OAEP. */
 bool pkcs1_oaep_is(const struct pkcs1_oaep_params *params, const struct pkcs1_bytes *hash);
 
-/* Whether both mean the same: all fields are equal, but for hash functions, which are compared as by
- * pkcs1_algorithm_is_same_hash, that of the mask generation function too. Whether they can be encoded isn't looked at. */
+/* Whether both mean the same: all fields are equal, but that hash functions, that of the mask generation function too,
+ * are compared by pkcs1_algorithm_is_same_hash. Whether they can be encoded isn't looked at. */
 bool pkcs1_pss_means_same(const struct pkcs1_pss_params *left, const struct pkcs1_pss_params *right);
 
 /* The same of parameters of RSAES-OAEP. In a source NULL and no parameters aren't alike. */

@@ -58,7 +58,7 @@ bool pkcs1_c_algorithm_is(const struct pkcs1_algorithm *algorithm, const struct 
 bool pkcs1_c_uses_hash(const struct pkcs1_algorithm *hash, const struct pkcs1_mask_gen *mask_gen,
                        const struct pkcs1_bytes *oid);
 
-/* Whether both are the same hash function, or mean the same, where NULL and no parameters of a hash function are alike. */
+/* Whether both are the same hash function, or mean the same. NULL and no parameters of a hash function are alike. */
 bool pkcs1_c_algorithm_is_same_hash(const struct pkcs1_algorithm *left, const struct pkcs1_algorithm *right);
 bool pkcs1_c_pss_means_same(const struct pkcs1_pss_params *left, const struct pkcs1_pss_params *right);
 bool pkcs1_c_oaep_means_same(const struct pkcs1_oaep_params *left, const struct pkcs1_oaep_params *right);
