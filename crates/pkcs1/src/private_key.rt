@@ -1,5 +1,5 @@
 //! RSA private keys.
-ghost use Rattle.std.specs.Prelude.{◌≡◌, ◌↔◌, ◌⊎◌, ⊤, IsSome, IsErrAnd, refl};
+ghost use Rattle.std.specs.Prelude.{◌≡◌, ◌↔◌, ◌⊎◌, ⊤, IsSome, IsErrAnd};
 ghost use Rattle.der_core.specs.Words.{Appends, Counts, RefusedAs, bytes_of, sequence_tag};
 ghost use Rattle.pkcs1.specs.Words.{AllocatesForKey, ListsNone, PrivateIsValid, PrivateRow, held_private_key, held_public_key, private_alike, private_as, private_key_read, private_key_with, private_law, private_printed, private_shortest, public_part};
 
@@ -12,8 +12,8 @@ use crate::public_key::{RsaPublicKey, RsaPublicKeyRef};
 use crate::version::Version;
 use der_core::{
     BackWriter, Contents, Decode, DecodeFront, DecodeValue, Encode, EncodeValue, Encoding,
-    ErrorKind, Header, Length, Reader, Result, Sequence, SequenceTag, Tag, TaggedBy, Uint,
-    UintEncoding, UintRef, Writer, quick_contents,
+    ErrorKind, Header, Length, Reader, Result, SequenceTag, Tag, TaggedBy, Uint, UintEncoding,
+    UintRef, Writer, quick_contents,
 };
 use other_prime_info::{OtherPrimeInfos, lists_none, quick_other_primes, read_other_primes};
 use std::alloc::{AllocError, Global};

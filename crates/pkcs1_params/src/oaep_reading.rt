@@ -17,8 +17,7 @@ use crate::reading::AlgorithmParams;
 use crate::strict;
 use crate::usual::usual_oaep;
 use der_core::{
-    ContentsAskNone, DecodeValue, Header, Memory, NoMemory, Reader, Tag, TagNumber, quick_short,
-    read_borrowed,
+    DecodeValue, Header, Memory, NoMemory, Reader, Tag, TagNumber, quick_short, read_borrowed,
 };
 use spki_core::{AnyRef, read_field};
 
@@ -63,10 +62,6 @@ impl<'a, O: ReadParams<'a>> AlgorithmParams<'a> for OaepParamsOf<O, AnyRef<'a>> 
     fn reject_defaults(&self, encoding: &[u8]) -> Result<()> {
         strict::reject_defaults(self, encoding)
     }
-}
-
-impl<'a, O: ReadParams<'a>> ContentsAskNone<&'a [u8]> for OaepParamsOf<O, AnyRef<'a>> {
-    ghost contents_ask_none = { λ c no. no };
 }
 
 impl<'a, M: Memory, O: ReadParams<'a>> DecodeValue<&'a [u8], M> for OaepParamsOf<O, AnyRef<'a>> {

@@ -13,7 +13,7 @@ use crate::reading::{read_params, read_params_strict};
 use crate::spelling::non_defaults_in;
 use crate::trailer_field::TrailerField;
 use der_core::{
-    BackWriter, Contents, EncodeValue, EqualByValue, ErrorKind, Length, Memory, NoMemory, Sequence,
+    BackWriter, Contents, EncodeValue, EqualByValue, ErrorKind, Length, Memory, NoMemory,
     SequenceTag, TaggedBy, TryClone, Writer,
 };
 use spki_core::{

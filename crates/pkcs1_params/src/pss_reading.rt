@@ -17,8 +17,7 @@ use crate::strict;
 use crate::trailer_field::TrailerField;
 use crate::usual::{accept_salt, usual_pss, usual_salt};
 use der_core::{
-    ContentsAskNone, DecodeValue, Header, Memory, NoMemory, Reader, Tag, TagNumber, quick_short,
-    read_borrowed,
+    DecodeValue, Header, Memory, NoMemory, Reader, Tag, TagNumber, quick_short, read_borrowed,
 };
 use spki_core::{AnyRef, read_field};
 
@@ -68,10 +67,6 @@ impl<'a, O: ReadParams<'a>> AlgorithmParams<'a> for PssParamsOf<O, AnyRef<'a>> {
     fn reject_defaults(&self, encoding: &[u8]) -> Result<()> {
         strict::reject_defaults(self, encoding)
     }
-}
-
-impl<'a, O: ReadParams<'a>> ContentsAskNone<&'a [u8]> for PssParamsOf<O, AnyRef<'a>> {
-    ghost contents_ask_none = { λ c no. no };
 }
 
 impl<'a, M: Memory, O: ReadParams<'a>> DecodeValue<&'a [u8], M> for PssParamsOf<O, AnyRef<'a>> {

@@ -1,5 +1,5 @@
 //! PKCS #8 containers of private keys.
-ghost use Rattle.std.specs.Prelude.{◌≡◌, ⊤, ℕ, List, length, IfErr, refl, option_map};
+ghost use Rattle.std.specs.Prelude.{◌≡◌, ⊤, ℕ, List, length, IfErr, option_map};
 ghost use Rattle.der_core.specs.Words.{Answers, AreBytes, Excludes, reading_alike, encode_error, itself_once, made_errs, ok_of, one_spelling_shortest, value_in, Unwritten};
 ghost use Rattle.pkcs8_core.specs.Words.{Container, IsContainer, attributes_of, container_law, container_printed, info_in, info_of, info_read, of_info_parts, private_key_info, rsa_private_key_info, slice_now};
 ghost use Rattle.pkcs8_core.specs.declared.info.PrivateKeyInfoOf as containers;
@@ -8,8 +8,8 @@ ghost use Rattle.standard.specs.Statement.{AtMostOne, ContainedKeyEncoding, Cont
 use crate::attributes::Attributes;
 use pkcs1::der::{
     BackWriter, Borrowed, Contents, Decode, Encode, EncodeInParts, EncodeValue, Error, Expected,
-    InParts, Last, LastByTag, Length, Memory, OctetStringRef, Result, Sequence, SequenceTag,
-    TaggedBy, Writer, read_borrowed,
+    InParts, Last, LastByTag, Length, Memory, OctetStringRef, Result, SequenceTag, TaggedBy,
+    Writer, read_borrowed,
 };
 use pkcs1::spki::{
     AlgorithmIdentifierOf, AnyRef, IdentifierValue, IdentifierView, ObjectIdentifier,

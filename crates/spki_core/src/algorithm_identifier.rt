@@ -1,5 +1,5 @@
 //! Algorithm identifiers (RFC 5280 4.1.1.2).
-ghost use Rattle.std.specs.Prelude.{◌≡◌, ◌≢◌, refl, IfOk, IfErr, IfSome, IsOk, option_map, Some, None, Decides};
+ghost use Rattle.std.specs.Prelude.{◌≡◌, ◌≢◌, IfOk, IfErr, IfSome, IsOk, option_map, Some, None, Decides};
 ghost use Rattle.std.specs.Option.{unwrap_or};
 ghost use Rattle.spki_core.specs.Words.{Algorithm, AllocatesForParameters, AreSameHash, IsHash, NothingAskedAlone, TagAndContents, algorithm_alike, algorithm_asks_as_parameters, algorithm_contents, algorithm_decides, algorithm_in, algorithm_law, algorithm_map, algorithm_read, algorithm_with, algorithm_writes_shortest, any_of, identifier_octets, null_value, own_octets_of, viewed_with};
 ghost use Rattle.standard.specs.Statement as standard;
@@ -9,8 +9,8 @@ use crate::identifier_view::{IdentifierValue, IdentifierView};
 use crate::object_identifier::{AssociatedOid, ObjectIdentifier};
 use der_core::{
     BackWriter, Contents, Decode, DecodeParts, DecodeValue, Encode, EncodeValue, Encoding,
-    EqualByValue, Error, ErrorKind, Header, Last, Length, Memory, Reader, Result, Sequence,
-    SequenceTag, Tag, TaggedBy, TryClone, Writer, quick_short,
+    EqualByValue, Error, ErrorKind, Header, Last, Length, Memory, Reader, Result, SequenceTag, Tag,
+    TaggedBy, TryClone, Writer, quick_short,
 };
 use std::alloc::Global;
 use std::fmt;
