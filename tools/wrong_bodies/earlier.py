@@ -17,7 +17,7 @@ PROGRAM = ("credit", "earlier", "edits", "functions", "holes", "prover", "rounds
 
 class Verdicts:
     """Which edits of a crate were refused before, each under all that the prover then read: the toolchain, this
-    program, the crate, the libraries below it as they were built, and the edit. Only that an edit was refused is
+    program, the crate and its line in crates.txt, the libraries below it as they were built, and the edit. Only that an edit was refused is
     kept."""
 
     def __init__(self, name, crates, anew):
@@ -25,11 +25,11 @@ class Verdicts:
         libraries = [f"crates/{it}/out/rlib/{it}.rlib" for it in sorted(below(name, crates))]
         read = [f"crates/{name}/{part}" for part in ("src", "specs", "proofs")] + libraries
         own = [*(f"{HERE}/{it}.py" for it in PROGRAM), kept.__file__]
-        self.read = kept.hash_of(kept.kit(), crates[name], *map(contents_below, [*own, *read]))
+        self.ground = kept.hash_of(kept.kit(), crates[name], *map(contents_below, [*own, *read]))
 
     def key(self, edit):
         """The hash of all that the prover reads of an edit: it reads no row."""
-        return kept.hash_of(self.read, edit.name, edit.file, [it for it in edit.lines if it[0] != "row"])
+        return kept.hash_of(self.ground, edit.name, edit.file, [it for it in edit.lines if it[0] != "row"])
 
     def taken(self, edit):
         return None if is_demo(edit.name) else self.store.taken(self.key(edit))

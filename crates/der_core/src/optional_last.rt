@@ -32,7 +32,8 @@ impl<T: Contents + FixedTag, A: Encoding> Contents for OptionalThen<T, Last<A>> 
     ghost valid = { λ s. standard.IfPresent T.valid s.0
         × ((A.starts.with T.TAG.octet ≡ false) × standard.IfPresent A.valid s.1) };
 
-    ghost printed = { row (standard.optional (λ s. standard.tlv T.TAG.octet (T.printed s))) (standard.optional A.printed) };
+    ghost printed = { let part = standard.optional (λ s. standard.tlv T.TAG.octet (T.printed s)) in
+        row part (standard.optional A.printed) };
 
     ghost read_spelling = { parts (optional_front T.TAG.octet (tagged T.TAG T.read_spelling))
         (unless (A.starts.with T.TAG.octet) (kinds.Value T.TAG) (last A.read_spelling)) };

@@ -1,4 +1,5 @@
-//! The output for lines with parameters.
+//! What is answered to a line with parameters, for each word: `answer.rt` calls it. How parameters are read and printed
+//! is in `parameter_text.rt`.
 ghost use Rattle.std.specs.Prelude.{◌≡◌, ℕ, List, ◌++◌, OnOk, map, codes, flat_map};
 ghost use Rattle.pkcs1_params.specs.Words.{EncodingOfFields};
 ghost use Rattle.pkcs1_program.specs.Words.{Puts, TellsParameters, TellsSame, TellsSpellings, TellsStrict, hex_field, spell_answer};

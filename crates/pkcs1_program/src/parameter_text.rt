@@ -1,4 +1,4 @@
-//! Parameters, and the output for them.
+//! How parameters are read of bytes, and their fields printed. `parameter_answers.rt` calls it.
 ghost use Rattle.std.specs.Prelude.{◌≡◌, ◌≤◌, ℕ, List, ◌++◌, ◌↔◌, length, IsTrue, OnOk, IfOk, IfSome, IfNone, IsErrAnd, option_map};
 ghost use Rattle.der_core.specs.Words.{Spells};
 ghost use Rattle.spki_core.specs.Words.{FieldRecord, algorithm_of, any_of, mask_gen_of, own_octets_of, spelled_from, spelled_to};
