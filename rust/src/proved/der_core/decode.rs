@@ -5,7 +5,7 @@ use crate::proved::der_core::error::{ErrorKind, Result};
 use crate::proved::der_core::grammar::{Contents, Encoding, FixedTag};
 use crate::proved::der_core::header::Header;
 use crate::proved::der_core::length::Length;
-use crate::proved::der_core::memory::Memory;
+use crate::proved::der_core::memory::{Memory, NoMemory};
 use crate::proved::der_core::reader::{Octets, Reader, reject_if_failed};
 use crate::proved::der_core::slice_reader::SliceReader;
 use crate::proved::der_core::tag::Tag;
@@ -84,6 +84,12 @@ fn read_slowly<'a, T: DecodeValue<&'a [u8], M> + FixedTag, M: Memory>(
     let value = read_encoding(memory, &mut reader)?;
     reader.finish()?;
     Ok(value)
+}
+
+/// Reads a whole slice without memory: the value that it means, or the error of its first fault.
+#[inline(always)]
+pub fn read_borrowed<'a, T: Decode<&'a [u8], NoMemory>>(bytes: &'a [u8]) -> Result<T> {
+    T::from_der(NoMemory, bytes)
 }
 
 /// Reads a whole slice of a type that may take memory: the value that it means, or the error of its first fault, or

@@ -16,10 +16,10 @@ pub trait Encoding {
     fn may_start_with(tag: Tag) -> bool;
 }
 
-/// A type with an `==` that is true exactly if both sides mean the same value.
+/// A type with an `==` that is true exactly if both sides hold the same value.
 pub trait EqualByValue: Encoding + PartialEq {}
 
-/// Whether both sides mean the same value: `==`, with a contract that says so of any type.
+/// Whether both sides hold the same value: `==`, with a contract that says so of any type.
 #[inline(always)]
 pub fn equal<T: EqualByValue>(left: &T, right: &T) -> bool {
     *left == *right
@@ -63,6 +63,8 @@ impl TagMarker for SequenceTag {
 
 /// A type whose encodings are SEQUENCEs.
 pub trait Sequence<'a>: FixedTag {}
+
+impl<'a, T: TaggedBy<Marker = SequenceTag>> Sequence<'a> for T {}
 
 impl<T: Contents + FixedTag> Encoding for T {
     #[inline(always)]

@@ -8,7 +8,6 @@
 //! An *encoding* is one whole DER encoding: tag, length and contents octets. The *limit* of its length is
 //! `Length::MAX` bytes.
 
-mod asks_none;
 mod back_writer;
 mod bit_string;
 mod boolean;
@@ -48,13 +47,12 @@ mod transfer;
 mod try_clone;
 mod writer;
 
-pub use asks_none::{AsksNone, ContentsAskNone, PartsAskNone, read_borrowed};
 pub use back_writer::BackWriter;
 pub use bit_string::{BitString, BitStringRef, BitStringTag};
 pub use boolean::BooleanTag;
 pub use borrowed::Borrowed;
 pub use containing::Containing;
-pub use decode::{Decode, DecodeValue, decode_optional, is_tag_next, read_owned};
+pub use decode::{Decode, DecodeValue, decode_optional, is_tag_next, read_borrowed, read_owned};
 pub use document::{Document, DocumentOf, Open, Secret, SecretDocument, write_over};
 pub use encode::{Encode, EncodeValue, joined_len};
 pub use error::{Error, ErrorKind, Result};

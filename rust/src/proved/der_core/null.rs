@@ -4,7 +4,7 @@
 use crate::proved::der_core::back_writer::BackWriter;
 use crate::proved::der_core::encode::EncodeValue;
 use crate::proved::der_core::error::Result;
-use crate::proved::der_core::grammar::TagMarker;
+use crate::proved::der_core::grammar::{TagMarker, TaggedBy};
 use crate::proved::der_core::length::Length;
 use crate::proved::der_core::record::{EncodeInParts, Record};
 use crate::proved::der_core::tag::Tag;
@@ -21,9 +21,11 @@ impl TagMarker for NullTag {
 #[derive(Clone, Copy, Debug, PartialEq, Eq)]
 pub struct Null;
 
-impl Record for Null {
+impl TaggedBy for Null {
     type Marker = NullTag;
+}
 
+impl Record for Null {
     type Fields = ();
 
     fn from_fields(_row: ()) -> Null {

@@ -5,7 +5,7 @@ use crate::proved::der_core::back_writer::BackWriter;
 use crate::proved::der_core::decode::DecodeValue;
 use crate::proved::der_core::encode::EncodeValue;
 use crate::proved::der_core::error::Result;
-use crate::proved::der_core::grammar::{Contents, Sequence, SequenceTag, TagMarker, TaggedBy};
+use crate::proved::der_core::grammar::Contents;
 use crate::proved::der_core::header::Header;
 use crate::proved::der_core::length::Length;
 use crate::proved::der_core::memory::Memory;
@@ -60,10 +60,7 @@ pub trait EncodeInParts: InParts {
     fn prepend_parts(&self, writer: &mut BackWriter<'_>);
 }
 
-impl<T: EncodeInParts> EncodeValue for T
-where
-    T::Parts: EncodeValue,
-{
+impl<T: EncodeInParts> EncodeValue for T {
     #[inline(always)]
     fn value_len(&self) -> Result<Length> {
         self.parts_len()
@@ -82,9 +79,6 @@ where
 
 /// A type that means its parts: their row is all that there is to say of it, and the tag around them.
 pub trait Record: Sized {
-    /// The marker of the tag: `SequenceTag` of a SEQUENCE.
-    type Marker: TagMarker;
-
     /// The row.
     type Fields: Contents;
 
@@ -93,12 +87,6 @@ pub trait Record: Sized {
 }
 
 impl<T: Record> Contents for T {}
-
-impl<T: Record> TaggedBy for T {
-    type Marker = T::Marker;
-}
-
-impl<'a, T: Record<Marker = SequenceTag>> Sequence<'a> for T {}
 
 impl<T: Record> InParts for T {
     type Parts = T::Fields;

@@ -10,8 +10,8 @@ use crate::proved::pkcs1::public_key::{RsaPublicKey, RsaPublicKeyRef};
 use crate::proved::pkcs1::version::Version;
 use crate::proved::der_core::{
     BackWriter, Contents, Decode, DecodeFront, DecodeValue, Encode, EncodeValue, Encoding,
-    ErrorKind, Header, Length, Reader, Result, Sequence, SequenceTag, Tag, TaggedBy, Uint,
-    UintEncoding, UintRef, Writer, quick_contents,
+    ErrorKind, Header, Length, Reader, Result, SequenceTag, Tag, TaggedBy, Uint, UintEncoding,
+    UintRef, Writer, quick_contents,
 };
 use other_prime_info::{OtherPrimeInfos, lists_none, quick_other_primes, read_other_primes};
 use crate::rattle_std::alloc::{AllocError, Global};
@@ -98,8 +98,6 @@ impl<U: Encoding> Contents for RsaPrivateKey<U> {}
 impl<U, O> TaggedBy for PrivateKeyOf<U, O> {
     type Marker = SequenceTag;
 }
-
-impl<'a, U, O> Sequence<'a> for PrivateKeyOf<U, O> {}
 
 impl<'a, U: Decode<&'a [u8], Global>> DecodeValue<&'a [u8], Global> for RsaPrivateKey<U> {
     fn decode_value<R: Reader<&'a [u8]>>(

@@ -4,8 +4,8 @@
 
 use crate::proved::der_core::{
     AsUintRef, BackWriter, Borrowed, Decode, Encode, EncodeInParts, EncodeValue, Encoding,
-    EqualByValue, Length, NoMemory, Record, SequenceTag, TryClone, Uint, UintEncoding, UintRef,
-    Writer,
+    EqualByValue, Length, NoMemory, Record, SequenceTag, TaggedBy, TryClone, Uint, UintEncoding,
+    UintRef, Writer,
 };
 use crate::proved::pkcs1_params::{Error, Result};
 use crate::rattle_std::alloc::Global;
@@ -32,9 +32,11 @@ pub type RsaPublicKeyRef<'a> = RsaPublicKey<UintRef<'a>>;
 /// A public key that owns its numbers.
 pub type RsaPublicKeyOwned = RsaPublicKey<Uint>;
 
-impl<U: Encoding> Record for RsaPublicKey<U> {
+impl<U> TaggedBy for RsaPublicKey<U> {
     type Marker = SequenceTag;
+}
 
+impl<U: Encoding> Record for RsaPublicKey<U> {
     type Fields = (U, (U, ()));
 
     fn from_fields(row: (U, (U, ()))) -> RsaPublicKey<U> {

@@ -10,7 +10,7 @@ use crate::proved::pkcs1_params::reading::{read_params, read_params_strict};
 use crate::proved::pkcs1_params::spelling::non_defaults_in;
 use crate::proved::pkcs1_params::trailer_field::TrailerField;
 use crate::proved::der_core::{
-    BackWriter, Contents, EncodeValue, EqualByValue, ErrorKind, Length, Memory, NoMemory, Sequence,
+    BackWriter, Contents, EncodeValue, EqualByValue, ErrorKind, Length, Memory, NoMemory,
     SequenceTag, TaggedBy, TryClone, Writer,
 };
 use crate::proved::spki_core::{
@@ -86,8 +86,6 @@ impl<O: IdentifierValue, P: AnyValue> Contents for PssParamsOf<O, P> {}
 impl<O, P> TaggedBy for PssParamsOf<O, P> {
     type Marker = SequenceTag;
 }
-
-impl<'a, O, P> Sequence<'a> for PssParamsOf<O, P> {}
 
 impl<O: IdentifierValue, P: AnyValue> EncodeValue for PssParamsOf<O, P> {
     fn value_len(&self) -> crate::proved::der_core::Result<Length> {

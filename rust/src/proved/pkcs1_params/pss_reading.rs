@@ -14,8 +14,7 @@ use crate::proved::pkcs1_params::strict;
 use crate::proved::pkcs1_params::trailer_field::TrailerField;
 use crate::proved::pkcs1_params::usual::{accept_salt, usual_pss, usual_salt};
 use crate::proved::der_core::{
-    ContentsAskNone, DecodeValue, Header, Memory, NoMemory, Reader, Tag, TagNumber, quick_short,
-    read_borrowed,
+    DecodeValue, Header, Memory, NoMemory, Reader, Tag, TagNumber, quick_short, read_borrowed,
 };
 use crate::proved::spki_core::{AnyRef, read_field};
 
@@ -56,8 +55,6 @@ impl<'a, O: ReadParams<'a>> AlgorithmParams<'a> for PssParamsOf<O, AnyRef<'a>> {
         strict::reject_defaults(self, encoding)
     }
 }
-
-impl<'a, O: ReadParams<'a>> ContentsAskNone<&'a [u8]> for PssParamsOf<O, AnyRef<'a>> {}
 
 impl<'a, M: Memory, O: ReadParams<'a>> DecodeValue<&'a [u8], M> for PssParamsOf<O, AnyRef<'a>> {
     #[inline(always)]

@@ -2,8 +2,8 @@
 //! The attributes of containers, as opaque bytes.
 
 use crate::proved::pkcs1::der::{
-    BackWriter, Contents, ContentsAskNone, DecodeValue, EncodeValue, Header, Length, Memory,
-    Reader, Result, Tag, TagMarker, TaggedBy, Writer, quick_contents,
+    BackWriter, Contents, DecodeValue, EncodeValue, Header, Length, Memory, Reader, Result, Tag,
+    TagMarker, TaggedBy, Writer, quick_contents,
 };
 
 /// The tag of attributes.
@@ -53,8 +53,6 @@ impl<'a, M: Memory> DecodeValue<&'a [u8], M> for Attributes<'a> {
         Some(Attributes::new(contents))
     }
 }
-
-impl<'a> ContentsAskNone<&'a [u8]> for Attributes<'a> {}
 
 impl EncodeValue for Attributes<'_> {
     fn value_len(&self) -> Result<Length> {

@@ -4,8 +4,8 @@
 use crate::proved::pkcs8_core::attributes::Attributes;
 use crate::proved::pkcs1::der::{
     BackWriter, Borrowed, Contents, Decode, Encode, EncodeInParts, EncodeValue, Error, Expected,
-    InParts, Last, LastByTag, Length, Memory, OctetStringRef, Result, Sequence, SequenceTag,
-    TaggedBy, Writer, read_borrowed,
+    InParts, Last, LastByTag, Length, Memory, OctetStringRef, Result, SequenceTag, TaggedBy,
+    Writer, read_borrowed,
 };
 use crate::proved::pkcs1::spki::{
     AlgorithmIdentifierOf, AnyRef, IdentifierValue, IdentifierView, ObjectIdentifier,
@@ -61,8 +61,6 @@ impl<O: IdentifierValue> Contents for PrivateKeyInfoOf<'_, O> {}
 impl<O> TaggedBy for PrivateKeyInfoOf<'_, O> {
     type Marker = SequenceTag;
 }
-
-impl<'a, O> Sequence<'a> for PrivateKeyInfoOf<'_, O> {}
 
 impl<'a, O: ReadIdentifier<'a>> InParts for PrivateKeyInfoOf<'a, O> {
     type Parts = InfoParts<'a, O>;

@@ -6,8 +6,8 @@ use crate::proved::spki_core::identifier_view::{IdentifierValue, IdentifierView}
 use crate::proved::spki_core::object_identifier::{AssociatedOid, ObjectIdentifier};
 use crate::proved::der_core::{
     BackWriter, Contents, Decode, DecodeParts, DecodeValue, Encode, EncodeValue, Encoding,
-    EqualByValue, Error, ErrorKind, Header, Last, Length, Memory, Reader, Result, Sequence,
-    SequenceTag, Tag, TaggedBy, TryClone, Writer, quick_short,
+    EqualByValue, Error, ErrorKind, Header, Last, Length, Memory, Reader, Result, SequenceTag, Tag,
+    TaggedBy, TryClone, Writer, quick_short,
 };
 use crate::rattle_std::alloc::Global;
 use crate::rattle_std::fmt;
@@ -54,8 +54,6 @@ impl<O: IdentifierValue, P: Encoding> Contents for AlgorithmIdentifierOf<O, P> {
 impl<O, P> TaggedBy for AlgorithmIdentifierOf<O, P> {
     type Marker = SequenceTag;
 }
-
-impl<'a, O, P> Sequence<'a> for AlgorithmIdentifierOf<O, P> {}
 
 impl<P: EqualByValue> EqualByValue for AlgorithmIdentifier<P> {}
 

@@ -1,21 +1,11 @@
 // Made of crates/spki_core/src/in_records.rt by tools/erase/erase.py, and not to be edited.
-//! Identifiers and encodings of any tag as parts of records: what reading them without memory and writing their only
-//! encoding ask of them.
+//! Identifiers and encodings of any tag as parts of records: what writing their only encoding asks of them.
 
 use crate::proved::spki_core::algorithm_identifier::{AlgorithmIdentifierOf, ReadIdentifier};
 use crate::proved::spki_core::any::AnyRef;
 use crate::proved::spki_core::identifier_view::{IdentifierValue, IdentifierView};
 use crate::proved::spki_core::object_identifier::ObjectIdentifier;
-use crate::proved::der_core::{AsksNone, ContentsAskNone, OneContents, OneEncoding};
-
-impl<'a> ContentsAskNone<&'a [u8]> for ObjectIdentifier {}
-
-impl<'a> ContentsAskNone<&'a [u8]> for IdentifierView<'a> {}
-
-impl<'a> AsksNone<&'a [u8]> for AnyRef<'a> {}
-
-impl<'a, O: ReadIdentifier<'a>, P: AsksNone<&'a [u8]>> ContentsAskNone<&'a [u8]>
-    for AlgorithmIdentifierOf<O, P> {}
+use crate::proved::der_core::{OneContents, OneEncoding};
 
 impl OneContents for ObjectIdentifier {}
 

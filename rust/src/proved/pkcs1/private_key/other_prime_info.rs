@@ -5,8 +5,8 @@ use crate::rattle_std::prelude::Vec;
 use crate::proved::pkcs1::version::Version;
 use crate::proved::der_core::{
     BackWriter, Borrowed, Decode, Encode, EncodeInParts, EncodeValue, Encoding, ErrorKind, Length,
-    Reader, Record, Result, SequenceTag, Tag, TryClone, Writer, begins_with, decode_optional,
-    quick_alone,
+    Reader, Record, Result, SequenceTag, Tag, TaggedBy, TryClone, Writer, begins_with,
+    decode_optional, quick_alone,
 };
 use crate::rattle_std::alloc::{AllocError, Global};
 
@@ -32,9 +32,11 @@ pub struct OtherPrimeInfo<U> {
 /// The primes of a private key after the first two.
 pub type OtherPrimeInfos<U> = Vec<OtherPrimeInfo<U>>;
 
-impl<U: Encoding> Record for OtherPrimeInfo<U> {
+impl<U> TaggedBy for OtherPrimeInfo<U> {
     type Marker = SequenceTag;
+}
 
+impl<U: Encoding> Record for OtherPrimeInfo<U> {
     type Fields = (U, (U, (U, ())));
 
     fn from_fields(row: (U, (U, (U, ())))) -> OtherPrimeInfo<U> {

@@ -1,5 +1,6 @@
 // Made of crates/pkcs1_program/src/parameter_answers.rt by tools/erase/erase.py, and not to be edited.
-//! The output for lines with parameters.
+//! What is answered to a line with parameters, for each word: `answer.rt` calls it. How parameters are read and printed
+//! is in `parameter_text.rt`.
 
 use crate::rattle_std::prelude::{Vec, vec};
 use crate::tool::pkcs1_program::digits::{put_field, put_number};

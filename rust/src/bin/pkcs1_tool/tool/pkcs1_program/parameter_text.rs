@@ -1,5 +1,5 @@
 // Made of crates/pkcs1_program/src/parameter_text.rt by tools/erase/erase.py, and not to be edited.
-//! Parameters, and the output for them.
+//! How parameters are read of bytes, and their fields printed. `parameter_answers.rt` calls it.
 
 use crate::rattle_std::prelude::Vec;
 use crate::tool::pkcs1_program::digits::{put_field, put_hex, put_number};
