@@ -1,3 +1,5 @@
+-- The clauses follow from what T states: `law`, that the spellings are read that are printed, and no others, and
+-- `reads_alike`, that a value is read as its spelling is.
 use Rattle.der_core.specs.Words.{front_reading_reads}
 use Rattle.der_core.proofs.Readings.{answers_decode, values_decode}
 use Rattle.der_core.proofs.laws.lemma_encodings_are_read.Goals as goal

@@ -2,9 +2,11 @@ use Rattle.std.proofs.Common.{ap}
 use Rattle.der_core.proofs.ErrorEquality.{equality_decides, kind_equals_itself, kind_tells}
 use Rattle.der_core.proofs.laws.lemma_kinds_compare_by_value.Goals as goal
 
+-- An `==` that is true of a value and itself, and of no two others, decides whether they are equal.
 pub returns-clause-kind : goal.returns-clause-kind
 returns-clause-kind c = equality_decides _ kind_equals_itself kind_tells
 
+-- The same of errors, which hold nothing but their kinds.
 pub returns-clause-error : goal.returns-clause-error
 returns-clause-error c =
     equality_decides _ (λ a. kind_equals_itself a.kind)

@@ -4,21 +4,27 @@ use Rattle.der_core.proofs.Items.{encodings_more, encodings_around, AllHave-at}
 use Rattle.der_core.proofs.Writing.{appends_in_front, appends_behind, receives_both, takes_both}
 use Rattle.der_core.proofs.sequence_of.encode_items.Goals as goal
 
+-- `x` stands at place `i` of `xs`. Its encoding stands between those of the items before it and behind it.
 module _ {T : Type 0} (has : T → Type 0) (encoding : T → List ℕ) (xs : List T) (i : ℕ) (x : T) (h : i < length xs)
     (e : x ≡ get_or xs i x) where
+  -- Those of the items up to this one.
   encodings_with_item : all_encodings encoding (take (i + 1) xs) ≡ all_encodings encoding (take i xs) ++ encoding x
   encodings_with_item =
       encodings_more has encoding xs i x h ∙ ap (λ y. all_encodings encoding (take i xs) ++ encoding y) (sym e)
 
+  -- Those of all items, with this one's in the middle.
   encodings_around_item : all_encodings encoding xs ≡ all_encodings encoding (take i xs)
       ++ (encoding x ++ all_encodings encoding (drop (i + 1) xs))
   encodings_around_item =
       encodings_around has encoding xs i x h
       ∙ ap (λ y. all_encodings encoding (take i xs) ++ (encoding y ++ all_encodings encoding (drop (i + 1) xs))) (sym e)
 
+  -- If all items are valid, then this one is.
   item_has : AllHave has xs → has x
   item_has p = subst has (sym e) (AllHave-at has encoding xs i x h p)
 
+-- At the `?` behind `item.encode`: the items before `x` were written, and the writing stops in `x`. So that of all
+-- stops there. `rest` is what would follow.
 pub returns-in_err-encode-clause-appends : goal.returns-in_err-encode-clause-appends
 returns-in_err-encode-clause-appends g c =
     let p = err_from_is_err_and c.from_residual.result c.from_residual.ensures.1 in
@@ -37,6 +43,7 @@ returns-in_err-encode-clause-appends g c =
     rw (p.1, p.2) (appends_behind _ _ _ has all whole few c.loop-item.invariant.written c.loop-item.invariant.room
     (appends_in_front _ _ rest has has refl less c.in_err-encode.ensures.appends))
 
+-- The encoding of `x` was written behind those of the items before it, and took its room.
 pub loop-item-preserved : goal.loop-item-preserved
 loop-item-preserved g c =
     let valid = λ (x : g.row.T.Denot). g.T.Encoding.valid (g.T.Encoding.written (g.T.Encoding.value x)) in

@@ -17,6 +17,7 @@ item_fits has encoding xs left x p l e =
       encodings_behind_len has encoding xs (left - 1) x (omega arith),
     )
 
+-- `prepend` of an item asks that its encoding is within the limit: those of all items are.
 pub prepend-requires-clause-fits : goal.prepend-requires-clause-fits
 prepend-requires-clause-fits g c =
     let valid = λ (x : g.row.T.Denot). g.T.Encoding.valid (g.T.Encoding.written (g.T.Encoding.value x)) in
@@ -26,6 +27,7 @@ prepend-requires-clause-fits g c =
     c.loop-left.invariant.0 c.index-items-left.is in
     omega (arith, c.requires.fits, less)
 
+-- It asks for room: there was room for all items, and only those behind it have taken theirs.
 pub prepend-requires-clause-room : goal.prepend-requires-clause-room
 prepend-requires-clause-room g c =
     let valid = λ (x : g.row.T.Denot). g.T.Encoding.valid (g.T.Encoding.written (g.T.Encoding.value x)) in

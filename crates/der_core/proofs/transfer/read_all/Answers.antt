@@ -1,8 +1,10 @@
+-- `last` is what the last call of `read` gave, the first `count` bytes of the piece. They came behind `bytes`.
 use Rattle.std.proofs.Common.{◌++◌, ◌∙◌, take, ap, arith, length-append, length-take, inl, inr}
 use Rattle.std.proofs.KnownBytes.{Consumes-trans}
 use Rattle.der_core.specs.Words.{err_from_is_err_and}
 use Rattle.der_core.proofs.transfer.read_all.Goals as goal
 
+-- At the `Err` of `Overflow`: with `last` more bytes came than `most`, by at most one piece.
 pub returns-then-count-to_usize-clause-err : goal.returns-then-count-to_usize-clause-err
 returns-then-count-to_usize-clause-err g c =
     let last = take c.in-Ok.count c.read.new.buf in
@@ -27,6 +29,7 @@ returns-then-count-to_usize-clause-err g c =
       ),
     ))
 
+-- At the `?` behind `extend_from_slice`: memory ran out for what came, at least one byte and at most `most`.
 pub returns-in_err-extend_from_slice-clause-err : goal.returns-in_err-extend_from_slice-clause-err
 returns-in_err-extend_from_slice-clause-err g c =
     let last = take c.in-Ok.count c.read.new.buf in

@@ -1,3 +1,4 @@
+-- Behind its first INTEGER a container has a SEQUENCE, and a key a number. Parameters begin with the tag of a field.
 use Rattle.pkcs8_core.proofs.ContainedKeys as exclusion
 use Rattle.pkcs8_core.proofs.info.lemma_containers_exclude_other_types.Goals as goal
 

@@ -1,3 +1,5 @@
+-- `rsa_private_key_info bytes` is the RSA key in the container, or the kind of the first fault. `told` says that the
+-- call returned this.
 use Rattle.std.proofs.Common.{arith, refl, rules}
 use Rattle.der_core.specs.Words.{are_bytes}
 use Rattle.spki_core.specs.Words.{identifier_octets}
@@ -9,6 +11,7 @@ use Rattle.pkcs8_core.specs.Words.{private_key_info, rsa_held, rsa_private_key_i
 use Rattle.standard.specs.Statement.{ContainedKeyEncoding}
 use Rattle.pkcs8_core.proofs.rsa.rsa_from_pkcs8_der.Goals as goal
 
+-- At the end: the container was read, so what `rsa_view` says of it holds of the bytes.
 pub returns-clause-read : goal.returns-clause-read
 returns-clause-read c =
     let bytes = c.args.bytes.now in
@@ -20,6 +23,7 @@ returns-clause-read c =
     (contained_keys_decode bytes are)
     c.rsa_view.result told
 
+-- At the `?` behind `try_from`: bytes that encode no container encode none of an RSA key, and the fault is the same.
 pub returns-in_err-info-clause-read : goal.returns-in_err-info-clause-read
 returns-in_err-info-clause-read c =
     let bytes = c.args.bytes.now in
@@ -29,6 +33,7 @@ returns-in_err-info-clause-read c =
     (contained_keys_decode bytes are)
     c.from_residual.result told
 
+-- At the end: the container is the one that was read, and the view keeps the octets of its key.
 pub returns-clause-bytes : goal.returns-clause-bytes
 returns-clause-bytes c =
     let info = info_in identifier_octets c.in_ok-info.info in

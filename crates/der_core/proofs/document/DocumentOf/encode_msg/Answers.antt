@@ -1,9 +1,13 @@
+-- What `write_over` wrote fills the vector, which has as many octets as `encoded_len` counted: so it holds the
+-- encoding. Of the clause `counted`, `.0` is that the message is valid, `.1` that the length is its encoding's, and
+-- within the limit.
 use Rattle.std.proofs.Common.{◌∙◌, ◌≡◌, ◌≤◌, ◌++◌, length, take, drop, sym, subst, ap, arith}
 use Rattle.der_core.specs.Words.{AreBytes, limit, tlv, IsDocument, written_is_shortest, tagged_shortest, Spells}
 use Rattle.der_core.proofs.Documents.{front_written_over, written_document}
 use Rattle.der_core.proofs.document.DocumentOf.encode_msg.Goals as goal
 use Rattle.standard.specs.Statement.{IsShortest}
 
+-- The document is one whole SEQUENCE. 48 is the octet of this tag, which each message has by `is_sequence`.
 pub invariant_of-result : goal.invariant_of-result
 invariant_of-result g c =
     let t = g.T.Contents in
@@ -20,6 +24,7 @@ invariant_of-result g c =
     let bytes = subst AreBytes (c.as_slice.ensures.value ∙ same) c.lemma_are_bytes.ensures in
     record { whole = subst IsDocument (sym same) (written_document tag contents is bytes fits) }
 
+-- At the `Ok`: the document is the shortest encoding of the message.
 pub returns-clause-holds : goal.returns-clause-holds
 returns-clause-holds g c =
     let t = g.T.Contents in

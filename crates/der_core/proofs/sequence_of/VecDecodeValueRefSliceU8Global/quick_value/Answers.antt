@@ -1,3 +1,6 @@
+-- `quick_value` of `Vec<T>`, whose loop is `loop-left`. `i` is the invariant: `i.0` was read, and `i.1` is left. `i.2`
+-- says that `contents` are both, `i.3` that `left` is `i.1`, and `i.4` that the encodings of the items, joined, are
+-- `i.0`.
 use Rattle.std.proofs.Common.{[], ◌∷◌, refl, ap, sym, ◌∙◌, ◌≡◌, ◌++◌, ◌==◌, ℕ, List, true, false, is_ok, is_some, length, Ok, Some, arith, subst}
 use Rattle.der_core.specs.Words.{AreBytes, FrontReading, Input, ReadsFronts, back_bytes, left_in, nat_tests, prints_some, front_reading_reads, Prints, are_bytes}
 use Rattle.der_core.proofs.Items.{EncodingGives, items_more, items_end, item_taken}
@@ -13,13 +16,16 @@ item_read law v contents left behind read rest bytes from is given =
     front_gives law v (Some left) (Some behind) (subst of (sym is) (back_bytes read rest (subst of from bytes)))
     (behind, given, refl)
 
+-- The loop ended because `left` is empty.
 no_items_left : (left rest : List ℕ) → Some left ≡ Some rest → true ≡ (length left == 0) → rest ≡ []
 no_items_left [] rest is ends = sym (ap left_in is)
 no_items_left (x ∷ xs) rest is ends = let no : true ≡ false = grind (arith, nat_tests, ends) in cc
 
+-- At first nothing was read.
 pub loop-left-init : goal.loop-left-init
 loop-left-init g c = ([], c.args.contents.now, refl, refl, rw c.new-items.ensures.items refl)
 
+-- The item that was read took some octets.
 pub loop-left-smaller : goal.loop-left-smaller
 loop-left-smaller g c =
     let t = g.T.Encoding in
@@ -28,6 +34,7 @@ loop-left-smaller g c =
     item_taken t.Value (Prints t.valid t.printed t.means) (prints_some t.some) _ _ _
     (item_read (front_reading_reads t.law t.reads_alike) _ _ _ _ i.0 i.1 all i.2 i.3 c.in_ok-item.ensures)
 
+-- One item more was read, and `push` returned `Ok`.
 pub loop-left-preserved : goal.loop-left-preserved
 loop-left-preserved g c =
     let t = g.T.Encoding in
@@ -38,6 +45,7 @@ loop-left-preserved g c =
     t.value _ _ i.0 i.1 _ _ _ i.2 i.3 i.4
     (item_read (front_reading_reads t.law t.reads_alike) _ _ _ _ i.0 i.1 all i.2 i.3 c.in_ok-item.ensures))
 
+-- At the `Some`: nothing is left, so all was read, and the items are the list.
 pub returns : goal.returns
 returns g c =
     let t = g.T.Encoding in

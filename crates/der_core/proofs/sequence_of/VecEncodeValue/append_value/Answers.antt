@@ -1,3 +1,5 @@
+-- `append_value` of `Vec<T>`. The trait speaks of the spelling of a list, and `encode_items` of the items of a slice.
+-- `AllHave-map` and `encodings_map` say that it is the same.
 use Rattle.der_core.proofs.Items.{AllHave-map, encodings_map}
 use Rattle.der_core.proofs.sequence_of.VecEncodeValue.append_value.Goals as goal
 

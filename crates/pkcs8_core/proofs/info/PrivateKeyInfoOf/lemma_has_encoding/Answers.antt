@@ -5,6 +5,8 @@ use Rattle.pkcs8_core.proofs.ContainerWrites.{attributes_held}
 use Rattle.pkcs8_core.proofs.info.PrivateKeyInfoOf.lemma_has_encoding.Goals as goal
 use Rattle.standard.specs.Statement.{IsAny}
 
+-- The version 0 fits an octet. The identifier and the parameters of the algorithm have encodings, by what their types
+-- hold, and the key and the attributes are octets.
 pub returns : goal.returns
 returns g c =
     let info = c.args.self.now in

@@ -1,3 +1,5 @@
+-- `info` is the container that `self` holds, and `rsa_held info` is the RSA key in it, or the kind of its first fault.
+-- `told` says that the call returned this, or that memory ran out where it may be asked for.
 use Rattle.std.proofs.Common.{◌≡◌, rules, subst, sym}
 use Rattle.der_core.specs.Words.{are_bytes, bytes_of}
 use Rattle.pkcs1.specs.Words.{MayAllocate, held_private_key}
@@ -7,6 +9,7 @@ use Rattle.pkcs8_core.specs.Words.{rsa_held, info_in, rsa_encryption}
 use Rattle.standard.specs.Statement.{PrivateKeyEncoding}
 use Rattle.pkcs8_core.proofs.info.PrivateKeyInfoOf.rsa_key.Goals as goal
 
+-- At the end: the algorithm is rsaEncryption with NULL, so what `decode_key` says of the octets holds of the container.
 pub returns-clause-ok : goal.returns-clause-ok
 returns-clause-ok g c =
     let info = info_in g.O.IdentifierValue.octets c.args.self.now in
@@ -15,6 +18,7 @@ returns-clause-ok g c =
     rsa_held_ok (held_private_key bytes_of) info (are_bytes info.private_key c.args.self.now.private_key.octets) _
     c.decode_key.result told
 
+-- The same of its error.
 pub returns-clause-err : goal.returns-clause-err
 returns-clause-err g c =
     let info = info_in g.O.IdentifierValue.octets c.args.self.now in
@@ -23,6 +27,7 @@ returns-clause-err g c =
     rsa_held_err (held_private_key bytes_of) info (are_bytes info.private_key c.args.self.now.private_key.octets) _
     c.decode_key.result told
 
+-- At the `?` behind `require_rsa_encryption`: its error is the fault of the container's algorithm.
 pub returns-in_err-require_rsa_encryption-clause-err : goal.returns-in_err-require_rsa_encryption-clause-err
 returns-in_err-require_rsa_encryption-clause-err g c =
     let info = info_in g.O.IdentifierValue.octets c.args.self.now in
@@ -32,6 +37,7 @@ returns-in_err-require_rsa_encryption-clause-err g c =
     rsa_held_err (held_private_key bytes_of) info (are_bytes info.private_key c.args.self.now.private_key.octets) asked
     c.from_residual.result told
 
+-- At the end: `holds.1` is that the octets encode a key, which has two primes. So `decode_key` returned `Ok`.
 pub returns-clause-two_primes : goal.returns-clause-two_primes
 returns-clause-two_primes g c = λ key two holds.
     c.decode_key.ensures.two_primes key two

@@ -1,3 +1,5 @@
+-- `info` is the container that `self` holds, and `rsa_held info` is the RSA key in it, or the kind of its first fault.
+-- `told` says that the call returned this.
 use Rattle.std.proofs.Common.{rules, subst, sym}
 use Rattle.der_core.specs.Words.{are_bytes}
 use Rattle.pkcs1.specs.Words.{held_view}
@@ -7,6 +9,7 @@ use Rattle.pkcs8_core.proofs.ContainedKeys.{contained_decode, rsa_held_read}
 use Rattle.pkcs8_core.specs.Words.{rsa_held, info_in, ContainedKey}
 use Rattle.pkcs8_core.proofs.info.PrivateKeyInfoOf.rsa_view.Goals as goal
 
+-- At the end: the algorithm is rsaEncryption with NULL, so what `try_from` says of the octets holds of the container.
 pub returns-clause-read : goal.returns-clause-read
 returns-clause-read g c =
     let info = info_in g.O.IdentifierValue.octets c.args.self.now in
@@ -17,6 +20,7 @@ returns-clause-read g c =
     (contained_decode info info.private_key (are_bytes info.private_key c.args.self.now.private_key.octets))
     c.try_from.result told
 
+-- At the `?` behind `require_rsa_encryption`: its error is the fault of the container's algorithm.
 pub returns-in_err-require_rsa_encryption-clause-read : goal.returns-in_err-require_rsa_encryption-clause-read
 returns-in_err-require_rsa_encryption-clause-read g c =
     let info = info_in g.O.IdentifierValue.octets c.args.self.now in

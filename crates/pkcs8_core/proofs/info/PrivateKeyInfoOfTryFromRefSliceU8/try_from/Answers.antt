@@ -1,3 +1,4 @@
+-- `try_from` of `PrivateKeyInfoOf`, which reads a view, and makes the container of it.
 use Rattle.std.proofs.Common.{◌≡◌, arith, subst, sym, Err, Ok, Some, option_map}
 use Rattle.der_core.specs.Words.{err_from_is_err_and, are_bytes, octets_of}
 use Rattle.spki_core.specs.Words.{algorithm_in, any_of}
@@ -6,6 +7,7 @@ use Rattle.pkcs8_core.specs.Words.{info_viewed, slice_now}
 use Rattle.standard.specs.Statement.{ContainerEncoding, Decodes}
 use Rattle.pkcs8_core.proofs.info.PrivateKeyInfoOfTryFromRefSliceU8.try_from.Goals as goal
 
+-- At the `?` behind `read_borrowed`: `field-0.0` is its error, so the bytes encode no container.
 pub returns-in_err-view-clause-read : goal.returns-in_err-view-clause-read
 returns-in_err-view-clause-read g c =
     let bytes = c.args.bytes.now in
@@ -13,6 +15,8 @@ returns-in_err-view-clause-read g c =
     rw p.1 (container_answers_decode bytes (are_bytes bytes (λ i. omega (arith, c.type_inv.bytes i))) info_viewed
     (Err c.in_err-view.field-0.0) c.in_err-view.ensures.exact)
 
+-- At the `Ok`: `same` is that the view means what the container that is returned means. `algorithm_from_view` keeps the
+-- identifier and the parameters.
 pub returns-clause-read : goal.returns-clause-read
 returns-clause-read g c =
     let bytes = c.args.bytes.now in

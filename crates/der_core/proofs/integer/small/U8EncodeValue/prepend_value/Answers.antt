@@ -1,8 +1,10 @@
+-- `prepend_value` of `u8`. `is` says that what is printed of the number is what is made of its one byte.
 use Rattle.std.proofs.Common.{arith, rules, sym, subst, [], ◌∷◌, ◌∙◌}
 use Rattle.std.proofs.lemmas.Grind.{common_steps}
 use Rattle.der_core.specs.Words.{Prepends, integer_contents, written_large, small_contents_as}
 use Rattle.der_core.proofs.integer.small.U8EncodeValue.prepend_value.Goals as goal
 
+-- The number is 128 or more: its byte was written, and 0 in front of it.
 pub returns-then-self-ge128 : goal.returns-then-self-ge128
 returns-then-self-ge128 c =
     let n = c.args.self.now in
@@ -12,6 +14,7 @@ returns-then-self-ge128 c =
     grind (arith, common_steps) in
     subst (λ octets. Prepends octets c.args.writer.now c.prepend-then-self-ge128.new.self) (sym whole) told
 
+-- It is below 128: its byte alone was written.
 pub returns-else-self-ge128 : goal.returns-else-self-ge128
 returns-else-self-ge128 c =
     let n = c.args.self.now in

@@ -1,9 +1,12 @@
+-- `append_value` of `UintRef`. `is` says that what is printed of the number is what is made of its bytes.
 use Rattle.std.proofs.Common.{arith, sym, subst, ◌∷◌, ◌++◌, ◌≡◌, ◌≤◌, [], length}
 use Rattle.der_core.specs.Words.{integer_contents, holds_canonical, number_contents_as, limit, Appends}
 use Rattle.der_core.proofs.Writing.{appends_at_once, appends_behind}
 use Rattle.der_core.proofs.integer.uint.UintRefEncodeValue.append_value.Goals.{then-self-ge128+in_ok-write, else-self-ge128}
 use Rattle.der_core.proofs.integer.uint.UintRefEncodeValue.append_value.Goals as goal
 
+-- At the last `write`, `write-2`, which writes the bytes: behind the octet 0 if the first byte is 128 or more, or else
+-- alone. `b.writer-is` says which writer it was given.
 pub returns-clause-appends : goal.returns-clause-appends
 returns-clause-appends g c =
     let bytes = c.args.self.now.bytes.now in
