@@ -1,3 +1,5 @@
+-- `it.result` is the algorithm identifier that `identified` makes. It means the identifier of D with the parameters
+-- `v`, by `it.ensures.means`. Its encodings are those of `v` by `AlgorithmEncoding`, which `algorithm_spelled` says.
 use Rattle.std.proofs.Common.{ℕ, length, subst, Ok, Err, Some, None}
 use Rattle.der_core.specs.Words.{err_from_is_err_and}
 use Rattle.der_core.proofs.Writing.{encode_into_encodes, encode_into_unwritten}
@@ -9,6 +11,7 @@ use Rattle.pkcs1_params.proofs.Masks.{encodes_as, refuses_as}
 use Rattle.standard.specs.Statement.{Algorithm, AlgorithmEncoding, Encodes, IsAlgorithm, IsIdentifier}
 use Rattle.pkcs1_params.proofs.algorithm.encode_identifier.Goals as goal
 
+-- At the end: `encode_into` wrote the shortest encoding of `it.result`, and `field-0` is its length.
 pub returns-clause-written : goal.returns-clause-written
 returns-clause-written g c =
     let t = g.T.EncodeParams in
@@ -26,6 +29,8 @@ returns-clause-written g c =
     (encode_into_encodes (algorithm_written oid identifier t.form) (viewed_with (λ s. t.params s.params) it.result)
     c.args.out.now _ (Ok c.in_ok-encode_into.field-0) made.ok made.shortest tt tt c.encode_into.auto.out))
 
+-- At the `?` behind `encode_into`, whose error is `field-0.0`: the slice is as it was (clause `written`), and the
+-- reason is one of `v` too (clause `err`). `p` is that `?` hands the error on, as `Asn1`.
 pub returns-in_err-encode_into : goal.returns-in_err-encode_into
 returns-in_err-encode_into g c =
     let p = err_from_is_err_and c.from_residual.result c.from_residual.ensures.1 in

@@ -1,3 +1,5 @@
+-- `c.requires` has parameters `v`, that the slice is within the limit, the octets `p` of their encoding, and `is`: the
+-- slice is a SEQUENCE of the identifier and `p`.
 use Rattle.std.proofs.Common.{ℕ, List, ◌++◌, ◌≡◌, ◌≤◌, ◌∙◌, arith, ap, sym, subst, length, true, Ok}
 use Rattle.der_core.specs.Words.{AreBytes, are_bytes, whole_takes, ok_injective, limit, whole}
 use Rattle.spki_core.specs.Words.{any_law, any_front}
@@ -15,6 +17,8 @@ whole_any_read oid p bytes are few is =
     whole_takes any_law (record { tag = 48; contents = tlv 6 oid ++ p }) bytes
     (few, ((λ i. true), contents_bytes 48 (tlv 6 oid ++ p) (subst AreBytes is are)), is)
 
+-- Where `from_der` returns `Err`, which can't be: `never` is that the slice is read as the SEQUENCE and gives an error.
+-- `w.3` is that memory is asked for, which reading an `AnyRef` never does.
 pub returns-in-Err : goal.returns-in-Err
 returns-in-Err g c =
     let (v, (few, p, e, is)) = c.requires in
@@ -24,6 +28,8 @@ returns-in-Err g c =
     ∙ fault_without_memory (λ w. w.3) c.in-Err.ensures.exact in
     cc
 
+-- Where `from_der` returns `Ok`: what `behind` returns is `p` (`rest`), as the encoding of the object identifier is two
+-- octets longer than its contents.
 pub returns-in-Ok : goal.returns-in-Ok
 returns-in-Ok g c =
     let (v, (few, p, e, is)) = c.requires in

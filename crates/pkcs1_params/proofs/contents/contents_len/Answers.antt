@@ -4,6 +4,7 @@ use Rattle.spki_core.specs.Words.{AreSpelled, record_under}
 use Rattle.pkcs1_params.proofs.Masks.{record_is_spelled, nothing_spelled, octets_under_spelled, counts_as}
 use Rattle.pkcs1_params.proofs.contents.contents_len.Goals as goal
 
+-- Where no field differs from its default and the mask is 0: nothing is printed (`none`), so its length is 0.
 pub returns-then-mask-eq0 : goal.returns-then-mask-eq0
 returns-then-mask-eq0 g c =
     let t = g.T.EncodeParams in
@@ -12,6 +13,8 @@ returns-then-mask-eq0 g c =
     let none = nothing_spelled t.form v c.args.mask mask (sym c.requires ∙ c.if-non_defaults-eq0.true) in
     rw none (record_is_spelled t.form v c.args.mask c.lemma_is_valid.ensures, refl, omega arith)
 
+-- At the end: `len` counts the octets of the fields under the mask, which are what is printed of the spelling. The
+-- spelling is valid, as the parameters are.
 pub returns : goal.returns
 returns g c =
     let t = g.T.EncodeParams in

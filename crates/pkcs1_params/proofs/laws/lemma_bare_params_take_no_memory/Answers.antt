@@ -19,6 +19,7 @@ module _ {V : Type 0} {Is : V → Type 0} {fields : V → List Field} (r : Field
       let one = (record_delimited r).1 w v b rest there (subst (SequenceOf Is fields Fields v) is encodes) in
       octets (subst IsBare (sym one.0) bare)
 
+-- `bare_asks_none` of both kinds of parameters.
 pub returns : goal.returns
 returns c = record {
   pss = bare_asks_none pss_record IsBarePss;

@@ -4,6 +4,7 @@ use Rattle.pkcs1_params.proofs.Masks.{defaults_counted, each_has_mask_zero, each
 use Rattle.standard.specs.Statement.{OaepEncoding}
 use Rattle.pkcs1_params.proofs.laws.lemma_oaep_spellings.Goals as goal
 
+-- Each clause is a law of records of fields. `oaep_record` is the fields of RSAES-OAEP parameters with their laws.
 pub returns : goal.returns
 returns c = record {
   defaults = defaults_counted oaep_record;

@@ -6,6 +6,8 @@ use Rattle.spki_core.specs.Words.{upto}
 use Rattle.spki_core.proofs.RecordEncodings.{default_count_only, encoding_under, encoding_under_fits, upto_more}
 use Rattle.pkcs1_params.proofs.listing.encodings_under.Goals as goal
 
+-- The `ghost range` and `ghost known` of the `Spelling` that is made: its mask is below `count`, which is the number of
+-- masks.
 pub invariant_of-spelling : goal.invariant_of-spelling
 invariant_of-spelling g c =
     let t = g.T.EncodeParams in
@@ -17,6 +19,8 @@ invariant_of-spelling g c =
       known = c.requires.non_defaults;
     }
 
+-- At the `?` behind `to_vec`: there was no memory. The encoding isn't too long (`long`), as the longest fits. `e` is
+-- that `?` hands the error on.
 pub returns-in_err-to_vec-clause-err : goal.returns-in_err-to_vec-clause-err
 returns-in_err-to_vec-clause-err g c =
     let t = g.T.EncodeParams in
@@ -28,6 +32,7 @@ returns-in_err-to_vec-clause-err g c =
           absurd (omega (arith, few, long.1))
     ])
 
+-- The encoding under this mask is pushed behind those under the lower ones.
 pub loop-mask-preserved : goal.loop-mask-preserved
 loop-mask-preserved g c =
     let t = g.T.EncodeParams in

@@ -4,6 +4,10 @@ use Rattle.spki_core.specs.Words.{viewed_with, any_of, Kind, Spelling}
 use Rattle.pkcs1_params.specs.Words.{oaep_record, hash_kind, mask_kind, oaep_kinds, of_oaep_fields, source_kind}
 use Rattle.pkcs1_params.proofs.quick.quick_oaep.Goals as goal
 
+-- At the end. `first`, `second` and `third` are the contents from each field on. `found` is the spelling: each value
+-- that was read, if the octet of its tag was next. `read` is that the contents are read as it, and `none` that strict
+-- reading refuses no field of it. `hash_is` and those behind it are that each field of it means the value that is
+-- returned.
 pub returns : goal.returns
 returns c =
     let strict = c.args.strict in

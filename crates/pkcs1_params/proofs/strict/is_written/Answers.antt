@@ -4,6 +4,7 @@ use Rattle.spki_core.proofs.StrictFields.{noncanonical_is}
 use Rattle.spki_core.specs.Words.{tag_number_in}
 use Rattle.pkcs1_params.proofs.strict.is_written.Goals as goal
 
+-- `noncanonical` names the same tag as `Tag::context` of the number.
 pub returns : goal.returns
 returns c =
     ap (λ (e : der.Error). e.kind) c.new.ensures

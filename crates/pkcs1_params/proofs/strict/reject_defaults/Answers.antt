@@ -1,3 +1,5 @@
+-- Strict reading of an encoding is a walk over it: its fault is the first default that is written, if the walk finds
+-- one. `bytes` is that the slice holds octets.
 use Rattle.std.proofs.Common.{arith, ap, sym, ◌∙◌}
 use Rattle.der_core.specs.Words.{are_bytes}
 use Rattle.spki_core.specs.Words.{unless_found}
@@ -5,6 +7,7 @@ use Rattle.spki_core.proofs.StrictFields.{strict_walks}
 use Rattle.pkcs1_params.proofs.Faults.{fault_kind_given}
 use Rattle.pkcs1_params.proofs.strict.reject_defaults.Goals as goal
 
+-- Where `written_default` found one, which `is_written` names.
 pub returns-in-Some : goal.returns-in-Some
 returns-in-Some g c =
     let t = g.T.EncodeParams in
@@ -14,6 +17,7 @@ returns-in-Some g c =
     (strict_walks t.form v c.args.bytes.now bytes c.requires ∙ ap (λ found. unless_found found v) (sym c.in-Some.ensures))
     c.is_written.result c.is_written.ensures
 
+-- Where it found none.
 pub returns-in-None : goal.returns-in-None
 returns-in-None g c =
     let t = g.T.EncodeParams in

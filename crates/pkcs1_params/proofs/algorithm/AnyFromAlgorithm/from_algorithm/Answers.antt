@@ -1,3 +1,4 @@
+-- `from_algorithm` of `FromAlgorithm for T`, for each `T`.
 use Rattle.std.proofs.Common.{Option, Some, None, option_map}
 use Rattle.der_core.specs.Words.{are_bytes}
 use Rattle.spki_core.specs.Words.{any_of}
@@ -8,10 +9,13 @@ use Rattle.pkcs1_params.proofs.Faults.{answers_asn1_decode}
 use Rattle.standard.specs.Statement.{IfPresent}
 use Rattle.pkcs1_params.proofs.algorithm.AnyFromAlgorithm.from_algorithm.Goals as goal
 
+-- The parameters of an algorithm identifier, if it has any, are octets within the limit, as an `AnyRef` holds them.
 parameters_are_held : (o : Option AnyRef) → IfPresent AreHeld (option_map any_of o)
 parameters_are_held None = tt
 parameters_are_held (Some any) = (are_bytes any.contents.now any.octets, any.bounded)
 
+-- `from_identifier` returns what the function `identified` gives, and that gives a value exactly where the identifier
+-- holds such parameters.
 pub returns-clause-read : goal.returns-clause-read
 returns-clause-read g c =
     let t = g.T.AlgorithmParams in

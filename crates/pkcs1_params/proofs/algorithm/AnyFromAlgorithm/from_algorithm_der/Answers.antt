@@ -1,3 +1,5 @@
+-- `from_algorithm_der` of `FromAlgorithm for T`, for each `T`. What it returns is what `whole_algorithm` gives, and
+-- that decodes the slice. `bytes` is that the slice holds octets, and `p` that `?` hands the error on, as `Asn1`.
 use Rattle.std.proofs.Common.{arith, ap, subst}
 use Rattle.der_core.specs.Words.{err_from_is_err_and, are_bytes, value_in, ◌>>=◌}
 use Rattle.spki_core.specs.Words.{record_read}
@@ -9,6 +11,8 @@ use Rattle.pkcs1_params.proofs.ParameterReads.{plain_never}
 use Rattle.standard.specs.Statement.{AlgorithmEncoding, Decodes}
 use Rattle.pkcs1_params.proofs.algorithm.AnyFromAlgorithm.from_algorithm_der.Goals as goal
 
+-- At the `?` behind `from_der`: the slice is no algorithm identifier. `fault` is that the error is about the slice, as
+-- reading a view asks for no memory.
 pub returns-in_err-algorithm-clause-read : goal.returns-in_err-algorithm-clause-read
 returns-in_err-algorithm-clause-read g c =
     let t = g.T.AlgorithmParams in
@@ -21,6 +25,7 @@ returns-in_err-algorithm-clause-read g c =
     (ap (λ x. x >>= identified oid (record_read t.form)) fault)
     (algorithm_decodes oid g.T.Oid.AssociatedOid.valid t.form _ bytes))
 
+-- At the end: the slice is an algorithm identifier, and `from_identifier` reads the parameters in it.
 pub returns-clause-read : goal.returns-clause-read
 returns-clause-read g c =
     let t = g.T.AlgorithmParams in

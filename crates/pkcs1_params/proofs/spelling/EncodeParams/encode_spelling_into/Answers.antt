@@ -6,6 +6,8 @@ use Rattle.pkcs1_params.specs.declared.error.Error.TheVariants as error
 use Rattle.pkcs1_params.proofs.Masks.{mask_in_range, spelling_written, under_encodes, under_refuses}
 use Rattle.pkcs1_params.proofs.spelling.EncodeParams.encode_spelling_into.Goals as goal
 
+-- The `ghost range` and `ghost known` of the `Spelling` that is made: its mask is one of these parameters', and
+-- `non_defaults` is what `non_defaults_in` returned.
 pub invariant_of-spelling : goal.invariant_of-spelling
 invariant_of-spelling g c =
     let t = g.Self.EncodeParams in
@@ -14,6 +16,9 @@ invariant_of-spelling g c =
       known = c.non_defaults_in.ensures;
     }
 
+-- At the `?` behind `encode_into`, whose error is `field-0.0`. `told` has that the slice is as it was, and the reason.
+-- Both are so of the parameters, whose only encoding under the mask is the spelling's. `p` is that `?` hands the error
+-- on, as `Asn1`.
 pub returns-in_err-encode_into : goal.returns-in_err-encode_into
 returns-in_err-encode_into g c =
     let p = err_from_is_err_and c.from_residual.result c.from_residual.ensures.1 in
@@ -34,6 +39,7 @@ returns-in_err-encode_into g c =
           (Err c.in_err-encode_into.field-0.0) told.err));
     }
 
+-- At the end: `encode_into` wrote the encoding of the spelling (`made`), and `field-0` is its length.
 pub returns-clause-written : goal.returns-clause-written
 returns-clause-written g c =
     let t = g.Self.EncodeParams in

@@ -6,6 +6,8 @@ use Rattle.pkcs1_params.specs.declared.error.Error.TheVariants as error
 use Rattle.pkcs1_params.proofs.Masks.{mask_in_range, spelling_written, under_refuses, under_shortest}
 use Rattle.pkcs1_params.proofs.spelling.EncodeParams.encode_spelling_to_slice.Goals as goal
 
+-- The `ghost range` and `ghost known` of the `Spelling` that is made: its mask is one of these parameters', and
+-- `non_defaults` is what `non_defaults_in` returned.
 pub invariant_of-spelling : goal.invariant_of-spelling
 invariant_of-spelling g c =
     let t = g.Self.EncodeParams in
@@ -14,6 +16,8 @@ invariant_of-spelling g c =
       known = c.non_defaults_in.ensures;
     }
 
+-- At the `?` behind `encode_to_slice`, whose error is `field-0.0`: its reason is one of the parameters, whose only
+-- encoding under the mask is the spelling's. `p` is that `?` hands the error on, as `Asn1`.
 pub returns-in_err-encode_to_slice-clause-err : goal.returns-in_err-encode_to_slice-clause-err
 returns-in_err-encode_to_slice-clause-err g c =
     let p = err_from_is_err_and c.from_residual.result c.from_residual.ensures.1 in
@@ -25,6 +29,7 @@ returns-in_err-encode_to_slice-clause-err g c =
     (encode_into_unwritten (spelling_written t.form) (record_under t.form c.args.mask v) {X = ℕ} _
     (Err c.in_err-encode_to_slice.field-0.0) c.in_err-encode_to_slice.ensures.err))
 
+-- At the end: what was written is the shortest encoding of the spelling (`s`), so of the parameters under the mask.
 pub returns-clause-written : goal.returns-clause-written
 returns-clause-written g c =
     let t = g.Self.EncodeParams in

@@ -7,6 +7,7 @@ use Rattle.spki_core.specs.Words.{any_of}
 use Rattle.spki_core.proofs.Readings.{read_as_any}
 use Rattle.spki_core.proofs.any.AnyRef.decode_as.Goals as goal
 
+-- Where the tag isn't that of `T`: the error names both tags, as `any_as` does.
 pub returns-then-ne-clause-exact : goal.returns-then-ne-clause-exact
 returns-then-ne-clause-exact g c =
     let other = rw c.tag.ensures at
@@ -17,6 +18,8 @@ returns-then-ne-clause-exact g c =
     ∙ unexpected_tag_read _ c.tag-then-ne.result
     ∙ ap (λ k. Err k) (sym kind)))
 
+-- At the end, the tag is that of `T`, and `decode_value` reads all contents. If it returns `Ok`, they are the contents
+-- of that value.
 pub returns-clause-ok : goal.returns-clause-ok
 returns-clause-ok g c =
     let same = unequal_test_false _ _ _ _ c.if-ne.false c.ne.ensures (ap (λ t. t.octet) c.TAG.ensures) in
@@ -24,6 +27,7 @@ returns-clause-ok g c =
     (are_bytes _ c.args.self.octets) (sym c.tag.ensures ∙ same) _ _ c.in_ok-reader.ensures.ok c.decode_value.result
     c.decode_value.ensures
 
+-- Where `quick_value` returns a value, it is what the contents are read as, so they are the contents of that value.
 pub returns-in-Some-clause-ok : goal.returns-in-Some-clause-ok
 returns-in-Some-clause-ok g c =
     let same = unequal_test_false _ _ _ _ c.if-ne.false c.ne.ensures (ap (λ t. t.octet) c.TAG.ensures) in

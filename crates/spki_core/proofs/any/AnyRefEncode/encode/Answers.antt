@@ -1,3 +1,6 @@
+-- `encode` of `Encode for AnyRef`. `all` is what `encoded_len` counted: the value is valid, and its encoding within the
+-- limit. Each clause `err` says of the value what the clause `appends` above it says of its octets. `p` is that `?`
+-- hands the error on.
 use Rattle.std.proofs.Common.{rules, arith, ◌≤◌, length}
 use Rattle.der_core.specs.Words.{err_from_is_err_and, limit, one_spelling_shortest}
 use Rattle.der_core.proofs.Writing.{appends_at_once, value_unwritten}
@@ -5,6 +8,7 @@ use Rattle.der_core.proofs.Headers.{behind_header, no_header}
 use Rattle.spki_core.specs.Words.{IsAny, any_of, written_any}
 use Rattle.spki_core.proofs.any.AnyRefEncode.encode.Goals as goal
 
+-- At the `?` behind the first `write`, which is of the header: where it has no room, the encoding has none.
 pub returns-in_err-write-clause-appends : goal.returns-in_err-write-clause-appends
 returns-in_err-write-clause-appends g c =
     let p = err_from_is_err_and c.from_residual-in_err-write.result c.from_residual-in_err-write.ensures.1 in
@@ -18,6 +22,7 @@ pub returns-in_err-write-clause-err : goal.returns-in_err-write-clause-err
 returns-in_err-write-clause-err g c =
     value_unwritten (one_spelling_shortest IsAny written_any) _ _ _ _ _ (returns-in_err-write-clause-appends g c).left
 
+-- At the end, the contents come behind the header, by the second `write`. All of them are written, or none.
 pub returns-clause-appends : goal.returns-clause-appends
 returns-clause-appends g c =
     let any = any_of c.args.self.now in

@@ -1,3 +1,6 @@
+-- `encode` of `Encode for ContextSpecificRef`. The tag octet is 160 + the number, which is allowed by `number.fits`.
+-- The contents are the encoding of the value. `p` is that `?` hands the error on. Each clause `err` says of the value
+-- what the clause `appends` above it says of its octets.
 use Rattle.std.proofs.Common.{ℕ, List, Option, ◌+◌, arith, length, length-append, rules}
 use Rattle.der_core.specs.Words.{EncodeError, WhyOctetsNotCounted, WhyOctetsNotWritten, another, err_from_is_err_and, length_octets, no_encoding, no_room, tlv, too_long}
 use Rattle.der_core.proofs.Writing.{value_unwritten}
@@ -15,6 +18,7 @@ uncounted_stops has tag octets room old too_long f h =
 uncounted_stops has tag octets room old no_room f h = absurd h
 uncounted_stops has tag octets room old another f h = absurd h
 
+-- At the `?` behind `encoded_len` of the value: nothing is written of contents that aren't counted.
 pub returns-in_err-length-clause-appends : goal.returns-in_err-length-clause-appends
 returns-in_err-length-clause-appends g c =
     let p = err_from_is_err_and c.from_residual.result c.from_residual.ensures.1 in
@@ -29,6 +33,7 @@ returns-in_err-length-clause-err g c =
     value_unwritten (numbered_writes_shortest g.T.Encoding.shortest) _ _ _ _ _
     (returns-in_err-length-clause-appends g c).left
 
+-- At the `?` behind `for_tlv`: with the header in front, the contents pass the limit. Nothing is written.
 pub returns-in_err-for_tlv-clause-appends : goal.returns-in_err-for_tlv-clause-appends
 returns-in_err-for_tlv-clause-appends g c =
     let p = err_from_is_err_and c.from_residual-in_err-for_tlv.result c.from_residual-in_err-for_tlv.ensures.1 in
@@ -41,6 +46,7 @@ returns-in_err-for_tlv-clause-err g c =
     value_unwritten (numbered_writes_shortest g.T.Encoding.shortest) _ _ _ _ _
     (returns-in_err-for_tlv-clause-appends g c).left
 
+-- At the `?` behind `write`, which is of the header: where it has no room, the encoding has none.
 pub returns-in_err-write-clause-appends : goal.returns-in_err-write-clause-appends
 returns-in_err-write-clause-appends g c =
     let p = err_from_is_err_and c.from_residual-in_err-write.result c.from_residual-in_err-write.ensures.1 in
@@ -55,6 +61,7 @@ returns-in_err-write-clause-err g c =
     value_unwritten (numbered_writes_shortest g.T.Encoding.shortest) _ _ _ _ _
     (returns-in_err-write-clause-appends g c).left
 
+-- At the end, `encode` of the value puts the contents behind the header, or says why it doesn't.
 pub returns-clause-appends : goal.returns-clause-appends
 returns-clause-appends g c =
     let number = c.args.self.now.tag_number in

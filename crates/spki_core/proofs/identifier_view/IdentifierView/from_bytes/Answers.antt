@@ -3,6 +3,7 @@ use Rattle.der_core.specs.Words.{are_bytes}
 use Rattle.spki_core.specs.Words.{is_identifier, is_identifier-sound, is_identifier-complete}
 use Rattle.spki_core.proofs.identifier_view.IdentifierView.from_bytes.Goals as goal
 
+-- Where the test fails: all identifiers pass it, so these octets are none.
 pub returns-then-not-is_identifier-clause-err : goal.returns-then-not-is_identifier-clause-err
 returns-then-not-is_identifier-clause-err c = (
   ap (λ e. e.kind) c.new.ensures,
@@ -10,6 +11,7 @@ returns-then-not-is_identifier-clause-err c = (
       let no = c.is_identifier.ensures in let f = c.if-not-is_identifier.true in cc,
 )
 
+-- At the end, where the test is passed: only identifiers pass it. The view is over the same octets.
 pub returns-clause-ok : goal.returns-clause-ok
 returns-clause-ok c =
     let yes : is_identifier c.args.bytes.now ≡ true =
