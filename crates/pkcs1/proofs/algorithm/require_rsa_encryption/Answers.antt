@@ -1,3 +1,6 @@
+-- In the `else` of `is_alone`. The object identifier is rsaEncryption, and there are parameters, but `is_alone` says
+-- that they aren't NULL. So the kind that `rsa_only` gives is `Value` of their tag, and so is that of the error. `oid`
+-- says which octets `is_rsa_encryption` looked at.
 use Rattle.std.proofs.Common.{◌∙◌, sym, ap, Err, Some, option_map, bytes_eq}
 use Rattle.der_core.specs.declared.error.Error.{Error}
 use Rattle.spki_core.specs.Words.{algorithm_in, any_of}

@@ -1,3 +1,5 @@
+-- Of keys `KeyReads` says it. Of parameters it follows from the kinds of their fields, which `pss_record` and
+-- `oaep_record` list.
 use Rattle.pkcs1.proofs.KeyReads as keys
 use Rattle.pkcs1_params.specs.Words.{oaep_record, pss_record}
 use Rattle.pkcs1_params.proofs.Masks.{record_delimited}

@@ -1,3 +1,5 @@
+-- Of each pair the first is the borrowed form, the second the owned one. What a form states doesn't depend on who holds
+-- the octets, so both are the same fact.
 use Rattle.pkcs1_params.specs.Words.{oaep_record, pss_record}
 use Rattle.spki_core.proofs.RecordEncodings.{record_spelled}
 use Rattle.pkcs1.specs.Words.{private_as_stated, public_as_stated}

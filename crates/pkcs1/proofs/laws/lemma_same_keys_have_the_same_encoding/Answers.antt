@@ -1,3 +1,5 @@
+-- A key has one encoding, and an encoding is that of one key. So two keys are the same exactly if their shortest
+-- encodings are the same bytes.
 use Rattle.pkcs1.proofs.KeyReads.{private_key_same_by_shortest, public_key_same_by_shortest}
 use Rattle.pkcs1.proofs.laws.lemma_same_keys_have_the_same_encoding.Goals as goal
 

@@ -1,3 +1,4 @@
+-- The elements of a slice of `u8` are octets: `type_inv` says it of each.
 use Rattle.std.proofs.Common.{arith}
 use Rattle.der_core.specs.Words.{are_bytes}
 use Rattle.pkcs1.proofs.other_primes.quick_other.Goals as goal

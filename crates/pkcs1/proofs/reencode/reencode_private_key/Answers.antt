@@ -1,9 +1,12 @@
+-- Where `from_pkcs1_der` gave a key. `read` is what is known of that call, and `field-0` the key. `key` is what it
+-- means, of which the bytes are the only encoding.
 use Rattle.der_core.specs.Words.{encoding_of, own_bytes_of}
 use Rattle.pkcs1.specs.Words.{OwnedKeyAllocates, IsPrivateKey, held_private_key, rsa_private_key}
 use Rattle.pkcs1.proofs.KeyReads.{private_key_at_most_one}
 use Rattle.pkcs1.proofs.KeysWritten.{memory_wanted, ok_result_holds, shortest_comes_out, withheld_is_memory}
 use Rattle.pkcs1.proofs.reencode.reencode_private_key.Goals as goal
 
+-- `to_pkcs1_der` gives the shortest encoding of the key, and that is these bytes.
 pub returns-clause-same : goal.returns-clause-same
 returns-clause-same c =
     let read = c.in_ok-from_pkcs1_der in
@@ -12,11 +15,13 @@ returns-clause-same c =
     encoding_of
     c.to_pkcs1_der.result c.to_pkcs1_der.ensures.encoding
 
+-- The bytes encode the key.
 pub returns-clause-encoding : goal.returns-clause-encoding
 returns-clause-encoding c =
     let read = c.in_ok-from_pkcs1_der in
     ok_result_holds c.to_pkcs1_der.result (held_private_key own_bytes_of read.field-0, read.ensures.ok.0)
 
+-- A key that has an encoding is withheld only if memory runs out.
 pub returns-clause-err : goal.returns-clause-err
 returns-clause-err c =
     let read = c.in_ok-from_pkcs1_der in
@@ -25,6 +30,7 @@ returns-clause-err c =
     encoding_of
     (OwnedKeyAllocates c.args.bytes.now) c.to_pkcs1_der.result c.to_pkcs1_der.ensures.err
 
+-- So the call gives the bytes that were read, or memory ran out.
 pub returns-clause-exact : goal.returns-clause-exact
 returns-clause-exact c =
     let read = c.in_ok-from_pkcs1_der in

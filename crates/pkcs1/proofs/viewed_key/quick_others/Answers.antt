@@ -1,3 +1,6 @@
+-- `quick_others` returns what `quick_alone` read, in the last `else`. The bytes begin with the tag of SEQUENCE, all of
+-- them are the list, and it isn't empty, so the key's rest is read as this list. `none` is that it has no rows, but
+-- `remaining` wasn't 0.
 use Rattle.std.proofs.Common.{◌∙◌, sym}
 use Rattle.pkcs1.specs.Words.{number_front}
 use Rattle.pkcs1.proofs.OtherPrimesHeld.{held_length}

@@ -1,3 +1,4 @@
+-- The word of the line is that of the arm, and `answer_same` puts the output for it.
 use Rattle.pkcs1_program.proofs.answer.answer_pair.Goals as goal
 
 pub returns-in-SamePss : goal.returns-in-SamePss

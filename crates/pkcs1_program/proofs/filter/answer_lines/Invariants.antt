@@ -11,5 +11,6 @@ invariant-loop-rest g l = record {
   within : length l.rest ≤ length l.input;
 }
 
+-- `split_line` takes a line from what is left.
 abbrev pub decreases-loop-rest : goal.decreases-loop-rest
 decreases-loop-rest g l = length l.rest

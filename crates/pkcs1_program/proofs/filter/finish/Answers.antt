@@ -1,3 +1,5 @@
+-- `flush` failed behind `write_out`. All bytes were written, and these are a beginning of themselves. That one call
+-- failed is said by `flush`, since `write_out` left the number of failures as it was.
 use Rattle.std.proofs.Common.{length, refl}
 use Rattle.std.proofs.KnownBytes.{Appends-kept}
 use Rattle.std.proofs.Math.Seq.{take-length}

@@ -1,3 +1,5 @@
+-- `lemma_answers_are_one` says that a line has at most one output, and so has a list of lines. The clauses `one_answer`
+-- and `one_output` hold at each exit, also at the `?` behind `read_input`.
 use Rattle.std.proofs.KnownBytes.{Consumes-whole}
 use Rattle.pkcs1_program.specs.Words.{lines_of, WritesFrontOfAll}
 use Rattle.pkcs1_program.proofs.Runs.{WritesFront-all}
@@ -9,6 +11,9 @@ returns-in_err-input-clause-one_answer g c = c.lemma_answers_are_one.ensures.0
 pub returns-in_err-input-clause-one_output : goal.returns-in_err-input-clause-one_output
 returns-in_err-input-clause-one_output g c = λ input. c.lemma_answers_are_one.ensures.1 (lines_of input)
 
+-- `answer_input` failed to write: what was written is a beginning of the output for some first lines. That is a
+-- beginning of whatever is the output for all lines, since there is only one. `all` says that the input is all that the
+-- source gave, so it is what the source had.
 pub returns-clause-front_of_all : goal.returns-clause-front_of_all
 returns-clause-front_of_all g c = λ rejected.
     let all = c.in_ok-input.ensures.all in

@@ -1,3 +1,4 @@
+-- Where `read_container` gave a container and the RSA key in it: `put_p8` puts what is told of the two.
 use Rattle.std.proofs.Common.{refl}
 use Rattle.pkcs1.specs.Words.{held_view}
 use Rattle.pkcs8_core.specs.Words.{info_of}

@@ -1,3 +1,5 @@
+-- One pass of the loop puts `item`, a label and a number. `put` says so, and `same` says that `as_bytes` gives the
+-- octets of the number. So one item more was put.
 use Rattle.std.proofs.Common.{◌++◌, ◌∙◌, ap}
 use Rattle.der_core.specs.Words.{bytes_of}
 use Rattle.pkcs1.specs.Words.{number_in}

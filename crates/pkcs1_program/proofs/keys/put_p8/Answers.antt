@@ -1,3 +1,5 @@
+-- Four pieces are put one behind the other: the word, the fields of the key, the attributes, and the encoding of the
+-- container.
 use Rattle.std.proofs.lemmas.Result.{on_ok_weaker}
 use Rattle.pkcs1_program.proofs.AppendedOutput.{appended_four}
 use Rattle.pkcs1_program.proofs.keys.put_p8.Goals as goal

@@ -1,3 +1,4 @@
+-- Three pieces are put one behind the other: the word, the fields of the key, and the bytes of the view.
 use Rattle.std.proofs.lemmas.Result.{on_ok_weaker}
 use Rattle.pkcs1_program.proofs.AppendedOutput.{appended_three}
 use Rattle.pkcs1_program.proofs.keys.put_priv.Goals as goal

@@ -1,3 +1,5 @@
+-- Where `T::read` gave parameters: what `put` appends is the output for them. `defaults` counts the fields that have
+-- their defaults, and `again` is their shortest encoding.
 use Rattle.std.proofs.Common.{refl}
 use Rattle.pkcs1_params.specs.Words.{EncodingOfFields}
 use Rattle.pkcs1_program.proofs.AppendedOutput.{answer_put}

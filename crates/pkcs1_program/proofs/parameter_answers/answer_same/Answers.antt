@@ -1,3 +1,6 @@
+-- Where `T::read` gave parameters of both encodings: `v` of the first, `w` of the second. `again` and `other` are their
+-- shortest encodings. `law` says that these are the same bytes exactly if v and w are the same, `decides` that `==`
+-- finds out whether they are, and `own` joins the two. So the verdict that is put is true of v and w.
 use Rattle.std.proofs.Common.{◌≡◌, inr, sym, ◌∙◌, IsTrue, ◌↔◌}
 use Rattle.std.proofs.lemmas.Result.{on_ok_weaker}
 use Rattle.std.proofs.lemmas.Slice.Eq.{bytes_eq-Decides}

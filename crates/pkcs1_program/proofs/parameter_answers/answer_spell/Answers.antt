@@ -1,3 +1,5 @@
+-- `ListedEncoding` says that the bytes encode parameters whose longest encoding is within the limit. If the bytes are
+-- no such encoding the output is `refused`, else it lists all encodings.
 use Rattle.std.proofs.Common.{refl}
 use Rattle.pkcs1_params.specs.Words.{encodings_in}
 use Rattle.pkcs1_program.specs.Words.{ListedEncoding}
@@ -5,6 +7,8 @@ use Rattle.pkcs1_program.proofs.AppendedOutput.{answer_put, refusal_put}
 use Rattle.pkcs1_program.proofs.OneAnswer.{unlisted_decodes_none}
 use Rattle.pkcs1_program.proofs.parameter_answers.answer_spell.Goals as goal
 
+-- `all_encodings` gave a list: it is all encodings (`lists`), and the longest is within the limit (`fit`).
+-- `put_spellings` puts them.
 pub returns-in-Some-2 : goal.returns-in-Some-2
 returns-in-Some-2 g c =
     let t = g.T.Parameters in
@@ -14,6 +18,7 @@ returns-in-Some-2 g c =
     (t.params c.in-Some.params) _ (c.in-Some.ensures.0, fit) (encodings_in c.in-Some-2.encodings, lists, refl)
     (rw c.as_slice.ensures.value at c.put_spellings.ensures)
 
+-- `all_encodings` gave `None`: the longest encoding isn't within the limit.
 pub returns : goal.returns
 returns g c =
     let t = g.T.Parameters in
@@ -22,6 +27,7 @@ returns g c =
     (unlisted_decodes_none t.Is t.fields_of (t.params c.in-Some.params) c.args.encoding.now c.in-Some.ensures lists)
     c.put_refused-in-None.ensures
 
+-- `T::read` gave `None`: the bytes encode no parameters.
 pub returns-in_default : goal.returns-in_default
 returns-in_default g c =
     let t = g.T.Parameters in

@@ -1,3 +1,5 @@
+-- Where `T::read` gave parameters, `v`. `is_strict` says whether the bytes are the shortest encoding of any parameters.
+-- They encode v alone, so it says it of v, which is `own`.
 use Rattle.pkcs1_params.specs.Words.{EncodingOfFields}
 use Rattle.pkcs1_program.proofs.AppendedOutput.{answer_put}
 use Rattle.pkcs1_program.proofs.Verdicts.{own_shortest, verdict_says}

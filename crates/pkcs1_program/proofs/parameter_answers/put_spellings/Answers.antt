@@ -1,3 +1,4 @@
+-- The word, the number of encodings and the encodings are put one behind the other. That is what `spell_answer` says.
 use Rattle.std.proofs.lemmas.Result.{on_ok_weaker}
 use Rattle.pkcs1_program.proofs.OneAnswer.{spellings_put}
 use Rattle.pkcs1_program.proofs.parameter_answers.put_spellings.Goals as goal

@@ -1,8 +1,12 @@
+-- `last` is what the last read gave. The loop keeps what came before it in `bytes`, so all that came are the two. No
+-- read failed, as the loop and the last read say.
 use Rattle.std.proofs.Common.{◌++◌, ◌∙◌, take, ap, arith, length-append, length-take, inl, inr}
 use Rattle.std.proofs.KnownBytes.{Consumes-trans}
 use Rattle.der_core.specs.Words.{err_from_is_err_and}
 use Rattle.pkcs1_program.proofs.sequence.read_sequence.Goals as goal
 
+-- More than `Length::MAX` bytes came, but not more than one piece more: the third reason of `WhyReadingStopped`, with
+-- `Overflow`.
 pub returns-then-count-to_usize-clause-err : goal.returns-then-count-to_usize-clause-err
 returns-then-count-to_usize-clause-err g c =
     let last = take c.in-Ok.count c.read.new.buf in
@@ -27,6 +31,8 @@ returns-then-count-to_usize-clause-err g c =
       ),
     )))
 
+-- At the `?` behind `extend_from_slice`: the second reason, that memory ran out. At least one byte came, and no more
+-- than `Length::MAX`. `p.1` says that the result is an error, `p.2` which one.
 pub returns-in_err-extend_from_slice-clause-err : goal.returns-in_err-extend_from_slice-clause-err
 returns-in_err-extend_from_slice-clause-err g c =
     let last = take c.in-Ok.count c.read.new.buf in

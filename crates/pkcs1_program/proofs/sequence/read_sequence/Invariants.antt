@@ -11,5 +11,6 @@ invariant-loop-count g l = record {
   faults : g.R.Source.failures l.source ≡ g.R.Source.failures l.fn.source;
 }
 
+-- Each pass adds at least one byte, and the bytes stay within the limit.
 abbrev pub decreases-loop-count : goal.decreases-loop-count
 decreases-loop-count g l = limit - vec_len l.bytes

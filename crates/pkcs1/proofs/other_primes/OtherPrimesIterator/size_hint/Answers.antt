@@ -1,3 +1,5 @@
+-- `size_hint` of `Iterator` for `OtherPrimes`. Both bounds are `left`, which is the number of primes that the iterator
+-- holds, as `left_counted` says.
 use Rattle.std.proofs.Common.{Some, ap, arith}
 use Rattle.pkcs1.proofs.OtherPrimesHeld.{left_counted}
 use Rattle.pkcs1.proofs.other_primes.OtherPrimesIterator.size_hint.Goals as goal

@@ -1,3 +1,5 @@
+-- The row is the version, five numbers, and `CrtParts`. The version is never refused, a number with a tag of U, and
+-- `CrtParts` with one of U or of O.
 use Rattle.std.proofs.Common.{⊎_elim, inl}
 use Rattle.pkcs1.proofs.private_key.PrivateKeyOf.row_len.Goals as goal
 

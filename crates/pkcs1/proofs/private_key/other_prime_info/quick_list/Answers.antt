@@ -1,3 +1,6 @@
+-- `quick_list` returns the list that `quick_alone` read, in the last `else`. The bytes begin with the tag of SEQUENCE,
+-- all of them are the list, and it isn't empty, so the key's rest is read as this list. `none` is that it has no items,
+-- which `is_empty` denied.
 use Rattle.std.proofs.Common.{◌∙◌, ◌≡◌, ap, arith, length, sym, true, false}
 use Rattle.std.proofs.lemmas.List.{length-map}
 use Rattle.der_core.specs.Words.{nat_tests}

@@ -1,3 +1,5 @@
+-- `parts_len` of `EncodeInParts` for `RsaPublicKey<U>`. Each of the two numbers is refused with a tag of U, and the end
+-- of the row never.
 use Rattle.std.proofs.Common.{⊎_elim}
 use Rattle.pkcs1.proofs.public_key.RsaPublicKeyEncodeInParts.parts_len.Goals as goal
 

@@ -1,3 +1,6 @@
+-- `to_pkcs1_der` of `EncodeRsaPrivateKey` for `RsaPrivateKey<U>`. It calls `encode_msg`, which speaks of the encodings
+-- that U states. `number_key_encodes` says that they are those of `PrivateKeyEncoding`, for the key that the numbers of
+-- U mean.
 use Rattle.std.proofs.Common.{ap, ◌∙◌, refl}
 use Rattle.der_core.specs.Words.{err_from_is_err_and, tagged_shortest, same_tag}
 use Rattle.der_core.specs.declared.error.ErrorKind.TheVariants as kind
@@ -8,10 +11,12 @@ use Rattle.pkcs1_params.proofs.Masks.{shortest_as}
 use Rattle.standard.specs.Statement.{PrivateKeyEncoding}
 use Rattle.pkcs1.proofs.traits.RsaPrivateKeyEncodeRsaPrivateKey.to_pkcs1_der.Goals as goal
 
+-- The list of other primes is there but empty: the error was made with this tag.
 pub returns-then-lists_none-clause-no_primes : goal.returns-then-lists_none-clause-no_primes
 returns-then-lists_none-clause-no_primes g c =
     λ _. ap (λ e. e.kind) c.new-rejected.ensures ∙ ap kind.Value (same_tag _ _ refl)
 
+-- The document holds the shortest encoding that U states, so the shortest of the key.
 pub returns-clause-encoding : goal.returns-clause-encoding
 returns-clause-encoding g c =
     let e = g.U.Encoding in
@@ -22,6 +27,8 @@ returns-clause-encoding g c =
     (number_key_encodes e.valid e.printed e.means e.value number g.met.U.UintEncoding.encodes_number e.shortest key) _
     c.in_ok-encode_msg.ensures.holds.2
 
+-- At the `?` behind `encode_msg`: why it made no document of what U states is why there is none of the key. `p.1` says
+-- that the result is an error, `p.2` that it is this one in `Asn1`.
 pub returns-in_err-encode_msg-clause-err : goal.returns-in_err-encode_msg-clause-err
 returns-in_err-encode_msg-clause-err g c =
     let e = g.U.Encoding in

@@ -1,3 +1,5 @@
+-- `decode_value` of `DecodeValue<&[u8], M>` for `Version`. Where `Version::try_from` fails, the number that was read
+-- isn't below 2, which is `high`. So the version is read as `Value` of INTEGER, which is the error that was made.
 use Rattle.std.proofs.Common.{◌≡◌, ◌∙◌, ap, arith, false, inr, refl, nat_lt}
 use Rattle.der_core.specs.Words.{nat_tests, small_of, same_tag, integer_tag}
 use Rattle.der_core.specs.declared.error.ErrorKind.TheVariants as kind

@@ -1,3 +1,4 @@
+-- `check` of `Copied` for `Private`. `try_from` gave a view of a key, `field-0`, which the bytes encode.
 use Rattle.pkcs1.specs.Words.{held_view}
 use Rattle.pkcs1_program.proofs.copy.PrivateCopied.check.Goals as goal
 

@@ -1,3 +1,4 @@
+-- `check` of `Copied` for `Public`. `try_from` gave a key, `field-0`, which the bytes encode.
 use Rattle.der_core.specs.Words.{bytes_of}
 use Rattle.pkcs1.specs.Words.{held_public_key}
 use Rattle.pkcs1_program.proofs.copy.PublicCopied.check.Goals as goal

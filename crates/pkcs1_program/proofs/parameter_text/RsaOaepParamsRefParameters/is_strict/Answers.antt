@@ -1,3 +1,5 @@
+-- `is_strict` of `Parameters` for `RsaOaepParamsRef`. `from_der_strict` is `Ok` exactly if the bytes are the shortest
+-- encoding of some parameters.
 use Rattle.pkcs1_params.specs.Words.{oaep_of}
 use Rattle.standard.specs.Statement.{IsShortest, OaepEncoding}
 use Rattle.pkcs1_program.proofs.Verdicts.{read_is_ok}

@@ -1,3 +1,5 @@
+-- `is_strict` of `Parameters` for `RsaPssParamsRef`. `from_der_strict` is `Ok` exactly if the bytes are the shortest
+-- encoding of some parameters.
 use Rattle.pkcs1_params.specs.Words.{pss_of}
 use Rattle.standard.specs.Statement.{IsShortest, PssEncoding}
 use Rattle.pkcs1_program.proofs.Verdicts.{read_is_ok}

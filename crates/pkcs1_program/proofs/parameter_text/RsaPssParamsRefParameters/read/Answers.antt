@@ -1,3 +1,5 @@
+-- `read` of `Parameters` for `RsaPssParamsRef`. `ok` makes `None` of an error of `try_from`, and an error says that the
+-- bytes encode no parameters.
 use Rattle.pkcs1_params.specs.Words.{pss_of}
 use Rattle.standard.specs.Statement.{PssEncoding}
 use Rattle.pkcs1_program.proofs.Verdicts.{read_some}

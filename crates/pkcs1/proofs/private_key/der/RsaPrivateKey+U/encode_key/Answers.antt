@@ -1,3 +1,5 @@
+-- `encode_key` of `RsaPrivateKey<U>`. It calls `encode_into`, which speaks of the encodings that U states. `same` says
+-- that they are those of `PrivateKeyEncoding`, for the key that the numbers of U mean. 48 is the tag octet of SEQUENCE.
 use Rattle.std.proofs.Common.{ℕ, length, ap, ◌∙◌, refl, Ok, Err, Some, None}
 use Rattle.der_core.specs.Words.{err_from_is_err_and, tagged_shortest, same_tag}
 use Rattle.der_core.proofs.Writing.{encode_into_encodes, encode_into_unwritten}
@@ -8,9 +10,11 @@ use Rattle.pkcs1_params.proofs.Masks.{encodes_as, unwritten_of_same_encodings}
 use Rattle.standard.specs.Statement.{PrivateKeyEncoding}
 use Rattle.pkcs1.proofs.private_key.der.RsaPrivateKey+U.encode_key.Goals as goal
 
+-- The list of other primes is there but empty: the error was made with this tag.
 pub returns-then-lists_none-clause-no_primes : goal.returns-then-lists_none-clause-no_primes
 returns-then-lists_none-clause-no_primes g c = λ _. ap (λ e. e.kind) c.new.ensures ∙ ap kind.Value (same_tag _ _ refl)
 
+-- `encode_into` returned a length, `field-0`. In front of the slice is the shortest encoding of the key.
 pub returns-clause-written : goal.returns-clause-written
 returns-clause-written g c =
     let e = g.U.Encoding in
@@ -23,6 +27,8 @@ returns-clause-written g c =
     (encode_into_encodes (tagged_shortest (private_shortest e.shortest) 48) _ c.args.out.now _
     (Ok c.in_ok-encode_into.field-0) made.ok made.shortest tt tt c.encode_into.auto.out)
 
+-- At the `?` behind `encode_into`, whose error is `field-0.0`. The slice is as it was. `p.1` says that the result is an
+-- error, `p.2` that it is this one in `Asn1`.
 pub returns-in_err-encode_into-clause-written : goal.returns-in_err-encode_into-clause-written
 returns-in_err-encode_into-clause-written g c =
     let e = g.U.Encoding in
@@ -36,6 +42,8 @@ returns-in_err-encode_into-clause-written g c =
     (encode_into_encodes (tagged_shortest (private_shortest e.shortest) 48) _ c.args.out.now _
     (Err c.in_err-encode_into.field-0.0) tt tt told.err told.unchanged c.encode_into.auto.out))
 
+-- There too: the reason why `encode_into` wrote nothing is one of those that `Refuses` has. `number_key_written` says
+-- that a key is valid for U exactly if `IsPrivateKey` holds.
 pub returns-in_err-encode_into-clause-err : goal.returns-in_err-encode_into-clause-err
 returns-in_err-encode_into-clause-err g c =
     let e = g.U.Encoding in
