@@ -1,4 +1,5 @@
-//! Object identifiers, encodings of any tag, and algorithm identifiers.
+//! The words of rows about object identifiers, encodings of any tag, and algorithm identifiers: each public function
+//! with a `Told` writes a row's output to it, or the trouble for which there is none.
 use crate::read::{both, owned, shown};
 use crate::shown::Shown;
 use crate::told::{PrintedError, Told};

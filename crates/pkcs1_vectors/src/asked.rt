@@ -1,4 +1,6 @@
-//! What a verifier and a receiver ask of parameters: the hash function, whether two mean the same, and the label.
+//! The words of rows about what a verifier and a receiver ask of parameters, as the hash function, whether two mean the
+//! same, and the label: each public function with a `Told` writes a row's output to it, or the trouble for which there
+//! is none.
 use crate::told::{PrintedError, Told};
 use der_core::{Decode, NoMemory};
 use pkcs1::{

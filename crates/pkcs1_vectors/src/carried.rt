@@ -1,4 +1,5 @@
-//! Other ways to a key: the view, documents, and the traits that callers' own types can implement.
+//! Other ways to a key, for the words of `keys.rt`: the view, documents, and the traits that callers' own types can
+//! implement.
 use crate::shown::Shown;
 use crate::told::{PrintedError, Told};
 use pkcs1::{

@@ -1,4 +1,5 @@
-//! Containers of private keys (PKCS #8).
+//! The words of rows about containers of private keys (PKCS #8): each public function with a `Told` writes a row's
+//! output to it, or the trouble for which there is none.
 use crate::read::{borrowed, compared, read, shown};
 use crate::told::Told;
 use pkcs8_core::{PrivateKeyInfoRef, fault_of_private_key_info, rsa_from_pkcs8_der};

@@ -1,4 +1,5 @@
-//! Encodings that are damaged, or joined from parts that don't belong together.
+//! The words of rows about encodings that are damaged, or joined from parts that don't belong together: each public
+//! function with a `Told` writes a row's output to it, or the trouble for which there is none.
 use crate::told::Told;
 use der_core::{
     Decode, Encode, Error, ErrorKind, Length, NoMemory, Reader, SliceReader, decode_optional,

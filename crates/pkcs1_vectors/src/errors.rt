@@ -1,4 +1,5 @@
-//! Errors as they are printed.
+//! The words of rows about errors as they are printed: each public function with a `Told` writes a row's output to it,
+//! or the trouble for which there is none.
 use crate::told::Told;
 use der_core::{Error, ErrorKind, Tag};
 

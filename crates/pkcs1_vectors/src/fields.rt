@@ -1,4 +1,5 @@
-//! Optional parts, last parts and explicit fields, with small INTEGERs.
+//! The words of rows about optional parts, last parts and explicit fields, with small INTEGERs: each public function
+//! with a `Told` writes a row's output to it, or the trouble for which there is none.
 use crate::lengths::tag_number;
 use crate::told::{PrintedError, Told};
 use crate::written::written;

@@ -1,4 +1,5 @@
-//! Parameters in their algorithm identifiers.
+//! The words of rows about parameters in their algorithm identifiers: each public function with a `Told` writes a row's
+//! output to it, or the trouble for which there is none.
 use crate::read::{compared, told};
 use crate::shown::Shown;
 use crate::told::{PrintedError, Told};

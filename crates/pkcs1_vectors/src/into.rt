@@ -1,4 +1,4 @@
-//! Values written into slices of a given length.
+//! Values written into slices of a given length, for the words of rows.
 use crate::told::{PrintedError, Told};
 use crate::written::UNTOUCHED;
 use der_core::{Decode, Encode, Error, ErrorKind, UintEncoding};

@@ -1,4 +1,5 @@
-//! Versions, keys and other primes.
+//! The words of rows about versions, keys and other primes: each public function with a `Told` writes a row's output to
+//! it, or the trouble for which there is none.
 use crate::carried::{private_der, public_der, viewed};
 use crate::into::{in_each_room, into_each};
 use crate::read::{both, compared, owned, read};

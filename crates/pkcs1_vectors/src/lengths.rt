@@ -1,4 +1,5 @@
-//! Lengths, tags and headers.
+//! The words of rows about lengths, tags and headers: each public function with a `Told` writes a row's output to it,
+//! or the trouble for which there is none.
 use crate::told::{PrintedError, Told};
 use der_core::{Header, Length, Reader, Result, SliceReader, Tag, TagNumber};
 

@@ -1,4 +1,5 @@
-//! Parameters of RSASSA-PSS and RSAES-OAEP.
+//! The words of rows about parameters of RSASSA-PSS and RSAES-OAEP: each public function with a `Told` writes a row's
+//! output to it, or the trouble for which there is none.
 use crate::read::{both, compared, read, told};
 use crate::shown::Shown;
 use crate::told::{PrintedError, Told};

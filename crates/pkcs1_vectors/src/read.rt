@@ -1,4 +1,4 @@
-//! Ways of reading an encoding.
+//! Ways of reading an encoding, for the words of rows.
 use crate::shown::Shown;
 use crate::told::{PrintedError, Told};
 use crate::written::encoding_of;

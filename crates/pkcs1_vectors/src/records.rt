@@ -1,4 +1,5 @@
-//! Types of one's own: a value that is read, and what is written of it.
+//! The words of rows about types of one's own, with a value that is read, and what is written of it: each public
+//! function with a `Told` writes a row's output to it, or the trouble for which there is none.
 use crate::told::{PrintedError, Told};
 use der_core::Result;
 use examples::{

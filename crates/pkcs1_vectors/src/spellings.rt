@@ -1,4 +1,5 @@
-//! Spellings of parameters.
+//! The words of rows about spellings of parameters: each public function with a `Told` writes a row's output to it, or
+//! the trouble for which there is none.
 use crate::into::{after, untouched};
 use crate::told::{PrintedError, Told};
 use der_core::Decode;

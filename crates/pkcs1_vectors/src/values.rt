@@ -1,4 +1,5 @@
-//! INTEGERs, OCTET STRINGs and documents.
+//! The words of rows about INTEGERs, OCTET STRINGs and documents: each public function with a `Told` writes a row's
+//! output to it, or the trouble for which there is none.
 use crate::shown::Shown;
 use crate::told::{PrintedError, Told};
 use crate::written::{contents, written};

@@ -1,4 +1,4 @@
-//! Ways of writing a value, shown in hexadecimal digits.
+//! Ways of writing a value, shown in hexadecimal digits, for the words of rows.
 use crate::told::{Answer, PrintedError, Told};
 use der_core::{Document, Encode, EncodeValue, SecretDocument, Sequence, SliceWriter};
 use std::alloc::Global;

@@ -1,3 +1,4 @@
+-- `write_only` says both of what is printed of a signature's row. By `signature_law` that is what the grammar says.
 use Rattle.std.proofs.Common.{length}
 use Rattle.der_core.specs.Words.{encodes_stated, unwritten_stated}
 use Rattle.examples.proofs.Signature.{signature_law}

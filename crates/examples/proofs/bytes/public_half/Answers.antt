@@ -27,12 +27,14 @@ module _ (key : PrivateKey) (half : PublicKey) (is : half ≡ public_half_of key
   half_withheld Before (Err e) why =
       inr (key, decodes, subst (λ one. Withholds (λ _. Unit {0}) PublicKeyEncoding one e) is why)
 
+-- `decode_key` has read the key. `to_pkcs1_der` has written its half.
 pub returns-clause-ok : goal.returns-clause-ok
 returns-clause-ok c =
     half_decodes (held_private_key bytes_of c.in_ok-key.key) (held_public_key bytes_of c.public_key.result)
     c.public_key.ensures c.args.encoding.now c.in_ok-key.ensures.ok c.to_pkcs1_der.result
     c.to_pkcs1_der.ensures.encoding
 
+-- The error of the last call: `decode_key` has read the key, and `to_pkcs1_der` says why its half isn't written.
 pub returns-clause-err : goal.returns-clause-err
 returns-clause-err c =
     half_withheld (held_private_key bytes_of c.in_ok-key.key) (held_public_key bytes_of c.public_key.result)

@@ -16,6 +16,8 @@ half_taken Gives Takes key half is (read, gives, _, holds) (Ok done) (written, t
     (key, read, written, gives, holds, takes, subst (λ one. IsShortest PublicKeyEncoding one written) is shortest)
 half_taken Gives Takes key half is given (Err e) wrote = tt
 
+-- At the end: `read_pkcs1_der_file` has read the key, and `write_pkcs1_der_file` says what took the encoding of its
+-- half.
 pub returns : goal.returns
 returns g c =
     half_taken _ _ (held_private_key own_bytes_of c.in_ok-key.key) (held_public_key bytes_of c.public_key.result)

@@ -2,6 +2,8 @@ use Rattle.std.proofs.Common.{[]}
 use Rattle.der_core.specs.Words.{written_is_shortest}
 use Rattle.examples.proofs.hashing_writer.hash_of.Goals as goal
 
+-- `t` is what the trait `Encoding` says of the type of the value, `v` is the value. The encoding is what `encode` has
+-- appended to a new writer, to which nothing was written.
 pub returns-clause-ok : goal.returns-clause-ok
 returns-clause-ok g c =
     let t = g.T.Encoding in

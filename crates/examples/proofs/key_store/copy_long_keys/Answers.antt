@@ -1,3 +1,5 @@
+-- The input is what `read_all` has read, the output what `long_entries` has made of it. `as_slice` and `as_slice-2` are
+-- these two as slices.
 use Rattle.std.proofs.Common.{subst}
 use Rattle.std.specs.Io.KnownBytes.{Appends}
 use Rattle.der_core.specs.Words.{AppendsFront, OneFailed}
@@ -5,6 +7,7 @@ use Rattle.examples.specs.KeyStore.{Copies}
 use Rattle.examples.proofs.KeyStore.{all_taken, flushed}
 use Rattle.examples.proofs.key_store.copy_long_keys.Goals as goal
 
+-- `put_all` has failed: the sink took a beginning of the output.
 pub returns-in-Err-put_all-clause-write : goal.returns-in-Err-put_all-clause-write
 returns-in-Err-put_all-clause-write g c = λ _. (
   c.in-Ok.store.items,
@@ -16,6 +19,7 @@ returns-in-Err-put_all-clause-write g c = λ _. (
   c.in-Err-put_all.ensures.2,
 )
 
+-- `put_all` has written the output, which stays at the flush.
 pub returns-in-Ok-flush-clause-ok : goal.returns-in-Ok-flush-clause-ok
 returns-in-Ok-flush-clause-ok g c = (
   c.in-Ok.store.items,
@@ -27,6 +31,7 @@ returns-in-Ok-flush-clause-ok g c = (
       c.as_slice-2.ensures.value c.in-Ok-put_all.ensures.0) c.flush.ensures.bytes,
 )
 
+-- The last arm: `flush` has failed. The sink took the whole output, which is a beginning of it.
 pub returns-clause-write : goal.returns-clause-write
 returns-clause-write g c = λ _. (
   c.in-Ok.store.items,

@@ -1,3 +1,4 @@
+-- `read_owned` says it of what is printed of a list's row. By `number_list_law` that is what the grammar says.
 use Rattle.der_core.specs.Words.{memory_stated}
 use Rattle.examples.proofs.Numbers.{number_list_law}
 use Rattle.examples.proofs.number_list.read_number_list.Goals as goal

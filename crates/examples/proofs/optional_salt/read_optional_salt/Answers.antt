@@ -1,3 +1,4 @@
+-- `read_borrowed` says it of what is printed of the row. By `salt_law` that is what the grammar says.
 use Rattle.der_core.specs.Words.{decodes_stated}
 use Rattle.examples.proofs.Salt.{salt_law}
 use Rattle.examples.proofs.optional_salt.read_optional_salt.Goals as goal

@@ -3,6 +3,7 @@ use Rattle.der_core.specs.Words.{nat_tests}
 use Rattle.spki_core.specs.Words.{upto}
 use Rattle.pkcs1_c.proofs.algorithm.is_same.Goals as goal
 
+-- A list is that of its elements, by index.
 list_upto : (l : List ℕ) → l ≡ upto (length l) (slice_index l)
 list_upto [] = refl
 list_upto (x ∷ xs) = ap (λ ys. x ∷ ys) (list_upto xs)
@@ -10,6 +11,7 @@ list_upto (x ∷ xs) = ap (λ ys. x ∷ ys) (list_upto xs)
 nine_octets_upto : (l : List ℕ) → length l ≡ 9 → l ≡ upto 9 (slice_index l)
 nine_octets_upto l is = list_upto l ∙ ap (λ n. upto n (slice_index l)) is
 
+-- Two lists of nine octets, by index, as the arm compares them.
 abbrev Alike : (ℕ → ℕ) → (ℕ → ℕ) → Bool
 Alike f g =
     nat_eq (f 0) (g 0) && nat_eq (f 1) (g 1) && nat_eq (f 2) (g 2) && nat_eq (f 3) (g 3) && nat_eq (f 4) (g 4)
@@ -21,6 +23,7 @@ alike_same f g is = grind (arith, nat_tests)
 alike_itself : (f : ℕ → ℕ) → Alike f f ≡ true
 alike_itself f = grind (arith, nat_tests)
 
+-- The arm of nine octets in `oid` and nine in `other`: the result is whether each is equal.
 pub returns-in-len9-other : goal.returns-in-len9-other
 returns-in-len9-other c =
     let a = c.args.oid.now in

@@ -8,9 +8,12 @@ use Rattle.pkcs1_c.proofs.Containers.{ContainerSpells, error_none, info_one, inf
 use Rattle.pkcs1_c.proofs.Writes.{status_known, error_of_same_reasons, held_written, only_status_is_error, unwritten_error_as}
 use Rattle.pkcs1_c.proofs.container.pkcs1_c_private_key_info_encode.Goals as goal
 
+-- `from_c_info` promises that what it makes is a container.
 pub write_encoding-requires : goal.write_encoding-requires
 write_encoding-requires c = c.in-Ok.ensures.some
 
+-- What was made is the container that the struct means, and there is a key in it. So the only reasons are those of
+-- `write_encoding`.
 pub returns-in-Ok : goal.returns-in-Ok
 returns-in-Ok c =
     let info = c.args.info.now in
@@ -29,6 +32,8 @@ returns-in-Ok c =
           (rw c.in-Ok.ensures.ok at told.exact));
     }
 
+-- `from_c_info` has told the fault of the octets. They encode no key, so there is nothing to write, and no other
+-- reason.
 pub returns-in-Err : goal.returns-in-Err
 returns-in-Err c =
     let info = c.args.info.now in

@@ -4,10 +4,12 @@ use Rattle.standard.specs.Statement.{octets}
 use Rattle.pkcs1_c.proofs.StructErrors.{number_rejected}
 use Rattle.pkcs1_c.proofs.numbers.number.Goals as goal
 
+-- At the `?` behind `UintRef::new`: its error says why these bytes are no number.
 pub returns-in_err-new-clause-err : goal.returns-in_err-new-clause-err
 returns-in_err-new-clause-err c =
     let rejected = number_rejected c.args.bytes.now _ c.in_err-new.ensures.err in search rules
 
+-- There are bytes, and the number that was made of them, `field-0`, is within the limit.
 pub returns-clause-held : goal.returns-clause-held
 returns-clause-held c =
     let made = c.in_ok-new.ensures in

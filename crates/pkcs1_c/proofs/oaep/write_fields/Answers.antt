@@ -7,6 +7,7 @@ use Rattle.pkcs1_c.proofs.StructErrors.{oaep_part}
 use Rattle.pkcs1_c.proofs.Writes.{error_behind, fields_rejected}
 use Rattle.pkcs1_c.proofs.oaep.write_fields.Goals as goal
 
+-- `from_c_oaep` has made what the struct holds, so each field can be held. `write_params` says the rest.
 pub returns-in-Ok : goal.returns-in-Ok
 returns-in-Ok c =
     let is = c.in-Ok.ensures.ok in
@@ -14,6 +15,7 @@ returns-in-Ok c =
     let rest = rw is at c.write_params.ensures.exact in
     record { writes = rw is at c.write_params.ensures.writes; exact = search (rules, error_behind) }
 
+-- `from_c_oaep` has told which field can't be held. Parameters with an encoding have no such field.
 pub returns-in-Err : goal.returns-in-Err
 returns-in-Err c =
     let v = oaep_seen c.args.params.now in

@@ -4,6 +4,8 @@ use Rattle.standard.specs.Statement.{OaepEncoding}
 use Rattle.pkcs1_c.specs.Words.{oaep_seen}
 use Rattle.pkcs1_c.proofs.oaep.write_known.Goals as goal
 
+-- At the last call: both hash functions have NULL, and the source an OCTET STRING. So the struct holds the parameters
+-- that `encode_known_oaep` writes of these octets.
 pub returns-clause-written : goal.returns-clause-written
 returns-clause-written c =
     let p = c.args.params.now in

@@ -5,6 +5,7 @@ use Rattle.pkcs1.specs.Words.{number_in, next_prime, other_of}
 use Rattle.pkcs1_c.proofs.PlacedPrimes.{one_placed, placing_all_placed, placing_stopped}
 use Rattle.pkcs1_c.proofs.private_key.pkcs1_c_other_primes.Goals as goal
 
+-- Before the first round none is placed. The new reader has the whole list left.
 pub loop-i-init : goal.loop-i-init
 loop-i-init c = λ primes few whole. record {
   behind = primes;
@@ -14,12 +15,14 @@ loop-i-init c = λ primes few whole. record {
   kept = refl;
 }
 
+-- `read_prime` has read the first of the primes that are left, and `to_c_other_prime` has its octets.
 pub loop-i-preserved : goal.loop-i-preserved
 loop-i-preserved c = λ primes few whole.
     one_placed primes _ _ c.loop-i.others c.args.others.now c.loop-i.i c.to_c_other_prime.result
     (other_of (number_in bytes_of) c.in-Ok-read_prime.prime) (omega (arith, c.loop-i-test.true, c.loop-i.auto.others))
     c.to_c_other_prime.ensures c.in-Ok-read_prime.ensures (c.loop-i.invariant primes few whole)
 
+-- `read_prime` has failed, so no prime is left of the list: all are placed.
 pub returns-in-Err : goal.returns-in-Err
 returns-in-Err c = record {
   placed = λ primes few whole.
@@ -28,6 +31,7 @@ returns-in-Err c = record {
       (λ l is. front_errs next_prime _ _ _ is c.in-Err.ensures.1) (c.loop-i.invariant primes few whole);
 }
 
+-- After the last round the array is full.
 pub returns : goal.returns
 returns c = record {
   placed = λ primes few whole.

@@ -6,10 +6,12 @@ use Rattle.pkcs1_c.proofs.StructErrors.{IsPartError, numbers_part}
 use Rattle.pkcs1_c.proofs.Writes.{error_behind, held_written, part_rejected, unwritten_error_as}
 use Rattle.pkcs1_c.proofs.private_key.pkcs1_c_private_key_encode.Goals as goal
 
+-- What `GivenKey::of` made of the struct and the array is a valid key.
 pub write_encoding-requires : goal.write_encoding-requires
 write_encoding-requires c =
     given_private_valid c.args.key.now c.args.others.now (given_key c.in-Ok.key.0) c.in-Ok.ensures.ok
 
+-- There are not as many other primes as the struct says. That is told before all else.
 pub returns-then-key-others : goal.returns-then-key-others
 returns-then-key-others c =
     let key = c.args.key.now in
@@ -24,6 +26,8 @@ returns-then-key-others c =
     (λ bytes p s q. q.1 p.0.0) c.args.out.now c.args.len.now refl (refl, c.if-key-others.true) in
     record { writes = told.0; exact = told.1 }
 
+-- The key that was made has the encodings of the key that is meant. So what `write_encoding` says of it is said of the
+-- struct, whose count is right, and whose numbers can be held.
 pub returns-in-Ok : goal.returns-in-Ok
 returns-in-Ok c =
     let key = c.args.key.now in
@@ -42,6 +46,7 @@ returns-in-Ok c =
           search (rules, error_behind);
     }
 
+-- `GivenKey::of` has told which number can't be held. The count of other primes is right.
 pub returns-in-Err : goal.returns-in-Err
 returns-in-Err c =
     let key = c.args.key.now in

@@ -3,11 +3,13 @@ use Rattle.pkcs1_c.specs.Words.{kind_number}
 use Rattle.pkcs1_c.proofs.HeldParameters.{plain_has_no_status, mask_has_no_status}
 use Rattle.pkcs1_c.proofs.pss.from_c_pss.Goals as goal
 
+-- At the `?` behind `from_c_mask_gen`: the hash function in front can be held.
 pub returns-in_err-mask_gen-clause-err : goal.returns-in_err-mask_gen-clause-err
 returns-in_err-mask_gen-clause-err c =
     let hash = plain_has_no_status c.in_ok-hash.hash _ c.in_ok-hash.ensures.ok in
     search rules
 
+-- The trailer field isn't 1, which has the status of `Value`. Both fields in front can be held.
 pub returns-then-params-ne1-clause-err : goal.returns-then-params-ne1-clause-err
 returns-then-params-ne1-clause-err c =
     let hash = plain_has_no_status c.in_ok-hash.hash _ c.in_ok-hash.ensures.ok in

@@ -5,9 +5,12 @@ use Rattle.standard.specs.Statement.{PssAlgorithmEncoding, id_rsassa_pss}
 use Rattle.pkcs1_c.proofs.Writes.{decodes_equal_value, status_exact}
 use Rattle.pkcs1_c.proofs.pss_algorithm.pkcs1_c_pss_algorithm_decode.Goals as goal
 
+-- `to_c_pss` says that the struct holds what was read.
 pub returns-in-Ok-clause-ok : goal.returns-in-Ok-clause-ok
 returns-in-Ok-clause-ok c = λ _. decodes_equal_value PssAlgorithmEncoding c.to_c_pss.ensures.seen c.in-Ok.ensures.read
 
+-- The status is the number of the error. Each fault of the identifier, or of the parameters in it, is about the bytes,
+-- so it is neither 0 nor above 14.
 pub returns-in-Err-clause-exact : goal.returns-in-Err-clause-exact
 returns-in-Err-clause-exact c =
     status_exact _ (whole_algorithm_tells (record_reads pss_record).tells id_rsassa_pss _) c.in-Err.error _

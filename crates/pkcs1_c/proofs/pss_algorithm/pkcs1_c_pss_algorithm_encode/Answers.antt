@@ -4,6 +4,7 @@ use Rattle.pkcs1_c.proofs.FittingFields.{pss_fits}
 use Rattle.pkcs1_c.proofs.Writes.{known_written}
 use Rattle.pkcs1_c.proofs.pss_algorithm.pkcs1_c_pss_algorithm_encode.Goals as goal
 
+-- `write_known` has written or counted known octets, so the parameters have an encoding, and no field is at fault.
 pub returns-in-Some : goal.returns-in-Some
 returns-in-Some c =
     let v = pss_seen c.args.params.now in
@@ -13,6 +14,7 @@ returns-in-Some c =
     c.in-Some.ensures.written c.write_known.auto.out status.ok status.no_room in
     record { writes = told.0; exact = told.1 }
 
+-- `write_known` has left the slice as it was, and `write_fields` says it all.
 pub returns-in-None : goal.returns-in-None
 returns-in-None c =
     let same = c.write_known.ensures.unchanged c.in-None.is in

@@ -7,6 +7,7 @@ use Rattle.pkcs1_c.proofs.StructErrors.{pss_part}
 use Rattle.pkcs1_c.proofs.Writes.{error_behind, fields_rejected}
 use Rattle.pkcs1_c.proofs.pss_algorithm.write_fields.Goals as goal
 
+-- `from_c_pss` has made what the struct holds, so each field can be held. `write_algorithm` says the rest.
 pub returns-in-Ok : goal.returns-in-Ok
 returns-in-Ok c =
     let is = c.in-Ok.ensures.ok in
@@ -14,6 +15,7 @@ returns-in-Ok c =
     let rest = rw is at c.write_algorithm.ensures.exact in
     record { writes = rw is at c.write_algorithm.ensures.writes; exact = search (rules, error_behind) }
 
+-- `from_c_pss` has told which field can't be held. Parameters with an encoding have no such field.
 pub returns-in-Err : goal.returns-in-Err
 returns-in-Err c =
     let v = pss_seen c.args.params.now in

@@ -6,9 +6,12 @@ use Rattle.pkcs1_c.proofs.StructErrors.{numbers_have, numbers_part}
 use Rattle.pkcs1_c.proofs.Writes.{error_behind, held_written, part_rejected, unwritten_error_as}
 use Rattle.pkcs1_c.proofs.public_key.pkcs1_c_public_key_encode.Goals as goal
 
+-- Any two numbers are a valid public key.
 pub write_encoding-requires : goal.write_encoding-requires
 write_encoding-requires c = (tt, (tt, tt))
 
+-- The key that `from_c_key` made has the encodings of the key that is meant. So what `write_encoding` says of it is
+-- said of the struct, whose numbers can be held.
 pub returns-in-Ok : goal.returns-in-Ok
 returns-in-Ok c =
     let key = c.args.key.now in
@@ -25,6 +28,7 @@ returns-in-Ok c =
           search (rules, error_behind);
     }
 
+-- `from_c_key` has told which number can't be held. A struct whose key has an encoding has no such number.
 pub returns-in-Err : goal.returns-in-Err
 returns-in-Err c =
     let key = c.args.key.now in

@@ -1,3 +1,5 @@
+-- `t` is what the trait `EncodeParams` says of the type of the parameters, `oid` are the octets of the identifier D.
+-- `made` is the call of `Shortest::identified`, which puts both together.
 use Rattle.std.proofs.Common.{length, subst, sym}
 use Rattle.spki_core.specs.Words.{algorithm_map, AreSpelled, record_under, viewed_held}
 use Rattle.pkcs1_params.specs.Words.{with_parameters, EncodingOfFields}
@@ -7,6 +9,7 @@ use Rattle.pkcs1_c.specs.Words.{IsErrorOf, UnwrittenStatus, WritesOrTells}
 use Rattle.pkcs1_c.proofs.Writes.{unwritten_error_as, written_as}
 use Rattle.pkcs1_c.proofs.written.write_algorithm.Goals as goal
 
+-- Its result is valid: the identifier is one, and so are the parameters.
 pub write_encoding-requires : goal.write_encoding-requires
 write_encoding-requires g c =
     let t = g.T.EncodeParams in
@@ -17,6 +20,7 @@ write_encoding-requires g c =
     subst (λ a. IsAlgorithm (AreSpelled t.form.kinds) (algorithm_map (record_under t.form 0) a)) (sym is)
     (algorithm_valid oid identifier t.form (t.params c.args.params) made.ensures.valid)
 
+-- Its result has the encodings of the algorithm identifier, so `write_encoding` says what is asked.
 pub returns : goal.returns
 returns g c =
     let t = g.T.EncodeParams in

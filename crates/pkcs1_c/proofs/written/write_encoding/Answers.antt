@@ -1,9 +1,11 @@
+-- `t` is what the trait `Encoding` says of the type of the value, `v` is the value.
 use Rattle.std.proofs.Common.{ℕ, Ok, Err, length}
 use Rattle.der_core.proofs.Writing.{encode_into_encodes, encode_into_unwritten}
 use Rattle.der_core.specs.Words.{Spells}
 use Rattle.pkcs1_c.proofs.Writes.{needed_is, needed_kept, kind_unwritten, unwritten_tells_length, unwritten_is, shortest_written}
 use Rattle.pkcs1_c.proofs.written.write_encoding.Goals as goal
 
+-- `encode_into` has written the shortest encoding.
 pub returns-in-Ok : goal.returns-in-Ok
 returns-in-Ok g c =
     let t = g.T.Encoding in
@@ -17,6 +19,8 @@ returns-in-Ok g c =
     let told = shortest_written Encoding v _ _ c.args.len.now c.in-Ok.written encodes c.encode_into.auto.out in
     record { writes = told.0; exact = told.1 }
 
+-- `encode_into` has written nothing, and the kind of its error says why. `set_needed` has set the needed
+-- length, if there is one.
 pub returns-in-Err : goal.returns-in-Err
 returns-in-Err g c =
     let t = g.T.Encoding in

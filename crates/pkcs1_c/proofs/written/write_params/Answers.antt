@@ -1,3 +1,4 @@
+-- `t` is what the trait `EncodeParams` says of the type of the parameters, `v` are the parameters.
 use Rattle.std.proofs.Common.{length}
 use Rattle.der_core.specs.Words.{tagged_shortest, Spells}
 use Rattle.spki_core.specs.Words.{AreSpelled, record_means, spelling_printed, under_valid, record_shortest, spelled_from, spelled_to}
@@ -6,6 +7,7 @@ use Rattle.standard.specs.Statement.{sequence}
 use Rattle.pkcs1_c.proofs.Writes.{needed_is, needed_kept, status_unwritten, unwritten_tells_length, unwritten_as, unwritten_is, shortest_written, written_as}
 use Rattle.pkcs1_c.proofs.written.write_params.Goals as goal
 
+-- `encode_params` has written the shortest encoding.
 pub returns-in-Ok : goal.returns-in-Ok
 returns-in-Ok g c =
     let t = g.T.EncodeParams in
@@ -14,6 +16,8 @@ returns-in-Ok g c =
     c.in-Ok.ensures.written c.encode_params.auto.out in
     record { writes = told.0; exact = told.1 }
 
+-- `encode_params` has written nothing, and its error says why. `set_needed` asks `Shortest` for the length, whose
+-- encodings, `Spelled`, are those of the parameters.
 pub returns-in-Err : goal.returns-in-Err
 returns-in-Err g c =
     let t = g.T.EncodeParams in

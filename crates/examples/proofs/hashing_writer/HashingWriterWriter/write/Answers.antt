@@ -8,12 +8,14 @@ fnv_append : (front back : List ℕ) (hash : ℕ) → fnv_after hash (front ++ b
 fnv_append [] back hash = refl
 fnv_append (octet ∷ front) back hash = fnv_append front back _
 
+-- The hash of an octet and then of those behind it is that of what is left.
 pub loop-octet-preserved : goal.loop-octet-preserved
 loop-octet-preserved c =
     let now = fnv_after c.loop-octet.self.hash in
     rw c.from.ensures (sym (at_drop_more now c.args.bytes.now c.loop-octet.octet-index 0 c.loop-octet-test.true)
     ∙ c.loop-octet.invariant)
 
+-- After the last round the hash is that of the octets behind those written before.
 pub returns-clause-written : goal.returns-clause-written
 returns-clause-written c = λ before is.
     let bytes = c.args.bytes.now in

@@ -1,6 +1,8 @@
+-- `EncodeValue` for `GivenKey`, whose field 0 is the key.
 use Rattle.pkcs1_c.proofs.GivenRows.{given_joined}
 use Rattle.pkcs1_c.proofs.given_key.GivenKeyEncodeValue.value_len.Goals as goal
 
+-- With other primes, the contents are what `numbers_len` counts and then the list, which `encoded_len` counts.
 pub returns-in-Some-clause-counts : goal.returns-in-Some-clause-counts
 returns-in-Some-clause-counts c =
     rw c.joined_len.ensures

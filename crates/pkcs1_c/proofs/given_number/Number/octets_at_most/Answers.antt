@@ -8,6 +8,7 @@ use Rattle.pkcs1_c.proofs.given_number.Number.octets_at_most.Goals as goal
 zero_adds_at_most_one : (bytes : List ℕ) (low : Bool) → length (if low then bytes else (0 ∷ bytes)) ≤ length bytes + 1
 zero_adds_at_most_one bytes low = grind arith
 
+-- The contents are the bytes and a zero in front, if any. A tag and a length add 6 at most.
 pub returns-clause-bounds : goal.returns-clause-bounds
 returns-clause-bounds c few =
     let number = c.args.self.now in

@@ -6,6 +6,7 @@ zero_counted : (bytes : List ℕ) (low : Bool)
     → length bytes + (if low then 0 else 1) ≡ length (if low then bytes else (0 ∷ bytes))
 zero_counted bytes low = grind arith
 
+-- The contents are the bytes, and a zero in front if the first of them is 128 or more.
 pub returns-clause-is : goal.returns-clause-is
 returns-clause-is c =
     let number = c.args.self.now in

@@ -14,6 +14,8 @@ no_zero_written : (bytes : List ℕ) (zeros : ℕ) → zeros ≡ (if nat_lt (sli
     → zeros ≤ 0 → integer_contents bytes ≡ bytes
 no_zero_written bytes zeros is none = grind (arith, nat_tests, is, none)
 
+-- `EncodeValue` for `Number`. `write-2` is the call that writes the bytes. In the first branch a zero is counted, and
+-- `write` has written it. In the second the bytes are the contents.
 pub returns-clause-appends : goal.returns-clause-appends
 returns-clause-appends g c =
     let number = c.args.self.now in

@@ -5,6 +5,7 @@ use Rattle.pkcs1_c.proofs.GivenKeys.{counted_more, given_primes_some}
 use Rattle.pkcs1_c.proofs.StructErrors.{numbers_rejected_at, others_held_more}
 use Rattle.pkcs1_c.proofs.given_primes.GivenPrimes.of.Goals as goal
 
+-- `length_of` counts one prime more, and `joined_len` adds it. `from_c_other_prime` says that its numbers can be held.
 pub loop-other-preserved : goal.loop-other-preserved
 loop-other-preserved c =
     let one =
@@ -19,11 +20,13 @@ loop-other-preserved c =
           c.loop-other.invariant.held c.in_ok-info.ensures.held;
     }
 
+-- At the `?` behind `from_c_other_prime`: it tells of a number of this prime. All primes before it can be held.
 pub returns-in_err-info-clause-err : goal.returns-in_err-info-clause-err
 returns-in_err-info-clause-err c =
     let rejected = numbers_rejected_at c.args.others.now c.loop-other.other-index _ c.loop-other-test.true _
     c.loop-other.invariant.held c.in_err-info.ensures.err in search rules
 
+-- At the end: the array isn't empty, so the struct means a list of primes.
 pub returns-clause-ok : goal.returns-clause-ok
 returns-clause-ok c =
     let some : 0 < length c.args.others.now = grind (arith, nat_tests, c.is_empty.ensures, c.if-is_empty.false) in

@@ -1,3 +1,4 @@
+-- `EncodeValue` for `GivenPrimes`. `given_encoded` is the encoding of one prime.
 use Rattle.std.proofs.Common.{◌≤◌, ◌++◌, ◌∙◌, ap, arith, drop, get_or, length, length-append, refl, ◌+◌, subst, sym, take, take_all, ◌≡◌, rules}
 use Rattle.std.proofs.lemmas.Grind.{common_steps}
 use Rattle.der_core.specs.Words.{Receives, TakesRoom, err_from_is_err_and, limit, all_encodings}
@@ -8,6 +9,7 @@ use Rattle.pkcs1_c.proofs.GivenKeys.{empty_prime, given_encodings_are, given_pri
 use Rattle.pkcs1_c.proofs.StructErrors.{numbers_held_at}
 use Rattle.pkcs1_c.proofs.given_primes.GivenPrimesEncodeValue.append_value.Goals as goal
 
+-- The numbers of all primes can be held, so those of this one can.
 pub append_given-requires : goal.append_given-requires
 append_given-requires g c =
     let given = c.args.self.now in
@@ -16,6 +18,7 @@ append_given-requires g c =
           given.held;
     }
 
+-- The encoding of this prime stands behind those before it.
 pub loop-other-preserved : goal.loop-other-preserved
 loop-other-preserved g c =
     let others = c.args.self.now.others.now in
@@ -33,6 +36,8 @@ loop-other-preserved g c =
       kept = search rules;
     }
 
+-- At the `?` behind `append_given`, whose error `from_residual` hands on: the encodings before this prime are written,
+-- and writing this one failed, so writing all did.
 pub returns-in_err-append_given-clause-appends : goal.returns-in_err-append_given-clause-appends
 returns-in_err-append_given-clause-appends g c =
     let p = err_from_is_err_and c.from_residual.result c.from_residual.ensures.1 in
@@ -47,6 +52,7 @@ returns-in_err-append_given-clause-appends g c =
     c.loop-other.invariant.written
     c.loop-other.invariant.room (appends_in_front _ _ rest unit unit refl less c.in_err-append_given.ensures.appends))
 
+-- After the last round all are written.
 pub returns-clause-appends : goal.returns-clause-appends
 returns-clause-appends g c =
     let others = c.args.self.now.others.now in

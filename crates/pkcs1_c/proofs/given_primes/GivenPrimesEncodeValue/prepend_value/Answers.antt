@@ -1,3 +1,4 @@
+-- `EncodeValue` for `GivenPrimes`. `given_encoded` is the encoding of one prime.
 use Rattle.std.proofs.Common.{◌≡◌, ◌-◌, ◌∙◌, ap, arith, drop, length, subst}
 use Rattle.der_core.specs.Words.{Prepends, all_encodings}
 use Rattle.pkcs1_c.specs.Words.{given_encoded}
@@ -5,6 +6,7 @@ use Rattle.pkcs1_c.proofs.GivenKeys.{empty_prime, given_encodings_are, given_pri
 use Rattle.pkcs1_c.proofs.StructErrors.{numbers_held_at}
 use Rattle.pkcs1_c.proofs.given_primes.GivenPrimesEncodeValue.prepend_value.Goals as goal
 
+-- The arm without a length is never taken: the length is that of all encodings, which are within the limit.
 pub returns-in_default : goal.returns-in_default
 returns-in_default c =
     let given = c.args.self.now in
@@ -12,6 +14,7 @@ returns-in_default c =
     absurd (given_primes_not_uncounted given.others.now c.in_default.field-0 (rw c.in_default.is at given.counted)
     (omega (arith, ap length is)))
 
+-- There is room for all encodings, which are as many octets as the length says.
 pub overflow_sub-least : goal.overflow_sub-least
 overflow_sub-least c =
     let given = c.args.self.now in
@@ -19,6 +22,8 @@ overflow_sub-least c =
     let counted = rw c.in-Ok.is at given.counted in
     omega (arith, ap length is, counted)
 
+-- The numbers of this prime can be held. Its encoding and those behind it are no more than all, so there is room for it
+-- beside the `least` octets that stay free.
 pub prepend_given-requires : goal.prepend_given-requires
 prepend_given-requires c =
     let given = c.args.self.now in
@@ -34,6 +39,7 @@ prepend_given-requires c =
       room = omega (arith, ap length is, counted, behind);
     }
 
+-- None is left, so all are written.
 pub returns : goal.returns
 returns c =
     let others = c.args.self.now.others.now in

@@ -9,5 +9,6 @@ invariant-loop-left l =
     (l.left ≤ length l.self.others.now)
     × Prepends (all_encodings given_encoded (drop l.left l.self.others.now)) l.fn.writer l.writer
 
+-- So many are left to be written.
 abbrev pub decreases-loop-left : goal.decreases-loop-left
 decreases-loop-left l = l.left

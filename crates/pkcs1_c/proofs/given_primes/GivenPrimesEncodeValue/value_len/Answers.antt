@@ -7,6 +7,7 @@ use Rattle.pkcs1_c.specs.Words.{given_primes, given_encoded}
 use Rattle.pkcs1_c.proofs.GivenKeys.{given_encodings_are, given_primes_valid}
 use Rattle.pkcs1_c.proofs.given_primes.GivenPrimesEncodeValue.value_len.Goals as goal
 
+-- `EncodeValue` for `GivenPrimes`: the length that it holds was counted of the encodings of all primes.
 pub returns-clause-counts : goal.returns-clause-counts
 returns-clause-counts c =
     let given = c.args.self.now in
