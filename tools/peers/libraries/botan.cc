@@ -133,6 +133,7 @@ static int pss_algorithm(const uint8_t *der, size_t der_len, uint8_t *to, size_t
 
 extern "C" {
 extern const struct library botan;
+/* By type, in the order of peers.h: the call, and whether it writes too. */
 const struct library botan = {"Botan",
                               {public_key, private_key, private_key, pss, pss_algorithm, nullptr, nullptr, pkcs8},
                               {1, 1, 1, 1, 1, 0, 0, 1}};

@@ -34,6 +34,7 @@ static int pkcs8(const uint8_t *der, size_t der_len, uint8_t *to, size_t room, s
     return either(1, der, der_len, to, room, len);
 }
 
+/* By type, in the order of peers.h: the call, and whether it writes too. */
 const struct library gnutls = {"GnuTLS",
                                {NULL, private_key, private_key, NULL, NULL, NULL, NULL, pkcs8},
                                {0, 1, 1, 0, 0, 0, 0, 1}};

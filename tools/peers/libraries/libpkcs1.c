@@ -43,6 +43,7 @@ STRICT(oaep, struct pkcs1_oaep_params, pkcs1_oaep_params)
 STRICT(oaep_algorithm, struct pkcs1_oaep_params, pkcs1_oaep_algorithm)
 
 #define WRITES {1, 1, 1, 1, 1, 1, 1, 1}
+/* By type, in the order of peers.h: the call, and whether it writes too. */
 const struct library libpkcs1 = {"libpkcs1",
                                  {our_public_key, our_private_key, our_private_key, our_pss, our_pss_algorithm,
                                   our_oaep, our_oaep_algorithm, our_container},

@@ -101,6 +101,7 @@ static int holds_key(asn1_node container, int is_strict) {
 ONE(pkcs8, "PrivateKeyInfo", holds_key(value, 0), 0)
 ONE(pkcs8_strict, "PrivateKeyInfo", holds_key(value, 1), 1)
 
+/* By type, in the order of peers.h: the call, and whether it writes too. */
 const struct library libtasn1 = {"libtasn1",
                                  {public_key, private_key, private_key, pss, pss_algorithm, oaep,
                                   oaep_algorithm, pkcs8},

@@ -72,6 +72,7 @@ static int pss_algorithm(const uint8_t *der, size_t der_len, uint8_t *to, size_t
     return MBEDTLS_OID_CMP(MBEDTLS_OID_RSASSA_PSS, &oid) == 0 && are_pss(&parameters);
 }
 
+/* By type, in the order of peers.h: the call, and whether it writes too. */
 const struct library mbedtls = {"mbedTLS",
                                 {public_key, private_key, private_key, pss, pss_algorithm, NULL, NULL, private_key},
                                 {1, 1, 1, 0, 0, 0, 0, 0}};

@@ -37,4 +37,5 @@ static int private_key(const uint8_t *der, size_t der_len, uint8_t *to, size_t r
     return answer;
 }
 
+/* By type, in the order of peers.h: the call, and whether it writes too. */
 const struct library nettle = {"Nettle", {public_key, private_key, private_key}, {0}};

@@ -89,6 +89,7 @@ static int pkcs8(const uint8_t *der, size_t der_len, uint8_t *to, size_t room, s
     return answered(answer);
 }
 
+/* By type, in the order of peers.h: the call, and whether it writes too. */
 const struct library openssl = {"OpenSSL",
                                 {public_key, private_key, private_key, pss, pss_algorithm, oaep,
                                  oaep_algorithm, pkcs8},

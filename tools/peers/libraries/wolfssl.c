@@ -54,6 +54,7 @@ static int pkcs8(const uint8_t *der, size_t der_len, uint8_t *to, size_t room, s
     return either(wc_RsaPrivateKeyDecode, write_pkcs8, 1, der, der_len, to, room, len);
 }
 
+/* By type, in the order of peers.h: the call, and whether it writes too. */
 const struct library wolfssl = {"wolfSSL",
                                 {public_key, private_key, private_key, NULL, NULL, NULL, NULL, pkcs8},
                                 {1, 1, 1, 0, 0, 0, 0, 1}};
