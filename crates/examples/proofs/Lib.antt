@@ -2,4 +2,3 @@ pub mod Signature
 pub mod Salt
 pub mod Numbers
 pub mod KeyStore
-pub mod SpkiKeys

@@ -7,4 +7,3 @@ pub mod NumberList
 pub mod Fnv
 pub mod KeyStore
 pub mod ImplicitPair
-pub mod SpkiKeys

@@ -23,7 +23,6 @@ mod primes;
 mod sha3;
 mod signatures;
 mod sizes;
-mod spki_keys;
 
 pub use by_grammar::{read_signature, write_signature};
 pub use bytes::{modulus_of, public_half};
@@ -47,4 +46,3 @@ pub use primes::primes_of;
 pub use sha3::{Digest, Sha3_256, is_by_sha3_256};
 pub use signatures::{is_accepted, salt_with_sha256};
 pub use sizes::{modulus_len, salt_len};
-pub use spki_keys::{RsaKeyInfoRef, SubjectPublicKeyInfo, key_from_info, key_to_info};

@@ -1,9 +1,9 @@
--- A SubjectPublicKeyInfo as its grammar has it, and the RSA key in it. For `src/spki_keys.rt`.
+-- A SubjectPublicKeyInfo as its grammar has it, and the RSA key in it. For `src/rsa.rt`.
 use Rattle.std.proofs.Common.{ℕ, List, [], ◌∷◌, ◌++◌, ◌≡◌, ◌≤◌, ◌∙◌, refl, sym, ap, subst, append-nil, Option, Some, None, take, length, length-append, arith, rules}
 use Rattle.der_core.specs.Words.{StatedAs, stated, Spells, optional_itself, tlv_fit}
 use Rattle.spki_core.specs.Words.{algorithm_map, is_identifier-sound}
 use Rattle.standard.specs.Statement.{Algorithm, Decodes, Encodes, IsAlgorithm, IsAny, PublicKey, TagAndContents, algorithm, any, integers, limit, rsa_encryption, sequence, tlv}
-use Rattle.examples.specs.SpkiKeys.{RsaKeyInfoEncoding}
+use Rattle.spki_keys.specs.KeyInfo.{RsaKeyInfoEncoding}
 
 -- A key with any algorithm, and its encoding.
 pub record KeyInfo : Type 0 where

@@ -1,0 +1,50 @@
+//! SubjectPublicKeyInfo (RFC 5280 4.1.2.7): a record that holds any key in a BIT STRING.
+use der_core::{
+    BackWriter, BitString, Borrowed, Containing, Encode, EncodeInParts, EncodeValue, Encoding,
+    Length, Record, Result, SequenceTag, TaggedBy, Writer,
+};
+
+/// A public key, and the algorithm that it is for.
+///
+/// ```text
+/// SubjectPublicKeyInfo ::= SEQUENCE {
+///     algorithm         AlgorithmIdentifier,
+///     subjectPublicKey  BIT STRING
+/// }
+/// ```
+#[derive(Clone, Copy, Drop)]
+pub struct SubjectPublicKeyInfo<A, K> {
+    /// The algorithm.
+    pub algorithm: A,
+    /// The key, whose encoding stands in the BIT STRING.
+    pub key: BitString<Containing<K>>,
+}
+
+impl<A, K> TaggedBy for SubjectPublicKeyInfo<A, K> {
+    type Marker = SequenceTag;
+}
+
+impl<A: Encoding, K: Encoding> Record for SubjectPublicKeyInfo<A, K> {
+    type Fields = (A, (BitString<Containing<K>>, ()));
+
+    ghost fields = { λ info. (info.algorithm, (info.key, tt)) };
+
+    fn from_fields(row: (A, (BitString<Containing<K>>, ()))) -> SubjectPublicKeyInfo<A, K> {
+        let (algorithm, (key, ())) = row;
+        SubjectPublicKeyInfo { algorithm, key }
+    }
+}
+
+impl<A: Encode, K: Encode> EncodeInParts for SubjectPublicKeyInfo<A, K> {
+    fn parts_len(&self) -> Result<Length> {
+        (Borrowed(&self.algorithm), (Borrowed(&self.key), ())).value_len()
+    }
+
+    fn append_parts<W: Writer>(&self, writer: &mut W) -> Result<()> {
+        (Borrowed(&self.algorithm), (Borrowed(&self.key), ())).append_value(writer)
+    }
+
+    fn prepend_parts(&self, writer: &mut BackWriter<'_>) {
+        (Borrowed(&self.algorithm), (Borrowed(&self.key), ())).prepend_value(writer);
+    }
+}

@@ -1,0 +1,38 @@
+//! RSA keys in SubjectPublicKeyInfo (RFC 3279 2.3.1), read and written.
+ghost use Rattle.standard.specs.Statement.{Decodes, Encodes};
+ghost use Rattle.der_core.specs.Words.{bytes_of, ok_of};
+ghost use Rattle.pkcs1.specs.Words.{held_public_key};
+ghost use Rattle.spki_keys.specs.KeyInfo.{RsaKeyInfoEncoding};
+
+use crate::info::SubjectPublicKeyInfo;
+use der_core::{BitString, Containing, Result, read_borrowed, write_only};
+use pkcs1::{RsaPublicKeyRef, algorithm_id, require_rsa_encryption};
+use spki_core::{AlgorithmView, AnyRef};
+
+/// One of an RSA key, that borrows its parts.
+pub type RsaKeyInfoRef<'a> = SubjectPublicKeyInfo<
+    AlgorithmView<'a, AnyRef<'a>>,
+    RsaPublicKeyRef<'a>,
+>;
+
+/// The RSA key in a SubjectPublicKeyInfo, read without memory. The algorithm has to be rsaEncryption with NULL.
+pub fn key_from_info(bytes: &[u8]) -> Result<RsaPublicKeyRef<'_>>
+    ensures read { Decodes RsaKeyInfoEncoding bytes.now (ok_of (held_public_key bytes_of) result) }
+{
+    let info: RsaKeyInfoRef<'_> = read_borrowed(bytes)?;
+    require_rsa_encryption(&info.algorithm)?;
+    let BitString(Containing(key)) = info.key;
+    Ok(key)
+}
+
+/// Writes the only SubjectPublicKeyInfo of an RSA key to the front of a slice and returns its length.
+pub fn key_to_info(key: &RsaPublicKeyRef<'_>, out: &mut [u8]) -> Result<usize>
+    ensures written { let v = held_public_key bytes_of key.now in
+        Encodes RsaKeyInfoEncoding v out.old out.new (ok_of (λ n. n) result) }
+{
+    let info = SubjectPublicKeyInfo {
+        algorithm: algorithm_id(),
+        key: BitString(Containing(*key)),
+    };
+    write_only(&info, out)
+}
