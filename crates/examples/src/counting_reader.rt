@@ -10,7 +10,9 @@ use der_core::{
 #[derive(Clone, Copy, Drop)]
 pub struct NoHeap;
 
-impl Memory for NoHeap {}
+impl Memory for NoHeap {
+    ghost gives = { ⊥ };
+}
 
 /// A reader that counts the slices that it is asked for.
 #[derive(Drop)]

@@ -32,7 +32,9 @@ pub struct OtherPrimes<'a> {
 #[derive(Clone, Copy, Drop)]
 struct Counting;
 
-impl Memory for Counting {}
+impl Memory for Counting {
+    ghost gives = { ⊥ };
+}
 
 /// Decodes the next other prime.
 #[inline(always)]
