@@ -153,7 +153,9 @@ static const unsigned char f_static_36[9] = {42, 134, 72, 134, 247, 13, 1, 1, 10
 static u1 f_pkcs1_c_algorithm_is_hash_otherwise(P v_a0, P v_a1_0_val, u64 v_a1_8_val);
 static u1 f_pkcs1_c_algorithm_is_same_otherwise(P v_a0, u64 v_a1, P v_a2, u64 v_a3);
 static u1 f_core_cmp_slices_groups_equal_i8_31_core_cmp_number(P v_a0, u64 v_a1, P v_a2);
-static void f_der_core_decode_read_slowly_963873ccf5d50ada(P v_a0, P v_a1, u64 v_a2);
+static u1 f_pkcs1_c_meanings_is_same_hash(P v_a0, P v_a1);
+static u1 f_pkcs1_c_meanings_is_same_mask(P v_a0, P v_a1);
+static void f_der_core_decode_read_slowly_8b0eb46f8ee6a92f(P v_a0, P v_a1, u64 v_a2);
 static void f_pkcs1_viewed_key_quick_others(P v_a0, P v_a1, u64 v_a2);
 static void f_der_core_decode_read_slowly_746ba62194330879(P v_a0, P v_a1, u64 v_a2);
 static void f_pkcs1_other_primes_OtherPrimesDecodeValueRefSliceU(P v_a0, P v_a1, u32 v_a3);
@@ -181,7 +183,7 @@ static void f_pkcs1_params_trailer_field_TrailerFieldDecodeValue__2(P v_a0, P v_
 static u1 f_pkcs1_c_algorithm_uses_hash_otherwise(P v_a0, P v_a1, P v_a2_0_val, u64 v_a2_8_val);
 static void f_der_core_encode_AnyEncode_encoded_len_ef326f824b52(P v_a0, P v_a1);
 static void f_der_core_back_writer_BackWriter_prepend_header(P v_a0, u8 v_a1, u32 v_a2);
-static void f_der_core_encode_AnyEncode_encoded_len_b37897193353(P v_a0, P v_a1);
+static void f_der_core_encode_AnyEncode_encoded_len_f7113d2cfd57(P v_a0, P v_a1);
 static u32 f_pkcs1_c_oaep_algorithm_write_fields(P v_a0, P v_a1, u64 v_a2, P v_a3);
 static void f_pkcs1_c_oaep_from_c_oaep(P v_a0, P v_a1);
 static void f_der_core_encode_AnyEncode_encoded_len_0e78a23a2762(P v_a0, P v_a1_0_val, u8 v_a1_8_val);
@@ -194,8 +196,11 @@ static void f_pkcs1_c_pss_from_c_pss(P v_a0, P v_a1);
 static void f_der_core_encode_AnyEncode_encoded_len_5a57132c6d95(P v_a0, P v_a1_0_val, u8 v_a1_8_val);
 static u32 f_pkcs1_c_pss_write_fields(P v_a0, P v_a1, u64 v_a2, P v_a3);
 static u1 proved_algorithm_is(P v_a0, P v_a1);
+static u1 proved_algorithm_is_same_hash(P v_a0, P v_a1);
 static u64 proved_bit_len(P v_a0, u64 v_a1);
 static u1 proved_oaep_label(P v_a0, P v_a1);
+static u1 proved_oaep_means_same(P v_a0, P v_a1);
+static u1 proved_pss_means_same(P v_a0, P v_a1);
 static void proved_version(P v_a0);
 static ONCE u32 proved_public_key_decode(P v_a0, u64 v_a1, P v_a2);
 static void proved_status_text(u32 v_a0, P v_a1);
@@ -219,19 +224,19 @@ static u32 proved_oaep_params_encode(P v_a0, P v_a1, u64 v_a2, P v_a3);
 static u32 proved_pss_algorithm_encode(P v_a0, P v_a1, u64 v_a2, P v_a3);
 static u32 proved_pss_params_encode(P v_a0, P v_a1, u64 v_a2, P v_a3);
 static u1 f_pkcs1_c_algorithm_is_hash_otherwise(P v_a0, P v_a1_0_val, u64 v_a1_8_val) {
-    u1 p_v_common_ret_op_i;
-    P v_r12_i;
-    u8 v_r13_i;
-    u1 v_r14_i;
+    u1 p_v_r3_0_in_i;
+    P v_r8_i;
+    u8 v_r9_i;
+    u1 v_r10_i;
     P v_r18_i;
     u8 v_r19_i;
-    u1 v_r24_not_i;
-    P v_r9_sroa_3_0_r28_sroa_idx_i;
-    u64 v_r9_sroa_3_0_copyload_i;
+    u1 v_r24_i;
+    P v_r7_sroa_3_0_r28_sroa_idx_i;
+    u64 v_r7_sroa_3_0_copyload_i;
     u1 v_r7_i;
-    P v_r11_sroa_0_0_copyload_i;
-    P v_r11_sroa_3_0_a0_sroa_idx_i;
-    u64 v_r11_sroa_3_0_copyload_i;
+    P v_r4_sroa_0_0_copyload_i;
+    P v_r4_sroa_3_0_a0_sroa_idx_i;
+    u64 v_r4_sroa_3_0_copyload_i;
     u1 v_r128_not_i;
     u1 v_r135_i;
     P v_r154_i;
@@ -313,27 +318,27 @@ static u1 f_pkcs1_c_algorithm_is_hash_otherwise(P v_a0, P v_a1_0_val, u64 v_a1_8
     u1 v_r445_i;
     u1 v_r451_i;
     u1 v_r463_i;
-    u1 v_common_ret_op_i;
-    v_r12_i = v_a0 + 16;
-    v_r13_i = get_u8(v_r12_i);
-    v_r14_i = (u1)((v_r13_i) & 1);
-    if (v_r14_i) { goto L_then_1_i; } else { goto L_join_3_i; }
-L_then_1_i:;
+    u1 v_r3_0_in_i;
+    v_r8_i = v_a0 + 16;
+    v_r9_i = get_u8(v_r8_i);
+    v_r10_i = (u1)((v_r9_i) & 1);
+    if (v_r10_i) { goto L_else_2_i; } else { goto L_then_1_i; }
+L_else_2_i:;
     v_r18_i = v_a0 + 17;
     v_r19_i = get_u8(v_r18_i);
-    v_r24_not_i = v_r19_i == 5u;
-    if (v_r24_not_i) { goto L_else_7_i; } else { p_v_common_ret_op_i = 0u; goto L_pkcs1_c_algorithm_is_hash_exit; }
-L_else_7_i:;
-    v_r9_sroa_3_0_r28_sroa_idx_i = v_a0 + 32;
-    v_r9_sroa_3_0_copyload_i = get_u64(v_r9_sroa_3_0_r28_sroa_idx_i);
-    v_r7_i = v_r9_sroa_3_0_copyload_i == 0u;
-    if (v_r7_i) { goto L_join_3_i; } else { p_v_common_ret_op_i = 0u; goto L_pkcs1_c_algorithm_is_hash_exit; }
-L_join_3_i:;
-    v_r11_sroa_0_0_copyload_i = get_P(v_a0);
-    v_r11_sroa_3_0_a0_sroa_idx_i = v_a0 + 8;
-    v_r11_sroa_3_0_copyload_i = get_u64(v_r11_sroa_3_0_a0_sroa_idx_i);
-    v_r128_not_i = v_r11_sroa_3_0_copyload_i == v_a1_8_val;
-    if (v_r128_not_i) { goto L_join_4_i; } else { p_v_common_ret_op_i = 0u; goto L_pkcs1_c_algorithm_is_hash_exit; }
+    v_r24_i = v_r19_i == 5u;
+    if (v_r24_i) { goto L_pkcs1_c_algorithm_is_null_or_absent_exit; } else { p_v_r3_0_in_i = 0u; goto L_pkcs1_c_algorithm_is_hash_exit; }
+L_pkcs1_c_algorithm_is_null_or_absent_exit:;
+    v_r7_sroa_3_0_r28_sroa_idx_i = v_a0 + 32;
+    v_r7_sroa_3_0_copyload_i = get_u64(v_r7_sroa_3_0_r28_sroa_idx_i);
+    v_r7_i = v_r7_sroa_3_0_copyload_i == 0u;
+    if (v_r7_i) { goto L_then_1_i; } else { p_v_r3_0_in_i = 0u; goto L_pkcs1_c_algorithm_is_hash_exit; }
+L_then_1_i:;
+    v_r4_sroa_0_0_copyload_i = get_P(v_a0);
+    v_r4_sroa_3_0_a0_sroa_idx_i = v_a0 + 8;
+    v_r4_sroa_3_0_copyload_i = get_u64(v_r4_sroa_3_0_a0_sroa_idx_i);
+    v_r128_not_i = v_r4_sroa_3_0_copyload_i == v_a1_8_val;
+    if (v_r128_not_i) { goto L_join_4_i; } else { p_v_r3_0_in_i = 0u; goto L_pkcs1_c_algorithm_is_hash_exit; }
 L_join_4_i:;
     v_r135_i = v_a1_8_val < 5u;
     if (v_r135_i) { goto L_after_6_i; } else { goto L_join_9_i; }
@@ -344,15 +349,15 @@ L_join_9_i:;
     default: { goto L_after_6_i; }
     }
 L_then_18_i:;
-    v_r154_i = v_r11_sroa_0_0_copyload_i + 4;
-    v_r152_i = v_r11_sroa_0_0_copyload_i + 3;
-    v_r150_i = v_r11_sroa_0_0_copyload_i + 2;
-    v_r148_i = v_r11_sroa_0_0_copyload_i + 1;
+    v_r154_i = v_r4_sroa_0_0_copyload_i + 4;
+    v_r152_i = v_r4_sroa_0_0_copyload_i + 3;
+    v_r150_i = v_r4_sroa_0_0_copyload_i + 2;
+    v_r148_i = v_r4_sroa_0_0_copyload_i + 1;
     v_r175_i = v_a1_0_val + 1;
     v_r177_i = v_a1_0_val + 2;
     v_r179_i = v_a1_0_val + 3;
     v_r181_i = v_a1_0_val + 4;
-    v_r188_i = get_u8(v_r11_sroa_0_0_copyload_i);
+    v_r188_i = get_u8(v_r4_sroa_0_0_copyload_i);
     v_r190_i = get_u8(v_a1_0_val);
     v_r193_i = v_r188_i == v_r190_i;
     v_r196_i = get_u8(v_r148_i);
@@ -371,16 +376,16 @@ L_then_18_i:;
     v_r240_i = get_u8(v_r181_i);
     v_r243_i = v_r238_i == v_r240_i;
     v_r249_i = (u1)(((u32)(v_r235_i) & (u32)(v_r243_i)) & 1);
-    { p_v_common_ret_op_i = v_r249_i; goto L_pkcs1_c_algorithm_is_hash_exit; }
+    { p_v_r3_0_in_i = v_r249_i; goto L_pkcs1_c_algorithm_is_hash_exit; }
 L_then_32_i:;
-    v_r284_i = v_r11_sroa_0_0_copyload_i + 8;
-    v_r282_i = v_r11_sroa_0_0_copyload_i + 7;
-    v_r280_i = v_r11_sroa_0_0_copyload_i + 6;
-    v_r278_i = v_r11_sroa_0_0_copyload_i + 5;
-    v_r276_i = v_r11_sroa_0_0_copyload_i + 4;
-    v_r274_i = v_r11_sroa_0_0_copyload_i + 3;
-    v_r272_i = v_r11_sroa_0_0_copyload_i + 2;
-    v_r270_i = v_r11_sroa_0_0_copyload_i + 1;
+    v_r284_i = v_r4_sroa_0_0_copyload_i + 8;
+    v_r282_i = v_r4_sroa_0_0_copyload_i + 7;
+    v_r280_i = v_r4_sroa_0_0_copyload_i + 6;
+    v_r278_i = v_r4_sroa_0_0_copyload_i + 5;
+    v_r276_i = v_r4_sroa_0_0_copyload_i + 4;
+    v_r274_i = v_r4_sroa_0_0_copyload_i + 3;
+    v_r272_i = v_r4_sroa_0_0_copyload_i + 2;
+    v_r270_i = v_r4_sroa_0_0_copyload_i + 1;
     v_r309_i = v_a1_0_val + 1;
     v_r311_i = v_a1_0_val + 2;
     v_r313_i = v_a1_0_val + 3;
@@ -389,7 +394,7 @@ L_then_32_i:;
     v_r319_i = v_a1_0_val + 6;
     v_r321_i = v_a1_0_val + 7;
     v_r323_i = v_a1_0_val + 8;
-    v_r334_i = get_u8(v_r11_sroa_0_0_copyload_i);
+    v_r334_i = get_u8(v_r4_sroa_0_0_copyload_i);
     v_r336_i = get_u8(v_a1_0_val);
     v_r339_i = v_r334_i == v_r336_i;
     v_r342_i = get_u8(v_r270_i);
@@ -424,13 +429,13 @@ L_then_32_i:;
     v_r442_i = get_u8(v_r323_i);
     v_r445_i = v_r440_i == v_r442_i;
     v_r451_i = (u1)(((u32)(v_r437_i) & (u32)(v_r445_i)) & 1);
-    { p_v_common_ret_op_i = v_r451_i; goto L_pkcs1_c_algorithm_is_hash_exit; }
+    { p_v_r3_0_in_i = v_r451_i; goto L_pkcs1_c_algorithm_is_hash_exit; }
 L_after_6_i:;
-    v_r463_i = f_pkcs1_c_algorithm_is_same_otherwise(v_r11_sroa_0_0_copyload_i, v_a1_8_val, v_a1_0_val, v_a1_8_val);
-    { p_v_common_ret_op_i = v_r463_i; goto L_pkcs1_c_algorithm_is_hash_exit; }
+    v_r463_i = f_pkcs1_c_algorithm_is_same_otherwise(v_r4_sroa_0_0_copyload_i, v_a1_8_val, v_a1_0_val, v_a1_8_val);
+    { p_v_r3_0_in_i = v_r463_i; goto L_pkcs1_c_algorithm_is_hash_exit; }
 L_pkcs1_c_algorithm_is_hash_exit:;
-    v_common_ret_op_i = p_v_common_ret_op_i;
-    return v_common_ret_op_i;
+    v_r3_0_in_i = p_v_r3_0_in_i;
+    return v_r3_0_in_i;
 }
 static u1 f_pkcs1_c_algorithm_is_same_otherwise(P v_a0, u64 v_a1, P v_a2, u64 v_a3) {
     u64 p_v_common_ret_op_i_ph_i;
@@ -550,7 +555,620 @@ L_core_cmp_slices_slices_equal_i8_31_core_cmp_number:;
 static u1 f_core_cmp_slices_groups_equal_i8_31_core_cmp_number(P v_a0, u64 v_a1, P v_a2) {
     return same(v_a0, v_a2, v_a1);
 }
-static void f_der_core_decode_read_slowly_963873ccf5d50ada(P v_a0, P v_a1, u64 v_a2) {
+static u1 f_pkcs1_c_meanings_is_same_hash(P v_a0, P v_a1) {
+    u64 p_v_r1_07_i_i_i_lcssa;
+    u1 p_v_r4_0_in;
+    P v_r8_i4;
+    u8 v_r9_i5;
+    u1 v_r10_i6;
+    P v_r18_i11;
+    u8 v_r19_i12;
+    u1 v_r24_i14;
+    P v_r7_sroa_3_0_r28_sroa_idx_i21;
+    u64 v_r7_sroa_3_0_copyload_i22;
+    u1 v_r7_i;
+    P v_r8_i;
+    u8 v_r9_i;
+    u1 v_r10_i;
+    P v_r18_i;
+    u8 v_r19_i;
+    u1 v_r24_i;
+    P v_r7_sroa_3_0_r28_sroa_idx_i;
+    u64 v_r7_sroa_3_0_copyload_i;
+    u1 v_r7_i25;
+    P v_r17_i43;
+    u8 v_r18_i2644;
+    u1 v_0;
+    P v_r26_i;
+    u8 v_r27_i;
+    P v_r28_i;
+    u8 v_r29_i;
+    u1 v_r32_i;
+    P v_r36_i28;
+    P v_r37_i;
+    P v_r1_sroa_0_0_copyload_i_i;
+    P v_r1_sroa_3_0_a0_sroa_idx_i_i;
+    u64 v_r1_sroa_3_0_copyload_i_i;
+    P v_r2_sroa_0_0_copyload_i_i;
+    P v_r2_sroa_3_0_a1_sroa_idx_i_i;
+    u64 v_r2_sroa_3_0_copyload_i_i;
+    u1 v_r21_not_i_i;
+    u1 v_r52_i_i;
+    u8 v_r16_val_i_i_i;
+    u8 v_r21_val_i_i_i;
+    u1 v_r7_i_i_i_i;
+    P v_r16_i_i_1_i;
+    P v_r21_i_i_1_i;
+    u8 v_r16_val_i_i_1_i;
+    u8 v_r21_val_i_i_1_i;
+    u1 v_r7_i_i_i_1_i;
+    u1 v_r20_i_1_i;
+    P v_r16_i_i_2_i;
+    P v_r21_i_i_2_i;
+    u8 v_r16_val_i_i_2_i;
+    u8 v_r21_val_i_i_2_i;
+    u1 v_r7_i_i_i_2_i;
+    u1 v_r20_i_2_i;
+    P v_r16_i_i_3_i;
+    P v_r21_i_i_3_i;
+    u8 v_r16_val_i_i_3_i;
+    u8 v_r21_val_i_i_3_i;
+    u1 v_r7_i_i_i_3_i;
+    u1 v_r20_i_3_i;
+    u1 v_r56_not_i_i_i;
+    u8 v_r16_val_i_i_i_i;
+    u8 v_r21_val_i_i_i_i;
+    u1 v_r7_i_i_not_i_i_i;
+    u1 v_exitcond_not_i_i_i;
+    P v_r16_i_i_i_i_1;
+    P v_r21_i_i_i_i_1;
+    u8 v_r16_val_i_i_i_i_1;
+    u8 v_r21_val_i_i_i_i_1;
+    u1 v_r7_i_i_not_i_i_i_1;
+    u1 v_exitcond_not_i_i_i_1;
+    P v_r16_i_i_i_i_2;
+    P v_r21_i_i_i_i_2;
+    u8 v_r16_val_i_i_i_i_2;
+    u8 v_r21_val_i_i_i_i_2;
+    u1 v_r7_i_i_not_i_i_i_2;
+    u64 v_r1_07_i_i_i_lcssa;
+    u1 v_not;
+    u1 v_r83_i_i;
+    P v_r5_sroa_0_0_copyload;
+    P v_r5_sroa_3_0_a0_sroa_idx;
+    u64 v_r5_sroa_3_0_copyload;
+    P v_r6_sroa_0_0_copyload;
+    P v_r6_sroa_3_0_a1_sroa_idx;
+    u64 v_r6_sroa_3_0_copyload;
+    u1 v_r128_not_i;
+    u1 v_r135_i;
+    P v_r154_i;
+    P v_r152_i;
+    P v_r150_i;
+    P v_r148_i;
+    P v_r175_i;
+    P v_r177_i;
+    P v_r179_i;
+    P v_r181_i;
+    u8 v_r188_i;
+    u8 v_r190_i;
+    u1 v_r193_i;
+    u8 v_r196_i;
+    u8 v_r198_i;
+    u1 v_r201_i;
+    u1 v_r207_i;
+    u8 v_r210_i;
+    u8 v_r212_i;
+    u1 v_r215_i;
+    u1 v_r221_i;
+    u8 v_r224_i;
+    u8 v_r226_i;
+    u1 v_r229_i;
+    u1 v_r235_i;
+    u8 v_r238_i;
+    u8 v_r240_i;
+    u1 v_r243_i;
+    u1 v_r249_i;
+    P v_r284_i;
+    P v_r282_i;
+    P v_r280_i;
+    P v_r278_i;
+    P v_r276_i;
+    P v_r274_i;
+    P v_r272_i;
+    P v_r270_i;
+    P v_r309_i;
+    P v_r311_i;
+    P v_r313_i;
+    P v_r315_i;
+    P v_r317_i;
+    P v_r319_i;
+    P v_r321_i;
+    P v_r323_i;
+    u8 v_r334_i;
+    u8 v_r336_i;
+    u1 v_r339_i;
+    u8 v_r342_i;
+    u8 v_r344_i;
+    u1 v_r347_i;
+    u1 v_r353_i;
+    u8 v_r356_i;
+    u8 v_r358_i;
+    u1 v_r361_i;
+    u1 v_r367_i;
+    u8 v_r370_i;
+    u8 v_r372_i;
+    u1 v_r375_i;
+    u1 v_r381_i;
+    u8 v_r384_i;
+    u8 v_r386_i;
+    u1 v_r389_i;
+    u1 v_r395_i;
+    u8 v_r398_i;
+    u8 v_r400_i;
+    u1 v_r403_i;
+    u1 v_r409_i;
+    u8 v_r412_i;
+    u8 v_r414_i;
+    u1 v_r417_i;
+    u1 v_r423_i;
+    u8 v_r426_i;
+    u8 v_r428_i;
+    u1 v_r431_i;
+    u1 v_r437_i;
+    u8 v_r440_i;
+    u8 v_r442_i;
+    u1 v_r445_i;
+    u1 v_r451_i;
+    u1 v_r463_i;
+    u1 v_r4_0_in;
+    v_r8_i4 = v_a0 + 16;
+    v_r9_i5 = get_u8(v_r8_i4);
+    v_r10_i6 = (u1)((v_r9_i5) & 1);
+    if (v_r10_i6) { goto L_else_2_i10; } else { goto L_then_1; }
+L_else_2_i10:;
+    v_r18_i11 = v_a0 + 17;
+    v_r19_i12 = get_u8(v_r18_i11);
+    v_r24_i14 = v_r19_i12 == 5u;
+    if (v_r24_i14) { goto L_pkcs1_c_algorithm_is_null_or_absent_exit24; } else { goto L_then_2_i; }
+L_pkcs1_c_algorithm_is_null_or_absent_exit24:;
+    v_r7_sroa_3_0_r28_sroa_idx_i21 = v_a0 + 32;
+    v_r7_sroa_3_0_copyload_i22 = get_u64(v_r7_sroa_3_0_r28_sroa_idx_i21);
+    v_r7_i = v_r7_sroa_3_0_copyload_i22 == 0u;
+    if (v_r7_i) { goto L_then_1; } else { goto L_then_2_i; }
+L_then_1:;
+    v_r8_i = v_a1 + 16;
+    v_r9_i = get_u8(v_r8_i);
+    v_r10_i = (u1)((v_r9_i) & 1);
+    if (v_r10_i) { goto L_else_2_i; } else { goto L_then_7; }
+L_else_2_i:;
+    v_r18_i = v_a1 + 17;
+    v_r19_i = get_u8(v_r18_i);
+    v_r24_i = v_r19_i == 5u;
+    if (v_r24_i) { goto L_join_3; } else { goto L_else_5; }
+L_join_3:;
+    v_r7_sroa_3_0_r28_sroa_idx_i = v_a1 + 32;
+    v_r7_sroa_3_0_copyload_i = get_u64(v_r7_sroa_3_0_r28_sroa_idx_i);
+    v_r7_i25 = v_r7_sroa_3_0_copyload_i == 0u;
+    if (v_r7_i25) { goto L_then_7; } else { goto L_else_5; }
+L_else_5:;
+    if (v_r10_i6) { goto L_then_5_i; } else { p_v_r4_0_in = 0u; goto L_join_9; }
+L_then_2_i:;
+    v_r17_i43 = v_a1 + 16;
+    v_r18_i2644 = get_u8(v_r17_i43);
+    v_0 = (u1)((v_r18_i2644) & 1);
+    if (v_0) { goto L_then_5_i; } else { p_v_r4_0_in = 0u; goto L_join_9; }
+L_then_5_i:;
+    v_r26_i = v_a0 + 17;
+    v_r27_i = get_u8(v_r26_i);
+    v_r28_i = v_a1 + 17;
+    v_r29_i = get_u8(v_r28_i);
+    v_r32_i = v_r27_i == v_r29_i;
+    if (v_r32_i) { goto L_then_8_i; } else { p_v_r4_0_in = 0u; goto L_join_9; }
+L_then_8_i:;
+    v_r36_i28 = v_a0 + 24;
+    v_r37_i = v_a1 + 24;
+    v_r1_sroa_0_0_copyload_i_i = get_P(v_r36_i28);
+    v_r1_sroa_3_0_a0_sroa_idx_i_i = v_a0 + 32;
+    v_r1_sroa_3_0_copyload_i_i = get_u64(v_r1_sroa_3_0_a0_sroa_idx_i_i);
+    v_r2_sroa_0_0_copyload_i_i = get_P(v_r37_i);
+    v_r2_sroa_3_0_a1_sroa_idx_i_i = v_a1 + 32;
+    v_r2_sroa_3_0_copyload_i_i = get_u64(v_r2_sroa_3_0_a1_sroa_idx_i_i);
+    v_r21_not_i_i = v_r1_sroa_3_0_copyload_i_i == v_r2_sroa_3_0_copyload_i_i;
+    if (v_r21_not_i_i) { goto L_join_3_i_i; } else { p_v_r4_0_in = 0u; goto L_join_9; }
+L_join_3_i_i:;
+    v_r52_i_i = v_r1_sroa_3_0_copyload_i_i < 4u;
+    if (v_r52_i_i) { goto L_then_7_i_i; } else { goto L_join_5_i_preheader_i; }
+L_join_5_i_preheader_i:;
+    v_r16_val_i_i_i = get_u8(v_r1_sroa_0_0_copyload_i_i);
+    v_r21_val_i_i_i = get_u8(v_r2_sroa_0_0_copyload_i_i);
+    v_r7_i_i_i_i = v_r16_val_i_i_i != v_r21_val_i_i_i;
+    v_r16_i_i_1_i = v_r1_sroa_0_0_copyload_i_i + 1;
+    v_r21_i_i_1_i = v_r2_sroa_0_0_copyload_i_i + 1;
+    v_r16_val_i_i_1_i = get_u8(v_r16_i_i_1_i);
+    v_r21_val_i_i_1_i = get_u8(v_r21_i_i_1_i);
+    v_r7_i_i_i_1_i = v_r16_val_i_i_1_i != v_r21_val_i_i_1_i;
+    v_r20_i_1_i = (u1)(((u32)(v_r7_i_i_i_i) | (u32)(v_r7_i_i_i_1_i)) & 1);
+    v_r16_i_i_2_i = v_r1_sroa_0_0_copyload_i_i + 2;
+    v_r21_i_i_2_i = v_r2_sroa_0_0_copyload_i_i + 2;
+    v_r16_val_i_i_2_i = get_u8(v_r16_i_i_2_i);
+    v_r21_val_i_i_2_i = get_u8(v_r21_i_i_2_i);
+    v_r7_i_i_i_2_i = v_r16_val_i_i_2_i != v_r21_val_i_i_2_i;
+    v_r20_i_2_i = (u1)(((u32)(v_r20_i_1_i) | (u32)(v_r7_i_i_i_2_i)) & 1);
+    v_r16_i_i_3_i = v_r1_sroa_0_0_copyload_i_i + 3;
+    v_r21_i_i_3_i = v_r2_sroa_0_0_copyload_i_i + 3;
+    v_r16_val_i_i_3_i = get_u8(v_r16_i_i_3_i);
+    v_r21_val_i_i_3_i = get_u8(v_r21_i_i_3_i);
+    v_r7_i_i_i_3_i = v_r16_val_i_i_3_i != v_r21_val_i_i_3_i;
+    v_r20_i_3_i = (u1)(((u32)(v_r20_i_2_i) | (u32)(v_r7_i_i_i_3_i)) & 1);
+    if (v_r20_i_3_i) { p_v_r4_0_in = 0u; goto L_join_9; } else { goto L_join_6; }
+L_then_7_i_i:;
+    v_r56_not_i_i_i = v_r1_sroa_3_0_copyload_i_i == 0u;
+    if (v_r56_not_i_i_i) { goto L_then_7; } else { goto L_join_5_i_i_i; }
+L_join_5_i_i_i:;
+    v_r16_val_i_i_i_i = get_u8(v_r1_sroa_0_0_copyload_i_i);
+    v_r21_val_i_i_i_i = get_u8(v_r2_sroa_0_0_copyload_i_i);
+    v_r7_i_i_not_i_i_i = v_r16_val_i_i_i_i == v_r21_val_i_i_i_i;
+    if (v_r7_i_i_not_i_i_i) { goto L_join_8_i_i_i; } else { p_v_r1_07_i_i_i_lcssa = 0u; goto L_core_slice_scan_first_by_one_953750c03e87c3e2_exit; }
+L_join_8_i_i_i:;
+    v_exitcond_not_i_i_i = v_r1_sroa_3_0_copyload_i_i == 1u;
+    if (v_exitcond_not_i_i_i) { goto L_then_7; } else { goto L_join_5_i_i_i_1; }
+L_join_5_i_i_i_1:;
+    v_r16_i_i_i_i_1 = v_r1_sroa_0_0_copyload_i_i + 1;
+    v_r21_i_i_i_i_1 = v_r2_sroa_0_0_copyload_i_i + 1;
+    v_r16_val_i_i_i_i_1 = get_u8(v_r16_i_i_i_i_1);
+    v_r21_val_i_i_i_i_1 = get_u8(v_r21_i_i_i_i_1);
+    v_r7_i_i_not_i_i_i_1 = v_r16_val_i_i_i_i_1 == v_r21_val_i_i_i_i_1;
+    if (v_r7_i_i_not_i_i_i_1) { goto L_join_8_i_i_i_1; } else { p_v_r1_07_i_i_i_lcssa = 1u; goto L_core_slice_scan_first_by_one_953750c03e87c3e2_exit; }
+L_join_8_i_i_i_1:;
+    v_exitcond_not_i_i_i_1 = v_r1_sroa_3_0_copyload_i_i == 2u;
+    if (v_exitcond_not_i_i_i_1) { goto L_then_7; } else { goto L_join_5_i_i_i_2; }
+L_join_5_i_i_i_2:;
+    v_r16_i_i_i_i_2 = v_r1_sroa_0_0_copyload_i_i + 2;
+    v_r21_i_i_i_i_2 = v_r2_sroa_0_0_copyload_i_i + 2;
+    v_r16_val_i_i_i_i_2 = get_u8(v_r16_i_i_i_i_2);
+    v_r21_val_i_i_i_i_2 = get_u8(v_r21_i_i_i_i_2);
+    v_r7_i_i_not_i_i_i_2 = v_r16_val_i_i_i_i_2 == v_r21_val_i_i_i_i_2;
+    if (v_r7_i_i_not_i_i_i_2) { goto L_then_7; } else { p_v_r1_07_i_i_i_lcssa = 2u; goto L_core_slice_scan_first_by_one_953750c03e87c3e2_exit; }
+L_core_slice_scan_first_by_one_953750c03e87c3e2_exit:;
+    v_r1_07_i_i_i_lcssa = p_v_r1_07_i_i_i_lcssa;
+    v_not = v_r1_07_i_i_i_lcssa < v_r1_sroa_3_0_copyload_i_i;
+    if (v_not) { p_v_r4_0_in = 0u; goto L_join_9; } else { goto L_then_7; }
+L_join_6:;
+    v_r83_i_i = f_core_cmp_slices_groups_equal_i8_31_core_cmp_number(v_r1_sroa_0_0_copyload_i_i, v_r1_sroa_3_0_copyload_i_i, v_r2_sroa_0_0_copyload_i_i);
+    if (v_r83_i_i) { goto L_then_7; } else { p_v_r4_0_in = 0u; goto L_join_9; }
+L_then_7:;
+    v_r5_sroa_0_0_copyload = get_P(v_a0);
+    v_r5_sroa_3_0_a0_sroa_idx = v_a0 + 8;
+    v_r5_sroa_3_0_copyload = get_u64(v_r5_sroa_3_0_a0_sroa_idx);
+    v_r6_sroa_0_0_copyload = get_P(v_a1);
+    v_r6_sroa_3_0_a1_sroa_idx = v_a1 + 8;
+    v_r6_sroa_3_0_copyload = get_u64(v_r6_sroa_3_0_a1_sroa_idx);
+    v_r128_not_i = v_r5_sroa_3_0_copyload == v_r6_sroa_3_0_copyload;
+    if (v_r128_not_i) { goto L_join_4_i; } else { p_v_r4_0_in = 0u; goto L_join_9; }
+L_join_4_i:;
+    v_r135_i = v_r5_sroa_3_0_copyload < 5u;
+    if (v_r135_i) { goto L_after_6_i; } else { goto L_join_9_i; }
+L_join_9_i:;
+    switch (v_r5_sroa_3_0_copyload) {
+    case 5u: { goto L_then_18_i; }
+    case 9u: { goto L_then_32_i; }
+    default: { goto L_after_6_i; }
+    }
+L_then_18_i:;
+    v_r154_i = v_r5_sroa_0_0_copyload + 4;
+    v_r152_i = v_r5_sroa_0_0_copyload + 3;
+    v_r150_i = v_r5_sroa_0_0_copyload + 2;
+    v_r148_i = v_r5_sroa_0_0_copyload + 1;
+    v_r175_i = v_r6_sroa_0_0_copyload + 1;
+    v_r177_i = v_r6_sroa_0_0_copyload + 2;
+    v_r179_i = v_r6_sroa_0_0_copyload + 3;
+    v_r181_i = v_r6_sroa_0_0_copyload + 4;
+    v_r188_i = get_u8(v_r5_sroa_0_0_copyload);
+    v_r190_i = get_u8(v_r6_sroa_0_0_copyload);
+    v_r193_i = v_r188_i == v_r190_i;
+    v_r196_i = get_u8(v_r148_i);
+    v_r198_i = get_u8(v_r175_i);
+    v_r201_i = v_r196_i == v_r198_i;
+    v_r207_i = (u1)(((u32)(v_r193_i) & (u32)(v_r201_i)) & 1);
+    v_r210_i = get_u8(v_r150_i);
+    v_r212_i = get_u8(v_r177_i);
+    v_r215_i = v_r210_i == v_r212_i;
+    v_r221_i = (u1)(((u32)(v_r207_i) & (u32)(v_r215_i)) & 1);
+    v_r224_i = get_u8(v_r152_i);
+    v_r226_i = get_u8(v_r179_i);
+    v_r229_i = v_r224_i == v_r226_i;
+    v_r235_i = (u1)(((u32)(v_r221_i) & (u32)(v_r229_i)) & 1);
+    v_r238_i = get_u8(v_r154_i);
+    v_r240_i = get_u8(v_r181_i);
+    v_r243_i = v_r238_i == v_r240_i;
+    v_r249_i = (u1)(((u32)(v_r235_i) & (u32)(v_r243_i)) & 1);
+    { p_v_r4_0_in = v_r249_i; goto L_join_9; }
+L_then_32_i:;
+    v_r284_i = v_r5_sroa_0_0_copyload + 8;
+    v_r282_i = v_r5_sroa_0_0_copyload + 7;
+    v_r280_i = v_r5_sroa_0_0_copyload + 6;
+    v_r278_i = v_r5_sroa_0_0_copyload + 5;
+    v_r276_i = v_r5_sroa_0_0_copyload + 4;
+    v_r274_i = v_r5_sroa_0_0_copyload + 3;
+    v_r272_i = v_r5_sroa_0_0_copyload + 2;
+    v_r270_i = v_r5_sroa_0_0_copyload + 1;
+    v_r309_i = v_r6_sroa_0_0_copyload + 1;
+    v_r311_i = v_r6_sroa_0_0_copyload + 2;
+    v_r313_i = v_r6_sroa_0_0_copyload + 3;
+    v_r315_i = v_r6_sroa_0_0_copyload + 4;
+    v_r317_i = v_r6_sroa_0_0_copyload + 5;
+    v_r319_i = v_r6_sroa_0_0_copyload + 6;
+    v_r321_i = v_r6_sroa_0_0_copyload + 7;
+    v_r323_i = v_r6_sroa_0_0_copyload + 8;
+    v_r334_i = get_u8(v_r5_sroa_0_0_copyload);
+    v_r336_i = get_u8(v_r6_sroa_0_0_copyload);
+    v_r339_i = v_r334_i == v_r336_i;
+    v_r342_i = get_u8(v_r270_i);
+    v_r344_i = get_u8(v_r309_i);
+    v_r347_i = v_r342_i == v_r344_i;
+    v_r353_i = (u1)(((u32)(v_r339_i) & (u32)(v_r347_i)) & 1);
+    v_r356_i = get_u8(v_r272_i);
+    v_r358_i = get_u8(v_r311_i);
+    v_r361_i = v_r356_i == v_r358_i;
+    v_r367_i = (u1)(((u32)(v_r353_i) & (u32)(v_r361_i)) & 1);
+    v_r370_i = get_u8(v_r274_i);
+    v_r372_i = get_u8(v_r313_i);
+    v_r375_i = v_r370_i == v_r372_i;
+    v_r381_i = (u1)(((u32)(v_r367_i) & (u32)(v_r375_i)) & 1);
+    v_r384_i = get_u8(v_r276_i);
+    v_r386_i = get_u8(v_r315_i);
+    v_r389_i = v_r384_i == v_r386_i;
+    v_r395_i = (u1)(((u32)(v_r381_i) & (u32)(v_r389_i)) & 1);
+    v_r398_i = get_u8(v_r278_i);
+    v_r400_i = get_u8(v_r317_i);
+    v_r403_i = v_r398_i == v_r400_i;
+    v_r409_i = (u1)(((u32)(v_r395_i) & (u32)(v_r403_i)) & 1);
+    v_r412_i = get_u8(v_r280_i);
+    v_r414_i = get_u8(v_r319_i);
+    v_r417_i = v_r412_i == v_r414_i;
+    v_r423_i = (u1)(((u32)(v_r409_i) & (u32)(v_r417_i)) & 1);
+    v_r426_i = get_u8(v_r282_i);
+    v_r428_i = get_u8(v_r321_i);
+    v_r431_i = v_r426_i == v_r428_i;
+    v_r437_i = (u1)(((u32)(v_r423_i) & (u32)(v_r431_i)) & 1);
+    v_r440_i = get_u8(v_r284_i);
+    v_r442_i = get_u8(v_r323_i);
+    v_r445_i = v_r440_i == v_r442_i;
+    v_r451_i = (u1)(((u32)(v_r437_i) & (u32)(v_r445_i)) & 1);
+    { p_v_r4_0_in = v_r451_i; goto L_join_9; }
+L_after_6_i:;
+    v_r463_i = f_pkcs1_c_algorithm_is_same_otherwise(v_r5_sroa_0_0_copyload, v_r5_sroa_3_0_copyload, v_r6_sroa_0_0_copyload, v_r5_sroa_3_0_copyload);
+    { p_v_r4_0_in = v_r463_i; goto L_join_9; }
+L_join_9:;
+    v_r4_0_in = p_v_r4_0_in;
+    return v_r4_0_in;
+}
+static u1 f_pkcs1_c_meanings_is_same_mask(P v_a0, P v_a1) {
+    u1 p_v_r9_0_in;
+    P v_r12;
+    u8 v_r13;
+    u1 v_r14;
+    P v_r18;
+    u8 v_r19;
+    u1 v_r20;
+    P v_r27;
+    P v_r28;
+    u1 v_r31;
+    u1 v_0;
+    P v_r10_sroa_0_0_copyload;
+    P v_r10_sroa_3_0_a0_sroa_idx;
+    u64 v_r10_sroa_3_0_copyload;
+    P v_r11_sroa_0_0_copyload;
+    P v_r11_sroa_3_0_a1_sroa_idx;
+    u64 v_r11_sroa_3_0_copyload;
+    u1 v_r128_not_i;
+    u1 v_r135_i;
+    P v_r154_i;
+    P v_r152_i;
+    P v_r150_i;
+    P v_r148_i;
+    P v_r175_i;
+    P v_r177_i;
+    P v_r179_i;
+    P v_r181_i;
+    u8 v_r188_i;
+    u8 v_r190_i;
+    u1 v_r193_i;
+    u8 v_r196_i;
+    u8 v_r198_i;
+    u1 v_r201_i;
+    u1 v_r207_i;
+    u8 v_r210_i;
+    u8 v_r212_i;
+    u1 v_r215_i;
+    u1 v_r221_i;
+    u8 v_r224_i;
+    u8 v_r226_i;
+    u1 v_r229_i;
+    u1 v_r235_i;
+    u8 v_r238_i;
+    u8 v_r240_i;
+    u1 v_r243_i;
+    u1 v_r249_i;
+    P v_r284_i;
+    P v_r282_i;
+    P v_r280_i;
+    P v_r278_i;
+    P v_r276_i;
+    P v_r274_i;
+    P v_r272_i;
+    P v_r270_i;
+    P v_r309_i;
+    P v_r311_i;
+    P v_r313_i;
+    P v_r315_i;
+    P v_r317_i;
+    P v_r319_i;
+    P v_r321_i;
+    P v_r323_i;
+    u8 v_r334_i;
+    u8 v_r336_i;
+    u1 v_r339_i;
+    u8 v_r342_i;
+    u8 v_r344_i;
+    u1 v_r347_i;
+    u1 v_r353_i;
+    u8 v_r356_i;
+    u8 v_r358_i;
+    u1 v_r361_i;
+    u1 v_r367_i;
+    u8 v_r370_i;
+    u8 v_r372_i;
+    u1 v_r375_i;
+    u1 v_r381_i;
+    u8 v_r384_i;
+    u8 v_r386_i;
+    u1 v_r389_i;
+    u1 v_r395_i;
+    u8 v_r398_i;
+    u8 v_r400_i;
+    u1 v_r403_i;
+    u1 v_r409_i;
+    u8 v_r412_i;
+    u8 v_r414_i;
+    u1 v_r417_i;
+    u1 v_r423_i;
+    u8 v_r426_i;
+    u8 v_r428_i;
+    u1 v_r431_i;
+    u1 v_r437_i;
+    u8 v_r440_i;
+    u8 v_r442_i;
+    u1 v_r445_i;
+    u1 v_r451_i;
+    u1 v_r463_i;
+    u1 v_r9_0_in;
+    v_r12 = v_a0 + 16;
+    v_r13 = get_u8(v_r12);
+    v_r14 = (u1)((v_r13) & 1);
+    v_r18 = v_a1 + 16;
+    v_r19 = get_u8(v_r18);
+    if (v_r14) { goto L_then_2; } else { goto L_after_1; }
+L_then_2:;
+    v_r20 = (u1)((v_r19) & 1);
+    if (v_r20) { goto L_then_5; } else { p_v_r9_0_in = 0u; goto L_join_11; }
+L_then_5:;
+    v_r27 = v_a0 + 24;
+    v_r28 = v_a1 + 24;
+    v_r31 = f_pkcs1_c_meanings_is_same_hash(v_r27, v_r28);
+    if (v_r31) { goto L_then_9; } else { p_v_r9_0_in = 0u; goto L_join_11; }
+L_after_1:;
+    v_0 = v_r13 == v_r19;
+    if (v_0) { goto L_then_9; } else { p_v_r9_0_in = 0u; goto L_join_11; }
+L_then_9:;
+    v_r10_sroa_0_0_copyload = get_P(v_a0);
+    v_r10_sroa_3_0_a0_sroa_idx = v_a0 + 8;
+    v_r10_sroa_3_0_copyload = get_u64(v_r10_sroa_3_0_a0_sroa_idx);
+    v_r11_sroa_0_0_copyload = get_P(v_a1);
+    v_r11_sroa_3_0_a1_sroa_idx = v_a1 + 8;
+    v_r11_sroa_3_0_copyload = get_u64(v_r11_sroa_3_0_a1_sroa_idx);
+    v_r128_not_i = v_r10_sroa_3_0_copyload == v_r11_sroa_3_0_copyload;
+    if (v_r128_not_i) { goto L_join_4_i; } else { p_v_r9_0_in = 0u; goto L_join_11; }
+L_join_4_i:;
+    v_r135_i = v_r10_sroa_3_0_copyload < 5u;
+    if (v_r135_i) { goto L_after_6_i; } else { goto L_join_9_i; }
+L_join_9_i:;
+    switch (v_r10_sroa_3_0_copyload) {
+    case 5u: { goto L_then_18_i; }
+    case 9u: { goto L_then_32_i; }
+    default: { goto L_after_6_i; }
+    }
+L_then_18_i:;
+    v_r154_i = v_r10_sroa_0_0_copyload + 4;
+    v_r152_i = v_r10_sroa_0_0_copyload + 3;
+    v_r150_i = v_r10_sroa_0_0_copyload + 2;
+    v_r148_i = v_r10_sroa_0_0_copyload + 1;
+    v_r175_i = v_r11_sroa_0_0_copyload + 1;
+    v_r177_i = v_r11_sroa_0_0_copyload + 2;
+    v_r179_i = v_r11_sroa_0_0_copyload + 3;
+    v_r181_i = v_r11_sroa_0_0_copyload + 4;
+    v_r188_i = get_u8(v_r10_sroa_0_0_copyload);
+    v_r190_i = get_u8(v_r11_sroa_0_0_copyload);
+    v_r193_i = v_r188_i == v_r190_i;
+    v_r196_i = get_u8(v_r148_i);
+    v_r198_i = get_u8(v_r175_i);
+    v_r201_i = v_r196_i == v_r198_i;
+    v_r207_i = (u1)(((u32)(v_r193_i) & (u32)(v_r201_i)) & 1);
+    v_r210_i = get_u8(v_r150_i);
+    v_r212_i = get_u8(v_r177_i);
+    v_r215_i = v_r210_i == v_r212_i;
+    v_r221_i = (u1)(((u32)(v_r207_i) & (u32)(v_r215_i)) & 1);
+    v_r224_i = get_u8(v_r152_i);
+    v_r226_i = get_u8(v_r179_i);
+    v_r229_i = v_r224_i == v_r226_i;
+    v_r235_i = (u1)(((u32)(v_r221_i) & (u32)(v_r229_i)) & 1);
+    v_r238_i = get_u8(v_r154_i);
+    v_r240_i = get_u8(v_r181_i);
+    v_r243_i = v_r238_i == v_r240_i;
+    v_r249_i = (u1)(((u32)(v_r235_i) & (u32)(v_r243_i)) & 1);
+    { p_v_r9_0_in = v_r249_i; goto L_join_11; }
+L_then_32_i:;
+    v_r284_i = v_r10_sroa_0_0_copyload + 8;
+    v_r282_i = v_r10_sroa_0_0_copyload + 7;
+    v_r280_i = v_r10_sroa_0_0_copyload + 6;
+    v_r278_i = v_r10_sroa_0_0_copyload + 5;
+    v_r276_i = v_r10_sroa_0_0_copyload + 4;
+    v_r274_i = v_r10_sroa_0_0_copyload + 3;
+    v_r272_i = v_r10_sroa_0_0_copyload + 2;
+    v_r270_i = v_r10_sroa_0_0_copyload + 1;
+    v_r309_i = v_r11_sroa_0_0_copyload + 1;
+    v_r311_i = v_r11_sroa_0_0_copyload + 2;
+    v_r313_i = v_r11_sroa_0_0_copyload + 3;
+    v_r315_i = v_r11_sroa_0_0_copyload + 4;
+    v_r317_i = v_r11_sroa_0_0_copyload + 5;
+    v_r319_i = v_r11_sroa_0_0_copyload + 6;
+    v_r321_i = v_r11_sroa_0_0_copyload + 7;
+    v_r323_i = v_r11_sroa_0_0_copyload + 8;
+    v_r334_i = get_u8(v_r10_sroa_0_0_copyload);
+    v_r336_i = get_u8(v_r11_sroa_0_0_copyload);
+    v_r339_i = v_r334_i == v_r336_i;
+    v_r342_i = get_u8(v_r270_i);
+    v_r344_i = get_u8(v_r309_i);
+    v_r347_i = v_r342_i == v_r344_i;
+    v_r353_i = (u1)(((u32)(v_r339_i) & (u32)(v_r347_i)) & 1);
+    v_r356_i = get_u8(v_r272_i);
+    v_r358_i = get_u8(v_r311_i);
+    v_r361_i = v_r356_i == v_r358_i;
+    v_r367_i = (u1)(((u32)(v_r353_i) & (u32)(v_r361_i)) & 1);
+    v_r370_i = get_u8(v_r274_i);
+    v_r372_i = get_u8(v_r313_i);
+    v_r375_i = v_r370_i == v_r372_i;
+    v_r381_i = (u1)(((u32)(v_r367_i) & (u32)(v_r375_i)) & 1);
+    v_r384_i = get_u8(v_r276_i);
+    v_r386_i = get_u8(v_r315_i);
+    v_r389_i = v_r384_i == v_r386_i;
+    v_r395_i = (u1)(((u32)(v_r381_i) & (u32)(v_r389_i)) & 1);
+    v_r398_i = get_u8(v_r278_i);
+    v_r400_i = get_u8(v_r317_i);
+    v_r403_i = v_r398_i == v_r400_i;
+    v_r409_i = (u1)(((u32)(v_r395_i) & (u32)(v_r403_i)) & 1);
+    v_r412_i = get_u8(v_r280_i);
+    v_r414_i = get_u8(v_r319_i);
+    v_r417_i = v_r412_i == v_r414_i;
+    v_r423_i = (u1)(((u32)(v_r409_i) & (u32)(v_r417_i)) & 1);
+    v_r426_i = get_u8(v_r282_i);
+    v_r428_i = get_u8(v_r321_i);
+    v_r431_i = v_r426_i == v_r428_i;
+    v_r437_i = (u1)(((u32)(v_r423_i) & (u32)(v_r431_i)) & 1);
+    v_r440_i = get_u8(v_r284_i);
+    v_r442_i = get_u8(v_r323_i);
+    v_r445_i = v_r440_i == v_r442_i;
+    v_r451_i = (u1)(((u32)(v_r437_i) & (u32)(v_r445_i)) & 1);
+    { p_v_r9_0_in = v_r451_i; goto L_join_11; }
+L_after_6_i:;
+    v_r463_i = f_pkcs1_c_algorithm_is_same_otherwise(v_r10_sroa_0_0_copyload, v_r10_sroa_3_0_copyload, v_r11_sroa_0_0_copyload, v_r10_sroa_3_0_copyload);
+    { p_v_r9_0_in = v_r463_i; goto L_join_11; }
+L_join_11:;
+    v_r9_0_in = p_v_r9_0_in;
+    return v_r9_0_in;
+}
+static void f_der_core_decode_read_slowly_8b0eb46f8ee6a92f(P v_a0, P v_a1, u64 v_a2) {
     u8 p_v_r4_i55_sroa_6_02197;
     u64 p_v_r4_sroa_10_32253;
     P p_v_r4_sroa_0_22251;
@@ -19026,13 +19644,13 @@ static void f_pkcs1_params_pss_reading_PssParamsOfAnyRefAlgorith(P v_a0, P v_a1)
     fill(v_r0_sroa_55_i, 0u, 6u);
     v_r4_i_i_i_i = (u8)(v_r1_sroa_0_0_copyload);
     v_r7_i_i_i_not_i_i = v_r4_i_i_i_i == 48u;
-    if (v_r7_i_i_i_not_i_i) { goto L_join_3_i_i; } else { p_v_r0_sroa_0_sroa_6_0_i_ph = 10u; p_v_r0_sroa_0_sroa_10_0_i_ph = 48u; p_v_r0_sroa_0_sroa_14_0_i_ph = v_r4_i_i_i_i; goto L_pkcs1_params_reading_decode_borrowed_ef2588d04bc5b; }
+    if (v_r7_i_i_i_not_i_i) { goto L_join_3_i_i; } else { p_v_r0_sroa_0_sroa_6_0_i_ph = 10u; p_v_r0_sroa_0_sroa_10_0_i_ph = 48u; p_v_r0_sroa_0_sroa_14_0_i_ph = v_r4_i_i_i_i; goto L_pkcs1_params_from_view_decode_borrowed_ef2588d04bc; }
 L_join_3_i_i:;
     f_pkcs1_params_quick_quick_pss(v_r8_i_i_i, v_r1_sroa_3_0_copyload, v_r1_sroa_4_0_copyload, 0u);
     v_r2_i_i_i = get_u8(v_r8_i_i_i);
     v_0 = v_r2_i_i_i == 1u;
-    if (v_0) { goto L_pkcs1_params_reading_decode_borrowed_ef2588d04bc5b__2; } else { goto L_join_7_i_i; }
-L_pkcs1_params_reading_decode_borrowed_ef2588d04bc5b__2:;
+    if (v_0) { goto L_pkcs1_params_from_view_decode_borrowed_ef2588d04bc__2; } else { goto L_join_7_i_i; }
+L_pkcs1_params_from_view_decode_borrowed_ef2588d04bc__2:;
     v_r5_i13_i_i = v_r8_i_i_i + 8;
     v_r7_sroa_4_i_sroa_3_7_copyload_i_i = get_P(v_r5_i13_i_i);
     v_r7_sroa_4_i_sroa_5_7_r5_i13_sroa_idx_i_i = v_r8_i_i_i + 16;
@@ -19075,10 +19693,10 @@ L_pkcs1_params_reading_decode_borrowed_ef2588d04bc5b__2:;
 L_join_7_i_i:;
     fill(v_r21_sroa_4_sroa_20_i_i, 0u, 6u);
     v_r16_i14_i_i = v_r1_sroa_4_0_copyload < 4294967296ull;
-    if (v_r16_i14_i_i) { goto L_else_2_i_i_i_i; } else { p_v_r0_sroa_0_sroa_6_0_i_ph = 7u; p_v_r0_sroa_0_sroa_10_0_i_ph = 0u; p_v_r0_sroa_0_sroa_14_0_i_ph = 0u; goto L_pkcs1_params_reading_decode_borrowed_ef2588d04bc5b; }
+    if (v_r16_i14_i_i) { goto L_else_2_i_i_i_i; } else { p_v_r0_sroa_0_sroa_6_0_i_ph = 7u; p_v_r0_sroa_0_sroa_10_0_i_ph = 0u; p_v_r0_sroa_0_sroa_14_0_i_ph = 0u; goto L_pkcs1_params_from_view_decode_borrowed_ef2588d04bc; }
 L_else_2_i_i_i_i:;
     v_r12_i_i_i_not_i_i_i_i = v_r1_sroa_4_0_copyload == 0u;
-    if (v_r12_i_i_i_not_i_i_i_i) { p_v_r0_sroa_4645_0_i_i = AT(f_static_23); p_v_r0_sroa_58_0_i_i = 5u; p_v_r0_sroa_59_0_i_i = 1u; p_v_r0_sroa_60_0_i_i = 5u; p_v_r0_sroa_61_0_i_i = AT(f_static_21); p_v_r0_sroa_62_0_i_i = 0u; p_v_r0_sroa_63_0_i_i = AT(f_static_24); p_v_r0_sroa_64_0_i_i = 9u; p_v_r0_sroa_65_0_i_i = 1u; p_v_r0_sroa_66_0_i_i = AT(f_static_23); p_v_r0_sroa_67_0_i_i = 5u; p_v_r0_sroa_68_0_i_i = 1u; p_v_r0_sroa_69_0_i_i = 5u; p_v_r0_sroa_70_0_i_i = AT(f_static_21); p_v_r0_sroa_71_0_i_i = 0u; p_v_r0_sroa_72_0_i_i = 20u; p_v_r0_sroa_73_0_i_i = 0u; goto L_pkcs1_params_reading_decode_borrowed_ef2588d04bc5b__3; } else { goto L_arm_1_i577_i_i_i; }
+    if (v_r12_i_i_i_not_i_i_i_i) { p_v_r0_sroa_4645_0_i_i = AT(f_static_23); p_v_r0_sroa_58_0_i_i = 5u; p_v_r0_sroa_59_0_i_i = 1u; p_v_r0_sroa_60_0_i_i = 5u; p_v_r0_sroa_61_0_i_i = AT(f_static_21); p_v_r0_sroa_62_0_i_i = 0u; p_v_r0_sroa_63_0_i_i = AT(f_static_24); p_v_r0_sroa_64_0_i_i = 9u; p_v_r0_sroa_65_0_i_i = 1u; p_v_r0_sroa_66_0_i_i = AT(f_static_23); p_v_r0_sroa_67_0_i_i = 5u; p_v_r0_sroa_68_0_i_i = 1u; p_v_r0_sroa_69_0_i_i = 5u; p_v_r0_sroa_70_0_i_i = AT(f_static_21); p_v_r0_sroa_71_0_i_i = 0u; p_v_r0_sroa_72_0_i_i = 20u; p_v_r0_sroa_73_0_i_i = 0u; goto L_pkcs1_params_from_view_decode_borrowed_ef2588d04bc__3; } else { goto L_arm_1_i577_i_i_i; }
 L_arm_1_i577_i_i_i:;
     v_r18_i_i2905_i_i_i = get_u8(v_r1_sroa_3_0_copyload);
     v_r7_i_i2909_i_i_i = v_r18_i_i2905_i_i_i == 160u;
@@ -19562,7 +20180,7 @@ L_join_3_i4352_i_i_i:;
     if (v_r7_i_i4355_i_i_i) { goto L_else_2_i4503_i_i_i; } else { p_v_r12_sroa_4_0_i_ph = 12u; p_v_r12_sroa_6_0_i_ph = 0u; p_v_r12_sroa_8_0_i_ph = 0u; goto L_arm_2; }
 L_else_2_i4503_i_i_i:;
     v_r12_i_i_i_not_i4506_i_i_i = v_r19_i_i_i3149_i_i_i == 0u;
-    if (v_r12_i_i_i_not_i4506_i_i_i) { p_v_r0_sroa_4645_0_i_i = v_r6_i161_i_sroa_0_99259_i_i_i; p_v_r0_sroa_58_0_i_i = v_r3_i25_i_i3679_i_i_i; p_v_r0_sroa_59_0_i_i = v_r6_i591_i_sroa_237995_sroa_0_0_i_i_i; p_v_r0_sroa_60_0_i_i = v_r6_i591_i_sroa_28_sroa_0_0_i_i_i; p_v_r0_sroa_61_0_i_i = v_r6_i591_i_sroa_28_sroa_8_0_i_i_i; p_v_r0_sroa_62_0_i_i = v_r6_i591_i_sroa_28_sroa_12_0_i_i_i; p_v_r0_sroa_63_0_i_i = AT(f_static_24); p_v_r0_sroa_64_0_i_i = 9u; p_v_r0_sroa_65_0_i_i = 1u; p_v_r0_sroa_66_0_i_i = AT(f_static_23); p_v_r0_sroa_67_0_i_i = 5u; p_v_r0_sroa_68_0_i_i = 1u; p_v_r0_sroa_69_0_i_i = 5u; p_v_r0_sroa_70_0_i_i = AT(f_static_21); p_v_r0_sroa_71_0_i_i = 0u; p_v_r0_sroa_72_0_i_i = 20u; p_v_r0_sroa_73_0_i_i = 0u; goto L_pkcs1_params_reading_decode_borrowed_ef2588d04bc5b__3; } else { goto L_else_2_i4503_i_arm_1_i_i_crit_edge_i_i; }
+    if (v_r12_i_i_i_not_i4506_i_i_i) { p_v_r0_sroa_4645_0_i_i = v_r6_i161_i_sroa_0_99259_i_i_i; p_v_r0_sroa_58_0_i_i = v_r3_i25_i_i3679_i_i_i; p_v_r0_sroa_59_0_i_i = v_r6_i591_i_sroa_237995_sroa_0_0_i_i_i; p_v_r0_sroa_60_0_i_i = v_r6_i591_i_sroa_28_sroa_0_0_i_i_i; p_v_r0_sroa_61_0_i_i = v_r6_i591_i_sroa_28_sroa_8_0_i_i_i; p_v_r0_sroa_62_0_i_i = v_r6_i591_i_sroa_28_sroa_12_0_i_i_i; p_v_r0_sroa_63_0_i_i = AT(f_static_24); p_v_r0_sroa_64_0_i_i = 9u; p_v_r0_sroa_65_0_i_i = 1u; p_v_r0_sroa_66_0_i_i = AT(f_static_23); p_v_r0_sroa_67_0_i_i = 5u; p_v_r0_sroa_68_0_i_i = 1u; p_v_r0_sroa_69_0_i_i = 5u; p_v_r0_sroa_70_0_i_i = AT(f_static_21); p_v_r0_sroa_71_0_i_i = 0u; p_v_r0_sroa_72_0_i_i = 20u; p_v_r0_sroa_73_0_i_i = 0u; goto L_pkcs1_params_from_view_decode_borrowed_ef2588d04bc__3; } else { goto L_else_2_i4503_i_arm_1_i_i_crit_edge_i_i; }
 L_else_2_i4503_i_arm_1_i_i_crit_edge_i_i:;
     v_r18_i_i4509_i_pre_i_i = get_u8(v_r16_i_i_i3148_i_i_i);
     { p_v_r18_i_i4509_i_i_i = v_r18_i_i4509_i_pre_i_i; p_v_r5_sroa_0_0_i_i = v_r16_i_i_i3148_i_i_i; p_v_r17_i533_sroa_12_sroa_3_0973910704_i_i_i = v_r6_i161_i_sroa_0_99259_i_i_i; p_v_r17_i533_sroa_12_sroa_6_0974010703_i_i_i = v_r3_i25_i_i3679_i_i_i; p_v_r17_i533_sroa_18_sroa_0_0974110702_i_i_i = v_r6_i591_i_sroa_28_sroa_0_0_i_i_i; p_v_r17_i533_sroa_18_sroa_6_0974210701_i_i_i = v_r6_i591_i_sroa_28_sroa_8_0_i_i_i; p_v_r17_i533_sroa_18_sroa_7_0974310700_i_i_i = v_r6_i591_i_sroa_28_sroa_12_0_i_i_i; p_v_r17_i533_sroa_15_sroa_0_0974410699_i_i_i = v_r6_i591_i_sroa_237995_sroa_0_0_i_i_i; p_v_r36_i_i455510698_i_i_i = v_r19_i_i_i3149_i_i_i; goto L_arm_1_i_i_i_i; }
@@ -19845,7 +20463,7 @@ L_else_2_i5301_i_i_i:;
     v_r41_i508_i_i_i = (u64)v_r12_sroa_10_i5098_sroa_7_4_copyload_i_i_i;
     v_r35_i507_i_i_i = (u64)v_r12_sroa_10_i5098_sroa_5_4_copyload_i_i_i;
     v_r12_i_i_i_not_i5304_i_i_i = v_r19_i_i_i4788_i_i_i == 0u;
-    if (v_r12_i_i_i_not_i5304_i_i_i) { p_v_r0_sroa_4645_0_i_i = v_r17_i533_sroa_12_sroa_3_0973910704_i_i_i; p_v_r0_sroa_58_0_i_i = v_r17_i533_sroa_12_sroa_6_0974010703_i_i_i; p_v_r0_sroa_59_0_i_i = v_r17_i533_sroa_15_sroa_0_0974410699_i_i_i; p_v_r0_sroa_60_0_i_i = v_r17_i533_sroa_18_sroa_0_0974110702_i_i_i; p_v_r0_sroa_61_0_i_i = v_r17_i533_sroa_18_sroa_6_0974210701_i_i_i; p_v_r0_sroa_62_0_i_i = v_r17_i533_sroa_18_sroa_7_0974310700_i_i_i; p_v_r0_sroa_63_0_i_i = v_r12_sroa_10_i5098_sroa_0_sroa_3_4_copyload_i_i_i; p_v_r0_sroa_64_0_i_i = v_r12_sroa_10_i5098_sroa_0_sroa_5_4_copyload_i_i_i; p_v_r0_sroa_65_0_i_i = v_r35_i507_i_i_i; p_v_r0_sroa_66_0_i_i = v_r12_sroa_10_i5098_sroa_6_sroa_5_0_copyload_i_i_i; p_v_r0_sroa_67_0_i_i = v_r12_sroa_10_i5098_sroa_6_sroa_6_0_copyload_i_i_i; p_v_r0_sroa_68_0_i_i = v_r41_i508_i_i_i; p_v_r0_sroa_69_0_i_i = v_r12_sroa_10_i5098_sroa_8_sroa_5_0_copyload_i_i_i; p_v_r0_sroa_70_0_i_i = v_r12_sroa_10_i5098_sroa_8_sroa_6_0_copyload_i_i_i; p_v_r0_sroa_71_0_i_i = v_r12_sroa_10_i5098_sroa_8_sroa_7_0_copyload_i_i_i; p_v_r0_sroa_72_0_i_i = 20u; p_v_r0_sroa_73_0_i_i = 0u; goto L_pkcs1_params_reading_decode_borrowed_ef2588d04bc5b__3; } else { goto L_else_2_i5301_i_arm_1_i1053_i_crit_edge_i_i; }
+    if (v_r12_i_i_i_not_i5304_i_i_i) { p_v_r0_sroa_4645_0_i_i = v_r17_i533_sroa_12_sroa_3_0973910704_i_i_i; p_v_r0_sroa_58_0_i_i = v_r17_i533_sroa_12_sroa_6_0974010703_i_i_i; p_v_r0_sroa_59_0_i_i = v_r17_i533_sroa_15_sroa_0_0974410699_i_i_i; p_v_r0_sroa_60_0_i_i = v_r17_i533_sroa_18_sroa_0_0974110702_i_i_i; p_v_r0_sroa_61_0_i_i = v_r17_i533_sroa_18_sroa_6_0974210701_i_i_i; p_v_r0_sroa_62_0_i_i = v_r17_i533_sroa_18_sroa_7_0974310700_i_i_i; p_v_r0_sroa_63_0_i_i = v_r12_sroa_10_i5098_sroa_0_sroa_3_4_copyload_i_i_i; p_v_r0_sroa_64_0_i_i = v_r12_sroa_10_i5098_sroa_0_sroa_5_4_copyload_i_i_i; p_v_r0_sroa_65_0_i_i = v_r35_i507_i_i_i; p_v_r0_sroa_66_0_i_i = v_r12_sroa_10_i5098_sroa_6_sroa_5_0_copyload_i_i_i; p_v_r0_sroa_67_0_i_i = v_r12_sroa_10_i5098_sroa_6_sroa_6_0_copyload_i_i_i; p_v_r0_sroa_68_0_i_i = v_r41_i508_i_i_i; p_v_r0_sroa_69_0_i_i = v_r12_sroa_10_i5098_sroa_8_sroa_5_0_copyload_i_i_i; p_v_r0_sroa_70_0_i_i = v_r12_sroa_10_i5098_sroa_8_sroa_6_0_copyload_i_i_i; p_v_r0_sroa_71_0_i_i = v_r12_sroa_10_i5098_sroa_8_sroa_7_0_copyload_i_i_i; p_v_r0_sroa_72_0_i_i = 20u; p_v_r0_sroa_73_0_i_i = 0u; goto L_pkcs1_params_from_view_decode_borrowed_ef2588d04bc__3; } else { goto L_else_2_i5301_i_arm_1_i1053_i_crit_edge_i_i; }
 L_else_2_i5301_i_arm_1_i1053_i_crit_edge_i_i:;
     v_r18_i_i5307_i_pre_i_i = get_u8(v_r16_i_i_i4787_i_i_i);
     { p_v_r18_i_i5307_i_i_i = v_r18_i_i5307_i_pre_i_i; p_v_r5_sroa_0_1_i_i = v_r16_i_i_i4787_i_i_i; p_v_r12_sroa_10_i5216_sroa_3_0_ph10770_i_i_i = v_r12_sroa_10_i5098_sroa_0_sroa_3_4_copyload_i_i_i; p_v_r12_sroa_10_i5216_sroa_5_0_ph10769_i_i_i = v_r12_sroa_10_i5098_sroa_0_sroa_5_4_copyload_i_i_i; p_v_r12_sroa_10_i5216_sroa_6_0_ph10768_i_i_i = v_r35_i507_i_i_i; p_v_r12_sroa_10_i5216_sroa_7_0_ph10767_i_i_i = v_r12_sroa_10_i5098_sroa_6_sroa_5_0_copyload_i_i_i; p_v_r12_sroa_10_i5216_sroa_8_0_ph10766_i_i_i = v_r12_sroa_10_i5098_sroa_6_sroa_6_0_copyload_i_i_i; p_v_r12_sroa_10_i5216_sroa_9_0_ph10765_i_i_i = v_r41_i508_i_i_i; p_v_r12_sroa_10_i5216_sroa_10_0_ph10764_i_i_i = v_r12_sroa_10_i5098_sroa_8_sroa_5_0_copyload_i_i_i; p_v_r12_sroa_10_i5216_sroa_11_0_ph10763_i_i_i = v_r12_sroa_10_i5098_sroa_8_sroa_6_0_copyload_i_i_i; p_v_r12_sroa_10_i5216_sroa_12_0_ph10762_i_i_i = v_r12_sroa_10_i5098_sroa_8_sroa_7_0_copyload_i_i_i; p_v_r36_i_i535210761_i_i_i = v_r19_i_i_i4788_i_i_i; goto L_arm_1_i1053_i_i_i; }
@@ -20113,7 +20731,7 @@ L_join_3_i5997_i_i_i:;
     if (v_r7_i_i6000_i_i_i) { goto L_else_2_i6136_i_i_i; } else { p_v_r12_sroa_4_0_i_ph = 12u; p_v_r12_sroa_6_0_i_ph = 0u; p_v_r12_sroa_8_0_i_ph = 0u; goto L_arm_2; }
 L_else_2_i6136_i_i_i:;
     v_r12_i_i_i_not_i6139_i_i_i = v_r19_i_i_i5585_i_i_i == 0u;
-    if (v_r12_i_i_i_not_i6139_i_i_i) { p_v_r0_sroa_4645_0_i_i = v_r17_i533_sroa_12_sroa_3_0973910704_i_i_i; p_v_r0_sroa_58_0_i_i = v_r17_i533_sroa_12_sroa_6_0974010703_i_i_i; p_v_r0_sroa_59_0_i_i = v_r17_i533_sroa_15_sroa_0_0974410699_i_i_i; p_v_r0_sroa_60_0_i_i = v_r17_i533_sroa_18_sroa_0_0974110702_i_i_i; p_v_r0_sroa_61_0_i_i = v_r17_i533_sroa_18_sroa_6_0974210701_i_i_i; p_v_r0_sroa_62_0_i_i = v_r17_i533_sroa_18_sroa_7_0974310700_i_i_i; p_v_r0_sroa_63_0_i_i = v_r12_sroa_10_i5216_sroa_3_0_ph10770_i_i_i; p_v_r0_sroa_64_0_i_i = v_r12_sroa_10_i5216_sroa_5_0_ph10769_i_i_i; p_v_r0_sroa_65_0_i_i = v_r12_sroa_10_i5216_sroa_6_0_ph10768_i_i_i; p_v_r0_sroa_66_0_i_i = v_r12_sroa_10_i5216_sroa_7_0_ph10767_i_i_i; p_v_r0_sroa_67_0_i_i = v_r12_sroa_10_i5216_sroa_8_0_ph10766_i_i_i; p_v_r0_sroa_68_0_i_i = v_r12_sroa_10_i5216_sroa_9_0_ph10765_i_i_i; p_v_r0_sroa_69_0_i_i = v_r12_sroa_10_i5216_sroa_10_0_ph10764_i_i_i; p_v_r0_sroa_70_0_i_i = v_r12_sroa_10_i5216_sroa_11_0_ph10763_i_i_i; p_v_r0_sroa_71_0_i_i = v_r12_sroa_10_i5216_sroa_12_0_ph10762_i_i_i; p_v_r0_sroa_72_0_i_i = v_r61_i5936_i_i_i; p_v_r0_sroa_73_0_i_i = 0u; goto L_pkcs1_params_reading_decode_borrowed_ef2588d04bc5b__3; } else { goto L_arm_1_i2001_ithread_pre_split_i_i; }
+    if (v_r12_i_i_i_not_i6139_i_i_i) { p_v_r0_sroa_4645_0_i_i = v_r17_i533_sroa_12_sroa_3_0973910704_i_i_i; p_v_r0_sroa_58_0_i_i = v_r17_i533_sroa_12_sroa_6_0974010703_i_i_i; p_v_r0_sroa_59_0_i_i = v_r17_i533_sroa_15_sroa_0_0974410699_i_i_i; p_v_r0_sroa_60_0_i_i = v_r17_i533_sroa_18_sroa_0_0974110702_i_i_i; p_v_r0_sroa_61_0_i_i = v_r17_i533_sroa_18_sroa_6_0974210701_i_i_i; p_v_r0_sroa_62_0_i_i = v_r17_i533_sroa_18_sroa_7_0974310700_i_i_i; p_v_r0_sroa_63_0_i_i = v_r12_sroa_10_i5216_sroa_3_0_ph10770_i_i_i; p_v_r0_sroa_64_0_i_i = v_r12_sroa_10_i5216_sroa_5_0_ph10769_i_i_i; p_v_r0_sroa_65_0_i_i = v_r12_sroa_10_i5216_sroa_6_0_ph10768_i_i_i; p_v_r0_sroa_66_0_i_i = v_r12_sroa_10_i5216_sroa_7_0_ph10767_i_i_i; p_v_r0_sroa_67_0_i_i = v_r12_sroa_10_i5216_sroa_8_0_ph10766_i_i_i; p_v_r0_sroa_68_0_i_i = v_r12_sroa_10_i5216_sroa_9_0_ph10765_i_i_i; p_v_r0_sroa_69_0_i_i = v_r12_sroa_10_i5216_sroa_10_0_ph10764_i_i_i; p_v_r0_sroa_70_0_i_i = v_r12_sroa_10_i5216_sroa_11_0_ph10763_i_i_i; p_v_r0_sroa_71_0_i_i = v_r12_sroa_10_i5216_sroa_12_0_ph10762_i_i_i; p_v_r0_sroa_72_0_i_i = v_r61_i5936_i_i_i; p_v_r0_sroa_73_0_i_i = 0u; goto L_pkcs1_params_from_view_decode_borrowed_ef2588d04bc__3; } else { goto L_arm_1_i2001_ithread_pre_split_i_i; }
 L_arm_1_i2001_ithread_pre_split_i_i:;
     v_r18_i_i6142_i_pr_i_i = get_u8(v_r16_i_i_i5584_i_i_i);
     { p_v_r18_i_i6142_i_i_i = v_r18_i_i6142_i_pr_i_i; p_v_r5_sroa_0_2_i_i = v_r16_i_i_i5584_i_i_i; p_v_r30_sroa_4_01039710840_i_i_i = v_r61_i5936_i_i_i; p_v_r36_i_i618710839_i_i_i = v_r19_i_i_i5585_i_i_i; goto L_arm_1_i2001_i_i_i; }
@@ -20363,19 +20981,19 @@ L_join_3_i6752_i_i_i:;
     v_r7_i_i6755_i_i_i = v_r7_i2073_sroa_14_210551_i_i_i == v_r3_i25_i_i6683_i_i_i;
     v_r7_i_i6831_i_i_i = v_r36_i_i6415_i_i_i == v_r12_sroa_10_0_i6354_i_i_i;
     v_or_cond = (u1)(((u32)(v_r7_i_i6755_i_i_i) & (u32)(v_r7_i_i6831_i_i_i)) & 1);
-    if (v_or_cond) { p_v_r0_sroa_4645_0_i_i = v_r17_i533_sroa_12_sroa_3_0973910704_i_i_i; p_v_r0_sroa_58_0_i_i = v_r17_i533_sroa_12_sroa_6_0974010703_i_i_i; p_v_r0_sroa_59_0_i_i = v_r17_i533_sroa_15_sroa_0_0974410699_i_i_i; p_v_r0_sroa_60_0_i_i = v_r17_i533_sroa_18_sroa_0_0974110702_i_i_i; p_v_r0_sroa_61_0_i_i = v_r17_i533_sroa_18_sroa_6_0974210701_i_i_i; p_v_r0_sroa_62_0_i_i = v_r17_i533_sroa_18_sroa_7_0974310700_i_i_i; p_v_r0_sroa_63_0_i_i = v_r12_sroa_10_i5216_sroa_3_0_ph10770_i_i_i; p_v_r0_sroa_64_0_i_i = v_r12_sroa_10_i5216_sroa_5_0_ph10769_i_i_i; p_v_r0_sroa_65_0_i_i = v_r12_sroa_10_i5216_sroa_6_0_ph10768_i_i_i; p_v_r0_sroa_66_0_i_i = v_r12_sroa_10_i5216_sroa_7_0_ph10767_i_i_i; p_v_r0_sroa_67_0_i_i = v_r12_sroa_10_i5216_sroa_8_0_ph10766_i_i_i; p_v_r0_sroa_68_0_i_i = v_r12_sroa_10_i5216_sroa_9_0_ph10765_i_i_i; p_v_r0_sroa_69_0_i_i = v_r12_sroa_10_i5216_sroa_10_0_ph10764_i_i_i; p_v_r0_sroa_70_0_i_i = v_r12_sroa_10_i5216_sroa_11_0_ph10763_i_i_i; p_v_r0_sroa_71_0_i_i = v_r12_sroa_10_i5216_sroa_12_0_ph10762_i_i_i; p_v_r0_sroa_72_0_i_i = v_r30_sroa_4_01039710840_i_i_i; p_v_r0_sroa_73_0_i_i = v_r9_sroa_0_0_copyload_i_i_i_i; goto L_pkcs1_params_reading_decode_borrowed_ef2588d04bc5b__3; } else { p_v_r12_sroa_4_0_i_ph = 12u; p_v_r12_sroa_6_0_i_ph = 0u; p_v_r12_sroa_8_0_i_ph = 0u; goto L_arm_2; }
+    if (v_or_cond) { p_v_r0_sroa_4645_0_i_i = v_r17_i533_sroa_12_sroa_3_0973910704_i_i_i; p_v_r0_sroa_58_0_i_i = v_r17_i533_sroa_12_sroa_6_0974010703_i_i_i; p_v_r0_sroa_59_0_i_i = v_r17_i533_sroa_15_sroa_0_0974410699_i_i_i; p_v_r0_sroa_60_0_i_i = v_r17_i533_sroa_18_sroa_0_0974110702_i_i_i; p_v_r0_sroa_61_0_i_i = v_r17_i533_sroa_18_sroa_6_0974210701_i_i_i; p_v_r0_sroa_62_0_i_i = v_r17_i533_sroa_18_sroa_7_0974310700_i_i_i; p_v_r0_sroa_63_0_i_i = v_r12_sroa_10_i5216_sroa_3_0_ph10770_i_i_i; p_v_r0_sroa_64_0_i_i = v_r12_sroa_10_i5216_sroa_5_0_ph10769_i_i_i; p_v_r0_sroa_65_0_i_i = v_r12_sroa_10_i5216_sroa_6_0_ph10768_i_i_i; p_v_r0_sroa_66_0_i_i = v_r12_sroa_10_i5216_sroa_7_0_ph10767_i_i_i; p_v_r0_sroa_67_0_i_i = v_r12_sroa_10_i5216_sroa_8_0_ph10766_i_i_i; p_v_r0_sroa_68_0_i_i = v_r12_sroa_10_i5216_sroa_9_0_ph10765_i_i_i; p_v_r0_sroa_69_0_i_i = v_r12_sroa_10_i5216_sroa_10_0_ph10764_i_i_i; p_v_r0_sroa_70_0_i_i = v_r12_sroa_10_i5216_sroa_11_0_ph10763_i_i_i; p_v_r0_sroa_71_0_i_i = v_r12_sroa_10_i5216_sroa_12_0_ph10762_i_i_i; p_v_r0_sroa_72_0_i_i = v_r30_sroa_4_01039710840_i_i_i; p_v_r0_sroa_73_0_i_i = v_r9_sroa_0_0_copyload_i_i_i_i; goto L_pkcs1_params_from_view_decode_borrowed_ef2588d04bc__3; } else { p_v_r12_sroa_4_0_i_ph = 12u; p_v_r12_sroa_6_0_i_ph = 0u; p_v_r12_sroa_8_0_i_ph = 0u; goto L_arm_2; }
 L_arm_2_i2428_i_i_i:;
     v_r0_i2462_sroa_21_0_ph_i_i_i = p_v_r0_i2462_sroa_21_0_ph_i_i_i;
     v_r0_i2462_sroa_15_0_ph_i_i_i = p_v_r0_i2462_sroa_15_0_ph_i_i_i;
     v_r0_i2462_sroa_9_0_ph_i_i_i = p_v_r0_i2462_sroa_9_0_ph_i_i_i;
     { p_v_r12_sroa_4_0_i_ph = v_r0_i2462_sroa_9_0_ph_i_i_i; p_v_r12_sroa_6_0_i_ph = v_r0_i2462_sroa_15_0_ph_i_i_i; p_v_r12_sroa_8_0_i_ph = v_r0_i2462_sroa_21_0_ph_i_i_i; goto L_arm_2; }
-L_pkcs1_params_reading_decode_borrowed_ef2588d04bc5b:;
+L_pkcs1_params_from_view_decode_borrowed_ef2588d04bc:;
     v_r0_sroa_0_sroa_6_0_i_ph = p_v_r0_sroa_0_sroa_6_0_i_ph;
     v_r0_sroa_0_sroa_10_0_i_ph = p_v_r0_sroa_0_sroa_10_0_i_ph;
     v_r0_sroa_0_sroa_14_0_i_ph = p_v_r0_sroa_0_sroa_14_0_i_ph;
     fill(v_r0_sroa_55_i, 0u, 6u);
     { p_v_r12_sroa_4_0_i_ph = v_r0_sroa_0_sroa_6_0_i_ph; p_v_r12_sroa_6_0_i_ph = v_r0_sroa_0_sroa_10_0_i_ph; p_v_r12_sroa_8_0_i_ph = v_r0_sroa_0_sroa_14_0_i_ph; goto L_arm_2; }
-L_pkcs1_params_reading_decode_borrowed_ef2588d04bc5b__3:;
+L_pkcs1_params_from_view_decode_borrowed_ef2588d04bc__3:;
     v_r0_sroa_4645_0_i_i = p_v_r0_sroa_4645_0_i_i;
     v_r0_sroa_58_0_i_i = p_v_r0_sroa_58_0_i_i;
     v_r0_sroa_59_0_i_i = p_v_r0_sroa_59_0_i_i;
@@ -23382,18 +24000,18 @@ static u1 f_pkcs1_c_algorithm_uses_hash_otherwise(P v_a0, P v_a1, P v_a2_0_val, 
     P v_r77_i_i_i;
     u8 v_r175_i_i_i;
     u1 v_r177_i_i_i;
-    P v_r12_i5_i;
-    u8 v_r13_i6_i;
-    u1 v_r14_i7_i;
-    P v_r18_i15_i;
-    u8 v_r19_i16_i;
-    u1 v_r24_not_i18_i;
-    P v_r9_sroa_3_0_r28_sroa_idx_i22_i;
-    u64 v_r9_sroa_3_0_copyload_i23_i;
+    P v_r8_i_i;
+    u8 v_r9_i_i;
+    u1 v_r10_i_i;
+    P v_r18_i_i;
+    u8 v_r19_i_i;
+    u1 v_r24_i_i;
+    P v_r7_sroa_3_0_r28_sroa_idx_i_i;
+    u64 v_r7_sroa_3_0_copyload_i_i;
     u1 v_r7_i;
-    P v_r11_sroa_0_0_copyload_i9_i;
-    P v_r11_sroa_3_0_a0_sroa_idx_i10_i;
-    u64 v_r11_sroa_3_0_copyload_i11_i;
+    P v_r4_sroa_0_0_copyload_i8_i;
+    P v_r4_sroa_3_0_a0_sroa_idx_i9_i;
+    u64 v_r4_sroa_3_0_copyload_i10_i;
     u1 v_r128_not_i_i;
     u1 v_r135_i_i;
     P v_r154_i_i;
@@ -23476,98 +24094,98 @@ static u1 f_pkcs1_c_algorithm_uses_hash_otherwise(P v_a0, P v_a1, P v_a2_0_val, 
     u1 v_r445_i_i;
     u1 v_r451_i_i;
     P v_r34_i;
-    P v_r12_i_i;
-    u8 v_r13_i_i;
-    u1 v_r14_i_i;
-    P v_r18_i_i;
-    u8 v_r19_i_i;
-    u1 v_r24_not_i_i;
-    P v_r9_sroa_3_0_r28_sroa_idx_i_i;
-    u64 v_r9_sroa_3_0_copyload_i_i;
+    P v_r8_i14_i;
+    u8 v_r9_i15_i;
+    u1 v_r10_i16_i;
+    P v_r18_i21_i;
+    u8 v_r19_i22_i;
+    u1 v_r24_i24_i;
+    P v_r7_sroa_3_0_r28_sroa_idx_i31_i;
+    u64 v_r7_sroa_3_0_copyload_i32_i;
     u1 v_r7_i1;
-    P v_r11_sroa_0_0_copyload_i_i;
-    P v_r11_sroa_3_0_a0_sroa_idx_i_i;
-    u64 v_r11_sroa_3_0_copyload_i_i;
-    u1 v_r128_not_i26_i;
-    P v_r154_i96_i;
-    P v_r152_i95_i;
-    P v_r150_i94_i;
-    P v_r148_i93_i;
-    P v_r175_i100_i;
-    P v_r177_i101_i;
-    P v_r179_i102_i;
-    P v_r181_i103_i;
-    u8 v_r188_i104_i;
-    u8 v_r190_i105_i;
-    u1 v_r193_i106_i;
-    u8 v_r196_i107_i;
-    u8 v_r198_i108_i;
-    u1 v_r201_i109_i;
-    u1 v_r207_i110_i;
-    u8 v_r210_i111_i;
-    u8 v_r212_i112_i;
-    u1 v_r215_i113_i;
-    u1 v_r221_i114_i;
-    u8 v_r224_i115_i;
-    u8 v_r226_i116_i;
-    u1 v_r229_i117_i;
-    u1 v_r235_i118_i;
-    u8 v_r238_i119_i;
-    u8 v_r240_i120_i;
-    u1 v_r243_i121_i;
-    u1 v_r249_i122_i;
-    P v_r284_i45_i;
-    P v_r282_i44_i;
-    P v_r280_i43_i;
-    P v_r278_i42_i;
-    P v_r276_i41_i;
-    P v_r274_i40_i;
-    P v_r272_i39_i;
-    P v_r270_i38_i;
-    P v_r309_i49_i;
-    P v_r311_i50_i;
-    P v_r313_i51_i;
-    P v_r315_i52_i;
-    P v_r317_i53_i;
-    P v_r319_i54_i;
-    P v_r321_i55_i;
-    P v_r323_i56_i;
-    u8 v_r334_i57_i;
-    u8 v_r336_i58_i;
-    u1 v_r339_i59_i;
-    u8 v_r342_i60_i;
-    u8 v_r344_i61_i;
-    u1 v_r347_i62_i;
-    u1 v_r353_i63_i;
-    u8 v_r356_i64_i;
-    u8 v_r358_i65_i;
-    u1 v_r361_i66_i;
-    u1 v_r367_i67_i;
-    u8 v_r370_i68_i;
-    u8 v_r372_i69_i;
-    u1 v_r375_i70_i;
-    u1 v_r381_i71_i;
-    u8 v_r384_i72_i;
-    u8 v_r386_i73_i;
-    u1 v_r389_i74_i;
-    u1 v_r395_i75_i;
-    u8 v_r398_i76_i;
-    u8 v_r400_i77_i;
-    u1 v_r403_i78_i;
-    u1 v_r409_i79_i;
-    u8 v_r412_i80_i;
-    u8 v_r414_i81_i;
-    u1 v_r417_i82_i;
-    u1 v_r423_i83_i;
-    u8 v_r426_i84_i;
-    u8 v_r428_i85_i;
-    u1 v_r431_i86_i;
-    u1 v_r437_i87_i;
-    u8 v_r440_i88_i;
-    u8 v_r442_i89_i;
-    u1 v_r445_i90_i;
-    u1 v_r451_i91_i;
-    u1 v_r463_i36_i;
+    P v_r4_sroa_0_0_copyload_i_i;
+    P v_r4_sroa_3_0_a0_sroa_idx_i_i;
+    u64 v_r4_sroa_3_0_copyload_i_i;
+    u1 v_r128_not_i35_i;
+    P v_r154_i105_i;
+    P v_r152_i104_i;
+    P v_r150_i103_i;
+    P v_r148_i102_i;
+    P v_r175_i109_i;
+    P v_r177_i110_i;
+    P v_r179_i111_i;
+    P v_r181_i112_i;
+    u8 v_r188_i113_i;
+    u8 v_r190_i114_i;
+    u1 v_r193_i115_i;
+    u8 v_r196_i116_i;
+    u8 v_r198_i117_i;
+    u1 v_r201_i118_i;
+    u1 v_r207_i119_i;
+    u8 v_r210_i120_i;
+    u8 v_r212_i121_i;
+    u1 v_r215_i122_i;
+    u1 v_r221_i123_i;
+    u8 v_r224_i124_i;
+    u8 v_r226_i125_i;
+    u1 v_r229_i126_i;
+    u1 v_r235_i127_i;
+    u8 v_r238_i128_i;
+    u8 v_r240_i129_i;
+    u1 v_r243_i130_i;
+    u1 v_r249_i131_i;
+    P v_r284_i54_i;
+    P v_r282_i53_i;
+    P v_r280_i52_i;
+    P v_r278_i51_i;
+    P v_r276_i50_i;
+    P v_r274_i49_i;
+    P v_r272_i48_i;
+    P v_r270_i47_i;
+    P v_r309_i58_i;
+    P v_r311_i59_i;
+    P v_r313_i60_i;
+    P v_r315_i61_i;
+    P v_r317_i62_i;
+    P v_r319_i63_i;
+    P v_r321_i64_i;
+    P v_r323_i65_i;
+    u8 v_r334_i66_i;
+    u8 v_r336_i67_i;
+    u1 v_r339_i68_i;
+    u8 v_r342_i69_i;
+    u8 v_r344_i70_i;
+    u1 v_r347_i71_i;
+    u1 v_r353_i72_i;
+    u8 v_r356_i73_i;
+    u8 v_r358_i74_i;
+    u1 v_r361_i75_i;
+    u1 v_r367_i76_i;
+    u8 v_r370_i77_i;
+    u8 v_r372_i78_i;
+    u1 v_r375_i79_i;
+    u1 v_r381_i80_i;
+    u8 v_r384_i81_i;
+    u8 v_r386_i82_i;
+    u1 v_r389_i83_i;
+    u1 v_r395_i84_i;
+    u8 v_r398_i85_i;
+    u8 v_r400_i86_i;
+    u1 v_r403_i87_i;
+    u1 v_r409_i88_i;
+    u8 v_r412_i89_i;
+    u8 v_r414_i90_i;
+    u1 v_r417_i91_i;
+    u1 v_r423_i92_i;
+    u8 v_r426_i93_i;
+    u8 v_r428_i94_i;
+    u1 v_r431_i95_i;
+    u1 v_r437_i96_i;
+    u8 v_r440_i97_i;
+    u8 v_r442_i98_i;
+    u1 v_r445_i99_i;
+    u1 v_r451_i100_i;
+    u1 v_r463_i45_i;
     u1 v_r3_0_i;
     v_r8_i = v_a1 + 16;
     v_r9_i = get_u8(v_r8_i);
@@ -23617,25 +24235,25 @@ L_join_3_i:;
     v_r177_i_i_i = v_r175_i_i_i == 8u;
     if (v_r177_i_i_i) { goto L_then_4_i; } else { p_v_r3_0_i = 0u; goto L_pkcs1_c_algorithm_uses_hash_exit; }
 L_then_4_i:;
-    v_r12_i5_i = v_a0 + 16;
-    v_r13_i6_i = get_u8(v_r12_i5_i);
-    v_r14_i7_i = (u1)((v_r13_i6_i) & 1);
-    if (v_r14_i7_i) { goto L_then_1_i14_i; } else { goto L_join_3_i8_i; }
-L_then_1_i14_i:;
-    v_r18_i15_i = v_a0 + 17;
-    v_r19_i16_i = get_u8(v_r18_i15_i);
-    v_r24_not_i18_i = v_r19_i16_i == 5u;
-    if (v_r24_not_i18_i) { goto L_else_7_i19_i; } else { p_v_r3_0_i = 0u; goto L_pkcs1_c_algorithm_uses_hash_exit; }
-L_else_7_i19_i:;
-    v_r9_sroa_3_0_r28_sroa_idx_i22_i = v_a0 + 32;
-    v_r9_sroa_3_0_copyload_i23_i = get_u64(v_r9_sroa_3_0_r28_sroa_idx_i22_i);
-    v_r7_i = v_r9_sroa_3_0_copyload_i23_i == 0u;
-    if (v_r7_i) { goto L_join_3_i8_i; } else { p_v_r3_0_i = 0u; goto L_pkcs1_c_algorithm_uses_hash_exit; }
-L_join_3_i8_i:;
-    v_r11_sroa_0_0_copyload_i9_i = get_P(v_a0);
-    v_r11_sroa_3_0_a0_sroa_idx_i10_i = v_a0 + 8;
-    v_r11_sroa_3_0_copyload_i11_i = get_u64(v_r11_sroa_3_0_a0_sroa_idx_i10_i);
-    v_r128_not_i_i = v_r11_sroa_3_0_copyload_i11_i == v_a2_8_val;
+    v_r8_i_i = v_a0 + 16;
+    v_r9_i_i = get_u8(v_r8_i_i);
+    v_r10_i_i = (u1)((v_r9_i_i) & 1);
+    if (v_r10_i_i) { goto L_else_2_i_i; } else { goto L_then_1_i7_i; }
+L_else_2_i_i:;
+    v_r18_i_i = v_a0 + 17;
+    v_r19_i_i = get_u8(v_r18_i_i);
+    v_r24_i_i = v_r19_i_i == 5u;
+    if (v_r24_i_i) { goto L_pkcs1_c_algorithm_is_null_or_absent_exit_i; } else { p_v_r3_0_i = 0u; goto L_pkcs1_c_algorithm_uses_hash_exit; }
+L_pkcs1_c_algorithm_is_null_or_absent_exit_i:;
+    v_r7_sroa_3_0_r28_sroa_idx_i_i = v_a0 + 32;
+    v_r7_sroa_3_0_copyload_i_i = get_u64(v_r7_sroa_3_0_r28_sroa_idx_i_i);
+    v_r7_i = v_r7_sroa_3_0_copyload_i_i == 0u;
+    if (v_r7_i) { goto L_then_1_i7_i; } else { p_v_r3_0_i = 0u; goto L_pkcs1_c_algorithm_uses_hash_exit; }
+L_then_1_i7_i:;
+    v_r4_sroa_0_0_copyload_i8_i = get_P(v_a0);
+    v_r4_sroa_3_0_a0_sroa_idx_i9_i = v_a0 + 8;
+    v_r4_sroa_3_0_copyload_i10_i = get_u64(v_r4_sroa_3_0_a0_sroa_idx_i9_i);
+    v_r128_not_i_i = v_r4_sroa_3_0_copyload_i10_i == v_a2_8_val;
     if (v_r128_not_i_i) { goto L_join_4_i_i; } else { p_v_r3_0_i = 0u; goto L_pkcs1_c_algorithm_uses_hash_exit; }
 L_join_4_i_i:;
     v_r135_i_i = v_a2_8_val < 5u;
@@ -23647,15 +24265,15 @@ L_join_9_i_i:;
     default: { goto L_after_6_i_i; }
     }
 L_then_18_i_i:;
-    v_r154_i_i = v_r11_sroa_0_0_copyload_i9_i + 4;
-    v_r152_i_i = v_r11_sroa_0_0_copyload_i9_i + 3;
-    v_r150_i_i = v_r11_sroa_0_0_copyload_i9_i + 2;
-    v_r148_i_i = v_r11_sroa_0_0_copyload_i9_i + 1;
+    v_r154_i_i = v_r4_sroa_0_0_copyload_i8_i + 4;
+    v_r152_i_i = v_r4_sroa_0_0_copyload_i8_i + 3;
+    v_r150_i_i = v_r4_sroa_0_0_copyload_i8_i + 2;
+    v_r148_i_i = v_r4_sroa_0_0_copyload_i8_i + 1;
     v_r175_i_i = v_a2_0_val + 1;
     v_r177_i_i = v_a2_0_val + 2;
     v_r179_i_i = v_a2_0_val + 3;
     v_r181_i_i = v_a2_0_val + 4;
-    v_r188_i_i = get_u8(v_r11_sroa_0_0_copyload_i9_i);
+    v_r188_i_i = get_u8(v_r4_sroa_0_0_copyload_i8_i);
     v_r190_i_i = get_u8(v_a2_0_val);
     v_r193_i_i = v_r188_i_i == v_r190_i_i;
     v_r196_i_i = get_u8(v_r148_i_i);
@@ -23676,17 +24294,17 @@ L_then_18_i_i:;
     v_r249_i_i = (u1)(((u32)(v_r235_i_i) & (u32)(v_r243_i_i)) & 1);
     if (v_r249_i_i) { goto L_then_7_i; } else { p_v_r3_0_i = 0u; goto L_pkcs1_c_algorithm_uses_hash_exit; }
 L_after_6_i_i:;
-    v_r463_i_i = f_pkcs1_c_algorithm_is_same_otherwise(v_r11_sroa_0_0_copyload_i9_i, v_a2_8_val, v_a2_0_val, v_a2_8_val);
+    v_r463_i_i = f_pkcs1_c_algorithm_is_same_otherwise(v_r4_sroa_0_0_copyload_i8_i, v_a2_8_val, v_a2_0_val, v_a2_8_val);
     if (v_r463_i_i) { goto L_then_7_i; } else { p_v_r3_0_i = 0u; goto L_pkcs1_c_algorithm_uses_hash_exit; }
 L_join_6_i:;
-    v_r284_i_i = v_r11_sroa_0_0_copyload_i9_i + 8;
-    v_r282_i_i = v_r11_sroa_0_0_copyload_i9_i + 7;
-    v_r280_i_i = v_r11_sroa_0_0_copyload_i9_i + 6;
-    v_r278_i_i = v_r11_sroa_0_0_copyload_i9_i + 5;
-    v_r276_i_i = v_r11_sroa_0_0_copyload_i9_i + 4;
-    v_r274_i_i = v_r11_sroa_0_0_copyload_i9_i + 3;
-    v_r272_i_i = v_r11_sroa_0_0_copyload_i9_i + 2;
-    v_r270_i_i = v_r11_sroa_0_0_copyload_i9_i + 1;
+    v_r284_i_i = v_r4_sroa_0_0_copyload_i8_i + 8;
+    v_r282_i_i = v_r4_sroa_0_0_copyload_i8_i + 7;
+    v_r280_i_i = v_r4_sroa_0_0_copyload_i8_i + 6;
+    v_r278_i_i = v_r4_sroa_0_0_copyload_i8_i + 5;
+    v_r276_i_i = v_r4_sroa_0_0_copyload_i8_i + 4;
+    v_r274_i_i = v_r4_sroa_0_0_copyload_i8_i + 3;
+    v_r272_i_i = v_r4_sroa_0_0_copyload_i8_i + 2;
+    v_r270_i_i = v_r4_sroa_0_0_copyload_i8_i + 1;
     v_r309_i_i = v_a2_0_val + 1;
     v_r311_i_i = v_a2_0_val + 2;
     v_r313_i_i = v_a2_0_val + 3;
@@ -23695,7 +24313,7 @@ L_join_6_i:;
     v_r319_i_i = v_a2_0_val + 6;
     v_r321_i_i = v_a2_0_val + 7;
     v_r323_i_i = v_a2_0_val + 8;
-    v_r334_i_i = get_u8(v_r11_sroa_0_0_copyload_i9_i);
+    v_r334_i_i = get_u8(v_r4_sroa_0_0_copyload_i8_i);
     v_r336_i_i = get_u8(v_a2_0_val);
     v_r339_i_i = v_r334_i_i == v_r336_i_i;
     v_r342_i_i = get_u8(v_r270_i_i);
@@ -23733,119 +24351,119 @@ L_join_6_i:;
     if (v_r451_i_i) { goto L_then_7_i; } else { p_v_r3_0_i = 0u; goto L_pkcs1_c_algorithm_uses_hash_exit; }
 L_then_7_i:;
     v_r34_i = v_a1 + 24;
-    v_r12_i_i = v_a1 + 40;
-    v_r13_i_i = get_u8(v_r12_i_i);
-    v_r14_i_i = (u1)((v_r13_i_i) & 1);
-    if (v_r14_i_i) { goto L_then_1_i_i; } else { goto L_join_3_i_i; }
+    v_r8_i14_i = v_a1 + 40;
+    v_r9_i15_i = get_u8(v_r8_i14_i);
+    v_r10_i16_i = (u1)((v_r9_i15_i) & 1);
+    if (v_r10_i16_i) { goto L_else_2_i20_i; } else { goto L_then_1_i_i; }
+L_else_2_i20_i:;
+    v_r18_i21_i = v_a1 + 41;
+    v_r19_i22_i = get_u8(v_r18_i21_i);
+    v_r24_i24_i = v_r19_i22_i == 5u;
+    if (v_r24_i24_i) { goto L_pkcs1_c_algorithm_is_null_or_absent_exit34_i; } else { p_v_r3_0_i = 0u; goto L_pkcs1_c_algorithm_uses_hash_exit; }
+L_pkcs1_c_algorithm_is_null_or_absent_exit34_i:;
+    v_r7_sroa_3_0_r28_sroa_idx_i31_i = v_a1 + 56;
+    v_r7_sroa_3_0_copyload_i32_i = get_u64(v_r7_sroa_3_0_r28_sroa_idx_i31_i);
+    v_r7_i1 = v_r7_sroa_3_0_copyload_i32_i == 0u;
+    if (v_r7_i1) { goto L_then_1_i_i; } else { p_v_r3_0_i = 0u; goto L_pkcs1_c_algorithm_uses_hash_exit; }
 L_then_1_i_i:;
-    v_r18_i_i = v_a1 + 41;
-    v_r19_i_i = get_u8(v_r18_i_i);
-    v_r24_not_i_i = v_r19_i_i == 5u;
-    if (v_r24_not_i_i) { goto L_else_7_i_i; } else { p_v_r3_0_i = 0u; goto L_pkcs1_c_algorithm_uses_hash_exit; }
-L_else_7_i_i:;
-    v_r9_sroa_3_0_r28_sroa_idx_i_i = v_a1 + 56;
-    v_r9_sroa_3_0_copyload_i_i = get_u64(v_r9_sroa_3_0_r28_sroa_idx_i_i);
-    v_r7_i1 = v_r9_sroa_3_0_copyload_i_i == 0u;
-    if (v_r7_i1) { goto L_join_3_i_i; } else { p_v_r3_0_i = 0u; goto L_pkcs1_c_algorithm_uses_hash_exit; }
-L_join_3_i_i:;
-    v_r11_sroa_0_0_copyload_i_i = get_P(v_r34_i);
-    v_r11_sroa_3_0_a0_sroa_idx_i_i = v_a1 + 32;
-    v_r11_sroa_3_0_copyload_i_i = get_u64(v_r11_sroa_3_0_a0_sroa_idx_i_i);
-    v_r128_not_i26_i = v_r11_sroa_3_0_copyload_i_i == v_a2_8_val;
-    if (v_r128_not_i26_i) { goto L_join_4_i28_i; } else { p_v_r3_0_i = 0u; goto L_pkcs1_c_algorithm_uses_hash_exit; }
-L_join_4_i28_i:;
-    if (v_r135_i_i) { goto L_after_6_i35_i; } else { goto L_join_9_i30_i; }
-L_join_9_i30_i:;
+    v_r4_sroa_0_0_copyload_i_i = get_P(v_r34_i);
+    v_r4_sroa_3_0_a0_sroa_idx_i_i = v_a1 + 32;
+    v_r4_sroa_3_0_copyload_i_i = get_u64(v_r4_sroa_3_0_a0_sroa_idx_i_i);
+    v_r128_not_i35_i = v_r4_sroa_3_0_copyload_i_i == v_a2_8_val;
+    if (v_r128_not_i35_i) { goto L_join_4_i37_i; } else { p_v_r3_0_i = 0u; goto L_pkcs1_c_algorithm_uses_hash_exit; }
+L_join_4_i37_i:;
+    if (v_r135_i_i) { goto L_after_6_i44_i; } else { goto L_join_9_i39_i; }
+L_join_9_i39_i:;
     switch (v_a2_8_val) {
-    case 5u: { goto L_then_18_i99_i; }
-    case 9u: { goto L_then_32_i48_i; }
-    default: { goto L_after_6_i35_i; }
+    case 5u: { goto L_then_18_i108_i; }
+    case 9u: { goto L_then_32_i57_i; }
+    default: { goto L_after_6_i44_i; }
     }
-L_then_18_i99_i:;
-    v_r154_i96_i = v_r11_sroa_0_0_copyload_i_i + 4;
-    v_r152_i95_i = v_r11_sroa_0_0_copyload_i_i + 3;
-    v_r150_i94_i = v_r11_sroa_0_0_copyload_i_i + 2;
-    v_r148_i93_i = v_r11_sroa_0_0_copyload_i_i + 1;
-    v_r175_i100_i = v_a2_0_val + 1;
-    v_r177_i101_i = v_a2_0_val + 2;
-    v_r179_i102_i = v_a2_0_val + 3;
-    v_r181_i103_i = v_a2_0_val + 4;
-    v_r188_i104_i = get_u8(v_r11_sroa_0_0_copyload_i_i);
-    v_r190_i105_i = get_u8(v_a2_0_val);
-    v_r193_i106_i = v_r188_i104_i == v_r190_i105_i;
-    v_r196_i107_i = get_u8(v_r148_i93_i);
-    v_r198_i108_i = get_u8(v_r175_i100_i);
-    v_r201_i109_i = v_r196_i107_i == v_r198_i108_i;
-    v_r207_i110_i = (u1)(((u32)(v_r193_i106_i) & (u32)(v_r201_i109_i)) & 1);
-    v_r210_i111_i = get_u8(v_r150_i94_i);
-    v_r212_i112_i = get_u8(v_r177_i101_i);
-    v_r215_i113_i = v_r210_i111_i == v_r212_i112_i;
-    v_r221_i114_i = (u1)(((u32)(v_r207_i110_i) & (u32)(v_r215_i113_i)) & 1);
-    v_r224_i115_i = get_u8(v_r152_i95_i);
-    v_r226_i116_i = get_u8(v_r179_i102_i);
-    v_r229_i117_i = v_r224_i115_i == v_r226_i116_i;
-    v_r235_i118_i = (u1)(((u32)(v_r221_i114_i) & (u32)(v_r229_i117_i)) & 1);
-    v_r238_i119_i = get_u8(v_r154_i96_i);
-    v_r240_i120_i = get_u8(v_r181_i103_i);
-    v_r243_i121_i = v_r238_i119_i == v_r240_i120_i;
-    v_r249_i122_i = (u1)(((u32)(v_r235_i118_i) & (u32)(v_r243_i121_i)) & 1);
-    { p_v_r3_0_i = v_r249_i122_i; goto L_pkcs1_c_algorithm_uses_hash_exit; }
-L_then_32_i48_i:;
-    v_r284_i45_i = v_r11_sroa_0_0_copyload_i_i + 8;
-    v_r282_i44_i = v_r11_sroa_0_0_copyload_i_i + 7;
-    v_r280_i43_i = v_r11_sroa_0_0_copyload_i_i + 6;
-    v_r278_i42_i = v_r11_sroa_0_0_copyload_i_i + 5;
-    v_r276_i41_i = v_r11_sroa_0_0_copyload_i_i + 4;
-    v_r274_i40_i = v_r11_sroa_0_0_copyload_i_i + 3;
-    v_r272_i39_i = v_r11_sroa_0_0_copyload_i_i + 2;
-    v_r270_i38_i = v_r11_sroa_0_0_copyload_i_i + 1;
-    v_r309_i49_i = v_a2_0_val + 1;
-    v_r311_i50_i = v_a2_0_val + 2;
-    v_r313_i51_i = v_a2_0_val + 3;
-    v_r315_i52_i = v_a2_0_val + 4;
-    v_r317_i53_i = v_a2_0_val + 5;
-    v_r319_i54_i = v_a2_0_val + 6;
-    v_r321_i55_i = v_a2_0_val + 7;
-    v_r323_i56_i = v_a2_0_val + 8;
-    v_r334_i57_i = get_u8(v_r11_sroa_0_0_copyload_i_i);
-    v_r336_i58_i = get_u8(v_a2_0_val);
-    v_r339_i59_i = v_r334_i57_i == v_r336_i58_i;
-    v_r342_i60_i = get_u8(v_r270_i38_i);
-    v_r344_i61_i = get_u8(v_r309_i49_i);
-    v_r347_i62_i = v_r342_i60_i == v_r344_i61_i;
-    v_r353_i63_i = (u1)(((u32)(v_r339_i59_i) & (u32)(v_r347_i62_i)) & 1);
-    v_r356_i64_i = get_u8(v_r272_i39_i);
-    v_r358_i65_i = get_u8(v_r311_i50_i);
-    v_r361_i66_i = v_r356_i64_i == v_r358_i65_i;
-    v_r367_i67_i = (u1)(((u32)(v_r353_i63_i) & (u32)(v_r361_i66_i)) & 1);
-    v_r370_i68_i = get_u8(v_r274_i40_i);
-    v_r372_i69_i = get_u8(v_r313_i51_i);
-    v_r375_i70_i = v_r370_i68_i == v_r372_i69_i;
-    v_r381_i71_i = (u1)(((u32)(v_r367_i67_i) & (u32)(v_r375_i70_i)) & 1);
-    v_r384_i72_i = get_u8(v_r276_i41_i);
-    v_r386_i73_i = get_u8(v_r315_i52_i);
-    v_r389_i74_i = v_r384_i72_i == v_r386_i73_i;
-    v_r395_i75_i = (u1)(((u32)(v_r381_i71_i) & (u32)(v_r389_i74_i)) & 1);
-    v_r398_i76_i = get_u8(v_r278_i42_i);
-    v_r400_i77_i = get_u8(v_r317_i53_i);
-    v_r403_i78_i = v_r398_i76_i == v_r400_i77_i;
-    v_r409_i79_i = (u1)(((u32)(v_r395_i75_i) & (u32)(v_r403_i78_i)) & 1);
-    v_r412_i80_i = get_u8(v_r280_i43_i);
-    v_r414_i81_i = get_u8(v_r319_i54_i);
-    v_r417_i82_i = v_r412_i80_i == v_r414_i81_i;
-    v_r423_i83_i = (u1)(((u32)(v_r409_i79_i) & (u32)(v_r417_i82_i)) & 1);
-    v_r426_i84_i = get_u8(v_r282_i44_i);
-    v_r428_i85_i = get_u8(v_r321_i55_i);
-    v_r431_i86_i = v_r426_i84_i == v_r428_i85_i;
-    v_r437_i87_i = (u1)(((u32)(v_r423_i83_i) & (u32)(v_r431_i86_i)) & 1);
-    v_r440_i88_i = get_u8(v_r284_i45_i);
-    v_r442_i89_i = get_u8(v_r323_i56_i);
-    v_r445_i90_i = v_r440_i88_i == v_r442_i89_i;
-    v_r451_i91_i = (u1)(((u32)(v_r437_i87_i) & (u32)(v_r445_i90_i)) & 1);
-    { p_v_r3_0_i = v_r451_i91_i; goto L_pkcs1_c_algorithm_uses_hash_exit; }
-L_after_6_i35_i:;
-    v_r463_i36_i = f_pkcs1_c_algorithm_is_same_otherwise(v_r11_sroa_0_0_copyload_i_i, v_a2_8_val, v_a2_0_val, v_a2_8_val);
-    { p_v_r3_0_i = v_r463_i36_i; goto L_pkcs1_c_algorithm_uses_hash_exit; }
+L_then_18_i108_i:;
+    v_r154_i105_i = v_r4_sroa_0_0_copyload_i_i + 4;
+    v_r152_i104_i = v_r4_sroa_0_0_copyload_i_i + 3;
+    v_r150_i103_i = v_r4_sroa_0_0_copyload_i_i + 2;
+    v_r148_i102_i = v_r4_sroa_0_0_copyload_i_i + 1;
+    v_r175_i109_i = v_a2_0_val + 1;
+    v_r177_i110_i = v_a2_0_val + 2;
+    v_r179_i111_i = v_a2_0_val + 3;
+    v_r181_i112_i = v_a2_0_val + 4;
+    v_r188_i113_i = get_u8(v_r4_sroa_0_0_copyload_i_i);
+    v_r190_i114_i = get_u8(v_a2_0_val);
+    v_r193_i115_i = v_r188_i113_i == v_r190_i114_i;
+    v_r196_i116_i = get_u8(v_r148_i102_i);
+    v_r198_i117_i = get_u8(v_r175_i109_i);
+    v_r201_i118_i = v_r196_i116_i == v_r198_i117_i;
+    v_r207_i119_i = (u1)(((u32)(v_r193_i115_i) & (u32)(v_r201_i118_i)) & 1);
+    v_r210_i120_i = get_u8(v_r150_i103_i);
+    v_r212_i121_i = get_u8(v_r177_i110_i);
+    v_r215_i122_i = v_r210_i120_i == v_r212_i121_i;
+    v_r221_i123_i = (u1)(((u32)(v_r207_i119_i) & (u32)(v_r215_i122_i)) & 1);
+    v_r224_i124_i = get_u8(v_r152_i104_i);
+    v_r226_i125_i = get_u8(v_r179_i111_i);
+    v_r229_i126_i = v_r224_i124_i == v_r226_i125_i;
+    v_r235_i127_i = (u1)(((u32)(v_r221_i123_i) & (u32)(v_r229_i126_i)) & 1);
+    v_r238_i128_i = get_u8(v_r154_i105_i);
+    v_r240_i129_i = get_u8(v_r181_i112_i);
+    v_r243_i130_i = v_r238_i128_i == v_r240_i129_i;
+    v_r249_i131_i = (u1)(((u32)(v_r235_i127_i) & (u32)(v_r243_i130_i)) & 1);
+    { p_v_r3_0_i = v_r249_i131_i; goto L_pkcs1_c_algorithm_uses_hash_exit; }
+L_then_32_i57_i:;
+    v_r284_i54_i = v_r4_sroa_0_0_copyload_i_i + 8;
+    v_r282_i53_i = v_r4_sroa_0_0_copyload_i_i + 7;
+    v_r280_i52_i = v_r4_sroa_0_0_copyload_i_i + 6;
+    v_r278_i51_i = v_r4_sroa_0_0_copyload_i_i + 5;
+    v_r276_i50_i = v_r4_sroa_0_0_copyload_i_i + 4;
+    v_r274_i49_i = v_r4_sroa_0_0_copyload_i_i + 3;
+    v_r272_i48_i = v_r4_sroa_0_0_copyload_i_i + 2;
+    v_r270_i47_i = v_r4_sroa_0_0_copyload_i_i + 1;
+    v_r309_i58_i = v_a2_0_val + 1;
+    v_r311_i59_i = v_a2_0_val + 2;
+    v_r313_i60_i = v_a2_0_val + 3;
+    v_r315_i61_i = v_a2_0_val + 4;
+    v_r317_i62_i = v_a2_0_val + 5;
+    v_r319_i63_i = v_a2_0_val + 6;
+    v_r321_i64_i = v_a2_0_val + 7;
+    v_r323_i65_i = v_a2_0_val + 8;
+    v_r334_i66_i = get_u8(v_r4_sroa_0_0_copyload_i_i);
+    v_r336_i67_i = get_u8(v_a2_0_val);
+    v_r339_i68_i = v_r334_i66_i == v_r336_i67_i;
+    v_r342_i69_i = get_u8(v_r270_i47_i);
+    v_r344_i70_i = get_u8(v_r309_i58_i);
+    v_r347_i71_i = v_r342_i69_i == v_r344_i70_i;
+    v_r353_i72_i = (u1)(((u32)(v_r339_i68_i) & (u32)(v_r347_i71_i)) & 1);
+    v_r356_i73_i = get_u8(v_r272_i48_i);
+    v_r358_i74_i = get_u8(v_r311_i59_i);
+    v_r361_i75_i = v_r356_i73_i == v_r358_i74_i;
+    v_r367_i76_i = (u1)(((u32)(v_r353_i72_i) & (u32)(v_r361_i75_i)) & 1);
+    v_r370_i77_i = get_u8(v_r274_i49_i);
+    v_r372_i78_i = get_u8(v_r313_i60_i);
+    v_r375_i79_i = v_r370_i77_i == v_r372_i78_i;
+    v_r381_i80_i = (u1)(((u32)(v_r367_i76_i) & (u32)(v_r375_i79_i)) & 1);
+    v_r384_i81_i = get_u8(v_r276_i50_i);
+    v_r386_i82_i = get_u8(v_r315_i61_i);
+    v_r389_i83_i = v_r384_i81_i == v_r386_i82_i;
+    v_r395_i84_i = (u1)(((u32)(v_r381_i80_i) & (u32)(v_r389_i83_i)) & 1);
+    v_r398_i85_i = get_u8(v_r278_i51_i);
+    v_r400_i86_i = get_u8(v_r317_i62_i);
+    v_r403_i87_i = v_r398_i85_i == v_r400_i86_i;
+    v_r409_i88_i = (u1)(((u32)(v_r395_i84_i) & (u32)(v_r403_i87_i)) & 1);
+    v_r412_i89_i = get_u8(v_r280_i52_i);
+    v_r414_i90_i = get_u8(v_r319_i63_i);
+    v_r417_i91_i = v_r412_i89_i == v_r414_i90_i;
+    v_r423_i92_i = (u1)(((u32)(v_r409_i88_i) & (u32)(v_r417_i91_i)) & 1);
+    v_r426_i93_i = get_u8(v_r282_i53_i);
+    v_r428_i94_i = get_u8(v_r321_i64_i);
+    v_r431_i95_i = v_r426_i93_i == v_r428_i94_i;
+    v_r437_i96_i = (u1)(((u32)(v_r423_i92_i) & (u32)(v_r431_i95_i)) & 1);
+    v_r440_i97_i = get_u8(v_r284_i54_i);
+    v_r442_i98_i = get_u8(v_r323_i65_i);
+    v_r445_i99_i = v_r440_i97_i == v_r442_i98_i;
+    v_r451_i100_i = (u1)(((u32)(v_r437_i96_i) & (u32)(v_r445_i99_i)) & 1);
+    { p_v_r3_0_i = v_r451_i100_i; goto L_pkcs1_c_algorithm_uses_hash_exit; }
+L_after_6_i44_i:;
+    v_r463_i45_i = f_pkcs1_c_algorithm_is_same_otherwise(v_r4_sroa_0_0_copyload_i_i, v_a2_8_val, v_a2_0_val, v_a2_8_val);
+    { p_v_r3_0_i = v_r463_i45_i; goto L_pkcs1_c_algorithm_uses_hash_exit; }
 L_pkcs1_c_algorithm_uses_hash_exit:;
     v_r3_0_i = p_v_r3_0_i;
     return v_r3_0_i;
@@ -24442,7 +25060,7 @@ L_else_11:;
 L_join_3:;
     return;
 }
-static void f_der_core_encode_AnyEncode_encoded_len_b37897193353(P v_a0, P v_a1) {
+static void f_der_core_encode_AnyEncode_encoded_len_f7113d2cfd57(P v_a0, P v_a1) {
     u32 p_v_r4_0_i_i_i_i_i_i;
     u32 p_v_r3_i32_sroa_12_0_i_i;
     u8 p_v_r3_i32_sroa_6_0_i_i;
@@ -24706,20 +25324,20 @@ L_der_core_borrowed_BorrowedEncode_encoded_len_e0a78:;
     v_r11_i_i_i_i_i_i72_i_i = (u32)((u32)(v_r4_0_i_i_i_i_i69_i_i) + (u32)(v_r11_i_i_i_i_i_i_i_i_i));
     if (v_r7_i_not_i_i_i_i_i71_not_i_i) { goto L_arm_2_i98_i_i; } else { goto L_arm_1_i110_i_i; }
 L_arm_1_i110_i_i:;
-    if (v_r24_sroa_0_0_sink_i_i_i) { goto L_arm_1_i150_i_i; } else { p_v_r5_sroa_0_0_i_i_sink_i = 1u; p_v_r5_sroa_4_0_i_i_sink_i = v_r24_sroa_4_0_sink_i_i_i; p_v_r5_sroa_10_0_i_i_sink_i = 0u; goto L_der_core_encode_encoding_len_b378971933539712_exit; }
+    if (v_r24_sroa_0_0_sink_i_i_i) { goto L_arm_1_i150_i_i; } else { p_v_r5_sroa_0_0_i_i_sink_i = 1u; p_v_r5_sroa_4_0_i_i_sink_i = v_r24_sroa_4_0_sink_i_i_i; p_v_r5_sroa_10_0_i_i_sink_i = 0u; goto L_der_core_encode_encoding_len_f7113d2cfd57b563_exit; }
 L_arm_2_i98_i_i:;
     v_spec_select171_i_i = v_r24_sroa_0_0_sink_i_i_i ? 7u : v_r24_sroa_4_0_sink_i_i_i;
-    { p_v_r5_sroa_0_0_i_i_sink_i = 1u; p_v_r5_sroa_4_0_i_i_sink_i = v_spec_select171_i_i; p_v_r5_sroa_10_0_i_i_sink_i = 0u; goto L_der_core_encode_encoding_len_b378971933539712_exit; }
+    { p_v_r5_sroa_0_0_i_i_sink_i = 1u; p_v_r5_sroa_4_0_i_i_sink_i = v_spec_select171_i_i; p_v_r5_sroa_10_0_i_i_sink_i = 0u; goto L_der_core_encode_encoding_len_f7113d2cfd57b563_exit; }
 L_arm_1_i150_i_i:;
     v_r5_i_i_i112_i_i = (u32)((u32)(v_r24_sroa_13_0_sink_i_i_i) ^ (u32)(4294967295ull));
     v_r7_i_not_i_i113_not_i_i = v_r11_i_i_i_i_i_i72_i_i > v_r5_i_i_i112_i_i;
-    if (v_r7_i_not_i_i113_not_i_i) { p_v_r5_sroa_0_0_i_i_sink_i = 1u; p_v_r5_sroa_4_0_i_i_sink_i = 7u; p_v_r5_sroa_10_0_i_i_sink_i = 0u; goto L_der_core_encode_encoding_len_b378971933539712_exit; } else { goto L_pkcs8_core_info_PrivateKeyInfoOfEncodeInParts_part; }
+    if (v_r7_i_not_i_i113_not_i_i) { p_v_r5_sroa_0_0_i_i_sink_i = 1u; p_v_r5_sroa_4_0_i_i_sink_i = 7u; p_v_r5_sroa_10_0_i_i_sink_i = 0u; goto L_der_core_encode_encoding_len_f7113d2cfd57b563_exit; } else { goto L_pkcs8_core_info_PrivateKeyInfoOfEncodeInParts_part; }
 L_pkcs8_core_info_PrivateKeyInfoOfEncodeInParts_part:;
     v_r11_i_i_i114_i_i = (u32)((u32)(v_r11_i_i_i_i_i_i72_i_i) + (u32)(v_r24_sroa_13_0_sink_i_i_i));
     v_r7_i_not_i_i153_i_i = v_r11_i_i_i114_i_i < 4294967293ull;
     v_4 = v_r11_i_i_i114_i_i < 4294967293ull ? v_r11_i_i_i114_i_i : 4294967293ull;
     v_r5_sroa_10_0_i_i157_i_i = (u32)((u32)(v_4) + (u32)(3u));
-    if (v_r7_i_not_i_i153_i_i) { goto L_arm_1_i; } else { p_v_r5_sroa_0_0_i_i_sink_i = 1u; p_v_r5_sroa_4_0_i_i_sink_i = 7u; p_v_r5_sroa_10_0_i_i_sink_i = 0u; goto L_der_core_encode_encoding_len_b378971933539712_exit; }
+    if (v_r7_i_not_i_i153_i_i) { goto L_arm_1_i; } else { p_v_r5_sroa_0_0_i_i_sink_i = 1u; p_v_r5_sroa_4_0_i_i_sink_i = 7u; p_v_r5_sroa_10_0_i_i_sink_i = 0u; goto L_der_core_encode_encoding_len_f7113d2cfd57b563_exit; }
 L_arm_1_i:;
     v_r12_i_i_i = v_r5_sroa_10_0_i_i157_i_i < 128u;
     if (v_r12_i_i_i) { p_v_r4_0_i_i_i = 2u; goto L_der_core_length_Length_for_tlv_exit_i; } else { goto L_else_2_i_i_i; }
@@ -24740,8 +25358,8 @@ L_der_core_length_Length_for_tlv_exit_i:;
     v_r5_sroa_0_0_i_i_i = (u8)v_r7_i_not_i_i_i;
     v_r5_sroa_4_0_i_i_i = v_r7_i_not_i_i_i ? 7u : 0u;
     v_r5_sroa_10_0_i_i_i = v_r7_i_not_i_i_i ? 0u : v_r11_i_i_i_i;
-    { p_v_r5_sroa_0_0_i_i_sink_i = v_r5_sroa_0_0_i_i_i; p_v_r5_sroa_4_0_i_i_sink_i = v_r5_sroa_4_0_i_i_i; p_v_r5_sroa_10_0_i_i_sink_i = v_r5_sroa_10_0_i_i_i; goto L_der_core_encode_encoding_len_b378971933539712_exit; }
-L_der_core_encode_encoding_len_b378971933539712_exit:;
+    { p_v_r5_sroa_0_0_i_i_sink_i = v_r5_sroa_0_0_i_i_i; p_v_r5_sroa_4_0_i_i_sink_i = v_r5_sroa_4_0_i_i_i; p_v_r5_sroa_10_0_i_i_sink_i = v_r5_sroa_10_0_i_i_i; goto L_der_core_encode_encoding_len_f7113d2cfd57b563_exit; }
+L_der_core_encode_encoding_len_f7113d2cfd57b563_exit:;
     v_r5_sroa_0_0_i_i_sink_i = p_v_r5_sroa_0_0_i_i_sink_i;
     v_r5_sroa_4_0_i_i_sink_i = p_v_r5_sroa_4_0_i_i_sink_i;
     v_r5_sroa_10_0_i_i_sink_i = p_v_r5_sroa_10_0_i_i_sink_i;
@@ -33202,19 +33820,19 @@ static u1 proved_algorithm_is(P v_a0, P v_a1) {
     P v_r3_sroa_3_0_a1_sroa_idx_i;
     u64 v_r3_sroa_3_0_copyload_i;
     u1 v_r11_i;
-    P v_r12_i_i;
-    u8 v_r13_i_i;
-    u1 v_r14_i_i;
+    P v_r8_i_i;
+    u8 v_r9_i_i;
+    u1 v_r10_i_i;
     P v_r18_i_i;
     u8 v_r19_i_i;
-    u1 v_r24_not_i_i;
-    P v_r9_sroa_3_0_r28_sroa_idx_i_i;
-    u64 v_r9_sroa_3_0_copyload_i_i;
+    u1 v_r24_i_i;
+    P v_r7_sroa_3_0_r28_sroa_idx_i_i;
+    u64 v_r7_sroa_3_0_copyload_i_i;
     u1 v_r7_i_i;
     u1 v_r128_not_i_i;
     u1 v_or_cond_i;
     u1 v_r128_not_i_old_i;
-    P v_r11_sroa_0_0_copyload_i_i;
+    P v_r4_sroa_0_0_copyload_i_i;
     P v_r270_i_i;
     P v_r272_i_i;
     P v_r274_i_i;
@@ -33278,35 +33896,35 @@ L_then_1_i:;
     v_r11_i = f_pkcs1_c_algorithm_is_hash_otherwise(v_a0, v_r3_sroa_0_0_copyload_i, v_r3_sroa_3_0_copyload_i);
     { p_v_common_ret_op_i = v_r11_i; goto L_pkcs1_c_algorithm_pkcs1_c_algorithm_is_exit; }
 L_join_3_i:;
-    v_r12_i_i = v_a0 + 16;
-    v_r13_i_i = get_u8(v_r12_i_i);
-    v_r14_i_i = (u1)((v_r13_i_i) & 1);
-    if (v_r14_i_i) { goto L_then_1_i_i; } else { goto L_join_3_i_i; }
-L_then_1_i_i:;
+    v_r8_i_i = v_a0 + 16;
+    v_r9_i_i = get_u8(v_r8_i_i);
+    v_r10_i_i = (u1)((v_r9_i_i) & 1);
+    if (v_r10_i_i) { goto L_else_2_i_i; } else { goto L_then_1_i_i; }
+L_else_2_i_i:;
     v_r18_i_i = v_a0 + 17;
     v_r19_i_i = get_u8(v_r18_i_i);
-    v_r24_not_i_i = v_r19_i_i == 5u;
-    if (v_r24_not_i_i) { goto L_else_7_i_i; } else { p_v_common_ret_op_i = 0u; goto L_pkcs1_c_algorithm_pkcs1_c_algorithm_is_exit; }
-L_else_7_i_i:;
-    v_r9_sroa_3_0_r28_sroa_idx_i_i = v_a0 + 32;
-    v_r9_sroa_3_0_copyload_i_i = get_u64(v_r9_sroa_3_0_r28_sroa_idx_i_i);
-    v_r7_i_i = v_r9_sroa_3_0_copyload_i_i == 0u;
+    v_r24_i_i = v_r19_i_i == 5u;
+    if (v_r24_i_i) { goto L_pkcs1_c_algorithm_is_null_or_absent_exit_i; } else { p_v_common_ret_op_i = 0u; goto L_pkcs1_c_algorithm_pkcs1_c_algorithm_is_exit; }
+L_pkcs1_c_algorithm_is_null_or_absent_exit_i:;
+    v_r7_sroa_3_0_r28_sroa_idx_i_i = v_a0 + 32;
+    v_r7_sroa_3_0_copyload_i_i = get_u64(v_r7_sroa_3_0_r28_sroa_idx_i_i);
+    v_r7_i_i = v_r7_sroa_3_0_copyload_i_i == 0u;
     v_r128_not_i_i = v_r3_sroa_3_0_copyload_i == 9u;
     v_or_cond_i = v_r7_i_i ? v_r128_not_i_i : 0u;
     if (v_or_cond_i) { goto L_then_32_i_i; } else { p_v_common_ret_op_i = 0u; goto L_pkcs1_c_algorithm_pkcs1_c_algorithm_is_exit; }
-L_join_3_i_i:;
+L_then_1_i_i:;
     v_r128_not_i_old_i = v_r3_sroa_3_0_copyload_i == 9u;
     if (v_r128_not_i_old_i) { goto L_then_32_i_i; } else { p_v_common_ret_op_i = 0u; goto L_pkcs1_c_algorithm_pkcs1_c_algorithm_is_exit; }
 L_then_32_i_i:;
-    v_r11_sroa_0_0_copyload_i_i = get_P(v_a0);
-    v_r270_i_i = v_r11_sroa_0_0_copyload_i_i + 1;
-    v_r272_i_i = v_r11_sroa_0_0_copyload_i_i + 2;
-    v_r274_i_i = v_r11_sroa_0_0_copyload_i_i + 3;
-    v_r276_i_i = v_r11_sroa_0_0_copyload_i_i + 4;
-    v_r278_i_i = v_r11_sroa_0_0_copyload_i_i + 5;
-    v_r280_i_i = v_r11_sroa_0_0_copyload_i_i + 6;
-    v_r282_i_i = v_r11_sroa_0_0_copyload_i_i + 7;
-    v_r284_i_i = v_r11_sroa_0_0_copyload_i_i + 8;
+    v_r4_sroa_0_0_copyload_i_i = get_P(v_a0);
+    v_r270_i_i = v_r4_sroa_0_0_copyload_i_i + 1;
+    v_r272_i_i = v_r4_sroa_0_0_copyload_i_i + 2;
+    v_r274_i_i = v_r4_sroa_0_0_copyload_i_i + 3;
+    v_r276_i_i = v_r4_sroa_0_0_copyload_i_i + 4;
+    v_r278_i_i = v_r4_sroa_0_0_copyload_i_i + 5;
+    v_r280_i_i = v_r4_sroa_0_0_copyload_i_i + 6;
+    v_r282_i_i = v_r4_sroa_0_0_copyload_i_i + 7;
+    v_r284_i_i = v_r4_sroa_0_0_copyload_i_i + 8;
     v_r309_i_i = v_r3_sroa_0_0_copyload_i + 1;
     v_r311_i_i = v_r3_sroa_0_0_copyload_i + 2;
     v_r313_i_i = v_r3_sroa_0_0_copyload_i + 3;
@@ -33315,7 +33933,7 @@ L_then_32_i_i:;
     v_r319_i_i = v_r3_sroa_0_0_copyload_i + 6;
     v_r321_i_i = v_r3_sroa_0_0_copyload_i + 7;
     v_r323_i_i = v_r3_sroa_0_0_copyload_i + 8;
-    v_r334_i_i = get_u8(v_r11_sroa_0_0_copyload_i_i);
+    v_r334_i_i = get_u8(v_r4_sroa_0_0_copyload_i_i);
     v_r336_i_i = get_u8(v_r3_sroa_0_0_copyload_i);
     v_r339_i_i = v_r334_i_i == v_r336_i_i;
     v_r342_i_i = get_u8(v_r270_i_i);
@@ -33354,6 +33972,11 @@ L_then_32_i_i:;
 L_pkcs1_c_algorithm_pkcs1_c_algorithm_is_exit:;
     v_common_ret_op_i = p_v_common_ret_op_i;
     return v_common_ret_op_i;
+}
+static u1 proved_algorithm_is_same_hash(P v_a0, P v_a1) {
+    u1 v_r1_i;
+    v_r1_i = f_pkcs1_c_meanings_is_same_hash(v_a0, v_a1);
+    return v_r1_i;
 }
 static u64 proved_bit_len(P v_a0, u64 v_a1) {
     P p_v_r3_sroa_0_08_i_i_i;
@@ -33535,6 +34158,417 @@ L_then_7_i:;
 L_pkcs1_c_oaep_pkcs1_c_oaep_label_exit:;
     v_r398_i = p_v_r398_i;
     return v_r398_i;
+}
+static u1 proved_oaep_means_same(P v_a0, P v_a1) {
+    u64 p_v_common_ret_op_i_ph_i_i_i_i;
+    u1 p_v_r1_0_in_i;
+    u1 v_r11_i;
+    P v_r15_i;
+    P v_r16_i;
+    u1 v_r19_i;
+    P v_r26_i;
+    P v_r27_i;
+    P v_r2_sroa_0_0_copyload_i_i;
+    P v_r2_sroa_3_0_a0_sroa_idx_i_i;
+    u64 v_r2_sroa_3_0_copyload_i_i;
+    P v_r3_sroa_0_0_copyload_i_i;
+    P v_r3_sroa_3_0_a1_sroa_idx_i_i;
+    u64 v_r3_sroa_3_0_copyload_i_i;
+    u1 v_r128_not_i_i_i;
+    u1 v_r135_i_i_i;
+    P v_r154_i_i_i;
+    P v_r152_i_i_i;
+    P v_r150_i_i_i;
+    P v_r148_i_i_i;
+    P v_r175_i_i_i;
+    P v_r177_i_i_i;
+    P v_r179_i_i_i;
+    P v_r181_i_i_i;
+    u8 v_r188_i_i_i;
+    u8 v_r190_i_i_i;
+    u1 v_r193_i_i_i;
+    u8 v_r196_i_i_i;
+    u8 v_r198_i_i_i;
+    u1 v_r201_i_i_i;
+    u1 v_r207_i_i_i;
+    u8 v_r210_i_i_i;
+    u8 v_r212_i_i_i;
+    u1 v_r215_i_i_i;
+    u1 v_r221_i_i_i;
+    u8 v_r224_i_i_i;
+    u8 v_r226_i_i_i;
+    u1 v_r229_i_i_i;
+    u1 v_r235_i_i_i;
+    u8 v_r238_i_i_i;
+    u8 v_r240_i_i_i;
+    u1 v_r243_i_i_i;
+    u1 v_r249_i_i_i;
+    P v_r284_i_i_i;
+    P v_r282_i_i_i;
+    P v_r280_i_i_i;
+    P v_r278_i_i_i;
+    P v_r276_i_i_i;
+    P v_r274_i_i_i;
+    P v_r272_i_i_i;
+    P v_r270_i_i_i;
+    P v_r309_i_i_i;
+    P v_r311_i_i_i;
+    P v_r313_i_i_i;
+    P v_r315_i_i_i;
+    P v_r317_i_i_i;
+    P v_r319_i_i_i;
+    P v_r321_i_i_i;
+    P v_r323_i_i_i;
+    u8 v_r334_i_i_i;
+    u8 v_r336_i_i_i;
+    u1 v_r339_i_i_i;
+    u8 v_r342_i_i_i;
+    u8 v_r344_i_i_i;
+    u1 v_r347_i_i_i;
+    u1 v_r353_i_i_i;
+    u8 v_r356_i_i_i;
+    u8 v_r358_i_i_i;
+    u1 v_r361_i_i_i;
+    u1 v_r367_i_i_i;
+    u8 v_r370_i_i_i;
+    u8 v_r372_i_i_i;
+    u1 v_r375_i_i_i;
+    u1 v_r381_i_i_i;
+    u8 v_r384_i_i_i;
+    u8 v_r386_i_i_i;
+    u1 v_r389_i_i_i;
+    u1 v_r395_i_i_i;
+    u8 v_r398_i_i_i;
+    u8 v_r400_i_i_i;
+    u1 v_r403_i_i_i;
+    u1 v_r409_i_i_i;
+    u8 v_r412_i_i_i;
+    u8 v_r414_i_i_i;
+    u1 v_r417_i_i_i;
+    u1 v_r423_i_i_i;
+    u8 v_r426_i_i_i;
+    u8 v_r428_i_i_i;
+    u1 v_r431_i_i_i;
+    u1 v_r437_i_i_i;
+    u8 v_r440_i_i_i;
+    u8 v_r442_i_i_i;
+    u1 v_r445_i_i_i;
+    u1 v_r451_i_i_i;
+    u1 v_r463_i_i_i;
+    P v_r11_i_i_i;
+    u8 v_r12_i_i_i;
+    u1 v_r13_i_i_i;
+    P v_r17_i_i_i;
+    u8 v_r18_i_i_i;
+    u1 v_0;
+    u1 v_r19_i_i_i;
+    P v_r26_i_i_i;
+    u8 v_r27_i_i_i;
+    P v_r28_i_i_i;
+    u8 v_r29_i_i_i;
+    u1 v_r32_i_i_i;
+    P v_r36_i_i_i;
+    P v_r37_i_i_i;
+    P v_r1_sroa_0_0_copyload_i_i_i_i;
+    P v_r1_sroa_3_0_a0_sroa_idx_i_i_i_i;
+    u64 v_r1_sroa_3_0_copyload_i_i_i_i;
+    P v_r2_sroa_0_0_copyload_i_i_i_i;
+    P v_r2_sroa_3_0_a1_sroa_idx_i_i_i_i;
+    u64 v_r2_sroa_3_0_copyload_i_i_i_i;
+    u1 v_r21_not_i_i_i_i;
+    u1 v_r52_i_i_i_i;
+    u8 v_r16_val_i_i_i_i_i;
+    u8 v_r21_val_i_i_i_i_i;
+    u1 v_r7_i_i_i_i_i_i;
+    P v_r16_i_i_1_i_i_i;
+    P v_r21_i_i_1_i_i_i;
+    u8 v_r16_val_i_i_1_i_i_i;
+    u8 v_r21_val_i_i_1_i_i_i;
+    u1 v_r7_i_i_i_1_i_i_i;
+    u1 v_r20_i_1_i_i_i;
+    P v_r16_i_i_2_i_i_i;
+    P v_r21_i_i_2_i_i_i;
+    u8 v_r16_val_i_i_2_i_i_i;
+    u8 v_r21_val_i_i_2_i_i_i;
+    u1 v_r7_i_i_i_2_i_i_i;
+    u1 v_r20_i_2_i_i_i;
+    P v_r16_i_i_3_i_i_i;
+    P v_r21_i_i_3_i_i_i;
+    u8 v_r16_val_i_i_3_i_i_i;
+    u8 v_r21_val_i_i_3_i_i_i;
+    u1 v_r7_i_i_i_3_i_i_i;
+    u1 v_r20_i_3_i_i_i;
+    u1 v_r56_not_i_i_i_i_i;
+    u8 v_r16_val_i_i_i_i_i_i;
+    u8 v_r21_val_i_i_i_i_i_i;
+    u1 v_r7_i_i_not_i_i_i_i_i;
+    u1 v_exitcond_not_i_i_i_i_i;
+    P v_r16_i_i_i_i_i_i_1;
+    P v_r21_i_i_i_i_i_i_1;
+    u8 v_r16_val_i_i_i_i_i_i_1;
+    u8 v_r21_val_i_i_i_i_i_i_1;
+    u1 v_r7_i_i_not_i_i_i_i_i_1;
+    u1 v_exitcond_not_i_i_i_i_i_1;
+    P v_r16_i_i_i_i_i_i_2;
+    P v_r21_i_i_i_i_i_i_2;
+    u8 v_r16_val_i_i_i_i_i_i_2;
+    u8 v_r21_val_i_i_i_i_i_i_2;
+    u1 v_r7_i_i_not_i_i_i_i_i_2;
+    u64 v_spec_select;
+    u64 v_common_ret_op_i_ph_i_i_i_i;
+    u1 v_1;
+    u1 v_r83_i_i_i_i;
+    u1 v_r1_0_in_i;
+    v_r11_i = f_pkcs1_c_meanings_is_same_hash(v_a0, v_a1);
+    if (v_r11_i) { goto L_join_3_i; } else { p_v_r1_0_in_i = 0u; goto L_pkcs1_c_meanings_pkcs1_c_oaep_means_same_exit; }
+L_join_3_i:;
+    v_r15_i = v_a0 + 40;
+    v_r16_i = v_a1 + 40;
+    v_r19_i = f_pkcs1_c_meanings_is_same_mask(v_r15_i, v_r16_i);
+    if (v_r19_i) { goto L_then_4_i; } else { p_v_r1_0_in_i = 0u; goto L_pkcs1_c_meanings_pkcs1_c_oaep_means_same_exit; }
+L_then_4_i:;
+    v_r26_i = v_a0 + 104;
+    v_r27_i = v_a1 + 104;
+    v_r2_sroa_0_0_copyload_i_i = get_P(v_r26_i);
+    v_r2_sroa_3_0_a0_sroa_idx_i_i = v_a0 + 112;
+    v_r2_sroa_3_0_copyload_i_i = get_u64(v_r2_sroa_3_0_a0_sroa_idx_i_i);
+    v_r3_sroa_0_0_copyload_i_i = get_P(v_r27_i);
+    v_r3_sroa_3_0_a1_sroa_idx_i_i = v_a1 + 112;
+    v_r3_sroa_3_0_copyload_i_i = get_u64(v_r3_sroa_3_0_a1_sroa_idx_i_i);
+    v_r128_not_i_i_i = v_r2_sroa_3_0_copyload_i_i == v_r3_sroa_3_0_copyload_i_i;
+    if (v_r128_not_i_i_i) { goto L_join_4_i_i_i; } else { p_v_r1_0_in_i = 0u; goto L_pkcs1_c_meanings_pkcs1_c_oaep_means_same_exit; }
+L_join_4_i_i_i:;
+    v_r135_i_i_i = v_r2_sroa_3_0_copyload_i_i < 5u;
+    if (v_r135_i_i_i) { goto L_pkcs1_c_algorithm_is_same_exit_i_i; } else { goto L_join_9_i_i_i; }
+L_join_9_i_i_i:;
+    switch (v_r2_sroa_3_0_copyload_i_i) {
+    case 5u: { goto L_then_18_i_i_i; }
+    case 9u: { goto L_then_32_i_i_i; }
+    default: { goto L_pkcs1_c_algorithm_is_same_exit_i_i; }
+    }
+L_then_18_i_i_i:;
+    v_r154_i_i_i = v_r2_sroa_0_0_copyload_i_i + 4;
+    v_r152_i_i_i = v_r2_sroa_0_0_copyload_i_i + 3;
+    v_r150_i_i_i = v_r2_sroa_0_0_copyload_i_i + 2;
+    v_r148_i_i_i = v_r2_sroa_0_0_copyload_i_i + 1;
+    v_r175_i_i_i = v_r3_sroa_0_0_copyload_i_i + 1;
+    v_r177_i_i_i = v_r3_sroa_0_0_copyload_i_i + 2;
+    v_r179_i_i_i = v_r3_sroa_0_0_copyload_i_i + 3;
+    v_r181_i_i_i = v_r3_sroa_0_0_copyload_i_i + 4;
+    v_r188_i_i_i = get_u8(v_r2_sroa_0_0_copyload_i_i);
+    v_r190_i_i_i = get_u8(v_r3_sroa_0_0_copyload_i_i);
+    v_r193_i_i_i = v_r188_i_i_i == v_r190_i_i_i;
+    v_r196_i_i_i = get_u8(v_r148_i_i_i);
+    v_r198_i_i_i = get_u8(v_r175_i_i_i);
+    v_r201_i_i_i = v_r196_i_i_i == v_r198_i_i_i;
+    v_r207_i_i_i = (u1)(((u32)(v_r193_i_i_i) & (u32)(v_r201_i_i_i)) & 1);
+    v_r210_i_i_i = get_u8(v_r150_i_i_i);
+    v_r212_i_i_i = get_u8(v_r177_i_i_i);
+    v_r215_i_i_i = v_r210_i_i_i == v_r212_i_i_i;
+    v_r221_i_i_i = (u1)(((u32)(v_r207_i_i_i) & (u32)(v_r215_i_i_i)) & 1);
+    v_r224_i_i_i = get_u8(v_r152_i_i_i);
+    v_r226_i_i_i = get_u8(v_r179_i_i_i);
+    v_r229_i_i_i = v_r224_i_i_i == v_r226_i_i_i;
+    v_r235_i_i_i = (u1)(((u32)(v_r221_i_i_i) & (u32)(v_r229_i_i_i)) & 1);
+    v_r238_i_i_i = get_u8(v_r154_i_i_i);
+    v_r240_i_i_i = get_u8(v_r181_i_i_i);
+    v_r243_i_i_i = v_r238_i_i_i == v_r240_i_i_i;
+    v_r249_i_i_i = (u1)(((u32)(v_r235_i_i_i) & (u32)(v_r243_i_i_i)) & 1);
+    if (v_r249_i_i_i) { goto L_then_1_i_i; } else { p_v_r1_0_in_i = 0u; goto L_pkcs1_c_meanings_pkcs1_c_oaep_means_same_exit; }
+L_then_32_i_i_i:;
+    v_r284_i_i_i = v_r2_sroa_0_0_copyload_i_i + 8;
+    v_r282_i_i_i = v_r2_sroa_0_0_copyload_i_i + 7;
+    v_r280_i_i_i = v_r2_sroa_0_0_copyload_i_i + 6;
+    v_r278_i_i_i = v_r2_sroa_0_0_copyload_i_i + 5;
+    v_r276_i_i_i = v_r2_sroa_0_0_copyload_i_i + 4;
+    v_r274_i_i_i = v_r2_sroa_0_0_copyload_i_i + 3;
+    v_r272_i_i_i = v_r2_sroa_0_0_copyload_i_i + 2;
+    v_r270_i_i_i = v_r2_sroa_0_0_copyload_i_i + 1;
+    v_r309_i_i_i = v_r3_sroa_0_0_copyload_i_i + 1;
+    v_r311_i_i_i = v_r3_sroa_0_0_copyload_i_i + 2;
+    v_r313_i_i_i = v_r3_sroa_0_0_copyload_i_i + 3;
+    v_r315_i_i_i = v_r3_sroa_0_0_copyload_i_i + 4;
+    v_r317_i_i_i = v_r3_sroa_0_0_copyload_i_i + 5;
+    v_r319_i_i_i = v_r3_sroa_0_0_copyload_i_i + 6;
+    v_r321_i_i_i = v_r3_sroa_0_0_copyload_i_i + 7;
+    v_r323_i_i_i = v_r3_sroa_0_0_copyload_i_i + 8;
+    v_r334_i_i_i = get_u8(v_r2_sroa_0_0_copyload_i_i);
+    v_r336_i_i_i = get_u8(v_r3_sroa_0_0_copyload_i_i);
+    v_r339_i_i_i = v_r334_i_i_i == v_r336_i_i_i;
+    v_r342_i_i_i = get_u8(v_r270_i_i_i);
+    v_r344_i_i_i = get_u8(v_r309_i_i_i);
+    v_r347_i_i_i = v_r342_i_i_i == v_r344_i_i_i;
+    v_r353_i_i_i = (u1)(((u32)(v_r339_i_i_i) & (u32)(v_r347_i_i_i)) & 1);
+    v_r356_i_i_i = get_u8(v_r272_i_i_i);
+    v_r358_i_i_i = get_u8(v_r311_i_i_i);
+    v_r361_i_i_i = v_r356_i_i_i == v_r358_i_i_i;
+    v_r367_i_i_i = (u1)(((u32)(v_r353_i_i_i) & (u32)(v_r361_i_i_i)) & 1);
+    v_r370_i_i_i = get_u8(v_r274_i_i_i);
+    v_r372_i_i_i = get_u8(v_r313_i_i_i);
+    v_r375_i_i_i = v_r370_i_i_i == v_r372_i_i_i;
+    v_r381_i_i_i = (u1)(((u32)(v_r367_i_i_i) & (u32)(v_r375_i_i_i)) & 1);
+    v_r384_i_i_i = get_u8(v_r276_i_i_i);
+    v_r386_i_i_i = get_u8(v_r315_i_i_i);
+    v_r389_i_i_i = v_r384_i_i_i == v_r386_i_i_i;
+    v_r395_i_i_i = (u1)(((u32)(v_r381_i_i_i) & (u32)(v_r389_i_i_i)) & 1);
+    v_r398_i_i_i = get_u8(v_r278_i_i_i);
+    v_r400_i_i_i = get_u8(v_r317_i_i_i);
+    v_r403_i_i_i = v_r398_i_i_i == v_r400_i_i_i;
+    v_r409_i_i_i = (u1)(((u32)(v_r395_i_i_i) & (u32)(v_r403_i_i_i)) & 1);
+    v_r412_i_i_i = get_u8(v_r280_i_i_i);
+    v_r414_i_i_i = get_u8(v_r319_i_i_i);
+    v_r417_i_i_i = v_r412_i_i_i == v_r414_i_i_i;
+    v_r423_i_i_i = (u1)(((u32)(v_r409_i_i_i) & (u32)(v_r417_i_i_i)) & 1);
+    v_r426_i_i_i = get_u8(v_r282_i_i_i);
+    v_r428_i_i_i = get_u8(v_r321_i_i_i);
+    v_r431_i_i_i = v_r426_i_i_i == v_r428_i_i_i;
+    v_r437_i_i_i = (u1)(((u32)(v_r423_i_i_i) & (u32)(v_r431_i_i_i)) & 1);
+    v_r440_i_i_i = get_u8(v_r284_i_i_i);
+    v_r442_i_i_i = get_u8(v_r323_i_i_i);
+    v_r445_i_i_i = v_r440_i_i_i == v_r442_i_i_i;
+    v_r451_i_i_i = (u1)(((u32)(v_r437_i_i_i) & (u32)(v_r445_i_i_i)) & 1);
+    if (v_r451_i_i_i) { goto L_then_1_i_i; } else { p_v_r1_0_in_i = 0u; goto L_pkcs1_c_meanings_pkcs1_c_oaep_means_same_exit; }
+L_pkcs1_c_algorithm_is_same_exit_i_i:;
+    v_r463_i_i_i = f_pkcs1_c_algorithm_is_same_otherwise(v_r2_sroa_0_0_copyload_i_i, v_r2_sroa_3_0_copyload_i_i, v_r3_sroa_0_0_copyload_i_i, v_r2_sroa_3_0_copyload_i_i);
+    if (v_r463_i_i_i) { goto L_then_1_i_i; } else { p_v_r1_0_in_i = 0u; goto L_pkcs1_c_meanings_pkcs1_c_oaep_means_same_exit; }
+L_then_1_i_i:;
+    v_r11_i_i_i = v_a0 + 120;
+    v_r12_i_i_i = get_u8(v_r11_i_i_i);
+    v_r13_i_i_i = (u1)((v_r12_i_i_i) & 1);
+    v_r17_i_i_i = v_a1 + 120;
+    v_r18_i_i_i = get_u8(v_r17_i_i_i);
+    if (v_r13_i_i_i) { goto L_then_2_i_i_i; } else { goto L_start_join_4_crit_edge_i_i_i; }
+L_start_join_4_crit_edge_i_i_i:;
+    v_0 = v_r18_i_i_i == 0u;
+    { p_v_r1_0_in_i = v_0; goto L_pkcs1_c_meanings_pkcs1_c_oaep_means_same_exit; }
+L_then_2_i_i_i:;
+    v_r19_i_i_i = (u1)((v_r18_i_i_i) & 1);
+    if (v_r19_i_i_i) { goto L_then_5_i_i_i; } else { p_v_r1_0_in_i = 0u; goto L_pkcs1_c_meanings_pkcs1_c_oaep_means_same_exit; }
+L_then_5_i_i_i:;
+    v_r26_i_i_i = v_a0 + 121;
+    v_r27_i_i_i = get_u8(v_r26_i_i_i);
+    v_r28_i_i_i = v_a1 + 121;
+    v_r29_i_i_i = get_u8(v_r28_i_i_i);
+    v_r32_i_i_i = v_r27_i_i_i == v_r29_i_i_i;
+    if (v_r32_i_i_i) { goto L_then_8_i_i_i; } else { p_v_r1_0_in_i = 0u; goto L_pkcs1_c_meanings_pkcs1_c_oaep_means_same_exit; }
+L_then_8_i_i_i:;
+    v_r36_i_i_i = v_a0 + 128;
+    v_r37_i_i_i = v_a1 + 128;
+    v_r1_sroa_0_0_copyload_i_i_i_i = get_P(v_r36_i_i_i);
+    v_r1_sroa_3_0_a0_sroa_idx_i_i_i_i = v_a0 + 136;
+    v_r1_sroa_3_0_copyload_i_i_i_i = get_u64(v_r1_sroa_3_0_a0_sroa_idx_i_i_i_i);
+    v_r2_sroa_0_0_copyload_i_i_i_i = get_P(v_r37_i_i_i);
+    v_r2_sroa_3_0_a1_sroa_idx_i_i_i_i = v_a1 + 136;
+    v_r2_sroa_3_0_copyload_i_i_i_i = get_u64(v_r2_sroa_3_0_a1_sroa_idx_i_i_i_i);
+    v_r21_not_i_i_i_i = v_r1_sroa_3_0_copyload_i_i_i_i == v_r2_sroa_3_0_copyload_i_i_i_i;
+    if (v_r21_not_i_i_i_i) { goto L_join_3_i_i_i_i; } else { p_v_r1_0_in_i = 0u; goto L_pkcs1_c_meanings_pkcs1_c_oaep_means_same_exit; }
+L_join_3_i_i_i_i:;
+    v_r52_i_i_i_i = v_r1_sroa_3_0_copyload_i_i_i_i < 4u;
+    if (v_r52_i_i_i_i) { goto L_then_7_i_i_i_i; } else { goto L_join_5_i_preheader_i_i_i; }
+L_join_5_i_preheader_i_i_i:;
+    v_r16_val_i_i_i_i_i = get_u8(v_r1_sroa_0_0_copyload_i_i_i_i);
+    v_r21_val_i_i_i_i_i = get_u8(v_r2_sroa_0_0_copyload_i_i_i_i);
+    v_r7_i_i_i_i_i_i = v_r16_val_i_i_i_i_i != v_r21_val_i_i_i_i_i;
+    v_r16_i_i_1_i_i_i = v_r1_sroa_0_0_copyload_i_i_i_i + 1;
+    v_r21_i_i_1_i_i_i = v_r2_sroa_0_0_copyload_i_i_i_i + 1;
+    v_r16_val_i_i_1_i_i_i = get_u8(v_r16_i_i_1_i_i_i);
+    v_r21_val_i_i_1_i_i_i = get_u8(v_r21_i_i_1_i_i_i);
+    v_r7_i_i_i_1_i_i_i = v_r16_val_i_i_1_i_i_i != v_r21_val_i_i_1_i_i_i;
+    v_r20_i_1_i_i_i = (u1)(((u32)(v_r7_i_i_i_i_i_i) | (u32)(v_r7_i_i_i_1_i_i_i)) & 1);
+    v_r16_i_i_2_i_i_i = v_r1_sroa_0_0_copyload_i_i_i_i + 2;
+    v_r21_i_i_2_i_i_i = v_r2_sroa_0_0_copyload_i_i_i_i + 2;
+    v_r16_val_i_i_2_i_i_i = get_u8(v_r16_i_i_2_i_i_i);
+    v_r21_val_i_i_2_i_i_i = get_u8(v_r21_i_i_2_i_i_i);
+    v_r7_i_i_i_2_i_i_i = v_r16_val_i_i_2_i_i_i != v_r21_val_i_i_2_i_i_i;
+    v_r20_i_2_i_i_i = (u1)(((u32)(v_r20_i_1_i_i_i) | (u32)(v_r7_i_i_i_2_i_i_i)) & 1);
+    v_r16_i_i_3_i_i_i = v_r1_sroa_0_0_copyload_i_i_i_i + 3;
+    v_r21_i_i_3_i_i_i = v_r2_sroa_0_0_copyload_i_i_i_i + 3;
+    v_r16_val_i_i_3_i_i_i = get_u8(v_r16_i_i_3_i_i_i);
+    v_r21_val_i_i_3_i_i_i = get_u8(v_r21_i_i_3_i_i_i);
+    v_r7_i_i_i_3_i_i_i = v_r16_val_i_i_3_i_i_i != v_r21_val_i_i_3_i_i_i;
+    v_r20_i_3_i_i_i = (u1)(((u32)(v_r20_i_2_i_i_i) | (u32)(v_r7_i_i_i_3_i_i_i)) & 1);
+    if (v_r20_i_3_i_i_i) { p_v_r1_0_in_i = 0u; goto L_pkcs1_c_meanings_pkcs1_c_oaep_means_same_exit; } else { goto L_join_12_i_i_i_i; }
+L_then_7_i_i_i_i:;
+    v_r56_not_i_i_i_i_i = v_r1_sroa_3_0_copyload_i_i_i_i == 0u;
+    if (v_r56_not_i_i_i_i_i) { p_v_r1_0_in_i = 1u; goto L_pkcs1_c_meanings_pkcs1_c_oaep_means_same_exit; } else { goto L_join_5_i_i_i_i_i; }
+L_join_5_i_i_i_i_i:;
+    v_r16_val_i_i_i_i_i_i = get_u8(v_r1_sroa_0_0_copyload_i_i_i_i);
+    v_r21_val_i_i_i_i_i_i = get_u8(v_r2_sroa_0_0_copyload_i_i_i_i);
+    v_r7_i_i_not_i_i_i_i_i = v_r16_val_i_i_i_i_i_i == v_r21_val_i_i_i_i_i_i;
+    if (v_r7_i_i_not_i_i_i_i_i) { goto L_join_8_i_i_i_i_i; } else { p_v_common_ret_op_i_ph_i_i_i_i = 0u; goto L_core_slice_scan_first_by_one_953750c03e87c3e2_exit; }
+L_join_8_i_i_i_i_i:;
+    v_exitcond_not_i_i_i_i_i = v_r1_sroa_3_0_copyload_i_i_i_i == 1u;
+    if (v_exitcond_not_i_i_i_i_i) { p_v_common_ret_op_i_ph_i_i_i_i = v_r1_sroa_3_0_copyload_i_i_i_i; goto L_core_slice_scan_first_by_one_953750c03e87c3e2_exit; } else { goto L_join_5_i_i_i_i_i_1; }
+L_join_5_i_i_i_i_i_1:;
+    v_r16_i_i_i_i_i_i_1 = v_r1_sroa_0_0_copyload_i_i_i_i + 1;
+    v_r21_i_i_i_i_i_i_1 = v_r2_sroa_0_0_copyload_i_i_i_i + 1;
+    v_r16_val_i_i_i_i_i_i_1 = get_u8(v_r16_i_i_i_i_i_i_1);
+    v_r21_val_i_i_i_i_i_i_1 = get_u8(v_r21_i_i_i_i_i_i_1);
+    v_r7_i_i_not_i_i_i_i_i_1 = v_r16_val_i_i_i_i_i_i_1 == v_r21_val_i_i_i_i_i_i_1;
+    if (v_r7_i_i_not_i_i_i_i_i_1) { goto L_join_8_i_i_i_i_i_1; } else { p_v_common_ret_op_i_ph_i_i_i_i = 1u; goto L_core_slice_scan_first_by_one_953750c03e87c3e2_exit; }
+L_join_8_i_i_i_i_i_1:;
+    v_exitcond_not_i_i_i_i_i_1 = v_r1_sroa_3_0_copyload_i_i_i_i == 2u;
+    if (v_exitcond_not_i_i_i_i_i_1) { p_v_common_ret_op_i_ph_i_i_i_i = v_r1_sroa_3_0_copyload_i_i_i_i; goto L_core_slice_scan_first_by_one_953750c03e87c3e2_exit; } else { goto L_join_5_i_i_i_i_i_2; }
+L_join_5_i_i_i_i_i_2:;
+    v_r16_i_i_i_i_i_i_2 = v_r1_sroa_0_0_copyload_i_i_i_i + 2;
+    v_r21_i_i_i_i_i_i_2 = v_r2_sroa_0_0_copyload_i_i_i_i + 2;
+    v_r16_val_i_i_i_i_i_i_2 = get_u8(v_r16_i_i_i_i_i_i_2);
+    v_r21_val_i_i_i_i_i_i_2 = get_u8(v_r21_i_i_i_i_i_i_2);
+    v_r7_i_i_not_i_i_i_i_i_2 = v_r16_val_i_i_i_i_i_i_2 == v_r21_val_i_i_i_i_i_i_2;
+    v_spec_select = v_r7_i_i_not_i_i_i_i_i_2 ? v_r1_sroa_3_0_copyload_i_i_i_i : 2u;
+    { p_v_common_ret_op_i_ph_i_i_i_i = v_spec_select; goto L_core_slice_scan_first_by_one_953750c03e87c3e2_exit; }
+L_core_slice_scan_first_by_one_953750c03e87c3e2_exit:;
+    v_common_ret_op_i_ph_i_i_i_i = p_v_common_ret_op_i_ph_i_i_i_i;
+    v_1 = v_common_ret_op_i_ph_i_i_i_i >= v_r1_sroa_3_0_copyload_i_i_i_i;
+    { p_v_r1_0_in_i = v_1; goto L_pkcs1_c_meanings_pkcs1_c_oaep_means_same_exit; }
+L_join_12_i_i_i_i:;
+    v_r83_i_i_i_i = f_core_cmp_slices_groups_equal_i8_31_core_cmp_number(v_r1_sroa_0_0_copyload_i_i_i_i, v_r1_sroa_3_0_copyload_i_i_i_i, v_r2_sroa_0_0_copyload_i_i_i_i);
+    { p_v_r1_0_in_i = v_r83_i_i_i_i; goto L_pkcs1_c_meanings_pkcs1_c_oaep_means_same_exit; }
+L_pkcs1_c_meanings_pkcs1_c_oaep_means_same_exit:;
+    v_r1_0_in_i = p_v_r1_0_in_i;
+    return v_r1_0_in_i;
+}
+static u1 proved_pss_means_same(P v_a0, P v_a1) {
+    u1 p_v_r1_0_in_i;
+    u1 v_r14_i;
+    P v_r18_i;
+    P v_r19_i;
+    u1 v_r22_i;
+    P v_r29_i;
+    u8 v_r30_i;
+    P v_r31_i;
+    u8 v_r32_i;
+    u1 v_r35_i;
+    P v_r42_i;
+    u8 v_r43_i;
+    P v_r44_i;
+    u8 v_r45_i;
+    u1 v_r48_i;
+    u1 v_r1_0_in_i;
+    v_r14_i = f_pkcs1_c_meanings_is_same_hash(v_a0, v_a1);
+    if (v_r14_i) { goto L_join_3_i; } else { p_v_r1_0_in_i = 0u; goto L_pkcs1_c_meanings_pkcs1_c_pss_means_same_exit; }
+L_join_3_i:;
+    v_r18_i = v_a0 + 40;
+    v_r19_i = v_a1 + 40;
+    v_r22_i = f_pkcs1_c_meanings_is_same_mask(v_r18_i, v_r19_i);
+    if (v_r22_i) { goto L_join_6_i; } else { p_v_r1_0_in_i = 0u; goto L_pkcs1_c_meanings_pkcs1_c_pss_means_same_exit; }
+L_join_6_i:;
+    v_r29_i = v_a0 + 104;
+    v_r30_i = get_u8(v_r29_i);
+    v_r31_i = v_a1 + 104;
+    v_r32_i = get_u8(v_r31_i);
+    v_r35_i = v_r30_i == v_r32_i;
+    if (v_r35_i) { goto L_then_7_i; } else { p_v_r1_0_in_i = 0u; goto L_pkcs1_c_meanings_pkcs1_c_pss_means_same_exit; }
+L_then_7_i:;
+    v_r42_i = v_a0 + 105;
+    v_r43_i = get_u8(v_r42_i);
+    v_r44_i = v_a1 + 105;
+    v_r45_i = get_u8(v_r44_i);
+    v_r48_i = v_r43_i == v_r45_i;
+    { p_v_r1_0_in_i = v_r48_i; goto L_pkcs1_c_meanings_pkcs1_c_pss_means_same_exit; }
+L_pkcs1_c_meanings_pkcs1_c_pss_means_same_exit:;
+    v_r1_0_in_i = p_v_r1_0_in_i;
+    return v_r1_0_in_i;
 }
 static void proved_version(P v_a0) {
     P v_r2_sroa_3_0_a0_sroa_idx_i;
@@ -33746,13 +34780,13 @@ static ONCE u32 proved_public_key_decode(P v_a0, u64 v_a1, P v_a2) {
     fill(v_r0_i_i_i, 0u, 40u);
     v_0 = (u64)((u64)(v_a1) + (u64)(18446744069414584320ull));
     v_or_cond377_i_i = v_0 < 18446744069414584322ull;
-    if (v_or_cond377_i_i) { goto L_der_core_decode_AnyDecodeRefSliceU8_from_der_a5016; } else { goto L_join_5_i_i_i; }
+    if (v_or_cond377_i_i) { goto L_der_core_decode_AnyDecodeRefSliceU8_from_der_c6ec4; } else { goto L_join_5_i_i_i; }
 L_join_5_i_i_i:;
     v_r62_i5_i_i = v_r4 + 2;
     v_r65_i6_i_i = (u64)((u64)(v_a1) + (u64)(18446744073709551614ull));
     v_r73_i_i_i = get_u8(v_r4);
     v_r78_i_i_i = v_r73_i_i_i == 48u;
-    if (v_r78_i_i_i) { goto L_then_6_i_i_i; } else { goto L_der_core_decode_AnyDecodeRefSliceU8_from_der_a5016; }
+    if (v_r78_i_i_i) { goto L_then_6_i_i_i; } else { goto L_der_core_decode_AnyDecodeRefSliceU8_from_der_c6ec4; }
 L_then_6_i_i_i:;
     v_r60_i7_i_i = v_r4 + 1;
     v_r83_i_i_i = get_u8(v_r60_i7_i_i);
@@ -33761,7 +34795,7 @@ L_then_6_i_i_i:;
 L_then_9_i_i_i:;
     v_r92_i_i_i = (u64)v_r83_i_i_i;
     v_r15_i64_i_i = v_r65_i6_i_i < v_r92_i_i_i;
-    if (v_r15_i64_i_i) { goto L_der_core_decode_AnyDecodeRefSliceU8_from_der_a5016; } else { goto L_join_3_i65_i_i; }
+    if (v_r15_i64_i_i) { goto L_der_core_decode_AnyDecodeRefSliceU8_from_der_c6ec4; } else { goto L_join_3_i65_i_i; }
 L_join_3_i65_i_i:;
     v_r32_i66_i_i = (u64)((u64)(v_r65_i6_i_i) - (u64)(v_r92_i_i_i));
     { p_v_r0_i1_sroa_7_0_i_i = v_r62_i5_i_i; p_v_r0_i1_sroa_11_0_i_i = v_r92_i_i_i; p_v_r0_i1_sroa_13_0_i_i = v_r32_i66_i_i; goto L_der_core_quick_quick_contents_exit_i_i; }
@@ -33770,11 +34804,11 @@ L_join_11_i_i_i:;
     if (v_r104_i_i_i) { goto L_then_12_i_i_i; } else { goto L_join_14_i_i_i; }
 L_then_12_i_i_i:;
     v_r110_i_i_i = v_a1 < 4u;
-    if (v_r110_i_i_i) { goto L_der_core_decode_AnyDecodeRefSliceU8_from_der_a5016; } else { goto L_join_19_i_i_i; }
+    if (v_r110_i_i_i) { goto L_der_core_decode_AnyDecodeRefSliceU8_from_der_c6ec4; } else { goto L_join_19_i_i_i; }
 L_join_19_i_i_i:;
     v_r130_i_i_i = get_u8(v_r62_i5_i_i);
     v_r132_not_i_i_i = v_r130_i_i_i == 0u;
-    if (v_r132_not_i_i_i) { goto L_der_core_decode_AnyDecodeRefSliceU8_from_der_a5016; } else { goto L_then_20_i_i_i; }
+    if (v_r132_not_i_i_i) { goto L_der_core_decode_AnyDecodeRefSliceU8_from_der_c6ec4; } else { goto L_then_20_i_i_i; }
 L_then_20_i_i_i:;
     v_r122_i_i_i = (u64)((u64)(v_a1) + (u64)(18446744073709551612ull));
     v_r117_i_i_i = v_r4 + 3;
@@ -33784,27 +34818,27 @@ L_then_20_i_i_i:;
     v_r145_i_i_i = (u64)v_r143_i_i_i;
     v_r148_i_i_i = (u64)((u64)(v_r141_i_i_i) | (u64)(v_r145_i_i_i));
     v_r15_i67_i_i = v_r122_i_i_i < v_r148_i_i_i;
-    if (v_r15_i67_i_i) { goto L_der_core_decode_AnyDecodeRefSliceU8_from_der_a5016; } else { goto L_join_3_i68_i_i; }
+    if (v_r15_i67_i_i) { goto L_der_core_decode_AnyDecodeRefSliceU8_from_der_c6ec4; } else { goto L_join_3_i68_i_i; }
 L_join_3_i68_i_i:;
     v_r119_i_i_i = v_r4 + 4;
     v_r32_i70_i_i = (u64)((u64)(v_r122_i_i_i) - (u64)(v_r148_i_i_i));
     { p_v_r0_i1_sroa_7_0_i_i = v_r119_i_i_i; p_v_r0_i1_sroa_11_0_i_i = v_r148_i_i_i; p_v_r0_i1_sroa_13_0_i_i = v_r32_i70_i_i; goto L_der_core_quick_quick_contents_exit_i_i; }
 L_join_14_i_i_i:;
     v_r163_i_i_i = v_r65_i6_i_i == 0u;
-    if (v_r163_i_i_i) { goto L_der_core_decode_AnyDecodeRefSliceU8_from_der_a5016; } else { goto L_join_27_i_i_i; }
+    if (v_r163_i_i_i) { goto L_der_core_decode_AnyDecodeRefSliceU8_from_der_c6ec4; } else { goto L_join_27_i_i_i; }
 L_join_27_i_i_i:;
     v_r170_i_i_i = v_r4 + 3;
     v_r173_i_i_i = (u64)((u64)(v_a1) + (u64)(18446744073709551613ull));
     v_r182_i_i_i = v_r83_i_i_i == 129u;
-    if (v_r182_i_i_i) { goto L_then_28_i_i_i; } else { goto L_der_core_decode_AnyDecodeRefSliceU8_from_der_a5016; }
+    if (v_r182_i_i_i) { goto L_then_28_i_i_i; } else { goto L_der_core_decode_AnyDecodeRefSliceU8_from_der_c6ec4; }
 L_then_28_i_i_i:;
     v_r187_i_i_i = get_u8(v_r62_i5_i_i);
     v_r189_i_i_i = (u8)(v_r187_i_i_i ^ ((u8)1 << 7)) < (u8)(0u ^ ((u8)1 << 7));
-    if (v_r189_i_i_i) { goto L_then_31_i_i_i; } else { goto L_der_core_decode_AnyDecodeRefSliceU8_from_der_a5016; }
+    if (v_r189_i_i_i) { goto L_then_31_i_i_i; } else { goto L_der_core_decode_AnyDecodeRefSliceU8_from_der_c6ec4; }
 L_then_31_i_i_i:;
     v_r199_i_i_i = (u64)v_r187_i_i_i;
     v_r15_i77_i_i = v_r173_i_i_i < v_r199_i_i_i;
-    if (v_r15_i77_i_i) { goto L_der_core_decode_AnyDecodeRefSliceU8_from_der_a5016; } else { goto L_join_3_i78_i_i; }
+    if (v_r15_i77_i_i) { goto L_der_core_decode_AnyDecodeRefSliceU8_from_der_c6ec4; } else { goto L_join_3_i78_i_i; }
 L_join_3_i78_i_i:;
     v_r32_i80_i_i = (u64)((u64)(v_r173_i_i_i) - (u64)(v_r199_i_i_i));
     { p_v_r0_i1_sroa_7_0_i_i = v_r170_i_i_i; p_v_r0_i1_sroa_11_0_i_i = v_r199_i_i_i; p_v_r0_i1_sroa_13_0_i_i = v_r32_i80_i_i; goto L_der_core_quick_quick_contents_exit_i_i; }
@@ -33815,13 +34849,13 @@ L_der_core_quick_quick_contents_exit_i_i:;
     v_r36_i_i_i = v_r0_i1_sroa_13_0_i_i != 0u;
     v_r53_i_i_i_i = v_r0_i1_sroa_11_0_i_i < 2u;
     v_or_cond378_i_i = v_r36_i_i_i ? 1u : v_r53_i_i_i_i;
-    if (v_or_cond378_i_i) { goto L_der_core_decode_AnyDecodeRefSliceU8_from_der_a5016; } else { goto L_join_5_i_i_i_i; }
+    if (v_or_cond378_i_i) { goto L_der_core_decode_AnyDecodeRefSliceU8_from_der_c6ec4; } else { goto L_join_5_i_i_i_i; }
 L_join_5_i_i_i_i:;
     v_r62_i_i_i_i = v_r0_i1_sroa_7_0_i_i + 2;
     v_r65_i_i_i_i = (u64)((u64)(v_r0_i1_sroa_11_0_i_i) + (u64)(18446744073709551614ull));
     v_r73_i_i_i_i = get_u8(v_r0_i1_sroa_7_0_i_i);
     v_r78_i_i_i_i = v_r73_i_i_i_i == 2u;
-    if (v_r78_i_i_i_i) { goto L_then_6_i_i_i_i; } else { goto L_der_core_decode_AnyDecodeRefSliceU8_from_der_a5016; }
+    if (v_r78_i_i_i_i) { goto L_then_6_i_i_i_i; } else { goto L_der_core_decode_AnyDecodeRefSliceU8_from_der_c6ec4; }
 L_then_6_i_i_i_i:;
     v_r60_i_i_i_i = v_r0_i1_sroa_7_0_i_i + 1;
     v_r83_i_i_i_i = get_u8(v_r60_i_i_i_i);
@@ -33834,17 +34868,17 @@ L_then_9_i_i_i_i:;
     v_r32_i90_i_i = (u64)((u64)(v_r65_i_i_i_i) - (u64)(v_r92_i_i_i_i));
     v_r27_i37_i_i = v_r83_i_i_i_i == 0u;
     v_or_cond_i = (u1)(((u32)(v_r27_i37_i_i) | (u32)(v_r15_i87_i_i)) & 1);
-    if (v_or_cond_i) { goto L_der_core_decode_AnyDecodeRefSliceU8_from_der_a5016; } else { p_v_r0_i32_sroa_13_0_i27_i = v_r32_i90_i_i; p_v_r0_i32_sroa_12_0_i26_i = v_r29_i89_i_i; p_v_r0_i32_sroa_11_0_i25_i = v_r92_i_i_i_i; p_v_r0_i32_sroa_7_0_i24_i = v_r62_i_i_i_i; goto L_join_5_i38_i_i; }
+    if (v_or_cond_i) { goto L_der_core_decode_AnyDecodeRefSliceU8_from_der_c6ec4; } else { p_v_r0_i32_sroa_13_0_i27_i = v_r32_i90_i_i; p_v_r0_i32_sroa_12_0_i26_i = v_r29_i89_i_i; p_v_r0_i32_sroa_11_0_i25_i = v_r92_i_i_i_i; p_v_r0_i32_sroa_7_0_i24_i = v_r62_i_i_i_i; goto L_join_5_i38_i_i; }
 L_join_11_i_i_i_i:;
     v_r104_i_i_i_i = v_r83_i_i_i_i == 130u;
     if (v_r104_i_i_i_i) { goto L_then_12_i_i_i_i; } else { goto L_join_14_i_i_i_i; }
 L_then_12_i_i_i_i:;
     v_r110_i_i_i_i = v_r0_i1_sroa_11_0_i_i < 4u;
-    if (v_r110_i_i_i_i) { goto L_der_core_decode_AnyDecodeRefSliceU8_from_der_a5016; } else { goto L_join_19_i_i_i_i; }
+    if (v_r110_i_i_i_i) { goto L_der_core_decode_AnyDecodeRefSliceU8_from_der_c6ec4; } else { goto L_join_19_i_i_i_i; }
 L_join_19_i_i_i_i:;
     v_r130_i_i_i_i = get_u8(v_r62_i_i_i_i);
     v_r132_not_i_i_i_i = v_r130_i_i_i_i == 0u;
-    if (v_r132_not_i_i_i_i) { goto L_der_core_decode_AnyDecodeRefSliceU8_from_der_a5016; } else { goto L_then_20_i_i_i_i; }
+    if (v_r132_not_i_i_i_i) { goto L_der_core_decode_AnyDecodeRefSliceU8_from_der_c6ec4; } else { goto L_then_20_i_i_i_i; }
 L_then_20_i_i_i_i:;
     v_r122_i_i_i_i = (u64)((u64)(v_r0_i1_sroa_11_0_i_i) + (u64)(18446744073709551612ull));
     v_r117_i_i_i_i = v_r0_i1_sroa_7_0_i_i + 3;
@@ -33854,7 +34888,7 @@ L_then_20_i_i_i_i:;
     v_r145_i_i_i_i = (u64)v_r143_i_i_i_i;
     v_r148_i_i_i_i = (u64)((u64)(v_r141_i_i_i_i) | (u64)(v_r145_i_i_i_i));
     v_r15_i97_i_i = v_r122_i_i_i_i < v_r148_i_i_i_i;
-    if (v_r15_i97_i_i) { goto L_der_core_decode_AnyDecodeRefSliceU8_from_der_a5016; } else { goto L_join_3_i98_i_i; }
+    if (v_r15_i97_i_i) { goto L_der_core_decode_AnyDecodeRefSliceU8_from_der_c6ec4; } else { goto L_join_3_i98_i_i; }
 L_join_3_i98_i_i:;
     v_r119_i_i_i_i = v_r0_i1_sroa_7_0_i_i + 4;
     v_r29_i99_i_i = (P)((u64)v_r119_i_i_i_i + (u64)(v_r148_i_i_i_i));
@@ -33862,20 +34896,20 @@ L_join_3_i98_i_i:;
     { p_v_r0_i32_sroa_13_0_i27_i = v_r32_i100_i_i; p_v_r0_i32_sroa_12_0_i26_i = v_r29_i99_i_i; p_v_r0_i32_sroa_11_0_i25_i = v_r148_i_i_i_i; p_v_r0_i32_sroa_7_0_i24_i = v_r119_i_i_i_i; goto L_join_5_i38_i_i; }
 L_join_14_i_i_i_i:;
     v_r163_i_i_i_i = v_r65_i_i_i_i == 0u;
-    if (v_r163_i_i_i_i) { goto L_der_core_decode_AnyDecodeRefSliceU8_from_der_a5016; } else { goto L_join_27_i_i_i_i; }
+    if (v_r163_i_i_i_i) { goto L_der_core_decode_AnyDecodeRefSliceU8_from_der_c6ec4; } else { goto L_join_27_i_i_i_i; }
 L_join_27_i_i_i_i:;
     v_r170_i_i_i_i = v_r0_i1_sroa_7_0_i_i + 3;
     v_r173_i_i_i_i = (u64)((u64)(v_r0_i1_sroa_11_0_i_i) + (u64)(18446744073709551613ull));
     v_r182_i_i_i_i = v_r83_i_i_i_i == 129u;
-    if (v_r182_i_i_i_i) { goto L_then_28_i_i_i_i; } else { goto L_der_core_decode_AnyDecodeRefSliceU8_from_der_a5016; }
+    if (v_r182_i_i_i_i) { goto L_then_28_i_i_i_i; } else { goto L_der_core_decode_AnyDecodeRefSliceU8_from_der_c6ec4; }
 L_then_28_i_i_i_i:;
     v_r187_i_i_i_i = get_u8(v_r62_i_i_i_i);
     v_r189_i_i_i_i = (u8)(v_r187_i_i_i_i ^ ((u8)1 << 7)) < (u8)(0u ^ ((u8)1 << 7));
-    if (v_r189_i_i_i_i) { goto L_then_31_i_i_i_i; } else { goto L_der_core_decode_AnyDecodeRefSliceU8_from_der_a5016; }
+    if (v_r189_i_i_i_i) { goto L_then_31_i_i_i_i; } else { goto L_der_core_decode_AnyDecodeRefSliceU8_from_der_c6ec4; }
 L_then_31_i_i_i_i:;
     v_r199_i_i_i_i = (u64)v_r187_i_i_i_i;
     v_r15_i107_i_i = v_r173_i_i_i_i < v_r199_i_i_i_i;
-    if (v_r15_i107_i_i) { goto L_der_core_decode_AnyDecodeRefSliceU8_from_der_a5016; } else { goto L_join_3_i108_i_i; }
+    if (v_r15_i107_i_i) { goto L_der_core_decode_AnyDecodeRefSliceU8_from_der_c6ec4; } else { goto L_join_3_i108_i_i; }
 L_join_3_i108_i_i:;
     v_r29_i109_i_i = (P)((u64)v_r170_i_i_i_i + (u64)(v_r199_i_i_i_i));
     v_r32_i110_i_i = (u64)((u64)(v_r173_i_i_i_i) - (u64)(v_r199_i_i_i_i));
@@ -33894,7 +34928,7 @@ L_arm_6_i41_i_i:;
     if (v_r47_i43_i_i) { p_v_r11_sroa_4_i_sroa_0_0_ph_i_i = v_r0_i32_sroa_7_0_i24_i; p_v_r11_sroa_4_i_sroa_5_0_ph_i_i = 1u; goto L_arm_1_i13_i_i; } else { goto L_der_core_integer_uint_UintRefDecodeValueRefSliceU8; }
 L_default_7_i_i_i:;
     v_r73_i39_i_i = (u8)(v_r34_i_i_i ^ ((u8)1 << 7)) > (u8)(255u ^ ((u8)1 << 7));
-    if (v_r73_i39_i_i) { p_v_r11_sroa_4_i_sroa_0_0_ph_i_i = v_r0_i32_sroa_7_0_i24_i; p_v_r11_sroa_4_i_sroa_5_0_ph_i_i = v_r0_i32_sroa_11_0_i25_i; goto L_arm_1_i13_i_i; } else { goto L_der_core_decode_AnyDecodeRefSliceU8_from_der_a5016; }
+    if (v_r73_i39_i_i) { p_v_r11_sroa_4_i_sroa_0_0_ph_i_i = v_r0_i32_sroa_7_0_i24_i; p_v_r11_sroa_4_i_sroa_5_0_ph_i_i = v_r0_i32_sroa_11_0_i25_i; goto L_arm_1_i13_i_i; } else { goto L_der_core_decode_AnyDecodeRefSliceU8_from_der_c6ec4; }
 L_der_core_integer_uint_UintRefDecodeValueRefSliceU8:;
     v_r37_i_i_i = v_r0_i32_sroa_7_0_i24_i + 1;
     v_r56_i_i_i = get_u8(v_r37_i_i_i);
@@ -33902,18 +34936,18 @@ L_der_core_integer_uint_UintRefDecodeValueRefSliceU8:;
     v_r40_i_i_i = v_r58_i44_i_i ? v_r40_i42_i_i : 0u;
     v_r37_i_i_i__2 = v_r58_i44_i_i ? v_r37_i_i_i : (P)0;
     v_not_i_i = (u8)(v_r56_i_i_i ^ ((u8)1 << 7)) > (u8)(255u ^ ((u8)1 << 7));
-    if (v_not_i_i) { goto L_der_core_decode_AnyDecodeRefSliceU8_from_der_a5016; } else { p_v_r11_sroa_4_i_sroa_0_0_ph_i_i = v_r37_i_i_i__2; p_v_r11_sroa_4_i_sroa_5_0_ph_i_i = v_r40_i_i_i; goto L_arm_1_i13_i_i; }
+    if (v_not_i_i) { goto L_der_core_decode_AnyDecodeRefSliceU8_from_der_c6ec4; } else { p_v_r11_sroa_4_i_sroa_0_0_ph_i_i = v_r37_i_i_i__2; p_v_r11_sroa_4_i_sroa_5_0_ph_i_i = v_r40_i_i_i; goto L_arm_1_i13_i_i; }
 L_arm_1_i13_i_i:;
     v_r11_sroa_4_i_sroa_0_0_ph_i_i = p_v_r11_sroa_4_i_sroa_0_0_ph_i_i;
     v_r11_sroa_4_i_sroa_5_0_ph_i_i = p_v_r11_sroa_4_i_sroa_5_0_ph_i_i;
     v_r53_i_i_i_i_i = v_r0_i32_sroa_13_0_i27_i < 2u;
-    if (v_r53_i_i_i_i_i) { goto L_der_core_decode_AnyDecodeRefSliceU8_from_der_a5016; } else { goto L_join_5_i_i_i_i_i; }
+    if (v_r53_i_i_i_i_i) { goto L_der_core_decode_AnyDecodeRefSliceU8_from_der_c6ec4; } else { goto L_join_5_i_i_i_i_i; }
 L_join_5_i_i_i_i_i:;
     v_r62_i_i_i_i_i = v_r0_i32_sroa_12_0_i26_i + 2;
     v_r65_i_i_i_i_i = (u64)((u64)(v_r0_i32_sroa_13_0_i27_i) + (u64)(18446744073709551614ull));
     v_r73_i_i_i_i_i = get_u8(v_r0_i32_sroa_12_0_i26_i);
     v_r78_i_i_i_i_i = v_r73_i_i_i_i_i == 2u;
-    if (v_r78_i_i_i_i_i) { goto L_then_6_i_i_i_i_i; } else { goto L_der_core_decode_AnyDecodeRefSliceU8_from_der_a5016; }
+    if (v_r78_i_i_i_i_i) { goto L_then_6_i_i_i_i_i; } else { goto L_der_core_decode_AnyDecodeRefSliceU8_from_der_c6ec4; }
 L_then_6_i_i_i_i_i:;
     v_r60_i_i_i_i_i = v_r0_i32_sroa_12_0_i26_i + 1;
     v_r83_i_i_i_i_i = get_u8(v_r60_i_i_i_i_i);
@@ -33925,17 +34959,17 @@ L_then_9_i_i_i_i_i:;
     v_r32_i120_i_i = (u64)((u64)(v_r65_i_i_i_i_i) - (u64)(v_r92_i_i_i_i_i));
     v_r27_i4_i_i_i = v_r83_i_i_i_i_i == 0u;
     v_or_cond45_i = (u1)(((u32)(v_r27_i4_i_i_i) | (u32)(v_r15_i117_i_i)) & 1);
-    if (v_or_cond45_i) { goto L_der_core_decode_AnyDecodeRefSliceU8_from_der_a5016; } else { p_v_r0_i_i45_sroa_13_0_i34_i = v_r32_i120_i_i; p_v_r0_i_i45_sroa_11_0_i33_i = v_r92_i_i_i_i_i; p_v_r0_i_i45_sroa_7_0_i32_i = v_r62_i_i_i_i_i; goto L_join_5_i_i59_i_i; }
+    if (v_or_cond45_i) { goto L_der_core_decode_AnyDecodeRefSliceU8_from_der_c6ec4; } else { p_v_r0_i_i45_sroa_13_0_i34_i = v_r32_i120_i_i; p_v_r0_i_i45_sroa_11_0_i33_i = v_r92_i_i_i_i_i; p_v_r0_i_i45_sroa_7_0_i32_i = v_r62_i_i_i_i_i; goto L_join_5_i_i59_i_i; }
 L_join_11_i_i_i_i_i:;
     v_r104_i_i_i_i_i = v_r83_i_i_i_i_i == 130u;
     if (v_r104_i_i_i_i_i) { goto L_then_12_i_i_i_i_i; } else { goto L_join_14_i_i_i_i_i; }
 L_then_12_i_i_i_i_i:;
     v_r110_i_i_i_i_i = v_r0_i32_sroa_13_0_i27_i < 4u;
-    if (v_r110_i_i_i_i_i) { goto L_der_core_decode_AnyDecodeRefSliceU8_from_der_a5016; } else { goto L_join_19_i_i_i_i_i; }
+    if (v_r110_i_i_i_i_i) { goto L_der_core_decode_AnyDecodeRefSliceU8_from_der_c6ec4; } else { goto L_join_19_i_i_i_i_i; }
 L_join_19_i_i_i_i_i:;
     v_r130_i_i_i_i_i = get_u8(v_r62_i_i_i_i_i);
     v_r132_not_i_i_i_i_i = v_r130_i_i_i_i_i == 0u;
-    if (v_r132_not_i_i_i_i_i) { goto L_der_core_decode_AnyDecodeRefSliceU8_from_der_a5016; } else { goto L_then_20_i_i_i_i_i; }
+    if (v_r132_not_i_i_i_i_i) { goto L_der_core_decode_AnyDecodeRefSliceU8_from_der_c6ec4; } else { goto L_then_20_i_i_i_i_i; }
 L_then_20_i_i_i_i_i:;
     v_r122_i_i_i_i_i = (u64)((u64)(v_r0_i32_sroa_13_0_i27_i) + (u64)(18446744073709551612ull));
     v_r117_i_i_i_i_i = v_r0_i32_sroa_12_0_i26_i + 3;
@@ -33945,27 +34979,27 @@ L_then_20_i_i_i_i_i:;
     v_r145_i_i_i_i_i = (u64)v_r143_i_i_i_i_i;
     v_r148_i_i_i_i_i = (u64)((u64)(v_r141_i_i_i_i_i) | (u64)(v_r145_i_i_i_i_i));
     v_r15_i127_i_i = v_r122_i_i_i_i_i < v_r148_i_i_i_i_i;
-    if (v_r15_i127_i_i) { goto L_der_core_decode_AnyDecodeRefSliceU8_from_der_a5016; } else { goto L_join_3_i128_i_i; }
+    if (v_r15_i127_i_i) { goto L_der_core_decode_AnyDecodeRefSliceU8_from_der_c6ec4; } else { goto L_join_3_i128_i_i; }
 L_join_3_i128_i_i:;
     v_r119_i_i_i_i_i = v_r0_i32_sroa_12_0_i26_i + 4;
     v_r32_i130_i_i = (u64)((u64)(v_r122_i_i_i_i_i) - (u64)(v_r148_i_i_i_i_i));
     { p_v_r0_i_i45_sroa_13_0_i34_i = v_r32_i130_i_i; p_v_r0_i_i45_sroa_11_0_i33_i = v_r148_i_i_i_i_i; p_v_r0_i_i45_sroa_7_0_i32_i = v_r119_i_i_i_i_i; goto L_join_5_i_i59_i_i; }
 L_join_14_i_i_i_i_i:;
     v_r163_i_i_i_i_i = v_r65_i_i_i_i_i == 0u;
-    if (v_r163_i_i_i_i_i) { goto L_der_core_decode_AnyDecodeRefSliceU8_from_der_a5016; } else { goto L_join_27_i_i_i_i_i; }
+    if (v_r163_i_i_i_i_i) { goto L_der_core_decode_AnyDecodeRefSliceU8_from_der_c6ec4; } else { goto L_join_27_i_i_i_i_i; }
 L_join_27_i_i_i_i_i:;
     v_r170_i_i_i_i_i = v_r0_i32_sroa_12_0_i26_i + 3;
     v_r173_i_i_i_i_i = (u64)((u64)(v_r0_i32_sroa_13_0_i27_i) + (u64)(18446744073709551613ull));
     v_r182_i_i_i_i_i = v_r83_i_i_i_i_i == 129u;
-    if (v_r182_i_i_i_i_i) { goto L_then_28_i_i_i_i_i; } else { goto L_der_core_decode_AnyDecodeRefSliceU8_from_der_a5016; }
+    if (v_r182_i_i_i_i_i) { goto L_then_28_i_i_i_i_i; } else { goto L_der_core_decode_AnyDecodeRefSliceU8_from_der_c6ec4; }
 L_then_28_i_i_i_i_i:;
     v_r187_i_i_i_i_i = get_u8(v_r62_i_i_i_i_i);
     v_r189_i_i_i_i_i = (u8)(v_r187_i_i_i_i_i ^ ((u8)1 << 7)) < (u8)(0u ^ ((u8)1 << 7));
-    if (v_r189_i_i_i_i_i) { goto L_then_31_i_i_i_i_i; } else { goto L_der_core_decode_AnyDecodeRefSliceU8_from_der_a5016; }
+    if (v_r189_i_i_i_i_i) { goto L_then_31_i_i_i_i_i; } else { goto L_der_core_decode_AnyDecodeRefSliceU8_from_der_c6ec4; }
 L_then_31_i_i_i_i_i:;
     v_r199_i_i_i_i_i = (u64)v_r187_i_i_i_i_i;
     v_r15_i137_i_i = v_r173_i_i_i_i_i < v_r199_i_i_i_i_i;
-    if (v_r15_i137_i_i) { goto L_der_core_decode_AnyDecodeRefSliceU8_from_der_a5016; } else { goto L_join_3_i138_i_i; }
+    if (v_r15_i137_i_i) { goto L_der_core_decode_AnyDecodeRefSliceU8_from_der_c6ec4; } else { goto L_join_3_i138_i_i; }
 L_join_3_i138_i_i:;
     v_r32_i140_i_i = (u64)((u64)(v_r173_i_i_i_i_i) - (u64)(v_r199_i_i_i_i_i));
     { p_v_r0_i_i45_sroa_13_0_i34_i = v_r32_i140_i_i; p_v_r0_i_i45_sroa_11_0_i33_i = v_r199_i_i_i_i_i; p_v_r0_i_i45_sroa_7_0_i32_i = v_r170_i_i_i_i_i; goto L_join_5_i_i59_i_i; }
@@ -33982,7 +35016,7 @@ L_arm_6_i_i_i_i:;
     if (v_r47_i_i_i_i) { p_v_r11_sroa_4_i_i_sroa_0_0_ph_i_i = v_r0_i_i45_sroa_7_0_i32_i; p_v_r11_sroa_4_i_i_sroa_5_0_ph_i_i = 1u; goto L_arm_1_i50_i_i; } else { goto L_der_core_integer_uint_UintRefDecodeValueRefSliceU8__2; }
 L_default_7_i_i_i_i:;
     v_r73_i_i60_i_i = (u8)(v_r34_i_i_i_i ^ ((u8)1 << 7)) > (u8)(255u ^ ((u8)1 << 7));
-    if (v_r73_i_i60_i_i) { p_v_r11_sroa_4_i_i_sroa_0_0_ph_i_i = v_r0_i_i45_sroa_7_0_i32_i; p_v_r11_sroa_4_i_i_sroa_5_0_ph_i_i = v_r0_i_i45_sroa_11_0_i33_i; goto L_arm_1_i50_i_i; } else { goto L_der_core_decode_AnyDecodeRefSliceU8_from_der_a5016; }
+    if (v_r73_i_i60_i_i) { p_v_r11_sroa_4_i_i_sroa_0_0_ph_i_i = v_r0_i_i45_sroa_7_0_i32_i; p_v_r11_sroa_4_i_i_sroa_5_0_ph_i_i = v_r0_i_i45_sroa_11_0_i33_i; goto L_arm_1_i50_i_i; } else { goto L_der_core_decode_AnyDecodeRefSliceU8_from_der_c6ec4; }
 L_der_core_integer_uint_UintRefDecodeValueRefSliceU8__2:;
     v_r37_i_i_i_i = v_r0_i_i45_sroa_7_0_i32_i + 1;
     v_r56_i_i_i_i = get_u8(v_r37_i_i_i_i);
@@ -33990,16 +35024,16 @@ L_der_core_integer_uint_UintRefDecodeValueRefSliceU8__2:;
     v_r40_i_i_i_i = v_r58_i_i_i_i ? v_r40_i5_i_i_i : 0u;
     v_r37_i_i_i_i__2 = v_r58_i_i_i_i ? v_r37_i_i_i_i : (P)0;
     v_not358_i_i = (u8)(v_r56_i_i_i_i ^ ((u8)1 << 7)) > (u8)(255u ^ ((u8)1 << 7));
-    if (v_not358_i_i) { goto L_der_core_decode_AnyDecodeRefSliceU8_from_der_a5016; } else { p_v_r11_sroa_4_i_i_sroa_0_0_ph_i_i = v_r37_i_i_i_i__2; p_v_r11_sroa_4_i_i_sroa_5_0_ph_i_i = v_r40_i_i_i_i; goto L_arm_1_i50_i_i; }
+    if (v_not358_i_i) { goto L_der_core_decode_AnyDecodeRefSliceU8_from_der_c6ec4; } else { p_v_r11_sroa_4_i_i_sroa_0_0_ph_i_i = v_r37_i_i_i_i__2; p_v_r11_sroa_4_i_i_sroa_5_0_ph_i_i = v_r40_i_i_i_i; goto L_arm_1_i50_i_i; }
 L_arm_1_i50_i_i:;
     v_r11_sroa_4_i_i_sroa_0_0_ph_i_i = p_v_r11_sroa_4_i_i_sroa_0_0_ph_i_i;
     v_r11_sroa_4_i_i_sroa_5_0_ph_i_i = p_v_r11_sroa_4_i_i_sroa_5_0_ph_i_i;
     v_r7_i147_i_i = v_r0_i_i45_sroa_13_0_i34_i == 0u;
-    if (v_r7_i147_i_i) { goto L_der_core_decode_AnyDecodeRefSliceU8_from_der_a5016__2; } else { goto L_der_core_decode_AnyDecodeRefSliceU8_from_der_a5016; }
-L_der_core_decode_AnyDecodeRefSliceU8_from_der_a5016__2:;
+    if (v_r7_i147_i_i) { goto L_der_core_decode_AnyDecodeRefSliceU8_from_der_c6ec4__2; } else { goto L_der_core_decode_AnyDecodeRefSliceU8_from_der_c6ec4; }
+L_der_core_decode_AnyDecodeRefSliceU8_from_der_c6ec4__2:;
     { p_v_r5_sroa_12_sroa_1_0_ph_i = v_r11_sroa_4_i_sroa_0_0_ph_i_i; p_v_r5_sroa_12_sroa_4_0_ph_i = v_r11_sroa_4_i_sroa_5_0_ph_i_i; p_v_r5_sroa_12_sroa_5_0_ph_i = v_r11_sroa_4_i_i_sroa_0_0_ph_i_i; p_v_r5_sroa_12_sroa_6_0_ph_i = v_r11_sroa_4_i_i_sroa_5_0_ph_i_i; goto L_arm_1_i; }
-L_der_core_decode_AnyDecodeRefSliceU8_from_der_a5016:;
-    f_der_core_decode_read_slowly_963873ccf5d50ada(v_r0_i_i_i, v_r4, v_a1);
+L_der_core_decode_AnyDecodeRefSliceU8_from_der_c6ec4:;
+    f_der_core_decode_read_slowly_8b0eb46f8ee6a92f(v_r0_i_i_i, v_r4, v_a1);
     v_1 = get_u8(v_r0_i_i_i);
     v_r59_i_i_i = v_r0_i_i_i + 1;
     v_2 = get_u8(v_r59_i_i_i);
@@ -35845,73 +36879,73 @@ static ONCE u32 proved_private_key_info_decode(P v_a0, u64 v_a1, P v_a2, P v_a3,
     P p_v_r0_i663_sroa_7_0_i_i;
     u64 p_v_r0_i663_sroa_11_0_i_i;
     u64 p_v_r0_i663_sroa_13_0_i_i;
-    u64 p_v_spec_select2098_i_i;
+    u64 p_v_spec_select2096_i_i;
     P p_v_spec_select_i_i;
     u8 p_v_r8_sroa_5_sroa_0_0_i_ph_i_i;
     P p_v_r7_i_sroa_11_sroa_9_i_sroa_6_0_i;
     u64 p_v_r7_i_sroa_11_sroa_9_i_sroa_7_0_i;
-    P p_v_r0_i1_sroa_15_sroa_0_sroa_3_02156_i_i;
-    u64 p_v_r0_i1_sroa_15_sroa_0_sroa_6_02155_i_i;
-    u8 p_v_r0_i1_sroa_15_sroa_9_02154_i_i;
-    u8 p_v_r0_i1_sroa_15_sroa_6_02153_i_i;
-    u64 p_v_r0_i1_sroa_15_sroa_8_sroa_6_02150_i_i;
-    P p_v_r0_i1_sroa_15_sroa_8_sroa_0_02147_i_i;
-    u64 p_v_r0_i1_sroa_15_sroa_7_sroa_8_02146_i_i;
-    u64 p_v_r0_i1_sroa_15_sroa_7_sroa_6_02144_i_i;
+    P p_v_r0_i1_sroa_15_sroa_0_sroa_3_02154_i_i;
+    u64 p_v_r0_i1_sroa_15_sroa_0_sroa_6_02153_i_i;
+    u8 p_v_r0_i1_sroa_15_sroa_9_02152_i_i;
+    u8 p_v_r0_i1_sroa_15_sroa_6_02151_i_i;
+    u64 p_v_r0_i1_sroa_15_sroa_8_sroa_6_02148_i_i;
+    P p_v_r0_i1_sroa_15_sroa_8_sroa_0_02145_i_i;
+    u64 p_v_r0_i1_sroa_15_sroa_7_sroa_8_02144_i_i;
+    u64 p_v_r0_i1_sroa_15_sroa_7_sroa_6_02142_i_i;
     P p_v_r0_i9_sroa_7_0_i_i_i;
     u64 p_v_r0_i9_sroa_11_0_i_i_i;
     u64 p_v_r0_i9_sroa_13_0_i_i_i;
-    u8 p_v_r6_sroa_5_0_i_i1057_i_i;
+    u8 p_v_r6_sroa_5_0_i_i1055_i_i;
     u1 p_v_r11_sroa_4_0_i66_i_i_i;
-    u64 p_v_r0_i_i105_sroa_13_0_i2014_i_i;
-    P p_v_r0_i_i105_sroa_12_0_i2013_i_i;
-    u64 p_v_r0_i_i105_sroa_11_0_i2012_i_i;
-    P p_v_r0_i_i105_sroa_7_0_i2011_i_i;
+    u64 p_v_r0_i_i105_sroa_13_0_i2012_i_i;
+    P p_v_r0_i_i105_sroa_12_0_i2011_i_i;
+    u64 p_v_r0_i_i105_sroa_11_0_i2010_i_i;
+    P p_v_r0_i_i105_sroa_7_0_i2009_i_i;
     P p_v_r11_sroa_4_i_i_sroa_0_0_ph_i_i_i;
     u64 p_v_r11_sroa_4_i_i_sroa_5_0_ph_i_i_i;
-    u64 p_v_r0_i_i135_sroa_13_0_i2023_i_i;
-    P p_v_r0_i_i135_sroa_12_0_i2022_i_i;
-    u64 p_v_r0_i_i135_sroa_11_0_i2021_i_i;
-    P p_v_r0_i_i135_sroa_7_0_i2020_i_i;
+    u64 p_v_r0_i_i135_sroa_13_0_i2021_i_i;
+    P p_v_r0_i_i135_sroa_12_0_i2020_i_i;
+    u64 p_v_r0_i_i135_sroa_11_0_i2019_i_i;
+    P p_v_r0_i_i135_sroa_7_0_i2018_i_i;
     P p_v_r11_sroa_4_i_i142_sroa_0_0_ph_i_i_i;
     u64 p_v_r11_sroa_4_i_i142_sroa_5_0_ph_i_i_i;
-    u64 p_v_r0_i_i295_sroa_13_0_i2032_i_i;
-    P p_v_r0_i_i295_sroa_12_0_i2031_i_i;
-    u64 p_v_r0_i_i295_sroa_11_0_i2030_i_i;
-    P p_v_r0_i_i295_sroa_7_0_i2029_i_i;
+    u64 p_v_r0_i_i295_sroa_13_0_i2030_i_i;
+    P p_v_r0_i_i295_sroa_12_0_i2029_i_i;
+    u64 p_v_r0_i_i295_sroa_11_0_i2028_i_i;
+    P p_v_r0_i_i295_sroa_7_0_i2027_i_i;
     P p_v_r11_sroa_4_i_i302_sroa_0_0_ph_i_i_i;
     u64 p_v_r11_sroa_4_i_i302_sroa_5_0_ph_i_i_i;
-    u64 p_v_r0_i_i455_sroa_13_0_i2041_i_i;
-    P p_v_r0_i_i455_sroa_12_0_i2040_i_i;
-    u64 p_v_r0_i_i455_sroa_11_0_i2039_i_i;
-    P p_v_r0_i_i455_sroa_7_0_i2038_i_i;
+    u64 p_v_r0_i_i455_sroa_13_0_i2039_i_i;
+    P p_v_r0_i_i455_sroa_12_0_i2038_i_i;
+    u64 p_v_r0_i_i455_sroa_11_0_i2037_i_i;
+    P p_v_r0_i_i455_sroa_7_0_i2036_i_i;
     P p_v_r11_sroa_4_i_i462_sroa_0_0_ph_i_i_i;
     u64 p_v_r11_sroa_4_i_i462_sroa_5_0_ph_i_i_i;
-    u64 p_v_r0_i_i615_sroa_13_0_i2050_i_i;
-    P p_v_r0_i_i615_sroa_12_0_i2049_i_i;
-    u64 p_v_r0_i_i615_sroa_11_0_i2048_i_i;
-    P p_v_r0_i_i615_sroa_7_0_i2047_i_i;
+    u64 p_v_r0_i_i615_sroa_13_0_i2048_i_i;
+    P p_v_r0_i_i615_sroa_12_0_i2047_i_i;
+    u64 p_v_r0_i_i615_sroa_11_0_i2046_i_i;
+    P p_v_r0_i_i615_sroa_7_0_i2045_i_i;
     P p_v_r11_sroa_4_i_i622_sroa_0_0_ph_i_i_i;
     u64 p_v_r11_sroa_4_i_i622_sroa_5_0_ph_i_i_i;
-    u64 p_v_r0_i_i775_sroa_13_0_i2059_i_i;
-    P p_v_r0_i_i775_sroa_12_0_i2058_i_i;
-    u64 p_v_r0_i_i775_sroa_11_0_i2057_i_i;
-    P p_v_r0_i_i775_sroa_7_0_i2056_i_i;
+    u64 p_v_r0_i_i775_sroa_13_0_i2057_i_i;
+    P p_v_r0_i_i775_sroa_12_0_i2056_i_i;
+    u64 p_v_r0_i_i775_sroa_11_0_i2055_i_i;
+    P p_v_r0_i_i775_sroa_7_0_i2054_i_i;
     P p_v_r11_sroa_4_i_i782_sroa_0_0_ph_i_i_i;
     u64 p_v_r11_sroa_4_i_i782_sroa_5_0_ph_i_i_i;
-    u64 p_v_r0_i_i935_sroa_13_0_i2068_i_i;
-    P p_v_r0_i_i935_sroa_12_0_i2067_i_i;
-    u64 p_v_r0_i_i935_sroa_11_0_i2066_i_i;
-    P p_v_r0_i_i935_sroa_7_0_i2065_i_i;
+    u64 p_v_r0_i_i935_sroa_13_0_i2066_i_i;
+    P p_v_r0_i_i935_sroa_12_0_i2065_i_i;
+    u64 p_v_r0_i_i935_sroa_11_0_i2064_i_i;
+    P p_v_r0_i_i935_sroa_7_0_i2063_i_i;
     P p_v_r11_sroa_4_i_i942_sroa_0_0_ph_i_i_i;
     u64 p_v_r11_sroa_4_i_i942_sroa_5_0_ph_i_i_i;
-    u64 p_v_r0_i_i1095_sroa_13_0_i2077_i_i;
-    P p_v_r0_i_i1095_sroa_12_0_i2076_i_i;
-    u64 p_v_r0_i_i1095_sroa_11_0_i2075_i_i;
-    P p_v_r0_i_i1095_sroa_7_0_i2074_i_i;
+    u64 p_v_r0_i_i1095_sroa_13_0_i2075_i_i;
+    P p_v_r0_i_i1095_sroa_12_0_i2074_i_i;
+    u64 p_v_r0_i_i1095_sroa_11_0_i2073_i_i;
+    P p_v_r0_i_i1095_sroa_7_0_i2072_i_i;
     P p_v_r11_sroa_4_sroa_4_i_sroa_6_sroa_6_sroa_6_sroa_6_sr;
     u64 p_v_r11_sroa_4_sroa_4_i_sroa_6_sroa_6_sroa_6_sroa_6_sr__2;
-    u8 p_v_r5_sroa_5_sroa_0_0_i2702_i_i_i;
+    u8 p_v_r5_sroa_5_sroa_0_0_i2700_i_i_i;
     P p_v_r7_i_sroa_15_i_i_sroa_4_0_i;
     u64 p_v_r7_i_sroa_15_i_i_sroa_7_0_i;
     P p_v_r7_i_sroa_15_i_i_sroa_8_0_i;
@@ -35943,7 +36977,7 @@ static ONCE u32 proved_private_key_info_decode(P v_a0, u64 v_a1, P v_a2, P v_a3,
     u64 v_r3;
     P v_r4;
     u64 v_0;
-    u1 v_or_cond2169_i_i;
+    u1 v_or_cond2167_i_i;
     P v_r62_i_i_i_i;
     u64 v_r65_i_i_i_i;
     u8 v_r73_i_i_i_i;
@@ -35982,7 +37016,7 @@ static ONCE u32 proved_private_key_info_decode(P v_a0, u64 v_a1, P v_a2, P v_a3,
     u64 v_r0_i26_sroa_13_0_i_i;
     u1 v_r36_i13_i_i;
     u1 v_r23_i_i_i_i;
-    u1 v_or_cond2108_i_i;
+    u1 v_or_cond2106_i_i;
     P v_r32_i_i_i_i;
     u64 v_r35_i_i_i_i;
     u8 v_r43_i_i_i_i;
@@ -36100,16 +37134,16 @@ static ONCE u32 proved_private_key_info_decode(P v_a0, u64 v_a1, P v_a2, P v_a3,
     u1 v_r11_i855_i_i;
     u8 v_2;
     u1 v_3;
-    u1 v_r2_0_in_i_not_not_not_not2113_i_i;
+    u1 v_r2_0_in_i_not_not_not_not2111_i_i;
     u1 v_r23_i_i426_i_i;
-    u1 v_or_cond2109_i_i;
+    u1 v_or_cond2107_i_i;
     u64 v_r35_i_i429_i_i;
     P v_r30_i_i441_i_i;
     u8 v_r53_i_i442_i_i;
     u1 v_r55_i_i443_i_i;
     u64 v_r65_i_i445_i_i;
     u1 v_r7_i895_i_i;
-    u1 v_or_cond2170_i_i;
+    u1 v_or_cond2168_i_i;
     u64 v_r7_i_i891_i_i;
     u64 v_r9_i210_sroa_11_sroa_0_0_ph_i_i;
     u64 v_r9_i210_sroa_11_sroa_10_0_ph_i_i;
@@ -36159,7 +37193,7 @@ static ONCE u32 proved_private_key_info_decode(P v_a0, u64 v_a1, P v_a2, P v_a3,
     u8 v_r48_i592_i_i;
     u1 v_r54_i_i_i;
     u1 v_r53_i_i664_i_i;
-    u1 v_or_cond2171_i_i;
+    u1 v_or_cond2169_i_i;
     P v_r62_i_i666_i_i;
     u64 v_r65_i_i667_i_i;
     P v_r60_i_i682_i_i;
@@ -36195,7 +37229,7 @@ static ONCE u32 proved_private_key_info_decode(P v_a0, u64 v_a1, P v_a2, P v_a3,
     u64 v_r0_i663_sroa_11_0_i_i;
     u64 v_r0_i663_sroa_13_0_i_i;
     u1 v_r7_i976_i_i;
-    u64 v_spec_select2098_i_i;
+    u64 v_spec_select2096_i_i;
     P v_spec_select_i_i;
     u8 v_r8_sroa_5_sroa_0_0_i_ph_i_i;
     u8 v_4;
@@ -36224,33 +37258,33 @@ static ONCE u32 proved_private_key_info_decode(P v_a0, u64 v_a1, P v_a2, P v_a3,
     u1 v_6;
     P v_r7_i_sroa_11_sroa_9_i_sroa_6_0_i;
     u64 v_r7_i_sroa_11_sroa_9_i_sroa_7_0_i;
-    P v_r0_i1_sroa_15_sroa_0_sroa_3_02156_i_i;
-    u64 v_r0_i1_sroa_15_sroa_0_sroa_6_02155_i_i;
-    u8 v_r0_i1_sroa_15_sroa_9_02154_i_i;
-    u8 v_r0_i1_sroa_15_sroa_6_02153_i_i;
-    u64 v_r0_i1_sroa_15_sroa_8_sroa_6_02150_i_i;
-    P v_r0_i1_sroa_15_sroa_8_sroa_0_02147_i_i;
-    u64 v_r0_i1_sroa_15_sroa_7_sroa_8_02146_i_i;
-    u64 v_r0_i1_sroa_15_sroa_7_sroa_6_02144_i_i;
-    u1 v_r31_i1307_i_i_i;
-    u8 v_r38_i1309_i_i_i;
-    u1 v_cond_i1310_i_i_i;
-    P v_r41_i1312_i_i_i;
-    u8 v_r43_i1313_i_i_i;
+    P v_r0_i1_sroa_15_sroa_0_sroa_3_02154_i_i;
+    u64 v_r0_i1_sroa_15_sroa_0_sroa_6_02153_i_i;
+    u8 v_r0_i1_sroa_15_sroa_9_02152_i_i;
+    u8 v_r0_i1_sroa_15_sroa_6_02151_i_i;
+    u64 v_r0_i1_sroa_15_sroa_8_sroa_6_02148_i_i;
+    P v_r0_i1_sroa_15_sroa_8_sroa_0_02145_i_i;
+    u64 v_r0_i1_sroa_15_sroa_7_sroa_8_02144_i_i;
+    u64 v_r0_i1_sroa_15_sroa_7_sroa_6_02142_i_i;
+    u1 v_r31_i1305_i_i_i;
+    u8 v_r38_i1307_i_i_i;
+    u1 v_cond_i1308_i_i_i;
+    P v_r41_i1310_i_i_i;
+    u8 v_r43_i1311_i_i_i;
     u1 v_cond1_i_i_i_i;
-    P v_r46_i1314_i_i_i;
-    u8 v_r48_i1315_i_i_i;
+    P v_r46_i1312_i_i_i;
+    u8 v_r48_i1313_i_i_i;
     u1 v_cond2_i_i_i_i;
-    P v_r51_i1316_i_i_i;
-    u8 v_r53_i1317_i_i_i;
+    P v_r51_i1314_i_i_i;
+    u8 v_r53_i1315_i_i_i;
     u1 v_cond3_i_i_i_i;
-    u1 v_r72_i_i_i_i;
+    u1 v_r72_i1319_i_i_i;
     u1 v_or_cond_i1037_i_i;
-    P v_r56_i1319_i_i_i;
+    P v_r56_i1317_i_i_i;
     u8 v_r79_i_i_i_i;
     u1 v_cond4_i_i_i_i;
-    P v_r82_i1322_i_i_i;
-    u8 v_r84_i1323_i_i_i;
+    P v_r82_i_i_i_i;
+    u8 v_r84_i_i_i_i;
     u1 v_cond5_i_i_i_i;
     P v_r87_i_i_i_i;
     u8 v_r89_i_i_i_i;
@@ -36258,16 +37292,16 @@ static ONCE u32 proved_private_key_info_decode(P v_a0, u64 v_a1, P v_a2, P v_a3,
     P v_r92_i_i1038_i_i;
     u8 v_r94_i_i_i_i;
     u1 v_cond7_i_i_i_i;
-    P v_r97_i_i1039_i_i;
-    u8 v_r99_i_i1040_i_i;
+    P v_r97_i1321_i_i_i;
+    u8 v_r99_i1322_i_i_i;
     u1 v_cond8_i_i_i_i;
     u1 v_7;
     u64 v_8;
-    u1 v_r7_i_i1338_i_i_i;
-    u1 v_r7_i1339_i_i_i;
+    u1 v_r7_i_i1336_i_i_i;
+    u1 v_r7_i1337_i_i_i;
     u1 v_or_cond_i;
     u64 v_9;
-    u1 v_or_cond2704_i_i_i;
+    u1 v_or_cond2702_i_i_i;
     P v_r62_i_i_i_i_i;
     u64 v_r65_i_i_i_i_i;
     u8 v_r73_i_i_i_i_i;
@@ -36276,8 +37310,8 @@ static ONCE u32 proved_private_key_info_decode(P v_a0, u64 v_a1, P v_a2, P v_a3,
     u8 v_r83_i_i_i_i_i;
     u1 v_r85_i_i_i_i_i;
     u64 v_r92_i_i_i_i_i;
-    u1 v_r15_i1359_i_i_i;
-    u64 v_r32_i1362_i_i_i;
+    u1 v_r15_i1357_i_i_i;
+    u64 v_r32_i1360_i_i_i;
     u1 v_r104_i_i_i_i_i;
     u1 v_r110_i_i_i_i_i;
     u8 v_r130_i_i_i_i_i;
@@ -36289,9 +37323,9 @@ static ONCE u32 proved_private_key_info_decode(P v_a0, u64 v_a1, P v_a2, P v_a3,
     u8 v_r143_i_i_i_i_i;
     u64 v_r145_i_i_i_i_i;
     u64 v_r148_i_i_i_i_i;
-    u1 v_r15_i1363_i_i_i;
+    u1 v_r15_i1361_i_i_i;
     P v_r119_i_i_i_i_i;
-    u64 v_r32_i1366_i_i_i;
+    u64 v_r32_i1364_i_i_i;
     u1 v_r163_i_i_i_i_i;
     P v_r170_i_i_i_i_i;
     u64 v_r173_i_i_i_i_i;
@@ -36299,8 +37333,8 @@ static ONCE u32 proved_private_key_info_decode(P v_a0, u64 v_a1, P v_a2, P v_a3,
     u8 v_r187_i_i_i_i_i;
     u1 v_r189_i_i_i_i_i;
     u64 v_r199_i_i_i_i_i;
-    u1 v_r15_i1373_i_i_i;
-    u64 v_r32_i1376_i_i_i;
+    u1 v_r15_i1371_i_i_i;
+    u64 v_r32_i1374_i_i_i;
     P v_r0_i9_sroa_7_0_i_i_i;
     u64 v_r0_i9_sroa_11_0_i_i_i;
     u64 v_r0_i9_sroa_13_0_i_i_i;
@@ -36308,24 +37342,24 @@ static ONCE u32 proved_private_key_info_decode(P v_a0, u64 v_a1, P v_a2, P v_a3,
     u1 v_r23_i76_i_i_i;
     P v_r32_i77_i_i_i;
     u64 v_r35_i78_i_i_i;
-    u8 v_r43_i_i1053_i_i;
+    u8 v_r43_i_i1051_i_i;
     u1 v_r48_i80_i_i_i;
     P v_r30_i81_i_i_i;
     u8 v_r53_i82_i_i_i;
-    u1 v_r55_i_i1055_i_i;
+    u1 v_r55_i_i1053_i_i;
     u64 v_r65_i83_i_i_i;
-    u1 v_r15_i1383_i_i_i;
-    P v_r29_i1385_i_i_i;
-    u64 v_r32_i1386_i_i_i;
+    u1 v_r15_i1381_i_i_i;
+    P v_r29_i1383_i_i_i;
+    u64 v_r32_i1384_i_i_i;
     u8 v_r34_i98_i_i_i;
     u1 v_r36_i99_i_i_i;
     u1 v_r46_i101_i_i_i;
     u8 v_r53_i102_i_i_i;
-    u1 v_cond_i_i1061_i_i;
-    P v_r56_i_i1063_i_i;
+    u1 v_cond_i_i1059_i_i;
+    P v_r56_i_i1061_i_i;
     u8 v_r59_i103_i_i_i;
     u1 v_r61_i104_i_i_i;
-    u8 v_r6_sroa_5_0_i_i1057_i_i;
+    u8 v_r6_sroa_5_0_i_i1055_i_i;
     u1 v_r11_sroa_4_0_i66_i_i_i;
     u1 v_r53_i_i_i_i_i_i;
     P v_r62_i_i_i_i_i_i;
@@ -36336,11 +37370,11 @@ static ONCE u32 proved_private_key_info_decode(P v_a0, u64 v_a1, P v_a2, P v_a3,
     u8 v_r83_i_i_i_i_i_i;
     u1 v_r85_i_i_i_i_i_i;
     u64 v_r92_i_i_i_i_i_i;
-    u1 v_r15_i1400_i_i_i;
-    P v_r29_i1402_i_i_i;
-    u64 v_r32_i1403_i_i_i;
+    u1 v_r15_i1398_i_i_i;
+    P v_r29_i1400_i_i_i;
+    u64 v_r32_i1401_i_i_i;
     u1 v_r27_i4_i_i_i_i;
-    u1 v_or_cond2099_i_i;
+    u1 v_or_cond2097_i_i;
     u1 v_r104_i_i_i_i_i_i;
     u1 v_r110_i_i_i_i_i_i;
     u8 v_r130_i_i_i_i_i_i;
@@ -36352,10 +37386,10 @@ static ONCE u32 proved_private_key_info_decode(P v_a0, u64 v_a1, P v_a2, P v_a3,
     u8 v_r143_i_i_i_i_i_i;
     u64 v_r145_i_i_i_i_i_i;
     u64 v_r148_i_i_i_i_i_i;
-    u1 v_r15_i1410_i_i_i;
+    u1 v_r15_i1408_i_i_i;
     P v_r119_i_i_i_i_i_i;
-    P v_r29_i1412_i_i_i;
-    u64 v_r32_i1413_i_i_i;
+    P v_r29_i1410_i_i_i;
+    u64 v_r32_i1411_i_i_i;
     u1 v_r163_i_i_i_i_i_i;
     P v_r170_i_i_i_i_i_i;
     u64 v_r173_i_i_i_i_i_i;
@@ -36363,13 +37397,13 @@ static ONCE u32 proved_private_key_info_decode(P v_a0, u64 v_a1, P v_a2, P v_a3,
     u8 v_r187_i_i_i_i_i_i;
     u1 v_r189_i_i_i_i_i_i;
     u64 v_r199_i_i_i_i_i_i;
-    u1 v_r15_i1420_i_i_i;
-    P v_r29_i1422_i_i_i;
-    u64 v_r32_i1423_i_i_i;
-    u64 v_r0_i_i105_sroa_13_0_i2014_i_i;
-    P v_r0_i_i105_sroa_12_0_i2013_i_i;
-    u64 v_r0_i_i105_sroa_11_0_i2012_i_i;
-    P v_r0_i_i105_sroa_7_0_i2011_i_i;
+    u1 v_r15_i1418_i_i_i;
+    P v_r29_i1420_i_i_i;
+    u64 v_r32_i1421_i_i_i;
+    u64 v_r0_i_i105_sroa_13_0_i2012_i_i;
+    P v_r0_i_i105_sroa_12_0_i2011_i_i;
+    u64 v_r0_i_i105_sroa_11_0_i2010_i_i;
+    P v_r0_i_i105_sroa_7_0_i2009_i_i;
     u8 v_r34_i_i_i_i_i;
     u1 v_cond_i_i_i_i_i;
     u64 v_r40_i5_i_i_i_i;
@@ -36392,11 +37426,11 @@ static ONCE u32 proved_private_key_info_decode(P v_a0, u64 v_a1, P v_a2, P v_a3,
     u8 v_r83_i_i_i243_i_i_i;
     u1 v_r85_i_i_i244_i_i_i;
     u64 v_r92_i_i_i286_i_i_i;
-    u1 v_r15_i1430_i_i_i;
-    P v_r29_i1432_i_i_i;
-    u64 v_r32_i1433_i_i_i;
+    u1 v_r15_i1428_i_i_i;
+    P v_r29_i1430_i_i_i;
+    u64 v_r32_i1431_i_i_i;
     u1 v_r27_i4_i213_i_i_i;
-    u1 v_or_cond2100_i_i;
+    u1 v_or_cond2098_i_i;
     u1 v_r104_i_i_i246_i_i_i;
     u1 v_r110_i_i_i263_i_i_i;
     u8 v_r130_i_i_i265_i_i_i;
@@ -36408,10 +37442,10 @@ static ONCE u32 proved_private_key_info_decode(P v_a0, u64 v_a1, P v_a2, P v_a3,
     u8 v_r143_i_i_i273_i_i_i;
     u64 v_r145_i_i_i274_i_i_i;
     u64 v_r148_i_i_i275_i_i_i;
-    u1 v_r15_i1440_i_i_i;
+    u1 v_r15_i1438_i_i_i;
     P v_r119_i_i_i269_i_i_i;
-    P v_r29_i1442_i_i_i;
-    u64 v_r32_i1443_i_i_i;
+    P v_r29_i1440_i_i_i;
+    u64 v_r32_i1441_i_i_i;
     u1 v_r163_i_i_i248_i_i_i;
     P v_r170_i_i_i250_i_i_i;
     u64 v_r173_i_i_i251_i_i_i;
@@ -36419,13 +37453,13 @@ static ONCE u32 proved_private_key_info_decode(P v_a0, u64 v_a1, P v_a2, P v_a3,
     u8 v_r187_i_i_i258_i_i_i;
     u1 v_r189_i_i_i259_i_i_i;
     u64 v_r199_i_i_i261_i_i_i;
-    u1 v_r15_i1450_i_i_i;
-    P v_r29_i1452_i_i_i;
-    u64 v_r32_i1453_i_i_i;
-    u64 v_r0_i_i135_sroa_13_0_i2023_i_i;
-    P v_r0_i_i135_sroa_12_0_i2022_i_i;
-    u64 v_r0_i_i135_sroa_11_0_i2021_i_i;
-    P v_r0_i_i135_sroa_7_0_i2020_i_i;
+    u1 v_r15_i1448_i_i_i;
+    P v_r29_i1450_i_i_i;
+    u64 v_r32_i1451_i_i_i;
+    u64 v_r0_i_i135_sroa_13_0_i2021_i_i;
+    P v_r0_i_i135_sroa_12_0_i2020_i_i;
+    u64 v_r0_i_i135_sroa_11_0_i2019_i_i;
+    P v_r0_i_i135_sroa_7_0_i2018_i_i;
     u8 v_r34_i_i215_i_i_i;
     u1 v_cond_i_i216_i_i_i;
     u64 v_r40_i5_i233_i_i_i;
@@ -36436,7 +37470,7 @@ static ONCE u32 proved_private_key_info_decode(P v_a0, u64 v_a1, P v_a2, P v_a3,
     u1 v_r58_i_i237_i_i_i;
     u64 v_r40_i_i238_i_i_i;
     P v_r37_i_i239_i_i_i;
-    u1 v_not2629_i_i_i;
+    u1 v_not2627_i_i_i;
     P v_r11_sroa_4_i_i142_sroa_0_0_ph_i_i_i;
     u64 v_r11_sroa_4_i_i142_sroa_5_0_ph_i_i_i;
     u1 v_r53_i_i_i320_i_i_i;
@@ -36448,11 +37482,11 @@ static ONCE u32 proved_private_key_info_decode(P v_a0, u64 v_a1, P v_a2, P v_a3,
     u8 v_r83_i_i_i403_i_i_i;
     u1 v_r85_i_i_i404_i_i_i;
     u64 v_r92_i_i_i446_i_i_i;
-    u1 v_r15_i1460_i_i_i;
-    P v_r29_i1462_i_i_i;
-    u64 v_r32_i1463_i_i_i;
+    u1 v_r15_i1458_i_i_i;
+    P v_r29_i1460_i_i_i;
+    u64 v_r32_i1461_i_i_i;
     u1 v_r27_i4_i373_i_i_i;
-    u1 v_or_cond2101_i_i;
+    u1 v_or_cond2099_i_i;
     u1 v_r104_i_i_i406_i_i_i;
     u1 v_r110_i_i_i423_i_i_i;
     u8 v_r130_i_i_i425_i_i_i;
@@ -36464,10 +37498,10 @@ static ONCE u32 proved_private_key_info_decode(P v_a0, u64 v_a1, P v_a2, P v_a3,
     u8 v_r143_i_i_i433_i_i_i;
     u64 v_r145_i_i_i434_i_i_i;
     u64 v_r148_i_i_i435_i_i_i;
-    u1 v_r15_i1470_i_i_i;
+    u1 v_r15_i1468_i_i_i;
     P v_r119_i_i_i429_i_i_i;
-    P v_r29_i1472_i_i_i;
-    u64 v_r32_i1473_i_i_i;
+    P v_r29_i1470_i_i_i;
+    u64 v_r32_i1471_i_i_i;
     u1 v_r163_i_i_i408_i_i_i;
     P v_r170_i_i_i410_i_i_i;
     u64 v_r173_i_i_i411_i_i_i;
@@ -36475,13 +37509,13 @@ static ONCE u32 proved_private_key_info_decode(P v_a0, u64 v_a1, P v_a2, P v_a3,
     u8 v_r187_i_i_i418_i_i_i;
     u1 v_r189_i_i_i419_i_i_i;
     u64 v_r199_i_i_i421_i_i_i;
-    u1 v_r15_i1480_i_i_i;
-    P v_r29_i1482_i_i_i;
-    u64 v_r32_i1483_i_i_i;
-    u64 v_r0_i_i295_sroa_13_0_i2032_i_i;
-    P v_r0_i_i295_sroa_12_0_i2031_i_i;
-    u64 v_r0_i_i295_sroa_11_0_i2030_i_i;
-    P v_r0_i_i295_sroa_7_0_i2029_i_i;
+    u1 v_r15_i1478_i_i_i;
+    P v_r29_i1480_i_i_i;
+    u64 v_r32_i1481_i_i_i;
+    u64 v_r0_i_i295_sroa_13_0_i2030_i_i;
+    P v_r0_i_i295_sroa_12_0_i2029_i_i;
+    u64 v_r0_i_i295_sroa_11_0_i2028_i_i;
+    P v_r0_i_i295_sroa_7_0_i2027_i_i;
     u8 v_r34_i_i375_i_i_i;
     u1 v_cond_i_i376_i_i_i;
     u64 v_r40_i5_i393_i_i_i;
@@ -36492,7 +37526,7 @@ static ONCE u32 proved_private_key_info_decode(P v_a0, u64 v_a1, P v_a2, P v_a3,
     u1 v_r58_i_i397_i_i_i;
     u64 v_r40_i_i398_i_i_i;
     P v_r37_i_i399_i_i_i;
-    u1 v_not2630_i_i_i;
+    u1 v_not2628_i_i_i;
     P v_r11_sroa_4_i_i302_sroa_0_0_ph_i_i_i;
     u64 v_r11_sroa_4_i_i302_sroa_5_0_ph_i_i_i;
     u1 v_r53_i_i_i480_i_i_i;
@@ -36504,11 +37538,11 @@ static ONCE u32 proved_private_key_info_decode(P v_a0, u64 v_a1, P v_a2, P v_a3,
     u8 v_r83_i_i_i563_i_i_i;
     u1 v_r85_i_i_i564_i_i_i;
     u64 v_r92_i_i_i606_i_i_i;
-    u1 v_r15_i1490_i_i_i;
-    P v_r29_i1492_i_i_i;
-    u64 v_r32_i1493_i_i_i;
+    u1 v_r15_i1488_i_i_i;
+    P v_r29_i1490_i_i_i;
+    u64 v_r32_i1491_i_i_i;
     u1 v_r27_i4_i533_i_i_i;
-    u1 v_or_cond2102_i_i;
+    u1 v_or_cond2100_i_i;
     u1 v_r104_i_i_i566_i_i_i;
     u1 v_r110_i_i_i583_i_i_i;
     u8 v_r130_i_i_i585_i_i_i;
@@ -36520,10 +37554,10 @@ static ONCE u32 proved_private_key_info_decode(P v_a0, u64 v_a1, P v_a2, P v_a3,
     u8 v_r143_i_i_i593_i_i_i;
     u64 v_r145_i_i_i594_i_i_i;
     u64 v_r148_i_i_i595_i_i_i;
-    u1 v_r15_i1500_i_i_i;
+    u1 v_r15_i1498_i_i_i;
     P v_r119_i_i_i589_i_i_i;
-    P v_r29_i1502_i_i_i;
-    u64 v_r32_i1503_i_i_i;
+    P v_r29_i1500_i_i_i;
+    u64 v_r32_i1501_i_i_i;
     u1 v_r163_i_i_i568_i_i_i;
     P v_r170_i_i_i570_i_i_i;
     u64 v_r173_i_i_i571_i_i_i;
@@ -36531,13 +37565,13 @@ static ONCE u32 proved_private_key_info_decode(P v_a0, u64 v_a1, P v_a2, P v_a3,
     u8 v_r187_i_i_i578_i_i_i;
     u1 v_r189_i_i_i579_i_i_i;
     u64 v_r199_i_i_i581_i_i_i;
-    u1 v_r15_i1510_i_i_i;
-    P v_r29_i1512_i_i_i;
-    u64 v_r32_i1513_i_i_i;
-    u64 v_r0_i_i455_sroa_13_0_i2041_i_i;
-    P v_r0_i_i455_sroa_12_0_i2040_i_i;
-    u64 v_r0_i_i455_sroa_11_0_i2039_i_i;
-    P v_r0_i_i455_sroa_7_0_i2038_i_i;
+    u1 v_r15_i1508_i_i_i;
+    P v_r29_i1510_i_i_i;
+    u64 v_r32_i1511_i_i_i;
+    u64 v_r0_i_i455_sroa_13_0_i2039_i_i;
+    P v_r0_i_i455_sroa_12_0_i2038_i_i;
+    u64 v_r0_i_i455_sroa_11_0_i2037_i_i;
+    P v_r0_i_i455_sroa_7_0_i2036_i_i;
     u8 v_r34_i_i535_i_i_i;
     u1 v_cond_i_i536_i_i_i;
     u64 v_r40_i5_i553_i_i_i;
@@ -36548,7 +37582,7 @@ static ONCE u32 proved_private_key_info_decode(P v_a0, u64 v_a1, P v_a2, P v_a3,
     u1 v_r58_i_i557_i_i_i;
     u64 v_r40_i_i558_i_i_i;
     P v_r37_i_i559_i_i_i;
-    u1 v_not2631_i_i_i;
+    u1 v_not2629_i_i_i;
     P v_r11_sroa_4_i_i462_sroa_0_0_ph_i_i_i;
     u64 v_r11_sroa_4_i_i462_sroa_5_0_ph_i_i_i;
     u1 v_r53_i_i_i640_i_i_i;
@@ -36560,11 +37594,11 @@ static ONCE u32 proved_private_key_info_decode(P v_a0, u64 v_a1, P v_a2, P v_a3,
     u8 v_r83_i_i_i723_i_i_i;
     u1 v_r85_i_i_i724_i_i_i;
     u64 v_r92_i_i_i766_i_i_i;
-    u1 v_r15_i1520_i_i_i;
-    P v_r29_i1522_i_i_i;
-    u64 v_r32_i1523_i_i_i;
+    u1 v_r15_i1518_i_i_i;
+    P v_r29_i1520_i_i_i;
+    u64 v_r32_i1521_i_i_i;
     u1 v_r27_i4_i693_i_i_i;
-    u1 v_or_cond2103_i_i;
+    u1 v_or_cond2101_i_i;
     u1 v_r104_i_i_i726_i_i_i;
     u1 v_r110_i_i_i743_i_i_i;
     u8 v_r130_i_i_i745_i_i_i;
@@ -36576,10 +37610,10 @@ static ONCE u32 proved_private_key_info_decode(P v_a0, u64 v_a1, P v_a2, P v_a3,
     u8 v_r143_i_i_i753_i_i_i;
     u64 v_r145_i_i_i754_i_i_i;
     u64 v_r148_i_i_i755_i_i_i;
-    u1 v_r15_i1530_i_i_i;
+    u1 v_r15_i1528_i_i_i;
     P v_r119_i_i_i749_i_i_i;
-    P v_r29_i1532_i_i_i;
-    u64 v_r32_i1533_i_i_i;
+    P v_r29_i1530_i_i_i;
+    u64 v_r32_i1531_i_i_i;
     u1 v_r163_i_i_i728_i_i_i;
     P v_r170_i_i_i730_i_i_i;
     u64 v_r173_i_i_i731_i_i_i;
@@ -36587,13 +37621,13 @@ static ONCE u32 proved_private_key_info_decode(P v_a0, u64 v_a1, P v_a2, P v_a3,
     u8 v_r187_i_i_i738_i_i_i;
     u1 v_r189_i_i_i739_i_i_i;
     u64 v_r199_i_i_i741_i_i_i;
-    u1 v_r15_i1540_i_i_i;
-    P v_r29_i1542_i_i_i;
-    u64 v_r32_i1543_i_i_i;
-    u64 v_r0_i_i615_sroa_13_0_i2050_i_i;
-    P v_r0_i_i615_sroa_12_0_i2049_i_i;
-    u64 v_r0_i_i615_sroa_11_0_i2048_i_i;
-    P v_r0_i_i615_sroa_7_0_i2047_i_i;
+    u1 v_r15_i1538_i_i_i;
+    P v_r29_i1540_i_i_i;
+    u64 v_r32_i1541_i_i_i;
+    u64 v_r0_i_i615_sroa_13_0_i2048_i_i;
+    P v_r0_i_i615_sroa_12_0_i2047_i_i;
+    u64 v_r0_i_i615_sroa_11_0_i2046_i_i;
+    P v_r0_i_i615_sroa_7_0_i2045_i_i;
     u8 v_r34_i_i695_i_i_i;
     u1 v_cond_i_i696_i_i_i;
     u64 v_r40_i5_i713_i_i_i;
@@ -36604,7 +37638,7 @@ static ONCE u32 proved_private_key_info_decode(P v_a0, u64 v_a1, P v_a2, P v_a3,
     u1 v_r58_i_i717_i_i_i;
     u64 v_r40_i_i718_i_i_i;
     P v_r37_i_i719_i_i_i;
-    u1 v_not2632_i_i_i;
+    u1 v_not2630_i_i_i;
     P v_r11_sroa_4_i_i622_sroa_0_0_ph_i_i_i;
     u64 v_r11_sroa_4_i_i622_sroa_5_0_ph_i_i_i;
     u1 v_r53_i_i_i800_i_i_i;
@@ -36616,11 +37650,11 @@ static ONCE u32 proved_private_key_info_decode(P v_a0, u64 v_a1, P v_a2, P v_a3,
     u8 v_r83_i_i_i883_i_i_i;
     u1 v_r85_i_i_i884_i_i_i;
     u64 v_r92_i_i_i926_i_i_i;
-    u1 v_r15_i1550_i_i_i;
-    P v_r29_i1552_i_i_i;
-    u64 v_r32_i1553_i_i_i;
+    u1 v_r15_i1548_i_i_i;
+    P v_r29_i1550_i_i_i;
+    u64 v_r32_i1551_i_i_i;
     u1 v_r27_i4_i853_i_i_i;
-    u1 v_or_cond2104_i_i;
+    u1 v_or_cond2102_i_i;
     u1 v_r104_i_i_i886_i_i_i;
     u1 v_r110_i_i_i903_i_i_i;
     u8 v_r130_i_i_i905_i_i_i;
@@ -36632,10 +37666,10 @@ static ONCE u32 proved_private_key_info_decode(P v_a0, u64 v_a1, P v_a2, P v_a3,
     u8 v_r143_i_i_i913_i_i_i;
     u64 v_r145_i_i_i914_i_i_i;
     u64 v_r148_i_i_i915_i_i_i;
-    u1 v_r15_i1560_i_i_i;
+    u1 v_r15_i1558_i_i_i;
     P v_r119_i_i_i909_i_i_i;
-    P v_r29_i1562_i_i_i;
-    u64 v_r32_i1563_i_i_i;
+    P v_r29_i1560_i_i_i;
+    u64 v_r32_i1561_i_i_i;
     u1 v_r163_i_i_i888_i_i_i;
     P v_r170_i_i_i890_i_i_i;
     u64 v_r173_i_i_i891_i_i_i;
@@ -36643,13 +37677,13 @@ static ONCE u32 proved_private_key_info_decode(P v_a0, u64 v_a1, P v_a2, P v_a3,
     u8 v_r187_i_i_i898_i_i_i;
     u1 v_r189_i_i_i899_i_i_i;
     u64 v_r199_i_i_i901_i_i_i;
-    u1 v_r15_i1570_i_i_i;
-    P v_r29_i1572_i_i_i;
-    u64 v_r32_i1573_i_i_i;
-    u64 v_r0_i_i775_sroa_13_0_i2059_i_i;
-    P v_r0_i_i775_sroa_12_0_i2058_i_i;
-    u64 v_r0_i_i775_sroa_11_0_i2057_i_i;
-    P v_r0_i_i775_sroa_7_0_i2056_i_i;
+    u1 v_r15_i1568_i_i_i;
+    P v_r29_i1570_i_i_i;
+    u64 v_r32_i1571_i_i_i;
+    u64 v_r0_i_i775_sroa_13_0_i2057_i_i;
+    P v_r0_i_i775_sroa_12_0_i2056_i_i;
+    u64 v_r0_i_i775_sroa_11_0_i2055_i_i;
+    P v_r0_i_i775_sroa_7_0_i2054_i_i;
     u8 v_r34_i_i855_i_i_i;
     u1 v_cond_i_i856_i_i_i;
     u64 v_r40_i5_i873_i_i_i;
@@ -36660,7 +37694,7 @@ static ONCE u32 proved_private_key_info_decode(P v_a0, u64 v_a1, P v_a2, P v_a3,
     u1 v_r58_i_i877_i_i_i;
     u64 v_r40_i_i878_i_i_i;
     P v_r37_i_i879_i_i_i;
-    u1 v_not2633_i_i_i;
+    u1 v_not2631_i_i_i;
     P v_r11_sroa_4_i_i782_sroa_0_0_ph_i_i_i;
     u64 v_r11_sroa_4_i_i782_sroa_5_0_ph_i_i_i;
     u1 v_r53_i_i_i960_i_i_i;
@@ -36672,11 +37706,11 @@ static ONCE u32 proved_private_key_info_decode(P v_a0, u64 v_a1, P v_a2, P v_a3,
     u8 v_r83_i_i_i1043_i_i_i;
     u1 v_r85_i_i_i1044_i_i_i;
     u64 v_r92_i_i_i1086_i_i_i;
-    u1 v_r15_i1580_i_i_i;
-    P v_r29_i1582_i_i_i;
-    u64 v_r32_i1583_i_i_i;
+    u1 v_r15_i1578_i_i_i;
+    P v_r29_i1580_i_i_i;
+    u64 v_r32_i1581_i_i_i;
     u1 v_r27_i4_i1013_i_i_i;
-    u1 v_or_cond2105_i_i;
+    u1 v_or_cond2103_i_i;
     u1 v_r104_i_i_i1046_i_i_i;
     u1 v_r110_i_i_i1063_i_i_i;
     u8 v_r130_i_i_i1065_i_i_i;
@@ -36688,10 +37722,10 @@ static ONCE u32 proved_private_key_info_decode(P v_a0, u64 v_a1, P v_a2, P v_a3,
     u8 v_r143_i_i_i1073_i_i_i;
     u64 v_r145_i_i_i1074_i_i_i;
     u64 v_r148_i_i_i1075_i_i_i;
-    u1 v_r15_i1590_i_i_i;
+    u1 v_r15_i1588_i_i_i;
     P v_r119_i_i_i1069_i_i_i;
-    P v_r29_i1592_i_i_i;
-    u64 v_r32_i1593_i_i_i;
+    P v_r29_i1590_i_i_i;
+    u64 v_r32_i1591_i_i_i;
     u1 v_r163_i_i_i1048_i_i_i;
     P v_r170_i_i_i1050_i_i_i;
     u64 v_r173_i_i_i1051_i_i_i;
@@ -36699,13 +37733,13 @@ static ONCE u32 proved_private_key_info_decode(P v_a0, u64 v_a1, P v_a2, P v_a3,
     u8 v_r187_i_i_i1058_i_i_i;
     u1 v_r189_i_i_i1059_i_i_i;
     u64 v_r199_i_i_i1061_i_i_i;
-    u1 v_r15_i1600_i_i_i;
-    P v_r29_i1602_i_i_i;
-    u64 v_r32_i1603_i_i_i;
-    u64 v_r0_i_i935_sroa_13_0_i2068_i_i;
-    P v_r0_i_i935_sroa_12_0_i2067_i_i;
-    u64 v_r0_i_i935_sroa_11_0_i2066_i_i;
-    P v_r0_i_i935_sroa_7_0_i2065_i_i;
+    u1 v_r15_i1598_i_i_i;
+    P v_r29_i1600_i_i_i;
+    u64 v_r32_i1601_i_i_i;
+    u64 v_r0_i_i935_sroa_13_0_i2066_i_i;
+    P v_r0_i_i935_sroa_12_0_i2065_i_i;
+    u64 v_r0_i_i935_sroa_11_0_i2064_i_i;
+    P v_r0_i_i935_sroa_7_0_i2063_i_i;
     u8 v_r34_i_i1015_i_i_i;
     u1 v_cond_i_i1016_i_i_i;
     u64 v_r40_i5_i1033_i_i_i;
@@ -36716,7 +37750,7 @@ static ONCE u32 proved_private_key_info_decode(P v_a0, u64 v_a1, P v_a2, P v_a3,
     u1 v_r58_i_i1037_i_i_i;
     u64 v_r40_i_i1038_i_i_i;
     P v_r37_i_i1039_i_i_i;
-    u1 v_not2634_i_i_i;
+    u1 v_not2632_i_i_i;
     P v_r11_sroa_4_i_i942_sroa_0_0_ph_i_i_i;
     u64 v_r11_sroa_4_i_i942_sroa_5_0_ph_i_i_i;
     u1 v_r53_i_i_i1110_i_i_i;
@@ -36728,11 +37762,11 @@ static ONCE u32 proved_private_key_info_decode(P v_a0, u64 v_a1, P v_a2, P v_a3,
     u8 v_r83_i_i_i1182_i_i_i;
     u1 v_r85_i_i_i1183_i_i_i;
     u64 v_r92_i_i_i1225_i_i_i;
-    u1 v_r15_i1610_i_i_i;
-    P v_r29_i1612_i_i_i;
-    u64 v_r32_i1613_i_i_i;
+    u1 v_r15_i1608_i_i_i;
+    P v_r29_i1610_i_i_i;
+    u64 v_r32_i1611_i_i_i;
     u1 v_r27_i4_i1152_i_i_i;
-    u1 v_or_cond2106_i_i;
+    u1 v_or_cond2104_i_i;
     u1 v_r104_i_i_i1185_i_i_i;
     u1 v_r110_i_i_i1202_i_i_i;
     u8 v_r130_i_i_i1204_i_i_i;
@@ -36744,10 +37778,10 @@ static ONCE u32 proved_private_key_info_decode(P v_a0, u64 v_a1, P v_a2, P v_a3,
     u8 v_r143_i_i_i1212_i_i_i;
     u64 v_r145_i_i_i1213_i_i_i;
     u64 v_r148_i_i_i1214_i_i_i;
-    u1 v_r15_i1620_i_i_i;
+    u1 v_r15_i1618_i_i_i;
     P v_r119_i_i_i1208_i_i_i;
-    P v_r29_i1622_i_i_i;
-    u64 v_r32_i1623_i_i_i;
+    P v_r29_i1620_i_i_i;
+    u64 v_r32_i1621_i_i_i;
     u1 v_r163_i_i_i1187_i_i_i;
     P v_r170_i_i_i1189_i_i_i;
     u64 v_r173_i_i_i1190_i_i_i;
@@ -36755,13 +37789,13 @@ static ONCE u32 proved_private_key_info_decode(P v_a0, u64 v_a1, P v_a2, P v_a3,
     u8 v_r187_i_i_i1197_i_i_i;
     u1 v_r189_i_i_i1198_i_i_i;
     u64 v_r199_i_i_i1200_i_i_i;
-    u1 v_r15_i1630_i_i_i;
-    P v_r29_i1632_i_i_i;
-    u64 v_r32_i1633_i_i_i;
-    u64 v_r0_i_i1095_sroa_13_0_i2077_i_i;
-    P v_r0_i_i1095_sroa_12_0_i2076_i_i;
-    u64 v_r0_i_i1095_sroa_11_0_i2075_i_i;
-    P v_r0_i_i1095_sroa_7_0_i2074_i_i;
+    u1 v_r15_i1628_i_i_i;
+    P v_r29_i1630_i_i_i;
+    u64 v_r32_i1631_i_i_i;
+    u64 v_r0_i_i1095_sroa_13_0_i2075_i_i;
+    P v_r0_i_i1095_sroa_12_0_i2074_i_i;
+    u64 v_r0_i_i1095_sroa_11_0_i2073_i_i;
+    P v_r0_i_i1095_sroa_7_0_i2072_i_i;
     u8 v_r34_i_i1154_i_i_i;
     u1 v_cond_i_i1155_i_i_i;
     u64 v_r40_i5_i1172_i_i_i;
@@ -36772,62 +37806,62 @@ static ONCE u32 proved_private_key_info_decode(P v_a0, u64 v_a1, P v_a2, P v_a3,
     u1 v_r58_i_i1176_i_i_i;
     u64 v_r40_i_i1177_i_i_i;
     P v_r37_i_i1178_i_i_i;
-    u1 v_not2635_i_i_i;
+    u1 v_not2633_i_i_i;
     P v_r11_sroa_4_sroa_4_i_sroa_6_sroa_6_sroa_6_sroa_6_sr;
     u64 v_r11_sroa_4_sroa_4_i_sroa_6_sroa_6_sroa_6_sroa_6_sr__2;
     u8 v_r16_i1240_i_i_i;
     u1 v_10;
     P v_r17_i1243_i_i_i;
-    u1 v_r7_i1640_i_i_i;
-    u8 v_r5_sroa_5_sroa_0_0_i2702_i_i_i;
+    u1 v_r7_i1638_i_i_i;
+    u8 v_r5_sroa_5_sroa_0_0_i2700_i_i_i;
     P v_r15_i4_sroa_6_0_r46_i_sroa_idx_i_i_i;
     P v_r7_i_sroa_15_i_i_sroa_24_4_copyload189_i;
-    P v_r7_i_sroa_15_i_i_sroa_25_4_r46_i_i1058_i_sroa_idx_;
+    P v_r7_i_sroa_15_i_i_sroa_25_4_r46_i_i1056_i_sroa_idx_;
     u64 v_r7_i_sroa_15_i_i_sroa_25_4_copyload190_i;
-    P v_r7_i_sroa_15_i_i_sroa_26_4_r46_i_i1058_i_sroa_idx_;
+    P v_r7_i_sroa_15_i_i_sroa_26_4_r46_i_i1056_i_sroa_idx_;
     u64 v_r7_i_sroa_15_i_i_sroa_26_4_copyload191_i;
     u8 v_11;
-    P v_r59_i_i1043_i_i;
+    P v_r59_i_i1041_i_i;
     u8 v_12;
-    P v_r65_i_i1045_i_i;
+    P v_r65_i_i1043_i_i;
     P v_r7_i_sroa_15_i_i_sroa_4_4_copyload_i;
-    P v_r7_i_sroa_15_i_i_sroa_7_4_r65_i_i1045_i_sroa_idx_i;
+    P v_r7_i_sroa_15_i_i_sroa_7_4_r65_i_i1043_i_sroa_idx_i;
     u64 v_r7_i_sroa_15_i_i_sroa_7_4_copyload_i;
-    P v_r7_i_sroa_15_i_i_sroa_8_4_r65_i_i1045_i_sroa_idx_i;
+    P v_r7_i_sroa_15_i_i_sroa_8_4_r65_i_i1043_i_sroa_idx_i;
     P v_r7_i_sroa_15_i_i_sroa_8_4_copyload_i;
-    P v_r7_i_sroa_15_i_i_sroa_9_4_r65_i_i1045_i_sroa_idx_i;
+    P v_r7_i_sroa_15_i_i_sroa_9_4_r65_i_i1043_i_sroa_idx_i;
     u64 v_r7_i_sroa_15_i_i_sroa_9_4_copyload_i;
-    P v_r7_i_sroa_15_i_i_sroa_10_4_r65_i_i1045_i_sroa_idx_;
+    P v_r7_i_sroa_15_i_i_sroa_10_4_r65_i_i1043_i_sroa_idx_;
     P v_r7_i_sroa_15_i_i_sroa_10_4_copyload_i;
-    P v_r7_i_sroa_15_i_i_sroa_11_4_r65_i_i1045_i_sroa_idx_;
+    P v_r7_i_sroa_15_i_i_sroa_11_4_r65_i_i1043_i_sroa_idx_;
     u64 v_r7_i_sroa_15_i_i_sroa_11_4_copyload_i;
-    P v_r7_i_sroa_15_i_i_sroa_12_4_r65_i_i1045_i_sroa_idx_;
+    P v_r7_i_sroa_15_i_i_sroa_12_4_r65_i_i1043_i_sroa_idx_;
     P v_r7_i_sroa_15_i_i_sroa_12_4_copyload_i;
-    P v_r7_i_sroa_15_i_i_sroa_13_4_r65_i_i1045_i_sroa_idx_;
+    P v_r7_i_sroa_15_i_i_sroa_13_4_r65_i_i1043_i_sroa_idx_;
     u64 v_r7_i_sroa_15_i_i_sroa_13_4_copyload_i;
-    P v_r7_i_sroa_15_i_i_sroa_14_4_r65_i_i1045_i_sroa_idx_;
+    P v_r7_i_sroa_15_i_i_sroa_14_4_r65_i_i1043_i_sroa_idx_;
     P v_r7_i_sroa_15_i_i_sroa_14_4_copyload_i;
-    P v_r7_i_sroa_15_i_i_sroa_15_4_r65_i_i1045_i_sroa_idx_;
+    P v_r7_i_sroa_15_i_i_sroa_15_4_r65_i_i1043_i_sroa_idx_;
     u64 v_r7_i_sroa_15_i_i_sroa_15_4_copyload_i;
-    P v_r7_i_sroa_15_i_i_sroa_16_4_r65_i_i1045_i_sroa_idx_;
+    P v_r7_i_sroa_15_i_i_sroa_16_4_r65_i_i1043_i_sroa_idx_;
     P v_r7_i_sroa_15_i_i_sroa_16_4_copyload_i;
-    P v_r7_i_sroa_15_i_i_sroa_17_4_r65_i_i1045_i_sroa_idx_;
+    P v_r7_i_sroa_15_i_i_sroa_17_4_r65_i_i1043_i_sroa_idx_;
     u64 v_r7_i_sroa_15_i_i_sroa_17_4_copyload_i;
-    P v_r7_i_sroa_15_i_i_sroa_18_4_r65_i_i1045_i_sroa_idx_;
+    P v_r7_i_sroa_15_i_i_sroa_18_4_r65_i_i1043_i_sroa_idx_;
     P v_r7_i_sroa_15_i_i_sroa_18_4_copyload_i;
-    P v_r7_i_sroa_15_i_i_sroa_19_4_r65_i_i1045_i_sroa_idx_;
+    P v_r7_i_sroa_15_i_i_sroa_19_4_r65_i_i1043_i_sroa_idx_;
     u64 v_r7_i_sroa_15_i_i_sroa_19_4_copyload_i;
-    P v_r7_i_sroa_15_i_i_sroa_20_4_r65_i_i1045_i_sroa_idx_;
+    P v_r7_i_sroa_15_i_i_sroa_20_4_r65_i_i1043_i_sroa_idx_;
     P v_r7_i_sroa_15_i_i_sroa_20_4_copyload_i;
-    P v_r7_i_sroa_15_i_i_sroa_21_4_r65_i_i1045_i_sroa_idx_;
+    P v_r7_i_sroa_15_i_i_sroa_21_4_r65_i_i1043_i_sroa_idx_;
     u64 v_r7_i_sroa_15_i_i_sroa_21_4_copyload_i;
-    P v_r7_i_sroa_15_i_i_sroa_22_4_r65_i_i1045_i_sroa_idx_;
+    P v_r7_i_sroa_15_i_i_sroa_22_4_r65_i_i1043_i_sroa_idx_;
     u8 v_r7_i_sroa_15_i_i_sroa_22_4_copyload_i;
-    P v_r7_i_sroa_15_i_i_sroa_24_4_r65_i_i1045_i_sroa_idx_;
+    P v_r7_i_sroa_15_i_i_sroa_24_4_r65_i_i1043_i_sroa_idx_;
     P v_r7_i_sroa_15_i_i_sroa_24_4_copyload_i;
-    P v_r7_i_sroa_15_i_i_sroa_25_4_r65_i_i1045_i_sroa_idx_;
+    P v_r7_i_sroa_15_i_i_sroa_25_4_r65_i_i1043_i_sroa_idx_;
     u64 v_r7_i_sroa_15_i_i_sroa_25_4_copyload_i;
-    P v_r7_i_sroa_15_i_i_sroa_26_4_r65_i_i1045_i_sroa_idx_;
+    P v_r7_i_sroa_15_i_i_sroa_26_4_r65_i_i1043_i_sroa_idx_;
     u64 v_r7_i_sroa_15_i_i_sroa_26_4_copyload_i;
     u1 v_13;
     P v_r7_i_sroa_15_i_i_sroa_4_0_i;
@@ -36893,8 +37927,8 @@ static ONCE u32 proved_private_key_info_decode(P v_a0, u64 v_a1, P v_a2, P v_a3,
     v_r4 = (P)((u64)v_a0 + (u64)(v_r3));
     fill(v_r0_i6_i_i, 0u, 96u);
     v_0 = (u64)((u64)(v_a1) + (u64)(18446744069414584320ull));
-    v_or_cond2169_i_i = v_0 < 18446744069414584322ull;
-    if (v_or_cond2169_i_i) { goto L_der_core_decode_AnyDecodeRefSliceU8_from_der_0a39d; } else { goto L_join_5_i_i_i_i; }
+    v_or_cond2167_i_i = v_0 < 18446744069414584322ull;
+    if (v_or_cond2167_i_i) { goto L_der_core_decode_AnyDecodeRefSliceU8_from_der_0a39d; } else { goto L_join_5_i_i_i_i; }
 L_join_5_i_i_i_i:;
     v_r62_i_i_i_i = v_r4 + 2;
     v_r65_i_i_i_i = (u64)((u64)(v_a1) + (u64)(18446744073709551614ull));
@@ -36962,8 +37996,8 @@ L_der_core_record_AnyDecodeValueRefSliceU8_quick_spl:;
     v_r0_i26_sroa_13_0_i_i = p_v_r0_i26_sroa_13_0_i_i;
     v_r36_i13_i_i = v_r0_i26_sroa_13_0_i_i != 0u;
     v_r23_i_i_i_i = v_r0_i26_sroa_11_0_i_i < 2u;
-    v_or_cond2108_i_i = v_r36_i13_i_i ? 1u : v_r23_i_i_i_i;
-    if (v_or_cond2108_i_i) { goto L_der_core_decode_AnyDecodeRefSliceU8_from_der_0a39d; } else { goto L_join_5_i_i66_i_i; }
+    v_or_cond2106_i_i = v_r36_i13_i_i ? 1u : v_r23_i_i_i_i;
+    if (v_or_cond2106_i_i) { goto L_der_core_decode_AnyDecodeRefSliceU8_from_der_0a39d; } else { goto L_join_5_i_i66_i_i; }
 L_join_5_i_i66_i_i:;
     v_r32_i_i_i_i = v_r0_i26_sroa_7_0_i_i + 2;
     v_r35_i_i_i_i = (u64)((u64)(v_r0_i26_sroa_11_0_i_i) + (u64)(18446744073709551614ull));
@@ -37140,10 +38174,10 @@ L_arm_1_i411_i_i:;
     v_r11_i855_i_i = v_r9_i854_i_i == 31u;
     v_2 = (u8)((u32)(v_r61_i413_i_i) & (u32)(223u));
     v_3 = v_2 == 0u;
-    v_r2_0_in_i_not_not_not_not2113_i_i = (u1)(((u32)(v_r11_i855_i_i) | (u32)(v_3)) & 1);
+    v_r2_0_in_i_not_not_not_not2111_i_i = (u1)(((u32)(v_r11_i855_i_i) | (u32)(v_3)) & 1);
     v_r23_i_i426_i_i = v_r32_i820_i_i < 2u;
-    v_or_cond2109_i_i = v_r2_0_in_i_not_not_not_not2113_i_i ? 1u : v_r23_i_i426_i_i;
-    if (v_or_cond2109_i_i) { goto L_der_core_decode_AnyDecodeRefSliceU8_from_der_0a39d; } else { goto L_then_6_i_i440_i_i; }
+    v_or_cond2107_i_i = v_r2_0_in_i_not_not_not_not2111_i_i ? 1u : v_r23_i_i426_i_i;
+    if (v_or_cond2107_i_i) { goto L_der_core_decode_AnyDecodeRefSliceU8_from_der_0a39d; } else { goto L_then_6_i_i440_i_i; }
 L_then_6_i_i440_i_i:;
     v_r35_i_i429_i_i = (u64)((u64)(v_r32_i820_i_i) + (u64)(18446744073709551614ull));
     v_r30_i_i441_i_i = v_r29_i819_i_i + 1;
@@ -37151,8 +38185,8 @@ L_then_6_i_i440_i_i:;
     v_r55_i_i443_i_i = (u8)(v_r53_i_i442_i_i ^ ((u8)1 << 7)) > (u8)(255u ^ ((u8)1 << 7));
     v_r65_i_i445_i_i = (u64)v_r53_i_i442_i_i;
     v_r7_i895_i_i = v_r35_i_i429_i_i == v_r65_i_i445_i_i;
-    v_or_cond2170_i_i = v_r55_i_i443_i_i ? v_r7_i895_i_i : 0u;
-    if (v_or_cond2170_i_i) { goto L_arm_4_i_i_i; } else { goto L_der_core_decode_AnyDecodeRefSliceU8_from_der_0a39d; }
+    v_or_cond2168_i_i = v_r55_i_i443_i_i ? v_r7_i895_i_i : 0u;
+    if (v_or_cond2168_i_i) { goto L_arm_4_i_i_i; } else { goto L_der_core_decode_AnyDecodeRefSliceU8_from_der_0a39d; }
 L_arm_4_i_i_i:;
     v_r7_i_i891_i_i = (u64)v_r61_i413_i_i;
     { p_v_r9_i210_sroa_11_sroa_0_0_ph_i_i = v_r7_i_i891_i_i; p_v_r9_i210_sroa_11_sroa_10_0_ph_i_i = v_r35_i_i429_i_i; p_v_r9_i210_sroa_7_sroa_0_0_ph_i_i = 1u; goto L_der_core_parts_Tuple2DecodePartsRefSliceU8_quick_p; }
@@ -37232,13 +38266,13 @@ L_arm_1_i464_i_i:;
     v_r0_i512_sroa_12_0_i_i = p_v_r0_i512_sroa_12_0_i_i;
     v_r0_i512_sroa_13_0_i_i = p_v_r0_i512_sroa_13_0_i_i;
     v_r27_i590_not_i_i = v_r0_i512_sroa_13_0_i_i == 0u;
-    if (v_r27_i590_not_i_i) { p_v_spec_select2098_i_i = 0u; p_v_spec_select_i_i = (P)0; p_v_r8_sroa_5_sroa_0_0_i_ph_i_i = 0u; goto L_der_core_decode_AnyDecodeRefSliceU8_from_der_0a39d__2; } else { goto L_join_4_i591_i_i; }
+    if (v_r27_i590_not_i_i) { p_v_spec_select2096_i_i = 0u; p_v_spec_select_i_i = (P)0; p_v_r8_sroa_5_sroa_0_0_i_ph_i_i = 0u; goto L_der_core_decode_AnyDecodeRefSliceU8_from_der_0a39d__2; } else { goto L_join_4_i591_i_i; }
 L_join_4_i591_i_i:;
     v_r48_i592_i_i = get_u8(v_r0_i512_sroa_12_0_i_i);
     v_r54_i_i_i = v_r48_i592_i_i != 160u;
     v_r53_i_i664_i_i = v_r0_i512_sroa_13_0_i_i == 1u;
-    v_or_cond2171_i_i = (u1)(((u32)(v_r53_i_i664_i_i) | (u32)(v_r54_i_i_i)) & 1);
-    if (v_or_cond2171_i_i) { goto L_der_core_decode_AnyDecodeRefSliceU8_from_der_0a39d; } else { goto L_then_6_i_i681_i_i; }
+    v_or_cond2169_i_i = (u1)(((u32)(v_r53_i_i664_i_i) | (u32)(v_r54_i_i_i)) & 1);
+    if (v_or_cond2169_i_i) { goto L_der_core_decode_AnyDecodeRefSliceU8_from_der_0a39d; } else { goto L_then_6_i_i681_i_i; }
 L_then_6_i_i681_i_i:;
     v_r62_i_i666_i_i = v_r0_i512_sroa_12_0_i_i + 2;
     v_r65_i_i667_i_i = (u64)((u64)(v_r0_i512_sroa_13_0_i_i) + (u64)(18446744073709551614ull));
@@ -37301,12 +38335,12 @@ L_pkcs8_core_attributes_AttributesDecodeValueRefSlic:;
     v_r0_i663_sroa_11_0_i_i = p_v_r0_i663_sroa_11_0_i_i;
     v_r0_i663_sroa_13_0_i_i = p_v_r0_i663_sroa_13_0_i_i;
     v_r7_i976_i_i = v_r0_i663_sroa_13_0_i_i == 0u;
-    if (v_r7_i976_i_i) { p_v_spec_select2098_i_i = v_r0_i663_sroa_11_0_i_i; p_v_spec_select_i_i = v_r0_i663_sroa_7_0_i_i; p_v_r8_sroa_5_sroa_0_0_i_ph_i_i = 1u; goto L_der_core_decode_AnyDecodeRefSliceU8_from_der_0a39d__2; } else { goto L_der_core_decode_AnyDecodeRefSliceU8_from_der_0a39d; }
+    if (v_r7_i976_i_i) { p_v_spec_select2096_i_i = v_r0_i663_sroa_11_0_i_i; p_v_spec_select_i_i = v_r0_i663_sroa_7_0_i_i; p_v_r8_sroa_5_sroa_0_0_i_ph_i_i = 1u; goto L_der_core_decode_AnyDecodeRefSliceU8_from_der_0a39d__2; } else { goto L_der_core_decode_AnyDecodeRefSliceU8_from_der_0a39d; }
 L_der_core_decode_AnyDecodeRefSliceU8_from_der_0a39d__2:;
-    v_spec_select2098_i_i = p_v_spec_select2098_i_i;
+    v_spec_select2096_i_i = p_v_spec_select2096_i_i;
     v_spec_select_i_i = p_v_spec_select_i_i;
     v_r8_sroa_5_sroa_0_0_i_ph_i_i = p_v_r8_sroa_5_sroa_0_0_i_ph_i_i;
-    { p_v_r7_i_sroa_11_sroa_9_i_sroa_6_0_i = v_spec_select_i_i; p_v_r7_i_sroa_11_sroa_9_i_sroa_7_0_i = v_spec_select2098_i_i; p_v_r0_i1_sroa_15_sroa_0_sroa_3_02156_i_i = v_r32_i_i262_i_i; p_v_r0_i1_sroa_15_sroa_0_sroa_6_02155_i_i = v_r65_i_i281_i_i; p_v_r0_i1_sroa_15_sroa_9_02154_i_i = v_r8_sroa_5_sroa_0_0_i_ph_i_i; p_v_r0_i1_sroa_15_sroa_6_02153_i_i = v_r9_i210_sroa_7_sroa_0_0_ph_i_i; p_v_r0_i1_sroa_15_sroa_8_sroa_6_02150_i_i = v_r0_i512_sroa_11_0_i_i; p_v_r0_i1_sroa_15_sroa_8_sroa_0_02147_i_i = v_r0_i512_sroa_7_0_i_i; p_v_r0_i1_sroa_15_sroa_7_sroa_8_02146_i_i = v_r9_i210_sroa_11_sroa_10_0_ph_i_i; p_v_r0_i1_sroa_15_sroa_7_sroa_6_02144_i_i = v_r9_i210_sroa_11_sroa_0_0_ph_i_i; goto L_arm_1_i_i; }
+    { p_v_r7_i_sroa_11_sroa_9_i_sroa_6_0_i = v_spec_select_i_i; p_v_r7_i_sroa_11_sroa_9_i_sroa_7_0_i = v_spec_select2096_i_i; p_v_r0_i1_sroa_15_sroa_0_sroa_3_02154_i_i = v_r32_i_i262_i_i; p_v_r0_i1_sroa_15_sroa_0_sroa_6_02153_i_i = v_r65_i_i281_i_i; p_v_r0_i1_sroa_15_sroa_9_02152_i_i = v_r8_sroa_5_sroa_0_0_i_ph_i_i; p_v_r0_i1_sroa_15_sroa_6_02151_i_i = v_r9_i210_sroa_7_sroa_0_0_ph_i_i; p_v_r0_i1_sroa_15_sroa_8_sroa_6_02148_i_i = v_r0_i512_sroa_11_0_i_i; p_v_r0_i1_sroa_15_sroa_8_sroa_0_02145_i_i = v_r0_i512_sroa_7_0_i_i; p_v_r0_i1_sroa_15_sroa_7_sroa_8_02144_i_i = v_r9_i210_sroa_11_sroa_10_0_ph_i_i; p_v_r0_i1_sroa_15_sroa_7_sroa_6_02142_i_i = v_r9_i210_sroa_11_sroa_0_0_ph_i_i; goto L_arm_1_i_i; }
 L_der_core_decode_AnyDecodeRefSliceU8_from_der_0a39d:;
     f_der_core_decode_read_slowly_194644c39831efa5(v_r0_i6_i_i, v_r4, v_a1);
     v_4 = get_u8(v_r0_i6_i_i);
@@ -37333,129 +38367,129 @@ L_der_core_decode_AnyDecodeRefSliceU8_from_der_0a39d:;
     v_r0_i1_sroa_15_sroa_10_i_sroa_10_0_r0_i1_sroa_15_sr = v_r0_i6_i_i + 88;
     v_r0_i1_sroa_15_sroa_10_i_sroa_10_0_copyload_i = get_u64(v_r0_i1_sroa_15_sroa_10_i_sroa_10_0_r0_i1_sroa_15_sr);
     v_6 = v_4 == 0u;
-    if (v_6) { p_v_r7_i_sroa_11_sroa_9_i_sroa_6_0_i = v_r0_i1_sroa_15_sroa_10_i_sroa_8_0_copyload_i; p_v_r7_i_sroa_11_sroa_9_i_sroa_7_0_i = v_r0_i1_sroa_15_sroa_10_i_sroa_10_0_copyload_i; p_v_r0_i1_sroa_15_sroa_0_sroa_3_02156_i_i = v_r0_i1_sroa_15_sroa_0_sroa_3_4_copyload_i_i; p_v_r0_i1_sroa_15_sroa_0_sroa_6_02155_i_i = v_r0_i1_sroa_15_sroa_0_sroa_6_4_copyload_i_i; p_v_r0_i1_sroa_15_sroa_9_02154_i_i = v_r0_i1_sroa_15_sroa_9_4_copyload_i_i; p_v_r0_i1_sroa_15_sroa_6_02153_i_i = v_r0_i1_sroa_15_sroa_6_4_copyload_i_i; p_v_r0_i1_sroa_15_sroa_8_sroa_6_02150_i_i = v_r0_i1_sroa_15_sroa_8_sroa_6_0_copyload_i_i; p_v_r0_i1_sroa_15_sroa_8_sroa_0_02147_i_i = v_r0_i1_sroa_15_sroa_8_sroa_0_0_copyload_i_i; p_v_r0_i1_sroa_15_sroa_7_sroa_8_02146_i_i = v_r0_i1_sroa_15_sroa_7_sroa_8_0_copyload_i_i; p_v_r0_i1_sroa_15_sroa_7_sroa_6_02144_i_i = v_r0_i1_sroa_15_sroa_7_sroa_6_0_copyload_i_i; goto L_arm_1_i_i; } else { p_v_r6_sroa_8_0_ph_i = v_5; goto L_pkcs1_c_status_status_exit_i; }
+    if (v_6) { p_v_r7_i_sroa_11_sroa_9_i_sroa_6_0_i = v_r0_i1_sroa_15_sroa_10_i_sroa_8_0_copyload_i; p_v_r7_i_sroa_11_sroa_9_i_sroa_7_0_i = v_r0_i1_sroa_15_sroa_10_i_sroa_10_0_copyload_i; p_v_r0_i1_sroa_15_sroa_0_sroa_3_02154_i_i = v_r0_i1_sroa_15_sroa_0_sroa_3_4_copyload_i_i; p_v_r0_i1_sroa_15_sroa_0_sroa_6_02153_i_i = v_r0_i1_sroa_15_sroa_0_sroa_6_4_copyload_i_i; p_v_r0_i1_sroa_15_sroa_9_02152_i_i = v_r0_i1_sroa_15_sroa_9_4_copyload_i_i; p_v_r0_i1_sroa_15_sroa_6_02151_i_i = v_r0_i1_sroa_15_sroa_6_4_copyload_i_i; p_v_r0_i1_sroa_15_sroa_8_sroa_6_02148_i_i = v_r0_i1_sroa_15_sroa_8_sroa_6_0_copyload_i_i; p_v_r0_i1_sroa_15_sroa_8_sroa_0_02145_i_i = v_r0_i1_sroa_15_sroa_8_sroa_0_0_copyload_i_i; p_v_r0_i1_sroa_15_sroa_7_sroa_8_02144_i_i = v_r0_i1_sroa_15_sroa_7_sroa_8_0_copyload_i_i; p_v_r0_i1_sroa_15_sroa_7_sroa_6_02142_i_i = v_r0_i1_sroa_15_sroa_7_sroa_6_0_copyload_i_i; goto L_arm_1_i_i; } else { p_v_r6_sroa_8_0_ph_i = v_5; goto L_pkcs1_c_status_status_exit_i; }
 L_arm_1_i_i:;
     v_r7_i_sroa_11_sroa_9_i_sroa_6_0_i = p_v_r7_i_sroa_11_sroa_9_i_sroa_6_0_i;
     v_r7_i_sroa_11_sroa_9_i_sroa_7_0_i = p_v_r7_i_sroa_11_sroa_9_i_sroa_7_0_i;
-    v_r0_i1_sroa_15_sroa_0_sroa_3_02156_i_i = p_v_r0_i1_sroa_15_sroa_0_sroa_3_02156_i_i;
-    v_r0_i1_sroa_15_sroa_0_sroa_6_02155_i_i = p_v_r0_i1_sroa_15_sroa_0_sroa_6_02155_i_i;
-    v_r0_i1_sroa_15_sroa_9_02154_i_i = p_v_r0_i1_sroa_15_sroa_9_02154_i_i;
-    v_r0_i1_sroa_15_sroa_6_02153_i_i = p_v_r0_i1_sroa_15_sroa_6_02153_i_i;
-    v_r0_i1_sroa_15_sroa_8_sroa_6_02150_i_i = p_v_r0_i1_sroa_15_sroa_8_sroa_6_02150_i_i;
-    v_r0_i1_sroa_15_sroa_8_sroa_0_02147_i_i = p_v_r0_i1_sroa_15_sroa_8_sroa_0_02147_i_i;
-    v_r0_i1_sroa_15_sroa_7_sroa_8_02146_i_i = p_v_r0_i1_sroa_15_sroa_7_sroa_8_02146_i_i;
-    v_r0_i1_sroa_15_sroa_7_sroa_6_02144_i_i = p_v_r0_i1_sroa_15_sroa_7_sroa_6_02144_i_i;
-    v_r31_i1307_i_i_i = v_r0_i1_sroa_15_sroa_0_sroa_6_02155_i_i < 4u;
-    if (v_r31_i1307_i_i_i) { p_v_r6_sroa_8_0_ph_i = 6u; goto L_pkcs1_c_status_status_exit_i; } else { goto L_join_5_i1308_i_i_i; }
-L_join_5_i1308_i_i_i:;
-    v_r38_i1309_i_i_i = get_u8(v_r0_i1_sroa_15_sroa_0_sroa_3_02156_i_i);
-    v_cond_i1310_i_i_i = v_r38_i1309_i_i_i == 42u;
-    if (v_cond_i1310_i_i_i) { goto L_arm_6_i1311_i_i_i; } else { p_v_r6_sroa_8_0_ph_i = 6u; goto L_pkcs1_c_status_status_exit_i; }
-L_arm_6_i1311_i_i_i:;
-    v_r41_i1312_i_i_i = v_r0_i1_sroa_15_sroa_0_sroa_3_02156_i_i + 1;
-    v_r43_i1313_i_i_i = get_u8(v_r41_i1312_i_i_i);
-    v_cond1_i_i_i_i = v_r43_i1313_i_i_i == 134u;
+    v_r0_i1_sroa_15_sroa_0_sroa_3_02154_i_i = p_v_r0_i1_sroa_15_sroa_0_sroa_3_02154_i_i;
+    v_r0_i1_sroa_15_sroa_0_sroa_6_02153_i_i = p_v_r0_i1_sroa_15_sroa_0_sroa_6_02153_i_i;
+    v_r0_i1_sroa_15_sroa_9_02152_i_i = p_v_r0_i1_sroa_15_sroa_9_02152_i_i;
+    v_r0_i1_sroa_15_sroa_6_02151_i_i = p_v_r0_i1_sroa_15_sroa_6_02151_i_i;
+    v_r0_i1_sroa_15_sroa_8_sroa_6_02148_i_i = p_v_r0_i1_sroa_15_sroa_8_sroa_6_02148_i_i;
+    v_r0_i1_sroa_15_sroa_8_sroa_0_02145_i_i = p_v_r0_i1_sroa_15_sroa_8_sroa_0_02145_i_i;
+    v_r0_i1_sroa_15_sroa_7_sroa_8_02144_i_i = p_v_r0_i1_sroa_15_sroa_7_sroa_8_02144_i_i;
+    v_r0_i1_sroa_15_sroa_7_sroa_6_02142_i_i = p_v_r0_i1_sroa_15_sroa_7_sroa_6_02142_i_i;
+    v_r31_i1305_i_i_i = v_r0_i1_sroa_15_sroa_0_sroa_6_02153_i_i < 4u;
+    if (v_r31_i1305_i_i_i) { p_v_r6_sroa_8_0_ph_i = 6u; goto L_pkcs1_c_status_status_exit_i; } else { goto L_join_5_i1306_i_i_i; }
+L_join_5_i1306_i_i_i:;
+    v_r38_i1307_i_i_i = get_u8(v_r0_i1_sroa_15_sroa_0_sroa_3_02154_i_i);
+    v_cond_i1308_i_i_i = v_r38_i1307_i_i_i == 42u;
+    if (v_cond_i1308_i_i_i) { goto L_arm_6_i1309_i_i_i; } else { p_v_r6_sroa_8_0_ph_i = 6u; goto L_pkcs1_c_status_status_exit_i; }
+L_arm_6_i1309_i_i_i:;
+    v_r41_i1310_i_i_i = v_r0_i1_sroa_15_sroa_0_sroa_3_02154_i_i + 1;
+    v_r43_i1311_i_i_i = get_u8(v_r41_i1310_i_i_i);
+    v_cond1_i_i_i_i = v_r43_i1311_i_i_i == 134u;
     if (v_cond1_i_i_i_i) { goto L_arm_9_i_i_i_i; } else { p_v_r6_sroa_8_0_ph_i = 6u; goto L_pkcs1_c_status_status_exit_i; }
 L_arm_9_i_i_i_i:;
-    v_r46_i1314_i_i_i = v_r0_i1_sroa_15_sroa_0_sroa_3_02156_i_i + 2;
-    v_r48_i1315_i_i_i = get_u8(v_r46_i1314_i_i_i);
-    v_cond2_i_i_i_i = v_r48_i1315_i_i_i == 72u;
+    v_r46_i1312_i_i_i = v_r0_i1_sroa_15_sroa_0_sroa_3_02154_i_i + 2;
+    v_r48_i1313_i_i_i = get_u8(v_r46_i1312_i_i_i);
+    v_cond2_i_i_i_i = v_r48_i1313_i_i_i == 72u;
     if (v_cond2_i_i_i_i) { goto L_arm_12_i_i_i_i; } else { p_v_r6_sroa_8_0_ph_i = 6u; goto L_pkcs1_c_status_status_exit_i; }
 L_arm_12_i_i_i_i:;
-    v_r51_i1316_i_i_i = v_r0_i1_sroa_15_sroa_0_sroa_3_02156_i_i + 3;
-    v_r53_i1317_i_i_i = get_u8(v_r51_i1316_i_i_i);
-    v_cond3_i_i_i_i = v_r53_i1317_i_i_i == 134u;
-    v_r72_i_i_i_i = v_r0_i1_sroa_15_sroa_0_sroa_6_02155_i_i == 9u;
-    v_or_cond_i1037_i_i = (u1)(((u32)(v_r72_i_i_i_i) & (u32)(v_cond3_i_i_i_i)) & 1);
+    v_r51_i1314_i_i_i = v_r0_i1_sroa_15_sroa_0_sroa_3_02154_i_i + 3;
+    v_r53_i1315_i_i_i = get_u8(v_r51_i1314_i_i_i);
+    v_cond3_i_i_i_i = v_r53_i1315_i_i_i == 134u;
+    v_r72_i1319_i_i_i = v_r0_i1_sroa_15_sroa_0_sroa_6_02153_i_i == 9u;
+    v_or_cond_i1037_i_i = (u1)(((u32)(v_r72_i1319_i_i_i) & (u32)(v_cond3_i_i_i_i)) & 1);
     if (v_or_cond_i1037_i_i) { goto L_then_23_i_i_i_i; } else { p_v_r6_sroa_8_0_ph_i = 6u; goto L_pkcs1_c_status_status_exit_i; }
 L_then_23_i_i_i_i:;
-    v_r56_i1319_i_i_i = v_r0_i1_sroa_15_sroa_0_sroa_3_02156_i_i + 4;
-    v_r79_i_i_i_i = get_u8(v_r56_i1319_i_i_i);
+    v_r56_i1317_i_i_i = v_r0_i1_sroa_15_sroa_0_sroa_3_02154_i_i + 4;
+    v_r79_i_i_i_i = get_u8(v_r56_i1317_i_i_i);
     v_cond4_i_i_i_i = v_r79_i_i_i_i == 247u;
     if (v_cond4_i_i_i_i) { goto L_arm_26_i_i_i_i; } else { p_v_r6_sroa_8_0_ph_i = 6u; goto L_pkcs1_c_status_status_exit_i; }
 L_arm_26_i_i_i_i:;
-    v_r82_i1322_i_i_i = v_r0_i1_sroa_15_sroa_0_sroa_3_02156_i_i + 5;
-    v_r84_i1323_i_i_i = get_u8(v_r82_i1322_i_i_i);
-    v_cond5_i_i_i_i = v_r84_i1323_i_i_i == 13u;
+    v_r82_i_i_i_i = v_r0_i1_sroa_15_sroa_0_sroa_3_02154_i_i + 5;
+    v_r84_i_i_i_i = get_u8(v_r82_i_i_i_i);
+    v_cond5_i_i_i_i = v_r84_i_i_i_i == 13u;
     if (v_cond5_i_i_i_i) { goto L_arm_29_i_i_i_i; } else { p_v_r6_sroa_8_0_ph_i = 6u; goto L_pkcs1_c_status_status_exit_i; }
 L_arm_29_i_i_i_i:;
-    v_r87_i_i_i_i = v_r0_i1_sroa_15_sroa_0_sroa_3_02156_i_i + 6;
+    v_r87_i_i_i_i = v_r0_i1_sroa_15_sroa_0_sroa_3_02154_i_i + 6;
     v_r89_i_i_i_i = get_u8(v_r87_i_i_i_i);
     v_cond6_i_i_i_i = v_r89_i_i_i_i == 1u;
     if (v_cond6_i_i_i_i) { goto L_arm_32_i_i_i_i; } else { p_v_r6_sroa_8_0_ph_i = 6u; goto L_pkcs1_c_status_status_exit_i; }
 L_arm_32_i_i_i_i:;
-    v_r92_i_i1038_i_i = v_r0_i1_sroa_15_sroa_0_sroa_3_02156_i_i + 7;
+    v_r92_i_i1038_i_i = v_r0_i1_sroa_15_sroa_0_sroa_3_02154_i_i + 7;
     v_r94_i_i_i_i = get_u8(v_r92_i_i1038_i_i);
     v_cond7_i_i_i_i = v_r94_i_i_i_i == 1u;
     if (v_cond7_i_i_i_i) { goto L_arm_35_i_i_i_i; } else { p_v_r6_sroa_8_0_ph_i = 6u; goto L_pkcs1_c_status_status_exit_i; }
 L_arm_35_i_i_i_i:;
-    v_r97_i_i1039_i_i = v_r0_i1_sroa_15_sroa_0_sroa_3_02156_i_i + 8;
-    v_r99_i_i1040_i_i = get_u8(v_r97_i_i1039_i_i);
-    v_cond8_i_i_i_i = v_r99_i_i1040_i_i == 1u;
-    if (v_cond8_i_i_i_i) { goto L_join_3_i1292_i_i_i; } else { p_v_r6_sroa_8_0_ph_i = 6u; goto L_pkcs1_c_status_status_exit_i; }
-L_join_3_i1292_i_i_i:;
-    v_7 = v_r0_i1_sroa_15_sroa_6_02153_i_i == 1u;
+    v_r97_i1321_i_i_i = v_r0_i1_sroa_15_sroa_0_sroa_3_02154_i_i + 8;
+    v_r99_i1322_i_i_i = get_u8(v_r97_i1321_i_i_i);
+    v_cond8_i_i_i_i = v_r99_i1322_i_i_i == 1u;
+    if (v_cond8_i_i_i_i) { goto L_join_3_i1293_i_i_i; } else { p_v_r6_sroa_8_0_ph_i = 6u; goto L_pkcs1_c_status_status_exit_i; }
+L_join_3_i1293_i_i_i:;
+    v_7 = v_r0_i1_sroa_15_sroa_6_02151_i_i == 1u;
     if (v_7) { goto L_arm_4_i_i_i_i; } else { p_v_r6_sroa_8_0_ph_i = 9u; goto L_pkcs1_c_status_status_exit_i; }
 L_arm_4_i_i_i_i:;
-    v_8 = (u64)((u64)(v_r0_i1_sroa_15_sroa_7_sroa_6_02144_i_i) & (u64)(255u));
-    v_r7_i_i1338_i_i_i = v_8 == 5u;
-    v_r7_i1339_i_i_i = v_r0_i1_sroa_15_sroa_7_sroa_8_02146_i_i == 0u;
-    v_or_cond_i = v_r7_i_i1338_i_i_i ? v_r7_i1339_i_i_i : 0u;
-    if (v_or_cond_i) { goto L_arm_1_i1041_i_i; } else { p_v_r6_sroa_8_0_ph_i = 13u; goto L_pkcs1_c_status_status_exit_i; }
-L_arm_1_i1041_i_i:;
+    v_8 = (u64)((u64)(v_r0_i1_sroa_15_sroa_7_sroa_6_02142_i_i) & (u64)(255u));
+    v_r7_i_i1336_i_i_i = v_8 == 5u;
+    v_r7_i1337_i_i_i = v_r0_i1_sroa_15_sroa_7_sroa_8_02144_i_i == 0u;
+    v_or_cond_i = v_r7_i_i1336_i_i_i ? v_r7_i1337_i_i_i : 0u;
+    if (v_or_cond_i) { goto L_arm_1_i1039_i_i; } else { p_v_r6_sroa_8_0_ph_i = 13u; goto L_pkcs1_c_status_status_exit_i; }
+L_arm_1_i1039_i_i:;
     fill(v_r0_i1_i_i_i, 0u, 168u);
     fill(v_r14_i_sroa_5_sroa_6_i_i_i, 0u, 24u);
-    v_9 = (u64)((u64)(v_r0_i1_sroa_15_sroa_8_sroa_6_02150_i_i) + (u64)(18446744069414584320ull));
-    v_or_cond2704_i_i_i = v_9 < 18446744069414584322ull;
-    if (v_or_cond2704_i_i_i) { goto L_der_core_decode_AnyDecodeRefSliceU8_from_der_f0286; } else { goto L_join_5_i_i_i_i_i; }
+    v_9 = (u64)((u64)(v_r0_i1_sroa_15_sroa_8_sroa_6_02148_i_i) + (u64)(18446744069414584320ull));
+    v_or_cond2702_i_i_i = v_9 < 18446744069414584322ull;
+    if (v_or_cond2702_i_i_i) { goto L_der_core_decode_AnyDecodeRefSliceU8_from_der_f0286; } else { goto L_join_5_i_i_i_i_i; }
 L_join_5_i_i_i_i_i:;
-    v_r62_i_i_i_i_i = v_r0_i1_sroa_15_sroa_8_sroa_0_02147_i_i + 2;
-    v_r65_i_i_i_i_i = (u64)((u64)(v_r0_i1_sroa_15_sroa_8_sroa_6_02150_i_i) + (u64)(18446744073709551614ull));
-    v_r73_i_i_i_i_i = get_u8(v_r0_i1_sroa_15_sroa_8_sroa_0_02147_i_i);
+    v_r62_i_i_i_i_i = v_r0_i1_sroa_15_sroa_8_sroa_0_02145_i_i + 2;
+    v_r65_i_i_i_i_i = (u64)((u64)(v_r0_i1_sroa_15_sroa_8_sroa_6_02148_i_i) + (u64)(18446744073709551614ull));
+    v_r73_i_i_i_i_i = get_u8(v_r0_i1_sroa_15_sroa_8_sroa_0_02145_i_i);
     v_r78_i_i_i_i_i = v_r73_i_i_i_i_i == 48u;
     if (v_r78_i_i_i_i_i) { goto L_then_6_i_i_i_i_i; } else { goto L_der_core_decode_AnyDecodeRefSliceU8_from_der_f0286; }
 L_then_6_i_i_i_i_i:;
-    v_r60_i_i_i_i_i = v_r0_i1_sroa_15_sroa_8_sroa_0_02147_i_i + 1;
+    v_r60_i_i_i_i_i = v_r0_i1_sroa_15_sroa_8_sroa_0_02145_i_i + 1;
     v_r83_i_i_i_i_i = get_u8(v_r60_i_i_i_i_i);
     v_r85_i_i_i_i_i = (u8)(v_r83_i_i_i_i_i ^ ((u8)1 << 7)) > (u8)(255u ^ ((u8)1 << 7));
     if (v_r85_i_i_i_i_i) { goto L_then_9_i_i_i_i_i; } else { goto L_join_11_i_i_i_i_i; }
 L_then_9_i_i_i_i_i:;
     v_r92_i_i_i_i_i = (u64)v_r83_i_i_i_i_i;
-    v_r15_i1359_i_i_i = v_r65_i_i_i_i_i < v_r92_i_i_i_i_i;
-    if (v_r15_i1359_i_i_i) { goto L_der_core_decode_AnyDecodeRefSliceU8_from_der_f0286; } else { goto L_join_3_i1360_i_i_i; }
-L_join_3_i1360_i_i_i:;
-    v_r32_i1362_i_i_i = (u64)((u64)(v_r65_i_i_i_i_i) - (u64)(v_r92_i_i_i_i_i));
-    { p_v_r0_i9_sroa_7_0_i_i_i = v_r62_i_i_i_i_i; p_v_r0_i9_sroa_11_0_i_i_i = v_r92_i_i_i_i_i; p_v_r0_i9_sroa_13_0_i_i_i = v_r32_i1362_i_i_i; goto L_pkcs1_viewed_key_ViewedKeyDecodeValueRefSliceU8NoM; }
+    v_r15_i1357_i_i_i = v_r65_i_i_i_i_i < v_r92_i_i_i_i_i;
+    if (v_r15_i1357_i_i_i) { goto L_der_core_decode_AnyDecodeRefSliceU8_from_der_f0286; } else { goto L_join_3_i1358_i_i_i; }
+L_join_3_i1358_i_i_i:;
+    v_r32_i1360_i_i_i = (u64)((u64)(v_r65_i_i_i_i_i) - (u64)(v_r92_i_i_i_i_i));
+    { p_v_r0_i9_sroa_7_0_i_i_i = v_r62_i_i_i_i_i; p_v_r0_i9_sroa_11_0_i_i_i = v_r92_i_i_i_i_i; p_v_r0_i9_sroa_13_0_i_i_i = v_r32_i1360_i_i_i; goto L_pkcs1_viewed_key_ViewedKeyDecodeValueRefSliceU8NoM; }
 L_join_11_i_i_i_i_i:;
     v_r104_i_i_i_i_i = v_r83_i_i_i_i_i == 130u;
     if (v_r104_i_i_i_i_i) { goto L_then_12_i_i_i_i_i; } else { goto L_join_14_i_i_i_i_i; }
 L_then_12_i_i_i_i_i:;
-    v_r110_i_i_i_i_i = v_r0_i1_sroa_15_sroa_8_sroa_6_02150_i_i < 4u;
+    v_r110_i_i_i_i_i = v_r0_i1_sroa_15_sroa_8_sroa_6_02148_i_i < 4u;
     if (v_r110_i_i_i_i_i) { goto L_der_core_decode_AnyDecodeRefSliceU8_from_der_f0286; } else { goto L_join_19_i_i_i_i_i; }
 L_join_19_i_i_i_i_i:;
     v_r130_i_i_i_i_i = get_u8(v_r62_i_i_i_i_i);
     v_r132_not_i_i_i_i_i = v_r130_i_i_i_i_i == 0u;
     if (v_r132_not_i_i_i_i_i) { goto L_der_core_decode_AnyDecodeRefSliceU8_from_der_f0286; } else { goto L_then_20_i_i_i_i_i; }
 L_then_20_i_i_i_i_i:;
-    v_r122_i_i_i_i_i = (u64)((u64)(v_r0_i1_sroa_15_sroa_8_sroa_6_02150_i_i) + (u64)(18446744073709551612ull));
-    v_r117_i_i_i_i_i = v_r0_i1_sroa_15_sroa_8_sroa_0_02147_i_i + 3;
+    v_r122_i_i_i_i_i = (u64)((u64)(v_r0_i1_sroa_15_sroa_8_sroa_6_02148_i_i) + (u64)(18446744073709551612ull));
+    v_r117_i_i_i_i_i = v_r0_i1_sroa_15_sroa_8_sroa_0_02145_i_i + 3;
     v_r139_i_i_i_i_i = (u64)v_r130_i_i_i_i_i;
     v_r141_i_i_i_i_i = (u64)((u64)(v_r139_i_i_i_i_i) << (u64)((8u & 63)));
     v_r143_i_i_i_i_i = get_u8(v_r117_i_i_i_i_i);
     v_r145_i_i_i_i_i = (u64)v_r143_i_i_i_i_i;
     v_r148_i_i_i_i_i = (u64)((u64)(v_r141_i_i_i_i_i) | (u64)(v_r145_i_i_i_i_i));
-    v_r15_i1363_i_i_i = v_r122_i_i_i_i_i < v_r148_i_i_i_i_i;
-    if (v_r15_i1363_i_i_i) { goto L_der_core_decode_AnyDecodeRefSliceU8_from_der_f0286; } else { goto L_join_3_i1364_i_i_i; }
-L_join_3_i1364_i_i_i:;
-    v_r119_i_i_i_i_i = v_r0_i1_sroa_15_sroa_8_sroa_0_02147_i_i + 4;
-    v_r32_i1366_i_i_i = (u64)((u64)(v_r122_i_i_i_i_i) - (u64)(v_r148_i_i_i_i_i));
-    { p_v_r0_i9_sroa_7_0_i_i_i = v_r119_i_i_i_i_i; p_v_r0_i9_sroa_11_0_i_i_i = v_r148_i_i_i_i_i; p_v_r0_i9_sroa_13_0_i_i_i = v_r32_i1366_i_i_i; goto L_pkcs1_viewed_key_ViewedKeyDecodeValueRefSliceU8NoM; }
+    v_r15_i1361_i_i_i = v_r122_i_i_i_i_i < v_r148_i_i_i_i_i;
+    if (v_r15_i1361_i_i_i) { goto L_der_core_decode_AnyDecodeRefSliceU8_from_der_f0286; } else { goto L_join_3_i1362_i_i_i; }
+L_join_3_i1362_i_i_i:;
+    v_r119_i_i_i_i_i = v_r0_i1_sroa_15_sroa_8_sroa_0_02145_i_i + 4;
+    v_r32_i1364_i_i_i = (u64)((u64)(v_r122_i_i_i_i_i) - (u64)(v_r148_i_i_i_i_i));
+    { p_v_r0_i9_sroa_7_0_i_i_i = v_r119_i_i_i_i_i; p_v_r0_i9_sroa_11_0_i_i_i = v_r148_i_i_i_i_i; p_v_r0_i9_sroa_13_0_i_i_i = v_r32_i1364_i_i_i; goto L_pkcs1_viewed_key_ViewedKeyDecodeValueRefSliceU8NoM; }
 L_join_14_i_i_i_i_i:;
     v_r163_i_i_i_i_i = v_r65_i_i_i_i_i == 0u;
     if (v_r163_i_i_i_i_i) { goto L_der_core_decode_AnyDecodeRefSliceU8_from_der_f0286; } else { goto L_join_27_i_i_i_i_i; }
 L_join_27_i_i_i_i_i:;
-    v_r170_i_i_i_i_i = v_r0_i1_sroa_15_sroa_8_sroa_0_02147_i_i + 3;
-    v_r173_i_i_i_i_i = (u64)((u64)(v_r0_i1_sroa_15_sroa_8_sroa_6_02150_i_i) + (u64)(18446744073709551613ull));
+    v_r170_i_i_i_i_i = v_r0_i1_sroa_15_sroa_8_sroa_0_02145_i_i + 3;
+    v_r173_i_i_i_i_i = (u64)((u64)(v_r0_i1_sroa_15_sroa_8_sroa_6_02148_i_i) + (u64)(18446744073709551613ull));
     v_r182_i_i_i_i_i = v_r83_i_i_i_i_i == 129u;
     if (v_r182_i_i_i_i_i) { goto L_then_28_i_i_i_i_i; } else { goto L_der_core_decode_AnyDecodeRefSliceU8_from_der_f0286; }
 L_then_28_i_i_i_i_i:;
@@ -37464,11 +38498,11 @@ L_then_28_i_i_i_i_i:;
     if (v_r189_i_i_i_i_i) { goto L_then_31_i_i_i_i_i; } else { goto L_der_core_decode_AnyDecodeRefSliceU8_from_der_f0286; }
 L_then_31_i_i_i_i_i:;
     v_r199_i_i_i_i_i = (u64)v_r187_i_i_i_i_i;
-    v_r15_i1373_i_i_i = v_r173_i_i_i_i_i < v_r199_i_i_i_i_i;
-    if (v_r15_i1373_i_i_i) { goto L_der_core_decode_AnyDecodeRefSliceU8_from_der_f0286; } else { goto L_join_3_i1374_i_i_i; }
-L_join_3_i1374_i_i_i:;
-    v_r32_i1376_i_i_i = (u64)((u64)(v_r173_i_i_i_i_i) - (u64)(v_r199_i_i_i_i_i));
-    { p_v_r0_i9_sroa_7_0_i_i_i = v_r170_i_i_i_i_i; p_v_r0_i9_sroa_11_0_i_i_i = v_r199_i_i_i_i_i; p_v_r0_i9_sroa_13_0_i_i_i = v_r32_i1376_i_i_i; goto L_pkcs1_viewed_key_ViewedKeyDecodeValueRefSliceU8NoM; }
+    v_r15_i1371_i_i_i = v_r173_i_i_i_i_i < v_r199_i_i_i_i_i;
+    if (v_r15_i1371_i_i_i) { goto L_der_core_decode_AnyDecodeRefSliceU8_from_der_f0286; } else { goto L_join_3_i1372_i_i_i; }
+L_join_3_i1372_i_i_i:;
+    v_r32_i1374_i_i_i = (u64)((u64)(v_r173_i_i_i_i_i) - (u64)(v_r199_i_i_i_i_i));
+    { p_v_r0_i9_sroa_7_0_i_i_i = v_r170_i_i_i_i_i; p_v_r0_i9_sroa_11_0_i_i_i = v_r199_i_i_i_i_i; p_v_r0_i9_sroa_13_0_i_i_i = v_r32_i1374_i_i_i; goto L_pkcs1_viewed_key_ViewedKeyDecodeValueRefSliceU8NoM; }
 L_pkcs1_viewed_key_ViewedKeyDecodeValueRefSliceU8NoM:;
     v_r0_i9_sroa_7_0_i_i_i = p_v_r0_i9_sroa_7_0_i_i_i;
     v_r0_i9_sroa_11_0_i_i_i = p_v_r0_i9_sroa_11_0_i_i_i;
@@ -37478,49 +38512,49 @@ L_pkcs1_viewed_key_ViewedKeyDecodeValueRefSliceU8NoM:;
 L_then_10_i_i_i_i:;
     fill(v_r10_i14_sroa_7_i_i_i, 0u, 24u);
     v_r23_i76_i_i_i = v_r0_i9_sroa_11_0_i_i_i < 2u;
-    if (v_r23_i76_i_i_i) { goto L_der_core_decode_AnyDecodeRefSliceU8_from_der_f0286__2; } else { goto L_join_5_i_i1052_i_i; }
-L_join_5_i_i1052_i_i:;
+    if (v_r23_i76_i_i_i) { goto L_der_core_decode_AnyDecodeRefSliceU8_from_der_f0286__2; } else { goto L_join_5_i_i1050_i_i; }
+L_join_5_i_i1050_i_i:;
     v_r32_i77_i_i_i = v_r0_i9_sroa_7_0_i_i_i + 2;
     v_r35_i78_i_i_i = (u64)((u64)(v_r0_i9_sroa_11_0_i_i_i) + (u64)(18446744073709551614ull));
-    v_r43_i_i1053_i_i = get_u8(v_r0_i9_sroa_7_0_i_i_i);
-    v_r48_i80_i_i_i = v_r43_i_i1053_i_i == 2u;
-    if (v_r48_i80_i_i_i) { goto L_then_6_i_i1054_i_i; } else { goto L_der_core_decode_AnyDecodeRefSliceU8_from_der_f0286__2; }
-L_then_6_i_i1054_i_i:;
+    v_r43_i_i1051_i_i = get_u8(v_r0_i9_sroa_7_0_i_i_i);
+    v_r48_i80_i_i_i = v_r43_i_i1051_i_i == 2u;
+    if (v_r48_i80_i_i_i) { goto L_then_6_i_i1052_i_i; } else { goto L_der_core_decode_AnyDecodeRefSliceU8_from_der_f0286__2; }
+L_then_6_i_i1052_i_i:;
     v_r30_i81_i_i_i = v_r0_i9_sroa_7_0_i_i_i + 1;
     v_r53_i82_i_i_i = get_u8(v_r30_i81_i_i_i);
-    v_r55_i_i1055_i_i = (u8)(v_r53_i82_i_i_i ^ ((u8)1 << 7)) > (u8)(255u ^ ((u8)1 << 7));
-    if (v_r55_i_i1055_i_i) { goto L_then_9_i_i1056_i_i; } else { goto L_der_core_decode_AnyDecodeRefSliceU8_from_der_f0286__2; }
-L_then_9_i_i1056_i_i:;
+    v_r55_i_i1053_i_i = (u8)(v_r53_i82_i_i_i ^ ((u8)1 << 7)) > (u8)(255u ^ ((u8)1 << 7));
+    if (v_r55_i_i1053_i_i) { goto L_then_9_i_i1054_i_i; } else { goto L_der_core_decode_AnyDecodeRefSliceU8_from_der_f0286__2; }
+L_then_9_i_i1054_i_i:;
     v_r65_i83_i_i_i = (u64)v_r53_i82_i_i_i;
-    v_r15_i1383_i_i_i = v_r35_i78_i_i_i < v_r65_i83_i_i_i;
-    if (v_r15_i1383_i_i_i) { goto L_der_core_decode_AnyDecodeRefSliceU8_from_der_f0286__2; } else { goto L_arm_1_i58_i_i_i; }
+    v_r15_i1381_i_i_i = v_r35_i78_i_i_i < v_r65_i83_i_i_i;
+    if (v_r15_i1381_i_i_i) { goto L_der_core_decode_AnyDecodeRefSliceU8_from_der_f0286__2; } else { goto L_arm_1_i58_i_i_i; }
 L_arm_1_i58_i_i_i:;
-    v_r29_i1385_i_i_i = (P)((u64)v_r32_i77_i_i_i + (u64)(v_r65_i83_i_i_i));
-    v_r32_i1386_i_i_i = (u64)((u64)(v_r35_i78_i_i_i) - (u64)(v_r65_i83_i_i_i));
+    v_r29_i1383_i_i_i = (P)((u64)v_r32_i77_i_i_i + (u64)(v_r65_i83_i_i_i));
+    v_r32_i1384_i_i_i = (u64)((u64)(v_r35_i78_i_i_i) - (u64)(v_r65_i83_i_i_i));
     switch (v_r53_i82_i_i_i) {
     case 0u: { goto L_der_core_decode_AnyDecodeRefSliceU8_from_der_f0286__2; }
     case 1u: { goto L_then_6_i97_i_i_i; }
-    default: { goto L_join_8_i_i1059_i_i; }
+    default: { goto L_join_8_i_i1057_i_i; }
     }
 L_then_6_i97_i_i_i:;
     v_r34_i98_i_i_i = get_u8(v_r32_i77_i_i_i);
     v_r36_i99_i_i_i = (u8)(v_r34_i98_i_i_i ^ ((u8)1 << 7)) > (u8)(255u ^ ((u8)1 << 7));
-    if (v_r36_i99_i_i_i) { p_v_r6_sroa_5_0_i_i1057_i_i = v_r34_i98_i_i_i; goto L_arm_1_i92_i_i_i; } else { goto L_der_core_decode_AnyDecodeRefSliceU8_from_der_f0286__2; }
-L_join_8_i_i1059_i_i:;
+    if (v_r36_i99_i_i_i) { p_v_r6_sroa_5_0_i_i1055_i_i = v_r34_i98_i_i_i; goto L_arm_1_i92_i_i_i; } else { goto L_der_core_decode_AnyDecodeRefSliceU8_from_der_f0286__2; }
+L_join_8_i_i1057_i_i:;
     v_r46_i101_i_i_i = v_r53_i82_i_i_i < 3u;
-    if (v_r46_i101_i_i_i) { goto L_then_12_i_i1060_i_i; } else { goto L_der_core_decode_AnyDecodeRefSliceU8_from_der_f0286__2; }
-L_then_12_i_i1060_i_i:;
+    if (v_r46_i101_i_i_i) { goto L_then_12_i_i1058_i_i; } else { goto L_der_core_decode_AnyDecodeRefSliceU8_from_der_f0286__2; }
+L_then_12_i_i1058_i_i:;
     v_r53_i102_i_i_i = get_u8(v_r32_i77_i_i_i);
-    v_cond_i_i1061_i_i = v_r53_i102_i_i_i == 0u;
-    if (v_cond_i_i1061_i_i) { goto L_arm_15_i_i1062_i_i; } else { goto L_der_core_decode_AnyDecodeRefSliceU8_from_der_f0286__2; }
-L_arm_15_i_i1062_i_i:;
-    v_r56_i_i1063_i_i = v_r0_i9_sroa_7_0_i_i_i + 3;
-    v_r59_i103_i_i_i = get_u8(v_r56_i_i1063_i_i);
+    v_cond_i_i1059_i_i = v_r53_i102_i_i_i == 0u;
+    if (v_cond_i_i1059_i_i) { goto L_arm_15_i_i1060_i_i; } else { goto L_der_core_decode_AnyDecodeRefSliceU8_from_der_f0286__2; }
+L_arm_15_i_i1060_i_i:;
+    v_r56_i_i1061_i_i = v_r0_i9_sroa_7_0_i_i_i + 3;
+    v_r59_i103_i_i_i = get_u8(v_r56_i_i1061_i_i);
     v_r61_i104_i_i_i = (u8)(v_r59_i103_i_i_i ^ ((u8)1 << 7)) < (u8)(0u ^ ((u8)1 << 7));
-    if (v_r61_i104_i_i_i) { p_v_r6_sroa_5_0_i_i1057_i_i = v_r59_i103_i_i_i; goto L_arm_1_i92_i_i_i; } else { goto L_der_core_decode_AnyDecodeRefSliceU8_from_der_f0286__2; }
+    if (v_r61_i104_i_i_i) { p_v_r6_sroa_5_0_i_i1055_i_i = v_r59_i103_i_i_i; goto L_arm_1_i92_i_i_i; } else { goto L_der_core_decode_AnyDecodeRefSliceU8_from_der_f0286__2; }
 L_arm_1_i92_i_i_i:;
-    v_r6_sroa_5_0_i_i1057_i_i = p_v_r6_sroa_5_0_i_i1057_i_i;
-    switch (v_r6_sroa_5_0_i_i1057_i_i) {
+    v_r6_sroa_5_0_i_i1055_i_i = p_v_r6_sroa_5_0_i_i1055_i_i;
+    switch (v_r6_sroa_5_0_i_i1055_i_i) {
     case 0u: { goto L_arm_5_i67_i_i_i; }
     case 1u: { p_v_r11_sroa_4_0_i66_i_i_i = 1u; goto L_arm_1_i38_i_i_i; }
     default: { goto L_der_core_decode_AnyDecodeRefSliceU8_from_der_f0286__2; }
@@ -37529,58 +38563,58 @@ L_arm_5_i67_i_i_i:;
     { p_v_r11_sroa_4_0_i66_i_i_i = 0u; goto L_arm_1_i38_i_i_i; }
 L_arm_1_i38_i_i_i:;
     v_r11_sroa_4_0_i66_i_i_i = p_v_r11_sroa_4_0_i66_i_i_i;
-    v_r53_i_i_i_i_i_i = v_r32_i1386_i_i_i < 2u;
+    v_r53_i_i_i_i_i_i = v_r32_i1384_i_i_i < 2u;
     if (v_r53_i_i_i_i_i_i) { goto L_der_core_decode_AnyDecodeRefSliceU8_from_der_f0286__2; } else { goto L_join_5_i_i_i_i_i_i; }
 L_join_5_i_i_i_i_i_i:;
-    v_r62_i_i_i_i_i_i = v_r29_i1385_i_i_i + 2;
-    v_r65_i_i_i_i_i_i = (u64)((u64)(v_r32_i1386_i_i_i) + (u64)(18446744073709551614ull));
-    v_r73_i_i_i_i_i_i = get_u8(v_r29_i1385_i_i_i);
+    v_r62_i_i_i_i_i_i = v_r29_i1383_i_i_i + 2;
+    v_r65_i_i_i_i_i_i = (u64)((u64)(v_r32_i1384_i_i_i) + (u64)(18446744073709551614ull));
+    v_r73_i_i_i_i_i_i = get_u8(v_r29_i1383_i_i_i);
     v_r78_i_i_i_i_i_i = v_r73_i_i_i_i_i_i == 2u;
     if (v_r78_i_i_i_i_i_i) { goto L_then_6_i_i_i_i_i_i; } else { goto L_der_core_decode_AnyDecodeRefSliceU8_from_der_f0286__2; }
 L_then_6_i_i_i_i_i_i:;
-    v_r60_i_i_i_i_i_i = v_r29_i1385_i_i_i + 1;
+    v_r60_i_i_i_i_i_i = v_r29_i1383_i_i_i + 1;
     v_r83_i_i_i_i_i_i = get_u8(v_r60_i_i_i_i_i_i);
     v_r85_i_i_i_i_i_i = (u8)(v_r83_i_i_i_i_i_i ^ ((u8)1 << 7)) > (u8)(255u ^ ((u8)1 << 7));
     if (v_r85_i_i_i_i_i_i) { goto L_then_9_i_i_i_i_i_i; } else { goto L_join_11_i_i_i_i_i_i; }
 L_then_9_i_i_i_i_i_i:;
     v_r92_i_i_i_i_i_i = (u64)v_r83_i_i_i_i_i_i;
-    v_r15_i1400_i_i_i = v_r65_i_i_i_i_i_i < v_r92_i_i_i_i_i_i;
-    v_r29_i1402_i_i_i = (P)((u64)v_r62_i_i_i_i_i_i + (u64)(v_r92_i_i_i_i_i_i));
-    v_r32_i1403_i_i_i = (u64)((u64)(v_r65_i_i_i_i_i_i) - (u64)(v_r92_i_i_i_i_i_i));
+    v_r15_i1398_i_i_i = v_r65_i_i_i_i_i_i < v_r92_i_i_i_i_i_i;
+    v_r29_i1400_i_i_i = (P)((u64)v_r62_i_i_i_i_i_i + (u64)(v_r92_i_i_i_i_i_i));
+    v_r32_i1401_i_i_i = (u64)((u64)(v_r65_i_i_i_i_i_i) - (u64)(v_r92_i_i_i_i_i_i));
     v_r27_i4_i_i_i_i = v_r83_i_i_i_i_i_i == 0u;
-    v_or_cond2099_i_i = (u1)(((u32)(v_r27_i4_i_i_i_i) | (u32)(v_r15_i1400_i_i_i)) & 1);
-    if (v_or_cond2099_i_i) { goto L_der_core_decode_AnyDecodeRefSliceU8_from_der_f0286__2; } else { p_v_r0_i_i105_sroa_13_0_i2014_i_i = v_r32_i1403_i_i_i; p_v_r0_i_i105_sroa_12_0_i2013_i_i = v_r29_i1402_i_i_i; p_v_r0_i_i105_sroa_11_0_i2012_i_i = v_r92_i_i_i_i_i_i; p_v_r0_i_i105_sroa_7_0_i2011_i_i = v_r62_i_i_i_i_i_i; goto L_join_5_i_i129_i_i_i; }
+    v_or_cond2097_i_i = (u1)(((u32)(v_r27_i4_i_i_i_i) | (u32)(v_r15_i1398_i_i_i)) & 1);
+    if (v_or_cond2097_i_i) { goto L_der_core_decode_AnyDecodeRefSliceU8_from_der_f0286__2; } else { p_v_r0_i_i105_sroa_13_0_i2012_i_i = v_r32_i1401_i_i_i; p_v_r0_i_i105_sroa_12_0_i2011_i_i = v_r29_i1400_i_i_i; p_v_r0_i_i105_sroa_11_0_i2010_i_i = v_r92_i_i_i_i_i_i; p_v_r0_i_i105_sroa_7_0_i2009_i_i = v_r62_i_i_i_i_i_i; goto L_join_5_i_i129_i_i_i; }
 L_join_11_i_i_i_i_i_i:;
     v_r104_i_i_i_i_i_i = v_r83_i_i_i_i_i_i == 130u;
     if (v_r104_i_i_i_i_i_i) { goto L_then_12_i_i_i_i_i_i; } else { goto L_join_14_i_i_i_i_i_i; }
 L_then_12_i_i_i_i_i_i:;
-    v_r110_i_i_i_i_i_i = v_r32_i1386_i_i_i < 4u;
+    v_r110_i_i_i_i_i_i = v_r32_i1384_i_i_i < 4u;
     if (v_r110_i_i_i_i_i_i) { goto L_der_core_decode_AnyDecodeRefSliceU8_from_der_f0286__2; } else { goto L_join_19_i_i_i_i_i_i; }
 L_join_19_i_i_i_i_i_i:;
     v_r130_i_i_i_i_i_i = get_u8(v_r62_i_i_i_i_i_i);
     v_r132_not_i_i_i_i_i_i = v_r130_i_i_i_i_i_i == 0u;
     if (v_r132_not_i_i_i_i_i_i) { goto L_der_core_decode_AnyDecodeRefSliceU8_from_der_f0286__2; } else { goto L_then_20_i_i_i_i_i_i; }
 L_then_20_i_i_i_i_i_i:;
-    v_r122_i_i_i_i_i_i = (u64)((u64)(v_r32_i1386_i_i_i) + (u64)(18446744073709551612ull));
-    v_r117_i_i_i_i_i_i = v_r29_i1385_i_i_i + 3;
+    v_r122_i_i_i_i_i_i = (u64)((u64)(v_r32_i1384_i_i_i) + (u64)(18446744073709551612ull));
+    v_r117_i_i_i_i_i_i = v_r29_i1383_i_i_i + 3;
     v_r139_i_i_i_i_i_i = (u64)v_r130_i_i_i_i_i_i;
     v_r141_i_i_i_i_i_i = (u64)((u64)(v_r139_i_i_i_i_i_i) << (u64)((8u & 63)));
     v_r143_i_i_i_i_i_i = get_u8(v_r117_i_i_i_i_i_i);
     v_r145_i_i_i_i_i_i = (u64)v_r143_i_i_i_i_i_i;
     v_r148_i_i_i_i_i_i = (u64)((u64)(v_r141_i_i_i_i_i_i) | (u64)(v_r145_i_i_i_i_i_i));
-    v_r15_i1410_i_i_i = v_r122_i_i_i_i_i_i < v_r148_i_i_i_i_i_i;
-    if (v_r15_i1410_i_i_i) { goto L_der_core_decode_AnyDecodeRefSliceU8_from_der_f0286__2; } else { goto L_join_3_i1411_i_i_i; }
-L_join_3_i1411_i_i_i:;
-    v_r119_i_i_i_i_i_i = v_r29_i1385_i_i_i + 4;
-    v_r29_i1412_i_i_i = (P)((u64)v_r119_i_i_i_i_i_i + (u64)(v_r148_i_i_i_i_i_i));
-    v_r32_i1413_i_i_i = (u64)((u64)(v_r122_i_i_i_i_i_i) - (u64)(v_r148_i_i_i_i_i_i));
-    { p_v_r0_i_i105_sroa_13_0_i2014_i_i = v_r32_i1413_i_i_i; p_v_r0_i_i105_sroa_12_0_i2013_i_i = v_r29_i1412_i_i_i; p_v_r0_i_i105_sroa_11_0_i2012_i_i = v_r148_i_i_i_i_i_i; p_v_r0_i_i105_sroa_7_0_i2011_i_i = v_r119_i_i_i_i_i_i; goto L_join_5_i_i129_i_i_i; }
+    v_r15_i1408_i_i_i = v_r122_i_i_i_i_i_i < v_r148_i_i_i_i_i_i;
+    if (v_r15_i1408_i_i_i) { goto L_der_core_decode_AnyDecodeRefSliceU8_from_der_f0286__2; } else { goto L_join_3_i1409_i_i_i; }
+L_join_3_i1409_i_i_i:;
+    v_r119_i_i_i_i_i_i = v_r29_i1383_i_i_i + 4;
+    v_r29_i1410_i_i_i = (P)((u64)v_r119_i_i_i_i_i_i + (u64)(v_r148_i_i_i_i_i_i));
+    v_r32_i1411_i_i_i = (u64)((u64)(v_r122_i_i_i_i_i_i) - (u64)(v_r148_i_i_i_i_i_i));
+    { p_v_r0_i_i105_sroa_13_0_i2012_i_i = v_r32_i1411_i_i_i; p_v_r0_i_i105_sroa_12_0_i2011_i_i = v_r29_i1410_i_i_i; p_v_r0_i_i105_sroa_11_0_i2010_i_i = v_r148_i_i_i_i_i_i; p_v_r0_i_i105_sroa_7_0_i2009_i_i = v_r119_i_i_i_i_i_i; goto L_join_5_i_i129_i_i_i; }
 L_join_14_i_i_i_i_i_i:;
     v_r163_i_i_i_i_i_i = v_r65_i_i_i_i_i_i == 0u;
     if (v_r163_i_i_i_i_i_i) { goto L_der_core_decode_AnyDecodeRefSliceU8_from_der_f0286__2; } else { goto L_join_27_i_i_i_i_i_i; }
 L_join_27_i_i_i_i_i_i:;
-    v_r170_i_i_i_i_i_i = v_r29_i1385_i_i_i + 3;
-    v_r173_i_i_i_i_i_i = (u64)((u64)(v_r32_i1386_i_i_i) + (u64)(18446744073709551613ull));
+    v_r170_i_i_i_i_i_i = v_r29_i1383_i_i_i + 3;
+    v_r173_i_i_i_i_i_i = (u64)((u64)(v_r32_i1384_i_i_i) + (u64)(18446744073709551613ull));
     v_r182_i_i_i_i_i_i = v_r83_i_i_i_i_i_i == 129u;
     if (v_r182_i_i_i_i_i_i) { goto L_then_28_i_i_i_i_i_i; } else { goto L_der_core_decode_AnyDecodeRefSliceU8_from_der_f0286__2; }
 L_then_28_i_i_i_i_i_i:;
@@ -37589,29 +38623,29 @@ L_then_28_i_i_i_i_i_i:;
     if (v_r189_i_i_i_i_i_i) { goto L_then_31_i_i_i_i_i_i; } else { goto L_der_core_decode_AnyDecodeRefSliceU8_from_der_f0286__2; }
 L_then_31_i_i_i_i_i_i:;
     v_r199_i_i_i_i_i_i = (u64)v_r187_i_i_i_i_i_i;
-    v_r15_i1420_i_i_i = v_r173_i_i_i_i_i_i < v_r199_i_i_i_i_i_i;
-    if (v_r15_i1420_i_i_i) { goto L_der_core_decode_AnyDecodeRefSliceU8_from_der_f0286__2; } else { goto L_join_3_i1421_i_i_i; }
-L_join_3_i1421_i_i_i:;
-    v_r29_i1422_i_i_i = (P)((u64)v_r170_i_i_i_i_i_i + (u64)(v_r199_i_i_i_i_i_i));
-    v_r32_i1423_i_i_i = (u64)((u64)(v_r173_i_i_i_i_i_i) - (u64)(v_r199_i_i_i_i_i_i));
-    { p_v_r0_i_i105_sroa_13_0_i2014_i_i = v_r32_i1423_i_i_i; p_v_r0_i_i105_sroa_12_0_i2013_i_i = v_r29_i1422_i_i_i; p_v_r0_i_i105_sroa_11_0_i2012_i_i = v_r199_i_i_i_i_i_i; p_v_r0_i_i105_sroa_7_0_i2011_i_i = v_r170_i_i_i_i_i_i; goto L_join_5_i_i129_i_i_i; }
+    v_r15_i1418_i_i_i = v_r173_i_i_i_i_i_i < v_r199_i_i_i_i_i_i;
+    if (v_r15_i1418_i_i_i) { goto L_der_core_decode_AnyDecodeRefSliceU8_from_der_f0286__2; } else { goto L_join_3_i1419_i_i_i; }
+L_join_3_i1419_i_i_i:;
+    v_r29_i1420_i_i_i = (P)((u64)v_r170_i_i_i_i_i_i + (u64)(v_r199_i_i_i_i_i_i));
+    v_r32_i1421_i_i_i = (u64)((u64)(v_r173_i_i_i_i_i_i) - (u64)(v_r199_i_i_i_i_i_i));
+    { p_v_r0_i_i105_sroa_13_0_i2012_i_i = v_r32_i1421_i_i_i; p_v_r0_i_i105_sroa_12_0_i2011_i_i = v_r29_i1420_i_i_i; p_v_r0_i_i105_sroa_11_0_i2010_i_i = v_r199_i_i_i_i_i_i; p_v_r0_i_i105_sroa_7_0_i2009_i_i = v_r170_i_i_i_i_i_i; goto L_join_5_i_i129_i_i_i; }
 L_join_5_i_i129_i_i_i:;
-    v_r0_i_i105_sroa_13_0_i2014_i_i = p_v_r0_i_i105_sroa_13_0_i2014_i_i;
-    v_r0_i_i105_sroa_12_0_i2013_i_i = p_v_r0_i_i105_sroa_12_0_i2013_i_i;
-    v_r0_i_i105_sroa_11_0_i2012_i_i = p_v_r0_i_i105_sroa_11_0_i2012_i_i;
-    v_r0_i_i105_sroa_7_0_i2011_i_i = p_v_r0_i_i105_sroa_7_0_i2011_i_i;
-    v_r34_i_i_i_i_i = get_u8(v_r0_i_i105_sroa_7_0_i2011_i_i);
+    v_r0_i_i105_sroa_13_0_i2012_i_i = p_v_r0_i_i105_sroa_13_0_i2012_i_i;
+    v_r0_i_i105_sroa_12_0_i2011_i_i = p_v_r0_i_i105_sroa_12_0_i2011_i_i;
+    v_r0_i_i105_sroa_11_0_i2010_i_i = p_v_r0_i_i105_sroa_11_0_i2010_i_i;
+    v_r0_i_i105_sroa_7_0_i2009_i_i = p_v_r0_i_i105_sroa_7_0_i2009_i_i;
+    v_r34_i_i_i_i_i = get_u8(v_r0_i_i105_sroa_7_0_i2009_i_i);
     v_cond_i_i_i_i_i = v_r34_i_i_i_i_i == 0u;
     if (v_cond_i_i_i_i_i) { goto L_arm_6_i_i_i_i_i; } else { goto L_default_7_i_i_i_i_i; }
 L_arm_6_i_i_i_i_i:;
-    v_r40_i5_i_i_i_i = (u64)((u64)(v_r0_i_i105_sroa_11_0_i2012_i_i) + (u64)(18446744073709551615ull));
+    v_r40_i5_i_i_i_i = (u64)((u64)(v_r0_i_i105_sroa_11_0_i2010_i_i) + (u64)(18446744073709551615ull));
     v_r47_i_i_i_i_i = v_r40_i5_i_i_i_i == 0u;
-    if (v_r47_i_i_i_i_i) { p_v_r11_sroa_4_i_i_sroa_0_0_ph_i_i_i = v_r0_i_i105_sroa_7_0_i2011_i_i; p_v_r11_sroa_4_i_i_sroa_5_0_ph_i_i_i = 1u; goto L_arm_1_i116_i_i_i; } else { goto L_der_core_integer_uint_UintRefDecodeValueRefSliceU8; }
+    if (v_r47_i_i_i_i_i) { p_v_r11_sroa_4_i_i_sroa_0_0_ph_i_i_i = v_r0_i_i105_sroa_7_0_i2009_i_i; p_v_r11_sroa_4_i_i_sroa_5_0_ph_i_i_i = 1u; goto L_arm_1_i116_i_i_i; } else { goto L_der_core_integer_uint_UintRefDecodeValueRefSliceU8; }
 L_default_7_i_i_i_i_i:;
     v_r73_i_i130_i_i_i = (u8)(v_r34_i_i_i_i_i ^ ((u8)1 << 7)) > (u8)(255u ^ ((u8)1 << 7));
-    if (v_r73_i_i130_i_i_i) { p_v_r11_sroa_4_i_i_sroa_0_0_ph_i_i_i = v_r0_i_i105_sroa_7_0_i2011_i_i; p_v_r11_sroa_4_i_i_sroa_5_0_ph_i_i_i = v_r0_i_i105_sroa_11_0_i2012_i_i; goto L_arm_1_i116_i_i_i; } else { goto L_der_core_decode_AnyDecodeRefSliceU8_from_der_f0286__2; }
+    if (v_r73_i_i130_i_i_i) { p_v_r11_sroa_4_i_i_sroa_0_0_ph_i_i_i = v_r0_i_i105_sroa_7_0_i2009_i_i; p_v_r11_sroa_4_i_i_sroa_5_0_ph_i_i_i = v_r0_i_i105_sroa_11_0_i2010_i_i; goto L_arm_1_i116_i_i_i; } else { goto L_der_core_decode_AnyDecodeRefSliceU8_from_der_f0286__2; }
 L_der_core_integer_uint_UintRefDecodeValueRefSliceU8:;
-    v_r37_i_i_i_i_i = v_r0_i_i105_sroa_7_0_i2011_i_i + 1;
+    v_r37_i_i_i_i_i = v_r0_i_i105_sroa_7_0_i2009_i_i + 1;
     v_r56_i_i_i_i_i = get_u8(v_r37_i_i_i_i_i);
     v_r58_i_i_i_i_i = (u8)(v_r56_i_i_i_i_i ^ ((u8)1 << 7)) < (u8)(0u ^ ((u8)1 << 7));
     v_r40_i_i_i_i_i = v_r58_i_i_i_i_i ? v_r40_i5_i_i_i_i : 0u;
@@ -37621,58 +38655,58 @@ L_der_core_integer_uint_UintRefDecodeValueRefSliceU8:;
 L_arm_1_i116_i_i_i:;
     v_r11_sroa_4_i_i_sroa_0_0_ph_i_i_i = p_v_r11_sroa_4_i_i_sroa_0_0_ph_i_i_i;
     v_r11_sroa_4_i_i_sroa_5_0_ph_i_i_i = p_v_r11_sroa_4_i_i_sroa_5_0_ph_i_i_i;
-    v_r53_i_i_i160_i_i_i = v_r0_i_i105_sroa_13_0_i2014_i_i < 2u;
+    v_r53_i_i_i160_i_i_i = v_r0_i_i105_sroa_13_0_i2012_i_i < 2u;
     if (v_r53_i_i_i160_i_i_i) { goto L_der_core_decode_AnyDecodeRefSliceU8_from_der_f0286__2; } else { goto L_join_5_i_i_i161_i_i_i; }
 L_join_5_i_i_i161_i_i_i:;
-    v_r62_i_i_i162_i_i_i = v_r0_i_i105_sroa_12_0_i2013_i_i + 2;
-    v_r65_i_i_i163_i_i_i = (u64)((u64)(v_r0_i_i105_sroa_13_0_i2014_i_i) + (u64)(18446744073709551614ull));
-    v_r73_i_i_i164_i_i_i = get_u8(v_r0_i_i105_sroa_12_0_i2013_i_i);
+    v_r62_i_i_i162_i_i_i = v_r0_i_i105_sroa_12_0_i2011_i_i + 2;
+    v_r65_i_i_i163_i_i_i = (u64)((u64)(v_r0_i_i105_sroa_13_0_i2012_i_i) + (u64)(18446744073709551614ull));
+    v_r73_i_i_i164_i_i_i = get_u8(v_r0_i_i105_sroa_12_0_i2011_i_i);
     v_r78_i_i_i166_i_i_i = v_r73_i_i_i164_i_i_i == 2u;
     if (v_r78_i_i_i166_i_i_i) { goto L_then_6_i_i_i241_i_i_i; } else { goto L_der_core_decode_AnyDecodeRefSliceU8_from_der_f0286__2; }
 L_then_6_i_i_i241_i_i_i:;
-    v_r60_i_i_i242_i_i_i = v_r0_i_i105_sroa_12_0_i2013_i_i + 1;
+    v_r60_i_i_i242_i_i_i = v_r0_i_i105_sroa_12_0_i2011_i_i + 1;
     v_r83_i_i_i243_i_i_i = get_u8(v_r60_i_i_i242_i_i_i);
     v_r85_i_i_i244_i_i_i = (u8)(v_r83_i_i_i243_i_i_i ^ ((u8)1 << 7)) > (u8)(255u ^ ((u8)1 << 7));
     if (v_r85_i_i_i244_i_i_i) { goto L_then_9_i_i_i285_i_i_i; } else { goto L_join_11_i_i_i245_i_i_i; }
 L_then_9_i_i_i285_i_i_i:;
     v_r92_i_i_i286_i_i_i = (u64)v_r83_i_i_i243_i_i_i;
-    v_r15_i1430_i_i_i = v_r65_i_i_i163_i_i_i < v_r92_i_i_i286_i_i_i;
-    v_r29_i1432_i_i_i = (P)((u64)v_r62_i_i_i162_i_i_i + (u64)(v_r92_i_i_i286_i_i_i));
-    v_r32_i1433_i_i_i = (u64)((u64)(v_r65_i_i_i163_i_i_i) - (u64)(v_r92_i_i_i286_i_i_i));
+    v_r15_i1428_i_i_i = v_r65_i_i_i163_i_i_i < v_r92_i_i_i286_i_i_i;
+    v_r29_i1430_i_i_i = (P)((u64)v_r62_i_i_i162_i_i_i + (u64)(v_r92_i_i_i286_i_i_i));
+    v_r32_i1431_i_i_i = (u64)((u64)(v_r65_i_i_i163_i_i_i) - (u64)(v_r92_i_i_i286_i_i_i));
     v_r27_i4_i213_i_i_i = v_r83_i_i_i243_i_i_i == 0u;
-    v_or_cond2100_i_i = (u1)(((u32)(v_r27_i4_i213_i_i_i) | (u32)(v_r15_i1430_i_i_i)) & 1);
-    if (v_or_cond2100_i_i) { goto L_der_core_decode_AnyDecodeRefSliceU8_from_der_f0286__2; } else { p_v_r0_i_i135_sroa_13_0_i2023_i_i = v_r32_i1433_i_i_i; p_v_r0_i_i135_sroa_12_0_i2022_i_i = v_r29_i1432_i_i_i; p_v_r0_i_i135_sroa_11_0_i2021_i_i = v_r92_i_i_i286_i_i_i; p_v_r0_i_i135_sroa_7_0_i2020_i_i = v_r62_i_i_i162_i_i_i; goto L_join_5_i_i214_i_i_i; }
+    v_or_cond2098_i_i = (u1)(((u32)(v_r27_i4_i213_i_i_i) | (u32)(v_r15_i1428_i_i_i)) & 1);
+    if (v_or_cond2098_i_i) { goto L_der_core_decode_AnyDecodeRefSliceU8_from_der_f0286__2; } else { p_v_r0_i_i135_sroa_13_0_i2021_i_i = v_r32_i1431_i_i_i; p_v_r0_i_i135_sroa_12_0_i2020_i_i = v_r29_i1430_i_i_i; p_v_r0_i_i135_sroa_11_0_i2019_i_i = v_r92_i_i_i286_i_i_i; p_v_r0_i_i135_sroa_7_0_i2018_i_i = v_r62_i_i_i162_i_i_i; goto L_join_5_i_i214_i_i_i; }
 L_join_11_i_i_i245_i_i_i:;
     v_r104_i_i_i246_i_i_i = v_r83_i_i_i243_i_i_i == 130u;
     if (v_r104_i_i_i246_i_i_i) { goto L_then_12_i_i_i262_i_i_i; } else { goto L_join_14_i_i_i247_i_i_i; }
 L_then_12_i_i_i262_i_i_i:;
-    v_r110_i_i_i263_i_i_i = v_r0_i_i105_sroa_13_0_i2014_i_i < 4u;
+    v_r110_i_i_i263_i_i_i = v_r0_i_i105_sroa_13_0_i2012_i_i < 4u;
     if (v_r110_i_i_i263_i_i_i) { goto L_der_core_decode_AnyDecodeRefSliceU8_from_der_f0286__2; } else { goto L_join_19_i_i_i264_i_i_i; }
 L_join_19_i_i_i264_i_i_i:;
     v_r130_i_i_i265_i_i_i = get_u8(v_r62_i_i_i162_i_i_i);
     v_r132_not_i_i_i266_i_i_i = v_r130_i_i_i265_i_i_i == 0u;
     if (v_r132_not_i_i_i266_i_i_i) { goto L_der_core_decode_AnyDecodeRefSliceU8_from_der_f0286__2; } else { goto L_then_20_i_i_i267_i_i_i; }
 L_then_20_i_i_i267_i_i_i:;
-    v_r122_i_i_i268_i_i_i = (u64)((u64)(v_r0_i_i105_sroa_13_0_i2014_i_i) + (u64)(18446744073709551612ull));
-    v_r117_i_i_i270_i_i_i = v_r0_i_i105_sroa_12_0_i2013_i_i + 3;
+    v_r122_i_i_i268_i_i_i = (u64)((u64)(v_r0_i_i105_sroa_13_0_i2012_i_i) + (u64)(18446744073709551612ull));
+    v_r117_i_i_i270_i_i_i = v_r0_i_i105_sroa_12_0_i2011_i_i + 3;
     v_r139_i_i_i271_i_i_i = (u64)v_r130_i_i_i265_i_i_i;
     v_r141_i_i_i272_i_i_i = (u64)((u64)(v_r139_i_i_i271_i_i_i) << (u64)((8u & 63)));
     v_r143_i_i_i273_i_i_i = get_u8(v_r117_i_i_i270_i_i_i);
     v_r145_i_i_i274_i_i_i = (u64)v_r143_i_i_i273_i_i_i;
     v_r148_i_i_i275_i_i_i = (u64)((u64)(v_r141_i_i_i272_i_i_i) | (u64)(v_r145_i_i_i274_i_i_i));
-    v_r15_i1440_i_i_i = v_r122_i_i_i268_i_i_i < v_r148_i_i_i275_i_i_i;
-    if (v_r15_i1440_i_i_i) { goto L_der_core_decode_AnyDecodeRefSliceU8_from_der_f0286__2; } else { goto L_join_3_i1441_i_i_i; }
-L_join_3_i1441_i_i_i:;
-    v_r119_i_i_i269_i_i_i = v_r0_i_i105_sroa_12_0_i2013_i_i + 4;
-    v_r29_i1442_i_i_i = (P)((u64)v_r119_i_i_i269_i_i_i + (u64)(v_r148_i_i_i275_i_i_i));
-    v_r32_i1443_i_i_i = (u64)((u64)(v_r122_i_i_i268_i_i_i) - (u64)(v_r148_i_i_i275_i_i_i));
-    { p_v_r0_i_i135_sroa_13_0_i2023_i_i = v_r32_i1443_i_i_i; p_v_r0_i_i135_sroa_12_0_i2022_i_i = v_r29_i1442_i_i_i; p_v_r0_i_i135_sroa_11_0_i2021_i_i = v_r148_i_i_i275_i_i_i; p_v_r0_i_i135_sroa_7_0_i2020_i_i = v_r119_i_i_i269_i_i_i; goto L_join_5_i_i214_i_i_i; }
+    v_r15_i1438_i_i_i = v_r122_i_i_i268_i_i_i < v_r148_i_i_i275_i_i_i;
+    if (v_r15_i1438_i_i_i) { goto L_der_core_decode_AnyDecodeRefSliceU8_from_der_f0286__2; } else { goto L_join_3_i1439_i_i_i; }
+L_join_3_i1439_i_i_i:;
+    v_r119_i_i_i269_i_i_i = v_r0_i_i105_sroa_12_0_i2011_i_i + 4;
+    v_r29_i1440_i_i_i = (P)((u64)v_r119_i_i_i269_i_i_i + (u64)(v_r148_i_i_i275_i_i_i));
+    v_r32_i1441_i_i_i = (u64)((u64)(v_r122_i_i_i268_i_i_i) - (u64)(v_r148_i_i_i275_i_i_i));
+    { p_v_r0_i_i135_sroa_13_0_i2021_i_i = v_r32_i1441_i_i_i; p_v_r0_i_i135_sroa_12_0_i2020_i_i = v_r29_i1440_i_i_i; p_v_r0_i_i135_sroa_11_0_i2019_i_i = v_r148_i_i_i275_i_i_i; p_v_r0_i_i135_sroa_7_0_i2018_i_i = v_r119_i_i_i269_i_i_i; goto L_join_5_i_i214_i_i_i; }
 L_join_14_i_i_i247_i_i_i:;
     v_r163_i_i_i248_i_i_i = v_r65_i_i_i163_i_i_i == 0u;
     if (v_r163_i_i_i248_i_i_i) { goto L_der_core_decode_AnyDecodeRefSliceU8_from_der_f0286__2; } else { goto L_join_27_i_i_i249_i_i_i; }
 L_join_27_i_i_i249_i_i_i:;
-    v_r170_i_i_i250_i_i_i = v_r0_i_i105_sroa_12_0_i2013_i_i + 3;
-    v_r173_i_i_i251_i_i_i = (u64)((u64)(v_r0_i_i105_sroa_13_0_i2014_i_i) + (u64)(18446744073709551613ull));
+    v_r170_i_i_i250_i_i_i = v_r0_i_i105_sroa_12_0_i2011_i_i + 3;
+    v_r173_i_i_i251_i_i_i = (u64)((u64)(v_r0_i_i105_sroa_13_0_i2012_i_i) + (u64)(18446744073709551613ull));
     v_r182_i_i_i252_i_i_i = v_r83_i_i_i243_i_i_i == 129u;
     if (v_r182_i_i_i252_i_i_i) { goto L_then_28_i_i_i257_i_i_i; } else { goto L_der_core_decode_AnyDecodeRefSliceU8_from_der_f0286__2; }
 L_then_28_i_i_i257_i_i_i:;
@@ -37681,90 +38715,90 @@ L_then_28_i_i_i257_i_i_i:;
     if (v_r189_i_i_i259_i_i_i) { goto L_then_31_i_i_i260_i_i_i; } else { goto L_der_core_decode_AnyDecodeRefSliceU8_from_der_f0286__2; }
 L_then_31_i_i_i260_i_i_i:;
     v_r199_i_i_i261_i_i_i = (u64)v_r187_i_i_i258_i_i_i;
-    v_r15_i1450_i_i_i = v_r173_i_i_i251_i_i_i < v_r199_i_i_i261_i_i_i;
-    if (v_r15_i1450_i_i_i) { goto L_der_core_decode_AnyDecodeRefSliceU8_from_der_f0286__2; } else { goto L_join_3_i1451_i_i_i; }
-L_join_3_i1451_i_i_i:;
-    v_r29_i1452_i_i_i = (P)((u64)v_r170_i_i_i250_i_i_i + (u64)(v_r199_i_i_i261_i_i_i));
-    v_r32_i1453_i_i_i = (u64)((u64)(v_r173_i_i_i251_i_i_i) - (u64)(v_r199_i_i_i261_i_i_i));
-    { p_v_r0_i_i135_sroa_13_0_i2023_i_i = v_r32_i1453_i_i_i; p_v_r0_i_i135_sroa_12_0_i2022_i_i = v_r29_i1452_i_i_i; p_v_r0_i_i135_sroa_11_0_i2021_i_i = v_r199_i_i_i261_i_i_i; p_v_r0_i_i135_sroa_7_0_i2020_i_i = v_r170_i_i_i250_i_i_i; goto L_join_5_i_i214_i_i_i; }
+    v_r15_i1448_i_i_i = v_r173_i_i_i251_i_i_i < v_r199_i_i_i261_i_i_i;
+    if (v_r15_i1448_i_i_i) { goto L_der_core_decode_AnyDecodeRefSliceU8_from_der_f0286__2; } else { goto L_join_3_i1449_i_i_i; }
+L_join_3_i1449_i_i_i:;
+    v_r29_i1450_i_i_i = (P)((u64)v_r170_i_i_i250_i_i_i + (u64)(v_r199_i_i_i261_i_i_i));
+    v_r32_i1451_i_i_i = (u64)((u64)(v_r173_i_i_i251_i_i_i) - (u64)(v_r199_i_i_i261_i_i_i));
+    { p_v_r0_i_i135_sroa_13_0_i2021_i_i = v_r32_i1451_i_i_i; p_v_r0_i_i135_sroa_12_0_i2020_i_i = v_r29_i1450_i_i_i; p_v_r0_i_i135_sroa_11_0_i2019_i_i = v_r199_i_i_i261_i_i_i; p_v_r0_i_i135_sroa_7_0_i2018_i_i = v_r170_i_i_i250_i_i_i; goto L_join_5_i_i214_i_i_i; }
 L_join_5_i_i214_i_i_i:;
-    v_r0_i_i135_sroa_13_0_i2023_i_i = p_v_r0_i_i135_sroa_13_0_i2023_i_i;
-    v_r0_i_i135_sroa_12_0_i2022_i_i = p_v_r0_i_i135_sroa_12_0_i2022_i_i;
-    v_r0_i_i135_sroa_11_0_i2021_i_i = p_v_r0_i_i135_sroa_11_0_i2021_i_i;
-    v_r0_i_i135_sroa_7_0_i2020_i_i = p_v_r0_i_i135_sroa_7_0_i2020_i_i;
-    v_r34_i_i215_i_i_i = get_u8(v_r0_i_i135_sroa_7_0_i2020_i_i);
+    v_r0_i_i135_sroa_13_0_i2021_i_i = p_v_r0_i_i135_sroa_13_0_i2021_i_i;
+    v_r0_i_i135_sroa_12_0_i2020_i_i = p_v_r0_i_i135_sroa_12_0_i2020_i_i;
+    v_r0_i_i135_sroa_11_0_i2019_i_i = p_v_r0_i_i135_sroa_11_0_i2019_i_i;
+    v_r0_i_i135_sroa_7_0_i2018_i_i = p_v_r0_i_i135_sroa_7_0_i2018_i_i;
+    v_r34_i_i215_i_i_i = get_u8(v_r0_i_i135_sroa_7_0_i2018_i_i);
     v_cond_i_i216_i_i_i = v_r34_i_i215_i_i_i == 0u;
     if (v_cond_i_i216_i_i_i) { goto L_arm_6_i_i231_i_i_i; } else { goto L_default_7_i_i217_i_i_i; }
 L_arm_6_i_i231_i_i_i:;
-    v_r40_i5_i233_i_i_i = (u64)((u64)(v_r0_i_i135_sroa_11_0_i2021_i_i) + (u64)(18446744073709551615ull));
+    v_r40_i5_i233_i_i_i = (u64)((u64)(v_r0_i_i135_sroa_11_0_i2019_i_i) + (u64)(18446744073709551615ull));
     v_r47_i_i234_i_i_i = v_r40_i5_i233_i_i_i == 0u;
-    if (v_r47_i_i234_i_i_i) { p_v_r11_sroa_4_i_i142_sroa_0_0_ph_i_i_i = v_r0_i_i135_sroa_7_0_i2020_i_i; p_v_r11_sroa_4_i_i142_sroa_5_0_ph_i_i_i = 1u; goto L_arm_1_i190_i_i_i; } else { goto L_der_core_integer_uint_UintRefDecodeValueRefSliceU8__2; }
+    if (v_r47_i_i234_i_i_i) { p_v_r11_sroa_4_i_i142_sroa_0_0_ph_i_i_i = v_r0_i_i135_sroa_7_0_i2018_i_i; p_v_r11_sroa_4_i_i142_sroa_5_0_ph_i_i_i = 1u; goto L_arm_1_i190_i_i_i; } else { goto L_der_core_integer_uint_UintRefDecodeValueRefSliceU8__2; }
 L_default_7_i_i217_i_i_i:;
     v_r73_i_i218_i_i_i = (u8)(v_r34_i_i215_i_i_i ^ ((u8)1 << 7)) > (u8)(255u ^ ((u8)1 << 7));
-    if (v_r73_i_i218_i_i_i) { p_v_r11_sroa_4_i_i142_sroa_0_0_ph_i_i_i = v_r0_i_i135_sroa_7_0_i2020_i_i; p_v_r11_sroa_4_i_i142_sroa_5_0_ph_i_i_i = v_r0_i_i135_sroa_11_0_i2021_i_i; goto L_arm_1_i190_i_i_i; } else { goto L_der_core_decode_AnyDecodeRefSliceU8_from_der_f0286__2; }
+    if (v_r73_i_i218_i_i_i) { p_v_r11_sroa_4_i_i142_sroa_0_0_ph_i_i_i = v_r0_i_i135_sroa_7_0_i2018_i_i; p_v_r11_sroa_4_i_i142_sroa_5_0_ph_i_i_i = v_r0_i_i135_sroa_11_0_i2019_i_i; goto L_arm_1_i190_i_i_i; } else { goto L_der_core_decode_AnyDecodeRefSliceU8_from_der_f0286__2; }
 L_der_core_integer_uint_UintRefDecodeValueRefSliceU8__2:;
-    v_r37_i_i232_i_i_i = v_r0_i_i135_sroa_7_0_i2020_i_i + 1;
+    v_r37_i_i232_i_i_i = v_r0_i_i135_sroa_7_0_i2018_i_i + 1;
     v_r56_i_i236_i_i_i = get_u8(v_r37_i_i232_i_i_i);
     v_r58_i_i237_i_i_i = (u8)(v_r56_i_i236_i_i_i ^ ((u8)1 << 7)) < (u8)(0u ^ ((u8)1 << 7));
     v_r40_i_i238_i_i_i = v_r58_i_i237_i_i_i ? v_r40_i5_i233_i_i_i : 0u;
     v_r37_i_i239_i_i_i = v_r58_i_i237_i_i_i ? v_r37_i_i232_i_i_i : (P)0;
-    v_not2629_i_i_i = (u8)(v_r56_i_i236_i_i_i ^ ((u8)1 << 7)) > (u8)(255u ^ ((u8)1 << 7));
-    if (v_not2629_i_i_i) { goto L_der_core_decode_AnyDecodeRefSliceU8_from_der_f0286__2; } else { p_v_r11_sroa_4_i_i142_sroa_0_0_ph_i_i_i = v_r37_i_i239_i_i_i; p_v_r11_sroa_4_i_i142_sroa_5_0_ph_i_i_i = v_r40_i_i238_i_i_i; goto L_arm_1_i190_i_i_i; }
+    v_not2627_i_i_i = (u8)(v_r56_i_i236_i_i_i ^ ((u8)1 << 7)) > (u8)(255u ^ ((u8)1 << 7));
+    if (v_not2627_i_i_i) { goto L_der_core_decode_AnyDecodeRefSliceU8_from_der_f0286__2; } else { p_v_r11_sroa_4_i_i142_sroa_0_0_ph_i_i_i = v_r37_i_i239_i_i_i; p_v_r11_sroa_4_i_i142_sroa_5_0_ph_i_i_i = v_r40_i_i238_i_i_i; goto L_arm_1_i190_i_i_i; }
 L_arm_1_i190_i_i_i:;
     v_r11_sroa_4_i_i142_sroa_0_0_ph_i_i_i = p_v_r11_sroa_4_i_i142_sroa_0_0_ph_i_i_i;
     v_r11_sroa_4_i_i142_sroa_5_0_ph_i_i_i = p_v_r11_sroa_4_i_i142_sroa_5_0_ph_i_i_i;
-    v_r53_i_i_i320_i_i_i = v_r0_i_i135_sroa_13_0_i2023_i_i < 2u;
+    v_r53_i_i_i320_i_i_i = v_r0_i_i135_sroa_13_0_i2021_i_i < 2u;
     if (v_r53_i_i_i320_i_i_i) { goto L_der_core_decode_AnyDecodeRefSliceU8_from_der_f0286__2; } else { goto L_join_5_i_i_i321_i_i_i; }
 L_join_5_i_i_i321_i_i_i:;
-    v_r62_i_i_i322_i_i_i = v_r0_i_i135_sroa_12_0_i2022_i_i + 2;
-    v_r65_i_i_i323_i_i_i = (u64)((u64)(v_r0_i_i135_sroa_13_0_i2023_i_i) + (u64)(18446744073709551614ull));
-    v_r73_i_i_i324_i_i_i = get_u8(v_r0_i_i135_sroa_12_0_i2022_i_i);
+    v_r62_i_i_i322_i_i_i = v_r0_i_i135_sroa_12_0_i2020_i_i + 2;
+    v_r65_i_i_i323_i_i_i = (u64)((u64)(v_r0_i_i135_sroa_13_0_i2021_i_i) + (u64)(18446744073709551614ull));
+    v_r73_i_i_i324_i_i_i = get_u8(v_r0_i_i135_sroa_12_0_i2020_i_i);
     v_r78_i_i_i326_i_i_i = v_r73_i_i_i324_i_i_i == 2u;
     if (v_r78_i_i_i326_i_i_i) { goto L_then_6_i_i_i401_i_i_i; } else { goto L_der_core_decode_AnyDecodeRefSliceU8_from_der_f0286__2; }
 L_then_6_i_i_i401_i_i_i:;
-    v_r60_i_i_i402_i_i_i = v_r0_i_i135_sroa_12_0_i2022_i_i + 1;
+    v_r60_i_i_i402_i_i_i = v_r0_i_i135_sroa_12_0_i2020_i_i + 1;
     v_r83_i_i_i403_i_i_i = get_u8(v_r60_i_i_i402_i_i_i);
     v_r85_i_i_i404_i_i_i = (u8)(v_r83_i_i_i403_i_i_i ^ ((u8)1 << 7)) > (u8)(255u ^ ((u8)1 << 7));
     if (v_r85_i_i_i404_i_i_i) { goto L_then_9_i_i_i445_i_i_i; } else { goto L_join_11_i_i_i405_i_i_i; }
 L_then_9_i_i_i445_i_i_i:;
     v_r92_i_i_i446_i_i_i = (u64)v_r83_i_i_i403_i_i_i;
-    v_r15_i1460_i_i_i = v_r65_i_i_i323_i_i_i < v_r92_i_i_i446_i_i_i;
-    v_r29_i1462_i_i_i = (P)((u64)v_r62_i_i_i322_i_i_i + (u64)(v_r92_i_i_i446_i_i_i));
-    v_r32_i1463_i_i_i = (u64)((u64)(v_r65_i_i_i323_i_i_i) - (u64)(v_r92_i_i_i446_i_i_i));
+    v_r15_i1458_i_i_i = v_r65_i_i_i323_i_i_i < v_r92_i_i_i446_i_i_i;
+    v_r29_i1460_i_i_i = (P)((u64)v_r62_i_i_i322_i_i_i + (u64)(v_r92_i_i_i446_i_i_i));
+    v_r32_i1461_i_i_i = (u64)((u64)(v_r65_i_i_i323_i_i_i) - (u64)(v_r92_i_i_i446_i_i_i));
     v_r27_i4_i373_i_i_i = v_r83_i_i_i403_i_i_i == 0u;
-    v_or_cond2101_i_i = (u1)(((u32)(v_r27_i4_i373_i_i_i) | (u32)(v_r15_i1460_i_i_i)) & 1);
-    if (v_or_cond2101_i_i) { goto L_der_core_decode_AnyDecodeRefSliceU8_from_der_f0286__2; } else { p_v_r0_i_i295_sroa_13_0_i2032_i_i = v_r32_i1463_i_i_i; p_v_r0_i_i295_sroa_12_0_i2031_i_i = v_r29_i1462_i_i_i; p_v_r0_i_i295_sroa_11_0_i2030_i_i = v_r92_i_i_i446_i_i_i; p_v_r0_i_i295_sroa_7_0_i2029_i_i = v_r62_i_i_i322_i_i_i; goto L_join_5_i_i374_i_i_i; }
+    v_or_cond2099_i_i = (u1)(((u32)(v_r27_i4_i373_i_i_i) | (u32)(v_r15_i1458_i_i_i)) & 1);
+    if (v_or_cond2099_i_i) { goto L_der_core_decode_AnyDecodeRefSliceU8_from_der_f0286__2; } else { p_v_r0_i_i295_sroa_13_0_i2030_i_i = v_r32_i1461_i_i_i; p_v_r0_i_i295_sroa_12_0_i2029_i_i = v_r29_i1460_i_i_i; p_v_r0_i_i295_sroa_11_0_i2028_i_i = v_r92_i_i_i446_i_i_i; p_v_r0_i_i295_sroa_7_0_i2027_i_i = v_r62_i_i_i322_i_i_i; goto L_join_5_i_i374_i_i_i; }
 L_join_11_i_i_i405_i_i_i:;
     v_r104_i_i_i406_i_i_i = v_r83_i_i_i403_i_i_i == 130u;
     if (v_r104_i_i_i406_i_i_i) { goto L_then_12_i_i_i422_i_i_i; } else { goto L_join_14_i_i_i407_i_i_i; }
 L_then_12_i_i_i422_i_i_i:;
-    v_r110_i_i_i423_i_i_i = v_r0_i_i135_sroa_13_0_i2023_i_i < 4u;
+    v_r110_i_i_i423_i_i_i = v_r0_i_i135_sroa_13_0_i2021_i_i < 4u;
     if (v_r110_i_i_i423_i_i_i) { goto L_der_core_decode_AnyDecodeRefSliceU8_from_der_f0286__2; } else { goto L_join_19_i_i_i424_i_i_i; }
 L_join_19_i_i_i424_i_i_i:;
     v_r130_i_i_i425_i_i_i = get_u8(v_r62_i_i_i322_i_i_i);
     v_r132_not_i_i_i426_i_i_i = v_r130_i_i_i425_i_i_i == 0u;
     if (v_r132_not_i_i_i426_i_i_i) { goto L_der_core_decode_AnyDecodeRefSliceU8_from_der_f0286__2; } else { goto L_then_20_i_i_i427_i_i_i; }
 L_then_20_i_i_i427_i_i_i:;
-    v_r122_i_i_i428_i_i_i = (u64)((u64)(v_r0_i_i135_sroa_13_0_i2023_i_i) + (u64)(18446744073709551612ull));
-    v_r117_i_i_i430_i_i_i = v_r0_i_i135_sroa_12_0_i2022_i_i + 3;
+    v_r122_i_i_i428_i_i_i = (u64)((u64)(v_r0_i_i135_sroa_13_0_i2021_i_i) + (u64)(18446744073709551612ull));
+    v_r117_i_i_i430_i_i_i = v_r0_i_i135_sroa_12_0_i2020_i_i + 3;
     v_r139_i_i_i431_i_i_i = (u64)v_r130_i_i_i425_i_i_i;
     v_r141_i_i_i432_i_i_i = (u64)((u64)(v_r139_i_i_i431_i_i_i) << (u64)((8u & 63)));
     v_r143_i_i_i433_i_i_i = get_u8(v_r117_i_i_i430_i_i_i);
     v_r145_i_i_i434_i_i_i = (u64)v_r143_i_i_i433_i_i_i;
     v_r148_i_i_i435_i_i_i = (u64)((u64)(v_r141_i_i_i432_i_i_i) | (u64)(v_r145_i_i_i434_i_i_i));
-    v_r15_i1470_i_i_i = v_r122_i_i_i428_i_i_i < v_r148_i_i_i435_i_i_i;
-    if (v_r15_i1470_i_i_i) { goto L_der_core_decode_AnyDecodeRefSliceU8_from_der_f0286__2; } else { goto L_join_3_i1471_i_i_i; }
-L_join_3_i1471_i_i_i:;
-    v_r119_i_i_i429_i_i_i = v_r0_i_i135_sroa_12_0_i2022_i_i + 4;
-    v_r29_i1472_i_i_i = (P)((u64)v_r119_i_i_i429_i_i_i + (u64)(v_r148_i_i_i435_i_i_i));
-    v_r32_i1473_i_i_i = (u64)((u64)(v_r122_i_i_i428_i_i_i) - (u64)(v_r148_i_i_i435_i_i_i));
-    { p_v_r0_i_i295_sroa_13_0_i2032_i_i = v_r32_i1473_i_i_i; p_v_r0_i_i295_sroa_12_0_i2031_i_i = v_r29_i1472_i_i_i; p_v_r0_i_i295_sroa_11_0_i2030_i_i = v_r148_i_i_i435_i_i_i; p_v_r0_i_i295_sroa_7_0_i2029_i_i = v_r119_i_i_i429_i_i_i; goto L_join_5_i_i374_i_i_i; }
+    v_r15_i1468_i_i_i = v_r122_i_i_i428_i_i_i < v_r148_i_i_i435_i_i_i;
+    if (v_r15_i1468_i_i_i) { goto L_der_core_decode_AnyDecodeRefSliceU8_from_der_f0286__2; } else { goto L_join_3_i1469_i_i_i; }
+L_join_3_i1469_i_i_i:;
+    v_r119_i_i_i429_i_i_i = v_r0_i_i135_sroa_12_0_i2020_i_i + 4;
+    v_r29_i1470_i_i_i = (P)((u64)v_r119_i_i_i429_i_i_i + (u64)(v_r148_i_i_i435_i_i_i));
+    v_r32_i1471_i_i_i = (u64)((u64)(v_r122_i_i_i428_i_i_i) - (u64)(v_r148_i_i_i435_i_i_i));
+    { p_v_r0_i_i295_sroa_13_0_i2030_i_i = v_r32_i1471_i_i_i; p_v_r0_i_i295_sroa_12_0_i2029_i_i = v_r29_i1470_i_i_i; p_v_r0_i_i295_sroa_11_0_i2028_i_i = v_r148_i_i_i435_i_i_i; p_v_r0_i_i295_sroa_7_0_i2027_i_i = v_r119_i_i_i429_i_i_i; goto L_join_5_i_i374_i_i_i; }
 L_join_14_i_i_i407_i_i_i:;
     v_r163_i_i_i408_i_i_i = v_r65_i_i_i323_i_i_i == 0u;
     if (v_r163_i_i_i408_i_i_i) { goto L_der_core_decode_AnyDecodeRefSliceU8_from_der_f0286__2; } else { goto L_join_27_i_i_i409_i_i_i; }
 L_join_27_i_i_i409_i_i_i:;
-    v_r170_i_i_i410_i_i_i = v_r0_i_i135_sroa_12_0_i2022_i_i + 3;
-    v_r173_i_i_i411_i_i_i = (u64)((u64)(v_r0_i_i135_sroa_13_0_i2023_i_i) + (u64)(18446744073709551613ull));
+    v_r170_i_i_i410_i_i_i = v_r0_i_i135_sroa_12_0_i2020_i_i + 3;
+    v_r173_i_i_i411_i_i_i = (u64)((u64)(v_r0_i_i135_sroa_13_0_i2021_i_i) + (u64)(18446744073709551613ull));
     v_r182_i_i_i412_i_i_i = v_r83_i_i_i403_i_i_i == 129u;
     if (v_r182_i_i_i412_i_i_i) { goto L_then_28_i_i_i417_i_i_i; } else { goto L_der_core_decode_AnyDecodeRefSliceU8_from_der_f0286__2; }
 L_then_28_i_i_i417_i_i_i:;
@@ -37773,90 +38807,90 @@ L_then_28_i_i_i417_i_i_i:;
     if (v_r189_i_i_i419_i_i_i) { goto L_then_31_i_i_i420_i_i_i; } else { goto L_der_core_decode_AnyDecodeRefSliceU8_from_der_f0286__2; }
 L_then_31_i_i_i420_i_i_i:;
     v_r199_i_i_i421_i_i_i = (u64)v_r187_i_i_i418_i_i_i;
-    v_r15_i1480_i_i_i = v_r173_i_i_i411_i_i_i < v_r199_i_i_i421_i_i_i;
-    if (v_r15_i1480_i_i_i) { goto L_der_core_decode_AnyDecodeRefSliceU8_from_der_f0286__2; } else { goto L_join_3_i1481_i_i_i; }
-L_join_3_i1481_i_i_i:;
-    v_r29_i1482_i_i_i = (P)((u64)v_r170_i_i_i410_i_i_i + (u64)(v_r199_i_i_i421_i_i_i));
-    v_r32_i1483_i_i_i = (u64)((u64)(v_r173_i_i_i411_i_i_i) - (u64)(v_r199_i_i_i421_i_i_i));
-    { p_v_r0_i_i295_sroa_13_0_i2032_i_i = v_r32_i1483_i_i_i; p_v_r0_i_i295_sroa_12_0_i2031_i_i = v_r29_i1482_i_i_i; p_v_r0_i_i295_sroa_11_0_i2030_i_i = v_r199_i_i_i421_i_i_i; p_v_r0_i_i295_sroa_7_0_i2029_i_i = v_r170_i_i_i410_i_i_i; goto L_join_5_i_i374_i_i_i; }
+    v_r15_i1478_i_i_i = v_r173_i_i_i411_i_i_i < v_r199_i_i_i421_i_i_i;
+    if (v_r15_i1478_i_i_i) { goto L_der_core_decode_AnyDecodeRefSliceU8_from_der_f0286__2; } else { goto L_join_3_i1479_i_i_i; }
+L_join_3_i1479_i_i_i:;
+    v_r29_i1480_i_i_i = (P)((u64)v_r170_i_i_i410_i_i_i + (u64)(v_r199_i_i_i421_i_i_i));
+    v_r32_i1481_i_i_i = (u64)((u64)(v_r173_i_i_i411_i_i_i) - (u64)(v_r199_i_i_i421_i_i_i));
+    { p_v_r0_i_i295_sroa_13_0_i2030_i_i = v_r32_i1481_i_i_i; p_v_r0_i_i295_sroa_12_0_i2029_i_i = v_r29_i1480_i_i_i; p_v_r0_i_i295_sroa_11_0_i2028_i_i = v_r199_i_i_i421_i_i_i; p_v_r0_i_i295_sroa_7_0_i2027_i_i = v_r170_i_i_i410_i_i_i; goto L_join_5_i_i374_i_i_i; }
 L_join_5_i_i374_i_i_i:;
-    v_r0_i_i295_sroa_13_0_i2032_i_i = p_v_r0_i_i295_sroa_13_0_i2032_i_i;
-    v_r0_i_i295_sroa_12_0_i2031_i_i = p_v_r0_i_i295_sroa_12_0_i2031_i_i;
-    v_r0_i_i295_sroa_11_0_i2030_i_i = p_v_r0_i_i295_sroa_11_0_i2030_i_i;
-    v_r0_i_i295_sroa_7_0_i2029_i_i = p_v_r0_i_i295_sroa_7_0_i2029_i_i;
-    v_r34_i_i375_i_i_i = get_u8(v_r0_i_i295_sroa_7_0_i2029_i_i);
+    v_r0_i_i295_sroa_13_0_i2030_i_i = p_v_r0_i_i295_sroa_13_0_i2030_i_i;
+    v_r0_i_i295_sroa_12_0_i2029_i_i = p_v_r0_i_i295_sroa_12_0_i2029_i_i;
+    v_r0_i_i295_sroa_11_0_i2028_i_i = p_v_r0_i_i295_sroa_11_0_i2028_i_i;
+    v_r0_i_i295_sroa_7_0_i2027_i_i = p_v_r0_i_i295_sroa_7_0_i2027_i_i;
+    v_r34_i_i375_i_i_i = get_u8(v_r0_i_i295_sroa_7_0_i2027_i_i);
     v_cond_i_i376_i_i_i = v_r34_i_i375_i_i_i == 0u;
     if (v_cond_i_i376_i_i_i) { goto L_arm_6_i_i391_i_i_i; } else { goto L_default_7_i_i377_i_i_i; }
 L_arm_6_i_i391_i_i_i:;
-    v_r40_i5_i393_i_i_i = (u64)((u64)(v_r0_i_i295_sroa_11_0_i2030_i_i) + (u64)(18446744073709551615ull));
+    v_r40_i5_i393_i_i_i = (u64)((u64)(v_r0_i_i295_sroa_11_0_i2028_i_i) + (u64)(18446744073709551615ull));
     v_r47_i_i394_i_i_i = v_r40_i5_i393_i_i_i == 0u;
-    if (v_r47_i_i394_i_i_i) { p_v_r11_sroa_4_i_i302_sroa_0_0_ph_i_i_i = v_r0_i_i295_sroa_7_0_i2029_i_i; p_v_r11_sroa_4_i_i302_sroa_5_0_ph_i_i_i = 1u; goto L_arm_1_i350_i_i_i; } else { goto L_der_core_integer_uint_UintRefDecodeValueRefSliceU8__3; }
+    if (v_r47_i_i394_i_i_i) { p_v_r11_sroa_4_i_i302_sroa_0_0_ph_i_i_i = v_r0_i_i295_sroa_7_0_i2027_i_i; p_v_r11_sroa_4_i_i302_sroa_5_0_ph_i_i_i = 1u; goto L_arm_1_i350_i_i_i; } else { goto L_der_core_integer_uint_UintRefDecodeValueRefSliceU8__3; }
 L_default_7_i_i377_i_i_i:;
     v_r73_i_i378_i_i_i = (u8)(v_r34_i_i375_i_i_i ^ ((u8)1 << 7)) > (u8)(255u ^ ((u8)1 << 7));
-    if (v_r73_i_i378_i_i_i) { p_v_r11_sroa_4_i_i302_sroa_0_0_ph_i_i_i = v_r0_i_i295_sroa_7_0_i2029_i_i; p_v_r11_sroa_4_i_i302_sroa_5_0_ph_i_i_i = v_r0_i_i295_sroa_11_0_i2030_i_i; goto L_arm_1_i350_i_i_i; } else { goto L_der_core_decode_AnyDecodeRefSliceU8_from_der_f0286__2; }
+    if (v_r73_i_i378_i_i_i) { p_v_r11_sroa_4_i_i302_sroa_0_0_ph_i_i_i = v_r0_i_i295_sroa_7_0_i2027_i_i; p_v_r11_sroa_4_i_i302_sroa_5_0_ph_i_i_i = v_r0_i_i295_sroa_11_0_i2028_i_i; goto L_arm_1_i350_i_i_i; } else { goto L_der_core_decode_AnyDecodeRefSliceU8_from_der_f0286__2; }
 L_der_core_integer_uint_UintRefDecodeValueRefSliceU8__3:;
-    v_r37_i_i392_i_i_i = v_r0_i_i295_sroa_7_0_i2029_i_i + 1;
+    v_r37_i_i392_i_i_i = v_r0_i_i295_sroa_7_0_i2027_i_i + 1;
     v_r56_i_i396_i_i_i = get_u8(v_r37_i_i392_i_i_i);
     v_r58_i_i397_i_i_i = (u8)(v_r56_i_i396_i_i_i ^ ((u8)1 << 7)) < (u8)(0u ^ ((u8)1 << 7));
     v_r40_i_i398_i_i_i = v_r58_i_i397_i_i_i ? v_r40_i5_i393_i_i_i : 0u;
     v_r37_i_i399_i_i_i = v_r58_i_i397_i_i_i ? v_r37_i_i392_i_i_i : (P)0;
-    v_not2630_i_i_i = (u8)(v_r56_i_i396_i_i_i ^ ((u8)1 << 7)) > (u8)(255u ^ ((u8)1 << 7));
-    if (v_not2630_i_i_i) { goto L_der_core_decode_AnyDecodeRefSliceU8_from_der_f0286__2; } else { p_v_r11_sroa_4_i_i302_sroa_0_0_ph_i_i_i = v_r37_i_i399_i_i_i; p_v_r11_sroa_4_i_i302_sroa_5_0_ph_i_i_i = v_r40_i_i398_i_i_i; goto L_arm_1_i350_i_i_i; }
+    v_not2628_i_i_i = (u8)(v_r56_i_i396_i_i_i ^ ((u8)1 << 7)) > (u8)(255u ^ ((u8)1 << 7));
+    if (v_not2628_i_i_i) { goto L_der_core_decode_AnyDecodeRefSliceU8_from_der_f0286__2; } else { p_v_r11_sroa_4_i_i302_sroa_0_0_ph_i_i_i = v_r37_i_i399_i_i_i; p_v_r11_sroa_4_i_i302_sroa_5_0_ph_i_i_i = v_r40_i_i398_i_i_i; goto L_arm_1_i350_i_i_i; }
 L_arm_1_i350_i_i_i:;
     v_r11_sroa_4_i_i302_sroa_0_0_ph_i_i_i = p_v_r11_sroa_4_i_i302_sroa_0_0_ph_i_i_i;
     v_r11_sroa_4_i_i302_sroa_5_0_ph_i_i_i = p_v_r11_sroa_4_i_i302_sroa_5_0_ph_i_i_i;
-    v_r53_i_i_i480_i_i_i = v_r0_i_i295_sroa_13_0_i2032_i_i < 2u;
+    v_r53_i_i_i480_i_i_i = v_r0_i_i295_sroa_13_0_i2030_i_i < 2u;
     if (v_r53_i_i_i480_i_i_i) { goto L_der_core_decode_AnyDecodeRefSliceU8_from_der_f0286__2; } else { goto L_join_5_i_i_i481_i_i_i; }
 L_join_5_i_i_i481_i_i_i:;
-    v_r62_i_i_i482_i_i_i = v_r0_i_i295_sroa_12_0_i2031_i_i + 2;
-    v_r65_i_i_i483_i_i_i = (u64)((u64)(v_r0_i_i295_sroa_13_0_i2032_i_i) + (u64)(18446744073709551614ull));
-    v_r73_i_i_i484_i_i_i = get_u8(v_r0_i_i295_sroa_12_0_i2031_i_i);
+    v_r62_i_i_i482_i_i_i = v_r0_i_i295_sroa_12_0_i2029_i_i + 2;
+    v_r65_i_i_i483_i_i_i = (u64)((u64)(v_r0_i_i295_sroa_13_0_i2030_i_i) + (u64)(18446744073709551614ull));
+    v_r73_i_i_i484_i_i_i = get_u8(v_r0_i_i295_sroa_12_0_i2029_i_i);
     v_r78_i_i_i486_i_i_i = v_r73_i_i_i484_i_i_i == 2u;
     if (v_r78_i_i_i486_i_i_i) { goto L_then_6_i_i_i561_i_i_i; } else { goto L_der_core_decode_AnyDecodeRefSliceU8_from_der_f0286__2; }
 L_then_6_i_i_i561_i_i_i:;
-    v_r60_i_i_i562_i_i_i = v_r0_i_i295_sroa_12_0_i2031_i_i + 1;
+    v_r60_i_i_i562_i_i_i = v_r0_i_i295_sroa_12_0_i2029_i_i + 1;
     v_r83_i_i_i563_i_i_i = get_u8(v_r60_i_i_i562_i_i_i);
     v_r85_i_i_i564_i_i_i = (u8)(v_r83_i_i_i563_i_i_i ^ ((u8)1 << 7)) > (u8)(255u ^ ((u8)1 << 7));
     if (v_r85_i_i_i564_i_i_i) { goto L_then_9_i_i_i605_i_i_i; } else { goto L_join_11_i_i_i565_i_i_i; }
 L_then_9_i_i_i605_i_i_i:;
     v_r92_i_i_i606_i_i_i = (u64)v_r83_i_i_i563_i_i_i;
-    v_r15_i1490_i_i_i = v_r65_i_i_i483_i_i_i < v_r92_i_i_i606_i_i_i;
-    v_r29_i1492_i_i_i = (P)((u64)v_r62_i_i_i482_i_i_i + (u64)(v_r92_i_i_i606_i_i_i));
-    v_r32_i1493_i_i_i = (u64)((u64)(v_r65_i_i_i483_i_i_i) - (u64)(v_r92_i_i_i606_i_i_i));
+    v_r15_i1488_i_i_i = v_r65_i_i_i483_i_i_i < v_r92_i_i_i606_i_i_i;
+    v_r29_i1490_i_i_i = (P)((u64)v_r62_i_i_i482_i_i_i + (u64)(v_r92_i_i_i606_i_i_i));
+    v_r32_i1491_i_i_i = (u64)((u64)(v_r65_i_i_i483_i_i_i) - (u64)(v_r92_i_i_i606_i_i_i));
     v_r27_i4_i533_i_i_i = v_r83_i_i_i563_i_i_i == 0u;
-    v_or_cond2102_i_i = (u1)(((u32)(v_r27_i4_i533_i_i_i) | (u32)(v_r15_i1490_i_i_i)) & 1);
-    if (v_or_cond2102_i_i) { goto L_der_core_decode_AnyDecodeRefSliceU8_from_der_f0286__2; } else { p_v_r0_i_i455_sroa_13_0_i2041_i_i = v_r32_i1493_i_i_i; p_v_r0_i_i455_sroa_12_0_i2040_i_i = v_r29_i1492_i_i_i; p_v_r0_i_i455_sroa_11_0_i2039_i_i = v_r92_i_i_i606_i_i_i; p_v_r0_i_i455_sroa_7_0_i2038_i_i = v_r62_i_i_i482_i_i_i; goto L_join_5_i_i534_i_i_i; }
+    v_or_cond2100_i_i = (u1)(((u32)(v_r27_i4_i533_i_i_i) | (u32)(v_r15_i1488_i_i_i)) & 1);
+    if (v_or_cond2100_i_i) { goto L_der_core_decode_AnyDecodeRefSliceU8_from_der_f0286__2; } else { p_v_r0_i_i455_sroa_13_0_i2039_i_i = v_r32_i1491_i_i_i; p_v_r0_i_i455_sroa_12_0_i2038_i_i = v_r29_i1490_i_i_i; p_v_r0_i_i455_sroa_11_0_i2037_i_i = v_r92_i_i_i606_i_i_i; p_v_r0_i_i455_sroa_7_0_i2036_i_i = v_r62_i_i_i482_i_i_i; goto L_join_5_i_i534_i_i_i; }
 L_join_11_i_i_i565_i_i_i:;
     v_r104_i_i_i566_i_i_i = v_r83_i_i_i563_i_i_i == 130u;
     if (v_r104_i_i_i566_i_i_i) { goto L_then_12_i_i_i582_i_i_i; } else { goto L_join_14_i_i_i567_i_i_i; }
 L_then_12_i_i_i582_i_i_i:;
-    v_r110_i_i_i583_i_i_i = v_r0_i_i295_sroa_13_0_i2032_i_i < 4u;
+    v_r110_i_i_i583_i_i_i = v_r0_i_i295_sroa_13_0_i2030_i_i < 4u;
     if (v_r110_i_i_i583_i_i_i) { goto L_der_core_decode_AnyDecodeRefSliceU8_from_der_f0286__2; } else { goto L_join_19_i_i_i584_i_i_i; }
 L_join_19_i_i_i584_i_i_i:;
     v_r130_i_i_i585_i_i_i = get_u8(v_r62_i_i_i482_i_i_i);
     v_r132_not_i_i_i586_i_i_i = v_r130_i_i_i585_i_i_i == 0u;
     if (v_r132_not_i_i_i586_i_i_i) { goto L_der_core_decode_AnyDecodeRefSliceU8_from_der_f0286__2; } else { goto L_then_20_i_i_i587_i_i_i; }
 L_then_20_i_i_i587_i_i_i:;
-    v_r122_i_i_i588_i_i_i = (u64)((u64)(v_r0_i_i295_sroa_13_0_i2032_i_i) + (u64)(18446744073709551612ull));
-    v_r117_i_i_i590_i_i_i = v_r0_i_i295_sroa_12_0_i2031_i_i + 3;
+    v_r122_i_i_i588_i_i_i = (u64)((u64)(v_r0_i_i295_sroa_13_0_i2030_i_i) + (u64)(18446744073709551612ull));
+    v_r117_i_i_i590_i_i_i = v_r0_i_i295_sroa_12_0_i2029_i_i + 3;
     v_r139_i_i_i591_i_i_i = (u64)v_r130_i_i_i585_i_i_i;
     v_r141_i_i_i592_i_i_i = (u64)((u64)(v_r139_i_i_i591_i_i_i) << (u64)((8u & 63)));
     v_r143_i_i_i593_i_i_i = get_u8(v_r117_i_i_i590_i_i_i);
     v_r145_i_i_i594_i_i_i = (u64)v_r143_i_i_i593_i_i_i;
     v_r148_i_i_i595_i_i_i = (u64)((u64)(v_r141_i_i_i592_i_i_i) | (u64)(v_r145_i_i_i594_i_i_i));
-    v_r15_i1500_i_i_i = v_r122_i_i_i588_i_i_i < v_r148_i_i_i595_i_i_i;
-    if (v_r15_i1500_i_i_i) { goto L_der_core_decode_AnyDecodeRefSliceU8_from_der_f0286__2; } else { goto L_join_3_i1501_i_i_i; }
-L_join_3_i1501_i_i_i:;
-    v_r119_i_i_i589_i_i_i = v_r0_i_i295_sroa_12_0_i2031_i_i + 4;
-    v_r29_i1502_i_i_i = (P)((u64)v_r119_i_i_i589_i_i_i + (u64)(v_r148_i_i_i595_i_i_i));
-    v_r32_i1503_i_i_i = (u64)((u64)(v_r122_i_i_i588_i_i_i) - (u64)(v_r148_i_i_i595_i_i_i));
-    { p_v_r0_i_i455_sroa_13_0_i2041_i_i = v_r32_i1503_i_i_i; p_v_r0_i_i455_sroa_12_0_i2040_i_i = v_r29_i1502_i_i_i; p_v_r0_i_i455_sroa_11_0_i2039_i_i = v_r148_i_i_i595_i_i_i; p_v_r0_i_i455_sroa_7_0_i2038_i_i = v_r119_i_i_i589_i_i_i; goto L_join_5_i_i534_i_i_i; }
+    v_r15_i1498_i_i_i = v_r122_i_i_i588_i_i_i < v_r148_i_i_i595_i_i_i;
+    if (v_r15_i1498_i_i_i) { goto L_der_core_decode_AnyDecodeRefSliceU8_from_der_f0286__2; } else { goto L_join_3_i1499_i_i_i; }
+L_join_3_i1499_i_i_i:;
+    v_r119_i_i_i589_i_i_i = v_r0_i_i295_sroa_12_0_i2029_i_i + 4;
+    v_r29_i1500_i_i_i = (P)((u64)v_r119_i_i_i589_i_i_i + (u64)(v_r148_i_i_i595_i_i_i));
+    v_r32_i1501_i_i_i = (u64)((u64)(v_r122_i_i_i588_i_i_i) - (u64)(v_r148_i_i_i595_i_i_i));
+    { p_v_r0_i_i455_sroa_13_0_i2039_i_i = v_r32_i1501_i_i_i; p_v_r0_i_i455_sroa_12_0_i2038_i_i = v_r29_i1500_i_i_i; p_v_r0_i_i455_sroa_11_0_i2037_i_i = v_r148_i_i_i595_i_i_i; p_v_r0_i_i455_sroa_7_0_i2036_i_i = v_r119_i_i_i589_i_i_i; goto L_join_5_i_i534_i_i_i; }
 L_join_14_i_i_i567_i_i_i:;
     v_r163_i_i_i568_i_i_i = v_r65_i_i_i483_i_i_i == 0u;
     if (v_r163_i_i_i568_i_i_i) { goto L_der_core_decode_AnyDecodeRefSliceU8_from_der_f0286__2; } else { goto L_join_27_i_i_i569_i_i_i; }
 L_join_27_i_i_i569_i_i_i:;
-    v_r170_i_i_i570_i_i_i = v_r0_i_i295_sroa_12_0_i2031_i_i + 3;
-    v_r173_i_i_i571_i_i_i = (u64)((u64)(v_r0_i_i295_sroa_13_0_i2032_i_i) + (u64)(18446744073709551613ull));
+    v_r170_i_i_i570_i_i_i = v_r0_i_i295_sroa_12_0_i2029_i_i + 3;
+    v_r173_i_i_i571_i_i_i = (u64)((u64)(v_r0_i_i295_sroa_13_0_i2030_i_i) + (u64)(18446744073709551613ull));
     v_r182_i_i_i572_i_i_i = v_r83_i_i_i563_i_i_i == 129u;
     if (v_r182_i_i_i572_i_i_i) { goto L_then_28_i_i_i577_i_i_i; } else { goto L_der_core_decode_AnyDecodeRefSliceU8_from_der_f0286__2; }
 L_then_28_i_i_i577_i_i_i:;
@@ -37865,90 +38899,90 @@ L_then_28_i_i_i577_i_i_i:;
     if (v_r189_i_i_i579_i_i_i) { goto L_then_31_i_i_i580_i_i_i; } else { goto L_der_core_decode_AnyDecodeRefSliceU8_from_der_f0286__2; }
 L_then_31_i_i_i580_i_i_i:;
     v_r199_i_i_i581_i_i_i = (u64)v_r187_i_i_i578_i_i_i;
-    v_r15_i1510_i_i_i = v_r173_i_i_i571_i_i_i < v_r199_i_i_i581_i_i_i;
-    if (v_r15_i1510_i_i_i) { goto L_der_core_decode_AnyDecodeRefSliceU8_from_der_f0286__2; } else { goto L_join_3_i1511_i_i_i; }
-L_join_3_i1511_i_i_i:;
-    v_r29_i1512_i_i_i = (P)((u64)v_r170_i_i_i570_i_i_i + (u64)(v_r199_i_i_i581_i_i_i));
-    v_r32_i1513_i_i_i = (u64)((u64)(v_r173_i_i_i571_i_i_i) - (u64)(v_r199_i_i_i581_i_i_i));
-    { p_v_r0_i_i455_sroa_13_0_i2041_i_i = v_r32_i1513_i_i_i; p_v_r0_i_i455_sroa_12_0_i2040_i_i = v_r29_i1512_i_i_i; p_v_r0_i_i455_sroa_11_0_i2039_i_i = v_r199_i_i_i581_i_i_i; p_v_r0_i_i455_sroa_7_0_i2038_i_i = v_r170_i_i_i570_i_i_i; goto L_join_5_i_i534_i_i_i; }
+    v_r15_i1508_i_i_i = v_r173_i_i_i571_i_i_i < v_r199_i_i_i581_i_i_i;
+    if (v_r15_i1508_i_i_i) { goto L_der_core_decode_AnyDecodeRefSliceU8_from_der_f0286__2; } else { goto L_join_3_i1509_i_i_i; }
+L_join_3_i1509_i_i_i:;
+    v_r29_i1510_i_i_i = (P)((u64)v_r170_i_i_i570_i_i_i + (u64)(v_r199_i_i_i581_i_i_i));
+    v_r32_i1511_i_i_i = (u64)((u64)(v_r173_i_i_i571_i_i_i) - (u64)(v_r199_i_i_i581_i_i_i));
+    { p_v_r0_i_i455_sroa_13_0_i2039_i_i = v_r32_i1511_i_i_i; p_v_r0_i_i455_sroa_12_0_i2038_i_i = v_r29_i1510_i_i_i; p_v_r0_i_i455_sroa_11_0_i2037_i_i = v_r199_i_i_i581_i_i_i; p_v_r0_i_i455_sroa_7_0_i2036_i_i = v_r170_i_i_i570_i_i_i; goto L_join_5_i_i534_i_i_i; }
 L_join_5_i_i534_i_i_i:;
-    v_r0_i_i455_sroa_13_0_i2041_i_i = p_v_r0_i_i455_sroa_13_0_i2041_i_i;
-    v_r0_i_i455_sroa_12_0_i2040_i_i = p_v_r0_i_i455_sroa_12_0_i2040_i_i;
-    v_r0_i_i455_sroa_11_0_i2039_i_i = p_v_r0_i_i455_sroa_11_0_i2039_i_i;
-    v_r0_i_i455_sroa_7_0_i2038_i_i = p_v_r0_i_i455_sroa_7_0_i2038_i_i;
-    v_r34_i_i535_i_i_i = get_u8(v_r0_i_i455_sroa_7_0_i2038_i_i);
+    v_r0_i_i455_sroa_13_0_i2039_i_i = p_v_r0_i_i455_sroa_13_0_i2039_i_i;
+    v_r0_i_i455_sroa_12_0_i2038_i_i = p_v_r0_i_i455_sroa_12_0_i2038_i_i;
+    v_r0_i_i455_sroa_11_0_i2037_i_i = p_v_r0_i_i455_sroa_11_0_i2037_i_i;
+    v_r0_i_i455_sroa_7_0_i2036_i_i = p_v_r0_i_i455_sroa_7_0_i2036_i_i;
+    v_r34_i_i535_i_i_i = get_u8(v_r0_i_i455_sroa_7_0_i2036_i_i);
     v_cond_i_i536_i_i_i = v_r34_i_i535_i_i_i == 0u;
     if (v_cond_i_i536_i_i_i) { goto L_arm_6_i_i551_i_i_i; } else { goto L_default_7_i_i537_i_i_i; }
 L_arm_6_i_i551_i_i_i:;
-    v_r40_i5_i553_i_i_i = (u64)((u64)(v_r0_i_i455_sroa_11_0_i2039_i_i) + (u64)(18446744073709551615ull));
+    v_r40_i5_i553_i_i_i = (u64)((u64)(v_r0_i_i455_sroa_11_0_i2037_i_i) + (u64)(18446744073709551615ull));
     v_r47_i_i554_i_i_i = v_r40_i5_i553_i_i_i == 0u;
-    if (v_r47_i_i554_i_i_i) { p_v_r11_sroa_4_i_i462_sroa_0_0_ph_i_i_i = v_r0_i_i455_sroa_7_0_i2038_i_i; p_v_r11_sroa_4_i_i462_sroa_5_0_ph_i_i_i = 1u; goto L_arm_1_i510_i_i_i; } else { goto L_der_core_integer_uint_UintRefDecodeValueRefSliceU8__4; }
+    if (v_r47_i_i554_i_i_i) { p_v_r11_sroa_4_i_i462_sroa_0_0_ph_i_i_i = v_r0_i_i455_sroa_7_0_i2036_i_i; p_v_r11_sroa_4_i_i462_sroa_5_0_ph_i_i_i = 1u; goto L_arm_1_i510_i_i_i; } else { goto L_der_core_integer_uint_UintRefDecodeValueRefSliceU8__4; }
 L_default_7_i_i537_i_i_i:;
     v_r73_i_i538_i_i_i = (u8)(v_r34_i_i535_i_i_i ^ ((u8)1 << 7)) > (u8)(255u ^ ((u8)1 << 7));
-    if (v_r73_i_i538_i_i_i) { p_v_r11_sroa_4_i_i462_sroa_0_0_ph_i_i_i = v_r0_i_i455_sroa_7_0_i2038_i_i; p_v_r11_sroa_4_i_i462_sroa_5_0_ph_i_i_i = v_r0_i_i455_sroa_11_0_i2039_i_i; goto L_arm_1_i510_i_i_i; } else { goto L_der_core_decode_AnyDecodeRefSliceU8_from_der_f0286__2; }
+    if (v_r73_i_i538_i_i_i) { p_v_r11_sroa_4_i_i462_sroa_0_0_ph_i_i_i = v_r0_i_i455_sroa_7_0_i2036_i_i; p_v_r11_sroa_4_i_i462_sroa_5_0_ph_i_i_i = v_r0_i_i455_sroa_11_0_i2037_i_i; goto L_arm_1_i510_i_i_i; } else { goto L_der_core_decode_AnyDecodeRefSliceU8_from_der_f0286__2; }
 L_der_core_integer_uint_UintRefDecodeValueRefSliceU8__4:;
-    v_r37_i_i552_i_i_i = v_r0_i_i455_sroa_7_0_i2038_i_i + 1;
+    v_r37_i_i552_i_i_i = v_r0_i_i455_sroa_7_0_i2036_i_i + 1;
     v_r56_i_i556_i_i_i = get_u8(v_r37_i_i552_i_i_i);
     v_r58_i_i557_i_i_i = (u8)(v_r56_i_i556_i_i_i ^ ((u8)1 << 7)) < (u8)(0u ^ ((u8)1 << 7));
     v_r40_i_i558_i_i_i = v_r58_i_i557_i_i_i ? v_r40_i5_i553_i_i_i : 0u;
     v_r37_i_i559_i_i_i = v_r58_i_i557_i_i_i ? v_r37_i_i552_i_i_i : (P)0;
-    v_not2631_i_i_i = (u8)(v_r56_i_i556_i_i_i ^ ((u8)1 << 7)) > (u8)(255u ^ ((u8)1 << 7));
-    if (v_not2631_i_i_i) { goto L_der_core_decode_AnyDecodeRefSliceU8_from_der_f0286__2; } else { p_v_r11_sroa_4_i_i462_sroa_0_0_ph_i_i_i = v_r37_i_i559_i_i_i; p_v_r11_sroa_4_i_i462_sroa_5_0_ph_i_i_i = v_r40_i_i558_i_i_i; goto L_arm_1_i510_i_i_i; }
+    v_not2629_i_i_i = (u8)(v_r56_i_i556_i_i_i ^ ((u8)1 << 7)) > (u8)(255u ^ ((u8)1 << 7));
+    if (v_not2629_i_i_i) { goto L_der_core_decode_AnyDecodeRefSliceU8_from_der_f0286__2; } else { p_v_r11_sroa_4_i_i462_sroa_0_0_ph_i_i_i = v_r37_i_i559_i_i_i; p_v_r11_sroa_4_i_i462_sroa_5_0_ph_i_i_i = v_r40_i_i558_i_i_i; goto L_arm_1_i510_i_i_i; }
 L_arm_1_i510_i_i_i:;
     v_r11_sroa_4_i_i462_sroa_0_0_ph_i_i_i = p_v_r11_sroa_4_i_i462_sroa_0_0_ph_i_i_i;
     v_r11_sroa_4_i_i462_sroa_5_0_ph_i_i_i = p_v_r11_sroa_4_i_i462_sroa_5_0_ph_i_i_i;
-    v_r53_i_i_i640_i_i_i = v_r0_i_i455_sroa_13_0_i2041_i_i < 2u;
+    v_r53_i_i_i640_i_i_i = v_r0_i_i455_sroa_13_0_i2039_i_i < 2u;
     if (v_r53_i_i_i640_i_i_i) { goto L_der_core_decode_AnyDecodeRefSliceU8_from_der_f0286__2; } else { goto L_join_5_i_i_i641_i_i_i; }
 L_join_5_i_i_i641_i_i_i:;
-    v_r62_i_i_i642_i_i_i = v_r0_i_i455_sroa_12_0_i2040_i_i + 2;
-    v_r65_i_i_i643_i_i_i = (u64)((u64)(v_r0_i_i455_sroa_13_0_i2041_i_i) + (u64)(18446744073709551614ull));
-    v_r73_i_i_i644_i_i_i = get_u8(v_r0_i_i455_sroa_12_0_i2040_i_i);
+    v_r62_i_i_i642_i_i_i = v_r0_i_i455_sroa_12_0_i2038_i_i + 2;
+    v_r65_i_i_i643_i_i_i = (u64)((u64)(v_r0_i_i455_sroa_13_0_i2039_i_i) + (u64)(18446744073709551614ull));
+    v_r73_i_i_i644_i_i_i = get_u8(v_r0_i_i455_sroa_12_0_i2038_i_i);
     v_r78_i_i_i646_i_i_i = v_r73_i_i_i644_i_i_i == 2u;
     if (v_r78_i_i_i646_i_i_i) { goto L_then_6_i_i_i721_i_i_i; } else { goto L_der_core_decode_AnyDecodeRefSliceU8_from_der_f0286__2; }
 L_then_6_i_i_i721_i_i_i:;
-    v_r60_i_i_i722_i_i_i = v_r0_i_i455_sroa_12_0_i2040_i_i + 1;
+    v_r60_i_i_i722_i_i_i = v_r0_i_i455_sroa_12_0_i2038_i_i + 1;
     v_r83_i_i_i723_i_i_i = get_u8(v_r60_i_i_i722_i_i_i);
     v_r85_i_i_i724_i_i_i = (u8)(v_r83_i_i_i723_i_i_i ^ ((u8)1 << 7)) > (u8)(255u ^ ((u8)1 << 7));
     if (v_r85_i_i_i724_i_i_i) { goto L_then_9_i_i_i765_i_i_i; } else { goto L_join_11_i_i_i725_i_i_i; }
 L_then_9_i_i_i765_i_i_i:;
     v_r92_i_i_i766_i_i_i = (u64)v_r83_i_i_i723_i_i_i;
-    v_r15_i1520_i_i_i = v_r65_i_i_i643_i_i_i < v_r92_i_i_i766_i_i_i;
-    v_r29_i1522_i_i_i = (P)((u64)v_r62_i_i_i642_i_i_i + (u64)(v_r92_i_i_i766_i_i_i));
-    v_r32_i1523_i_i_i = (u64)((u64)(v_r65_i_i_i643_i_i_i) - (u64)(v_r92_i_i_i766_i_i_i));
+    v_r15_i1518_i_i_i = v_r65_i_i_i643_i_i_i < v_r92_i_i_i766_i_i_i;
+    v_r29_i1520_i_i_i = (P)((u64)v_r62_i_i_i642_i_i_i + (u64)(v_r92_i_i_i766_i_i_i));
+    v_r32_i1521_i_i_i = (u64)((u64)(v_r65_i_i_i643_i_i_i) - (u64)(v_r92_i_i_i766_i_i_i));
     v_r27_i4_i693_i_i_i = v_r83_i_i_i723_i_i_i == 0u;
-    v_or_cond2103_i_i = (u1)(((u32)(v_r27_i4_i693_i_i_i) | (u32)(v_r15_i1520_i_i_i)) & 1);
-    if (v_or_cond2103_i_i) { goto L_der_core_decode_AnyDecodeRefSliceU8_from_der_f0286__2; } else { p_v_r0_i_i615_sroa_13_0_i2050_i_i = v_r32_i1523_i_i_i; p_v_r0_i_i615_sroa_12_0_i2049_i_i = v_r29_i1522_i_i_i; p_v_r0_i_i615_sroa_11_0_i2048_i_i = v_r92_i_i_i766_i_i_i; p_v_r0_i_i615_sroa_7_0_i2047_i_i = v_r62_i_i_i642_i_i_i; goto L_join_5_i_i694_i_i_i; }
+    v_or_cond2101_i_i = (u1)(((u32)(v_r27_i4_i693_i_i_i) | (u32)(v_r15_i1518_i_i_i)) & 1);
+    if (v_or_cond2101_i_i) { goto L_der_core_decode_AnyDecodeRefSliceU8_from_der_f0286__2; } else { p_v_r0_i_i615_sroa_13_0_i2048_i_i = v_r32_i1521_i_i_i; p_v_r0_i_i615_sroa_12_0_i2047_i_i = v_r29_i1520_i_i_i; p_v_r0_i_i615_sroa_11_0_i2046_i_i = v_r92_i_i_i766_i_i_i; p_v_r0_i_i615_sroa_7_0_i2045_i_i = v_r62_i_i_i642_i_i_i; goto L_join_5_i_i694_i_i_i; }
 L_join_11_i_i_i725_i_i_i:;
     v_r104_i_i_i726_i_i_i = v_r83_i_i_i723_i_i_i == 130u;
     if (v_r104_i_i_i726_i_i_i) { goto L_then_12_i_i_i742_i_i_i; } else { goto L_join_14_i_i_i727_i_i_i; }
 L_then_12_i_i_i742_i_i_i:;
-    v_r110_i_i_i743_i_i_i = v_r0_i_i455_sroa_13_0_i2041_i_i < 4u;
+    v_r110_i_i_i743_i_i_i = v_r0_i_i455_sroa_13_0_i2039_i_i < 4u;
     if (v_r110_i_i_i743_i_i_i) { goto L_der_core_decode_AnyDecodeRefSliceU8_from_der_f0286__2; } else { goto L_join_19_i_i_i744_i_i_i; }
 L_join_19_i_i_i744_i_i_i:;
     v_r130_i_i_i745_i_i_i = get_u8(v_r62_i_i_i642_i_i_i);
     v_r132_not_i_i_i746_i_i_i = v_r130_i_i_i745_i_i_i == 0u;
     if (v_r132_not_i_i_i746_i_i_i) { goto L_der_core_decode_AnyDecodeRefSliceU8_from_der_f0286__2; } else { goto L_then_20_i_i_i747_i_i_i; }
 L_then_20_i_i_i747_i_i_i:;
-    v_r122_i_i_i748_i_i_i = (u64)((u64)(v_r0_i_i455_sroa_13_0_i2041_i_i) + (u64)(18446744073709551612ull));
-    v_r117_i_i_i750_i_i_i = v_r0_i_i455_sroa_12_0_i2040_i_i + 3;
+    v_r122_i_i_i748_i_i_i = (u64)((u64)(v_r0_i_i455_sroa_13_0_i2039_i_i) + (u64)(18446744073709551612ull));
+    v_r117_i_i_i750_i_i_i = v_r0_i_i455_sroa_12_0_i2038_i_i + 3;
     v_r139_i_i_i751_i_i_i = (u64)v_r130_i_i_i745_i_i_i;
     v_r141_i_i_i752_i_i_i = (u64)((u64)(v_r139_i_i_i751_i_i_i) << (u64)((8u & 63)));
     v_r143_i_i_i753_i_i_i = get_u8(v_r117_i_i_i750_i_i_i);
     v_r145_i_i_i754_i_i_i = (u64)v_r143_i_i_i753_i_i_i;
     v_r148_i_i_i755_i_i_i = (u64)((u64)(v_r141_i_i_i752_i_i_i) | (u64)(v_r145_i_i_i754_i_i_i));
-    v_r15_i1530_i_i_i = v_r122_i_i_i748_i_i_i < v_r148_i_i_i755_i_i_i;
-    if (v_r15_i1530_i_i_i) { goto L_der_core_decode_AnyDecodeRefSliceU8_from_der_f0286__2; } else { goto L_join_3_i1531_i_i_i; }
-L_join_3_i1531_i_i_i:;
-    v_r119_i_i_i749_i_i_i = v_r0_i_i455_sroa_12_0_i2040_i_i + 4;
-    v_r29_i1532_i_i_i = (P)((u64)v_r119_i_i_i749_i_i_i + (u64)(v_r148_i_i_i755_i_i_i));
-    v_r32_i1533_i_i_i = (u64)((u64)(v_r122_i_i_i748_i_i_i) - (u64)(v_r148_i_i_i755_i_i_i));
-    { p_v_r0_i_i615_sroa_13_0_i2050_i_i = v_r32_i1533_i_i_i; p_v_r0_i_i615_sroa_12_0_i2049_i_i = v_r29_i1532_i_i_i; p_v_r0_i_i615_sroa_11_0_i2048_i_i = v_r148_i_i_i755_i_i_i; p_v_r0_i_i615_sroa_7_0_i2047_i_i = v_r119_i_i_i749_i_i_i; goto L_join_5_i_i694_i_i_i; }
+    v_r15_i1528_i_i_i = v_r122_i_i_i748_i_i_i < v_r148_i_i_i755_i_i_i;
+    if (v_r15_i1528_i_i_i) { goto L_der_core_decode_AnyDecodeRefSliceU8_from_der_f0286__2; } else { goto L_join_3_i1529_i_i_i; }
+L_join_3_i1529_i_i_i:;
+    v_r119_i_i_i749_i_i_i = v_r0_i_i455_sroa_12_0_i2038_i_i + 4;
+    v_r29_i1530_i_i_i = (P)((u64)v_r119_i_i_i749_i_i_i + (u64)(v_r148_i_i_i755_i_i_i));
+    v_r32_i1531_i_i_i = (u64)((u64)(v_r122_i_i_i748_i_i_i) - (u64)(v_r148_i_i_i755_i_i_i));
+    { p_v_r0_i_i615_sroa_13_0_i2048_i_i = v_r32_i1531_i_i_i; p_v_r0_i_i615_sroa_12_0_i2047_i_i = v_r29_i1530_i_i_i; p_v_r0_i_i615_sroa_11_0_i2046_i_i = v_r148_i_i_i755_i_i_i; p_v_r0_i_i615_sroa_7_0_i2045_i_i = v_r119_i_i_i749_i_i_i; goto L_join_5_i_i694_i_i_i; }
 L_join_14_i_i_i727_i_i_i:;
     v_r163_i_i_i728_i_i_i = v_r65_i_i_i643_i_i_i == 0u;
     if (v_r163_i_i_i728_i_i_i) { goto L_der_core_decode_AnyDecodeRefSliceU8_from_der_f0286__2; } else { goto L_join_27_i_i_i729_i_i_i; }
 L_join_27_i_i_i729_i_i_i:;
-    v_r170_i_i_i730_i_i_i = v_r0_i_i455_sroa_12_0_i2040_i_i + 3;
-    v_r173_i_i_i731_i_i_i = (u64)((u64)(v_r0_i_i455_sroa_13_0_i2041_i_i) + (u64)(18446744073709551613ull));
+    v_r170_i_i_i730_i_i_i = v_r0_i_i455_sroa_12_0_i2038_i_i + 3;
+    v_r173_i_i_i731_i_i_i = (u64)((u64)(v_r0_i_i455_sroa_13_0_i2039_i_i) + (u64)(18446744073709551613ull));
     v_r182_i_i_i732_i_i_i = v_r83_i_i_i723_i_i_i == 129u;
     if (v_r182_i_i_i732_i_i_i) { goto L_then_28_i_i_i737_i_i_i; } else { goto L_der_core_decode_AnyDecodeRefSliceU8_from_der_f0286__2; }
 L_then_28_i_i_i737_i_i_i:;
@@ -37957,90 +38991,90 @@ L_then_28_i_i_i737_i_i_i:;
     if (v_r189_i_i_i739_i_i_i) { goto L_then_31_i_i_i740_i_i_i; } else { goto L_der_core_decode_AnyDecodeRefSliceU8_from_der_f0286__2; }
 L_then_31_i_i_i740_i_i_i:;
     v_r199_i_i_i741_i_i_i = (u64)v_r187_i_i_i738_i_i_i;
-    v_r15_i1540_i_i_i = v_r173_i_i_i731_i_i_i < v_r199_i_i_i741_i_i_i;
-    if (v_r15_i1540_i_i_i) { goto L_der_core_decode_AnyDecodeRefSliceU8_from_der_f0286__2; } else { goto L_join_3_i1541_i_i_i; }
-L_join_3_i1541_i_i_i:;
-    v_r29_i1542_i_i_i = (P)((u64)v_r170_i_i_i730_i_i_i + (u64)(v_r199_i_i_i741_i_i_i));
-    v_r32_i1543_i_i_i = (u64)((u64)(v_r173_i_i_i731_i_i_i) - (u64)(v_r199_i_i_i741_i_i_i));
-    { p_v_r0_i_i615_sroa_13_0_i2050_i_i = v_r32_i1543_i_i_i; p_v_r0_i_i615_sroa_12_0_i2049_i_i = v_r29_i1542_i_i_i; p_v_r0_i_i615_sroa_11_0_i2048_i_i = v_r199_i_i_i741_i_i_i; p_v_r0_i_i615_sroa_7_0_i2047_i_i = v_r170_i_i_i730_i_i_i; goto L_join_5_i_i694_i_i_i; }
+    v_r15_i1538_i_i_i = v_r173_i_i_i731_i_i_i < v_r199_i_i_i741_i_i_i;
+    if (v_r15_i1538_i_i_i) { goto L_der_core_decode_AnyDecodeRefSliceU8_from_der_f0286__2; } else { goto L_join_3_i1539_i_i_i; }
+L_join_3_i1539_i_i_i:;
+    v_r29_i1540_i_i_i = (P)((u64)v_r170_i_i_i730_i_i_i + (u64)(v_r199_i_i_i741_i_i_i));
+    v_r32_i1541_i_i_i = (u64)((u64)(v_r173_i_i_i731_i_i_i) - (u64)(v_r199_i_i_i741_i_i_i));
+    { p_v_r0_i_i615_sroa_13_0_i2048_i_i = v_r32_i1541_i_i_i; p_v_r0_i_i615_sroa_12_0_i2047_i_i = v_r29_i1540_i_i_i; p_v_r0_i_i615_sroa_11_0_i2046_i_i = v_r199_i_i_i741_i_i_i; p_v_r0_i_i615_sroa_7_0_i2045_i_i = v_r170_i_i_i730_i_i_i; goto L_join_5_i_i694_i_i_i; }
 L_join_5_i_i694_i_i_i:;
-    v_r0_i_i615_sroa_13_0_i2050_i_i = p_v_r0_i_i615_sroa_13_0_i2050_i_i;
-    v_r0_i_i615_sroa_12_0_i2049_i_i = p_v_r0_i_i615_sroa_12_0_i2049_i_i;
-    v_r0_i_i615_sroa_11_0_i2048_i_i = p_v_r0_i_i615_sroa_11_0_i2048_i_i;
-    v_r0_i_i615_sroa_7_0_i2047_i_i = p_v_r0_i_i615_sroa_7_0_i2047_i_i;
-    v_r34_i_i695_i_i_i = get_u8(v_r0_i_i615_sroa_7_0_i2047_i_i);
+    v_r0_i_i615_sroa_13_0_i2048_i_i = p_v_r0_i_i615_sroa_13_0_i2048_i_i;
+    v_r0_i_i615_sroa_12_0_i2047_i_i = p_v_r0_i_i615_sroa_12_0_i2047_i_i;
+    v_r0_i_i615_sroa_11_0_i2046_i_i = p_v_r0_i_i615_sroa_11_0_i2046_i_i;
+    v_r0_i_i615_sroa_7_0_i2045_i_i = p_v_r0_i_i615_sroa_7_0_i2045_i_i;
+    v_r34_i_i695_i_i_i = get_u8(v_r0_i_i615_sroa_7_0_i2045_i_i);
     v_cond_i_i696_i_i_i = v_r34_i_i695_i_i_i == 0u;
     if (v_cond_i_i696_i_i_i) { goto L_arm_6_i_i711_i_i_i; } else { goto L_default_7_i_i697_i_i_i; }
 L_arm_6_i_i711_i_i_i:;
-    v_r40_i5_i713_i_i_i = (u64)((u64)(v_r0_i_i615_sroa_11_0_i2048_i_i) + (u64)(18446744073709551615ull));
+    v_r40_i5_i713_i_i_i = (u64)((u64)(v_r0_i_i615_sroa_11_0_i2046_i_i) + (u64)(18446744073709551615ull));
     v_r47_i_i714_i_i_i = v_r40_i5_i713_i_i_i == 0u;
-    if (v_r47_i_i714_i_i_i) { p_v_r11_sroa_4_i_i622_sroa_0_0_ph_i_i_i = v_r0_i_i615_sroa_7_0_i2047_i_i; p_v_r11_sroa_4_i_i622_sroa_5_0_ph_i_i_i = 1u; goto L_arm_1_i670_i_i_i; } else { goto L_der_core_integer_uint_UintRefDecodeValueRefSliceU8__5; }
+    if (v_r47_i_i714_i_i_i) { p_v_r11_sroa_4_i_i622_sroa_0_0_ph_i_i_i = v_r0_i_i615_sroa_7_0_i2045_i_i; p_v_r11_sroa_4_i_i622_sroa_5_0_ph_i_i_i = 1u; goto L_arm_1_i670_i_i_i; } else { goto L_der_core_integer_uint_UintRefDecodeValueRefSliceU8__5; }
 L_default_7_i_i697_i_i_i:;
     v_r73_i_i698_i_i_i = (u8)(v_r34_i_i695_i_i_i ^ ((u8)1 << 7)) > (u8)(255u ^ ((u8)1 << 7));
-    if (v_r73_i_i698_i_i_i) { p_v_r11_sroa_4_i_i622_sroa_0_0_ph_i_i_i = v_r0_i_i615_sroa_7_0_i2047_i_i; p_v_r11_sroa_4_i_i622_sroa_5_0_ph_i_i_i = v_r0_i_i615_sroa_11_0_i2048_i_i; goto L_arm_1_i670_i_i_i; } else { goto L_der_core_decode_AnyDecodeRefSliceU8_from_der_f0286__2; }
+    if (v_r73_i_i698_i_i_i) { p_v_r11_sroa_4_i_i622_sroa_0_0_ph_i_i_i = v_r0_i_i615_sroa_7_0_i2045_i_i; p_v_r11_sroa_4_i_i622_sroa_5_0_ph_i_i_i = v_r0_i_i615_sroa_11_0_i2046_i_i; goto L_arm_1_i670_i_i_i; } else { goto L_der_core_decode_AnyDecodeRefSliceU8_from_der_f0286__2; }
 L_der_core_integer_uint_UintRefDecodeValueRefSliceU8__5:;
-    v_r37_i_i712_i_i_i = v_r0_i_i615_sroa_7_0_i2047_i_i + 1;
+    v_r37_i_i712_i_i_i = v_r0_i_i615_sroa_7_0_i2045_i_i + 1;
     v_r56_i_i716_i_i_i = get_u8(v_r37_i_i712_i_i_i);
     v_r58_i_i717_i_i_i = (u8)(v_r56_i_i716_i_i_i ^ ((u8)1 << 7)) < (u8)(0u ^ ((u8)1 << 7));
     v_r40_i_i718_i_i_i = v_r58_i_i717_i_i_i ? v_r40_i5_i713_i_i_i : 0u;
     v_r37_i_i719_i_i_i = v_r58_i_i717_i_i_i ? v_r37_i_i712_i_i_i : (P)0;
-    v_not2632_i_i_i = (u8)(v_r56_i_i716_i_i_i ^ ((u8)1 << 7)) > (u8)(255u ^ ((u8)1 << 7));
-    if (v_not2632_i_i_i) { goto L_der_core_decode_AnyDecodeRefSliceU8_from_der_f0286__2; } else { p_v_r11_sroa_4_i_i622_sroa_0_0_ph_i_i_i = v_r37_i_i719_i_i_i; p_v_r11_sroa_4_i_i622_sroa_5_0_ph_i_i_i = v_r40_i_i718_i_i_i; goto L_arm_1_i670_i_i_i; }
+    v_not2630_i_i_i = (u8)(v_r56_i_i716_i_i_i ^ ((u8)1 << 7)) > (u8)(255u ^ ((u8)1 << 7));
+    if (v_not2630_i_i_i) { goto L_der_core_decode_AnyDecodeRefSliceU8_from_der_f0286__2; } else { p_v_r11_sroa_4_i_i622_sroa_0_0_ph_i_i_i = v_r37_i_i719_i_i_i; p_v_r11_sroa_4_i_i622_sroa_5_0_ph_i_i_i = v_r40_i_i718_i_i_i; goto L_arm_1_i670_i_i_i; }
 L_arm_1_i670_i_i_i:;
     v_r11_sroa_4_i_i622_sroa_0_0_ph_i_i_i = p_v_r11_sroa_4_i_i622_sroa_0_0_ph_i_i_i;
     v_r11_sroa_4_i_i622_sroa_5_0_ph_i_i_i = p_v_r11_sroa_4_i_i622_sroa_5_0_ph_i_i_i;
-    v_r53_i_i_i800_i_i_i = v_r0_i_i615_sroa_13_0_i2050_i_i < 2u;
+    v_r53_i_i_i800_i_i_i = v_r0_i_i615_sroa_13_0_i2048_i_i < 2u;
     if (v_r53_i_i_i800_i_i_i) { goto L_der_core_decode_AnyDecodeRefSliceU8_from_der_f0286__2; } else { goto L_join_5_i_i_i801_i_i_i; }
 L_join_5_i_i_i801_i_i_i:;
-    v_r62_i_i_i802_i_i_i = v_r0_i_i615_sroa_12_0_i2049_i_i + 2;
-    v_r65_i_i_i803_i_i_i = (u64)((u64)(v_r0_i_i615_sroa_13_0_i2050_i_i) + (u64)(18446744073709551614ull));
-    v_r73_i_i_i804_i_i_i = get_u8(v_r0_i_i615_sroa_12_0_i2049_i_i);
+    v_r62_i_i_i802_i_i_i = v_r0_i_i615_sroa_12_0_i2047_i_i + 2;
+    v_r65_i_i_i803_i_i_i = (u64)((u64)(v_r0_i_i615_sroa_13_0_i2048_i_i) + (u64)(18446744073709551614ull));
+    v_r73_i_i_i804_i_i_i = get_u8(v_r0_i_i615_sroa_12_0_i2047_i_i);
     v_r78_i_i_i806_i_i_i = v_r73_i_i_i804_i_i_i == 2u;
     if (v_r78_i_i_i806_i_i_i) { goto L_then_6_i_i_i881_i_i_i; } else { goto L_der_core_decode_AnyDecodeRefSliceU8_from_der_f0286__2; }
 L_then_6_i_i_i881_i_i_i:;
-    v_r60_i_i_i882_i_i_i = v_r0_i_i615_sroa_12_0_i2049_i_i + 1;
+    v_r60_i_i_i882_i_i_i = v_r0_i_i615_sroa_12_0_i2047_i_i + 1;
     v_r83_i_i_i883_i_i_i = get_u8(v_r60_i_i_i882_i_i_i);
     v_r85_i_i_i884_i_i_i = (u8)(v_r83_i_i_i883_i_i_i ^ ((u8)1 << 7)) > (u8)(255u ^ ((u8)1 << 7));
     if (v_r85_i_i_i884_i_i_i) { goto L_then_9_i_i_i925_i_i_i; } else { goto L_join_11_i_i_i885_i_i_i; }
 L_then_9_i_i_i925_i_i_i:;
     v_r92_i_i_i926_i_i_i = (u64)v_r83_i_i_i883_i_i_i;
-    v_r15_i1550_i_i_i = v_r65_i_i_i803_i_i_i < v_r92_i_i_i926_i_i_i;
-    v_r29_i1552_i_i_i = (P)((u64)v_r62_i_i_i802_i_i_i + (u64)(v_r92_i_i_i926_i_i_i));
-    v_r32_i1553_i_i_i = (u64)((u64)(v_r65_i_i_i803_i_i_i) - (u64)(v_r92_i_i_i926_i_i_i));
+    v_r15_i1548_i_i_i = v_r65_i_i_i803_i_i_i < v_r92_i_i_i926_i_i_i;
+    v_r29_i1550_i_i_i = (P)((u64)v_r62_i_i_i802_i_i_i + (u64)(v_r92_i_i_i926_i_i_i));
+    v_r32_i1551_i_i_i = (u64)((u64)(v_r65_i_i_i803_i_i_i) - (u64)(v_r92_i_i_i926_i_i_i));
     v_r27_i4_i853_i_i_i = v_r83_i_i_i883_i_i_i == 0u;
-    v_or_cond2104_i_i = (u1)(((u32)(v_r27_i4_i853_i_i_i) | (u32)(v_r15_i1550_i_i_i)) & 1);
-    if (v_or_cond2104_i_i) { goto L_der_core_decode_AnyDecodeRefSliceU8_from_der_f0286__2; } else { p_v_r0_i_i775_sroa_13_0_i2059_i_i = v_r32_i1553_i_i_i; p_v_r0_i_i775_sroa_12_0_i2058_i_i = v_r29_i1552_i_i_i; p_v_r0_i_i775_sroa_11_0_i2057_i_i = v_r92_i_i_i926_i_i_i; p_v_r0_i_i775_sroa_7_0_i2056_i_i = v_r62_i_i_i802_i_i_i; goto L_join_5_i_i854_i_i_i; }
+    v_or_cond2102_i_i = (u1)(((u32)(v_r27_i4_i853_i_i_i) | (u32)(v_r15_i1548_i_i_i)) & 1);
+    if (v_or_cond2102_i_i) { goto L_der_core_decode_AnyDecodeRefSliceU8_from_der_f0286__2; } else { p_v_r0_i_i775_sroa_13_0_i2057_i_i = v_r32_i1551_i_i_i; p_v_r0_i_i775_sroa_12_0_i2056_i_i = v_r29_i1550_i_i_i; p_v_r0_i_i775_sroa_11_0_i2055_i_i = v_r92_i_i_i926_i_i_i; p_v_r0_i_i775_sroa_7_0_i2054_i_i = v_r62_i_i_i802_i_i_i; goto L_join_5_i_i854_i_i_i; }
 L_join_11_i_i_i885_i_i_i:;
     v_r104_i_i_i886_i_i_i = v_r83_i_i_i883_i_i_i == 130u;
     if (v_r104_i_i_i886_i_i_i) { goto L_then_12_i_i_i902_i_i_i; } else { goto L_join_14_i_i_i887_i_i_i; }
 L_then_12_i_i_i902_i_i_i:;
-    v_r110_i_i_i903_i_i_i = v_r0_i_i615_sroa_13_0_i2050_i_i < 4u;
+    v_r110_i_i_i903_i_i_i = v_r0_i_i615_sroa_13_0_i2048_i_i < 4u;
     if (v_r110_i_i_i903_i_i_i) { goto L_der_core_decode_AnyDecodeRefSliceU8_from_der_f0286__2; } else { goto L_join_19_i_i_i904_i_i_i; }
 L_join_19_i_i_i904_i_i_i:;
     v_r130_i_i_i905_i_i_i = get_u8(v_r62_i_i_i802_i_i_i);
     v_r132_not_i_i_i906_i_i_i = v_r130_i_i_i905_i_i_i == 0u;
     if (v_r132_not_i_i_i906_i_i_i) { goto L_der_core_decode_AnyDecodeRefSliceU8_from_der_f0286__2; } else { goto L_then_20_i_i_i907_i_i_i; }
 L_then_20_i_i_i907_i_i_i:;
-    v_r122_i_i_i908_i_i_i = (u64)((u64)(v_r0_i_i615_sroa_13_0_i2050_i_i) + (u64)(18446744073709551612ull));
-    v_r117_i_i_i910_i_i_i = v_r0_i_i615_sroa_12_0_i2049_i_i + 3;
+    v_r122_i_i_i908_i_i_i = (u64)((u64)(v_r0_i_i615_sroa_13_0_i2048_i_i) + (u64)(18446744073709551612ull));
+    v_r117_i_i_i910_i_i_i = v_r0_i_i615_sroa_12_0_i2047_i_i + 3;
     v_r139_i_i_i911_i_i_i = (u64)v_r130_i_i_i905_i_i_i;
     v_r141_i_i_i912_i_i_i = (u64)((u64)(v_r139_i_i_i911_i_i_i) << (u64)((8u & 63)));
     v_r143_i_i_i913_i_i_i = get_u8(v_r117_i_i_i910_i_i_i);
     v_r145_i_i_i914_i_i_i = (u64)v_r143_i_i_i913_i_i_i;
     v_r148_i_i_i915_i_i_i = (u64)((u64)(v_r141_i_i_i912_i_i_i) | (u64)(v_r145_i_i_i914_i_i_i));
-    v_r15_i1560_i_i_i = v_r122_i_i_i908_i_i_i < v_r148_i_i_i915_i_i_i;
-    if (v_r15_i1560_i_i_i) { goto L_der_core_decode_AnyDecodeRefSliceU8_from_der_f0286__2; } else { goto L_join_3_i1561_i_i_i; }
-L_join_3_i1561_i_i_i:;
-    v_r119_i_i_i909_i_i_i = v_r0_i_i615_sroa_12_0_i2049_i_i + 4;
-    v_r29_i1562_i_i_i = (P)((u64)v_r119_i_i_i909_i_i_i + (u64)(v_r148_i_i_i915_i_i_i));
-    v_r32_i1563_i_i_i = (u64)((u64)(v_r122_i_i_i908_i_i_i) - (u64)(v_r148_i_i_i915_i_i_i));
-    { p_v_r0_i_i775_sroa_13_0_i2059_i_i = v_r32_i1563_i_i_i; p_v_r0_i_i775_sroa_12_0_i2058_i_i = v_r29_i1562_i_i_i; p_v_r0_i_i775_sroa_11_0_i2057_i_i = v_r148_i_i_i915_i_i_i; p_v_r0_i_i775_sroa_7_0_i2056_i_i = v_r119_i_i_i909_i_i_i; goto L_join_5_i_i854_i_i_i; }
+    v_r15_i1558_i_i_i = v_r122_i_i_i908_i_i_i < v_r148_i_i_i915_i_i_i;
+    if (v_r15_i1558_i_i_i) { goto L_der_core_decode_AnyDecodeRefSliceU8_from_der_f0286__2; } else { goto L_join_3_i1559_i_i_i; }
+L_join_3_i1559_i_i_i:;
+    v_r119_i_i_i909_i_i_i = v_r0_i_i615_sroa_12_0_i2047_i_i + 4;
+    v_r29_i1560_i_i_i = (P)((u64)v_r119_i_i_i909_i_i_i + (u64)(v_r148_i_i_i915_i_i_i));
+    v_r32_i1561_i_i_i = (u64)((u64)(v_r122_i_i_i908_i_i_i) - (u64)(v_r148_i_i_i915_i_i_i));
+    { p_v_r0_i_i775_sroa_13_0_i2057_i_i = v_r32_i1561_i_i_i; p_v_r0_i_i775_sroa_12_0_i2056_i_i = v_r29_i1560_i_i_i; p_v_r0_i_i775_sroa_11_0_i2055_i_i = v_r148_i_i_i915_i_i_i; p_v_r0_i_i775_sroa_7_0_i2054_i_i = v_r119_i_i_i909_i_i_i; goto L_join_5_i_i854_i_i_i; }
 L_join_14_i_i_i887_i_i_i:;
     v_r163_i_i_i888_i_i_i = v_r65_i_i_i803_i_i_i == 0u;
     if (v_r163_i_i_i888_i_i_i) { goto L_der_core_decode_AnyDecodeRefSliceU8_from_der_f0286__2; } else { goto L_join_27_i_i_i889_i_i_i; }
 L_join_27_i_i_i889_i_i_i:;
-    v_r170_i_i_i890_i_i_i = v_r0_i_i615_sroa_12_0_i2049_i_i + 3;
-    v_r173_i_i_i891_i_i_i = (u64)((u64)(v_r0_i_i615_sroa_13_0_i2050_i_i) + (u64)(18446744073709551613ull));
+    v_r170_i_i_i890_i_i_i = v_r0_i_i615_sroa_12_0_i2047_i_i + 3;
+    v_r173_i_i_i891_i_i_i = (u64)((u64)(v_r0_i_i615_sroa_13_0_i2048_i_i) + (u64)(18446744073709551613ull));
     v_r182_i_i_i892_i_i_i = v_r83_i_i_i883_i_i_i == 129u;
     if (v_r182_i_i_i892_i_i_i) { goto L_then_28_i_i_i897_i_i_i; } else { goto L_der_core_decode_AnyDecodeRefSliceU8_from_der_f0286__2; }
 L_then_28_i_i_i897_i_i_i:;
@@ -38049,90 +39083,90 @@ L_then_28_i_i_i897_i_i_i:;
     if (v_r189_i_i_i899_i_i_i) { goto L_then_31_i_i_i900_i_i_i; } else { goto L_der_core_decode_AnyDecodeRefSliceU8_from_der_f0286__2; }
 L_then_31_i_i_i900_i_i_i:;
     v_r199_i_i_i901_i_i_i = (u64)v_r187_i_i_i898_i_i_i;
-    v_r15_i1570_i_i_i = v_r173_i_i_i891_i_i_i < v_r199_i_i_i901_i_i_i;
-    if (v_r15_i1570_i_i_i) { goto L_der_core_decode_AnyDecodeRefSliceU8_from_der_f0286__2; } else { goto L_join_3_i1571_i_i_i; }
-L_join_3_i1571_i_i_i:;
-    v_r29_i1572_i_i_i = (P)((u64)v_r170_i_i_i890_i_i_i + (u64)(v_r199_i_i_i901_i_i_i));
-    v_r32_i1573_i_i_i = (u64)((u64)(v_r173_i_i_i891_i_i_i) - (u64)(v_r199_i_i_i901_i_i_i));
-    { p_v_r0_i_i775_sroa_13_0_i2059_i_i = v_r32_i1573_i_i_i; p_v_r0_i_i775_sroa_12_0_i2058_i_i = v_r29_i1572_i_i_i; p_v_r0_i_i775_sroa_11_0_i2057_i_i = v_r199_i_i_i901_i_i_i; p_v_r0_i_i775_sroa_7_0_i2056_i_i = v_r170_i_i_i890_i_i_i; goto L_join_5_i_i854_i_i_i; }
+    v_r15_i1568_i_i_i = v_r173_i_i_i891_i_i_i < v_r199_i_i_i901_i_i_i;
+    if (v_r15_i1568_i_i_i) { goto L_der_core_decode_AnyDecodeRefSliceU8_from_der_f0286__2; } else { goto L_join_3_i1569_i_i_i; }
+L_join_3_i1569_i_i_i:;
+    v_r29_i1570_i_i_i = (P)((u64)v_r170_i_i_i890_i_i_i + (u64)(v_r199_i_i_i901_i_i_i));
+    v_r32_i1571_i_i_i = (u64)((u64)(v_r173_i_i_i891_i_i_i) - (u64)(v_r199_i_i_i901_i_i_i));
+    { p_v_r0_i_i775_sroa_13_0_i2057_i_i = v_r32_i1571_i_i_i; p_v_r0_i_i775_sroa_12_0_i2056_i_i = v_r29_i1570_i_i_i; p_v_r0_i_i775_sroa_11_0_i2055_i_i = v_r199_i_i_i901_i_i_i; p_v_r0_i_i775_sroa_7_0_i2054_i_i = v_r170_i_i_i890_i_i_i; goto L_join_5_i_i854_i_i_i; }
 L_join_5_i_i854_i_i_i:;
-    v_r0_i_i775_sroa_13_0_i2059_i_i = p_v_r0_i_i775_sroa_13_0_i2059_i_i;
-    v_r0_i_i775_sroa_12_0_i2058_i_i = p_v_r0_i_i775_sroa_12_0_i2058_i_i;
-    v_r0_i_i775_sroa_11_0_i2057_i_i = p_v_r0_i_i775_sroa_11_0_i2057_i_i;
-    v_r0_i_i775_sroa_7_0_i2056_i_i = p_v_r0_i_i775_sroa_7_0_i2056_i_i;
-    v_r34_i_i855_i_i_i = get_u8(v_r0_i_i775_sroa_7_0_i2056_i_i);
+    v_r0_i_i775_sroa_13_0_i2057_i_i = p_v_r0_i_i775_sroa_13_0_i2057_i_i;
+    v_r0_i_i775_sroa_12_0_i2056_i_i = p_v_r0_i_i775_sroa_12_0_i2056_i_i;
+    v_r0_i_i775_sroa_11_0_i2055_i_i = p_v_r0_i_i775_sroa_11_0_i2055_i_i;
+    v_r0_i_i775_sroa_7_0_i2054_i_i = p_v_r0_i_i775_sroa_7_0_i2054_i_i;
+    v_r34_i_i855_i_i_i = get_u8(v_r0_i_i775_sroa_7_0_i2054_i_i);
     v_cond_i_i856_i_i_i = v_r34_i_i855_i_i_i == 0u;
     if (v_cond_i_i856_i_i_i) { goto L_arm_6_i_i871_i_i_i; } else { goto L_default_7_i_i857_i_i_i; }
 L_arm_6_i_i871_i_i_i:;
-    v_r40_i5_i873_i_i_i = (u64)((u64)(v_r0_i_i775_sroa_11_0_i2057_i_i) + (u64)(18446744073709551615ull));
+    v_r40_i5_i873_i_i_i = (u64)((u64)(v_r0_i_i775_sroa_11_0_i2055_i_i) + (u64)(18446744073709551615ull));
     v_r47_i_i874_i_i_i = v_r40_i5_i873_i_i_i == 0u;
-    if (v_r47_i_i874_i_i_i) { p_v_r11_sroa_4_i_i782_sroa_0_0_ph_i_i_i = v_r0_i_i775_sroa_7_0_i2056_i_i; p_v_r11_sroa_4_i_i782_sroa_5_0_ph_i_i_i = 1u; goto L_arm_1_i830_i_i_i; } else { goto L_der_core_integer_uint_UintRefDecodeValueRefSliceU8__6; }
+    if (v_r47_i_i874_i_i_i) { p_v_r11_sroa_4_i_i782_sroa_0_0_ph_i_i_i = v_r0_i_i775_sroa_7_0_i2054_i_i; p_v_r11_sroa_4_i_i782_sroa_5_0_ph_i_i_i = 1u; goto L_arm_1_i830_i_i_i; } else { goto L_der_core_integer_uint_UintRefDecodeValueRefSliceU8__6; }
 L_default_7_i_i857_i_i_i:;
     v_r73_i_i858_i_i_i = (u8)(v_r34_i_i855_i_i_i ^ ((u8)1 << 7)) > (u8)(255u ^ ((u8)1 << 7));
-    if (v_r73_i_i858_i_i_i) { p_v_r11_sroa_4_i_i782_sroa_0_0_ph_i_i_i = v_r0_i_i775_sroa_7_0_i2056_i_i; p_v_r11_sroa_4_i_i782_sroa_5_0_ph_i_i_i = v_r0_i_i775_sroa_11_0_i2057_i_i; goto L_arm_1_i830_i_i_i; } else { goto L_der_core_decode_AnyDecodeRefSliceU8_from_der_f0286__2; }
+    if (v_r73_i_i858_i_i_i) { p_v_r11_sroa_4_i_i782_sroa_0_0_ph_i_i_i = v_r0_i_i775_sroa_7_0_i2054_i_i; p_v_r11_sroa_4_i_i782_sroa_5_0_ph_i_i_i = v_r0_i_i775_sroa_11_0_i2055_i_i; goto L_arm_1_i830_i_i_i; } else { goto L_der_core_decode_AnyDecodeRefSliceU8_from_der_f0286__2; }
 L_der_core_integer_uint_UintRefDecodeValueRefSliceU8__6:;
-    v_r37_i_i872_i_i_i = v_r0_i_i775_sroa_7_0_i2056_i_i + 1;
+    v_r37_i_i872_i_i_i = v_r0_i_i775_sroa_7_0_i2054_i_i + 1;
     v_r56_i_i876_i_i_i = get_u8(v_r37_i_i872_i_i_i);
     v_r58_i_i877_i_i_i = (u8)(v_r56_i_i876_i_i_i ^ ((u8)1 << 7)) < (u8)(0u ^ ((u8)1 << 7));
     v_r40_i_i878_i_i_i = v_r58_i_i877_i_i_i ? v_r40_i5_i873_i_i_i : 0u;
     v_r37_i_i879_i_i_i = v_r58_i_i877_i_i_i ? v_r37_i_i872_i_i_i : (P)0;
-    v_not2633_i_i_i = (u8)(v_r56_i_i876_i_i_i ^ ((u8)1 << 7)) > (u8)(255u ^ ((u8)1 << 7));
-    if (v_not2633_i_i_i) { goto L_der_core_decode_AnyDecodeRefSliceU8_from_der_f0286__2; } else { p_v_r11_sroa_4_i_i782_sroa_0_0_ph_i_i_i = v_r37_i_i879_i_i_i; p_v_r11_sroa_4_i_i782_sroa_5_0_ph_i_i_i = v_r40_i_i878_i_i_i; goto L_arm_1_i830_i_i_i; }
+    v_not2631_i_i_i = (u8)(v_r56_i_i876_i_i_i ^ ((u8)1 << 7)) > (u8)(255u ^ ((u8)1 << 7));
+    if (v_not2631_i_i_i) { goto L_der_core_decode_AnyDecodeRefSliceU8_from_der_f0286__2; } else { p_v_r11_sroa_4_i_i782_sroa_0_0_ph_i_i_i = v_r37_i_i879_i_i_i; p_v_r11_sroa_4_i_i782_sroa_5_0_ph_i_i_i = v_r40_i_i878_i_i_i; goto L_arm_1_i830_i_i_i; }
 L_arm_1_i830_i_i_i:;
     v_r11_sroa_4_i_i782_sroa_0_0_ph_i_i_i = p_v_r11_sroa_4_i_i782_sroa_0_0_ph_i_i_i;
     v_r11_sroa_4_i_i782_sroa_5_0_ph_i_i_i = p_v_r11_sroa_4_i_i782_sroa_5_0_ph_i_i_i;
-    v_r53_i_i_i960_i_i_i = v_r0_i_i775_sroa_13_0_i2059_i_i < 2u;
+    v_r53_i_i_i960_i_i_i = v_r0_i_i775_sroa_13_0_i2057_i_i < 2u;
     if (v_r53_i_i_i960_i_i_i) { goto L_der_core_decode_AnyDecodeRefSliceU8_from_der_f0286__2; } else { goto L_join_5_i_i_i961_i_i_i; }
 L_join_5_i_i_i961_i_i_i:;
-    v_r62_i_i_i962_i_i_i = v_r0_i_i775_sroa_12_0_i2058_i_i + 2;
-    v_r65_i_i_i963_i_i_i = (u64)((u64)(v_r0_i_i775_sroa_13_0_i2059_i_i) + (u64)(18446744073709551614ull));
-    v_r73_i_i_i964_i_i_i = get_u8(v_r0_i_i775_sroa_12_0_i2058_i_i);
+    v_r62_i_i_i962_i_i_i = v_r0_i_i775_sroa_12_0_i2056_i_i + 2;
+    v_r65_i_i_i963_i_i_i = (u64)((u64)(v_r0_i_i775_sroa_13_0_i2057_i_i) + (u64)(18446744073709551614ull));
+    v_r73_i_i_i964_i_i_i = get_u8(v_r0_i_i775_sroa_12_0_i2056_i_i);
     v_r78_i_i_i966_i_i_i = v_r73_i_i_i964_i_i_i == 2u;
     if (v_r78_i_i_i966_i_i_i) { goto L_then_6_i_i_i1041_i_i_i; } else { goto L_der_core_decode_AnyDecodeRefSliceU8_from_der_f0286__2; }
 L_then_6_i_i_i1041_i_i_i:;
-    v_r60_i_i_i1042_i_i_i = v_r0_i_i775_sroa_12_0_i2058_i_i + 1;
+    v_r60_i_i_i1042_i_i_i = v_r0_i_i775_sroa_12_0_i2056_i_i + 1;
     v_r83_i_i_i1043_i_i_i = get_u8(v_r60_i_i_i1042_i_i_i);
     v_r85_i_i_i1044_i_i_i = (u8)(v_r83_i_i_i1043_i_i_i ^ ((u8)1 << 7)) > (u8)(255u ^ ((u8)1 << 7));
     if (v_r85_i_i_i1044_i_i_i) { goto L_then_9_i_i_i1085_i_i_i; } else { goto L_join_11_i_i_i1045_i_i_i; }
 L_then_9_i_i_i1085_i_i_i:;
     v_r92_i_i_i1086_i_i_i = (u64)v_r83_i_i_i1043_i_i_i;
-    v_r15_i1580_i_i_i = v_r65_i_i_i963_i_i_i < v_r92_i_i_i1086_i_i_i;
-    v_r29_i1582_i_i_i = (P)((u64)v_r62_i_i_i962_i_i_i + (u64)(v_r92_i_i_i1086_i_i_i));
-    v_r32_i1583_i_i_i = (u64)((u64)(v_r65_i_i_i963_i_i_i) - (u64)(v_r92_i_i_i1086_i_i_i));
+    v_r15_i1578_i_i_i = v_r65_i_i_i963_i_i_i < v_r92_i_i_i1086_i_i_i;
+    v_r29_i1580_i_i_i = (P)((u64)v_r62_i_i_i962_i_i_i + (u64)(v_r92_i_i_i1086_i_i_i));
+    v_r32_i1581_i_i_i = (u64)((u64)(v_r65_i_i_i963_i_i_i) - (u64)(v_r92_i_i_i1086_i_i_i));
     v_r27_i4_i1013_i_i_i = v_r83_i_i_i1043_i_i_i == 0u;
-    v_or_cond2105_i_i = (u1)(((u32)(v_r27_i4_i1013_i_i_i) | (u32)(v_r15_i1580_i_i_i)) & 1);
-    if (v_or_cond2105_i_i) { goto L_der_core_decode_AnyDecodeRefSliceU8_from_der_f0286__2; } else { p_v_r0_i_i935_sroa_13_0_i2068_i_i = v_r32_i1583_i_i_i; p_v_r0_i_i935_sroa_12_0_i2067_i_i = v_r29_i1582_i_i_i; p_v_r0_i_i935_sroa_11_0_i2066_i_i = v_r92_i_i_i1086_i_i_i; p_v_r0_i_i935_sroa_7_0_i2065_i_i = v_r62_i_i_i962_i_i_i; goto L_join_5_i_i1014_i_i_i; }
+    v_or_cond2103_i_i = (u1)(((u32)(v_r27_i4_i1013_i_i_i) | (u32)(v_r15_i1578_i_i_i)) & 1);
+    if (v_or_cond2103_i_i) { goto L_der_core_decode_AnyDecodeRefSliceU8_from_der_f0286__2; } else { p_v_r0_i_i935_sroa_13_0_i2066_i_i = v_r32_i1581_i_i_i; p_v_r0_i_i935_sroa_12_0_i2065_i_i = v_r29_i1580_i_i_i; p_v_r0_i_i935_sroa_11_0_i2064_i_i = v_r92_i_i_i1086_i_i_i; p_v_r0_i_i935_sroa_7_0_i2063_i_i = v_r62_i_i_i962_i_i_i; goto L_join_5_i_i1014_i_i_i; }
 L_join_11_i_i_i1045_i_i_i:;
     v_r104_i_i_i1046_i_i_i = v_r83_i_i_i1043_i_i_i == 130u;
     if (v_r104_i_i_i1046_i_i_i) { goto L_then_12_i_i_i1062_i_i_i; } else { goto L_join_14_i_i_i1047_i_i_i; }
 L_then_12_i_i_i1062_i_i_i:;
-    v_r110_i_i_i1063_i_i_i = v_r0_i_i775_sroa_13_0_i2059_i_i < 4u;
+    v_r110_i_i_i1063_i_i_i = v_r0_i_i775_sroa_13_0_i2057_i_i < 4u;
     if (v_r110_i_i_i1063_i_i_i) { goto L_der_core_decode_AnyDecodeRefSliceU8_from_der_f0286__2; } else { goto L_join_19_i_i_i1064_i_i_i; }
 L_join_19_i_i_i1064_i_i_i:;
     v_r130_i_i_i1065_i_i_i = get_u8(v_r62_i_i_i962_i_i_i);
     v_r132_not_i_i_i1066_i_i_i = v_r130_i_i_i1065_i_i_i == 0u;
     if (v_r132_not_i_i_i1066_i_i_i) { goto L_der_core_decode_AnyDecodeRefSliceU8_from_der_f0286__2; } else { goto L_then_20_i_i_i1067_i_i_i; }
 L_then_20_i_i_i1067_i_i_i:;
-    v_r122_i_i_i1068_i_i_i = (u64)((u64)(v_r0_i_i775_sroa_13_0_i2059_i_i) + (u64)(18446744073709551612ull));
-    v_r117_i_i_i1070_i_i_i = v_r0_i_i775_sroa_12_0_i2058_i_i + 3;
+    v_r122_i_i_i1068_i_i_i = (u64)((u64)(v_r0_i_i775_sroa_13_0_i2057_i_i) + (u64)(18446744073709551612ull));
+    v_r117_i_i_i1070_i_i_i = v_r0_i_i775_sroa_12_0_i2056_i_i + 3;
     v_r139_i_i_i1071_i_i_i = (u64)v_r130_i_i_i1065_i_i_i;
     v_r141_i_i_i1072_i_i_i = (u64)((u64)(v_r139_i_i_i1071_i_i_i) << (u64)((8u & 63)));
     v_r143_i_i_i1073_i_i_i = get_u8(v_r117_i_i_i1070_i_i_i);
     v_r145_i_i_i1074_i_i_i = (u64)v_r143_i_i_i1073_i_i_i;
     v_r148_i_i_i1075_i_i_i = (u64)((u64)(v_r141_i_i_i1072_i_i_i) | (u64)(v_r145_i_i_i1074_i_i_i));
-    v_r15_i1590_i_i_i = v_r122_i_i_i1068_i_i_i < v_r148_i_i_i1075_i_i_i;
-    if (v_r15_i1590_i_i_i) { goto L_der_core_decode_AnyDecodeRefSliceU8_from_der_f0286__2; } else { goto L_join_3_i1591_i_i_i; }
-L_join_3_i1591_i_i_i:;
-    v_r119_i_i_i1069_i_i_i = v_r0_i_i775_sroa_12_0_i2058_i_i + 4;
-    v_r29_i1592_i_i_i = (P)((u64)v_r119_i_i_i1069_i_i_i + (u64)(v_r148_i_i_i1075_i_i_i));
-    v_r32_i1593_i_i_i = (u64)((u64)(v_r122_i_i_i1068_i_i_i) - (u64)(v_r148_i_i_i1075_i_i_i));
-    { p_v_r0_i_i935_sroa_13_0_i2068_i_i = v_r32_i1593_i_i_i; p_v_r0_i_i935_sroa_12_0_i2067_i_i = v_r29_i1592_i_i_i; p_v_r0_i_i935_sroa_11_0_i2066_i_i = v_r148_i_i_i1075_i_i_i; p_v_r0_i_i935_sroa_7_0_i2065_i_i = v_r119_i_i_i1069_i_i_i; goto L_join_5_i_i1014_i_i_i; }
+    v_r15_i1588_i_i_i = v_r122_i_i_i1068_i_i_i < v_r148_i_i_i1075_i_i_i;
+    if (v_r15_i1588_i_i_i) { goto L_der_core_decode_AnyDecodeRefSliceU8_from_der_f0286__2; } else { goto L_join_3_i1589_i_i_i; }
+L_join_3_i1589_i_i_i:;
+    v_r119_i_i_i1069_i_i_i = v_r0_i_i775_sroa_12_0_i2056_i_i + 4;
+    v_r29_i1590_i_i_i = (P)((u64)v_r119_i_i_i1069_i_i_i + (u64)(v_r148_i_i_i1075_i_i_i));
+    v_r32_i1591_i_i_i = (u64)((u64)(v_r122_i_i_i1068_i_i_i) - (u64)(v_r148_i_i_i1075_i_i_i));
+    { p_v_r0_i_i935_sroa_13_0_i2066_i_i = v_r32_i1591_i_i_i; p_v_r0_i_i935_sroa_12_0_i2065_i_i = v_r29_i1590_i_i_i; p_v_r0_i_i935_sroa_11_0_i2064_i_i = v_r148_i_i_i1075_i_i_i; p_v_r0_i_i935_sroa_7_0_i2063_i_i = v_r119_i_i_i1069_i_i_i; goto L_join_5_i_i1014_i_i_i; }
 L_join_14_i_i_i1047_i_i_i:;
     v_r163_i_i_i1048_i_i_i = v_r65_i_i_i963_i_i_i == 0u;
     if (v_r163_i_i_i1048_i_i_i) { goto L_der_core_decode_AnyDecodeRefSliceU8_from_der_f0286__2; } else { goto L_join_27_i_i_i1049_i_i_i; }
 L_join_27_i_i_i1049_i_i_i:;
-    v_r170_i_i_i1050_i_i_i = v_r0_i_i775_sroa_12_0_i2058_i_i + 3;
-    v_r173_i_i_i1051_i_i_i = (u64)((u64)(v_r0_i_i775_sroa_13_0_i2059_i_i) + (u64)(18446744073709551613ull));
+    v_r170_i_i_i1050_i_i_i = v_r0_i_i775_sroa_12_0_i2056_i_i + 3;
+    v_r173_i_i_i1051_i_i_i = (u64)((u64)(v_r0_i_i775_sroa_13_0_i2057_i_i) + (u64)(18446744073709551613ull));
     v_r182_i_i_i1052_i_i_i = v_r83_i_i_i1043_i_i_i == 129u;
     if (v_r182_i_i_i1052_i_i_i) { goto L_then_28_i_i_i1057_i_i_i; } else { goto L_der_core_decode_AnyDecodeRefSliceU8_from_der_f0286__2; }
 L_then_28_i_i_i1057_i_i_i:;
@@ -38141,90 +39175,90 @@ L_then_28_i_i_i1057_i_i_i:;
     if (v_r189_i_i_i1059_i_i_i) { goto L_then_31_i_i_i1060_i_i_i; } else { goto L_der_core_decode_AnyDecodeRefSliceU8_from_der_f0286__2; }
 L_then_31_i_i_i1060_i_i_i:;
     v_r199_i_i_i1061_i_i_i = (u64)v_r187_i_i_i1058_i_i_i;
-    v_r15_i1600_i_i_i = v_r173_i_i_i1051_i_i_i < v_r199_i_i_i1061_i_i_i;
-    if (v_r15_i1600_i_i_i) { goto L_der_core_decode_AnyDecodeRefSliceU8_from_der_f0286__2; } else { goto L_join_3_i1601_i_i_i; }
-L_join_3_i1601_i_i_i:;
-    v_r29_i1602_i_i_i = (P)((u64)v_r170_i_i_i1050_i_i_i + (u64)(v_r199_i_i_i1061_i_i_i));
-    v_r32_i1603_i_i_i = (u64)((u64)(v_r173_i_i_i1051_i_i_i) - (u64)(v_r199_i_i_i1061_i_i_i));
-    { p_v_r0_i_i935_sroa_13_0_i2068_i_i = v_r32_i1603_i_i_i; p_v_r0_i_i935_sroa_12_0_i2067_i_i = v_r29_i1602_i_i_i; p_v_r0_i_i935_sroa_11_0_i2066_i_i = v_r199_i_i_i1061_i_i_i; p_v_r0_i_i935_sroa_7_0_i2065_i_i = v_r170_i_i_i1050_i_i_i; goto L_join_5_i_i1014_i_i_i; }
+    v_r15_i1598_i_i_i = v_r173_i_i_i1051_i_i_i < v_r199_i_i_i1061_i_i_i;
+    if (v_r15_i1598_i_i_i) { goto L_der_core_decode_AnyDecodeRefSliceU8_from_der_f0286__2; } else { goto L_join_3_i1599_i_i_i; }
+L_join_3_i1599_i_i_i:;
+    v_r29_i1600_i_i_i = (P)((u64)v_r170_i_i_i1050_i_i_i + (u64)(v_r199_i_i_i1061_i_i_i));
+    v_r32_i1601_i_i_i = (u64)((u64)(v_r173_i_i_i1051_i_i_i) - (u64)(v_r199_i_i_i1061_i_i_i));
+    { p_v_r0_i_i935_sroa_13_0_i2066_i_i = v_r32_i1601_i_i_i; p_v_r0_i_i935_sroa_12_0_i2065_i_i = v_r29_i1600_i_i_i; p_v_r0_i_i935_sroa_11_0_i2064_i_i = v_r199_i_i_i1061_i_i_i; p_v_r0_i_i935_sroa_7_0_i2063_i_i = v_r170_i_i_i1050_i_i_i; goto L_join_5_i_i1014_i_i_i; }
 L_join_5_i_i1014_i_i_i:;
-    v_r0_i_i935_sroa_13_0_i2068_i_i = p_v_r0_i_i935_sroa_13_0_i2068_i_i;
-    v_r0_i_i935_sroa_12_0_i2067_i_i = p_v_r0_i_i935_sroa_12_0_i2067_i_i;
-    v_r0_i_i935_sroa_11_0_i2066_i_i = p_v_r0_i_i935_sroa_11_0_i2066_i_i;
-    v_r0_i_i935_sroa_7_0_i2065_i_i = p_v_r0_i_i935_sroa_7_0_i2065_i_i;
-    v_r34_i_i1015_i_i_i = get_u8(v_r0_i_i935_sroa_7_0_i2065_i_i);
+    v_r0_i_i935_sroa_13_0_i2066_i_i = p_v_r0_i_i935_sroa_13_0_i2066_i_i;
+    v_r0_i_i935_sroa_12_0_i2065_i_i = p_v_r0_i_i935_sroa_12_0_i2065_i_i;
+    v_r0_i_i935_sroa_11_0_i2064_i_i = p_v_r0_i_i935_sroa_11_0_i2064_i_i;
+    v_r0_i_i935_sroa_7_0_i2063_i_i = p_v_r0_i_i935_sroa_7_0_i2063_i_i;
+    v_r34_i_i1015_i_i_i = get_u8(v_r0_i_i935_sroa_7_0_i2063_i_i);
     v_cond_i_i1016_i_i_i = v_r34_i_i1015_i_i_i == 0u;
     if (v_cond_i_i1016_i_i_i) { goto L_arm_6_i_i1031_i_i_i; } else { goto L_default_7_i_i1017_i_i_i; }
 L_arm_6_i_i1031_i_i_i:;
-    v_r40_i5_i1033_i_i_i = (u64)((u64)(v_r0_i_i935_sroa_11_0_i2066_i_i) + (u64)(18446744073709551615ull));
+    v_r40_i5_i1033_i_i_i = (u64)((u64)(v_r0_i_i935_sroa_11_0_i2064_i_i) + (u64)(18446744073709551615ull));
     v_r47_i_i1034_i_i_i = v_r40_i5_i1033_i_i_i == 0u;
-    if (v_r47_i_i1034_i_i_i) { p_v_r11_sroa_4_i_i942_sroa_0_0_ph_i_i_i = v_r0_i_i935_sroa_7_0_i2065_i_i; p_v_r11_sroa_4_i_i942_sroa_5_0_ph_i_i_i = 1u; goto L_arm_1_i990_i_i_i; } else { goto L_der_core_integer_uint_UintRefDecodeValueRefSliceU8__7; }
+    if (v_r47_i_i1034_i_i_i) { p_v_r11_sroa_4_i_i942_sroa_0_0_ph_i_i_i = v_r0_i_i935_sroa_7_0_i2063_i_i; p_v_r11_sroa_4_i_i942_sroa_5_0_ph_i_i_i = 1u; goto L_arm_1_i990_i_i_i; } else { goto L_der_core_integer_uint_UintRefDecodeValueRefSliceU8__7; }
 L_default_7_i_i1017_i_i_i:;
     v_r73_i_i1018_i_i_i = (u8)(v_r34_i_i1015_i_i_i ^ ((u8)1 << 7)) > (u8)(255u ^ ((u8)1 << 7));
-    if (v_r73_i_i1018_i_i_i) { p_v_r11_sroa_4_i_i942_sroa_0_0_ph_i_i_i = v_r0_i_i935_sroa_7_0_i2065_i_i; p_v_r11_sroa_4_i_i942_sroa_5_0_ph_i_i_i = v_r0_i_i935_sroa_11_0_i2066_i_i; goto L_arm_1_i990_i_i_i; } else { goto L_der_core_decode_AnyDecodeRefSliceU8_from_der_f0286__2; }
+    if (v_r73_i_i1018_i_i_i) { p_v_r11_sroa_4_i_i942_sroa_0_0_ph_i_i_i = v_r0_i_i935_sroa_7_0_i2063_i_i; p_v_r11_sroa_4_i_i942_sroa_5_0_ph_i_i_i = v_r0_i_i935_sroa_11_0_i2064_i_i; goto L_arm_1_i990_i_i_i; } else { goto L_der_core_decode_AnyDecodeRefSliceU8_from_der_f0286__2; }
 L_der_core_integer_uint_UintRefDecodeValueRefSliceU8__7:;
-    v_r37_i_i1032_i_i_i = v_r0_i_i935_sroa_7_0_i2065_i_i + 1;
+    v_r37_i_i1032_i_i_i = v_r0_i_i935_sroa_7_0_i2063_i_i + 1;
     v_r56_i_i1036_i_i_i = get_u8(v_r37_i_i1032_i_i_i);
     v_r58_i_i1037_i_i_i = (u8)(v_r56_i_i1036_i_i_i ^ ((u8)1 << 7)) < (u8)(0u ^ ((u8)1 << 7));
     v_r40_i_i1038_i_i_i = v_r58_i_i1037_i_i_i ? v_r40_i5_i1033_i_i_i : 0u;
     v_r37_i_i1039_i_i_i = v_r58_i_i1037_i_i_i ? v_r37_i_i1032_i_i_i : (P)0;
-    v_not2634_i_i_i = (u8)(v_r56_i_i1036_i_i_i ^ ((u8)1 << 7)) > (u8)(255u ^ ((u8)1 << 7));
-    if (v_not2634_i_i_i) { goto L_der_core_decode_AnyDecodeRefSliceU8_from_der_f0286__2; } else { p_v_r11_sroa_4_i_i942_sroa_0_0_ph_i_i_i = v_r37_i_i1039_i_i_i; p_v_r11_sroa_4_i_i942_sroa_5_0_ph_i_i_i = v_r40_i_i1038_i_i_i; goto L_arm_1_i990_i_i_i; }
+    v_not2632_i_i_i = (u8)(v_r56_i_i1036_i_i_i ^ ((u8)1 << 7)) > (u8)(255u ^ ((u8)1 << 7));
+    if (v_not2632_i_i_i) { goto L_der_core_decode_AnyDecodeRefSliceU8_from_der_f0286__2; } else { p_v_r11_sroa_4_i_i942_sroa_0_0_ph_i_i_i = v_r37_i_i1039_i_i_i; p_v_r11_sroa_4_i_i942_sroa_5_0_ph_i_i_i = v_r40_i_i1038_i_i_i; goto L_arm_1_i990_i_i_i; }
 L_arm_1_i990_i_i_i:;
     v_r11_sroa_4_i_i942_sroa_0_0_ph_i_i_i = p_v_r11_sroa_4_i_i942_sroa_0_0_ph_i_i_i;
     v_r11_sroa_4_i_i942_sroa_5_0_ph_i_i_i = p_v_r11_sroa_4_i_i942_sroa_5_0_ph_i_i_i;
-    v_r53_i_i_i1110_i_i_i = v_r0_i_i935_sroa_13_0_i2068_i_i < 2u;
+    v_r53_i_i_i1110_i_i_i = v_r0_i_i935_sroa_13_0_i2066_i_i < 2u;
     if (v_r53_i_i_i1110_i_i_i) { goto L_der_core_decode_AnyDecodeRefSliceU8_from_der_f0286__2; } else { goto L_join_5_i_i_i1111_i_i_i; }
 L_join_5_i_i_i1111_i_i_i:;
-    v_r62_i_i_i1112_i_i_i = v_r0_i_i935_sroa_12_0_i2067_i_i + 2;
-    v_r65_i_i_i1113_i_i_i = (u64)((u64)(v_r0_i_i935_sroa_13_0_i2068_i_i) + (u64)(18446744073709551614ull));
-    v_r73_i_i_i1114_i_i_i = get_u8(v_r0_i_i935_sroa_12_0_i2067_i_i);
+    v_r62_i_i_i1112_i_i_i = v_r0_i_i935_sroa_12_0_i2065_i_i + 2;
+    v_r65_i_i_i1113_i_i_i = (u64)((u64)(v_r0_i_i935_sroa_13_0_i2066_i_i) + (u64)(18446744073709551614ull));
+    v_r73_i_i_i1114_i_i_i = get_u8(v_r0_i_i935_sroa_12_0_i2065_i_i);
     v_r78_i_i_i1116_i_i_i = v_r73_i_i_i1114_i_i_i == 2u;
     if (v_r78_i_i_i1116_i_i_i) { goto L_then_6_i_i_i1180_i_i_i; } else { goto L_der_core_decode_AnyDecodeRefSliceU8_from_der_f0286__2; }
 L_then_6_i_i_i1180_i_i_i:;
-    v_r60_i_i_i1181_i_i_i = v_r0_i_i935_sroa_12_0_i2067_i_i + 1;
+    v_r60_i_i_i1181_i_i_i = v_r0_i_i935_sroa_12_0_i2065_i_i + 1;
     v_r83_i_i_i1182_i_i_i = get_u8(v_r60_i_i_i1181_i_i_i);
     v_r85_i_i_i1183_i_i_i = (u8)(v_r83_i_i_i1182_i_i_i ^ ((u8)1 << 7)) > (u8)(255u ^ ((u8)1 << 7));
     if (v_r85_i_i_i1183_i_i_i) { goto L_then_9_i_i_i1224_i_i_i; } else { goto L_join_11_i_i_i1184_i_i_i; }
 L_then_9_i_i_i1224_i_i_i:;
     v_r92_i_i_i1225_i_i_i = (u64)v_r83_i_i_i1182_i_i_i;
-    v_r15_i1610_i_i_i = v_r65_i_i_i1113_i_i_i < v_r92_i_i_i1225_i_i_i;
-    v_r29_i1612_i_i_i = (P)((u64)v_r62_i_i_i1112_i_i_i + (u64)(v_r92_i_i_i1225_i_i_i));
-    v_r32_i1613_i_i_i = (u64)((u64)(v_r65_i_i_i1113_i_i_i) - (u64)(v_r92_i_i_i1225_i_i_i));
+    v_r15_i1608_i_i_i = v_r65_i_i_i1113_i_i_i < v_r92_i_i_i1225_i_i_i;
+    v_r29_i1610_i_i_i = (P)((u64)v_r62_i_i_i1112_i_i_i + (u64)(v_r92_i_i_i1225_i_i_i));
+    v_r32_i1611_i_i_i = (u64)((u64)(v_r65_i_i_i1113_i_i_i) - (u64)(v_r92_i_i_i1225_i_i_i));
     v_r27_i4_i1152_i_i_i = v_r83_i_i_i1182_i_i_i == 0u;
-    v_or_cond2106_i_i = (u1)(((u32)(v_r27_i4_i1152_i_i_i) | (u32)(v_r15_i1610_i_i_i)) & 1);
-    if (v_or_cond2106_i_i) { goto L_der_core_decode_AnyDecodeRefSliceU8_from_der_f0286__2; } else { p_v_r0_i_i1095_sroa_13_0_i2077_i_i = v_r32_i1613_i_i_i; p_v_r0_i_i1095_sroa_12_0_i2076_i_i = v_r29_i1612_i_i_i; p_v_r0_i_i1095_sroa_11_0_i2075_i_i = v_r92_i_i_i1225_i_i_i; p_v_r0_i_i1095_sroa_7_0_i2074_i_i = v_r62_i_i_i1112_i_i_i; goto L_join_5_i_i1153_i_i_i; }
+    v_or_cond2104_i_i = (u1)(((u32)(v_r27_i4_i1152_i_i_i) | (u32)(v_r15_i1608_i_i_i)) & 1);
+    if (v_or_cond2104_i_i) { goto L_der_core_decode_AnyDecodeRefSliceU8_from_der_f0286__2; } else { p_v_r0_i_i1095_sroa_13_0_i2075_i_i = v_r32_i1611_i_i_i; p_v_r0_i_i1095_sroa_12_0_i2074_i_i = v_r29_i1610_i_i_i; p_v_r0_i_i1095_sroa_11_0_i2073_i_i = v_r92_i_i_i1225_i_i_i; p_v_r0_i_i1095_sroa_7_0_i2072_i_i = v_r62_i_i_i1112_i_i_i; goto L_join_5_i_i1153_i_i_i; }
 L_join_11_i_i_i1184_i_i_i:;
     v_r104_i_i_i1185_i_i_i = v_r83_i_i_i1182_i_i_i == 130u;
     if (v_r104_i_i_i1185_i_i_i) { goto L_then_12_i_i_i1201_i_i_i; } else { goto L_join_14_i_i_i1186_i_i_i; }
 L_then_12_i_i_i1201_i_i_i:;
-    v_r110_i_i_i1202_i_i_i = v_r0_i_i935_sroa_13_0_i2068_i_i < 4u;
+    v_r110_i_i_i1202_i_i_i = v_r0_i_i935_sroa_13_0_i2066_i_i < 4u;
     if (v_r110_i_i_i1202_i_i_i) { goto L_der_core_decode_AnyDecodeRefSliceU8_from_der_f0286__2; } else { goto L_join_19_i_i_i1203_i_i_i; }
 L_join_19_i_i_i1203_i_i_i:;
     v_r130_i_i_i1204_i_i_i = get_u8(v_r62_i_i_i1112_i_i_i);
     v_r132_not_i_i_i1205_i_i_i = v_r130_i_i_i1204_i_i_i == 0u;
     if (v_r132_not_i_i_i1205_i_i_i) { goto L_der_core_decode_AnyDecodeRefSliceU8_from_der_f0286__2; } else { goto L_then_20_i_i_i1206_i_i_i; }
 L_then_20_i_i_i1206_i_i_i:;
-    v_r122_i_i_i1207_i_i_i = (u64)((u64)(v_r0_i_i935_sroa_13_0_i2068_i_i) + (u64)(18446744073709551612ull));
-    v_r117_i_i_i1209_i_i_i = v_r0_i_i935_sroa_12_0_i2067_i_i + 3;
+    v_r122_i_i_i1207_i_i_i = (u64)((u64)(v_r0_i_i935_sroa_13_0_i2066_i_i) + (u64)(18446744073709551612ull));
+    v_r117_i_i_i1209_i_i_i = v_r0_i_i935_sroa_12_0_i2065_i_i + 3;
     v_r139_i_i_i1210_i_i_i = (u64)v_r130_i_i_i1204_i_i_i;
     v_r141_i_i_i1211_i_i_i = (u64)((u64)(v_r139_i_i_i1210_i_i_i) << (u64)((8u & 63)));
     v_r143_i_i_i1212_i_i_i = get_u8(v_r117_i_i_i1209_i_i_i);
     v_r145_i_i_i1213_i_i_i = (u64)v_r143_i_i_i1212_i_i_i;
     v_r148_i_i_i1214_i_i_i = (u64)((u64)(v_r141_i_i_i1211_i_i_i) | (u64)(v_r145_i_i_i1213_i_i_i));
-    v_r15_i1620_i_i_i = v_r122_i_i_i1207_i_i_i < v_r148_i_i_i1214_i_i_i;
-    if (v_r15_i1620_i_i_i) { goto L_der_core_decode_AnyDecodeRefSliceU8_from_der_f0286__2; } else { goto L_join_3_i1621_i_i_i; }
-L_join_3_i1621_i_i_i:;
-    v_r119_i_i_i1208_i_i_i = v_r0_i_i935_sroa_12_0_i2067_i_i + 4;
-    v_r29_i1622_i_i_i = (P)((u64)v_r119_i_i_i1208_i_i_i + (u64)(v_r148_i_i_i1214_i_i_i));
-    v_r32_i1623_i_i_i = (u64)((u64)(v_r122_i_i_i1207_i_i_i) - (u64)(v_r148_i_i_i1214_i_i_i));
-    { p_v_r0_i_i1095_sroa_13_0_i2077_i_i = v_r32_i1623_i_i_i; p_v_r0_i_i1095_sroa_12_0_i2076_i_i = v_r29_i1622_i_i_i; p_v_r0_i_i1095_sroa_11_0_i2075_i_i = v_r148_i_i_i1214_i_i_i; p_v_r0_i_i1095_sroa_7_0_i2074_i_i = v_r119_i_i_i1208_i_i_i; goto L_join_5_i_i1153_i_i_i; }
+    v_r15_i1618_i_i_i = v_r122_i_i_i1207_i_i_i < v_r148_i_i_i1214_i_i_i;
+    if (v_r15_i1618_i_i_i) { goto L_der_core_decode_AnyDecodeRefSliceU8_from_der_f0286__2; } else { goto L_join_3_i1619_i_i_i; }
+L_join_3_i1619_i_i_i:;
+    v_r119_i_i_i1208_i_i_i = v_r0_i_i935_sroa_12_0_i2065_i_i + 4;
+    v_r29_i1620_i_i_i = (P)((u64)v_r119_i_i_i1208_i_i_i + (u64)(v_r148_i_i_i1214_i_i_i));
+    v_r32_i1621_i_i_i = (u64)((u64)(v_r122_i_i_i1207_i_i_i) - (u64)(v_r148_i_i_i1214_i_i_i));
+    { p_v_r0_i_i1095_sroa_13_0_i2075_i_i = v_r32_i1621_i_i_i; p_v_r0_i_i1095_sroa_12_0_i2074_i_i = v_r29_i1620_i_i_i; p_v_r0_i_i1095_sroa_11_0_i2073_i_i = v_r148_i_i_i1214_i_i_i; p_v_r0_i_i1095_sroa_7_0_i2072_i_i = v_r119_i_i_i1208_i_i_i; goto L_join_5_i_i1153_i_i_i; }
 L_join_14_i_i_i1186_i_i_i:;
     v_r163_i_i_i1187_i_i_i = v_r65_i_i_i1113_i_i_i == 0u;
     if (v_r163_i_i_i1187_i_i_i) { goto L_der_core_decode_AnyDecodeRefSliceU8_from_der_f0286__2; } else { goto L_join_27_i_i_i1188_i_i_i; }
 L_join_27_i_i_i1188_i_i_i:;
-    v_r170_i_i_i1189_i_i_i = v_r0_i_i935_sroa_12_0_i2067_i_i + 3;
-    v_r173_i_i_i1190_i_i_i = (u64)((u64)(v_r0_i_i935_sroa_13_0_i2068_i_i) + (u64)(18446744073709551613ull));
+    v_r170_i_i_i1189_i_i_i = v_r0_i_i935_sroa_12_0_i2065_i_i + 3;
+    v_r173_i_i_i1190_i_i_i = (u64)((u64)(v_r0_i_i935_sroa_13_0_i2066_i_i) + (u64)(18446744073709551613ull));
     v_r182_i_i_i1191_i_i_i = v_r83_i_i_i1182_i_i_i == 129u;
     if (v_r182_i_i_i1191_i_i_i) { goto L_then_28_i_i_i1196_i_i_i; } else { goto L_der_core_decode_AnyDecodeRefSliceU8_from_der_f0286__2; }
 L_then_28_i_i_i1196_i_i_i:;
@@ -38233,115 +39267,115 @@ L_then_28_i_i_i1196_i_i_i:;
     if (v_r189_i_i_i1198_i_i_i) { goto L_then_31_i_i_i1199_i_i_i; } else { goto L_der_core_decode_AnyDecodeRefSliceU8_from_der_f0286__2; }
 L_then_31_i_i_i1199_i_i_i:;
     v_r199_i_i_i1200_i_i_i = (u64)v_r187_i_i_i1197_i_i_i;
-    v_r15_i1630_i_i_i = v_r173_i_i_i1190_i_i_i < v_r199_i_i_i1200_i_i_i;
-    if (v_r15_i1630_i_i_i) { goto L_der_core_decode_AnyDecodeRefSliceU8_from_der_f0286__2; } else { goto L_join_3_i1631_i_i_i; }
-L_join_3_i1631_i_i_i:;
-    v_r29_i1632_i_i_i = (P)((u64)v_r170_i_i_i1189_i_i_i + (u64)(v_r199_i_i_i1200_i_i_i));
-    v_r32_i1633_i_i_i = (u64)((u64)(v_r173_i_i_i1190_i_i_i) - (u64)(v_r199_i_i_i1200_i_i_i));
-    { p_v_r0_i_i1095_sroa_13_0_i2077_i_i = v_r32_i1633_i_i_i; p_v_r0_i_i1095_sroa_12_0_i2076_i_i = v_r29_i1632_i_i_i; p_v_r0_i_i1095_sroa_11_0_i2075_i_i = v_r199_i_i_i1200_i_i_i; p_v_r0_i_i1095_sroa_7_0_i2074_i_i = v_r170_i_i_i1189_i_i_i; goto L_join_5_i_i1153_i_i_i; }
+    v_r15_i1628_i_i_i = v_r173_i_i_i1190_i_i_i < v_r199_i_i_i1200_i_i_i;
+    if (v_r15_i1628_i_i_i) { goto L_der_core_decode_AnyDecodeRefSliceU8_from_der_f0286__2; } else { goto L_join_3_i1629_i_i_i; }
+L_join_3_i1629_i_i_i:;
+    v_r29_i1630_i_i_i = (P)((u64)v_r170_i_i_i1189_i_i_i + (u64)(v_r199_i_i_i1200_i_i_i));
+    v_r32_i1631_i_i_i = (u64)((u64)(v_r173_i_i_i1190_i_i_i) - (u64)(v_r199_i_i_i1200_i_i_i));
+    { p_v_r0_i_i1095_sroa_13_0_i2075_i_i = v_r32_i1631_i_i_i; p_v_r0_i_i1095_sroa_12_0_i2074_i_i = v_r29_i1630_i_i_i; p_v_r0_i_i1095_sroa_11_0_i2073_i_i = v_r199_i_i_i1200_i_i_i; p_v_r0_i_i1095_sroa_7_0_i2072_i_i = v_r170_i_i_i1189_i_i_i; goto L_join_5_i_i1153_i_i_i; }
 L_join_5_i_i1153_i_i_i:;
-    v_r0_i_i1095_sroa_13_0_i2077_i_i = p_v_r0_i_i1095_sroa_13_0_i2077_i_i;
-    v_r0_i_i1095_sroa_12_0_i2076_i_i = p_v_r0_i_i1095_sroa_12_0_i2076_i_i;
-    v_r0_i_i1095_sroa_11_0_i2075_i_i = p_v_r0_i_i1095_sroa_11_0_i2075_i_i;
-    v_r0_i_i1095_sroa_7_0_i2074_i_i = p_v_r0_i_i1095_sroa_7_0_i2074_i_i;
-    v_r34_i_i1154_i_i_i = get_u8(v_r0_i_i1095_sroa_7_0_i2074_i_i);
+    v_r0_i_i1095_sroa_13_0_i2075_i_i = p_v_r0_i_i1095_sroa_13_0_i2075_i_i;
+    v_r0_i_i1095_sroa_12_0_i2074_i_i = p_v_r0_i_i1095_sroa_12_0_i2074_i_i;
+    v_r0_i_i1095_sroa_11_0_i2073_i_i = p_v_r0_i_i1095_sroa_11_0_i2073_i_i;
+    v_r0_i_i1095_sroa_7_0_i2072_i_i = p_v_r0_i_i1095_sroa_7_0_i2072_i_i;
+    v_r34_i_i1154_i_i_i = get_u8(v_r0_i_i1095_sroa_7_0_i2072_i_i);
     v_cond_i_i1155_i_i_i = v_r34_i_i1154_i_i_i == 0u;
     if (v_cond_i_i1155_i_i_i) { goto L_arm_6_i_i1170_i_i_i; } else { goto L_default_7_i_i1156_i_i_i; }
 L_arm_6_i_i1170_i_i_i:;
-    v_r40_i5_i1172_i_i_i = (u64)((u64)(v_r0_i_i1095_sroa_11_0_i2075_i_i) + (u64)(18446744073709551615ull));
+    v_r40_i5_i1172_i_i_i = (u64)((u64)(v_r0_i_i1095_sroa_11_0_i2073_i_i) + (u64)(18446744073709551615ull));
     v_r47_i_i1173_i_i_i = v_r40_i5_i1172_i_i_i == 0u;
-    if (v_r47_i_i1173_i_i_i) { p_v_r11_sroa_4_sroa_4_i_sroa_6_sroa_6_sroa_6_sroa_6_sr = v_r0_i_i1095_sroa_7_0_i2074_i_i; p_v_r11_sroa_4_sroa_4_i_sroa_6_sroa_6_sroa_6_sroa_6_sr__2 = 1u; goto L_arm_5_i44_i_i_i; } else { goto L_der_core_integer_uint_UintRefDecodeValueRefSliceU8__8; }
+    if (v_r47_i_i1173_i_i_i) { p_v_r11_sroa_4_sroa_4_i_sroa_6_sroa_6_sroa_6_sroa_6_sr = v_r0_i_i1095_sroa_7_0_i2072_i_i; p_v_r11_sroa_4_sroa_4_i_sroa_6_sroa_6_sroa_6_sroa_6_sr__2 = 1u; goto L_arm_5_i44_i_i_i; } else { goto L_der_core_integer_uint_UintRefDecodeValueRefSliceU8__8; }
 L_default_7_i_i1156_i_i_i:;
     v_r73_i_i1157_i_i_i = (u8)(v_r34_i_i1154_i_i_i ^ ((u8)1 << 7)) > (u8)(255u ^ ((u8)1 << 7));
-    if (v_r73_i_i1157_i_i_i) { p_v_r11_sroa_4_sroa_4_i_sroa_6_sroa_6_sroa_6_sroa_6_sr = v_r0_i_i1095_sroa_7_0_i2074_i_i; p_v_r11_sroa_4_sroa_4_i_sroa_6_sroa_6_sroa_6_sroa_6_sr__2 = v_r0_i_i1095_sroa_11_0_i2075_i_i; goto L_arm_5_i44_i_i_i; } else { goto L_der_core_decode_AnyDecodeRefSliceU8_from_der_f0286__2; }
+    if (v_r73_i_i1157_i_i_i) { p_v_r11_sroa_4_sroa_4_i_sroa_6_sroa_6_sroa_6_sroa_6_sr = v_r0_i_i1095_sroa_7_0_i2072_i_i; p_v_r11_sroa_4_sroa_4_i_sroa_6_sroa_6_sroa_6_sroa_6_sr__2 = v_r0_i_i1095_sroa_11_0_i2073_i_i; goto L_arm_5_i44_i_i_i; } else { goto L_der_core_decode_AnyDecodeRefSliceU8_from_der_f0286__2; }
 L_der_core_integer_uint_UintRefDecodeValueRefSliceU8__8:;
-    v_r37_i_i1171_i_i_i = v_r0_i_i1095_sroa_7_0_i2074_i_i + 1;
+    v_r37_i_i1171_i_i_i = v_r0_i_i1095_sroa_7_0_i2072_i_i + 1;
     v_r56_i_i1175_i_i_i = get_u8(v_r37_i_i1171_i_i_i);
     v_r58_i_i1176_i_i_i = (u8)(v_r56_i_i1175_i_i_i ^ ((u8)1 << 7)) < (u8)(0u ^ ((u8)1 << 7));
     v_r40_i_i1177_i_i_i = v_r58_i_i1176_i_i_i ? v_r40_i5_i1172_i_i_i : 0u;
     v_r37_i_i1178_i_i_i = v_r58_i_i1176_i_i_i ? v_r37_i_i1171_i_i_i : (P)0;
-    v_not2635_i_i_i = (u8)(v_r56_i_i1175_i_i_i ^ ((u8)1 << 7)) > (u8)(255u ^ ((u8)1 << 7));
-    if (v_not2635_i_i_i) { goto L_der_core_decode_AnyDecodeRefSliceU8_from_der_f0286__2; } else { p_v_r11_sroa_4_sroa_4_i_sroa_6_sroa_6_sroa_6_sroa_6_sr = v_r37_i_i1178_i_i_i; p_v_r11_sroa_4_sroa_4_i_sroa_6_sroa_6_sroa_6_sroa_6_sr__2 = v_r40_i_i1177_i_i_i; goto L_arm_5_i44_i_i_i; }
+    v_not2633_i_i_i = (u8)(v_r56_i_i1175_i_i_i ^ ((u8)1 << 7)) > (u8)(255u ^ ((u8)1 << 7));
+    if (v_not2633_i_i_i) { goto L_der_core_decode_AnyDecodeRefSliceU8_from_der_f0286__2; } else { p_v_r11_sroa_4_sroa_4_i_sroa_6_sroa_6_sroa_6_sroa_6_sr = v_r37_i_i1178_i_i_i; p_v_r11_sroa_4_sroa_4_i_sroa_6_sroa_6_sroa_6_sroa_6_sr__2 = v_r40_i_i1177_i_i_i; goto L_arm_5_i44_i_i_i; }
 L_arm_5_i44_i_i_i:;
     v_r11_sroa_4_sroa_4_i_sroa_6_sroa_6_sroa_6_sroa_6_sr = p_v_r11_sroa_4_sroa_4_i_sroa_6_sroa_6_sroa_6_sroa_6_sr;
     v_r11_sroa_4_sroa_4_i_sroa_6_sroa_6_sroa_6_sroa_6_sr__2 = p_v_r11_sroa_4_sroa_4_i_sroa_6_sroa_6_sroa_6_sroa_6_sr__2;
     fill(v_r6_i1233_i_i_i, 0u, 32u);
     if (v_r11_sroa_4_0_i66_i_i_i) { goto L_arm_1_i1239_i_i_i; } else { goto L_arm_2_i1235_i_i_i; }
 L_arm_1_i1239_i_i_i:;
-    f_pkcs1_viewed_key_quick_others(v_r6_i1233_i_i_i, v_r0_i_i1095_sroa_12_0_i2076_i_i, v_r0_i_i1095_sroa_13_0_i2077_i_i);
+    f_pkcs1_viewed_key_quick_others(v_r6_i1233_i_i_i, v_r0_i_i1095_sroa_12_0_i2074_i_i, v_r0_i_i1095_sroa_13_0_i2075_i_i);
     v_r16_i1240_i_i_i = get_u8(v_r6_i1233_i_i_i);
     v_10 = v_r16_i1240_i_i_i == 1u;
-    if (v_10) { goto L_pkcs1_viewed_key_quick_listed_exit_thread2703_i_i_; } else { goto L_der_core_decode_AnyDecodeRefSliceU8_from_der_f0286__3; }
-L_pkcs1_viewed_key_quick_listed_exit_thread2703_i_i_:;
+    if (v_10) { goto L_pkcs1_viewed_key_quick_listed_exit_thread2701_i_i_; } else { goto L_der_core_decode_AnyDecodeRefSliceU8_from_der_f0286__3; }
+L_pkcs1_viewed_key_quick_listed_exit_thread2701_i_i_:;
     v_r17_i1243_i_i_i = v_r6_i1233_i_i_i + 8;
     copy(v_r10_i14_sroa_7_i_i_i, v_r17_i1243_i_i_i, 24u);
-    { p_v_r5_sroa_5_sroa_0_0_i2702_i_i_i = 1u; goto L_arm_5_i_i_i_i; }
+    { p_v_r5_sroa_5_sroa_0_0_i2700_i_i_i = 1u; goto L_arm_5_i_i_i_i; }
 L_arm_2_i1235_i_i_i:;
-    v_r7_i1640_i_i_i = v_r0_i_i1095_sroa_13_0_i2077_i_i == 0u;
-    if (v_r7_i1640_i_i_i) { goto L_pkcs1_viewed_key_quick_listed_exit_thread_i_i_i; } else { goto L_der_core_decode_AnyDecodeRefSliceU8_from_der_f0286__3; }
+    v_r7_i1638_i_i_i = v_r0_i_i1095_sroa_13_0_i2075_i_i == 0u;
+    if (v_r7_i1638_i_i_i) { goto L_pkcs1_viewed_key_quick_listed_exit_thread_i_i_i; } else { goto L_der_core_decode_AnyDecodeRefSliceU8_from_der_f0286__3; }
 L_pkcs1_viewed_key_quick_listed_exit_thread_i_i_i:;
     fill(v_r10_i14_sroa_7_i_i_i, 0u, 24u);
-    { p_v_r5_sroa_5_sroa_0_0_i2702_i_i_i = 0u; goto L_arm_5_i_i_i_i; }
+    { p_v_r5_sroa_5_sroa_0_0_i2700_i_i_i = 0u; goto L_arm_5_i_i_i_i; }
 L_arm_5_i_i_i_i:;
-    v_r5_sroa_5_sroa_0_0_i2702_i_i_i = p_v_r5_sroa_5_sroa_0_0_i2702_i_i_i;
+    v_r5_sroa_5_sroa_0_0_i2700_i_i_i = p_v_r5_sroa_5_sroa_0_0_i2700_i_i_i;
     copy(v_r14_i_sroa_5_sroa_6_i_i_i, v_r10_i14_sroa_7_i_i_i, 24u);
     v_r15_i4_sroa_6_0_r46_i_sroa_idx_i_i_i = v_r0_i1_i_i_i + 144;
     copy(v_r15_i4_sroa_6_0_r46_i_sroa_idx_i_i_i, v_r14_i_sroa_5_sroa_6_i_i_i, 24u);
     v_r7_i_sroa_15_i_i_sroa_24_4_copyload189_i = get_P(v_r15_i4_sroa_6_0_r46_i_sroa_idx_i_i_i);
-    v_r7_i_sroa_15_i_i_sroa_25_4_r46_i_i1058_i_sroa_idx_ = v_r0_i1_i_i_i + 152;
-    v_r7_i_sroa_15_i_i_sroa_25_4_copyload190_i = get_u64(v_r7_i_sroa_15_i_i_sroa_25_4_r46_i_i1058_i_sroa_idx_);
-    v_r7_i_sroa_15_i_i_sroa_26_4_r46_i_i1058_i_sroa_idx_ = v_r0_i1_i_i_i + 160;
-    v_r7_i_sroa_15_i_i_sroa_26_4_copyload191_i = get_u64(v_r7_i_sroa_15_i_i_sroa_26_4_r46_i_i1058_i_sroa_idx_);
-    { p_v_r7_i_sroa_15_i_i_sroa_4_0_i = v_r11_sroa_4_i_i_sroa_0_0_ph_i_i_i; p_v_r7_i_sroa_15_i_i_sroa_7_0_i = v_r11_sroa_4_i_i_sroa_5_0_ph_i_i_i; p_v_r7_i_sroa_15_i_i_sroa_8_0_i = v_r11_sroa_4_i_i142_sroa_0_0_ph_i_i_i; p_v_r7_i_sroa_15_i_i_sroa_9_0_i = v_r11_sroa_4_i_i142_sroa_5_0_ph_i_i_i; p_v_r7_i_sroa_15_i_i_sroa_10_0_i = v_r11_sroa_4_i_i302_sroa_0_0_ph_i_i_i; p_v_r7_i_sroa_15_i_i_sroa_11_0_i = v_r11_sroa_4_i_i302_sroa_5_0_ph_i_i_i; p_v_r7_i_sroa_15_i_i_sroa_12_0_i = v_r11_sroa_4_i_i462_sroa_0_0_ph_i_i_i; p_v_r7_i_sroa_15_i_i_sroa_13_0_i = v_r11_sroa_4_i_i462_sroa_5_0_ph_i_i_i; p_v_r7_i_sroa_15_i_i_sroa_14_0_i = v_r11_sroa_4_i_i622_sroa_0_0_ph_i_i_i; p_v_r7_i_sroa_15_i_i_sroa_15_0_i = v_r11_sroa_4_i_i622_sroa_5_0_ph_i_i_i; p_v_r7_i_sroa_15_i_i_sroa_16_0_i = v_r11_sroa_4_i_i782_sroa_0_0_ph_i_i_i; p_v_r7_i_sroa_15_i_i_sroa_17_0_i = v_r11_sroa_4_i_i782_sroa_5_0_ph_i_i_i; p_v_r7_i_sroa_15_i_i_sroa_18_0_i = v_r11_sroa_4_i_i942_sroa_0_0_ph_i_i_i; p_v_r7_i_sroa_15_i_i_sroa_19_0_i = v_r11_sroa_4_i_i942_sroa_5_0_ph_i_i_i; p_v_r7_i_sroa_15_i_i_sroa_20_0_i = v_r11_sroa_4_sroa_4_i_sroa_6_sroa_6_sroa_6_sroa_6_sr; p_v_r7_i_sroa_15_i_i_sroa_21_0_i = v_r11_sroa_4_sroa_4_i_sroa_6_sroa_6_sroa_6_sroa_6_sr__2; p_v_r7_i_sroa_15_i_i_sroa_22_0_i = v_r5_sroa_5_sroa_0_0_i2702_i_i_i; p_v_r7_i_sroa_15_i_i_sroa_24_0_i = v_r7_i_sroa_15_i_i_sroa_24_4_copyload189_i; p_v_r7_i_sroa_15_i_i_sroa_25_0_i = v_r7_i_sroa_15_i_i_sroa_25_4_copyload190_i; p_v_r7_i_sroa_15_i_i_sroa_26_0_i = v_r7_i_sroa_15_i_i_sroa_26_4_copyload191_i; goto L_arm_1_i; }
+    v_r7_i_sroa_15_i_i_sroa_25_4_r46_i_i1056_i_sroa_idx_ = v_r0_i1_i_i_i + 152;
+    v_r7_i_sroa_15_i_i_sroa_25_4_copyload190_i = get_u64(v_r7_i_sroa_15_i_i_sroa_25_4_r46_i_i1056_i_sroa_idx_);
+    v_r7_i_sroa_15_i_i_sroa_26_4_r46_i_i1056_i_sroa_idx_ = v_r0_i1_i_i_i + 160;
+    v_r7_i_sroa_15_i_i_sroa_26_4_copyload191_i = get_u64(v_r7_i_sroa_15_i_i_sroa_26_4_r46_i_i1056_i_sroa_idx_);
+    { p_v_r7_i_sroa_15_i_i_sroa_4_0_i = v_r11_sroa_4_i_i_sroa_0_0_ph_i_i_i; p_v_r7_i_sroa_15_i_i_sroa_7_0_i = v_r11_sroa_4_i_i_sroa_5_0_ph_i_i_i; p_v_r7_i_sroa_15_i_i_sroa_8_0_i = v_r11_sroa_4_i_i142_sroa_0_0_ph_i_i_i; p_v_r7_i_sroa_15_i_i_sroa_9_0_i = v_r11_sroa_4_i_i142_sroa_5_0_ph_i_i_i; p_v_r7_i_sroa_15_i_i_sroa_10_0_i = v_r11_sroa_4_i_i302_sroa_0_0_ph_i_i_i; p_v_r7_i_sroa_15_i_i_sroa_11_0_i = v_r11_sroa_4_i_i302_sroa_5_0_ph_i_i_i; p_v_r7_i_sroa_15_i_i_sroa_12_0_i = v_r11_sroa_4_i_i462_sroa_0_0_ph_i_i_i; p_v_r7_i_sroa_15_i_i_sroa_13_0_i = v_r11_sroa_4_i_i462_sroa_5_0_ph_i_i_i; p_v_r7_i_sroa_15_i_i_sroa_14_0_i = v_r11_sroa_4_i_i622_sroa_0_0_ph_i_i_i; p_v_r7_i_sroa_15_i_i_sroa_15_0_i = v_r11_sroa_4_i_i622_sroa_5_0_ph_i_i_i; p_v_r7_i_sroa_15_i_i_sroa_16_0_i = v_r11_sroa_4_i_i782_sroa_0_0_ph_i_i_i; p_v_r7_i_sroa_15_i_i_sroa_17_0_i = v_r11_sroa_4_i_i782_sroa_5_0_ph_i_i_i; p_v_r7_i_sroa_15_i_i_sroa_18_0_i = v_r11_sroa_4_i_i942_sroa_0_0_ph_i_i_i; p_v_r7_i_sroa_15_i_i_sroa_19_0_i = v_r11_sroa_4_i_i942_sroa_5_0_ph_i_i_i; p_v_r7_i_sroa_15_i_i_sroa_20_0_i = v_r11_sroa_4_sroa_4_i_sroa_6_sroa_6_sroa_6_sroa_6_sr; p_v_r7_i_sroa_15_i_i_sroa_21_0_i = v_r11_sroa_4_sroa_4_i_sroa_6_sroa_6_sroa_6_sroa_6_sr__2; p_v_r7_i_sroa_15_i_i_sroa_22_0_i = v_r5_sroa_5_sroa_0_0_i2700_i_i_i; p_v_r7_i_sroa_15_i_i_sroa_24_0_i = v_r7_i_sroa_15_i_i_sroa_24_4_copyload189_i; p_v_r7_i_sroa_15_i_i_sroa_25_0_i = v_r7_i_sroa_15_i_i_sroa_25_4_copyload190_i; p_v_r7_i_sroa_15_i_i_sroa_26_0_i = v_r7_i_sroa_15_i_i_sroa_26_4_copyload191_i; goto L_arm_1_i; }
 L_der_core_decode_AnyDecodeRefSliceU8_from_der_f0286__3:;
     { goto L_der_core_decode_AnyDecodeRefSliceU8_from_der_f0286__2; }
 L_der_core_decode_AnyDecodeRefSliceU8_from_der_f0286__2:;
     { goto L_der_core_decode_AnyDecodeRefSliceU8_from_der_f0286; }
 L_der_core_decode_AnyDecodeRefSliceU8_from_der_f0286:;
-    f_der_core_decode_read_slowly_746ba62194330879(v_r0_i1_i_i_i, v_r0_i1_sroa_15_sroa_8_sroa_0_02147_i_i, v_r0_i1_sroa_15_sroa_8_sroa_6_02150_i_i);
+    f_der_core_decode_read_slowly_746ba62194330879(v_r0_i1_i_i_i, v_r0_i1_sroa_15_sroa_8_sroa_0_02145_i_i, v_r0_i1_sroa_15_sroa_8_sroa_6_02148_i_i);
     v_11 = get_u8(v_r0_i1_i_i_i);
-    v_r59_i_i1043_i_i = v_r0_i1_i_i_i + 1;
-    v_12 = get_u8(v_r59_i_i1043_i_i);
-    v_r65_i_i1045_i_i = v_r0_i1_i_i_i + 8;
-    v_r7_i_sroa_15_i_i_sroa_4_4_copyload_i = get_P(v_r65_i_i1045_i_i);
-    v_r7_i_sroa_15_i_i_sroa_7_4_r65_i_i1045_i_sroa_idx_i = v_r0_i1_i_i_i + 16;
-    v_r7_i_sroa_15_i_i_sroa_7_4_copyload_i = get_u64(v_r7_i_sroa_15_i_i_sroa_7_4_r65_i_i1045_i_sroa_idx_i);
-    v_r7_i_sroa_15_i_i_sroa_8_4_r65_i_i1045_i_sroa_idx_i = v_r0_i1_i_i_i + 24;
-    v_r7_i_sroa_15_i_i_sroa_8_4_copyload_i = get_P(v_r7_i_sroa_15_i_i_sroa_8_4_r65_i_i1045_i_sroa_idx_i);
-    v_r7_i_sroa_15_i_i_sroa_9_4_r65_i_i1045_i_sroa_idx_i = v_r0_i1_i_i_i + 32;
-    v_r7_i_sroa_15_i_i_sroa_9_4_copyload_i = get_u64(v_r7_i_sroa_15_i_i_sroa_9_4_r65_i_i1045_i_sroa_idx_i);
-    v_r7_i_sroa_15_i_i_sroa_10_4_r65_i_i1045_i_sroa_idx_ = v_r0_i1_i_i_i + 40;
-    v_r7_i_sroa_15_i_i_sroa_10_4_copyload_i = get_P(v_r7_i_sroa_15_i_i_sroa_10_4_r65_i_i1045_i_sroa_idx_);
-    v_r7_i_sroa_15_i_i_sroa_11_4_r65_i_i1045_i_sroa_idx_ = v_r0_i1_i_i_i + 48;
-    v_r7_i_sroa_15_i_i_sroa_11_4_copyload_i = get_u64(v_r7_i_sroa_15_i_i_sroa_11_4_r65_i_i1045_i_sroa_idx_);
-    v_r7_i_sroa_15_i_i_sroa_12_4_r65_i_i1045_i_sroa_idx_ = v_r0_i1_i_i_i + 56;
-    v_r7_i_sroa_15_i_i_sroa_12_4_copyload_i = get_P(v_r7_i_sroa_15_i_i_sroa_12_4_r65_i_i1045_i_sroa_idx_);
-    v_r7_i_sroa_15_i_i_sroa_13_4_r65_i_i1045_i_sroa_idx_ = v_r0_i1_i_i_i + 64;
-    v_r7_i_sroa_15_i_i_sroa_13_4_copyload_i = get_u64(v_r7_i_sroa_15_i_i_sroa_13_4_r65_i_i1045_i_sroa_idx_);
-    v_r7_i_sroa_15_i_i_sroa_14_4_r65_i_i1045_i_sroa_idx_ = v_r0_i1_i_i_i + 72;
-    v_r7_i_sroa_15_i_i_sroa_14_4_copyload_i = get_P(v_r7_i_sroa_15_i_i_sroa_14_4_r65_i_i1045_i_sroa_idx_);
-    v_r7_i_sroa_15_i_i_sroa_15_4_r65_i_i1045_i_sroa_idx_ = v_r0_i1_i_i_i + 80;
-    v_r7_i_sroa_15_i_i_sroa_15_4_copyload_i = get_u64(v_r7_i_sroa_15_i_i_sroa_15_4_r65_i_i1045_i_sroa_idx_);
-    v_r7_i_sroa_15_i_i_sroa_16_4_r65_i_i1045_i_sroa_idx_ = v_r0_i1_i_i_i + 88;
-    v_r7_i_sroa_15_i_i_sroa_16_4_copyload_i = get_P(v_r7_i_sroa_15_i_i_sroa_16_4_r65_i_i1045_i_sroa_idx_);
-    v_r7_i_sroa_15_i_i_sroa_17_4_r65_i_i1045_i_sroa_idx_ = v_r0_i1_i_i_i + 96;
-    v_r7_i_sroa_15_i_i_sroa_17_4_copyload_i = get_u64(v_r7_i_sroa_15_i_i_sroa_17_4_r65_i_i1045_i_sroa_idx_);
-    v_r7_i_sroa_15_i_i_sroa_18_4_r65_i_i1045_i_sroa_idx_ = v_r0_i1_i_i_i + 104;
-    v_r7_i_sroa_15_i_i_sroa_18_4_copyload_i = get_P(v_r7_i_sroa_15_i_i_sroa_18_4_r65_i_i1045_i_sroa_idx_);
-    v_r7_i_sroa_15_i_i_sroa_19_4_r65_i_i1045_i_sroa_idx_ = v_r0_i1_i_i_i + 112;
-    v_r7_i_sroa_15_i_i_sroa_19_4_copyload_i = get_u64(v_r7_i_sroa_15_i_i_sroa_19_4_r65_i_i1045_i_sroa_idx_);
-    v_r7_i_sroa_15_i_i_sroa_20_4_r65_i_i1045_i_sroa_idx_ = v_r0_i1_i_i_i + 120;
-    v_r7_i_sroa_15_i_i_sroa_20_4_copyload_i = get_P(v_r7_i_sroa_15_i_i_sroa_20_4_r65_i_i1045_i_sroa_idx_);
-    v_r7_i_sroa_15_i_i_sroa_21_4_r65_i_i1045_i_sroa_idx_ = v_r0_i1_i_i_i + 128;
-    v_r7_i_sroa_15_i_i_sroa_21_4_copyload_i = get_u64(v_r7_i_sroa_15_i_i_sroa_21_4_r65_i_i1045_i_sroa_idx_);
-    v_r7_i_sroa_15_i_i_sroa_22_4_r65_i_i1045_i_sroa_idx_ = v_r0_i1_i_i_i + 136;
-    v_r7_i_sroa_15_i_i_sroa_22_4_copyload_i = get_u8(v_r7_i_sroa_15_i_i_sroa_22_4_r65_i_i1045_i_sroa_idx_);
-    v_r7_i_sroa_15_i_i_sroa_24_4_r65_i_i1045_i_sroa_idx_ = v_r0_i1_i_i_i + 144;
-    v_r7_i_sroa_15_i_i_sroa_24_4_copyload_i = get_P(v_r7_i_sroa_15_i_i_sroa_24_4_r65_i_i1045_i_sroa_idx_);
-    v_r7_i_sroa_15_i_i_sroa_25_4_r65_i_i1045_i_sroa_idx_ = v_r0_i1_i_i_i + 152;
-    v_r7_i_sroa_15_i_i_sroa_25_4_copyload_i = get_u64(v_r7_i_sroa_15_i_i_sroa_25_4_r65_i_i1045_i_sroa_idx_);
-    v_r7_i_sroa_15_i_i_sroa_26_4_r65_i_i1045_i_sroa_idx_ = v_r0_i1_i_i_i + 160;
-    v_r7_i_sroa_15_i_i_sroa_26_4_copyload_i = get_u64(v_r7_i_sroa_15_i_i_sroa_26_4_r65_i_i1045_i_sroa_idx_);
+    v_r59_i_i1041_i_i = v_r0_i1_i_i_i + 1;
+    v_12 = get_u8(v_r59_i_i1041_i_i);
+    v_r65_i_i1043_i_i = v_r0_i1_i_i_i + 8;
+    v_r7_i_sroa_15_i_i_sroa_4_4_copyload_i = get_P(v_r65_i_i1043_i_i);
+    v_r7_i_sroa_15_i_i_sroa_7_4_r65_i_i1043_i_sroa_idx_i = v_r0_i1_i_i_i + 16;
+    v_r7_i_sroa_15_i_i_sroa_7_4_copyload_i = get_u64(v_r7_i_sroa_15_i_i_sroa_7_4_r65_i_i1043_i_sroa_idx_i);
+    v_r7_i_sroa_15_i_i_sroa_8_4_r65_i_i1043_i_sroa_idx_i = v_r0_i1_i_i_i + 24;
+    v_r7_i_sroa_15_i_i_sroa_8_4_copyload_i = get_P(v_r7_i_sroa_15_i_i_sroa_8_4_r65_i_i1043_i_sroa_idx_i);
+    v_r7_i_sroa_15_i_i_sroa_9_4_r65_i_i1043_i_sroa_idx_i = v_r0_i1_i_i_i + 32;
+    v_r7_i_sroa_15_i_i_sroa_9_4_copyload_i = get_u64(v_r7_i_sroa_15_i_i_sroa_9_4_r65_i_i1043_i_sroa_idx_i);
+    v_r7_i_sroa_15_i_i_sroa_10_4_r65_i_i1043_i_sroa_idx_ = v_r0_i1_i_i_i + 40;
+    v_r7_i_sroa_15_i_i_sroa_10_4_copyload_i = get_P(v_r7_i_sroa_15_i_i_sroa_10_4_r65_i_i1043_i_sroa_idx_);
+    v_r7_i_sroa_15_i_i_sroa_11_4_r65_i_i1043_i_sroa_idx_ = v_r0_i1_i_i_i + 48;
+    v_r7_i_sroa_15_i_i_sroa_11_4_copyload_i = get_u64(v_r7_i_sroa_15_i_i_sroa_11_4_r65_i_i1043_i_sroa_idx_);
+    v_r7_i_sroa_15_i_i_sroa_12_4_r65_i_i1043_i_sroa_idx_ = v_r0_i1_i_i_i + 56;
+    v_r7_i_sroa_15_i_i_sroa_12_4_copyload_i = get_P(v_r7_i_sroa_15_i_i_sroa_12_4_r65_i_i1043_i_sroa_idx_);
+    v_r7_i_sroa_15_i_i_sroa_13_4_r65_i_i1043_i_sroa_idx_ = v_r0_i1_i_i_i + 64;
+    v_r7_i_sroa_15_i_i_sroa_13_4_copyload_i = get_u64(v_r7_i_sroa_15_i_i_sroa_13_4_r65_i_i1043_i_sroa_idx_);
+    v_r7_i_sroa_15_i_i_sroa_14_4_r65_i_i1043_i_sroa_idx_ = v_r0_i1_i_i_i + 72;
+    v_r7_i_sroa_15_i_i_sroa_14_4_copyload_i = get_P(v_r7_i_sroa_15_i_i_sroa_14_4_r65_i_i1043_i_sroa_idx_);
+    v_r7_i_sroa_15_i_i_sroa_15_4_r65_i_i1043_i_sroa_idx_ = v_r0_i1_i_i_i + 80;
+    v_r7_i_sroa_15_i_i_sroa_15_4_copyload_i = get_u64(v_r7_i_sroa_15_i_i_sroa_15_4_r65_i_i1043_i_sroa_idx_);
+    v_r7_i_sroa_15_i_i_sroa_16_4_r65_i_i1043_i_sroa_idx_ = v_r0_i1_i_i_i + 88;
+    v_r7_i_sroa_15_i_i_sroa_16_4_copyload_i = get_P(v_r7_i_sroa_15_i_i_sroa_16_4_r65_i_i1043_i_sroa_idx_);
+    v_r7_i_sroa_15_i_i_sroa_17_4_r65_i_i1043_i_sroa_idx_ = v_r0_i1_i_i_i + 96;
+    v_r7_i_sroa_15_i_i_sroa_17_4_copyload_i = get_u64(v_r7_i_sroa_15_i_i_sroa_17_4_r65_i_i1043_i_sroa_idx_);
+    v_r7_i_sroa_15_i_i_sroa_18_4_r65_i_i1043_i_sroa_idx_ = v_r0_i1_i_i_i + 104;
+    v_r7_i_sroa_15_i_i_sroa_18_4_copyload_i = get_P(v_r7_i_sroa_15_i_i_sroa_18_4_r65_i_i1043_i_sroa_idx_);
+    v_r7_i_sroa_15_i_i_sroa_19_4_r65_i_i1043_i_sroa_idx_ = v_r0_i1_i_i_i + 112;
+    v_r7_i_sroa_15_i_i_sroa_19_4_copyload_i = get_u64(v_r7_i_sroa_15_i_i_sroa_19_4_r65_i_i1043_i_sroa_idx_);
+    v_r7_i_sroa_15_i_i_sroa_20_4_r65_i_i1043_i_sroa_idx_ = v_r0_i1_i_i_i + 120;
+    v_r7_i_sroa_15_i_i_sroa_20_4_copyload_i = get_P(v_r7_i_sroa_15_i_i_sroa_20_4_r65_i_i1043_i_sroa_idx_);
+    v_r7_i_sroa_15_i_i_sroa_21_4_r65_i_i1043_i_sroa_idx_ = v_r0_i1_i_i_i + 128;
+    v_r7_i_sroa_15_i_i_sroa_21_4_copyload_i = get_u64(v_r7_i_sroa_15_i_i_sroa_21_4_r65_i_i1043_i_sroa_idx_);
+    v_r7_i_sroa_15_i_i_sroa_22_4_r65_i_i1043_i_sroa_idx_ = v_r0_i1_i_i_i + 136;
+    v_r7_i_sroa_15_i_i_sroa_22_4_copyload_i = get_u8(v_r7_i_sroa_15_i_i_sroa_22_4_r65_i_i1043_i_sroa_idx_);
+    v_r7_i_sroa_15_i_i_sroa_24_4_r65_i_i1043_i_sroa_idx_ = v_r0_i1_i_i_i + 144;
+    v_r7_i_sroa_15_i_i_sroa_24_4_copyload_i = get_P(v_r7_i_sroa_15_i_i_sroa_24_4_r65_i_i1043_i_sroa_idx_);
+    v_r7_i_sroa_15_i_i_sroa_25_4_r65_i_i1043_i_sroa_idx_ = v_r0_i1_i_i_i + 152;
+    v_r7_i_sroa_15_i_i_sroa_25_4_copyload_i = get_u64(v_r7_i_sroa_15_i_i_sroa_25_4_r65_i_i1043_i_sroa_idx_);
+    v_r7_i_sroa_15_i_i_sroa_26_4_r65_i_i1043_i_sroa_idx_ = v_r0_i1_i_i_i + 160;
+    v_r7_i_sroa_15_i_i_sroa_26_4_copyload_i = get_u64(v_r7_i_sroa_15_i_i_sroa_26_4_r65_i_i1043_i_sroa_idx_);
     v_13 = v_11 == 0u;
     if (v_13) { p_v_r7_i_sroa_15_i_i_sroa_4_0_i = v_r7_i_sroa_15_i_i_sroa_4_4_copyload_i; p_v_r7_i_sroa_15_i_i_sroa_7_0_i = v_r7_i_sroa_15_i_i_sroa_7_4_copyload_i; p_v_r7_i_sroa_15_i_i_sroa_8_0_i = v_r7_i_sroa_15_i_i_sroa_8_4_copyload_i; p_v_r7_i_sroa_15_i_i_sroa_9_0_i = v_r7_i_sroa_15_i_i_sroa_9_4_copyload_i; p_v_r7_i_sroa_15_i_i_sroa_10_0_i = v_r7_i_sroa_15_i_i_sroa_10_4_copyload_i; p_v_r7_i_sroa_15_i_i_sroa_11_0_i = v_r7_i_sroa_15_i_i_sroa_11_4_copyload_i; p_v_r7_i_sroa_15_i_i_sroa_12_0_i = v_r7_i_sroa_15_i_i_sroa_12_4_copyload_i; p_v_r7_i_sroa_15_i_i_sroa_13_0_i = v_r7_i_sroa_15_i_i_sroa_13_4_copyload_i; p_v_r7_i_sroa_15_i_i_sroa_14_0_i = v_r7_i_sroa_15_i_i_sroa_14_4_copyload_i; p_v_r7_i_sroa_15_i_i_sroa_15_0_i = v_r7_i_sroa_15_i_i_sroa_15_4_copyload_i; p_v_r7_i_sroa_15_i_i_sroa_16_0_i = v_r7_i_sroa_15_i_i_sroa_16_4_copyload_i; p_v_r7_i_sroa_15_i_i_sroa_17_0_i = v_r7_i_sroa_15_i_i_sroa_17_4_copyload_i; p_v_r7_i_sroa_15_i_i_sroa_18_0_i = v_r7_i_sroa_15_i_i_sroa_18_4_copyload_i; p_v_r7_i_sroa_15_i_i_sroa_19_0_i = v_r7_i_sroa_15_i_i_sroa_19_4_copyload_i; p_v_r7_i_sroa_15_i_i_sroa_20_0_i = v_r7_i_sroa_15_i_i_sroa_20_4_copyload_i; p_v_r7_i_sroa_15_i_i_sroa_21_0_i = v_r7_i_sroa_15_i_i_sroa_21_4_copyload_i; p_v_r7_i_sroa_15_i_i_sroa_22_0_i = v_r7_i_sroa_15_i_i_sroa_22_4_copyload_i; p_v_r7_i_sroa_15_i_i_sroa_24_0_i = v_r7_i_sroa_15_i_i_sroa_24_4_copyload_i; p_v_r7_i_sroa_15_i_i_sroa_25_0_i = v_r7_i_sroa_15_i_i_sroa_25_4_copyload_i; p_v_r7_i_sroa_15_i_i_sroa_26_0_i = v_r7_i_sroa_15_i_i_sroa_26_4_copyload_i; goto L_arm_1_i; } else { p_v_r6_sroa_8_0_ph_i = v_12; goto L_pkcs1_c_status_status_exit_i; }
 L_arm_1_i:;
@@ -38365,14 +39399,14 @@ L_arm_1_i:;
     v_r7_i_sroa_15_i_i_sroa_24_0_i = p_v_r7_i_sroa_15_i_i_sroa_24_0_i;
     v_r7_i_sroa_15_i_i_sroa_25_0_i = p_v_r7_i_sroa_15_i_i_sroa_25_0_i;
     v_r7_i_sroa_15_i_i_sroa_26_0_i = p_v_r7_i_sroa_15_i_i_sroa_26_0_i;
-    v_14 = v_r0_i1_sroa_15_sroa_9_02154_i_i == 1u;
+    v_14 = v_r0_i1_sroa_15_sroa_9_02152_i_i == 1u;
     v_spec_select_i = v_14 ? v_r7_i_sroa_11_sroa_9_i_sroa_6_0_i : AT(f_static_21);
     v_spec_select220_i = v_14 ? v_r7_i_sroa_11_sroa_9_i_sroa_7_0_i : 0u;
-    put_P(v_a2, v_r0_i1_sroa_15_sroa_8_sroa_0_02147_i_i);
+    put_P(v_a2, v_r0_i1_sroa_15_sroa_8_sroa_0_02145_i_i);
     v_r8_sroa_3_0_a2_sroa_idx_i = v_a2 + 8;
-    put_u64(v_r8_sroa_3_0_a2_sroa_idx_i, v_r0_i1_sroa_15_sroa_8_sroa_6_02150_i_i);
+    put_u64(v_r8_sroa_3_0_a2_sroa_idx_i, v_r0_i1_sroa_15_sroa_8_sroa_6_02148_i_i);
     v_r8_sroa_4_0_a2_sroa_idx_i = v_a2 + 16;
-    put_u8(v_r8_sroa_4_0_a2_sroa_idx_i, v_r0_i1_sroa_15_sroa_9_02154_i_i);
+    put_u8(v_r8_sroa_4_0_a2_sroa_idx_i, v_r0_i1_sroa_15_sroa_9_02152_i_i);
     v_r8_sroa_5_0_a2_sroa_idx_i = v_a2 + 17;
     fill(v_r8_sroa_5_0_a2_sroa_idx_i, 0u, 7u);
     v_r8_sroa_6_0_a2_sroa_idx_i = v_a2 + 24;
@@ -41147,83 +42181,83 @@ L_pkcs1_c_oaep_pkcs1_c_oaep_params_decode_exit:;
     return v_r6_0_i;
 }
 static ONCE u32 proved_oaep_params_decode_strict(P v_a0, u64 v_a1, P v_a2) {
-    ALIGNED(1) unsigned char m_v_r0_i111_i_i[5];
-    ALIGNED(8) unsigned char m_v_r8_i74_i_i[176];
-    ALIGNED(8) unsigned char m_v_r7_i56_i_i[176];
+    ALIGNED(1) unsigned char m_v_r0_i100_i_i[5];
+    ALIGNED(8) unsigned char m_v_r8_i63_i_i[176];
+    ALIGNED(8) unsigned char m_v_r7_i46_i_i[176];
     ALIGNED(8) unsigned char m_v_r0_i76_i_i_i[176];
     ALIGNED(8) unsigned char m_v_r14_i79_i_sroa_5_i_i[168];
     ALIGNED(4) unsigned char m_v_r0_i67_i_sroa_15_i_i[172];
     ALIGNED(4) unsigned char m_v_r7_i39_i_sroa_11_i_i[172];
     ALIGNED(8) unsigned char m_v_r4_i_i_i[168];
-    ALIGNED(1) unsigned char m_v_r11_i8_sroa_18_i_i[171];
+    ALIGNED(1) unsigned char m_v_r11_i_sroa_18_i_i[171];
     P p_v_r1_sroa_13_0_i_ph_i_i_i;
-    P p_v_r7_i39_i_sroa_11_8_r13_i74_i_sroa_idx1277_i_i;
-    P p_v_r0_i1_sroa_28_sroa_3_0_ph_i_ph_i;
-    u64 p_v_r0_i1_sroa_28_sroa_8_0_ph_i_ph_i;
-    P p_v_r0_i1_sroa_28_sroa_20_0_ph_i_ph_i;
-    P p_v_r0_i1_sroa_28_sroa_28_0_ph_i_ph_i;
-    P p_v_r0_i1_sroa_28_sroa_40_0_ph_i_ph_i;
-    P p_v_r0_i1_sroa_28_sroa_56_0_ph_i_ph_i;
-    P p_v_r0_i1_sroa_28_sroa_3_0_ph_i_i;
-    u64 p_v_r0_i1_sroa_28_sroa_8_0_ph_i_i;
-    u64 p_v_r0_i1_sroa_28_sroa_12_0_ph_i_i;
-    u64 p_v_r0_i1_sroa_28_sroa_16_0_ph_i_i;
-    P p_v_r0_i1_sroa_28_sroa_20_0_ph_i_i;
-    u64 p_v_r0_i1_sroa_28_sroa_24_0_ph_i_i;
-    P p_v_r0_i1_sroa_28_sroa_28_0_ph_i_i;
-    u64 p_v_r0_i1_sroa_28_sroa_32_0_ph_i_i;
-    u64 p_v_r0_i1_sroa_28_sroa_36_0_ph_i_i;
-    P p_v_r0_i1_sroa_28_sroa_40_0_ph_i_i;
-    u64 p_v_r0_i1_sroa_28_sroa_44_0_ph_i_i;
-    u64 p_v_r0_i1_sroa_28_sroa_48_0_ph_i_i;
-    u64 p_v_r0_i1_sroa_28_sroa_52_0_ph_i_i;
-    P p_v_r0_i1_sroa_28_sroa_56_0_ph_i_i;
-    u64 p_v_r0_i1_sroa_28_sroa_60_0_ph_i_i;
-    P p_v_r0_i1_sroa_28_sroa_64_0_ph_i_i;
-    u64 p_v_r0_i1_sroa_28_sroa_68_0_ph_i_i;
-    u64 p_v_r0_i1_sroa_28_sroa_72_0_ph_i_i;
-    u64 p_v_r0_i1_sroa_28_sroa_76_0_ph_i_i;
-    P p_v_r0_i1_sroa_28_sroa_80_0_ph_i_i;
-    u64 p_v_r0_i1_sroa_28_sroa_84_0_ph_i_i;
+    P p_v_r7_i39_i_sroa_11_8_r13_i74_i_sroa_idx1266_i_i;
+    P p_v_r7_sroa_26_sroa_1_0_ph_i_ph_i;
+    u64 p_v_r7_sroa_26_sroa_6_0_ph_i_ph_i;
+    P p_v_r7_sroa_26_sroa_18_0_ph_i_ph_i;
+    P p_v_r7_sroa_26_sroa_26_0_ph_i_ph_i;
+    P p_v_r7_sroa_26_sroa_38_0_ph_i_ph_i;
+    P p_v_r7_sroa_26_sroa_54_0_ph_i_ph_i;
+    P p_v_r7_sroa_26_sroa_1_0_ph_i_i;
+    u64 p_v_r7_sroa_26_sroa_6_0_ph_i_i;
+    u64 p_v_r7_sroa_26_sroa_10_0_ph_i_i;
+    u64 p_v_r7_sroa_26_sroa_14_0_ph_i_i;
+    P p_v_r7_sroa_26_sroa_18_0_ph_i_i;
+    u64 p_v_r7_sroa_26_sroa_22_0_ph_i_i;
+    P p_v_r7_sroa_26_sroa_26_0_ph_i_i;
+    u64 p_v_r7_sroa_26_sroa_30_0_ph_i_i;
+    u64 p_v_r7_sroa_26_sroa_34_0_ph_i_i;
+    P p_v_r7_sroa_26_sroa_38_0_ph_i_i;
+    u64 p_v_r7_sroa_26_sroa_42_0_ph_i_i;
+    u64 p_v_r7_sroa_26_sroa_46_0_ph_i_i;
+    u64 p_v_r7_sroa_26_sroa_50_0_ph_i_i;
+    P p_v_r7_sroa_26_sroa_54_0_ph_i_i;
+    u64 p_v_r7_sroa_26_sroa_58_0_ph_i_i;
+    P p_v_r7_sroa_26_sroa_62_0_ph_i_i;
+    u64 p_v_r7_sroa_26_sroa_66_0_ph_i_i;
+    u64 p_v_r7_sroa_26_sroa_70_0_ph_i_i;
+    u64 p_v_r7_sroa_26_sroa_74_0_ph_i_i;
+    P p_v_r7_sroa_26_sroa_78_0_ph_i_i;
+    u64 p_v_r7_sroa_26_sroa_82_0_ph_i_i;
     u8 p_v_r3_sroa_35_sroa_0_0_extract_trunc141_i;
     u8 p_v_r3_sroa_23_sroa_0_0_extract_trunc139_i;
     u8 p_v_r3_sroa_17_sroa_0_0_extract_trunc137_i;
     u8 p_v_r3_sroa_5_sroa_0_0_extract_trunc135_i;
-    u64 p_v_r0_i1_sroa_28_sroa_84_0_ph_i133_i;
-    P p_v_r0_i1_sroa_28_sroa_80_0_ph_i131_i;
-    u64 p_v_r0_i1_sroa_28_sroa_76_0_ph_i129_i;
-    u64 p_v_r0_i1_sroa_28_sroa_68_0_ph_i127_i;
-    P p_v_r0_i1_sroa_28_sroa_64_0_ph_i125_i;
-    u64 p_v_r0_i1_sroa_28_sroa_60_0_ph_i123_i;
-    P p_v_r0_i1_sroa_28_sroa_56_0_ph_i121_i;
-    u64 p_v_r0_i1_sroa_28_sroa_52_0_ph_i119_i;
-    u64 p_v_r0_i1_sroa_28_sroa_44_0_ph_i117_i;
-    P p_v_r0_i1_sroa_28_sroa_40_0_ph_i115_i;
-    u64 p_v_r0_i1_sroa_28_sroa_32_0_ph_i113_i;
-    P p_v_r0_i1_sroa_28_sroa_28_0_ph_i111_i;
-    u64 p_v_r0_i1_sroa_28_sroa_24_0_ph_i110_i;
-    P p_v_r0_i1_sroa_28_sroa_20_0_ph_i109_i;
-    u64 p_v_r0_i1_sroa_28_sroa_16_0_ph_i108_i;
-    u64 p_v_r0_i1_sroa_28_sroa_8_0_ph_i106_i;
-    P p_v_r0_i1_sroa_28_sroa_3_0_ph_i104_i;
+    u64 p_v_r7_sroa_26_sroa_82_0_ph_i133_i;
+    P p_v_r7_sroa_26_sroa_78_0_ph_i131_i;
+    u64 p_v_r7_sroa_26_sroa_74_0_ph_i129_i;
+    u64 p_v_r7_sroa_26_sroa_66_0_ph_i127_i;
+    P p_v_r7_sroa_26_sroa_62_0_ph_i125_i;
+    u64 p_v_r7_sroa_26_sroa_58_0_ph_i123_i;
+    P p_v_r7_sroa_26_sroa_54_0_ph_i121_i;
+    u64 p_v_r7_sroa_26_sroa_50_0_ph_i119_i;
+    u64 p_v_r7_sroa_26_sroa_42_0_ph_i117_i;
+    P p_v_r7_sroa_26_sroa_38_0_ph_i115_i;
+    u64 p_v_r7_sroa_26_sroa_30_0_ph_i113_i;
+    P p_v_r7_sroa_26_sroa_26_0_ph_i111_i;
+    u64 p_v_r7_sroa_26_sroa_22_0_ph_i110_i;
+    P p_v_r7_sroa_26_sroa_18_0_ph_i109_i;
+    u64 p_v_r7_sroa_26_sroa_14_0_ph_i108_i;
+    u64 p_v_r7_sroa_26_sroa_6_0_ph_i106_i;
+    P p_v_r7_sroa_26_sroa_1_0_ph_i104_i;
     u8 p_v_r3_sroa_35_sroa_0_0_extract_trunc142_i;
     u8 p_v_r3_sroa_23_sroa_0_0_extract_trunc140_i;
     u8 p_v_r3_sroa_17_sroa_0_0_extract_trunc138_i;
     u8 p_v_r3_sroa_5_sroa_0_0_extract_trunc136_i;
-    u64 p_v_r0_i1_sroa_28_sroa_84_0_ph_i134_i;
-    P p_v_r0_i1_sroa_28_sroa_80_0_ph_i132_i;
-    u64 p_v_r0_i1_sroa_28_sroa_76_0_ph_i130_i;
-    u64 p_v_r0_i1_sroa_28_sroa_68_0_ph_i128_i;
-    P p_v_r0_i1_sroa_28_sroa_64_0_ph_i126_i;
-    u64 p_v_r0_i1_sroa_28_sroa_60_0_ph_i124_i;
-    P p_v_r0_i1_sroa_28_sroa_56_0_ph_i122_i;
-    u64 p_v_r0_i1_sroa_28_sroa_52_0_ph_i120_i;
-    u64 p_v_r0_i1_sroa_28_sroa_44_0_ph_i118_i;
-    P p_v_r0_i1_sroa_28_sroa_40_0_ph_i116_i;
-    u64 p_v_r0_i1_sroa_28_sroa_32_0_ph_i114_i;
-    P p_v_r0_i1_sroa_28_sroa_28_0_ph_i112_i;
-    u64 p_v_r0_i1_sroa_28_sroa_8_0_ph_i107_i;
-    P p_v_r0_i1_sroa_28_sroa_3_0_ph_i105_i;
+    u64 p_v_r7_sroa_26_sroa_82_0_ph_i134_i;
+    P p_v_r7_sroa_26_sroa_78_0_ph_i132_i;
+    u64 p_v_r7_sroa_26_sroa_74_0_ph_i130_i;
+    u64 p_v_r7_sroa_26_sroa_66_0_ph_i128_i;
+    P p_v_r7_sroa_26_sroa_62_0_ph_i126_i;
+    u64 p_v_r7_sroa_26_sroa_58_0_ph_i124_i;
+    P p_v_r7_sroa_26_sroa_54_0_ph_i122_i;
+    u64 p_v_r7_sroa_26_sroa_50_0_ph_i120_i;
+    u64 p_v_r7_sroa_26_sroa_42_0_ph_i118_i;
+    P p_v_r7_sroa_26_sroa_38_0_ph_i116_i;
+    u64 p_v_r7_sroa_26_sroa_30_0_ph_i114_i;
+    P p_v_r7_sroa_26_sroa_26_0_ph_i112_i;
+    u64 p_v_r7_sroa_26_sroa_6_0_ph_i107_i;
+    P p_v_r7_sroa_26_sroa_1_0_ph_i105_i;
     u8 p_v_r5_sroa_6_0_i_i_i;
     P p_v_r5_sroa_81_0_i_i_i;
     u64 p_v_r5_sroa_10_0_i_i_i;
@@ -41233,17 +42267,17 @@ static ONCE u32 proved_oaep_params_decode_strict(P v_a0, u64 v_a1, P v_a2) {
     u8 p_v_r5_sroa_10_0_i6_i_i;
     P p_v_r5_sroa_12_0_i_i_i;
     u64 p_v_r5_sroa_13_0_i_i_i;
-    u8 p_v_r0_i1_sroa_13_0_i147_i;
+    u8 p_v_r7_sroa_11_0_i147_i;
     u32 p_v_r6_0_i;
-    P v_r0_i111_i_i;
-    P v_r8_i74_i_i;
-    P v_r7_i56_i_i;
+    P v_r0_i100_i_i;
+    P v_r8_i63_i_i;
+    P v_r7_i46_i_i;
     P v_r0_i76_i_i_i;
     P v_r14_i79_i_sroa_5_i_i;
     P v_r0_i67_i_sroa_15_i_i;
     P v_r7_i39_i_sroa_11_i_i;
     P v_r4_i_i_i;
-    P v_r11_i8_sroa_18_i_i;
+    P v_r11_i_sroa_18_i_i;
     u1 v_r1;
     u64 v_r3;
     P v_r4;
@@ -41255,18 +42289,18 @@ static ONCE u32 proved_oaep_params_decode_strict(P v_a0, u64 v_a1, P v_a2) {
     u64 v_r36_i5_i_i_i;
     u8 v_r43_i_i_i_i;
     u1 v_r45_i_i_i_i;
-    u64 v_r1_i12_i_i;
+    u64 v_r1_i2_i_i;
     u1 v_r57_i_i_i_i;
     u1 v_or_cond_i_i;
-    u1 v_r7_i17_i_i;
-    u1 v_r12_i_i_i22_i_i;
+    u1 v_r7_i7_i_i;
+    u1 v_r12_i_i_i12_i_i;
     P v_r19_i_i_i_i_i;
     u8 v_r18_i8_i_i_i;
     P v_r1_sroa_13_0_i_ph_i_i_i;
     u1 v_r21_not_i_i_i_i_i;
     u8 v_r16_val_i_i_i_i_i;
     u8 v_r21_val_i_i_i_i_i;
-    u1 v_r7_i_i_i_i25_i_i;
+    u1 v_r7_i_i_i_i15_i_i;
     P v_r16_i_i_1_i_i_i;
     P v_r21_i_i_1_i_i_i;
     u8 v_r16_val_i_i_1_i_i_i;
@@ -41286,26 +42320,26 @@ static ONCE u32 proved_oaep_params_decode_strict(P v_a0, u64 v_a1, P v_a2) {
     u1 v_r7_i_i_i_3_i_i_i;
     u1 v_r20_i_3_i_i_i;
     u1 v_r83_i_i_i_i_i;
-    P v_r81_i27_i_i;
+    P v_r81_i17_i_i;
     P v_r95_i_i_i;
     P v_r127_i_i_i;
     P v_r141_i_i_i;
     P v_r173_i_i_i;
     u8 v_r2_i_i_i_i;
     u1 v_0;
-    P v_r5_i_i58_i_i;
+    P v_r5_i_i48_i_i;
     P v_r0_i6_i_sroa_6_sroa_0_sroa_0_0_copyload_i_i;
-    P v_r0_i6_i_sroa_6_sroa_0_sroa_8_0_r5_i_i58_sroa_idx_i;
+    P v_r0_i6_i_sroa_6_sroa_0_sroa_8_0_r5_i_i48_sroa_idx_i;
     u64 v_r0_i6_i_sroa_6_sroa_0_sroa_8_0_copyload_i_i;
-    P v_r0_i6_i_sroa_6_sroa_8_0_r5_i_i58_sroa_idx_i_i;
-    u64 v_r0_i6_i_sroa_6_sroa_8_0_copyload270_i_i;
-    P v_r0_i6_i_sroa_6_sroa_9_0_r5_i_i58_sroa_idx_i_i;
+    P v_r0_i6_i_sroa_6_sroa_8_0_r5_i_i48_sroa_idx_i_i;
+    u64 v_r0_i6_i_sroa_6_sroa_8_0_copyload259_i_i;
+    P v_r0_i6_i_sroa_6_sroa_9_0_r5_i_i48_sroa_idx_i_i;
     u64 v_r0_i6_i_sroa_6_sroa_9_sroa_0_0_copyload_i_i;
     P v_r0_i6_i_sroa_6_sroa_9_sroa_8_0_r0_i6_i_sroa_6_sroa;
     P v_r0_i6_i_sroa_6_sroa_9_sroa_8_0_copyload_i_i;
     P v_r0_i6_i_sroa_6_sroa_9_sroa_9_0_r0_i6_i_sroa_6_sroa;
     u64 v_r0_i6_i_sroa_6_sroa_9_sroa_9_0_copyload_i_i;
-    P v_r0_i6_i_sroa_6_sroa_10_0_r5_i_i58_sroa_idx_i_i;
+    P v_r0_i6_i_sroa_6_sroa_10_0_r5_i_i48_sroa_idx_i_i;
     P v_r0_i6_i_sroa_6_sroa_10_sroa_0_0_copyload_i_i;
     P v_r0_i6_i_sroa_6_sroa_10_sroa_8_0_r0_i6_i_sroa_6_sro;
     u64 v_r0_i6_i_sroa_6_sroa_10_sroa_8_0_copyload_i_i;
@@ -41323,13 +42357,13 @@ static ONCE u32 proved_oaep_params_decode_strict(P v_a0, u64 v_a1, P v_a2) {
     P v_r0_i6_i_sroa_6_sroa_10_sroa_12_sroa_8_0_copyload_i;
     P v_r0_i6_i_sroa_6_sroa_10_sroa_12_sroa_9_0_r0_i6_i_sr;
     u64 v_r0_i6_i_sroa_6_sroa_10_sroa_12_sroa_9_0_copyload_i;
-    P v_r0_i6_i_sroa_6_sroa_11_0_r5_i_i58_sroa_idx_i_i;
+    P v_r0_i6_i_sroa_6_sroa_11_0_r5_i_i48_sroa_idx_i_i;
     P v_r0_i6_i_sroa_6_sroa_11_sroa_0_0_copyload_i_i;
     P v_r0_i6_i_sroa_6_sroa_11_sroa_8_0_r0_i6_i_sroa_6_sro;
     u64 v_r0_i6_i_sroa_6_sroa_11_sroa_8_0_copyload_i_i;
-    P v_r0_i6_i_sroa_6_sroa_12_0_r5_i_i58_sroa_idx_i_i;
-    u64 v_r0_i6_i_sroa_6_sroa_12_0_copyload276_i_i;
-    P v_r0_i6_i_sroa_6_sroa_13_0_r5_i_i58_sroa_idx_i_i;
+    P v_r0_i6_i_sroa_6_sroa_12_0_r5_i_i48_sroa_idx_i_i;
+    u64 v_r0_i6_i_sroa_6_sroa_12_0_copyload265_i_i;
+    P v_r0_i6_i_sroa_6_sroa_13_0_r5_i_i48_sroa_idx_i_i;
     u64 v_r0_i6_i_sroa_6_sroa_13_sroa_0_0_copyload_i_i;
     P v_r0_i6_i_sroa_6_sroa_13_sroa_8_0_r0_i6_i_sroa_6_sro;
     P v_r0_i6_i_sroa_6_sroa_13_sroa_8_0_copyload_i_i;
@@ -41346,12 +42380,12 @@ static ONCE u32 proved_oaep_params_decode_strict(P v_a0, u64 v_a1, P v_a2) {
     u1 v_r55_i_i99_i_i_i;
     u64 v_r65_i_i_i_i_i;
     u1 v_r36_i85_i_i_i;
-    u1 v_or_cond1393_i_i;
-    u8 v_r2_i_i75_i_i;
+    u1 v_or_cond1382_i_i;
+    u8 v_r2_i_i64_i_i;
     u1 v_2;
-    P v_r5_i_i79_i_i;
+    P v_r5_i_i68_i_i;
     P v_r0_i67_i_sroa_15_8_r53_i_i_sroa_idx_i_i;
-    P v_r7_i39_i_sroa_11_8_r13_i74_i_sroa_idx1275_i_i;
+    P v_r7_i39_i_sroa_11_8_r13_i74_i_sroa_idx1264_i_i;
     u8 v_3;
     P v_r59_i_i_i_i;
     u8 v_4;
@@ -41359,12 +42393,12 @@ static ONCE u32 proved_oaep_params_decode_strict(P v_a0, u64 v_a1, P v_a2) {
     P v_r0_i67_i_sroa_15_8_r64_i_i_sroa_idx_i_i;
     P v_r7_i39_i_sroa_11_8_r13_i74_i_sroa_idx_i_i;
     u1 v_5;
-    P v_r7_i39_i_sroa_11_8_r13_i74_i_sroa_idx1277_i_i;
-    P v_r11_i8_sroa_18_8_r40_i_i_sroa_idx_i_i;
+    P v_r7_i39_i_sroa_11_8_r13_i74_i_sroa_idx1266_i_i;
+    P v_r11_i_sroa_18_8_r40_i_i_sroa_idx_i_i;
     u8 v_6;
-    P v_r7_i113_i_i;
+    P v_r7_i102_i_i;
     u8 v_7;
-    P v_r9_i115_i_i;
+    P v_r9_i104_i_i;
     u8 v_8;
     u1 v_9;
     P v_r16_i_sroa_0_0_copyload_i_i;
@@ -41408,33 +42442,33 @@ static ONCE u32 proved_oaep_params_decode_strict(P v_a0, u64 v_a1, P v_a2) {
     P v_r16_i_sroa_23_0_copyload_i_i;
     P v_r16_i_sroa_24_0_r4_i_sroa_idx_i_i;
     u64 v_r16_i_sroa_24_0_copyload_i_i;
-    P v_r0_i1_sroa_28_sroa_3_0_ph_i_ph_i;
-    u64 v_r0_i1_sroa_28_sroa_8_0_ph_i_ph_i;
-    P v_r0_i1_sroa_28_sroa_20_0_ph_i_ph_i;
-    P v_r0_i1_sroa_28_sroa_28_0_ph_i_ph_i;
-    P v_r0_i1_sroa_28_sroa_40_0_ph_i_ph_i;
-    P v_r0_i1_sroa_28_sroa_56_0_ph_i_ph_i;
-    P v_r0_i1_sroa_28_sroa_3_0_ph_i_i;
-    u64 v_r0_i1_sroa_28_sroa_8_0_ph_i_i;
-    u64 v_r0_i1_sroa_28_sroa_12_0_ph_i_i;
-    u64 v_r0_i1_sroa_28_sroa_16_0_ph_i_i;
-    P v_r0_i1_sroa_28_sroa_20_0_ph_i_i;
-    u64 v_r0_i1_sroa_28_sroa_24_0_ph_i_i;
-    P v_r0_i1_sroa_28_sroa_28_0_ph_i_i;
-    u64 v_r0_i1_sroa_28_sroa_32_0_ph_i_i;
-    u64 v_r0_i1_sroa_28_sroa_36_0_ph_i_i;
-    P v_r0_i1_sroa_28_sroa_40_0_ph_i_i;
-    u64 v_r0_i1_sroa_28_sroa_44_0_ph_i_i;
-    u64 v_r0_i1_sroa_28_sroa_48_0_ph_i_i;
-    u64 v_r0_i1_sroa_28_sroa_52_0_ph_i_i;
-    P v_r0_i1_sroa_28_sroa_56_0_ph_i_i;
-    u64 v_r0_i1_sroa_28_sroa_60_0_ph_i_i;
-    P v_r0_i1_sroa_28_sroa_64_0_ph_i_i;
-    u64 v_r0_i1_sroa_28_sroa_68_0_ph_i_i;
-    u64 v_r0_i1_sroa_28_sroa_72_0_ph_i_i;
-    u64 v_r0_i1_sroa_28_sroa_76_0_ph_i_i;
-    P v_r0_i1_sroa_28_sroa_80_0_ph_i_i;
-    u64 v_r0_i1_sroa_28_sroa_84_0_ph_i_i;
+    P v_r7_sroa_26_sroa_1_0_ph_i_ph_i;
+    u64 v_r7_sroa_26_sroa_6_0_ph_i_ph_i;
+    P v_r7_sroa_26_sroa_18_0_ph_i_ph_i;
+    P v_r7_sroa_26_sroa_26_0_ph_i_ph_i;
+    P v_r7_sroa_26_sroa_38_0_ph_i_ph_i;
+    P v_r7_sroa_26_sroa_54_0_ph_i_ph_i;
+    P v_r7_sroa_26_sroa_1_0_ph_i_i;
+    u64 v_r7_sroa_26_sroa_6_0_ph_i_i;
+    u64 v_r7_sroa_26_sroa_10_0_ph_i_i;
+    u64 v_r7_sroa_26_sroa_14_0_ph_i_i;
+    P v_r7_sroa_26_sroa_18_0_ph_i_i;
+    u64 v_r7_sroa_26_sroa_22_0_ph_i_i;
+    P v_r7_sroa_26_sroa_26_0_ph_i_i;
+    u64 v_r7_sroa_26_sroa_30_0_ph_i_i;
+    u64 v_r7_sroa_26_sroa_34_0_ph_i_i;
+    P v_r7_sroa_26_sroa_38_0_ph_i_i;
+    u64 v_r7_sroa_26_sroa_42_0_ph_i_i;
+    u64 v_r7_sroa_26_sroa_46_0_ph_i_i;
+    u64 v_r7_sroa_26_sroa_50_0_ph_i_i;
+    P v_r7_sroa_26_sroa_54_0_ph_i_i;
+    u64 v_r7_sroa_26_sroa_58_0_ph_i_i;
+    P v_r7_sroa_26_sroa_62_0_ph_i_i;
+    u64 v_r7_sroa_26_sroa_66_0_ph_i_i;
+    u64 v_r7_sroa_26_sroa_70_0_ph_i_i;
+    u64 v_r7_sroa_26_sroa_74_0_ph_i_i;
+    P v_r7_sroa_26_sroa_78_0_ph_i_i;
+    u64 v_r7_sroa_26_sroa_82_0_ph_i_i;
     u8 v_r3_sroa_5_sroa_0_0_extract_trunc_i;
     u8 v_r3_sroa_17_sroa_0_0_extract_trunc_i;
     u8 v_r3_sroa_23_sroa_0_0_extract_trunc_i;
@@ -41444,42 +42478,42 @@ static ONCE u32 proved_oaep_params_decode_strict(P v_a0, u64 v_a1, P v_a2) {
     u8 v_r3_sroa_23_sroa_0_0_extract_trunc139_i;
     u8 v_r3_sroa_17_sroa_0_0_extract_trunc137_i;
     u8 v_r3_sroa_5_sroa_0_0_extract_trunc135_i;
-    u64 v_r0_i1_sroa_28_sroa_84_0_ph_i133_i;
-    P v_r0_i1_sroa_28_sroa_80_0_ph_i131_i;
-    u64 v_r0_i1_sroa_28_sroa_76_0_ph_i129_i;
-    u64 v_r0_i1_sroa_28_sroa_68_0_ph_i127_i;
-    P v_r0_i1_sroa_28_sroa_64_0_ph_i125_i;
-    u64 v_r0_i1_sroa_28_sroa_60_0_ph_i123_i;
-    P v_r0_i1_sroa_28_sroa_56_0_ph_i121_i;
-    u64 v_r0_i1_sroa_28_sroa_52_0_ph_i119_i;
-    u64 v_r0_i1_sroa_28_sroa_44_0_ph_i117_i;
-    P v_r0_i1_sroa_28_sroa_40_0_ph_i115_i;
-    u64 v_r0_i1_sroa_28_sroa_32_0_ph_i113_i;
-    P v_r0_i1_sroa_28_sroa_28_0_ph_i111_i;
-    u64 v_r0_i1_sroa_28_sroa_24_0_ph_i110_i;
-    P v_r0_i1_sroa_28_sroa_20_0_ph_i109_i;
-    u64 v_r0_i1_sroa_28_sroa_16_0_ph_i108_i;
-    u64 v_r0_i1_sroa_28_sroa_8_0_ph_i106_i;
-    P v_r0_i1_sroa_28_sroa_3_0_ph_i104_i;
+    u64 v_r7_sroa_26_sroa_82_0_ph_i133_i;
+    P v_r7_sroa_26_sroa_78_0_ph_i131_i;
+    u64 v_r7_sroa_26_sroa_74_0_ph_i129_i;
+    u64 v_r7_sroa_26_sroa_66_0_ph_i127_i;
+    P v_r7_sroa_26_sroa_62_0_ph_i125_i;
+    u64 v_r7_sroa_26_sroa_58_0_ph_i123_i;
+    P v_r7_sroa_26_sroa_54_0_ph_i121_i;
+    u64 v_r7_sroa_26_sroa_50_0_ph_i119_i;
+    u64 v_r7_sroa_26_sroa_42_0_ph_i117_i;
+    P v_r7_sroa_26_sroa_38_0_ph_i115_i;
+    u64 v_r7_sroa_26_sroa_30_0_ph_i113_i;
+    P v_r7_sroa_26_sroa_26_0_ph_i111_i;
+    u64 v_r7_sroa_26_sroa_22_0_ph_i110_i;
+    P v_r7_sroa_26_sroa_18_0_ph_i109_i;
+    u64 v_r7_sroa_26_sroa_14_0_ph_i108_i;
+    u64 v_r7_sroa_26_sroa_6_0_ph_i106_i;
+    P v_r7_sroa_26_sroa_1_0_ph_i104_i;
     u8 v_r4_i_i_i_i_i;
     u8 v_r3_sroa_35_sroa_0_0_extract_trunc142_i;
     u8 v_r3_sroa_23_sroa_0_0_extract_trunc140_i;
     u8 v_r3_sroa_17_sroa_0_0_extract_trunc138_i;
     u8 v_r3_sroa_5_sroa_0_0_extract_trunc136_i;
-    u64 v_r0_i1_sroa_28_sroa_84_0_ph_i134_i;
-    P v_r0_i1_sroa_28_sroa_80_0_ph_i132_i;
-    u64 v_r0_i1_sroa_28_sroa_76_0_ph_i130_i;
-    u64 v_r0_i1_sroa_28_sroa_68_0_ph_i128_i;
-    P v_r0_i1_sroa_28_sroa_64_0_ph_i126_i;
-    u64 v_r0_i1_sroa_28_sroa_60_0_ph_i124_i;
-    P v_r0_i1_sroa_28_sroa_56_0_ph_i122_i;
-    u64 v_r0_i1_sroa_28_sroa_52_0_ph_i120_i;
-    u64 v_r0_i1_sroa_28_sroa_44_0_ph_i118_i;
-    P v_r0_i1_sroa_28_sroa_40_0_ph_i116_i;
-    u64 v_r0_i1_sroa_28_sroa_32_0_ph_i114_i;
-    P v_r0_i1_sroa_28_sroa_28_0_ph_i112_i;
-    u64 v_r0_i1_sroa_28_sroa_8_0_ph_i107_i;
-    P v_r0_i1_sroa_28_sroa_3_0_ph_i105_i;
+    u64 v_r7_sroa_26_sroa_82_0_ph_i134_i;
+    P v_r7_sroa_26_sroa_78_0_ph_i132_i;
+    u64 v_r7_sroa_26_sroa_74_0_ph_i130_i;
+    u64 v_r7_sroa_26_sroa_66_0_ph_i128_i;
+    P v_r7_sroa_26_sroa_62_0_ph_i126_i;
+    u64 v_r7_sroa_26_sroa_58_0_ph_i124_i;
+    P v_r7_sroa_26_sroa_54_0_ph_i122_i;
+    u64 v_r7_sroa_26_sroa_50_0_ph_i120_i;
+    u64 v_r7_sroa_26_sroa_42_0_ph_i118_i;
+    P v_r7_sroa_26_sroa_38_0_ph_i116_i;
+    u64 v_r7_sroa_26_sroa_30_0_ph_i114_i;
+    P v_r7_sroa_26_sroa_26_0_ph_i112_i;
+    u64 v_r7_sroa_26_sroa_6_0_ph_i107_i;
+    P v_r7_sroa_26_sroa_1_0_ph_i105_i;
     u8 v_r5_sroa_6_0_i_i_i;
     P v_r5_sroa_81_0_i_i_i;
     u64 v_r5_sroa_10_0_i_i_i;
@@ -41521,23 +42555,23 @@ static ONCE u32 proved_oaep_params_decode_strict(P v_a0, u64 v_a1, P v_a2) {
     P v_r7_sroa_24_0_a2_sroa_idx_i;
     P v_r7_sroa_25_0_a2_sroa_idx_i;
     P v_r7_sroa_26_0_a2_sroa_idx_i;
-    u8 v_r0_i1_sroa_13_0_i147_i;
+    u8 v_r7_sroa_11_0_i147_i;
     u32 v_switch_idx_cast_i_i_i;
     u32 v_switch_offset_i_i_i;
     u32 v_r6_0_i;
-    v_r0_i111_i_i = AT(m_v_r0_i111_i_i);
-    v_r8_i74_i_i = AT(m_v_r8_i74_i_i);
-    v_r7_i56_i_i = AT(m_v_r7_i56_i_i);
+    v_r0_i100_i_i = AT(m_v_r0_i100_i_i);
+    v_r8_i63_i_i = AT(m_v_r8_i63_i_i);
+    v_r7_i46_i_i = AT(m_v_r7_i46_i_i);
     v_r0_i76_i_i_i = AT(m_v_r0_i76_i_i_i);
     v_r14_i79_i_sroa_5_i_i = AT(m_v_r14_i79_i_sroa_5_i_i);
     v_r0_i67_i_sroa_15_i_i = AT(m_v_r0_i67_i_sroa_15_i_i);
     v_r7_i39_i_sroa_11_i_i = AT(m_v_r7_i39_i_sroa_11_i_i);
     v_r4_i_i_i = AT(m_v_r4_i_i_i);
-    v_r11_i8_sroa_18_i_i = AT(m_v_r11_i8_sroa_18_i_i);
+    v_r11_i_sroa_18_i_i = AT(m_v_r11_i_sroa_18_i_i);
     v_r1 = v_a0 == (P)0;
     v_r3 = v_r1 ? 4096u : 0u;
     v_r4 = (P)((u64)v_a0 + (u64)(v_r3));
-    fill(v_r11_i8_sroa_18_i_i, 0u, 171u);
+    fill(v_r11_i_sroa_18_i_i, 0u, 171u);
     v_r21_i_i_i_i = v_a1 < 2u;
     if (v_r21_i_i_i_i) { goto L_join_4_i_i_i; } else { goto L_join_5_i_i_i_i; }
 L_join_5_i_i_i_i:;
@@ -41550,64 +42584,64 @@ L_arm_6_i3_i_i_i:;
     v_r36_i5_i_i_i = (u64)((u64)(v_a1) + (u64)(18446744073709551614ull));
     v_r43_i_i_i_i = get_u8(v_r31_i_i_i_i);
     v_r45_i_i_i_i = (u8)(v_r43_i_i_i_i ^ ((u8)1 << 7)) > (u8)(255u ^ ((u8)1 << 7));
-    v_r1_i12_i_i = (u64)v_r43_i_i_i_i;
-    v_r57_i_i_i_i = v_r36_i5_i_i_i == v_r1_i12_i_i;
+    v_r1_i2_i_i = (u64)v_r43_i_i_i_i;
+    v_r57_i_i_i_i = v_r36_i5_i_i_i == v_r1_i2_i_i;
     v_or_cond_i_i = v_r45_i_i_i_i ? v_r57_i_i_i_i : 0u;
     if (v_or_cond_i_i) { goto L_arm_1_i_i_i_i; } else { goto L_join_4_i_i_i; }
 L_arm_1_i_i_i_i:;
-    v_r7_i17_i_i = v_r36_i5_i_i_i == 0u;
-    if (v_r7_i17_i_i) { p_v_r0_i1_sroa_28_sroa_3_0_ph_i_ph_i = AT(f_static_23); p_v_r0_i1_sroa_28_sroa_8_0_ph_i_ph_i = 5u; p_v_r0_i1_sroa_28_sroa_20_0_ph_i_ph_i = AT(f_static_21); p_v_r0_i1_sroa_28_sroa_28_0_ph_i_ph_i = AT(f_static_24); p_v_r0_i1_sroa_28_sroa_40_0_ph_i_ph_i = AT(f_static_23); p_v_r0_i1_sroa_28_sroa_56_0_ph_i_ph_i = AT(f_static_21); goto L_arm_1_thread_i; } else { goto L_join_3_i_i_i_i; }
+    v_r7_i7_i_i = v_r36_i5_i_i_i == 0u;
+    if (v_r7_i7_i_i) { p_v_r7_sroa_26_sroa_1_0_ph_i_ph_i = AT(f_static_23); p_v_r7_sroa_26_sroa_6_0_ph_i_ph_i = 5u; p_v_r7_sroa_26_sroa_18_0_ph_i_ph_i = AT(f_static_21); p_v_r7_sroa_26_sroa_26_0_ph_i_ph_i = AT(f_static_24); p_v_r7_sroa_26_sroa_38_0_ph_i_ph_i = AT(f_static_23); p_v_r7_sroa_26_sroa_54_0_ph_i_ph_i = AT(f_static_21); goto L_arm_1_thread_i; } else { goto L_join_3_i_i_i_i; }
 L_join_3_i_i_i_i:;
-    v_r12_i_i_i22_i_i = v_r36_i5_i_i_i > 14u;
-    if (v_r12_i_i_i22_i_i) { goto L_arm_1_i_i23_i_i; } else { goto L_join_4_i_i_i_i; }
-L_arm_1_i_i23_i_i:;
+    v_r12_i_i_i12_i_i = v_r36_i5_i_i_i > 14u;
+    if (v_r12_i_i_i12_i_i) { goto L_arm_1_i_i13_i_i; } else { goto L_join_4_i_i_i_i; }
+L_arm_1_i_i13_i_i:;
     v_r19_i_i_i_i_i = v_r4 + 16;
     v_r18_i8_i_i_i = get_u8(v_r19_i_i_i_i_i);
     switch (v_r18_i8_i_i_i) {
-    case 1u: { p_v_r1_sroa_13_0_i_ph_i_i_i = AT(f_static_26); goto L_arm_5_i_i24_i_i; }
-    case 2u: { goto L_arm_2_i_i30_i_i; }
+    case 1u: { p_v_r1_sroa_13_0_i_ph_i_i_i = AT(f_static_26); goto L_arm_5_i_i14_i_i; }
+    case 2u: { goto L_arm_2_i_i20_i_i; }
     case 3u: { goto L_arm_3_i_i_i_i; }
-    case 4u: { goto L_arm_4_i_i29_i_i; }
+    case 4u: { goto L_arm_4_i_i19_i_i; }
     case 5u: { goto L_arm_5_i5_i_i_i; }
-    case 6u: { goto L_arm_6_i_i28_i_i; }
+    case 6u: { goto L_arm_6_i_i18_i_i; }
     case 7u: { goto L_arm_7_i_i_i_i; }
     case 8u: { goto L_arm_8_i_i_i_i; }
     case 9u: { goto L_arm_9_i_i_i_i; }
     case 10u: { goto L_arm_10_i_i_i_i; }
     default: { goto L_join_4_i_i_i_i; }
     }
-L_arm_2_i_i30_i_i:;
-    { p_v_r1_sroa_13_0_i_ph_i_i_i = AT(f_static_27); goto L_arm_5_i_i24_i_i; }
+L_arm_2_i_i20_i_i:;
+    { p_v_r1_sroa_13_0_i_ph_i_i_i = AT(f_static_27); goto L_arm_5_i_i14_i_i; }
 L_arm_3_i_i_i_i:;
-    { p_v_r1_sroa_13_0_i_ph_i_i_i = AT(f_static_28); goto L_arm_5_i_i24_i_i; }
-L_arm_4_i_i29_i_i:;
-    { p_v_r1_sroa_13_0_i_ph_i_i_i = AT(f_static_29); goto L_arm_5_i_i24_i_i; }
+    { p_v_r1_sroa_13_0_i_ph_i_i_i = AT(f_static_28); goto L_arm_5_i_i14_i_i; }
+L_arm_4_i_i19_i_i:;
+    { p_v_r1_sroa_13_0_i_ph_i_i_i = AT(f_static_29); goto L_arm_5_i_i14_i_i; }
 L_arm_5_i5_i_i_i:;
-    { p_v_r1_sroa_13_0_i_ph_i_i_i = AT(f_static_30); goto L_arm_5_i_i24_i_i; }
-L_arm_6_i_i28_i_i:;
-    { p_v_r1_sroa_13_0_i_ph_i_i_i = AT(f_static_31); goto L_arm_5_i_i24_i_i; }
+    { p_v_r1_sroa_13_0_i_ph_i_i_i = AT(f_static_30); goto L_arm_5_i_i14_i_i; }
+L_arm_6_i_i18_i_i:;
+    { p_v_r1_sroa_13_0_i_ph_i_i_i = AT(f_static_31); goto L_arm_5_i_i14_i_i; }
 L_arm_7_i_i_i_i:;
-    { p_v_r1_sroa_13_0_i_ph_i_i_i = AT(f_static_32); goto L_arm_5_i_i24_i_i; }
+    { p_v_r1_sroa_13_0_i_ph_i_i_i = AT(f_static_32); goto L_arm_5_i_i14_i_i; }
 L_arm_8_i_i_i_i:;
-    { p_v_r1_sroa_13_0_i_ph_i_i_i = AT(f_static_33); goto L_arm_5_i_i24_i_i; }
+    { p_v_r1_sroa_13_0_i_ph_i_i_i = AT(f_static_33); goto L_arm_5_i_i14_i_i; }
 L_arm_9_i_i_i_i:;
-    { p_v_r1_sroa_13_0_i_ph_i_i_i = AT(f_static_34); goto L_arm_5_i_i24_i_i; }
+    { p_v_r1_sroa_13_0_i_ph_i_i_i = AT(f_static_34); goto L_arm_5_i_i14_i_i; }
 L_arm_10_i_i_i_i:;
-    { p_v_r1_sroa_13_0_i_ph_i_i_i = AT(f_static_35); goto L_arm_5_i_i24_i_i; }
-L_arm_5_i_i24_i_i:;
+    { p_v_r1_sroa_13_0_i_ph_i_i_i = AT(f_static_35); goto L_arm_5_i_i14_i_i; }
+L_arm_5_i_i14_i_i:;
     v_r1_sroa_13_0_i_ph_i_i_i = p_v_r1_sroa_13_0_i_ph_i_i_i;
     v_r21_not_i_i_i_i_i = v_r36_i5_i_i_i == 47u;
     if (v_r21_not_i_i_i_i_i) { goto L_join_5_i_preheader_i_i_i; } else { goto L_join_4_i_i_i_i; }
 L_join_5_i_preheader_i_i_i:;
     v_r16_val_i_i_i_i_i = get_u8(v_r33_i4_i_i_i);
     v_r21_val_i_i_i_i_i = get_u8(v_r1_sroa_13_0_i_ph_i_i_i);
-    v_r7_i_i_i_i25_i_i = v_r16_val_i_i_i_i_i != v_r21_val_i_i_i_i_i;
+    v_r7_i_i_i_i15_i_i = v_r16_val_i_i_i_i_i != v_r21_val_i_i_i_i_i;
     v_r16_i_i_1_i_i_i = v_r4 + 3;
     v_r21_i_i_1_i_i_i = v_r1_sroa_13_0_i_ph_i_i_i + 1;
     v_r16_val_i_i_1_i_i_i = get_u8(v_r16_i_i_1_i_i_i);
     v_r21_val_i_i_1_i_i_i = get_u8(v_r21_i_i_1_i_i_i);
     v_r7_i_i_i_1_i_i_i = v_r16_val_i_i_1_i_i_i != v_r21_val_i_i_1_i_i_i;
-    v_r20_i_1_i_i_i = (u1)(((u32)(v_r7_i_i_i_i25_i_i) | (u32)(v_r7_i_i_i_1_i_i_i)) & 1);
+    v_r20_i_1_i_i_i = (u1)(((u32)(v_r7_i_i_i_i15_i_i) | (u32)(v_r7_i_i_i_1_i_i_i)) & 1);
     v_r16_i_i_2_i_i_i = v_r4 + 4;
     v_r21_i_i_2_i_i_i = v_r1_sroa_13_0_i_ph_i_i_i + 2;
     v_r16_val_i_i_2_i_i_i = get_u8(v_r16_i_i_2_i_i_i);
@@ -41625,61 +42659,61 @@ L_pkcs1_params_usual_have_usual_hash_exit_i_i_i:;
     v_r83_i_i_i_i_i = f_core_cmp_slices_groups_equal_i8_31_core_cmp_number(v_r33_i4_i_i_i, 47u, v_r1_sroa_13_0_i_ph_i_i_i);
     if (v_r83_i_i_i_i_i) { goto L_arm_4_i_i_i_i; } else { goto L_join_4_i_i_i_i; }
 L_arm_4_i_i_i_i:;
-    v_r81_i27_i_i = v_r4 + 8;
+    v_r81_i17_i_i = v_r4 + 8;
     v_r95_i_i_i = v_r4 + 19;
     v_r127_i_i_i = v_r4 + 38;
     v_r141_i_i_i = v_r4 + 49;
     v_r173_i_i_i = v_r4 + 25;
-    { p_v_r0_i1_sroa_28_sroa_3_0_ph_i_ph_i = v_r81_i27_i_i; p_v_r0_i1_sroa_28_sroa_8_0_ph_i_ph_i = 9u; p_v_r0_i1_sroa_28_sroa_20_0_ph_i_ph_i = v_r95_i_i_i; p_v_r0_i1_sroa_28_sroa_28_0_ph_i_ph_i = v_r173_i_i_i; p_v_r0_i1_sroa_28_sroa_40_0_ph_i_ph_i = v_r127_i_i_i; p_v_r0_i1_sroa_28_sroa_56_0_ph_i_ph_i = v_r141_i_i_i; goto L_arm_1_thread_i; }
+    { p_v_r7_sroa_26_sroa_1_0_ph_i_ph_i = v_r81_i17_i_i; p_v_r7_sroa_26_sroa_6_0_ph_i_ph_i = 9u; p_v_r7_sroa_26_sroa_18_0_ph_i_ph_i = v_r95_i_i_i; p_v_r7_sroa_26_sroa_26_0_ph_i_ph_i = v_r173_i_i_i; p_v_r7_sroa_26_sroa_38_0_ph_i_ph_i = v_r127_i_i_i; p_v_r7_sroa_26_sroa_54_0_ph_i_ph_i = v_r141_i_i_i; goto L_arm_1_thread_i; }
 L_join_4_i_i_i_i:;
-    f_pkcs1_params_quick_quick_oaep(v_r7_i56_i_i, v_r33_i4_i_i_i, v_r36_i5_i_i_i, 1u);
-    v_r2_i_i_i_i = get_u8(v_r7_i56_i_i);
+    f_pkcs1_params_quick_quick_oaep(v_r7_i46_i_i, v_r33_i4_i_i_i, v_r36_i5_i_i_i, 1u);
+    v_r2_i_i_i_i = get_u8(v_r7_i46_i_i);
     v_0 = v_r2_i_i_i_i == 1u;
     if (v_0) { goto L_pkcs1_params_reading_known_or_quick_12c844358f2ec6; } else { goto L_arm_6_i_i_i_i; }
 L_pkcs1_params_reading_known_or_quick_12c844358f2ec6:;
-    v_r5_i_i58_i_i = v_r7_i56_i_i + 8;
-    v_r0_i6_i_sroa_6_sroa_0_sroa_0_0_copyload_i_i = get_P(v_r5_i_i58_i_i);
-    v_r0_i6_i_sroa_6_sroa_0_sroa_8_0_r5_i_i58_sroa_idx_i = v_r7_i56_i_i + 16;
-    v_r0_i6_i_sroa_6_sroa_0_sroa_8_0_copyload_i_i = get_u64(v_r0_i6_i_sroa_6_sroa_0_sroa_8_0_r5_i_i58_sroa_idx_i);
-    v_r0_i6_i_sroa_6_sroa_8_0_r5_i_i58_sroa_idx_i_i = v_r7_i56_i_i + 24;
-    v_r0_i6_i_sroa_6_sroa_8_0_copyload270_i_i = get_u64(v_r0_i6_i_sroa_6_sroa_8_0_r5_i_i58_sroa_idx_i_i);
-    v_r0_i6_i_sroa_6_sroa_9_0_r5_i_i58_sroa_idx_i_i = v_r7_i56_i_i + 32;
-    v_r0_i6_i_sroa_6_sroa_9_sroa_0_0_copyload_i_i = get_u64(v_r0_i6_i_sroa_6_sroa_9_0_r5_i_i58_sroa_idx_i_i);
-    v_r0_i6_i_sroa_6_sroa_9_sroa_8_0_r0_i6_i_sroa_6_sroa = v_r7_i56_i_i + 40;
+    v_r5_i_i48_i_i = v_r7_i46_i_i + 8;
+    v_r0_i6_i_sroa_6_sroa_0_sroa_0_0_copyload_i_i = get_P(v_r5_i_i48_i_i);
+    v_r0_i6_i_sroa_6_sroa_0_sroa_8_0_r5_i_i48_sroa_idx_i = v_r7_i46_i_i + 16;
+    v_r0_i6_i_sroa_6_sroa_0_sroa_8_0_copyload_i_i = get_u64(v_r0_i6_i_sroa_6_sroa_0_sroa_8_0_r5_i_i48_sroa_idx_i);
+    v_r0_i6_i_sroa_6_sroa_8_0_r5_i_i48_sroa_idx_i_i = v_r7_i46_i_i + 24;
+    v_r0_i6_i_sroa_6_sroa_8_0_copyload259_i_i = get_u64(v_r0_i6_i_sroa_6_sroa_8_0_r5_i_i48_sroa_idx_i_i);
+    v_r0_i6_i_sroa_6_sroa_9_0_r5_i_i48_sroa_idx_i_i = v_r7_i46_i_i + 32;
+    v_r0_i6_i_sroa_6_sroa_9_sroa_0_0_copyload_i_i = get_u64(v_r0_i6_i_sroa_6_sroa_9_0_r5_i_i48_sroa_idx_i_i);
+    v_r0_i6_i_sroa_6_sroa_9_sroa_8_0_r0_i6_i_sroa_6_sroa = v_r7_i46_i_i + 40;
     v_r0_i6_i_sroa_6_sroa_9_sroa_8_0_copyload_i_i = get_P(v_r0_i6_i_sroa_6_sroa_9_sroa_8_0_r0_i6_i_sroa_6_sroa);
-    v_r0_i6_i_sroa_6_sroa_9_sroa_9_0_r0_i6_i_sroa_6_sroa = v_r7_i56_i_i + 48;
+    v_r0_i6_i_sroa_6_sroa_9_sroa_9_0_r0_i6_i_sroa_6_sroa = v_r7_i46_i_i + 48;
     v_r0_i6_i_sroa_6_sroa_9_sroa_9_0_copyload_i_i = get_u64(v_r0_i6_i_sroa_6_sroa_9_sroa_9_0_r0_i6_i_sroa_6_sroa);
-    v_r0_i6_i_sroa_6_sroa_10_0_r5_i_i58_sroa_idx_i_i = v_r7_i56_i_i + 56;
-    v_r0_i6_i_sroa_6_sroa_10_sroa_0_0_copyload_i_i = get_P(v_r0_i6_i_sroa_6_sroa_10_0_r5_i_i58_sroa_idx_i_i);
-    v_r0_i6_i_sroa_6_sroa_10_sroa_8_0_r0_i6_i_sroa_6_sro = v_r7_i56_i_i + 64;
+    v_r0_i6_i_sroa_6_sroa_10_0_r5_i_i48_sroa_idx_i_i = v_r7_i46_i_i + 56;
+    v_r0_i6_i_sroa_6_sroa_10_sroa_0_0_copyload_i_i = get_P(v_r0_i6_i_sroa_6_sroa_10_0_r5_i_i48_sroa_idx_i_i);
+    v_r0_i6_i_sroa_6_sroa_10_sroa_8_0_r0_i6_i_sroa_6_sro = v_r7_i46_i_i + 64;
     v_r0_i6_i_sroa_6_sroa_10_sroa_8_0_copyload_i_i = get_u64(v_r0_i6_i_sroa_6_sroa_10_sroa_8_0_r0_i6_i_sroa_6_sro);
-    v_r0_i6_i_sroa_6_sroa_10_sroa_9_0_r0_i6_i_sroa_6_sro = v_r7_i56_i_i + 72;
+    v_r0_i6_i_sroa_6_sroa_10_sroa_9_0_r0_i6_i_sroa_6_sro = v_r7_i46_i_i + 72;
     v_r0_i6_i_sroa_6_sroa_10_sroa_9_0_copyload_i_i = get_u64(v_r0_i6_i_sroa_6_sroa_10_sroa_9_0_r0_i6_i_sroa_6_sro);
-    v_r0_i6_i_sroa_6_sroa_10_sroa_10_0_r0_i6_i_sroa_6_sr = v_r7_i56_i_i + 80;
+    v_r0_i6_i_sroa_6_sroa_10_sroa_10_0_r0_i6_i_sroa_6_sr = v_r7_i46_i_i + 80;
     v_r0_i6_i_sroa_6_sroa_10_sroa_10_sroa_0_0_copyload_i = get_P(v_r0_i6_i_sroa_6_sroa_10_sroa_10_0_r0_i6_i_sroa_6_sr);
-    v_r0_i6_i_sroa_6_sroa_10_sroa_10_sroa_8_0_r0_i6_i_sr = v_r7_i56_i_i + 88;
+    v_r0_i6_i_sroa_6_sroa_10_sroa_10_sroa_8_0_r0_i6_i_sr = v_r7_i46_i_i + 88;
     v_r0_i6_i_sroa_6_sroa_10_sroa_10_sroa_8_0_copyload_i = get_u64(v_r0_i6_i_sroa_6_sroa_10_sroa_10_sroa_8_0_r0_i6_i_sr);
-    v_r0_i6_i_sroa_6_sroa_10_sroa_11_0_r0_i6_i_sroa_6_sr = v_r7_i56_i_i + 96;
+    v_r0_i6_i_sroa_6_sroa_10_sroa_11_0_r0_i6_i_sroa_6_sr = v_r7_i46_i_i + 96;
     v_r0_i6_i_sroa_6_sroa_10_sroa_11_0_copyload_i_i = get_u64(v_r0_i6_i_sroa_6_sroa_10_sroa_11_0_r0_i6_i_sroa_6_sr);
-    v_r0_i6_i_sroa_6_sroa_10_sroa_12_0_r0_i6_i_sroa_6_sr = v_r7_i56_i_i + 104;
+    v_r0_i6_i_sroa_6_sroa_10_sroa_12_0_r0_i6_i_sroa_6_sr = v_r7_i46_i_i + 104;
     v_r0_i6_i_sroa_6_sroa_10_sroa_12_sroa_0_0_copyload_i = get_u64(v_r0_i6_i_sroa_6_sroa_10_sroa_12_0_r0_i6_i_sroa_6_sr);
-    v_r0_i6_i_sroa_6_sroa_10_sroa_12_sroa_8_0_r0_i6_i_sr = v_r7_i56_i_i + 112;
+    v_r0_i6_i_sroa_6_sroa_10_sroa_12_sroa_8_0_r0_i6_i_sr = v_r7_i46_i_i + 112;
     v_r0_i6_i_sroa_6_sroa_10_sroa_12_sroa_8_0_copyload_i = get_P(v_r0_i6_i_sroa_6_sroa_10_sroa_12_sroa_8_0_r0_i6_i_sr);
-    v_r0_i6_i_sroa_6_sroa_10_sroa_12_sroa_9_0_r0_i6_i_sr = v_r7_i56_i_i + 120;
+    v_r0_i6_i_sroa_6_sroa_10_sroa_12_sroa_9_0_r0_i6_i_sr = v_r7_i46_i_i + 120;
     v_r0_i6_i_sroa_6_sroa_10_sroa_12_sroa_9_0_copyload_i = get_u64(v_r0_i6_i_sroa_6_sroa_10_sroa_12_sroa_9_0_r0_i6_i_sr);
-    v_r0_i6_i_sroa_6_sroa_11_0_r5_i_i58_sroa_idx_i_i = v_r7_i56_i_i + 128;
-    v_r0_i6_i_sroa_6_sroa_11_sroa_0_0_copyload_i_i = get_P(v_r0_i6_i_sroa_6_sroa_11_0_r5_i_i58_sroa_idx_i_i);
-    v_r0_i6_i_sroa_6_sroa_11_sroa_8_0_r0_i6_i_sroa_6_sro = v_r7_i56_i_i + 136;
+    v_r0_i6_i_sroa_6_sroa_11_0_r5_i_i48_sroa_idx_i_i = v_r7_i46_i_i + 128;
+    v_r0_i6_i_sroa_6_sroa_11_sroa_0_0_copyload_i_i = get_P(v_r0_i6_i_sroa_6_sroa_11_0_r5_i_i48_sroa_idx_i_i);
+    v_r0_i6_i_sroa_6_sroa_11_sroa_8_0_r0_i6_i_sroa_6_sro = v_r7_i46_i_i + 136;
     v_r0_i6_i_sroa_6_sroa_11_sroa_8_0_copyload_i_i = get_u64(v_r0_i6_i_sroa_6_sroa_11_sroa_8_0_r0_i6_i_sroa_6_sro);
-    v_r0_i6_i_sroa_6_sroa_12_0_r5_i_i58_sroa_idx_i_i = v_r7_i56_i_i + 144;
-    v_r0_i6_i_sroa_6_sroa_12_0_copyload276_i_i = get_u64(v_r0_i6_i_sroa_6_sroa_12_0_r5_i_i58_sroa_idx_i_i);
-    v_r0_i6_i_sroa_6_sroa_13_0_r5_i_i58_sroa_idx_i_i = v_r7_i56_i_i + 152;
-    v_r0_i6_i_sroa_6_sroa_13_sroa_0_0_copyload_i_i = get_u64(v_r0_i6_i_sroa_6_sroa_13_0_r5_i_i58_sroa_idx_i_i);
-    v_r0_i6_i_sroa_6_sroa_13_sroa_8_0_r0_i6_i_sroa_6_sro = v_r7_i56_i_i + 160;
+    v_r0_i6_i_sroa_6_sroa_12_0_r5_i_i48_sroa_idx_i_i = v_r7_i46_i_i + 144;
+    v_r0_i6_i_sroa_6_sroa_12_0_copyload265_i_i = get_u64(v_r0_i6_i_sroa_6_sroa_12_0_r5_i_i48_sroa_idx_i_i);
+    v_r0_i6_i_sroa_6_sroa_13_0_r5_i_i48_sroa_idx_i_i = v_r7_i46_i_i + 152;
+    v_r0_i6_i_sroa_6_sroa_13_sroa_0_0_copyload_i_i = get_u64(v_r0_i6_i_sroa_6_sroa_13_0_r5_i_i48_sroa_idx_i_i);
+    v_r0_i6_i_sroa_6_sroa_13_sroa_8_0_r0_i6_i_sroa_6_sro = v_r7_i46_i_i + 160;
     v_r0_i6_i_sroa_6_sroa_13_sroa_8_0_copyload_i_i = get_P(v_r0_i6_i_sroa_6_sroa_13_sroa_8_0_r0_i6_i_sroa_6_sro);
-    v_r0_i6_i_sroa_6_sroa_13_sroa_9_0_r0_i6_i_sroa_6_sro = v_r7_i56_i_i + 168;
+    v_r0_i6_i_sroa_6_sroa_13_sroa_9_0_r0_i6_i_sroa_6_sro = v_r7_i46_i_i + 168;
     v_r0_i6_i_sroa_6_sroa_13_sroa_9_0_copyload_i_i = get_u64(v_r0_i6_i_sroa_6_sroa_13_sroa_9_0_r0_i6_i_sroa_6_sro);
-    { p_v_r0_i1_sroa_28_sroa_3_0_ph_i_i = v_r0_i6_i_sroa_6_sroa_0_sroa_0_0_copyload_i_i; p_v_r0_i1_sroa_28_sroa_8_0_ph_i_i = v_r0_i6_i_sroa_6_sroa_0_sroa_8_0_copyload_i_i; p_v_r0_i1_sroa_28_sroa_12_0_ph_i_i = v_r0_i6_i_sroa_6_sroa_8_0_copyload270_i_i; p_v_r0_i1_sroa_28_sroa_16_0_ph_i_i = v_r0_i6_i_sroa_6_sroa_9_sroa_0_0_copyload_i_i; p_v_r0_i1_sroa_28_sroa_20_0_ph_i_i = v_r0_i6_i_sroa_6_sroa_9_sroa_8_0_copyload_i_i; p_v_r0_i1_sroa_28_sroa_24_0_ph_i_i = v_r0_i6_i_sroa_6_sroa_9_sroa_9_0_copyload_i_i; p_v_r0_i1_sroa_28_sroa_28_0_ph_i_i = v_r0_i6_i_sroa_6_sroa_10_sroa_0_0_copyload_i_i; p_v_r0_i1_sroa_28_sroa_32_0_ph_i_i = v_r0_i6_i_sroa_6_sroa_10_sroa_8_0_copyload_i_i; p_v_r0_i1_sroa_28_sroa_36_0_ph_i_i = v_r0_i6_i_sroa_6_sroa_10_sroa_9_0_copyload_i_i; p_v_r0_i1_sroa_28_sroa_40_0_ph_i_i = v_r0_i6_i_sroa_6_sroa_10_sroa_10_sroa_0_0_copyload_i; p_v_r0_i1_sroa_28_sroa_44_0_ph_i_i = v_r0_i6_i_sroa_6_sroa_10_sroa_10_sroa_8_0_copyload_i; p_v_r0_i1_sroa_28_sroa_48_0_ph_i_i = v_r0_i6_i_sroa_6_sroa_10_sroa_11_0_copyload_i_i; p_v_r0_i1_sroa_28_sroa_52_0_ph_i_i = v_r0_i6_i_sroa_6_sroa_10_sroa_12_sroa_0_0_copyload_i; p_v_r0_i1_sroa_28_sroa_56_0_ph_i_i = v_r0_i6_i_sroa_6_sroa_10_sroa_12_sroa_8_0_copyload_i; p_v_r0_i1_sroa_28_sroa_60_0_ph_i_i = v_r0_i6_i_sroa_6_sroa_10_sroa_12_sroa_9_0_copyload_i; p_v_r0_i1_sroa_28_sroa_64_0_ph_i_i = v_r0_i6_i_sroa_6_sroa_11_sroa_0_0_copyload_i_i; p_v_r0_i1_sroa_28_sroa_68_0_ph_i_i = v_r0_i6_i_sroa_6_sroa_11_sroa_8_0_copyload_i_i; p_v_r0_i1_sroa_28_sroa_72_0_ph_i_i = v_r0_i6_i_sroa_6_sroa_12_0_copyload276_i_i; p_v_r0_i1_sroa_28_sroa_76_0_ph_i_i = v_r0_i6_i_sroa_6_sroa_13_sroa_0_0_copyload_i_i; p_v_r0_i1_sroa_28_sroa_80_0_ph_i_i = v_r0_i6_i_sroa_6_sroa_13_sroa_8_0_copyload_i_i; p_v_r0_i1_sroa_28_sroa_84_0_ph_i_i = v_r0_i6_i_sroa_6_sroa_13_sroa_9_0_copyload_i_i; goto L_arm_1_i; }
+    { p_v_r7_sroa_26_sroa_1_0_ph_i_i = v_r0_i6_i_sroa_6_sroa_0_sroa_0_0_copyload_i_i; p_v_r7_sroa_26_sroa_6_0_ph_i_i = v_r0_i6_i_sroa_6_sroa_0_sroa_8_0_copyload_i_i; p_v_r7_sroa_26_sroa_10_0_ph_i_i = v_r0_i6_i_sroa_6_sroa_8_0_copyload259_i_i; p_v_r7_sroa_26_sroa_14_0_ph_i_i = v_r0_i6_i_sroa_6_sroa_9_sroa_0_0_copyload_i_i; p_v_r7_sroa_26_sroa_18_0_ph_i_i = v_r0_i6_i_sroa_6_sroa_9_sroa_8_0_copyload_i_i; p_v_r7_sroa_26_sroa_22_0_ph_i_i = v_r0_i6_i_sroa_6_sroa_9_sroa_9_0_copyload_i_i; p_v_r7_sroa_26_sroa_26_0_ph_i_i = v_r0_i6_i_sroa_6_sroa_10_sroa_0_0_copyload_i_i; p_v_r7_sroa_26_sroa_30_0_ph_i_i = v_r0_i6_i_sroa_6_sroa_10_sroa_8_0_copyload_i_i; p_v_r7_sroa_26_sroa_34_0_ph_i_i = v_r0_i6_i_sroa_6_sroa_10_sroa_9_0_copyload_i_i; p_v_r7_sroa_26_sroa_38_0_ph_i_i = v_r0_i6_i_sroa_6_sroa_10_sroa_10_sroa_0_0_copyload_i; p_v_r7_sroa_26_sroa_42_0_ph_i_i = v_r0_i6_i_sroa_6_sroa_10_sroa_10_sroa_8_0_copyload_i; p_v_r7_sroa_26_sroa_46_0_ph_i_i = v_r0_i6_i_sroa_6_sroa_10_sroa_11_0_copyload_i_i; p_v_r7_sroa_26_sroa_50_0_ph_i_i = v_r0_i6_i_sroa_6_sroa_10_sroa_12_sroa_0_0_copyload_i; p_v_r7_sroa_26_sroa_54_0_ph_i_i = v_r0_i6_i_sroa_6_sroa_10_sroa_12_sroa_8_0_copyload_i; p_v_r7_sroa_26_sroa_58_0_ph_i_i = v_r0_i6_i_sroa_6_sroa_10_sroa_12_sroa_9_0_copyload_i; p_v_r7_sroa_26_sroa_62_0_ph_i_i = v_r0_i6_i_sroa_6_sroa_11_sroa_0_0_copyload_i_i; p_v_r7_sroa_26_sroa_66_0_ph_i_i = v_r0_i6_i_sroa_6_sroa_11_sroa_8_0_copyload_i_i; p_v_r7_sroa_26_sroa_70_0_ph_i_i = v_r0_i6_i_sroa_6_sroa_12_0_copyload265_i_i; p_v_r7_sroa_26_sroa_74_0_ph_i_i = v_r0_i6_i_sroa_6_sroa_13_sroa_0_0_copyload_i_i; p_v_r7_sroa_26_sroa_78_0_ph_i_i = v_r0_i6_i_sroa_6_sroa_13_sroa_8_0_copyload_i_i; p_v_r7_sroa_26_sroa_82_0_ph_i_i = v_r0_i6_i_sroa_6_sroa_13_sroa_9_0_copyload_i_i; goto L_arm_1_i; }
 L_arm_6_i_i_i_i:;
     { goto L_join_4_i_i_i; }
 L_join_4_i_i_i:;
@@ -41701,23 +42735,23 @@ L_then_6_i_i_i_i_i:;
     v_r55_i_i99_i_i_i = (u8)(v_r53_i_i_i_i_i ^ ((u8)1 << 7)) > (u8)(255u ^ ((u8)1 << 7));
     v_r65_i_i_i_i_i = (u64)v_r53_i_i_i_i_i;
     v_r36_i85_i_i_i = v_r35_i_i_i_i_i == v_r65_i_i_i_i_i;
-    v_or_cond1393_i_i = v_r55_i_i99_i_i_i ? v_r36_i85_i_i_i : 0u;
-    if (v_or_cond1393_i_i) { goto L_then_10_i_i_i_i; } else { goto L_der_core_decode_AnyDecodeRefSliceU8_from_der_26c02; }
+    v_or_cond1382_i_i = v_r55_i_i99_i_i_i ? v_r36_i85_i_i_i : 0u;
+    if (v_or_cond1382_i_i) { goto L_then_10_i_i_i_i; } else { goto L_der_core_decode_AnyDecodeRefSliceU8_from_der_26c02; }
 L_then_10_i_i_i_i:;
-    f_pkcs1_params_quick_quick_oaep(v_r8_i74_i_i, v_r32_i_i_i_i_i, v_r35_i_i_i_i_i, 0u);
-    v_r2_i_i75_i_i = get_u8(v_r8_i74_i_i);
-    v_2 = v_r2_i_i75_i_i == 1u;
+    f_pkcs1_params_quick_quick_oaep(v_r8_i63_i_i, v_r32_i_i_i_i_i, v_r35_i_i_i_i_i, 0u);
+    v_r2_i_i64_i_i = get_u8(v_r8_i63_i_i);
+    v_2 = v_r2_i_i64_i_i == 1u;
     if (v_2) { goto L_der_core_decode_AnyDecodeRefSliceU8_from_der_26c02__2; } else { goto L_pkcs1_params_oaep_reading_OaepParamsOfAnyRefDecode; }
 L_pkcs1_params_oaep_reading_OaepParamsOfAnyRefDecode:;
     { goto L_der_core_decode_AnyDecodeRefSliceU8_from_der_26c02; }
 L_der_core_decode_AnyDecodeRefSliceU8_from_der_26c02__2:;
-    v_r5_i_i79_i_i = v_r8_i74_i_i + 8;
-    copy(v_r14_i79_i_sroa_5_i_i, v_r5_i_i79_i_i, 168u);
+    v_r5_i_i68_i_i = v_r8_i63_i_i + 8;
+    copy(v_r14_i79_i_sroa_5_i_i, v_r5_i_i68_i_i, 168u);
     v_r0_i67_i_sroa_15_8_r53_i_i_sroa_idx_i_i = v_r0_i67_i_sroa_15_i_i + 4;
     copy(v_r0_i67_i_sroa_15_8_r53_i_i_sroa_idx_i_i, v_r14_i79_i_sroa_5_i_i, 168u);
-    v_r7_i39_i_sroa_11_8_r13_i74_i_sroa_idx1275_i_i = v_r7_i39_i_sroa_11_i_i + 4;
-    copy(v_r7_i39_i_sroa_11_8_r13_i74_i_sroa_idx1275_i_i, v_r0_i67_i_sroa_15_8_r53_i_i_sroa_idx_i_i, 168u);
-    { p_v_r7_i39_i_sroa_11_8_r13_i74_i_sroa_idx1277_i_i = v_r7_i39_i_sroa_11_8_r13_i74_i_sroa_idx1275_i_i; goto L_arm_5_i_i_i; }
+    v_r7_i39_i_sroa_11_8_r13_i74_i_sroa_idx1264_i_i = v_r7_i39_i_sroa_11_i_i + 4;
+    copy(v_r7_i39_i_sroa_11_8_r13_i74_i_sroa_idx1264_i_i, v_r0_i67_i_sroa_15_8_r53_i_i_sroa_idx_i_i, 168u);
+    { p_v_r7_i39_i_sroa_11_8_r13_i74_i_sroa_idx1266_i_i = v_r7_i39_i_sroa_11_8_r13_i74_i_sroa_idx1264_i_i; goto L_arm_5_i_i_i; }
 L_der_core_decode_AnyDecodeRefSliceU8_from_der_26c02:;
     f_der_core_decode_read_slowly_1334d836ffe71f34(v_r0_i76_i_i_i, v_r4, v_a1);
     v_3 = get_u8(v_r0_i76_i_i_i);
@@ -41729,22 +42763,22 @@ L_der_core_decode_AnyDecodeRefSliceU8_from_der_26c02:;
     v_r7_i39_i_sroa_11_8_r13_i74_i_sroa_idx_i_i = v_r7_i39_i_sroa_11_i_i + 4;
     copy(v_r7_i39_i_sroa_11_8_r13_i74_i_sroa_idx_i_i, v_r0_i67_i_sroa_15_8_r64_i_i_sroa_idx_i_i, 168u);
     v_5 = v_3 == 0u;
-    if (v_5) { p_v_r7_i39_i_sroa_11_8_r13_i74_i_sroa_idx1277_i_i = v_r7_i39_i_sroa_11_8_r13_i74_i_sroa_idx_i_i; goto L_arm_5_i_i_i; } else { goto L_arm_2_thread_i; }
+    if (v_5) { p_v_r7_i39_i_sroa_11_8_r13_i74_i_sroa_idx1266_i_i = v_r7_i39_i_sroa_11_8_r13_i74_i_sroa_idx_i_i; goto L_arm_5_i_i_i; } else { goto L_arm_2_thread_i; }
 L_arm_5_i_i_i:;
-    v_r7_i39_i_sroa_11_8_r13_i74_i_sroa_idx1277_i_i = p_v_r7_i39_i_sroa_11_8_r13_i74_i_sroa_idx1277_i_i;
-    v_r11_i8_sroa_18_8_r40_i_i_sroa_idx_i_i = v_r11_i8_sroa_18_i_i + 3;
-    copy(v_r11_i8_sroa_18_8_r40_i_i_sroa_idx_i_i, v_r7_i39_i_sroa_11_8_r13_i74_i_sroa_idx1277_i_i, 168u);
-    copy(v_r4_i_i_i, v_r11_i8_sroa_18_8_r40_i_i_sroa_idx_i_i, 168u);
-    f_pkcs1_params_strict_reject_defaults_297cddf97b264c(v_r0_i111_i_i, v_r4_i_i_i, v_r4, v_a1);
-    v_6 = get_u8(v_r0_i111_i_i);
-    v_r7_i113_i_i = v_r0_i111_i_i + 1;
-    v_7 = get_u8(v_r7_i113_i_i);
-    v_r9_i115_i_i = v_r0_i111_i_i + 2;
-    v_8 = get_u8(v_r9_i115_i_i);
+    v_r7_i39_i_sroa_11_8_r13_i74_i_sroa_idx1266_i_i = p_v_r7_i39_i_sroa_11_8_r13_i74_i_sroa_idx1266_i_i;
+    v_r11_i_sroa_18_8_r40_i_i_sroa_idx_i_i = v_r11_i_sroa_18_i_i + 3;
+    copy(v_r11_i_sroa_18_8_r40_i_i_sroa_idx_i_i, v_r7_i39_i_sroa_11_8_r13_i74_i_sroa_idx1266_i_i, 168u);
+    copy(v_r4_i_i_i, v_r11_i_sroa_18_8_r40_i_i_sroa_idx_i_i, 168u);
+    f_pkcs1_params_strict_reject_defaults_297cddf97b264c(v_r0_i100_i_i, v_r4_i_i_i, v_r4, v_a1);
+    v_6 = get_u8(v_r0_i100_i_i);
+    v_r7_i102_i_i = v_r0_i100_i_i + 1;
+    v_7 = get_u8(v_r7_i102_i_i);
+    v_r9_i104_i_i = v_r0_i100_i_i + 2;
+    v_8 = get_u8(v_r9_i104_i_i);
     v_9 = v_6 == 0u;
     if (v_9) { goto L_arm_8_i_i_i; } else { goto L_arm_2_i; }
 L_arm_2_thread_i:;
-    { p_v_r0_i1_sroa_13_0_i147_i = v_4; goto L_arm_1_i3_i; }
+    { p_v_r7_sroa_11_0_i147_i = v_4; goto L_arm_1_i3_i; }
 L_arm_8_i_i_i:;
     v_r16_i_sroa_0_0_copyload_i_i = get_P(v_r4_i_i_i);
     v_r16_i_sroa_5_0_r4_i_sroa_idx_i_i = v_r4_i_i_i + 8;
@@ -41787,86 +42821,86 @@ L_arm_8_i_i_i:;
     v_r16_i_sroa_23_0_copyload_i_i = get_P(v_r16_i_sroa_23_0_r4_i_sroa_idx_i_i);
     v_r16_i_sroa_24_0_r4_i_sroa_idx_i_i = v_r4_i_i_i + 160;
     v_r16_i_sroa_24_0_copyload_i_i = get_u64(v_r16_i_sroa_24_0_r4_i_sroa_idx_i_i);
-    { p_v_r0_i1_sroa_28_sroa_3_0_ph_i_i = v_r16_i_sroa_0_0_copyload_i_i; p_v_r0_i1_sroa_28_sroa_8_0_ph_i_i = v_r16_i_sroa_5_0_copyload_i_i; p_v_r0_i1_sroa_28_sroa_12_0_ph_i_i = v_r16_i_sroa_6_0_copyload_i_i; p_v_r0_i1_sroa_28_sroa_16_0_ph_i_i = v_r16_i_sroa_7_0_copyload_i_i; p_v_r0_i1_sroa_28_sroa_20_0_ph_i_i = v_r16_i_sroa_8_0_copyload_i_i; p_v_r0_i1_sroa_28_sroa_24_0_ph_i_i = v_r16_i_sroa_9_0_copyload_i_i; p_v_r0_i1_sroa_28_sroa_28_0_ph_i_i = v_r16_i_sroa_10_0_copyload_i_i; p_v_r0_i1_sroa_28_sroa_32_0_ph_i_i = v_r16_i_sroa_11_0_copyload_i_i; p_v_r0_i1_sroa_28_sroa_36_0_ph_i_i = v_r16_i_sroa_12_0_copyload_i_i; p_v_r0_i1_sroa_28_sroa_40_0_ph_i_i = v_r16_i_sroa_13_0_copyload_i_i; p_v_r0_i1_sroa_28_sroa_44_0_ph_i_i = v_r16_i_sroa_14_0_copyload_i_i; p_v_r0_i1_sroa_28_sroa_48_0_ph_i_i = v_r16_i_sroa_15_0_copyload_i_i; p_v_r0_i1_sroa_28_sroa_52_0_ph_i_i = v_r16_i_sroa_16_0_copyload_i_i; p_v_r0_i1_sroa_28_sroa_56_0_ph_i_i = v_r16_i_sroa_17_0_copyload_i_i; p_v_r0_i1_sroa_28_sroa_60_0_ph_i_i = v_r16_i_sroa_18_0_copyload_i_i; p_v_r0_i1_sroa_28_sroa_64_0_ph_i_i = v_r16_i_sroa_19_0_copyload_i_i; p_v_r0_i1_sroa_28_sroa_68_0_ph_i_i = v_r16_i_sroa_20_0_copyload_i_i; p_v_r0_i1_sroa_28_sroa_72_0_ph_i_i = v_r16_i_sroa_21_0_copyload_i_i; p_v_r0_i1_sroa_28_sroa_76_0_ph_i_i = v_r16_i_sroa_22_0_copyload_i_i; p_v_r0_i1_sroa_28_sroa_80_0_ph_i_i = v_r16_i_sroa_23_0_copyload_i_i; p_v_r0_i1_sroa_28_sroa_84_0_ph_i_i = v_r16_i_sroa_24_0_copyload_i_i; goto L_arm_1_i; }
+    { p_v_r7_sroa_26_sroa_1_0_ph_i_i = v_r16_i_sroa_0_0_copyload_i_i; p_v_r7_sroa_26_sroa_6_0_ph_i_i = v_r16_i_sroa_5_0_copyload_i_i; p_v_r7_sroa_26_sroa_10_0_ph_i_i = v_r16_i_sroa_6_0_copyload_i_i; p_v_r7_sroa_26_sroa_14_0_ph_i_i = v_r16_i_sroa_7_0_copyload_i_i; p_v_r7_sroa_26_sroa_18_0_ph_i_i = v_r16_i_sroa_8_0_copyload_i_i; p_v_r7_sroa_26_sroa_22_0_ph_i_i = v_r16_i_sroa_9_0_copyload_i_i; p_v_r7_sroa_26_sroa_26_0_ph_i_i = v_r16_i_sroa_10_0_copyload_i_i; p_v_r7_sroa_26_sroa_30_0_ph_i_i = v_r16_i_sroa_11_0_copyload_i_i; p_v_r7_sroa_26_sroa_34_0_ph_i_i = v_r16_i_sroa_12_0_copyload_i_i; p_v_r7_sroa_26_sroa_38_0_ph_i_i = v_r16_i_sroa_13_0_copyload_i_i; p_v_r7_sroa_26_sroa_42_0_ph_i_i = v_r16_i_sroa_14_0_copyload_i_i; p_v_r7_sroa_26_sroa_46_0_ph_i_i = v_r16_i_sroa_15_0_copyload_i_i; p_v_r7_sroa_26_sroa_50_0_ph_i_i = v_r16_i_sroa_16_0_copyload_i_i; p_v_r7_sroa_26_sroa_54_0_ph_i_i = v_r16_i_sroa_17_0_copyload_i_i; p_v_r7_sroa_26_sroa_58_0_ph_i_i = v_r16_i_sroa_18_0_copyload_i_i; p_v_r7_sroa_26_sroa_62_0_ph_i_i = v_r16_i_sroa_19_0_copyload_i_i; p_v_r7_sroa_26_sroa_66_0_ph_i_i = v_r16_i_sroa_20_0_copyload_i_i; p_v_r7_sroa_26_sroa_70_0_ph_i_i = v_r16_i_sroa_21_0_copyload_i_i; p_v_r7_sroa_26_sroa_74_0_ph_i_i = v_r16_i_sroa_22_0_copyload_i_i; p_v_r7_sroa_26_sroa_78_0_ph_i_i = v_r16_i_sroa_23_0_copyload_i_i; p_v_r7_sroa_26_sroa_82_0_ph_i_i = v_r16_i_sroa_24_0_copyload_i_i; goto L_arm_1_i; }
 L_arm_1_thread_i:;
-    v_r0_i1_sroa_28_sroa_3_0_ph_i_ph_i = p_v_r0_i1_sroa_28_sroa_3_0_ph_i_ph_i;
-    v_r0_i1_sroa_28_sroa_8_0_ph_i_ph_i = p_v_r0_i1_sroa_28_sroa_8_0_ph_i_ph_i;
-    v_r0_i1_sroa_28_sroa_20_0_ph_i_ph_i = p_v_r0_i1_sroa_28_sroa_20_0_ph_i_ph_i;
-    v_r0_i1_sroa_28_sroa_28_0_ph_i_ph_i = p_v_r0_i1_sroa_28_sroa_28_0_ph_i_ph_i;
-    v_r0_i1_sroa_28_sroa_40_0_ph_i_ph_i = p_v_r0_i1_sroa_28_sroa_40_0_ph_i_ph_i;
-    v_r0_i1_sroa_28_sroa_56_0_ph_i_ph_i = p_v_r0_i1_sroa_28_sroa_56_0_ph_i_ph_i;
-    { p_v_r3_sroa_35_sroa_0_0_extract_trunc141_i = 1u; p_v_r3_sroa_23_sroa_0_0_extract_trunc139_i = 1u; p_v_r3_sroa_17_sroa_0_0_extract_trunc137_i = 1u; p_v_r3_sroa_5_sroa_0_0_extract_trunc135_i = 1u; p_v_r0_i1_sroa_28_sroa_84_0_ph_i133_i = 0u; p_v_r0_i1_sroa_28_sroa_80_0_ph_i131_i = AT(f_static_21); p_v_r0_i1_sroa_28_sroa_76_0_ph_i129_i = 4u; p_v_r0_i1_sroa_28_sroa_68_0_ph_i127_i = 9u; p_v_r0_i1_sroa_28_sroa_64_0_ph_i125_i = AT(f_static_25); p_v_r0_i1_sroa_28_sroa_60_0_ph_i123_i = 0u; p_v_r0_i1_sroa_28_sroa_56_0_ph_i121_i = v_r0_i1_sroa_28_sroa_56_0_ph_i_ph_i; p_v_r0_i1_sroa_28_sroa_52_0_ph_i119_i = 5u; p_v_r0_i1_sroa_28_sroa_44_0_ph_i117_i = v_r0_i1_sroa_28_sroa_8_0_ph_i_ph_i; p_v_r0_i1_sroa_28_sroa_40_0_ph_i115_i = v_r0_i1_sroa_28_sroa_40_0_ph_i_ph_i; p_v_r0_i1_sroa_28_sroa_32_0_ph_i113_i = 9u; p_v_r0_i1_sroa_28_sroa_28_0_ph_i111_i = v_r0_i1_sroa_28_sroa_28_0_ph_i_ph_i; p_v_r0_i1_sroa_28_sroa_24_0_ph_i110_i = 0u; p_v_r0_i1_sroa_28_sroa_20_0_ph_i109_i = v_r0_i1_sroa_28_sroa_20_0_ph_i_ph_i; p_v_r0_i1_sroa_28_sroa_16_0_ph_i108_i = 5u; p_v_r0_i1_sroa_28_sroa_8_0_ph_i106_i = v_r0_i1_sroa_28_sroa_8_0_ph_i_ph_i; p_v_r0_i1_sroa_28_sroa_3_0_ph_i104_i = v_r0_i1_sroa_28_sroa_3_0_ph_i_ph_i; goto L_arm_2_i_i_i; }
+    v_r7_sroa_26_sroa_1_0_ph_i_ph_i = p_v_r7_sroa_26_sroa_1_0_ph_i_ph_i;
+    v_r7_sroa_26_sroa_6_0_ph_i_ph_i = p_v_r7_sroa_26_sroa_6_0_ph_i_ph_i;
+    v_r7_sroa_26_sroa_18_0_ph_i_ph_i = p_v_r7_sroa_26_sroa_18_0_ph_i_ph_i;
+    v_r7_sroa_26_sroa_26_0_ph_i_ph_i = p_v_r7_sroa_26_sroa_26_0_ph_i_ph_i;
+    v_r7_sroa_26_sroa_38_0_ph_i_ph_i = p_v_r7_sroa_26_sroa_38_0_ph_i_ph_i;
+    v_r7_sroa_26_sroa_54_0_ph_i_ph_i = p_v_r7_sroa_26_sroa_54_0_ph_i_ph_i;
+    { p_v_r3_sroa_35_sroa_0_0_extract_trunc141_i = 1u; p_v_r3_sroa_23_sroa_0_0_extract_trunc139_i = 1u; p_v_r3_sroa_17_sroa_0_0_extract_trunc137_i = 1u; p_v_r3_sroa_5_sroa_0_0_extract_trunc135_i = 1u; p_v_r7_sroa_26_sroa_82_0_ph_i133_i = 0u; p_v_r7_sroa_26_sroa_78_0_ph_i131_i = AT(f_static_21); p_v_r7_sroa_26_sroa_74_0_ph_i129_i = 4u; p_v_r7_sroa_26_sroa_66_0_ph_i127_i = 9u; p_v_r7_sroa_26_sroa_62_0_ph_i125_i = AT(f_static_25); p_v_r7_sroa_26_sroa_58_0_ph_i123_i = 0u; p_v_r7_sroa_26_sroa_54_0_ph_i121_i = v_r7_sroa_26_sroa_54_0_ph_i_ph_i; p_v_r7_sroa_26_sroa_50_0_ph_i119_i = 5u; p_v_r7_sroa_26_sroa_42_0_ph_i117_i = v_r7_sroa_26_sroa_6_0_ph_i_ph_i; p_v_r7_sroa_26_sroa_38_0_ph_i115_i = v_r7_sroa_26_sroa_38_0_ph_i_ph_i; p_v_r7_sroa_26_sroa_30_0_ph_i113_i = 9u; p_v_r7_sroa_26_sroa_26_0_ph_i111_i = v_r7_sroa_26_sroa_26_0_ph_i_ph_i; p_v_r7_sroa_26_sroa_22_0_ph_i110_i = 0u; p_v_r7_sroa_26_sroa_18_0_ph_i109_i = v_r7_sroa_26_sroa_18_0_ph_i_ph_i; p_v_r7_sroa_26_sroa_14_0_ph_i108_i = 5u; p_v_r7_sroa_26_sroa_6_0_ph_i106_i = v_r7_sroa_26_sroa_6_0_ph_i_ph_i; p_v_r7_sroa_26_sroa_1_0_ph_i104_i = v_r7_sroa_26_sroa_1_0_ph_i_ph_i; goto L_arm_2_i_i_i; }
 L_arm_1_i:;
-    v_r0_i1_sroa_28_sroa_3_0_ph_i_i = p_v_r0_i1_sroa_28_sroa_3_0_ph_i_i;
-    v_r0_i1_sroa_28_sroa_8_0_ph_i_i = p_v_r0_i1_sroa_28_sroa_8_0_ph_i_i;
-    v_r0_i1_sroa_28_sroa_12_0_ph_i_i = p_v_r0_i1_sroa_28_sroa_12_0_ph_i_i;
-    v_r0_i1_sroa_28_sroa_16_0_ph_i_i = p_v_r0_i1_sroa_28_sroa_16_0_ph_i_i;
-    v_r0_i1_sroa_28_sroa_20_0_ph_i_i = p_v_r0_i1_sroa_28_sroa_20_0_ph_i_i;
-    v_r0_i1_sroa_28_sroa_24_0_ph_i_i = p_v_r0_i1_sroa_28_sroa_24_0_ph_i_i;
-    v_r0_i1_sroa_28_sroa_28_0_ph_i_i = p_v_r0_i1_sroa_28_sroa_28_0_ph_i_i;
-    v_r0_i1_sroa_28_sroa_32_0_ph_i_i = p_v_r0_i1_sroa_28_sroa_32_0_ph_i_i;
-    v_r0_i1_sroa_28_sroa_36_0_ph_i_i = p_v_r0_i1_sroa_28_sroa_36_0_ph_i_i;
-    v_r0_i1_sroa_28_sroa_40_0_ph_i_i = p_v_r0_i1_sroa_28_sroa_40_0_ph_i_i;
-    v_r0_i1_sroa_28_sroa_44_0_ph_i_i = p_v_r0_i1_sroa_28_sroa_44_0_ph_i_i;
-    v_r0_i1_sroa_28_sroa_48_0_ph_i_i = p_v_r0_i1_sroa_28_sroa_48_0_ph_i_i;
-    v_r0_i1_sroa_28_sroa_52_0_ph_i_i = p_v_r0_i1_sroa_28_sroa_52_0_ph_i_i;
-    v_r0_i1_sroa_28_sroa_56_0_ph_i_i = p_v_r0_i1_sroa_28_sroa_56_0_ph_i_i;
-    v_r0_i1_sroa_28_sroa_60_0_ph_i_i = p_v_r0_i1_sroa_28_sroa_60_0_ph_i_i;
-    v_r0_i1_sroa_28_sroa_64_0_ph_i_i = p_v_r0_i1_sroa_28_sroa_64_0_ph_i_i;
-    v_r0_i1_sroa_28_sroa_68_0_ph_i_i = p_v_r0_i1_sroa_28_sroa_68_0_ph_i_i;
-    v_r0_i1_sroa_28_sroa_72_0_ph_i_i = p_v_r0_i1_sroa_28_sroa_72_0_ph_i_i;
-    v_r0_i1_sroa_28_sroa_76_0_ph_i_i = p_v_r0_i1_sroa_28_sroa_76_0_ph_i_i;
-    v_r0_i1_sroa_28_sroa_80_0_ph_i_i = p_v_r0_i1_sroa_28_sroa_80_0_ph_i_i;
-    v_r0_i1_sroa_28_sroa_84_0_ph_i_i = p_v_r0_i1_sroa_28_sroa_84_0_ph_i_i;
-    v_r3_sroa_5_sroa_0_0_extract_trunc_i = (u8)(v_r0_i1_sroa_28_sroa_12_0_ph_i_i);
-    v_r3_sroa_17_sroa_0_0_extract_trunc_i = (u8)(v_r0_i1_sroa_28_sroa_36_0_ph_i_i);
-    v_r3_sroa_23_sroa_0_0_extract_trunc_i = (u8)(v_r0_i1_sroa_28_sroa_48_0_ph_i_i);
-    v_r3_sroa_35_sroa_0_0_extract_trunc_i = (u8)(v_r0_i1_sroa_28_sroa_72_0_ph_i_i);
+    v_r7_sroa_26_sroa_1_0_ph_i_i = p_v_r7_sroa_26_sroa_1_0_ph_i_i;
+    v_r7_sroa_26_sroa_6_0_ph_i_i = p_v_r7_sroa_26_sroa_6_0_ph_i_i;
+    v_r7_sroa_26_sroa_10_0_ph_i_i = p_v_r7_sroa_26_sroa_10_0_ph_i_i;
+    v_r7_sroa_26_sroa_14_0_ph_i_i = p_v_r7_sroa_26_sroa_14_0_ph_i_i;
+    v_r7_sroa_26_sroa_18_0_ph_i_i = p_v_r7_sroa_26_sroa_18_0_ph_i_i;
+    v_r7_sroa_26_sroa_22_0_ph_i_i = p_v_r7_sroa_26_sroa_22_0_ph_i_i;
+    v_r7_sroa_26_sroa_26_0_ph_i_i = p_v_r7_sroa_26_sroa_26_0_ph_i_i;
+    v_r7_sroa_26_sroa_30_0_ph_i_i = p_v_r7_sroa_26_sroa_30_0_ph_i_i;
+    v_r7_sroa_26_sroa_34_0_ph_i_i = p_v_r7_sroa_26_sroa_34_0_ph_i_i;
+    v_r7_sroa_26_sroa_38_0_ph_i_i = p_v_r7_sroa_26_sroa_38_0_ph_i_i;
+    v_r7_sroa_26_sroa_42_0_ph_i_i = p_v_r7_sroa_26_sroa_42_0_ph_i_i;
+    v_r7_sroa_26_sroa_46_0_ph_i_i = p_v_r7_sroa_26_sroa_46_0_ph_i_i;
+    v_r7_sroa_26_sroa_50_0_ph_i_i = p_v_r7_sroa_26_sroa_50_0_ph_i_i;
+    v_r7_sroa_26_sroa_54_0_ph_i_i = p_v_r7_sroa_26_sroa_54_0_ph_i_i;
+    v_r7_sroa_26_sroa_58_0_ph_i_i = p_v_r7_sroa_26_sroa_58_0_ph_i_i;
+    v_r7_sroa_26_sroa_62_0_ph_i_i = p_v_r7_sroa_26_sroa_62_0_ph_i_i;
+    v_r7_sroa_26_sroa_66_0_ph_i_i = p_v_r7_sroa_26_sroa_66_0_ph_i_i;
+    v_r7_sroa_26_sroa_70_0_ph_i_i = p_v_r7_sroa_26_sroa_70_0_ph_i_i;
+    v_r7_sroa_26_sroa_74_0_ph_i_i = p_v_r7_sroa_26_sroa_74_0_ph_i_i;
+    v_r7_sroa_26_sroa_78_0_ph_i_i = p_v_r7_sroa_26_sroa_78_0_ph_i_i;
+    v_r7_sroa_26_sroa_82_0_ph_i_i = p_v_r7_sroa_26_sroa_82_0_ph_i_i;
+    v_r3_sroa_5_sroa_0_0_extract_trunc_i = (u8)(v_r7_sroa_26_sroa_10_0_ph_i_i);
+    v_r3_sroa_17_sroa_0_0_extract_trunc_i = (u8)(v_r7_sroa_26_sroa_34_0_ph_i_i);
+    v_r3_sroa_23_sroa_0_0_extract_trunc_i = (u8)(v_r7_sroa_26_sroa_46_0_ph_i_i);
+    v_r3_sroa_35_sroa_0_0_extract_trunc_i = (u8)(v_r7_sroa_26_sroa_70_0_ph_i_i);
     v_10 = v_r3_sroa_5_sroa_0_0_extract_trunc_i == 0u;
-    if (v_10) { p_v_r3_sroa_35_sroa_0_0_extract_trunc142_i = v_r3_sroa_35_sroa_0_0_extract_trunc_i; p_v_r3_sroa_23_sroa_0_0_extract_trunc140_i = v_r3_sroa_23_sroa_0_0_extract_trunc_i; p_v_r3_sroa_17_sroa_0_0_extract_trunc138_i = v_r3_sroa_17_sroa_0_0_extract_trunc_i; p_v_r3_sroa_5_sroa_0_0_extract_trunc136_i = 0u; p_v_r0_i1_sroa_28_sroa_84_0_ph_i134_i = v_r0_i1_sroa_28_sroa_84_0_ph_i_i; p_v_r0_i1_sroa_28_sroa_80_0_ph_i132_i = v_r0_i1_sroa_28_sroa_80_0_ph_i_i; p_v_r0_i1_sroa_28_sroa_76_0_ph_i130_i = v_r0_i1_sroa_28_sroa_76_0_ph_i_i; p_v_r0_i1_sroa_28_sroa_68_0_ph_i128_i = v_r0_i1_sroa_28_sroa_68_0_ph_i_i; p_v_r0_i1_sroa_28_sroa_64_0_ph_i126_i = v_r0_i1_sroa_28_sroa_64_0_ph_i_i; p_v_r0_i1_sroa_28_sroa_60_0_ph_i124_i = v_r0_i1_sroa_28_sroa_60_0_ph_i_i; p_v_r0_i1_sroa_28_sroa_56_0_ph_i122_i = v_r0_i1_sroa_28_sroa_56_0_ph_i_i; p_v_r0_i1_sroa_28_sroa_52_0_ph_i120_i = v_r0_i1_sroa_28_sroa_52_0_ph_i_i; p_v_r0_i1_sroa_28_sroa_44_0_ph_i118_i = v_r0_i1_sroa_28_sroa_44_0_ph_i_i; p_v_r0_i1_sroa_28_sroa_40_0_ph_i116_i = v_r0_i1_sroa_28_sroa_40_0_ph_i_i; p_v_r0_i1_sroa_28_sroa_32_0_ph_i114_i = v_r0_i1_sroa_28_sroa_32_0_ph_i_i; p_v_r0_i1_sroa_28_sroa_28_0_ph_i112_i = v_r0_i1_sroa_28_sroa_28_0_ph_i_i; p_v_r0_i1_sroa_28_sroa_8_0_ph_i107_i = v_r0_i1_sroa_28_sroa_8_0_ph_i_i; p_v_r0_i1_sroa_28_sroa_3_0_ph_i105_i = v_r0_i1_sroa_28_sroa_3_0_ph_i_i; p_v_r5_sroa_6_0_i_i_i = 0u; p_v_r5_sroa_81_0_i_i_i = AT(f_static_21); p_v_r5_sroa_10_0_i_i_i = 0u; goto L_pkcs1_c_algorithm_to_c_algorithm_exit_i_i; } else { p_v_r3_sroa_35_sroa_0_0_extract_trunc141_i = v_r3_sroa_35_sroa_0_0_extract_trunc_i; p_v_r3_sroa_23_sroa_0_0_extract_trunc139_i = v_r3_sroa_23_sroa_0_0_extract_trunc_i; p_v_r3_sroa_17_sroa_0_0_extract_trunc137_i = v_r3_sroa_17_sroa_0_0_extract_trunc_i; p_v_r3_sroa_5_sroa_0_0_extract_trunc135_i = v_r3_sroa_5_sroa_0_0_extract_trunc_i; p_v_r0_i1_sroa_28_sroa_84_0_ph_i133_i = v_r0_i1_sroa_28_sroa_84_0_ph_i_i; p_v_r0_i1_sroa_28_sroa_80_0_ph_i131_i = v_r0_i1_sroa_28_sroa_80_0_ph_i_i; p_v_r0_i1_sroa_28_sroa_76_0_ph_i129_i = v_r0_i1_sroa_28_sroa_76_0_ph_i_i; p_v_r0_i1_sroa_28_sroa_68_0_ph_i127_i = v_r0_i1_sroa_28_sroa_68_0_ph_i_i; p_v_r0_i1_sroa_28_sroa_64_0_ph_i125_i = v_r0_i1_sroa_28_sroa_64_0_ph_i_i; p_v_r0_i1_sroa_28_sroa_60_0_ph_i123_i = v_r0_i1_sroa_28_sroa_60_0_ph_i_i; p_v_r0_i1_sroa_28_sroa_56_0_ph_i121_i = v_r0_i1_sroa_28_sroa_56_0_ph_i_i; p_v_r0_i1_sroa_28_sroa_52_0_ph_i119_i = v_r0_i1_sroa_28_sroa_52_0_ph_i_i; p_v_r0_i1_sroa_28_sroa_44_0_ph_i117_i = v_r0_i1_sroa_28_sroa_44_0_ph_i_i; p_v_r0_i1_sroa_28_sroa_40_0_ph_i115_i = v_r0_i1_sroa_28_sroa_40_0_ph_i_i; p_v_r0_i1_sroa_28_sroa_32_0_ph_i113_i = v_r0_i1_sroa_28_sroa_32_0_ph_i_i; p_v_r0_i1_sroa_28_sroa_28_0_ph_i111_i = v_r0_i1_sroa_28_sroa_28_0_ph_i_i; p_v_r0_i1_sroa_28_sroa_24_0_ph_i110_i = v_r0_i1_sroa_28_sroa_24_0_ph_i_i; p_v_r0_i1_sroa_28_sroa_20_0_ph_i109_i = v_r0_i1_sroa_28_sroa_20_0_ph_i_i; p_v_r0_i1_sroa_28_sroa_16_0_ph_i108_i = v_r0_i1_sroa_28_sroa_16_0_ph_i_i; p_v_r0_i1_sroa_28_sroa_8_0_ph_i106_i = v_r0_i1_sroa_28_sroa_8_0_ph_i_i; p_v_r0_i1_sroa_28_sroa_3_0_ph_i104_i = v_r0_i1_sroa_28_sroa_3_0_ph_i_i; goto L_arm_2_i_i_i; }
+    if (v_10) { p_v_r3_sroa_35_sroa_0_0_extract_trunc142_i = v_r3_sroa_35_sroa_0_0_extract_trunc_i; p_v_r3_sroa_23_sroa_0_0_extract_trunc140_i = v_r3_sroa_23_sroa_0_0_extract_trunc_i; p_v_r3_sroa_17_sroa_0_0_extract_trunc138_i = v_r3_sroa_17_sroa_0_0_extract_trunc_i; p_v_r3_sroa_5_sroa_0_0_extract_trunc136_i = 0u; p_v_r7_sroa_26_sroa_82_0_ph_i134_i = v_r7_sroa_26_sroa_82_0_ph_i_i; p_v_r7_sroa_26_sroa_78_0_ph_i132_i = v_r7_sroa_26_sroa_78_0_ph_i_i; p_v_r7_sroa_26_sroa_74_0_ph_i130_i = v_r7_sroa_26_sroa_74_0_ph_i_i; p_v_r7_sroa_26_sroa_66_0_ph_i128_i = v_r7_sroa_26_sroa_66_0_ph_i_i; p_v_r7_sroa_26_sroa_62_0_ph_i126_i = v_r7_sroa_26_sroa_62_0_ph_i_i; p_v_r7_sroa_26_sroa_58_0_ph_i124_i = v_r7_sroa_26_sroa_58_0_ph_i_i; p_v_r7_sroa_26_sroa_54_0_ph_i122_i = v_r7_sroa_26_sroa_54_0_ph_i_i; p_v_r7_sroa_26_sroa_50_0_ph_i120_i = v_r7_sroa_26_sroa_50_0_ph_i_i; p_v_r7_sroa_26_sroa_42_0_ph_i118_i = v_r7_sroa_26_sroa_42_0_ph_i_i; p_v_r7_sroa_26_sroa_38_0_ph_i116_i = v_r7_sroa_26_sroa_38_0_ph_i_i; p_v_r7_sroa_26_sroa_30_0_ph_i114_i = v_r7_sroa_26_sroa_30_0_ph_i_i; p_v_r7_sroa_26_sroa_26_0_ph_i112_i = v_r7_sroa_26_sroa_26_0_ph_i_i; p_v_r7_sroa_26_sroa_6_0_ph_i107_i = v_r7_sroa_26_sroa_6_0_ph_i_i; p_v_r7_sroa_26_sroa_1_0_ph_i105_i = v_r7_sroa_26_sroa_1_0_ph_i_i; p_v_r5_sroa_6_0_i_i_i = 0u; p_v_r5_sroa_81_0_i_i_i = AT(f_static_21); p_v_r5_sroa_10_0_i_i_i = 0u; goto L_pkcs1_c_algorithm_to_c_algorithm_exit_i_i; } else { p_v_r3_sroa_35_sroa_0_0_extract_trunc141_i = v_r3_sroa_35_sroa_0_0_extract_trunc_i; p_v_r3_sroa_23_sroa_0_0_extract_trunc139_i = v_r3_sroa_23_sroa_0_0_extract_trunc_i; p_v_r3_sroa_17_sroa_0_0_extract_trunc137_i = v_r3_sroa_17_sroa_0_0_extract_trunc_i; p_v_r3_sroa_5_sroa_0_0_extract_trunc135_i = v_r3_sroa_5_sroa_0_0_extract_trunc_i; p_v_r7_sroa_26_sroa_82_0_ph_i133_i = v_r7_sroa_26_sroa_82_0_ph_i_i; p_v_r7_sroa_26_sroa_78_0_ph_i131_i = v_r7_sroa_26_sroa_78_0_ph_i_i; p_v_r7_sroa_26_sroa_74_0_ph_i129_i = v_r7_sroa_26_sroa_74_0_ph_i_i; p_v_r7_sroa_26_sroa_66_0_ph_i127_i = v_r7_sroa_26_sroa_66_0_ph_i_i; p_v_r7_sroa_26_sroa_62_0_ph_i125_i = v_r7_sroa_26_sroa_62_0_ph_i_i; p_v_r7_sroa_26_sroa_58_0_ph_i123_i = v_r7_sroa_26_sroa_58_0_ph_i_i; p_v_r7_sroa_26_sroa_54_0_ph_i121_i = v_r7_sroa_26_sroa_54_0_ph_i_i; p_v_r7_sroa_26_sroa_50_0_ph_i119_i = v_r7_sroa_26_sroa_50_0_ph_i_i; p_v_r7_sroa_26_sroa_42_0_ph_i117_i = v_r7_sroa_26_sroa_42_0_ph_i_i; p_v_r7_sroa_26_sroa_38_0_ph_i115_i = v_r7_sroa_26_sroa_38_0_ph_i_i; p_v_r7_sroa_26_sroa_30_0_ph_i113_i = v_r7_sroa_26_sroa_30_0_ph_i_i; p_v_r7_sroa_26_sroa_26_0_ph_i111_i = v_r7_sroa_26_sroa_26_0_ph_i_i; p_v_r7_sroa_26_sroa_22_0_ph_i110_i = v_r7_sroa_26_sroa_22_0_ph_i_i; p_v_r7_sroa_26_sroa_18_0_ph_i109_i = v_r7_sroa_26_sroa_18_0_ph_i_i; p_v_r7_sroa_26_sroa_14_0_ph_i108_i = v_r7_sroa_26_sroa_14_0_ph_i_i; p_v_r7_sroa_26_sroa_6_0_ph_i106_i = v_r7_sroa_26_sroa_6_0_ph_i_i; p_v_r7_sroa_26_sroa_1_0_ph_i104_i = v_r7_sroa_26_sroa_1_0_ph_i_i; goto L_arm_2_i_i_i; }
 L_arm_2_i_i_i:;
     v_r3_sroa_35_sroa_0_0_extract_trunc141_i = p_v_r3_sroa_35_sroa_0_0_extract_trunc141_i;
     v_r3_sroa_23_sroa_0_0_extract_trunc139_i = p_v_r3_sroa_23_sroa_0_0_extract_trunc139_i;
     v_r3_sroa_17_sroa_0_0_extract_trunc137_i = p_v_r3_sroa_17_sroa_0_0_extract_trunc137_i;
     v_r3_sroa_5_sroa_0_0_extract_trunc135_i = p_v_r3_sroa_5_sroa_0_0_extract_trunc135_i;
-    v_r0_i1_sroa_28_sroa_84_0_ph_i133_i = p_v_r0_i1_sroa_28_sroa_84_0_ph_i133_i;
-    v_r0_i1_sroa_28_sroa_80_0_ph_i131_i = p_v_r0_i1_sroa_28_sroa_80_0_ph_i131_i;
-    v_r0_i1_sroa_28_sroa_76_0_ph_i129_i = p_v_r0_i1_sroa_28_sroa_76_0_ph_i129_i;
-    v_r0_i1_sroa_28_sroa_68_0_ph_i127_i = p_v_r0_i1_sroa_28_sroa_68_0_ph_i127_i;
-    v_r0_i1_sroa_28_sroa_64_0_ph_i125_i = p_v_r0_i1_sroa_28_sroa_64_0_ph_i125_i;
-    v_r0_i1_sroa_28_sroa_60_0_ph_i123_i = p_v_r0_i1_sroa_28_sroa_60_0_ph_i123_i;
-    v_r0_i1_sroa_28_sroa_56_0_ph_i121_i = p_v_r0_i1_sroa_28_sroa_56_0_ph_i121_i;
-    v_r0_i1_sroa_28_sroa_52_0_ph_i119_i = p_v_r0_i1_sroa_28_sroa_52_0_ph_i119_i;
-    v_r0_i1_sroa_28_sroa_44_0_ph_i117_i = p_v_r0_i1_sroa_28_sroa_44_0_ph_i117_i;
-    v_r0_i1_sroa_28_sroa_40_0_ph_i115_i = p_v_r0_i1_sroa_28_sroa_40_0_ph_i115_i;
-    v_r0_i1_sroa_28_sroa_32_0_ph_i113_i = p_v_r0_i1_sroa_28_sroa_32_0_ph_i113_i;
-    v_r0_i1_sroa_28_sroa_28_0_ph_i111_i = p_v_r0_i1_sroa_28_sroa_28_0_ph_i111_i;
-    v_r0_i1_sroa_28_sroa_24_0_ph_i110_i = p_v_r0_i1_sroa_28_sroa_24_0_ph_i110_i;
-    v_r0_i1_sroa_28_sroa_20_0_ph_i109_i = p_v_r0_i1_sroa_28_sroa_20_0_ph_i109_i;
-    v_r0_i1_sroa_28_sroa_16_0_ph_i108_i = p_v_r0_i1_sroa_28_sroa_16_0_ph_i108_i;
-    v_r0_i1_sroa_28_sroa_8_0_ph_i106_i = p_v_r0_i1_sroa_28_sroa_8_0_ph_i106_i;
-    v_r0_i1_sroa_28_sroa_3_0_ph_i104_i = p_v_r0_i1_sroa_28_sroa_3_0_ph_i104_i;
-    v_r4_i_i_i_i_i = (u8)(v_r0_i1_sroa_28_sroa_16_0_ph_i108_i);
-    { p_v_r3_sroa_35_sroa_0_0_extract_trunc142_i = v_r3_sroa_35_sroa_0_0_extract_trunc141_i; p_v_r3_sroa_23_sroa_0_0_extract_trunc140_i = v_r3_sroa_23_sroa_0_0_extract_trunc139_i; p_v_r3_sroa_17_sroa_0_0_extract_trunc138_i = v_r3_sroa_17_sroa_0_0_extract_trunc137_i; p_v_r3_sroa_5_sroa_0_0_extract_trunc136_i = v_r3_sroa_5_sroa_0_0_extract_trunc135_i; p_v_r0_i1_sroa_28_sroa_84_0_ph_i134_i = v_r0_i1_sroa_28_sroa_84_0_ph_i133_i; p_v_r0_i1_sroa_28_sroa_80_0_ph_i132_i = v_r0_i1_sroa_28_sroa_80_0_ph_i131_i; p_v_r0_i1_sroa_28_sroa_76_0_ph_i130_i = v_r0_i1_sroa_28_sroa_76_0_ph_i129_i; p_v_r0_i1_sroa_28_sroa_68_0_ph_i128_i = v_r0_i1_sroa_28_sroa_68_0_ph_i127_i; p_v_r0_i1_sroa_28_sroa_64_0_ph_i126_i = v_r0_i1_sroa_28_sroa_64_0_ph_i125_i; p_v_r0_i1_sroa_28_sroa_60_0_ph_i124_i = v_r0_i1_sroa_28_sroa_60_0_ph_i123_i; p_v_r0_i1_sroa_28_sroa_56_0_ph_i122_i = v_r0_i1_sroa_28_sroa_56_0_ph_i121_i; p_v_r0_i1_sroa_28_sroa_52_0_ph_i120_i = v_r0_i1_sroa_28_sroa_52_0_ph_i119_i; p_v_r0_i1_sroa_28_sroa_44_0_ph_i118_i = v_r0_i1_sroa_28_sroa_44_0_ph_i117_i; p_v_r0_i1_sroa_28_sroa_40_0_ph_i116_i = v_r0_i1_sroa_28_sroa_40_0_ph_i115_i; p_v_r0_i1_sroa_28_sroa_32_0_ph_i114_i = v_r0_i1_sroa_28_sroa_32_0_ph_i113_i; p_v_r0_i1_sroa_28_sroa_28_0_ph_i112_i = v_r0_i1_sroa_28_sroa_28_0_ph_i111_i; p_v_r0_i1_sroa_28_sroa_8_0_ph_i107_i = v_r0_i1_sroa_28_sroa_8_0_ph_i106_i; p_v_r0_i1_sroa_28_sroa_3_0_ph_i105_i = v_r0_i1_sroa_28_sroa_3_0_ph_i104_i; p_v_r5_sroa_6_0_i_i_i = v_r4_i_i_i_i_i; p_v_r5_sroa_81_0_i_i_i = v_r0_i1_sroa_28_sroa_20_0_ph_i109_i; p_v_r5_sroa_10_0_i_i_i = v_r0_i1_sroa_28_sroa_24_0_ph_i110_i; goto L_pkcs1_c_algorithm_to_c_algorithm_exit_i_i; }
+    v_r7_sroa_26_sroa_82_0_ph_i133_i = p_v_r7_sroa_26_sroa_82_0_ph_i133_i;
+    v_r7_sroa_26_sroa_78_0_ph_i131_i = p_v_r7_sroa_26_sroa_78_0_ph_i131_i;
+    v_r7_sroa_26_sroa_74_0_ph_i129_i = p_v_r7_sroa_26_sroa_74_0_ph_i129_i;
+    v_r7_sroa_26_sroa_66_0_ph_i127_i = p_v_r7_sroa_26_sroa_66_0_ph_i127_i;
+    v_r7_sroa_26_sroa_62_0_ph_i125_i = p_v_r7_sroa_26_sroa_62_0_ph_i125_i;
+    v_r7_sroa_26_sroa_58_0_ph_i123_i = p_v_r7_sroa_26_sroa_58_0_ph_i123_i;
+    v_r7_sroa_26_sroa_54_0_ph_i121_i = p_v_r7_sroa_26_sroa_54_0_ph_i121_i;
+    v_r7_sroa_26_sroa_50_0_ph_i119_i = p_v_r7_sroa_26_sroa_50_0_ph_i119_i;
+    v_r7_sroa_26_sroa_42_0_ph_i117_i = p_v_r7_sroa_26_sroa_42_0_ph_i117_i;
+    v_r7_sroa_26_sroa_38_0_ph_i115_i = p_v_r7_sroa_26_sroa_38_0_ph_i115_i;
+    v_r7_sroa_26_sroa_30_0_ph_i113_i = p_v_r7_sroa_26_sroa_30_0_ph_i113_i;
+    v_r7_sroa_26_sroa_26_0_ph_i111_i = p_v_r7_sroa_26_sroa_26_0_ph_i111_i;
+    v_r7_sroa_26_sroa_22_0_ph_i110_i = p_v_r7_sroa_26_sroa_22_0_ph_i110_i;
+    v_r7_sroa_26_sroa_18_0_ph_i109_i = p_v_r7_sroa_26_sroa_18_0_ph_i109_i;
+    v_r7_sroa_26_sroa_14_0_ph_i108_i = p_v_r7_sroa_26_sroa_14_0_ph_i108_i;
+    v_r7_sroa_26_sroa_6_0_ph_i106_i = p_v_r7_sroa_26_sroa_6_0_ph_i106_i;
+    v_r7_sroa_26_sroa_1_0_ph_i104_i = p_v_r7_sroa_26_sroa_1_0_ph_i104_i;
+    v_r4_i_i_i_i_i = (u8)(v_r7_sroa_26_sroa_14_0_ph_i108_i);
+    { p_v_r3_sroa_35_sroa_0_0_extract_trunc142_i = v_r3_sroa_35_sroa_0_0_extract_trunc141_i; p_v_r3_sroa_23_sroa_0_0_extract_trunc140_i = v_r3_sroa_23_sroa_0_0_extract_trunc139_i; p_v_r3_sroa_17_sroa_0_0_extract_trunc138_i = v_r3_sroa_17_sroa_0_0_extract_trunc137_i; p_v_r3_sroa_5_sroa_0_0_extract_trunc136_i = v_r3_sroa_5_sroa_0_0_extract_trunc135_i; p_v_r7_sroa_26_sroa_82_0_ph_i134_i = v_r7_sroa_26_sroa_82_0_ph_i133_i; p_v_r7_sroa_26_sroa_78_0_ph_i132_i = v_r7_sroa_26_sroa_78_0_ph_i131_i; p_v_r7_sroa_26_sroa_74_0_ph_i130_i = v_r7_sroa_26_sroa_74_0_ph_i129_i; p_v_r7_sroa_26_sroa_66_0_ph_i128_i = v_r7_sroa_26_sroa_66_0_ph_i127_i; p_v_r7_sroa_26_sroa_62_0_ph_i126_i = v_r7_sroa_26_sroa_62_0_ph_i125_i; p_v_r7_sroa_26_sroa_58_0_ph_i124_i = v_r7_sroa_26_sroa_58_0_ph_i123_i; p_v_r7_sroa_26_sroa_54_0_ph_i122_i = v_r7_sroa_26_sroa_54_0_ph_i121_i; p_v_r7_sroa_26_sroa_50_0_ph_i120_i = v_r7_sroa_26_sroa_50_0_ph_i119_i; p_v_r7_sroa_26_sroa_42_0_ph_i118_i = v_r7_sroa_26_sroa_42_0_ph_i117_i; p_v_r7_sroa_26_sroa_38_0_ph_i116_i = v_r7_sroa_26_sroa_38_0_ph_i115_i; p_v_r7_sroa_26_sroa_30_0_ph_i114_i = v_r7_sroa_26_sroa_30_0_ph_i113_i; p_v_r7_sroa_26_sroa_26_0_ph_i112_i = v_r7_sroa_26_sroa_26_0_ph_i111_i; p_v_r7_sroa_26_sroa_6_0_ph_i107_i = v_r7_sroa_26_sroa_6_0_ph_i106_i; p_v_r7_sroa_26_sroa_1_0_ph_i105_i = v_r7_sroa_26_sroa_1_0_ph_i104_i; p_v_r5_sroa_6_0_i_i_i = v_r4_i_i_i_i_i; p_v_r5_sroa_81_0_i_i_i = v_r7_sroa_26_sroa_18_0_ph_i109_i; p_v_r5_sroa_10_0_i_i_i = v_r7_sroa_26_sroa_22_0_ph_i110_i; goto L_pkcs1_c_algorithm_to_c_algorithm_exit_i_i; }
 L_pkcs1_c_algorithm_to_c_algorithm_exit_i_i:;
     v_r3_sroa_35_sroa_0_0_extract_trunc142_i = p_v_r3_sroa_35_sroa_0_0_extract_trunc142_i;
     v_r3_sroa_23_sroa_0_0_extract_trunc140_i = p_v_r3_sroa_23_sroa_0_0_extract_trunc140_i;
     v_r3_sroa_17_sroa_0_0_extract_trunc138_i = p_v_r3_sroa_17_sroa_0_0_extract_trunc138_i;
     v_r3_sroa_5_sroa_0_0_extract_trunc136_i = p_v_r3_sroa_5_sroa_0_0_extract_trunc136_i;
-    v_r0_i1_sroa_28_sroa_84_0_ph_i134_i = p_v_r0_i1_sroa_28_sroa_84_0_ph_i134_i;
-    v_r0_i1_sroa_28_sroa_80_0_ph_i132_i = p_v_r0_i1_sroa_28_sroa_80_0_ph_i132_i;
-    v_r0_i1_sroa_28_sroa_76_0_ph_i130_i = p_v_r0_i1_sroa_28_sroa_76_0_ph_i130_i;
-    v_r0_i1_sroa_28_sroa_68_0_ph_i128_i = p_v_r0_i1_sroa_28_sroa_68_0_ph_i128_i;
-    v_r0_i1_sroa_28_sroa_64_0_ph_i126_i = p_v_r0_i1_sroa_28_sroa_64_0_ph_i126_i;
-    v_r0_i1_sroa_28_sroa_60_0_ph_i124_i = p_v_r0_i1_sroa_28_sroa_60_0_ph_i124_i;
-    v_r0_i1_sroa_28_sroa_56_0_ph_i122_i = p_v_r0_i1_sroa_28_sroa_56_0_ph_i122_i;
-    v_r0_i1_sroa_28_sroa_52_0_ph_i120_i = p_v_r0_i1_sroa_28_sroa_52_0_ph_i120_i;
-    v_r0_i1_sroa_28_sroa_44_0_ph_i118_i = p_v_r0_i1_sroa_28_sroa_44_0_ph_i118_i;
-    v_r0_i1_sroa_28_sroa_40_0_ph_i116_i = p_v_r0_i1_sroa_28_sroa_40_0_ph_i116_i;
-    v_r0_i1_sroa_28_sroa_32_0_ph_i114_i = p_v_r0_i1_sroa_28_sroa_32_0_ph_i114_i;
-    v_r0_i1_sroa_28_sroa_28_0_ph_i112_i = p_v_r0_i1_sroa_28_sroa_28_0_ph_i112_i;
-    v_r0_i1_sroa_28_sroa_8_0_ph_i107_i = p_v_r0_i1_sroa_28_sroa_8_0_ph_i107_i;
-    v_r0_i1_sroa_28_sroa_3_0_ph_i105_i = p_v_r0_i1_sroa_28_sroa_3_0_ph_i105_i;
+    v_r7_sroa_26_sroa_82_0_ph_i134_i = p_v_r7_sroa_26_sroa_82_0_ph_i134_i;
+    v_r7_sroa_26_sroa_78_0_ph_i132_i = p_v_r7_sroa_26_sroa_78_0_ph_i132_i;
+    v_r7_sroa_26_sroa_74_0_ph_i130_i = p_v_r7_sroa_26_sroa_74_0_ph_i130_i;
+    v_r7_sroa_26_sroa_66_0_ph_i128_i = p_v_r7_sroa_26_sroa_66_0_ph_i128_i;
+    v_r7_sroa_26_sroa_62_0_ph_i126_i = p_v_r7_sroa_26_sroa_62_0_ph_i126_i;
+    v_r7_sroa_26_sroa_58_0_ph_i124_i = p_v_r7_sroa_26_sroa_58_0_ph_i124_i;
+    v_r7_sroa_26_sroa_54_0_ph_i122_i = p_v_r7_sroa_26_sroa_54_0_ph_i122_i;
+    v_r7_sroa_26_sroa_50_0_ph_i120_i = p_v_r7_sroa_26_sroa_50_0_ph_i120_i;
+    v_r7_sroa_26_sroa_42_0_ph_i118_i = p_v_r7_sroa_26_sroa_42_0_ph_i118_i;
+    v_r7_sroa_26_sroa_38_0_ph_i116_i = p_v_r7_sroa_26_sroa_38_0_ph_i116_i;
+    v_r7_sroa_26_sroa_30_0_ph_i114_i = p_v_r7_sroa_26_sroa_30_0_ph_i114_i;
+    v_r7_sroa_26_sroa_26_0_ph_i112_i = p_v_r7_sroa_26_sroa_26_0_ph_i112_i;
+    v_r7_sroa_26_sroa_6_0_ph_i107_i = p_v_r7_sroa_26_sroa_6_0_ph_i107_i;
+    v_r7_sroa_26_sroa_1_0_ph_i105_i = p_v_r7_sroa_26_sroa_1_0_ph_i105_i;
     v_r5_sroa_6_0_i_i_i = p_v_r5_sroa_6_0_i_i_i;
     v_r5_sroa_81_0_i_i_i = p_v_r5_sroa_81_0_i_i_i;
     v_r5_sroa_10_0_i_i_i = p_v_r5_sroa_10_0_i_i_i;
@@ -41874,10 +42908,10 @@ L_pkcs1_c_algorithm_to_c_algorithm_exit_i_i:;
     if (v_11) { p_v_r5_sroa_61_0_i_i_i = AT(f_static_21); p_v_r5_sroa_8_0_i_i_i = 0u; p_v_r5_sroa_9_0_i_i_i = 0u; p_v_r5_sroa_10_0_i6_i_i = 0u; p_v_r5_sroa_12_0_i_i_i = AT(f_static_21); p_v_r5_sroa_13_0_i_i_i = 0u; goto L_pkcs1_c_algorithm_to_c_mask_gen_exit_i_i; } else { goto L_arm_2_i5_i_i; }
 L_arm_2_i5_i_i:;
     v_12 = v_r3_sroa_23_sroa_0_0_extract_trunc140_i == 0u;
-    if (v_12) { p_v_r5_sroa_61_0_i_i_i = v_r0_i1_sroa_28_sroa_40_0_ph_i116_i; p_v_r5_sroa_8_0_i_i_i = v_r0_i1_sroa_28_sroa_44_0_ph_i118_i; p_v_r5_sroa_9_0_i_i_i = 0u; p_v_r5_sroa_10_0_i6_i_i = 0u; p_v_r5_sroa_12_0_i_i_i = AT(f_static_21); p_v_r5_sroa_13_0_i_i_i = 0u; goto L_pkcs1_c_algorithm_to_c_mask_gen_exit_i_i; } else { goto L_arm_2_i_i_i_i; }
+    if (v_12) { p_v_r5_sroa_61_0_i_i_i = v_r7_sroa_26_sroa_38_0_ph_i116_i; p_v_r5_sroa_8_0_i_i_i = v_r7_sroa_26_sroa_42_0_ph_i118_i; p_v_r5_sroa_9_0_i_i_i = 0u; p_v_r5_sroa_10_0_i6_i_i = 0u; p_v_r5_sroa_12_0_i_i_i = AT(f_static_21); p_v_r5_sroa_13_0_i_i_i = 0u; goto L_pkcs1_c_algorithm_to_c_mask_gen_exit_i_i; } else { goto L_arm_2_i_i_i_i; }
 L_arm_2_i_i_i_i:;
-    v_r4_i_i_i_i_i_i = (u8)(v_r0_i1_sroa_28_sroa_52_0_ph_i120_i);
-    { p_v_r5_sroa_61_0_i_i_i = v_r0_i1_sroa_28_sroa_40_0_ph_i116_i; p_v_r5_sroa_8_0_i_i_i = v_r0_i1_sroa_28_sroa_44_0_ph_i118_i; p_v_r5_sroa_9_0_i_i_i = v_r3_sroa_23_sroa_0_0_extract_trunc140_i; p_v_r5_sroa_10_0_i6_i_i = v_r4_i_i_i_i_i_i; p_v_r5_sroa_12_0_i_i_i = v_r0_i1_sroa_28_sroa_56_0_ph_i122_i; p_v_r5_sroa_13_0_i_i_i = v_r0_i1_sroa_28_sroa_60_0_ph_i124_i; goto L_pkcs1_c_algorithm_to_c_mask_gen_exit_i_i; }
+    v_r4_i_i_i_i_i_i = (u8)(v_r7_sroa_26_sroa_50_0_ph_i120_i);
+    { p_v_r5_sroa_61_0_i_i_i = v_r7_sroa_26_sroa_38_0_ph_i116_i; p_v_r5_sroa_8_0_i_i_i = v_r7_sroa_26_sroa_42_0_ph_i118_i; p_v_r5_sroa_9_0_i_i_i = v_r3_sroa_23_sroa_0_0_extract_trunc140_i; p_v_r5_sroa_10_0_i6_i_i = v_r4_i_i_i_i_i_i; p_v_r5_sroa_12_0_i_i_i = v_r7_sroa_26_sroa_54_0_ph_i122_i; p_v_r5_sroa_13_0_i_i_i = v_r7_sroa_26_sroa_58_0_ph_i124_i; goto L_pkcs1_c_algorithm_to_c_mask_gen_exit_i_i; }
 L_pkcs1_c_algorithm_to_c_mask_gen_exit_i_i:;
     v_r5_sroa_61_0_i_i_i = p_v_r5_sroa_61_0_i_i_i;
     v_r5_sroa_8_0_i_i_i = p_v_r5_sroa_8_0_i_i_i;
@@ -41886,13 +42920,13 @@ L_pkcs1_c_algorithm_to_c_mask_gen_exit_i_i:;
     v_r5_sroa_12_0_i_i_i = p_v_r5_sroa_12_0_i_i_i;
     v_r5_sroa_13_0_i_i_i = p_v_r5_sroa_13_0_i_i_i;
     v_13 = v_r3_sroa_35_sroa_0_0_extract_trunc142_i == 0u;
-    v_r4_i_i_i21_i_i = (u8)(v_r0_i1_sroa_28_sroa_76_0_ph_i130_i);
+    v_r4_i_i_i21_i_i = (u8)(v_r7_sroa_26_sroa_74_0_ph_i130_i);
     v_r5_sroa_6_0_i24_i_i = v_13 ? 0u : v_r4_i_i_i21_i_i;
-    v_r5_sroa_81_0_i25_i_i = v_13 ? AT(f_static_21) : v_r0_i1_sroa_28_sroa_80_0_ph_i132_i;
-    v_r5_sroa_10_0_i26_i_i = v_13 ? 0u : v_r0_i1_sroa_28_sroa_84_0_ph_i134_i;
-    put_P(v_a2, v_r0_i1_sroa_28_sroa_3_0_ph_i105_i);
+    v_r5_sroa_81_0_i25_i_i = v_13 ? AT(f_static_21) : v_r7_sroa_26_sroa_78_0_ph_i132_i;
+    v_r5_sroa_10_0_i26_i_i = v_13 ? 0u : v_r7_sroa_26_sroa_82_0_ph_i134_i;
+    put_P(v_a2, v_r7_sroa_26_sroa_1_0_ph_i105_i);
     v_r7_sroa_3_0_a2_sroa_idx_i = v_a2 + 8;
-    put_u64(v_r7_sroa_3_0_a2_sroa_idx_i, v_r0_i1_sroa_28_sroa_8_0_ph_i107_i);
+    put_u64(v_r7_sroa_3_0_a2_sroa_idx_i, v_r7_sroa_26_sroa_6_0_ph_i107_i);
     v_r7_sroa_4_0_a2_sroa_idx_i = v_a2 + 16;
     put_u8(v_r7_sroa_4_0_a2_sroa_idx_i, v_r3_sroa_5_sroa_0_0_extract_trunc136_i);
     v_r7_sroa_5_0_a2_sroa_idx_i = v_a2 + 17;
@@ -41904,9 +42938,9 @@ L_pkcs1_c_algorithm_to_c_mask_gen_exit_i_i:;
     v_r7_sroa_8_0_a2_sroa_idx_i = v_a2 + 32;
     put_u64(v_r7_sroa_8_0_a2_sroa_idx_i, v_r5_sroa_10_0_i_i_i);
     v_r7_sroa_9_0_a2_sroa_idx_i = v_a2 + 40;
-    put_P(v_r7_sroa_9_0_a2_sroa_idx_i, v_r0_i1_sroa_28_sroa_28_0_ph_i112_i);
+    put_P(v_r7_sroa_9_0_a2_sroa_idx_i, v_r7_sroa_26_sroa_26_0_ph_i112_i);
     v_r7_sroa_10_0_a2_sroa_idx_i = v_a2 + 48;
-    put_u64(v_r7_sroa_10_0_a2_sroa_idx_i, v_r0_i1_sroa_28_sroa_32_0_ph_i114_i);
+    put_u64(v_r7_sroa_10_0_a2_sroa_idx_i, v_r7_sroa_26_sroa_30_0_ph_i114_i);
     v_r7_sroa_11_0_a2_sroa_idx_i = v_a2 + 56;
     put_u8(v_r7_sroa_11_0_a2_sroa_idx_i, v_r3_sroa_17_sroa_0_0_extract_trunc138_i);
     v_r7_sroa_12_0_a2_sroa_idx_i = v_a2 + 57;
@@ -41926,9 +42960,9 @@ L_pkcs1_c_algorithm_to_c_mask_gen_exit_i_i:;
     v_r7_sroa_19_0_a2_sroa_idx_i = v_a2 + 96;
     put_u64(v_r7_sroa_19_0_a2_sroa_idx_i, v_r5_sroa_13_0_i_i_i);
     v_r7_sroa_20_0_a2_sroa_idx_i = v_a2 + 104;
-    put_P(v_r7_sroa_20_0_a2_sroa_idx_i, v_r0_i1_sroa_28_sroa_64_0_ph_i126_i);
+    put_P(v_r7_sroa_20_0_a2_sroa_idx_i, v_r7_sroa_26_sroa_62_0_ph_i126_i);
     v_r7_sroa_21_0_a2_sroa_idx_i = v_a2 + 112;
-    put_u64(v_r7_sroa_21_0_a2_sroa_idx_i, v_r0_i1_sroa_28_sroa_68_0_ph_i128_i);
+    put_u64(v_r7_sroa_21_0_a2_sroa_idx_i, v_r7_sroa_26_sroa_66_0_ph_i128_i);
     v_r7_sroa_22_0_a2_sroa_idx_i = v_a2 + 120;
     put_u8(v_r7_sroa_22_0_a2_sroa_idx_i, v_r3_sroa_35_sroa_0_0_extract_trunc142_i);
     v_r7_sroa_23_0_a2_sroa_idx_i = v_a2 + 121;
@@ -41942,15 +42976,15 @@ L_pkcs1_c_algorithm_to_c_mask_gen_exit_i_i:;
     { p_v_r6_0_i = 0u; goto L_pkcs1_c_oaep_pkcs1_c_oaep_params_decode_strict_exi; }
 L_arm_2_i:;
     switch (v_7) {
-    case 0u: { p_v_r0_i1_sroa_13_0_i147_i = v_8; goto L_arm_1_i3_i; }
+    case 0u: { p_v_r7_sroa_11_0_i147_i = v_8; goto L_arm_1_i3_i; }
     case 1u: { p_v_r6_0_i = 18u; goto L_pkcs1_c_oaep_pkcs1_c_oaep_params_decode_strict_exi; }
     case 2u: { goto L_arm_3_i_i; }
     case 3u: { goto L_arm_4_i_i; }
     default: { goto L_noarm_5_i_i; }
     }
 L_arm_1_i3_i:;
-    v_r0_i1_sroa_13_0_i147_i = p_v_r0_i1_sroa_13_0_i147_i;
-    v_switch_idx_cast_i_i_i = (u32)v_r0_i1_sroa_13_0_i147_i;
+    v_r7_sroa_11_0_i147_i = p_v_r7_sroa_11_0_i147_i;
+    v_switch_idx_cast_i_i_i = (u32)v_r7_sroa_11_0_i147_i;
     v_switch_offset_i_i_i = (u32)((u32)(v_switch_idx_cast_i_i_i) + (u32)(1u));
     { p_v_r6_0_i = v_switch_offset_i_i_i; goto L_pkcs1_c_oaep_pkcs1_c_oaep_params_decode_strict_exi; }
 L_arm_3_i_i:;
@@ -45518,83 +46552,83 @@ L_pkcs1_c_pss_pkcs1_c_pss_params_decode_exit:;
     return v_r6_0_i;
 }
 static ONCE u32 proved_pss_params_decode_strict(P v_a0, u64 v_a1, P v_a2) {
-    ALIGNED(1) unsigned char m_v_r0_i111_i_i[5];
-    ALIGNED(8) unsigned char m_v_r7_i54_i_i[136];
+    ALIGNED(1) unsigned char m_v_r0_i100_i_i[5];
+    ALIGNED(8) unsigned char m_v_r7_i44_i_i[136];
     ALIGNED(8) unsigned char m_v_r8_i_i69_i_i_i[136];
     ALIGNED(8) unsigned char m_v_r0_i71_i_i_i[136];
     ALIGNED(8) unsigned char m_v_r14_i74_i_sroa_6_i_i[128];
     ALIGNED(4) unsigned char m_v_r0_i58_i_sroa_15_i_i[132];
     ALIGNED(4) unsigned char m_v_r7_i32_i_sroa_11_i_i[132];
     ALIGNED(8) unsigned char m_v_r4_i_i_i[128];
-    ALIGNED(1) unsigned char m_v_r11_i8_sroa_18_i_i[131];
+    ALIGNED(1) unsigned char m_v_r11_i_sroa_18_i_i[131];
     P p_v_r1_sroa_13_0_i_ph_i_i_i;
-    P p_v_r7_i32_i_sroa_11_8_r13_i65_i_sroa_idx1378_i_i;
-    P p_v_r0_i1_sroa_28_sroa_3_0_ph_i_ph_i;
-    u64 p_v_r0_i1_sroa_28_sroa_8_0_ph_i_ph_i;
-    P p_v_r0_i1_sroa_28_sroa_20_0_ph_i_ph_i;
-    P p_v_r0_i1_sroa_28_sroa_28_0_ph_i_ph_i;
-    P p_v_r0_i1_sroa_28_sroa_40_0_ph_i_ph_i;
-    P p_v_r0_i1_sroa_28_sroa_56_0_ph_i_ph_i;
-    u8 p_v_r0_i1_sroa_28_sroa_64_0_ph_i_ph_i;
-    P p_v_r0_i1_sroa_28_sroa_3_0_ph_i_i;
-    u64 p_v_r0_i1_sroa_28_sroa_8_0_ph_i_i;
-    u64 p_v_r0_i1_sroa_28_sroa_12_0_ph_i_i;
-    u64 p_v_r0_i1_sroa_28_sroa_16_0_ph_i_i;
-    P p_v_r0_i1_sroa_28_sroa_20_0_ph_i_i;
-    u64 p_v_r0_i1_sroa_28_sroa_24_0_ph_i_i;
-    P p_v_r0_i1_sroa_28_sroa_28_0_ph_i_i;
-    u64 p_v_r0_i1_sroa_28_sroa_32_0_ph_i_i;
-    u64 p_v_r0_i1_sroa_28_sroa_36_0_ph_i_i;
-    P p_v_r0_i1_sroa_28_sroa_40_0_ph_i_i;
-    u64 p_v_r0_i1_sroa_28_sroa_44_0_ph_i_i;
-    u64 p_v_r0_i1_sroa_28_sroa_48_0_ph_i_i;
-    u64 p_v_r0_i1_sroa_28_sroa_52_0_ph_i_i;
-    P p_v_r0_i1_sroa_28_sroa_56_0_ph_i_i;
-    u64 p_v_r0_i1_sroa_28_sroa_60_0_ph_i_i;
-    u8 p_v_r0_i1_sroa_28_sroa_64_0_ph_i_i;
-    P p_v_r0_i1_sroa_28_sroa_3_0_ph_i84141_i;
-    u64 p_v_r0_i1_sroa_28_sroa_8_0_ph_i86140_i;
-    P p_v_r0_i1_sroa_28_sroa_28_0_ph_i88139_i;
-    u64 p_v_r0_i1_sroa_28_sroa_32_0_ph_i90138_i;
-    P p_v_r0_i1_sroa_28_sroa_40_0_ph_i92137_i;
-    u64 p_v_r0_i1_sroa_28_sroa_44_0_ph_i93136_i;
-    u64 p_v_r0_i1_sroa_28_sroa_52_0_ph_i94135_i;
-    P p_v_r0_i1_sroa_28_sroa_56_0_ph_i95134_i;
-    u64 p_v_r0_i1_sroa_28_sroa_60_0_ph_i96133_i;
-    u8 p_v_r0_i1_sroa_28_sroa_64_0_ph_i97132_i;
-    u8 p_v_r3_sroa_5_sroa_0_0_extract_trunc99131_i;
-    u8 p_v_r3_sroa_17_sroa_0_0_extract_trunc101130_i;
-    u8 p_v_r3_sroa_23_sroa_0_0_extract_trunc103129_i;
-    u8 p_v_r5_sroa_6_0_i_i104128_i;
-    P p_v_r5_sroa_81_0_i_i106127_i;
-    u64 p_v_r5_sroa_10_0_i_i108126_i;
-    u64 p_v_r5_sroa_10_0_i_i109_i;
-    P p_v_r5_sroa_81_0_i_i107_i;
-    u8 p_v_r5_sroa_6_0_i_i105_i;
-    u8 p_v_r3_sroa_17_sroa_0_0_extract_trunc102_i;
-    u8 p_v_r3_sroa_5_sroa_0_0_extract_trunc100_i;
-    u8 p_v_r0_i1_sroa_28_sroa_64_0_ph_i98_i;
-    u64 p_v_r0_i1_sroa_28_sroa_32_0_ph_i91_i;
-    P p_v_r0_i1_sroa_28_sroa_28_0_ph_i89_i;
-    u64 p_v_r0_i1_sroa_28_sroa_8_0_ph_i87_i;
-    P p_v_r0_i1_sroa_28_sroa_3_0_ph_i85_i;
+    P p_v_r7_i32_i_sroa_11_8_r13_i65_i_sroa_idx1367_i_i;
+    P p_v_r7_sroa_26_sroa_1_0_ph_i_ph_i;
+    u64 p_v_r7_sroa_26_sroa_6_0_ph_i_ph_i;
+    P p_v_r7_sroa_26_sroa_18_0_ph_i_ph_i;
+    P p_v_r7_sroa_26_sroa_26_0_ph_i_ph_i;
+    P p_v_r7_sroa_26_sroa_38_0_ph_i_ph_i;
+    P p_v_r7_sroa_26_sroa_54_0_ph_i_ph_i;
+    u8 p_v_r7_sroa_26_sroa_62_0_ph_i_ph_i;
+    P p_v_r7_sroa_26_sroa_1_0_ph_i_i;
+    u64 p_v_r7_sroa_26_sroa_6_0_ph_i_i;
+    u64 p_v_r7_sroa_26_sroa_10_0_ph_i_i;
+    u64 p_v_r7_sroa_26_sroa_14_0_ph_i_i;
+    P p_v_r7_sroa_26_sroa_18_0_ph_i_i;
+    u64 p_v_r7_sroa_26_sroa_22_0_ph_i_i;
+    P p_v_r7_sroa_26_sroa_26_0_ph_i_i;
+    u64 p_v_r7_sroa_26_sroa_30_0_ph_i_i;
+    u64 p_v_r7_sroa_26_sroa_34_0_ph_i_i;
+    P p_v_r7_sroa_26_sroa_38_0_ph_i_i;
+    u64 p_v_r7_sroa_26_sroa_42_0_ph_i_i;
+    u64 p_v_r7_sroa_26_sroa_46_0_ph_i_i;
+    u64 p_v_r7_sroa_26_sroa_50_0_ph_i_i;
+    P p_v_r7_sroa_26_sroa_54_0_ph_i_i;
+    u64 p_v_r7_sroa_26_sroa_58_0_ph_i_i;
+    u8 p_v_r7_sroa_26_sroa_62_0_ph_i_i;
+    P p_v_r7_sroa_26_sroa_1_0_ph_i89146_i;
+    u64 p_v_r7_sroa_26_sroa_6_0_ph_i91145_i;
+    P p_v_r7_sroa_26_sroa_26_0_ph_i93144_i;
+    u64 p_v_r7_sroa_26_sroa_30_0_ph_i95143_i;
+    P p_v_r7_sroa_26_sroa_38_0_ph_i97142_i;
+    u64 p_v_r7_sroa_26_sroa_42_0_ph_i98141_i;
+    u64 p_v_r7_sroa_26_sroa_50_0_ph_i99140_i;
+    P p_v_r7_sroa_26_sroa_54_0_ph_i100139_i;
+    u64 p_v_r7_sroa_26_sroa_58_0_ph_i101138_i;
+    u8 p_v_r7_sroa_26_sroa_62_0_ph_i102137_i;
+    u8 p_v_r3_sroa_5_sroa_0_0_extract_trunc104136_i;
+    u8 p_v_r3_sroa_17_sroa_0_0_extract_trunc106135_i;
+    u8 p_v_r3_sroa_23_sroa_0_0_extract_trunc108134_i;
+    u8 p_v_r5_sroa_6_0_i_i109133_i;
+    P p_v_r5_sroa_81_0_i_i111132_i;
+    u64 p_v_r5_sroa_10_0_i_i113131_i;
+    u64 p_v_r5_sroa_10_0_i_i114_i;
+    P p_v_r5_sroa_81_0_i_i112_i;
+    u8 p_v_r5_sroa_6_0_i_i110_i;
+    u8 p_v_r3_sroa_17_sroa_0_0_extract_trunc107_i;
+    u8 p_v_r3_sroa_5_sroa_0_0_extract_trunc105_i;
+    u8 p_v_r7_sroa_26_sroa_62_0_ph_i103_i;
+    u64 p_v_r7_sroa_26_sroa_30_0_ph_i96_i;
+    P p_v_r7_sroa_26_sroa_26_0_ph_i94_i;
+    u64 p_v_r7_sroa_26_sroa_6_0_ph_i92_i;
+    P p_v_r7_sroa_26_sroa_1_0_ph_i90_i;
     P p_v_r5_sroa_61_0_i_i_i;
     u64 p_v_r5_sroa_8_0_i_i_i;
     u8 p_v_r5_sroa_9_0_i_i_i;
     u8 p_v_r5_sroa_10_0_i6_i_i;
     P p_v_r5_sroa_12_0_i_i_i;
     u64 p_v_r5_sroa_13_0_i_i_i;
-    u8 p_v_r0_i1_sroa_13_0_i60_i;
+    u8 p_v_r7_sroa_11_0_i65_i;
     u32 p_v_r6_0_i;
-    P v_r0_i111_i_i;
-    P v_r7_i54_i_i;
+    P v_r0_i100_i_i;
+    P v_r7_i44_i_i;
     P v_r8_i_i69_i_i_i;
     P v_r0_i71_i_i_i;
     P v_r14_i74_i_sroa_6_i_i;
     P v_r0_i58_i_sroa_15_i_i;
     P v_r7_i32_i_sroa_11_i_i;
     P v_r4_i_i_i;
-    P v_r11_i8_sroa_18_i_i;
+    P v_r11_i_sroa_18_i_i;
     u1 v_r1;
     u64 v_r3;
     P v_r4;
@@ -45606,10 +46640,10 @@ static ONCE u32 proved_pss_params_decode_strict(P v_a0, u64 v_a1, P v_a2) {
     u64 v_r36_i_i_i_i_i;
     u8 v_r43_i_i_i_i_i;
     u1 v_r45_i_i_i_i_i;
-    u64 v_r1_i12_i_i;
+    u64 v_r1_i2_i_i;
     u1 v_r57_i_i_i_i_i;
     u1 v_or_cond_i_i;
-    P v_r16_i20_i_i;
+    P v_r16_i10_i_i;
     u8 v_r33_i9_i_i_i_i;
     u1 v_cond_i_i22_i_i_i;
     P v_r36_i_i23_i_i_i;
@@ -45624,7 +46658,7 @@ static ONCE u32 proved_pss_params_decode_strict(P v_a0, u64 v_a1, P v_a2) {
     P v_r51_i13_i_i_i_i;
     u8 v_r54_i_i_i_i_i;
     u1 v_r56_i_i_i_i_i;
-    P v_r19_i_i_i24_i_i;
+    P v_r19_i_i_i14_i_i;
     u8 v_r18_i8_i_i_i;
     P v_r1_sroa_13_0_i_ph_i_i_i;
     u8 v_r16_val_i_i_i_i_i;
@@ -45654,7 +46688,7 @@ static ONCE u32 proved_pss_params_decode_strict(P v_a0, u64 v_a1, P v_a2) {
     P v_r173_i_i_i;
     P v_r127_i_i_i;
     P v_r95_i_i_i;
-    P v_r81_i27_i_i;
+    P v_r81_i17_i_i;
     u8 v_r33_i22_i_i_i_i;
     u1 v_cond_i23_i_i_i_i;
     P v_r36_i25_i_i_i_i;
@@ -45670,22 +46704,22 @@ static ONCE u32 proved_pss_params_decode_strict(P v_a0, u64 v_a1, P v_a2) {
     u8 v_r54_i38_i_i_i_i;
     u1 v_r56_i39_i_i_i_i;
     u1 v_r6_i_i_i_not_i_i;
-    u1 v_or_cond1500_i_i;
+    u1 v_or_cond1486_i_i;
     u8 v_r2_i_i_i_i;
     u1 v_0;
-    P v_r5_i_i56_i_i;
+    P v_r5_i_i46_i_i;
     P v_r0_i3_i_sroa_6_sroa_0_sroa_0_0_copyload_i_i;
-    P v_r0_i3_i_sroa_6_sroa_0_sroa_8_0_r5_i_i56_sroa_idx_i;
+    P v_r0_i3_i_sroa_6_sroa_0_sroa_8_0_r5_i_i46_sroa_idx_i;
     u64 v_r0_i3_i_sroa_6_sroa_0_sroa_8_0_copyload_i_i;
-    P v_r0_i3_i_sroa_6_sroa_8_0_r5_i_i56_sroa_idx_i_i;
-    u64 v_r0_i3_i_sroa_6_sroa_8_0_copyload331_i_i;
-    P v_r0_i3_i_sroa_6_sroa_9_0_r5_i_i56_sroa_idx_i_i;
+    P v_r0_i3_i_sroa_6_sroa_8_0_r5_i_i46_sroa_idx_i_i;
+    u64 v_r0_i3_i_sroa_6_sroa_8_0_copyload320_i_i;
+    P v_r0_i3_i_sroa_6_sroa_9_0_r5_i_i46_sroa_idx_i_i;
     u64 v_r0_i3_i_sroa_6_sroa_9_sroa_0_0_copyload_i_i;
     P v_r0_i3_i_sroa_6_sroa_9_sroa_8_0_r0_i3_i_sroa_6_sroa;
     P v_r0_i3_i_sroa_6_sroa_9_sroa_8_0_copyload_i_i;
     P v_r0_i3_i_sroa_6_sroa_9_sroa_9_0_r0_i3_i_sroa_6_sroa;
     u64 v_r0_i3_i_sroa_6_sroa_9_sroa_9_0_copyload_i_i;
-    P v_r0_i3_i_sroa_6_sroa_10_0_r5_i_i56_sroa_idx_i_i;
+    P v_r0_i3_i_sroa_6_sroa_10_0_r5_i_i46_sroa_idx_i_i;
     P v_r0_i3_i_sroa_6_sroa_10_sroa_0_0_copyload_i_i;
     P v_r0_i3_i_sroa_6_sroa_10_sroa_8_0_r0_i3_i_sroa_6_sro;
     u64 v_r0_i3_i_sroa_6_sroa_10_sroa_8_0_copyload_i_i;
@@ -45703,8 +46737,8 @@ static ONCE u32 proved_pss_params_decode_strict(P v_a0, u64 v_a1, P v_a2) {
     P v_r0_i3_i_sroa_6_sroa_10_sroa_12_sroa_8_0_copyload_i;
     P v_r0_i3_i_sroa_6_sroa_10_sroa_12_sroa_9_0_r0_i3_i_sr;
     u64 v_r0_i3_i_sroa_6_sroa_10_sroa_12_sroa_9_0_copyload_i;
-    P v_r0_i3_i_sroa_6_sroa_11_0_r5_i_i56_sroa_idx_i_i;
-    u8 v_r0_i3_i_sroa_6_sroa_11_0_copyload336_i_i;
+    P v_r0_i3_i_sroa_6_sroa_11_0_r5_i_i46_sroa_idx_i_i;
+    u8 v_r0_i3_i_sroa_6_sroa_11_0_copyload325_i_i;
     u64 v_1;
     u1 v_brmerge_i_i;
     P v_r32_i_i_i_i_i;
@@ -45716,12 +46750,12 @@ static ONCE u32 proved_pss_params_decode_strict(P v_a0, u64 v_a1, P v_a2) {
     u1 v_r55_i_i_i_i_i;
     u64 v_r65_i_i_i_i_i;
     u1 v_r36_i80_i_i_i;
-    u1 v_or_cond1499_i_i;
-    u8 v_r2_i71_i_i;
+    u1 v_or_cond1485_i_i;
+    u8 v_r2_i60_i_i;
     u1 v_2;
-    P v_r5_i78_i_i;
+    P v_r5_i67_i_i;
     P v_r0_i58_i_sroa_15_8_r53_i92_i_sroa_idx_i_i;
-    P v_r7_i32_i_sroa_11_8_r13_i65_i_sroa_idx1376_i_i;
+    P v_r7_i32_i_sroa_11_8_r13_i65_i_sroa_idx1365_i_i;
     u8 v_3;
     P v_r59_i_i_i_i;
     u8 v_4;
@@ -45729,12 +46763,12 @@ static ONCE u32 proved_pss_params_decode_strict(P v_a0, u64 v_a1, P v_a2) {
     P v_r0_i58_i_sroa_15_8_r64_i_i_sroa_idx_i_i;
     P v_r7_i32_i_sroa_11_8_r13_i65_i_sroa_idx_i_i;
     u1 v_5;
-    P v_r7_i32_i_sroa_11_8_r13_i65_i_sroa_idx1378_i_i;
-    P v_r11_i8_sroa_18_8_r40_i57_i_sroa_idx_i_i;
+    P v_r7_i32_i_sroa_11_8_r13_i65_i_sroa_idx1367_i_i;
+    P v_r11_i_sroa_18_8_r40_i57_i_sroa_idx_i_i;
     u8 v_6;
-    P v_r7_i113_i_i;
+    P v_r7_i102_i_i;
     u8 v_7;
-    P v_r9_i115_i_i;
+    P v_r9_i104_i_i;
     u8 v_8;
     u1 v_9;
     P v_r16_i_sroa_0_0_copyload_i_i;
@@ -45768,29 +46802,29 @@ static ONCE u32 proved_pss_params_decode_strict(P v_a0, u64 v_a1, P v_a2) {
     u64 v_r16_i_sroa_18_0_copyload_i_i;
     P v_r16_i_sroa_19_0_r4_i_sroa_idx_i_i;
     u8 v_r16_i_sroa_19_0_copyload_i_i;
-    P v_r0_i1_sroa_28_sroa_3_0_ph_i_ph_i;
-    u64 v_r0_i1_sroa_28_sroa_8_0_ph_i_ph_i;
-    P v_r0_i1_sroa_28_sroa_20_0_ph_i_ph_i;
-    P v_r0_i1_sroa_28_sroa_28_0_ph_i_ph_i;
-    P v_r0_i1_sroa_28_sroa_40_0_ph_i_ph_i;
-    P v_r0_i1_sroa_28_sroa_56_0_ph_i_ph_i;
-    u8 v_r0_i1_sroa_28_sroa_64_0_ph_i_ph_i;
-    P v_r0_i1_sroa_28_sroa_3_0_ph_i_i;
-    u64 v_r0_i1_sroa_28_sroa_8_0_ph_i_i;
-    u64 v_r0_i1_sroa_28_sroa_12_0_ph_i_i;
-    u64 v_r0_i1_sroa_28_sroa_16_0_ph_i_i;
-    P v_r0_i1_sroa_28_sroa_20_0_ph_i_i;
-    u64 v_r0_i1_sroa_28_sroa_24_0_ph_i_i;
-    P v_r0_i1_sroa_28_sroa_28_0_ph_i_i;
-    u64 v_r0_i1_sroa_28_sroa_32_0_ph_i_i;
-    u64 v_r0_i1_sroa_28_sroa_36_0_ph_i_i;
-    P v_r0_i1_sroa_28_sroa_40_0_ph_i_i;
-    u64 v_r0_i1_sroa_28_sroa_44_0_ph_i_i;
-    u64 v_r0_i1_sroa_28_sroa_48_0_ph_i_i;
-    u64 v_r0_i1_sroa_28_sroa_52_0_ph_i_i;
-    P v_r0_i1_sroa_28_sroa_56_0_ph_i_i;
-    u64 v_r0_i1_sroa_28_sroa_60_0_ph_i_i;
-    u8 v_r0_i1_sroa_28_sroa_64_0_ph_i_i;
+    P v_r7_sroa_26_sroa_1_0_ph_i_ph_i;
+    u64 v_r7_sroa_26_sroa_6_0_ph_i_ph_i;
+    P v_r7_sroa_26_sroa_18_0_ph_i_ph_i;
+    P v_r7_sroa_26_sroa_26_0_ph_i_ph_i;
+    P v_r7_sroa_26_sroa_38_0_ph_i_ph_i;
+    P v_r7_sroa_26_sroa_54_0_ph_i_ph_i;
+    u8 v_r7_sroa_26_sroa_62_0_ph_i_ph_i;
+    P v_r7_sroa_26_sroa_1_0_ph_i_i;
+    u64 v_r7_sroa_26_sroa_6_0_ph_i_i;
+    u64 v_r7_sroa_26_sroa_10_0_ph_i_i;
+    u64 v_r7_sroa_26_sroa_14_0_ph_i_i;
+    P v_r7_sroa_26_sroa_18_0_ph_i_i;
+    u64 v_r7_sroa_26_sroa_22_0_ph_i_i;
+    P v_r7_sroa_26_sroa_26_0_ph_i_i;
+    u64 v_r7_sroa_26_sroa_30_0_ph_i_i;
+    u64 v_r7_sroa_26_sroa_34_0_ph_i_i;
+    P v_r7_sroa_26_sroa_38_0_ph_i_i;
+    u64 v_r7_sroa_26_sroa_42_0_ph_i_i;
+    u64 v_r7_sroa_26_sroa_46_0_ph_i_i;
+    u64 v_r7_sroa_26_sroa_50_0_ph_i_i;
+    P v_r7_sroa_26_sroa_54_0_ph_i_i;
+    u64 v_r7_sroa_26_sroa_58_0_ph_i_i;
+    u8 v_r7_sroa_26_sroa_62_0_ph_i_i;
     u8 v_r3_sroa_5_sroa_0_0_extract_trunc_i;
     u8 v_r3_sroa_17_sroa_0_0_extract_trunc_i;
     u1 v_10;
@@ -45801,33 +46835,33 @@ static ONCE u32 proved_pss_params_decode_strict(P v_a0, u64 v_a1, P v_a2) {
     u1 v_11;
     u8 v_r3_sroa_23_sroa_0_0_extract_trunc_i;
     u1 v_12;
-    P v_r0_i1_sroa_28_sroa_3_0_ph_i84141_i;
-    u64 v_r0_i1_sroa_28_sroa_8_0_ph_i86140_i;
-    P v_r0_i1_sroa_28_sroa_28_0_ph_i88139_i;
-    u64 v_r0_i1_sroa_28_sroa_32_0_ph_i90138_i;
-    P v_r0_i1_sroa_28_sroa_40_0_ph_i92137_i;
-    u64 v_r0_i1_sroa_28_sroa_44_0_ph_i93136_i;
-    u64 v_r0_i1_sroa_28_sroa_52_0_ph_i94135_i;
-    P v_r0_i1_sroa_28_sroa_56_0_ph_i95134_i;
-    u64 v_r0_i1_sroa_28_sroa_60_0_ph_i96133_i;
-    u8 v_r0_i1_sroa_28_sroa_64_0_ph_i97132_i;
-    u8 v_r3_sroa_5_sroa_0_0_extract_trunc99131_i;
-    u8 v_r3_sroa_17_sroa_0_0_extract_trunc101130_i;
-    u8 v_r3_sroa_23_sroa_0_0_extract_trunc103129_i;
-    u8 v_r5_sroa_6_0_i_i104128_i;
-    P v_r5_sroa_81_0_i_i106127_i;
-    u64 v_r5_sroa_10_0_i_i108126_i;
+    P v_r7_sroa_26_sroa_1_0_ph_i89146_i;
+    u64 v_r7_sroa_26_sroa_6_0_ph_i91145_i;
+    P v_r7_sroa_26_sroa_26_0_ph_i93144_i;
+    u64 v_r7_sroa_26_sroa_30_0_ph_i95143_i;
+    P v_r7_sroa_26_sroa_38_0_ph_i97142_i;
+    u64 v_r7_sroa_26_sroa_42_0_ph_i98141_i;
+    u64 v_r7_sroa_26_sroa_50_0_ph_i99140_i;
+    P v_r7_sroa_26_sroa_54_0_ph_i100139_i;
+    u64 v_r7_sroa_26_sroa_58_0_ph_i101138_i;
+    u8 v_r7_sroa_26_sroa_62_0_ph_i102137_i;
+    u8 v_r3_sroa_5_sroa_0_0_extract_trunc104136_i;
+    u8 v_r3_sroa_17_sroa_0_0_extract_trunc106135_i;
+    u8 v_r3_sroa_23_sroa_0_0_extract_trunc108134_i;
+    u8 v_r5_sroa_6_0_i_i109133_i;
+    P v_r5_sroa_81_0_i_i111132_i;
+    u64 v_r5_sroa_10_0_i_i113131_i;
     u8 v_r4_i_i_i_i_i_i;
-    u64 v_r5_sroa_10_0_i_i109_i;
-    P v_r5_sroa_81_0_i_i107_i;
-    u8 v_r5_sroa_6_0_i_i105_i;
-    u8 v_r3_sroa_17_sroa_0_0_extract_trunc102_i;
-    u8 v_r3_sroa_5_sroa_0_0_extract_trunc100_i;
-    u8 v_r0_i1_sroa_28_sroa_64_0_ph_i98_i;
-    u64 v_r0_i1_sroa_28_sroa_32_0_ph_i91_i;
-    P v_r0_i1_sroa_28_sroa_28_0_ph_i89_i;
-    u64 v_r0_i1_sroa_28_sroa_8_0_ph_i87_i;
-    P v_r0_i1_sroa_28_sroa_3_0_ph_i85_i;
+    u64 v_r5_sroa_10_0_i_i114_i;
+    P v_r5_sroa_81_0_i_i112_i;
+    u8 v_r5_sroa_6_0_i_i110_i;
+    u8 v_r3_sroa_17_sroa_0_0_extract_trunc107_i;
+    u8 v_r3_sroa_5_sroa_0_0_extract_trunc105_i;
+    u8 v_r7_sroa_26_sroa_62_0_ph_i103_i;
+    u64 v_r7_sroa_26_sroa_30_0_ph_i96_i;
+    P v_r7_sroa_26_sroa_26_0_ph_i94_i;
+    u64 v_r7_sroa_26_sroa_6_0_ph_i92_i;
+    P v_r7_sroa_26_sroa_1_0_ph_i90_i;
     P v_r5_sroa_61_0_i_i_i;
     u64 v_r5_sroa_8_0_i_i_i;
     u8 v_r5_sroa_9_0_i_i_i;
@@ -45854,23 +46888,23 @@ static ONCE u32 proved_pss_params_decode_strict(P v_a0, u64 v_a1, P v_a2) {
     P v_r7_sroa_20_0_a2_sroa_idx_i;
     P v_r7_sroa_21_0_a2_sroa_idx_i;
     P v_r7_sroa_22_0_a2_sroa_idx_i;
-    u8 v_r0_i1_sroa_13_0_i60_i;
+    u8 v_r7_sroa_11_0_i65_i;
     u32 v_switch_idx_cast_i_i_i;
     u32 v_switch_offset_i_i_i;
     u32 v_r6_0_i;
-    v_r0_i111_i_i = AT(m_v_r0_i111_i_i);
-    v_r7_i54_i_i = AT(m_v_r7_i54_i_i);
+    v_r0_i100_i_i = AT(m_v_r0_i100_i_i);
+    v_r7_i44_i_i = AT(m_v_r7_i44_i_i);
     v_r8_i_i69_i_i_i = AT(m_v_r8_i_i69_i_i_i);
     v_r0_i71_i_i_i = AT(m_v_r0_i71_i_i_i);
     v_r14_i74_i_sroa_6_i_i = AT(m_v_r14_i74_i_sroa_6_i_i);
     v_r0_i58_i_sroa_15_i_i = AT(m_v_r0_i58_i_sroa_15_i_i);
     v_r7_i32_i_sroa_11_i_i = AT(m_v_r7_i32_i_sroa_11_i_i);
     v_r4_i_i_i = AT(m_v_r4_i_i_i);
-    v_r11_i8_sroa_18_i_i = AT(m_v_r11_i8_sroa_18_i_i);
+    v_r11_i_sroa_18_i_i = AT(m_v_r11_i_sroa_18_i_i);
     v_r1 = v_a0 == (P)0;
     v_r3 = v_r1 ? 4096u : 0u;
     v_r4 = (P)((u64)v_a0 + (u64)(v_r3));
-    fill(v_r11_i8_sroa_18_i_i, 0u, 131u);
+    fill(v_r11_i_sroa_18_i_i, 0u, 131u);
     v_r21_i_i_i_i_i = v_a1 < 2u;
     if (v_r21_i_i_i_i_i) { goto L_join_4_i_i_i; } else { goto L_join_5_i_i_i_i_i; }
 L_join_5_i_i_i_i_i:;
@@ -45883,20 +46917,20 @@ L_arm_6_i_i_i_i_i:;
     v_r36_i_i_i_i_i = (u64)((u64)(v_a1) + (u64)(18446744073709551614ull));
     v_r43_i_i_i_i_i = get_u8(v_r31_i_i_i_i_i);
     v_r45_i_i_i_i_i = (u8)(v_r43_i_i_i_i_i ^ ((u8)1 << 7)) > (u8)(255u ^ ((u8)1 << 7));
-    v_r1_i12_i_i = (u64)v_r43_i_i_i_i_i;
-    v_r57_i_i_i_i_i = v_r36_i_i_i_i_i == v_r1_i12_i_i;
+    v_r1_i2_i_i = (u64)v_r43_i_i_i_i_i;
+    v_r57_i_i_i_i_i = v_r36_i_i_i_i_i == v_r1_i2_i_i;
     v_or_cond_i_i = v_r45_i_i_i_i_i ? v_r57_i_i_i_i_i : 0u;
     if (v_or_cond_i_i) { goto L_arm_1_i_i_i_i; } else { goto L_join_4_i_i_i; }
 L_arm_1_i_i_i_i:;
     switch (v_a1) {
-    case 2u: { p_v_r0_i1_sroa_28_sroa_3_0_ph_i_ph_i = AT(f_static_23); p_v_r0_i1_sroa_28_sroa_8_0_ph_i_ph_i = 5u; p_v_r0_i1_sroa_28_sroa_20_0_ph_i_ph_i = AT(f_static_21); p_v_r0_i1_sroa_28_sroa_28_0_ph_i_ph_i = AT(f_static_24); p_v_r0_i1_sroa_28_sroa_40_0_ph_i_ph_i = AT(f_static_23); p_v_r0_i1_sroa_28_sroa_56_0_ph_i_ph_i = AT(f_static_21); p_v_r0_i1_sroa_28_sroa_64_0_ph_i_ph_i = 20u; goto L_arm_2_i5_i_thread_i; }
+    case 2u: { p_v_r7_sroa_26_sroa_1_0_ph_i_ph_i = AT(f_static_23); p_v_r7_sroa_26_sroa_6_0_ph_i_ph_i = 5u; p_v_r7_sroa_26_sroa_18_0_ph_i_ph_i = AT(f_static_21); p_v_r7_sroa_26_sroa_26_0_ph_i_ph_i = AT(f_static_24); p_v_r7_sroa_26_sroa_38_0_ph_i_ph_i = AT(f_static_23); p_v_r7_sroa_26_sroa_54_0_ph_i_ph_i = AT(f_static_21); p_v_r7_sroa_26_sroa_62_0_ph_i_ph_i = 20u; goto L_arm_2_i5_i_thread_i; }
     case 54u: { goto L_then_6_i_i_i_i_i; }
     case 7u: { goto L_then_6_i21_i_i_i_i; }
     default: { goto L_join_4_i_i_i_i; }
     }
 L_then_6_i_i_i_i_i:;
-    v_r16_i20_i_i = v_r4 + 49;
-    v_r33_i9_i_i_i_i = get_u8(v_r16_i20_i_i);
+    v_r16_i10_i_i = v_r4 + 49;
+    v_r33_i9_i_i_i_i = get_u8(v_r16_i10_i_i);
     v_cond_i_i22_i_i_i = v_r33_i9_i_i_i_i == 162u;
     if (v_cond_i_i22_i_i_i) { goto L_arm_9_i10_i_i_i_i; } else { goto L_join_4_i_i_i_i; }
 L_arm_9_i10_i_i_i_i:;
@@ -45918,38 +46952,38 @@ L_arm_18_i_i_i_i_i:;
     v_r51_i13_i_i_i_i = v_r4 + 53;
     v_r54_i_i_i_i_i = get_u8(v_r51_i13_i_i_i_i);
     v_r56_i_i_i_i_i = (u8)(v_r54_i_i_i_i_i ^ ((u8)1 << 7)) > (u8)(255u ^ ((u8)1 << 7));
-    if (v_r56_i_i_i_i_i) { goto L_arm_1_i_i23_i_i; } else { goto L_join_4_i_i_i_i; }
-L_arm_1_i_i23_i_i:;
-    v_r19_i_i_i24_i_i = v_r4 + 16;
-    v_r18_i8_i_i_i = get_u8(v_r19_i_i_i24_i_i);
+    if (v_r56_i_i_i_i_i) { goto L_arm_1_i_i13_i_i; } else { goto L_join_4_i_i_i_i; }
+L_arm_1_i_i13_i_i:;
+    v_r19_i_i_i14_i_i = v_r4 + 16;
+    v_r18_i8_i_i_i = get_u8(v_r19_i_i_i14_i_i);
     switch (v_r18_i8_i_i_i) {
     case 1u: { p_v_r1_sroa_13_0_i_ph_i_i_i = AT(f_static_26); goto L_join_5_i_preheader_i_i_i; }
-    case 2u: { goto L_arm_2_i_i32_i_i; }
+    case 2u: { goto L_arm_2_i_i22_i_i; }
     case 3u: { goto L_arm_3_i_i_i_i; }
-    case 4u: { goto L_arm_4_i_i31_i_i; }
+    case 4u: { goto L_arm_4_i_i21_i_i; }
     case 5u: { goto L_arm_5_i5_i_i_i; }
-    case 6u: { goto L_arm_6_i_i30_i_i; }
+    case 6u: { goto L_arm_6_i_i20_i_i; }
     case 7u: { goto L_arm_7_i_i_i_i; }
-    case 8u: { goto L_arm_8_i_i29_i_i; }
-    case 9u: { goto L_arm_9_i_i28_i_i; }
+    case 8u: { goto L_arm_8_i_i19_i_i; }
+    case 9u: { goto L_arm_9_i_i18_i_i; }
     case 10u: { goto L_arm_10_i_i_i_i; }
     default: { goto L_join_4_i_i_i_i; }
     }
-L_arm_2_i_i32_i_i:;
+L_arm_2_i_i22_i_i:;
     { p_v_r1_sroa_13_0_i_ph_i_i_i = AT(f_static_27); goto L_join_5_i_preheader_i_i_i; }
 L_arm_3_i_i_i_i:;
     { p_v_r1_sroa_13_0_i_ph_i_i_i = AT(f_static_28); goto L_join_5_i_preheader_i_i_i; }
-L_arm_4_i_i31_i_i:;
+L_arm_4_i_i21_i_i:;
     { p_v_r1_sroa_13_0_i_ph_i_i_i = AT(f_static_29); goto L_join_5_i_preheader_i_i_i; }
 L_arm_5_i5_i_i_i:;
     { p_v_r1_sroa_13_0_i_ph_i_i_i = AT(f_static_30); goto L_join_5_i_preheader_i_i_i; }
-L_arm_6_i_i30_i_i:;
+L_arm_6_i_i20_i_i:;
     { p_v_r1_sroa_13_0_i_ph_i_i_i = AT(f_static_31); goto L_join_5_i_preheader_i_i_i; }
 L_arm_7_i_i_i_i:;
     { p_v_r1_sroa_13_0_i_ph_i_i_i = AT(f_static_32); goto L_join_5_i_preheader_i_i_i; }
-L_arm_8_i_i29_i_i:;
+L_arm_8_i_i19_i_i:;
     { p_v_r1_sroa_13_0_i_ph_i_i_i = AT(f_static_33); goto L_join_5_i_preheader_i_i_i; }
-L_arm_9_i_i28_i_i:;
+L_arm_9_i_i18_i_i:;
     { p_v_r1_sroa_13_0_i_ph_i_i_i = AT(f_static_34); goto L_join_5_i_preheader_i_i_i; }
 L_arm_10_i_i_i_i:;
     { p_v_r1_sroa_13_0_i_ph_i_i_i = AT(f_static_35); goto L_join_5_i_preheader_i_i_i; }
@@ -45986,8 +47020,8 @@ L_arm_8_i_i_i_i:;
     v_r173_i_i_i = v_r4 + 25;
     v_r127_i_i_i = v_r4 + 38;
     v_r95_i_i_i = v_r4 + 19;
-    v_r81_i27_i_i = v_r4 + 8;
-    { p_v_r0_i1_sroa_28_sroa_3_0_ph_i_ph_i = v_r81_i27_i_i; p_v_r0_i1_sroa_28_sroa_8_0_ph_i_ph_i = 9u; p_v_r0_i1_sroa_28_sroa_20_0_ph_i_ph_i = v_r95_i_i_i; p_v_r0_i1_sroa_28_sroa_28_0_ph_i_ph_i = v_r173_i_i_i; p_v_r0_i1_sroa_28_sroa_40_0_ph_i_ph_i = v_r127_i_i_i; p_v_r0_i1_sroa_28_sroa_56_0_ph_i_ph_i = v_r16_i20_i_i; p_v_r0_i1_sroa_28_sroa_64_0_ph_i_ph_i = v_r54_i_i_i_i_i; goto L_arm_2_i5_i_thread_i; }
+    v_r81_i17_i_i = v_r4 + 8;
+    { p_v_r7_sroa_26_sroa_1_0_ph_i_ph_i = v_r81_i17_i_i; p_v_r7_sroa_26_sroa_6_0_ph_i_ph_i = 9u; p_v_r7_sroa_26_sroa_18_0_ph_i_ph_i = v_r95_i_i_i; p_v_r7_sroa_26_sroa_26_0_ph_i_ph_i = v_r173_i_i_i; p_v_r7_sroa_26_sroa_38_0_ph_i_ph_i = v_r127_i_i_i; p_v_r7_sroa_26_sroa_54_0_ph_i_ph_i = v_r16_i10_i_i; p_v_r7_sroa_26_sroa_62_0_ph_i_ph_i = v_r54_i_i_i_i_i; goto L_arm_2_i5_i_thread_i; }
 L_then_6_i21_i_i_i_i:;
     v_r33_i22_i_i_i_i = get_u8(v_r33_i_i_i_i_i);
     v_cond_i23_i_i_i_i = v_r33_i22_i_i_i_i == 162u;
@@ -46012,47 +47046,47 @@ L_arm_18_i36_i_i_i_i:;
     v_r54_i38_i_i_i_i = get_u8(v_r51_i37_i_i_i_i);
     v_r56_i39_i_i_i_i = (u8)(v_r54_i38_i_i_i_i ^ ((u8)1 << 7)) < (u8)(0u ^ ((u8)1 << 7));
     v_r6_i_i_i_not_i_i = v_r54_i38_i_i_i_i == 20u;
-    v_or_cond1500_i_i = (u1)(((u32)(v_r56_i39_i_i_i_i) | (u32)(v_r6_i_i_i_not_i_i)) & 1);
-    if (v_or_cond1500_i_i) { goto L_join_4_i_i_i_i; } else { p_v_r0_i1_sroa_28_sroa_3_0_ph_i_ph_i = AT(f_static_23); p_v_r0_i1_sroa_28_sroa_8_0_ph_i_ph_i = 5u; p_v_r0_i1_sroa_28_sroa_20_0_ph_i_ph_i = AT(f_static_21); p_v_r0_i1_sroa_28_sroa_28_0_ph_i_ph_i = AT(f_static_24); p_v_r0_i1_sroa_28_sroa_40_0_ph_i_ph_i = AT(f_static_23); p_v_r0_i1_sroa_28_sroa_56_0_ph_i_ph_i = AT(f_static_21); p_v_r0_i1_sroa_28_sroa_64_0_ph_i_ph_i = v_r54_i38_i_i_i_i; goto L_arm_2_i5_i_thread_i; }
+    v_or_cond1486_i_i = (u1)(((u32)(v_r56_i39_i_i_i_i) | (u32)(v_r6_i_i_i_not_i_i)) & 1);
+    if (v_or_cond1486_i_i) { goto L_join_4_i_i_i_i; } else { p_v_r7_sroa_26_sroa_1_0_ph_i_ph_i = AT(f_static_23); p_v_r7_sroa_26_sroa_6_0_ph_i_ph_i = 5u; p_v_r7_sroa_26_sroa_18_0_ph_i_ph_i = AT(f_static_21); p_v_r7_sroa_26_sroa_26_0_ph_i_ph_i = AT(f_static_24); p_v_r7_sroa_26_sroa_38_0_ph_i_ph_i = AT(f_static_23); p_v_r7_sroa_26_sroa_54_0_ph_i_ph_i = AT(f_static_21); p_v_r7_sroa_26_sroa_62_0_ph_i_ph_i = v_r54_i38_i_i_i_i; goto L_arm_2_i5_i_thread_i; }
 L_join_4_i_i_i_i:;
-    f_pkcs1_params_quick_quick_pss(v_r7_i54_i_i, v_r33_i_i_i_i_i, v_r36_i_i_i_i_i, 1u);
-    v_r2_i_i_i_i = get_u8(v_r7_i54_i_i);
+    f_pkcs1_params_quick_quick_pss(v_r7_i44_i_i, v_r33_i_i_i_i_i, v_r36_i_i_i_i_i, 1u);
+    v_r2_i_i_i_i = get_u8(v_r7_i44_i_i);
     v_0 = v_r2_i_i_i_i == 1u;
     if (v_0) { goto L_pkcs1_params_reading_known_or_quick_9585c88c753255; } else { goto L_arm_6_i_i_i_i; }
 L_pkcs1_params_reading_known_or_quick_9585c88c753255:;
-    v_r5_i_i56_i_i = v_r7_i54_i_i + 8;
-    v_r0_i3_i_sroa_6_sroa_0_sroa_0_0_copyload_i_i = get_P(v_r5_i_i56_i_i);
-    v_r0_i3_i_sroa_6_sroa_0_sroa_8_0_r5_i_i56_sroa_idx_i = v_r7_i54_i_i + 16;
-    v_r0_i3_i_sroa_6_sroa_0_sroa_8_0_copyload_i_i = get_u64(v_r0_i3_i_sroa_6_sroa_0_sroa_8_0_r5_i_i56_sroa_idx_i);
-    v_r0_i3_i_sroa_6_sroa_8_0_r5_i_i56_sroa_idx_i_i = v_r7_i54_i_i + 24;
-    v_r0_i3_i_sroa_6_sroa_8_0_copyload331_i_i = get_u64(v_r0_i3_i_sroa_6_sroa_8_0_r5_i_i56_sroa_idx_i_i);
-    v_r0_i3_i_sroa_6_sroa_9_0_r5_i_i56_sroa_idx_i_i = v_r7_i54_i_i + 32;
-    v_r0_i3_i_sroa_6_sroa_9_sroa_0_0_copyload_i_i = get_u64(v_r0_i3_i_sroa_6_sroa_9_0_r5_i_i56_sroa_idx_i_i);
-    v_r0_i3_i_sroa_6_sroa_9_sroa_8_0_r0_i3_i_sroa_6_sroa = v_r7_i54_i_i + 40;
+    v_r5_i_i46_i_i = v_r7_i44_i_i + 8;
+    v_r0_i3_i_sroa_6_sroa_0_sroa_0_0_copyload_i_i = get_P(v_r5_i_i46_i_i);
+    v_r0_i3_i_sroa_6_sroa_0_sroa_8_0_r5_i_i46_sroa_idx_i = v_r7_i44_i_i + 16;
+    v_r0_i3_i_sroa_6_sroa_0_sroa_8_0_copyload_i_i = get_u64(v_r0_i3_i_sroa_6_sroa_0_sroa_8_0_r5_i_i46_sroa_idx_i);
+    v_r0_i3_i_sroa_6_sroa_8_0_r5_i_i46_sroa_idx_i_i = v_r7_i44_i_i + 24;
+    v_r0_i3_i_sroa_6_sroa_8_0_copyload320_i_i = get_u64(v_r0_i3_i_sroa_6_sroa_8_0_r5_i_i46_sroa_idx_i_i);
+    v_r0_i3_i_sroa_6_sroa_9_0_r5_i_i46_sroa_idx_i_i = v_r7_i44_i_i + 32;
+    v_r0_i3_i_sroa_6_sroa_9_sroa_0_0_copyload_i_i = get_u64(v_r0_i3_i_sroa_6_sroa_9_0_r5_i_i46_sroa_idx_i_i);
+    v_r0_i3_i_sroa_6_sroa_9_sroa_8_0_r0_i3_i_sroa_6_sroa = v_r7_i44_i_i + 40;
     v_r0_i3_i_sroa_6_sroa_9_sroa_8_0_copyload_i_i = get_P(v_r0_i3_i_sroa_6_sroa_9_sroa_8_0_r0_i3_i_sroa_6_sroa);
-    v_r0_i3_i_sroa_6_sroa_9_sroa_9_0_r0_i3_i_sroa_6_sroa = v_r7_i54_i_i + 48;
+    v_r0_i3_i_sroa_6_sroa_9_sroa_9_0_r0_i3_i_sroa_6_sroa = v_r7_i44_i_i + 48;
     v_r0_i3_i_sroa_6_sroa_9_sroa_9_0_copyload_i_i = get_u64(v_r0_i3_i_sroa_6_sroa_9_sroa_9_0_r0_i3_i_sroa_6_sroa);
-    v_r0_i3_i_sroa_6_sroa_10_0_r5_i_i56_sroa_idx_i_i = v_r7_i54_i_i + 56;
-    v_r0_i3_i_sroa_6_sroa_10_sroa_0_0_copyload_i_i = get_P(v_r0_i3_i_sroa_6_sroa_10_0_r5_i_i56_sroa_idx_i_i);
-    v_r0_i3_i_sroa_6_sroa_10_sroa_8_0_r0_i3_i_sroa_6_sro = v_r7_i54_i_i + 64;
+    v_r0_i3_i_sroa_6_sroa_10_0_r5_i_i46_sroa_idx_i_i = v_r7_i44_i_i + 56;
+    v_r0_i3_i_sroa_6_sroa_10_sroa_0_0_copyload_i_i = get_P(v_r0_i3_i_sroa_6_sroa_10_0_r5_i_i46_sroa_idx_i_i);
+    v_r0_i3_i_sroa_6_sroa_10_sroa_8_0_r0_i3_i_sroa_6_sro = v_r7_i44_i_i + 64;
     v_r0_i3_i_sroa_6_sroa_10_sroa_8_0_copyload_i_i = get_u64(v_r0_i3_i_sroa_6_sroa_10_sroa_8_0_r0_i3_i_sroa_6_sro);
-    v_r0_i3_i_sroa_6_sroa_10_sroa_9_0_r0_i3_i_sroa_6_sro = v_r7_i54_i_i + 72;
+    v_r0_i3_i_sroa_6_sroa_10_sroa_9_0_r0_i3_i_sroa_6_sro = v_r7_i44_i_i + 72;
     v_r0_i3_i_sroa_6_sroa_10_sroa_9_0_copyload_i_i = get_u64(v_r0_i3_i_sroa_6_sroa_10_sroa_9_0_r0_i3_i_sroa_6_sro);
-    v_r0_i3_i_sroa_6_sroa_10_sroa_10_0_r0_i3_i_sroa_6_sr = v_r7_i54_i_i + 80;
+    v_r0_i3_i_sroa_6_sroa_10_sroa_10_0_r0_i3_i_sroa_6_sr = v_r7_i44_i_i + 80;
     v_r0_i3_i_sroa_6_sroa_10_sroa_10_sroa_0_0_copyload_i = get_P(v_r0_i3_i_sroa_6_sroa_10_sroa_10_0_r0_i3_i_sroa_6_sr);
-    v_r0_i3_i_sroa_6_sroa_10_sroa_10_sroa_8_0_r0_i3_i_sr = v_r7_i54_i_i + 88;
+    v_r0_i3_i_sroa_6_sroa_10_sroa_10_sroa_8_0_r0_i3_i_sr = v_r7_i44_i_i + 88;
     v_r0_i3_i_sroa_6_sroa_10_sroa_10_sroa_8_0_copyload_i = get_u64(v_r0_i3_i_sroa_6_sroa_10_sroa_10_sroa_8_0_r0_i3_i_sr);
-    v_r0_i3_i_sroa_6_sroa_10_sroa_11_0_r0_i3_i_sroa_6_sr = v_r7_i54_i_i + 96;
+    v_r0_i3_i_sroa_6_sroa_10_sroa_11_0_r0_i3_i_sroa_6_sr = v_r7_i44_i_i + 96;
     v_r0_i3_i_sroa_6_sroa_10_sroa_11_0_copyload_i_i = get_u64(v_r0_i3_i_sroa_6_sroa_10_sroa_11_0_r0_i3_i_sroa_6_sr);
-    v_r0_i3_i_sroa_6_sroa_10_sroa_12_0_r0_i3_i_sroa_6_sr = v_r7_i54_i_i + 104;
+    v_r0_i3_i_sroa_6_sroa_10_sroa_12_0_r0_i3_i_sroa_6_sr = v_r7_i44_i_i + 104;
     v_r0_i3_i_sroa_6_sroa_10_sroa_12_sroa_0_0_copyload_i = get_u64(v_r0_i3_i_sroa_6_sroa_10_sroa_12_0_r0_i3_i_sroa_6_sr);
-    v_r0_i3_i_sroa_6_sroa_10_sroa_12_sroa_8_0_r0_i3_i_sr = v_r7_i54_i_i + 112;
+    v_r0_i3_i_sroa_6_sroa_10_sroa_12_sroa_8_0_r0_i3_i_sr = v_r7_i44_i_i + 112;
     v_r0_i3_i_sroa_6_sroa_10_sroa_12_sroa_8_0_copyload_i = get_P(v_r0_i3_i_sroa_6_sroa_10_sroa_12_sroa_8_0_r0_i3_i_sr);
-    v_r0_i3_i_sroa_6_sroa_10_sroa_12_sroa_9_0_r0_i3_i_sr = v_r7_i54_i_i + 120;
+    v_r0_i3_i_sroa_6_sroa_10_sroa_12_sroa_9_0_r0_i3_i_sr = v_r7_i44_i_i + 120;
     v_r0_i3_i_sroa_6_sroa_10_sroa_12_sroa_9_0_copyload_i = get_u64(v_r0_i3_i_sroa_6_sroa_10_sroa_12_sroa_9_0_r0_i3_i_sr);
-    v_r0_i3_i_sroa_6_sroa_11_0_r5_i_i56_sroa_idx_i_i = v_r7_i54_i_i + 128;
-    v_r0_i3_i_sroa_6_sroa_11_0_copyload336_i_i = get_u8(v_r0_i3_i_sroa_6_sroa_11_0_r5_i_i56_sroa_idx_i_i);
-    { p_v_r0_i1_sroa_28_sroa_3_0_ph_i_i = v_r0_i3_i_sroa_6_sroa_0_sroa_0_0_copyload_i_i; p_v_r0_i1_sroa_28_sroa_8_0_ph_i_i = v_r0_i3_i_sroa_6_sroa_0_sroa_8_0_copyload_i_i; p_v_r0_i1_sroa_28_sroa_12_0_ph_i_i = v_r0_i3_i_sroa_6_sroa_8_0_copyload331_i_i; p_v_r0_i1_sroa_28_sroa_16_0_ph_i_i = v_r0_i3_i_sroa_6_sroa_9_sroa_0_0_copyload_i_i; p_v_r0_i1_sroa_28_sroa_20_0_ph_i_i = v_r0_i3_i_sroa_6_sroa_9_sroa_8_0_copyload_i_i; p_v_r0_i1_sroa_28_sroa_24_0_ph_i_i = v_r0_i3_i_sroa_6_sroa_9_sroa_9_0_copyload_i_i; p_v_r0_i1_sroa_28_sroa_28_0_ph_i_i = v_r0_i3_i_sroa_6_sroa_10_sroa_0_0_copyload_i_i; p_v_r0_i1_sroa_28_sroa_32_0_ph_i_i = v_r0_i3_i_sroa_6_sroa_10_sroa_8_0_copyload_i_i; p_v_r0_i1_sroa_28_sroa_36_0_ph_i_i = v_r0_i3_i_sroa_6_sroa_10_sroa_9_0_copyload_i_i; p_v_r0_i1_sroa_28_sroa_40_0_ph_i_i = v_r0_i3_i_sroa_6_sroa_10_sroa_10_sroa_0_0_copyload_i; p_v_r0_i1_sroa_28_sroa_44_0_ph_i_i = v_r0_i3_i_sroa_6_sroa_10_sroa_10_sroa_8_0_copyload_i; p_v_r0_i1_sroa_28_sroa_48_0_ph_i_i = v_r0_i3_i_sroa_6_sroa_10_sroa_11_0_copyload_i_i; p_v_r0_i1_sroa_28_sroa_52_0_ph_i_i = v_r0_i3_i_sroa_6_sroa_10_sroa_12_sroa_0_0_copyload_i; p_v_r0_i1_sroa_28_sroa_56_0_ph_i_i = v_r0_i3_i_sroa_6_sroa_10_sroa_12_sroa_8_0_copyload_i; p_v_r0_i1_sroa_28_sroa_60_0_ph_i_i = v_r0_i3_i_sroa_6_sroa_10_sroa_12_sroa_9_0_copyload_i; p_v_r0_i1_sroa_28_sroa_64_0_ph_i_i = v_r0_i3_i_sroa_6_sroa_11_0_copyload336_i_i; goto L_arm_1_i; }
+    v_r0_i3_i_sroa_6_sroa_11_0_r5_i_i46_sroa_idx_i_i = v_r7_i44_i_i + 128;
+    v_r0_i3_i_sroa_6_sroa_11_0_copyload325_i_i = get_u8(v_r0_i3_i_sroa_6_sroa_11_0_r5_i_i46_sroa_idx_i_i);
+    { p_v_r7_sroa_26_sroa_1_0_ph_i_i = v_r0_i3_i_sroa_6_sroa_0_sroa_0_0_copyload_i_i; p_v_r7_sroa_26_sroa_6_0_ph_i_i = v_r0_i3_i_sroa_6_sroa_0_sroa_8_0_copyload_i_i; p_v_r7_sroa_26_sroa_10_0_ph_i_i = v_r0_i3_i_sroa_6_sroa_8_0_copyload320_i_i; p_v_r7_sroa_26_sroa_14_0_ph_i_i = v_r0_i3_i_sroa_6_sroa_9_sroa_0_0_copyload_i_i; p_v_r7_sroa_26_sroa_18_0_ph_i_i = v_r0_i3_i_sroa_6_sroa_9_sroa_8_0_copyload_i_i; p_v_r7_sroa_26_sroa_22_0_ph_i_i = v_r0_i3_i_sroa_6_sroa_9_sroa_9_0_copyload_i_i; p_v_r7_sroa_26_sroa_26_0_ph_i_i = v_r0_i3_i_sroa_6_sroa_10_sroa_0_0_copyload_i_i; p_v_r7_sroa_26_sroa_30_0_ph_i_i = v_r0_i3_i_sroa_6_sroa_10_sroa_8_0_copyload_i_i; p_v_r7_sroa_26_sroa_34_0_ph_i_i = v_r0_i3_i_sroa_6_sroa_10_sroa_9_0_copyload_i_i; p_v_r7_sroa_26_sroa_38_0_ph_i_i = v_r0_i3_i_sroa_6_sroa_10_sroa_10_sroa_0_0_copyload_i; p_v_r7_sroa_26_sroa_42_0_ph_i_i = v_r0_i3_i_sroa_6_sroa_10_sroa_10_sroa_8_0_copyload_i; p_v_r7_sroa_26_sroa_46_0_ph_i_i = v_r0_i3_i_sroa_6_sroa_10_sroa_11_0_copyload_i_i; p_v_r7_sroa_26_sroa_50_0_ph_i_i = v_r0_i3_i_sroa_6_sroa_10_sroa_12_sroa_0_0_copyload_i; p_v_r7_sroa_26_sroa_54_0_ph_i_i = v_r0_i3_i_sroa_6_sroa_10_sroa_12_sroa_8_0_copyload_i; p_v_r7_sroa_26_sroa_58_0_ph_i_i = v_r0_i3_i_sroa_6_sroa_10_sroa_12_sroa_9_0_copyload_i; p_v_r7_sroa_26_sroa_62_0_ph_i_i = v_r0_i3_i_sroa_6_sroa_11_0_copyload325_i_i; goto L_arm_1_i; }
 L_arm_6_i_i_i_i:;
     { goto L_join_4_i_i_i; }
 L_join_4_i_i_i:;
@@ -46074,23 +47108,23 @@ L_then_6_i_i107_i_i_i:;
     v_r55_i_i_i_i_i = (u8)(v_r53_i_i_i_i_i ^ ((u8)1 << 7)) > (u8)(255u ^ ((u8)1 << 7));
     v_r65_i_i_i_i_i = (u64)v_r53_i_i_i_i_i;
     v_r36_i80_i_i_i = v_r35_i_i_i_i_i == v_r65_i_i_i_i_i;
-    v_or_cond1499_i_i = v_r55_i_i_i_i_i ? v_r36_i80_i_i_i : 0u;
-    if (v_or_cond1499_i_i) { goto L_then_10_i_i_i_i; } else { goto L_der_core_decode_AnyDecodeRefSliceU8_from_der_14710; }
+    v_or_cond1485_i_i = v_r55_i_i_i_i_i ? v_r36_i80_i_i_i : 0u;
+    if (v_or_cond1485_i_i) { goto L_then_10_i_i_i_i; } else { goto L_der_core_decode_AnyDecodeRefSliceU8_from_der_14710; }
 L_then_10_i_i_i_i:;
     f_pkcs1_params_quick_quick_pss(v_r8_i_i69_i_i_i, v_r32_i_i_i_i_i, v_r35_i_i_i_i_i, 0u);
-    v_r2_i71_i_i = get_u8(v_r8_i_i69_i_i_i);
-    v_2 = v_r2_i71_i_i == 1u;
+    v_r2_i60_i_i = get_u8(v_r8_i_i69_i_i_i);
+    v_2 = v_r2_i60_i_i == 1u;
     if (v_2) { goto L_der_core_decode_AnyDecodeRefSliceU8_from_der_14710__2; } else { goto L_pkcs1_params_pss_reading_PssParamsOfAnyRefDecodeVa; }
 L_pkcs1_params_pss_reading_PssParamsOfAnyRefDecodeVa:;
     { goto L_der_core_decode_AnyDecodeRefSliceU8_from_der_14710; }
 L_der_core_decode_AnyDecodeRefSliceU8_from_der_14710__2:;
-    v_r5_i78_i_i = v_r8_i_i69_i_i_i + 8;
-    copy(v_r14_i74_i_sroa_6_i_i, v_r5_i78_i_i, 128u);
+    v_r5_i67_i_i = v_r8_i_i69_i_i_i + 8;
+    copy(v_r14_i74_i_sroa_6_i_i, v_r5_i67_i_i, 128u);
     v_r0_i58_i_sroa_15_8_r53_i92_i_sroa_idx_i_i = v_r0_i58_i_sroa_15_i_i + 4;
     copy(v_r0_i58_i_sroa_15_8_r53_i92_i_sroa_idx_i_i, v_r14_i74_i_sroa_6_i_i, 128u);
-    v_r7_i32_i_sroa_11_8_r13_i65_i_sroa_idx1376_i_i = v_r7_i32_i_sroa_11_i_i + 4;
-    copy(v_r7_i32_i_sroa_11_8_r13_i65_i_sroa_idx1376_i_i, v_r0_i58_i_sroa_15_8_r53_i92_i_sroa_idx_i_i, 128u);
-    { p_v_r7_i32_i_sroa_11_8_r13_i65_i_sroa_idx1378_i_i = v_r7_i32_i_sroa_11_8_r13_i65_i_sroa_idx1376_i_i; goto L_arm_5_i_i_i; }
+    v_r7_i32_i_sroa_11_8_r13_i65_i_sroa_idx1365_i_i = v_r7_i32_i_sroa_11_i_i + 4;
+    copy(v_r7_i32_i_sroa_11_8_r13_i65_i_sroa_idx1365_i_i, v_r0_i58_i_sroa_15_8_r53_i92_i_sroa_idx_i_i, 128u);
+    { p_v_r7_i32_i_sroa_11_8_r13_i65_i_sroa_idx1367_i_i = v_r7_i32_i_sroa_11_8_r13_i65_i_sroa_idx1365_i_i; goto L_arm_5_i_i_i; }
 L_der_core_decode_AnyDecodeRefSliceU8_from_der_14710:;
     f_der_core_decode_read_slowly_cdb4c436e23d2e77(v_r0_i71_i_i_i, v_r4, v_a1);
     v_3 = get_u8(v_r0_i71_i_i_i);
@@ -46102,22 +47136,22 @@ L_der_core_decode_AnyDecodeRefSliceU8_from_der_14710:;
     v_r7_i32_i_sroa_11_8_r13_i65_i_sroa_idx_i_i = v_r7_i32_i_sroa_11_i_i + 4;
     copy(v_r7_i32_i_sroa_11_8_r13_i65_i_sroa_idx_i_i, v_r0_i58_i_sroa_15_8_r64_i_i_sroa_idx_i_i, 128u);
     v_5 = v_3 == 0u;
-    if (v_5) { p_v_r7_i32_i_sroa_11_8_r13_i65_i_sroa_idx1378_i_i = v_r7_i32_i_sroa_11_8_r13_i65_i_sroa_idx_i_i; goto L_arm_5_i_i_i; } else { goto L_arm_2_thread_i; }
+    if (v_5) { p_v_r7_i32_i_sroa_11_8_r13_i65_i_sroa_idx1367_i_i = v_r7_i32_i_sroa_11_8_r13_i65_i_sroa_idx_i_i; goto L_arm_5_i_i_i; } else { goto L_arm_2_thread_i; }
 L_arm_5_i_i_i:;
-    v_r7_i32_i_sroa_11_8_r13_i65_i_sroa_idx1378_i_i = p_v_r7_i32_i_sroa_11_8_r13_i65_i_sroa_idx1378_i_i;
-    v_r11_i8_sroa_18_8_r40_i57_i_sroa_idx_i_i = v_r11_i8_sroa_18_i_i + 3;
-    copy(v_r11_i8_sroa_18_8_r40_i57_i_sroa_idx_i_i, v_r7_i32_i_sroa_11_8_r13_i65_i_sroa_idx1378_i_i, 128u);
-    copy(v_r4_i_i_i, v_r11_i8_sroa_18_8_r40_i57_i_sroa_idx_i_i, 128u);
-    f_pkcs1_params_strict_reject_defaults_2a8ca97c434130(v_r0_i111_i_i, v_r4_i_i_i, v_r4, v_a1);
-    v_6 = get_u8(v_r0_i111_i_i);
-    v_r7_i113_i_i = v_r0_i111_i_i + 1;
-    v_7 = get_u8(v_r7_i113_i_i);
-    v_r9_i115_i_i = v_r0_i111_i_i + 2;
-    v_8 = get_u8(v_r9_i115_i_i);
+    v_r7_i32_i_sroa_11_8_r13_i65_i_sroa_idx1367_i_i = p_v_r7_i32_i_sroa_11_8_r13_i65_i_sroa_idx1367_i_i;
+    v_r11_i_sroa_18_8_r40_i57_i_sroa_idx_i_i = v_r11_i_sroa_18_i_i + 3;
+    copy(v_r11_i_sroa_18_8_r40_i57_i_sroa_idx_i_i, v_r7_i32_i_sroa_11_8_r13_i65_i_sroa_idx1367_i_i, 128u);
+    copy(v_r4_i_i_i, v_r11_i_sroa_18_8_r40_i57_i_sroa_idx_i_i, 128u);
+    f_pkcs1_params_strict_reject_defaults_2a8ca97c434130(v_r0_i100_i_i, v_r4_i_i_i, v_r4, v_a1);
+    v_6 = get_u8(v_r0_i100_i_i);
+    v_r7_i102_i_i = v_r0_i100_i_i + 1;
+    v_7 = get_u8(v_r7_i102_i_i);
+    v_r9_i104_i_i = v_r0_i100_i_i + 2;
+    v_8 = get_u8(v_r9_i104_i_i);
     v_9 = v_6 == 0u;
     if (v_9) { goto L_arm_8_i_i_i; } else { goto L_arm_2_i; }
 L_arm_2_thread_i:;
-    { p_v_r0_i1_sroa_13_0_i60_i = v_4; goto L_arm_1_i2_i; }
+    { p_v_r7_sroa_11_0_i65_i = v_4; goto L_arm_1_i2_i; }
 L_arm_8_i_i_i:;
     v_r16_i_sroa_0_0_copyload_i_i = get_P(v_r4_i_i_i);
     v_r16_i_sroa_5_0_r4_i_sroa_idx_i_i = v_r4_i_i_i + 8;
@@ -46150,101 +47184,101 @@ L_arm_8_i_i_i:;
     v_r16_i_sroa_18_0_copyload_i_i = get_u64(v_r16_i_sroa_18_0_r4_i_sroa_idx_i_i);
     v_r16_i_sroa_19_0_r4_i_sroa_idx_i_i = v_r4_i_i_i + 120;
     v_r16_i_sroa_19_0_copyload_i_i = get_u8(v_r16_i_sroa_19_0_r4_i_sroa_idx_i_i);
-    { p_v_r0_i1_sroa_28_sroa_3_0_ph_i_i = v_r16_i_sroa_0_0_copyload_i_i; p_v_r0_i1_sroa_28_sroa_8_0_ph_i_i = v_r16_i_sroa_5_0_copyload_i_i; p_v_r0_i1_sroa_28_sroa_12_0_ph_i_i = v_r16_i_sroa_6_0_copyload_i_i; p_v_r0_i1_sroa_28_sroa_16_0_ph_i_i = v_r16_i_sroa_7_0_copyload_i_i; p_v_r0_i1_sroa_28_sroa_20_0_ph_i_i = v_r16_i_sroa_8_0_copyload_i_i; p_v_r0_i1_sroa_28_sroa_24_0_ph_i_i = v_r16_i_sroa_9_0_copyload_i_i; p_v_r0_i1_sroa_28_sroa_28_0_ph_i_i = v_r16_i_sroa_10_0_copyload_i_i; p_v_r0_i1_sroa_28_sroa_32_0_ph_i_i = v_r16_i_sroa_11_0_copyload_i_i; p_v_r0_i1_sroa_28_sroa_36_0_ph_i_i = v_r16_i_sroa_12_0_copyload_i_i; p_v_r0_i1_sroa_28_sroa_40_0_ph_i_i = v_r16_i_sroa_13_0_copyload_i_i; p_v_r0_i1_sroa_28_sroa_44_0_ph_i_i = v_r16_i_sroa_14_0_copyload_i_i; p_v_r0_i1_sroa_28_sroa_48_0_ph_i_i = v_r16_i_sroa_15_0_copyload_i_i; p_v_r0_i1_sroa_28_sroa_52_0_ph_i_i = v_r16_i_sroa_16_0_copyload_i_i; p_v_r0_i1_sroa_28_sroa_56_0_ph_i_i = v_r16_i_sroa_17_0_copyload_i_i; p_v_r0_i1_sroa_28_sroa_60_0_ph_i_i = v_r16_i_sroa_18_0_copyload_i_i; p_v_r0_i1_sroa_28_sroa_64_0_ph_i_i = v_r16_i_sroa_19_0_copyload_i_i; goto L_arm_1_i; }
+    { p_v_r7_sroa_26_sroa_1_0_ph_i_i = v_r16_i_sroa_0_0_copyload_i_i; p_v_r7_sroa_26_sroa_6_0_ph_i_i = v_r16_i_sroa_5_0_copyload_i_i; p_v_r7_sroa_26_sroa_10_0_ph_i_i = v_r16_i_sroa_6_0_copyload_i_i; p_v_r7_sroa_26_sroa_14_0_ph_i_i = v_r16_i_sroa_7_0_copyload_i_i; p_v_r7_sroa_26_sroa_18_0_ph_i_i = v_r16_i_sroa_8_0_copyload_i_i; p_v_r7_sroa_26_sroa_22_0_ph_i_i = v_r16_i_sroa_9_0_copyload_i_i; p_v_r7_sroa_26_sroa_26_0_ph_i_i = v_r16_i_sroa_10_0_copyload_i_i; p_v_r7_sroa_26_sroa_30_0_ph_i_i = v_r16_i_sroa_11_0_copyload_i_i; p_v_r7_sroa_26_sroa_34_0_ph_i_i = v_r16_i_sroa_12_0_copyload_i_i; p_v_r7_sroa_26_sroa_38_0_ph_i_i = v_r16_i_sroa_13_0_copyload_i_i; p_v_r7_sroa_26_sroa_42_0_ph_i_i = v_r16_i_sroa_14_0_copyload_i_i; p_v_r7_sroa_26_sroa_46_0_ph_i_i = v_r16_i_sroa_15_0_copyload_i_i; p_v_r7_sroa_26_sroa_50_0_ph_i_i = v_r16_i_sroa_16_0_copyload_i_i; p_v_r7_sroa_26_sroa_54_0_ph_i_i = v_r16_i_sroa_17_0_copyload_i_i; p_v_r7_sroa_26_sroa_58_0_ph_i_i = v_r16_i_sroa_18_0_copyload_i_i; p_v_r7_sroa_26_sroa_62_0_ph_i_i = v_r16_i_sroa_19_0_copyload_i_i; goto L_arm_1_i; }
 L_arm_2_i5_i_thread_i:;
-    v_r0_i1_sroa_28_sroa_3_0_ph_i_ph_i = p_v_r0_i1_sroa_28_sroa_3_0_ph_i_ph_i;
-    v_r0_i1_sroa_28_sroa_8_0_ph_i_ph_i = p_v_r0_i1_sroa_28_sroa_8_0_ph_i_ph_i;
-    v_r0_i1_sroa_28_sroa_20_0_ph_i_ph_i = p_v_r0_i1_sroa_28_sroa_20_0_ph_i_ph_i;
-    v_r0_i1_sroa_28_sroa_28_0_ph_i_ph_i = p_v_r0_i1_sroa_28_sroa_28_0_ph_i_ph_i;
-    v_r0_i1_sroa_28_sroa_40_0_ph_i_ph_i = p_v_r0_i1_sroa_28_sroa_40_0_ph_i_ph_i;
-    v_r0_i1_sroa_28_sroa_56_0_ph_i_ph_i = p_v_r0_i1_sroa_28_sroa_56_0_ph_i_ph_i;
-    v_r0_i1_sroa_28_sroa_64_0_ph_i_ph_i = p_v_r0_i1_sroa_28_sroa_64_0_ph_i_ph_i;
-    { p_v_r0_i1_sroa_28_sroa_3_0_ph_i84141_i = v_r0_i1_sroa_28_sroa_3_0_ph_i_ph_i; p_v_r0_i1_sroa_28_sroa_8_0_ph_i86140_i = v_r0_i1_sroa_28_sroa_8_0_ph_i_ph_i; p_v_r0_i1_sroa_28_sroa_28_0_ph_i88139_i = v_r0_i1_sroa_28_sroa_28_0_ph_i_ph_i; p_v_r0_i1_sroa_28_sroa_32_0_ph_i90138_i = 9u; p_v_r0_i1_sroa_28_sroa_40_0_ph_i92137_i = v_r0_i1_sroa_28_sroa_40_0_ph_i_ph_i; p_v_r0_i1_sroa_28_sroa_44_0_ph_i93136_i = v_r0_i1_sroa_28_sroa_8_0_ph_i_ph_i; p_v_r0_i1_sroa_28_sroa_52_0_ph_i94135_i = 5u; p_v_r0_i1_sroa_28_sroa_56_0_ph_i95134_i = v_r0_i1_sroa_28_sroa_56_0_ph_i_ph_i; p_v_r0_i1_sroa_28_sroa_60_0_ph_i96133_i = 0u; p_v_r0_i1_sroa_28_sroa_64_0_ph_i97132_i = v_r0_i1_sroa_28_sroa_64_0_ph_i_ph_i; p_v_r3_sroa_5_sroa_0_0_extract_trunc99131_i = 1u; p_v_r3_sroa_17_sroa_0_0_extract_trunc101130_i = 1u; p_v_r3_sroa_23_sroa_0_0_extract_trunc103129_i = 1u; p_v_r5_sroa_6_0_i_i104128_i = 5u; p_v_r5_sroa_81_0_i_i106127_i = v_r0_i1_sroa_28_sroa_20_0_ph_i_ph_i; p_v_r5_sroa_10_0_i_i108126_i = 0u; goto L_arm_2_i_i_i_i; }
+    v_r7_sroa_26_sroa_1_0_ph_i_ph_i = p_v_r7_sroa_26_sroa_1_0_ph_i_ph_i;
+    v_r7_sroa_26_sroa_6_0_ph_i_ph_i = p_v_r7_sroa_26_sroa_6_0_ph_i_ph_i;
+    v_r7_sroa_26_sroa_18_0_ph_i_ph_i = p_v_r7_sroa_26_sroa_18_0_ph_i_ph_i;
+    v_r7_sroa_26_sroa_26_0_ph_i_ph_i = p_v_r7_sroa_26_sroa_26_0_ph_i_ph_i;
+    v_r7_sroa_26_sroa_38_0_ph_i_ph_i = p_v_r7_sroa_26_sroa_38_0_ph_i_ph_i;
+    v_r7_sroa_26_sroa_54_0_ph_i_ph_i = p_v_r7_sroa_26_sroa_54_0_ph_i_ph_i;
+    v_r7_sroa_26_sroa_62_0_ph_i_ph_i = p_v_r7_sroa_26_sroa_62_0_ph_i_ph_i;
+    { p_v_r7_sroa_26_sroa_1_0_ph_i89146_i = v_r7_sroa_26_sroa_1_0_ph_i_ph_i; p_v_r7_sroa_26_sroa_6_0_ph_i91145_i = v_r7_sroa_26_sroa_6_0_ph_i_ph_i; p_v_r7_sroa_26_sroa_26_0_ph_i93144_i = v_r7_sroa_26_sroa_26_0_ph_i_ph_i; p_v_r7_sroa_26_sroa_30_0_ph_i95143_i = 9u; p_v_r7_sroa_26_sroa_38_0_ph_i97142_i = v_r7_sroa_26_sroa_38_0_ph_i_ph_i; p_v_r7_sroa_26_sroa_42_0_ph_i98141_i = v_r7_sroa_26_sroa_6_0_ph_i_ph_i; p_v_r7_sroa_26_sroa_50_0_ph_i99140_i = 5u; p_v_r7_sroa_26_sroa_54_0_ph_i100139_i = v_r7_sroa_26_sroa_54_0_ph_i_ph_i; p_v_r7_sroa_26_sroa_58_0_ph_i101138_i = 0u; p_v_r7_sroa_26_sroa_62_0_ph_i102137_i = v_r7_sroa_26_sroa_62_0_ph_i_ph_i; p_v_r3_sroa_5_sroa_0_0_extract_trunc104136_i = 1u; p_v_r3_sroa_17_sroa_0_0_extract_trunc106135_i = 1u; p_v_r3_sroa_23_sroa_0_0_extract_trunc108134_i = 1u; p_v_r5_sroa_6_0_i_i109133_i = 5u; p_v_r5_sroa_81_0_i_i111132_i = v_r7_sroa_26_sroa_18_0_ph_i_ph_i; p_v_r5_sroa_10_0_i_i113131_i = 0u; goto L_arm_2_i_i_i_i; }
 L_arm_1_i:;
-    v_r0_i1_sroa_28_sroa_3_0_ph_i_i = p_v_r0_i1_sroa_28_sroa_3_0_ph_i_i;
-    v_r0_i1_sroa_28_sroa_8_0_ph_i_i = p_v_r0_i1_sroa_28_sroa_8_0_ph_i_i;
-    v_r0_i1_sroa_28_sroa_12_0_ph_i_i = p_v_r0_i1_sroa_28_sroa_12_0_ph_i_i;
-    v_r0_i1_sroa_28_sroa_16_0_ph_i_i = p_v_r0_i1_sroa_28_sroa_16_0_ph_i_i;
-    v_r0_i1_sroa_28_sroa_20_0_ph_i_i = p_v_r0_i1_sroa_28_sroa_20_0_ph_i_i;
-    v_r0_i1_sroa_28_sroa_24_0_ph_i_i = p_v_r0_i1_sroa_28_sroa_24_0_ph_i_i;
-    v_r0_i1_sroa_28_sroa_28_0_ph_i_i = p_v_r0_i1_sroa_28_sroa_28_0_ph_i_i;
-    v_r0_i1_sroa_28_sroa_32_0_ph_i_i = p_v_r0_i1_sroa_28_sroa_32_0_ph_i_i;
-    v_r0_i1_sroa_28_sroa_36_0_ph_i_i = p_v_r0_i1_sroa_28_sroa_36_0_ph_i_i;
-    v_r0_i1_sroa_28_sroa_40_0_ph_i_i = p_v_r0_i1_sroa_28_sroa_40_0_ph_i_i;
-    v_r0_i1_sroa_28_sroa_44_0_ph_i_i = p_v_r0_i1_sroa_28_sroa_44_0_ph_i_i;
-    v_r0_i1_sroa_28_sroa_48_0_ph_i_i = p_v_r0_i1_sroa_28_sroa_48_0_ph_i_i;
-    v_r0_i1_sroa_28_sroa_52_0_ph_i_i = p_v_r0_i1_sroa_28_sroa_52_0_ph_i_i;
-    v_r0_i1_sroa_28_sroa_56_0_ph_i_i = p_v_r0_i1_sroa_28_sroa_56_0_ph_i_i;
-    v_r0_i1_sroa_28_sroa_60_0_ph_i_i = p_v_r0_i1_sroa_28_sroa_60_0_ph_i_i;
-    v_r0_i1_sroa_28_sroa_64_0_ph_i_i = p_v_r0_i1_sroa_28_sroa_64_0_ph_i_i;
-    v_r3_sroa_5_sroa_0_0_extract_trunc_i = (u8)(v_r0_i1_sroa_28_sroa_12_0_ph_i_i);
-    v_r3_sroa_17_sroa_0_0_extract_trunc_i = (u8)(v_r0_i1_sroa_28_sroa_36_0_ph_i_i);
+    v_r7_sroa_26_sroa_1_0_ph_i_i = p_v_r7_sroa_26_sroa_1_0_ph_i_i;
+    v_r7_sroa_26_sroa_6_0_ph_i_i = p_v_r7_sroa_26_sroa_6_0_ph_i_i;
+    v_r7_sroa_26_sroa_10_0_ph_i_i = p_v_r7_sroa_26_sroa_10_0_ph_i_i;
+    v_r7_sroa_26_sroa_14_0_ph_i_i = p_v_r7_sroa_26_sroa_14_0_ph_i_i;
+    v_r7_sroa_26_sroa_18_0_ph_i_i = p_v_r7_sroa_26_sroa_18_0_ph_i_i;
+    v_r7_sroa_26_sroa_22_0_ph_i_i = p_v_r7_sroa_26_sroa_22_0_ph_i_i;
+    v_r7_sroa_26_sroa_26_0_ph_i_i = p_v_r7_sroa_26_sroa_26_0_ph_i_i;
+    v_r7_sroa_26_sroa_30_0_ph_i_i = p_v_r7_sroa_26_sroa_30_0_ph_i_i;
+    v_r7_sroa_26_sroa_34_0_ph_i_i = p_v_r7_sroa_26_sroa_34_0_ph_i_i;
+    v_r7_sroa_26_sroa_38_0_ph_i_i = p_v_r7_sroa_26_sroa_38_0_ph_i_i;
+    v_r7_sroa_26_sroa_42_0_ph_i_i = p_v_r7_sroa_26_sroa_42_0_ph_i_i;
+    v_r7_sroa_26_sroa_46_0_ph_i_i = p_v_r7_sroa_26_sroa_46_0_ph_i_i;
+    v_r7_sroa_26_sroa_50_0_ph_i_i = p_v_r7_sroa_26_sroa_50_0_ph_i_i;
+    v_r7_sroa_26_sroa_54_0_ph_i_i = p_v_r7_sroa_26_sroa_54_0_ph_i_i;
+    v_r7_sroa_26_sroa_58_0_ph_i_i = p_v_r7_sroa_26_sroa_58_0_ph_i_i;
+    v_r7_sroa_26_sroa_62_0_ph_i_i = p_v_r7_sroa_26_sroa_62_0_ph_i_i;
+    v_r3_sroa_5_sroa_0_0_extract_trunc_i = (u8)(v_r7_sroa_26_sroa_10_0_ph_i_i);
+    v_r3_sroa_17_sroa_0_0_extract_trunc_i = (u8)(v_r7_sroa_26_sroa_34_0_ph_i_i);
     v_10 = v_r3_sroa_5_sroa_0_0_extract_trunc_i == 0u;
-    v_r4_i_i_i_i_i = (u8)(v_r0_i1_sroa_28_sroa_16_0_ph_i_i);
+    v_r4_i_i_i_i_i = (u8)(v_r7_sroa_26_sroa_14_0_ph_i_i);
     v_r5_sroa_6_0_i_i_i = v_10 ? 0u : v_r4_i_i_i_i_i;
-    v_r5_sroa_81_0_i_i_i = v_10 ? AT(f_static_21) : v_r0_i1_sroa_28_sroa_20_0_ph_i_i;
-    v_r5_sroa_10_0_i_i_i = v_10 ? 0u : v_r0_i1_sroa_28_sroa_24_0_ph_i_i;
+    v_r5_sroa_81_0_i_i_i = v_10 ? AT(f_static_21) : v_r7_sroa_26_sroa_18_0_ph_i_i;
+    v_r5_sroa_10_0_i_i_i = v_10 ? 0u : v_r7_sroa_26_sroa_22_0_ph_i_i;
     v_11 = v_r3_sroa_17_sroa_0_0_extract_trunc_i == 0u;
-    if (v_11) { p_v_r5_sroa_10_0_i_i109_i = v_r5_sroa_10_0_i_i_i; p_v_r5_sroa_81_0_i_i107_i = v_r5_sroa_81_0_i_i_i; p_v_r5_sroa_6_0_i_i105_i = v_r5_sroa_6_0_i_i_i; p_v_r3_sroa_17_sroa_0_0_extract_trunc102_i = 0u; p_v_r3_sroa_5_sroa_0_0_extract_trunc100_i = v_r3_sroa_5_sroa_0_0_extract_trunc_i; p_v_r0_i1_sroa_28_sroa_64_0_ph_i98_i = v_r0_i1_sroa_28_sroa_64_0_ph_i_i; p_v_r0_i1_sroa_28_sroa_32_0_ph_i91_i = v_r0_i1_sroa_28_sroa_32_0_ph_i_i; p_v_r0_i1_sroa_28_sroa_28_0_ph_i89_i = v_r0_i1_sroa_28_sroa_28_0_ph_i_i; p_v_r0_i1_sroa_28_sroa_8_0_ph_i87_i = v_r0_i1_sroa_28_sroa_8_0_ph_i_i; p_v_r0_i1_sroa_28_sroa_3_0_ph_i85_i = v_r0_i1_sroa_28_sroa_3_0_ph_i_i; p_v_r5_sroa_61_0_i_i_i = AT(f_static_21); p_v_r5_sroa_8_0_i_i_i = 0u; p_v_r5_sroa_9_0_i_i_i = 0u; p_v_r5_sroa_10_0_i6_i_i = 0u; p_v_r5_sroa_12_0_i_i_i = AT(f_static_21); p_v_r5_sroa_13_0_i_i_i = 0u; goto L_pkcs1_c_pss_to_c_pss_exit_i; } else { goto L_arm_2_i5_i_i; }
+    if (v_11) { p_v_r5_sroa_10_0_i_i114_i = v_r5_sroa_10_0_i_i_i; p_v_r5_sroa_81_0_i_i112_i = v_r5_sroa_81_0_i_i_i; p_v_r5_sroa_6_0_i_i110_i = v_r5_sroa_6_0_i_i_i; p_v_r3_sroa_17_sroa_0_0_extract_trunc107_i = 0u; p_v_r3_sroa_5_sroa_0_0_extract_trunc105_i = v_r3_sroa_5_sroa_0_0_extract_trunc_i; p_v_r7_sroa_26_sroa_62_0_ph_i103_i = v_r7_sroa_26_sroa_62_0_ph_i_i; p_v_r7_sroa_26_sroa_30_0_ph_i96_i = v_r7_sroa_26_sroa_30_0_ph_i_i; p_v_r7_sroa_26_sroa_26_0_ph_i94_i = v_r7_sroa_26_sroa_26_0_ph_i_i; p_v_r7_sroa_26_sroa_6_0_ph_i92_i = v_r7_sroa_26_sroa_6_0_ph_i_i; p_v_r7_sroa_26_sroa_1_0_ph_i90_i = v_r7_sroa_26_sroa_1_0_ph_i_i; p_v_r5_sroa_61_0_i_i_i = AT(f_static_21); p_v_r5_sroa_8_0_i_i_i = 0u; p_v_r5_sroa_9_0_i_i_i = 0u; p_v_r5_sroa_10_0_i6_i_i = 0u; p_v_r5_sroa_12_0_i_i_i = AT(f_static_21); p_v_r5_sroa_13_0_i_i_i = 0u; goto L_pkcs1_c_pss_to_c_pss_exit_i; } else { goto L_arm_2_i5_i_i; }
 L_arm_2_i5_i_i:;
-    v_r3_sroa_23_sroa_0_0_extract_trunc_i = (u8)(v_r0_i1_sroa_28_sroa_48_0_ph_i_i);
+    v_r3_sroa_23_sroa_0_0_extract_trunc_i = (u8)(v_r7_sroa_26_sroa_46_0_ph_i_i);
     v_12 = v_r3_sroa_23_sroa_0_0_extract_trunc_i == 0u;
-    if (v_12) { p_v_r5_sroa_10_0_i_i109_i = v_r5_sroa_10_0_i_i_i; p_v_r5_sroa_81_0_i_i107_i = v_r5_sroa_81_0_i_i_i; p_v_r5_sroa_6_0_i_i105_i = v_r5_sroa_6_0_i_i_i; p_v_r3_sroa_17_sroa_0_0_extract_trunc102_i = v_r3_sroa_17_sroa_0_0_extract_trunc_i; p_v_r3_sroa_5_sroa_0_0_extract_trunc100_i = v_r3_sroa_5_sroa_0_0_extract_trunc_i; p_v_r0_i1_sroa_28_sroa_64_0_ph_i98_i = v_r0_i1_sroa_28_sroa_64_0_ph_i_i; p_v_r0_i1_sroa_28_sroa_32_0_ph_i91_i = v_r0_i1_sroa_28_sroa_32_0_ph_i_i; p_v_r0_i1_sroa_28_sroa_28_0_ph_i89_i = v_r0_i1_sroa_28_sroa_28_0_ph_i_i; p_v_r0_i1_sroa_28_sroa_8_0_ph_i87_i = v_r0_i1_sroa_28_sroa_8_0_ph_i_i; p_v_r0_i1_sroa_28_sroa_3_0_ph_i85_i = v_r0_i1_sroa_28_sroa_3_0_ph_i_i; p_v_r5_sroa_61_0_i_i_i = v_r0_i1_sroa_28_sroa_40_0_ph_i_i; p_v_r5_sroa_8_0_i_i_i = v_r0_i1_sroa_28_sroa_44_0_ph_i_i; p_v_r5_sroa_9_0_i_i_i = 0u; p_v_r5_sroa_10_0_i6_i_i = 0u; p_v_r5_sroa_12_0_i_i_i = AT(f_static_21); p_v_r5_sroa_13_0_i_i_i = 0u; goto L_pkcs1_c_pss_to_c_pss_exit_i; } else { p_v_r0_i1_sroa_28_sroa_3_0_ph_i84141_i = v_r0_i1_sroa_28_sroa_3_0_ph_i_i; p_v_r0_i1_sroa_28_sroa_8_0_ph_i86140_i = v_r0_i1_sroa_28_sroa_8_0_ph_i_i; p_v_r0_i1_sroa_28_sroa_28_0_ph_i88139_i = v_r0_i1_sroa_28_sroa_28_0_ph_i_i; p_v_r0_i1_sroa_28_sroa_32_0_ph_i90138_i = v_r0_i1_sroa_28_sroa_32_0_ph_i_i; p_v_r0_i1_sroa_28_sroa_40_0_ph_i92137_i = v_r0_i1_sroa_28_sroa_40_0_ph_i_i; p_v_r0_i1_sroa_28_sroa_44_0_ph_i93136_i = v_r0_i1_sroa_28_sroa_44_0_ph_i_i; p_v_r0_i1_sroa_28_sroa_52_0_ph_i94135_i = v_r0_i1_sroa_28_sroa_52_0_ph_i_i; p_v_r0_i1_sroa_28_sroa_56_0_ph_i95134_i = v_r0_i1_sroa_28_sroa_56_0_ph_i_i; p_v_r0_i1_sroa_28_sroa_60_0_ph_i96133_i = v_r0_i1_sroa_28_sroa_60_0_ph_i_i; p_v_r0_i1_sroa_28_sroa_64_0_ph_i97132_i = v_r0_i1_sroa_28_sroa_64_0_ph_i_i; p_v_r3_sroa_5_sroa_0_0_extract_trunc99131_i = v_r3_sroa_5_sroa_0_0_extract_trunc_i; p_v_r3_sroa_17_sroa_0_0_extract_trunc101130_i = v_r3_sroa_17_sroa_0_0_extract_trunc_i; p_v_r3_sroa_23_sroa_0_0_extract_trunc103129_i = v_r3_sroa_23_sroa_0_0_extract_trunc_i; p_v_r5_sroa_6_0_i_i104128_i = v_r5_sroa_6_0_i_i_i; p_v_r5_sroa_81_0_i_i106127_i = v_r5_sroa_81_0_i_i_i; p_v_r5_sroa_10_0_i_i108126_i = v_r5_sroa_10_0_i_i_i; goto L_arm_2_i_i_i_i; }
+    if (v_12) { p_v_r5_sroa_10_0_i_i114_i = v_r5_sroa_10_0_i_i_i; p_v_r5_sroa_81_0_i_i112_i = v_r5_sroa_81_0_i_i_i; p_v_r5_sroa_6_0_i_i110_i = v_r5_sroa_6_0_i_i_i; p_v_r3_sroa_17_sroa_0_0_extract_trunc107_i = v_r3_sroa_17_sroa_0_0_extract_trunc_i; p_v_r3_sroa_5_sroa_0_0_extract_trunc105_i = v_r3_sroa_5_sroa_0_0_extract_trunc_i; p_v_r7_sroa_26_sroa_62_0_ph_i103_i = v_r7_sroa_26_sroa_62_0_ph_i_i; p_v_r7_sroa_26_sroa_30_0_ph_i96_i = v_r7_sroa_26_sroa_30_0_ph_i_i; p_v_r7_sroa_26_sroa_26_0_ph_i94_i = v_r7_sroa_26_sroa_26_0_ph_i_i; p_v_r7_sroa_26_sroa_6_0_ph_i92_i = v_r7_sroa_26_sroa_6_0_ph_i_i; p_v_r7_sroa_26_sroa_1_0_ph_i90_i = v_r7_sroa_26_sroa_1_0_ph_i_i; p_v_r5_sroa_61_0_i_i_i = v_r7_sroa_26_sroa_38_0_ph_i_i; p_v_r5_sroa_8_0_i_i_i = v_r7_sroa_26_sroa_42_0_ph_i_i; p_v_r5_sroa_9_0_i_i_i = 0u; p_v_r5_sroa_10_0_i6_i_i = 0u; p_v_r5_sroa_12_0_i_i_i = AT(f_static_21); p_v_r5_sroa_13_0_i_i_i = 0u; goto L_pkcs1_c_pss_to_c_pss_exit_i; } else { p_v_r7_sroa_26_sroa_1_0_ph_i89146_i = v_r7_sroa_26_sroa_1_0_ph_i_i; p_v_r7_sroa_26_sroa_6_0_ph_i91145_i = v_r7_sroa_26_sroa_6_0_ph_i_i; p_v_r7_sroa_26_sroa_26_0_ph_i93144_i = v_r7_sroa_26_sroa_26_0_ph_i_i; p_v_r7_sroa_26_sroa_30_0_ph_i95143_i = v_r7_sroa_26_sroa_30_0_ph_i_i; p_v_r7_sroa_26_sroa_38_0_ph_i97142_i = v_r7_sroa_26_sroa_38_0_ph_i_i; p_v_r7_sroa_26_sroa_42_0_ph_i98141_i = v_r7_sroa_26_sroa_42_0_ph_i_i; p_v_r7_sroa_26_sroa_50_0_ph_i99140_i = v_r7_sroa_26_sroa_50_0_ph_i_i; p_v_r7_sroa_26_sroa_54_0_ph_i100139_i = v_r7_sroa_26_sroa_54_0_ph_i_i; p_v_r7_sroa_26_sroa_58_0_ph_i101138_i = v_r7_sroa_26_sroa_58_0_ph_i_i; p_v_r7_sroa_26_sroa_62_0_ph_i102137_i = v_r7_sroa_26_sroa_62_0_ph_i_i; p_v_r3_sroa_5_sroa_0_0_extract_trunc104136_i = v_r3_sroa_5_sroa_0_0_extract_trunc_i; p_v_r3_sroa_17_sroa_0_0_extract_trunc106135_i = v_r3_sroa_17_sroa_0_0_extract_trunc_i; p_v_r3_sroa_23_sroa_0_0_extract_trunc108134_i = v_r3_sroa_23_sroa_0_0_extract_trunc_i; p_v_r5_sroa_6_0_i_i109133_i = v_r5_sroa_6_0_i_i_i; p_v_r5_sroa_81_0_i_i111132_i = v_r5_sroa_81_0_i_i_i; p_v_r5_sroa_10_0_i_i113131_i = v_r5_sroa_10_0_i_i_i; goto L_arm_2_i_i_i_i; }
 L_arm_2_i_i_i_i:;
-    v_r0_i1_sroa_28_sroa_3_0_ph_i84141_i = p_v_r0_i1_sroa_28_sroa_3_0_ph_i84141_i;
-    v_r0_i1_sroa_28_sroa_8_0_ph_i86140_i = p_v_r0_i1_sroa_28_sroa_8_0_ph_i86140_i;
-    v_r0_i1_sroa_28_sroa_28_0_ph_i88139_i = p_v_r0_i1_sroa_28_sroa_28_0_ph_i88139_i;
-    v_r0_i1_sroa_28_sroa_32_0_ph_i90138_i = p_v_r0_i1_sroa_28_sroa_32_0_ph_i90138_i;
-    v_r0_i1_sroa_28_sroa_40_0_ph_i92137_i = p_v_r0_i1_sroa_28_sroa_40_0_ph_i92137_i;
-    v_r0_i1_sroa_28_sroa_44_0_ph_i93136_i = p_v_r0_i1_sroa_28_sroa_44_0_ph_i93136_i;
-    v_r0_i1_sroa_28_sroa_52_0_ph_i94135_i = p_v_r0_i1_sroa_28_sroa_52_0_ph_i94135_i;
-    v_r0_i1_sroa_28_sroa_56_0_ph_i95134_i = p_v_r0_i1_sroa_28_sroa_56_0_ph_i95134_i;
-    v_r0_i1_sroa_28_sroa_60_0_ph_i96133_i = p_v_r0_i1_sroa_28_sroa_60_0_ph_i96133_i;
-    v_r0_i1_sroa_28_sroa_64_0_ph_i97132_i = p_v_r0_i1_sroa_28_sroa_64_0_ph_i97132_i;
-    v_r3_sroa_5_sroa_0_0_extract_trunc99131_i = p_v_r3_sroa_5_sroa_0_0_extract_trunc99131_i;
-    v_r3_sroa_17_sroa_0_0_extract_trunc101130_i = p_v_r3_sroa_17_sroa_0_0_extract_trunc101130_i;
-    v_r3_sroa_23_sroa_0_0_extract_trunc103129_i = p_v_r3_sroa_23_sroa_0_0_extract_trunc103129_i;
-    v_r5_sroa_6_0_i_i104128_i = p_v_r5_sroa_6_0_i_i104128_i;
-    v_r5_sroa_81_0_i_i106127_i = p_v_r5_sroa_81_0_i_i106127_i;
-    v_r5_sroa_10_0_i_i108126_i = p_v_r5_sroa_10_0_i_i108126_i;
-    v_r4_i_i_i_i_i_i = (u8)(v_r0_i1_sroa_28_sroa_52_0_ph_i94135_i);
-    { p_v_r5_sroa_10_0_i_i109_i = v_r5_sroa_10_0_i_i108126_i; p_v_r5_sroa_81_0_i_i107_i = v_r5_sroa_81_0_i_i106127_i; p_v_r5_sroa_6_0_i_i105_i = v_r5_sroa_6_0_i_i104128_i; p_v_r3_sroa_17_sroa_0_0_extract_trunc102_i = v_r3_sroa_17_sroa_0_0_extract_trunc101130_i; p_v_r3_sroa_5_sroa_0_0_extract_trunc100_i = v_r3_sroa_5_sroa_0_0_extract_trunc99131_i; p_v_r0_i1_sroa_28_sroa_64_0_ph_i98_i = v_r0_i1_sroa_28_sroa_64_0_ph_i97132_i; p_v_r0_i1_sroa_28_sroa_32_0_ph_i91_i = v_r0_i1_sroa_28_sroa_32_0_ph_i90138_i; p_v_r0_i1_sroa_28_sroa_28_0_ph_i89_i = v_r0_i1_sroa_28_sroa_28_0_ph_i88139_i; p_v_r0_i1_sroa_28_sroa_8_0_ph_i87_i = v_r0_i1_sroa_28_sroa_8_0_ph_i86140_i; p_v_r0_i1_sroa_28_sroa_3_0_ph_i85_i = v_r0_i1_sroa_28_sroa_3_0_ph_i84141_i; p_v_r5_sroa_61_0_i_i_i = v_r0_i1_sroa_28_sroa_40_0_ph_i92137_i; p_v_r5_sroa_8_0_i_i_i = v_r0_i1_sroa_28_sroa_44_0_ph_i93136_i; p_v_r5_sroa_9_0_i_i_i = v_r3_sroa_23_sroa_0_0_extract_trunc103129_i; p_v_r5_sroa_10_0_i6_i_i = v_r4_i_i_i_i_i_i; p_v_r5_sroa_12_0_i_i_i = v_r0_i1_sroa_28_sroa_56_0_ph_i95134_i; p_v_r5_sroa_13_0_i_i_i = v_r0_i1_sroa_28_sroa_60_0_ph_i96133_i; goto L_pkcs1_c_pss_to_c_pss_exit_i; }
+    v_r7_sroa_26_sroa_1_0_ph_i89146_i = p_v_r7_sroa_26_sroa_1_0_ph_i89146_i;
+    v_r7_sroa_26_sroa_6_0_ph_i91145_i = p_v_r7_sroa_26_sroa_6_0_ph_i91145_i;
+    v_r7_sroa_26_sroa_26_0_ph_i93144_i = p_v_r7_sroa_26_sroa_26_0_ph_i93144_i;
+    v_r7_sroa_26_sroa_30_0_ph_i95143_i = p_v_r7_sroa_26_sroa_30_0_ph_i95143_i;
+    v_r7_sroa_26_sroa_38_0_ph_i97142_i = p_v_r7_sroa_26_sroa_38_0_ph_i97142_i;
+    v_r7_sroa_26_sroa_42_0_ph_i98141_i = p_v_r7_sroa_26_sroa_42_0_ph_i98141_i;
+    v_r7_sroa_26_sroa_50_0_ph_i99140_i = p_v_r7_sroa_26_sroa_50_0_ph_i99140_i;
+    v_r7_sroa_26_sroa_54_0_ph_i100139_i = p_v_r7_sroa_26_sroa_54_0_ph_i100139_i;
+    v_r7_sroa_26_sroa_58_0_ph_i101138_i = p_v_r7_sroa_26_sroa_58_0_ph_i101138_i;
+    v_r7_sroa_26_sroa_62_0_ph_i102137_i = p_v_r7_sroa_26_sroa_62_0_ph_i102137_i;
+    v_r3_sroa_5_sroa_0_0_extract_trunc104136_i = p_v_r3_sroa_5_sroa_0_0_extract_trunc104136_i;
+    v_r3_sroa_17_sroa_0_0_extract_trunc106135_i = p_v_r3_sroa_17_sroa_0_0_extract_trunc106135_i;
+    v_r3_sroa_23_sroa_0_0_extract_trunc108134_i = p_v_r3_sroa_23_sroa_0_0_extract_trunc108134_i;
+    v_r5_sroa_6_0_i_i109133_i = p_v_r5_sroa_6_0_i_i109133_i;
+    v_r5_sroa_81_0_i_i111132_i = p_v_r5_sroa_81_0_i_i111132_i;
+    v_r5_sroa_10_0_i_i113131_i = p_v_r5_sroa_10_0_i_i113131_i;
+    v_r4_i_i_i_i_i_i = (u8)(v_r7_sroa_26_sroa_50_0_ph_i99140_i);
+    { p_v_r5_sroa_10_0_i_i114_i = v_r5_sroa_10_0_i_i113131_i; p_v_r5_sroa_81_0_i_i112_i = v_r5_sroa_81_0_i_i111132_i; p_v_r5_sroa_6_0_i_i110_i = v_r5_sroa_6_0_i_i109133_i; p_v_r3_sroa_17_sroa_0_0_extract_trunc107_i = v_r3_sroa_17_sroa_0_0_extract_trunc106135_i; p_v_r3_sroa_5_sroa_0_0_extract_trunc105_i = v_r3_sroa_5_sroa_0_0_extract_trunc104136_i; p_v_r7_sroa_26_sroa_62_0_ph_i103_i = v_r7_sroa_26_sroa_62_0_ph_i102137_i; p_v_r7_sroa_26_sroa_30_0_ph_i96_i = v_r7_sroa_26_sroa_30_0_ph_i95143_i; p_v_r7_sroa_26_sroa_26_0_ph_i94_i = v_r7_sroa_26_sroa_26_0_ph_i93144_i; p_v_r7_sroa_26_sroa_6_0_ph_i92_i = v_r7_sroa_26_sroa_6_0_ph_i91145_i; p_v_r7_sroa_26_sroa_1_0_ph_i90_i = v_r7_sroa_26_sroa_1_0_ph_i89146_i; p_v_r5_sroa_61_0_i_i_i = v_r7_sroa_26_sroa_38_0_ph_i97142_i; p_v_r5_sroa_8_0_i_i_i = v_r7_sroa_26_sroa_42_0_ph_i98141_i; p_v_r5_sroa_9_0_i_i_i = v_r3_sroa_23_sroa_0_0_extract_trunc108134_i; p_v_r5_sroa_10_0_i6_i_i = v_r4_i_i_i_i_i_i; p_v_r5_sroa_12_0_i_i_i = v_r7_sroa_26_sroa_54_0_ph_i100139_i; p_v_r5_sroa_13_0_i_i_i = v_r7_sroa_26_sroa_58_0_ph_i101138_i; goto L_pkcs1_c_pss_to_c_pss_exit_i; }
 L_pkcs1_c_pss_to_c_pss_exit_i:;
-    v_r5_sroa_10_0_i_i109_i = p_v_r5_sroa_10_0_i_i109_i;
-    v_r5_sroa_81_0_i_i107_i = p_v_r5_sroa_81_0_i_i107_i;
-    v_r5_sroa_6_0_i_i105_i = p_v_r5_sroa_6_0_i_i105_i;
-    v_r3_sroa_17_sroa_0_0_extract_trunc102_i = p_v_r3_sroa_17_sroa_0_0_extract_trunc102_i;
-    v_r3_sroa_5_sroa_0_0_extract_trunc100_i = p_v_r3_sroa_5_sroa_0_0_extract_trunc100_i;
-    v_r0_i1_sroa_28_sroa_64_0_ph_i98_i = p_v_r0_i1_sroa_28_sroa_64_0_ph_i98_i;
-    v_r0_i1_sroa_28_sroa_32_0_ph_i91_i = p_v_r0_i1_sroa_28_sroa_32_0_ph_i91_i;
-    v_r0_i1_sroa_28_sroa_28_0_ph_i89_i = p_v_r0_i1_sroa_28_sroa_28_0_ph_i89_i;
-    v_r0_i1_sroa_28_sroa_8_0_ph_i87_i = p_v_r0_i1_sroa_28_sroa_8_0_ph_i87_i;
-    v_r0_i1_sroa_28_sroa_3_0_ph_i85_i = p_v_r0_i1_sroa_28_sroa_3_0_ph_i85_i;
+    v_r5_sroa_10_0_i_i114_i = p_v_r5_sroa_10_0_i_i114_i;
+    v_r5_sroa_81_0_i_i112_i = p_v_r5_sroa_81_0_i_i112_i;
+    v_r5_sroa_6_0_i_i110_i = p_v_r5_sroa_6_0_i_i110_i;
+    v_r3_sroa_17_sroa_0_0_extract_trunc107_i = p_v_r3_sroa_17_sroa_0_0_extract_trunc107_i;
+    v_r3_sroa_5_sroa_0_0_extract_trunc105_i = p_v_r3_sroa_5_sroa_0_0_extract_trunc105_i;
+    v_r7_sroa_26_sroa_62_0_ph_i103_i = p_v_r7_sroa_26_sroa_62_0_ph_i103_i;
+    v_r7_sroa_26_sroa_30_0_ph_i96_i = p_v_r7_sroa_26_sroa_30_0_ph_i96_i;
+    v_r7_sroa_26_sroa_26_0_ph_i94_i = p_v_r7_sroa_26_sroa_26_0_ph_i94_i;
+    v_r7_sroa_26_sroa_6_0_ph_i92_i = p_v_r7_sroa_26_sroa_6_0_ph_i92_i;
+    v_r7_sroa_26_sroa_1_0_ph_i90_i = p_v_r7_sroa_26_sroa_1_0_ph_i90_i;
     v_r5_sroa_61_0_i_i_i = p_v_r5_sroa_61_0_i_i_i;
     v_r5_sroa_8_0_i_i_i = p_v_r5_sroa_8_0_i_i_i;
     v_r5_sroa_9_0_i_i_i = p_v_r5_sroa_9_0_i_i_i;
     v_r5_sroa_10_0_i6_i_i = p_v_r5_sroa_10_0_i6_i_i;
     v_r5_sroa_12_0_i_i_i = p_v_r5_sroa_12_0_i_i_i;
     v_r5_sroa_13_0_i_i_i = p_v_r5_sroa_13_0_i_i_i;
-    put_P(v_a2, v_r0_i1_sroa_28_sroa_3_0_ph_i85_i);
+    put_P(v_a2, v_r7_sroa_26_sroa_1_0_ph_i90_i);
     v_r7_sroa_3_0_a2_sroa_idx_i = v_a2 + 8;
-    put_u64(v_r7_sroa_3_0_a2_sroa_idx_i, v_r0_i1_sroa_28_sroa_8_0_ph_i87_i);
+    put_u64(v_r7_sroa_3_0_a2_sroa_idx_i, v_r7_sroa_26_sroa_6_0_ph_i92_i);
     v_r7_sroa_4_0_a2_sroa_idx_i = v_a2 + 16;
-    put_u8(v_r7_sroa_4_0_a2_sroa_idx_i, v_r3_sroa_5_sroa_0_0_extract_trunc100_i);
+    put_u8(v_r7_sroa_4_0_a2_sroa_idx_i, v_r3_sroa_5_sroa_0_0_extract_trunc105_i);
     v_r7_sroa_5_0_a2_sroa_idx_i = v_a2 + 17;
-    put_u8(v_r7_sroa_5_0_a2_sroa_idx_i, v_r5_sroa_6_0_i_i105_i);
+    put_u8(v_r7_sroa_5_0_a2_sroa_idx_i, v_r5_sroa_6_0_i_i110_i);
     v_r7_sroa_6_0_a2_sroa_idx_i = v_a2 + 18;
     fill(v_r7_sroa_6_0_a2_sroa_idx_i, 0u, 6u);
     v_r7_sroa_7_0_a2_sroa_idx_i = v_a2 + 24;
-    put_P(v_r7_sroa_7_0_a2_sroa_idx_i, v_r5_sroa_81_0_i_i107_i);
+    put_P(v_r7_sroa_7_0_a2_sroa_idx_i, v_r5_sroa_81_0_i_i112_i);
     v_r7_sroa_8_0_a2_sroa_idx_i = v_a2 + 32;
-    put_u64(v_r7_sroa_8_0_a2_sroa_idx_i, v_r5_sroa_10_0_i_i109_i);
+    put_u64(v_r7_sroa_8_0_a2_sroa_idx_i, v_r5_sroa_10_0_i_i114_i);
     v_r7_sroa_9_0_a2_sroa_idx_i = v_a2 + 40;
-    put_P(v_r7_sroa_9_0_a2_sroa_idx_i, v_r0_i1_sroa_28_sroa_28_0_ph_i89_i);
+    put_P(v_r7_sroa_9_0_a2_sroa_idx_i, v_r7_sroa_26_sroa_26_0_ph_i94_i);
     v_r7_sroa_10_0_a2_sroa_idx_i = v_a2 + 48;
-    put_u64(v_r7_sroa_10_0_a2_sroa_idx_i, v_r0_i1_sroa_28_sroa_32_0_ph_i91_i);
+    put_u64(v_r7_sroa_10_0_a2_sroa_idx_i, v_r7_sroa_26_sroa_30_0_ph_i96_i);
     v_r7_sroa_11_0_a2_sroa_idx_i = v_a2 + 56;
-    put_u8(v_r7_sroa_11_0_a2_sroa_idx_i, v_r3_sroa_17_sroa_0_0_extract_trunc102_i);
+    put_u8(v_r7_sroa_11_0_a2_sroa_idx_i, v_r3_sroa_17_sroa_0_0_extract_trunc107_i);
     v_r7_sroa_12_0_a2_sroa_idx_i = v_a2 + 57;
     fill(v_r7_sroa_12_0_a2_sroa_idx_i, 0u, 7u);
     v_r7_sroa_13_0_a2_sroa_idx_i = v_a2 + 64;
@@ -46262,7 +47296,7 @@ L_pkcs1_c_pss_to_c_pss_exit_i:;
     v_r7_sroa_19_0_a2_sroa_idx_i = v_a2 + 96;
     put_u64(v_r7_sroa_19_0_a2_sroa_idx_i, v_r5_sroa_13_0_i_i_i);
     v_r7_sroa_20_0_a2_sroa_idx_i = v_a2 + 104;
-    put_u8(v_r7_sroa_20_0_a2_sroa_idx_i, v_r0_i1_sroa_28_sroa_64_0_ph_i98_i);
+    put_u8(v_r7_sroa_20_0_a2_sroa_idx_i, v_r7_sroa_26_sroa_62_0_ph_i103_i);
     v_r7_sroa_21_0_a2_sroa_idx_i = v_a2 + 105;
     put_u8(v_r7_sroa_21_0_a2_sroa_idx_i, 1u);
     v_r7_sroa_22_0_a2_sroa_idx_i = v_a2 + 106;
@@ -46270,15 +47304,15 @@ L_pkcs1_c_pss_to_c_pss_exit_i:;
     { p_v_r6_0_i = 0u; goto L_pkcs1_c_pss_pkcs1_c_pss_params_decode_strict_exit; }
 L_arm_2_i:;
     switch (v_7) {
-    case 0u: { p_v_r0_i1_sroa_13_0_i60_i = v_8; goto L_arm_1_i2_i; }
+    case 0u: { p_v_r7_sroa_11_0_i65_i = v_8; goto L_arm_1_i2_i; }
     case 1u: { p_v_r6_0_i = 18u; goto L_pkcs1_c_pss_pkcs1_c_pss_params_decode_strict_exit; }
     case 2u: { goto L_arm_3_i_i; }
     case 3u: { goto L_arm_4_i_i; }
     default: { goto L_noarm_5_i_i; }
     }
 L_arm_1_i2_i:;
-    v_r0_i1_sroa_13_0_i60_i = p_v_r0_i1_sroa_13_0_i60_i;
-    v_switch_idx_cast_i_i_i = (u32)v_r0_i1_sroa_13_0_i60_i;
+    v_r7_sroa_11_0_i65_i = p_v_r7_sroa_11_0_i65_i;
+    v_switch_idx_cast_i_i_i = (u32)v_r7_sroa_11_0_i65_i;
     v_switch_offset_i_i_i = (u32)((u32)(v_switch_idx_cast_i_i_i) + (u32)(1u));
     { p_v_r6_0_i = v_switch_offset_i_i_i; goto L_pkcs1_c_pss_pkcs1_c_pss_params_decode_strict_exit; }
 L_arm_3_i_i:;
@@ -46340,19 +47374,19 @@ static u1 proved_uses_hash(P v_a0, P v_a1, P v_a2) {
     P v_r77_i_i_i_i;
     u8 v_r175_i_i_i_i;
     u1 v_r177_i_i_i_i;
-    P v_r12_i5_i_i;
-    u8 v_r13_i6_i_i;
-    u1 v_r14_i7_i_i;
-    P v_r18_i15_i_i;
-    u8 v_r19_i16_i_i;
-    u1 v_r24_not_i18_i_i;
-    P v_r9_sroa_3_0_r28_sroa_idx_i22_i_i;
-    u64 v_r9_sroa_3_0_copyload_i23_i_i;
+    P v_r8_i_i_i;
+    u8 v_r9_i_i_i;
+    u1 v_r10_i_i_i;
+    P v_r18_i_i_i;
+    u8 v_r19_i_i_i;
+    u1 v_r24_i_i_i;
+    P v_r7_sroa_3_0_r28_sroa_idx_i_i_i;
+    u64 v_r7_sroa_3_0_copyload_i_i_i;
     u1 v_r7_i_i;
     u1 v_r128_not_i_i_i;
     u1 v_or_cond_i;
     u1 v_r128_not_i_i_old_i;
-    P v_r11_sroa_0_0_copyload_i9_i_i;
+    P v_r4_sroa_0_0_copyload_i8_i_i;
     P v_r270_i_i_i;
     P v_r272_i_i_i;
     P v_r274_i_i_i;
@@ -46405,53 +47439,53 @@ static u1 proved_uses_hash(P v_a0, P v_a1, P v_a2) {
     u1 v_r445_i_i_i;
     u1 v_r451_i_i_i;
     P v_r34_i_i;
-    P v_r12_i_i_i;
-    u8 v_r13_i_i_i;
-    u1 v_r14_i_i_i;
-    P v_r18_i_i_i;
-    u8 v_r19_i_i_i;
-    u1 v_r24_not_i_i_i;
-    P v_r9_sroa_3_0_r28_sroa_idx_i_i_i;
-    u64 v_r9_sroa_3_0_copyload_i_i_i;
+    P v_r8_i14_i_i;
+    u8 v_r9_i15_i_i;
+    u1 v_r10_i16_i_i;
+    P v_r18_i21_i_i;
+    u8 v_r19_i22_i_i;
+    u1 v_r24_i24_i_i;
+    P v_r7_sroa_3_0_r28_sroa_idx_i31_i_i;
+    u64 v_r7_sroa_3_0_copyload_i32_i_i;
     u1 v_r7_i3_i;
-    P v_r11_sroa_3_0_a0_sroa_idx_i_i_i;
-    u64 v_r11_sroa_3_0_copyload_i_i_i;
-    u1 v_r128_not_i26_i_i;
-    P v_r11_sroa_0_0_copyload_i_i_i;
-    P v_r270_i38_i_i;
-    P v_r272_i39_i_i;
-    P v_r274_i40_i_i;
-    P v_r276_i41_i_i;
-    P v_r278_i42_i_i;
-    P v_r280_i43_i_i;
-    P v_r282_i44_i_i;
-    P v_r284_i45_i_i;
-    u8 v_r334_i57_i_i;
-    u1 v_r339_i59_i_i;
-    u8 v_r342_i60_i_i;
-    u1 v_r347_i62_i_i;
-    u1 v_r353_i63_i_i;
-    u8 v_r356_i64_i_i;
-    u1 v_r361_i66_i_i;
-    u1 v_r367_i67_i_i;
-    u8 v_r370_i68_i_i;
-    u1 v_r375_i70_i_i;
-    u1 v_r381_i71_i_i;
-    u8 v_r384_i72_i_i;
-    u1 v_r389_i74_i_i;
-    u1 v_r395_i75_i_i;
-    u8 v_r398_i76_i_i;
-    u1 v_r403_i78_i_i;
-    u1 v_r409_i79_i_i;
-    u8 v_r412_i80_i_i;
-    u1 v_r417_i82_i_i;
-    u1 v_r423_i83_i_i;
-    u8 v_r426_i84_i_i;
-    u1 v_r431_i86_i_i;
-    u1 v_r437_i87_i_i;
-    u8 v_r440_i88_i_i;
-    u1 v_r445_i90_i_i;
-    u1 v_r451_i91_i_i;
+    P v_r4_sroa_3_0_a0_sroa_idx_i_i_i;
+    u64 v_r4_sroa_3_0_copyload_i_i_i;
+    u1 v_r128_not_i35_i_i;
+    P v_r4_sroa_0_0_copyload_i_i_i;
+    P v_r270_i47_i_i;
+    P v_r272_i48_i_i;
+    P v_r274_i49_i_i;
+    P v_r276_i50_i_i;
+    P v_r278_i51_i_i;
+    P v_r280_i52_i_i;
+    P v_r282_i53_i_i;
+    P v_r284_i54_i_i;
+    u8 v_r334_i66_i_i;
+    u1 v_r339_i68_i_i;
+    u8 v_r342_i69_i_i;
+    u1 v_r347_i71_i_i;
+    u1 v_r353_i72_i_i;
+    u8 v_r356_i73_i_i;
+    u1 v_r361_i75_i_i;
+    u1 v_r367_i76_i_i;
+    u8 v_r370_i77_i_i;
+    u1 v_r375_i79_i_i;
+    u1 v_r381_i80_i_i;
+    u8 v_r384_i81_i_i;
+    u1 v_r389_i83_i_i;
+    u1 v_r395_i84_i_i;
+    u8 v_r398_i85_i_i;
+    u1 v_r403_i87_i_i;
+    u1 v_r409_i88_i_i;
+    u8 v_r412_i89_i_i;
+    u1 v_r417_i91_i_i;
+    u1 v_r423_i92_i_i;
+    u8 v_r426_i93_i_i;
+    u1 v_r431_i95_i_i;
+    u1 v_r437_i96_i_i;
+    u8 v_r440_i97_i_i;
+    u1 v_r445_i99_i_i;
+    u1 v_r451_i100_i_i;
     u1 v_common_ret_op_i;
     v_r4_i = v_a0 + 8;
     v_r5_i = get_u64(v_r4_i);
@@ -46512,35 +47546,35 @@ L_join_3_i_i:;
     v_r177_i_i_i_i = v_r175_i_i_i_i == 8u;
     if (v_r177_i_i_i_i) { goto L_then_4_i_i; } else { p_v_common_ret_op_i = 0u; goto L_pkcs1_c_algorithm_pkcs1_c_uses_hash_exit; }
 L_then_4_i_i:;
-    v_r12_i5_i_i = v_a0 + 16;
-    v_r13_i6_i_i = get_u8(v_r12_i5_i_i);
-    v_r14_i7_i_i = (u1)((v_r13_i6_i_i) & 1);
-    if (v_r14_i7_i_i) { goto L_then_1_i14_i_i; } else { goto L_join_3_i8_i_i; }
-L_then_1_i14_i_i:;
-    v_r18_i15_i_i = v_a0 + 17;
-    v_r19_i16_i_i = get_u8(v_r18_i15_i_i);
-    v_r24_not_i18_i_i = v_r19_i16_i_i == 5u;
-    if (v_r24_not_i18_i_i) { goto L_else_7_i19_i_i; } else { p_v_common_ret_op_i = 0u; goto L_pkcs1_c_algorithm_pkcs1_c_uses_hash_exit; }
-L_else_7_i19_i_i:;
-    v_r9_sroa_3_0_r28_sroa_idx_i22_i_i = v_a0 + 32;
-    v_r9_sroa_3_0_copyload_i23_i_i = get_u64(v_r9_sroa_3_0_r28_sroa_idx_i22_i_i);
-    v_r7_i_i = v_r9_sroa_3_0_copyload_i23_i_i == 0u;
+    v_r8_i_i_i = v_a0 + 16;
+    v_r9_i_i_i = get_u8(v_r8_i_i_i);
+    v_r10_i_i_i = (u1)((v_r9_i_i_i) & 1);
+    if (v_r10_i_i_i) { goto L_else_2_i_i_i; } else { goto L_then_1_i7_i_i; }
+L_else_2_i_i_i:;
+    v_r18_i_i_i = v_a0 + 17;
+    v_r19_i_i_i = get_u8(v_r18_i_i_i);
+    v_r24_i_i_i = v_r19_i_i_i == 5u;
+    if (v_r24_i_i_i) { goto L_pkcs1_c_algorithm_is_null_or_absent_exit_i_i; } else { p_v_common_ret_op_i = 0u; goto L_pkcs1_c_algorithm_pkcs1_c_uses_hash_exit; }
+L_pkcs1_c_algorithm_is_null_or_absent_exit_i_i:;
+    v_r7_sroa_3_0_r28_sroa_idx_i_i_i = v_a0 + 32;
+    v_r7_sroa_3_0_copyload_i_i_i = get_u64(v_r7_sroa_3_0_r28_sroa_idx_i_i_i);
+    v_r7_i_i = v_r7_sroa_3_0_copyload_i_i_i == 0u;
     v_r128_not_i_i_i = v_r3_sroa_3_0_copyload_i == 9u;
     v_or_cond_i = v_r7_i_i ? v_r128_not_i_i_i : 0u;
     if (v_or_cond_i) { goto L_join_6_i_i; } else { p_v_common_ret_op_i = 0u; goto L_pkcs1_c_algorithm_pkcs1_c_uses_hash_exit; }
-L_join_3_i8_i_i:;
+L_then_1_i7_i_i:;
     v_r128_not_i_i_old_i = v_r3_sroa_3_0_copyload_i == 9u;
     if (v_r128_not_i_i_old_i) { goto L_join_6_i_i; } else { p_v_common_ret_op_i = 0u; goto L_pkcs1_c_algorithm_pkcs1_c_uses_hash_exit; }
 L_join_6_i_i:;
-    v_r11_sroa_0_0_copyload_i9_i_i = get_P(v_a0);
-    v_r270_i_i_i = v_r11_sroa_0_0_copyload_i9_i_i + 1;
-    v_r272_i_i_i = v_r11_sroa_0_0_copyload_i9_i_i + 2;
-    v_r274_i_i_i = v_r11_sroa_0_0_copyload_i9_i_i + 3;
-    v_r276_i_i_i = v_r11_sroa_0_0_copyload_i9_i_i + 4;
-    v_r278_i_i_i = v_r11_sroa_0_0_copyload_i9_i_i + 5;
-    v_r280_i_i_i = v_r11_sroa_0_0_copyload_i9_i_i + 6;
-    v_r282_i_i_i = v_r11_sroa_0_0_copyload_i9_i_i + 7;
-    v_r284_i_i_i = v_r11_sroa_0_0_copyload_i9_i_i + 8;
+    v_r4_sroa_0_0_copyload_i8_i_i = get_P(v_a0);
+    v_r270_i_i_i = v_r4_sroa_0_0_copyload_i8_i_i + 1;
+    v_r272_i_i_i = v_r4_sroa_0_0_copyload_i8_i_i + 2;
+    v_r274_i_i_i = v_r4_sroa_0_0_copyload_i8_i_i + 3;
+    v_r276_i_i_i = v_r4_sroa_0_0_copyload_i8_i_i + 4;
+    v_r278_i_i_i = v_r4_sroa_0_0_copyload_i8_i_i + 5;
+    v_r280_i_i_i = v_r4_sroa_0_0_copyload_i8_i_i + 6;
+    v_r282_i_i_i = v_r4_sroa_0_0_copyload_i8_i_i + 7;
+    v_r284_i_i_i = v_r4_sroa_0_0_copyload_i8_i_i + 8;
     v_r309_i_i_i = v_r3_sroa_0_0_copyload_i + 1;
     v_r311_i_i_i = v_r3_sroa_0_0_copyload_i + 2;
     v_r313_i_i_i = v_r3_sroa_0_0_copyload_i + 3;
@@ -46549,7 +47583,7 @@ L_join_6_i_i:;
     v_r319_i_i_i = v_r3_sroa_0_0_copyload_i + 6;
     v_r321_i_i_i = v_r3_sroa_0_0_copyload_i + 7;
     v_r323_i_i_i = v_r3_sroa_0_0_copyload_i + 8;
-    v_r334_i_i_i = get_u8(v_r11_sroa_0_0_copyload_i9_i_i);
+    v_r334_i_i_i = get_u8(v_r4_sroa_0_0_copyload_i8_i_i);
     v_r336_i_i_i = get_u8(v_r3_sroa_0_0_copyload_i);
     v_r339_i_i_i = v_r334_i_i_i == v_r336_i_i_i;
     v_r342_i_i_i = get_u8(v_r270_i_i_i);
@@ -46587,62 +47621,62 @@ L_join_6_i_i:;
     if (v_r451_i_i_i) { goto L_then_7_i_i; } else { p_v_common_ret_op_i = 0u; goto L_pkcs1_c_algorithm_pkcs1_c_uses_hash_exit; }
 L_then_7_i_i:;
     v_r34_i_i = v_a1 + 24;
-    v_r12_i_i_i = v_a1 + 40;
-    v_r13_i_i_i = get_u8(v_r12_i_i_i);
-    v_r14_i_i_i = (u1)((v_r13_i_i_i) & 1);
-    if (v_r14_i_i_i) { goto L_then_1_i_i_i; } else { goto L_join_3_i_i_i; }
+    v_r8_i14_i_i = v_a1 + 40;
+    v_r9_i15_i_i = get_u8(v_r8_i14_i_i);
+    v_r10_i16_i_i = (u1)((v_r9_i15_i_i) & 1);
+    if (v_r10_i16_i_i) { goto L_else_2_i20_i_i; } else { goto L_then_1_i_i_i; }
+L_else_2_i20_i_i:;
+    v_r18_i21_i_i = v_a1 + 41;
+    v_r19_i22_i_i = get_u8(v_r18_i21_i_i);
+    v_r24_i24_i_i = v_r19_i22_i_i == 5u;
+    if (v_r24_i24_i_i) { goto L_pkcs1_c_algorithm_is_null_or_absent_exit34_i_i; } else { p_v_common_ret_op_i = 0u; goto L_pkcs1_c_algorithm_pkcs1_c_uses_hash_exit; }
+L_pkcs1_c_algorithm_is_null_or_absent_exit34_i_i:;
+    v_r7_sroa_3_0_r28_sroa_idx_i31_i_i = v_a1 + 56;
+    v_r7_sroa_3_0_copyload_i32_i_i = get_u64(v_r7_sroa_3_0_r28_sroa_idx_i31_i_i);
+    v_r7_i3_i = v_r7_sroa_3_0_copyload_i32_i_i == 0u;
+    if (v_r7_i3_i) { goto L_then_1_i_i_i; } else { p_v_common_ret_op_i = 0u; goto L_pkcs1_c_algorithm_pkcs1_c_uses_hash_exit; }
 L_then_1_i_i_i:;
-    v_r18_i_i_i = v_a1 + 41;
-    v_r19_i_i_i = get_u8(v_r18_i_i_i);
-    v_r24_not_i_i_i = v_r19_i_i_i == 5u;
-    if (v_r24_not_i_i_i) { goto L_else_7_i_i_i; } else { p_v_common_ret_op_i = 0u; goto L_pkcs1_c_algorithm_pkcs1_c_uses_hash_exit; }
-L_else_7_i_i_i:;
-    v_r9_sroa_3_0_r28_sroa_idx_i_i_i = v_a1 + 56;
-    v_r9_sroa_3_0_copyload_i_i_i = get_u64(v_r9_sroa_3_0_r28_sroa_idx_i_i_i);
-    v_r7_i3_i = v_r9_sroa_3_0_copyload_i_i_i == 0u;
-    if (v_r7_i3_i) { goto L_join_3_i_i_i; } else { p_v_common_ret_op_i = 0u; goto L_pkcs1_c_algorithm_pkcs1_c_uses_hash_exit; }
-L_join_3_i_i_i:;
-    v_r11_sroa_3_0_a0_sroa_idx_i_i_i = v_a1 + 32;
-    v_r11_sroa_3_0_copyload_i_i_i = get_u64(v_r11_sroa_3_0_a0_sroa_idx_i_i_i);
-    v_r128_not_i26_i_i = v_r11_sroa_3_0_copyload_i_i_i == v_r3_sroa_3_0_copyload_i;
-    if (v_r128_not_i26_i_i) { goto L_then_32_i48_i_i; } else { p_v_common_ret_op_i = 0u; goto L_pkcs1_c_algorithm_pkcs1_c_uses_hash_exit; }
-L_then_32_i48_i_i:;
-    v_r11_sroa_0_0_copyload_i_i_i = get_P(v_r34_i_i);
-    v_r270_i38_i_i = v_r11_sroa_0_0_copyload_i_i_i + 1;
-    v_r272_i39_i_i = v_r11_sroa_0_0_copyload_i_i_i + 2;
-    v_r274_i40_i_i = v_r11_sroa_0_0_copyload_i_i_i + 3;
-    v_r276_i41_i_i = v_r11_sroa_0_0_copyload_i_i_i + 4;
-    v_r278_i42_i_i = v_r11_sroa_0_0_copyload_i_i_i + 5;
-    v_r280_i43_i_i = v_r11_sroa_0_0_copyload_i_i_i + 6;
-    v_r282_i44_i_i = v_r11_sroa_0_0_copyload_i_i_i + 7;
-    v_r284_i45_i_i = v_r11_sroa_0_0_copyload_i_i_i + 8;
-    v_r334_i57_i_i = get_u8(v_r11_sroa_0_0_copyload_i_i_i);
-    v_r339_i59_i_i = v_r334_i57_i_i == v_r334_i_i_i;
-    v_r342_i60_i_i = get_u8(v_r270_i38_i_i);
-    v_r347_i62_i_i = v_r342_i60_i_i == v_r342_i_i_i;
-    v_r353_i63_i_i = (u1)(((u32)(v_r339_i59_i_i) & (u32)(v_r347_i62_i_i)) & 1);
-    v_r356_i64_i_i = get_u8(v_r272_i39_i_i);
-    v_r361_i66_i_i = v_r356_i64_i_i == v_r356_i_i_i;
-    v_r367_i67_i_i = (u1)(((u32)(v_r353_i63_i_i) & (u32)(v_r361_i66_i_i)) & 1);
-    v_r370_i68_i_i = get_u8(v_r274_i40_i_i);
-    v_r375_i70_i_i = v_r370_i68_i_i == v_r370_i_i_i;
-    v_r381_i71_i_i = (u1)(((u32)(v_r367_i67_i_i) & (u32)(v_r375_i70_i_i)) & 1);
-    v_r384_i72_i_i = get_u8(v_r276_i41_i_i);
-    v_r389_i74_i_i = v_r384_i72_i_i == v_r384_i_i_i;
-    v_r395_i75_i_i = (u1)(((u32)(v_r381_i71_i_i) & (u32)(v_r389_i74_i_i)) & 1);
-    v_r398_i76_i_i = get_u8(v_r278_i42_i_i);
-    v_r403_i78_i_i = v_r398_i76_i_i == v_r398_i_i_i;
-    v_r409_i79_i_i = (u1)(((u32)(v_r395_i75_i_i) & (u32)(v_r403_i78_i_i)) & 1);
-    v_r412_i80_i_i = get_u8(v_r280_i43_i_i);
-    v_r417_i82_i_i = v_r412_i80_i_i == v_r412_i_i_i;
-    v_r423_i83_i_i = (u1)(((u32)(v_r409_i79_i_i) & (u32)(v_r417_i82_i_i)) & 1);
-    v_r426_i84_i_i = get_u8(v_r282_i44_i_i);
-    v_r431_i86_i_i = v_r426_i84_i_i == v_r426_i_i_i;
-    v_r437_i87_i_i = (u1)(((u32)(v_r423_i83_i_i) & (u32)(v_r431_i86_i_i)) & 1);
-    v_r440_i88_i_i = get_u8(v_r284_i45_i_i);
-    v_r445_i90_i_i = v_r440_i88_i_i == v_r440_i_i_i;
-    v_r451_i91_i_i = (u1)(((u32)(v_r437_i87_i_i) & (u32)(v_r445_i90_i_i)) & 1);
-    { p_v_common_ret_op_i = v_r451_i91_i_i; goto L_pkcs1_c_algorithm_pkcs1_c_uses_hash_exit; }
+    v_r4_sroa_3_0_a0_sroa_idx_i_i_i = v_a1 + 32;
+    v_r4_sroa_3_0_copyload_i_i_i = get_u64(v_r4_sroa_3_0_a0_sroa_idx_i_i_i);
+    v_r128_not_i35_i_i = v_r4_sroa_3_0_copyload_i_i_i == v_r3_sroa_3_0_copyload_i;
+    if (v_r128_not_i35_i_i) { goto L_then_32_i57_i_i; } else { p_v_common_ret_op_i = 0u; goto L_pkcs1_c_algorithm_pkcs1_c_uses_hash_exit; }
+L_then_32_i57_i_i:;
+    v_r4_sroa_0_0_copyload_i_i_i = get_P(v_r34_i_i);
+    v_r270_i47_i_i = v_r4_sroa_0_0_copyload_i_i_i + 1;
+    v_r272_i48_i_i = v_r4_sroa_0_0_copyload_i_i_i + 2;
+    v_r274_i49_i_i = v_r4_sroa_0_0_copyload_i_i_i + 3;
+    v_r276_i50_i_i = v_r4_sroa_0_0_copyload_i_i_i + 4;
+    v_r278_i51_i_i = v_r4_sroa_0_0_copyload_i_i_i + 5;
+    v_r280_i52_i_i = v_r4_sroa_0_0_copyload_i_i_i + 6;
+    v_r282_i53_i_i = v_r4_sroa_0_0_copyload_i_i_i + 7;
+    v_r284_i54_i_i = v_r4_sroa_0_0_copyload_i_i_i + 8;
+    v_r334_i66_i_i = get_u8(v_r4_sroa_0_0_copyload_i_i_i);
+    v_r339_i68_i_i = v_r334_i66_i_i == v_r334_i_i_i;
+    v_r342_i69_i_i = get_u8(v_r270_i47_i_i);
+    v_r347_i71_i_i = v_r342_i69_i_i == v_r342_i_i_i;
+    v_r353_i72_i_i = (u1)(((u32)(v_r339_i68_i_i) & (u32)(v_r347_i71_i_i)) & 1);
+    v_r356_i73_i_i = get_u8(v_r272_i48_i_i);
+    v_r361_i75_i_i = v_r356_i73_i_i == v_r356_i_i_i;
+    v_r367_i76_i_i = (u1)(((u32)(v_r353_i72_i_i) & (u32)(v_r361_i75_i_i)) & 1);
+    v_r370_i77_i_i = get_u8(v_r274_i49_i_i);
+    v_r375_i79_i_i = v_r370_i77_i_i == v_r370_i_i_i;
+    v_r381_i80_i_i = (u1)(((u32)(v_r367_i76_i_i) & (u32)(v_r375_i79_i_i)) & 1);
+    v_r384_i81_i_i = get_u8(v_r276_i50_i_i);
+    v_r389_i83_i_i = v_r384_i81_i_i == v_r384_i_i_i;
+    v_r395_i84_i_i = (u1)(((u32)(v_r381_i80_i_i) & (u32)(v_r389_i83_i_i)) & 1);
+    v_r398_i85_i_i = get_u8(v_r278_i51_i_i);
+    v_r403_i87_i_i = v_r398_i85_i_i == v_r398_i_i_i;
+    v_r409_i88_i_i = (u1)(((u32)(v_r395_i84_i_i) & (u32)(v_r403_i87_i_i)) & 1);
+    v_r412_i89_i_i = get_u8(v_r280_i52_i_i);
+    v_r417_i91_i_i = v_r412_i89_i_i == v_r412_i_i_i;
+    v_r423_i92_i_i = (u1)(((u32)(v_r409_i88_i_i) & (u32)(v_r417_i91_i_i)) & 1);
+    v_r426_i93_i_i = get_u8(v_r282_i53_i_i);
+    v_r431_i95_i_i = v_r426_i93_i_i == v_r426_i_i_i;
+    v_r437_i96_i_i = (u1)(((u32)(v_r423_i92_i_i) & (u32)(v_r431_i95_i_i)) & 1);
+    v_r440_i97_i_i = get_u8(v_r284_i54_i_i);
+    v_r445_i99_i_i = v_r440_i97_i_i == v_r440_i_i_i;
+    v_r451_i100_i_i = (u1)(((u32)(v_r437_i96_i_i) & (u32)(v_r445_i99_i_i)) & 1);
+    { p_v_common_ret_op_i = v_r451_i100_i_i; goto L_pkcs1_c_algorithm_pkcs1_c_uses_hash_exit; }
 L_pkcs1_c_algorithm_pkcs1_c_uses_hash_exit:;
     v_common_ret_op_i = p_v_common_ret_op_i;
     return v_common_ret_op_i;
@@ -52964,7 +53998,7 @@ L_arm_1_i:;
     put_u64(v_r5_sroa_37_8_r3_sroa_idx_i, v_r17_sroa_0_sroa_0_0_i_i);
     v_r5_sroa_38_8_r3_sroa_idx_i = v_r3_i + 96;
     copy(v_r5_sroa_38_8_r3_sroa_idx_i, v_r5_sroa_38_i, 16u);
-    f_der_core_encode_AnyEncode_encoded_len_b37897193353(v_r10_i_i_i, v_r3_i);
+    f_der_core_encode_AnyEncode_encoded_len_f7113d2cfd57(v_r10_i_i_i, v_r3_i);
     v_r1_sroa_0_0_copyload_i_i_i_i = get_u8(v_r10_i_i_i);
     v_7 = v_r1_sroa_0_0_copyload_i_i_i_i == 0u;
     if (v_7) { goto L_arm_1_i_i_i; } else { goto L_arm_2_i_i_i; }
@@ -53361,17 +54395,17 @@ L_arm_1_i6_i:;
     { p_v_r6_0_i = 0u; goto L_pkcs1_c_container_pkcs1_c_private_key_info_encode_; }
 L_arm_2_i2_i:;
     v_r5_sroa_0_sroa_5_0_i_i = p_v_r5_sroa_0_sroa_5_0_i_i;
-    f_der_core_encode_AnyEncode_encoded_len_b37897193353(v_r1_i_i_i, v_r3_i);
+    f_der_core_encode_AnyEncode_encoded_len_f7113d2cfd57(v_r1_i_i_i, v_r3_i);
     v_r3_i_i_i = get_u8(v_r1_i_i_i);
     v_19 = v_r3_i_i_i == 0u;
-    if (v_19) { goto L_arm_1_i1_i_i; } else { goto L_pkcs1_c_written_set_needed_601cc59ec08ca4b8_exit_i; }
+    if (v_19) { goto L_arm_1_i1_i_i; } else { goto L_pkcs1_c_written_set_needed_aaf548ea19e120da_exit_i; }
 L_arm_1_i1_i_i:;
     v_r4_i_i_i = v_r1_i_i_i + 4;
     v_r0_sroa_0_0_copyload_i_i_i = get_u32(v_r4_i_i_i);
     v_r3_i_i2_i_i = (u64)v_r0_sroa_0_0_copyload_i_i_i;
     put_u64(v_a3, v_r3_i_i2_i_i);
-    { goto L_pkcs1_c_written_set_needed_601cc59ec08ca4b8_exit_i; }
-L_pkcs1_c_written_set_needed_601cc59ec08ca4b8_exit_i:;
+    { goto L_pkcs1_c_written_set_needed_aaf548ea19e120da_exit_i; }
+L_pkcs1_c_written_set_needed_aaf548ea19e120da_exit_i:;
     { p_v_r6_0_i = v_r5_sroa_0_sroa_5_0_i_i; goto L_pkcs1_c_container_pkcs1_c_private_key_info_encode_; }
 L_pkcs1_c_status_status_exit_i:;
     v_r5_sroa_8_0_ph_i = p_v_r5_sroa_8_0_ph_i;
@@ -53917,17 +54951,17 @@ L_pkcs1_public_key_RsaPublicKeyEncodeInParts_parts_l:;
     if (v_r7_i_not_i_i89_i_not_i_i_i_i_i) { p_v_r5_sroa_0_sroa_5_0_i_i = 7u; goto L_arm_2_i2_i; } else { goto L_arm_1_i_i_i_i_i; }
 L_arm_1_i_i_i_i_i:;
     v_r12_i_i_i_i_i_i_i = v_r11_i_i_i90_i_i_i_i_i_i < 128u;
-    if (v_r12_i_i_i_i_i_i_i) { p_v_r4_0_i_i_i_i_i_i_i = 2u; goto L_der_core_encode_AnyEncode_encoded_len_97c72389bc9e; } else { goto L_else_2_i_i_i_i_i_i_i; }
+    if (v_r12_i_i_i_i_i_i_i) { p_v_r4_0_i_i_i_i_i_i_i = 2u; goto L_der_core_encode_AnyEncode_encoded_len_4e773a763a53; } else { goto L_else_2_i_i_i_i_i_i_i; }
 L_else_2_i_i_i_i_i_i_i:;
     v_r17_i_i_i_i_i_i_i = v_r11_i_i_i90_i_i_i_i_i_i < 256u;
-    if (v_r17_i_i_i_i_i_i_i) { p_v_r4_0_i_i_i_i_i_i_i = 3u; goto L_der_core_encode_AnyEncode_encoded_len_97c72389bc9e; } else { goto L_else_5_i_i_i_i_i_i_i; }
+    if (v_r17_i_i_i_i_i_i_i) { p_v_r4_0_i_i_i_i_i_i_i = 3u; goto L_der_core_encode_AnyEncode_encoded_len_4e773a763a53; } else { goto L_else_5_i_i_i_i_i_i_i; }
 L_else_5_i_i_i_i_i_i_i:;
     v_r22_i_i_i_i_i_i_i = v_r11_i_i_i90_i_i_i_i_i_i < 65536u;
     v_r27_i_i_i_i_i_i_i = v_r11_i_i_i90_i_i_i_i_i_i < 16777216u;
     v_i_i_i_i_i_i_i = v_r27_i_i_i_i_i_i_i ? 5u : 6u;
     v_r8_0_i_i_i_i_i_i_i = v_r22_i_i_i_i_i_i_i ? 4u : v_i_i_i_i_i_i_i;
-    { p_v_r4_0_i_i_i_i_i_i_i = v_r8_0_i_i_i_i_i_i_i; goto L_der_core_encode_AnyEncode_encoded_len_97c72389bc9e; }
-L_der_core_encode_AnyEncode_encoded_len_97c72389bc9e:;
+    { p_v_r4_0_i_i_i_i_i_i_i = v_r8_0_i_i_i_i_i_i_i; goto L_der_core_encode_AnyEncode_encoded_len_4e773a763a53; }
+L_der_core_encode_AnyEncode_encoded_len_4e773a763a53:;
     v_r4_0_i_i_i_i_i_i_i = p_v_r4_0_i_i_i_i_i_i_i;
     v_r5_i_i_i_i_i_i_i_i = (u32)((u32)(v_r11_i_i_i90_i_i_i_i_i_i) ^ (u32)(4294967295ull));
     v_r7_i_not_i_i_i_i_not_i_i_i = v_r4_0_i_i_i_i_i_i_i > v_r5_i_i_i_i_i_i_i_i;
@@ -54346,7 +55380,7 @@ L_der_core_borrowed_BorrowedEncode_encoded_len_f4fc9__3:;
 L_der_core_encode_joined_len_exit_i_i_i_i7_i_i:;
     v_not_i_i_i8_i_i = p_v_not_i_i_i8_i_i;
     v_r24_sroa_13_0_sink_i_i_i_i_i9_i_i = p_v_r24_sroa_13_0_sink_i_i_i_i_i9_i_i;
-    if (v_r12_not_i_i_i_i_i28_i_i_i_i_i_i) { goto L_arm_1_i_i_i38_i_i_i_i16_i_i; } else { goto L_pkcs1_c_written_set_needed_2b8094a583d9ee70_exit_i; }
+    if (v_r12_not_i_i_i_i_i28_i_i_i_i_i_i) { goto L_arm_1_i_i_i38_i_i_i_i16_i_i; } else { goto L_pkcs1_c_written_set_needed_591aadb34dd1f643_exit_i; }
 L_arm_1_i_i_i38_i_i_i_i16_i_i:;
     v_r12_i_i_i_i_i39_i_i_i_i17_i_i = v_r4_sroa_10_0_i_i_i_i_i30_i_i_i_i_i_i < 128u;
     if (v_r12_i_i_i_i_i39_i_i_i_i17_i_i) { p_v_r4_0_i_i_i_i_i48_i_i_i_i26_i_i = 2u; goto L_der_core_borrowed_BorrowedEncode_encoded_len_f4fc9__4; } else { goto L_else_2_i_i_i_i_i40_i_i_i_i18_i_i; }
@@ -54364,36 +55398,36 @@ L_der_core_borrowed_BorrowedEncode_encoded_len_f4fc9__4:;
     v_r5_i_i_i_i_i_i49_i_i_i_i27_i_i = (u32)((u32)(v_r4_sroa_10_0_i_i_i_i_i30_i_i_i_i_i_i) ^ (u32)(4294967295ull));
     v_r7_i_not_i_i_i_i_i50_not_i_i_i_i28_i_i = v_r4_0_i_i_i_i_i48_i_i_i_i26_i_i > v_r5_i_i_i_i_i_i49_i_i_i_i27_i_i;
     v_brmerge_i_i_i29_i_i = (u1)(((u32)(v_not_i_i_i8_i_i) | (u32)(v_r7_i_not_i_i_i_i_i50_not_i_i_i_i28_i_i)) & 1);
-    if (v_brmerge_i_i_i29_i_i) { goto L_pkcs1_c_written_set_needed_2b8094a583d9ee70_exit_i; } else { goto L_pkcs1_public_key_RsaPublicKeyEncodeInParts_parts_l__2; }
+    if (v_brmerge_i_i_i29_i_i) { goto L_pkcs1_c_written_set_needed_591aadb34dd1f643_exit_i; } else { goto L_pkcs1_public_key_RsaPublicKeyEncodeInParts_parts_l__2; }
 L_pkcs1_public_key_RsaPublicKeyEncodeInParts_parts_l__2:;
     v_r11_i_i_i_i_i_i51_i_i_i_i31_i_i = (u32)((u32)(v_r4_0_i_i_i_i_i48_i_i_i_i26_i_i) + (u32)(v_r4_sroa_10_0_i_i_i_i_i30_i_i_i_i_i_i));
     v_r5_i_i_i88_i_i_i_i32_i_i = (u32)((u32)(v_r24_sroa_13_0_sink_i_i_i_i_i9_i_i) ^ (u32)(4294967295ull));
     v_r7_i_not_i_i89_i_not_i_i_i33_i_i = v_r11_i_i_i_i_i_i51_i_i_i_i31_i_i > v_r5_i_i_i88_i_i_i_i32_i_i;
     v_r11_i_i_i90_i_i_i_i34_i_i = (u32)((u32)(v_r11_i_i_i_i_i_i51_i_i_i_i31_i_i) + (u32)(v_r24_sroa_13_0_sink_i_i_i_i_i9_i_i));
-    if (v_r7_i_not_i_i89_i_not_i_i_i33_i_i) { goto L_pkcs1_c_written_set_needed_2b8094a583d9ee70_exit_i; } else { goto L_arm_1_i_i_i35_i_i; }
+    if (v_r7_i_not_i_i89_i_not_i_i_i33_i_i) { goto L_pkcs1_c_written_set_needed_591aadb34dd1f643_exit_i; } else { goto L_arm_1_i_i_i35_i_i; }
 L_arm_1_i_i_i35_i_i:;
     v_r12_i_i_i_i_i36_i_i = v_r11_i_i_i90_i_i_i_i34_i_i < 128u;
-    if (v_r12_i_i_i_i_i36_i_i) { p_v_r4_0_i_i_i_i_i45_i_i = 2u; goto L_der_core_encode_AnyEncode_encoded_len_97c72389bc9e__2; } else { goto L_else_2_i_i_i_i_i37_i_i; }
+    if (v_r12_i_i_i_i_i36_i_i) { p_v_r4_0_i_i_i_i_i45_i_i = 2u; goto L_der_core_encode_AnyEncode_encoded_len_4e773a763a53__2; } else { goto L_else_2_i_i_i_i_i37_i_i; }
 L_else_2_i_i_i_i_i37_i_i:;
     v_r17_i_i_i_i_i38_i_i = v_r11_i_i_i90_i_i_i_i34_i_i < 256u;
-    if (v_r17_i_i_i_i_i38_i_i) { p_v_r4_0_i_i_i_i_i45_i_i = 3u; goto L_der_core_encode_AnyEncode_encoded_len_97c72389bc9e__2; } else { goto L_else_5_i_i_i_i_i39_i_i; }
+    if (v_r17_i_i_i_i_i38_i_i) { p_v_r4_0_i_i_i_i_i45_i_i = 3u; goto L_der_core_encode_AnyEncode_encoded_len_4e773a763a53__2; } else { goto L_else_5_i_i_i_i_i39_i_i; }
 L_else_5_i_i_i_i_i39_i_i:;
     v_r22_i_i_i_i_i40_i_i = v_r11_i_i_i90_i_i_i_i34_i_i < 65536u;
     v_r27_i_i_i_i_i41_i_i = v_r11_i_i_i90_i_i_i_i34_i_i < 16777216u;
     v_i_i_i_i_i42_i_i = v_r27_i_i_i_i_i41_i_i ? 5u : 6u;
     v_r8_0_i_i_i_i_i43_i_i = v_r22_i_i_i_i_i40_i_i ? 4u : v_i_i_i_i_i42_i_i;
-    { p_v_r4_0_i_i_i_i_i45_i_i = v_r8_0_i_i_i_i_i43_i_i; goto L_der_core_encode_AnyEncode_encoded_len_97c72389bc9e__2; }
-L_der_core_encode_AnyEncode_encoded_len_97c72389bc9e__2:;
+    { p_v_r4_0_i_i_i_i_i45_i_i = v_r8_0_i_i_i_i_i43_i_i; goto L_der_core_encode_AnyEncode_encoded_len_4e773a763a53__2; }
+L_der_core_encode_AnyEncode_encoded_len_4e773a763a53__2:;
     v_r4_0_i_i_i_i_i45_i_i = p_v_r4_0_i_i_i_i_i45_i_i;
     v_r5_i_i_i_i_i_i46_i_i = (u32)((u32)(v_r11_i_i_i90_i_i_i_i34_i_i) ^ (u32)(4294967295ull));
     v_r7_i_not_i_i_i_i_not_i47_i_i = v_r4_0_i_i_i_i_i45_i_i > v_r5_i_i_i_i_i_i46_i_i;
-    if (v_r7_i_not_i_i_i_i_not_i47_i_i) { goto L_pkcs1_c_written_set_needed_2b8094a583d9ee70_exit_i; } else { goto L_arm_1_i48_i_i; }
+    if (v_r7_i_not_i_i_i_i_not_i47_i_i) { goto L_pkcs1_c_written_set_needed_591aadb34dd1f643_exit_i; } else { goto L_arm_1_i48_i_i; }
 L_arm_1_i48_i_i:;
     v_r11_i_i_i_i_i_i49_i_i = (u32)((u32)(v_r4_0_i_i_i_i_i45_i_i) + (u32)(v_r11_i_i_i90_i_i_i_i34_i_i));
     v_r3_i1_i_i_i = (u64)v_r11_i_i_i_i_i_i49_i_i;
     put_u64(v_a3, v_r3_i1_i_i_i);
-    { goto L_pkcs1_c_written_set_needed_2b8094a583d9ee70_exit_i; }
-L_pkcs1_c_written_set_needed_2b8094a583d9ee70_exit_i:;
+    { goto L_pkcs1_c_written_set_needed_591aadb34dd1f643_exit_i; }
+L_pkcs1_c_written_set_needed_591aadb34dd1f643_exit_i:;
     v_switch_offset_i_i_i = (u32)((u32)(v_r5_sroa_0_sroa_5_0_i_i) + (u32)(1u));
     { p_v_r6_0_i = v_switch_offset_i_i_i; goto L_pkcs1_c_public_key_pkcs1_c_public_key_encode_exit; }
 L_pkcs1_c_public_key_pkcs1_c_public_key_encode_exit:;
@@ -58770,6 +59804,16 @@ bool pkcs1_c_uses_hash(const struct pkcs1_algorithm *hash, const struct pkcs1_ma
     TAKE(own_oid, oid, BYTES);
     return proved_uses_hash(own, own_mask_gen, own_oid);
 }
+
+#define COMPARISON(name, type, FIELDS)                                                          \
+    bool pkcs1_c_##name(const struct pkcs1_##type *left, const struct pkcs1_##type *right) {    \
+        TAKE(own, left, FIELDS);                                                                \
+        TAKE(own_right, right, FIELDS);                                                         \
+        return proved_##name(own, own_right);                                                   \
+    }
+COMPARISON(algorithm_is_same_hash, algorithm, ALGORITHM)
+COMPARISON(pss_means_same, pss_params, PSS)
+COMPARISON(oaep_means_same, oaep_params, OAEP)
 
 bool pkcs1_c_oaep_label(const struct pkcs1_algorithm *source, struct pkcs1_bytes *label) {
     TAKE(own, source, ALGORITHM);

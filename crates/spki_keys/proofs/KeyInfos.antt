@@ -1,7 +1,10 @@
 -- A SubjectPublicKeyInfo as its grammar has it, and the RSA key in it. For `src/rsa.rt`.
-use Rattle.std.proofs.Common.{ℕ, List, [], ◌∷◌, ◌++◌, ◌≡◌, ◌≤◌, ◌∙◌, refl, sym, ap, subst, append-nil, Option, Some, None, take, length, length-append, arith, rules}
+use Rattle.std.proofs.Common.{ℕ, List, [], ◌∷◌, ◌++◌, ◌≡◌, ◌≤◌, ◌∙◌, refl, sym, ap, subst, append-nil, Option, Some, None, take, length, length-append, arith, rules, Ok, Err}
 use Rattle.der_core.specs.Words.{StatedAs, stated, Spells, optional_itself, tlv_fit}
 use Rattle.spki_core.specs.Words.{algorithm_map, is_identifier-sound}
+use Rattle.der_core.specs.declared.error.ErrorKind.{ErrorKind}
+use Rattle.pkcs1.proofs.RsaEncryption.{rsa_taken}
+use Rattle.pkcs1.specs.Words.{rsa_only}
 use Rattle.standard.specs.Statement.{Algorithm, Decodes, Encodes, IsAlgorithm, IsAny, PublicKey, TagAndContents, algorithm, any, integers, limit, rsa_encryption, sequence, tlv}
 use Rattle.spki_keys.specs.KeyInfo.{RsaKeyInfoEncoding}
 
@@ -62,6 +65,10 @@ key_info_law =
 -- rsaEncryption with NULL is an algorithm.
 rsa_encryption_is : IsAlgorithm IsAny rsa_encryption
 rsa_encryption_is = (is_identifier-sound rsa_encryption.oid (search rules) refl, (refl, tt))
+
+-- So what `require_rsa_encryption` refuses is another one.
+pub refused_is_another : (a : Algorithm TagAndContents) (k : ErrorKind) → rsa_only a ≡ Err k → a ≡ rsa_encryption → ⊥
+refused_is_another a k refused same = let never : Err k ≡ Ok tt = sym refused ∙ rsa_taken a same in cc
 
 -- An encoding of a key is one of the algorithm and the key.
 abbrev rsa_key_info : PublicKey → KeyInfo

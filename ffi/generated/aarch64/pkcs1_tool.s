@@ -6187,7 +6187,7 @@
 	b.hs	.LBB9_33
 .LBB9_56:
 	add	x0, sp, #48
-	bl	"der_core::decode::read_slowly::<#963873ccf5d50ada>"
+	bl	"der_core::decode::read_slowly::<#8b0eb46f8ee6a92f>"
 	ldur	q0, [sp, #56]
 	ldrb	w11, [sp, #48]
 	ldrb	w10, [sp, #49]
@@ -6244,10 +6244,10 @@
 	.zero	1
 	.zero	1
 	.zero	1
-	.section	".text.unlikely.der_core::decode::read_slowly::<#963873ccf5d50ada>","ax",@progbits
+	.section	".text.unlikely.der_core::decode::read_slowly::<#8b0eb46f8ee6a92f>","ax",@progbits
 	.p2align	2
-	.type	"der_core::decode::read_slowly::<#963873ccf5d50ada>",@function
-"der_core::decode::read_slowly::<#963873ccf5d50ada>":
+	.type	"der_core::decode::read_slowly::<#8b0eb46f8ee6a92f>",@function
+"der_core::decode::read_slowly::<#8b0eb46f8ee6a92f>":
 	.cfi_startproc
 	lsr	x8, x2, #32
 	cbnz	x8, .LBB10_9
@@ -6623,7 +6623,7 @@
 .LBB10_112:
 	brk	#0x1
 .Lfunc_end10:
-	.size	"der_core::decode::read_slowly::<#963873ccf5d50ada>", .Lfunc_end10-"der_core::decode::read_slowly::<#963873ccf5d50ada>"
+	.size	"der_core::decode::read_slowly::<#8b0eb46f8ee6a92f>", .Lfunc_end10-"der_core::decode::read_slowly::<#8b0eb46f8ee6a92f>"
 	.cfi_endproc
 
 	.section	".text.pkcs1_program::digits::put_hex","ax",@progbits

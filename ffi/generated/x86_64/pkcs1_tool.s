@@ -6370,7 +6370,7 @@
 	je	.LBB8_59
 .LBB8_61:
 	movq	%rsp, %rdi
-	callq	"der_core::decode::read_slowly::<#963873ccf5d50ada>"
+	callq	"der_core::decode::read_slowly::<#8b0eb46f8ee6a92f>"
 	movzbl	1(%rsp), %eax
 	movzbl	2(%rsp), %ecx
 	movzbl	3(%rsp), %edx
@@ -6413,10 +6413,10 @@
 	.size	"pkcs1::public_key::RsaPublicKeyUintRefTryFromRefSliceU8::try_from", .Lfunc_end8-"pkcs1::public_key::RsaPublicKeyUintRefTryFromRefSliceU8::try_from"
 	.cfi_endproc
 
-	.section	".text.unlikely.der_core::decode::read_slowly::<#963873ccf5d50ada>","ax",@progbits
+	.section	".text.unlikely.der_core::decode::read_slowly::<#8b0eb46f8ee6a92f>","ax",@progbits
 	.p2align	4
-	.type	"der_core::decode::read_slowly::<#963873ccf5d50ada>",@function
-"der_core::decode::read_slowly::<#963873ccf5d50ada>":
+	.type	"der_core::decode::read_slowly::<#8b0eb46f8ee6a92f>",@function
+"der_core::decode::read_slowly::<#8b0eb46f8ee6a92f>":
 	.cfi_startproc
 	pushq	%rbp
 	.cfi_def_cfa_offset 16
@@ -6805,7 +6805,7 @@
 .LBB9_105:
 	ud2
 .Lfunc_end9:
-	.size	"der_core::decode::read_slowly::<#963873ccf5d50ada>", .Lfunc_end9-"der_core::decode::read_slowly::<#963873ccf5d50ada>"
+	.size	"der_core::decode::read_slowly::<#8b0eb46f8ee6a92f>", .Lfunc_end9-"der_core::decode::read_slowly::<#8b0eb46f8ee6a92f>"
 	.cfi_endproc
 
 	.section	".text.pkcs1_program::digits::put_hex","ax",@progbits
