@@ -9,8 +9,9 @@ sys.path.insert(0, str(HERE.parent))
 import kept
 from prover import below
 
-# Edits of one crate by which this tool itself is tested: it must give credit to those called wrong, and to no other.
-DEMO, DEMO_CRATE = "tools/wrong_bodies/demo", "pkcs8_core"
+# Edits by which this tool itself is tested, below it in a folder for each crate: it must give credit to those called
+# wrong, and to no other.
+DEMO = "tools/wrong_bodies/demo"
 # The files of this program on which a verdict stands.
 PROGRAM = ("credit", "earlier", "edits", "functions", "holes", "prover", "rounds")
 

@@ -14,7 +14,7 @@ import os
 import sys
 
 sys.dont_write_bytecode = True
-from earlier import DEMO, DEMO_CRATE, is_demo, kept
+from earlier import DEMO, is_demo, kept
 from credit import NEEDS_NONE
 from edits import edits_in
 from prover import BROKEN, read_crates
@@ -57,8 +57,8 @@ def arguments():
 def main():
     given, crates = arguments(), read_crates()
     edits = {it: edits_in(f"crates/{it}/wrong") for it in given.names or crates}
-    if DEMO_CRATE in edits:
-        edits[DEMO_CRATE] += edits_in(DEMO)
+    for name in edits:
+        edits[name] += edits_in(f"{DEMO}/{name}")
     tried = [Crate(it, crates, edits[it], given.anew) for it in edits if edits[it]]
     tried.sort(key=lambda it: -len(it.edits))
     counts = collections.Counter()
