@@ -1,5 +1,5 @@
 //! A writer that fills a slice from its end.
-ghost use Rattle.std.specs.Prelude.{◌≤◌, length};
+ghost use Rattle.std.specs.Prelude.{◌≡◌, ◌+◌, ◌++◌, ◌≤◌, drop, length, take};
 
 use crate::header::Header;
 
@@ -11,8 +11,23 @@ pub struct BackWriter<'b> {
     ghost fits: { free ≤ length slice.now },
 }
 
+/// Copies the octets to where they end at an index, and says where they begin.
+#[inline(always)]
+fn fill(slice: &mut [u8], end: usize, bytes: &[u8]) -> usize
+    requires room { length bytes.now ≤ end }
+    requires within { end ≤ length slice.old }
+    ensures start { result + length bytes.now ≡ end }
+    ensures copied { slice.new ≡ take result slice.old ++ (bytes.now ++ drop end slice.old) }
+{
+    let start = end - bytes.len();
+    let (front, _) = slice.split_at_mut(end);
+    let (_, place) = front.split_at_mut(start);
+    place.copy_from_slice(bytes);
+    start
+}
+
 impl<'b> BackWriter<'b> {
-    ghost use Rattle.std.specs.Prelude.{◌≡◌, ◌+◌, ◌∷◌, drop};
+    ghost use Rattle.std.specs.Prelude.{◌∷◌};
     ghost use Rattle.der_core.specs.Length.{length_octets};
     ghost use Rattle.der_core.specs.Slices.{back_slice_of, free_of, Prepends};
 
@@ -41,17 +56,16 @@ impl<'b> BackWriter<'b> {
     }
 
     /// Writes the octets in front of what is filled.
+    #[inline(always)]
     pub fn prepend(&mut self, bytes: &[u8])
         requires { length bytes.now ≤ free_of self.old }
         ensures { Prepends bytes.now self.old self.new }
     {
-        let end = self.free;
-        let start = end - bytes.len();
-        self.slice[start..end].copy_from_slice(bytes);
-        self.free = start;
+        self.free = fill(self.slice, self.free, bytes);
     }
 
     /// Writes a header in front of what is filled.
+    #[inline(always)]
     #[tactic(auto, using(crate::proofs::Lengths::known_lengths))]
     pub fn prepend_header(&mut self, header: Header)
         requires { 1 + length (length_octets header.length) ≤ free_of self.old }

@@ -250,6 +250,7 @@ impl<'a, M: Memory> DecodeValue<&'a [u8], M> for UintRef<'a> {
 impl EncodeValue for UintRef<'_> {
     ghost refused = { λ _. ⊥ };
 
+    #[inline(always)]
     fn value_len(&self) -> Result<Length> {
         let zeros = if self.bytes[0] < 0x80 { 0 } else { 1 };
         Length::try_from(self.bytes.len() + zeros)
@@ -262,6 +263,7 @@ impl EncodeValue for UintRef<'_> {
         writer.write(self.bytes)
     }
 
+    #[inline(always)]
     fn prepend_value(&self, writer: &mut BackWriter<'_>) {
         writer.prepend(self.bytes);
         if self.bytes[0] >= 0x80 {

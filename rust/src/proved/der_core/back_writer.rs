@@ -9,6 +9,16 @@ pub struct BackWriter<'b> {
     free: usize,
 }
 
+/// Copies the octets to where they end at an index, and says where they begin.
+#[inline(always)]
+fn fill(slice: &mut [u8], end: usize, bytes: &[u8]) -> usize {
+    let start = end - bytes.len();
+    let (front, _) = slice.split_at_mut(end);
+    let (_, place) = front.split_at_mut(start);
+    place.copy_from_slice(bytes);
+    start
+}
+
 impl<'b> BackWriter<'b> {
     /// A writer over a slice, with nothing filled yet.
     pub fn new(slice: &'b mut [u8]) -> BackWriter<'b> {
@@ -27,14 +37,13 @@ impl<'b> BackWriter<'b> {
     }
 
     /// Writes the octets in front of what is filled.
+    #[inline(always)]
     pub(crate) fn prepend(&mut self, bytes: &[u8]) {
-        let end = self.free;
-        let start = end - bytes.len();
-        self.slice[start..end].copy_from_slice(bytes);
-        self.free = start;
+        self.free = fill(self.slice, self.free, bytes);
     }
 
     /// Writes a header in front of what is filled.
+    #[inline(always)]
     pub(crate) fn prepend_header(&mut self, header: Header) {
         let tag = header.tag.octet();
         let number = header.length.to_usize();

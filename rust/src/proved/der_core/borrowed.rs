@@ -20,6 +20,7 @@ impl<'b, T: Encoding> Encoding for Borrowed<'b, T> {
 }
 
 impl<'b, T: Encode> Encode for Borrowed<'b, T> {
+    #[inline(always)]
     fn encoded_len(&self) -> Result<Length> {
         self.0.encoded_len()
     }
@@ -28,6 +29,7 @@ impl<'b, T: Encode> Encode for Borrowed<'b, T> {
         self.0.encode(writer)
     }
 
+    #[inline(always)]
     fn prepend(&self, writer: &mut BackWriter<'_>) {
         self.0.prepend(writer);
     }

@@ -128,6 +128,7 @@ impl Encode for AnyRef<'_> {
         writer.write(self.contents)
     }
 
+    #[inline(always)]
     fn prepend(&self, writer: &mut BackWriter<'_>) {
         writer.prepend(self.contents);
         writer.prepend_header(self.header());
