@@ -61,7 +61,7 @@ code := $(GENERATED)/$(if $(filter c,$(CODE)),pkcs1_c.c,$(machine)/pkcs1_c.s)
 ifneq ($(machine),)
 $(if $(and $(filter c assembly,$(CODE)),$(wildcard $(code))),,$(error CODE is c or, on x86_64 and aarch64, assembly))
 endif
-tool := $(if $(filter x86_64 aarch64,$(machine)),$(OUT)/pkcs1_tool)
+tool := $(if $(wildcard $(GENERATED)/$(machine)/pkcs1_tool.s),$(OUT)/pkcs1_tool)
 # What is left to the link can't be made local; debuggers go back from each call; a program need not keep all of them.
 library := $(if $(filter windows archive,$(machine)),,-fPIC) -fno-lto -fasynchronous-unwind-tables \
     -ffunction-sections -fdata-sections

@@ -13,7 +13,8 @@ from typing import NamedTuple
 
 TOP = pathlib.Path(__file__).resolve().parents[2]
 MADE = {"src/proved": ["der_core", "spki_core", "pkcs1_params", "pkcs1", "pkcs8_core"],
-        "src/bin/pkcs1_tool/tool": ["pkcs1_program", "pkcs1_tool"]}
+        "src/bin/pkcs1_tool/tool": ["pkcs1_program", "pkcs1_tool"],
+        "c/src/calls": ["pkcs1_c"]}
 PLACES = {"std": "crate :: rattle_std", "arrayvec": "crate :: rattle_std :: arrayvec",
           "hex": "crate :: rattle_std :: hex"}
 PLACES |= {crate: f"crate :: {folder.split('/')[-1]} :: {crate}" for folder, its in MADE.items() for crate in its}
@@ -47,6 +48,7 @@ class Source:
     def __init__(self, crate, text):
         self.crate, self.words = crate, words_of(text)
         self.behind, self.around, opened = {}, [], [-1]
+        self.passed = None  # what the body of the call for C that stands here begins with
         for at in range(len(self.words)):
             if self[at] in CLOSE:
                 self.behind[opened.pop()] = at + 1
@@ -127,6 +129,30 @@ class Source:
         name = self.crate if self[at] == "crate" else self[at]
         return (1, PLACES[name]) if name in PLACES else None
 
+    def empty(self, at):
+        of_tool = self.crate in MADE["src/bin/pkcs1_tool/tool"]
+        return None if of_tool or not self.says(at, "& [ ]") else (3, "crate :: rattle_std :: NO_OCTETS")
+
+    def call(self, at):
+        """A slice that C passes is an address and a length, of which the body of the call makes one."""
+        if self.says(at, 'extern "C" fn') and self.around[at] < 0:
+            self.passed = []
+        if self.passed is None:
+            return None
+        if self[at] == "&" and self[at - 1] == ":" and self[self.around[at]] == "(" and self.around[self.around[at]] < 0:
+            begin = next(it for it in range(at + 1, at + 4) if not (self[it] == "mut" or self[it].startswith("'")))
+            if self[begin] != "[":
+                return None
+            end, name, many = self.behind[begin], self[at - 2], self[begin - 1] == "mut"
+            self.passed.append(f"let {name} = unsafe {{ core :: slice :: from_raw_parts{'_mut' if many else ''} "
+                               f"( {name} , {name}_len ) }} ;")
+            of = " ".join(self[it] for it in range(begin + 1, end - 1))
+            return end - at, f"* {'mut' if many else 'const'} {of} , {name}_len : usize"
+        if self[at] == "{" and self.around[at] < 0:
+            passed, self.passed = self.passed, None
+            return (1, " ".join(["{", *passed])) if passed else None
+        return None
+
     def entry(self, at):
         """`main` of a program is public, and a test makes the runtime that it is given."""
         if self.says(at, "fn main (") and self.around[at] < 0:
@@ -157,7 +183,7 @@ class Source:
     def formed(self, at):
         """The first form that stands here: its name, how many tokens it has, and what must stand in its place."""
         for form in (self.ghost, self.clause, self.tactic, self.final, self.drop, self.clone, self.formatter,
-                     self.path, self.entry, self.narrowed):
+                     self.path, self.empty, self.call, self.entry, self.narrowed):
             found = form(at)
             if found:
                 return form.__name__, found[0], found[1].split()

@@ -14,7 +14,7 @@ import re
 import sys
 
 sys.dont_write_bytecode = True
-from forms import FORMS, LIBRARY, PRELUDE, PRELUDE_MACROS, PROGRAMS, TOOL, above_docs  # noqa: E402
+from forms import CALLS, FORMS, LIBRARY, PRELUDE, PRELUDE_MACROS, PROGRAMS, TOOL, above_docs  # noqa: E402
 from tokens import Code, Refused  # noqa: E402
 
 TOP = pathlib.Path(__file__).resolve().parents[2]
@@ -22,6 +22,7 @@ TOP = pathlib.Path(__file__).resolve().parents[2]
 FOLDERS = {
     "rust/src/proved": (LIBRARY, "The proved crates, without what is there for the proof."),
     "rust/src/bin/pkcs1_tool/tool": (TOOL, "The program, without what is there for the proof."),
+    "rust/c/src/calls": (CALLS, "The calls for C, without what is there for the proof."),
 }
 
 

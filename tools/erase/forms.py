@@ -3,6 +3,7 @@
 A form is a function of the code and of a place in it. It gives an edit if it stands there, and else nothing. Its first
 sentence stands in README.md too.
 """
+import functools
 import re
 from dataclasses import dataclass
 
@@ -10,9 +11,10 @@ from tokens import Refused
 
 LIBRARY = ("der_core", "spki_core", "pkcs1_params", "pkcs1", "pkcs8_core")
 TOOL = ("pkcs1_program", "pkcs1_tool")
+CALLS = ("pkcs1_c",)
 PROGRAMS = ("examples", "pkcs1_vectors")
 # Where a path begins that the crate has elsewhere.
-MOVED = {it: f"crate::{place}::{it}" for place, crates in (("proved", LIBRARY), ("tool", TOOL), ("programs", PROGRAMS))
+MOVED = {it: f"crate::{place}::{it}" for place, crates in (("proved", LIBRARY), ("tool", TOOL), ("calls", CALLS), ("programs", PROGRAMS))
          for it in crates} \
     | {"std": "crate::rattle_std", "arrayvec": "crate::rattle_std::arrayvec", "hex": "crate::rattle_std::hex"}
 # Methods of public types that take or give what the crate doesn't make public: Global, Reader, ArrayVec.
@@ -206,6 +208,61 @@ def field_with_invariant(code, at):
     return Edit(code.tokens[at].begin, code.tokens[at].end, "pub(crate)")
 
 
+def empty_slice(code, at):
+    """An empty slice `&[]` is one with an address of its own, `NO_OCTETS`."""
+    if code.crate not in LIBRARY + CALLS or not code.reads(at, "& [ ]"):
+        return None
+    return Edit(code.tokens[at].begin, code.tokens[at + 2].end, "crate::rattle_std::NO_OCTETS")
+
+
+@functools.cache
+def slices_of_calls(code):
+    """The calls for C: by where its body begins, each call's parameters that are slices: of each the name, where its
+    type begins and ends, and whether it is written to."""
+    calls = {}
+    for at in range(len(code.tokens)):
+        if code.around[at] is not None or not code.reads(at, 'extern "C" fn'):
+            continue
+        open_ = code.find(at, "(")
+        body = code.find(code.closing[open_] + 1, ("{", ";", "requires", "ensures"))
+        while clause_end(code, body) != body:
+            body = clause_end(code, body)
+        calls[body] = []
+        it = open_ + 1
+        while it < code.closing[open_]:
+            kind = it + 3 + (code.tokens[it + 3].kind == "lifetime")
+            written = code.word(kind) == "mut"
+            if code.word(it + 2) == "&" and code.word(kind + written) == "[":
+                calls[body].append((code.word(it), it + 2, code.closing[kind + written], written))
+            it = code.find(it, ",)") + 1
+    return calls
+
+
+def slice_of_call(code, at):
+    """A slice that C passes is an address and a length: the parameter of a call is two."""
+    if code.word(at) != "&" or code.word(at - 1) != ":" or 'extern "C"' not in code.text:
+        return None
+    for name, begin, end, written in (it for slices in slices_of_calls(code).values() for it in slices):
+        if begin == at:
+            first = next(it for it in range(at, end) if code.closing.get(it) == end)
+            of = code.text[code.tokens[first].end:code.tokens[end].begin]
+            return Edit(code.tokens[at].begin, code.tokens[end].end,
+                        f"{'*mut' if written else '*const'} {of}, {name}_len: usize")
+    return None
+
+
+def body_of_call(code, at):
+    """The body of a call for C begins with the slices of these addresses and lengths."""
+    if code.word(at) != "{" or code.around[at] is not None or 'extern "C"' not in code.text:
+        return None
+    slices = slices_of_calls(code).get(at)
+    if not slices:
+        return None
+    lines = "".join(f"\n    let {name} = unsafe {{ core::slice::from_raw_parts{'_mut' * written}({name}, {name}_len) }};"
+                    for name, _, _, written in slices)
+    return Edit(code.tokens[at].begin, code.tokens[at].end, "{" + lines)
+
+
 def main_of_program(code, at):
     """`main` of a program is public, so that another `main` calls it."""
     if code.reads(at, "fn main (") and code.around[at] is None and code.crate in TOOL + PROGRAMS:
@@ -231,5 +288,6 @@ def refused(code, at):
 
 
 FORMS = (ghost_item, clauses, tactic, derive_of_drop, bound_of_drop, final, clone_that_may_fail, writer_of_fmt,
-         formatter, path, method_with_requires, method_of_the_inside, field_with_invariant, main_of_program,
+         formatter, path, method_with_requires, method_of_the_inside, field_with_invariant, empty_slice, slice_of_call,
+         body_of_call, main_of_program,
          runtime_of_test, refused)

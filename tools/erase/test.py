@@ -124,6 +124,7 @@ class Planted(unittest.TestCase):
         self.addCleanup(self.room.cleanup)
         self.folder = pathlib.Path(self.room.name)
         shutil.copytree(erase.TOP / "rust/src", self.folder / "src")
+        shutil.copytree(erase.TOP / "rust/c/src", self.folder / "c/src")
 
     def messages_of(self, file):
         """What compare.py says, of this file alone if it is made of a source."""

@@ -8,6 +8,11 @@ mod vec;
 pub use core::{cmp, fmt, hash, result};
 pub use files::{fs, io, path, rt};
 
+static AN_OCTET: [u8; 1] = [0];
+
+/// An empty slice with an address. Rust has none for `&[]`, but C asks for one that lies in an object.
+pub const NO_OCTETS: &[u8] = AN_OCTET.split_at(0).0;
+
 /// Names that stand in the prelude of Rattle.
 pub mod prelude {
     pub use super::vec::Vec;

@@ -10,11 +10,10 @@ import os
 import re
 import sys
 
-from calls import attributes
+from calls import WORDS, attributes
 from constants import constant
-from equal import by_memcmp
 from functions import Function
-from ir_types import Struct, type_of
+from ir_types import Struct, name_type, type_of
 from operands import Globals
 from reading import Line, Refused
 
@@ -29,6 +28,7 @@ class Module:
     def __init__(self):
         self.names, self.structs, self.memory = Globals("f_"), set(), set()
         self.constants, self.headers, self.bodies = [], [], []
+        self.sums = set()  # structs of a sum and whether it has more bits
 
     def header(self, line, scope):
         """Takes a function's head, and gives it in C."""
@@ -54,11 +54,13 @@ class Module:
 
     def declaration(self, text):
         """A function of another file, or LLVM's own, which calls say in other words."""
+        if "(metadata)" in text:
+            return
         line = Line(text)
         line.expect("declare")
         name, made = self.header(line, Function(self))
         line.end()
-        if not name.startswith("@llvm."):
+        if not name.startswith("@llvm.") and name not in WORDS:
             self.headers.append(made + ";")
 
     def definition(self, text, lines):
@@ -67,11 +69,13 @@ class Module:
         line.expect("define")
         scope = Function(self)
         name, made = self.header(line, scope)
+        if line.peek() == "!dbg":
+            line.take(), line.take()
         made = f"static {'ONCE ' if DECODER.fullmatch(name) else ''}{made}"
         line.expect("{")
         line.end()
         self.headers.append(made + ";")
-        self.bodies.append(by_memcmp(name, "\n".join([made + " {", *scope.body(lines), "}"])))
+        self.bodies.append("\n".join([made + " {", *scope.body(lines), "}"]))
 
     def read(self, lines):
         """All lines of the module."""
@@ -79,6 +83,8 @@ class Module:
         for text in lines:
             if text.startswith("@"):
                 self.constants.append(constant(text, self.names))
+            elif text.startswith("%"):
+                name_type(Line(text))
             elif text.startswith("declare "):
                 self.declaration(text)
             elif text.startswith("define "):
@@ -90,7 +96,9 @@ class Module:
         """What the C file has between its head and its border."""
         structs = [f"{it} {{ {' '.join(f'{of} f{n};' for n, of in enumerate(it.fields))} }};"
                    for it in sorted(self.structs, key=str)]
-        parts = [*sorted(self.memory), *structs, *self.constants, *self.headers, *self.bodies]
+        sums = [f"static inline {it} sum_{it.fields[0]}({it.fields[0]} a, {it.fields[0]} b) {{ {it} made; "
+                f"made.f0 = ({it.fields[0]})(a + b); made.f1 = made.f0 < a; return made; }}" for it in sorted(self.sums, key=str)]
+        parts = [*sorted(self.memory), *structs, *sums, *self.constants, *self.headers, *self.bodies]
         return "\n".join(parts) + "\n"
 
 

@@ -1,7 +1,7 @@
 """Calls, and those of LLVM's own functions, which C says in other words."""
 import re
 
-from ir_types import Integer, Void, type_of
+from ir_types import Integer, Struct, Void, type_of
 from operands import operand
 from reading import Refused
 
@@ -76,12 +76,24 @@ def of_zeros(given):
     return type_, f"ZEROS({type_.bits}, {value})"
 
 
+def of_overflow(given):
+    """A call that gives the sum of two numbers, and whether it is one of more bits."""
+    type_ = given[0][0]
+    if type_.bits not in (32, 64):
+        raise Refused(f"not known: the sum of numbers of {type_.bits} bits")
+    return Struct((type_, Integer(1))), f"sum_{type_}({given[0][1]}, {given[1][1]})"
+
+
 INTRINSICS = {
     "memcpy": of_memory("copy"), "memmove": of_memory("move"), "memset": of_memory("fill"),
     "lifetime.start": of_nothing, "lifetime.end": of_nothing, "assume": of_nothing, "trap": of_trap,
     "umin": of_two("{a} < {b} ? {a} : {b}"), "umax": of_two("{a} > {b} ? {a} : {b}"),
-    "usub.sat": of_two("{a} > {b} ? {a} - {b} : 0u"), "bswap": of_order, "ctlz": of_zeros,
+    "usub.sat": of_two("{a} > {b} ? {a} - {b} : 0u"), "bswap": of_order, "uadd.with.overflow": of_overflow, "ctlz": of_zeros,
 }
+
+
+# Functions that the C has otherwise.
+WORDS = {"@bcmp": "unlike", "@memcmp": "unlike", "@pkcs1_stop": "TRAP"}
 
 
 def intrinsic(line, result, name, scope):
@@ -89,17 +101,21 @@ def intrinsic(line, result, name, scope):
     parts = name.split(".")[1:]
     while re.fullmatch(r"p0|i\d+", parts[-1]):
         parts.pop()
+    # What holds may be left unsaid.
+    if ".".join(parts) in ("assume", "experimental.noalias.scope.decl"):
+        line.at = len(line.tokens)
+        return
     if ".".join(parts) not in INTRINSICS:
         raise line.refused()
     line.take()
-    if parts == ["assume"]: # what holds may be left unsaid
-        line.at = len(line.tokens)
-        return
     type_, expression = INTRINSICS[".".join(parts)](arguments(line, scope))
     if isinstance(type_, Void) != (result is None):
         raise line.refused()
     if result is None:
         scope.say(f"{expression};" if expression else "")
+    elif isinstance(type_, Struct):
+        scope.module.sums.add(type_)
+        scope.let(result, type_, expression)
     elif isinstance(type_, Integer) and type_.bits == type_.width:
         scope.let(result, type_, expression)
     else:
@@ -119,7 +135,7 @@ def call(line, result, scope):
     else:
         line.take()
         given = arguments(line, scope)
-        made = f"{scope.module.names[name]}({', '.join(it for _, it in given)})"
+        made = f"{WORDS.get(name) or scope.module.names[name]}({', '.join(it for _, it in given)})"
         if result is None or isinstance(type_, Void):
             scope.say(f"{made};")
         else:

@@ -37,7 +37,9 @@ def constant(text, names):
     found = CONSTANT.match(text)
     if not found:
         raise Refused(f"not known: {text[:200]}")
-    line = Line(found[2])
+    # A packed struct of one row is that row.
+    line = Line(re.sub(r"^<\{ (\[\d+ x i8\]) \}> (?:<\{ \[\d+ x i8\] (.*) \}>|zeroinitializer)(, align \d+)?$",
+                       lambda it: f"{it[1]} {it[2] or 'zeroinitializer'}{it[3] or ''}", found[2]))
     type_ = type_of(line)
     if not isinstance(type_, Array) or not isinstance(type_.element, Integer):
         raise line.refused()

@@ -4,7 +4,7 @@ import re
 from ir_types import Integer, Pointer, Struct, type_of
 from opcodes import OPCODES
 from operands import Names, operand
-from reading import NAME, Line, Refused
+from reading import METADATA, NAME, Line, Refused
 
 LABEL = re.compile(r'("[^"]*"|[-$.\w]+):(?:\s*;.*)?$')
 RESULT = re.compile(rf"\s*({NAME}) = ")
@@ -15,9 +15,9 @@ def instructions_of(lines):
     made = []
     for text in lines:
         if made and re.match(r"\s+switch ", made[-1]) and not made[-1].endswith("]"):
-            made[-1] += " " + text.strip()
-        elif text.strip() and not text.lstrip().startswith(";"):
-            made.append(text.rstrip())
+            made[-1] += " " + METADATA.sub("", text.strip())
+        elif text.strip() and not text.lstrip().startswith((";", "#dbg_")):
+            made.append(METADATA.sub("", text.rstrip()))
     return made
 
 

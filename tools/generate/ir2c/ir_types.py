@@ -92,9 +92,39 @@ class Array:
         return self.count * self.element.octets
 
 
+# The types that the module has given names, and the octets that each takes in memory.
+NAMED = {}
+
+
+@dataclass(frozen=True)
+class Named:
+    """A struct with a name, which is only counted."""
+
+    octets: int
+
+
+def octets_in_struct(type_):
+    """The octets that a struct takes whose fields are all words, or such structs."""
+    if isinstance(type_, Struct):
+        return sum(map(octets_in_struct, type_.fields))
+    if type_.octets != 8:
+        raise Refused(f"not known: {type_} in a struct with a name")
+    return 8
+
+
+def name_type(line):
+    """Takes the definition of a type with a name."""
+    name = line.take()
+    line.expect("=", "type")
+    NAMED[name] = Named(octets_in_struct(type_of(line)))
+    line.end()
+
+
 def type_of(line):
     """Takes a type."""
     token = line.take()
+    if token in NAMED:
+        return NAMED[token]
     if re.fullmatch(r"i[1-9]\d*", token):
         return Integer(int(token[1:]))
     if token == "ptr":

@@ -120,13 +120,14 @@ def pointer(line, source, target, value):
 
 
 def place(line, result, scope):
-    """alloca: a row of octets of the function. Those of other blocks than the first would be new each time."""
+    """alloca: a row of octets of the function, zero at first, as some are copied that nothing looks at. Those of other
+    blocks than the first would be new each time."""
     type_ = type_of(line)
     line.expect(",", "align")
     alignment = line.number()
     if not scope.is_first_block():
         raise line.refused()
-    scope.declare(f"ALIGNED({alignment}) unsigned char m_{scope.registers[result]}[{max(type_.octets, 1)}]")
+    scope.declare(f"ALIGNED({alignment}) unsigned char m_{scope.registers[result]}[{max(type_.octets, 1)}] = {{0}}")
     scope.let(result, Pointer(), f"AT(m_{scope.registers[result]})")
 
 

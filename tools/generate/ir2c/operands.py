@@ -7,6 +7,21 @@ from ir_types import Integer, Pointer
 EXTERNAL = re.compile(r"@(pkcs1_c_\w+|rattle_\w+)")
 
 
+def told(name):
+    """Of a name that rustc has coded (v0), the last two words of its path; else the name."""
+    if not name.startswith("_R"):
+        return name
+    words, at = [], 2
+    while at < len(name):
+        found = re.compile(r"(?<![0-9])([1-9]\d?)_?([a-z_]\w*)").match(name, at)
+        if found and len(found[2]) >= int(found[1]):
+            words.append(found[2][:int(found[1])])
+            at = found.start(2) + int(found[1])
+        else:
+            at += 1
+    return "_".join(words[-2:]) or name
+
+
 class Names:
     """Names in C for those of the module or of a function, each another one."""
 
@@ -16,7 +31,7 @@ class Names:
 
     def __getitem__(self, name):
         if name not in self.names:
-            plain = self.prefix + re.sub(r"[^A-Za-z0-9]+", "_", name[1:]).strip("_")[:50]
+            plain = self.prefix + re.sub(r"[^A-Za-z0-9]+", "_", told(name[1:])).strip("_")[:50]
             made, count = plain, 1
             while made in self.used:
                 count += 1

@@ -8,7 +8,7 @@ pub mod test;
 mod tool;
 
 pub use std::{cell, hash, mem};
-pub use tool::{alloc, arrayvec, cmp, env, fmt, fs, io, marker, os, path, result, rt};
+pub use tool::{NO_OCTETS, alloc, arrayvec, cmp, env, fmt, fs, io, marker, os, path, result, rt};
 
 use alloc::{AllocError, Global};
 use prelude::{HostRuntime, String, Vec};

@@ -83,7 +83,7 @@ impl<'a> OtherPrimes<'a> {
     /// An iterator over no primes.
     pub(crate) fn none() -> OtherPrimes<'a> {
         OtherPrimes {
-            bytes: &[],
+            bytes: crate::rattle_std::NO_OCTETS,
             left: 0,
         }
     }

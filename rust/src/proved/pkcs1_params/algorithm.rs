@@ -86,7 +86,7 @@ fn parameters_of<'a, O: IdentifierValue, T: AlgorithmParams<'a>>(
 fn encoded_parameters<'a, T: AlgorithmParams<'a>>(identifier: &'a [u8]) -> &'a [u8] {
     match AnyRef::from_der(NoMemory, identifier) {
         Ok(any) => behind(any.value(), 2 + T::Oid::octets().len()),
-        Err(_) => &[],
+        Err(_) => crate::rattle_std::NO_OCTETS,
     }
 }
 
@@ -95,7 +95,7 @@ fn behind(octets: &[u8], count: usize) -> &[u8] {
     if count <= octets.len() {
         &octets[count..]
     } else {
-        &[]
+        crate::rattle_std::NO_OCTETS
     }
 }
 

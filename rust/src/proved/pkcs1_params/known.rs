@@ -188,14 +188,14 @@ pub fn encode_known_pss(
 ) -> Option<Written> {
     let (hash, under) = known_hashes(hash, mask_gen, under)?;
     if salt_len == RsaPssParamsRef::SALT_LEN_DEFAULT {
-        return Some(put(hash, under, &[], &[], place, out));
+        return Some(put(hash, under, crate::rattle_std::NO_OCTETS, crate::rattle_std::NO_OCTETS, place, out));
     }
     if salt_len < 0x80 {
         let salt = [0xa2, 0x03, 0x02, 0x01, salt_len];
-        return Some(put(hash, under, &salt, &[], place, out));
+        return Some(put(hash, under, &salt, crate::rattle_std::NO_OCTETS, place, out));
     }
     let salt = [0xa2, 0x04, 0x02, 0x02, 0x00, salt_len];
-    Some(put(hash, under, &salt, &[], place, out))
+    Some(put(hash, under, &salt, crate::rattle_std::NO_OCTETS, place, out))
 }
 
 /// How many octets a label may not have whose length, and those around it, are written as one octet each.
@@ -221,7 +221,7 @@ pub fn encode_known_oaep(
     }
     let (hash, under) = known_hashes(hash, mask_gen, under)?;
     if label.is_empty() {
-        return Some(put(hash, under, &[], &[], place, out));
+        return Some(put(hash, under, crate::rattle_std::NO_OCTETS, crate::rattle_std::NO_OCTETS, place, out));
     }
     let later = label_front(label.len() as u8);
     Some(put(hash, under, &later, label, place, out))

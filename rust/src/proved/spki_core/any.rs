@@ -32,7 +32,7 @@ impl<'a> AnyRef<'a> {
     pub const fn null() -> AnyRef<'static> {
         AnyRef {
             tag: WideTag::of(Tag::NULL),
-            contents: &[],
+            contents: crate::rattle_std::NO_OCTETS,
         }
     }
 
@@ -165,6 +165,6 @@ pub trait AnyParams<M: Memory>: AnyValue + Sized {
 impl<'a, M: Memory> AnyParams<M> for AnyRef<'a> {
     fn empty(_memory: M, tag: Tag) -> AnyRef<'a> {
         let tag = WideTag::of(tag);
-        AnyRef { tag, contents: &[] }
+        AnyRef { tag, contents: crate::rattle_std::NO_OCTETS }
     }
 }

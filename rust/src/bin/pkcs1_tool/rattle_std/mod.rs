@@ -8,7 +8,7 @@ mod text;
 mod vec;
 
 pub use files::{fs, os, path, rt};
-pub use library::{alloc, arrayvec, cmp, fmt, hash, marker, result};
+pub use library::{NO_OCTETS, alloc, arrayvec, cmp, fmt, hash, marker, result};
 pub use std::io;
 
 use alloc::Global;

@@ -1,0 +1,125 @@
+// Made of crates/pkcs1_c/src/oaep.rt by tools/erase/erase.py, and not to be edited.
+//! Parameters of RSAES-OAEP.
+
+use crate::calls::pkcs1_c::algorithm::{
+    Algorithm, MaskGen, from_c_algorithm, from_c_mask_gen, has_tag, have_null, to_c_algorithm,
+    to_c_mask_gen,
+};
+use crate::calls::pkcs1_c::bytes::Bytes;
+use crate::calls::pkcs1_c::filled::fill;
+use crate::calls::pkcs1_c::status::{OK, status};
+use crate::calls::pkcs1_c::written::{write_params, written_status};
+use crate::proved::der_core::Tag;
+use crate::proved::pkcs1::RsaOaepParamsView;
+use crate::proved::pkcs1_params::{Place, Written, encode_known_oaep, is_p_specified};
+
+/// Parameters of RSAES-OAEP.
+#[repr(C)]
+#[derive(Clone, Copy)]
+pub struct OaepParams<'a> {
+    /// The hash function.
+    pub hash: Algorithm<'a>,
+    /// The mask generation function.
+    pub mask_gen: MaskGen<'a>,
+    /// Where the label comes from.
+    pub p_source: Algorithm<'a>,
+}
+
+/// The C struct of parameters.
+pub(crate) fn to_c_oaep<'a>(read: &RsaOaepParamsView<'a>) -> OaepParams<'a> {
+    OaepParams {
+        hash: to_c_algorithm(&read.hash),
+        mask_gen: to_c_mask_gen(&read.mask_gen),
+        p_source: to_c_algorithm(&read.p_source),
+    }
+}
+
+/// The parameters of a C struct.
+pub(crate) fn from_c_oaep<'a>(params: &OaepParams<'a>) -> crate::proved::pkcs1::Result<RsaOaepParamsView<'a>> {
+    Ok(RsaOaepParamsView {
+        hash: from_c_algorithm(&params.hash)?,
+        mask_gen: from_c_mask_gen(&params.mask_gen)?,
+        p_source: from_c_algorithm(&params.p_source)?,
+    })
+}
+
+/// Decodes parameters of RSAES-OAEP. Returns 0 and fills `params` with parts of `encoding` and of static defaults, or
+/// returns the status of the first fault.
+#[unsafe(no_mangle)]
+pub extern "C" fn pkcs1_c_oaep_params_decode<'a>(
+    encoding: *const u8, encoding_len: usize,
+    params: &mut OaepParams<'a>,
+) -> u32 {
+    let encoding = unsafe { core::slice::from_raw_parts(encoding, encoding_len) };
+    fill!(params, RsaOaepParamsView::try_from(encoding), to_c_oaep)
+}
+
+/// Decodes parameters of RSAES-OAEP as `pkcs1_c_oaep_params_decode` does, but only from their shortest encoding: one
+/// with a default that is written out is rejected with status 5.
+#[unsafe(no_mangle)]
+pub extern "C" fn pkcs1_c_oaep_params_decode_strict<'a>(
+    encoding: *const u8, encoding_len: usize,
+    params: &mut OaepParams<'a>,
+) -> u32 {
+    let encoding = unsafe { core::slice::from_raw_parts(encoding, encoding_len) };
+    fill!(
+        params,
+        RsaOaepParamsView::from_der_strict(encoding),
+        to_c_oaep
+    )
+}
+
+/// Writes the shortest encoding of the parameters, alone or in an algorithm identifier, if it is known.
+#[inline(always)]
+pub(crate) fn write_known(params: &OaepParams<'_>, place: Place, out: &mut [u8]) -> Option<Written> {
+    let source = &params.p_source;
+    if !have_null(&params.hash, &params.mask_gen) || !has_tag(source, Tag::OCTET_STRING) {
+        return None;
+    }
+    let mask_gen = &params.mask_gen;
+    let (hash, under) = (params.hash.oid, mask_gen.hash.oid);
+    encode_known_oaep(
+        hash,
+        mask_gen.oid,
+        under,
+        source.oid,
+        source.parameters,
+        place,
+        out,
+    )
+}
+
+/// Writes the shortest encoding of the parameters, field by field, as `pkcs1_c_oaep_params_encode` does.
+#[inline(never)]
+fn write_fields(params: &OaepParams<'_>, out: &mut [u8], len: &mut usize) -> u32 {
+    match from_c_oaep(params) {
+        Ok(made) => write_params(&made, out, len),
+        Err(failure) => status(&failure),
+    }
+}
+
+/// Writes the shortest encoding of parameters of RSAES-OAEP to the front of `out`. Returns 0, with its length in `len`,
+/// or `NO_ROOM`, with the needed length in `len`, or another status.
+#[unsafe(no_mangle)]
+pub extern "C" fn pkcs1_c_oaep_params_encode(
+    params: &OaepParams<'_>,
+    out: *mut u8, out_len: usize,
+    len: &mut usize,
+) -> u32 {
+    let out = unsafe { core::slice::from_raw_parts_mut(out, out_len) };
+    match write_known(params, None, out) {
+        Some(written) => written_status(written, len),
+        None => write_fields(params, out, len),
+    }
+}
+
+/// Whether the source of a label is pSpecified with an OCTET STRING. Then `label` is the slice of its octets.
+#[unsafe(no_mangle)]
+pub extern "C" fn pkcs1_c_oaep_label<'a>(source: &Algorithm<'a>, label: &mut Bytes<'a>) -> bool {
+    let is_octets = source.has_parameters && source.tag == Tag::OCTET_STRING.octet();
+    let is_label = is_octets && is_p_specified(source.oid);
+    if is_label {
+        label.octets = source.parameters;
+    }
+    is_label
+}

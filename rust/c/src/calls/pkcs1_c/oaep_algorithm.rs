@@ -1,0 +1,63 @@
+// Made of crates/pkcs1_c/src/oaep_algorithm.rt by tools/erase/erase.py, and not to be edited.
+//! The algorithm identifier of RSAES-OAEP with its parameters.
+
+use crate::calls::pkcs1_c::filled::fill;
+use crate::calls::pkcs1_c::oaep::{OaepParams, from_c_oaep, to_c_oaep, write_known};
+use crate::calls::pkcs1_c::status::{OK, status};
+use crate::calls::pkcs1_c::written::{write_algorithm, written_status};
+use crate::proved::pkcs1::{FromAlgorithm, RsaOaepParamsView, RsaesOaep};
+use crate::proved::pkcs1_params::RSAES_OAEP;
+
+/// Decodes the algorithm identifier of RSAES-OAEP with its parameters, as `pkcs1_c_oaep_params_decode` does the
+/// parameters. Another algorithm is rejected with status 7, one without parameters with status 10.
+#[unsafe(no_mangle)]
+pub extern "C" fn pkcs1_c_oaep_algorithm_decode<'a>(
+    encoding: *const u8, encoding_len: usize,
+    params: &mut OaepParams<'a>,
+) -> u32 {
+    let encoding = unsafe { core::slice::from_raw_parts(encoding, encoding_len) };
+    fill!(
+        params,
+        RsaOaepParamsView::from_algorithm_der(encoding),
+        to_c_oaep
+    )
+}
+
+/// Decodes the algorithm identifier as `pkcs1_c_oaep_algorithm_decode` does, but only from its shortest encoding: one
+/// with a default that is written out is rejected with status 5.
+#[unsafe(no_mangle)]
+pub extern "C" fn pkcs1_c_oaep_algorithm_decode_strict<'a>(
+    encoding: *const u8, encoding_len: usize,
+    params: &mut OaepParams<'a>,
+) -> u32 {
+    let encoding = unsafe { core::slice::from_raw_parts(encoding, encoding_len) };
+    fill!(
+        params,
+        RsaOaepParamsView::from_algorithm_der_strict(encoding),
+        to_c_oaep
+    )
+}
+
+/// Writes the shortest encoding of the algorithm identifier, field by field.
+#[inline(never)]
+fn write_fields(params: &OaepParams<'_>, out: &mut [u8], len: &mut usize) -> u32 {
+    match from_c_oaep(params) {
+        Ok(made) => write_algorithm::<RsaesOaep, _>(&made, out, len),
+        Err(failure) => status(&failure),
+    }
+}
+
+/// Writes the shortest encoding of the algorithm identifier of RSAES-OAEP with these parameters to the front of `out`.
+/// Returns 0, with its length in `len`, or `NO_ROOM`, with the needed length in `len`, or another status.
+#[unsafe(no_mangle)]
+pub extern "C" fn pkcs1_c_oaep_algorithm_encode(
+    params: &OaepParams<'_>,
+    out: *mut u8, out_len: usize,
+    len: &mut usize,
+) -> u32 {
+    let out = unsafe { core::slice::from_raw_parts_mut(out, out_len) };
+    match write_known(params, Some(RSAES_OAEP), out) {
+        Some(written) => written_status(written, len),
+        None => write_fields(params, out, len),
+    }
+}

@@ -1,0 +1,114 @@
+// Made of crates/pkcs1_c/src/pss.rt by tools/erase/erase.py, and not to be edited.
+//! Parameters of RSASSA-PSS.
+
+use crate::calls::pkcs1_c::algorithm::{
+    Algorithm, MaskGen, from_c_algorithm, from_c_mask_gen, have_null, to_c_algorithm, to_c_mask_gen,
+};
+use crate::calls::pkcs1_c::filled::fill;
+use crate::calls::pkcs1_c::status::{OK, status};
+use crate::calls::pkcs1_c::written::{write_params, written_status};
+use crate::proved::der_core::{ErrorKind, Tag};
+use crate::proved::pkcs1::{Error, RsaPssParamsView, TrailerField};
+use crate::proved::pkcs1_params::{Place, Written, encode_known_pss};
+
+/// Parameters of RSASSA-PSS.
+#[repr(C)]
+#[derive(Clone, Copy)]
+pub struct PssParams<'a> {
+    /// The hash function.
+    pub hash: Algorithm<'a>,
+    /// The mask generation function.
+    pub mask_gen: MaskGen<'a>,
+    /// The length of the salt in octets.
+    pub salt_len: u8,
+    /// The trailer field: 1.
+    pub trailer_field: u8,
+}
+
+/// The C struct of parameters.
+pub(crate) fn to_c_pss<'a>(read: &RsaPssParamsView<'a>) -> PssParams<'a> {
+    PssParams {
+        hash: to_c_algorithm(&read.hash),
+        mask_gen: to_c_mask_gen(&read.mask_gen),
+        salt_len: read.salt_len,
+        trailer_field: 1,
+    }
+}
+
+/// The parameters of a C struct.
+pub(crate) fn from_c_pss<'a>(params: &PssParams<'a>) -> crate::proved::pkcs1::Result<RsaPssParamsView<'a>> {
+    let hash = from_c_algorithm(&params.hash)?;
+    let mask_gen = from_c_mask_gen(&params.mask_gen)?;
+    if params.trailer_field != 1 {
+        let kind = ErrorKind::Value { tag: Tag::INTEGER };
+        return Err(Error::Asn1(crate::proved::der_core::Error::new(kind)));
+    }
+    Ok(RsaPssParamsView {
+        hash,
+        mask_gen,
+        salt_len: params.salt_len,
+        trailer_field: TrailerField::BC,
+    })
+}
+
+/// Decodes parameters of RSASSA-PSS. Returns 0 and fills `params` with parts of `encoding` and of static defaults, or
+/// returns the status of the first fault.
+#[unsafe(no_mangle)]
+pub extern "C" fn pkcs1_c_pss_params_decode<'a>(
+    encoding: *const u8, encoding_len: usize,
+    params: &mut PssParams<'a>,
+) -> u32 {
+    let encoding = unsafe { core::slice::from_raw_parts(encoding, encoding_len) };
+    fill!(params, RsaPssParamsView::try_from(encoding), to_c_pss)
+}
+
+/// Decodes parameters of RSASSA-PSS as `pkcs1_c_pss_params_decode` does, but only from their shortest encoding: one
+/// with a default that is written out is rejected with status 5.
+#[unsafe(no_mangle)]
+pub extern "C" fn pkcs1_c_pss_params_decode_strict<'a>(
+    encoding: *const u8, encoding_len: usize,
+    params: &mut PssParams<'a>,
+) -> u32 {
+    let encoding = unsafe { core::slice::from_raw_parts(encoding, encoding_len) };
+    fill!(
+        params,
+        RsaPssParamsView::from_der_strict(encoding),
+        to_c_pss
+    )
+}
+
+/// Writes the shortest encoding of the parameters, alone or in an algorithm identifier, if it is known.
+#[inline(always)]
+pub(crate) fn write_known(params: &PssParams<'_>, place: Place, out: &mut [u8]) -> Option<Written> {
+    if params.trailer_field != 1 || !have_null(&params.hash, &params.mask_gen) {
+        return None;
+    }
+    let hash = params.hash.oid;
+    let under = params.mask_gen.hash.oid;
+    let salt_len = params.salt_len;
+    encode_known_pss(hash, params.mask_gen.oid, under, salt_len, place, out)
+}
+
+/// Writes the shortest encoding of the parameters, field by field, as `pkcs1_c_pss_params_encode` does.
+#[inline(never)]
+fn write_fields(params: &PssParams<'_>, out: &mut [u8], len: &mut usize) -> u32 {
+    match from_c_pss(params) {
+        Ok(made) => write_params(&made, out, len),
+        Err(failure) => status(&failure),
+    }
+}
+
+/// Writes the shortest encoding of parameters of RSASSA-PSS to the front of `out`. Returns 0, with its length in `len`,
+/// or `NO_ROOM`, with the needed length in `len`, or another status.
+#[unsafe(no_mangle)]
+pub extern "C" fn pkcs1_c_pss_params_encode(
+    params: &PssParams<'_>,
+    out: *mut u8, out_len: usize,
+    len: &mut usize,
+) -> u32 {
+    let out = unsafe { core::slice::from_raw_parts_mut(out, out_len) };
+    match write_known(params, None, out) {
+        Some(written) => written_status(written, len),
+        None => write_fields(params, out, len),
+    }
+}

@@ -1,0 +1,69 @@
+// Made of crates/pkcs1_c/src/written.rt by tools/erase/erase.py, and not to be edited.
+//! Encoding into a caller's slice.
+
+use crate::calls::pkcs1_c::status::{NO_ROOM, OK, kind_number, status};
+use crate::proved::der_core::Encode;
+use crate::proved::pkcs1::{EncodeParams, Shortest};
+use crate::proved::pkcs1_params::Written;
+use crate::proved::spki_core::AssociatedOid;
+
+/// What a call returns that wrote known octets, or had no room for them. Both ways `len` is set to their length.
+#[inline(always)]
+pub(crate) fn written_status(written: Written, len: &mut usize) -> u32 {
+    match written {
+        Ok(known) => {
+            *len = known;
+            OK
+        }
+        Err(needed) => {
+            *len = needed;
+            NO_ROOM
+        }
+    }
+}
+
+/// Sets `len` to the length of what is written of the value, if that is an encoding within the limit.
+pub(crate) fn set_needed<T: Encode>(value: &T, len: &mut usize) {
+    if let Ok(length) = value.encoded_len() {
+        *len = length.to_usize();
+    }
+}
+
+/// Writes the shortest encoding of the value to the front of `out`. Returns 0, with its length in `len`, or `NO_ROOM`,
+/// with the needed length in `len`, or another status, with `len` unchanged.
+pub(crate) fn write_encoding<T: Encode>(value: &T, out: &mut [u8], len: &mut usize) -> u32 {
+    match value.encode_into(out) {
+        Ok(written) => {
+            *len = written;
+            OK
+        }
+        Err(error) => {
+            set_needed(value, len);
+            kind_number(&error.kind)
+        }
+    }
+}
+
+/// Writes the shortest encoding of parameters, as `write_encoding` does.
+pub(crate) fn write_params<T: EncodeParams>(params: T, out: &mut [u8], len: &mut usize) -> u32 {
+    params.lemma_is_valid();
+    match params.encode_params(out) {
+        Ok(count) => {
+            *len = count;
+            OK
+        }
+        Err(error) => {
+            set_needed(&Shortest::of(params), len);
+            status(&error)
+        }
+    }
+}
+
+/// Writes the shortest encoding of the algorithm identifier of D with parameters, as `write_encoding` does.
+pub(crate) fn write_algorithm<D: AssociatedOid, T: EncodeParams>(
+    params: T,
+    out: &mut [u8],
+    len: &mut usize,
+) -> u32 {
+    write_encoding(&Shortest::identified::<D>(params), out, len)
+}
