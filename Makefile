@@ -95,13 +95,11 @@ $(OUT)/tool.o: $(GENERATED)/$(machine)/pkcs1_tool.s $(OUT)/settings
 	$(assemble)
 $(OUT)/calls.o: ffi/c/pkcs1.c ffi/include/pkcs1.h ffi/include/pkcs1_c.h $(OUT)/settings
 	$(compile)
-$(OUT)/heap.o: ffi/c/heap.c $(OUT)/settings
-	$(compile)
 $(OUT)/os.o: ffi/c/os.c $(OUT)/settings
 	$(compile)
 $(OUT)/libpkcs1.a: $(OUT)/proved.o $(OUT)/calls.o ffi/link.sh
 	ffi/link.sh $(OUT)
-$(OUT)/pkcs1_tool: $(OUT)/tool.o $(OUT)/os.o $(OUT)/heap.o
+$(OUT)/pkcs1_tool: $(OUT)/tool.o $(OUT)/os.o
 	$(CC) $(CFLAGS) -fno-lto $(LDFLAGS) -Wl,-z,relro,-z,now -o $@ $^
 
 # Made for whatever compiler comes: the compiler that is here isn't asked.

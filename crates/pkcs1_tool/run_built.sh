@@ -60,6 +60,9 @@ runs_to_each_status() {
     ends "a full device as output" 1 "fault: write" "" $?
     "$program" < stdin 2> "$room/error" >&-
     ends "no standard output" 1 "fault: write" "" $?
+    head -c 200000 /dev/zero | tr '\0' '\n' > "$room/lines"
+    { "$program" < "$room/lines" 2> "$room/error"; echo $? > "$room/ended"; } | true
+    ends "a pipe that nobody reads" 1 "fault: write" "" "$(cat "$room/ended")"
     "$program" lines < stdin > "$room/output" 2> "$room/error"
     ends "an argument" 2 "$usage" "" $?
     "$program" "" < stdin > "$room/output" 2> "$room/error"
@@ -100,6 +103,6 @@ for program in "${programs[@]}"; do
         fails "it isn't there$builder"
     fi
 done
-echo "run_built: $(./all_rows.sh | wc -l) rows and ${less-}72 runs, of each program"
+echo "run_built: $(./all_rows.sh | wc -l) rows and ${less-}73 runs, of each program"
 echo "$passed passed, $failed failed"
 [ "$failed" = 0 ]

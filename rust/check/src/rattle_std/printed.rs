@@ -25,17 +25,13 @@ pub trait ToString {
 
 impl<T: Display> ToString for T {
     fn to_string(&self, alloc: Global) -> Result<String, AllocError> {
-        String::of(alloc, std::format!("{self}"))
+        String::of(alloc, format_args!("{self}"))
     }
 }
 
 impl String {
     pub fn new(_alloc: Global) -> String {
         String::default()
-    }
-
-    pub fn from_str(alloc: Global, text: &str) -> Result<String, AllocError> {
-        String::of(alloc, text.into())
     }
 
     pub fn push_str(&mut self, text: &str) -> Result<(), AllocError> {

@@ -1,13 +1,13 @@
 //! Texts on the heap, and what is printed to standard error.
 
 use super::alloc::{AllocError, Global};
+use super::io::Write;
 use super::{HostRuntime, fmt, io};
 use core::ops::Deref;
-use std::io::Write;
 
 macro_rules! format {
     (in $alloc:expr; $($rest:tt)*) => {
-        $crate::rattle_std::prelude::String::of($alloc, ::std::format!($($rest)*))
+        $crate::rattle_std::prelude::String::of($alloc, format_args!($($rest)*))
     };
 }
 macro_rules! eprintln {
@@ -29,15 +29,32 @@ impl Eprint for HostRuntime {
 
 /// A text on the heap.
 #[derive(Clone, Debug, Default, PartialEq, Eq)]
-pub struct String(pub std::string::String);
+pub struct String(pub ::alloc::string::String);
 
 impl String {
-    pub fn of(_alloc: Global, text: std::string::String) -> Result<String, AllocError> {
-        Ok(String(text))
+    /// The text that is printed so.
+    pub fn of(_alloc: Global, text: fmt::Arguments<'_>) -> Result<String, AllocError> {
+        let mut made = String::default();
+        fmt::write(&mut made, text).map_err(|_| AllocError)?;
+        Ok(made)
+    }
+
+    /// A copy of the text.
+    pub fn from_str(alloc: Global, text: &str) -> Result<String, AllocError> {
+        String::of(alloc, format_args!("{text}"))
     }
 
     pub fn as_str(&self) -> &str {
         &self.0
+    }
+}
+
+/// Fails if there is no memory.
+impl fmt::Write for String {
+    fn write_str(&mut self, text: &str) -> fmt::Result {
+        self.0.try_reserve(text.len()).map_err(|_| fmt::Error)?;
+        self.0.push_str(text);
+        Ok(())
     }
 }
 

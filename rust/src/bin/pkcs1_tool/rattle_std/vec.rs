@@ -5,8 +5,8 @@ use super::io;
 use super::prelude::Vec;
 
 impl<T> Vec<T> {
-    fn replace<R>(&mut self, change: impl FnOnce(&mut std::vec::Vec<T>) -> R) -> R {
-        let mut items = std::mem::replace(self, Vec::new(Global)).into();
+    fn replace<R>(&mut self, change: impl FnOnce(&mut ::alloc::vec::Vec<T>) -> R) -> R {
+        let mut items = core::mem::replace(self, Vec::new(Global)).into();
         let answer = change(&mut items);
         *self = items.into();
         answer
@@ -14,7 +14,7 @@ impl<T> Vec<T> {
 
     /// Keeps no item.
     pub fn clear(&mut self) {
-        self.replace(std::vec::Vec::clear);
+        self.replace(::alloc::vec::Vec::clear);
     }
 }
 

@@ -1,0 +1,240 @@
+//! Files, as the programs use them.
+
+use super::alloc::{AllocError, Global};
+use super::prelude::Vec;
+use super::{io, system};
+
+/// Paths of files.
+pub mod path {
+    use super::{AllocError, Global, Vec};
+
+    /// The path of a file.
+    #[derive(Clone, Copy, Debug)]
+    pub struct Path<'p>(pub &'p [u8]);
+
+    impl<'p> Path<'p> {
+        pub fn new(path: &'p str) -> Path<'p> {
+            Path(path.as_bytes())
+        }
+
+        pub fn as_str(&self) -> &'p str {
+            core::str::from_utf8(self.0).unwrap_or_default()
+        }
+
+        pub fn to_path_buf(&self, alloc: Global) -> Result<PathBuf, AllocError> {
+            Ok(PathBuf(Vec::from_slice(alloc, self.0)?))
+        }
+
+        /// The path of the folder, with a slash if it has a name.
+        fn folder(&self) -> &'p [u8] {
+            let mut path = self.0;
+            loop {
+                match path {
+                    [rest @ .., b'/', b'.'] | [rest @ .., b'/'] if !rest.is_empty() => path = rest,
+                    _ => break,
+                }
+            }
+            let start = path.iter().rposition(|octet| *octet == b'/').map_or(0, |slash| slash + 1);
+            match path.split_at(start) {
+                (_, b"." | b"..") => self.0,
+                (folder, _) => folder,
+            }
+        }
+
+        pub fn with_file_name(&self, alloc: Global, name: &str) -> Result<PathBuf, AllocError> {
+            let mut path = Vec::from_slice(alloc, self.folder())?;
+            if !path.is_empty() && !path.ends_with(b"/") {
+                path.extend_from_slice(b"/")?;
+            }
+            path.extend_from_slice(name.as_bytes())?;
+            Ok(PathBuf(path))
+        }
+    }
+
+    /// A path on the heap.
+    #[derive(Clone, Debug)]
+    pub struct PathBuf(pub(super) Vec<u8>);
+
+    impl PathBuf {
+        pub fn as_path(&self) -> Path<'_> {
+            Path(self.0.as_slice())
+        }
+    }
+}
+
+/// Handles of the runtime.
+pub mod rt {
+    use super::fs::OpenFile;
+    use super::path::{Path, PathBuf};
+    use super::system::{File, How, with_real_path};
+    use super::{Global, io};
+
+    /// Opens files.
+    pub trait Files {
+        type File: io::Read + io::Write + OpenFile;
+
+        fn open_file(&self, how: How, mode: u32, path: Path<'_>) -> io::Result<Self::File>;
+
+        fn canonicalize(&self, alloc: Global, path: &str) -> io::Result<PathBuf>;
+    }
+
+    impl Files for super::super::HostRuntime {
+        type File = File;
+
+        fn open_file(&self, how: How, mode: u32, path: Path<'_>) -> io::Result<File> {
+            File::open(path.0, how, mode)
+        }
+
+        fn canonicalize(&self, alloc: Global, path: &str) -> io::Result<PathBuf> {
+            with_real_path(path.as_bytes(), |real| Ok(Path(real).to_path_buf(alloc)?))
+        }
+    }
+}
+
+impl io::Read for system::File {
+    fn read(&mut self, room: &mut [u8]) -> io::Result<usize> {
+        system::File::read(self, room)
+    }
+}
+
+impl io::Write for system::File {
+    fn write(&mut self, octets: &[u8]) -> io::Result<usize> {
+        system::File::write(self, octets)
+    }
+
+    fn flush(&mut self) -> io::Result<()> {
+        Ok(())
+    }
+}
+
+/// Files.
+pub mod fs {
+    use super::path::Path;
+    use super::rt::Files;
+    use super::system::{self, How};
+    use super::{io, system::File as SystemFile};
+
+    /// Opens and creates files by a handle.
+    pub struct File;
+
+    impl File {
+        pub fn open<Rt: Files>(rt: &Rt, path: Path<'_>) -> io::Result<Rt::File> {
+            rt.open_file(How::Read, 0, path)
+        }
+
+        pub fn create<Rt: Files>(rt: &Rt, path: Path<'_>) -> io::Result<Rt::File> {
+            rt.open_file(How::Truncate, 0o666, path)
+        }
+    }
+
+    /// How a file is opened: for writing.
+    pub struct OpenOptions(How, pub(super) u32);
+
+    impl OpenOptions {
+        pub fn new() -> OpenOptions {
+            OpenOptions(How::Read, 0o666)
+        }
+
+        pub fn write(&mut self, _write: bool) -> &mut OpenOptions {
+            self.0 = How::Write;
+            self
+        }
+
+        pub fn create_new(&mut self, _create_new: bool) -> &mut OpenOptions {
+            self.0 = How::CreateNew;
+            self
+        }
+
+        pub fn open<Rt: Files>(&self, rt: &Rt, path: Path<'_>) -> io::Result<Rt::File> {
+            rt.open_file(self.0, self.1, path)
+        }
+    }
+
+    /// The bits of a mode.
+    pub struct Permissions(pub(super) u32);
+
+    /// What an open file can do beside reading and writing.
+    pub trait OpenFile {
+        fn sync_all(&self) -> io::Result<()>;
+
+        fn set_permissions(&self, permissions: Permissions) -> io::Result<()>;
+    }
+
+    impl OpenFile for SystemFile {
+        fn sync_all(&self) -> io::Result<()> {
+            self.sync()
+        }
+
+        fn set_permissions(&self, permissions: Permissions) -> io::Result<()> {
+            self.set_mode(permissions.0)
+        }
+    }
+
+    /// What is known of a file.
+    pub struct Metadata(bool, pub(super) u32);
+
+    impl Metadata {
+        pub fn is_file(&self) -> bool {
+            self.0
+        }
+    }
+
+    pub fn metadata<Rt>(_rt: &Rt, path: Path<'_>) -> io::Result<Metadata> {
+        system::look(path.0, true).map(|(is_file, mode)| Metadata(is_file, mode))
+    }
+
+    pub fn symlink_metadata<Rt>(_rt: &Rt, path: Path<'_>) -> io::Result<Metadata> {
+        system::look(path.0, false).map(|(is_file, mode)| Metadata(is_file, mode))
+    }
+
+    pub fn rename<Rt>(_rt: &Rt, from: Path<'_>, to: Path<'_>) -> io::Result<()> {
+        system::rename(from.0, to.0)
+    }
+
+    pub fn remove_file<Rt>(_rt: &Rt, path: Path<'_>) -> io::Result<()> {
+        system::remove(path.0)
+    }
+}
+
+/// The modes of files.
+pub mod os {
+    pub mod unix {
+        pub mod fs {
+            use super::super::super::fs::{Metadata, OpenOptions, Permissions};
+
+            /// The mode of a file that is there.
+            pub trait MetadataExt {
+                fn mode(&self) -> u32;
+            }
+
+            impl MetadataExt for Metadata {
+                fn mode(&self) -> u32 {
+                    self.1
+                }
+            }
+
+            /// Rights of a mode.
+            pub trait PermissionsExt {
+                fn from_mode(mode: u32) -> Self;
+            }
+
+            impl PermissionsExt for Permissions {
+                fn from_mode(mode: u32) -> Permissions {
+                    Permissions(mode)
+                }
+            }
+
+            /// The mode of a file that is created.
+            pub trait OpenOptionsExt {
+                fn mode(&mut self, mode: u32) -> &mut OpenOptions;
+            }
+
+            impl OpenOptionsExt for OpenOptions {
+                fn mode(&mut self, mode: u32) -> &mut OpenOptions {
+                    self.1 = mode;
+                    self
+                }
+            }
+        }
+    }
+}
