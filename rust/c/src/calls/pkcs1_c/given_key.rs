@@ -73,6 +73,7 @@ impl EncodeValue for GivenKey<'_> {
         self.0.append_row(writer)
     }
 
+    #[inline(always)]
     fn prepend_value(&self, writer: &mut BackWriter<'_>) {
         self.0.prepend_row(writer);
     }

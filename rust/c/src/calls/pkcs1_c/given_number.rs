@@ -56,6 +56,7 @@ impl EncodeValue for Number<'_> {
         writer.write(self.bytes)
     }
 
+    #[inline(always)]
     fn prepend_value(&self, writer: &mut BackWriter<'_>) {
         writer.prepend(self.bytes);
         if self.zeros > 0 {
