@@ -59,6 +59,7 @@ add() {
     mv -fT "$lib/pkgconfig/.new.$$" "$lib/pkgconfig/libpkcs1.pc"
     put 644 "$top/LICENSE-APACHE" "$doc"
     put 644 "$top/LICENSE-MIT" "$doc"
+    put 644 "$here/copyright" "$doc"
     if [ -n "$tool" ]; then
         mkdir -p "$bin" "$man"
         put 755 "$tool" "$bin"
@@ -75,7 +76,7 @@ remove() {
     }
     rm -f "$include/pkcs1.h" "$include/pkcs1_c.h" "$lib"/libpkcs1.{a,so,dll.a} "$lib/$soname" \
         "$lib/pkgconfig/libpkcs1.pc" "$bin"/{pkcs1_tool,"$dll"} "$man/pkcs1_tool.1" \
-        "$doc"/LICENSE-{APACHE,MIT}
+        "$doc"/{LICENSE-APACHE,LICENSE-MIT,copyright}
     rmdir --ignore-fail-on-non-empty "$doc"
 }
 case $action in

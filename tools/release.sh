@@ -3,8 +3,7 @@
 # need, the sources of the proofs, the documents for users, and a list of its parts (sbom.py). Beside it the library as
 # one file, in pkcs1-proved-VERSION-one-file.tar.gz, and the hash of each.
 # Two checkouts of a commit give the same bytes. A tree with changes that aren't committed is refused, and one whose
-# generated files are made of other sources. A release must not be published before the licence of the kit's library is
-# settled: docs/USING.md.
+# generated files are made of other sources.
 set -eu
 . "$(dirname "$0")/shell.sh"
 failure=2
@@ -12,9 +11,9 @@ contents=(
     Makefile CMakeLists.txt README.md CHANGELOG.md SECURITY.md LICENSE-APACHE LICENSE-MIT
     docs/{USING,PROMISES,DIFFERENCES,DECISIONS,RELEASE}.md
     ffi/{machine,link,install,amalgamation,check,check_abi,check_object,check_passed,check_freestanding,check_sizes}.sh
-    ffi/{abi,libpkcs1.pc.in}
+    ffi/{abi,copyright,libpkcs1.pc.in}
     ffi/{include,generated,tests} rust :!rust/{check,check.sh,preconditions.py} tools/erase/{README.md,compare.py}
-    ffi/c/{pkcs1,os,heap,test,rows,large,passed,freestanding,modulus,read_key,public_half}.c ffi/c/test.h
+    ffi/c/{pkcs1,os,test,rows,large,passed,freestanding,modulus,read_key,public_half}.c ffi/c/test.h
     docs/CLAIM.md ffi/c/bits.c ffi/{python,go}
     ffi/c/{many_keys,open_container,make_container,make_params,signature_algorithm}.c
     crates/pkcs1_tool/{run_built,copies,refuse_memory,all_rows}.sh
@@ -70,7 +69,7 @@ done
 find . -type f ! -name SHA256SUMS | sed 's,^\./,,' | sort | tr '\n' '\0' | xargs -0 sha256sum > SHA256SUMS
 cd "$room"
 mkdir -p "$out" "$name-one-file"
-cp "$name"/{LICENSE-APACHE,LICENSE-MIT,ffi/include/pkcs1.h,ffi/generated/PROVENANCE} "$name-one-file"
+cp "$name"/{LICENSE-APACHE,LICENSE-MIT,ffi/copyright,ffi/include/pkcs1.h,ffi/generated/PROVENANCE} "$name-one-file"
 "$name/ffi/amalgamation.sh" "$name/ffi/generated" > "$name-one-file/pkcs1_all.c"
 pack "$name"
 pack "$name-one-file"
