@@ -12,7 +12,7 @@ contents=(
     docs/{USING,PROMISES,DIFFERENCES,DECISIONS,RELEASE}.md
     ffi/{machine,link,install,amalgamation,check,check_abi,check_object,check_passed,check_freestanding,check_sizes}.sh
     ffi/{abi,copyright,libpkcs1.pc.in}
-    ffi/{include,generated,tests} rust :!rust/{check,check.sh,preconditions.py} tools/erase/{README.md,compare.py}
+    ffi/{include,generated,tests} rust :!rust/{check,check.sh,preconditions.py} tools/erase/{README.md,{compare,erase,forms,tokens}.py}
     ffi/c/{pkcs1,os,test,rows,large,passed,freestanding,modulus,read_key,public_half}.c ffi/c/test.h
     docs/CLAIM.md ffi/c/bits.c ffi/{python,go}
     ffi/c/{many_keys,open_container,make_container,make_params,signature_algorithm}.c

@@ -1,7 +1,8 @@
 #!/usr/bin/env python3
 """Prints of what a release is made, in SPDX 2.3: sbom.py VERSION COMMIT SECONDS. The last are those of the commit.
 
-The parts are the crates whose functions PROVENANCE counts, those that crates.txt names, and what compiled them.
+The parts are the crates that crates.txt names for the library and the tool, the crate for Rust, Rust's own libraries of
+which rustc compiled parts in, and rustc.
 """
 import datetime
 import json
@@ -11,62 +12,48 @@ import sys
 
 OURS = "Apache-2.0 OR MIT"
 NONE = "NOASSERTION"
-PORTS = {"arrayvec": (OURS, "0.7.8"), "hex": (OURS, "0.4.3")}
+RUST = "MIT OR Apache-2.0"
 
 
-def provenance():
-    """What PROVENANCE says: the words behind each name in front of a colon."""
+def rustc():
+    """The version of rustc that PROVENANCE names."""
     with open("ffi/generated/PROVENANCE", encoding="utf-8") as it:
-        return dict(re.findall(r"^ *(kit|rattle|clang|library|tool): (.*)$", it.read(), re.M))
+        return re.search(r"^rustc: .*?(\d+\.\d+\.\S+)", it.read(), re.M)[1]
 
 
 def libraries():
-    """The crates of the library and of the tool, and all below them that crates.txt names."""
+    """The crates of the library and of the tool, and all below them that stand here."""
     with open("crates.txt", encoding="utf-8") as it:
         lines = [line.split(":") for line in it if ":" in line and not line.startswith("#")]
     known = {name.split()[0]: below.split() for name, below in lines}
     made = ["pkcs1_c", "pkcs1_tool"]
     for name in made:
         made += [it for it in known.get(name, []) if it not in made]
-    return made
+    return [name for name in made if name in known]
 
 
-def package(name, licence=NONE, version=None, comment=None, sha256=None):
+def package(name, licence, version, comment=None):
     """A part, as SPDX has it."""
     made = {"SPDXID": f"SPDXRef-{name.replace('_', '-')}", "name": name, "versionInfo": version,
             "downloadLocation": NONE, "filesAnalyzed": False, "licenseConcluded": NONE,
-            "licenseDeclared": licence, "copyrightText": NONE, "comment": comment,
-            "checksums": sha256 and [{"algorithm": "SHA256", "checksumValue": sha256}]}
+            "licenseDeclared": licence, "copyrightText": NONE, "comment": comment}
     return {key: value for key, value in made.items() if value is not None}
 
 
-def crates(said, version):
-    """The crates that are built in, with how many functions each has in the library and in the tool."""
-    counts = {of: dict(it.split() for it in said[of].split(", ")) for of in ("library", "tool")}
-    for name in sorted(set(libraries()).union(*counts.values())):
-        numbers = ", ".join(f"{count.get(name, 0)} in the {of}" for of, count in counts.items())
-        licence, its_version = (OURS, version) if os.path.isdir(f"crates/{name}") else PORTS.get(name, (NONE, None))
-        yield package(name, licence, its_version, f"functions: {numbers}")
-
-
-def crate(version):
-    """The crate for Rust, which holds no function of the toolchain's."""
-    return package("pkcs1-proved-crate", OURS, version, "for Rust: functions of the crates, without their contracts")
-
-
-def tools(said):
-    """What compiled them."""
-    version, clang = said["clang"].split(", sha256 ")
-    yield package("rattle", NONE, said["kit"], sha256=said["rattle"].split()[1])
-    yield package("clang", "Apache-2.0 WITH LLVM-exception", version, sha256=clang)
+def parts_of(version, compiler):
+    """The crates that are built in, the crate for Rust, and what Rust's libraries give."""
+    for name in sorted(libraries()):
+        yield package(name, OURS, version)
+    yield package("pkcs1-proved-crate", OURS, version, "for Rust: functions of the crates, without their contracts")
+    yield package("rust-core", RUST, compiler, "parts of Rust's core, in the library and in the tool")
+    yield package("rust-alloc", RUST, compiler, "parts of Rust's alloc, in the tool")
 
 
 def main():
     version, commit, seconds = sys.argv[1:]
     os.chdir(f"{os.path.dirname(os.path.realpath(__file__))}/..")
-    said = provenance()
     whole = package("pkcs1-proved", OURS, version, f"commit {commit}")
-    parts, compilers = [*crates(said, version), crate(version)], list(tools(said))
+    parts, compilers = [*parts_of(version, rustc())], [package("rustc", RUST, rustc())]
     related = [("SPDXRef-DOCUMENT", "DESCRIBES", whole["SPDXID"])]
     related += [(whole["SPDXID"], "CONTAINS", it["SPDXID"]) for it in parts]
     related += [(it["SPDXID"], "BUILD_TOOL_OF", whole["SPDXID"]) for it in compilers]
