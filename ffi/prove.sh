@@ -5,6 +5,7 @@
 #
 #     ffi/prove.sh [--must] [WORD..]    WORDs go to Frama-C, such as -wp-fct NAME: then only their goals are proved
 #
+# Where the variable SAMPLE is set, and no WORD is there, tools/verdicts.py draws the calls that are proved.
 # It needs frama-c, why3, z3 and cvc4, which tools/install.sh installs on Debian. If they aren't there, the proof is left
 # out, which is a failure with --must or if CI is set.
 # AT_ONCE: how many provers run at a time. GIVE_UP: in how many seconds, where it is known that goals are open. KEEP: a
@@ -16,6 +17,11 @@ must=${CI-}
     must=must
     shift
 }
+if [ $# = 0 ] && [ -n "${SAMPLE-}" ]; then
+    drawn=$(grep -oE '\bpkcs1_[a-z0-9_]+\(' ffi/include/pkcs1.h | tr -d '(' | sort -u | tools/verdicts.py drawn 3)
+    echo "ffi/prove.sh: drawn:" $drawn
+    set -- -wp-fct "$(echo $drawn | tr ' ' ,)"
+fi
 room=$(mktemp -d)
 trap 'rm -rf "$room"' EXIT
 at_once=${AT_ONCE:-$(nproc)}

@@ -1,7 +1,7 @@
 #!/usr/bin/env python3
 """Runs a step in a folder that holds only the files named, unless it passed on this machine with all the same before.
 
-    tools/kept.py [--makes FILE] NAME PATH.. -- COMMAND..      at the top of the repository
+    tools/kept.py [--makes FILE] [--line JUDGE] NAME PATH.. -- COMMAND..      at the top of the repository
 
 PATHs are files and folders; what is made in them (out, target) is left out, but for a file that is named itself. The
 command runs at the top of a copy of these, so it can read no other file of the repository. Its variable TOP is the
@@ -11,6 +11,10 @@ the repository.
 That it passed is kept outside of the repository, under the hash of these files, the command, this program, the toolchain,
 the packages of this Debian, python3 and rustc, with the last line that it printed and the file that it made. What fails
 isn't kept, and runs again. KEPT=anew: it runs, whatever is kept.
+
+--line: where nothing is kept here, and the step's line in tools/verdicts.txt fits, it runs with the variable SAMPLE, by
+which it draws what it tries. The line is under the hash of the command and of these files but those in out, and names
+what judges: logic, debian or frama-c. KEPT=write: nothing runs, and the line is written of what passed here in full.
 """
 import functools
 import hashlib
@@ -23,11 +27,13 @@ import sys
 import tempfile
 import time
 
+import verdicts
+
 CACHE = pathlib.Path(os.environ.get("XDG_CACHE_HOME") or os.path.expanduser("~/.cache"), "pkcs1-gate")
 # Entries that no run took for so long are removed.
 DAYS = 60
-# Whether all is to run again.
-ANEW = os.environ.get("KEPT") == "anew"
+# Whether all is to run again, and whether only lines are to be written.
+ANEW, WRITES = (os.environ.get("KEPT") == it for it in ("anew", "write"))
 # What is made in a folder of the repository, and belongs to none of its hashes.
 MADE = ("out", "target", "__pycache__", ".git")
 
@@ -83,11 +89,11 @@ def files_below(path):
 
 
 def contents_of(files):
-    """The path, the mode and the hash of the contents of each file."""
+    """The path of each file, whether it may be run, and the hash of its contents."""
     found = []
     for it in files:
         with open(it, "rb") as file:
-            found.append((it, os.stat(it).st_mode, hashlib.sha256(file.read()).hexdigest()))
+            found.append((it, bool(os.stat(it).st_mode & 0o100), hashlib.sha256(file.read()).hexdigest()))
     return found
 
 
@@ -114,13 +120,13 @@ def said_by(*command):
         return ""
 
 
-def run_in_room(files, command, makes):
+def run_in_room(files, command, makes, **words):
     """Runs the command among these files alone, and prints what it prints. Its last line, or None if it fails."""
     with tempfile.TemporaryDirectory(prefix="kept-") as room:
         for it in files:
             os.makedirs(os.path.dirname(f"{room}/{it}"), exist_ok=True)
             shutil.copy2(it, f"{room}/{it}")
-        words = {it: os.environ[it] for it in ("PATH", "HOME", "CI") if it in os.environ}
+        words |= {it: os.environ[it] for it in ("PATH", "HOME", "CI") if it in os.environ}
         ran = subprocess.Popen(command, cwd=room, env={**words, "TOP": os.getcwd(), "LANG": "C.UTF-8"},
                                stdin=subprocess.DEVNULL, stdout=subprocess.PIPE, text=True, errors="replace")
         last = ""
@@ -159,32 +165,74 @@ def keep(store, key, said, makes):
         store.keep(f"{key}.hash", contents_of([it])[0][2])
 
 
-def main(words):
-    makes = words[1:2] if words[:1] == ["--makes"] else []
-    words = words[2 * len(makes) :]
-    if "--" not in words or words.index("--") < 2 or words[-1] == "--":
-        sys.exit(__doc__)
-    at = words.index("--")
-    name, paths, command = words[0], words[1:at], words[at + 1 :]
-    files = [it for path in paths for it in files_below(path)]
-    missing = [it for it in files if not os.path.isfile(it)]
-    if missing:
-        sys.exit(f"tools/kept.py: {name}: no such file: {' '.join(missing)}")
-    own = contents_of([os.path.realpath(__file__)])[0][1:]
-    key = hash_of(name, command, makes, contents_of(files), own, kit(), machine())
-    store = Store("steps")
-    said = taken(store, key, makes)
-    if said is not None:
-        print(f"{name}: taken from an earlier run on this machine: {said}")
+class Step:
+    """A step of the gate: its words, and what is known of it."""
+
+    def __init__(self, words):
+        given = {}
+        while words[:1] in (["--makes"], ["--line"]):
+            given[words[0]], words = words[1], words[2:]
+        if "--" not in words or words.index("--") < 2 or words[-1] == "--":
+            sys.exit(__doc__)
+        at = words.index("--")
+        self.name, self.command = words[0], words[at + 1 :]
+        self.makes, self.judge = [given["--makes"]] if "--makes" in given else [], given.get("--line")
+        self.files = [it for path in words[1:at] for it in files_below(path)]
+        missing = [it for it in self.files if not os.path.isfile(it)]
+        if missing:
+            sys.exit(f"tools/kept.py: {self.name}: no such file: {' '.join(missing)}")
+
+    def key(self):
+        own = [contents_of([os.path.realpath(it)])[0][1:] for it in (__file__, verdicts.__file__)]
+        read = contents_of(self.files)
+        return hash_of(self.name, self.command, self.makes, read, own, kit(), machine())
+
+    def line(self, said=""):
+        """Its line, with what came of it: under what it reads of the repository, as out holds what is made of that."""
+        read = hash_of(self.command, contents_of([it for it in self.files if "/out/" not in it]))
+        return verdicts.Line(said.replace(" | ", ", "), verdicts.judge_of(self.judge), read)
+
+    def write(self, said):
+        """Writes its line of what passed here."""
+        if not self.judge:
+            return 0
+        if said is None:
+            print(f"{self.name}: it didn't pass on this machine with these files: .ci/run tries it", file=sys.stderr)
+            return 1
+        verdicts.write(self.name, self.line(said))
+        print(f"{self.name}: its line is written: {said}")
         return 0
-    said = run_in_room(files, command, makes)
+
+    def run(self, store, key):
+        """Runs it, by a sample where its line fits. What passes in full is kept."""
+        standing = verdicts.standing(self.name, *self.line()[1:]) if self.judge else None
+        sample = {"SAMPLE": verdicts.sample()} if standing else {}
+        said = run_in_room(self.files, self.command, self.makes, **sample)
+        if said is None:
+            print(f"{self.name}: failed", file=sys.stderr)
+            return 1
+        if standing:
+            print(f"{self.name}: passed as a sample of what its line in tools/verdicts.txt says: {standing}")
+            return 0
+        keep(store, key, said, self.makes)
+        if self.judge and verdicts.lines().get(self.name) != self.line(said):
+            print(f"{self.name}: its line in tools/verdicts.txt doesn't fit: .ci/run --write writes it of this")
+        return 0
+
+
+def main(words):
+    step, store = Step(words), Store("steps")
+    key = step.key()
+    said = taken(store, key, step.makes)
+    if WRITES:
+        return step.write(said)
     if said is None:
-        print(f"{name}: failed", file=sys.stderr)
-        return 1
-    keep(store, key, said, makes)
-    store.shrink()
+        return step.run(store, key)
+    print(f"{step.name}: taken from an earlier run on this machine: {said}")
     return 0
 
 
 if __name__ == "__main__":
-    sys.exit(main(sys.argv[1:]))
+    status = main(sys.argv[1:])
+    Store("steps").shrink()
+    sys.exit(status)

@@ -4,11 +4,15 @@
 
 # platform SYSTEM MACHINE BUILT DONE TOOL.. -- COMMAND..: runs the command if these are there, and says in one line that
 # it did what is declared, and how long it took, or what is missing. What it prints is shown only if it fails. The four
-# words are quoted, in one line.
+# words are quoted, in one line. Where the variable SAMPLE is set, only those are tried that tools/verdicts.py draws.
 platform() {
     local row="$1 | $2 | $3 | $4" began=$SECONDS
     shift 4
     echo "$row" >> "$room/platforms"
+    [ -z "${SAMPLE-}" ] || declared "$0" | tools/verdicts.py drawn 3 | grep -qxF "$row" || {
+        echo "platform: $row | not drawn"
+        return
+    }
     while [ "$1" != -- ]; do
         [ -e "$1" ] || command -v "$1" > "$room/log" || {
             echo "platform: $row | left out: $1 isn't installed"

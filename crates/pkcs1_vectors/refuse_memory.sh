@@ -5,7 +5,8 @@
 # but that a list that is read quickly is asked for again, when it is read exactly: there both requests fail.
 # Left out are the rows that stand for many encodings.
 # Called by .ci/run behind rt ci; it needs gcc. By hand: refuse_memory.sh [WORD], the rows of that word alone. It prints
-# what differs, and ends with 1 then; the last line counts.
+# what differs, and ends with 1 then; the last line counts. Where the variable SAMPLE is set, tools/verdicts.py draws the
+# rows.
 set -u
 cd "$(dirname "$0")" || exit 1
 room=$(mktemp -d) || exit 1
@@ -16,7 +17,8 @@ trap 'rm -rf "$room"' EXIT
 }
 "${CC:-gcc}" -shared -fPIC -O1 -Wall -Wextra -Werror -o "$room/refuse.so" ../pkcs1_tool/refuse_memory.c || exit 1
 
-grep "^${1:-[a-z0-9-]*} " stdin | grep -vE '^(changed|types|joined|priv-rooms|pub-filled)' > "$room/rows"
+grep "^${1:-[a-z0-9-]*} " stdin | grep -vE '^(changed|types|joined|priv-rooms|pub-filled)' |
+    if [ -n "${SAMPLE-}" ]; then ../../tools/verdicts.py drawn 20; else cat; fi > "$room/rows"
 lanes=$(nproc)
 
 # refuses LANE FIRST LAST: the lane's row, with these allocations failing.

@@ -3,7 +3,9 @@
 ffi/proof/check_requires.py, which reads it, by calls that are watched by what is made of it, or else by
 ffi/proof/check_ensures.py. Prints by which, and at which clause. The status is 1 if one passed.
 
-    mistakes.py OUT     OUT: what `make` left there"""
+    mistakes.py OUT     OUT: what `make` left there
+
+Where the variable SAMPLE is set, tools/verdicts.py draws those that are planted."""
 import os
 import re
 import subprocess
@@ -25,6 +27,15 @@ def mistakes():
     text = re.sub(r"^#.*\n", "", open(f"{HERE}/mistakes", encoding="utf-8").read(), flags=re.M)
     for what, *lines in (block.split("\n") for block in text.strip().split("\n\n")):
         yield what, *("\n".join(it[1:] for it in lines if it[0] == sign) for sign in "-+")
+
+
+def drawn(names):
+    """Those of these mistakes that are tried."""
+    if "SAMPLE" not in os.environ:
+        return names
+    said = subprocess.run([f"{TOP}/tools/verdicts.py", "drawn", "3"], input="\n".join(names), stdout=subprocess.PIPE,
+                          text=True, check=True)
+    return said.stdout.splitlines()
 
 
 def plant(whole, what, old, new):
@@ -66,7 +77,9 @@ def watched(acsl, made, test, objects):
 
 def main():
     whole = open(f"{TOP}/ffi/proof/pkcs1.acsl.h", encoding="utf-8").read()
-    planted = [(what, plant(whole, what, old, new)) for what, old, new in mistakes()]
+    every = list(mistakes())
+    tried = drawn([it[0] for it in every])
+    planted = [(what, plant(whole, what, old, new)) for what, old, new in every if what in tried]
     with tempfile.TemporaryDirectory() as room, ThreadPoolExecutor(os.cpu_count()) as pool:
         subprocess.run(["gcc", "-O1", *FLAGS, "-c", *SOURCES], cwd=room, check=True)
         objects = [f"{room}/{it}" for it in os.listdir(room)] + [f"{OUT}/calls.o", f"{OUT}/proved.o"]

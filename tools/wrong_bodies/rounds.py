@@ -20,8 +20,8 @@ class Crate:
 
     def __init__(self, name, crates, edits, anew):
         self.name, self.edits, self.kept = name, edits, tempfile.mkdtemp(prefix="wrong-kept-")
-        self.words, self.earlier = check_words(name, crates), Verdicts(name, crates, anew)
-        self.checks, self.seconds, self.taken, self.verdicts = 0, 0.0, 0, {}
+        self.words, self.earlier = check_words(name, crates), Verdicts(name, crates, edits, anew)
+        self.checks, self.seconds, self.taken, self.standing, self.verdicts = 0, 0.0, 0, 0, {}
         # of functions: their goals that are open without an edit and without answers
         self.needing = {}
         self.texts = {}
@@ -62,6 +62,9 @@ class Crate:
             if goal := self.earlier.taken(edit):
                 self.verdicts[edit.name] = goal, None
                 self.taken += 1
+                continue
+            if self.earlier.stands(edit):
+                self.standing += 1
                 continue
             try:
                 left.append(edit.with_bodies(self.texts, self.types))

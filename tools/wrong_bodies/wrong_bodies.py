@@ -3,6 +3,7 @@
 that it changes.
 
     tools/wrong_bodies/wrong_bodies.py [--jobs N] [--anew] [NAME..]
+    tools/wrong_bodies/wrong_bodies.py --write [NAME..]     writes the line of each crate whose edits were refused here
 
 Run it at the top of the repository, behind `rt ci` or `rt check`. README.md beside this file says what counts as
 refused, and what is kept. The last line is 'N refused, M failed'; the status is 0 exactly where M is 0.
@@ -14,7 +15,7 @@ import os
 import sys
 
 sys.dont_write_bytecode = True
-from earlier import DEMO, is_demo, kept
+from earlier import DEMO, Verdicts, is_demo, kept
 from credit import NEEDS_NONE
 from edits import edits_in
 from prover import BROKEN, read_crates
@@ -42,16 +43,28 @@ def tell(crate, counts):
         if is_right and goal:
             counts.update(["refused", *(it for it in (BROKEN, NEEDS_NONE) if goal.endswith(it))])
     counts["taken"] += crate.taken
+    counts["standing"] += crate.standing
     print(f"({crate.name}: {len(crate.verdicts)} edits, {crate.taken} refused in an earlier run, {crate.checks} checks,"
-          f" {crate.seconds:.0f} s of processor time)", flush=True)
+          f" {crate.seconds:.0f} s of processor time; {crate.standing} stand in the repository's line"
+          f"{'' if crate.earlier.said else ', which does not fit'})", flush=True)
 
 
 def arguments():
     given = argparse.ArgumentParser(description=__doc__, formatter_class=argparse.RawDescriptionHelpFormatter)
     given.add_argument("--jobs", type=int, help="how many crates side by side")
     given.add_argument("--anew", action="store_true", help="try those too that were refused before")
+    given.add_argument("--write", action="store_true", help="try nothing, and write the lines of the repository")
     given.add_argument("names", nargs="*", metavar="NAME", help="crates, if not all")
     return given.parse_args()
+
+
+def write_lines(crates, edits):
+    """Writes the line of each crate whose edits were all refused on this machine, and names the edits that weren't."""
+    left = [name for it in edits for name in Verdicts(it, crates, edits[it], False).write()]
+    for name in left:
+        print(f"{name}: it was not refused on this machine: wrong_bodies.py tries it", file=sys.stderr)
+    print(f"wrong bodies: {len(left)} weren't refused here, so the lines of their crates aren't written")
+    return 1 if left else 0
 
 
 def main():
@@ -59,6 +72,8 @@ def main():
     edits = {it: edits_in(f"crates/{it}/wrong") for it in given.names or crates}
     for name in edits:
         edits[name] += edits_in(f"{DEMO}/{name}")
+    if given.write:
+        return write_lines(crates, {it: edits[it] for it in edits if edits[it]})
     tried = [Crate(it, crates, edits[it], given.anew) for it in edits if edits[it]]
     tried.sort(key=lambda it: -len(it.edits))
     counts = collections.Counter()
@@ -71,6 +86,7 @@ def main():
     print(f"{counts[BROKEN]} of the refused edits were judged by an answer that no longer proves its goal")
     print(f"{counts[NEEDS_NONE]} by a goal that fails of itself, where an answer names what the edit took away")
     print(f"{counts['taken']} were refused in an earlier run on this machine, over the same files")
+    print(f"{counts['standing']} were not tried: lines of tools/verdicts.txt fit by which they are refused")
     print(f"{counts['refused']} refused, {counts['failed']} failed")
     return 1 if counts["failed"] else 0
 
