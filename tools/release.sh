@@ -3,8 +3,7 @@
 # need, the sources of the proofs, the documents for users, and a list of its parts (sbom.py). Beside it the library as
 # one file, in pkcs1-proved-VERSION-one-file.tar.gz, and the hash of each.
 # Two checkouts of a commit give the same bytes. A tree with changes that aren't committed is refused, and one whose
-# generated files are made of other sources. A release must not be published before the licence of the kit's library is
-# settled: docs/USING.md.
+# generated files are made of other sources.
 set -eu
 . "$(dirname "$0")/shell.sh"
 failure=2
@@ -14,13 +13,13 @@ contents=(
     ffi/{machine,link,install,amalgamation,check,check_abi,check_object,check_passed,check_freestanding,check_sizes}.sh
     ffi/{abi,libpkcs1.pc.in}
     ffi/{include,generated,tests} rust :!rust/{check,check.sh,preconditions.py} tools/erase/{README.md,compare.py}
-    ffi/c/{pkcs1,os,heap,test,rows,large,passed,freestanding,modulus,read_key,public_half}.c ffi/c/test.h
+    ffi/c/{pkcs1,os,test,rows,large,passed,freestanding,modulus,read_key,public_half}.c ffi/c/test.h
     docs/CLAIM.md ffi/c/bits.c ffi/{python,go}
     ffi/c/{many_keys,open_container,make_container,make_params,signature_algorithm}.c
     crates/pkcs1_tool/{run_built,copies,refuse_memory,all_rows}.sh
     crates/pkcs1_tool/{refuse_memory.c,rows,stdin,stdout,pkcs1_tool.1}
     crates/pkcs1_vectors/stdin
-    crates.txt ffi/prove.sh ffi/proof tools/{fresh.sh,generate.sh,generate,install.sh,count_definitions.py}
+    crates.txt ffi/prove.sh ffi/proof tools/{fresh,debian_rust,generate,install}.sh tools/{generate,count_definitions.py}
     tools/{shell.sh,platforms.sh,other_platforms.sh,wasi.mjs}
 )
 

@@ -1,34 +1,25 @@
 #!/usr/bin/env python3
 """Prints of what a release is made, in SPDX 2.3: sbom.py VERSION COMMIT SECONDS. The last are those of the commit.
 
-The parts are the crates whose functions PROVENANCE counts, those that crates.txt names, and what compiled them.
+The parts are the crates whose text rustc compiled, what it took in of Rust's own, and what compiled them.
 """
 import datetime
+import glob
 import json
 import os
 import re
 import sys
 
 OURS = "Apache-2.0 OR MIT"
+RUST = "MIT OR Apache-2.0"
 NONE = "NOASSERTION"
-PORTS = {"arrayvec": (OURS, "0.7.8"), "hex": (OURS, "0.4.3")}
+FOLDERS = ("rust/src/proved", "rust/c/src/calls", "rust/src/bin/pkcs1_tool/tool")
 
 
 def provenance():
     """What PROVENANCE says: the words behind each name in front of a colon."""
     with open("ffi/generated/PROVENANCE", encoding="utf-8") as it:
-        return dict(re.findall(r"^ *(kit|rattle|clang|library|tool): (.*)$", it.read(), re.M))
-
-
-def libraries():
-    """The crates of the library and of the tool, and all below them that crates.txt names."""
-    with open("crates.txt", encoding="utf-8") as it:
-        lines = [line.split(":") for line in it if ":" in line and not line.startswith("#")]
-    known = {name.split()[0]: below.split() for name, below in lines}
-    made = ["pkcs1_c", "pkcs1_tool"]
-    for name in made:
-        made += [it for it in known.get(name, []) if it not in made]
-    return made
+        return dict(re.findall(r"^(rustc|driver|LLVM): (.*)$", it.read(), re.M))
 
 
 def package(name, licence=NONE, version=None, comment=None, sha256=None):
@@ -40,25 +31,24 @@ def package(name, licence=NONE, version=None, comment=None, sha256=None):
     return {key: value for key, value in made.items() if value is not None}
 
 
-def crates(said, version):
-    """The crates that are built in, with how many functions each has in the library and in the tool."""
-    counts = {of: dict(it.split() for it in said[of].split(", ")) for of in ("library", "tool")}
-    for name in sorted(set(libraries()).union(*counts.values())):
-        numbers = ", ".join(f"{count.get(name, 0)} in the {of}" for of, count in counts.items())
-        licence, its_version = (OURS, version) if os.path.isdir(f"crates/{name}") else PORTS.get(name, (NONE, None))
-        yield package(name, licence, its_version, f"functions: {numbers}")
+def crates(version):
+    """The crates that are built in, and the crate for Rust, which is of the same text."""
+    for name in sorted(os.path.basename(it[:-1]) for folder in FOLDERS for it in glob.glob(f"{folder}/*/")):
+        yield package(name, OURS, version, "functions of the crate, without its contracts")
+    yield package("pkcs1-proved-crate", OURS, version, "for Rust: functions of the crates, without their contracts")
 
 
-def crate(version):
-    """The crate for Rust, which holds no function of the toolchain's."""
-    return package("pkcs1-proved-crate", OURS, version, "for Rust: functions of the crates, without their contracts")
+def of_rust(said):
+    """What rustc took in of Rust's own libraries."""
+    version = said["rustc"].split()[0]
+    yield package("core", RUST, version, "in the library and in the tool, what they use of it")
+    yield package("alloc", RUST, version, "in the tool, what it uses of it")
 
 
 def tools(said):
     """What compiled them."""
-    version, clang = said["clang"].split(", sha256 ")
-    yield package("rattle", NONE, said["kit"], sha256=said["rattle"].split()[1])
-    yield package("clang", "Apache-2.0 WITH LLVM-exception", version, sha256=clang)
+    yield package("rustc", RUST, said["rustc"], sha256=said["driver"].split()[1])
+    yield package("LLVM", "Apache-2.0 WITH LLVM-exception", said["LLVM"])
 
 
 def main():
@@ -66,7 +56,7 @@ def main():
     os.chdir(f"{os.path.dirname(os.path.realpath(__file__))}/..")
     said = provenance()
     whole = package("pkcs1-proved", OURS, version, f"commit {commit}")
-    parts, compilers = [*crates(said, version), crate(version)], list(tools(said))
+    parts, compilers = [*crates(version), *of_rust(said)], list(tools(said))
     related = [("SPDXRef-DOCUMENT", "DESCRIBES", whole["SPDXID"])]
     related += [(whole["SPDXID"], "CONTAINS", it["SPDXID"]) for it in parts]
     related += [(it["SPDXID"], "BUILD_TOOL_OF", whole["SPDXID"]) for it in compilers]

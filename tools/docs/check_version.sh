@@ -1,8 +1,8 @@
 #!/usr/bin/env bash
 # Fails where the version isn't that of the macros in ffi/include/pkcs1.h, from which make, the `.pc` file, a release and
 # its list of parts have theirs. That of the built library is compared by ffi/c/test.c.
-#     check_version.sh [--write VERSION]    writes it in all places. Then rt ci && tools/generate.sh, as the proved code
-#                                           has it too. CHANGELOG gets its heading by hand.
+#     check_version.sh [--write VERSION]    writes it in all places. Then tools/erase/erase.py && tools/generate.sh, as
+#                                           the proved code has it too. CHANGELOG gets its heading by hand.
 set -eu
 cd "$(dirname "$0")/../.."
 header=ffi/include/pkcs1.h
@@ -14,6 +14,8 @@ places=(
     crates/pkcs1_c/wrong/status.edits 'octets = b"' '\\0"'
     crates/pkcs1_tool/pkcs1_tool.1 '"pkcs1 ' '"'
     rust/Cargo.toml '^version = "' '"'
+    rust/c/Cargo.toml '^version = "' '"'
+    rust/tool/Cargo.toml '^version = "' '"'
     rust/Cargo.lock 'name = "pkcs1-proved"\nversion = "' '"'
 )
 if [ "${1-}" = --write ]; then
