@@ -91,8 +91,8 @@ make_toolchain() {
     printf '#!/bin/sh\nexec "%s" -fforce-dwarf-frame "$@"\n' "$kit/toolchain/bin/clang" > "$toolchain/bin/clang"
     chmod +x "$toolchain/bin/clang"
 }
-# Builds this crate over libraries that rt ci or rt lib proved and kept, and over what checks, rt lib or tools/generate.sh
-# kept of its own proof; rt ci keeps none of that. rt ci builds no static library, and rt lib takes no other toolchain.
+# Builds this crate over libraries that rt ci or rt lib proved and kept, and over what checks or rt lib kept of its own
+# proof; rt ci keeps none of that. rt ci builds no static library, and rt lib takes no other toolchain.
 build_over() {
     local words=(--extern "std=$kit/rlibs/std.rlib" -L "dependency=$kit/rlibs") name
     for name in standard der_core spki_core pkcs1_params pkcs1 pkcs8_core; do
@@ -137,13 +137,8 @@ build_library() {
     stamp > "$out/stamp"
 }
 
-# Makes the two objects that link.sh links: the crate, and c/pkcs1.c.
 link_library() {
-    ld -r -o "$out/proved.o" --whole-archive "$library"
-    objcopy --wildcard --keep-global-symbol='pkcs1_c_*' "$out/proved.o"
-    "$CC" -std=c99 -O2 ${CFLAGS-} -fPIC -ffunction-sections -fdata-sections -Wall -Wextra -Werror -pedantic \
-        "-I$here/include" -c "$here/c/pkcs1.c" -o "$out/calls.o"
-    "$here/link.sh" "$out" || stop "the library isn't linked"
+    "$here/link_proved.sh" "$library" "$out" || stop "the library isn't linked"
     say "ffi/out/libpkcs1.a and libpkcs1.so, version $version"
 }
 

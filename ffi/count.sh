@@ -1,7 +1,7 @@
 #!/usr/bin/env bash
 # Counts the instructions of the calls in c/count.c, and compares them with the table ffi/counts. It fails where a call
-# has 3 % more or fewer, or where a row is missing or new. Contracts say nothing of time, and a compiler may inline
-# otherwise after a small change: it's seen here.
+# has 3 % more or fewer, or where a row is missing or new. Contracts say nothing of time. Where a function is large,
+# rustc may leave another out of line, and a call takes a fifth more: it's seen here.
 #
 #     ffi/count.sh [LIBRARY]    LIBRARY: a libpkcs1.a, in place of those that make builds of ffi/generated, in assembly
 #                               and in C. It is compared with the first

@@ -15,7 +15,7 @@ import sys
 OF_CALLS = re.compile(r"pkcs1_(?!c_)\w+_(de|en)code(?:_strict)?")
 RETURN_ADDRESS = 8
 # first_written calls itself, once for each field of parameters: those of PSS have four.
-CALLS_ITSELF = re.compile(r"\w*first_written|.*::first_written")
+CALLS_ITSELF = re.compile(r"\w*first_written")
 FIELDS = 4
 
 

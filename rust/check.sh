@@ -7,7 +7,9 @@
 #     crate            with each feature, without a warning: its tests, clippy, documentation, layout and package
 #     preconditions    no function with a `requires` is reached from outside
 #     rows             the worked rows, the tests in Rattle and the tool, erased
-#     beside           COUNT inputs by chance, beside the library that make builds; the SEED is another one each day
+#     beside           COUNT inputs by chance, beside the library that rt compiles, the other compiler of the same proof:
+#                      ffi/build.sh --library leaves it. Where it isn't, beside the one that make builds, and a line says
+#                      so. The SEED is another one each day
 #     memory           each request for memory refused
 #     secrets          the path on a private key, under valgrind
 #     oldest           the crate and the rows, by Debian's rustc 1.85
@@ -16,12 +18,14 @@
 #
 # What is made stands in out/rust, or below OUT. It needs cargo with clippy and rustfmt, and python3. `beside`,
 # `secrets` and `machines` need make and gcc, `secrets` valgrind too, and `machines` qemu-user and
-# gcc-{i686,s390x}-linux-gnu. `oldest`, `machines` and `wasm` need apt-get and Debian's packages from the network, or a
-# folder DEBIAN into which they were unpacked. Nothing is installed. Without node or its packages `wasm` is left out.
+# gcc-{i686,s390x}-linux-gnu. `oldest`, `machines` and `wasm` need apt-get and Debian's packages from the network, or the
+# folder DEBIAN, out/debian unless said, into which they were unpacked. Nothing is installed. Without node or its packages
+# `wasm` is left out.
 set -eu
 cd "$(dirname "$0")/.."
 . tools/shell.sh
 . tools/platforms.sh
+. tools/debian_rust.sh
 OUT=$(realpath -m "${OUT:-out/rust}")
 room=$OUT/room
 COUNT=${COUNT:-500000}
@@ -115,6 +119,10 @@ rows() {
 with_c() {
     needs make "$1" ar
     quietly make make --silent OUT="$2" CC="$1" "${@:3}" "$2/libpkcs1.a"
+    with_built "$1" "$2"
+}
+# with_built COMPILER FOLDER: the folder has what calls its library for programs.
+with_built() {
     "$1" -std=c99 -O2 -Wall -Wextra -Werror -pedantic -Iffi/include -c rust/check/built.c -o "$2/built.o"
     cp "$2/libpkcs1.a" "$2/libbuilt.a"
     ar rs "$2/libbuilt.a" "$2/built.o" 2> "$OUT/log"
@@ -124,9 +132,19 @@ linked() {
     cargo rustc --manifest-path $check --bin "$1" "${@:3}" -- -L "native=$2"
 }
 beside() {
-    with_c gcc "$OUT/c"
-    linked beside "$OUT/c" --profile checked
+    local proved=crates/pkcs1_c/out/libpkcs1_c.a of="that rt compiled" folder=$OUT/proved
+    if [ -e $proved ]; then
+        needs gcc ar ld objcopy
+        mkdir -p "$folder"
+        quietly ffi/link_proved.sh ffi/link_proved.sh $proved "$folder"
+        with_built gcc "$folder"
+    else
+        of="that make builds, as $proved isn't there: ffi/build.sh --library has rt compile it" folder=$OUT/c
+        with_c gcc "$folder"
+    fi
+    linked beside "$folder" --profile checked
     "$CARGO_TARGET_DIR/checked/beside" "$COUNT" "$SEED" "${rows[@]}"
+    echo "beside: the library $of"
 }
 memory() {
     cargo build --manifest-path $check --profile checked --bin refuse
@@ -147,35 +165,10 @@ secrets() {
     echo "secrets: by $(rustc --version), the path on ${#keys[@]} private keys doesn't depend on their secret numbers"
 }
 
-# unpack ROOT SUITES ARCHITECTURES PACKAGE..: puts these packages of Debian into a folder of their own.
-unpack() {
-    local apt=$OUT/apt suite it
-    needs apt-get dpkg
-    mkdir -p "$apt/lists/partial" "$apt/archives/partial" "$1"
-    for suite in $2; do
-        echo "deb [signed-by=/usr/share/keyrings/debian-archive-keyring.gpg] http://deb.debian.org/debian $suite main"
-    done > "$apt/sources"
-    printf '%s\n' "Dir::State::lists \"$apt/lists\"; Dir::Cache \"$apt\"; APT::Sandbox::User \"\";" \
-        "Dir::Etc::sourcelist \"$apt/sources\"; Dir::Etc::sourceparts \"-\"; APT::Architectures { $3 };" \
-        > "$OUT/apt.conf"
-    (
-        export APT_CONFIG=$OUT/apt.conf
-        cd "$apt" && apt-get update && apt-get download "${@:4}"
-    ) > "$OUT/log" 2>&1 || { cat "$OUT/log" >&2 && return 1; }
-    for it in "$apt"/*.deb; do
-        dpkg -x "$it" "$1" || return
-    done
-    rm -rf "$apt"
-}
-
-# debian_rust: Debian's rustc 1.85 for three machines, in a folder of its own, is what cargo calls.
-debian_rust() {
-    local version=1.85.0+dfsg3-1~deb12u3 root=${DEBIAN:-$OUT/debian}
-    [ -x "$root/usr/bin/rustc" ] || unpack "$root" bookworm '"amd64"; "i386"; "s390x";' libllvm19 rustc-web=$version \
-        libstd-rust-web-{1.85,dev,dev:i386,dev:s390x}=$version || stop "Debian's rustc $version isn't there"
-    export LD_LIBRARY_PATH=$root/usr/lib/x86_64-linux-gnu RUSTC=$root/usr/bin/rustc RUSTDOC=$root/usr/bin/rustdoc
+# with_debian_rust: Debian's rustc 1.85 is what cargo calls.
+with_debian_rust() {
+    debian_rust
     export CARGO_TARGET_DIR=$OUT/debian_target
-    "$RUSTC" --version | grep -q '^rustc 1\.85\.' || stop "$RUSTC is no rustc 1.85"
 }
 with_oldest() {
     tests
@@ -183,7 +176,7 @@ with_oldest() {
     answers "$CARGO_TARGET_DIR/debug/vectors"
 }
 oldest() (
-    debian_rust
+    with_debian_rust
     platform "Linux" "x86-64" "the crate for Rust, by rustc 1.85" "tested" -- with_oldest
 )
 
@@ -206,7 +199,7 @@ rows_of_32_bits() {
     grep -vE ' (4294967296|18446744073709551615)\b' crates/pkcs1_vectors/stdin
 }
 machines() (
-    debian_rust
+    with_debian_rust
     rows_of_32_bits > "$OUT/rows_of_32_bits"
     platform "Linux" "i386" "the crate for Rust, by rustc 1.85" "tested under qemu" -- \
         on_machine i686-unknown-linux-gnu i686-linux-gnu-gcc qemu-i386 "$OUT/rows_of_32_bits"
@@ -216,7 +209,7 @@ machines() (
 
 # debian_wasm: Debian 13 has a standard library for wasm32. Its rustc, run by its C library, is what cargo calls.
 debian_wasm() {
-    local root=${DEBIAN:-$OUT/debian}/wasm it
+    local root=$DEBIAN/13 it
     [ -x "$root/usr/bin/rustc" ] || unpack "$root" 'bookworm trixie' '"amd64";' {libllvm19,lld-19}/bookworm \
         {rustc,libstd-rust-1.85,libstd-rust-dev-wasm32,libc6,libgcc-s1,libstdc++6}/trixie || return
     for it in bin/rustc lib/llvm-19/bin/lld; do

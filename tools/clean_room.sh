@@ -276,17 +276,21 @@ one_file() {
     cc ffi/c/{test,rows,large}.c "$room/one file/pkcs1_all.c" "-I$room/one file" -Iffi/include -o "$room/own_test"
     "$room/own_test" crates/pkcs1_vectors/stdin
 }
-# parts FOLDER: the list of a release's parts has each crate whose functions PROVENANCE counts, and the hashes of the
-# compilers.
+# parts FOLDER: the list of a release's parts has each crate that is built in, what rustc took in of Rust's own, and the
+# hash of the compiler.
 parts() {
-    python3 - "$1/SBOM.spdx.json" "$1/ffi/generated/PROVENANCE" << 'END'
-import json, re, sys
-list_, said = json.load(open(sys.argv[1])), open(sys.argv[2]).read()
+    python3 - "$1" << 'END'
+import json, os, re, sys
+list_, said = (open(f"{sys.argv[1]}/{it}").read() for it in ("SBOM.spdx.json", "ffi/generated/PROVENANCE"))
+list_ = json.loads(list_)
 parts = {it["name"]: it for it in list_["packages"]}
-counted = re.findall(r"(\w+) \d+", " ".join(re.findall(r"^    (?:library|tool): (.*)", said, re.M)))
-assert len(counted) > 20 and parts.keys() >= {*counted, "pkcs1-proved", "pkcs1-proved-crate", "clang", "rattle"}, parts.keys()
-hashes = {it["checksums"][0]["checksumValue"] for it in parts.values() if "checksums" in it}
-assert len(hashes) == 2 and hashes == set(re.findall(r"sha256 ([0-9a-f]{64})", said)), hashes
+folders = "src/proved", "c/src/calls", "src/bin/pkcs1_tool/tool"
+built = {it for folder in folders for it in os.listdir(f"{sys.argv[1]}/rust/{folder}") if not it.endswith(".rs")}
+others = {"pkcs1-proved", "pkcs1-proved-crate", "core", "alloc", "rustc", "LLVM"}
+assert len(built) == 8 and parts.keys() == built | others, parts.keys()
+hashes = [it["checksums"][0]["checksumValue"] for it in parts.values() if "checksums" in it]
+assert hashes == re.findall(r"sha256 ([0-9a-f]{64})", said) and len(hashes) == 1, hashes
+assert all("Apache-2.0" in it["licenseDeclared"] for it in parts.values()), parts
 ends = {it[end] for it in list_["relationships"] for end in ("spdxElementId", "relatedSpdxElement")}
 assert ends == {"SPDXRef-DOCUMENT", *(it["SPDXID"] for it in parts.values())}, ends
 END

@@ -1,59 +1,62 @@
 #!/usr/bin/env python3
 """Prints of what a release is made, in SPDX 2.3: sbom.py VERSION COMMIT SECONDS. The last are those of the commit.
 
-The parts are the crates that crates.txt names for the library and the tool, the crate for Rust, Rust's own libraries of
-which rustc compiled parts in, and rustc.
+The parts are the crates whose text rustc compiled, what it took in of Rust's own, and what compiled them.
 """
 import datetime
+import glob
 import json
 import os
 import re
 import sys
 
 OURS = "Apache-2.0 OR MIT"
-NONE = "NOASSERTION"
 RUST = "MIT OR Apache-2.0"
+NONE = "NOASSERTION"
+FOLDERS = ("rust/src/proved", "rust/c/src/calls", "rust/src/bin/pkcs1_tool/tool")
 
 
-def rustc():
-    """The version of rustc that PROVENANCE names."""
+def provenance():
+    """What PROVENANCE says: the words behind each name in front of a colon."""
     with open("ffi/generated/PROVENANCE", encoding="utf-8") as it:
-        return re.search(r"^rustc: .*?(\d+\.\d+\.\S+)", it.read(), re.M)[1]
+        return dict(re.findall(r"^(rustc|driver|LLVM): (.*)$", it.read(), re.M))
 
 
-def libraries():
-    """The crates of the library and of the tool, and all below them that stand here."""
-    with open("crates.txt", encoding="utf-8") as it:
-        lines = [line.split(":") for line in it if ":" in line and not line.startswith("#")]
-    known = {name.split()[0]: below.split() for name, below in lines}
-    made = ["pkcs1_c", "pkcs1_tool"]
-    for name in made:
-        made += [it for it in known.get(name, []) if it not in made]
-    return [name for name in made if name in known]
-
-
-def package(name, licence, version, comment=None):
+def package(name, licence=NONE, version=None, comment=None, sha256=None):
     """A part, as SPDX has it."""
     made = {"SPDXID": f"SPDXRef-{name.replace('_', '-')}", "name": name, "versionInfo": version,
             "downloadLocation": NONE, "filesAnalyzed": False, "licenseConcluded": NONE,
-            "licenseDeclared": licence, "copyrightText": NONE, "comment": comment}
+            "licenseDeclared": licence, "copyrightText": NONE, "comment": comment,
+            "checksums": sha256 and [{"algorithm": "SHA256", "checksumValue": sha256}]}
     return {key: value for key, value in made.items() if value is not None}
 
 
-def parts_of(version, compiler):
-    """The crates that are built in, the crate for Rust, and what Rust's libraries give."""
-    for name in sorted(libraries()):
-        yield package(name, OURS, version)
+def crates(version):
+    """The crates that are built in, and the crate for Rust, which is of the same text."""
+    for name in sorted(os.path.basename(it[:-1]) for folder in FOLDERS for it in glob.glob(f"{folder}/*/")):
+        yield package(name, OURS, version, "functions of the crate, without its contracts")
     yield package("pkcs1-proved-crate", OURS, version, "for Rust: functions of the crates, without their contracts")
-    yield package("rust-core", RUST, compiler, "parts of Rust's core, in the library and in the tool")
-    yield package("rust-alloc", RUST, compiler, "parts of Rust's alloc, in the tool")
+
+
+def of_rust(said):
+    """What rustc took in of Rust's own libraries."""
+    version = said["rustc"].split()[0]
+    yield package("core", RUST, version, "in the library and in the tool, what they use of it")
+    yield package("alloc", RUST, version, "in the tool, what it uses of it")
+
+
+def tools(said):
+    """What compiled them."""
+    yield package("rustc", RUST, said["rustc"], sha256=said["driver"].split()[1])
+    yield package("LLVM", "Apache-2.0 WITH LLVM-exception", said["LLVM"])
 
 
 def main():
     version, commit, seconds = sys.argv[1:]
     os.chdir(f"{os.path.dirname(os.path.realpath(__file__))}/..")
+    said = provenance()
     whole = package("pkcs1-proved", OURS, version, f"commit {commit}")
-    parts, compilers = [*parts_of(version, rustc())], [package("rustc", RUST, rustc())]
+    parts, compilers = [*crates(version), *of_rust(said)], list(tools(said))
     related = [("SPDXRef-DOCUMENT", "DESCRIBES", whole["SPDXID"])]
     related += [(whole["SPDXID"], "CONTAINS", it["SPDXID"]) for it in parts]
     related += [(it["SPDXID"], "BUILD_TOOL_OF", whole["SPDXID"]) for it in compilers]

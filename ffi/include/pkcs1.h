@@ -79,7 +79,7 @@
  *   where clang compiles them. So a signal handler may make each call, and a program without a C library.
  * Stack: on x86-64, compiled by gcc 12 with -O2, calls take at most so many octets, whatever is passed. Functions of
  *   the C library come on top, and in a program that isn't linked with -z now, for the first call of each of them, over
- *   2000 octets of the loader. Assembly: 1992 to decode, 1032 to encode. Generated C: 2080 to decode, 1056 to encode.
+ *   2000 octets of the loader. Assembly: 1168 to decode, 968 to encode. Generated C: 1280 to decode, 824 to encode.
  * Time: which way a call takes on a valid private key depends alone on the lengths of its numbers and their encodings.
  *   This is tested on x86-64, not proved. Leading zeros that you pass are counted by a loop. Of other octets, status
  *   and time tell where the first fault is. If you decrypt keys without authentication, show neither to the sender.

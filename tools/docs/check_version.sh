@@ -14,6 +14,8 @@ places=(
     crates/pkcs1_c/wrong/status.edits 'octets = b"' '\\0"'
     crates/pkcs1_tool/pkcs1_tool.1 '"pkcs1 ' '"'
     rust/Cargo.toml '^version = "' '"'
+    rust/c/Cargo.toml '^version = "' '"'
+    rust/tool/Cargo.toml '^version = "' '"'
     rust/Cargo.lock 'name = "pkcs1-proved"\nversion = "' '"'
 )
 if [ "${1-}" = --write ]; then

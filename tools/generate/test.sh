@@ -1,8 +1,8 @@
 #!/usr/bin/env bash
 # test.sh [FOLDER]: tests the files that generate.sh made there, else in ffi/generated: the objects are such that
 # they link with anything, and the C passes the test of the library as the assembly does. And what makes and compares
-# them: what the translation to C doesn't know it refuses. It needs gcc, clang, binutils and python3; for the other
-# processor its gcc and qemu, and to compare instructions the kit.
+# them: a panic is a trap, and what isn't known is refused. It needs gcc, clang, llc, binutils and python3, and for the
+# other processor its gcc and qemu.
 set -eu
 here=$(cd "$(dirname "$0")" && pwd)
 . "$here/../shell.sh"
@@ -14,7 +14,7 @@ trap 'rm -rf "$room"' EXIT
 ulimit -t 300 # no test runs forever
 export PYTHONDONTWRITEBYTECODE=1
 
-needs gcc clang readelf nm python3
+needs gcc clang llc readelf nm python3
 
 # links OBJECT CC: it can be moved, and has the marks of control flow that $asked has the linker look for.
 links() {
@@ -75,10 +75,8 @@ library_is_marked() {
 }
 objects_are_right() {
     local calls='pkcs1_c_[a-z0-9_]*' processor cc option asked marking
-    local of_c='memcpy|memmove|memset|memcmp|bcmp' of_tool
-    of_tool="$of_c|read|write|open|close|fchmod|fdatasync|flock|fsync|ftruncate|realpath|rename|statx|unlink"
-    of_tool="$of_tool|__sysv_signal|pkcs1_rattle_(alloc|realloc|dealloc)"
-    of_tool="$of_tool|pkcs1_rattle_(arg|arg_count|env|env_at|errno|set_errno)"
+    local of_c='memcpy|memmove|memset|memcmp' of_tool
+    of_tool="$of_c|strlen|malloc|realloc|free|_GLOBAL_OFFSET_TABLE_|$(grep -oE 'pkcs1_os_\w+' "$ffi/c/os.c" | sort -u | paste -sd '|')"
     for processor in x86_64 aarch64; do
         cc=$processor-linux-gnu-gcc
         [ $processor != "$(uname -m)" ] || cc=gcc
@@ -159,109 +157,85 @@ unknown_is_refused() {
     refuses $'ret void\n}\n@it = private constant [1 x ptr] [ptr @a]\ndefine void @pkcs1_c_i() {' 'not known: [ ptr @a'
 }
 
-# A clang that is called otherwise than is known is told in one line.
-another_kit_is_refused() {
-    local words
-    mkdir -p "$room/toolchain/kept/0"
-    for words in '-c -x ir module.bc -o module.o other.bc' '-c module.c -o module.o' '-S -x ir module.bc -o it.s'; do
-        # shellcheck disable=SC2086
-        printf '%s\n' $words > "$room/toolchain/kept/0/words"
-        "$here/assembly.py" "$room/toolchain" "$room/it.s" 2> "$room/error" && stop "clang $words is made again"
-        if [ -e "$room/it.s" ] || [ "$(wc -l < "$room/error")" != 1 ] || ! grep -q 'another kit' "$room/error"; then
-            stop "clang $words is refused otherwise: $(cat "$room/error")"
-        fi
+# function_of NAME LINE..: the assembly of a function of these lines.
+function_of() {
+    printf '\t.section\t.text.%s,"ax",@progbits\n\t.type\t%s,@function\n%s:\n\t.cfi_startproc\n' "$1" "$1" "$1"
+    printf '\t%b\n' "${@:2}" .cfi_endproc
+}
+# isnt_plain TEXT MESSAGE PROCESSOR KIND: this assembly isn't kept, and one line says why.
+isnt_plain() {
+    "$here/plain.py" "$3" "$4" <<< "$1" > "$room/it.s" 2> "$room/error" && stop "this is kept: $1"
+    if [ -s "$room/it.s" ] || [ "$(wc -l < "$room/error")" != 1 ] || ! grep -qF "$2" "$room/error"; then
+        stop "$1 is refused otherwise: $(cat "$room/error")"
+    fi
+}
+# A panic is a trap. It isn't where it could come back; no other function of core is left in the library.
+panics_are_traps() {
+    local write=_ZN4core3fmt5write17h0123456789abcdefE panic=_ZN4core9panicking5panic17hfedcba9876543210E own stops
+    local kind processor call trap
+    stops=$(function_of $panic 'bl\trust_begin_unwind'; function_of rust_begin_unwind 'bl\tpkcs1_stop')
+    for processor in x86_64 aarch64; do
+        case $processor in x86_64) call=callq trap=ud2 ;; aarch64) call=bl trap='brk\t#0x1' ;; esac
+        own=$(function_of own "$call\t$panic" ret)
+        for kind in library tool; do
+            "$here/plain.py" $processor $kind <<< "$stops"$'\n'"$own" > "$room/it.s"
+            ! grep -q 'panic\|unwind\|stop' "$room/it.s" && grep -qx $'\t'"$(printf %b "$trap")" "$room/it.s" ||
+                stop "a panic isn't a trap: $(cat "$room/it.s")"
+            isnt_plain "$(function_of $panic "$call\town" ret)" 'comes back' $processor $kind
+            isnt_plain "$(function_of own "$call\tpkcs1_stop")" "stops that isn't of core" $processor $kind
+            isnt_plain "$(function_of own "$call\t$write" ret)" "isn't there" $processor $kind
+            isnt_plain "$stops"$'\n'"$(function_of own ".quad\t$panic")" 'otherwise than by a call' $processor $kind
+        done
+        isnt_plain "$(function_of $write ret)" 'comes back' $processor library
+        "$here/plain.py" $processor tool <<< "$(function_of $write ret)" | grep -q fmt5write || stop "printing isn't kept"
     done
+    isnt_plain "$(function_of $panic 'jne\town' ud2)" 'comes back' x86_64 library
+    isnt_plain "$(function_of $panic 'cbz\tx0, own' 'brk\t#1')" 'comes back' aarch64 library
+    isnt_plain "$(function_of _RNvNtCs0123456789a_4core3fmt5write ret)" 'comes back' x86_64 library
+    refuses $'ret void\n}\ndefine void @'$panic$'() {\n  ret void' 'comes back'
+    refuses $'ret void\n}\ndeclare void @'$write$'()\ndefine void @pkcs1_c_i() {' 'a function of another file'
+    printf 'define void @pkcs1_c_it() {\n  call void @%s()\n  unreachable\n}\ndefine void @%s() {\n  unreachable\n}\n' \
+        $panic $panic > "$room/it.ll"
+    python3 "$here/ir2c" "$room/it.ll" "$here/border.c" "$room/it.c"
+    grep -qx '    TRAP();' "$room/it.c" && ! grep -q panicking "$room/it.c" || stop "a panic isn't a trap in C"
 }
 
-# hash_after EDIT: the hash of the sources if der_core/src/length.rt is edited so.
-hash_after() {
-    sed "$1" "$here/../../crates/der_core/src/length.rt" > "$room/tree/crates/der_core/src/length.rt"
-    "$room/tree/tools/generate/sources.py" hash
-}
-hash_is_of_code() {
-    local hash edit
-    mkdir "$room/tree"
-    (cd "$here/../.." && tar c crates.txt crates/*/src tools/{generate,fresh,shell}.sh tools/generate) | tar x -C "$room/tree"
-    hash=$(hash_after '')
-    for edit in 's,^//,// Or:,' 's/^\( *ensures .*{\)/\1 1 ≡ 1 ×/' '/^ghost use/d' '/tactic/d'; do
-        [ "$(hash_after "$edit")" = "$hash" ] || stop "the hash changes with $edit"
+# The hash is of the text that rustc takes, and of what makes the files; not of the crate's other text.
+hash_is_of_all() {
+    local tree=$room/tree it hash
+    mkdir "$tree"
+    (cd "$here/../.." && tar c --exclude=target rust tools/{generate,fresh,debian_rust}.sh tools/generate) | tar x -C "$tree"
+    hash=$("$tree/tools/fresh.sh" --hash)
+    for it in rust/src/{clones,proved/der_core/length,rattle_std/vec,bin/pkcs1_tool/{tool,rattle_std}/mod}.rs \
+        rust/{c,tool}/src/lib.rs rust/c/src/calls/pkcs1_c/status.rs rust/tool/src/rattle_std/system.rs \
+        tools/{generate,debian_rust}.sh tools/generate/{{plain,marks,rust_names}.py,provenance.sh,border.c,ir2c/{head.c,calls.py}}; do
+        cp -p "$tree/$it" "$room/kept"
+        echo >> "$tree/$it"
+        [ "$("$tree/tools/fresh.sh" --hash)" != "$hash" ] || stop "the hash doesn't change with $it"
+        mv "$room/kept" "$tree/$it"
     done
-    [ "$(hash_after 's/0x84/0x85/')" != "$hash" ] || stop "the hash doesn't change with the code"
-}
-
-# passes_if FOLDER TEXT and fails_if FOLDER TEXT: compare.sh, in the copy, has this status, and one line has this text.
-passes_if() {
-    "$room/tree/tools/generate/compare.sh" "$1" > "$room/said" || stop "compare.sh fails, and not: $2"
-    grep -q "$2" "$room/said" || stop "compare.sh says $(cat "$room/said"), not: $2"
-}
-fails_if() {
-    "$room/tree/tools/generate/compare.sh" "$1" 2> "$room/said" && stop "compare.sh passes, and not: $2"
-    grep -q "$2" "$room/said" || stop "compare.sh says $(cat "$room/said"), not: $2"
-}
-# What the build that PROVENANCE names makes has to be the same; what another one makes is told. And whether the files
-# are fresh doesn't depend on the build. A stand-in for rt calls itself another build.
-other_builds_are_told() {
-    local tree=$room/tree made=$room/other_build another=$room/bin:$PATH
-    mkdir -p "$tree/ffi" "$room/bin"
-    printf '#!/bin/sh\n[ "$*" != version ] || exec echo another\nexec %s "$@"\n' "$(command -v rt)" > "$room/bin/rt"
-    chmod +x "$room/bin/rt"
-    cp -r "$generated" "$tree/ffi/generated"
-    cp -r "$generated" "$made"
-    passes_if "$made" 'is what the proved build makes'
-    sed -i '100s/.*/another/' "$made/pkcs1_c.c"
-    fails_if "$made" "isn't what the proved build makes"
-    sed -i "s/^kit: .*/kit: $(PATH=$another rt version)/" "$made/PROVENANCE"
-    passes_if "$made" 'another other files: 2 lines are in one of them only$'
-    sed -i "s/^kit: .*/$(grep '^kit: ' "$generated/PROVENANCE")/; s/^rattle: .*/rattle: sha256 0/" "$made/PROVENANCE"
-    passes_if "$made" 'other files: 2 lines are in one of them only$'
-    sed -i 's/^sources: .*/sources: others/' "$made/PROVENANCE"
-    fails_if "$made" 'of other sources'
-
-    sed -i "s/^sources: .*/sources: $(hash_after '')/" "$tree/ffi/generated/PROVENANCE"
-    PATH=$another "$tree/tools/generate.sh" --fresh || stop "the files aren't fresh for another build"
-    hash_after 's/0x84/0x85/' > "$room/hash"
-    PATH=$another "$tree/tools/generate.sh" --fresh 2> "$room/said" && stop "the files are fresh for other sources"
-    grep -q 'made of other sources' "$room/said" || stop "other sources are told otherwise: $(cat "$room/said")"
-}
-
-# What differs from the code of an object is told: an instruction, a constant, a name, a mark of control flow.
-other_code_is_told() {
-    local assembly=$generated/x86_64/pkcs1_c.s words edit
-    words=("$1" objdump x86_64-unknown-linux-gnu "$room/code.o")
-    "$here/marks.py" remove x86_64 < "$assembly" > "$room/unmarked.s"
-    "$1" --target=x86_64-unknown-linux-gnu -c "$room/unmarked.s" -o "$room/code.o"
-    "$here/same_code.py" "${words[@]}" "$assembly"
-    for edit in 's/cmpb\t\$5/cmpb\t$6/' 's/no error/no Error/' 's/callq\tmemcpy/callq\tmemmove/' \
-        '/^\tendbr64$/d' 's/^\tpushq\t%rbx$/\tendbr64\n&/' 's/\tnotrack\t/\t/'; do
-        sed "$edit" "$assembly" > "$room/other.s"
-        cmp -s "$assembly" "$room/other.s" && stop "nothing is changed by $edit"
-        "$here/same_code.py" "${words[@]}" "$room/other.s" 2> "$room/error" && stop "$edit isn't told"
-        grep -qE 'what was proved and|has other marks' "$room/error" || stop "$edit is told otherwise"
-    done
+    echo >> "$tree/rust/src/lib.rs"
+    [ "$("$tree/tools/fresh.sh" --hash)" = "$hash" ] || stop "the hash changes with what the files aren't made of"
+    mv "$tree/rust/c/src/calls/mod.rs" "$tree/rust/c/src/calls/other.rs"
+    [ "$("$tree/tools/fresh.sh" --hash)" != "$hash" ] || stop "the hash doesn't change with the name of a file"
 }
 # Code that goes to an address in a way that isn't known gets no marks.
 unknown_ways_are_refused() {
     local line
     for line in 'x86_64 jmpq\t*%rax' 'x86_64 callq\t*8(%rdi)' 'aarch64 br\tx8' 'aarch64 blr\tx8'; do
-        printf '\t%b\n' "${line#* }" | "$here/marks.py" add "${line%% *}" > "$room/it.s" 2> "$room/error" &&
-            stop "$line gets marks"
-        grep -q "isn't known" "$room/error" || stop "$line is refused otherwise: $(cat "$room/error")"
+        isnt_plain "$(function_of own "${line#* }" ret)" "isn't known" "${line%% *}" library
     done
+    isnt_plain "$(function_of own 'leaq\t.LJTI1_0(%rip), %rcx' 'addq\t%rcx, %rax' 'jmpq\t*%rax')" "isn't known" x86_64 tool
+    isnt_plain "$(function_of own 'add\tx8, x8, :lo12:.LJTI1_0' 'br\tx8')" "isn't known" aarch64 tool
 }
 
 objects_are_right
 library_passes
 small_machines_are_refused
 unknown_is_refused
-another_kit_is_refused
+panics_are_traps
 unknown_ways_are_refused
-hash_is_of_code
-other_builds_are_told
-if command -v rt > /dev/null; then
-    kit=$(dirname "$(rt doc)")
-    "$here/test_opcodes.py" "$kit/toolchain/bin/clang" "$room"
-    "$here/test_equal.sh" "$kit"
-    other_code_is_told "$kit/toolchain/bin/clang"
-    "$here/test_making.sh" "$kit"
-fi
-echo "generated: the objects, the library's test over assembly and C, the translation, other builds"
+hash_is_of_all
+"$here/test_opcodes.py" "$room"
+"$here/test_making.sh"
+echo "generated: the objects, the library's test over assembly and C, the translation, traps, other rustcs and texts"

@@ -1,87 +1,97 @@
 #!/usr/bin/env bash
-# test_making.sh KIT: tests how generate.sh makes and compares files, by KIT's clang. rt and rattle are stand-ins here:
-# a crate is a small module, nothing is proved, and a making may come out otherwise. test.sh calls it.
+# test_making.sh: tests how generate.sh makes and compares files, and what it refuses. rustc is a stand-in here, which
+# gives a function of its own, and what was made isn't tested. test.sh calls it.
 set -eu
-kit=$1
 here=$(cd "$(dirname "$0")" && pwd)
 . "$here/../shell.sh"
 room=$(mktemp -d)
 trap 'rm -rf "$room"' EXIT
 tree=$room/tree
-export PATH=$room/kit/bin:$PATH
-unset CRATES # the tree has its own
+export DEBIAN=$room/debian
+made=$tree/ffi/generated
 
-# The kit. In the makings that its file `other` lists, the library has other code for aarch64. If there is a file
-# `meets`, another proof of a library ends meanwhile.
-stand_ins() {
-    mkdir -p "$room/kit/bin"
-    ln -s "$kit/toolchain" "$room/kit"
-    {
-        printf 'define void @pkcs1_c_%s(ptr %%0, i64 %%1) #0 { store i64 %%1, ptr %%0, align 8 ret void }\n' $(seq 350)
-        echo 'attributes #0 = { nounwind }'
-    } > "$room/kit/module"
-    cat > "$room/kit/bin/rt" << 'END_OF_RT'
-#!/bin/sh
-kit=$(dirname "$0")/..
-[ "$1" = version ] && cat "$kit/name" || echo "$kit/first_page"
-END_OF_RT
-    cat > "$room/kit/bin/rattle" << 'END_OF_RATTLE'
+# A rustc that is called as the file `name` says. It fails where there is a file `fails`.
+stand_in() {
+    mkdir -p "$DEBIAN/12/usr/bin" "$DEBIAN/12/usr/lib/it"
+    echo driver > "$DEBIAN/12/usr/lib/it/librustc_driver-0.so"
+    printf '\t.section\t.text.it,"ax",@progbits\n\t.type\tit,@function\nit:\n\t.cfi_startproc\n\tret\n' > "$room/asm"
+    printf 'define void @pkcs1_c_it() {\n  ret void\n}\n' > "$room/llvm-ir"
+    sed -n "s/^debian_named='\(.*\)'$/\1/p" "$here/../debian_rust.sh" > "$room/name"
+    cat > "$DEBIAN/12/usr/bin/rustc" << END
 #!/usr/bin/env bash
 set -eu
-kit=$(realpath "$(dirname "$0")/..") words=" $* "
-of() { words=${words#* "$1" } && printf '%s\n' "${words%% *}"; }
-crate=$(of --crate-name) toolchain=$(of --toolchain) target=$(of --target) out=$(of -o)
-cd "$(mktemp -d -p "$kit")"
-cp "$kit/module" module.bc
-if [ "$crate $target" = 'pkcs1_c aarch64-unknown-linux-gnu' ]; then
-    echo >> "$kit/makings"
-    ! grep -qx "$(wc -l < "$kit/makings")" "$kit/other" || sed -i '0,/i64 %1, ptr/s//i64 7, ptr/' module.bc
-    [ ! -e "$kit/meets" ] || touch "$kit/../tree/crates/der_core/out/rlib/der_core.rlib/format"
-fi
-"$toolchain/bin/clang" --target="$target" -Wno-override-module -O3 -ffunction-sections -c -x ir module.bc -o pkcs1_c.o
-[ "$crate" = pkcs1_tool ] && mv pkcs1_c.o "$out" || ar rcs "$out" pkcs1_c.o
-END_OF_RATTLE
-    chmod +x "$room"/kit/bin/*
+case \$1 in
+    --version) exec cat "$room/name" ;;
+    -vV) exec echo 'LLVM version: 1' ;;
+esac
+[ ! -e "$room/fails" ] || { echo 'error: it fails' >&2 && exit 1; }
+while [ \$# -gt 0 ]; do
+    case \$1 in
+        --crate-name) name=\$2 ;;
+        --emit) kind=\${2%,link} ;;
+        --out-dir) folder=\$2 ;;
+    esac
+    shift
+done
+mkdir -p "\$folder"
+case \$kind in asm) cp "$room/asm" "\$folder/\$name.s" ;; *) cp "$room/\$kind" "\$folder/\$name.ll" ;; esac
+END
+    chmod +x "$DEBIAN/12/usr/bin/rustc"
 }
-# A tree in which the crates have no sources, and where the tests of what is made only say so.
 make_tree() {
-    local library
     mkdir -p "$tree/ffi"
-    cp "$here/../../crates.txt" "$tree"
-    (cd "$here/../.." && tar c tools/{generate,fresh,shell}.sh tools/generate) | tar x -C "$tree"
+    (cd "$here/../.." && tar c --exclude=target crates.txt crates/*/src rust tools/{generate,fresh,debian_rust,shell}.sh \
+        tools/{generate,erase}) | tar x -C "$tree"
     printf '#!/bin/sh\necho tested\n' > "$tree/tools/generate/test.sh"
     printf 'check:\n\t@echo checked\n' > "$tree/Makefile"
-    for library in pkcs1_c pkcs1_tool $("$tree/tools/generate/sources.py" libraries pkcs1_c) \
-        $("$tree/tools/generate/sources.py" libraries pkcs1_tool); do
-        mkdir -p "$tree/crates/$library/src" "$tree/crates/$library/out/rlib/$library.rlib"
-        touch "$tree/crates/$library/out/rlib/$library.rlib/format"
-    done
 }
-# makes STATUS MAKINGS TEXT WORD..: generate.sh with these words has this status, makes all so often, and says this.
+# makes STATUS TEXT WORD..: generate.sh with these words has this status, and says this. If it fails, no file changes.
 makes() {
-    local status=0
-    : > "$room/kit/makings"
-    "$tree/tools/generate.sh" "${@:4}" > "$room/said" 2>&1 || status=$?
-    if [ "$status $(wc -l < "$room/kit/makings")" != "$1 $2" ] || ! grep -q "$3" "$room/said"; then
-        cat "$room/said" >&2
-        stop "generate.sh ${*:4} has the status $status after $(wc -l < "$room/kit/makings") makings; wanted: $*"
-    fi
+    local status=0 before
+    before=$(cd "$tree" && find ffi -type f -exec sha256sum {} + | sort)
+    "$tree/tools/generate.sh" "${@:3}" > "$room/said" 2>&1 || status=$?
+    [ $status = "$1" ] && grep -q "$2" "$room/said" ||
+        stop "generate.sh ${*:3} has the status $status, and says $(cat "$room/said"); wanted: $*"
+    [ $status = 0 ] || [ "$before" = "$(cd "$tree" && find ffi -type f -exec sha256sum {} + | sort)" ] ||
+        stop "generate.sh ${*:3} fails, and changes files"
+}
+# spoiled FILE EDIT TEXT WORD..: with the file so edited by sed, generate.sh fails and says this.
+spoiled() {
+    cp -p "$tree/$1" "$room/whole"
+    sed -i "$2" "$tree/$1"
+    ! cmp -s "$tree/$1" "$room/whole" || stop "nothing is changed in $1 by $2"
+    makes 1 "$3" "${@:4}"
+    mv "$room/whole" "$tree/$1"
 }
 
-stand_ins
+stand_in
 make_tree
-: > "$room/kit/other"
-echo one > "$room/kit/name"
-makes 0 1 'ffi/generated, after'
-makes 0 1 ^checked --check
-echo 1 > "$room/kit/other"
-makes 0 2 'kept/0/module.bc differ' --check
-printf '1\n2\n' > "$room/kit/other"
-makes 1 2 'twice' --check
-echo another > "$room/kit/name"
-makes 0 1 'another other files: [1-9]' --check
-touch "$room/kit/meets"
-cp -r "$tree/ffi/generated" "$room/before"
-makes 1 1 'proved again meanwhile'
-diff -r "$room/before" "$tree/ffi/generated"
-echo "generated: how files are made, and made once more"
+makes 0 'ffi/generated, after'
+makes 0 'is tested' --check
+"$tree/tools/generate.sh" --fresh || stop "what was made isn't fresh"
+spoiled rust/src/proved/der_core/length.rs 's/0x80/0x81/' "isn't that of the crates"
+spoiled rust/src/proved/der_core/length.rs 's/0x80/0x81/' 'made of other sources' --check
+spoiled crates/der_core/src/length.rt 's/0x80/0x81/' "isn't that of the crates" --check
+echo > "$tree/tools/erase/compare.py" # which takes some seconds, and has said what it has to
+for it in pkcs1_c.c {x86_64,aarch64}/pkcs1_{c,tool}.s PROVENANCE; do
+    spoiled "ffi/generated/$it" 3s/./_/ "isn't what rustc makes" --check
+done
+mv "$made/aarch64" "$room/aarch64"
+makes 1 "isn't what rustc makes" --check
+mv "$room/aarch64" "$made/aarch64"
+sed -i 's/^sources: .*/&\ncommit: 1/' "$made/PROVENANCE"
+makes 0 'is tested' --check
+sed -i 's/^/other /' "$room/name"
+makes 1 'rustc is other rustc 1.*, and not rustc 1'
+makes 1 'rustc is other rustc 1.*, and not rustc 1' --check
+sed -i 's/^other //' "$room/name"
+touch "$room/fails"
+makes 1 "rustc doesn't compile rust/c/src/lib.rs"
+rm "$room/fails"
+mkdir "$room/bin"
+printf '#!/bin/sh\necho no network >&2\nexit 100\n' > "$room/bin/apt-get"
+chmod +x "$room/bin/apt-get"
+DEBIAN=$room/none PATH=$room/bin:$PATH makes 1 "Debian's rustc .* isn't there"
+makes 1 'it takes --check' --again
+makes 0 'is tested' --check
+echo "generated: how files are made and compared, and what stops that"

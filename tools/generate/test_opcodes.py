@@ -1,8 +1,8 @@
 #!/usr/bin/env python3
-"""Compares what ir2c makes of each instruction with what the kit's clang makes of it: test_opcodes.py CLANG FOLDER.
+"""Compares what ir2c makes of each instruction with what LLVM makes of it: test_opcodes.py FOLDER.
 
 Each function of a module of LLVM IR takes two numbers, and gives one: for each instruction and width one function.
-All programs of it print the same for the same numbers, of which some lie at the ends of a width: that of clang, and of
+All programs of it print the same for the same numbers, of which some lie at the ends of a width: that of llc, and of
 the C as it is built here, as for another machine, and, where their compilers and qemu are here, for other machines.
 """
 import os
@@ -38,6 +38,8 @@ declare void @llvm.memset.p0.i64(ptr, i8, i64, i1)
 declare i16 @llvm.bswap.i16(i16)
 declare i32 @llvm.bswap.i32(i32)
 declare i64 @llvm.bswap.i64(i64)
+declare { i32, i1 } @llvm.uadd.with.overflow.i32(i32, i32)
+declare { i64, i1 } @llvm.uadd.with.overflow.i64(i64, i64)
 """
 
 # Functions of memory, of the order of blocks, of structs, and of addresses.
@@ -168,6 +170,10 @@ def of_width(width):
                "%q = getelementptr i8, ptr %p, i64 0", f"%z = load {t}, ptr %q, align 1", *end]
     if width in (16, 32, 64):
         yield [*begin, f"%z = call {t} @llvm.bswap.{t}({t} %x)", *end]
+    if width in (32, 64):
+        yield [*begin, f"%p = call {{ {t}, i1 }} @llvm.uadd.with.overflow.{t}({t} %x, {t} %y)",
+               f"%s = extractvalue {{ {t}, i1 }} %p, 0", f"%o = extractvalue {{ {t}, i1 }} %p, 1",
+               f"%z = select i1 %o, {t} %x, {t} %s", *end]
     if width in (8, 16, 32, 64):
         yield [*begin, f"%z = call {t} @llvm.ctlz.{t}({t} %x, i1 false)", *end]
     if 1 < width <= 64:
@@ -190,8 +196,8 @@ def numbers():
     return sorted(made)
 
 
-def translated(clang, functions, place):
-    """Makes a folder with a harness, with the functions as IR, with clang's code of that, and with ours in C."""
+def translated(functions, place):
+    """Makes a folder with a harness, with the functions as IR, with LLVM's code of that, and with ours in C."""
     names = [f"pkcs1_c_{number}" for number in range(len(functions))]
     os.mkdir(place)
     with open(f"{place}/opcodes.ll", "w", encoding="utf-8") as it:
@@ -210,14 +216,15 @@ def translated(clang, functions, place):
     with open(f"{place}/border.c", "w", encoding="utf-8") as it:
         for number, name in enumerate(names):
             print(f"u64 {name}(u64 a, u64 b) {{ return proved_{number}(a, b); }}", file=it)
-    subprocess.run([clang, "-c", "-w", "-x", "ir", f"{place}/opcodes.ll", "-o", f"{place}/opcodes.o"], check=True)
+    subprocess.run(["llc", "-opaque-pointers", "-relocation-model=pic", "-filetype=obj", f"{place}/opcodes.ll",
+                    "-o", f"{place}/opcodes.o"], check=True)
     here = os.path.dirname(os.path.realpath(__file__))
     subprocess.run([sys.executable, f"{here}/ir2c", f"{place}/opcodes.ll", f"{place}/border.c", f"{place}/opcodes.c"],
                    check=True)
 
 
 def compared(functions, place, ways):
-    """Compares what clang's code gives with what the C gives in each of these ways to build and to run it."""
+    """Compares what LLVM's code gives with what the C gives in each of these ways to build and to run it."""
     wanted = lines_of(f"{place}/wanted", ["gcc", f"{place}/harness.c", f"{place}/opcodes.o"], [])
     for compiler, run in ways:
         made = lines_of(f"{place}/made", [*compiler, f"{place}/harness.c", f"{place}/opcodes.c"], run)
@@ -229,7 +236,7 @@ def compared(functions, place, ways):
 
 
 def main():
-    clang, folder = sys.argv[1:]
+    folder = sys.argv[1]
     functions = [it for width in WIDTHS for it in of_width(width)]
     functions += [it.strip().splitlines() for it in OTHERS.split("\n\n")]
     narrow = [it for it in functions if not re.search(r"\bi(77|128)\b", " ".join(it))]
@@ -239,7 +246,7 @@ def main():
     plain = (["gcc", "-DPKCS1_PLAIN", "-U__BYTE_ORDER__"], [])
     for place, them, ways in ((f"{folder}/wide", functions, [(["gcc"], []), foreign, plain, others.get("s390x")]),
                               (f"{folder}/narrow", narrow, [foreign, others.get("mips")])):
-        translated(clang, them, place)
+        translated(them, place)
         compared(them, place, [it for it in ways if it])
 
 

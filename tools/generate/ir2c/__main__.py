@@ -1,24 +1,30 @@
 #!/usr/bin/env python3
 """C for LLVM IR: python3 tools/generate/ir2c IN.ll BORDER.c OUT.c
 
-The IR is what LLVM's passes make of the module that rattle writes for a static library. The translation knows what
-such a module has today, and no more: it refuses the rest, with one line, the status 1, and no OUT.c. head.c, which
-stands in front, says how memory is read on each machine and by each compiler. BORDER.c, which stands behind, has the
-calls that others make.
+The IR is what rustc makes of the library, after LLVM's passes. The translation knows what such a module has today, and no
+more: it refuses the rest, with one line, the status 1, and no OUT.c. A function of Rust's core that is left must not
+come back: it is a panic, and a trap stands for each call of it. head.c, which stands in front, says how memory is read
+on each machine and by each compiler. BORDER.c, which stands behind, has the calls that others make.
 """
 import os
 import re
 import sys
 
+sys.path.append(os.path.dirname(os.path.dirname(os.path.realpath(__file__))))
+
+# pylint: disable=wrong-import-position
 from calls import WORDS, attributes
 from constants import constant
 from functions import Function
 from ir_types import Struct, name_type, type_of
 from operands import Globals
 from reading import Line, Refused
+from rust_names import is_of_core
 
 HEAD = os.path.join(os.path.dirname(os.path.realpath(__file__)), "head.c")
 DECODER = re.compile(r"@pkcs1_c_\w+_decode(_strict)?")
+SUM = ("static inline {it} sum_{of}({of} a, {of} b) {{ "
+       "{it} made; made.f0 = ({of})(a + b); made.f1 = made.f0 < a; return made; }}")
 LINKAGE = {"internal", "fastcc", "local_unnamed_addr", "unnamed_addr", "dso_local", "private"}
 
 
@@ -53,15 +59,15 @@ class Module:
         return name, f"{result} {self.names[name]}({', '.join(parameters) or 'void'})"
 
     def declaration(self, text):
-        """A function of another file, or LLVM's own, which calls say in other words."""
+        """A function that calls say in other words: LLVM's own, or one of C. What stops the program isn't called."""
         if "(metadata)" in text:
             return
         line = Line(text)
         line.expect("declare")
-        name, made = self.header(line, Function(self))
+        name, _ = self.header(line, Function(self))
         line.end()
-        if not name.startswith("@llvm.") and name not in WORDS:
-            self.headers.append(made + ";")
+        if not name.startswith("@llvm.") and name not in (*WORDS, "@pkcs1_stop"):
+            raise Refused(f"not known: a function of another file, {name}")
 
     def definition(self, text, lines):
         """A function and its lines."""
@@ -70,10 +76,15 @@ class Module:
         scope = Function(self)
         name, made = self.header(line, scope)
         if line.peek() == "!dbg":
-            line.take(), line.take()
+            line.take()
+            line.take()
         made = f"static {'ONCE ' if DECODER.fullmatch(name) else ''}{made}"
         line.expect("{")
         line.end()
+        if is_of_core(name[1:]):
+            if any(re.match(r"\s+ret ", it) for it in lines):
+                raise Refused(f"{name[1:]} of Rust's core is kept: it comes back")
+            return
         self.headers.append(made + ";")
         self.bodies.append("\n".join([made + " {", *scope.body(lines), "}"]))
 
@@ -96,8 +107,7 @@ class Module:
         """What the C file has between its head and its border."""
         structs = [f"{it} {{ {' '.join(f'{of} f{n};' for n, of in enumerate(it.fields))} }};"
                    for it in sorted(self.structs, key=str)]
-        sums = [f"static inline {it} sum_{it.fields[0]}({it.fields[0]} a, {it.fields[0]} b) {{ {it} made; "
-                f"made.f0 = ({it.fields[0]})(a + b); made.f1 = made.f0 < a; return made; }}" for it in sorted(self.sums, key=str)]
+        sums = [SUM.format(it=it, of=it.fields[0]) for it in sorted(self.sums, key=str)]
         parts = [*sorted(self.memory), *structs, *sums, *self.constants, *self.headers, *self.bodies]
         return "\n".join(parts) + "\n"
 

@@ -4,6 +4,7 @@ import re
 from ir_types import Integer, Struct, Void, type_of
 from operands import operand
 from reading import Refused
+from rust_names import is_of_core
 
 # What is said of parameters and functions besides their types; a call means the same without it.
 ATTRIBUTES = {
@@ -88,12 +89,13 @@ INTRINSICS = {
     "memcpy": of_memory("copy"), "memmove": of_memory("move"), "memset": of_memory("fill"),
     "lifetime.start": of_nothing, "lifetime.end": of_nothing, "assume": of_nothing, "trap": of_trap,
     "umin": of_two("{a} < {b} ? {a} : {b}"), "umax": of_two("{a} > {b} ? {a} : {b}"),
-    "usub.sat": of_two("{a} > {b} ? {a} - {b} : 0u"), "bswap": of_order, "uadd.with.overflow": of_overflow, "ctlz": of_zeros,
+    "usub.sat": of_two("{a} > {b} ? {a} - {b} : 0u"), "bswap": of_order, "ctlz": of_zeros,
+    "uadd.with.overflow": of_overflow,
 }
 
 
 # Functions that the C has otherwise.
-WORDS = {"@bcmp": "unlike", "@memcmp": "unlike", "@pkcs1_stop": "TRAP"}
+WORDS = {"@bcmp": "unlike", "@memcmp": "unlike"}
 
 
 def intrinsic(line, result, name, scope):
@@ -136,6 +138,8 @@ def call(line, result, scope):
         line.take()
         given = arguments(line, scope)
         made = f"{WORDS.get(name) or scope.module.names[name]}({', '.join(it for _, it in given)})"
+        if is_of_core(name[1:]):  # of which none comes back
+            type_, made = Void(), "TRAP()"
         if result is None or isinstance(type_, Void):
             scope.say(f"{made};")
         else:

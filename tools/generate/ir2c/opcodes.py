@@ -260,7 +260,7 @@ def give_back(line, _result, scope):
 
 
 def stop(_line, _result, scope):
-    """unreachable: the kit has clang put a trap there, too."""
+    """unreachable: rustc has LLVM put a trap there, too."""
     scope.say("TRAP();")
 
 

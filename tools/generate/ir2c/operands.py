@@ -3,23 +3,9 @@ import re
 
 from reading import Refused
 from ir_types import Integer, Pointer
+from rust_names import told
 
-EXTERNAL = re.compile(r"@(pkcs1_c_\w+|rattle_\w+)")
-
-
-def told(name):
-    """Of a name that rustc has coded (v0), the last two words of its path; else the name."""
-    if not name.startswith("_R"):
-        return name
-    words, at = [], 2
-    while at < len(name):
-        found = re.compile(r"(?<![0-9])([1-9]\d?)_?([a-z_]\w*)").match(name, at)
-        if found and len(found[2]) >= int(found[1]):
-            words.append(found[2][:int(found[1])])
-            at = found.start(2) + int(found[1])
-        else:
-            at += 1
-    return "_".join(words[-2:]) or name
+EXTERNAL = re.compile(r"@pkcs1_c_(\w+)")
 
 
 class Names:
@@ -31,7 +17,8 @@ class Names:
 
     def __getitem__(self, name):
         if name not in self.names:
-            plain = self.prefix + re.sub(r"[^A-Za-z0-9]+", "_", told(name[1:])).strip("_")[:50]
+            plain = re.sub(r"_R\w+", lambda it: "_" + told(it[0]), name[1:])
+            plain = self.prefix + re.sub(r"[^A-Za-z0-9]+", "_", plain).strip("_")[:50]
             made, count = plain, 1
             while made in self.used:
                 count += 1
@@ -42,12 +29,11 @@ class Names:
 
 
 class Globals(Names):
-    """Names of functions and constants. Those that others call, but for rattle's, BORDER.c gives to them."""
+    """Names of functions and constants. Those that others call BORDER.c gives to them."""
 
     def __getitem__(self, name):
-        if not EXTERNAL.fullmatch(name):
-            return super().__getitem__(name)
-        return f"proved_{name[9:]}" if name.startswith("@pkcs1_c_") else f"pkcs1_{name[1:]}"
+        external = EXTERNAL.fullmatch(name)
+        return f"proved_{external[1]}" if external else super().__getitem__(name)
 
 
 def of_register(token, _type, scope):
