@@ -19,7 +19,7 @@ contents=(
     crates/pkcs1_tool/{run_built,copies,refuse_memory,all_rows}.sh
     crates/pkcs1_tool/{refuse_memory.c,rows,stdin,stdout,pkcs1_tool.1}
     crates/pkcs1_vectors/stdin
-    crates.txt ffi/prove.sh ffi/proof tools/{fresh.sh,generate.sh,generate,install.sh,count_definitions.py}
+    crates.txt ffi/prove.sh ffi/proof tools/{fresh,debian_rust,generate,install}.sh tools/{generate,count_definitions.py}
     tools/{shell.sh,platforms.sh,other_platforms.sh,wasi.mjs}
 )
 
