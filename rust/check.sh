@@ -4,7 +4,8 @@
 #     rust/check.sh [PART]..     these parts, or all:
 #
 #     erase            src/proved is what crates/ gives, token for token; the tests of tools/erase
-#     crate            with each feature, without a warning: its tests, clippy, documentation, layout and package
+#     crate            with each feature, without a warning: its tests, clippy, documentation, layout and package; clippy
+#                      and layout of the tool over the C library
 #     preconditions    no function with a `requires` is reached from outside
 #     rows             the worked rows, the tests in Rattle and the tool, erased
 #     beside           COUNT inputs by chance, beside the library that make builds; the SEED is another one each day
@@ -27,7 +28,7 @@ room=$OUT/room
 COUNT=${COUNT:-500000}
 SEED=${SEED:-$(date +%Y%j)}
 export CARGO_TARGET_DIR=$OUT/target CARGO_TERM_QUIET=true
-crate=rust/Cargo.toml check=rust/check/Cargo.toml
+crate=rust/Cargo.toml check=rust/check/Cargo.toml tool=rust/tool/Cargo.toml
 rows=(crates/pkcs1_vectors/stdin crates/pkcs1_tool/rows)
 keys=(ffi/tests/keys/{priv2,priv3,p8_2,p8_3}.der)
 parts=(erase crate preconditions rows beside memory secrets oldest machines wasm)
@@ -62,6 +63,8 @@ crate() {
     RUSTDOCFLAGS="-D warnings" cargo doc --manifest-path $crate --no-deps
     cargo fmt --manifest-path $crate --check
     cargo fmt --manifest-path $check --check
+    cargo clippy --manifest-path $tool -- -D warnings
+    cargo fmt --manifest-path $tool --check
     cargo package --manifest-path $crate --allow-dirty --offline
     echo "crate: tests, clippy, documentation, layout and package, with no feature, alloc and std"
 }

@@ -104,7 +104,11 @@ ptrdiff_t pkcs1_os_sync(int file) {
 }
 
 ptrdiff_t pkcs1_os_set_mode(int file, unsigned mode) {
-    return fchmod(file, (mode_t)mode) < 0 ? failed() : 0;
+    int done;
+    do
+        done = fchmod(file, (mode_t)mode);
+    while (done < 0 && errno == EINTR);
+    return done < 0 ? failed() : 0;
 }
 
 /* Whether it closes isn't told: what was written is on the disk before, or went to no disk. */
