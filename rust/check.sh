@@ -4,8 +4,8 @@
 #     rust/check.sh [PART]..     these parts, or all:
 #
 #     erase            src/proved is what crates/ gives, token for token; the tests of tools/erase
-#     crate            with each feature, without a warning: its tests, clippy, documentation, layout and package; clippy
-#                      and layout of the tool over the C library
+#     crate            with each feature, without a warning: its tests, clippy, documentation, layout and package;
+#                      clippy and layout of the tool over the C library
 #     preconditions    no function with a `requires` is reached from outside
 #     rows             the worked rows, the tests in Rattle and the tool, erased
 #     beside           COUNT inputs by chance, beside the library that make builds; the SEED is another one each day

@@ -1,8 +1,8 @@
 #!/usr/bin/env bash
 # Runs the tool that make builds beside cargo's, and beside the one that rt builds, if it is there. Each call on files
-# fails, COUNT paths are tried by chance, by another SEED each day, and copies in folders without a path. What the first two
-# ask the system for is written by hand, and apart. Called by .ci/run after run_built.sh. It needs make, gcc, cargo and
-# python3. Where root calls it, the tools run as another user. It prints what differs, and then exits with 1.
+# fails, COUNT paths are tried by chance, by another SEED each day, and copies in folders without a path. What the first
+# two ask the system for is written by hand, and apart. Called by .ci/run after run_built.sh. It needs make, gcc, cargo
+# and python3. Where root calls it, the tools run as another user. It prints what differs, and then exits with 1.
 set -eu
 # All of it ends in ten minutes, of which it takes half of one.
 [ -n "${LIMITED-}" ] || LIMITED=1 exec timeout 600 "$0" "$@"

@@ -69,19 +69,16 @@ copies_in_little_memory() {
     cmp -s "$room/files/large.der" "$room/files/again.der" || fails "copy pub large.der again.der: other bytes"
 }
 
-# Two names of one file, pipes, a name that is too long, and the longest paths of IN and of the new file, which have 4095
-# octets.
+# Two names of one file, pipes, a name that is too long, and the longest paths of IN and of the new file: 4095 octets.
 copies_by_other_names() {
     local long
     long=$(printf './%.0s' {1..2044})
     copies 0 "" out.der $public copy pub "${long}pub.der" out.der
     copies 1 "reading $long/pub.der: $file" kept.der $old copy pub "$long/pub.der" kept.der
-    mkdir "$room/files/s"
-    long=$(printf 's/../%.0s' {1..816})
-    copies 0 "" out.der $private copy priv priv.der "././${long}out.der"
-    copies 1 "writing .//./${long}new.der: no file can be created beside it" new.der - \
-        copy pub pub.der ".//./${long}new.der"
-    rmdir "$room/files/s"
+    long=$(printf '../files/%.0s' {1..453})
+    copies 0 "" out.der $private copy priv priv.der ".//././${long}out.der"
+    long=././././$long
+    copies 1 "writing ${long}new.der: no file can be created beside it" new.der - copy pub pub.der "${long}new.der"
     long=$(head -c 5000 /dev/zero | tr '\0' x)
     copies 1 "reading $long: $file" new.der - copy pub "$long" new.der
     copies 1 "writing $long: the new file can't be renamed to it" kept.der $old copy pub pub.der "$long"

@@ -1,5 +1,5 @@
-/* What the tool asks of the system, beside memory, and C's `main`. Here is what hangs on headers: numbers of flags and of
- * errors, and structs. rust/tool/src/rattle_std/system.rs, which calls these, declares them once more. Trusted, not
+/* What the tool asks of the system, beside memory, and C's `main`. Here is what hangs on headers: numbers of flags and
+ * of errors, and structs. rust/tool/src/rattle_std/system.rs, which calls these, declares them once more. Trusted, not
  * proved.
  *
  * Each returns FAILED or NO_MEMORY if the system didn't do it. What a signal interrupts is asked again. */
@@ -50,8 +50,8 @@ static int opened(const char *path, int flags, unsigned mode) {
     return file;
 }
 
-/* A file that is written in place, such as a device. What isn't there is created. A regular file that is there is left as
- * it is: a write that fails would lose what it holds. */
+/* A file that is written in place, such as a device. What isn't there is created. A regular file that is there is left
+ * as it is: a write that fails would lose what it holds. */
 static int opened_in_place(const char *path, unsigned mode) {
     struct stat found;
     int file = opened(path, O_WRONLY, 0), is_new = file < 0 && errno == ENOENT;

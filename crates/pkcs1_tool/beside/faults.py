@@ -1,7 +1,7 @@
 #!/usr/bin/env python3
-"""faults.py LIBRARY NAME=TOOL..: each call on files that the tool makes fails with each of some errors, one in each run, in
-copies to all kinds of OUT. All tools make the same calls, and end alike. After an error each file is as it was; IN always
-is. LIBRARY is what is built of refuse_calls.c."""
+"""faults.py LIBRARY NAME=TOOL..: each call on files that the tool makes fails with each of some errors, one in each run,
+in copies to all kinds of OUT. All tools make the same calls, and end alike. After an error each file is as it was.
+LIBRARY is what is built of refuse_calls.c."""
 import collections
 import errno
 import os

@@ -1,7 +1,7 @@
 #!/usr/bin/env python3
 """folders.py NAME=TOOL..: copies in folders that have no path: one that would be too long, one whose file system is
-unmounted, and one over which another is mounted. OUT is replaced by its own name, or left as it is. All tools, but for that
-of rattle, end so."""
+unmounted, and one over which another is mounted. OUT is replaced by its own name, or left as it is. The tool that rattle
+builds isn't tried."""
 import functools
 import os
 import shutil
@@ -71,7 +71,8 @@ def deep(compared, levels, out, may_grow, short, long):
                 above, at = at, os.open("d" * 250, os.O_PATH, dir_fd=at)
                 os.close(above)
             try:
-                yield from copied(tool, f"/proc/self/fd/{at}", out, may_grow, (long if levels > 16 else short).format(out))
+                error = (long if levels > 16 else short).format(out)
+                yield from copied(tool, f"/proc/self/fd/{at}", out, may_grow, error)
             finally:
                 os.close(at)
 
@@ -104,7 +105,8 @@ def mounted(compared, what):
 def trials(compared):
     for levels in (10, 15, 16, 17, 20):
         yield from ((functools.partial(deep, compared), (levels, *it)) for it in DEEP)
-    if not shutil.which("unshare") or subprocess.run(["unshare", "-rm", "true"], capture_output=True, check=False).returncode:
+    tried = ["unshare", "-rm", "true"]
+    if not shutil.which(tried[0]) or subprocess.run(tried, capture_output=True, check=False).returncode:
         print("folders: what is mounted isn't tried: no file system can be mounted here")
         return
     yield from ((functools.partial(mounted, compared), (it,)) for it in MOUNTED)

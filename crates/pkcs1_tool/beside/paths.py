@@ -1,6 +1,6 @@
 #!/usr/bin/env python3
-"""paths.py COUNT SEED NAME=TOOL..: copies to and from paths by chance, of which some go through links, or have no sense. All
-tools end alike. Not more than one file changes, none after an error, and that one holds the key."""
+"""paths.py COUNT SEED NAME=TOOL..: copies to and from paths by chance, of which some go through links, or have no sense.
+All tools end alike. Not more than one file changes, none after an error, and that one holds the key."""
 import functools
 import os
 import random
@@ -10,7 +10,8 @@ import tools
 from tools import OLD, PRIVATE, PUBLIC
 
 KEYS = {"pub": PUBLIC, "priv": PRIVATE}
-PARTS = [".", "..", "", "a", "b", "l", "f", "new", "dl", "x" * 255, "x" * 256, "é", ".pkcs1_tool", "none", "loop", "f.", "..."]
+PARTS = [".", "..", "...", "", "a", "b", "l", "f", "f.", "é", "x" * 255, "x" * 256, "new", "dl", "none", "loop"]
+PARTS += [".pkcs1_tool"]
 # The folder in which the tool runs, below the one that is looked at.
 AT = "1/2/3/r"
 

@@ -52,8 +52,8 @@ pub mod rt {
 
         fn open_file(&self, how: &std::fs::OpenOptions, path: Path<'_>) -> io::Result<Self::File>;
 
-        /// Opens what is written in place, and creates it if nothing is there. A regular file that is there is left as it
-        /// is: a write that fails would lose what it holds.
+        /// Opens what is written in place, and creates it if nothing is there. A regular file that is there is left as
+        /// it is: a write that fails would lose what it holds.
         fn open_in_place(&self, path: Path<'_>) -> io::Result<Self::File>;
 
         /// A path of the same file at which no link stands: the one that is given, if it can be had so.
