@@ -1,6 +1,5 @@
 # shellcheck shell=bash disable=SC2154 # run_built.sh, which reads this file, sets `room`, `program` and `usage`
-# The runs of `copy`: what it prints, what it leaves in each file of the folder, and which rights. They stand apart from
-# run_built.sh by their length.
+# The runs of `copy`, apart from run_built.sh by their length: what it prints, and the files and rights that it leaves.
 
 # hex BYTES: prints the bytes with these hexadecimal digits.
 hex() {

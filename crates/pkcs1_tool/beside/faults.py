@@ -1,6 +1,6 @@
 #!/usr/bin/env python3
-"""faults.py LIBRARY NAME=TOOL..: each call on files that the tool makes fails with each of some errors, one in each run,
-in copies to all kinds of OUT. All tools make the same calls, and end alike. After an error each file is as it was.
+"""faults.py LIBRARY NAME=TOOL..: each call on files that the tool makes fails with each of some errors, one in each
+run, in copies to all kinds of OUT. All tools make the same calls, and end alike. After an error each file is as it was.
 LIBRARY is what is built of refuse_calls.c."""
 import collections
 import errno
@@ -23,6 +23,7 @@ CASES = {
     "a private key over a file": Case(["priv", "priv.der", "old.der"], "old.der", PRIVATE, 0o600),
     "a private key over itself": Case(["priv", "priv.der", "priv.der"], "priv.der", PRIVATE, 0o600),
     "through a link": Case(["priv", "priv.der", "link.der"], "real.der", PRIVATE, 0o600),
+    "into a folder": Case(["pub", "pub.der", "sub/new.der"], "sub/new.der", PUBLIC, 0o644),
     "through a link to nothing": Case(["pub", "pub.der", "nothing.der"]),
     "to a device": Case(["pub", "pub.der", "/dev/null"]),
     "no public key": Case(["pub", "priv.der", "old.der"]),
@@ -40,6 +41,7 @@ PAIRS = [
 
 
 def prepare(at):
+    os.makedirs(f"{at}/sub")
     for name, what, mode in (("pub.der", PUBLIC, 0o644), ("priv.der", PRIVATE, 0o600), ("old.der", OLD, 0o664),
                              ("real.der", OLD, 0o644), (".pkcs1_tool", b"taken", 0o644)):
         tools.put(f"{at}/{name}", what, mode)
@@ -57,14 +59,16 @@ class Faults:
 
     def __init__(self, library, compared):
         self.library, self.compared = library, compared
-        with tools.folder() as at:
+        with tools.folder() as top:
+            at = f"{top}/files"
             prepare(at)
             self.before = tools.files_below(at)
 
     def run(self, tool, case, refused="", short=""):
-        """Its result, and the kinds of its calls."""
+        """Its result, and its calls: KIND or, of fsync, KIND/NAME, behind `!` if it was refused."""
         words = ["copy", *CASES[case].words] if CASES[case].words else []
-        with tools.folder() as at, tempfile.TemporaryFile() as log:
+        with tools.folder() as top, tempfile.TemporaryFile() as log:
+            at = f"{top}/files"
             prepare(at)
             env = {"LD_PRELOAD": self.library, "REFUSED": numbers(refused), "CALLS": str(log.fileno())}
             env.update({"SHORT": short} if short else {})
@@ -119,7 +123,7 @@ class Faults:
         result, calls = ran[self.compared[0]]
         yield from self.alike(ran)
         yield from self.files(case, calls, result)
-        if sorted(it for it in calls if it[0] == "!") != sorted("!" + it for it in kinds):
+        if sorted(it.split("/")[0] for it in calls if it[0] == "!") != sorted("!" + it for it in kinds):
             yield f"not each of these is called: {' '.join(calls)}"
         if again and result != self.run(self.compared[0], case)[0]:
             yield f"it isn't done again: {result}"
@@ -129,7 +133,8 @@ class Faults:
         for case in CASES:
             yield self.unhindered, (case,)
             seen = collections.Counter()
-            for kind in self.run(self.compared[0], case)[1]:
+            for call in self.run(self.compared[0], case)[1]:
+                kind = call.split("/")[0]
                 seen[kind] += 1
                 yield from ((self.hindered, (case, f"{kind},{seen[kind]},{error}")) for error in ERRORS)
         yield from ((self.hindered, it) for it in PAIRS)

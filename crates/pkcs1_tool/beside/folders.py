@@ -1,7 +1,7 @@
 #!/usr/bin/env python3
 """folders.py NAME=TOOL..: copies in folders that have no path: one that would be too long, one whose file system is
-unmounted, and one over which another is mounted. OUT is replaced by its own name, or left as it is. The tool that rattle
-builds isn't tried."""
+unmounted, and one over which another is mounted. OUT is replaced by its own name, or left as it is. The tool that
+rattle builds isn't tried."""
 import functools
 import os
 import shutil

@@ -1,6 +1,6 @@
 #!/usr/bin/env python3
-"""paths.py COUNT SEED NAME=TOOL..: copies to and from paths by chance, of which some go through links, or have no sense.
-All tools end alike. Not more than one file changes, none after an error, and that one holds the key."""
+"""paths.py COUNT SEED NAME=TOOL..: copies to and from paths by chance, of which some go through links, or make no
+sense. All tools end alike. Not more than one file changes, none after an error, and that one holds the key."""
 import functools
 import os
 import random

@@ -1,8 +1,8 @@
 /* Makes calls on files fail, and reports each call. Preloaded by faults.py.
  *
  * REFUSED is a list of KIND,NUMBER,ERROR: the call of this number of this kind fails with this error. SHORT: no read or
- * write is of more octets. To the descriptor CALLS it writes the kind of each call, behind `!` if it failed so. What is
- * printed to standard error may be shortened, but doesn't fail. */
+ * write is of more octets. To the descriptor CALLS it writes the kind of each call, behind `!` if it failed so, and of
+ * fsync the name of the file. What is printed to standard error may be shortened, but doesn't fail. */
 #define _GNU_SOURCE
 #include <dlfcn.h>
 #include <errno.h>
@@ -35,16 +35,20 @@ static int error_of(enum kind kind) {
     return 0;
 }
 
-/* Whether this call fails. */
-static int is_refused(enum kind kind) {
-    char line[20];
+/* Whether this call fails, which is of a file of this name. */
+static int is_refused_of(enum kind kind, const char *name) {
+    char line[300];
     int error = error_of(kind), kept = errno;
-    int len = snprintf(line, sizeof line, "%s%s\n", error == 0 ? "" : "!", names[kind]);
+    int len = snprintf(line, sizeof line, "%s%s%.255s\n", error == 0 ? "" : "!", names[kind], name);
     const char *calls = getenv("CALLS");
     if (calls != NULL)
         (void)syscall(SYS_write, atoi(calls), line, len);
     errno = error == 0 ? kept : error;
     return error != 0;
+}
+
+static int is_refused(enum kind kind) {
+    return is_refused_of(kind, "");
 }
 
 static size_t shortened(size_t len) {
@@ -91,7 +95,10 @@ ssize_t write(int file, const void *octets, size_t len) {
                : NEXT(ssize_t, "write", int, const void *, size_t)(file, octets, shortened(len));
 }
 int fsync(int file) {
-    return is_refused(FSYNC) ? -1 : NEXT(int, "fsync", int)(file);
+    char at[30], path[4096] = "", *name;
+    (void)snprintf(at, sizeof at, "/proc/self/fd/%d", file);
+    name = readlink(at, path, sizeof path - 1) < 0 ? NULL : strrchr(path, '/');
+    return is_refused_of(FSYNC, name == NULL ? "" : name) ? -1 : NEXT(int, "fsync", int)(file);
 }
 /* It closes the file all the same, as Linux does. */
 int close(int file) {
