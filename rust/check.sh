@@ -4,7 +4,8 @@
 #     rust/check.sh [PART]..     these parts, or all:
 #
 #     erase            src/proved is what crates/ gives, token for token; the tests of tools/erase
-#     crate            with each feature, without a warning: its tests, clippy, documentation, layout and package
+#     crate            with each feature, without a warning: its tests, clippy, documentation, layout and package;
+#                      clippy and layout of the tool over the C library
 #     preconditions    no function with a `requires` is reached from outside
 #     rows             the worked rows, the tests in Rattle and the tool, erased
 #     beside           COUNT inputs by chance, beside the library that rt compiles, the other compiler of the same proof:
@@ -31,7 +32,7 @@ room=$OUT/room
 COUNT=${COUNT:-500000}
 SEED=${SEED:-$(date +%Y%j)}
 export CARGO_TARGET_DIR=$OUT/target CARGO_TERM_QUIET=true
-crate=rust/Cargo.toml check=rust/check/Cargo.toml
+crate=rust/Cargo.toml check=rust/check/Cargo.toml tool=rust/tool/Cargo.toml
 rows=(crates/pkcs1_vectors/stdin crates/pkcs1_tool/rows)
 keys=(ffi/tests/keys/{priv2,priv3,p8_2,p8_3}.der)
 parts=(erase crate preconditions rows beside memory secrets oldest machines wasm)
@@ -66,6 +67,8 @@ crate() {
     RUSTDOCFLAGS="-D warnings" cargo doc --manifest-path $crate --no-deps
     cargo fmt --manifest-path $crate --check
     cargo fmt --manifest-path $check --check
+    cargo clippy --manifest-path $tool -- -D warnings
+    cargo fmt --manifest-path $tool --check
     cargo package --manifest-path $crate --allow-dirty --offline
     echo "crate: tests, clippy, documentation, layout and package, with no feature, alloc and std"
 }
@@ -110,7 +113,7 @@ rows() {
     count=$(crates/pkcs1_tool/all_rows.sh | wc -l)
     PROGRAMS=$CARGO_TARGET_DIR/release/pkcs1_tool crates/pkcs1_tool/run_built.sh > "$OUT/log" || true
     grep -vE "$closed|isn't tried: no other user" "$OUT/log" > "$OUT/left"
-    tail -n 1 "$OUT/left" | grep -qxE "($((count + 68))|$((count + 70))) passed, 2 failed" &&
+    tail -n 1 "$OUT/left" | grep -qxE "($((count + 71))|$((count + 73))) passed, 2 failed" &&
         [ "$(wc -l < "$OUT/left")" = 2 ] || { cat "$OUT/log" >&2 && stop "the tool fails"; }
     echo "rows: $(cat crates/pkcs1_vectors/stdout), and the tool does all but for closed streams"
 }

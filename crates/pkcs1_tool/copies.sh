@@ -1,6 +1,5 @@
 # shellcheck shell=bash disable=SC2154 # run_built.sh, which reads this file, sets `room`, `program` and `usage`
-# The runs of `copy`: what it prints, what it leaves in each file of the folder, and which rights. They stand apart from
-# run_built.sh by their length.
+# The runs of `copy`, apart from run_built.sh by their length: what it prints, and the files and rights that it leaves.
 
 # hex BYTES: prints the bytes with these hexadecimal digits.
 hex() {
@@ -69,12 +68,16 @@ copies_in_little_memory() {
     cmp -s "$room/files/large.der" "$room/files/again.der" || fails "copy pub large.der again.der: other bytes"
 }
 
-# Two names of one file, pipes, names of 4007 octets and ones that are too long.
+# Two names of one file, pipes, a name that is too long, and the longest paths of IN and of the new file: 4095 octets.
 copies_by_other_names() {
     local long
-    long=$(printf './%.0s' {1..2000})
+    long=$(printf './%.0s' {1..2044})
     copies 0 "" out.der $public copy pub "${long}pub.der" out.der
-    copies 0 "" out.der $private copy priv priv.der "${long}out.der"
+    copies 1 "reading $long/pub.der: $file" kept.der $old copy pub "$long/pub.der" kept.der
+    long=$(printf '../files/%.0s' {1..453})
+    copies 0 "" out.der $private copy priv priv.der ".//././${long}out.der"
+    long=././././$long
+    copies 1 "writing ${long}new.der: no file can be created beside it" new.der - copy pub pub.der "${long}new.der"
     long=$(head -c 5000 /dev/zero | tr '\0' x)
     copies 1 "reading $long: $file" new.der - copy pub "$long" new.der
     copies 1 "writing $long: the new file can't be renamed to it" kept.der $old copy pub pub.der "$long"
@@ -219,22 +222,24 @@ out.der" ] || fails "copies to a full disk: the key is lost, or another file is 
     rm -r "$room/small" "$room/files/page.der" "$room/status" "$room/listing"
 }
 
-# The calls on files, in order, where strace is there to tell: the new file is created, written and on the disk before
-# it is renamed, and OUT isn't truncated. OUT is looked at only behind a key.
+# The calls on files, in order, where strace is there to tell: the new file is created, written, on the disk and closed
+# before it is renamed, and OUT isn't truncated. OUT is looked at only behind a key.
 calls_in_order() {
     local -x ASAN_OPTIONS=detect_leaks=0 # under strace a sanitizer can't look for leaks
     command -v strace > /dev/null && strace -o "$room/trace" true 2> "$room/error" || {
         echo "run_built: the order of calls isn't looked at: strace is not installed, or may not trace here"
         return
     }
-    runs_by strace -o "$room/trace" -e trace=file,write,fsync,ftruncate "$program" copy pub pub.der out.der
+    runs_by strace -y -o "$room/trace" -e trace=file,write,fsync,ftruncate,close "$program" copy pub pub.der out.der
     ends "copy pub pub.der out.der, traced" 0 "" "" $?
     sed -n -E -e '/^open.*(\.der|\.pkcs1_tool)"/s/^open[^"]*"([^"]*\/)?([^"]*)", ([A-Z_|]*).*/\2 \3/p' \
-        -e '/^(write|fsync|ftruncate|truncate|creat)\(/s/\(.*//p' \
+        -e 's/^(write|fsync|ftruncate|close)\([0-9]+<([^>]*\/)?(\.pkcs1_tool|[^>\/]*\.der)>.*/\1 \3/p' \
+        -e '/^(truncate|creat)\(/s/\(.*//p' \
         -e 's/^(rename|unlink)[^"]*"([^"]*\/)?([^"]*)".*"([^"]*\/)?([^"]*)".*/\1 \3 \5/p' "$room/trace" |
         sed -E 's/\|O_(CLOEXEC|NOCTTY|LARGEFILE)//g' > "$room/calls"
-    printf '%s\n' 'pub.der O_RDONLY' 'out.der O_WRONLY' '.pkcs1_tool O_WRONLY|O_CREAT|O_EXCL' write fsync \
-        'rename .pkcs1_tool out.der' | diff - "$room/calls" || fails "copy pub pub.der out.der: other calls (>)"
+    printf '%s\n' 'pub.der O_RDONLY' 'out.der O_WRONLY' 'close out.der' '.pkcs1_tool O_WRONLY|O_CREAT|O_EXCL' \
+        'write .pkcs1_tool' 'fsync .pkcs1_tool' 'close .pkcs1_tool' 'rename .pkcs1_tool out.der' 'close pub.der' |
+        diff - "$room/calls" || fails "copy pub pub.der out.der: other calls (>)"
     runs_by strace -o "$room/trace" -e trace=file,ftruncate "$program" copy pub null.der out.der
     ends "copy pub null.der out.der, traced" 1 "reading null.der: $error tag 0x30 was expected, 0x05 was found" "" $?
     ! sed '/^execve/d' "$room/trace" | grep -q 'out\.der"' || fails "copy pub null.der out.der: out.der is looked at"

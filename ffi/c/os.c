@@ -1,8 +1,12 @@
-/* What the tool asks of the system beside malloc, realloc, free and the functions of string.h; and C's `main`, which
- * calls it. rust/tool/src/rattle_std/system.rs calls these. Trusted, not proved. */
-#define _GNU_SOURCE
+/* What the tool asks of the system, beside memory, and C's `main`. Here is what hangs on headers: numbers of flags and
+ * of errors, and structs. rust/tool/src/rattle_std/system.rs, which calls these, declares them once more. Trusted, not
+ * proved.
+ *
+ * Each returns FAILED or NO_MEMORY if the system didn't do it. What a signal interrupts is asked again. */
+#define _XOPEN_SOURCE 700
 #include <errno.h>
 #include <fcntl.h>
+#include <limits.h>
 #include <signal.h>
 #include <stddef.h>
 #include <stdint.h>
@@ -11,36 +15,68 @@
 #include <sys/stat.h>
 #include <unistd.h>
 
-int pkcs1_tool_main(void);
-int pkcs1_os_open(const char *path, int how, unsigned mode);
+enum { FAILED = -1, NO_MEMORY = -2 };
+enum how { READ, WRITE, CREATE_NEW, IN_PLACE };
+enum kind { REGULAR, LINK, OTHER };
+/* The octets of a path, with the zero octet behind it. */
+enum { LONGEST = 4096 };
+#if PATH_MAX > 4096
+#error "realpath may write more than LONGEST octets here"
+#endif
+
+int pkcs1_tool_main(int count, const char *const *words);
+ptrdiff_t pkcs1_os_open(const char *path, int how, unsigned mode);
 ptrdiff_t pkcs1_os_read(int file, uint8_t *room, size_t len);
 ptrdiff_t pkcs1_os_write(int file, const uint8_t *octets, size_t len);
-int pkcs1_os_sync(int file);
-int pkcs1_os_set_mode(int file, unsigned mode);
+ptrdiff_t pkcs1_os_sync(int file);
+ptrdiff_t pkcs1_os_set_mode(int file, unsigned mode);
 void pkcs1_os_close(int file);
-int pkcs1_os_look(const char *path, int through_link, unsigned *mode);
-int pkcs1_os_rename(const char *from, const char *to);
-int pkcs1_os_remove(const char *path);
-int pkcs1_os_real_path(const char *path, char room[4096]);
-const char *pkcs1_os_word(size_t number);
+ptrdiff_t pkcs1_os_look(const char *path, int through_link, unsigned *mode);
+ptrdiff_t pkcs1_os_is_same(const char *one, const char *other);
+ptrdiff_t pkcs1_os_real_path(const char *path, char room[LONGEST]);
+ptrdiff_t pkcs1_os_rename(const char *from, const char *to);
+ptrdiff_t pkcs1_os_remove(const char *path);
 
-static size_t count;
-static char **words;
-
-/* What these functions return of a call that failed: -2 if there was no memory. */
-static int failed(void) {
-    return errno == ENOMEM ? -2 : -1;
+/* What is returned of a call that failed. */
+static ptrdiff_t failed(void) {
+    return errno == ENOMEM ? NO_MEMORY : FAILED;
 }
 
-int pkcs1_os_open(const char *path, int how, unsigned mode) {
-    static const int flags[] = {O_RDONLY, O_WRONLY, O_WRONLY | O_CREAT | O_TRUNC, O_WRONLY | O_CREAT | O_EXCL};
+static int opened(const char *path, int flags, unsigned mode) {
     int file;
     do
-        file = open(path, flags[how] | O_CLOEXEC, (mode_t)mode);
+        file = open(path, flags | O_CLOEXEC | O_NOCTTY, (mode_t)mode);
     while (file < 0 && errno == EINTR);
+    return file;
+}
+
+/* A file that is written in place, such as a device. What isn't there is created. A regular file that is there is left
+ * as it is: a write that fails would lose what it holds. */
+static int opened_in_place(const char *path, unsigned mode) {
+    struct stat found;
+    int file = opened(path, O_WRONLY, 0), is_new = file < 0 && errno == ENOENT;
+    if (is_new)
+        file = opened(path, O_WRONLY | O_CREAT, mode);
+    if (file < 0 || (fstat(file, &found) == 0 && (!S_ISREG(found.st_mode) || (is_new && found.st_size == 0))))
+        return file;
+    (void)close(file);
+    errno = EEXIST;
+    return -1;
+}
+
+/* The number of the file. The mode is that of a file that is created. */
+ptrdiff_t pkcs1_os_open(const char *path, int how, unsigned mode) {
+    int file = -1;
+    switch ((enum how)how) {
+        case READ: file = opened(path, O_RDONLY, 0); break;
+        case WRITE: file = opened(path, O_WRONLY, 0); break;
+        case CREATE_NEW: file = opened(path, O_WRONLY | O_CREAT | O_EXCL, mode); break;
+        case IN_PLACE: file = opened_in_place(path, mode); break;
+    }
     return file < 0 ? failed() : file;
 }
 
+/* How many octets were read: 0 at the end. */
 ptrdiff_t pkcs1_os_read(int file, uint8_t *room, size_t len) {
     ssize_t done;
     do
@@ -49,6 +85,7 @@ ptrdiff_t pkcs1_os_read(int file, uint8_t *room, size_t len) {
     return done < 0 ? failed() : done;
 }
 
+/* How many octets were written. */
 ptrdiff_t pkcs1_os_write(int file, const uint8_t *octets, size_t len) {
     ssize_t done;
     do
@@ -57,7 +94,8 @@ ptrdiff_t pkcs1_os_write(int file, const uint8_t *octets, size_t len) {
     return done < 0 ? failed() : done;
 }
 
-int pkcs1_os_sync(int file) {
+/* Waits until the disk has what the file holds. */
+ptrdiff_t pkcs1_os_sync(int file) {
     int done;
     do
         done = fsync(file);
@@ -65,43 +103,51 @@ int pkcs1_os_sync(int file) {
     return done < 0 ? failed() : 0;
 }
 
-int pkcs1_os_set_mode(int file, unsigned mode) {
-    return fchmod(file, (mode_t)mode) < 0 ? failed() : 0;
+ptrdiff_t pkcs1_os_set_mode(int file, unsigned mode) {
+    int done;
+    do
+        done = fchmod(file, (mode_t)mode);
+    while (done < 0 && errno == EINTR);
+    return done < 0 ? failed() : 0;
 }
 
+/* Whether it closes isn't told: what was written is on the disk before, or went to no disk. */
 void pkcs1_os_close(int file) {
     (void)close(file);
 }
 
-/* 1 if a regular file is at the path, 0 if another. */
-int pkcs1_os_look(const char *path, int through_link, unsigned *mode) {
+/* The kind of what stands at the path, or of what a link there names, and its mode. */
+ptrdiff_t pkcs1_os_look(const char *path, int through_link, unsigned *mode) {
     struct stat found;
     if ((through_link ? stat(path, &found) : lstat(path, &found)) < 0)
         return failed();
     *mode = (unsigned)found.st_mode;
-    return S_ISREG(found.st_mode) != 0;
+    return S_ISREG(found.st_mode) ? REGULAR : S_ISLNK(found.st_mode) ? LINK : OTHER;
 }
 
-int pkcs1_os_rename(const char *from, const char *to) {
-    return rename(from, to) < 0 ? failed() : 0;
+/* Whether both paths name one file. */
+ptrdiff_t pkcs1_os_is_same(const char *one, const char *other) {
+    struct stat first, second;
+    if (stat(one, &first) < 0 || stat(other, &second) < 0)
+        return failed();
+    return first.st_dev == second.st_dev && first.st_ino == second.st_ino;
 }
 
-int pkcs1_os_remove(const char *path) {
-    return unlink(path) < 0 ? failed() : 0;
-}
-
-int pkcs1_os_real_path(const char *path, char room[4096]) {
+/* The path of the same file that goes through no link. */
+ptrdiff_t pkcs1_os_real_path(const char *path, char room[LONGEST]) {
     return realpath(path, room) == NULL ? failed() : 0;
 }
 
-const char *pkcs1_os_word(size_t number) {
-    return number < count ? words[number] : NULL;
+ptrdiff_t pkcs1_os_rename(const char *from, const char *to) {
+    return rename(from, to) < 0 ? failed() : 0;
+}
+
+ptrdiff_t pkcs1_os_remove(const char *path) {
+    return unlink(path) < 0 ? failed() : 0;
 }
 
 int main(int argc, char **argv) {
-    /* A pipe that nobody reads is a write that fails. */
+    /* To write to a pipe that nobody reads is an error, and doesn't end the program. */
     (void)signal(SIGPIPE, SIG_IGN);
-    count = (size_t)argc;
-    words = argv;
-    return pkcs1_tool_main();
+    return pkcs1_tool_main(argc, (const char *const *)argv);
 }

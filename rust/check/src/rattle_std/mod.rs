@@ -1,5 +1,6 @@
 //! What erased tests and programs use of Rattle's standard library, beside what the tool uses.
 
+pub mod fs;
 pub mod hex;
 mod printed;
 #[cfg(test)]
@@ -8,7 +9,7 @@ pub mod test;
 mod tool;
 
 pub use std::{cell, hash, mem};
-pub use tool::{NO_OCTETS, alloc, arrayvec, cmp, env, fmt, fs, io, marker, os, path, result, rt};
+pub use tool::{NO_OCTETS, alloc, arrayvec, cmp, env, fmt, io, marker, os, path, result, rt};
 
 use alloc::{AllocError, Global};
 use prelude::{HostRuntime, String, Vec};

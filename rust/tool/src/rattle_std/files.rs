@@ -1,4 +1,7 @@
-//! Files, as the programs use them.
+//! Files, as the program uses them.
+//!
+//! Cargo's tool has a file of its own for this, since it is also built for Windows and WebAssembly, where paths are no
+//! octets. `crates/pkcs1_tool/beside.sh` compares what both do.
 
 use super::alloc::{AllocError, Global};
 use super::prelude::Vec;
@@ -21,18 +24,19 @@ pub mod path {
             core::str::from_utf8(self.0).unwrap_or_default()
         }
 
-        pub fn to_path_buf(&self, alloc: Global) -> Result<PathBuf, AllocError> {
+        pub fn to_path_buf(self, alloc: Global) -> Result<PathBuf, AllocError> {
             Ok(PathBuf(Vec::from_slice(alloc, self.0)?))
         }
 
-        /// The path of the folder, with a slash if it has a name.
-        fn folder(&self) -> &'p [u8] {
+        /// The path of the folder, with a slash if it has a name. Where the path names a folder itself, as `..` does,
+        /// it is the path.
+        pub(super) fn folder(&self) -> &'p [u8] {
             let mut path = self.0;
-            loop {
-                match path {
-                    [rest @ .., b'/', b'.'] | [rest @ .., b'/'] if !rest.is_empty() => path = rest,
-                    _ => break,
+            while let [rest @ .., b'/', b'.'] | [rest @ .., b'/'] = path {
+                if rest.is_empty() {
+                    break;
                 }
+                path = rest;
             }
             let start = path.iter().rposition(|octet| *octet == b'/').map_or(0, |slash| slash + 1);
             match path.split_at(start) {
@@ -41,6 +45,7 @@ pub mod path {
             }
         }
 
+        /// The path of this name in the same folder.
         pub fn with_file_name(&self, alloc: Global, name: &str) -> Result<PathBuf, AllocError> {
             let mut path = Vec::from_slice(alloc, self.folder())?;
             if !path.is_empty() && !path.ends_with(b"/") {
@@ -66,15 +71,17 @@ pub mod path {
 pub mod rt {
     use super::fs::OpenFile;
     use super::path::{Path, PathBuf};
-    use super::system::{File, How, with_real_path};
+    use super::system::{self, File, How, Kind};
     use super::{Global, io};
 
     /// Opens files.
     pub trait Files {
         type File: io::Read + io::Write + OpenFile;
 
+        /// Opens a file. The mode is that of a file that is created.
         fn open_file(&self, how: How, mode: u32, path: Path<'_>) -> io::Result<Self::File>;
 
+        /// A path of the same file at which no link stands: the one that is given, if it can be had so.
         fn canonicalize(&self, alloc: Global, path: &str) -> io::Result<PathBuf>;
     }
 
@@ -86,7 +93,18 @@ pub mod rt {
         }
 
         fn canonicalize(&self, alloc: Global, path: &str) -> io::Result<PathBuf> {
-            with_real_path(path.as_bytes(), |real| Ok(Path(real).to_path_buf(alloc)?))
+            let path = Path::new(path);
+            if system::look(path.0, false)?.0 != Kind::Link {
+                return Ok(path.to_path_buf(alloc)?);
+            }
+            let real = system::real_path(path.0)?;
+            let real = Path(real.octets()?);
+            // Something may be mounted over the folder where the file is.
+            if system::is_same(path.0, real.0)? {
+                Ok(real.to_path_buf(alloc)?)
+            } else {
+                Err(io::ErrorKind::Other.into())
+            }
         }
     }
 }
@@ -111,7 +129,7 @@ impl io::Write for system::File {
 pub mod fs {
     use super::path::Path;
     use super::rt::Files;
-    use super::system::{self, How};
+    use super::system::{self, How, Kind};
     use super::{io, system::File as SystemFile};
 
     /// Opens and creates files by a handle.
@@ -122,31 +140,40 @@ pub mod fs {
             rt.open_file(How::Read, 0, path)
         }
 
+        /// Opens what is written in place, and creates it if nothing is there. Fails where a regular file is.
         pub fn create<Rt: Files>(rt: &Rt, path: Path<'_>) -> io::Result<Rt::File> {
-            rt.open_file(How::Truncate, 0o666, path)
+            rt.open_file(How::InPlace, 0o666, path)
         }
     }
 
-    /// How a file is opened: for writing.
-    pub struct OpenOptions(How, pub(super) u32);
+    /// How a file is opened.
+    pub struct OpenOptions {
+        write: bool,
+        create_new: bool,
+        pub(super) mode: u32,
+    }
 
     impl OpenOptions {
         pub fn new() -> OpenOptions {
-            OpenOptions(How::Read, 0o666)
+            OpenOptions { write: false, create_new: false, mode: 0o666 }
         }
 
-        pub fn write(&mut self, _write: bool) -> &mut OpenOptions {
-            self.0 = How::Write;
+        pub fn write(&mut self, write: bool) -> &mut OpenOptions {
+            self.write = write;
             self
         }
 
-        pub fn create_new(&mut self, _create_new: bool) -> &mut OpenOptions {
-            self.0 = How::CreateNew;
+        pub fn create_new(&mut self, create_new: bool) -> &mut OpenOptions {
+            self.create_new = create_new;
             self
         }
 
         pub fn open<Rt: Files>(&self, rt: &Rt, path: Path<'_>) -> io::Result<Rt::File> {
-            rt.open_file(self.0, self.1, path)
+            match (self.write, self.create_new) {
+                (true, true) => rt.open_file(How::CreateNew, self.mode, path),
+                (true, false) => rt.open_file(How::Write, 0, path),
+                (false, _) => Err(io::ErrorKind::Other.into()),
+            }
         }
     }
 
@@ -171,24 +198,39 @@ pub mod fs {
     }
 
     /// What is known of a file.
-    pub struct Metadata(bool, pub(super) u32);
+    pub struct Metadata {
+        kind: Kind,
+        pub(super) mode: u32,
+    }
 
     impl Metadata {
         pub fn is_file(&self) -> bool {
-            self.0
+            self.kind == Kind::Regular
         }
     }
 
+    /// Of the file that a link names, if one stands there.
     pub fn metadata<Rt>(_rt: &Rt, path: Path<'_>) -> io::Result<Metadata> {
-        system::look(path.0, true).map(|(is_file, mode)| Metadata(is_file, mode))
+        system::look(path.0, true).map(|(kind, mode)| Metadata { kind, mode })
     }
 
+    /// Of a link itself, if one stands there.
     pub fn symlink_metadata<Rt>(_rt: &Rt, path: Path<'_>) -> io::Result<Metadata> {
-        system::look(path.0, false).map(|(is_file, mode)| Metadata(is_file, mode))
+        system::look(path.0, false).map(|(kind, mode)| Metadata { kind, mode })
     }
 
+    /// Renames a file, and waits until the disk has its name. Where a folder can't be waited for, the file has its name
+    /// all the same.
     pub fn rename<Rt>(_rt: &Rt, from: Path<'_>, to: Path<'_>) -> io::Result<()> {
-        system::rename(from.0, to.0)
+        system::rename(from.0, to.0)?;
+        let folder = match to.folder() {
+            b"" => b".",
+            folder => folder,
+        };
+        if let Ok(folder) = SystemFile::open(folder, How::Read, 0) {
+            let _ = folder.sync();
+        }
+        Ok(())
     }
 
     pub fn remove_file<Rt>(_rt: &Rt, path: Path<'_>) -> io::Result<()> {
@@ -209,7 +251,7 @@ pub mod os {
 
             impl MetadataExt for Metadata {
                 fn mode(&self) -> u32 {
-                    self.1
+                    self.mode
                 }
             }
 
@@ -231,7 +273,7 @@ pub mod os {
 
             impl OpenOptionsExt for OpenOptions {
                 fn mode(&mut self, mode: u32) -> &mut OpenOptions {
-                    self.1 = mode;
+                    self.mode = mode;
                     self
                 }
             }

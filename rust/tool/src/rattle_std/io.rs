@@ -30,43 +30,52 @@ impl From<ErrorKind> for Error {
 
 /// What can be read.
 pub trait Read {
+    /// Reads into the front of the room: how many octets, 0 at the end.
     fn read(&mut self, room: &mut [u8]) -> Result<usize>;
 }
 
 /// What can be written to.
 pub trait Write {
+    /// Writes a beginning of the octets: how many.
     fn write(&mut self, octets: &[u8]) -> Result<usize>;
 
     fn flush(&mut self) -> Result<()>;
 
-    fn write_fmt(&mut self, text: fmt::Arguments<'_>) -> Result<()> {
-        struct Text<'w, W: ?Sized>(&'w mut W, Result<()>);
-
-        impl<W: Write + ?Sized> fmt::Write for Text<'_, W> {
-            fn write_str(&mut self, text: &str) -> fmt::Result {
-                let mut rest = text.as_bytes();
-                while !rest.is_empty() {
-                    match self.0.write(rest) {
-                        Ok(count) if count > 0 => rest = rest.get(count..).unwrap_or_default(),
-                        other => {
-                            self.1 = Err(other.err().unwrap_or(Error(ErrorKind::Other)));
-                            return Err(fmt::Error);
-                        }
-                    }
-                }
-                Ok(())
+    /// Writes all the octets.
+    fn write_all(&mut self, octets: &[u8]) -> Result<()> {
+        let mut rest = octets;
+        while !rest.is_empty() {
+            match self.write(rest)? {
+                0 => return Err(ErrorKind::Other.into()),
+                count => rest = rest.get(count..).ok_or(ErrorKind::Other)?,
             }
         }
+        Ok(())
+    }
 
-        let mut out = Text(self, Ok(()));
+    fn write_fmt(&mut self, text: fmt::Arguments<'_>) -> Result<()> {
+        let mut out = Text { to: self, ended: Ok(()) };
         match fmt::write(&mut out, text) {
             Ok(()) => Ok(()),
-            Err(_) => out.1.and(Err(Error(ErrorKind::Other))),
+            Err(_) => out.ended.and(Err(ErrorKind::Other.into())),
         }
     }
 }
 
-/// The standard input, output or error: the descriptor of this number.
+/// A writer of texts, which keeps the error of the other.
+struct Text<'w, W: ?Sized> {
+    to: &'w mut W,
+    ended: Result<()>,
+}
+
+impl<W: Write + ?Sized> fmt::Write for Text<'_, W> {
+    fn write_str(&mut self, text: &str) -> fmt::Result {
+        self.ended = self.to.write_all(text.as_bytes());
+        self.ended.map_err(|_| fmt::Error)
+    }
+}
+
+/// The standard input, output or error: the file of this number.
 pub struct Standard<const N: i32>;
 
 impl<const N: i32> Read for Standard<N> {

@@ -6,6 +6,7 @@ pub mod hex;
 pub mod io;
 #[path = "../../../src/rattle_std/mod.rs"]
 mod library;
+#[allow(unsafe_code)]
 mod system;
 #[path = "../../../src/bin/pkcs1_tool/rattle_std/text.rs"]
 mod text;
@@ -16,6 +17,7 @@ pub use files::{fs, os, path, rt};
 pub use library::{NO_OCTETS, alloc, arrayvec, cmp, fmt, hash, marker, result};
 
 use alloc::Global;
+use core::ffi::{c_char, c_int};
 
 /// Names that stand in the prelude of Rattle.
 pub mod prelude {
@@ -27,9 +29,19 @@ pub mod prelude {
 
 /// What `main` is given.
 #[derive(Clone, Copy)]
-pub struct HostRuntime;
+pub struct HostRuntime {
+    words: system::Words,
+}
 
 impl HostRuntime {
+    /// # Safety
+    /// The arguments are those of C's `main`.
+    #[allow(unsafe_code)]
+    pub unsafe fn new(count: c_int, words: *const *const c_char) -> HostRuntime {
+        // SAFETY: so it is by this function's own condition.
+        HostRuntime { words: unsafe { system::Words::new(count, words) } }
+    }
+
     pub fn alloc(&self) -> Global {
         Global
     }
@@ -56,13 +68,13 @@ pub mod process {
 
 pub mod env {
     use super::alloc::Global;
+    use super::io;
     use super::prelude::{HostRuntime, String};
-    use super::{io, system};
 
     /// The arguments, each of which must be a text.
-    pub fn args(_rt: &HostRuntime) -> io::Result<::alloc::vec::Vec<String>> {
+    pub fn args(rt: &HostRuntime) -> io::Result<::alloc::vec::Vec<String>> {
         let mut words = ::alloc::vec::Vec::new();
-        while let Some(word) = system::word(words.len()) {
+        while let Some(word) = rt.words.get(words.len()) {
             let text = core::str::from_utf8(word).map_err(|_| io::ErrorKind::Other)?;
             words.try_reserve(1).map_err(|_| io::ErrorKind::OutOfMemory)?;
             words.push(String::from_str(Global, text)?);

@@ -1,85 +1,107 @@
-//! The calls of the C library, and those of ffi/c/os.c: all that is unsafe but for the panic handler.
+//! What the tool asks of the C library, and of `ffi/c/os.c` over it.
 
-use super::io::{ErrorKind, Result};
+use super::io::{Error, ErrorKind, Result};
 use core::alloc::{GlobalAlloc, Layout};
 use core::ffi::{CStr, c_char, c_int, c_uint, c_void};
 use core::ptr::null_mut;
 
-// Each of these returns -1 if it failed, and -2 if there was no memory.
+// A path, which ends with a zero octet, is only read. Of what is returned `count` below knows the meaning.
 unsafe extern "C" {
-    fn pkcs1_os_open(path: *const u8, how: c_int, mode: c_uint) -> c_int;
+    fn pkcs1_os_open(path: *const c_char, how: c_int, mode: c_uint) -> isize;
     fn pkcs1_os_read(file: c_int, room: *mut u8, len: usize) -> isize;
     fn pkcs1_os_write(file: c_int, octets: *const u8, len: usize) -> isize;
-    fn pkcs1_os_sync(file: c_int) -> c_int;
-    fn pkcs1_os_set_mode(file: c_int, mode: c_uint) -> c_int;
-    fn pkcs1_os_close(file: c_int);
-    fn pkcs1_os_look(path: *const u8, through_link: c_int, mode: *mut c_uint) -> c_int;
-    fn pkcs1_os_rename(from: *const u8, to: *const u8) -> c_int;
-    fn pkcs1_os_remove(path: *const u8) -> c_int;
-    fn pkcs1_os_real_path(path: *const u8, room: *mut u8) -> c_int;
-    fn pkcs1_os_word(number: usize) -> *const c_char;
-    fn malloc(len: usize) -> *mut c_void;
+    safe fn pkcs1_os_sync(file: c_int) -> isize;
+    safe fn pkcs1_os_set_mode(file: c_int, mode: c_uint) -> isize;
+    safe fn pkcs1_os_close(file: c_int);
+    fn pkcs1_os_look(path: *const c_char, through_link: c_int, mode: *mut c_uint) -> isize;
+    fn pkcs1_os_is_same(one: *const c_char, other: *const c_char) -> isize;
+    fn pkcs1_os_real_path(path: *const c_char, room: *mut c_char) -> isize;
+    fn pkcs1_os_rename(from: *const c_char, to: *const c_char) -> isize;
+    fn pkcs1_os_remove(path: *const c_char) -> isize;
+    safe fn malloc(len: usize) -> *mut c_void;
     fn realloc(old: *mut c_void, len: usize) -> *mut c_void;
     fn free(old: *mut c_void);
 }
 
-/// C's malloc, whose blocks are good for any alignment up to this.
+/// C's malloc.
 struct Malloc;
 
+/// What a block of malloc is aligned to, on each machine for which there is assembly.
 const ALIGNED: usize = 16;
 
 #[global_allocator]
 static MALLOC: Malloc = Malloc;
 
+// SAFETY: each block comes from malloc or realloc and goes back to realloc or free, which may be called at any time.
+// None is handed out for an alignment that it may not have.
 unsafe impl GlobalAlloc for Malloc {
     unsafe fn alloc(&self, layout: Layout) -> *mut u8 {
-        if layout.align() > ALIGNED {
-            return null_mut();
-        }
-        unsafe { malloc(layout.size()).cast() }
+        if layout.align() > ALIGNED { null_mut() } else { malloc(layout.size()).cast() }
     }
 
-    unsafe fn realloc(&self, old: *mut u8, layout: Layout, len: usize) -> *mut u8 {
-        if layout.align() > ALIGNED {
-            return null_mut();
-        }
+    unsafe fn realloc(&self, old: *mut u8, _layout: Layout, len: usize) -> *mut u8 {
+        // SAFETY: by the condition of this function the block is one of `alloc`, and `len` isn't 0.
         unsafe { realloc(old.cast(), len).cast() }
     }
 
     unsafe fn dealloc(&self, old: *mut u8, _layout: Layout) {
+        // SAFETY: by the condition of this function the block is one of `alloc`.
         unsafe { free(old.cast()) }
     }
 }
 
+/// What `ffi/c/os.c` returns where there was no memory. Of another failure it returns -1.
+const NO_MEMORY: isize = -2;
+
 /// What a call returned, if it didn't fail.
-fn number(returned: isize) -> Result<usize> {
-    usize::try_from(returned).map_err(|_| if returned == -2 { ErrorKind::OutOfMemory } else { ErrorKind::Other }.into())
+fn count(returned: isize) -> Result<usize> {
+    match usize::try_from(returned) {
+        Ok(count) => Ok(count),
+        Err(_) if returned == NO_MEMORY => Err(ErrorKind::OutOfMemory.into()),
+        Err(_) => Err(ErrorKind::Other.into()),
+    }
 }
 
-/// The longest path that Linux takes, with its zero octet.
-pub const PATH_MAX: usize = 4096;
+/// Whether a call that returns nothing failed.
+fn done(returned: isize) -> Result<()> {
+    count(returned).map(|_| ())
+}
 
-/// A path as C takes it.
-struct Name([u8; PATH_MAX]);
+/// The octets of the longest path that Linux takes, with the zero octet behind it.
+const LONGEST: usize = 4096;
+
+/// A path as C takes it, on the stack.
+pub struct Name([u8; LONGEST]);
 
 impl Name {
+    /// Fails if the path is too long, or has a zero octet.
     fn of(path: &[u8]) -> Result<Name> {
-        let mut name = Name([0; PATH_MAX]);
-        if path.len() >= PATH_MAX || path.contains(&0) {
-            return Err(ErrorKind::Other.into());
-        }
-        name.0[..path.len()].copy_from_slice(path);
-        Ok(name)
+        let mut name = Name([0; LONGEST]);
+        name.0.get_mut(..path.len()).ok_or(ErrorKind::Other)?.copy_from_slice(path);
+        if name.octets()? == path { Ok(name) } else { Err(ErrorKind::Other.into()) }
+    }
+
+    /// What is in front of the first zero octet, which must be there.
+    pub fn octets(&self) -> Result<&[u8]> {
+        CStr::from_bytes_until_nul(&self.0).map(CStr::to_bytes).map_err(|_| ErrorKind::Other.into())
+    }
+
+    fn as_ptr(&self) -> *const c_char {
+        self.0.as_ptr().cast()
     }
 }
 
 /// How a file is opened. `ffi/c/os.c` has the same numbers.
 #[derive(Clone, Copy)]
 pub enum How {
+    /// For reading.
     Read = 0,
+    /// For writing.
     Write = 1,
-    Truncate = 2,
-    CreateNew = 3,
+    /// For writing, if nothing is there.
+    CreateNew = 2,
+    /// For writing, if no regular file is there.
+    InPlace = 3,
 }
 
 /// An open file.
@@ -87,15 +109,17 @@ pub struct File(c_int);
 
 impl Drop for File {
     fn drop(&mut self) {
-        unsafe { pkcs1_os_close(self.0) }
+        pkcs1_os_close(self.0);
     }
 }
 
 impl File {
+    /// Opens it. The mode is that of a file that is created.
     pub fn open(path: &[u8], how: How, mode: u32) -> Result<File> {
         let name = Name::of(path)?;
-        let file = unsafe { pkcs1_os_open(name.0.as_ptr(), how as c_int, mode) };
-        number(file as isize).map(|_| File(file))
+        // SAFETY: the name ends with a zero octet.
+        let file = count(unsafe { pkcs1_os_open(name.as_ptr(), how as c_int, mode) })?;
+        c_int::try_from(file).map(File).map_err(|_| ErrorKind::Other.into())
     }
 
     pub fn read(&self, room: &mut [u8]) -> Result<usize> {
@@ -106,53 +130,96 @@ impl File {
         write(self.0, octets)
     }
 
+    /// Waits until the disk has what it holds.
     pub fn sync(&self) -> Result<()> {
-        number(unsafe { pkcs1_os_sync(self.0) } as isize).map(|_| ())
+        done(pkcs1_os_sync(self.0))
     }
 
     pub fn set_mode(&self, mode: u32) -> Result<()> {
-        number(unsafe { pkcs1_os_set_mode(self.0, mode) } as isize).map(|_| ())
+        done(pkcs1_os_set_mode(self.0, mode))
     }
 }
 
+/// Reads from the file of this number into the front of the room: how many octets, 0 at the end.
 pub fn read(file: c_int, room: &mut [u8]) -> Result<usize> {
-    number(unsafe { pkcs1_os_read(file, room.as_mut_ptr(), room.len()) })
+    // SAFETY: the room has `len` octets, which may be written.
+    count(unsafe { pkcs1_os_read(file, room.as_mut_ptr(), room.len()) })
 }
 
+/// Writes a beginning of the octets to the file of this number: how many.
 pub fn write(file: c_int, octets: &[u8]) -> Result<usize> {
-    number(unsafe { pkcs1_os_write(file, octets.as_ptr(), octets.len()) })
+    // SAFETY: there are `len` octets, which may be read.
+    count(unsafe { pkcs1_os_write(file, octets.as_ptr(), octets.len()) })
 }
 
-/// Whether a regular file is at the path, and its mode.
-pub fn look(path: &[u8], through_link: bool) -> Result<(bool, u32)> {
+/// What stands at a path.
+#[derive(Clone, Copy, PartialEq, Eq)]
+pub enum Kind {
+    Regular,
+    Link,
+    Other,
+}
+
+/// The kind of what stands at the path, or of what a link there names, and its mode.
+pub fn look(path: &[u8], through_link: bool) -> Result<(Kind, u32)> {
     let name = Name::of(path)?;
     let mut mode = 0;
-    let found = unsafe { pkcs1_os_look(name.0.as_ptr(), through_link.into(), &mut mode) };
-    number(found as isize).map(|found| (found == 1, mode))
+    // SAFETY: the name ends with a zero octet, and the mode may be written.
+    let kind = match count(unsafe { pkcs1_os_look(name.as_ptr(), through_link.into(), &mut mode) })? {
+        0 => Kind::Regular,
+        1 => Kind::Link,
+        _ => Kind::Other,
+    };
+    Ok((kind, mode))
+}
+
+/// Whether both paths name one file.
+pub fn is_same(one: &[u8], other: &[u8]) -> Result<bool> {
+    let (one, other) = (Name::of(one)?, Name::of(other)?);
+    // SAFETY: both names end with a zero octet.
+    count(unsafe { pkcs1_os_is_same(one.as_ptr(), other.as_ptr()) }).map(|same| same == 1)
+}
+
+/// The path of the same file that goes through no link.
+pub fn real_path(path: &[u8]) -> Result<Name> {
+    let (name, mut real) = (Name::of(path)?, Name([0; LONGEST]));
+    // SAFETY: the name ends with a zero octet, and the room has the octets of the longest path.
+    done(unsafe { pkcs1_os_real_path(name.as_ptr(), real.0.as_mut_ptr().cast()) })?;
+    Ok(real)
 }
 
 pub fn rename(from: &[u8], to: &[u8]) -> Result<()> {
     let (from, to) = (Name::of(from)?, Name::of(to)?);
-    number(unsafe { pkcs1_os_rename(from.0.as_ptr(), to.0.as_ptr()) } as isize).map(|_| ())
+    // SAFETY: both names end with a zero octet.
+    done(unsafe { pkcs1_os_rename(from.as_ptr(), to.as_ptr()) })
 }
 
 pub fn remove(path: &[u8]) -> Result<()> {
     let name = Name::of(path)?;
-    number(unsafe { pkcs1_os_remove(name.0.as_ptr()) } as isize).map(|_| ())
+    // SAFETY: the name ends with a zero octet.
+    done(unsafe { pkcs1_os_remove(name.as_ptr()) })
 }
 
-/// Hands the path through no link to `then`.
-pub fn with_real_path<T>(path: &[u8], then: impl FnOnce(&[u8]) -> Result<T>) -> Result<T> {
-    let (name, mut real) = (Name::of(path)?, [0; PATH_MAX]);
-    number(unsafe { pkcs1_os_real_path(name.0.as_ptr(), real.as_mut_ptr()) } as isize)?;
-    match CStr::from_bytes_until_nul(&real) {
-        Ok(real) => then(real.to_bytes()),
-        Err(_) => Err(ErrorKind::Other.into()),
+/// The words of the command line.
+#[derive(Clone, Copy)]
+pub struct Words {
+    count: usize,
+    first: *const *const c_char,
+}
+
+impl Words {
+    /// # Safety
+    /// The arguments are those of C's `main`: as many texts of C as `count` says, which nothing changes.
+    pub unsafe fn new(count: c_int, first: *const *const c_char) -> Words {
+        Words { count: usize::try_from(count).unwrap_or(0), first }
     }
-}
 
-/// The argument of this number.
-pub fn word(number: usize) -> Option<&'static [u8]> {
-    let word = unsafe { pkcs1_os_word(number) };
-    if word.is_null() { None } else { Some(unsafe { CStr::from_ptr(word) }.to_bytes()) }
+    /// The word of this number. The first is 0.
+    pub fn get(&self, number: usize) -> Option<&'static [u8]> {
+        if number >= self.count {
+            return None;
+        }
+        // SAFETY: by the condition of `new` a text of C stands there.
+        Some(unsafe { CStr::from_ptr(*self.first.add(number)) }.to_bytes())
+    }
 }

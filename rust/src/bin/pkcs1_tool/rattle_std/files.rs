@@ -1,4 +1,4 @@
-//! Files, as the programs use them.
+//! Files, as the programs use them, over Rust's std. The tool that is built without it has a file of its own.
 
 use super::alloc::{AllocError, Global};
 use super::io;
@@ -52,6 +52,11 @@ pub mod rt {
 
         fn open_file(&self, how: &std::fs::OpenOptions, path: Path<'_>) -> io::Result<Self::File>;
 
+        /// Opens what is written in place, and creates it if nothing is there. A regular file that is there is left as
+        /// it is: a write that fails would lose what it holds.
+        fn open_in_place(&self, path: Path<'_>) -> io::Result<Self::File>;
+
+        /// A path of the same file at which no link stands: the one that is given, if it can be had so.
         fn canonicalize(&self, alloc: Global, path: &str) -> io::Result<PathBuf>;
     }
 
@@ -62,15 +67,48 @@ pub mod rt {
             how.open(path.0)
         }
 
-        fn canonicalize(&self, _alloc: Global, path: &str) -> io::Result<PathBuf> {
-            std::fs::canonicalize(path).map(PathBuf)
+        fn open_in_place(&self, path: Path<'_>) -> io::Result<std::fs::File> {
+            let mut how = std::fs::OpenOptions::new();
+            let (file, is_new) = match how.write(true).open(path.0) {
+                Err(error) if error.kind() == io::ErrorKind::NotFound => (how.create(true).open(path.0)?, true),
+                opened => (opened?, false),
+            };
+            let found = file.metadata()?;
+            match found.is_file() && !(is_new && found.len() == 0) {
+                true => Err(io::ErrorKind::AlreadyExists.into()),
+                false => Ok(file),
+            }
         }
+
+        fn canonicalize(&self, _alloc: Global, path: &str) -> io::Result<PathBuf> {
+            if !std::fs::symlink_metadata(path)?.is_symlink() {
+                return Ok(PathBuf(path.into()));
+            }
+            let real = std::fs::canonicalize(path)?;
+            // Something may be mounted over the folder where the file is.
+            match is_same(path.as_ref(), &real)? {
+                true => Ok(PathBuf(real)),
+                false => Err(io::ErrorKind::NotFound.into()),
+            }
+        }
+    }
+
+    /// Whether both paths name one file.
+    #[cfg(unix)]
+    fn is_same(one: &std::path::Path, other: &std::path::Path) -> io::Result<bool> {
+        use std::os::unix::fs::MetadataExt;
+        let (one, other) = (std::fs::metadata(one)?, std::fs::metadata(other)?);
+        Ok(one.dev() == other.dev() && one.ino() == other.ino())
+    }
+
+    #[cfg(not(unix))]
+    fn is_same(_one: &std::path::Path, _other: &std::path::Path) -> io::Result<bool> {
+        Ok(true)
     }
 }
 
 /// Files.
 pub mod fs {
-    use super::super::prelude::Vec;
     use super::io;
     use super::path::Path;
     use super::rt::Files;
@@ -84,8 +122,9 @@ pub mod fs {
             rt.open_file(std::fs::OpenOptions::new().read(true), path)
         }
 
+        /// Opens what is written in place, and creates it if nothing is there. Fails where a regular file is.
         pub fn create<Rt: Files>(rt: &Rt, path: Path<'_>) -> io::Result<Rt::File> {
-            rt.open_file(std::fs::OpenOptions::new().write(true).create(true).truncate(true), path)
+            rt.open_in_place(path)
         }
     }
 
@@ -138,14 +177,6 @@ pub mod fs {
         }
     }
 
-    pub fn read<Rt>(_rt: &Rt, path: Path<'_>) -> io::Result<Vec<u8>> {
-        std::fs::read(path.0).map(Vec::from)
-    }
-
-    pub fn write<Rt, B: AsRef<[u8]>>(_rt: &Rt, path: Path<'_>, bytes: B) -> io::Result<()> {
-        std::fs::write(path.0, bytes)
-    }
-
     pub fn metadata<Rt>(_rt: &Rt, path: Path<'_>) -> io::Result<Metadata> {
         std::fs::metadata(path.0)
     }
@@ -154,8 +185,18 @@ pub mod fs {
         std::fs::symlink_metadata(path.0)
     }
 
+    /// Renames a file, and waits until the disk has its name. Where a folder can't be waited for, the file has its name
+    /// all the same.
     pub fn rename<Rt>(_rt: &Rt, from: Path<'_>, to: Path<'_>) -> io::Result<()> {
-        std::fs::rename(from.0, to.0)
+        std::fs::rename(from.0, to.0)?;
+        let folder = match to.0.parent() {
+            Some(folder) if !folder.as_os_str().is_empty() => folder,
+            _ => std::path::Path::new("."),
+        };
+        if let Ok(folder) = std::fs::File::open(folder) {
+            let _ = folder.sync_all();
+        }
+        Ok(())
     }
 
     pub fn remove_file<Rt>(_rt: &Rt, path: Path<'_>) -> io::Result<()> {

@@ -1,0 +1,145 @@
+/* Makes calls on files fail, and reports each call. Preloaded by faults.py.
+ *
+ * REFUSED is a list of KIND,NUMBER,ERROR: the call of this number of this kind fails with this error. SHORT: no read or
+ * write is of more octets. To the descriptor CALLS it writes the kind of each call, behind `!` if it failed so, and of
+ * fsync the name of the file. What is printed to standard error may be shortened, but doesn't fail. */
+#define _GNU_SOURCE
+#include <dlfcn.h>
+#include <errno.h>
+#include <fcntl.h>
+#include <stdarg.h>
+#include <stdio.h>
+#include <stdlib.h>
+#include <string.h>
+#include <sys/stat.h>
+#include <sys/syscall.h>
+#include <unistd.h>
+
+enum kind { OPEN, READ, WRITE, FSYNC, CLOSE, FCHMOD, RENAME, UNLINK, REALPATH, STAT, LSTAT, FSTAT, KINDS };
+static const char *const names[KINDS] = {"open",   "read",   "write",    "fsync", "close", "fchmod",
+                                         "rename", "unlink", "realpath", "stat",  "lstat", "fstat"};
+
+/* The error of this call, or 0. */
+static int error_of(enum kind kind) {
+    static long seen[KINDS];
+    const char *rest = getenv("REFUSED");
+    char name[16];
+    long number;
+    int error, len;
+    seen[kind]++;
+    while (rest != NULL && sscanf(rest, "%15[a-z],%ld,%d%n", name, &number, &error, &len) == 3) {
+        if (strcmp(name, names[kind]) == 0 && number == seen[kind])
+            return error;
+        rest += len + (rest[len] == ' ');
+    }
+    return 0;
+}
+
+/* Whether this call fails, which is of a file of this name. */
+static int is_refused_of(enum kind kind, const char *name) {
+    char line[300];
+    int error = error_of(kind), kept = errno;
+    int len = snprintf(line, sizeof line, "%s%s%.255s\n", error == 0 ? "" : "!", names[kind], name);
+    const char *calls = getenv("CALLS");
+    if (calls != NULL)
+        (void)syscall(SYS_write, atoi(calls), line, len);
+    errno = error == 0 ? kept : error;
+    return error != 0;
+}
+
+static int is_refused(enum kind kind) {
+    return is_refused_of(kind, "");
+}
+
+static size_t shortened(size_t len) {
+    const char *most = getenv("SHORT");
+    return most == NULL || len < (size_t)atol(most) ? len : (size_t)atol(most);
+}
+
+/* The function of this name that would be called. */
+#define NEXT(type, name, ...) ((type(*)(__VA_ARGS__))dlsym(RTLD_NEXT, name))
+
+static int opens(const char *name, const char *path, int flags, unsigned mode) {
+    return is_refused(OPEN) ? -1 : NEXT(int, name, const char *, int, ...)(path, flags, mode);
+}
+static unsigned mode_in(int flags, va_list rest) {
+    return flags & O_CREAT ? va_arg(rest, unsigned) : 0;
+}
+int open(const char *path, int flags, ...) {
+    va_list rest;
+    va_start(rest, flags);
+    unsigned mode = mode_in(flags, rest);
+    va_end(rest);
+    return opens("open", path, flags, mode);
+}
+int open64(const char *path, int flags, ...) {
+    va_list rest;
+    va_start(rest, flags);
+    unsigned mode = mode_in(flags, rest);
+    va_end(rest);
+    return opens("open64", path, flags, mode);
+}
+int openat(int folder, const char *path, int flags, ...) {
+    va_list rest;
+    va_start(rest, flags);
+    unsigned mode = mode_in(flags, rest);
+    va_end(rest);
+    return is_refused(OPEN) ? -1 : NEXT(int, "openat", int, const char *, int, ...)(folder, path, flags, mode);
+}
+ssize_t read(int file, void *room, size_t len) {
+    return is_refused(READ) ? -1 : NEXT(ssize_t, "read", int, void *, size_t)(file, room, shortened(len));
+}
+ssize_t write(int file, const void *octets, size_t len) {
+    return file != 2 && is_refused(WRITE)
+               ? -1
+               : NEXT(ssize_t, "write", int, const void *, size_t)(file, octets, shortened(len));
+}
+int fsync(int file) {
+    char at[30], path[4096] = "", *name;
+    (void)snprintf(at, sizeof at, "/proc/self/fd/%d", file);
+    name = readlink(at, path, sizeof path - 1) < 0 ? NULL : strrchr(path, '/');
+    return is_refused_of(FSYNC, name == NULL ? "" : name) ? -1 : NEXT(int, "fsync", int)(file);
+}
+/* It closes the file all the same, as Linux does. */
+int close(int file) {
+    int refused = is_refused(CLOSE), error = errno;
+    int closed = NEXT(int, "close", int)(file);
+    errno = refused ? error : errno;
+    return refused ? -1 : closed;
+}
+int fchmod(int file, mode_t mode) {
+    return is_refused(FCHMOD) ? -1 : NEXT(int, "fchmod", int, mode_t)(file, mode);
+}
+int rename(const char *from, const char *to) {
+    return is_refused(RENAME) ? -1 : NEXT(int, "rename", const char *, const char *)(from, to);
+}
+int renameat(int one, const char *from, int other, const char *to) {
+    return is_refused(RENAME) ? -1
+                              : NEXT(int, "renameat", int, const char *, int, const char *)(one, from, other, to);
+}
+int unlink(const char *path) {
+    return is_refused(UNLINK) ? -1 : NEXT(int, "unlink", const char *)(path);
+}
+int unlinkat(int folder, const char *path, int flags) {
+    return is_refused(UNLINK) ? -1 : NEXT(int, "unlinkat", int, const char *, int)(folder, path, flags);
+}
+char *realpath(const char *path, char *room) {
+    return is_refused(REALPATH) ? NULL : NEXT(char *, "realpath", const char *, char *)(path, room);
+}
+int stat(const char *path, struct stat *found) {
+    return is_refused(STAT) ? -1 : NEXT(int, "stat", const char *, struct stat *)(path, found);
+}
+int lstat(const char *path, struct stat *found) {
+    return is_refused(LSTAT) ? -1 : NEXT(int, "lstat", const char *, struct stat *)(path, found);
+}
+int fstat(int file, struct stat *found) {
+    return is_refused(FSTAT) ? -1 : NEXT(int, "fstat", int, struct stat *)(file, found);
+}
+/* statx, by which Rust's std asks. To know whether there is such a call it passes null, which headers forbid. */
+int asked(int folder, const char *path, int flags, unsigned mask, void *found) __asm__("statx");
+int asked(int folder, const char *path, int flags, unsigned mask, void *found) {
+    enum kind kind = flags & AT_EMPTY_PATH ? FSTAT : flags & AT_SYMLINK_NOFOLLOW ? LSTAT : STAT;
+    if (path != NULL && is_refused(kind))
+        return -1;
+    return NEXT(int, "statx", int, const char *, int, unsigned, void *)(folder, path, flags, mask, found);
+}
