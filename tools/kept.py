@@ -8,9 +8,9 @@ command runs at the top of a copy of these, so it can read no other file of the 
 repository's own folder, for what was made of the files that are named. --makes: a file that it makes, which is put into
 the repository.
 
-That it passed is kept outside of the repository, under the hash of these files, the command, this program, the toolchain,
-the packages of this Debian, python3 and rustc, with the last line that it printed and the file that it made. What fails
-isn't kept, and runs again. KEPT=anew: it runs, whatever is kept.
+That it passed is kept outside of the repository, under the hash of these files, the command, this program, the
+toolchain, the packages of this Debian, python3 and rustc, with the last line that it printed and the file that it made.
+What fails isn't kept, and runs again. KEPT=anew: it runs, whatever is kept.
 
 --line: where nothing is kept here, and the step's line in tools/verdicts.txt fits, it runs with the variable SAMPLE, by
 which it draws what it tries. The line is under the hash of the command and of these files but those in out, and names
@@ -39,8 +39,8 @@ MADE = ("out", "target", "__pycache__", ".git")
 
 
 class Store:
-    """What passed on this machine before, each with what is to be said of it. It is looked for by the hash of all that it
-    stands on. An entry names that hash too: one that was put in another's place counts for nothing."""
+    """What passed on this machine before, each with what is to be said of it. It is looked for by the hash of all that
+    it stands on. An entry names that hash too: one that was put in another's place counts for nothing."""
 
     def __init__(self, kind, anew=ANEW):
         self.folder, self.anew = CACHE / kind, anew

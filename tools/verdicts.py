@@ -1,9 +1,9 @@
 #!/usr/bin/env python3
-"""Verdicts that stand in the repository, in tools/verdicts.txt. Each is a function of files: that of a step of the gate,
-or that of the wrong bodies of a crate. Its line names what judged it, and the hash of what that read. Where the line
-fits, a machine that keeps nothing tries a sample, and nothing where it doesn't fit counts.
+"""Verdicts that stand in the repository, in tools/verdicts.txt. Each is a function of files: that of a step of the
+gate, or that of the wrong bodies of a crate. Its line names what judged it, and the hash of what that read. Where it
+fits, a machine that keeps nothing tries a sample. A line that doesn't fit counts for nothing.
 
-    tools/verdicts.py drawn LEAST     of the lines of standard input those that are drawn: a twentieth, but LEAST at least
+    tools/verdicts.py drawn LEAST     the lines of standard input that are drawn: a twentieth, but LEAST at least
 
 The variable SAMPLE says by what is drawn: the day and the commit. Where it isn't set, all are drawn.
 """
@@ -69,8 +69,8 @@ def first_line(*command):
 
 @functools.lru_cache(maxsize=None)
 def judge_of(kind):
-    """What judges such a verdict, of which each build says the same: the logic of the toolchain, the packages of a Debian,
-    or Frama-C and its provers."""
+    """What judges such a verdict, of which each build says the same: the logic of the toolchain, the packages of a
+    Debian, or Frama-C and its provers."""
     if kind == "logic":
         return re.search(r"logic \S+|$", first_line("rt", "version"))[0]
     if kind == "debian":

@@ -21,10 +21,10 @@ COMMENT = re.compile(r"^\s*(//|--).*\n", re.M)
 
 
 class Verdicts:
-    """Which edits of a crate were refused before. On this machine, each under all that the prover then read: the toolchain,
-    this program, the crate and its line in crates.txt, the libraries below it as they were built, and the edit. Only that
-    an edit was refused is kept. By the line of the repository, all of the crate, under the same but for the build of the
-    toolchain, which is named by its logic, and comments; for libraries their sources stand."""
+    """Which edits of a crate were refused before. On this machine, each under all that the prover then read: the
+    toolchain, this program, the crate and its line in crates.txt, the libraries below it as they were built, and the
+    edit. Only that an edit was refused is kept. By the line of the repository, all edits of the crate, under the same
+    without comments. There the toolchain is named by its logic, and libraries are their sources."""
 
     def __init__(self, name, crates, edits, anew):
         self.store = kept.Store("wrong_bodies", anew or kept.ANEW)
@@ -51,8 +51,8 @@ class Verdicts:
             self.store.keep(self.key(edit), goal)
 
     def stands(self, edit):
-        """Whether the line of the repository says that it is refused, and it isn't drawn to be tried all the same, of those
-        that this machine hasn't tried."""
+        """Whether the line of the repository says that it is refused, and it isn't drawn to be tried all the same, of
+        those that this machine hasn't tried."""
         return self.said is not None and not is_demo(edit.name) and edit.name not in self.drawn
 
     def line(self):

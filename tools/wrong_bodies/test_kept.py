@@ -115,7 +115,8 @@ class Tree:
     def verdicts(self, statement):
         """What a statement prints about `it`, the verdicts on the edits of the topmost crate."""
         program = "import sys; sys.path.insert(0, 'tools/wrong_bodies'); import earlier, edits, prover; " \
-            "every = edits.edits_in('crates/top/wrong'); it = earlier.Verdicts('top', prover.read_crates(), every, False); "
+            "every = edits.edits_in('crates/top/wrong'); " \
+            "it = earlier.Verdicts('top', prover.read_crates(), every, False); "
         return self.run("python3", "-B", "-c", program + statement).stdout
 
     def has_line(self):
@@ -125,7 +126,8 @@ class Tree:
         """Of each edit, by the name of its heading, whether it is tried on a machine that keeps nothing."""
         shutil.rmtree(self.room / "cache")
         said = self.run("tools/wrong_bodies/wrong_bodies.py", *words, sample=sample).stdout
-        names = [it.partition("\n")[0] for it in (self.top / "crates/top/wrong/lib.edits").read_text().split("edit: ")[1:]]
+        edits = (self.top / "crates/top/wrong/lib.edits").read_text(encoding="utf-8").split("edit: ")
+        names = [it.partition("\n")[0] for it in edits[1:]]
         return {it: f"#{it}: " in said for it in names}
 
     def try_edits(self):
@@ -164,7 +166,7 @@ def test_line(tree):
     others = "".join(f"\nedit: constant_{it}\nold: middle::echo(number)\nnew: middle::echo({it})\n" for it in range(6))
     tree.put("crates/top/wrong/lib.edits", EDITS + others)
     said = tree.run("tools/wrong_bodies/wrong_bodies.py", "--write").stderr
-    assert "#harmless: it was not refused" in said and not tree.has_line(), "a line is written of an edit that isn't refused"
+    assert "#harmless: it was not refused" in said and not tree.has_line(), "a line is written of a harmless edit"
     tree.verdicts("earlier.verdicts.write(it.row, it.line())")
     assert tree.has_line()
     days = [f"day {it}" for it in range(12)]
