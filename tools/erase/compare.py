@@ -22,7 +22,7 @@ INSIDE = ["decode", "to_bytes", "try_clone"]  # they take or give what isn't pub
 PRELUDE = {"Vec", "vec", "String", "ToString", "format", "HostRuntime", "Eprint", "eprintln", "assert", "assert_eq"}
 TOKEN = re.compile(r"""
     //[^\n]* | (?P<kept> b?"(?:\\.|[^"\\])*" | b?'(?:\\[^\n][^'\n]*|[^'\\\n])' | '[a-z_]\w* | \w+
-    | :: | -> | => | \.\.=? | \S)""", re.X | re.S)
+    | :: | -> | => | \.\.=? | && | \|\| | [-+*/%^&|=!<>]= | \S)""", re.X | re.S)
 OPEN, CLOSE = ("(", "[", "{"), (")", "]", "}")
 
 
