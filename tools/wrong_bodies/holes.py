@@ -1,13 +1,19 @@
-"""Takes proofs and answers of functions away: the prover then goes by their contracts."""
+"""Takes proofs, answers and bodies of functions away: the prover then goes by their contracts."""
 import os
 import pathlib
+import re
 import shutil
+
+from functions import functions
 
 HOLE = """use Rattle.{crate}.proofs.{path}.Statement.{{statement}}
 
 pub {name}_spec : {{M : Type 1}} → statement M
 {name}_spec = ?
 """
+
+# The head of a function whose body is a part of what others see: of a constant, or of the type that it returns.
+SEEN = re.compile(r" *(?:pub(?:\([^)]*\))? )?const (?:unsafe )?fn\b|.*-> impl\b")
 
 
 def is_cycle(proofs, function):
@@ -25,6 +31,16 @@ def leave_open(proofs, crate, functions):
         os.makedirs(f"{home}/{name}")
         with open(f"{home}/{name}/Proof.antt", "w", encoding="utf-8") as it:
             it.write(HOLE.format(crate=crate, path=".".join([*modules, name]), name=name))
+
+
+def without_bodies(path, text, types, names):
+    """The text of a file src/.. in which the functions of these names never end. Each line stays where it is."""
+    lines = text.split("\n")
+    for it in functions(path, text, types):
+        has_lines, is_seen = it.last > it.body + 1, any(map(SEEN.match, lines[it.first - 1 : it.body]))
+        if it.name in names and has_lines and not is_seen:
+            lines[it.body : it.last - 1] = ["loop {}", *[""] * (it.last - it.body - 2)]
+    return "\n".join(lines)
 
 
 def without_answers(proofs, function):

@@ -9,6 +9,8 @@ KIT = os.path.dirname(subprocess.run(["rt", "doc"], capture_output=True, text=Tr
 NAMES_WHAT_IS_GONE = re.compile(
     r"has no |is not in scope|was not admitted|is no name|not checked:"
     r"|operand is missing|expected the end|cannot continue")
+# Of these, what tells that the function's own edit took it away, and not that of what it calls.
+TAKEN_AWAY = re.compile(r"has no |is not in scope|is no name")
 # How a goal is told whose answer no longer proves it, which weighs less than a goal without an answer.
 BROKEN = ", whose answer no longer proves it"
 UNREADABLE = re.compile(r"(?:\./)?(src/\S+?):(\d+):\d+: error")
@@ -68,8 +70,8 @@ def is_read(said):
     return len(laws) == len(unreadable(said))
 
 
-def names_what_is_gone(told):
-    return NAMES_WHAT_IS_GONE.search(re.sub(r"`[^`]*`", "", told))
+def names_what_is_gone(told, words=NAMES_WHAT_IS_GONE):
+    return words.search(re.sub(r"`[^`]*`", "", told))
 
 
 class Told(NamedTuple):
@@ -107,11 +109,11 @@ def own_goal(told, name):
     return f"{name}: `{told.opened[0]}`" if told.opened and not told.lost else None
 
 
-def goals_without_answers(said, crate, name):
-    """The goals of a function that was tried alone, without an edit and without its answers, that were open then. None
-    where it isn't clear that these are all."""
+def goals_without_answers(said, crate, name, is_own):
+    """The goals of a function that was tried without an edit and without its answers, that were open then. None where
+    it isn't clear that these are all."""
     line = next((it for it in said if it.startswith(f"fn {crate}::{name}: ")), "")
-    told = told_of(said, crate, name, lambda file, line: True)
+    told = told_of(said, crate, name, is_own)
     if not TOLD.match(said[-1]) or unreadable(said) or told.lost:
         return None
     if line.startswith(tuple(f"fn {crate}::{name}: {it}" for it in PROVED)):

@@ -10,9 +10,10 @@ from credit import NEEDS_NONE, of_itself
 from earlier import Verdicts, kept
 from edits import BadEdit
 from functions import functions, types_of
-from holes import is_cycle, leave_open, without_answers
+from holes import is_cycle, leave_open, without_answers, without_bodies
 from prover import (
-    KIT, TOLD, check_words, goals_without_answers, is_read, messages, own_goal, told_of, unreadable, why_not)
+    KIT, TAKEN_AWAY, TOLD, check_words, goals_without_answers, is_read, messages, names_what_is_gone, own_goal, told_of,
+    unreadable, why_not)
 
 
 class Crate:
@@ -22,6 +23,8 @@ class Crate:
         self.name, self.edits, self.kept = name, edits, tempfile.mkdtemp(prefix="wrong-kept-")
         self.words, self.earlier = check_words(name, crates), Verdicts(name, crates, edits, anew)
         self.checks, self.seconds, self.taken, self.standing, self.verdicts = 0, 0.0, 0, 0, {}
+        # of edits: what was said of the answers that they lost, by their functions
+        self.lost = {}
         # of functions: their goals that are open without an edit and without answers
         self.needing = {}
         self.texts = {}
@@ -34,15 +37,16 @@ class Crate:
 
     def check(self, texts, names, unanswered=()):
         """What the prover says of these functions of a copy of the crate with these texts in place of its own, and
-        without the answers of some. What they call is taken by its contract, unproved."""
+        without the answers of some. What they call is taken by its contract, unproved, and has no body."""
+        holes = self.left_out.difference(names)
         with tempfile.TemporaryDirectory(prefix="wrong-") as room:
             for part in ("src", "specs", "proofs"):
                 if os.path.isdir(f"crates/{self.name}/{part}"):
                     shutil.copytree(f"crates/{self.name}/{part}", f"{room}/{part}")
-            for path, text in texts.items():
+            for path, text in (self.texts | texts).items():
                 with open(f"{room}/{path}", "w", encoding="utf-8") as it:
-                    it.write(text)
-            leave_open(f"{room}/proofs", self.name, self.left_out.difference(names))
+                    it.write(without_bodies(path, text, self.types, holes))
+            leave_open(f"{room}/proofs", self.name, holes)
             for it in unanswered:
                 without_answers(f"{room}/proofs", it)
             words = [f"{KIT}/bin/rattle", "check", *self.words, "--incremental", self.kept, "--allow-holes"]
@@ -83,16 +87,39 @@ class Crate:
             self.earlier.keep(edit, goal)
 
     def try_in_rounds(self, left):
-        """Tries edits, as many as go together in a check. One that two rounds don't settle is tried alone."""
-        tries = collections.Counter()
+        """Tries edits, as many as go together in a check. Those that took away what answers name are then tried without
+        these answers, in rounds too. What they don't settle, and two of the first rounds, is tried alone."""
+        tries, late = collections.Counter(), []
         while left:
             together, texts = self.round_of(left)
             self.settle(together, texts)
             tries.update(it.name for it in together)
-            for edit in together:
-                if edit.name not in self.verdicts and tries[edit.name] == 2:
-                    self.settle(*self.round_of([edit]))
             left = [it for it in left if it.name not in self.verdicts]
+            late += [it for it in left if tries[it.name] == 2 or self.took_away(it)]
+            left = [it for it in left if it not in late]
+        self.try_without_answers([it for it in late if self.took_away(it)])
+        for edit in late:
+            if edit.name not in self.verdicts:
+                self.settle(*self.round_of([edit]))
+
+    def took_away(self, edit):
+        """Whether each answer that an edit lost was lost by what it took away itself."""
+        lost = self.lost.get(edit.name, {}).values()
+        return bool(lost) and all(names_what_is_gone(it, TAKEN_AWAY) for it in lost)
+
+    def try_without_answers(self, left):
+        """Tries edits without the answers that they lost, as many as go together in a check, and gives a verdict on
+        those that a goal refuses which fails of itself."""
+        while left:
+            together, texts = self.round_of(left)
+            lost = sorted({name for it in together for name in self.lost[it.name]})
+            said = self.check(texts, sorted({name for it in together for _, name in it.owned}), lost)
+            if TOLD.match(said[-1]) and not unreadable(said):
+                self.find_needing(lost)
+                for edit in together:
+                    if goal := self.failing_of_itself(edit, texts, said, self.lost[edit.name]):
+                        self.judge(edit, goal, None)
+            left = [it for it in left if it not in together]
 
     def round_of(self, edits):
         """Edits, the first among them, that change different functions and still apply one after another; and the texts
@@ -135,8 +162,9 @@ class Crate:
                   if any(file == at and it.first <= line <= it.last for file, it in spans)]
         if errors:
             return None, f"BAD EDIT: {errors[0][:150]}"
-        told = {} if unread else self.told(edit, texts, said)
-        goals = [goal for name, it in told.items() if (goal := own_goal(it, name))]
+        told = self.told(edit, texts, said)
+        self.lost[edit.name] = {name: it.lost[0] for name, it in told.items() if it.lost}
+        goals = [goal for name, it in told.items() if not unread and (goal := own_goal(it, name))]
         return (goals[0] if goals else None), None
 
     def spans(self, edit, texts):
@@ -150,21 +178,35 @@ class Crate:
 
     def second_thought(self, edit, texts, said):
         """Of an edit that was tried alone, and that no goal refused: one that fails of itself, or why there is none."""
-        lost = {name: it.lost[0] for name, it in self.told(edit, texts, said).items() if it.lost}
+        lost = self.lost[edit.name]
         if not lost or not is_read(said):
             return None, why_not(said, self.name, [name for _, name in edit.owned])
         said = self.check(texts, sorted(name for _, name in edit.owned), lost)
-        for name, told in self.told(edit, texts, said).items():
-            needing = self.needing_answers(name) if name in lost and told.opened and not told.lost else None
-            if needing is not None and (goal := of_itself(told.opened, needing)):
-                return f"{name}: `{goal}`{NEEDS_NONE}", None
-        return None, because_of(*lost.values())
+        self.find_needing(lost)
+        goal = self.failing_of_itself(edit, texts, said, lost)
+        return goal, None if goal else because_of(*lost.values())
 
-    def needing_answers(self, name):
-        """The goals of a function itself that are open without its answers; None where that isn't clear."""
-        if name not in self.needing:
-            self.needing[name] = goals_without_answers(self.check({}, [name], [name]), self.name, name)
-        return self.needing[name]
+    def failing_of_itself(self, edit, texts, said, lost):
+        """The first goal that was open without the answers that an edit lost, and fails of itself; or None."""
+        for name, told in self.told(edit, texts, said).items():
+            needing = self.needing.get(name) if name in lost and told.opened and not told.lost else None
+            if needing is not None and (goal := of_itself(told.opened, needing)):
+                return f"{name}: `{goal}`{NEEDS_NONE}"
+        return None
+
+    def find_needing(self, names):
+        """Finds the goals of functions themselves that are open without their answers, where that is clear."""
+        names = sorted(set(names) - self.needing.keys())
+        if not names:
+            return
+        said = self.check({}, names, names)
+        spans = {it.name: lines_of(file, it) for file, text in self.texts.items()
+                 for it in functions(file, text, self.types) if it.name in names}
+        for name in names:
+            others = [it for other, it in spans.items() if other != name]
+            goals = goals_without_answers(said, self.name, name, outside(others))
+            if goals is not None or len(names) == 1:
+                self.needing[name] = goals
 
     def try_apart(self, edit):
         """Tries an edit that changes more than bodies, by the function that it names."""
@@ -180,6 +222,11 @@ class Crate:
 def lines_of(file, function):
     """Whether a line of a file is one of the function."""
     return lambda at, line: at == file and function.first <= line <= function.last
+
+
+def outside(spans):
+    """Whether a line of a file is in none of these spans."""
+    return lambda at, line: not any(it(at, line) for it in spans)
 
 
 def because_of(lost, *_):

@@ -2,7 +2,7 @@
 """Tries the wrong bodies in crates/NAME/wrong, many in one check: the prover must refuse each at a goal of the function
 that it changes.
 
-    tools/wrong_bodies/wrong_bodies.py [--jobs N] [--anew] [NAME..]
+    tools/wrong_bodies/wrong_bodies.py [--jobs N] [--anew|--demo] [NAME..]
     tools/wrong_bodies/wrong_bodies.py --write [NAME..]     writes the line of each crate whose edits were refused here
 
 Run it at the top of the repository, behind `rt ci` or `rt check`. README.md beside this file says what counts as
@@ -53,6 +53,7 @@ def arguments():
     given = argparse.ArgumentParser(description=__doc__, formatter_class=argparse.RawDescriptionHelpFormatter)
     given.add_argument("--jobs", type=int, help="how many crates side by side")
     given.add_argument("--anew", action="store_true", help="try those too that were refused before")
+    given.add_argument("--demo", action="store_true", help="try the edits that test this program, and no other")
     given.add_argument("--write", action="store_true", help="try nothing, and write the lines of the repository")
     given.add_argument("names", nargs="*", metavar="NAME", help="crates, if not all")
     return given.parse_args()
@@ -69,9 +70,7 @@ def write_lines(crates, edits):
 
 def main():
     given, crates = arguments(), read_crates()
-    edits = {it: edits_in(f"crates/{it}/wrong") for it in given.names or crates}
-    for name in edits:
-        edits[name] += edits_in(f"{DEMO}/{name}")
+    edits = {it: edits_in(f"{DEMO}/{it}" if given.demo else f"crates/{it}/wrong") for it in given.names or crates}
     if given.write:
         return write_lines(crates, {it: edits[it] for it in edits if edits[it]})
     tried = [Crate(it, crates, edits[it], given.anew) for it in edits if edits[it]]
