@@ -1,7 +1,7 @@
 #!/usr/bin/env bash
-# Makes ffi/generated, of which a C compiler builds the library and the tool: what Debian's rustc 1.85 makes of the text in
-# rust, as assembly and as C. tools/erase/compare.py says that this text is that of the proved crates. So it needs neither
-# the toolchain nor a proof, but python3, sha256sum, and what debian_rust.sh needs.
+# Makes ffi/generated, of which a C compiler builds the library and the tool: what Debian's rustc 1.85 makes of the text
+# in rust, as assembly and as C. tools/erase/compare.py says that this text is that of the proved crates. So it needs
+# neither the toolchain nor a proof, but python3, sha256sum, and what debian_rust.sh needs.
 #
 #     tools/generate.sh            makes it
 #     tools/generate.sh --check    makes it in another folder, compares the two octet by octet, and tests what it made:
