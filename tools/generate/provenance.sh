@@ -1,5 +1,6 @@
 #!/usr/bin/env bash
-# Prints what PROVENANCE says: provenance.sh OPTIONS OF_ASSEMBLY OF_IR, those of rustc. RUSTC is the compiler.
+# Prints what PROVENANCE says: provenance.sh OPTIONS OF_TOOL OF_ASSEMBLY OF_IR, those of rustc. RUSTC is the
+# compiler.
 set -eu
 cd "$(dirname "$0")/../.."
 . tools/shell.sh
@@ -22,8 +23,9 @@ with the crates. It makes
     pkcs1_c.c                                    of rust/c for x86_64, as IR, which tools/generate/ir2c translates
 
 each with $1
-the assembly with $2
-the IR with $3
+the tool with $2
+assembly with $3
+IR with $4
 
 Where the code would panic, which the proof excludes, it has a trap. To see that these files come from the text that is
 here, where there is apt-get:

@@ -12,7 +12,6 @@ import sys
 
 sys.path.append(os.path.dirname(os.path.dirname(os.path.realpath(__file__))))
 
-# pylint: disable=wrong-import-position
 from calls import WORDS, attributes
 from constants import constant
 from functions import Function
