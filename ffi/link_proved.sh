@@ -1,6 +1,6 @@
 #!/bin/sh
-# link_proved.sh LIBRARY OUT: leaves libpkcs1 in OUT, of c/pkcs1.c and this libpkcs1_c.a, which rt compiled. CC and CFLAGS
-# are the compiler and its options. ffi/build.sh calls it, and rust/check.sh.
+# link_proved.sh LIBRARY OUT: leaves libpkcs1 in OUT, of c/pkcs1.c and this libpkcs1_c.a, which rt compiled. CC and
+# CFLAGS are the compiler and its options. ffi/build.sh and rust/check.sh call it.
 set -eu
 here=$(dirname "$0")
 CC=${CC:-gcc}

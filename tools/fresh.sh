@@ -6,13 +6,14 @@
 set -eu
 cd "$(dirname "$0")/.."
 generated=ffi/generated
-text='rust/src/clones.rs rust/src/proved rust/src/rattle_std rust/src/bin/pkcs1_tool/rattle_std rust/src/bin/pkcs1_tool/tool
-    rust/c/src rust/tool/src'
-makers='tools/generate.sh tools/debian_rust.sh tools/generate/plain.py tools/generate/marks.py tools/generate/rust_names.py
-    tools/generate/provenance.sh tools/generate/border.c tools/generate/ir2c'
+text='rust/src/clones.rs rust/src/proved rust/src/rattle_std rust/src/bin/pkcs1_tool/rattle_std
+    rust/src/bin/pkcs1_tool/tool rust/c/src rust/tool/src'
+makers='tools/generate.sh tools/debian_rust.sh tools/generate/plain.py tools/generate/marks.py
+    tools/generate/rust_names.py tools/generate/provenance.sh tools/generate/border.c tools/generate/ir2c'
 command -v sha256sum > /dev/null || exit 0
 # shellcheck disable=SC2086
-hash=$(find $text $makers -type f ! -path '*/__pycache__/*' | LC_ALL=C sort | tr '\n' '\0' | xargs -0 sha256sum | sha256sum)
+hash=$(find $text $makers -type f ! -path '*/__pycache__/*' | LC_ALL=C sort | tr '\n' '\0' | xargs -0 sha256sum |
+    sha256sum)
 [ "${1-}" != --hash ] || {
     echo "${hash%% *}"
     exit

@@ -1,7 +1,7 @@
 #!/usr/bin/env bash
-# Makes ffi/generated, of which a C compiler builds the library and the tool: what Debian's rustc 1.85 makes of the text in
-# rust, as assembly and as C. tools/erase/compare.py says that this text is that of the proved crates. So it needs neither
-# the toolchain nor a proof, but python3, sha256sum, and what debian_rust.sh needs.
+# Makes ffi/generated, of which a C compiler builds the library and the tool: what Debian's rustc 1.85 makes of the text
+# in rust, as assembly and as C. tools/erase/compare.py says that this text is that of the proved crates. So it needs
+# neither the toolchain nor a proof, but python3, sha256sum, and what debian_rust.sh needs.
 #
 #     tools/generate.sh            makes it
 #     tools/generate.sh --check    makes it in another folder, compares the two octet by octet, and tests what it made:
@@ -22,10 +22,11 @@ say() {
     printf 'generate: %s, after %s s\n' "$1" "$SECONDS"
 }
 
-# Of both, of assembly, and of the IR that the C is made of: without what computes several values at once, and without
-# tables of addresses, which not each machine can hold.
+# Of all, of the tool, of assembly, and of the IR that the C is made of: without what computes several values at once, and
+# without tables of addresses, which not each machine can hold.
 options=(--edition 2024 --crate-type staticlib -C opt-level=3 -C lto=fat -C codegen-units=1 -C panic=abort
     -C symbol-mangling-version=v0)
+of_tool=(--cfg 'feature="alloc"')
 of_assembly=(-C relocation-model=pic -C force-unwind-tables=yes)
 of_ir=(-C relocation-model=static -C no-vectorize-loops -C no-vectorize-slp -C llvm-args=-switch-to-lookup=false)
 
@@ -44,7 +45,7 @@ assembly() {
     mkdir -p "$made"
     rust "$1" asm pkcs1_c rust/c/src/lib.rs "${of_assembly[@]}"
     $parts/plain.py "$1" library < "$room/asm.$1/pkcs1_c.s" > "$made/pkcs1_c.s"
-    rust "$1" asm pkcs1_tool rust/tool/src/lib.rs --cfg 'feature="alloc"' "${of_assembly[@]}"
+    rust "$1" asm pkcs1_tool rust/tool/src/lib.rs "${of_tool[@]}" "${of_assembly[@]}"
     $parts/plain.py "$1" tool < "$room/asm.$1/pkcs1_tool.s" > "$made/pkcs1_tool.s"
     say "assembly for $1"
 }
@@ -61,7 +62,7 @@ make_all() {
     python3 $parts/ir2c "$room/llvm-ir.x86_64/pkcs1_c.ll" $parts/border.c "$room/generated/pkcs1_c.c"
     say "C"
     wait $!
-    $parts/provenance.sh "${options[*]}" "${of_assembly[*]}" "${of_ir[*]}" > "$room/generated/PROVENANCE"
+    $parts/provenance.sh "${options[*]}" "${of_tool[*]}" "${of_assembly[*]}" "${of_ir[*]}" > "$room/generated/PROVENANCE"
 }
 check() {
     tools/fresh.sh

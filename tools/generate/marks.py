@@ -38,8 +38,8 @@ def note(processor):
 
 
 def is_known(text, processor, is_tool):
-    """Whether each jump to an address, or in each function of the tool as many as take the address of a table, are jumps
-    by a table. Others of the tool go to functions."""
+    """Whether each jump to an address, or in the tool as many as take the address of a table, is one by a table. Others
+    of the tool go to functions."""
     wanted = (TABLE if is_tool else BY_ADDRESS)[processor]
     parts = re.split(r"(?m)^(?=\t\.type\t)", text)
     return all(len(BY_TABLE[processor].findall(it)) == len(wanted.findall(it)) for it in parts)

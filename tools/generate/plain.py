@@ -63,8 +63,8 @@ def by_number(text, form):
 
 
 def numbered(text):
-    """Assembly in whose names each hash is its number, in as many letters, so that names are read as before. What Debian
-    compiled before, and what no function names, stands in an order that hashes don't change."""
+    """Assembly in whose names each hash is its number, in as many letters, so that names are read as before. What
+    Debian compiled before, and constants, stand in an order that hashes don't change."""
     text = re.sub(r"(?<=\.llvm\.)\d+", "1", text)
     text = in_order(text, OF_DEBIAN, lambda it: HASHED.sub("", it.replace('"', "")))
     for before, form, behind in HASHES:
@@ -89,20 +89,26 @@ def without_panics(text, trap, is_tool):
         elif not is_tool or "panic" in name[1]:
             raise ValueError(f"{name[1]} of Rust's core is kept: it comes back")
     text = re.sub(rf"^\t(?:callq?|jmp|bl?)\t({'|'.join(map(re.escape, stops)) or '(?!)'})$", trap, text, flags=re.M)
-    for name in sorted(it for it in stops if it in text):
-        raise ValueError(f"{name} is used otherwise than by a call")
+    left = [it for it in stops if it in text]
+    if left:
+        raise ValueError(f"{min(left)} is used otherwise than by a call")
     if "pkcs1_stop" in text:
         raise ValueError("a function stops that isn't of core")
-    defined = set(NAMED.findall(text))
-    for name in CALL.findall(text):
-        if name not in defined and not OF_C.fullmatch(name):
-            raise ValueError(f"{name} is called, and isn't there")
+    return text
+
+
+def complete(text):
+    """The assembly, if each function that it calls is in it, or in C."""
+    missing = set(CALL.findall(text)) - set(NAMED.findall(text))
+    missing = [it for it in missing if not OF_C.fullmatch(it)]
+    if missing:
+        raise ValueError(f"{min(missing)} is called, and isn't there")
     return text
 
 
 def plain(text, processor, is_tool):
     """The assembly as it is kept."""
-    text = without_panics(by_name(without_debugging(text)), TRAP[processor], is_tool)
+    text = complete(without_panics(by_name(without_debugging(text)), TRAP[processor], is_tool))
     return numbered(marks.add(text, processor, is_tool))
 
 

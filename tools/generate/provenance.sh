@@ -1,5 +1,6 @@
 #!/usr/bin/env bash
-# Prints what PROVENANCE says: provenance.sh OPTIONS OF_ASSEMBLY OF_IR, those of rustc. RUSTC is the compiler.
+# Prints what PROVENANCE says: provenance.sh OPTIONS OF_TOOL OF_ASSEMBLY OF_IR, those of rustc. RUSTC is the
+# compiler.
 set -eu
 cd "$(dirname "$0")/../.."
 . tools/shell.sh
@@ -14,16 +15,17 @@ driver: sha256 $(sha256sum < "$driver" | cut -d ' ' -f 1)
 LLVM: $llvm
 sources: $(tools/fresh.sh --hash)
 
-rustc takes the text of the proved crates without what is there for the proof, which tools/erase/compare.py compares with
-the crates. It makes
+rustc takes the text of the proved crates without what is there for the proof, which tools/erase/compare.py compares
+with the crates. It makes
 
     x86_64/pkcs1_c.s, aarch64/pkcs1_c.s          of rust/c, for Linux
     x86_64/pkcs1_tool.s, aarch64/pkcs1_tool.s    of rust/tool, for Linux
-    pkcs1_c.c                                    of rust/c for x86_64, as LLVM's IR, which tools/generate/ir2c translates
+    pkcs1_c.c                                    of rust/c for x86_64, as IR, which tools/generate/ir2c translates
 
 each with $1
-the assembly with $2
-the IR with $3
+the tool with $2
+assembly with $3
+IR with $4
 
 Where the code would panic, which the proof excludes, it has a trap. To see that these files come from the text that is
 here, where there is apt-get:
@@ -32,7 +34,7 @@ here, where there is apt-get:
 
 Debian 13's rustc, which is 1.85.1, was tried once. All these files came out the same, octet by octet.
 
-Licences. All is of this repository's text, Apache-2.0 or MIT, but for what rustc takes in of Rust's core and, in the tool,
-alloc. These are MIT or Apache-2.0 too, and copyright of the Rust project's contributors: https://github.com/rust-lang/rust.
-What is made of these files may be published under these licences.
+Licences. All is of this repository's text, Apache-2.0 or MIT, but for what rustc takes in of Rust's core and, in the
+tool, alloc. These are MIT or Apache-2.0 too, and have their notices in https://github.com/rust-lang/rust. What is made
+of these files may be published.
 END

@@ -1,5 +1,4 @@
-"""Names as rustc codes them: those of its form v0, which this text has, and the older ones of what Debian compiled before.
-"""
+"""Names as rustc codes them: in the form v0, which this text's have, and in the older one of what Debian compiled."""
 import re
 
 CRATE = re.compile(r"_R\w*?Cs[0-9A-Za-z]+_(\d+)(\w+)")
@@ -11,7 +10,7 @@ ENDS = re.compile(r"(rust_begin_unwind|\w*_alloc_error_handler|\w*rdl_oom)(\.\w+
 
 
 def is_of_core(name):
-    """Whether a function is one of Rust's core or alloc, whose name begins with the crate, or what they call in the end."""
+    """Whether a function is of Rust's core or alloc, with which its name begins, or what they call in the end."""
     found = CRATE.match(name)
     of_crate = found and found[2][:int(found[1])] in ("core", "alloc", "std", "compiler_builtins")
     return bool(of_crate or name.startswith("_ZN") or ENDS.fullmatch(name))

@@ -73,10 +73,33 @@ library_is_marked() {
     ! calls_run "$room/unmarked" "$2" "$3" || stop "$1: the processor misses no marks"
     grep -q 'Illegal instruction' "$room/said" || stop "$1: calls stop otherwise: $(cat "$room/said")"
 }
+# tool_is_marked: the tool answers its rows where the processor looks for marks, of which the start files have none, so
+# it has a start of its own; without its marks it is stopped.
+tool_is_marked() {
+    local it own
+    command -v qemu-aarch64 > /dev/null || return 0
+    own='.globl _start; _start: hint #38; mov x29, #0; mov x30, #0; mov x5, x0; ldr x1, [sp]; add x2, sp, #8;
+        mov x6, sp; adrp x0, main; add x0, x0, :lo12:main; mov x3, #0; mov x4, #0; bl __libc_start_main; bl abort;
+        .section ".note.GNU-stack","",@progbits'
+    echo "$own" > "$room/start.s"
+    "$here/marks.py" remove aarch64 < "$generated/aarch64/pkcs1_tool.s" > "$room/unmarked.s"
+    "$ffi/../crates/pkcs1_tool/all_rows.sh" > "$room/rows"
+    for it in "$generated/aarch64/pkcs1_tool.s" "$room/unmarked.s"; do
+        aarch64-linux-gnu-gcc -O2 -mbranch-protection=bti -nostartfiles -Wl,-z,force-bti "$room/start.s" "$it" \
+            "$ffi/c/os.c" -o "$room/tool" 2> "$room/said"
+        sed 's/ => .*//' "$room/rows" > "$room/lines"
+        { qemu-aarch64 -cpu max -L /usr/aarch64-linux-gnu "$room/tool" < "$room/lines" > "$room/printed" || break; } \
+            2> "$room/said"
+        sed 's/^.* => //' "$room/rows" | cmp - "$room/printed" || stop "marks change what the tool prints"
+    done
+    [ "$it" = "$room/unmarked.s" ] || stop "marks stop the tool: $(cat "$room/said")"
+    grep -q 'Illegal instruction' "$room/said" || stop "the processor misses no marks of the tool"
+}
 objects_are_right() {
     local calls='pkcs1_c_[a-z0-9_]*' processor cc option asked marking
     local of_c='memcpy|memmove|memset|memcmp' of_tool
-    of_tool="$of_c|strlen|malloc|realloc|free|_GLOBAL_OFFSET_TABLE_|$(grep -oE 'pkcs1_os_\w+' "$ffi/c/os.c" | sort -u | paste -sd '|')"
+    of_tool="$of_c|strlen|malloc|realloc|free|_GLOBAL_OFFSET_TABLE_"
+    of_tool="$of_tool|$(grep -oE 'pkcs1_os_\w+' "$ffi/c/os.c" | sort -u | paste -sd '|')"
     for processor in x86_64 aarch64; do
         cc=$processor-linux-gnu-gcc
         [ $processor != "$(uname -m)" ] || cc=gcc
@@ -94,6 +117,7 @@ objects_are_right() {
         object_is_right "$room/tool.o" $cc pkcs1_tool_main "$of_tool"
         leads_back $processor $cc
         library_is_marked $processor $cc $marking
+        [ $processor != aarch64 ] || tool_is_marked
         for option in -UPKCS1_FOREIGN -DPKCS1_FOREIGN; do
             $cc -std=c99 -Wall -Wextra -Werror -pedantic -O2 -fPIC $marking $option "-I$ffi/include" \
                 -c "$generated/pkcs1_c.c" -o "$room/portable.o"
@@ -187,7 +211,8 @@ panics_are_traps() {
             isnt_plain "$stops"$'\n'"$(function_of own ".quad\t$panic")" 'otherwise than by a call' $processor $kind
         done
         isnt_plain "$(function_of $write ret)" 'comes back' $processor library
-        "$here/plain.py" $processor tool <<< "$(function_of $write ret)" | grep -q fmt5write || stop "printing isn't kept"
+        "$here/plain.py" $processor tool <<< "$(function_of $write ret)" | grep -q fmt5write ||
+            stop "what prints isn't kept in the tool"
     done
     isnt_plain "$(function_of $panic 'jne\town' ud2)" 'comes back' x86_64 library
     isnt_plain "$(function_of $panic 'cbz\tx0, own' 'brk\t#1')" 'comes back' aarch64 library
@@ -204,11 +229,13 @@ panics_are_traps() {
 hash_is_of_all() {
     local tree=$room/tree it hash
     mkdir "$tree"
-    (cd "$here/../.." && tar c --exclude=target rust tools/{generate,fresh,debian_rust}.sh tools/generate) | tar x -C "$tree"
+    (cd "$here/../.." && tar c --exclude=target rust tools/{generate,fresh,debian_rust}.sh tools/generate) |
+        tar x -C "$tree"
     hash=$("$tree/tools/fresh.sh" --hash)
     for it in rust/src/{clones,proved/der_core/length,rattle_std/vec,bin/pkcs1_tool/{tool,rattle_std}/mod}.rs \
         rust/{c,tool}/src/lib.rs rust/c/src/calls/pkcs1_c/status.rs rust/tool/src/rattle_std/system.rs \
-        tools/{generate,debian_rust}.sh tools/generate/{{plain,marks,rust_names}.py,provenance.sh,border.c,ir2c/{head.c,calls.py}}; do
+        tools/{generate,debian_rust}.sh tools/generate/{plain,marks,rust_names}.py \
+        tools/generate/{provenance.sh,border.c,ir2c/{head.c,calls.py}}; do
         cp -p "$tree/$it" "$room/kept"
         echo >> "$tree/$it"
         [ "$("$tree/tools/fresh.sh" --hash)" != "$hash" ] || stop "the hash doesn't change with $it"
@@ -225,7 +252,7 @@ unknown_ways_are_refused() {
     for line in 'x86_64 jmpq\t*%rax' 'x86_64 callq\t*8(%rdi)' 'aarch64 br\tx8' 'aarch64 blr\tx8'; do
         isnt_plain "$(function_of own "${line#* }" ret)" "isn't known" "${line%% *}" library
     done
-    isnt_plain "$(function_of own 'leaq\t.LJTI1_0(%rip), %rcx' 'addq\t%rcx, %rax' 'jmpq\t*%rax')" "isn't known" x86_64 tool
+    isnt_plain "$(function_of own 'leaq\t.LJTI1_0(%rip), %rcx' 'jmpq\t*%rax')" "isn't known" x86_64 tool
     isnt_plain "$(function_of own 'add\tx8, x8, :lo12:.LJTI1_0' 'br\tx8')" "isn't known" aarch64 tool
 }
 

@@ -40,8 +40,8 @@ END
 }
 make_tree() {
     mkdir -p "$tree/ffi"
-    (cd "$here/../.." && tar c --exclude=target crates.txt crates/*/src rust tools/{generate,fresh,debian_rust,shell}.sh \
-        tools/{generate,erase}) | tar x -C "$tree"
+    (cd "$here/../.." && tar c --exclude=target crates.txt crates/*/src rust \
+        tools/{generate,fresh,debian_rust,shell}.sh tools/{generate,erase}) | tar x -C "$tree"
     printf '#!/bin/sh\necho tested\n' > "$tree/tools/generate/test.sh"
     printf 'check:\n\t@echo checked\n' > "$tree/Makefile"
 }

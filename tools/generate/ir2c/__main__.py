@@ -1,10 +1,10 @@
 #!/usr/bin/env python3
 """C for LLVM IR: python3 tools/generate/ir2c IN.ll BORDER.c OUT.c
 
-The IR is what rustc makes of the library, after LLVM's passes. The translation knows what such a module has today, and no
-more: it refuses the rest, with one line, the status 1, and no OUT.c. A function of Rust's core that is left must not
-come back: it is a panic, and a trap stands for each call of it. head.c, which stands in front, says how memory is read
-on each machine and by each compiler. BORDER.c, which stands behind, has the calls that others make.
+The IR is what rustc makes of the library, after LLVM's passes. The translation knows what such a module has today, and
+no more: it refuses the rest, with one line, the status 1, and no OUT.c. A function of Rust's core that is left must
+not come back: it is a panic, and a trap stands for each call of it. head.c, which stands in front, says how memory is
+read on each machine and by each compiler. BORDER.c, which stands behind, has the calls that others make.
 """
 import os
 import re
@@ -12,7 +12,6 @@ import sys
 
 sys.path.append(os.path.dirname(os.path.dirname(os.path.realpath(__file__))))
 
-# pylint: disable=wrong-import-position
 from calls import WORDS, attributes
 from constants import constant
 from functions import Function
