@@ -21,7 +21,7 @@ mod rattle_std;
 mod tool;
 
 use core::ffi::{c_char, c_int};
-use rattle_std::prelude::HostRuntime;
+use rattle_std::{HostRuntime, Words};
 
 /// Runs the program, and returns its exit status.
 ///
@@ -31,8 +31,8 @@ use rattle_std::prelude::HostRuntime;
 #[unsafe(no_mangle)]
 pub unsafe extern "C" fn pkcs1_tool_main(count: c_int, words: *const *const c_char) -> c_int {
     // SAFETY: so it is by this function's own condition.
-    let rt = unsafe { HostRuntime::new(count, words) };
-    tool::pkcs1_tool::main(rt).0.into()
+    let words = unsafe { Words::new(count, words) };
+    tool::pkcs1_tool::main(HostRuntime(words)).0.into()
 }
 
 #[allow(unsafe_code)]

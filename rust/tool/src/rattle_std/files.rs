@@ -81,7 +81,7 @@ pub mod rt {
         /// Opens a file. The mode is that of a file that is created.
         fn open_file(&self, how: How, mode: u32, path: Path<'_>) -> io::Result<Self::File>;
 
-        /// A path of the same file at which no link stands: the one that is given, if it can be had so.
+        /// The path of a file at which no link stands: the one that is given or, of a link, the real one.
         fn canonicalize(&self, alloc: Global, path: &str) -> io::Result<PathBuf>;
     }
 

@@ -15,9 +15,9 @@ mod vec;
 
 pub use files::{fs, os, path, rt};
 pub use library::{NO_OCTETS, alloc, arrayvec, cmp, fmt, hash, marker, result};
+pub use system::Words;
 
 use alloc::Global;
-use core::ffi::{c_char, c_int};
 
 /// Names that stand in the prelude of Rattle.
 pub mod prelude {
@@ -29,19 +29,9 @@ pub mod prelude {
 
 /// What `main` is given.
 #[derive(Clone, Copy)]
-pub struct HostRuntime {
-    words: system::Words,
-}
+pub struct HostRuntime(pub Words);
 
 impl HostRuntime {
-    /// # Safety
-    /// The arguments are those of C's `main`.
-    #[allow(unsafe_code)]
-    pub unsafe fn new(count: c_int, words: *const *const c_char) -> HostRuntime {
-        // SAFETY: so it is by this function's own condition.
-        HostRuntime { words: unsafe { system::Words::new(count, words) } }
-    }
-
     pub fn alloc(&self) -> Global {
         Global
     }
@@ -74,7 +64,7 @@ pub mod env {
     /// The arguments, each of which must be a text.
     pub fn args(rt: &HostRuntime) -> io::Result<::alloc::vec::Vec<String>> {
         let mut words = ::alloc::vec::Vec::new();
-        while let Some(word) = rt.words.get(words.len()) {
+        while let Some(word) = rt.0.get(words.len()) {
             let text = core::str::from_utf8(word).map_err(|_| io::ErrorKind::Other)?;
             words.try_reserve(1).map_err(|_| io::ErrorKind::OutOfMemory)?;
             words.push(String::from_str(Global, text)?);

@@ -56,7 +56,7 @@ pub mod rt {
         /// it is: a write that fails would lose what it holds.
         fn open_in_place(&self, path: Path<'_>) -> io::Result<Self::File>;
 
-        /// A path of the same file at which no link stands: the one that is given, if it can be had so.
+        /// The path of a file at which no link stands: the one that is given or, of a link, the real one.
         fn canonicalize(&self, alloc: Global, path: &str) -> io::Result<PathBuf>;
     }
 
