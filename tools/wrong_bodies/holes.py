@@ -12,8 +12,9 @@ pub {name}_spec : {{M : Type 1}} → statement M
 {name}_spec = ?
 """
 
-# The head of a function whose body is a part of what others see: of a constant, or of the type that it returns.
-SEEN = re.compile(r" *(?:pub(?:\([^)]*\))? )?const (?:unsafe )?fn\b|.*-> impl\b")
+# The head of a function whose body is a part of what others see: of a constant, of the type that it returns, or of what
+# a program reaches.
+SEEN = re.compile(r" *(?:pub(?:\([^)]*\))? )?(?:final )?const (?:unsafe )?fn\b|.*-> impl\b|fn main\b")
 
 
 def is_cycle(proofs, function):
@@ -22,9 +23,9 @@ def is_cycle(proofs, function):
     return os.path.isdir("/".join([proofs, *modules, f"+{name}"]))
 
 
-def leave_open(proofs, crate, functions):
-    """Puts a hole in the place of each function's proof."""
-    for function in functions:
+def leave_open(proofs, crate, names):
+    """Puts a hole in the place of the proof of each function of these names."""
+    for function in names:
         *modules, name = function.split("::")
         home = "/".join([proofs, *modules])
         shutil.rmtree(f"{home}/{name}", ignore_errors=True)
