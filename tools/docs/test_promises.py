@@ -1,7 +1,10 @@
 #!/usr/bin/env python3
 """Tests check_promises.py by a small tree, and by mistakes in it, each of which it must name in one line."""
+import contextlib
+import io
 import pathlib
-import subprocess
+import runpy
+import sys
 import tempfile
 
 CHECK = pathlib.Path(__file__).resolve().parent / "check_promises.py"
@@ -115,8 +118,13 @@ def said(tree):
             place = pathlib.Path(room, path)
             place.parent.mkdir(parents=True, exist_ok=True)
             place.write_text(text, encoding="utf-8")
-        done = subprocess.run([CHECK, room], capture_output=True, text=True, check=False)
-    return done.returncode, done.stdout + done.stderr
+        sys.argv[1:] = [room]
+        with contextlib.redirect_stdout(io.StringIO()) as printed:
+            try:
+                runpy.run_path(str(CHECK), run_name="__main__")
+            except SystemExit as ended:
+                return int(ended.code or 0), printed.getvalue()
+    raise AssertionError("it ends without a status")
 
 
 def main():
