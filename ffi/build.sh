@@ -23,7 +23,7 @@ out=${UNPROVED:-$here/out} # UNPROVED: a folder with a libpkcs1_c.a that is only
 library=${UNPROVED:-$crate/out}/libpkcs1_c.a
 export CC=${CC:-gcc} CXX=${CXX:-g++}
 
-action=test
+action='test'
 prefix=
 case "$#:${1-}" in
     0:) ;;
@@ -141,6 +141,7 @@ build_library() {
 link_library() {
     ld -r -o "$out/proved.o" --whole-archive "$library"
     objcopy --wildcard --keep-global-symbol='pkcs1_c_*' "$out/proved.o"
+    # shellcheck disable=SC2086 # words
     "$CC" -std=c99 -O2 ${CFLAGS-} -fPIC -ffunction-sections -fdata-sections -Wall -Wextra -Werror -pedantic \
         "-I$here/include" -c "$here/c/pkcs1.c" -o "$out/calls.o"
     "$here/link.sh" "$out" || stop "the library isn't linked"

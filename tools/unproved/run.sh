@@ -58,7 +58,7 @@ case " \$* " in *" -fsanitize=address "*)
     $([ "$1" != library ] || only_calls)
     \$compile -march=x86-64 -ffunction-sections -fdata-sections -fPIC -fforce-dwarf-frame -O1 -c module.bc \
         -o "$room/$1.o"
-    $([ "$1" != library ] || printf '%s' 'echo "define i32 @main() { ret i32 0 }" > module.bc') ;;
+    $([ "$1" != library ] || no_program) ;;
 esac
 exec "$kit/toolchain/bin/clang" "\$@"
 END
@@ -80,6 +80,11 @@ $compile module.bc -S -emit-llvm -O0 -Xclang -disable-llvm-passes -o - | sed \
     mv module.ll module.bc
 END
 }
+no_program() {
+    cat << 'END'
+printf '%s\n' 'target triple = "x86_64-unknown-linux-gnu"' 'define i32 @main() {' 'ret i32 0' '}' > module.bc
+END
+}
 
 # Whether each definition has its own name, what shellcheck says of the scripts, and the layout. The sources are laid
 # out in a copy, so that a file that isn't laid out stays as it is, and is shown.
@@ -89,13 +94,14 @@ layout() {
     tools/docs/check_definitions.py
     tools/docs/test_definitions.py
     if have shellcheck "the scripts aren't looked at"; then
-        mapfile -t scripts < <(find . -name '*.sh')
-        shellcheck --external-sources --source-path=SCRIPTDIR .ci/run "${scripts[@]}"
+        mapfile -t scripts < <(find . -name '*.sh' ! -path './tools/generate/*')
+        shellcheck --external-sources --source-path=SCRIPTDIR .ci/run ffi/tests/keys/make "${scripts[@]}"
     fi
     [ -n "$kit" ] || return 0
     mkdir "$room/laid_out"
     cp -r crates "$room/laid_out"
-    find "$room"/laid_out/crates/*/{src,specs,proofs} -name '*.rt' -o -name '*.antt' | xargs "$kit/bin/rattle" fmt --write
+    find "$room"/laid_out/crates/*/{src,specs,proofs} \( -name '*.rt' -o -name '*.antt' \) \
+        -exec "$kit/bin/rattle" fmt --write {} +
     diff -r --exclude=out crates "$room/laid_out/crates"
 }
 documents() {
@@ -150,14 +156,16 @@ rust() {
 
 # step NAME COMMAND..: runs the command in the copy, and says how it ended, and what it took.
 step() {
-    local log=$room/$1.log ended=passed TIMEFORMAT='%0R s, of processor time %0U s and %0S s of the system'
+    local began=$SECONDS log=$room/$1.log ended=passed user system
     set +e
-    { time (set -e && cd "$tree" && "${@:2}") > "$log" 2>&1; } 2> "$log.time"
+    (set -e && cd "$tree" && "${@:2}") > "$log" 2>&1
     case $? in
         0) grep 'not installed' "$log" ;;
         *) ended=FAILED && cat "$log" ;;
     esac
-    echo "$1: $ended, $(cat "$log.time")"
+    times > "$log.times"
+    read -r user system < <(tail -n 1 "$log.times")
+    echo "$1: $ended, $((SECONDS - began)) s, of processor time $user and $system of the system"
     echo "$1" >> "$room/$ended"
 }
 # The steps of a part.
