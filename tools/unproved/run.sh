@@ -46,53 +46,41 @@ try_as() {
     "$room/kit.$1/bin/rt" try "${@:2}"
 }
 # try_and_keep NAME WORD..: the same; leaves $room/NAME.o. The compiler gets no environment. Of the two modules that
-# rt try compiles, the one with the sanitizer is the program.
+# rt try compiles, the one with the sanitizer is the program. In a library's object the exports are global, and main
+# isn't. As that does nothing, an empty one runs in its place.
 try_and_keep() {
+    local compiler=$room/kit.$1/toolchain/bin/clang
     copy_kit "$1"
-    rm "$room/kit.$1/toolchain/bin/clang"
-    cat > "$room/kit.$1/toolchain/bin/clang" << END
+    rm "$compiler"
+    cat > "$compiler" << END
 #!/bin/sh
 set -e
 compile="$kit/toolchain/bin/clang --target=x86_64-unknown-linux-gnu -x ir"
-case " \$* " in *" -fsanitize=address "*)
-    $([ "$1" != library ] || only_calls)
-    \$compile -march=x86-64 -ffunction-sections -fdata-sections -fPIC -fforce-dwarf-frame -O1 -c module.bc \
-        -o "$room/$1.o"
-    $([ "$1" != library ] || no_program) ;;
+case "$1: \$* " in
+    tool:*" -fsanitize=address "*) ln module.bc module.ll ;;
+    library:*" -fsanitize=address "*)
+        \$compile module.bc -S -emit-llvm -O0 -Xclang -disable-llvm-passes -o - | sed \
+            -e 's/^define i32 @main(/define internal i32 @main(/' \
+            -e '/^define internal.*@"pkcs1_c::[a-z0-9_:]*::pkcs1_c_/s/ internal / /' \
+            -e 's/@"pkcs1_c::[a-z0-9_:]*::\\(pkcs1_c_[a-z0-9_]*\\)"/@\\1/g' > module.ll
+        printf '%s\n' 'target triple = "x86_64-unknown-linux-gnu"' 'define i32 @main() {' 'ret i32 0' '}' > module.bc ;;
 esac
+[ ! -e module.ll ] || \$compile -march=x86-64 -ffunction-sections -fdata-sections -fPIC -fforce-dwarf-frame -O1 \
+    -c module.ll -o "$room/$1.o"
 exec "$kit/toolchain/bin/clang" "\$@"
 END
-    chmod +x "$room/kit.$1/toolchain/bin/clang"
+    chmod +x "$compiler"
     try_as "$@"
     [ -s "$room/$1.o" ] || {
         touch "$room/other_kit"
         return 1
     }
 }
-# only_calls: how the compiler makes a library of the module: its exports are global, its main isn't. As that does
-# nothing, an empty one runs in its place.
-only_calls() {
-    cat << 'END'
-$compile module.bc -S -emit-llvm -O0 -Xclang -disable-llvm-passes -o - | sed \
-        -e 's/^define i32 @main(/define internal i32 @main(/' \
-        -e '/^define internal.*@"pkcs1_c::[a-z0-9_:]*::pkcs1_c_/s/ internal / /' \
-        -e 's/@"pkcs1_c::[a-z0-9_:]*::\(pkcs1_c_[a-z0-9_]*\)"/@\1/g' > module.ll
-    mv module.ll module.bc
-END
-}
-no_program() {
-    cat << 'END'
-printf '%s\n' 'target triple = "x86_64-unknown-linux-gnu"' 'define i32 @main() {' 'ret i32 0' '}' > module.bc
-END
-}
 
-# Whether each definition has its own name, what shellcheck says of the scripts, and the layout. The sources are laid
-# out in a copy, so that a file that isn't laid out stays as it is, and is shown.
+# What shellcheck says of the scripts, and the layout. The sources are laid out in a copy, so that a file that isn't laid
+# out stays as it is, and is shown.
 layout() {
     local scripts
-    needs python3
-    tools/docs/check_definitions.py
-    tools/docs/test_definitions.py
     if have shellcheck "the scripts aren't looked at"; then
         mapfile -t scripts < <(find . -name '*.sh' ! -path './tools/generate/*')
         shellcheck --external-sources --source-path=SCRIPTDIR .ci/run ffi/tests/keys/make "${scripts[@]}"
