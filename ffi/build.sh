@@ -23,7 +23,7 @@ out=${UNPROVED:-$here/out} # UNPROVED: a folder with a libpkcs1_c.a that is only
 library=${UNPROVED:-$crate/out}/libpkcs1_c.a
 export CC=${CC:-gcc} CXX=${CXX:-g++}
 
-action=test
+action='test'
 prefix=
 case "$#:${1-}" in
     0:) ;;

@@ -3,6 +3,7 @@
 # of pkcs1.h pass to the proved ones, a program without a C library, and the tool. Where there is no ELF it is the C
 # test alone, for Windows over the DLL too. CC, CFLAGS, NM and RUN are as in the Makefile, which calls this.
 set -eu
+# shellcheck disable=SC3045 # dash has it, and bash
 ulimit -t 600 # no test runs forever
 out=$(cd "$1" && pwd)
 cd "$(dirname "$0")/.."
@@ -19,6 +20,7 @@ say() {
 c_test() {
     name=$1
     shift
+    # shellcheck disable=SC2086 # words
     $CC ${CFLAGS-} -std=c99 -Iffi/include ffi/c/test.c ffi/c/rows.c ffi/c/large.c "$@" -o "$tests/$name"
     ${RUN-} "$tests/$name" crates/pkcs1_vectors/stdin
 }

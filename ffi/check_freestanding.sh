@@ -9,6 +9,7 @@ skip() {
     echo "check: $*: it isn't tested without a C library"
     exit
 }
+# shellcheck disable=SC2086 # words
 machine=$("$here/machine.sh" $CC ${CFLAGS-})
 case $machine in x86_64 | aarch64) ;; *) skip "the library is built for another machine" ;; esac
 ! ${NM:-nm} -u "$out/libpkcs1.a" | grep -q ' __' || skip "the library has a sanitizer, or guards its stack"

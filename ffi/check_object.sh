@@ -21,7 +21,7 @@ taken=$($readelf -rW "$out/libpkcs1.so" | grep -o 'pkcs1_[a-z0-9_]*' | paste -s 
 [ -z "$taken" ] || stop "a program can replace $taken in libpkcs1.so"
 for program in "$out/libpkcs1.so" "$out/pkcs1_tool"; do
     [ -e "$program" ] || continue
-    $readelf -lW "$program" | grep -q GNU_RELRO && $readelf -dW "$program" | grep -qwE 'BIND_NOW|NOW' ||
+    { $readelf -lW "$program" | grep -q GNU_RELRO && $readelf -dW "$program" | grep -qwE 'BIND_NOW|NOW'; } ||
         stop "in $program the addresses of calls can be written over"
 done
 # It asks for four functions of C alone, and for what a compiler calls by itself: to find addresses, to guard the stack,

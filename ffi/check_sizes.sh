@@ -65,6 +65,6 @@ grep -v -e '^pkcs1_c_' -e '^pkcs1_oid_[^e]' "$out/declared" > "$room/calls"
 cut -d ' ' -f 1 "$room/table" | diff - "$room/calls" >&2 || stop "the table (<) has other calls than pkcs1.h (>)"
 while read -r call most; do
     size=$(octets "$call")
-    [ "$size" -gt 0 ] && [ "$size" -le "$most" ] || stop "a program with $call alone has $size octets, and may have $most"
+    { [ "$size" -gt 0 ] && [ "$size" -le "$most" ]; } || stop "a program with $call alone has $size octets, and may have $most"
 done < "$room/table"
 echo "check: a program that only reads public keys has $(octets pkcs1_public_key_decode) octets"

@@ -38,6 +38,7 @@ quietly() {
 count() {
     local wraps
     wraps=$(sed -n 's/^UNCOUNTED([^,]*, \([a-z]*\),.*/-Wl,--wrap=\1/p' ffi/c/count.c)
+    # shellcheck disable=SC2086 # words
     quietly gcc -std=c99 -O2 -Wall -Wextra -Werror -pedantic -Iffi/include ffi/c/count.c "$2" $wraps -o "$room/count"
     quietly valgrind --tool=callgrind --collect-atstart=no --combine-dumps=yes --callgrind-out-file="$room/dumps" \
         "$room/count" ffi/tests/keys

@@ -25,6 +25,7 @@ same() {
     }
 }
 # What ELF has: one object, in which other names are local, and versions of names.
+# shellcheck disable=SC2086 # words
 elf() {
     $CC ${CFLAGS-} -fno-lto -fno-sanitize=all -r -nostdlib -o "$out/pkcs1.o" "$out/proved.o" "$out/calls.o"
     # On i386 each object has the same functions that tell where it is, of which a program keeps one.
@@ -50,6 +51,7 @@ elf() {
 archive() {
     ${AR:-ar} rcs "$out/libpkcs1.a" "$out/proved.o" "$out/calls.o"
 }
+# shellcheck disable=SC2086 # words
 windows() {
     archive
     # On 32 bits C's names have a _ in front.

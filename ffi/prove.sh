@@ -74,7 +74,8 @@ goals() {
     sed -nE "s/^\[wp\] \[[^]]*\] (Goal|Smoke-test) ([^ ]+)$pattern/\2/p" "$@" | sort -u
 }
 logs=()
-: > "$room/proved" > "$room/open"
+: > "$room/proved"
+: > "$room/open"
 # judge LOG: adds the names of its goals to those that are proved, or to those that are open.
 judge() {
     goals ' : Valid.*' "$1" > "$1.proved"

@@ -13,12 +13,11 @@ room=$(mktemp -d)
 trap 'rm -rf "$room"' EXIT
 ulimit -t 600 # no test runs forever
 
-have clang "the C tests are compiled by $CC alone" && clang=clang || clang=
-have clang++ "the C++ test is compiled by $CXX alone" && clangxx=clang++ || clangxx=
+have clang "the C tests are compiled by $CC alone" && clang='clang' || clang=
+have clang++ "the C++ test is compiled by $CXX alone" && clangxx='clang++' || clangxx=
 
 # C and C++.
-warned='-O1 -g -Wall -Wextra -Werror -pedantic'
-flags=($warned "-I$here/include")
+flags=(-O1 -g -Wall -Wextra -Werror -pedantic "-I$here/include")
 test=("$here/c/test.c" "$here/c/rows.c" "$here/c/large.c")
 printf '%s\n' '#include <pkcs1.h>' 'void ignore(struct pkcs1_public_key *key);' \
     'void ignore(struct pkcs1_public_key *key) { pkcs1_public_key_decode(0, 0, key); }' > "$room/ignored.c"
@@ -80,6 +79,7 @@ cp "$room/modulus" "$room/pkcs1_tool"
     -o -path "*/bin/*" ! -perm 755)" ] || stop "what is installed has other modes"
 readelf -d "$LIBDIR/libpkcs1.so" | grep -q NODELETE || stop "LDFLAGS aren't used"
 if have pkg-config "LIBDIR isn't tested"; then
+    # shellcheck disable=SC2046 # words
     "$CC" "$here/c/modulus.c" $(PKG_CONFIG_PATH=$LIBDIR/pkgconfig pkg-config --cflags --libs libpkcs1) -o "$room/shared"
 fi
 "$here/build.sh" uninstall "$room/c"

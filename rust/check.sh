@@ -81,6 +81,7 @@ planted() {
     sed -i "$1" "$OUT/planted/src/lib.rs"
     ! rust/preconditions.py "$OUT/planted" > "$OUT/log" || stop "preconditions.py doesn't notice $1"
 }
+# shellcheck disable=SC2016 # $ is the last line, to sed
 preconditions() {
     rust/preconditions.py
     planted 's/^mod proved/pub mod proved/'
@@ -113,8 +114,8 @@ rows() {
     count=$(crates/pkcs1_tool/all_rows.sh | wc -l)
     PROGRAMS=$CARGO_TARGET_DIR/release/pkcs1_tool crates/pkcs1_tool/run_built.sh > "$OUT/log" || true
     grep -vE "$closed|isn't tried: no other user" "$OUT/log" > "$OUT/left"
-    tail -n 1 "$OUT/left" | grep -qxE "($((count + 71))|$((count + 73))) passed, 2 failed" &&
-        [ "$(wc -l < "$OUT/left")" = 2 ] || { cat "$OUT/log" >&2 && stop "the tool fails"; }
+    { tail -n 1 "$OUT/left" | grep -qxE "($((count + 71))|$((count + 73))) passed, 2 failed" &&
+        [ "$(wc -l < "$OUT/left")" = 2 ]; } || { cat "$OUT/log" >&2 && stop "the tool fails"; }
     echo "rows: $(cat crates/pkcs1_vectors/stdout), and the tool does all but for closed streams"
 }
 
@@ -188,6 +189,7 @@ on_machine() (
     local run=("$3" -L "/usr/${2%-gcc}") made=$CARGO_TARGET_DIR/$1/checked name
     needs "$3"
     with_c "$2" "$OUT/$1" CODE=c
+    # shellcheck disable=SC2030 # of this machine alone
     export RUSTFLAGS="-C linker=$2"
     vectors --profile checked --target "$1"
     for name in refuse beside; do
@@ -220,19 +222,20 @@ debian_wasm() {
             "$root/usr/lib/x86_64-linux-gnu:/usr/lib/x86_64-linux-gnu" "$root/usr/$it" > "$OUT/${it##*/}"
         chmod +x "$OUT/${it##*/}"
     done
+    # shellcheck disable=SC2031 # no machine's
     export RUSTC=$OUT/rustc RUSTFLAGS="--sysroot=$root/usr -C linker=$OUT/lld" CARGO_TARGET_DIR=$OUT/wasm_target
 }
 on_wasm() {
     cargo build --manifest-path $crate --no-default-features --target wasm32-unknown-unknown
 }
 on_wasi() {
-    local run=(node --no-warnings rust/check/wasi.js) made=$OUT/wasm_target/wasm32-wasip1/debug rows=$OUT/tool_rows
+    local run=(node --no-warnings rust/check/wasi.js) made=$OUT/wasm_target/wasm32-wasip1/debug told=$OUT/tool_rows
     cargo build --manifest-path $crate --bin pkcs1_tool --target wasm32-wasip1
     vectors --target wasm32-wasip1
     rows_of_32_bits | "${run[@]}" "$made/vectors.wasm" | grep '^[0-9]* rows held, 0 differ' ||
         stop "wasm32 answers the rows otherwise"
-    crates/pkcs1_tool/all_rows.sh > "$rows"
-    sed 's/ => .*//' "$rows" | "${run[@]}" "$made/pkcs1_tool.wasm" | cmp - <(sed 's/^.* => //' "$rows") ||
+    crates/pkcs1_tool/all_rows.sh > "$told"
+    sed 's/ => .*//' "$told" | "${run[@]}" "$made/pkcs1_tool.wasm" | cmp - <(sed 's/^.* => //' "$told") ||
         stop "the tool for wasm32 answers otherwise"
 }
 wasm() (

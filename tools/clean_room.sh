@@ -48,7 +48,9 @@ c_program() {
     make install PREFIX="$prefix"
     [ "$(find "$prefix" -type f ! -perm 644 -printf '%P %m')" = 'bin/pkcs1_tool 755' ] || stop "what is installed has other modes"
     export PKG_CONFIG_PATH=$prefix/lib/pkgconfig
+    # shellcheck disable=SC2046 # words
     cc ffi/c/modulus.c $(pkg-config --cflags --libs libpkcs1) -Wl,-rpath,"$prefix/lib" -o "$room/shared"
+    # shellcheck disable=SC2046 # words
     cc -static ffi/c/modulus.c $(pkg-config --static --cflags --libs libpkcs1) -o "$room/static"
     prints "$room/shared"
     prints "$room/static"
@@ -105,6 +107,7 @@ sanitized() {
         CFLAGS='-O1 -g -fsanitize=address,undefined -fno-sanitize-recover=all'
 }
 # What make was told is what is installed; another Makefile makes all again.
+# shellcheck disable=SC2016 # make and the shell that it starts expand this
 told() {
     local prefix=$room/told
     make OUT=out/options CFLAGS='-O1 -DX="\"a#b\$$c\""' LDFLAGS=-Wl,-z,nodelete
@@ -216,6 +219,7 @@ interface() {
 plain_program() {
     mkdir "$room/etc"
     cp -r /etc/alternatives /etc/ld.so.conf* "$room/etc"
+    # shellcheck disable=SC2016 # the shell that it starts expands this
     unshare --mount sh -euc '
         mount -t tmpfs none /usr/local
         mount -t tmpfs none /var/cache
@@ -330,6 +334,7 @@ enter() {
     [ "$(id -u)" = 0 ] || words+=(--map-root-user)
     unshare "${words[@]}" true 2> /dev/null || stop "unshare ${words[*]} isn't allowed here, and is needed"
     kit=$(rt doc 2> /dev/null) && kit=$(dirname "$(realpath "$kit")") || kit=/opt
+    # shellcheck disable=SC2016 # the shell that it starts expands this
     unshare "${words[@]}" sh -euc '
         for folder in /opt "$1"; do
             [ ! -d "$folder" ] || mount -t tmpfs none "$folder"

@@ -1,4 +1,4 @@
-# shellcheck shell=bash
+# shellcheck shell=bash disable=SC2154 # who reads this sets `room`
 # Sourced by the scripts that build for platforms, which have `stop` and the folder $room. Each call of `platform` is a
 # row of the table in docs/USING.md: tools/docs/check_platforms.py --write makes it of them.
 

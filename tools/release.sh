@@ -42,7 +42,7 @@ pack() {
     (cd "$out" && sha256sum "$1.tar.gz" > "$1.tar.gz.sha256")
     echo "$out/$1.tar.gz"
 }
-[ $# = 1 ] && [ -n "$1" ] || stop "usage: tools/release.sh OUT"
+{ [ $# = 1 ] && [ -n "$1" ]; } || stop "usage: tools/release.sh OUT"
 out=$(realpath -m "$1")
 cd "$(dirname "$0")/.."
 [ -z "$(git status --porcelain)" ] || stop "there are changes that aren't committed: git status tells which"
@@ -66,6 +66,7 @@ for document in *.md docs/*.md rust/README.md tools/erase/README.md; do
     FOLDER=$(dirname "$document") perl -pi -e \
         's{\[([^][]*)\]\((?!https?:)([^)#]+)(#[^)]*)?\)}{-e "$ENV{FOLDER}/$2" ? $& : $1}ge' "$document"
 done
+# shellcheck disable=SC2094 # what is written is not among what is read
 find . -type f ! -name SHA256SUMS | sed 's,^\./,,' | sort | tr '\n' '\0' | xargs -0 sha256sum > SHA256SUMS
 cd "$room"
 mkdir -p "$out" "$name-one-file"

@@ -3,7 +3,7 @@
 
 # hex BYTES: prints the bytes with these hexadecimal digits.
 hex() {
-    printf "$(printf '%s' "$1" | sed 's/../\\x&/g')"
+    printf '%b' "$(printf '%s' "$1" | sed 's/../\\x&/g')"
 }
 
 # runs_by COMMAND..: runs it in the folder, and keeps what it prints.
@@ -28,7 +28,7 @@ mode() {
 
 # keeps WHAT NAME: that the file holds `old`, and nothing new stands in its folder.
 keeps() {
-    [ "$(cat "$room/files/$2")" = old ] && [ -z "$(find "$room" -name '.pkcs1_tool*')" ] ||
+    { [ "$(cat "$room/files/$2")" = old ] && [ -z "$(find "$room" -name '.pkcs1_tool*')" ]; } ||
         fails "$1: $2 doesn't hold what it held, or a new file is left"
 }
 
@@ -72,32 +72,32 @@ copies_in_little_memory() {
 copies_by_other_names() {
     local long
     long=$(printf './%.0s' {1..2044})
-    copies 0 "" out.der $public copy pub "${long}pub.der" out.der
-    copies 1 "reading $long/pub.der: $file" kept.der $old copy pub "$long/pub.der" kept.der
+    copies 0 "" out.der "$public" copy pub "${long}pub.der" out.der
+    copies 1 "reading $long/pub.der: $file" kept.der "$old" copy pub "$long/pub.der" kept.der
     long=$(printf '../files/%.0s' {1..453})
-    copies 0 "" out.der $private copy priv priv.der ".//././${long}out.der"
+    copies 0 "" out.der "$private" copy priv priv.der ".//././${long}out.der"
     long=././././$long
     copies 1 "writing ${long}new.der: no file can be created beside it" new.der - copy pub pub.der "${long}new.der"
     long=$(head -c 5000 /dev/zero | tr '\0' x)
     copies 1 "reading $long: $file" new.der - copy pub "$long" new.der
-    copies 1 "writing $long: the new file can't be renamed to it" kept.der $old copy pub pub.der "$long"
+    copies 1 "writing $long: the new file can't be renamed to it" kept.der "$old" copy pub pub.der "$long"
     ln "$room/files/same.der" "$room/files/hard.der"
     ln -s same.der "$room/files/soft.der"
-    copies 0 "" hard.der $public copy pub same.der hard.der
-    copies 0 "" same.der $public copy pub soft.der same.der
-    copies 0 "" same.der $public copy pub same.der soft.der
-    copies 1 "reading soft.der: $error the value of tag 0x02 is not allowed" same.der $public \
+    copies 0 "" hard.der "$public" copy pub same.der hard.der
+    copies 0 "" same.der "$public" copy pub soft.der same.der
+    copies 0 "" same.der "$public" copy pub same.der soft.der
+    copies 1 "reading soft.der: $error the value of tag 0x02 is not allowed" same.der "$public" \
         copy priv soft.der same.der
     rm "$room/files/hard.der" "$room/files/soft.der"
     mkfifo "$room/files/pipe"
-    hex $public > "$room/files/pipe" &
-    copies 0 "" out.der $public copy pub pipe out.der
+    hex "$public" > "$room/files/pipe" &
+    copies 0 "" out.der "$public" copy pub pipe out.der
     hex 3006020107 > "$room/files/pipe" &
-    copies 1 "reading pipe: $error the input ends too early" kept.der $old copy pub pipe kept.der
+    copies 1 "reading pipe: $error the input ends too early" kept.der "$old" copy pub pipe kept.der
     cat "$room/files/pipe" > "$room/piped" &
-    copies 0 "" pub.der $public copy pub pub.der pipe
+    copies 0 "" pub.der "$public" copy pub pub.der pipe
     wait
-    hex $public | cmp -s - "$room/piped" || fails "copy pub pub.der pipe: other bytes"
+    hex "$public" | cmp -s - "$room/piped" || fails "copy pub pub.der pipe: other bytes"
     [ -p "$room/files/pipe" ] || fails "copy pub pub.der pipe: it is no pipe"
     rm "$room/files/pipe"
 }
@@ -110,11 +110,11 @@ copies_through_links() {
     ln -s sub/none.der "$room/files/nothing.der"
     ln -s /dev/full "$room/files/device"
     ln "$room/files/sub/real.der" "$room/files/before.der"
-    copies 0 "" sub/real.der $public copy pub pub.der link.der
+    copies 0 "" sub/real.der "$public" copy pub pub.der link.der
     [ "$(cat "$room/files/before.der")" = old ] || fails "copy pub pub.der link.der: the old file is written"
-    copies 0 "" sub/none.der $public copy pub pub.der nothing.der
+    copies 0 "" sub/none.der "$public" copy pub pub.der nothing.der
     copies 1 "writing device: a write failed" new.der - copy pub pub.der device
-    [ -L "$room/files/link.der" ] && [ -L "$room/files/nothing.der" ] && [ -L "$room/files/device" ] ||
+    { [ -L "$room/files/link.der" ] && [ -L "$room/files/nothing.der" ] && [ -L "$room/files/device" ]; } ||
         fails "copies through links: a link is replaced"
     rm -r "$room/files/sub" "$room/files"/{link.der,nothing.der,device,before.der}
 }
@@ -139,9 +139,9 @@ keeps_rights() {
 # The name of the new file is another one than those that are there. Where all are taken, nothing is written.
 takes_no_name() {
     printf mine > "$room/files/.pkcs1_tool"
-    copies 0 "" out.der $public copy pub pub.der out.der
+    copies 0 "" out.der "$public" copy pub pub.der out.der
     touch "$room/files"/.pkcs1_tool.{0..99}
-    copies 1 "writing kept.der: no file can be created beside it" kept.der $old copy pub pub.der kept.der
+    copies 1 "writing kept.der: no file can be created beside it" kept.der "$old" copy pub pub.der kept.der
     rm "$room/files"/.pkcs1_tool*
 }
 
@@ -152,7 +152,7 @@ ends_without_an_end() {
     runs_by timeout 20 "${shell[@]}" "$program" copy priv /dev/zero new.der
     ends "copy priv /dev/zero" 1 "reading /dev/zero: $error the tag octet 0x00 is not known" "" $?
     mkfifo "$room/files/pipe"
-    (hex $public; exec cat /dev/zero) > "$room/files/pipe" 2> "$room/piped" &
+    (hex "$public"; exec cat /dev/zero) > "$room/files/pipe" 2> "$room/piped" &
     runs_by timeout 20 "${shell[@]}" "$program" copy pub pipe new.der
     ends "copy pub of a pipe that goes on" 1 "reading pipe: $error bytes follow the value" "" $?
     wait
@@ -180,7 +180,8 @@ keeps_what_is_there() {
 keeps_out_without_rights() {
     local as=()
     [ "$(id -u)" != 0 ] || as=(setpriv --reuid 65534 --regid 65534 --clear-groups)
-    "${as[@]}" test -x "$program" && "${as[@]}" "$program" < /dev/null > "$room/output" 2> "$room/error" || {
+    { "${as[@]}" test -x "$program" && "${as[@]}" "$program" < /dev/null > "$room/output" 2> "$room/error"; } || {
+        # shellcheck disable=SC2034 # run_built.sh prints it
         less='not all of '
         echo "run_built: a folder without rights isn't tried: no other user runs the program here"
         return
@@ -209,6 +210,7 @@ copies_to_a_full_disk() {
     }
     (hex 30821f47 && hex 02821f40 && head -c 8000 /dev/zero | tr '\0' '\021' && hex 020103) > "$room/files/page.der"
     mkdir "$room/small"
+    # shellcheck disable=SC2016 # the shell that it starts expands this
     unshare -rm sh -c 'for nodes in 3 2; do
         mount -t tmpfs -o size=12k,nr_inodes=$nodes none "$2" && cd "$2" && cp ../files/page.der out.der && {
         "$1" copy pub out.der out.der > ../output 2>> ../errors; echo $? >> ../status
@@ -226,7 +228,7 @@ out.der" ] || fails "copies to a full disk: the key is lost, or another file is 
 # before it is renamed, and OUT isn't truncated. OUT is looked at only behind a key.
 calls_in_order() {
     local -x ASAN_OPTIONS=detect_leaks=0 # under strace a sanitizer can't look for leaks
-    command -v strace > /dev/null && strace -o "$room/trace" true 2> "$room/error" || {
+    { command -v strace > /dev/null && strace -o "$room/trace" true 2> "$room/error"; } || {
         echo "run_built: the order of calls isn't looked at: strace is not installed, or may not trace here"
         return
     }

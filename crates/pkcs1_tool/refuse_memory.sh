@@ -26,7 +26,7 @@ ${CC:-gcc} -shared -fPIC -O1 -Wall -Wextra -Werror -o "$room/refuse.so" refuse_m
 
 # hex BYTES: prints the bytes with these hexadecimal digits.
 hex() {
-    printf "$(printf '%s' "$1" | sed 's/../\\x&/g')"
+    printf '%b' "$(printf '%s' "$1" | sed 's/../\\x&/g')"
 }
 
 # refusing NUMBER ARGUMENT..: runs the program with the allocation of this number failing; whether it made so many.
@@ -65,10 +65,10 @@ answers() {
     number=1
     cat "$1" > "$room/input" # where the source can't be written, cp makes a file that can't be either
     while refusing "$number"; do
-        tells && head -n "$(wc -l < "$room/output")" "$2" | cmp -s - "$room/output" || fails "$1"
+        { tells && head -n "$(wc -l < "$room/output")" "$2" | cmp -s - "$room/output"; } || fails "$1"
         number=$((number + 1))
     done
-    [ "$status" = 0 ] && cmp -s "$2" "$room/output" || fails "$1"
+    { [ "$status" = 0 ] && cmp -s "$2" "$room/output"; } || fails "$1"
     some "$1"
 }
 
@@ -79,11 +79,11 @@ copies() {
     hex "$2" > "$room/in.der"
     printf old > "$room/out.der"
     while refusing "$number" copy "$1" in.der out.der; do
-        tells && [ "$(cat "$room/out.der")" = old ] && [ ! -e "$room/.pkcs1_tool" ] || fails "copy $1 $2"
+        { tells && [ "$(cat "$room/out.der")" = old ] && [ ! -e "$room/.pkcs1_tool" ]; } || fails "copy $1 $2"
         printf old > "$room/out.der"
         number=$((number + 1))
     done
-    [ "$status" = 0 ] && cmp -s "$room/in.der" "$room/out.der" || fails "copy $1 $2"
+    { [ "$status" = 0 ] && cmp -s "$room/in.der" "$room/out.der"; } || fails "copy $1 $2"
     some "copy $1 $2"
 }
 
@@ -92,7 +92,7 @@ words() {
     number=1
     : > "$room/input"
     while refusing "$number" "$@"; do
-        tells && [ ! -s "$room/output" ] || fails "the words $*"
+        { tells && [ ! -s "$room/output" ]; } || fails "the words $*"
         number=$((number + 1))
     done
     [ "$status" = 2 ] || fails "the words $*"

@@ -44,4 +44,4 @@ limits=(-max_total_time="$seconds")
 [ "$seconds" != 0 ] || limits=(-runs=0)
 try "$room/fuzz" "${limits[@]}" -max_len=2000 -artifact_prefix="$room/found/" "$room/found" "$room/rows"
 runs=$(sed -n 's/^Done \([0-9]*\) runs.*/\1/p' "$room/log")
-echo "fuzz: the C tests, $(ls "$room/rows" | wc -l) rows and keys, and $runs runs, as contracts and reference say"
+echo "fuzz: the C tests, $(find "$room/rows" -type f | wc -l) rows and keys, and $runs runs, as contracts and reference say"

@@ -70,12 +70,12 @@ built() {
     export PKG_CONFIG_PATH=$PREFIX/lib/pkgconfig
     if have cmake "its block isn't tested"; then
         printf '%s\n' 'cmake_minimum_required(VERSION 3.7)' 'project(program C)' "$(block cmake)" > CMakeLists.txt
-        cmake -S . -B by_cmake > log 2>&1 && cmake --build by_cmake > log 2>&1 || stop "CMake fails: $(cat log)"
+        { cmake -S . -B by_cmake > log 2>&1 && cmake --build by_cmake > log 2>&1; } || stop "CMake fails: $(cat log)"
         prints_modulus by_cmake/program
     fi
     if have meson "its block isn't tested"; then
         block meson > meson.build
-        meson setup by_meson > log 2>&1 && meson compile -C by_meson > log 2>&1 || stop "Meson fails: $(cat log)"
+        { meson setup by_meson > log 2>&1 && meson compile -C by_meson > log 2>&1; } || stop "Meson fails: $(cat log)"
         prints_modulus by_meson/program
     fi
 }
@@ -105,7 +105,7 @@ converts() {
     for input in "${@:3}"; do
         rm -f made
         read -ra words <<< "$(sed -E "s/ -in [^ ]+/ -in $input/; s/ -out [^ ]+/ -out made/" <<< "$1")"
-        "${words[@]}" > log 2>&1 && [ -s made ] || stop "$1: fails for $input: $(cat log)"
+        { "${words[@]}" > log 2>&1 && [ -s made ]; } || stop "$1: fails for $input: $(cat log)"
         public=$([[ $input != *public* ]] || echo -pubin)
         # shellcheck disable=SC2086
         modulus=$(openssl rsa $public -in "$input" -noout -modulus | sed 's/Modulus=//' | tr A-F a-f)
@@ -129,7 +129,7 @@ conversions() {
             'openssl rsa '*' -traditional '*) converts "$command" priv key.pem traditional.pem pss.pem ;;
             'openssl pkcs8 '*) converts "$command" p8 key.pem traditional.pem ;;
             'openssl x509 '*' -pubkey '*)
-                ${command/-out */-out made} 2> log && cmp made public.pem || stop "$command: gives another key"
+                { ${command/-out */-out made} 2> log && cmp made public.pem; } || stop "$command: gives another key"
                 ;;
             *) stop "$command: what is it for?" ;;
         esac
@@ -138,15 +138,16 @@ conversions() {
 }
 # refusals: what the blocks do with files of another kind.
 refusals() {
-    local block
+    local block cutting
+    mapfile -t cutting < <(grep -l asn1parse "$room"/blocks/*)
     cp otherwise.pem cert.pem
     cp pub.der params.der
-    for block in $(grep -l asn1parse "$room"/blocks/*); do
-        ! run "$block" && grep -q 'no PSS signature' log || stop "$(cat "$block") cuts of another signature: $(cat log)"
+    for block in "${cutting[@]}"; do
+        { ! run "$block" && grep -q 'no PSS signature' log; } || stop "$(cat "$block") cuts of another signature: $(cat log)"
     done
-    run "$(grep -l again.der "$room"/blocks/*)" && grep -q refused log && [ ! -s again.der ] ||
+    { run "$(grep -l again.der "$room"/blocks/*)" && grep -q refused log && [ ! -s again.der ]; } ||
         stop "a refusal is written to a file: $(cat log)"
-    ! pkcs1_tool < lines > log 2>&1 && grep -qx 'fault: read' log || stop "a block of long input isn't needed"
+    { ! pkcs1_tool < lines > log 2>&1 && grep -qx 'fault: read' log; } || stop "a block of long input isn't needed"
 }
 
 # shellcheck disable=SC2086

@@ -7,7 +7,7 @@
 set -eu
 cd "${1:-$(dirname "$0")/../..}"
 exec python3 - "${@:2}" <<'END'
-import fnmatch, glob, os, re, sys
+import fnmatch, functools, glob, os, re, sys
 
 ALLOWED = set('rt selftest umask start_lib bazel holes lemma meson room_at MaybeUninit type_inv lt128 len2 len_at_least in_ok in_err from_residual auto fn'.split())
 PLACEHOLDER = r'[A-Z0-9]+|[0-9a-f]*\d[0-9a-f]*|\w'
@@ -21,27 +21,40 @@ for path in filter(os.path.isfile, paths):
     kind = os.path.splitext(path)[1]
     if kind in ('.md', '.edit', '.edits', '.der') or '/proofs/' in path or path.startswith('tools/docs/'):
         continue
-    lines = [re.sub(COMMENT.get(kind, r'^\s*#.*'), '', line) for line in open(path, errors='replace')]
-    code[path] = set(re.findall(r'\w+', ''.join(lines)))
+    text = re.sub('(?m)' + COMMENT.get(kind, r'^[ \t]*#.*'), '', open(path, errors='replace').read())
+    code[path] = set(re.findall(r'\w+', text))
 words = ALLOWED.union(*code.values())
+
+all_paths = ''.join(f'/{path}\n' for path in paths)
 
 def names(text):
     return re.findall(r'`([^`]+)`', text)
+
+@functools.cache
+def is_path(name):
+    """Whether a path ends like this; a word in capitals, and `..`, stand for any text."""
+    pattern = re.escape(re.sub(r'\b[A-Z][A-Z_]+\b|\.\.', '*', name.strip('/'))).replace(r'\*', '.*')
+    return re.search(rf'(?m)/{pattern}$', all_paths)
+
+@functools.cache
+def is_word(word):
+    return word in words or re.fullmatch(PLACEHOLDER, word) or '*' in word and fnmatch.filter(words, word)
+
+@functools.cache
+def is_member(pair):
+    return not words.issuperset(pair) or any(there.issuperset(pair) for there in code.values())
 
 def check_name(name):
     for piece in name.split():
         if re.search(r'\w/|/\w|\.(rt|antt|sh|py|md|rs|c|h)$', piece):
             start, parts, end = re.fullmatch(r'([^{]*)\{?([^}]*)\}?(.*)', piece).groups()
             for it in [start + part + end for part in parts.split(',')]:
-                pattern = '*/' + re.sub(r'\b[A-Z][A-Z_]+\b|\.\.', '*', it.strip('/'))
-                if not re.search(r'\bout\b|^lib/|PREFIX', it) and not fnmatch.filter(['/' + path for path in paths], pattern):
-                    say('file', it)
+                re.search(r'\bout\b|^lib/|PREFIX', it) or is_path(it) or say('file', it)
             continue
         for word in re.findall(r'[A-Za-z_*][\w*]*', piece):
-            word in words or re.fullmatch(PLACEHOLDER, word) or fnmatch.filter(words, word) or say('word', word)
+            is_word(word) or say('word', word)
         for pair in re.findall(r'(\w+)::(\w+)', piece):
-            if words.issuperset(pair) and not any(there.issuperset(pair) for there in code.values()):
-                say('member', '::'.join(pair))
+            is_member(pair) or say('member', '::'.join(pair))
 
 def check_files(head, cells):
     declared = ''

@@ -33,7 +33,8 @@ find crates -name out -prune -o -path '*/src/*' -name '*.rt' -print | sort | per
   }
   exit $wrong;
 '
-for crate in $(ls crates); do
+for crate in crates/*/; do
+    crate=$(basename "$crate")
     if grep -rnE "Rattle\.$crate\.proofs\b" crates/*/src --include='*.rt'; then
         echo "src/ (contracts and ghost members) cites no proofs/ of any crate: what it names stands in specs/" >&2
         exit 1

@@ -1,10 +1,11 @@
 #!/usr/bin/env python3
 """Tests check_definitions.py by a small tree, and by doubles in it, each of which it must name in one line."""
-import pathlib
-import subprocess
-import tempfile
+import sys
 
-CHECK = pathlib.Path(__file__).resolve().parent / "check_definitions.py"
+sys.dont_write_bytecode = True
+from on_tree import on_tree
+
+CHECK = "check_definitions.py"
 SPECS, PROOFS = "crates/low/specs/Boxes.antt", "crates/high/proofs/boxes/open/Answers.antt"
 TREE = {
     SPECS: """-- Boxes.
@@ -54,23 +55,12 @@ DOUBLES = [
 ]
 
 
-def said(tree):
-    """The status of the check of this tree, and what it prints."""
-    with tempfile.TemporaryDirectory(prefix="test-definitions-") as room:
-        for path, text in tree.items():
-            place = pathlib.Path(room, path)
-            place.parent.mkdir(parents=True, exist_ok=True)
-            place.write_text(text, encoding="utf-8")
-        done = subprocess.run([CHECK, room], capture_output=True, text=True, check=False)
-    return done.returncode, done.stdout + done.stderr
-
-
 def main():
     passes = 0, "6 names of definitions and lemmas, of which 0 are doubled\n"
-    assert said(TREE) == passes, said(TREE)
+    assert on_tree(CHECK, TREE) == passes, on_tree(CHECK, TREE)
     for what, file, old, new, wanted in DOUBLES:
         assert TREE[file].count(old) == 1, what
-        status, text = said({**TREE, file: TREE[file].replace(old, new)})
+        status, text = on_tree(CHECK, {**TREE, file: TREE[file].replace(old, new)})
         assert status == 1 and text.split("\n")[:-2] == [wanted], f"{what}:\n{text}"
     print(f"check_definitions.py names {len(DOUBLES)} doubles")
 

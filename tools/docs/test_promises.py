@@ -1,10 +1,11 @@
 #!/usr/bin/env python3
 """Tests check_promises.py by a small tree, and by mistakes in it, each of which it must name in one line."""
-import pathlib
-import subprocess
-import tempfile
+import sys
 
-CHECK = pathlib.Path(__file__).resolve().parent / "check_promises.py"
+sys.dont_write_bytecode = True
+from on_tree import on_tree
+
+CHECK = "check_promises.py"
 TREE = {
     "crates.txt": "# NAME: DEP ..\nlow:\nbeside:\npkcs1_c staticlib: low\npkcs1_tool: low\n",
     "crates/beside/src/lib.rt": "pub fn of_no_product() -> u8\n    ensures { ⊤ }\n",
@@ -108,25 +109,14 @@ MISTAKES = [
 ]
 
 
-def said(tree):
-    """The status of the check of this tree, and what it prints."""
-    with tempfile.TemporaryDirectory(prefix="test-promises-") as room:
-        for path, text in tree.items():
-            place = pathlib.Path(room, path)
-            place.parent.mkdir(parents=True, exist_ok=True)
-            place.write_text(text, encoding="utf-8")
-        done = subprocess.run([CHECK, room], capture_output=True, text=True, check=False)
-    return done.returncode, done.stdout + done.stderr
-
-
 def main():
     passes = 0, f"{PAGE} has a row for 5 calls, and their clauses\n"
-    assert said(TREE) == passes, said(TREE)
-    more = said({**TREE, LAWS: TREE[LAWS] + "\npub fn lemma_two()\n    ensures { ⊤ }\n"})
+    assert on_tree(CHECK, TREE) == passes, on_tree(CHECK, TREE)
+    more = on_tree(CHECK, {**TREE, LAWS: TREE[LAWS] + "\npub fn lemma_two()\n    ensures { ⊤ }\n"})
     assert more == passes, f"a call that isn't exported:\n{more[1]}"
     for what, file, old, new, wanted in MISTAKES:
         assert TREE[file].count(old) == 1, what
-        found = said({**TREE, file: TREE[file].replace(old, new)})
+        found = on_tree(CHECK, {**TREE, file: TREE[file].replace(old, new)})
         assert found == (1, wanted + "\n"), f"{what}:\n{found[1]}"
     print(f"check_promises.py names {len(MISTAKES)} mistakes")
 

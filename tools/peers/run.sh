@@ -144,6 +144,7 @@ speed() {
             [ -n "${ONLY:-}" ] || GOMAXPROCS=1 ./peers_go speed cases "$input" >> "times.go$it"
         done
         callgrind "speed.callgrind.$input" speed instructions cases "$input" "${named[@]}"
+        # shellcheck disable=SC2094 # allocations.so is another file than allocations
         LD_PRELOAD=$PWD/allocations.so ./peers speed allocations cases "$input" "${named[@]}" >> allocations
     done
 }
@@ -161,11 +162,11 @@ rows() {
         ./peers check corpus "$(file own "$it")" "$it"
         cmp own.libpkcs1 "$(file own "$it")" || stop "$it isn't as strict as libpkcs1, or writes something else"
     done
-    inputs=$(cd cases && ls -- *.* | grep -v '\.lines$')
+    mapfile -t inputs < <(find cases -name '*.*' ! -name '*.lines' -printf '%f\n' | sort)
     rm -f rows.*
-    callgrind rows.callgrind rows instructions cases $inputs
+    callgrind rows.callgrind rows instructions cases "${inputs[@]}"
     for it in 1 2; do
-        ./peers rows time cases $inputs > "rows.times.$it"
+        ./peers rows time cases "${inputs[@]}" > "rows.times.$it"
     done
 }
 
