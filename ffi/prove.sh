@@ -19,8 +19,9 @@ must=${CI-}
 }
 if [ $# = 0 ] && [ -n "${SAMPLE-}" ]; then
     drawn=$(grep -oE '\bpkcs1_[a-z0-9_]+\(' ffi/include/pkcs1.h | tr -d '(' | sort -u | tools/verdicts.py drawn 3)
-    echo "ffi/prove.sh: drawn:" $drawn
-    set -- -wp-fct "$(echo $drawn | tr ' ' ,)"
+    drawn=$(paste -s -d , <<< "$drawn")
+    echo "ffi/prove.sh: drawn: $drawn"
+    set -- -wp-fct "$drawn"
 fi
 room=$(mktemp -d)
 trap 'rm -rf "$room"' EXIT
