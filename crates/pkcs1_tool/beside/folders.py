@@ -33,7 +33,8 @@ MOUNTED = {
     "an unmounted folder": 'mkdir m; mount -t tmpfs none m; cd m; cp ../key ../old .; umount -l ../m',
     "a folder that is mounted over": 'mkdir -p m/f; cd m/f; cp ../../key ../../old .; mount -t tmpfs none "$2/m"',
     "a folder that is mounted over by one with such files": """mkdir -p m/f; cd m/f; cp ../../key ../../old .
-        mount -t tmpfs none "$2/m"; mkdir "$2/m/f"; cp "$2/old" "$2/m/f/old"; cp "$2/old" "$2/m/f/key" """,
+        mount -t tmpfs none "$2/m"; mkdir "$2/m/f"; cp "$2/old" "$2/m/f/old"; cp "$2/old" "$2/m/f/key"
+        ln -s old "$2/m/f/link" """,
 }
 COPIES = """
     (trap '' XFSZ; ulimit -f 0; "$1" copy priv key key); echo $?; cmp "$2/key" key && echo whole
