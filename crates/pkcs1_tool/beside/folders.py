@@ -32,8 +32,11 @@ WRITTEN = {"link": "old", "empty_link": "empty", "link_to_nothing": "nothing"}
 MOUNTED = {
     "an unmounted folder": 'mkdir m; mount -t tmpfs none m; cd m; cp ../key ../old .; umount -l ../m',
     "a folder that is mounted over": 'mkdir -p m/f; cd m/f; cp ../../key ../../old .; mount -t tmpfs none "$2/m"',
-    "a folder that is mounted over by one with such files": """mkdir -p m/f; cd m/f; cp ../../key ../../old .
-        mount -t tmpfs none "$2/m"; mkdir "$2/m/f"; cp "$2/old" "$2/m/f/old"; cp "$2/old" "$2/m/f/key" """,
+    # Both file systems may give such files the same numbers.
+    "a folder that is mounted over by one with such files": """
+        mkdir m; mount -t tmpfs none m; mkdir m/f; cd m/f; cp ../../key key; cp ../../old old
+        mount -t tmpfs none "$2/m"; mkdir "$2/m/f"; cp "$2/old" "$2/m/f/key"; cp "$2/old" "$2/m/f/old"
+        ln -s old "$2/m/f/link" """,
 }
 COPIES = """
     (trap '' XFSZ; ulimit -f 0; "$1" copy priv key key); echo $?; cmp "$2/key" key && echo whole

@@ -100,11 +100,10 @@ pub mod rt {
             let real = system::real_path(path.0)?;
             let real = Path(real.octets()?);
             // Something may be mounted over the folder where the file is.
-            if system::is_same(path.0, real.0)? {
-                Ok(real.to_path_buf(alloc)?)
-            } else {
-                Err(io::ErrorKind::Other.into())
+            if !system::is_same(path.0, real.0)? {
+                return Err(io::ErrorKind::Other.into());
             }
+            Ok(real.to_path_buf(alloc)?)
         }
     }
 }

@@ -74,10 +74,10 @@ pub mod rt {
                 opened => (opened?, false),
             };
             let found = file.metadata()?;
-            match found.is_file() && !(is_new && found.len() == 0) {
-                true => Err(io::ErrorKind::AlreadyExists.into()),
-                false => Ok(file),
+            if found.is_file() && !(is_new && found.len() == 0) {
+                return Err(io::ErrorKind::AlreadyExists.into());
             }
+            Ok(file)
         }
 
         fn canonicalize(&self, _alloc: Global, path: &str) -> io::Result<PathBuf> {
@@ -86,10 +86,10 @@ pub mod rt {
             }
             let real = std::fs::canonicalize(path)?;
             // Something may be mounted over the folder where the file is.
-            match is_same(path.as_ref(), &real)? {
-                true => Ok(PathBuf(real)),
-                false => Err(io::ErrorKind::NotFound.into()),
+            if !is_same(path.as_ref(), &real)? {
+                return Err(io::ErrorKind::NotFound.into());
             }
+            Ok(PathBuf(real))
         }
     }
 
