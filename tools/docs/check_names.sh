@@ -80,7 +80,7 @@ for document in documents:
         # A picture is a block of `text`: its files are there.
         for path in re.findall(r'[\w.]+(?:/[\w.]*\w)+', line) if fenced == 'text' else []:
             path in paths or say('file', path)
-        if fenced or line.startswith(('    ', '- RustCrypto only:')):
+        if fenced or line.startswith('    '):
             continue
         crate = (names(line) or [''])[0] if line[0] == '#' else crate
         cells = [cell.strip() for cell in line.strip().split('|')[1:-1]]
