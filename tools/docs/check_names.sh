@@ -9,7 +9,7 @@ cd "${1:-$(dirname "$0")/../..}"
 exec python3 - "${@:2}" <<'END'
 import fnmatch, glob, os, re, sys
 
-ALLOWED = set('rt selftest umask start_lib bazel holes lemma meson room_at MaybeUninit type_inv lt128 len2 len_at_least in_ok in_err from_residual auto fn'.split())
+ALLOWED = set('rt selftest umask start_lib bazel holes lemma meson room_at MaybeUninit from_residual fn'.split())
 PLACEHOLDER = r'[A-Z0-9]+|[0-9a-f]*\d[0-9a-f]*|\w'
 COMMENT = {'.rt': r'//.*', '.rs': r'//.*', '.go': r'//.*', '.c': r'/[/*].*', '.h': r'/\*.*', '.antt': r'--.*'}
 
