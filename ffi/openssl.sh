@@ -13,19 +13,30 @@ again() {
     cmp "$2" "$room/again"
     count=$((count + 1))
 }
-# rejects NAME IN [OUT]: the example says that it can't read the file.
+# rejects NAME IN [OUT [TEXT]]: the example says that it can't read the file, by a line that has TEXT.
 rejects() {
-    if "$examples/$1" "${@:2}" > "$room/text" 2>&1 || ! grep -q "$2: " "$room/text"; then
-        echo "ffi/openssl.sh: $examples/$1 reads $2" >&2
+    if "$examples/$1" "${@:2:2}" > "$room/text" 2>&1 || ! grep -q "$2: .*${4-}" "$room/text"; then
+        echo "ffi/openssl.sh: $examples/$1 reads $2, or doesn't say what is wrong: $(cat "$room/text")" >&2
         exit 1
     fi
 }
-# does NAME IN WANT [TEXT]: the example makes the file WANT of the file IN, and prints TEXT; it can't read WANT.
+# does NAME IN WANT [TEXT]: the example makes the file WANT of the file IN, and prints TEXT.
 does() {
     "$examples/$1" "$2" "$room/made" | cmp - <(printf '%s' "${4+$4
 }")
     cmp "$room/made" "$3"
-    rejects "$1" "$3" "$room/made"
+}
+# opens MODULUS PRIMES: open_container reads the key alone and in the container, and tells why it reads others not. Of
+# what may be a container it is the error of reading that.
+opens() {
+    local from text="modulus of $1 octets, $2 primes, without attributes"
+    for from in p8 key; do
+        does open_container "$room/$from.der" "$room/key.der" "$text"
+        (cat "$room/$from.der" && echo) > "$room/long.der"
+        rejects open_container "$room/long.der" "$room/made" 'bytes follow the value'
+    done
+    rejects open_container "$room/pub.der" "$room/made" 'a public key'
+    rejects open_container "$room/key.pem" "$room/made" 'PEM'
 }
 
 # of_params NAME: writes the parameters after id-RSASSA-PSS in the file NAME to params.der.
@@ -44,9 +55,10 @@ for key in 2:2047 3:2048 4:4096; do
     openssl pkcs8 -topk8 -nocrypt -in "$room/key.pem" -outform DER -out "$room/p8.der"
     again p8 "$room/p8.der"
     does public_half "$room/key.der" "$room/pub.der"
-    does open_container "$room/p8.der" "$room/key.der" \
-        "modulus of $(((${key#*:} + 7) / 8)) octets, ${key%:*} primes, without attributes"
+    rejects public_half "$room/pub.der" "$room/made"
+    opens $(((${key#*:} + 7) / 8)) "${key%:*}"
     does make_container "$room/key.der" "$room/p8.der"
+    rejects make_container "$room/p8.der" "$room/made"
     openssl rsa -in "$room/key.pem" -noout -modulus | sed 's/Modulus=//' | tr A-F a-f > "$room/modulus"
     "$examples/read_key" pub "$room/pub.der" | sed -n 's/^n=//p' | cmp - "$room/modulus"
     bits=$(openssl rsa -in "$room/key.pem" -noout -text | sed -n 's/.*(\([0-9]*\) bit.*/\1/p')

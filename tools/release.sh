@@ -9,7 +9,7 @@ set -eu
 failure=2
 contents=(
     Makefile CMakeLists.txt README.md CHANGELOG.md SECURITY.md LICENSE-APACHE LICENSE-MIT
-    docs/{USING,PROMISES,DIFFERENCES,DECISIONS,RELEASE}.md
+    docs/{USING,PROMISES,DECISIONS,RELEASE}.md
     ffi/{machine,link,install,amalgamation,check,check_abi,check_object,check_passed,check_freestanding,check_sizes}.sh
     ffi/{abi,copyright,libpkcs1.pc.in}
     ffi/{include,generated,tests} rust :!rust/{check,check.sh,preconditions.py} tools/erase/{README.md,{compare,erase,forms,tokens}.py}

@@ -38,8 +38,21 @@ fn the_programs_do_what_they_say() {
         same(&three, "pub3.der");
     }
     run("make_params", &[&two], None).unwrap();
-    assert_eq!(run("signature_algorithm", &[&two], None).unwrap(), "SHA-256, a salt of 32 octets\n");
-    let error = run("signature_algorithm", &[&key("ed25519.der")], None).unwrap_err();
-    assert!(error.contains("ed25519.der: PKCS#1 ASN.1 error: "), "{error}");
+    let (certificate, made) = (std::fs::read(key("certificate.der")).unwrap(), std::fs::read(&two).unwrap());
+    assert!(certificate.windows(made.len()).any(|octets| octets == made));
     std::fs::remove_dir_all(&room).unwrap();
+}
+
+#[test]
+fn the_algorithm_in_a_certificate() {
+    let certificate = key("certificate.der");
+    assert_eq!(run("signature_algorithm", &[&certificate], None).unwrap(), "SHA-256, a salt of 32 octets\n");
+    let cut_off = std::env::temp_dir().join(format!("cut_off-{}", std::process::id()));
+    std::fs::write(&cut_off, &std::fs::read(&certificate).unwrap()[..868]).unwrap();
+    let (other, none) = ("PKCS#1 ASN.1 error: ", "no certificate in DER");
+    for (file, why) in [(&key("ed25519.der"), other), (&key("pub.pem"), none), (&cut_off, none)] {
+        let error = run("signature_algorithm", &[file], None).unwrap_err();
+        assert!(error.contains(&format!("{}: {why}", file.display())), "{error}");
+    }
+    std::fs::remove_file(&cut_off).unwrap();
 }

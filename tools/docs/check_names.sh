@@ -9,7 +9,7 @@ cd "${1:-$(dirname "$0")/../..}"
 exec python3 - "${@:2}" <<'END'
 import fnmatch, functools, glob, os, re, sys
 
-ALLOWED = set('rt selftest umask start_lib bazel holes lemma meson room_at MaybeUninit type_inv lt128 len2 len_at_least in_ok in_err from_residual auto fn'.split())
+ALLOWED = set('rt selftest umask start_lib bazel holes lemma meson room_at MaybeUninit from_residual fn'.split())
 PLACEHOLDER = r'[A-Z0-9]+|[0-9a-f]*\d[0-9a-f]*|\w'
 COMMENT = {'.rt': r'//.*', '.rs': r'//.*', '.go': r'//.*', '.c': r'/[/*].*', '.h': r'/\*.*', '.antt': r'--.*'}
 
@@ -93,7 +93,7 @@ for document in documents:
         # A picture is a block of `text`: its files are there.
         for path in re.findall(r'[\w.]+(?:/[\w.]*\w)+', line) if fenced == 'text' else []:
             path in paths or say('file', path)
-        if fenced or line.startswith(('    ', '- RustCrypto only:')):
+        if fenced or line.startswith('    '):
             continue
         crate = (names(line) or [''])[0] if line[0] == '#' else crate
         cells = [cell.strip() for cell in line.strip().split('|')[1:-1]]

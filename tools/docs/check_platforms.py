@@ -11,6 +11,8 @@ import sys
 
 SCRIPTS = ["tools/clean_room.sh", "tools/other_platforms.sh", "rust/check.sh"]
 BEGIN, END = "<!-- made by tools/docs/check_platforms.py -->", "<!-- end of what is made -->"
+# What README calls these systems, where they are run under this program.
+WORDS = {("Linux", "under qemu"): "on other processors", ("no system", "under qemu"): "without a system"}
 HEAD = "| system | machine | what, by what | |\n|---|---|---|---|\n"
 
 
@@ -35,7 +37,8 @@ def sentences(rows):
             systems.setdefault(done[len("tested"):].strip(), {})[system] = None
     tested = {system for those in systems.values() for system in those}
     others = sorted({row[0] for row in rows} - tested, key=str.lower)
-    places = [f"{under} on {listed([*those])}".strip() for under, those in systems.items()]
+    places = [f"{' and '.join(WORDS.get((it, under), f'on {it}') for it in those)} {under or 'natively'}"
+              for under, those in systems.items()]
     return (f"The library is [tested](docs/USING.md#platforms) {', '.join(places)}. "
             f"For {listed(others)} it is only compiled.")
 
