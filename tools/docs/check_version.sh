@@ -17,6 +17,7 @@ places=(
     rust/c/Cargo.toml '^version = "' '"'
     rust/tool/Cargo.toml '^version = "' '"'
     rust/Cargo.lock 'name = "pkcs1-proved"\nversion = "' '"'
+    rust/tool/Cargo.lock 'name = "pkcs1-proved-tool"\nversion = "' '"'
 )
 if [ "${1-}" = --write ]; then
     [[ ${2-} =~ ^([0-9]+)\.([0-9]+)\.([0-9]+)$ ]] || { echo "check_version.sh: a version is three numbers" >&2 && exit 2; }
