@@ -101,12 +101,13 @@ def owner_of(head, aliases):
         arguments = arguments_of(parts[0], set() if name in aliases else parameters)
         return "+".join([name, *arguments])
     trait, of = parts
-    return (words(of, parameters) or "Any") + words(trait, parameters)
+    return (words(of, parameters) or "Any") + words(re.sub(r"^(\w+::)+", "", trait), parameters)
 
 
 def words(type_, parameters):
-    """A type in the prover's words: `&'a [u8]` is RefSliceU8. Parameters and lifetimes are left out."""
-    found = re.finditer(r"&\s*mut\b|&|\[|\(|(?<!')\b\w+\b(?!::)", type_)
+    """A type in the prover's words: `&'a [u8]` is RefSliceU8, and `low::Error` LowError. Parameters and lifetimes are
+    left out."""
+    found = re.finditer(r"&\s*mut\b|&|\[|\(|(?<!')\b\w+\b", type_)
     named = {"&": "Ref", "[": "Array" if ";" in type_ else "Slice", "_": "", "dyn": ""} | dict.fromkeys(parameters, "")
     return "".join(
         "RefMut" if it[0].endswith("mut") else tuple_word(type_[it.end() :]) if it[0] == "("
