@@ -5,6 +5,7 @@ import os
 import shutil
 import stat
 import subprocess
+import sys
 import tempfile
 from concurrent.futures import ThreadPoolExecutor
 
@@ -27,9 +28,13 @@ def tools_of(words):
     """Those that are named by words of the command line, NAME=PATH. From here on nothing is done as root: a tool with a
     mistake may replace a device."""
     if os.geteuid() == 0:
-        os.setgroups([])
-        os.setgid(65534)
-        os.setuid(65534)
+        try:
+            os.setgroups([])
+            os.setgid(65534)
+            os.setuid(65534)
+        except OSError as why:
+            print(f"{sys.argv[0]}: isn't tried: no other user runs the tools here: {why}")
+            sys.exit(0)
     os.umask(0o022)
     return [Tool(*it.split("=", 1)) for it in words]
 

@@ -28,8 +28,8 @@ pub mod path {
             Ok(PathBuf(Vec::from_slice(alloc, self.0)?))
         }
 
-        /// The path of the folder, with a slash if it has a name. Where the path names a folder itself, as `..` does,
-        /// it is the path.
+        /// The path of the folder, with a slash behind it, or nothing. A slash or `/.` at the end doesn't count, as for
+        /// Rust's std. A `..` there counts as a name, at which no file can be.
         pub(super) fn folder(&self) -> &'p [u8] {
             let mut path = self.0;
             while let [rest @ .., b'/', b'.'] | [rest @ .., b'/'] = path {
@@ -39,18 +39,12 @@ pub mod path {
                 path = rest;
             }
             let start = path.iter().rposition(|octet| *octet == b'/').map_or(0, |slash| slash + 1);
-            match path.split_at(start) {
-                (_, b"." | b"..") => self.0,
-                (folder, _) => folder,
-            }
+            path.split_at(start).0
         }
 
         /// The path of this name in the same folder.
         pub fn with_file_name(&self, alloc: Global, name: &str) -> Result<PathBuf, AllocError> {
             let mut path = Vec::from_slice(alloc, self.folder())?;
-            if !path.is_empty() && !path.ends_with(b"/") {
-                path.extend_from_slice(b"/")?;
-            }
             path.extend_from_slice(name.as_bytes())?;
             Ok(PathBuf(path))
         }
