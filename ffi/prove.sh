@@ -66,7 +66,7 @@ prove() {
     fi
     frama "$log" "$@" -wp-prover cvc4 -wp-timeout 120 -wp-steps 1000000 \
         -then -wp-prover z3 -wp-timeout 120 -wp-steps 10000000 \
-        -then -wp-prover cvc4,z3 -wp-timeout 300 -wp-steps 10000000
+        -then -wp-prover cvc4,z3 -wp-timeout 1200 -wp-steps 10000000
 }
 # goals PATTERN LOG..: the names of the goals in lines that end like this.
 goals() {
