@@ -34,6 +34,6 @@ debian_rust() {
         {rustc-web,libstd-rust-web-{1.85,dev,dev:arm64,dev:i386,dev:s390x}}="$debian_version" ||
         stop "Debian's rustc $debian_version isn't there"
     export LD_LIBRARY_PATH=$root/usr/lib/x86_64-linux-gnu RUSTC=$root/usr/bin/rustc RUSTDOC=$root/usr/bin/rustdoc
-    named=$("$RUSTC" --version) && [ "$named" = "$debian_named" ] ||
+    { named=$("$RUSTC" --version) && [ "$named" = "$debian_named" ]; } ||
         stop "$RUSTC is ${named:-broken}, and not $debian_named"
 }

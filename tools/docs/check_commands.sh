@@ -132,7 +132,7 @@ conversions() {
                 { ${command/-out */-out made} 2> log && cmp made public.pem; } || stop "$command: gives another key"
                 ;;
             'openssl x509 '*' -outform DER '*)
-                ${command/-out */-out made} 2> log && openssl x509 -inform DER -in made | cmp - cert.pem ||
+                { ${command/-out */-out made} 2> log && openssl x509 -inform DER -in made | cmp - cert.pem; } ||
                     stop "$command: gives another certificate"
                 ;;
             *) stop "$command: what is it for?" ;;

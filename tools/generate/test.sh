@@ -203,7 +203,7 @@ panics_are_traps() {
         own=$(function_of own "$call\t$panic" ret)
         for kind in library tool; do
             "$here/plain.py" $processor $kind <<< "$stops"$'\n'"$own" > "$room/it.s"
-            ! grep -q 'panic\|unwind\|stop' "$room/it.s" && grep -qx $'\t'"$(printf %b "$trap")" "$room/it.s" ||
+            { ! grep -q 'panic\|unwind\|stop' "$room/it.s" && grep -qx $'\t'"$(printf %b "$trap")" "$room/it.s"; } ||
                 stop "a panic isn't a trap: $(cat "$room/it.s")"
             isnt_plain "$(function_of $panic "$call\town" ret)" 'comes back' $processor $kind
             isnt_plain "$(function_of own "$call\tpkcs1_stop")" "stops that isn't of core" $processor $kind
@@ -222,7 +222,7 @@ panics_are_traps() {
     printf 'define void @pkcs1_c_it() {\n  call void @%s()\n  unreachable\n}\ndefine void @%s() {\n  unreachable\n}\n' \
         $panic $panic > "$room/it.ll"
     python3 "$here/ir2c" "$room/it.ll" "$here/border.c" "$room/it.c"
-    grep -qx '    TRAP();' "$room/it.c" && ! grep -q panicking "$room/it.c" || stop "a panic isn't a trap in C"
+    { grep -qx '    TRAP();' "$room/it.c" && ! grep -q panicking "$room/it.c"; } || stop "a panic isn't a trap in C"
 }
 
 # The hash is of the text that rustc takes, and of what makes the files; not of the crate's other text.

@@ -50,7 +50,7 @@ makes() {
     local status=0 before
     before=$(cd "$tree" && find ffi -type f -exec sha256sum {} + | sort)
     "$tree/tools/generate.sh" "${@:3}" > "$room/said" 2>&1 || status=$?
-    [ $status = "$1" ] && grep -q "$2" "$room/said" ||
+    { [ "$status" = "$1" ] && grep -q "$2" "$room/said"; } ||
         stop "generate.sh ${*:3} has the status $status, and says $(cat "$room/said"); wanted: $*"
     [ $status = 0 ] || [ "$before" = "$(cd "$tree" && find ffi -type f -exec sha256sum {} + | sort)" ] ||
         stop "generate.sh ${*:3} fails, and changes files"
