@@ -110,6 +110,7 @@ amalgamation:
 
 check test: all
 	ffi/check.sh $(OUT)
+	ffi/check_sizes.sh $(OUT)
 
 install: all
 	DESTDIR='$(DESTDIR)' LIBDIR='$(LIBDIR)' ffi/install.sh add '$(PREFIX)' $(version) $(OUT) $(tool)

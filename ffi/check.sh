@@ -105,5 +105,4 @@ clash
 ffi/check_passed.sh "$out" "$tests/passed"
 say "the C test, with the static and the shared library, and with a look at what is passed to the proved calls"
 ffi/check_freestanding.sh "$out" "$tests/freestanding"
-ffi/check_sizes.sh "$out"
 [ ! -x "$out/pkcs1_tool" ] || tool
