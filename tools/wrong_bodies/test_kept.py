@@ -166,7 +166,7 @@ def test_line(tree):
     others = "".join(f"\nedit: constant_{it}\nold: middle::echo(number)\nnew: middle::echo({it})\n" for it in range(6))
     tree.put("crates/top/wrong/lib.edits", EDITS + others)
     said = tree.run("tools/wrong_bodies/wrong_bodies.py", "--write").stderr
-    assert "#harmless: it was not refused" in said and not tree.has_line(), "a line is written of a harmless edit"
+    assert "top: its line isn't written" in said and not tree.has_line(), "a line is written of a harmless edit"
     tree.verdicts("earlier.verdicts.write(it.row, it.line())")
     assert tree.has_line()
     days = [f"day {it}" for it in range(12)]

@@ -60,12 +60,13 @@ def arguments():
 
 
 def write_lines(crates, edits):
-    """Writes the line of each crate whose edits were all refused on this machine, and names the edits that weren't."""
-    left = [name for it in edits for name in Verdicts(it, crates, edits[it], False).write()]
-    for name in left:
-        print(f"{name}: it was not refused on this machine: wrong_bodies.py tries it", file=sys.stderr)
-    print(f"wrong bodies: {len(left)} weren't refused here, so the lines of their crates aren't written")
-    return 1 if left else 0
+    """Writes the line of each crate whose edits were all refused on this machine, and says of which some weren't."""
+    left = {it: Verdicts(it, crates, edits[it], False).write() for it in edits}
+    for name, those in left.items():
+        if those:
+            print(f"{name}: its line isn't written, as {len(those)} edits were not refused on this machine, the first"
+                  f" {those[0]}: wrong_bodies.py tries them", file=sys.stderr)
+    return 1 if any(left.values()) else 0
 
 
 def main():
