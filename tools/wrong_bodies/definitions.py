@@ -4,8 +4,8 @@
     tools/wrong_bodies/definitions.py [ROWS..]    at the top of the repository, behind `rt ci` or `rt check`
 
 The edits of `crates/CRATE/specs/FILE.antt` stand in `crates/ROWS/wrong_definitions/CRATE/FILE.edits`, and the rows in
-`crates/ROWS/proofs/FILERows.antt`. README.md beside this file says what counts as refused. The last line is 'N refused,
-M failed'; the status is 0 exactly where M is 0.
+`crates/ROWS/proofs/FILE*Rows.antt`. README.md beside this file says what counts as refused. The last line is
+'N refused, M failed'; the status is 0 exactly where M is 0.
 """
 import os
 import pathlib
@@ -35,7 +35,7 @@ all_read = {sum}
 pub {name}_spec : {{M : Type 1}} → statement M
 {name}_spec = ?
 """
-TOLD = re.compile(r"(?:\./)?(specs|proofs)/(\w+?)(?:Own)?(?:Rows)?_(\d+)\.antt:\d+:\d+: error: (?:`([^`]+)`: )?(.*)")
+TOLD = re.compile(r"(?:\./)?(specs|proofs)/\w+_(\d+)\.antt:\d+:\d+: error: (?:`([^`]+)`: )?(.*)")
 IS_DONE = re.compile(r"(holes|only)=\d+")
 
 
@@ -54,7 +54,8 @@ def copies_of(rows_crate, path, begin):
     """The copies of the file that these edits are of, numbered from `begin` on."""
     crate, file = path.parent.name, path.stem
     text = read(f"crates/{crate}/specs/{file}.antt")
-    rows = {f"{file}Rows": read(f"crates/{rows_crate}/proofs/{file}Rows.antt")}
+    beside = sorted(pathlib.Path(f"crates/{rows_crate}/proofs").glob(f"{file}*Rows.antt"))
+    rows = {it.stem: read(it) for it in beside}
     own, cited = f"crates/{crate}/proofs/Rows.antt", re.compile(rf"\bRattle\.{crate}\.specs\.{file}\b")
     if os.path.isfile(own) and cited.search(read(own)):
         rows[f"{file}OwnRows"] = read(own)
@@ -116,9 +117,9 @@ def said_of(crate, crates, copies):
 
 def verdict(copy, said):
     """The row that refused a copy, or None and why there is none."""
-    told = [it for it in map(TOLD.match, said) if it and f"{it[2]}_{it[3]}" == copy.module]
+    told = [it for it in map(TOLD.match, said) if it and copy.module.endswith(f"_{it[2]}")]
     unread = [it for it in told if it[1] == "specs"]
-    rows = [it[4] for it in told if it[4] and not names_what_is_gone(it[5].partition(". ")[0])]
+    rows = [it[3] for it in told if it[3] and not names_what_is_gone(it[4].partition(". ")[0])]
     if unread or (told and not rows):
         return None, f"BAD EDIT: {(unread or told)[0].string[:150]}"
     return (rows[0], None) if rows else (None, "NOT REFUSED: all rows hold")

@@ -1,1 +1,2 @@
+pub mod StatementPromiseRows
 pub mod StatementRows

@@ -1,9 +1,9 @@
 -- Worked rows of `specs/Statement.antt` of `standard`: each fails for a common mistake in a definition or in a promise.
-use Rattle.std.proofs.Common.{ℕ, List, [], ◌∷◌, ◌++◌, ◌≡◌, ◌≢◌, ◌≤◌, ◌<◌, ◌∙◌, ◌⊎◌, length, refl, ap, sym, arith, Some, None, inl, inr, codes, ◌^◌, replicate, drop}
+use Rattle.std.proofs.Common.{ℕ, List, [], ◌∷◌, ◌++◌, ◌≡◌, ◌≢◌, ◌≤◌, ◌<◌, ◌∙◌, length, refl, ap, sym, arith, Some, None, inl, inr, codes, replicate, drop}
 use Rattle.std.specs.Prelude.{slice_index}
 use Rattle.std.specs.List.{AllByRecursion, concat}
 use Rattle.standard.proofs.Rows.{digit, hex}
-use Rattle.standard.specs.Statement.{Algorithm, AlgorithmEncoding, AreAll, AreOctets, AtMostOne, Container, ContainedKeyEncoding, ContainerEncoding, Decodes, Encodes, Field, Fields, FieldsUnder, IsAny, IsBare, IsIdentifier, IsOaep, IsPss, IsShortest, Lists, OaepAlgorithmEncoding, OaepParameters, PrivateKey, PrivateKeyEncoding, PssAlgorithmEncoding, PssParameters, PublicKey, PublicKeyEncoding, SameByShortest, TagAndContents, TwoToTheDefaults, TwoToTheDefaultsIn, id_rsaes_oaep, integer, length_octets, mgf1_sha1, pss_fields, rsa_encryption, sequence, sha1, tlv}
+use Rattle.standard.specs.Statement.{Algorithm, AreOctets, ContainedKeyEncoding, Container, ContainerEncoding, Fields, FieldsUnder, IsAny, IsBare, IsIdentifier, IsOaep, IsPss, OaepAlgorithmEncoding, OaepEncoding, OaepParameters, PrivateKey, PrivateKeyEncoding, PssAlgorithmEncoding, PssEncoding, PssParameters, PublicKey, PublicKeyEncoding, TagAndContents, empty_label, id_rsaes_oaep, integer, length_octets, mgf1_sha1, pss_fields, rsa_encryption, sequence, sha1, tlv}
 
 -- == Lengths, numbers ==
 length_octets_rows : (length_octets 127 ≡ hex (codes "7f")) × (length_octets 128 ≡ hex (codes "8180"))
@@ -181,100 +181,96 @@ unfolding usual_pss_parameters hex digit length_octets
 salt_alone =
     inl (refl, 2, refl, inl (refl, 1, refl, inr (inl (refl, 0, refl, [], refl, inl (refl, 0, refl, (refl, refl))))))
 
--- == Promises: each of these would hold if the promise claimed too little ==
-abbrev EmptyEncoding : ℕ → List ℕ → Type 0
-EmptyEncoding v bytes = bytes ≡ []
+-- == What is an encoding, and what may be encoded: each of these would fail if a definition asked for more ==
+public_key_encoded : PublicKeyEncoding small_public_key (hex (codes "3006020107020103"))
+unfolding small_public_key hex digit length_octets
+public_key_encoded = (omega arith, refl)
 
-abbrev Whatever : ℕ → List ℕ → Type 0
-Whatever v bytes = bytes ≡ bytes
+private_key_encoded : PrivateKeyEncoding small_private_key (hex
+    (codes "302802010102010702010302010502010b02010d020102020104020106300b3009020111020108020109"))
+unfolding small_private_key hex digit length_octets
+private_key_encoded = (omega arith, omega arith, refl)
 
-nothing_read : Decodes EmptyEncoding [] None → ⊥
-nothing_read p = p 0 refl
+one_octet : (b : ℕ) → b < 128 → IsSubidentifierPart (b ∷ [])
+one_octet b below = ([], b, refl, tt, below, λ e. omega (arith, below, e))
 
-two_values_read : Decodes EmptyEncoding [] (Some 1) → ⊥
-two_values_read p = omega (arith, p.1 0 refl)
+two_octets : (a b : ℕ) → 128 < a → a < 256 → b < 128 → IsSubidentifierPart (a ∷ b ∷ [])
+two_octets a b above octet below =
+    (a ∷ [], b, refl, ((omega (arith, above), octet), tt), below, λ e. omega (arith, above, e))
 
-no_encoding_read : Decodes EmptyEncoding (1 ∷ []) (Some 0) → ⊥
-no_encoding_read p = let same = p.0 in cc
+rsa_identifier : IsIdentifier (hex (codes "2a8648"))
+unfolding hex digit
+rsa_identifier = (
+    (42 ∷ []) ∷ (134 ∷ 72 ∷ []) ∷ [], omega arith,
+    (one_octet 42 (omega arith), (two_octets 134 72 (omega arith) (omega arith) (omega arith), tt)), refl, omega arith)
 
-less_than_none : (◌≡◌ {A = List ℕ} [] (1 ∷ [])) ⊎ (1 < 0) → ⊥
-less_than_none (inl e) = cc
-less_than_none (inr less) = omega (arith, less)
+octets_of_both_ends : AreOctets (0 ∷ 255 ∷ [])
+octets_of_both_ends = (omega arith, (omega arith, tt))
 
-longer_one : IsShortest Whatever 0 (1 ∷ []) → ⊥
-longer_one p = less_than_none (p.1 [] refl)
+any_of_tag_190 : IsAny (record { tag = 190; contents = 255 ∷ [] })
+any_of_tag_190 = (refl, (omega arith, tt))
 
-shortest_encodes : IsShortest EmptyEncoding 0 (1 ∷ []) → ⊥
-shortest_encodes p = let same = p.0 in cc
+abbrev under_2a8648 : Container
+under_2a8648 = record {
+  algorithm = record { oid = hex (codes "2a8648"); parameters = None };
+  private_key = 255 ∷ [];
+  attributes = Some (255 ∷ []);
+}
 
-nothing_written : Encodes EmptyEncoding 0 [] [] None → ⊥
-nothing_written p = omega (arith, p.1 [] refl)
+container_encoded : ContainerEncoding under_2a8648 (hex (codes "3010020100300506032a86480401ffa001ff"))
+unfolding hex digit length_octets
+container_encoded = (omega arith, (rsa_identifier, tt), (omega arith, tt), (omega arith, tt), refl)
 
-unwritten_slice_unchanged : Encodes (λ (v : ℕ) bytes. bytes ≡ 1 ∷ 2 ∷ []) 0 [] (3 ∷ []) None → ⊥
-unwritten_slice_unchanged p = let same = p.0 in cc
+attribute_of_256 : (bytes : List ℕ)
+    → ContainerEncoding (record { algorithm = rsa_encryption; private_key = []; attributes = Some (256 ∷ []) }) bytes
+    → ⊥
+attribute_of_256 bytes p = omega (arith, p.3.0)
 
-written_within_slice : Encodes (λ (v : ℕ) bytes. bytes ≡ []) 0 [] [] (Some 1) → ⊥
-written_within_slice p = omega (arith, p.0)
+key_octet_of_256 : (bytes : List ℕ)
+    → ContainerEncoding (record { algorithm = rsa_encryption; private_key = 256 ∷ []; attributes = None }) bytes → ⊥
+key_octet_of_256 bytes p = omega (arith, p.2.0)
 
-rest_kept : Encodes EmptyEncoding 0 (1 ∷ []) (2 ∷ []) (Some 0) → ⊥
-rest_kept p = let same = p.2 in cc
+-- 1.2.840.113549.1.1 and one more
+subidentifiers_of_pkcs1 : (last : ℕ) → last < 128 → AllByRecursion IsSubidentifierPart
+    ((42 ∷ []) ∷ (134 ∷ 72 ∷ []) ∷ (134 ∷ 247 ∷ 13 ∷ []) ∷ (1 ∷ []) ∷ (1 ∷ []) ∷ (last ∷ []) ∷ [])
+subidentifiers_of_pkcs1 last below = (
+    one_octet 42 (omega arith), (two_octets 134 72 (omega arith) (omega arith) (omega arith),
+    ((134 ∷ 247 ∷ [], 13, refl, ((omega arith, omega arith), ((omega arith, omega arith), tt)), omega arith,
+    λ e. omega (arith, e)), (one_octet 1 (omega arith), (one_octet 1 (omega arith), (one_octet last below, tt))))))
 
-at_most_one_encoding : AtMostOne Whatever → ⊥
-at_most_one_encoding p = let same = p 0 [] (1 ∷ []) refl refl in cc
+label_identifier : IsIdentifier empty_label.oid
+label_identifier = (
+    (42 ∷ []) ∷ (134 ∷ 72 ∷ []) ∷ (134 ∷ 247 ∷ 13 ∷ []) ∷ (1 ∷ []) ∷ (1 ∷ []) ∷ (9 ∷ []) ∷ [], omega arith,
+    subidentifiers_of_pkcs1 9 (omega arith), refl, omega arith)
 
-nothing_listed : Lists (λ (v : ℕ). v ≡ v) (λ (v : ℕ). []) 0 None → ⊥
-unfolding length_octets
-nothing_listed p = omega (arith, p refl)
+sha1_identifier : IsIdentifier sha1.oid
+sha1_identifier = (
+    (43 ∷ []) ∷ (14 ∷ []) ∷ (3 ∷ []) ∷ (2 ∷ []) ∷ (26 ∷ []) ∷ [], omega arith,
+    (one_octet 43 (omega arith), (one_octet 14 (omega arith), (one_octet 3 (omega arith),
+    (one_octet 2 (omega arith), (one_octet 26 (omega arith), tt))))), refl, omega arith)
 
-none_listed : Lists (λ (v : ℕ). v ≡ v) (λ (v : ℕ). []) 0 (Some []) → ⊥
-none_listed p = omega (arith, p.2.count, ap (λ k. 2 ^ k) p.1)
+mgf1_identifier : IsIdentifier mgf1_sha1.oid
+mgf1_identifier = (
+    (42 ∷ []) ∷ (134 ∷ 72 ∷ []) ∷ (134 ∷ 247 ∷ 13 ∷ []) ∷ (1 ∷ []) ∷ (1 ∷ []) ∷ (8 ∷ []) ∷ [], omega arith,
+    subidentifiers_of_pkcs1 8 (omega arith), refl, omega arith)
 
-empty_is_shortest : (v : ℕ) → IsShortest EmptyEncoding v []
-empty_is_shortest v = (refl, λ other is. inl is)
+salt_255 : IsPss (record { hash = sha1; mask_gen = mgf1_sha1; salt_len = 255; trailer_field = 1 })
+salt_255 =
+    ((sha1_identifier, (refl, tt)), (mgf1_identifier, (sha1_identifier, (refl, tt))), omega arith, refl)
 
-same_means : SameByShortest EmptyEncoding → ⊥
-same_means p =
-    omega (arith, (p 0 1 [] [] [] [] refl refl (empty_is_shortest 0) (empty_is_shortest 1)).1 refl)
+usual_pss_encoded : PssEncoding usual_pss_parameters (hex (codes "3000"))
+unfolding usual_pss_parameters hex digit length_octets
+usual_pss_encoded = (
+    ((sha1_identifier, (refl, tt)), (mgf1_identifier, (sha1_identifier, (refl, tt))), omega arith, refl), omega arith,
+    [], inl (refl, inl (refl, inl (refl, inl (refl, refl)))), refl)
 
--- A field that is written by no octets: both its spellings are equal, so there can't be two.
-abbrev silent : List Field
-silent = record { IsDefault = Unit {0}; written = [] } ∷ []
+usual_pss_algorithm_encoded : PssAlgorithmEncoding usual_pss_parameters (hex (codes "300d06092a864886f70d01010a3000"))
+unfolding hex digit length_octets
+usual_pss_algorithm_encoded = (omega arith, 48 ∷ 0 ∷ [], usual_pss_encoded, refl)
 
-silent_contents : (mask : ℕ) (contents : List ℕ) → FieldsUnder mask silent contents → contents ≡ []
-silent_contents mask contents (inl (default, half, is, (empty, zero))) = empty
-silent_contents mask contents (inr (inl (default, half, is, later, e, (empty, zero)))) = e ∙ empty
-silent_contents mask contents (inr (inr p)) = absurd (p.0 tt)
-
-abbrev AreTwo : List (List ℕ) → Type 0
-AreTwo all = AreAll (λ Encoding. Encoding) (λ (v : ℕ). v ≡ v) (λ (v : ℕ). silent) 0 1 all
-
-silent_twice : (all : List (List ℕ)) → AreTwo all → ⊥
-silent_twice all p =
-    let first = p.under 0 (omega arith) in
-    let second = p.under 1 (omega arith) in
-    let first_is = first.4 ∙ ap sequence (silent_contents 0 first.2 first.3) in
-    let second_is = second.4 ∙ ap sequence (silent_contents 1 second.2 second.3) in
-    omega (arith, p.different 0 1 (omega arith) (omega arith) (first_is ∙ sym second_is))
-
-two_of_silent : TwoToTheDefaults (λ (v : ℕ). v ≡ v) (λ (v : ℕ). silent) → ⊥
-unfolding length_octets
-two_of_silent p =
-    let both = p 0 1 refl (inl (tt, 0, refl, refl)) (omega arith) in silent_twice both.0 both.1
-
-abbrev AreTwoIn : List (List ℕ) → Type 0
-AreTwoIn all = AreAll (AlgorithmEncoding []) (λ (v : ℕ). v ≡ v) (λ (v : ℕ). silent) 0 1 all
-
-silent_twice_in : (all : List (List ℕ)) → AreTwoIn all → ⊥
-silent_twice_in all p =
-    let first = p.under 0 (omega arith) in
-    let second = p.under 1 (omega arith) in
-    let one = first.2.4 ∙ ap sequence (silent_contents 0 first.2.2 first.2.3) in
-    let other = second.2.4 ∙ ap sequence (silent_contents 1 second.2.2 second.2.3) in
-    let first_is = first.3 ∙ ap (λ octets. sequence (tlv 6 [] ++ octets)) one in
-    let second_is = second.3 ∙ ap (λ octets. sequence (tlv 6 [] ++ octets)) other in
-    omega (arith, p.different 0 1 (omega arith) (omega arith) (first_is ∙ sym second_is))
-
-two_of_silent_in : TwoToTheDefaultsIn [] (λ (v : ℕ). v ≡ v) (λ (v : ℕ). silent) → ⊥
-unfolding length_octets
-two_of_silent_in p =
-    let both = p 0 1 refl (inl (tt, 0, refl, refl)) (omega arith) in silent_twice_in both.0 both.1
+usual_oaep_encoded : OaepEncoding (record { hash = sha1; mask_gen = mgf1_sha1; p_source = empty_label })
+    (hex (codes "3000"))
+unfolding hex digit length_octets
+usual_oaep_encoded = (
+    ((sha1_identifier, (refl, tt)), (mgf1_identifier, (sha1_identifier, (refl, tt))), (label_identifier, (refl, tt))),
+    omega arith, [], inl (refl, inl (refl, inl (refl, refl))), refl)
