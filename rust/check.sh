@@ -20,8 +20,8 @@
 # What is made stands in out/rust, or below OUT. It needs cargo with clippy and rustfmt, and python3. `beside`,
 # `secrets` and `machines` need make and gcc, `secrets` valgrind too, and `machines` qemu-user and
 # gcc-{i686,s390x}-linux-gnu. `oldest`, `machines` and `wasm` need apt-get and Debian's packages from the network, or the
-# folder DEBIAN, out/debian unless said, into which they were unpacked. Nothing is installed. Without node or its packages
-# `wasm` is left out.
+# folder DEBIAN, ~/.cache/pkcs1-gate/debian unless said, into which they were unpacked. Nothing is installed. Without
+# node or its packages `wasm` is left out.
 set -eu
 cd "$(dirname "$0")/.."
 . tools/shell.sh

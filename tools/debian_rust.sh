@@ -1,16 +1,16 @@
 # shellcheck shell=bash
 # Sourced by scripts, at the top of the repository, which have `stop` and `needs`: rustc 1.85 of Debian, in a folder of
 # its own, in DEBIAN. Nothing is installed. In Debian 12 it is rustc-web, which stays in the main part of the archive.
-DEBIAN=$(realpath -m "${DEBIAN:-out/debian}")
+# It has links, at which rt ci stops in the repository. So it is unpacked outside of it, once for all clones.
+DEBIAN=$(realpath -m "${DEBIAN:-${XDG_CACHE_HOME:-${HOME:?}/.cache}/pkcs1-gate/debian}")
 debian_version=1.85.0+dfsg3-1~deb12u3
 debian_named='rustc 1.85.0 (4d91de4e4 2025-02-17) (built from a source tarball)'
 
 # unpack ROOT SUITES ARCHITECTURES PACKAGE..: puts these packages of Debian into a folder of their own.
 unpack() {
-    local root=$1 apt=$1.apt suite it
+    local root=$1 made=$1.new.$$ apt=$1.apt.$$ suite it
     needs apt-get dpkg
-    rm -rf "$root.new" "$apt"
-    mkdir -p "$apt/lists/partial" "$apt/archives/partial" "$root.new"
+    mkdir -p "$apt/lists/partial" "$apt/archives/partial" "$made"
     for suite in $2; do
         echo "deb [signed-by=/usr/share/keyrings/debian-archive-keyring.gpg] http://deb.debian.org/debian $suite main"
     done > "$apt/sources"
@@ -19,12 +19,12 @@ unpack() {
     (
         export APT_CONFIG=$apt/conf
         cd "$apt" && apt-get update && apt-get download "${@:4}"
-    ) > "$apt/log" 2>&1 || { cat "$apt/log" >&2 && return 1; }
+    ) > "$apt/log" 2>&1 || { cat "$apt/log" >&2 && rm -rf "$apt" "$made" && return 1; }
     for it in "$apt"/*.deb; do
-        dpkg -x "$it" "$root.new" || return
+        dpkg -x "$it" "$made" || return
     done
-    rm -rf "$apt"
-    mv -T "$root.new" "$root"
+    rm -rf "$apt" "$root"
+    mv -T "$made" "$root"
 }
 
 # debian_rust: this rustc, with what it needs to compile for four machines, is what cargo calls.

@@ -8,8 +8,8 @@
 #                                  generate/test.sh, make check
 #     tools/generate.sh --fresh    whether it is made of the text that is here (fresh.sh), in a second
 #
-# DEBIAN: the folder of rustc, out/debian unless said; rust/check.sh takes the same. The status is 1 if files differ or
-# can't be made. ffi/generated is replaced in the end, and stays as it is if anything fails.
+# DEBIAN: the folder of rustc, ~/.cache/pkcs1-gate/debian unless said; rust/check.sh takes the same. The status is 1 if
+# files differ or can't be made. ffi/generated is replaced in the end, and stays as it is if anything fails.
 set -eu
 cd "$(dirname "$0")/.."
 . tools/shell.sh
