@@ -31,7 +31,7 @@ impl<'b> BackWriter<'b> {
     ghost use Rattle.der_core.specs.Length.{length_octets};
     ghost use Rattle.der_core.specs.Slices.{back_slice_of, free_of, Prepends};
 
-    /// A writer over a slice, with nothing filled yet.
+    /// A writer over this slice, with nothing filled yet.
     pub fn new(slice: &'b mut [u8]) -> BackWriter<'b>
         ensures same_reference { (back_slice_of result).ghost_name ≡ slice.entry.ghost_name }
         ensures same_slice { (back_slice_of result).now ≡ slice.old }
@@ -55,7 +55,7 @@ impl<'b> BackWriter<'b> {
         self.slice.len() - self.free
     }
 
-    /// Writes the octets in front of what is filled.
+    /// Writes the octets in front of what is filled. There has to be room for them.
     #[inline(always)]
     pub fn prepend(&mut self, bytes: &[u8])
         requires { length bytes.now ≤ free_of self.old }
@@ -64,7 +64,7 @@ impl<'b> BackWriter<'b> {
         self.free = fill(self.slice, self.free, bytes);
     }
 
-    /// Writes a header in front of what is filled.
+    /// Writes a header in front of what is filled. There has to be room for it.
     #[inline(always)]
     #[tactic(auto, using(crate::proofs::Lengths::known_lengths))]
     pub fn prepend_header(&mut self, header: Header)

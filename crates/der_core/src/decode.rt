@@ -12,18 +12,22 @@ use crate::reader::{Octets, Reader, reject_if_failed};
 use crate::slice_reader::SliceReader;
 use crate::tag::Tag;
 
-/// A type whose values are read from their contents octets.
+/// A type whose values are read from their contents octets. What its calls return is a function of these: `read` of
+/// the type, which gives the value, or the kind of the first fault. `OutOfMemory` may come in its place where the type
+/// may allocate.
 pub trait DecodeValue<B: Octets, M: Memory>: Contents + Sized + Drop {
     /// The contents whose reading may allocate.
     ghost may_allocate: { List ℕ → Type 0 };
 
-    /// Reads all that is left as the contents octets of a value. Exactly `header.length` bytes are left.
+    /// Reads all that is left as the contents octets of a value. Exactly `header.length` bytes are left. Err: the
+    /// first fault, or `OutOfMemory`.
     fn decode_value<R: Reader<B>>(memory: M, reader: &mut R, header: Header) -> Result<Self>
         requires { HoldsBytes (R.left reader.old) header.length }
         ensures { let before = R.left reader.old in
             ReadsWhole Self.value Self.read may_allocate result before (R.left reader.new) };
 
-    /// The contents octets of the encoding in front, if it has the tag, and what follows it, if that is quickly told.
+    /// The contents octets, at most `Length::MAX`, of the encoding in front, if it has the tag, and what follows it:
+    /// what reading gives of the tag with any contents. `None` says nothing of the bytes.
     #[inline(always)]
     fn quick_split(_bytes: B, _tag: Tag) -> Option<(B, B)>
         ensures contents { IfSome result (λ split.
@@ -33,7 +37,8 @@ pub trait DecodeValue<B: Octets, M: Memory>: Contents + Sized + Drop {
         None
     }
 
-    /// The value with these contents octets, if that is quickly told.
+    /// The value that reading gives of these contents octets, which have to be at most `Length::MAX`. `None` says
+    /// nothing of them.
     #[inline(always)]
     fn quick_value(_memory: M, _contents: B) -> Option<Self>
         requires { length (B.octets _contents) ≤ limit }
@@ -46,17 +51,19 @@ pub trait DecodeValue<B: Octets, M: Memory>: Contents + Sized + Drop {
     ghost asks_memory: { (c : List ℕ) → Self.may_allocate c → M.gives };
 }
 
-/// A type whose values are read from their encodings.
+/// A type whose values are read from their encodings. What its calls return is a function of the bytes: `read_front`
+/// of the type, which gives the value in front, or the kind of the first fault. `OutOfMemory` may come in its place
+/// where the type may allocate.
 pub trait Decode<B: Octets, M: Memory>: Encoding + Sized + Drop {
     /// The encodings whose reading may allocate.
     ghost may_allocate: { List ℕ → Type 0 };
 
-    /// Reads the encoding at the front of what is left.
+    /// Reads the encoding at the front of what is left. Err: the first fault, or `OutOfMemory`.
     fn decode<R: Reader<B>>(memory: M, reader: &mut R) -> Result<Self>
         ensures { let before = R.left reader.old in
             ReadsFront Self.value Self.read_front may_allocate result before (R.left reader.new) };
 
-    /// The value whose encoding is in front, and what follows it, if that is quickly told.
+    /// The value that reading gives at the front, and what follows it. `None` says nothing of the bytes.
     #[inline(always)]
     fn quick(_memory: M, _bytes: B) -> Option<(Self, B)>
         ensures { IfSome result (λ split.
@@ -65,7 +72,9 @@ pub trait Decode<B: Octets, M: Memory>: Encoding + Sized + Drop {
         None
     }
 
-    /// Reads a whole slice: `Overflow` if it is longer than `Length::MAX`, `TrailingData` if bytes follow the encoding.
+    /// Reads a whole slice. Ok only if it encodes a value of the type, and no other: then this value. Err: the first
+    /// fault, or `OutOfMemory`. The fault is `Overflow` of a slice longer than `Length::MAX`, `TrailingData` if bytes
+    /// follow the encoding.
     fn from_der(memory: M, bytes: B) -> Result<Self>
         ensures encoding { let encodings = Prints Self.valid Self.printed Self.means in
             ReadsAll Self.value encodings may_allocate result (B.octets bytes) }
@@ -126,7 +135,7 @@ fn read_slowly<'a, T: DecodeValue<&'a [u8], M> + FixedTag, M: Memory>(
     Ok(value)
 }
 
-/// Reads a whole slice without memory: the value that it means, or the error of its first fault.
+/// Reads a whole slice without memory. Ok exactly if it encodes a `T`: then this value. Err: the first fault.
 #[inline(always)]
 pub fn read_borrowed<'a, T: Decode<&'a [u8], NoMemory>>(bytes: &'a [u8]) -> Result<T>
     ensures read { standard.Decodes (Spells T.valid T.printed T.means) bytes.now (ok_of T.value result) }
@@ -135,8 +144,8 @@ pub fn read_borrowed<'a, T: Decode<&'a [u8], NoMemory>>(bytes: &'a [u8]) -> Resu
     T::from_der(NoMemory, bytes)
 }
 
-/// Reads a whole slice of a type that may take memory: the value that it means, or the error of its first fault, or
-/// `OutOfMemory`.
+/// Reads a whole slice of a type that may take memory. Ok only if it encodes a value of the type, and no other: then
+/// this value. Err: the first fault, or `OutOfMemory` where the type may allocate.
 #[inline(always)]
 pub fn read_owned<'a, T: Decode<&'a [u8], M>, M: Memory>(memory: M, bytes: &'a [u8]) -> Result<T>
     ensures read { let asked = AllocatesAtFront T.Decode.may_allocate bytes.now in

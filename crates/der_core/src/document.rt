@@ -82,7 +82,7 @@ impl<'a> DecodeValue<&'a [u8], NoMemory> for AnySequence {
     }
 }
 
-/// Writes the encoding of a message over a slice of exactly its length.
+/// Writes the encoding of a message, which has to have one within `Length::MAX`, over a slice of just its length.
 pub fn write_over<T: EncodeValue + FixedTag>(message: &T, out: &mut [u8])
     requires has { T.valid (T.written (T.value message.now)) }
     requires fits { length (tlv T.TAG.octet (T.printed (T.written (T.value message.now)))) ≤ limit }
@@ -106,7 +106,8 @@ pub struct Open;
 #[derive(Drop)]
 pub struct Secret;
 
-/// One whole SEQUENCE, of at most `Length::MAX` bytes. `S` says whether it is open or secret.
+/// One whole SEQUENCE, of at most `Length::MAX` bytes, whatever its contents are. `S` says whether it is open or
+/// secret: what is said of a `Document` is said of a `SecretDocument` too.
 #[derive(Drop, PartialEq, Eq)]
 pub struct DocumentOf<S> {
     bytes: Vec<u8>,
@@ -124,7 +125,8 @@ pub type SecretDocument = DocumentOf<Secret>;
 impl<S: Drop> DocumentOf<S> {
     ghost use Rattle.der_core.specs.DocumentValue.{HoldsMessage, encoding_of};
 
-    /// Copies the bytes, if they are one SEQUENCE. `OutOfMemory` is returned only if they are.
+    /// Copies the bytes. Ok only if they are a document: then it holds these bytes. Err: their first fault, or
+    /// `OutOfMemory`, which is returned only if they are a document.
     pub fn from_der(alloc: Global, bytes: &[u8]) -> Result<DocumentOf<S>>
         ensures ok { IfOk result (λ document. IsDocument bytes.now × (encoding_of document ≡ bytes.now)) }
         ensures err { IfErr result (λ e. NoValueOrMemory e.kind (IsDocument bytes.now) (IsDocument bytes.now → ⊥)) }
@@ -137,8 +139,9 @@ impl<S: Drop> DocumentOf<S> {
         })
     }
 
-    /// Encodes a message: `Value` if it has no encoding, `Overflow` if all its encodings are longer than `Length::MAX`.
-    /// `OutOfMemory` is returned only if one is within that.
+    /// Encodes a message. Ok: the document holds its shortest encoding. `Value` exactly if the message has no
+    /// encoding, with a tag that the type refuses. `Overflow` exactly if it has encodings, but none within
+    /// `Length::MAX`. `OutOfMemory` is returned only if one is within that.
     pub fn encode_msg<'a, T: EncodeValue + Sequence<'a>>(
         alloc: Global,
         message: &T,
@@ -158,7 +161,7 @@ impl<S: Drop> DocumentOf<S> {
         })
     }
 
-    /// The whole encoding.
+    /// The whole encoding: the bytes of one SEQUENCE, at most `Length::MAX`.
     pub fn as_bytes(&self) -> &[u8]
         ensures encoding { result.now ≡ encoding_of self.now }
         ensures whole { IsDocument result.now }
@@ -173,9 +176,13 @@ impl<S: Drop> DocumentOf<S> {
         Length::of(self.bytes.len())
     }
 
-    /// Reads a source to its end. Its bytes must be one SEQUENCE. Stops with `Overflow` as soon as more than
-    /// `Length::MAX` bytes came, so it returns even if the source never ends. `File` is returned only if a read of the
-    /// source failed, `OutOfMemory` only if a byte came. What was read before an error is lost.
+    /// Reads a source to its end. Ok: the document is all that the source gave, and no call of the source failed. Err:
+    /// - `File`: one call of the source failed. After each other error none did.
+    /// - `OutOfMemory`: at least one byte came, and no more than `Length::MAX`.
+    /// - `Overflow`: more bytes came than `Length::MAX`, by at most 65536.
+    /// - Otherwise the first fault of all that the source gave, which may be `Overflow` too.
+    ///
+    /// It returns even if the source never ends. What was read before an error is lost.
     pub fn read_from<R: Source>(alloc: Global, source: &mut R) -> Result<DocumentOf<S>>
         ensures { ReadsDocument encoding_of result (R.remaining source.old) (R.remaining source.new)
             (R.failures source.old) (R.failures source.new) }
@@ -188,8 +195,8 @@ impl<S: Drop> DocumentOf<S> {
         })
     }
 
-    /// Writes all bytes to the sink, in order, and flushes. The only error is `File`, if a call of the sink failed; the
-    /// sink has then taken a beginning of the bytes. Nothing is allocated.
+    /// Writes all bytes to the sink, in order. Ok: it took them all, is flushed, and no call of it failed. Err: it is
+    /// `File`, one call of the sink failed, and the sink took a beginning of the bytes. Nothing is allocated.
     pub fn write_to<W: Sink>(&self, sink: &mut W) -> Result<()>
         ensures written { WritesAll (encoding_of self.now) result (W.contents sink.old) (W.contents sink.new)
             (W.failures sink.old) (W.failures sink.new) }
@@ -198,7 +205,8 @@ impl<S: Drop> DocumentOf<S> {
         write_all(self.bytes.as_slice(), sink)
     }
 
-    /// Reads the document in a file, as `read_from` does. `File` also if the file can't be opened.
+    /// Reads the document in a file. Ok: it is all that the file opened at this path gave, from its opening to its
+    /// end. Err: `File` if the file can't be opened, else as of `read_from`. It is never `NoRoom`.
     #[tactic(auto, using(crate::proofs::Readings::document_reads))]
     pub fn read_der_file<F: FileSystem>(
         files: &F,
@@ -215,8 +223,9 @@ impl<S: Drop> DocumentOf<S> {
         DocumentOf::read_from(alloc, &mut source)
     }
 
-    /// Creates the file, or truncates an old one, writes as `write_to` does, and closes it. `File` also if it can't be
-    /// created. After an error the file may hold a beginning of the bytes.
+    /// Creates the file, or truncates an old one, writes the document, and closes the file. Ok: the file took exactly
+    /// the document, from its creation until it was closed, and was flushed. Err: it is `File`. Either the file can't
+    /// be created, or one call of it failed, and it was closed when it had taken a beginning of the bytes.
     pub fn write_der_file<F: FileSystem>(&self, files: &F, path: Path<'_>) -> Result<()>
         ensures ok { OnOk result (FileTakes (F.creates (path_bytes path.entry)) F.Created.is_closed
             F.Created.contents F.Created.is_flushed (encoding_of self.now)) }

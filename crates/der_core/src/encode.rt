@@ -17,12 +17,14 @@ pub trait EncodeValue: Contents {
     /// The tags that an error `Value` may have. A type that doesn't say it leaves them open.
     ghost refused: { TheTag → Type 0 } = { λ _. Unit {0} };
 
-    /// The length of the contents.
+    /// The length of the contents that are written. `Value` exactly if the value has none, else `Overflow` exactly if
+    /// they are longer than `Length::MAX`.
     fn value_len(&self) -> Result<Length>
         ensures counts { let s = Self.written (Self.value self.now) in Counts (Self.valid s) (Self.printed s) result }
         ensures tag { RefusedAs refused result };
 
-    /// Appends the contents, which have at most `Length::MAX` octets: `NoRoom` after a beginning of them.
+    /// Appends the contents. There have to be some, within `Length::MAX`. The only error is `NoRoom`, exactly if the
+    /// writer has too little room, after a beginning of them.
     fn append_value<W: Writer>(&self, writer: &mut W) -> Result<()>
         requires has { Self.valid (Self.written (Self.value self.now)) }
         requires fits { length (Self.printed (Self.written (Self.value self.now))) ≤ limit }
@@ -30,7 +32,8 @@ pub trait EncodeValue: Contents {
             Appends (Self.valid s) (Self.printed s) W.room W.written writer.old writer.new result }
         ensures kept { W.keeps writer.old writer.new };
 
-    /// Appends the contents: `Value` and `Overflow` before any octet, `NoRoom` after a beginning of them.
+    /// Appends the contents. `Value` and `Overflow`, as of `value_len`, come before any octet, `NoRoom` after a
+    /// beginning of them.
     fn encode_value<W: Writer>(&self, writer: &mut W) -> Result<()>
         ensures appends { let s = Self.written (Self.value self.now) in
             Appends (Self.valid s) (Self.printed s) W.room W.written writer.old writer.new result }
@@ -41,7 +44,7 @@ pub trait EncodeValue: Contents {
         self.append_value(writer)
     }
 
-    /// Writes the contents in front of what is filled.
+    /// Writes the contents in front of what is filled. There have to be some, within `Length::MAX`, and room for them.
     fn prepend_value(&self, writer: &mut BackWriter<'_>)
         requires has { Self.valid (Self.written (Self.value self.now)) }
         requires fits { length (Self.printed (Self.written (Self.value self.now))) ≤ limit }
@@ -49,20 +52,23 @@ pub trait EncodeValue: Contents {
         ensures { Prepends (Self.printed (Self.written (Self.value self.now))) writer.old writer.new };
 }
 
-/// A type whose values are written as encodings.
+/// A type whose values are written as encodings. Its calls return these errors exactly in these cases:
+/// - `Value`: the value has no encoding, of any length. The tag is one that `refused` names.
+/// - `Overflow`: it has encodings, but none within `Length::MAX`.
+/// - `NoRoom`: its shortest encoding is longer than the slice, or than the room of the writer.
 pub trait Encode: Encoding {
     /// The tags that an error `Value` may have. A type that doesn't say it leaves them open.
     ghost refused: { TheTag → Type 0 } = { λ _. Unit {0} };
 
-    /// The length of the encoding: `Value` if the value has none, `Overflow` if all are longer than `Length::MAX`.
+    /// The length of the shortest encoding; `Value` and `Overflow` exactly if they say so.
     fn encoded_len(&self) -> Result<Length>
         ensures counted { let s = Self.written (Self.value self.now) in Counts (Self.valid s) (Self.printed s) result }
         ensures err { let v = Self.value self.now in let encodings = Prints Self.valid Self.printed Self.means in
             IfErr result (λ e. WhyNotCounted (Self.valid (Self.written v)) encodings v (encode_error e.kind)) }
         ensures tag { RefusedAs refused result };
 
-    /// Appends the encoding. `Value` and `Overflow` come before any octet is written, `NoRoom` after a beginning of
-    /// them.
+    /// Appends the shortest encoding. `Value` and `Overflow` come before any octet is written, `NoRoom` after a
+    /// beginning of them. A writer without a limit gives no `NoRoom`.
     fn encode<W: Writer>(&self, writer: &mut W) -> Result<()>
         ensures appends { let s = Self.written (Self.value self.now) in
             Appends (Self.valid s) (Self.printed s) W.room W.written writer.old writer.new result }
@@ -72,14 +78,15 @@ pub trait Encode: Encoding {
         ensures tag { RefusedAs refused result }
         ensures kept { W.keeps writer.old writer.new };
 
-    /// Writes the encoding in front of what is filled.
+    /// Writes the encoding in front of what is filled. There has to be one within `Length::MAX`, and room for it.
     fn prepend(&self, writer: &mut BackWriter<'_>)
         requires has { Self.valid (Self.written (Self.value self.now)) }
         requires fits { length (Self.printed (Self.written (Self.value self.now))) ≤ limit }
         requires room { length (Self.printed (Self.written (Self.value self.now))) ≤ free_of writer.old }
         ensures { Prepends (Self.printed (Self.written (Self.value self.now))) writer.old writer.new };
 
-    /// Writes the encoding to the front of a slice and returns its length. On an error the slice is unchanged.
+    /// Writes the shortest encoding of the value to the front of a slice. Ok(n): the first n bytes are the encoding,
+    /// and those behind them are as they were. Err: the slice is as it was, and the error says exactly why.
     final fn encode_into(&self, out: &mut [u8]) -> Result<usize>
     where
         Self: Sized,
@@ -103,8 +110,9 @@ pub trait Encode: Encoding {
         Ok(length)
     }
 
-    /// Writes the encoding to the front of a slice and returns that part. The rest of the slice is unchanged, on an
-    /// error all of it. A caller that needs this in a proof calls `encode_into`.
+    /// Writes the shortest encoding of the value to the front of a slice. Ok: that part, and the bytes behind it are
+    /// as they were. Err: all of the slice is as it was, and the error says exactly why. A caller that needs in a
+    /// proof what the slice holds calls `encode_into`.
     final fn encode_to_slice<'b>(&self, out: &'b mut [u8]) -> Result<&'b [u8]>
     where
         Self: Sized,

@@ -51,6 +51,7 @@ impl fmt::Display for ErrorKind {
 
     ghost output = { λ kind. Some (kind_text kind) };
 
+    /// Prints the text of the kind, exactly as `kind_text` has it.
     fn fmt<W: fmt::Write>(&self, f: &mut fmt::Formatter<W>) -> fmt::Result {
         let encoding = match *self {
             ErrorKind::Length { tag } => {
@@ -123,7 +124,7 @@ impl From<AllocError> for Error {
 
     ghost from_gives = { λ _ error. error.kind ≡ OutOfMemory };
 
-    /// `OutOfMemory`.
+    /// `OutOfMemory`, of an error of std's allocators.
     fn from(_error: AllocError) -> Error
         ensures { result.kind ≡ ErrorKind.OutOfMemory }
     {
@@ -136,7 +137,7 @@ impl<T: Drop> From<AllocFailed<T>> for Error {
 
     ghost from_gives = { λ _ error. error.kind ≡ OutOfMemory };
 
-    /// `OutOfMemory`. The value that couldn't be stored is dropped.
+    /// `OutOfMemory`, of an error of std's allocators. The value that couldn't be stored is dropped.
     fn from(_error: AllocFailed<T>) -> Error
         ensures { result.kind ≡ ErrorKind.OutOfMemory }
     {
@@ -149,7 +150,7 @@ impl fmt::Display for Error {
 
     ghost output = { λ error. Some (kind_text error.kind) };
 
-    /// Prints the message of the kind.
+    /// Prints the text of the kind, and nothing else.
     fn fmt<W: fmt::Write>(&self, f: &mut fmt::Formatter<W>) -> fmt::Result {
         write!(f, "{}", self.kind)
     }

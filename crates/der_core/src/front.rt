@@ -46,12 +46,13 @@ pub trait DecodeFront<B: Octets, M: Memory>: FrontRow + Sized + Drop {
     /// What may be left where reading the row may allocate.
     ghost may_allocate: { List ℕ → Type 0 };
 
-    /// Reads the row at the front of what is left.
+    /// Reads the row at the front of what is left. Err: the first fault, or `OutOfMemory` where it may allocate. A
+    /// reader that has failed gives only a row of no part, and stays so.
     fn decode_front<R: Reader<B>>(memory: M, reader: &mut R) -> Result<Self>
         ensures { let before = R.left reader.old in
             ReadsRow Self.value Self.read_row may_allocate result before (R.left reader.new) };
 
-    /// The row in front, and what follows it, if that is quickly told.
+    /// The row that reading gives at the front, and what follows it. `None` says nothing of the bytes.
     #[inline(always)]
     fn quick_front(_memory: M, _bytes: B) -> Option<(Self, B)>
         ensures { IfSome result (λ split.

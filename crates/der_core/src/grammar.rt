@@ -93,7 +93,7 @@ pub trait Encoding {
     /// Which octets the encodings may begin with.
     ghost starts: { Starts printed };
 
-    /// Whether encodings may begin with the octet of the tag.
+    /// False only if no encoding of the type begins with the octet of the tag.
     fn may_start_with(tag: Tag) -> bool
         ensures { result ≡ starts.with tag.octet };
 }

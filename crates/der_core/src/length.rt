@@ -94,7 +94,7 @@ impl TryFrom<usize> for Length {
     ghost try_from_gives = { λ value. λ result.
         MatchResult result (λ n. (n ≡ value) × (value ≤ limit)) (λ e. (e.kind ≡ Overflow) × (limit < value)) };
 
-    /// `Overflow` if the number exceeds `MAX`.
+    /// The length of this number. `Overflow` exactly if it exceeds `MAX`.
     fn try_from(value: usize) -> Result<Length>
         ensures ok { IfOk result (λ n. (n ≡ value) × (value ≤ limit)) }
         ensures err { IfErr result (λ e. (e.kind ≡ ErrorKind.Overflow) × (limit < value)) }
@@ -119,7 +119,7 @@ impl Length {
     /// The most octets that contents, or an encoding that is read or written whole, may have: 2^32 - 1.
     pub const MAX: Length = Length { value: 4294967295 };
 
-    /// A length of at most `MAX`.
+    /// The length of this number, which has to be at most `MAX`.
     pub fn of(value: usize) -> Length
         requires { value ≤ limit }
         ensures { result ≡ value }
@@ -129,7 +129,7 @@ impl Length {
         }
     }
 
-    /// The number of octets, as slices count them.
+    /// The number of octets, as slices count them. It is at most `MAX`.
     pub fn to_usize(self) -> usize
         ensures value { result ≡ self }
         ensures bound { result ≤ limit }
@@ -137,7 +137,7 @@ impl Length {
         self.value as usize
     }
 
-    /// The sum, or `Overflow` if it exceeds `MAX`.
+    /// The sum. `Overflow` exactly if it exceeds `MAX`.
     pub fn checked_add(self, other: Length) -> Result<Length>
         ensures ok { IfOk result (λ sum. (sum ≡ self + other) × (sum ≤ limit)) }
         ensures err { IfErr result (λ e. (e.kind ≡ ErrorKind.Overflow) × (limit < self + other)) }
@@ -148,7 +148,7 @@ impl Length {
         }
     }
 
-    /// The length of an encoding whose contents have this length, or `Overflow` if it exceeds `MAX`.
+    /// The length of an encoding whose contents have this length. `Overflow` exactly if it exceeds `MAX`.
     pub fn for_tlv(self, _tag: Tag) -> Result<Length>
         ensures ok { IfOk result (λ total. (total ≡ tlv_len self) × (total ≤ limit)) }
         ensures err { IfErr result (λ e. (e.kind ≡ ErrorKind.Overflow) × (limit < tlv_len self)) }
@@ -177,7 +177,7 @@ impl Length {
         Length { value }
     }
 
-    /// The length octets (X.690 8.1.3), as few as possible.
+    /// The length octets (X.690 8.1.3), as few as possible, at most 5.
     pub fn to_bytes(self) -> ArrayVec<u8, 5>
         ensures counted { IsLength self result.items }
         ensures written { result.items ≡ length_octets self }
@@ -219,7 +219,7 @@ impl Length {
         bytes
     }
 
-    /// Reads the length octets.
+    /// Reads the length octets at the front of what is left. Err: the first fault of these.
     #[inline(always)]
     #[tactic(auto, using(crate::proofs::Lengths::length_reads))]
     pub fn decode<'a, R: Reader<&'a [u8]>>(reader: &mut R) -> Result<Length>

@@ -33,7 +33,7 @@ pub struct OctetStringRef<'a> {
 impl<'a> OctetStringRef<'a> {
     ghost use Rattle.der_core.specs.OctetStringRefValue.{octets_of};
 
-    /// `Overflow` if there are more than `Length::MAX` octets.
+    /// The string of these octets. `Overflow` exactly if there are more than `Length::MAX`.
     pub fn new(bytes: &'a [u8]) -> Result<OctetStringRef<'a>>
         ensures ok { IfOk result (λ string. octets_of string ≡ bytes.now) }
         ensures err { IfErr result (λ e. (e.kind ≡ ErrorKind.Overflow) × (limit < length bytes.now)) }
@@ -44,7 +44,7 @@ impl<'a> OctetStringRef<'a> {
         Ok(OctetStringRef { bytes })
     }
 
-    /// The octets, borrowed from the input.
+    /// The octets, borrowed from the input. They are at most `Length::MAX`.
     pub fn as_bytes(&self) -> &'a [u8]
         ensures octets { result.now ≡ octets_of self.now }
         ensures bound { length result.now ≤ limit }

@@ -124,7 +124,8 @@ pub fn lemma_one_encoding<T: OneEncoding>()
     ensures { (v : T.Value) → HasAtMostOne (Prints T.valid T.printed T.means v) }
 {}
 
-/// Writes a value's only encoding to the front of a slice and returns its length, as `encode_into` does.
+/// Writes a value's only encoding to the front of a slice: no value of the type has two. Ok(n): the first n bytes are
+/// the encoding, and those behind them are as they were. Err: the slice is as it was, and the error says exactly why.
 #[inline(always)]
 pub fn write_only<T: OneEncoding + Encode>(value: &T, out: &mut [u8]) -> Result<usize>
     ensures written { let encodings = Spells T.valid T.printed T.means in

@@ -13,17 +13,18 @@ use crate::memory::Memory;
 use crate::reader::{Octets, Reader};
 use crate::writer::Writer;
 
-/// Contents that are read to the end of what is left.
+/// Contents that are read to the end of what is left. What calls return is a function of these: `read` of the type.
+/// `OutOfMemory` may come in its place where the type may allocate.
 pub trait DecodeParts<B: Octets, M: Memory>: Contents + Sized + Drop {
     /// The contents whose reading may allocate.
     ghost may_allocate: { List ℕ → Type 0 };
 
-    /// Reads all that is left as the contents octets of a value.
+    /// Reads all that is left as the contents octets of a value. Err: the first fault, or `OutOfMemory`.
     fn decode_parts<R: Reader<B>>(memory: M, reader: &mut R) -> Result<Self>
         ensures { let before = R.left reader.old in
             ReadsWhole Self.value Self.read may_allocate result before (R.left reader.new) };
 
-    /// The value with these contents octets, if that is quickly told.
+    /// The value that reading gives of all of these contents octets. `None` says nothing of them.
     #[inline(always)]
     fn quick_parts(_memory: M, _contents: B) -> Option<Self>
         ensures { IfSome result (λ x. Self.read (B.octets _contents) ≡ Ok (Self.value x)) }

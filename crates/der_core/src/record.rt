@@ -68,12 +68,14 @@ pub trait EncodeInParts: InParts {
     /// The tags that an error `Value` may have. A type that doesn't say it leaves them open.
     ghost refused: { TheTag → Type 0 } = { λ _. Unit {0} };
 
-    /// The length of the parts.
+    /// The length of the parts that are written. `Value` exactly if the value has none, else `Overflow` exactly if
+    /// they are longer than `Length::MAX`.
     fn parts_len(&self) -> Result<Length>
         ensures counts { let s = Self.written (Self.value self.now) in Counts (Self.valid s) (Self.printed s) result }
         ensures tag { RefusedAs refused result };
 
-    /// Appends the parts: `NoRoom` after a beginning of them.
+    /// Appends the parts. There have to be some, within `Length::MAX`. The only error is `NoRoom`, exactly if the
+    /// writer has too little room, after a beginning of them.
     fn append_parts<W: Writer>(&self, writer: &mut W) -> Result<()>
         requires has { Self.valid (Self.written (Self.value self.now)) }
         requires fits { length (Self.printed (Self.written (Self.value self.now))) ≤ limit }
@@ -81,7 +83,7 @@ pub trait EncodeInParts: InParts {
             Appends (Self.valid s) (Self.printed s) W.room W.written writer.old writer.new result }
         ensures kept { W.keeps writer.old writer.new };
 
-    /// Writes the parts in front of what is filled.
+    /// Writes the parts in front of what is filled. There have to be some, within `Length::MAX`, and room for them.
     fn prepend_parts(&self, writer: &mut BackWriter<'_>)
         requires has { Self.valid (Self.written (Self.value self.now)) }
         requires fits { length (Self.printed (Self.written (Self.value self.now))) ≤ limit }

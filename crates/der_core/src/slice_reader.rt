@@ -30,7 +30,7 @@ impl<'a> SliceReader<'a> {
     ghost use Rattle.std.specs.Prelude.{◌≡◌, Some, IfOk, IfErr};
     ghost use Rattle.der_core.specs.Slices.{left_of};
 
-    /// A reader over all of the bytes, or `Overflow` if there are more than `Length::MAX`.
+    /// A reader that has all of the bytes left. `Overflow` exactly if they are more than `Length::MAX`.
     pub fn new(bytes: &'a [u8]) -> Result<SliceReader<'a>>
         ensures ok { IfOk result (λ reader. left_of reader ≡ Some bytes.now) }
         ensures err { IfErr result (λ e. (e.kind ≡ ErrorKind.Overflow) × (limit < length bytes.now)) }

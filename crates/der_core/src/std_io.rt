@@ -17,7 +17,8 @@ fn failed(faults: &mut u64) -> Error
     Error::new(ErrorKind::File)
 }
 
-/// A source over a std reader. Each error of the reader is counted, and returned as `File`.
+/// A source over a std reader. Each error of the reader is counted, and returned as `File`. Std's files don't report
+/// the bytes that they give.
 #[derive(Debug, Drop)]
 pub struct FromRead<R> {
     inner: R,
@@ -27,7 +28,7 @@ pub struct FromRead<R> {
 impl<R: Read> FromRead<R> {
     ghost use Rattle.der_core.specs.Words.{IsOpened, reader_of, read_faults};
 
-    /// A source that counts no failed call yet.
+    /// A source over this reader, which counts no failed call yet.
     pub fn new(inner: R) -> Self
         ensures reader { reader_of result ≡ inner }
         ensures faults { read_faults result ≡ 0 }
@@ -61,6 +62,7 @@ impl<R: Read> Source for FromRead<R> {
 
     ghost failures = { read_faults };
 
+    /// As of `Source`. The only error is `File`.
     fn read(&mut self, buf: &mut [u8]) -> Result<usize>
         ensures bound { ReadsAtMost result buf.new }
         ensures bytes { let before = R.remaining (reader_of self.old) in
@@ -79,8 +81,9 @@ impl<R: Read> Source for FromRead<R> {
     }
 }
 
-/// A sink over a std writer. Each error of the writer is counted, and returned as `File`; so is a write that takes none
-/// of one or more bytes.
+/// A sink over a std writer. Each error of the writer is counted, and returned as `File`; so is a write that takes
+/// none of one or more bytes. Std's files don't report the bytes that they take, and no clause says that a writer of
+/// std is flushed or closed.
 #[derive(Debug, Drop)]
 pub struct ToWrite<W> {
     inner: W,
@@ -90,7 +93,7 @@ pub struct ToWrite<W> {
 impl<W: Write> ToWrite<W> {
     ghost use Rattle.der_core.specs.Words.{IsCreated, writer_of, write_faults};
 
-    /// A sink that counts no failed call yet.
+    /// A sink over this writer, which counts no failed call yet.
     pub fn new(inner: W) -> Self
         ensures writer { writer_of result ≡ inner }
         ensures faults { write_faults result ≡ 0 }
@@ -126,6 +129,7 @@ impl<W: Write> Sink for ToWrite<W> {
 
     ghost is_flushed = { λ _. ⊤ };
 
+    /// As of `Sink`. The only error is `File`, also where the writer takes none of one or more bytes.
     fn write(&mut self, bytes: &[u8]) -> Result<usize>
         ensures bound { WritesAtMost result bytes.now }
         ensures progress { 0 < length bytes.now → IfOk result (λ n. 0 < n) }
@@ -140,6 +144,7 @@ impl<W: Write> Sink for ToWrite<W> {
         }
     }
 
+    /// As of `Sink`. The only error is `File`.
     fn flush(&mut self) -> Result<()>
         ensures bytes { Keeps (W.contents (writer_of self.old)) (W.contents (writer_of self.new)) }
         ensures faults { CountsFailure (write_faults self.old) (write_faults self.new) result }

@@ -36,7 +36,7 @@ impl Tag {
     /// The tag of SEQUENCE (X.690 8.9) and SEQUENCE OF (8.10): universal, constructed, number 16.
     pub const SEQUENCE: Tag = Tag { octet: 0x30 };
 
-    /// The tag with this octet, or `TagUnknown` if the octet isn't supported.
+    /// The tag with this octet. `TagUnknown` exactly if the octet isn't supported.
     pub fn from_octet(octet: u8) -> Result<Tag>
         ensures ok { IfOk result (λ tag. tag.octet ≡ octet) }
         ensures err { IfErr result (λ e. (e.kind ≡ ErrorKind.TagUnknown octet) × (is_allowed octet ≡ false)) }
@@ -74,7 +74,7 @@ pub struct TagNumber {
 }
 
 impl TagNumber {
-    /// The number of the tag `[value]`.
+    /// The number of the tag `[value]`, which has to be at most 30.
     pub fn new(value: u8) -> TagNumber
         requires { value ≤ 30 }
         ensures { result.value ≡ value }
@@ -82,7 +82,7 @@ impl TagNumber {
         TagNumber { value }
     }
 
-    /// The number, without the class and the constructed bit.
+    /// The number, without the class and the constructed bit. It is at most 30.
     pub fn value(self) -> u8
         ensures { result ≡ self.value }
     {
@@ -95,7 +95,7 @@ impl fmt::Display for Tag {
 
     ghost output = { λ tag. Some (tag_text tag) };
 
-    /// Prints the octet in hexadecimal.
+    /// Prints exactly `0x` and the two hexadecimal digits of the octet, in lower case.
     fn fmt<W: fmt::Write>(&self, f: &mut fmt::Formatter<W>) -> fmt::Result {
         write!(f, "{}", PrintedOctet(self.octet))
     }

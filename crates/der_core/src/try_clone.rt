@@ -6,12 +6,13 @@ use crate::error::Result;
 use crate::grammar::Encoding;
 use std::alloc::Global;
 
-/// A type whose values are copied into allocated memory.
+/// A type whose values are copied into allocated memory. One with its own `try_clone` needs no import of the trait.
 pub trait TryClone: Encoding + Sized + Drop {
     /// The values whose copying never returns `OutOfMemory`.
     ghost never_out_of_memory: { Self → Type 0 };
 
-    /// Returns a copy that means the same value, or `OutOfMemory`.
+    /// Returns a copy that means the same value. The only error is `OutOfMemory`, and never of a value that
+    /// `never_out_of_memory` names.
     fn try_clone(&self, alloc: Global) -> Result<Self>
         ensures ok { IfOk result (λ copy. Self.value copy ≡ Self.value self.now) }
         ensures err { IfErr result (λ e. e.kind ≡ ErrorKind.OutOfMemory) }

@@ -12,10 +12,11 @@ pub trait Writer {
     /// These octets were written so far. A writer may forget them, and keep a hash of them.
     ghost written: { Self → List ℕ → Type 0 };
 
-    /// What writing never changes: a relation of the writer before and after.
+    /// What writing never changes: a relation of the writer before and after. Each call that appends keeps it.
     ghost keeps: { Self → Self → Type 0 };
 
-    /// Appends all of the octets, or returns `NoRoom` and writes nothing.
+    /// Appends all of the octets, behind whichever were written before, and takes their room. The only error is
+    /// `NoRoom`, exactly if there is a limit and too little room. Then nothing is written, and the room is as it was.
     fn write(&mut self, bytes: &[u8]) -> Result<()>
         ensures written { OnOk result (Receives bytes.now (written self.old) (written self.new)) }
         ensures room { OnOk result (TakesRoom (length bytes.now) (room self.old) (room self.new)) }
@@ -43,7 +44,7 @@ pub struct SliceWriter<'b> {
 impl<'b> SliceWriter<'b> {
     ghost use Rattle.der_core.specs.Slices.{slice_of, len_of, written_of};
 
-    /// A writer over a slice. Bytes behind what is written stay as they are.
+    /// A writer over this slice, with nothing written. Bytes behind what is written stay as they are.
     pub fn new(slice: &'b mut [u8]) -> SliceWriter<'b>
         ensures same_reference { (slice_of result).ghost_name ≡ slice.entry.ghost_name }
         ensures same_slice { (slice_of result).now ≡ slice.old }

@@ -35,9 +35,9 @@ impl Uint {
     ghost use Rattle.der_core.specs.UintRefValue.{bytes_of};
     ghost use Rattle.der_core.specs.UintValue.{own_bytes_of};
 
-    /// The number with these big-endian bytes, which may have leading zeros. `Length` of INTEGER if there is no byte,
-    /// `Overflow` if more than `Length::MAX` bytes remain without leading zeros. `OutOfMemory` is returned only for
-    /// bytes that are a number.
+    /// The number with these big-endian bytes, which may have leading zeros. `Length` of INTEGER exactly if there is
+    /// no byte, `Overflow` exactly if more than `Length::MAX` bytes remain without leading zeros. `OutOfMemory` is
+    /// returned only for bytes that are a number.
     pub fn new(alloc: Global, bytes: &[u8]) -> Result<Uint>
         ensures ok { IfOk result (λ number. AreCanonicalOf bytes.now (own_bytes_of number)) }
         ensures some { OnOk result (0 < length bytes.now) }
@@ -46,7 +46,7 @@ impl Uint {
         Uint::copy(alloc, UintRef::new(bytes)?)
     }
 
-    /// The bytes, most significant first, at least one.
+    /// The bytes, most significant first: at least one, at most `Length::MAX`, and no needless zero in front.
     #[tactic(auto, using(crate::specs::Laws::Integer::holds_canonical))]
     pub fn as_bytes(&self) -> &[u8]
         ensures number { result.now ≡ own_bytes_of self.now }

@@ -84,8 +84,8 @@ fn strip(bytes: &[u8]) -> &[u8]
 impl<'a> UintRef<'a> {
     ghost use Rattle.der_core.specs.UintRefValue.{bytes_of};
 
-    /// The number with these big-endian bytes, which may have leading zeros. `Length` of INTEGER if there is no byte,
-    /// `Overflow` if more than `Length::MAX` bytes remain without leading zeros.
+    /// The number with these big-endian bytes, which may have leading zeros. `Length` of INTEGER exactly if there is
+    /// no byte, `Overflow` exactly if more than `Length::MAX` bytes remain without leading zeros.
     pub fn new(bytes: &'a [u8]) -> Result<UintRef<'a>>
         ensures ok { IfOk result (λ number. AreCanonicalOf bytes.now (bytes_of number)) }
         ensures some { OnOk result (0 < length bytes.now) }
@@ -101,8 +101,8 @@ impl<'a> UintRef<'a> {
         Ok(UintRef { bytes })
     }
 
-    /// The number with these big-endian bytes, if there is one and none is a needless zero in front. `None` too if they
-    /// are more than `Length::MAX`.
+    /// The number with these big-endian bytes. `None` exactly if there is no byte, if a needless zero stands in front,
+    /// or if they are more than `Length::MAX`.
     pub fn from_canonical(bytes: &'a [u8]) -> Option<UintRef<'a>>
         ensures some { IfSome result (λ number. bytes_of number ≡ bytes.now) }
         ensures none { result ≡ None → IsCanonical bytes.now → limit < length bytes.now }
@@ -123,7 +123,7 @@ impl<'a> UintRef<'a> {
         UintRef { bytes }
     }
 
-    /// The bytes, most significant first, at least one.
+    /// The bytes, most significant first: at least one, at most `Length::MAX`, and no needless zero in front.
     #[tactic(auto, using(crate::specs::Laws::Integer::holds_canonical))]
     pub fn as_bytes(&self) -> &'a [u8]
         ensures number { result.now ≡ bytes_of self.now }
@@ -133,7 +133,8 @@ impl<'a> UintRef<'a> {
         self.bytes
     }
 
-    /// The bit length of the number, as 2048 of the modulus of an RSA-2048 key. It is 0 of 0.
+    /// The bit length of the number, as 2048 of the modulus of an RSA-2048 key. It is the least n with the number
+    /// below 2^n, so 0 of 0.
     #[tactic(auto, using(crate::proofs::Integers::number_bit_length))]
     pub fn bit_len(&self) -> u64
         ensures { IsBitLength (number_from_digits 256 (bytes_of self.now)) result }
