@@ -15,7 +15,8 @@ pub fn read_signature(bytes: &[u8]) -> Result<DssSigValueRef<'_>>
     read_borrowed(bytes)
 }
 
-/// Writes a signature's only encoding to the front of a slice and returns its length.
+/// Writes a signature's only encoding to the front of a slice and returns its length. Err: the slice is as it was, and
+/// the error says exactly why.
 pub fn write_signature(signature: &DssSigValueRef<'_>, out: &mut [u8]) -> Result<usize>
     ensures written { let v = signature_of signature.now in
         Encodes SignatureEncoding v out.old out.new (ok_of (λ n. n) result) }

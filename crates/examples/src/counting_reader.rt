@@ -61,7 +61,7 @@ impl<'a> Reader<&'a [u8]> for CountingReader<'a> {
     }
 }
 
-/// The number at the front of what is left.
+/// The number at the front of what is left, or the first fault. Memory never runs out.
 pub fn read_number<'a>(reader: &mut CountingReader<'a>) -> Result<UintRef<'a>>
     ensures { let before = left_of reader.old.inner in let after = left_of reader.new.inner in
         ReadsFront (λ n. number_from_digits 256 (bytes_of n)) (tagged integer_tag number_of) (λ _. ⊥)

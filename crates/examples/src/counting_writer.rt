@@ -33,7 +33,7 @@ impl Writer for CountingWriter<'_> {
     ghost keeps_through = { λ u v w. Keeps-through u.inner v.inner w.inner };
 }
 
-/// Appends the encoding of a number.
+/// Appends the encoding of a number. Of an error its contract says nothing.
 pub fn write_number(number: &UintRef<'_>, writer: &mut CountingWriter<'_>) -> Result<()>
     ensures { let encoding = tlv integer_tag.octet (number_contents (number_from_digits 256 (bytes_of number.now))) in
         OnOk result (written_of writer.new.inner ≡ written_of writer.old.inner ++ encoding) }

@@ -73,7 +73,8 @@ pub fn read_pair<'a>(bytes: &'a [u8]) -> Result<ImplicitPairRef<'a>>
     read_borrowed(bytes)
 }
 
-/// Writes the only encoding of a pair to the front of a slice and returns its length.
+/// Writes the only encoding of a pair to the front of a slice and returns its length. Err: the slice is as it was, and
+/// the error says exactly why.
 pub fn write_pair<'a>(pair: &ImplicitPairRef<'a>, out: &mut [u8]) -> Result<usize>
     ensures written { let T = ⟦<ImplicitPairRef<'a> as Encoding>⟧ in let v = T.value pair.now in
         standard.Encodes (Spells T.valid T.printed T.means) v out.old out.new (ok_of (λ n. n) result) }

@@ -63,7 +63,7 @@ impl Sink for Taken {
     }
 }
 
-/// The octets of a slice that holds one whole SEQUENCE, which go through a document.
+/// A copy of the octets of a slice, which go through a document. Ok only if they are one whole SEQUENCE.
 pub fn copy_document(alloc: Global, bytes: &[u8]) -> Result<Vec<u8>>
     ensures document { OnOk result (IsDocument bytes.now) }
     ensures copy { IfOk result (λ copy. copy.items ≡ bytes.now) }

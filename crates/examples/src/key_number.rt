@@ -91,7 +91,7 @@ impl EncodeValue for KeyNumber<'_> {
     }
 }
 
-/// Writes a public key of such numbers to the front of a slice and returns its length.
+/// Writes a public key of such numbers to the front of a slice and returns its length. Err: the slice is as it was.
 pub fn write_public_key(key: &RsaPublicKey<KeyNumber<'_>>, out: &mut [u8]) -> pkcs1::Result<usize>
     ensures { let numbers = held_public_key (λ n. bytes_of n.number) key.now in
         Encodes PublicKeyEncoding numbers out.old out.new (ok_of (λ n. n) result) }

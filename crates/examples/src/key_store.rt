@@ -51,7 +51,8 @@ fn is_long(key: &RsaPrivateKeyView<'_>) -> bool
     key.modulus().bit_len() >= 2048
 }
 
-/// The store of the keys of at least 2048 bits of a store, in order.
+/// The store of the keys of at least 2048 bits of a store, in order. Err: `Format`, and the slice is no store, or
+/// `Memory`.
 pub fn long_entries(alloc: Global, store: &[u8]) -> Result<Vec<u8>, StoreError>
     ensures ok { IfOk result (λ kept. Copies store.now kept.items) }
     ensures err { IfErr result (λ e. (e ≡ StoreError.Memory)
@@ -75,7 +76,8 @@ pub fn long_entries(alloc: Global, store: &[u8]) -> Result<Vec<u8>, StoreError>
     Ok(kept)
 }
 
-/// Reads a store from a source to its end, and writes the store of its keys of at least 2048 bits to a sink.
+/// Reads a store from a source to its end, and writes the store of its keys of at least 2048 bits to a sink. Ok: the
+/// sink took it all and is flushed. Err: as `StoreError` says.
 pub fn copy_long_keys<R: Source, W: Sink>(
     alloc: Global,
     source: &mut R,

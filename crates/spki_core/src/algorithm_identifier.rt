@@ -151,7 +151,8 @@ impl<P: TryClone> TryClone for AlgorithmIdentifier<P> {
 }
 
 impl<P: TryClone> AlgorithmIdentifier<P> {
-    /// The same identifier with a copy of the parameters, or `OutOfMemory`.
+    /// The same identifier with a copy of the parameters. The only error is `OutOfMemory`, and never of parameters
+    /// that are always copied.
     pub fn try_clone(&self, alloc: Global) -> Result<AlgorithmIdentifier<P>>
         ensures ok { IfOk result (λ copy. algorithm_with P.value copy ≡ algorithm_with P.value self.now) }
         ensures err { IfErr result (λ e. e.kind ≡ ErrorKind.OutOfMemory) }
@@ -169,7 +170,7 @@ impl<P: TryClone> AlgorithmIdentifier<P> {
 }
 
 impl<P> AlgorithmIdentifier<P> {
-    /// Returns the identifier if it is the expected one, else `OidUnknown`.
+    /// Returns the identifier. `OidUnknown` exactly if it isn't the expected one.
     pub fn assert_algorithm_oid(&self, expected: ObjectIdentifier) -> Result<ObjectIdentifier>
         ensures ok { IfOk result (λ oid. (oid ≡ self.now.oid) × (own_octets_of self.now.oid ≡ own_octets_of expected)) }
         ensures err { IfErr result (λ e. (e.kind ≡ ErrorKind.OidUnknown)
@@ -184,7 +185,7 @@ impl<P> AlgorithmIdentifier<P> {
 }
 
 impl<'a, P> AlgorithmView<'a, P> {
-    /// Copies the octets of the identifier.
+    /// The same identifier, as a copy of its octets, and the same parameters.
     #[inline(always)]
     pub fn to_algorithm_identifier(self) -> AlgorithmIdentifier<P>
         ensures oid { own_octets_of result.oid ≡ identifier_octets self.entry.oid }
@@ -196,7 +197,7 @@ impl<'a, P> AlgorithmView<'a, P> {
 
 /// What holds the object identifiers of algorithms that are read: `IdentifierView`, or `ObjectIdentifier` as a copy.
 pub trait ReadIdentifier<'a>: IdentifierValue + Drop {
-    /// The algorithm of a view.
+    /// The algorithm of a view: the same identifier, kept, and the same parameters.
     fn algorithm_from_view<P>(algorithm: AlgorithmView<'a, P>) -> AlgorithmIdentifierOf<Self, P>
         ensures oid { Self.octets result.oid ≡ identifier_octets algorithm.entry.oid }
         ensures parameters { result.parameters ≡ algorithm.entry.parameters };
@@ -267,7 +268,7 @@ impl<O: IdentifierValue, P: AnyValue> AlgorithmIdentifierOf<O, P> {
         }
     }
 
-    /// The parameters, borrowed, or `ParametersMissing` if there are none.
+    /// The parameters, borrowed. `ParametersMissing` exactly if there are none.
     pub fn parameters_any(&self) -> Result<AnyRef<'_>>
         ensures ok { IfOk result (λ any. option_map P.any self.now.parameters ≡ Some (any_of any)) }
         ensures err { IfErr result (λ e. (e.kind ≡ ErrorKind.ParametersMissing)

@@ -27,7 +27,7 @@ pub struct AnyRef<'a> {
 impl<'a> AnyRef<'a> {
     ghost use Rattle.spki_core.specs.Words.{any_of, same_any};
 
-    /// `Overflow` if the contents are longer than `Length::MAX`.
+    /// This tag with these contents. `Overflow` exactly if they are longer than `Length::MAX`.
     pub fn new(tag: Tag, contents: &'a [u8]) -> Result<AnyRef<'a>>
         ensures ok { IfOk result (λ any. any_of any ≡ record { tag = tag.octet; contents = contents.now }) }
         ensures err { IfErr result (λ e. (e.kind ≡ ErrorKind.Overflow) × (limit < length contents.now)) }
@@ -58,7 +58,7 @@ impl<'a> AnyRef<'a> {
         self.tag.tag()
     }
 
-    /// The contents octets.
+    /// The contents octets. They are at most `Length::MAX`.
     pub fn value(&self) -> &'a [u8]
         ensures contents { result.now ≡ (any_of self.now).contents }
         ensures bound { length result.now ≤ limit }
@@ -66,7 +66,9 @@ impl<'a> AnyRef<'a> {
         self.contents
     }
 
-    /// Decodes the contents octets, all of them, as those of a `T`. `TagUnexpected` if the tag isn't the type's.
+    /// Decodes all of the contents octets as those of a `T`. Ok only if the tag is the type's and they are those of a
+    /// value: then this value. Err: `TagUnexpected` of another tag, else the first fault of the contents, or
+    /// `OutOfMemory` where the type may allocate. Any other kind than `OutOfMemory` means that there is no value.
     pub fn decode_as<T: DecodeValue<&'a [u8], M> + FixedTag, M: Memory>(
         self,
         memory: M,
@@ -143,6 +145,7 @@ impl Encoding for AnyRef<'_> {
 
     ghost starts = { starts_with_any standard.any };
 
+    /// True, as any tag may stand in front.
     fn may_start_with(_tag: Tag) -> bool
         ensures { result ≡ true }
     {

@@ -54,6 +54,7 @@ impl<'b, T: Encoding> Encoding for ContextSpecificRef<'b, T> {
 
     ghost starts = { starts_with_any (written_numbered T.printed) };
 
+    /// True, as fields of any number may be meant.
     fn may_start_with(_tag: Tag) -> bool
         ensures { result ≡ true }
     {

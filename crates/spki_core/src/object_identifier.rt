@@ -106,12 +106,12 @@ pub trait AssociatedOid {
     /// proof compares them.
     const OID: &'static [u8];
 
-    /// `OID`, for contracts.
+    /// `OID`, the contents octets of the identifier, for contracts.
     fn octets() -> &'static [u8]
         ensures { result.now ≡ contents };
 
-    /// `OID` with zeros behind it. A constant in its place saves copying a number of octets that is known only at run
-    /// time.
+    /// `OID` with zeros behind it, up to 39 octets. A constant in its place saves copying a number of octets that is
+    /// known only at run time.
     fn padded() -> [u8; 39]
         ensures octets { take (length contents) result ≡ contents }
         ensures zeros { drop (length contents) result ≡ replicate (39 - length contents) 0 }
@@ -145,7 +145,7 @@ impl ObjectIdentifier {
         }
     }
 
-    /// The identifier with these contents octets, or `OidMalformed`.
+    /// The identifier with these contents octets. `OidMalformed` exactly if they are those of none.
     pub fn from_bytes(bytes: &[u8]) -> Result<ObjectIdentifier>
         ensures ok { IfOk result (λ oid. IsIdentifier bytes.now × (own_octets_of oid ≡ bytes.now)) }
         ensures err { IfErr result (λ e. (e.kind ≡ ErrorKind.OidMalformed) × (IsIdentifier bytes.now → ⊥)) }
@@ -154,7 +154,7 @@ impl ObjectIdentifier {
         Ok(IdentifierView::from_bytes(bytes)?.to_object_identifier())
     }
 
-    /// The contents octets, at least one.
+    /// The contents octets, which are valid: at least one, at most 39.
     pub fn as_bytes(&self) -> &[u8]
         ensures octets { result.now ≡ own_octets_of self.now }
         ensures valid { IsIdentifier (own_octets_of self.now) }
@@ -181,6 +181,7 @@ impl PartialEq for ObjectIdentifier {
 
     ghost laws = { Prim.search (comparing, rules) };
 
+    /// True exactly if the octets are equal.
     fn eq(&self, other: &ObjectIdentifier) -> bool {
         self.as_bytes() == other.as_bytes()
     }
@@ -197,6 +198,7 @@ impl Hash for ObjectIdentifier {
 
     ghost respects_eq = { Prim.search (hashing, rules) };
 
+    /// Hashes the octets, as those of a slice are hashed.
     fn hash<H: Hasher>(&self, state: &mut H) {
         self.as_bytes().hash(state);
     }

@@ -26,8 +26,8 @@ pub struct Any {
 impl Any {
     ghost use Rattle.spki_core.specs.Words.{own_any_of, any_of};
 
-    /// Copies the contents. `Overflow` if they are longer than `Length::MAX`, else `OutOfMemory` if there is no memory
-    /// for them.
+    /// A copy of these contents, with this tag. `Overflow` exactly if they are longer than `Length::MAX`, else
+    /// `OutOfMemory` if there is no memory for them.
     pub fn new(alloc: Global, tag: Tag, contents: &[u8]) -> Result<Any>
         ensures ok { IfOk result (λ any. own_any_of any ≡ record { tag = tag.octet; contents = contents.now }) }
         ensures err { let many : Type 0 = limit < length contents.now in
@@ -40,7 +40,7 @@ impl Any {
         Any::copy_of(alloc, tag, contents)
     }
 
-    /// The same encoding, or `OutOfMemory`.
+    /// A copy of the tag and contents. The only error is `OutOfMemory`.
     pub fn try_clone(&self, alloc: Global) -> Result<Any>
         ensures ok { IfOk result (λ copy. own_any_of copy ≡ own_any_of self.now) }
         ensures err { IfErr result (λ e. e.kind ≡ ErrorKind.OutOfMemory) }
@@ -92,6 +92,7 @@ impl Encoding for Any {
 
     ghost starts = { starts_with_any standard.any };
 
+    /// True, as any tag may stand in front.
     fn may_start_with(_tag: Tag) -> bool
         ensures { result ≡ true }
     {
