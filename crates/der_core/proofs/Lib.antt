@@ -1,3 +1,4 @@
+-- Lemmas for the answers in the folders here, by what they are about, and worked rows. Laws are in specs/.
 pub mod Integers
 pub mod Documents
 pub mod EncodeToSlice

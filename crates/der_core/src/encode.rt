@@ -110,9 +110,9 @@ pub trait Encode: Encoding {
         Ok(length)
     }
 
-    /// Writes the shortest encoding of the value to the front of a slice. Ok: that part, and the bytes behind it are
-    /// as they were. Err: all of the slice is as it was, and the error says exactly why. A caller that needs in a
-    /// proof what the slice holds calls `encode_into`.
+    /// Writes the shortest encoding of the value to the front of a slice. Ok: that part, which is no longer than the
+    /// slice. The bytes behind it are as they were. Err: all of the slice is as it was, and the error says exactly
+    /// why. A caller that needs in a proof what the slice holds calls `encode_into`.
     final fn encode_to_slice<'b>(&self, out: &'b mut [u8]) -> Result<&'b [u8]>
     where
         Self: Sized,

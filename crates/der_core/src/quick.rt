@@ -1,4 +1,5 @@
-//! Quick reading: of what is met most, from slices, without kinds of errors. `None` says nothing of the bytes.
+//! Quick reading, which is tried before a slice is read part by part: of what is met most, without kinds of errors.
+//! `None` says nothing of the bytes.
 ghost use Rattle.std.specs.Prelude.{◌≡◌, ◌≤◌, length, Ok, IfSome};
 ghost use Rattle.der_core.specs.Words.{alone, is_next, limit, octets_of_all, tagged};
 

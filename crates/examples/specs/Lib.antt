@@ -1,3 +1,4 @@
+-- What the examples promise: grammars of their types, a hash, a store of keys.
 pub mod Keys
 pub mod Signatures
 pub mod Signature

@@ -1,3 +1,4 @@
+-- The definitions and laws that contracts and ghost members name. `Words` gathers them.
 pub mod Identifiers
 pub mod Explicit
 pub mod Allocating

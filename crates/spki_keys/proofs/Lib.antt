@@ -1,1 +1,2 @@
+-- Lemmas for the answers in the folders here.
 pub mod KeyInfos

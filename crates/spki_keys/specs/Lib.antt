@@ -1,1 +1,2 @@
+-- The grammar that the contracts cite.
 pub mod KeyInfo

@@ -1,3 +1,4 @@
+-- `read_unused_bits` gives the first fault: `Length` of no contents, `Value` of another octet than 0.
 use Rattle.std.proofs.Common.{ℕ, List, [], ◌∷◌, ◌≡◌, ◌≢◌, ◌==◌, ◌∙◌, false, length, nat_lt, slice_index_or, refl, sym, ap, arith, ⊎_elim, Ok, Err, Some, None}
 use Rattle.der_core.specs.declared.error.ErrorKind.TheVariants.{Length, Value}
 use Rattle.der_core.specs.Words.{ErrorKind, HoldsBytes, Input, Tag, bit_string_tag, cond_cases, front_of, nat_tests, no_unused_bits, ok_pair, read_from, same_tag}

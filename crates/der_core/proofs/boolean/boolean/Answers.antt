@@ -1,3 +1,4 @@
+-- `boolean` gives the first fault: `Length` of another number of octets than one, `Value` of another octet.
 use Rattle.std.proofs.Common.{ℕ, List, [], ◌∷◌, ◌≡◌, ◌≢◌, ◌==◌, false, length, slice_index_or, refl, sym, ap, ◌∙◌, arith, Err}
 use Rattle.der_core.specs.declared.error.ErrorKind.TheVariants.{Length, Value}
 use Rattle.der_core.specs.Words.{ErrorKind, Tag, boolean_of, boolean_tag, nat_tests, same_tag}

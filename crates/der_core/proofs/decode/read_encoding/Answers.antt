@@ -1,3 +1,4 @@
+-- `read_encoding` gives the first fault, where the tag is another one, and where the contents have it.
 use Rattle.std.proofs.Common.{◌≡◌, ap, ◌∙◌}
 use Rattle.der_core.specs.declared.error.ErrorKind.TheVariants.{TagUnexpected}
 use Rattle.der_core.proofs.ReadSteps.{unequal_test_true, unequal_test_false, tag_fails, value_fails}

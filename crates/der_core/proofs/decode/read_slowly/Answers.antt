@@ -1,10 +1,10 @@
+-- `read_slowly`, at the `?` behind `reader.finish()`: an encoding was read, and bytes are left behind it. So the whole
+-- slice has the fault that `finish` returns.
 use Rattle.std.proofs.Common.{inr}
 use Rattle.der_core.specs.Words.{err_from_is_err_and, left_of-bounded, tagged}
 use Rattle.der_core.proofs.ReadSteps.{whole_trailing}
 use Rattle.der_core.proofs.decode.read_slowly.Goals as goal
 
--- At the `?` behind `reader.finish()`: an encoding was read, and bytes are left behind it. So the whole slice has the
--- fault that `finish` returns.
 pub returns-in_err-finish : goal.returns-in_err-finish
 returns-in_err-finish g c =
     let p = err_from_is_err_and c.from_residual-in_err-finish.result c.from_residual-in_err-finish.ensures.1 in

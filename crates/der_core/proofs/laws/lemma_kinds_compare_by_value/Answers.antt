@@ -1,8 +1,8 @@
+-- `==` of kinds is true of a kind and itself, and of no two others: so it decides whether they are equal.
 use Rattle.std.proofs.Common.{ap}
 use Rattle.der_core.proofs.ErrorEquality.{equality_decides, kind_equals_itself, kind_tells}
 use Rattle.der_core.proofs.laws.lemma_kinds_compare_by_value.Goals as goal
 
--- An `==` that is true of a value and itself, and of no two others, decides whether they are equal.
 pub returns-clause-kind : goal.returns-clause-kind
 returns-clause-kind c = equality_decides _ kind_equals_itself kind_tells
 

@@ -1,3 +1,4 @@
+-- Both clauses are laws of an OPTIONAL last part.
 use Rattle.der_core.specs.Words.{last_by_tag_law, last_law, tagged_law, tagged_some}
 use Rattle.der_core.proofs.laws.lemma_optional_parts_are_read.Goals as goal
 

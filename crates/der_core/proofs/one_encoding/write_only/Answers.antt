@@ -1,8 +1,8 @@
+-- `write_only` says what `encode_into` does of the slice, and of its error, in the words of the statement.
 use Rattle.std.proofs.Common.{length}
 use Rattle.der_core.proofs.Writing.{encode_into_encodes, encode_into_unwritten}
 use Rattle.der_core.proofs.one_encoding.write_only.Goals as goal
 
--- What `encode_into` says of the slice, as the statement says it.
 pub returns-clause-written : goal.returns-clause-written
 returns-clause-written g c =
     let t = g.T.Encoding in
@@ -11,7 +11,6 @@ returns-clause-written g c =
     made.shortest
     made.err made.unchanged c.encode_into.auto.out
 
--- What it says of its error, in the same way.
 pub returns-clause-err : goal.returns-clause-err
 returns-clause-err g c =
     let t = g.T.Encoding in

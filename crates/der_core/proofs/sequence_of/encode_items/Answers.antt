@@ -1,3 +1,4 @@
+-- `encode_items` appends the encodings of the items, one behind the other, and stops in the first that fails.
 use Rattle.std.proofs.Common.{arith, rules, refl, ap, sym, ◌∙◌, subst, length-append, ◌≡◌, ◌+◌, ◌≤◌, ◌<◌, ◌++◌, length, get_or, take, drop, List, ℕ}
 use Rattle.der_core.specs.Words.{err_from_is_err_and, AllHave, all_encodings, limit}
 use Rattle.der_core.proofs.Items.{encodings_more, encodings_around, AllHave-at}

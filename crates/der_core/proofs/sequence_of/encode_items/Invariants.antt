@@ -1,8 +1,8 @@
+-- In the loop of `encode_items`, the encodings of the items so far were written, and took their room.
 use Rattle.std.proofs.Common.{length, take}
 use Rattle.der_core.specs.Words.{Receives, TakesRoom, all_encodings}
 use Rattle.der_core.proofs.sequence_of.encode_items.Given as goal
 
--- The encodings of the items so far were written, and took their room.
 abbrev pub invariant-loop-item : goal.invariant-loop-item
 invariant-loop-item g l = record {
   written : Receives

@@ -1,11 +1,11 @@
+-- In the loop of `items_len`, `joined_len` adds the length of one item more to `total`, or returns why one of them
+-- isn't counted. So an error `Value` has a tag that T gives.
 use Rattle.std.proofs.Common.{subst}
 use Rattle.der_core.specs.Words.{Counts}
 use Rattle.der_core.proofs.Items.{counts_more}
 use Rattle.der_core.proofs.Writing.{joined_refused}
 use Rattle.der_core.proofs.sequence_of.items_len.Goals as goal
 
--- `joined_len` adds the length of one item more to `total`, or returns why one of them isn't counted. So an error
--- `Value` has a tag that T gives.
 pub loop-item-preserved : goal.loop-item-preserved
 loop-item-preserved g c =
     let valid = λ (x : g.row.T.Denot). g.T.Encoding.valid (g.T.Encoding.written (g.T.Encoding.value x)) in

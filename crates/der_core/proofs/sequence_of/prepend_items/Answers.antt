@@ -1,3 +1,4 @@
+-- `prepend_items` may write each item: its encoding is within the limit, and there is room for it.
 use Rattle.std.proofs.Common.{arith, ap, ◌≡◌, ◌+◌, ◌-◌, ◌≤◌, ◌<◌, length, get_or, drop, List, ℕ}
 use Rattle.der_core.specs.Words.{all_encodings}
 use Rattle.der_core.proofs.Items.{encodings_behind_len}

@@ -1,8 +1,8 @@
+-- In the loop of `prepend_items`, the encodings of the items from `left` on were written.
 use Rattle.std.proofs.Common.{◌≤◌, drop, length}
 use Rattle.der_core.specs.Words.{Prepends, all_encodings}
 use Rattle.der_core.proofs.sequence_of.prepend_items.Given as goal
 
--- The encodings of the items from `left` on were written.
 abbrev pub invariant-loop-left : goal.invariant-loop-left
 invariant-loop-left g l =
     (l.left ≤ length l.items) × Prepends

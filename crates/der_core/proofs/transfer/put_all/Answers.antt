@@ -1,10 +1,10 @@
+-- `put_all`, at the arm `Ok(count)`: the sink took the first `count` bytes behind `done`, and no call failed.
 use Rattle.std.proofs.Common.{arith, length-drop, length-take}
 use Rattle.std.proofs.Math.Seq.{take-add}
 use Rattle.std.proofs.lemmas.List.{take_rest}
 use Rattle.std.proofs.KnownBytes.{Appends-trans}
 use Rattle.der_core.proofs.transfer.put_all.Goals as goal
 
--- At the arm `Ok(count)`: the sink took the first `count` bytes behind `done`, and no call failed.
 pub loop-done-preserved : goal.loop-done-preserved
 loop-done-preserved g c =
     let before = c.loop-done.invariant in

@@ -1,8 +1,8 @@
+-- In the loop of `put_all`, the first `done` of the bytes were taken, and no call failed.
 use Rattle.std.proofs.Common.{◌≡◌, ◌≤◌, ◌-◌, length, take}
 use Rattle.std.specs.Io.KnownBytes.{Appends}
 use Rattle.der_core.proofs.transfer.put_all.Given as goal
 
--- so many of the bytes were taken
 abbrev pub invariant-loop-done : goal.invariant-loop-done
 invariant-loop-done g l = record {
   within : l.done ≤ length l.bytes;

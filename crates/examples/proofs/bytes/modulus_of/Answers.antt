@@ -1,3 +1,4 @@
+-- `modulus_of` gives the modulus of the only key that the slice encodes.
 use Rattle.std.proofs.Common.{rules}
 use Rattle.der_core.specs.Words.{number_octets}
 use Rattle.examples.proofs.bytes.modulus_of.Goals as goal

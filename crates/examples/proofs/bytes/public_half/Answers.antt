@@ -1,3 +1,4 @@
+-- `public_half` gives the shortest encoding of the half of the key that it read, or why there is none.
 use Rattle.std.proofs.Common.{ℕ, List, ◌≡◌, ◌⊎◌, inr, subst, Result, Ok, Err, Some, IfOk, IfErr}
 use Rattle.der_core.specs.Words.{encoding_of, bytes_of}
 use Rattle.der_core.specs.declared.document.DocumentOf.{DocumentOf}

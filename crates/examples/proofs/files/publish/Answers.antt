@@ -1,3 +1,4 @@
+-- `publish` writes the public half of the key that it read.
 use Rattle.std.proofs.Common.{List, OnOk, Result, Ok, Err, ℕ, ◌≡◌, subst}
 use Rattle.der_core.specs.Words.{IsDocument, bytes_of, own_bytes_of}
 use Rattle.pkcs1.specs.Words.{held_private_key, held_public_key}

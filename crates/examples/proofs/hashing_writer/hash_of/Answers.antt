@@ -1,9 +1,9 @@
+-- `hash_of` gives the hash of the shortest encoding, which is what `encode` has appended to a new writer, to which
+-- nothing was written. `t` is what the trait `Encoding` says of the type of the value, `v` is the value.
 use Rattle.std.proofs.Common.{[]}
 use Rattle.der_core.specs.Words.{written_is_shortest}
 use Rattle.examples.proofs.hashing_writer.hash_of.Goals as goal
 
--- `t` is what the trait `Encoding` says of the type of the value, `v` is the value. The encoding is what `encode` has
--- appended to a new writer, to which nothing was written.
 pub returns-clause-ok : goal.returns-clause-ok
 returns-clause-ok g c =
     let t = g.T.Encoding in

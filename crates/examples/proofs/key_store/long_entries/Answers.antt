@@ -1,3 +1,4 @@
+-- `long_entries` keeps the entries of long keys, in order, and refuses what is no store.
 use Rattle.std.proofs.Common.{◌≡◌, ◌++◌, ◌-◌, ◌∙◌, inr, length, refl, rules, subst, sym, take}
 use Rattle.pkcs1.specs.Words.{held_view}
 use Rattle.examples.proofs.KeyStore.{Walked, none_left, refused, some_left, walk_ends, walked_long, walked_short}

@@ -1,3 +1,4 @@
+-- In the loop of `primes_of`, no prime is lost.
 use Rattle.std.proofs.Common.{◌≡◌, ◌++◌, ℕ, map}
 use Rattle.der_core.specs.Words.{bytes_of}
 use Rattle.pkcs1.specs.Words.{held_other_primes, held_view, number_in, listed_others}

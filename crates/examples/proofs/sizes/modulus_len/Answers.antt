@@ -1,3 +1,4 @@
+-- `modulus_len` gives the length of the modulus of the only key that the container has.
 use Rattle.std.proofs.Common.{rules}
 use Rattle.der_core.specs.Words.{number_octets}
 use Rattle.examples.proofs.sizes.modulus_len.Goals as goal

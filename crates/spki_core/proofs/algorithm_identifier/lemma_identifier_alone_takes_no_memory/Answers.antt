@@ -1,11 +1,11 @@
+-- An encoding `b` in front that asks for memory holds an identifier `o` and octets `last` of parameters, at least one.
+-- The whole encoding holds the identifier `oid` alone, so `b` is all of it, and `last` is empty. `held.4` is that an
+-- identifier has at most 39 octets.
 use Rattle.std.proofs.Common.{◌≡◌, [], ◌++◌, ◌≤◌, length, refl, sym, subst, ap, ◌∙◌, arith, append-nil}
 use Rattle.der_core.specs.Words.{IsExactly, tlv_split, tlv_made, prints_one, tagged_law, tlv_short, object_identifier_tag, Tlv, tlv}
 use Rattle.spki_core.specs.Words.{oid_law}
 use Rattle.spki_core.proofs.algorithm_identifier.lemma_identifier_alone_takes_no_memory.Goals as goal
 
--- An encoding `b` in front that asks for memory holds an identifier `o` and octets `last` of parameters, at least one.
--- The whole encoding holds the identifier `oid` alone, so `b` is all of it, and `last` is empty. `held.4` is that an
--- identifier has at most 39 octets.
 pub returns : goal.returns
 returns g c oid encoding held same (b, rest, is, asks) =
     let few : length (tlv 6 oid) ≤ 167 = tlv_short 6 39 oid held.4 (omega arith) in

@@ -1,8 +1,8 @@
+-- `Tag::context` of the number has the octet of the field's tag, so what `read_inside` reads inside it is the field.
 use Rattle.der_core.specs.Words.{AllocatesAtFront}
 use Rattle.spki_core.proofs.Readings.{reads_at_tag}
 use Rattle.spki_core.proofs.context_specific.read_explicit.Goals as goal
 
--- `Tag::context` of the number has the octet of the field's tag, so what `read_inside` reads inside it is the field.
 pub returns : goal.returns
 returns g c =
     reads_at_tag g.T.Encoding.value g.T.Encoding.read_front (AllocatesAtFront g.T.Decode.may_allocate)

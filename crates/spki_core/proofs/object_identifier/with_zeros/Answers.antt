@@ -1,10 +1,11 @@
+-- `with_zeros` leaves zeros: `copy_from_slice` puts the octets over as many of the 39 zeros, so the others are left
+-- behind them.
 use Rattle.std.proofs.Common.{List, ℕ, length, drop, ◌++◌, ap, ◌∙◌}
 use Rattle.std.proofs.Math.ListN.{replicate}
 use Rattle.std.proofs.Math.Seq.{drop-append_seam}
 use Rattle.std.proofs.lemmas.List.{drop-replicate}
 use Rattle.spki_core.proofs.object_identifier.with_zeros.Goals as goal
 
--- `copy_from_slice` puts the octets over as many of the 39 zeros, so the others are left behind them.
 pub returns-clause-zeros : goal.returns-clause-zeros
 returns-clause-zeros c =
     let octets = c.args.octets.now in

@@ -1,3 +1,4 @@
+-- `first_written` finds no field where no contents are left, and calls itself with what it may.
 use Rattle.std.proofs.Common.{arith, rules, ◌≡◌, length, sym}
 use Rattle.der_core.specs.Words.{nat_tests, are_bytes, behind_within}
 use Rattle.std.proofs.lemmas.List.{nil_from_length}

@@ -1,3 +1,4 @@
+-- `from_der` copies a document, and its error says that the bytes are none or that memory ran out for one.
 use Rattle.std.proofs.Common.{sym, subst, inl, inr}
 use Rattle.der_core.specs.Words.{err_from_is_err_and, IsDocument}
 use Rattle.der_core.proofs.Documents.{means_document, no_document}

@@ -1,3 +1,4 @@
+-- `read_from` makes a document of all that came, or gives the first fault of that.
 use Rattle.std.proofs.Common.{subst, inr}
 use Rattle.der_core.specs.Words.{err_from_is_err_and, IsDocument}
 use Rattle.der_core.proofs.Documents.{means_document, no_document, none_given}

@@ -1,9 +1,9 @@
+-- `encoded_len` of each `T: EncodeValue + FixedTag`. `encoding_len` counts the octets of the shortest encoding: why
+-- they aren't counted is why the value's length isn't.
 use Rattle.der_core.specs.Words.{tagged_shortest}
 use Rattle.der_core.proofs.Writing.{value_uncounted}
 use Rattle.der_core.proofs.encode.AnyEncode.encoded_len.Goals as goal
 
--- `encoded_len` of each `T: EncodeValue + FixedTag`. `encoding_len` counts the octets of the shortest encoding: why
--- they aren't counted is why the value's length isn't.
 pub returns-clause-err : goal.returns-clause-err
 returns-clause-err g c =
     let t = g.T.Contents in

@@ -1,7 +1,7 @@
+-- `encode_value` of the trait, at its end: `value_len` returned `Ok`, so the value is valid, and `append_value`
+-- doesn't return `Value`.
 use Rattle.der_core.proofs.Writing.{not_refused}
 use Rattle.der_core.proofs.encode.EncodeValue.encode_value.Goals as goal
 
--- At the end of this method of the trait: `value_len` returned `Ok`, so the value is valid, and `append_value` doesn't
--- return `Value`.
 pub returns-clause-tag : goal.returns-clause-tag
 returns-clause-tag g c = not_refused _ _ c.in_ok-value_len.ensures.counts.0 c.append_value.ensures.appends

@@ -1,8 +1,9 @@
+-- In the loop of `strip`, `rest` is `bytes` without some zeros in front: the same number, empty only if `bytes` is,
+-- and no longer.
 use Rattle.std.proofs.Common.{◌≡◌, ◌≤◌, length}
 use Rattle.der_core.specs.Words.{number_from_digits}
 use Rattle.der_core.proofs.integer.uint.strip.Given as goal
 
--- `rest` is `bytes` without some zeros in front: the same number, empty only if `bytes` is, and no longer.
 abbrev pub invariant-loop-rest : goal.invariant-loop-rest
 invariant-loop-rest l = record {
   number : number_from_digits 256 l.rest ≡ number_from_digits 256 l.bytes;

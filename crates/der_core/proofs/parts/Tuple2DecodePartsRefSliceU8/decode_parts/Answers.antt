@@ -1,9 +1,9 @@
+-- `decode_parts` of `(A, B)`, at the `?` behind `B::decode_parts`. The first part was read, so the error that follows
+-- it is that of the contents.
 use Rattle.der_core.specs.Words.{err_from_is_err_and, front_reading_reads}
 use Rattle.der_core.proofs.ReadSteps.{parts_fail}
 use Rattle.der_core.proofs.parts.Tuple2DecodePartsRefSliceU8.decode_parts.Goals as goal
 
--- `decode_parts` of `(A, B)`, at the `?` behind `B::decode_parts`. The first part was read, so the error that follows
--- it is that of the contents.
 pub returns-in_err-rest : goal.returns-in_err-rest
 returns-in_err-rest g c =
     let p = err_from_is_err_and c.from_residual-in_err-rest.result c.from_residual-in_err-rest.ensures.1 in

@@ -1,8 +1,9 @@
+-- In the loop of `quick_value`, `read` was read, and `rest` is left. The encodings of the items so far, joined, are
+-- `read`.
 use Rattle.std.proofs.Common.{◌≡◌, ℕ, List, ◌++◌, Some, length, map}
 use Rattle.der_core.specs.Words.{JoinsParts, Prints}
 use Rattle.der_core.proofs.sequence_of.VecDecodeValueRefSliceU8Global.quick_value.Given as goal
 
--- `read` was read, and `rest` is left. The encodings of the items so far, joined, are `read`.
 abbrev pub invariant-loop-left : goal.invariant-loop-left
 invariant-loop-left g l =
     (read : List ℕ) × (rest : List ℕ) × (Some l.fn.contents ≡ Some (read ++ rest)) × (Some l.left ≡ Some rest)

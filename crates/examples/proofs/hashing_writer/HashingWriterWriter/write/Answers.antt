@@ -1,3 +1,4 @@
+-- `write` of `HashingWriter` leaves the hash of all octets that were written so far.
 use Rattle.std.proofs.Common.{ℕ, List, [], ◌∷◌, ◌++◌, ◌≡◌, ◌∙◌, ap, sym, refl}
 use Rattle.std.proofs.lemmas.List.{at_drop_all, at_drop_more}
 use Rattle.examples.specs.Fnv.{fnv_after}

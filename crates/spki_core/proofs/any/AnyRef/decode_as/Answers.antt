@@ -1,3 +1,4 @@
+-- `decode_as` gives the value whose contents and tag are held, and `TagUnexpected` of another tag.
 use Rattle.std.proofs.Common.{Err, arith, rules, ap, false, inr, sym, ◌==◌, ◌≡◌, ◌∙◌}
 use Rattle.der_core.proofs.Readings.{unexpected_tag_read}
 use Rattle.der_core.specs.declared.error.ErrorKind.TheVariants.{TagUnexpected}

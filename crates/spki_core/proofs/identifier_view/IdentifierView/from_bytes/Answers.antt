@@ -1,3 +1,4 @@
+-- `from_bytes` gives a view exactly of the octets that are an identifier.
 use Rattle.std.proofs.Common.{◌≡◌, ap, true, rules}
 use Rattle.der_core.specs.Words.{are_bytes}
 use Rattle.spki_core.specs.Words.{is_identifier, is_identifier-sound, is_identifier-complete}

@@ -1,10 +1,10 @@
+-- `value_len` of `IdentifierView`: the octets that a view holds are those of an identifier (`held`). By `held.4` they
+-- are at most 39, so they are within the limit.
 use Rattle.std.proofs.Common.{◌≡◌, ◌≤◌, ◌∙◌, length, arith}
 use Rattle.der_core.specs.Words.{limit}
 use Rattle.spki_core.specs.Words.{identifier_octets, viewed_held}
 use Rattle.spki_core.proofs.identifier_view.IdentifierViewEncodeValue.value_len.Goals as goal
 
--- `EncodeValue for IdentifierView`: the octets that a view holds are those of an identifier (`held`). By `held.4` they
--- are at most 39, so they are within the limit.
 pub returns-clause-counts : goal.returns-clause-counts
 returns-clause-counts c =
     let oid = c.args.self.now in
