@@ -12,15 +12,13 @@ use crate::reader::{Octets, Reader, reject_if_failed};
 use crate::slice_reader::SliceReader;
 use crate::tag::Tag;
 
-/// A type whose values are read from their contents octets. What its calls return is a function of these: `read` of
-/// the type, which gives the value, or the kind of the first fault. `OutOfMemory` may come in its place where the type
-/// may allocate.
+/// A type whose values are read from their contents octets. Of these the type's `read` gives the value, or the kind of
+/// the first fault. Calls return that, or `OutOfMemory` where the type may allocate.
 pub trait DecodeValue<B: Octets, M: Memory>: Contents + Sized + Drop {
     /// The contents whose reading may allocate.
     ghost may_allocate: { List ℕ → Type 0 };
 
-    /// Reads all that is left as the contents octets of a value. Exactly `header.length` bytes are left. Err: the
-    /// first fault, or `OutOfMemory`.
+    /// Reads all that is left as the contents octets of a value. Exactly `header.length` bytes are left.
     fn decode_value<R: Reader<B>>(memory: M, reader: &mut R, header: Header) -> Result<Self>
         requires { HoldsBytes (R.left reader.old) header.length }
         ensures { let before = R.left reader.old in
@@ -37,8 +35,7 @@ pub trait DecodeValue<B: Octets, M: Memory>: Contents + Sized + Drop {
         None
     }
 
-    /// The value that reading gives of these contents octets, which have to be at most `Length::MAX`. `None` says
-    /// nothing of them.
+    /// The value that reading gives of contents, which have to be within `Length::MAX`. `None` says nothing of them.
     #[inline(always)]
     fn quick_value(_memory: M, _contents: B) -> Option<Self>
         requires { length (B.octets _contents) ≤ limit }
@@ -51,9 +48,8 @@ pub trait DecodeValue<B: Octets, M: Memory>: Contents + Sized + Drop {
     ghost asks_memory: { (c : List ℕ) → Self.may_allocate c → M.gives };
 }
 
-/// A type whose values are read from their encodings. What its calls return is a function of the bytes: `read_front`
-/// of the type, which gives the value in front, or the kind of the first fault. `OutOfMemory` may come in its place
-/// where the type may allocate.
+/// A type whose values are read from their encodings. Of the bytes the type's `read_front` gives the value in front,
+/// or the kind of the first fault. Calls return that, or `OutOfMemory` where the type may allocate.
 pub trait Decode<B: Octets, M: Memory>: Encoding + Sized + Drop {
     /// The encodings whose reading may allocate.
     ghost may_allocate: { List ℕ → Type 0 };
@@ -73,8 +69,7 @@ pub trait Decode<B: Octets, M: Memory>: Encoding + Sized + Drop {
     }
 
     /// Reads a whole slice. Ok only if it encodes a value of the type, and no other: then this value. Err: the first
-    /// fault, or `OutOfMemory`. The fault is `Overflow` of a slice longer than `Length::MAX`, `TrailingData` if bytes
-    /// follow the encoding.
+    /// fault, `Overflow` if it is longer than `Length::MAX`, `TrailingData` if bytes follow, or `OutOfMemory`.
     fn from_der(memory: M, bytes: B) -> Result<Self>
         ensures encoding { let encodings = Prints Self.valid Self.printed Self.means in
             ReadsAll Self.value encodings may_allocate result (B.octets bytes) }

@@ -32,8 +32,7 @@ pub trait EncodeValue: Contents {
             Appends (Self.valid s) (Self.printed s) W.room W.written writer.old writer.new result }
         ensures kept { W.keeps writer.old writer.new };
 
-    /// Appends the contents. `Value` and `Overflow`, as of `value_len`, come before any octet, `NoRoom` after a
-    /// beginning of them.
+    /// Appends the contents: `Value` and `Overflow`, as of `value_len`, before any octet, `NoRoom` after a beginning.
     fn encode_value<W: Writer>(&self, writer: &mut W) -> Result<()>
         ensures appends { let s = Self.written (Self.value self.now) in
             Appends (Self.valid s) (Self.printed s) W.room W.written writer.old writer.new result }

@@ -25,13 +25,12 @@ pub trait FileSystem {
     /// Creating at this path gave this sink, to which nothing was written yet; `None`: it gave none.
     ghost creates: { List ℕ → Option Self.Created → Type 0 };
 
-    /// Opens the file at the path. Ok: by `opens`, the path stands for this source. Err: it is `File`, and the path
-    /// stands for nothing.
+    /// Opens the file at the path. Ok: what the path stands for, by `opens`. Err: `File`, and it stands for nothing.
     fn open(&self, path: Path<'_>) -> Result<Self::Opened>
         ensures { Obtains (opens (path_bytes path.entry)) result };
 
-    /// Creates the file at the path, or truncates an old one. Ok: by `creates`, the path stands for this sink. Err: it
-    /// is `File`, and the path stands for nothing.
+    /// Creates the file at the path, or truncates an old one. Ok: what the path stands for, by `creates`. Err: `File`,
+    /// and it stands for nothing.
     fn create(&self, path: Path<'_>) -> Result<Self::Created>
         ensures { Obtains (creates (path_bytes path.entry)) result };
 }

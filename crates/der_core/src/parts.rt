@@ -13,8 +13,8 @@ use crate::memory::Memory;
 use crate::reader::{Octets, Reader};
 use crate::writer::Writer;
 
-/// Contents that are read to the end of what is left. What calls return is a function of these: `read` of the type.
-/// `OutOfMemory` may come in its place where the type may allocate.
+/// Contents that are read to the end of what is left. Of these the type's `read` gives the value, or the kind of the
+/// first fault. Calls return that, or `OutOfMemory` where the type may allocate.
 pub trait DecodeParts<B: Octets, M: Memory>: Contents + Sized + Drop {
     /// The contents whose reading may allocate.
     ghost may_allocate: { List ℕ → Type 0 };

@@ -17,8 +17,7 @@ fn failed(faults: &mut u64) -> Error
     Error::new(ErrorKind::File)
 }
 
-/// A source over a std reader. Each error of the reader is counted, and returned as `File`. Std's files don't report
-/// the bytes that they give.
+/// A source over a std reader. Each error of it is counted, and returned as `File`. Std's files report no bytes.
 #[derive(Debug, Drop)]
 pub struct FromRead<R> {
     inner: R,
@@ -82,8 +81,7 @@ impl<R: Read> Source for FromRead<R> {
 }
 
 /// A sink over a std writer. Each error of the writer is counted, and returned as `File`; so is a write that takes
-/// none of one or more bytes. Std's files don't report the bytes that they take, and no clause says that a writer of
-/// std is flushed or closed.
+/// none of one or more bytes. Std's files report no bytes. That a writer of std is flushed or closed isn't said.
 #[derive(Debug, Drop)]
 pub struct ToWrite<W> {
     inner: W,

@@ -11,8 +11,7 @@ pub trait TryClone: Encoding + Sized + Drop {
     /// The values whose copying never returns `OutOfMemory`.
     ghost never_out_of_memory: { Self → Type 0 };
 
-    /// Returns a copy that means the same value. The only error is `OutOfMemory`, and never of a value that
-    /// `never_out_of_memory` names.
+    /// A copy that means the same value, or `OutOfMemory`, which never comes of what `never_out_of_memory` names.
     fn try_clone(&self, alloc: Global) -> Result<Self>
         ensures ok { IfOk result (λ copy. Self.value copy ≡ Self.value self.now) }
         ensures err { IfErr result (λ e. e.kind ≡ ErrorKind.OutOfMemory) }

@@ -19,8 +19,7 @@ pub fn modulus_of(encoding: &[u8]) -> Result<&[u8]>
     Ok(key.modulus.as_bytes())
 }
 
-/// The encoding of the public half of a private key. Err: the slice encodes none, memory ran out, or the half has no
-/// encoding within the limit.
+/// The encoding of a private key's public half. Err: the slice is no key, memory ran out, or the half has no encoding.
 pub fn public_half(alloc: Global, encoding: &[u8]) -> Result<Document>
     ensures ok { IfOk result (λ document. (key : PrivateKey) × Decodes PrivateKeyEncoding encoding.now (Some key)
         × IsShortest PublicKeyEncoding (public_half_of key) (encoding_of document)) }

@@ -64,8 +64,7 @@ pub fn read_digest_info<'a>(bytes: &'a [u8]) -> Result<DigestInfoRef<'a>>
     read_borrowed(bytes)
 }
 
-/// Writes the only encoding to the front of a slice and returns its length. Err: the slice is as it was, and the error
-/// says exactly why.
+/// Writes the only encoding to the front of a slice and returns its length. Err: exactly why; the slice is as it was.
 pub fn write_digest_info<'a>(info: &DigestInfoRef<'a>, out: &mut [u8]) -> Result<usize>
     ensures written { let T = ⟦<DigestInfoRef<'a> as Encoding>⟧ in let v = T.value info.now in
         standard.Encodes (Spells T.valid T.printed T.means) v out.old out.new (ok_of (λ n. n) result) }

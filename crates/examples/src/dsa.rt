@@ -72,8 +72,7 @@ pub fn read_dsa_algorithm<'a>(bytes: &'a [u8]) -> Result<DsaAlgorithmRef<'a>>
     read_borrowed(bytes)
 }
 
-/// Writes the only encoding to the front of a slice and returns its length. Err: the slice is as it was, and the error
-/// says exactly why.
+/// Writes the only encoding to the front of a slice and returns its length. Err: exactly why; the slice is as it was.
 pub fn write_dsa_algorithm<'a>(algorithm: &DsaAlgorithmRef<'a>, out: &mut [u8]) -> Result<usize>
     ensures written { let T = ⟦<DsaAlgorithmRef<'a> as Encoding>⟧ in let v = T.value algorithm.now in
         standard.Encodes (Spells T.valid T.printed T.means) v out.old out.new (ok_of (λ n. n) result) }

@@ -177,8 +177,7 @@ pub fn read_extension<'a>(bytes: &'a [u8]) -> Result<ExtensionRef<'a>>
     read_borrowed(bytes)
 }
 
-/// Writes the only encoding to the front of a slice and returns its length. Err: the slice is as it was, and the error
-/// says exactly why.
+/// Writes the only encoding to the front of a slice and returns its length. Err: exactly why; the slice is as it was.
 pub fn write_extension<'a>(extension: &ExtensionRef<'a>, out: &mut [u8]) -> Result<usize>
     ensures written { let T = ⟦<ExtensionRef<'a> as Encoding>⟧ in let v = T.value extension.now in
         standard.Encodes (Spells T.valid T.printed T.means) v out.old out.new (ok_of (λ n. n) result) }

@@ -41,8 +41,7 @@ impl Writer for HashingWriter {
     ghost keeps_through = { λ u v w p q. tt };
 }
 
-/// The hash of a value's shortest encoding, which never stands in memory. Err: `Value` and `Overflow` exactly if they
-/// say so, as of `encoded_len`.
+/// The hash of a value's shortest encoding, which never stands in memory. Err: as of `encoded_len`.
 pub fn hash_of<T: Encode>(value: &T) -> Result<u32>
     ensures ok { let encodings = Spells T.valid T.printed T.means in
         IfOk result (λ hash. (encoding : List ℕ) × IsShortest encodings (T.value value.now) encoding

@@ -51,8 +51,7 @@ fn is_long(key: &RsaPrivateKeyView<'_>) -> bool
     key.modulus().bit_len() >= 2048
 }
 
-/// The store of the keys of at least 2048 bits of a store, in order. Err: `Format`, and the slice is no store, or
-/// `Memory`.
+/// The store of the keys of at least 2048 bits of a store, in order. Err: `Format` of what is no store, or `Memory`.
 pub fn long_entries(alloc: Global, store: &[u8]) -> Result<Vec<u8>, StoreError>
     ensures ok { IfOk result (λ kept. Copies store.now kept.items) }
     ensures err { IfErr result (λ e. (e ≡ StoreError.Memory)

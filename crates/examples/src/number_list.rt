@@ -63,8 +63,7 @@ pub fn read_number_list(memory: Global, bytes: &[u8]) -> Result<NumberListRef<'_
     read_owned(memory, bytes)
 }
 
-/// Writes the only encoding to the front of a slice and returns its length. Err: the slice is as it was, and the error
-/// says exactly why.
+/// Writes the only encoding to the front of a slice and returns its length. Err: exactly why; the slice is as it was.
 pub fn write_number_list(list: &NumberListRef<'_>, out: &mut [u8]) -> Result<usize>
     ensures written { Encodes NumberListEncoding (numbers_of list.now) out.old out.new (ok_of (λ n. n) result) }
     ensures err { let v = numbers_of list.now in

@@ -63,8 +63,7 @@ pub fn read_optional_salt(bytes: &[u8]) -> Result<OptionalSaltRef<'_>>
     read_borrowed(bytes)
 }
 
-/// Writes the only encoding to the front of a slice and returns its length. Err: the slice is as it was, and the error
-/// says exactly why.
+/// Writes the only encoding to the front of a slice and returns its length. Err: exactly why; the slice is as it was.
 pub fn write_optional_salt(it: &OptionalSaltRef<'_>, out: &mut [u8]) -> Result<usize>
     ensures written { Encodes SaltEncoding (salt_of it.now) out.old out.new (ok_of (λ n. n) result) }
     ensures err { let v = salt_of it.now in

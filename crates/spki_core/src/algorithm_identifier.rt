@@ -151,8 +151,7 @@ impl<P: TryClone> TryClone for AlgorithmIdentifier<P> {
 }
 
 impl<P: TryClone> AlgorithmIdentifier<P> {
-    /// The same identifier with a copy of the parameters. The only error is `OutOfMemory`, and never of parameters
-    /// that are always copied.
+    /// The same identifier with a copy of the parameters, or `OutOfMemory` where copying these may return it.
     pub fn try_clone(&self, alloc: Global) -> Result<AlgorithmIdentifier<P>>
         ensures ok { IfOk result (λ copy. algorithm_with P.value copy ≡ algorithm_with P.value self.now) }
         ensures err { IfErr result (λ e. e.kind ≡ ErrorKind.OutOfMemory) }

@@ -58,8 +58,7 @@ pub fn field_len<T: Encode>(tag_number: TagNumber, value: &T) -> Result<Length>
     ContextSpecificRef { tag_number, value }.encoded_len()
 }
 
-/// Appends a field. `Value` and `Overflow`, as of `field_len`, come before any octet, `NoRoom` after a beginning of
-/// them.
+/// Appends a field: `Value` and `Overflow`, as of `field_len`, before any octet, `NoRoom` after a beginning.
 pub fn encode_field<T: Encode, W: Writer>(
     tag_number: TagNumber,
     value: &T,

@@ -26,9 +26,8 @@ pub fn key_from_info(bytes: &[u8]) -> Result<RsaPublicKeyRef<'_>>
     Ok(key)
 }
 
-/// Writes the only SubjectPublicKeyInfo of an RSA key to the front of a slice. Ok(n): the first n bytes are it, and
-/// those behind them are as they were. Err: the slice is as it was. It is too short, or there is none within
-/// `Length::MAX`.
+/// Writes the only SubjectPublicKeyInfo of an RSA key to the front of a slice and returns its length. Err: the slice
+/// is as it was. It is too short, or there is none within `Length::MAX`.
 pub fn key_to_info(key: &RsaPublicKeyRef<'_>, out: &mut [u8]) -> Result<usize>
     ensures written { let v = held_public_key bytes_of key.now in
         Encodes RsaKeyInfoEncoding v out.old out.new (ok_of (λ n. n) result) }

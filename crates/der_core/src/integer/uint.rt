@@ -133,8 +133,7 @@ impl<'a> UintRef<'a> {
         self.bytes
     }
 
-    /// The bit length of the number, as 2048 of the modulus of an RSA-2048 key. It is the least n with the number
-    /// below 2^n, so 0 of 0.
+    /// The bit length of the number, as 2048 of the modulus of an RSA-2048 key: the least n with it below 2^n, 0 of 0.
     #[tactic(auto, using(crate::proofs::Integers::number_bit_length))]
     pub fn bit_len(&self) -> u64
         ensures { IsBitLength (number_from_digits 256 (bytes_of self.now)) result }

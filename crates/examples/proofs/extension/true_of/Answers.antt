@@ -1,5 +1,4 @@
--- `true_of`, at its `Err`: the contents aren't the octet ff alone, so reading gives `Value` with the tag of a BOOLEAN,
--- which is the tag of the error.
+-- `true_of`, at its `Err`: the contents aren't the octet ff alone, so reading gives `Value` of BOOLEAN, as the error.
 use Rattle.std.proofs.Common.{ap, sym, ◌∙◌, refl, Ok, Err, if◌then◌else◌}
 use Rattle.der_core.specs.declared.error.ErrorKind.TheVariants.{Value}
 use Rattle.der_core.specs.Words.{boolean_tag, same_tag}

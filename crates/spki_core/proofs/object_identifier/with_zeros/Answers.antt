@@ -1,5 +1,4 @@
--- `with_zeros` leaves zeros: `copy_from_slice` puts the octets over as many of the 39 zeros, so the others are left
--- behind them.
+-- `with_zeros` leaves zeros behind the octets: `copy_from_slice` puts these over as many of the 39 zeros.
 use Rattle.std.proofs.Common.{List, ℕ, length, drop, ◌++◌, ap, ◌∙◌}
 use Rattle.std.proofs.Math.ListN.{replicate}
 use Rattle.std.proofs.Math.Seq.{drop-append_seam}

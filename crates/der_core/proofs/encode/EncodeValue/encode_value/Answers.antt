@@ -1,5 +1,4 @@
--- `encode_value` of the trait, at its end: `value_len` returned `Ok`, so the value is valid, and `append_value`
--- doesn't return `Value`.
+-- At the end of `encode_value`: `value_len` returned `Ok`, so the value is valid, and `append_value` gives no `Value`.
 use Rattle.der_core.proofs.Writing.{not_refused}
 use Rattle.der_core.proofs.encode.EncodeValue.encode_value.Goals as goal
 

@@ -1,5 +1,4 @@
--- In the loop of `strip`, `rest` is `bytes` without some zeros in front: the same number, empty only if `bytes` is,
--- and no longer.
+-- In the loop of `strip`, `rest` is `bytes` less some zeros: the same number, no longer, empty only if `bytes` is.
 use Rattle.std.proofs.Common.{◌≡◌, ◌≤◌, length}
 use Rattle.der_core.specs.Words.{number_from_digits}
 use Rattle.der_core.proofs.integer.uint.strip.Given as goal

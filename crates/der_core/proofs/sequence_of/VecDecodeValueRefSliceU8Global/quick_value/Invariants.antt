@@ -1,5 +1,4 @@
--- In the loop of `quick_value`, `read` was read, and `rest` is left. The encodings of the items so far, joined, are
--- `read`.
+-- In the loop of `quick_value`, `read` was read: the encodings of the items so far, joined. `rest` is left.
 use Rattle.std.proofs.Common.{◌≡◌, ℕ, List, ◌++◌, Some, length, map}
 use Rattle.der_core.specs.Words.{JoinsParts, Prints}
 use Rattle.der_core.proofs.sequence_of.VecDecodeValueRefSliceU8Global.quick_value.Given as goal

@@ -1,5 +1,4 @@
--- `of` makes an `ObjectIdentifier` with its `ghost bytes`: `D::padded` holds octets, so what is taken of it as the
--- identifier is octets too.
+-- `of` makes an `ObjectIdentifier` with its `ghost bytes`: `D::padded` holds octets, and so does what is taken of it.
 use Rattle.std.proofs.Common.{length, rules}
 use Rattle.spki_core.proofs.Octets.{taken_bytes}
 use Rattle.spki_core.proofs.object_identifier.ObjectIdentifier.of.Goals as goal
