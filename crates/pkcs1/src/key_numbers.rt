@@ -78,7 +78,7 @@ impl<U: TryClone> RsaPrivateKey<U> {
     ghost use Rattle.std.specs.Prelude.{None};
     ghost use Rattle.pkcs1.specs.Words.{private_key_with};
 
-    /// The same key, or `OutOfMemory`.
+    /// The same key, or `OutOfMemory`, which never comes if each number is always copied and there are no other primes.
     pub fn try_clone(&self, alloc: Global) -> Result<RsaPrivateKey<U>>
         ensures ok { IfOk result (λ copy. private_key_with U.value copy ≡ private_key_with U.value self.now) }
         ensures err { IfErr result (λ e. e.kind ≡ ErrorKind.OutOfMemory) }

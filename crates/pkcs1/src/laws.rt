@@ -31,8 +31,8 @@ pub fn lemma_encodings_are_delimited()
     ensures oaep { AreDelimited OaepEncoding }
 {}
 
-/// The functions that tell the keys of whole slices give a key exactly of the bytes that encode one, in the words of the
-/// statement. Each of their faults is about the bytes.
+/// The functions that tell the keys of whole slices give a key exactly of the bytes that encode one, in the words of
+/// the statement, and this one. Each of their faults is about the bytes.
 pub fn lemma_keys_decode()
     ensures public { (bytes : List ℕ) → AreBytes bytes
         → Decodes PublicKeyEncoding bytes (value_in (rsa_public_key bytes)) }

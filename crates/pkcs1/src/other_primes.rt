@@ -221,6 +221,7 @@ impl<'a> Iterator for OtherPrimes<'a> {
 
     ghost remaining = { item_count held_other_primes };
 
+    /// The first of the primes that are left, which is left no more. `None` exactly if none is left.
     #[tactic(auto, unfolding(crate::specs::OtherPrimesLeft::others_left))]
     fn next(&mut self) -> Option<OtherPrimeInfo<UintRef<'a>>> {
         if self.left == 0 {

@@ -79,7 +79,7 @@ impl<U: Copy, O: Copy> Clone for PrivateKeyOf<U, O> {
 }
 
 impl<U, O> PrivateKeyOf<U, O> {
-    /// The version: `Multi` if there are other primes.
+    /// The version: `Multi` exactly if there is a list of other primes.
     pub fn version(&self) -> Version
         ensures { (result ≡ Version.Multi) ↔ IsSome self.now.other_prime_infos }
     {
@@ -92,7 +92,7 @@ impl<U, O> PrivateKeyOf<U, O> {
 }
 
 impl<U: UintEncoding> RsaPrivateKey<U> {
-    /// The public key.
+    /// The public key: the modulus and the public exponent.
     pub fn public_key(&self) -> RsaPublicKeyRef<'_>
         ensures { held_public_key bytes_of result ≡ public_part (held_private_key U.number self.now) }
     {
@@ -177,6 +177,8 @@ impl<'a, U: Decode<&'a [u8], Global>> DecodeValue<&'a [u8], Global> for RsaPriva
 impl<U: Encode> EncodeValue for RsaPrivateKey<U> {
     ghost refused = { λ tag. (tag ≡ sequence_tag) ⊎ U.Encode.refused tag };
 
+    /// As of `EncodeValue`. An empty list of other primes is `Value` of SEQUENCE. Any other tag of `Value` is one that
+    /// the type of the numbers names; `UintRef` and `Uint` name none.
     fn value_len(&self) -> Result<Length>
         ensures counts { let s = private_as U.written (private_key_with U.value self.now) in
             Counts (PrivateIsValid U.valid s) (private_printed U.printed s) result }
@@ -194,6 +196,7 @@ impl<U: Encode> EncodeValue for RsaPrivateKey<U> {
         self.append_row(writer)
     }
 
+    /// As of `EncodeValue`. `Value` is as of `value_len`.
     fn encode_value<W: Writer>(&self, writer: &mut W) -> Result<()>
         ensures appends { let s = private_as U.written (private_key_with U.value self.now) in
             let octets = private_printed U.printed s in

@@ -98,7 +98,7 @@ impl<U: TryClone> RsaPublicKey<U> {
     ghost use Rattle.std.specs.Prelude.{◌≡◌, IfErr, IfOk, IsOk};
     ghost use Rattle.der_core.specs.declared.error.ErrorKind.{ErrorKind};
 
-    /// The same key, or `OutOfMemory`.
+    /// The same key, or `OutOfMemory`, which never comes if both numbers are always copied.
     pub fn try_clone(&self, alloc: Global) -> der_core::Result<RsaPublicKey<U>>
         ensures ok { IfOk result (λ copy. public_row U.value copy ≡ public_row U.value self.now) }
         ensures err { IfErr result (λ e. e.kind ≡ ErrorKind.OutOfMemory) }
@@ -120,7 +120,8 @@ impl<'a> TryFrom<&'a [u8]> for RsaPublicKey<UintRef<'a>> {
 
     type Error = Error;
 
-    /// Decodes a whole slice, and allocates nothing.
+    /// Reads a public key, and allocates nothing. Ok exactly if the whole slice encodes one: then that key. Err: the
+    /// first fault of a public key.
     fn try_from(bytes: &'a [u8]) -> Result<RsaPublicKey<UintRef<'a>>>
         ensures read { Decodes PublicKeyEncoding bytes.now (ok_of (held_public_key bytes_of) result) }
         ensures exact { AnswersAsn1 (held_public_key bytes_of) (rsa_public_key bytes.now) result }
@@ -134,7 +135,7 @@ impl<U: AsUintRef> RsaPublicKey<U> {
     ghost use Rattle.der_core.specs.Words.{bytes_of};
     ghost use Rattle.pkcs1.specs.Words.{held_public_key};
 
-    /// The same key, borrowed, whatever the type of its numbers.
+    /// The same key over numbers that it borrows, whatever the type of its numbers.
     pub fn as_key_ref(&self) -> RsaPublicKeyRef<'_>
         ensures { held_public_key bytes_of result ≡ held_public_key U.number self.now }
     {
@@ -151,8 +152,9 @@ impl<U: UintEncoding> RsaPublicKey<U> {
     ghost use Rattle.pkcs1.specs.Words.{Refuses, held_public_key};
     ghost use Rattle.standard.specs.Statement.{Encodes, PublicKeyEncoding};
 
-    /// Writes the key's only encoding to the front of a slice and returns its length, as `encode_into` does. Returns
-    /// `Overflow` if the encoding is longer than `Length::MAX`, `NoRoom` if it is longer than the slice.
+    /// Writes the key's only encoding, which is that of no other key, to the front of a slice, and returns its length.
+    /// The bytes behind it stay as they were. After an error all of the slice does. It is `Overflow` exactly if the
+    /// encoding is longer than `Length::MAX`, else `NoRoom` exactly if it is longer than the slice.
     pub fn encode_key(&self, out: &mut [u8]) -> Result<usize>
         ensures written { let key = held_public_key U.number self.now in
             Encodes PublicKeyEncoding key out.old out.new (ok_of (λ n. n) result) }

@@ -14,8 +14,9 @@ use der_core::{Document, SecretDocument};
 use pkcs1_params::Result;
 use std::alloc::Global;
 
-/// Decodes a public key from the whole slice and encodes it again, which gives the same bytes. The errors are those of
-/// `from_pkcs1_der`, and `OutOfMemory` for the document.
+/// Reads a public key from the whole slice, and makes its document, which holds the same bytes. Ok only if the slice
+/// encodes a key. Err: the first fault of a public key, or `OutOfMemory`, which comes where it may for
+/// `from_pkcs1_der`, or if the slice encodes a key.
 pub fn reencode_public_key(alloc: Global, bytes: &[u8]) -> Result<Document>
     ensures same { IfOk result (λ document. encoding_of document ≡ bytes.now) }
     ensures encoding { IfOk result (λ document. IsEncoded PublicKeyEncoding bytes.now) }
@@ -27,8 +28,9 @@ pub fn reencode_public_key(alloc: Global, bytes: &[u8]) -> Result<Document>
     RsaPublicKeyOwned::from_pkcs1_der(alloc, bytes)?.to_pkcs1_der(alloc)
 }
 
-/// Decodes a private key from the whole slice and encodes it again, which gives the same bytes. The errors are those of
-/// `from_pkcs1_der`, and `OutOfMemory` for the document.
+/// Reads a private key from the whole slice, and makes its document, which holds the same bytes. Ok only if the slice
+/// encodes a key. Err: the first fault of a private key, or `OutOfMemory`, which comes where it may for
+/// `from_pkcs1_der`, or if the slice encodes a key.
 pub fn reencode_private_key(alloc: Global, bytes: &[u8]) -> Result<SecretDocument>
     ensures same { IfOk result (λ document. encoding_of document ≡ bytes.now) }
     ensures encoding { IfOk result (λ document. IsEncoded PrivateKeyEncoding bytes.now) }

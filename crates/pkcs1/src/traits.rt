@@ -27,13 +27,16 @@ pub trait DecodeRsaPrivateKey: Sized + Drop {
     /// These bytes are rejected with this error.
     ghost rejected_by: { List ℕ → Error → Type 0 };
 
-    /// Decodes a key from the whole slice.
+    /// Reads a key from the whole slice. Ok: the key stands for the slice. Err: the type rejects the slice with this
+    /// error.
     fn from_pkcs1_der(alloc: Global, bytes: &[u8]) -> Result<Self>
         ensures read { IfOk result (λ key. stands_for key bytes.now) }
         ensures rejected { IfErr result (λ e. rejected_by bytes.now e) };
 
-    /// Reads the document that a file holds, and calls `from_pkcs1_der` on its bytes. Returns `File` if the file can't
-    /// be opened or read, `Overflow` if it has more bytes than `Length::MAX`.
+    /// Reads the document that a file holds, and calls `from_pkcs1_der` on its bytes. Ok: the key stands for a
+    /// document, which is all that the file opened at this path gave. Err: as of `Document::read_der_file`, so `File`
+    /// if the file can't be opened or read, and `Overflow` if it has more bytes than `Length::MAX`; or the file gave a
+    /// document that the type rejects with this error.
     fn read_pkcs1_der_file<F: FileSystem>(files: &F, alloc: Global, path: Path<'_>) -> Result<Self>
         ensures read { let gives = FileGives (F.opens (path_bytes path.entry)) F.Opened.remaining in
             IfOk result (λ key. (bytes : List ℕ) × gives bytes × IsDocument bytes × stands_for key bytes) }
@@ -56,13 +59,16 @@ pub trait DecodeRsaPublicKey: Sized + Drop {
     /// These bytes are rejected with this error.
     ghost rejected_by: { List ℕ → Error → Type 0 };
 
-    /// Decodes a key from the whole slice.
+    /// Reads a key from the whole slice. Ok: the key stands for the slice. Err: the type rejects the slice with this
+    /// error.
     fn from_pkcs1_der(alloc: Global, bytes: &[u8]) -> Result<Self>
         ensures read { IfOk result (λ key. stands_for key bytes.now) }
         ensures rejected { IfErr result (λ e. rejected_by bytes.now e) };
 
-    /// Reads the document that a file holds, and calls `from_pkcs1_der` on its bytes. Returns `File` if the file can't
-    /// be opened or read, `Overflow` if it has more bytes than `Length::MAX`.
+    /// Reads the document that a file holds, and calls `from_pkcs1_der` on its bytes. Ok: the key stands for a
+    /// document, which is all that the file opened at this path gave. Err: as of `Document::read_der_file`, so `File`
+    /// if the file can't be opened or read, and `Overflow` if it has more bytes than `Length::MAX`; or the file gave a
+    /// document that the type rejects with this error.
     fn read_pkcs1_der_file<F: FileSystem>(files: &F, alloc: Global, path: Path<'_>) -> Result<Self>
         ensures read { let gives = FileGives (F.opens (path_bytes path.entry)) F.Opened.remaining in
             IfOk result (λ key. (bytes : List ℕ) × gives bytes × IsDocument bytes × stands_for key bytes) }
@@ -84,14 +90,16 @@ pub trait EncodeRsaPrivateKey {
     /// The key isn't written, but rejected with this error.
     ghost unwritten_by: { Self → Error → Type 0 };
 
-    /// Returns the encoding of the key.
+    /// Makes the encoding of the key. Ok: the key is written as what the document holds. Err: the type rejects the key
+    /// with this error.
     fn to_pkcs1_der(&self, alloc: Global) -> Result<SecretDocument>
         ensures written { IfOk result (λ document. written_as self.now (encoding_of document)) }
         ensures rejected { IfErr result (λ e. unwritten_by self.now e) };
 
-    /// Writes the encoding of the key to a file. The key is encoded before the file is created or truncated, so a key
-    /// that can't be encoded leaves an old file as it was; a failed write may leave a beginning. Returns `File` if the
-    /// file can't be created or written.
+    /// Writes the encoding of the key to a file. Ok: the key is written as a document, which the file took, as of
+    /// `Document::write_der_file`. Err: the type rejects the key with this error; or it is `File`, and the file refused
+    /// that document. The key is encoded before the file is created or truncated. So a key that can't be encoded leaves
+    /// an old file as it was, which is only tested. A failed write may leave a beginning.
     fn write_pkcs1_der_file<F: FileSystem>(
         &self,
         files: &F,
@@ -119,14 +127,16 @@ pub trait EncodeRsaPublicKey {
     /// The key isn't written, but rejected with this error.
     ghost unwritten_by: { Self → Error → Type 0 };
 
-    /// Returns the encoding of the key.
+    /// Makes the encoding of the key. Ok: the key is written as what the document holds. Err: the type rejects the key
+    /// with this error.
     fn to_pkcs1_der(&self, alloc: Global) -> Result<Document>
         ensures written { IfOk result (λ document. written_as self.now (encoding_of document)) }
         ensures rejected { IfErr result (λ e. unwritten_by self.now e) };
 
-    /// Writes the encoding of the key to a file. The key is encoded before the file is created or truncated, so a key
-    /// that can't be encoded leaves an old file as it was; a failed write may leave a beginning. Returns `File` if the
-    /// file can't be created or written.
+    /// Writes the encoding of the key to a file. Ok: the key is written as a document, which the file took, as of
+    /// `Document::write_der_file`. Err: the type rejects the key with this error; or it is `File`, and the file refused
+    /// that document. The key is encoded before the file is created or truncated. So a key that can't be encoded leaves
+    /// an old file as it was, which is only tested. A failed write may leave a beginning.
     fn write_pkcs1_der_file<F: FileSystem>(
         &self,
         files: &F,
@@ -151,6 +161,7 @@ impl DecodeRsaPrivateKey for RsaPrivateKey<Uint> {
     ghost rejected_by = { λ bytes e. let asked = OwnedKeyAllocates bytes in
         IsAsn1 (λ asn1. FaultOrMemory asn1.kind asked (rsa_private_key bytes ≡ Err asn1.kind)) e };
 
+    /// Reads a private key, as `decode_owned_key` does.
     fn from_pkcs1_der(alloc: Global, bytes: &[u8]) -> Result<RsaPrivateKey<Uint>>
         ensures ok { let held = held_private_key own_bytes_of in
             IfOk result (λ key. Decodes PrivateKeyEncoding bytes.now (Some (held key))) }
@@ -168,6 +179,9 @@ impl DecodeRsaPublicKey for RsaPublicKey<Uint> {
     ghost rejected_by = { λ bytes e. let asked = OwnedPublicKeyAllocates bytes in
         IsAsn1 (λ asn1. FaultOrMemory asn1.kind asked (rsa_public_key bytes ≡ Err asn1.kind)) e };
 
+    /// Reads a public key, whose numbers it copies. Ok only if the whole slice encodes one: then that key. Err: the
+    /// first fault of a public key, or `OutOfMemory`, which comes only if the slice begins with a SEQUENCE that begins
+    /// with a number.
     fn from_pkcs1_der(alloc: Global, bytes: &[u8]) -> Result<RsaPublicKey<Uint>>
         ensures ok { let held = held_public_key own_bytes_of in
             IfOk result (λ key. Decodes PublicKeyEncoding bytes.now (Some (held key))) }
@@ -184,7 +198,9 @@ impl<U: Encode + UintEncoding> EncodeRsaPrivateKey for RsaPrivateKey<U> {
 
     ghost unwritten_by = { λ key. Withholds IsPrivateKey PrivateKeyEncoding (held_private_key U.number key) };
 
-    /// As `encode_msg`. It looks for an empty list of other primes first, so its contract says the tag of `Value`.
+    /// Makes a document that holds the key's only encoding. `Value` of SEQUENCE exactly if the list of other primes is
+    /// there but empty, which is looked at first. `Overflow` exactly if the encoding is longer than `Length::MAX`.
+    /// Memory runs out only if there is an encoding that isn't.
     fn to_pkcs1_der(&self, alloc: Global) -> Result<SecretDocument>
         ensures encoding { let key = held_private_key U.number self.now in
             IfOk result (λ document. IsShortest PrivateKeyEncoding key (encoding_of document)) }
@@ -206,6 +222,8 @@ impl<U: UintEncoding> EncodeRsaPublicKey for RsaPublicKey<U> {
 
     ghost unwritten_by = { λ key. Withholds (λ _. ⊤) PublicKeyEncoding (held_public_key U.number key) };
 
+    /// Makes a document that holds the key's only encoding. `Overflow` exactly if that is longer than `Length::MAX`.
+    /// Memory runs out only if it isn't.
     fn to_pkcs1_der(&self, alloc: Global) -> Result<Document>
         ensures encoding { let key = held_public_key U.number self.now in
             IfOk result (λ document. IsShortest PublicKeyEncoding key (encoding_of document)) }

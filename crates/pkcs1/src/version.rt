@@ -28,7 +28,7 @@ pub enum Version {
 }
 
 impl Version {
-    /// Whether there are more than two primes.
+    /// Whether it is `Multi`: there are more than two primes.
     pub fn is_multi(self) -> bool
         ensures { IsTrue result ↔ (self ≡ Version.Multi) }
     {
@@ -78,6 +78,7 @@ impl Ord for Version {
 impl From<Version> for u8 {
     ghost from_gives = { λ version n. n ≡ version_number version };
 
+    /// The number of a version: 0 of `TwoPrime`, 1 of `Multi`.
     fn from(version: Version) -> u8
         ensures { result ≡ version_number version }
     {
@@ -90,6 +91,7 @@ impl TryFrom<u8> for Version {
 
     ghost try_from_gives = { IsVersionOf };
 
+    /// The version of this number. `Error::Version` exactly if the number is above 1.
     fn try_from(number: u8) -> std::result::Result<Version, Error>
         ensures { IsVersionOf number result }
     {

@@ -23,7 +23,7 @@ impl<'a> RsaPrivateKeyView<'a> {
     ghost use Rattle.der_core.specs.Words.{bytes_of};
     ghost use Rattle.pkcs1.specs.Words.{held_other_primes, held_public_key, held_view, listed_others, number_in, public_part, viewed_encoding};
 
-    /// The version: `Multi` if there are other primes.
+    /// The version: `Multi` exactly if there are other primes.
     pub fn version(&self) -> Version
         ensures { (result ≡ Version.Multi) ↔ IsSome (held_view self.now).other_primes }
     {
@@ -86,7 +86,7 @@ impl<'a> RsaPrivateKeyView<'a> {
         self.key.coefficient
     }
 
-    /// The public key.
+    /// The public key: the modulus and the public exponent.
     pub fn public_key(&self) -> RsaPublicKeyRef<'a>
         ensures { held_public_key bytes_of result ≡ public_part (held_view self.now) }
     {
@@ -123,8 +123,8 @@ impl<'a> TryFrom<&'a [u8]> for RsaPrivateKeyView<'a> {
 
     type Error = Error;
 
-    /// Decodes a whole slice, and allocates nothing, however many primes there are. The errors are those of
-    /// `RsaPrivateKeyRef::from_der`, except `OutOfMemory`, in `Error::Asn1`.
+    /// Reads a private key, and allocates nothing, however many primes there are. Ok exactly if the whole slice encodes
+    /// one: then a view of that key, which keeps the slice. Err: the first fault of a private key.
     #[inline(always)]
     fn try_from(bytes: &'a [u8]) -> crate::Result<RsaPrivateKeyView<'a>>
         ensures read { Decodes PrivateKeyEncoding bytes.now (ok_of held_view result) }

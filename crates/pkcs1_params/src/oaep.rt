@@ -50,7 +50,8 @@ pub type RsaOaepParams<P> = OaepParamsOf<ObjectIdentifier, P>;
 /// RSAES-OAEP parameters whose algorithms have borrowed parameters.
 pub type RsaOaepParamsRef<'a> = RsaOaepParams<AnyRef<'a>>;
 
-/// RSAES-OAEP parameters whose algorithms have owned parameters.
+/// RSAES-OAEP parameters whose algorithms have owned parameters. `Decode::from_der` reads them. Memory runs out there
+/// only if the slice begins with a SEQUENCE of parameters, and an algorithm in them has parameters with octets to copy.
 pub type RsaOaepParamsOwned = RsaOaepParams<Any>;
 
 /// RSAES-OAEP parameters over their encoding, whose octets are their identifiers. Only `to_params` copies them.
@@ -63,7 +64,8 @@ impl<'a, O: ReadParams<'a>> TryFrom<&'a [u8]> for OaepParamsOf<O, AnyRef<'a>> {
 
     type Error = Error;
 
-    /// Reads a whole slice. Nothing is allocated.
+    /// Reads parameters, and allocates nothing. Ok exactly if the whole slice encodes some: then these. A field that is
+    /// left out has its default, and a default that is written out is accepted. Err: the first fault of parameters.
     fn try_from(bytes: &'a [u8]) -> Result<OaepParamsOf<O, AnyRef<'a>>>
         ensures read { Decodes OaepEncoding bytes.now (ok_of (oaep_in O.octets any_of) result) }
         ensures exact { AnswersAsn1 (oaep_in O.octets any_of) (rsa_oaep_params bytes.now) result }
@@ -78,8 +80,8 @@ impl<'a, O: ReadParams<'a>> OaepParamsOf<O, AnyRef<'a>> {
     ghost use Rattle.pkcs1_params.specs.Words.{AnswersAsn1};
     ghost use Rattle.standard.specs.Statement.{Decodes, IsShortest};
 
-    /// Like `try_from`, but rejects an encoding in which a default is written: `Noncanonical` with the tag of the first
-    /// such field. So what is read is the shortest encoding of its value.
+    /// Reads parameters as `try_from` does, but only from their shortest encoding. Of an encoding in which a default is
+    /// written the error is `Noncanonical` with the tag of the first such field. Else it is that of `try_from`.
     pub fn from_der_strict(bytes: &'a [u8]) -> Result<OaepParamsOf<O, AnyRef<'a>>>
         ensures read { Decodes (IsShortest OaepEncoding) bytes.now (ok_of (oaep_in O.octets any_of) result) }
         ensures exact { AnswersAsn1 (oaep_in O.octets any_of) (strict_oaep_params bytes.now) result }
@@ -200,7 +202,7 @@ impl<P: AnyValue + TryClone> RsaOaepParams<P> {
     ghost use Rattle.der_core.specs.declared.error.ErrorKind.{ErrorKind};
     ghost use Rattle.pkcs1_params.specs.Words.{oaep_with};
 
-    /// The same parameters, or `OutOfMemory`.
+    /// The same parameters, or `OutOfMemory`, which never comes if the parameters of each algorithm are always copied.
     pub fn try_clone(&self, alloc: Global) -> der_core::Result<RsaOaepParams<P>>
         ensures ok { IfOk result (λ copy. oaep_with P.any copy ≡ oaep_with P.any self.now) }
         ensures err { IfErr result (λ e. e.kind ≡ ErrorKind.OutOfMemory) }
@@ -232,7 +234,7 @@ impl RsaOaepParams<Any> {
     ghost use Rattle.pkcs1_params.specs.Words.{oaep_with};
     ghost use Rattle.spki_core.specs.Words.{own_any_of};
 
-    /// Every field at its default. Nothing is allocated.
+    /// Every field at its default, owned. Nothing is allocated.
     pub fn default_in(alloc: Global) -> RsaOaepParams<Any>
         ensures { oaep_with own_any_of result
             ≡ record { hash = sha1; mask_gen = mgf1_sha1; p_source = empty_label } }

@@ -38,6 +38,7 @@ pub fn rsaes_oaep_oid() -> ObjectIdentifier
 
 impl<O: IdentifierValue, P: AnyValue> OaepParamsOf<O, P> {
     /// The algorithm identifier id-RSAES-OAEP with these parameters, borrowed: to be written inside something larger.
+    /// Such parameters may always be encoded.
     pub fn to_algorithm(&self) -> AlgorithmView<'_, Borrowed<'_, OaepParamsOf<O, P>>>
         ensures means { viewed_with (λ p. oaep_in O.octets P.any p.0.now) result
             ≡ with_parameters id_rsaes_oaep (oaep_in O.octets P.any self.now) }
@@ -51,8 +52,9 @@ impl<O: IdentifierValue, P: AnyValue> OaepParamsOf<O, P> {
     }
 
     /// Writes the shortest encoding of the algorithm identifier id-RSAES-OAEP with these parameters to the front of a
-    /// slice and returns its length. `Overflow` if the encoding is longer than `Length::MAX`, `NoRoom` if the slice is
-    /// shorter than it.
+    /// slice, and returns its length. The bytes behind it stay as they were. After an error all of the slice does. It
+    /// is `Overflow` exactly if the encoding is longer than `Length::MAX`, else `NoRoom` exactly if it is longer than
+    /// the slice, and never `Value`.
     pub fn encode_algorithm(&self, out: &mut [u8]) -> Result<usize>
         ensures written { let params = oaep_in O.octets P.any self.now in
             Encodes OaepAlgorithmEncoding params out.old out.new (ok_of (λ n. n) result) }

@@ -53,7 +53,8 @@ pub type RsaPssParams<P> = PssParamsOf<ObjectIdentifier, P>;
 /// RSASSA-PSS parameters whose algorithms have borrowed parameters.
 pub type RsaPssParamsRef<'a> = RsaPssParams<AnyRef<'a>>;
 
-/// RSASSA-PSS parameters whose algorithms have owned parameters.
+/// RSASSA-PSS parameters whose algorithms have owned parameters. `Decode::from_der` reads them. Memory runs out there
+/// only if the slice begins with a SEQUENCE of parameters, and an algorithm in them has parameters with octets to copy.
 pub type RsaPssParamsOwned = RsaPssParams<Any>;
 
 /// RSASSA-PSS parameters over their encoding, whose octets are their identifiers. Only `to_params` copies them.
@@ -66,7 +67,8 @@ impl<'a, O: ReadParams<'a>> TryFrom<&'a [u8]> for PssParamsOf<O, AnyRef<'a>> {
 
     type Error = Error;
 
-    /// Reads a whole slice. Nothing is allocated.
+    /// Reads parameters, and allocates nothing. Ok exactly if the whole slice encodes some: then these. A field that is
+    /// left out has its default, and a default that is written out is accepted. Err: the first fault of parameters.
     fn try_from(bytes: &'a [u8]) -> Result<PssParamsOf<O, AnyRef<'a>>>
         ensures read { Decodes PssEncoding bytes.now (ok_of (pss_in O.octets any_of) result) }
         ensures exact { AnswersAsn1 (pss_in O.octets any_of) (rsa_pss_params bytes.now) result }
@@ -81,8 +83,8 @@ impl<'a, O: ReadParams<'a>> PssParamsOf<O, AnyRef<'a>> {
     ghost use Rattle.pkcs1_params.specs.Words.{AnswersAsn1};
     ghost use Rattle.standard.specs.Statement.{Decodes, IsShortest};
 
-    /// Like `try_from`, but rejects an encoding in which a default is written: `Noncanonical` with the tag of the first
-    /// such field. So what is read is the shortest encoding of its value.
+    /// Reads parameters as `try_from` does, but only from their shortest encoding. Of an encoding in which a default is
+    /// written the error is `Noncanonical` with the tag of the first such field. Else it is that of `try_from`.
     pub fn from_der_strict(bytes: &'a [u8]) -> Result<PssParamsOf<O, AnyRef<'a>>>
         ensures read { Decodes (IsShortest PssEncoding) bytes.now (ok_of (pss_in O.octets any_of) result) }
         ensures exact { AnswersAsn1 (pss_in O.octets any_of) (strict_pss_params bytes.now) result }
@@ -207,7 +209,7 @@ impl<P: AnyValue + TryClone> RsaPssParams<P> {
     ghost use Rattle.std.specs.Prelude.{IfErr, IfOk, IfSome, IsOk};
     ghost use Rattle.der_core.specs.declared.error.ErrorKind.{ErrorKind};
 
-    /// The same parameters, or `OutOfMemory`.
+    /// The same parameters, or `OutOfMemory`, which never comes if the parameters of each algorithm are always copied.
     pub fn try_clone(&self, alloc: Global) -> der_core::Result<RsaPssParams<P>>
         ensures ok { IfOk result (λ copy. pss_with P.any copy ≡ pss_with P.any self.now) }
         ensures err { IfErr result (λ e. e.kind ≡ ErrorKind.OutOfMemory) }
@@ -238,7 +240,7 @@ impl<'a, O: IdentifierValue> Default for PssParamsOf<O, AnyRef<'a>> {
 impl RsaPssParams<Any> {
     ghost use Rattle.spki_core.specs.Words.{own_any_of};
 
-    /// Every field at its default. Nothing is allocated.
+    /// Every field at its default, owned. Nothing is allocated.
     pub fn default_in(alloc: Global) -> RsaPssParams<Any>
         ensures { pss_with own_any_of result
             ≡ record { hash = sha1; mask_gen = mgf1_sha1; salt_len = 20; trailer_field = 1 } }

@@ -38,6 +38,7 @@ pub fn rsassa_pss_oid() -> ObjectIdentifier
 
 impl<O: IdentifierValue, P: AnyValue> PssParamsOf<O, P> {
     /// The algorithm identifier id-RSASSA-PSS with these parameters, borrowed: to be written inside something larger.
+    /// Such parameters may always be encoded.
     pub fn to_algorithm(&self) -> AlgorithmView<'_, Borrowed<'_, PssParamsOf<O, P>>>
         ensures means { viewed_with (λ p. pss_in O.octets P.any p.0.now) result
             ≡ with_parameters id_rsassa_pss (pss_in O.octets P.any self.now) }
@@ -51,8 +52,9 @@ impl<O: IdentifierValue, P: AnyValue> PssParamsOf<O, P> {
     }
 
     /// Writes the shortest encoding of the algorithm identifier id-RSASSA-PSS with these parameters to the front of a
-    /// slice and returns its length. `Overflow` if the encoding is longer than `Length::MAX`, `NoRoom` if the slice is
-    /// shorter than it.
+    /// slice, and returns its length. The bytes behind it stay as they were. After an error all of the slice does. It
+    /// is `Overflow` exactly if the encoding is longer than `Length::MAX`, else `NoRoom` exactly if it is longer than
+    /// the slice, and never `Value`.
     pub fn encode_algorithm(&self, out: &mut [u8]) -> Result<usize>
         ensures written { let params = pss_in O.octets P.any self.now in
             Encodes PssAlgorithmEncoding params out.old out.new (ok_of (λ n. n) result) }

@@ -97,8 +97,9 @@ impl<O: IdentifierValue, P: AnyValue> PssParamsOf<O, P> {
         count_defaults(self)
     }
 
-    /// Like `encode_spelling_into`, but returns the part of the slice that was written. A caller that needs in a proof
-    /// what the rest of the slice holds calls `encode_spelling_into`.
+    /// Like `encode_spelling_into`, but returns the part of the slice that was written, which is no longer than the
+    /// slice. That it is the front of it, and that after an error all of the slice is as it was, is only tested. A
+    /// caller that needs in a proof what the slice holds calls `encode_spelling_into`.
     pub fn encode_spelling<'b>(&self, mask: u8, out: &'b mut [u8]) -> Result<&'b [u8]>
         requires { IsMask (pss_fields (pss_in O.octets P.any self.now)) mask }
         ensures written { let Encoding = SequenceOf IsPss pss_fields (FieldsUnder mask) in
@@ -111,8 +112,9 @@ impl<O: IdentifierValue, P: AnyValue> PssParamsOf<O, P> {
         self.encode_spelling_to_slice(mask, out)
     }
 
-    /// All spellings, each at the index that is its mask, so the shortest is the first: two to the number of default
-    /// fields. `Overflow`, before anything is allocated, if the one with every field is longer than `Length::MAX`.
+    /// All encodings of the parameters, each at the index that is its mask, none twice, so the shortest is the first:
+    /// two to the number of default fields. Ok only if the one with every field is no longer than `Length::MAX`. Err:
+    /// `Overflow` exactly if it is longer, before anything is allocated; else `OutOfMemory`.
     pub fn spellings(&self, alloc: Global) -> Result<Vec<Vec<u8>>>
         ensures listed { let params = pss_in O.octets P.any self.now in
             IfOk result (λ encodings. Lists IsPss pss_fields params (Some (encodings_in encodings))) }

@@ -21,7 +21,7 @@ pub struct Shortest<T: EncodeParams> {
 }
 
 impl<T: EncodeParams> Shortest<T> {
-    /// Of these parameters.
+    /// The wrapper of these parameters.
     #[inline(always)]
     pub fn of(params: T) -> Shortest<T>
         ensures { result.params ≡ params }
@@ -32,7 +32,7 @@ impl<T: EncodeParams> Shortest<T> {
         }
     }
 
-    /// The algorithm identifier of D with these parameters.
+    /// The algorithm identifier of D with these parameters, which may always be encoded.
     #[inline(always)]
     pub fn identified<D: AssociatedOid>(params: T) -> AlgorithmView<'static, Shortest<T>>
         ensures means { viewed_with (λ s. T.params s.params) result ≡ with_parameters D.contents (T.params params) }

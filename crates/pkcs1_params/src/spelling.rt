@@ -38,7 +38,7 @@ pub trait EncodeParams: Copy + Drop {
     /// The kinds of these fields, with their laws.
     ghost form: { FieldRecord Is fields_of };
 
-    /// The fields, in order.
+    /// The fields, in order, of which there are at most 7.
     fn fields(self) -> Self::Fields
         ensures are { Self.Fields.written result ≡ record_fields form (params self) }
         ensures few { length (record_fields form (params self)) ≤ 7 };
@@ -53,9 +53,9 @@ pub trait EncodeParams: Copy + Drop {
     fn lemma_is_valid(self)
         ensures { Is (params self) };
 
-    /// Writes the shortest encoding, in which no default is written, to the front of a slice and returns its length:
-    /// `encode_into` with a stronger contract. `Overflow` if the encoding is longer than `Length::MAX`, `NoRoom` if the
-    /// slice is shorter than it.
+    /// Writes the shortest encoding, in which no default is written, to the front of a slice, and returns its length.
+    /// The bytes behind it stay as they were. After an error all of the slice does. It is `Overflow` exactly if the
+    /// encoding is longer than `Length::MAX`, else `NoRoom` exactly if it is longer than the slice, and never `Value`.
     #[inline(always)]
     final fn encode_params(self, out: &mut [u8]) -> Result<usize>
         ensures written { let Encoding = EncodingOfFields Self.Is Self.fields_of in
@@ -66,9 +66,12 @@ pub trait EncodeParams: Copy + Drop {
         self.encode_spelling_into(0, out)
     }
 
-    /// Writes one spelling to the front of a slice and returns its length. Bit j of the mask (bit 0 is the lowest) says
-    /// whether the j-th of the fields that equal their defaults, in their order, is written. Mask 0 gives the shortest.
-    /// `Overflow` if the encoding is longer than `Length::MAX`, `NoRoom` if the slice is shorter than it.
+    /// Writes the only encoding under this mask to the front of a slice, and returns its length. The bytes behind it
+    /// stay as they were. After an error all of the slice does.
+    /// Bit j of the mask (bit 0 is the lowest) says whether the j-th of the fields that equal their defaults, in their
+    /// order, is written. Mask 0 gives the shortest. Requires that it is below 2^k, of k such fields. The error is
+    /// `Overflow` exactly if the encoding is longer than `Length::MAX`, else `NoRoom` exactly if it is longer than the
+    /// slice.
     final fn encode_spelling_into(self, mask: u8, out: &mut [u8]) -> Result<usize>
         requires { IsMask (Self.fields_of (Self.params self)) mask }
         ensures written { let Encoding = EncodingUnderMask mask Self.Is Self.fields_of in
@@ -85,7 +88,8 @@ pub trait EncodeParams: Copy + Drop {
         Ok(spelling.encode_into(out)?)
     }
 
-    /// Like `encode_spelling_into`, but returns the part of the slice that was written, as `encode_to_slice` does.
+    /// Like `encode_spelling_into`, but returns the part of the slice that was written, as `encode_to_slice` does. It
+    /// is no longer than the slice.
     final fn encode_spelling_to_slice<'b>(self, mask: u8, out: &'b mut [u8]) -> Result<&'b [u8]>
         requires { IsMask (Self.fields_of (Self.params self)) mask }
         ensures written { let Encoding = EncodingUnderMask mask Self.Is Self.fields_of in

@@ -12,7 +12,9 @@ use pkcs1::{RsaPrivateKeyRef, RsaPrivateKeyView, require_rsa_encryption};
 use std::alloc::Global;
 
 impl<'a, O: ReadIdentifier<'a>> PrivateKeyInfoOf<'a, O> {
-    /// Decodes the RSA key, and allocates nothing. The errors of the algorithm are those of `require_rsa_encryption`.
+    /// A view of the RSA key in the container, and allocates nothing. Ok exactly if the algorithm is rsaEncryption with
+    /// NULL, and the octets encode a private key: then a view of that key, which keeps these octets. Err: the first
+    /// fault of the RSA key in the container. Of the algorithm it is that of `require_rsa_encryption`.
     pub fn rsa_view(&self) -> pkcs1::Result<RsaPrivateKeyView<'a>>
         ensures read { let c = info_in O.octets self.now in
             Decodes (ContainedKey c) c.private_key (ok_of held_view result) }
@@ -23,8 +25,9 @@ impl<'a, O: ReadIdentifier<'a>> PrivateKeyInfoOf<'a, O> {
         RsaPrivateKeyView::try_from(self.private_key.as_bytes())
     }
 
-    /// Decodes the RSA key as a struct. The errors are those of `rsa_view`, and `OutOfMemory` as
-    /// `RsaPrivateKeyRef::decode_key` returns it.
+    /// The RSA key in the container, as a struct. Ok only if `rsa_view` is Ok: then that key. Err: the error of
+    /// `rsa_view`, or `OutOfMemory`, which comes where it may for `RsaPrivateKeyRef::decode_key`, and only of
+    /// rsaEncryption with NULL. A key of two primes is always read.
     pub fn rsa_key(&self, alloc: Global) -> pkcs1::Result<RsaPrivateKeyRef<'a>>
         ensures ok { let c = info_in O.octets self.now in let held = held_private_key bytes_of in
             IfOk result (λ key. Decodes (ContainedKey c) c.private_key (Some (held key))) }
@@ -42,8 +45,9 @@ impl<'a, O: ReadIdentifier<'a>> PrivateKeyInfoOf<'a, O> {
     }
 }
 
-/// Decodes the RSA private key in the encoding of a container, and allocates nothing. The errors are those of
-/// `PrivateKeyInfoRef::try_from`, then those of `rsa_view`.
+/// Reads the RSA key in a container, and allocates nothing. Ok exactly if the whole slice encodes a container of an RSA
+/// key, of which `rsa_view` is Ok: then a view of that key, which keeps the octets in the container's privateKey. Err:
+/// the first fault of a container, then that of the RSA key in it.
 pub fn rsa_from_pkcs8_der<'a>(bytes: &'a [u8]) -> pkcs1::Result<RsaPrivateKeyView<'a>>
     ensures read { Decodes ContainedKeyEncoding bytes.now (ok_of held_view result) }
     ensures bytes { IfOk result (λ view. (c : Container) × ContainerEncoding c bytes.now

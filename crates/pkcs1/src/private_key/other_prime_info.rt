@@ -80,7 +80,7 @@ impl<U: TryClone> TryClone for OtherPrimeInfo<U> {
 }
 
 impl<U: TryClone> OtherPrimeInfo<U> {
-    /// The same numbers, or `OutOfMemory`.
+    /// The same numbers, or `OutOfMemory`, which never comes if each is always copied.
     pub fn try_clone(&self, alloc: Global) -> Result<OtherPrimeInfo<U>>
         ensures ok { IfOk result (λ copy. other_of U.value copy ≡ other_of U.value self.now) }
         ensures err { IfErr result (λ e. e.kind ≡ ErrorKind.OutOfMemory) }

@@ -115,7 +115,8 @@ impl<U: Encoding, O: Encoding> PrivateKeyOf<U, O> {
 /// For types of other primes of one's own: a key is written as its row, whatever holds them. An empty list of them is
 /// written as one.
 impl<U: Encode, O: Encode> PrivateKeyOf<U, O> {
-    /// The length of the contents.
+    /// The length of the contents octets, or why there are none. The tag of `Value` is one that the type of the numbers
+    /// or that of the other primes names.
     #[inline(always)]
     pub fn row_len(&self) -> Result<Length>
         ensures counts { let s = row_as U.written O.written (key_row U.value O.value self.now) in
@@ -125,7 +126,8 @@ impl<U: Encode, O: Encode> PrivateKeyOf<U, O> {
         self.row().value_len()
     }
 
-    /// Appends the contents, which have at most `Length::MAX` octets: `NoRoom` after a beginning of them.
+    /// Appends the contents. Requires that there are some, of at most `Length::MAX` octets. `NoRoom` after a beginning
+    /// of them. The writer keeps what writing never changes.
     #[inline(always)]
     pub fn append_row<W: Writer>(&self, writer: &mut W) -> Result<()>
         requires has { RowIsValid U.valid O.valid (row_as U.written O.written (key_row U.value O.value self.now)) }
@@ -139,7 +141,8 @@ impl<U: Encode, O: Encode> PrivateKeyOf<U, O> {
         self.row().append_value(writer)
     }
 
-    /// Writes the contents in front of what is filled.
+    /// Writes the contents in front of what is filled, as `prepend_value` does. Requires that there are some, of at
+    /// most `Length::MAX` octets, and room for them.
     #[inline(always)]
     pub fn prepend_row(&self, writer: &mut BackWriter<'_>)
         requires has { RowIsValid U.valid O.valid (row_as U.written O.written (key_row U.value O.value self.now)) }
