@@ -1,3 +1,4 @@
+-- The definitions of `pkcs1`: keys and their versions, what values hold, and how they are read and printed.
 pub mod Keys
 pub mod Versions
 pub mod StatedKeys

@@ -1,3 +1,4 @@
+-- The lemmas of `pkcs1_c`, and its worked rows.
 pub mod Containers
 pub mod FittingFields
 pub mod GivenKeys

@@ -1,3 +1,4 @@
+-- The lemmas of `pkcs1_params`: how parameters are read and written, under which masks, and their faults.
 pub mod Algorithms
 pub mod Masks
 pub mod Faults

@@ -1,3 +1,4 @@
+-- The definitions of `pkcs1_params`: what parameters hold and mean, how they are read, and their spellings.
 pub mod Parameters
 pub mod HashFunctions
 pub mod Labels

@@ -1,3 +1,4 @@
+-- The definitions of `pkcs8_core`: what containers hold, how they are read and printed, and the RSA keys in them.
 pub mod Tags
 pub mod Container
 pub mod ContainerValue

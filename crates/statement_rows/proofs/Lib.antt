@@ -1,2 +1,3 @@
+-- The worked rows of `Statement`.
 pub mod StatementPromiseRows
 pub mod StatementRows

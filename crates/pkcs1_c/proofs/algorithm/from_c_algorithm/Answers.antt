@@ -1,3 +1,4 @@
+-- `from_c_algorithm`: its error is that of the first part of the struct that can't be held.
 use Rattle.std.proofs.Common.{ap, rules}
 use Rattle.pkcs1_c.specs.Words.{kind_number}
 use Rattle.pkcs1_c.proofs.HeldParameters.{oid_has_no_status}

@@ -1,3 +1,4 @@
+-- `is_same`, where both slices have nine octets: all nine are equal exactly if the slices are.
 use Rattle.std.proofs.Common.{ℕ, List, [], ◌∷◌, ◌≡◌, ◌∙◌, ◌&&◌, Bool, ap, arith, length, nat_eq, refl, slice_index, subst, sym, true}
 use Rattle.der_core.specs.Words.{nat_tests}
 use Rattle.spki_core.specs.Words.{upto}

@@ -1,3 +1,5 @@
+-- `pkcs1_c_private_key_info_decode`: the structs hold the container and its key, or the status is that of the first
+-- fault.
 use Rattle.std.proofs.Common.{sym, ap, subst, Some}
 use Rattle.pkcs1.specs.Words.{held_view}
 use Rattle.pkcs8_core.specs.Words.{rsa_private_key_info}

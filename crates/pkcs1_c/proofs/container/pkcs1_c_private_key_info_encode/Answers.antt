@@ -1,3 +1,4 @@
+-- `pkcs1_c_private_key_info_encode`: it writes the container that the struct means, or the status says why not.
 use Rattle.std.proofs.Common.{length, arith, rules, inl, inr}
 use Rattle.pkcs1.proofs.KeyReads.{private_tells}
 use Rattle.pkcs1.specs.Words.{rsa_private_key}

@@ -1,3 +1,4 @@
+-- `read_container`: what it returns is what the octets mean as a container of an RSA key, or the first fault of it.
 use Rattle.std.proofs.Common.{rules, ap, subst, None, Ok, Err}
 use Rattle.der_core.specs.Words.{err_from_is_err_and, ◌>>=◌}
 use Rattle.pkcs1.specs.Words.{held_view}

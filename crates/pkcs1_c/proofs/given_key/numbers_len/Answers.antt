@@ -1,10 +1,11 @@
+-- In `numbers_len` each number agrees with its length, if either is within the limit: `n` is the modulus, `e` and `d`
+-- the exponents, `p` and `q` the primes, `x` and `y` their exponents, `f` the coefficient. So do the sums, with 3
+-- octets of the version.
 use Rattle.std.proofs.Common.{refl}
 use Rattle.pkcs1_c.specs.Words.{given_key, key_front_encoded}
 use Rattle.pkcs1_c.proofs.KeyLengths.{agree_number, agree_sum, agreed_length_counted, front_len}
 use Rattle.pkcs1_c.proofs.given_key.numbers_len.Goals as goal
 
--- Each number agrees with its length, if either is within the limit: `n` is the modulus, `e` and `d` the exponents, `p`
--- and `q` the primes, `x` and `y` their exponents, `f` the coefficient. So do the sums, with 3 octets of the version.
 pub returns : goal.returns
 returns c =
     let k = given_key c.args.key.now in

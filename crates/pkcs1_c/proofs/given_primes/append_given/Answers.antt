@@ -1,5 +1,6 @@
+-- `append_given`, in the arm of an error. Never so: `from_c_other_prime` fails only if a number can't be held, and all
+-- can.
 use Rattle.pkcs1_c.proofs.given_primes.append_given.Goals as goal
 
--- Never so: `from_c_other_prime` fails only if a number can't be held, and all can.
 pub returns-in-Err-clause-appends : goal.returns-in-Err-clause-appends
 returns-in-Err-clause-appends g c = absurd (c.requires.held _ c.in-Err.ensures.err)

@@ -1,3 +1,4 @@
+-- `is_surely_within`: where the bounds of the three numbers fit, so does the encoding of the prime.
 use Rattle.std.proofs.Common.{ℕ, [], ◌∷◌, ◌+◌, ◌≡◌, ◌≤◌, length, length-append, arith}
 use Rattle.std.proofs.lemmas.Bool.{leb-true}
 use Rattle.der_core.specs.Words.{tlv_fit}

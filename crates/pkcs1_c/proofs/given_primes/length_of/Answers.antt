@@ -1,10 +1,10 @@
+-- In `length_of` the calls of `octets_with_tag` are for the prime, its exponent, its coefficient, and the SEQUENCE:
+-- `p`, `e`, `d`, `s`. Each agrees with the length that it tells, if either is within the limit, and so do their sums.
 use Rattle.pkcs1.specs.Words.{held_other_prime}
 use Rattle.pkcs1_c.specs.Words.{given_octets_of, prime_encoded}
 use Rattle.pkcs1_c.proofs.KeyLengths.{agree_number, agree_sum, agree_tlv, agreed_length_counted, prime_len}
 use Rattle.pkcs1_c.proofs.given_primes.length_of.Goals as goal
 
--- The calls of `octets_with_tag` are for the prime, its exponent, its coefficient, and the SEQUENCE: `p`, `e`, `d`,
--- `s`. Each agrees with the length that it tells, if either is within the limit, and so do their sums.
 pub returns : goal.returns
 returns c =
     let o = held_other_prime given_octets_of c.args.info.now in

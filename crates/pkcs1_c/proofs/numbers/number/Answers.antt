@@ -1,3 +1,4 @@
+-- `number`: at Ok the bytes can be held, and an error says why they can't.
 use Rattle.std.proofs.Common.{ap, ◌∙◌, length, sym, arith, rules}
 use Rattle.der_core.specs.Words.{number_octets, bytes_of}
 use Rattle.standard.specs.Statement.{octets}

@@ -1,3 +1,4 @@
+-- `pkcs1_c_bit_len`: `UintRef::new` makes each number that has bytes and is within the limit, and no other.
 use Rattle.std.proofs.Common.{◌∙◌, arith, ap, length, sym, inl, inr}
 use Rattle.der_core.specs.Words.{number_from_digits, number_octets, octets_canonical, octets_number, bytes_of}
 use Rattle.standard.specs.Statement.{octets}

@@ -1,3 +1,4 @@
+-- `from_c_oaep`: its error is that of the first field of the struct that can't be held.
 use Rattle.std.proofs.Common.{rules}
 use Rattle.pkcs1_c.proofs.HeldParameters.{plain_has_no_status, mask_has_no_status}
 use Rattle.pkcs1_c.proofs.oaep.from_c_oaep.Goals as goal

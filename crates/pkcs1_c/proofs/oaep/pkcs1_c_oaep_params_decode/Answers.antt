@@ -1,3 +1,4 @@
+-- `pkcs1_c_oaep_params_decode`: the struct holds the parameters, or the status is that of the first fault.
 use Rattle.pkcs1_params.specs.Words.{oaep_record}
 use Rattle.standard.specs.Statement.{OaepEncoding}
 use Rattle.pkcs1_c.proofs.Writes.{decodes_equal_value, status_exact}

@@ -1,3 +1,4 @@
+-- `pkcs1_c_oaep_params_decode_strict`: the struct holds the parameters, or the status is that of the first fault.
 use Rattle.pkcs1_params.specs.Words.{oaep_record}
 use Rattle.pkcs1_params.proofs.Faults.{strict_tells}
 use Rattle.standard.specs.Statement.{IsShortest, OaepEncoding}

@@ -1,3 +1,5 @@
+-- `write_fields` of OAEP parameters: it writes those that the struct holds, or tells the first field that can't be
+-- held.
 use Rattle.std.proofs.Common.{rules}
 use Rattle.standard.specs.Statement.{OaepEncoding}
 use Rattle.pkcs1_c.specs.Words.{OaepFieldError, oaep_seen}

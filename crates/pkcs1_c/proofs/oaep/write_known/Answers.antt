@@ -1,11 +1,11 @@
+-- `write_known` of OAEP parameters, at the last call: both hash functions have NULL, and the source an OCTET STRING. So
+-- the struct holds the parameters that `encode_known_oaep` writes of these octets.
 use Rattle.std.proofs.Common.{◌≡◌, refl, subst, sym, IfSome}
 use Rattle.pkcs1_params.specs.Words.{InPlace, WritesOrCounts, oaep_with_hashes}
 use Rattle.standard.specs.Statement.{OaepEncoding}
 use Rattle.pkcs1_c.specs.Words.{oaep_seen}
 use Rattle.pkcs1_c.proofs.oaep.write_known.Goals as goal
 
--- At the last call: both hash functions have NULL, and the source an OCTET STRING. So the struct holds the parameters
--- that `encode_known_oaep` writes of these octets.
 pub returns-clause-written : goal.returns-clause-written
 returns-clause-written c =
     let p = c.args.params.now in

@@ -1,3 +1,4 @@
+-- `pkcs1_c_oaep_algorithm_decode`: the struct holds the parameters, or the status is that of the first fault.
 use Rattle.spki_core.specs.Words.{record_reads}
 use Rattle.pkcs1_params.specs.Words.{oaep_record}
 use Rattle.pkcs1_params.proofs.Faults.{whole_algorithm_tells}

@@ -1,3 +1,4 @@
+-- `pkcs1_c_oaep_algorithm_decode_strict`: the struct holds the parameters, or the status is that of the first fault.
 use Rattle.pkcs1_params.specs.Words.{oaep_record}
 use Rattle.pkcs1_params.proofs.Faults.{strictly_tells, whole_algorithm_tells}
 use Rattle.standard.specs.Statement.{IsShortest, OaepAlgorithmEncoding, id_rsaes_oaep}

@@ -1,3 +1,5 @@
+-- `write_fields` of OAEP identifiers: it writes the parameters that the struct holds, or tells which field can't be
+-- held.
 use Rattle.std.proofs.Common.{rules}
 use Rattle.standard.specs.Statement.{OaepAlgorithmEncoding}
 use Rattle.pkcs1_c.specs.Words.{OaepFieldError, oaep_seen}

@@ -1,3 +1,4 @@
+-- `pkcs1_c_other_primes`: each round places the next prime, until none is left or the array is full.
 use Rattle.std.proofs.Common.{arith, inl, refl}
 use Rattle.der_core.proofs.ReadSteps.{front_errs}
 use Rattle.der_core.specs.Words.{bytes_of}

@@ -1,3 +1,4 @@
+-- The loop of `pkcs1_c_other_primes`: of any primes that are listed, those so far are placed.
 use Rattle.std.proofs.Common.{◌≡◌, ◌≤◌, List, length}
 use Rattle.der_core.specs.Words.{limit, left_of}
 use Rattle.pkcs1.specs.Words.{primes_encoded}
@@ -5,7 +6,6 @@ use Rattle.standard.specs.Statement.{OtherPrime}
 use Rattle.pkcs1_c.proofs.PlacedPrimes.{Placing}
 use Rattle.pkcs1_c.proofs.private_key.pkcs1_c_other_primes.Given as goal
 
--- Of any primes that are listed, those so far are placed.
 abbrev pub invariant-loop-i : goal.invariant-loop-i
 invariant-loop-i l =
     (primes : List OtherPrime) → length l.listed ≤ limit → l.listed ≡ primes_encoded primes

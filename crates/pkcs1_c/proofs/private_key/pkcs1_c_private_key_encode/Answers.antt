@@ -1,3 +1,5 @@
+-- `pkcs1_c_private_key_encode`: it writes the key that is meant, or tells of the count or of a number that can't be
+-- held.
 use Rattle.std.proofs.Common.{length, refl, arith, rules}
 use Rattle.standard.specs.Statement.{PrivateKeyEncoding}
 use Rattle.pkcs1_c.specs.Words.{given_key, Miscounted, NumbersError, PartThen, UnwrittenStatus, given_numbers, HasPrivateNumbers, EncodingIfHeld, private_key_seen}

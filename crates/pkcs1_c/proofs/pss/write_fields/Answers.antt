@@ -1,3 +1,4 @@
+-- `write_fields` of PSS parameters: it writes those that the struct holds, or tells the first field that can't be held.
 use Rattle.std.proofs.Common.{rules}
 use Rattle.standard.specs.Statement.{PssEncoding}
 use Rattle.pkcs1_c.specs.Words.{PssFieldError, pss_seen}

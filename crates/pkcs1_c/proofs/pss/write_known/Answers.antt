@@ -1,11 +1,11 @@
+-- `write_known` of PSS parameters, at the last call: both hash functions have NULL, and the trailer field is 1. So the
+-- struct holds the parameters that `encode_known_pss` writes of these octets.
 use Rattle.std.proofs.Common.{◌≡◌, refl, subst, sym, IfSome}
 use Rattle.pkcs1_params.specs.Words.{InPlace, WritesOrCounts, pss_with_hashes}
 use Rattle.standard.specs.Statement.{PssEncoding}
 use Rattle.pkcs1_c.specs.Words.{pss_seen}
 use Rattle.pkcs1_c.proofs.pss.write_known.Goals as goal
 
--- At the last call: both hash functions have NULL, and the trailer field is 1. So the struct holds the parameters that
--- `encode_known_pss` writes of these octets.
 pub returns-clause-written : goal.returns-clause-written
 returns-clause-written c =
     let p = c.args.params.now in

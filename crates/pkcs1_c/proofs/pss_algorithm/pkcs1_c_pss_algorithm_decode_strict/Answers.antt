@@ -1,3 +1,4 @@
+-- `pkcs1_c_pss_algorithm_decode_strict`: the struct holds the parameters, or the status is that of the first fault.
 use Rattle.pkcs1_params.specs.Words.{pss_record}
 use Rattle.pkcs1_params.proofs.Faults.{strictly_tells, whole_algorithm_tells}
 use Rattle.standard.specs.Statement.{IsShortest, PssAlgorithmEncoding, id_rsassa_pss}

@@ -1,3 +1,4 @@
+-- `pkcs1_c_pss_algorithm_encode`: what `write_known` writes or counts is the encoding, else `write_fields` does it all.
 use Rattle.standard.specs.Statement.{PssAlgorithmEncoding}
 use Rattle.pkcs1_c.specs.Words.{PssFieldError, pss_seen}
 use Rattle.pkcs1_c.proofs.FittingFields.{pss_fits}

@@ -1,3 +1,5 @@
+-- `write_fields` of PSS identifiers: it writes the parameters that the struct holds, or tells which field can't be
+-- held.
 use Rattle.std.proofs.Common.{rules}
 use Rattle.standard.specs.Statement.{PssAlgorithmEncoding}
 use Rattle.pkcs1_c.specs.Words.{PssFieldError, pss_seen}

@@ -1,3 +1,4 @@
+-- `pkcs1_c_public_key_decode`: the struct holds the key, or the status is that of the first fault.
 use Rattle.pkcs1.proofs.KeyReads.{public_tells}
 use Rattle.pkcs1.specs.Words.{held_public_key, rsa_public_key}
 use Rattle.der_core.specs.Words.{bytes_of}

@@ -1,3 +1,4 @@
+-- `pkcs1_c_public_key_encode`: it writes the key that is meant, or tells the first number that can't be held.
 use Rattle.std.proofs.Common.{length, rules}
 use Rattle.standard.specs.Statement.{PublicKeyEncoding}
 use Rattle.pkcs1_c.specs.Words.{NumbersError, UnwrittenStatus, two_numbers, HasPublicNumbers, EncodingIfHeld, public_key_seen}

@@ -1,3 +1,4 @@
+-- `contents_len` counts what is printed of the spelling.
 use Rattle.std.proofs.Common.{arith, subst, sym, ◌≡◌, ◌∙◌, refl}
 use Rattle.der_core.specs.Words.{nat_tests, Counts}
 use Rattle.spki_core.specs.Words.{AreSpelled, record_under}

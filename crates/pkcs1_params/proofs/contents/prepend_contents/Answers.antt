@@ -1,3 +1,4 @@
+-- `prepend_contents` writes what is printed of the spelling.
 use Rattle.std.proofs.Common.{arith, rules, subst, sym, length, ◌≡◌, ◌≤◌, ◌∙◌, refl, take-append-drop}
 use Rattle.der_core.specs.Words.{nat_tests, Prepends, free_of, limit}
 use Rattle.pkcs1_params.proofs.Masks.{nothing_spelled, octets_under_spelled}

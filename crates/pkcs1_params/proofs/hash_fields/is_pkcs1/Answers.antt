@@ -1,3 +1,4 @@
+-- `is_pkcs1`: of nine octets, it compares the first eight and the last.
 use Rattle.std.proofs.Common.{ℕ, List, [], ◌∷◌, ◌≡◌, ◌∙◌, ap, arith, length, refl, slice_index, bytes_eq}
 use Rattle.der_core.specs.Words.{nat_tests}
 use Rattle.spki_core.specs.Words.{upto}

@@ -1,3 +1,6 @@
+-- `labelled_len`, of each `label` with `len` octets (`same`). `new` makes the parameters with the empty label, `v`, and
+-- `value_len` counts their fields. `source_len` counts the source behind them, and `tagged_len` adds the header.
+-- `valid` is that `v` may be encoded.
 use Rattle.std.proofs.Common.{[], ap, subst, sym}
 use Rattle.spki_core.specs.Words.{identifier_held}
 use Rattle.pkcs1_params.specs.Words.{written_labelled, oaep_of, oaep_record}
@@ -6,9 +9,6 @@ use Rattle.pkcs1_params.proofs.Masks.{record_is_spelled, counts_as}
 use Rattle.standard.specs.Statement.{IsOaep, OaepParameters, sequence}
 use Rattle.pkcs1_params.proofs.label.labelled_len.Goals as goal
 
--- Of each `label` with `len` octets (`same`). `new` makes the parameters with the empty label, `v`, and `value_len`
--- counts their fields. `source_len` counts the source behind them, and `tagged_len` adds the header. `valid` is that
--- `v` may be encoded.
 pub returns : goal.returns
 returns g c label bytes same =
     let oid = g.D.AssociatedOid.contents in

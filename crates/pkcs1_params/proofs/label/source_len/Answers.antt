@@ -1,11 +1,11 @@
+-- `source_len`, at the end, of each `label` with `len` octets (`same`), which isn't empty. From inside: `identifier`
+-- and `octets` are counted, then `source`, the SEQUENCE of both, then the tag [2] around it.
 use Rattle.std.proofs.Common.{arith, ◌++◌}
 use Rattle.der_core.specs.Words.{tlv}
 use Rattle.pkcs1_params.specs.Words.{id_p_specified}
 use Rattle.pkcs1_params.proofs.Labels.{source_written, label_counted, source_counted}
 use Rattle.pkcs1_params.proofs.label.source_len.Goals as goal
 
--- At the end, of each `label` with `len` octets (`same`), which isn't empty. From inside: `identifier` and `octets` are
--- counted, then `source`, the SEQUENCE of both, then the tag [2] around it.
 pub returns : goal.returns
 returns c label same =
     let contents = tlv 6 id_p_specified ++ tlv 4 label in

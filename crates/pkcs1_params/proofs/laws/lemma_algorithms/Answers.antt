@@ -1,3 +1,5 @@
+-- `lemma_algorithms`: each clause is a law of identifiers with parameters that are a record of fields: `pss_record` and
+-- `oaep_record` are these fields with their laws. `refl` is that the object identifier passes the test of identifiers.
 use Rattle.std.proofs.Common.{refl}
 use Rattle.pkcs1_params.specs.Words.{oaep_identifier, oaep_record, pss_identifier, pss_record}
 use Rattle.pkcs1_params.proofs.Algorithms.{algorithm_counted, algorithm_decodes, strict_algorithm_decodes}
@@ -6,8 +8,6 @@ use Rattle.pkcs1_params.proofs.Masks.{algorithm_delimited, same_by_shortest}
 use Rattle.standard.specs.Statement.{OaepAlgorithmEncoding, PssAlgorithmEncoding, id_rsaes_oaep, id_rsassa_pss}
 use Rattle.pkcs1_params.proofs.laws.lemma_algorithms.Goals as goal
 
--- Each clause is a law of identifiers with parameters that are a record of fields: `pss_record` and `oaep_record` are
--- these fields with their laws. `refl` is that the object identifier passes the test of identifiers.
 pub returns : goal.returns
 returns c = record {
   pss = algorithm_decodes id_rsassa_pss refl pss_record;

@@ -1,3 +1,4 @@
+-- `lemma_bare_params_take_no_memory`, by one lemma for both kinds of parameters.
 use Rattle.std.proofs.Common.{ℕ, List, ◌≡◌, ◌≤◌, length, length-append, sym, subst, ap, arith, refl}
 use Rattle.der_core.specs.Words.{tlv_recast, tlv_is, limit, AllocatesAtFront, Tlv}
 use Rattle.spki_core.specs.Words.{FieldRecord}

@@ -1,11 +1,11 @@
+-- `lemma_params_decode`: each clause is a law of records of fields. `pss_record` and `oaep_record` are the fields of
+-- both kinds of parameters with their laws.
 use Rattle.spki_core.proofs.RecordEncodings.{record_decodes}
 use Rattle.spki_core.proofs.StrictFields.{strict_decodes}
 use Rattle.pkcs1_params.specs.Words.{oaep_record, pss_record}
 use Rattle.pkcs1_params.proofs.Faults.{strict_tells, first_named}
 use Rattle.pkcs1_params.proofs.laws.lemma_params_decode.Goals as goal
 
--- Each clause is a law of records of fields. `pss_record` and `oaep_record` are the fields of both kinds of parameters
--- with their laws.
 pub returns : goal.returns
 returns c = record {
   pss = record_decodes pss_record;

@@ -1,3 +1,4 @@
+-- `encodings_under` lists the encoding under each mask, in order, and fails only for want of memory.
 use Rattle.std.proofs.Common.{ℕ, List, [], ◌∷◌, ◌++◌, ◌<◌, ◌^◌, ◌∙◌, map, subst, sym, ap, inl, inr, arith}
 use Rattle.std.specs.Global.{Vec}
 use Rattle.std.proofs.lemmas.List.{map-append}

@@ -1,9 +1,10 @@
+-- `fault_of_oaep_params`: `fault_of` finds no error exactly where `try_from` returned `Ok`, which is where the bytes
+-- are an encoding.
 use Rattle.pkcs1_params.proofs.Faults.{fault_told_encoded}
 use Rattle.pkcs1_params.specs.Words.{oaep_viewed}
 use Rattle.standard.specs.Statement.{OaepEncoding}
 use Rattle.pkcs1_params.proofs.oaep.fault_of_oaep_params.Goals as goal
 
--- `fault_of` finds no error exactly where `try_from` returned `Ok`, which is where the bytes are an encoding.
 pub returns-clause-encodes : goal.returns-clause-encodes
 returns-clause-encodes c =
     let read = c.try_from.ensures in

@@ -1,9 +1,10 @@
+-- `fault_of_pss_algorithm`: `fault_of` finds no error exactly where `from_algorithm_der` returned `Ok`, which is where
+-- the bytes are an encoding.
 use Rattle.pkcs1_params.proofs.Faults.{fault_told_encoded}
 use Rattle.pkcs1_params.specs.Words.{pss_viewed}
 use Rattle.standard.specs.Statement.{PssAlgorithmEncoding}
 use Rattle.pkcs1_params.proofs.pss_algorithm.fault_of_pss_algorithm.Goals as goal
 
--- `fault_of` finds no error exactly where `from_algorithm_der` returned `Ok`, which is where the bytes are an encoding.
 pub returns-clause-encodes : goal.returns-clause-encodes
 returns-clause-encodes c =
     let read = c.from_algorithm_der.ensures in

@@ -1,12 +1,13 @@
+-- `quick_pss`, at the end. `first` to `fourth` are the contents from each field on. `found` is the spelling: each value
+-- that was read, if the octet of its tag was next. `read` is that the contents are read as it, and `none` that strict
+-- reading refuses no field of it. `hash_is` and those behind it are that each field of it means the value that is
+-- returned.
 use Rattle.std.proofs.Common.{[], ◌∷◌, ◌∙◌, List, Ok, refl}
 use Rattle.spki_core.proofs.Readings.{NoneRefused, default_accepted, field_meant, field_spelled, record_found, value_if_next}
 use Rattle.spki_core.specs.Words.{viewed_with, any_of, Kind, Spelling}
 use Rattle.pkcs1_params.specs.Words.{pss_record, hash_kind, mask_kind, of_pss_fields, pss_kinds, salt_kind, trailer_kind}
 use Rattle.pkcs1_params.proofs.quick.quick_pss.Goals as goal
 
--- At the end. `first` to `fourth` are the contents from each field on. `found` is the spelling: each value that was
--- read, if the octet of its tag was next. `read` is that the contents are read as it, and `none` that strict reading
--- refuses no field of it. `hash_is` and those behind it are that each field of it means the value that is returned.
 pub returns : goal.returns
 returns c =
     let strict = c.args.strict in

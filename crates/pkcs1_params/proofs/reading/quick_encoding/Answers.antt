@@ -1,7 +1,8 @@
+-- `quick_encoding`, at the end: the slice is a header of two octets and fewer than 128 contents octets, so it is read
+-- as these are.
 use Rattle.pkcs1_params.proofs.UsualParameters.{short_read}
 use Rattle.pkcs1_params.proofs.reading.quick_encoding.Goals as goal
 
--- At the end: the slice is a header of two octets and fewer than 128 contents octets, so it is read as these are.
 pub returns : goal.returns
 returns g c =
     let contents = c.in_ok-contents.ensures in

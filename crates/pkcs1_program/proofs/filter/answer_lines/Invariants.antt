@@ -1,8 +1,8 @@
+-- The loop of `answer_lines`: the lines whose output was made, with those that are left, are all lines.
 use Rattle.std.proofs.Common.{◌≡◌, ◌≤◌, ℕ, ◌++◌, List, length}
 use Rattle.pkcs1_program.specs.Words.{MakesOutput, lines_of}
 use Rattle.pkcs1_program.proofs.filter.answer_lines.Given as goal
 
--- the lines whose output was made, with those that are left, are all lines
 abbrev pub invariant-loop-rest : goal.invariant-loop-rest
 invariant-loop-rest g l = record {
   answered : (lines : List (List ℕ)) × (lines_of l.input ≡ lines ++ lines_of l.rest)

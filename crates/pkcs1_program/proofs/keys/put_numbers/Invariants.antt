@@ -1,3 +1,4 @@
+-- The loop of `put_numbers`: so many of the numbers were put.
 use Rattle.std.proofs.Common.{◌≡◌, ◌++◌, take, flat_map}
 use Rattle.der_core.specs.Words.{bytes_of}
 use Rattle.pkcs1.specs.Words.{number_in}
@@ -5,7 +6,6 @@ use Rattle.standard.specs.Statement.{octets}
 use Rattle.pkcs1_program.specs.Words.{hex_field}
 use Rattle.pkcs1_program.proofs.keys.put_numbers.Given as goal
 
--- so many of the numbers were put
 abbrev pub invariant-loop-label : goal.invariant-loop-label
 invariant-loop-label l =
     l.out.items

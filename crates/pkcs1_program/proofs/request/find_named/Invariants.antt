@@ -1,8 +1,8 @@
+-- The loop of `find_named`: the rows so far have other names.
 use Rattle.std.proofs.Common.{◌≡◌, drop, map}
 use Rattle.pkcs1_program.specs.Words.{value_named}
 use Rattle.pkcs1_program.proofs.request.find_named.Given as goal
 
--- the rows so far have other names
 abbrev pub invariant-loop-other : goal.invariant-loop-other
 invariant-loop-other g l =
     value_named (map (λ row. (row.0.now, row.1)) l.rows) l.name

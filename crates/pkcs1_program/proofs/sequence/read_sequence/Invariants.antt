@@ -1,9 +1,9 @@
+-- The loop of `read_sequence`: the bytes are what came.
 use Rattle.std.proofs.Common.{◌≡◌, ◌≤◌, ◌-◌, vec_len}
 use Rattle.std.specs.Io.KnownBytes.{Consumes}
 use Rattle.der_core.specs.Words.{limit}
 use Rattle.pkcs1_program.proofs.sequence.read_sequence.Given as goal
 
--- the bytes are what came
 abbrev pub invariant-loop-count : goal.invariant-loop-count
 invariant-loop-count g l = record {
   came : Consumes (g.R.Source.remaining l.fn.source) (g.R.Source.remaining l.source) l.bytes.items;

@@ -1,3 +1,4 @@
+-- `GivenKey::of`: it has the numbers of the struct, or its error is that of the first that can't be held.
 use Rattle.std.proofs.Common.{arith, rules}
 use Rattle.std.proofs.lemmas.Grind.{common_steps}
 use Rattle.pkcs1_c.specs.Words.{status_of, numbers_of_primes, numbers_of_key}

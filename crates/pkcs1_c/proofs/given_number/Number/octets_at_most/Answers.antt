@@ -1,3 +1,4 @@
+-- `Number::octets_at_most` is no less than the length of the number's INTEGER, if its contents are within the limit.
 use Rattle.std.proofs.Common.{ℕ, List, ◌∷◌, ◌+◌, ◌≤◌, length, arith, ap, Bool, nat_lt, slice_index, if◌then◌else◌}
 use Rattle.std.specs.Int.Digits.{number_from_digits}
 use Rattle.der_core.specs.Words.{holds_canonical, number_contents_as, number_contents}

@@ -1,3 +1,4 @@
+-- `Number::size` is the length of the number's contents.
 use Rattle.std.proofs.Common.{ℕ, List, ◌∷◌, ◌+◌, ◌≡◌, ◌∙◌, ap, length, arith, Bool, nat_lt, sym, slice_index, if◌then◌else◌}
 use Rattle.der_core.specs.Words.{holds_canonical, number_contents_as}
 use Rattle.pkcs1_c.proofs.given_number.Number.size.Goals as goal

@@ -1,3 +1,4 @@
+-- `GivenPrimes::of`: all primes are counted, or its error is that of the first number that can't be held.
 use Rattle.std.proofs.Common.{◌<◌, ap, arith, rules, length, subst}
 use Rattle.der_core.specs.Words.{nat_tests, Counts}
 use Rattle.pkcs1_c.specs.Words.{prime_encoded}

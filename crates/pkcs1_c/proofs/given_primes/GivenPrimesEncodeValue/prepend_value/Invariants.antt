@@ -1,9 +1,9 @@
+-- The loop of `prepend_value` of `EncodeValue` for `GivenPrimes`: the last primes are written.
 use Rattle.std.proofs.Common.{◌≤◌, drop, length}
 use Rattle.der_core.specs.Words.{Prepends, all_encodings}
 use Rattle.pkcs1_c.specs.Words.{given_encoded}
 use Rattle.pkcs1_c.proofs.given_primes.GivenPrimesEncodeValue.prepend_value.Given as goal
 
--- The last primes are written.
 abbrev pub invariant-loop-left : goal.invariant-loop-left
 invariant-loop-left l =
     (l.left ≤ length l.self.others.now)

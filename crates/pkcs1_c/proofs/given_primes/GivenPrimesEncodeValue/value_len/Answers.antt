@@ -1,3 +1,4 @@
+-- `value_len` of `EncodeValue` for `GivenPrimes`: the length that it holds was counted of the encodings of all primes.
 use Rattle.std.proofs.Common.{subst}
 use Rattle.std.specs.List.{AllByRecursion}
 use Rattle.der_core.specs.Words.{all_encodings, Counts}
@@ -7,7 +8,6 @@ use Rattle.pkcs1_c.specs.Words.{given_primes, given_encoded}
 use Rattle.pkcs1_c.proofs.GivenKeys.{given_encodings_are, given_primes_valid}
 use Rattle.pkcs1_c.proofs.given_primes.GivenPrimesEncodeValue.value_len.Goals as goal
 
--- `EncodeValue` for `GivenPrimes`: the length that it holds was counted of the encodings of all primes.
 pub returns-clause-counts : goal.returns-clause-counts
 returns-clause-counts c =
     let given = c.args.self.now in

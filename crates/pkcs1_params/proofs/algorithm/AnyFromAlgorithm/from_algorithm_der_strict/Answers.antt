@@ -1,3 +1,5 @@
+-- `from_algorithm_der_strict` in `FromAlgorithm for T`, for each `T`: `from_identifier_strict` returns what
+-- `whole_algorithm` with strict reading gives, and that gives a value exactly for its shortest encoding.
 use Rattle.std.proofs.Common.{arith}
 use Rattle.der_core.specs.Words.{are_bytes}
 use Rattle.pkcs1_params.specs.Words.{EncodingOfFields}
@@ -6,8 +8,6 @@ use Rattle.pkcs1_params.proofs.Faults.{answers_asn1_decode}
 use Rattle.standard.specs.Statement.{AlgorithmEncoding, IsShortest}
 use Rattle.pkcs1_params.proofs.algorithm.AnyFromAlgorithm.from_algorithm_der_strict.Goals as goal
 
--- In `FromAlgorithm for T`, for each `T`: `from_identifier_strict` returns what `whole_algorithm` with strict reading
--- gives, and that gives a value exactly for its shortest encoding.
 pub returns-clause-read : goal.returns-clause-read
 returns-clause-read g c =
     let t = g.T.AlgorithmParams in

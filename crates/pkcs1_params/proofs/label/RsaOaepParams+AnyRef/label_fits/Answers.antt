@@ -1,3 +1,4 @@
+-- `label_fits`: labels of this length fit exactly if `labelled_len` counts the encoding with one.
 use Rattle.pkcs1_params.proofs.Labels.{label_fits_where_counted, no_label_fits_where_uncounted}
 use Rattle.pkcs1_params.proofs.label.RsaOaepParams+AnyRef.label_fits.Goals as goal
 

@@ -1,11 +1,11 @@
+-- `decode_value` of `DecodeValue<&[u8], Global> for RsaOaepParams<Any>`, where `copy_oaep` returns `Err`: the
+-- parameters were read (`read`), and there was no memory for the copy (`w.0`). It may be asked for, as parameters of an
+-- algorithm in them have octets (`w.1`).
 use Rattle.std.proofs.Common.{◌∙◌}
 use Rattle.pkcs1_params.specs.Words.{oaep_record, OwnedOaepAllocates, oaep_of}
 use Rattle.pkcs1_params.proofs.ParameterReads.{copy_fails}
 use Rattle.pkcs1_params.proofs.owned.RsaOaepParamsAnyDecodeValueRefSliceU8Global.decode_value.Goals as goal
 
--- `DecodeValue<&[u8], Global> for RsaOaepParams<Any>`, where `copy_oaep` returns `Err`: the parameters were read
--- (`read`), and there was no memory for the copy (`w.0`). It may be asked for, as parameters of an algorithm in them
--- have octets (`w.1`).
 pub returns-in-Err : goal.returns-in-Err
 returns-in-Err g c =
     let read = oaep_of c.in_ok-params.params in

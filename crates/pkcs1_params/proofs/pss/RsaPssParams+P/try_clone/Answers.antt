@@ -1,10 +1,10 @@
+-- `try_clone` of `RsaPssParams<P>`, at the end. The calls of `try_clone` are of the hash function and the mask
+-- generation function (`-2`). They copy what a `P` means, so they copy the tag and contents that it holds (`carried`).
+-- The trailer field is always 1.
 use Rattle.spki_core.specs.Words.{mapped_same}
 use Rattle.spki_core.proofs.Readings.{algorithm_mapped}
 use Rattle.pkcs1_params.proofs.pss.RsaPssParams+P.try_clone.Goals as goal
 
--- In `RsaPssParams<P>`, at the end. The calls of `try_clone` are of the hash function and the mask generation function
--- (`-2`). They copy what a `P` means, so they copy the tag and contents that it holds (`carried`). The trailer field is
--- always 1.
 pub returns-clause-ok : goal.returns-clause-ok
 returns-clause-ok g c =
     let p = c.args.self.now in

@@ -1,3 +1,4 @@
+-- `encode_params`: what `encode_spelling_into` promises of mask 0 is so of the shortest encoding.
 use Rattle.std.proofs.Common.{length}
 use Rattle.der_core.specs.Words.{ok_of}
 use Rattle.pkcs1_params.proofs.Masks.{zero_encodes, zero_mask, zero_refuses}

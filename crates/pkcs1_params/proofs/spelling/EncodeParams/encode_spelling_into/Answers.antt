@@ -1,3 +1,4 @@
+-- `encode_spelling_into`: what `encode_into` promises of the spelling is so of the parameters' encoding under the mask.
 use Rattle.std.proofs.Common.{ℕ, length, Ok, Err, Some, None}
 use Rattle.der_core.specs.Words.{err_from_is_err_and}
 use Rattle.der_core.proofs.Writing.{encode_into_encodes, encode_into_unwritten}

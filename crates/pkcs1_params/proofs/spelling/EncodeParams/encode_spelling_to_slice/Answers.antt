@@ -1,3 +1,4 @@
+-- `encode_spelling_to_slice`: what `encode_to_slice` promises of the spelling is so of the parameters under the mask.
 use Rattle.std.proofs.Common.{ℕ, length, Err}
 use Rattle.der_core.specs.Words.{err_from_is_err_and}
 use Rattle.der_core.proofs.Writing.{encode_into_unwritten}

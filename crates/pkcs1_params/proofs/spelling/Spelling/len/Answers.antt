@@ -1,10 +1,10 @@
+-- `Spelling::len`, at the `?` behind `encoded_len`: the spelling is valid, as the parameters are, so only its length
+-- can be the reason. `e` is that `?` hands the error on.
 use Rattle.der_core.specs.Words.{err_from_is_err_and}
 use Rattle.pkcs1_params.proofs.Masks.{record_is_spelled, spelling_encoding, uncounted_overflows}
 use Rattle.spki_core.specs.Words.{record_under}
 use Rattle.pkcs1_params.proofs.spelling.Spelling.len.Goals as goal
 
--- At the `?` behind `encoded_len`: the spelling is valid, as the parameters are, so only its length can be the reason.
--- `e` is that `?` hands the error on.
 pub returns-in_err-encoded_len-clause-err : goal.returns-in_err-encoded_len-clause-err
 returns-in_err-encoded_len-clause-err g c =
     let e = err_from_is_err_and c.from_residual.result c.from_residual.ensures.1 in

@@ -1,11 +1,11 @@
+-- `decode_value` of `DecodeValue<&[u8], M> for TrailerField`, in the arm `_`: a number `n` was read, which isn't 1
+-- (`isnt`). The error of the reader is `Value` with the tag INTEGER (`named`).
 use Rattle.std.proofs.Common.{◌≡◌, ◌==◌, ◌∙◌, false, refl, ap, inr, arith}
 use Rattle.der_core.specs.Words.{nat_tests, small_of, same_tag, integer_tag}
 use Rattle.der_core.specs.declared.error.ErrorKind.TheVariants as kind
 use Rattle.der_core.proofs.ReadSteps.{such_refuses_value}
 use Rattle.pkcs1_params.proofs.trailer_field.TrailerFieldDecodeValueRefSliceU8.decode_value.Goals as goal
 
--- `DecodeValue<&[u8], M> for TrailerField`, in the arm `_`: a number `n` was read, which isn't 1 (`isnt`). The error of
--- the reader is `Value` with the tag INTEGER (`named`).
 pub returns-in_default : goal.returns-in_default
 returns-in_default g c =
     let n = c.in_ok-decode_value.field-0 in

@@ -1,8 +1,8 @@
+-- `spell_into` of `Spelled` for `RsaPssParamsView`, in the arm of a mask below `masks`, 2 to the power of what
+-- `default_fields` returns. So it is a mask of the parameters.
 use Rattle.std.proofs.Common.{◌<◌, ◌^◌, rules}
 use Rattle.pkcs1_vectors.proofs.spellings.RsaPssParamsViewSpelled.spell_into.Goals as goal
 
--- `Spelled` for `RsaPssParamsView`, in the arm of a mask below `masks`, 2 to the power of what `default_fields`
--- returns. So it is a mask of the parameters.
 pub encode_spelling_into-requires : goal.encode_spelling_into-requires
 encode_spelling_into-requires c =
     let less : c.args.mask < 2 ^ c.default_fields.result = search rules in

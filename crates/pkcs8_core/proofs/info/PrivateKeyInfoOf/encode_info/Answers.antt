@@ -1,3 +1,4 @@
+-- `encode_info`: what `encode_into` promises is so in the words of the statement.
 use Rattle.pkcs8_core.specs.Words.{info_in}
 use Rattle.pkcs8_core.proofs.ContainerWrites.{container_refused, container_written}
 use Rattle.pkcs8_core.proofs.info.PrivateKeyInfoOf.encode_info.Goals as goal

@@ -1,3 +1,5 @@
+-- `lemma_has_encoding`: the version 0 fits an octet. The identifier and the parameters of the algorithm have encodings,
+-- by what their types hold, and the key and the attributes are octets.
 use Rattle.std.proofs.Common.{arith}
 use Rattle.der_core.specs.Words.{are_bytes, octets_of}
 use Rattle.spki_core.specs.Words.{any_of, algorithm_held, any_held}
@@ -5,8 +7,6 @@ use Rattle.pkcs8_core.proofs.ContainerWrites.{attributes_held}
 use Rattle.pkcs8_core.proofs.info.PrivateKeyInfoOf.lemma_has_encoding.Goals as goal
 use Rattle.standard.specs.Statement.{IsAny}
 
--- The version 0 fits an octet. The identifier and the parameters of the algorithm have encodings, by what their types
--- hold, and the key and the attributes are octets.
 pub returns : goal.returns
 returns g c =
     let info = c.args.self.now in
