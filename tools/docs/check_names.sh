@@ -1,8 +1,8 @@
 #!/usr/bin/env bash
 # Fails where a document names in backquotes a file, call, type, clause or definition that isn't there, or links to what
 # isn't. A word is there if it stands in code, not in a comment or in proofs/. In tables, `src/` and `specs/` head files
-# of the crate in the heading, with their "definitions". check_promises.py has clauses. And the map in docs/DESIGN.md has
-# each crate, each file of one that it lists, and each entry of ffi and tools.
+# of the crate in the heading, with their "definitions". And the map in docs/DESIGN.md has each crate, each file of
+# one that it lists, and each entry of ffi and tools.
 #     check_names.sh [FOLDER DOCUMENT..]    of these documents, in the tree in FOLDER, in place of all documents here
 set -eu
 cd "${1:-$(dirname "$0")/../..}"

@@ -1,4 +1,4 @@
--- `carry_out`: its status is 0 only behind a call that succeeded, of which what that call promises is so.
+-- `carry_out`: its status is 0 only behind a call that succeeded, and so what that call promises holds.
 use Rattle.std.proofs.Common.{◌≡◌, ◌∙◌, ℕ, is_ok, sym, arith, Result, Ok, Err, OnOk, if◌then◌else◌}
 use Rattle.pkcs1_tool.proofs.carry_out.Goals.{in-Usage, in-Lines, in-CopyPub, in-CopyPriv}
 use Rattle.pkcs1_tool.proofs.carry_out.Goals as goal
